@@ -11,7 +11,7 @@ STACK ?= 256
 # The size in MB of the inputs whose cost in memory is tested.
 COST ?= 8
 
-.PHONY: help try build test check-quick layout tables vectors ample explanations growths failures counts cost instructions left-out believed stack big library-growths built-tests bench install clean
+.PHONY: help try build test check-quick layout tables vectors ample explanations growths failures counts cost instructions inlined left-out believed stack big library-growths built-tests bench install clean
 
 help:
 	@echo 'make try        build the program from its source, before any proof and not optimised, and run it: ARGS="check FILE", or seven bytes'
@@ -19,9 +19,9 @@ help:
 	@echo 'make test       the merge gate from nothing, then side by side make $(AFTER), and which of it was left out'
 	@echo 'make check-quick   while you change something: proves what changed, then make layout, tables and believed'
 	@echo 'make try-tests  make try on its seven bytes, on files, on standard input and on a wrong option: one build, of a minute'
-	@echo 'make layout     whether each file of the crates is in the layout of rt fmt, cites what it may, makes up no out of memory and has'
-	@echo '                no new function of many arguments, docs/PROMISES.md and the table of worked inputs are what the sources say, and'
-	@echo '                the documents are short and their links lead somewhere'
+	@echo 'make layout     whether each file of the crates is in the layout of rt fmt, cites what it may, makes up no out of memory, has no'
+	@echo '                new function of many arguments and keeps to the glossary, docs/PROMISES.md and the table of worked inputs are'
+	@echo '                what the sources say, and the documents are short and their links lead somewhere'
 	@echo 'make tables     the built program on the tables of tests/ and at a terminal, the examples of the documents, completion-tests and release-tests'
 	@echo 'make vectors    the built program on each front of each worked input'
 	@echo 'make ample      the built program on some 4,000 inputs, bytes and texts, made and given: it never says out of memory'
@@ -32,6 +32,7 @@ help:
 	@echo 'make cost       the bounds of make bench-cost on memory, on inputs of COST MB (COST is $(COST)), without the times'
 	@echo 'make instructions   how many instructions the built program takes on small inputs of each kind: no more than tests/instructions.txt'
 	@echo '                allows; it needs valgrind'
+	@echo 'make inlined    which functions that are marked #[inline(always)] are functions of the built program by themselves'
 	@echo 'make left-out   what make test leaves out here, for want of its tools'
 	@echo 'make believed   the lines of definitions that a reader has to believe, and that the documents say so'
 	@echo 'make stack      the least stack that each command needs at 1,024 levels: no more than STACK KB (STACK is $(STACK))'
@@ -77,8 +78,8 @@ build: kit
 	cd crates/cborn && rt run -- --version
 
 # What follows the gate: side by side, over the program and the tests that were built once before, while the library is proved
-# and built; the longest first.
-AFTER := library-tests dist-tests vectors ample cost instructions counts explanations tables believed layout stack growths library-growths failures try-tests
+# and built. First what keeps one processor busy for long, then what takes them all, the longest first.
+AFTER := library-tests dist-tests try-tests failures growths library-growths instructions vectors cost ample tables believed layout stack counts explanations
 
 test:
 	rt ci
@@ -99,6 +100,7 @@ layout:
 	python3 tests/promises.py --check
 	python3 tests/made_up.py
 	python3 tests/arguments.py
+	python3 tests/glossary.py
 	python3 tests/words.py
 
 tables: build
@@ -122,6 +124,10 @@ cost: build
 
 instructions: build
 	python3 tests/instructions.py $(PROGRAM)
+
+# no part of make test: where make instructions finds a rise, this says which function it is
+inlined: build
+	python3 tests/inlined.py $(PROGRAM)
 
 left-out:
 	@python3 tests/tools.py

@@ -19,10 +19,10 @@ ALL = 24_000
 PARAGRAPH = 90
 LIMITS = {
     "README.md": 1_100,
-    "CHANGELOG.md": 1_100,
+    "CHANGELOG.md": 1_050,
     "CONTRIBUTING.md": 1_060,
-    "docs/ARCHITECTURE.md": 1_550,
-    "docs/DECISIONS.md": 2_300,
+    "docs/ARCHITECTURE.md": 1_650,
+    "docs/DECISIONS.md": 2_200,
     "docs/DEFINITIONS.md": 2_500,
     "docs/FORMATS.md": 3_600,
     "docs/GUIDE.md": 3_400,

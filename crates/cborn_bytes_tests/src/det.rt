@@ -1,37 +1,13 @@
 //! The calls of the encoder have an answer: by their contracts each could always answer out of memory.
-//! That the answer is right is a clause. `judge` encodes one item of each form.
+//! That the answer is right is a clause. `judge` encodes one item of each form, and the tests of the
+//! engine encode worked items.
 
-use cborn_det::{encode, equal_bytes, push_encoding};
+use cborn_det::{equal_bytes, push_encoding};
 use cborn_judge::judge;
-use cborn_model::{Bytewise, Item, ItemList, LengthFirst, Limit, Magnitude, Valid, is_valid};
+use cborn_model::{Bytewise, LengthFirst, Limit, Valid};
 use cborn_wire::read_one;
-use std::alloc::{AllocError, Global};
-use std::process::Abort;
+use std::alloc::Global;
 use std::test::Fail;
-
-/// The array of the integer 24.
-fn array(rt: &impl Abort, alloc: Global) -> Result<Valid, AllocError> {
-    let mut list = Vec::new(alloc);
-    list.push(Item::Int {
-        negative: false,
-        magnitude: Magnitude::word(24),
-    })?;
-    let item = Item::Items(ItemList::new(list));
-    assert!(rt; is_valid(&item));
-    Ok(Valid::new(item))
-}
-
-/// Catches a call that never answers.
-#[test]
-fn encodes(rt: HostRuntime) -> Result<(), Fail> {
-    let item = array(&rt, rt.alloc())?;
-    let encoding = encode::<LengthFirst>(rt.alloc(), &item)?;
-    assert_eq!(rt; encoding.as_slice(), b"\x81\x18\x18".as_slice());
-    let mut out = Vec::from_slice(rt.alloc(), b"\x07")?;
-    push_encoding::<LengthFirst>(rt.alloc(), item.item(), &mut out)?;
-    assert_eq!(rt; out.as_slice(), b"\x07\x81\x18\x18".as_slice());
-    Ok(())
-}
 
 /// Two items, and whether they are the same: maps with their pairs in another order, and strings of
 /// both kinds with the same content.
@@ -58,5 +34,15 @@ fn compares(rt: HostRuntime) -> Result<(), Fail> {
         let length_first = equal_bytes::<LengthFirst>(rt.alloc(), &a, &b)?;
         assert_eq!(rt; (bytewise, length_first), (is_same, is_same), "{first:?}");
     }
+    Ok(())
+}
+
+/// Catches a call that never answers, and one that writes over what is there.
+#[test]
+fn appends(rt: HostRuntime) -> Result<(), Fail> {
+    let item = item_of(rt.alloc(), b"\x81\x18\x18")?;
+    let mut out = Vec::from_slice(rt.alloc(), b"\x07")?;
+    push_encoding::<LengthFirst>(rt.alloc(), item.item(), &mut out)?;
+    assert_eq!(rt; out.as_slice(), b"\x07\x81\x18\x18".as_slice());
     Ok(())
 }

@@ -1,9 +1,9 @@
 //! Bytes are read, judged and encoded by way of nodes: by their contracts these calls could always
 //! answer out of memory. One input has each form of a node. Which answer is right is a clause.
 
-use cborn_det::{encode, encode_all};
-use cborn_judge::{Defect, DefectReason, Invalid, InvalidReason, first_defect, judge, judge_all};
-use cborn_model::{Bytewise, Limit};
+use cborn_det::encode_all;
+use cborn_judge::{judge, judge_all};
+use cborn_model::{Bytewise, Invalid, InvalidReason, Limit};
 use cborn_wire::read_all;
 use std::test::Fail;
 
@@ -22,31 +22,6 @@ fn means(rt: HostRuntime) -> Result<(), Fail> {
     let items = judge_all(rt.alloc(), &nodes)?;
     let written = encode_all::<Bytewise>(rt.alloc(), &items)?;
     assert_eq!(rt; written.as_slice(), ENCODED);
-    Ok(())
-}
-
-/// Valid items that are easily refused, and their encodings: keys of two kinds with the same bytes,
-/// and bignums without bytes.
-const VALID: [(&[u8], &[u8]); 3] = [
-    (
-        b"\xa2\x41\x61\x00\x61\x61\x00",
-        b"\xa2\x41\x61\x00\x61\x61\x00",
-    ),
-    (b"\xc2\x40", b"\x00"),
-    (b"\xc3\x40", b"\x20"),
-];
-
-/// Catches an item that is never judged by itself.
-#[test]
-fn judges(rt: HostRuntime) -> Result<(), Fail> {
-    for (bytes, encoded) in VALID {
-        let nodes = read_all(rt.alloc(), Limit::USUAL, bytes)?;
-        for node in &nodes {
-            let item = judge(rt.alloc(), node)?;
-            let written = encode::<Bytewise>(rt.alloc(), &item)?;
-            assert_eq!(rt; written.as_slice(), encoded, "{bytes:?}");
-        }
-    }
     Ok(())
 }
 
@@ -89,27 +64,6 @@ fn refuses(rt: HostRuntime) -> Result<(), Fail> {
         assert_eq!(rt; judge_all(rt.alloc(), &nodes).err(), wanted, "{bytes:?}");
         let last = nodes.last().ok_or("no item")?;
         assert_eq!(rt; judge(rt.alloc(), last).err(), wanted, "{bytes:?}");
-    }
-    Ok(())
-}
-
-/// The first defect.
-const DEFECTS: [(&[u8], u64, DefectReason); 4] = [
-    (b"\xa2\x02\x00\x18\x01\x00", 3, DefectReason::LongHead),
-    (b"\x5f\x58\x01a\xff", 0, DefectReason::EndlessLength),
-    (b"\xc2\x5f\x41\x01\xff", 0, DefectReason::LooseBignum),
-    (b"\xa1\x01\xa2\x02\x00\x01\x00", 5, DefectReason::KeyOrder),
-];
-
-/// Catches a defect in whose place out of memory is answered.
-#[test]
-fn checks(rt: HostRuntime) -> Result<(), Fail> {
-    for (bytes, place, reason) in DEFECTS {
-        let nodes = read_all(rt.alloc(), Limit::USUAL, bytes)?;
-        for node in &nodes {
-            let found = first_defect::<Bytewise>(rt.alloc(), node);
-            assert_eq!(rt; found, Ok(Some(Defect { place, reason })), "{bytes:?}");
-        }
     }
     Ok(())
 }

@@ -2,7 +2,7 @@
 use Rattle.std.proofs.Common.{◌≡◌, ◌≢◌, ℕ, List, Option, Result, Ok, Err, Global, Ordering}
 use Rattle.std.specs.Cow.{cow_slice_items}
 use Rattle.std.specs.declared.borrow.CowSlice.{CowSlice}
-use Rattle.cborn_judge.specs.declared.defects.Defect.{Defect}
+use Rattle.cborn_model.specs.declared.defects.Defect.{Defect}
 use Rattle.cborn_engine.specs.declared.one_faults.OneFault.{OneFault}
 use Rattle.cborn_engine.specs.declared.one_faults.OneFault.TheVariants as one
 use Rattle.cborn_engine.specs.declared.kinds.Kind.{Kind}

@@ -5,8 +5,8 @@ use Rattle.std.specs.declared.alloc.AllocError.{AllocError}
 use Rattle.std.specs.declared.string.String.{String}
 use Rattle.std.specs.Global.{Global}
 use Rattle.std.specs.String.{string_bytes}
-use Rattle.cborn_judge.specs.declared.defects.Defect.{Defect}
-use Rattle.cborn_judge.specs.declared.defects.DefectReason.{DefectReason}
+use Rattle.cborn_model.specs.declared.defects.Defect.{Defect}
+use Rattle.cborn_model.specs.declared.defects.DefectReason.{DefectReason}
 use Rattle.cborn_explain.specs.declared.reasons.BytesReason.{BytesReason}
 use Rattle.cborn_explain.specs.declared.reasons.TextReason.{TextReason}
 use Rattle.cborn_engine.specs.declared.faults.CompareFault.{CompareFault}

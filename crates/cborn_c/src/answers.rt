@@ -8,7 +8,7 @@ use crate::numbers::{
     place_of, place_of_one,
 };
 use cborn_engine::{CompareFault, CompareOneFault, EngineFault, OneFault};
-use cborn_judge::Defect;
+use cborn_model::Defect;
 use std::alloc::Global;
 use std::borrow::CowSlice;
 

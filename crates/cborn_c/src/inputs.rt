@@ -9,8 +9,7 @@ use cborn_engine::{
     compare_slices, normalise_one_slice, normalise_slice, same_item, same_items, show_one_slice,
     show_slice,
 };
-use cborn_judge::Defect;
-use cborn_model::{Bytewise, KeyOrder, Limit};
+use cborn_model::{Bytewise, Defect, KeyOrder, Limit};
 use std::alloc::Global;
 use std::borrow::CowSlice;
 

@@ -7,7 +7,7 @@ ghost use Rattle.cborn_commands.specs.declared.lines.Trouble.TheVariants as trou
 use crate::statuses::{DIFFERENT, DONE, FAILED, REFUSED};
 use cborn_engine::{CompareFault, CompareOneFault, Counted, EngineFault, OneFault};
 use cborn_explain::Escaped;
-use cborn_judge::Defect;
+use cborn_model::Defect;
 use std::fmt::{Display, Formatter};
 use std::io::Write;
 use std::{fmt, io};

@@ -85,9 +85,9 @@ impl Remarks {
         &mut self,
         kinds: (Kind, Kind),
         notes: (&Notes, &Notes),
-        told: Result<u8, Trouble<'_>>,
+        reported: Result<u8, Trouble<'_>>,
     ) {
-        match told {
+        match reported {
             Ok(status) => {
                 if status != DONE {
                     self.on_difference::<O>(kinds, notes);

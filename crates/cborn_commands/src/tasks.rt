@@ -249,9 +249,9 @@ fn compare_files<'a, O: KeyOrder, F: Files, W: Write>(
     };
     let compared = compare_readers::<O, _, _>(wanted, kinds, &mut reader, &mut late);
     let missing = late.inner.is_missing().then_some(second.name);
-    let told = tell_comparison(out, compared, missing);
-    remarks.on_comparison::<O>(kinds, (&reader.notes, &late.notes), told);
-    told
+    let reported = tell_comparison(out, compared, missing);
+    remarks.on_comparison::<O>(kinds, (&reader.notes, &late.notes), reported);
+    reported
 }
 
 /// Why two inputs weren't compared: they hold any number of items, or have to hold one.

@@ -5,7 +5,7 @@ use Rattle.cborn_model.specs.Bytes.{AreBytes}
 use Rattle.cborn_model.specs.declared.heads.Width.{Width}
 use Rattle.cborn_model.specs.declared.nodes.Chunk.{Chunk}
 use Rattle.cborn_model.specs.declared.heads.Major.{Major}
-use Rattle.cborn_model.specs.Heads.{Argument, Given, Unbounded, head, WidthFits}
+use Rattle.cborn_model.specs.Heads.{Argument, Given, EndlessArgument, head, WidthFits}
 use Rattle.cborn_model.specs.Tree.{Tree, Uint, Nint, Bytes, Text, ByteChunks, TextChunks, Items, Pairs, Tagged, Simple}
 use Rattle.cborn_model.specs.Spelled.{Fits, ChunksFit, chunk_bytes}
 use Rattle.cborn_wire.specs.Parts.{NodeRead, ChunkRead, ChunksRead, Leaves}
@@ -38,19 +38,19 @@ other_chunk B text m a tail f not rest c =
     let o = opened n.node m a tail rest n.fits f (sym n.read) in
     absurd (not (sym o.0 ∙ n.holds.0))
 
-pub endless_chunk : (B : List ℕ → Type 0) (text : Bool) (m : Major) (tail : List ℕ) → ChunkFails B (major_of text) (head m Unbounded ++ tail)
+pub endless_chunk : (B : List ℕ → Type 0) (text : Bool) (m : Major) (tail : List ℕ) → ChunkFails B (major_of text) (head m EndlessArgument ++ tail)
 unfolding ChunkFails
 endless_chunk B text m tail rest c =
-    let n = chunk_node text (head m Unbounded ++ tail) rest c in
-    let o = opened n.node m Unbounded tail rest n.fits tt (sym n.read) in
+    let n = chunk_node text (head m EndlessArgument ++ tail) rest c in
+    let o = opened n.node m EndlessArgument tail rest n.fits tt (sym n.read) in
     absurd (differ (sym n.holds.1.1 ∙ o.1))
   where
-    differ : {w : Width} {k : ℕ} → Given w k ≡ Unbounded → ⊥
+    differ : {w : Width} {k : ℕ} → Given w k ≡ EndlessArgument → ⊥
     differ e = absurd cc
 
 -- ---- what a string in chunks is
 
-is_chunks : (text : Bool) (t : Tree) → (opening t).0 ≡ major_of text → (opening t).1 ≡ Unbounded → (p : ℕ) × (cs : List Chunk) × (t ≡ chunks_node text p cs)
+is_chunks : (text : Bool) (t : Tree) → (opening t).0 ≡ major_of text → (opening t).1 ≡ EndlessArgument → (p : ℕ) × (cs : List Chunk) × (t ≡ chunks_node text p cs)
 is_chunks false (Uint p w n) e a = absurd cc
 is_chunks false (Nint p w n) e a = absurd cc
 is_chunks false (Bytes p w b) e a = absurd cc
@@ -111,10 +111,10 @@ next_of text (u ∷ us) (c ∷ cs) mid rest f g e not =
     record { front = c ∷ n.front; chunk = n.chunk; back = n.back; is = ap (λ l. c ∷ l) n.is; rest = n.rest; read = n.read; fits = n.fits }
 
 -- after chunks that were read, no break and no chunk, or one that is blamed
-pub chunks_fail : {P : List Chunk → Type 0} (B : Tree → Type 0) (room : ℕ) (text : Bool) (input mid : List ℕ) → ChunksRead P (major_of text) input mid → ((rest : List ℕ) → mid ≡ 255 ∷ rest → ⊥) → ChunkFails (BlamesChunk B text) (major_of text) mid → Only B room (head (major_of text) Unbounded ++ input)
+pub chunks_fail : {P : List Chunk → Type 0} (B : Tree → Type 0) (room : ℕ) (text : Bool) (input mid : List ℕ) → ChunksRead P (major_of text) input mid → ((rest : List ℕ) → mid ≡ 255 ∷ rest → ⊥) → ChunkFails (BlamesChunk B text) (major_of text) mid → Only B room (head (major_of text) EndlessArgument ++ input)
 unfolding Only ChunkFails BlamesChunk
 chunks_fail B room text input mid s not fails rest t =
-    let o = opened t.node (major_of text) Unbounded input rest t.fits tt (sym t.read) in
+    let o = opened t.node (major_of text) EndlessArgument input rest t.fits tt (sym t.read) in
     let (p, cs, is) = is_chunks text t.node o.0 o.1 in
     let m : Major = major_of text in
     let whole : flat_map (chunk_bytes m) cs ++ (255 ∷ rest) ≡ input =
@@ -123,12 +123,12 @@ chunks_fail B room text input mid s not fails rest t =
     let bad = fails n.rest (record { chunk = n.chunk; read = n.read; fits = n.fits; holds = tt }) in
     subst B (sym (is ∙ ap (chunks_node text p) n.is)) (bad p n.front n.back n.chunk refl)
 
--- the same, where no chunk is there at all
+-- after chunks that were read, no break and no chunk at all
 pub never_chunk : (B : List ℕ → Type 0) (m : Major) (x : List ℕ) → ChunkFails (λ _. ⊥) m x → ChunkFails B m x
 unfolding ChunkFails
 never_chunk B m x f rest c = absurd (f rest c)
 
-pub chunks_read : {P : List Chunk → Type 0} {Q : Tree → Type 0} {room : ℕ} {input after rest : List ℕ} (text : Bool) → after ≡ 255 ∷ rest → (s : ChunksRead P (major_of text) input after) → Q (chunks_node text 0 s.chunks) → NodeRead Q room (head (major_of text) Unbounded ++ input) rest
+pub chunks_read : {P : List Chunk → Type 0} {Q : Tree → Type 0} {room : ℕ} {input after rest : List ℕ} (text : Bool) → after ≡ 255 ∷ rest → (s : ChunksRead P (major_of text) input after) → Q (chunks_node text 0 s.chunks) → NodeRead Q room (head (major_of text) EndlessArgument ++ input) rest
 chunks_read false e s q = byte_chunks_read 0 e s q
 chunks_read true e s q = text_chunks_read 0 e s q
 
@@ -141,7 +141,7 @@ pub chunk_blamed : (B : List ℕ → Type 0) (text : Bool) (w : Width) (n : ℕ)
 chunk_blamed B text w n input content after s f b =
     chunk_only B text _ (string_only (λ t. B (contents t)) 0 text w n input content after s f (blames_string B text content b))
 
-pub chunks_stop : {P : List Chunk → Type 0} (Q B : Tree → Type 0) (room : ℕ) (text : Bool) (input mid : List ℕ) → ChunksRead P (major_of text) input mid → ((rest : List ℕ) → mid ≡ 255 ∷ rest → ⊥) → (R : Chunk → Type 0) (d : Descent) → ((left : ℕ) → d ≡ Taken left → ⊥) → ChunkDescended R B text mid d → Descended Q B room (head (major_of text) Unbounded ++ input) d
+pub chunks_stop : {P : List Chunk → Type 0} (Q B : Tree → Type 0) (room : ℕ) (text : Bool) (input mid : List ℕ) → ChunksRead P (major_of text) input mid → ((rest : List ℕ) → mid ≡ 255 ∷ rest → ⊥) → (R : Chunk → Type 0) (d : Descent) → ((left : ℕ) → d ≡ Taken left → ⊥) → ChunkDescended R B text mid d → Descended Q B room (head (major_of text) EndlessArgument ++ input) d
 chunks_stop Q B room text input mid s not R (Taken left) other f = absurd (other left refl)
 chunks_stop Q B room text input mid s not R Malformed other f = chunks_fail Never room text input mid s not (never_chunk (BlamesChunk Never text) (major_of text) mid f)
 chunks_stop Q B room text input mid s not R Stopped other f = chunks_fail B room text input mid s not f

@@ -1,4 +1,4 @@
--- No node is where no head is, or one that begins none.
+-- No node is where no head is, or where a head is that begins none.
 use Rattle.std.proofs.Common.{◌≡◌, ℕ, ◌+◌, ◌*◌, ◌%◌, ◌<◌, ◌≤◌, List, [], ◌++◌, length, refl, sym, ap, ◌∙◌, subst, arith, append_assoc, append-nil, length-append, Some, None, true, false, Bool, inl, inr}
 use Rattle.std.specs.Prelude.{IsTrue}
 use Rattle.cborn_model.specs.declared.heads.Width.{Width}
@@ -6,13 +6,13 @@ use Rattle.cborn_model.specs.declared.heads.Width.TheVariants.{Direct, One, Two,
 use Rattle.cborn_model.specs.declared.heads.Size.TheVariants.{Fixed, Endless}
 use Rattle.cborn_model.specs.declared.heads.Major.{Major}
 use Rattle.cborn_model.specs.declared.heads.Major.TheVariants.{Unsigned, Negative, ByteString, TextString, Array, Map, Tag, Other}
-use Rattle.cborn_model.specs.Heads.{Argument, Given, Unbounded, head, code, major_at, information, following, least, is_simple_value, WidthFits}
+use Rattle.cborn_model.specs.Heads.{Argument, Given, EndlessArgument, head, code, major_at, information, following, least, is_simple_value, WidthFits}
 use Rattle.cborn_model.specs.Tree.{Tree, Uint, Nint, Bytes, Text, ByteChunks, TextChunks, Items, Pairs, Tagged, Simple, count, count_entries}
 use Rattle.cborn_model.proofs.Numbers.Majors.{major_at-code}
 use Rattle.cborn_model.proofs.Numbers.Simples.{simple_cases, simple_value, least_direct, least_one}
 use Rattle.cborn_wire.specs.Slots.{element_or_end}
 use Rattle.cborn_wire.specs.declared.faults.WireReason.{WireReason}
-use Rattle.cborn_wire.specs.shared.InitialBytes.{info_at, info_for, is_reserved, is_unended, is_other, head_reason}
+use Rattle.cborn_wire.specs.shared.InitialBytes.{info_at, info_for, is_reserved, is_endless_head, is_other, head_reason}
 use Rattle.cborn_wire.proofs.HeadReading.InitialBytes.{same_alone}
 use Rattle.cborn_wire.proofs.Machine.TakesHeads.{quotient, remainder, info_at-now}
 use Rattle.std.proofs.lemmas.Bool.{le-ltb, ltb-false}
@@ -42,9 +42,9 @@ short_never B room x s rest t =
     let o = one_argument m s.major a s.argument (contents t.node ++ (rest ++ s.missing)) [] (opening_fits t.node t.fits) s.fits read in
     absurd (omega (arith, s.some, ap length o.2, length-append (contents t.node) (rest ++ s.missing), length-append rest s.missing))
 
--- ---- a head that is refused wherever it stands
+-- ---- a head that is refused wherever it is
 
-ordinary : (w : Width) (n : ℕ) → (is_reserved (info_for (Given w n)) ≡ false) × (is_unended (info_for (Given w n)) ≡ false)
+ordinary : (w : Width) (n : ℕ) → (is_reserved (info_for (Given w n)) ≡ false) × (is_endless_head (info_for (Given w n)) ≡ false)
 ordinary Direct n = (refl, refl)
 ordinary One n = (refl, refl)
 ordinary Two n = (refl, refl)
@@ -132,7 +132,7 @@ is_endless_major Array = true
 is_endless_major Map = true
 is_endless_major _ = false
 
-endless_major : (t : Tree) → (opening t).1 ≡ Unbounded → is_endless_major (opening t).0 ≡ true
+endless_major : (t : Tree) → (opening t).1 ≡ EndlessArgument → is_endless_major (opening t).0 ≡ true
 endless_major (Uint p w n) e = absurd cc
 endless_major (Nint p w n) e = absurd cc
 endless_major (Bytes p w b) e = refl
@@ -144,10 +144,10 @@ endless_major (Pairs p s es) e = refl
 endless_major (Tagged p w n t) e = absurd cc
 endless_major (Simple p n) e = absurd cc
 
-pub endless_never : (B : Tree → Type 0) (room : ℕ) (m : Major) (input : List ℕ) → is_endless_major m ≡ false → Only B room (head m Unbounded ++ input)
+pub endless_never : (B : Tree → Type 0) (room : ℕ) (m : Major) (input : List ℕ) → is_endless_major m ≡ false → Only B room (head m EndlessArgument ++ input)
 unfolding Only
 endless_never B room m input h rest t =
-    let o = opened t.node m Unbounded input rest t.fits tt (sym t.read) in
+    let o = opened t.node m EndlessArgument input rest t.fits tt (sym t.read) in
     absurd (differ (sym (endless_major t.node o.1) ∙ ap is_endless_major o.0 ∙ h))
   where
     differ : true ≡ false → ⊥

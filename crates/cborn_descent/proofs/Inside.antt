@@ -5,7 +5,7 @@ use Rattle.cborn_model.specs.declared.heads.Size.{Size}
 use Rattle.cborn_model.specs.declared.heads.Size.TheVariants.{Fixed, Endless}
 use Rattle.cborn_model.specs.declared.heads.Major.{Major}
 use Rattle.cborn_model.specs.declared.heads.Major.TheVariants.{Array, Tag, Other}
-use Rattle.cborn_model.specs.Heads.{Argument, Given, Unbounded, head, WidthFits}
+use Rattle.cborn_model.specs.Heads.{Argument, Given, EndlessArgument, head, WidthFits}
 use Rattle.cborn_model.specs.Tree.{Tree, Uint, Nint, Bytes, Text, ByteChunks, TextChunks, Items, Pairs, Tagged, Simple, Trees, no_item, more, trees, depth, depth_all}
 use Rattle.cborn_model.specs.Spelled.{spelled, spelled_all, Fits, FitsAll}
 use Rattle.cborn_model.proofs.Listed.Trees.{count-trees}
@@ -85,7 +85,7 @@ module _ {room : ℕ} where
       (done.0, subst (λ (t : Tree). ItemsIn t (room - 1) n input rest) whole done.1)
 
   -- an array up to a break
-  endless_in : (input rest : List ℕ) (p : ℕ) (s : Size) (l : List Tree) → Fits (Items p s (trees l)) → depth (Items p s (trees l)) ≤ room → (opening (Items p s (trees l))).1 ≡ Unbounded → contents (Items p s (trees l)) ++ rest ≡ input
+  endless_in : (input rest : List ℕ) (p : ℕ) (s : Size) (l : List Tree) → Fits (Items p s (trees l)) → depth (Items p s (trees l)) ≤ room → (opening (Items p s (trees l))).1 ≡ EndlessArgument → contents (Items p s (trees l)) ++ rest ≡ input
       → (1 ≤ room) × ItemsIn (Items p s (trees l)) (room - 1) (length l) input (255 ∷ rest)
   endless_in input rest p Endless l f d a e = (
     omega (arith, d),
@@ -106,14 +106,14 @@ module _ {room : ℕ} where
   )
   endless_in input rest p (Fixed v) l f d a e = absurd cc
 
-  pub endless_array_in : {P : Tree → Type 0} (input rest : List ℕ) (x : NodeRead P room (head Array Unbounded ++ input) rest) → (1 ≤ room) × ((n : ℕ) × ItemsIn x.node (room - 1) n input (255 ∷ rest))
+  pub endless_array_in : {P : Tree → Type 0} (input rest : List ℕ) (x : NodeRead P room (head Array EndlessArgument ++ input) rest) → (1 ≤ room) × ((n : ℕ) × ItemsIn x.node (room - 1) n input (255 ∷ rest))
   endless_array_in input rest x =
-      let o = opened x.node Array Unbounded input rest x.fits tt (sym x.read) in
+      let o = opened x.node Array EndlessArgument input rest x.fits tt (sym x.read) in
       let (p, s, ts, is) = array_of x.node o.0 in
       let (l, same) = listed ts in
       let whole : Items p s (trees l) ≡ x.node = ap (Items p s) same ∙ sym is in
       let done = endless_in input rest p s l (subst Fits (sym whole) x.fits) (subst (λ (t : Tree). depth t ≤ room) (sym whole) x.shallow)
-      (subst (λ (t : Tree). (opening t).1 ≡ Unbounded) (sym whole) o.1) (subst (λ (t : Tree). contents t ++ rest ≡ input) (sym whole) o.2) in
+      (subst (λ (t : Tree). (opening t).1 ≡ EndlessArgument) (sym whole) o.1) (subst (λ (t : Tree). contents t ++ rest ≡ input) (sym whole) o.2) in
       (done.0, (length l, subst (λ (t : Tree). ItemsIn t (room - 1) (length l) input (255 ∷ rest)) whole done.1))
 
 -- ---- of two lists of nodes at the front of the same bytes
@@ -147,7 +147,7 @@ next_of room (u ∷ us) (t ∷ ts) mid rest f g d e l = one_more t (next_of room
 
 -- ---- a node is no break
 
-given_is : (t : Tree) → (opening t).0 ≡ Other → (opening t).1 ≡ Unbounded → ⊥
+given_is : (t : Tree) → (opening t).0 ≡ Other → (opening t).1 ≡ EndlessArgument → ⊥
 given_is (Uint p w n) e a = absurd cc
 given_is (Nint p w n) e a = absurd cc
 given_is (Bytes p w b) e a = absurd cc
@@ -160,7 +160,7 @@ given_is (Tagged p w n t) e a = absurd cc
 given_is (Simple p n) e a = absurd cc
 
 pub no_break : (t : Tree) (x rest : List ℕ) → Fits t → spelled t ++ x ≡ 255 ∷ rest → ⊥
-no_break t x rest f e = let o = opened t Other Unbounded rest x f tt e in given_is t o.0 o.1
+no_break t x rest f e = let o = opened t Other EndlessArgument rest x f tt e in given_is t o.0 o.1
 
 -- of those that a break ends, the node that is where the others end, and no break
 pub next_before_break : (room : ℕ) (us ts : List Tree) (mid rest : List ℕ) → FitsAll (trees us) → FitsAll (trees ts) → depth_all (trees ts) ≤ room → spelled_all (trees us) ++ mid ≡ spelled_all (trees ts) ++ (255 ∷ rest) → (mid ≡ 255 ∷ rest → ⊥) → Next room ts mid
@@ -172,7 +172,7 @@ next_before_break room (u ∷ us) (t ∷ ts) mid rest f g d e not = one_more t (
 -- a node has a byte
 head_some : (m : Major) (a : Argument) → 1 ≤ length (head m a)
 head_some m (Given w n) = omega arith
-head_some m Unbounded = omega arith
+head_some m EndlessArgument = omega arith
 
 pub some_byte : (t : Tree) → 1 ≤ length (spelled t)
 some_byte t = omega (arith, ap length (opens t), length-append (head (opening t).0 (opening t).1) (contents t), head_some (opening t).0 (opening t).1)

@@ -4,7 +4,7 @@ use Rattle.std.proofs.lemmas.List.{append_cancel_right}
 use Rattle.cborn_model.specs.declared.heads.Width.{Width}
 use Rattle.cborn_model.specs.declared.heads.Size.TheVariants.{Fixed}
 use Rattle.cborn_model.specs.declared.heads.Major.TheVariants.{Map}
-use Rattle.cborn_model.specs.Heads.{Given, Unbounded, head, WidthFits}
+use Rattle.cborn_model.specs.Heads.{Given, EndlessArgument, head, WidthFits}
 use Rattle.cborn_model.specs.Tree.{Tree, Pairs, entries}
 use Rattle.cborn_model.specs.Spelled.{spelled, spelled_entries, FitsEntries}
 use Rattle.cborn_wire.specs.Parts.{Pair, NodeRead, PairRead, PairsRead, Leaves}
@@ -50,7 +50,7 @@ map_blamed B room w n count input mid f s (inl e) b = λ rest x.
     let same = same_spelled s.nodes i.read.nodes mid rest s.fits i.read.fits l (sym s.read ∙ i.read.read) in
     subst B (sym i.is) (b e i.place i.size i.read.nodes i.read.fits (sym l) same)
 
-pub endless_map_blamed : {P : List Pair → Type 0} (B : Tree → Type 0) (room count : ℕ) (input mid after : List ℕ) → (s : PairsRead P (room - 1) count input mid) → mid ≡ 255 ∷ after → BlamesMap B s.nodes → Only B room (head Map Unbounded ++ input)
+pub endless_map_blamed : {P : List Pair → Type 0} (B : Tree → Type 0) (room count : ℕ) (input mid after : List ℕ) → (s : PairsRead P (room - 1) count input mid) → mid ≡ 255 ∷ after → BlamesMap B s.nodes → Only B room (head Map EndlessArgument ++ input)
 unfolding Only BlamesMap
 endless_map_blamed B room count input mid after s end b rest x =
     let i = (endless_map_in input rest x).1.1 in
@@ -79,12 +79,12 @@ map_descended Q B room w n input (Taken left) r f s = absurd s
 map_descended Q B room w n input Malformed r f s = map_only Never room w n input never_rises f s
 map_descended Q B room w n input Stopped r f s = map_only B room w n input r f s
 
-endless_only : (B : Tree → Type 0) (room most : ℕ) (input : List ℕ) → Rises B → PairsFail B (room - 1) most true input → Only B room (head Map Unbounded ++ input)
+endless_only : (B : Tree → Type 0) (room most : ℕ) (input : List ℕ) → Rises B → PairsFail B (room - 1) most true input → Only B room (head Map EndlessArgument ++ input)
 unfolding PairsFail Only
 endless_only B room most input r (inl all) = λ rest t. all t.node
 endless_only B room most input r (inr s) = endless_map_fails B room s.0 input s.1 r s.2 (s.4 refl) s.5
 
-pub endless_map_descended : (Q B : Tree → Type 0) (room most : ℕ) (input : List ℕ) (d : Descent) → Rises B → Fails (λ B. PairsFail B (room - 1) most true input) B d → Descended Q B room (head Map Unbounded ++ input) d
+pub endless_map_descended : (Q B : Tree → Type 0) (room most : ℕ) (input : List ℕ) (d : Descent) → Rises B → Fails (λ B. PairsFail B (room - 1) most true input) B d → Descended Q B room (head Map EndlessArgument ++ input) d
 endless_map_descended Q B room most input (Taken left) r s = absurd s
 endless_map_descended Q B room most input Malformed r s = endless_only Never room most input never_rises s
 endless_map_descended Q B room most input Stopped r s = endless_only B room most input r s
@@ -101,7 +101,7 @@ pub met : {X : Type 0} (count n : ℕ) → (count ≡ n) ⊎ (false ≡ true) ×
 met count n (inl e) = e
 met count n (inr p) = absurd cc
 
-pub endless_map_all : {P : List Pair → Type 0} (room k : ℕ) (input mid : List ℕ) → PairsRead P (room - 1) k input mid → k ≡ length input → Only Never room (head Map Unbounded ++ input)
+pub endless_map_all : {P : List Pair → Type 0} (room k : ℕ) (input mid : List ℕ) → PairsRead P (room - 1) k input mid → k ≡ length input → Only Never room (head Map EndlessArgument ++ input)
 endless_map_all room k input mid s e =
     let none : length mid ≡ 0 = omega (arith, e, pairs_bytes s.nodes, s.count, ap length s.read, length-append (spelled_entries (entries s.nodes)) mid) in
     endless_map_fails Never room k input mid never_rises s (λ rest b. absurd (omega (arith, none, ap length b))) (key_fails Never (room - 1) mid (short_never Never (room - 1) mid (no_head mid (omega (arith, none)))))

@@ -2,7 +2,7 @@
 use Rattle.std.proofs.Common.{◌≡◌, ℕ, suc, ◌+◌, ◌-◌, ◌<◌, ◌≤◌, List, ◌∷◌, ◌++◌, length, refl, sym, ap, ◌∙◌, subst, arith, Bool, true, false, Option, Some, None, ◌≢◌, ◌⊎◌, inl, inr, length-append}
 use Rattle.cborn_model.specs.declared.heads.Width.{Width}
 use Rattle.cborn_model.specs.declared.heads.Major.TheVariants.{Array, Tag}
-use Rattle.cborn_model.specs.Heads.{Given, Unbounded, head, WidthFits}
+use Rattle.cborn_model.specs.Heads.{Given, EndlessArgument, head, WidthFits}
 use Rattle.cborn_model.specs.Tree.{Tree, Items, Tagged, trees, depth}
 use Rattle.cborn_model.specs.Spelled.{spelled, spelled_all, Fits}
 use Rattle.cborn_wire.specs.Parts.{NodeRead, NodesRead}
@@ -33,7 +33,7 @@ module _ (B : Tree → Type 0) (room : ℕ) where
   unfolding Only
   array_deep w n input z f rest x = absurd (omega (arith, z, (array_in w n input rest x f).0))
 
-  pub endless_array_deep : (input : List ℕ) → room ≡ 0 → Only B room (head Array Unbounded ++ input)
+  pub endless_array_deep : (input : List ℕ) → room ≡ 0 → Only B room (head Array EndlessArgument ++ input)
   unfolding Only
   endless_array_deep input z rest x = absurd (omega (arith, z, (endless_array_in input rest x).0))
 
@@ -51,7 +51,7 @@ module _ (B : Tree → Type 0) (room : ℕ) where
       let i = (array_in w n input rest x f).1 in
       blamed B r i (next_of (room - 1) s.nodes i.read.nodes mid rest s.fits i.read.fits i.read.shallow (sym s.read ∙ i.read.read) (omega (arith, l, s.count, i.read.count))) only
 
-  pub endless_array_fails : {P : List Tree → Type 0} (k : ℕ) (input mid : List ℕ) → Rises B → NodesRead P (room - 1) k input mid → ((rest : List ℕ) → mid ≡ 255 ∷ rest → ⊥) → Only B (room - 1) mid → Only B room (head Array Unbounded ++ input)
+  pub endless_array_fails : {P : List Tree → Type 0} (k : ℕ) (input mid : List ℕ) → Rises B → NodesRead P (room - 1) k input mid → ((rest : List ℕ) → mid ≡ 255 ∷ rest → ⊥) → Only B (room - 1) mid → Only B room (head Array EndlessArgument ++ input)
   unfolding Only
   endless_array_fails k input mid r s not only rest x =
       let i = (endless_array_in input rest x).1.1 in
@@ -113,12 +113,12 @@ array_descended Q B room w n input (Taken left) r f s = absurd s
 array_descended Q B room w n input Malformed r f s = array_only Never room w n input never_rises f s
 array_descended Q B room w n input Stopped r f s = array_only B room w n input r f s
 
-endless_only : (B : Tree → Type 0) (room most : ℕ) (input : List ℕ) → Rises B → ItemsFail B (room - 1) most true input → Only B room (head Array Unbounded ++ input)
+endless_only : (B : Tree → Type 0) (room most : ℕ) (input : List ℕ) → Rises B → ItemsFail B (room - 1) most true input → Only B room (head Array EndlessArgument ++ input)
 unfolding ItemsFail Only
 endless_only B room most input r (inl all) = λ rest t. all t.node
 endless_only B room most input r (inr s) = endless_array_fails B room s.0 input s.1 r s.2 (s.4 refl) s.5
 
-pub endless_descended : (Q B : Tree → Type 0) (room most : ℕ) (input : List ℕ) (d : Descent) → Rises B → Fails (λ B. ItemsFail B (room - 1) most true input) B d → Descended Q B room (head Array Unbounded ++ input) d
+pub endless_descended : (Q B : Tree → Type 0) (room most : ℕ) (input : List ℕ) (d : Descent) → Rises B → Fails (λ B. ItemsFail B (room - 1) most true input) B d → Descended Q B room (head Array EndlessArgument ++ input) d
 endless_descended Q B room most input (Taken left) r s = absurd s
 endless_descended Q B room most input Malformed r s = endless_only Never room most input never_rises s
 endless_descended Q B room most input Stopped r s = endless_only B room most input r s
@@ -137,7 +137,7 @@ items_run {P} {Q} {room} {count} {more} {bytes} {rest} {after} s run =
     nodes_more s wide wide.holds
 
 -- as many items as bytes, and no break
-pub endless_all : {P : List Tree → Type 0} (room k : ℕ) (input mid : List ℕ) → NodesRead P (room - 1) k input mid → k ≡ length input → Only Never room (head Array Unbounded ++ input)
+pub endless_all : {P : List Tree → Type 0} (room k : ℕ) (input mid : List ℕ) → NodesRead P (room - 1) k input mid → k ≡ length input → Only Never room (head Array EndlessArgument ++ input)
 endless_all room k input mid s e =
     let none : length mid ≡ 0 = omega (arith, e, bytes_of s.nodes, s.count, ap length s.read, length-append (spelled_all (trees s.nodes)) mid) in
     endless_array_fails Never room k input mid never_rises s (λ rest b. absurd (omega (arith, none, ap length b))) (short_never Never (room - 1) mid (no_head mid (omega (arith, none))))

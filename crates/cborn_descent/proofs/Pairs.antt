@@ -1,10 +1,10 @@
--- Pairs that were read, and the one after them that isn't there: as of items in `Inside` and `Onlies`.
+-- Pairs that were read, and the one after them that isn't there. `Inside` and `Onlies` have it for items.
 use Rattle.std.proofs.Common.{◌≡◌, ℕ, ◌-◌, ◌<◌, ◌≤◌, ◌⊎◌, inl, inr, List, [], ◌∷◌, ◌++◌, length, refl, sym, ap, ◌∙◌, subst, arith, append_assoc, append-nil, length-append}
 use Rattle.cborn_model.specs.declared.heads.Width.{Width}
 use Rattle.cborn_model.specs.declared.heads.Size.{Size}
 use Rattle.cborn_model.specs.declared.heads.Size.TheVariants.{Fixed, Endless}
 use Rattle.cborn_model.specs.declared.heads.Major.TheVariants.{Map}
-use Rattle.cborn_model.specs.Heads.{Given, Unbounded, head, WidthFits}
+use Rattle.cborn_model.specs.Heads.{Given, EndlessArgument, head, WidthFits}
 use Rattle.cborn_model.specs.Tree.{Tree, Uint, Nint, Bytes, Text, ByteChunks, TextChunks, Items, Pairs, Tagged, Simple, Entries, no_entry, entry, entries, depth, depth_entries}
 use Rattle.cborn_model.specs.Spelled.{spelled, spelled_entries, Fits, FitsEntries}
 use Rattle.cborn_model.proofs.Listed.Trees.{count_entries-entries}
@@ -70,7 +70,7 @@ module _ {room : ℕ} where
       (subst (λ (t : Tree). (opening t).1 ≡ Given w n) (sym whole) o.1) (subst (λ (t : Tree). contents t ++ rest ≡ input) (sym whole) o.2) in
       (done.0, subst (λ (t : Tree). PairsIn t (room - 1) n input rest) whole done.1)
 
-  endless_in : (input rest : List ℕ) (p : ℕ) (s : Size) (l : List Pair) → Fits (Pairs p s (entries l)) → depth (Pairs p s (entries l)) ≤ room → (opening (Pairs p s (entries l))).1 ≡ Unbounded → contents (Pairs p s (entries l)) ++ rest ≡ input
+  endless_in : (input rest : List ℕ) (p : ℕ) (s : Size) (l : List Pair) → Fits (Pairs p s (entries l)) → depth (Pairs p s (entries l)) ≤ room → (opening (Pairs p s (entries l))).1 ≡ EndlessArgument → contents (Pairs p s (entries l)) ++ rest ≡ input
       → (1 ≤ room) × PairsIn (Pairs p s (entries l)) (room - 1) (length l) input (255 ∷ rest)
   endless_in input rest p Endless l f d a e = (
     omega (arith, d),
@@ -90,14 +90,14 @@ module _ {room : ℕ} where
   )
   endless_in input rest p (Fixed v) l f d a e = absurd cc
 
-  pub endless_map_in : {P : Tree → Type 0} (input rest : List ℕ) (x : NodeRead P room (head Map Unbounded ++ input) rest) → (1 ≤ room) × ((n : ℕ) × PairsIn x.node (room - 1) n input (255 ∷ rest))
+  pub endless_map_in : {P : Tree → Type 0} (input rest : List ℕ) (x : NodeRead P room (head Map EndlessArgument ++ input) rest) → (1 ≤ room) × ((n : ℕ) × PairsIn x.node (room - 1) n input (255 ∷ rest))
   endless_map_in input rest x =
-      let o = opened x.node Map Unbounded input rest x.fits tt (sym x.read) in
+      let o = opened x.node Map EndlessArgument input rest x.fits tt (sym x.read) in
       let (p, s, es, is) = map_of x.node o.0 in
       let (l, same) = listed_pairs es in
       let whole : Pairs p s (entries l) ≡ x.node = ap (Pairs p s) same ∙ sym is in
       let done = endless_in input rest p s l (subst Fits (sym whole) x.fits) (subst (λ (t : Tree). depth t ≤ room) (sym whole) x.shallow)
-      (subst (λ (t : Tree). (opening t).1 ≡ Unbounded) (sym whole) o.1) (subst (λ (t : Tree). contents t ++ rest ≡ input) (sym whole) o.2) in
+      (subst (λ (t : Tree). (opening t).1 ≡ EndlessArgument) (sym whole) o.1) (subst (λ (t : Tree). contents t ++ rest ≡ input) (sym whole) o.2) in
       (done.0, (length l, subst (λ (t : Tree). PairsIn t (room - 1) (length l) input (255 ∷ rest)) whole done.1))
 
 -- a pair of the list, after those before it
@@ -166,7 +166,7 @@ module _ (B : Tree → Type 0) (room : ℕ) where
   unfolding Only
   map_deep w n input z f rest x = absurd (omega (arith, z, (map_in w n input rest x f).0))
 
-  pub endless_map_deep : (input : List ℕ) → room ≡ 0 → Only B room (head Map Unbounded ++ input)
+  pub endless_map_deep : (input : List ℕ) → room ≡ 0 → Only B room (head Map EndlessArgument ++ input)
   unfolding Only
   endless_map_deep input z rest x = absurd (omega (arith, z, (endless_map_in input rest x).0))
 
@@ -182,7 +182,7 @@ module _ (B : Tree → Type 0) (room : ℕ) where
       let i = (map_in w n input rest x f).1 in
       blamed B r i (next_of (room - 1) s.nodes i.read.nodes mid rest s.fits i.read.fits i.read.shallow (sym s.read ∙ i.read.read) (omega (arith, l, s.count, i.read.count))) only
 
-  pub endless_map_fails : {P : List Pair → Type 0} (k : ℕ) (input mid : List ℕ) → Rises B → PairsRead P (room - 1) k input mid → ((rest : List ℕ) → mid ≡ 255 ∷ rest → ⊥) → PairFails B (room - 1) mid → Only B room (head Map Unbounded ++ input)
+  pub endless_map_fails : {P : List Pair → Type 0} (k : ℕ) (input mid : List ℕ) → Rises B → PairsRead P (room - 1) k input mid → ((rest : List ℕ) → mid ≡ 255 ∷ rest → ⊥) → PairFails B (room - 1) mid → Only B room (head Map EndlessArgument ++ input)
   unfolding Only PairFails
   endless_map_fails k input mid r s not only rest x =
       let i = (endless_map_in input rest x).1.1 in

@@ -1,5 +1,5 @@
 -- Whole inputs: what is after the nodes that were read.
-use Rattle.std.proofs.Common.{◌≡◌, ◌==◌, ◌<◌, ℕ, List, [], ◌∷◌, ◌++◌, length, true, false, refl, sym, ap, ◌∙◌, subst, arith, length-append, append-nil}
+use Rattle.std.proofs.Common.{◌≡◌, ◌==◌, ◌<◌, ℕ, List, [], ◌∷◌, length, true, false, refl, sym, ap, ◌∙◌, subst, arith, length-append, append-nil}
 use Rattle.std.proofs.lemmas.Bool.{eqb-true}
 use Rattle.cborn_model.specs.Spelled.{spelled, spelled_all, Wellformed}
 use Rattle.cborn_model.specs.Tree.{Tree, Trees, trees}

@@ -60,7 +60,7 @@ Descended P B room x (Taken left) = Leaves (NodeRead P room x) left
 Descended P B room x Malformed = Only Never room x
 Descended P B room x Stopped = Only B room x
 
--- where a map or a tag begins: Q holds of what is kept of it, or this became of the whole, in any room
+-- where a map or a tag begins: Q holds of what is kept for it, or the sink read it, and this became of it, in any room
 abbrev pub Opened : {T : Type 0} → (T → Type 0) → (P B : Tree → Type 0) → List ℕ → Opening T → Type 0
 Opened Q P B x (Inside o) = Q o
 Opened Q P B x (Whole d) = (room : ℕ) → 1 ≤ room → Descended P B room x d

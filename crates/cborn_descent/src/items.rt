@@ -2,7 +2,7 @@
 
 ghost use Rattle.std.specs.Prelude.{◌≡◌, ◌⊎◌, ◌≤◌, ◌∷◌, ◌++◌, ℕ, List, [], length, None, true, false, MatchResult, MatchOption};
 ghost use Rattle.cborn_model.specs.declared.heads.Major.TheVariants.{Array, Map, Tag};
-ghost use Rattle.cborn_model.specs.Heads.{Argument as HeadArgument, Given, Unbounded, head, WidthFits};
+ghost use Rattle.cborn_model.specs.Heads.{Argument as HeadArgument, Given, EndlessArgument, head, WidthFits};
 ghost use Rattle.cborn_model.specs.Tree.{Tree};
 ghost use Rattle.cborn_wire.specs.Parts.{Pair, NodesRead, PairRead, PairsRead, Leaves};
 ghost use Rattle.cborn_descent.specs.Descending.{Descended, ItemsFail, PairFails, PairsFail, PairEnds, PairDescended, Fails};
@@ -11,7 +11,15 @@ use crate::descents::Descent;
 use crate::sinks::{Opening, Sink};
 use crate::strings::{take_chunks, take_string};
 use cborn_model::{Major, Width};
-use cborn_wire::{Argument, HeadRead, behind_break, is_done, last, read_head};
+use cborn_wire::{Argument, HeadRead, after_break, is_done, last, read_head};
+
+/// Where the items of an array or the pairs of a map end: with the one that makes them `most`, or,
+/// if `may_end`, at a break before that.
+#[derive(Clone, Copy)]
+struct Bound {
+    most: u64,
+    may_end: bool,
+}
 
 /// Gives a sink the item at the front of `bytes`, of a nesting depth of at most `room` (RFC 8949
 /// section 3).
@@ -82,11 +90,15 @@ fn take_array<S: Sink>(sink: &mut S, room: u64, width: Width, n: u64, bytes: &[u
     if room == 0 || n > bytes.len() as u64 {
         return Descent::Malformed;
     }
-    let Some(mut begun) = sink.open_array(width, n, bytes) else {
+    let Some(mut started) = sink.open_array(width, n, bytes) else {
         return Descent::Stopped;
     };
-    match take_items(sink, &mut begun, room - 1, n, false, bytes) {
-        Ok((rest, count)) => match sink.close_array(begun, false, count) {
+    let bound = Bound {
+        most: n,
+        may_end: false,
+    };
+    match take_items(sink, &mut started, room - 1, bound, bytes) {
+        Ok((rest, count)) => match sink.close_array(started, false, count) {
             Some(()) => Descent::Taken(rest.len()),
             None => Descent::Stopped,
         },
@@ -99,20 +111,24 @@ fn take_array<S: Sink>(sink: &mut S, room: u64, width: Width, n: u64, bytes: &[u
 #[inline(never)]
 fn take_endless_array<S: Sink>(sink: &mut S, room: u64, bytes: &[u8]) -> Descent
     requires { room ≤ 1024 }
-    ensures { Descended (S.took sink.old sink.new) (S.blames sink.new) room (head Array Unbounded ++ bytes.now) result }
+    ensures { Descended (S.took sink.old sink.new) (S.blames sink.new) room (head Array EndlessArgument ++ bytes.now) result }
 {
     if room == 0 {
         return Descent::Malformed;
     }
-    let Some(mut begun) = sink.open_endless_array(bytes) else {
+    let Some(mut started) = sink.open_endless_array(bytes) else {
         return Descent::Stopped;
     };
-    match take_items(sink, &mut begun, room - 1, bytes.len() as u64, true, bytes) {
+    let bound = Bound {
+        most: bytes.len() as u64,
+        may_end: true,
+    };
+    match take_items(sink, &mut started, room - 1, bound, bytes) {
         Ok((rest, count)) => {
-            let Some(after) = behind_break(rest) else {
+            let Some(after) = after_break(rest) else {
                 return Descent::Malformed;
             };
-            match sink.close_array(begun, true, count) {
+            match sink.close_array(started, true, count) {
                 Some(()) => Descent::Taken(after.len()),
                 None => Descent::Stopped,
             }
@@ -121,33 +137,31 @@ fn take_endless_array<S: Sink>(sink: &mut S, room: u64, bytes: &[u8]) -> Descent
     }
 }
 
-/// Reads the items of an array up to the count `most`, or, if `may_end`, up to a break. Gives what
-/// follows them, and their number.
+/// Reads the items of an array up to the bound. Gives what follows them, and their number.
 #[cycle(descended)]
 #[inline(always)]
 fn take_items<'a, S: Sink>(
     sink: &mut S,
-    begun: &mut S::Array,
+    started: &mut S::Array,
     room: u64,
-    most: u64,
-    may_end: bool,
+    bound: Bound,
     bytes: &'a [u8],
 ) -> Result<(&'a [u8], u64), Descent>
     requires { room ≤ 1024 }
-    ensures { (a : S) (g : HeadArgument) → S.in_array a sink.old begun.old g [] → MatchResult result (λ r. NodesRead (λ ts. S.in_array a sink.new begun.new g ts) room r.1 bytes.now r.0.now × ((r.1 ≡ most) ⊎ (may_end ≡ true) × ((rest : List ℕ) × (r.0.now ≡ 255 ∷ rest)))) (λ d. Fails (λ B. ItemsFail B room most may_end bytes.now) (S.blames sink.new) d) }
+    ensures { (a : S) (g : HeadArgument) → S.in_array a sink.old started.old g [] → MatchResult result (λ r. NodesRead (λ ts. S.in_array a sink.new started.new g ts) room r.1 bytes.now r.0.now × ((r.1 ≡ bound.most) ⊎ (bound.may_end ≡ true) × ((rest : List ℕ) × (r.0.now ≡ 255 ∷ rest)))) (λ d. Fails (λ B. ItemsFail B room bound.most bound.may_end bytes.now) (S.blames sink.new) d) }
 {
     let mut rest = bytes;
     let mut count = 0;
     'items: loop {
-        let Some((len, more)) = sink.integers(begun, count, most - count, rest) else {
+        let Some((len, more)) = sink.integers(started, count, bound.most - count, rest) else {
             return Err(Descent::Stopped);
         };
         rest = &rest[len..];
         count += more;
-        if is_done(count, most, may_end, rest) {
+        if is_done(count, bound.most, bound.may_end, rest) {
             return Ok((rest, count));
         }
-        let Some(()) = sink.before_item(begun, count, may_end, rest) else {
+        let Some(()) = sink.before_item(started, count, bound.may_end, rest) else {
             return Err(Descent::Stopped);
         };
         match take_node(sink, room, rest) {
@@ -160,7 +174,7 @@ fn take_items<'a, S: Sink>(
             Descent::Malformed => return Err(Descent::Malformed),
             Descent::Stopped => return Err(Descent::Stopped),
         }
-        let Some(()) = sink.after_item(begun) else {
+        let Some(()) = sink.after_item(started) else {
             return Err(Descent::Stopped);
         };
         count += 1;
@@ -178,12 +192,16 @@ fn take_map<S: Sink>(sink: &mut S, room: u64, width: Width, n: u64, bytes: &[u8]
     if room == 0 || n > bytes.len() as u64 {
         return Descent::Malformed;
     }
-    let mut begun = match sink.open_map(width, n, bytes) {
-        Opening::Inside(begun) => begun,
+    let mut started = match sink.open_map(width, n, bytes) {
+        Opening::Inside(started) => started,
         Opening::Whole(descent) => return descent,
     };
-    match take_pairs(sink, &mut begun, room - 1, n, false, bytes) {
-        Ok((rest, count)) => match sink.close_map(begun, false, count) {
+    let bound = Bound {
+        most: n,
+        may_end: false,
+    };
+    match take_pairs(sink, &mut started, room - 1, bound, bytes) {
+        Ok((rest, count)) => match sink.close_map(started, false, count) {
             Some(()) => Descent::Taken(rest.len()),
             None => Descent::Stopped,
         },
@@ -196,20 +214,24 @@ fn take_map<S: Sink>(sink: &mut S, room: u64, width: Width, n: u64, bytes: &[u8]
 #[inline(never)]
 fn take_endless_map<S: Sink>(sink: &mut S, room: u64, bytes: &[u8]) -> Descent
     requires { room ≤ 1024 }
-    ensures { Descended (S.took sink.old sink.new) (S.blames sink.new) room (head Map Unbounded ++ bytes.now) result }
+    ensures { Descended (S.took sink.old sink.new) (S.blames sink.new) room (head Map EndlessArgument ++ bytes.now) result }
 {
     if room == 0 {
         return Descent::Malformed;
     }
-    let Some(mut begun) = sink.open_endless_map(bytes) else {
+    let Some(mut started) = sink.open_endless_map(bytes) else {
         return Descent::Stopped;
     };
-    match take_pairs(sink, &mut begun, room - 1, bytes.len() as u64, true, bytes) {
+    let bound = Bound {
+        most: bytes.len() as u64,
+        may_end: true,
+    };
+    match take_pairs(sink, &mut started, room - 1, bound, bytes) {
         Ok((rest, count)) => {
-            let Some(after) = behind_break(rest) else {
+            let Some(after) = after_break(rest) else {
                 return Descent::Malformed;
             };
-            match sink.close_map(begun, true, count) {
+            match sink.close_map(started, true, count) {
                 Some(()) => Descent::Taken(after.len()),
                 None => Descent::Stopped,
             }
@@ -218,32 +240,30 @@ fn take_endless_map<S: Sink>(sink: &mut S, room: u64, bytes: &[u8]) -> Descent
     }
 }
 
-/// Reads the pairs of a map up to the count `most`, or, if `may_end`, up to a break. Gives what
-/// follows them, and their number.
+/// Reads the pairs of a map up to the bound. Gives what follows them, and their number.
 #[cycle(descended)]
 #[inline(always)]
 fn take_pairs<'a, S: Sink>(
     sink: &mut S,
-    begun: &mut S::Map,
+    started: &mut S::Map,
     room: u64,
-    most: u64,
-    may_end: bool,
+    bound: Bound,
     bytes: &'a [u8],
 ) -> Result<(&'a [u8], u64), Descent>
     requires room { room ≤ 1024 }
-    requires begun { (a : S) × (g : HeadArgument) × S.in_map a sink.old begun.old g [] }
-    ensures { (a : S) (g : HeadArgument) → S.in_map a sink.old begun.old g [] → MatchResult result (λ r. PairsRead (λ ps. S.in_map a sink.new begun.new g ps) room r.1 bytes.now r.0.now × ((r.1 ≡ most) ⊎ (may_end ≡ true) × ((rest : List ℕ) × (r.0.now ≡ 255 ∷ rest)))) (λ d. Fails (λ B. PairsFail B room most may_end bytes.now) (S.blames sink.new) d) }
+    requires started { (a : S) × (g : HeadArgument) × S.in_map a sink.old started.old g [] }
+    ensures { (a : S) (g : HeadArgument) → S.in_map a sink.old started.old g [] → MatchResult result (λ r. PairsRead (λ ps. S.in_map a sink.new started.new g ps) room r.1 bytes.now r.0.now × ((r.1 ≡ bound.most) ⊎ (bound.may_end ≡ true) × ((rest : List ℕ) × (r.0.now ≡ 255 ∷ rest)))) (λ d. Fails (λ B. PairsFail B room bound.most bound.may_end bytes.now) (S.blames sink.new) d) }
 {
     let mut rest = bytes;
     let mut count = 0;
     'pairs: loop {
-        if is_done(count, most, may_end, rest) {
+        if is_done(count, bound.most, bound.may_end, rest) {
             return Ok((rest, count));
         }
-        let Some(()) = sink.before_key(begun, count, may_end, rest) else {
+        let Some(()) = sink.before_key(started, count, bound.may_end, rest) else {
             return Err(Descent::Stopped);
         };
-        match take_pair(sink, begun, room, rest) {
+        match take_pair(sink, started, room, rest) {
             Descent::Taken(left) => {
                 let Some(after) = last(rest, left) else {
                     return Err(Descent::Malformed);
@@ -260,24 +280,24 @@ fn take_pairs<'a, S: Sink>(
 /// Reads the key and the value at the front of `bytes`.
 #[cycle(descended)]
 #[inline(always)]
-fn take_pair<S: Sink>(sink: &mut S, begun: &mut S::Map, room: u64, bytes: &[u8]) -> Descent
+fn take_pair<S: Sink>(sink: &mut S, started: &mut S::Map, room: u64, bytes: &[u8]) -> Descent
     requires room { room ≤ 1024 }
-    requires begun { (a : S) × (g : HeadArgument) × (ps : List Pair) × S.at_key a sink.old begun.old g ps }
+    requires started { (a : S) × (g : HeadArgument) × (ps : List Pair) × S.at_key a sink.old started.old g ps }
     ensures read { PairEnds room bytes.now result }
-    ensures taken { (a : S) (g : HeadArgument) (ps : List Pair) → S.at_key a sink.old begun.old g ps → PairDescended (λ p. S.in_map a sink.new begun.new g (ps ++ p ∷ [])) (S.blames sink.new) room bytes.now result }
+    ensures taken { (a : S) (g : HeadArgument) (ps : List Pair) → S.at_key a sink.old started.old g ps → PairDescended (λ p. S.in_map a sink.new started.new g (ps ++ p ∷ [])) (S.blames sink.new) room bytes.now result }
 {
     let left = match take_node(sink, room, bytes) {
         Descent::Taken(left) => left,
         other => return other,
     };
-    let Some(()) = sink.before_value(begun, bytes, left) else {
+    let Some(()) = sink.before_value(started, bytes, left) else {
         return Descent::Stopped;
     };
     let Some(after) = last(bytes, left) else {
         return Descent::Malformed;
     };
     match take_node(sink, room, after) {
-        Descent::Taken(end) => match sink.after_value(begun) {
+        Descent::Taken(end) => match sink.after_value(started) {
             Some(()) => Descent::Taken(end),
             None => Descent::Stopped,
         },

@@ -6,13 +6,14 @@
 //! ```
 //!
 //! [`descend`] reads the item at the front of some bytes, head by head, and calls a method of a
-//! [`Sink`] for each thing that it reads. It keeps no tree: items inside one another are calls inside
-//! one another, at most as deep as its limit.
+//! [`Sink`] for each thing that it reads. It keeps no tree: items inside one another are calls
+//! inside one another, no deeper than its limit.
 //!
 //! [`Descent`] says what became of it, exactly: the sink took the item; or no item is there; or the
-//! sink stopped. A sink says by its ghost members what it is after it took an item, and what holds of
-//! an item at which it stopped. `Descended` of `specs/Descending.antt` is the contract for any sink.
-//! So a new pass over bytes is a new sink, and the grammar of bytes is read, and proved, once.
+//! sink stopped. A sink's ghost members say what the sink is after it took an item, and what holds
+//! of an item at which it stopped. `Descended` of `specs/Descending.antt` is the contract for any
+//! sink. So a new pass over bytes is a new sink, and the grammar of bytes is read, and proved,
+//! once.
 //!
 //! In the code start with `sinks`. `items` has a function for each kind of item that holds others,
 //! `strings` those for strings and their chunks.

@@ -2,13 +2,13 @@
 
 ghost use Rattle.std.specs.Prelude.{◌≡◌, ◌≢◌, ◌⊎◌, ◌++◌, ◌∷◌, ℕ, List, [], length, true, IsTrue};
 ghost use Rattle.cborn_model.specs.declared.nodes.Chunk.{Chunk};
-ghost use Rattle.cborn_model.specs.Heads.{Given, Unbounded, head, WidthFits};
+ghost use Rattle.cborn_model.specs.Heads.{Given, EndlessArgument, head, WidthFits};
 ghost use Rattle.cborn_descent.specs.Descending.{Descended, ChunkDescended, major_of};
 
 use crate::descents::Descent;
 use crate::sinks::Sink;
 use cborn_model::{Major, Width};
-use cborn_wire::{Argument, HeadRead, behind_break, last, read_head};
+use cborn_wire::{Argument, HeadRead, after_break, last, read_head};
 
 /// Reads a string whose content is the `n` bytes at the front.
 #[inline(never)]
@@ -35,21 +35,21 @@ pub(crate) fn take_string<S: Sink>(
 /// Reads a string of indefinite length: chunks up to a break.
 #[inline(never)]
 pub(crate) fn take_chunks<S: Sink>(sink: &mut S, text: bool, bytes: &[u8]) -> Descent
-    ensures { (room : ℕ) → Descended (S.took sink.old sink.new) (S.blames sink.new) room (head (major_of text) Unbounded ++ bytes.now) result }
+    ensures { (room : ℕ) → Descended (S.took sink.old sink.new) (S.blames sink.new) room (head (major_of text) EndlessArgument ++ bytes.now) result }
 {
-    let Some(mut begun) = sink.open_chunks(text, bytes) else {
+    let Some(mut started) = sink.open_chunks(text, bytes) else {
         return Descent::Stopped;
     };
     let mut rest = bytes;
     let mut count = 0;
     'chunks: loop {
-        if let Some(after) = behind_break(rest) {
-            return match sink.close_chunks(begun, text, count) {
+        if let Some(after) = after_break(rest) {
+            return match sink.close_chunks(started, text, count) {
                 Some(()) => Descent::Taken(after.len()),
                 None => Descent::Stopped,
             };
         }
-        match take_chunk(sink, &mut begun, text, count, rest) {
+        match take_chunk(sink, &mut started, text, count, rest) {
             Descent::Taken(left) => {
                 let Some(after) = last(rest, left) else {
                     return Descent::Malformed;
@@ -66,12 +66,12 @@ pub(crate) fn take_chunks<S: Sink>(sink: &mut S, text: bool, bytes: &[u8]) -> De
 #[inline]
 fn take_chunk<S: Sink>(
     sink: &mut S,
-    begun: &mut S::Chunks,
+    started: &mut S::Chunks,
     text: bool,
     index: u64,
     bytes: &[u8],
 ) -> Descent
-    ensures { (a : S) (cs : List Chunk) → length cs ≡ index → S.in_chunks a sink.old begun.old text cs → ChunkDescended (λ c. S.in_chunks a sink.new begun.new text (cs ++ c ∷ [])) (S.blames sink.new) text bytes.now result }
+    ensures { (a : S) (cs : List Chunk) → length cs ≡ index → S.in_chunks a sink.old started.old text cs → ChunkDescended (λ c. S.in_chunks a sink.new started.new text (cs ++ c ∷ [])) (S.blames sink.new) text bytes.now result }
 {
     let HeadRead::Full(head, len) = read_head(bytes) else {
         return Descent::Malformed;
@@ -87,7 +87,7 @@ fn take_chunk<S: Sink>(
         return Descent::Malformed;
     }
     let (content, rest) = after.split_at(n as usize);
-    match sink.chunk(begun, text, index, width, content, bytes) {
+    match sink.chunk(started, text, index, width, content, bytes) {
         Some(()) => Descent::Taken(rest.len()),
         None => Descent::Stopped,
     }

@@ -47,7 +47,7 @@ module _ (order : List ℕ → List ℕ → Ordering) where
   seen (tagged t v) x d = record { major = 6; width = least t; argument = t; head = d.0; content = d.1; is_head = d.2; follows = inner refl v d.3; is = d.4 }
   seen (simple n) x d = record { major = 7; width = least n; argument = n; head = x; content = []; is_head = d.1; follows = bare (inr refl) refl; is = sym (append-nil x) }
 
-  -- no other encoding stands where x stands
+  -- no other encoding is where x is
   abbrev pub Reads : List ℕ → Type 0
   Reads x = (v : Value) (y r s : List ℕ) → Det order v y → x ++ r ≡ y ++ s → (x ≡ y) × (r ≡ s)
 

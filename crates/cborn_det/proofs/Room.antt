@@ -14,7 +14,7 @@ use Rattle.cborn_model.specs.declared.nodes.Chunk.{Chunk}
 use Rattle.cborn_model.specs.Bytes.{AreBytes, big_endian, IsShortest}
 use Rattle.cborn_model.specs.declared.heads.Major.{Major}
 use Rattle.cborn_model.specs.declared.heads.Major.TheVariants.{Unsigned, Negative, ByteString, TextString, Array, Map, Tag, Other}
-use Rattle.cborn_model.specs.Heads.{WidthFits, following, least, IsLeastHead, Given, Unbounded, head, argument}
+use Rattle.cborn_model.specs.Heads.{WidthFits, following, least, IsLeastHead, Given, EndlessArgument, head, argument}
 use Rattle.cborn_model.specs.Spelled.{ending, string, chunk_bytes, chunks, spelled, spelled_all, spelled_entries, ChunksFit, Fits, FitsAll, FitsEntries}
 use Rattle.cborn_model.specs.Tree.{Tree, Uint, Nint, Bytes, Text, ByteChunks, TextChunks, Items, Pairs, Tagged, Simple, Trees, no_item, more, Entries, no_entry, entry, trees, count, count_entries}
 use Rattle.cborn_model.specs.Meaning.{joined_chunks, IsNumber, IsBignum, Means, AllMean, EntriesMean}
@@ -112,7 +112,7 @@ length_of_chunks m (c ∷ cs) =
 length_of_chunked : (m : Major) (cs : List Chunk) → 2 + length (joined_chunks cs) ≤ length (chunks m cs ++ ending Endless)
 length_of_chunked m cs =
     let e : length (chunks m cs ++ ending Endless) ≡ length (chunks m cs) + length (ending Endless) = length-append (chunks m cs) (ending Endless) in
-    let f : length (chunks m cs) ≡ length (head m Unbounded) + length (flat_map (chunk_bytes m) cs) = length-append (head m Unbounded) (flat_map (chunk_bytes m) cs) in
+    let f : length (chunks m cs) ≡ length (head m EndlessArgument) + length (flat_map (chunk_bytes m) cs) = length-append (head m EndlessArgument) (flat_map (chunk_bytes m) cs) in
     omega (arith, e, f, length_of_chunks m cs)
 
 pub joined_bytes : (cs : List Chunk) → ChunksFit cs → AreBytes (joined_chunks cs)
@@ -194,8 +194,8 @@ listed_room m j (Fixed w) n inner h c x room p e =
     omega (arith, room, whole, l, length-append (head m (Given w n)) inner, length_of_head m w n, length_of_least j n h p, least_is_short n)
 listed_room m j Endless n inner h c x room p e =
     let whole : length x ≡ length h + length c = ap length e ∙ length-append h c in
-    let l : length (head m Unbounded ++ inner ++ ending Endless) ≡ length (head m Unbounded ++ inner) + 1 = length-append (head m Unbounded ++ inner) (ending Endless) in
-    let k : length (head m Unbounded ++ inner) ≡ 1 + length inner = length-append (head m Unbounded) inner in
+    let l : length (head m EndlessArgument ++ inner ++ ending Endless) ≡ length (head m EndlessArgument ++ inner) + 1 = length-append (head m EndlessArgument ++ inner) (ending Endless) in
+    let k : length (head m EndlessArgument ++ inner) ≡ 1 + length inner = length-append (head m EndlessArgument) inner in
     omega (arith, room, whole, l, k, length_of_least j n h p, least_is_short n)
 
 -- the bytes of a bignum, of which the string that spells them has at least so many more

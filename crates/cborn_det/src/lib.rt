@@ -5,8 +5,8 @@
 //! An item is written to the end of one buffer: `encoding` goes through it, and `parts` appends its
 //! strings and numbers. Once all pairs of a map are written, `entries` arranges them in the buffer:
 //! nothing is moved if their keys rise already, else the map is copied once. `heads` has the
-//! shortest head, also for whoever writes an encoding without an item, and `integers` what the head
-//! of an integer is made of.
+//! shortest head, also for callers that write an encoding without an item, and `integers` what the
+//! head of an integer is made of.
 //!
 //! `laws` has what follows from the definitions: two valid items have equal encodings exactly if
 //! they are the same.

@@ -1,4 +1,4 @@
--- The fixed notation of nodes, read as tokens, has the tokens of its tree.
+-- The text of the fixed notation has the tokens of its tree.
 -- A part of a text, before what follows it, is read as pieces one after another (`Chained`): marks, numbers, strings, words, and then nodes.
 pub mod Tables
 pub mod Chained

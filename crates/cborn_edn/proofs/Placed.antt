@@ -1,4 +1,4 @@
--- Nodes of bytes that a text spells, with the places that they have in the text.
+-- Nodes that are read from the bytes that a text spells, with their places in the text.
 -- Nodes get their own places back, whatever they had (`Putting`), so the nodes that are read from the bytes, which fit their heads (`Bounded`), become those that the text notates (`Read`). A loop puts places into one after another (`Rows`).
 pub mod Bounded
 pub mod Putting

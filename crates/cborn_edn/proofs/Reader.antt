@@ -1,9 +1,9 @@
--- The reader writes what the text notates, or answers its first fault.
--- What it keeps shows a state of the machine of tokens (`Showing`): of each open bracket an entry (`Opened`, `Counts`), of the output what complete items spell (`Laying`, `Shifting`, `Written`, `Modest`), and the first fault of meaning (`Slipping`).
--- Each token makes the same of both: it opens or turns a bracket (`Turning`, `Inverted`), is put (`Put`), builds a string (`Built`, `Joints`, `Utf8`), ends one or a bracket (`Closed`, `Rows`, `Items`), or is refused (`Stepping`, `Going`); and so to the end of the text (`Ending`).
--- The rest is of tokens that are found without the lexer (`CommonTokens`, `BareTokens`, `NextPieces`), of bytes of long integers (`Bignums`, `Cutting`), and of answers (`Results`).
+-- The reader writes the bytes that a text spells, or answers why it has none.
+-- What it keeps shows a state of the machine of tokens (`Showing`): an entry for each open bracket (`Opened`, `Counts`), the output (`Laying`, `Shifting`, `Written`, `Modest`), and the first meaning error (`NotedErrors`).
+-- A token changes both alike: it opens a bracket or is a separator (`Turning`, `Inverted`), is written (`Put`), is a piece of a string (`Built`, `Joints`, `Utf8`), ends a string or a bracket (`Closed`, `Rows`, `Settling`), or is refused (`Stepping`, `Going`). The end of the text is in `Ending`.
+-- Tokens that are found without the lexer are in `CommonTokens`, `Items`, `Blocks`, `NextPieces` and `Taking`, the bytes of long integers and heads in `Bignums` and `Cutting`, shortest heads in `ShortHeads`, and answers in `Results`.
 pub mod Opened
-pub mod Slipping
+pub mod NotedErrors
 pub mod Shifting
 pub mod Laying
 pub mod Results

@@ -1,5 +1,5 @@
--- What was shown reads back as the nodes that it was shown from, places aside.
--- The tree of the fixed notation says them (`Back`), and so does each tree whose tokens differ from its own in places alone (`Retelling`).
+-- The fixed notation of nodes reads back as these nodes, but for their places.
+-- The tree of the fixed notation says them (`Back`), and so does each tree whose tokens differ from its own only in their places (`Retelling`).
 pub mod Unplaced
 pub mod Back
 pub mod Erase

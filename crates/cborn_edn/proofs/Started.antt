@@ -1,5 +1,5 @@
--- Where the nodes and chunks of a text start, as its tokens say.
--- Each token begins what the state of the machine has it begin (`Begins`), so a tree's tokens begin what is in it, and what the tree says starts there (`Meant`), at places that rise (`Rises`). Tokens taken so far begin the text's own (`Fronts`). So the starts that they begin are the text's first ones (`Counting`), also after one more token (`Reading`), and one of them is the start that is asked for (`Found`).
+-- The starts of a text: the places where its nodes and chunks begin, by its tokens.
+-- The state of the machine decides how many starts a token has (`Begins`). So the tokens of a tree have the starts of what the tree says (`Meant`), and these rise (`Rises`). The tokens that were taken so far are the first of the text (`Fronts`), so their starts are the first of the text (`Counting`), also after one more token (`Reading`). One of them is the start that is asked for (`Found`).
 pub mod Begins
 pub mod Meant
 pub mod Rises

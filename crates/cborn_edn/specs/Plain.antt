@@ -1,4 +1,4 @@
--- The notation of a deterministic encoding (RFC 8949 sections 4.2 and 8). Its heads are the shortest and its lengths definite, so no indicator stands in it and no string is in chunks.
+-- The notation of a deterministic encoding (RFC 8949 sections 4.2 and 8). Its heads are the shortest and its lengths definite, so it has no indicator and no string in chunks.
 use Rattle.std.specs.Prelude.{◌≡◌, ℕ, suc, List, [], ◌∷◌, ◌++◌, codes, decimal}
 use Rattle.std.specs.List.{flat_map}
 use Rattle.std.specs.Str.{IsUtf8}
@@ -6,7 +6,7 @@ use Rattle.hex.specs.Hex.{encode_lower}
 use Rattle.cborn_model.specs.Tree.{Tree, Uint, Nint, Bytes as ByteNode, Text as TextNode, Items, Pairs as PairNode, Tagged, Simple, Trees, no_item as no_node, more, Entries, no_entry, entry}
 use Rattle.cborn_edn.specs.Shown.{escaped, shown_simple, joined_by}
 
--- An integer is in decimal, a byte string in hexadecimal, a text string in double quotes; what an array, a map or a tag holds stands in brackets. Nothing is said of a string in chunks, of which there is none.
+-- An integer is in decimal, a byte string in hexadecimal, a text string in double quotes, and what an array, a map or a tag holds in brackets. There is no string in chunks, so what is said of one counts for nothing.
 abbrev mutual
   pub plain : Tree → List ℕ
   plain (Uint p w n) = decimal n
@@ -27,11 +27,11 @@ abbrev mutual
   plain_pairs no_entry = []
   plain_pairs (entry k v es) = (plain k ++ (codes ": " ++ plain v)) ∷ plain_pairs es
 
--- a sequence: a comma and LF between its items, LF at the end
+-- a sequence: a comma and a line feed between its items, a line feed at the end
 abbrev pub plain_lines : Trees → List ℕ
 plain_lines no_node = []
 plain_lines ts = joined_by (codes ",\n") (plain_items ts) ++ codes "\n"
 
--- the text of nodes, which is UTF-8
+-- the text of nodes, if it is UTF-8
 abbrev pub IsPlain : Trees → List ℕ → Type 0
 IsPlain ts x = IsUtf8 x × (x ≡ plain_lines ts)

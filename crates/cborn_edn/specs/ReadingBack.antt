@@ -1,4 +1,4 @@
--- What the laws of reading back say of the fixed notation: its tree of the grammar, places set aside, and tokens that say nodes that spell the same bytes.
+-- What the laws of reading back speak of: the tree of the fixed notation, nodes and tokens without places, and tokens that say nodes that spell the same bytes.
 use Rattle.std.specs.Prelude.{◌≡◌, ℕ, suc, ◌≤◌, List, [], ◌∷◌, length, true, false, nat_lt, if◌then◌else◌}
 use Rattle.cborn_model.specs.declared.nodes.Chunk.{Chunk}
 use Rattle.cborn_model.specs.Tree.{Tree, Uint, Nint, Bytes as ByteNode, Text as TextNode, ByteChunks, TextChunks, Items, Pairs as PairNode, Tagged, Simple, Trees, no_item as no_node, more, Entries, no_entry, entry, count, count_entries}
@@ -9,9 +9,9 @@ use Rattle.cborn_lex.specs.declared.classes.Token.{Token}
 use Rattle.cborn_lex.specs.declared.classes.Profile.{Profile}
 use Rattle.cborn_edn.specs.declared.strings.StringKind.{StringKind}
 use Rattle.cborn_edn.specs.declared.strings.StringKind.TheVariants.{Bytes as OfBytes, Text as OfText}
-use Rattle.cborn_edn.specs.shared.Syntax.{Span, Item, number, word, tag, simple, string, chunked, array, map as map_item, text, bytes, Pieces, piece, Strings, strings, StringsBefore, no_string, after_strings, Row, row, RowBefore, no_item, after_row, Content, loose, tight, Pairs, pairs, PairsBefore, no_pair, after_pairs, Fields, loose_fields, tight_fields, Input, nothing, items, token, depth_of_input}
+use Rattle.cborn_edn.specs.devices.Syntax.{Span, Item, number, word, tag, simple, string, chunked, array, map as map_item, text, bytes, Pieces, piece, Strings, strings, StringsBefore, no_string, after_strings, Row, row, RowBefore, no_item, after_row, Content, loose, tight, Pairs, pairs, PairsBefore, no_pair, after_pairs, Fields, loose_fields, tight_fields, Input, nothing, items, token, depth_of_input}
 use Rattle.cborn_edn.specs.devices.Parse.{Parse}
-use Rattle.cborn_edn.specs.shared.Meaning.{Says}
+use Rattle.cborn_edn.specs.devices.Meaning.{Says}
 use Rattle.cborn_edn.specs.Shown.{mark_for, mark_for_size}
 
 abbrev pub nowhere : Span
@@ -36,7 +36,7 @@ abbrev pub chunk_item : StringKind → List Chunk → Item
 chunk_item k [] = string (empty_quote k)
 chunk_item k (c ∷ cs) = chunked nowhere (chunk_row k cs no_string c) nowhere
 
--- 20 to 23 have names
+-- the simple values 20 to 23 have names
 abbrev pub simple_item : ℕ → Item
 simple_item n = if nat_lt n 20 then simple nowhere nowhere false n Absent nowhere else if nat_lt n 24 then word nowhere n else simple nowhere nowhere false n Absent nowhere
 
@@ -57,7 +57,7 @@ abbrev mutual
   notated_content no_node = loose no_item
   notated_content (more t ts) = tight (notated_row ts no_item (notated t))
 
-  -- the item behind b, and those after it
+  -- the item after b, and those after it
   pub notated_row : Trees → RowBefore → Item → Row
   notated_row no_node b i = row b i
   notated_row (more t ts) b i = notated_row ts (after_row (row b i) nowhere) (notated t)
@@ -74,7 +74,7 @@ abbrev pub notated_input : Trees → Input
 notated_input no_node = nothing
 notated_input (more t ts) = items (notated_row ts no_item (notated t))
 
--- places set aside
+-- nodes without places: each is 0
 abbrev pub unplaced_chunks : List Chunk → List Chunk
 unplaced_chunks [] = []
 unplaced_chunks (c ∷ cs) = record c { place = 0 } ∷ unplaced_chunks cs
@@ -100,9 +100,9 @@ abbrev mutual
   unplaced_entries no_entry = no_entry
   unplaced_entries (entry k v es) = entry (unplaced k) (unplaced v) (unplaced_entries es)
 
--- a token with its place set aside
-abbrev pub bare : Token → Token
-bare t = token nowhere t.class
+-- a token without its place, which is 0
+abbrev pub unplaced_token : Token → Token
+unplaced_token t = token nowhere t.class
 
 -- the tokens say nodes that spell the same bytes, within the limit
 pub record ReadsBack (profile : Profile) (limit : ℕ) (nodes : Trees) (tokens : List Token) : Type 0 where

@@ -1,4 +1,4 @@
--- What one number, one tag, one `simple(..)` or one string says: its node, and its faults of meaning, the slips (RFC 8949 section 8). There is a node also where there is a slip; it counts only where there is none.
+-- What one number, one tag, one `simple(..)` or one string says: its node, and its meaning errors (RFC 8949 section 8). There is always a node, but it counts only if there is no meaning error.
 -- In what follows p is the place of a token, m its indicator, and n an argument, a length or a count.
 use Rattle.std.specs.Prelude.{ℕ, zero, suc, ◌^◌, List, [], ◌∷◌, ◌++◌, length, Bool, true, false, ◌&&◌, ◌||◌, not, nat_lt, if◌then◌else◌}
 use Rattle.std.specs.Str.{is_utf8}
@@ -6,7 +6,7 @@ use Rattle.std.specs.Int.Digits.{digits_of}
 use Rattle.cborn_model.specs.declared.heads.Width.{Width}
 use Rattle.cborn_model.specs.declared.heads.Width.TheVariants.{Direct}
 use Rattle.cborn_model.specs.declared.heads.Size.{Size}
-use Rattle.cborn_model.specs.declared.heads.Size.TheVariants.{Fixed, Endless as Unending}
+use Rattle.cborn_model.specs.declared.heads.Size.TheVariants.{Fixed, Endless as EndlessMark}
 use Rattle.cborn_model.specs.declared.nodes.Chunk.{Chunk}
 use Rattle.cborn_model.specs.Heads.{holds, least, is_simple_value}
 use Rattle.cborn_model.specs.Tree.{Tree, Uint, Nint, Bytes as ByteNode, Text as TextNode, ByteChunks, TextChunks, Tagged}
@@ -14,7 +14,7 @@ use Rattle.cborn_lex.specs.declared.classes.Mark.{Mark}
 use Rattle.cborn_lex.specs.declared.classes.Mark.TheVariants.{Absent, Endless, Wide}
 use Rattle.cborn_edn.specs.declared.strings.StringKind.{StringKind}
 use Rattle.cborn_edn.specs.declared.strings.StringKind.TheVariants.{Bytes as OfBytes, Text as OfText}
-use Rattle.cborn_edn.specs.declared.slips.Slip.{Slip}
+use Rattle.cborn_edn.specs.declared.meaning_errors.MeaningError.{MeaningError}
 use Rattle.cborn_edn.specs.declared.faults.EdnReason.{EdnReason}
 use Rattle.cborn_edn.specs.declared.faults.EdnReason.TheVariants.{IndicatorTooNarrow, IndicatorNotAllowed, MixedString, MixedChunks, TextNotUtf8, BadSimple, TagTooLarge}
 
@@ -30,41 +30,41 @@ abbrev pub is_endless : Mark → Bool
 is_endless Endless = true
 is_endless _ = false
 
--- the width of the head that it asks for; without one, the shortest (RFC 8949 section 4.2.1)
+-- the width of a head with the argument n: the one that the indicator asks for, or the shortest (RFC 8949 section 4.2.1)
 abbrev pub width : Mark → ℕ → Width
 width (Wide w) n = w
 width _ n = least n
 
--- an array's or a map's length: indefinite, or a count in a head of that width
+-- the length of an array or a map with n items or pairs: indefinite, or definite in a head of that width
 abbrev pub size : Mark → ℕ → Size
-size Endless n = Unending
+size Endless n = EndlessMark
 size m n = Fixed (width m n)
 
--- one slip at p for this reason, unless the test holds
-abbrev pub unless : Bool → ℕ → EdnReason → List Slip
+-- one meaning error at p for this reason, unless the test is true
+abbrev pub unless : Bool → ℕ → EdnReason → List MeaningError
 unless true p l = []
 unless false p l = record { place = p; reason = l } ∷ []
 
--- the width that is asked for has to hold n, and no indefinite length may be asked for
-abbrev pub width_slips : ℕ → Mark → ℕ → List Slip
-width_slips p Absent n = []
-width_slips p Endless n = unless false p IndicatorNotAllowed
-width_slips p (Wide w) n = unless (holds w n) p IndicatorTooNarrow
+-- of a head with the argument n: n has to fit the width that is asked for, and an indefinite length can't be asked for
+abbrev pub width_errors : ℕ → Mark → ℕ → List MeaningError
+width_errors p Absent n = []
+width_errors p Endless n = unless false p IndicatorNotAllowed
+width_errors p (Wide w) n = unless (holds w n) p IndicatorTooNarrow
 
--- the same of an array or a map, whose length may be indefinite (RFC 8949 section 3.2.2)
-abbrev pub size_slips : ℕ → Mark → ℕ → List Slip
-size_slips p Endless n = []
-size_slips p m n = width_slips p m n
+-- of an array or a map with n items or pairs, whose length may be indefinite (RFC 8949 section 3.2.2)
+abbrev pub size_errors : ℕ → Mark → ℕ → List MeaningError
+size_errors p Endless n = []
+size_errors p m n = width_errors p m n
 
--- Integers (RFC 8949 sections 3.1, 3.4.3). A literal is v, or -v where n holds.
+-- Integers (RFC 8949 sections 3.1, 3.4.3). The integer is -v if n is true, and else v.
 
--- below zero; -0 is 0
+-- it is below zero; -0 isn't
 abbrev pub is_below : Bool → ℕ → Bool
 is_below true zero = false
 is_below true (suc v) = true
 is_below false v = false
 
--- the argument of its head: of v it is v, and of -1-v it is v (RFC 8949 section 3.1)
+-- the argument of its head: v for the integer v, and v for -1-v (RFC 8949 section 3.1)
 abbrev pub argument_of : Bool → ℕ → ℕ
 argument_of true zero = 0
 argument_of true (suc v) = v
@@ -74,7 +74,7 @@ argument_of false v = v
 abbrev pub is_small : Bool → ℕ → Bool
 is_small n v = nat_lt (argument_of n v) (2 ^ 64)
 
--- any other integer is a tag over a byte string, which takes a level of depth
+-- how deep it is: any other integer is a tag over a byte string, which is one level
 abbrev pub depth_of_number : Bool → ℕ → ℕ
 depth_of_number n v = if is_small n v then 0 else 1
 
@@ -86,25 +86,25 @@ integer p n v w = if is_below n v then Nint p w (argument_of n v) else Uint p w 
 abbrev pub bignum : ℕ → Bool → ℕ → Tree
 bignum p n v = let x = digits_of 256 (argument_of n v) in Tagged p Direct (if is_below n v then 3 else 2) (ByteNode p (least (length x)) x)
 
--- whichever of the two applies
+-- the node of an integer: one of the two
 abbrev pub number_node : ℕ → Bool → ℕ → Mark → Tree
 number_node p n v m = if is_small n v then integer p n v (width m (argument_of n v)) else bignum p n v
 
--- its slips: a bignum has no indicator
-abbrev pub number_slips : ℕ → Bool → ℕ → Mark → List Slip
-number_slips p n v m = if is_small n v then width_slips p m (argument_of n v) else unless (is_absent m) p IndicatorNotAllowed
+-- the meaning errors of an integer: a bignum can't have an indicator
+abbrev pub number_errors : ℕ → Bool → ℕ → Mark → List MeaningError
+number_errors p n v m = if is_small n v then width_errors p m (argument_of n v) else unless (is_absent m) p IndicatorNotAllowed
 
--- a tag number is below 2^64 (RFC 8949 section 3.4); of a larger one no indicator is judged
-abbrev pub tag_slips : ℕ → Mark → ℕ → List Slip
-tag_slips p m n = if nat_lt n (2 ^ 64) then width_slips p m n else unless false p TagTooLarge
+-- the meaning errors of a tag: its number is below 2^64 (RFC 8949 section 3.4); the indicator of a larger one isn't judged
+abbrev pub tag_errors : ℕ → Mark → ℕ → List MeaningError
+tag_errors p m n = if nat_lt n (2 ^ 64) then width_errors p m n else unless false p TagTooLarge
 
--- a simple value: 0 to 23 or 32 to 255, and not below zero (RFC 8949 section 3.3)
+-- there is such a simple value: 0 to 23 or 32 to 255 (RFC 8949 section 3.3)
 abbrev pub is_simple : Bool → ℕ → Bool
 is_simple n v = not (is_below n v) && is_simple_value v
 
--- `simple(` at p with the number at q, which has no indicator
-abbrev pub simple_slips : ℕ → ℕ → Bool → ℕ → Mark → List Slip
-simple_slips p q n v m = unless (is_simple n v) p BadSimple ++ unless (is_absent m) q IndicatorNotAllowed
+-- the meaning errors of `simple(` at p with the number at q, which can't have an indicator
+abbrev pub simple_errors : ℕ → ℕ → Bool → ℕ → Mark → List MeaningError
+simple_errors p q n v m = unless (is_simple n v) p BadSimple ++ unless (is_absent m) q IndicatorNotAllowed
 
 -- Strings (RFC 8949 sections 3.1, 3.2.3; RFC 8610 appendix G.4).
 
@@ -114,7 +114,7 @@ same_kind OfBytes OfBytes = true
 same_kind OfText OfText = true
 same_kind _ _ = false
 
--- a piece of the kind l may follow in a string of the kind k: bytes in a text string, but no text in a byte string
+-- a piece of the kind l may follow in a string of the kind k: bytes may be a part of a text string, but text no part of a byte string
 abbrev pub may_join : StringKind → StringKind → Bool
 may_join k l = same_kind k l || same_kind k OfText
 
@@ -133,7 +133,7 @@ abbrev pub chunked_node : StringKind → ℕ → List Chunk → Tree
 chunked_node OfBytes p cs = ByteChunks p cs
 chunked_node OfText p cs = TextChunks p cs
 
--- What the pieces of a string are together. The first gives its kind and its place, the last its indicator and where that stands. It is lone if it is one '' or "", and known if nothing embedded in it has a slip, so that its bytes are what is meant.
+-- What the pieces of a string are together. The first gives its kind and its place, the last its indicator and the place of that. It is lone if it is one piece, '' or "". It is known if nothing embedded in it has a meaning error, so that its bytes are what is meant.
 pub record Str : Type 0 where
   pub kind : StringKind
   pub place : ℕ
@@ -148,11 +148,11 @@ abbrev pub is_nil : {A : Type 0} → List A → Bool
 is_nil [] = true
 is_nil (x ∷ l) = false
 
--- one piece; q is whether it stands in quotes with no prefix
+-- one piece; q says whether it is in quotes without a prefix
 abbrev pub quoted : StringKind → ℕ → Bool → List ℕ → Mark → Str
 quoted k p q x m = record { kind = k; place = p; lone = q && is_nil x; known = true; bytes = x; mark = m; mark_place = p }
 
--- pieces s, and one piece t after them
+-- pieces s and one piece t after them
 abbrev pub joined : Str → Str → Str
 joined s t = record { kind = s.kind; place = s.place; lone = false; known = s.known && t.known; bytes = s.bytes ++ t.bytes; mark = t.mark; mark_place = t.mark_place }
 
@@ -160,22 +160,22 @@ joined s t = record { kind = s.kind; place = s.place; lone = false; known = s.kn
 abbrev pub said_string : Str → Tree
 said_string s = if s.lone && is_endless s.mark then chunked_node s.kind s.place [] else string_node s.kind s.place (width s.mark (length s.bytes)) s.bytes
 
--- the same string as a chunk
+-- a chunk: a definite string
 abbrev pub chunk : Str → Chunk
 chunk s = record { place = s.place; width = width s.mark (length s.bytes); bytes = s.bytes }
 
--- a piece t after pieces s: no indicator stands before it, and its kind may follow theirs
-abbrev pub piece_slips : Str → Str → List Slip
-piece_slips s t = unless (is_absent s.mark) s.mark_place IndicatorNotAllowed ++ unless (may_join s.kind t.kind) t.place MixedString
+-- the meaning errors of a piece t after pieces s: only the last piece has an indicator, and the kind of t may follow theirs
+abbrev pub piece_errors : Str → Str → List MeaningError
+piece_errors s t = unless (is_absent s.mark) s.mark_place IndicatorNotAllowed ++ unless (may_join s.kind t.kind) t.place MixedString
 
--- the indicator of a whole string: `_` stands only where the string may end without a chunk, and a width has to hold the length
-abbrev pub mark_slips : Bool → Str → List Slip
-mark_slips may_end s = if is_endless s.mark then unless may_end s.mark_place IndicatorNotAllowed else if s.known then width_slips s.mark_place s.mark (length s.bytes) else []
+-- the meaning errors of a whole string's indicator: `_` is allowed only if the string may be of indefinite length without a chunk, and the length has to fit a width
+abbrev pub mark_errors : Bool → Str → List MeaningError
+mark_errors may_end s = if is_endless s.mark then unless may_end s.mark_place IndicatorNotAllowed else if s.known then width_errors s.mark_place s.mark (length s.bytes) else []
 
--- a whole string; may_end is whether it may be of indefinite length without a chunk
-abbrev pub string_slips : Bool → Str → List Slip
-string_slips may_end s = mark_slips may_end s ++ (if s.known then unless (is_good s.kind s.bytes) s.place TextNotUtf8 else [])
+-- the meaning errors of a whole string; may_end says whether it may be of indefinite length without a chunk
+abbrev pub string_errors : Bool → Str → List MeaningError
+string_errors may_end s = mark_errors may_end s ++ (if s.known then unless (is_good s.kind s.bytes) s.place TextNotUtf8 else [])
 
--- a chunk after the first, which is of the kind k: it is of that kind, and itself a definite string (RFC 8949 section 3.2.3)
-abbrev pub chunk_slips : StringKind → Str → List Slip
-chunk_slips k s = unless (same_kind k s.kind) s.place MixedChunks ++ string_slips false s
+-- the meaning errors of a chunk after the first, which is of the kind k: it is a definite string of that kind (RFC 8949 section 3.2.3)
+abbrev pub chunk_errors : StringKind → Str → List MeaningError
+chunk_errors k s = unless (same_kind k s.kind) s.place MixedChunks ++ string_errors false s

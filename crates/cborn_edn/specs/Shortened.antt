@@ -15,7 +15,7 @@ abbrev pub size_shortened : Size → ℕ → Size
 size_shortened (Fixed w) n = Fixed (least n)
 size_shortened Endless n = Endless
 
--- Each place stays what it is.
+-- Places stay as they are.
 abbrev mutual
   pub shortened : Tree → Tree
   shortened (Uint p w n) = Uint p (least n) n

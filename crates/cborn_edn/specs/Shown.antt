@@ -1,4 +1,4 @@
--- The fixed notation of nodes, as text, and why nodes have none.
+-- The fixed notation of nodes: their text, and why nodes have none.
 use Rattle.std.specs.Prelude.{◌≡◌, ℕ, suc, ◌≤◌, List, [], ◌∷◌, ◌++◌, map, length, codes, decimal, false, nat_lt, ◌==◌, ◌⊎◌, if◌then◌else◌}
 use Rattle.std.specs.List.{flat_map, join_by}
 use Rattle.std.specs.Str.{is_utf8, IsUtf8}
@@ -6,7 +6,7 @@ use Rattle.hex.specs.Hex.{encode_lower}
 use Rattle.cborn_model.specs.declared.heads.Width.{Width}
 use Rattle.cborn_model.specs.declared.heads.Width.TheVariants.{One, Two, Four, Eight}
 use Rattle.cborn_model.specs.declared.heads.Size.{Size}
-use Rattle.cborn_model.specs.declared.heads.Size.TheVariants.{Fixed, Endless as Unending}
+use Rattle.cborn_model.specs.declared.heads.Size.TheVariants.{Fixed, Endless as EndlessMark}
 use Rattle.cborn_model.specs.declared.nodes.Chunk.{Chunk}
 use Rattle.cborn_model.specs.Tree.{Tree, Uint, Nint, Bytes as ByteNode, Text as TextNode, ByteChunks, TextChunks, Items, Pairs as PairNode, Tagged, Simple, Trees, no_item as no_node, more, Entries, no_entry, entry, count, count_entries}
 use Rattle.cborn_model.specs.Heads.{following, least}
@@ -17,12 +17,12 @@ use Rattle.cborn_edn.specs.declared.faults.ShowFault.TheVariants.{NotUtf8, OutOf
 use Rattle.cborn_edn.specs.declared.strings.StringKind.{StringKind}
 use Rattle.cborn_edn.specs.declared.strings.StringKind.TheVariants.{Bytes as OfBytes, Text as OfText}
 
--- an indicator only where the head isn't the shortest: where the argument takes more bytes than it has to
+-- a head has an indicator only if it isn't the shortest: if its argument takes more bytes than it needs
 abbrev pub mark_for : Width → ℕ → Mark
 mark_for w n = if length (following w n) == length (following (least n) n) then Absent else Wide w
 
 abbrev pub mark_for_size : Size → ℕ → Mark
-mark_for_size Unending n = Endless
+mark_for_size EndlessMark n = Endless
 mark_for_size (Fixed w) n = mark_for w n
 
 -- The text. Numbers are in decimal, bytes in lower-case hexadecimal.
@@ -47,7 +47,7 @@ indicator (Wide Four) = codes "_2"
 indicator (Wide Eight) = codes "_3"
 indicator _ = []
 
--- behind an opening bracket a space follows
+-- a space follows the indicator of an opening bracket
 abbrev pub opened : Mark → List ℕ
 opened Absent = []
 opened m = indicator m ++ codes " "
@@ -97,12 +97,12 @@ abbrev mutual
   pair_texts no_entry = []
   pair_texts (entry k v es) = (shown k ++ (codes ": " ++ shown v)) ∷ pair_texts es
 
--- a sequence: a comma and LF between its items, LF at the end
+-- a sequence: a comma and a line feed between its items, a line feed at the end
 abbrev pub shown_lines : Trees → List ℕ
 shown_lines no_node = []
 shown_lines ts = joined_by (codes ",\n") (item_texts ts) ++ codes "\n"
 
--- A text string or a text chunk at p isn't UTF-8.
+-- The place p is that of a text string or a text chunk that isn't UTF-8.
 abbrev pub IsBadChunk : List Chunk → ℕ → Type 0
 IsBadChunk [] p = ⊥
 IsBadChunk (c ∷ cs) p = ((p ≡ c.place) × (is_utf8 c.bytes ≡ false)) ⊎ IsBadChunk cs p
@@ -124,15 +124,15 @@ abbrev mutual
   IsBadInPairs no_entry p = ⊥
   IsBadInPairs (entry k v es) p = IsBadText k p ⊎ (IsBadText v p ⊎ IsBadInPairs es p)
 
--- each text and text chunk is UTF-8
+-- each text string and text chunk is UTF-8
 abbrev pub AreShowable : Trees → Type 0
 AreShowable ts = (p : ℕ) → IsBadAmong ts p → ⊥
 
--- a text is UTF-8, and so are all texts that it shows
+-- x is the fixed notation of the nodes, and is UTF-8
 abbrev pub Shown : Trees → List ℕ → Type 0
 Shown ts x = IsUtf8 x × (x ≡ shown_lines ts)
 
--- the lowest place of a text that isn't UTF-8
+-- p is the lowest place of a text string or a text chunk that isn't UTF-8
 pub record LowestBadText (ts : Trees) (p : ℕ) : Type 0 where
   pub is : IsBadAmong ts p
   pub lowest : (q : ℕ) → IsBadAmong ts q → p ≤ q

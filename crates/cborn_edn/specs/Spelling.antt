@@ -1,4 +1,4 @@
--- What the reader gives: the bytes that the nodes spell which a text notates, with each head as it is written or in its shortest form.
+-- What the reader gives: the bytes that the nodes of a text spell, with each head as it is written or in its shortest form.
 use Rattle.std.specs.Prelude.{◌≡◌, ◌⊎◌, ℕ, List}
 use Rattle.cborn_model.specs.Tree.{Trees}
 use Rattle.cborn_model.specs.Spelled.{spelled_all}

@@ -1,4 +1,4 @@
--- Where nodes and the chunks of strings stand, in the order of their heads: each node before what stands in it.
+-- The places of nodes and chunks, in the order of their heads: each node before what it contains.
 use Rattle.std.specs.Prelude.{ℕ, ◌<◌, List, [], ◌∷◌, ◌++◌}
 use Rattle.std.specs.List.{AllByRecursion}
 use Rattle.cborn_model.specs.declared.nodes.Chunk.{Chunk}
@@ -8,7 +8,7 @@ abbrev pub starts_of_chunks : List Chunk → List ℕ
 starts_of_chunks [] = []
 starts_of_chunks (c ∷ cs) = c.place ∷ starts_of_chunks cs
 
--- the places of the node, of all nodes below it and of all chunks
+-- the places of the node and of all nodes and chunks in it
 abbrev mutual
   pub starts : Tree → List ℕ
   starts (Uint p w n) = p ∷ []
@@ -34,7 +34,7 @@ abbrev pub unless_bytes : Tree → List ℕ → List ℕ
 unless_bytes (Bytes p w b) ps = []
 unless_bytes t ps = ps
 
--- The same without a byte string in one piece right under a tag: the one of a bignum stands where its tag does, so that places rise no further there.
+-- The places of the node and of all nodes and chunks in it, but not of a definite byte string directly under a tag. The byte string of a bignum has the place of its tag, so that there places don't rise.
 abbrev mutual
   pub spots : Tree → List ℕ
   spots (Uint p w n) = p ∷ []
@@ -56,7 +56,7 @@ abbrev mutual
   spots_entries no_entry = []
   spots_entries (entry k v es) = spots k ++ (spots v ++ spots_entries es)
 
--- each is less than all behind it
+-- each is less than all after it
 abbrev pub IsRising : List ℕ → Type 0
 IsRising [] = Unit {0}
 IsRising (p ∷ ps) = AllByRecursion (λ q. p < q) ps × IsRising ps

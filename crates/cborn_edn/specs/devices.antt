@@ -2,8 +2,13 @@ pub mod TreesCode
 pub mod Lowest
 pub mod Escaping
 pub mod Lexical
-pub mod Slips
+pub mod MeaningErrors
 pub mod Levels
+pub mod Commas
+pub mod Syntax
+pub mod Meaning
+pub mod Machine
+pub mod Said
 pub mod Put
 pub mod Parse
 pub mod Notates
@@ -17,6 +22,6 @@ pub mod Kept
 pub mod Shows
 pub mod Steps
 pub mod Reading
-pub mod Begun
+pub mod TokenStarts
 pub mod Started
 pub mod Counting

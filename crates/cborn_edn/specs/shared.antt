@@ -1,7 +1,2 @@
 pub mod Between
-pub mod Commas
 pub mod Texts
-pub mod Syntax
-pub mod Meaning
-pub mod Machine
-pub mod Said

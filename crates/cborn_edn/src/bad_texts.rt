@@ -67,7 +67,7 @@ fn bad_chunk(chunks: &[Chunk]) -> Option<u64>
     found
 }
 
-/// The place, where the bytes are no text.
+/// The place, if the bytes are not UTF-8.
 fn bad_bytes(place: u64, bytes: &ByteString) -> Option<u64>
     ensures { result ≡ pure.bad_bytes place bytes.now }
 {

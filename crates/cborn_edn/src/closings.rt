@@ -1,71 +1,76 @@
-//! Brackets that end, and what stands between their items.
+//! Brackets that end, and commas and colons between items.
 
 ghost use Rattle.std.specs.Prelude.{◌≡◌, ℕ, ◌<◌, ◌^◌, ◌++◌, ◌∷◌, List, length, Option, Some, None, OnOk, false, ◌&&◌};
 ghost use Rattle.cborn_lex.specs.declared.classes.Mark.{Mark as Indicator};
 ghost use Rattle.cborn_edn.specs.declared.strings.StringKind.TheVariants.{Bytes as OfBytes};
-ghost use Rattle.cborn_edn.specs.shared.Syntax.{Span as Place, Item, Content, Fields, Pieces as Joined, array, map, tag, embedded, row, RowBefore, after_row, pairs, PairsBefore, after_pairs};
-ghost use Rattle.cborn_edn.specs.shared.Machine.{Stack, Nest, in_row, in_key, in_value, in_tag, in_array, in_embed, Home, with_piece, wants, has, builds};
+ghost use Rattle.cborn_edn.specs.devices.Syntax.{Span as Place, Item, Content, Fields, Pieces as Joined, array, map, tag, embedded, row, RowBefore, after_row, pairs, PairsBefore, after_pairs};
+ghost use Rattle.cborn_edn.specs.devices.Machine.{Stack, Nest, in_row, in_key, in_value, in_tag, in_array, in_embed, Home, with_piece, wants, has, builds};
 ghost use Rattle.cborn_edn.specs.devices.Shows.{Shows, Leads, content_state, fields_state, entries_at};
-ghost use Rattle.cborn_edn.specs.declared.states.Frame.{Frame as Opened};
+ghost use Rattle.cborn_edn.specs.declared.states.OpenBracket.{OpenBracket as Opened};
 ghost use Rattle.cborn_edn.specs.declared.states.Writer.{Writer as Writing};
-ghost use Rattle.cborn_edn.specs.declared.states.Stand.TheVariants.{Has};
+ghost use Rattle.cborn_edn.specs.declared.states.Phase.TheVariants.{Has};
 ghost use Rattle.cborn_edn.specs.devices.Kept.{joint};
-ghost use Rattle.cborn_edn.specs.devices.Slips.{Notes};
-ghost use Rattle.cborn_edn.specs.Says.{Str, joined, piece_slips, size_slips};
+ghost use Rattle.cborn_edn.specs.devices.MeaningErrors.{Notes};
+ghost use Rattle.cborn_edn.specs.Says.{Str, joined, piece_errors, size_errors};
 ghost use Rattle.cborn_edn.specs.devices.Shows.{Same, Sized};
 ghost use Rattle.cborn_edn.specs.devices.Written.{heads_in, written_mark};
 
 use crate::heads::{set_head, set_shortest_head};
+use crate::meaning_errors::{earlier, is_none, note_width};
 use crate::numbers::width_for;
-use crate::slips::{earlier, is_none, note_width};
-use crate::states::{Frame, Here, Joint, Level, Stand, Writer};
+use crate::states::{Here, Joint, Level, OpenBracket, Phase, Writer};
 use crate::strings::{is_endless, note_piece};
-use crate::{Slip, StringKind};
+use crate::{MeaningError, StringKind};
 use cborn_lex::Mark;
 use cborn_model::{BREAK, Major};
 use std::alloc::AllocError;
 
-/// Notes what is wrong with the indicator of an array or a map of `count` entries.
+/// Notes what is wrong with the indicator of an array or a map of `count` items or pairs.
 #[inline(always)]
-fn note_size(frame: Frame, count: u64, slip: &mut Option<Slip>)
-    ensures { Notes slip.old slip.new (size_slips frame.place frame.mark count) }
+fn note_size(bracket: OpenBracket, count: u64, error: &mut Option<MeaningError>)
+    ensures { Notes error.old error.new (size_errors bracket.place bracket.mark count) }
 {
-    if !is_endless(frame.mark) {
-        note_width(frame.mark, count, frame.place, slip);
+    if !is_endless(bracket.mark) {
+        note_width(bracket.mark, count, bracket.place, error);
     }
 }
 
-/// Writes the head of an array or a map of `count` entries in the place of the byte at the start of
-/// `frame`, or its break after the entries, and notes what is wrong with its indicator.
+/// Puts the head of an array or a map of `count` items or pairs in the place of its byte, or writes
+/// its break, and notes what is wrong with its indicator.
 #[inline(always)]
-fn set_size(major: Major, frame: Frame, count: u64, writer: &mut Writer) -> Result<(), AllocError>
-    requires { frame.start < length writer.old.out.items }
-    ensures added { OnOk result (Sized major (written_mark (heads_in writer.old.heads writer.old.around) frame.mark) frame.start count writer.old.out.items writer.new.out.items) }
-    ensures noted { OnOk result (Notes writer.old.slip writer.new.slip (size_slips frame.place frame.mark count)) }
-    ensures rest { OnOk result (Same writer.old writer.new) }
-{
-    match frame.mark {
-        Mark::Absent => set_shortest_head(major, count, frame.start, &mut writer.out),
-        _ => set_marked_size(major, frame, count, writer),
-    }
-}
-
-/// Writes the head or the break of an array or a map with an indicator, and notes what is wrong with
-/// that, as `set_size` does. Out of line, since few arrays and maps have one.
-#[inline(never)]
-fn set_marked_size(
+fn set_size(
     major: Major,
-    frame: Frame,
+    bracket: OpenBracket,
     count: u64,
     writer: &mut Writer,
 ) -> Result<(), AllocError>
-    requires { frame.start < length writer.old.out.items }
-    ensures added { OnOk result (Sized major (written_mark (heads_in writer.old.heads writer.old.around) frame.mark) frame.start count writer.old.out.items writer.new.out.items) }
-    ensures noted { OnOk result (Notes writer.old.slip writer.new.slip (size_slips frame.place frame.mark count)) }
+    requires { bracket.start < length writer.old.out.items }
+    ensures added { OnOk result (Sized major (written_mark (heads_in writer.old.heads writer.old.around) bracket.mark) bracket.start count writer.old.out.items writer.new.out.items) }
+    ensures noted { OnOk result (Notes writer.old.error writer.new.error (size_errors bracket.place bracket.mark count)) }
     ensures rest { OnOk result (Same writer.old writer.new) }
 {
-    note_size(frame, count, &mut writer.slip);
-    let mark = writer.written(frame.mark);
+    match bracket.mark {
+        Mark::Absent => set_shortest_head(major, count, bracket.start, &mut writer.out),
+        _ => set_marked_size(major, bracket, count, writer),
+    }
+}
+
+/// Puts the head of an array or a map of `count` items or pairs in the place of its byte, or writes
+/// its break, and notes what is wrong with its indicator. Out of line, since few have an indicator.
+#[inline(never)]
+fn set_marked_size(
+    major: Major,
+    bracket: OpenBracket,
+    count: u64,
+    writer: &mut Writer,
+) -> Result<(), AllocError>
+    requires { bracket.start < length writer.old.out.items }
+    ensures added { OnOk result (Sized major (written_mark (heads_in writer.old.heads writer.old.around) bracket.mark) bracket.start count writer.old.out.items writer.new.out.items) }
+    ensures noted { OnOk result (Notes writer.old.error writer.new.error (size_errors bracket.place bracket.mark count)) }
+    ensures rest { OnOk result (Same writer.old writer.new) }
+{
+    note_size(bracket, count, &mut writer.error);
+    let mark = writer.written(bracket.mark);
     if is_endless(mark) {
         writer.out.push(BREAK)?;
         return Ok(());
@@ -74,40 +79,40 @@ fn set_marked_size(
         major,
         width_for(mark, count),
         count,
-        frame.start,
+        bracket.start,
         &mut writer.out,
     )
 }
 
-/// How many entries stand in the innermost bracket, where it ends.
+/// How many items or pairs the innermost bracket has, where it ends.
 #[inline(always)]
 fn all_entries(here: &Here) -> u64
     requires { here.now.count < 2 ^ 63 }
-    ensures { result ≡ entries_at here.now.stand here.now.count }
+    ensures { result ≡ entries_at here.now.phase here.now.count }
 {
-    match here.stand {
-        Stand::Has => here.count + 1,
+    match here.phase {
+        Phase::Has => here.count + 1,
         _ => here.count,
     }
 }
 
-/// Takes off the innermost bracket. What stands there then is an item.
+/// Takes off the innermost bracket, which is then an item, and gives it.
 #[inline(always)]
-fn shut(here: &mut Here, writer: &mut Writer) -> Frame
-    requires { 0 < length writer.old.frames }
-    ensures rest { writer.new ≡ record writer.old { frames = writer.new.frames } }
-    ensures top { (f : Opened) (fs : List Opened) → writer.old.frames ≡ f ∷ fs → (result ≡ f) × (writer.new ≡ record writer.old { frames = fs }) × (here.new ≡ record here.old { count = f.count; stand = Has; level = f.level }) }
+fn shut(here: &mut Here, writer: &mut Writer) -> OpenBracket
+    requires { 0 < length writer.old.brackets }
+    ensures rest { writer.new ≡ record writer.old { brackets = writer.new.brackets } }
+    ensures top { (f : Opened) (fs : List Opened) → writer.old.brackets ≡ f ∷ fs → (result ≡ f) × (writer.new ≡ record writer.old { brackets = fs }) × (here.new ≡ record here.old { count = f.count; phase = Has; level = f.level }) }
 {
-    let Some(frame) = writer.frames.shut() else {
+    let Some(bracket) = writer.brackets.shut() else {
         unreachable!();
     };
-    here.count = frame.count;
-    here.stand = Stand::Has;
-    here.level = frame.level;
-    frame
+    here.count = bracket.count;
+    here.phase = Phase::Has;
+    here.level = bracket.level;
+    bracket
 }
 
-/// An array ends.
+/// Ends an array.
 #[inline(always)]
 pub(crate) fn close_array(here: &mut Here, writer: &mut Writer) -> Result<(), AllocError>
     requires small { here.old.count < 2 ^ 63 }
@@ -116,11 +121,11 @@ pub(crate) fn close_array(here: &mut Here, writer: &mut Writer) -> Result<(), Al
     ensures heads { OnOk result (writer.new.heads ≡ writer.old.heads) }
 {
     let count = all_entries(here);
-    let frame = shut(here, writer);
-    set_size(Major::Array, frame, count, writer)
+    let bracket = shut(here, writer);
+    set_size(Major::Array, bracket, count, writer)
 }
 
-/// A map ends.
+/// Ends a map.
 #[inline(always)]
 pub(crate) fn close_map(here: &mut Here, writer: &mut Writer) -> Result<(), AllocError>
     requires small { here.old.count < 2 ^ 63 }
@@ -129,57 +134,65 @@ pub(crate) fn close_map(here: &mut Here, writer: &mut Writer) -> Result<(), Allo
     ensures heads { OnOk result (writer.new.heads ≡ writer.old.heads) }
 {
     let count = all_entries(here);
-    let frame = shut(here, writer);
-    set_size(Major::Map, frame, count, writer)
+    let bracket = shut(here, writer);
+    set_size(Major::Map, bracket, count, writer)
 }
 
-/// A tag ends.
+/// Ends a tag.
 #[inline(always)]
 pub(crate) fn close_tag(here: &mut Here, writer: &mut Writer)
-    requires { 0 < length writer.old.frames }
+    requires { 0 < length writer.old.brackets }
     ensures shows { (st : Stack) (s a : Place) (n : ℕ) (m : Indicator) (i : Item) → Leads here.old writer.old here.new writer.new (has (in_tag st s n m) i) (has st (tag s n m i a)) }
     ensures heads { writer.new.heads ≡ writer.old.heads }
 {
     shut(here, writer);
 }
 
-/// What is embedded in a string ends with a `>>` at `place`.
+/// Ends a `<<` with a `>>` at `place`: it is then a piece of a string.
 #[inline(always)]
 pub(crate) fn close_embedded(mark: Mark, place: usize, here: &mut Here, writer: &mut Writer)
-    requires frames { 0 < length writer.old.frames }
+    requires brackets { 0 < length writer.old.brackets }
     requires around { 0 < length writer.old.around }
     ensures shows { (h : Home) (o : Option Joined) (s a : Place) (c : Content) → place ≡ a.start → Leads here.old writer.old here.new writer.new (content_state (in_embed h o s) c) (builds h (with_piece o (embedded s c a mark))) }
     ensures heads { writer.new.heads ≡ writer.old.heads }
 {
-    let frame = shut(here, writer);
+    let bracket = shut(here, writer);
     let Some(around) = writer.around.shut() else {
         unreachable!();
     };
-    let known = is_none(writer.slip);
-    writer.slip = earlier(around.slip, writer.slip);
-    let string = with_embedded(around.string, frame, known, mark, place, &mut writer.slip);
+    let known = is_none(writer.error);
+    writer.error = earlier(around.error, writer.error);
+    let string = with_embedded(
+        around.string,
+        bracket,
+        known,
+        mark,
+        place,
+        &mut writer.error,
+    );
     writer.chunks = around.chunks;
     writer.string = Some(string);
-    here.stand = Stand::Builds;
+    here.phase = Phase::Builds;
 }
 
-/// A string with one more piece, which is embedded, and which `known` says to have no fault of
-/// meaning.
+/// The string of the pieces `before` and of one more, which is embedded: its `<<` is `bracket`, and
+/// its `>>` is at `place`. `known` says that it has no meaning error. Notes what is wrong with the
+/// piece.
 #[inline(always)]
 fn with_embedded(
     before: Option<Joint>,
-    frame: Frame,
+    bracket: OpenBracket,
     known: bool,
     mark: Mark,
     place: usize,
-    slip: &mut Option<Slip>,
+    error: &mut Option<MeaningError>,
 ) -> Joint
-    ensures alone { (t : Str) → before ≡ None → t.kind ≡ OfBytes → t.place ≡ frame.place → t.lone ≡ false → t.known ≡ known → t.mark ≡ mark → t.mark_place ≡ place → (result ≡ joint frame.start t) × (slip.new ≡ slip.old) }
-    ensures more { (start : ℕ) (s t : Str) → before ≡ Some (joint start s) → t.kind ≡ OfBytes → t.place ≡ frame.place → t.known ≡ known → t.mark ≡ mark → t.mark_place ≡ place → (result ≡ joint start (joined s t)) × Notes slip.old slip.new (piece_slips s t) }
+    ensures alone { (t : Str) → before ≡ None → t.kind ≡ OfBytes → t.place ≡ bracket.place → t.lone ≡ false → t.known ≡ known → t.mark ≡ mark → t.mark_place ≡ place → (result ≡ joint bracket.start t) × (error.new ≡ error.old) }
+    ensures more { (start : ℕ) (s t : Str) → before ≡ Some (joint start s) → t.kind ≡ OfBytes → t.place ≡ bracket.place → t.known ≡ known → t.mark ≡ mark → t.mark_place ≡ place → (result ≡ joint start (joined s t)) × Notes error.old error.new (piece_errors s t) }
 {
     match before {
         Some(string) => {
-            note_piece(string, StringKind::Bytes, frame.place, slip);
+            note_piece(string, StringKind::Bytes, bracket.place, error);
             Joint {
                 mark,
                 mark_place: place,
@@ -190,8 +203,8 @@ fn with_embedded(
         }
         None => Joint {
             kind: StringKind::Bytes,
-            start: frame.start,
-            place: frame.place,
+            start: bracket.start,
+            place: bracket.place,
             mark,
             mark_place: place,
             lone: false,
@@ -208,32 +221,32 @@ fn are_both(one: bool, other: bool) -> bool
     one && other
 }
 
-/// A comma after an item of a row.
+/// Takes a comma after an item of an array, of a `<<` or of the whole text.
 #[inline(always)]
 pub(crate) fn comma(here: &mut Here)
     requires { here.old.count < 2 ^ 63 }
     ensures { (w : Writing) (out : List ℕ) (n : Nest) (b : RowBefore) (i : Item) (a : Place) → Shows here.old w out (has (in_row n b) i) → Shows here.new w out (wants (in_row n (after_row (row b i) a))) }
 {
     here.count += 1;
-    here.stand = Stand::WantsMore;
+    here.phase = Phase::WantsMore;
 }
 
-/// A comma after a pair of a map.
+/// Takes a comma after a pair of a map.
 #[inline(always)]
 pub(crate) fn comma_of_pairs(here: &mut Here)
     requires { here.old.count < 2 ^ 63 }
     ensures { (w : Writing) (out : List ℕ) (st : Stack) (s c a : Place) (m : Indicator) (b : PairsBefore) (k v : Item) → Shows here.old w out (has (in_value st s m b k c) v) → Shows here.new w out (wants (in_key st s m (after_pairs (pairs b k c v) a))) }
 {
     here.count += 1;
-    here.stand = Stand::WantsMore;
+    here.phase = Phase::WantsMore;
     here.level = Some(Level::Key);
 }
 
-/// A colon after a key.
+/// Takes a colon after a key.
 #[inline(always)]
 pub(crate) fn colon(here: &mut Here)
     ensures { (w : Writing) (out : List ℕ) (st : Stack) (s c : Place) (m : Indicator) (b : PairsBefore) (k : Item) → Shows here.old w out (has (in_key st s m b) k) → Shows here.new w out (wants (in_value st s m b k c)) }
 {
-    here.stand = Stand::Wants;
+    here.phase = Phase::Wants;
     here.level = Some(Level::Value);
 }

@@ -1,9 +1,10 @@
-//! What may end where the reader stands: by the innermost bracket.
+//! What may end or follow after an item, by the kind of the innermost bracket. Each `end_..`
+//! answers whether the token is allowed there, and changes nothing if it isn't.
 
 ghost use Rattle.std.specs.Prelude.{◌≡◌, ◌<◌, ◌^◌, false, IfOk, OnOk};
 ghost use Rattle.cborn_lex.specs.declared.classes.Class.TheVariants.{ArrayClose, MapClose, EmbedClose, ParenClose, Comma, Colon};
-ghost use Rattle.cborn_edn.specs.shared.Syntax.{Span as Place, Item};
-ghost use Rattle.cborn_edn.specs.shared.Machine.{Stack, State, has};
+ghost use Rattle.cborn_edn.specs.devices.Syntax.{Span as Place, Item};
+ghost use Rattle.cborn_edn.specs.devices.Machine.{Stack, State, has};
 ghost use Rattle.cborn_edn.specs.devices.Shows.{Shows};
 ghost use Rattle.cborn_edn.specs.devices.Steps as pure;
 ghost use Rattle.cborn_edn.specs.devices.Steps.{MayEnd, Taken};
@@ -11,11 +12,11 @@ ghost use Rattle.cborn_edn.specs.devices.Steps.{MayEnd, Taken};
 use crate::closings::{
     close_array, close_embedded, close_map, close_tag, colon, comma, comma_of_pairs,
 };
-use crate::states::{Chunks, Here, Level, Stand, Writer};
+use crate::states::{Chunks, Here, Level, Phase, Writer};
 use cborn_lex::Mark;
 use std::alloc::AllocError;
 
-/// Whether it is an array.
+/// Whether the innermost bracket is an array.
 #[inline(always)]
 fn is_array(level: Option<Level>) -> bool
     ensures { result ≡ pure.is_array level }
@@ -23,7 +24,7 @@ fn is_array(level: Option<Level>) -> bool
     matches!(level, Some(Level::Array))
 }
 
-/// Whether it is a `<<`.
+/// Whether the innermost bracket is a `<<`.
 #[inline(always)]
 fn is_embedded(level: Option<Level>) -> bool
     ensures { result ≡ pure.is_embedded level }
@@ -31,7 +32,7 @@ fn is_embedded(level: Option<Level>) -> bool
     matches!(level, Some(Level::Embedded))
 }
 
-/// Whether it is a map where a key may stand.
+/// Whether the innermost bracket is a map, before the colon of a pair.
 #[inline(always)]
 fn is_key(level: Option<Level>) -> bool
     ensures { result ≡ pure.is_key level }
@@ -39,7 +40,7 @@ fn is_key(level: Option<Level>) -> bool
     matches!(level, Some(Level::Key))
 }
 
-/// Whether it is a map where a value may stand.
+/// Whether the innermost bracket is a map, after the colon of a pair.
 #[inline(always)]
 fn is_value(level: Option<Level>) -> bool
     ensures { result ≡ pure.is_value level }
@@ -47,7 +48,7 @@ fn is_value(level: Option<Level>) -> bool
     matches!(level, Some(Level::Value))
 }
 
-/// Whether it is a tag.
+/// Whether the innermost bracket is a tag.
 #[inline(always)]
 fn is_tag(level: Option<Level>) -> bool
     ensures { result ≡ pure.is_tag level }
@@ -55,7 +56,7 @@ fn is_tag(level: Option<Level>) -> bool
     matches!(level, Some(Level::Tag))
 }
 
-/// Whether items stand there with commas between them.
+/// Whether commas separate items there: in an array, in a `<<`, or where no bracket is open.
 #[inline(always)]
 fn is_row(level: Option<Level>) -> bool
     ensures { result ≡ pure.is_row level }
@@ -63,18 +64,19 @@ fn is_row(level: Option<Level>) -> bool
     matches!(level, None | Some(Level::Array | Level::Embedded))
 }
 
-/// Whether it is a map that may end there.
+/// Whether the innermost bracket is a map that may end in this phase: before a key, or after a
+/// value.
 #[inline(always)]
-fn ends_map(stand: Stand, level: Option<Level>) -> bool
-    ensures { result ≡ pure.ends_map stand level }
+fn ends_map(phase: Phase, level: Option<Level>) -> bool
+    ensures { result ≡ pure.ends_map phase level }
 {
-    match stand {
-        Stand::Has => is_value(level),
+    match phase {
+        Phase::Has => is_value(level),
         _ => is_key(level),
     }
 }
 
-/// Whether chunks are open.
+/// Whether a string in chunks is open.
 #[inline(always)]
 pub(crate) fn has_chunks(chunks: Option<Chunks>) -> bool
     ensures { result ≡ pure.has_chunks chunks }
@@ -82,7 +84,7 @@ pub(crate) fn has_chunks(chunks: Option<Chunks>) -> bool
     matches!(chunks, Some(_))
 }
 
-/// A `]`. Whether an array may end there.
+/// Ends an array with a `]`, if one may end there.
 #[inline(always)]
 pub(crate) fn end_array(here: &mut Here, writer: &mut Writer) -> Result<bool, AllocError>
     requires few { here.old.count < 2 ^ 63 }
@@ -98,7 +100,7 @@ pub(crate) fn end_array(here: &mut Here, writer: &mut Writer) -> Result<bool, Al
     Ok(true)
 }
 
-/// A `}`. Whether a map may end there.
+/// Ends a map with a `}`, if one may end there.
 #[inline(always)]
 pub(crate) fn end_map(here: &mut Here, writer: &mut Writer) -> Result<bool, AllocError>
     requires few { here.old.count < 2 ^ 63 }
@@ -107,14 +109,14 @@ pub(crate) fn end_map(here: &mut Here, writer: &mut Writer) -> Result<bool, Allo
     ensures kept { IfOk result (λ ok. ok ≡ false → (here.new ≡ here.old) × (writer.new ≡ writer.old)) }
     ensures heads { OnOk result (writer.new.heads ≡ writer.old.heads) }
 {
-    if !ends_map(here.stand, here.level) {
+    if !ends_map(here.phase, here.level) {
         return Ok(false);
     }
     close_map(here, writer)?;
     Ok(true)
 }
 
-/// A `>>` at `place`. Whether a `<<` may end there.
+/// Ends a `<<` with a `>>` at `place`, if one may end there.
 #[inline(always)]
 pub(crate) fn end_embedded(mark: Mark, place: usize, here: &mut Here, writer: &mut Writer) -> bool
     requires { (s : State) × MayEnd s × Shows here.old writer.old writer.old.out.items s }
@@ -129,7 +131,7 @@ pub(crate) fn end_embedded(mark: Mark, place: usize, here: &mut Here, writer: &m
     true
 }
 
-/// A `)` after an item. Whether a tag may end there.
+/// Ends a tag with a `)` after an item, if one may end there.
 #[inline(always)]
 pub(crate) fn end_tag(here: &mut Here, writer: &mut Writer) -> bool
     requires { (st : Stack) × (i : Item) × Shows here.old writer.old writer.old.out.items (has st i) }
@@ -144,7 +146,7 @@ pub(crate) fn end_tag(here: &mut Here, writer: &mut Writer) -> bool
     true
 }
 
-/// A colon after an item. Whether the item is a key.
+/// Takes a colon after an item, if the item is a key.
 #[inline(always)]
 pub(crate) fn end_key(here: &mut Here, writer: &Writer) -> bool
     ensures taken { (st : Stack) (i : Item) (a : Place) → Shows here.old writer.now writer.now.out.items (has st i) → Taken result (has st i) Colon a here.new writer.now }
@@ -157,7 +159,7 @@ pub(crate) fn end_key(here: &mut Here, writer: &Writer) -> bool
     true
 }
 
-/// A comma after an item. Whether more may follow there.
+/// Takes a comma after an item, if another item or pair may follow there.
 #[inline(always)]
 pub(crate) fn end_entry(here: &mut Here, writer: &Writer) -> bool
     requires { here.old.count < 2 ^ 63 }

@@ -21,13 +21,13 @@ pub enum EdnReason {
     /// A token that makes the nesting exceed the limit.
     #[error("too deep")]
     TooDeep,
-    /// A number, a length or a count does not fit the width that its indicator asks for.
+    /// A number, a length or a count that does not fit the width that its indicator asks for.
     #[error("indicator too narrow")]
     IndicatorTooNarrow,
-    /// An indicator where none may stand.
+    /// An indicator where none is allowed.
     #[error("indicator not allowed")]
     IndicatorNotAllowed,
-    /// A text piece behind the start of a byte string.
+    /// A text piece after the start of a byte string.
     #[error("mixed string")]
     MixedString,
     /// A chunk of another kind than the first.
@@ -47,11 +47,11 @@ pub enum EdnReason {
 /// Why no items were read.
 #[derive(Clone, Copy, PartialEq, Eq, Debug, Error)]
 pub enum EdnFault {
-    /// The text has no tokens.
+    /// A part of the text is no token.
     #[error("{0}")]
     Lex(LexFault),
-    /// The tokens are no text of the grammar, or mean nothing. `place` is an offset in bytes from
-    /// the start of the text.
+    /// A syntax error or a meaning error. `place` is its offset, in bytes from the start of the
+    /// text.
     #[error("offset {place}: {reason}")]
     Refused { place: u64, reason: EdnReason },
     /// Memory was refused.
@@ -62,7 +62,8 @@ pub enum EdnFault {
 /// Why nodes were not shown.
 #[derive(Clone, Copy, PartialEq, Eq, Debug, Error)]
 pub enum ShowFault {
-    /// A text string or a text chunk is not UTF-8. `place` is the lowest place of one.
+    /// A text string or a text chunk is not UTF-8. `place` is the lowest place of such a node or
+    /// chunk.
     #[error("offset {place}: not UTF-8")]
     NotUtf8 { place: u64 },
     /// Memory was refused.
@@ -81,7 +82,7 @@ impl From<AllocError> for EdnFault {
 impl From<LexFault> for EdnFault {
     ghost from_gives = { λ fault e. e ≡ lexical fault };
 
-    /// Want of memory is the crate's own.
+    /// Out of memory is the same fault, whichever crate asked for the memory.
     fn from(fault: LexFault) -> EdnFault {
         match fault {
             LexFault::Refused { .. } => EdnFault::Lex(fault),
@@ -99,10 +100,10 @@ impl From<AllocError> for ShowFault {
 }
 
 impl EdnReason {
-    ghost use Rattle.cborn_edn.specs.shared.Meaning.{number_of};
+    ghost use Rattle.cborn_edn.specs.devices.Meaning.{number_of};
 
-    /// The number of the reason: 20 to 22 for the tokens, 30 to 36 for what they mean. At one place
-    /// the lowest is told.
+    /// The number of the reason: 20 to 22 for syntax errors, 30 to 36 for meaning errors. Of
+    /// several meaning errors at one place the one with the lowest number is reported.
     pub(crate) fn number(self) -> u8
         ensures { result ≡ number_of self }
     {

@@ -1,5 +1,5 @@
-//! Heads (RFC 8949 section 3), at the end of a buffer or in the place of one byte. Where a number
-//! doesn't fit its place in a head, its low bits are written.
+//! Heads (RFC 8949 section 3), at the end of a buffer or in the place of one byte. Of an argument
+//! that doesn't fit its head the low bits are written.
 
 ghost use Rattle.std.specs.Prelude.{◌≡◌, ◌<◌, ◌≤◌, ◌+◌, ◌*◌, ◌++◌, ◌%◌, length, take, drop, map, OnOk, OnErr};
 ghost use Rattle.cborn_model.specs.Heads.{code, head_bytes, least};
@@ -7,10 +7,11 @@ ghost use Rattle.cborn_model.specs.Heads.{code, head_bytes, least};
 use cborn_model::{Major, Width, shortest};
 use std::alloc::AllocError;
 
-/// How many bytes are moved at a time.
+/// How many bytes are moved at once.
 const BLOCK: usize = 256;
 
-/// Appends the head of the major type with an argument `n` of this width, each number cut to a byte.
+/// Appends the head of the major type with an argument `n` of this width, each number cut to a
+/// byte.
 ///
 /// # Errors
 /// `AllocError` where `out` couldn't grow; it is then as it was.
@@ -33,7 +34,8 @@ pub(crate) fn push_head(
     }
 }
 
-/// Appends a head of more than one byte, as `push_head` does.
+/// Appends the head of the major type with an argument `n` of this width, each number cut to a
+/// byte. Out of line, since most heads are one byte.
 ///
 /// # Errors
 /// `AllocError` where `out` couldn't grow; it is then as it was.
@@ -75,8 +77,8 @@ pub(crate) fn set_shortest_head(
     set_wide_head(major, shortest(n), n, start, out)
 }
 
-/// Puts the head of the major type with an argument `n` of this width, each number cut to a byte, in
-/// the place of the byte at the offset `start`. What follows that byte is moved.
+/// Puts the head of the major type with an argument `n` of this width, each number cut to a byte,
+/// in the place of the byte at the offset `start`. What follows that byte is moved.
 ///
 /// # Errors
 /// `AllocError` where `out` couldn't grow; it is then as it was.
@@ -99,7 +101,9 @@ pub(crate) fn set_head(
     set_wide_head(major, width, n, start, out)
 }
 
-/// Puts a head of more than one byte in the place of a byte, as `set_head` does.
+/// Puts the head of the major type with an argument `n` of this width, each number cut to a byte,
+/// in the place of the byte at the offset `start`, and moves what follows that byte. Out of line,
+/// since most heads are one byte.
 ///
 /// # Errors
 /// `AllocError` where `out` couldn't grow; it is then as it was.
@@ -121,7 +125,7 @@ fn set_wide_head(
     Ok(())
 }
 
-/// Writes the bytes over what stands from the offset `start` on.
+/// Writes the bytes over those from the offset `start` on.
 #[inline(always)]
 fn write_at(start: usize, bytes: &[u8], out: &mut Vec<u8>)
     requires { start + length bytes.now ≤ length out.old.items }
@@ -131,7 +135,7 @@ fn write_at(start: usize, bytes: &[u8], out: &mut Vec<u8>)
 }
 
 /// The head of the major type with an argument `n` of this width, each number cut to a byte: its
-/// bytes stand first in the array, and the number is their count.
+/// bytes are the first of the array, and the number is their count.
 #[inline(always)]
 fn cut_head(major: Major, width: Width, n: u64) -> ([u8; 9], usize)
     ensures some { 0 < result.1 }
@@ -148,7 +152,7 @@ fn cut_head(major: Major, width: Width, n: u64) -> ([u8; 9], usize)
     }
 }
 
-/// The head of one byte, cut to it.
+/// The head of one byte with the argument `n`, cut to a byte.
 #[inline(always)]
 fn direct_head(major: Major, n: u64) -> u8
     ensures { result ≡ (32 * code major + n) % 256 }
@@ -157,8 +161,8 @@ fn direct_head(major: Major, n: u64) -> u8
     ((first + n % 256) % 256) as u8
 }
 
-/// Moves what stands from the offset `from` on by `more` bytes, at most 8, from its end on. The
-/// bytes between hold anything.
+/// Moves the bytes from the offset `from` on by `more` bytes, at most 8. The last bytes are moved
+/// first, so that none is overwritten. The `more` bytes from `from` on then hold anything.
 ///
 /// # Errors
 /// `AllocError` where `out` couldn't grow; it is then as it was.

@@ -14,14 +14,14 @@ use cborn_lex::{Mark, decimal_at, mark_at};
 pub(crate) struct Integer {
     pub number: u64,
     pub mark: Mark,
-    /// Whether it is the number of a tag: a `(` follows it, which belongs to the token.
+    /// Whether it is the number of a tag. The `(` that follows it is then part of the token.
     pub is_tag: bool,
     /// The offset after the token.
     pub stop: usize,
 }
 
-/// The integer without a minus, or the number of a tag, at the offset `at` of `text`, if it is
-/// decimal and has at most 19 digits, and what follows it is no bad indicator.
+/// The integer without a minus, or the number of a tag, at the offset `at` of `text`. `None` if it
+/// isn't decimal, has more than 19 digits or has a bad indicator.
 #[inline(always)]
 pub(crate) fn integer_at(text: &[u8], at: usize) -> Option<Integer>
     requires { at ≤ length text.now }
@@ -47,8 +47,9 @@ pub(crate) fn integer_at(text: &[u8], at: usize) -> Option<Integer>
     })
 }
 
-/// The integer below zero at the offset `at` of `text`, where a minus stands, if it is decimal, has
-/// at most 19 digits and no indicator: how far it is below zero, and the offset after it.
+/// The integer below zero whose minus is at the offset `at` of `text`: how far it is below zero,
+/// and the offset after it. `None` if it isn't decimal, has more than 19 digits or has an
+/// indicator.
 #[inline(always)]
 pub(crate) fn negative_at(text: &[u8], at: usize) -> Option<(u64, usize)>
     requires inside { at < length text.now }
@@ -65,7 +66,7 @@ pub(crate) fn negative_at(text: &[u8], at: usize) -> Option<(u64, usize)>
     Some((n, at + 1 + len))
 }
 
-/// Whether the character is at the front.
+/// Whether `x` begins with the character `c`.
 #[inline(always)]
 fn begins_with(c: u8, tail: &[u8]) -> bool
     ensures { result ≡ begins (λ d. d == c) tail.now }

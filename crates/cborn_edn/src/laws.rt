@@ -1,5 +1,5 @@
-//! Laws of the notation, over its definitions alone. Each function says one of them by its
-//! contract, and does nothing.
+//! Laws of the notation: theorems of its definitions alone. Each function does nothing, and its
+//! contract is a theorem.
 
 ghost use Rattle.std.specs.Prelude.{◌≡◌, ℕ, ◌^◌, ◌<◌, ◌≤◌, Bool, true, List, [], map, length, ◌⊎◌, ◌↔◌};
 ghost use Rattle.std.specs.Str.{is_utf8};
@@ -16,28 +16,28 @@ ghost use Rattle.cborn_lex.specs.Good.{HasTokens};
 ghost use Rattle.cborn_lex.specs.Bad.{FailsAt};
 ghost use Rattle.cborn_edn.specs.declared.faults.EdnFault.{EdnFault};
 ghost use Rattle.cborn_edn.specs.declared.faults.EdnReason.{EdnReason};
-ghost use Rattle.cborn_edn.specs.shared.Syntax.{tokens_of_input};
+ghost use Rattle.cborn_edn.specs.devices.Syntax.{tokens_of_input};
 ghost use Rattle.cborn_edn.specs.devices.Parse as trees;
-ghost use Rattle.cborn_edn.specs.ReadingBack.{bare, notated_input, unplaced_all};
+ghost use Rattle.cborn_edn.specs.ReadingBack.{unplaced_token, notated_input, unplaced_all};
 ghost use Rattle.cborn_edn.specs.Shown.{AreShowable, Shown, shown_lines};
 ghost use Rattle.cborn_edn.specs.Starts.{spots_all, IsRising};
 ghost use Rattle.cborn_edn.specs.Grammar.{IsText, Notates};
-ghost use Rattle.cborn_edn.specs.declared.slips.Slip.{Slip};
-ghost use Rattle.cborn_edn.specs.Faults.{HasTree, Jam, Slips, Jams, IsNoNotation};
+ghost use Rattle.cborn_edn.specs.declared.meaning_errors.MeaningError.{MeaningError};
+ghost use Rattle.cborn_edn.specs.Faults.{HasTree, IsSyntaxError, HasMeaningError, HasSyntaxError, IsNoNotation};
 ghost use Rattle.cborn_edn.specs.devices.Notates as trees_say;
 
-/// Tokens are a text of the grammar in at most one way, with the same nodes and slips whatever the
-/// profiles and the limits.
+/// Tokens are a text of the grammar in at most one way, with the same nodes and meaning errors in
+/// each profile and within each limit.
 pub fn one_text()
-    ensures { (profile other : Profile) (limit most : ℕ) (tokens : List Token) (nodes others : Trees) (slips faults : List Slip) → IsText profile limit tokens nodes slips → IsText other most tokens others faults → (nodes ≡ others) × (slips ≡ faults) }
+    ensures { (profile other : Profile) (limit most : ℕ) (tokens : List Token) (nodes others : Trees) (errors faults : List MeaningError) → IsText profile limit tokens nodes errors → IsText other most tokens others faults → (nodes ≡ others) × (errors ≡ faults) }
 {}
 
-/// Tokens are a text of the grammar within the limit or have one jam, never both or two. `end` is
-/// the length of their text.
+/// Tokens are a text of the grammar within the limit, or have one syntax error. Both never hold,
+/// and there are never two syntax errors. `end` is the length of their text.
 pub fn one_answer()
-    ensures some { (profile : Profile) (limit end : ℕ) (tokens : List Token) → HasTree profile limit tokens ⊎ ((p : ℕ) × (r : EdnReason) × Jam profile limit end tokens p r) }
-    ensures not_both { (profile : Profile) (limit end : ℕ) (tokens : List Token) (p : ℕ) (r : EdnReason) → HasTree profile limit tokens → Jam profile limit end tokens p r → ⊥ }
-    ensures not_two { (profile : Profile) (limit end : ℕ) (tokens : List Token) (p q : ℕ) (r s : EdnReason) → Jam profile limit end tokens p r → Jam profile limit end tokens q s → (p ≡ q) × (r ≡ s) }
+    ensures some { (profile : Profile) (limit end : ℕ) (tokens : List Token) → HasTree profile limit tokens ⊎ ((p : ℕ) × (r : EdnReason) × IsSyntaxError profile limit end tokens p r) }
+    ensures not_both { (profile : Profile) (limit end : ℕ) (tokens : List Token) (p : ℕ) (r : EdnReason) → HasTree profile limit tokens → IsSyntaxError profile limit end tokens p r → ⊥ }
+    ensures not_two { (profile : Profile) (limit end : ℕ) (tokens : List Token) (p q : ℕ) (r s : EdnReason) → IsSyntaxError profile limit end tokens p r → IsSyntaxError profile limit end tokens q s → (p ≡ q) × (r ≡ s) }
 {}
 
 /// What is a text of the grammar within a limit is one within each larger limit.
@@ -46,25 +46,25 @@ pub fn larger_limit()
 {}
 
 /// What is a text of the grammar in profile 1 is one in profile 2, with the same nodes, places and
-/// slips.
+/// meaning errors.
 pub fn both_profiles()
-    ensures { (limit : ℕ) (tokens : List Token) (nodes : Trees) (slips : List Slip) → IsText ProfileOne limit tokens nodes slips → IsText ProfileTwo limit tokens nodes slips }
+    ensures { (limit : ℕ) (tokens : List Token) (nodes : Trees) (errors : List MeaningError) → IsText ProfileOne limit tokens nodes errors → IsText ProfileTwo limit tokens nodes errors }
 {}
 
-/// Nodes have a fixed notation exactly if each text and text chunk among them is UTF-8. The text of
-/// the fixed notation of nodes is UTF-8 and has the tokens of the fixed notation, places aside.
-/// Under both profiles it notates the same nodes, places aside, which spell the same bytes, where
-/// the nodes are within the limit, and under no limit others.
+/// Nodes have a fixed notation exactly if each text string and text chunk among them is UTF-8. Its
+/// text is UTF-8, and has the tokens of the fixed notation but for their places. Within each limit
+/// that the nodes are within, it notates the nodes in both profiles, but for their places, so it
+/// spells the same bytes. Within no limit it notates other nodes.
 pub fn shown_text_reads_back()
     ensures texts { (nodes : Trees) → FitsAll nodes → (AreShowable nodes ↔ Shown nodes (shown_lines nodes)) }
     ensures utf8 { (nodes : Trees) (text : List ℕ) → FitsAll nodes → Shown nodes text → is_utf8 text ≡ true }
-    ensures tokens { (profile : Profile) (nodes : Trees) (text : List ℕ) → FitsAll nodes → Shown nodes text → (tokens : List Token) × HasTokens profile text tokens × (map bare tokens ≡ tokens_of_input (notated_input nodes)) }
+    ensures tokens { (profile : Profile) (nodes : Trees) (text : List ℕ) → FitsAll nodes → Shown nodes text → (tokens : List Token) × HasTokens profile text tokens × (map unplaced_token tokens ≡ tokens_of_input (notated_input nodes)) }
     ensures back { (profile : Profile) (limit : ℕ) (nodes : Trees) (text : List ℕ) → FitsAll nodes → Shown nodes text → depth_all nodes ≤ limit → (says : Trees) × Notates profile limit text says × (unplaced_all says ≡ unplaced_all nodes) × (spelled_all says ≡ spelled_all nodes) }
     ensures only { (profile : Profile) (limit : ℕ) (nodes : Trees) (text : List ℕ) (says : Trees) → FitsAll nodes → Shown nodes text → Notates profile limit text says → (unplaced_all says ≡ unplaced_all nodes) × (spelled_all says ≡ spelled_all nodes) }
 {}
 
-/// Nodes that are the same, places aside, fit their widths alike, are as deep, spell the same
-/// bytes, mean the same items and have the same fixed notation.
+/// Nodes that are the same but for their places fit their widths alike, are equally deep, spell the
+/// same bytes, mean the same items and have the same fixed notation.
 pub fn places_aside()
     ensures fits { (nodes others : Trees) → unplaced_all nodes ≡ unplaced_all others → FitsAll nodes → FitsAll others }
     ensures depth { (nodes others : Trees) → unplaced_all nodes ≡ unplaced_all others → depth_all nodes ≡ depth_all others }
@@ -73,38 +73,37 @@ pub fn places_aside()
     ensures text { (nodes others : Trees) (text : List ℕ) → unplaced_all nodes ≡ unplaced_all others → Shown nodes text → Shown others text }
 {}
 
-/// A text notates at most one list of nodes. It notates the same under each larger limit, and what
-/// it notates under profile 1, places included, it notates under profile 2.
+/// A text notates at most one list of nodes. It notates the same within each larger limit, and what
+/// it notates in profile 1 it notates in profile 2, with the same places.
 pub fn one_notation()
     ensures one { (profile : Profile) (limit most : ℕ) (text : List ℕ) (nodes others : Trees) → Notates profile limit text nodes → Notates profile most text others → nodes ≡ others }
     ensures larger { (profile : Profile) (limit most : ℕ) (text : List ℕ) (nodes : Trees) → limit ≤ most → Notates profile limit text nodes → Notates profile most text nodes }
     ensures both { (limit : ℕ) (text : List ℕ) (nodes : Trees) → Notates ProfileOne limit text nodes → Notates ProfileTwo limit text nodes }
 {}
 
-/// A text of fewer than 2^56 bytes has an answer: it notates nodes, or it has a lexical stop, a jam
-/// or a slip. The nodes that it notates fit their widths and are within the limit. No text, however
-/// long, notates nodes and has a slip, whatever the limits.
+/// A text of fewer than 2^56 bytes has an answer: it notates nodes, or it has a lexical fault, a
+/// syntax error or a meaning error. The nodes that it notates fit their widths and are within the
+/// limit. No text of any length both notates nodes and has a meaning error, within any limits.
 pub fn short_text()
-    ensures answered { (profile : Profile) (limit : ℕ) (text : List ℕ) → AreBytes text → length text < 2 ^ 56 → ((nodes : Trees) × Notates profile limit text nodes) ⊎ (((p : ℕ) × (r : LexReason) × FailsAt profile text p r) ⊎ ((p : ℕ) × (r : EdnReason) × (Jams profile limit text p r ⊎ Slips profile limit text p r))) }
-    ensures no_slip { (profile : Profile) (limit most : ℕ) (text : List ℕ) (nodes : Trees) (p : ℕ) (r : EdnReason) → Notates profile limit text nodes → Slips profile most text p r → ⊥ }
+    ensures answered { (profile : Profile) (limit : ℕ) (text : List ℕ) → AreBytes text → length text < 2 ^ 56 → ((nodes : Trees) × Notates profile limit text nodes) ⊎ (((p : ℕ) × (r : LexReason) × FailsAt profile text p r) ⊎ ((p : ℕ) × (r : EdnReason) × (HasSyntaxError profile limit text p r ⊎ HasMeaningError profile limit text p r))) }
+    ensures no_error { (profile : Profile) (limit most : ℕ) (text : List ℕ) (nodes : Trees) (p : ℕ) (r : EdnReason) → Notates profile limit text nodes → HasMeaningError profile most text p r → ⊥ }
     ensures fits { (profile : Profile) (limit : ℕ) (text : List ℕ) (nodes : Trees) → AreBytes text → length text < 2 ^ 56 → Notates profile limit text nodes → FitsAll nodes × (depth_all nodes ≤ limit) }
 {}
 
-/// Of the nodes that a text notates, and of the chunks in them, each stands behind those before it
-/// in the order of heads, but for the byte string right under a tag, as the one of a bignum stands
-/// where its tag does.
+/// The places of the nodes and chunks that a text notates rise in the order of their heads. A byte
+/// string directly under a tag is left out, since that of a bignum has the place of its tag.
 pub fn spots_rise()
     ensures { (profile : Profile) (limit : ℕ) (text : List ℕ) (nodes : Trees) → Notates profile limit text nodes → IsRising (spots_all nodes) }
 {}
 
-/// The trees of the grammar and what they mean are a device of the proofs: what they notate, where
-/// they jam, and of a text of fewer than 2^56 bytes also why it is refused, is what the relation of
-/// the grammar says.
+/// The trees of the grammar, a device of the proofs, agree with its relation. They have the same
+/// syntax errors, and nodes that a text notates by a tree it notates by the relation. Of a text of
+/// fewer than 2^56 bytes both say the same: its nodes, its meaning error, and why it is refused.
 pub fn short_form()
     ensures notates { (profile : Profile) (limit : ℕ) (text : List ℕ) (nodes : Trees) → trees_say.Notates profile limit text nodes → Notates profile limit text nodes }
     ensures tree { (profile : Profile) (limit : ℕ) (tokens : List Token) → trees.HasTree profile limit tokens ↔ HasTree profile limit tokens }
-    ensures jam { (profile : Profile) (limit end : ℕ) (tokens : List Token) (p : ℕ) (r : EdnReason) → trees.Jam profile limit end tokens p r ↔ Jam profile limit end tokens p r }
+    ensures syntax_error { (profile : Profile) (limit end : ℕ) (tokens : List Token) (p : ℕ) (r : EdnReason) → trees.IsSyntaxError profile limit end tokens p r ↔ IsSyntaxError profile limit end tokens p r }
     ensures nodes { (profile : Profile) (limit : ℕ) (text : List ℕ) (nodes : Trees) → AreBytes text → length text < 2 ^ 56 → trees_say.Notates profile limit text nodes ↔ Notates profile limit text nodes }
-    ensures slip { (profile : Profile) (limit : ℕ) (text : List ℕ) (p : ℕ) (r : EdnReason) → AreBytes text → length text < 2 ^ 56 → trees_say.Slips profile limit text p r ↔ Slips profile limit text p r }
+    ensures error { (profile : Profile) (limit : ℕ) (text : List ℕ) (p : ℕ) (r : EdnReason) → AreBytes text → length text < 2 ^ 56 → trees_say.HasMeaningError profile limit text p r ↔ HasMeaningError profile limit text p r }
     ensures refused { (profile : Profile) (limit : ℕ) (text : List ℕ) (why : EdnFault) → AreBytes text → length text < 2 ^ 56 → trees_say.IsNoNotation profile limit text why ↔ IsNoNotation profile limit text why }
 {}

@@ -1,70 +1,98 @@
-//! Diagnostic notation of data items: read and written (RFC 8949 section 8, RFC 8610 appendix G).
-//!
-//! A text becomes bytes in one pass over its tokens, and bytes become nodes:
+//! Diagnostic notation of data items (RFC 8949 section 8, RFC 8610 appendix G): texts are read as
+//! bytes or as nodes, and nodes are written as text.
 //!
 //! ```text
-//! text    [1, "a" h'62'_1]    as it stands
-//! tokens  [ 1 , "a" h'62'_1 ] as `cborn_lex` reads them, one at a time
-//! bytes   82 01 79 00 02 61 62
+//! text    [1, "a" h'62'_1]
+//! tokens  [ 1 , "a" h'62'_1 ]     `cborn_lex` reads them, one at a time
+//! bytes   82 01 79 00 02 61 62    written while the tokens are read
 //! nodes   Items of Uint and Text: the string "ab", whose length takes two bytes
 //! ```
 //!
-//! [`read_text`] gives the bytes, or the one fault of the text: of a token, of syntax, or of
-//! meaning. [`read_shortest`] gives them with each head in its shortest form, for those who need no
-//! more than what the nodes mean. [`read_notation`] gives the nodes, each with its place in the text,
-//! and [`start_at`] the place of one node or chunk by its number. [`show`] gives nodes in the fixed
-//! notation.
+//! [`read_text`] gives the bytes of a text, or why it has none. [`read_shortest`] gives them with
+//! each head in its shortest form, for a caller that needs only what the items mean.
+//! [`read_notation`] gives the nodes, each with its place in the text, and [`start_at`] the place
+//! of one node or chunk by its number. [`show`] writes nodes in the fixed notation, which has one
+//! text for each list of nodes.
+//!
+//! # Terms
+//!
+//! - A *token* is a bracket, a comma, a colon, a number, a word or a quoted string, with its
+//!   *indicator* (RFC 8949 section 8.1). Its *place* is its offset in the text, in bytes. Between
+//!   tokens there may be *white space*, which comments are part of.
+//! - An *item* is one data item, of one token or of many.
+//! - Strings that follow one another are *pieces* of one string: `"a" h'62'` is `"ab"`. What is
+//!   *embedded* in `<<..>>` is a piece too: the bytes of its items.
+//! - A *chunk* is a part of a string of indefinite length: `(_ "a", "b" h'62')` has two chunks, and
+//!   the second has two pieces.
+//! - A *lexical fault* is a part of the text that is no token. A *syntax error* is the first token
+//!   with which no text of the grammar goes on, or the end of a text that has to go on. A *meaning
+//!   error* is what is wrong in a text of the grammar, as a number that is too large for the width
+//!   that its indicator asks for. A lexical fault is reported before any syntax error, and a syntax
+//!   error before any meaning error.
+//! - An *open bracket* is that of an array, a map, a tag or a `<<` whose end hasn't been read.
+//!   `simple(` and `(_` are none.
+//! - The *phase* is what the reader has read last in the innermost open bracket. It decides, with
+//!   the *level*, the kind of that bracket, which tokens may follow.
 //!
 //! # The definitions
 //!
-//! Start with `specs/Grammar.antt`: the grammar is one relation, of tokens to the nodes that they
-//! say and to their meaning errors, within a bound on their depth. `Says.antt` has the node and
-//! the faults of a number and of a string, `Faults.antt` why a text notates nothing, `Starts.antt`
-//! the places of nodes, and `Shown.antt` the fixed notation. In these a syntax error is a *jam*, and
-//! a meaning error a *slip*. [`laws`] has what is proved of them alone, above all that the
-//! fixed notation notates the nodes that it shows.
+//! - `specs/Grammar.antt`: the grammar, as one relation between tokens, the nodes that they say and
+//!   their meaning errors. Start here.
+//! - `Says.antt`: the node and the meaning errors of one number, one tag, one simple value and one
+//!   string.
+//! - `Faults.antt`: why a text notates nothing.
+//! - `Spelling.antt` and `Shortened.antt`: the bytes that a text spells.
+//! - `Starts.antt`: the places of nodes and chunks.
+//! - `Shown.antt`: the fixed notation. `Plain.antt`: the notation of a deterministic encoding.
+//! - `ReadingBack.antt`: what the laws of reading back need, as nodes without their places.
+//!
+//! [`laws`] has what is proved of the definitions alone: above all, that the fixed notation notates
+//! the nodes that it shows.
 //!
 //! # The reader
 //!
-//! What opens is written as a byte in the place of a head, and what stands in it after that byte.
-//! When it ends its head is known, and is put in the place of the byte: an array's by its count, a
-//! string's by its length. A head outside of `<<..>>` is as wide as its indicator asks for, or the
-//! shortest; what stands in `<<..>>` is the content of a string. A meaning error doesn't stop the reader: it writes on, each number
-//! cut to a byte, and keeps the first, so that a later syntax error is still found, which comes
-//! before all of meaning.
+//! The head of an array, a map or a string depends on its count or length, which is known only at
+//! its end. So where one begins, one byte is written in the place of its head, and its content
+//! after that byte. Where it ends, its head takes the place of the byte, and the content is moved
+//! if the head is longer. An array or a map of indefinite length has its head at once, and a break
+//! at its end. The heads inside of `<<..>>` are always as wide as their indicators ask for, since
+//! their bytes are the content of a string.
 //!
-//! - `passes` has the loop over the tokens, and what is answered at the end: start here.
-//! - `tokens` reads one token, with a string's content at once in the output.
-//! - `steps` is the grammar: what a token may be where the reader stands. `endings`, `openings`,
-//!   `closings`, `strings` and `numbers` write what it is; `slips` notes meaning errors, and
-//!   `refusals` has the syntax errors.
-//! - `states` is what is kept: where the reader stands, an entry for each open bracket, and the
-//!   string at hand.
-//! - `heads` writes a head at the end of a buffer, or in the place of a byte, and moves what follows
-//!   it.
-//! - `gaps`, `marks`, `integers`, `words` and `texts` look at a text for what is common: white space
-//!   and comments, brackets, and items.
-//! - `quick`, `quick_items` and `quick_ends` take what is common in place, with no token between. What
-//!   they leave is for `next_token` of the lexer and for `steps`.
+//! A meaning error doesn't stop the reader. It keeps the first one and writes on, and of a number
+//! that doesn't fit its place it writes the low bits. So it still finds a later syntax error, which
+//! is reported in place of the meaning error.
 //!
-//! Of the bytes `placing` makes nodes, and puts places into them that `starts` finds in the text: it
-//! reads the text once more, token by token, and counts what begins with each. `showing` and
-//! `writing` show nodes, and `bad_texts` finds a text among them that isn't UTF-8.
+//! Read the modules in this order:
 //!
-//! The proof goes by a machine of tokens that keeps trees (`specs/shared/Machine.antt`): what the
-//! reader keeps shows one of its states (`specs/devices/Shows.antt`), and each step is the
-//! machine's. The law `short_form` says that the trees and the relation are one.
+//! - `passes`: the loop over the tokens, and the answer at the end of the text.
+//! - `states`: what is kept: the phase, the open brackets, the string that is read, the output.
+//! - `tokens`: one token is read, and the content of a string is written to the output.
+//! - `steps`: the grammar: what each token does in each phase. `openings`, `endings`, `closings`,
+//!   `strings` and `numbers` change what is kept and write the output. `meaning_errors` keeps the
+//!   first meaning error, and `refusals` reports syntax errors.
+//! - `heads`: a head is written at the end of a buffer, or in the place of a byte.
+//! - `white_space`, `marks`, `integers`, `words` and `texts`: frequent tokens are found in a text
+//!   without the lexer. `quick`, `quick_items` and `quick_ends` take them at once, and leave all
+//!   others to `tokens` and `steps`. They are for speed alone.
+//! - `readers`, `placing` and `starts`: the bytes become nodes, which get the places that `starts`
+//!   finds when it reads the text once more.
+//! - `showing`, `writing` and `bad_texts`: nodes become text, if each text string is UTF-8.
+//!
+//! The proofs use a second form of the grammar: trees (`specs/devices/Syntax.antt`), and a machine
+//! that takes one token after another and builds a tree (`Machine.antt`). What the reader keeps
+//! shows a state of the machine (`Shows.antt`), and a token that the reader takes is a step of the
+//! machine. The law `short_form` says that the trees and the relation agree.
 #![tactic(auto)]
 
 mod bad_texts;
 mod closings;
 mod endings;
 mod faults;
-mod gaps;
 mod heads;
 mod integers;
 pub mod laws;
 mod marks;
+mod meaning_errors;
 mod numbers;
 mod openings;
 mod passes;
@@ -75,21 +103,21 @@ mod quick_items;
 mod readers;
 mod refusals;
 mod showing;
-mod slips;
 mod starts;
 mod states;
 mod steps;
 mod strings;
 mod texts;
 mod tokens;
+mod white_space;
 mod words;
 mod writing;
 
 pub use faults::{EdnFault, EdnReason, ShowFault};
+pub use meaning_errors::MeaningError;
 pub use passes::{read_shortest, read_text};
 pub use readers::read_notation;
 pub use showing::show;
-pub use slips::Slip;
 pub use starts::start_at;
 pub use strings::StringKind;
 pub use writing::{push_between, push_escaped, push_indicator, push_simple};

@@ -8,7 +8,7 @@ ghost use Rattle.cborn_edn.specs.devices.Ahead.{IsTokenAt};
 use cborn_lex::{Mark, mark_at};
 
 /// The indicator of the opening bracket at the offset `at` of `text`, and the offset after it.
-/// `None` where what follows the bracket begins as an indicator does and is none.
+/// `None` if an underscore follows the bracket that begins no indicator.
 #[inline(always)]
 pub(crate) fn opening_at(text: &[u8], at: usize) -> Option<(Mark, usize)>
     requires { at < length text.now }
@@ -20,8 +20,8 @@ pub(crate) fn opening_at(text: &[u8], at: usize) -> Option<(Mark, usize)>
     Some((mark?, at + 1 + len))
 }
 
-/// The indicator of the `>>` at the offset `at` of `text`, where a `>` stands, and the offset after
-/// it. `None` where it is no `>>`, or what follows begins as an indicator does and is none.
+/// The indicator of the `>>` at the offset `at` of `text`, where a `>` is, and the offset after it.
+/// `None` if there is no second `>`, or if an underscore follows that begins no indicator.
 #[inline(always)]
 pub(crate) fn embed_end_at(text: &[u8], at: usize) -> Option<(Mark, usize)>
     requires inside { at < length text.now }
@@ -37,7 +37,7 @@ pub(crate) fn embed_end_at(text: &[u8], at: usize) -> Option<(Mark, usize)>
     Some((mark?, second + 1 + len))
 }
 
-/// Whether a `<<` stands at the offset `at` of `text`, where a `<` stands.
+/// Whether the `<` at the offset `at` of `text` is the first of a `<<`.
 #[inline(always)]
 pub(crate) fn embeds_at(text: &[u8], at: usize) -> bool
     requires inside { at < length text.now }
@@ -49,7 +49,7 @@ pub(crate) fn embeds_at(text: &[u8], at: usize) -> bool
     second < text.len() && text[second] == b'<'
 }
 
-/// Whether a `(_` and a space stand at the offset `at` of `text`, where a `(` stands.
+/// Whether an underscore and a space follow the `(` at the offset `at` of `text`.
 #[inline(always)]
 pub(crate) fn opens_chunks_at(text: &[u8], at: usize) -> bool
     requires inside { at < length text.now }

@@ -1,9 +1,9 @@
-//! Integers, tags and simple values of tokens that were read.
+//! Integers, tags and simple values: their heads, and what is wrong with their indicators.
 
 ghost use Rattle.std.specs.Prelude.{◌≡◌, ◌++◌, ℕ, Bool, List, length, OnOk, if◌then◌else◌};
 ghost use Rattle.cborn_lex.specs.declared.classes.Mark.{Mark as Indicator};
-ghost use Rattle.cborn_edn.specs.shared.Syntax.{Span as Place, number, word, simple};
-ghost use Rattle.cborn_edn.specs.shared.Machine.{Stack, wants, has, wants_number, has_number};
+ghost use Rattle.cborn_edn.specs.devices.Syntax.{Span as Place, number, word, simple};
+ghost use Rattle.cborn_edn.specs.devices.Machine.{Stack, wants, has, wants_number, has_number};
 ghost use Rattle.cborn_edn.specs.declared.states.Writer.{Writer as Writing};
 ghost use Rattle.cborn_edn.specs.devices.Shows.{Shows, Leads};
 ghost use Rattle.std.specs.Int.Digits.{digits_of};
@@ -13,21 +13,29 @@ ghost use Rattle.cborn_model.specs.declared.heads.Width.TheVariants.{Direct};
 ghost use Rattle.cborn_model.specs.Tree.{Simple};
 ghost use Rattle.cborn_model.specs.Spelled.{spelled, string};
 ghost use Rattle.cborn_edn.specs.Says as says;
-ghost use Rattle.cborn_edn.specs.devices.Slips.{Notes};
+ghost use Rattle.cborn_edn.specs.devices.MeaningErrors.{Notes};
 ghost use Rattle.cborn_edn.specs.devices.Laid.{cut};
 
 use crate::heads::{push_head, set_head};
-use crate::slips::{note, note_unless, note_width};
-use crate::states::{Here, Stand, Writer};
-use crate::{EdnReason, Slip};
+use crate::meaning_errors::{note, note_unless, note_width};
+use crate::states::{Here, Phase, Writer};
+use crate::{EdnReason, MeaningError};
 use cborn_lex::Mark;
 use cborn_model::{Major, Width, is_simple_value, shortest};
 use std::alloc::AllocError;
 
-/// The first number that doesn't fit 64 bits.
+/// The number of a token: `magnitude`, or `-magnitude` if `negative`, with its indicator.
+#[derive(Clone, Copy)]
+pub(crate) struct Numeral {
+    pub(crate) negative: bool,
+    pub(crate) magnitude: u128,
+    pub(crate) mark: Mark,
+}
+
+/// The lowest number that doesn't fit 64 bits.
 const OUTSIDE: u128 = 18446744073709551616;
 
-/// The width of a head with the argument `n` under an indicator.
+/// The width of a head with the argument `n`: the one that the indicator asks for, or the shortest.
 #[inline(always)]
 pub(crate) fn width_for(mark: Mark, n: u64) -> Width
     ensures { result ≡ says.width mark n }
@@ -38,7 +46,7 @@ pub(crate) fn width_for(mark: Mark, n: u64) -> Width
     }
 }
 
-/// `n` for `n`, and for `-1-n`.
+/// The argument of the head of an integer: `n` for the integer `n`, and `n` for `-1-n`.
 #[inline(always)]
 fn argument_of(negative: bool, magnitude: u128) -> u128
     ensures { result ≡ says.argument_of negative magnitude }
@@ -50,7 +58,7 @@ fn argument_of(negative: bool, magnitude: u128) -> u128
     }
 }
 
-/// Whether it is below zero; -0 isn't.
+/// Whether an integer is below zero, as -0 isn't.
 #[inline(always)]
 fn is_below(negative: bool, magnitude: u128) -> bool
     ensures { result ≡ says.is_below negative magnitude }
@@ -58,7 +66,7 @@ fn is_below(negative: bool, magnitude: u128) -> bool
     negative && magnitude > 0
 }
 
-/// Whether an integer is from -2^64 to 2^64-1, so that it needs no tag.
+/// Whether an integer is from -2^64 to 2^64-1. Any other is written as a tag over a byte string.
 #[inline(always)]
 pub(crate) fn is_small(negative: bool, magnitude: u128) -> bool
     ensures { result ≡ says.is_small negative magnitude }
@@ -66,16 +74,27 @@ pub(crate) fn is_small(negative: bool, magnitude: u128) -> bool
     argument_of(negative, magnitude) < OUTSIDE
 }
 
-/// Notes what is wrong with the indicator of an integer: `magnitude`, or `-magnitude`.
+/// Notes what is wrong with the indicator at `place` of an integer: `magnitude`, or `-magnitude`.
 #[inline(always)]
-fn note_number(negative: bool, magnitude: u128, mark: Mark, place: usize, slip: &mut Option<Slip>)
-    ensures { Notes slip.old slip.new (says.number_slips place negative magnitude mark) }
+fn note_number(
+    negative: bool,
+    magnitude: u128,
+    mark: Mark,
+    place: usize,
+    error: &mut Option<MeaningError>,
+)
+    ensures { Notes error.old error.new (says.number_errors place negative magnitude mark) }
 {
     let argument = argument_of(negative, magnitude);
     if argument >= OUTSIDE {
-        note_unless(is_absent(mark), place, EdnReason::IndicatorNotAllowed, slip);
+        note_unless(
+            is_absent(mark),
+            place,
+            EdnReason::IndicatorNotAllowed,
+            error,
+        );
     } else {
-        note_width(mark, argument as u64, place, slip);
+        note_width(mark, argument as u64, place, error);
     }
 }
 
@@ -103,7 +122,7 @@ fn push_number(
     push_head(major, width_for(mark, n), n, out)
 }
 
-/// Appends the tag over the shortest bytes of `n`.
+/// Appends an integer outside 64 bits as a tag over the shortest bytes of its argument `n`.
 #[cold]
 #[inline(never)]
 fn push_bignum(below: bool, n: u128, out: &mut Vec<u8>) -> Result<(), AllocError>
@@ -117,7 +136,7 @@ fn push_bignum(below: bool, n: u128, out: &mut Vec<u8>) -> Result<(), AllocError
     set_head(Major::ByteString, shortest(len), len, start, out)
 }
 
-/// The tag of a bignum (RFC 8949 section 3.4.3).
+/// The tag number of an integer outside 64 bits: 3 below zero, else 2 (RFC 8949 section 3.4.3).
 fn bignum_tag(below: bool) -> u64
     ensures { result ≡ (if below then 3 else 2) }
 {
@@ -145,17 +164,17 @@ pub(crate) fn is_absent(mark: Mark) -> bool
 
 /// Notes what is wrong with the number of a tag, and with its indicator.
 #[inline(always)]
-pub(crate) fn note_tag(number: u128, mark: Mark, place: usize, slip: &mut Option<Slip>)
-    ensures { Notes slip.old slip.new (says.tag_slips place mark number) }
+pub(crate) fn note_tag(number: u128, mark: Mark, place: usize, error: &mut Option<MeaningError>)
+    ensures { Notes error.old error.new (says.tag_errors place mark number) }
 {
     if number < OUTSIDE {
-        note_width(mark, number as u64, place, slip);
+        note_width(mark, number as u64, place, error);
     } else {
-        note(place, EdnReason::TagTooLarge, slip);
+        note(place, EdnReason::TagTooLarge, error);
     }
 }
 
-/// Appends a tag's head. Of a number outside 64 bits its low bits are written.
+/// Appends the head of a tag. Of a number outside 64 bits the low bits are written.
 pub(crate) fn push_tag(number: u128, mark: Mark, out: &mut Vec<u8>) -> Result<(), AllocError>
     ensures { OnOk result (out.new.items ≡ out.old.items ++ cut (head Tag (Given (says.width mark number) number))) }
 {
@@ -170,30 +189,34 @@ pub(crate) fn push_tag(number: u128, mark: Mark, out: &mut Vec<u8>) -> Result<()
     push_low(Major::Tag, width, number, out)
 }
 
-/// Appends a head with the low bits of `n`.
+/// Appends a head whose argument is the low 64 bits of `n`.
 fn push_low(major: Major, width: Width, n: u128, out: &mut Vec<u8>) -> Result<(), AllocError>
     ensures { OnOk result (out.new.items ≡ out.old.items ++ cut (head_bytes (code major) width n)) }
 {
     push_head(major, width, (n % OUTSIDE) as u64, out)
 }
 
-/// Appends the simple value of a number at `place`, after the `simple(` at `opened`. Where there is
-/// no such value its low bits are written.
+/// Appends the simple value of a number at `place`, whose `simple(` is at `opened`, and notes what
+/// is wrong with both. If there is no such simple value, low bits of the number are written.
 pub(crate) fn push_simple(
-    negative: bool,
-    magnitude: u128,
-    mark: Mark,
+    numeral: Numeral,
     opened: usize,
     place: usize,
     out: &mut Vec<u8>,
-    slip: &mut Option<Slip>,
+    error: &mut Option<MeaningError>,
 ) -> Result<(), AllocError>
-    ensures added { OnOk result (out.new.items ≡ out.old.items ++ cut (spelled (Simple opened magnitude))) }
-    ensures noted { OnOk result (Notes slip.old slip.new (says.simple_slips opened place negative magnitude mark)) }
+    ensures added { OnOk result (out.new.items ≡ out.old.items ++ cut (spelled (Simple opened numeral.magnitude))) }
+    ensures noted { OnOk result (Notes error.old error.new (says.simple_errors opened place numeral.negative numeral.magnitude numeral.mark)) }
 {
-    let good = is_simple(negative, magnitude);
-    note_unless(good, opened, EdnReason::BadSimple, slip);
-    note_unless(is_absent(mark), place, EdnReason::IndicatorNotAllowed, slip);
+    let magnitude = numeral.magnitude;
+    let good = is_simple(numeral.negative, magnitude);
+    note_unless(good, opened, EdnReason::BadSimple, error);
+    note_unless(
+        is_absent(numeral.mark),
+        place,
+        EdnReason::IndicatorNotAllowed,
+        error,
+    );
     if magnitude < OUTSIDE {
         let n = magnitude as u64;
         return push_head(Major::Other, shortest(n), n, out);
@@ -201,72 +224,71 @@ pub(crate) fn push_simple(
     push_low(Major::Other, Width::Eight, magnitude, out)
 }
 
-/// Whether there is such a simple value.
+/// Whether there is a simple value with this number.
 fn is_simple(negative: bool, magnitude: u128) -> bool
     ensures { result ≡ says.is_simple negative magnitude }
 {
     !is_below(negative, magnitude) && magnitude < 256 && is_simple_value(magnitude as u64)
 }
 
-/// An integer, as an item.
+/// Writes an integer, which is an item.
 #[inline(always)]
 pub(crate) fn put_number(
-    negative: bool,
-    magnitude: u128,
-    mark: Mark,
+    numeral: Numeral,
     place: usize,
     here: &mut Here,
     writer: &mut Writer,
 ) -> Result<(), AllocError>
-    ensures shows { OnOk result ((st : Stack) (a : Place) → place ≡ a.start → Leads here.old writer.old here.new writer.new (wants st) (has st (number a negative magnitude mark))) }
+    ensures shows { OnOk result ((st : Stack) (a : Place) → place ≡ a.start → Leads here.old writer.old here.new writer.new (wants st) (has st (number a numeral.negative numeral.magnitude numeral.mark))) }
     ensures heads { OnOk result (writer.new.heads ≡ writer.old.heads) }
 {
-    here.stand = Stand::Has;
-    note_number(negative, magnitude, mark, place, &mut writer.slip);
+    let Numeral {
+        negative,
+        magnitude,
+        mark,
+    } = numeral;
+    here.phase = Phase::Has;
+    note_number(negative, magnitude, mark, place, &mut writer.error);
     let mark = writer.written(mark);
     push_number(negative, magnitude, mark, &mut writer.out)
 }
 
-/// A word for the simple value `n`, as an item.
+/// Writes the simple value `n` of a word, which is an item.
 #[inline(always)]
 pub(crate) fn put_word(n: u8, here: &mut Here, writer: &mut Writer) -> Result<(), AllocError>
     ensures shows { OnOk result ((st : Stack) (a : Place) → Leads here.old writer.old here.new writer.new (wants st) (has st (word a n))) }
     ensures heads { OnOk result (writer.new.heads ≡ writer.old.heads) }
 {
-    here.stand = Stand::Has;
+    here.phase = Phase::Has;
     let n = n as u64;
     push_head(Major::Other, shortest(n), n, &mut writer.out)
 }
 
-/// The number in `simple(..)`.
+/// Writes the simple value of the number in `simple(..)`.
 #[inline(always)]
 pub(crate) fn put_simple(
-    negative: bool,
-    magnitude: u128,
-    mark: Mark,
+    numeral: Numeral,
     place: usize,
     here: &mut Here,
     writer: &mut Writer,
 ) -> Result<(), AllocError>
-    ensures shows { OnOk result ((st : Stack) (s a : Place) → place ≡ a.start → Leads here.old writer.old here.new writer.new (wants_number st s) (has_number st s a negative magnitude mark)) }
+    ensures shows { OnOk result ((st : Stack) (s a : Place) → place ≡ a.start → Leads here.old writer.old here.new writer.new (wants_number st s) (has_number st s a numeral.negative numeral.magnitude numeral.mark)) }
     ensures heads { OnOk result (writer.new.heads ≡ writer.old.heads) }
 {
-    here.stand = Stand::HasNumber;
+    here.phase = Phase::HasNumber;
     push_simple(
-        negative,
-        magnitude,
-        mark,
+        numeral,
         writer.simple,
         place,
         &mut writer.out,
-        &mut writer.slip,
+        &mut writer.error,
     )
 }
 
-/// The end of `simple(..)`.
+/// Ends `simple(..)`, which is then an item.
 #[inline(always)]
 pub(crate) fn close_simple(here: &mut Here)
     ensures { (w : Writing) (out : List ℕ) (st : Stack) (s b a : Place) (n : Bool) (v : ℕ) (m : Indicator) → Shows here.old w out (has_number st s b n v m) → Shows here.new w out (has st (simple s b n v m a)) }
 {
-    here.stand = Stand::Has;
+    here.phase = Phase::Has;
 }

@@ -1,20 +1,20 @@
-//! Brackets that open.
+//! Brackets that open, each of which becomes the innermost one, and `(_` and `simple(`.
 
 ghost use Rattle.std.specs.Prelude.{◌≡◌, ℕ, ◌++◌, ◌∷◌, [], List, length, Some, None, OnOk};
-ghost use Rattle.cborn_edn.specs.shared.Syntax.{Span as Place, Pieces as Joined, no_item, no_pair, no_string};
-ghost use Rattle.cborn_edn.specs.shared.Machine.{Stack, in_row, in_key, in_tag, in_array, in_embed, Home, wants, builds, wants_chunk, wants_number};
-ghost use Rattle.cborn_edn.specs.shared.Machine.{at_home};
-ghost use Rattle.cborn_edn.specs.declared.states.Stand.TheVariants.{Wants};
+ghost use Rattle.cborn_edn.specs.devices.Syntax.{Span as Place, Pieces as Joined, no_item, no_pair, no_string};
+ghost use Rattle.cborn_edn.specs.devices.Machine.{Stack, in_row, in_key, in_tag, in_array, in_embed, Home, wants, builds, wants_chunk, wants_number};
+ghost use Rattle.cborn_edn.specs.devices.Machine.{at_home};
+ghost use Rattle.cborn_edn.specs.declared.states.Phase.TheVariants.{Wants};
 ghost use Rattle.cborn_edn.specs.devices.Laid.{place_of};
 ghost use Rattle.cborn_edn.specs.devices.Shows.{Shows, Leads};
 
 use crate::numbers::{note_tag, push_tag};
-use crate::states::{Around, Chunks, Frame, Here, Level, Stand, Writer};
+use crate::states::{Around, Chunks, Here, Level, OpenBracket, Phase, Writer};
 use cborn_lex::Mark;
 use cborn_model::Major;
 use std::alloc::AllocError;
 
-/// An array opens at `place`.
+/// Opens an array at `place`.
 #[inline(always)]
 pub(crate) fn open_array(
     mark: Mark,
@@ -27,10 +27,17 @@ pub(crate) fn open_array(
 {
     let start = writer.out.len();
     push_place(Major::Array, mark, &mut writer.out)?;
-    open_frame(Level::Array, mark, start, place, here, writer)
+    let bracket = OpenBracket {
+        place,
+        start,
+        count: here.count,
+        level: here.level,
+        mark,
+    };
+    open_bracket(Level::Array, bracket, here, writer)
 }
 
-/// A map opens at `place`.
+/// Opens a map at `place`.
 #[inline(always)]
 pub(crate) fn open_map(
     mark: Mark,
@@ -43,10 +50,18 @@ pub(crate) fn open_map(
 {
     let start = writer.out.len();
     push_place(Major::Map, mark, &mut writer.out)?;
-    open_frame(Level::Key, mark, start, place, here, writer)
+    let bracket = OpenBracket {
+        place,
+        start,
+        count: here.count,
+        level: here.level,
+        mark,
+    };
+    open_bracket(Level::Key, bracket, here, writer)
 }
 
-/// Writes a byte in the place of a head, or the head where the length is indefinite.
+/// Writes the head of an array or a map of indefinite length, or else a byte in the place of the
+/// head.
 #[inline(always)]
 fn push_place(major: Major, mark: Mark, out: &mut Vec<u8>) -> Result<(), AllocError>
     ensures { OnOk result (out.new.items ≡ out.old.items ++ place_of major mark) }
@@ -59,7 +74,7 @@ fn push_place(major: Major, mark: Mark, out: &mut Vec<u8>) -> Result<(), AllocEr
     Ok(())
 }
 
-/// A tag opens at `place`.
+/// Opens a tag at `place`: its head is written, and the item that it encloses is wanted.
 #[inline(always)]
 pub(crate) fn open_tag(
     number: u128,
@@ -71,14 +86,21 @@ pub(crate) fn open_tag(
     ensures shows { OnOk result ((st : Stack) (a : Place) → place ≡ a.start → Leads here.old writer.old here.new writer.new (wants st) (wants (in_tag st a number mark))) }
     ensures heads { OnOk result (writer.new.heads ≡ writer.old.heads) }
 {
-    note_tag(number, mark, place, &mut writer.slip);
+    note_tag(number, mark, place, &mut writer.error);
     let mark = writer.written(mark);
     push_tag(number, mark, &mut writer.out)?;
-    open_frame(Level::Tag, Mark::Absent, 0, 0, here, writer)
+    let bracket = OpenBracket {
+        place: 0,
+        start: 0,
+        count: here.count,
+        level: here.level,
+        mark: Mark::Absent,
+    };
+    open_bracket(Level::Tag, bracket, here, writer)
 }
 
-/// A sequence opens at `place` inside a string. Before it stand the bytes of the pieces so far; or,
-/// where there are none, a byte in the place of the string's head, at `start`.
+/// Opens a `<<` at `place`. The output ends with the pieces of the string that were read before,
+/// or, if it is the first piece, with a byte in the place of the string's head, at `start`.
 #[inline(always)]
 pub(crate) fn open_embedded(
     start: usize,
@@ -97,16 +119,23 @@ pub(crate) fn open_embedded(
     let around = Around {
         string: writer.string,
         chunks: writer.chunks,
-        slip: writer.slip,
+        error: writer.error,
     };
     writer.around.open(around)?;
     writer.string = None;
     writer.chunks = None;
-    writer.slip = None;
-    open_frame(Level::Embedded, Mark::Absent, start, place, here, writer)
+    writer.error = None;
+    let bracket = OpenBracket {
+        place,
+        start,
+        count: here.count,
+        level: here.level,
+        mark: Mark::Absent,
+    };
+    open_bracket(Level::Embedded, bracket, here, writer)
 }
 
-/// A string in chunks opens.
+/// Opens a string in chunks.
 #[inline(always)]
 pub(crate) fn open_chunks(here: &mut Here, writer: &mut Writer) -> Result<(), AllocError>
     ensures shows { OnOk result ((st : Stack) (a : Place) → Leads here.old writer.old here.new writer.new (wants st) (wants_chunk st a no_string)) }
@@ -115,42 +144,33 @@ pub(crate) fn open_chunks(here: &mut Here, writer: &mut Writer) -> Result<(), Al
     let start = writer.out.len();
     writer.out.push(0)?;
     writer.chunks = Some(Chunks { start, kind: None });
-    here.stand = Stand::WantsChunk;
+    here.phase = Phase::WantsChunk;
     Ok(())
 }
 
-/// A simple value opens at `place`.
+/// Opens `simple(` at `place`.
 pub(crate) fn open_simple(place: usize, here: &mut Here, writer: &mut Writer)
     ensures shows { (st : Stack) (a : Place) → place ≡ a.start → Leads here.old writer.old here.new writer.new (wants st) (wants_number st a) }
     ensures heads { writer.new.heads ≡ writer.old.heads }
 {
     writer.simple = place;
-    here.stand = Stand::WantsNumber;
+    here.phase = Phase::WantsNumber;
 }
 
-/// One more frame, in which an item is wanted.
+/// Opens a bracket, in which an item is wanted.
 #[inline(always)]
-fn open_frame(
+fn open_bracket(
     level: Level,
-    mark: Mark,
-    start: usize,
-    place: usize,
+    bracket: OpenBracket,
     here: &mut Here,
     writer: &mut Writer,
 ) -> Result<(), AllocError>
-    ensures here { OnOk result (here.new ≡ record { at = here.old.at; count = 0; stand = Wants; level = Some level }) }
-    ensures writer { OnOk result (writer.new ≡ record writer.old { frames = record { place = place; start = start; count = here.old.count; level = here.old.level; mark = mark } ∷ writer.old.frames }) }
+    ensures here { OnOk result (here.new ≡ record { at = here.old.at; count = 0; phase = Wants; level = Some level }) }
+    ensures writer { OnOk result (writer.new ≡ record writer.old { brackets = bracket ∷ writer.old.brackets }) }
 {
-    let frame = Frame {
-        place,
-        start,
-        count: here.count,
-        level: here.level,
-        mark,
-    };
-    writer.frames.open(frame)?;
+    writer.brackets.open(bracket)?;
     here.count = 0;
-    here.stand = Stand::Wants;
+    here.phase = Phase::Wants;
     here.level = Some(level);
     Ok(())
 }

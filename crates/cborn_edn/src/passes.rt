@@ -1,37 +1,37 @@
-//! A whole text, read token by token to its bytes or its first fault.
+//! A whole text, read token by token: its bytes, or why it has none.
 
 ghost use Rattle.std.specs.Prelude.{◌≡◌, ◌≤◌, ◌<◌, ◌^◌, length, IfOk, IfErr, OnOk};
 ghost use Rattle.cborn_edn.specs.Faults.{IsNoNotation};
-ghost use Rattle.cborn_edn.specs.shared.Machine.{State, start};
+ghost use Rattle.cborn_edn.specs.devices.Machine.{State, start};
 ghost use Rattle.cborn_edn.specs.Spelling.{IsSpelling, IsShortSpelling};
 ghost use Rattle.cborn_edn.specs.devices.Written.{IsSpellingAs};
 ghost use Rattle.cborn_edn.specs.devices.Reading as pure;
 ghost use Rattle.cborn_edn.specs.devices.Reading.{IsReading, Judged, Last, AtEnd};
 ghost use Rattle.cborn_edn.specs.devices.Modest.{AreModest};
-ghost use Rattle.cborn_edn.specs.shared.Syntax.{Input};
-ghost use Rattle.cborn_edn.specs.shared.Machine.{held};
+ghost use Rattle.cborn_edn.specs.devices.Syntax.{Input};
+ghost use Rattle.cborn_edn.specs.devices.Machine.{held};
 ghost use Rattle.cborn_edn.specs.devices.Shows.{Shows};
 
 use crate::endings::has_chunks;
 use crate::quick::take_common;
 use crate::refusals::{first_fault, refused};
-use crate::states::{Arounds, Chunks, Frames, Heads, Here, Level, Stand, Writer};
+use crate::states::{Arounds, Brackets, Chunks, Heads, Here, Level, Phase, Writer};
 use crate::steps::take;
 use crate::strings::end_item;
-use crate::tokens::{is_spare, reach_of, read_token};
+use crate::tokens::{is_trailing_comma, reach_of, read_token};
 use crate::{EdnFault, EdnReason};
 use cborn_lex::Profile;
 use cborn_model::Limit;
 use std::alloc::{AllocError, Global};
 
-/// The bytes that the nodes spell which `text` notates under that profile of the notation, none of
-/// them deeper than `limit` (RFC 8949 section 8, RFC 8610 appendix G). The text is looked at once.
+/// The bytes that the nodes spell which `text` notates in that profile of the notation, none of
+/// them deeper than `limit` (RFC 8949 section 8, RFC 8610 appendix G). The text is read once.
 ///
 /// # Errors
-/// A text without tokens is `Lex`. Else `Refused` has the offset, in bytes from the start of the
-/// text, of the first token with which no text of the grammar within the limit goes on, or of the
-/// text's end; else of the meaning error of least place, and there of least number. `OutOfMemory`
-/// where memory was refused.
+/// `Lex` if a part of the text is no token. Else `Refused` with the syntax error: the offset of the
+/// first token with which no text of the grammar within the limit goes on, or of the text's end, in
+/// bytes from the start of the text. Else `Refused` with the meaning error of the lowest place, and
+/// there of the lowest number. `OutOfMemory` if memory was refused.
 pub fn read_text(
     alloc: Global,
     limit: Limit,
@@ -44,13 +44,14 @@ pub fn read_text(
     read_as(alloc, limit, profile, text, Heads::AsWritten)
 }
 
-/// The bytes that the nodes spell which `text` notates under that profile of the notation, none of
-/// them deeper than `limit`, after each head was made the shortest of its argument (RFC 8949 section
-/// 4.2.1). An indefinite length stays indefinite, and the content of a string stays what it is. The
-/// text is looked at once.
+/// The bytes that the nodes spell which `text` notates in that profile of the notation, none of
+/// them deeper than `limit`, with each head in its shortest form (RFC 8949 sections 8 and 4.2.1,
+/// RFC 8610 appendix G). An indefinite length stays indefinite, and the content of a string stays
+/// what it is. The text is read once.
 ///
 /// # Errors
-/// Those of [`read_text`](crate::read_text): indicators are judged as they are written.
+/// Those of [`read_text`](crate::read_text): a number still has to fit the width that its indicator
+/// asks for.
 pub fn read_shortest(
     alloc: Global,
     limit: Limit,
@@ -63,7 +64,7 @@ pub fn read_shortest(
     read_as(alloc, limit, profile, text, Heads::Shortest)
 }
 
-/// The bytes that a text spells, with its heads written so.
+/// The bytes that the nodes of a text spell, with heads as `heads` says.
 ///
 /// # Errors
 /// Those of `read_text`.
@@ -83,7 +84,7 @@ fn read_as(
 }
 
 impl Writer {
-    /// Nothing yet, with room for so many bytes.
+    /// Nothing is written, with room for `room` bytes.
     pub(crate) fn new(alloc: Global, room: usize, heads: Heads) -> Result<Writer, AllocError>
         ensures shows { IfOk result (λ w. Shows Here.FIRST w w.out.items start) }
         ensures heads { IfOk result (λ w. w.heads ≡ heads) }
@@ -91,17 +92,17 @@ impl Writer {
         Ok(Writer {
             heads,
             out: Vec::with_capacity(alloc, room)?,
-            frames: Frames::new(alloc),
+            brackets: Brackets::new(alloc),
             around: Arounds::new(alloc),
             string: None,
             chunks: None,
             simple: 0,
-            slip: None,
+            error: None,
         })
     }
 }
 
-/// Reads all tokens, from the start of the text to its end.
+/// Reads all tokens of the text, and gives where the reader then is.
 fn read_tokens(
     alloc: Global,
     limit: Limit,
@@ -126,7 +127,7 @@ fn read_tokens(
     Ok(here)
 }
 
-/// Reads one token.
+/// Reads one token, or the white space up to the text's end.
 fn step(
     alloc: Global,
     limit: Limit,
@@ -143,14 +144,14 @@ fn step(
     ensures heads { OnOk result (writer.new.heads ≡ writer.old.heads) }
 {
     let start = bounded_len(&writer.out);
-    let (at, stand) = (here.at, here.stand);
+    let (at, phase) = (here.at, here.phase);
     let mut number: u128 = 0;
     let found = read_token(
         alloc,
         profile,
         text,
         at,
-        stand,
+        phase,
         &mut number,
         &mut writer.out,
     )?;
@@ -158,10 +159,10 @@ fn step(
         here.at = text.len();
         return Ok(());
     };
-    let reach = reach_of(writer.frames.count(), token.kind, number);
-    let spare = is_spare(profile, stand, token.kind);
+    let reach = reach_of(writer.brackets.count(), token.kind, number);
+    let trailing = is_trailing_comma(profile, phase, token.kind);
     let taken = take(token, number, start, here, writer)?;
-    if let Some(reason) = judge(spare, taken, reach, limit) {
+    if let Some(reason) = judge(trailing, taken, reach, limit) {
         let fault = refused(token.start, reason);
         return Err(first_fault(alloc, profile, text, token.stop, fault));
     }
@@ -169,13 +170,14 @@ fn step(
     Ok(())
 }
 
-/// Why no text of the grammar within the limit goes on with a token, if none does: a bracket may be
-/// `spare`, the grammar may have no such token there, or it may go too deep.
+/// Why no text of the grammar within the limit goes on with a token, if none does. `trailing` says
+/// that it ends a bracket after a comma in profile 1, `taken` that the grammar has such a token
+/// there, and `reach` how deep it goes.
 #[inline(always)]
-fn judge(spare: bool, taken: bool, reach: u64, limit: Limit) -> Option<EdnReason>
-    ensures { Judged spare taken reach limit result }
+fn judge(trailing: bool, taken: bool, reach: u64, limit: Limit) -> Option<EdnReason>
+    ensures { Judged trailing taken reach limit result }
 {
-    if spare {
+    if trailing {
         return Some(EdnReason::UnexpectedToken);
     }
     if !taken {
@@ -187,7 +189,7 @@ fn judge(spare: bool, taken: bool, reach: u64, limit: Limit) -> Option<EdnReason
     None
 }
 
-/// How many bytes there are.
+/// How many bytes there are, which is below 2^63.
 #[inline(always)]
 pub(crate) fn bounded_len(out: &Vec<u8>) -> usize
     ensures len { result ≡ length out.now.items }
@@ -196,7 +198,7 @@ pub(crate) fn bounded_len(out: &Vec<u8>) -> usize
     out.len()
 }
 
-/// The bytes, where the text may end here, or the first meaning error.
+/// The bytes at the text's end, or the first meaning error, or that the text has to go on.
 fn finish(
     limit: Limit,
     profile: Profile,
@@ -209,50 +211,50 @@ fn finish(
     ensures spelled { IfOk result (λ bytes. IsSpellingAs writer.heads profile limit text.now bytes.items) }
     ensures refused { IfErr result (IsNoNotation profile limit text.now) }
 {
-    if !may_end(here.stand, here.level, writer.chunks) {
+    if !may_end(here.phase, here.level, writer.chunks) {
         return Err(refused(text.len(), EdnReason::UnexpectedEnd));
     }
     let mut writer = writer;
     end_last(here, &mut writer)?;
-    let Writer { out, slip, .. } = writer;
-    match slip {
-        Some(slip) => Err(EdnFault::Refused {
-            place: slip.place,
-            reason: slip.reason,
+    let Writer { out, error, .. } = writer;
+    match error {
+        Some(error) => Err(EdnFault::Refused {
+            place: error.place,
+            reason: error.reason,
         }),
         None => Ok(out),
     }
 }
 
-/// Whether the text may end here.
-fn may_end(stand: Stand, level: Option<Level>, chunks: Option<Chunks>) -> bool
-    ensures { result ≡ pure.may_end stand level chunks }
+/// Whether a text may end in this phase: no bracket is open, and nothing else has to follow.
+fn may_end(phase: Phase, level: Option<Level>, chunks: Option<Chunks>) -> bool
+    ensures { result ≡ pure.may_end phase level chunks }
 {
-    match (stand, level) {
-        (Stand::Wants, None) => true,
-        (Stand::Has, None) => true,
-        (Stand::Builds, None) => !has_chunks(chunks),
+    match (phase, level) {
+        (Phase::Wants, None) => true,
+        (Phase::Has, None) => true,
+        (Phase::Builds, None) => !has_chunks(chunks),
         _ => false,
     }
 }
 
-/// Ends the last string, where the text ends with one.
+/// Ends the last string, if the text ends with one.
 fn end_last(here: Here, writer: &mut Writer) -> Result<(), AllocError>
     requires { (s : State) × (t : Input) × Last s t × Shows here writer.old writer.old.out.items s }
     ensures shows { OnOk result ((s : State) (t : Input) → Last s t → AreModest (held s) → Shows here writer.old writer.old.out.items s → AtEnd t writer.new) }
     ensures heads { OnOk result (writer.new.heads ≡ writer.old.heads) }
 {
     let mut here = here;
-    if ends_string(here.stand) {
+    if ends_string(here.phase) {
         return end_item(&mut here, writer);
     }
     Ok(())
 }
 
-/// Whether pieces of a string stand there.
+/// Whether pieces of a string were read last.
 #[inline(always)]
-fn ends_string(stand: Stand) -> bool
-    ensures { result ≡ pure.ends_string stand }
+fn ends_string(phase: Phase) -> bool
+    ensures { result ≡ pure.ends_string phase }
 {
-    matches!(stand, Stand::Builds)
+    matches!(phase, Phase::Builds)
 }

@@ -1,8 +1,8 @@
-//! Nodes that are read from bytes, with their places in the text that spells them.
+//! Nodes that are read from bytes, with their places in the text that spells the bytes.
 //!
-//! The reader of bytes says where each node stands in the bytes. Nodes that spell the same bytes
-//! are the same but for their places, and those of a text follow from its tokens alone (`starts`),
-//! in the order of their heads. So each node and each chunk that was read takes the next of them.
+//! Nodes that are read from bytes have places in the bytes. Nodes that spell the same bytes are the
+//! same but for their places, and the places in the text follow from its tokens alone (`starts`),
+//! in the order of their heads. So each node and each chunk gets the next place of the text.
 
 ghost use Rattle.std.specs.Prelude.{◌≡◌, ℕ, IfOk};
 ghost use Rattle.cborn_model.specs.Spelled.{Wellformed};
@@ -19,12 +19,12 @@ use cborn_wire::{WireFault, read_all};
 use std::alloc::{AllocError, Global};
 use std::mem;
 
-/// The nodes that spell `bytes`, with their places in the text, under that profile of the notation.
-/// The text has to notate nodes that spell them, none deeper than `limit`. The memory of the bytes is
-/// given up before the text is read again.
+/// The nodes that spell `bytes`, with their places in `text`. The text has to notate, in that
+/// profile of the notation, nodes that spell these bytes, none deeper than `limit`. The bytes are
+/// freed before the text is read again.
 ///
 /// # Errors
-/// Where memory was refused.
+/// `AllocError` if memory was refused.
 pub(crate) fn placed(
     alloc: Global,
     limit: Limit,
@@ -54,29 +54,29 @@ fn read_wellformed(alloc: Global, limit: Limit, bytes: &[u8]) -> Result<Vec<Spel
     }
 }
 
-/// Puts places into items and all that stands in them, in the order of their heads. Takes no
+/// Puts places into items and all nodes and chunks in them, in the order of their heads. Takes no
 /// memory.
 fn put_spelled(items: &mut [Spelled], places: &[u64])
     ensures { trees items.new ≡ pure.put_all places.now (trees items.old) }
 {
     let mut left = places;
     for i in 0..items.len() {
-        let item = mem::replace(&mut items[i], blank());
+        let item = mem::replace(&mut items[i], placeholder());
         let mut node = item.into_node();
         left = put_node(&mut node, left);
         items[i] = Spelled::new(node);
     }
 }
 
-/// What stands in the place of an item that is taken out. Takes no memory.
-fn blank() -> Spelled {
+/// An item to put in the place of one that is moved out for a moment. Takes no memory.
+fn placeholder() -> Spelled {
     Spelled::new(Node {
         place: 0,
         form: Form::Simple(0),
     })
 }
 
-/// The first place, or 0 where none is left.
+/// The first place, or 0 if none is left.
 fn first(places: &[u64]) -> u64
     ensures { result ≡ pure.first places.now }
 {
@@ -86,9 +86,9 @@ fn first(places: &[u64]) -> u64
     }
 }
 
-/// The places behind the first, if there are any.
-fn behind(places: &[u64]) -> &[u64]
-    ensures { result.now ≡ pure.behind places.now }
+/// The places after the first, if there are any.
+fn after(places: &[u64]) -> &[u64]
+    ensures { result.now ≡ pure.after places.now }
 {
     if places.is_empty() {
         places
@@ -97,15 +97,15 @@ fn behind(places: &[u64]) -> &[u64]
     }
 }
 
-/// Puts places into a node and all that stands in it, in the order of their heads. Gives the places
-/// that are left.
+/// Puts places into a node and all nodes and chunks in it, in the order of their heads. Gives the
+/// places that are left.
 #[cycle(put_node)]
 fn put_node<'a>(node: &mut Node, places: &'a [u64]) -> &'a [u64]
     ensures node { node.new ≡ pure.put places.now node.old }
     ensures left { result.now ≡ pure.left places.now node.old }
 {
     node.place = first(places);
-    let places = behind(places);
+    let places = after(places);
     match &mut node.form {
         Form::ByteChunks(chunks) => put_chunks(chunks, places),
         Form::TextChunks(chunks) => put_chunks(chunks, places),
@@ -162,7 +162,7 @@ fn put_chunks<'a>(chunks: &mut [Chunk], places: &'a [u64]) -> &'a [u64]
     for i in 0..chunks.len() {
         let chunk = &mut chunks[i];
         chunk.place = first(left);
-        left = behind(left);
+        left = after(left);
     }
     left
 }

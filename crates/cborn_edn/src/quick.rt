@@ -1,27 +1,27 @@
-//! What is common, taken in place: an item and what separates it from the next, one other token, or
-//! white space and comments.
+//! Frequent tokens, taken without the lexer: an item with the comma or colon after it, one other
+//! token, or white space.
 //!
-//! Each answer is whether something was taken. Where nothing was, `steps` is for what stands there.
-//! The functions are all in line, so that where the reader stands is in registers.
+//! Each function answers whether it took something. If it took nothing, `tokens` and `steps` take
+//! what is there. All functions are in line, so that `here` is kept in registers.
 
 ghost use Rattle.std.specs.Prelude.{◌≡◌, ◌≤◌, ◌<◌, ◌⊎◌, true, length, slice_index, IfOk, OnOk};
-ghost use Rattle.cborn_edn.specs.declared.states.Stand.TheVariants as stands;
+ghost use Rattle.cborn_edn.specs.declared.states.Phase.TheVariants as phases;
 ghost use Rattle.cborn_edn.specs.devices.Reading.{IsReading};
 
-use crate::gaps::{begins_gap, skip_gaps};
 use crate::integers::integer_at;
-use crate::numbers::{close_simple, put_simple};
+use crate::numbers::{Numeral, close_simple, put_simple};
 use crate::quick_ends::{take_after, take_after_pieces, take_array_end, take_map_end};
 use crate::quick_items::{
     take_array, take_chunked, take_embedded, take_integer, take_map, take_negative, take_text,
     take_word,
 };
-use crate::states::{Here, Stand, Writer};
+use crate::states::{Here, Phase, Writer};
+use crate::white_space::{begins_white_space, skip_white_space};
 use cborn_lex::Profile;
 use cborn_model::Limit;
 use std::alloc::AllocError;
 
-/// What stands at the place, if it is common.
+/// Takes what is next in the text, if it is frequent.
 #[inline(always)]
 pub(crate) fn take_common(
     limit: Limit,
@@ -37,17 +37,17 @@ pub(crate) fn take_common(
     ensures further { IfOk result (λ ok. ok ≡ true → here.old.at < here.new.at) }
     ensures heads { OnOk result (writer.new.heads ≡ writer.old.heads) }
 {
-    match here.stand {
-        Stand::Wants | Stand::WantsMore => take_item(limit, profile, text, here, writer),
-        Stand::Has => take_after(limit, profile, text, here, writer),
-        Stand::Builds => take_after_pieces(limit, profile, text, here, writer),
-        Stand::WantsNumber => take_simple_number(limit, profile, text, here, writer),
-        Stand::HasNumber => take_simple_end(limit, profile, text, here, writer),
-        Stand::WantsChunk => Ok(false),
+    match here.phase {
+        Phase::Wants | Phase::WantsMore => take_item(limit, profile, text, here, writer),
+        Phase::Has => take_after(limit, profile, text, here, writer),
+        Phase::Builds => take_after_pieces(limit, profile, text, here, writer),
+        Phase::WantsNumber => take_simple_number(limit, profile, text, here, writer),
+        Phase::HasNumber => take_simple_end(limit, profile, text, here, writer),
+        Phase::WantsChunk => Ok(false),
     }
 }
 
-/// An item, and what follows it; or a bracket, or white space and comments.
+/// Takes an item and what follows it, a bracket, or white space, where an item is wanted.
 #[inline(always)]
 fn take_item(
     limit: Limit,
@@ -58,28 +58,28 @@ fn take_item(
 ) -> Result<bool, AllocError>
     requires reading { IsReading profile limit text.now here.old writer.old }
     requires inside { here.old.at < length text.now }
-    requires wanted { (here.old.stand ≡ stands.Wants) ⊎ (here.old.stand ≡ stands.WantsMore) }
+    requires wanted { (here.old.phase ≡ phases.Wants) ⊎ (here.old.phase ≡ phases.WantsMore) }
     ensures read { OnOk result (IsReading profile limit text.now here.new writer.new) }
     ensures on { OnOk result (here.old.at ≤ here.new.at) }
     ensures further { IfOk result (λ ok. ok ≡ true → here.old.at < here.new.at) }
     ensures heads { OnOk result (writer.new.heads ≡ writer.old.heads) }
 {
     let taken = take_first(limit, profile, text, here, writer)?;
-    if taken && has_item(here.stand) && here.at < text.len() {
+    if taken && has_item(here.phase) && here.at < text.len() {
         take_after(limit, profile, text, here, writer)?;
     }
     Ok(taken)
 }
 
-/// Whether an item stands there.
+/// Whether an item was read last.
 #[inline(always)]
-fn has_item(stand: Stand) -> bool
-    ensures { result ≡ true → stand ≡ stands.Has }
+fn has_item(phase: Phase) -> bool
+    ensures { result ≡ true → phase ≡ phases.Has }
 {
-    matches!(stand, Stand::Has)
+    matches!(phase, Phase::Has)
 }
 
-/// An item, a bracket, or white space and comments.
+/// Takes an item, a bracket, or white space, where an item is wanted.
 #[inline(always)]
 fn take_first(
     limit: Limit,
@@ -90,7 +90,7 @@ fn take_first(
 ) -> Result<bool, AllocError>
     requires reading { IsReading profile limit text.now here.old writer.old }
     requires inside { here.old.at < length text.now }
-    requires wanted { (here.old.stand ≡ stands.Wants) ⊎ (here.old.stand ≡ stands.WantsMore) }
+    requires wanted { (here.old.phase ≡ phases.Wants) ⊎ (here.old.phase ≡ phases.WantsMore) }
     ensures read { OnOk result (IsReading profile limit text.now here.new writer.new) }
     ensures on { OnOk result (here.old.at ≤ here.new.at) }
     ensures further { IfOk result (λ ok. ok ≡ true → here.old.at < here.new.at) }
@@ -105,11 +105,11 @@ fn take_first(
         b'f' | b'n' | b't' | b'u' => take_word(limit, profile, text, here, writer),
         b'<' => take_embedded(limit, profile, text, here, writer),
         b'(' => take_chunked(limit, profile, text, here, writer),
-        _ => take_gap(limit, profile, text, here, writer),
+        _ => take_white_space(limit, profile, text, here, writer),
     }
 }
 
-/// The bracket of an array that opens, and the one that ends it, where this is right after it.
+/// Takes a `[`, and also the `]` if it follows directly.
 #[inline(always)]
 fn take_row(
     limit: Limit,
@@ -120,24 +120,24 @@ fn take_row(
 ) -> Result<bool, AllocError>
     requires reading { IsReading profile limit text.now here.old writer.old }
     requires inside { here.old.at < length text.now }
-    requires wanted { (here.old.stand ≡ stands.Wants) ⊎ (here.old.stand ≡ stands.WantsMore) }
+    requires wanted { (here.old.phase ≡ phases.Wants) ⊎ (here.old.phase ≡ phases.WantsMore) }
     requires bracket { slice_index text.now here.old.at ≡ 91 }
     ensures read { OnOk result (IsReading profile limit text.now here.new writer.new) }
     ensures on { OnOk result (here.old.at ≤ here.new.at) }
     ensures further { IfOk result (λ ok. ok ≡ true → here.old.at < here.new.at) }
     ensures heads { OnOk result (writer.new.heads ≡ writer.old.heads) }
 {
-    if !stands_at(b']', text.as_bytes(), here.at + 1) {
+    if !has_byte_at(b']', text.as_bytes(), here.at + 1) {
         return take_array(limit, profile, text, here, writer);
     }
     let taken = take_array(limit, profile, text, here, writer)?;
-    if taken && is_first(here.stand) && stands_at(b']', text.as_bytes(), here.at) {
+    if taken && is_first(here.phase) && has_byte_at(b']', text.as_bytes(), here.at) {
         take_array_end(limit, profile, text, here, writer)?;
     }
     Ok(taken)
 }
 
-/// The bracket of a map that opens, and the one that ends it, where this is right after it.
+/// Takes a `{`, and also the `}` if it follows directly.
 #[inline(always)]
 fn take_pairs(
     limit: Limit,
@@ -148,41 +148,41 @@ fn take_pairs(
 ) -> Result<bool, AllocError>
     requires reading { IsReading profile limit text.now here.old writer.old }
     requires inside { here.old.at < length text.now }
-    requires wanted { (here.old.stand ≡ stands.Wants) ⊎ (here.old.stand ≡ stands.WantsMore) }
+    requires wanted { (here.old.phase ≡ phases.Wants) ⊎ (here.old.phase ≡ phases.WantsMore) }
     requires bracket { slice_index text.now here.old.at ≡ 123 }
     ensures read { OnOk result (IsReading profile limit text.now here.new writer.new) }
     ensures on { OnOk result (here.old.at ≤ here.new.at) }
     ensures further { IfOk result (λ ok. ok ≡ true → here.old.at < here.new.at) }
     ensures heads { OnOk result (writer.new.heads ≡ writer.old.heads) }
 {
-    if !stands_at(b'}', text.as_bytes(), here.at + 1) {
+    if !has_byte_at(b'}', text.as_bytes(), here.at + 1) {
         return take_map(limit, profile, text, here, writer);
     }
     let taken = take_map(limit, profile, text, here, writer)?;
-    if taken && is_first(here.stand) && stands_at(b'}', text.as_bytes(), here.at) {
+    if taken && is_first(here.phase) && has_byte_at(b'}', text.as_bytes(), here.at) {
         take_map_end(limit, profile, text, here, writer)?;
     }
     Ok(taken)
 }
 
-/// Whether the character `c` stands at the offset `at` of `text`.
+/// Whether `text` has the byte `c` at the offset `at`.
 #[inline(always)]
-fn stands_at(c: u8, text: &[u8], at: usize) -> bool
+fn has_byte_at(c: u8, text: &[u8], at: usize) -> bool
     ensures within { result ≡ true → at < length text.now }
     ensures is { result ≡ true → slice_index text.now at ≡ c }
 {
     at < text.len() && text[at] == c
 }
 
-/// Whether an item is wanted, and no comma stands before it.
+/// Whether an item is wanted, and not after a comma.
 #[inline(always)]
-fn is_first(stand: Stand) -> bool
-    ensures { result ≡ true → stand ≡ stands.Wants }
+fn is_first(phase: Phase) -> bool
+    ensures { result ≡ true → phase ≡ phases.Wants }
 {
-    matches!(stand, Stand::Wants)
+    matches!(phase, Phase::Wants)
 }
 
-/// A space, if one stands there.
+/// Takes a space, if there is one.
 #[inline(always)]
 pub(crate) fn skip_space(
     limit: Limit,
@@ -195,14 +195,14 @@ pub(crate) fn skip_space(
     ensures read { IsReading profile limit text.now here.new writer.now }
     ensures on { here.old.at ≤ here.new.at }
 {
-    if stands_at(b' ', text.as_bytes(), here.at) {
+    if has_byte_at(b' ', text.as_bytes(), here.at) {
         here.at += 1;
     }
 }
 
-/// White space and comments.
+/// Takes white space, which comments are part of.
 #[inline(always)]
-pub(crate) fn take_gap(
+pub(crate) fn take_white_space(
     limit: Limit,
     profile: Profile,
     text: &str,
@@ -217,15 +217,15 @@ pub(crate) fn take_gap(
     ensures heads { OnOk result (writer.new.heads ≡ writer.old.heads) }
 {
     let bytes = text.as_bytes();
-    if !begins_gap(bytes[here.at]) {
+    if !begins_white_space(bytes[here.at]) {
         return Ok(false);
     }
     let next = here.at + 1;
-    if bytes[here.at] == b' ' && next < bytes.len() && !begins_gap(bytes[next]) {
+    if bytes[here.at] == b' ' && next < bytes.len() && !begins_white_space(bytes[next]) {
         here.at = next;
         return Ok(true);
     }
-    let Some(stop) = skip_gaps(profile, bytes, here.at) else {
+    let Some(stop) = skip_white_space(profile, bytes, here.at) else {
         return Ok(false);
     };
     let taken = stop > here.at;
@@ -233,7 +233,7 @@ pub(crate) fn take_gap(
     Ok(taken)
 }
 
-/// The number in `simple(..)`.
+/// Takes the number in `simple(..)`.
 #[inline(always)]
 fn take_simple_number(
     limit: Limit,
@@ -244,7 +244,7 @@ fn take_simple_number(
 ) -> Result<bool, AllocError>
     requires reading { IsReading profile limit text.now here.old writer.old }
     requires inside { here.old.at < length text.now }
-    requires number { here.old.stand ≡ stands.WantsNumber }
+    requires number { here.old.phase ≡ phases.WantsNumber }
     ensures read { OnOk result (IsReading profile limit text.now here.new writer.new) }
     ensures on { OnOk result (here.old.at ≤ here.new.at) }
     ensures further { IfOk result (λ ok. ok ≡ true → here.old.at < here.new.at) }
@@ -256,16 +256,20 @@ fn take_simple_number(
     if found.is_tag {
         return Ok(false);
     }
-    if writer.frames.count() > limit.get() {
+    if writer.brackets.count() > limit.get() {
         return Ok(false);
     }
-    let n = found.number as u128;
-    put_simple(false, n, found.mark, here.at, here, writer)?;
+    let numeral = Numeral {
+        negative: false,
+        magnitude: found.number as u128,
+        mark: found.mark,
+    };
+    put_simple(numeral, here.at, here, writer)?;
     here.at = found.stop;
     Ok(true)
 }
 
-/// The end of `simple(..)`.
+/// Takes the `)` of `simple(..)`.
 #[inline(always)]
 fn take_simple_end(
     limit: Limit,
@@ -276,7 +280,7 @@ fn take_simple_end(
 ) -> Result<bool, AllocError>
     requires reading { IsReading profile limit text.now here.old writer.old }
     requires inside { here.old.at < length text.now }
-    requires number { here.old.stand ≡ stands.HasNumber }
+    requires number { here.old.phase ≡ phases.HasNumber }
     ensures read { OnOk result (IsReading profile limit text.now here.new writer.new) }
     ensures on { OnOk result (here.old.at ≤ here.new.at) }
     ensures further { IfOk result (λ ok. ok ≡ true → here.old.at < here.new.at) }

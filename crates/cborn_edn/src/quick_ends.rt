@@ -1,14 +1,15 @@
-//! What follows an item or the pieces of a string, taken in place.
+//! Frequent tokens after an item or after the pieces of a string, taken without the lexer. Each
+//! function answers whether it took something.
 
 ghost use Rattle.std.specs.Prelude.{◌≡◌, ◌≤◌, ◌<◌, ◌⊎◌, true, length, slice_index, IfOk, OnOk};
-ghost use Rattle.cborn_edn.specs.declared.states.Stand.TheVariants as stands;
+ghost use Rattle.cborn_edn.specs.declared.states.Phase.TheVariants as phases;
 ghost use Rattle.cborn_edn.specs.devices.Reading.{IsReading};
 ghost use Rattle.cborn_edn.specs.devices.Steps as pure;
 
 use crate::endings::{end_array, end_embedded, end_entry, end_key, end_map, end_tag, has_chunks};
 use crate::marks::embed_end_at;
 use crate::passes::bounded_len;
-use crate::quick::{skip_space, take_gap};
+use crate::quick::{skip_space, take_white_space};
 use crate::states::{Here, Writer};
 use crate::strings::{end_chunk, end_chunks, end_item};
 use crate::texts::ends_string;
@@ -16,8 +17,7 @@ use cborn_lex::Profile;
 use cborn_model::Limit;
 use std::alloc::AllocError;
 
-/// What follows an item: what separates it from the next, a bracket that ends, or white space and
-/// comments.
+/// Takes what follows an item: a comma, a colon, a bracket that ends, or white space.
 #[inline(always)]
 pub(crate) fn take_after(
     limit: Limit,
@@ -28,7 +28,7 @@ pub(crate) fn take_after(
 ) -> Result<bool, AllocError>
     requires reading { IsReading profile limit text.now here.old writer.old }
     requires inside { here.old.at < length text.now }
-    requires has { here.old.stand ≡ stands.Has }
+    requires has { here.old.phase ≡ phases.Has }
     ensures read { OnOk result (IsReading profile limit text.now here.new writer.new) }
     ensures on { OnOk result (here.old.at ≤ here.new.at) }
     ensures further { IfOk result (λ ok. ok ≡ true → here.old.at < here.new.at) }
@@ -41,11 +41,11 @@ pub(crate) fn take_after(
         b'}' => take_map_end(limit, profile, text, here, writer),
         b')' => take_tag_end(limit, profile, text, here, writer),
         b'>' => take_embed_end(limit, profile, text, here, writer),
-        _ => take_gap(limit, profile, text, here, writer),
+        _ => take_white_space(limit, profile, text, here, writer),
     }
 }
 
-/// A comma after an item, and a space after it.
+/// Takes a comma after an item, and a space after the comma.
 #[inline(always)]
 fn take_comma(
     limit: Limit,
@@ -56,7 +56,7 @@ fn take_comma(
 ) -> Result<bool, AllocError>
     requires reading { IsReading profile limit text.now here.old writer.old }
     requires inside { here.old.at < length text.now }
-    requires has { here.old.stand ≡ stands.Has }
+    requires has { here.old.phase ≡ phases.Has }
     requires comma { slice_index text.now here.old.at ≡ 44 }
     ensures read { OnOk result (IsReading profile limit text.now here.new writer.new) }
     ensures on { OnOk result (here.old.at ≤ here.new.at) }
@@ -73,7 +73,7 @@ fn take_comma(
     Ok(taken)
 }
 
-/// A colon after an item, and a space after it.
+/// Takes a colon after an item, and a space after the colon.
 #[inline(always)]
 fn take_colon(
     limit: Limit,
@@ -84,7 +84,7 @@ fn take_colon(
 ) -> Result<bool, AllocError>
     requires reading { IsReading profile limit text.now here.old writer.old }
     requires inside { here.old.at < length text.now }
-    requires has { here.old.stand ≡ stands.Has }
+    requires has { here.old.phase ≡ phases.Has }
     requires colon { slice_index text.now here.old.at ≡ 58 }
     ensures read { OnOk result (IsReading profile limit text.now here.new writer.new) }
     ensures on { OnOk result (here.old.at ≤ here.new.at) }
@@ -100,7 +100,7 @@ fn take_colon(
     Ok(taken)
 }
 
-/// The end of an array.
+/// Takes a `]`.
 #[inline(always)]
 pub(crate) fn take_array_end(
     limit: Limit,
@@ -111,7 +111,7 @@ pub(crate) fn take_array_end(
 ) -> Result<bool, AllocError>
     requires reading { IsReading profile limit text.now here.old writer.old }
     requires inside { here.old.at < length text.now }
-    requires ends { (here.old.stand ≡ stands.Has) ⊎ (here.old.stand ≡ stands.Wants) }
+    requires ends { (here.old.phase ≡ phases.Has) ⊎ (here.old.phase ≡ phases.Wants) }
     requires bracket { slice_index text.now here.old.at ≡ 93 }
     ensures read { OnOk result (IsReading profile limit text.now here.new writer.new) }
     ensures on { OnOk result (here.old.at ≤ here.new.at) }
@@ -127,7 +127,7 @@ pub(crate) fn take_array_end(
     Ok(taken)
 }
 
-/// The end of a map.
+/// Takes a `}`.
 #[inline(always)]
 pub(crate) fn take_map_end(
     limit: Limit,
@@ -138,7 +138,7 @@ pub(crate) fn take_map_end(
 ) -> Result<bool, AllocError>
     requires reading { IsReading profile limit text.now here.old writer.old }
     requires inside { here.old.at < length text.now }
-    requires ends { (here.old.stand ≡ stands.Has) ⊎ (here.old.stand ≡ stands.Wants) }
+    requires ends { (here.old.phase ≡ phases.Has) ⊎ (here.old.phase ≡ phases.Wants) }
     requires bracket { slice_index text.now here.old.at ≡ 125 }
     ensures read { OnOk result (IsReading profile limit text.now here.new writer.new) }
     ensures on { OnOk result (here.old.at ≤ here.new.at) }
@@ -154,7 +154,7 @@ pub(crate) fn take_map_end(
     Ok(taken)
 }
 
-/// The end of a tag.
+/// Takes the `)` of a tag.
 #[inline(always)]
 fn take_tag_end(
     limit: Limit,
@@ -165,7 +165,7 @@ fn take_tag_end(
 ) -> Result<bool, AllocError>
     requires reading { IsReading profile limit text.now here.old writer.old }
     requires inside { here.old.at < length text.now }
-    requires has { here.old.stand ≡ stands.Has }
+    requires has { here.old.phase ≡ phases.Has }
     requires paren { slice_index text.now here.old.at ≡ 41 }
     ensures read { OnOk result (IsReading profile limit text.now here.new writer.new) }
     ensures on { OnOk result (here.old.at ≤ here.new.at) }
@@ -180,7 +180,7 @@ fn take_tag_end(
     Ok(taken)
 }
 
-/// A `>>` after an item.
+/// Takes a `>>` after an item.
 #[inline(always)]
 fn take_embed_end(
     limit: Limit,
@@ -191,7 +191,7 @@ fn take_embed_end(
 ) -> Result<bool, AllocError>
     requires reading { IsReading profile limit text.now here.old writer.old }
     requires inside { here.old.at < length text.now }
-    requires has { here.old.stand ≡ stands.Has }
+    requires has { here.old.phase ≡ phases.Has }
     requires greater { slice_index text.now here.old.at ≡ 62 }
     ensures read { OnOk result (IsReading profile limit text.now here.new writer.new) }
     ensures on { OnOk result (here.old.at ≤ here.new.at) }
@@ -208,7 +208,7 @@ fn take_embed_end(
     Ok(taken)
 }
 
-/// The end of pieces of a string, where what follows begins no other, and what follows.
+/// Takes what follows the pieces of a string, if it begins no other piece, and ends the string.
 #[inline(always)]
 pub(crate) fn take_after_pieces(
     limit: Limit,
@@ -219,7 +219,7 @@ pub(crate) fn take_after_pieces(
 ) -> Result<bool, AllocError>
     requires reading { IsReading profile limit text.now here.old writer.old }
     requires inside { here.old.at < length text.now }
-    requires builds { here.old.stand ≡ stands.Builds }
+    requires builds { here.old.phase ≡ phases.Builds }
     ensures read { OnOk result (IsReading profile limit text.now here.new writer.new) }
     ensures on { OnOk result (here.old.at ≤ here.new.at) }
     ensures further { IfOk result (λ ok. ok ≡ true → here.old.at < here.new.at) }
@@ -237,7 +237,7 @@ pub(crate) fn take_after_pieces(
     take_after(limit, profile, text, here, writer)
 }
 
-/// What follows a chunk.
+/// Takes a comma or a `)` after a chunk.
 #[inline(always)]
 fn take_after_chunk(
     limit: Limit,
@@ -248,7 +248,7 @@ fn take_after_chunk(
 ) -> Result<bool, AllocError>
     requires reading { IsReading profile limit text.now here.old writer.old }
     requires inside { here.old.at < length text.now }
-    requires builds { here.old.stand ≡ stands.Builds }
+    requires builds { here.old.phase ≡ phases.Builds }
     requires chunk { pure.has_chunks writer.old.chunks ≡ true }
     ensures read { OnOk result (IsReading profile limit text.now here.new writer.new) }
     ensures on { OnOk result (here.old.at ≤ here.new.at) }
@@ -262,7 +262,7 @@ fn take_after_chunk(
     }
 }
 
-/// A comma after a chunk.
+/// Takes a comma after a chunk.
 #[inline(always)]
 fn take_chunk_comma(
     limit: Limit,
@@ -273,7 +273,7 @@ fn take_chunk_comma(
 ) -> Result<bool, AllocError>
     requires reading { IsReading profile limit text.now here.old writer.old }
     requires inside { here.old.at < length text.now }
-    requires builds { here.old.stand ≡ stands.Builds }
+    requires builds { here.old.phase ≡ phases.Builds }
     requires chunk { pure.has_chunks writer.old.chunks ≡ true }
     requires comma { slice_index text.now here.old.at ≡ 44 }
     ensures read { OnOk result (IsReading profile limit text.now here.new writer.new) }
@@ -287,7 +287,7 @@ fn take_chunk_comma(
     Ok(true)
 }
 
-/// The end of a string in chunks after a chunk.
+/// Takes the `)` of a string in chunks, after a chunk.
 #[inline(always)]
 fn take_chunks_end(
     limit: Limit,
@@ -298,7 +298,7 @@ fn take_chunks_end(
 ) -> Result<bool, AllocError>
     requires reading { IsReading profile limit text.now here.old writer.old }
     requires inside { here.old.at < length text.now }
-    requires builds { here.old.stand ≡ stands.Builds }
+    requires builds { here.old.phase ≡ phases.Builds }
     requires chunk { pure.has_chunks writer.old.chunks ≡ true }
     requires paren { slice_index text.now here.old.at ≡ 41 }
     ensures read { OnOk result (IsReading profile limit text.now here.new writer.new) }

@@ -1,23 +1,24 @@
-//! Items, and brackets that open, taken in place.
+//! Frequent items, and brackets that open, taken without the lexer where an item is wanted. Each
+//! function answers whether it took something.
 
 ghost use Rattle.std.specs.Prelude.{◌≡◌, ◌≤◌, ◌<◌, ◌⊎◌, true, length, slice_index, IfOk, OnOk};
 ghost use Rattle.cborn_lex.specs.declared.classes.Class.TheVariants as classes;
 ghost use Rattle.cborn_edn.specs.devices.Ahead.{IsTokenAt};
-ghost use Rattle.cborn_edn.specs.declared.states.Stand.TheVariants as stands;
+ghost use Rattle.cborn_edn.specs.declared.states.Phase.TheVariants as phases;
 ghost use Rattle.cborn_edn.specs.devices.Reading.{IsReading};
 
 use crate::integers::{Integer, integer_at, negative_at};
 use crate::marks::{embeds_at, opening_at, opens_chunks_at};
-use crate::numbers::{put_number, put_word};
+use crate::numbers::{Numeral, put_number, put_word};
 use crate::openings::{open_array, open_chunks, open_embedded, open_map, open_tag};
-use crate::states::{Here, Stand, Writer};
+use crate::states::{Here, Phase, Writer};
 use crate::texts::push_text;
 use crate::words::word_at;
 use cborn_lex::{Mark, Profile};
 use cborn_model::Limit;
 use std::alloc::AllocError;
 
-/// An integer that isn't below zero, or what opens a tag.
+/// Takes an integer without a minus, or the number of a tag and its `(`.
 #[inline(always)]
 pub(crate) fn take_integer(
     limit: Limit,
@@ -28,7 +29,7 @@ pub(crate) fn take_integer(
 ) -> Result<bool, AllocError>
     requires reading { IsReading profile limit text.now here.old writer.old }
     requires inside { here.old.at < length text.now }
-    requires wanted { (here.old.stand ≡ stands.Wants) ⊎ (here.old.stand ≡ stands.WantsMore) }
+    requires wanted { (here.old.phase ≡ phases.Wants) ⊎ (here.old.phase ≡ phases.WantsMore) }
     ensures read { OnOk result (IsReading profile limit text.now here.new writer.new) }
     ensures on { OnOk result (here.old.at ≤ here.new.at) }
     ensures further { IfOk result (λ ok. ok ≡ true → here.old.at < here.new.at) }
@@ -40,16 +41,20 @@ pub(crate) fn take_integer(
     if found.is_tag {
         return take_tag(found, limit, profile, text, here, writer);
     }
-    if writer.frames.count() > limit.get() {
+    if writer.brackets.count() > limit.get() {
         return Ok(false);
     }
-    let n = found.number as u128;
-    put_number(false, n, found.mark, here.at, here, writer)?;
+    let numeral = Numeral {
+        negative: false,
+        magnitude: found.number as u128,
+        mark: found.mark,
+    };
+    put_number(numeral, here.at, here, writer)?;
     here.at = found.stop;
     Ok(true)
 }
 
-/// What opens a tag, which was found.
+/// Takes the number of a tag and its `(`, which `integer_at` found.
 #[inline(always)]
 fn take_tag(
     found: Integer,
@@ -61,14 +66,14 @@ fn take_tag(
 ) -> Result<bool, AllocError>
     requires reading { IsReading profile limit text.now here.old writer.old }
     requires inside { here.old.at < length text.now }
-    requires wanted { (here.old.stand ≡ stands.Wants) ⊎ (here.old.stand ≡ stands.WantsMore) }
+    requires wanted { (here.old.phase ≡ phases.Wants) ⊎ (here.old.phase ≡ phases.WantsMore) }
     requires token { IsTokenAt profile text.now here.old.at found.stop (classes.TagOpen found.number found.mark) }
     ensures read { OnOk result (IsReading profile limit text.now here.new writer.new) }
     ensures on { OnOk result (here.old.at ≤ here.new.at) }
     ensures further { IfOk result (λ ok. ok ≡ true → here.old.at < here.new.at) }
     ensures heads { OnOk result (writer.new.heads ≡ writer.old.heads) }
 {
-    if writer.frames.count() >= limit.get() {
+    if writer.brackets.count() >= limit.get() {
         return Ok(false);
     }
     let n = found.number as u128;
@@ -77,7 +82,7 @@ fn take_tag(
     Ok(true)
 }
 
-/// An integer below zero.
+/// Takes an integer below zero.
 #[inline(always)]
 pub(crate) fn take_negative(
     limit: Limit,
@@ -88,7 +93,7 @@ pub(crate) fn take_negative(
 ) -> Result<bool, AllocError>
     requires reading { IsReading profile limit text.now here.old writer.old }
     requires inside { here.old.at < length text.now }
-    requires wanted { (here.old.stand ≡ stands.Wants) ⊎ (here.old.stand ≡ stands.WantsMore) }
+    requires wanted { (here.old.phase ≡ phases.Wants) ⊎ (here.old.phase ≡ phases.WantsMore) }
     requires minus { slice_index text.now here.old.at ≡ 45 }
     ensures read { OnOk result (IsReading profile limit text.now here.new writer.new) }
     ensures on { OnOk result (here.old.at ≤ here.new.at) }
@@ -98,15 +103,20 @@ pub(crate) fn take_negative(
     let Some((n, stop)) = negative_at(text.as_bytes(), here.at) else {
         return Ok(false);
     };
-    if writer.frames.count() > limit.get() {
+    if writer.brackets.count() > limit.get() {
         return Ok(false);
     }
-    put_number(true, n as u128, Mark::Absent, here.at, here, writer)?;
+    let numeral = Numeral {
+        negative: true,
+        magnitude: n as u128,
+        mark: Mark::Absent,
+    };
+    put_number(numeral, here.at, here, writer)?;
     here.at = stop;
     Ok(true)
 }
 
-/// A simple value by its word.
+/// Takes the word of a simple value.
 #[inline(always)]
 pub(crate) fn take_word(
     limit: Limit,
@@ -117,7 +127,7 @@ pub(crate) fn take_word(
 ) -> Result<bool, AllocError>
     requires reading { IsReading profile limit text.now here.old writer.old }
     requires inside { here.old.at < length text.now }
-    requires wanted { (here.old.stand ≡ stands.Wants) ⊎ (here.old.stand ≡ stands.WantsMore) }
+    requires wanted { (here.old.phase ≡ phases.Wants) ⊎ (here.old.phase ≡ phases.WantsMore) }
     ensures read { OnOk result (IsReading profile limit text.now here.new writer.new) }
     ensures on { OnOk result (here.old.at ≤ here.new.at) }
     ensures further { IfOk result (λ ok. ok ≡ true → here.old.at < here.new.at) }
@@ -131,7 +141,7 @@ pub(crate) fn take_word(
     Ok(true)
 }
 
-/// A text string of one piece without an indicator, up to the token that ends it.
+/// Takes a text string of one piece without an indicator, and the white space after it.
 #[inline(always)]
 pub(crate) fn take_text(
     limit: Limit,
@@ -142,7 +152,7 @@ pub(crate) fn take_text(
 ) -> Result<bool, AllocError>
     requires reading { IsReading profile limit text.now here.old writer.old }
     requires inside { here.old.at < length text.now }
-    requires wanted { (here.old.stand ≡ stands.Wants) ⊎ (here.old.stand ≡ stands.WantsMore) }
+    requires wanted { (here.old.phase ≡ phases.Wants) ⊎ (here.old.phase ≡ phases.WantsMore) }
     requires quote { slice_index text.now here.old.at ≡ 34 }
     ensures read { OnOk result (IsReading profile limit text.now here.new writer.new) }
     ensures on { OnOk result (here.old.at ≤ here.new.at) }
@@ -153,11 +163,11 @@ pub(crate) fn take_text(
         return Ok(false);
     };
     here.at = stop;
-    here.stand = Stand::Has;
+    here.phase = Phase::Has;
     Ok(true)
 }
 
-/// The bracket of an array that opens.
+/// Takes a `[` and its indicator.
 #[inline(always)]
 pub(crate) fn take_array(
     limit: Limit,
@@ -168,7 +178,7 @@ pub(crate) fn take_array(
 ) -> Result<bool, AllocError>
     requires reading { IsReading profile limit text.now here.old writer.old }
     requires inside { here.old.at < length text.now }
-    requires wanted { (here.old.stand ≡ stands.Wants) ⊎ (here.old.stand ≡ stands.WantsMore) }
+    requires wanted { (here.old.phase ≡ phases.Wants) ⊎ (here.old.phase ≡ phases.WantsMore) }
     requires bracket { slice_index text.now here.old.at ≡ 91 }
     ensures read { OnOk result (IsReading profile limit text.now here.new writer.new) }
     ensures on { OnOk result (here.old.at ≤ here.new.at) }
@@ -178,7 +188,7 @@ pub(crate) fn take_array(
     let Some((mark, stop)) = opening_at(text.as_bytes(), here.at) else {
         return Ok(false);
     };
-    if writer.frames.count() >= limit.get() {
+    if writer.brackets.count() >= limit.get() {
         return Ok(false);
     }
     open_array(mark, here.at, here, writer)?;
@@ -186,7 +196,7 @@ pub(crate) fn take_array(
     Ok(true)
 }
 
-/// The bracket of a map that opens.
+/// Takes a `{` and its indicator.
 #[inline(always)]
 pub(crate) fn take_map(
     limit: Limit,
@@ -197,7 +207,7 @@ pub(crate) fn take_map(
 ) -> Result<bool, AllocError>
     requires reading { IsReading profile limit text.now here.old writer.old }
     requires inside { here.old.at < length text.now }
-    requires wanted { (here.old.stand ≡ stands.Wants) ⊎ (here.old.stand ≡ stands.WantsMore) }
+    requires wanted { (here.old.phase ≡ phases.Wants) ⊎ (here.old.phase ≡ phases.WantsMore) }
     requires bracket { slice_index text.now here.old.at ≡ 123 }
     ensures read { OnOk result (IsReading profile limit text.now here.new writer.new) }
     ensures on { OnOk result (here.old.at ≤ here.new.at) }
@@ -207,7 +217,7 @@ pub(crate) fn take_map(
     let Some((mark, stop)) = opening_at(text.as_bytes(), here.at) else {
         return Ok(false);
     };
-    if writer.frames.count() >= limit.get() {
+    if writer.brackets.count() >= limit.get() {
         return Ok(false);
     }
     open_map(mark, here.at, here, writer)?;
@@ -215,7 +225,7 @@ pub(crate) fn take_map(
     Ok(true)
 }
 
-/// A `<<`, as the first piece of a string.
+/// Takes a `<<`, which begins the first piece of a string.
 #[inline(always)]
 pub(crate) fn take_embedded(
     limit: Limit,
@@ -226,14 +236,14 @@ pub(crate) fn take_embedded(
 ) -> Result<bool, AllocError>
     requires reading { IsReading profile limit text.now here.old writer.old }
     requires inside { here.old.at < length text.now }
-    requires wanted { (here.old.stand ≡ stands.Wants) ⊎ (here.old.stand ≡ stands.WantsMore) }
+    requires wanted { (here.old.phase ≡ phases.Wants) ⊎ (here.old.phase ≡ phases.WantsMore) }
     requires less { slice_index text.now here.old.at ≡ 60 }
     ensures read { OnOk result (IsReading profile limit text.now here.new writer.new) }
     ensures on { OnOk result (here.old.at ≤ here.new.at) }
     ensures further { IfOk result (λ ok. ok ≡ true → here.old.at < here.new.at) }
     ensures heads { OnOk result (writer.new.heads ≡ writer.old.heads) }
 {
-    if !embeds_at(text.as_bytes(), here.at) || writer.frames.count() >= limit.get() {
+    if !embeds_at(text.as_bytes(), here.at) || writer.brackets.count() >= limit.get() {
         return Ok(false);
     }
     let at = here.at;
@@ -244,7 +254,7 @@ pub(crate) fn take_embedded(
     Ok(true)
 }
 
-/// A `(_`.
+/// Takes a `(_`, if a space follows it.
 #[inline(always)]
 pub(crate) fn take_chunked(
     limit: Limit,
@@ -255,7 +265,7 @@ pub(crate) fn take_chunked(
 ) -> Result<bool, AllocError>
     requires reading { IsReading profile limit text.now here.old writer.old }
     requires inside { here.old.at < length text.now }
-    requires wanted { (here.old.stand ≡ stands.Wants) ⊎ (here.old.stand ≡ stands.WantsMore) }
+    requires wanted { (here.old.phase ≡ phases.Wants) ⊎ (here.old.phase ≡ phases.WantsMore) }
     requires paren { slice_index text.now here.old.at ≡ 40 }
     ensures read { OnOk result (IsReading profile limit text.now here.new writer.new) }
     ensures on { OnOk result (here.old.at ≤ here.new.at) }

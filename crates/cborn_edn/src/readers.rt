@@ -12,13 +12,12 @@ use cborn_lex::Profile;
 use cborn_model::{Limit, Spelled};
 use std::alloc::Global;
 
-/// The items of `text`, under that profile of the notation, none deeper than `limit` (RFC 8949
-/// section 8, RFC 8610 appendix G). The place of a node is the offset of its first token, in bytes
-/// from the start of the text; a chunk's is that of its first piece.
+/// The nodes that `text` notates in that profile of the notation, none of them deeper than `limit`
+/// (RFC 8949 section 8, RFC 8610 appendix G). The place of a node is the offset of its first token,
+/// and that of a chunk the offset of its first piece, in bytes from the start of the text.
 ///
 /// # Errors
-/// Those of [`read_text`](crate::read_text): a text that notates no items is refused before any
-/// node is made.
+/// Those of [`read_text`](crate::read_text). A text that is refused costs no memory for nodes.
 pub fn read_notation(
     alloc: Global,
     limit: Limit,

@@ -5,13 +5,13 @@ ghost use Rattle.cborn_lex.specs.Lex.{Between, IsStopFrom};
 ghost use Rattle.cborn_lex.specs.declared.classes.Token.{Token};
 ghost use Rattle.cborn_lex.specs.declared.faults.LexFault.{LexFault as LexStop};
 ghost use Rattle.cborn_edn.specs.declared.faults.EdnFault.TheVariants.{Refused};
-ghost use Rattle.cborn_edn.specs.shared.Machine.{lexical};
+ghost use Rattle.cborn_edn.specs.devices.Machine.{lexical};
 
 use crate::{EdnFault, EdnReason};
 use cborn_lex::{Profile, next_token};
 use std::alloc::Global;
 
-/// The refusal of what stands at `place`.
+/// The syntax error at `place`, for this reason.
 pub(crate) fn refused(place: usize, reason: EdnReason) -> EdnFault
     ensures { result ≡ Refused place reason }
 {
@@ -21,8 +21,8 @@ pub(crate) fn refused(place: usize, reason: EdnReason) -> EdnFault
     }
 }
 
-/// A syntax error, or the lexical fault that follows from `at` on, which comes first: all lexical
-/// faults are reported before any syntax error.
+/// What is reported of a text with the syntax error `fault`: the lexical fault from the offset `at`
+/// on, if there is one, and else `fault`. A lexical fault is reported before any syntax error.
 #[cold]
 #[inline(never)]
 pub(crate) fn first_fault(

@@ -12,13 +12,13 @@ use crate::writing::{push_between, push_node};
 use cborn_model::Spelled;
 use std::alloc::{AllocError, Global};
 
-/// The items in the fixed notation, which is a text of both profiles: each item as it is spelled,
-/// with an indicator exactly where a head isn't the shortest or a length is indefinite (RFC 8949
-/// section 8.1). A comma and LF stand between items, LF behind the last.
+/// The items in the fixed notation, as a text of both profiles. It has an indicator exactly where a
+/// head isn't the shortest or a length is indefinite (RFC 8949 section 8.1). A comma and a line
+/// feed separate items, and a line feed follows the last.
 ///
 /// # Errors
-/// `NotUtf8` tells the lowest place of a text string or a text chunk that isn't UTF-8.
-/// `OutOfMemory` where memory was refused.
+/// `NotUtf8` with the lowest place of a text string or a text chunk that isn't UTF-8. `OutOfMemory`
+/// if memory was refused.
 pub fn show(alloc: Global, items: &[Spelled]) -> Result<String, ShowFault>
     ensures shown { IfOk result (λ text. Shown (trees items.now) (string_bytes text)) }
     ensures refused { IfErr result (IsShowFault (trees items.now)) }

@@ -1,6 +1,7 @@
-//! What the reader keeps: where it stands, what it has written, and an entry for each open bracket.
+//! What the reader keeps: where it is in the text, what it has written, and an entry for each open
+//! bracket.
 
-use crate::{Slip, StringKind};
+use crate::{MeaningError, StringKind};
 use cborn_lex::Mark;
 use cborn_model::push_doubling;
 use std::alloc::{AllocError, Global};
@@ -12,25 +13,25 @@ pub(crate) enum Level {
     Array,
     /// `<<`
     Embedded,
-    /// A map where a key is wanted or stands.
+    /// A map, before the colon of a pair.
     Key,
-    /// A map after a key and its colon.
+    /// A map, after the colon of a pair.
     Value,
     Tag,
 }
 
-/// What stands right before the next token.
+/// What was read last in the innermost bracket, and so what may follow.
 #[derive(Clone, Copy, PartialEq, Eq)]
-pub(crate) enum Stand {
+pub(crate) enum Phase {
     /// An opening bracket, a colon, or nothing: an item is wanted.
     Wants,
     /// A comma, after which an item or a key is wanted.
     WantsMore,
-    /// An item that is no string in pieces.
+    /// A whole item, so that a comma, a colon or the end of the bracket may follow.
     Has,
-    /// Pieces of a string or of a chunk.
+    /// Pieces of a string or of a chunk, which another piece may follow.
     Builds,
-    /// `(_`, or a comma between chunks.
+    /// `(_`, or a comma after a chunk: a chunk is wanted.
     WantsChunk,
     /// `simple(`
     WantsNumber,
@@ -38,13 +39,14 @@ pub(crate) enum Stand {
     HasNumber,
 }
 
-/// Where the reader is: the offset in the text, in bytes; what stands before it; the innermost
-/// bracket, none at the top; and how many items or pairs with their commas stand in it.
+/// Where the reader is: `at` is its offset in the text, in bytes, and `phase` what was read last.
+/// `level` is the kind of the innermost open bracket, `None` if none is open, and `count` how many
+/// items or pairs in it have a comma after them.
 #[derive(Clone, Copy)]
 pub(crate) struct Here {
     pub(crate) at: usize,
     pub(crate) count: u64,
-    pub(crate) stand: Stand,
+    pub(crate) phase: Phase,
     pub(crate) level: Option<Level>,
 }
 
@@ -55,11 +57,12 @@ impl Here {
     pub(crate) const FIRST: Here = Here {
         at: 0,
         count: 0,
-        stand: Stand::Wants,
+        phase: Phase::Wants,
         level: None,
     };
 
-    /// A copy, made field by field: a copy of the whole goes through memory.
+    /// A copy, made field by field, which stays in registers. A copy of the whole goes through
+    /// memory.
     #[inline(always)]
     pub(crate) fn same(&self) -> Here
         ensures { result ≡ self.now }
@@ -67,27 +70,28 @@ impl Here {
         Here {
             at: self.at,
             count: self.count,
-            stand: self.stand,
+            phase: self.phase,
             level: self.level,
         }
     }
 
-    /// Takes on what stands in another, field by field.
+    /// Becomes `next`, field by field, so that it stays in registers.
     #[inline(always)]
     pub(crate) fn become_next(&mut self, next: Here)
         ensures { self.new ≡ next }
     {
         self.at = next.at;
         self.count = next.count;
-        self.stand = next.stand;
+        self.phase = next.phase;
         self.level = next.level;
     }
 }
 
-/// An open bracket. `count` and `level` are those around it, `place` is its offset in the text, and
-/// `start` that of the byte in the place of its head in the output.
+/// An open bracket. `place` is its offset in the text, and `start` the offset in the output of the
+/// byte in the place of its head, or, for a `<<`, of the head of its string. Both are 0 for a tag,
+/// whose head is written at once. `count` and `level` are those of `Here` around it.
 #[derive(Clone, Copy)]
-pub(crate) struct Frame {
+pub(crate) struct OpenBracket {
     pub(crate) place: usize,
     pub(crate) start: usize,
     pub(crate) count: u64,
@@ -95,68 +99,71 @@ pub(crate) struct Frame {
     pub(crate) mark: Mark,
 }
 
-/// The pieces of a string so far, as one: the first gives the kind and the place, the last one the
-/// indicator. Its bytes are those of the output after the byte at `start`.
+/// The pieces of a string that were read so far. The first gives `kind` and `place`, the last gives
+/// `mark`. Their bytes are those of the output after the byte at `start`.
 #[derive(Clone, Copy)]
 pub(crate) struct Joint {
     pub(crate) kind: StringKind,
     pub(crate) start: usize,
     pub(crate) place: usize,
     pub(crate) mark: Mark,
-    /// The place of the token that carries the indicator.
+    /// The place of the token that has the indicator.
     pub(crate) mark_place: usize,
-    /// Whether it is a lone `''` or `""`.
+    /// Whether it is one piece, `''` or `""`.
     pub(crate) lone: bool,
-    /// Whether nothing embedded in it has a meaning error.
+    /// Whether the bytes are what is meant: nothing embedded in it has a meaning error.
     pub(crate) known: bool,
 }
 
-/// The chunks of a string so far. The first gives the kind, and `start` is the offset of the byte in
-/// the place of the string's head in the output.
+/// The chunks of a string that were read so far. The first gives the kind, and `start` is the
+/// offset in the output of the byte in the place of the string's head.
 #[derive(Clone, Copy)]
 pub(crate) struct Chunks {
     pub(crate) start: usize,
     pub(crate) kind: Option<StringKind>,
 }
 
-/// What stands around a `<<`: the pieces before it, the chunks that the string is one of, and the
-/// first meaning error before it.
+/// What is kept around an open `<<`: the pieces of its string before it, the chunks of which that
+/// string is one, and the first meaning error before it.
 #[derive(Clone, Copy)]
 pub(crate) struct Around {
     pub(crate) string: Option<Joint>,
     pub(crate) chunks: Option<Chunks>,
-    pub(crate) slip: Option<Slip>,
+    pub(crate) error: Option<MeaningError>,
 }
 
-/// How heads are written outside of `<<..>>`, which holds the content of a string.
+/// How heads are written outside of `<<..>>`. Inside they are the content of a string, and always
+/// as wide as their indicators ask for.
 #[derive(Clone, Copy, PartialEq, Eq)]
 pub(crate) enum Heads {
-    /// As wide as their indicators ask for.
+    /// As wide as their indicators ask for, and else in their shortest form.
     AsWritten,
     /// In their shortest form.
     Shortest,
 }
 
-/// What is written, and what is open. A string, or chunks, are there only while they are read.
+/// What is written, and what is open. `string` is there while pieces of a string are read, and
+/// `chunks` while a string in chunks is read.
 #[derive(Drop)]
 pub(crate) struct Writer {
     pub(crate) heads: Heads,
     pub(crate) out: Vec<u8>,
-    pub(crate) frames: Frames,
+    pub(crate) brackets: Brackets,
     pub(crate) around: Arounds,
     pub(crate) string: Option<Joint>,
     pub(crate) chunks: Option<Chunks>,
     /// The place of the last `simple(`.
     pub(crate) simple: usize,
     /// The first meaning error since the innermost `<<`.
-    pub(crate) slip: Option<Slip>,
+    pub(crate) error: Option<MeaningError>,
 }
 
 impl Writer {
     ghost use Rattle.std.specs.Prelude.{◌≡◌};
     ghost use Rattle.cborn_edn.specs.devices.Written.{heads_in, written_mark};
 
-    /// The indicator that gives a head its width here.
+    /// The indicator that decides the width of a head: `mark`, or none where the shortest is
+    /// written.
     #[inline(always)]
     pub(crate) fn written(&self, mark: Mark) -> Mark
         ensures { result ≡ written_mark (heads_in self.now.heads self.now.around) mark }
@@ -167,7 +174,8 @@ impl Writer {
         }
     }
 
-    /// The indicator that gives a head its width here, where it may be a width.
+    /// The indicator that decides the width of a head. Out of line, since few heads ask for a
+    /// width.
     #[inline(never)]
     fn written_wide(&self, mark: Mark) -> Mark
         ensures { result ≡ written_mark (heads_in self.now.heads self.now.around) mark }
@@ -179,31 +187,31 @@ impl Writer {
     }
 }
 
-/// The open brackets. Contracts see the innermost first.
+/// The open brackets. In contracts they are a list with the innermost first.
 #[derive(Drop)]
-pub(crate) struct Frames {
-    frames: Vec<Frame>,
+pub(crate) struct Brackets {
+    brackets: Vec<OpenBracket>,
 }
 
-impl Model for Frames {
+impl Model for Brackets {
     ghost use Rattle.std.specs.Prelude.{List};
-    ghost use Rattle.cborn_edn.specs.declared.states.Frame.{Frame as OneFrame};
+    ghost use Rattle.cborn_edn.specs.declared.states.OpenBracket.{OpenBracket as OneBracket};
     ghost use mathlib.Core.List as lists;
 
-    ghost Value = { List OneFrame };
+    ghost Value = { List OneBracket };
 
-    ghost view = { λ l. lists.reverse l.frames.items };
+    ghost view = { λ l. lists.reverse l.brackets.items };
 }
 
-impl Frames {
+impl Brackets {
     ghost use Rattle.std.specs.Prelude.{◌≡◌, ◌<◌, ◌^◌, [], ◌∷◌, length, MatchOption, OnOk};
 
     /// None are open.
-    pub(crate) fn new(alloc: Global) -> Frames
+    pub(crate) fn new(alloc: Global) -> Brackets
         ensures { result ≡ [] }
     {
-        Frames {
-            frames: Vec::new(alloc),
+        Brackets {
+            brackets: Vec::new(alloc),
         }
     }
 
@@ -213,27 +221,27 @@ impl Frames {
         ensures count { result ≡ length self.now }
         ensures small { result < 2 ^ 63 }
     {
-        self.frames.len() as u64
+        self.brackets.len() as u64
     }
 
-    /// One more, inside the others.
+    /// Adds one, which is then the innermost.
     #[tactic(auto, using(crate::proofs::Reader::Opened::innermost))]
     #[inline(always)]
-    pub(crate) fn open(&mut self, frame: Frame) -> Result<(), AllocError>
-        ensures { OnOk result (self.new ≡ frame ∷ self.old) }
+    pub(crate) fn open(&mut self, bracket: OpenBracket) -> Result<(), AllocError>
+        ensures { OnOk result (self.new ≡ bracket ∷ self.old) }
     {
-        push_doubling(&mut self.frames, frame)
+        push_doubling(&mut self.brackets, bracket)
     }
 
-    /// The innermost is taken off.
-    pub(crate) fn shut(&mut self) -> Option<Frame>
+    /// Takes off the innermost, if there is one, and gives it.
+    pub(crate) fn shut(&mut self) -> Option<OpenBracket>
         ensures { MatchOption result (self.old ≡ []) (λ f. self.old ≡ f ∷ self.new) }
     {
-        self.frames.pop()
+        self.brackets.pop()
     }
 }
 
-/// What stands around each open `<<`. Contracts see the innermost first.
+/// What is kept around each open `<<`. In contracts it is a list with the innermost first.
 #[derive(Drop)]
 pub(crate) struct Arounds {
     arounds: Vec<Around>,
@@ -270,7 +278,7 @@ impl Arounds {
         self.arounds.is_empty()
     }
 
-    /// One more, inside the others.
+    /// Adds one, which is then the innermost.
     #[tactic(auto, using(crate::proofs::Reader::Opened::innermost))]
     pub(crate) fn open(&mut self, around: Around) -> Result<(), AllocError>
         ensures { OnOk result (self.new ≡ around ∷ self.old) }
@@ -278,7 +286,7 @@ impl Arounds {
         push_doubling(&mut self.arounds, around)
     }
 
-    /// The innermost is taken off.
+    /// Takes off the innermost, if there is one, and gives it.
     pub(crate) fn shut(&mut self) -> Option<Around>
         ensures { MatchOption result (self.old ≡ []) (λ a. self.old ≡ a ∷ self.new) }
     {

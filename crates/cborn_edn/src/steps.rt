@@ -1,8 +1,9 @@
-//! One token, as the grammar has it where the reader stands.
+//! The grammar: what each token does in each phase. Each function answers whether the grammar has
+//! such a token there.
 
 ghost use Rattle.std.specs.Prelude.{◌≡◌, ℕ, ◌<◌, ◌^◌, Bool, IfOk, OnOk};
-ghost use Rattle.cborn_edn.specs.shared.Syntax.{Span as Place, Item, Pieces as Joined, StringsBefore, tokens_of_pieces};
-ghost use Rattle.cborn_edn.specs.shared.Machine.{Stack, Home, as_chunk, State, wants, has, builds, wants_chunk, wants_number, has_number};
+ghost use Rattle.cborn_edn.specs.devices.Syntax.{Span as Place, Item, Pieces as Joined, StringsBefore, tokens_of_pieces};
+ghost use Rattle.cborn_edn.specs.devices.Machine.{Stack, Home, as_chunk, State, wants, has, builds, wants_chunk, wants_number, has_number};
 ghost use Rattle.cborn_lex.specs.declared.classes.Mark.{Mark as Indicator};
 ghost use Rattle.cborn_edn.specs.devices.Modest.{AreModest};
 ghost use Rattle.cborn_edn.specs.devices.Shows.{Shows};
@@ -10,16 +11,16 @@ ghost use Rattle.cborn_edn.specs.devices.Steps.{is_piece, IsReady, Takes, Turns,
 
 use crate::StringKind;
 use crate::endings::{end_array, end_embedded, end_entry, end_key, end_map, end_tag, has_chunks};
-use crate::numbers::{close_simple, put_number, put_simple, put_word};
+use crate::numbers::{Numeral, close_simple, put_number, put_simple, put_word};
 use crate::openings::{open_array, open_chunks, open_embedded, open_map, open_simple, open_tag};
-use crate::states::{Here, Stand, Writer};
-use crate::strings::{begin_string, end_chunk, end_chunks, end_item, join};
+use crate::states::{Here, Phase, Writer};
+use crate::strings::{StringToken, begin_string, end_chunk, end_chunks, end_item, join};
 use cborn_lex::{BareToken, Kind};
 use std::alloc::AllocError;
 
-/// Takes a token that was read: its number is `number`, and what a string stands for is in the
-/// output from `start` on. Whether the grammar has such a token here; where it has none, what is
-/// kept is of no use.
+/// Takes a token that was read. Its number is `number`, and the content of a string is in the
+/// output from the offset `start` on. Answers whether the grammar has such a token here. If not,
+/// `here` and `writer` are not to be used any more.
 pub(crate) fn take(
     token: BareToken,
     number: u128,
@@ -31,18 +32,18 @@ pub(crate) fn take(
     ensures shows { IfOk result (λ ok. (s : State) → Takes token.kind number start token.start here.old writer.old here.new writer.new ok s) }
     ensures heads { OnOk result (writer.new.heads ≡ writer.old.heads) }
 {
-    match here.stand {
-        Stand::Wants => begin(token, number, start, here, writer),
-        Stand::WantsMore => begin(token, number, start, here, writer),
-        Stand::Has => after(token, number, here, writer),
-        Stand::Builds => more(token, number, start, here, writer),
-        Stand::WantsChunk => begin_chunk(token, number, start, here, writer),
-        Stand::WantsNumber => begin_number(token, number, here, writer),
-        Stand::HasNumber => Ok(after_number(token, number, here, writer)),
+    match here.phase {
+        Phase::Wants => begin(token, number, start, here, writer),
+        Phase::WantsMore => begin(token, number, start, here, writer),
+        Phase::Has => after(token, number, here, writer),
+        Phase::Builds => more(token, number, start, here, writer),
+        Phase::WantsChunk => begin_chunk(token, number, start, here, writer),
+        Phase::WantsNumber => begin_number(token, number, here, writer),
+        Phase::HasNumber => Ok(after_number(token, number, here, writer)),
     }
 }
 
-/// Where an item is wanted.
+/// Takes a token where an item is wanted.
 fn begin(
     token: BareToken,
     number: u128,
@@ -77,7 +78,12 @@ fn begin(
             Ok(true)
         }
         Kind::Number { negative, mark } => {
-            put_number(negative, number, mark, place, here, writer)?;
+            let numeral = Numeral {
+                negative,
+                magnitude: number,
+                mark,
+            };
+            put_number(numeral, place, here, writer)?;
             Ok(true)
         }
         Kind::Word(n) => {
@@ -89,11 +95,23 @@ fn begin(
             Ok(true)
         }
         Kind::Text(mark) => {
-            begin_string(StringKind::Text, start, place, mark, true, here, writer);
+            let piece = StringToken {
+                kind: StringKind::Text,
+                quoted: true,
+                place,
+                mark,
+            };
+            begin_string(piece, start, here, writer);
             Ok(true)
         }
         Kind::Bytes { quoted, mark } => {
-            begin_string(StringKind::Bytes, start, place, mark, quoted, here, writer);
+            let piece = StringToken {
+                kind: StringKind::Bytes,
+                quoted,
+                place,
+                mark,
+            };
+            begin_string(piece, start, here, writer);
             Ok(true)
         }
         Kind::ArrayClose => end_array(here, writer),
@@ -105,7 +123,7 @@ fn begin(
     }
 }
 
-/// After an item.
+/// Takes a token after an item.
 fn after(
     token: BareToken,
     number: u128,
@@ -128,7 +146,7 @@ fn after(
     }
 }
 
-/// After pieces of a string or of a chunk.
+/// Takes a token after pieces of a string or of a chunk: another piece, or what ends them.
 fn more(
     token: BareToken,
     number: u128,
@@ -171,7 +189,7 @@ pub(crate) fn is_piece(kind: Kind) -> bool
     matches!(kind, Kind::Text(_) | Kind::Bytes { .. } | Kind::EmbedOpen)
 }
 
-/// After pieces of a string or of a chunk that is whole.
+/// Ends the pieces of a string or of a chunk, and takes the token after them.
 fn after_pieces(
     token: BareToken,
     number: u128,
@@ -190,7 +208,7 @@ fn after_pieces(
     after(token, number, here, writer)
 }
 
-/// After pieces of a chunk that is whole.
+/// Ends a chunk, and takes the comma or the `)` after it.
 fn after_chunk(
     token: BareToken,
     number: u128,
@@ -215,7 +233,7 @@ fn after_chunk(
     }
 }
 
-/// Where a chunk is wanted.
+/// Takes a token where a chunk is wanted.
 fn begin_chunk(
     token: BareToken,
     number: u128,
@@ -230,11 +248,23 @@ fn begin_chunk(
     let place = token.start;
     match token.kind {
         Kind::Text(mark) => {
-            begin_string(StringKind::Text, start, place, mark, true, here, writer);
+            let piece = StringToken {
+                kind: StringKind::Text,
+                quoted: true,
+                place,
+                mark,
+            };
+            begin_string(piece, start, here, writer);
             Ok(true)
         }
         Kind::Bytes { quoted, mark } => {
-            begin_string(StringKind::Bytes, start, place, mark, quoted, here, writer);
+            let piece = StringToken {
+                kind: StringKind::Bytes,
+                quoted,
+                place,
+                mark,
+            };
+            begin_string(piece, start, here, writer);
             Ok(true)
         }
         Kind::EmbedOpen => {
@@ -245,7 +275,7 @@ fn begin_chunk(
     }
 }
 
-/// Where the number of a simple value is wanted.
+/// Takes a token where the number of a simple value is wanted.
 fn begin_number(
     token: BareToken,
     number: u128,
@@ -257,14 +287,19 @@ fn begin_number(
 {
     match token.kind {
         Kind::Number { negative, mark } => {
-            put_simple(negative, number, mark, token.start, here, writer)?;
+            let numeral = Numeral {
+                negative,
+                magnitude: number,
+                mark,
+            };
+            put_simple(numeral, token.start, here, writer)?;
             Ok(true)
         }
         _ => Ok(false),
     }
 }
 
-/// After the number of a simple value.
+/// Takes a token after the number of a simple value.
 fn after_number(token: BareToken, number: u128, here: &mut Here, writer: &Writer) -> bool
     ensures { (st : Stack) (s b : Place) (n : Bool) (v : ℕ) (m : Indicator) → Turns token.kind number token.start here.old writer.now here.new writer.now result (has_number st s b n v m) }
 {

@@ -1,36 +1,36 @@
-//! Strings, piece by piece, and their chunks (RFC 8949 section 3.2.3, RFC 8610 appendix G.4).
+//! Strings piece by piece (RFC 8610 appendix G.4), and their chunks (RFC 8949 section 3.2.3).
 
 ghost use Rattle.std.specs.Prelude.{◌≡◌, ℕ, ◌<◌, ◌++◌, ◌∷◌, List, Bool, length, IsSome, None, OnOk, true, ◌&&◌};
 ghost use Rattle.cborn_model.specs.Bytes.{AreBytes};
 ghost use Rattle.cborn_edn.specs.devices.Modest.{AreModest};
 ghost use Rattle.cborn_edn.specs.Says as says;
 ghost use Rattle.cborn_edn.specs.declared.strings.StringKind.TheVariants.{Text as OfText};
-ghost use Rattle.cborn_edn.specs.shared.Syntax.{Span as Place, Pieces as Joined, Strings, StringsBefore, strings, string, chunked, also, piece, after_strings, tokens_of_pieces};
-ghost use Rattle.cborn_edn.specs.shared.Machine.{Stack, Home, as_item, as_chunk, has, builds, wants_chunk};
-ghost use Rattle.cborn_edn.specs.shared.Machine.{at_home};
-ghost use Rattle.cborn_edn.specs.shared.Said.{str};
+ghost use Rattle.cborn_edn.specs.devices.Syntax.{Span as Place, Pieces as Joined, Strings, StringsBefore, strings, string, chunked, also, piece, after_strings, tokens_of_pieces};
+ghost use Rattle.cborn_edn.specs.devices.Machine.{Stack, Home, as_item, as_chunk, has, builds, wants_chunk};
+ghost use Rattle.cborn_edn.specs.devices.Machine.{at_home};
+ghost use Rattle.cborn_edn.specs.devices.Said.{str};
 ghost use Rattle.cborn_model.specs.Spelled as spells;
 ghost use Rattle.cborn_edn.specs.devices.Laid.{cut, major_of};
 ghost use Rattle.cborn_edn.specs.devices.Kept.{joint, kind_or};
-ghost use Rattle.cborn_edn.specs.devices.Slips.{Notes};
-ghost use Rattle.cborn_edn.specs.declared.states.Here.{Here as Standing};
+ghost use Rattle.cborn_edn.specs.devices.MeaningErrors.{Notes};
+ghost use Rattle.cborn_edn.specs.declared.states.Here.{Here as AnyHere};
 ghost use Rattle.cborn_edn.specs.devices.Shows.{Shows, Leads, piece_of};
 
 use crate::heads::set_head;
+use crate::meaning_errors::{note_unless, note_width};
 use crate::numbers::{is_absent, width_for};
-use crate::slips::{note_unless, note_width};
-use crate::states::{Chunks, Here, Joint, Stand, Writer};
-use crate::{EdnReason, Slip};
+use crate::states::{Chunks, Here, Joint, Phase, Writer};
+use crate::{EdnReason, MeaningError};
 use cborn_lex::Mark;
 use cborn_model::{BREAK, Major};
 use std::alloc::AllocError;
 
-/// Whether a string is of bytes or of text.
+/// Whether a string is a byte string or a text string.
 #[derive(Clone, Copy, PartialEq, Eq)]
 pub enum StringKind {
-    /// Of bytes.
+    /// A byte string.
     Bytes,
-    /// Of text.
+    /// A text string.
     Text,
 }
 
@@ -56,8 +56,8 @@ fn are_same(one: StringKind, other: StringKind) -> bool
     }
 }
 
-/// Whether a piece of the second kind may follow in a string of the first: bytes in a text string,
-/// but no text in a byte string.
+/// Whether a piece of the kind `next` may follow in a string of the kind `kind`. Bytes may be a
+/// part of a text string, but text no part of a byte string.
 #[inline(always)]
 fn may_join(kind: StringKind, next: StringKind) -> bool
     ensures { result ≡ says.may_join kind next }
@@ -68,53 +68,59 @@ fn may_join(kind: StringKind, next: StringKind) -> bool
     }
 }
 
-/// Notes what is wrong with a piece at `place` after others.
-pub(crate) fn note_piece(string: Joint, kind: StringKind, place: usize, slip: &mut Option<Slip>)
-    ensures { (s t : says.Str) (start : ℕ) → string ≡ joint start s → kind ≡ t.kind → place ≡ t.place → Notes slip.old slip.new (says.piece_slips s t) }
+/// Notes what is wrong with a piece of the kind `kind` at `place` after those of `string`.
+pub(crate) fn note_piece(
+    string: Joint,
+    kind: StringKind,
+    place: usize,
+    error: &mut Option<MeaningError>,
+)
+    ensures { (s t : says.Str) (start : ℕ) → string ≡ joint start s → kind ≡ t.kind → place ≡ t.place → Notes error.old error.new (says.piece_errors s t) }
 {
     note_unless(
         is_absent(string.mark),
         string.mark_place,
         EdnReason::IndicatorNotAllowed,
-        slip,
+        error,
     );
     note_unless(
         may_join(string.kind, kind),
         place,
         EdnReason::MixedString,
-        slip,
+        error,
     );
 }
 
-/// Notes what is wrong with a whole string of `size` bytes, which stand in `content`. `may_end` is
-/// whether it may be of indefinite length without a chunk.
-fn note_string(may_end: bool, string: Joint, content: &[u8], slip: &mut Option<Slip>)
-    ensures { (s : says.Str) (start : ℕ) → string ≡ joint start s → content.now ≡ cut s.bytes → (s.known ≡ true → AreBytes s.bytes) → Notes slip.old slip.new (says.string_slips may_end s) }
+/// Notes what is wrong with a whole string, whose bytes are `content`. `may_end` says whether its
+/// indicator may ask for an indefinite length without a chunk.
+fn note_string(may_end: bool, string: Joint, content: &[u8], error: &mut Option<MeaningError>)
+    ensures { (s : says.Str) (start : ℕ) → string ≡ joint start s → content.now ≡ cut s.bytes → (s.known ≡ true → AreBytes s.bytes) → Notes error.old error.new (says.string_errors may_end s) }
 {
-    note_mark(may_end, string, content.len() as u64, slip);
+    note_mark(may_end, string, content.len() as u64, error);
     if string.known {
         note_unless(
             is_good(string.kind, content),
             string.place,
             EdnReason::TextNotUtf8,
-            slip,
+            error,
         );
     }
 }
 
-/// Notes what is wrong with the indicator of a whole string of `size` bytes.
-fn note_mark(may_end: bool, string: Joint, size: u64, slip: &mut Option<Slip>)
-    ensures { (s : says.Str) (start : ℕ) → string ≡ joint start s → size ≡ length s.bytes → Notes slip.old slip.new (says.mark_slips may_end s) }
+/// Notes what is wrong with the indicator of a whole string of `size` bytes. `may_end` says whether
+/// it may ask for an indefinite length.
+fn note_mark(may_end: bool, string: Joint, size: u64, error: &mut Option<MeaningError>)
+    ensures { (s : says.Str) (start : ℕ) → string ≡ joint start s → size ≡ length s.bytes → Notes error.old error.new (says.mark_errors may_end s) }
 {
     if is_endless(string.mark) {
         note_unless(
             may_end,
             string.mark_place,
             EdnReason::IndicatorNotAllowed,
-            slip,
+            error,
         );
     } else if string.known {
-        note_width(string.mark, size, string.mark_place, slip);
+        note_width(string.mark, size, string.mark_place, error);
     }
 }
 
@@ -126,7 +132,7 @@ pub(crate) fn is_endless(mark: Mark) -> bool
     matches!(mark, Mark::Endless)
 }
 
-/// Whether a text string is UTF-8.
+/// Whether the content of a string is UTF-8, if it is a text string.
 fn is_good(kind: StringKind, content: &[u8]) -> bool
     ensures { result ≡ says.is_good kind content.now }
 {
@@ -136,7 +142,8 @@ fn is_good(kind: StringKind, content: &[u8]) -> bool
     }
 }
 
-/// Writes the head of a string with a length in the place of the byte before it.
+/// Puts the head of a definite string in the place of the byte at `start`. Its content is all that
+/// follows that byte.
 fn set_length(major: Major, mark: Mark, start: usize, out: &mut Vec<u8>) -> Result<(), AllocError>
     requires { start < length out.old.items }
     ensures { OnOk result ((x base : List ℕ) → start ≡ length base → out.old.items ≡ cut (base ++ (0 ∷ x)) → out.new.items ≡ cut (base ++ spells.string major (says.width mark (length x)) x)) }
@@ -145,18 +152,19 @@ fn set_length(major: Major, mark: Mark, start: usize, out: &mut Vec<u8>) -> Resu
     set_head(major, width_for(mark, size), size, start, out)
 }
 
-/// Writes the head of a whole string, whose width `mark` gives, and notes what is wrong with it.
+/// Puts the head of a whole string, with the width of `mark`, in the place of its byte, and notes
+/// what is wrong with the string.
 fn close_string(
     string: Joint,
     mark: Mark,
     out: &mut Vec<u8>,
-    slip: &mut Option<Slip>,
+    error: &mut Option<MeaningError>,
 ) -> Result<(), AllocError>
     requires { string.start < length out.old.items }
     ensures added { OnOk result ((s : says.Str) (base : List ℕ) → string ≡ joint (length base) s → out.old.items ≡ cut (base ++ (0 ∷ s.bytes)) → out.new.items ≡ cut (base ++ spells.spelled (says.said_string (record s { mark = mark })))) }
-    ensures noted { OnOk result ((s : says.Str) (base : List ℕ) → string ≡ joint (length base) s → out.old.items ≡ cut (base ++ (0 ∷ s.bytes)) → (s.known ≡ true → AreBytes s.bytes) → Notes slip.old slip.new (says.string_slips s.lone s)) }
+    ensures noted { OnOk result ((s : says.Str) (base : List ℕ) → string ≡ joint (length base) s → out.old.items ≡ cut (base ++ (0 ∷ s.bytes)) → (s.known ≡ true → AreBytes s.bytes) → Notes error.old error.new (says.string_errors s.lone s)) }
 {
-    note_string(string.lone, string, &out[string.start + 1..], slip);
+    note_string(string.lone, string, &out[string.start + 1..], error);
     if string.lone && is_endless(mark) {
         out.truncate(string.start);
         return out.extend_from_slice(&[major_of(string.kind).endless_head(), BREAK]);
@@ -164,7 +172,7 @@ fn close_string(
     set_length(major_of(string.kind), mark, string.start, out)
 }
 
-/// Whether a piece of `size` bytes is a lone `''` or `""`.
+/// Whether a piece of `size` bytes is `''` or `""`.
 #[inline(always)]
 fn is_lone(quoted: bool, size: usize) -> bool
     ensures { (x : List ℕ) → size ≡ length x → result ≡ (quoted && says.is_nil x) }
@@ -172,43 +180,46 @@ fn is_lone(quoted: bool, size: usize) -> bool
     quoted && size == 0
 }
 
-/// The first piece of a string, after the byte at `start`.
+/// A token that is a piece of a string: its kind, whether it is in quotes without a prefix, its
+/// place, and its indicator.
+#[derive(Clone, Copy)]
+pub(crate) struct StringToken {
+    pub(crate) kind: StringKind,
+    pub(crate) quoted: bool,
+    pub(crate) place: usize,
+    pub(crate) mark: Mark,
+}
+
+/// Begins a string with the piece `token`, whose bytes are those of the output after the byte at
+/// `start`.
 #[inline(always)]
-pub(crate) fn begin_string(
-    kind: StringKind,
-    start: usize,
-    place: usize,
-    mark: Mark,
-    quoted: bool,
-    here: &mut Here,
-    writer: &mut Writer,
-)
+pub(crate) fn begin_string(token: StringToken, start: usize, here: &mut Here, writer: &mut Writer)
     requires { start < length writer.old.out.items }
-    ensures shows { (h : Home) (a : Place) (x base : List ℕ) → place ≡ a.start → start ≡ length base → writer.old.out.items ≡ base ++ (0 ∷ x) → AreBytes x → (kind ≡ OfText → quoted ≡ true) → Shows here.old writer.old base (at_home h None) → Shows here.new writer.new writer.new.out.items (builds h (piece (piece_of kind a quoted x mark))) }
+    ensures shows { (h : Home) (a : Place) (x base : List ℕ) → token.place ≡ a.start → start ≡ length base → writer.old.out.items ≡ base ++ (0 ∷ x) → AreBytes x → (token.kind ≡ OfText → token.quoted ≡ true) → Shows here.old writer.old base (at_home h None) → Shows here.new writer.new writer.new.out.items (builds h (piece (piece_of token.kind a token.quoted x token.mark))) }
     ensures heads { writer.new.heads ≡ writer.old.heads }
 {
     writer.string = Some(Joint {
-        kind,
+        kind: token.kind,
         start,
-        place,
-        mark,
-        mark_place: place,
-        lone: is_lone(quoted, writer.out.len() - start - 1),
+        place: token.place,
+        mark: token.mark,
+        mark_place: token.place,
+        lone: is_lone(token.quoted, writer.out.len() - start - 1),
         known: true,
     });
-    here.stand = Stand::Builds;
+    here.phase = Phase::Builds;
 }
 
-/// One more piece of a string.
+/// Adds a piece at `place` to a string. Its bytes are already in the output.
 pub(crate) fn join(kind: StringKind, place: usize, mark: Mark, writer: &mut Writer)
     requires { IsSome writer.old.string }
-    ensures shows { (here : Standing) (h : Home) (ps : Joined) (a : Place) (q : Bool) (x base : List ℕ) → place ≡ a.start → writer.old.out.items ≡ base ++ x → AreBytes x → Shows here writer.old base (builds h ps) → Shows here writer.new writer.new.out.items (builds h (also ps (piece_of kind a q x mark))) }
+    ensures shows { (here : AnyHere) (h : Home) (ps : Joined) (a : Place) (q : Bool) (x base : List ℕ) → place ≡ a.start → writer.old.out.items ≡ base ++ x → AreBytes x → Shows here writer.old base (builds h ps) → Shows here writer.new writer.new.out.items (builds h (also ps (piece_of kind a q x mark))) }
     ensures heads { writer.new.heads ≡ writer.old.heads }
 {
     let Some(string) = writer.string else {
         unreachable!();
     };
-    note_piece(string, kind, place, &mut writer.slip);
+    note_piece(string, kind, place, &mut writer.error);
     writer.string = Some(Joint {
         mark,
         mark_place: place,
@@ -217,7 +228,7 @@ pub(crate) fn join(kind: StringKind, place: usize, mark: Mark, writer: &mut Writ
     });
 }
 
-/// The string ends, as an item.
+/// Ends a string, which is then an item.
 #[inline(always)]
 pub(crate) fn end_item(here: &mut Here, writer: &mut Writer) -> Result<(), AllocError>
     requires { (st : Stack) × (ps : Joined) × Shows here.old writer.old writer.old.out.items (builds (as_item st) ps) }
@@ -228,12 +239,12 @@ pub(crate) fn end_item(here: &mut Here, writer: &mut Writer) -> Result<(), Alloc
         unreachable!();
     };
     writer.string = None;
-    here.stand = Stand::Has;
+    here.phase = Phase::Has;
     let mark = writer.written(joint.mark);
-    close_string(joint, mark, &mut writer.out, &mut writer.slip)
+    close_string(joint, mark, &mut writer.out, &mut writer.error)
 }
 
-/// The string ends, as a chunk.
+/// Ends a string, which is then a chunk.
 #[inline(always)]
 pub(crate) fn end_chunk(here: &mut Here, writer: &mut Writer) -> Result<(), AllocError>
     requires { (st : Stack) × (s : Place) × (b : StringsBefore) × (ps : Joined) × Shows here.old writer.old writer.old.out.items (builds (as_chunk st s b) ps) }
@@ -252,12 +263,12 @@ pub(crate) fn end_chunk(here: &mut Here, writer: &mut Writer) -> Result<(), Allo
         start: chunks.start,
         kind: Some(kind),
     });
-    here.stand = Stand::WantsChunk;
+    here.phase = Phase::WantsChunk;
     let mark = writer.written(joint.mark);
-    close_chunk(kind, joint, mark, &mut writer.out, &mut writer.slip)
+    close_chunk(kind, joint, mark, &mut writer.out, &mut writer.error)
 }
 
-/// The kind of the first chunk, which `next` is where there is none before it.
+/// The kind of the first chunk: `first`, or `next` if there was no chunk before.
 #[inline(always)]
 fn kind_or(first: Option<StringKind>, next: StringKind) -> StringKind
     ensures { result ≡ kind_or first next }
@@ -268,30 +279,30 @@ fn kind_or(first: Option<StringKind>, next: StringKind) -> StringKind
     }
 }
 
-/// Writes the head of a chunk, whose width `mark` gives, and notes what is wrong with it; `kind` is
-/// that of the first chunk.
+/// Puts the head of a chunk, with the width of `mark`, in the place of its byte, and notes what is
+/// wrong with the chunk. `kind` is that of the first chunk.
 fn close_chunk(
     kind: StringKind,
     string: Joint,
     mark: Mark,
     out: &mut Vec<u8>,
-    slip: &mut Option<Slip>,
+    error: &mut Option<MeaningError>,
 ) -> Result<(), AllocError>
     requires { string.start < length out.old.items }
     ensures added { OnOk result ((s : says.Str) (base : List ℕ) → string ≡ joint (length base) s → out.old.items ≡ cut (base ++ (0 ∷ s.bytes)) → out.new.items ≡ cut (base ++ spells.chunk_bytes (major_of kind) (says.chunk (record s { mark = mark })))) }
-    ensures noted { OnOk result ((s : says.Str) (base : List ℕ) → string ≡ joint (length base) s → out.old.items ≡ cut (base ++ (0 ∷ s.bytes)) → (s.known ≡ true → AreBytes s.bytes) → Notes slip.old slip.new (says.chunk_slips kind s)) }
+    ensures noted { OnOk result ((s : says.Str) (base : List ℕ) → string ≡ joint (length base) s → out.old.items ≡ cut (base ++ (0 ∷ s.bytes)) → (s.known ≡ true → AreBytes s.bytes) → Notes error.old error.new (says.chunk_errors kind s)) }
 {
     note_unless(
         are_same(kind, string.kind),
         string.place,
         EdnReason::MixedChunks,
-        slip,
+        error,
     );
-    note_string(false, string, &out[string.start + 1..], slip);
+    note_string(false, string, &out[string.start + 1..], error);
     set_length(major_of(kind), mark, string.start, out)
 }
 
-/// The chunks end, of which there is one at least.
+/// Ends a string of one or more chunks, which is then an item.
 #[inline(always)]
 pub(crate) fn end_chunks(here: &mut Here, writer: &mut Writer) -> Result<(), AllocError>
     requires { (st : Stack) × (s : Place) × (a : Place) × (ss : Strings) × Shows here.old writer.old writer.old.out.items (wants_chunk st s (after_strings ss a)) }
@@ -305,7 +316,7 @@ pub(crate) fn end_chunks(here: &mut Here, writer: &mut Writer) -> Result<(), All
         unreachable!();
     };
     writer.chunks = None;
-    here.stand = Stand::Has;
+    here.phase = Phase::Has;
     writer.out[chunks.start] = major_of(kind).endless_head();
     writer.out.push(BREAK)?;
     Ok(())

@@ -9,16 +9,16 @@ ghost use Rattle.cborn_lex.specs.Tokens.{begins};
 ghost use Rattle.cborn_lex.specs.Good.{TokensBetween};
 ghost use Rattle.cborn_edn.specs.devices.Ahead.{IsTokenAt, ends_string, NoPieceAt};
 
-use crate::gaps::skip_gaps;
 use crate::heads::set_shortest_head;
+use crate::white_space::skip_white_space;
 use cborn_det::put_head;
 use cborn_lex::{Profile, plain_run, push_letters};
 use cborn_model::Major;
 
-/// Appends the text string at the offset `at` of `text`, where a double quote stands, with its
-/// shortest head, if it has no indicator and no other piece follows. Answers the offset after the
-/// white space and comments that follow it. Where it is another string, or memory was refused,
-/// nothing is changed.
+/// Appends the text string whose opening double quote is at the offset `at` of `text`, with its
+/// shortest head, and gives the offset after the white space that follows the string. `None`, and
+/// nothing is changed, if the string has an indicator, if another piece may follow, or if memory
+/// was refused.
 #[inline(always)]
 pub(crate) fn push_text(
     profile: Profile,
@@ -61,7 +61,8 @@ fn push_plain(content: &[u8], out: &mut Vec<u8>) -> Option<()>
     Some(())
 }
 
-/// Appends a text string that may have escapes, as `push_text` does.
+/// Appends a text string that may have escapes, with its shortest head. `None`, and nothing is
+/// changed, where `push_text` gives `None`.
 #[inline(never)]
 fn push_escaped(profile: Profile, text: &[u8], at: usize, out: &mut Vec<u8>) -> Option<usize>
     requires inside { at < length text.now }
@@ -79,8 +80,8 @@ fn push_escaped(profile: Profile, text: &[u8], at: usize, out: &mut Vec<u8>) -> 
     stop
 }
 
-/// Appends a text string that may have escapes, as `push_text` does, but that a part of it may stay
-/// where the answer is `None`.
+/// Appends a text string that may have escapes, with its shortest head. After `None` a part of the
+/// string may stay in `out`.
 #[inline(always)]
 fn push_some(profile: Profile, text: &[u8], at: usize, out: &mut Vec<u8>) -> Option<usize>
     requires inside { at < length text.now }
@@ -106,43 +107,44 @@ fn push_some(profile: Profile, text: &[u8], at: usize, out: &mut Vec<u8>) -> Opt
     Some(stop)
 }
 
-/// The offset after the white space and comments that follow a string, where neither an indicator
-/// stands at the offset `at` nor another piece of the string follows.
+/// The offset after the white space that follows a string, which ends at the offset `at`. `None` if
+/// the string has an indicator, or if another piece may follow.
 #[inline(always)]
 pub(crate) fn end_of_string(profile: Profile, text: &[u8], at: usize) -> Option<usize>
     requires { at ≤ length text.now }
     ensures within { IfSome result (λ stop. stop ≤ length text.now) }
-    ensures gap { IfSome result (λ stop. TokensBetween profile text.now at stop []) }
+    ensures white_space { IfSome result (λ stop. TokensBetween profile text.now at stop []) }
     ensures ends { IfSome result (λ stop. NoPieceAt text.now stop) }
-    ensures bare { IfSome result (λ stop. begins (λ c. c == 95) (drop at text.now) ≡ false) }
+    ensures no_mark { IfSome result (λ stop. begins (λ c. c == 95) (drop at text.now) ≡ false) }
 {
     if at < text.len() && ends_string(text[at]) {
         return Some(at);
     }
-    gap_after_string(profile, text, at)
+    white_space_after(profile, text, at)
 }
 
-/// The offset after the white space and comments that follow a string, as `end_of_string` answers,
-/// where there may be some.
+/// The offset after the white space that follows a string, which ends at the offset `at`. `None` if
+/// the string has an indicator, or if another piece may follow. Out of line, since a comma or a
+/// bracket mostly follows at once.
 #[inline(never)]
-fn gap_after_string(profile: Profile, text: &[u8], at: usize) -> Option<usize>
+fn white_space_after(profile: Profile, text: &[u8], at: usize) -> Option<usize>
     requires { at ≤ length text.now }
     ensures within { IfSome result (λ stop. stop ≤ length text.now) }
-    ensures gap { IfSome result (λ stop. TokensBetween profile text.now at stop []) }
+    ensures white_space { IfSome result (λ stop. TokensBetween profile text.now at stop []) }
     ensures ends { IfSome result (λ stop. NoPieceAt text.now stop) }
-    ensures bare { IfSome result (λ stop. begins (λ c. c == 95) (drop at text.now) ≡ false) }
+    ensures no_mark { IfSome result (λ stop. begins (λ c. c == 95) (drop at text.now) ≡ false) }
 {
     if begins_mark(&text[at..]) {
         return None;
     }
-    let stop = skip_gaps(profile, text, at)?;
+    let stop = skip_white_space(profile, text, at)?;
     if stop == text.len() || ends_string(text[stop]) {
         return Some(stop);
     }
     None
 }
 
-/// Whether an indicator begins here.
+/// Whether `tail` begins with an underscore, as an indicator does.
 #[inline(always)]
 fn begins_mark(tail: &[u8]) -> bool
     ensures { result ≡ begins (λ c. c == 95) tail.now }
@@ -150,7 +152,7 @@ fn begins_mark(tail: &[u8]) -> bool
     tail.len() > 0 && tail[0] == b'_'
 }
 
-/// Whether a string ends before this character: no piece of a string begins with it.
+/// Whether the character `c` ends a string that it follows. No piece of a string begins with it.
 #[inline(always)]
 pub(crate) fn ends_string(c: u8) -> bool
     ensures { result ≡ ends_string c }

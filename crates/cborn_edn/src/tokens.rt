@@ -1,21 +1,22 @@
-//! The next token, and what it asks of what is open.
+//! The next token of a text, and how deep it goes.
 
 ghost use Rattle.std.specs.Prelude.{◌≡◌, ◌≤◌, ◌<◌, ◌^◌, ◌++◌, ℕ, List, length, IfOk, IfErr};
 ghost use Rattle.cborn_lex.specs.Bad.{HasNoTokenFrom};
 ghost use Rattle.cborn_lex.specs.Kinds.{class_of};
-ghost use Rattle.cborn_edn.specs.shared.Machine.{reach};
+ghost use Rattle.cborn_edn.specs.devices.Machine.{reach};
 ghost use Rattle.cborn_edn.specs.devices.Reading as pure;
 ghost use Rattle.cborn_edn.specs.devices.Reading.{WasRead};
-ghost use Rattle.cborn_edn.specs.declared.states.Stand.TheVariants as stands;
+ghost use Rattle.cborn_edn.specs.declared.states.Phase.TheVariants as phases;
 
 use crate::numbers::is_small;
-use crate::states::Stand;
+use crate::states::Phase;
 use crate::steps::is_piece;
 use cborn_lex::{BareToken, Kind, LexFault, Profile, next_token};
 use std::alloc::Global;
 
-/// The next token from the offset `at` on. What a string stands for is appended where one may
-/// stand, and before it, where one may begin, a byte in the place of its head.
+/// The next token from the offset `at` on, if one is left. If the phase allows a string, its
+/// content is appended to `out`, and if it allows a first piece, a byte in the place of the head
+/// before it.
 ///
 /// # Errors
 /// Those of `next_token`.
@@ -25,26 +26,27 @@ pub(crate) fn read_token(
     profile: Profile,
     text: &str,
     at: usize,
-    stand: Stand,
+    phase: Phase,
     number: &mut u128,
     out: &mut Vec<u8>,
 ) -> Result<Option<BareToken>, LexFault>
     requires { at ≤ length text.now }
-    ensures found { IfOk result (λ o. WasRead profile text.now at stand o number.new out.old.items out.new.items) }
+    ensures found { IfOk result (λ o. WasRead profile text.now at phase o number.new out.old.items out.new.items) }
     ensures refused { IfErr result (λ e. HasNoTokenFrom profile text.now at e) }
 {
-    match stand {
-        Stand::Wants => read_first(alloc, profile, text, at, number, out),
-        Stand::WantsMore => read_first(alloc, profile, text, at, number, out),
-        Stand::WantsChunk => read_first(alloc, profile, text, at, number, out),
-        Stand::Builds => read_more(alloc, profile, text, at, number, out),
-        Stand::Has => read_bare(alloc, profile, text, at, number, out),
-        Stand::WantsNumber => read_bare(alloc, profile, text, at, number, out),
-        Stand::HasNumber => read_bare(alloc, profile, text, at, number, out),
+    match phase {
+        Phase::Wants => read_first(alloc, profile, text, at, number, out),
+        Phase::WantsMore => read_first(alloc, profile, text, at, number, out),
+        Phase::WantsChunk => read_first(alloc, profile, text, at, number, out),
+        Phase::Builds => read_more(alloc, profile, text, at, number, out),
+        Phase::Has => read_bare(alloc, profile, text, at, number, out),
+        Phase::WantsNumber => read_bare(alloc, profile, text, at, number, out),
+        Phase::HasNumber => read_bare(alloc, profile, text, at, number, out),
     }
 }
 
-/// The next token, where a string may begin.
+/// The next token, where a string may begin: its content is appended after a byte in the place of
+/// its head.
 fn read_first(
     alloc: Global,
     profile: Profile,
@@ -54,7 +56,7 @@ fn read_first(
     out: &mut Vec<u8>,
 ) -> Result<Option<BareToken>, LexFault>
     requires { at ≤ length text.now }
-    ensures found { IfOk result (λ o. WasRead profile text.now at stands.Wants o number.new out.old.items out.new.items) }
+    ensures found { IfOk result (λ o. WasRead profile text.now at phases.Wants o number.new out.old.items out.new.items) }
     ensures refused { IfErr result (λ e. HasNoTokenFrom profile text.now at e) }
 {
     let start = out.len();
@@ -67,7 +69,7 @@ fn read_first(
     Ok(found)
 }
 
-/// The next token, where a string may go on.
+/// The next token, where a string may go on: its content is appended.
 #[inline(always)]
 fn read_more(
     alloc: Global,
@@ -78,14 +80,14 @@ fn read_more(
     out: &mut Vec<u8>,
 ) -> Result<Option<BareToken>, LexFault>
     requires { at ≤ length text.now }
-    ensures found { IfOk result (λ o. WasRead profile text.now at stands.Builds o number.new out.old.items out.new.items) }
+    ensures found { IfOk result (λ o. WasRead profile text.now at phases.Builds o number.new out.old.items out.new.items) }
     ensures refused { IfErr result (λ e. HasNoTokenFrom profile text.now at e) }
 {
     let found = next_token(alloc, profile, text, at, number, out)?;
     Ok(found)
 }
 
-/// The next token, where no string may stand.
+/// The next token, where no string is allowed: nothing is appended.
 fn read_bare(
     alloc: Global,
     profile: Profile,
@@ -95,7 +97,7 @@ fn read_bare(
     out: &mut Vec<u8>,
 ) -> Result<Option<BareToken>, LexFault>
     requires { at ≤ length text.now }
-    ensures found { IfOk result (λ o. WasRead profile text.now at stands.Has o number.new out.old.items out.new.items) }
+    ensures found { IfOk result (λ o. WasRead profile text.now at phases.Has o number.new out.old.items out.new.items) }
     ensures refused { IfErr result (λ e. HasNoTokenFrom profile text.now at e) }
 {
     let start = out.len();
@@ -104,7 +106,7 @@ fn read_bare(
     Ok(found)
 }
 
-/// Whether it is a piece of a string, or begins one.
+/// Whether a token was found that is a piece of a string, or a `<<`.
 #[inline(always)]
 fn begins_string(found: Option<BareToken>) -> bool
     ensures { result ≡ pure.begins_string found }
@@ -115,18 +117,18 @@ fn begins_string(found: Option<BareToken>) -> bool
     }
 }
 
-/// Whether a token is a bracket after a comma, which profile 1 doesn't allow.
+/// Whether a token is a bracket that ends after a comma, which profile 1 doesn't allow.
 #[inline(always)]
-pub(crate) fn is_spare(profile: Profile, stand: Stand, kind: Kind) -> bool
-    ensures { result ≡ pure.is_spare profile stand kind }
+pub(crate) fn is_trailing_comma(profile: Profile, phase: Phase, kind: Kind) -> bool
+    ensures { result ≡ pure.is_trailing_comma profile phase kind }
 {
-    match (profile, stand) {
-        (Profile::One, Stand::WantsMore) => is_closing(kind),
+    match (profile, phase) {
+        (Profile::One, Phase::WantsMore) => is_closing(kind),
         _ => false,
     }
 }
 
-/// `]`, `}` or `>>`
+/// Whether a token is `]`, `}` or `>>`.
 #[inline(always)]
 fn is_closing(kind: Kind) -> bool
     ensures { result ≡ pure.is_closing kind }
@@ -137,8 +139,9 @@ fn is_closing(kind: Kind) -> bool
     )
 }
 
-/// How deep a token goes inside so many open brackets. An integer outside 64 bits is a tag over a
-/// string, and goes one level deeper than it stands.
+/// The nesting depth that a token needs inside `levels` open brackets: one more for a bracket that
+/// opens, and `levels` for an integer. An integer outside 64 bits is a tag over a byte string, so
+/// it needs one more, too. 0 for any other token.
 #[inline(always)]
 pub(crate) fn reach_of(levels: u64, kind: Kind, number: u128) -> u64
     requires { levels < 2 ^ 63 }

@@ -7,8 +7,8 @@ ghost use Rattle.cborn_lex.specs.Tokens.{is_word, begins};
 ghost use Rattle.cborn_lex.specs.Good.{IsName};
 ghost use Rattle.cborn_edn.specs.devices.Ahead.{IsTokenAt};
 
-/// The simple value whose word, `false`, `true`, `null` or `undefined`, stands at the offset `at` of
-/// `text`, and the offset after the word.
+/// The simple value of the word at the offset `at` of `text`, and the offset after the word. `None`
+/// if it is none of `false`, `true`, `null` and `undefined`.
 #[inline(always)]
 pub(crate) fn word_at(text: &[u8], at: usize) -> Option<(u8, usize)>
     requires { at ≤ length text.now }
@@ -22,7 +22,7 @@ pub(crate) fn word_at(text: &[u8], at: usize) -> Option<(u8, usize)>
     Some((n, text.len() - rest.len()))
 }
 
-/// The simple value whose name comes first, and what follows the name.
+/// The simple value whose name `tail` begins with, and what follows the name.
 #[inline(always)]
 fn after_name(tail: &[u8]) -> Option<(u8, &[u8])>
     ensures { IfSome result (λ r. (w : List ℕ) × IsName w r.0 × (tail.now ≡ w ++ r.1.now)) }
@@ -40,7 +40,7 @@ fn after_name(tail: &[u8]) -> Option<(u8, &[u8])>
     Some((23, rest))
 }
 
-/// What follows `true`.
+/// What follows `true`, if `tail` begins with it.
 #[inline(always)]
 fn after_true(tail: &[u8]) -> Option<&[u8]>
     ensures { IfSome result (λ rest. tail.now ≡ codes "true" ++ rest.now) }
@@ -51,7 +51,7 @@ fn after_true(tail: &[u8]) -> Option<&[u8]>
     }
 }
 
-/// What follows `null`.
+/// What follows `null`, if `tail` begins with it.
 #[inline(always)]
 fn after_null(tail: &[u8]) -> Option<&[u8]>
     ensures { IfSome result (λ rest. tail.now ≡ codes "null" ++ rest.now) }
@@ -62,7 +62,7 @@ fn after_null(tail: &[u8]) -> Option<&[u8]>
     }
 }
 
-/// What follows `false`.
+/// What follows `false`, if `tail` begins with it.
 #[inline(always)]
 fn after_false(tail: &[u8]) -> Option<&[u8]>
     ensures { IfSome result (λ rest. tail.now ≡ codes "false" ++ rest.now) }
@@ -73,7 +73,7 @@ fn after_false(tail: &[u8]) -> Option<&[u8]>
     }
 }
 
-/// What follows `undefined`.
+/// What follows `undefined`, if `tail` begins with it.
 #[inline(always)]
 fn after_undefined(tail: &[u8]) -> Option<&[u8]>
     ensures { IfSome result (λ rest. tail.now ≡ codes "undefined" ++ rest.now) }
@@ -95,7 +95,8 @@ fn after_undefined(tail: &[u8]) -> Option<&[u8]>
     }
 }
 
-/// Whether a word goes on, or the quote of a string follows it.
+/// Whether `rest` continues a word, or begins with a quote, so that the word is the prefix of a
+/// string.
 #[inline(always)]
 fn goes_on(rest: &[u8]) -> bool
     ensures { result ≡ (begins is_word rest.now || begins (λ c. c == 39) rest.now) }

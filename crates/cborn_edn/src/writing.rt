@@ -1,4 +1,4 @@
-//! The fixed notation of a node, appended to text.
+//! The fixed notation of a node, appended to a buffer.
 
 ghost use Rattle.std.specs.Prelude.{◌≡◌, ◌++◌, map, suc, true, OnOk, codes, decimal};
 ghost use Rattle.std.specs.List.{flat_map};
@@ -75,10 +75,10 @@ fn push_pairs(alloc: Global, out: &mut Vec<u8>, pairs: &[(Node, Node)]) -> Resul
     Ok(())
 }
 
-/// Appends what stands before the item at `i`, of those that have `separator` between them.
+/// Appends `separator` before the item with the index `i`, but before the first nothing.
 ///
 /// # Errors
-/// Where memory was refused.
+/// `AllocError` if memory was refused.
 pub fn push_between(out: &mut Vec<u8>, i: usize, separator: &[u8]) -> Result<(), AllocError>
     ensures { OnOk result (out.new.items ≡ out.old.items ++ between separator.now i) }
 {
@@ -88,7 +88,7 @@ pub fn push_between(out: &mut Vec<u8>, i: usize, separator: &[u8]) -> Result<(),
     Ok(())
 }
 
-/// Appends a number, and its indicator.
+/// Appends a number, and its indicator if its head isn't the shortest.
 fn push_number(out: &mut Vec<u8>, width: Width, n: u64) -> Result<(), AllocError>
     ensures { OnOk result (out.new.items ≡ out.old.items ++ (decimal n ++ pure.indicator (mark_for width n))) }
 {
@@ -96,7 +96,7 @@ fn push_number(out: &mut Vec<u8>, width: Width, n: u64) -> Result<(), AllocError
     push_indicator(out, width, n)
 }
 
-/// Appends -1-n, and its indicator.
+/// Appends -1-n, and its indicator if its head isn't the shortest.
 fn push_below(out: &mut Vec<u8>, width: Width, n: u64) -> Result<(), AllocError>
     ensures { OnOk result (out.new.items ≡ out.old.items ++ (codes "-" ++ (decimal (suc n) ++ pure.indicator (mark_for width n)))) }
 {
@@ -105,7 +105,7 @@ fn push_below(out: &mut Vec<u8>, width: Width, n: u64) -> Result<(), AllocError>
     push_indicator(out, width, n)
 }
 
-/// Appends a number.
+/// Appends a number in decimal.
 fn push_decimal(out: &mut Vec<u8>, n: u128) -> Result<(), AllocError>
     ensures { OnOk result (out.new.items ≡ out.old.items ++ decimal n) }
 {
@@ -113,10 +113,11 @@ fn push_decimal(out: &mut Vec<u8>, n: u128) -> Result<(), AllocError>
     out.extend_from_slice(buffer.format(n).as_bytes())
 }
 
-/// Appends the indicator of a head that isn't the shortest for `n`.
+/// Appends the indicator of a head with the argument `n` (RFC 8949 section 8.1), but nothing if
+/// `width` is the shortest.
 ///
 /// # Errors
-/// Where memory was refused.
+/// `AllocError` if memory was refused.
 pub fn push_indicator(out: &mut Vec<u8>, width: Width, n: u64) -> Result<(), AllocError>
     ensures { OnOk result (out.new.items ≡ out.old.items ++ pure.indicator (mark_for width n)) }
 {
@@ -132,7 +133,8 @@ pub fn push_indicator(out: &mut Vec<u8>, width: Width, n: u64) -> Result<(), All
     }
 }
 
-/// Appends the indicator of an array or a map of `n` entries, and a space behind it.
+/// Appends the indicator of an array or a map of `n` items or pairs, and a space after it, if it
+/// has one.
 fn push_size(out: &mut Vec<u8>, size: Size, n: u64) -> Result<(), AllocError>
     ensures { OnOk result (out.new.items ≡ out.old.items ++ pure.opened (mark_for_size size n)) }
 {
@@ -148,10 +150,11 @@ fn push_size(out: &mut Vec<u8>, size: Size, n: u64) -> Result<(), AllocError>
     }
 }
 
-/// Appends a simple value.
+/// Appends a simple value: `false`, `true`, `null`, `undefined`, or its number in `simple(..)` (RFC
+/// 8949 sections 3.3 and 8).
 ///
 /// # Errors
-/// Where memory was refused.
+/// `AllocError` if memory was refused.
 pub fn push_simple(out: &mut Vec<u8>, n: u8) -> Result<(), AllocError>
     ensures { OnOk result (out.new.items ≡ out.old.items ++ pure.shown_simple n) }
 {
@@ -169,7 +172,7 @@ pub fn push_simple(out: &mut Vec<u8>, n: u8) -> Result<(), AllocError>
     }
 }
 
-/// Appends a byte string, or a chunk of one.
+/// Appends a byte string or a chunk of one, in hexadecimal.
 fn push_bytes(
     alloc: Global,
     out: &mut Vec<u8>,
@@ -186,7 +189,7 @@ fn push_bytes(
     push_indicator(out, width, bytes.len() as u64)
 }
 
-/// Appends a text string, or a chunk of one.
+/// Appends a text string or a chunk of one, in double quotes.
 fn push_text(
     alloc: Global,
     out: &mut Vec<u8>,
@@ -202,10 +205,10 @@ fn push_text(
     push_indicator(out, width, bytes.len() as u64)
 }
 
-/// Appends text with its escapes, run by run.
+/// Appends `text` with escapes for quotes, backslashes and control characters (RFC 8259 section 7).
 ///
 /// # Errors
-/// Where memory was refused.
+/// `AllocError` if memory was refused.
 pub fn push_escaped(alloc: Global, out: &mut Vec<u8>, text: &[u8]) -> Result<(), AllocError>
     ensures { OnOk result (out.new.items ≡ out.old.items ++ flat_map pure.escaped text.now) }
 {
@@ -220,14 +223,14 @@ pub fn push_escaped(alloc: Global, out: &mut Vec<u8>, text: &[u8]) -> Result<(),
     out.extend_from_slice(&text[from..])
 }
 
-/// Whether a byte of text is written as an escape.
+/// Whether the byte `b` of a text is written as an escape.
 fn is_escaped(b: u8) -> bool
     ensures { result ≡ is_escaped b }
 {
     b < 32 || b == b'"' || b == b'\\'
 }
 
-/// Appends the escape of a byte.
+/// Appends the escape of the byte `b`.
 fn push_escape(alloc: Global, out: &mut Vec<u8>, b: u8) -> Result<(), AllocError>
     requires { is_escaped b ≡ true }
     ensures { OnOk result (out.new.items ≡ out.old.items ++ pure.escaped b) }

@@ -1,8 +1,8 @@
 -- What the calls answer: for an input that is refused, that holds items, or that wasn't read to its end.
 pub mod Listed
-pub mod Told
+pub mod KnownErrors
 pub mod Unanswered
-pub mod Untold
+pub mod Unreported
 pub mod Checked
 pub mod Whole
 pub mod Noted

@@ -7,7 +7,7 @@ use Rattle.std.specs.declared.cmp.Ordering.{Ordering}
 use Rattle.std.specs.Io.KnownBytes.{IsAtEnd, Consumes, Appends}
 use Rattle.cborn_model.specs.Tree.{Tree, place}
 use Rattle.cborn_model.specs.Value.{Value}
-use Rattle.cborn_judge.specs.declared.defects.Defect.{Defect}
+use Rattle.cborn_model.specs.declared.defects.Defect.{Defect}
 use Rattle.cborn_engine.specs.declared.faults.EngineFault.{EngineFault}
 use Rattle.cborn_engine.specs.declared.faults.EngineFault.TheVariants as fault
 use Rattle.cborn_engine.specs.declared.one_faults.OneFault.{OneFault}

@@ -50,7 +50,7 @@ pub record SpellSameBytes (k out : Kind) (limit : ℕ) (input output : List ℕ)
   pub read : IsShown k kind.Wire limit input bytes
   pub written : IsShown out kind.Wire limit output bytes
 
--- what telling this input in another form answers: the output, or why there is none
+-- what writing this input in another form answers: the output, or why there is none
 abbrev pub TellAnswers : Kind → Kind → ℕ → ℕ → List ℕ → Result (Vec ℕ Global) EngineFault → Type 0
 TellAnswers k out limit most input (Ok bytes) = (length input ≤ most) × IsShown k out limit input bytes.items
 TellAnswers k out limit most input (Err (fault.Show why)) = (length input ≤ most) × IsUnshowable k out limit input why

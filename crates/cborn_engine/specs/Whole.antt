@@ -37,6 +37,6 @@ AreRefusedWhole k l limit most x y compared.OutOfMemory = length x ≤ most
 abbrev pub TellsFault : {A : Type 0} → Kind → ℕ → List ℕ → Result A EngineFault → Type 0
 TellsFault k limit input result = (p : ℕ) (r : WireReason) → k ≡ kind.Wire → Fault limit input p r → result ≡ Err (fault.Wire (wire.Refused p r))
 
--- Of two inputs likewise the first, of which nothing but the fault of its bytes is reported then.
+-- Where the first of two inputs has a fault of its bytes, nothing else is reported.
 abbrev pub TellsFirstFault : {A : Type 0} → Kind → ℕ → List ℕ → Result A CompareFault → Type 0
 TellsFirstFault k limit input result = (p : ℕ) (r : WireReason) → k ≡ kind.Wire → Fault limit input p r → result ≡ Err (compared.First (fault.Wire (wire.Refused p r)))

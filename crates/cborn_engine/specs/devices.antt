@@ -3,3 +3,4 @@ pub mod Encoding
 pub mod Malformed
 pub mod Reading
 pub mod OneItem
+pub mod TextBytes

@@ -11,10 +11,9 @@ ghost use Rattle.cborn_engine.specs.devices.Counting.{read_failures};
 use crate::encodings::judge_bytes;
 use crate::faults::EngineFault;
 use crate::inputs::MOST;
-use cborn_judge::Defect;
-use cborn_model::{KeyOrder, Limit};
+use cborn_departures::{Departure, first_departure};
+use cborn_model::{Defect, KeyOrder, Limit};
 use cborn_streams::{Source, read_bytes};
-use cborn_transcode::{Departure, first_departure};
 use std::alloc::Global;
 
 /// The first defect of the bytes of an input, if they aren't the deterministic encodings of the

@@ -5,8 +5,8 @@ ghost use Rattle.cborn_engine.specs.declared.kinds.Kind.TheVariants as kinds;
 ghost use Rattle.cborn_engine.specs.Comparing.{AreCompared};
 ghost use Rattle.cborn_engine.specs.devices.Encoding.{IsEncoded};
 
+use cborn_departures::split_item;
 use cborn_model::{KeyOrder, Limit};
-use cborn_transcode::split_item;
 
 /// The difference of what two deterministic encodings hold.
 pub fn difference<O: KeyOrder>(limit: Limit, ours: &[u8], theirs: &[u8]) -> Option<u64>
@@ -37,10 +37,10 @@ fn difference_of_encodings<O: KeyOrder>(limit: Limit, ours: &[u8], theirs: &[u8]
         let Some((item, rest)) = split_item::<O>(limit.get(), left) else {
             unreachable!();
         };
-        match behind(item, right) {
-            Some(after) => {
+        match after(item, right) {
+            Some(remaining) => {
                 left = rest;
-                right = after;
+                right = remaining;
             }
             None => return index,
         }
@@ -50,7 +50,7 @@ fn difference_of_encodings<O: KeyOrder>(limit: Limit, ours: &[u8], theirs: &[u8]
 }
 
 /// What follows `front` in bytes that begin with it.
-fn behind<'a>(front: &[u8], bytes: &'a [u8]) -> Option<&'a [u8]>
+fn after<'a>(front: &[u8], bytes: &'a [u8]) -> Option<&'a [u8]>
     ensures { MatchOption result ((rest : List ℕ) → bytes.now ≢ front.now ++ rest) (λ rest. bytes.now ≡ front.now ++ rest.now) }
 {
     bytes.strip_prefix(front)

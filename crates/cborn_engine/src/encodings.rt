@@ -2,7 +2,7 @@
 //! it answers nothing, what is wrong with them is looked for, without a tree too. A text becomes
 //! bytes first, by such a pass.
 ghost use Rattle.std.specs.Prelude.{◌≡◌, ◌≤◌, ◌+◌, ℕ, None, length, take, IfSome, IfErr, OnOk};
-ghost use Rattle.cborn_search.specs.Searching.{IsFirstFlawOf};
+ghost use Rattle.cborn_flaws.specs.Searching.{IsFirstFlawOf};
 ghost use Rattle.cborn_transcode.specs.Transcoding.{IsTranscoded};
 ghost use Rattle.cborn_engine.specs.declared.kinds.Kind.TheVariants as kinds;
 ghost use Rattle.cborn_engine.specs.devices.Encoding.{EncodeAnswers, IsEncoded, kind_of};
@@ -16,13 +16,13 @@ use crate::faults::EngineFault;
 use crate::inputs::MOST;
 use crate::kinds::{Kind, profile_of};
 use crate::refusals::{fault_of_bytes, fault_or_refusal, flaw_of_text};
-use crate::texts::short_bytes_of_text;
-use cborn_judge::Invalid;
+use crate::texts::{HeadWidths, bytes_of_text};
+use cborn_departures::deterministic_front;
+use cborn_flaws::{Validity, first_flaw};
 use cborn_lex::Profile;
-use cborn_model::{KeyOrder, Limit};
-use cborn_search::{Validity, first_flaw};
+use cborn_model::{Invalid, KeyOrder, Limit};
 use cborn_streams::{Source, read_bytes};
-use cborn_transcode::{deterministic_front, transcode_after};
+use cborn_transcode::transcode_after;
 use std::alloc::Global;
 
 /// The deterministic encodings of what the whole input holds, one after another. Bytes that are
@@ -89,7 +89,7 @@ pub fn encode_input<O: KeyOrder>(
 }
 
 /// What `encode_input` answers of bytes. Where the pass answers nothing, they hold no items, so that
-/// a reason is found. Where it was refused memory, the bytes are told to be at fault if they are.
+/// a reason is found. Where memory was refused, the fault of the bytes is answered if they have one.
 fn encode_bytes<O: KeyOrder>(
     alloc: Global,
     limit: Limit,
@@ -149,7 +149,7 @@ fn encode_text<O: KeyOrder>(
     ensures answers { length input.now ≤ most_bytes → EncodeAnswers O.order (kind_of profile) limit most_bytes input.now result }
     ensures failures { (n : ℕ) → read_failures result n ≡ n }
 {
-    let bytes = short_bytes_of_text(alloc, limit, profile, input)?;
+    let bytes = bytes_of_text(alloc, limit, profile, HeadWidths::Shortest, input)?;
     let front = deterministic_front::<O>(limit, &bytes);
     if front == bytes.len() {
         return Ok(bytes);

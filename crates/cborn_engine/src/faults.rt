@@ -4,8 +4,8 @@ ghost use Rattle.cborn_engine.specs.declared.faults.CompareFault.{CompareFault};
 ghost use Rattle.cborn_engine.specs.declared.faults.EngineFault.{EngineFault};
 
 use cborn_edn::{EdnFault, ShowFault};
-use cborn_judge::Invalid;
 use cborn_lex::LexFault;
+use cborn_model::Invalid;
 use cborn_streams::{InputFault, OutputFault};
 use cborn_wire::WireFault;
 use std::alloc::AllocError;

@@ -12,7 +12,7 @@
 //! [`laws`] has the headline in one place. In the code `texts` makes texts and bytes of what was
 //! read, `nodes` makes nodes and `inputs` hands them out. `encodings` encodes a whole input,
 //! `showings` writes it in another form, and `checks` judges it, by passes that keep no tree
-//! (`cborn_transcode`, `cborn_edn`, `cborn_show`); `refusals` finds out why a text is refused.
+//! (`cborn_transcode`, `cborn_departures`, `cborn_edn`, `cborn_show`); `refusals` finds out why a text is refused.
 //! `conversions` and `comparisons` are the calls over readers, `slices` those over inputs that are
 //! held whole.
 //!

@@ -8,8 +8,7 @@ use crate::kinds::Kind;
 use crate::one_faults::{CompareOneFault, OneFault};
 use crate::ones::expect_one;
 use crate::slices::{check_slice, normalise_slice, show_slice};
-use cborn_judge::Defect;
-use cborn_model::{KeyOrder, Limit};
+use cborn_model::{Defect, KeyOrder, Limit};
 use std::alloc::Global;
 use std::borrow::CowSlice;
 

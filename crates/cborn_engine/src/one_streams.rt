@@ -15,8 +15,7 @@ use crate::kinds::Kind;
 use crate::one_faults::{CompareOneFault, OneFault};
 use crate::one_slices::{check_one_slice, normalise_one_slice, show_one_slice};
 use crate::ones::expect_one;
-use cborn_judge::Defect;
-use cborn_model::{KeyOrder, Limit};
+use cborn_model::{Defect, KeyOrder, Limit};
 use cborn_streams::{Sink, Source, read_bytes, write_answer};
 use std::alloc::Global;
 

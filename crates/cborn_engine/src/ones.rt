@@ -14,11 +14,11 @@ ghost use Rattle.cborn_engine.specs.Reading.{most_bytes};
 
 use crate::kinds::{Kind, profile_of};
 use crate::one_faults::OneFault;
-use crate::texts::{short_bytes_of_text, text_of};
+use crate::texts::{HeadWidths, bytes_of_text, text_of};
 use cborn_lex::Profile;
 use cborn_model::Limit;
 use cborn_paths::first_end;
-use cborn_places::place_in_text;
+use cborn_text_places::place_in_text;
 use std::alloc::Global;
 
 /// Refuses an input that spells nodes, but not exactly one.
@@ -61,7 +61,7 @@ fn one_in_text(alloc: Global, limit: Limit, profile: Profile, input: &[u8]) -> R
     ensures one { OnOk result (SpellsOne (kind_of profile) limit input.now) }
     ensures refused { IfErr result (λ why. (why ≡ one.Engine fault.OutOfMemory) ⊎ IsNotOne (kind_of profile) limit input.now why) }
 {
-    let bytes = short_bytes_of_text(alloc, limit, profile, input)?;
+    let bytes = bytes_of_text(alloc, limit, profile, HeadWidths::Shortest, input)?;
     let most = limit.get();
     prove!(most <= 1024);
     let Some(end) = first_end(alloc, &bytes)? else {

@@ -1,7 +1,7 @@
-//! Why an input is refused for which the passes had no answer, told without its nodes. Of bytes this is
-//! the fault of what isn't well-formed. Of a text it is the fault of its tokens, grammar or meaning, or
-//! the first flaw of its items: a flaw is looked for in the bytes that the text spells, and told at its
-//! place in the text.
+//! Why an input is refused for which the passes had no answer. It is found without the nodes of the input.
+//! Bytes are refused where they aren't well-formed. A text is refused for the fault of its tokens, of its
+//! syntax or of its meaning, or for the first flaw of its items. The flaw is looked for in the bytes that
+//! the text spells, and its place is then found in the text.
 ghost use Rattle.std.specs.Prelude.{◌≡◌, ◌≤◌, ◌⊎◌, ℕ, length, IfErr, IsUtf8};
 ghost use Rattle.cborn_engine.specs.declared.faults.EngineFault.TheVariants as fault;
 ghost use Rattle.cborn_wire.specs.Faults.{IsWellformed};
@@ -15,11 +15,10 @@ ghost use Rattle.cborn_engine.specs.Refusing.{IsRefused};
 
 use crate::faults::EngineFault;
 use crate::texts::text_of;
-use cborn_judge::Invalid;
+use cborn_flaws::{Validity, first_flaw};
 use cborn_lex::Profile;
-use cborn_model::Limit;
-use cborn_places::place_in_text;
-use cborn_search::{Validity, first_flaw};
+use cborn_model::{Invalid, Limit};
+use cborn_text_places::place_in_text;
 use cborn_wire::{WireFault, scan};
 use std::alloc::{AllocError, Global};
 

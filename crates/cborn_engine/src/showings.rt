@@ -1,7 +1,7 @@
-//! Reading a whole input, and telling what it holds in another form. Bytes that are to stay bytes
+//! Reading a whole input, and writing what it holds in another form. Bytes that are to stay bytes
 //! are what their nodes spell, once it is known that they are well-formed. Else they become
-//! notation by a pass that keeps no tree; where they have none, the reason is looked for, without a
-//! tree too. A text becomes bytes first, by such a pass.
+//! notation by a pass that keeps no tree. Where they have no notation, the reason is looked for,
+//! without a tree too. A text becomes bytes first, by such a pass.
 ghost use Rattle.std.specs.Prelude.{◌≡◌, ◌≢◌, ◌≤◌, ◌+◌, ℕ, List, length, Err, IsTrue, IsFalse, IsUtf8};
 ghost use Rattle.cborn_lex.specs.declared.classes.Profile.{Profile as ProfileSpec};
 ghost use Rattle.cborn_edn.specs.Spelling.{IsSpelling};
@@ -20,11 +20,11 @@ use crate::faults::EngineFault;
 use crate::inputs::MOST;
 use crate::kinds::{Kind, profile_of};
 use crate::refusals::{fault_of_bytes, fault_or_refusal};
-use crate::texts::bytes_of_text;
+use crate::texts::{HeadWidths, bytes_of_text};
 use cborn_edn::ShowFault;
+use cborn_flaws::{TextValidity, first_bad_text};
 use cborn_lex::Profile;
 use cborn_model::Limit;
-use cborn_search::{TextValidity, first_bad_text};
 use cborn_show::{Notated, show_bytes};
 use cborn_streams::{Source, read_bytes};
 use cborn_wire::scan;
@@ -53,8 +53,8 @@ pub fn read_shown<R: Source>(
     show_read(alloc, limit, in_kind, out_kind, input)
 }
 
-/// The items of an input as they are spelled, as `show_input` answers. The input is let go as soon as
-/// it isn't needed.
+/// The items of an input as they are spelled, as `show_input` answers. The memory of the input is
+/// given back as soon as it isn't needed.
 ///
 /// # Errors
 /// Those of `show_input`.
@@ -170,8 +170,8 @@ fn why_unshown(limit: Limit, out_kind: Kind, input: &[u8]) -> EngineFault
     }
 }
 
-/// What `show_input` answers of a text: it is spelled, and these bytes are told. Where it spells
-/// none, it is refused.
+/// What `show_input` answers of a text: the bytes that it spells, in a form of this kind, or why it
+/// spells none.
 fn tell_text(
     alloc: Global,
     limit: Limit,
@@ -183,11 +183,11 @@ fn tell_text(
     ensures answers { length input.now ≤ most_bytes → TellAnswers (kind_of profile) out_kind limit most_bytes input.now result }
     ensures failures { (n : ℕ) → read_failures result n ≡ n }
 {
-    let bytes = bytes_of_text(alloc, limit, profile, input)?;
+    let bytes = bytes_of_text(alloc, limit, profile, HeadWidths::AsWritten, input)?;
     tell_spelling(alloc, limit, out_kind, bytes)
 }
 
-/// What `show_input` answers of a text, which is let go once its bytes are there.
+/// What `show_input` answers of a text. The memory of the text is given back once its bytes are there.
 fn tell_read_text(
     alloc: Global,
     limit: Limit,
@@ -199,7 +199,7 @@ fn tell_read_text(
     ensures answers { length input.items ≤ most_bytes → TellAnswers (kind_of profile) out_kind limit most_bytes input.items result }
     ensures failures { (n : ℕ) → read_failures result n ≡ n }
 {
-    let bytes = bytes_of_text(alloc, limit, profile, &input)?;
+    let bytes = bytes_of_text(alloc, limit, profile, HeadWidths::AsWritten, &input)?;
     drop(input);
     tell_spelling(alloc, limit, out_kind, bytes)
 }

@@ -25,8 +25,7 @@ use crate::faults::{CompareFault, EngineFault};
 use crate::inputs::MOST;
 use crate::kinds::Kind;
 use crate::showings::{is_own_spelling, show_input};
-use cborn_judge::Defect;
-use cborn_model::{KeyOrder, Limit};
+use cborn_model::{Defect, KeyOrder, Limit};
 use std::alloc::{AllocError, Global};
 use std::borrow::CowSlice;
 

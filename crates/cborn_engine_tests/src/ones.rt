@@ -1,12 +1,11 @@
-//! The calls for exactly one item: each has an answer, and reports no item and a second item. By their
+//! The calls for exactly one item: each has an answer, and refuses no item and a second item. By their
 //! contracts they could always answer out of memory.
 use super::memory::{Bytes, Taken};
 use cborn_engine::{
     CompareOneFault, Kind, OneFault, check_one, check_one_slice, compare_one, normalise_one,
     normalise_one_slice, same_item, show_one, show_one_slice,
 };
-use cborn_judge::{Defect, DefectReason};
-use cborn_model::{Bytewise, Limit};
+use cborn_model::{Bytewise, Defect, DefectReason, Limit};
 use std::alloc::Global;
 use std::process::Abort;
 use std::test::Fail;
@@ -38,7 +37,7 @@ fn encoded(
     let slice = normalise_one_slice::<Bytewise>(alloc, Limit::USUAL, kind, Kind::Wire, input);
     let mut out = Taken::new(alloc)?;
     let mut reader = Bytes::new(input, 2);
-    let told = normalise_one::<Bytewise, _, _>(
+    let streamed = normalise_one::<Bytewise, _, _>(
         alloc,
         Limit::USUAL,
         kind,
@@ -46,7 +45,7 @@ fn encoded(
         &mut reader,
         &mut out,
     );
-    assert_eq!(rt; told.err(), wanted.err(), "{input:?}");
+    assert_eq!(rt; streamed.err(), wanted.err(), "{input:?}");
     assert!(rt; out.bytes.as_slice() == wanted.unwrap_or(b""), "{input:?}");
     match slice {
         Ok(bytes) => assert!(rt; wanted == Ok(&*bytes), "{input:?}"),
@@ -66,8 +65,8 @@ fn shown(
     let slice = show_one_slice(alloc, Limit::USUAL, kind, Kind::Wire, input);
     let mut out = Taken::new(alloc)?;
     let mut reader = Bytes::new(input, 2);
-    let told = show_one(alloc, Limit::USUAL, kind, Kind::Wire, &mut reader, &mut out);
-    assert_eq!(rt; told.err(), fault, "{input:?}");
+    let streamed = show_one(alloc, Limit::USUAL, kind, Kind::Wire, &mut reader, &mut out);
+    assert_eq!(rt; streamed.err(), fault, "{input:?}");
     match slice {
         Ok(bytes) => assert!(rt; out.bytes.as_slice() == &*bytes, "{input:?}"),
         Err(why) => assert_eq!(rt; Some(why), fault, "{input:?}"),
@@ -82,7 +81,7 @@ fn compared(rt: &impl Abort, alloc: Global, kind: Kind, input: &[u8], fault: Opt
     assert_eq!(rt; same.err(), wanted, "{input:?}");
     assert!(rt; same.unwrap_or(true), "{input:?}");
     let (mut first, mut second) = (Bytes::new(input, 2), Bytes::new(input, 3));
-    let told = compare_one::<Bytewise, _, _>(
+    let streamed = compare_one::<Bytewise, _, _>(
         alloc,
         Limit::USUAL,
         kind,
@@ -90,7 +89,7 @@ fn compared(rt: &impl Abort, alloc: Global, kind: Kind, input: &[u8], fault: Opt
         kind,
         &mut second,
     );
-    assert_eq!(rt; told, same, "{input:?}");
+    assert_eq!(rt; streamed, same, "{input:?}");
 }
 
 /// Catches a call that never answers, and a second item that is passed over.
@@ -125,7 +124,7 @@ fn one_item_checked(rt: HostRuntime) {
         let slice = check_one_slice::<Bytewise>(rt.alloc(), Limit::USUAL, input);
         assert_eq!(rt; slice, wanted, "{input:?}");
         let mut reader = Bytes::new(input, 1);
-        let told = check_one::<Bytewise, _>(rt.alloc(), Limit::USUAL, &mut reader);
-        assert_eq!(rt; told, wanted, "{input:?}");
+        let streamed = check_one::<Bytewise, _>(rt.alloc(), Limit::USUAL, &mut reader);
+        assert_eq!(rt; streamed, wanted, "{input:?}");
     }
 }

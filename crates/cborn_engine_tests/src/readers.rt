@@ -37,8 +37,8 @@ fn writers_with_trouble(rt: HostRuntime) -> Result<(), Fail> {
         let result = normalised(rt.alloc(), &mut Bytes::new(INPUT, 3), &mut out);
         let fault = (!is_well).then_some(EngineFault::WriteFault);
         assert_eq!(rt; result.err(), fault, "{calls} calls, {counts:?}");
-        let told = [out.writes, out.flushes, Sink::failures(&out)];
-        assert_eq!(rt; told, counts, "{calls} calls");
+        let found = [out.writes, out.flushes, Sink::failures(&out)];
+        assert_eq!(rt; found, counts, "{calls} calls");
         assert_eq!(rt; out.bytes.as_slice(), taken, "{calls} calls, {counts:?}");
     }
     Ok(())

@@ -6,9 +6,11 @@ use crate::items::valid_at;
 use crate::quotes::{push_hex, push_item, slice_of, valid_front};
 use crate::reasons::BytesReason;
 use cborn_det::encode;
-use cborn_judge::{DefectReason, InvalidReason};
-use cborn_model::{Bytewise, KeyOrder, LengthFirst, Limit, Major, Valid, same, shortest};
-use cborn_paths::{Level, Nesting, Walk, content_len, end_of_item, whole_head};
+use cborn_model::{
+    Bytewise, DefectReason, InvalidReason, KeyOrder, LengthFirst, Limit, Major, Valid, same,
+    shortest,
+};
+use cborn_paths::{Level, LevelKind, Walk, content_len, end_of_item, whole_head};
 use cborn_wire::{Argument, Head, HeadRead, WireReason, head_bytes, read_head};
 use std::alloc::{AllocError, Global};
 use std::cmp::Ordering;
@@ -51,7 +53,7 @@ impl<'a> RefusedBytes<'a> {
         bytes.get(self.walk.at..).unwrap_or(&[])
     }
 
-    /// The innermost open level at the place.
+    /// The innermost level at the place.
     fn level(&self) -> Level {
         self.walk.top.level
     }
@@ -123,7 +125,7 @@ impl<'a> RefusedBytes<'a> {
     fn earlier_key(&self, alloc: Global) -> Result<Option<usize>, AllocError> {
         let bytes = self.bytes;
         let later = self.walk.at;
-        let map = self.level().place;
+        let map = self.level().start;
         let Some(wanted) = valid_at(alloc, self.limit, bytes, later)? else {
             return Ok(None);
         };
@@ -167,7 +169,7 @@ impl<'a> RefusedBytes<'a> {
         }
     }
 
-    /// Writes which key the key at the place has to stand before, and by which order.
+    /// Writes before which key the key at the place has to come, and by which order.
     fn push_order(&self, alloc: Global, out: &mut String) -> Result<(), AllocError> {
         out.push_str("the key ")?;
         self.push_key(alloc, out)?;
@@ -242,7 +244,7 @@ pub(crate) fn push_too_deep(limit: Limit, out: &mut String, open: &str) -> Resul
 }
 
 fn push_bad_chunk(out: &mut String, level: Level) -> Result<(), AllocError> {
-    let place = level.place;
+    let place = level.start;
     write!(
         out,
         "an indefinite-length string is open since offset {place}: only definite-length strings of its kind may stand here, or the break ff"
@@ -251,43 +253,43 @@ fn push_bad_chunk(out: &mut String, level: Level) -> Result<(), AllocError> {
 
 fn push_bad_break(out: &mut String, level: Level) -> Result<(), AllocError> {
     out.push_str("a break ends an indefinite length, and ")?;
-    if let Nesting::Sequence(_) = level.nesting {
+    if let LevelKind::Sequence(_) = level.kind {
         return out.push_str("nothing is open here");
     }
     push_missing(out, level)
 }
 
-/// Writes what an open item lacks. Of the input itself it writes nothing.
+/// Writes what an open container lacks. Of the input itself it writes nothing.
 fn push_missing(out: &mut String, level: Level) -> Result<(), AllocError> {
-    let place = level.place;
-    match level.nesting {
-        Nesting::Sequence(_) => Ok(()),
-        Nesting::Array(Some(count), parts) => {
+    let place = level.start;
+    match level.kind {
+        LevelKind::Sequence(_) => Ok(()),
+        LevelKind::Array(Some(count), parts) => {
             let elements = counted(count, "element", "elements");
             write!(
                 out,
                 "the array at offset {place} announces {count} {elements} and has {parts}"
             )
         }
-        Nesting::Map(Some(count), parts) => {
+        LevelKind::Map(Some(count), parts) => {
             let pairs = counted(count, "pair", "pairs");
             write!(
                 out,
                 "the map at offset {place} announces {count} {pairs} and has {parts}"
             )
         }
-        Nesting::MapValue(_, _) => {
+        LevelKind::MapValue(_, _) => {
             write!(
                 out,
                 "the map at offset {place} lacks the value of its last key"
             )
         }
-        Nesting::Tag(number) => {
+        LevelKind::Tag(number) => {
             write!(out, "the tag {number} at offset {place} lacks its content")
         }
-        Nesting::Array(None, _) => push_endless(out, "array", place),
-        Nesting::Map(None, _) => push_endless(out, "map", place),
-        Nesting::ByteChunks(_) | Nesting::TextChunks(_) => push_endless(out, "string", place),
+        LevelKind::Array(None, _) => push_endless(out, "array", place),
+        LevelKind::Map(None, _) => push_endless(out, "map", place),
+        LevelKind::ByteChunks(_) | LevelKind::TextChunks(_) => push_endless(out, "string", place),
     }
 }
 
@@ -298,18 +300,18 @@ fn push_endless(out: &mut String, kind: &str, place: usize) -> Result<(), AllocE
     )
 }
 
-/// Writes that the input ends, and what its innermost open level lacks.
+/// Writes that the input ends, and what its innermost open container lacks.
 fn push_missing_at_end(out: &mut String, level: Level) -> Result<(), AllocError> {
     out.push_str("the input ends")?;
-    if let Nesting::Sequence(_) = level.nesting {
+    if let LevelKind::Sequence(_) = level.kind {
         return Ok(());
     }
     out.push_str(", and ")?;
     push_missing(out, level)
 }
 
-/// Writes which bytes of a head, or of the string after it, are missing. `rest` begins with the head,
-/// whose offset is `place`, and isn't empty.
+/// Writes which bytes of a head, or of the string after it, are missing. `rest` begins with the
+/// head, whose offset is `place`, and isn't empty.
 fn push_cut_head(out: &mut String, rest: &[u8], place: usize) -> Result<(), AllocError> {
     let (what, announced, there) = match read_head(rest) {
         HeadRead::Full(head, len) => (
@@ -446,7 +448,8 @@ fn shortest_head(number: u8, n: u64) -> ([u8; 9], usize)
     head_bytes(number, shortest(n), n)
 }
 
-/// Writes why a bignum isn't deterministic, and its encoding that is. `rest` begins with the bignum.
+/// Writes why a bignum isn't deterministic, and its encoding that is. `rest` begins with the
+/// bignum.
 fn push_loose(
     alloc: Global,
     limit: Limit,
@@ -461,8 +464,8 @@ fn push_loose(
     Ok(())
 }
 
-/// Writes why `key` has to stand before the key `before`. Where the two orders sort these keys
-/// differently, it writes which order has `key` first.
+/// Writes why `key` has to come before the key that precedes it, `before`. Where the two orders
+/// sort these keys differently, it writes which order has `key` first.
 fn push_rule(
     alloc: Global,
     out: &mut String,
@@ -482,7 +485,7 @@ fn push_rule(
     })
 }
 
-/// Whether `key` stands before `other` in the order `O`.
+/// Whether `key` comes before `other` in the order `O`.
 fn is_first<O: KeyOrder>(alloc: Global, key: &Valid, other: &Valid) -> Result<bool, AllocError> {
     let ours = encode::<O>(alloc, key)?;
     let theirs = encode::<O>(alloc, other)?;

@@ -1,4 +1,4 @@
-//! The lines on where two sequences of items differ, and what stands there.
+//! The lines on where two sequences of items differ, and what each has there.
 
 ghost use Rattle.std.specs.Prelude.{◌≡◌, [], IfOk};
 ghost use Rattle.std.specs.String.{string_bytes};
@@ -14,9 +14,9 @@ use std::cmp::Ordering;
 /// How many bytes are written of each of two items whose notations are cut to the same text.
 const REST: usize = 8;
 
-/// Lines that say where two deterministic encodings first differ, with the keys of maps in the order
-/// `O`: the path to that place, which is the same in both, and what each input has there. Empty where
-/// they are equal.
+/// Lines that say where two deterministic encodings first differ, with the keys of maps in the
+/// order `O`: the path to that place, which is the same in both, and what each input has there.
+/// Empty where they are equal.
 ///
 /// # Errors
 /// `AllocError` where memory is refused.
@@ -36,7 +36,7 @@ pub fn explain_difference<O: KeyOrder>(
     push_path(alloc, limit, &mut out, first, &walk)?;
     let ours = part_at(alloc, first, walk.at)?;
     let theirs = part_at(alloc, second, walk.at)?;
-    let order = if walk.top.level.nesting.is_at_key() {
+    let order = if walk.top.level.kind.is_at_key() {
         Some(O::compare(ours, theirs))
     } else {
         None
@@ -83,9 +83,9 @@ fn common_len(ours: &[u8], theirs: &[u8]) -> usize {
     len
 }
 
-/// Writes the item of one side, whose text is `notation`. `order` is how a key compares with the key
-/// of the other side: the lesser key is missing in the other map. `shared` is how many bytes both items
-/// have in common, where their notations are the same text.
+/// Writes the item of one side, whose text is `notation`. `order` is how a key compares with the
+/// key of the other side: the lesser key is missing in the other map. `shared` is how many bytes
+/// both items have in common, where their notations are the same text.
 fn push_side(
     out: &mut String,
     item: &[u8],

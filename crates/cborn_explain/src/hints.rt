@@ -30,8 +30,8 @@ impl Display for Hint {
     }
 }
 
-/// What bytes look like that are all printable ASCII or white space. `None`: one isn't, or there are no
-/// bytes.
+/// What the bytes look like, if all are printable ASCII or white space. `None`: one isn't, or there
+/// are no bytes.
 pub fn hint_of(bytes: &[u8]) -> Option<Hint>
     ensures { IsSome result ↔ All IsTextByte bytes.now × 0 < length bytes.now }
 {

@@ -1,14 +1,14 @@
 //! Single items of an input, read as nodes: to show them, and to compare them by what they mean.
 
 use cborn_edn::{EdnFault, ShowFault, read_notation, show};
-use cborn_judge::{Invalid, judge};
+use cborn_judge::judge;
 use cborn_lex::{LexFault, Profile};
-use cborn_model::{Limit, Spelled, Valid};
+use cborn_model::{Invalid, Limit, Spelled, Valid};
 use cborn_wire::{WireFault, read_one};
 use std::alloc::{AllocError, Global};
 
-/// The item that begins at the offset `at`, in the fixed notation and with an end of line. `None`: no
-/// item begins there, or a text string in it isn't UTF-8.
+/// The item that begins at the offset `at`, in the fixed notation and with an end of line. `None`:
+/// no item begins there, or a text string in it isn't UTF-8.
 ///
 /// # Errors
 /// `AllocError` where memory is refused.
@@ -30,7 +30,7 @@ pub(crate) fn notation_at(
     }
 }
 
-/// What the item means that begins at the offset `at`. `None`: no item begins there, or it is invalid.
+/// What the item at the offset `at` means. `None`: no item begins there, or it is invalid.
 ///
 /// # Errors
 /// `AllocError` where memory is refused.
@@ -46,7 +46,7 @@ pub(crate) fn valid_at(
     }
 }
 
-/// What the one item means that this text notates. `None`: it doesn't notate exactly one item, or the
+/// What the item that this text notates means. `None`: it doesn't notate exactly one item, or the
 /// item is invalid.
 ///
 /// # Errors

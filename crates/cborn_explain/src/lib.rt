@@ -7,14 +7,14 @@
 //! ```
 //!
 //! Another call refused the input, and reported an offset and a reason. The calls here are given
-//! these and the input, and walk over it once, up to the offset: [`explain_bytes`] from head to head,
-//! [`explain_text`] from token to token. [`explain_difference`] says where two deterministic encodings
-//! differ. [`hint_of`] says whether bytes look like a text, and [`Look`] does so of bytes that come in
-//! pieces.
+//! these and the input, and walk over it once, up to the offset: [`explain_bytes`] from head to
+//! head, [`explain_text`] from token to token. [`explain_difference`] says where two deterministic
+//! encodings differ. [`hint_of`] says whether bytes look like a text, and [`Look`] does so of bytes
+//! that come in pieces.
 //!
 //! `cborn_paths` has the walk over bytes and the path, with a proof of where the path leads. Of the
-//! words that the lines have it is proved that they are written safely, and that each call ends. No
-//! clause says which words they are. docs/FORMATS.md has the form of the lines.
+//! lines it is proved that they are written safely, and that each call ends. No clause says which
+//! words they have. docs/FORMATS.md has their form.
 //!
 //! - `notes`: the lines of one input; start here. `differences`: those of two.
 //! - `path_lines`: a path in a line. `hints`: whether bytes look like a text.

@@ -1,4 +1,4 @@
-//! The lines of an explanation: where, what stands there, and why.
+//! The lines of an explanation: where, what is there, and why.
 
 use crate::byte_causes::RefusedBytes;
 use crate::hints::hint_of;
@@ -17,10 +17,10 @@ use std::alloc::{AllocError, Global};
 /// How many characters of a key in a text are written.
 const KEY: usize = 40;
 
-/// Lines that say where bytes are refused or aren't deterministic, and why: the path to `place`, the
-/// bytes around it, a sentence, and a hint where the bytes look like a text. Another call reported
-/// `place`, an offset in bytes from the start, and `reason`, under the same limit. An offset beyond the
-/// end counts as the end.
+/// Lines that say where bytes are refused or aren't deterministic, and why: the path to `place`,
+/// the bytes around it, a sentence, and a hint where the bytes look like a text. Another call
+/// reported `place`, an offset in bytes from the start, and `reason`, under the same limit. An
+/// offset beyond the end counts as the end.
 ///
 /// # Errors
 /// `AllocError` where memory is refused.
@@ -50,11 +50,11 @@ pub fn explain_bytes(
     Ok(out)
 }
 
-/// Lines that say where a text of the notation is refused, and why: the path to `place`, its line and
-/// column, that line with a mark below, and a sentence. Another call reported `place`, an offset in
-/// bytes from the start of the text, and `reason`, under the same limit. An offset beyond the end
-/// counts as the end. Where a whole token was reported, the mark is at the character within it that is
-/// at fault.
+/// Lines that say where a text of the notation is refused, and why: the path to `place`, its line
+/// and column, that line with a mark below, and a sentence. Another call reported `place`, an
+/// offset in bytes from the start of the text, and `reason`, under the same limit. An offset beyond
+/// the end counts as the end. Where a whole token was reported, the mark is at the character within
+/// it that is at fault.
 ///
 /// # Errors
 /// `AllocError` where memory is refused.

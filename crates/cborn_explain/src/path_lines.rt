@@ -3,8 +3,8 @@
 use cborn_paths::Step;
 use std::alloc::{AllocError, Global};
 
-/// Writes the steps of a path in a line. Steps in a row that are written alike are written once, with
-/// their count.
+/// Writes the steps of a path in a line. Steps in a row that are written alike are written once,
+/// with their count.
 #[derive(Drop)]
 pub(crate) struct PathWriter {
     last: String,
@@ -36,8 +36,8 @@ impl PathWriter {
         Ok(())
     }
 
-    /// Writes the count of the last step, where it came more than once. It has to be called after the
-    /// last step.
+    /// Writes the count of the last step, where it came more than once. It has to be called after
+    /// the last step.
     pub(crate) fn end(&mut self, out: &mut String) -> Result<(), AllocError> {
         if self.times > 1 {
             let times = self.times;

@@ -1,5 +1,5 @@
-//! Quoted pieces of an input. Long pieces are cut. Control characters, and characters that change the
-//! direction of a line, are escaped, so that a piece changes nothing but its own line.
+//! Quoted pieces of an input. Long pieces are cut. Control characters, and characters that change
+//! the direction of a line, are escaped, so that a piece changes nothing but its own line.
 
 ghost use Rattle.std.specs.Prelude.{◌≤◌, IfOk};
 
@@ -26,8 +26,8 @@ const LINE_BEFORE: usize = 40;
 /// How many characters of a line are written from a place on.
 const LINE_AFTER: usize = 30;
 
-/// The most bytes of an item that is read and written as notation. Of a longer one only the start is
-/// read, so that a sentence costs no more for a long item.
+/// The most bytes of an item that is read and written as notation. Of a longer one only the start
+/// is read, so that a sentence costs no more for a long item.
 const LONG_ITEM: usize = 512;
 
 /// Writes a character, escaped if it isn't plain. Answers how many columns were written.
@@ -47,8 +47,8 @@ pub(crate) fn push_char(out: &mut String, c: char) -> Result<usize, AllocError>
     }
 }
 
-/// Whether a terminal shows the character as itself. It doesn't where the character is a control, has
-/// no width, ends a line or changes the direction of text.
+/// Whether a terminal shows the character as itself. It doesn't where the character is a control,
+/// has no width, ends a line or changes the direction of text.
 fn is_plain(c: char) -> bool {
     let code = c as u32;
     !matches!(
@@ -100,8 +100,8 @@ pub(crate) fn slice_of(bytes: &[u8], from: usize, to: usize) -> &[u8] {
 }
 
 /// Writes the start of `bytes` as text: at most `most` characters, and those alone that come before
-/// the first byte that isn't UTF-8. `..` follows where that isn't all. Answers how many columns were
-/// written.
+/// the first byte that isn't UTF-8. `..` follows where that isn't all. Answers how many columns
+/// were written.
 ///
 /// # Errors
 /// `AllocError` where memory for `out` is refused.
@@ -125,7 +125,7 @@ pub(crate) fn push_text(out: &mut String, bytes: &[u8], most: usize) -> Result<u
     Ok(width)
 }
 
-/// The longest part from the start that is UTF-8.
+/// The longest front of the bytes that is UTF-8.
 pub(crate) fn valid_front(bytes: &[u8]) -> &str {
     match from_utf8(bytes) {
         Ok(text) => text,
@@ -250,8 +250,8 @@ pub(crate) fn line_and_column(text: &[u8], place: usize) -> (u64, u64) {
     (line, column)
 }
 
-/// Writes the line of a text that holds an offset in bytes, cut around that offset. Answers how many
-/// columns were written before it.
+/// Writes the line of a text that holds an offset in bytes, cut around that offset. Answers how
+/// many columns were written before it.
 ///
 /// # Errors
 /// `AllocError` where memory for `out` is refused.

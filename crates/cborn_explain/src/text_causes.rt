@@ -7,9 +7,8 @@ use crate::text_keys::{earlier_key, key_at};
 use crate::text_spots::indicator_at;
 use crate::text_walks::{Bracket, LastToken, NotationText, TextWalk};
 use cborn_edn::EdnReason;
-use cborn_judge::InvalidReason;
 use cborn_lex::{LexReason, Profile, are_hex, hex_code, is_low};
-use cborn_model::Limit;
+use cborn_model::{InvalidReason, Limit};
 use std::alloc::{AllocError, Global};
 
 /// How many characters of a word, a number or a key are written.
@@ -28,7 +27,7 @@ pub(crate) struct RefusedText<'a> {
 }
 
 impl RefusedText<'_> {
-    /// Writes the sentence for `reason`. `walk` stands at the place.
+    /// Writes the sentence for `reason`. `walk` has come to the place.
     ///
     /// # Errors
     /// `AllocError` where memory is refused.
@@ -91,8 +90,8 @@ impl RefusedText<'_> {
         self.input.text.get(self.spot) == Some(&b'\'')
     }
 
-    /// Writes `before`, the line and the column of the character at fault, and `after`. Where `before`
-    /// is empty, it writes the character and `at` in its place.
+    /// Writes `before`, the line and the column of the character at fault, and `after`. Where
+    /// `before` is empty, it writes the character and `at` in its place.
     fn push_at_spot(&self, out: &mut String, before: &str, after: &str) -> Result<(), AllocError> {
         if before.is_empty() {
             self.push_spot(out)?;
@@ -103,7 +102,7 @@ impl RefusedText<'_> {
         out.push_str(after)
     }
 
-    /// The letters, digits, points, underscores and minus signs that an offset begins.
+    /// The letters, digits, points, underscores and minus signs in a row from an offset on.
     fn word_at(&self, place: usize) -> &[u8] {
         let rest = self.input.text.get(place..).unwrap_or(&[]);
         let len = rest.iter().position(|b| !is_word(*b)).unwrap_or(rest.len());
@@ -272,8 +271,8 @@ impl RefusedText<'_> {
         }
     }
 
-    /// Writes why a nesting is too deep. An integer beyond 64 bits adds a level, since it is encoded as a
-    /// tag of a byte string.
+    /// Writes why a nesting is too deep. An integer beyond 64 bits adds a level, since it is
+    /// encoded as a tag of a byte string.
     fn push_deep(&self, out: &mut String) -> Result<(), AllocError> {
         push_too_deep(self.limit, out, "arrays, maps, tags and <<..>>")?;
         if self.is_at_number() {
@@ -309,8 +308,8 @@ impl RefusedText<'_> {
         }
     }
 
-    /// Whether the encoding indicator of the string that begins at the place, or of the `>>` there, is
-    /// `_` alone. True too where it has none.
+    /// Whether the encoding indicator of the string that begins at the place, or of the `>>` there,
+    /// is `_` alone. True too where it has none.
     fn is_indefinite(&self) -> bool {
         let token = self.input.text.get(self.place..).unwrap_or(&[]);
         let at = match token {

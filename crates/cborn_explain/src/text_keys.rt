@@ -6,8 +6,9 @@ use crate::text_walks::{LastToken, NotationText, TextWalk};
 use cborn_model::{Limit, same};
 use std::alloc::{AllocError, Global};
 
-/// The offset of a key in the map whose bracket is at the offset `map`: the first that is the same as
-/// the key at the offset `later`. `None` says nothing: a key that can't be read alone isn't compared.
+/// The offset of a key in the map whose bracket is at the offset `map`: the first that is the same
+/// as the key at the offset `later`. `None` says nothing: a key that can't be read alone isn't
+/// compared.
 ///
 /// # Errors
 /// `AllocError` where memory is refused.

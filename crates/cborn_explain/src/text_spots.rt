@@ -18,7 +18,8 @@ pub(crate) fn spot_of(text: &[u8], place: usize, reason: TextReason) -> usize {
     place.saturating_add(within)
 }
 
-/// The index of the first wrong escape of a quoted string, or of a character that has to be escaped.
+/// The index of the first wrong escape of a quoted string, or of a character that has to be
+/// escaped.
 fn bad_escape(token: &[u8]) -> usize {
     let quote = token.first().copied().unwrap_or(0);
     let mut at = 1;
@@ -32,8 +33,8 @@ fn bad_escape(token: &[u8]) -> usize {
     at.min(token.len())
 }
 
-/// How many bytes the escape at the start has, or 1 for a byte of a character. `None`: the escape is
-/// wrong, the character has to be escaped, or nothing is left.
+/// How many bytes the escape at the start has, or 1 for a byte of a character. `None`: the escape
+/// is wrong, the character has to be escaped, or nothing is left.
 fn unit_len(quote: u8, rest: &[u8]) -> Option<usize> {
     match rest {
         [b'\\', b'u', a, b, c, d, rest @ ..] if are_hex(*a, *b, *c, *d) => {
@@ -59,8 +60,8 @@ fn unit_len(quote: u8, rest: &[u8]) -> Option<usize> {
     }
 }
 
-/// How many bytes a pair of surrogate escapes has. `rest` follows the first, and has to begin with the
-/// second. `None`: it doesn't.
+/// How many bytes a pair of surrogate escapes has. `rest` follows the first, and has to begin with
+/// the second. `None`: it doesn't.
 fn pair_len(rest: &[u8]) -> Option<usize> {
     match rest {
         [b'\\', b'u', a, b, c, d, ..] if are_hex(*a, *b, *c, *d) => {
@@ -155,8 +156,8 @@ fn is_body(byte: u8) -> bool {
     byte.is_ascii_alphanumeric() || byte == b'.'
 }
 
-/// The index of the underscore that begins a token's encoding indicator. Of a string it is the index
-/// after the closing quote. 0: there is none.
+/// The index of the underscore that begins a token's encoding indicator. Of a string it is the
+/// index after the closing quote. 0: there is none.
 pub(crate) fn indicator_at(token: &[u8]) -> usize {
     let quote = match token {
         [b'"', ..] => b'"',

@@ -5,8 +5,8 @@ use cborn_lex::{BareToken, Kind, LexFault, Profile, next_token};
 use cborn_paths::Step;
 use std::alloc::{AllocError, Global};
 
-/// The most brackets that can be open in a text whose fault another call reported: 1,024 levels, and
-/// a string or a simple value inside.
+/// The most brackets that can be open in a text whose fault another call reported: 1,024 levels,
+/// and a string or a simple value inside.
 const MOST_OPEN: usize = 1026;
 
 /// A text of the notation, and the profile that it is read under.
@@ -82,7 +82,7 @@ pub(crate) enum LastToken {
     Item,
 }
 
-/// A walk that has come between two tokens.
+/// A walk from token to token, between two of them.
 #[derive(Drop)]
 pub(crate) struct TextWalk {
     /// How many items outside of all brackets a comma has ended.
@@ -129,8 +129,8 @@ impl TextWalk {
         }
     }
 
-    /// Goes on past the next token, and answers whether it did. It doesn't where the token begins at
-    /// `place` or holds it, where it is wrong, and at the end.
+    /// Goes on past the next token, and gives `true`. `false`: the token begins at `place` or holds
+    /// it, or is wrong, or there is none.
     ///
     /// # Errors
     /// `AllocError` where memory is refused.
@@ -187,7 +187,7 @@ impl TextWalk {
         Ok(())
     }
 
-    /// Notes that a token begins at `start`, if it is the first of a key.
+    /// Keeps where a token begins, if it is the first of a key.
     fn begin_part(&mut self, start: usize) {
         let is_first = matches!(self.last, LastToken::Opening | LastToken::Separator);
         if let Some(open) = self.open.last_mut() {
@@ -238,8 +238,8 @@ impl TextWalk {
         self.last = LastToken::Separator;
     }
 
-    /// The offsets in bytes at which a key begins and ends whose colon was the last token. `None`: the
-    /// last token was something else, or another bracket is open than that of one map.
+    /// The offsets in bytes at which the key before the last token, a colon, begins and ends, if
+    /// the bracket of its map is the only open one; else `None`.
     pub(crate) fn key_before_colon(&self) -> Option<(usize, usize)> {
         match self.open.as_slice() {
             [open]

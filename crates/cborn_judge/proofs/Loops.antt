@@ -1,3 +1,2 @@
--- What a loop over a list has passed or taken, and the first of what two searches found.
+-- What a loop over a list has passed.
 pub mod Passing
-pub mod Firsts

@@ -13,17 +13,11 @@ use Rattle.cborn_model.specs.declared.heads.Size.TheVariants.{Fixed, Endless}
 use Rattle.cborn_model.specs.Tree.{Tree, Uint, Nint, Bytes, Text, ByteChunks, TextChunks, Items, Pairs, Tagged, Simple, Trees, Entries, no_entry, entry, count, count_entries, place}
 use Rattle.cborn_model.specs.Meaning.{IsByteString, Means, AllMean}
 use Rattle.cborn_model.specs.First.{IsFirst}
+use Rattle.cborn_model.specs.Reasons.{defect_rank}
 use Rattle.cborn_model.specs.Spelled.{spelled}
-use Rattle.cborn_judge.specs.declared.defects.Defect as defect
-use Rattle.cborn_judge.specs.declared.defects.DefectReason.{DefectReason}
-use Rattle.cborn_judge.specs.declared.defects.DefectReason.TheVariants.{LongHead, EndlessLength, LooseBignum, KeyOrder}
-
--- the number of a reason
-abbrev pub defect_rank : DefectReason → ℕ
-defect_rank LongHead = 1
-defect_rank EndlessLength = 2
-defect_rank LooseBignum = 3
-defect_rank KeyOrder = 4
+use Rattle.cborn_model.specs.declared.defects.Defect as defect
+use Rattle.cborn_model.specs.declared.defects.DefectReason.{DefectReason}
+use Rattle.cborn_model.specs.declared.defects.DefectReason.TheVariants.{LongHead, EndlessLength, LooseBignum, KeyOrder}
 
 -- an argument's head that is not the shortest
 abbrev pub IsLong : Width → ℕ → Type 0

@@ -4,10 +4,11 @@ use Rattle.cborn_model.specs.Value.{Value, Same}
 use Rattle.cborn_model.specs.declared.nodes.Chunk.{Chunk}
 use Rattle.cborn_model.specs.Tree.{Tree, Uint, Nint, Text, TextChunks, Items, Pairs, Tagged, Trees, no_item, more, Entries, no_entry, entry, place}
 use Rattle.cborn_model.specs.First.{IsFirst}
-use Rattle.cborn_judge.specs.declared.faults.InvalidReason.{InvalidReason}
-use Rattle.cborn_judge.specs.declared.faults.InvalidReason.TheVariants.{NotUtf8, BadBignum, DuplicateKey}
-use Rattle.cborn_judge.specs.declared.faults.Invalid.{Invalid}
-use Rattle.cborn_judge.specs.declared.faults.Invalid.TheVariants.{Refused, OutOfMemory}
+use Rattle.cborn_model.specs.Reasons.{flaw_rank}
+use Rattle.cborn_model.specs.declared.faults.InvalidReason.{InvalidReason}
+use Rattle.cborn_model.specs.declared.faults.InvalidReason.TheVariants.{NotUtf8, BadBignum, DuplicateKey}
+use Rattle.cborn_model.specs.declared.faults.Invalid.{Invalid}
+use Rattle.cborn_model.specs.declared.faults.Invalid.TheVariants.{Refused, OutOfMemory}
 use Rattle.cborn_model.specs.Meaning.{IsByteString, Means}
 
 -- q is this node, or inside it
@@ -31,12 +32,6 @@ abbrev pub IsWord : Tree → Type 0
 IsWord (Uint p w n) = n < 2 ^ 64
 IsWord (Nint p w n) = n < 2 ^ 64
 IsWord _ = ⊤
-
--- the number of a reason
-abbrev pub flaw_rank : InvalidReason → ℕ
-flaw_rank NotUtf8 = 1
-flaw_rank BadBignum = 2
-flaw_rank DuplicateKey = 3
 
 -- both mean items, and these are the same
 abbrev pub MeanSame : Tree → Tree → Type 0

@@ -1,6 +1,5 @@
 pub mod Flaws
 pub mod Defects
 pub mod Departures
-pub mod Earliest
 pub mod shared
 pub mod devices

@@ -13,13 +13,10 @@ ghost use Rattle.cborn_judge.specs.shared.Checked.{DefectIn, DefectInAll, Descen
 ghost use Rattle.cborn_judge.specs.Defects.{IsCheck, IsDeterministic};
 ghost use Rattle.cborn_judge.specs.Flaws.{IsRefusal};
 
-use crate::defects::Defect;
-use crate::faults::Invalid;
 use crate::judgments::judge;
-use crate::precedence::earliest;
 use crate::spellings::{bignum_defect, chunks_defect, head_defect, order_defect, size_defect};
 use cborn_det::push_encoding;
-use cborn_model::{Form, Item, KeyOrder, Node, Spelled};
+use cborn_model::{Defect, Form, Invalid, Item, KeyOrder, Node, Spelled, earliest};
 use std::alloc::{AllocError, Global};
 
 /// The first defect of the node: where its spelling first departs from the deterministic encoding

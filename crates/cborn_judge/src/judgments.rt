@@ -13,11 +13,13 @@ ghost use Rattle.cborn_judge.specs.shared.Judged.{IsJudged, IsJudgedPair, IsFirs
 ghost use Rattle.cborn_judge.specs.devices.Keeping.{KeepsKey};
 
 use crate::bignums::{judge_bignum, small_integer};
-use crate::faults::{Flaw, Invalid, InvalidReason};
+use crate::flaws::Flaw;
 use crate::keys::{Keys, cleared};
-use crate::precedence::{earlier, earliest};
 use crate::strings::{judge_byte_chunks, judge_bytes, judge_text, judge_text_chunks};
-use cborn_model::{Form, Item, ItemBox, ItemList, Node, PairList, Spelled, Valid};
+use cborn_model::{
+    Form, Invalid, InvalidReason, Item, ItemBox, ItemList, Node, PairList, Spelled, Valid, earlier,
+    earliest,
+};
 use std::alloc::{AllocError, Global};
 
 /// What a node means, or its first flaw.
@@ -159,7 +161,7 @@ fn judge_pair(
     keys: &mut Keys,
     spare: &mut Vec<Keys>,
 ) -> Result<JudgedPair, AllocError>
-    requires begun { keys.old.last ≤ vec_len keys.old.bytes }
+    requires started { keys.old.last ≤ vec_len keys.old.bytes }
     requires fits { PairFits pair.now }
     ensures judged { IfOk result (IsJudgedPair pair.now) }
     ensures kept { OnOk result (KeepsKey position pair.now keys.old keys.new) }
@@ -178,7 +180,7 @@ fn judge_key(
     keys: &mut Keys,
     spare: &mut Vec<Keys>,
 ) -> Result<Judged, AllocError>
-    requires begun { keys.old.last ≤ vec_len keys.old.bytes }
+    requires started { keys.old.last ≤ vec_len keys.old.bytes }
     requires fits { Fits node.now }
     ensures judged { IfOk result (IsJudged node.now) }
     ensures kept { OnOk result ((value : Tree) → KeepsKey position (node.now, value) keys.old keys.new) }

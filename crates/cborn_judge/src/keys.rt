@@ -51,7 +51,7 @@ impl Keys {
         key: &Item,
         position: usize,
     ) -> Result<(), AllocError>
-        requires begun { self.old.last ≤ vec_len self.old.bytes }
+        requires started { self.old.last ≤ vec_len self.old.bytes }
         requires proper { IsProper (item_value key.now) }
         ensures { OnOk result (IsNextKey (item_value key.now) position self.old self.new) }
     {

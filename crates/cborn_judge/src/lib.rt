@@ -5,7 +5,7 @@
 //! the first flaw: `judgments` goes through the node, and `strings`, `bignums` and `keys` with
 //! `repeats` judge what has rules of its own. *Does it spell the deterministic encoding of that
 //! item?* [`first_defect`] goes through the node and its item together (`checks`), and `spellings`
-//! looks at its heads. `precedence` says which of two faults comes first.
+//! looks at its heads. Flaws and defects, and which of two comes first, are those of `cborn_model`.
 //!
 //! A reader of the definitions starts at `specs/Flaws.antt` (what is wrong with a node, and what
 //! comes first) and `specs/Defects.antt` (where a spelling departs from the deterministic
@@ -16,19 +16,15 @@
 
 mod bignums;
 mod checks;
-mod defects;
-mod faults;
+mod flaws;
 mod judgments;
 mod keys;
 pub mod laws;
-mod precedence;
 mod repeats;
 mod spellings;
 mod strings;
 
+pub use cborn_model::{Defect, DefectReason, Fault, Invalid, InvalidReason, earlier, earliest};
 pub use checks::first_defect;
-pub use defects::{Defect, DefectReason};
-pub use faults::{Invalid, InvalidReason};
 pub use judgments::{judge, judge_all};
-pub use precedence::{Fault, earlier, earliest};
 pub use spellings::{head_defect, loose_defect, order_defect};

@@ -7,10 +7,9 @@ ghost use Rattle.cborn_judge.specs.devices.Keeping.{AreKept};
 ghost use Rattle.cborn_judge.specs.devices.Places.{key_bytes, key_position, key_places, RepeatAt};
 ghost use Rattle.cborn_judge.specs.shared.Repeats.{PositionsRise};
 
-use crate::faults::{Flaw, InvalidReason};
+use crate::flaws::Flaw;
 use crate::keys::Keys;
-use crate::precedence::earliest;
-use cborn_model::Node;
+use cborn_model::{InvalidReason, Node, earliest};
 use std::alloc::{AllocError, Global};
 
 impl Keys {

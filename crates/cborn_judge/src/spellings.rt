@@ -8,10 +8,10 @@ ghost use Rattle.cborn_judge.specs.Departures.{FindsDefect, LongAt, LooseBytesAt
 ghost use Rattle.cborn_judge.specs.shared.Checked.{SizeAt, TagDefect};
 ghost use Rattle.cborn_judge.specs.Defects.{ChunksDefect, IsLoose};
 
-use crate::defects::{Defect, DefectReason};
-use crate::precedence::earliest;
 use crate::strings::join;
-use cborn_model::{Chunk, Form, KeyOrder, Node, Size, Width, shortest};
+use cborn_model::{
+    Chunk, Defect, DefectReason, Form, KeyOrder, Node, Size, Width, earliest, shortest,
+};
 use std::alloc::{AllocError, Global};
 
 /// The defect of a head at the offset `place` with the argument `n`, if it is not the shortest (RFC

@@ -8,10 +8,9 @@ ghost use Rattle.cborn_model.specs.Spelled.{ChunksFit};
 ghost use Rattle.cborn_model.specs.Tree as tree;
 ghost use Rattle.cborn_judge.specs.shared.Judged.{IsJudged};
 
-use crate::faults::{Flaw, InvalidReason};
+use crate::flaws::Flaw;
 use crate::judgments::Judged;
-use crate::precedence::earliest;
-use cborn_model::{ByteString, Chunk, Item};
+use cborn_model::{ByteString, Chunk, InvalidReason, Item, earliest};
 use std::alloc::{AllocError, Global};
 
 /// The bytes of the chunks, one after another.

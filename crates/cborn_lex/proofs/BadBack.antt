@@ -1,4 +1,4 @@
--- What fails for a reason reads as bad for it.
+-- What fails for a reason by Bad.antt reads as bad for it by Forms.antt.
 use Rattle.std.proofs.Common.{◌≡◌, refl, sym, ap, ◌∙◌, subst, ℕ, ◌<◌, ◌≤◌, ◌^◌, List, [], ◌∷◌, ◌++◌, Bool, true, false, ◌&&◌, ◌||◌, cond, eqb, ltb, ◌⊎◌, inl, inr, Some, None, Result, Ok, Err, append-nil, arith}
 use Rattle.std.proofs.lemmas.Bool.{eqb-true, and_parts, or_parts, or_from, false_from_ne_true, leb-true, ltb-true}
 use Rattle.std.proofs.lemmas.List.{append_cancel_right}
@@ -163,23 +163,23 @@ no_underscore_after c x (b ∷ u) d h e = no_underscore x u h (ap tail_of e)
 
 -- a token that ends in the indicator _3, with another in its place
 module _ (p : Profile) (m z : List ℕ) (i : IsIndicator m z) (e : mark_of m ≡ None) where
-  abbrev Told : List ℕ → Type 0
-  Told s = BadFront p (s ++ (m ++ z)) BadIndicator
+  abbrev ReadsBad : List ℕ → Type 0
+  ReadsBad s = BadFront p (s ++ (m ++ z)) BadIndicator
 
   opening : (k : Mark → Class) → marked k (mark_of m) ≡ Bad BadIndicator
   opening k = ap (marked k) e
 
-  one_char : (c : ℕ) (s : List ℕ) → c ∷ [] ≡ s ++ codes "_3" → eqb c 51 ≡ false → Told s
+  one_char : (c : ℕ) (s : List ℕ) → c ∷ [] ≡ s ++ codes "_3" → eqb c 51 ≡ false → ReadsBad s
   one_char c s w d = absurd (not_three (c ∷ []) c refl d s w)
 
-  bracket : (c : ℕ) (t s : List ℕ) (mk : Mark) → eqb c 51 ≡ false → mark_of t ≡ Some mk → c ∷ t ≡ s ++ codes "_3" → Told (c ∷ []) → Told s
-  bracket c t s mk d f w told = subst Told (split (c ∷ []) t s mk f (not_three (c ∷ []) c refl d) w).front told
+  bracket : (c : ℕ) (t s : List ℕ) (mk : Mark) → eqb c 51 ≡ false → mark_of t ≡ Some mk → c ∷ t ≡ s ++ codes "_3" → ReadsBad (c ∷ []) → ReadsBad s
+  bracket c t s mk d f w reads_bad = subst ReadsBad (split (c ∷ []) t s mk f (not_three (c ∷ []) c refl d) w).front reads_bad
 
   -- a content f up to its quote q, and a mark t
-  string_end : (f : List ℕ) (q : ℕ) (t s : List ℕ) (mk : Mark) → eqb q 51 ≡ false → mark_of t ≡ Some mk → (f ++ q ∷ []) ++ t ≡ s ++ codes "_3" → Told (f ++ q ∷ []) → Told s
-  string_end f q t s mk d h w told = subst Told (split (f ++ q ∷ []) t s mk h (not_three (f ++ q ∷ []) q (last_append 0 f (q ∷ [])) d) w).front told
+  string_end : (f : List ℕ) (q : ℕ) (t s : List ℕ) (mk : Mark) → eqb q 51 ≡ false → mark_of t ≡ Some mk → (f ++ q ∷ []) ++ t ≡ s ++ codes "_3" → ReadsBad (f ++ q ∷ []) → ReadsBad s
+  string_end f q t s mk d h w reads_bad = subst ReadsBad (split (f ++ q ∷ []) t s mk h (not_three (f ++ q ∷ []) q (last_append 0 f (q ∷ [])) d) w).front reads_bad
 
-  a_text : (x b : List ℕ) → is_content 34 x ≡ true → IsText 34 x b → Told (34 ∷ x ++ 34 ∷ [])
+  a_text : (x b : List ℕ) → is_content 34 x ≡ true → IsText 34 x b → ReadsBad (34 ∷ x ++ 34 ∷ [])
   a_text x b c is = record {
     front = 34 ∷ x ++ 34 ∷ m;
     rest = z;
@@ -187,7 +187,7 @@ module _ (p : Profile) (m z : List ℕ) (i : IsIndicator m z) (e : mark_of m ≡
     reads = inl (x, m, record { inside = c; text = refl; indicator = i }, inl (b, is, sym (opening (Text b))));
   }
 
-  some_bytes : (x b : List ℕ) → is_content 39 x ≡ true → IsText 39 x b → Told (39 ∷ x ++ 39 ∷ [])
+  some_bytes : (x b : List ℕ) → is_content 39 x ≡ true → IsText 39 x b → ReadsBad (39 ∷ x ++ 39 ∷ [])
   some_bytes x b c is = record {
     front = 39 ∷ x ++ 39 ∷ m;
     rest = z;
@@ -195,7 +195,7 @@ module _ (p : Profile) (m z : List ℕ) (i : IsIndicator m z) (e : mark_of m ≡
     reads = inl (x, m, record { inside = c; text = refl; indicator = i }, inl (b, is, sym (opening (Bytes true b))));
   }
 
-  a_coded : (w x b : List ℕ) → IsCoded w x b → list_all (is_not 39) x ≡ true → Told ((w ++ 39 ∷ x) ++ 39 ∷ [])
+  a_coded : (w x b : List ℕ) → IsCoded w x b → list_all (is_not 39) x ≡ true → ReadsBad ((w ++ 39 ∷ x) ++ 39 ∷ [])
   a_coded w x b (good.hex y d is) n = record {
     front = 104 ∷ 39 ∷ y ++ 39 ∷ m;
     rest = z;
@@ -209,13 +209,13 @@ module _ (p : Profile) (m z : List ℕ) (i : IsIndicator m z) (e : mark_of m ≡
     reads = (54 ∷ 52 ∷ [], 39 ∷ y ++ 39 ∷ m, record { pass = refl; ends = refl }, refl, inl (refl, inl (y, m, record { inside = n; text = refl; indicator = i }, inl (d, is, sym (opening (Bytes false d))))));
   }
 
-  no_name : (w s : List ℕ) (n : ℕ) → IsName w n → w ≡ s ++ codes "_3" → Told s
+  no_name : (w s : List ℕ) (n : ℕ) → IsName w n → w ≡ s ++ codes "_3" → ReadsBad s
   no_name w s n good.is_false h = absurd (not_three (codes "false") 101 refl refl s h)
   no_name w s n good.is_true h = absurd (not_three (codes "true") 101 refl refl s h)
   no_name w s n good.is_null h = absurd (not_three (codes "null") 108 refl refl s h)
   no_name w s n good.is_undefined h = absurd (not_three (codes "undefined") 100 refl refl s h)
 
-  a_negative : (x : List ℕ) (v : ℕ) → IsLiteral x v → v < 2 ^ 128 → list_all is_numeral x ≡ true → Told (45 ∷ x)
+  a_negative : (x : List ℕ) (v : ℕ) → IsLiteral x v → v < 2 ^ 128 → list_all is_numeral x ≡ true → ReadsBad (45 ∷ x)
   a_negative x v l b all = record {
     front = 45 ∷ x ++ m;
     rest = z;
@@ -223,7 +223,7 @@ module _ (p : Profile) (m z : List ℕ) (i : IsIndicator m z) (e : mark_of m ≡
     reads = (false, x, m, [], record { run = record { pass = all; ends = mark_ends m z i e }; indicator = i; tagging = (refl, refl); whole = ap (λ l. x ++ l) (sym (append-nil m)) }, sym (rw (e, value true x v l b) refl));
   }
 
-  a_positive : (c : ℕ) (y : List ℕ) (v : ℕ) → start_of c ≡ digit → IsLiteral (c ∷ y) v → v < 2 ^ 128 → list_all is_numeral (c ∷ y) ≡ true → Told (c ∷ y)
+  a_positive : (c : ℕ) (y : List ℕ) (v : ℕ) → start_of c ≡ digit → IsLiteral (c ∷ y) v → v < 2 ^ 128 → list_all is_numeral (c ∷ y) ≡ true → ReadsBad (c ∷ y)
   a_positive c y v st l b all =
       let t = tagging false z in
       record {
@@ -246,34 +246,34 @@ module _ (p : Profile) (m z : List ℕ) (i : IsIndicator m z) (e : mark_of m ≡
       }
 
   -- the characters of a number before its mark
-  number_end : (f t s : List ℕ) (mk : Mark) → mark_of t ≡ Some mk → ((u : List ℕ) → f ≡ u ++ codes "_3" → ⊥) → f ++ t ≡ s ++ codes "_3" → Told f → Told s
-  number_end f t s mk h denied w told = subst Told (split f t s mk h denied w).front told
+  number_end : (f t s : List ℕ) (mk : Mark) → mark_of t ≡ Some mk → ((u : List ℕ) → f ≡ u ++ codes "_3" → ⊥) → f ++ t ≡ s ++ codes "_3" → ReadsBad f → ReadsBad s
+  number_end f t s mk h denied w reads_bad = subst ReadsBad (split f t s mk h denied w).front reads_bad
 
-  told : {y z' : List ℕ} {k : Class} (s : List ℕ) → Takes p y z' (Some k) → y ≡ s ++ codes "_3" → Told s
-  told s (good.array_open t y mk j) w = bracket 91 t s mk refl j.1 w (record { front = 91 ∷ m; rest = z; whole = refl; reads = (i, sym (opening ArrayOpen)) })
-  told s (good.array_close y) w = one_char 93 s w refl
-  told s (good.map_open t y mk j) w = bracket 123 t s mk refl j.1 w (record { front = 123 ∷ m; rest = z; whole = refl; reads = (i, sym (opening MapOpen)) })
-  told s (good.map_close y) w = one_char 125 s w refl
-  told s (good.embed_open y) w = absurd (not_three (codes "<<") 60 refl refl s w)
-  told s (good.embed_close t y mk j) w = subst Told (split (codes ">>") t s mk j.1 (not_three (codes ">>") 62 refl refl) w).front (record { front = 62 ∷ 62 ∷ m; rest = z; whole = refl; reads = inl (m, refl, i, sym (opening EmbedClose)) })
-  told s (good.chunk_open y d) w = absurd (not_three (codes "(_") 95 refl refl s w)
-  told s (good.paren_close y) w = one_char 41 s w refl
-  told s (good.comma y) w = one_char 44 s w refl
-  told s (good.colon y) w = one_char 58 s w refl
-  told s (good.text x b t y mk c is j) w = string_end (34 ∷ x) 34 t s mk refl j.1 (assoc (34 ∷ x) (34 ∷ []) t ∙ w) (a_text x b c is)
-  told s (good.bytes x b t y mk c is j) w = string_end (39 ∷ x) 39 t s mk refl j.1 (assoc (39 ∷ x) (39 ∷ []) t ∙ w) (some_bytes x b c is)
-  told s (good.coded u x b t y mk is n j) w = string_end (u ++ 39 ∷ x) 39 t s mk refl j.1 (assoc (u ++ 39 ∷ x) (39 ∷ []) t ∙ assoc u (39 ∷ x) (39 ∷ t) ∙ w) (a_coded u x b is n)
-  told s (good.word u y n is d) w = no_name u s n is w
-  told s (good.simple y) w = absurd (not_three (codes "simple(") 40 refl refl s w)
-  told s (good.negative x t y v mk n) w = number_end (45 ∷ x) t s mk n.indicator.1 (λ u. no_underscore_after 45 x u refl n.run.pass) w (a_negative x v n.literal n.bounded n.run.pass)
-  told s (good.positive x t y v mk n d) w =
+  reads_bad : {y z' : List ℕ} {k : Class} (s : List ℕ) → Takes p y z' (Some k) → y ≡ s ++ codes "_3" → ReadsBad s
+  reads_bad s (good.array_open t y mk j) w = bracket 91 t s mk refl j.1 w (record { front = 91 ∷ m; rest = z; whole = refl; reads = (i, sym (opening ArrayOpen)) })
+  reads_bad s (good.array_close y) w = one_char 93 s w refl
+  reads_bad s (good.map_open t y mk j) w = bracket 123 t s mk refl j.1 w (record { front = 123 ∷ m; rest = z; whole = refl; reads = (i, sym (opening MapOpen)) })
+  reads_bad s (good.map_close y) w = one_char 125 s w refl
+  reads_bad s (good.embed_open y) w = absurd (not_three (codes "<<") 60 refl refl s w)
+  reads_bad s (good.embed_close t y mk j) w = subst ReadsBad (split (codes ">>") t s mk j.1 (not_three (codes ">>") 62 refl refl) w).front (record { front = 62 ∷ 62 ∷ m; rest = z; whole = refl; reads = inl (m, refl, i, sym (opening EmbedClose)) })
+  reads_bad s (good.chunk_open y d) w = absurd (not_three (codes "(_") 95 refl refl s w)
+  reads_bad s (good.paren_close y) w = one_char 41 s w refl
+  reads_bad s (good.comma y) w = one_char 44 s w refl
+  reads_bad s (good.colon y) w = one_char 58 s w refl
+  reads_bad s (good.text x b t y mk c is j) w = string_end (34 ∷ x) 34 t s mk refl j.1 (assoc (34 ∷ x) (34 ∷ []) t ∙ w) (a_text x b c is)
+  reads_bad s (good.bytes x b t y mk c is j) w = string_end (39 ∷ x) 39 t s mk refl j.1 (assoc (39 ∷ x) (39 ∷ []) t ∙ w) (some_bytes x b c is)
+  reads_bad s (good.coded u x b t y mk is n j) w = string_end (u ++ 39 ∷ x) 39 t s mk refl j.1 (assoc (u ++ 39 ∷ x) (39 ∷ []) t ∙ assoc u (39 ∷ x) (39 ∷ t) ∙ w) (a_coded u x b is n)
+  reads_bad s (good.word u y n is d) w = no_name u s n is w
+  reads_bad s (good.simple y) w = absurd (not_three (codes "simple(") 40 refl refl s w)
+  reads_bad s (good.negative x t y v mk n) w = number_end (45 ∷ x) t s mk n.indicator.1 (λ u. no_underscore_after 45 x u refl n.run.pass) w (a_negative x v n.literal n.bounded n.run.pass)
+  reads_bad s (good.positive x t y v mk n d) w =
       let b = first_digit x v n.literal in
       number_end x t s mk n.indicator.1 (λ u. no_underscore x u n.run.pass) w
-      (subst Told (sym b.whole) (a_positive b.first b.others v b.starts (subst (λ l. IsLiteral l v) b.whole n.literal) n.bounded (subst (λ l. list_all is_numeral l ≡ true) b.whole n.run.pass)))
-  told s (good.tag x t y v mk n) w = absurd (not_three (x ++ (t ++ 40 ∷ [])) 40 (last_append 0 x (t ++ 40 ∷ []) ∙ last_append (last_of 0 x) t (40 ∷ [])) refl s w)
+      (subst ReadsBad (sym b.whole) (a_positive b.first b.others v b.starts (subst (λ l. IsLiteral l v) b.whole n.literal) n.bounded (subst (λ l. list_all is_numeral l ≡ true) b.whole n.run.pass)))
+  reads_bad s (good.tag x t y v mk n) w = absurd (not_three (x ++ (t ++ 40 ∷ [])) 40 (last_append 0 x (t ++ 40 ∷ []) ∙ last_append (last_of 0 x) t (40 ∷ [])) refl s w)
 
 module _ (p : Profile) where
-  -- the reasons one by one
+  -- each reason
 
   at_quote : (P : ℕ → Type 0) (q : ℕ) → is_quote q ≡ true → P 34 → P 39 → P q
   at_quote P q e a b = go (or_cases (eqb q 34) (eqb q 39) e)
@@ -424,7 +424,7 @@ module _ (p : Profile) where
   fails (bad.unknown w z word denied) = an_unknown w z word (no_prefix w denied)
   fails (bad.unclosed w x r i n) = an_unclosed w x r i n
   fails (bad.content w x z r i n denied) = a_content w x z r i n denied
-  fails (bad.indicator s m z k t i e) = told p m z i e s t refl
+  fails (bad.indicator s m z k t i e) = reads_bad p m z i e s t refl
   fails (bad.chunks z b) = let r = cut is_word z in some_chunks z r.s r.z r.whole r.run b
   fails (bad.negative x z r run denied) = a_negative_fails x z r run denied
   fails (bad.positive x z r b run denied) = a_positive_fails x z r b run denied

@@ -1,4 +1,4 @@
--- What is taken as white space, a comment or a token reads as that.
+-- What Good.antt takes as white space, a comment or a token reads as that by Forms.antt.
 use Rattle.std.proofs.Common.{◌≡◌, refl, sym, ap, ◌∙◌, subst, ℕ, zero, suc, ◌+◌, ◌-◌, ◌<◌, ◌≤◌, ◌^◌, List, [], ◌∷◌, ◌++◌, Bool, true, false, ◌&&◌, ◌||◌, cond, eqb, ltb, ◌⊎◌, inl, inr, Option, Some, None, Ok, append-nil, arith}
 use Rattle.std.proofs.lemmas.Bool.{eqb-true, and_parts, or_parts, ltb-true, ltb-false, lt-ltb}
 use Rattle.std.specs.List.{list_all}
@@ -9,14 +9,14 @@ use Rattle.cborn_lex.specs.declared.classes.Profile.TheVariants.{Two}
 use Rattle.cborn_lex.specs.declared.classes.Mark.{Mark}
 use Rattle.cborn_lex.specs.declared.classes.Class.{Class}
 use Rattle.cborn_lex.specs.declared.classes.Class.TheVariants.{ArrayOpen, MapOpen, EmbedClose, Text, Bytes, TagOpen, Word}
-use Rattle.cborn_lex.specs.Tokens.{Front, Blank, Read, is_white, is_word, is_numeral, is_not, begins, mark_of, marked}
+use Rattle.cborn_lex.specs.Tokens.{Front, WhiteSpace, Read, is_white, is_word, is_numeral, is_not, begins, mark_of, marked}
 use Rattle.cborn_lex.specs.Numbers.{are_digits, number, within, has_prefix, integer, signed, number_front}
 use Rattle.cborn_lex.specs.Forms.{white, hash, digit, start_of, ReadsFrom, Reads}
 use Rattle.cborn_lex.specs.Good as good
 use Rattle.cborn_lex.specs.Good.{IsMark, IsLiteral, IsNumeral, IsName, IsCoded, Takes}
 
 abbrev pub front_of : Option Class → Front
-front_of None = Blank
+front_of None = WhiteSpace
 front_of (Some k) = Read k
 
 -- Digits.
@@ -163,10 +163,10 @@ module _ (p : Profile) where
 
   -- LAW: what is taken reads
   pub read : {s z : List ℕ} {o : Option Class} → Takes p s z o → Reads p s z (front_of o)
-  read (good.white c z e) = subst (λ k. ReadsFrom k p c [] z Blank) (sym (start_white c e)) (refl, refl)
+  read (good.white c z e) = subst (λ k. ReadsFrom k p c [] z WhiteSpace) (sym (start_white c e)) (refl, refl)
   read (good.comment x z n) = inl (x, record { none = n; whole = refl }, refl)
-  read (good.line x z e n) = two (x ++ 10 ∷ []) z Blank e (inl (x, record { none = n; whole = refl }, refl))
-  read (good.last_line x e n) = two x [] Blank e (inr (record { none = n; all = refl }, refl))
+  read (good.line x z e n) = two (x ++ 10 ∷ []) z WhiteSpace e (inl (x, record { none = n; whole = refl }, refl))
+  read (good.last_line x e n) = two x [] WhiteSpace e (inr (record { none = n; all = refl }, refl))
   read (good.array_open s z m i) = (i.0, ap (marked ArrayOpen) (sym i.1))
   read (good.array_close z) = (refl, refl)
   read (good.map_open s z m i) = (i.0, ap (marked MapOpen) (sym i.1))

@@ -1,4 +1,4 @@
--- What reads at the front of a text as white space, a comment or a token is taken as that, and what reads as bad fails for that reason.
+-- What reads by Forms.antt as white space, a comment or a token is taken as that by Good.antt, and what reads as bad fails for that reason by Bad.antt.
 use Rattle.std.proofs.Common.{◌≡◌, refl, sym, ap, ◌∙◌, subst, ℕ, ◌<◌, ◌^◌, List, [], ◌∷◌, ◌++◌, Bool, true, false, ◌&&◌, ◌||◌, not, cond, eqb, ltb, inl, inr, Option, Some, None, Result, Ok, Err, append-nil, append_assoc}
 use Rattle.std.proofs.lemmas.Bool.{eqb-true, and_parts, and_from, or_parts, or_from, ltb-true, ltb-false}
 use Rattle.std.specs.List.{list_all, list_any}
@@ -14,7 +14,7 @@ use Rattle.cborn_lex.specs.declared.faults.LexReason.{LexReason}
 use Rattle.cborn_lex.specs.declared.faults.LexReason.TheVariants.{UnexpectedCharacter, UnclosedString, UnclosedComment, BadEscape, BadHex, BadBase64, UnknownPrefix, BadIndicator, BadNumber, NumberTooLarge, FloatLeftOut}
 use Rattle.cborn_lex.specs.declared.classes.Class.{Class}
 use Rattle.cborn_lex.specs.declared.classes.Class.TheVariants.{ArrayOpen, MapOpen, EmbedClose, ArrayClose, MapClose, ParenClose, Comma, Colon, EmbedOpen, ChunkOpen, SimpleOpen, Text, Bytes, TagOpen, Word}
-use Rattle.cborn_lex.specs.Tokens.{Front, Blank, Read, Bad, is_white, is_word, is_numeral, is_not, begins, mark_of, marked}
+use Rattle.cborn_lex.specs.Tokens.{Front, WhiteSpace, Read, Bad, is_white, is_word, is_numeral, is_not, begins, mark_of, marked}
 use Rattle.cborn_lex.specs.Numbers.{are_digits, number, within, has_prefix, has_any, integer, signed, number_front, word_front}
 use Rattle.cborn_lex.specs.Strings.{is_content, is_unclosed, IsText, IsHex, IsBase64}
 use Rattle.cborn_lex.specs.Forms.{IsRun, IsIndicator, IsString, hexadecimal, base64, unknown, prefix_of, IsPrefixed, IsAfterWord, IsTag, Start, white, slash, hash, less, greater, paren, double, simple, letter, minus, digit, other, single, opening, ReadsFrom, Reads}
@@ -28,7 +28,7 @@ use Rattle.cborn_lex.proofs.OneFront.Quotes.{quoted}
 
 -- taken as what it reads as, or it fails for that reason
 abbrev pub Good : Profile → List ℕ → List ℕ → Front → Type 0
-Good p s z Blank = Takes p s z None
+Good p s z WhiteSpace = Takes p s z None
 Good p s z (Read k) = Takes p s z (Some k)
 Good p s z (Bad r) = Fails p (s ++ z) r
 
@@ -64,16 +64,16 @@ abbrev Case : Start → (ℕ → Bool) → Type 0
 Case k test = (p : Profile) (c : ℕ) (s z : List ℕ) (a : Front) → test c ≡ true → ReadsFrom k p c s z a → Good p (c ∷ s) z a
 
 a_white : Case white is_white
-a_white p c s z a e h = put p c c s [] z a Blank refl h.0 h.1 (good.white c z e)
+a_white p c s z a e h = put p c c s [] z a WhiteSpace refl h.0 h.1 (good.white c z e)
 
 a_slash : Case slash (λ c. eqb c 47)
-a_slash p c s z a e (inl (body, t, f)) = put p c 47 s (body ++ 47 ∷ []) z a Blank (eqb-true c 47 e) t.whole f (good.comment body z t.none)
+a_slash p c s z a e (inl (body, t, f)) = put p c 47 s (body ++ 47 ∷ []) z a WhiteSpace (eqb-true c 47 e) t.whole f (good.comment body z t.none)
 a_slash p c s z a e (inr (l, f)) = put p c 47 s s z a (Bad UnclosedComment) (eqb-true c 47 e) refl f (subst (λ y. Fails p (47 ∷ y) UnclosedComment) (sym (ended s z l.all)) (bad.comment s l.none))
 
 a_hash : Case hash (λ c. eqb c 35)
 a_hash One c s z a e h = put One c 35 s [] z a (Bad UnexpectedCharacter) (eqb-true c 35 e) h.0 h.1 (bad.hash z refl)
-a_hash Two c s z a e (inl (body, t, f)) = put Two c 35 s (body ++ 10 ∷ []) z a Blank (eqb-true c 35 e) t.whole f (good.line body z refl t.none)
-a_hash Two c s z a e (inr (l, f)) = put Two c 35 s s z a Blank (eqb-true c 35 e) refl f (subst (λ y. Takes Two (35 ∷ s) y None) (sym l.all) (good.last_line s refl l.none))
+a_hash Two c s z a e (inl (body, t, f)) = put Two c 35 s (body ++ 10 ∷ []) z a WhiteSpace (eqb-true c 35 e) t.whole f (good.line body z refl t.none)
+a_hash Two c s z a e (inr (l, f)) = put Two c 35 s s z a WhiteSpace (eqb-true c 35 e) refl f (subst (λ y. Takes Two (35 ∷ s) y None) (sym l.all) (good.last_line s refl l.none))
 
 an_opening_a : Case (opening ArrayOpen) (λ c. eqb c 91)
 an_opening_a p c s z a e h = put p c 91 s s z a (marked ArrayOpen (mark_of s)) (eqb-true c 91 e) refl h.1 (marks p ArrayOpen (91 ∷ []) s z h.0 (λ m i. good.array_open s z m i) (good.array_open (codes "_3") [] (Wide Eight) three))

@@ -1,4 +1,4 @@
--- The same stands between two places of a text by what is taken and fails, and by what reads.
+-- The definitions of Good.antt and Bad.antt agree with those of Lex.antt on the tokens between two places of a text, and on its lexical fault.
 use Rattle.std.proofs.Common.{◌≡◌, subst, ℕ, List, ◌++◌, Option, Some, None}
 use Rattle.std.specs.Prelude.{drop}
 use Rattle.cborn_lex.specs.declared.classes.Profile.{Profile}
@@ -6,7 +6,7 @@ use Rattle.cborn_lex.specs.declared.classes.Token.{Token}
 use Rattle.cborn_lex.specs.declared.faults.LexFault.{LexFault}
 use Rattle.cborn_lex.specs.declared.faults.LexFault.TheVariants.{Refused, OutOfMemory}
 use Rattle.cborn_lex.specs.declared.faults.LexReason.{LexReason}
-use Rattle.cborn_lex.specs.Tokens.{Blank, Read, Bad}
+use Rattle.cborn_lex.specs.Tokens.{WhiteSpace, Read, Bad}
 use Rattle.cborn_lex.specs.Good as good
 use Rattle.cborn_lex.specs.Good.{Covers, HasTokens, IsTokenFrom}
 use Rattle.cborn_lex.specs.Bad.{BeginsNothing, FailsAt, HasNoTokens, HasNoTokenFrom}
@@ -19,12 +19,12 @@ use Rattle.cborn_lex.proofs.BadBack.{fails}
 module _ (p : Profile) where
   pub covers : {n m : ℕ} {x y : List ℕ} {ts : List Token} → Through p n x ts m y → Covers p n x ts m y
   covers (lex.here n x) = good.end n x
-  covers (lex.gap n m s x y ts r h) = good.gap n m s x y ts (taken p s x Blank r) (covers h)
+  covers (lex.white_space n m s x y ts r h) = good.white_space n m s x y ts (taken p s x WhiteSpace r) (covers h)
   covers (lex.token n m c s x y ts r h) = good.token n m c s x y ts (taken p s x (Read c) r) (covers h)
 
   pub through : {n m : ℕ} {x y : List ℕ} {ts : List Token} → Covers p n x ts m y → Through p n x ts m y
   through (good.end n x) = lex.here n x
-  through (good.gap n m s x y ts t k) = lex.gap n m s x y ts (read p t) (through k)
+  through (good.white_space n m s x y ts t k) = lex.white_space n m s x y ts (read p t) (through k)
   through (good.token n m c s x y ts t k) = lex.token n m c s x y ts (read p t) (through k)
 
   -- LAW: the tokens of a text are taken
@@ -43,7 +43,7 @@ module _ (p : Profile) where
   pub stopped : (text : List ℕ) (n : ℕ) (r : LexReason) → FailsAt p text n r → Stop p text n r
   stopped text n r (ts, y, c, f) = let b = fails p f in (ts, b.front, b.rest, subst (λ l. Through p 0 text ts n l) b.whole (through c), b.reads)
 
-  -- LAW: the same of what a refusal tells of a whole text
+  -- LAW: why a whole text has no tokens
   pub no_tokens : (text : List ℕ) (e : LexFault) → IsStopAt p text e → HasNoTokens p text e
   no_tokens text (Refused n r) h = failed text n r h
   no_tokens text OutOfMemory h = tt
@@ -52,7 +52,7 @@ module _ (p : Profile) where
   stop_at text (Refused n r) h = stopped text n r h
   stop_at text OutOfMemory h = tt
 
-  -- LAW: and from a place on
+  -- LAW: why there is no token from a place on
   pub no_token_from : (text : List ℕ) (n : ℕ) (e : LexFault) → IsStopFrom p text n e → HasNoTokenFrom p text n e
   no_token_from text n (Refused q r) h = (h.0, h.1, failed (drop n text) h.0 r h.2)
   no_token_from text n OutOfMemory h = tt

@@ -9,7 +9,7 @@ use Rattle.hex.specs.Hex.{hex_digit_value, digit_or_error, decode_pairs, decode_
 use Rattle.hex.specs.declared.error.FromHexError.{FromHexError}
 use Rattle.hex.specs.declared.error.FromHexError.TheVariants.{OddLength}
 use Rattle.cborn_lex.specs.Strings.{IsHex}
-use Rattle.cborn_lex.specs.shared.Scan.{strip, behind}
+use Rattle.cborn_lex.specs.devices.Scan.{strip, after}
 use Rattle.cborn_lex.proofs.Contents.Hexes.{hex_ok, hex_err, hex_no_digits}
 use Rattle.cborn_lex.proofs.TwoParts.{passes_at}
 
@@ -101,20 +101,20 @@ odd_fails es d k = let e = even_length es k in cond-true _ _ _ (eq-eqb (length (
 
 -- The end of the content.
 
-ended : (content ds : List ℕ) (at : ℕ) → length content ≤ at → behind ds (strip false (drop at content)) ≡ strip false content → strip false content ≡ Some ds
-ended content ds at h e = sym e ∙ ap (λ x. behind ds (strip false x)) (drop_all at content h) ∙ ap Some (append-nil ds)
+ended : (content ds : List ℕ) (at : ℕ) → length content ≤ at → after ds (strip false (drop at content)) ≡ strip false content → strip false content ≡ Some ds
+ended content ds at h e = sym e ∙ ap (λ x. after ds (strip false x)) (drop_all at content h) ∙ ap Some (append-nil ds)
 
-pub hex_done : (content ds : List ℕ) (at high : ℕ) (old new : List ℕ) → length content ≤ at → behind ds (strip false (drop at content)) ≡ strip false content → IsHalf ds high old new → high ≡ 16 → (bytes : List ℕ) × IsHex content bytes × (new ≡ old ++ bytes)
+pub hex_done : (content ds : List ℕ) (at high : ℕ) (old new : List ℕ) → length content ≤ at → after ds (strip false (drop at content)) ≡ strip false content → IsHalf ds high old new → high ≡ 16 → (bytes : List ℕ) × IsHex content bytes × (new ≡ old ++ bytes)
 hex_done content ds at high old new h e (es, a, v, w, inl (k, g)) f = (bytes_of es, hex_ok content ds (bytes_of es) (ended content ds at h e) (ap decode_of g ∙ whole_decodes es a v), w)
 hex_done content ds at high old new h e (es, a, v, w, inr (d, k, small, t, g)) f = absurd (omega (arith, small, f))
 
-pub hex_odd : (content ds : List ℕ) (at high : ℕ) (old new : List ℕ) → length content ≤ at → behind ds (strip false (drop at content)) ≡ strip false content → IsHalf ds high old new → (high ≡ 16 → ⊥) → (bytes : List ℕ) → IsHex content bytes → ⊥
+pub hex_odd : (content ds : List ℕ) (at high : ℕ) (old new : List ℕ) → length content ≤ at → after ds (strip false (drop at content)) ≡ strip false content → IsHalf ds high old new → (high ≡ 16 → ⊥) → (bytes : List ℕ) → IsHex content bytes → ⊥
 hex_odd content ds at high old new h e (es, a, v, w, inl (k, g)) f = absurd (f k)
 hex_odd content ds at high old new h e (es, a, v, w, inr (d, k, small, t, g)) f = hex_err content ds OddLength (ended content ds at h e) (ap decode_of g ∙ odd_fails es d v)
 
-pub hex_inside : (content ds : List ℕ) (at : ℕ) → length content ≤ at → behind ds (strip true (drop at content)) ≡ strip false content → (bytes : List ℕ) → IsHex content bytes → ⊥
-hex_inside content ds at h e = hex_no_digits content (sym e ∙ ap (λ x. behind ds (strip true x)) (drop_all at content h))
+pub hex_inside : (content ds : List ℕ) (at : ℕ) → length content ≤ at → after ds (strip true (drop at content)) ≡ strip false content → (bytes : List ℕ) → IsHex content bytes → ⊥
+hex_inside content ds at h e = hex_no_digits content (sym e ∙ ap (λ x. after ds (strip true x)) (drop_all at content h))
 
-pub behind_none : (o : Option (List ℕ)) → behind [] o ≡ o
-behind_none None = refl
-behind_none (Some x) = refl
+pub after_none : (o : Option (List ℕ)) → after [] o ≡ o
+after_none None = refl
+after_none (Some x) = refl

@@ -12,8 +12,8 @@ use Rattle.std.specs.List.{list_all, flat_map, prefix_len}
 use Rattle.std.specs.Char.{is_digit}
 use Rattle.std.specs.Simd.Lanes.{zip2, mask_l, top}
 use Rattle.cborn_lex.specs.Strings.{is_content, is_unclosed, is_escape, escape_code, four, are_hex, code, is_high, is_low}
-use Rattle.cborn_lex.specs.shared.Letters.{Letter, raw, escaped, unit, pair, written, meant, is_letter, is_plain, is_special, LettersSoFar, LettersTaken, NoText}
-use Rattle.cborn_lex.specs.shared.Scan.{is_raw, escape_of, code_at, low_code, paired, unit_from}
+use Rattle.cborn_lex.specs.devices.Letters.{Letter, raw, escaped, unit, pair, written, meant, is_letter, is_plain, is_special, LettersSoFar, LettersTaken, NoText}
+use Rattle.cborn_lex.specs.devices.Scan.{is_raw, escape_of, code_at, low_code, paired, unit_from}
 use Rattle.cborn_lex.proofs.Contents.Lettered.{is_text}
 use Rattle.cborn_lex.proofs.Contents.Ends.{content_then, unclosed_then}
 use Rattle.cborn_lex.proofs.Contents.Texts.{LetterAt, NoLetters}
@@ -219,8 +219,8 @@ letter_content q (pair a b c d e f g i) x y quote h =
     let hs = and_parts (are_hex a b c d && is_high (code a b c d)) (are_hex e f g i && is_low (code e f g i)) h.allowed in
     content_then q (four a b c d) (four e f g i) (four_content q a b c d quote (and_parts _ _ hs.0).0) (four_content q e f g i quote (and_parts _ _ hs.1).0)
 
-behind_slash : (at : ℕ) (tail : List ℕ) → at < length tail → get_or tail at 0 ≡ 92 → drop at tail ≡ 92 ∷ drop (at + 1) tail
-behind_slash at tail h e = drop_more tail at 0 h ∙ ap (λ c. c ∷ drop (at + 1) tail) e
+after_slash : (at : ℕ) (tail : List ℕ) → at < length tail → get_or tail at 0 ≡ 92 → drop at tail ≡ 92 ∷ drop (at + 1) tail
+after_slash at tail h e = drop_more tail at 0 h ∙ ap (λ c. c ∷ drop (at + 1) tail) e
 
 taken : (n : ℕ) (x s z : List ℕ) → x ≡ s ++ z → length s ≡ n → take n x ≡ s
 taken n x s z e h = ap (take n) e ∙ ap (λ m. take m (s ++ z)) (sym h) ∙ whole s z
@@ -244,7 +244,7 @@ escape_more q tail old mid new at c size quote l b e w s =
     let front = r.at in
     let fits = r.fits in
     let sized : length (written one) ≡ size = omega (arith, ap length front.whole, length-append (written one) (drop size (92 ∷ x)), length-drop size (92 ∷ x)) in
-    let cut : take size (drop at tail) ≡ written one = ap (take size) (behind_slash at tail l b) ∙ taken size (92 ∷ x) (written one) (drop size (92 ∷ x)) front.whole sized in
+    let cut : take size (drop at tail) ≡ written one = ap (take size) (after_slash at tail l b) ∙ taken size (92 ∷ x) (written one) (drop size (92 ∷ x)) front.whole sized in
     letters_also q tail old mid new at (at + size) (one ∷ []) s (and_from _ _ front.allowed refl) (ap (is_content q) (append-nil (written one)) ∙ letter_content q one x (drop size (92 ∷ x)) quote front)
     (take-add at size tail ∙ ap (λ z. take at tail ++ z) (cut ∙ sym (append-nil (written one)))) (w ∙ ap (λ z. mid ++ z) (sym r.value ∙ sym (append-nil (meant one))))
 
@@ -263,8 +263,8 @@ module _ (q : ℕ) (tail old mid : List ℕ) (at : ℕ) (quote : Quote q) (s : L
       let k = at - i - 1 in
       let far : at ≡ i + suc k = omega (arith, m) in
       let cut : take at tail ≡ take i tail ++ q ∷ take k (drop (i + 1) tail) = ap (λ n. take n tail) far ∙ split i k tail l ∙ ap (λ c. take i tail ++ c ∷ take k (drop (i + 1) tail)) e in
-      let unended : is_unclosed q (take at tail) ≡ true = ap (is_unclosed q) (sym (append-nil (take at tail))) ∙ unclosed_then q (take at tail) [] s.inside refl in
-      (quoted q (no_slash q quote)).apart (take i tail) (take k (drop (i + 1) tail)) h (ap (is_unclosed q) (sym cut) ∙ unended)
+      let endless_information : is_unclosed q (take at tail) ≡ true = ap (is_unclosed q) (sym (append-nil (take at tail))) ∙ unclosed_then q (take at tail) [] s.inside refl in
+      (quoted q (no_slash q quote)).apart (take i tail) (take k (drop (i + 1) tail)) h (ap (is_unclosed q) (sym cut) ∙ endless_information)
 
   pub none_at_end : length tail ≤ at → NoText q tail
   none_at_end n i l h e bytes t = later i l h e (omega (arith, n, l))
@@ -323,5 +323,5 @@ none_at_escape q tail old mid at quote a b f s =
 pub unit_escape : (q : ℕ) (tail x : List ℕ) (at c size : ℕ) → at + 1 < length tail → get_or tail (at + 1) 0 ≡ 117 → x ≡ drop (at + 2) tail → unit_from (code_at x) (drop 4 x) ≡ Some (c, size) → escape_of q (drop (at + 1) tail) ≡ Some (c, size)
 unit_escape q tail x at c size h e f g =
     let two : at + 1 + 1 ≡ at + 2 = omega arith in
-    let behind : drop (at + 1) tail ≡ 117 ∷ x = drop_more tail (at + 1) 0 h ∙ ap (λ d. d ∷ drop (at + 1 + 1) tail) e ∙ ap (λ y. 117 ∷ y) (ap (λ n. drop n tail) two ∙ sym f) in
-    ap (escape_of q) behind ∙ g
+    let after : drop (at + 1) tail ≡ 117 ∷ x = drop_more tail (at + 1) 0 h ∙ ap (λ d. d ∷ drop (at + 1 + 1) tail) e ∙ ap (λ y. 117 ∷ y) (ap (λ n. drop n tail) two ∙ sym f) in
+    ap (escape_of q) after ∙ g

@@ -38,14 +38,14 @@ nothing_in (kinds.Bytes q m) n = refl
 
 -- where nothing was appended
 pub nothing_appended : (f : FrontIn) (n : ℕ) (old new : List ℕ) → new ≡ old → FrontStandsFor f n old new (front_view n [] f)
-nothing_appended fronts.Blank n old new e = (refl, e)
+nothing_appended fronts.WhiteSpace n old new e = (refl, e)
 nothing_appended (fronts.Read k) n old new e = (class_of k n [], refl, record { content = []; class = refl; written = e ∙ sym (append-nil old) ∙ ap (λ x. old ++ x) (sym (nothing_in k n)) })
 nothing_appended (fronts.Bad r) n old new e = refl
 
 -- a string
 pub string_appended : (f : FrontIn) (n : ℕ) (x old new : List ℕ) (k : Mark → Class) (m : Option Mark) → ((a : Mark) → content_of (k a) ≡ x) → front_view n x f ≡ marked k m → new ≡ old ++ x → FrontStandsFor f n old new (marked k m)
-string_appended fronts.Blank n x old new k None c e w = cc
-string_appended fronts.Blank n x old new k (Some a) c e w = cc
+string_appended fronts.WhiteSpace n x old new k None c e w = cc
+string_appended fronts.WhiteSpace n x old new k (Some a) c e w = cc
 string_appended (fronts.Read l) n x old new k None c e w = cc
 string_appended (fronts.Read l) n x old new k (Some a) c e w = let same : class_of l n x ≡ k a = cc in (k a, refl, record { content = x; class = sym same; written = w ∙ ap (λ y. old ++ y) (sym (c a)) })
 string_appended (fronts.Bad r) n x old new k None c e w = sym e

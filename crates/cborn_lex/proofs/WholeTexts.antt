@@ -1,5 +1,5 @@
--- A text has one list of tokens, or one place where it stops; and what crates above need of its tokens.
--- They need where a scan goes on (`Progress`), how long the contents of tokens are together (`Weights`), and how marks are written (`Spelling`).
+-- A text has one list of tokens, or one lexical fault; and what crates above need of its tokens.
+-- They need how a scan goes on from token to token (`Progress`), how long the contents of tokens are together (`Weights`), and how indicators are written (`Spelling`).
 pub mod Parts
 pub mod Chains
 pub mod Progress

@@ -1,4 +1,4 @@
--- What is wrong with a text of the notation where no white space, comment or token begins (RFC 8949 section 8, RFC 8610 appendix G).
+-- Lexical faults: what is wrong where neither white space, a comment nor a token begins (RFC 8949 section 8, RFC 8610 appendix G).
 use Rattle.std.specs.Prelude.{◌≡◌, ℕ, ◌+◌, ◌≤◌, ◌^◌, Bool, true, false, ◌||◌, ◌&&◌, List, [], ◌∷◌, ◌++◌, ◌==◌, bytes_eq, drop, codes, Option, Some, None}
 use Rattle.std.specs.List.{list_all, list_any}
 use Rattle.std.specs.Str.{byte}
@@ -26,7 +26,7 @@ is_quote c = (c == byte "\"") || (c == byte "'")
 abbrev pub is_start : ℕ → Bool
 is_start c = (is_white c || is_ascii_alphanumeric c) || list_any (λ d. c == d) (codes "/#[]{}(),:<>\"'-")
 
--- w is a whole word in front of z
+-- w is a whole word before z
 pub record IsWord (w z : List ℕ) : Type 0 where
   pub letter : begins is_ascii_alphabetic w ≡ true
   pub run : IsRun is_word w z
@@ -35,12 +35,12 @@ pub record IsWord (w z : List ℕ) : Type 0 where
 abbrev pub is_float_word : List ℕ → Bool
 is_float_word w = has_prefix (codes "NaN") w || has_prefix (codes "Infinity") w
 
--- the prefix of a string in hexadecimal or base64, and the reason if its content is neither
+-- the prefix of a string in hexadecimal or base64, and the reason if its content is not that
 pub data IsPrefix : List ℕ → LexReason → Type 0 where
   hex : IsPrefix (codes "h") BadHex
   base64 : IsPrefix (codes "b64") BadBase64
 
--- Numbers. x is the text of one without its minus, if it has one; n is whether it has.
+-- Numbers. x is the text of a number without its minus, and n says whether it has a minus.
 
 -- it begins with 0 and one of these letters, which name a base (RFC 8610 appendix G.5)
 abbrev pub is_based : List ℕ → List ℕ → Bool
@@ -52,13 +52,13 @@ pub data IsFloat (n : Bool) (x : List ℕ) : Type 0 where
   decimal : begins is_ascii_digit x ≡ true → is_based (codes "xXoObB") x ≡ false → has_any (codes ".eE") x ≡ true → IsFloat n x
   infinite : n ≡ true → has_prefix (codes "Infinity") x ≡ true → IsFloat n x
 
--- Why it isn't an integer below 2^128.
+-- Why a number isn't an integer below 2^128.
 pub data IsNoInteger (n : Bool) (x : List ℕ) : LexReason → Type 0 where
   float : IsFloat n x → IsNoInteger n x FloatLeftOut
   large : (v : ℕ) → IsLiteral x v → 2 ^ 128 ≤ v → IsNoInteger n x NumberTooLarge
   bad : (IsFloat n x → ⊥) → ((v : ℕ) → IsLiteral x v → ⊥) → IsNoInteger n x BadNumber
 
--- The text begins with no white space, comment or token, for this reason.
+-- The text begins with a lexical fault, for this reason.
 pub data Fails (profile : Profile) : List ℕ → LexReason → Type 0 where
   -- a slash, and no other after it (RFC 8610 appendix G.6)
   comment : (x : List ℕ) → list_all (is_not (byte "/")) x ≡ true → Fails profile (byte "/" ∷ x) UnclosedComment
@@ -72,7 +72,7 @@ pub data Fails (profile : Profile) : List ℕ → LexReason → Type 0 where
   unclosed : (w x : List ℕ) (r : LexReason) → IsPrefix w r → list_all (is_not (byte "'")) x ≡ true → Fails profile (w ++ byte "'" ∷ x) UnclosedString
   -- a content between quotes that stands for no bytes in the alphabet of its prefix
   content : (w x z : List ℕ) (r : LexReason) → IsPrefix w r → list_all (is_not (byte "'")) x ≡ true → ((b : List ℕ) → IsCoded w x b → ⊥) → Fails profile (w ++ (byte "'" ∷ x ++ byte "'" ∷ z)) r
-  -- a token but for its indicator: with _3 in its place it would be one (RFC 8949 section 8.1)
+  -- a bad indicator: with _3 in its place there would be a token (RFC 8949 section 8.1)
   indicator : (s m z : List ℕ) (k : Class) → Takes profile (s ++ codes "_3") [] (Some k) → IsIndicator m z → mark_of m ≡ None → Fails profile (s ++ (m ++ z)) BadIndicator
   -- a string in chunks begins with `(_`, and no other indicator
   chunks : (z : List ℕ) → begins is_word z ≡ true → Fails profile (codes "(_" ++ z) BadIndicator
@@ -93,16 +93,16 @@ pub data Fails (profile : Profile) : List ℕ → LexReason → Type 0 where
 abbrev pub BeginsNothing : Profile → List ℕ → Type 0
 BeginsNothing profile y = (s z : List ℕ) (o : Option Class) → y ≡ s ++ z → Takes profile s z o → ⊥
 
--- at the place n, after white space, comments and tokens, the text goes on with none of these, for the reason r
+-- the text has a lexical fault at n, after white space, comments and tokens, for the reason r
 abbrev pub FailsAt : Profile → List ℕ → ℕ → LexReason → Type 0
 FailsAt profile text n r = (ts : List Token) × (y : List ℕ) × Covers profile 0 text ts n y × Fails profile y r
 
--- why a text isn't made of tokens; nothing is said of it where memory was refused
+-- why a text has no tokens: its lexical fault; nothing is said of it if memory was refused
 abbrev pub HasNoTokens : Profile → List ℕ → LexFault → Type 0
 HasNoTokens profile text (Refused n r) = FailsAt profile text n r
 HasNoTokens profile text OutOfMemory = Unit {0}
 
--- why the text from the offset n on begins with no token; a place is an offset from the start of the text
+-- why the text from the offset n on begins with no token; p is an offset from the start of the text
 abbrev pub HasNoTokenFrom : Profile → List ℕ → ℕ → LexFault → Type 0
 HasNoTokenFrom profile text n (Refused p r) = (q : ℕ) × (p ≡ n + q) × FailsAt profile (drop n text) q r
 HasNoTokenFrom profile text n OutOfMemory = Unit {0}

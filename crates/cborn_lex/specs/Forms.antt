@@ -1,4 +1,4 @@
--- A device of the proofs, but for `IsRun` and `IsIndicator`: what the front of a text of the notation is, by its first character: white space, a comment, a token, or what is wrong with it (RFC 8949 section 8, RFC 8610 appendix G).
+-- What the front of a text is, by its first character: white space, a comment, a token, or what is wrong with it (RFC 8949 section 8, RFC 8610 appendix G). It is a device of the proofs, but for `IsRun` and `IsIndicator`.
 -- A text is a list of bytes in UTF-8. Each character that means something is ASCII, so no definition decodes.
 use Rattle.std.specs.Prelude.{◌≡◌, ℕ, Bool, true, false, ◌&&◌, not, List, [], ◌∷◌, ◌++◌, ◌==◌, bytes_eq, codes, Option, ◌⊎◌, if◌then◌else◌}
 use Rattle.std.specs.List.{list_all}
@@ -11,7 +11,7 @@ use Rattle.cborn_lex.specs.declared.faults.LexReason.{LexReason}
 use Rattle.cborn_lex.specs.declared.faults.LexReason.TheVariants.{UnexpectedCharacter, UnclosedString, UnclosedComment, BadEscape, BadHex, BadBase64, UnknownPrefix, BadIndicator}
 use Rattle.cborn_lex.specs.declared.classes.Class.{Class}
 use Rattle.cborn_lex.specs.declared.classes.Class.TheVariants.{ArrayOpen, MapOpen, EmbedClose, ArrayClose, MapClose, ParenClose, Comma, Colon, EmbedOpen, ChunkOpen, SimpleOpen, Text, Bytes}
-use Rattle.cborn_lex.specs.Tokens.{Front, Blank, Read, Bad, is_white, is_word, is_numeral, is_not, begins, mark_of, marked}
+use Rattle.cborn_lex.specs.Tokens.{Front, WhiteSpace, Read, Bad, is_white, is_word, is_numeral, is_not, begins, mark_of, marked}
 use Rattle.cborn_lex.specs.Numbers.{integer, number_front, word_front}
 use Rattle.cborn_lex.specs.Strings.{is_content, is_unclosed, IsText, IsHex, IsBase64}
 
@@ -27,37 +27,37 @@ abbrev pub IsIndicator : List ℕ → List ℕ → Type 0
 IsIndicator [] z = begins (λ c. c == byte "_") z ≡ false
 IsIndicator (c ∷ s) z = ((c == byte "_") ≡ true) × IsRun is_word s z
 
--- s goes up to and with the first q, and has body before it
+-- s ends with its first q, and body is all before that
 pub record Through (q : ℕ) (body s : List ℕ) : Type 0 where
   pub none : list_all (is_not q) body ≡ true
   pub whole : s ≡ body ++ q ∷ []
 
--- s is all that is left, and has no q
+-- s goes up to the end of the text, and has no q
 pub record Lacks (q : ℕ) (s z : List ℕ) : Type 0 where
   pub none : list_all (is_not q) s ≡ true
   pub all : z ≡ []
 
--- the token of the bytes that Is holds of, with its indicator, or the reason r where it holds of none
-abbrev pub Stands : (List ℕ → Type 0) → LexReason → (List ℕ → Mark → Class) → Option Mark → Front → Type 0
-Stands Is r k m a = ((bytes : List ℕ) × Is bytes × (a ≡ marked (k bytes) m)) ⊎ (((bytes : List ℕ) → Is bytes → ⊥) × (a ≡ Bad r))
+-- a is the token of the bytes that Is holds of, with its indicator, or bad for the reason r if Is holds of none
+abbrev pub ContentGives : (List ℕ → Type 0) → LexReason → (List ℕ → Mark → Class) → Option Mark → Front → Type 0
+ContentGives Is r k m a = ((bytes : List ℕ) × Is bytes × (a ≡ marked (k bytes) m)) ⊎ (((bytes : List ℕ) → Is bytes → ⊥) × (a ≡ Bad r))
 
--- a content that is whole, the quote q, and an indicator
+-- s is a whole content, the quote q, and an indicator
 pub record Closed (whole : List ℕ → Bool) (q : ℕ) (content mark s z : List ℕ) : Type 0 where
   pub inside : whole content ≡ true
   pub text : s ≡ content ++ q ∷ mark
   pub indicator : IsIndicator mark z
 
--- A string after its opening quote q: a content that is whole, q, and an indicator; or the rest of the text, unclosed. Is content bytes says what a content stands for.
+-- A string after its opening quote q: a whole content, q, and an indicator; or all of an unclosed rest of the text. Is content bytes says what a content stands for.
 abbrev pub IsString : (whole unclosed : List ℕ → Bool) → ℕ → (List ℕ → List ℕ → Type 0) → LexReason → (List ℕ → Mark → Class) → List ℕ → List ℕ → Front → Type 0
 IsString whole unclosed q Is r k s z a =
-    ((content : List ℕ) × (mark : List ℕ) × Closed whole q content mark s z × Stands (Is content) r k (mark_of mark) a)
+    ((content : List ℕ) × (mark : List ℕ) × Closed whole q content mark s z × ContentGives (Is content) r k (mark_of mark) a)
     ⊎ ((unclosed s ≡ true) × (z ≡ []) × (a ≡ Bad UnclosedString))
 
 -- a string with escapes (RFC 8949 section 8, RFC 8610 appendix G.2)
 abbrev pub IsQuoted : ℕ → (List ℕ → Mark → Class) → List ℕ → List ℕ → Front → Type 0
 IsQuoted q k s z a = IsString (is_content q) (is_unclosed q) q (IsText q) BadEscape k s z a
 
--- a word that is followed by a single quote
+-- what a word before a single quote is
 pub data Prefix : Type 0 where
   hexadecimal base64 unknown : Prefix
 
@@ -90,14 +90,14 @@ abbrev pub IsTag : Bool → Bool → List ℕ → List ℕ → Type 0
 IsTag negative tagged [] z = (tagged ≡ false) × ((not negative && begins (λ c. c == byte "(") z) ≡ false)
 IsTag negative tagged (c ∷ s) z = (tagged ≡ true) × (negative ≡ false) × ((c == byte "(") ≡ true) × (s ≡ [])
 
--- what follows a number's first character: the rest of its body, an indicator, a tag's `(`
+-- s is what follows the first character of a number: the rest of its body, an indicator, and the `(` of a tag
 pub record IsNumber (negative tagged : Bool) (body mark tag s z : List ℕ) : Type 0 where
   pub run : IsRun is_numeral body (mark ++ (tag ++ z))
   pub indicator : IsIndicator mark (tag ++ z)
   pub tagging : IsTag negative tagged tag z
   pub whole : s ≡ body ++ (mark ++ tag)
 
--- A number; first is its first digit, or nothing after a minus.
+-- A number. first is its first digit, or empty after a minus.
 abbrev pub ReadsNumber : Bool → List ℕ → List ℕ → List ℕ → Front → Type 0
 ReadsNumber negative first s z a =
     (tagged : Bool) × (body : List ℕ) × (mark : List ℕ) × (tag : List ℕ) × IsNumber negative tagged body mark tag s z × (a ≡ number_front negative tagged (mark_of mark) (integer negative (first ++ body)))
@@ -137,12 +137,12 @@ paren_front mark =
     else if bytes_eq mark (codes "_") then Read ChunkOpen
     else Bad BadIndicator
 
--- The first character c, s after it, and then z.
+-- The front is the character c and s after it, and z follows.
 abbrev pub ReadsFrom : Start → Profile → ℕ → List ℕ → List ℕ → Front → Type 0
-ReadsFrom white profile c s z a = (s ≡ []) × (a ≡ Blank)
-ReadsFrom slash profile c s z a = ((body : List ℕ) × Through (byte "/") body s × (a ≡ Blank)) ⊎ (Lacks (byte "/") s z × (a ≡ Bad UnclosedComment))
+ReadsFrom white profile c s z a = (s ≡ []) × (a ≡ WhiteSpace)
+ReadsFrom slash profile c s z a = ((body : List ℕ) × Through (byte "/") body s × (a ≡ WhiteSpace)) ⊎ (Lacks (byte "/") s z × (a ≡ Bad UnclosedComment))
 ReadsFrom hash One c s z a = (s ≡ []) × (a ≡ Bad UnexpectedCharacter)
-ReadsFrom hash Two c s z a = ((body : List ℕ) × Through 10 body s × (a ≡ Blank)) ⊎ (Lacks 10 s z × (a ≡ Blank))
+ReadsFrom hash Two c s z a = ((body : List ℕ) × Through 10 body s × (a ≡ WhiteSpace)) ⊎ (Lacks 10 s z × (a ≡ WhiteSpace))
 ReadsFrom (single k) profile c s z a = (s ≡ []) × (a ≡ Read k)
 ReadsFrom (opening k) profile c s z a = IsIndicator s z × (a ≡ marked k (mark_of s))
 ReadsFrom less profile c s z a = ((s ≡ byte "<" ∷ []) × (a ≡ Read EmbedOpen)) ⊎ ((s ≡ []) × (begins (λ d. d == byte "<") z ≡ false) × (a ≡ Bad UnexpectedCharacter))

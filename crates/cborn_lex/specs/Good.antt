@@ -1,5 +1,5 @@
--- What may be at the front of a text of the notation: white space, a comment or a token (RFC 8949 section 8, RFC 8610 appendix G).
--- A text is a list of bytes in UTF-8. Each character that means something is ASCII, so no definition decodes. In what follows s is the part that is described, and z is all that follows it.
+-- What the front of a text may be: white space, a comment or a token (RFC 8949 section 8, RFC 8610 appendix G); and the tokens of a text.
+-- A text is a list of bytes in UTF-8. Each character that means something is ASCII, so no definition decodes. In what follows s is the part of the text that is described, and z all that follows it.
 use Rattle.std.specs.Prelude.{◌≡◌, ℕ, ◌+◌, ◌<◌, length, ◌^◌, true, false, ◌||◌, not, List, [], ◌∷◌, ◌++◌, ◌==◌, bytes_eq, drop, codes, Option, Some, None}
 use Rattle.std.specs.List.{list_all}
 use Rattle.std.specs.Str.{byte}
@@ -14,7 +14,7 @@ use Rattle.cborn_lex.specs.Numbers.{are_digits, has_prefix, number, signed}
 use Rattle.cborn_lex.specs.Forms.{IsRun, IsIndicator}
 use Rattle.cborn_lex.specs.Strings.{is_content, IsText, IsHex, IsBase64}
 
--- s is the whole encoding indicator in front of z, or nothing if there is none, and means m (RFC 8949 section 8.1)
+-- s is the whole encoding indicator before z, or empty if there is none, and is m (RFC 8949 section 8.1)
 abbrev pub IsMark : List ℕ → List ℕ → Mark → Type 0
 IsMark s z m = IsIndicator s z × (mark_of s ≡ Some m)
 
@@ -25,7 +25,7 @@ pub data IsLiteral : List ℕ → ℕ → Type 0 where
   octal : (x : List ℕ) → (has_prefix (codes "0o") x || has_prefix (codes "0O") x) ≡ true → are_digits 8 (drop 2 x) ≡ true → IsLiteral x (number 8 0 (drop 2 x))
   binary : (x : List ℕ) → (has_prefix (codes "0b") x || has_prefix (codes "0B") x) ≡ true → are_digits 2 (drop 2 x) ≡ true → IsLiteral x (number 2 0 (drop 2 x))
 
--- an integer x below 2^128 without its minus, and its indicator, which ends before z
+-- x is an integer below 2^128 without its minus, with the value v and the indicator m
 pub record IsNumeral (x mark z : List ℕ) (v : ℕ) (m : Mark) : Type 0 where
   pub literal : IsLiteral x v
   pub bounded : v < 2 ^ 128
@@ -44,7 +44,7 @@ pub data IsCoded : List ℕ → List ℕ → List ℕ → Type 0 where
   hex : (x b : List ℕ) → IsHex x b → IsCoded (codes "h") x b
   base64 : (x b : List ℕ) → IsBase64 x b → IsCoded (codes "b64") x b
 
--- What s is in front of z: white space or a comment, which is `None`, or a token.
+-- s, before z, is white space or a comment, which is `None`, or a token.
 pub data Takes (profile : Profile) : List ℕ → List ℕ → Option Class → Type 0 where
   -- space, tab, LF or CR
   white : (c : ℕ) (z : List ℕ) → is_white c ≡ true → Takes profile (c ∷ []) z None
@@ -76,17 +76,17 @@ pub data Takes (profile : Profile) : List ℕ → List ℕ → Option Class → 
   positive : (x s z : List ℕ) (v : ℕ) (m : Mark) → IsNumeral x s z v m → begins (λ c. c == byte "(") z ≡ false → Takes profile (x ++ s) z (Some (signed false v m))
   tag : (x s z : List ℕ) (n : ℕ) (m : Mark) → IsNumeral x s (byte "(" ∷ z) n m → Takes profile (x ++ (s ++ byte "(" ∷ [])) z (Some (TagOpen n m))
 
--- White space, comments and these tokens, from the offset n, where x begins, up to the offset m, where y begins.
+-- White space, comments and the tokens are all from the offset n, where x begins, up to the offset m, where y begins.
 pub data Covers (profile : Profile) : ℕ → List ℕ → List Token → ℕ → List ℕ → Type 0 where
   end : (n : ℕ) (x : List ℕ) → Covers profile n x [] n x
-  gap : (n m : ℕ) (s x y : List ℕ) (ts : List Token) → Takes profile s x None → Covers profile (n + length s) x ts m y → Covers profile n (s ++ x) ts m y
+  white_space : (n m : ℕ) (s x y : List ℕ) (ts : List Token) → Takes profile s x None → Covers profile (n + length s) x ts m y → Covers profile n (s ++ x) ts m y
   token : (n m : ℕ) (k : Class) (s x y : List ℕ) (ts : List Token) → Takes profile s x (Some k) → Covers profile (n + length s) x ts m y → Covers profile n (s ++ x) (record { start = n; stop = n + length s; class = k } ∷ ts) m y
 
 -- The tokens of a text, in their order. Nothing else is in it but white space and comments.
 abbrev pub HasTokens : Profile → List ℕ → List Token → Type 0
 HasTokens profile x ts = Covers profile 0 x ts (length x) []
 
--- the tokens between the offsets n and m of a text, where it goes on after m
+-- these are the tokens between the offsets n and m of a text, which may go on after m
 abbrev pub TokensBetween : Profile → List ℕ → ℕ → ℕ → List Token → Type 0
 TokensBetween profile x n m ts = Covers profile n (drop n x) ts m (drop m x)
 

@@ -1,4 +1,4 @@
--- A token in two parts: its kind, and what it stands for: a number, or the content of a string.
+-- A token in two parts: its kind, and its number or the content of its string.
 use Rattle.std.specs.Prelude.{◌≡◌, ℕ, List, [], ◌∷◌, ◌++◌, length, Option, Some, None}
 use Rattle.cborn_lex.specs.declared.classes.Profile.{Profile}
 use Rattle.cborn_lex.specs.declared.classes.Kind.{Kind}
@@ -8,7 +8,7 @@ use Rattle.cborn_lex.specs.declared.classes.Class.{Class}
 use Rattle.cborn_lex.specs.declared.classes.Class.TheVariants as classes
 use Rattle.cborn_lex.specs.Good.{TokensBetween}
 
--- the class of a token of this kind, with the number n or, of a string, with the content x
+-- the class of a token of this kind: with the number n if it is an integer or a tag, and with the content x if it is a string
 abbrev pub class_of : Kind → ℕ → List ℕ → Class
 class_of (kinds.ArrayOpen m) n x = classes.ArrayOpen m
 class_of (kinds.MapOpen m) n x = classes.MapOpen m
@@ -27,19 +27,19 @@ class_of kinds.SimpleOpen n x = classes.SimpleOpen
 class_of (kinds.Text m) n x = classes.Text x m
 class_of (kinds.Bytes q m) n x = classes.Bytes q x m
 
--- what a string stands for; no other token has a content
+-- the content of a string; no other token has one
 abbrev pub content_of : Class → List ℕ
 content_of (classes.Text x m) = x
 content_of (classes.Bytes q x m) = x
 content_of _ = []
 
--- the kind, the number n and what was appended to old, which made it new, stand for a token of the class c
+-- the kind k, the number n and what was appended to old to make it new are a token of the class c
 pub record StandsFor (k : Kind) (n : ℕ) (old new : List ℕ) (c : Class) : Type 0 where
   pub content : List ℕ
   pub class : c ≡ class_of k n content
   pub written : new ≡ old ++ content_of c
 
--- the first token from n on, in two parts, or none up to the end, and then nothing is appended
+-- the first token from n on, in two parts; or none up to the end, and nothing is appended
 abbrev pub IsNextBareToken : Profile → List ℕ → ℕ → Option BareToken → ℕ → List ℕ → List ℕ → Type 0
 IsNextBareToken profile text n (Some t) number old new = (c : Class) × TokensBetween profile text n t.stop (record { start = t.start; stop = t.stop; class = c } ∷ []) × StandsFor t.kind number old new c
 IsNextBareToken profile text n None number old new = TokensBetween profile text n (length text) [] × (new ≡ old)

@@ -6,5 +6,4 @@ pub mod Good
 pub mod Kinds
 pub mod Bad
 pub mod Lex
-pub mod shared
 pub mod devices

@@ -13,7 +13,7 @@ use Rattle.cborn_lex.specs.Tokens.{Front, Read, Bad, begins, is_numeral, marked}
 abbrev pub are_digits : ℕ → List ℕ → Bool
 are_digits base ds = begins (λ d. true) ds && list_all (λ d. is_digit d base) ds
 
--- the number that digits spell after the number n
+-- the number that digits spell, after digits that spell n
 abbrev pub number : ℕ → ℕ → List ℕ → ℕ
 number base n [] = n
 number base n (d ∷ ds) = number base (n * base + digit_value d) ds
@@ -27,7 +27,7 @@ has_prefix p x = bytes_eq (take (length p) x) p
 abbrev pub has_any : List ℕ → List ℕ → Bool
 has_any cs x = list_any (λ c. list_any (λ d. c == d) cs) x
 
--- The value of a number's text after the minus, if it has one. The first line that applies.
+-- The value of a number, whose text without its minus is body. The first line that applies counts.
 abbrev pub integer : Bool → List ℕ → Result ℕ LexReason
 integer negative body =
     if has_prefix (codes "0x") body || has_prefix (codes "0X") body then
@@ -44,7 +44,7 @@ integer negative body =
     else if negative && has_prefix (codes "Infinity") body then Err FloatLeftOut
     else Err BadNumber
 
--- a decimal integer without a leading zero, of at most 19 digits, is the first len characters of x, and the number ends with them
+-- the first len characters of x are a decimal integer without a leading zero, of at most 19 digits, and the number ends there
 pub record BeginsDecimal (x : List ℕ) (len : ℕ) : Type 0 where
   pub within : len ≤ length x
   pub few : len ≤ 19
@@ -56,13 +56,13 @@ pub record BeginsDecimal (x : List ℕ) (len : ℕ) : Type 0 where
 abbrev pub signed : Bool → ℕ → Mark → Class
 signed negative n m = Number (negative && not (n == 0)) n m
 
--- a number, or a tag's number with its `(`
+-- the front of a number, or of a tag's number with its `(`
 abbrev pub number_front : Bool → Bool → Option Mark → Result ℕ LexReason → Front
 number_front negative tagged m (Err r) = Bad r
 number_front negative true m (Ok n) = marked (TagOpen n) m
 number_front negative false m (Ok n) = marked (signed negative n) m
 
--- a word that is no prefix and no `simple(`
+-- the front of a word that is neither a prefix nor `simple(`
 abbrev pub word_front : List ℕ → Front
 word_front w =
     if bytes_eq w (codes "false") then Read (Word 20)

@@ -15,7 +15,7 @@ is_content q [] = true
 is_content q (c ∷ []) = not (c == byte "\\") && is_not q c
 is_content q (c ∷ d ∷ x) = if c == byte "\\" then is_content q x else is_not q c && is_content q (d ∷ x)
 
--- the rest of a text that no quote q closes: it may end in a backslash
+-- no quote q closes the rest of a text, which may end in a backslash
 abbrev pub is_unclosed : ℕ → List ℕ → Bool
 is_unclosed q [] = true
 is_unclosed q (c ∷ []) = is_not q c
@@ -54,7 +54,7 @@ escape_code e =
 abbrev pub paired : ℕ → ℕ → ℕ
 paired high low = 0x1_0000 + (high - 0xD800) * 0x400 + (low - 0xDC00)
 
--- What a content between quotes q stands for, from its front on: a byte for itself, an escape for the bytes of its character in UTF-8.
+-- What a content between quotes q stands for: a byte for itself, and an escape for its character in UTF-8.
 pub data IsText (q : ℕ) : List ℕ → List ℕ → Type 0 where
   nothing : IsText q [] []
   raw : (c : ℕ) (x y : List ℕ) → (nat_le 32 c && not (c == byte "\\")) ≡ true → IsText q x y → IsText q (c ∷ x) (c ∷ y)

@@ -1,4 +1,4 @@
--- The characters that tokens are made of, and what a front can be.
+-- The characters that tokens are made of, indicators, and what the front of a text can be.
 use Rattle.std.specs.Prelude.{ℕ, Bool, List, [], ◌∷◌, false, ◌||◌, not, ◌==◌, bytes_eq, codes, Option, Some, None, if◌then◌else◌}
 use Rattle.std.specs.Str.{byte}
 use Rattle.std.specs.Char.{is_ascii_alphanumeric}
@@ -9,9 +9,9 @@ use Rattle.cborn_lex.specs.declared.classes.Mark.TheVariants.{Absent, Endless, W
 use Rattle.cborn_lex.specs.declared.faults.LexReason.{LexReason}
 use Rattle.cborn_lex.specs.declared.faults.LexReason.TheVariants.{BadIndicator}
 
--- what the front of a text is: white space or a comment, a token, or bad
+-- the front of a text: white space or a comment, a token, or a lexical fault
 pub data Front : Type 0 where
-  Blank : Front
+  WhiteSpace : Front
   Read : Class → Front
   Bad : LexReason → Front
 
@@ -47,7 +47,7 @@ mark_of t =
     else if bytes_eq t (codes "_3") then Some (Wide Eight)
     else None
 
--- a token that may carry an indicator
+-- the front of a token that may have an indicator
 abbrev pub marked : (Mark → Class) → Option Mark → Front
 marked k (Some m) = Read (k m)
 marked k None = Bad BadIndicator

@@ -1,2 +1,4 @@
 pub mod Pieces
 pub mod View
+pub mod Scan
+pub mod Letters

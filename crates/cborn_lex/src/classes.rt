@@ -25,7 +25,7 @@ pub enum Mark {
     Wide(Width),
 }
 
-/// What a token is, without the content of a string, and without the number of an integer or a tag.
+/// What a token is, without the number of an integer or a tag, and without the content of a string.
 #[derive(Clone, Copy, PartialEq, Eq, Debug)]
 pub enum Kind {
     /// `[`
@@ -48,7 +48,7 @@ pub enum Kind {
     EmbedClose(Mark),
     /// `(_`, the start of a string in chunks.
     ChunkOpen,
-    /// An integer, below 0 if `negative` is set.
+    /// An integer, which is below 0 if `negative` is set.
     Number { negative: bool, mark: Mark },
     /// The number of a tag, with its indicator and its `(`.
     TagOpen(Mark),

@@ -17,8 +17,9 @@ use base64::DecodeAllocError;
 use base64::engine::general_purpose::STANDARD;
 use std::alloc::{AllocError, Global};
 
-/// Appends the bytes that a content in hexadecimal encodes: digits, with nothing but white space
-/// and comments between them. False if it is anything else; a part of it may then be appended.
+/// Appends the bytes that a content in hexadecimal encodes: digits, with white space and comments
+/// between them. Gives false if the content is anything else. A part of the bytes may then be
+/// appended.
 fn push_hex(content: &[u8], out: &mut Vec<u8>) -> Result<bool, AllocError>
     ensures yes { IfOk result (λ b. b ≡ true → (bytes : List ℕ) × IsHex content.now bytes × (out.new.items ≡ out.old.items ++ bytes)) }
     ensures no { IfOk result (λ b. b ≡ false → (bytes : List ℕ) → IsHex content.now bytes → ⊥) }
@@ -48,8 +49,8 @@ fn push_hex(content: &[u8], out: &mut Vec<u8>) -> Result<bool, AllocError>
     Ok(!inside && high == 16)
 }
 
-/// Reads a string after its `h'`, and appends its bytes to `out`. Gives how many bytes of `tail` it
-/// takes, too.
+/// Reads a string after its `h'`, and appends its bytes to `out`. Gives its kind, or what is wrong
+/// with it, and how many bytes of `tail` it takes.
 pub fn in_hex(tail: &[u8], out: &mut Vec<u8>) -> Result<(Front, usize), AllocError>
     ensures { IfOk result (λ r. (r.1 ≤ length tail.now) × ((a : AnyFront) × IsPrefixed hexadecimal (take r.1 tail.now) (drop r.1 tail.now) a × ((n : ℕ) → FrontStandsFor r.0 n out.old.items out.new.items a))) }
 {
@@ -65,7 +66,7 @@ pub fn in_hex(tail: &[u8], out: &mut Vec<u8>) -> Result<(Front, usize), AllocErr
     }
 }
 
-/// A character of base64url in the standard alphabet.
+/// The character `c` of base64url in the standard alphabet (RFC 4648 sections 4 and 5).
 fn to_standard(c: u8) -> u8
     ensures { result ≡ to_standard c }
 {
@@ -91,6 +92,7 @@ fn without_white(alloc: Global, content: &[u8]) -> Result<Vec<u8>, AllocError>
     Ok(text)
 }
 
+/// Appends `n` characters `=`.
 fn pad(text: &mut Vec<u8>, n: usize) -> Result<(), AllocError>
     ensures { OnOk result (text.new.items ≡ text.old.items ++ replicate n 61) }
 {
@@ -100,6 +102,7 @@ fn pad(text: &mut Vec<u8>, n: usize) -> Result<(), AllocError>
     Ok(())
 }
 
+/// Whether a content in base64 has padding.
 fn is_padded(text: &[u8]) -> bool
     ensures { result ≡ list_any (λ c. c == 61) text.now }
 {
@@ -130,8 +133,8 @@ fn base64_bytes(alloc: Global, content: &[u8]) -> Result<Option<Vec<u8>>, AllocE
     }
 }
 
-/// Reads a string after its `b64'`, and appends its bytes to `out`. Gives how many bytes of `tail`
-/// it takes, too.
+/// Reads a string after its `b64'`, and appends its bytes to `out`. Gives its kind, or what is
+/// wrong with it, and how many bytes of `tail` it takes.
 pub fn in_base64(
     alloc: Global,
     tail: &[u8],

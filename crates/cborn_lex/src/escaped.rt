@@ -6,8 +6,8 @@ ghost use Rattle.cborn_lex.specs.declared.classes.Class.TheVariants.{Text, Bytes
 ghost use Rattle.cborn_lex.specs.Tokens.{Front as AnyFront, Bad, marked};
 ghost use Rattle.cborn_lex.specs.Strings.{is_content, is_unclosed, is_low};
 ghost use Rattle.cborn_lex.specs.Forms.{IsQuoted};
-ghost use Rattle.cborn_lex.specs.shared.Letters.{NoText};
-ghost use Rattle.cborn_lex.specs.shared.Scan.{code_at, low_code, unit_from};
+ghost use Rattle.cborn_lex.specs.devices.Letters.{NoText};
+ghost use Rattle.cborn_lex.specs.devices.Scan.{code_at, low_code, unit_from};
 ghost use Rattle.cborn_lex.specs.devices.View.{front_view, FrontStandsFor};
 
 use crate::classes::{Kind, Mark};
@@ -18,7 +18,7 @@ use crate::slices::{mark_at, rest_of};
 use crate::units::{are_hex, hex_code, is_high, is_low};
 use std::alloc::AllocError;
 
-/// The offset of the closing quote, if there is one. The character after a backslash closes
+/// The offset in `tail` of the closing quote, if there is one. A quote after a backslash closes
 /// nothing.
 #[tactic(auto, using(crate::proofs::Contents::Ends::one_more, crate::proofs::Contents::Ends::two_more, crate::proofs::Contents::Ends::ends, crate::proofs::Contents::Ends::ends_escaped))]
 fn content_end(quote: u8, tail: &[u8]) -> Option<usize>
@@ -41,7 +41,7 @@ fn content_end(quote: u8, tail: &[u8]) -> Option<usize>
     None
 }
 
-/// The number of the four hexadecimal digits at the front, if there are four.
+/// The number of the four hexadecimal digits that `x` begins with, if there are four.
 #[tactic(auto, using(crate::proofs::Contents::Letters::no_code))]
 fn code_at(x: &[u8]) -> Option<u32>
     ensures value { result ≡ code_at x.now }
@@ -54,7 +54,7 @@ fn code_at(x: &[u8]) -> Option<u32>
     }
 }
 
-/// The low surrogate of an escape at the front, if there is one.
+/// The low surrogate of the escape that `x` begins with, if there is one.
 #[tactic(auto, using(crate::proofs::Contents::Letters::no_low))]
 fn low_code(x: &[u8]) -> Option<u32>
     ensures value { result ≡ low_code x.now }
@@ -67,8 +67,9 @@ fn low_code(x: &[u8]) -> Option<u32>
     if is_low(n) { Some(n) } else { None }
 }
 
-/// The character of an escape `\uXXXX`, or of a surrogate pair of them, and how many bytes it takes
-/// with its first backslash; `None` if it is no escape. `x` is what follows the first `u`.
+/// The character of an escape `\uXXXX`, or of two for a surrogate pair, and how many bytes the
+/// escape takes from its backslash on. `x` is what follows the first `u`. `None` if that is no
+/// escape.
 fn unit_at(x: &[u8]) -> Option<(char, usize)>
     ensures { result ≡ unit_from (code_at x.now) (drop 4 x.now) }
 {
@@ -83,6 +84,7 @@ fn unit_at(x: &[u8]) -> Option<(char, usize)>
     }
 }
 
+/// Appends the character `c` in UTF-8.
 fn push_char(bytes: &mut Vec<u8>, c: char) -> Result<(), AllocError>
     ensures written { OnOk result (bytes.new.items ≡ bytes.old.items ++ encode_utf8 c) }
     ensures before { take (length bytes.old.items) bytes.new.items ≡ bytes.old.items }
@@ -91,9 +93,9 @@ fn push_char(bytes: &mut Vec<u8>, c: char) -> Result<(), AllocError>
     bytes.extend_from_slice(c.encode_utf8(&mut room).as_bytes())
 }
 
-/// Appends in UTF-8 the character of an escape `\uXXXX`, or of a surrogate pair of them. Gives how
-/// many bytes the escape takes with its first backslash; `None` if it is none. `x` is what follows
-/// the first `u`.
+/// Appends in UTF-8 the character of an escape `\uXXXX`, or of two for a surrogate pair, and gives
+/// how many bytes the escape takes from its backslash on. `x` is what follows the first `u`. `None`
+/// if that is no escape.
 #[inline(never)]
 pub fn push_unit_escape(x: &[u8], out: &mut Vec<u8>) -> Result<Option<usize>, AllocError>
     ensures escape { IfOk result (λ r. MatchOption r (unit_from (code_at x.now) (drop 4 x.now) ≡ None) (λ size. (c : ℕ) × (unit_from (code_at x.now) (drop 4 x.now) ≡ Some (c, size)) × (out.new.items ≡ out.old.items ++ encode_utf8 c))) }
@@ -108,8 +110,8 @@ pub fn push_unit_escape(x: &[u8], out: &mut Vec<u8>) -> Result<Option<usize>, Al
     }
 }
 
-/// Why a string is bad, after its opening quote, and how many bytes of `tail` it takes with its
-/// indicator.
+/// Why a string is bad, and how many bytes of `tail`, which follows its opening quote, it takes
+/// with its indicator.
 #[cold]
 #[inline(never)]
 fn bad_string(quote: u8, tail: &[u8]) -> (LexReason, usize)
@@ -125,7 +127,7 @@ fn bad_string(quote: u8, tail: &[u8]) -> (LexReason, usize)
     (LexReason::BadEscape, i + 1 + m)
 }
 
-/// The token of a string in double quotes, or that its indicator is bad.
+/// The kind of a string in double quotes, or that its indicator is bad.
 #[inline(always)]
 fn text_front(mark: Option<Mark>) -> Front
     ensures { (n : ℕ) (x : List ℕ) → front_view n x result ≡ marked (Text x) mark }
@@ -136,7 +138,7 @@ fn text_front(mark: Option<Mark>) -> Front
     }
 }
 
-/// The token of a byte string, or that its indicator is bad.
+/// The kind of a byte string, or that its indicator is bad.
 #[inline(always)]
 pub fn bytes_front(quoted: bool, mark: Option<Mark>) -> Front
     ensures { (n : ℕ) (x : List ℕ) → front_view n x result ≡ marked (Bytes quoted x) mark }
@@ -147,8 +149,8 @@ pub fn bytes_front(quoted: bool, mark: Option<Mark>) -> Front
     }
 }
 
-/// Reads a string after its opening double quote, and appends its bytes to `out`. Gives how many
-/// bytes of `tail` it takes, too.
+/// Reads a string after its opening double quote, and appends its bytes to `out`. Gives its kind,
+/// or what is wrong with it, and how many bytes of `tail` it takes.
 pub fn double_quoted(tail: &[u8], out: &mut Vec<u8>) -> Result<(Front, usize), AllocError>
     ensures { IfOk result (λ r. (r.1 ≤ length tail.now) × ((a : AnyFront) × IsQuoted 34 Text (take r.1 tail.now) (drop r.1 tail.now) a × ((n : ℕ) → FrontStandsFor r.0 n out.old.items out.new.items a))) }
 {
@@ -160,8 +162,8 @@ pub fn double_quoted(tail: &[u8], out: &mut Vec<u8>) -> Result<(Front, usize), A
     Ok((text_front(mark), i + 1 + m))
 }
 
-/// Reads a string after its opening single quote, and appends its bytes to `out`. Gives how many
-/// bytes of `tail` it takes, too.
+/// Reads a string after its opening single quote, and appends its bytes to `out`. Gives its kind,
+/// or what is wrong with it, and how many bytes of `tail` it takes.
 pub fn single_quoted(tail: &[u8], out: &mut Vec<u8>) -> Result<(Front, usize), AllocError>
     ensures { IfOk result (λ r. (r.1 ≤ length tail.now) × ((a : AnyFront) × IsQuoted 39 (Bytes true) (take r.1 tail.now) (drop r.1 tail.now) a × ((n : ℕ) → FrontStandsFor r.0 n out.old.items out.new.items a))) }
 {

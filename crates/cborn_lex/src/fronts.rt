@@ -1,9 +1,9 @@
 //! What a text begins with. Most functions read `tail`, which follows the first character, and give
-//! how many bytes of `tail` they read.
+//! a front and how many bytes of `tail` it takes.
 
 ghost use Rattle.std.specs.Prelude.{◌≡◌, ℕ, ◌<◌, ◌≤◌, List, [], length, take, drop, slice_index, IfOk, false, ◌⊎◌};
 ghost use Rattle.cborn_lex.specs.declared.classes.Class.TheVariants.{ArrayOpen, MapOpen, EmbedClose};
-ghost use Rattle.cborn_lex.specs.Tokens.{Front as AnyFront, Blank, is_white, mark_of, marked};
+ghost use Rattle.cborn_lex.specs.Tokens.{Front as AnyFront, WhiteSpace, is_white, mark_of, marked};
 ghost use Rattle.cborn_lex.specs.Forms.{start_of, less, greater, hash, paren_front, IsIndicator, Through, Lacks, ReadsFrom, Reads};
 ghost use Rattle.cborn_lex.specs.devices.View.{front_view, FrontStandsFor};
 
@@ -15,29 +15,30 @@ use crate::keywords::word_at;
 use crate::slices::{begins_with, find, front_of, indicator_len, mark_at, rest_of};
 use std::alloc::{AllocError, Global};
 
-/// What the front of a text is.
+/// What a text begins with.
 #[derive(Clone, Copy)]
 pub enum Front {
-    /// A comment.
-    Blank,
+    /// White space: a comment.
+    WhiteSpace,
     /// A token.
     Read(Kind),
-    /// Neither, and why.
+    /// Neither, for this reason.
     Bad(LexReason),
 }
 
-/// Reads a comment up to the character `end`, or up to the end of the text, where it is `unclosed`.
+/// Reads a comment up to the character `end`. If there is none, `unclosed` is what it is up to the
+/// end of the text.
 fn comment(end: u8, tail: &[u8], unclosed: Front) -> (Front, usize)
     ensures within { result.1 ≤ length tail.now }
-    ensures reads { (n : ℕ) → ((body : List ℕ) × Through end body (take result.1 tail.now) × (front_view n [] result.0 ≡ Blank)) ⊎ (Lacks end (take result.1 tail.now) (drop result.1 tail.now) × (front_view n [] result.0 ≡ front_view n [] unclosed)) }
+    ensures reads { (n : ℕ) → ((body : List ℕ) × Through end body (take result.1 tail.now) × (front_view n [] result.0 ≡ WhiteSpace)) ⊎ (Lacks end (take result.1 tail.now) (drop result.1 tail.now) × (front_view n [] result.0 ≡ front_view n [] unclosed)) }
 {
     match find(end, tail) {
-        Some(i) => (Front::Blank, i + 1),
+        Some(i) => (Front::WhiteSpace, i + 1),
         None => (unclosed, tail.len()),
     }
 }
 
-/// `[` and its indicator.
+/// The front of a `[` and its indicator.
 fn array_open(tail: &[u8]) -> (Front, usize)
     ensures within { result.1 ≤ length tail.now }
     ensures run { IsIndicator (take result.1 tail.now) (drop result.1 tail.now) }
@@ -49,7 +50,7 @@ fn array_open(tail: &[u8]) -> (Front, usize)
     }
 }
 
-/// `{` and its indicator.
+/// The front of a `{` and its indicator.
 fn map_open(tail: &[u8]) -> (Front, usize)
     ensures within { result.1 ≤ length tail.now }
     ensures run { IsIndicator (take result.1 tail.now) (drop result.1 tail.now) }
@@ -61,7 +62,7 @@ fn map_open(tail: &[u8]) -> (Front, usize)
     }
 }
 
-/// `>>` and its indicator. `after` follows the second `>`.
+/// The front of a `>>` and its indicator. `after` follows the second `>`.
 fn embed_close(after: &[u8]) -> (Front, usize)
     ensures within { result.1 ≤ length after.now }
     ensures run { IsIndicator (take result.1 after.now) (drop result.1 after.now) }
@@ -73,7 +74,7 @@ fn embed_close(after: &[u8]) -> (Front, usize)
     }
 }
 
-/// A `(` that follows no number and no `simple`.
+/// The front of a `(` that follows neither a number nor `simple`.
 fn paren(tail: &[u8]) -> (Front, usize)
     ensures within { result.1 ≤ length tail.now }
     ensures run { IsIndicator (take result.1 tail.now) (drop result.1 tail.now) }
@@ -83,7 +84,7 @@ fn paren(tail: &[u8]) -> (Front, usize)
     (paren_front(front_of(tail, n)), n)
 }
 
-/// What a `(` with this indicator is.
+/// What a `(` with the indicator `mark` is.
 fn paren_front(mark: &[u8]) -> Front
     ensures { (n : ℕ) → front_view n [] result ≡ paren_front mark.now }
 {
@@ -121,22 +122,22 @@ fn greater(tail: &[u8]) -> (Front, usize)
     }
 }
 
-/// What the first character of `text` begins, which isn't white space. `tail` follows it. A number
-/// goes to `number`, the content of a string to `out`.
+/// What the first character of `text` begins, which isn't white space, and how many bytes that
+/// takes of what follows it. A number is put into `number`, and the content of a string is appended
+/// to `out`.
 #[inline(always)]
 fn front_by_character(
     alloc: Global,
     profile: Profile,
     text: &[u8],
-    tail: &[u8],
     number: &mut u128,
     out: &mut Vec<u8>,
 ) -> Result<(Front, usize), AllocError>
     requires some { 0 < length text.now }
-    requires tail { tail.now ≡ drop 1 text.now }
     requires no_white { is_white (slice_index text.now 0) ≡ false }
-    ensures { IfOk result (λ r. (r.1 ≤ length tail.now) × ((a : AnyFront) × ReadsFrom (start_of (slice_index text.now 0)) profile (slice_index text.now 0) (take r.1 tail.now) (drop r.1 tail.now) a × FrontStandsFor r.0 number.new out.old.items out.new.items a)) }
+    ensures { IfOk result (λ r. (r.1 ≤ length (drop 1 text.now)) × ((a : AnyFront) × ReadsFrom (start_of (slice_index text.now 0)) profile (slice_index text.now 0) (take r.1 (drop 1 text.now)) (drop r.1 (drop 1 text.now)) a × FrontStandsFor r.0 number.new out.old.items out.new.items a)) }
 {
+    let tail = rest_of(text, 1);
     match text[0] {
         b',' => Ok((Front::Read(Kind::Comma), 0)),
         b':' => Ok((Front::Read(Kind::Colon), 0)),
@@ -166,12 +167,12 @@ fn hash(profile: Profile, tail: &[u8]) -> (Front, usize)
 {
     match profile {
         Profile::One => (Front::Bad(LexReason::UnexpectedCharacter), 0),
-        Profile::Two => comment(b'\n', tail, Front::Blank),
+        Profile::Two => comment(b'\n', tail, Front::WhiteSpace),
     }
 }
 
-/// What `text` begins with, which isn't white space, and how many bytes that takes. A number goes
-/// to `number`, the content of a string to `out`.
+/// What `text` begins with, and how many bytes that takes. Its first character isn't white space. A
+/// number is put into `number`, and the content of a string is appended to `out`.
 pub fn first_of(
     alloc: Global,
     profile: Profile,
@@ -183,6 +184,6 @@ pub fn first_of(
     requires no_white { is_white (slice_index text.now 0) ≡ false }
     ensures { IfOk result (λ r. (0 < r.1) × (r.1 ≤ length text.now) × ((a : AnyFront) × Reads profile (take r.1 text.now) (drop r.1 text.now) a × FrontStandsFor r.0 number.new out.old.items out.new.items a)) }
 {
-    let (front, n) = front_by_character(alloc, profile, text, rest_of(text, 1), number, out)?;
+    let (front, n) = front_by_character(alloc, profile, text, number, out)?;
     Ok((front, n + 1))
 }

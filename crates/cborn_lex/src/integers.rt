@@ -15,7 +15,8 @@ use crate::slices::{
     begins_with, begins_with_digit, front_of, has_prefix, is_numeral, mark_at, numeral_len, rest_of,
 };
 
-/// The value of a digit or of a letter as a digit, from 0 to 35; 36 for any other character.
+/// The value of a digit, from 0 to 9, or of a letter as a digit, from 10 to 35. 36 for any other
+/// character.
 pub fn digit_of(c: u8) -> u8
     ensures { result ≡ digit_value c }
 {
@@ -41,7 +42,7 @@ fn are_digits(base: u8, ds: &[u8]) -> bool
     !ds.is_empty() && all_digits(base, ds)
 }
 
-/// The number that digits of the base spell.
+/// The number that digits of the base spell, if it fits 128 bits.
 fn value(base: u8, ds: &[u8]) -> Result<u128, LexReason>
     requires { 1 ≤ base }
     ensures { result ≡ within (number base 0 ds.now) }
@@ -71,21 +72,21 @@ fn with_digit(base: u8, n: u128, digit: u8) -> Option<u128>
 /// Any number below 2^120 has room for one more digit of any base in 128 bits.
 const ROOM_FOR_MORE: u128 = 0x0100_0000_0000_0000_0000_0000_0000_0000;
 
-/// Whether there is a point, or one of the letters `a` and `b`.
+/// Whether `x` has a point, or one of the letters `a` and `b`.
 fn has_point_or(a: u8, b: u8, x: &[u8]) -> bool
     ensures { result ≡ list_any (λ c. (c == 46) || ((c == a) || ((c == b) || false))) x.now }
 {
     x.iter().any(|c| *c == b'.' || *c == a || *c == b)
 }
 
-/// What follows the two characters of a base, as `0x`.
+/// What follows the two characters that name a base, as `0x`.
 fn after_two(x: &[u8]) -> &[u8]
     ensures { result.now ≡ drop 2 x.now }
 {
     if x.len() < 2 { &x[x.len()..] } else { &x[2..] }
 }
 
-/// The integer after the characters of base 8 or 2.
+/// The integer of base 8 or 2 whose digits are `ds`.
 fn based(base: u8, ds: &[u8]) -> Result<u128, LexReason>
     requires { 1 ≤ base }
     ensures { result ≡ (if are_digits base ds.now then within (number base 0 ds.now) else Err LexReason.BadNumber) }
@@ -97,7 +98,7 @@ fn based(base: u8, ds: &[u8]) -> Result<u128, LexReason>
     }
 }
 
-/// The integer that a number's text is, without its minus, or why it is none.
+/// The integer that `body`, the text of a number without its minus, spells, or why it spells none.
 fn integer(negative: bool, body: &[u8]) -> Result<u128, LexReason>
     ensures { result ≡ integer negative body.now }
 {
@@ -129,8 +130,8 @@ fn integer(negative: bool, body: &[u8]) -> Result<u128, LexReason>
     }
 }
 
-/// Reads an integer in any form, after its minus, and how many bytes of `body` it takes. Out of
-/// line, so that the common form stays small.
+/// Reads an integer of any form, after its minus, and gives how many bytes of `body` it takes. Out
+/// of line, so that the code of the most frequent form stays small.
 #[inline(never)]
 fn any_integer(negative: bool, body: &[u8]) -> (Result<u128, LexReason>, usize)
     ensures within { result.1 ≤ length body.now }
@@ -142,8 +143,8 @@ fn any_integer(negative: bool, body: &[u8]) -> (Result<u128, LexReason>, usize)
 }
 
 /// The decimal integer that `tail` begins with, and how many digits it has (RFC 8949 section 8, RFC
-/// 8610 appendix G.5). `None` if `tail` begins with another form of number or with none, or with
-/// more than 19 digits: 19 always fit 64 bits, so that no digit needs a test for overflow.
+/// 8610 appendix G.5). `None` if `tail` begins with a number of another form, with no number, or
+/// with more than 19 digits. As 19 digits always fit 64 bits, no digit needs a test for overflow.
 #[inline(always)]
 pub fn decimal_at(tail: &[u8]) -> Option<(u64, usize)>
     ensures within { IfSome result (λ r. r.1 ≤ length tail.now) }
@@ -183,7 +184,7 @@ fn digit_at(tail: &[u8], at: usize) -> Option<u8>
     }
 }
 
-/// Reads an integer after its minus, and how many bytes of `body` it takes.
+/// Reads an integer after its minus, and gives how many bytes of `body` it takes.
 #[inline(always)]
 fn integer_at(negative: bool, body: &[u8]) -> (Result<u128, LexReason>, usize)
     ensures within { result.1 ≤ length body.now }
@@ -196,8 +197,8 @@ fn integer_at(negative: bool, body: &[u8]) -> (Result<u128, LexReason>, usize)
     }
 }
 
-/// The token of a number, or of the tag that it begins if `tagged`. If there is a token, its number
-/// is put into `number`.
+/// The kind of a number, or, if `tagged`, of the number of a tag; or what is wrong with it. If it
+/// is a token, its number is put into `number`.
 #[inline(always)]
 fn number_front(
     negative: bool,
@@ -227,7 +228,7 @@ fn number_front(
     }
 }
 
-/// Whether a number is that of a tag: no minus precedes it, and a `(` follows.
+/// Whether a number is that of a tag: it has no minus, and a `(` follows.
 #[inline(always)]
 fn is_tag(negative: bool, x: &[u8]) -> bool
     ensures { result ≡ (not negative && begins (λ c. c == 40) x.now) }
@@ -235,7 +236,8 @@ fn is_tag(negative: bool, x: &[u8]) -> bool
     !negative && begins_with(b'(', x)
 }
 
-/// How many bytes a number of `n` bytes takes with its indicator of `m` bytes and the `(` of a tag.
+/// How many bytes a number of `n` bytes takes with its indicator of `m` bytes, and, if `tagged`,
+/// with the `(` of a tag.
 #[inline(always)]
 fn number_len(n: usize, m: usize, tagged: bool) -> usize
     requires { (if tagged then n + m + 1 else n + m) < 2 ^ 64 }
@@ -244,8 +246,8 @@ fn number_len(n: usize, m: usize, tagged: bool) -> usize
     if tagged { n + m + 1 } else { n + m }
 }
 
-/// Reads a number, after its minus if it is `negative`: its token, and how many bytes of `body`
-/// that takes. The number goes to `number`.
+/// Reads a number, after its minus if it is `negative`. Gives its kind, or what is wrong with it,
+/// and how many bytes of `body` it takes. The number is put into `number`.
 pub fn number_at(negative: bool, body: &[u8], number: &mut u128) -> (Front, usize)
     ensures within { result.1 ≤ length body.now }
     ensures reads { ReadsNumber negative [] (take result.1 body.now) (drop result.1 body.now) (front_view number.new [] result.0) }
@@ -258,8 +260,9 @@ pub fn number_at(negative: bool, body: &[u8], number: &mut u128) -> (Front, usiz
     (front, number_len(n, m, tagged))
 }
 
-/// Reads a number without a minus, which begins `text`: its token, and how many bytes of `tail`
-/// that takes, the rest of `text` after the first digit. The number goes to `number`.
+/// Reads the number without a minus that `text` begins with. Gives its kind, or what is wrong with
+/// it, and how many bytes it takes of `tail`, which follows its first digit. The number is put into
+/// `number`.
 #[inline(always)]
 pub fn number_from_digit(text: &[u8], tail: &[u8], number: &mut u128) -> (Front, usize)
     requires some { 0 < length text.now }

@@ -13,7 +13,7 @@ use crate::fronts::Front;
 use crate::slices::{begins_with, front_of, has_prefix, rest_of, word_len};
 use std::alloc::{AllocError, Global};
 
-/// The token of a word that is no prefix and no `simple(`.
+/// The kind of a word that is neither a prefix nor `simple(`, or what is wrong with it.
 fn word_front(w: &[u8]) -> Front
     ensures { (n : ℕ) → front_view n [] result ≡ word_front w.now }
 {
@@ -32,8 +32,8 @@ fn word_front(w: &[u8]) -> Front
     }
 }
 
-/// Reads a string after its prefix `word` and its opening quote: its token, and how many bytes of
-/// `tail` that takes.
+/// Reads a string after its prefix `word` and its opening quote. Gives its kind, or what is wrong
+/// with it, and how many bytes of `tail` it takes.
 fn prefixed(
     alloc: Global,
     word: &[u8],
@@ -51,8 +51,8 @@ fn prefixed(
     }
 }
 
-/// Reads what a word begins: its token, and how many bytes of `after`, which follows the word, that
-/// takes.
+/// Reads what the word `word` begins: a string, or the word alone. Gives its kind, or what is wrong
+/// with it, and how many bytes it takes of `after`, which follows the word.
 fn after_word(
     alloc: Global,
     word: &[u8],
@@ -70,8 +70,8 @@ fn after_word(
     }
 }
 
-/// Reads what the word begins that `text` begins with: its token, and how many bytes of `tail` that
-/// takes, the rest of `text` after the first letter.
+/// Reads the word that `text` begins with, and the string whose prefix it is. Gives its kind, or
+/// what is wrong with it, and how many bytes it takes of `tail`, which follows the first letter.
 pub fn word_at(
     alloc: Global,
     text: &[u8],

@@ -1,11 +1,11 @@
-//! Laws of the tokens of a text: the contract of each function is a theorem.
+//! Laws of the tokens of a text: each function does nothing, and its contract is a theorem.
 
 ghost use Rattle.std.specs.Prelude.{◌≡◌, ◌↔◌, Some, None, ℕ, ◌<◌, List, [], ◌++◌, ◌⊎◌, length, drop};
 ghost use Rattle.hex.specs.Hex.{IsBytes};
 ghost use Rattle.cborn_lex.specs.declared.classes.Class.{Class};
 ghost use Rattle.cborn_lex.specs.declared.classes.Token.{Token};
 ghost use Rattle.cborn_lex.specs.declared.faults.LexFault.{LexFault};
-ghost use Rattle.cborn_lex.specs.Tokens.{Blank, Read, Bad};
+ghost use Rattle.cborn_lex.specs.Tokens.{WhiteSpace, Read, Bad};
 ghost use Rattle.cborn_lex.specs.Forms.{Reads};
 ghost use Rattle.cborn_lex.specs.Good.{Takes, HasTokens, TokensBetween};
 ghost use Rattle.cborn_lex.specs.Bad.{Fails, BeginsNothing, FailsAt, HasNoTokens, HasNoTokenFrom};
@@ -14,7 +14,7 @@ ghost use Rattle.cborn_lex.specs.Lex.{Lex, Stop, SpansRise};
 use crate::classes::Profile;
 use crate::faults::LexReason;
 
-/// A text has one list of tokens or one fault, never both or two.
+/// A text has one list of tokens or one lexical fault. It never has both, and never two of either.
 pub fn one_answer()
     ensures some { (profile : Profile) (text : List ℕ) → IsBytes text → ((ts : List Token) × HasTokens profile text ts) ⊎ ((p : ℕ) × (r : LexReason) × FailsAt profile text p r) }
     ensures not_both { (profile : Profile) (text : List ℕ) (ts : List Token) (p : ℕ) (r : LexReason) → HasTokens profile text ts → FailsAt profile text p r → ⊥ }
@@ -47,16 +47,16 @@ pub fn token_by_token()
     ensures stops { (profile : Profile) (text : List ℕ) (m n : ℕ) (ts : List Token) (e : LexFault) → TokensBetween profile text m n ts → HasNoTokenFrom profile text n e → HasNoTokenFrom profile text m e }
 {}
 
-/// `Reads` and `Takes` agree on white space, comments and tokens; so do the lists of tokens by
-/// them. `Reads` and its lists are a device of the proofs.
+/// `Reads` and `Takes` agree on white space and tokens, and so on the tokens of a text. `Reads` is
+/// a device of the proofs.
 pub fn good_tokens()
-    ensures blank { (profile : Profile) (s z : List ℕ) → Reads profile s z Blank ↔ Takes profile s z None }
+    ensures white_space { (profile : Profile) (s z : List ℕ) → Reads profile s z WhiteSpace ↔ Takes profile s z None }
     ensures token { (profile : Profile) (s z : List ℕ) (k : Class) → Reads profile s z (Read k) ↔ Takes profile s z (Some k) }
     ensures texts { (profile : Profile) (text : List ℕ) (tokens : List Token) → Lex profile text tokens ↔ HasTokens profile text tokens }
 {}
 
-/// `Reads` finds a token bad exactly where `Fails` does, and for the same reason. The stops by
-/// `Reads` are a device of the proofs.
+/// `Reads` and `Fails` agree on lexical faults and their reasons. `Reads` is a device of the
+/// proofs.
 pub fn bad_tokens()
     ensures front { (profile : Profile) (s z : List ℕ) (r : LexReason) → Reads profile s z (Bad r) → Fails profile (s ++ z) r }
     ensures back { (profile : Profile) (y : List ℕ) (r : LexReason) → Fails profile y r → (s : List ℕ) × (z : List ℕ) × (y ≡ s ++ z) × Reads profile s z (Bad r) }

@@ -1,22 +1,22 @@
-//! The letters between the quotes of a string (RFC 8259 section 7), by their bytes in UTF-8.
+//! The letters between the quotes of a string (RFC 8259 section 7). A letter is one byte of UTF-8.
 //!
-//! A *plain* letter means itself; sixteen are looked at together. The others are the closing quote,
-//! escapes, and control characters, which no string may have.
+//! A *plain* letter stands for itself. The others are the closing quote, a backslash, which begins
+//! an escape, and control characters, which no string may have.
 
 ghost use Rattle.std.specs.Prelude.{◌≡◌, ◌≤◌, ◌<◌, ◌+◌, ◌++◌, ℕ, List, true, length, take, drop, map, slice_index, IfOk, OnOk, MatchOption, None, Some, false, encode_utf8, ◌⊎◌};
 ghost use Rattle.std.specs.List.{list_all};
 ghost use Rattle.std.specs.Simd.Lanes.{mask_l};
 ghost use Rattle.cborn_lex.specs.Strings.{is_escape, escape_code};
-ghost use Rattle.cborn_lex.specs.shared.Scan.{escape_of};
-ghost use Rattle.cborn_lex.specs.shared.Letters.{is_plain, is_special, LettersSoFar, LettersTaken, NoText};
+ghost use Rattle.cborn_lex.specs.devices.Scan.{escape_of};
+ghost use Rattle.cborn_lex.specs.devices.Letters.{is_plain, is_special, LettersSoFar, LettersTaken, NoText};
 
 use crate::escaped::push_unit_escape;
 use crate::slices::rest_of;
 use std::alloc::AllocError;
 use std::simd::prelude::*;
 
-/// How many bytes of plain letters `tail` begins with: all but control characters, backslashes and
-/// the closing quote, which is `quote` (RFC 8259 section 7).
+/// How many plain letters `tail` begins with: bytes that are no control characters, no backslashes
+/// and not the closing quote `quote` (RFC 8259 section 7).
 #[inline(always)]
 pub fn plain_run(quote: u8, tail: &[u8]) -> usize
     ensures within { result ≤ length tail.now }
@@ -34,7 +34,7 @@ pub fn plain_run(quote: u8, tail: &[u8]) -> usize
     plain_rest(quote, tail, at)
 }
 
-/// How many bytes of plain letters `tail` begins with; the first `from` are known to be plain.
+/// How many plain letters `tail` begins with. The first `from` are known to be plain.
 #[inline(never)]
 fn plain_rest(quote: u8, tail: &[u8], from: usize) -> usize
     requires within { from ≤ length tail.now }
@@ -50,7 +50,7 @@ fn plain_rest(quote: u8, tail: &[u8], from: usize) -> usize
     at
 }
 
-/// Whether the letter `c` is plain: no control character, no backslash and no closing quote.
+/// Whether the letter `c` is plain: no control character, no backslash and not the closing quote.
 #[inline(always)]
 fn is_plain(quote: u8, c: u8) -> bool
     ensures { result ≡ is_plain quote c }
@@ -74,7 +74,8 @@ fn run_of_block(quote: u8, tail: &[u8], at: usize) -> usize
     }
 }
 
-/// A bit for each of sixteen letters, the lowest for the first: set if it isn't plain.
+/// A bit for each of sixteen letters, the lowest for the first. It is set if the letter isn't
+/// plain.
 #[inline(always)]
 fn special_letters(quote: u8, letters: u8x16) -> u64
     ensures { result ≡ mask_l (map (is_special quote) letters) }
@@ -85,13 +86,13 @@ fn special_letters(quote: u8, letters: u8x16) -> u64
     (quotes | backslashes | controls).to_bitmask()
 }
 
-/// Appends the bytes that the letters of a string mean, from the offset `from` of `tail` up to the
-/// closing quote, and gives the offset of that quote (RFC 8259 section 7). `None` if no quote
-/// closes the string, or if a letter before it is a control character or begins no escape. What
-/// `out` had stays in any case; after `None` or an error a part of the bytes may follow it.
+/// Appends the bytes that the letters of a string stand for, from the offset `from` of `tail` up to
+/// the closing quote, and gives the offset of that quote in `tail` (RFC 8259 section 7). `None` if
+/// no quote closes the string, or if there is a control character or a backslash that begins no
+/// escape. What `out` had always stays. After `None` or an error a part of the bytes may follow it.
 ///
 /// # Errors
-/// `AllocError` if memory is refused.
+/// `AllocError` if memory was refused.
 #[inline(always)]
 pub fn push_letters(
     quote: u8,
@@ -126,7 +127,7 @@ pub fn push_letters(
     Ok(None)
 }
 
-/// Appends the plain letters from the offset `at` on, and gives their number of bytes.
+/// Appends the plain letters from the offset `at` of `tail` on, and gives how many they are.
 #[inline(always)]
 fn push_run(quote: u8, tail: &[u8], at: usize, out: &mut Vec<u8>) -> Result<usize, AllocError>
     requires { at ≤ length tail.now }
@@ -147,8 +148,8 @@ fn push_run(quote: u8, tail: &[u8], at: usize, out: &mut Vec<u8>) -> Result<usiz
     push_long_run(quote, &tail[at..], out)
 }
 
-/// Appends the first `n` of sixteen letters. Copying all sixteen and cutting the rest is quicker
-/// than copying `n`, since the compiler knows the length of the copy.
+/// Appends the first `n` of sixteen letters. It copies all sixteen and cuts off the rest. That is
+/// quicker than to copy `n`, since the compiler knows the length of the copy.
 #[inline(always)]
 fn push_block(tail: &[u8], n: usize, out: &mut Vec<u8>) -> Result<(), AllocError>
     requires few { n ≤ 16 }
@@ -162,8 +163,8 @@ fn push_block(tail: &[u8], n: usize, out: &mut Vec<u8>) -> Result<(), AllocError
     Ok(())
 }
 
-/// Appends the plain letters that `tail` begins with, and gives their number of bytes. They are
-/// counted first, so that an empty buffer takes as much memory as they need, and no more.
+/// Appends the plain letters that `tail` begins with, and gives how many they are. It counts them
+/// first, so that an empty buffer takes only the memory that they need.
 #[inline(never)]
 fn push_long_run(quote: u8, tail: &[u8], out: &mut Vec<u8>) -> Result<usize, AllocError>
     ensures within { IfOk result (λ n. n ≤ length tail.now) }
@@ -177,8 +178,8 @@ fn push_long_run(quote: u8, tail: &[u8], out: &mut Vec<u8>) -> Result<usize, All
     Ok(n)
 }
 
-/// Appends in UTF-8 the character of the escape whose backslash is at the offset `at`, and gives
-/// the offset after the escape. `None` if the backslash begins no escape.
+/// Appends in UTF-8 the character of the escape whose backslash is at the offset `at` of `tail`,
+/// and gives the offset after the escape. `None` if the backslash begins no escape.
 #[inline(always)]
 fn push_escape(
     quote: u8,
@@ -209,8 +210,8 @@ fn push_escape(
     Ok(Some(at + 2))
 }
 
-/// The character of an escape of two characters, by the second one; `None` if there is no such
-/// escape. `\'` is one in single quotes alone.
+/// The character of an escape of two characters, whose second is `second`. `None` if there is no
+/// such escape. `\'` is an escape only in single quotes.
 #[inline(always)]
 fn escape_code(quote: u8, second: u8) -> Option<u8>
     requires double_or_single { (quote ≡ 34) ⊎ (quote ≡ 39) }
@@ -229,7 +230,7 @@ fn escape_code(quote: u8, second: u8) -> Option<u8>
     Some(c)
 }
 
-/// The character of each escape of two characters, by the second one; 0 if there is no such escape.
+/// The character of each escape of two characters, by the second one. 0 if there is no such escape.
 const ESCAPED: [u8; 128] = [
     0, 0, 0, 0, 0, 0, 0, 0, 0, 0, 0, 0, 0, 0, 0, 0, 0, 0, 0, 0, 0, 0, 0, 0, 0, 0, 0, 0, 0, 0, 0, 0,
     0, 0, b'"', 0, 0, 0, 0, b'\'', 0, 0, 0, 0, 0, 0, 0, b'/', 0, 0, 0, 0, 0, 0, 0, 0, 0, 0, 0, 0,

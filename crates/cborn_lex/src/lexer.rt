@@ -11,12 +11,12 @@ use crate::fronts::{Front, first_of};
 use crate::slices::{is_white, rest_of};
 use std::alloc::Global;
 
-/// The tokens of `text` in this profile, in their order, with nothing but white space and comments
-/// between them (RFC 8949 section 8, RFC 8610 appendix G).
+/// The tokens of `text` in this profile, in their order (RFC 8949 section 8, RFC 8610 appendix G).
+/// Nothing else is in the text but white space and comments.
 ///
 /// # Errors
-/// `Refused` if the text isn't made of tokens, with the offset and the reason of the first that is
-/// bad. `OutOfMemory` if memory is refused.
+/// `Refused` if the text has a lexical fault, with its offset, in bytes from the start of the text,
+/// and the reason. `OutOfMemory` if memory was refused.
 pub fn tokens(alloc: Global, profile: Profile, text: &str) -> Result<Vec<Token>, LexFault>
     ensures ok { IfOk result (λ v. HasTokens profile text.now v.items) }
     ensures refused { IfErr result (λ e. HasNoTokens profile text.now e) }
@@ -30,13 +30,13 @@ pub fn tokens(alloc: Global, profile: Profile, text: &str) -> Result<Vec<Token>,
     Ok(found)
 }
 
-/// The first token of `text` from the offset `at` on, in bytes; `None` if only white space and
-/// comments are left. From 0 on, and then from each token's `stop`, it gives the tokens of
-/// [`tokens`] one by one, without keeping a list.
+/// The first token of `text` from the offset `at` on, in bytes (RFC 8949 section 8, RFC 8610
+/// appendix G). `None` if only white space and comments are left. From 0 on, and then from the
+/// `stop` of each token, it gives one by one what [`tokens`] gives in a list.
 ///
 /// # Errors
-/// `Refused` if the text from `at` on begins with no token, with the reason, and the offset from
-/// the start of the text. `OutOfMemory` if memory is refused.
+/// `Refused` if a lexical fault is next from `at` on, with its offset, in bytes from the start of
+/// the text, and the reason. `OutOfMemory` if memory was refused.
 pub fn token_from(
     alloc: Global,
     profile: Profile,
@@ -59,15 +59,15 @@ pub fn token_from(
     }
 }
 
-/// The first token of `text` from the offset `at` on, in bytes; `None` if only white space and
-/// comments are left (RFC 8949 section 8, RFC 8610 appendix G). The bytes of a string are appended
-/// to `out`, and the number of an integer or a tag is put into `number`: so nothing is copied
-/// twice, and a token is small. Any other token leaves `out` unchanged.
+/// The first token of `text` from the offset `at` on, in bytes (RFC 8949 section 8, RFC 8610
+/// appendix G). `None` if only white space and comments are left. The number of an integer or a tag
+/// is put into `number`, and the bytes of a string are appended to `out`: so a token is small, and
+/// nothing is copied twice. Any other token leaves `out` unchanged.
 ///
 /// # Errors
-/// `Refused` if the text from `at` on begins with no token, with the reason, and the offset from
-/// the start of the text. `OutOfMemory` if memory is refused. After an error `out` may have a part
-/// of a string after what it had.
+/// `Refused` if a lexical fault is next from `at` on, with its offset, in bytes from the start of
+/// the text, and the reason. `OutOfMemory` if memory was refused. After an error a part of a string
+/// may follow what `out` had.
 #[inline(always)]
 pub fn next_token(
     alloc: Global,
@@ -89,7 +89,7 @@ pub fn next_token(
         } else {
             let (front, n) = first_of(alloc, profile, rest_of(bytes, place), number, out)?;
             match front {
-                Front::Blank => {}
+                Front::WhiteSpace => {}
                 Front::Read(kind) => return Ok(Some(BareToken {
                     start: place,
                     stop: place + n,

@@ -33,7 +33,7 @@ pub fn is_numeral(c: u8) -> bool
     c.is_ascii_alphanumeric() || c == b'.'
 }
 
-/// What follows the first `n` bytes.
+/// What follows the first `n` bytes of `x`.
 #[inline(always)]
 pub fn rest_of(x: &[u8], n: usize) -> &[u8]
     requires { n ≤ length x.now }
@@ -42,7 +42,7 @@ pub fn rest_of(x: &[u8], n: usize) -> &[u8]
     &x[n..]
 }
 
-/// The first `n` bytes.
+/// The first `n` bytes of `x`.
 #[inline(always)]
 pub fn front_of(x: &[u8], n: usize) -> &[u8]
     requires { n ≤ length x.now }
@@ -77,7 +77,7 @@ pub fn has_prefix(p: &[u8], x: &[u8]) -> bool
     }
 }
 
-/// The offset of the first byte that is `wanted`; `None` if there is none.
+/// The offset in `tail` of the first byte that is `wanted`, if there is one.
 pub fn find(wanted: u8, tail: &[u8]) -> Option<usize>
     ensures { MatchOption result (list_all (is_not wanted) tail.now ≡ true) (λ i. (i < length tail.now) × (list_all (is_not wanted) (take i tail.now) ≡ true) × (slice_index tail.now i ≡ wanted)) }
 {
@@ -115,7 +115,8 @@ pub fn numeral_len(tail: &[u8]) -> usize
     tail.len()
 }
 
-/// How long the indicator is that `tail` begins with, good or bad.
+/// The length in bytes of the indicator that `tail` begins with, good or bad: of an underscore and
+/// all word characters after it. 0 if there is no underscore.
 pub fn indicator_len(tail: &[u8]) -> usize
     ensures within { result ≤ length tail.now }
     ensures run { IsIndicator (take result tail.now) (drop result tail.now) }
@@ -126,8 +127,9 @@ pub fn indicator_len(tail: &[u8]) -> usize
     word_len(&tail[1..]) + 1
 }
 
-/// The encoding indicator that `x` begins with (RFC 8949 section 8.1), and its length in bytes:
-/// `Mark::Absent` without an underscore, `None` if what begins with one is no indicator.
+/// The encoding indicator that `x` begins with (RFC 8949 section 8.1), and its length in bytes. It
+/// is `Mark::Absent` if `x` begins with no underscore, and `None` if the underscore begins no
+/// indicator.
 #[inline(always)]
 pub fn mark_at(x: &[u8]) -> (Option<Mark>, usize)
     ensures within { result.1 ≤ length x.now }
@@ -140,8 +142,9 @@ pub fn mark_at(x: &[u8]) -> (Option<Mark>, usize)
     underscored_mark(x)
 }
 
-/// The encoding indicator that `x` begins with, from its underscore on, and its length in bytes;
-/// `None` if it is no indicator.
+/// The encoding indicator that `x` begins with, whose first byte is an underscore, and its length
+/// in bytes. `None` if the underscore begins no indicator. Out of line, since few tokens have an
+/// indicator.
 #[inline(never)]
 fn underscored_mark(x: &[u8]) -> (Option<Mark>, usize)
     requires some { 0 < length x.now }
@@ -159,7 +162,7 @@ fn underscored_mark(x: &[u8]) -> (Option<Mark>, usize)
     (None, indicator_len(x))
 }
 
-/// The indicator of an underscore and this character; `None` if there is no such indicator.
+/// The indicator of an underscore and the character `c`. `None` if there is no such indicator.
 #[inline(always)]
 fn width_of(c: u8) -> Option<Mark>
     requires word { is_word c ≡ true }

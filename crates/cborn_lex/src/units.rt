@@ -1,4 +1,4 @@
-//! Units of UTF-16, as escapes `\uXXXX` write them (RFC 8259 section 7).
+//! The units of UTF-16 that escapes `\uXXXX` write (RFC 8259 section 7).
 
 ghost use Rattle.std.specs.Prelude.{◌≡◌, ◌<◌, true};
 ghost use Rattle.cborn_lex.specs.Strings.{are_hex, code, is_high, is_low};

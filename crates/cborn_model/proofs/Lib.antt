@@ -3,3 +3,6 @@ pub mod Numbers
 pub mod SameItems
 pub mod Listed
 pub mod Firsts
+pub mod Found
+pub mod Reasons
+pub mod Lengths

@@ -90,16 +90,16 @@ is_simple_value n = nat_lt n 24 || (nat_le 32 n && nat_lt n 256)
 -- what a head says besides its major type: an argument, or that the length is indefinite
 pub data Argument : Type 0 where
   Given : Width → ℕ → Argument
-  Unbounded : Argument
+  EndlessArgument : Argument
 
 abbrev pub head : Major → Argument → List ℕ
 head m (Given w n) = head_bytes (code m) w n
-head m Unbounded = (32 * code m + 31) ∷ []
+head m EndlessArgument = (32 * code m + 31) ∷ []
 
 -- the argument of an array or a map of n entries
 abbrev pub argument : Size → ℕ → Argument
 argument (Fixed w) n = Given w n
-argument Endless n = Unbounded
+argument Endless n = EndlessArgument
 
 -- n entries fit the head
 abbrev pub SizeFits : Size → ℕ → Type 0

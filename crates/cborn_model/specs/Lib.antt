@@ -12,5 +12,7 @@ pub mod Valid
 pub mod Meaning
 pub mod Orders
 pub mod First
+pub mod Earliest
+pub mod Reasons
 pub mod shared
 pub mod devices

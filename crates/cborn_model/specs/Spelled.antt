@@ -8,13 +8,13 @@ use Rattle.cborn_model.specs.declared.nodes.Chunk.{Chunk}
 use Rattle.cborn_model.specs.Bytes.{AreBytes}
 use Rattle.cborn_model.specs.declared.heads.Major.{Major}
 use Rattle.cborn_model.specs.declared.heads.Major.TheVariants.{Unsigned, Negative, ByteString, TextString, Array, Map, Tag, Other}
-use Rattle.cborn_model.specs.Heads.{WidthFits, least, is_simple_value, Given, Unbounded, head, argument, SizeFits}
+use Rattle.cborn_model.specs.Heads.{WidthFits, least, is_simple_value, Given, EndlessArgument, head, argument, SizeFits}
 use Rattle.cborn_model.specs.Tree.{Tree, Uint, Nint, Bytes, Text, ByteChunks, TextChunks, Items, Pairs, Tagged, Simple, Trees, no_item, more, Entries, no_entry, entry, count, count_entries, depth, depth_all}
 
 -- what follows the contents of an array or a map: the break, if its length is indefinite
 abbrev pub ending : Size → List ℕ
 ending (Fixed w) = []
-ending Endless = head Other Unbounded
+ending Endless = head Other EndlessArgument
 
 abbrev pub string : Major → Width → List ℕ → List ℕ
 string m w b = head m (Given w (length b)) ++ b
@@ -24,7 +24,7 @@ chunk_bytes m c = string m c.width c.bytes
 
 -- an indefinite string, up to its break
 abbrev pub chunks : Major → List Chunk → List ℕ
-chunks m cs = head m Unbounded ++ flat_map (chunk_bytes m) cs
+chunks m cs = head m EndlessArgument ++ flat_map (chunk_bytes m) cs
 
 abbrev mutual
   pub spelled : Tree → List ℕ

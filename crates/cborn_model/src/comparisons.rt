@@ -123,8 +123,8 @@ fn value_from<'a>(pairs: &'a [(Item, Item)], start: usize, key: &Item) -> Option
     requires pairs { HasProperPairs (pairs_of (map pair_value pairs.now)) }
     ensures { MatchOption result (IsNew (item_value key.now) (pairs_of (map pair_value pairs.now))) (λ v. Gives (item_value key.now) (item_value v.now) (map pair_value pairs.now) × IsProper (item_value v.now)) }
 {
-    let (before, behind) = pairs.split_at(start);
-    match value_of(behind, key) {
+    let (before, after) = pairs.split_at(start);
+    match value_of(after, key) {
         Some(found) => Some(found),
         None => value_of(before, key),
     }

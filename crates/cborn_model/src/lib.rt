@@ -12,26 +12,31 @@
 //! - A *head* is an initial byte, with the major type in its high three bits, and the bytes that
 //!   follow it. Its *argument* is a number: an integer, a length, a count or a tag.
 //! - The [`Width`] of a head is the number of bytes that its argument takes after the initial
-//!   byte. Most numbers can be written in several widths; [`shortest`] tells the narrowest.
+//!   byte. Most numbers can be written in several widths; [`shortest`] gives the narrowest.
 //! - A [`Chunk`] is a definite string inside an indefinite one.
 //! - A [`Node`] is a data item as it is spelled: its place, which is the offset of its head in
 //!   bytes, and its [`Form`]. Nothing is lost: a node spells one list of bytes.
 //! - An [`Item`] is what a node means. Widths, chunks and places are gone, and a bignum is the
-//!   integer that it stands for.
+//!   integer that it encodes.
 //!
-//! The crate has two halves. *Spelled*: [`fits`] tells whether a node spells any bytes, and a
-//! [`Spelled`] is one that does, at most 1,024 deep. *Meant*: [`is_valid`] tells whether an item is
-//! valid, a [`Valid`] is one that is, and [`same`] tells whether two of these are the same.
-//! [`Limit`] is the nesting depth that a caller allows, and [`KeyOrder`] an order of map keys.
+//! The crate has two halves. *Spelled*: [`fits`] says whether a node spells any bytes, and a
+//! [`Spelled`] is one that does, at most 1,024 deep. *Meant*: [`is_valid`] says whether an item is
+//! valid, a [`Valid`] is one that is, and [`same`] says whether two of these are the same.
+//! [`Limit`] is the nesting depth that a caller allows, and [`KeyOrder`] an order of map keys. A node
+//! may have a flaw, so that it means nothing ([`InvalidReason`]), or a [`Defect`], so that it doesn't
+//! spell the deterministic encoding of what it means; [`earlier`] says which comes first.
 //!
 //! The definitions are in `specs/`, apart from the code: `Bytes` and `Heads`; `Tree` (the pure
-//! node), `Spelled` (its bytes, and when it fits) and `Placed`; `Value` (the pure item, and `Same`),
-//! `Valid` and `Meaning` (which item a node means); `Orders`; `First` (the first of several faults).
+//! node), `Spelled` (its bytes, and when it fits) and `Placed`; `Value` (the pure item, and
+//! `Same`), `Valid` and `Meaning` (which item a node means); `Orders`; `Reasons` (the numbers of
+//! the reasons of flaws and defects), and `First` and `Earliest` (the first of several faults).
 //! Devices of the proofs are in `specs/devices/`. [`laws`] has what is proved of the definitions
 //! alone.
 #![tactic(auto)]
 
 mod comparisons;
+mod defects;
+mod faults;
 mod growth;
 mod heads;
 mod items;
@@ -40,11 +45,14 @@ mod limits;
 mod magnitudes;
 mod nodes;
 mod orders;
+mod precedence;
 mod spellings;
 mod strings;
 mod validity;
 
 pub use comparisons::same;
+pub use defects::{Defect, DefectReason};
+pub use faults::{Invalid, InvalidReason};
 pub use growth::push_doubling;
 pub use heads::{BREAK, Major, Size, Width, is_simple_value, shortest};
 pub use items::{Item, ItemBox, ItemList, PairList};
@@ -52,6 +60,7 @@ pub use limits::Limit;
 pub use magnitudes::{Magnitude, Number, without_zeros};
 pub use nodes::{Chunk, Form, Node};
 pub use orders::{Bytewise, KeyOrder, LengthFirst};
+pub use precedence::{Fault, earlier, earliest};
 pub use spellings::{Spelled, depth, fits};
 pub use strings::ByteString;
 pub use validity::{Valid, is_valid};

@@ -45,12 +45,12 @@ fn explained(alloc: Global, words: &[&str], why: Error) -> Error {
         return why;
     }
     match advice_on(words) {
-        Some(advice) => told_of(alloc, advice),
+        Some(advice) => reported_of(alloc, advice),
         None => why,
     }
 }
 
-fn told_of(alloc: Global, advice: &Advice) -> Error {
+fn reported_of(alloc: Global, advice: &Advice) -> Error {
     match advised(alloc, advice) {
         Ok(error) => error,
         Err(refused) => Error::from(refused),

@@ -59,7 +59,7 @@ impl Sink for Skipping {
 
     fn chunk(
         &mut self,
-        _begun: &mut (),
+        _started: &mut (),
         _text: bool,
         _index: u64,
         _width: Width,
@@ -69,7 +69,7 @@ impl Sink for Skipping {
         Some(())
     }
 
-    fn close_chunks(&mut self, _begun: (), _text: bool, _count: u64) -> Option<()> {
+    fn close_chunks(&mut self, _started: (), _text: bool, _count: u64) -> Option<()> {
         Some(())
     }
 
@@ -83,7 +83,7 @@ impl Sink for Skipping {
 
     fn integers(
         &mut self,
-        _begun: &mut (),
+        _started: &mut (),
         _index: u64,
         _most: u64,
         _bytes: &[u8],
@@ -93,7 +93,7 @@ impl Sink for Skipping {
 
     fn before_item(
         &mut self,
-        _begun: &mut (),
+        _started: &mut (),
         _index: u64,
         _may_end: bool,
         _bytes: &[u8],
@@ -101,11 +101,11 @@ impl Sink for Skipping {
         Some(())
     }
 
-    fn after_item(&mut self, _begun: &mut ()) -> Option<()> {
+    fn after_item(&mut self, _started: &mut ()) -> Option<()> {
         Some(())
     }
 
-    fn close_array(&mut self, _begun: (), _endless: bool, _count: u64) -> Option<()> {
+    fn close_array(&mut self, _started: (), _endless: bool, _count: u64) -> Option<()> {
         Some(())
     }
 
@@ -119,7 +119,7 @@ impl Sink for Skipping {
 
     fn before_key(
         &mut self,
-        _begun: &mut (),
+        _started: &mut (),
         _index: u64,
         _may_end: bool,
         _bytes: &[u8],
@@ -127,15 +127,15 @@ impl Sink for Skipping {
         Some(())
     }
 
-    fn before_value(&mut self, _begun: &mut (), _bytes: &[u8], _left: usize) -> Option<()> {
+    fn before_value(&mut self, _started: &mut (), _bytes: &[u8], _left: usize) -> Option<()> {
         Some(())
     }
 
-    fn after_value(&mut self, _begun: &mut ()) -> Option<()> {
+    fn after_value(&mut self, _started: &mut ()) -> Option<()> {
         Some(())
     }
 
-    fn close_map(&mut self, _begun: (), _endless: bool, _count: u64) -> Option<()> {
+    fn close_map(&mut self, _started: (), _endless: bool, _count: u64) -> Option<()> {
         Some(())
     }
 

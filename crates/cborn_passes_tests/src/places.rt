@@ -3,7 +3,7 @@
 //! tried, and a place where nothing begins.
 
 use cborn_lex::Profile;
-use cborn_places::place_in_text;
+use cborn_text_places::place_in_text;
 use std::test::Fail;
 
 /// Texts, the bytes that they spell, an offset in these bytes, and the offset in the text. The bytes

@@ -11,15 +11,15 @@ use std::alloc::{AllocError, Global};
 /// Where two sequences of items first differ.
 #[derive(Drop)]
 pub struct Difference {
-    /// An offset in bytes, the same in both inputs: that of the head that differs. Where the
-    /// difference lies in a key of a map, it is the offset of the key.
+    /// The offset in bytes of the head that differs, the same in both inputs. Where the difference
+    /// is in a key of a map, it is the offset of the key.
     pub place: u64,
     /// The path to that offset, the same in both inputs.
     pub path: Path,
 }
 
-/// The offset and the path at which two sequences of items first differ. A difference within a key
-/// is reported at the outermost key around it. `None`: the bytes are equal.
+/// The offset and the path at which two sequences of items first differ. For a difference within a
+/// key they are those of the outermost key around it. `None`: the bytes are equal.
 ///
 /// # Errors
 /// `AllocError` where memory for the path is refused.
@@ -38,8 +38,8 @@ pub fn find_difference(
     Ok(Some(Difference { place, path }))
 }
 
-/// A walk over `first` that ends where the two first differ, or at the outermost key around that.
-/// `None`: the bytes are equal.
+/// A walk over `first` to where the two first differ, or to the outermost key around that. `None`:
+/// the bytes are equal.
 ///
 /// # Errors
 /// `AllocError` where memory for the open levels is refused.

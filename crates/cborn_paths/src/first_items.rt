@@ -9,13 +9,13 @@ ghost use Rattle.cborn_paths.specs.declared.paths.Step.TheVariants.{Item};
 ghost use Rattle.cborn_paths.specs.devices.FirstItem.{IsBefore, IsUpTo, IsAfter};
 ghost use Rattle.cborn_paths.specs.devices.Walks.{IsWalked};
 
-use crate::nestings::Nesting;
+use crate::level_kinds::LevelKind;
 use crate::walks::Walk;
 use std::alloc::{AllocError, Global};
 
-/// Where the first item of some bytes ends: an offset in bytes from their start (RFC 8949 section 3,
-/// RFC 8742). What follows the item isn't read. `None`: the bytes don't begin with a whole item that
-/// is no deeper than the highest nesting limit.
+/// Where the first item of some bytes ends: an offset in bytes from their start (RFC 8949 section
+/// 3, RFC 8742). What follows the item isn't read. `None`: the bytes don't begin with a whole item
+/// that is no deeper than the highest nesting limit.
 ///
 /// # Errors
 /// `AllocError` where memory for the open levels is refused.
@@ -31,9 +31,9 @@ pub fn first_end(alloc: Global, bytes: &[u8]) -> Result<Option<usize>, AllocErro
     }
 }
 
-/// Where the item ends that begins at `at`: an offset in bytes from the start of `bytes`. Where no
-/// whole item begins there, the answer is the offset of the first head that isn't whole or may not
-/// stand where it does. Where `at` lies beyond the end, the answer is the length.
+/// Where the item at `at` ends: an offset in bytes from the start of `bytes`. Where no whole item
+/// begins there, it is the offset of the first head that isn't whole or isn't allowed. Where `at`
+/// is beyond the end, it is the length.
 ///
 /// # Errors
 /// `AllocError` where memory for the open levels is refused.
@@ -44,7 +44,7 @@ pub fn end_of_item(alloc: Global, bytes: &[u8], at: usize) -> Result<usize, Allo
     end_within(alloc, bytes, at)
 }
 
-/// What [`end_of_item`] answers of an offset within the bytes.
+/// What [`end_of_item`] gives for an offset within the bytes.
 fn end_within(alloc: Global, bytes: &[u8], at: usize) -> Result<usize, AllocError>
     requires { at ≤ length bytes.now }
     ensures { IfOk result (λ end. end ≤ length bytes.now) }
@@ -56,8 +56,8 @@ fn end_within(alloc: Global, bytes: &[u8], at: usize) -> Result<usize, AllocErro
 }
 
 impl Walk {
-    /// Walks over the first item, and answers whether the item is whole. If it isn't, the walk
-    /// stops at the first head that isn't whole or may not stand where it does.
+    /// Walks over the first item, and gives whether the item is whole. If it isn't, the walk stops
+    /// at the first head that isn't whole or isn't allowed.
     fn take_item(&mut self, bytes: &[u8]) -> Result<bool, AllocError>
         requires walked { IsWalked bytes.now self.old }
         requires before { IsBefore (levels self.old) }
@@ -73,11 +73,11 @@ impl Walk {
         Ok(true)
     }
 
-    /// Whether the first item is whole. A walk that begins before it ends then, so nothing is open.
+    /// Whether the first item is whole. The walk ends with it, so nothing is open then.
     fn has_item(&self) -> bool
         ensures item { result ≡ true → IsUpTo (levels self.now) → IsAfter (levels self.now) }
         ensures none { result ≡ false → IsUpTo (levels self.now) → IsBefore (levels self.now) }
     {
-        self.outer.len() == 0 && matches!(self.top.level.nesting, Nesting::Sequence(1..))
+        self.outer.len() == 0 && matches!(self.top.level.kind, LevelKind::Sequence(1..))
     }
 }

@@ -1,4 +1,4 @@
-//! The path to a place in an input.
+//! Paths, and their steps.
 
 /// A step of a path: from an item to one of its parts. Parts are counted from 0.
 #[derive(Clone, Copy, PartialEq, Eq, Debug)]

@@ -8,10 +8,10 @@ use crate::paths::Path;
 use crate::walks::Walk;
 use std::alloc::{AllocError, Global};
 
-/// The path to `place`, an offset in bytes from the start of `bytes` (RFC 8949 section 3). It leads to
-/// the head that begins there, or that holds the place together with the bytes of its string. Where
-/// the bytes before the place aren't well-formed, it leads to the first head that isn't whole, may not
-/// stand where it does, or is deeper than the highest nesting limit.
+/// The path to `place`, an offset in bytes from the start of `bytes` (RFC 8949 section 3). It leads
+/// to the head that begins there, or to the one whose argument or string the place is in. Where the
+/// bytes before the place aren't well-formed, it leads to the first head that isn't whole, isn't
+/// allowed, or is deeper than the highest nesting limit.
 ///
 /// # Errors
 /// `AllocError` where memory for the path is refused.
@@ -22,7 +22,7 @@ pub fn path_to(alloc: Global, bytes: &[u8], place: u64) -> Result<Path, AllocErr
     walk.path(alloc)
 }
 
-/// A walk that ends where the path of [`path_to`] leads.
+/// A walk to where the path of [`path_to`] leads.
 ///
 /// # Errors
 /// `AllocError` where memory for the open levels is refused.

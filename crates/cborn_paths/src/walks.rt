@@ -1,53 +1,55 @@
-//! A walk over bytes from head to head. It keeps the levels that are open.
+//! A walk over bytes from head to head. It keeps what is open.
 
 ghost use Rattle.std.specs.Prelude.{◌≡◌, ◌≤◌, ◌<◌, ℕ, List, true, false, length, IfOk, OnOk};
 ghost use Rattle.cborn_wire.specs.HeadReading.{major_at, seen_argument};
 ghost use Rattle.cborn_paths.specs.Paths.{LeadsTo, up_to_key};
 ghost use Rattle.cborn_paths.specs.Levels.{levels, path_of};
-ghost use Rattle.cborn_paths.specs.devices.Walks.{finish, leave, begun, size_of, take_head, around, has_key, IsWalked, IsOpened, AreCounted};
+ghost use Rattle.cborn_paths.specs.devices.Walks.{finish, leave, with_level, size_of, take_head, around, has_key, IsWalked, IsOpened, AreCounted};
 ghost use Rattle.cborn_paths.specs.devices.FirstItem.{IsBefore, IsUpTo};
 
-use crate::heads::{may_stand, whole_head};
-use crate::nestings::Nesting;
+use crate::heads::{is_allowed, whole_head};
+use crate::level_kinds::LevelKind;
 use crate::paths::{Path, Step};
 use cborn_model::Major;
 use cborn_wire::{Argument, Head};
 use std::alloc::{AllocError, Global};
 
-/// An open level, and the offset in bytes of its head.
+/// The input, or an open container in it.
 #[derive(Clone, Copy)]
 pub struct Level {
-    pub nesting: Nesting,
-    pub place: usize,
+    pub kind: LevelKind,
+    /// The offset in bytes of its head; 0 for the input.
+    pub start: usize,
 }
 
-/// An open level, and the offsets in bytes at which the last key of its map begins and ends. Where
-/// there is no key, both are the offset of its head.
+/// A level, and where the last key of its map is.
 #[derive(Clone, Copy)]
-pub struct Open {
+pub struct OpenLevel {
     pub level: Level,
+    /// The offsets in bytes at which that key begins and ends. Without a key, both are the level's
+    /// start.
     pub key: (usize, usize),
 }
 
-impl Open {
-    /// A level whose head is at `place`, without a key.
-    fn new(nesting: Nesting, place: usize) -> Open
-        ensures { result.level ≡ record { nesting = nesting; place = place } }
+impl OpenLevel {
+    /// A level whose head is at `start`, without a key.
+    fn new(kind: LevelKind, start: usize) -> OpenLevel
+        ensures { result.level ≡ record { kind = kind; start = start } }
     {
-        Open {
-            level: Level { nesting, place },
-            key: (place, place),
+        OpenLevel {
+            level: Level { kind, start },
+            key: (start, start),
         }
     }
 }
 
-/// A walk that has come between two heads.
+/// A walk from head to head, between two of them.
 #[derive(Drop)]
 pub struct Walk {
-    /// The innermost open level, or the input itself.
-    pub top: Open,
-    /// The levels around it, the innermost last. The first is the input itself.
-    pub outer: Vec<Open>,
+    /// The innermost level: an open container, or else the input.
+    pub top: OpenLevel,
+    /// The levels around it, the innermost last. The first is the input.
+    pub outer: Vec<OpenLevel>,
     /// The offset in bytes of the next head.
     pub at: usize,
 }
@@ -60,14 +62,14 @@ impl Walk {
         ensures at { result.at ≡ 0 }
     {
         Walk {
-            top: Open::new(Nesting::Sequence(0), 0),
+            top: OpenLevel::new(LevelKind::Sequence(0), 0),
             outer: Vec::new(alloc),
             at: 0,
         }
     }
 
-    /// Goes on from head to head. It stops before the head at `place`, or that holds it together with
-    /// its string, and before a head that isn't whole or may not stand where it does.
+    /// Goes on from head to head, and stops before the head at `place`; before the head whose
+    /// argument or string the place is in; or before a head that isn't whole or isn't allowed.
     pub(crate) fn walk_to(&mut self, bytes: &[u8], place: usize) -> Result<(), AllocError>
         requires within { place ≤ length bytes.now }
         requires before { self.old.at ≤ place }
@@ -80,8 +82,8 @@ impl Walk {
         Ok(())
     }
 
-    /// Goes on past the next head and the bytes of its string, and answers whether it did. It doesn't
-    /// where these end beyond `place`, or the head isn't whole or may not stand there.
+    /// Goes on past the next head and the bytes of its string, and gives `true`. `false`: they end
+    /// after `place`, or the head isn't whole or isn't allowed there, and the walk stays.
     pub(crate) fn step(&mut self, bytes: &[u8], place: usize) -> Result<bool, AllocError>
         requires within { place ≤ length bytes.now }
         requires before { self.old.at ≤ place }
@@ -96,39 +98,39 @@ impl Walk {
         let Some((head, len)) = whole_head(&bytes[self.at..place]) else {
             return Ok(false);
         };
-        if !may_stand(self.top.level.nesting, self.outer.len(), head) {
+        if !is_allowed(self.top.level.kind, self.outer.len(), head) {
             return Ok(false);
         }
         let start = self.at;
         self.at += len;
-        self.take(head, start)?;
+        self.take_head(head, start)?;
         Ok(true)
     }
 
-    /// Adds a head to the open levels. It begins at `start`, and ends with its string where the walk
-    /// is.
-    fn take(&mut self, head: Head, start: usize) -> Result<(), AllocError>
+    /// Counts or opens what this head begins. The head is at `start`, and the walk is after it and
+    /// its string.
+    fn take_head(&mut self, head: Head, start: usize) -> Result<(), AllocError>
         requires counted { AreCounted (levels self.old) }
         ensures open { OnOk result (levels self.new ≡ take_head (levels self.old) start (major_at head.major) (seen_argument head.argument)) }
         ensures at { self.new.at ≡ self.old.at }
     {
         match (head.major_type(), head.argument) {
-            (Major::ByteString, Argument::Endless) => self.begin(Nesting::ByteChunks(0), start),
-            (Major::TextString, Argument::Endless) => self.begin(Nesting::TextChunks(0), start),
+            (Major::ByteString, Argument::Endless) => self.begin(LevelKind::ByteChunks(0), start),
+            (Major::TextString, Argument::Endless) => self.begin(LevelKind::TextChunks(0), start),
             (Major::Array, Argument::Given(_, 0)) | (Major::Map, Argument::Given(_, 0)) => {
-                self.put(start);
+                self.count_item(start);
                 Ok(())
             }
-            (Major::Array, argument) => self.begin(Nesting::Array(size_of(argument), 0), start),
-            (Major::Map, argument) => self.begin(Nesting::Map(size_of(argument), 0), start),
-            (Major::Tag, Argument::Given(_, number)) => self.begin(Nesting::Tag(number), start),
+            (Major::Array, argument) => self.begin(LevelKind::Array(size_of(argument), 0), start),
+            (Major::Map, argument) => self.begin(LevelKind::Map(size_of(argument), 0), start),
+            (Major::Tag, Argument::Given(_, number)) => self.begin(LevelKind::Tag(number), start),
             (Major::Other, Argument::Endless) => {
                 self.leave();
                 self.finish();
                 Ok(())
             }
             _ => {
-                self.put(start);
+                self.count_item(start);
                 Ok(())
             }
         }
@@ -137,18 +139,18 @@ impl Walk {
 
 impl Walk {
     /// Opens a level whose head is at `start`.
-    fn begin(&mut self, nesting: Nesting, start: usize) -> Result<(), AllocError>
-        ensures open { OnOk result (levels self.new ≡ begun (levels self.old) start nesting) }
+    fn begin(&mut self, kind: LevelKind, start: usize) -> Result<(), AllocError>
+        ensures open { OnOk result (levels self.new ≡ with_level (levels self.old) start kind) }
         ensures at { self.new.at ≡ self.old.at }
     {
         self.begin_part(start);
         self.outer.push(self.top)?;
-        self.top = Open::new(nesting, start);
+        self.top = OpenLevel::new(kind, start);
         Ok(())
     }
 
-    /// Counts a whole item, which begins at `start` and ends where the walk is.
-    fn put(&mut self, start: usize)
+    /// Counts a complete item, which begins at `start` and ends where the walk is.
+    fn count_item(&mut self, start: usize)
         requires counted { AreCounted (levels self.old) }
         ensures open { levels self.new ≡ finish (levels self.old) }
         ensures at { self.new.at ≡ self.old.at }
@@ -157,27 +159,27 @@ impl Walk {
         self.finish();
     }
 
-    /// Notes that a part begins at `start`, if it is a key of a map.
+    /// Keeps where a part begins, if it is a key of a map.
     fn begin_part(&mut self, start: usize)
         ensures open { levels self.new ≡ levels self.old }
         ensures at { self.new.at ≡ self.old.at }
     {
-        if self.top.level.nesting.is_at_key() {
+        if self.top.level.kind.is_at_key() {
             self.top.key = (start, start);
         }
     }
 
-    /// Notes that a part ends where the walk is, if it is a key of a map.
+    /// Keeps where a part ends, if it is a key of a map: where the walk is.
     fn end_part(&mut self)
         ensures open { levels self.new ≡ levels self.old }
         ensures at { self.new.at ≡ self.old.at }
     {
-        if self.top.level.nesting.is_at_key() {
+        if self.top.level.kind.is_at_key() {
             self.top.key.1 = self.at;
         }
     }
 
-    /// Leaves the innermost open level, if there is one.
+    /// Removes the innermost open container, if there is one.
     fn leave(&mut self)
         ensures open { levels self.new ≡ leave (levels self.old) }
         ensures at { self.new.at ≡ self.old.at }
@@ -187,7 +189,8 @@ impl Walk {
         }
     }
 
-    /// Counts a whole item, and each level that ends with it.
+    /// Counts a complete item in the innermost level. If that completes the level, it is counted in
+    /// the next one, and so on.
     fn finish(&mut self)
         requires counted { AreCounted (levels self.old) }
         ensures open { levels self.new ≡ finish (levels self.old) }
@@ -196,8 +199,8 @@ impl Walk {
         'levels: while self.finish_innermost() {}
     }
 
-    /// Counts a whole part of the innermost level. Where that was its last part, leaves the level and
-    /// answers `true`: the level is then a whole part of the one around it.
+    /// Counts a complete part of the innermost level. If that was its last part, removes the level
+    /// and gives `true`: the level is then a complete part of the one around it.
     fn finish_innermost(&mut self) -> bool
         requires counted { AreCounted (levels self.old) }
         ensures left { result ≡ true → (finish (levels self.new) ≡ finish (levels self.old)) × (length (levels self.new) < length (levels self.old)) × AreCounted (levels self.new) }
@@ -205,9 +208,9 @@ impl Walk {
         ensures at { self.new.at ≡ self.old.at }
     {
         self.end_part();
-        match self.top.level.nesting.with_part() {
-            Some(nesting) => {
-                self.top.level.nesting = nesting;
+        match self.top.level.kind.with_part() {
+            Some(kind) => {
+                self.top.level.kind = kind;
                 false
             }
             None => match self.outer.pop() {
@@ -229,14 +232,14 @@ impl Walk {
     {
         let mut steps: Vec<Step> = Vec::new(alloc);
         'steps: for around in self.outer.iter() {
-            steps.push(around.level.nesting.step())?;
+            steps.push(around.level.kind.step())?;
         }
-        steps.push(self.top.level.nesting.step())?;
+        steps.push(self.top.level.kind.step())?;
         Ok(Path { steps })
     }
 
-    /// The offsets in bytes at which the last key begins and ends in the open level with this index,
-    /// as [`Walk::path`] has its steps.
+    /// The offsets in bytes at which the last key begins and ends in the level with this index,
+    /// which is that of the level's step in [`Walk::path`].
     pub fn key_at(&self, step: usize) -> (usize, usize) {
         match self.outer.get(step) {
             Some(open) => open.key,
@@ -254,25 +257,25 @@ impl Walk {
         }
     }
 
-    /// Whether an open level lies in a key.
+    /// Whether an open container is in a key.
     fn is_in_key(&self) -> bool
         ensures { result ≡ has_key (path_of (around (levels self.now))) }
     {
         'levels: for outer in self.outer.iter() {
-            if outer.level.nesting.is_at_key() {
+            if outer.level.kind.is_at_key() {
                 return true;
             }
         }
         false
     }
 
-    /// Goes back to the start of the innermost open level, if there is one.
+    /// Goes back to the start of the innermost open container, if there is one.
     fn back_out(&mut self)
         requires { 0 < length (around (levels self.old)) }
         ensures levels { levels self.new ≡ around (levels self.old) }
         ensures back { (x : List ℕ) → IsOpened x self.old.at (levels self.old) → (self.new.at ≤ self.old.at) × IsOpened x self.new.at (levels self.new) }
     {
-        let start = self.top.level.place;
+        let start = self.top.level.start;
         if let Some(outer) = self.outer.pop() {
             self.top = outer;
             self.at = start;
@@ -280,7 +283,7 @@ impl Walk {
     }
 }
 
-/// How many parts a head announces. `None`: the length is indefinite.
+/// How many parts an array or a map with this argument has. `None`: the length is indefinite.
 fn size_of(argument: Argument) -> Option<u64>
     ensures { result ≡ size_of (seen_argument argument) }
 {

@@ -9,11 +9,11 @@ use Rattle.std.proofs.lemmas.Fmt.{length-decimal-le}
 use Rattle.cborn_edn.specs.shared.Between.{between}
 use Rattle.cborn_show.specs.Passed.{signed}
 
-pub block_cut : (start end : ℕ) (old text z behind block ext new : List ℕ) → start + length text ≡ 32 → behind ≡ text ++ z → block ≡ take 32 behind → ext ≡ old ++ block → end ≡ length old + (32 - start) → new ≡ take end ext → new ≡ old ++ text
-block_cut start end old text z behind block ext new s b t e f n =
+pub block_cut : (start end : ℕ) (old text z after block ext new : List ℕ) → start + length text ≡ 32 → after ≡ text ++ z → block ≡ take 32 after → ext ≡ old ++ block → end ≡ length old + (32 - start) → new ≡ take end ext → new ≡ old ++ text
+block_cut start end old text z after block ext new s b t e f n =
     let len : 32 - start ≡ length text = omega (arith, s) in
     let front : take (32 - start) block ≡ text =
-    ap (take (32 - start)) t ∙ take-take (32 - start) 32 behind (omega arith) ∙ ap (take (32 - start)) b ∙ take_at text z (32 - start) (sym len) in
+    ap (take (32 - start)) t ∙ take-take (32 - start) 32 after (omega arith) ∙ ap (take (32 - start)) b ∙ take_at text z (32 - start) (sym len) in
     n ∙ (λ i. take (f i) (e i)) ∙ take-append-add old block (32 - start) ∙ ap (λ l. old ++ l) front
 
 pub on : {A E : Type 0} {P Q : Type 0} (r : Result A E) → (P → Q) → OnOk r P → OnOk r Q
@@ -40,14 +40,14 @@ comma_before : (index : ℕ) → maybe (nat_lt 0 index) 44 ++ maybe (nat_lt 0 in
 comma_before index = both (nat_lt 0 index) index refl
 
 module _ (index n shown : ℕ) (below : Bool) (e : shown ≡ (if below then suc n else n)) where
-  pub next_written : (behind b3 b2 b1 b0 : List ℕ) → b0 ≡ decimal shown ++ behind → b1 ≡ maybe below 45 ++ b0 → b2 ≡ maybe (nat_lt 0 index) 32 ++ b1 → b3 ≡ maybe (nat_lt 0 index) 44 ++ b2
-      → b3 ≡ (between (codes ", ") index ++ signed below n) ++ behind
-  next_written behind b3 b2 b1 b0 d s w c =
+  pub next_written : (after b3 b2 b1 b0 : List ℕ) → b0 ≡ decimal shown ++ after → b1 ≡ maybe below 45 ++ b0 → b2 ≡ maybe (nat_lt 0 index) 32 ++ b1 → b3 ≡ maybe (nat_lt 0 index) 44 ++ b2
+      → b3 ≡ (between (codes ", ") index ++ signed below n) ++ after
+  next_written after b3 b2 b1 b0 d s w c =
       let x = maybe (nat_lt 0 index) 44 in
       let y = maybe (nat_lt 0 index) 32 in
       let z = maybe below 45 in
-      c ∙ ap (λ l. x ++ l) (w ∙ ap (λ l. y ++ l) (s ∙ ap (λ l. z ++ l) d ∙ sym (append_assoc z (decimal shown) behind) ∙ ap (λ l. l ++ behind) (sign_before below n shown e)))
-      ∙ sym (append_assoc x y (signed below n ++ behind)) ∙ ap (λ l. l ++ (signed below n ++ behind)) (comma_before index) ∙ sym (append_assoc (between (codes ", ") index) (signed below n) behind)
+      c ∙ ap (λ l. x ++ l) (w ∙ ap (λ l. y ++ l) (s ∙ ap (λ l. z ++ l) d ∙ sym (append_assoc z (decimal shown) after) ∙ ap (λ l. l ++ after) (sign_before below n shown e)))
+      ∙ sym (append_assoc x y (signed below n ++ after)) ∙ ap (λ l. l ++ (signed below n ++ after)) (comma_before index) ∙ sym (append_assoc (between (codes ", ") index) (signed below n) after)
 
   pub next_long : (p3 p2 p1 p0 : ℕ) → p0 + length (decimal shown) ≡ 32 → p1 + length (maybe below 45) ≡ p0 → p2 + length (maybe (nat_lt 0 index) 32) ≡ p1 → p3 + length (maybe (nat_lt 0 index) 44) ≡ p2
       → p3 + length (between (codes ", ") index ++ signed below n) ≡ 32
@@ -71,9 +71,9 @@ shown_short true n shown l e = length-decimal-le 20 shown (omega arith) (omega a
 shown_short false n shown l e = length-decimal-le 20 shown (omega arith) (omega arith) (omega (arith, l, e))
 
 -- the block, after the texts before it
-pub behind_texts : (start end k : ℕ) (texts block part text z : List ℕ) → length texts ≡ 256 → end + 32 ≤ 256 → length block ≡ 64 → part ≡ take 32 (drop start block) → drop start block ≡ text ++ z → start + length text ≡ 32
+pub after_texts : (start end k : ℕ) (texts block part text z : List ℕ) → length texts ≡ 256 → end + 32 ≤ 256 → length block ≡ 64 → part ≡ take 32 (drop start block) → drop start block ≡ text ++ z → start + length text ≡ 32
     → take (end + (32 - start)) (put_mid end k texts part) ≡ take end texts ++ text
-behind_texts start end k texts block part text z len room whole p b s =
+after_texts start end k texts block part text z len room whole p b s =
     let long : length part ≡ 32 = ap length p ∙ length-take-le 32 (drop start block) (omega (arith, whole, length-drop start block, s)) in
     let all : take (end + 32) (put_mid end k texts part) ≡ take end texts ++ part = take-put_mid end k texts part (end + 32) (omega (arith, long)) (omega (arith, len)) in
     let front : take (32 - start) part ≡ text =

@@ -145,6 +145,6 @@ pub more_eight : (n : ℕ) → 100000000 ≤ n → n < 2 ^ 64 → length (decima
 more_eight n least fits = ap length (decimal_eight n least fits) ∙ length-append (decimal (n / 100000000)) (eight (n % 100000000))
 
 -- digits of the front before the last eight
-pub behind_front : (n : ℕ) (x y rest : List ℕ) → 100000000 ≤ n → n < 2 ^ 64 → x ≡ decimal (n / 100000000) ++ y → y ≡ eight (n % 100000000) ++ rest → x ≡ decimal n ++ rest
-behind_front n x y rest least fits a b =
+pub after_front : (n : ℕ) (x y rest : List ℕ) → 100000000 ≤ n → n < 2 ^ 64 → x ≡ decimal (n / 100000000) ++ y → y ≡ eight (n % 100000000) ++ rest → x ≡ decimal n ++ rest
+after_front n x y rest least fits a b =
     a ∙ ap (λ l. decimal (n / 100000000) ++ l) b ∙ sym (append_assoc (decimal (n / 100000000)) (eight (n % 100000000)) rest) ∙ ap (λ l. l ++ rest) (sym (decimal_eight n least fits))

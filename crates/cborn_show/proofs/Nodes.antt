@@ -16,7 +16,7 @@ use Rattle.cborn_wire.specs.HeadReading.{major_at, IsHeadOf}
 use Rattle.cborn_wire.specs.Parts.{Pair, NodesRead}
 use Rattle.cborn_wire.proofs.Parts.Heads.{read_from}
 use Rattle.cborn_wire.proofs.Parts.Nodes.{uint_read, nint_read, no_node, node_more, nodes_as}
-use Rattle.cborn_show.specs.Passed.{NodeWritten, NodeShown, NextShown, NodesShown, RunShown, ItemsOpen, ItemNext, PairsOpen, KeyNext, ValueNext, TagOpen, behind_bracket, signed, integer_major}
+use Rattle.cborn_show.specs.Passed.{NodeWritten, NodeShown, NextShown, NodesShown, RunShown, ItemsOpen, ItemNext, PairsOpen, KeyNext, ValueNext, TagOpen, after_bracket, signed, integer_major}
 
 -- an integer with the shortest head, after what is before it
 pub next_shown : (x tail : List ℕ) (h : Head) (len index n room : ℕ) (w : Width) (below : Bool) (old : List ℕ) → tail ≡ drop len x → IsHeadOf x h len → major_at h.major ≡ integer_major below → h.argument ≡ arguments.Given w n → w ≡ least n
@@ -77,7 +77,7 @@ run_more index k input mid rest out x y s n t e = node_more n t (showable_more n
         ∙ ap (λ (ts : List Tree). start ++ joined_by (codes ", ") (map shown ts)) (append_assoc front n.nodes (t.node ∷ []))
 
 pub run_whole : (g : Argument) (ts : List Tree) (index n : ℕ) (input rest old half new : List ℕ) → length ts ≡ index → ItemsOpen g old half ts → RunShown index n input rest half new → NodesRead (λ us. ItemsOpen g old new (ts ++ us)) 0 n input rest
-run_whole g ts index n input rest old half new l h s = nodes_as s (all_showable ts s.nodes h.0 s.holds.0, s.holds.1 ts ((old ++ codes "[") ++ behind_bracket g) l h.1)
+run_whole g ts index n input rest old half new l h s = nodes_as s (all_showable ts s.nodes h.0 s.holds.0, s.holds.1 ts ((old ++ codes "[") ++ after_bracket g) l h.1)
 
 -- ---- what is open
 
@@ -85,14 +85,14 @@ pub item_next : (g : Argument) (ts : List Tree) (index : ℕ) (old half new : Li
 item_next g ts index old half new l h d = (half, h, d ∙ ap (λ k. half ++ between (codes ", ") k) (sym l))
 
 pub item_after : (g : Argument) (ts : List Tree) (t : Tree) (old mid new : List ℕ) → ItemNext g old mid ts → NodeWritten mid new t → ItemsOpen g old new (ts ++ t ∷ [])
-item_after g ts t old mid new h w = (showable_more ts t h.1.0 w.0, written_more (codes ", ") shown ts t (length ts) ((old ++ codes "[") ++ behind_bracket g) h.0 mid new refl h.1.1 h.2 w.1)
+item_after g ts t old mid new h w = (showable_more ts t h.1.0 w.0, written_more (codes ", ") shown ts t (length ts) ((old ++ codes "[") ++ after_bracket g) h.0 mid new refl h.1.1 h.2 w.1)
 
 pub items_closed : (s : Size) (ts : List Tree) (n : ℕ) (old half new : List ℕ) → length ts ≡ n → ItemsOpen (argument s n) old half ts → new ≡ half ++ codes "]" → NodeWritten old new (Items 0 s (trees ts))
 items_closed (Fixed w) ts n old half new l h d = (h.0, shown_items 0 (Fixed w) n ts old (old ++ codes "[") ((old ++ codes "[") ++ opened (mark_for w n)) half new (sym l) refl refl h.1 d)
 items_closed Endless ts n old half new l h d = (h.0, shown_items 0 Endless n ts old (old ++ codes "[") ((old ++ codes "[") ++ codes "_ ") half new (sym l) refl refl h.1 d)
 
-pub items_begun : (g : Argument) (old new : List ℕ) → new ≡ (old ++ codes "[") ++ behind_bracket g → ItemsOpen g old new []
-items_begun g old new d = (tt, d ∙ sym (append-nil ((old ++ codes "[") ++ behind_bracket g)))
+pub items_started : (g : Argument) (old new : List ℕ) → new ≡ (old ++ codes "[") ++ after_bracket g → ItemsOpen g old new []
+items_started g old new d = (tt, d ∙ sym (append-nil ((old ++ codes "[") ++ after_bracket g)))
 
 pub key_next : (g : Argument) (ps : List Pair) (index : ℕ) (old half new : List ℕ) → length ps ≡ index → PairsOpen g old half ps → new ≡ half ++ between (codes ", ") index → KeyNext g old new ps
 key_next g ps index old half new l h d = (half, h, d ∙ ap (λ k. half ++ between (codes ", ") k) (sym l))
@@ -101,15 +101,15 @@ pub pair_after : (g : Argument) (ps : List Pair) (k v : Tree) (old mid new : Lis
 pair_after g ps k v old mid new h w =
     let n : KeyNext g old h.0 ps = h.2 in (
       pairs_showable ps (k, v) n.1.0 (h.3.0, w.0),
-      written_more (codes ", ") shown_pair ps (k, v) (length ps) ((old ++ codes "{") ++ behind_bracket g) n.0 h.0 new refl n.1.1 n.2 (after_three (shown k) (codes ": ") (shown v) h.0 h.1 mid new h.3.1 h.4 w.1),
+      written_more (codes ", ") shown_pair ps (k, v) (length ps) ((old ++ codes "{") ++ after_bracket g) n.0 h.0 new refl n.1.1 n.2 (after_three (shown k) (codes ": ") (shown v) h.0 h.1 mid new h.3.1 h.4 w.1),
     )
 
 pub pairs_closed : (s : Size) (ps : List Pair) (n : ℕ) (old half new : List ℕ) → length ps ≡ n → PairsOpen (argument s n) old half ps → new ≡ half ++ codes "}" → NodeWritten old new (Pairs 0 s (entries ps))
 pairs_closed (Fixed w) ps n old half new l h d = (h.0, shown_pairs 0 (Fixed w) n ps old (old ++ codes "{") ((old ++ codes "{") ++ opened (mark_for w n)) half new (sym l) refl refl h.1 d)
 pairs_closed Endless ps n old half new l h d = (h.0, shown_pairs 0 Endless n ps old (old ++ codes "{") ((old ++ codes "{") ++ codes "_ ") half new (sym l) refl refl h.1 d)
 
-pub pairs_begun : (g : Argument) (old new : List ℕ) → new ≡ (old ++ codes "{") ++ behind_bracket g → PairsOpen g old new []
-pairs_begun g old new d = (tt, d ∙ sym (append-nil ((old ++ codes "{") ++ behind_bracket g)))
+pub pairs_started : (g : Argument) (old new : List ℕ) → new ≡ (old ++ codes "{") ++ after_bracket g → PairsOpen g old new []
+pairs_started g old new d = (tt, d ∙ sym (append-nil ((old ++ codes "{") ++ after_bracket g)))
 
 pub tag_closed : (w : Width) (n : ℕ) (t : Tree) (old mid half new : List ℕ) → TagOpen w n old mid → NodeWritten mid half t → new ≡ half ++ codes ")" → NodeWritten old new (Tagged 0 w n t)
 tag_closed w n t old mid half new h s d = (s.0, parts (decimal n) (indicator (mark_for w n)) (codes "(") (shown t) (codes ")") h s.1 d)

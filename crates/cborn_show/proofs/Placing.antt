@@ -1,7 +1,6 @@
 -- Whole texts, and nodes at their places.
-use Rattle.std.specs.Prelude.{Bool, Result, Ok, Err, IfOk, ◌<◌}
-use Rattle.std.proofs.Common.{length-append, ◌≡◌, ◌≤◌, ℕ, suc, ◌+◌, List, [], ◌∷◌, ◌++◌, map, length, codes, refl, sym, ap, append-nil, ◌∙◌, subst, arith, true, false, ◌==◌}
-use Rattle.std.proofs.lemmas.Bool.{eqb-true}
+use Rattle.std.specs.Prelude.{Bool, Result, Ok, Err, IfOk}
+use Rattle.std.proofs.Common.{◌≡◌, ◌≤◌, ℕ, suc, ◌+◌, List, [], ◌∷◌, ◌++◌, map, length, codes, refl, sym, ap, append-nil, ◌∙◌, subst, arith, true, false}
 use Rattle.std.proofs.lemmas.Str.{IsUtf8-nil}
 use Rattle.std.specs.Str.{IsUtf8}
 use Rattle.cborn_model.specs.declared.nodes.Chunk.{Chunk}
@@ -16,7 +15,7 @@ use Rattle.cborn_edn.specs.ReadingBack.{unplaced_chunks, unplaced, unplaced_all,
 use Rattle.cborn_edn.proofs.Shown.Separated.{lines_joined}
 use Rattle.cborn_edn.proofs.Shown.Characters.{lines_text}
 use Rattle.cborn_edn.proofs.Shown.SameText.{same_notation}
-use Rattle.cborn_wire.specs.Parts.{NodeRead, NodesRead}
+use Rattle.cborn_wire.specs.Parts.{NodesRead}
 use Rattle.cborn_wire.specs.Places.{chunks_from, placed_from, all_from, entries_from}
 use Rattle.cborn_wire.proofs.Parts.Nodes.{wellformed}
 use Rattle.cborn_wire.proofs.Spelled.AsPlaced.{spelled_all-from, depth_all-from, fits_all-from, placed_all-from}
@@ -24,12 +23,12 @@ use Rattle.cborn_wire.proofs.Spelled.TreeLists.{tree_list, trees-tree_list}
 use Rattle.cborn_edn.specs.shared.Texts.{IsShowable, EachShowable}
 use Rattle.cborn_edn.proofs.Shown.Lowests.{each_showable}
 use Rattle.cborn_descent.specs.Descending.{Only}
-use Rattle.cborn_descent.proofs.Inside.{Next, listed, next_at_end, some_byte}
+use Rattle.cborn_descent.proofs.Inside.{Next, listed, next_at_end}
 use Rattle.cborn_show.specs.Rising.{inner_item}
 use Rattle.cborn_show.specs.declared.notations.Halt.{Halt}
-use Rattle.cborn_show.specs.declared.notations.Halt.TheVariants.{Refused, BadText, Doubtful}
+use Rattle.cborn_show.specs.declared.notations.Halt.TheVariants.{BadText, Doubtful}
 use Rattle.cborn_show.specs.declared.passes.Pass.{Pass}
-use Rattle.cborn_show.specs.declared.passes.Pass.TheVariants.{Shown as PassShows, Unshown, Doubtful as InDoubt}
+use Rattle.cborn_show.specs.declared.passes.Pass.TheVariants.{Unshown, Doubtful as InDoubt}
 use Rattle.cborn_show.specs.Passed.{NodesShown, PassShown, IsShownText, HasNoNotation, Blamed, Passes, Answers}
 
 chunks-aside : (m : Major) (cs : List Chunk) (p : ℕ) → unplaced_chunks (chunks_from m p cs) ≡ unplaced_chunks cs

@@ -6,7 +6,7 @@ use Rattle.cborn_model.specs.declared.heads.Width.{Width}
 use Rattle.cborn_model.specs.declared.nodes.Chunk.{Chunk}
 use Rattle.cborn_model.specs.declared.heads.Major.{Major}
 use Rattle.cborn_model.specs.declared.heads.Major.TheVariants.{Unsigned, Negative}
-use Rattle.cborn_model.specs.Heads.{Argument as HeadArgument, Given, Unbounded}
+use Rattle.cborn_model.specs.Heads.{Argument as HeadArgument, Given, EndlessArgument}
 use Rattle.cborn_model.specs.Placed.{PlacedAll}
 use Rattle.cborn_model.specs.Spelled.{Wellformed}
 use Rattle.cborn_model.specs.Tree.{Tree, Trees, trees, entries}
@@ -58,32 +58,32 @@ before_chunk zero = codes "(_ "
 before_chunk (suc i) = codes ", "
 
 -- what follows this many chunks; without any, it is the whole string
-abbrev pub behind_chunks : StringKind → ℕ → List ℕ
-behind_chunks k zero = shown_chunks k []
-behind_chunks k (suc i) = codes ")"
+abbrev pub after_chunks : StringKind → ℕ → List ℕ
+after_chunks k zero = shown_chunks k []
+after_chunks k (suc i) = codes ")"
 
 -- the chunks so far, each after what precedes it
-abbrev pub begun_chunks : StringKind → List Chunk → List ℕ
-begun_chunks k [] = []
-begun_chunks k cs = codes "(_ " ++ joined_by (codes ", ") (map (shown_chunk k) cs)
+abbrev pub started_chunks : StringKind → List Chunk → List ℕ
+started_chunks k [] = []
+started_chunks k cs = codes "(_ " ++ joined_by (codes ", ") (map (shown_chunk k) cs)
 
 abbrev pub ChunksOpen : (text : Bool) (old new : List ℕ) → List Chunk → Type 0
-ChunksOpen text old new cs = (text ≡ true → AreTexts cs) × (new ≡ old ++ begun_chunks (kind_of text) cs)
+ChunksOpen text old new cs = (text ≡ true → AreTexts cs) × (new ≡ old ++ started_chunks (kind_of text) cs)
 
 -- what follows an opening bracket
-abbrev pub behind_bracket : HeadArgument → List ℕ
-behind_bracket (Given w n) = opened (mark_for w n)
-behind_bracket Unbounded = codes "_ "
+abbrev pub after_bracket : HeadArgument → List ℕ
+after_bracket (Given w n) = opened (mark_for w n)
+after_bracket EndlessArgument = codes "_ "
 
 -- the bracket of an array, and its indicator
 abbrev pub ItemsOpen : HeadArgument → (old new : List ℕ) → List Tree → Type 0
-ItemsOpen g old new ts = NodesWritten (codes ", ") ((old ++ codes "[") ++ behind_bracket g) new ts
+ItemsOpen g old new ts = NodesWritten (codes ", ") ((old ++ codes "[") ++ after_bracket g) new ts
 
 abbrev pub ItemNext : HeadArgument → (old new : List ℕ) → List Tree → Type 0
 ItemNext g old new ts = (half : List ℕ) × ItemsOpen g old half ts × (new ≡ half ++ between (codes ", ") (length ts))
 
 abbrev pub PairsOpen : HeadArgument → (old new : List ℕ) → List Pair → Type 0
-PairsOpen g old new ps = PairsWritten ((old ++ codes "{") ++ behind_bracket g) new ps
+PairsOpen g old new ps = PairsWritten ((old ++ codes "{") ++ after_bracket g) new ps
 
 abbrev pub KeyNext : HeadArgument → (old new : List ℕ) → List Pair → Type 0
 KeyNext g old new ps = (half : List ℕ) × PairsOpen g old half ps × (new ≡ half ++ between (codes ", ") (length ps))

@@ -121,7 +121,7 @@ impl Sink for Checking {
     #[inline(always)]
     fn chunk(
         &mut self,
-        _begun: &mut (),
+        _started: &mut (),
         text: bool,
         _index: u64,
         _width: Width,
@@ -135,7 +135,7 @@ impl Sink for Checking {
     }
 
     #[inline(always)]
-    fn close_chunks(&mut self, _begun: (), _text: bool, _count: u64) -> Option<()> {
+    fn close_chunks(&mut self, _started: (), _text: bool, _count: u64) -> Option<()> {
         Some(())
     }
 
@@ -152,7 +152,7 @@ impl Sink for Checking {
     #[inline(always)]
     fn integers(
         &mut self,
-        _begun: &mut (),
+        _started: &mut (),
         _index: u64,
         most: u64,
         bytes: &[u8],
@@ -164,7 +164,7 @@ impl Sink for Checking {
     #[inline(always)]
     fn before_item(
         &mut self,
-        _begun: &mut (),
+        _started: &mut (),
         _index: u64,
         _may_end: bool,
         _bytes: &[u8],
@@ -173,12 +173,12 @@ impl Sink for Checking {
     }
 
     #[inline(always)]
-    fn after_item(&mut self, _begun: &mut ()) -> Option<()> {
+    fn after_item(&mut self, _started: &mut ()) -> Option<()> {
         Some(())
     }
 
     #[inline(always)]
-    fn close_array(&mut self, _begun: (), _endless: bool, _count: u64) -> Option<()> {
+    fn close_array(&mut self, _started: (), _endless: bool, _count: u64) -> Option<()> {
         Some(())
     }
 
@@ -195,7 +195,7 @@ impl Sink for Checking {
     #[inline(always)]
     fn before_key(
         &mut self,
-        _begun: &mut (),
+        _started: &mut (),
         _index: u64,
         _may_end: bool,
         _bytes: &[u8],
@@ -204,17 +204,17 @@ impl Sink for Checking {
     }
 
     #[inline(always)]
-    fn before_value(&mut self, _begun: &mut (), _bytes: &[u8], _left: usize) -> Option<()> {
+    fn before_value(&mut self, _started: &mut (), _bytes: &[u8], _left: usize) -> Option<()> {
         Some(())
     }
 
     #[inline(always)]
-    fn after_value(&mut self, _begun: &mut ()) -> Option<()> {
+    fn after_value(&mut self, _started: &mut ()) -> Option<()> {
         Some(())
     }
 
     #[inline(always)]
-    fn close_map(&mut self, _begun: (), _endless: bool, _count: u64) -> Option<()> {
+    fn close_map(&mut self, _started: (), _endless: bool, _count: u64) -> Option<()> {
         Some(())
     }
 

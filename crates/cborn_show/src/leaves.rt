@@ -4,7 +4,7 @@ ghost use Rattle.std.specs.Prelude.{◌≡◌, ◌<◌, ◌/◌, ◌%◌, ◌++�
 ghost use Rattle.std.specs.Str.{is_utf8};
 ghost use Rattle.hex.specs.Hex.{encode_lower, lower_digits};
 ghost use Rattle.cborn_edn.specs.Shown.{shown_string, shown_chunks};
-ghost use Rattle.cborn_show.specs.Passed.{kind_of, shown_content, before_chunk, behind_chunks};
+ghost use Rattle.cborn_show.specs.Passed.{kind_of, shown_content, before_chunk, after_chunks};
 
 use crate::numbers::put_indicator;
 use cborn_edn::push_escaped;
@@ -26,25 +26,9 @@ pub(crate) fn put_string(
     put_indicator(width, content.len() as u64, out)
 }
 
-/// Appends the chunk with this index, and what precedes it.
-#[inline(always)]
-pub(crate) fn put_chunk(
-    alloc: Global,
-    text: bool,
-    index: u64,
-    width: Width,
-    content: &[u8],
-    out: &mut Vec<u8>,
-) -> Result<(), AllocError>
-    ensures { OnOk result (out.new.items ≡ (out.old.items ++ before_chunk index) ++ shown_string (kind_of text) width content.now) }
-{
-    put_before_chunk(index, out)?;
-    put_string(alloc, text, width, content, out)
-}
-
 /// Appends what precedes the chunk with this index.
 #[inline(always)]
-fn put_before_chunk(index: u64, out: &mut Vec<u8>) -> Result<(), AllocError>
+pub(crate) fn put_before_chunk(index: u64, out: &mut Vec<u8>) -> Result<(), AllocError>
     ensures { OnOk result (out.new.items ≡ out.old.items ++ before_chunk index) }
 {
     if index > 0 {
@@ -57,7 +41,7 @@ fn put_before_chunk(index: u64, out: &mut Vec<u8>) -> Result<(), AllocError>
 /// Appends what follows the chunks, of which there are `count`; without any, the whole string.
 #[inline(always)]
 pub(crate) fn put_chunks_end(text: bool, count: u64, out: &mut Vec<u8>) -> Result<(), AllocError>
-    ensures { OnOk result (out.new.items ≡ out.old.items ++ behind_chunks (kind_of text) count) }
+    ensures { OnOk result (out.new.items ≡ out.old.items ++ after_chunks (kind_of text) count) }
 {
     if count == 0 {
         return put_empty(text, out);

@@ -6,11 +6,11 @@
 //! text    [_ 1, h'0203']              written as each head is read
 //! ```
 //!
-//! [`show_bytes`] reads each head, and writes what it says at the end of one buffer. Items inside one
-//! another are calls inside one another, at most as deep as the limit. Start with `IsShownText` of
-//! `specs/Passed.antt`, which says what the text is: the bytes spell nodes, and the text is their
-//! fixed notation as `cborn_edn` defines it. So a text from here is that of the writer that keeps
-//! nodes, byte for byte.
+//! [`show_bytes`] reads each head, and writes what it says at the end of one buffer. Items inside
+//! one another are calls inside one another, at most as deep as the limit. Start with `IsShownText`
+//! of `specs/Passed.antt`, which says what the text is: the bytes spell nodes, and the text is
+//! their fixed notation as `cborn_edn` defines it. So a text from here is that of the writer that
+//! keeps nodes, byte for byte.
 //!
 //! There is no text if the bytes hold no items within the limit, or if a text in them isn't UTF-8
 //! (`HasNoNotation`). Out of memory is an error of its own.

@@ -2,12 +2,12 @@
 #![tactic(auto, unfolding(cborn_descent::specs::Descending::Always, cborn_descent::specs::Descending::Only, cborn_descent::specs::Descending::BlamesString, cborn_descent::specs::Descending::BlamesChunk, cborn_descent::specs::Descending::BlamesMap))]
 
 ghost use Rattle.std.specs.Prelude.{◌≡◌, ◌++◌, ◌∷◌, [], true, OnOk};
-ghost use Rattle.cborn_edn.specs.Shown.{mark_for, opened};
+ghost use Rattle.cborn_edn.specs.Shown.{mark_for, opened, shown_string};
 ghost use Rattle.cborn_descent.specs.Descending.{integer_node};
-ghost use Rattle.cborn_show.specs.Passed.{NodeWritten, ChunksOpen, ItemsOpen, ItemNext, PairsOpen, KeyNext, ValueNext, TagOpen, Blamed};
+ghost use Rattle.cborn_show.specs.Passed.{kind_of, before_chunk, NodeWritten, ChunksOpen, ItemsOpen, ItemNext, PairsOpen, KeyNext, ValueNext, TagOpen, Blamed};
 ghost use Rattle.cborn_show.specs.Rising.{blamed_rises};
 
-use crate::leaves::{is_bad_text, put_chunk, put_chunks_end, put_string};
+use crate::leaves::{is_bad_text, put_before_chunk, put_chunks_end, put_string};
 use crate::numbers::{put_below, put_between, put_indicator, put_number};
 use crate::prospects::Outlook;
 use crate::runs::put_integers;
@@ -59,6 +59,21 @@ impl<const HINTED: bool> Notation<HINTED> {
         ensures stays { self.new.out.items ≡ self.old.out.items }
     {
         HINTED && !self.outlook.is_good(may_end, bytes, self.out.len())
+    }
+
+    /// Appends the chunk with this index, and what precedes it.
+    #[inline(always)]
+    fn put_chunk(
+        &mut self,
+        text: bool,
+        index: u64,
+        width: Width,
+        content: &[u8],
+    ) -> Result<(), AllocError>
+        ensures { OnOk result (self.new.out.items ≡ (self.old.out.items ++ before_chunk index) ++ shown_string (kind_of text) width content.now) }
+    {
+        put_before_chunk(index, &mut self.out)?;
+        put_string(self.alloc, text, width, content, &mut self.out)
     }
 }
 
@@ -132,7 +147,7 @@ impl<const HINTED: bool> Sink for Notation<HINTED> {
     #[inline(always)]
     fn chunk(
         &mut self,
-        _begun: &mut (),
+        _started: &mut (),
         text: bool,
         index: u64,
         width: Width,
@@ -147,7 +162,7 @@ impl<const HINTED: bool> Sink for Notation<HINTED> {
             self.halt = Halt::BadText;
             return None;
         }
-        match put_chunk(self.alloc, text, index, width, content, &mut self.out) {
+        match self.put_chunk(text, index, width, content) {
             Ok(()) => Some(()),
             Err(e) => {
                 self.halt = Halt::Refused(e);
@@ -157,7 +172,7 @@ impl<const HINTED: bool> Sink for Notation<HINTED> {
     }
 
     #[inline(always)]
-    fn close_chunks(&mut self, _begun: (), text: bool, count: u64) -> Option<()> {
+    fn close_chunks(&mut self, _started: (), text: bool, count: u64) -> Option<()> {
         match put_chunks_end(text, count, &mut self.out) {
             Ok(()) => Some(()),
             Err(e) => {
@@ -192,7 +207,7 @@ impl<const HINTED: bool> Sink for Notation<HINTED> {
     #[inline(always)]
     fn integers(
         &mut self,
-        _begun: &mut (),
+        _started: &mut (),
         index: u64,
         most: u64,
         bytes: &[u8],
@@ -209,7 +224,7 @@ impl<const HINTED: bool> Sink for Notation<HINTED> {
     #[inline(always)]
     fn before_item(
         &mut self,
-        _begun: &mut (),
+        _started: &mut (),
         index: u64,
         may_end: bool,
         bytes: &[u8],
@@ -228,12 +243,12 @@ impl<const HINTED: bool> Sink for Notation<HINTED> {
     }
 
     #[inline(always)]
-    fn after_item(&mut self, _begun: &mut ()) -> Option<()> {
+    fn after_item(&mut self, _started: &mut ()) -> Option<()> {
         Some(())
     }
 
     #[inline(always)]
-    fn close_array(&mut self, _begun: (), _endless: bool, _count: u64) -> Option<()> {
+    fn close_array(&mut self, _started: (), _endless: bool, _count: u64) -> Option<()> {
         match self.out.extend_from_slice(b"]") {
             Ok(()) => Some(()),
             Err(e) => {
@@ -268,7 +283,7 @@ impl<const HINTED: bool> Sink for Notation<HINTED> {
     #[inline(always)]
     fn before_key(
         &mut self,
-        _begun: &mut (),
+        _started: &mut (),
         index: u64,
         may_end: bool,
         bytes: &[u8],
@@ -287,7 +302,7 @@ impl<const HINTED: bool> Sink for Notation<HINTED> {
     }
 
     #[inline(always)]
-    fn before_value(&mut self, _begun: &mut (), _bytes: &[u8], _left: usize) -> Option<()> {
+    fn before_value(&mut self, _started: &mut (), _bytes: &[u8], _left: usize) -> Option<()> {
         match self.out.extend_from_slice(b": ") {
             Ok(()) => Some(()),
             Err(e) => {
@@ -298,12 +313,12 @@ impl<const HINTED: bool> Sink for Notation<HINTED> {
     }
 
     #[inline(always)]
-    fn after_value(&mut self, _begun: &mut ()) -> Option<()> {
+    fn after_value(&mut self, _started: &mut ()) -> Option<()> {
         Some(())
     }
 
     #[inline(always)]
-    fn close_map(&mut self, _begun: (), _endless: bool, _count: u64) -> Option<()> {
+    fn close_map(&mut self, _started: (), _endless: bool, _count: u64) -> Option<()> {
         match self.out.extend_from_slice(b"}") {
             Ok(()) => Some(()),
             Err(e) => {

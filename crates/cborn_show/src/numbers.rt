@@ -67,7 +67,7 @@ fn put_decimal(n: u64, out: &mut Vec<u8>) -> Result<(), AllocError>
 #[inline(always)]
 fn put_block(block: &[u8; 64], start: usize, out: &mut Vec<u8>) -> Result<(), AllocError>
     requires { start ≤ 32 }
-    ensures { OnOk result ((text behind : List ℕ) → drop start block.now ≡ text ++ behind → start + length text ≡ 32 → out.new.items ≡ out.old.items ++ text) }
+    ensures { OnOk result ((text after : List ℕ) → drop start block.now ≡ text ++ after → start + length text ≡ 32 → out.new.items ≡ out.old.items ++ text) }
 {
     let end = out.len() + (32 - start);
     out.extend_from_slice(&block[start..start + 32])?;

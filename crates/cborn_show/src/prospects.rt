@@ -1,7 +1,8 @@
-//! Whether the rest of an input looks as if it will be shown. A text is several times as long as
-//! small items are, so before one grows much longer than the input, what is left is looked over: if
-//! the text would be thrown away, the pass is given up early. The guess is unproved: `check_texts`
-//! settles each doubt, and if there is a text after all, a second pass writes it without a guess.
+//! Whether the rest of an input looks as if it will be shown. The text of small items is several
+//! times as long as their bytes. So before a text grows much longer than the input, what is left is
+//! looked over: if the text would be thrown away, the pass is given up early. The guess is
+//! unproved: `check_texts` settles each doubt, and if there is a text after all, a second pass
+//! writes it without a guess.
 
 ghost use Rattle.std.specs.Prelude.{◌≤◌, length, IfSome};
 
@@ -15,7 +16,7 @@ const SHORT: usize = 1 << 16;
 /// When the rest of an input is looked over, and for what.
 #[derive(Drop)]
 pub(crate) struct Outlook {
-    /// At which length of the text, in bytes. Once it was done, one longer than any text.
+    /// From which length of the text on, in bytes. Once it was done, one longer than any text.
     at: usize,
     /// The maximum nesting depth.
     limit: u64,
@@ -58,8 +59,8 @@ pub(crate) fn is_promising(limit: u64, missing: u64, bytes: &[u8]) -> bool {
         let Some(len) = len_of_front(&lens, rest) else {
             return false;
         };
-        breaks = breaks_behind(rest[0], breaks);
-        nested = nested_behind(rest[0], nested);
+        breaks = breaks_after(rest[0], breaks);
+        nested = nested_after(rest[0], nested);
         if nested > limit {
             return false;
         }
@@ -133,8 +134,8 @@ fn are_small(word: u64) -> bool {
 fn is_plain(first: u8, word: u64) -> bool {
     match first {
         0x61..=0x67 => {
-            let behind = 8 * (0x67 - u32::from(first));
-            word & (0x8080_8080_8080_8000 >> behind) & 0x8080_8080_8080_8000 == 0
+            let after = 8 * (0x67 - u32::from(first));
+            word & (0x8080_8080_8080_8000 >> after) & 0x8080_8080_8080_8000 == 0
         }
         _ => true,
     }
@@ -144,12 +145,12 @@ fn is_plain(first: u8, word: u64) -> bool {
 fn lens() -> [u8; 256] {
     let mut lens = [0; 256];
     for first in 0..256 {
-        lens[first] = len_behind(first as u8);
+        lens[first] = len_after(first as u8);
     }
     lens
 }
 
-fn len_behind(first: u8) -> u8 {
+fn len_after(first: u8) -> u8 {
     let information = first % 32;
     match first / 32 {
         0 | 1 | 6 => head_len(information),
@@ -175,7 +176,7 @@ fn head_len(information: u8) -> u8 {
 /// How many breaks are missing after a head with this initial byte, if `before` are missing before
 /// it.
 #[inline(always)]
-fn breaks_behind(first: u8, before: u64) -> u64 {
+fn breaks_after(first: u8, before: u64) -> u64 {
     match first {
         0x5f | 0x7f | 0x9f | 0xbf => before.saturating_add(1),
         0xff => before.saturating_sub(1),
@@ -183,10 +184,10 @@ fn breaks_behind(first: u8, before: u64) -> u64 {
     }
 }
 
-/// How many heads in a row hold something, up to one with this initial byte; 0 unless that one
-/// does. One whose count isn't in its initial byte may hold nothing.
+/// How many heads in a row hold something, the last of them with this initial byte; 0 if that one
+/// holds nothing. One whose count isn't in its initial byte may hold nothing.
 #[inline(always)]
-fn nested_behind(first: u8, before: u64) -> u64 {
+fn nested_after(first: u8, before: u64) -> u64 {
     match first {
         0x81..0x98 | 0x9f | 0xa1..0xb8 | 0xbf..0xe0 => before.saturating_add(1),
         _ => 0,

@@ -146,7 +146,7 @@ fn copy_block(block: &[u8; 64], start: usize, texts: &mut [u8; GATHERED], end: u
     requires start { start ≤ 32 }
     requires room { end + LONGEST ≤ GATHERED }
     ensures within { result ≡ end + (32 - start) }
-    ensures written { (text behind : List ℕ) → drop start block.now ≡ text ++ behind → start + length text ≡ 32 → take result texts.new ≡ take end texts.old ++ text }
+    ensures written { (text after : List ℕ) → drop start block.now ≡ text ++ after → start + length text ≡ 32 → take result texts.new ≡ take end texts.old ++ text }
 {
     texts[end..end + 32].copy_from_slice(&block[start..start + 32]);
     end + (32 - start)

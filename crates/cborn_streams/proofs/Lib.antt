@@ -1,3 +1,3 @@
 pub mod Collecting
-pub mod Told
+pub mod KnownErrors
 pub mod Written

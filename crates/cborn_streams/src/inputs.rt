@@ -4,7 +4,7 @@ ghost use Rattle.cborn_streams.specs.Failures.{failures_after_read};
 ghost use Rattle.cborn_streams.specs.Reading.{Collects};
 
 use crate::faults::InputFault;
-use crate::pieces::{make_room, read_behind};
+use crate::pieces::{make_room, read_after};
 use crate::sources::Source;
 use std::alloc::Global;
 
@@ -28,7 +28,7 @@ pub fn read_bytes<R: Source>(
     let mut filled = 0;
     'pieces: loop {
         make_room(&mut bytes, filled)?;
-        let count = read_behind(reader, &mut bytes, filled, most - filled as u64)?;
+        let count = read_after(reader, &mut bytes, filled, most - filled as u64)?;
         if count == 0 {
             bytes.truncate(filled);
             return Ok(bytes);

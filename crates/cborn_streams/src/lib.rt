@@ -1,5 +1,5 @@
-//! Readers and writers that count their failures, and whole inputs and answers by them. Nothing
-//! here knows what the bytes hold.
+//! Readers and writers that count their failures, and whole inputs and answers that are read and
+//! written with them. Nothing here knows what the bytes hold.
 //!
 //! Bytes are read from a [`Source`] and written to a [`Sink`]; [`Counted`] makes them of the
 //! readers and writers of std. [`read_bytes`] keeps all of an input, [`read_piece`] reads the next

@@ -59,7 +59,7 @@ pub fn make_room(bytes: &mut Vec<u8>, filled: usize) -> Result<(), AllocError>
 ///
 /// # Errors
 /// `ReadFault` if the reader fails. `TooLong` if it gives more than `left` bytes.
-pub fn read_behind<R: Source>(
+pub fn read_after<R: Source>(
     reader: &mut R,
     bytes: &mut Vec<u8>,
     filled: usize,

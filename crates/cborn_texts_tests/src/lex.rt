@@ -177,10 +177,10 @@ fn gives(
 
 /// What a token is: its start and its end, its integer or the number of its tag, if it has one, and the
 /// bytes of a string.
-type Told<'a> = (u64, u64, Option<(bool, u128, Mark)>, &'a [u8]);
+type Parts<'a> = (u64, u64, Option<(bool, u128, Mark)>, &'a [u8]);
 
 /// What the token is.
-fn told(token: &Token) -> Told<'_> {
+fn parts(token: &Token) -> Parts<'_> {
     let (number, content) = match &token.class {
         Class::Number {
             negative,
@@ -195,7 +195,7 @@ fn told(token: &Token) -> Told<'_> {
 }
 
 /// Texts, and all of their tokens.
-const TOLD: [(&str, &[Told<'static>]); 7] = [
+const PARTS: [(&str, &[Parts<'static>]); 7] = [
     (
         "[_ 1_1]",
         &[
@@ -240,12 +240,12 @@ const TOLD: [(&str, &[Told<'static>]); 7] = [
 /// Catches a list of tokens that has others, or more, than the text.
 #[test]
 fn tells_tokens(rt: HostRuntime) -> Result<(), Fail> {
-    for (text, wanted) in TOLD {
+    for (text, wanted) in PARTS {
         for profile in [Profile::One, Profile::Two] {
             let found = tokens(rt.alloc(), profile, text)?;
             assert_eq!(rt; found.len(), wanted.len(), "{text}");
             for (token, right) in found.iter().zip(wanted.iter()) {
-                assert_eq!(rt; told(token), *right, "{text}");
+                assert_eq!(rt; parts(token), *right, "{text}");
             }
         }
     }

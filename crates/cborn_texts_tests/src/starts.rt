@@ -13,7 +13,7 @@ const TEXT: &str =
 const STARTS: [u64; 13] = [0, 1, 6, 7, 10, 10, 33, 36, 39, 44, 59, 61, 73];
 
 #[test]
-fn each_start_is_told(rt: HostRuntime) -> Result<(), Fail> {
+fn each_start_is_given(rt: HostRuntime) -> Result<(), Fail> {
     for (index, start) in STARTS.into_iter().enumerate() {
         assert_eq!(rt;
             start_at(rt.alloc(), Profile::One, TEXT, index as u64)?,

@@ -21,18 +21,18 @@ pub appends_both : {P Q R : List ℕ → Type 0} (old : List ℕ) {mid new : Lis
 appends_both old a b f = (a.0 ++ b.0, f a.0 b.0 a.1 b.1, b.2 ∙ ap (λ l. l ++ b.0) a.2 ∙ append_assoc old a.0 b.0)
 
 -- the bytes after a head
-pub appends_behind : {P R : List ℕ → Type 0} (old b : List ℕ) {mid new : List ℕ} → Appends P old mid → new ≡ mid ++ b → ((h : List ℕ) → P h → R (h ++ b)) → Appends R old new
-appends_behind old b a e f = (a.0 ++ b, f a.0 a.1, e ∙ ap (λ l. l ++ b) a.2 ∙ append_assoc old a.0 b)
+pub appends_after : {P R : List ℕ → Type 0} (old b : List ℕ) {mid new : List ℕ} → Appends P old mid → new ≡ mid ++ b → ((h : List ℕ) → P h → R (h ++ b)) → Appends R old new
+appends_after old b a e f = (a.0 ++ b, f a.0 a.1, e ∙ ap (λ l. l ++ b) a.2 ∙ append_assoc old a.0 b)
 
 pub string_written : (major n : ℕ) (b old mid new : List ℕ) → Appends (IsLeastHead major n) old mid → n ≡ length b → new ≡ mid ++ b → Appends (IsString major b) old new
-string_written major n b old mid new a l e = appends_behind old b a e (λ h p. (h, subst (λ k. IsLeastHead major k h) l p, refl))
+string_written major n b old mid new a l e = appends_after old b a e (λ h p. (h, subst (λ k. IsLeastHead major k h) l p, refl))
 
 -- a head in the place of the byte before the bytes b
 pub head_put : {P : List ℕ → Type 0} {start : ℕ} (old b : List ℕ) {half new : List ℕ} → start ≡ length old → half ≡ (old ++ 0 ∷ []) ++ b → (h : Replaces P start half new) → new ≡ (old ++ h.0) ++ b
 head_put {start = start} old b st e h =
     let front : take start _ ≡ old = ap (take start) (e ∙ append_assoc old (0 ∷ []) b) ∙ take_at old (0 ∷ b) start (sym st) in
-    let behind : drop (start + 1) _ ≡ b = ap (drop (start + 1)) e ∙ drop_at (old ++ 0 ∷ []) b (start + 1) (length-append old (0 ∷ []) ∙ ap (λ k. k + 1) (sym st)) in
-    h.2 ∙ (λ i. (front i ++ h.0) ++ behind i)
+    let after : drop (start + 1) _ ≡ b = ap (drop (start + 1)) e ∙ drop_at (old ++ 0 ∷ []) b (start + 1) (length-append old (0 ∷ []) ∙ ap (λ k. k + 1) (sym st)) in
+    h.2 ∙ (λ i. (front i ++ h.0) ++ after i)
 
 -- the place of that byte, once more was written
 pub head_place : (old one two x : List ℕ) {start : ℕ} → start ≡ length old → one ≡ old ++ 0 ∷ [] → two ≡ one ++ x → start < length two

@@ -20,7 +20,7 @@ use Rattle.cborn_transcode.specs.devices.Laying.{end_of, Follow}
 use Rattle.cborn_transcode.proofs.Laying.{ends_within, follow_below}
 use Rattle.cborn_transcode.proofs.Pairing.{distinct_moved}
 use Rattle.cborn_transcode.proofs.Repeating.{distinct_kept}
-use Rattle.cborn_transcode.proofs.Keying.{spanned_behind, spanned_between, rising_front, spanned_more, spans_more, joined_more}
+use Rattle.cborn_transcode.proofs.Keying.{spanned_after, spanned_between, rising_front, spanned_more, spans_more, joined_more}
 
 -- ---- pairs that are moved together, one by one
 
@@ -32,10 +32,10 @@ pub record MovedUpTo (start : ℕ) (b : List ℕ) (all now : List Span) (i at af
   pub laid : AreSpans start (all_spanned b (take i all)) (take i now)
   pub left : drop i now ≡ drop i all
   pub front : take at out ≡ take start b ++ joined (all_spanned b (take i all))
-  pub behind : drop after out ≡ drop after b
+  pub kept_after : drop after out ≡ drop after b
 
 pub moved_none : (start : ℕ) (b : List ℕ) (all : List Span) → start ≤ length b → MovedUpTo start b all all 0 start start b
-moved_none start b all l = record { low = omega arith; inside = l; same = refl; laid = tt; left = refl; front = sym (append-nil (take start b)); behind = refl }
+moved_none start b all l = record { low = omega arith; inside = l; same = refl; laid = tt; left = refl; front = sym (append-nil (take start b)); kept_after = refl }
 
 pair_length : (b : List ℕ) (from key value : ℕ) → from + (key + value) ≤ length b → length (take key (drop from b)) ≡ key
 pair_length b from key value l = length-take-le key (drop from b) (omega (arith, length-drop from b))
@@ -43,8 +43,8 @@ pair_length b from key value l = length-take-le key (drop from b) (omega (arith,
 value_length : (b : List ℕ) (from key value : ℕ) → from + (key + value) ≤ length b → length (take value (drop key (drop from b))) ≡ value
 value_length b from key value l = length-take-le value (drop key (drop from b)) (omega (arith, length-drop key (drop from b), length-drop from b))
 
-same_behind : (b c : List ℕ) (n m : ℕ) → n ≤ m → drop n b ≡ drop n c → drop m b ≡ drop m c
-same_behind b c n m l e =
+same_after : (b c : List ℕ) (n m : ℕ) → n ≤ m → drop n b ≡ drop n c → drop m b ≡ drop m c
+same_after b c n m l e =
     let more : n + (m - n) ≡ m = omega arith in
     ap (λ k. drop k b) (sym more) ∙ sym (drop-drop (m - n) n b) ∙ ap (drop (m - n)) e ∙ drop-drop (m - n) n c ∙ ap (λ k. drop k c) more
 
@@ -69,7 +69,7 @@ moved_more start b all now i at after out d place len end new m inside l n sum e
     let first : t.start ≡ start + length (joined es) = same ∙ sym (length-take-le at out under) ∙ ap length m.front ∙ length-append (take start b) (joined es) ∙ ap (λ k. k + length (joined es)) (length-take-le start b inside) in
     let key : t.key_len ≡ length e.0 = sym (pair_length b s.start s.key_len s.value_len within) in
     let value : t.value_len ≡ length e.1 = sym (value_length b s.start s.key_len s.value_len within) in
-    let tail : drop s.start out ≡ drop s.start b = same_behind out b after s.start low m.behind in
+    let tail : drop s.start out ≡ drop s.start b = same_after out b after s.start low m.kept_after in
     let size : length new ≡ length out = ap length pasted ∙ length-paste out at (drop s.start out) len (omega (arith, m.low)) short in
     let pair : take len (drop s.start out) ≡ e.0 ++ e.1 = (λ j. take (sum j) (tail j)) ∙ take-add s.key_len s.value_len (drop s.start b) in
     let kept : drop (at + len) new ≡ drop (at + len) out = ap (drop (at + len)) pasted ∙ drop-paste out at (drop s.start out) len under short in
@@ -80,7 +80,7 @@ moved_more start b all now i at after out d place len end new m inside l n sum e
       laid = subst (λ z. AreSpans start z (take (i + 1) (set now i t))) (sym more) (subst (AreSpans start (es ++ e ∷ [])) (sym (take_more_set now i t below)) (spans_more start es (take i now) e t m.laid first key value));
       left = drop-set-lt (i + 1) now i t (omega arith) ∙ others;
       front = ap (take (at + len)) pasted ∙ take-paste out at (drop s.start out) len under short ∙ (λ j. m.front j ++ pair j) ∙ append_assoc (take start b) (joined es) (e.0 ++ e.1) ∙ ap (λ z. take start b ++ z) (sym (joined_more es e) ∙ ap joined (sym more));
-      behind = same_behind new out (at + len) end (omega (arith, m.low)) kept ∙ same_behind out b after end (omega arith) m.behind;
+      kept_after = same_after new out (at + len) end (omega (arith, m.low)) kept ∙ same_after out b after end (omega arith) m.kept_after;
     }
 
 pub moved_all : (start : ℕ) (b : List ℕ) (all now : List Span) (i at after : ℕ) (out new : List ℕ) → MovedUpTo start b all now i at after out → length all ≤ i → length now ≡ length all → new ≡ take at out
@@ -100,7 +100,7 @@ moved_start start b all f = (start, moved_none start b all (follow_below start (
 -- where it lies
 pub record NextLies (at after : ℕ) (s : Span) (out b : List ℕ) (rest : List Span) : Type 0 where
   pub low : at ≤ after
-  pub behind : after ≤ s.start
+  pub kept_after : after ≤ s.start
   pub inside : end_of s ≤ length out
   pub small : s.key_len + s.value_len < 2 ^ 64
   pub follow : Follow (end_of s) (length b) rest
@@ -112,7 +112,7 @@ next_lies start b all now i at after out d m f short l n =
     let here : get_or now i d ≡ get_or all i d = cc in
     let next : Follow after (length b) (get_or now i d ∷ drop (i + 1) all) = subst (Follow after (length b)) (drop_more all i d l ∙ ap (λ s. s ∷ drop (i + 1) all) (sym here)) f in
     let ends : end_of (get_or now i d) ≤ length b = follow_below (end_of (get_or now i d)) (length b) (drop (i + 1) all) next.1 in
-    record { low = m.low; behind = next.0; inside = omega (arith, m.same); small = omega arith; follow = next.1 }
+    record { low = m.low; kept_after = next.0; inside = omega (arith, m.same); small = omega arith; follow = next.1 }
 
 pub moved_next : (start : ℕ) (b : List ℕ) (all now : List Span) (i at after : ℕ) (out : List ℕ) (d : Span) (len : ℕ) (new : List ℕ) → let s : Span = get_or now i d in MovedUpTo start b all now i at after out → NextLies at after s out b (drop (i + 1) all) → start ≤ length b → i < length all → length now ≡ length all
     → len ≡ s.key_len + s.value_len → new ≡ copy_within out s.start (s.start + len) at
@@ -120,13 +120,13 @@ pub moved_next : (start : ℕ) (b : List ℕ) (all now : List Span) (i at after 
 moved_next start b all now i at after out d len new m n inside l same sum copied =
     let s : Span = get_or now i d in
     let ends : s.start + len ≡ end_of s = omega arith in
-    (s.start + len, moved_more start b all now i at after out d at len (s.start + len) new m inside l same sum refl n.behind (omega (arith, n.inside)) refl copied, subst (λ k. Follow k (length b) (drop (i + 1) all)) (sym ends) n.follow)
+    (s.start + len, moved_more start b all now i at after out d at len (s.start + len) new m inside l same sum refl n.kept_after (omega (arith, n.inside)) refl copied, subst (λ k. Follow k (length b) (drop (i + 1) all)) (sym ends) n.follow)
 
 -- ---- the halves
 
 -- pairs after the start, once their spans are rearranged
 pub rearranged : (start : ℕ) (b : List ℕ) (es : List Entry) (ss now : List Span) → start ≤ length b → AreSpans start es ss → drop start b ≡ joined es → IsPermutation ss now → IsPermutation es (all_spanned b now)
-rearranged start b es ss now l a e m = subst (λ (z : List Entry). IsPermutation z (all_spanned b now)) (spanned_behind start b es ss l a e) (IsPermutation-map (spanned b) ss now m)
+rearranged start b es ss now l a e m = subst (λ (z : List Entry). IsPermutation z (all_spanned b now)) (spanned_after start b es ss l a e) (IsPermutation-map (spanned b) ss now m)
 
 -- the first pairs, arranged anew, and then the last: all of them, so arranged that their keys rise
 pub halves_joined : (order : List ℕ → List ℕ → Ordering) → IsKeyOrder order → (b : List ℕ) (ss : List Span) (k : ℕ) (gs fs : List Entry) (front out : List ℕ) → Rising order (keys (all_spanned b ss)) → IsPermutation (all_spanned b (take k ss)) gs → IsPermutation gs fs → Rising order (keys fs)
@@ -149,8 +149,8 @@ written_over front tail b new es fs start s e p n =
     let size : length (joined fs) ≡ length (joined es) = length_moved es fs p in
     let before : take start b ≡ front = ap (take start) e ∙ take_at front (joined es ++ tail) start (sym s) in
     let ends : length (front ++ joined es) ≡ start + length (joined fs) = omega (arith, length-append front (joined es)) in
-    let behind : drop (start + length (joined fs)) b ≡ tail = ap (drop (start + length (joined fs))) (e ∙ sym (append_assoc front (joined es) tail)) ∙ drop_at (front ++ joined es) tail (start + length (joined fs)) ends in
-    n ∙ (λ j. before j ++ (joined fs ++ behind j))
+    let kept_after : drop (start + length (joined fs)) b ≡ tail = ap (drop (start + length (joined fs))) (e ∙ sym (append_assoc front (joined es) tail)) ∙ drop_at (front ++ joined es) tail (start + length (joined fs)) ends in
+    n ∙ (λ j. before j ++ (joined fs ++ kept_after j))
 
 -- the last of the pairs goes up to where it belongs, and then the others are written before it
 pub others_put : (b moved others copy : List ℕ) (start middle from key value len : ℕ) → middle ≡ start + length others → len ≡ key + value → from + len ≤ length b → middle + len ≤ length b → moved ≡ copy_within b from (from + len) middle → copy ≡ others
@@ -166,10 +166,10 @@ others_put b moved others copy start middle from key value len at sum room fits 
     up ∙ ap (λ z. z ++ (taken ++ tail)) (ap (λ k. take k b) at ∙ take-add start (length others) b) ∙ append_assoc (take start b) (take (length others) (drop start b)) (taken ++ tail) in
     let front : take start moved ≡ take start b = ap (take start) apart ∙ take_at (take start b) (take (length others) (drop start b) ++ (taken ++ tail)) start (length-take-le start b (omega arith)) in
     let rest : start + (middle - start) ≡ middle = omega arith in
-    let behind : drop (middle - start) (drop start moved) ≡ taken ++ tail =
+    let kept_after : drop (middle - start) (drop start moved) ≡ taken ++ tail =
     drop-drop (middle - start) start moved ∙ ap (λ k. drop k moved) rest ∙ ap (drop middle) up ∙ drop_at (take middle b) (taken ++ tail) middle (length-take-le middle b (omega arith)) in
     let size : start + length (others ++ pair) ≡ middle + len = omega (arith, length-append others pair, ap length is, length-take-le len (drop from b) (omega (arith, length-drop from b))) in
-    (λ j. front j ++ (same j ++ behind j))
+    (λ j. front j ++ (same j ++ kept_after j))
     ∙ ap (λ z. take start b ++ z) (ap (λ z. others ++ (z ++ tail)) is ∙ sym (append_assoc others pair tail) ∙ ap (λ k. (others ++ pair) ++ drop k b) (sym size))
 
 -- the first of the pairs, after the front and before a tail

@@ -27,8 +27,8 @@ use Rattle.cborn_transcode.proofs.Written.{written_laid}
 
 -- ---- strings in chunks
 
-pub chunks_begun : (s : Bool) (kept : OpenString) (old new : List ℕ) → Appends (IsLeastHead (code (major_of s)) kept.len) old new → kept.head ≡ length old → kept.start ≡ length new → ChunksOpen s kept old new []
-chunks_begun s kept old new h p st = record { mid = new; head = h; place = p; start = st; texts = λ e. tt; written = sym (append-nil new) }
+pub chunks_started : (s : Bool) (kept : OpenString) (old new : List ℕ) → Appends (IsLeastHead (code (major_of s)) kept.len) old new → kept.head ≡ length old → kept.start ≡ length new → ChunksOpen s kept old new []
+chunks_started s kept old new h p st = record { mid = new; head = h; place = p; start = st; texts = λ e. tt; written = sym (append-nil new) }
 
 module _ (order : List ℕ → List ℕ → Ordering) where
   chunks_encoded : (s : Bool) (old new : List ℕ) (cs : List Chunk) → (s ≡ true → ChunksAreText cs) → Appends (IsString (code (major_of s)) (joined_chunks cs)) old new → Appends (IsEncodedAs order (chunks_node s 0 cs)) old new

@@ -13,8 +13,7 @@ use Rattle.cborn_transcode.specs.declared.entries.Span.{Span}
 use Rattle.std.proofs.lemmas.List.Sorted.{IsPermutation-map, IsPermutation-reverse, IsPermutation-trans}
 use Rattle.cborn_transcode.specs.declared.places.PairPlace.{PairPlace}
 use Rattle.cborn_transcode.specs.Transcoding.{spanned, all_spanned, AreSpans}
-use Rattle.cborn_transcode.specs.devices.Departing.{IsFallen}
-use Rattle.cborn_transcode.specs.shared.Walking.{span_of, spans_of}
+use Rattle.cborn_transcode.specs.shared.Walking.{span_of, spans_of, IsFallen}
 
 pub spanned_more : (b : List ℕ) (ss : List Span) (i : ℕ) (d : Span) → i < length ss → all_spanned b (take (i + 1) ss) ≡ all_spanned b (take i ss) ++ spanned b (get_or ss i d) ∷ []
 spanned_more b ss i d l = ap (all_spanned b) (take_more ss i d l) ∙ map-append (spanned b) (take i ss) (get_or ss i d ∷ [])
@@ -76,22 +75,22 @@ spanned_between front tail [] [] p q a = refl
 spanned_between front tail [] (s ∷ ss) p q a = absurd a
 spanned_between front tail (e ∷ es) [] p q a = absurd a
 spanned_between front tail (e ∷ es) (s ∷ ss) p q a =
-    let behind : List ℕ = joined es ++ tail in
+    let beyond : List ℕ = joined es ++ tail in
     let b : List ℕ = front ++ (((e.0 ++ e.1) ++ joined es) ++ tail) in
-    let apart : b ≡ front ++ ((e.0 ++ e.1) ++ behind) = ap (λ z. front ++ z) (append_assoc (e.0 ++ e.1) (joined es) tail) in
-    let here : drop s.start b ≡ e.0 ++ (e.1 ++ behind) = ap (drop s.start) apart ∙ drop_at front ((e.0 ++ e.1) ++ behind) s.start (sym (a.0 ∙ q)) ∙ append_assoc e.0 e.1 behind in
-    let after : drop s.key_len (drop s.start b) ≡ e.1 ++ behind = ap (drop s.key_len) here ∙ drop_at e.0 (e.1 ++ behind) s.key_len (sym a.1) in
-    let key : take s.key_len (drop s.start b) ≡ e.0 = ap (take s.key_len) here ∙ take_at e.0 (e.1 ++ behind) s.key_len (sym a.1) in
-    let value : take s.value_len (drop s.key_len (drop s.start b)) ≡ e.1 = ap (take s.value_len) after ∙ take_at e.1 behind s.value_len (sym a.2) in
-    let others : all_spanned b ss ≡ es = ap (λ z. all_spanned z ss) (apart ∙ sym (append_assoc front (e.0 ++ e.1) behind))
+    let apart : b ≡ front ++ ((e.0 ++ e.1) ++ beyond) = ap (λ z. front ++ z) (append_assoc (e.0 ++ e.1) (joined es) tail) in
+    let here : drop s.start b ≡ e.0 ++ (e.1 ++ beyond) = ap (drop s.start) apart ∙ drop_at front ((e.0 ++ e.1) ++ beyond) s.start (sym (a.0 ∙ q)) ∙ append_assoc e.0 e.1 beyond in
+    let after : drop s.key_len (drop s.start b) ≡ e.1 ++ beyond = ap (drop s.key_len) here ∙ drop_at e.0 (e.1 ++ beyond) s.key_len (sym a.1) in
+    let key : take s.key_len (drop s.start b) ≡ e.0 = ap (take s.key_len) here ∙ take_at e.0 (e.1 ++ beyond) s.key_len (sym a.1) in
+    let value : take s.value_len (drop s.key_len (drop s.start b)) ≡ e.1 = ap (take s.value_len) after ∙ take_at e.1 beyond s.value_len (sym a.2) in
+    let others : all_spanned b ss ≡ es = ap (λ z. all_spanned z ss) (apart ∙ sym (append_assoc front (e.0 ++ e.1) beyond))
     ∙ spanned_between (front ++ (e.0 ++ e.1)) tail es ss (p + length e.0 + length e.1) (omega (arith, q, length-append front (e.0 ++ e.1), length-append e.0 e.1)) a.3 in
     λ i. (key i, value i) ∷ others i
 
 spanned_all : (front : List ℕ) (es : List Entry) (ss : List Span) (p : ℕ) → p ≡ length front → AreSpans p es ss → all_spanned (front ++ joined es) ss ≡ es
 spanned_all front es ss p q a = ap (λ z. all_spanned (front ++ z) ss) (sym (append-nil (joined es))) ∙ spanned_between front [] es ss p q a
 
-pub spanned_behind : (start : ℕ) (b : List ℕ) (es : List Entry) (ss : List Span) → start ≤ length b → AreSpans start es ss → drop start b ≡ joined es → all_spanned b ss ≡ es
-spanned_behind start b es ss l a e =
+pub spanned_after : (start : ℕ) (b : List ℕ) (es : List Entry) (ss : List Span) → start ≤ length b → AreSpans start es ss → drop start b ≡ joined es → all_spanned b ss ≡ es
+spanned_after start b es ss l a e =
     ap (λ z. all_spanned z ss) (sym (take-append-drop start b) ∙ ap (λ z. take start b ++ z) e)
     ∙ spanned_all (take start b) es ss start (sym (length-take-le start b l)) a
 

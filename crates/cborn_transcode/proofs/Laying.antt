@@ -13,8 +13,8 @@ use Rattle.cborn_transcode.specs.devices.Laying.{unhinted, end_of, LiesIn, overl
 
 -- ---- two pairs
 
-pub behind : (s t : Span) → end_of s ≤ t.start → overlap s t ≡ false
-behind s t l = grind (arith, nat_tests)
+pub later_apart : (s t : Span) → end_of s ≤ t.start → overlap s t ≡ false
+later_apart s t l = grind (arith, nat_tests)
 
 overlap_turned : (s t : Span) → overlap s t ≡ overlap t s
 overlap_turned s t = grind (arith, nat_tests)
@@ -50,7 +50,7 @@ none_over p (e ∷ es) (s ∷ ss) a n =
     let next : ℕ = p + length e.0 + length e.1 in
     let ends : end_of s ≡ next = omega (arith, a.0, a.1, a.2) in
     let rest = lie_within next next (next + length (joined es)) es ss a.3 n.1 (omega arith) (omega arith) in
-    (weaker (LiesIn next (next + length (joined es))) (λ (t : Span). overlap s t ≡ false) (λ t l. behind s t (omega (arith, ends, l.0))) ss rest, none_over next es ss a.3 n.1)
+    (weaker (LiesIn next (next + length (joined es))) (λ (t : Span). overlap s t ≡ false) (λ t l. later_apart s t (omega (arith, ends, l.0))) ss rest, none_over next es ss a.3 n.1)
 
 pub laid_apart : (start : ℕ) (es : List Entry) (ss : List Span) (b : List ℕ) → AreLaid start es ss b → AreApart start (length b) ss
 laid_apart start es ss b l =

@@ -7,17 +7,8 @@ pub mod Keying
 pub mod Placing
 pub mod Walking
 pub mod Walked
-pub mod Opening
-pub mod Departing
-pub mod Departed
-pub mod Telling
-pub mod Answering
 pub mod Standing
 pub mod Fronting
-pub mod Straying
-pub mod Falling
-pub mod Settling
-pub mod Tagging
 pub mod Halves
 pub mod Missing
 pub mod Hooks

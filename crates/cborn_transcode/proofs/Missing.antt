@@ -1,11 +1,11 @@
--- What bytes don't have at their front: a byte string, whole or in chunks.
+-- What bytes don't have at their front: the content of a string, a chunk, or a byte string, whole or in chunks.
 use Rattle.std.proofs.Common.{◌≡◌, ℕ, ◌<◌, List, [], ◌∷◌, ◌++◌, length, drop, refl, sym, ap, ◌∙◌, arith, append_assoc, length-append}
 use Rattle.std.specs.List.{flat_map}
 use Rattle.cborn_model.specs.declared.heads.Major.{Major}
 use Rattle.cborn_model.specs.declared.heads.Major.TheVariants.{ByteString, TextString, Other}
 use Rattle.cborn_model.specs.declared.nodes.Chunk.{Chunk}
 use Rattle.cborn_model.specs.declared.heads.Width.{Width}
-use Rattle.cborn_model.specs.Heads.{Given, Unbounded, head, WidthFits}
+use Rattle.cborn_model.specs.Heads.{Given, EndlessArgument, head, WidthFits}
 use Rattle.cborn_model.specs.Meaning.{IsByteString}
 use Rattle.cborn_model.specs.Spelled.{Fits, chunk_bytes}
 use Rattle.cborn_model.specs.Tree.{Tree, Bytes, ByteChunks}
@@ -17,11 +17,15 @@ use Rattle.cborn_wire.specs.HeadReading.{major_at, seen_argument, IsHeadOf, Read
 use Rattle.cborn_model.proofs.Numbers.OneHead.{append_same}
 use Rattle.cborn_wire.specs.Parts.{ChunkRead}
 use Rattle.cborn_wire.proofs.Parts.Heads.{head_split}
-use Rattle.cborn_transcode.specs.devices.Departing.{NoContent}
+use Rattle.cborn_transcode.specs.shared.Walking.{NoContent}
 use Rattle.cborn_transcode.specs.devices.Missing.{NoChunk, NoChunks, NoByteString, HaveChunks}
-use Rattle.cborn_transcode.proofs.Departing.{number_of}
 use Rattle.cborn_wire.proofs.Parts.Openings.{opening, contents, opened, one_argument}
-use Rattle.cborn_transcode.proofs.Standing.{given_free, no_head_stands, no_head_begins}
+use Rattle.cborn_transcode.proofs.Standing.{number_of, given_free, no_head_stands, no_head_begins}
+
+-- ---- the content of a string
+
+pub content_short : (m : Major) (n : ℕ) (input : List ℕ) → length input < n → NoContent m n input
+content_short m n input l content rest r k = omega (arith, l, ap length r.read, length-append content rest, r.len)
 
 -- ---- one chunk
 
@@ -62,8 +66,8 @@ chunk_after m mid after rest (c ∷ cs) none x e =
     let one : head m (Given c.width (length c.bytes)) ++ (c.bytes ++ y) ≡ head m (Given x.chunk.width (length x.chunk.bytes)) ++ (x.chunk.bytes ++ after) =
     sym (append_assoc (head m (Given c.width (length c.bytes))) c.bytes y) ∙ sym (append_assoc (chunk_bytes m c) (flat_map (chunk_bytes m) cs) (255 ∷ rest)) ∙ sym e.0 ∙ x.read ∙ append_assoc (head m (Given x.chunk.width (length x.chunk.bytes))) x.chunk.bytes after in
     let o = one_argument m m (Given c.width (length c.bytes)) (Given x.chunk.width (length x.chunk.bytes)) (c.bytes ++ y) (x.chunk.bytes ++ after) e.1.0.0 x.fits.0 one in
-    let behind : after ≡ y = sym (append_same c.bytes x.chunk.bytes y after (ap (λ z. number_of z 0) o.1) o.2).1 in
-    (cs, (behind, e.1.1, λ text. (e.2 text).1))
+    let beyond : after ≡ y = sym (append_same c.bytes x.chunk.bytes y after (ap (λ z. number_of z 0) o.1) o.2).1 in
+    (cs, (beyond, e.1.1, λ text. (e.2 text).1))
 
 -- ---- byte strings
 
@@ -89,12 +93,12 @@ no_string_short w n input fits l t rest b r f s =
     let o = opened t ByteString (Given w n) input rest f fits (sym r) in
     short_at t w n input rest b l s o.1 o.2
 
-chunks_at : (t : Tree) (input rest b : List ℕ) → NoChunks ByteString input → Fits t → IsByteString t b → (opening t).1 ≡ Unbounded → contents t ++ rest ≡ input → ⊥
+chunks_at : (t : Tree) (input rest b : List ℕ) → NoChunks ByteString input → Fits t → IsByteString t b → (opening t).1 ≡ EndlessArgument → contents t ++ rest ≡ input → ⊥
 chunks_at (Bytes q v c) input rest b n f s g o = cc
 chunks_at (ByteChunks q cs) input rest b n f s g o = n cs rest (sym o ∙ append_assoc (flat_map (chunk_bytes ByteString) cs) (255 ∷ []) rest, f, λ e. (let z : ByteString ≡ TextString = e in absurd cc))
 chunks_at t input rest b n f s g o = s
 
-pub no_string_chunks : (input : List ℕ) → NoChunks ByteString input → NoByteString (head ByteString Unbounded ++ input)
+pub no_string_chunks : (input : List ℕ) → NoChunks ByteString input → NoByteString (head ByteString EndlessArgument ++ input)
 no_string_chunks input n t rest b r f s =
-    let o = opened t ByteString Unbounded input rest f tt (sym r) in
+    let o = opened t ByteString EndlessArgument input rest f tt (sym r) in
     chunks_at t input rest b n f s o.1 o.2

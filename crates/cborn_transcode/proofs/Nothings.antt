@@ -54,24 +54,24 @@ unfolding Only HoldsNoItem
 nothing_after room n input rest s some h = none_after MeansNothing room n input rest (λ t b. b) s some (λ tail t. h tail t)
 
 -- the nodes after those that are at the front
-record Behind (limit : ℕ) (mid : List ℕ) : Type 0 where
+record After (limit : ℕ) (mid : List ℕ) : Type 0 where
   nodes : List Tree
   items : List Value
   read : Wellformed limit (trees nodes) mid
   meant : AllZip Means nodes items
 
-behind : (limit : ℕ) (us ts : List Tree) (vs : List Value) (mid : List ℕ) → FitsAll (trees us) → FitsAll (trees ts) → depth_all (trees ts) ≤ limit → spelled_all (trees us) ++ mid ≡ spelled_all (trees ts) → AllZip Means ts vs → Behind limit mid
-behind limit [] ts vs mid f g d e m = record { nodes = ts; items = vs; read = record { spells = sym e; fit = g; shallow = d }; meant = m }
-behind limit (u ∷ us) [] vs mid f g d e m = absurd (omega (arith, some_byte u, ap length e, length-append (spelled u ++ spelled_all (trees us)) mid, length-append (spelled u) (spelled_all (trees us))))
-behind limit (u ∷ us) (t ∷ ts) [] mid f g d e m = absurd m
-behind limit (u ∷ us) (t ∷ ts) (v ∷ vs) mid f g d e m =
+after : (limit : ℕ) (us ts : List Tree) (vs : List Value) (mid : List ℕ) → FitsAll (trees us) → FitsAll (trees ts) → depth_all (trees ts) ≤ limit → spelled_all (trees us) ++ mid ≡ spelled_all (trees ts) → AllZip Means ts vs → After limit mid
+after limit [] ts vs mid f g d e m = record { nodes = ts; items = vs; read = record { spells = sym e; fit = g; shallow = d }; meant = m }
+after limit (u ∷ us) [] vs mid f g d e m = absurd (omega (arith, some_byte u, ap length e, length-append (spelled u ++ spelled_all (trees us)) mid, length-append (spelled u) (spelled_all (trees us))))
+after limit (u ∷ us) (t ∷ ts) [] mid f g d e m = absurd m
+after limit (u ∷ us) (t ∷ ts) (v ∷ vs) mid f g d e m =
     let one = one_front u t (spelled_all (trees us) ++ mid) (spelled_all (trees ts)) f.0 g.0 (sym (append_assoc (spelled u) (spelled_all (trees us)) mid) ∙ e) in
-    behind limit us ts vs mid f.1 g.1 (omega (arith, d)) one.1 m.1
+    after limit us ts vs mid f.1 g.1 (omega (arith, d)) one.1 m.1
 
-pub none_behind : {P : List Tree → Type 0} (limit n : ℕ) (input mid : List ℕ) → NodesRead P limit n input mid → HoldsNoItems limit mid → HoldsNoItems limit input
+pub none_further : {P : List Tree → Type 0} (limit n : ℕ) (input mid : List ℕ) → NodesRead P limit n input mid → HoldsNoItems limit mid → HoldsNoItems limit input
 unfolding HoldsNoItems
-none_behind limit n input mid s none nodes items w m =
-    let b = behind limit s.nodes nodes items mid s.fits w.fit w.shallow (sym s.read ∙ sym w.spells) m in
+none_further limit n input mid s none nodes items w m =
+    let b = after limit s.nodes nodes items mid s.fits w.fit w.shallow (sym s.read ∙ sym w.spells) m in
     none b.nodes b.items b.read b.meant
 
 -- items that nodes mean refute it

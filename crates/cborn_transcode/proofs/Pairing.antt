@@ -28,7 +28,7 @@ use Rattle.cborn_det.proofs.Steps.{pairs_push}
 use Rattle.cborn_det.proofs.Rising.{rises_after, rising_tail}
 use Rattle.cborn_transcode.specs.declared.entries.Span.{Span}
 use Rattle.cborn_transcode.specs.Transcoding.{IsEncodedAs, ArePairsEncodedAs, ArePairsWritten, IsMapWritten, ItemTranscoded, PairsTranscoded, MapTranscoded}
-use Rattle.cborn_transcode.proofs.Encoding.{appends_behind}
+use Rattle.cborn_transcode.proofs.Encoding.{appends_after}
 use Rattle.cborn_transcode.proofs.Keying.{spans_more, joined_more}
 
 -- ---- one pair more
@@ -108,7 +108,7 @@ module _ (order : List ℕ → List ℕ → Ordering) where
         (dict (pairs_of e.0), (pairs_of e.0, e.1, new, refl), (h, es, fs, subst (λ k. IsLeastHead 5 k h) count i, e.2, moved, rises, refl))
 
     pub map_written : (s : Size) (ns : List Pair) (old mid new : List ℕ) → FitsEntries (entries ns) → Short (spelled_entries (entries ns)) → Appends (IsLeastHead 5 (length ns)) old mid → IsMapWritten order mid new ns → Appends (IsEncodedAs order (Pairs 0 s (entries ns))) old new
-    map_written s ns old mid new f l a m = appends_behind old (joined m.arranged) a m.written (λ h. map_encoded s ns m.es m.arranged h f l m.encoded m.moved m.rises)
+    map_written s ns old mid new f l a m = appends_after old (joined m.arranged) a m.written (λ h. map_encoded s ns m.es m.arranged h f l m.encoded m.moved m.rises)
 
     pub map_done : {room n : ℕ} {input rest mid new : List ℕ} (old : List ℕ) (w : Width) → 1 ≤ room → Short input → WidthFits w n → Appends (IsLeastHead 5 n) old mid → MapTranscoded order (room - 1) n input rest mid new
         → ItemTranscoded order room (head Map (Given w n) ++ input) rest old new

@@ -6,7 +6,7 @@ use Rattle.cborn_model.specs.declared.heads.Major.TheVariants.{Unsigned, Negativ
 use Rattle.cborn_model.specs.declared.heads.Size.TheVariants.{Fixed, Endless}
 use Rattle.cborn_model.specs.declared.heads.Width.{Width}
 use Rattle.cborn_model.specs.declared.heads.Width.TheVariants.{Direct, One, Two, Four, Eight}
-use Rattle.cborn_model.specs.Heads.{Argument, Given, Unbounded, head, following, code, least, WidthFits}
+use Rattle.cborn_model.specs.Heads.{Argument, Given, EndlessArgument, head, following, code, least, WidthFits}
 use Rattle.cborn_model.specs.Spelled.{spelled, Fits}
 use Rattle.cborn_model.specs.Tree.{Tree, Uint, Nint, Bytes, Text, ByteChunks, TextChunks, Items, Pairs, Tagged, Simple}
 use Rattle.cborn_model.proofs.Numbers.Majors.{major_at-code}
@@ -15,12 +15,21 @@ use Rattle.cborn_wire.specs.declared.faults.WireReason.{WireReason}
 use Rattle.cborn_wire.specs.declared.heads.Head.{Head}
 use Rattle.cborn_wire.specs.declared.heads.HeadRead.{HeadRead}
 use Rattle.cborn_wire.specs.declared.heads.HeadRead.TheVariants.{Full, Short, Bad}
-use Rattle.cborn_wire.specs.HeadReading.{major_at, reason_alone, ArgumentFits, ReadsHead}
+use Rattle.cborn_wire.specs.HeadReading.{major_at, seen_argument, reason_alone, IsHeadOf, ArgumentFits, ReadsHead}
+use Rattle.cborn_transcode.specs.shared.Walking.{HasNoLeastHead}
 use Rattle.cborn_wire.specs.Slots.{element_or_end}
-use Rattle.cborn_wire.specs.shared.InitialBytes.{Info, Now, Next, Unended, info_at, head_reason}
+use Rattle.cborn_wire.specs.shared.InitialBytes.{Info, Now, Next, EndlessInformation, info_at, head_reason}
 use Rattle.cborn_wire.proofs.HeadReading.InitialBytes.{same_alone}
 use Rattle.cborn_wire.proofs.Machine.TakesHeads.{quotient, remainder, info_at-now}
 use Rattle.cborn_wire.proofs.Parts.Openings.{opening, contents, opens, opening_fits, one_argument}
+
+abbrev pub width_of : Argument → Width → Width
+width_of (Given w n) v = w
+width_of EndlessArgument v = v
+
+abbrev pub number_of : Argument → ℕ → ℕ
+number_of (Given w n) k = n
+number_of EndlessArgument k = k
 
 free_front : (m : Major) (i : ℕ) (j : Info) (y : List ℕ) → i < 32 → info_at i ≡ j → head_reason element_or_end false m j y ≡ None → reason_alone ((32 * code m + i) ∷ y) ≡ None
 free_front m i j y h e r =
@@ -65,8 +74,8 @@ pub simple_free : (n : ℕ) (y : List ℕ) → (n < 24) ⊎ ((32 ≤ n) × (n < 
 simple_free n y (inl l) = subst (λ w. reason_alone (head Other (Given w n) ++ y) ≡ None) (sym (least_direct n l)) (free_front Other n (Now n) y (omega arith) (info_at-now n l) refl)
 simple_free n y (inr l) = subst (λ w. reason_alone (head Other (Given w n) ++ y) ≡ None) (sym (least_one n (omega (arith, l.0)) l.1)) (free_front Other 24 (Next One) (n ∷ y) (omega arith) refl (one_free n y l.0))
 
-endless_free : (m : Major) (y : List ℕ) → head_reason element_or_end false m Unended y ≡ None → reason_alone (head m Unbounded ++ y) ≡ None
-endless_free m y r = free_front m 31 Unended y (omega arith) refl r
+endless_free : (m : Major) (y : List ℕ) → head_reason element_or_end false m EndlessInformation y ≡ None → reason_alone (head m EndlessArgument ++ y) ≡ None
+endless_free m y r = free_front m 31 EndlessInformation y (omega arith) refl r
 
 -- at the head of a node nothing is wrong
 opening_free : (t : Tree) (y : List ℕ) → Fits t → reason_alone (head (opening t).0 (opening t).1 ++ y) ≡ None
@@ -84,7 +93,7 @@ opening_free (Tagged q w n t) y f = given_free Tag w n y (λ e. cc) f.0
 opening_free (Simple q n) y f = simple_free n y (simple_cases n f)
 
 -- the bytes of a node, and what follows them
-split : (t : Tree) (input rest : List ℕ) → input ≡ spelled t ++ rest → input ≡ head (opening t).0 (opening t).1 ++ (contents t ++ rest)
+pub split : (t : Tree) (input rest : List ℕ) → input ≡ spelled t ++ rest → input ≡ head (opening t).0 (opening t).1 ++ (contents t ++ rest)
 split t input rest e = e ∙ ap (λ l. l ++ rest) (opens t) ∙ append_assoc (head (opening t).0 (opening t).1) (contents t) rest
 
 none_some : (o : Option WireReason) (r : WireReason) → o ≡ None → o ≡ Some r → ⊥
@@ -103,3 +112,21 @@ no_head_stands m a input y (Bad r) i other f free e = none_some (reason_alone in
 -- and no node
 pub no_head_begins : (t : Tree) (input rest : List ℕ) (r : HeadRead) → ReadsHead input r → ((h : Head) (n : ℕ) → r ≡ Full h n → ⊥) → Fits t → input ≡ spelled t ++ rest → ⊥
 no_head_begins t input rest r i other f e = no_head_stands (opening t).0 (opening t).1 input (contents t ++ rest) r i other (opening_fits t f) (opening_free t (contents t ++ rest) f) (split t input rest e)
+
+-- ---- shortest heads
+
+pub other_or_not : (m : Major) → (m ≡ Other) ⊎ (m ≡ Other → ⊥)
+other_or_not Other = inl refl
+other_or_not _ = inr (λ e. cc)
+
+-- what no head is read of
+pub no_least : (input : List ℕ) (r : HeadRead) → ReadsHead input r → ((h : Head) (n : ℕ) → r ≡ Full h n → ⊥) → HasNoLeastHead input
+no_least input r i other m n rest h simple = elim (other_or_not m) [
+  | inl o ↦ no_head_stands m (Given (least n) n) input rest r i other h.fits (subst (λ z. reason_alone (head z (Given (least n) n) ++ rest) ≡ None) (sym o) (simple_free n rest (simple_cases n (simple o)))) h.read
+  | inr o ↦ no_head_stands m (Given (least n) n) input rest r i other h.fits (given_free m (least n) n rest o h.fits) h.read
+]
+
+-- and what another head is read of
+pub other_least : (n : ℕ) (input : List ℕ) (h : Head) → IsHeadOf input h n → ((k : ℕ) → seen_argument h.argument ≡ Given (least k) k → ⊥) → HasNoLeastHead input
+other_least n input h i not m k rest r simple =
+    not k (sym (one_argument m (major_at h.major) (Given (least k) k) (seen_argument h.argument) rest i.rest r.fits i.fits (sym r.read ∙ i.whole)).1)

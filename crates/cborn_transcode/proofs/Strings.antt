@@ -5,7 +5,7 @@ use Rattle.cborn_model.specs.declared.heads.Major.{Major}
 use Rattle.cborn_model.specs.declared.heads.Major.TheVariants.{ByteString}
 use Rattle.cborn_model.specs.declared.heads.Width.{Width}
 use Rattle.cborn_model.specs.declared.nodes.Chunk.{Chunk}
-use Rattle.cborn_model.specs.Heads.{Given, Unbounded, head, WidthFits}
+use Rattle.cborn_model.specs.Heads.{Given, EndlessArgument, head, WidthFits}
 use Rattle.cborn_model.specs.Meaning.{joined_chunks}
 use Rattle.cborn_det.specs.Appending.{Appends}
 use Rattle.cborn_det.specs.Det.{IsInteger}
@@ -44,7 +44,7 @@ fixed_taken {n = n} {digits} old w input b l f bs ss v a = bytes_read 0 w f (str
 -- over chunks, which were gathered after what was there
 pub chunks_taken : {negative : Bool} {start : ℕ} {input after rest digits mid new : List ℕ} (old : List ℕ) → start ≡ length old → ChunksTaken ByteString input after old mid → after ≡ 255 ∷ rest
     → AreBytes digits → IsShortest digits → big_endian digits ≡ big_endian (drop start mid) → Appends (IsInteger negative digits) (take start mid) new
-    → BignumTaken negative (head ByteString Unbounded ++ input) rest old new
+    → BignumTaken negative (head ByteString EndlessArgument ++ input) rest old new
 chunks_taken {negative} {start} {digits = digits} {mid} {new} old e s t bs ss v a =
     let joined : List ℕ = joined_chunks s.chunks in
     let gathered : drop start mid ≡ joined = ap (drop start) s.holds.1 ∙ drop_at old joined start (sym e) in

@@ -23,9 +23,9 @@ use Rattle.cborn_transcode.proofs.Walking.{least_integer}
 abbrev wide_of : List ℕ → Width → Head
 wide_of x w = record { major = get_or x 0 0 / 32; argument = arguments.Given w (number w (take (width_bytes w) (drop 1 x))) }
 
-bytes_behind : (x : List ℕ) → AreBytes x → AreBytes (drop 1 x)
-bytes_behind [] h = tt
-bytes_behind (b ∷ x) h = h.1
+bytes_after : (x : List ℕ) → AreBytes x → AreBytes (drop 1 x)
+bytes_after [] h = tt
+bytes_after (b ∷ x) h = h.1
 
 low_not_other : (q : ℕ) → q < 2 → major_at q ≡ Other → ⊥
 low_not_other q low o =
@@ -36,7 +36,7 @@ wide_read : (x : List ℕ) (w : Width) → AreBytes x → get_or x 0 0 / 32 < 2 
 wide_read x w are m i l =
     let same : code (major_at (get_or x 0 0 / 32)) ≡ get_or x 0 0 / 32 = code_at (get_or x 0 0 / 32) (omega arith) in
     wide_fronts x (drop 1 x) (Full (wide_of x w) (1 + width_bytes w)) (major_at (get_or x 0 0 / 32)) w refl (omega arith) same i (low_not_other (get_or x 0 0 / 32) m)
-    (λ b e j free. wide_head (drop 1 x) b (get_or x 0 0 / 32) (number w (take (width_bytes w) (drop 1 x))) (width_bytes w) w (omega arith) (e ∙ same) j (bytes_behind x are) (let k : width_bytes w ≤ length (drop 1 x) = omega (arith, length-drop 1 x) in k) refl refl free)
+    (λ b e j free. wide_head (drop 1 x) b (get_or x 0 0 / 32) (number w (take (width_bytes w) (drop 1 x))) (width_bytes w) w (omega arith) (e ∙ same) j (bytes_after x are) (let k : width_bytes w ≤ length (drop 1 x) = omega (arith, length-drop 1 x) in k) refl refl free)
 
 direct_read : (x : List ℕ) → AreBytes x → 1 ≤ length x → get_or x 0 0 / 32 < 2 → get_or x 0 0 % 32 < 24 → IsHeadOf x (record { major = get_or x 0 0 / 32; argument = arguments.Given Direct (get_or x 0 0 % 32) }) 1
 direct_read x are some low h =

@@ -1,4 +1,3 @@
-pub mod Departing
 pub mod Transcoding
 pub mod shared
 pub mod devices

@@ -1,5 +1,4 @@
 pub mod Blaming
-pub mod Departing
 pub mod Encoding
 pub mod Missing
 pub mod Laying

@@ -8,8 +8,7 @@ ghost use Rattle.cborn_transcode.specs.declared.entries.Unarranged.TheVariants.{
 ghost use Rattle.cborn_transcode.specs.Transcoding.{spanned, all_spanned, AreSpans, AreLaid};
 ghost use Rattle.cborn_transcode.specs.devices.Laying.{unhinted, AreApart, Follow};
 
-use crate::entries::{Span, Unarranged, compare_keys, key_in, pair_in, pair_len};
-use crate::walked_leaves::rises_above;
+use crate::entries::{Span, Unarranged, compare_keys, key_in, pair_in, pair_len, rises_above};
 use cborn_model::KeyOrder;
 use std::alloc::{AllocError, Global};
 use std::cmp::Ordering;
@@ -205,7 +204,7 @@ fn total_len(spans: &[Span]) -> usize {
 #[inline(always)]
 fn sort_rising<O: KeyOrder>(written: &[u8], spans: &mut Vec<Span>) -> bool
     ensures moved { IsPermutation spans.old.items spans.new.items }
-    ensures told { IsTrue result → Rising O.order (keys (all_spanned written.now spans.new.items)) }
+    ensures reported { IsTrue result → Rising O.order (keys (all_spanned written.now spans.new.items)) }
     ensures rising { HasDistinctKeys (all_spanned written.now spans.old.items) → IsTrue result }
 {
     sort_by_hints::<O>(written, spans);

@@ -4,13 +4,13 @@
 ghost use Rattle.std.specs.Prelude.{◌≡◌, ◌++◌, ◌∷◌, [], OnOk};
 ghost use Rattle.cborn_det.specs.Appending.{Appends};
 ghost use Rattle.cborn_transcode.specs.Transcoding.{IsEncodedAs};
-ghost use Rattle.cborn_transcode.specs.devices.Encoding.{ChunksOpen, ItemsOpen, PairsOpen, KeyNext, ValueNext, TagOpen, MapBegun};
+ghost use Rattle.cborn_transcode.specs.devices.Encoding.{ChunksOpen, ItemsOpen, PairsOpen, KeyNext, ValueNext, TagOpen, StartsMap};
 ghost use Rattle.cborn_transcode.specs.devices.Blaming.{Blamed, blamed_rises};
 
 use crate::arranging::arrange;
 use crate::entries::{Span, Unarranged, push_span};
+use crate::key_notes::KeyNotes;
 use crate::leaves::{is_bad_text, joined_len, put_bignum, put_string, put_string_head, set_string};
-use crate::noting::Noting;
 use crate::places::{Great, put_great};
 use crate::runs::put_run;
 use cborn_descent::{Descent, Opening, Sink};
@@ -23,7 +23,7 @@ use std::marker::PhantomData;
 #[derive(Drop)]
 pub(crate) struct Encoder<'n, O, N> {
     alloc: Global,
-    noting: &'n mut N,
+    notes: &'n mut N,
     /// Where it stopped since memory was refused, the error of that growth. Where it stopped at what
     /// means nothing, none.
     pub refused: Option<AllocError>,
@@ -54,15 +54,15 @@ pub(crate) struct OpenMap {
     pub spans: Vec<Span>,
 }
 
-impl<'n, O: KeyOrder, N: Noting<O>> Encoder<'n, O, N> {
+impl<'n, O: KeyOrder, N: KeyNotes<O>> Encoder<'n, O, N> {
     /// Writes at the end of `out`.
     #[inline(always)]
-    pub(crate) fn new(alloc: Global, noting: &'n mut N, out: Vec<u8>) -> Encoder<'n, O, N>
+    pub(crate) fn new(alloc: Global, notes: &'n mut N, out: Vec<u8>) -> Encoder<'n, O, N>
         ensures { result.out.items ≡ out.items }
     {
         Encoder {
             alloc,
-            noting,
+            notes,
             refused: None,
             out,
             order: PhantomData,
@@ -70,7 +70,7 @@ impl<'n, O: KeyOrder, N: Noting<O>> Encoder<'n, O, N> {
     }
 }
 
-impl<'n, O: KeyOrder, N: Noting<O>> Sink for Encoder<'n, O, N> {
+impl<'n, O: KeyOrder, N: KeyNotes<O>> Sink for Encoder<'n, O, N> {
     type Chunks = OpenString;
 
     type Array = usize;
@@ -152,7 +152,7 @@ impl<'n, O: KeyOrder, N: Noting<O>> Sink for Encoder<'n, O, N> {
     #[inline(always)]
     fn chunk(
         &mut self,
-        _begun: &mut OpenString,
+        _started: &mut OpenString,
         text: bool,
         _index: u64,
         _width: Width,
@@ -173,11 +173,11 @@ impl<'n, O: KeyOrder, N: Noting<O>> Sink for Encoder<'n, O, N> {
     }
 
     #[inline(always)]
-    fn close_chunks(&mut self, begun: OpenString, text: bool, _count: u64) -> Option<()> {
-        if (self.out.len() - begun.start) as u64 == begun.len {
+    fn close_chunks(&mut self, started: OpenString, text: bool, _count: u64) -> Option<()> {
+        if (self.out.len() - started.start) as u64 == started.len {
             return Some(());
         }
-        match set_string(self.alloc, text, begun.head, begun.start, &mut self.out) {
+        match set_string(self.alloc, text, started.head, started.start, &mut self.out) {
             Ok(()) => Some(()),
             Err(e) => {
                 self.refused = Some(e);
@@ -212,7 +212,7 @@ impl<'n, O: KeyOrder, N: Noting<O>> Sink for Encoder<'n, O, N> {
     #[inline(always)]
     fn integers(
         &mut self,
-        _begun: &mut usize,
+        _started: &mut usize,
         _index: u64,
         most: u64,
         bytes: &[u8],
@@ -229,7 +229,7 @@ impl<'n, O: KeyOrder, N: Noting<O>> Sink for Encoder<'n, O, N> {
     #[inline(always)]
     fn before_item(
         &mut self,
-        _begun: &mut usize,
+        _started: &mut usize,
         _index: u64,
         _may_end: bool,
         _bytes: &[u8],
@@ -238,16 +238,16 @@ impl<'n, O: KeyOrder, N: Noting<O>> Sink for Encoder<'n, O, N> {
     }
 
     #[inline(always)]
-    fn after_item(&mut self, _begun: &mut usize) -> Option<()> {
+    fn after_item(&mut self, _started: &mut usize) -> Option<()> {
         Some(())
     }
 
     #[inline(always)]
-    fn close_array(&mut self, begun: usize, endless: bool, count: u64) -> Option<()> {
+    fn close_array(&mut self, started: usize, endless: bool, count: u64) -> Option<()> {
         if !endless {
             return Some(());
         }
-        match set_head(self.alloc, Major::Array, count, begun, &mut self.out) {
+        match set_head(self.alloc, Major::Array, count, started, &mut self.out) {
             Ok(()) => Some(()),
             Err(e) => {
                 self.refused = Some(e);
@@ -259,8 +259,8 @@ impl<'n, O: KeyOrder, N: Noting<O>> Sink for Encoder<'n, O, N> {
     #[inline(always)]
     fn open_map(&mut self, _width: Width, n: u64, rest: &[u8]) -> Opening<OpenMap> {
         match begin_map::<O>(self.alloc, n, rest, &mut self.out) {
-            Ok(Begun::Whole(left)) => Opening::Whole(Descent::Taken(left)),
-            Ok(Begun::Inside(begun)) => Opening::Inside(begun),
+            Ok(MapStart::Whole(left)) => Opening::Whole(Descent::Taken(left)),
+            Ok(MapStart::Inside(started)) => Opening::Inside(started),
             Err(Unarranged::RepeatedKey) => {
                 self.refused = None;
                 Opening::Whole(Descent::Stopped)
@@ -294,13 +294,13 @@ impl<'n, O: KeyOrder, N: Noting<O>> Sink for Encoder<'n, O, N> {
     #[inline(always)]
     fn before_key(
         &mut self,
-        begun: &mut OpenMap,
+        started: &mut OpenMap,
         _index: u64,
         _may_end: bool,
         bytes: &[u8],
     ) -> Option<()> {
-        begun.key = self.out.len();
-        match self.noting.enter(bytes.len()) {
+        started.key = self.out.len();
+        match self.notes.enter(bytes.len()) {
             Ok(()) => Some(()),
             Err(e) => {
                 self.refused = Some(e);
@@ -310,9 +310,9 @@ impl<'n, O: KeyOrder, N: Noting<O>> Sink for Encoder<'n, O, N> {
     }
 
     #[inline(always)]
-    fn before_value(&mut self, begun: &mut OpenMap, bytes: &[u8], left: usize) -> Option<()> {
-        begun.middle = self.out.len();
-        match self.noting.leave(bytes, left, &self.out[begun.key..]) {
+    fn before_value(&mut self, started: &mut OpenMap, bytes: &[u8], left: usize) -> Option<()> {
+        started.middle = self.out.len();
+        match self.notes.leave(bytes, left, &self.out[started.key..]) {
             Ok(()) => Some(()),
             Err(e) => {
                 self.refused = Some(e);
@@ -322,8 +322,8 @@ impl<'n, O: KeyOrder, N: Noting<O>> Sink for Encoder<'n, O, N> {
     }
 
     #[inline(always)]
-    fn after_value(&mut self, begun: &mut OpenMap) -> Option<()> {
-        match push_span::<O>(begun.key, begun.middle, &self.out, &mut begun.spans) {
+    fn after_value(&mut self, started: &mut OpenMap) -> Option<()> {
+        match push_span::<O>(started.key, started.middle, &self.out, &mut started.spans) {
             Ok(()) => Some(()),
             Err(e) => {
                 self.refused = Some(e);
@@ -333,12 +333,12 @@ impl<'n, O: KeyOrder, N: Noting<O>> Sink for Encoder<'n, O, N> {
     }
 
     #[inline(always)]
-    fn close_map(&mut self, begun: OpenMap, endless: bool, count: u64) -> Option<()> {
+    fn close_map(&mut self, started: OpenMap, endless: bool, count: u64) -> Option<()> {
         let OpenMap {
             start,
             mut spans,
             ..
-        } = begun;
+        } = started;
         match arrange::<O>(self.alloc, &mut spans, start, &mut self.out) {
             Ok(()) => {}
             Err(Unarranged::RepeatedKey) => {
@@ -406,8 +406,8 @@ fn put_place(out: &mut Vec<u8>) -> Result<(), AllocError>
     Ok(())
 }
 
-/// A map that was begun.
-pub(crate) enum Begun {
+/// A map whose head was written.
+pub(crate) enum MapStart {
     /// Its pairs are to be written.
     Inside(OpenMap),
     /// They were, and so many bytes follow it.
@@ -425,16 +425,16 @@ fn begin_map<O: KeyOrder>(
     n: u64,
     bytes: &[u8],
     out: &mut Vec<u8>,
-) -> Result<Begun, Unarranged>
-    ensures { MapBegun O.order n bytes.now out.old.items out.new.items result }
+) -> Result<MapStart, Unarranged>
+    ensures { StartsMap O.order n bytes.now out.old.items out.new.items result }
 {
     put_head(Major::Map, n, out)?;
-    if let Great::Behind(left) = put_great::<O>(alloc, n, bytes, out)? {
-        return Ok(Begun::Whole(left));
+    if let Great::After(left) = put_great::<O>(alloc, n, bytes, out)? {
+        return Ok(MapStart::Whole(left));
     }
     let start = out.len();
     let spans = Vec::with_capacity(alloc, n.min(64) as usize)?;
-    Ok(Begun::Inside(OpenMap {
+    Ok(MapStart::Inside(OpenMap {
         start,
         key: start,
         middle: start,

@@ -1,10 +1,12 @@
 //! The pairs of a map, whose keys and values lie one after another in a buffer, and how two of them
 //! compare.
 
-ghost use Rattle.std.specs.Prelude.{◌≡◌, ◌+◌, ◌-◌, ◌≤◌, ◌<◌, ◌^◌, ◌++◌, ◌∷◌, [], length, take, drop, OnOk};
+ghost use Rattle.std.specs.Prelude.{◌≡◌, ◌+◌, ◌-◌, ◌≤◌, ◌<◌, ◌^◌, ◌++◌, ◌∷◌, [], length, take, drop, false, IsTrue, OnOk};
+ghost use Rattle.cborn_det.specs.shared.KeyBefore.{Below};
 ghost use Rattle.cborn_transcode.specs.declared.entries.Span.{Span};
 ghost use Rattle.cborn_transcode.specs.declared.entries.Unarranged.TheVariants.{OutOfMemory};
 ghost use Rattle.cborn_transcode.specs.Transcoding.{spanned};
+ghost use Rattle.cborn_transcode.specs.shared.Walking.{IsFallen};
 
 use cborn_model::KeyOrder;
 use std::alloc::{AllocError, AllocFailed};
@@ -67,6 +69,19 @@ pub(crate) fn compare_keys<O: KeyOrder>(written: &[u8], a: &Span, b: &Span) -> O
     ensures { result ≡ O.order (spanned written.now a.now).0 (spanned written.now b.now).0 }
 {
     O::compare(key_in(written, a), key_in(written, b))
+}
+
+/// Whether `key`, encoded, is above the key before it in the order `O` (RFC 8949 section 4.2.1), or
+/// none is before it. Takes no memory.
+#[inline(always)]
+pub fn rises_above<O: KeyOrder>(before: Option<&[u8]>, key: &[u8]) -> bool
+    ensures rises { IsTrue result → Below O.order before.entry key.now }
+    ensures falls { result ≡ false → IsFallen O.order before.entry key.now }
+{
+    match before {
+        Some(before) => O::compare(before, key).is_lt(),
+        None => true,
+    }
 }
 
 /// Whether the order seems to compare lengths first.

@@ -7,13 +7,13 @@ ghost use Rattle.cborn_model.specs.Bytes.{AreBytes, IsShortest, big_endian};
 ghost use Rattle.cborn_det.specs.Appending.{Appends};
 ghost use Rattle.cborn_det.specs.Det.{IsInteger, IsString, bignum_tag};
 ghost use Rattle.cborn_descent.specs.Descending.{major_of};
-ghost use Rattle.cborn_model.specs.Heads.{code, IsLeastHead, Given, Unbounded, head, WidthFits};
+ghost use Rattle.cborn_model.specs.Heads.{code, IsLeastHead, Given, EndlessArgument, head, WidthFits};
 ghost use Rattle.cborn_transcode.specs.Transcoding.{ContentTaken, ChunkTaken, ChunksTaken, BignumTaken};
 ghost use Rattle.cborn_transcode.specs.devices.Missing.{NoChunk, NoChunks, NoByteString};
 
 use cborn_det::{integer_major, number_of, put_head};
 use cborn_model::{Major, without_zeros};
-use cborn_wire::{Argument, HeadRead, behind_break, read_head};
+use cborn_wire::{Argument, HeadRead, after_break, read_head};
 use std::alloc::{AllocError, Global};
 
 /// Whether the bytes are UTF-8.
@@ -121,7 +121,7 @@ fn put_chunks<'a>(bytes: &'a [u8], out: &mut Vec<u8>) -> Result<Option<&'a [u8]>
 {
     let mut rest = bytes;
     'chunks: loop {
-        if let Some(after) = behind_break(rest) {
+        if let Some(after) = after_break(rest) {
             return Ok(Some(after));
         }
         let Some(after) = put_chunk(rest, out)? else {
@@ -230,7 +230,7 @@ fn put_long_bignum<'a>(
     bytes: &'a [u8],
     out: &mut Vec<u8>,
 ) -> Result<Option<&'a [u8]>, AllocError>
-    ensures { IfOk result (λ found. MatchOption found (NoByteString (head ByteString Unbounded ++ bytes.now)) (λ rest. BignumTaken negative (head ByteString Unbounded ++ bytes.now) rest.now out.old.items out.new.items)) }
+    ensures { IfOk result (λ found. MatchOption found (NoByteString (head ByteString EndlessArgument ++ bytes.now)) (λ rest. BignumTaken negative (head ByteString EndlessArgument ++ bytes.now) rest.now out.old.items out.new.items)) }
 {
     let start = out.len();
     let Some(rest) = put_chunks(bytes, out)? else {

@@ -6,9 +6,10 @@ use std::alloc::{AllocError, Global};
 /// hold the place where it stopped. No clause says so; a test does.
 #[derive(Drop)]
 pub struct OpenKeys {
-    /// Of each how many bytes there are from there on, the outermost first.
+    /// Of each key how many bytes there are from its start to the end of the input, the outermost
+    /// first.
     lefts: Vec<usize>,
-    /// How many of them the caller has come past.
+    /// How many of these keys the caller has passed.
     passed: usize,
 }
 
@@ -21,8 +22,9 @@ impl OpenKeys {
         }
     }
 
-    /// Whether a pass stopped inside the key with `left` bytes from there on. The caller goes over the
-    /// input from the front to the end, and asks of each key before those after it.
+    /// Whether a pass stopped inside the key with `left` bytes from its start to the end of the input.
+    /// The caller goes over the input from the front to the end, and asks of each key before those after
+    /// it.
     #[inline(always)]
     pub fn has_key(&mut self, left: usize) -> bool {
         !self.lefts.is_empty() && self.come_to(left)
@@ -47,7 +49,7 @@ impl OpenKeys {
         false
     }
 
-    /// The key with `left` bytes from there on begins.
+    /// The key with `left` bytes from its start to the end of the input begins.
     ///
     /// # Errors
     /// Memory was refused.

@@ -5,7 +5,7 @@ ghost use Rattle.cborn_transcode.specs.Transcoding.{ItemTranscoded, ItemsTransco
 
 use crate::encodings::Encoder;
 use crate::items::put_item;
-use crate::noting::Nothing;
+use crate::key_notes::NoNotes;
 use crate::open_keys::OpenKeys;
 use cborn_descent::{Descent, descend};
 use cborn_model::{KeyOrder, Limit};
@@ -86,8 +86,8 @@ fn put_all<O: KeyOrder>(
     let mut out = Vec::with_capacity(alloc, bytes.len())?;
     let (own, others) = bytes.split_at(front);
     out.extend_from_slice(own)?;
-    let mut noting = Nothing;
-    let mut encoder: Encoder<O, Nothing> = Encoder::new(alloc, &mut noting, out);
+    let mut notes = NoNotes;
+    let mut encoder: Encoder<O, NoNotes> = Encoder::new(alloc, &mut notes, out);
     let mut rest = others;
     'items: while !rest.is_empty() {
         match descend(&mut encoder, room, rest) {

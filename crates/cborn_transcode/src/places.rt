@@ -18,7 +18,7 @@ use std::cmp::Ordering;
 /// first pair is written.
 #[derive(Clone, Copy)]
 pub(crate) struct PairPlace {
-    /// As that of a span.
+    /// A number that rises with the key, as a rule. What is written doesn't rest on it.
     pub hint: u64,
     /// How many bytes are before the key.
     pub start: u32,
@@ -109,22 +109,22 @@ fn place_of<O: KeyOrder>(start: usize, middle: usize, end: usize, bytes: &[u8]) 
     })
 }
 
-/// From how many announced pairs on it is tried first to write them from where they are: fewer
-/// need little room either way.
+/// The pairs of a map that announces fewer aren't written from where they are: they need little room
+/// either way.
 const GREAT: u64 = 1000;
 
 /// What became of the pairs of a map that may be great.
 #[derive(Clone, Copy)]
 pub(crate) enum Great {
     /// They are written; so many bytes follow them.
-    Behind(usize),
+    After(usize),
     /// They aren't many, or some don't suit, or the hints don't suit the order. Nothing is written.
     Unfit,
 }
 
 /// Appends the `n` pairs at the front of `bytes` straight from there, so arranged that their keys
-/// rise, if they are many, and none is long, out of its deterministic encoding, or holds other items.
-/// An error where two keys are equal.
+/// rise, if they are many, and each key and value is short, its own deterministic encoding and without
+/// children. An error where two keys are equal.
 #[inline(always)]
 pub(crate) fn put_great<O: KeyOrder>(
     alloc: Global,
@@ -156,7 +156,7 @@ fn put_many<O: KeyOrder>(
         return Ok(Great::Unfit);
     };
     match put_places::<O>(bytes, &mut places, out)? {
-        Placed::All => Ok(Great::Behind(left)),
+        Placed::All => Ok(Great::After(left)),
         Placed::UpToFall => {
             out.truncate(start);
             Ok(Great::Unfit)

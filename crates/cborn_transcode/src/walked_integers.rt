@@ -1,13 +1,13 @@
-//! Integers that a walk takes with few branches, since their widths can't be foretold.
+//! Integers read in place with few branches, since their widths can't be foretold.
 
 ghost use Rattle.std.specs.Prelude.{◌≡◌, ◌≤◌, ◌<◌, ℕ, List, length, drop};
 ghost use Rattle.std.specs.declared.cmp.Ordering.{Ordering};
 ghost use Rattle.cborn_transcode.specs.shared.Walking.{IsIntegerForm, top_of, ItemWalked};
 
-/// The length of the integer at the front, if its head is the shortest and nine bytes or more are
-/// left; else 0.
+/// The length in bytes of the integer at the front of the bytes, if its head is the shortest (RFC 8949
+/// section 4.2.1) and the bytes are nine or more; else 0. Takes no memory.
 #[inline(always)]
-pub(crate) fn int_len(bytes: &[u8]) -> usize
+pub fn int_len(bytes: &[u8]) -> usize
     ensures len { result ≤ length bytes.now }
     ensures walked { 0 < result → (order : List ℕ → List ℕ → Ordering) (room : ℕ) → ItemWalked order room bytes.now (drop result bytes.now) }
 {

@@ -1,4 +1,4 @@
--- A scan that keeps only how much is open finds what the machine finds.
+-- A scan, which keeps only what is missing, finds what the machine finds.
 pub mod OpenLevels
 pub mod ScanItems
 pub mod ScanHeads

@@ -17,7 +17,7 @@ pub record AreComplete (limit p : ℕ) (items : List Tree) (x : List ℕ) : Type
   pub placed : PlacedAll p (trees items)
   pub longest : (f y : List ℕ) (others : List Tree) → x ≡ f ++ y → Wellformed limit (trees others) f → length f ≤ length front
 
--- What contracts see of a feeder: its limit, the number of bytes that it accepted, the bytes from the first item on that wasn't taken, the items to take, and the fault for which it refused a piece. After that the bytes mean nothing.
+-- What contracts see of a feeder: its limit, the number of bytes that it accepted, the bytes from the first item that wasn't taken on, the items to take, and the fault for which it refused a piece. Once it refused one, the bytes mean nothing.
 pub record Feeding : Type 0 where
   pub limit : ℕ
   pub fed : ℕ

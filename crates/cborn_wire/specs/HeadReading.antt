@@ -3,7 +3,7 @@ use Rattle.std.specs.Prelude.{◌≡◌, ℕ, ◌<◌, List, ◌++◌, length, O
 use Rattle.cborn_model.specs.declared.heads.Size.{Size}
 use Rattle.cborn_model.specs.declared.heads.Size.TheVariants.{Fixed, Endless}
 use Rattle.cborn_model.specs.declared.heads.Major.{Major}
-use Rattle.cborn_model.specs.Heads.{WidthFits, Given, Unbounded, head}
+use Rattle.cborn_model.specs.Heads.{WidthFits, Given, EndlessArgument, head}
 pub use Rattle.cborn_model.specs.Heads.{major_at}
 use Rattle.cborn_model.specs.Heads as heads
 use Rattle.cborn_wire.specs.declared.faults.WireReason.{WireReason}
@@ -17,7 +17,7 @@ use Rattle.cborn_wire.specs.SlotFaults.{reason_at}
 
 abbrev pub seen_argument : Argument → heads.Argument
 seen_argument (arguments.Given w n) = Given w n
-seen_argument arguments.Endless = Unbounded
+seen_argument arguments.Endless = EndlessArgument
 
 abbrev pub seen_size : Argument → Size
 seen_size (arguments.Given w n) = Fixed w
@@ -26,7 +26,7 @@ seen_size arguments.Endless = Endless
 -- the argument fits its width
 abbrev pub ArgumentFits : heads.Argument → Type 0
 ArgumentFits (Given w n) = WidthFits w n
-ArgumentFits Unbounded = Unit {0}
+ArgumentFits EndlessArgument = Unit {0}
 
 -- The first line of the table of faults that applies to these bytes wherever an item or a break is allowed: a reserved information, an indefinite length that isn't allowed, a float, a bad simple value.
 abbrev pub reason_alone : List ℕ → Option WireReason

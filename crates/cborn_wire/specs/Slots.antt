@@ -4,7 +4,7 @@ use Rattle.cborn_model.specs.declared.heads.Width.{Width}
 use Rattle.cborn_model.specs.declared.nodes.Chunk.{Chunk}
 use Rattle.cborn_model.specs.declared.heads.Major.{Major}
 use Rattle.cborn_model.specs.declared.heads.Major.TheVariants.{ByteString, TextString, Array, Map, Tag}
-use Rattle.cborn_model.specs.Heads.{WidthFits, Argument, Given, Unbounded, head}
+use Rattle.cborn_model.specs.Heads.{WidthFits, Argument, Given, EndlessArgument, head}
 use Rattle.cborn_model.specs.Tree.{Tree, Trees, Entries, count, count_entries, depth, depth_all, depth_entries}
 use Rattle.cborn_model.specs.Spelled.{chunks, spelled, spelled_all, spelled_entries, ChunksFit, Fits, FitsAll, FitsEntries}
 
@@ -22,69 +22,70 @@ pub data Slot : Type 0 where
   chunk : StringKind → Slot
 
 -- An open container with its complete parts so far: its head was read, and its end wasn't. The first number of each is the offset of its head.
-pub data Begun : Type 0 where
-  begun_items : ℕ → Argument → Trees → Begun
-  begun_pairs : ℕ → Argument → Entries → Begun
+pub data OpenContainer : Type 0 where
+  opened_items : ℕ → Argument → Trees → OpenContainer
+  opened_pairs : ℕ → Argument → Entries → OpenContainer
   -- a map, up to a key whose value is missing
-  begun_value : ℕ → Argument → Entries → Tree → Begun
-  begun_tag : ℕ → Width → ℕ → Begun
-  begun_chunks : ℕ → StringKind → List Chunk → Begun
+  opened_value : ℕ → Argument → Entries → Tree → OpenContainer
+  opened_tag : ℕ → Width → ℕ → OpenContainer
+  opened_chunks : ℕ → StringKind → List Chunk → OpenContainer
 
 -- the bytes that it has so far (RFC 8949 sections 3.1 to 3.4)
-abbrev pub beginning : Begun → List ℕ
-beginning (begun_items p a ts) = head Array a ++ spelled_all ts
-beginning (begun_pairs p a es) = head Map a ++ spelled_entries es
-beginning (begun_value p a es k) = head Map a ++ spelled_entries es ++ spelled k
-beginning (begun_tag p w n) = head Tag (Given w n)
-beginning (begun_chunks p k cs) = chunks (major_of k) cs
+abbrev pub beginning : OpenContainer → List ℕ
+beginning (opened_items p a ts) = head Array a ++ spelled_all ts
+beginning (opened_pairs p a es) = head Map a ++ spelled_entries es
+beginning (opened_value p a es k) = head Map a ++ spelled_entries es ++ spelled k
+beginning (opened_tag p w n) = head Tag (Given w n)
+beginning (opened_chunks p k cs) = chunks (major_of k) cs
 
 -- one inside another, the innermost first
-abbrev pub beginnings : List Begun → List ℕ
+abbrev pub beginnings : List OpenContainer → List ℕ
 beginnings [] = []
 beginnings (o ∷ os) = beginnings os ++ beginning o
 
-abbrev pub slot_in : Begun → Slot
-slot_in (begun_items p Unbounded ts) = element_or_end
-slot_in (begun_pairs p Unbounded es) = key_or_end
-slot_in (begun_value p a es k) = value
-slot_in (begun_chunks p k cs) = chunk k
+abbrev pub slot_in : OpenContainer → Slot
+slot_in (opened_items p EndlessArgument ts) = element_or_end
+slot_in (opened_pairs p EndlessArgument es) = key_or_end
+slot_in (opened_value p a es k) = value
+slot_in (opened_chunks p k cs) = chunk k
 slot_in _ = item
 
-abbrev pub slot : List Begun → Slot
+abbrev pub slot : List OpenContainer → Slot
 slot [] = item
 slot (o ∷ os) = slot_in o
 
-abbrev pub levels : Begun → ℕ
-levels (begun_chunks p k cs) = 0
-levels _ = 1
+-- how much it adds to the nesting depth
+abbrev pub added_depth : OpenContainer → ℕ
+added_depth (opened_chunks p k cs) = 0
+added_depth _ = 1
 
 -- how many arrays, maps and tags are open
-abbrev pub open_depth : List Begun → ℕ
+abbrev pub open_depth : List OpenContainer → ℕ
 open_depth [] = 0
-open_depth (o ∷ os) = levels o + open_depth os
+open_depth (o ∷ os) = added_depth o + open_depth os
 
 -- the head announces more than the k parts that there are so far
 abbrev pub HasRoom : Argument → ℕ → Type 0
 HasRoom (Given w n) k = WidthFits w n × (k < n)
-HasRoom Unbounded k = Unit {0}
+HasRoom EndlessArgument k = Unit {0}
 
 abbrev pub IsNoChunk : Slot → Type 0
 IsNoChunk (chunk k) = ⊥
 IsNoChunk _ = Unit {0}
 
 -- This may be open inside k arrays, maps and tags: it has room for a further part, and neither it nor what it has so far is too deep.
-abbrev pub MayBegin : ℕ → ℕ → Begun → Type 0
-MayBegin limit k (begun_items p a ts) = HasRoom a (count ts) × FitsAll ts × (k + suc (depth_all ts) ≤ limit)
-MayBegin limit k (begun_pairs p a es) = HasRoom a (count_entries es) × FitsEntries es × (k + suc (depth_entries es) ≤ limit)
-MayBegin limit k (begun_value p a es t) = HasRoom a (count_entries es) × FitsEntries es × (k + suc (depth_entries es) ≤ limit) × Fits t × (k + suc (depth t) ≤ limit)
-MayBegin limit k (begun_tag p w n) = WidthFits w n × (k < limit)
-MayBegin limit k (begun_chunks p kind cs) = ChunksFit cs
+abbrev pub MayBegin : ℕ → ℕ → OpenContainer → Type 0
+MayBegin limit k (opened_items p a ts) = HasRoom a (count ts) × FitsAll ts × (k + suc (depth_all ts) ≤ limit)
+MayBegin limit k (opened_pairs p a es) = HasRoom a (count_entries es) × FitsEntries es × (k + suc (depth_entries es) ≤ limit)
+MayBegin limit k (opened_value p a es t) = HasRoom a (count_entries es) × FitsEntries es × (k + suc (depth_entries es) ≤ limit) × Fits t × (k + suc (depth t) ≤ limit)
+MayBegin limit k (opened_tag p w n) = WidthFits w n × (k < limit)
+MayBegin limit k (opened_chunks p kind cs) = ChunksFit cs
 
 -- each may be open inside those that follow it, and none is inside an indefinite string
-abbrev pub AreBegun : ℕ → List Begun → Type 0
-AreBegun limit [] = Unit {0}
-AreBegun limit (o ∷ os) = MayBegin limit (open_depth os) o × IsNoChunk (slot os) × AreBegun limit os
+abbrev pub AreOpen : ℕ → List OpenContainer → Type 0
+AreOpen limit [] = Unit {0}
+AreOpen limit (o ∷ os) = MayBegin limit (open_depth os) o × IsNoChunk (slot os) × AreOpen limit os
 
 -- The front f of some input ends at the slot s inside k open arrays, maps and tags: it is complete items, and the beginnings of what is open at its end.
 abbrev pub Open : ℕ → List ℕ → Slot → ℕ → Type 0
-Open limit f s k = (ts : Trees) × (os : List Begun) × FitsAll ts × (depth_all ts ≤ limit) × AreBegun limit os × (f ≡ spelled_all ts ++ beginnings os) × (s ≡ slot os) × (k ≡ open_depth os)
+Open limit f s k = (ts : Trees) × (os : List OpenContainer) × FitsAll ts × (depth_all ts ≤ limit) × AreOpen limit os × (f ≡ spelled_all ts ++ beginnings os) × (s ≡ slot os) × (k ≡ open_depth os)

@@ -2,4 +2,4 @@ pub mod FeedingCode
 pub mod StackView
 pub mod FeederView
 pub mod StackKeeps
-pub mod Standing
+pub mod StackState

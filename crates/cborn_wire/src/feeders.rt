@@ -24,9 +24,9 @@ impl Model for Feeder {
 
     ghost coded = { feeding_code };
 
-    ghost use Rattle.cborn_wire.specs.devices.FeederView.{told, Keeps};
+    ghost use Rattle.cborn_wire.specs.devices.FeederView.{seen_feeder, Keeps};
 
-    ghost view = { told };
+    ghost view = { seen_feeder };
 
     ghost invariant = { Keeps };
 }

@@ -8,7 +8,7 @@ ghost use Rattle.cborn_wire.specs.shared.Machine.{finished};
 ghost use Rattle.cborn_wire.specs.devices.StackView.{opened, open_len, around, Gives, PutLeaves};
 
 use crate::WireFault;
-use crate::frames::Frame;
+use crate::containers::Container;
 use crate::nests::{Nest, Outcome};
 use cborn_model::{Node, push_doubling};
 
@@ -19,27 +19,27 @@ impl Nest {
     pub(crate) fn put_in(&mut self, at: u64, node: Node) -> Result<Outcome, WireFault>
         ensures { Gives (finished at no_item (opened self.old) node) at self.new result }
     {
-        let Some(frame) = &mut self.top else {
+        let Some(container) = &mut self.top else {
             return Ok(Outcome::Whole(node));
         };
-        if let Frame::Items {
+        if let Container::Items {
             argument,
             items,
             ..
-        } = frame
+        } = container
         {
             if !argument.is_met(items.len() + 1) {
                 push_doubling(items, node)?;
                 return Ok(Outcome::Open);
             }
         }
-        self.settle(at, node)
+        self.close_complete(at, node)
     }
 
     /// Puts a complete item into the innermost open container. If that completes the container, it
     /// is put into the next one, and so on.
     #[inline(never)]
-    fn settle(&mut self, at: u64, node: Node) -> Result<Outcome, WireFault>
+    fn close_complete(&mut self, at: u64, node: Node) -> Result<Outcome, WireFault>
         ensures { Gives (finished at no_item (opened self.old) node) at self.new result }
     {
         let mut node = node;
@@ -58,10 +58,10 @@ impl Nest {
         requires { IsSome self.old.top }
         ensures { PutLeaves (finished at no_item (opened self.old) node) at self.old self.new result }
     {
-        let Some(frame) = &mut self.top else {
+        let Some(container) = &mut self.top else {
             return Ok(Some(node));
         };
-        match frame.put(self.alloc, at, node)? {
+        match container.put(self.alloc, at, node)? {
             None => Ok(None),
             Some(whole) => {
                 self.leave();

@@ -5,7 +5,7 @@ ghost use Rattle.std.specs.Prelude.{◌≡◌, ◌≤◌, ◌<◌, ◌++◌, ◌
 ghost use Rattle.std.specs.Int.{w64, from_be_bytes};
 ghost use Rattle.cborn_model.specs.Bytes.{AreBytes};
 ghost use Rattle.cborn_model.specs.Heads.{code, major_at, WidthFits, IsHead, head_bytes};
-ghost use Rattle.cborn_wire.specs.shared.InitialBytes.{Next, Unended, info_at, is_reserved, is_unended, is_always_bounded, is_break, is_other, is_float, is_container};
+ghost use Rattle.cborn_wire.specs.shared.InitialBytes.{Next, EndlessInformation, info_at, is_reserved, is_endless_head, is_always_bounded, is_break, is_other, is_float, is_container};
 ghost use Rattle.cborn_wire.specs.shared.Machine.{width_bytes, number, is_full};
 ghost use Rattle.cborn_wire.specs.HeadReading.{ReadsHead, reason_alone, seen_argument, seen_size};
 ghost use Rattle.cborn_wire.specs.devices.StackView.{seen_slot, element_slot};
@@ -186,7 +186,7 @@ fn read_simple(rest: &[u8]) -> HeadRead
 
 /// Reads a head of indefinite length, or the break (RFC 8949 section 3.2).
 fn read_endless(major: Major) -> HeadRead
-    ensures { (first : ℕ) (rest : List ℕ) → first / 32 ≡ code major → info_at (first % 32) ≡ Unended → ReadsHead (first ∷ rest) result }
+    ensures { (first : ℕ) (rest : List ℕ) → first / 32 ≡ code major → info_at (first % 32) ≡ EndlessInformation → ReadsHead (first ∷ rest) result }
 {
     if is_always_bounded(major) {
         return HeadRead::Bad(WireReason::EndlessNotAllowed);
@@ -219,7 +219,7 @@ pub(crate) fn is_reserved(information: u8) -> bool
 /// Whether this is the additional information of an indefinite length or the break.
 pub(crate) fn is_endless(information: u8) -> bool
     requires { information < 32 }
-    ensures { result ≡ is_unended (info_at information) }
+    ensures { result ≡ is_endless_head (info_at information) }
 {
     information == 31
 }

@@ -63,9 +63,10 @@ pub fn faults_stay()
     ensures fault { (limit : ℕ) (x y : List ℕ) (p : ℕ) (r : WireReason) → Fault limit x p r → (r ≡ Truncated → ⊥) → Fault limit (x ++ y) p r }
 {}
 
-/// Which heads aren't allowed is told by slots too: by what is open around a head, and one table.
+/// The table of slots, which judges a head by what is open around it, refuses exactly the heads
+/// that aren't allowed.
 pub fn faults_by_slots()
-    ensures told { (limit : ℕ) (x : List ℕ) (p : ℕ) (r : WireReason) → AreBytes x → SlotRefused limit x p r → Refused limit x p r }
+    ensures sound { (limit : ℕ) (x : List ℕ) (p : ℕ) (r : WireReason) → AreBytes x → SlotRefused limit x p r → Refused limit x p r }
     ensures found { (limit : ℕ) (x : List ℕ) (p : ℕ) (r : WireReason) → AreBytes x → Refused limit x p r → SlotRefused limit x p r }
 {}
 

@@ -7,7 +7,7 @@ ghost use Rattle.cborn_wire.specs.devices.StackView.{seen_slot, plain};
 ghost use Rattle.cborn_wire.specs.shared.Scanning.{levels, with_item, finish, leave, begin_items, begin_pairs, slot_of};
 
 use crate::Argument;
-use crate::frames::StringKind;
+use crate::containers::StringKind;
 use crate::refusals::Slot;
 
 /// An open container, and what it is missing.
@@ -162,13 +162,13 @@ impl Levels {
         };
         match level.with_item() {
             Some(rest) => self.top = Some(rest),
-            None => self.settle(),
+            None => self.close_complete(),
         }
     }
 
     /// Counts a complete item, and each container that is completed by that.
     #[inline(never)]
-    fn settle(&mut self)
+    fn close_complete(&mut self)
         requires kept { self.old.len ≤ 1025 }
         ensures open { levels self.new ≡ finish (levels self.old) }
         ensures kept { self.new.len ≤ 1025 }

@@ -1,12 +1,15 @@
 //! The bytes of data items: read, checked and written (RFC 8949 section 3).
 //!
+//! An *open container* is an array, a map, a tag or an indefinite string whose head was read and
+//! whose end wasn't.
+//!
 //! - A [`Feeder`] is fed an input in pieces, cut anywhere, and gives items as they are completed.
 //!   [`read_all`] feeds it an input that is in memory; [`read_one`] reads one item from an offset
-//!   on. All keep a stack (`stacks`) in the place of recursion. What is open on it is a nest
-//!   (`nests`): `frames` has the kinds of open containers, `refusals` tells where a head isn't
-//!   allowed, and `finishing` puts a completed item into the container around it.
-//! - [`scan`] tells whether an input in memory is well-formed, or its one fault (`scanning`). Of
-//!   open containers it keeps only what is missing (`levels`).
+//!   on. All keep a stack (`stacks`) in the place of recursion. Its open containers are a nest
+//!   (`nests`): `containers` has the kinds of them, `refusals` says where a head isn't allowed, and
+//!   `finishing` puts a complete item into the container around it.
+//! - [`scan`] says whether an input in memory is well-formed, or what its one fault is
+//!   (`scanning`). Of each open container, a level, it keeps only what is missing (`levels`).
 //! - [`spell`] writes the bytes that a node spells.
 //! - `heads` reads and writes single heads. `walks` has what walks of other crates over bytes ask
 //!   at each step, and `specs/Parts.antt` what they read.
@@ -19,10 +22,10 @@
 //! definitions alone.
 #![tactic(auto)]
 
+mod containers;
 mod faults;
 mod feeders;
 mod finishing;
-mod frames;
 mod heads;
 pub mod laws;
 mod levels;
@@ -40,4 +43,4 @@ pub use heads::{Argument, Head, HeadRead, head_bytes, push_head, read_head, read
 pub use readers::{read_all, read_one};
 pub use scanning::scan;
 pub use spelling::{spell, spell_all};
-pub use walks::{behind_break, is_done, last};
+pub use walks::{after_break, is_done, last};

@@ -1,14 +1,15 @@
 //! The open containers around the next byte, and what becomes of a head there.
 
-ghost use Rattle.std.specs.Prelude.{◌≡◌, ◌∷◌, ◌+◌, ◌<◌, ◌≤◌, ◌^◌, ℕ, [], length, take};
+ghost use Rattle.std.specs.Prelude.{◌≡◌, ◌∷◌, ◌+◌, ◌<◌, ◌≤◌, ◌^◌, ℕ, [], length, take, IfSome};
+ghost use Rattle.cborn_model.specs.Heads.{Given};
 ghost use Rattle.cborn_model.specs.Tree.{no_item, no_entry};
 ghost use Rattle.cborn_model.specs.declared.heads.Major.TheVariants as heads;
-ghost use Rattle.cborn_wire.specs.Slots.{major_of, AreBegun};
+ghost use Rattle.cborn_wire.specs.Slots.{major_of, AreOpen};
 ghost use Rattle.cborn_wire.specs.shared.Machine.{nothing, content_of, gathering, width_bytes, items_at, pairs_at, string_done, ended, after_head, run, Live};
 ghost use Rattle.cborn_wire.specs.HeadReading.{major_at, seen_argument, ArgumentFits};
-ghost use Rattle.cborn_wire.specs.devices.StackView.{seen_kind, seen_frame, opened, seen_partial, IsShort, Gives, Takes};
+ghost use Rattle.cborn_wire.specs.devices.StackView.{seen_kind, seen_container, opened, seen_partial, IsShort, Gives, Takes};
 
-use crate::frames::{Frame, Partial, StringKind};
+use crate::containers::{Container, Partial, PartialHead, StringHead, StringKind};
 use crate::heads::{read_number, wide_width};
 use crate::{Argument, Head, HeadRead, WireFault, WireReason, read_head};
 use cborn_model::{ByteString, Chunk, Form, Major, Node, Width, push_doubling};
@@ -18,9 +19,9 @@ use std::alloc::Global;
 pub(crate) struct Nest {
     pub(crate) alloc: Global,
     /// The innermost.
-    pub(crate) top: Option<Frame>,
+    pub(crate) top: Option<Container>,
     /// The containers around it, the innermost last.
-    pub(crate) outer: Vec<Frame>,
+    pub(crate) outer: Vec<Container>,
 }
 
 /// By hand, since a derived one is written out, and proved, at each exit of each function.
@@ -41,8 +42,8 @@ pub(crate) enum Outcome {
     Open,
     /// An item is complete, and nothing is open.
     Whole(Node),
-    /// A head or a string came in part.
-    Part(Partial),
+    /// A head or a string goes on after the piece.
+    Unfinished(Partial),
 }
 
 impl Nest {
@@ -56,62 +57,50 @@ impl Nest {
         }
     }
 
-    /// Takes the front of `piece`, which goes on with `part` if there is one. Gives the number of
-    /// bytes taken, and leaves no part in `part`.
+    /// Takes bytes from the front of `piece`, which is at the offset `at`, and goes on with the
+    /// partial head or string if there is one. Gives their number, and leaves `Nothing` in
+    /// `partial`.
     #[inline(always)]
     pub(crate) fn take(
         &mut self,
         limit: u64,
         at: u64,
-        part: &mut Partial,
+        partial: &mut Partial,
         piece: &[u8],
     ) -> Result<(usize, Outcome), WireFault>
-        requires begun { AreBegun limit (opened self.old) }
-        requires short { IsShort part.old }
+        requires are_open { AreOpen limit (opened self.old) }
+        requires short { IsShort partial.old }
         requires some { 0 < length piece.now }
         requires room { at + length piece.now < 2 ^ 64 }
-        ensures taken { Takes limit at (seen_partial part.old) piece.now self.old self.new result }
-        ensures used { part.new ≡ Partial.Nothing }
+        ensures taken { Takes limit at (seen_partial partial.old) piece.now self.old self.new result }
+        ensures used { partial.new ≡ Partial.Nothing }
     {
-        if let Partial::Nothing = part {
+        if let Partial::Nothing = partial {
             return self.take_head(limit, at, piece);
         }
-        self.take_more(limit, at, part, piece)
+        self.take_more(limit, at, partial, piece)
     }
 
-    /// Goes on with a part of a head or a string. Out of line, so that common heads need little
-    /// stack.
+    /// Goes on with a partial head or string. Out of line, so that common heads need little stack.
     #[inline(never)]
     fn take_more(
         &mut self,
         limit: u64,
         at: u64,
-        part: &mut Partial,
+        partial: &mut Partial,
         piece: &[u8],
     ) -> Result<(usize, Outcome), WireFault>
-        requires begun { AreBegun limit (opened self.old) }
-        requires short { IsShort part.old }
+        requires are_open { AreOpen limit (opened self.old) }
+        requires short { IsShort partial.old }
         requires some { 0 < length piece.now }
         requires room { at + length piece.now < 2 ^ 64 }
-        ensures taken { Takes limit at (seen_partial part.old) piece.now self.old self.new result }
-        ensures used { part.new ≡ Partial.Nothing }
+        ensures taken { Takes limit at (seen_partial partial.old) piece.now self.old self.new result }
+        ensures used { partial.new ≡ Partial.Nothing }
     {
-        match std::mem::replace(part, Partial::Nothing) {
+        match std::mem::replace(partial, Partial::Nothing) {
             Partial::Nothing => self.take_head(limit, at, piece),
-            Partial::Argument {
-                place,
-                major,
-                width,
-                bytes,
-                len,
-            } => self.take_argument(at, place, major, width, bytes, len, piece),
-            Partial::Content {
-                place,
-                kind,
-                width,
-                len,
-                bytes,
-            } => self.take_content(at, place, kind, width, len, bytes, piece),
+            Partial::Argument(head) => self.take_argument(at, head, piece),
+            Partial::Content(head, bytes) => self.take_content(at, head, bytes, piece),
         }
     }
 
@@ -124,7 +113,7 @@ impl Nest {
         at: u64,
         piece: &[u8],
     ) -> Result<(usize, Outcome), WireFault>
-        requires begun { AreBegun limit (opened self.old) }
+        requires are_open { AreOpen limit (opened self.old) }
         requires some { 0 < length piece.now }
         requires room { at + length piece.now < 2 ^ 64 }
         ensures { Takes limit at nothing piece.now self.old self.new result }
@@ -132,7 +121,7 @@ impl Nest {
         let first = piece[0];
         if first < 24 && self.refusal(limit, first).is_none() {
             let argument = Argument::Given(Width::Direct, first as u64);
-            let outcome = self.put_head(at + 1, at, Head { major: 0, argument })?;
+            let outcome = self.take_whole_head(at + 1, at, Head { major: 0, argument })?;
             return Ok((1, outcome));
         }
         self.take_any_head(limit, at, piece)
@@ -146,7 +135,7 @@ impl Nest {
         at: u64,
         piece: &[u8],
     ) -> Result<(usize, Outcome), WireFault>
-        requires begun { AreBegun limit (opened self.old) }
+        requires are_open { AreOpen limit (opened self.old) }
         requires some { 0 < length piece.now }
         requires room { at + length piece.now < 2 ^ 64 }
         ensures { Takes limit at nothing piece.now self.old self.new result }
@@ -156,129 +145,105 @@ impl Nest {
             return Err(WireFault::Refused { place: at, reason });
         }
         match read_head(piece) {
-            HeadRead::Full(head, len) => match Major::of_initial_byte(first) {
-                Major::ByteString => self.take_string(at, StringKind::Bytes, head, len, piece),
-                Major::TextString => self.take_string(at, StringKind::Text, head, len, piece),
-                _ => {
-                    let outcome = self.put_head(at + len as u64, at, head)?;
+            HeadRead::Full(head, len) => match string_head(at, head) {
+                Some(string) => self.take_string(string, len, piece),
+                None => {
+                    let outcome = self.take_whole_head(at + len as u64, at, head)?;
                     Ok((len, outcome))
                 }
             },
             HeadRead::Short => {
-                let part = Partial::Argument {
+                let head = PartialHead {
                     place: at,
                     major: first / 32,
                     width: wide_width(first % 32),
                     bytes: [0; 8],
                     len: 0,
                 };
-                Ok((1, Outcome::Part(part)))
+                Ok((1, Outcome::Unfinished(Partial::Argument(head))))
             }
             HeadRead::Bad(reason) => Err(WireFault::Refused { place: at, reason }),
         }
     }
 
-    /// Takes the head of a string, the first `len` bytes of `piece`, and its content if all of it
-    /// is in the piece. Such a string is never kept as a part.
+    /// Takes the head of a definite string, the first `len` bytes of `piece`, and its content if
+    /// all of it is in the piece. Such a string is never kept as a partial one.
     #[inline(never)]
     fn take_string(
         &mut self,
-        at: u64,
-        kind: StringKind,
-        head: Head,
+        head: StringHead,
         len: usize,
         piece: &[u8],
     ) -> Result<(usize, Outcome), WireFault>
         requires some { 0 < len }
         requires within { len ≤ length piece.now }
-        requires room { at + length piece.now < 2 ^ 64 }
-        ensures { (limit : ℕ) → run limit (Live at no_item (opened self.old) nothing) (take len piece.now) ≡ after_head (at + len) at no_item (opened self.old) (major_of (seen_kind kind)) (seen_argument head.argument) → Takes limit at nothing piece.now self.old self.new result }
+        requires room { head.place + length piece.now < 2 ^ 64 }
+        ensures { (limit : ℕ) → run limit (Live head.place no_item (opened self.old) nothing) (take len piece.now) ≡ after_head (head.place + len) head.place no_item (opened self.old) (major_of (seen_kind head.kind)) (Given head.width head.len) → Takes limit head.place nothing piece.now self.old self.new result }
     {
-        if let Argument::Given(width, count) = head.argument {
-            let rest = &piece[len..];
-            if count <= rest.len() as u64 {
-                let taken = len + count as usize;
-                let bytes = Vec::from_slice(self.alloc, &rest[..count as usize])?;
-                let outcome = self.put_string(at + taken as u64, at, kind, width, bytes)?;
-                return Ok((taken, outcome));
-            }
+        let rest = &piece[len..];
+        if head.len <= rest.len() as u64 {
+            let taken = len + head.len as usize;
+            let bytes = Vec::from_slice(self.alloc, &rest[..head.len as usize])?;
+            let outcome = self.put_string(head.place + taken as u64, head, bytes)?;
+            return Ok((taken, outcome));
         }
-        let outcome = self.begin_string(at + len as u64, at, kind, head.argument)?;
-        Ok((len, outcome))
+        let partial = Partial::Content(head, Vec::new(self.alloc));
+        Ok((len, Outcome::Unfinished(partial)))
     }
 
-    /// Takes the next byte of an argument whose initial byte was in an earlier piece: the first
-    /// `len` of `bytes` came before.
+    /// Takes the next byte of an argument whose initial byte was in an earlier piece.
     #[inline(never)]
     fn take_argument(
         &mut self,
         at: u64,
-        place: u64,
-        major: u8,
-        width: Width,
-        mut bytes: [u8; 8],
-        len: usize,
+        head: PartialHead,
         piece: &[u8],
     ) -> Result<(usize, Outcome), WireFault>
-        requires short { length (take len bytes) < width_bytes width }
+        requires short { length (take head.len head.bytes) < width_bytes head.width }
         requires some { 0 < length piece.now }
         requires room { at + length piece.now < 2 ^ 64 }
-        ensures { (limit : ℕ) → Takes limit at (seen_partial (Partial.Argument place major width bytes len)) piece.now self.old self.new result }
+        ensures { (limit : ℕ) → Takes limit at (seen_partial (Partial.Argument head)) piece.now self.old self.new result }
     {
-        bytes[len] = piece[0];
-        let len = len + 1;
-        let Some(n) = read_number(width, &bytes[..len]) else {
-            let part = Partial::Argument {
-                place,
-                major,
-                width,
-                bytes,
-                len,
-            };
-            return Ok((1, Outcome::Part(part)));
+        let mut bytes = head.bytes;
+        bytes[head.len] = piece[0];
+        let len = head.len + 1;
+        let Some(n) = read_number(head.width, &bytes[..len]) else {
+            let more = PartialHead { bytes, len, ..head };
+            return Ok((1, Outcome::Unfinished(Partial::Argument(more))));
         };
-        let argument = Argument::Given(width, n);
-        let outcome = self.put_head(at + 1, place, Head { major, argument })?;
+        let argument = Argument::Given(head.width, n);
+        let major = head.major;
+        let outcome = self.take_whole_head(at + 1, head.place, Head { major, argument })?;
         Ok((1, outcome))
     }
 
-    /// Takes the next bytes of a string of `len` bytes, of which `bytes` came before.
+    /// Takes the next bytes of a string, of which `bytes` came before.
     #[inline(never)]
     fn take_content(
         &mut self,
         at: u64,
-        place: u64,
-        kind: StringKind,
-        width: Width,
-        len: u64,
+        head: StringHead,
         mut bytes: Vec<u8>,
         piece: &[u8],
     ) -> Result<(usize, Outcome), WireFault>
-        requires short { length bytes.items < len }
+        requires short { length bytes.items < head.len }
         requires some { 0 < length piece.now }
         requires room { at + length piece.now < 2 ^ 64 }
-        ensures { (limit : ℕ) → Takes limit at (gathering place (content_of (seen_kind kind) width) len bytes.items) piece.now self.old self.new result }
+        ensures { (limit : ℕ) → Takes limit at (gathering head.place (content_of (seen_kind head.kind) head.width) head.len bytes.items) piece.now self.old self.new result }
     {
-        let missing = len - bytes.len() as u64;
+        let missing = head.len - bytes.len() as u64;
         let taken = missing.min(piece.len() as u64) as usize;
         bytes.extend_from_slice(&piece[..taken])?;
         if taken as u64 != missing {
-            let part = Partial::Content {
-                place,
-                kind,
-                width,
-                len,
-                bytes,
-            };
-            return Ok((taken, Outcome::Part(part)));
+            return Ok((taken, Outcome::Unfinished(Partial::Content(head, bytes))));
         }
-        let outcome = self.put_string(at + taken as u64, place, kind, width, bytes)?;
+        let outcome = self.put_string(at + taken as u64, head, bytes)?;
         Ok((taken, outcome))
     }
 
     /// Takes a whole head, from the offset `place` to the offset `at`.
     #[inline(always)]
-    fn put_head(&mut self, at: u64, place: u64, head: Head) -> Result<Outcome, WireFault>
+    fn take_whole_head(&mut self, at: u64, place: u64, head: Head) -> Result<Outcome, WireFault>
         requires { ArgumentFits (seen_argument head.argument) }
         ensures { Gives (after_head at place no_item (opened self.old) (major_at head.major) (seen_argument head.argument)) at self.new result }
     {
@@ -291,7 +256,7 @@ impl Nest {
                     reason: WireReason::EndlessNotAllowed,
                 });
             }
-            _ => return self.put_further_head(at, place, head),
+            _ => return self.take_further_head(at, place, head),
         };
         self.put_in(at, Node { place, form })
     }
@@ -299,7 +264,7 @@ impl Nest {
     /// Takes a head of anything but an integer. Out of line, so that integers, the most frequent,
     /// don't pay for it.
     #[inline(never)]
-    fn put_further_head(&mut self, at: u64, place: u64, head: Head) -> Result<Outcome, WireFault>
+    fn take_further_head(&mut self, at: u64, place: u64, head: Head) -> Result<Outcome, WireFault>
         requires further { 1 < head.major }
         requires fits { ArgumentFits (seen_argument head.argument) }
         ensures { Gives (after_head at place no_item (opened self.old) (major_at head.major) (seen_argument head.argument)) at self.new result }
@@ -321,7 +286,7 @@ impl Nest {
             (Major::Map, argument) => self.begin_pairs(at, place, argument),
             (Major::Tag, Argument::Given(width, number)) => self.begin(
                 at,
-                Frame::Tag {
+                Container::Tag {
                     place,
                     width,
                     number,
@@ -331,12 +296,12 @@ impl Nest {
                 place,
                 reason: WireReason::EndlessNotAllowed,
             }),
-            (_, argument) => self.put_simple_or_break(at, place, argument),
+            (_, argument) => self.take_simple_or_break(at, place, argument),
         }
     }
 
     /// Takes a head of major type 7: a simple value or the break.
-    fn put_simple_or_break(
+    fn take_simple_or_break(
         &mut self,
         at: u64,
         place: u64,
@@ -366,11 +331,11 @@ impl Nest {
         }
     }
 
-    /// Opens `frame` inside the innermost open container.
-    fn begin(&mut self, at: u64, frame: Frame) -> Result<Outcome, WireFault>
-        ensures { Gives (Live at no_item (seen_frame frame ∷ opened self.old) nothing) at self.new result }
+    /// Opens `container` inside the innermost open container.
+    fn begin(&mut self, at: u64, container: Container) -> Result<Outcome, WireFault>
+        ensures { Gives (Live at no_item (seen_container container ∷ opened self.old) nothing) at self.new result }
     {
-        let Some(outer) = self.top.replace(frame) else {
+        let Some(outer) = self.top.replace(container) else {
             self.outer.clear();
             return Ok(Outcome::Open);
         };
@@ -388,19 +353,22 @@ impl Nest {
         ensures { Gives (after_head at place no_item (opened self.old) (major_of (seen_kind kind)) (seen_argument argument)) at self.new result }
     {
         match argument {
-            Argument::Given(width, 0) => {
-                self.put_string(at, place, kind, width, Vec::new(self.alloc))
+            Argument::Given(width, len) => {
+                let head = StringHead {
+                    place,
+                    kind,
+                    width,
+                    len,
+                };
+                let bytes = Vec::new(self.alloc);
+                if len == 0 {
+                    return self.put_string(at, head, bytes);
+                }
+                Ok(Outcome::Unfinished(Partial::Content(head, bytes)))
             }
-            Argument::Given(width, len) => Ok(Outcome::Part(Partial::Content {
-                place,
-                kind,
-                width,
-                len,
-                bytes: Vec::new(self.alloc),
-            })),
             Argument::Endless => self.begin(
                 at,
-                Frame::Chunks {
+                Container::Chunks {
                     place,
                     kind,
                     chunks: Vec::new(self.alloc),
@@ -419,7 +387,7 @@ impl Nest {
         }
         self.begin(
             at,
-            Frame::Items {
+            Container::Items {
                 place,
                 argument,
                 items,
@@ -437,7 +405,7 @@ impl Nest {
         }
         self.begin(
             at,
-            Frame::Pairs {
+            Container::Pairs {
                 place,
                 argument,
                 pairs,
@@ -451,7 +419,7 @@ impl Nest {
         ensures { Gives (ended at no_item (opened self.old)) at self.new result }
     {
         let closed = match self.top.take() {
-            Some(frame) => frame.close(),
+            Some(container) => container.close(),
             None => None,
         };
         match closed {
@@ -466,19 +434,24 @@ impl Nest {
         }
     }
 
-    /// Puts a whole definite string: as a chunk into an indefinite string, else as an item.
+    /// Puts a whole definite string with this content, which ends at the offset `at`: as a chunk
+    /// into an indefinite string, else as an item.
     fn put_string(
         &mut self,
         at: u64,
-        place: u64,
-        kind: StringKind,
-        width: Width,
+        head: StringHead,
         bytes: Vec<u8>,
     ) -> Result<Outcome, WireFault>
-        ensures { Gives (string_done at place no_item (opened self.old) (seen_kind kind) width bytes.items) at self.new result }
+        ensures { Gives (string_done at head.place no_item (opened self.old) (seen_kind head.kind) head.width bytes.items) at self.new result }
     {
+        let StringHead {
+            place,
+            kind,
+            width,
+            len: _,
+        } = head;
         let bytes = ByteString::new(bytes);
-        if let Some(Frame::Chunks { chunks, .. }) = &mut self.top {
+        if let Some(Container::Chunks { chunks, .. }) = &mut self.top {
             let chunk = Chunk {
                 place,
                 width,
@@ -493,4 +466,25 @@ impl Nest {
         };
         self.put_in(at, Node { place, form })
     }
+}
+
+/// The head of a definite string, if the head at `place` is one.
+#[inline(always)]
+fn string_head(place: u64, head: Head) -> Option<StringHead>
+    ensures { IfSome result (λ s. (s.place ≡ place) × (major_at head.major ≡ major_of (seen_kind s.kind)) × (seen_argument head.argument ≡ Given s.width s.len)) }
+{
+    let kind = match head.major_type() {
+        Major::ByteString => StringKind::Bytes,
+        Major::TextString => StringKind::Text,
+        _ => return None,
+    };
+    let Argument::Given(width, len) = head.argument else {
+        return None;
+    };
+    Some(StringHead {
+        place,
+        kind,
+        width,
+        len,
+    })
 }

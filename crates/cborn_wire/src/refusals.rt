@@ -1,14 +1,14 @@
 //! Which initial bytes are allowed next, by what is open.
 
 ghost use Rattle.std.specs.Prelude.{◌≡◌, ◌<◌, ◌%◌, ◌/◌, [], nat_le};
-ghost use Rattle.cborn_wire.specs.Slots.{slot, open_depth, AreBegun};
+ghost use Rattle.cborn_wire.specs.Slots.{slot, open_depth, AreOpen};
 ghost use Rattle.cborn_wire.specs.SlotFaults.{needs_item};
 ghost use Rattle.cborn_wire.specs.shared.InitialBytes.{info_at, is_bad_chunk, is_of_kind, head_reason};
 ghost use Rattle.cborn_wire.specs.HeadReading.{major_at};
 ghost use Rattle.cborn_wire.specs.devices.StackView.{seen_kind, seen_slot, plain, opened};
 
 use crate::WireReason;
-use crate::frames::StringKind;
+use crate::containers::StringKind;
 use crate::heads::{is_always_bounded, is_break, is_container, is_endless, is_float, is_reserved};
 use crate::nests::Nest;
 use cborn_model::Major;
@@ -25,7 +25,7 @@ pub(crate) enum Slot {
 }
 
 impl Slot {
-    /// Why a head with this initial byte isn't allowed here, as far as that byte tells. `is_full`:
+    /// Why a head with this initial byte isn't allowed here, as far as that byte says. `is_full`:
     /// as many arrays, maps and tags are open around it as the limit allows.
     #[inline(always)]
     pub(crate) fn refusal(self, is_full: bool, first: u8) -> Option<WireReason>
@@ -103,10 +103,10 @@ impl StringKind {
 }
 
 impl Nest {
-    /// Why a head with this initial byte isn't allowed next, as far as that byte tells.
+    /// Why a head with this initial byte isn't allowed next, as far as that byte says.
     #[inline(always)]
     pub(crate) fn refusal(&self, limit: u64, first: u8) -> Option<WireReason>
-        requires { AreBegun limit (opened self.now) }
+        requires { AreOpen limit (opened self.now) }
         ensures { result ≡ head_reason (slot (opened self.now)) (nat_le limit (open_depth (opened self.now))) (major_at (first / 32)) (info_at (first % 32)) [] }
     {
         let slot = self.slot();
@@ -118,18 +118,18 @@ impl Nest {
     {
         match &self.top {
             None => Slot::Item,
-            Some(frame) => frame.slot(),
+            Some(container) => container.slot(),
         }
     }
 
     /// Whether as many arrays, maps and tags are open as the limit allows.
     fn is_full(&self, limit: u64) -> bool
-        requires { AreBegun limit (opened self.now) }
+        requires { AreOpen limit (opened self.now) }
         ensures { result ≡ nat_le limit (open_depth (opened self.now)) }
     {
         match &self.top {
             None => limit == 0,
-            Some(frame) => self.outer.len() as u64 + frame.levels() >= limit,
+            Some(container) => self.outer.len() as u64 + container.added_depth() >= limit,
         }
     }
 }

@@ -4,7 +4,7 @@ ghost use Rattle.std.specs.Prelude.{ℕ, take, slice_index_or as get_or, ◌≡�
 ghost use Rattle.cborn_model.specs.Tree.{Trees};
 ghost use Rattle.cborn_model.specs.Spelled.{Wellformed};
 ghost use Rattle.cborn_model.specs.Placed.{PlacedAll};
-ghost use Rattle.cborn_wire.specs.Slots.{Begun, AreBegun, IsNoChunk};
+ghost use Rattle.cborn_wire.specs.Slots.{OpenContainer, AreOpen, IsNoChunk};
 ghost use Rattle.cborn_wire.specs.Faults.{Fault};
 ghost use Rattle.cborn_wire.specs.shared.InitialBytes.{info_at, head_reason};
 ghost use Rattle.cborn_wire.specs.HeadReading.{major_at, seen_argument};
@@ -12,7 +12,7 @@ ghost use Rattle.cborn_wire.specs.devices.StackView.{seen_slot, plain};
 ghost use Rattle.cborn_wire.specs.shared.Scanning.{levels, levels_of, take_head, content_of, slot_at, AreSmall, Steps};
 ghost use Rattle.cborn_wire.specs.declared.scanning.Step.TheVariants.{Taken};
 
-use crate::frames::StringKind;
+use crate::containers::StringKind;
 use crate::levels::{Level, Levels};
 use crate::refusals::Slot;
 use crate::{Argument, Head, HeadRead, WireReason, read_head};
@@ -52,40 +52,40 @@ pub fn scan(limit: Limit, bytes: &[u8]) -> Option<(u64, WireReason)>
 }
 
 impl Levels {
-    /// Takes the head at the front of `piece`, and the content of a definite string with it.
+    /// Takes the head at the front of `bytes`, and the content of a definite string with it.
     #[inline(always)]
-    fn take(&mut self, limit: u64, piece: &[u8]) -> Step
+    fn take(&mut self, limit: u64, bytes: &[u8]) -> Step
         requires kept { self.old.len ≤ 1025 }
-        requires some { 0 < length piece.now }
+        requires some { 0 < length bytes.now }
         requires small { limit ≤ 1024 }
-        requires begun { (os : List Begun) × AreBegun limit os × (levels_of os ≡ levels self.old) }
-        ensures steps { Steps limit piece.now (levels self.old) (levels self.new) result }
+        requires are_open { (os : List OpenContainer) × AreOpen limit os × (levels_of os ≡ levels self.old) }
+        ensures steps { Steps limit bytes.now (levels self.old) (levels self.new) result }
         ensures kept { self.new.len ≤ 1025 }
     {
-        if piece[0] < 24 {
-            return self.take_small(limit, piece);
+        if bytes[0] < 24 {
+            return self.take_small(limit, bytes);
         }
-        self.take_any(limit, piece)
+        self.take_any(limit, bytes)
     }
 
-    /// Takes the integer at the front of `piece`, which is its initial byte, and perhaps others
+    /// Takes the integer at the front of `bytes`, which is its initial byte, and perhaps others
     /// like it.
     #[inline(always)]
-    fn take_small(&mut self, limit: u64, piece: &[u8]) -> Step
+    fn take_small(&mut self, limit: u64, bytes: &[u8]) -> Step
         requires kept { self.old.len ≤ 1025 }
-        requires some { 0 < length piece.now }
+        requires some { 0 < length bytes.now }
         requires small { limit ≤ 1024 }
-        requires begun { (os : List Begun) × AreBegun limit os × (levels_of os ≡ levels self.old) }
-        requires first { get_or piece.now 0 0 < 24 }
-        ensures steps { Steps limit piece.now (levels self.old) (levels self.new) result }
+        requires are_open { (os : List OpenContainer) × AreOpen limit os × (levels_of os ≡ levels self.old) }
+        requires first { get_or bytes.now 0 0 < 24 }
+        ensures steps { Steps limit bytes.now (levels self.old) (levels self.new) result }
         ensures kept { self.new.len ≤ 1025 }
     {
-        let run = self.take_run(piece);
+        let run = self.take_run(bytes);
         if run > 0 {
             return Step::Taken(run);
         }
         if self.is_chunked() {
-            return self.take_any(limit, piece);
+            return self.take_any(limit, bytes);
         }
         self.finish();
         Step::Taken(1)
@@ -94,17 +94,17 @@ impl Levels {
     /// Takes integers that are their initial bytes, if nothing is open, or an array that goes on
     /// after them. Gives their number, which may be 0.
     #[inline(always)]
-    fn take_run(&mut self, piece: &[u8]) -> usize
+    fn take_run(&mut self, bytes: &[u8]) -> usize
         requires kept { self.old.len ≤ 1025 }
-        ensures steps { 0 < result → (limit : ℕ) → Steps limit piece.now (levels self.old) (levels self.new) (Taken result) }
+        ensures steps { 0 < result → (limit : ℕ) → Steps limit bytes.now (levels self.old) (levels self.new) (Taken result) }
         ensures none { result ≡ 0 → levels self.new ≡ levels self.old }
         ensures kept { self.new.len ≤ 1025 }
     {
         match self.top {
-            None => small_run(piece, u64::MAX),
-            Some(Level::EndlessArray) => small_run(piece, u64::MAX),
+            None => small_run(bytes, u64::MAX),
+            Some(Level::EndlessArray) => small_run(bytes, u64::MAX),
             Some(Level::Array(n)) => {
-                let run = small_run(piece, n);
+                let run = small_run(bytes, n);
                 self.top = Some(Level::Array(n - run as u64));
                 run
             }
@@ -120,23 +120,23 @@ impl Levels {
         matches!(self.top, Some(Level::Chunks(_)))
     }
 
-    /// Takes any head at the front of `piece`, and the content of a definite string with it.
+    /// Takes any head at the front of `bytes`, and the content of a definite string with it.
     #[inline(never)]
-    fn take_any(&mut self, limit: u64, piece: &[u8]) -> Step
+    fn take_any(&mut self, limit: u64, bytes: &[u8]) -> Step
         requires kept { self.old.len ≤ 1025 }
-        requires some { 0 < length piece.now }
+        requires some { 0 < length bytes.now }
         requires small { limit ≤ 1024 }
-        requires begun { (os : List Begun) × AreBegun limit os × (levels_of os ≡ levels self.old) }
-        ensures steps { Steps limit piece.now (levels self.old) (levels self.new) result }
+        requires are_open { (os : List OpenContainer) × AreOpen limit os × (levels_of os ≡ levels self.old) }
+        ensures steps { Steps limit bytes.now (levels self.old) (levels self.new) result }
         ensures kept { self.new.len ≤ 1025 }
     {
-        if let Some(reason) = self.refusal(limit, piece[0]) {
+        if let Some(reason) = self.refusal(limit, bytes[0]) {
             return Step::Refused(reason);
         }
-        match read_head(piece) {
+        match read_head(bytes) {
             HeadRead::Full(head, len) => {
                 let content = content_len(head);
-                if content > (piece.len() - len) as u64 {
+                if content > (bytes.len() - len) as u64 {
                     return Step::Cut;
                 }
                 self.take_head(head);
@@ -147,7 +147,7 @@ impl Levels {
         }
     }
 
-    /// Why a head with this initial byte isn't allowed next, as far as that byte tells.
+    /// Why a head with this initial byte isn't allowed next, as far as that byte says.
     #[inline(always)]
     fn refusal(&self, limit: u64, first: u8) -> Option<WireReason>
         requires { self.now.len ≤ 1025 }

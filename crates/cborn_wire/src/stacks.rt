@@ -1,9 +1,9 @@
 //! The stack that a reader keeps in the place of recursion.
 
 ghost use Rattle.std.specs.Prelude.{◌≤◌, ◌<◌, length, IfSome};
-ghost use Rattle.cborn_wire.specs.devices.StackView.{Added, StandsFirst};
+ghost use Rattle.cborn_wire.specs.devices.StackView.{Added, IsFirstInPiece};
 
-use crate::frames::{Frame, Partial};
+use crate::containers::{Container, Partial};
 use crate::nests::{Nest, Outcome};
 use crate::{Argument, HeadRead, WireFault, read_head};
 use cborn_model::{Form, Limit, Major, Node, Spelled, Width, push_doubling};
@@ -11,8 +11,8 @@ use std::alloc::{AllocError, Global};
 use std::collections::VecDeque;
 use std::marker::Model;
 
-/// What was read of some bytes: the complete items, what is open, and a head or a string that came
-/// in part. After a call failed only the complete items count.
+/// What was read of some bytes: the complete items, the open containers, and the partial head or
+/// string. After a call failed only the complete items count.
 #[derive(Drop)]
 pub(crate) struct Stack {
     limit: u64,
@@ -27,15 +27,15 @@ pub(crate) struct Stack {
 }
 
 impl Model for Stack {
-    ghost use Rattle.cborn_wire.specs.devices.Standing.{Standing, standing_code};
+    ghost use Rattle.cborn_wire.specs.devices.StackState.{StackState, stack_code};
 
-    ghost Value = { Standing };
+    ghost Value = { StackState };
 
-    ghost coded = { standing_code };
+    ghost coded = { stack_code };
 
-    ghost use Rattle.cborn_wire.specs.devices.StackKeeps.{told, Keeps};
+    ghost use Rattle.cborn_wire.specs.devices.StackKeeps.{seen_stack, Keeps};
 
-    ghost view = { told };
+    ghost view = { seen_stack };
 
     ghost invariant = { Keeps };
 }
@@ -44,7 +44,7 @@ impl Stack {
     ghost use Rattle.std.specs.Prelude.{◌≡◌, ◌+◌, ◌<◌, ◌≤◌, ◌^◌, ◌++◌, [], length, None, true, false};
     ghost use Rattle.std.specs.Option.{option_to_list};
     ghost use Rattle.cborn_wire.specs.shared.Machine.{start, nothing};
-    ghost use Rattle.cborn_wire.specs.devices.StackView.{seen, opened, seen_partial, IsMade, StandsFirst, Advances, Runs};
+    ghost use Rattle.cborn_wire.specs.devices.StackView.{seen, opened, seen_partial, IsMade, IsFirstInPiece, Advances, Runs};
 
     /// A stack for bytes from the offset `at` on, with the maximum nesting depth `limit`.
     pub(crate) fn new(alloc: Global, limit: Limit, at: u64) -> Stack
@@ -71,7 +71,7 @@ impl Stack {
         self.fault
     }
 
-    /// Whether nothing is open, and no head or string came in part.
+    /// Whether nothing is open, and no head or string is partial.
     pub(crate) fn is_whole(&self) -> bool
         ensures whole { result ≡ true → (opened self.now.nest ≡ []) × (seen_partial self.now.partial ≡ nothing) }
         ensures unfinished { result ≡ false → opened self.now.nest ≡ [] → seen_partial self.now.partial ≡ nothing → ⊥ }
@@ -152,11 +152,11 @@ impl Stack {
         requires some { 0 < length piece.now }
         requires room { self.old.at + length piece.now < 2 ^ 64 }
         requires within { len ≤ length piece.now }
-        requires first { StandsFirst self.old.at piece.now node len }
+        requires first { IsFirstInPiece self.old.at piece.now node len }
         requires alone { self.old.partial ≡ Partial.Nothing }
         ensures { Advances piece.now self.old self.new result }
     {
-        let Some(frame) = &mut self.nest.top else {
+        let Some(container) = &mut self.nest.top else {
             if let Err(error) = keep(&mut self.ready, Spelled::new(node)) {
                 self.fault = Some(WireFault::OutOfMemory);
                 return Err(error.into());
@@ -164,11 +164,11 @@ impl Stack {
             self.at += len as u64;
             return Ok(len);
         };
-        if let Frame::Items {
+        if let Container::Items {
             argument,
             items,
             ..
-        } = frame
+        } = container
         {
             if !argument.is_met(items.len() + 1) {
                 if let Err(error) = push_doubling(items, node) {
@@ -182,7 +182,8 @@ impl Stack {
         self.advance_any(piece)
     }
 
-    /// `advance_any` out of line, for strings and parts, so that common heads need little stack.
+    /// `advance_any` out of line, for strings and partial heads, so that common heads need little
+    /// stack.
     #[inline(never)]
     fn advance_apart(&mut self, piece: &[u8]) -> Result<usize, WireFault>
         requires live { self.old.fault ≡ None }
@@ -193,7 +194,7 @@ impl Stack {
         self.advance_any(piece)
     }
 
-    /// Reads any head, string or part at the front of `piece`.
+    /// Reads any head or string, or a part of one, at the front of `piece`.
     #[inline(always)]
     fn advance_any(&mut self, piece: &[u8]) -> Result<usize, WireFault>
         requires live { self.old.fault ≡ None }
@@ -214,8 +215,8 @@ impl Stack {
         self.at += taken as u64;
         match outcome {
             Outcome::Open => Ok(taken),
-            Outcome::Part(part) => {
-                self.partial = part;
+            Outcome::Unfinished(partial) => {
+                self.partial = partial;
                 Ok(taken)
             }
             Outcome::Whole(node) => match keep(&mut self.ready, Spelled::new(node)) {
@@ -234,7 +235,7 @@ impl Stack {
 #[inline(always)]
 fn integer_at(at: u64, piece: &[u8]) -> Option<(Node, usize)>
     ensures within { IfSome result (λ r. r.1 ≤ length piece.now) }
-    ensures first { IfSome result (λ r. StandsFirst at piece.now r.0 r.1) }
+    ensures first { IfSome result (λ r. IsFirstInPiece at piece.now r.0 r.1) }
 {
     let HeadRead::Full(head, len) = read_head(piece) else {
         return None;

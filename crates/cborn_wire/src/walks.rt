@@ -13,7 +13,7 @@ pub fn is_done(count: u64, most: u64, may_end: bool, bytes: &[u8]) -> bool
 
 /// What follows the break at the front of `bytes`; `None` if there is no break.
 #[inline(always)]
-pub fn behind_break(bytes: &[u8]) -> Option<&[u8]>
+pub fn after_break(bytes: &[u8]) -> Option<&[u8]>
     ensures { MatchOption result ((rest : List ℕ) → bytes.now ≢ 255 ∷ rest) (λ rest. bytes.now ≡ 255 ∷ rest.now) }
 {
     match bytes {

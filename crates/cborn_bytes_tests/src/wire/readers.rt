@@ -29,8 +29,8 @@ fn reads_one_item(rt: HostRuntime) {
     for (input, start, bytes, end) in FIRST {
         assert!(rt; start <= input.len());
         let read = read_one(rt.alloc(), Limit::USUAL, input, start);
-        let (item, told) = read.expect(&rt, "an item");
-        assert_eq!(rt; told, end, "{input:?}");
+        let (item, stop) = read.expect(&rt, "an item");
+        assert_eq!(rt; stop, end, "{input:?}");
         is_item(&rt, rt.alloc(), &item, start as u64, bytes);
     }
 }

@@ -1,17 +1,17 @@
--- What a step of the machine adds to what it holds: its token, how deep that goes, and the comma that may stand before a bracket.
+-- What a step of the machine adds to what it holds: its token, the depth that this needs, and the comma that may be before a bracket.
 use Rattle.std.proofs.Common.{◌≡◌, refl, sym, ℕ, ◌+◌, [], ◌∷◌, ◌++◌, Bool, Option, None, append_assoc, append-nil, arith}
 use Rattle.std.specs.Prelude.{max}
 use Rattle.cborn_lex.specs.declared.classes.Mark.{Mark}
 use Rattle.cborn_lex.specs.declared.classes.Class.{Class}
 use Rattle.cborn_lex.specs.declared.classes.Class.TheVariants.{ArrayOpen, MapOpen, EmbedClose, ArrayClose, MapClose, ParenClose, Comma, Colon, EmbedOpen, ChunkOpen, SimpleOpen, Number, TagOpen, Word, Text, Bytes}
-use Rattle.cborn_edn.specs.shared.Syntax.{Span, token, Item, string, Pieces, StringsBefore, row, Content, loose, tight, tokens_of, tokens_of_pieces, tokens_of_strings_before, tokens_of_row_before, depth_of_number, depth, depth_of_pieces, depth_of_strings_before}
-use Rattle.cborn_edn.specs.shared.Commas.{commas, commas_of_pieces, commas_of_strings_before}
+use Rattle.cborn_edn.specs.devices.Syntax.{Span, token, Item, string, Pieces, StringsBefore, row, Content, loose, tight, tokens_of, tokens_of_pieces, tokens_of_strings_before, tokens_of_row_before, depth_of_number, depth, depth_of_pieces, depth_of_strings_before}
+use Rattle.cborn_edn.specs.devices.Commas.{commas, commas_of_pieces, commas_of_strings_before}
 use Rattle.cborn_edn.proofs.Grammar.Machine.{Stack, in_row, in_key, in_value, in_tag, Nest, at_top, in_array, in_embed, Home, as_item, as_chunk, State, wants, has, builds, wants_chunk, wants_number, has_number, ends, ends_loose, begin, after, after_string, more_string, begin_chunk, begin_number, after_number, step_by}
 use Rattle.cborn_edn.specs.devices.Levels.{reach}
 use Rattle.cborn_edn.proofs.Grammar.Held.{held_stack, held_nest, held_home, held, levels, levels_home, open_levels, deep_stack, deep_home, deep, commas_stack, commas_home, commas_held, comma_in, comma_at, levels-deep, After, Grows, after-is, ends_grow}
 
 module _ (i : Item) (a : Span) where
-  -- a token behind a whole item
+  -- a token after a whole item
   pub after_grows : (st : Stack) (e : Class) → After (after st i e a) (Grows (held_stack st ++ tokens_of i) (max (deep_stack st) (levels st + depth i)) (commas_stack st + commas i) (token a e))
   after_grows (in_row n b) Comma = record { held = simp append_assoc; deep = omega arith; commas = omega arith }
   after_grows (in_row n b) e = after-is (ends n (tight (row b i)) e a) _ _ _ _ _ _ (token a e) (sym (append_assoc (held_nest n) (tokens_of_row_before b) (tokens_of i))) (omega arith) (omega arith) (ends_grow n (tight (row b i)) e a)
@@ -27,7 +27,7 @@ after_string_grows (as_chunk st s b) ps Comma a = record { held = simp append_as
 after_string_grows (as_chunk st s b) ps ParenClose a = record { held = simp append_assoc; deep = omega arith; commas = omega arith }
 after_string_grows _ _ _ _ = tt
 
--- a bracket behind a comma, or behind nothing
+-- a bracket after a comma, or after nothing
 ends_loose_grow : (st : Stack) (e : Class) (a : Span) → After (ends_loose st e a) (Grows (held_stack st) (deep_stack st) (commas_stack st + comma_in st e) (token a e))
 ends_loose_grow (in_row n b) ArrayClose a = after-is (ends n (loose b) ArrayClose a) _ _ _ _ _ _ (token a ArrayClose) refl refl (omega arith) (ends_grow n (loose b) ArrayClose a)
 ends_loose_grow (in_row n b) (EmbedClose m) a = after-is (ends n (loose b) (EmbedClose m) a) _ _ _ _ _ _ (token a (EmbedClose m)) refl refl (omega arith) (ends_grow n (loose b) (EmbedClose m) a)
@@ -56,7 +56,7 @@ begin_grows st _ a = tt
 ender_grows : (h : Home) (ps : Pieces) (e : Class) (a : Span) → reach (levels_home h) e ≡ 0 → After (after_string h ps e a) (Grows (held_home h ++ tokens_of_pieces ps) (max (max (deep_home h) (levels_home h + depth_of_pieces ps)) (reach (levels_home h) e)) (commas_home h + commas_of_pieces ps + 0) (token a e))
 ender_grows h ps e a z = after-is (after_string h ps e a) _ _ _ _ _ _ (token a e) refl (omega arith) (omega arith) (after_string_grows h ps e a)
 
--- what begins an item and no piece
+-- a token that begins an item, but no piece of a string
 data Opener : Type 0 where
   open_array open_map : Mark → Opener
   open_chunks open_simple : Opener
@@ -121,7 +121,7 @@ no_embed : (st : Stack) (i : Item) (a : Span) → after st i EmbedOpen a ≡ Non
 no_embed (in_row at_top b) i a = refl
 no_embed _ i a = refl
 
--- an item stands complete
+-- an item is whole
 has_grows : (st : Stack) (i : Item) (e : Class) (a : Span) → After (after st i e a) (Grows (held_stack st ++ tokens_of i) (max (max (deep_stack st) (levels st + depth i)) (reach (levels st) e)) (commas_stack st + commas i + 0) (token a e))
 has_grows st i (ArrayOpen m) a = nothing_after _ _ (no_after st i (open_array m) a)
 has_grows st i (MapOpen m) a = nothing_after _ _ (no_after st i (open_map m) a)

@@ -4,10 +4,10 @@ use Rattle.std.specs.Prelude.{max}
 use Rattle.cborn_lex.specs.declared.classes.Class.{Class}
 use Rattle.cborn_lex.specs.declared.classes.Class.TheVariants.{ArrayOpen, MapOpen, EmbedClose, ArrayClose, MapClose, Colon, EmbedOpen, ChunkOpen, SimpleOpen, Number, TagOpen}
 use Rattle.cborn_lex.specs.declared.classes.Token.{Token}
-use Rattle.cborn_edn.specs.shared.Syntax.{Span, token, Piece, embedded, Pieces, Content, tokens_of, tokens_of_piece, tokens_of_pieces, tokens_of_strings_before, tokens_of_row_before, tokens_of_content, tokens_of_pairs_before, depth_of_number, depth, depth_of_piece, depth_of_pieces, depth_of_strings_before, depth_of_row_before, depth_of_content, depth_of_pairs_before}
-use Rattle.cborn_edn.specs.shared.Commas.{last_comma, last_pair_comma, commas, commas_of_piece, commas_of_pieces, commas_of_strings_before, commas_of_row_before, commas_of_content, commas_of_pairs_before}
+use Rattle.cborn_edn.specs.devices.Syntax.{Span, token, Piece, embedded, Pieces, Content, tokens_of, tokens_of_piece, tokens_of_pieces, tokens_of_strings_before, tokens_of_row_before, tokens_of_content, tokens_of_pairs_before, depth_of_number, depth, depth_of_piece, depth_of_pieces, depth_of_strings_before, depth_of_row_before, depth_of_content, depth_of_pairs_before}
+use Rattle.cborn_edn.specs.devices.Commas.{last_comma, last_pair_comma, commas, commas_of_piece, commas_of_pieces, commas_of_strings_before, commas_of_row_before, commas_of_content, commas_of_pairs_before}
 use Rattle.cborn_edn.proofs.Grammar.Machine.{Stack, in_row, in_key, in_value, in_tag, Nest, at_top, in_array, in_embed, Home, as_item, as_chunk, State, wants, has, builds, wants_chunk, wants_number, has_number, with_piece, ends}
-pub use Rattle.cborn_edn.specs.shared.Machine.{tokens_before, held_stack, held_nest, held_home, held, levels, levels_nest, levels_home, open_levels, row_comma, pair_comma, comma_in, comma_at}
+pub use Rattle.cborn_edn.specs.devices.Machine.{tokens_before, held_stack, held_nest, held_home, held, levels, levels_nest, levels_home, open_levels, row_comma, pair_comma, comma_in, comma_at}
 
 abbrev pub depth_before : Option Pieces → ℕ
 depth_before None = 0
@@ -69,7 +69,7 @@ abbrev pub After : Option State → (State → Type 0) → Type 0
 After None P = Unit {0}
 After (Some s) P = P s
 
--- s is the state behind x and the token
+-- s is the state after x and the token
 pub record Grows (x : List Token) (d n : ℕ) (t : Token) (s : State) : Type 0 where
   pub held : held s ≡ x ++ (t ∷ [])
   pub deep : deep s ≡ d

@@ -1,15 +1,15 @@
--- Tokens have at most one tree, and within the limit a tree or one jam, never both; a larger limit and the second profile take no less.
+-- Tokens have at most one tree. Within the limit they have a tree or one syntax error, never both. A larger limit and profile 2 accept all that the others do.
 use Rattle.std.proofs.Common.{◌≡◌, refl, ap, ◌∙◌, sym, subst, ℕ, suc, ◌+◌, ◌≤◌, List, [], ◌∷◌, ◌++◌, Option, Some, None, append_assoc, append-nil, arith, ◌<◌, zero, ◌⊎◌, inl, inr}
 use Rattle.std.specs.Prelude.{max}
 use Rattle.cborn_lex.specs.declared.classes.Token.{Token}
 use Rattle.cborn_lex.specs.declared.classes.Profile.{Profile}
 use Rattle.cborn_lex.specs.declared.classes.Profile.TheVariants.{One as ProfileOne, Two as ProfileTwo}
-use Rattle.cborn_edn.specs.shared.Syntax.{token, span, Item, number, word, simple, string, row, no_item, Input, nothing, items, tokens_of_input, depth, depth_of_input}
-use Rattle.cborn_edn.specs.shared.Commas.{commas, commas_of_input, AllowsCount}
+use Rattle.cborn_edn.specs.devices.Syntax.{token, span, Item, number, word, simple, string, row, no_item, Input, nothing, items, tokens_of_input, depth, depth_of_input}
+use Rattle.cborn_edn.specs.devices.Commas.{commas, commas_of_input, AllowsCount}
 use Rattle.cborn_edn.proofs.Grammar.Machine.{Stack, in_row, at_top, as_item, State, wants, has, builds, start, step, run, run-append, run-none}
 use Rattle.cborn_edn.specs.declared.faults.EdnReason.{EdnReason}
 use Rattle.cborn_edn.specs.declared.faults.EdnReason.TheVariants.{UnexpectedToken, UnexpectedEnd, TooDeep}
-use Rattle.cborn_edn.specs.devices.Parse.{Parse, HasTree, GoesOn, GoesOnAtAnyDepth, StopsAt, Jam}
+use Rattle.cborn_edn.specs.devices.Parse.{Parse, HasTree, GoesOn, GoesOnAtAnyDepth, StopsAt, IsSyntaxError}
 use Rattle.cborn_edn.proofs.Grammar.Takes.{landed, then, whole, takes_input, finish, finish-whole}
 use Rattle.cborn_edn.specs.devices.Levels.{reach}
 use Rattle.cborn_edn.proofs.Grammar.Held.{held, open_levels, deep_stack, deep, commas_stack, commas_held, levels, comma_at, After, Grows}
@@ -52,7 +52,7 @@ commas-whole (items (row b i)) = omega (arith, commas-landed (in_row at_top b) i
 no_some : {A : Type 0} {x : A} {B : Type 0} → None ≡ Some x → B
 no_some e = cc
 
--- what a run adds
+-- what a run of the machine adds to what it holds
 pub record Ran (y : List Token) (s u : State) : Type 0 where
   pub held : held u ≡ held s ++ y
   pub deeper : deep s ≤ deep u
@@ -128,7 +128,7 @@ nothing_goes p limit f t s e none g =
 pub leads_on : (f : List Token) (t : Token) (s u : State) → Leads f s → step s t ≡ Some u → Leads (f ++ (t ∷ [])) u
 leads_on f t s u e next = run-append f (t ∷ []) (Some start) ∙ ap (run (t ∷ [])) e ∙ next
 
--- two ends of one run
+-- a run has one end
 pub same_end : (ts : List Token) (s u : State) → Leads ts s → Leads ts u → s ≡ u
 same_end ts s u e f = same_Some _ _ (sym e ∙ f)
 
@@ -141,9 +141,9 @@ allows ProfileTwo n = inl tt
 low : (d limit : ℕ) → (d ≤ limit) ⊎ (limit < d)
 low d limit = grind arith
 
--- LAW: tokens have a tree within the limit, or a jam
+-- LAW: tokens have a tree within the limit, or a syntax error
 abbrev pub Answered : Profile → ℕ → ℕ → List Token → Type 0
-Answered p limit end ts = HasTree p limit ts ⊎ ((q : ℕ) × (r : EdnReason) × Jam p limit end ts q r)
+Answered p limit end ts = HasTree p limit ts ⊎ ((q : ℕ) × (r : EdnReason) × IsSyntaxError p limit end ts q r)
 
 module _ (p : Profile) (limit end : ℕ) where
   pub stops : (f y : List Token) (t : Token) (s : State) → Leads f s → AllowsCount p (commas_held s) → deep s ≤ limit → (GoesOn p limit (f ++ (t ∷ [])) → ⊥) → StopsAt p limit (f ++ (t ∷ y)) f t
@@ -179,12 +179,12 @@ module _ (p : Profile) (limit end : ℕ) where
       none ProfileOne = omega arith
       none ProfileTwo = tt
 
-  -- fronts of what goes on go on
+  -- if tokens go on, those that they begin with go on
   front_goes : (x y : List Token) → GoesOn p limit (x ++ y) → GoesOn p limit x
   front_goes x y g = (y ++ g.0, rw append_assoc at g.1)
 
   -- LAW: not both
-  pub not_both : (ts : List Token) (q : ℕ) (r : EdnReason) → HasTree p limit ts → Jam p limit end ts q r → ⊥
+  pub not_both : (ts : List Token) (q : ℕ) (r : EdnReason) → HasTree p limit ts → IsSyntaxError p limit end ts q r → ⊥
   not_both ts q UnexpectedEnd h j = j.2 h
   not_both ts q UnexpectedToken h (f, t, s, at, never) = s.here (front_goes (f ++ (t ∷ [])) s.y (rw append_assoc (subst (GoesOn p limit) s.split (has_goes p limit ts h))))
   not_both ts q TooDeep h (f, t, s, at, never) = s.here (front_goes (f ++ (t ∷ [])) s.y (rw append_assoc (subst (GoesOn p limit) s.split (has_goes p limit ts h))))
@@ -231,7 +231,7 @@ module _ (p : Profile) (limit : ℕ) (ts : List Token) where
   place f g t u i j e a b = a ∙ ap (λ (v : Token). v.start) e.1 ∙ sym b
 
   -- LAW: not two
-  pub not_two : (end i j : ℕ) (r s : EdnReason) → Jam p limit end ts i r → Jam p limit end ts j s → (i ≡ j) × (r ≡ s)
+  pub not_two : (end i j : ℕ) (r s : EdnReason) → IsSyntaxError p limit end ts i r → IsSyntaxError p limit end ts j s → (i ≡ j) × (r ≡ s)
   not_two end i j UnexpectedEnd UnexpectedEnd a b = (a.0 ∙ sym b.0, refl)
   not_two end i j UnexpectedEnd UnexpectedToken a b = absurd (stop_goes_not b.0 b.1 b.2 a.1)
   not_two end i j UnexpectedEnd TooDeep a b = absurd (stop_goes_not b.0 b.1 b.2 a.1)
@@ -246,7 +246,7 @@ module _ (p : Profile) (limit : ℕ) (ts : List Token) where
   not_two end i j TooDeep s a b = absurd b
   not_two end i j r s a b = absurd a
 
--- LAW: larger limits and profile 2 take no less
+-- LAW: larger limits and profile 2 accept no less
 pub larger_limit : (p : Profile) (limit most : ℕ) (ts : List Token) → limit ≤ most → HasTree p limit ts → HasTree p most ts
 larger_limit p limit most ts h t = (t.0, t.1, omega (arith, t.2))
 

@@ -1,30 +1,30 @@
--- The machine with its tests of the profile and the limit is a parser: it ends in the tree, or tells the jam.
+-- The machine with its tests of the profile and the limit is a parser: it answers the tree, or the syntax error.
 use Rattle.std.proofs.Common.{◌≡◌, refl, ap, ◌∙◌, sym, subst, ℕ, suc, ◌+◌, ◌≤◌, List, [], ◌∷◌, ◌++◌, Bool, true, false, Option, Some, None, append_assoc, append-nil, leb, cond, arith, ◌<◌, zero}
 use Rattle.std.specs.Prelude.{max}
 use Rattle.std.proofs.lemmas.Bool.{leb-true, leb-false}
 use Rattle.cborn_lex.specs.declared.classes.Token.{Token}
 use Rattle.cborn_lex.specs.declared.classes.Profile.{Profile}
 use Rattle.cborn_lex.specs.declared.classes.Profile.TheVariants.{One as ProfileOne, Two as ProfileTwo}
-use Rattle.cborn_edn.specs.shared.Commas.{AllowsCount}
-use Rattle.cborn_edn.specs.shared.Syntax.{token, span, Input, depth_of_input}
+use Rattle.cborn_edn.specs.devices.Commas.{AllowsCount}
+use Rattle.cborn_edn.specs.devices.Syntax.{token, span, Input, depth_of_input}
 use Rattle.cborn_edn.proofs.Grammar.Machine.{State, start, step}
 use Rattle.cborn_edn.specs.declared.faults.EdnReason.{EdnReason}
 use Rattle.cborn_edn.specs.declared.faults.EdnReason.TheVariants.{UnexpectedToken, UnexpectedEnd, TooDeep}
-use Rattle.cborn_edn.specs.devices.Parse.{Parse, GoesOn, Jam}
+use Rattle.cborn_edn.specs.devices.Parse.{Parse, GoesOn, IsSyntaxError}
 use Rattle.cborn_edn.proofs.Grammar.Takes.{finish}
 use Rattle.cborn_edn.specs.devices.Levels.{reach}
 use Rattle.cborn_edn.proofs.Grammar.Held.{held, open_levels, deep, commas_held, comma_at, After, Grows}
 use Rattle.cborn_edn.proofs.Grammar.Grows.{grows}
 use Rattle.cborn_edn.proofs.Grammar.Trailing.{parse_of}
 use Rattle.cborn_edn.proofs.Grammar.OneTree.{Leads, Ended, IfTree, ends_tree, held_by, good, goes_on, nothing_goes, no_tree, leads_on, same_end, stops}
--- The parser that the code is: each test looks at the token and at what is open, and at nothing else.
+-- The parser that the code is. Its tests look at the next token and at what is open alone.
 
-pub use Rattle.cborn_edn.specs.shared.Machine.{Answer, forbids, at_end, checked, parse, Whole, Jams}
+pub use Rattle.cborn_edn.specs.devices.Machine.{Answer, forbids, at_end, checked, parse, Whole, HasSyntaxError}
 
--- what an answer promises
+-- what an answer of the parser means
 abbrev pub Meets : Profile → ℕ → ℕ → List Token → Answer → Type 0
 Meets p limit end ts (Whole t) = Parse p ts t × (depth_of_input t ≤ limit)
-Meets p limit end ts (Jams q r) = Jam p limit end ts q r
+Meets p limit end ts (HasSyntaxError q r) = IsSyntaxError p limit end ts q r
 
 allows_more : (p : Profile) (m n : ℕ) → forbids p n ≡ false → AllowsCount p m → AllowsCount p (m + n)
 allows_more ProfileOne m zero f a = omega (arith, a)
@@ -50,7 +50,7 @@ module _ (p : Profile) (limit end : ℕ) where
 
       go : (o : Option State) → step s t ≡ o → After o (Grows (held s) (max (deep s) (reach (open_levels s) t.class)) (commas_held s + comma_at s t.class) (token (span t) t.class))
           → ((u : State) → step s t ≡ Some u → AllowsCount p (commas_held u) → deep u ≤ limit → Meets p limit end (f ++ (t ∷ y)) (parse p limit end y u))
-          → Meets p limit end (f ++ (t ∷ y)) (elim (checked p limit s t o) [ None ↦ Jams t.start UnexpectedToken | Some u ↦ cond (leb (reach (open_levels s) t.class) limit) (parse p limit end y u) (Jams t.start TooDeep) ])
+          → Meets p limit end (f ++ (t ∷ y)) (elim (checked p limit s t o) [ None ↦ HasSyntaxError t.start UnexpectedToken | Some u ↦ cond (leb (reach (open_levels s) t.class) limit) (parse p limit end y u) (HasSyntaxError t.start TooDeep) ])
       go None none g rest = (f, t, stops p limit end f y t s e a d (nothing_goes p limit f t s e none), refl, λ h. nothing_goes p h.0 f t s e none h.1)
       go (Some u) next g rest = choose (forbids p (comma_at s t.class)) refl (leb (reach (open_levels s) t.class) limit) refl
         where
@@ -61,7 +61,7 @@ module _ (p : Profile) (limit end : ℕ) where
               (subst (λ v. AllowsCount p (commas_held v)) same k.allowed, omega (arith, ap deep same, k.shallow))
 
           choose : (b : Bool) → forbids p (comma_at s t.class) ≡ b → (c : Bool) → leb (reach (open_levels s) t.class) limit ≡ c
-              → Meets p limit end (f ++ (t ∷ y)) (elim (cond b None (Some u)) [ None ↦ Jams t.start UnexpectedToken | Some v ↦ cond c (parse p limit end y v) (Jams t.start TooDeep) ])
+              → Meets p limit end (f ++ (t ∷ y)) (elim (cond b None (Some u)) [ None ↦ HasSyntaxError t.start UnexpectedToken | Some v ↦ cond c (parse p limit end y v) (HasSyntaxError t.start TooDeep) ])
           choose true bad c low =
               let never = λ (m : ℕ) (h : GoesOn p m (f ++ (t ∷ []))). forbidden p (commas_held s) (comma_at s t.class) bad (subst (AllowsCount p) g.commas (deeper m h).0) in
               (f, t, stops p limit end f y t s e a d (never limit), refl, λ h. never h.0 h.1)
@@ -75,7 +75,7 @@ module _ (p : Profile) (limit end : ℕ) where
                 (deep u, goes_on p (deep u) (f ++ (t ∷ [])) (record { state = u; leads = leads_on f t s u e next; allowed = subst (AllowsCount p) (sym g.commas) (allows_more p _ _ fine a); shallow = omega arith })),
               )
 
-  -- the parser's answer is the tree within the limit, or the jam
+  -- the parser's answer is the tree within the limit, or the syntax error
   pub parses : (ts : List Token) → Meets p limit end ts (parse p limit end ts start)
   parses ts = parse_meets ts [] start refl (none p) (omega arith)
     where

@@ -4,11 +4,11 @@ use Rattle.cborn_lex.specs.declared.classes.Mark.{Mark}
 use Rattle.cborn_lex.specs.declared.classes.Class.{Class}
 use Rattle.cborn_lex.specs.declared.classes.Class.TheVariants.{ArrayOpen, MapOpen, EmbedClose, ArrayClose, MapClose, ParenClose, Comma, Colon, EmbedOpen, ChunkOpen, TagOpen, Text, Bytes}
 use Rattle.cborn_lex.specs.declared.classes.Token.{Token}
-use Rattle.cborn_edn.specs.shared.Syntax.{Span, token, Item, number, word, tag, simple, string, chunked, array, map, Piece, text, bytes, embedded, Pieces, piece, also, Strings, strings, StringsBefore, no_string, after_strings, Row, row, RowBefore, no_item, after_row, Content, loose, tight, Pairs, pairs, PairsBefore, no_pair, after_pairs, Fields, loose_fields, tight_fields, Input, nothing, items, tokens_of, tokens_of_piece, tokens_of_pieces, tokens_of_strings, tokens_of_strings_before, tokens_of_row, tokens_of_row_before, tokens_of_content, tokens_of_pairs, tokens_of_pairs_before, tokens_of_fields, tokens_of_input}
+use Rattle.cborn_edn.specs.devices.Syntax.{Span, token, Item, number, word, tag, simple, string, chunked, array, map, Piece, text, bytes, embedded, Pieces, piece, also, Strings, strings, StringsBefore, no_string, after_strings, Row, row, RowBefore, no_item, after_row, Content, loose, tight, Pairs, pairs, PairsBefore, no_pair, after_pairs, Fields, loose_fields, tight_fields, Input, nothing, items, tokens_of, tokens_of_piece, tokens_of_pieces, tokens_of_strings, tokens_of_strings_before, tokens_of_row, tokens_of_row_before, tokens_of_content, tokens_of_pairs, tokens_of_pairs_before, tokens_of_fields, tokens_of_input}
 use Rattle.cborn_edn.proofs.Grammar.Machine.{Stack, in_row, in_key, in_value, in_tag, Nest, at_top, in_array, in_embed, Home, as_item, as_chunk, State, wants, has, builds, wants_chunk, start, with_piece, ends, after, step_by, run}
-pub use Rattle.cborn_edn.specs.shared.Machine.{at_home, finish}
+pub use Rattle.cborn_edn.specs.devices.Machine.{at_home, finish}
 
--- an item stands complete
+-- the state after a whole item
 abbrev pub landed : Stack → Item → State
 landed st (string ps) = builds (as_item st) ps
 landed st (number a n v m) = has st (number a n v m)
@@ -28,7 +28,7 @@ landed_pairs st s m (pairs b k c v) = landed (in_value st s m b k c) v
 abbrev pub landed_strings : Stack → Span → Strings → State
 landed_strings st s (strings b ps) = builds (as_chunk st s b) ps
 
--- what ends an item and begins no piece
+-- a token that may follow an item, and begins no piece of a string
 pub data Ender : Type 0 where
   array_end map_end paren_end comma colon : Ender
   embed_end : Mark → Ender

@@ -1,12 +1,12 @@
--- Tokens of a tree have a comma right before a closing bracket where the tree counts one.
+-- The tokens of a tree have as many commas directly before closing brackets as the tree counts.
 use Rattle.std.proofs.Common.{◌≡◌, refl, sym, ap, ◌∙◌, ℕ, ◌+◌, List, [], ◌∷◌, ◌++◌, Bool, true, false, append_assoc, append-nil, arith}
 use Rattle.cborn_lex.specs.declared.classes.Class.{Class}
 use Rattle.cborn_lex.specs.declared.classes.Class.TheVariants.{ArrayClose, MapClose, ParenClose, Comma, Colon, EmbedClose}
 use Rattle.cborn_lex.specs.declared.classes.Token.{Token}
 use Rattle.cborn_lex.specs.declared.classes.Profile.{Profile}
 use Rattle.cborn_lex.specs.declared.classes.Profile.TheVariants.{One as ProfileOne, Two as ProfileTwo}
-use Rattle.cborn_edn.specs.shared.Syntax.{Span, token, span, Item, number, word, tag, simple, string, chunked, array, map, Piece, text, bytes, embedded, Pieces, piece, also, Strings, strings, StringsBefore, no_string, after_strings, Row, row, RowBefore, no_item, after_row, Content, loose, tight, Pairs, pairs, PairsBefore, no_pair, after_pairs, Fields, loose_fields, tight_fields, Input, nothing, items, tokens_of, tokens_of_piece, tokens_of_pieces, tokens_of_strings, tokens_of_strings_before, tokens_of_row, tokens_of_row_before, tokens_of_content, tokens_of_pairs, tokens_of_pairs_before, tokens_of_fields, tokens_of_input}
-use Rattle.cborn_edn.specs.shared.Commas.{AllowsCount, commas, commas_of_piece, commas_of_pieces, commas_of_strings, commas_of_strings_before, commas_of_row, commas_of_row_before, commas_of_content, commas_of_pairs, commas_of_pairs_before, commas_of_fields, commas_of_input}
+use Rattle.cborn_edn.specs.devices.Syntax.{Span, token, span, Item, number, word, tag, simple, string, chunked, array, map, Piece, text, bytes, embedded, Pieces, piece, also, Strings, strings, StringsBefore, no_string, after_strings, Row, row, RowBefore, no_item, after_row, Content, loose, tight, Pairs, pairs, PairsBefore, no_pair, after_pairs, Fields, loose_fields, tight_fields, Input, nothing, items, tokens_of, tokens_of_piece, tokens_of_pieces, tokens_of_strings, tokens_of_strings_before, tokens_of_row, tokens_of_row_before, tokens_of_content, tokens_of_pairs, tokens_of_pairs_before, tokens_of_fields, tokens_of_input}
+use Rattle.cborn_edn.specs.devices.Commas.{AllowsCount, commas, commas_of_piece, commas_of_pieces, commas_of_strings, commas_of_strings_before, commas_of_row, commas_of_row_before, commas_of_content, commas_of_pairs, commas_of_pairs_before, commas_of_fields, commas_of_input}
 use Rattle.cborn_edn.specs.devices.Parse.{is_closing, Allows, Parse}
 
 abbrev is_comma : Class → Bool
@@ -18,29 +18,29 @@ both true true = 1
 both true false = 0
 both false b = 0
 
--- one, if this token closes and the one before is a comma
+-- 1, if this token is a closing bracket and the one before a comma
 abbrev weight : Bool → Class → ℕ
 weight b c = both (is_closing c) b
 
--- how many commas stand right before a closing bracket, behind a comma or not
+-- how many commas are directly before a closing bracket; b says whether a comma is before the tokens
 abbrev trailing : Bool → List Token → ℕ
 trailing b [] = 0
 trailing b (t ∷ l) = weight b t.class + trailing (is_comma t.class) l
 
--- whether a comma is the last, behind a comma or not
-abbrev behind_row : RowBefore → Bool → Bool
-behind_row no_item b = b
-behind_row (after_row r c) b = true
+-- whether a comma is the last; b says whether a comma is before the tokens
+abbrev after_one_row : RowBefore → Bool → Bool
+after_one_row no_item b = b
+after_one_row (after_row r c) b = true
 
-abbrev behind_pairs : PairsBefore → Bool → Bool
-behind_pairs no_pair b = b
-behind_pairs (after_pairs ps c) b = true
+abbrev after_one_pairs : PairsBefore → Bool → Bool
+after_one_pairs no_pair b = b
+after_one_pairs (after_pairs ps c) b = true
 
-abbrev behind_strings : StringsBefore → Bool → Bool
-behind_strings no_string b = b
-behind_strings (after_strings ss c) b = true
+abbrev after_one_strings : StringsBefore → Bool → Bool
+after_one_strings no_string b = b
+after_one_strings (after_strings ss c) b = true
 
--- a token that closes, behind a comma or not
+-- a closing bracket, after a comma or not
 closed : (e : Class) (b : Bool) (y : List Token) → is_closing e ≡ true → is_comma e ≡ false → both (is_closing e) b + trailing (is_comma e) y ≡ both true b + trailing false y
 closed e b y h k = rw (h, k) refl
 
@@ -66,20 +66,20 @@ mutual
 
   strings_trail : (ss : Strings) (b : Bool) (y : List Token) → trailing b (tokens_of_strings ss ++ y) ≡ commas_of_strings ss + trailing false y
   strings_trail (strings c ps) b y =
-      omega (arith, ap (trailing b) (append_assoc (tokens_of_strings_before c) (tokens_of_pieces ps) y), strings_before_trail c b (tokens_of_pieces ps ++ y), pieces_trail ps (behind_strings c b) y)
+      omega (arith, ap (trailing b) (append_assoc (tokens_of_strings_before c) (tokens_of_pieces ps) y), strings_before_trail c b (tokens_of_pieces ps ++ y), pieces_trail ps (after_one_strings c b) y)
 
-  strings_before_trail : (c : StringsBefore) (b : Bool) (y : List Token) → trailing b (tokens_of_strings_before c ++ y) ≡ commas_of_strings_before c + trailing (behind_strings c b) y
+  strings_before_trail : (c : StringsBefore) (b : Bool) (y : List Token) → trailing b (tokens_of_strings_before c ++ y) ≡ commas_of_strings_before c + trailing (after_one_strings c b) y
   strings_before_trail no_string b y = omega arith
   strings_before_trail (after_strings ss c) b y = omega (arith, ap (trailing b) (append_assoc (tokens_of_strings ss) (token c Comma ∷ []) y), strings_trail ss b (token c Comma ∷ y))
 
   row_trails : (r : Row) (b : Bool) (y : List Token) → trailing b (tokens_of_row r ++ y) ≡ commas_of_row r + trailing false y
-  row_trails (row c i) b y = omega (arith, ap (trailing b) (append_assoc (tokens_of_row_before c) (tokens_of i) y), row_before_trails c b (tokens_of i ++ y), item_trails i (behind_row c b) y)
+  row_trails (row c i) b y = omega (arith, ap (trailing b) (append_assoc (tokens_of_row_before c) (tokens_of i) y), row_before_trails c b (tokens_of i ++ y), item_trails i (after_one_row c b) y)
 
-  row_before_trails : (c : RowBefore) (b : Bool) (y : List Token) → trailing b (tokens_of_row_before c ++ y) ≡ commas_of_row_before c + trailing (behind_row c b) y
+  row_before_trails : (c : RowBefore) (b : Bool) (y : List Token) → trailing b (tokens_of_row_before c ++ y) ≡ commas_of_row_before c + trailing (after_one_row c b) y
   row_before_trails no_item b y = omega arith
   row_before_trails (after_row r c) b y = omega (arith, ap (trailing b) (append_assoc (tokens_of_row r) (token c Comma ∷ []) y), row_trails r b (token c Comma ∷ y))
 
-  -- what stands in brackets, and the closing one
+  -- the content of brackets, and the closing one
   content_trails : (c : Content) (end : Span) (e : Class) (y : List Token) → is_closing e ≡ true → is_comma e ≡ false → trailing false (tokens_of_content c ++ (token end e ∷ y)) ≡ commas_of_content c + trailing false y
   content_trails (loose no_item) end e y h k = rw (h, k) (omega arith)
   content_trails (loose (after_row r c)) end e y h k = omega (arith, row_before_trails (after_row r c) false (token end e ∷ y), closed e true y h k)
@@ -88,9 +88,9 @@ mutual
   pairs_trail : (ps : Pairs) (b : Bool) (y : List Token) → trailing b (tokens_of_pairs ps ++ y) ≡ commas_of_pairs ps + trailing false y
   pairs_trail (pairs c k a v) b y =
       let one = ap (trailing b) (append_assoc (tokens_of_pairs_before c) (tokens_of k ++ (token a Colon ∷ tokens_of v)) y ∙ ap (λ l. tokens_of_pairs_before c ++ l) (append_assoc (tokens_of k) (token a Colon ∷ tokens_of v) y)) in
-      omega (arith, one, pairs_before_trail c b (tokens_of k ++ (token a Colon ∷ (tokens_of v ++ y))), item_trails k (behind_pairs c b) (token a Colon ∷ (tokens_of v ++ y)), item_trails v false y)
+      omega (arith, one, pairs_before_trail c b (tokens_of k ++ (token a Colon ∷ (tokens_of v ++ y))), item_trails k (after_one_pairs c b) (token a Colon ∷ (tokens_of v ++ y)), item_trails v false y)
 
-  pairs_before_trail : (c : PairsBefore) (b : Bool) (y : List Token) → trailing b (tokens_of_pairs_before c ++ y) ≡ commas_of_pairs_before c + trailing (behind_pairs c b) y
+  pairs_before_trail : (c : PairsBefore) (b : Bool) (y : List Token) → trailing b (tokens_of_pairs_before c ++ y) ≡ commas_of_pairs_before c + trailing (after_one_pairs c b) y
   pairs_before_trail no_pair b y = omega arith
   pairs_before_trail (after_pairs ps c) b y = omega (arith, ap (trailing b) (append_assoc (tokens_of_pairs ps) (token c Comma ∷ []) y), pairs_trail ps b (token c Comma ∷ y))
 
@@ -104,16 +104,16 @@ input_trails : (t : Input) → trailing false (tokens_of_input t) ≡ commas_of_
 input_trails nothing = omega arith
 input_trails (items r) = omega (arith, ap (trailing false) (append-nil (tokens_of_row r)), row_trails r false [])
 
--- where none is counted, none stands
-none_stands : (x y : List Token) (at : Span) (t : Token) (b : Bool) → trailing b (x ++ (token at Comma ∷ (t ∷ y))) ≡ 0 → is_closing t.class ≡ false
-none_stands [] y at t b e = go (is_closing t.class) (omega (arith, e))
+-- if the tokens have none, no closing bracket follows a comma
+none_closes : (x y : List Token) (at : Span) (t : Token) (b : Bool) → trailing b (x ++ (token at Comma ∷ (t ∷ y))) ≡ 0 → is_closing t.class ≡ false
+none_closes [] y at t b e = go (is_closing t.class) (omega (arith, e))
   where
     go : (c : Bool) → both c true ≡ 0 → c ≡ false
     go true f = absurd (omega (arith, f))
     go false f = refl
-none_stands (s ∷ x) y at t b e = none_stands x y at t (is_comma s.class) (omega (arith, e))
+none_closes (s ∷ x) y at t b e = none_closes x y at t (is_comma s.class) (omega (arith, e))
 
--- behind a token that is a comma, or not
+-- after a token that is a comma, or not
 weightless : (b : Bool) (c d : Class) → (c ≡ Comma → is_closing d ≡ false) → weight (is_comma c) d ≡ 0
 weightless b Comma d h = rw (h refl) refl
 weightless b c d h = light (is_closing d)
@@ -122,7 +122,7 @@ weightless b c d h = light (is_closing d)
     light true = refl
     light false = refl
 
--- where none stands, none is counted
+-- if no closing bracket follows a comma, the tokens have none
 none_counted : (t : Token) (l : List Token) → Allows ProfileOne (t ∷ l) → trailing (is_comma t.class) l ≡ 0
 none_counted t [] h = refl
 none_counted t (u ∷ l) h =
@@ -143,9 +143,9 @@ none_in : (l : List Token) → Allows ProfileOne l → trailing false l ≡ 0
 none_in [] h = refl
 none_in (t ∷ l) h = omega (arith, first_light t.class, none_counted t l h)
 
--- the grammar's tree, by what it counts
+-- a parse, by what the tree counts
 pub parse_of : (p : Profile) (ts : List Token) (t : Input) → tokens_of_input t ≡ ts → AllowsCount p (commas_of_input t) → Parse p ts t
-parse_of ProfileOne ts t e a = record { is = e; allowed = λ x y at u f. none_stands x y at u false (ap (trailing false) (sym f) ∙ ap (trailing false) (sym e) ∙ input_trails t ∙ a) }
+parse_of ProfileOne ts t e a = record { is = e; allowed = λ x y at u f. none_closes x y at u false (ap (trailing false) (sym f) ∙ ap (trailing false) (sym e) ∙ input_trails t ∙ a) }
 parse_of ProfileTwo ts t e a = record { is = e; allowed = tt }
 
 pub allowed_count : (p : Profile) (ts : List Token) (t : Input) → Parse p ts t → AllowsCount p (commas_of_input t)

@@ -4,41 +4,41 @@ use Rattle.cborn_lex.specs.declared.classes.Profile.{Profile}
 use Rattle.cborn_lex.specs.declared.classes.Profile.TheVariants.{One as ProfileOne, Two as ProfileTwo}
 use Rattle.cborn_lex.specs.declared.classes.Class.{Class}
 use Rattle.cborn_lex.specs.declared.classes.Token.{Token}
-use Rattle.cborn_lex.specs.Tokens.{Blank, Read}
+use Rattle.cborn_lex.specs.Tokens.{WhiteSpace, Read}
 use Rattle.cborn_lex.specs.Forms.{Reads}
 use Rattle.cborn_lex.specs.Lex.{Lex}
-use Rattle.cborn_lex.specs.devices.Pieces.{Lexeme, gap, token as lexed, slice, front_of, spelled, AreRead, tokens}
+use Rattle.cborn_lex.specs.devices.Pieces.{Lexeme, white_space, token as lexed, slice, front_of, spelled, AreRead, tokens}
 use Rattle.cborn_lex.proofs.WholeTexts.Parts.{parted_lex}
 use Rattle.cborn_lex.proofs.WholeTexts.Chains.{both_profiles}
-use Rattle.cborn_edn.specs.shared.Syntax.{token}
-use Rattle.cborn_edn.specs.ReadingBack.{nowhere, bare}
+use Rattle.cborn_edn.specs.devices.Syntax.{token}
+use Rattle.cborn_edn.specs.ReadingBack.{nowhere, unplaced_token}
 
--- the tokens among pieces, places aside
-abbrev pub bare_tokens : List Lexeme → List Token
-bare_tokens [] = []
-bare_tokens (gap s ∷ ps) = bare_tokens ps
-bare_tokens (lexed k s ∷ ps) = token nowhere k ∷ bare_tokens ps
+-- the tokens among pieces, without their places
+abbrev pub unplaced_tokens : List Lexeme → List Token
+unplaced_tokens [] = []
+unplaced_tokens (white_space s ∷ ps) = unplaced_tokens ps
+unplaced_tokens (lexed k s ∷ ps) = token nowhere k ∷ unplaced_tokens ps
 
--- x, as z stands behind it, reads as pieces with these tokens
+-- x, before z, reads as pieces with these tokens
 pub record Chained (x z : List ℕ) (ts : List Token) : Type 0 where
   pub pieces : List Lexeme
   pub read : AreRead ProfileOne pieces z
   pub whole : x ≡ spelled pieces
-  pub told : bare_tokens pieces ≡ ts
+  pub same_tokens : unplaced_tokens pieces ≡ ts
 
-bare-placed : (n : ℕ) (ps : List Lexeme) → list_map bare (tokens n ps) ≡ bare_tokens ps
-bare-placed n [] = refl
-bare-placed n (gap s ∷ ps) = bare-placed (n + length s) ps
-bare-placed n (lexed k s ∷ ps) = ap (λ ts. token nowhere k ∷ ts) (bare-placed (n + length s) ps)
+unplaced-placed : (n : ℕ) (ps : List Lexeme) → list_map unplaced_token (tokens n ps) ≡ unplaced_tokens ps
+unplaced-placed n [] = refl
+unplaced-placed n (white_space s ∷ ps) = unplaced-placed (n + length s) ps
+unplaced-placed n (lexed k s ∷ ps) = ap (λ ts. token nowhere k ∷ ts) (unplaced-placed (n + length s) ps)
 
 spelled-append : (ps qs : List Lexeme) → spelled (ps ++ qs) ≡ spelled ps ++ spelled qs
 spelled-append [] qs = refl
 spelled-append (p ∷ ps) qs = ap (λ x. slice p ++ x) (spelled-append ps qs) ∙ sym (append_assoc (slice p) (spelled ps) (spelled qs))
 
-bare-append : (ps qs : List Lexeme) → bare_tokens (ps ++ qs) ≡ bare_tokens ps ++ bare_tokens qs
-bare-append [] qs = refl
-bare-append (gap s ∷ ps) qs = bare-append ps qs
-bare-append (lexed k s ∷ ps) qs = ap (λ ts. token nowhere k ∷ ts) (bare-append ps qs)
+unplaced-append : (ps qs : List Lexeme) → unplaced_tokens (ps ++ qs) ≡ unplaced_tokens ps ++ unplaced_tokens qs
+unplaced-append [] qs = refl
+unplaced-append (white_space s ∷ ps) qs = unplaced-append ps qs
+unplaced-append (lexed k s ∷ ps) qs = ap (λ ts. token nowhere k ∷ ts) (unplaced-append ps qs)
 
 read-append : (ps qs : List Lexeme) (z : List ℕ) → AreRead ProfileOne ps (spelled qs ++ z) → AreRead ProfileOne qs z → AreRead ProfileOne (ps ++ qs) z
 read-append [] qs z h k = k
@@ -47,13 +47,13 @@ read-append (p ∷ ps) qs z h k =
     (subst (λ (x : List ℕ). Reads ProfileOne (slice p) x (front_of p)) e h.0, read-append ps qs z h.1 k)
 
 pub no_text : (z : List ℕ) → Chained [] z []
-no_text z = record { pieces = []; read = tt; whole = refl; told = refl }
+no_text z = record { pieces = []; read = tt; whole = refl; same_tokens = refl }
 
 pub one_token : (k : Class) (s z : List ℕ) → Reads ProfileOne s z (Read k) → Chained s z (token nowhere k ∷ [])
-one_token k s z h = record { pieces = lexed k s ∷ []; read = (h, tt); whole = sym (append-nil s); told = refl }
+one_token k s z h = record { pieces = lexed k s ∷ []; read = (h, tt); whole = sym (append-nil s); same_tokens = refl }
 
-pub one_gap : (s z : List ℕ) → Reads ProfileOne s z Blank → Chained s z []
-one_gap s z h = record { pieces = gap s ∷ []; read = (h, tt); whole = sym (append-nil s); told = refl }
+pub one_white_space : (s z : List ℕ) → Reads ProfileOne s z WhiteSpace → Chained s z []
+one_white_space s z h = record { pieces = white_space s ∷ []; read = (h, tt); whole = sym (append-nil s); same_tokens = refl }
 
 -- one part and then another
 pub both : (x y z : List ℕ) (ts us : List Token) → Chained x (y ++ z) ts → Chained y z us → Chained (x ++ y) z (ts ++ us)
@@ -61,19 +61,19 @@ both x y z ts us h k = record {
   pieces = h.pieces ++ k.pieces;
   read = read-append h.pieces k.pieces z (subst (λ (w : List ℕ). AreRead ProfileOne h.pieces (w ++ z)) k.whole h.read) k.read;
   whole = ap (λ w. w ++ y) h.whole ∙ (ap (λ w. spelled h.pieces ++ w) k.whole ∙ sym (spelled-append h.pieces k.pieces));
-  told = bare-append h.pieces k.pieces ∙ (ap (λ w. w ++ bare_tokens k.pieces) h.told ∙ ap (λ w. ts ++ w) k.told);
+  same_tokens = unplaced-append h.pieces k.pieces ∙ (ap (λ w. w ++ unplaced_tokens k.pieces) h.same_tokens ∙ ap (λ w. ts ++ w) k.same_tokens);
 }
 
 pub retell : (x z : List ℕ) (ts us : List Token) → ts ≡ us → Chained x z ts → Chained x z us
 retell x z ts us e h = subst (λ (w : List Token). Chained x z w) e h
 
--- the tokens of a whole text, places aside
+-- these are the tokens of a whole text, without their places
 abbrev pub HasBare : Profile → List ℕ → List Token → Type 0
-HasBare profile x bares = (ts : List Token) × Lex profile x ts × (list_map bare ts ≡ bares)
+HasBare profile x bares = (ts : List Token) × Lex profile x ts × (list_map unplaced_token ts ≡ bares)
 
 lexed_one : (x : List ℕ) (ts : List Token) (h : Chained x [] ts) → Lex ProfileOne x (tokens 0 h.pieces)
 lexed_one x ts h = parted_lex ProfileOne x (tokens 0 h.pieces) (record { pieces = h.pieces; read = h.read; whole = h.whole; placed = refl })
 
 pub whole_text : (profile : Profile) (x : List ℕ) (ts : List Token) → Chained x [] ts → HasBare profile x ts
-whole_text ProfileOne x ts h = (tokens 0 h.pieces, lexed_one x ts h, bare-placed 0 h.pieces ∙ h.told)
-whole_text ProfileTwo x ts h = (tokens 0 h.pieces, both_profiles x (tokens 0 h.pieces) (lexed_one x ts h), bare-placed 0 h.pieces ∙ h.told)
+whole_text ProfileOne x ts h = (tokens 0 h.pieces, lexed_one x ts h, unplaced-placed 0 h.pieces ∙ h.same_tokens)
+whole_text ProfileTwo x ts h = (tokens 0 h.pieces, both_profiles x (tokens 0 h.pieces) (lexed_one x ts h), unplaced-placed 0 h.pieces ∙ h.same_tokens)

@@ -17,7 +17,7 @@ use Rattle.cborn_lex.specs.Tokens.{Read, begins, is_numeral}
 use Rattle.cborn_lex.specs.Numbers.{are_digits, number, within, has_prefix, integer, number_front, signed}
 use Rattle.cborn_lex.specs.Forms.{Start, digit, start_of, ReadsFrom, ReadsNumber}
 use Rattle.cborn_model.specs.declared.heads.Width.TheVariants.{Direct}
-use Rattle.cborn_edn.specs.shared.Syntax.{token}
+use Rattle.cborn_edn.specs.devices.Syntax.{token}
 use Rattle.cborn_edn.specs.ReadingBack.{nowhere}
 use Rattle.cborn_edn.specs.Shown.{indicator}
 use Rattle.cborn_edn.proofs.Lexed.Tables.{passes, passes-at}
@@ -68,7 +68,7 @@ pub record Decimal (n : ℕ) : Type 0 where
   pub rest : List ℕ
   pub whole : decimal n ≡ first ∷ rest
   pub digits : AllDigits 10 (first ∷ rest)
-  pub stands : (negative : Bool) → integer negative (first ∷ rest) ≡ Ok n
+  pub spells : (negative : Bool) → integer negative (first ∷ rest) ≡ Ok n
 
 no_zero : (n : ℕ) → 0 < n → n < 10 ^ 64 → 48 < get_or (decimal n) 0 0
 no_zero n some small = (decimal_by_steps_wide (λ m ds. (0 < length ds) × (0 < m → 48 < get_or ds 0 0)) (λ m l. (omega arith, λ a. omega arith))
@@ -81,7 +81,7 @@ small_decimal n (c ∷ ds) some small e h d v = record {
   rest = ds;
   whole = e;
   digits = d;
-  stands = λ negative. plain_integer negative c ds (ne_eqb c 48 (λ f. omega (arith, h, f))) d ∙ (ap within (value 0 (c ∷ ds) ∙ v) ∙ within_bounds n small);
+  spells = λ negative. plain_integer negative c ds (ne_eqb c 48 (λ f. omega (arith, h, f))) d ∙ (ap within (value 0 (c ∷ ds) ∙ v) ∙ within_bounds n small);
 }
 
 pub decimal_text : (n : ℕ) → n < 2 ^ 65 → Decimal n
@@ -91,7 +91,7 @@ decimal_text n h = elim (cases_lt 0 n) [
       small_decimal n (decimal n) some (omega arith) refl (no_zero n some (omega arith)) r.0.1 r.1
   | inr none ↦
       let e : n ≡ 0 = omega arith in
-      subst Decimal (sym e) (record { first = 48; rest = []; whole = decimal_digit 0 (omega arith); digits = (omega arith, tt); stands = λ negative. refl })
+      subst Decimal (sym e) (record { first = 48; rest = []; whole = decimal_digit 0 (omega arith); digits = (omega arith, tt); spells = λ negative. refl })
 ]
 
 -- Numbers, and the numbers of tags.
@@ -137,7 +137,7 @@ number_text n m z l h k =
     subst (λ (x : List ℕ). Chained (x ++ indicator m) z (token nowhere (Number false n m) ∷ [])) (sym d.whole)
     (one_token (Number false n m) (d.first ∷ (d.rest ++ indicator m)) z
     (subst (λ (s : Start). ReadsFrom s ProfileOne d.first (d.rest ++ indicator m) z (Read (Number false n m))) (sym (starts d.first d.digits.0))
-    (reads_number false (d.first ∷ []) d.rest n m z h k d.digits.1 (d.stands false))))
+    (reads_number false (d.first ∷ []) d.rest n m z h k d.digits.1 (d.spells false))))
 
 -- n is one more than the argument, so it isn't 0
 pub negative_text : (n : ℕ) (m : Mark) (z : List ℕ) → suc n < 2 ^ 65 → IsMark m → Closes z → Chained (codes "-" ++ (decimal (suc n) ++ indicator m)) z (token nowhere (Number true (suc n) m) ∷ [])
@@ -145,7 +145,7 @@ negative_text n m z l h k =
     let d = decimal_text (suc n) l in
     subst (λ (x : List ℕ). Chained (codes "-" ++ (x ++ indicator m)) z (token nowhere (Number true (suc n) m) ∷ [])) (sym d.whole)
     (one_token (Number true (suc n) m) (45 ∷ ((d.first ∷ d.rest) ++ indicator m)) z
-    (subst (λ (c : Class). ReadsNumber true [] ((d.first ∷ d.rest) ++ indicator m) z (Read c)) (below n m) (reads_number true [] (d.first ∷ d.rest) (suc n) m z h k d.digits (d.stands true))))
+    (subst (λ (c : Class). ReadsNumber true [] ((d.first ∷ d.rest) ++ indicator m) z (Read c)) (below n m) (reads_number true [] (d.first ∷ d.rest) (suc n) m z h k d.digits (d.spells true))))
   where
     below : (n : ℕ) (m : Mark) → signed true (suc n) m ≡ Number true (suc n) m
     below n m = let e : eqb (suc n) 0 ≡ false = ne_eqb (suc n) 0 (λ f. omega (arith, f)) in ap (λ b. Number (not b) (suc n) m) e
@@ -156,7 +156,7 @@ tag_text n m z l h =
     subst (λ (x : List ℕ). Chained (x ++ (indicator m ++ codes "(")) z (token nowhere (TagOpen n m) ∷ [])) (sym d.whole)
     (one_token (TagOpen n m) (d.first ∷ (d.rest ++ (indicator m ++ codes "("))) z
     (subst (λ (s : Start). ReadsFrom s ProfileOne d.first (d.rest ++ (indicator m ++ codes "(")) z (Read (TagOpen n m))) (sym (starts d.first d.digits.0))
-    (reads_tag (d.first ∷ []) d.rest n m z h d.digits.1 (d.stands false))))
+    (reads_tag (d.first ∷ []) d.rest n m z h d.digits.1 (d.spells false))))
 
 -- a number doesn't begin as an indicator does
 pub decimal_begins : (n : ℕ) (z : List ℕ) → n < 2 ^ 65 → begins (λ c. eqb c 95) (decimal n ++ z) ≡ false

@@ -11,7 +11,7 @@ use Rattle.cborn_lex.specs.declared.classes.Mark.{Mark}
 use Rattle.cborn_lex.specs.declared.classes.Class.TheVariants.{Bytes}
 use Rattle.cborn_lex.specs.Tokens.{is_not, marked}
 use Rattle.cborn_lex.specs.Strings.{HasDigits, nothing, digit, IsHex}
-use Rattle.cborn_edn.specs.shared.Syntax.{token}
+use Rattle.cborn_edn.specs.devices.Syntax.{token}
 use Rattle.cborn_edn.specs.ReadingBack.{nowhere}
 use Rattle.cborn_edn.specs.Shown.{indicator}
 use Rattle.cborn_edn.proofs.Lexed.Tables.{passes-at}

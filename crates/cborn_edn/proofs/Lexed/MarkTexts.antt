@@ -5,7 +5,7 @@ use Rattle.std.proofs.lemmas.Bool.{lt-ltb, cond-true}
 use Rattle.cborn_model.specs.declared.heads.Width.{Width}
 use Rattle.cborn_model.specs.declared.heads.Width.TheVariants.{Direct, One, Two, Four, Eight}
 use Rattle.cborn_model.specs.declared.heads.Size.{Size}
-use Rattle.cborn_model.specs.declared.heads.Size.TheVariants.{Fixed, Endless as Unending}
+use Rattle.cborn_model.specs.declared.heads.Size.TheVariants.{Fixed, Endless as EndlessMark}
 use Rattle.cborn_model.specs.Heads.{following, least, WidthFits, SizeFits}
 use Rattle.cborn_lex.specs.declared.classes.Profile.TheVariants.{One as ProfileOne}
 use Rattle.cborn_lex.specs.declared.classes.Mark.{Mark}
@@ -15,12 +15,12 @@ use Rattle.cborn_lex.specs.declared.classes.Class.TheVariants.{ArrayOpen, MapOpe
 use Rattle.cborn_lex.specs.Tokens.{Read, begins, is_word, is_numeral, mark_of, marked}
 use Rattle.cborn_lex.specs.Forms.{IsIndicator, Reads}
 use Rattle.cborn_lex.proofs.WholeTexts.Spelling.{IsMark}
-use Rattle.cborn_edn.specs.shared.Syntax.{token}
+use Rattle.cborn_edn.specs.devices.Syntax.{token}
 use Rattle.cborn_edn.specs.ReadingBack.{nowhere}
 use Rattle.cborn_edn.specs.Shown.{mark_for, mark_for_size, indicator, opened}
-use Rattle.cborn_edn.proofs.Lexed.Chained.{Chained, one_token, one_gap, both}
+use Rattle.cborn_edn.proofs.Lexed.Chained.{Chained, one_token, one_white_space, both}
 
--- what stands behind an item neither goes on its last token nor gives it an indicator
+-- what follows an item neither continues its last token nor gives it an indicator
 pub record Closes (z : List ℕ) : Type 0 where
   pub no_word : begins is_word z ≡ false
   pub no_numeral : begins is_numeral z ≡ false
@@ -59,7 +59,7 @@ is_mark Four n h = wide_or_none (length (following Four n) == length (following 
 is_mark Eight n h = wide_or_none (length (following Eight n) == length (following (least n) n)) Eight tt
 
 pub is_size_mark : (s : Size) (n : ℕ) → SizeFits s n → IsMark (mark_for_size s n)
-is_size_mark Unending n h = tt
+is_size_mark EndlessMark n h = tt
 is_size_mark (Fixed w) n h = is_mark w n h
 
 pub mark_is : (m : Mark) → IsMark m → mark_of (indicator m) ≡ Some m
@@ -79,10 +79,10 @@ indicates (Wide Eight) z h k e = (refl, record { pass = refl; ends = k })
 -- Separators and closing brackets.
 
 pub space : (z : List ℕ) → Chained (codes " ") z []
-space z = one_gap (codes " ") z (refl, refl)
+space z = one_white_space (codes " ") z (refl, refl)
 
 pub line : (z : List ℕ) → Chained (codes "\n") z []
-line z = one_gap (codes "\n") z (refl, refl)
+line z = one_white_space (codes "\n") z (refl, refl)
 
 pub comma : (z : List ℕ) → Chained (codes ",") z (token nowhere Comma ∷ [])
 comma z = one_token Comma (codes ",") z (refl, refl)

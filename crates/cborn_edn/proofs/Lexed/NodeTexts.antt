@@ -11,7 +11,7 @@ use Rattle.cborn_lex.specs.declared.classes.Mark.{Mark}
 use Rattle.cborn_lex.specs.declared.classes.Class.TheVariants.{ArrayOpen, ArrayClose, MapOpen, MapClose, ParenClose, Comma, Colon, ChunkOpen, TagOpen}
 use Rattle.cborn_lex.specs.declared.classes.Token.{Token}
 use Rattle.cborn_lex.specs.Tokens.{begins}
-use Rattle.cborn_edn.specs.shared.Syntax.{no_string, no_item, no_pair, token, tokens_of, tokens_of_pieces, tokens_of_strings, tokens_of_content, tokens_of_fields, tokens_of_input}
+use Rattle.cborn_edn.specs.devices.Syntax.{no_string, no_item, no_pair, token, tokens_of, tokens_of_pieces, tokens_of_strings, tokens_of_content, tokens_of_fields, tokens_of_input}
 use Rattle.cborn_edn.specs.declared.strings.StringKind.{StringKind}
 use Rattle.cborn_edn.specs.declared.strings.StringKind.TheVariants.{Bytes as OfBytes, Text as OfText}
 use Rattle.cborn_edn.specs.ReadingBack.{nowhere, chunk_pieces, chunk_row, chunk_item, notated, notated_content, notated_fields, notated_input}
@@ -36,7 +36,7 @@ string_text OfText w x p z h b close = text_text x (mark_for w (length x)) z b (
 chunk_text : (k : StringKind) (c : Chunk) (z : List ℕ) → WidthFits c.width (length c.bytes) → AreBytes c.bytes → Closes z → Chained (shown_chunk k c) z (tokens_of_pieces (chunk_pieces k c))
 chunk_text k c z h b close = string_text k c.width c.bytes c.place z h b close
 
--- what stands behind the first of several texts
+-- what follows the first of several texts
 abbrev further : List (List ℕ) → List ℕ
 further = others (codes ", ")
 
@@ -106,7 +106,7 @@ entries_begin (entry k v es) z h e =
 tag_whole : (n : ℕ) (m : Mark) (x z : List ℕ) (ts : List Token) → Chained ((decimal n ++ (indicator m ++ codes "(")) ++ (x ++ codes ")")) z ts → Chained (decimal n ++ (indicator m ++ (codes "(" ++ (x ++ codes ")")))) z ts
 tag_whole n m x z ts h = subst (λ (y : List ℕ). Chained y z ts) (append_assoc (decimal n) (indicator m ++ codes "(") (x ++ codes ")") ∙ ap (λ y. decimal n ++ y) (append_assoc (indicator m) (codes "(") (x ++ codes ")"))) h
 
--- a pair and those behind it, from the readings of both
+-- a pair and those after it, from the readings of both
 pair_text : (k v : Tree) (x z : List ℕ) (ts : List Token) → Chained (shown k) (codes ": " ++ ((shown v ++ x) ++ z)) (tokens_of (notated k)) → Chained (shown v) (x ++ z) (tokens_of (notated v)) → Chained x z ts
     → Chained ((shown k ++ (codes ": " ++ shown v)) ++ x) z (tokens_of (notated k) ++ (token nowhere Colon ∷ (tokens_of (notated v) ++ ts)))
 pair_text k v x z ts key value rest =

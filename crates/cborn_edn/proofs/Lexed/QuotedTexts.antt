@@ -11,10 +11,10 @@ use Rattle.cborn_lex.specs.declared.classes.Mark.TheVariants.{Endless}
 use Rattle.cborn_lex.specs.declared.classes.Class.TheVariants.{Bytes, Text}
 use Rattle.cborn_lex.specs.Tokens.{marked}
 use Rattle.cborn_lex.specs.Strings.{is_content, IsText, nothing}
-use Rattle.cborn_lex.specs.shared.Letters.{Letter, raw, escaped as behind_slash, unit, written, is_letter, meant}
+use Rattle.cborn_lex.specs.devices.Letters.{Letter, raw, escaped as after_slash, unit, written, is_letter, meant}
 use Rattle.cborn_lex.proofs.Contents.Lettered as lettered
 use Rattle.cborn_lex.proofs.Contents.Ends.{content_then}
-use Rattle.cborn_edn.specs.shared.Syntax.{token}
+use Rattle.cborn_edn.specs.devices.Syntax.{token}
 use Rattle.cborn_edn.specs.ReadingBack.{nowhere}
 use Rattle.cborn_edn.specs.Shown.{indicator, escaped}
 use Rattle.cborn_edn.proofs.Lexed.Tables.{passes, passes-at}
@@ -25,13 +25,13 @@ use Rattle.cborn_edn.proofs.Lexed.MarkTexts.{Closes, mark_is, indicates}
 -- the letter that a byte is written as
 abbrev letter_of : ℕ → Letter
 letter_of b =
-    cond (eqb b 34) (behind_slash 34)
-    (cond (eqb b 92) (behind_slash 92)
-    (cond (eqb b 8) (behind_slash 98)
-    (cond (eqb b 12) (behind_slash 102)
-    (cond (eqb b 10) (behind_slash 110)
-    (cond (eqb b 13) (behind_slash 114)
-    (cond (eqb b 9) (behind_slash 116)
+    cond (eqb b 34) (after_slash 34)
+    (cond (eqb b 92) (after_slash 92)
+    (cond (eqb b 8) (after_slash 98)
+    (cond (eqb b 12) (after_slash 102)
+    (cond (eqb b 10) (after_slash 110)
+    (cond (eqb b 13) (after_slash 114)
+    (cond (eqb b 9) (after_slash 116)
     (cond (ltb b 32) (unit 48 48 (slice_index lower_digits (b / 16)) (slice_index lower_digits (b % 16)))
     (raw b))))))))
 

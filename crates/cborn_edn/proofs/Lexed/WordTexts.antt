@@ -5,7 +5,7 @@ use Rattle.std.specs.Prelude.{codes}
 use Rattle.cborn_lex.specs.declared.classes.Mark.TheVariants.{Absent}
 use Rattle.cborn_lex.specs.declared.classes.Class.TheVariants.{Number, Word, SimpleOpen, ParenClose}
 use Rattle.cborn_lex.specs.Tokens.{begins}
-use Rattle.cborn_edn.specs.shared.Syntax.{Item, simple, token, tokens_of}
+use Rattle.cborn_edn.specs.devices.Syntax.{Item, simple, token, tokens_of}
 use Rattle.cborn_edn.specs.ReadingBack.{nowhere, simple_item}
 use Rattle.cborn_edn.specs.Shown.{shown_simple}
 use Rattle.cborn_edn.proofs.Lexed.Chained.{Chained, one_token, both}

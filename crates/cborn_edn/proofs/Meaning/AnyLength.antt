@@ -6,7 +6,7 @@ use Rattle.cborn_model.specs.Spelled.{FitsAll}
 use Rattle.cborn_lex.specs.declared.classes.Profile.{Profile}
 use Rattle.cborn_lex.specs.declared.classes.Class.TheVariants.{ArrayClose, MapClose, ParenClose, Comma, Colon, EmbedClose}
 use Rattle.cborn_lex.proofs.WholeTexts.Weights.{AreModest, text_light}
-use Rattle.cborn_edn.specs.shared.Syntax.{Item, number, word, tag, simple, string, chunked, array, map, Piece, text, bytes, embedded, Pieces, piece, also, Strings, strings, StringsBefore, no_string, after_strings, Row, row, RowBefore, no_item, after_row, Content, loose, tight, Pairs, pairs, PairsBefore, no_pair, after_pairs, Fields, loose_fields, tight_fields, Input, nothing, items, token, tokens_of, tokens_of_piece, tokens_of_pieces, tokens_of_strings, tokens_of_strings_before, tokens_of_row, tokens_of_row_before, tokens_of_content, tokens_of_pairs, tokens_of_pairs_before, tokens_of_fields, tokens_of_input}
+use Rattle.cborn_edn.specs.devices.Syntax.{Item, number, word, tag, simple, string, chunked, array, map, Piece, text, bytes, embedded, Pieces, piece, also, Strings, strings, StringsBefore, no_string, after_strings, Row, row, RowBefore, no_item, after_row, Content, loose, tight, Pairs, pairs, PairsBefore, no_pair, after_pairs, Fields, loose_fields, tight_fields, Input, nothing, items, token, tokens_of, tokens_of_piece, tokens_of_pieces, tokens_of_strings, tokens_of_strings_before, tokens_of_row, tokens_of_row_before, tokens_of_content, tokens_of_pairs, tokens_of_pairs_before, tokens_of_fields, tokens_of_input}
 use Rattle.cborn_edn.specs.devices.Notates.{Notates}
 use Rattle.cborn_edn.proofs.Meaning.Counting.{front, back}
 use Rattle.cborn_edn.proofs.Meaning.Fit.{plain_fits}
@@ -53,8 +53,8 @@ mutual
   modest_pairs : (ps : Pairs) → AreModest (tokens_of_pairs ps) → PlainPairs ps
   modest_pairs (pairs b k c v) h =
       let rest = token c Colon ∷ tokens_of v in
-      let behind = back (tokens_of_pairs_before b) (tokens_of k ++ rest) h in
-      (modest_pairs_before b (front (tokens_of_pairs_before b) (tokens_of k ++ rest) h), modest k (front (tokens_of k) rest behind), modest v (back (tokens_of k) rest behind).1)
+      let after = back (tokens_of_pairs_before b) (tokens_of k ++ rest) h in
+      (modest_pairs_before b (front (tokens_of_pairs_before b) (tokens_of k ++ rest) h), modest k (front (tokens_of k) rest after), modest v (back (tokens_of k) rest after).1)
 
   modest_pairs_before : (b : PairsBefore) → AreModest (tokens_of_pairs_before b) → PlainPairsBefore b
   modest_pairs_before no_pair h = tt

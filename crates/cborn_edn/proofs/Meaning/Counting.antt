@@ -7,12 +7,12 @@ use Rattle.std.proofs.lemmas.Grind.{flat_map-append}
 use Rattle.cborn_model.specs.declared.heads.Width.{Width}
 use Rattle.cborn_model.specs.declared.heads.Width.TheVariants.{Direct, One, Two, Four, Eight}
 use Rattle.cborn_model.specs.declared.heads.Size.{Size}
-use Rattle.cborn_model.specs.declared.heads.Size.TheVariants.{Fixed, Endless as Unending}
+use Rattle.cborn_model.specs.declared.heads.Size.TheVariants.{Fixed, Endless as EndlessMark}
 use Rattle.cborn_model.specs.declared.nodes.Chunk.{Chunk}
 use Rattle.cborn_model.specs.Bytes.{AreBytes}
 use Rattle.cborn_model.specs.declared.heads.Major.{Major}
 use Rattle.cborn_model.specs.declared.heads.Major.TheVariants.{ByteString, TextString, Array, Map, Tag, Unsigned, Negative, Other}
-use Rattle.cborn_model.specs.Heads.{Argument, Given, Unbounded, least, head, argument}
+use Rattle.cborn_model.specs.Heads.{Argument, Given, EndlessArgument, least, head, argument}
 use Rattle.cborn_model.specs.Tree.{Tree, Uint, Nint, Bytes as ByteNode, Items, Pairs as PairNode, Tagged, Simple, Trees, no_item as no_node, more, Entries, no_entry, entry, count, count_entries}
 use Rattle.cborn_model.specs.Spelled.{ending, chunk_bytes, spelled, spelled_all, spelled_entries}
 use Rattle.cborn_lex.specs.declared.classes.Profile.{Profile}
@@ -25,9 +25,9 @@ use Rattle.cborn_lex.specs.Lex.{Lex}
 use Rattle.cborn_lex.proofs.WholeTexts.Weights.{weight, weigh, AreModest, text_light}
 use Rattle.cborn_edn.specs.declared.strings.StringKind.{StringKind}
 use Rattle.cborn_edn.specs.declared.strings.StringKind.TheVariants.{Bytes as OfBytes, Text as OfText}
-use Rattle.cborn_edn.specs.shared.Syntax.{Item, number, word, tag, simple, string, chunked, array, map, Piece, text, bytes, embedded, Pieces, piece, also, Strings, strings, StringsBefore, no_string, after_strings, Row, row, RowBefore, no_item, after_row, Content, loose, tight, Pairs, pairs, PairsBefore, no_pair, after_pairs, Fields, loose_fields, tight_fields, Input, nothing, items, token, tokens_of, tokens_of_piece, tokens_of_pieces, tokens_of_strings, tokens_of_strings_before, tokens_of_row, tokens_of_row_before, tokens_of_content, tokens_of_pairs, tokens_of_pairs_before, tokens_of_fields, tokens_of_input, is_below, argument_of, is_small}
+use Rattle.cborn_edn.specs.devices.Syntax.{Item, number, word, tag, simple, string, chunked, array, map, Piece, text, bytes, embedded, Pieces, piece, also, Strings, strings, StringsBefore, no_string, after_strings, Row, row, RowBefore, no_item, after_row, Content, loose, tight, Pairs, pairs, PairsBefore, no_pair, after_pairs, Fields, loose_fields, tight_fields, Input, nothing, items, token, tokens_of, tokens_of_piece, tokens_of_pieces, tokens_of_strings, tokens_of_strings_before, tokens_of_row, tokens_of_row_before, tokens_of_content, tokens_of_pairs, tokens_of_pairs_before, tokens_of_fields, tokens_of_input, is_below, argument_of, is_small}
 use Rattle.cborn_edn.specs.devices.Parse.{Parse}
-use Rattle.cborn_edn.specs.shared.Meaning.{and_then, when, width_for, size_for, is_absent, snoc, snoc_entry, integer, bignum, means_number, is_simple, kind, place, last_piece, mark_of, is_string, is_empty_quote, string_node, chunked_node, marked_string, means_string, means_chunk, kind_of_strings, kind_after, same_kind, means, joined, joined_piece, means_strings, means_strings_before, means_row, means_row_before, means_content, means_pairs, means_pairs_before, means_fields, row_length, row_length_before, content_length, pairs_length, pairs_length_before, fields_length}
+use Rattle.cborn_edn.specs.devices.Meaning.{and_then, when, width_for, size_for, is_absent, snoc, snoc_entry, integer, bignum, means_number, is_simple, kind, place, last_piece, mark_of, is_string, is_empty_quote, string_node, chunked_node, marked_string, means_string, means_chunk, kind_of_strings, kind_after, same_kind, means, joined, joined_piece, means_strings, means_strings_before, means_row, means_row_before, means_content, means_pairs, means_pairs_before, means_fields, row_length, row_length_before, content_length, pairs_length, pairs_length_before, fields_length}
 use Rattle.cborn_edn.specs.devices.Counted.{IsShort, Counted, CountedPiece, CountedPieces, CountedStrings, CountedStringsBefore, CountedRow, CountedRowBefore, CountedContent, CountedPairs, CountedPairsBefore, CountedFields, CountedInput}
 use Rattle.cborn_edn.proofs.Meaning.Agree.{made, some_is}
 use Rattle.cborn_edn.proofs.Meaning.Fit.{chosen}
@@ -56,7 +56,7 @@ pub back : (a b : List Token) → AreModest (a ++ b) → AreModest b
 back [] b h = h
 back (t ∷ a) b h = back a b h.1
 
--- Something stands in each item.
+-- Each item has a token.
 mutual
   some_item : (i : Item) → 1 ≤ length (tokens_of i)
   some_item (number at n v m) = omega arith
@@ -85,11 +85,11 @@ head_short m (Given One n) = omega arith
 head_short m (Given Two n) = omega arith
 head_short m (Given Four n) = omega arith
 head_short m (Given Eight n) = omega arith
-head_short m Unbounded = omega arith
+head_short m EndlessArgument = omega arith
 
 ending_short : (s : Size) → length (ending s) ≤ 1
 ending_short (Fixed w) = omega arith
-ending_short Unending = omega arith
+ending_short EndlessMark = omega arith
 
 -- Numbers.
 
@@ -147,8 +147,8 @@ chunk_short major ps x c e =
     subst (λ (d : Chunk). length (chunk_bytes major d) ≤ length x + 9) (some_is m.then) (omega (arith, head_short major (Given m.first (length x)), length-append (head major (Given m.first (length x))) x))
 
 chunked_short : (k : StringKind) (p n : ℕ) (cs : List Chunk) → ((major : Major) → length (flat_map (chunk_bytes major) cs) ≤ n) → length (spelled (chunked_node k p cs)) ≤ n + 2
-chunked_short OfBytes p n cs h = omega (arith, h ByteString, length-append (flat_map (chunk_bytes ByteString) cs) (ending Unending))
-chunked_short OfText p n cs h = omega (arith, h TextString, length-append (flat_map (chunk_bytes TextString) cs) (ending Unending))
+chunked_short OfBytes p n cs h = omega (arith, h ByteString, length-append (flat_map (chunk_bytes ByteString) cs) (ending EndlessMark))
+chunked_short OfText p n cs h = omega (arith, h TextString, length-append (flat_map (chunk_bytes TextString) cs) (ending EndlessMark))
 
 -- Rows.
 
@@ -264,10 +264,10 @@ mutual
       let n = made (means k) (λ t. and_then (means v) (λ u. Some (snoc_entry m.first t u))) es m.then in
       let l = made (means v) (λ u. Some (snoc_entry m.first n.first u)) es n.then in
       let rest = token c Colon ∷ tokens_of v in
-      let behind = back (tokens_of_pairs_before b) (tokens_of k ++ rest) h in
+      let after = back (tokens_of_pairs_before b) (tokens_of k ++ rest) h in
       let r = pairs_before_short b m.first (front (tokens_of_pairs_before b) (tokens_of k ++ rest) h) m.was in
-      let s = item_short k n.first (front (tokens_of k) rest behind) n.was in
-      let t = item_short v l.first (back (tokens_of k) rest behind).1 l.was in
+      let s = item_short k n.first (front (tokens_of k) rest after) n.was in
+      let t = item_short v l.first (back (tokens_of k) rest after).1 l.was in
       subst (λ ds. length (spelled_entries ds) ≤ 64 * weigh (tokens_of_pairs (pairs b k c v))) (some_is l.then) (omega (arith, r, s, t, snoc_entry_long m.first n.first l.first, weigh-append (tokens_of_pairs_before b) (tokens_of k ++ rest), weigh-append (tokens_of k) rest))
 
   pairs_before_short : (b : PairsBefore) (es : Entries) → AreModest (tokens_of_pairs_before b) → means_pairs_before b ≡ Some es → length (spelled_entries es) ≤ 64 * weigh (tokens_of_pairs_before b)
@@ -278,7 +278,7 @@ mutual
   fields_short (loose_fields b) es h e = pairs_before_short b es h e
   fields_short (tight_fields ps) es h e = pairs_said_short ps es h e
 
--- How many items and pairs stand in a row: between two there is a comma.
+-- How many items and pairs there are: a comma is between any two.
 mutual
   row_few : (r : Row) → 2 * row_length r ≤ suc (length (tokens_of_row r))
   row_few (row b i) = omega (arith, row_before_few b, some_item i, length-append (tokens_of_row_before b) (tokens_of i))
@@ -303,7 +303,7 @@ pub fields_few : (f : Fields) → 2 * fields_length f ≤ length (tokens_of_fiel
 fields_few (loose_fields b) = pairs_before_few b
 fields_few (tight_fields ps) = pairs_few ps
 
--- Where the tokens weigh less than 2^58, lengths and counts are below 2^64.
+-- If the tokens weigh less than 2^58, lengths and counts are below 2^64.
 
 length_is : (o : Option (List ℕ)) → ((x : List ℕ) → o ≡ Some x → length x < 2 ^ 64) → IsShort o
 length_is None h = tt
@@ -368,10 +368,10 @@ mutual
   counted_pairs : (ps : Pairs) → AreModest (tokens_of_pairs ps) → weigh (tokens_of_pairs ps) < 2 ^ 58 → CountedPairs ps
   counted_pairs (pairs b i c v) h k =
       let rest = token c Colon ∷ tokens_of v in
-      let behind = back (tokens_of_pairs_before b) (tokens_of i ++ rest) h in
+      let after = back (tokens_of_pairs_before b) (tokens_of i ++ rest) h in
       let sum = weigh-append (tokens_of_pairs_before b) (tokens_of i ++ rest) in
       let inner = weigh-append (tokens_of i) rest in
-      (counted_pairs_before b (front (tokens_of_pairs_before b) (tokens_of i ++ rest) h) (omega arith), counted i (front (tokens_of i) rest behind) (omega arith), counted v (back (tokens_of i) rest behind).1 (omega arith))
+      (counted_pairs_before b (front (tokens_of_pairs_before b) (tokens_of i ++ rest) h) (omega arith), counted i (front (tokens_of i) rest after) (omega arith), counted v (back (tokens_of i) rest after).1 (omega arith))
 
   counted_pairs_before : (b : PairsBefore) → AreModest (tokens_of_pairs_before b) → weigh (tokens_of_pairs_before b) < 2 ^ 58 → CountedPairsBefore b
   counted_pairs_before no_pair h k = tt

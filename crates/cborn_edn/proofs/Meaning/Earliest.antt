@@ -1,4 +1,4 @@
--- The first of several slips: there is one where there is any, and it doesn't depend on their order.
+-- The first of several meaning errors: there is one where there is any, and it doesn't depend on their order.
 use Rattle.std.proofs.Common.{◌≡◌, refl, sym, ap, subst, ◌∙◌, ℕ, ◌+◌, ◌*◌, ◌<◌, ◌≤◌, List, [], ◌∷◌, ◌++◌, Bool, true, false, ◌==◌, ◌&&◌, ◌||◌, cond, if◌then◌else◌, leb, ltb, eqb, Option, Some, None, arith}
 use Rattle.std.specs.Prelude.{min}
 use Rattle.std.proofs.lemmas.Bool.{leb-true, leb-false, le-leb, lt-leb, ltb-true, ltb-false, eqb-true, eqb-false}
@@ -6,9 +6,9 @@ use Rattle.cborn_model.specs.First.{NoLater, IsFirst}
 use Rattle.cborn_model.proofs.Firsts.{no_later_on, no_later_turned, first_alone, first_left, first_right}
 use Rattle.cborn_edn.specs.declared.faults.EdnReason.{EdnReason}
 use Rattle.cborn_edn.specs.declared.faults.EdnReason.TheVariants.{UnexpectedToken, UnexpectedEnd, TooDeep, IndicatorTooNarrow, IndicatorNotAllowed, MixedString, MixedChunks, TextNotUtf8, BadSimple, TagTooLarge}
-use Rattle.cborn_edn.specs.declared.slips.Slip.{Slip}
-use Rattle.cborn_edn.specs.shared.Meaning.{number_of, unless, IsAmong}
-use Rattle.cborn_edn.specs.devices.Slips.{earlier, first_slip, slip_unless}
+use Rattle.cborn_edn.specs.declared.meaning_errors.MeaningError.{MeaningError}
+use Rattle.cborn_edn.specs.devices.Meaning.{number_of, unless, IsAmong}
+use Rattle.cborn_edn.specs.devices.MeaningErrors.{earlier, first_error, error_unless}
 
 -- the reason that has a number
 abbrev reason_at : ℕ → EdnReason
@@ -35,21 +35,21 @@ low_number : (r : EdnReason) → number_of r < 64
 low_number UnexpectedToken = omega arith
 low_number _ = omega arith
 
--- place and number as one
-rank : Slip → ℕ
+-- place and number of the reason as one number
+rank : MeaningError → ℕ
 rank s = s.place * 64 + number_of s.reason
 
-same_slip : (p q : ℕ) (r s : EdnReason) → p ≡ q → r ≡ s → let a : Slip = record { place = p; reason = r } in a ≡ record { place = q; reason = s }
-same_slip p q r s e f = rw (e, f)
+same_error : (p q : ℕ) (r s : EdnReason) → p ≡ q → r ≡ s → let a : MeaningError = record { place = p; reason = r } in a ≡ record { place = q; reason = s }
+same_error p q r s e f = rw (e, f)
 
-one_rank : (a b : Slip) → rank a ≡ rank b → a ≡ b
+one_rank : (a b : MeaningError) → rank a ≡ rank b → a ≡ b
 unfolding rank
 one_rank a b e =
     let la = low_number a.reason in
     let lb = low_number b.reason in
     let p : a.place ≡ b.place = omega arith in
     let n : number_of a.reason ≡ number_of b.reason = omega arith in
-    same_slip a.place b.place a.reason b.reason p (one_number a.reason b.reason n)
+    same_error a.place b.place a.reason b.reason p (one_number a.reason b.reason n)
 
 by_parts : (p q m n : ℕ) → m < 64 → n < 64 → (ltb p q || (eqb p q && leb m n)) ≡ leb (p * 64 + m) (q * 64 + n)
 by_parts p q m n hm hn = go (ltb p q) refl (eqb p q) refl (leb m n) refl
@@ -60,19 +60,19 @@ by_parts p q m n hm hn = go (ltb p q) refl (eqb p q) refl (leb m n) refl
     go false e true f false g = let h : p ≡ q = eqb-true _ _ f in let i : n < m = leb-false _ _ g in sym (lt-leb _ _ (omega arith))
     go false e false f c g = let h : q ≤ p = ltb-false _ _ e in let i : p ≡ q → ⊥ = eqb-false _ _ f in sym (lt-leb _ _ (omega arith))
 
-pick : Slip → Slip → Slip
+pick : MeaningError → MeaningError → MeaningError
 pick a b = cond (leb (rank a) (rank b)) a b
 
-picked : (a b : Slip) → earlier (Some a) (Some b) ≡ Some (pick a b)
+picked : (a b : MeaningError) → earlier (Some a) (Some b) ≡ Some (pick a b)
 unfolding pick rank
 picked a b = ap (λ c. Some (cond c a b)) (by_parts a.place b.place (number_of a.reason) (number_of b.reason) (low_number a.reason) (low_number b.reason))
 
 -- of two the first that has the lower rank, or the second
-data Picks (a b c : Slip) : Type 0 where
+data Picks (a b c : MeaningError) : Type 0 where
   left : c ≡ a → rank a ≤ rank b → Picks a b c
   right : c ≡ b → rank b < rank a → Picks a b c
 
-picks : (a b : Slip) → Picks a b (pick a b)
+picks : (a b : MeaningError) → Picks a b (pick a b)
 unfolding pick
 picks a b = go (leb (rank a) (rank b)) refl
   where
@@ -80,29 +80,29 @@ picks a b = go (leb (rank a) (rank b)) refl
     go true e = left refl (leb-true _ _ e)
     go false e = right refl (leb-false _ _ e)
 
-rank-pick : (a b : Slip) → rank (pick a b) ≡ min (rank a) (rank b)
+rank-pick : (a b : MeaningError) → rank (pick a b) ≡ min (rank a) (rank b)
 rank-pick a b = go (pick a b) (picks a b)
   where
-    go : (c : Slip) → Picks a b c → rank c ≡ min (rank a) (rank b)
+    go : (c : MeaningError) → Picks a b c → rank c ≡ min (rank a) (rank b)
     go c (left e h) = ap rank e ∙ omega arith
     go c (right e h) = ap rank e ∙ omega arith
 
-pick-comm : (a b : Slip) → pick a b ≡ pick b a
+pick-comm : (a b : MeaningError) → pick a b ≡ pick b a
 pick-comm a b = one_rank _ _ (omega (arith, rank-pick a b, rank-pick b a))
 
-pick-assoc : (a b c : Slip) → pick (pick a b) c ≡ pick a (pick b c)
+pick-assoc : (a b c : MeaningError) → pick (pick a b) c ≡ pick a (pick b c)
 pick-assoc a b c = one_rank _ _ (omega (arith, rank-pick (pick a b) c, rank-pick a b, rank-pick a (pick b c), rank-pick b c))
 
-pub earlier-none : (a : Option Slip) → earlier a None ≡ a
+pub earlier-none : (a : Option MeaningError) → earlier a None ≡ a
 earlier-none None = refl
 earlier-none (Some a) = refl
 
-earlier-comm : (a b : Option Slip) → earlier a b ≡ earlier b a
+earlier-comm : (a b : Option MeaningError) → earlier a b ≡ earlier b a
 earlier-comm None b = sym (earlier-none b)
 earlier-comm (Some a) None = refl
 earlier-comm (Some a) (Some b) = picked a b ∙ ap Some (pick-comm a b) ∙ sym (picked b a)
 
-pub earlier-assoc : (a b c : Option Slip) → earlier (earlier a b) c ≡ earlier a (earlier b c)
+pub earlier-assoc : (a b c : Option MeaningError) → earlier (earlier a b) c ≡ earlier a (earlier b c)
 earlier-assoc None b c = refl
 earlier-assoc (Some a) None c = refl
 earlier-assoc (Some a) (Some b) None = earlier-none (earlier (Some a) (Some b))
@@ -110,55 +110,55 @@ earlier-assoc (Some a) (Some b) (Some c) =
     ap (λ o. earlier o (Some c)) (picked a b) ∙ picked (pick a b) c ∙ ap Some (pick-assoc a b c) ∙ sym (picked a (pick b c)) ∙ ap (earlier (Some a)) (sym (picked b c))
 
 -- the second of three goes to the front
-pub earlier-swap : (a b c : Option Slip) → earlier a (earlier b c) ≡ earlier b (earlier a c)
+pub earlier-swap : (a b c : Option MeaningError) → earlier a (earlier b c) ≡ earlier b (earlier a c)
 earlier-swap a b c = sym (earlier-assoc a b c) ∙ ap (λ o. earlier o c) (earlier-comm a b) ∙ earlier-assoc b a c
 
-pub first-append : (a b : List Slip) → first_slip (a ++ b) ≡ earlier (first_slip a) (first_slip b)
+pub first-append : (a b : List MeaningError) → first_error (a ++ b) ≡ earlier (first_error a) (first_error b)
 first-append [] b = refl
-first-append (s ∷ a) b = ap (earlier (Some s)) (first-append a b) ∙ sym (earlier-assoc (Some s) (first_slip a) (first_slip b))
+first-append (s ∷ a) b = ap (earlier (Some s)) (first-append a b) ∙ sym (earlier-assoc (Some s) (first_error a) (first_error b))
 
-pub first-unless : (b : Bool) (p : ℕ) (r : EdnReason) → first_slip (unless b p r) ≡ slip_unless b p r
+pub first-unless : (b : Bool) (p : ℕ) (r : EdnReason) → first_error (unless b p r) ≡ error_unless b p r
 first-unless true p r = refl
 first-unless false p r = refl
 
 -- it is the one of least place, and there of least number
-abbrev IsFirstOf : List Slip → Slip → Type 0
+abbrev IsFirstOf : List MeaningError → MeaningError → Type 0
 IsFirstOf l s = IsFirst number_of (IsAmong l) s.place s.reason
 
-abbrev pub Tells : List Slip → Option Slip → Type 0
+abbrev pub Tells : List MeaningError → Option MeaningError → Type 0
 Tells l None = l ≡ []
 Tells l (Some s) = IsFirstOf l s
 
 no_later_of : (p q m n : ℕ) → m < 64 → n < 64 → p * 64 + m ≤ q * 64 + n → NoLater (p, m) (q, n)
 no_later_of p q m n hm hn h = grind arith
 
-no_later_than : (a b : Slip) → rank a ≤ rank b → NoLater (a.place, number_of a.reason) (b.place, number_of b.reason)
+no_later_than : (a b : MeaningError) → rank a ≤ rank b → NoLater (a.place, number_of a.reason) (b.place, number_of b.reason)
 unfolding rank
 no_later_than a b h = no_later_of a.place b.place (number_of a.reason) (number_of b.reason) (low_number a.reason) (low_number b.reason) h
 
-told_first : (s t : Slip) (l : List Slip) → IsFirstOf l t → rank s ≤ rank t → IsFirstOf (s ∷ l) s
-told_first s t l f h = first_left number_of _ (IsAmong l) s.place s.reason (first_alone number_of s.place s.reason) (λ q r i. no_later_on (s.place, number_of s.reason) (t.place, number_of t.reason) (q, number_of r) (no_later_than s t h) (f.first q r i))
+reported_first : (s t : MeaningError) (l : List MeaningError) → IsFirstOf l t → rank s ≤ rank t → IsFirstOf (s ∷ l) s
+reported_first s t l f h = first_left number_of _ (IsAmong l) s.place s.reason (first_alone number_of s.place s.reason) (λ q r i. no_later_on (s.place, number_of s.reason) (t.place, number_of t.reason) (q, number_of r) (no_later_than s t h) (f.first q r i))
 
-told_second : (s t : Slip) (l : List Slip) → IsFirstOf l t → rank t < rank s → IsFirstOf (s ∷ l) t
-told_second s t l f h = first_right number_of _ (IsAmong l) t.place t.reason (λ q r e. rw (e.0, e.1) (no_later_than t s (omega arith))) f
+reported_second : (s t : MeaningError) (l : List MeaningError) → IsFirstOf l t → rank t < rank s → IsFirstOf (s ∷ l) t
+reported_second s t l f h = first_right number_of _ (IsAmong l) t.place t.reason (λ q r e. rw (e.0, e.1) (no_later_than t s (omega arith))) f
 
-pub nothing_among : (l : List Slip) (p : ℕ) (r : EdnReason) → l ≡ [] → IsAmong l p r → ⊥
+pub nothing_among : (l : List MeaningError) (p : ℕ) (r : EdnReason) → l ≡ [] → IsAmong l p r → ⊥
 nothing_among l p r e h = subst (λ k. IsAmong k p r) e h
 
-pub tells : (l : List Slip) → Tells l (first_slip l)
+pub tells : (l : List MeaningError) → Tells l (first_error l)
 tells [] = refl
-tells (s ∷ l) = go (first_slip l) (tells l)
+tells (s ∷ l) = go (first_error l) (tells l)
   where
-    go : (o : Option Slip) → Tells l o → Tells (s ∷ l) (earlier (Some s) o)
+    go : (o : Option MeaningError) → Tells l o → Tells (s ∷ l) (earlier (Some s) o)
     go None e = first_left number_of _ (IsAmong l) s.place s.reason (first_alone number_of s.place s.reason) (λ q r i. absurd (nothing_among l q r e i))
     go (Some t) f = subst (Tells (s ∷ l)) (sym (picked s t)) (choose (pick s t) (picks s t))
       where
-        choose : (u : Slip) → Picks s t u → IsFirstOf (s ∷ l) u
-        choose u (left e h) = subst (IsFirstOf (s ∷ l)) (sym e) (told_first s t l f h)
-        choose u (right e h) = subst (IsFirstOf (s ∷ l)) (sym e) (told_second s t l f h)
+        choose : (u : MeaningError) → Picks s t u → IsFirstOf (s ∷ l) u
+        choose u (left e h) = subst (IsFirstOf (s ∷ l)) (sym e) (reported_first s t l f h)
+        choose u (right e h) = subst (IsFirstOf (s ∷ l)) (sym e) (reported_second s t l f h)
 
 -- two firsts are one
-pub one_first : (l : List Slip) (p q : ℕ) (r s : EdnReason) → IsFirst number_of (IsAmong l) p r → IsFirst number_of (IsAmong l) q s → (p ≡ q) × (r ≡ s)
+pub one_first : (l : List MeaningError) (p q : ℕ) (r s : EdnReason) → IsFirst number_of (IsAmong l) p r → IsFirst number_of (IsAmong l) q s → (p ≡ q) × (r ≡ s)
 one_first l p q r s f g =
     let e = no_later_turned (p, number_of r) (q, number_of s) (f.first q s g.is) (g.first p r f.is) in
     (e.0, one_number r s e.1)

@@ -1,7 +1,7 @@
--- What of a tree of the grammar says that its nodes fit, however long it is: each string is bytes, and each word is a simple value below 24.
+-- What a tree of the grammar needs so that its nodes fit, however long it is: each string is bytes, and each word is a simple value below 24.
 use Rattle.std.proofs.Common.{◌<◌}
 use Rattle.cborn_model.specs.Bytes.{AreBytes}
-use Rattle.cborn_edn.specs.shared.Syntax.{Item, number, word, tag, simple, string, chunked, array, map, Piece, text, bytes, embedded, Pieces, piece, also, Strings, strings, StringsBefore, no_string, after_strings, Row, row, RowBefore, no_item, after_row, Content, loose, tight, Pairs, pairs, PairsBefore, no_pair, after_pairs, Fields, loose_fields, tight_fields, Input, nothing, items}
+use Rattle.cborn_edn.specs.devices.Syntax.{Item, number, word, tag, simple, string, chunked, array, map, Piece, text, bytes, embedded, Pieces, piece, also, Strings, strings, StringsBefore, no_string, after_strings, Row, row, RowBefore, no_item, after_row, Content, loose, tight, Pairs, pairs, PairsBefore, no_pair, after_pairs, Fields, loose_fields, tight_fields, Input, nothing, items}
 
 abbrev mutual
   pub Plain : Item → Type 0

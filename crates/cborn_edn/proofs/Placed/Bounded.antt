@@ -6,15 +6,15 @@ use Rattle.std.proofs.lemmas.Grind.{flat_map-append}
 use Rattle.cborn_model.specs.declared.heads.Major.{Major}
 use Rattle.cborn_model.specs.declared.heads.Major.TheVariants.{ByteString, TextString, Array, Map as MapHead, Tag as TagHead}
 use Rattle.cborn_model.specs.declared.nodes.Chunk.{Chunk}
-use Rattle.cborn_model.specs.Heads.{Given, Unbounded, head, argument}
+use Rattle.cborn_model.specs.Heads.{Given, EndlessArgument, head, argument}
 use Rattle.cborn_model.specs.Tree.{count, count_entries}
 use Rattle.cborn_model.specs.Spelled.{chunk_bytes, spelled, spelled_all, spelled_entries, ending}
 use Rattle.cborn_lex.specs.declared.classes.Class.TheVariants.{ArrayClose, MapClose, ParenClose, Comma, Colon, EmbedClose}
 use Rattle.cborn_lex.proofs.WholeTexts.Weights.{AreModest}
 use Rattle.cborn_edn.specs.declared.strings.StringKind.{StringKind}
 use Rattle.cborn_edn.specs.declared.strings.StringKind.TheVariants.{Bytes as OfBytes, Text as OfText}
-use Rattle.cborn_edn.specs.shared.Syntax.{Item, number, word, tag, simple, string, chunked, array, map, Piece, text, bytes, embedded, Pieces, piece, also, Strings, strings, no_string, after_strings, Row, row, RowBefore, no_item, after_row, Content, loose, tight, Pairs, pairs, PairsBefore, no_pair, after_pairs, Fields, loose_fields, tight_fields, Input, nothing, items, token, tokens_of, tokens_of_piece, tokens_of_pieces, tokens_of_strings, tokens_of_row, tokens_of_row_before, tokens_of_content, tokens_of_pairs, tokens_of_pairs_before, tokens_of_fields, tokens_of_input}
-use Rattle.cborn_edn.specs.shared.Meaning.{joined}
+use Rattle.cborn_edn.specs.devices.Syntax.{Item, number, word, tag, simple, string, chunked, array, map, Piece, text, bytes, embedded, Pieces, piece, also, Strings, strings, no_string, after_strings, Row, row, RowBefore, no_item, after_row, Content, loose, tight, Pairs, pairs, PairsBefore, no_pair, after_pairs, Fields, loose_fields, tight_fields, Input, nothing, items, token, tokens_of, tokens_of_piece, tokens_of_pieces, tokens_of_strings, tokens_of_row, tokens_of_row_before, tokens_of_content, tokens_of_pairs, tokens_of_pairs_before, tokens_of_fields, tokens_of_input}
+use Rattle.cborn_edn.specs.devices.Meaning.{joined}
 use Rattle.cborn_edn.specs.Says.{width, size, Str, is_endless, said_string, chunked_node, string_node, chunk}
 use Rattle.cborn_edn.specs.devices.Counted.{IsShort, Counted, CountedPiece, CountedPieces, CountedStrings, CountedRow, CountedRowBefore, CountedContent, CountedPairs, CountedPairsBefore, CountedFields, CountedInput}
 use Rattle.cborn_edn.proofs.Meaning.Counting.{front, back, number_counted}
@@ -22,7 +22,7 @@ use Rattle.cborn_edn.proofs.Reader.Counts.{few_items, few_entries}
 use Rattle.cborn_edn.proofs.Reader.Rows.{spelled_snoc, spelled_snoc_entry}
 use Rattle.cborn_edn.proofs.Short.Said.{node, str_of, str, kind_in, chunks, nodes, nodes_before, nodes_in, entries, entries_before, entries_in, nodes_of_input}
 use Rattle.cborn_edn.proofs.Short.Meant.{said_pieces}
-use Rattle.cborn_edn.proofs.Short.Slipping.{counts_in, counts_fields}
+use Rattle.cborn_edn.proofs.Short.FirstErrors.{counts_in, counts_fields}
 
 -- a lone '' or "" has no bytes
 lone_nothing : (ps : Pieces) → (str ps).lone ≡ true → length (str ps).bytes ≡ 0
@@ -34,7 +34,7 @@ lone_nothing (piece (bytes at false x m)) e = absurd (let bad : false ≡ true =
 lone_nothing (piece (embedded at c end m)) e = absurd (let bad : false ≡ true = e in cc)
 lone_nothing (also ps p) e = absurd (let bad : false ≡ true = e in cc)
 
--- what a string spells holds its bytes
+-- the bytes that a string spells contain its content
 in_string : (s : Str) → (s.lone ≡ true → length s.bytes ≡ 0) → length s.bytes ≤ length (spelled (said_string s))
 in_string s none = go s.lone (is_endless s.mark) none
   where
@@ -47,15 +47,15 @@ in_string s none = go s.lone (is_endless s.mark) none
     go true false f = whole s.kind
     go false e f = whole s.kind
 
--- what chunks spell stands in what their string spells
+-- the bytes that a string spells contain those of its chunks
 in_chunks : (k : StringKind) (p : ℕ) (cs : List Chunk) (n : ℕ) → length (spelled (chunked_node k p cs)) < n → (m : Major) × (length (flat_map (chunk_bytes m) cs) < n)
-in_chunks OfBytes p cs n h = (ByteString, omega (arith, length-append (head ByteString Unbounded ++ flat_map (chunk_bytes ByteString) cs) (255 ∷ []), length-append (head ByteString Unbounded) (flat_map (chunk_bytes ByteString) cs)))
-in_chunks OfText p cs n h = (TextString, omega (arith, length-append (head TextString Unbounded ++ flat_map (chunk_bytes TextString) cs) (255 ∷ []), length-append (head TextString Unbounded) (flat_map (chunk_bytes TextString) cs)))
+in_chunks OfBytes p cs n h = (ByteString, omega (arith, length-append (head ByteString EndlessArgument ++ flat_map (chunk_bytes ByteString) cs) (255 ∷ []), length-append (head ByteString EndlessArgument) (flat_map (chunk_bytes ByteString) cs)))
+in_chunks OfText p cs n h = (TextString, omega (arith, length-append (head TextString EndlessArgument ++ flat_map (chunk_bytes TextString) cs) (255 ∷ []), length-append (head TextString EndlessArgument) (flat_map (chunk_bytes TextString) cs)))
 
 in_chunk : (k : Major) (s : Str) → length s.bytes ≤ length (chunk_bytes k (chunk s))
 in_chunk k s = omega (arith, length-append (head k (Given (width s.mark (length s.bytes)) (length s.bytes))) s.bytes)
 
--- what stands between a head and its end
+-- what is between a head and its end
 inside : (a b c : List ℕ) → length b ≤ length (a ++ b ++ c)
 inside a b c = omega (arith, length-append (a ++ b) c, length-append a b)
 

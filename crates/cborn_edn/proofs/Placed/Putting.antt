@@ -10,10 +10,10 @@ use Rattle.cborn_wire.specs.Places.{chunks_from, placed_from, all_from, entries_
 use Rattle.cborn_wire.proofs.Spelled.OneReading.{one_spelling}
 use Rattle.cborn_edn.specs.ReadingBack.{unplaced_chunks, unplaced, unplaced_all, unplaced_entries}
 use Rattle.cborn_edn.specs.Starts.{starts_of_chunks, starts, starts_all, starts_entries}
-use Rattle.cborn_edn.specs.devices.Put.{first, behind, put_chunks, left_by_chunks, left, left_by_all, left_by_entries, put, put_all, put_entries}
+use Rattle.cborn_edn.specs.devices.Put.{first, after, put_chunks, left_by_chunks, left, left_by_all, left_by_entries, put, put_all, put_entries}
 use Rattle.cborn_edn.proofs.RoundTrip.Unplaced.{same_fit, same_depth}
 
--- Nodes get their own places back, and what stands behind them the others.
+-- Nodes get their own places back, and the others are left.
 
 chunks_left : (cs : List Chunk) (z : List ℕ) → left_by_chunks (starts_of_chunks cs ++ z) cs ≡ z
 chunks_left [] z = refl
@@ -23,7 +23,7 @@ own_chunks : (cs : List Chunk) (z : List ℕ) → put_chunks (starts_of_chunks c
 own_chunks [] z = refl
 own_chunks (c ∷ cs) z = ap (λ ds. c ∷ ds) (own_chunks cs z)
 
--- the places of an entry and of what stands behind it
+-- the places of a pair, and of the pairs after it
 parted : (a b c z : List ℕ) → (a ++ (b ++ c)) ++ z ≡ a ++ (b ++ (c ++ z))
 parted a b c z = append_assoc a (b ++ c) z ∙ ap (λ w. a ++ w) (append_assoc b c z)
 
@@ -77,23 +77,23 @@ mutual
       ∙ ap (λ u. entry k u (put_entries (left rest v) es)) (own v last)
       ∙ ap (λ ps. entry k v (put_entries ps es)) (own_left v last) ∙ ap (entry k v) (own_entries es z)
 
--- The places that nodes had before are of no account.
+-- The places that nodes had before don't matter.
 
 chunks_left-from : (m : Major) (cs : List Chunk) (p : ℕ) (ps : List ℕ) → left_by_chunks ps (chunks_from m p cs) ≡ left_by_chunks ps cs
 chunks_left-from m [] p ps = refl
-chunks_left-from m (c ∷ cs) p ps = chunks_left-from m cs (p + length (chunk_bytes m c)) (behind ps)
+chunks_left-from m (c ∷ cs) p ps = chunks_left-from m cs (p + length (chunk_bytes m c)) (after ps)
 
 chunks-from : (m : Major) (cs : List Chunk) (p : ℕ) (ps : List ℕ) → put_chunks ps (chunks_from m p cs) ≡ put_chunks ps cs
 chunks-from m [] p ps = refl
-chunks-from m (c ∷ cs) p ps = ap (λ ds. record c { place = first ps } ∷ ds) (chunks-from m cs (p + length (chunk_bytes m c)) (behind ps))
+chunks-from m (c ∷ cs) p ps = ap (λ ds. record c { place = first ps } ∷ ds) (chunks-from m cs (p + length (chunk_bytes m c)) (after ps))
 
 mutual
   left-from : (t : Tree) (p : ℕ) (ps : List ℕ) → left ps (placed_from p t) ≡ left ps t
-  left-from (ByteChunks q cs) p ps = chunks_left-from ByteString cs (suc p) (behind ps)
-  left-from (TextChunks q cs) p ps = chunks_left-from TextString cs (suc p) (behind ps)
-  left-from (Items q s ts) p ps = all_left-from ts (p + length (head Array (argument s (count ts)))) (behind ps)
-  left-from (Pairs q s es) p ps = entries_left-from es (p + length (head Map (argument s (count_entries es)))) (behind ps)
-  left-from (Tagged q w n t) p ps = left-from t (p + length (head Tag (Given w n))) (behind ps)
+  left-from (ByteChunks q cs) p ps = chunks_left-from ByteString cs (suc p) (after ps)
+  left-from (TextChunks q cs) p ps = chunks_left-from TextString cs (suc p) (after ps)
+  left-from (Items q s ts) p ps = all_left-from ts (p + length (head Array (argument s (count ts)))) (after ps)
+  left-from (Pairs q s es) p ps = entries_left-from es (p + length (head Map (argument s (count_entries es)))) (after ps)
+  left-from (Tagged q w n t) p ps = left-from t (p + length (head Tag (Given w n))) (after ps)
   left-from _ p ps = refl
 
   all_left-from : (ts : Trees) (p : ℕ) (ps : List ℕ) → left_by_all ps (all_from p ts) ≡ left_by_all ps ts
@@ -112,11 +112,11 @@ mutual
 
 mutual
   put-from : (t : Tree) (p : ℕ) (ps : List ℕ) → put ps (placed_from p t) ≡ put ps t
-  put-from (ByteChunks q cs) p ps = ap (ByteChunks (first ps)) (chunks-from ByteString cs (suc p) (behind ps))
-  put-from (TextChunks q cs) p ps = ap (TextChunks (first ps)) (chunks-from TextString cs (suc p) (behind ps))
-  put-from (Items q s ts) p ps = ap (Items (first ps) s) (put_all-from ts (p + length (head Array (argument s (count ts)))) (behind ps))
-  put-from (Pairs q s es) p ps = ap (Pairs (first ps) s) (put_entries-from es (p + length (head Map (argument s (count_entries es)))) (behind ps))
-  put-from (Tagged q w n t) p ps = ap (Tagged (first ps) w n) (put-from t (p + length (head Tag (Given w n))) (behind ps))
+  put-from (ByteChunks q cs) p ps = ap (ByteChunks (first ps)) (chunks-from ByteString cs (suc p) (after ps))
+  put-from (TextChunks q cs) p ps = ap (TextChunks (first ps)) (chunks-from TextString cs (suc p) (after ps))
+  put-from (Items q s ts) p ps = ap (Items (first ps) s) (put_all-from ts (p + length (head Array (argument s (count ts)))) (after ps))
+  put-from (Pairs q s es) p ps = ap (Pairs (first ps) s) (put_entries-from es (p + length (head Map (argument s (count_entries es)))) (after ps))
+  put-from (Tagged q w n t) p ps = ap (Tagged (first ps) w n) (put-from t (p + length (head Tag (Given w n))) (after ps))
   put-from _ p ps = refl
 
   put_all-from : (ts : Trees) (p : ℕ) (ps : List ℕ) → put_all ps (all_from p ts) ≡ put_all ps ts
@@ -151,15 +151,15 @@ same_nodes ts us h k e =
 
 unplaced-chunks : (cs : List Chunk) (ps : List ℕ) → unplaced_chunks (put_chunks ps cs) ≡ unplaced_chunks cs
 unplaced-chunks [] ps = refl
-unplaced-chunks (c ∷ cs) ps = ap (λ ds. record c { place = 0 } ∷ ds) (unplaced-chunks cs (behind ps))
+unplaced-chunks (c ∷ cs) ps = ap (λ ds. record c { place = 0 } ∷ ds) (unplaced-chunks cs (after ps))
 
 mutual
   unplaced-put : (t : Tree) (ps : List ℕ) → unplaced (put ps t) ≡ unplaced t
-  unplaced-put (ByteChunks q cs) ps = ap (ByteChunks 0) (unplaced-chunks cs (behind ps))
-  unplaced-put (TextChunks q cs) ps = ap (TextChunks 0) (unplaced-chunks cs (behind ps))
-  unplaced-put (Items q s ts) ps = ap (Items 0 s) (unplaced-all ts (behind ps))
-  unplaced-put (Pairs q s es) ps = ap (Pairs 0 s) (unplaced-entries es (behind ps))
-  unplaced-put (Tagged q w n t) ps = ap (Tagged 0 w n) (unplaced-put t (behind ps))
+  unplaced-put (ByteChunks q cs) ps = ap (ByteChunks 0) (unplaced-chunks cs (after ps))
+  unplaced-put (TextChunks q cs) ps = ap (TextChunks 0) (unplaced-chunks cs (after ps))
+  unplaced-put (Items q s ts) ps = ap (Items 0 s) (unplaced-all ts (after ps))
+  unplaced-put (Pairs q s es) ps = ap (Pairs 0 s) (unplaced-entries es (after ps))
+  unplaced-put (Tagged q w n t) ps = ap (Tagged 0 w n) (unplaced-put t (after ps))
   unplaced-put _ ps = refl
 
   unplaced-all : (ts : Trees) (ps : List ℕ) → unplaced_all (put_all ps ts) ≡ unplaced_all ts

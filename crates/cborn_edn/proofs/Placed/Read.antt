@@ -1,4 +1,4 @@
--- Bytes that are spelled by what a text notates are read, and with the places of the text they are that.
+-- The nodes that are read from bytes, with the places of a text that spells the bytes, are the nodes that the text notates.
 use Rattle.std.proofs.Common.{◌≡◌, sym, ap, ◌∙◌, subst, ℕ, ◌^◌, ◌<◌, ◌≤◌, List, [], length, arith}
 use Rattle.cborn_model.specs.Bytes.{AreBytes}
 use Rattle.cborn_model.specs.Tree.{Trees, depth_all}
@@ -14,7 +14,7 @@ use Rattle.cborn_edn.specs.devices.Put.{put_all}
 use Rattle.cborn_edn.proofs.Meaning.AnyLength.{any_fits}
 use Rattle.cborn_edn.proofs.Placed.Bounded.{bounded_input}
 use Rattle.cborn_edn.proofs.Placed.Putting.{same_nodes}
-use Rattle.cborn_edn.proofs.Short.Jammed.{parsed}
+use Rattle.cborn_edn.proofs.Short.SyntaxErrors.{parsed}
 use Rattle.cborn_edn.proofs.Short.Same.{meant}
 
 module _ (profile : Profile) (limit : ℕ) (text bytes : List ℕ) (are : AreBytes text) (few : length bytes < 2 ^ 64) (h : IsSpelling profile limit text bytes) where

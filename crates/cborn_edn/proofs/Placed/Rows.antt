@@ -1,11 +1,11 @@
--- A loop that changes what stands in a list, one after another, while something is passed on: places are put into each, and the next gets those that are left.
+-- A loop that changes the elements of a list one after another and passes something on: places are put into each, and the next gets those that are left.
 use Rattle.std.proofs.Common.{◌≡◌, refl, sym, ap, ◌∙◌, ℕ, zero, suc, ◌+◌, ◌<◌, ◌≤◌, List, [], ◌∷◌, ◌++◌, length, take, drop, get_or, append_assoc, append-nil, arith}
 use Rattle.std.proofs.Math.ListN.{set}
 use Rattle.std.proofs.Math.Seq.{drop-cons, get_or-append_seam, set-append_seam}
 use Rattle.std.proofs.lemmas.List.{take_more, take_all, drop_all, length-take-le}
 use Rattle.cborn_model.specs.declared.nodes.Chunk.{Chunk}
 use Rattle.cborn_model.specs.Tree.{Tree, trees, entries, more, entry}
-use Rattle.cborn_edn.specs.devices.Put.{first, behind, left, left_by_all, left_by_entries, put, put_all, put_entries}
+use Rattle.cborn_edn.specs.devices.Put.{first, after, left, left_by_all, left_by_entries, put, put_all, put_entries}
 
 -- f changes one by what is passed to it, and g is what it passes on
 module _ {A P : Type 0} (f : P → A → A) (g : P → A → P) where
@@ -86,7 +86,7 @@ abbrev pub put_chunk : List ℕ → Chunk → Chunk
 put_chunk ps c = record c { place = first ps }
 
 abbrev pub left_by_chunk : List ℕ → Chunk → List ℕ
-left_by_chunk ps c = behind ps
+left_by_chunk ps c = after ps
 
 abbrev pub put_pair : List ℕ → Tree × Tree → Tree × Tree
 put_pair ps e = (put ps e.0, put (left ps e.0) e.1)

@@ -71,8 +71,8 @@ spaces_here profile text (suc n) at h a =
     let parts = and_parts (not (is_not 32 c)) (list_all (λ d. not (is_not 32 d)) (take n (drop (at + 1) text))) (subst (λ (x : List ℕ). list_all (λ d. not (is_not 32 d)) (take (suc n) x) ≡ true) (begins_here text at c inside refl) a) in
     let e : at + 1 + n ≡ at + suc n = omega arith in
     subst (λ (m : ℕ). TokensBetween profile text at m []) e
-    (join profile text at (at + 1) (at + 1 + n) [] [] (white_here profile text at inside (white_space c (eqb c 32) refl parts.0)) (spaces_here profile text n (at + 1) (omega (arith, h)) parts.1))
+    (join profile text at (at + 1) (at + 1 + n) [] [] (white_here profile text at inside (space_is_white c (eqb c 32) refl parts.0)) (spaces_here profile text n (at + 1) (omega (arith, h)) parts.1))
   where
-    white_space : (c : ℕ) (b : Bool) → eqb c 32 ≡ b → not (not (eqb c 32)) ≡ true → is_white c ≡ true
-    white_space c true e h = subst (λ (d : ℕ). is_white d ≡ true) (sym (eqb-true c 32 e)) refl
-    white_space c false e h = absurd (false≢true (sym (ap (λ b. not (not b)) e) ∙ h))
+    space_is_white : (c : ℕ) (b : Bool) → eqb c 32 ≡ b → not (not (eqb c 32)) ≡ true → is_white c ≡ true
+    space_is_white c true e h = subst (λ (d : ℕ). is_white d ≡ true) (sym (eqb-true c 32 e)) refl
+    space_is_white c false e h = absurd (false≢true (sym (ap (λ b. not (not b)) e) ∙ h))

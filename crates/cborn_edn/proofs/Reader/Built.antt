@@ -10,13 +10,13 @@ use Rattle.cborn_model.specs.declared.nodes.Chunk.{Chunk}
 use Rattle.cborn_model.specs.Heads.{code}
 use Rattle.cborn_model.specs.Spelled.{spelled, chunk_bytes}
 use Rattle.cborn_lex.specs.declared.classes.Mark.{Mark}
-use Rattle.cborn_edn.specs.declared.slips.Slip.{Slip}
+use Rattle.cborn_edn.specs.declared.meaning_errors.MeaningError.{MeaningError}
 use Rattle.cborn_edn.specs.declared.strings.StringKind.{StringKind}
 use Rattle.cborn_edn.specs.declared.strings.StringKind.TheVariants.{Bytes as OfBytes, Text as OfText}
-use Rattle.cborn_edn.specs.Says.{Str, is_nil, chunk, same_kind, unless, said_string, chunked_node, string_slips, chunk_slips, piece_slips}
+use Rattle.cborn_edn.specs.Says.{Str, is_nil, chunk, same_kind, unless, said_string, chunked_node, string_errors, chunk_errors, piece_errors}
 use Rattle.cborn_edn.specs.declared.faults.EdnReason.TheVariants.{MixedChunks}
-use Rattle.cborn_edn.specs.devices.Slips.{first_slip}
-use Rattle.cborn_edn.specs.shared.Syntax.{Span, Pieces, piece, also, Strings, strings, StringsBefore, no_string, after_strings, string, chunked}
+use Rattle.cborn_edn.specs.devices.MeaningErrors.{first_error}
+use Rattle.cborn_edn.specs.devices.Syntax.{Span, Pieces, piece, also, Strings, strings, StringsBefore, no_string, after_strings, string, chunked}
 use Rattle.cborn_edn.proofs.Grammar.Machine.{Stack, Home, as_item, as_chunk, has, builds, wants_chunk}
 use Rattle.cborn_edn.proofs.Grammar.Takes.{at_home}
 use Rattle.cborn_edn.proofs.Short.Said.{str, str_of, kind_in, chunks, faults_of_pieces, faults_of_strings}
@@ -25,8 +25,8 @@ use Rattle.cborn_edn.specs.declared.states.Writer.{Writer}
 use Rattle.cborn_edn.specs.declared.states.Heads.{Heads}
 use Rattle.cborn_edn.specs.declared.states.Joint.{Joint}
 use Rattle.cborn_edn.specs.declared.states.Chunks.{Chunks}
-use Rattle.cborn_edn.specs.declared.states.Stand.TheVariants.{Has, Builds, WantsChunk}
-use Rattle.cborn_edn.specs.devices.Slips.{Notes}
+use Rattle.cborn_edn.specs.declared.states.Phase.TheVariants.{Has, Builds, WantsChunk}
+use Rattle.cborn_edn.specs.devices.MeaningErrors.{Notes}
 use Rattle.cborn_edn.specs.devices.Laid.{cut, major_of, chunks_laid, laid_stack, laid_home}
 use Rattle.cborn_edn.specs.devices.Noted.{strings_noted, noted_stack, noted_home}
 use Rattle.cborn_edn.specs.devices.Kept.{joint, kind_before, kind_or}
@@ -37,23 +37,23 @@ use Rattle.cborn_edn.proofs.Reader.Joints.{known_joint}
 use Rattle.cborn_edn.proofs.Reader.Showing.{fresh, with_heads, first_joint, piece_bytes, piece_faults}
 use Rattle.cborn_edn.proofs.Reader.Written.{string_as, chunk_marked, chunks_then, chunked_as}
 
-pub begun_shown : (here : Here) (w : Writer) (h : Home) (k : StringKind) (start place : ℕ) (m : Mark) (q lone : Bool) (a : Span) (x base : List ℕ) → place ≡ a.start → start ≡ length base → w.out.items ≡ base ++ (0 ∷ x) → AreBytes x → (k ≡ OfText → q ≡ true)
+pub starting_shown : (here : Here) (w : Writer) (h : Home) (k : StringKind) (start place : ℕ) (m : Mark) (q lone : Bool) (a : Span) (x base : List ℕ) → place ≡ a.start → start ≡ length base → w.out.items ≡ base ++ (0 ∷ x) → AreBytes x → (k ≡ OfText → q ≡ true)
     → ((y : List ℕ) → length w.out.items - start - 1 ≡ length y → lone ≡ (q && is_nil y)) → Shows here w base (at_home h None)
-    → Shows (record here { stand = Builds }) (record w { string = Some (record { kind = k; start = start; place = place; mark = m; mark_place = place; lone = lone; known = true }) }) w.out.items (builds h (piece (piece_of k a q x m)))
-begun_shown here w h k start place m q lone a x base p s e are t l shows =
+    → Shows (record here { phase = Builds }) (record w { string = Some (record { kind = k; start = start; place = place; mark = m; mark_place = place; lone = lone; known = true }) }) w.out.items (builds h (piece (piece_of k a q x m)))
+starting_shown here w h k start place m q lone a x base p s e are t l shows =
     let f = fresh here w h base shows in
     let size : length w.out.items - start - 1 ≡ length x = omega (arith, ap length e, length-append base (0 ∷ x), s) in
     let from : start ≡ length (laid_home w.heads h) = s ∙ laid_length (laid_home w.heads h) base f.laid in
     record {
-      stand = refl;
+      phase = refl;
       level = f.home.level;
       count = f.home.count;
-      frames = f.home.frames;
+      brackets = f.home.brackets;
       around = f.home.around;
       string = ap Some (first_joint k a q lone x m place start (length (laid_home w.heads h)) p from t (l x size));
       chunks = f.home.chunks;
       simple = tt;
-      slip = f.slip ∙ ap first_slip (sym (append-nil (noted_home h))) ∙ ap (λ y. first_slip (noted_home h ++ y)) (sym (piece_faults k a q x m));
+      error = f.error ∙ ap first_error (sym (append-nil (noted_home h))) ∙ ap (λ y. first_error (noted_home h ++ y)) (sym (piece_faults k a q x m));
       out = laid_bytes (laid_home w.heads h) (0 ∷ x) base w.out.items f.laid (omega arith, are) e ∙ ap (λ y. cut (laid_home w.heads h ++ (0 ∷ y))) (sym (piece_bytes k a q x m));
     }
 
@@ -77,24 +77,24 @@ piece_place : (k : StringKind) (a : Span) (q : Bool) (x : List ℕ) (m : Mark) �
 piece_place OfBytes a q x m = refl
 piece_place OfText a q x m = refl
 
-pub joined_shown : (here : Here) (w : Writer) (h : Home) (ps : Pieces) (k : StringKind) (place : ℕ) (m : Mark) (q : Bool) (a : Span) (x base : List ℕ) (j : Joint) (new : Option Slip) → place ≡ a.start → w.out.items ≡ base ++ x → AreBytes x → w.string ≡ Some j
-    → ((s t : Str) (start : ℕ) → j ≡ joint start s → k ≡ t.kind → place ≡ t.place → Notes w.slip new (piece_slips s t)) → Shows here w base (builds h ps)
-    → Shows here (record w { string = Some (record { kind = j.kind; start = j.start; place = j.place; mark = m; mark_place = place; lone = false; known = j.known }); slip = new }) w.out.items (builds h (also ps (piece_of k a q x m)))
+pub joined_shown : (here : Here) (w : Writer) (h : Home) (ps : Pieces) (k : StringKind) (place : ℕ) (m : Mark) (q : Bool) (a : Span) (x base : List ℕ) (j : Joint) (new : Option MeaningError) → place ≡ a.start → w.out.items ≡ base ++ x → AreBytes x → w.string ≡ Some j
+    → ((s t : Str) (start : ℕ) → j ≡ joint start s → k ≡ t.kind → place ≡ t.place → Notes w.error new (piece_errors s t)) → Shows here w base (builds h ps)
+    → Shows here (record w { string = Some (record { kind = j.kind; start = j.start; place = j.place; mark = m; mark_place = place; lone = false; known = j.known }); error = new }) w.out.items (builds h (also ps (piece_of k a q x m)))
 joined_shown here w h ps k place m q a x base j new p e are w-is noted shows =
     let t = str_of (piece_of k a q x m) in
     let same : Some j ≡ Some (joint (length (laid_home w.heads h)) (str ps)) = sym w-is ∙ shows.string in
     let is : j ≡ joint (length (laid_home w.heads h)) (str ps) = cc in
-    let n = noted (str ps) t (length (laid_home w.heads h)) is (piece_kind k a q x m) (p ∙ piece_place k a q x m) (noted_home h ++ faults_of_pieces ps) shows.slip in
+    let n = noted (str ps) t (length (laid_home w.heads h)) is (piece_kind k a q x m) (p ∙ piece_place k a q x m) (noted_home h ++ faults_of_pieces ps) shows.error in
     record {
-      stand = shows.stand;
+      phase = shows.phase;
       level = shows.level;
       count = shows.count;
-      frames = shows.frames;
+      brackets = shows.brackets;
       around = shows.around;
       string = ap Some (known_joint j (str ps) t (length (laid_home w.heads h)) place m is (piece_known k a q x m) (piece_mark k a q x m) (piece_mark_place k a q x m ∙ sym p));
       chunks = shows.chunks;
       simple = tt;
-      slip = n ∙ ap first_slip (append_assoc (noted_home h) (faults_of_pieces ps) (piece_slips (str ps) t)) ∙ ap (λ y. first_slip (noted_home h ++ (faults_of_pieces ps ++ (y ++ piece_slips (str ps) t)))) (sym (piece_faults k a q x m));
+      error = n ∙ ap first_error (append_assoc (noted_home h) (faults_of_pieces ps) (piece_errors (str ps) t)) ∙ ap (λ y. first_error (noted_home h ++ (faults_of_pieces ps ++ (y ++ piece_errors (str ps) t)))) (sym (piece_faults k a q x m));
       out = laid_bytes (laid_home w.heads h ++ (0 ∷ (str ps).bytes)) x base w.out.items shows.out are e ∙ ap cut (append_assoc (laid_home w.heads h) (0 ∷ (str ps).bytes) x) ∙ ap (λ y. cut (laid_home w.heads h ++ (0 ∷ ((str ps).bytes ++ y)))) (sym (piece_bytes k a q x m));
     }
 
@@ -107,16 +107,16 @@ same_same : (k : StringKind) → same_kind k k ≡ true
 same_same OfBytes = refl
 same_same OfText = refl
 
-no_mix : (k : StringKind) (s : Str) → k ≡ s.kind → chunk_slips k s ≡ string_slips false s
-no_mix k s e = ap (λ x. chunk_slips x s) e ∙ ap (λ b. unless b s.place MixedChunks ++ string_slips false s) (same_same s.kind)
+no_mix : (k : StringKind) (s : Str) → k ≡ s.kind → chunk_errors k s ≡ string_errors false s
+no_mix k s e = ap (λ x. chunk_errors x s) e ∙ ap (λ b. unless b s.place MixedChunks ++ string_errors false s) (same_same s.kind)
 
--- the slips of one more chunk
-more_noted : (l : List Slip) (b : StringsBefore) (ps : Pieces) (k : StringKind) → k ≡ kind_in (strings b ps) → l ++ strings_noted b ++ faults_of_pieces ps ++ chunk_slips k (str ps) ≡ l ++ faults_of_strings (strings b ps)
+-- the meaning errors of one more chunk
+more_noted : (l : List MeaningError) (b : StringsBefore) (ps : Pieces) (k : StringKind) → k ≡ kind_in (strings b ps) → l ++ strings_noted b ++ faults_of_pieces ps ++ chunk_errors k (str ps) ≡ l ++ faults_of_strings (strings b ps)
 more_noted l no_string ps k e =
-    ap (λ x. x ++ faults_of_pieces ps ++ chunk_slips k (str ps)) (append-nil l) ∙ append_assoc l (faults_of_pieces ps) (chunk_slips k (str ps)) ∙ ap (λ x. l ++ (faults_of_pieces ps ++ x)) (no_mix k (str ps) e)
+    ap (λ x. x ++ faults_of_pieces ps ++ chunk_errors k (str ps)) (append-nil l) ∙ append_assoc l (faults_of_pieces ps) (chunk_errors k (str ps)) ∙ ap (λ x. l ++ (faults_of_pieces ps ++ x)) (no_mix k (str ps) e)
 more_noted l (after_strings ss c) ps k e =
-    append_assoc (l ++ faults_of_strings ss) (faults_of_pieces ps) (chunk_slips k (str ps)) ∙ append_assoc l (faults_of_strings ss) (faults_of_pieces ps ++ chunk_slips k (str ps))
-    ∙ ap (λ x. l ++ (faults_of_strings ss ++ (faults_of_pieces ps ++ chunk_slips x (str ps)))) e
+    append_assoc (l ++ faults_of_strings ss) (faults_of_pieces ps) (chunk_errors k (str ps)) ∙ append_assoc l (faults_of_strings ss) (faults_of_pieces ps ++ chunk_errors k (str ps))
+    ∙ ap (λ x. l ++ (faults_of_strings ss ++ (faults_of_pieces ps ++ chunk_errors x (str ps)))) e
 
 -- and its bytes
 more_laid : (h : Heads) (l : List ℕ) (b : StringsBefore) (ps : Pieces) (k : StringKind) (a : Span) → k ≡ kind_in (strings b ps) → l ++ (0 ∷ chunks_laid h b) ++ chunk_bytes (major_of k) (chunk_as h (chunk (str ps))) ≡ l ++ (0 ∷ chunks_laid h (after_strings (strings b ps) a))
@@ -130,33 +130,33 @@ more_laid h l (after_strings ss d) ps k a e =
     ∙ ap (λ x. l ++ (0 ∷ (flat_map f (chunks_as h (chunks ss)) ++ x))) (sym (append-nil (f c))) ∙ ap (λ x. l ++ (0 ∷ x)) (sym (flat_map-append f (chunks_as h (chunks ss)) (c ∷ [])))
     ∙ ap (λ x. l ++ (0 ∷ flat_map f x)) (sym (chunks_then h (chunks ss) (chunk (str ps) ∷ [])))
 
-pub item_shown : (here : Here) (w left : Writer) (st : Stack) (ps : Pieces) (j : Joint) (m : Mark) → w.string ≡ Some j → m ≡ written_mark (heads_at w.heads st) j.mark → left.heads ≡ w.heads → left.frames ≡ w.frames → left.around ≡ w.around → left.string ≡ None → left.chunks ≡ w.chunks
+pub item_shown : (here : Here) (w left : Writer) (st : Stack) (ps : Pieces) (j : Joint) (m : Mark) → w.string ≡ Some j → m ≡ written_mark (heads_at w.heads st) j.mark → left.heads ≡ w.heads → left.brackets ≡ w.brackets → left.around ≡ w.around → left.string ≡ None → left.chunks ≡ w.chunks
     → ((s : Str) (base : List ℕ) → j ≡ joint (length base) s → w.out.items ≡ cut (base ++ (0 ∷ s.bytes)) → left.out.items ≡ cut (base ++ spelled (said_string (record s { mark = m }))))
-    → ((s : Str) (base : List ℕ) → j ≡ joint (length base) s → w.out.items ≡ cut (base ++ (0 ∷ s.bytes)) → (s.known ≡ true → AreBytes s.bytes) → Notes w.slip left.slip (string_slips s.lone s))
-    → ((str ps).known ≡ true → AreBytes (str ps).bytes) → Shows here w w.out.items (builds (as_item st) ps) → Shows (record here { stand = Has }) left left.out.items (has st (string ps))
+    → ((s : Str) (base : List ℕ) → j ≡ joint (length base) s → w.out.items ≡ cut (base ++ (0 ∷ s.bytes)) → (s.known ≡ true → AreBytes s.bytes) → Notes w.error left.error (string_errors s.lone s))
+    → ((str ps).known ≡ true → AreBytes (str ps).bytes) → Shows here w w.out.items (builds (as_item st) ps) → Shows (record here { phase = Has }) left left.out.items (has st (string ps))
 item_shown here w left st ps j m w-is m-is same_heads f a s c added noted known e =
     let k = heads_at w.heads st in
     let same : Some j ≡ Some (joint (length (laid_stack w.heads st)) (str ps)) = sym w-is ∙ e.string in
     let is : j ≡ joint (length (laid_stack w.heads st)) (str ps) = cc in
     let mark : m ≡ written_mark k (str ps).mark = m-is ∙ ap (λ (x : Joint). written_mark k x.mark) is in
-    with_heads (record here { stand = Has }) left w.heads left.out.items (has st (string ps)) same_heads (record {
-      stand = refl;
+    with_heads (record here { phase = Has }) left w.heads left.out.items (has st (string ps)) same_heads (record {
+      phase = refl;
       level = e.level;
       count = e.count;
-      frames = f ∙ e.frames;
+      brackets = f ∙ e.brackets;
       around = a ∙ e.around;
       string = s;
       chunks = c ∙ e.chunks;
       simple = tt;
-      slip = noted (str ps) (laid_stack w.heads st) is e.out known (noted_stack st ++ faults_of_pieces ps) e.slip ∙ ap first_slip (append_assoc (noted_stack st) (faults_of_pieces ps) (string_slips (str ps).lone (str ps)));
+      error = noted (str ps) (laid_stack w.heads st) is e.out known (noted_stack st ++ faults_of_pieces ps) e.error ∙ ap first_error (append_assoc (noted_stack st) (faults_of_pieces ps) (string_errors (str ps).lone (str ps)));
       out = added (str ps) (laid_stack w.heads st) is e.out ∙ ap (λ x. cut (laid_stack w.heads st ++ spelled (said_string (record (str ps) { mark = x })))) mark ∙ ap (λ x. cut (laid_stack w.heads st ++ x)) (sym (string_as k (str ps)));
     })
 
 pub chunk_shown : (here : Here) (w left : Writer) (st : Stack) (s a : Span) (b : StringsBefore) (ps : Pieces) (j : Joint) (cs : Chunks) (k : StringKind) (m : Mark) → w.string ≡ Some j → w.chunks ≡ Some cs → k ≡ kind_or cs.kind j.kind → m ≡ written_mark (heads_at w.heads st) j.mark
-    → left.heads ≡ w.heads → left.frames ≡ w.frames → left.around ≡ w.around → left.string ≡ None → left.chunks ≡ Some (record { start = cs.start; kind = Some k })
+    → left.heads ≡ w.heads → left.brackets ≡ w.brackets → left.around ≡ w.around → left.string ≡ None → left.chunks ≡ Some (record { start = cs.start; kind = Some k })
     → ((s : Str) (base : List ℕ) → j ≡ joint (length base) s → w.out.items ≡ cut (base ++ (0 ∷ s.bytes)) → left.out.items ≡ cut (base ++ chunk_bytes (major_of k) (chunk (record s { mark = m }))))
-    → ((s : Str) (base : List ℕ) → j ≡ joint (length base) s → w.out.items ≡ cut (base ++ (0 ∷ s.bytes)) → (s.known ≡ true → AreBytes s.bytes) → Notes w.slip left.slip (chunk_slips k s))
-    → ((str ps).known ≡ true → AreBytes (str ps).bytes) → Shows here w w.out.items (builds (as_chunk st s b) ps) → Shows (record here { stand = WantsChunk }) left left.out.items (wants_chunk st s (after_strings (strings b ps) a))
+    → ((s : Str) (base : List ℕ) → j ≡ joint (length base) s → w.out.items ≡ cut (base ++ (0 ∷ s.bytes)) → (s.known ≡ true → AreBytes s.bytes) → Notes w.error left.error (chunk_errors k s))
+    → ((str ps).known ≡ true → AreBytes (str ps).bytes) → Shows here w w.out.items (builds (as_chunk st s b) ps) → Shows (record here { phase = WantsChunk }) left left.out.items (wants_chunk st s (after_strings (strings b ps) a))
 chunk_shown here w left st s a b ps j cs k m w-is c-is k-is m-is same_heads f r n c added noted known e =
     let q = heads_at w.heads st in
     let home = laid_home w.heads (as_chunk st s b) in
@@ -166,16 +166,16 @@ chunk_shown here w left st s a b ps j cs k m w-is c-is k-is m-is same_heads f r 
     let all : Some cs ≡ Some (record { start = length (laid_stack w.heads st); kind = kind_before b }) = sym c-is ∙ e.chunks in
     let are : cs ≡ record { start = length (laid_stack w.heads st); kind = kind_before b } = cc in
     let kind : k ≡ kind_in (strings b ps) = k-is ∙ ap (λ (x : Chunks). kind_or x.kind j.kind) are ∙ ap (λ (x : Joint). kind_or (kind_before b) x.kind) is ∙ kind_first b ps in
-    with_heads (record here { stand = WantsChunk }) left w.heads left.out.items (wants_chunk st s (after_strings (strings b ps) a)) same_heads (record {
-      stand = refl;
+    with_heads (record here { phase = WantsChunk }) left w.heads left.out.items (wants_chunk st s (after_strings (strings b ps) a)) same_heads (record {
+      phase = refl;
       level = e.level;
       count = e.count;
-      frames = f ∙ e.frames;
+      brackets = f ∙ e.brackets;
       around = r ∙ e.around;
       string = n;
       chunks = c ∙ (λ i. Some (record { start = (are i).start; kind = Some (kind i) }));
       simple = tt;
-      slip = noted (str ps) home is e.out known (noted_stack st ++ strings_noted b ++ faults_of_pieces ps) e.slip ∙ ap first_slip (more_noted (noted_stack st) b ps k kind);
+      error = noted (str ps) home is e.out known (noted_stack st ++ strings_noted b ++ faults_of_pieces ps) e.error ∙ ap first_error (more_noted (noted_stack st) b ps k kind);
       out = added (str ps) home is e.out ∙ ap (λ x. cut (home ++ chunk_bytes (major_of k) (chunk (record (str ps) { mark = x })))) mark ∙ ap (λ x. cut (home ++ chunk_bytes (major_of k) x)) (sym (chunk_marked q (str ps))) ∙ ap cut (more_laid q (laid_stack w.heads st) b ps k a kind);
     })
 
@@ -193,8 +193,8 @@ chunks_spelled OfBytes p cs = refl
 chunks_spelled OfText p cs = refl
 
 pub chunks_shown : (here : Here) (w left : Writer) (st : Stack) (s a e : Span) (ss : Strings) (cs : Chunks) (k : StringKind) (v : ℕ) (mid : List ℕ) → w.chunks ≡ Some cs → cs.kind ≡ Some k → v ≡ 32 * code (major_of k) + 31
-    → left.heads ≡ w.heads → left.frames ≡ w.frames → left.around ≡ w.around → left.string ≡ w.string → left.chunks ≡ None → left.slip ≡ w.slip → mid ≡ set w.out.items cs.start v → left.out.items ≡ mid ++ (255 ∷ [])
-    → Shows here w w.out.items (wants_chunk st s (after_strings ss a)) → Shows (record here { stand = Has }) left left.out.items (has st (chunked s ss e))
+    → left.heads ≡ w.heads → left.brackets ≡ w.brackets → left.around ≡ w.around → left.string ≡ w.string → left.chunks ≡ None → left.error ≡ w.error → mid ≡ set w.out.items cs.start v → left.out.items ≡ mid ++ (255 ∷ [])
+    → Shows here w w.out.items (wants_chunk st s (after_strings ss a)) → Shows (record here { phase = Has }) left left.out.items (has st (chunked s ss e))
 chunks_shown here w left st s a e ss cs k v mid c-is k-is v-is same_heads f r n c l m o shows =
     let q = heads_at w.heads st in
     let base = laid_stack w.heads st in
@@ -204,18 +204,18 @@ chunks_shown here w left st s a e ss cs k v mid c-is k-is v-is same_heads f r n 
     let kind : k ≡ kind_in ss = cc in
     let first : v ≡ 32 * code (major_of (kind_in ss)) + 31 = v-is ∙ ap (λ x. 32 * code (major_of x) + 31) kind in
     let x = flat_map (chunk_bytes (major_of (kind_in ss))) (chunks_as q (chunks ss)) in
-    let begun : mid ≡ cut (base ++ ((32 * code (major_of (kind_in ss)) + 31) ∷ x)) =
+    let starting : mid ≡ cut (base ++ ((32 * code (major_of (kind_in ss)) + 31) ∷ x)) =
     first_set base x w.out.items mid cs.start (32 * code (major_of (kind_in ss)) + 31) (ap (λ (y : Chunks). y.start) are) shows.out (first_small (kind_in ss)) (m ∙ ap (set w.out.items cs.start) first) in
-    with_heads (record here { stand = Has }) left w.heads left.out.items (has st (chunked s ss e)) same_heads (record {
-      stand = refl;
+    with_heads (record here { phase = Has }) left w.heads left.out.items (has st (chunked s ss e)) same_heads (record {
+      phase = refl;
       level = shows.level;
       count = shows.count;
-      frames = f ∙ shows.frames;
+      brackets = f ∙ shows.brackets;
       around = r ∙ shows.around;
       string = n ∙ shows.string;
       chunks = c;
       simple = tt;
-      slip = l ∙ shows.slip;
-      out = laid_more (base ++ ((32 * code (major_of (kind_in ss)) + 31) ∷ x)) (255 ∷ []) mid left.out.items begun o
+      error = l ∙ shows.error;
+      out = laid_more (base ++ ((32 * code (major_of (kind_in ss)) + 31) ∷ x)) (255 ∷ []) mid left.out.items starting o
           ∙ ap cut (append_assoc base ((32 * code (major_of (kind_in ss)) + 31) ∷ x) (255 ∷ []) ∙ ap (λ y. base ++ y) (chunks_spelled (kind_in ss) s.start (chunks_as q (chunks ss)) ∙ sym (chunked_as q (kind_in ss) s.start (chunks ss))));
     })

@@ -1,4 +1,4 @@
--- Tokens, white space and comments from the characters that stand at a place of a text.
+-- Tokens, white space and comments, from the characters at an offset of a text.
 use Rattle.std.proofs.Common.{◌≡◌, refl, sym, ap, ◌∙◌, subst, ℕ, ◌+◌, ◌<◌, List, [], ◌∷◌, ◌++◌, length, take, drop, get_or, true, Some, None, arith, append_assoc, length-append, length-drop, append-nil}
 use Rattle.std.proofs.Math.Seq.{drop-append_seam}
 use Rattle.std.proofs.lemmas.List.{drop-drop, drop_more, take-append-drop, length-take-le}
@@ -9,18 +9,18 @@ use Rattle.cborn_lex.specs.declared.classes.Profile.TheVariants.{Two}
 use Rattle.cborn_lex.specs.declared.classes.Class.{Class}
 use Rattle.cborn_lex.specs.declared.classes.Token.{Token}
 use Rattle.cborn_lex.specs.Tokens.{is_white, is_not}
-use Rattle.cborn_lex.specs.shared.Letters.{is_plain}
+use Rattle.cborn_lex.specs.devices.Letters.{is_plain}
 use Rattle.cborn_lex.specs.Good as good
 use Rattle.cborn_lex.specs.Good.{Takes, Covers, TokensBetween}
 use Rattle.cborn_lex.proofs.GoodTexts.{covers, through}
 use Rattle.cborn_lex.proofs.WholeTexts.Progress.{joins}
 use Rattle.cborn_edn.specs.devices.Ahead.{IsTokenAt}
 
--- LAW: what stands between three places
+-- LAW: the tokens between three places
 pub join : (profile : Profile) (text : List ℕ) (l m n : ℕ) (ts us : List Token) → TokensBetween profile text l m ts → TokensBetween profile text m n us → TokensBetween profile text l n (ts ++ us)
 join profile text l m n ts us h k = covers profile (joins profile text l m n ts us (through profile h) (through profile k))
 
--- LAW: nothing stands between a place and itself
+-- LAW: no token is between a place and itself
 pub nothing : (profile : Profile) (text : List ℕ) (n : ℕ) → TokensBetween profile text n n []
 nothing profile text n = good.end n (drop n text)
 
@@ -28,21 +28,21 @@ nothing profile text n = good.end n (drop n text)
 rest_of : (text s z : List ℕ) (at stop : ℕ) → drop at text ≡ s ++ z → stop ≡ at + length s → drop stop text ≡ z
 rest_of text s z at stop w e = ap (λ n. drop n text) e ∙ sym (drop-drop (length s) at text) ∙ ap (drop (length s)) w ∙ drop-append_seam s z
 
--- LAW: a token whose slice stands at the place
+-- LAW: a token, if its slice is at the place
 pub token_here : (profile : Profile) (text s z : List ℕ) (at stop : ℕ) (k : Class) → drop at text ≡ s ++ z → stop ≡ at + length s → Takes profile s z (Some k) → IsTokenAt profile text at stop k
 token_here profile text s z at stop k w e t =
     subst (λ (x : List ℕ). Covers profile at x (record { start = at; stop = stop; class = k } ∷ []) stop (drop stop text)) (sym w)
     (subst (λ (y : List ℕ). Covers profile at (s ++ z) (record { start = at; stop = stop; class = k } ∷ []) stop y) (sym (rest_of text s z at stop w e))
     (subst (λ (m : ℕ). Covers profile at (s ++ z) (record { start = at; stop = m; class = k } ∷ []) m z) (sym e) (good.token at (at + length s) k s z z [] t (good.end (at + length s) z))))
 
--- LAW: white space or a comment whose slice stands at the place
-pub gap_here : (profile : Profile) (text s z : List ℕ) (at stop : ℕ) → drop at text ≡ s ++ z → stop ≡ at + length s → Takes profile s z None → TokensBetween profile text at stop []
-gap_here profile text s z at stop w e t =
+-- LAW: white space or a comment, if its slice is at the place
+pub white_space_here : (profile : Profile) (text s z : List ℕ) (at stop : ℕ) → drop at text ≡ s ++ z → stop ≡ at + length s → Takes profile s z None → TokensBetween profile text at stop []
+white_space_here profile text s z at stop w e t =
     subst (λ (x : List ℕ). Covers profile at x [] stop (drop stop text)) (sym w)
     (subst (λ (y : List ℕ). Covers profile at (s ++ z) [] stop y) (sym (rest_of text s z at stop w e))
-    (subst (λ (m : ℕ). Covers profile at (s ++ z) [] m z) (sym e) (good.gap at (at + length s) s z z [] t (good.end (at + length s) z))))
+    (subst (λ (m : ℕ). Covers profile at (s ++ z) [] m z) (sym e) (good.white_space at (at + length s) s z z [] t (good.end (at + length s) z))))
 
--- what stands at a place begins with the character there
+-- the text from a place on begins with the character there
 pub begins_here : (text : List ℕ) (at c : ℕ) → at < length text → get_or text at 0 ≡ c → drop at text ≡ c ∷ drop (at + 1) text
 begins_here text at c h e = drop_more text at 0 h ∙ ap (λ d. d ∷ drop (at + 1) text) e
 
@@ -53,7 +53,7 @@ single_here profile text at c k h e t = token_here profile text (c ∷ []) (drop
 -- White space and comments.
 
 pub white_here : (profile : Profile) (text : List ℕ) (at : ℕ) → at < length text → is_white (get_or text at 0) ≡ true → TokensBetween profile text at (at + 1) []
-white_here profile text at h w = gap_here profile text (get_or text at 0 ∷ []) (drop (at + 1) text) at (at + 1) (begins_here text at (get_or text at 0) h refl) refl (good.white (get_or text at 0) (drop (at + 1) text) w)
+white_here profile text at h w = white_space_here profile text (get_or text at 0 ∷ []) (drop (at + 1) text) at (at + 1) (begins_here text at (get_or text at 0) h refl) refl (good.white (get_or text at 0) (drop (at + 1) text) w)
 
 -- up to and with the character q at the offset i
 through_here : (tail : List ℕ) (i q : ℕ) → i < length tail → get_or tail i 0 ≡ q → tail ≡ (take i tail ++ q ∷ []) ++ drop (i + 1) tail
@@ -73,12 +73,12 @@ ended text tail at i c q h e t l f = record {
 ended_here : (profile : Profile) (text tail : List ℕ) (at i c q : ℕ) → at < length text → get_or text at 0 ≡ c → tail ≡ drop (at + 1) text → i < length tail → get_or tail i 0 ≡ q → ((z : List ℕ) → Takes profile (c ∷ take i tail ++ q ∷ []) z None) → TokensBetween profile text at (at + i + 2) []
 ended_here profile text tail at i c q h e t l f k =
     let s = ended text tail at i c q h e t l f in
-    gap_here profile text (c ∷ take i tail ++ q ∷ []) (drop (i + 1) tail) at (at + i + 2) s.whole s.size (k (drop (i + 1) tail))
+    white_space_here profile text (c ∷ take i tail ++ q ∷ []) (drop (i + 1) tail) at (at + i + 2) s.whole s.size (k (drop (i + 1) tail))
 
 pub comment_here : (profile : Profile) (text tail : List ℕ) (at i : ℕ) → at < length text → get_or text at 0 ≡ 47 → tail ≡ drop (at + 1) text → i < length tail → list_all (is_not 47) (take i tail) ≡ true → get_or tail i 0 ≡ 47 → TokensBetween profile text at (at + i + 2) []
 comment_here profile text tail at i h e t l a f = ended_here profile text tail at i 47 47 h e t l f (λ z. good.comment (take i tail) z a)
 
--- LAW: no slash stands among letters that are plain in a string between slashes
+-- LAW: letters that are plain in a string between slashes have no slash
 pub plain_comment : (x : List ℕ) → list_all (is_plain 47) x ≡ true → list_all (is_not 47) x ≡ true
 plain_comment [] e = refl
 plain_comment (c ∷ x) e =
@@ -92,4 +92,4 @@ pub last_line_here : (text tail : List ℕ) (at : ℕ) → at < length text → 
 last_line_here text tail at h e t a =
     let whole : drop at text ≡ (35 ∷ tail) ++ [] = begins_here text at 35 h e ∙ ap (λ y. 35 ∷ y) (sym t ∙ sym (append-nil tail)) in
     let size : length text ≡ at + length (35 ∷ tail) = omega (arith, h, ap length t, length-drop (at + 1) text) in
-    gap_here Two text (35 ∷ tail) [] at (length text) whole size (good.last_line tail refl a)
+    white_space_here Two text (35 ∷ tail) [] at (length text) whole size (good.last_line tail refl a)

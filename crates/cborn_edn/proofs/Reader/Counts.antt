@@ -1,4 +1,4 @@
--- How much stands in a bracket, and how many are open.
+-- How many items or pairs a bracket has, and how many brackets are open.
 use Rattle.std.proofs.Common.{◌≡◌, refl, ap, ℕ, suc, ◌<◌, ◌≤◌, List, ◌∷◌, ◌++◌, length, arith}
 use Rattle.std.proofs.lemmas.List.{length-append}
 use Rattle.cborn_model.specs.declared.heads.Size.{Size}
@@ -15,7 +15,7 @@ use Rattle.cborn_edn.specs.declared.states.Here.{Here}
 use Rattle.cborn_edn.specs.declared.states.Heads.{Heads}
 use Rattle.cborn_edn.specs.declared.states.Writer.{Writer}
 use Rattle.cborn_edn.specs.devices.Laid.{place_of, chunks_laid, laid_stack, laid_nest, laid_home, laid}
-use Rattle.cborn_edn.specs.devices.Kept.{stack_of, stack_in, count_of, frames_of, frames_nest, frames_home}
+use Rattle.cborn_edn.specs.devices.Kept.{stack_of, stack_in, count_of, brackets_of, brackets_nest, brackets_home}
 use Rattle.cborn_edn.specs.devices.Shows.{Shows}
 use Rattle.cborn_edn.specs.devices.Written.{heads_at, heads_nest, written_mark, node_as, nodes_as, entries_as}
 use Rattle.cborn_edn.proofs.Reader.Laying.{laid_length}
@@ -83,30 +83,30 @@ pub shown_few : (here : Here) (w : Writer) (out : List ℕ) (s : State) → Show
 shown_few here w out s e = omega (arith, e.count, few_laid w.heads s, laid_length (laid w.heads s) out e.out)
 
 mutual
-  stack_levels : (k : Heads) (st : Stack) → length (frames_of k st) ≡ levels st
+  stack_levels : (k : Heads) (st : Stack) → length (brackets_of k st) ≡ levels st
   stack_levels k (in_row n b) = nest_levels k n
   stack_levels k (in_key st s m b) = ap suc (stack_levels k st)
   stack_levels k (in_value st s m b i c) = ap suc (stack_levels k st)
   stack_levels k (in_tag st s n m) = ap suc (stack_levels k st)
 
-  nest_levels : (k : Heads) (n : Nest) → length (frames_nest k n) ≡ levels_nest n
+  nest_levels : (k : Heads) (n : Nest) → length (brackets_nest k n) ≡ levels_nest n
   nest_levels k at_top = refl
   nest_levels k (in_array st s m) = ap suc (stack_levels k st)
   nest_levels k (in_embed h o s) = ap suc (home_levels k h)
 
-  home_levels : (k : Heads) (h : Home) → length (frames_home k h) ≡ levels_home h
+  home_levels : (k : Heads) (h : Home) → length (brackets_home k h) ≡ levels_home h
   home_levels k (as_item st) = stack_levels k st
   home_levels k (as_chunk st s b) = stack_levels k st
 
-home_frames : (k : Heads) (h : Home) → length (frames_of k (stack_of h)) ≡ levels_home h
-home_frames k (as_item st) = stack_levels k st
-home_frames k (as_chunk st s b) = stack_levels k st
+home_brackets : (k : Heads) (h : Home) → length (brackets_of k (stack_of h)) ≡ levels_home h
+home_brackets k (as_item st) = stack_levels k st
+home_brackets k (as_chunk st s b) = stack_levels k st
 
--- as many frames as levels
-pub frames_levels : (k : Heads) (s : State) → length (frames_of k (stack_in s)) ≡ open_levels s
-frames_levels k (wants st) = stack_levels k st
-frames_levels k (has st i) = stack_levels k st
-frames_levels k (builds h ps) = home_frames k h
-frames_levels k (wants_chunk st s b) = stack_levels k st
-frames_levels k (wants_number st s) = stack_levels k st
-frames_levels k (has_number st s b n v m) = stack_levels k st
+-- there are as many open brackets as levels
+pub brackets_levels : (k : Heads) (s : State) → length (brackets_of k (stack_in s)) ≡ open_levels s
+brackets_levels k (wants st) = stack_levels k st
+brackets_levels k (has st i) = stack_levels k st
+brackets_levels k (builds h ps) = home_brackets k h
+brackets_levels k (wants_chunk st s b) = stack_levels k st
+brackets_levels k (wants_number st s) = stack_levels k st
+brackets_levels k (has_number st s b n v m) = stack_levels k st

@@ -48,6 +48,6 @@ text_headed old one two new bytes start n s o t k f w =
     let whole : two ≡ old ++ 0 ∷ bytes = t ∙ ap (λ x. x ++ bytes) o ∙ append_assoc old (0 ∷ []) bytes in
     let size : n ≡ length bytes = omega (arith, k, s, ap length whole, length-append old (0 ∷ bytes)) in
     let front : take start two ≡ old = ap (take start) whole ∙ take_at old (0 ∷ bytes) start (sym s) in
-    let behind : drop (start + 1) two ≡ bytes = sym (drop-drop 1 start two) ∙ ap (drop 1) (ap (drop start) whole ∙ drop_at old (0 ∷ bytes) start (sym s)) in
+    let after : drop (start + 1) two ≡ bytes = sym (drop-drop 1 start two) ∙ ap (drop 1) (ap (drop start) whole ∙ drop_at old (0 ∷ bytes) start (sym s)) in
     let head : map (λ b. b % 256) (head_bytes 3 (least n) n) ≡ head_bytes 3 (least (length bytes)) (length bytes) = cut_fits TextString (least n) n (least_holds n f) ∙ ap (λ m. head_bytes 3 (least m) m) size in
-    w ∙ (λ i. front i ++ (head i ++ behind i))
+    w ∙ (λ i. front i ++ (head i ++ after i))

@@ -7,18 +7,18 @@ use Rattle.cborn_lex.specs.declared.classes.Profile.{Profile}
 use Rattle.cborn_lex.proofs.GoodTexts.{has_tokens}
 use Rattle.cborn_lex.proofs.WholeTexts.Progress.{whole_text}
 use Rattle.cborn_edn.specs.devices.Modest.{AreModest}
-use Rattle.cborn_edn.specs.declared.slips.Slip.{Slip}
+use Rattle.cborn_edn.specs.declared.meaning_errors.MeaningError.{MeaningError}
 use Rattle.cborn_edn.specs.declared.faults.EdnReason.TheVariants.{UnexpectedEnd}
 use Rattle.cborn_edn.specs.declared.faults.EdnFault.TheVariants.{Refused}
 use Rattle.cborn_edn.specs.Grammar.{IsText, Notates}
 use Rattle.cborn_edn.specs.Faults.{IsNoNotation}
-use Rattle.cborn_edn.specs.shared.Syntax.{Item, Pieces, string, RowBefore, no_item, after_row, no_pair, after_pairs, row, Input, nothing, items}
+use Rattle.cborn_edn.specs.devices.Syntax.{Item, Pieces, string, RowBefore, no_item, after_row, no_pair, after_pairs, row, Input, nothing, items}
 use Rattle.cborn_edn.proofs.Grammar.Machine.{in_row, in_key, in_value, in_tag, at_top, in_array, in_embed, as_item, as_chunk, State, wants, has, builds, wants_chunk, wants_number, has_number, start}
 use Rattle.cborn_edn.proofs.Grammar.Takes.{finish}
 use Rattle.cborn_edn.proofs.Grammar.Parser.{at_end, parse, Meets, parses}
 use Rattle.cborn_edn.proofs.Meaning.Earliest.{Tells, tells}
 use Rattle.cborn_edn.proofs.Short.Said.{node, nodes_before, nodes_of_input, faults_of_input}
-use Rattle.cborn_edn.proofs.Short.Jammed.{not_had, text_of}
+use Rattle.cborn_edn.proofs.Short.SyntaxErrors.{not_had, text_of}
 use Rattle.cborn_edn.specs.devices.Written.{IsSpellingAs, nodes_as}
 use Rattle.cborn_edn.proofs.Reader.Written.{same_nodes, short_nodes}
 use Rattle.cborn_edn.proofs.Reader.ShortHeads.{written_bytes}
@@ -26,13 +26,13 @@ use Rattle.cborn_edn.specs.declared.states.Here.{Here}
 use Rattle.cborn_edn.specs.declared.states.Writer.{Writer}
 use Rattle.cborn_edn.specs.declared.states.Heads.{Heads}
 use Rattle.cborn_edn.specs.declared.states.Heads.TheVariants.{AsWritten, Shortest}
-use Rattle.cborn_edn.specs.devices.Slips.{is_none}
+use Rattle.cborn_edn.specs.devices.MeaningErrors.{is_none}
 use Rattle.cborn_edn.specs.devices.Laid.{cut}
-use Rattle.cborn_edn.specs.devices.Kept.{stand_of, stack_in, level_of, chunks_in}
+use Rattle.cborn_edn.specs.devices.Kept.{phase_of, stack_in, level_of, chunks_in}
 use Rattle.cborn_edn.specs.devices.Shows.{Shows}
 use Rattle.cborn_edn.specs.devices.Reading.{may_end, ends_string, Last, empty, item, pieces, AtEnd, Reached}
 use Rattle.cborn_edn.proofs.Reader.Laying.{cut_bytes}
-use Rattle.cborn_edn.proofs.Reader.Slipping.{none_first}
+use Rattle.cborn_edn.proofs.Reader.NotedErrors.{none_first}
 use Rattle.cborn_edn.proofs.Reader.Rows.{written_snoc}
 use Rattle.cborn_edn.proofs.Reader.Modest.{nil_is, input_bytes}
 
@@ -41,7 +41,7 @@ pub data Ends (s : State) (b : Bool) : Type 0 where
   some : (t : Input) → b ≡ true → finish s ≡ Some t → Last s t → Ends s b
   none : b ≡ false → finish s ≡ None → Ends s b
 
-pub ends : (k : Heads) (s : State) → Ends s (may_end (stand_of s) (level_of (stack_in s)) (chunks_in k s))
+pub ends : (k : Heads) (s : State) → Ends s (may_end (phase_of s) (level_of (stack_in s)) (chunks_in k s))
 ends k (wants (in_row at_top no_item)) = some nothing refl refl empty
 ends k (wants (in_row at_top (after_row r c))) = none refl refl
 ends k (has (in_row at_top b) i) = some (items (row b i)) refl refl (item b i)
@@ -76,12 +76,12 @@ ends k (has_number st s b n v m) = none refl refl
 
 -- what is kept at the end
 pub item_end : (here : Here) (w : Writer) (b : RowBefore) (i : Item) → Shows here w w.out.items (has (in_row at_top b) i) → AtEnd (items (row b i)) w
-item_end here w b i e = record { laid = e.out ∙ ap cut (sym (written_snoc w.heads (nodes_before b) (node i))); slip = e.slip }
+item_end here w b i e = record { laid = e.out ∙ ap cut (sym (written_snoc w.heads (nodes_before b) (node i))); error = e.error }
 
-pub bare_end : (here : Here) (w : Writer) (s : State) (t : Input) → Last s t → ends_string here.stand ≡ false → Shows here w w.out.items s → AtEnd t w
-bare_end here w s t empty n e = record { laid = e.out; slip = e.slip }
+pub bare_end : (here : Here) (w : Writer) (s : State) (t : Input) → Last s t → ends_string here.phase ≡ false → Shows here w w.out.items s → AtEnd t w
+bare_end here w s t empty n e = record { laid = e.out; error = e.error }
 bare_end here w s t (item b i) n e = item_end here w b i e
-bare_end here w s t (pieces b ps) n e = absurd (let bad : true ≡ false = ap ends_string (sym e.stand) ∙ n in cc)
+bare_end here w s t (pieces b ps) n e = absurd (let bad : true ≡ false = ap ends_string (sym e.phase) ∙ n in cc)
 
 pub record Pieced (s : State) (t : Input) : Type 0 where
   pub b : RowBefore
@@ -89,7 +89,7 @@ pub record Pieced (s : State) (t : Input) : Type 0 where
   pub is : builds (as_item (in_row at_top b)) ps ≡ s
   pub tree : items (row b (string ps)) ≡ t
 
-pub string_end : (s : State) (t : Input) → Last s t → ends_string (stand_of s) ≡ true → Pieced s t
+pub string_end : (s : State) (t : Input) → Last s t → ends_string (phase_of s) ≡ true → Pieced s t
 string_end s t empty n = absurd (let bad : false ≡ true = n in cc)
 string_end s t (item b i) n = absurd (let bad : false ≡ true = n in cc)
 string_end s t (pieces b ps) n = record { b = b; ps = ps; is = refl; tree = refl }
@@ -114,22 +114,22 @@ module _ (p : Profile) (limit : ℕ) (text : List ℕ) (s : State) (r : Reached 
   is_text : (t : Input) → finish s ≡ Some t → IsText p limit r.tokens (nodes_of_input t) (faults_of_input t)
   is_text t e = let m = met (Some t) e in text_of p limit r.tokens t m.0 m.1
 
-  pub slipped : (t : Input) (w : Writer) (slip : Slip) → finish s ≡ Some t → AtEnd t w → w.slip ≡ Some slip → IsNoNotation p limit text (Refused slip.place slip.reason)
-  slipped t w slip e k h =
-      inr (r.tokens, nodes_of_input t, faults_of_input t, has_tokens p text r.tokens lex, is_text t e, subst (Tells (faults_of_input t)) (sym k.slip ∙ h) (tells (faults_of_input t)))
+  pub meaning_refused : (t : Input) (w : Writer) (error : MeaningError) → finish s ≡ Some t → AtEnd t w → w.error ≡ Some error → IsNoNotation p limit text (Refused error.place error.reason)
+  meaning_refused t w error e k h =
+      inr (r.tokens, nodes_of_input t, faults_of_input t, has_tokens p text r.tokens lex, is_text t e, subst (Tells (faults_of_input t)) (sym k.error ∙ h) (tells (faults_of_input t)))
 
-  pub spelled_text : (t : Input) (w : Writer) → finish s ≡ Some t → AtEnd t w → w.slip ≡ None → IsSpellingAs w.heads p limit text w.out.items
+  pub spelled_text : (t : Input) (w : Writer) → finish s ≡ Some t → AtEnd t w → w.error ≡ None → IsSpellingAs w.heads p limit text w.out.items
   spelled_text t w e k h =
-      let none : faults_of_input t ≡ [] = nil_is (faults_of_input t) (sym (none_first (faults_of_input t)) ∙ ap is_none (sym k.slip ∙ h)) in
+      let none : faults_of_input t ≡ [] = nil_is (faults_of_input t) (sym (none_first (faults_of_input t)) ∙ ap is_none (sym k.error ∙ h)) in
       let m = met (Some t) e in
       let are = written_bytes w.heads (nodes_of_input t) (input_bytes t (subst AreModest (sym m.0.is) r.modest) none) in
       spelled_as w.heads (nodes_of_input t) w.out.items (r.tokens, has_tokens p text r.tokens lex, subst (IsText p limit r.tokens (nodes_of_input t)) none (is_text t e)) (sym (k.laid ∙ cut_bytes (spelled_all (nodes_as w.heads (nodes_of_input t))) are))
 
-pub may_end_at : (k : Heads) (s : State) → may_end (stand_of s) (level_of (stack_in s)) (chunks_in k s) ≡ true → (t : Input) × (finish s ≡ Some t) × Last s t
+pub may_end_at : (k : Heads) (s : State) → may_end (phase_of s) (level_of (stack_in s)) (chunks_in k s) ≡ true → (t : Input) × (finish s ≡ Some t) × Last s t
 may_end_at k s e = elim (ends k s) [ some t b f l ↦ (t, f, l) | none b f ↦ absurd (let bad : false ≡ true = sym b ∙ e in cc) ]
 
-pub no_end_at : (k : Heads) (s : State) → may_end (stand_of s) (level_of (stack_in s)) (chunks_in k s) ≡ false → finish s ≡ None
+pub no_end_at : (k : Heads) (s : State) → may_end (phase_of s) (level_of (stack_in s)) (chunks_in k s) ≡ false → finish s ≡ None
 no_end_at k s e = elim (ends k s) [ some t b f l ↦ absurd (let bad : true ≡ false = sym b ∙ e in cc) | none b f ↦ f ]
 
-pub same_end : (here : Here) (w : Writer) (out : List ℕ) (s : State) → Shows here w out s → may_end (stand_of s) (level_of (stack_in s)) (chunks_in w.heads s) ≡ may_end here.stand here.level w.chunks
-same_end here w out s e = sym (λ i. may_end (e.stand i) (e.level i) (e.chunks i))
+pub same_end : (here : Here) (w : Writer) (out : List ℕ) (s : State) → Shows here w out s → may_end (phase_of s) (level_of (stack_in s)) (chunks_in w.heads s) ≡ may_end here.phase here.level w.chunks
+same_end here w out s e = sym (λ i. may_end (e.phase i) (e.level i) (e.chunks i))

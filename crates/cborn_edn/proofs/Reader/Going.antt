@@ -18,30 +18,30 @@ use Rattle.cborn_edn.specs.declared.faults.EdnReason.{EdnReason}
 use Rattle.cborn_edn.specs.declared.faults.EdnReason.TheVariants.{UnexpectedToken, TooDeep}
 use Rattle.cborn_edn.specs.declared.faults.EdnFault.{EdnFault}
 use Rattle.cborn_edn.specs.declared.faults.EdnFault.TheVariants.{Refused}
-use Rattle.cborn_edn.specs.shared.Syntax.{Span, span, token, no_item, after_row, no_pair, after_pairs}
+use Rattle.cborn_edn.specs.devices.Syntax.{Span, span, token, no_item, after_row, no_pair, after_pairs}
 use Rattle.cborn_edn.specs.Faults.{IsNoNotation}
 use Rattle.cborn_edn.specs.devices.Lexical.{lexical}
 use Rattle.cborn_edn.specs.devices.Levels.{reach}
 use Rattle.cborn_edn.proofs.Grammar.Machine.{in_row, in_key, in_value, in_tag, at_top, in_array, in_embed, State, wants, has, builds, wants_chunk, wants_number, has_number, start, step, step_by}
 use Rattle.cborn_edn.proofs.Grammar.Held.{held, open_levels, deep, commas_held, comma_at, After, Grows}
 use Rattle.cborn_edn.proofs.Grammar.Grows.{grows}
-use Rattle.cborn_edn.proofs.Grammar.Parser.{Answer, Jams, forbids, checked, parse, Meets, parses}
+use Rattle.cborn_edn.proofs.Grammar.Parser.{Answer, HasSyntaxError, forbids, checked, parse, Meets, parses}
 use Rattle.cborn_edn.specs.devices.Notates.{IsNoTree}
-use Rattle.cborn_edn.proofs.Short.Jammed.{not_had}
-use Rattle.cborn_edn.specs.declared.states.Stand.{Stand}
-use Rattle.cborn_edn.specs.declared.states.Stand.TheVariants.{Wants, WantsMore}
-use Rattle.cborn_edn.specs.declared.states.Stand.TheVariants as stands
-use Rattle.cborn_edn.specs.devices.Kept.{stand_of}
-use Rattle.cborn_edn.specs.devices.Reading.{is_spare, is_closing, Reached}
+use Rattle.cborn_edn.proofs.Short.SyntaxErrors.{not_had}
+use Rattle.cborn_edn.specs.declared.states.Phase.{Phase}
+use Rattle.cborn_edn.specs.declared.states.Phase.TheVariants.{Wants, WantsMore}
+use Rattle.cborn_edn.specs.declared.states.Phase.TheVariants as phases
+use Rattle.cborn_edn.specs.devices.Kept.{phase_of}
+use Rattle.cborn_edn.specs.devices.Reading.{is_trailing_comma, is_closing, Reached}
 use Rattle.cborn_edn.proofs.Reader.Modest.{modest_both}
 
 pub begins : (profile : Profile) (limit : ℕ) (text : List ℕ) → Reached profile limit text 0 start
 begins profile limit text = record { tokens = []; between = nothing profile text 0; modest = tt; held = refl; runs = λ t stop b more end. refl; stops = λ end. refl }
 
--- what is reported of a text without tokens
-lexical_told : (profile : Profile) (limit : ℕ) (text : List ℕ) (e : LexFault) → IsStopAt profile text e → IsNoTree profile limit text (lexical e)
-lexical_told profile limit text (LexRefused p r) h = h
-lexical_told profile limit text LexOutOfMemory h = tt
+-- what is reported of a text with a lexical fault
+lexical_reported : (profile : Profile) (limit : ℕ) (text : List ℕ) (e : LexFault) → IsStopAt profile text e → IsNoTree profile limit text (lexical e)
+lexical_reported profile limit text (LexRefused p r) h = h
+lexical_reported profile limit text LexOutOfMemory h = tt
 
 clash : {A : Type 0} → true ≡ false → A
 clash e = absurd (let bad : true ≡ false = e in cc)
@@ -59,7 +59,7 @@ held_more s u c a e = go (step_by s c a) (grows s c a) e
 
 -- what a token makes of the answer
 abbrev pub after_token : Profile → ℕ → ℕ → Token → List Token → Option State → Bool → Answer
-after_token profile limit end t more o b = elim o [ None ↦ Jams t.start UnexpectedToken | Some u ↦ cond b (parse profile limit end more u) (Jams t.start TooDeep) ]
+after_token profile limit end t more o b = elim o [ None ↦ HasSyntaxError t.start UnexpectedToken | Some u ↦ cond b (parse profile limit end more u) (HasSyntaxError t.start TooDeep) ]
 
 module _ (profile : Profile) (limit : ℕ) (text : List ℕ) (at : ℕ) (s : State) (r : Reached profile limit text at s) where
   -- after one more token
@@ -80,41 +80,41 @@ module _ (profile : Profile) (limit : ℕ) (text : List ℕ) (at : ℕ) (s : Sta
 
   -- after white space and comments
   pub skips : (stop : ℕ) → Between profile text at stop [] → Reached profile limit text stop s
-  skips stop blank = record {
+  skips stop white = record {
     tokens = r.tokens;
-    between = subst (Between profile text 0 stop) (append-nil r.tokens) (joins profile text 0 at stop r.tokens [] r.between blank);
+    between = subst (Between profile text 0 stop) (append-nil r.tokens) (joins profile text 0 at stop r.tokens [] r.between white);
     modest = r.modest;
     held = r.held;
-    runs = λ t last b. r.runs t last (joins profile text at stop last [] (t ∷ []) blank b);
+    runs = λ t last b. r.runs t last (joins profile text at stop last [] (t ∷ []) white b);
     stops = r.stops;
   }
 
-  -- with white space and comments alone up to the end
+  -- if only white space and comments are left
   pub ends : Between profile text at (length text) [] → Reached profile limit text (length text) s
   ends last = skips (length text) last
 
   pub stopped : (e : LexFault) → IsStopFrom profile text at e → IsNoNotation profile limit text (lexical e)
-  stopped e h = not_had profile limit text (lexical e) (lexical_told profile limit text e (whole_stop profile text e (stops profile text 0 at r.tokens e r.between h)))
+  stopped e h = not_had profile limit text (lexical e) (lexical_reported profile limit text e (whole_stop profile text e (stops profile text 0 at r.tokens e r.between h)))
 
-  -- a token that is refused, unless a later part of the text isn't made of tokens
-  jams : (t : Token) (why : EdnReason) (fault : EdnFault) → Between profile text at t.stop (t ∷ []) → ((more : List Token) (end : ℕ) → parse profile limit end (r.tokens ++ (t ∷ more)) start ≡ Jams t.start why)
+  -- a token that is refused; but a later lexical fault comes first
+  syntax : (t : Token) (why : EdnReason) (fault : EdnFault) → Between profile text at t.stop (t ∷ []) → ((more : List Token) (end : ℕ) → parse profile limit end (r.tokens ++ (t ∷ more)) start ≡ HasSyntaxError t.start why)
       → ((more : List Token) × Between profile text t.stop (length text) more × (fault ≡ Refused t.start why)) ⊎ ((stop : LexFault) × IsStopFrom profile text t.stop stop × (fault ≡ lexical stop)) → IsNoNotation profile limit text fault
-  jams t why fault next told (inl (more, rest, f)) =
+  syntax t why fault next reported (inl (more, rest, f)) =
       let all = joins profile text 0 at (length text) r.tokens (t ∷ more) r.between (joins profile text at t.stop (length text) (t ∷ []) more next rest) in
-      let met = subst (Meets profile limit (length text) (r.tokens ++ (t ∷ more))) (told more (length text)) (parses profile limit (length text) (r.tokens ++ (t ∷ more))) in
+      let met = subst (Meets profile limit (length text) (r.tokens ++ (t ∷ more))) (reported more (length text)) (parses profile limit (length text) (r.tokens ++ (t ∷ more))) in
       subst (IsNoNotation profile limit text) (sym f) (not_had profile limit text (Refused t.start why) (r.tokens ++ (t ∷ more), whole_text profile text (r.tokens ++ (t ∷ more)) all, met))
-  jams t why fault next told (inr (stop, h, f)) = subst (IsNoNotation profile limit text) (sym f) (stopped stop (stops profile text at t.stop (t ∷ []) stop next h))
+  syntax t why fault next reported (inr (stop, h, f)) = subst (IsNoNotation profile limit text) (sym f) (stopped stop (stops profile text at t.stop (t ∷ []) stop next h))
 
   pub unexpected : (t : Token) (fault : EdnFault) → Between profile text at t.stop (t ∷ []) → checked profile limit s t (step s t) ≡ None
       → ((more : List Token) × Between profile text t.stop (length text) more × (fault ≡ Refused t.start UnexpectedToken)) ⊎ ((stop : LexFault) × IsStopFrom profile text t.stop stop × (fault ≡ lexical stop)) → IsNoNotation profile limit text fault
-  unexpected t fault next none h = jams t UnexpectedToken fault next (λ more end. r.runs t t.stop next more end ∙ ap (λ c. after_token profile limit end t more c (leb (reach (open_levels s) t.class) limit)) none) h
+  unexpected t fault next none h = syntax t UnexpectedToken fault next (λ more end. r.runs t t.stop next more end ∙ ap (λ c. after_token profile limit end t more c (leb (reach (open_levels s) t.class) limit)) none) h
 
   pub too_deep : (t : Token) (u : State) (fault : EdnFault) → Between profile text at t.stop (t ∷ []) → step s t ≡ Some u → forbids profile (comma_at s t.class) ≡ false → limit < reach (open_levels s) t.class
       → ((more : List Token) × Between profile text t.stop (length text) more × (fault ≡ Refused t.start TooDeep)) ⊎ ((stop : LexFault) × IsStopFrom profile text t.stop stop × (fault ≡ lexical stop)) → IsNoNotation profile limit text fault
   too_deep t u fault next takes free far h =
       let here : checked profile limit s t (step s t) ≡ Some u = ap (checked profile limit s t) takes ∙ ap (λ b. cond b None (Some u)) free in
       let high : leb (reach (open_levels s) t.class) limit ≡ false = lt-leb _ _ far in
-      jams t TooDeep fault next (λ more end. r.runs t t.stop next more end ∙ ap (λ c. after_token profile limit end t more c (leb (reach (open_levels s) t.class) limit)) here ∙ ap (λ b. after_token profile limit end t more (Some u) b) high) h
+      syntax t TooDeep fault next (λ more end. r.runs t t.stop next more end ∙ ap (λ c. after_token profile limit end t more c (leb (reach (open_levels s) t.class) limit)) here ∙ ap (λ b. after_token profile limit end t more (Some u) b) high) h
 
 pub never_taken : (profile : Profile) (limit : ℕ) (s : State) (t : Token) → step s t ≡ None → checked profile limit s t (step s t) ≡ None
 never_taken profile limit s t e = ap (checked profile limit s t) e
@@ -133,8 +133,8 @@ open_free p _ k n x e = free_none p
 two_free : (c : ℕ) → forbids Two c ≡ false
 two_free c = refl
 
--- no bracket stands there after a comma
-pub tight_free : (p : Profile) (s : State) (k : Kind) (n : ℕ) (x : List ℕ) → (stand_of s ≡ WantsMore → ⊥) → forbids p (comma_at s (class_of k n x)) ≡ false
+-- no bracket ends there after a comma
+pub tight_free : (p : Profile) (s : State) (k : Kind) (n : ℕ) (x : List ℕ) → (phase_of s ≡ WantsMore → ⊥) → forbids p (comma_at s (class_of k n x)) ≡ false
 tight_free p (wants (in_row m (after_row r c))) k n x e = absurd (e refl)
 tight_free p (wants (in_key st s m (after_pairs ps c))) k n x e = absurd (e refl)
 tight_free p (wants (in_row m no_item)) kinds.ArrayClose n x e = free_none p
@@ -148,33 +148,33 @@ tight_free p (wants (in_tag st s v m)) kinds.ArrayClose n x e = free_none p
 tight_free p (wants (in_tag st s v m)) _ n x e = free_none p
 tight_free p _ k n x e = free_none p
 
--- not a spare bracket
-pub not_spare : (p : Profile) (s : State) (k : Kind) (n : ℕ) (x : List ℕ) → is_spare p (stand_of s) k ≡ false → forbids p (comma_at s (class_of k n x)) ≡ false
-not_spare Two s k n x e = two_free (comma_at s (class_of k n x))
-not_spare One s k n x e = go (stand_of s) refl e
+-- the token is no bracket that ends after a comma
+pub not_trailing : (p : Profile) (s : State) (k : Kind) (n : ℕ) (x : List ℕ) → is_trailing_comma p (phase_of s) k ≡ false → forbids p (comma_at s (class_of k n x)) ≡ false
+not_trailing Two s k n x e = two_free (comma_at s (class_of k n x))
+not_trailing One s k n x e = go (phase_of s) refl e
   where
-    go : (st : Stand) → stand_of s ≡ st → is_spare One st k ≡ false → forbids One (comma_at s (class_of k n x)) ≡ false
+    go : (st : Phase) → phase_of s ≡ st → is_trailing_comma One st k ≡ false → forbids One (comma_at s (class_of k n x)) ≡ false
     go WantsMore f g = open_free One s k n x g
     go Wants f g = tight_free One s k n x (λ h. absurd (let bad : Wants ≡ WantsMore = sym f ∙ h in cc))
-    go stands.Has f g = tight_free One s k n x (λ h. absurd (let bad : stands.Has ≡ WantsMore = sym f ∙ h in cc))
-    go stands.Builds f g = tight_free One s k n x (λ h. absurd (let bad : stands.Builds ≡ WantsMore = sym f ∙ h in cc))
-    go stands.WantsChunk f g = tight_free One s k n x (λ h. absurd (let bad : stands.WantsChunk ≡ WantsMore = sym f ∙ h in cc))
-    go stands.WantsNumber f g = tight_free One s k n x (λ h. absurd (let bad : stands.WantsNumber ≡ WantsMore = sym f ∙ h in cc))
-    go stands.HasNumber f g = tight_free One s k n x (λ h. absurd (let bad : stands.HasNumber ≡ WantsMore = sym f ∙ h in cc))
+    go phases.Has f g = tight_free One s k n x (λ h. absurd (let bad : phases.Has ≡ WantsMore = sym f ∙ h in cc))
+    go phases.Builds f g = tight_free One s k n x (λ h. absurd (let bad : phases.Builds ≡ WantsMore = sym f ∙ h in cc))
+    go phases.WantsChunk f g = tight_free One s k n x (λ h. absurd (let bad : phases.WantsChunk ≡ WantsMore = sym f ∙ h in cc))
+    go phases.WantsNumber f g = tight_free One s k n x (λ h. absurd (let bad : phases.WantsNumber ≡ WantsMore = sym f ∙ h in cc))
+    go phases.HasNumber f g = tight_free One s k n x (λ h. absurd (let bad : phases.HasNumber ≡ WantsMore = sym f ∙ h in cc))
 
 forbidden : (limit : ℕ) (s : State) (t : Token) (o : Option State) → forbids One (comma_at s t.class) ≡ true → checked One limit s t o ≡ None
 forbidden limit s t None e = refl
 forbidden limit s t (Some u) e = ap (λ b. cond b None (Some u)) e
 
--- a spare bracket
-pub spare : (p : Profile) (limit : ℕ) (s : State) (k : Kind) (n start stop : ℕ) (x : List ℕ) → is_spare p (stand_of s) k ≡ true → let t : Token = record { start = start; stop = stop; class = class_of k n x } in checked p limit s t (step s t) ≡ None
-spare Two limit s k n start stop x e = clash (sym e)
-spare One limit s k n start stop x e = go (stand_of s) refl e
+-- the token is a bracket that ends after a comma
+pub trailing : (p : Profile) (limit : ℕ) (s : State) (k : Kind) (n start stop : ℕ) (x : List ℕ) → is_trailing_comma p (phase_of s) k ≡ true → let t : Token = record { start = start; stop = stop; class = class_of k n x } in checked p limit s t (step s t) ≡ None
+trailing Two limit s k n start stop x e = clash (sym e)
+trailing One limit s k n start stop x e = go (phase_of s) refl e
   where
     t : Kind → Token
     t q = record { start = start; stop = stop; class = class_of q n x }
 
-    more : (s : State) (k : Kind) → stand_of s ≡ WantsMore → is_closing k ≡ true → checked One limit s (t k) (step s (t k)) ≡ None
+    more : (s : State) (k : Kind) → phase_of s ≡ WantsMore → is_closing k ≡ true → checked One limit s (t k) (step s (t k)) ≡ None
     more (wants (in_row m (after_row r z))) kinds.ArrayClose f g = forbidden limit (wants (in_row m (after_row r z))) (t kinds.ArrayClose) (step (wants (in_row m (after_row r z))) (t kinds.ArrayClose)) refl
     more (wants (in_row m (after_row r z))) (kinds.EmbedClose q) f g = forbidden limit (wants (in_row m (after_row r z))) (t (kinds.EmbedClose q)) (step (wants (in_row m (after_row r z))) (t (kinds.EmbedClose q))) refl
     more (wants (in_row at_top (after_row r z))) kinds.MapClose f g = refl
@@ -189,12 +189,12 @@ spare One limit s k n start stop x e = go (stand_of s) refl e
     more (wants (in_key st p m no_pair)) k f g = absurd (let bad : Wants ≡ WantsMore = f in cc)
     more (wants (in_value st p m b i c)) k f g = absurd (let bad : Wants ≡ WantsMore = f in cc)
     more (wants (in_tag st p v m)) k f g = absurd (let bad : Wants ≡ WantsMore = f in cc)
-    more (has st i) k f g = absurd (let bad : stands.Has ≡ WantsMore = f in cc)
-    more (builds h ps) k f g = absurd (let bad : stands.Builds ≡ WantsMore = f in cc)
-    more (wants_chunk st p b) k f g = absurd (let bad : stands.WantsChunk ≡ WantsMore = f in cc)
-    more (wants_number st p) k f g = absurd (let bad : stands.WantsNumber ≡ WantsMore = f in cc)
-    more (has_number st p b i v m) k f g = absurd (let bad : stands.HasNumber ≡ WantsMore = f in cc)
+    more (has st i) k f g = absurd (let bad : phases.Has ≡ WantsMore = f in cc)
+    more (builds h ps) k f g = absurd (let bad : phases.Builds ≡ WantsMore = f in cc)
+    more (wants_chunk st p b) k f g = absurd (let bad : phases.WantsChunk ≡ WantsMore = f in cc)
+    more (wants_number st p) k f g = absurd (let bad : phases.WantsNumber ≡ WantsMore = f in cc)
+    more (has_number st p b i v m) k f g = absurd (let bad : phases.HasNumber ≡ WantsMore = f in cc)
 
-    go : (st : Stand) → stand_of s ≡ st → is_spare One st k ≡ true → checked One limit s (t k) (step s (t k)) ≡ None
+    go : (st : Phase) → phase_of s ≡ st → is_trailing_comma One st k ≡ true → checked One limit s (t k) (step s (t k)) ≡ None
     go WantsMore f g = more s k f g
     go _ f g = clash (sym g)

@@ -1,10 +1,10 @@
--- Which state is shown, by what is kept.
+-- Which state is shown, by the phase and the level.
 use Rattle.std.proofs.Common.{◌≡◌, refl, sym, ℕ, true, false, Option, Some, None}
 use Rattle.cborn_lex.specs.declared.classes.Mark.{Mark}
 use Rattle.cborn_lex.specs.declared.classes.Class.TheVariants.{ArrayClose, MapClose, EmbedClose, ParenClose, Comma, Colon}
-use Rattle.cborn_edn.specs.shared.Syntax.{Span, Item, Pieces, row, RowBefore, no_item, after_row, Content, loose, tight, pairs, PairsBefore, no_pair, after_pairs, Fields, loose_fields, tight_fields, array, map, embedded}
+use Rattle.cborn_edn.specs.devices.Syntax.{Span, Item, Pieces, row, RowBefore, no_item, after_row, Content, loose, tight, pairs, PairsBefore, no_pair, after_pairs, Fields, loose_fields, tight_fields, array, map, embedded}
 use Rattle.cborn_edn.proofs.Grammar.Machine.{Stack, in_row, in_key, in_value, in_tag, Nest, at_top, in_array, in_embed, Home, State, wants, has, builds, wants_chunk, wants_number, has_number, with_piece, step_by}
-use Rattle.cborn_edn.specs.devices.Kept.{level_of, stack_in, stand_of}
+use Rattle.cborn_edn.specs.devices.Kept.{level_of, stack_in, phase_of}
 use Rattle.cborn_edn.specs.devices.Shows.{content_state, fields_state}
 use Rattle.cborn_edn.specs.devices.Steps.{is_array, is_embedded, is_key, is_value, is_tag, is_row, ends_map, MayEnd}
 
@@ -49,7 +49,7 @@ pub record Map (s : State) : Type 0 where
   pub f : Fields
   pub is : fields_state st at m f ≡ s
 
-pub map_at : (s : State) → MayEnd s → ends_map (stand_of s) (level_of (stack_in s)) ≡ true → Map s
+pub map_at : (s : State) → MayEnd s → ends_map (phase_of s) (level_of (stack_in s)) ≡ true → Map s
 map_at (builds h ps) x e = absurd x
 map_at (wants_chunk st p b) x e = absurd x
 map_at (wants_number st p) x e = absurd x
@@ -71,7 +71,7 @@ pub map_step : (st : Stack) (p a : Span) (m : Mark) (f : Fields) → step_by (fi
 map_step st p a m (loose_fields b) = refl
 map_step st p a m (tight_fields (pairs b k c v)) = refl
 
-pub no_map : (s : State) (a : Span) → MayEnd s → ends_map (stand_of s) (level_of (stack_in s)) ≡ false → step_by s MapClose a ≡ None
+pub no_map : (s : State) (a : Span) → MayEnd s → ends_map (phase_of s) (level_of (stack_in s)) ≡ false → step_by s MapClose a ≡ None
 no_map (builds h ps) a x e = absurd x
 no_map (wants_chunk st p b) a x e = absurd x
 no_map (wants_number st p) a x e = absurd x

@@ -11,7 +11,7 @@ use Rattle.cborn_lex.specs.Tokens.{begins, is_numeral, is_word, mark_of}
 use Rattle.cborn_lex.specs.Numbers.{integer, signed}
 use Rattle.std.specs.List.{list_all}
 use Rattle.cborn_lex.specs.Strings.{is_content, IsText}
-use Rattle.cborn_lex.specs.shared.Letters.{is_plain, LettersSoFar}
+use Rattle.cborn_lex.specs.devices.Letters.{is_plain, LettersSoFar}
 use Rattle.cborn_lex.proofs.Runs.{none_yet, run_more, letters_end}
 use Rattle.cborn_lex.specs.Forms.{IsRun, IsIndicator}
 use Rattle.cborn_lex.specs.Good as good

@@ -16,16 +16,16 @@ use Rattle.cborn_model.specs.declared.heads.Width.{Width}
 use Rattle.cborn_model.specs.declared.heads.Major.{Major}
 use Rattle.cborn_model.specs.Heads.{code, head_bytes}
 use Rattle.cborn_model.specs.Spelled.{string}
-use Rattle.cborn_edn.specs.declared.slips.Slip.{Slip}
+use Rattle.cborn_edn.specs.declared.meaning_errors.MeaningError.{MeaningError}
 use Rattle.cborn_edn.specs.declared.faults.EdnReason.TheVariants.{IndicatorNotAllowed, TextNotUtf8, MixedString, MixedChunks}
 use Rattle.cborn_edn.specs.declared.strings.StringKind.{StringKind}
-use Rattle.cborn_edn.specs.Says.{width, unless, width_slips, is_absent, is_endless, is_good, may_join, same_kind, Str, joined, piece_slips, mark_slips, string_slips, chunk_slips}
+use Rattle.cborn_edn.specs.Says.{width, unless, width_errors, is_absent, is_endless, is_good, may_join, same_kind, Str, joined, piece_errors, mark_errors, string_errors, chunk_errors}
 use Rattle.cborn_edn.specs.declared.states.Joint.{Joint}
-use Rattle.cborn_edn.specs.devices.Slips.{Notes}
+use Rattle.cborn_edn.specs.devices.MeaningErrors.{Notes}
 use Rattle.cborn_edn.specs.devices.Laid.{cut}
 use Rattle.cborn_edn.specs.devices.Kept.{joint}
 use Rattle.cborn_edn.proofs.Reader.Laying.{cut_bytes, laid_set, content_length}
-use Rattle.cborn_edn.proofs.Reader.Slipping.{none_noted, both_noted}
+use Rattle.cborn_edn.proofs.Reader.NotedErrors.{none_noted, both_noted}
 
 -- the head of a string with a length in the place of the byte before it
 pub length_set : (major : Major) (m : Mark) (start : ℕ) (b base old new : List ℕ) (w : Width) (size : ℕ) → start ≡ length base → old ≡ cut (base ++ (0 ∷ b)) → size ≡ length old - start - 1 → w ≡ width m size
@@ -37,35 +37,35 @@ length_set major m start b base old new w size from f g h k =
     ∙ ap (λ x. cut (base ++ (head_bytes (code major) x size ++ b))) v
     ∙ ap (λ x. cut (base ++ (head_bytes (code major) (width m (length b)) x ++ b))) n
 
-pub string_noted : (may_end good : Bool) (j : Joint) (s : Str) (start : ℕ) (content : List ℕ) (old mid new : Option Slip) → j ≡ joint start s → content ≡ cut s.bytes → (s.known ≡ true → AreBytes s.bytes)
-    → Notes old mid (mark_slips may_end s) → j.known ≡ true → good ≡ is_good j.kind content → Notes mid new (unless good j.place TextNotUtf8) → Notes old new (string_slips may_end s)
+pub string_noted : (may_end good : Bool) (j : Joint) (s : Str) (start : ℕ) (content : List ℕ) (old mid new : Option MeaningError) → j ≡ joint start s → content ≡ cut s.bytes → (s.known ≡ true → AreBytes s.bytes)
+    → Notes old mid (mark_errors may_end s) → j.known ≡ true → good ≡ is_good j.kind content → Notes mid new (unless good j.place TextNotUtf8) → Notes old new (string_errors may_end s)
 string_noted may_end good j s start content old mid new e same known first k g last =
     let sure : s.known ≡ true = sym (ap (λ (x : Joint). x.known) e) ∙ k in
     let test : good ≡ is_good s.kind s.bytes = g ∙ ap (λ (x : Joint). is_good x.kind content) e ∙ ap (is_good s.kind) (same ∙ cut_bytes s.bytes (known sure)) in
     let noted : Notes mid new (unless (is_good s.kind s.bytes) s.place TextNotUtf8) = subst (λ b. Notes mid new (unless b s.place TextNotUtf8)) test (subst (λ p. Notes mid new (unless good p TextNotUtf8)) (ap (λ (x : Joint). x.place) e) last) in
-    subst (λ b. Notes old new (mark_slips may_end s ++ (if b then unless (is_good s.kind s.bytes) s.place TextNotUtf8 else []))) (sym sure) (both_noted old mid new (mark_slips may_end s) (unless (is_good s.kind s.bytes) s.place TextNotUtf8) first noted)
+    subst (λ b. Notes old new (mark_errors may_end s ++ (if b then unless (is_good s.kind s.bytes) s.place TextNotUtf8 else []))) (sym sure) (both_noted old mid new (mark_errors may_end s) (unless (is_good s.kind s.bytes) s.place TextNotUtf8) first noted)
 
-pub string_unknown : (may_end : Bool) (j : Joint) (s : Str) (start : ℕ) (old new : Option Slip) → j ≡ joint start s → Notes old new (mark_slips may_end s) → j.known ≡ false → Notes old new (string_slips may_end s)
+pub string_unknown : (may_end : Bool) (j : Joint) (s : Str) (start : ℕ) (old new : Option MeaningError) → j ≡ joint start s → Notes old new (mark_errors may_end s) → j.known ≡ false → Notes old new (string_errors may_end s)
 string_unknown may_end j s start old new e first k =
     let sure : s.known ≡ false = sym (ap (λ (x : Joint). x.known) e) ∙ k in
-    subst (λ b. Notes old new (mark_slips may_end s ++ (if b then unless (is_good s.kind s.bytes) s.place TextNotUtf8 else []))) (sym sure) (both_noted old new new (mark_slips may_end s) [] first (none_noted new))
+    subst (λ b. Notes old new (mark_errors may_end s ++ (if b then unless (is_good s.kind s.bytes) s.place TextNotUtf8 else []))) (sym sure) (both_noted old new new (mark_errors may_end s) [] first (none_noted new))
 
-abbrev marked : Bool → Bool → Str → List Slip → List Slip
-marked b k s l = if b then l else if k then width_slips s.mark_place s.mark (length s.bytes) else []
+abbrev marked : Bool → Bool → Str → List MeaningError → List MeaningError
+marked b k s l = if b then l else if k then width_errors s.mark_place s.mark (length s.bytes) else []
 
-pub mark_endless : (may_end : Bool) (j : Joint) (s : Str) (start : ℕ) (old new : Option Slip) → j ≡ joint start s → is_endless j.mark ≡ true → Notes old new (unless may_end j.mark_place IndicatorNotAllowed) → Notes old new (mark_slips may_end s)
+pub mark_endless : (may_end : Bool) (j : Joint) (s : Str) (start : ℕ) (old new : Option MeaningError) → j ≡ joint start s → is_endless j.mark ≡ true → Notes old new (unless may_end j.mark_place IndicatorNotAllowed) → Notes old new (mark_errors may_end s)
 mark_endless may_end j s start old new e m h =
     let sure : is_endless s.mark ≡ true = sym (ap (λ (x : Joint). is_endless x.mark) e) ∙ m in
     subst (λ b. Notes old new (marked b s.known s (unless may_end s.mark_place IndicatorNotAllowed))) (sym sure) (subst (λ p. Notes old new (unless may_end p IndicatorNotAllowed)) (ap (λ (x : Joint). x.mark_place) e) h)
 
-pub mark_wide : (may_end : Bool) (j : Joint) (s : Str) (start size : ℕ) (old new : Option Slip) → j ≡ joint start s → size ≡ length s.bytes → is_endless j.mark ≡ false → j.known ≡ true → Notes old new (width_slips j.mark_place j.mark size) → Notes old new (mark_slips may_end s)
+pub mark_wide : (may_end : Bool) (j : Joint) (s : Str) (start size : ℕ) (old new : Option MeaningError) → j ≡ joint start s → size ≡ length s.bytes → is_endless j.mark ≡ false → j.known ≡ true → Notes old new (width_errors j.mark_place j.mark size) → Notes old new (mark_errors may_end s)
 mark_wide may_end j s start size old new e n m k h =
     let sure : is_endless s.mark ≡ false = sym (ap (λ (x : Joint). is_endless x.mark) e) ∙ m in
     let known : s.known ≡ true = sym (ap (λ (x : Joint). x.known) e) ∙ k in
     subst (λ b. Notes old new (marked b s.known s (unless may_end s.mark_place IndicatorNotAllowed))) (sym sure)
-    (subst (λ b. Notes old new (marked false b s (unless may_end s.mark_place IndicatorNotAllowed))) (sym known) (subst (λ x. Notes old new (width_slips s.mark_place s.mark x)) n (subst (λ (x : Joint). Notes old new (width_slips x.mark_place x.mark size)) e h)))
+    (subst (λ b. Notes old new (marked false b s (unless may_end s.mark_place IndicatorNotAllowed))) (sym known) (subst (λ x. Notes old new (width_errors s.mark_place s.mark x)) n (subst (λ (x : Joint). Notes old new (width_errors x.mark_place x.mark size)) e h)))
 
-pub mark_unknown : (may_end : Bool) (j : Joint) (s : Str) (start : ℕ) (old : Option Slip) → j ≡ joint start s → is_endless j.mark ≡ false → j.known ≡ false → Notes old old (mark_slips may_end s)
+pub mark_unknown : (may_end : Bool) (j : Joint) (s : Str) (start : ℕ) (old : Option MeaningError) → j ≡ joint start s → is_endless j.mark ≡ false → j.known ≡ false → Notes old old (mark_errors may_end s)
 mark_unknown may_end j s start old e m k =
     let sure : is_endless s.mark ≡ false = sym (ap (λ (x : Joint). is_endless x.mark) e) ∙ m in
     let known : s.known ≡ false = sym (ap (λ (x : Joint). x.known) e) ∙ k in
@@ -73,20 +73,20 @@ mark_unknown may_end j s start old e m k =
     (subst (λ b. Notes old old (marked false b s (unless may_end s.mark_place IndicatorNotAllowed))) (sym known) (none_noted old))
 
 -- a piece after others
-pub piece_noted : (bare fits : Bool) (kind : StringKind) (place : ℕ) (j : Joint) (s t : Str) (start : ℕ) (old mid new : Option Slip) → j ≡ joint start s → kind ≡ t.kind → place ≡ t.place → bare ≡ is_absent j.mark → fits ≡ may_join j.kind kind
-    → Notes old mid (unless bare j.mark_place IndicatorNotAllowed) → Notes mid new (unless fits place MixedString) → Notes old new (piece_slips s t)
+pub piece_noted : (bare fits : Bool) (kind : StringKind) (place : ℕ) (j : Joint) (s t : Str) (start : ℕ) (old mid new : Option MeaningError) → j ≡ joint start s → kind ≡ t.kind → place ≡ t.place → bare ≡ is_absent j.mark → fits ≡ may_join j.kind kind
+    → Notes old mid (unless bare j.mark_place IndicatorNotAllowed) → Notes mid new (unless fits place MixedString) → Notes old new (piece_errors s t)
 piece_noted bare fits kind place j s t start old mid new e k p b f h i =
     let one : Notes old mid (unless (is_absent s.mark) s.mark_place IndicatorNotAllowed) = subst (λ (x : Joint). Notes old mid (unless (is_absent x.mark) x.mark_place IndicatorNotAllowed)) e (subst (λ x. Notes old mid (unless x j.mark_place IndicatorNotAllowed)) b h) in
     let fit : fits ≡ may_join s.kind t.kind = f ∙ ap (λ (x : Joint). may_join x.kind kind) e ∙ ap (may_join s.kind) k in
     let two : Notes mid new (unless (may_join s.kind t.kind) t.place MixedString) = subst (λ x. Notes mid new (unless x t.place MixedString)) fit (subst (λ x. Notes mid new (unless fits x MixedString)) p i) in
     both_noted old mid new (unless (is_absent s.mark) s.mark_place IndicatorNotAllowed) (unless (may_join s.kind t.kind) t.place MixedString) one two
 
-pub chunk_noted : (same : Bool) (kind : StringKind) (j : Joint) (s : Str) (start : ℕ) (old mid new : Option Slip) → j ≡ joint start s → same ≡ same_kind kind j.kind → Notes old mid (unless same j.place MixedChunks) → Notes mid new (string_slips false s) → Notes old new (chunk_slips kind s)
+pub chunk_noted : (same : Bool) (kind : StringKind) (j : Joint) (s : Str) (start : ℕ) (old mid new : Option MeaningError) → j ≡ joint start s → same ≡ same_kind kind j.kind → Notes old mid (unless same j.place MixedChunks) → Notes mid new (string_errors false s) → Notes old new (chunk_errors kind s)
 chunk_noted same kind j s start old mid new e b h i =
     let one : Notes old mid (unless (same_kind kind s.kind) s.place MixedChunks) = subst (λ (x : Joint). Notes old mid (unless (same_kind kind x.kind) x.place MixedChunks)) e (subst (λ x. Notes old mid (unless x j.place MixedChunks)) b h) in
-    both_noted old mid new (unless (same_kind kind s.kind) s.place MixedChunks) (string_slips false s) one i
+    both_noted old mid new (unless (same_kind kind s.kind) s.place MixedChunks) (string_errors false s) one i
 
--- what stands after the byte at start
+-- the bytes after the byte at start
 pub content_cut : (base x out content : List ℕ) (start : ℕ) → start ≡ length base → out ≡ cut (base ++ (0 ∷ x)) → content ≡ drop (start + 1) out → content ≡ cut x
 content_cut base x out content start s e f = f ∙ ap (drop (start + 1)) e ∙ drop_seam base x 0 start s
 
@@ -128,8 +128,8 @@ never_both true b (inl h) = h.1
 never_both false b h = refl
 never_both true b (inr e) = let bad : true ≡ false = e in cc
 
-pub lone_noted : (j : Joint) (s : Str) (start : ℕ) (old new : Option Slip) → j ≡ joint start s → Notes old new (string_slips j.lone s) → Notes old new (string_slips s.lone s)
-lone_noted j s start old new e h = subst (λ (x : Joint). Notes old new (string_slips x.lone s)) e h
+pub lone_noted : (j : Joint) (s : Str) (start : ℕ) (old new : Option MeaningError) → j ≡ joint start s → Notes old new (string_errors j.lone s) → Notes old new (string_errors s.lone s)
+lone_noted j s start old new e h = subst (λ (x : Joint). Notes old new (string_errors x.lone s)) e h
 
 -- a head in the place of a byte after which digits were written
 pub digits_set : (old h d one two three new : List ℕ) (start len : ℕ) (w : Width) → one ≡ old ++ cut h → start ≡ length one → two ≡ one ++ (0 ∷ []) → three ≡ two ++ d → len ≡ length three - start - 1 → w ≡ least len

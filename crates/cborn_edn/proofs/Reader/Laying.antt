@@ -46,6 +46,6 @@ laid_set a x h old new b start s e f =
     ∙ ap (λ l. cut a ++ l) (sym (cut-append h x))
     ∙ sym (cut-append a (h ++ x))
 
--- what stands after the byte at start is as long as x
+-- the bytes after the byte at start are as many as those of x
 pub content_length : (a x old : List ℕ) (b start : ℕ) → start ≡ length a → old ≡ cut (a ++ (b ∷ x)) → length old - start - 1 ≡ length x
 content_length a x old b start s e = omega (arith, laid_length (a ++ (b ∷ x)) old e, length-append a (b ∷ x))

@@ -6,17 +6,17 @@ use Rattle.cborn_lex.specs.declared.classes.Profile.{Profile}
 use Rattle.cborn_lex.specs.declared.classes.Class.{Class}
 use Rattle.cborn_lex.specs.declared.classes.Class.TheVariants.{ArrayClose, MapClose, ParenClose, Comma, Colon}
 use Rattle.cborn_lex.specs.declared.classes.Token.{Token}
-use Rattle.cborn_lex.specs.Tokens.{Blank, Read}
+use Rattle.cborn_lex.specs.Tokens.{WhiteSpace, Read}
 use Rattle.cborn_lex.specs.Forms.{Start, single, start_of, ReadsFrom, Reads}
 use Rattle.cborn_lex.specs.Lex as lex
 use Rattle.cborn_lex.specs.Lex.{Through, Between}
 use Rattle.cborn_lex.proofs.OneFront.Alone.{one_front}
-use Rattle.cborn_edn.specs.shared.Syntax.{Span, Pieces, string}
+use Rattle.cborn_edn.specs.devices.Syntax.{Span, Pieces, string}
 use Rattle.cborn_edn.proofs.Grammar.Machine.{Stack, as_item, builds, has, step_by}
 use Rattle.cborn_edn.specs.devices.Ahead.{ends_string, NoPieceAt}
 use Rattle.cborn_edn.proofs.Reader.CommonTokens.{begins_here}
 
--- what ends a bracket, or separates items
+-- a token that ends a bracket, or separates items
 abbrev pub is_single : Class → Bool
 is_single ArrayClose = true
 is_single MapClose = true
@@ -40,20 +40,20 @@ string_ends st ps _ a e = clash e
 -- a character that is a token alone
 record Alone (c : ℕ) : Type 0 where
   class : Class
-  begun : start_of c ≡ single class
+  starting : start_of c ≡ single class
   is : is_single class ≡ true
 
 alone : (c : ℕ) → ends_string c ≡ true → Alone c
 alone c h = elim (or_cases (eqb c 44) _ h) [
-  | inl e ↦ at 44 (eqb-true c 44 e) (record { class = Comma; begun = refl; is = refl })
+  | inl e ↦ at 44 (eqb-true c 44 e) (record { class = Comma; starting = refl; is = refl })
   | inr h ↦ elim (or_cases (eqb c 93) _ h) [
-    | inl e ↦ at 93 (eqb-true c 93 e) (record { class = ArrayClose; begun = refl; is = refl })
+    | inl e ↦ at 93 (eqb-true c 93 e) (record { class = ArrayClose; starting = refl; is = refl })
     | inr h ↦ elim (or_cases (eqb c 125) _ h) [
-      | inl e ↦ at 125 (eqb-true c 125 e) (record { class = MapClose; begun = refl; is = refl })
+      | inl e ↦ at 125 (eqb-true c 125 e) (record { class = MapClose; starting = refl; is = refl })
       | inr h ↦ elim (or_cases (eqb c 58) _ h) [
-        | inl e ↦ at 58 (eqb-true c 58 e) (record { class = Colon; begun = refl; is = refl })
+        | inl e ↦ at 58 (eqb-true c 58 e) (record { class = Colon; starting = refl; is = refl })
         | inr h ↦ elim (or_cases (eqb c 41) false h) [
-          | inl e ↦ at 41 (eqb-true c 41 e) (record { class = ParenClose; begun = refl; is = refl })
+          | inl e ↦ at 41 (eqb-true c 41 e) (record { class = ParenClose; starting = refl; is = refl })
           | inr h ↦ clash h
         ]
       ]
@@ -65,12 +65,12 @@ alone c h = elim (or_cases (eqb c 44) _ h) [
     at d e a = subst Alone (sym e) a
 
 reads : (profile : Profile) (c : ℕ) (z : List ℕ) (a : Alone c) → Reads profile (c ∷ []) z (Read a.class)
-reads profile c z a = subst (λ (s : Start). ReadsFrom s profile c [] z (Read a.class)) (sym a.begun) (refl, refl)
+reads profile c z a = subst (λ (s : Start). ReadsFrom s profile c [] z (Read a.class)) (sym a.starting) (refl, refl)
 
 -- the first token of a text that begins with that character
 first : (profile : Profile) {n m : ℕ} {x y : List ℕ} {ts : List Token} → Through profile n x ts m y → (c : ℕ) (z : List ℕ) (t : Token) → Alone c → x ≡ c ∷ z → ts ≡ t ∷ [] → is_single t.class ≡ true
 first profile (lex.here n x) c z t a e f = absurd (let bad : [] ≡ t ∷ [] = f in cc)
-first profile (lex.gap n m s x y ts r h) c z t a e f = absurd (let bad : Blank ≡ Read a.class = (one_front profile s x (c ∷ []) z Blank (Read a.class) r (reads profile c z a) e).1 in cc)
+first profile (lex.white_space n m s x y ts r h) c z t a e f = absurd (let bad : WhiteSpace ≡ Read a.class = (one_front profile s x (c ∷ []) z WhiteSpace (Read a.class) r (reads profile c z a) e).1 in cc)
 first profile (lex.token n m k s x y ts r h) c z t a e f =
     let same : Read k ≡ Read a.class = (one_front profile s x (c ∷ []) z (Read k) (Read a.class) r (reads profile c z a) e).1 in
     let class : k ≡ a.class = one_class k a.class same in
@@ -87,8 +87,8 @@ first profile (lex.token n m k s x y ts r h) c z t a e f =
 -- no token begins an empty text
 none_begins : (profile : Profile) {n m : ℕ} {x y : List ℕ} {ts : List Token} → Through profile n x ts m y → (t : Token) → x ≡ [] → ts ≡ t ∷ [] → ⊥
 none_begins profile (lex.here n x) t e f = let bad : [] ≡ t ∷ [] = f in cc
-none_begins profile (lex.gap n m [] x y ts r h) t e f = r
-none_begins profile (lex.gap n m (c ∷ s) x y ts r h) t e f = omega (arith, ap length e)
+none_begins profile (lex.white_space n m [] x y ts r h) t e f = r
+none_begins profile (lex.white_space n m (c ∷ s) x y ts r h) t e f = omega (arith, ap length e)
 none_begins profile (lex.token n m k [] x y ts r h) t e f = r
 none_begins profile (lex.token n m k (c ∷ s) x y ts r h) t e f = omega (arith, ap length e)
 

@@ -4,20 +4,20 @@ use Rattle.cborn_model.specs.Tree.{Tree, Trees, no_item as no_node, more, Entrie
 use Rattle.cborn_model.specs.Spelled.{spelled, spelled_all, spelled_entries}
 use Rattle.cborn_model.specs.declared.heads.Major.TheVariants.{Map}
 use Rattle.cborn_lex.specs.declared.classes.Mark.{Mark}
-use Rattle.cborn_edn.specs.devices.Slips.{first_slip}
-use Rattle.cborn_edn.specs.shared.Meaning.{snoc, snoc_entry}
-use Rattle.cborn_edn.specs.shared.Syntax.{Span, Item, row, RowBefore, no_item, after_row, Content, loose, tight, pairs, PairsBefore, no_pair, after_pairs, Fields, loose_fields, tight_fields}
+use Rattle.cborn_edn.specs.devices.MeaningErrors.{first_error}
+use Rattle.cborn_edn.specs.devices.Meaning.{snoc, snoc_entry}
+use Rattle.cborn_edn.specs.devices.Syntax.{Span, Item, row, RowBefore, no_item, after_row, Content, loose, tight, pairs, PairsBefore, no_pair, after_pairs, Fields, loose_fields, tight_fields}
 use Rattle.cborn_edn.proofs.Grammar.Machine.{Stack, in_row, in_key, in_value, Nest, at_top, in_array, in_embed, has, wants}
 use Rattle.cborn_edn.proofs.Meaning.Agree.{count-snoc, count-snoc_entry}
 use Rattle.cborn_edn.proofs.Short.Said.{node, nodes_before, nodes_in, entries_before, entries_in, faults, faults_before, faults_in, faults_before_pairs, faults_of_fields}
 use Rattle.cborn_edn.specs.declared.states.Here.{Here}
 use Rattle.cborn_edn.specs.declared.states.Writer.{Writer}
 use Rattle.cborn_edn.specs.declared.states.Heads.{Heads}
-use Rattle.cborn_edn.specs.declared.states.Stand.TheVariants.{WantsMore}
+use Rattle.cborn_edn.specs.declared.states.Phase.TheVariants.{WantsMore}
 use Rattle.cborn_edn.specs.declared.states.Level.TheVariants.{Key}
 use Rattle.cborn_edn.specs.devices.Laid.{cut, place_of, laid_stack, laid_nest}
 use Rattle.cborn_edn.specs.devices.Noted.{noted_stack, noted_nest}
-use Rattle.cborn_edn.specs.devices.Kept.{level_of, frame, frames_of, frames_nest, arounds_of, arounds_nest}
+use Rattle.cborn_edn.specs.devices.Kept.{level_of, bracket, brackets_of, brackets_nest, arounds_of, arounds_nest}
 use Rattle.cborn_edn.specs.devices.Shows.{Shows, content_state, fields_state, entries_at}
 use Rattle.cborn_edn.specs.devices.Written.{heads_at, heads_nest, node_as, nodes_as, entries_as}
 use Rattle.cborn_edn.proofs.Reader.Written.{snoc_as, snoc_entry_as}
@@ -53,74 +53,74 @@ one_pair h x p b k v =
 
 -- what is shown where a row ends
 pub record InContent (here : Here) (writer : Writer) (out : List ℕ) (n : Nest) (c : Content) : Type 0 where
-  pub count : entries_at here.stand here.count ≡ count (nodes_in c)
-  pub frames : writer.frames ≡ frames_nest writer.heads n
+  pub count : entries_at here.phase here.count ≡ count (nodes_in c)
+  pub brackets : writer.brackets ≡ brackets_nest writer.heads n
   pub around : writer.around ≡ arounds_nest writer.heads n
   pub string : writer.string ≡ None
   pub chunks : writer.chunks ≡ None
-  pub slip : writer.slip ≡ first_slip (noted_nest n ++ faults_in c)
+  pub error : writer.error ≡ first_error (noted_nest n ++ faults_in c)
   pub laid : out ≡ cut (laid_nest writer.heads n ++ spelled_all (nodes_as (heads_nest writer.heads n) (nodes_in c)))
 
 pub in_content : (here : Here) (writer : Writer) (out : List ℕ) (n : Nest) (c : Content) → Shows here writer out (content_state n c) → InContent here writer out n c
-in_content here writer out n (loose no_item) e = record { count = ap (λ x. entries_at x here.count) e.stand ∙ e.count; frames = e.frames; around = e.around; string = e.string; chunks = e.chunks; slip = e.slip; laid = e.out }
-in_content here writer out n (loose (after_row r a)) e = record { count = ap (λ x. entries_at x here.count) e.stand ∙ e.count; frames = e.frames; around = e.around; string = e.string; chunks = e.chunks; slip = e.slip; laid = e.out }
+in_content here writer out n (loose no_item) e = record { count = ap (λ x. entries_at x here.count) e.phase ∙ e.count; brackets = e.brackets; around = e.around; string = e.string; chunks = e.chunks; error = e.error; laid = e.out }
+in_content here writer out n (loose (after_row r a)) e = record { count = ap (λ x. entries_at x here.count) e.phase ∙ e.count; brackets = e.brackets; around = e.around; string = e.string; chunks = e.chunks; error = e.error; laid = e.out }
 in_content here writer out n (tight (row b i)) e = record {
-  count = ap (λ x. entries_at x here.count) e.stand ∙ omega (arith, e.count, count-snoc (nodes_before b) (node i));
-  frames = e.frames;
+  count = ap (λ x. entries_at x here.count) e.phase ∙ omega (arith, e.count, count-snoc (nodes_before b) (node i));
+  brackets = e.brackets;
   around = e.around;
   string = e.string;
   chunks = e.chunks;
-  slip = e.slip ∙ ap first_slip (append_assoc (noted_nest n) (faults_before b) (faults i));
+  error = e.error ∙ ap first_error (append_assoc (noted_nest n) (faults_before b) (faults i));
   laid = e.out ∙ ap cut (one_item (heads_nest writer.heads n) (laid_nest writer.heads n) b i);
 }
 
 -- what is shown where a map ends
 pub record InFields (here : Here) (writer : Writer) (out : List ℕ) (st : Stack) (s : Span) (m : Mark) (f : Fields) : Type 0 where
-  pub count : entries_at here.stand here.count ≡ count_entries (entries_in f)
-  pub frames : writer.frames ≡ frame st s.start (length (laid_stack writer.heads st)) m ∷ frames_of writer.heads st
+  pub count : entries_at here.phase here.count ≡ count_entries (entries_in f)
+  pub brackets : writer.brackets ≡ bracket st s.start (length (laid_stack writer.heads st)) m ∷ brackets_of writer.heads st
   pub around : writer.around ≡ arounds_of writer.heads st
   pub string : writer.string ≡ None
   pub chunks : writer.chunks ≡ None
-  pub slip : writer.slip ≡ first_slip (noted_stack st ++ faults_of_fields f)
+  pub error : writer.error ≡ first_error (noted_stack st ++ faults_of_fields f)
   pub laid : out ≡ cut (laid_stack writer.heads st ++ (place_of Map m ++ spelled_entries (entries_as (heads_at writer.heads st) (entries_in f))))
 
 pub in_fields : (here : Here) (writer : Writer) (out : List ℕ) (st : Stack) (s : Span) (m : Mark) (f : Fields) → Shows here writer out (fields_state st s m f) → InFields here writer out st s m f
-in_fields here writer out st s m (loose_fields no_pair) e = record { count = ap (λ x. entries_at x here.count) e.stand ∙ e.count; frames = e.frames; around = e.around; string = e.string; chunks = e.chunks; slip = e.slip; laid = e.out }
-in_fields here writer out st s m (loose_fields (after_pairs ps a)) e = record { count = ap (λ x. entries_at x here.count) e.stand ∙ e.count; frames = e.frames; around = e.around; string = e.string; chunks = e.chunks; slip = e.slip; laid = e.out }
+in_fields here writer out st s m (loose_fields no_pair) e = record { count = ap (λ x. entries_at x here.count) e.phase ∙ e.count; brackets = e.brackets; around = e.around; string = e.string; chunks = e.chunks; error = e.error; laid = e.out }
+in_fields here writer out st s m (loose_fields (after_pairs ps a)) e = record { count = ap (λ x. entries_at x here.count) e.phase ∙ e.count; brackets = e.brackets; around = e.around; string = e.string; chunks = e.chunks; error = e.error; laid = e.out }
 in_fields here writer out st s m (tight_fields (pairs b k c v)) e = record {
-  count = ap (λ x. entries_at x here.count) e.stand ∙ omega (arith, e.count, count-snoc_entry (entries_before b) (node k) (node v));
-  frames = e.frames;
+  count = ap (λ x. entries_at x here.count) e.phase ∙ omega (arith, e.count, count-snoc_entry (entries_before b) (node k) (node v));
+  brackets = e.brackets;
   around = e.around;
   string = e.string;
   chunks = e.chunks;
-  slip = e.slip ∙ ap first_slip (append_assoc (noted_stack st ++ faults_before_pairs b) (faults k) (faults v) ∙ append_assoc (noted_stack st) (faults_before_pairs b) (faults k ++ faults v));
+  error = e.error ∙ ap first_error (append_assoc (noted_stack st ++ faults_before_pairs b) (faults k) (faults v) ∙ append_assoc (noted_stack st) (faults_before_pairs b) (faults k ++ faults v));
   laid = e.out ∙ ap cut (one_pair (heads_at writer.heads st) (laid_stack writer.heads st) (place_of Map m) b k v);
 }
 
-pub comma_shown : (here next : Here) (w : Writer) (out : List ℕ) (n : Nest) (b : RowBefore) (i : Item) (a : Span) → next.stand ≡ WantsMore → next.level ≡ here.level → next.count ≡ here.count + 1 → Shows here w out (has (in_row n b) i) → Shows next w out (wants (in_row n (after_row (row b i) a)))
+pub comma_shown : (here next : Here) (w : Writer) (out : List ℕ) (n : Nest) (b : RowBefore) (i : Item) (a : Span) → next.phase ≡ WantsMore → next.level ≡ here.level → next.count ≡ here.count + 1 → Shows here w out (has (in_row n b) i) → Shows next w out (wants (in_row n (after_row (row b i) a)))
 comma_shown here next w out n b i a s l k e = record {
-  stand = s;
+  phase = s;
   level = l ∙ e.level ∙ row_level n b (after_row (row b i) a);
   count = omega (arith, k, e.count, count-snoc (nodes_before b) (node i));
-  frames = e.frames;
+  brackets = e.brackets;
   around = e.around;
   string = e.string;
   chunks = e.chunks;
   simple = tt;
-  slip = e.slip ∙ ap first_slip (append_assoc (noted_nest n) (faults_before b) (faults i));
+  error = e.error ∙ ap first_error (append_assoc (noted_nest n) (faults_before b) (faults i));
   out = e.out ∙ ap cut (one_item (heads_nest w.heads n) (laid_nest w.heads n) b i);
 }
 
-pub pair_comma_shown : (here next : Here) (w : Writer) (out : List ℕ) (st : Stack) (s c a : Span) (m : Mark) (b : PairsBefore) (k v : Item) → next.stand ≡ WantsMore → next.level ≡ Some Key → next.count ≡ here.count + 1 → Shows here w out (has (in_value st s m b k c) v) → Shows next w out (wants (in_key st s m (after_pairs (pairs b k c v) a)))
+pub pair_comma_shown : (here next : Here) (w : Writer) (out : List ℕ) (st : Stack) (s c a : Span) (m : Mark) (b : PairsBefore) (k v : Item) → next.phase ≡ WantsMore → next.level ≡ Some Key → next.count ≡ here.count + 1 → Shows here w out (has (in_value st s m b k c) v) → Shows next w out (wants (in_key st s m (after_pairs (pairs b k c v) a)))
 pair_comma_shown here next w out st s c a m b k v p l q e = record {
-  stand = p;
+  phase = p;
   level = l;
   count = omega (arith, q, e.count, count-snoc_entry (entries_before b) (node k) (node v));
-  frames = e.frames;
+  brackets = e.brackets;
   around = e.around;
   string = e.string;
   chunks = e.chunks;
   simple = tt;
-  slip = e.slip ∙ ap first_slip (append_assoc (noted_stack st ++ faults_before_pairs b) (faults k) (faults v) ∙ append_assoc (noted_stack st) (faults_before_pairs b) (faults k ++ faults v));
+  error = e.error ∙ ap first_error (append_assoc (noted_stack st ++ faults_before_pairs b) (faults k) (faults v) ∙ append_assoc (noted_stack st) (faults_before_pairs b) (faults k ++ faults v));
   out = e.out ∙ ap cut (one_pair (heads_at w.heads st) (laid_stack w.heads st) (place_of Map m) b k v);
 }

@@ -10,9 +10,9 @@ use Rattle.cborn_lex.specs.declared.classes.Profile.{Profile}
 use Rattle.cborn_lex.specs.declared.classes.Token.{Token}
 use Rattle.cborn_edn.specs.Says.{unless}
 use Rattle.cborn_edn.specs.declared.faults.EdnReason.TheVariants.{TextNotUtf8}
-use Rattle.cborn_edn.specs.devices.Slips.{first_slip}
+use Rattle.cborn_edn.specs.devices.MeaningErrors.{first_error}
 use Rattle.cborn_edn.specs.devices.Levels.{reach}
-use Rattle.cborn_edn.specs.shared.Syntax.{Span, span, Item, Pieces, piece, text, string}
+use Rattle.cborn_edn.specs.devices.Syntax.{Span, span, Item, Pieces, piece, text, string}
 use Rattle.cborn_edn.proofs.Grammar.Machine.{Stack, in_row, in_key, in_value, in_tag, at_top, in_array, in_embed, as_item, State, wants, has, builds, step, step_by}
 use Rattle.cborn_edn.proofs.Grammar.Held.{levels, comma_at}
 use Rattle.cborn_edn.proofs.Grammar.Takes.{finish}
@@ -23,7 +23,7 @@ use Rattle.cborn_edn.specs.declared.states.Here.{Here}
 use Rattle.cborn_edn.specs.declared.states.Writer.{Writer}
 use Rattle.cborn_edn.specs.declared.states.Heads.{Heads}
 use Rattle.cborn_edn.specs.declared.states.Heads.TheVariants.{AsWritten, Shortest}
-use Rattle.cborn_edn.specs.declared.states.Stand.TheVariants.{Has}
+use Rattle.cborn_edn.specs.declared.states.Phase.TheVariants.{Has}
 use Rattle.cborn_edn.specs.devices.Laid.{cut, laid_stack}
 use Rattle.cborn_edn.specs.devices.Noted.{noted_stack}
 use Rattle.cborn_edn.specs.devices.Shows.{Shows}
@@ -80,20 +80,20 @@ text_faults a x u = ap (λ b. unless b a.start TextNotUtf8) (is_utf8-from_IsUtf8
 
 -- LAW: what is shown after a text string with its head
 pub text_shown : (here : Here) (w left : Writer) (st : Stack) (a : Span) (x : List ℕ) → AreBytes x → IsUtf8 x → SameButOut w left → left.out.items ≡ w.out.items ++ (head_bytes 3 (least (length x)) (length x) ++ x) → Shows here w w.out.items (wants st)
-    → Shows (record here { stand = Has }) left left.out.items (has st (text_item a x))
+    → Shows (record here { phase = Has }) left left.out.items (has st (text_item a x))
 text_shown here w left st a x are u same new e =
     let none = text_faults a x u in
     let k = heads_at w.heads st in
     let bytes : AreBytes (spelled (node_as k (node (text_item a x)))) = subst AreBytes (text_spelled AsWritten a x ∙ sym (text_spelled k a x)) (item_bytes (text_item a x) (are, tt) none) in
-    with_heads (record here { stand = Has }) left w.heads left.out.items (has st (text_item a x)) same.heads (record {
-      stand = refl;
+    with_heads (record here { phase = Has }) left w.heads left.out.items (has st (text_item a x)) same.heads (record {
+      phase = refl;
       level = e.level;
       count = e.count;
-      frames = same.frames ∙ e.frames;
+      brackets = same.brackets ∙ e.brackets;
       around = same.around ∙ e.around;
       string = same.string ∙ e.string;
       chunks = same.chunks ∙ e.chunks;
       simple = tt;
-      slip = same.slip ∙ e.slip ∙ ap first_slip (sym (append-nil (noted_stack st))) ∙ ap (λ y. first_slip (noted_stack st ++ y)) (sym none);
+      error = same.error ∙ e.error ∙ ap first_error (sym (append-nil (noted_stack st))) ∙ ap (λ y. first_error (noted_stack st ++ y)) (sym none);
       out = laid_bytes (laid_stack w.heads st) (spelled (node_as k (node (text_item a x)))) w.out.items left.out.items e.out bytes (new ∙ ap (λ y. w.out.items ++ y) (sym (text_spelled k a x)));
     })

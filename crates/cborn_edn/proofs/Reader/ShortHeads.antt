@@ -1,4 +1,4 @@
--- Nodes that spell bytes spell bytes with their shortest heads too.
+-- If nodes spell bytes, they also do with their shortest heads.
 use Rattle.std.proofs.Common.{◌≡◌, sym, ap, ◌∙◌, subst, ℕ, List, [], ◌∷◌, ◌++◌, length, arith}
 use Rattle.std.specs.List.{flat_map}
 use Rattle.cborn_model.specs.Bytes.{AreBytes}
@@ -8,7 +8,7 @@ use Rattle.cborn_model.specs.declared.heads.Major.{Major}
 use Rattle.cborn_model.specs.declared.heads.Major.TheVariants.{Unsigned, Negative, ByteString, TextString, Array, Map, Tag, Other}
 use Rattle.cborn_model.specs.declared.heads.Size.{Size}
 use Rattle.cborn_model.specs.declared.heads.Size.TheVariants.{Fixed, Endless}
-use Rattle.cborn_model.specs.Heads.{Given, Unbounded, head, argument, least}
+use Rattle.cborn_model.specs.Heads.{Given, EndlessArgument, head, argument, least}
 use Rattle.cborn_model.specs.Tree.{Tree, Uint, Nint, Bytes, Text, ByteChunks, TextChunks, Items, Pairs, Tagged, Simple, Trees, no_item, more, Entries, no_entry, entry, count, count_entries}
 use Rattle.cborn_model.specs.Spelled.{ending, chunk_bytes, spelled, spelled_all, spelled_entries}
 use Rattle.cborn_edn.specs.Shortened.{chunks_shortened, size_shortened, shortened, all_shortened, entries_shortened}
@@ -30,7 +30,7 @@ chunks_short j (c ∷ cs) h =
     (string_short j x c.bytes (bytes-left (x ++ c.bytes) (flat_map (chunk_bytes j) cs) h))
     (chunks_short j cs (bytes-right (x ++ c.bytes) (flat_map (chunk_bytes j) cs) h))
 
--- what stands between two ends
+-- what is between two ends
 between_short : (a x y z : List ℕ) → (AreBytes x → AreBytes y) → AreBytes (a ++ x ++ z) → AreBytes (a ++ y ++ z)
 between_short a x y z f h =
     let front = bytes-left (a ++ x) z h in
@@ -38,7 +38,7 @@ between_short a x y z f h =
 
 -- an array or a map around what it holds
 sized_short : (j : Major) (s : Size) (m n : ℕ) (x y : List ℕ) → m ≡ n → (AreBytes x → AreBytes y) → AreBytes (head j (argument s m) ++ x ++ ending s) → AreBytes (head j (argument (size_shortened s m) n) ++ y ++ ending (size_shortened s m))
-sized_short j Endless m n x y e f h = between_short (head j Unbounded) x y (ending Endless) f h
+sized_short j Endless m n x y e f h = between_short (head j EndlessArgument) x y (ending Endless) f h
 sized_short j (Fixed w) m n x y e f h =
     let front = bytes-left (head j (Given w m) ++ x) [] h in
     bytes-append (head j (Given (least m) n) ++ y) []
@@ -50,8 +50,8 @@ mutual
   short_bytes (Nint p w n) h = least_bytes Negative n
   short_bytes (Bytes p w b) h = string_short ByteString (head ByteString (Given w (length b))) b h
   short_bytes (Text p w b) h = string_short TextString (head TextString (Given w (length b))) b h
-  short_bytes (ByteChunks p cs) h = between_short (head ByteString Unbounded) (flat_map (chunk_bytes ByteString) cs) (flat_map (chunk_bytes ByteString) (chunks_shortened cs)) (ending Endless) (chunks_short ByteString cs) h
-  short_bytes (TextChunks p cs) h = between_short (head TextString Unbounded) (flat_map (chunk_bytes TextString) cs) (flat_map (chunk_bytes TextString) (chunks_shortened cs)) (ending Endless) (chunks_short TextString cs) h
+  short_bytes (ByteChunks p cs) h = between_short (head ByteString EndlessArgument) (flat_map (chunk_bytes ByteString) cs) (flat_map (chunk_bytes ByteString) (chunks_shortened cs)) (ending Endless) (chunks_short ByteString cs) h
+  short_bytes (TextChunks p cs) h = between_short (head TextString EndlessArgument) (flat_map (chunk_bytes TextString) cs) (flat_map (chunk_bytes TextString) (chunks_shortened cs)) (ending Endless) (chunks_short TextString cs) h
   short_bytes (Items p s ts) h = sized_short Array s (count ts) (count (all_shortened ts)) (spelled_all ts) (spelled_all (all_shortened ts)) (sym (ap count (sym (short_nodes ts)) ∙ count_as Shortest ts)) (short_all ts) h
   short_bytes (Pairs p s es) h =
       sized_short Map s (count_entries es) (count_entries (entries_shortened es)) (spelled_entries es) (spelled_entries (entries_shortened es)) (sym (ap count_entries (sym (short_entries es)) ∙ count_entries_as Shortest es)) (short_pairs es) h

@@ -4,12 +4,12 @@ use Rattle.cborn_model.specs.declared.heads.Major.{Major}
 use Rattle.cborn_model.specs.declared.heads.Major.TheVariants.{Unsigned, Negative, ByteString, TextString, Array, Map, Tag, Other}
 use Rattle.cborn_lex.specs.declared.classes.Mark.{Mark}
 use Rattle.cborn_lex.specs.declared.classes.Mark.TheVariants.{Absent, Endless, Wide}
-use Rattle.cborn_edn.specs.declared.slips.Slip.{Slip}
+use Rattle.cborn_edn.specs.declared.meaning_errors.MeaningError.{MeaningError}
 use Rattle.cborn_edn.specs.declared.strings.StringKind.{StringKind}
 use Rattle.cborn_edn.specs.declared.strings.StringKind.TheVariants.{Bytes as OfBytes, Text as OfText}
 use Rattle.cborn_edn.specs.Says.{is_nil}
-use Rattle.cborn_edn.specs.devices.Slips.{first_slip}
-use Rattle.cborn_edn.specs.shared.Syntax.{Span, no_item, no_pair}
+use Rattle.cborn_edn.specs.devices.MeaningErrors.{first_error}
+use Rattle.cborn_edn.specs.devices.Syntax.{Span, no_item, no_pair}
 use Rattle.cborn_edn.proofs.Grammar.Machine.{Stack, in_row, in_key, in_array, Home, as_item, as_chunk, State}
 use Rattle.cborn_edn.proofs.Grammar.Takes.{at_home}
 use Rattle.cborn_edn.proofs.Short.Said.{str_of, faults_of_piece}
@@ -19,14 +19,14 @@ use Rattle.cborn_edn.specs.declared.states.Heads.{Heads}
 use Rattle.cborn_edn.specs.declared.states.Joint.{Joint}
 use Rattle.cborn_edn.specs.devices.Laid.{cut, place_of, laid_stack, laid_home}
 use Rattle.cborn_edn.specs.devices.Noted.{noted_home}
-use Rattle.cborn_edn.specs.devices.Kept.{stack_of, level_of, count_of, frames_of, frames_home, arounds_of, arounds_home, chunks_of, joint}
+use Rattle.cborn_edn.specs.devices.Kept.{stack_of, level_of, count_of, brackets_of, brackets_home, arounds_of, arounds_home, chunks_of, joint}
 use Rattle.cborn_edn.specs.devices.Shows.{Shows, piece_of}
 use Rattle.cborn_edn.proofs.Reader.Laying.{laid_more}
 
 pub moved : (next n : Here) (left l : Writer) (u : State) → next ≡ n → left ≡ l → Shows n l l.out.items u → Shows next left left.out.items u
 moved next n left l u e f h = subst (λ (w : Writer). Shows next w w.out.items u) (sym f) (subst (λ (x : Here). Shows x l l.out.items u) (sym e) h)
 
--- by a writer that makes heads as another does
+-- what is shown, by a writer that writes heads as another does
 pub with_heads : (next : Here) (left : Writer) (k : Heads) (out : List ℕ) (u : State) → left.heads ≡ k → Shows next (record left { heads = k }) out u → Shows next left out u
 with_heads next left k out u e h = subst (λ (x : Heads). Shows next (record left { heads = x }) out u) (sym e) h
 
@@ -52,20 +52,20 @@ pub out_map : (k : Heads) (st : Stack) (a : Span) (m : Mark) (old new : List ℕ
 out_map k st a m old new e f = laid_place Map m (laid_stack k st) old new e f ∙ ap (λ x. cut (laid_stack k st ++ x)) (sym (append-nil (place_of Map m)))
 
 -- nothing more is noted
-pub same_slips : (o : Option Slip) (l : List Slip) → o ≡ first_slip l → o ≡ first_slip (l ++ [])
-same_slips o l e = e ∙ ap first_slip (sym (append-nil l))
+pub same_errors : (o : Option MeaningError) (l : List MeaningError) → o ≡ first_error l → o ≡ first_error (l ++ [])
+same_errors o l e = e ∙ ap first_error (sym (append-nil l))
 
--- what is shown of what a string stands in
+-- what is shown around a string
 pub record AtHome (here : Here) (writer : Writer) (h : Home) : Type 0 where
   pub level : here.level ≡ level_of (stack_of h)
   pub count : here.count ≡ count_of (stack_of h)
-  pub frames : writer.frames ≡ frames_of writer.heads (stack_of h)
+  pub brackets : writer.brackets ≡ brackets_of writer.heads (stack_of h)
   pub around : writer.around ≡ arounds_of writer.heads (stack_of h)
   pub chunks : writer.chunks ≡ chunks_of writer.heads h
 
-pub frames_same : (k : Heads) (h : Home) → frames_of k (stack_of h) ≡ frames_home k h
-frames_same k (as_item st) = refl
-frames_same k (as_chunk st s b) = refl
+pub brackets_same : (k : Heads) (h : Home) → brackets_of k (stack_of h) ≡ brackets_home k h
+brackets_same k (as_item st) = refl
+brackets_same k (as_chunk st s b) = refl
 
 pub arounds_same : (k : Heads) (h : Home) → arounds_of k (stack_of h) ≡ arounds_home k h
 arounds_same k (as_item st) = refl
@@ -75,12 +75,12 @@ arounds_same k (as_chunk st s b) = refl
 pub record Fresh (here : Here) (writer : Writer) (h : Home) (out : List ℕ) : Type 0 where
   pub home : AtHome here writer h
   pub string : writer.string ≡ None
-  pub slip : writer.slip ≡ first_slip (noted_home h)
+  pub error : writer.error ≡ first_error (noted_home h)
   pub laid : out ≡ cut (laid_home writer.heads h)
 
 pub fresh : (here : Here) (writer : Writer) (h : Home) (out : List ℕ) → Shows here writer out (at_home h None) → Fresh here writer h out
-fresh here writer (as_item st) out e = record { home = record { level = e.level; count = e.count; frames = e.frames; around = e.around; chunks = e.chunks }; string = e.string; slip = e.slip; laid = e.out }
-fresh here writer (as_chunk st s b) out e = record { home = record { level = e.level; count = e.count; frames = e.frames; around = e.around; chunks = e.chunks }; string = e.string; slip = e.slip; laid = e.out }
+fresh here writer (as_item st) out e = record { home = record { level = e.level; count = e.count; brackets = e.brackets; around = e.around; chunks = e.chunks }; string = e.string; error = e.error; laid = e.out }
+fresh here writer (as_chunk st s b) out e = record { home = record { level = e.level; count = e.count; brackets = e.brackets; around = e.around; chunks = e.chunks }; string = e.string; error = e.error; laid = e.out }
 
 pub piece_bytes : (k : StringKind) (a : Span) (q : Bool) (x : List ℕ) (m : Mark) → (str_of (piece_of k a q x m)).bytes ≡ x
 piece_bytes OfBytes a q x m = refl

@@ -19,7 +19,7 @@ use Rattle.cborn_edn.specs.declared.faults.EdnReason.{EdnReason}
 use Rattle.cborn_edn.specs.declared.faults.EdnReason.TheVariants.{UnexpectedToken, UnexpectedEnd, TooDeep, IndicatorTooNarrow, IndicatorNotAllowed, MixedString, MixedChunks, TextNotUtf8, BadSimple, TagTooLarge}
 use Rattle.cborn_edn.specs.declared.faults.EdnFault.{EdnFault}
 use Rattle.cborn_edn.specs.declared.faults.EdnFault.TheVariants.{Refused}
-use Rattle.cborn_edn.specs.shared.Syntax.{no_item, after_row, no_pair, after_pairs}
+use Rattle.cborn_edn.specs.devices.Syntax.{no_item, after_row, no_pair, after_pairs}
 use Rattle.cborn_edn.specs.Faults.{IsNoNotation}
 use Rattle.cborn_edn.specs.devices.Lexical.{lexical}
 use Rattle.cborn_edn.specs.devices.Levels.{reach}
@@ -27,12 +27,12 @@ use Rattle.cborn_edn.proofs.Grammar.Machine.{in_row, in_key, in_value, in_tag, S
 use Rattle.cborn_edn.proofs.Grammar.Held.{held, open_levels}
 use Rattle.cborn_edn.specs.declared.states.Here.{Here}
 use Rattle.cborn_edn.specs.declared.states.Writer.{Writer}
-use Rattle.cborn_edn.specs.devices.Kept.{stand_of}
+use Rattle.cborn_edn.specs.devices.Kept.{phase_of}
 use Rattle.cborn_edn.specs.devices.Shows.{Shows, IsOpenAt}
 use Rattle.cborn_edn.specs.devices.Steps.{appended, Ready, Taken, Takes}
-use Rattle.cborn_edn.specs.devices.Reading.{appended_at, WasRead, is_spare, IsReading, Judged}
-use Rattle.cborn_edn.proofs.Reader.Going.{goes_on, ends, unexpected, too_deep, never_taken, not_spare, spare}
-use Rattle.cborn_edn.proofs.Reader.Counts.{shown_few, frames_levels}
+use Rattle.cborn_edn.specs.devices.Reading.{appended_at, WasRead, is_trailing_comma, IsReading, Judged}
+use Rattle.cborn_edn.proofs.Reader.Going.{goes_on, ends, unexpected, too_deep, never_taken, not_trailing, trailing}
+use Rattle.cborn_edn.proofs.Reader.Counts.{shown_few, brackets_levels}
 use Rattle.cborn_edn.proofs.Reader.Showing.{with_heads}
 
 recontent : (k : Kind) (n : ℕ) (x : List ℕ) → class_of k n x ≡ class_of k n (content_of (class_of k n x))
@@ -51,7 +51,7 @@ plain_content (classes.Text x m) h = h
 plain_content (classes.Bytes q x m) h = h
 plain_content _ h = tt
 
-appended_as : (s : State) (c : Class) → appended_at (stand_of s) c ≡ appended s c
+appended_as : (s : State) (c : Class) → appended_at (phase_of s) c ≡ appended s c
 appended_as (wants (in_row n no_item)) c = refl
 appended_as (wants (in_row n (after_row r a))) c = refl
 appended_as (wants (in_key st s m no_pair)) c = refl
@@ -67,24 +67,24 @@ appended_as (has_number st s b n v m) c = refl
 -- nothing but the output changes
 pub record SameButOut (w v : Writer) : Type 0 where
   pub heads : v.heads ≡ w.heads
-  pub frames : v.frames ≡ w.frames
+  pub brackets : v.brackets ≡ w.brackets
   pub around : v.around ≡ w.around
   pub string : v.string ≡ w.string
   pub chunks : v.chunks ≡ w.chunks
   pub simple : v.simple ≡ w.simple
-  pub slip : v.slip ≡ w.slip
+  pub error : v.error ≡ w.error
 
 pub same_shown : (here : Here) (w v : Writer) (out : List ℕ) (s : State) → SameButOut w v → Shows here w out s → Shows here v out s
 same_shown here w v out s k e = with_heads here v w.heads out s k.heads (record {
-  stand = e.stand;
+  phase = e.phase;
   level = e.level;
   count = e.count;
-  frames = k.frames ∙ e.frames;
+  brackets = k.brackets ∙ e.brackets;
   around = k.around ∙ e.around;
   string = k.string ∙ e.string;
   chunks = k.chunks ∙ e.chunks;
   simple = subst (λ n. IsOpenAt n s) (sym k.simple) e.simple;
-  slip = k.slip ∙ e.slip;
+  error = k.error ∙ e.error;
   out = e.out;
 })
 
@@ -95,12 +95,12 @@ module _ (p : Profile) (text : List ℕ) (are : AreBytes text) (here : Here) (w 
     pub between : Between p text here.at t.stop (record { start = t.start; stop = t.stop; class = class_of t.kind n content } ∷ [])
     pub modest : AreModest (record { start = t.start; stop = t.stop; class = class_of t.kind n content } ∷ [])
     pub plain : AreBytes content
-    pub written : v.out.items ≡ w.out.items ++ appended_at here.stand (class_of t.kind n content)
+    pub written : v.out.items ≡ w.out.items ++ appended_at here.phase (class_of t.kind n content)
 
-  pub token_read : (o : Option BareToken) (n : ℕ) (v : Writer) (t : BareToken) → WasRead p text here.at here.stand o n w.out.items v.out.items → o ≡ Some t → ReadToken n v t
-  token_read o n v t read is = go (subst (λ (q : Option BareToken). WasRead p text here.at here.stand q n w.out.items v.out.items) is read)
+  pub token_read : (o : Option BareToken) (n : ℕ) (v : Writer) (t : BareToken) → WasRead p text here.at here.phase o n w.out.items v.out.items → o ≡ Some t → ReadToken n v t
+  token_read o n v t read is = go (subst (λ (q : Option BareToken). WasRead p text here.at here.phase q n w.out.items v.out.items) is read)
     where
-      go : WasRead p text here.at here.stand (Some t) n w.out.items v.out.items → ReadToken n v t
+      go : WasRead p text here.at here.phase (Some t) n w.out.items v.out.items → ReadToken n v t
       go (c, x, between, class, written) =
           let y = content_of c in
           let same : c ≡ class_of t.kind n y = class ∙ recontent t.kind n x ∙ ap (λ (k : Class). class_of t.kind n (content_of k)) (sym class) in
@@ -112,7 +112,7 @@ module _ (p : Profile) (text : List ℕ) (are : AreBytes text) (here : Here) (w 
             between = here-is;
             modest = modest;
             plain = subst AreBytes (ap content_of (sym same)) (plain_content (class_of t.kind n y) modest.0);
-            written = written ∙ ap (λ (k : Class). w.out.items ++ appended_at here.stand k) same;
+            written = written ∙ ap (λ (k : Class). w.out.items ++ appended_at here.phase k) same;
           }
 
   -- it is ready to be taken in the state that is shown
@@ -123,7 +123,7 @@ module _ (p : Profile) (text : List ℕ) (are : AreBytes text) (here : Here) (w 
     class = refl;
     plain = k.plain;
     shows = same_shown here w v w.out.items s same shows;
-    written = k.written ∙ ap (λ st. w.out.items ++ appended_at st (class_of t.kind n k.content)) shows.stand ∙ ap (λ l. w.out.items ++ l) (appended_as s (class_of t.kind n k.content));
+    written = k.written ∙ ap (λ st. w.out.items ++ appended_at st (class_of t.kind n k.content)) shows.phase ∙ ap (λ l. w.out.items ++ l) (appended_as s (class_of t.kind n k.content));
     from = from;
     few = omega (arith, shown_few here w w.out.items s shows);
     modest = modest;
@@ -131,17 +131,17 @@ module _ (p : Profile) (text : List ℕ) (are : AreBytes text) (here : Here) (w 
 
 module _ (p : Profile) (limit : ℕ) (text : List ℕ) (are : AreBytes text) (here : Here) (w : Writer) (r : IsReading p limit text here w) where
   -- with nothing left of the text
-  pub last_read : (o : Option BareToken) (n : ℕ) (v : Writer) → SameButOut w v → WasRead p text here.at here.stand o n w.out.items v.out.items → o ≡ None → IsReading p limit text (record here { at = length text }) v
-  last_read o n v same read is = go (subst (λ (q : Option BareToken). WasRead p text here.at here.stand q n w.out.items v.out.items) is read)
+  pub last_read : (o : Option BareToken) (n : ℕ) (v : Writer) → SameButOut w v → WasRead p text here.at here.phase o n w.out.items v.out.items → o ≡ None → IsReading p limit text (record here { at = length text }) v
+  last_read o n v same read is = go (subst (λ (q : Option BareToken). WasRead p text here.at here.phase q n w.out.items v.out.items) is read)
     where
-      go : WasRead p text here.at here.stand None n w.out.items v.out.items → IsReading p limit text (record here { at = length text }) v
+      go : WasRead p text here.at here.phase None n w.out.items v.out.items → IsReading p limit text (record here { at = length text }) v
       go h =
           let e = same_shown here w v w.out.items r.state same r.shows in
           record {
             inside = omega arith;
             state = r.state;
             reached = ends p limit text here.at r.state r.reached (through p h.0);
-            shows = record { stand = e.stand; level = e.level; count = e.count; frames = e.frames; around = e.around; string = e.string; chunks = e.chunks; simple = e.simple; slip = e.slip; out = h.1 ∙ e.out };
+            shows = record { phase = e.phase; level = e.level; count = e.count; brackets = e.brackets; around = e.around; string = e.string; chunks = e.chunks; simple = e.simple; error = e.error; out = h.1 ∙ e.out };
           }
 
   module _ (n start : ℕ) (v : Writer) (t : BareToken) (k : ReadToken p text are here w n v t) (same : SameButOut w v) (from : start ≡ length w.out.items) (small : start < 2 ^ 63) where
@@ -157,15 +157,15 @@ module _ (p : Profile) (limit : ℕ) (text : List ℕ) (are : AreBytes text) (he
     pub stop_inside : t.stop ≤ length text
     stop_inside = (inside p text here.at t.stop (the_token ∷ []) r.inside k.between).1
 
-    depth_is : (deep : ℕ) → ((x : List ℕ) → deep ≡ reach (length v.frames) (class_of t.kind n x)) → deep ≡ reach (open_levels r.state) (class_of t.kind n k.content)
-    depth_is deep d = d k.content ∙ ap (λ l. reach l (class_of t.kind n k.content)) (ap length (same.frames ∙ r.shows.frames) ∙ frames_levels w.heads r.state)
+    depth_is : (deep : ℕ) → ((x : List ℕ) → deep ≡ reach (length v.brackets) (class_of t.kind n x)) → deep ≡ reach (open_levels r.state) (class_of t.kind n k.content)
+    depth_is deep d = d k.content ∙ ap (λ l. reach l (class_of t.kind n k.content)) (ap length (same.brackets ∙ r.shows.brackets) ∙ brackets_levels w.heads r.state)
 
-    module _ (next : Here) (left : Writer) (ok bad : Bool) (deep : ℕ) (taken : (s : State) → Takes t.kind n start t.start here v next left ok s) (b : bad ≡ is_spare p here.stand t.kind) (d : (x : List ℕ) → deep ≡ reach (length v.frames) (class_of t.kind n x)) where
+    module _ (next : Here) (left : Writer) (ok bad : Bool) (deep : ℕ) (taken : (s : State) → Takes t.kind n start t.start here v next left ok s) (b : bad ≡ is_trailing_comma p here.phase t.kind) (d : (x : List ℕ) → deep ≡ reach (length v.brackets) (class_of t.kind n x)) where
       took : Taken ok r.state (class_of t.kind n k.content) (record { start = t.start; stop = t.stop }) next left
       took = taken r.state w.out.items (class_of t.kind n k.content) (record { start = t.start; stop = t.stop }) refl ready
 
-      free : bad ≡ false → is_spare p (stand_of r.state) t.kind ≡ false
-      free e = ap (λ st. is_spare p st t.kind) (sym r.shows.stand) ∙ sym b ∙ e
+      free : bad ≡ false → is_trailing_comma p (phase_of r.state) t.kind ≡ false
+      free e = ap (λ st. is_trailing_comma p st t.kind) (sym r.shows.phase) ∙ sym b ∙ e
 
       -- the reader goes on
       pub went_on : Judged bad ok deep limit None → IsReading p limit text (record next { at = t.stop }) left
@@ -175,21 +175,21 @@ module _ (p : Profile) (limit : ℕ) (text : List ℕ) (are : AreBytes text) (he
           go (u, is, e) = record {
             inside = stop_inside;
             state = u;
-            reached = goes_on p limit text here.at r.state r.reached t.stop the_token u k.between k.modest is (not_spare p r.state t.kind n k.content (free f)) (omega (arith, depth_is deep d, low));
-            shows = record { stand = e.stand; level = e.level; count = e.count; frames = e.frames; around = e.around; string = e.string; chunks = e.chunks; simple = e.simple; slip = e.slip; out = e.out };
+            reached = goes_on p limit text here.at r.state r.reached t.stop the_token u k.between k.modest is (not_trailing p r.state t.kind n k.content (free f)) (omega (arith, depth_is deep d, low));
+            shows = record { phase = e.phase; level = e.level; count = e.count; brackets = e.brackets; around = e.around; string = e.string; chunks = e.chunks; simple = e.simple; error = e.error; out = e.out };
           }
 
       -- the text is refused
       pub refusal : (why : EdnReason) (fault : EdnFault) → Judged bad ok deep limit (Some why)
           → ((more : List Token) × Between p text t.stop (length text) more × (fault ≡ Refused t.start why)) ⊎ ((stop : LexFault) × IsStopFrom p text t.stop stop × (fault ≡ lexical stop)) → IsNoNotation p limit text fault
       refusal UnexpectedToken fault (inl e) h =
-          unexpected p limit text here.at r.state r.reached the_token fault k.between (spare p limit r.state t.kind n t.start t.stop k.content (ap (λ st. is_spare p st t.kind) (sym r.shows.stand) ∙ sym b ∙ e)) h
+          unexpected p limit text here.at r.state r.reached the_token fault k.between (trailing p limit r.state t.kind n t.start t.stop k.content (ap (λ st. is_trailing_comma p st t.kind) (sym r.shows.phase) ∙ sym b ∙ e)) h
       refusal UnexpectedToken fault (inr e) h =
           unexpected p limit text here.at r.state r.reached the_token fault k.between (never_taken p limit r.state the_token (subst (λ (q : Bool). Taken q r.state (class_of t.kind n k.content) (record { start = t.start; stop = t.stop }) next left) e took)) h
       refusal TooDeep fault (f, g, far) h = go (subst (λ (q : Bool). Taken q r.state (class_of t.kind n k.content) (record { start = t.start; stop = t.stop }) next left) g took)
         where
           go : Taken true r.state (class_of t.kind n k.content) (record { start = t.start; stop = t.stop }) next left → IsNoNotation p limit text fault
-          go (u, is, e) = too_deep p limit text here.at r.state r.reached the_token u fault k.between is (not_spare p r.state t.kind n k.content (free f)) (omega (arith, depth_is deep d, far)) h
+          go (u, is, e) = too_deep p limit text here.at r.state r.reached the_token u fault k.between is (not_trailing p r.state t.kind n k.content (free f)) (omega (arith, depth_is deep d, far)) h
       refusal UnexpectedEnd fault h k = absurd h
       refusal IndicatorTooNarrow fault h k = absurd h
       refusal IndicatorNotAllowed fault h k = absurd h

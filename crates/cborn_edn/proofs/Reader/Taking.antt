@@ -1,4 +1,4 @@
--- What is common, taken in place: the reader goes on as the machine of tokens does.
+-- Frequent tokens, taken without the lexer: the reader goes on as the machine of tokens does.
 use Rattle.std.proofs.Common.{◌≡◌, refl, sym, ap, ◌∙◌, subst, ℕ, zero, suc, ◌+◌, ◌^◌, if◌then◌else◌, ◌<◌, ◌≤◌, List, [], ◌∷◌, ◌++◌, length, Bool, true, false, Option, Some, arith, ◌⊎◌, inl, inr}
 use Rattle.std.proofs.lemmas.Bool.{lt-ltb}
 use Rattle.std.specs.Str.{IsUtf8}
@@ -20,32 +20,32 @@ use Rattle.cborn_lex.proofs.WholeTexts.Progress.{inside, few}
 use Rattle.cborn_lex.proofs.WholeTexts.Weights.{between_modest}
 use Rattle.cborn_edn.specs.Says.{is_small}
 use Rattle.cborn_edn.specs.devices.Levels.{reach}
-use Rattle.cborn_edn.specs.shared.Syntax.{Span, Item, Pieces, piece, text as piece_text, string, StringsBefore, tokens_of_pieces}
+use Rattle.cborn_edn.specs.devices.Syntax.{Span, Item, Pieces, piece, text as piece_text, string, StringsBefore, tokens_of_pieces}
 use Rattle.cborn_edn.proofs.Grammar.Machine.{Stack, Home, as_item, as_chunk, State, wants, has, builds, wants_number, has_number, step_by}
 use Rattle.cborn_edn.proofs.Grammar.Held.{held, held_home, open_levels, comma_at, comma_in}
 use Rattle.cborn_edn.proofs.Grammar.Parser.{forbids}
 use Rattle.cborn_edn.specs.devices.Ahead.{IsTokenAt, NoPieceAt}
 use Rattle.cborn_edn.specs.declared.states.Here.{Here}
 use Rattle.cborn_edn.specs.declared.states.Writer.{Writer}
-use Rattle.cborn_edn.specs.declared.states.Stand.{Stand}
-use Rattle.cborn_edn.specs.declared.states.Stand.TheVariants as stands
-use Rattle.cborn_edn.specs.devices.Kept.{stand_of}
+use Rattle.cborn_edn.specs.declared.states.Phase.{Phase}
+use Rattle.cborn_edn.specs.declared.states.Phase.TheVariants as phases
+use Rattle.cborn_edn.specs.devices.Kept.{phase_of}
 use Rattle.cborn_edn.specs.devices.Modest.{AreModest}
 use Rattle.cborn_edn.specs.devices.Shows.{Shows}
 use Rattle.cborn_edn.specs.devices.Steps.{MayEnd, Taken, has_chunks}
 use Rattle.cborn_edn.specs.devices.Reading.{IsReading, Reached}
-use Rattle.cborn_edn.proofs.Reader.Counts.{shown_few, frames_levels}
+use Rattle.cborn_edn.proofs.Reader.Counts.{shown_few, brackets_levels}
 use Rattle.cborn_edn.proofs.Reader.Going.{goes_on, skips, free_none, tight_free}
 use Rattle.cborn_edn.proofs.Reader.Modest.{modest_right}
 use Rattle.cborn_edn.proofs.Reader.Settling.{settled, text_item, text_shown}
 use Rattle.cborn_edn.proofs.Reader.Stepping.{modest_here, SameButOut}
 use Rattle.cborn_edn.proofs.Reader.Turning.{is_has, is_wants, is_builds, is_wants_number, HasNumber, is_has_number, item_home, chunk_home}
 
--- a token as it stands
+-- a token between two offsets of a text
 abbrev token_at : ℕ → ℕ → Class → Token
 token_at at stop c = record { start = at; stop = stop; class = c }
 
--- LAW: an integer of 64 bits is no deeper than it stands
+-- LAW: an integer of 64 bits needs no level of its own
 pub number_low : (l limit : ℕ) (n : Bool) (v : ℕ) (m : Mark) → v < 2 ^ 64 → l ≤ limit → reach l (Number n v m) ≤ limit
 number_low l limit n v m small low = subst (λ b. l + (if b then 0 else 1) ≤ limit) (sym (fits n v small)) (omega (arith, low))
   where
@@ -61,34 +61,34 @@ beyond p text at stop c h = omega (arith, few p text at stop (token_at at stop c
 module _ (p : Profile) (limit : ℕ) (text : List ℕ) (here : Here) (w : Writer) (r : IsReading p limit text here w) where
   -- LAW: on with white space and comments
   pub skipped : (stop : ℕ) → TokensBetween p text here.at stop [] → IsReading p limit text (record here { at = stop }) w
-  skipped stop blank =
+  skipped stop white =
       let e = r.shows in
       record {
-        inside = (inside p text here.at stop [] r.inside (through p blank)).1;
+        inside = (inside p text here.at stop [] r.inside (through p white)).1;
         state = r.state;
-        reached = skips p limit text here.at r.state r.reached stop (through p blank);
-        shows = record { stand = e.stand; level = e.level; count = e.count; frames = e.frames; around = e.around; string = e.string; chunks = e.chunks; simple = e.simple; slip = e.slip; out = e.out };
+        reached = skips p limit text here.at r.state r.reached stop (through p white);
+        shows = record { phase = e.phase; level = e.level; count = e.count; brackets = e.brackets; around = e.around; string = e.string; chunks = e.chunks; simple = e.simple; error = e.error; out = e.out };
       }
 
   pub skipped_on : (stop : ℕ) → TokensBetween p text here.at stop [] → here.at ≤ stop
-  skipped_on stop blank = (inside p text here.at stop [] r.inside (through p blank)).0
+  skipped_on stop white = (inside p text here.at stop [] r.inside (through p white)).0
 
-  -- what is shown of the state, by another that it is
+  -- the state that is shown, by an equal one
   pub shown_as : (s : State) → s ≡ r.state → Shows here w w.out.items s
   shown_as s e = subst (λ (v : State). Shows here w w.out.items v) (sym e) r.shows
 
-  pub may_end : (here.stand ≡ stands.Has) ⊎ (here.stand ≡ stands.Wants) → MayEnd r.state
-  may_end (inl h) = go (is_has r.state (sym r.shows.stand ∙ h))
+  pub may_end : (here.phase ≡ phases.Has) ⊎ (here.phase ≡ phases.Wants) → MayEnd r.state
+  may_end (inl h) = go (is_has r.state (sym r.shows.phase ∙ h))
     where
       go : (st : Stack) × (i : Item) × (has st i ≡ r.state) → MayEnd r.state
       go (st, i, e) = subst MayEnd e tt
-  may_end (inr h) = go (is_wants r.state (inl (sym r.shows.stand ∙ h)))
+  may_end (inr h) = go (is_wants r.state (inl (sym r.shows.phase ∙ h)))
     where
       go : (st : Stack) × (wants st ≡ r.state) → MayEnd r.state
       go (st, e) = subst MayEnd e tt
 
-  pub has_item : here.stand ≡ stands.Has → (st : Stack) × (i : Item) × Shows here w w.out.items (has st i)
-  has_item h = go (is_has r.state (sym r.shows.stand ∙ h))
+  pub has_item : here.phase ≡ phases.Has → (st : Stack) × (i : Item) × Shows here w w.out.items (has st i)
+  has_item h = go (is_has r.state (sym r.shows.phase ∙ h))
     where
       go : (st : Stack) × (i : Item) × (has st i ≡ r.state) → (st : Stack) × (i : Item) × Shows here w w.out.items (has st i)
       go (st, i, e) = (st, i, shown_as (has st i) e)
@@ -110,29 +110,29 @@ module _ (p : Profile) (limit : ℕ) (text : List ℕ) (here : Here) (w : Writer
           inside = (inside p text here.at stop (token_at here.at stop c ∷ []) r.inside between).1;
           state = u;
           reached = goes_on p limit text here.at r.state r.reached stop (token_at here.at stop c) u between modest is free low;
-          shows = record { stand = e.stand; level = e.level; count = e.count; frames = e.frames; around = e.around; string = e.string; chunks = e.chunks; simple = e.simple; slip = e.slip; out = e.out };
+          shows = record { phase = e.phase; level = e.level; count = e.count; brackets = e.brackets; around = e.around; string = e.string; chunks = e.chunks; simple = e.simple; error = e.error; out = e.out };
         }
 
-    -- from a state that it is
+    -- from the state that is shown
     pub taken_from : (s u : State) → s ≡ r.state → step_by s c place ≡ Some u → Shows next left left.out.items u → forbids p (comma_at s c) ≡ false → reach (open_levels s) c ≤ limit → IsReading p limit text (record next { at = stop }) left
     taken_from s u e is shows free low =
         taken u (subst (λ (v : State). step_by v c place ≡ Some u) e is) shows (subst (λ (v : State). forbids p (comma_at v c) ≡ false) e free) (subst (λ (v : State). reach (open_levels v) c ≤ limit) e low)
 
     -- LAW: where an item is wanted
-    pub item_taken : (here.stand ≡ stands.Wants) ⊎ (here.stand ≡ stands.WantsMore) → (v : Stack → State) → ((st : Stack) → step_by (wants st) c place ≡ Some (v st)) → ((st : Stack) → Shows here w w.out.items (wants st) → Shows next left left.out.items (v st)) → ((st : Stack) → comma_in st c ≡ 0)
-        → reach (length w.frames) c ≤ limit → IsReading p limit text (record next { at = stop }) left
+    pub item_taken : (here.phase ≡ phases.Wants) ⊎ (here.phase ≡ phases.WantsMore) → (v : Stack → State) → ((st : Stack) → step_by (wants st) c place ≡ Some (v st)) → ((st : Stack) → Shows here w w.out.items (wants st) → Shows next left left.out.items (v st)) → ((st : Stack) → comma_in st c ≡ 0)
+        → reach (length w.brackets) c ≤ limit → IsReading p limit text (record next { at = stop }) left
     item_taken q v is leads bare low = go (is_wants r.state (stood q))
       where
-        stood : (here.stand ≡ stands.Wants) ⊎ (here.stand ≡ stands.WantsMore) → (stand_of r.state ≡ stands.Wants) ⊎ (stand_of r.state ≡ stands.WantsMore)
-        stood (inl e) = inl (sym r.shows.stand ∙ e)
-        stood (inr e) = inr (sym r.shows.stand ∙ e)
+        stood : (here.phase ≡ phases.Wants) ⊎ (here.phase ≡ phases.WantsMore) → (phase_of r.state ≡ phases.Wants) ⊎ (phase_of r.state ≡ phases.WantsMore)
+        stood (inl e) = inl (sym r.shows.phase ∙ e)
+        stood (inr e) = inr (sym r.shows.phase ∙ e)
 
         go : (st : Stack) × (wants st ≡ r.state) → IsReading p limit text (record next { at = stop }) left
         go (st, e) =
-            let depth : length w.frames ≡ open_levels (wants st) = ap length (shown_as (wants st) e).frames ∙ frames_levels w.heads (wants st) in
+            let depth : length w.brackets ≡ open_levels (wants st) = ap length (shown_as (wants st) e).brackets ∙ brackets_levels w.heads (wants st) in
             taken_from (wants st) (v st) e (is st) (leads st (shown_as (wants st) e)) (ap (forbids p) (bare st) ∙ free_none p) (subst (λ l. reach l c ≤ limit) depth low)
 
-    -- LAW: where an item or a bracket stands, and what ends it
+    -- LAW: where an item is wanted, or was read last
     pub end_taken : (ok : Bool) → ok ≡ true → MayEnd r.state → (MayEnd r.state → Shows here w w.out.items r.state → Taken ok r.state c place next left) → forbids p (comma_at r.state c) ≡ false → reach (open_levels r.state) c ≤ limit → IsReading p limit text (record next { at = stop }) left
     end_taken ok e may f free low = go (subst (λ b. Taken b r.state c place next left) e (f may r.shows))
       where
@@ -140,8 +140,8 @@ module _ (p : Profile) (limit : ℕ) (text : List ℕ) (here : Here) (w : Writer
         go (u, is, shows) = taken u is shows free low
 
     -- LAW: after an item
-    pub after_taken : here.stand ≡ stands.Has → (ok : Bool) → ok ≡ true → ((st : Stack) (i : Item) → Shows here w w.out.items (has st i) → Taken ok (has st i) c place next left) → ((l : ℕ) → reach l c ≤ limit) → IsReading p limit text (record next { at = stop }) left
-    after_taken h ok e f low = go (is_has r.state (sym r.shows.stand ∙ h))
+    pub after_taken : here.phase ≡ phases.Has → (ok : Bool) → ok ≡ true → ((st : Stack) (i : Item) → Shows here w w.out.items (has st i) → Taken ok (has st i) c place next left) → ((l : ℕ) → reach l c ≤ limit) → IsReading p limit text (record next { at = stop }) left
+    after_taken h ok e f low = go (is_has r.state (sym r.shows.phase ∙ h))
       where
         on : (st : Stack) (i : Item) → has st i ≡ r.state → Taken true (has st i) c place next left → IsReading p limit text (record next { at = stop }) left
         on st i k (u, is, shows) = taken_from (has st i) u k is shows (free_none p) (low (open_levels (has st i)))
@@ -150,28 +150,28 @@ module _ (p : Profile) (limit : ℕ) (text : List ℕ) (here : Here) (w : Writer
         go (st, i, k) = on st i k (subst (λ b. Taken b (has st i) c place next left) e (f st i (shown_as (has st i) k)))
 
     -- LAW: where the number in `simple(..)` is wanted
-    pub number_taken : here.stand ≡ stands.WantsNumber → (v : Stack → Span → State) → ((st : Stack) (s : Span) → step_by (wants_number st s) c place ≡ Some (v st s)) → ((st : Stack) (s : Span) → Shows here w w.out.items (wants_number st s) → Shows next left left.out.items (v st s)) → reach (length w.frames) c ≤ limit
+    pub number_taken : here.phase ≡ phases.WantsNumber → (v : Stack → Span → State) → ((st : Stack) (s : Span) → step_by (wants_number st s) c place ≡ Some (v st s)) → ((st : Stack) (s : Span) → Shows here w w.out.items (wants_number st s) → Shows next left left.out.items (v st s)) → reach (length w.brackets) c ≤ limit
         → IsReading p limit text (record next { at = stop }) left
-    number_taken h v is leads low = go (is_wants_number r.state (sym r.shows.stand ∙ h))
+    number_taken h v is leads low = go (is_wants_number r.state (sym r.shows.phase ∙ h))
       where
         go : (st : Stack) × (s : Span) × (wants_number st s ≡ r.state) → IsReading p limit text (record next { at = stop }) left
         go (st, s, k) =
-            let depth : length w.frames ≡ open_levels (wants_number st s) = ap length (shown_as (wants_number st s) k).frames ∙ frames_levels w.heads (wants_number st s) in
+            let depth : length w.brackets ≡ open_levels (wants_number st s) = ap length (shown_as (wants_number st s) k).brackets ∙ brackets_levels w.heads (wants_number st s) in
             taken_from (wants_number st s) (v st s) k (is st s) (leads st s (shown_as (wants_number st s) k)) (free_none p) (subst (λ l. reach l c ≤ limit) depth low)
 
 -- LAW: a text string and what follows it aren't empty
 pub text_beyond : (p : Profile) (limit : ℕ) (text x : List ℕ) (at end stop : ℕ) → IsTokenAt p text at end (Text x Absent) → TokensBetween p text end stop [] → at < stop
-text_beyond p limit text x at end stop tok blank = omega (arith, beyond p text at end (Text x Absent) tok, few p text end stop [] (through p blank))
+text_beyond p limit text x at end stop tok white = omega (arith, beyond p text at end (Text x Absent) tok, few p text end stop [] (through p white))
 
 module _ (p : Profile) (limit : ℕ) (text : List ℕ) (here : Here) (w : Writer) (r : IsReading p limit text here w) where
   -- LAW: on with a text string in one piece
   pub text_taken : (are : AreBytes text) {x : List ℕ} → IsUtf8 x → (end stop : ℕ) → IsTokenAt p text here.at end (Text x Absent) → TokensBetween p text end stop [] → NoPieceAt text stop → (left : Writer) → SameButOut w left → left.out.items ≡ w.out.items ++ (head_bytes 3 (least (length x)) (length x) ++ x)
-      → (here.stand ≡ stands.Wants) ⊎ (here.stand ≡ stands.WantsMore) → IsReading p limit text (record here { at = stop; stand = stands.Has }) left
-  text_taken are {x} u end stop tok blank none left same new q = go (is_wants r.state (stood q))
+      → (here.phase ≡ phases.Wants) ⊎ (here.phase ≡ phases.WantsMore) → IsReading p limit text (record here { at = stop; phase = phases.Has }) left
+  text_taken are {x} u end stop tok white none left same new q = go (is_wants r.state (stood q))
     where
-      stood : (here.stand ≡ stands.Wants) ⊎ (here.stand ≡ stands.WantsMore) → (stand_of r.state ≡ stands.Wants) ⊎ (stand_of r.state ≡ stands.WantsMore)
-      stood (inl e) = inl (sym r.shows.stand ∙ e)
-      stood (inr e) = inr (sym r.shows.stand ∙ e)
+      stood : (here.phase ≡ phases.Wants) ⊎ (here.phase ≡ phases.WantsMore) → (phase_of r.state ≡ phases.Wants) ⊎ (phase_of r.state ≡ phases.WantsMore)
+      stood (inl e) = inl (sym r.shows.phase ∙ e)
+      stood (inr e) = inr (sym r.shows.phase ∙ e)
 
       a : Span
       a = record { start = here.at; stop = end }
@@ -179,7 +179,7 @@ module _ (p : Profile) (limit : ℕ) (text : List ℕ) (here : Here) (w : Writer
       t : Token
       t = token_at here.at end (Text x Absent)
 
-      go : (st : Stack) × (wants st ≡ r.state) → IsReading p limit text (record here { at = stop; stand = stands.Has }) left
+      go : (st : Stack) × (wants st ≡ r.state) → IsReading p limit text (record here { at = stop; phase = phases.Has }) left
       go (st, e) =
           let between : Between p text here.at end (t ∷ []) = through p tok in
           let there = between_modest p text here.at end (t ∷ []) are between in
@@ -187,22 +187,22 @@ module _ (p : Profile) (limit : ℕ) (text : List ℕ) (here : Here) (w : Writer
           let before = subst (λ (v : State). Reached p limit text here.at v) (sym e) r.reached in
           let shown = subst (λ (v : State). Shows here w w.out.items v) (sym e) r.shows in
           let string_read = goes_on p limit text here.at (wants st) before end t (builds (as_item st) (piece (piece_text a x Absent))) between modest refl (free_none p) (omega arith) in
-          let after = skips p limit text end (builds (as_item st) (piece (piece_text a x Absent))) string_read stop (through p blank) in
+          let after = skips p limit text end (builds (as_item st) (piece (piece_text a x Absent))) string_read stop (through p white) in
           let k = text_shown here w left st a x modest.0 u same new shown in
           record {
-            inside = omega (arith, (inside p text here.at end (t ∷ []) r.inside between).1, (inside p text end stop [] (inside p text here.at end (t ∷ []) r.inside between).1 (through p blank)).1);
+            inside = omega (arith, (inside p text here.at end (t ∷ []) r.inside between).1, (inside p text end stop [] (inside p text here.at end (t ∷ []) r.inside between).1 (through p white)).1);
             state = has st (text_item a x);
             reached = settled p limit text stop st (piece (piece_text a x Absent)) none after;
-            shows = record { stand = k.stand; level = k.level; count = k.count; frames = k.frames; around = k.around; string = k.string; chunks = k.chunks; simple = k.simple; slip = k.slip; out = k.out };
+            shows = record { phase = k.phase; level = k.level; count = k.count; brackets = k.brackets; around = k.around; string = k.string; chunks = k.chunks; simple = k.simple; error = k.error; out = k.out };
           }
 
-  -- no comma stands before it
-  pub end_free : (k : Kind) (n : ℕ) (x : List ℕ) → (here.stand ≡ stands.Has) ⊎ (here.stand ≡ stands.Wants) → forbids p (comma_at r.state (class_of k n x)) ≡ false
-  end_free k n x q = tight_free p r.state k n x (λ e. not_more q (r.shows.stand ∙ e))
+  -- it is no bracket after a comma
+  pub end_free : (k : Kind) (n : ℕ) (x : List ℕ) → (here.phase ≡ phases.Has) ⊎ (here.phase ≡ phases.Wants) → forbids p (comma_at r.state (class_of k n x)) ≡ false
+  end_free k n x q = tight_free p r.state k n x (λ e. not_more q (r.shows.phase ∙ e))
     where
-      not_more : (here.stand ≡ stands.Has) ⊎ (here.stand ≡ stands.Wants) → here.stand ≡ stands.WantsMore → ⊥
-      not_more (inl h) e = let bad : stands.Has ≡ stands.WantsMore = sym h ∙ e in cc
-      not_more (inr h) e = let bad : stands.Wants ≡ stands.WantsMore = sym h ∙ e in cc
+      not_more : (here.phase ≡ phases.Has) ⊎ (here.phase ≡ phases.Wants) → here.phase ≡ phases.WantsMore → ⊥
+      not_more (inl h) e = let bad : phases.Has ≡ phases.WantsMore = sym h ∙ e in cc
+      not_more (inr h) e = let bad : phases.Wants ≡ phases.WantsMore = sym h ∙ e in cc
 
   modest_of : (h : Home) (ps : Pieces) → builds h ps ≡ r.state → AreModest (tokens_of_pieces ps)
   modest_of h ps e = modest_right (held_home h) (tokens_of_pieces ps) (subst (λ (v : State). AreModest (held v)) (sym e) (subst AreModest (sym r.reached.held) r.reached.modest))
@@ -215,8 +215,8 @@ module _ (p : Profile) (limit : ℕ) (text : List ℕ) (here : Here) (w : Writer
     pub modest : AreModest (tokens_of_pieces ps)
     pub shows : Shows here w w.out.items (builds (as_item st) ps)
 
-  pub pieced : here.stand ≡ stands.Builds → has_chunks w.chunks ≡ false → Pieced
-  pieced q none = go (is_builds r.state (sym r.shows.stand ∙ q))
+  pub pieced : here.phase ≡ phases.Builds → has_chunks w.chunks ≡ false → Pieced
+  pieced q none = go (is_builds r.state (sym r.shows.phase ∙ q))
     where
       go : (h : Home) × (ps : Pieces) × (builds h ps ≡ r.state) → Pieced
       go (h, ps, e) =
@@ -235,8 +235,8 @@ module _ (p : Profile) (limit : ℕ) (text : List ℕ) (here : Here) (w : Writer
     pub modest : AreModest (tokens_of_pieces ps)
     pub shows : Shows here w w.out.items (builds (as_chunk st at b) ps)
 
-  pub chunked : here.stand ≡ stands.Builds → has_chunks w.chunks ≡ true → Chunked
-  chunked q some = go (is_builds r.state (sym r.shows.stand ∙ q))
+  pub chunked : here.phase ≡ phases.Builds → has_chunks w.chunks ≡ true → Chunked
+  chunked q some = go (is_builds r.state (sym r.shows.phase ∙ q))
     where
       go : (h : Home) × (ps : Pieces) × (builds h ps ≡ r.state) → Chunked
       go (h, ps, e) =
@@ -251,7 +251,7 @@ module _ (p : Profile) (limit : ℕ) (text : List ℕ) (here : Here) (w : Writer
     inside = r.inside;
     state = has k.st (string k.ps);
     reached = settled p limit text here.at k.st k.ps none (subst (λ (v : State). Reached p limit text here.at v) (sym k.is) r.reached);
-    shows = record { stand = e.stand; level = e.level; count = e.count; frames = e.frames; around = e.around; string = e.string; chunks = e.chunks; simple = e.simple; slip = e.slip; out = e.out };
+    shows = record { phase = e.phase; level = e.level; count = e.count; brackets = e.brackets; around = e.around; string = e.string; chunks = e.chunks; simple = e.simple; error = e.error; out = e.out };
   }
 
   -- LAW: on from a state with a token that is no bracket
@@ -259,5 +259,5 @@ module _ (p : Profile) (limit : ℕ) (text : List ℕ) (here : Here) (w : Writer
   turned are c stop tok next left s u e is shows bare low = taken_from p limit text here w r are c stop tok next left s u e is shows (ap (forbids p) bare ∙ free_none p) (low (open_levels s))
 
   -- the number of a simple value
-  pub simple_number : here.stand ≡ stands.HasNumber → HasNumber r.state
-  simple_number q = is_has_number r.state (sym r.shows.stand ∙ q)
+  pub simple_number : here.phase ≡ phases.HasNumber → HasNumber r.state
+  simple_number q = is_has_number r.state (sym r.shows.phase ∙ q)

@@ -7,7 +7,7 @@ use Rattle.std.specs.List.{list_all, list_any, flat_map}
 use Rattle.std.specs.Char.{is_digit, digit_value}
 use Rattle.std.specs.Str.{IsUtf8}
 use Rattle.cborn_lex.specs.Strings.{IsText, is_escape, escape_code, are_hex, code, is_high, is_low, paired}
-use Rattle.cborn_lex.specs.shared.Letters.{Letter, raw, escaped, unit, pair, written, meant, is_letter}
+use Rattle.cborn_lex.specs.devices.Letters.{Letter, raw, escaped, unit, pair, written, meant, is_letter}
 use Rattle.cborn_lex.proofs.Contents.Lettered.{has_letters}
 use lib.Utf8.{encode, scalar, scalars}
 

@@ -1,4 +1,4 @@
--- What is written where heads are made the shortest: nodes, entries and chunks one by one.
+-- What is written if heads are the shortest: of nodes, pairs and chunks.
 use Rattle.std.proofs.Common.{◌≡◌, refl, sym, ap, ap₂, ◌∙◌, ℕ, suc, List, [], ◌∷◌, ◌++◌, length, Bool, true, false, ◌&&◌, arith}
 use Rattle.std.specs.Prelude.{if◌then◌else◌}
 use Rattle.std.specs.List.{flat_map}
@@ -7,9 +7,9 @@ use Rattle.cborn_model.specs.declared.nodes.Chunk.{Chunk}
 use Rattle.cborn_model.specs.declared.heads.Major.{Major}
 use Rattle.cborn_model.specs.declared.heads.Major.TheVariants.{Unsigned, Negative, ByteString, TextString, Array, Map, Tag, Other}
 use Rattle.cborn_model.specs.declared.heads.Size.{Size}
-use Rattle.cborn_model.specs.declared.heads.Size.TheVariants.{Fixed, Endless as Unending}
+use Rattle.cborn_model.specs.declared.heads.Size.TheVariants.{Fixed, Endless as EndlessMark}
 use Rattle.cborn_model.specs.declared.heads.Width.TheVariants.{Direct}
-use Rattle.cborn_model.specs.Heads.{Given, Unbounded, head, argument, least}
+use Rattle.cborn_model.specs.Heads.{Given, EndlessArgument, head, argument, least}
 use Rattle.cborn_model.specs.Tree.{Tree, Uint, Nint, Bytes as ByteNode, Text as TextNode, ByteChunks, TextChunks, Items, Pairs, Tagged, Simple, Trees, no_item as no_node, more, Entries, no_entry, entry, count, count_entries}
 use Rattle.cborn_model.specs.Spelled.{ending, chunk_bytes, spelled, spelled_all, spelled_entries}
 use Rattle.cborn_lex.specs.declared.classes.Mark.{Mark}
@@ -18,7 +18,7 @@ use Rattle.cborn_edn.specs.declared.strings.StringKind.{StringKind}
 use Rattle.cborn_edn.specs.declared.strings.StringKind.TheVariants.{Bytes as OfBytes, Text as OfText}
 use Rattle.cborn_edn.specs.Says.{width, size, is_below, is_small, argument_of, number_node, is_endless, Str, chunk, chunked_node, string_node, said_string}
 use Rattle.cborn_edn.specs.Shortened.{chunks_shortened, size_shortened, shortened, all_shortened, entries_shortened}
-use Rattle.cborn_edn.specs.shared.Meaning.{snoc, snoc_entry}
+use Rattle.cborn_edn.specs.devices.Meaning.{snoc, snoc_entry}
 use Rattle.cborn_edn.proofs.Grammar.Machine.{Stack, in_row, in_key, in_value, in_tag, Nest, at_top, in_array, in_embed}
 use Rattle.cborn_edn.specs.declared.states.Heads.{Heads}
 use Rattle.cborn_edn.specs.declared.states.Heads.TheVariants.{AsWritten, Shortest}
@@ -26,7 +26,7 @@ use Rattle.cborn_edn.specs.devices.Laid.{place_of}
 use Rattle.cborn_edn.specs.devices.Kept.{arounds_of, arounds_nest}
 use Rattle.cborn_edn.specs.devices.Written.{heads_in, heads_at, heads_nest, written_mark, chunk_as, chunks_as, node_as, nodes_as, entries_as}
 
--- how heads are written is seen by what stands around each `<<`
+-- what is kept around each `<<` decides how heads are written
 mutual
   pub in_around : (k : Heads) (st : Stack) → heads_in k (arounds_of k st) ≡ heads_at k st
   in_around k (in_row n b) = in_nest k n

@@ -7,7 +7,7 @@ use Rattle.std.proofs.lemmas.Bool.{lt-ltb}
 use Rattle.cborn_model.specs.declared.heads.Width.{Width}
 use Rattle.cborn_model.specs.declared.heads.Width.TheVariants.{Direct, One, Two, Four, Eight}
 use Rattle.cborn_model.specs.declared.heads.Size.{Size}
-use Rattle.cborn_model.specs.declared.heads.Size.TheVariants.{Fixed, Endless as Unending}
+use Rattle.cborn_model.specs.declared.heads.Size.TheVariants.{Fixed, Endless as EndlessMark}
 use Rattle.cborn_model.specs.declared.nodes.Chunk.{Chunk}
 use Rattle.cborn_model.specs.Tree.{Tree, Uint, Nint, Bytes as ByteNode, Text as TextNode, ByteChunks, TextChunks, Items, Pairs as PairNode, Tagged, Simple, Trees, no_item as no_node, more, Entries, no_entry, entry, count, count_entries, depth as node_depth, depth_all, depth_entries}
 use Rattle.cborn_model.specs.declared.heads.Major.TheVariants.{ByteString, TextString}
@@ -18,8 +18,8 @@ use Rattle.cborn_wire.specs.shared.Machine.{append_trees}
 use Rattle.cborn_wire.proofs.Machine.TakesItems.{append_trees-nil, append_entries, append_entries-nil}
 use Rattle.cborn_lex.specs.declared.classes.Mark.{Mark}
 use Rattle.cborn_lex.specs.declared.classes.Mark.TheVariants.{Absent, Endless, Wide}
-use Rattle.cborn_edn.specs.shared.Syntax.{Item, word, simple, string, Pieces, strings, StringsBefore, no_string, after_strings, row, RowBefore, no_item, after_row, pairs, PairsBefore, no_pair, after_pairs, depth, depth_of_strings, depth_of_strings_before, depth_of_row, depth_of_row_before, depth_of_content, depth_of_pairs, depth_of_pairs_before, depth_of_fields, depth_of_input}
-use Rattle.cborn_edn.specs.shared.Meaning.{and_then, when, width_for, size_for, snoc, snoc_entry, kind, place, is_good, string_node, chunked_node, marked_string, means_chunk, kind_of_strings, kind_after, same_kind, means, joined, means_strings, means_strings_before, means_row, means_row_before, means_content, means_pairs, means_pairs_before, means_fields, Says}
+use Rattle.cborn_edn.specs.devices.Syntax.{Item, word, simple, string, Pieces, strings, StringsBefore, no_string, after_strings, row, RowBefore, no_item, after_row, pairs, PairsBefore, no_pair, after_pairs, depth, depth_of_strings, depth_of_strings_before, depth_of_row, depth_of_row_before, depth_of_content, depth_of_pairs, depth_of_pairs_before, depth_of_fields, depth_of_input}
+use Rattle.cborn_edn.specs.devices.Meaning.{and_then, when, width_for, size_for, snoc, snoc_entry, kind, place, is_good, string_node, chunked_node, marked_string, means_chunk, kind_of_strings, kind_after, same_kind, means, joined, means_strings, means_strings_before, means_row, means_row_before, means_content, means_pairs, means_pairs_before, means_fields, Says}
 use Rattle.cborn_edn.specs.declared.strings.StringKind.{StringKind}
 use Rattle.cborn_edn.specs.declared.strings.StringKind.TheVariants.{Bytes as OfBytes, Text as OfText}
 use Rattle.cborn_edn.specs.ReadingBack.{nowhere, one_piece, chunk_pieces, chunk_row, chunk_item, simple_item, notated, notated_content, notated_row, notated_fields, notated_pairs, notated_input, unplaced_chunks, unplaced, unplaced_all, unplaced_entries}
@@ -66,7 +66,7 @@ size_wide w n h = go (as_long w (least n) n) refl
     go false e = rw (holds_true w n h) refl
 
 size_back : (s : Size) (n k : ℕ) → k ≡ n → SizeFits s n → size_for (mark_for_size s n) k ≡ Some s
-size_back Unending n k e h = refl
+size_back EndlessMark n k e h = refl
 size_back (Fixed w) n k e h = ap (size_for (mark_for w n)) e ∙ size_wide w n h
 
 pub marked_back : (m : Mark) (ps : Pieces) (x : List ℕ) (w : Width) → width_for m (length x) ≡ Some w → marked_string m ps x ≡ Some (string_node (kind ps) (place ps) w x)

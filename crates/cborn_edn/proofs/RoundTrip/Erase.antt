@@ -4,8 +4,8 @@ use Rattle.std.specs.Prelude.{map as list_map}
 use Rattle.cborn_lex.specs.declared.classes.Class.{Class}
 use Rattle.cborn_lex.specs.declared.classes.Class.TheVariants.{EmbedClose, ArrayClose, MapClose, ParenClose, Comma, Colon, EmbedOpen, Number, Text as TextToken, Bytes as BytesToken}
 use Rattle.cborn_lex.specs.declared.classes.Token.{Token}
-use Rattle.cborn_edn.specs.shared.Syntax.{Span, Item, number, word, tag, simple, string, chunked, array, map as map_item, Piece, text, bytes, embedded, Pieces, piece, also, Strings, strings, StringsBefore, no_string, after_strings, Row, row, RowBefore, no_item, after_row, Content, loose, tight, Pairs, pairs, PairsBefore, no_pair, after_pairs, Fields, loose_fields, tight_fields, Input, nothing, items, tokens_of_input}
-use Rattle.cborn_edn.specs.ReadingBack.{bare, nowhere}
+use Rattle.cborn_edn.specs.devices.Syntax.{Span, Item, number, word, tag, simple, string, chunked, array, map as map_item, Piece, text, bytes, embedded, Pieces, piece, also, Strings, strings, StringsBefore, no_string, after_strings, Row, row, RowBefore, no_item, after_row, Content, loose, tight, Pairs, pairs, PairsBefore, no_pair, after_pairs, Fields, loose_fields, tight_fields, Input, nothing, items, tokens_of_input}
+use Rattle.cborn_edn.specs.ReadingBack.{unplaced_token, nowhere}
 use Rattle.cborn_edn.proofs.Grammar.Machine.{Stack, in_row, in_key, in_value, in_tag, Nest, at_top, in_array, in_embed, Home, as_item, as_chunk, State, wants, has, builds, wants_chunk, wants_number, has_number, start, with_piece, ends, ends_loose, begin, after, after_string, more_string, step_by, on, run}
 use Rattle.cborn_edn.proofs.Grammar.Takes.{whole, finish, finish-whole}
 use Rattle.cborn_edn.proofs.Grammar.OneTree.{takes_all, held_by, ends_tree, IfTree, Ended}
@@ -74,99 +74,99 @@ erase_before None = None
 erase_before (Some ps) = Some (erase_pieces ps)
 
 abbrev mutual
-  bare_stack : Stack → Stack
-  bare_stack (in_row n b) = in_row (bare_nest n) (erase_row_before b)
-  bare_stack (in_key st s m b) = in_key (bare_stack st) nowhere m (erase_pairs_before b)
-  bare_stack (in_value st s m b k c) = in_value (bare_stack st) nowhere m (erase_pairs_before b) (erase k) nowhere
-  bare_stack (in_tag st s n m) = in_tag (bare_stack st) nowhere n m
+  erase_stack : Stack → Stack
+  erase_stack (in_row n b) = in_row (erase_nest n) (erase_row_before b)
+  erase_stack (in_key st s m b) = in_key (erase_stack st) nowhere m (erase_pairs_before b)
+  erase_stack (in_value st s m b k c) = in_value (erase_stack st) nowhere m (erase_pairs_before b) (erase k) nowhere
+  erase_stack (in_tag st s n m) = in_tag (erase_stack st) nowhere n m
 
-  bare_nest : Nest → Nest
-  bare_nest at_top = at_top
-  bare_nest (in_array st s m) = in_array (bare_stack st) nowhere m
-  bare_nest (in_embed h b s) = in_embed (bare_home h) (erase_before b) nowhere
+  erase_nest : Nest → Nest
+  erase_nest at_top = at_top
+  erase_nest (in_array st s m) = in_array (erase_stack st) nowhere m
+  erase_nest (in_embed h b s) = in_embed (erase_home h) (erase_before b) nowhere
 
-  bare_home : Home → Home
-  bare_home (as_item st) = as_item (bare_stack st)
-  bare_home (as_chunk st s b) = as_chunk (bare_stack st) nowhere (erase_strings_before b)
+  erase_home : Home → Home
+  erase_home (as_item st) = as_item (erase_stack st)
+  erase_home (as_chunk st s b) = as_chunk (erase_stack st) nowhere (erase_strings_before b)
 
-abbrev bare_state : State → State
-bare_state (wants st) = wants (bare_stack st)
-bare_state (has st i) = has (bare_stack st) (erase i)
-bare_state (builds h ps) = builds (bare_home h) (erase_pieces ps)
-bare_state (wants_chunk st s b) = wants_chunk (bare_stack st) nowhere (erase_strings_before b)
-bare_state (wants_number st s) = wants_number (bare_stack st) nowhere
-bare_state (has_number st s b n v m) = has_number (bare_stack st) nowhere nowhere n v m
+abbrev erase_state : State → State
+erase_state (wants st) = wants (erase_stack st)
+erase_state (has st i) = has (erase_stack st) (erase i)
+erase_state (builds h ps) = builds (erase_home h) (erase_pieces ps)
+erase_state (wants_chunk st s b) = wants_chunk (erase_stack st) nowhere (erase_strings_before b)
+erase_state (wants_number st s) = wants_number (erase_stack st) nowhere
+erase_state (has_number st s b n v m) = has_number (erase_stack st) nowhere nowhere n v m
 
 with-erased : (b : Option Pieces) (p : Piece) → with_piece (erase_before b) (erase_piece p) ≡ erase_pieces (with_piece b p)
 with-erased None p = refl
 with-erased (Some ps) p = refl
 
-ends-bare : (n : Nest) (c : Content) (e : Class) (a : Span) → ends (bare_nest n) (erase_content c) e nowhere ≡ opt_map bare_state (ends n c e a)
-ends-bare (in_array st s m) c ArrayClose a = refl
-ends-bare (in_embed h b s) c (EmbedClose m) a = ap (λ ps. Some (builds (bare_home h) ps)) (with-erased b (embedded s c a m))
-ends-bare _ _ _ _ = refl
+ends-erased : (n : Nest) (c : Content) (e : Class) (a : Span) → ends (erase_nest n) (erase_content c) e nowhere ≡ opt_map erase_state (ends n c e a)
+ends-erased (in_array st s m) c ArrayClose a = refl
+ends-erased (in_embed h b s) c (EmbedClose m) a = ap (λ ps. Some (builds (erase_home h) ps)) (with-erased b (embedded s c a m))
+ends-erased _ _ _ _ = refl
 
-ends_loose-bare : (st : Stack) (e : Class) (a : Span) → ends_loose (bare_stack st) e nowhere ≡ opt_map bare_state (ends_loose st e a)
-ends_loose-bare (in_row n b) e a = ends-bare n (loose b) e a
-ends_loose-bare (in_key st s m b) MapClose a = refl
-ends_loose-bare (in_key st s m b) _ a = refl
-ends_loose-bare (in_value st s m b k c) e a = refl
-ends_loose-bare (in_tag st s n m) e a = refl
+ends_loose-erased : (st : Stack) (e : Class) (a : Span) → ends_loose (erase_stack st) e nowhere ≡ opt_map erase_state (ends_loose st e a)
+ends_loose-erased (in_row n b) e a = ends-erased n (loose b) e a
+ends_loose-erased (in_key st s m b) MapClose a = refl
+ends_loose-erased (in_key st s m b) _ a = refl
+ends_loose-erased (in_value st s m b k c) e a = refl
+ends_loose-erased (in_tag st s n m) e a = refl
 
-begin-bare : (st : Stack) (e : Class) (a : Span) → begin (bare_stack st) e nowhere ≡ opt_map bare_state (begin st e a)
-begin-bare st ArrayClose a = ends_loose-bare st ArrayClose a
-begin-bare st MapClose a = ends_loose-bare st MapClose a
-begin-bare st (EmbedClose m) a = ends_loose-bare st (EmbedClose m) a
-begin-bare st _ a = refl
+begin-erased : (st : Stack) (e : Class) (a : Span) → begin (erase_stack st) e nowhere ≡ opt_map erase_state (begin st e a)
+begin-erased st ArrayClose a = ends_loose-erased st ArrayClose a
+begin-erased st MapClose a = ends_loose-erased st MapClose a
+begin-erased st (EmbedClose m) a = ends_loose-erased st (EmbedClose m) a
+begin-erased st _ a = refl
 
-after-bare : (st : Stack) (i : Item) (e : Class) (a : Span) → after (bare_stack st) (erase i) e nowhere ≡ opt_map bare_state (after st i e a)
-after-bare (in_row n b) i Comma a = refl
-after-bare (in_row n b) i e a = ends-bare n (tight (row b i)) e a
-after-bare (in_key st s m b) i Colon a = refl
-after-bare (in_key st s m b) i _ a = refl
-after-bare (in_value st s m b k c) i Comma a = refl
-after-bare (in_value st s m b k c) i _ a = refl
-after-bare (in_tag st s n m) i ParenClose a = refl
-after-bare (in_tag st s n m) i _ a = refl
+after-erased : (st : Stack) (i : Item) (e : Class) (a : Span) → after (erase_stack st) (erase i) e nowhere ≡ opt_map erase_state (after st i e a)
+after-erased (in_row n b) i Comma a = refl
+after-erased (in_row n b) i e a = ends-erased n (tight (row b i)) e a
+after-erased (in_key st s m b) i Colon a = refl
+after-erased (in_key st s m b) i _ a = refl
+after-erased (in_value st s m b k c) i Comma a = refl
+after-erased (in_value st s m b k c) i _ a = refl
+after-erased (in_tag st s n m) i ParenClose a = refl
+after-erased (in_tag st s n m) i _ a = refl
 
-after_string-bare : (h : Home) (ps : Pieces) (e : Class) (a : Span) → after_string (bare_home h) (erase_pieces ps) e nowhere ≡ opt_map bare_state (after_string h ps e a)
-after_string-bare (as_item st) ps e a = after-bare st (string ps) e a
-after_string-bare (as_chunk st s b) ps Comma a = refl
-after_string-bare (as_chunk st s b) ps _ a = refl
+after_string-erased : (h : Home) (ps : Pieces) (e : Class) (a : Span) → after_string (erase_home h) (erase_pieces ps) e nowhere ≡ opt_map erase_state (after_string h ps e a)
+after_string-erased (as_item st) ps e a = after-erased st (string ps) e a
+after_string-erased (as_chunk st s b) ps Comma a = refl
+after_string-erased (as_chunk st s b) ps _ a = refl
 
-more_string-bare : (h : Home) (ps : Pieces) (e : Class) (a : Span) → more_string (bare_home h) (erase_pieces ps) e nowhere ≡ opt_map bare_state (more_string h ps e a)
-more_string-bare h ps (TextToken x m) a = refl
-more_string-bare h ps (BytesToken q x m) a = refl
-more_string-bare h ps EmbedOpen a = refl
-more_string-bare h ps e a = after_string-bare h ps e a
+more_string-erased : (h : Home) (ps : Pieces) (e : Class) (a : Span) → more_string (erase_home h) (erase_pieces ps) e nowhere ≡ opt_map erase_state (more_string h ps e a)
+more_string-erased h ps (TextToken x m) a = refl
+more_string-erased h ps (BytesToken q x m) a = refl
+more_string-erased h ps EmbedOpen a = refl
+more_string-erased h ps e a = after_string-erased h ps e a
 
-step-bare : (s : State) (e : Class) (a : Span) → step_by (bare_state s) e nowhere ≡ opt_map bare_state (step_by s e a)
-step-bare (wants st) e a = begin-bare st e a
-step-bare (has st i) e a = after-bare st i e a
-step-bare (builds h ps) e a = more_string-bare h ps e a
-step-bare (wants_chunk st s b) EmbedOpen a = refl
-step-bare (wants_chunk st s b) _ a = refl
-step-bare (wants_number st s) (Number n v m) a = refl
-step-bare (wants_number st s) _ a = refl
-step-bare (has_number st s b n v m) ParenClose a = refl
-step-bare (has_number st s b n v m) _ a = refl
+step-erased : (s : State) (e : Class) (a : Span) → step_by (erase_state s) e nowhere ≡ opt_map erase_state (step_by s e a)
+step-erased (wants st) e a = begin-erased st e a
+step-erased (has st i) e a = after-erased st i e a
+step-erased (builds h ps) e a = more_string-erased h ps e a
+step-erased (wants_chunk st s b) EmbedOpen a = refl
+step-erased (wants_chunk st s b) _ a = refl
+step-erased (wants_number st s) (Number n v m) a = refl
+step-erased (wants_number st s) _ a = refl
+step-erased (has_number st s b n v m) ParenClose a = refl
+step-erased (has_number st s b n v m) _ a = refl
 
-on-bare : (o : Option State) (t : Token) → on (opt_map bare_state o) (bare t) ≡ opt_map bare_state (on o t)
-on-bare None t = refl
-on-bare (Some s) t = step-bare s t.class (record { start = t.start; stop = t.stop })
+on-erased : (o : Option State) (t : Token) → on (opt_map erase_state o) (unplaced_token t) ≡ opt_map erase_state (on o t)
+on-erased None t = refl
+on-erased (Some s) t = step-erased s t.class (record { start = t.start; stop = t.stop })
 
-pub run-bare : (ts : List Token) (o : Option State) → run (list_map bare ts) (opt_map bare_state o) ≡ opt_map bare_state (run ts o)
-run-bare [] o = refl
-run-bare (t ∷ ts) o = ap (run (list_map bare ts)) (on-bare o t) ∙ run-bare ts (on o t)
+pub run-erased : (ts : List Token) (o : Option State) → run (list_map unplaced_token ts) (opt_map erase_state o) ≡ opt_map erase_state (run ts o)
+run-erased [] o = refl
+run-erased (t ∷ ts) o = ap (run (list_map unplaced_token ts)) (on-erased o t) ∙ run-erased ts (on o t)
 
-finish-bare : (s : State) → finish (bare_state s) ≡ opt_map erase_input (finish s)
-finish-bare (wants (in_row at_top no_item)) = refl
-finish-bare (has (in_row at_top b) i) = refl
-finish-bare (builds (as_item (in_row at_top b)) ps) = refl
-finish-bare _ = refl
+finish-erased : (s : State) → finish (erase_state s) ≡ opt_map erase_input (finish s)
+finish-erased (wants (in_row at_top no_item)) = refl
+finish-erased (has (in_row at_top b) i) = refl
+finish-erased (builds (as_item (in_row at_top b)) ps) = refl
+finish-erased _ = refl
 
 -- a tree with the tokens whose classes are those of a tree
-pub record Retold (ts : List Token) (v : Input) : Type 0 where
+pub record HasTreeOf (ts : List Token) (v : Input) : Type 0 where
   pub tree : Input
   pub is : tokens_of_input tree ≡ ts
   pub same : erase_input tree ≡ v
@@ -174,13 +174,13 @@ pub record Retold (ts : List Token) (v : Input) : Type 0 where
 pub clash : {A B : Type 0} {x : A} → None ≡ Some x → B
 clash e = cc
 
-pub retold : (ts : List Token) (v : Input) → list_map bare ts ≡ tokens_of_input v → Retold ts v
-retold ts v e = go (run ts (Some start)) refl (sym (run-bare ts (Some start)) ∙ ap (λ l. run l (Some start)) e ∙ takes_all v)
+pub tree_of : (ts : List Token) (v : Input) → list_map unplaced_token ts ≡ tokens_of_input v → HasTreeOf ts v
+tree_of ts v e = go (run ts (Some start)) refl (sym (run-erased ts (Some start)) ∙ ap (λ l. run l (Some start)) e ∙ takes_all v)
   where
-    go : (o : Option State) → run ts (Some start) ≡ o → opt_map bare_state o ≡ Some (whole v) → Retold ts v
+    go : (o : Option State) → run ts (Some start) ≡ o → opt_map erase_state o ≡ Some (whole v) → HasTreeOf ts v
     go None f g = clash g
-    go (Some s) f g = told (finish s) (ends_tree s) (sym (finish-bare s) ∙ ap finish (same_Some _ _ g) ∙ finish-whole v)
+    go (Some s) f g = with_tree (finish s) (ends_tree s) (sym (finish-erased s) ∙ ap finish (same_Some _ _ g) ∙ finish-whole v)
       where
-        told : (o : Option Input) → IfTree o (Ended s) → opt_map erase_input o ≡ Some v → Retold ts v
-        told None h k = clash k
-        told (Some u) h k = record { tree = u; is = h.is ∙ held_by ts s f; same = same_Some _ _ k }
+        with_tree : (o : Option Input) → IfTree o (Ended s) → opt_map erase_input o ≡ Some v → HasTreeOf ts v
+        with_tree None h k = clash k
+        with_tree (Some u) h k = record { tree = u; is = h.is ∙ held_by ts s f; same = same_Some _ _ k }

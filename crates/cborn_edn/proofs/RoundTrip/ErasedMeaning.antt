@@ -8,9 +8,9 @@ use Rattle.cborn_model.specs.Tree.{Tree, Bytes as ByteNode, Items, Pairs as Pair
 use Rattle.cborn_model.specs.Spelled.{spelled_all}
 use Rattle.cborn_lex.specs.declared.classes.Mark.{Mark}
 use Rattle.cborn_lex.specs.declared.classes.Mark.TheVariants.{Absent, Endless, Wide}
-use Rattle.cborn_edn.specs.shared.Syntax.{Item, number, word, tag, simple, string, chunked, array, map as map_item, Piece, text, bytes, embedded, Pieces, piece, also, Strings, strings, StringsBefore, no_string, after_strings, Row, row, RowBefore, no_item, after_row, Content, loose, tight, Pairs, pairs, PairsBefore, no_pair, after_pairs, Fields, loose_fields, tight_fields, Input, nothing, items, argument_of, depth, depth_of_piece, depth_of_pieces, depth_of_strings, depth_of_strings_before, depth_of_row, depth_of_row_before, depth_of_content, depth_of_pairs, depth_of_pairs_before, depth_of_fields, depth_of_input, is_below}
-use Rattle.cborn_edn.specs.shared.Commas.{commas, commas_of_piece, commas_of_pieces, commas_of_strings, commas_of_strings_before, commas_of_row, commas_of_row_before, commas_of_content, commas_of_pairs, commas_of_pairs_before, commas_of_fields, last_comma, last_pair_comma, commas_of_input}
-use Rattle.cborn_edn.specs.shared.Meaning.{and_then, when, width_for, size_for, snoc, snoc_entry, means_number, is_simple, kind, place, last_piece, mark_of, is_string, string_node, chunked_node, marked_string, means_string, means_chunk, kind_of_strings, kind_after, same_kind, means, joined, means_strings, means_strings_before, means_row, means_row_before, means_content, means_pairs, means_pairs_before, means_fields, means_input, joined_piece, start_of, kind_of, is_of_kind, is_bare, is_bare_before, fits_kind, is_empty_quote, integer, bignum, is_absent}
+use Rattle.cborn_edn.specs.devices.Syntax.{Item, number, word, tag, simple, string, chunked, array, map as map_item, Piece, text, bytes, embedded, Pieces, piece, also, Strings, strings, StringsBefore, no_string, after_strings, Row, row, RowBefore, no_item, after_row, Content, loose, tight, Pairs, pairs, PairsBefore, no_pair, after_pairs, Fields, loose_fields, tight_fields, Input, nothing, items, argument_of, depth, depth_of_piece, depth_of_pieces, depth_of_strings, depth_of_strings_before, depth_of_row, depth_of_row_before, depth_of_content, depth_of_pairs, depth_of_pairs_before, depth_of_fields, depth_of_input, is_below}
+use Rattle.cborn_edn.specs.devices.Commas.{commas, commas_of_piece, commas_of_pieces, commas_of_strings, commas_of_strings_before, commas_of_row, commas_of_row_before, commas_of_content, commas_of_pairs, commas_of_pairs_before, commas_of_fields, last_comma, last_pair_comma, commas_of_input}
+use Rattle.cborn_edn.specs.devices.Meaning.{and_then, when, width_for, size_for, snoc, snoc_entry, means_number, is_simple, kind, place, last_piece, mark_of, is_string, string_node, chunked_node, marked_string, means_string, means_chunk, kind_of_strings, kind_after, same_kind, means, joined, means_strings, means_strings_before, means_row, means_row_before, means_content, means_pairs, means_pairs_before, means_fields, means_input, joined_piece, start_of, kind_of, is_of_kind, all_absent, all_absent_before, piece_may_join, is_empty_quote, integer, bignum, is_absent}
 use Rattle.cborn_edn.specs.declared.strings.StringKind.{StringKind}
 use Rattle.cborn_edn.specs.declared.strings.StringKind.TheVariants.{Bytes as OfBytes, Text as OfText}
 use Rattle.cborn_edn.specs.ReadingBack.{unplaced_chunks, unplaced, unplaced_all, unplaced_entries}
@@ -156,21 +156,21 @@ last_mark-erased : (ps : Pieces) → mark_of (last_piece (erase_pieces ps)) ≡ 
 last_mark-erased (piece p) = mark_of-erased p
 last_mark-erased (also ps p) = mark_of-erased p
 
-bare-erased : (ps : Pieces) → is_bare (erase_pieces ps) ≡ is_bare ps
-bare-erased (piece p) = ap is_absent (mark_of-erased p)
-bare-erased (also ps p) = rw (bare-erased ps, mark_of-erased p) refl
+absent-erased : (ps : Pieces) → all_absent (erase_pieces ps) ≡ all_absent ps
+absent-erased (piece p) = ap is_absent (mark_of-erased p)
+absent-erased (also ps p) = rw (absent-erased ps, mark_of-erased p) refl
 
-bare_before-erased : (ps : Pieces) → is_bare_before (erase_pieces ps) ≡ is_bare_before ps
-bare_before-erased (piece p) = refl
-bare_before-erased (also ps p) = bare-erased ps
+absent_before-erased : (ps : Pieces) → all_absent_before (erase_pieces ps) ≡ all_absent_before ps
+absent_before-erased (piece p) = refl
+absent_before-erased (also ps p) = absent-erased ps
 
-fits_kind-erased : (k : StringKind) (p : Piece) → fits_kind k (erase_piece p) ≡ fits_kind k p
-fits_kind-erased OfText p = refl
-fits_kind-erased OfBytes p = ap (λ k. same_kind k OfBytes) (kind_of-erased p)
+piece_may_join-erased : (k : StringKind) (p : Piece) → piece_may_join k (erase_piece p) ≡ piece_may_join k p
+piece_may_join-erased OfText p = refl
+piece_may_join-erased OfBytes p = ap (λ k. same_kind k OfBytes) (kind_of-erased p)
 
 of_kind-erased : (k : StringKind) (ps : Pieces) → is_of_kind k (erase_pieces ps) ≡ is_of_kind k ps
-of_kind-erased k (piece p) = fits_kind-erased k p
-of_kind-erased k (also ps p) = rw (of_kind-erased k ps, fits_kind-erased k p) refl
+of_kind-erased k (piece p) = piece_may_join-erased k p
+of_kind-erased k (also ps p) = rw (of_kind-erased k ps, piece_may_join-erased k p) refl
 
 empty-erased : (ps : Pieces) → is_empty_quote (erase_pieces ps) ≡ is_empty_quote ps
 empty-erased (piece (text at [] m)) = refl
@@ -182,7 +182,7 @@ empty-erased (piece (embedded at c end m)) = refl
 empty-erased (also ps p) = refl
 
 is_string-erased : (ps : Pieces) (x : List ℕ) → is_string (erase_pieces ps) x ≡ is_string ps x
-is_string-erased ps x = rw (kind-erased ps, bare_before-erased ps, of_kind-erased (kind ps) ps) refl
+is_string-erased ps x = rw (kind-erased ps, absent_before-erased ps, of_kind-erased (kind ps) ps) refl
 
 unplaced_string : (k : StringKind) (p : ℕ) (w : Width) (x : List ℕ) → unplaced (string_node k p w x) ≡ string_node k 0 w x
 unplaced_string OfBytes p w x = refl

@@ -6,8 +6,8 @@ use Rattle.cborn_model.specs.Spelled.{FitsAll, spelled_all}
 use Rattle.cborn_lex.specs.declared.classes.Profile.{Profile}
 use Rattle.cborn_lex.specs.declared.classes.Token.{Token}
 use Rattle.cborn_lex.specs.Lex.{Lex}
-use Rattle.cborn_edn.specs.shared.Syntax.{tokens_of_input}
-use Rattle.cborn_edn.specs.ReadingBack.{bare, notated_input, unplaced_all}
+use Rattle.cborn_edn.specs.devices.Syntax.{tokens_of_input}
+use Rattle.cborn_edn.specs.ReadingBack.{unplaced_token, notated_input, unplaced_all}
 use Rattle.cborn_edn.specs.Shown.{Shown, shown_lines}
 use Rattle.cborn_edn.specs.devices.Notates.{Notates}
 use Rattle.cborn_edn.proofs.Lexed.Chained.{HasBare, whole_text}
@@ -15,7 +15,7 @@ use Rattle.cborn_edn.proofs.Lexed.NodeTexts.{lines_text}
 use Rattle.cborn_edn.proofs.Shown.Readable.{lines_show}
 use Rattle.cborn_edn.proofs.RoundTrip.Retelling.{reads_same}
 
-pub shown_tokens : (profile : Profile) (nodes : Trees) (text : List ℕ) → FitsAll nodes → Shown nodes text → (tokens : List Token) × Lex profile text tokens × (list_map bare tokens ≡ tokens_of_input (notated_input nodes))
+pub shown_tokens : (profile : Profile) (nodes : Trees) (text : List ℕ) → FitsAll nodes → Shown nodes text → (tokens : List Token) × Lex profile text tokens × (list_map unplaced_token tokens ≡ tokens_of_input (notated_input nodes))
 shown_tokens profile nodes text fits shown = subst (λ (x : List ℕ). HasBare profile x (tokens_of_input (notated_input nodes))) (sym shown.1) (whole_text profile (shown_lines nodes) (tokens_of_input (notated_input nodes)) (lines_text nodes [] fits))
 
 -- LAW: what was shown reads back

@@ -8,17 +8,17 @@ use Rattle.cborn_lex.specs.declared.classes.Mark.TheVariants.{Absent}
 use Rattle.cborn_lex.specs.declared.classes.Token.{Token}
 use Rattle.cborn_lex.specs.declared.classes.Profile.{Profile}
 use Rattle.cborn_lex.specs.declared.classes.Profile.TheVariants.{One as ProfileOne, Two as ProfileTwo}
-use Rattle.cborn_edn.specs.shared.Syntax.{Item, word, simple, strings, StringsBefore, no_string, after_strings, row, RowBefore, no_item, after_row, pairs, PairsBefore, no_pair, after_pairs, tokens_of_input, depth_of_input}
-use Rattle.cborn_edn.specs.shared.Commas.{commas, commas_of_strings, commas_of_strings_before, commas_of_row, commas_of_row_before, commas_of_content, commas_of_pairs, commas_of_pairs_before, commas_of_fields, commas_of_input, AllowsCount}
-use Rattle.cborn_edn.specs.shared.Meaning.{means_input}
+use Rattle.cborn_edn.specs.devices.Syntax.{Item, word, simple, strings, StringsBefore, no_string, after_strings, row, RowBefore, no_item, after_row, pairs, PairsBefore, no_pair, after_pairs, tokens_of_input, depth_of_input}
+use Rattle.cborn_edn.specs.devices.Commas.{commas, commas_of_strings, commas_of_strings_before, commas_of_row, commas_of_row_before, commas_of_content, commas_of_pairs, commas_of_pairs_before, commas_of_fields, commas_of_input, AllowsCount}
+use Rattle.cborn_edn.specs.devices.Meaning.{means_input}
 use Rattle.cborn_edn.specs.declared.strings.StringKind.{StringKind}
 use Rattle.cborn_edn.specs.declared.strings.StringKind.TheVariants.{Bytes as OfBytes, Text as OfText}
-use Rattle.cborn_edn.specs.ReadingBack.{bare, ReadsBack, nowhere, chunk_pieces, chunk_row, chunk_item, simple_item, notated, notated_content, notated_row, notated_fields, notated_pairs, notated_input, unplaced_all}
+use Rattle.cborn_edn.specs.ReadingBack.{unplaced_token, ReadsBack, nowhere, chunk_pieces, chunk_row, chunk_item, simple_item, notated, notated_content, notated_row, notated_fields, notated_pairs, notated_input, unplaced_all}
 use Rattle.cborn_edn.specs.shared.Texts.{EachShowable}
 use Rattle.cborn_edn.proofs.Grammar.Trailing.{parse_of}
 use Rattle.cborn_edn.proofs.RoundTrip.Back.{says_back, as_deep, spelled_all-unplaced}
 use Rattle.std.proofs.lemmas.Option.{same_Some}
-use Rattle.cborn_edn.proofs.RoundTrip.Erase.{opt_map, clash, retold, Retold}
+use Rattle.cborn_edn.proofs.RoundTrip.Erase.{opt_map, clash, tree_of, HasTreeOf}
 use Rattle.cborn_edn.proofs.RoundTrip.ErasedMeaning.{depth-erased_input, commas-erased_input, input-erased}
 
 -- What is shown has no comma before a bracket.
@@ -77,12 +77,12 @@ no_allowed ProfileOne n e = e
 no_allowed ProfileTwo n e = tt
 
 -- tokens of what is shown say the same nodes, places aside
-pub reads_same : (p : Profile) (limit : ℕ) (nodes : Trees) (ts : List Token) → FitsAll nodes → EachShowable nodes → depth_all nodes ≤ limit → list_map bare ts ≡ tokens_of_input (notated_input nodes) → (b : ReadsBack p limit nodes ts) × (unplaced_all b.says ≡ unplaced_all nodes)
+pub reads_same : (p : Profile) (limit : ℕ) (nodes : Trees) (ts : List Token) → FitsAll nodes → EachShowable nodes → depth_all nodes ≤ limit → list_map unplaced_token ts ≡ tokens_of_input (notated_input nodes) → (b : ReadsBack p limit nodes ts) × (unplaced_all b.says ≡ unplaced_all nodes)
 reads_same p limit nodes ts fits show low e =
-    let r = retold ts (notated_input nodes) e in
+    let r = tree_of ts (notated_input nodes) e in
     go r (means_input r.tree) refl (sym (input-erased r.tree) ∙ ap means_input r.same ∙ says_back nodes fits show)
   where
-    go : (r : Retold ts (notated_input nodes)) (o : Option Trees) → means_input r.tree ≡ o → opt_map unplaced_all o ≡ Some (unplaced_all nodes) → (b : ReadsBack p limit nodes ts) × (unplaced_all b.says ≡ unplaced_all nodes)
+    go : (r : HasTreeOf ts (notated_input nodes)) (o : Option Trees) → means_input r.tree ≡ o → opt_map unplaced_all o ≡ Some (unplaced_all nodes) → (b : ReadsBack p limit nodes ts) × (unplaced_all b.says ≡ unplaced_all nodes)
     go r None f g = clash g
     go r (Some us) f g = (
       record {

@@ -83,7 +83,7 @@ mutual
   mean_entries (entry k v es) (pair a b ps) = λ i. mean k a i × mean v b i × mean_entries es ps i
   mean_entries _ _ = refl
 
--- Lists of nodes that are one but for their places.
+-- Lists of nodes that are the same but for their places.
 module _ (nodes others : Trees) (e : unplaced_all nodes ≡ unplaced_all others) where
   pub same_fit : FitsAll nodes → FitsAll others
   same_fit h = subst (λ (X : Type 0). X) (sym (fit_all nodes) ∙ ap FitsAll e ∙ fit_all others) h

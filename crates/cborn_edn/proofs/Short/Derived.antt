@@ -1,15 +1,15 @@
--- The tokens of each tree within a limit are what the relation says of them.
+-- The relation holds of the tokens of each tree within a limit.
 use Rattle.std.proofs.Common.{◌≡◌, refl, sym, ap, ◌∙◌, subst, ℕ, zero, suc, ◌+◌, ◌≤◌, List, [], ◌∷◌, ◌++◌, append_assoc, arith}
 use Rattle.cborn_model.specs.Tree.{Tree, Trees, Entries}
 use Rattle.cborn_lex.specs.declared.classes.Class.TheVariants.{Comma, Colon}
 use Rattle.cborn_lex.specs.declared.classes.Token.{Token}
 use Rattle.cborn_lex.specs.declared.classes.Profile.{Profile}
 use Rattle.cborn_lex.specs.declared.classes.Profile.TheVariants.{One as ProfileOne, Two as ProfileTwo}
-use Rattle.cborn_edn.specs.declared.slips.Slip.{Slip}
-use Rattle.cborn_edn.specs.shared.Syntax as tree
-use Rattle.cborn_edn.specs.shared.Syntax.{Span, token, Item, Piece, Pieces, Strings, StringsBefore, Row, RowBefore, Content, Pairs, PairsBefore, Fields, Input, tokens_of, tokens_of_piece, tokens_of_pieces, tokens_of_strings, tokens_of_row, tokens_of_content, tokens_of_pairs, tokens_of_fields, tokens_of_input, depth, depth_of_piece, depth_of_pieces, depth_of_strings, depth_of_row, depth_of_content, depth_of_pairs, depth_of_fields, depth_of_input}
-use Rattle.cborn_edn.specs.shared.Commas.{AllowsCount, commas, commas_of_piece, commas_of_pieces, commas_of_strings, commas_of_row, commas_of_content, commas_of_pairs, commas_of_fields, commas_of_input}
-use Rattle.cborn_edn.specs.shared.Meaning.{snoc, snoc_entry}
+use Rattle.cborn_edn.specs.declared.meaning_errors.MeaningError.{MeaningError}
+use Rattle.cborn_edn.specs.devices.Syntax as tree
+use Rattle.cborn_edn.specs.devices.Syntax.{Span, token, Item, Piece, Pieces, Strings, StringsBefore, Row, RowBefore, Content, Pairs, PairsBefore, Fields, Input, tokens_of, tokens_of_piece, tokens_of_pieces, tokens_of_strings, tokens_of_row, tokens_of_content, tokens_of_pairs, tokens_of_fields, tokens_of_input, depth, depth_of_piece, depth_of_pieces, depth_of_strings, depth_of_row, depth_of_content, depth_of_pairs, depth_of_fields, depth_of_input}
+use Rattle.cborn_edn.specs.devices.Commas.{AllowsCount, commas, commas_of_piece, commas_of_pieces, commas_of_strings, commas_of_row, commas_of_content, commas_of_pairs, commas_of_fields, commas_of_input}
+use Rattle.cborn_edn.specs.devices.Meaning.{snoc, snoc_entry}
 use Rattle.cborn_edn.specs.Grammar.{IsItem, number, word, simple, tag, array, map, string, chunked, IsPiece, text_piece, byte_piece, embedded, ArePieces, piece, also, AreChunks, first, next, AreItems, last, before, IsContent, empty, tight, loose, ArePairs, last_pair, pair_before, IsFields, no_fields, tight_fields, loose_fields, IsText, nothing, items}
 use Rattle.cborn_edn.proofs.Short.Said.{node, str_of, str, kind_in, chunks, nodes, nodes_in, entries, entries_in, faults, faults_of_piece, faults_of_pieces, faults_of_strings, faults_of_row, faults_in, faults_of_pairs, faults_of_fields, nodes_of_input, faults_of_input}
 
@@ -30,20 +30,20 @@ only_two ProfileOne n h = absurd (omega (arith, h))
 only_two ProfileTwo n h = refl
 
 module _ (p : Profile) where
-  -- the same for equal tokens and slips
-  items_at : {d : ℕ} {x y : List Token} {ts : Trees} {l m : List Slip} → x ≡ y → l ≡ m → AreItems p d x ts l → AreItems p d y ts m
+  -- the relation holds of equal tokens and meaning errors
+  items_at : {d : ℕ} {x y : List Token} {ts : Trees} {l m : List MeaningError} → x ≡ y → l ≡ m → AreItems p d x ts l → AreItems p d y ts m
   items_at {d} {x} {y} {ts} {l} {m} e f h = subst (λ z. AreItems p d z ts m) e (subst (λ k. AreItems p d x ts k) f h)
 
-  pairs_at : {d : ℕ} {x y : List Token} {es : Entries} {l m : List Slip} → x ≡ y → l ≡ m → ArePairs p d x es l → ArePairs p d y es m
+  pairs_at : {d : ℕ} {x y : List Token} {es : Entries} {l m : List MeaningError} → x ≡ y → l ≡ m → ArePairs p d x es l → ArePairs p d y es m
   pairs_at {d} {x} {y} {es} {l} {m} e f h = subst (λ z. ArePairs p d z es m) e (subst (λ k. ArePairs p d x es k) f h)
 
-  -- one more item behind a comma
-  one_more : {d : ℕ} {x y : List Token} {ts : Trees} {t : Tree} {l r : List Slip} (a : Span) → AreItems p d x ts l → IsItem p d y t r → AreItems p d (x ++ token a Comma ∷ y) (snoc ts t) (l ++ r)
+  -- one more item after a comma
+  one_more : {d : ℕ} {x y : List Token} {ts : Trees} {t : Tree} {l r : List MeaningError} (a : Span) → AreItems p d x ts l → IsItem p d y t r → AreItems p d (x ++ token a Comma ∷ y) (snoc ts t) (l ++ r)
   one_more a (last i) j = before a i (last j)
   one_more {y = y} {r = r} a (before {x = x0} {y = y0} {l = l0} {r = r0} b i is) j =
       items_at (sym (append_assoc x0 (token b Comma ∷ y0) (token a Comma ∷ y))) (sym (append_assoc l0 r0 r)) (before b i (one_more a is j))
 
-  more_pairs : {d : ℕ} {x y z : List Token} {es : Entries} {k v : Tree} {l r s : List Slip} (a c : Span) → ArePairs p d x es l → IsItem p d y k r → IsItem p d z v s
+  more_pairs : {d : ℕ} {x y z : List Token} {es : Entries} {k v : Tree} {l r s : List MeaningError} (a c : Span) → ArePairs p d x es l → IsItem p d y k r → IsItem p d z v s
       → ArePairs p d (x ++ token a Comma ∷ (y ++ token c Colon ∷ z)) (snoc_entry es k v) (l ++ (r ++ s))
   more_pairs {y = y} {z = z} {r = r} {s = s} a c (last_pair {x = x0} {y = y0} {l = l0} {r = r0} b i j) k v =
       pairs_at (sym (append_assoc x0 (token b Colon ∷ y0) (token a Comma ∷ (y ++ token c Colon ∷ z)))) (sym (append_assoc l0 r0 (r ++ s))) (pair_before b a i j (last_pair c k v))

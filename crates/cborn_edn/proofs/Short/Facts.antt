@@ -1,4 +1,4 @@
--- What holds of the relation as of the trees: a text notates one list of nodes, the same under larger limits and under profile 2, and it isn't refused; what was shown reads back.
+-- What is known of the trees holds of the relation: a text notates one list of nodes, the same within larger limits and in profile 2, and is then not refused; what was shown reads back.
 use Rattle.std.proofs.Common.{◌≡◌, refl, sym, ap, ◌∙◌, subst, ℕ, ◌^◌, ◌<◌, ◌≤◌, List, [], length, ◌⊎◌, inl, inr, arith}
 use Rattle.cborn_model.specs.Bytes.{AreBytes}
 use Rattle.cborn_model.specs.Tree.{Trees, depth_all}
@@ -12,24 +12,24 @@ use Rattle.cborn_lex.proofs.WholeTexts.Chains.{one_list, both_profiles as both_l
 use Rattle.cborn_lex.proofs.GoodTexts.{has_tokens, lexed as lex_of, failed, stopped}
 use Rattle.cborn_edn.specs.declared.faults.EdnReason.{EdnReason}
 use Rattle.cborn_edn.specs.declared.faults.EdnFault.TheVariants.{Refused}
-use Rattle.cborn_edn.specs.declared.slips.Slip.{Slip}
-use Rattle.cborn_edn.specs.shared.Syntax.{depth_of_input}
+use Rattle.cborn_edn.specs.declared.meaning_errors.MeaningError.{MeaningError}
+use Rattle.cborn_edn.specs.devices.Syntax.{depth_of_input}
 use Rattle.cborn_edn.specs.devices.Parse as tree
 use Rattle.cborn_edn.specs.devices.Parse.{Parse}
 use Rattle.cborn_edn.specs.ReadingBack.{unplaced_all}
 use Rattle.cborn_edn.specs.Shown.{Shown}
 use Rattle.cborn_edn.specs.Grammar.{IsText, Notates}
-use Rattle.cborn_edn.specs.Faults.{Jams, Slips}
+use Rattle.cborn_edn.specs.Faults.{HasSyntaxError, HasMeaningError}
 use Rattle.cborn_edn.proofs.Grammar.OneTree.{one_tree, both_profiles, not_both}
 use Rattle.cborn_edn.proofs.Meaning.ShortTexts.{Answered, short_answer as tree_answer, notated_fits as tree_fits}
 use Rattle.cborn_edn.proofs.Meaning.Earliest.{nothing_among}
 use Rattle.cborn_edn.proofs.RoundTrip.ReadBack.{shown_back as tree_shown_back}
 use Rattle.cborn_edn.proofs.Short.Said.{nodes_of_input, faults_of_input}
-use Rattle.cborn_edn.proofs.Short.Jammed.{text_of, Parsed, parsed, notated, tree_had, jammed}
+use Rattle.cborn_edn.proofs.Short.SyntaxErrors.{text_of, Parsed, parsed, notated, tree_had, tree_syntax_error}
 use Rattle.cborn_edn.proofs.Short.Same.{notated_by, refused}
 
 -- two texts of the relation with the same tokens have one tree
-same_parse : (p q : Profile) (limit most : ℕ) (x y : List Token) (ts us : Trees) (l m : List Slip) → x ≡ y → (a : Parsed p limit x ts l) → (b : Parsed q most y us m) → a.tree ≡ b.tree
+same_parse : (p q : Profile) (limit most : ℕ) (x y : List Token) (ts us : Trees) (l m : List MeaningError) → x ≡ y → (a : Parsed p limit x ts l) → (b : Parsed q most y us m) → a.tree ≡ b.tree
 same_parse p q limit most x y ts us l m e a b = one_tree p q y a.tree b.tree (subst (λ z. Parse p z a.tree) e a.parse) b.parse
 
 pub one_notation : (profile : Profile) (limit most : ℕ) (text : List ℕ) (us vs : Trees) → Notates profile limit text us → Notates profile most text vs → us ≡ vs
@@ -39,22 +39,22 @@ one_notation p limit most text us vs (x, lex, h) (y, lexed, k) =
     sym a.says ∙ ap nodes_of_input (same_parse p p limit most x y us vs [] [] (one_list p text x y (lex_of p text x lex) (lex_of p text y lexed)) a b) ∙ b.says
 
 -- LAW: tokens are a text in one way
-pub one_text : (p q : Profile) (limit most : ℕ) (x : List Token) (ts us : Trees) (l m : List Slip) → IsText p limit x ts l → IsText q most x us m → (ts ≡ us) × (l ≡ m)
+pub one_text : (p q : Profile) (limit most : ℕ) (x : List Token) (ts us : Trees) (l m : List MeaningError) → IsText p limit x ts l → IsText q most x us m → (ts ≡ us) × (l ≡ m)
 one_text p q limit most x ts us l m h k =
     let a = parsed p limit x ts l h in
     let b = parsed q most x us m k in
     let e = same_parse p q limit most x x ts us l m refl a b in
-    (sym a.says ∙ ap nodes_of_input e ∙ b.says, sym a.slips ∙ ap faults_of_input e ∙ b.slips)
+    (sym a.says ∙ ap nodes_of_input e ∙ b.says, sym a.errors ∙ ap faults_of_input e ∙ b.errors)
 
 -- the same text, under another limit or profile
-again : (p q : Profile) (limit most : ℕ) (x : List Token) (ts : Trees) (l : List Slip) (a : Parsed p limit x ts l) → Parse q x a.tree → depth_of_input a.tree ≤ most → IsText q most x ts l
-again p q limit most x ts l a parse low = subst (λ us. IsText q most x us l) a.says (subst (λ m. IsText q most x (nodes_of_input a.tree) m) a.slips (text_of q most x a.tree parse low))
+again : (p q : Profile) (limit most : ℕ) (x : List Token) (ts : Trees) (l : List MeaningError) (a : Parsed p limit x ts l) → Parse q x a.tree → depth_of_input a.tree ≤ most → IsText q most x ts l
+again p q limit most x ts l a parse low = subst (λ us. IsText q most x us l) a.says (subst (λ m. IsText q most x (nodes_of_input a.tree) m) a.errors (text_of q most x a.tree parse low))
 
 pub larger : (profile : Profile) (limit most : ℕ) (text : List ℕ) (nodes : Trees) → limit ≤ most → Notates profile limit text nodes → Notates profile most text nodes
 larger p limit most text nodes low (x, lex, h) = let a = parsed p limit x nodes [] h in (x, lex, again p p limit most x nodes [] a a.parse (omega (arith, low, a.shallow)))
 
 -- LAW: what is a text in profile 1 is the same text in profile 2
-pub both_texts : (limit : ℕ) (x : List Token) (ts : Trees) (l : List Slip) → IsText ProfileOne limit x ts l → IsText ProfileTwo limit x ts l
+pub both_texts : (limit : ℕ) (x : List Token) (ts : Trees) (l : List MeaningError) → IsText ProfileOne limit x ts l → IsText ProfileTwo limit x ts l
 both_texts limit x ts l h = let a = parsed ProfileOne limit x ts l h in again ProfileOne ProfileTwo limit limit x ts l a (both_profiles x a.tree a.parse) a.shallow
 
 pub both_notate : (limit : ℕ) (text : List ℕ) (nodes : Trees) → Notates ProfileOne limit text nodes → Notates ProfileTwo limit text nodes
@@ -78,24 +78,24 @@ notated_fits p limit text nodes are short h = tree_fits p limit text nodes are s
 pub no_stop : (p : Profile) (limit : ℕ) (text : List ℕ) (nodes : Trees) → Notates p limit text nodes → (q : ℕ) (r : LexReason) → FailsAt p text q r → ⊥
 no_stop p limit text nodes (x, lex, h) q r s = not_stopped p text x q r (lex_of p text x lex) (stopped p text q r s)
 
-pub no_jam : (p : Profile) (limit : ℕ) (text : List ℕ) (nodes : Trees) → Notates p limit text nodes → (q : ℕ) (r : EdnReason) → Jams p limit text q r → ⊥
-no_jam p limit text nodes (x, lex, h) q r (y, lexed, j) =
+pub no_syntax_error : (p : Profile) (limit : ℕ) (text : List ℕ) (nodes : Trees) → Notates p limit text nodes → (q : ℕ) (r : EdnReason) → HasSyntaxError p limit text q r → ⊥
+no_syntax_error p limit text nodes (x, lex, h) q r (y, lexed, j) =
     let same : y ≡ x = one_list p text y x (lex_of p text y lexed) (lex_of p text x lex) in
-    not_both p limit (length text) x q r (tree_had p limit x (nodes, [], h)) (subst (λ (ts : List Token). tree.Jam p limit (length text) ts q r) same (jammed p limit (length text) y q r j))
+    not_both p limit (length text) x q r (tree_had p limit x (nodes, [], h)) (subst (λ (ts : List Token). tree.IsSyntaxError p limit (length text) ts q r) same (tree_syntax_error p limit (length text) y q r j))
 
-pub no_slip : (p : Profile) (limit most : ℕ) (text : List ℕ) (nodes : Trees) → Notates p limit text nodes → (q : ℕ) (r : EdnReason) → Slips p most text q r → ⊥
-no_slip p limit most text nodes (x, lex, h) q r (y, ts, l, lexed, k, f) =
+pub no_error : (p : Profile) (limit most : ℕ) (text : List ℕ) (nodes : Trees) → Notates p limit text nodes → (q : ℕ) (r : EdnReason) → HasMeaningError p most text q r → ⊥
+no_error p limit most text nodes (x, lex, h) q r (y, ts, l, lexed, k, f) =
     let a = parsed p limit x nodes [] h in
     let b = parsed p most y ts l k in
     let same = same_parse p p most limit y x ts nodes l [] (one_list p text y x (lex_of p text y lexed) (lex_of p text x lex)) b a in
-    nothing_among l q r (sym b.slips ∙ ap faults_of_input same ∙ a.slips) f.is
+    nothing_among l q r (sym b.errors ∙ ap faults_of_input same ∙ a.errors) f.is
 
 -- LAW: a short text has an answer
 pub short_answer : (p : Profile) (limit : ℕ) (text : List ℕ) → AreBytes text → length text < 2 ^ 56
-    → ((nodes : Trees) × Notates p limit text nodes) ⊎ (((q : ℕ) × (r : LexReason) × FailsAt p text q r) ⊎ ((q : ℕ) × (r : EdnReason) × (Jams p limit text q r ⊎ Slips p limit text q r)))
+    → ((nodes : Trees) × Notates p limit text nodes) ⊎ (((q : ℕ) × (r : LexReason) × FailsAt p text q r) ⊎ ((q : ℕ) × (r : EdnReason) × (HasSyntaxError p limit text q r ⊎ HasMeaningError p limit text q r)))
 short_answer p limit text are short = go (tree_answer p limit text are short)
   where
-    go : Answered p limit text → ((nodes : Trees) × Notates p limit text nodes) ⊎ (((q : ℕ) × (r : LexReason) × FailsAt p text q r) ⊎ ((q : ℕ) × (r : EdnReason) × (Jams p limit text q r ⊎ Slips p limit text q r)))
+    go : Answered p limit text → ((nodes : Trees) × Notates p limit text nodes) ⊎ (((q : ℕ) × (r : LexReason) × FailsAt p text q r) ⊎ ((q : ℕ) × (r : EdnReason) × (HasSyntaxError p limit text q r ⊎ HasMeaningError p limit text q r)))
     go (inl (nodes, h)) = inl (nodes, notated p limit text nodes h)
     go (inr (inl (q, r, s))) = inr (inl (q, r, failed p text q r s))
     go (inr (inr (q, r, h))) = inr (inr (q, r, refused p limit text are short (Refused q r) h))

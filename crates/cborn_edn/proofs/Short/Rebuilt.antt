@@ -1,4 +1,4 @@
--- Tokens that the relation takes are those of a tree within the limit, which says the same nodes and has the same slips.
+-- Tokens that the relation takes are those of a tree within the limit, which says the same nodes and has the same meaning errors.
 use Rattle.std.proofs.Common.{◌≡◌, refl, sym, ap, ◌∙◌, subst, ℕ, ◌+◌, ◌≤◌, List, [], ◌∷◌, ◌++◌, append_assoc, arith, false}
 use Rattle.cborn_model.specs.declared.nodes.Chunk.{Chunk}
 use Rattle.cborn_model.specs.Tree.{Tree, Items, Pairs as PairNode, Tagged, Trees, no_item as no_node, more, Entries, no_entry, entry, count, count_entries}
@@ -8,55 +8,55 @@ use Rattle.cborn_lex.specs.declared.classes.Mark.{Mark}
 use Rattle.cborn_lex.specs.declared.classes.Token.{Token}
 use Rattle.cborn_lex.specs.declared.classes.Profile.{Profile}
 use Rattle.cborn_lex.specs.declared.classes.Profile.TheVariants.{One as ProfileOne, Two as ProfileTwo}
-use Rattle.cborn_edn.specs.declared.slips.Slip.{Slip}
+use Rattle.cborn_edn.specs.declared.meaning_errors.MeaningError.{MeaningError}
 use Rattle.cborn_edn.specs.declared.strings.StringKind.{StringKind}
 use Rattle.cborn_edn.specs.declared.strings.StringKind.TheVariants.{Bytes as OfBytes}
-use Rattle.cborn_edn.specs.shared.Syntax as tree
-use Rattle.cborn_edn.specs.shared.Syntax.{Span, token, Item, Piece, Pieces, Strings, Row, RowBefore, Content, Pairs, PairsBefore, Fields, Input, tokens_of, tokens_of_piece, tokens_of_pieces, tokens_of_strings, tokens_of_row, tokens_of_row_before, tokens_of_content, tokens_of_pairs, tokens_of_pairs_before, tokens_of_fields, tokens_of_input, depth, depth_of_piece, depth_of_pieces, depth_of_strings, depth_of_row, depth_of_row_before, depth_of_content, depth_of_pairs, depth_of_pairs_before, depth_of_fields, depth_of_input}
-use Rattle.cborn_edn.specs.shared.Commas.{AllowsCount, commas, commas_of_piece, commas_of_pieces, commas_of_strings, commas_of_row, commas_of_row_before, commas_of_content, commas_of_pairs, commas_of_pairs_before, commas_of_fields, commas_of_input}
-use Rattle.cborn_edn.specs.shared.Meaning.{snoc, snoc_entry, chunked_node, tag_slips, size_slips}
-use Rattle.cborn_edn.specs.Says.{width, size, Str, is_nil, joined, said_string, chunk, piece_slips, string_slips, chunk_slips}
+use Rattle.cborn_edn.specs.devices.Syntax as tree
+use Rattle.cborn_edn.specs.devices.Syntax.{Span, token, Item, Piece, Pieces, Strings, Row, RowBefore, Content, Pairs, PairsBefore, Fields, Input, tokens_of, tokens_of_piece, tokens_of_pieces, tokens_of_strings, tokens_of_row, tokens_of_row_before, tokens_of_content, tokens_of_pairs, tokens_of_pairs_before, tokens_of_fields, tokens_of_input, depth, depth_of_piece, depth_of_pieces, depth_of_strings, depth_of_row, depth_of_row_before, depth_of_content, depth_of_pairs, depth_of_pairs_before, depth_of_fields, depth_of_input}
+use Rattle.cborn_edn.specs.devices.Commas.{AllowsCount, commas, commas_of_piece, commas_of_pieces, commas_of_strings, commas_of_row, commas_of_row_before, commas_of_content, commas_of_pairs, commas_of_pairs_before, commas_of_fields, commas_of_input}
+use Rattle.cborn_edn.specs.devices.Meaning.{snoc, snoc_entry, chunked_node, tag_errors, size_errors}
+use Rattle.cborn_edn.specs.Says.{width, size, Str, is_nil, joined, said_string, chunk, piece_errors, string_errors, chunk_errors}
 use Rattle.cborn_edn.specs.Grammar.{IsItem, number, word, simple, tag, array, map, string, chunked, IsPiece, text_piece, byte_piece, embedded, ArePieces, piece, also, AreChunks, first, next, AreItems, last, before, IsContent, empty, tight, loose, ArePairs, last_pair, pair_before, IsFields, no_fields, tight_fields, loose_fields, IsText, nothing, items}
 use Rattle.cborn_edn.proofs.Short.Said.{node, str_of, str, kind_in, chunks, nodes, nodes_before, nodes_in, entries, entries_before, entries_in, faults, faults_of_piece, faults_of_pieces, faults_of_strings, faults_of_row, faults_before, faults_in, faults_of_pairs, faults_before_pairs, faults_of_fields, nodes_of_input, faults_of_input}
 use Rattle.cborn_edn.proofs.Short.Derived.{both_allowed}
 
--- a tree that has these tokens, says this and has these slips
-pub record Found {T S : Type 0} (tokens_in : T → List Token) (depth_in commas_in : T → ℕ) (said : T → S) (faults_of : T → List Slip) (p : Profile) (d : ℕ) (x : List Token) (s : S) (l : List Slip) : Type 0 where
+-- a tree that has these tokens, says this and has these meaning errors
+pub record Found {T S : Type 0} (tokens_in : T → List Token) (depth_in commas_in : T → ℕ) (said : T → S) (faults_of : T → List MeaningError) (p : Profile) (d : ℕ) (x : List Token) (s : S) (l : List MeaningError) : Type 0 where
   pub found : T
   pub tokens : tokens_in found ≡ x
   pub shallow : depth_in found ≤ d
   pub allowed : AllowsCount p (commas_in found)
   pub says : said found ≡ s
-  pub slips : faults_of found ≡ l
+  pub errors : faults_of found ≡ l
 
-abbrev pub FoundItem : Profile → ℕ → List Token → Tree → List Slip → Type 0
+abbrev pub FoundItem : Profile → ℕ → List Token → Tree → List MeaningError → Type 0
 FoundItem = Found tokens_of depth commas node faults
 
-abbrev FoundPiece : Profile → ℕ → List Token → Str → List Slip → Type 0
+abbrev FoundPiece : Profile → ℕ → List Token → Str → List MeaningError → Type 0
 FoundPiece = Found tokens_of_piece depth_of_piece commas_of_piece str_of faults_of_piece
 
-abbrev FoundPieces : Profile → ℕ → List Token → Str → List Slip → Type 0
+abbrev FoundPieces : Profile → ℕ → List Token → Str → List MeaningError → Type 0
 FoundPieces = Found tokens_of_pieces depth_of_pieces commas_of_pieces str faults_of_pieces
 
 abbrev chunks_said : Strings → StringKind × List Chunk
 chunks_said ss = (kind_in ss, chunks ss)
 
-abbrev FoundChunks : Profile → ℕ → List Token → StringKind × List Chunk → List Slip → Type 0
+abbrev FoundChunks : Profile → ℕ → List Token → StringKind × List Chunk → List MeaningError → Type 0
 FoundChunks = Found tokens_of_strings depth_of_strings commas_of_strings chunks_said faults_of_strings
 
-abbrev FoundRow : Profile → ℕ → List Token → Trees → List Slip → Type 0
+abbrev FoundRow : Profile → ℕ → List Token → Trees → List MeaningError → Type 0
 FoundRow = Found tokens_of_row depth_of_row commas_of_row nodes faults_of_row
 
-abbrev FoundContent : Profile → ℕ → List Token → Trees → List Slip → Type 0
+abbrev FoundContent : Profile → ℕ → List Token → Trees → List MeaningError → Type 0
 FoundContent = Found tokens_of_content depth_of_content commas_of_content nodes_in faults_in
 
-abbrev FoundPairs : Profile → ℕ → List Token → Entries → List Slip → Type 0
+abbrev FoundPairs : Profile → ℕ → List Token → Entries → List MeaningError → Type 0
 FoundPairs = Found tokens_of_pairs depth_of_pairs commas_of_pairs entries faults_of_pairs
 
-abbrev FoundFields : Profile → ℕ → List Token → Entries → List Slip → Type 0
+abbrev FoundFields : Profile → ℕ → List Token → Entries → List MeaningError → Type 0
 FoundFields = Found tokens_of_fields depth_of_fields commas_of_fields entries_in faults_of_fields
 
-abbrev pub FoundInput : Profile → ℕ → List Token → Trees → List Slip → Type 0
+abbrev pub FoundInput : Profile → ℕ → List Token → Trees → List MeaningError → Type 0
 FoundInput = Found tokens_of_input depth_of_input commas_of_input nodes_of_input faults_of_input
 
 none_allowed : (p : Profile) → AllowsCount p 0
@@ -69,8 +69,8 @@ any_allowed p n e = subst (λ q. AllowsCount q n) (sym e) tt
 pub both_ap : {A B C : Type 0} (f : A → B → C) {a a' : A} {b b' : B} → a ≡ a' → b ≡ b' → f a b ≡ f a' b'
 both_ap f {a} {a'} {b} {b'} e g = ap (λ x. f x b) e ∙ ap (λ y. f a' y) g
 
-pub then_slips : {a a' b b' : List Slip} → a ≡ a' → b ≡ b' → (a ++ b) ≡ (a' ++ b')
-then_slips e g = both_ap (λ (x y : List Slip). x ++ y) e g
+pub then_errors : {a a' b b' : List MeaningError} → a ≡ a' → b ≡ b' → (a ++ b) ≡ (a' ++ b')
+then_errors e g = both_ap (λ (x y : List MeaningError). x ++ y) e g
 
 then_tokens : {a a' b b' : List Token} → a ≡ a' → b ≡ b' → (a ++ b) ≡ (a' ++ b')
 then_tokens e g = both_ap (λ (x y : List Token). x ++ y) e g
@@ -99,15 +99,15 @@ snoc_entry-is : (es : Entries) (k v : Tree) → snoc_entry es k v ≡ append_ent
 snoc_entry-is no_entry k v = refl
 snoc_entry-is (entry l w es) k v = ap (λ vs. entry l w vs) (snoc_entry-is es k v)
 
-abbrev embedded_str : Span → Span → Mark → List Slip → Trees → Str
+abbrev embedded_str : Span → Span → Mark → List MeaningError → Trees → Str
 embedded_str a e m l ts = record { kind = OfBytes; place = a.start; lone = false; known = is_nil l; bytes = spelled_all ts; mark = m; mark_place = e.start }
 
 module _ (p : Profile) where
   mutual
-    pub rebuilt : {d : ℕ} {x : List Token} {t : Tree} {l : List Slip} → IsItem p d x t l → FoundItem p d x t l
-    rebuilt (number {v = v} {n = n} {m = m} a h) = record { found = tree.number a n v m; tokens = refl; shallow = h; allowed = none_allowed p; says = refl; slips = refl }
-    rebuilt (word {n = n} a) = record { found = tree.word a n; tokens = refl; shallow = omega arith; allowed = none_allowed p; says = refl; slips = refl }
-    rebuilt (simple {v = v} {n = n} {m = m} a b e h) = record { found = tree.simple a b n v m e; tokens = refl; shallow = h; allowed = none_allowed p; says = refl; slips = refl }
+    pub rebuilt : {d : ℕ} {x : List Token} {t : Tree} {l : List MeaningError} → IsItem p d x t l → FoundItem p d x t l
+    rebuilt (number {v = v} {n = n} {m = m} a h) = record { found = tree.number a n v m; tokens = refl; shallow = h; allowed = none_allowed p; says = refl; errors = refl }
+    rebuilt (word {n = n} a) = record { found = tree.word a n; tokens = refl; shallow = omega arith; allowed = none_allowed p; says = refl; errors = refl }
+    rebuilt (simple {v = v} {n = n} {m = m} a b e h) = record { found = tree.simple a b n v m e; tokens = refl; shallow = h; allowed = none_allowed p; says = refl; errors = refl }
     rebuilt (tag {n = n} {m = m} a e i) =
         let r = rebuilt i in
         record {
@@ -116,7 +116,7 @@ module _ (p : Profile) where
           shallow = omega (arith, r.shallow);
           allowed = r.allowed;
           says = ap (λ u. Tagged a.start (width m n) n u) r.says;
-          slips = ap (λ k. tag_slips a.start m n ++ k) r.slips;
+          errors = ap (λ k. tag_errors a.start m n ++ k) r.errors;
         }
     rebuilt (array {m = m} a e c) =
         let r = rebuilt_content c in
@@ -126,7 +126,7 @@ module _ (p : Profile) where
           shallow = omega (arith, r.shallow);
           allowed = r.allowed;
           says = ap (λ us. Items a.start (size m (count us)) us) r.says;
-          slips = then_slips r.slips (ap (λ us. size_slips a.start m (count us)) r.says);
+          errors = then_errors r.errors (ap (λ us. size_errors a.start m (count us)) r.says);
         }
     rebuilt (map {m = m} a e f) =
         let r = rebuilt_fields f in
@@ -136,7 +136,7 @@ module _ (p : Profile) where
           shallow = omega (arith, r.shallow);
           allowed = r.allowed;
           says = ap (λ us. PairNode a.start (size m (count_entries us)) us) r.says;
-          slips = then_slips r.slips (ap (λ us. size_slips a.start m (count_entries us)) r.says);
+          errors = then_errors r.errors (ap (λ us. size_errors a.start m (count_entries us)) r.says);
         }
     rebuilt (string ps) =
         let r = rebuilt_pieces ps in
@@ -146,7 +146,7 @@ module _ (p : Profile) where
           shallow = r.shallow;
           allowed = r.allowed;
           says = ap said_string r.says;
-          slips = then_slips r.slips (ap (λ (s : Str). string_slips s.lone s) r.says);
+          errors = then_errors r.errors (ap (λ (s : Str). string_errors s.lone s) r.says);
         }
     rebuilt (chunked a e cs) =
         let r = rebuilt_chunks cs in
@@ -156,12 +156,12 @@ module _ (p : Profile) where
           shallow = r.shallow;
           allowed = r.allowed;
           says = ap (λ (q : StringKind × List Chunk). chunked_node q.0 a.start q.1) r.says;
-          slips = r.slips;
+          errors = r.errors;
         }
 
-    rebuilt_piece : {d : ℕ} {x : List Token} {s : Str} {l : List Slip} → IsPiece p d x s l → FoundPiece p d x s l
-    rebuilt_piece (text_piece {b = b} {m = m} a) = record { found = tree.text a b m; tokens = refl; shallow = omega arith; allowed = none_allowed p; says = refl; slips = refl }
-    rebuilt_piece (byte_piece {q = q} {b = b} {m = m} a) = record { found = tree.bytes a q b m; tokens = refl; shallow = omega arith; allowed = none_allowed p; says = refl; slips = refl }
+    rebuilt_piece : {d : ℕ} {x : List Token} {s : Str} {l : List MeaningError} → IsPiece p d x s l → FoundPiece p d x s l
+    rebuilt_piece (text_piece {b = b} {m = m} a) = record { found = tree.text a b m; tokens = refl; shallow = omega arith; allowed = none_allowed p; says = refl; errors = refl }
+    rebuilt_piece (byte_piece {q = q} {b = b} {m = m} a) = record { found = tree.bytes a q b m; tokens = refl; shallow = omega arith; allowed = none_allowed p; says = refl; errors = refl }
     rebuilt_piece (embedded a e m c) =
         let r = rebuilt_content c in
         record {
@@ -169,14 +169,14 @@ module _ (p : Profile) where
           tokens = ap (λ y. token a EmbedOpen ∷ y ++ token e (EmbedClose m) ∷ []) r.tokens;
           shallow = omega (arith, r.shallow);
           allowed = r.allowed;
-          says = both_ap (embedded_str a e m) r.slips r.says;
-          slips = r.slips;
+          says = both_ap (embedded_str a e m) r.errors r.says;
+          errors = r.errors;
         }
 
-    rebuilt_pieces : {d : ℕ} {x : List Token} {s : Str} {l : List Slip} → ArePieces p d x s l → FoundPieces p d x s l
+    rebuilt_pieces : {d : ℕ} {x : List Token} {s : Str} {l : List MeaningError} → ArePieces p d x s l → FoundPieces p d x s l
     rebuilt_pieces (piece q) =
         let r = rebuilt_piece q in
-        record { found = tree.piece r.found; tokens = r.tokens; shallow = r.shallow; allowed = r.allowed; says = r.says; slips = r.slips }
+        record { found = tree.piece r.found; tokens = r.tokens; shallow = r.shallow; allowed = r.allowed; says = r.says; errors = r.errors }
     rebuilt_pieces (also ps q) =
         let r = rebuilt_pieces ps in
         let f = rebuilt_piece q in
@@ -186,10 +186,10 @@ module _ (p : Profile) where
           shallow = omega (arith, r.shallow, f.shallow);
           allowed = both_allowed p (commas_of_pieces r.found) (commas_of_piece f.found) r.allowed f.allowed;
           says = both_ap joined r.says f.says;
-          slips = then_slips r.slips (then_slips f.slips (both_ap piece_slips r.says f.says));
+          errors = then_errors r.errors (then_errors f.errors (both_ap piece_errors r.says f.says));
         }
 
-    rebuilt_chunks : {d : ℕ} {x : List Token} {k : StringKind} {cs : List Chunk} {l : List Slip} → AreChunks p d x k cs l → FoundChunks p d x (k, cs) l
+    rebuilt_chunks : {d : ℕ} {x : List Token} {k : StringKind} {cs : List Chunk} {l : List MeaningError} → AreChunks p d x k cs l → FoundChunks p d x (k, cs) l
     rebuilt_chunks (first ps) =
         let r = rebuilt_pieces ps in
         record {
@@ -198,7 +198,7 @@ module _ (p : Profile) where
           shallow = omega (arith, r.shallow);
           allowed = both_allowed p 0 (commas_of_pieces r.found) (none_allowed p) r.allowed;
           says = ap (λ (s : Str). (s.kind, chunk s ∷ [])) r.says;
-          slips = then_slips r.slips (ap (string_slips false) r.says);
+          errors = then_errors r.errors (ap (string_errors false) r.says);
         }
     rebuilt_chunks (next {x = x} {y = y} a cs ps) =
         let c = rebuilt_chunks cs in
@@ -209,11 +209,11 @@ module _ (p : Profile) where
           shallow = omega (arith, c.shallow, r.shallow);
           allowed = both_allowed p (commas_of_strings c.found) (commas_of_pieces r.found) c.allowed r.allowed;
           says = both_ap (λ (q : StringKind × List Chunk) (s : Str). (q.0, q.1 ++ chunk s ∷ [])) c.says r.says;
-          slips = then_slips c.slips (then_slips r.slips (both_ap (λ (q : StringKind × List Chunk) (s : Str). chunk_slips q.0 s) c.says r.says));
+          errors = then_errors c.errors (then_errors r.errors (both_ap (λ (q : StringKind × List Chunk) (s : Str). chunk_errors q.0 s) c.says r.says));
         }
 
-    -- behind what stands before
-    rebuilt_items : {d : ℕ} {x : List Token} {ts : Trees} {l : List Slip} → AreItems p d x ts l → (b : RowBefore) → depth_of_row_before b ≤ d → AllowsCount p (commas_of_row_before b)
+    -- an item after those before it
+    rebuilt_items : {d : ℕ} {x : List Token} {ts : Trees} {l : List MeaningError} → AreItems p d x ts l → (b : RowBefore) → depth_of_row_before b ≤ d → AllowsCount p (commas_of_row_before b)
         → FoundRow p d (tokens_of_row_before b ++ x) (append_nodes (nodes_before b) ts) (faults_before b ++ l)
     rebuilt_items (last i) b h w =
         let r = rebuilt i in
@@ -223,7 +223,7 @@ module _ (p : Profile) where
           shallow = omega (arith, h, r.shallow);
           allowed = both_allowed p (commas_of_row_before b) (commas r.found) w r.allowed;
           says = ap (snoc (nodes_before b)) r.says ∙ snoc-is (nodes_before b) _;
-          slips = ap (λ z. faults_before b ++ z) r.slips;
+          errors = ap (λ z. faults_before b ++ z) r.errors;
         }
     rebuilt_items (before {y = y} {ts = ts} {r = s} a i is) b h w =
         let f = rebuilt i in
@@ -234,14 +234,14 @@ module _ (p : Profile) where
           shallow = r.shallow;
           allowed = r.allowed;
           says = r.says ∙ snoc-append (nodes_before b) ts (node f.found) ∙ ap (λ t. append_nodes (nodes_before b) (more t ts)) f.says;
-          slips = r.slips ∙ append_assoc (faults_before b) (faults f.found) s ∙ ap (λ z. faults_before b ++ (z ++ s)) f.slips;
+          errors = r.errors ∙ append_assoc (faults_before b) (faults f.found) s ∙ ap (λ z. faults_before b ++ (z ++ s)) f.errors;
         }
 
-    rebuilt_content : {d : ℕ} {x : List Token} {ts : Trees} {l : List Slip} → IsContent p d x ts l → FoundContent p d x ts l
-    rebuilt_content empty = record { found = tree.loose tree.no_item; tokens = refl; shallow = omega arith; allowed = both_allowed p 0 0 (none_allowed p) (none_allowed p); says = refl; slips = refl }
+    rebuilt_content : {d : ℕ} {x : List Token} {ts : Trees} {l : List MeaningError} → IsContent p d x ts l → FoundContent p d x ts l
+    rebuilt_content empty = record { found = tree.loose tree.no_item; tokens = refl; shallow = omega arith; allowed = both_allowed p 0 0 (none_allowed p) (none_allowed p); says = refl; errors = refl }
     rebuilt_content (tight is) =
         let r = rebuilt_items is tree.no_item (omega arith) (none_allowed p) in
-        record { found = tree.tight r.found; tokens = r.tokens; shallow = r.shallow; allowed = r.allowed; says = r.says; slips = r.slips }
+        record { found = tree.tight r.found; tokens = r.tokens; shallow = r.shallow; allowed = r.allowed; says = r.says; errors = r.errors }
     rebuilt_content (loose a e is) =
         let r = rebuilt_items is tree.no_item (omega arith) (none_allowed p) in
         record {
@@ -250,10 +250,10 @@ module _ (p : Profile) where
           shallow = r.shallow;
           allowed = any_allowed p (commas_of_row r.found + 1) e;
           says = r.says;
-          slips = r.slips;
+          errors = r.errors;
         }
 
-    rebuilt_pairs : {d : ℕ} {x : List Token} {es : Entries} {l : List Slip} → ArePairs p d x es l → (b : PairsBefore) → depth_of_pairs_before b ≤ d → AllowsCount p (commas_of_pairs_before b)
+    rebuilt_pairs : {d : ℕ} {x : List Token} {es : Entries} {l : List MeaningError} → ArePairs p d x es l → (b : PairsBefore) → depth_of_pairs_before b ≤ d → AllowsCount p (commas_of_pairs_before b)
         → FoundPairs p d (tokens_of_pairs_before b ++ x) (append_entries (entries_before b) es) (faults_before_pairs b ++ l)
     rebuilt_pairs (last_pair a k v) b h w =
         let f = rebuilt k in
@@ -264,7 +264,7 @@ module _ (p : Profile) where
           shallow = omega (arith, h, f.shallow, g.shallow);
           allowed = both_allowed p (commas_of_pairs_before b + commas f.found) (commas g.found) (both_allowed p (commas_of_pairs_before b) (commas f.found) w f.allowed) g.allowed;
           says = both_ap (snoc_entry (entries_before b)) f.says g.says ∙ snoc_entry-is (entries_before b) _ _;
-          slips = ap (λ z. faults_before_pairs b ++ z) (then_slips f.slips g.slips);
+          errors = ap (λ z. faults_before_pairs b ++ z) (then_errors f.errors g.errors);
         }
     rebuilt_pairs (pair_before {z = z} {es = es} {s = s} a c k v is) b h w =
         let f = rebuilt k in
@@ -280,15 +280,15 @@ module _ (p : Profile) where
           shallow = r.shallow;
           allowed = r.allowed;
           says = r.says ∙ snoc_entry-append (entries_before b) es (node f.found) (node g.found) ∙ both_ap (λ (t u : Tree). append_entries (entries_before b) (entry t u es)) f.says g.says;
-          slips = r.slips ∙ append_assoc (faults_before_pairs b) (faults f.found ++ faults g.found) s
-              ∙ ap (λ y. faults_before_pairs b ++ y) (append_assoc (faults f.found) (faults g.found) s ∙ then_slips f.slips (ap (λ y. y ++ s) g.slips));
+          errors = r.errors ∙ append_assoc (faults_before_pairs b) (faults f.found ++ faults g.found) s
+              ∙ ap (λ y. faults_before_pairs b ++ y) (append_assoc (faults f.found) (faults g.found) s ∙ then_errors f.errors (ap (λ y. y ++ s) g.errors));
         }
 
-    rebuilt_fields : {d : ℕ} {x : List Token} {es : Entries} {l : List Slip} → IsFields p d x es l → FoundFields p d x es l
-    rebuilt_fields no_fields = record { found = tree.loose_fields tree.no_pair; tokens = refl; shallow = omega arith; allowed = both_allowed p 0 0 (none_allowed p) (none_allowed p); says = refl; slips = refl }
+    rebuilt_fields : {d : ℕ} {x : List Token} {es : Entries} {l : List MeaningError} → IsFields p d x es l → FoundFields p d x es l
+    rebuilt_fields no_fields = record { found = tree.loose_fields tree.no_pair; tokens = refl; shallow = omega arith; allowed = both_allowed p 0 0 (none_allowed p) (none_allowed p); says = refl; errors = refl }
     rebuilt_fields (tight_fields is) =
         let r = rebuilt_pairs is tree.no_pair (omega arith) (none_allowed p) in
-        record { found = tree.tight_fields r.found; tokens = r.tokens; shallow = r.shallow; allowed = r.allowed; says = r.says; slips = r.slips }
+        record { found = tree.tight_fields r.found; tokens = r.tokens; shallow = r.shallow; allowed = r.allowed; says = r.says; errors = r.errors }
     rebuilt_fields (loose_fields a e is) =
         let r = rebuilt_pairs is tree.no_pair (omega arith) (none_allowed p) in
         record {
@@ -297,11 +297,11 @@ module _ (p : Profile) where
           shallow = r.shallow;
           allowed = any_allowed p (commas_of_pairs r.found + 1) e;
           says = r.says;
-          slips = r.slips;
+          errors = r.errors;
         }
 
-  pub rebuilt_input : {d : ℕ} {x : List Token} {ts : Trees} {l : List Slip} → IsText p d x ts l → FoundInput p d x ts l
-  rebuilt_input nothing = record { found = tree.nothing; tokens = refl; shallow = omega arith; allowed = none_allowed p; says = refl; slips = refl }
+  pub rebuilt_input : {d : ℕ} {x : List Token} {ts : Trees} {l : List MeaningError} → IsText p d x ts l → FoundInput p d x ts l
+  rebuilt_input nothing = record { found = tree.nothing; tokens = refl; shallow = omega arith; allowed = none_allowed p; says = refl; errors = refl }
   rebuilt_input (items is) =
       let r = rebuilt_items is tree.no_item (omega arith) (none_allowed p) in
-      record { found = tree.items r.found; tokens = r.tokens; shallow = r.shallow; allowed = r.allowed; says = r.says; slips = r.slips }
+      record { found = tree.items r.found; tokens = r.tokens; shallow = r.shallow; allowed = r.allowed; says = r.says; errors = r.errors }

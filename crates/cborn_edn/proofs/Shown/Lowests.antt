@@ -46,7 +46,7 @@ pub chunk-take : (xs : List Chunk) (i : ℕ) (x : Chunk) → i < length xs → x
 chunk-take xs i x h e =
     ap bad_chunk (take_more xs i x h) ∙ chunk-push (take i xs) (get_or xs i x) ∙ ap (λ (y : Chunk). lower (bad_chunk (take i xs)) (bad_bytes y.place y.bytes)) (sym e)
 
--- What was found is a place of a bad one, and no place of one is lower; S says that none is bad.
+-- What was found is the lowest place of a bad one. S says that none is bad.
 abbrev pub Found : (ℕ → Type 0) → Type 0 → Option ℕ → Type 0
 Found B S None = S × ((p : ℕ) → B p → ⊥)
 Found B S (Some p) = B p × ((q : ℕ) → B q → p ≤ q) × (S → ⊥)
@@ -111,7 +111,7 @@ pub none_bad : (ts : Trees) → bad_item ts ≡ None → AreShowable ts
 none_bad ts e =
     let f : Found (IsBadAmong ts) (EachShowable ts) None = subst (Found (IsBadAmong ts) (EachShowable ts)) e (found_item ts) in f.1
 
--- no bad text stands among nodes exactly if each of them is showable
+-- nodes have no bad text exactly if each of them is showable
 pub each_showable : (ts : Trees) → AreShowable ts → EachShowable ts
 each_showable ts h = go (bad_item ts) (found_item ts)
   where

@@ -31,8 +31,8 @@ cut a p z low some u =
     let closed = (Steps_ascii t.0 t.1 t.2 p low some).0 ((StepsThen-append IsClosed t.0 t.1 t.2 p z).0 whole.1).0 in
     ((StepsThen-IsUtf8 a).0 ((StepsThen_parts IsClosed 0 0 0 a).1 (whole.0, closed)), (IsUtf8-after_ascii p z low).0 (closed-IsUtf8 t.0 t.1 t.2 (p ++ z) closed whole.1))
 
-behind : (p z : List ℕ) → IsAscii p → IsUtf8 (p ++ z) → IsUtf8 z
-behind p z low u = (IsUtf8-after_ascii p z low).0 u
+after : (p z : List ℕ) → IsAscii p → IsUtf8 (p ++ z) → IsUtf8 z
+after p z low u = (IsUtf8-after_ascii p z low).0 u
 
 before : (a p : List ℕ) → IsAscii p → IsUtf8 (a ++ p) → IsUtf8 a
 before a p low u = (IsUtf8-append_ascii a p low).0 u
@@ -53,7 +53,7 @@ unescaped a (b ∷ x) u = elim (cases_lt b 128) [
 string_shows : (w : Width) (x : List ℕ) → IsUtf8 (shown_string OfText w x) → is_utf8 x ≡ true
 string_shows w x u =
     let m = mark_for w (length x) in
-    let inside = before (flat_map escaped x) (codes "\"" ++ indicator m) (low_ascii (codes "\"" ++ indicator m) (indicator_low m)) (behind (codes "\"") (flat_map escaped x ++ (codes "\"" ++ indicator m)) (low_ascii (codes "\"") refl) u) in
+    let inside = before (flat_map escaped x) (codes "\"" ++ indicator m) (low_ascii (codes "\"" ++ indicator m) (indicator_low m)) (after (codes "\"") (flat_map escaped x ++ (codes "\"" ++ indicator m)) (low_ascii (codes "\"") refl) u) in
     is_utf8-from_IsUtf8 x (unescaped [] x inside)
 
 -- Nodes.
@@ -76,19 +76,19 @@ chunks_show (c ∷ cs) u = (string_shows c.width c.bytes u.0, chunks_show cs u.1
 mutual
   node_shows : (t : Tree) → Fits t → IsUtf8 (shown t) → IsShowable t
   node_shows (TextNode p w x) h u = string_shows w x u
-  node_shows (TextChunks p (c ∷ cs)) h u = chunks_show (c ∷ cs) (after_commas (map (shown_chunk OfText) (c ∷ cs)) (before _ (codes ")") (low_ascii (codes ")") refl) (behind (codes "(_ ") _ (low_ascii (codes "(_ ") refl) u)))
+  node_shows (TextChunks p (c ∷ cs)) h u = chunks_show (c ∷ cs) (after_commas (map (shown_chunk OfText) (c ∷ cs)) (before _ (codes ")") (low_ascii (codes ")") refl) (after (codes "(_ ") _ (low_ascii (codes "(_ ") refl) u)))
   node_shows (Items p z ts) h u =
       let o = opened (mark_for_size z (count ts)) in
       let x = joined_by (codes ", ") (item_texts ts) in
-      all_show ts h.1 (after_commas (item_texts ts) (before x (codes "]") (low_ascii (codes "]") refl) (behind o (x ++ codes "]") (low_ascii o (opened_low (mark_for_size z (count ts)))) (behind (codes "[") (o ++ (x ++ codes "]")) (low_ascii (codes "[") refl) u))))
+      all_show ts h.1 (after_commas (item_texts ts) (before x (codes "]") (low_ascii (codes "]") refl) (after o (x ++ codes "]") (low_ascii o (opened_low (mark_for_size z (count ts)))) (after (codes "[") (o ++ (x ++ codes "]")) (low_ascii (codes "[") refl) u))))
   node_shows (PairNode p z es) h u =
       let o = opened (mark_for_size z (count_entries es)) in
       let x = joined_by (codes ", ") (pair_texts es) in
-      pairs_show es h.1 (after_commas (pair_texts es) (before x (codes "}") (low_ascii (codes "}") refl) (behind o (x ++ codes "}") (low_ascii o (opened_low (mark_for_size z (count_entries es)))) (behind (codes "{") (o ++ (x ++ codes "}")) (low_ascii (codes "{") refl) u))))
+      pairs_show es h.1 (after_commas (pair_texts es) (before x (codes "}") (low_ascii (codes "}") refl) (after o (x ++ codes "}") (low_ascii o (opened_low (mark_for_size z (count_entries es)))) (after (codes "{") (o ++ (x ++ codes "}")) (low_ascii (codes "{") refl) u))))
   node_shows (Tagged p w n t) h u =
       let l = below w n h.0 in
       let m = indicator (mark_for w n) in
-      node_shows t h.1 (before (shown t) (codes ")") (low_ascii (codes ")") refl) (behind (codes "(") (shown t ++ codes ")") (low_ascii (codes "(") refl) (behind m (codes "(" ++ (shown t ++ codes ")")) (low_ascii m (indicator_low (mark_for w n))) (behind (decimal n) (m ++ (codes "(" ++ (shown t ++ codes ")"))) (IsAscii-decimal_wide n (omega arith)) u))))
+      node_shows t h.1 (before (shown t) (codes ")") (low_ascii (codes ")") refl) (after (codes "(") (shown t ++ codes ")") (low_ascii (codes "(") refl) (after m (codes "(" ++ (shown t ++ codes ")")) (low_ascii m (indicator_low (mark_for w n))) (after (decimal n) (m ++ (codes "(" ++ (shown t ++ codes ")"))) (IsAscii-decimal_wide n (omega arith)) u))))
   node_shows _ h u = tt
 
   all_show : (ts : Trees) → FitsAll ts → EachUtf8 (item_texts ts) → EachShowable ts

@@ -1,4 +1,4 @@
--- The text of nodes doesn't turn on their places.
+-- The text of nodes doesn't depend on their places.
 use Rattle.std.proofs.Common.{◌≡◌, refl, sym, ap, ◌∙◌, ℕ, List, [], ◌∷◌, ◌++◌, map, codes, decimal}
 use Rattle.cborn_model.specs.declared.nodes.Chunk.{Chunk}
 use Rattle.cborn_model.specs.Tree.{Tree, ByteChunks, TextChunks, Items, Pairs, Tagged, Trees, no_item, more, Entries, no_entry, entry}
@@ -19,30 +19,30 @@ chunks OfBytes (c ∷ cs) = ap (λ l. codes "(_ " ++ (joined_by (codes ", ") l +
 chunks OfText (c ∷ cs) = ap (λ l. codes "(_ " ++ (joined_by (codes ", ") l ++ codes ")")) (each_chunk OfText (c ∷ cs))
 
 mutual
-  told : (t : Tree) → shown (unplaced t) ≡ shown t
-  told (ByteChunks p cs) = chunks OfBytes cs
-  told (TextChunks p cs) = chunks OfText cs
-  told (Items p s ts) = λ i. codes "[" ++ (opened (mark_for_size s (count-unplaced ts i)) ++ (joined_by (codes ", ") (told_items ts i) ++ codes "]"))
-  told (Pairs p s es) = λ i. codes "{" ++ (opened (mark_for_size s (count-unplaced_entries es i)) ++ (joined_by (codes ", ") (told_pairs es i) ++ codes "}"))
-  told (Tagged p w n t) = λ i. decimal n ++ (indicator (mark_for w n) ++ (codes "(" ++ (told t i ++ codes ")")))
-  told _ = refl
+  same_node : (t : Tree) → shown (unplaced t) ≡ shown t
+  same_node (ByteChunks p cs) = chunks OfBytes cs
+  same_node (TextChunks p cs) = chunks OfText cs
+  same_node (Items p s ts) = λ i. codes "[" ++ (opened (mark_for_size s (count-unplaced ts i)) ++ (joined_by (codes ", ") (same_items ts i) ++ codes "]"))
+  same_node (Pairs p s es) = λ i. codes "{" ++ (opened (mark_for_size s (count-unplaced_entries es i)) ++ (joined_by (codes ", ") (same_pairs es i) ++ codes "}"))
+  same_node (Tagged p w n t) = λ i. decimal n ++ (indicator (mark_for w n) ++ (codes "(" ++ (same_node t i ++ codes ")")))
+  same_node _ = refl
 
-  told_items : (ts : Trees) → item_texts (unplaced_all ts) ≡ item_texts ts
-  told_items no_item = refl
-  told_items (more t ts) = λ i. told t i ∷ told_items ts i
+  same_items : (ts : Trees) → item_texts (unplaced_all ts) ≡ item_texts ts
+  same_items no_item = refl
+  same_items (more t ts) = λ i. same_node t i ∷ same_items ts i
 
-  told_pairs : (es : Entries) → pair_texts (unplaced_entries es) ≡ pair_texts es
-  told_pairs no_entry = refl
-  told_pairs (entry k v es) = λ i. (told k i ++ (codes ": " ++ told v i)) ∷ told_pairs es i
+  same_pairs : (es : Entries) → pair_texts (unplaced_entries es) ≡ pair_texts es
+  same_pairs no_entry = refl
+  same_pairs (entry k v es) = λ i. (same_node k i ++ (codes ": " ++ same_node v i)) ∷ same_pairs es i
 
-told_lines : (ts : Trees) → shown_lines (unplaced_all ts) ≡ shown_lines ts
-told_lines no_item = refl
-told_lines (more t ts) = ap (λ l. joined_by (codes ",\n") l ++ codes "\n") (told_items (more t ts))
+same_lines : (ts : Trees) → shown_lines (unplaced_all ts) ≡ shown_lines ts
+same_lines no_item = refl
+same_lines (more t ts) = ap (λ l. joined_by (codes ",\n") l ++ codes "\n") (same_items (more t ts))
 
--- nodes that are one but for their places have one text
+-- nodes that are the same but for their places have the same text
 pub same_text : (nodes others : Trees) → unplaced_all nodes ≡ unplaced_all others → shown_lines nodes ≡ shown_lines others
-same_text nodes others e = sym (told_lines nodes) ∙ ap shown_lines e ∙ told_lines others
+same_text nodes others e = sym (same_lines nodes) ∙ ap shown_lines e ∙ same_lines others
 
--- LAW: they have one fixed notation
+-- LAW: and the same fixed notation
 pub same_notation : (nodes others : Trees) (text : List ℕ) → unplaced_all nodes ≡ unplaced_all others → Shown nodes text → Shown others text
 same_notation nodes others text e h = (h.0, h.1 ∙ same_text nodes others e)

@@ -1,4 +1,4 @@
--- Texts with a separator between them: one more, as a loop meets it, and what is shown in these words.
+-- Texts with a separator between them: one more, as a loop meets it.
 use Rattle.std.proofs.Common.{◌≡◌, refl, sym, ap, ◌∙◌, ℕ, zero, suc, ◌+◌, ◌<◌, ◌≤◌, List, [], ◌∷◌, ◌++◌, map, length, take, get_or, codes, append_assoc, append-nil, arith}
 use Rattle.std.proofs.lemmas.List.{take_more, take_all, map-append}
 use Rattle.std.proofs.lemmas.List.Concat.{flat_map-append}
@@ -27,7 +27,7 @@ module _ {A : Type 0} (sep : List ℕ) (f : A → List ℕ) where
       ap (λ ys. joined_by sep (map f ys)) (take_more xs i x h) ∙ joined_more (take i xs) (get_or xs i x)
       ∙ (λ j. joined_by sep (map f (take i xs)) ++ (between sep (length_front xs i h j) ++ f (sym e j)))
 
-  -- a turn of a loop
+  -- one step of a loop
   pub one_more : (before out between_out all_out : List ℕ) (xs : List A) (i : ℕ) (x : A) → i < length xs → x ≡ get_or xs i x → out ≡ before ++ joined_by sep (map f (take i xs)) → between_out ≡ out ++ between sep i → all_out ≡ between_out ++ f x → all_out ≡ before ++ joined_by sep (map f (take (i + 1) xs))
   one_more before out between_out all_out xs i x h is a b c =
       c ∙ ap (λ o. o ++ f x) (b ∙ ap (λ o. o ++ between sep i) a) ∙ (simp append_assoc) ∙ ap (λ l. before ++ l) (sym (joined_next xs i x h is))
@@ -36,7 +36,7 @@ module _ {A : Type 0} (sep : List ℕ) (f : A → List ℕ) where
   pub all_of : (before out : List ℕ) (xs : List A) (i : ℕ) → length xs ≤ i → out ≡ before ++ joined_by sep (map f (take i xs)) → out ≡ before ++ joined_by sep (map f xs)
   all_of before out xs i h e = e ∙ ap (λ l. before ++ joined_by sep (map f l)) (take_all i xs h)
 
--- what is shown, in these words
+-- what is shown, as texts with a separator between them
 pub items_mapped : (xs : List Tree) → item_texts (trees xs) ≡ map shown xs
 items_mapped [] = refl
 items_mapped (x ∷ xs) = ap (λ l. shown x ∷ l) (items_mapped xs)

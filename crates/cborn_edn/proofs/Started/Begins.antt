@@ -1,19 +1,19 @@
--- What each token of the machine begins: the starts of a state are those of the one before and the token's own.
+-- The starts of a token: those of a state are those of the state before and of the token.
 use Rattle.std.proofs.Common.{◌≡◌, refl, sym, ap, ◌∙◌, ℕ, List, [], ◌∷◌, ◌++◌, Bool, true, false, cond, Option, Some, None, replicate, append_assoc, append-nil}
 use Rattle.cborn_lex.specs.declared.classes.Mark.{Mark}
 use Rattle.cborn_lex.specs.declared.classes.Class.{Class}
 use Rattle.cborn_lex.specs.declared.classes.Class.TheVariants.{ArrayOpen, MapOpen, EmbedClose, ArrayClose, MapClose, ParenClose, Comma, Colon, EmbedOpen, ChunkOpen, SimpleOpen, Number, TagOpen, Word, Text, Bytes}
 use Rattle.cborn_lex.specs.declared.classes.Token.{Token}
-use Rattle.cborn_edn.specs.shared.Syntax.{Span, span, Item, string, Pieces, StringsBefore, no_item, after_row, no_pair, after_pairs, row, Content, loose, tight, Input, nothing, items}
-use Rattle.cborn_edn.specs.shared.Meaning.{place}
-use Rattle.cborn_edn.specs.devices.Kept.{wanting, stand_of, stack_in}
-use Rattle.cborn_edn.specs.devices.Begun.{begun_item, begun_at, begun}
+use Rattle.cborn_edn.specs.devices.Syntax.{Span, span, Item, string, Pieces, StringsBefore, no_item, after_row, no_pair, after_pairs, row, Content, loose, tight, Input, nothing, items}
+use Rattle.cborn_edn.specs.devices.Meaning.{place}
+use Rattle.cborn_edn.specs.devices.Kept.{wanting, phase_of, stack_in}
+use Rattle.cborn_edn.specs.devices.TokenStarts.{starting_item, starting_at, starting}
 use Rattle.cborn_edn.specs.devices.Started.{item_starts, strings_before_starts, row_before_starts, content_starts, pairs_before_starts, input_starts, counted, outside, outside_nest, outside_home, started_stack, started_nest, started_home, started}
 use Rattle.cborn_edn.proofs.Grammar.Machine.{Stack, in_row, in_key, in_value, in_tag, Nest, at_top, in_array, in_embed, Home, as_item, as_chunk, State, wants, has, builds, wants_chunk, wants_number, has_number, ends, ends_loose, begin, after, after_string, more_string, begin_chunk, begin_number, after_number, step_by, step, run, run-none}
 use Rattle.cborn_edn.proofs.Grammar.Held.{After}
 use Rattle.cborn_edn.proofs.Grammar.Takes.{landed, whole}
 
--- the starts behind a state
+-- the starts after a state
 abbrev Adds : List ℕ → State → Type 0
 Adds x u = started u ≡ x
 
@@ -38,13 +38,13 @@ ends_add (in_embed h None s) c (EmbedClose m) a = sym (append-nil _)
 ends_add (in_embed h (Some ps) s) c (EmbedClose m) a = sym (append-nil _)
 ends_add _ _ _ _ = tt
 
--- a bracket behind a comma, or behind nothing
+-- a bracket after a comma, or after nothing
 loose_adds : (st : Stack) (e : Class) (a : Span) → After (ends_loose st e a) (Adds (started_stack st))
 loose_adds (in_row n b) e a = ends_add n (loose b) e a
 loose_adds (in_key st s m b) MapClose a = refl
 loose_adds _ _ _ = tt
 
--- a token behind a whole item
+-- a token after a whole item
 after_adds : (st : Stack) (i : Item) (e : Class) (a : Span) → After (after st i e a) (Adds (started_stack st ++ counted (outside st) (item_starts i)))
 after_adds (in_row n b) i Comma a = sym (onto (outside_nest n) (started_nest n) (row_before_starts b) (item_starts i))
 after_adds (in_row n b) i e a = adds_as (ends n (tight (row b i)) e a) _ _ (sym (onto (outside_nest n) (started_nest n) (row_before_starts b) (item_starts i))) (ends_add n (tight (row b i)) e a)
@@ -72,7 +72,7 @@ more_adds h ps e a = string_adds h ps e a
 
 -- What begins.
 
-begin_adds : (st : Stack) (e : Class) (a : Span) → After (begin st e a) (Adds (started_stack st ++ counted (outside st) (replicate (begun_item e) a.start)))
+begin_adds : (st : Stack) (e : Class) (a : Span) → After (begin st e a) (Adds (started_stack st ++ counted (outside st) (replicate (starting_item e) a.start)))
 begin_adds st (ArrayOpen m) a = sym (no_more (outside st) _)
 begin_adds st (MapOpen m) a = refl
 begin_adds st EmbedOpen a = append-nil _
@@ -104,7 +104,7 @@ closed_adds _ _ _ _ _ _ _ _ = tt
 
 -- How many a token begins.
 
-wanted : (st : Stack) (c : Class) → begun_at (wanting st) c ≡ begun_item c
+wanted : (st : Stack) (c : Class) → starting_at (wanting st) c ≡ starting_item c
 wanted (in_row n no_item) c = refl
 wanted (in_row n (after_row r a)) c = refl
 wanted (in_key st s m no_pair) c = refl
@@ -118,7 +118,7 @@ own false k p = refl
 
 -- the starts of a state after one more token
 abbrev pub Grown : State → Class → ℕ → State → Type 0
-Grown s c p u = started u ≡ started s ++ replicate (begun (outside (stack_in s)) (stand_of s) c) p
+Grown s c p u = started u ≡ started s ++ replicate (starting (outside (stack_in s)) (phase_of s) c) p
 
 -- a token that begins nothing
 none_own : (b : Bool) (x : List ℕ) (p : ℕ) → x ≡ x ++ replicate (cond b 0 0) p
@@ -127,7 +127,7 @@ none_own false x p = sym (append-nil x)
 
 pub adds : (s : State) (c : Class) (a : Span) → After (step_by s c a) (Grown s c a.start)
 adds (wants st) c a =
-    adds_as (begin st c a) _ _ (ap (λ l. started_stack st ++ l) (own (outside st) (begun_item c) a.start ∙ ap (λ k. replicate (cond (outside st) k 0) a.start) (sym (wanted st c)))) (begin_adds st c a)
+    adds_as (begin st c a) _ _ (ap (λ l. started_stack st ++ l) (own (outside st) (starting_item c) a.start ∙ ap (λ k. replicate (cond (outside st) k 0) a.start) (sym (wanted st c)))) (begin_adds st c a)
 adds (has st i) c a = adds_as (after st i c a) _ _ (none_own (outside st) (started (has st i)) a.start) (after_adds st i c a)
 adds (builds h ps) c a = adds_as (more_string h ps c a) _ _ (none_own (outside (stack_in (builds h ps))) (started (builds h ps)) a.start) (more_adds h ps c a)
 adds (wants_chunk st s b) c a = adds_as (begin_chunk st s b c a) _ _ (ap (λ l. started (wants_chunk st s b) ++ l) (own (outside st) 1 a.start)) (chunk_adds st s b c a)
@@ -146,7 +146,7 @@ starts_go_on [] s u e = ([], ap started (sym (one_state s u e)) ∙ sym (append-
 starts_go_on (t ∷ ts) s u e = go (step s t) (adds s t.class (span t)) e (λ v. starts_go_on ts v u)
   where
     own_starts : List ℕ
-    own_starts = replicate (begun (outside (stack_in s)) (stand_of s) t.class) t.start
+    own_starts = replicate (starting (outside (stack_in s)) (phase_of s) t.class) t.start
 
     go : (o : Option State) → After o (Grown s t.class t.start) → run ts o ≡ Some u → ((v : State) → run ts (Some v) ≡ Some u → (rest : List ℕ) × (started u ≡ started v ++ rest)) → (rest : List ℕ) × (started u ≡ started s ++ rest)
     go None g f next = no_some (sym (run-none ts) ∙ f)

@@ -1,4 +1,4 @@
--- A text whose tokens are taken up to some place: what they begin are the first starts of what it notates.
+-- A text whose tokens are taken up to some place: their starts are the first of those of the nodes that it notates.
 use Rattle.std.proofs.Common.{◌≡◌, refl, sym, ap, ◌∙◌, ℕ, List, [], ◌∷◌, ◌++◌, length, Some, None, append_assoc, append-nil, arith}
 use Rattle.cborn_model.specs.Tree.{Trees}
 use Rattle.cborn_lex.specs.declared.classes.Profile.{Profile}
@@ -22,7 +22,7 @@ use Rattle.cborn_edn.proofs.Grammar.Takes.{whole}
 use Rattle.cborn_edn.proofs.Started.Begins.{starts_go_on, whole_starts, no_some, one_state}
 use Rattle.cborn_edn.proofs.Started.Fronts.{goes_on}
 use Rattle.cborn_edn.proofs.Started.Meant.{input_meant}
-use Rattle.cborn_edn.proofs.Short.Jammed.{parsed}
+use Rattle.cborn_edn.proofs.Short.SyntaxErrors.{parsed}
 
 -- the tokens of a text that notates nodes, and where they lead
 record Whole (profile : Profile) (text : List ℕ) (nodes : Trees) : Type 0 where
@@ -51,7 +51,7 @@ counts_begin profile text here writer at shows = record {
   between = rw at (nothing profile text 0);
   runs = refl;
   modest = tt;
-  begun = refl;
+  starting = refl;
   shows = shows;
 }
 
@@ -69,7 +69,7 @@ module _ (profile : Profile) (text : List ℕ) (here : Here) (writer : Writer) (
       let lex = whole_text profile text (r.tokens ++ []) (joins profile text 0 here.at (length text) r.tokens [] r.between last) in
       let same = one_list profile text w.tokens (r.tokens ++ []) w.lex lex ∙ append-nil r.tokens in
       let state = one_state r.state w.state (sym r.runs ∙ ap (λ ts. run ts (Some start)) (sym same) ∙ w.runs) in
-      sym r.begun ∙ ap started state ∙ w.starts
+      sym r.starting ∙ ap started state ∙ w.starts
 
   -- no text of the grammar goes on with the token
   pub not_taken : (t : Token) → Between profile text here.at t.stop (t ∷ []) → step r.state t ≡ None → (limit : ℕ) (nodes : Trees) → Notates profile limit text nodes → front ≡ starts_all nodes
@@ -86,4 +86,4 @@ module _ (profile : Profile) (text : List ℕ) (here : Here) (writer : Writer) (
       let all = goes_on profile text here.at r.tokens w.tokens r.between w.lex in
       let ran = ap (run all.0) (sym r.runs) ∙ sym (run-append r.tokens all.0 (Some start)) ∙ ap (λ ts. run ts (Some start)) (sym all.1) ∙ w.runs in
       let g = starts_go_on all.0 r.state w.state ran in
-      (g.0, sym w.starts ∙ g.1 ∙ ap (λ l. l ++ g.0) r.begun)
+      (g.0, sym w.starts ∙ g.1 ∙ ap (λ l. l ++ g.0) r.starting)

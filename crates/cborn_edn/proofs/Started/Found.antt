@@ -6,7 +6,7 @@ use Rattle.cborn_model.specs.Tree.{Trees}
 use Rattle.cborn_lex.specs.declared.classes.Profile.{Profile}
 use Rattle.cborn_edn.specs.Grammar.{Notates}
 use Rattle.cborn_edn.specs.Starts.{starts_all}
-use Rattle.cborn_edn.specs.declared.starts.Begun.{Begun}
+use Rattle.cborn_edn.specs.declared.starts.TokenStarts.{TokenStarts}
 use Rattle.cborn_edn.specs.declared.states.Here.{Here}
 use Rattle.cborn_edn.specs.declared.states.Writer.{Writer}
 use Rattle.cborn_edn.specs.devices.Counting.{Counts, CountsOn}
@@ -36,14 +36,14 @@ pub record Left (profile : Profile) (text : List ℕ) (here : Here) (writer : Wr
   pub total : length front + left ≡ index
 
 -- what was counted, where it is known
-pub on_with : (profile : Profile) (text : List ℕ) (next : Here) (after : Writer) (front : List ℕ) (o q : Option Begun) → o ≡ q → CountsOn profile text next after front o → CountsOn profile text next after front q
-on_with profile text next after front o q is on = subst (λ (p : Option Begun). CountsOn profile text next after front p) is on
+pub on_with : (profile : Profile) (text : List ℕ) (next : Here) (after : Writer) (front : List ℕ) (o q : Option TokenStarts) → o ≡ q → CountsOn profile text next after front o → CountsOn profile text next after front q
+on_with profile text next after front o q is on = subst (λ (p : Option TokenStarts). CountsOn profile text next after front p) is on
 
 -- the text that is left gets shorter
-pub shorter : (profile : Profile) (text : List ℕ) (here next : Here) (after : Writer) (front : List ℕ) (o : Option Begun) (b : Begun) → o ≡ Some b → IfSome o (λ (c : Begun). here.at < next.at) → CountsOn profile text next after front o → length text - next.at < length text - here.at
+pub shorter : (profile : Profile) (text : List ℕ) (here next : Here) (after : Writer) (front : List ℕ) (o : Option TokenStarts) (b : TokenStarts) → o ≡ Some b → IfSome o (λ (c : TokenStarts). here.at < next.at) → CountsOn profile text next after front o → length text - next.at < length text - here.at
 shorter profile text here next after front o b is further on =
     let counts : Counts profile text next after (front ++ replicate b.count b.place) = on_with profile text next after front o (Some b) is on in
-    let far : here.at < next.at = subst (λ (p : Option Begun). IfSome p (λ (c : Begun). here.at < next.at)) is further in
+    let far : here.at < next.at = subst (λ (p : Option TokenStarts). IfSome p (λ (c : TokenStarts). here.at < next.at)) is further in
     omega (arith, counts.inside, far)
 
 module _ (profile : Profile) (text : List ℕ) (here next : Here) (writer after : Writer) (index left : ℕ) (u : Left profile text here writer index left) where
@@ -51,7 +51,7 @@ module _ (profile : Profile) (text : List ℕ) (here next : Here) (writer after 
   pub none_found : CountsOn profile text next after u.front None → (limit : ℕ) (nodes : Trees) → Notates profile limit text nodes → slice_get (starts_all nodes) index ≡ None
   none_found all limit nodes h = ap (λ w. slice_get w index) (sym (all limit nodes h)) ∙ beyond u.front index (omega (arith, u.total))
 
-  module _ (b : Begun) (on : CountsOn profile text next after u.front (Some b)) where
+  module _ (b : TokenStarts) (on : CountsOn profile text next after u.front (Some b)) where
     -- it is one of those that the token begins
     pub found : left < b.count → (limit : ℕ) (nodes : Trees) → Notates profile limit text nodes → slice_get (starts_all nodes) index ≡ Some b.place
     found few limit nodes h =

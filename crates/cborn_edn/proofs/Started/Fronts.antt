@@ -5,16 +5,16 @@ use Rattle.cborn_lex.specs.declared.classes.Token.{Token}
 use Rattle.cborn_lex.specs.Tokens.{Front}
 use Rattle.cborn_lex.specs.Forms.{Reads}
 use Rattle.cborn_lex.specs.Lex.{Lex, Between}
-use Rattle.cborn_lex.specs.devices.Pieces.{Lexeme, gap, token, slice, front_of, spelled, AreRead, tokens}
+use Rattle.cborn_lex.specs.devices.Pieces.{Lexeme, white_space, token, slice, front_of, spelled, AreRead, tokens}
 use Rattle.cborn_lex.proofs.WholeTexts.Parts.{parted, lex_parted}
 use Rattle.cborn_lex.proofs.OneFront.Runs.{rest}
 use Rattle.cborn_lex.proofs.OneFront.Alone.{one_front}
 
 -- a piece is its slice and what it is
 one_piece : (p q : Lexeme) → slice p ≡ slice q → front_of p ≡ front_of q → p ≡ q
-one_piece (gap s) (gap t) e h = ap gap e
-one_piece (gap s) (token k t) e h = cc
-one_piece (token k s) (gap t) e h = cc
+one_piece (white_space s) (white_space t) e h = ap white_space e
+one_piece (white_space s) (token k t) e h = cc
+one_piece (token k s) (white_space t) e h = cc
 one_piece (token k s) (token l t) e h = cc
 
 nothing_reads : (profile : Profile) (s z : List ℕ) (a : Front) → Reads profile s z a → s ++ z ≡ [] → ⊥
@@ -34,7 +34,7 @@ front_pieces profile (p ∷ ps) (q ∷ qs) z h k e =
 
 tokens_more : (n : ℕ) (ps rs : List Lexeme) → (more : List Token) × (tokens n (ps ++ rs) ≡ tokens n ps ++ more)
 tokens_more n [] rs = (tokens n rs, refl)
-tokens_more n (gap s ∷ ps) rs = tokens_more (n + length s) ps rs
+tokens_more n (white_space s ∷ ps) rs = tokens_more (n + length s) ps rs
 tokens_more n (token k s ∷ ps) rs = let t = tokens_more (n + length s) ps rs in (t.0, ap (λ w. record { start = n; stop = n + length s; class = k } ∷ w) t.1)
 
 -- the tokens of a text go on from those up to a place

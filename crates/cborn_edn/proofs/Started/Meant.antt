@@ -1,4 +1,4 @@
--- What a tree says, also where it has a slip, starts where the tree's own starts are, and each token has at most one spot of it.
+-- The nodes that a tree says, also if it has a meaning error, have the starts of the tree, and each token has at most one of their spots.
 use Rattle.std.proofs.Common.{◌≡◌, refl, sym, ap, ◌∙◌, subst, ℕ, List, [], ◌∷◌, ◌++◌, length, Bool, true, false, ◌&&◌, cond, replicate, append_assoc, append-nil, ◌⊎◌, inl, inr}
 use Rattle.cborn_model.specs.declared.heads.Width.{Width}
 use Rattle.cborn_model.specs.declared.nodes.Chunk.{Chunk}
@@ -8,8 +8,8 @@ use Rattle.cborn_lex.specs.declared.classes.Class.TheVariants.{ArrayClose, MapCl
 use Rattle.cborn_lex.specs.declared.classes.Token.{Token}
 use Rattle.cborn_edn.specs.declared.strings.StringKind.{StringKind}
 use Rattle.cborn_edn.specs.declared.strings.StringKind.TheVariants.{Bytes as OfBytes, Text as OfText}
-use Rattle.cborn_edn.specs.shared.Syntax.{Span, Item, number, word, tag, simple, string, chunked, array, map, Piece, text, bytes, embedded, Pieces, piece, also, Strings, strings, StringsBefore, no_string, after_strings, Row, row, RowBefore, no_item, after_row, Content, loose, tight, Pairs, pairs, PairsBefore, no_pair, after_pairs, Fields, loose_fields, tight_fields, Input, nothing, items, token, tokens_of, tokens_of_piece, tokens_of_pieces, tokens_of_strings, tokens_of_strings_before, tokens_of_row, tokens_of_row_before, tokens_of_content, tokens_of_pairs, tokens_of_pairs_before, tokens_of_fields, tokens_of_input, is_below, argument_of, is_small}
-use Rattle.cborn_edn.specs.shared.Meaning.{snoc, snoc_entry, integer, place, start_of, string_node, chunked_node}
+use Rattle.cborn_edn.specs.devices.Syntax.{Span, Item, number, word, tag, simple, string, chunked, array, map, Piece, text, bytes, embedded, Pieces, piece, also, Strings, strings, StringsBefore, no_string, after_strings, Row, row, RowBefore, no_item, after_row, Content, loose, tight, Pairs, pairs, PairsBefore, no_pair, after_pairs, Fields, loose_fields, tight_fields, Input, nothing, items, token, tokens_of, tokens_of_piece, tokens_of_pieces, tokens_of_strings, tokens_of_strings_before, tokens_of_row, tokens_of_row_before, tokens_of_content, tokens_of_pairs, tokens_of_pairs_before, tokens_of_fields, tokens_of_input, is_below, argument_of, is_small}
+use Rattle.cborn_edn.specs.devices.Meaning.{snoc, snoc_entry, integer, place, start_of, string_node, chunked_node}
 use Rattle.cborn_edn.specs.Says.{width, is_endless, bignum, number_node, Str, said_string, chunk}
 use Rattle.cborn_edn.specs.Starts.{starts_of_chunks, starts, starts_all, starts_entries, unless_bytes, spots, spots_all, spots_entries}
 use Rattle.cborn_edn.proofs.Short.Meant.{str_place}
@@ -37,7 +37,7 @@ bytes_aside : (t : Tree) (xs : List ℕ) (ts : List Token) → Among xs ts → A
 bytes_aside (ByteNode p w b) xs ts h = none_among ts
 bytes_aside _ xs ts h = h
 
--- nodes with these starts and spots are told by tokens with these starts of their own
+-- nodes with these starts and spots are said by tokens with these starts
 record Placed (all some own : List ℕ) (ts : List Token) : Type 0 where
   starts : all ≡ own
   spots : Among some ts

@@ -18,15 +18,15 @@ use Rattle.cborn_lex.proofs.WholeTexts.Weights.{between_modest}
 use Rattle.cborn_edn.specs.Grammar.{Notates}
 use Rattle.cborn_edn.specs.Says.{is_nil}
 use Rattle.cborn_edn.specs.Starts.{starts_all}
-use Rattle.cborn_edn.specs.shared.Syntax.{Span, Item}
-use Rattle.cborn_edn.specs.shared.Machine.{Stack, in_row, in_key, in_value, in_tag, Nest, at_top, in_array, in_embed}
+use Rattle.cborn_edn.specs.devices.Syntax.{Span, Item}
+use Rattle.cborn_edn.specs.devices.Machine.{Stack, in_row, in_key, in_value, in_tag, Nest, at_top, in_array, in_embed}
 use Rattle.cborn_edn.specs.declared.states.Here.{Here}
 use Rattle.cborn_edn.specs.declared.states.Writer.{Writer}
-use Rattle.cborn_edn.specs.declared.states.Stand.TheVariants as stands
+use Rattle.cborn_edn.specs.declared.states.Phase.TheVariants as phases
 use Rattle.cborn_edn.specs.devices.Ahead.{IsTokenAt}
-use Rattle.cborn_edn.specs.devices.Begun.{begun}
+use Rattle.cborn_edn.specs.devices.TokenStarts.{starting}
 use Rattle.cborn_edn.specs.devices.Counting.{Counts}
-use Rattle.cborn_edn.specs.devices.Kept.{arounds_of, arounds_nest, stack_in, stand_of}
+use Rattle.cborn_edn.specs.devices.Kept.{arounds_of, arounds_nest, stack_in, phase_of}
 use Rattle.cborn_edn.specs.devices.Modest.{AreModest}
 use Rattle.cborn_edn.specs.devices.Reading.{WasRead}
 use Rattle.cborn_edn.specs.devices.Shows.{Shows}
@@ -58,16 +58,16 @@ mutual
   outside_nest_is k (in_embed h o s) = refl
 
 -- nothing begins after an item
-begins_none : (b : Bool) (c : Class) → begun b stands.Has c ≡ 0
+begins_none : (b : Bool) (c : Class) → starting b phases.Has c ≡ 0
 begins_none true c = refl
 begins_none false c = refl
 
 module _ (p : Profile) (text : List ℕ) (here : Here) (w : Writer) (front : List ℕ) (r : Counts p text here w front) where
   -- with nothing left of the text
-  pub none_read : (o : Option BareToken) (n : ℕ) (out : List ℕ) → WasRead p text here.at here.stand o n w.out.items out → o ≡ None → (limit : ℕ) (nodes : Trees) → Notates p limit text nodes → front ≡ starts_all nodes
-  none_read o n out read is = go (subst (λ (q : Option BareToken). WasRead p text here.at here.stand q n w.out.items out) is read)
+  pub none_read : (o : Option BareToken) (n : ℕ) (out : List ℕ) → WasRead p text here.at here.phase o n w.out.items out → o ≡ None → (limit : ℕ) (nodes : Trees) → Notates p limit text nodes → front ≡ starts_all nodes
+  none_read o n out read is = go (subst (λ (q : Option BareToken). WasRead p text here.at here.phase q n w.out.items out) is read)
     where
-      go : WasRead p text here.at here.stand None n w.out.items out → (limit : ℕ) (nodes : Trees) → Notates p limit text nodes → front ≡ starts_all nodes
+      go : WasRead p text here.at here.phase None n w.out.items out → (limit : ℕ) (nodes : Trees) → Notates p limit text nodes → front ≡ starts_all nodes
       go h = none_left p text here w front r (through p h.0)
 
   -- with no token there
@@ -99,16 +99,16 @@ module _ (p : Profile) (text : List ℕ) (here : Here) (w : Writer) (front : Lis
       nothing_after e = not_taken p text here w front r the_token k.between (subst (λ (q : Bool). Taken q r.state c place next left) e took)
 
       -- it was taken, and what it begins is counted
-      pub counted_on : ok ≡ true → (count : ℕ) → ((x : List ℕ) → count ≡ begun (is_nil v.around) here.stand (class_of t.kind n x)) → Counts p text (record next { at = t.stop }) left (front ++ replicate count t.start)
+      pub counted_on : ok ≡ true → (count : ℕ) → ((x : List ℕ) → count ≡ starting (is_nil v.around) here.phase (class_of t.kind n x)) → Counts p text (record next { at = t.stop }) left (front ++ replicate count t.start)
       counted_on e count b = go (subst (λ (q : Bool). Taken q r.state c place next left) e took)
         where
-          own : count ≡ begun (is_nil w.around) here.stand c
-          own = b k.content ∙ ap (λ l. begun (is_nil l) here.stand c) same.around
+          own : count ≡ starting (is_nil w.around) here.phase c
+          own = b k.content ∙ ap (λ l. starting (is_nil l) here.phase c) same.around
 
           go : Taken true r.state c place next left → Counts p text (record next { at = t.stop }) left (front ++ replicate count t.start)
           go (u, is, e) =
               let grown : Grown r.state c t.start u = subst (λ (o : Option State). After o (Grown r.state c t.start)) is (adds r.state c place) in
-              let shown = own ∙ ap (λ l. begun (is_nil l) here.stand c) r.shows.around ∙ ap (λ b. begun b here.stand c) (outside_is w.heads (stack_in r.state)) ∙ ap (λ st. begun (outside (stack_in r.state)) st c) r.shows.stand in
+              let shown = own ∙ ap (λ l. starting (is_nil l) here.phase c) r.shows.around ∙ ap (λ b. starting b here.phase c) (outside_is w.heads (stack_in r.state)) ∙ ap (λ st. starting (outside (stack_in r.state)) st c) r.shows.phase in
               record {
                 inside = (inside p text here.at t.stop (the_token ∷ []) r.inside k.between).1;
                 state = u;
@@ -116,8 +116,8 @@ module _ (p : Profile) (text : List ℕ) (here : Here) (w : Writer) (front : Lis
                 between = joins p text 0 here.at t.stop r.tokens (the_token ∷ []) r.between k.between;
                 runs = leads_on r.tokens the_token r.state u r.runs is;
                 modest = subst AreModest (sym (held_more r.state u c place is)) (modest_both (held r.state) (the_token ∷ []) r.modest k.modest);
-                begun = grown ∙ ap (λ m. started r.state ++ replicate m t.start) (sym shown) ∙ ap (λ l. l ++ replicate count t.start) r.begun;
-                shows = record { stand = e.stand; level = e.level; count = e.count; frames = e.frames; around = e.around; string = e.string; chunks = e.chunks; simple = e.simple; slip = e.slip; out = e.out };
+                starting = grown ∙ ap (λ m. started r.state ++ replicate m t.start) (sym shown) ∙ ap (λ l. l ++ replicate count t.start) r.starting;
+                shows = record { phase = e.phase; level = e.level; count = e.count; brackets = e.brackets; around = e.around; string = e.string; chunks = e.chunks; simple = e.simple; error = e.error; out = e.out };
               }
 
   pub few_counted : length w.out.items < 2 ^ 63 → here.count < 2 ^ 63
@@ -125,8 +125,8 @@ module _ (p : Profile) (text : List ℕ) (here : Here) (w : Writer) (front : Lis
 
   -- a token of one character after an item begins nothing
   module _ (are : AreBytes text) (c : Class) (tok : IsTokenAt p text here.at (here.at + 1) c) (next : Here) where
-    pub after_counted : here.stand ≡ stands.Has → (ok : Bool) → ok ≡ true → ((st : Stack) (i : Item) (a : Span) → Shows here w w.out.items (has st i) → Taken ok (has st i) c a next w) → Counts p text (record next { at = here.at + 1 }) w front
-    after_counted h ok e f = go (is_has r.state (sym r.shows.stand ∙ h))
+    pub after_counted : here.phase ≡ phases.Has → (ok : Bool) → ok ≡ true → ((st : Stack) (i : Item) (a : Span) → Shows here w w.out.items (has st i) → Taken ok (has st i) c a next w) → Counts p text (record next { at = here.at + 1 }) w front
+    after_counted h ok e f = go (is_has r.state (sym r.shows.phase ∙ h))
       where
         place : Span
         place = record { start = here.at; stop = here.at + 1 }
@@ -134,7 +134,7 @@ module _ (p : Profile) (text : List ℕ) (here : Here) (w : Writer) (front : Lis
         the_token : Token
         the_token = record { start = here.at; stop = here.at + 1; class = c }
 
-        on : (u : State) → step_by r.state c place ≡ Some u → Shows next w w.out.items u → stand_of r.state ≡ stands.Has → Counts p text (record next { at = here.at + 1 }) w front
+        on : (u : State) → step_by r.state c place ≡ Some u → Shows next w w.out.items u → phase_of r.state ≡ phases.Has → Counts p text (record next { at = here.at + 1 }) w front
         on u is shows stood =
             let between : Between p text here.at (here.at + 1) (the_token ∷ []) = through p tok in
             let there = between_modest p text here.at (here.at + 1) (the_token ∷ []) are between in
@@ -147,11 +147,11 @@ module _ (p : Profile) (text : List ℕ) (here : Here) (w : Writer) (front : Lis
               between = joins p text 0 here.at (here.at + 1) r.tokens (the_token ∷ []) r.between between;
               runs = leads_on r.tokens the_token r.state u r.runs is;
               modest = subst AreModest (sym (held_more r.state u c place is)) (modest_both (held r.state) (the_token ∷ []) r.modest modest);
-              begun = grown ∙ ap (λ st. started r.state ++ replicate (begun (outside (stack_in r.state)) st c) here.at) stood ∙ ap (λ m. started r.state ++ replicate m here.at) (begins_none (outside (stack_in r.state)) c) ∙ append-nil (started r.state) ∙ r.begun;
-              shows = record { stand = shows.stand; level = shows.level; count = shows.count; frames = shows.frames; around = shows.around; string = shows.string; chunks = shows.chunks; simple = shows.simple; slip = shows.slip; out = shows.out };
+              starting = grown ∙ ap (λ st. started r.state ++ replicate (starting (outside (stack_in r.state)) st c) here.at) stood ∙ ap (λ m. started r.state ++ replicate m here.at) (begins_none (outside (stack_in r.state)) c) ∙ append-nil (started r.state) ∙ r.starting;
+              shows = record { phase = shows.phase; level = shows.level; count = shows.count; brackets = shows.brackets; around = shows.around; string = shows.string; chunks = shows.chunks; simple = shows.simple; error = shows.error; out = shows.out };
             }
 
         go : (st : Stack) × (i : Item) × (has st i ≡ r.state) → Counts p text (record next { at = here.at + 1 }) w front
         go (st, i, k) =
             let took : Taken true (has st i) c place next w = subst (λ b. Taken b (has st i) c place next w) e (f st i place (subst (Shows here w w.out.items) (sym k) r.shows)) in
-            on took.0 (subst (λ (v : State). step_by v c place ≡ Some took.0) k took.1) took.2 (sym r.shows.stand ∙ h)
+            on took.0 (subst (λ (v : State). step_by v c place ≡ Some took.0) k took.1) took.2 (sym r.shows.phase ∙ h)

@@ -9,7 +9,7 @@ use Rattle.cborn_lex.proofs.GoodTexts.{lexed}
 use Rattle.cborn_lex.proofs.WholeTexts.Chains.{spans_rise}
 use Rattle.cborn_edn.specs.Grammar.{Notates}
 use Rattle.cborn_edn.specs.Starts.{IsRising, spots_all}
-use Rattle.cborn_edn.proofs.Short.Jammed.{parsed}
+use Rattle.cborn_edn.proofs.Short.SyntaxErrors.{parsed}
 use Rattle.cborn_edn.proofs.Started.Meant.{Among, input_among}
 
 abbrev AreFrom : ℕ → List ℕ → Type 0

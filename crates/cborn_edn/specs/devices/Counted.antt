@@ -1,9 +1,9 @@
--- A device of the proofs: what a tree of the grammar may still hold without bound is bounded: the lengths of strings, of bignums and of what is joined, and the counts of arrays and maps, are below 2^64; each string is bytes; each word is a simple value below 24. The tree of each text of fewer than 2^56 bytes is so, as a law says.
+-- A device of the proofs: trees of the grammar in which the lengths of strings, of bignums and of joined pieces, and the counts of arrays and maps, are below 2^64, each string is bytes, and each word is a simple value below 24. By a law the tree of each text of fewer than 2^56 bytes is such a tree.
 use Rattle.std.specs.Prelude.{ℕ, ◌^◌, ◌<◌, List, length, Option, Some, None}
 use Rattle.std.specs.Int.Digits.{digits_of}
 use Rattle.cborn_model.specs.Bytes.{AreBytes}
-use Rattle.cborn_edn.specs.shared.Syntax.{Item, number, word, tag, simple, string, chunked, array, map, Piece, text, bytes, embedded, Pieces, piece, also, Strings, strings, StringsBefore, no_string, after_strings, Row, row, RowBefore, no_item, after_row, Content, loose, tight, Pairs, pairs, PairsBefore, no_pair, after_pairs, Fields, loose_fields, tight_fields, Input, nothing, items, argument_of}
-use Rattle.cborn_edn.specs.shared.Meaning.{joined, content_length, fields_length}
+use Rattle.cborn_edn.specs.devices.Syntax.{Item, number, word, tag, simple, string, chunked, array, map, Piece, text, bytes, embedded, Pieces, piece, also, Strings, strings, StringsBefore, no_string, after_strings, Row, row, RowBefore, no_item, after_row, Content, loose, tight, Pairs, pairs, PairsBefore, no_pair, after_pairs, Fields, loose_fields, tight_fields, Input, nothing, items, argument_of}
+use Rattle.cborn_edn.specs.devices.Meaning.{joined, content_length, fields_length}
 
 abbrev pub IsShort : Option (List ℕ) → Type 0
 IsShort None = Unit {0}

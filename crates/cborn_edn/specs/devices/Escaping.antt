@@ -1,4 +1,4 @@
--- A device of the proofs: the characters of a text that are written as they stand. No definition cites it.
+-- A device of the proofs: the bytes of a text that are written as escapes. No definition cites it.
 use Rattle.std.specs.Prelude.{ℕ, Bool, nat_lt, ◌==◌, ◌||◌}
 
 abbrev pub is_escaped : ℕ → Bool

@@ -1,19 +1,19 @@
--- A device of the proofs: what the reader keeps beside its output at a state of the machine of tokens. No definition cites it.
+-- A device of the proofs: what the reader keeps, other than its output, at a state of the machine of tokens. No definition cites it.
 use Rattle.std.specs.Prelude.{ℕ, List, [], ◌∷◌, ◌++◌, length, Option, Some, None}
 use Rattle.cborn_model.specs.Tree.{count, count_entries}
 use Rattle.cborn_lex.specs.declared.classes.Mark.{Mark}
 use Rattle.cborn_lex.specs.declared.classes.Mark.TheVariants.{Absent}
 use Rattle.cborn_edn.specs.declared.strings.StringKind.{StringKind}
-use Rattle.cborn_edn.specs.shared.Machine.{first_slip}
+use Rattle.cborn_edn.specs.devices.Machine.{first_error}
 use Rattle.cborn_edn.specs.Says.{Str}
-use Rattle.cborn_edn.specs.shared.Syntax.{Pieces, StringsBefore, no_string, after_strings, after_row, after_pairs}
-use Rattle.cborn_edn.specs.shared.Machine.{Stack, in_row, in_key, in_value, in_tag, Nest, at_top, in_array, in_embed, Home, as_item, as_chunk, State, wants, has, builds, wants_chunk, wants_number, has_number}
-use Rattle.cborn_edn.specs.shared.Said.{str, kind_in, nodes_before, entries_before}
+use Rattle.cborn_edn.specs.devices.Syntax.{Pieces, StringsBefore, no_string, after_strings, after_row, after_pairs}
+use Rattle.cborn_edn.specs.devices.Machine.{Stack, in_row, in_key, in_value, in_tag, Nest, at_top, in_array, in_embed, Home, as_item, as_chunk, State, wants, has, builds, wants_chunk, wants_number, has_number}
+use Rattle.cborn_edn.specs.devices.Said.{str, kind_in, nodes_before, entries_before}
 use Rattle.cborn_edn.specs.declared.states.Level.{Level}
 use Rattle.cborn_edn.specs.declared.states.Level.TheVariants as levels
-use Rattle.cborn_edn.specs.declared.states.Stand.{Stand}
-use Rattle.cborn_edn.specs.declared.states.Stand.TheVariants as stands
-use Rattle.cborn_edn.specs.declared.states.Frame.{Frame}
+use Rattle.cborn_edn.specs.declared.states.Phase.{Phase}
+use Rattle.cborn_edn.specs.declared.states.Phase.TheVariants as phases
+use Rattle.cborn_edn.specs.declared.states.OpenBracket.{OpenBracket}
 use Rattle.cborn_edn.specs.declared.states.Joint.{Joint}
 use Rattle.cborn_edn.specs.declared.states.Chunks.{Chunks}
 use Rattle.cborn_edn.specs.declared.states.Around.{Around}
@@ -25,7 +25,7 @@ abbrev pub stack_of : Home → Stack
 stack_of (as_item st) = st
 stack_of (as_chunk st s b) = st
 
--- the innermost bracket
+-- the kind of the innermost open bracket
 abbrev pub level_of : Stack → Option Level
 level_of (in_row at_top b) = None
 level_of (in_row (in_array st s m) b) = Some levels.Array
@@ -34,22 +34,22 @@ level_of (in_key st s m b) = Some levels.Key
 level_of (in_value st s m b k c) = Some levels.Value
 level_of (in_tag st s n m) = Some levels.Tag
 
--- how many items or pairs with their commas stand in it
+-- how many items or pairs in it have a comma after them
 abbrev pub count_of : Stack → ℕ
 count_of (in_row n b) = count (nodes_before b)
 count_of (in_key st s m b) = count_entries (entries_before b)
 count_of (in_value st s m b k c) = count_entries (entries_before b)
 count_of (in_tag st s n m) = 0
 
-abbrev pub wanting : Stack → Stand
-wanting (in_row n (after_row r c)) = stands.WantsMore
-wanting (in_key st s m (after_pairs ps c)) = stands.WantsMore
-wanting _ = stands.Wants
+abbrev pub wanting : Stack → Phase
+wanting (in_row n (after_row r c)) = phases.WantsMore
+wanting (in_key st s m (after_pairs ps c)) = phases.WantsMore
+wanting _ = phases.Wants
 
-abbrev pub frame : Stack → ℕ → ℕ → Mark → Frame
-frame st place start m = record { place = place; start = start; count = count_of st; level = level_of st; mark = m }
+abbrev pub bracket : Stack → ℕ → ℕ → Mark → OpenBracket
+bracket st place start m = record { place = place; start = start; count = count_of st; level = level_of st; mark = m }
 
--- a string so far, whose head's place is at start
+-- the pieces of a string so far; start is the offset of the byte in the place of its head
 abbrev pub joint : ℕ → Str → Joint
 joint start s = record { kind = s.kind; start = start; place = s.place; mark = s.mark; mark_place = s.mark_place; lone = s.lone; known = s.known }
 
@@ -61,7 +61,7 @@ abbrev pub kind_before : StringsBefore → Option StringKind
 kind_before no_string = None
 kind_before (after_strings ss c) = Some (kind_in ss)
 
--- the kind of the first chunk, or this one where it is the first
+-- the kind of the first chunk, or k if there is none before
 abbrev pub kind_or : Option StringKind → StringKind → StringKind
 kind_or None k = k
 kind_or (Some k) l = k
@@ -71,26 +71,26 @@ chunks_of k (as_item st) = None
 chunks_of k (as_chunk st s b) = Some (record { start = length (laid_stack k st); kind = kind_before b })
 
 abbrev pub around : Heads → Home → Option Pieces → Around
-around k h o = record { string = string_at k h o; chunks = chunks_of k h; slip = first_slip (noted_home h ++ pieces_noted o) }
+around k h o = record { string = string_at k h o; chunks = chunks_of k h; error = first_error (noted_home h ++ pieces_noted o) }
 
--- the open brackets, the innermost first, each with what stood around it
+-- the open brackets, the innermost first, each with what was kept around it
 abbrev mutual
-  pub frames_of : Heads → Stack → List Frame
-  frames_of k (in_row n b) = frames_nest k n
-  frames_of k (in_key st s m b) = frame st s.start (length (laid_stack k st)) m ∷ frames_of k st
-  frames_of k (in_value st s m b i c) = frame st s.start (length (laid_stack k st)) m ∷ frames_of k st
-  frames_of k (in_tag st s n m) = frame st 0 0 Absent ∷ frames_of k st
+  pub brackets_of : Heads → Stack → List OpenBracket
+  brackets_of k (in_row n b) = brackets_nest k n
+  brackets_of k (in_key st s m b) = bracket st s.start (length (laid_stack k st)) m ∷ brackets_of k st
+  brackets_of k (in_value st s m b i c) = bracket st s.start (length (laid_stack k st)) m ∷ brackets_of k st
+  brackets_of k (in_tag st s n m) = bracket st 0 0 Absent ∷ brackets_of k st
 
-  pub frames_nest : Heads → Nest → List Frame
-  frames_nest k at_top = []
-  frames_nest k (in_array st s m) = frame st s.start (length (laid_stack k st)) m ∷ frames_of k st
-  frames_nest k (in_embed h o s) = frame (stack_of h) s.start (length (laid_home k h)) Absent ∷ frames_home k h
+  pub brackets_nest : Heads → Nest → List OpenBracket
+  brackets_nest k at_top = []
+  brackets_nest k (in_array st s m) = bracket st s.start (length (laid_stack k st)) m ∷ brackets_of k st
+  brackets_nest k (in_embed h o s) = bracket (stack_of h) s.start (length (laid_home k h)) Absent ∷ brackets_home k h
 
-  pub frames_home : Heads → Home → List Frame
-  frames_home k (as_item st) = frames_of k st
-  frames_home k (as_chunk st s b) = frames_of k st
+  pub brackets_home : Heads → Home → List OpenBracket
+  brackets_home k (as_item st) = brackets_of k st
+  brackets_home k (as_chunk st s b) = brackets_of k st
 
--- what stands around each `<<`, the innermost first
+-- what is kept around each open `<<`, the innermost first
 abbrev mutual
   pub arounds_of : Heads → Stack → List Around
   arounds_of k (in_row n b) = arounds_nest k n
@@ -107,15 +107,15 @@ abbrev mutual
   arounds_home k (as_item st) = arounds_of k st
   arounds_home k (as_chunk st s b) = arounds_of k st
 
-abbrev pub stand_of : State → Stand
-stand_of (wants st) = wanting st
-stand_of (has st i) = stands.Has
-stand_of (builds h ps) = stands.Builds
-stand_of (wants_chunk st s b) = stands.WantsChunk
-stand_of (wants_number st s) = stands.WantsNumber
-stand_of (has_number st s b n v m) = stands.HasNumber
+abbrev pub phase_of : State → Phase
+phase_of (wants st) = wanting st
+phase_of (has st i) = phases.Has
+phase_of (builds h ps) = phases.Builds
+phase_of (wants_chunk st s b) = phases.WantsChunk
+phase_of (wants_number st s) = phases.WantsNumber
+phase_of (has_number st s b n v m) = phases.HasNumber
 
--- what is open around what stands right before the next token
+-- what is open at a state
 abbrev pub stack_in : State → Stack
 stack_in (wants st) = st
 stack_in (has st i) = st

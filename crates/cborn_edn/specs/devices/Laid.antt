@@ -1,9 +1,9 @@
--- A device of the proofs: what the reader has written at a state of the machine of tokens: what stands complete as it spells, its heads as wide as they are written there, with a byte in the place of each head that isn't known yet. No definition cites it.
+-- A device of the proofs: the output of the reader at a state of the machine of tokens. It has the bytes that whole items spell, and a byte in the place of each head that isn't known yet. No definition cites it.
 use Rattle.std.specs.Prelude.{ℕ, ◌%◌, List, [], ◌∷◌, ◌++◌, map, Option, Some, None}
 use Rattle.std.specs.List.{flat_map}
 use Rattle.cborn_model.specs.declared.heads.Major.{Major}
 use Rattle.cborn_model.specs.declared.heads.Major.TheVariants.{ByteString, TextString, Array, Map, Tag}
-use Rattle.cborn_model.specs.Heads.{Given, Unbounded, head}
+use Rattle.cborn_model.specs.Heads.{Given, EndlessArgument, head}
 use Rattle.cborn_model.specs.Tree.{Simple}
 use Rattle.cborn_model.specs.Spelled.{spelled, spelled_all, spelled_entries, chunk_bytes}
 use Rattle.cborn_lex.specs.declared.classes.Mark.{Mark}
@@ -11,9 +11,9 @@ use Rattle.cborn_lex.specs.declared.classes.Mark.TheVariants.{Endless}
 use Rattle.cborn_edn.specs.declared.strings.StringKind.{StringKind}
 use Rattle.cborn_edn.specs.declared.strings.StringKind.TheVariants.{Bytes as OfBytes, Text as OfText}
 use Rattle.cborn_edn.specs.Says.{width}
-use Rattle.cborn_edn.specs.shared.Syntax.{Pieces, StringsBefore, no_string, after_strings}
-use Rattle.cborn_edn.specs.shared.Machine.{Stack, in_row, in_key, in_value, in_tag, Nest, at_top, in_array, in_embed, Home, as_item, as_chunk, State, wants, has, builds, wants_chunk, wants_number, has_number}
-use Rattle.cborn_edn.specs.shared.Said.{node, str, kind_in, chunks, nodes_before, entries_before}
+use Rattle.cborn_edn.specs.devices.Syntax.{Pieces, StringsBefore, no_string, after_strings}
+use Rattle.cborn_edn.specs.devices.Machine.{Stack, in_row, in_key, in_value, in_tag, Nest, at_top, in_array, in_embed, Home, as_item, as_chunk, State, wants, has, builds, wants_chunk, wants_number, has_number}
+use Rattle.cborn_edn.specs.devices.Said.{node, str, kind_in, chunks, nodes_before, entries_before}
 use Rattle.cborn_edn.specs.declared.states.Heads.{Heads}
 use Rattle.cborn_edn.specs.devices.Written.{heads_at, heads_nest, written_mark, chunks_as, node_as, nodes_as, entries_as}
 
@@ -25,16 +25,16 @@ abbrev pub major_of : StringKind → Major
 major_of OfBytes = ByteString
 major_of OfText = TextString
 
--- in the place of an array's or a map's head
+-- what is written where an array or a map opens: its head, or a byte in its place
 abbrev pub place_of : Major → Mark → List ℕ
-place_of k Endless = head k Unbounded
+place_of k Endless = head k EndlessArgument
 place_of k _ = 0 ∷ []
 
 abbrev pub bytes_before : Option Pieces → List ℕ
 bytes_before None = []
 bytes_before (Some ps) = (str ps).bytes
 
--- the chunks, without the head of the string
+-- what chunks spell, without the head of their string
 abbrev pub chunks_laid : Heads → StringsBefore → List ℕ
 chunks_laid k no_string = []
 chunks_laid k (after_strings ss c) = flat_map (chunk_bytes (major_of (kind_in ss))) (chunks_as k (chunks ss))

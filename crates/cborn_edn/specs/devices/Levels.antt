@@ -1,10 +1,10 @@
--- A device of the proofs: how deep a token goes. No definition cites it.
+-- A device of the proofs: the nesting depth that a token needs. No definition cites it.
 use Rattle.std.specs.Prelude.{ℕ, suc, ◌+◌}
 use Rattle.cborn_lex.specs.declared.classes.Class.{Class}
 use Rattle.cborn_lex.specs.declared.classes.Class.TheVariants.{ArrayOpen, MapOpen, EmbedOpen, Number, TagOpen}
-use Rattle.cborn_edn.specs.shared.Syntax.{depth_of_number}
+use Rattle.cborn_edn.specs.devices.Syntax.{depth_of_number}
 
--- how deep a token goes that stands inside k
+-- the nesting depth that a token needs inside k open brackets
 abbrev pub reach : ℕ → Class → ℕ
 reach k (ArrayOpen m) = suc k
 reach k (MapOpen m) = suc k

@@ -1,4 +1,4 @@
--- A device of the proofs: the lowest place of a text that isn't UTF-8, as it is looked for. No definition cites it.
+-- A device of the proofs: the lowest place of a text that isn't UTF-8, in the order in which the code looks for it. No definition cites it.
 use Rattle.std.specs.Prelude.{ℕ, List, [], ◌∷◌, min, if◌then◌else◌, Option, Some, None}
 use Rattle.std.specs.Str.{is_utf8}
 use Rattle.cborn_model.specs.declared.nodes.Chunk.{Chunk}

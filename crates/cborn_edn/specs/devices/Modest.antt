@@ -1,4 +1,4 @@
--- A device of the proofs: what tokens of a text stand for: contents of bytes, and numbers below 2^128. No definition cites it.
+-- A device of the proofs: tokens as a text has them: contents are bytes, and numbers are below 2^128. No definition cites it.
 use Rattle.std.specs.Prelude.{◌^◌, ◌<◌, List, [], ◌∷◌}
 use Rattle.cborn_model.specs.Bytes.{AreBytes}
 use Rattle.cborn_lex.specs.declared.classes.Class.{Class}

@@ -7,7 +7,7 @@ use Rattle.cborn_edn.specs.declared.faults.EdnReason.TheVariants.{UnexpectedToke
 use Rattle.cborn_lex.specs.declared.classes.Class.{Class}
 use Rattle.cborn_lex.specs.declared.classes.Class.TheVariants.{ArrayClose, MapClose, EmbedClose, Comma}
 use Rattle.cborn_lex.specs.declared.classes.Token.{Token}
-use Rattle.cborn_edn.specs.shared.Syntax.{Span, token, Input, tokens_of_input, depth_of_input}
+use Rattle.cborn_edn.specs.devices.Syntax.{Span, token, Input, tokens_of_input, depth_of_input}
 
 -- ], } or >>
 abbrev pub is_closing : Class → Bool
@@ -16,7 +16,7 @@ is_closing MapClose = true
 is_closing (EmbedClose m) = true
 is_closing _ = false
 
--- In profile 1 no comma stands right before one of them.
+-- in profile 1 no comma is directly before one of them
 abbrev pub Allows : Profile → List Token → Type 0
 Allows ProfileOne tokens = (x y : List Token) (at : Span) (t : Token) → tokens ≡ x ++ token at Comma ∷ t ∷ y → is_closing t.class ≡ false
 Allows ProfileTwo tokens = Unit {0}
@@ -34,16 +34,16 @@ GoesOn profile limit tokens = (more : List Token) × HasTree profile limit (toke
 abbrev pub GoesOnAtAnyDepth : Profile → List Token → Type 0
 GoesOnAtAnyDepth profile tokens = (limit : ℕ) × GoesOn profile limit tokens
 
--- no text goes on with t, which stands behind f
+-- no text of the grammar begins with f and t
 pub record StopsAt (profile : Profile) (limit : ℕ) (tokens f : List Token) (t : Token) : Type 0 where
   pub y : List Token
   pub split : tokens ≡ f ++ t ∷ y
   pub before : GoesOn profile limit f
   pub here : GoesOn profile limit (f ++ t ∷ []) → ⊥
 
--- The text's length is the place of its end.
-abbrev pub Jam : Profile → ℕ → ℕ → List Token → ℕ → EdnReason → Type 0
-Jam profile limit end tokens p UnexpectedEnd = (p ≡ end) × GoesOn profile limit tokens × (HasTree profile limit tokens → ⊥)
-Jam profile limit end tokens p UnexpectedToken = (f : List Token) × (t : Token) × StopsAt profile limit tokens f t × (p ≡ t.start) × (GoesOnAtAnyDepth profile (f ++ t ∷ []) → ⊥)
-Jam profile limit end tokens p TooDeep = (f : List Token) × (t : Token) × StopsAt profile limit tokens f t × (p ≡ t.start) × GoesOnAtAnyDepth profile (f ++ t ∷ [])
-Jam profile limit end tokens p _ = ⊥
+-- the syntax error of the tokens; end is the text's length
+abbrev pub IsSyntaxError : Profile → ℕ → ℕ → List Token → ℕ → EdnReason → Type 0
+IsSyntaxError profile limit end tokens p UnexpectedEnd = (p ≡ end) × GoesOn profile limit tokens × (HasTree profile limit tokens → ⊥)
+IsSyntaxError profile limit end tokens p UnexpectedToken = (f : List Token) × (t : Token) × StopsAt profile limit tokens f t × (p ≡ t.start) × (GoesOnAtAnyDepth profile (f ++ t ∷ []) → ⊥)
+IsSyntaxError profile limit end tokens p TooDeep = (f : List Token) × (t : Token) × StopsAt profile limit tokens f t × (p ≡ t.start) × GoesOnAtAnyDepth profile (f ++ t ∷ [])
+IsSyntaxError profile limit end tokens p _ = ⊥

@@ -1,4 +1,4 @@
--- A device of the proofs: places put into nodes in the order of their heads, and the places that are left for what stands behind. No definition cites it.
+-- A device of the proofs: places that are put into nodes in the order of their heads, and the places that are left. No definition cites it.
 use Rattle.std.specs.Prelude.{ℕ, List, [], ◌∷◌}
 use Rattle.cborn_model.specs.declared.nodes.Chunk.{Chunk}
 use Rattle.cborn_model.specs.Tree.{Tree, Uint, Nint, Bytes, Text, ByteChunks, TextChunks, Items, Pairs, Tagged, Simple, Trees, no_item, more, Entries, no_entry, entry}
@@ -7,27 +7,27 @@ abbrev pub first : List ℕ → ℕ
 first [] = 0
 first (p ∷ ps) = p
 
-abbrev pub behind : List ℕ → List ℕ
-behind [] = []
-behind (p ∷ ps) = ps
+abbrev pub after : List ℕ → List ℕ
+after [] = []
+after (p ∷ ps) = ps
 
 abbrev pub put_chunks : List ℕ → List Chunk → List Chunk
 put_chunks ps [] = []
-put_chunks ps (c ∷ cs) = record c { place = first ps } ∷ put_chunks (behind ps) cs
+put_chunks ps (c ∷ cs) = record c { place = first ps } ∷ put_chunks (after ps) cs
 
 abbrev pub left_by_chunks : List ℕ → List Chunk → List ℕ
 left_by_chunks ps [] = ps
-left_by_chunks ps (c ∷ cs) = left_by_chunks (behind ps) cs
+left_by_chunks ps (c ∷ cs) = left_by_chunks (after ps) cs
 
--- what is left behind the node and what stands in it
+-- the places that are left after the node and all nodes and chunks in it
 abbrev mutual
   pub left : List ℕ → Tree → List ℕ
-  left ps (ByteChunks q cs) = left_by_chunks (behind ps) cs
-  left ps (TextChunks q cs) = left_by_chunks (behind ps) cs
-  left ps (Items q s ts) = left_by_all (behind ps) ts
-  left ps (Pairs q s es) = left_by_entries (behind ps) es
-  left ps (Tagged q w n t) = left (behind ps) t
-  left ps _ = behind ps
+  left ps (ByteChunks q cs) = left_by_chunks (after ps) cs
+  left ps (TextChunks q cs) = left_by_chunks (after ps) cs
+  left ps (Items q s ts) = left_by_all (after ps) ts
+  left ps (Pairs q s es) = left_by_entries (after ps) es
+  left ps (Tagged q w n t) = left (after ps) t
+  left ps _ = after ps
 
   pub left_by_all : List ℕ → Trees → List ℕ
   left_by_all ps no_item = ps
@@ -43,11 +43,11 @@ abbrev mutual
   put ps (Nint q w n) = Nint (first ps) w n
   put ps (Bytes q w b) = Bytes (first ps) w b
   put ps (Text q w b) = Text (first ps) w b
-  put ps (ByteChunks q cs) = ByteChunks (first ps) (put_chunks (behind ps) cs)
-  put ps (TextChunks q cs) = TextChunks (first ps) (put_chunks (behind ps) cs)
-  put ps (Items q s ts) = Items (first ps) s (put_all (behind ps) ts)
-  put ps (Pairs q s es) = Pairs (first ps) s (put_entries (behind ps) es)
-  put ps (Tagged q w n t) = Tagged (first ps) w n (put (behind ps) t)
+  put ps (ByteChunks q cs) = ByteChunks (first ps) (put_chunks (after ps) cs)
+  put ps (TextChunks q cs) = TextChunks (first ps) (put_chunks (after ps) cs)
+  put ps (Items q s ts) = Items (first ps) s (put_all (after ps) ts)
+  put ps (Pairs q s es) = Pairs (first ps) s (put_entries (after ps) es)
+  put ps (Tagged q w n t) = Tagged (first ps) w n (put (after ps) t)
   put ps (Simple q n) = Simple (first ps) n
 
   pub put_all : List ℕ → Trees → Trees

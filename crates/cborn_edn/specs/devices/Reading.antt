@@ -12,39 +12,39 @@ use Rattle.cborn_lex.specs.declared.classes.Profile.TheVariants.{One}
 use Rattle.cborn_lex.specs.declared.classes.Token.{Token}
 use Rattle.cborn_edn.specs.devices.Modest.{AreModest}
 use Rattle.cborn_model.specs.Spelled.{spelled_all}
-use Rattle.cborn_edn.specs.shared.Syntax.{Item, Pieces, string, RowBefore, row, Input, nothing, items}
-use Rattle.cborn_edn.specs.shared.Machine.{first_slip}
-use Rattle.cborn_edn.specs.shared.Said.{nodes_of_input, faults_of_input}
-use Rattle.cborn_edn.specs.shared.Machine.{in_row, at_top, as_item, State, has, builds, start}
+use Rattle.cborn_edn.specs.devices.Syntax.{Item, Pieces, string, RowBefore, row, Input, nothing, items}
+use Rattle.cborn_edn.specs.devices.Machine.{first_error}
+use Rattle.cborn_edn.specs.devices.Said.{nodes_of_input, faults_of_input}
+use Rattle.cborn_edn.specs.devices.Machine.{in_row, at_top, as_item, State, has, builds, start}
 use Rattle.cborn_edn.specs.declared.states.Level.{Level}
 use Rattle.cborn_edn.specs.declared.states.Chunks.{Chunks}
 use Rattle.cborn_edn.specs.devices.Laid.{cut}
 use Rattle.cborn_edn.specs.devices.Written.{nodes_as}
-use Rattle.cborn_edn.specs.shared.Machine.{held}
-use Rattle.cborn_edn.specs.shared.Machine.{parse}
+use Rattle.cborn_edn.specs.devices.Machine.{held}
+use Rattle.cborn_edn.specs.devices.Machine.{parse}
 use Rattle.cborn_edn.specs.declared.faults.EdnReason.{EdnReason}
 use Rattle.cborn_edn.specs.declared.faults.EdnReason.TheVariants.{UnexpectedToken, TooDeep}
-use Rattle.cborn_edn.specs.declared.states.Stand.{Stand}
-use Rattle.cborn_edn.specs.declared.states.Stand.TheVariants.{Wants, WantsMore, Has, Builds, WantsChunk, WantsNumber, HasNumber}
+use Rattle.cborn_edn.specs.declared.states.Phase.{Phase}
+use Rattle.cborn_edn.specs.declared.states.Phase.TheVariants.{Wants, WantsMore, Has, Builds, WantsChunk, WantsNumber, HasNumber}
 use Rattle.cborn_edn.specs.declared.states.Here.{Here}
 use Rattle.cborn_edn.specs.declared.states.Writer.{Writer}
-use Rattle.cborn_edn.specs.devices.Steps.{begun, is_piece, has_chunks}
+use Rattle.cborn_edn.specs.devices.Steps.{starting, is_piece, has_chunks}
 use Rattle.cborn_edn.specs.devices.Shows.{Shows}
 
--- what is appended as a token is read, by what stands before it
-abbrev pub appended_at : Stand → Class → List ℕ
-appended_at Wants c = begun c
-appended_at WantsMore c = begun c
-appended_at WantsChunk c = begun c
+-- what is appended when a token is read, by the phase
+abbrev pub appended_at : Phase → Class → List ℕ
+appended_at Wants c = starting c
+appended_at WantsMore c = starting c
+appended_at WantsChunk c = starting c
 appended_at Builds c = content_of c
 appended_at Has c = []
 appended_at WantsNumber c = []
 appended_at HasNumber c = []
 
--- the next token was read, or none is left
-abbrev pub WasRead : Profile → List ℕ → ℕ → Stand → Option BareToken → ℕ → List ℕ → List ℕ → Type 0
-WasRead profile text at stand (Some t) number old new = (c : Class) × (x : List ℕ) × TokensBetween profile text at t.stop (record { start = t.start; stop = t.stop; class = c } ∷ []) × (c ≡ class_of t.kind number x) × (new ≡ old ++ appended_at stand c)
-WasRead profile text at stand None number old new = TokensBetween profile text at (length text) [] × (new ≡ old)
+-- the next token was read in this phase, or none is left
+abbrev pub WasRead : Profile → List ℕ → ℕ → Phase → Option BareToken → ℕ → List ℕ → List ℕ → Type 0
+WasRead profile text at phase (Some t) number old new = (c : Class) × (x : List ℕ) × TokensBetween profile text at t.stop (record { start = t.start; stop = t.stop; class = c } ∷ []) × (c ≡ class_of t.kind number x) × (new ≡ old ++ appended_at phase c)
+WasRead profile text at phase None number old new = TokensBetween profile text at (length text) [] × (new ≡ old)
 
 abbrev pub begins_string : Option BareToken → Bool
 begins_string (Some t) = is_piece t.kind
@@ -56,12 +56,12 @@ is_closing kinds.MapClose = true
 is_closing (kinds.EmbedClose m) = true
 is_closing _ = false
 
--- a bracket after a comma, which profile 1 doesn't allow
-abbrev pub is_spare : Profile → Stand → Kind → Bool
-is_spare One WantsMore k = is_closing k
-is_spare _ _ k = false
+-- the token is a bracket that ends after a comma, which profile 1 doesn't allow
+abbrev pub is_trailing_comma : Profile → Phase → Kind → Bool
+is_trailing_comma One WantsMore k = is_closing k
+is_trailing_comma _ _ k = false
 
--- the tokens up to a place lead to a state, for what the text has there
+-- the tokens of the text up to an offset lead to a state
 pub record Reached (profile : Profile) (limit : ℕ) (text : List ℕ) (at : ℕ) (s : State) : Type 0 where
   pub tokens : List Token
   pub between : Between profile text 0 at tokens
@@ -70,7 +70,7 @@ pub record Reached (profile : Profile) (limit : ℕ) (text : List ℕ) (at : ℕ
   pub runs : (t : Token) (stop : ℕ) → Between profile text at stop (t ∷ []) → (more : List Token) (end : ℕ) → parse profile limit end (tokens ++ (t ∷ more)) start ≡ parse profile limit end (t ∷ more) s
   pub stops : (end : ℕ) → parse profile limit end tokens start ≡ parse profile limit end [] s
 
--- the reader has come to a place of the text
+-- the reader is at an offset of the text, and what it keeps shows the state there
 pub record IsReading (profile : Profile) (limit : ℕ) (text : List ℕ) (here : Here) (writer : Writer) : Type 0 where
   pub inside : here.at ≤ length text
   pub state : State
@@ -79,29 +79,29 @@ pub record IsReading (profile : Profile) (limit : ℕ) (text : List ℕ) (here :
 
 -- why no text goes on with a token, if none does
 abbrev pub Judged : Bool → Bool → ℕ → ℕ → Option EdnReason → Type 0
-Judged spare taken reach limit None = (spare ≡ false) × (taken ≡ true) × (reach ≤ limit)
-Judged spare taken reach limit (Some UnexpectedToken) = (spare ≡ true) ⊎ (taken ≡ false)
-Judged spare taken reach limit (Some TooDeep) = (spare ≡ false) × (taken ≡ true) × (limit < reach)
-Judged spare taken reach limit (Some _) = ⊥
+Judged trailing taken reach limit None = (trailing ≡ false) × (taken ≡ true) × (reach ≤ limit)
+Judged trailing taken reach limit (Some UnexpectedToken) = (trailing ≡ true) ⊎ (taken ≡ false)
+Judged trailing taken reach limit (Some TooDeep) = (trailing ≡ false) × (taken ≡ true) × (limit < reach)
+Judged trailing taken reach limit (Some _) = ⊥
 
--- the text may end there
-abbrev pub may_end : Stand → Option Level → Option Chunks → Bool
+-- a text may end in this phase
+abbrev pub may_end : Phase → Option Level → Option Chunks → Bool
 may_end Wants None cs = true
 may_end Has None cs = true
 may_end Builds None cs = not (has_chunks cs)
 may_end _ _ cs = false
 
-abbrev pub ends_string : Stand → Bool
+abbrev pub ends_string : Phase → Bool
 ends_string Builds = true
 ends_string _ = false
 
--- the states at which a text may end, with its tree
+-- the states at which a text may end, each with its tree
 pub data Last : State → Input → Type 0 where
   empty : Last start nothing
   item : (b : RowBefore) (i : Item) → Last (has (in_row at_top b) i) (items (row b i))
   pieces : (b : RowBefore) (ps : Pieces) → Last (builds (as_item (in_row at_top b)) ps) (items (row b (string ps)))
 
--- what is kept at the end of a text with this tree
+-- what is written at the end of a text with this tree
 pub record AtEnd (t : Input) (writer : Writer) : Type 0 where
   pub laid : writer.out.items ≡ cut (spelled_all (nodes_as writer.heads (nodes_of_input t)))
-  pub slip : writer.slip ≡ first_slip (faults_of_input t)
+  pub error : writer.error ≡ first_error (faults_of_input t)

@@ -1,9 +1,9 @@
--- A device of the proofs: where the nodes and chunks of a tree begin, and those that have begun where the machine of tokens is. No definition cites it.
+-- A device of the proofs: the starts of a tree, which are the places where its nodes and chunks begin, and the starts of a state of the machine of tokens. No definition cites it.
 use Rattle.std.specs.Prelude.{ℕ, List, [], ◌∷◌, ◌++◌, Bool, true, false, Option, Some, None, replicate}
-use Rattle.cborn_edn.specs.shared.Syntax.{Span, Item, number, word, tag, simple, string, chunked, array, map, Pieces, Strings, strings, StringsBefore, no_string, after_strings, Row, row, RowBefore, no_item, after_row, Content, loose, tight, Pairs, pairs, PairsBefore, no_pair, after_pairs, Fields, loose_fields, tight_fields, Input, nothing, items}
-use Rattle.cborn_edn.specs.shared.Meaning.{place}
-use Rattle.cborn_edn.specs.shared.Machine.{Stack, in_row, in_key, in_value, in_tag, Nest, at_top, in_array, in_embed, Home, as_item, as_chunk, State, wants, has, builds, wants_chunk, wants_number, has_number}
-use Rattle.cborn_edn.specs.devices.Begun.{heads_of_number}
+use Rattle.cborn_edn.specs.devices.Syntax.{Span, Item, number, word, tag, simple, string, chunked, array, map, Pieces, Strings, strings, StringsBefore, no_string, after_strings, Row, row, RowBefore, no_item, after_row, Content, loose, tight, Pairs, pairs, PairsBefore, no_pair, after_pairs, Fields, loose_fields, tight_fields, Input, nothing, items}
+use Rattle.cborn_edn.specs.devices.Meaning.{place}
+use Rattle.cborn_edn.specs.devices.Machine.{Stack, in_row, in_key, in_value, in_tag, Nest, at_top, in_array, in_embed, Home, as_item, as_chunk, State, wants, has, builds, wants_chunk, wants_number, has_number}
+use Rattle.cborn_edn.specs.devices.TokenStarts.{heads_of_number}
 
 -- The starts of a tree.
 abbrev mutual
@@ -50,12 +50,12 @@ abbrev pub input_starts : Input → List ℕ
 input_starts nothing = []
 input_starts (items r) = row_starts r
 
--- starts count where no `<<` is open
+-- starts count if no `<<` is open
 abbrev pub counted : Bool → List ℕ → List ℕ
 counted true ps = ps
 counted false ps = []
 
--- the place of a string with a `<<` after these pieces
+-- the start of a string with a `<<` at s after these pieces
 abbrev pub place_before : Option Pieces → Span → ℕ
 place_before None s = s.start
 place_before (Some ps) s = place ps
@@ -77,7 +77,7 @@ abbrev pub outside_home : Home → Bool
 outside_home (as_item st) = outside st
 outside_home (as_chunk st s b) = outside st
 
--- The starts of what is open or complete.
+-- The starts of a state: of all that is open or whole.
 abbrev mutual
   pub started_stack : Stack → List ℕ
   started_stack (in_row n b) = started_nest n ++ counted (outside_nest n) (row_before_starts b)

@@ -7,13 +7,13 @@ use Rattle.cborn_lex.specs.declared.classes.Class.{Class}
 use Rattle.cborn_lex.specs.declared.classes.Class.TheVariants.{EmbedOpen, Text, Bytes}
 use Rattle.cborn_lex.specs.Kinds.{class_of, content_of}
 use Rattle.cborn_edn.specs.devices.Modest.{AreModest}
-use Rattle.cborn_edn.specs.shared.Syntax.{Span, Pieces}
-use Rattle.cborn_edn.specs.shared.Machine.{Home, State, wants, has, builds, wants_chunk, step_by}
-use Rattle.cborn_edn.specs.shared.Machine.{held}
+use Rattle.cborn_edn.specs.devices.Syntax.{Span, Pieces}
+use Rattle.cborn_edn.specs.devices.Machine.{Home, State, wants, has, builds, wants_chunk, step_by}
+use Rattle.cborn_edn.specs.devices.Machine.{held}
 use Rattle.cborn_edn.specs.declared.states.Level.{Level}
 use Rattle.cborn_edn.specs.declared.states.Level.TheVariants.{Array, Embedded, Key, Value, Tag}
-use Rattle.cborn_edn.specs.declared.states.Stand.{Stand}
-use Rattle.cborn_edn.specs.declared.states.Stand.TheVariants.{Has}
+use Rattle.cborn_edn.specs.declared.states.Phase.{Phase}
+use Rattle.cborn_edn.specs.declared.states.Phase.TheVariants.{Has}
 use Rattle.cborn_edn.specs.declared.states.Chunks.{Chunks}
 use Rattle.cborn_edn.specs.declared.states.Here.{Here}
 use Rattle.cborn_edn.specs.declared.states.Writer.{Writer}
@@ -45,8 +45,8 @@ is_row (Some Embedded) = true
 is_row None = true
 is_row _ = false
 
--- where the innermost bracket is a map that may end
-abbrev pub ends_map : Stand → Option Level → Bool
+-- the innermost bracket is a map that may end in this phase
+abbrev pub ends_map : Phase → Option Level → Bool
 ends_map Has o = is_value o
 ends_map _ o = is_key o
 
@@ -54,27 +54,27 @@ abbrev pub has_chunks : Option Chunks → Bool
 has_chunks None = false
 has_chunks (Some cs) = true
 
--- an item is wanted, or stands complete
+-- an item is wanted, or was read last
 abbrev pub MayEnd : State → Type 0
 MayEnd (wants st) = Unit {0}
 MayEnd (has st i) = Unit {0}
 MayEnd _ = ⊥
 
--- where a string may begin: a byte in the place of its head, and its content
-abbrev pub begun : Class → List ℕ
-begun (Text x m) = 0 ∷ x
-begun (Bytes q x m) = 0 ∷ x
-begun EmbedOpen = 0 ∷ []
-begun _ = []
+-- what is appended where a string may begin: a byte in the place of its head, and its content
+abbrev pub starting : Class → List ℕ
+starting (Text x m) = 0 ∷ x
+starting (Bytes q x m) = 0 ∷ x
+starting EmbedOpen = 0 ∷ []
+starting _ = []
 
--- what is appended as a token is read
+-- what is appended when a token is read
 abbrev pub appended : State → Class → List ℕ
-appended (wants st) c = begun c
-appended (wants_chunk st s b) c = begun c
+appended (wants st) c = starting c
+appended (wants_chunk st s b) c = starting c
 appended (builds h ps) c = content_of c
 appended _ c = []
 
--- a token of this kind was read, and what it stands for appended to base
+-- a token of this kind was read, and its content appended to base
 pub record Ready (kind : Kind) (number start : ℕ) (here : Here) (writer : Writer) (s : State) (base : List ℕ) (c : Class) : Type 0 where
   pub content : List ℕ
   pub class : c ≡ class_of kind number content
@@ -88,7 +88,7 @@ pub record Ready (kind : Kind) (number start : ℕ) (here : Here) (writer : Writ
 abbrev pub IsReady : Kind → ℕ → ℕ → Here → Writer → State → Type 0
 IsReady kind number start here writer s = (base : List ℕ) × ((c : Class) × Ready kind number start here writer s base c)
 
--- the machine goes on with the token, or has no such token there
+-- if ok is true, the machine goes on with the token; else it has no such token there
 abbrev pub Taken : Bool → State → Class → Span → Here → Writer → Type 0
 Taken true s c a here writer = (u : State) × (step_by s c a ≡ Some u) × Shows here writer writer.out.items u
 Taken false s c a here writer = step_by s c a ≡ None
@@ -96,11 +96,11 @@ Taken false s c a here writer = step_by s c a ≡ None
 abbrev pub Takes : Kind → ℕ → ℕ → ℕ → Here → Writer → Here → Writer → Bool → State → Type 0
 Takes kind number start place here writer next left ok s = (base : List ℕ) (c : Class) (a : Span) → place ≡ a.start → Ready kind number start here writer s base c → Taken ok s c a next left
 
--- the same of a token that appends nothing
+-- what taking a token that appends nothing does
 abbrev pub Turns : Kind → ℕ → ℕ → Here → Writer → Here → Writer → Bool → State → Type 0
 Turns kind number place here writer next left ok s = (c : Class) (x : List ℕ) (a : Span) → place ≡ a.start → c ≡ class_of kind number x → Shows here writer writer.out.items s → Taken ok s c a next left
 
--- it begins no piece of a string
+-- the token begins no piece of a string
 abbrev pub EndsPieces : Class → Type 0
 EndsPieces (Text x m) = ⊥
 EndsPieces (Bytes q x m) = ⊥
@@ -110,7 +110,7 @@ EndsPieces _ = Unit {0}
 abbrev pub EndsAt : Kind → ℕ → ℕ → Here → Writer → Here → Writer → Bool → Home → Pieces → Type 0
 EndsAt kind number place here writer next left ok h ps = (c : Class) (x : List ℕ) (a : Span) → place ≡ a.start → c ≡ class_of kind number x → EndsPieces c → Shows here writer writer.out.items (builds h ps) → Taken ok (builds h ps) c a next left
 
--- it is a piece of a string, or begins one
+-- the token is a piece of a string, or begins one
 abbrev pub is_piece : Kind → Bool
 is_piece (kinds.Text m) = true
 is_piece (kinds.Bytes q m) = true

@@ -1,4 +1,4 @@
--- A device of the proofs: trees as a list of them. No definition cites it.
+-- A device of the proofs: nodes as a list. No definition cites it.
 use Rattle.std.specs.Prelude.{◌≡◌, List, [], ◌∷◌, refl}
 use Rattle.std.proofs.Common.{ap}
 use Rattle.cborn_model.specs.Tree.{Tree, Trees, no_item, more, trees}

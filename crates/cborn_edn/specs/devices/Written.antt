@@ -1,4 +1,4 @@
--- A device of the proofs: how wide heads are written at a state of the machine of tokens. Inside of a `<<` they are as wide as their indicators ask for, since their bytes are the content of a string. No definition cites it.
+-- A device of the proofs: how wide heads are written at a state of the machine of tokens. Inside of `<<..>>` they are as wide as their indicators ask for, since their bytes are the content of a string. No definition cites it.
 use Rattle.std.specs.Prelude.{ℕ, List, [], ◌∷◌, length}
 use Rattle.cborn_model.specs.declared.nodes.Chunk.{Chunk}
 use Rattle.cborn_model.specs.Heads.{least}
@@ -8,22 +8,22 @@ use Rattle.cborn_lex.specs.declared.classes.Mark.TheVariants.{Absent, Wide}
 use Rattle.cborn_lex.specs.declared.classes.Profile.{Profile}
 use Rattle.cborn_edn.specs.Shortened.{shortened}
 use Rattle.cborn_edn.specs.Spelling.{IsSpelling, IsShortSpelling}
-use Rattle.cborn_edn.specs.shared.Machine.{Stack, in_row, in_key, in_value, in_tag, Nest, at_top, in_array, in_embed, Home, as_item, as_chunk}
+use Rattle.cborn_edn.specs.devices.Machine.{Stack, in_row, in_key, in_value, in_tag, Nest, at_top, in_array, in_embed, Home, as_item, as_chunk}
 use Rattle.cborn_edn.specs.declared.states.Heads.{Heads}
 use Rattle.cborn_edn.specs.declared.states.Heads.TheVariants.{AsWritten, Shortest}
 use Rattle.cborn_edn.specs.declared.states.Around.{Around}
 
--- what the reader gives of a text
+-- the bytes that the reader gives of a text
 abbrev pub IsSpellingAs : Heads → Profile → ℕ → List ℕ → List ℕ → Type 0
 IsSpellingAs AsWritten profile limit text bytes = IsSpelling profile limit text bytes
 IsSpellingAs Shortest profile limit text bytes = IsShortSpelling profile limit text bytes
 
--- by what stands around each open `<<`
+-- how heads are written, by what is kept around each open `<<`
 abbrev pub heads_in : Heads → List Around → Heads
 heads_in k [] = k
 heads_in k (a ∷ l) = AsWritten
 
--- and by what is open
+-- how heads are written, by what is open
 abbrev mutual
   pub heads_at : Heads → Stack → Heads
   heads_at k (in_row n b) = heads_nest k n
@@ -40,7 +40,7 @@ abbrev pub heads_home : Heads → Home → Heads
 heads_home k (as_item st) = heads_at k st
 heads_home k (as_chunk st s b) = heads_at k st
 
--- the indicator by which a head gets its width
+-- the indicator that decides the width of a head
 abbrev pub written_mark : Heads → Mark → Mark
 written_mark AsWritten m = m
 written_mark Shortest (Wide w) = Absent

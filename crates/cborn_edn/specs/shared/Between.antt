@@ -4,12 +4,12 @@ use Rattle.std.specs.List.{flat_map}
 use Rattle.cborn_model.specs.Tree.{Tree}
 use Rattle.cborn_edn.specs.Shown.{shown}
 
--- what stands before the one at i
+-- what is written before the one with the index i
 abbrev pub between : List ℕ → ℕ → List ℕ
 between sep zero = []
 between sep (suc i) = sep
 
--- those behind others
+-- texts after others, each with the separator before it
 abbrev pub others : List ℕ → List (List ℕ) → List ℕ
 others sep = flat_map (λ text. sep ++ text)
 

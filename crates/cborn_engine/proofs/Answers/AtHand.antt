@@ -6,7 +6,7 @@ use Rattle.std.proofs.lemmas.Bool.{cases_lt}
 use Rattle.cborn_model.specs.Orders.{IsKeyOrder}
 use Rattle.cborn_model.specs.Value.{Value}
 use Rattle.cborn_det.proofs.Room.{sequence_room}
-use Rattle.cborn_judge.specs.declared.defects.Defect.{Defect}
+use Rattle.cborn_model.specs.declared.defects.Defect.{Defect}
 use Rattle.cborn_engine.specs.declared.faults.EngineFault.{EngineFault}
 use Rattle.cborn_engine.specs.declared.faults.EngineFault.TheVariants as fault
 use Rattle.cborn_engine.specs.declared.kinds.Kind.{Kind}

@@ -8,7 +8,7 @@ use Rattle.cborn_model.specs.Value.{Value, values_of}
 use Rattle.cborn_model.specs.Valid.{IsProper, AreProper}
 use Rattle.cborn_det.specs.Det.{DetValues}
 use Rattle.cborn_det.proofs.Steps.{values_of_seq}
-use Rattle.cborn_judge.specs.declared.defects.Defect.{Defect as Found}
+use Rattle.cborn_model.specs.declared.defects.Defect.{Defect as Found}
 use Rattle.cborn_judge.specs.Defects.{IsFirstOfSequence}
 use Rattle.cborn_judge.proofs.Encoded.Checking.{check_sequence_whole}
 use Rattle.cborn_transcode.proofs.Lists.{all_mean}

@@ -11,13 +11,13 @@ use Rattle.cborn_lex.proofs.WholeTexts.Weights.{utf8_bytes}
 use Rattle.cborn_wire.specs.Faults.{IsWellformed}
 use Rattle.cborn_edn.specs.Grammar.{Notates}
 use Rattle.cborn_edn.specs.Starts.{starts_all}
-use Rattle.cborn_places.proofs.Carrying.Spots.{flaw_starts}
-use Rattle.cborn_places.proofs.Shortening.Twins.{twins_well}
+use Rattle.cborn_text_places.proofs.Carrying.Spots.{flaw_starts}
+use Rattle.cborn_text_places.proofs.Shortening.Twins.{twins_well}
 use Rattle.cborn_edn.proofs.Short.Facts.{notated_fits}
 use Rattle.cborn_judge.specs.Flaws.{IsRefusalOfAll}
-use Rattle.cborn_judge.specs.declared.faults.Invalid.TheVariants as invalid
-use Rattle.cborn_judge.specs.declared.faults.InvalidReason.{InvalidReason}
-use Rattle.cborn_search.specs.Searching.{IsFirstFlawOf}
+use Rattle.cborn_model.specs.declared.faults.Invalid.TheVariants as invalid
+use Rattle.cborn_model.specs.declared.faults.InvalidReason.{InvalidReason}
+use Rattle.cborn_flaws.specs.Searching.{IsFirstFlawOf}
 use Rattle.cborn_edn.specs.Spelling.{MaySpell}
 use Rattle.cborn_engine.specs.declared.faults.EngineFault.TheVariants as fault
 use Rattle.cborn_engine.specs.devices.Encoding.{kind_of}

@@ -1,4 +1,4 @@
--- The nodes that a text notates whose bytes were read, as a list.
+-- A text whose bytes were read notates nodes. Here they are a list.
 use Rattle.std.proofs.Common.{◌≡◌, ◌∙◌, ℕ, List, inl, inr, sym, ap, subst}
 use Rattle.cborn_model.specs.Tree.{Tree, Trees, trees}
 use Rattle.cborn_model.specs.Spelled.{spelled_all}
@@ -7,7 +7,7 @@ use Rattle.cborn_edn.specs.Grammar.{Notates}
 use Rattle.cborn_wire.proofs.Spelled.TreeLists.{tree_list, trees-tree_list}
 use Rattle.cborn_edn.specs.Shortened.{all_shortened}
 use Rattle.cborn_edn.specs.Spelling.{IsSpelling, IsShortSpelling, MaySpell}
-use Rattle.cborn_places.proofs.Shortening.Twins.{Twins, twins_of}
+use Rattle.cborn_text_places.proofs.Shortening.Twins.{Twins, twins_of}
 
 abbrev pub nodes_of : {p : Profile} {limit : ℕ} {text bytes : List ℕ} → IsSpelling p limit text bytes → List Tree
 nodes_of s = tree_list s.nodes

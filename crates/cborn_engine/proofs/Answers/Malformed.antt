@@ -65,8 +65,8 @@ pub answered : {A B : Type 0} (k : Kind) (limit : ℕ) (input : List ℕ) (a : A
 answered k limit input a result h p r e f = absurd (let clash = h p r e f in cc)
 
 -- the same of the first of two inputs
-pub of_the_first : {A B : Type 0} (k : Kind) (limit : ℕ) (input : List ℕ) (why : EngineFault) (told : CompareFault) → told ≡ of_first why → TellsFault {A = A} k limit input (Err why) → TellsFirstFault {A = B} k limit input (Err told)
-of_the_first k limit input why told s h p r e f = ap Err (s ∙ ap of_first (error_of (h p r e f)))
+pub of_the_first : {A B : Type 0} (k : Kind) (limit : ℕ) (input : List ℕ) (why : EngineFault) (reported : CompareFault) → reported ≡ of_first why → TellsFault {A = A} k limit input (Err why) → TellsFirstFault {A = B} k limit input (Err reported)
+of_the_first k limit input why reported s h p r e f = ap Err (s ∙ ap of_first (error_of (h p r e f)))
 
 pub first_answered : {A B : Type 0} (k : Kind) (limit : ℕ) (input : List ℕ) (a : A) (result : Result B CompareFault) → TellsFault k limit input (Ok a) → TellsFirstFault k limit input result
 first_answered k limit input a result h p r e f = absurd (let clash = h p r e f in cc)
@@ -83,8 +83,8 @@ both_answered k limit input a result h p r e f = absurd (let clash = h p r e f i
 pub no_reading : (limit : ℕ) (input : List ℕ) → (p : ℕ) × (r : WireReason) × Fault limit input p r → IsWellformed limit input → ⊥
 no_reading limit input f w = not_both limit input f.0 f.1 w f.2
 
-pub wire_told : {A : Type 0} (limit : ℕ) (input : List ℕ) (why : EngineFault) → IsWireFault limit input why → TellsFault {A = A} kind.Wire limit input (Err why)
-wire_told {A} limit input why f = subst (λ (e : EngineFault). TellsFault {A = A} kind.Wire limit input (Err e)) (sym f.2) (refused kind.Wire limit input f.0 f.1 f.3)
+pub wire_reported : {A : Type 0} (limit : ℕ) (input : List ℕ) (why : EngineFault) → IsWireFault limit input why → TellsFault {A = A} kind.Wire limit input (Err why)
+wire_reported {A} limit input why f = subst (λ (e : EngineFault). TellsFault {A = A} kind.Wire limit input (Err e)) (sym f.2) (refused kind.Wire limit input f.0 f.1 f.3)
 
 pub wire_refused : (limit most : ℕ) (input : List ℕ) (why : EngineFault) → IsWireFault limit input why → length input ≤ most → IsRefused kind.Wire limit most input why × IsNoFlaw why
 wire_refused limit most input why f l = subst (λ (e : EngineFault). IsRefused kind.Wire limit most input e × IsNoFlaw e) (sym f.2) ((l, f.3), tt)
@@ -94,9 +94,9 @@ wire_failures limit input why n f = subst (λ (e : EngineFault). read_failures_a
 
 -- ---- where a growth was refused
 
-pub refusal_told : {A : Type 0} (limit : ℕ) (input : List ℕ) (why : EngineFault) → IsWireFault limit input why ⊎ IsWellformed limit input × (why ≡ fault.OutOfMemory) → TellsFault {A = A} kind.Wire limit input (Err why)
-refusal_told limit input why (inl f) = wire_told limit input why f
-refusal_told limit input why (inr f) = wellformed kind.Wire limit input f.0.0 (Err why) (λ e. f.0.1)
+pub refusal_reported : {A : Type 0} (limit : ℕ) (input : List ℕ) (why : EngineFault) → IsWireFault limit input why ⊎ IsWellformed limit input × (why ≡ fault.OutOfMemory) → TellsFault {A = A} kind.Wire limit input (Err why)
+refusal_reported limit input why (inl f) = wire_reported limit input why f
+refusal_reported limit input why (inr f) = wellformed kind.Wire limit input f.0.0 (Err why) (λ e. f.0.1)
 
 pub refusal_refused : (limit most : ℕ) (input : List ℕ) (why : EngineFault) → IsWireFault limit input why ⊎ IsWellformed limit input × (why ≡ fault.OutOfMemory) → length input ≤ most → IsRefused kind.Wire limit most input why × IsNoFlaw why
 refusal_refused limit most input why (inl f) l = wire_refused limit most input why f l

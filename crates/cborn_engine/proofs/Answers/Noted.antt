@@ -1,4 +1,4 @@
--- A text that a pass takes holds what the bytes mean that it notates, and is shown as they are.
+-- A text holds the items that its bytes mean, and is shown as its bytes are.
 use Rattle.std.proofs.Common.{◌≡◌, ◌≤◌, ◌⊎◌, inl, inr, ℕ, List, length, sym, subst, ◌∙◌, Ordering, arith}
 use Rattle.cborn_engine.proofs.Answers.Listed.{nodes_of, notated_of, spells_of, TextRead, twins_read}
 use Rattle.std.specs.Prelude.{IsUtf8}
@@ -23,7 +23,7 @@ use Rattle.cborn_engine.specs.Showing.{IsShown, IsSpelledAs}
 use Rattle.cborn_engine.specs.Reading.{most_bytes}
 use Rattle.cborn_engine.proofs.Held.Meant.{zip_mean}
 use Rattle.cborn_engine.proofs.Held.SameNodes.{same_nodes}
-use Rattle.cborn_engine.proofs.Answers.Told.{notation}
+use Rattle.cborn_engine.proofs.Answers.KnownErrors.{notation}
 
 pub spells : (p : Profile) (limit : ℕ) (text : List ℕ) (nodes : List Tree) → IsNotation p limit text nodes → Spells (kind_of p) limit text nodes
 spells profile.One limit text nodes h = h

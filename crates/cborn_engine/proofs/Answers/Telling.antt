@@ -18,7 +18,7 @@ use Rattle.cborn_engine.specs.Showing.{ShowAnswers, Shows, IsShown, IsUnshownAs,
 use Rattle.cborn_streams.specs.declared.faults.OutputFault.{OutputFault}
 use Rattle.cborn_streams.specs.declared.faults.OutputFault.TheVariants as output
 use Rattle.cborn_streams.specs.Writing.{Sends, WriteAnswers}
-use Rattle.cborn_engine.proofs.Answers.Told.{answer_of}
+use Rattle.cborn_engine.proofs.Answers.KnownErrors.{answer_of}
 use Rattle.cborn_engine.proofs.Answers.Unanswered.{nothing_written}
 
 -- a refusal is answered as it is
@@ -53,16 +53,16 @@ untold_text out limit most place input l w f =
 
 -- ---- and what went out
 
-pub not_told : (k out : Kind) (limit most : ℕ) (before after sent : Option (List ℕ)) (why : EngineFault) → Reads (TellAnswers k out limit most) before after (Err why) → Shows k out limit most before after sent sent (Err why)
-not_told k out limit most before after sent why h = record { input = h.input; output = []; taken = h.taken; given = nothing_written sent; answer = answer why h.answer; to_end = h.to_end }
+pub not_reported : (k out : Kind) (limit most : ℕ) (before after sent : Option (List ℕ)) (why : EngineFault) → Reads (TellAnswers k out limit most) before after (Err why) → Shows k out limit most before after sent sent (Err why)
+not_reported k out limit most before after sent why h = record { input = h.input; output = []; taken = h.taken; given = nothing_written sent; answer = answer why h.answer; to_end = h.to_end }
   where
     answer : (why : EngineFault) → TellAnswers k out limit most h.input (Err why) → ShowAnswers k out limit most h.input [] (Err why)
     answer fault.WriteFault r = absurd r.0
     answer (fault.Invalid w) r = absurd r.1
     answer _ r = (r.0, r.1, refl)
 
-pub told_out : (k out : Kind) (limit most : ℕ) (before after sent sent_after : Option (List ℕ)) (bytes : Vec ℕ Global) (ys : List ℕ) (r : Result Unit OutputFault) → Reads (TellAnswers k out limit most) before after (Ok bytes) → ys ≡ bytes.items → Sends sent sent_after ys r → Shows k out limit most before after sent sent_after (answer_of r)
-told_out k out limit most before after sent sent_after bytes ys r h e w =
+pub reported_out : (k out : Kind) (limit most : ℕ) (before after sent sent_after : Option (List ℕ)) (bytes : Vec ℕ Global) (ys : List ℕ) (r : Result Unit OutputFault) → Reads (TellAnswers k out limit most) before after (Ok bytes) → ys ≡ bytes.items → Sends sent sent_after ys r → Shows k out limit most before after sent sent_after (answer_of r)
+reported_out k out limit most before after sent sent_after bytes ys r h e w =
     record { input = h.input; output = w.output; taken = h.taken; given = w.written; answer = answer r w.answer (subst (IsShown k out limit h.input) (sym e) h.answer.1); to_end = at_end r }
   where
     answer : (r : Result Unit OutputFault) → WriteAnswers ys w.output r → IsShown k out limit h.input ys → ShowAnswers k out limit most h.input w.output (answer_of r)

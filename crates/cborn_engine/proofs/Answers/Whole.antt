@@ -6,7 +6,7 @@ use Rattle.cborn_model.specs.Tree.{Tree, trees}
 use Rattle.cborn_model.specs.Orders.{IsKeyOrder}
 use Rattle.cborn_model.specs.Value.{Value, values_of}
 use Rattle.cborn_judge.specs.Defects.{IsFirstOfSequence}
-use Rattle.cborn_judge.specs.declared.defects.Defect.{Defect}
+use Rattle.cborn_model.specs.declared.defects.Defect.{Defect}
 use Rattle.cborn_transcode.specs.Transcoding.{IsTranscoded}
 use Rattle.cborn_transcode.proofs.Lists.{all_mean}
 use Rattle.cborn_engine.specs.declared.faults.EngineFault.{EngineFault}
@@ -24,8 +24,8 @@ use Rattle.cborn_engine.specs.devices.Reading.{Reads}
 use Rattle.cborn_engine.specs.devices.Encoding.{IsEncoded}
 use Rattle.cborn_engine.specs.Checking.{CheckAnswers, Checks}
 use Rattle.cborn_engine.specs.Reading.{most_bytes}
-use Rattle.cborn_search.specs.Searching.{IsFirstFlawOf}
-use Rattle.cborn_transcode.specs.Departing.{IsFirstDefectOfItems}
+use Rattle.cborn_flaws.specs.Searching.{IsFirstFlawOf}
+use Rattle.cborn_departures.specs.Departing.{IsFirstDefectOfItems}
 use Rattle.cborn_engine.proofs.Answers.Checked.{with_defect}
 
 pub ended : (A : Type 0) (why : EngineFault) (rest : Option (List ℕ)) → IsAtEnd rest → IsRead {A = A} (Err why) rest

@@ -20,7 +20,7 @@ use Rattle.cborn_engine.specs.Refusing.{IsRead}
 use Rattle.cborn_streams.specs.declared.faults.OutputFault.{OutputFault}
 use Rattle.cborn_streams.specs.declared.faults.OutputFault.TheVariants as output
 use Rattle.cborn_streams.specs.Writing.{Sends, WriteAnswers}
-use Rattle.cborn_engine.proofs.Answers.Told.{answer_of}
+use Rattle.cborn_engine.proofs.Answers.KnownErrors.{answer_of}
 use Rattle.cborn_engine.specs.Canonical.{IsCanonical, NormaliseAnswers, Normalises}
 use Rattle.cborn_engine.specs.Reading.{most_bytes}
 use Rattle.cborn_engine.proofs.Held.Notated.{fits}
@@ -172,8 +172,8 @@ encoded_held order laws k limit most before after bytes bounded h =
 pub normalised : (order : List ℕ → List ℕ → Ordering) (k out : Kind) (limit most : ℕ) (before after sent sent_after : Option (List ℕ)) (bytes : Vec ℕ Global) (zs ys : List ℕ) (r : Result Unit OutputFault) → Reads (EncodeAnswers order k limit most) before after (Ok bytes) → IsWrittenAs out bytes.items zs → ys ≡ zs → Sends sent sent_after ys r → Normalises order k out limit most before after sent sent_after (answer_of r)
 normalised order k out limit most before after sent sent_after bytes zs ys r h t f w =
     let e = h.answer.1 in
-    let told : IsWrittenAs out bytes.items ys = subst (IsWrittenAs out bytes.items) (sym f) t in
-    let all : IsCanonical order k out limit h.input ys = record { items = e.items; held = e.held; written = canon_of order out e.items bytes.items ys e.encoded told } in
+    let reported : IsWrittenAs out bytes.items ys = subst (IsWrittenAs out bytes.items) (sym f) t in
+    let all : IsCanonical order k out limit h.input ys = record { items = e.items; held = e.held; written = canon_of order out e.items bytes.items ys e.encoded reported } in
     record { input = h.input; output = w.output; taken = h.taken; given = w.written; answer = answer r w.answer all; to_end = ended r }
   where
     answer : (r : Result Unit OutputFault) → WriteAnswers ys w.output r → IsCanonical order k out limit h.input ys → NormaliseAnswers order k out limit most h.input w.output (answer_of r)

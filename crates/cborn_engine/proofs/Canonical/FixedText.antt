@@ -1,4 +1,4 @@
--- The fixed notation of bytes is one text, and reads back as what the bytes hold.
+-- Bytes have one text in the fixed notation, and it reads back as what the bytes hold.
 use Rattle.std.proofs.Common.{◌≡◌, ◌≤◌, ℕ, List, sym, ◌∙◌, subst, arith}
 use Rattle.std.specs.List.{AllZip}
 use Rattle.cborn_model.specs.Tree.{Tree, Trees, trees, depth_all}

@@ -1,4 +1,4 @@
--- What bytes hold is one list of items, each encoding of which holds the same.
+-- Bytes hold one list of items, and each encoding of them holds the same items.
 use Rattle.std.proofs.Common.{◌≡◌, ◌+◌, ◌≤◌, ◌↔◌, ℕ, max, List, [], ◌∷◌, ◌++◌, length, append-nil, refl, sym, ap, ◌∙◌, subst, arith, Ordering}
 use Rattle.std.specs.List.{AllZip}
 use Rattle.cborn_model.specs.Orders.{IsKeyOrder}

@@ -13,7 +13,7 @@ use Rattle.cborn_model.specs.declared.heads.Size.{Size}
 use Rattle.cborn_model.specs.declared.heads.Size.TheVariants.{Fixed, Endless}
 use Rattle.cborn_model.specs.declared.nodes.Chunk.{Chunk}
 use Rattle.cborn_model.specs.Bytes.{AreBytes, big_endian}
-use Rattle.cborn_model.specs.Heads.{code, information, following, WidthFits, SizeFits, Given, Unbounded, head, argument, least, head_bytes, is_simple_value}
+use Rattle.cborn_model.specs.Heads.{code, information, following, WidthFits, SizeFits, Given, EndlessArgument, head, argument, least, head_bytes, is_simple_value}
 use Rattle.cborn_model.specs.Tree.{Tree, Uint, Nint, Bytes, Text, ByteChunks, TextChunks, Items, Pairs, Tagged, Simple, Trees, no_item, more, trees, Entries, no_entry, entry, count, count_entries}
 use Rattle.cborn_model.specs.Spelled.{ending, string, chunk_bytes, spelled, spelled_all, spelled_entries, ChunksFit, Fits, FitsAll, FitsEntries}
 use Rattle.cborn_model.specs.Value.{Value, Values, Couples, integer, bytes, text, array, dict, tagged, simple, no_values, value, no_pairs, pair, value_count, pair_count, listed}
@@ -60,26 +60,26 @@ head_is m Two n l f = (omega (arith, l), high_bytes 2 n)
 head_is m Four n l f = (omega (arith, l), high_bytes 4 n)
 head_is m Eight n l f = (omega (arith, l), high_bytes 8 n)
 
-unbounded_is : (m : ℕ) → m < 8 → AreBytes ((32 * m + 31) ∷ [])
-unbounded_is m l = (omega (arith, l), tt)
+endless_is : (m : ℕ) → m < 8 → AreBytes ((32 * m + 31) ∷ [])
+endless_is m l = (omega (arith, l), tt)
 
 argument_is : (m : Major) (s : Size) (n : ℕ) → SizeFits s n → AreBytes (head m (argument s n))
 argument_is m (Fixed w) n f = head_is (code m) w n (small_code m) f
-argument_is m Endless n f = unbounded_is (code m) (small_code m)
+argument_is m Endless n f = endless_is (code m) (small_code m)
 
 string_is : (m : Major) (w : Width) (b : List ℕ) → WidthFits w (length b) → AreBytes b → AreBytes (string m w b)
 string_is m w b f h = bytes-append (head m (Given w (length b))) b (head_is (code m) w (length b) (small_code m) f) h
 
 ending_is : (s : Size) → AreBytes (ending s)
 ending_is (Fixed w) = tt
-ending_is Endless = unbounded_is 7 (omega arith)
+ending_is Endless = endless_is 7 (omega arith)
 
 chunks_are : (m : Major) (cs : List Chunk) → ChunksFit cs → AreBytes (flat_map (chunk_bytes m) cs)
 chunks_are m [] h = tt
 chunks_are m (c ∷ cs) h = bytes-append (chunk_bytes m c) (flat_map (chunk_bytes m) cs) (string_is m c.width c.bytes h.0.0 h.0.1) (chunks_are m cs h.1)
 
-long_is : (m : Major) (cs : List Chunk) → ChunksFit cs → AreBytes ((head m Unbounded ++ flat_map (chunk_bytes m) cs) ++ ending Endless)
-long_is m cs h = bytes-append (head m Unbounded ++ flat_map (chunk_bytes m) cs) (ending Endless) (bytes-append (head m Unbounded) (flat_map (chunk_bytes m) cs) (unbounded_is (code m) (small_code m)) (chunks_are m cs h)) (ending_is Endless)
+long_is : (m : Major) (cs : List Chunk) → ChunksFit cs → AreBytes ((head m EndlessArgument ++ flat_map (chunk_bytes m) cs) ++ ending Endless)
+long_is m cs h = bytes-append (head m EndlessArgument ++ flat_map (chunk_bytes m) cs) (ending Endless) (bytes-append (head m EndlessArgument) (flat_map (chunk_bytes m) cs) (endless_is (code m) (small_code m)) (chunks_are m cs h)) (ending_is Endless)
 
 simple_is : (n : ℕ) → IsTrue (is_simple_value n) → AreBytes (head_bytes 7 (least n) n)
 simple_is n h = head_is 7 (least n) n (omega arith) (simple_fits n h)
@@ -120,14 +120,14 @@ pub record PlainNode (x : List ℕ) : Type 0 where
   pub node : Tree
   pub spells : spelled node ≡ x
   pub fits : Fits node
-  pub told : shown node ≡ plain node
+  pub reported : shown node ≡ plain node
 
 pub record PlainNodes (x : List ℕ) (n : ℕ) : Type 0 where
   pub nodes : Trees
   pub counted : count nodes ≡ n
   pub spells : spelled_all nodes ≡ x
   pub fits : FitsAll nodes
-  pub told : item_texts nodes ≡ plain_items nodes
+  pub reported : item_texts nodes ≡ plain_items nodes
 
 pub record PlainEntry (e : Entry) : Type 0 where
   pub key : PlainNode e.0
@@ -138,24 +138,24 @@ pub record PlainEntries (es : List Entry) (n : ℕ) : Type 0 where
   pub counted : count_entries nodes ≡ n
   pub spells : spelled_entries nodes ≡ joined es
   pub fits : FitsEntries nodes
-  pub told : pair_texts nodes ≡ plain_pairs nodes
+  pub reported : pair_texts nodes ≡ plain_pairs nodes
 
-told_bytes : (b : List ℕ) → shown (Bytes 0 (least (length b)) b) ≡ plain (Bytes 0 (least (length b)) b)
-told_bytes b = rw (none (length b)) refl
+reported_bytes : (b : List ℕ) → shown (Bytes 0 (least (length b)) b) ≡ plain (Bytes 0 (least (length b)) b)
+reported_bytes b = rw (none (length b)) refl
 
 bignum : (t : ℕ) (m h c x : List ℕ) → WidthFits (least t) t → h ≡ head_bytes 6 (least t) t → (k : List ℕ) → WidthFits (least (length m)) (length m) → k ≡ head_bytes 2 (least (length m)) (length m) → c ≡ k ++ m → x ≡ h ++ c → AreBytes m → PlainNode x
 bignum t m h c x f e k g i j l are = record {
   node = Tagged 0 (least t) t (Bytes 0 (least (length m)) m);
   spells = (λ n. sym e n ++ (sym i n ++ m)) ∙ ap (λ y. h ++ y) (sym j) ∙ sym l;
   fits = (f, (g, are));
-  told = λ n. decimal t ++ (none t n ++ (codes "(" ++ (told_bytes m n ++ codes ")")));
+  reported = λ n. decimal t ++ (none t n ++ (codes "(" ++ (reported_bytes m n ++ codes ")")));
 }
 
 an_integer : (s : Bool) (m x : List ℕ) → AreBytes x → IsInteger s m x → PlainNode x
-an_integer false m x are (inl d) = let n = big_endian m in record { node = Uint 0 (least n) n; spells = sym d.1.1; fits = d.1.0; told = ap (λ l. decimal n ++ l) (none n) ∙ append-nil (decimal n) }
+an_integer false m x are (inl d) = let n = big_endian m in record { node = Uint 0 (least n) n; spells = sym d.1.1; fits = d.1.0; reported = ap (λ l. decimal n ++ l) (none n) ∙ append-nil (decimal n) }
 an_integer true m x are (inl d) =
     let n = big_endian m in
-    record { node = Nint 0 (least n) n; spells = sym d.1.1; fits = d.1.0; told = ap (λ l. codes "-" ++ (decimal (suc n) ++ l)) (none n) ∙ ap (λ l. codes "-" ++ l) (append-nil (decimal (suc n))) }
+    record { node = Nint 0 (least n) n; spells = sym d.1.1; fits = d.1.0; reported = ap (λ l. codes "-" ++ (decimal (suc n) ++ l)) (none n) ∙ ap (λ l. codes "-" ++ l) (append-nil (decimal (suc n))) }
 an_integer false m x are (inr d) = bignum 2 m d.1 d.2 x d.3.0 d.3.1 d.4.0 d.4.1.0 d.4.1.1 d.4.2 d.5 (bytes-right d.4.0 m (subst AreBytes d.4.2 (bytes-right d.1 d.2 (subst AreBytes d.5 are))))
 an_integer true m x are (inr d) = bignum 3 m d.1 d.2 x d.3.0 d.3.1 d.4.0 d.4.1.0 d.4.1.1 d.4.2 d.5 (bytes-right d.4.0 m (subst AreBytes d.4.2 (bytes-right d.1 d.2 (subst AreBytes d.5 are))))
 
@@ -164,7 +164,7 @@ abbrev Backed : Value × Value → Entry → Type 0
 Backed r e = AreBytes (e.0 ++ e.1) → PlainEntry e
 
 entries_of : (rs : List (Value × Value)) (es : List Entry) → AllZip Backed rs es → AreBytes (joined es) → PlainEntries es (length rs)
-entries_of [] [] h are = record { nodes = no_entry; counted = refl; spells = refl; fits = tt; told = refl }
+entries_of [] [] h are = record { nodes = no_entry; counted = refl; spells = refl; fits = tt; reported = refl }
 entries_of [] (e ∷ es) h are = absurd h
 entries_of (r ∷ rs) [] h are = absurd h
 entries_of (r ∷ rs) (e ∷ es) h are =
@@ -175,7 +175,7 @@ entries_of (r ∷ rs) (e ∷ es) h are =
       counted = ap suc rest.counted;
       spells = λ i. one.key.spells i ++ one.val.spells i ++ rest.spells i;
       fits = (one.key.fits, one.val.fits, rest.fits);
-      told = λ i. (one.key.told i ++ (codes ": " ++ one.val.told i)) ∷ rest.told i;
+      reported = λ i. (one.key.reported i ++ (codes ": " ++ one.val.reported i)) ∷ rest.reported i;
     }
 
 length-listed : (ps : Couples) → length (listed ps) ≡ pair_count ps
@@ -194,18 +194,18 @@ module _ (order : List ℕ → List ℕ → Ordering) where
         node = Pairs 0 (Fixed (least c)) all.nodes;
         spells = append-nil (head Map (Given (least c) c) ++ spelled_entries all.nodes) ∙ (λ i. head Map (Given (least (counted i)) (counted i)) ++ all.spells i) ∙ ap (λ l. l ++ joined d.2) (sym d.3.1) ∙ sym d.7;
         fits = (subst (λ k. WidthFits (least k) k) (sym counted) d.3.0, all.fits);
-        told = λ i. codes "{" ++ (opened (absent c i) ++ (joined_by (codes ", ") (all.told i) ++ codes "}"));
+        reported = λ i. codes "{" ++ (opened (absent c i) ++ (joined_by (codes ", ") (all.reported i) ++ codes "}"));
       }
 
   mutual
     a_node : (v : Value) (x : List ℕ) → AreBytes x → Det order v x → PlainNode x
     a_node (integer s m) x are d = an_integer s m x are d
-    a_node (bytes b) x are d = record { node = Bytes 0 (least (length b)) b; spells = ap (λ l. l ++ b) (sym d.1.1) ∙ sym d.2; fits = (d.1.0, bytes-right d.0 b (subst AreBytes d.2 are)); told = told_bytes b }
+    a_node (bytes b) x are d = record { node = Bytes 0 (least (length b)) b; spells = ap (λ l. l ++ b) (sym d.1.1) ∙ sym d.2; fits = (d.1.0, bytes-right d.0 b (subst AreBytes d.2 are)); reported = reported_bytes b }
     a_node (text b) x are d = record {
       node = Text 0 (least (length b)) b;
       spells = ap (λ l. l ++ b) (sym d.1.1) ∙ sym d.2;
       fits = (d.1.0, bytes-right d.0 b (subst AreBytes d.2 are));
-      told = ap (λ l. codes "\"" ++ (flat_map escaped b ++ (codes "\"" ++ l))) (none (length b));
+      reported = ap (λ l. codes "\"" ++ (flat_map escaped b ++ (codes "\"" ++ l))) (none (length b));
     }
     a_node (array vs) x are d =
         let all = some_nodes vs d.1 (bytes-right d.0 d.1 (subst AreBytes d.4 are)) d.3 in
@@ -214,21 +214,21 @@ module _ (order : List ℕ → List ℕ → Ordering) where
           node = Items 0 (Fixed (least c)) all.nodes;
           spells = append-nil (head Array (Given (least c) c) ++ spelled_all all.nodes) ∙ (λ i. head Array (Given (least (all.counted i)) (all.counted i)) ++ all.spells i) ∙ ap (λ l. l ++ d.1) (sym d.2.1) ∙ sym d.4;
           fits = (subst (λ k. WidthFits (least k) k) (sym all.counted) d.2.0, all.fits);
-          told = λ i. codes "[" ++ (opened (absent c i) ++ (joined_by (codes ", ") (all.told i) ++ codes "]"));
+          reported = λ i. codes "[" ++ (opened (absent c i) ++ (joined_by (codes ", ") (all.reported i) ++ codes "]"));
         }
     a_node (dict ps) x are d = a_map ps x are d (λ es e. some_entries ps es e)
     a_node (tagged t v) x are d =
         let inner = a_node v d.1 (bytes-right d.0 d.1 (subst AreBytes d.4 are)) d.3 in
-        record { node = Tagged 0 (least t) t inner.node; spells = (λ i. sym d.2.1 i ++ inner.spells i) ∙ sym d.4; fits = (d.2.0, inner.fits); told = λ i. decimal t ++ (none t i ++ (codes "(" ++ (inner.told i ++ codes ")"))) }
-    a_node (simple n) x are d = record { node = Simple 0 n; spells = sym d.1.1; fits = d.0; told = refl }
+        record { node = Tagged 0 (least t) t inner.node; spells = (λ i. sym d.2.1 i ++ inner.spells i) ∙ sym d.4; fits = (d.2.0, inner.fits); reported = λ i. decimal t ++ (none t i ++ (codes "(" ++ (inner.reported i ++ codes ")"))) }
+    a_node (simple n) x are d = record { node = Simple 0 n; spells = sym d.1.1; fits = d.0; reported = refl }
 
     some_nodes : (vs : Values) (x : List ℕ) → AreBytes x → DetValues order vs x → PlainNodes x (value_count vs)
-    some_nodes no_values x are d = record { nodes = no_item; counted = refl; spells = sym d; fits = tt; told = refl }
+    some_nodes no_values x are d = record { nodes = no_item; counted = refl; spells = sym d; fits = tt; reported = refl }
     some_nodes (value v vs) x are d =
         let both = subst AreBytes d.4 are in
         let one = a_node v d.0 (bytes-left d.0 d.1 both) d.2 in
         let rest = some_nodes vs d.1 (bytes-right d.0 d.1 both) d.3 in
-        record { nodes = more one.node rest.nodes; counted = ap suc rest.counted; spells = (λ i. one.spells i ++ rest.spells i) ∙ sym d.4; fits = (one.fits, rest.fits); told = λ i. one.told i ∷ rest.told i }
+        record { nodes = more one.node rest.nodes; counted = ap suc rest.counted; spells = (λ i. one.spells i ++ rest.spells i) ∙ sym d.4; fits = (one.fits, rest.fits); reported = λ i. one.reported i ∷ rest.reported i }
 
     some_entries : (ps : Couples) (es : List Entry) → DetPairs order ps es → AllZip Backed (listed ps) es
     some_entries no_pairs [] d = tt
@@ -237,12 +237,12 @@ module _ (order : List ℕ → List ℕ → Ordering) where
     some_entries (pair k v ps) (e ∷ es) d = ((λ are. record { key = a_node k e.0 (bytes-left e.0 e.1 are) d.0; val = a_node v e.1 (bytes-right e.0 e.1 are) d.1 }), some_entries ps es d.2)
 
   sequence : (vs : List Value) (x : List ℕ) → AreBytes x → DetSeq order vs x → PlainNodes x (length vs)
-  sequence [] x are d = record { nodes = no_item; counted = refl; spells = sym d; fits = tt; told = refl }
+  sequence [] x are d = record { nodes = no_item; counted = refl; spells = sym d; fits = tt; reported = refl }
   sequence (v ∷ vs) x are d =
       let both = subst AreBytes d.4 are in
       let one = a_node v d.0 (bytes-left d.0 d.1 both) d.2 in
       let rest = sequence vs d.1 (bytes-right d.0 d.1 both) d.3 in
-      record { nodes = more one.node rest.nodes; counted = ap suc rest.counted; spells = (λ i. one.spells i ++ rest.spells i) ∙ sym d.4; fits = (one.fits, rest.fits); told = λ i. one.told i ∷ rest.told i }
+      record { nodes = more one.node rest.nodes; counted = ap suc rest.counted; spells = (λ i. one.spells i ++ rest.spells i) ∙ sym d.4; fits = (one.fits, rest.fits); reported = λ i. one.reported i ∷ rest.reported i }
 
   lines : (ts : Trees) → item_texts ts ≡ plain_items ts → shown_lines ts ≡ plain_lines ts
   lines no_item e = refl
@@ -253,7 +253,7 @@ module _ (order : List ℕ → List ℕ → Ordering) where
   plain_is vs ts fit d =
       let s = sequence vs (spelled_all ts) (all_are_bytes ts fit) d in
       let same = same_nodes ts s.nodes fit s.fits (sym s.spells) in
-      same_text ts s.nodes same ∙ lines s.nodes s.told ∙ same_plain s.nodes ts (sym same)
+      same_text ts s.nodes same ∙ lines s.nodes s.reported ∙ same_plain s.nodes ts (sym same)
 
   -- LAW: and the text of such bytes is the same in both forms
   pub as_plain : (vs : List Value) (x w : List ℕ) → DetSeq order vs x → IsFixedText x w → IsPlainText x w

@@ -1,8 +1,8 @@
--- What is known of two deterministic encodings that are walked side by side.
+-- What is known of two deterministic encodings that are walked together.
 use Rattle.std.proofs.Common.{◌≡◌, ◌<◌, ◌+◌, ℕ, zero, suc, ◌⊎◌, inl, inr, List, [], ◌∷◌, ◌++◌, length, take, Option, None, Some, Ordering, refl, sym, ◌∙◌, ap, subst, arith, length-append}
 use Rattle.std.specs.List.{AllZip, AllByRecursion}
 use Rattle.cborn_judge.proofs.Encoded.Tidying.{det_tidy}
-use Rattle.cborn_judge.proofs.Meaning.Meanings.{some_bytes}
+use Rattle.cborn_model.proofs.Lengths.{some_bytes}
 use Rattle.cborn_wire.specs.Parts.{NodeRead}
 use Rattle.cborn_model.specs.Meaning.{Means}
 use Rattle.cborn_model.specs.Orders.{IsKeyOrder}
@@ -37,8 +37,8 @@ theirs_longer w ws = (tt, λ h. h)
 differ_here : (v w : Value) (vs ws : List Value) → (Same v w → ⊥) → Difference (v ∷ vs) (w ∷ ws) (Some 0)
 differ_here v w vs ws never = (tt, λ h. never h.0)
 
-differ_behind : (v w : Value) (vs ws : List Value) (j : ℕ) → Same v w → Difference vs ws (Some j) → Difference (v ∷ vs) (w ∷ ws) (Some (suc j))
-differ_behind v w vs ws j same d = ((same, d.0), λ h. d.1 h.1)
+differ_after : (v w : Value) (vs ws : List Value) (j : ℕ) → Same v w → Difference vs ws (Some j) → Difference (v ∷ vs) (w ∷ ws) (Some (suc j))
+differ_after v w vs ws j same d = ((same, d.0), λ h. d.1 h.1)
 
 -- ---- what is left of two encodings
 
@@ -100,9 +100,9 @@ module _ (order : List ℕ → List ℕ → Ordering) (laws : IsKeyOrder order) 
       never b.1 (b.4 ∙ ap (λ (z : List ℕ). z ++ b.1) (sym (first ∙ one))))
 
   -- the nodes after the first one
-  nodes_behind : (limit : ℕ) (ts : List Tree) (v : Value) (vs : List Value) (left l : List ℕ) → (d : DetSeq order (v ∷ vs) left) → IsProper v → Wellformed limit (trees ts) left → AllZip Means ts (v ∷ vs) → l ≡ d.1 → NodesAhead order limit vs l
-  nodes_behind limit [] v vs left l d p w m e = absurd m
-  nodes_behind limit (t ∷ ts) v vs left l d p w m e =
+  nodes_after : (limit : ℕ) (ts : List Tree) (v : Value) (vs : List Value) (left l : List ℕ) → (d : DetSeq order (v ∷ vs) left) → IsProper v → Wellformed limit (trees ts) left → AllZip Means ts (v ∷ vs) → l ≡ d.1 → NodesAhead order limit vs l
+  nodes_after limit [] v vs left l d p w m e = absurd m
+  nodes_after limit (t ∷ ts) v vs left l d p w m e =
       let tidy = det_tidy order t v (spelled_all (trees ts)) d.0 d.1 w.fit.0 p d.2 (w.spells ∙ d.4) in
       record { nodes = ts; read = record { spells = tidy.1 ∙ sym e; fit = w.fit.1; shallow = omega (arith, w.shallow) }; meant = m.1 }
 
@@ -138,8 +138,8 @@ module _ (order : List ℕ → List ℕ → Ordering) (laws : IsKeyOrder order) 
           det2 = subst (DetSeq order ws) (sym two.1) b.3;
           apart = λ p. h.apart (e ∙ ap (λ (z : List ℕ). x ++ z) p ∙ sym f);
         };
-        spelt = nodes_behind limit n.nodes v vs left l h.det h.proper.0 n.read n.meant one.1;
-        lift = λ j. differ_behind v w vs ws j same;
+        spelt = nodes_after limit n.nodes v vs left l h.det h.proper.0 n.read n.meant one.1;
+        lift = λ j. differ_after v w vs ws j same;
       }
 
   module _ (limit : ℕ) (ours theirs : List ℕ) where

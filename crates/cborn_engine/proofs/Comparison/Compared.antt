@@ -55,10 +55,10 @@ module _ (order : List ℕ → List ℕ → Ordering) (laws : IsKeyOrder order) 
   pub same_encodings : (k l : Kind) (limit : ℕ) (first second ours theirs x y : List ℕ) (b : Bool) → length first ≤ most_bytes → length second ≤ most_bytes
       → IsEncoded order k limit first ours → IsEncoded order l limit second theirs → x ≡ ours → y ≡ theirs → Decides b (x ≡ y) → IsTrue b ↔ HoldSameItems k l limit first second
   same_encodings k l limit first second ours theirs x y b p q d e f g t =
-      let told : IsTrue b ↔ (x ≡ y) = from_decides b (x ≡ y) t in
+      let reported : IsTrue b ↔ (x ≡ y) = from_decides b (x ≡ y) t in
       let same = alike order laws k l kind.Wire limit first second ours theirs p q (record { items = d.items; held = d.held; written = d.encoded }) (record { items = e.items; held = e.held; written = e.encoded }) in (
-        λ h. same.0 (sym f ∙ told.0 h ∙ g),
-        λ h. told.1 (f ∙ same.1 h ∙ sym g),
+        λ h. same.0 (sym f ∙ reported.0 h ∙ g),
+        λ h. reported.1 (f ∙ same.1 h ∙ sym g),
       )
 
   -- and so exactly if their forms are

@@ -7,7 +7,7 @@ use Rattle.cborn_model.specs.declared.nodes.Chunk.{Chunk}
 use Rattle.cborn_model.specs.Value.{Value, values_of}
 use Rattle.cborn_model.specs.Tree.{trees, Tree, Uint, Nint, Bytes, Text, ByteChunks, TextChunks, Items, Pairs, Tagged, Simple, Trees, no_item, more, Entries, no_entry, entry}
 use Rattle.cborn_judge.specs.Flaws.{Within, WithinAll, WithinEntries, HasBadChunk, FlawAt}
-use Rattle.cborn_judge.specs.declared.faults.InvalidReason.TheVariants.{NotUtf8}
+use Rattle.cborn_model.specs.declared.faults.InvalidReason.TheVariants.{NotUtf8}
 use Rattle.cborn_edn.specs.Shown.{IsBadText, IsBadAmong, IsBadInPairs, IsBadChunk, LowestBadText}
 use Rattle.cborn_judge.proofs.Meaning.Judging.{sound_all}
 use Rattle.cborn_transcode.proofs.Lists.{all_mean}
@@ -16,7 +16,7 @@ use Rattle.cborn_model.specs.Spelled.{Wellformed}
 use Rattle.cborn_wire.specs.Faults.{IsWellformed}
 use Rattle.cborn_wire.specs.Places.{all_from}
 use Rattle.cborn_wire.proofs.Spelled.AsPlaced.{spelled_all-from, depth_all-from, fits_all-from, placed_all-from}
-use Rattle.cborn_search.specs.Searching.{HasBadText, IsFirstBadText, HaveFirstBadText}
+use Rattle.cborn_flaws.specs.Searching.{HasBadText, IsFirstBadText, HaveFirstBadText}
 use Rattle.cborn_show.specs.Passed.{HasNoNotation}
 use Rattle.cborn_engine.specs.declared.kinds.Kind.TheVariants as kind
 use Rattle.cborn_engine.specs.Holding.{Holds}

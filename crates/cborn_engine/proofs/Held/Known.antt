@@ -14,8 +14,8 @@ use Rattle.cborn_lex.specs.declared.faults.LexFault.TheVariants as lex
 use Rattle.cborn_edn.specs.declared.faults.EdnFault.{EdnFault}
 use Rattle.cborn_edn.specs.declared.faults.EdnFault.TheVariants as edn
 use Rattle.cborn_edn.proofs.Short.Facts.{larger}
-use Rattle.cborn_judge.specs.declared.faults.InvalidReason.{InvalidReason}
-use Rattle.cborn_judge.specs.declared.faults.Invalid.TheVariants as invalid
+use Rattle.cborn_model.specs.declared.faults.InvalidReason.{InvalidReason}
+use Rattle.cborn_model.specs.declared.faults.Invalid.TheVariants as invalid
 use Rattle.cborn_judge.specs.Flaws.{IsRefusalOfAll}
 use Rattle.cborn_judge.proofs.Meaning.Judging.{no_flaw}
 use Rattle.cborn_engine.specs.declared.faults.EngineFault.{EngineFault}
@@ -26,7 +26,7 @@ use Rattle.cborn_engine.specs.Holding.{IsNotation, Spells, Holds}
 use Rattle.cborn_engine.specs.Refusing.{IsNotationFault, IsRefused, IsNoRefusal}
 use Rattle.cborn_engine.specs.Loading.{LoadAnswers, IsNoFlaw}
 use Rattle.cborn_engine.proofs.Held.Meant.{in_place, means_too}
-use Rattle.cborn_engine.proofs.Held.Notated.{no_stop, no_jam, no_slip}
+use Rattle.cborn_engine.proofs.Held.Notated.{no_stop, no_syntax_error, no_error}
 
 pub whole : (x input : List ℕ) (after : Option (List ℕ)) → Consumes (Some x) after input → IsAtEnd after → input ≡ x
 whole x input None t e = absurd t
@@ -48,18 +48,18 @@ flawless (n ∷ ns) (v ∷ vs) p r m (inl h) = no_flaw n v m.0 p r h.is
 flawless (n ∷ ns) (v ∷ vs) p r m (inr h) = flawless ns vs p r m.1 h.1
 
 -- a text that notates nodes isn't refused
-told : (p : Profile) (limit : ℕ) (x : List ℕ) (ns : List Tree) (why : EdnFault) → IsNotation p limit x ns → IsNotationFault p limit x why → ⊥
-told p limit x ns (edn.Lex (lex.Refused q r)) h f = no_stop p limit x ns h q r f.1
-told p limit x ns (edn.Lex lex.OutOfMemory) h f = absurd f.1
-told p limit x ns (edn.Refused q r) h (u, inl f) = no_jam p limit x ns h q r f
-told p limit x ns (edn.Refused q r) h (u, inr f) = no_slip p limit x ns h q r f
-told p limit x ns edn.OutOfMemory h f = absurd f
+reported : (p : Profile) (limit : ℕ) (x : List ℕ) (ns : List Tree) (why : EdnFault) → IsNotation p limit x ns → IsNotationFault p limit x why → ⊥
+reported p limit x ns (edn.Lex (lex.Refused q r)) h f = no_stop p limit x ns h q r f.1
+reported p limit x ns (edn.Lex lex.OutOfMemory) h f = absurd f.1
+reported p limit x ns (edn.Refused q r) h (u, inl f) = no_syntax_error p limit x ns h q r f
+reported p limit x ns (edn.Refused q r) h (u, inr f) = no_error p limit x ns h q r f
+reported p limit x ns edn.OutOfMemory h f = absurd f
 
 -- nodes that are spelled are read
 notated : (k : Kind) (limit most : ℕ) (x : List ℕ) (ns : List Tree) (why : EdnFault) → Spells k limit x ns → IsRefused k limit most x (fault.Edn why) → ⊥
 notated kind.Wire limit most x ns why h f = absurd f
-notated kind.Notation limit most x ns why h f = told profile.One limit x ns why h f.1
-notated kind.Notation2 limit most x ns why h f = told profile.Two limit x ns why h f.1
+notated kind.Notation limit most x ns why h f = reported profile.One limit x ns why h f.1
+notated kind.Notation2 limit most x ns why h f = reported profile.Two limit x ns why h f.1
 
 wellformed : (k : Kind) (limit most : ℕ) (x : List ℕ) (ns : List Tree) (why : WireFault) → Spells k limit x ns → IsRefused k limit most x (fault.Wire why) → ⊥
 wellformed kind.Wire limit most x ns (wire.Refused p r) h f = not_both limit x p r (trees ns, h) f.1

@@ -1,4 +1,4 @@
--- What an input holds is one, valid, and no deeper than the limit.
+-- An input holds one list of items, and these are valid and no deeper than the limit.
 use Rattle.std.proofs.Common.{◌≡◌, ◌≤◌, ◌<◌, ◌^◌, ℕ, List, [], ◌∷◌, length, sym, ap, ◌∙◌, subst, arith}
 use Rattle.std.specs.List.{AllZip, AllByRecursion}
 use Rattle.cborn_model.specs.Tree.{Tree, trees, depth_all}

@@ -7,8 +7,8 @@ use Rattle.cborn_lex.specs.declared.faults.LexReason.{LexReason}
 use Rattle.cborn_lex.specs.Bad.{FailsAt}
 use Rattle.cborn_lex.proofs.WholeTexts.Weights.{utf8_bytes}
 use Rattle.cborn_edn.specs.declared.faults.EdnReason.{EdnReason}
-use Rattle.cborn_edn.specs.Faults.{Jams, Slips}
-use Rattle.cborn_edn.proofs.Short.Facts.{notated_fits, no_stop as never_stops, no_jam as never_jams, no_slip as never_slips}
+use Rattle.cborn_edn.specs.Faults.{HasSyntaxError, HasMeaningError}
+use Rattle.cborn_edn.proofs.Short.Facts.{notated_fits, no_stop as never_stops, no_syntax_error as never_syntax_error, no_error as never_errors}
 use Rattle.cborn_engine.specs.Holding.{IsNotation}
 use Rattle.cborn_engine.specs.Reading.{most_bytes}
 
@@ -19,8 +19,8 @@ module _ (p : Profile) (limit : ℕ) (text : List ℕ) (ns : List Tree) (h : IsN
   pub no_stop : (q : ℕ) (r : LexReason) → FailsAt p text q r → ⊥
   no_stop = never_stops p limit text (trees ns) h.1
 
-  pub no_jam : (q : ℕ) (r : EdnReason) → Jams p limit text q r → ⊥
-  no_jam = never_jams p limit text (trees ns) h.1
+  pub no_syntax_error : (q : ℕ) (r : EdnReason) → HasSyntaxError p limit text q r → ⊥
+  no_syntax_error = never_syntax_error p limit text (trees ns) h.1
 
-  pub no_slip : (q : ℕ) (r : EdnReason) → Slips p limit text q r → ⊥
-  no_slip = never_slips p limit limit text (trees ns) h.1
+  pub no_error : (q : ℕ) (r : EdnReason) → HasMeaningError p limit text q r → ⊥
+  no_error = never_errors p limit limit text (trees ns) h.1

@@ -15,7 +15,7 @@ use Rattle.cborn_edn.specs.declared.strings.StringKind.{StringKind}
 use Rattle.cborn_edn.specs.declared.strings.StringKind.TheVariants.{Bytes as OfBytes, Text as OfText}
 use Rattle.cborn_edn.specs.declared.faults.EdnReason.{EdnReason}
 use Rattle.cborn_edn.specs.declared.faults.EdnReason.TheVariants.{MixedChunks, TextNotUtf8}
-use Rattle.cborn_edn.specs.Says.{unless, mark_slips, string_slips, chunk_slips, is_good, same_kind, is_endless, is_small, is_below, argument_of, integer, bignum, width, is_nil, number_node, string_node, chunked_node, said_string, chunk, Str}
+use Rattle.cborn_edn.specs.Says.{unless, mark_errors, string_errors, chunk_errors, is_good, same_kind, is_endless, is_small, is_below, argument_of, integer, bignum, width, is_nil, number_node, string_node, chunked_node, said_string, chunk, Str}
 use Rattle.cborn_edn.specs.Grammar.{IsItem, IsPiece, ArePieces, AreChunks, AreItems, IsContent, ArePairs, IsFields, IsText, number, word, simple, tag, array, map, string, chunked, text_piece, byte_piece, embedded, piece, also, first, next, last, before, empty, tight, loose, last_pair, pair_before, no_fields, tight_fields, loose_fields, nothing, items}
 use Rattle.cborn_edn.specs.shared.Texts.{AreTexts, IsShowable, EachShowable, ArePairsShowable}
 use Rattle.cborn_edn.proofs.Shown.Lowests.{are_showable}
@@ -58,8 +58,8 @@ empty_shows OfText p = tt
 said_shows : (s : Str) → is_good s.kind s.bytes ≡ true → IsShowable (said_string s)
 said_shows s e = either (s.lone && is_endless s.mark) (chunked_node s.kind s.place []) _ (empty_shows s.kind s.place) (string_shows s.kind s.place (width s.mark (length s.bytes)) s.bytes e)
 
-string_good : (may_end : Bool) (s : Str) → s.known ≡ true → string_slips may_end s ≡ [] → is_good s.kind s.bytes ≡ true
-string_good may_end s k e = go s.known k (nothing_in (mark_slips may_end s) _ e).1
+string_good : (may_end : Bool) (s : Str) → s.known ≡ true → string_errors may_end s ≡ [] → is_good s.kind s.bytes ≡ true
+string_good may_end s k e = go s.known k (nothing_in (mark_errors may_end s) _ e).1
   where
     go : (c : Bool) → c ≡ true → (if c then unless (is_good s.kind s.bytes) s.place TextNotUtf8 else []) ≡ [] → is_good s.kind s.bytes ≡ true
     go true k e = met (is_good s.kind s.bytes) s.place TextNotUtf8 e

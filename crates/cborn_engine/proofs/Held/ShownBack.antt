@@ -1,4 +1,4 @@
--- What is shown of an input is one, and is shown as the bytes that it was shown of.
+-- What is shown of an input is one text, and is itself shown as the bytes that it was shown of.
 use Rattle.std.proofs.Common.{◌≡◌, ℕ, List, sym, ap, ◌∙◌, subst}
 use Rattle.cborn_model.specs.Tree.{Tree, trees}
 use Rattle.cborn_model.specs.Spelled.{spelled_all}

@@ -9,7 +9,7 @@ use Rattle.cborn_model.specs.Orders.{IsKeyOrder}
 use Rattle.cborn_model.specs.Value.{Value}
 use Rattle.cborn_model.specs.Meaning.{Means}
 use Rattle.cborn_edn.specs.ReadingBack.{unplaced_all}
-use Rattle.cborn_judge.specs.declared.defects.Defect.{Defect}
+use Rattle.cborn_model.specs.declared.defects.Defect.{Defect}
 use Rattle.cborn_streams.specs.declared.faults.InputFault.{InputFault}
 use Rattle.cborn_streams.specs.declared.faults.InputFault.TheVariants as input
 use Rattle.cborn_streams.specs.declared.faults.OutputFault.{OutputFault}
@@ -255,9 +255,9 @@ module _ (order : List ℕ → List ℕ → Ordering) (limit : ℕ) (before afte
 module _ (order : List ℕ → List ℕ → Ordering) (laws : IsKeyOrder order) (k l : Kind) (limit : ℕ) (x y v w : List ℕ) (p : length x ≤ most_bytes) (q : length y ≤ most_bytes) (a : IsCanonical order k kind.Wire limit x v) (b : IsCanonical order l kind.Wire limit y w) where
   pub same_forms_match : SpellsOne k limit x → SpellsOne l limit y → (v' w' : List ℕ) (e : Bool) → v' ≡ v → w' ≡ w → Decides e (v' ≡ w') → IsSameItem k l limit x y e
   same_forms_match s t v' w' e f g d =
-      let told : IsTrue e ↔ (v' ≡ w') = from_decides e (v' ≡ w') d in
+      let reported : IsTrue e ↔ (v' ≡ w') = from_decides e (v' ≡ w') d in
       let same = alike order laws k l kind.Wire limit x y v w p q a b in
-      (p, q, holds_one k limit x a.items a.held s, holds_one l limit y b.items b.held t, ((λ h. same.0 (sym f ∙ told.0 h ∙ g)), (λ h. told.1 (f ∙ same.1 h ∙ sym g))))
+      (p, q, holds_one k limit x a.items a.held s, holds_one l limit y b.items b.held t, ((λ h. same.0 (sym f ∙ reported.0 h ∙ g)), (λ h. reported.1 (f ∙ same.1 h ∙ sym g))))
 
 -- ---- the counts of failures
 

@@ -8,11 +8,11 @@ use Rattle.cborn_model.specs.Tree.{Tree, Uint, Nint, Bytes, Text, ByteChunks, Te
 use Rattle.cborn_model.specs.Placed.{Placed, PlacedAll}
 use Rattle.cborn_model.specs.Spelled.{spelled, spelled_all, Fits, FitsAll, Wellformed}
 use Rattle.cborn_wire.specs.Places.{all_from}
-use Rattle.cborn_wire.specs.Slots.{Begun, beginnings}
+use Rattle.cborn_wire.specs.Slots.{OpenContainer, beginnings}
 use Rattle.cborn_wire.proofs.Spelled.AsPlaced.{spelled_all-from, depth_all-from, fits_all-from, placed_all-from}
 use Rattle.cborn_wire.proofs.Spelled.TreeLists.{tree_list, trees-tree_list}
-use Rattle.cborn_judge.proofs.Meaning.Meanings.{some_bytes}
-use Rattle.cborn_places.proofs.Shortening.Twins.{twins_well}
+use Rattle.cborn_model.proofs.Lengths.{some_bytes}
+use Rattle.cborn_text_places.proofs.Shortening.Twins.{twins_well}
 use Rattle.cborn_wire.proofs.Parts.Openings.{one_front}
 use Rattle.cborn_lex.specs.declared.classes.Profile.{Profile}
 use Rattle.cborn_lex.specs.declared.classes.Profile.TheVariants as profile
@@ -31,7 +31,7 @@ use Rattle.cborn_engine.proofs.Held.Notated.{fits}
 
 -- ---- bytes
 
-some_steps : (ts : Trees) (os : List Begun) → 1 ≤ length (steps ts os)
+some_steps : (ts : Trees) (os : List OpenContainer) → 1 ≤ length (steps ts os)
 some_steps ts [] = omega arith
 some_steps ts (o ∷ os) = omega (arith, length-append (steps ts os) (step_in o ∷ []))
 
@@ -40,9 +40,9 @@ same_index n m e = cc
 
 -- the node that a front spells which ends after one
 front_node : (x : List ℕ) → EndsAt x (Item 1 ∷ []) → (u : Tree) × Fits u × (spelled u ≡ x)
-front_node x (us, os, fit, deep, begun, is, path) = go us os fit is path
+front_node x (us, os, fit, deep, opened, is, path) = go us os fit is path
   where
-    go : (us : Trees) (os : List Begun) → FitsAll us → x ≡ spelled_all us ++ beginnings os → Item 1 ∷ [] ≡ steps us os → (u : Tree) × Fits u × (spelled u ≡ x)
+    go : (us : Trees) (os : List OpenContainer) → FitsAll us → x ≡ spelled_all us ++ beginnings os → Item 1 ∷ [] ≡ steps us os → (u : Tree) × Fits u × (spelled u ≡ x)
     go us (o ∷ os) fit is path = absurd (omega (arith, ap length path, length-append (steps us os) (step_in o ∷ []), some_steps us os))
     go no_item [] fit is path = absurd (let n = same_index 1 0 path in omega (arith, n))
     go (more u no_item) [] fit is path = (u, fit.0, sym (is ∙ append-nil (spelled u ++ []) ∙ append-nil (spelled u)))
@@ -117,14 +117,14 @@ own_start (Pairs q s es) = (_, refl)
 own_start (Tagged q w n t) = (_, refl)
 own_start (Simple q n) = ([], refl)
 
-behind : (xs ys : List ℕ) (y : ℕ) → slice_get (xs ++ y ∷ ys) (length xs) ≡ Some y
-behind [] ys y = refl
-behind (x ∷ xs) ys y = behind xs ys y
+after : (xs ys : List ℕ) (y : ℕ) → slice_get (xs ++ y ∷ ys) (length xs) ≡ Some y
+after [] ys y = refl
+after (x ∷ xs) ys y = after xs ys y
 
 second_start : (t u : Tree) (us : List Tree) → slice_get (starts_all (trees (t ∷ u ∷ us))) (length (starts t)) ≡ Some (place u)
 second_start t u us =
     let own = own_start u in
-    ap (λ (xs : List ℕ). slice_get (starts t ++ (xs ++ starts_all (trees us))) (length (starts t))) own.1 ∙ behind (starts t) (own.0 ++ starts_all (trees us)) (place u)
+    ap (λ (xs : List ℕ). slice_get (starts t ++ (xs ++ starts_all (trees us))) (length (starts t))) own.1 ∙ after (starts t) (own.0 ++ starts_all (trees us)) (place u)
 
 -- nodes in their places
 pub in_places : (limit : ℕ) (ns : List Tree) (x : List ℕ) → Wellformed limit (trees ns) x → (ms : List Tree) × SpellsInPlace kind.Wire limit x ms

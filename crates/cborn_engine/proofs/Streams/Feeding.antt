@@ -1,4 +1,4 @@
--- What a loop knows that feeds the pieces of an input.
+-- What is known in the loop that feeds the pieces of an input.
 use Rattle.std.proofs.Common.{◌≡◌, ◌≤◌, ◌+◌, ℕ, List, [], ◌++◌, length, take, Bool, true, false, Option, None, Some, Result, Ok, Err, Vec, Global, inl, append-nil, refl, sym, ◌∙◌, ap, subst, arith, length-append}
 use Rattle.std.specs.Prelude.{⊤}
 use Rattle.std.specs.Result.{is_err}
@@ -149,12 +149,12 @@ module _ (limit most left : ℕ) (a b c : Option (List ℕ)) (refused : Bool) (f
       taken : Consumes a c s.input
       taken = taken_all a b c s.input buf n s.taken p.2 e
 
-      told : (w : WireFault) → StaysRefused limit s.input w → Loads kind.Wire limit most a c (Err (of_wire w))
-      told (wire.Refused q r) k = record { input = s.input; taken = taken; answer = ((within, inl k), tt); to_end = p.3 e }
-      told wire.OutOfMemory k = record { input = s.input; taken = taken; answer = (within, tt); to_end = tt }
+      reported : (w : WireFault) → StaysRefused limit s.input w → Loads kind.Wire limit most a c (Err (of_wire w))
+      reported (wire.Refused q r) k = record { input = s.input; taken = taken; answer = ((within, inl k), tt); to_end = p.3 e }
+      reported wire.OutOfMemory k = record { input = s.input; taken = taken; answer = (within, tt); to_end = tt }
 
       go : (refused : Bool) → IsFedSoFar limit s.input refused f → Loads kind.Wire limit most a c (Err (of_wire why))
-      go true k = subst (λ (w : WireFault). Loads kind.Wire limit most a c (Err (of_wire w))) (sym (again k.0 k.1)) (told k.0 k.2)
+      go true k = subst (λ (w : WireFault). Loads kind.Wire limit most a c (Err (of_wire w))) (sym (again k.0 k.1)) (reported k.0 k.2)
       go false k =
           let i = cut k.3 in
           let j : Fault limit s.input (length s.input) Truncated = subst (λ (x : List ℕ). Fault limit x (length x) Truncated) k.1 (subst (λ (m : ℕ). Fault m f.held (length f.held) Truncated) k.0 i.1) in

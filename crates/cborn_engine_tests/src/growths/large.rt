@@ -4,8 +4,10 @@ use cborn_det::encode_all;
 use cborn_edn::show;
 use cborn_engine::{Kind, load};
 use cborn_judge::judge_all;
-use cborn_model::{Bytewise, Limit};
+use cborn_model::{Bytewise, Limit, Spelled};
 use cborn_wire::{Feeder, read_one, spell_all};
+use std::alloc::Global;
+use std::process::Abort;
 use std::test::Fail;
 
 #[test]
@@ -21,6 +23,19 @@ fn long_piece_fed(rt: HostRuntime) -> Result<(), Fail> {
     Ok(())
 }
 
+/// Asserts that the nodes spell these bytes, and that these encode what the nodes mean.
+fn is_deterministic(
+    rt: &impl Abort,
+    alloc: Global,
+    nodes: &[Spelled],
+    input: &[u8],
+) -> Result<(), Fail> {
+    assert!(rt; spell_all(alloc, nodes)?.as_slice() == input);
+    let items = judge_all(alloc, nodes)?;
+    assert!(rt; encode_all::<Bytewise>(alloc, &items)?.as_slice() == input);
+    Ok(())
+}
+
 /// Catches a call that gives up where a sequence has many items. Its contract would be kept.
 #[test]
 fn many_items_loaded(rt: HostRuntime) -> Result<(), Fail> {
@@ -28,12 +43,8 @@ fn many_items_loaded(rt: HostRuntime) -> Result<(), Fail> {
     let mut bytes = Bytes::new(&input, 1 << 16);
     let nodes = load(rt.alloc(), Limit::USUAL, Kind::Wire, &mut bytes)?;
     assert_eq!(rt; nodes.len(), 100_000);
-    assert!(rt; spell_all(rt.alloc(), &nodes)?.as_slice() == input.as_slice());
     assert_eq!(rt; show(rt.alloc(), &nodes)?.as_str().len(), 299_999);
-    let items = judge_all(rt.alloc(), &nodes)?;
-    let encoded = encode_all::<Bytewise>(rt.alloc(), &items)?;
-    assert!(rt; encoded.as_slice() == input.as_slice());
-    Ok(())
+    is_deterministic(&rt, rt.alloc(), &nodes, &input)
 }
 
 /// Catches a call that gives up where a text is long, or an item is far from its start.

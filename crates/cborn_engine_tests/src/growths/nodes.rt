@@ -2,10 +2,11 @@
 use super::super::memory::Bytes;
 use cborn_det::{encode, encode_all, equal_bytes};
 use cborn_engine::{EngineFault, Kind, load_within};
-use cborn_judge::{Defect, DefectReason, first_defect, judge_all};
-use cborn_model::{Bytewise, Limit};
+use cborn_judge::{first_defect, judge_all};
+use cborn_model::{Bytewise, Defect, DefectReason, Limit};
 use cborn_wire::{Feeder, WireFault, read_all, read_one, spell_all};
 use std::alloc::Global;
+use std::process::Abort;
 use std::test::Fail;
 
 /// The bytes that an input spells. It is loaded with two bytes a call.
@@ -30,25 +31,30 @@ fn inputs_loaded(rt: HostRuntime) -> Result<(), Fail> {
     Ok(())
 }
 
-/// Catches a feeder that forgets that memory was refused, or gives other items than it kept.
-#[test]
-fn pieces_fed(rt: HostRuntime) -> Result<(), Fail> {
-    let mut feeder = Feeder::new(rt.alloc(), Limit::USUAL);
+/// A feeder that was given a map in two pieces, and an integer after it; and what it answered at last.
+fn fed_in_pieces(rt: &impl Abort, alloc: Global) -> (Feeder, Result<(), WireFault>) {
+    let mut feeder = Feeder::new(alloc, Limit::USUAL);
     let first = feeder.feed(b"\xbf\x61\x7a\x01\x0a\x5f\x41");
     let second = feeder.feed(b"\x01\xff\xff\x00");
     if first.is_err() {
         assert_eq!(rt; second, Err(WireFault::OutOfMemory));
     }
-    let taken = feeder.take();
+    (feeder, second)
+}
+
+/// Catches a feeder that forgets that memory was refused, or gives other items than it kept.
+#[test]
+fn pieces_fed(rt: HostRuntime) -> Result<(), Fail> {
+    let (mut feeder, fed) = fed_in_pieces(&rt, rt.alloc());
+    let taken = feeder.take().is_some();
     let rest = match feeder.finish() {
         Ok(rest) => rest,
         Err(why) => {
-            assert_eq!(rt; second, Err(why));
+            assert_eq!(rt; fed, Err(why));
             return Err(Fail::from(why));
         }
     };
-    assert_eq!(rt; (first, second), (Ok(()), Ok(())));
-    assert!(rt; taken.is_some());
+    assert!(rt; fed.is_ok() && taken);
     assert_eq!(rt;
         spell_all(rt.alloc(), &rest)?.as_slice(),
         b"\x00".as_slice()

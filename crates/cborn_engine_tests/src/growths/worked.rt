@@ -3,8 +3,8 @@ use super::super::memory::Bytes;
 use cborn_det::encode;
 use cborn_edn::{EdnFault, EdnReason, show};
 use cborn_engine::{EngineFault, Kind, load};
-use cborn_judge::{Defect, DefectReason, first_defect, judge};
-use cborn_model::{Bytewise, LengthFirst, Limit, Spelled};
+use cborn_judge::{first_defect, judge};
+use cborn_model::{Bytewise, Defect, DefectReason, LengthFirst, Limit, Spelled};
 use cborn_wire::{Feeder, WireFault, spell, spell_all};
 use std::alloc::{AllocError, Global};
 use std::process::Abort;
@@ -19,9 +19,10 @@ type Worked<'a> = (
     Option<(u64, DefectReason)>,
 );
 
-/// Maps with keys in falling order, a map with a string in chunks, bignums that are loose, in chunks or
-/// with a long head, strings and tags.
-const WORKED: [Worked<'static>; 12] = [
+/// Maps with keys in falling order, a map with a string in chunks, bignums that are loose, in chunks,
+/// without bytes or with a long head, strings and tags, keys of two kinds with the same bytes, and a
+/// defect in a key, in a chunk and in a value.
+const WORKED: [Worked<'static>; 19] = [
     (
         b"\xa8\xf4\x00\x81\x20\x00\x81\x18\x64\x00\x62\x61\x61\x00\x61\x7a\x00\x20\x00\x18\x64\x00\x0a\x00",
         "{false: 0, [-1]: 0, [100]: 0, \"aa\": 0, \"z\": 0, -1: 0, 100: 0, 10: 0}\n",
@@ -104,6 +105,55 @@ const WORKED: [Worked<'static>; 12] = [
         "55799([])\n",
         b"\xd9\xd9\xf7\x80",
         b"\xd9\xd9\xf7\x80",
+        None,
+    ),
+    (
+        b"\xa2\x41\x61\x00\x61\x61\x00",
+        "{h'61': 0, \"a\": 0}\n",
+        b"\xa2\x41\x61\x00\x61\x61\x00",
+        b"\xa2\x41\x61\x00\x61\x61\x00",
+        None,
+    ),
+    (
+        b"\xc2\x40",
+        "2(h'')\n",
+        b"\x00",
+        b"\x00",
+        Some((0, DefectReason::LooseBignum)),
+    ),
+    (
+        b"\xc3\x40",
+        "3(h'')\n",
+        b"\x20",
+        b"\x20",
+        Some((0, DefectReason::LooseBignum)),
+    ),
+    (
+        b"\xa2\x02\x00\x18\x01\x00",
+        "{2: 0, 1_0: 0}\n",
+        b"\xa2\x01\x00\x02\x00",
+        b"\xa2\x01\x00\x02\x00",
+        Some((3, DefectReason::LongHead)),
+    ),
+    (
+        b"\x5f\x58\x01\x61\xff",
+        "(_ h'61'_0)\n",
+        b"\x41\x61",
+        b"\x41\x61",
+        Some((0, DefectReason::EndlessLength)),
+    ),
+    (
+        b"\xa1\x01\xa2\x02\x00\x01\x00",
+        "{1: {2: 0, 1: 0}}\n",
+        b"\xa1\x01\xa2\x01\x00\x02\x00",
+        b"\xa1\x01\xa2\x01\x00\x02\x00",
+        Some((5, DefectReason::KeyOrder)),
+    ),
+    (
+        b"\x81\x18\x18",
+        "[24]\n",
+        b"\x81\x18\x18",
+        b"\x81\x18\x18",
         None,
     ),
 ];

@@ -20,7 +20,7 @@ use Rattle.cborn_model.specs.declared.heads.Width.{Width}
 use Rattle.cborn_model.specs.declared.heads.Width.TheVariants.{Direct, One, Two, Four, Eight}
 use Rattle.cborn_model.specs.declared.heads.Major.{Major}
 use Rattle.cborn_model.specs.declared.heads.Major.TheVariants.{Unsigned, Negative, ByteString, TextString, Array, Map, Tag, Other}
-use Rattle.cborn_model.specs.Heads.{WidthFits, information, following, least, IsHead, IsLeastHead, Given, Unbounded, code, head}
+use Rattle.cborn_model.specs.Heads.{WidthFits, information, following, least, IsHead, IsLeastHead, Given, EndlessArgument, code, head}
 use Rattle.cborn_det.specs.Det.{IsString, IsInteger, Det, DetValues, DetPairs, Entry, keys, joined, major_of, bignum_tag}
 use Rattle.cborn_model.specs.Orders.{Rising}
 use Rattle.cborn_model.specs.declared.nodes.Chunk.{Chunk}
@@ -200,9 +200,9 @@ module _ (order : List ℕ → List ℕ → Ordering) where
       }
 
   -- an indefinite length begins no encoding
-  not_endless : (m : Major) (c x s : List ℕ) → Seen x → head m Unbounded ++ c ≡ x ++ s → ⊥
+  not_endless : (m : Major) (c x s : List ℕ) → Seen x → head m EndlessArgument ++ c ≡ x ++ s → ⊥
   not_endless m c x s z e =
-      let a : head m Unbounded ++ c ≡ ((32 * z.major + information (least z.argument) z.argument) ∷ following (least z.argument) z.argument) ++ (z.content ++ s) = e ∙ ap (λ l. l ++ s) z.is ∙ append_assoc z.front z.content s ∙ ap (λ l. l ++ (z.content ++ s)) z.is_head.1 in
+      let a : head m EndlessArgument ++ c ≡ ((32 * z.major + information (least z.argument) z.argument) ∷ following (least z.argument) z.argument) ++ (z.content ++ s) = e ∙ ap (λ l. l ++ s) z.is ∙ append_assoc z.front z.content s ∙ ap (λ l. l ++ (z.content ++ s)) z.is_head.1 in
       let byte : 32 * code m + 31 ≡ 32 * z.major + information (least z.argument) z.argument = cc in
       omega (arith, bits_low (least z.argument) z.argument z.is_head.0)
 

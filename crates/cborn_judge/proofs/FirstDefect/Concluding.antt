@@ -11,7 +11,7 @@ use Rattle.cborn_det.specs.Det.{Det}
 use Rattle.cborn_judge.specs.Departures.{FindsDefect}
 use Rattle.cborn_judge.specs.shared.Checked.{DefectIn}
 use Rattle.cborn_judge.specs.Defects.{Defect, IsCheck, IsDeterministic}
-use Rattle.cborn_judge.specs.declared.defects.Defect as defect
+use Rattle.cborn_model.specs.declared.defects.Defect as defect
 use Rattle.cborn_judge.proofs.Encoded.Checking.{check_sound, check_whole}
 use Rattle.cborn_judge.proofs.FirstDefect.Departing.{alike}
 use Rattle.cborn_judge.proofs.Meaning.Meanings.{means_once}

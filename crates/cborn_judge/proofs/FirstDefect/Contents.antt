@@ -11,7 +11,7 @@ use Rattle.cborn_model.specs.declared.items.Item.TheVariants as item
 use Rattle.cborn_model.specs.declared.items.ItemBox.{ItemBox}
 use Rattle.cborn_judge.specs.Departures.{FindsDefect}
 use Rattle.cborn_judge.specs.shared.Checked.{DefectIn, TagDefect}
-use Rattle.cborn_judge.specs.declared.defects.Defect as defect
+use Rattle.cborn_model.specs.declared.defects.Defect as defect
 use Rattle.cborn_judge.proofs.FirstDefect.Departing.{alike}
 
 -- an answer, weakened

@@ -10,13 +10,14 @@ use Rattle.cborn_model.specs.declared.heads.Width.{Width}
 use Rattle.cborn_model.specs.declared.nodes.Chunk.{Chunk}
 use Rattle.cborn_judge.specs.Departures.{FindsDefect, LongAt, LooseBytesAt}
 use Rattle.cborn_judge.specs.shared.Checked.{IsEarliestDefect, SizeAt, LooseAt, DefectIn, DefectInAll, MapDefect, TagDefect}
-use Rattle.cborn_judge.specs.Defects.{defect_rank, IsLong, HasLongChunk, IsLoose, ChunksDefect, DefectAt}
+use Rattle.cborn_judge.specs.Defects.{IsLong, HasLongChunk, IsLoose, ChunksDefect, DefectAt}
+use Rattle.cborn_model.specs.Reasons.{defect_rank}
 use Rattle.cborn_judge.specs.Flaws.{Within}
-use Rattle.cborn_judge.specs.declared.defects.Defect as defect
-use Rattle.cborn_judge.specs.declared.defects.DefectReason.{DefectReason}
+use Rattle.cborn_model.specs.declared.defects.Defect as defect
+use Rattle.cborn_model.specs.declared.defects.DefectReason.{DefectReason}
 use Rattle.cborn_judge.proofs.Meaning.Meanings.{string_once}
-use Rattle.cborn_judge.proofs.Loops.Firsts as firsts
-use Rattle.cborn_judge.proofs.Loops.Firsts.{Either}
+use Rattle.cborn_model.proofs.Found as firsts
+use Rattle.cborn_model.proofs.Found.{Either}
 use Rattle.cborn_judge.proofs.Loops.Passing.{passed_one}
 
 pub both_found : (F G : ℕ → DefectReason → Type 0) (a b o : Option defect.Defect) → FindsDefect F a → FindsDefect G b → IsEarliestDefect a b o → FindsDefect (Either F G) o

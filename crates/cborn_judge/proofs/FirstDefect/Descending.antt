@@ -18,10 +18,10 @@ use Rattle.cborn_judge.specs.Departures.{FindsDefect, NotAboveAt}
 use Rattle.cborn_judge.specs.shared.Checked.{IsEarliestDefect, DefectIn, DefectInAll, DefectAmong, DescentAt}
 use Rattle.cborn_judge.specs.Defects.{NotAbove, Descends, HasDescent}
 use Rattle.cborn_judge.specs.shared.Judged.{MeansItem}
-use Rattle.cborn_judge.specs.declared.defects.Defect as defect
-use Rattle.cborn_judge.specs.declared.defects.DefectReason.{DefectReason}
+use Rattle.cborn_model.specs.declared.defects.Defect as defect
+use Rattle.cborn_model.specs.declared.defects.DefectReason.{DefectReason}
 use Rattle.cborn_judge.proofs.FirstDefect.Departing.{both_found, alike}
-use Rattle.cborn_judge.proofs.Loops.Firsts.{Either}
+use Rattle.cborn_model.proofs.Found.{Either}
 use Rattle.cborn_judge.proofs.Meaning.Meanings.{means_once}
 use Rattle.cborn_judge.proofs.FirstFlaw.Pairing as pairs
 use Rattle.cborn_judge.proofs.FirstFlaw.Walking as items
@@ -223,11 +223,11 @@ module _ (order : List ℕ → List ℕ → Ordering) where
     seen_more : (ns : List (Tree × Tree)) (n : Tree × Tree) (bytes bytes' x : List ℕ) (previous : Option ℕ) (first next o : Option defect.Defect) → Seen ns bytes previous first → IsCodeOf n x → bytes' ≡ bytes ++ x → FindsDefect (After bytes previous x (place n.0)) next → IsEarliestDefect first next o
         → Seen (ns ++ n ∷ []) bytes' (Some (length bytes)) o
     seen_more ns n bytes bytes' x previous first next o h k b f e =
-        let behind : drop (length bytes) bytes' ≡ x = ap (drop (length bytes)) b ∙ drop-append_seam bytes x in
+        let after : drop (length bytes) bytes' ≡ x = ap (drop (length bytes)) b ∙ drop-append_seam bytes x in
         record {
           codes = h.codes ++ x ∷ [];
           are = zip_more ns h.codes n x h.are k;
-          ends = ((let l = ap length b in omega (arith, length-append bytes x)), h.codes, ap (λ z. h.codes ++ z ∷ []) (sym behind));
+          ends = ((let l = ap length b in omega (arith, length-append bytes x)), h.codes, ap (λ z. h.codes ++ z ∷ []) (sym after));
           found = alike (Either (DescentAt order (entries ns)) (After bytes previous x (place n.0))) (DescentAt order (entries (ns ++ n ∷ []))) o (one_more ns n h.codes bytes x previous h.are h.ends k)
               (both_found (DescentAt order (entries ns)) (After bytes previous x (place n.0)) first next o h.found f e);
         }

@@ -11,17 +11,18 @@ use Rattle.cborn_model.specs.Value.{Value, pairs_of, pair_count, dict}
 use Rattle.cborn_model.specs.declared.items.Item.{Item}
 use Rattle.cborn_model.specs.declared.heads.Size.{Size}
 use Rattle.cborn_model.proofs.Listed.Values.{pair_count-pairs_of}
-use Rattle.cborn_judge.specs.Flaws.{Within, WithinEntries, FlawAt, Flaw, IsFirstFlaw, flaw_rank}
+use Rattle.cborn_judge.specs.Flaws.{Within, WithinEntries, FlawAt, Flaw, IsFirstFlaw}
+use Rattle.cborn_model.specs.Reasons.{flaw_rank}
 use Rattle.cborn_judge.specs.shared.Judged.{FindsFlaw, IsEarliestFlaw, FlawAmong, MeansItem, PairFlaw, RepeatFlaw, IsFirstWith, IsJudged}
 use Rattle.cborn_judge.specs.declared.judgments.Judged.{Judged}
 use Rattle.cborn_judge.specs.declared.judgments.Judged.TheVariants as judged
 use Rattle.cborn_judge.specs.devices.Keeping.{code_bytes, code_position, AreKept, IsNextKey, KeepsKey}
 use Rattle.cborn_judge.specs.devices.Places.{key_places}
-use Rattle.cborn_judge.specs.declared.faults.Flaw as flaw
-use Rattle.cborn_judge.specs.declared.faults.InvalidReason.{InvalidReason}
-use Rattle.cborn_judge.specs.declared.faults.InvalidReason.TheVariants.{DuplicateKey}
+use Rattle.cborn_judge.specs.declared.flaws.Flaw as flaw
+use Rattle.cborn_model.specs.declared.faults.InvalidReason.{InvalidReason}
+use Rattle.cborn_model.specs.declared.faults.InvalidReason.TheVariants.{DuplicateKey}
 use Rattle.cborn_judge.specs.declared.keys.Keys.{Keys}
-use Rattle.cborn_judge.proofs.Loops.Firsts.{Either, earlier_of, first_left, first_right, found_both, found_alike, none_both, Settles, settled_found, settled_fine, settled_flawed}
+use Rattle.cborn_model.proofs.Found.{Either, earlier_of, first_left, first_right, found_both, found_alike, none_both, Settles, settled_found, settled_fine, settled_flawed}
 use Rattle.cborn_judge.proofs.Meaning.Judging.{sound_entries, no_flaw, new_keys}
 use Rattle.cborn_judge.proofs.SameKeys.Pushing.{keys_push, keys_skip}
 use Rattle.cborn_judge.proofs.FirstFlaw.Steps.{flaw_pairs}

@@ -7,8 +7,8 @@ use Rattle.cborn_model.specs.Meaning.{Means}
 use Rattle.cborn_model.specs.Tree.{Tree}
 use Rattle.cborn_model.specs.Value.{Value}
 use Rattle.cborn_judge.specs.Flaws.{IsRefusal, IsRefusalOfAll}
-use Rattle.cborn_judge.specs.declared.faults.Invalid.{Invalid}
-use Rattle.cborn_judge.specs.declared.faults.Invalid.TheVariants.{OutOfMemory}
+use Rattle.cborn_model.specs.declared.faults.Invalid.{Invalid}
+use Rattle.cborn_model.specs.declared.faults.Invalid.TheVariants.{OutOfMemory}
 use Rattle.cborn_judge.proofs.Loops.Passing.{passed_one}
 
 pub mean_more : (ts : List Tree) (vs : List Value) (t : Tree) (v : Value) → AllZip Means ts vs → Means t v → AllZip Means (ts ++ t ∷ []) (vs ++ v ∷ [])

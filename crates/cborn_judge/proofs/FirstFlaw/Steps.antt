@@ -2,8 +2,8 @@
 use Rattle.std.proofs.Common.{◌≡◌, ℕ, ◌⊎◌, inl, inr, List, get_or, refl, subst}
 use Rattle.std.specs.Prelude.{◌↔◌}
 use Rattle.cborn_judge.specs.Flaws.{Within, HasRepeat, FlawAt, Flaw}
-use Rattle.cborn_judge.specs.declared.faults.InvalidReason.{InvalidReason}
-use Rattle.cborn_judge.specs.declared.faults.InvalidReason.TheVariants.{DuplicateKey}
+use Rattle.cborn_model.specs.declared.faults.InvalidReason.{InvalidReason}
+use Rattle.cborn_model.specs.declared.faults.InvalidReason.TheVariants.{DuplicateKey}
 use Rattle.cborn_judge.specs.shared.Judged.{FlawIn, FlawAmong, RepeatFlaw}
 use Rattle.cborn_judge.specs.shared.Repeats.{AreKeys}
 use Rattle.cborn_judge.specs.devices.Places.{Key, key_bytes, key_position, RepeatAt}

@@ -5,13 +5,14 @@ use Rattle.cborn_model.specs.ItemView.{item_value}
 use Rattle.cborn_model.specs.Meaning.{IsByteString}
 use Rattle.cborn_model.specs.Tree.{Tree, Tagged}
 use Rattle.cborn_model.specs.declared.heads.Width.{Width}
-use Rattle.cborn_judge.specs.Flaws.{FlawAt, Flaw, IsFirstFlaw, flaw_rank}
+use Rattle.cborn_judge.specs.Flaws.{FlawAt, Flaw, IsFirstFlaw}
+use Rattle.cborn_model.specs.Reasons.{flaw_rank}
 use Rattle.cborn_judge.specs.shared.Judged.{IsFirstWith, IsJudged}
 use Rattle.cborn_judge.specs.declared.judgments.Judged.{Judged}
 use Rattle.cborn_judge.specs.declared.judgments.Judged.TheVariants as judged
-use Rattle.cborn_judge.specs.declared.faults.Flaw as flaw
-use Rattle.cborn_judge.specs.declared.faults.InvalidReason.TheVariants.{BadBignum}
-use Rattle.cborn_judge.proofs.Loops.Firsts.{Either, earlier_of, first_left, first_right, found_alike}
+use Rattle.cborn_judge.specs.declared.flaws.Flaw as flaw
+use Rattle.cborn_model.specs.declared.faults.InvalidReason.TheVariants.{BadBignum}
+use Rattle.cborn_model.proofs.Found.{Either, earlier_of, first_left, first_right, found_alike}
 use Rattle.cborn_judge.proofs.Meaning.Judging.{no_flaw}
 use Rattle.cborn_judge.proofs.FirstFlaw.Steps.{flaw_tagged}
 

@@ -6,13 +6,14 @@ use Rattle.std.proofs.lemmas.List.Concat.{flat_map-append}
 use Rattle.cborn_model.specs.declared.nodes.Chunk.{Chunk}
 use Rattle.cborn_model.specs.Meaning.{joined_chunks, ChunksAreText}
 use Rattle.cborn_model.specs.Tree.{TextChunks}
-use Rattle.cborn_judge.specs.Flaws.{HasBadChunk, FlawAt, IsFirstFlaw, flaw_rank}
+use Rattle.cborn_judge.specs.Flaws.{HasBadChunk, FlawAt, IsFirstFlaw}
+use Rattle.cborn_model.specs.Reasons.{flaw_rank}
 use Rattle.cborn_judge.specs.shared.Judged.{ChunkFlaw, IsEarliestFlaw, FindsFlaw}
-use Rattle.cborn_judge.specs.declared.faults.Flaw as flaw
-use Rattle.cborn_judge.specs.declared.faults.InvalidReason.{InvalidReason}
-use Rattle.cborn_judge.specs.declared.faults.InvalidReason.TheVariants.{NotUtf8}
+use Rattle.cborn_judge.specs.declared.flaws.Flaw as flaw
+use Rattle.cborn_model.specs.declared.faults.InvalidReason.{InvalidReason}
+use Rattle.cborn_model.specs.declared.faults.InvalidReason.TheVariants.{NotUtf8}
 use Rattle.cborn_model.specs.First.{IsFirst}
-use Rattle.cborn_judge.proofs.Loops.Firsts.{Either, Settles, settled_fine, settled_flawed}
+use Rattle.cborn_model.proofs.Found.{Either, Settles, settled_fine, settled_flawed}
 use Rattle.cborn_judge.proofs.Meaning.Judging.{no_bad_chunk}
 use Rattle.cborn_judge.proofs.Loops.Passing.{passed_one}
 

@@ -11,11 +11,12 @@ use Rattle.cborn_model.specs.Value.{Value, values_of, value_count, array}
 use Rattle.cborn_model.specs.declared.items.Item.{Item}
 use Rattle.cborn_model.specs.declared.heads.Size.{Size}
 use Rattle.cborn_model.proofs.Listed.Values.{value_count-values_of}
-use Rattle.cborn_judge.specs.Flaws.{Within, WithinAll, Flaw, IsFirstFlaw, flaw_rank}
+use Rattle.cborn_judge.specs.Flaws.{Within, WithinAll, Flaw, IsFirstFlaw}
+use Rattle.cborn_model.specs.Reasons.{flaw_rank}
 use Rattle.cborn_judge.specs.shared.Judged.{IsEarliestFlaw, FlawIn, MeansItem}
-use Rattle.cborn_judge.specs.declared.faults.Flaw as flaw
-use Rattle.cborn_judge.specs.declared.faults.InvalidReason.{InvalidReason}
-use Rattle.cborn_judge.proofs.Loops.Firsts.{Either, found_alike, Settles, settled_fine, settled_flawed}
+use Rattle.cborn_judge.specs.declared.flaws.Flaw as flaw
+use Rattle.cborn_model.specs.declared.faults.InvalidReason.{InvalidReason}
+use Rattle.cborn_model.proofs.Found.{Either, found_alike, Settles, settled_fine, settled_flawed}
 use Rattle.cborn_judge.proofs.Meaning.Judging.{sound_all, no_flaw}
 use Rattle.cborn_judge.proofs.FirstFlaw.Steps.{flaw_items}
 use Rattle.cborn_judge.proofs.Loops.Passing.{passed_one}

@@ -4,12 +4,13 @@ use Rattle.std.specs.Prelude.{IsUtf8}
 use Rattle.std.specs.List.{flat_map}
 use Rattle.std.proofs.lemmas.Bool.{cases_lt}
 use Rattle.std.proofs.lemmas.Str.{IsUtf8-append, IsUtf8-nil}
+use Rattle.cborn_model.proofs.Lengths.{some_bytes}
 use Rattle.cborn_model.proofs.Numbers.OneMagnitude.{one_magnitude, large}
 use Rattle.cborn_model.specs.Value.{Value, Values, Couples, integer, bytes, text, array, dict, tagged, simple, no_values, value, no_pairs, pair}
 use Rattle.cborn_model.specs.Bytes.{big_endian, AreBytes, IsShortest}
 use Rattle.cborn_model.specs.Valid.{IsProper, AreProper, HasProperPairs, value_depth, values_depth, pairs_depth}
 use Rattle.cborn_model.specs.declared.heads.Major.TheVariants.{ByteString, TextString, Array, Map, Tag}
-use Rattle.cborn_model.specs.Heads.{Given, Unbounded, head, argument}
+use Rattle.cborn_model.specs.Heads.{Given, EndlessArgument, head, argument}
 use Rattle.cborn_model.specs.declared.nodes.Chunk.{Chunk}
 use Rattle.cborn_model.specs.Tree.{Tree, Uint, Nint, Bytes, Text, ByteChunks, TextChunks, Items, Pairs, Tagged, Simple, Trees, no_item, more, Entries, no_entry, entry, count, count_entries, depth, depth_all, depth_entries}
 use Rattle.cborn_model.specs.declared.heads.Size.TheVariants.{Fixed, Endless}
@@ -75,20 +76,6 @@ mutual
 
 -- ---- how many bytes a node spells
 
-pub some_bytes : (t : Tree) → 1 ≤ length (spelled t)
-some_bytes (Uint p w n) = omega arith
-some_bytes (Nint p w n) = omega arith
-some_bytes (Bytes p w b) = omega arith
-some_bytes (Text p w b) = omega arith
-some_bytes (ByteChunks p cs) = omega arith
-some_bytes (TextChunks p cs) = omega arith
-some_bytes (Items p (Fixed w) ts) = omega arith
-some_bytes (Items p Endless ts) = omega arith
-some_bytes (Pairs p (Fixed w) es) = omega arith
-some_bytes (Pairs p Endless es) = omega arith
-some_bytes (Tagged p w n t) = omega arith
-some_bytes (Simple p n) = omega arith
-
 count_below : (ts : Trees) → count ts ≤ length (spelled_all ts)
 count_below no_item = omega arith
 count_below (more t ts) = omega (arith, length-append (spelled t) (spelled_all ts), some_bytes t, count_below ts)
@@ -122,7 +109,7 @@ content_below : (t : Tree) (b : List ℕ) → IsByteString t b → Short (spelle
 content_below (Bytes p w c) b h l = let e = ap length h in omega (arith, length-append (head ByteString (Given w (length c))) c)
 content_below (ByteChunks p cs) b h l =
     let e = ap length h in
-    omega (arith, length_of_chunks ByteString cs, length-append (head ByteString Unbounded) (flat_map (chunk_bytes ByteString) cs), length-append (head ByteString Unbounded ++ flat_map (chunk_bytes ByteString) cs) (ending Endless))
+    omega (arith, length_of_chunks ByteString cs, length-append (head ByteString EndlessArgument) (flat_map (chunk_bytes ByteString) cs), length-append (head ByteString EndlessArgument ++ flat_map (chunk_bytes ByteString) cs) (ending Endless))
 content_below _ b h l = absurd h
 
 pub number_valid : (s : Bool) (n : ℕ) (v : Value) → IsNumber s n v → n < 2 ^ 64 → IsProper v
@@ -151,7 +138,7 @@ mutual
   meaning_valid (Text p w b) v f l h = subst IsProper (sym h.1) (h.0, holds_below w (length b) f.0)
   meaning_valid (ByteChunks p cs) v f l h = subst IsProper (sym h) (joined_bytes cs f, content_below (ByteChunks p cs) (joined_chunks cs) refl l)
   meaning_valid (TextChunks p cs) v f l h =
-      subst IsProper (sym h.1) (joined_text cs h.0, omega (arith, length_of_chunks TextString cs, length-append (head TextString Unbounded) (flat_map (chunk_bytes TextString) cs), length-append (head TextString Unbounded ++ flat_map (chunk_bytes TextString) cs) (ending Endless)))
+      subst IsProper (sym h.1) (joined_text cs h.0, omega (arith, length_of_chunks TextString cs, length-append (head TextString EndlessArgument) (flat_map (chunk_bytes TextString) cs), length-append (head TextString EndlessArgument ++ flat_map (chunk_bytes TextString) cs) (ending Endless)))
   meaning_valid (Items p s ts) v f l h =
       let m : Short (spelled_all ts) = middle (head Array (argument s (count ts))) (spelled_all ts) (ending s) l in
       subst IsProper (sym h.2) (all_valid ts h.0 f.1 m h.1, (let e = counted ts h.0 h.1 in omega (arith, count_below ts)))

@@ -1,37 +1,24 @@
 -- The places in a placed node rise in the written order, within the bytes that it spells.
 use Rattle.std.proofs.Common.{◌≡◌, ℕ, suc, ◌+◌, ◌<◌, ◌≤◌, inl, inr, List, [], ◌∷◌, ◌++◌, length, map, refl, sym, subst, arith, length-append, Ordering}
 use Rattle.std.specs.List.{flat_map}
-use Rattle.cborn_judge.specs.Flaws.{Within, WithinAll, WithinEntries, flaw_rank, IsRepeated, HasRepeat, HasBadChunk, FlawAt, Flaw}
-use Rattle.cborn_judge.specs.declared.faults.InvalidReason.{InvalidReason}
-use Rattle.cborn_judge.specs.declared.faults.InvalidReason.TheVariants.{NotUtf8, BadBignum, DuplicateKey}
-use Rattle.cborn_judge.specs.Defects.{defect_rank, HasLongChunk, ChunksDefect, Descends, HasDescent, DefectAt, Defect}
-use Rattle.cborn_judge.specs.declared.defects.DefectReason.{DefectReason}
-use Rattle.cborn_judge.specs.declared.defects.DefectReason.TheVariants.{LongHead, EndlessLength, LooseBignum, KeyOrder}
+use Rattle.cborn_judge.specs.Flaws.{Within, WithinAll, WithinEntries, IsRepeated, HasRepeat, HasBadChunk, FlawAt, Flaw}
+use Rattle.cborn_model.specs.Reasons.{flaw_rank}
+use Rattle.cborn_model.specs.declared.faults.InvalidReason.{InvalidReason}
+use Rattle.cborn_model.specs.declared.faults.InvalidReason.TheVariants.{NotUtf8, BadBignum, DuplicateKey}
+use Rattle.cborn_judge.specs.Defects.{HasLongChunk, ChunksDefect, Descends, HasDescent, DefectAt, Defect}
+use Rattle.cborn_model.specs.Reasons.{defect_rank}
+use Rattle.cborn_model.specs.declared.defects.DefectReason.{DefectReason}
+use Rattle.cborn_model.specs.declared.defects.DefectReason.TheVariants.{LongHead, EndlessLength, LooseBignum, KeyOrder}
 use Rattle.cborn_model.proofs.SameItems.Rearranging.{IsIn}
 use Rattle.cborn_model.specs.declared.nodes.Chunk.{Chunk}
 use Rattle.cborn_model.specs.Tree.{Tree, Uint, Nint, Bytes, Text, ByteChunks, TextChunks, Items, Pairs, Tagged, Simple, Trees, no_item, more, Entries, no_entry, entry, count, count_entries, place}
 use Rattle.cborn_model.specs.declared.heads.Major.{Major}
 use Rattle.cborn_model.specs.declared.heads.Major.TheVariants.{ByteString, TextString, Map, Tag, Array}
-use Rattle.cborn_model.specs.Heads.{Given, Unbounded, head, argument}
+use Rattle.cborn_model.specs.Heads.{Given, EndlessArgument, head, argument}
 use Rattle.cborn_model.specs.declared.heads.Size.{Size}
 use Rattle.cborn_model.specs.declared.heads.Size.TheVariants.{Fixed, Endless}
 use Rattle.cborn_model.specs.Spelled.{ending, chunks, chunk_bytes, spelled, spelled_all, spelled_entries}
 use Rattle.cborn_model.specs.Placed.{ChunksPlaced, Placed, PlacedAll, PlacedEntries}
-
--- ---- no two reasons have one number
-
-pub rank_once : (r s : InvalidReason) → flaw_rank r ≡ flaw_rank s → r ≡ s
-rank_once NotUtf8 NotUtf8 e = refl
-rank_once BadBignum BadBignum e = refl
-rank_once DuplicateKey DuplicateKey e = refl
-rank_once _ _ e = absurd (omega arith)
-
-pub defect_rank_once : (r s : DefectReason) → defect_rank r ≡ defect_rank s → r ≡ s
-defect_rank_once LongHead LongHead e = refl
-defect_rank_once EndlessLength EndlessLength e = refl
-defect_rank_once LooseBignum LooseBignum e = refl
-defect_rank_once KeyOrder KeyOrder e = refl
-defect_rank_once _ _ e = absurd (omega arith)
 
 -- ---- the places of all heads, in the written order
 
@@ -89,7 +76,7 @@ chunked_rise : (m : Major) (cs : List Chunk) (p q : ℕ) → q ≡ p → ChunksP
 chunked_rise m cs p q e h =
     let k = chunks_rise m cs (suc p) h in
     let l = length-append (chunks m cs) (ending Endless) in
-    let n = length-append (head m Unbounded) (flat_map (chunk_bytes m) cs) in
+    let n = length-append (head m EndlessArgument) (flat_map (chunk_bytes m) cs) in
     ((omega arith), widened (suc p) (suc p + length (flat_map (chunk_bytes m) cs)) (suc q) (p + length (chunks m cs ++ ending Endless)) (map (λ (c : Chunk). c.place) cs) (omega arith) (omega arith) k)
 
 head_long : (m : Major) (s : Size) (n p q : ℕ) → q ≡ p → suc q ≤ p + length (head m (argument s n))

@@ -5,12 +5,12 @@ use Rattle.std.specs.List.Sorted.{IsSortedBy}
 use Rattle.std.proofs.lemmas.List.{get_or_read, take_all}
 use Rattle.cborn_judge.specs.shared.Repeats.{PositionsRise, IsAgain, IsTied}
 use Rattle.cborn_judge.specs.devices.Places.{Key, key_bytes, key_position, RepeatAt}
-use Rattle.cborn_judge.specs.Flaws.{flaw_rank}
+use Rattle.cborn_model.specs.Reasons.{flaw_rank}
 use Rattle.cborn_judge.specs.shared.Judged.{FindsFlaw, IsEarliestFlaw}
-use Rattle.cborn_judge.specs.declared.faults.Flaw as flaw
-use Rattle.cborn_judge.specs.declared.faults.InvalidReason.{InvalidReason}
-use Rattle.cborn_judge.specs.declared.faults.InvalidReason.TheVariants.{DuplicateKey}
-use Rattle.cborn_judge.proofs.Loops.Firsts.{Either, found_both, found_alike}
+use Rattle.cborn_judge.specs.declared.flaws.Flaw as flaw
+use Rattle.cborn_model.specs.declared.faults.InvalidReason.{InvalidReason}
+use Rattle.cborn_model.specs.declared.faults.InvalidReason.TheVariants.{DuplicateKey}
+use Rattle.cborn_model.proofs.Found.{Either, found_both, found_alike}
 use Rattle.cborn_judge.proofs.SameKeys.Repeating.{key_order, again_tied, sorted_in_order}
 
 -- a key at this place ties with the one before it

@@ -3,8 +3,8 @@ use Rattle.std.specs.Prelude.{◌≡◌, ℕ, List, slice_index, map}
 use Rattle.cborn_model.specs.Tree.{Tree, place}
 use Rattle.std.proofs.Common.{Bor}
 use Rattle.cborn_judge.specs.shared.Repeats.{IsAgain}
-use Rattle.cborn_judge.specs.declared.faults.InvalidReason.{InvalidReason}
-use Rattle.cborn_judge.specs.declared.faults.InvalidReason.TheVariants.{DuplicateKey}
+use Rattle.cborn_model.specs.declared.faults.InvalidReason.{InvalidReason}
+use Rattle.cborn_model.specs.declared.faults.InvalidReason.TheVariants.{DuplicateKey}
 
 -- a key: its encoding and its position in the map
 abbrev pub Key : Type 0

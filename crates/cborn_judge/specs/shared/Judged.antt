@@ -8,11 +8,12 @@ use Rattle.cborn_model.specs.Tree.{Tree, Trees, Entries}
 use Rattle.cborn_model.specs.Spelled.{Fits}
 use Rattle.cborn_model.specs.Valid.{IsProper}
 use Rattle.cborn_model.specs.declared.items.Item.{Item}
-use Rattle.cborn_judge.specs.Earliest.{IsEarlier, IsEarliest, Finds}
-use Rattle.cborn_judge.specs.Flaws.{WithinAll, WithinEntries, flaw_rank, HasRepeat, HasBadChunk, FlawAt, Flaw, IsFirstFlaw}
-use Rattle.cborn_judge.specs.declared.faults.Flaw as flaw
-use Rattle.cborn_judge.specs.declared.faults.InvalidReason.{InvalidReason}
-use Rattle.cborn_judge.specs.declared.faults.InvalidReason.TheVariants.{NotUtf8, DuplicateKey}
+use Rattle.cborn_model.specs.Earliest.{IsEarlier, IsEarliest, Finds}
+use Rattle.cborn_judge.specs.Flaws.{WithinAll, WithinEntries, HasRepeat, HasBadChunk, FlawAt, Flaw, IsFirstFlaw}
+use Rattle.cborn_model.specs.Reasons.{flaw_rank}
+use Rattle.cborn_judge.specs.declared.flaws.Flaw as flaw
+use Rattle.cborn_model.specs.declared.faults.InvalidReason.{InvalidReason}
+use Rattle.cborn_model.specs.declared.faults.InvalidReason.TheVariants.{NotUtf8, DuplicateKey}
 use Rattle.cborn_model.specs.declared.nodes.Chunk.{Chunk}
 use Rattle.cborn_judge.specs.declared.judgments.Judged.{Judged}
 use Rattle.cborn_judge.specs.declared.judgments.Judged.TheVariants as judged

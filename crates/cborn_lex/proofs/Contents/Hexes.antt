@@ -7,7 +7,7 @@ use Rattle.std.specs.Char.{is_digit}
 use Rattle.hex.specs.Hex.{decode_of}
 use Rattle.hex.specs.declared.error.FromHexError.{FromHexError}
 use Rattle.cborn_lex.specs.Tokens.{is_not, is_white}
-use Rattle.cborn_lex.specs.shared.Scan.{onto, strip, behind}
+use Rattle.cborn_lex.specs.devices.Scan.{onto, strip, after}
 use Rattle.cborn_lex.specs.Strings.{HasDigits, nothing, digit, space, comment, IsHex}
 
 at_char : (c k : ℕ) → is_digit k 16 ≡ false → eqb c k ≡ true → is_digit c 16 ≡ false
@@ -119,26 +119,26 @@ hex_ok x ds bytes e h = (ds, from_option x ds (strip false x) e (strips false x)
 
 -- One step of the loop.
 
-behind_onto : (ds : List ℕ) (c : ℕ) (o : Option (List ℕ)) → behind ds (onto c o) ≡ behind (ds ++ c ∷ []) o
-behind_onto ds c None = refl
-behind_onto ds c (Some x) = ap Some (sym (append_assoc ds (c ∷ []) x))
+after_onto : (ds : List ℕ) (c : ℕ) (o : Option (List ℕ)) → after ds (onto c o) ≡ after (ds ++ c ∷ []) o
+after_onto ds c None = refl
+after_onto ds c (Some x) = ap Some (sym (append_assoc ds (c ∷ []) x))
 
-pub at_close : (ds x : List ℕ) (c : ℕ) → c ≡ 47 → behind ds (strip true (c ∷ x)) ≡ behind ds (strip false x)
-at_close ds x c h = ap (behind ds) (cond-true (eqb c 47) _ _ (eq-eqb c 47 h))
+pub at_close : (ds x : List ℕ) (c : ℕ) → c ≡ 47 → after ds (strip true (c ∷ x)) ≡ after ds (strip false x)
+at_close ds x c h = ap (after ds) (cond-true (eqb c 47) _ _ (eq-eqb c 47 h))
 
-pub at_stay : (ds x : List ℕ) (c : ℕ) → (c ≡ 47 → ⊥) → behind ds (strip true (c ∷ x)) ≡ behind ds (strip true x)
-at_stay ds x c h = ap (behind ds) (cond-false (eqb c 47) _ _ (ne_eqb c 47 h))
+pub at_stay : (ds x : List ℕ) (c : ℕ) → (c ≡ 47 → ⊥) → after ds (strip true (c ∷ x)) ≡ after ds (strip true x)
+at_stay ds x c h = ap (after ds) (cond-false (eqb c 47) _ _ (ne_eqb c 47 h))
 
-pub at_digit : (ds x : List ℕ) (c : ℕ) → is_digit c 16 ≡ true → behind ds (strip false (c ∷ x)) ≡ behind (ds ++ c ∷ []) (strip false x)
-at_digit ds x c h = ap (behind ds) (cond-true (is_digit c 16) _ _ h) ∙ behind_onto ds c (strip false x)
+pub at_digit : (ds x : List ℕ) (c : ℕ) → is_digit c 16 ≡ true → after ds (strip false (c ∷ x)) ≡ after (ds ++ c ∷ []) (strip false x)
+at_digit ds x c h = ap (after ds) (cond-true (is_digit c 16) _ _ h) ∙ after_onto ds c (strip false x)
 
-pub at_space : (ds x : List ℕ) (c : ℕ) → is_digit c 16 ≡ false → is_white c ≡ true → behind ds (strip false (c ∷ x)) ≡ behind ds (strip false x)
-at_space ds x c h k = ap (behind ds) (cond-false (is_digit c 16) _ _ h ∙ cond-true (is_white c) _ _ k)
+pub at_space : (ds x : List ℕ) (c : ℕ) → is_digit c 16 ≡ false → is_white c ≡ true → after ds (strip false (c ∷ x)) ≡ after ds (strip false x)
+at_space ds x c h k = ap (after ds) (cond-false (is_digit c 16) _ _ h ∙ cond-true (is_white c) _ _ k)
 
-pub at_open : (ds x : List ℕ) (c : ℕ) → is_digit c 16 ≡ false → is_white c ≡ false → c ≡ 47 → behind ds (strip false (c ∷ x)) ≡ behind ds (strip true x)
-at_open ds x c h k e = ap (behind ds) (cond-false (is_digit c 16) _ _ h ∙ (cond-false (is_white c) _ _ k ∙ cond-true (eqb c 47) _ _ (eq-eqb c 47 e)))
+pub at_open : (ds x : List ℕ) (c : ℕ) → is_digit c 16 ≡ false → is_white c ≡ false → c ≡ 47 → after ds (strip false (c ∷ x)) ≡ after ds (strip true x)
+at_open ds x c h k e = ap (after ds) (cond-false (is_digit c 16) _ _ h ∙ (cond-false (is_white c) _ _ k ∙ cond-true (eqb c 47) _ _ (eq-eqb c 47 e)))
 
-pub moved : (content ds es : List ℕ) (at : ℕ) (i j : Bool) (i' j' : Bool) → at < length content → i ≡ i' → j ≡ j' → behind ds (strip i' (get_or content at 0 ∷ drop (at + 1) content)) ≡ behind es (strip j' (drop (at + 1) content)) → behind ds (strip i (drop at content)) ≡ strip false content
-    → behind es (strip j (drop (at + 1) content)) ≡ strip false content
+pub moved : (content ds es : List ℕ) (at : ℕ) (i j : Bool) (i' j' : Bool) → at < length content → i ≡ i' → j ≡ j' → after ds (strip i' (get_or content at 0 ∷ drop (at + 1) content)) ≡ after es (strip j' (drop (at + 1) content)) → after ds (strip i (drop at content)) ≡ strip false content
+    → after es (strip j (drop (at + 1) content)) ≡ strip false content
 moved content ds es at i j i' j' h e f step inv =
-    ap (λ b. behind es (strip b (drop (at + 1) content))) f ∙ (sym step ∙ (ap (λ x. behind ds (strip i' x)) (sym (drop_more content at 0 h)) ∙ (ap (λ b. behind ds (strip b (drop at content))) (sym e) ∙ inv)))
+    ap (λ b. after es (strip b (drop (at + 1) content))) f ∙ (sym step ∙ (ap (λ x. after ds (strip i' x)) (sym (drop_more content at 0 h)) ∙ (ap (λ b. after ds (strip b (drop at content))) (sym e) ∙ inv)))

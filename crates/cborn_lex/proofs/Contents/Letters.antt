@@ -5,9 +5,9 @@ use Rattle.std.proofs.lemmas.Str.{encode_ascii}
 use Rattle.std.specs.Prelude.{encode_utf8}
 use Rattle.std.specs.List.{list_all, flat_map}
 use Rattle.cborn_lex.specs.Strings.{is_escape, escape_code, are_hex, code, is_high, is_low, IsText}
-use Rattle.cborn_lex.specs.shared.Letters.{Letter, raw, escaped, unit, pair, written, meant, is_letter}
+use Rattle.cborn_lex.specs.devices.Letters.{Letter, raw, escaped, unit, pair, written, meant, is_letter}
 use Rattle.cborn_lex.proofs.Contents.Lettered.{has_letters}
-use Rattle.cborn_lex.specs.shared.Scan.{is_raw, code_at, low_code, paired, unit_from, escape_of}
+use Rattle.cborn_lex.specs.devices.Scan.{is_raw, code_at, low_code, paired, unit_from, escape_of}
 use Rattle.cborn_lex.proofs.Contents.Texts.{low_at, unit_at, escape_at, LetterAt, MatchAt, letter_at_is, NoLetters, no_letters, no_more, longer}
 use Rattle.cborn_lex.proofs.Sliced.Pieces.{front_is}
 
@@ -159,11 +159,11 @@ pub raw_meant : (s : List ℕ) → flat_map meant (map raw s) ≡ s
 raw_meant [] = refl
 raw_meant (c ∷ s) = ap (λ x. c ∷ x) (raw_meant s)
 
-none_behind : (q : ℕ) (ls : List Letter) (rest : List ℕ) → list_all (is_letter q) ls ≡ true → NoLetters q rest → NoLetters q (flat_map written ls ++ rest)
-none_behind q [] rest h none = none
-none_behind q (l ∷ ls) rest h none =
+none_after : (q : ℕ) (ls : List Letter) (rest : List ℕ) → list_all (is_letter q) ls ≡ true → NoLetters q rest → NoLetters q (flat_map written ls ++ rest)
+none_after q [] rest h none = none
+none_after q (l ∷ ls) rest h none =
     let hs = and_parts (is_letter q l) (list_all (is_letter q) ls) h in
-    no_more q l _ (flat_map written ls ++ rest) (record { allowed = hs.0; whole = append_assoc (written l) (flat_map written ls) rest }) (none_behind q ls rest hs.1 none)
+    no_more q l _ (flat_map written ls ++ rest) (record { allowed = hs.0; whole = append_assoc (written l) (flat_map written ls) rest }) (none_after q ls rest hs.1 none)
 
 pub never : (q : ℕ) (content rest bytes : List ℕ) → Decoded q content rest bytes → NoLetters q rest → (b : List ℕ) → IsText q content b → ⊥
-never q content rest bytes d none b s = let t = has_letters q s in none_behind q d.letters rest d.allowed none t.letters t.allowed (sym d.whole ∙ t.whole)
+never q content rest bytes d none b s = let t = has_letters q s in none_after q d.letters rest d.allowed none t.letters t.allowed (sym d.whole ∙ t.whole)

@@ -13,7 +13,7 @@ use Rattle.cborn_lex.specs.declared.classes.Class.TheVariants.{EmbedClose, Text,
 use Rattle.cborn_lex.specs.Tokens.{Front, is_word, is_numeral, is_not, begins, mark_of, marked}
 use Rattle.cborn_lex.specs.Numbers.{integer, number_front}
 use Rattle.cborn_lex.specs.Strings.{IsText, IsHex, IsBase64}
-use Rattle.cborn_lex.specs.Forms.{Through, Lacks, Stands, Closed, IsString, Prefix, hexadecimal, base64, unknown, prefix_of, IsPrefixed, IsAfterWord, ReadsWord, IsTag, ReadsNumber, double, simple, Start, white, slash, hash, less, greater, paren, letter, minus, digit, other, single, opening, start_of, paren_front, ReadsFrom, Reads}
+use Rattle.cborn_lex.specs.Forms.{Through, Lacks, ContentGives, Closed, IsString, Prefix, hexadecimal, base64, unknown, prefix_of, IsPrefixed, IsAfterWord, ReadsWord, IsTag, ReadsNumber, double, simple, Start, white, slash, hash, less, greater, paren, letter, minus, digit, other, single, opening, start_of, paren_front, ReadsFrom, Reads}
 use Rattle.cborn_lex.proofs.OneFront.Runs.{rest, one_run, one_indicator, Closer, plain}
 use Rattle.cborn_lex.proofs.OneFront.Quotes.{quoted}
 use Rattle.cborn_lex.proofs.Contents.Texts.{text_one}
@@ -54,11 +54,11 @@ up_to q f g s z t w a b (inr (h, i)) (inr (k, j)) e = (sym (all_text s z h.all) 
 
 -- Strings.
 
-stands : (Is : List ℕ → Type 0) (r : LexReason) (k : List ℕ → Mark → Class) (m : Option Mark) (a b : Front) → ((x y : List ℕ) → Is x → Is y → x ≡ y) → Stands Is r k m a → Stands Is r k m b → a ≡ b
-stands Is r k m a b one (inl (x, i, e)) (inl (y, j, f)) = e ∙ (ap (λ u. marked (k u) m) (one x y i j) ∙ sym f)
-stands Is r k m a b one (inl (x, i, e)) (inr (never, f)) = absurd (never x i)
-stands Is r k m a b one (inr (never, e)) (inl (y, j, f)) = absurd (never y j)
-stands Is r k m a b one (inr (never, e)) (inr (also, f)) = e ∙ sym f
+one_gives : (Is : List ℕ → Type 0) (r : LexReason) (k : List ℕ → Mark → Class) (m : Option Mark) (a b : Front) → ((x y : List ℕ) → Is x → Is y → x ≡ y) → ContentGives Is r k m a → ContentGives Is r k m b → a ≡ b
+one_gives Is r k m a b one (inl (x, i, e)) (inl (y, j, f)) = e ∙ (ap (λ u. marked (k u) m) (one x y i j) ∙ sym f)
+one_gives Is r k m a b one (inl (x, i, e)) (inr (never, f)) = absurd (never x i)
+one_gives Is r k m a b one (inr (never, e)) (inl (y, j, f)) = absurd (never y j)
+one_gives Is r k m a b one (inr (never, e)) (inr (also, f)) = e ∙ sym f
 
 closed_text : (whole : List ℕ → Bool) (q : ℕ) (content mark s z : List ℕ) → Closed whole q content mark s z → s ++ z ≡ content ++ q ∷ (mark ++ z)
 closed_text whole q content mark s z h = ap (λ x. x ++ z) h.text ∙ append_assoc content (q ∷ mark) z
@@ -74,9 +74,9 @@ module _ (whole unclosed : List ℕ → Bool) (q : ℕ) (closer : Closer whole u
       let texts = sym (closed_text whole q content mark s z h) ∙ (e ∙ closed_text whole q inside sign t w j) in
       let same = closer.one content inside (mark ++ z) (sign ++ w) h.inside j.inside texts in
       let marks = one_indicator mark sign z w h.indicator j.indicator (tail q q (mark ++ z) (sign ++ w) (rest content inside (q ∷ (mark ++ z)) (q ∷ (sign ++ w)) same texts)).1 in
-      let moved = subst (λ (x : List ℕ). Stands (Is x) r k (mark_of sign) b) (sym same) l in (
+      let moved = subst (λ (x : List ℕ). ContentGives (Is x) r k (mark_of sign) b) (sym same) l in (
         h.text ∙ (ap (λ x. x ++ q ∷ mark) same ∙ (ap (λ x. inside ++ q ∷ x) marks ∙ sym j.text)),
-        stands (Is content) r k (mark_of sign) a b (one content) (subst (λ (x : List ℕ). Stands (Is content) r k (mark_of x) a) marks i) moved,
+        one_gives (Is content) r k (mark_of sign) a b (one content) (subst (λ (x : List ℕ). ContentGives (Is content) r k (mark_of x) a) marks i) moved,
       )
   string s z t w a b one (inl (content, mark, h, i)) (inr (u, n, f)) e = absurd (no_end content mark s z t w h u n e)
   string s z t w a b one (inr (u, n, f)) (inl (content, mark, h, i)) e = absurd (no_end content mark t w s z h u n (sym e))

@@ -14,7 +14,7 @@ use Rattle.cborn_lex.specs.declared.classes.Class.TheVariants.{EmbedClose, Embed
 use Rattle.cborn_lex.specs.Tokens.{Front, Read, Bad, is_word, is_numeral, is_not, mark_of, marked}
 use Rattle.cborn_lex.specs.Numbers.{integer, number_front, word_front}
 use Rattle.cborn_lex.specs.Strings.{IsText, IsHex, IsBase64}
-use Rattle.cborn_lex.specs.Forms.{IsRun, IsIndicator, Through, Lacks, Stands, IsString, Prefix, hexadecimal, base64, unknown, prefix_of, IsPrefixed, IsAfterWord, ReadsWord, IsTag, ReadsNumber, double, simple, Start, white, slash, hash, less, greater, paren, letter, minus, digit, other, single, opening, start_of, paren_front, ReadsFrom, Reads}
+use Rattle.cborn_lex.specs.Forms.{IsRun, IsIndicator, Through, Lacks, ContentGives, IsString, Prefix, hexadecimal, base64, unknown, prefix_of, IsPrefixed, IsAfterWord, ReadsWord, IsTag, ReadsNumber, double, simple, Start, white, slash, hash, less, greater, paren, letter, minus, digit, other, single, opening, start_of, paren_front, ReadsFrom, Reads}
 use Rattle.cborn_lex.proofs.OneFront.Runs.{cut, marks, Found, plain}
 use Rattle.cborn_lex.proofs.OneFront.Quotes.{quoted}
 use Rattle.cborn_lex.proofs.Contents.Texts.{text_cases}
@@ -23,59 +23,59 @@ use Rattle.cborn_lex.proofs.Contents.Decoded.{are_bytes, is_byte}
 use Rattle.cborn_lex.proofs.Contents.Base64s.{base64_cases}
 
 -- a front of y at which P holds of the front, what follows, and what it is
-pub record Begun (P : List ℕ → List ℕ → Front → Type 0) (y : List ℕ) : Type 0 where
+pub record Started (P : List ℕ → List ℕ → Front → Type 0) (y : List ℕ) : Type 0 where
   pub s : List ℕ
   pub z : List ℕ
   pub a : Front
   pub whole : y ≡ s ++ z
   pub reads : P s z a
 
-fixed : (y : List ℕ) (f : Front) → Begun (λ s z a. (s ≡ []) × (a ≡ f)) y
+fixed : (y : List ℕ) (f : Front) → Started (λ s z a. (s ≡ []) × (a ≡ f)) y
 fixed y f = record { s = []; z = y; a = f; whole = refl; reads = (refl, refl) }
 
 abbrev UpTo : ℕ → Front → Front → List ℕ → List ℕ → Front → Type 0
 UpTo q f g s z a = ((body : List ℕ) × Through q body s × (a ≡ f)) ⊎ (Lacks q s z × (a ≡ g))
 
-up_to_from : (q : ℕ) (f g : Front) (y : List ℕ) → Found (list_all (is_not q)) q y ⊎ (list_all (is_not q) y ≡ true) → Begun (UpTo q f g) y
+up_to_from : (q : ℕ) (f g : Front) (y : List ℕ) → Found (list_all (is_not q)) q y ⊎ (list_all (is_not q) y ≡ true) → Started (UpTo q f g) y
 up_to_from q f g y (inl r) =
     record { s = r.content ++ q ∷ []; z = r.after; a = f; whole = r.text ∙ sym (append_assoc r.content (q ∷ []) r.after); reads = inl (r.content, record { none = r.inside; whole = refl }, refl) }
 up_to_from q f g y (inr h) = record { s = y; z = []; a = g; whole = sym (append-nil y); reads = inr (record { none = h; all = refl }, refl) }
 
-up_to : (q : ℕ) (f g : Front) (y : List ℕ) → Begun (UpTo q f g) y
+up_to : (q : ℕ) (f g : Front) (y : List ℕ) → Started (UpTo q f g) y
 up_to q f g y = up_to_from q f g y ((plain q).find y)
 
 -- Strings.
 
-pub record Standing (Is : List ℕ → Type 0) (r : LexReason) (k : List ℕ → Mark → Class) (m : Option Mark) : Type 0 where
+pub record ContentFound (Is : List ℕ → Type 0) (r : LexReason) (k : List ℕ → Mark → Class) (m : Option Mark) : Type 0 where
   pub a : Front
-  pub stands : Stands Is r k m a
+  pub gives : ContentGives Is r k m a
 
-standing : (Is : List ℕ → Type 0) (r : LexReason) (k : List ℕ → Mark → Class) (m : Option Mark) → ((bytes : List ℕ) × Is bytes) ⊎ ((bytes : List ℕ) → Is bytes → ⊥) → Standing Is r k m
-standing Is r k m (inl (bytes, is)) = record { a = marked (k bytes) m; stands = inl (bytes, is, refl) }
-standing Is r k m (inr f) = record { a = Bad r; stands = inr (f, refl) }
+content_found : (Is : List ℕ → Type 0) (r : LexReason) (k : List ℕ → Mark → Class) (m : Option Mark) → ((bytes : List ℕ) × Is bytes) ⊎ ((bytes : List ℕ) → Is bytes → ⊥) → ContentFound Is r k m
+content_found Is r k m (inl (bytes, is)) = record { a = marked (k bytes) m; gives = inl (bytes, is, refl) }
+content_found Is r k m (inr f) = record { a = Bad r; gives = inr (f, refl) }
 
 module _ (whole unclosed : List ℕ → Bool) (q : ℕ) (Is : List ℕ → List ℕ → Type 0) (r : LexReason) (k : List ℕ → Mark → Class) where
-  string_from : (y : List ℕ) → Found whole q y ⊎ (unclosed y ≡ true) → ((x z : List ℕ) → y ≡ x ++ z → ((bytes : List ℕ) × Is x bytes) ⊎ ((bytes : List ℕ) → Is x bytes → ⊥)) → Begun (IsString whole unclosed q Is r k) y
+  string_from : (y : List ℕ) → Found whole q y ⊎ (unclosed y ≡ true) → ((x z : List ℕ) → y ≡ x ++ z → ((bytes : List ℕ) × Is x bytes) ⊎ ((bytes : List ℕ) → Is x bytes → ⊥)) → Started (IsString whole unclosed q Is r k) y
   string_from y (inl f) cases =
       let m = marks f.after in
-      let t = standing (Is f.content) r k (mark_of m.s) (cases f.content (q ∷ f.after) f.text) in
+      let t = content_found (Is f.content) r k (mark_of m.s) (cases f.content (q ∷ f.after) f.text) in
       record {
         s = f.content ++ q ∷ m.s;
         z = m.z;
         a = t.a;
         whole = f.text ∙ (ap (λ x. f.content ++ q ∷ x) m.whole ∙ sym (append_assoc f.content (q ∷ m.s) m.z));
-        reads = inl (f.content, m.s, record { inside = f.inside; text = refl; indicator = m.indicator }, t.stands);
+        reads = inl (f.content, m.s, record { inside = f.inside; text = refl; indicator = m.indicator }, t.gives);
       }
   string_from y (inr h) cases = record { s = y; z = []; a = Bad UnclosedString; whole = sym (append-nil y); reads = inr (h, refl, refl) }
 
-prefixed : (p : Prefix) (y : List ℕ) → are_bytes y ≡ true → Begun (IsPrefixed p) y
+prefixed : (p : Prefix) (y : List ℕ) → are_bytes y ≡ true → Started (IsPrefixed p) y
 prefixed hexadecimal y h = string_from _ _ 39 IsHex BadHex (Bytes false) y ((plain 39).find y) (λ x z e. hex_cases x)
 prefixed base64 y h = string_from _ _ 39 IsBase64 BadBase64 (Bytes false) y ((plain 39).find y) (λ x z e. base64_cases x (and_parts _ _ (sym (list_all-append is_byte x z) ∙ (ap are_bytes (sym e) ∙ h))).0)
 prefixed unknown y h = fixed y _
 
 -- Words.
 
-after_from : (word : List ℕ) (c : ℕ) (y : List ℕ) → are_bytes y ≡ true → (b : Bool) → eqb c 39 ≡ b → (d : Bool) → (bytes_eq word (codes "simple") && eqb c 40) ≡ d → Begun (IsAfterWord word) (c ∷ y)
+after_from : (word : List ℕ) (c : ℕ) (y : List ℕ) → are_bytes y ≡ true → (b : Bool) → eqb c 39 ≡ b → (d : Bool) → (bytes_eq word (codes "simple") && eqb c 40) ≡ d → Started (IsAfterWord word) (c ∷ y)
 after_from word c y h true e d f =
     let r = prefixed (prefix_of word) y h in
     record { s = c ∷ r.s; z = r.z; a = r.a; whole = ap (λ x. c ∷ x) r.whole; reads = inl (e, r.reads) }
@@ -88,11 +88,11 @@ and_false : (b : Bool) → (b && false) ≡ false
 and_false true = refl
 and_false false = refl
 
-after_word : (word : List ℕ) (y : List ℕ) → are_bytes y ≡ true → Begun (IsAfterWord word) y
+after_word : (word : List ℕ) (y : List ℕ) → are_bytes y ≡ true → Started (IsAfterWord word) y
 after_word word [] h = record { s = []; z = []; a = word_front word; whole = refl; reads = (refl, and_false (bytes_eq word (codes "simple")), refl) }
 after_word word (c ∷ y) h = after_from word c y (and_parts _ _ h).1 (eqb c 39) refl (bytes_eq word (codes "simple") && eqb c 40) refl
 
-words : (c : ℕ) (y : List ℕ) → are_bytes y ≡ true → Begun (ReadsWord c) y
+words : (c : ℕ) (y : List ℕ) → are_bytes y ≡ true → Started (ReadsWord c) y
 words c y h =
     let r = cut is_word y in
     let t = after_word (c ∷ r.s) r.z (and_parts _ _ (sym (list_all-append is_byte r.s r.z) ∙ (ap are_bytes (sym r.whole) ∙ h))).1 in
@@ -122,7 +122,7 @@ tagging true y = record { tagged = false; s = []; z = y; whole = refl; tag = (re
 tagging false [] = record { tagged = false; s = []; z = []; whole = refl; tag = (refl, refl) }
 tagging false (c ∷ y) = tagging_from c y (eqb c 40) refl
 
-numbers : (negative : Bool) (first y : List ℕ) → Begun (ReadsNumber negative first) y
+numbers : (negative : Bool) (first y : List ℕ) → Started (ReadsNumber negative first) y
 numbers negative first y =
     let r = cut is_numeral y in
     let m = marks r.z in
@@ -150,20 +150,20 @@ numbers negative first y =
 
 -- All kinds.
 
-indicated : (f : List ℕ → Front) (y : List ℕ) → Begun (λ s z a. IsIndicator s z × (a ≡ f s)) y
+indicated : (f : List ℕ → Front) (y : List ℕ) → Started (λ s z a. IsIndicator s z × (a ≡ f s)) y
 indicated f y = let m = marks y in record { s = m.s; z = m.z; a = f m.s; whole = m.whole; reads = (m.indicator, refl) }
 
-less_from : (profile : Profile) (b c : ℕ) (y : List ℕ) (t : Bool) → eqb c 60 ≡ t → Begun (ReadsFrom less profile b) (c ∷ y)
+less_from : (profile : Profile) (b c : ℕ) (y : List ℕ) (t : Bool) → eqb c 60 ≡ t → Started (ReadsFrom less profile b) (c ∷ y)
 less_from profile b c y true e = record { s = 60 ∷ []; z = y; a = Read EmbedOpen; whole = ap (λ d. d ∷ y) (eqb-true c 60 e); reads = inl (refl, refl) }
 less_from profile b c y false e = record { s = []; z = c ∷ y; a = Bad UnexpectedCharacter; whole = refl; reads = inr (refl, e, refl) }
 
-greater_from : (profile : Profile) (b c : ℕ) (y : List ℕ) (t : Bool) → eqb c 62 ≡ t → Begun (ReadsFrom greater profile b) (c ∷ y)
+greater_from : (profile : Profile) (b c : ℕ) (y : List ℕ) (t : Bool) → eqb c 62 ≡ t → Started (ReadsFrom greater profile b) (c ∷ y)
 greater_from profile b c y true e =
     let m = marks y in
     record { s = 62 ∷ m.s; z = m.z; a = marked EmbedClose (mark_of m.s); whole = ap (λ d. d ∷ y) (eqb-true c 62 e) ∙ ap (λ x. 62 ∷ x) m.whole; reads = inl (m.s, refl, m.indicator, refl) }
 greater_from profile b c y false e = record { s = []; z = c ∷ y; a = Bad UnexpectedCharacter; whole = refl; reads = inr (refl, e, refl) }
 
-pub some_from : (k : Start) (profile : Profile) (c : ℕ) (y : List ℕ) → are_bytes y ≡ true → Begun (ReadsFrom k profile c) y
+pub some_from : (k : Start) (profile : Profile) (c : ℕ) (y : List ℕ) → are_bytes y ≡ true → Started (ReadsFrom k profile c) y
 some_from white profile c y h = fixed y _
 some_from slash profile c y h = up_to 47 _ _ y
 some_from hash One c y h = fixed y _
@@ -182,7 +182,7 @@ some_from digit profile c y h = numbers false (c ∷ []) y
 some_from letter profile c y h = words c y h
 some_from other profile c y h = fixed y _
 
-pub some_front : (profile : Profile) (c : ℕ) (y : List ℕ) → are_bytes (c ∷ y) ≡ true → Begun (Reads profile) (c ∷ y)
+pub some_front : (profile : Profile) (c : ℕ) (y : List ℕ) → are_bytes (c ∷ y) ≡ true → Started (Reads profile) (c ∷ y)
 some_front profile c y h =
     let r = some_from (start_of c) profile c y (and_parts _ _ h).1 in
     record { s = c ∷ r.s; z = r.z; a = r.a; whole = ap (λ x. c ∷ x) r.whole; reads = r.reads }

@@ -55,9 +55,9 @@ closed whole q i m tail content after h =
     let e = h.after_is in
     let fits = h.mark_fits in
     let fit : m ≤ length (drop (i + 1) tail) = omega (arith, ap length e) in
-    let behind : drop i tail ≡ q ∷ drop (i + 1) tail = drop_more tail i 0 k ∙ ap (λ c. c ∷ drop (i + 1) tail) h.quote in
+    let beyond : drop i tail ≡ q ∷ drop (i + 1) tail = drop_more tail i 0 k ∙ ap (λ c. c ∷ drop (i + 1) tail) h.quote in
     let parts : tail ≡ (take i tail ++ q ∷ take m after) ++ drop m after =
-    sym (take-append-drop i tail) ∙ (ap (λ x. take i tail ++ x) (behind ∙ ap (λ x. q ∷ x) (sym e ∙ sym (take-append-drop m after))) ∙ sym (append_assoc (take i tail) (q ∷ take m after) (drop m after))) in
+    sym (take-append-drop i tail) ∙ (ap (λ x. take i tail ++ x) (beyond ∙ ap (λ x. q ∷ x) (sym e ∙ sym (take-append-drop m after))) ∙ sym (append_assoc (take i tail) (q ∷ take m after) (drop m after))) in
     let short : i ≤ length tail = omega arith in
     let s = front_is (i + 1 + m) tail (take i tail ++ q ∷ take m after) (drop m after) parts (omega (arith, length-append (take i tail) (q ∷ take m after), length-take-le i tail short, length-take-le m after fits)) in
     (omega (arith, length-drop (i + 1) tail), rw h.content_is (record { inside = h.inside; text = s.0; indicator = rw s.1 h.indicator }))

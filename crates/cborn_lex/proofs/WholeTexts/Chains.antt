@@ -6,10 +6,10 @@ use Rattle.cborn_lex.specs.declared.classes.Profile.{Profile}
 use Rattle.cborn_lex.specs.declared.classes.Profile.TheVariants.{One, Two}
 use Rattle.cborn_lex.specs.declared.faults.LexReason.{LexReason}
 use Rattle.cborn_lex.specs.declared.classes.Token.{Token}
-use Rattle.cborn_lex.specs.Tokens.{Front, Blank, Read, Bad}
+use Rattle.cborn_lex.specs.Tokens.{Front, WhiteSpace, Read, Bad}
 use Rattle.cborn_lex.specs.Forms.{Start, hash, start_of, ReadsFrom, Reads}
 use Rattle.cborn_lex.specs.Lex.{Lex, HasNoPiece, Stop, SpansRise}
-use Rattle.cborn_lex.specs.devices.Pieces.{Lexeme, gap, token, slice, front_of, spelled, AreRead, tokens, BeginsNoPiece}
+use Rattle.cborn_lex.specs.devices.Pieces.{Lexeme, white_space, token, slice, front_of, spelled, AreRead, tokens, BeginsNoPiece}
 use Rattle.cborn_lex.proofs.WholeTexts.Parts.{lex_parted, parted_lex, stop_parted, parted_stop, has_no_piece}
 use Rattle.std.proofs.Common.{drop, ◌≤◌, ◌+◌}
 use Rattle.cborn_lex.proofs.Sliced.Pieces.{front_is}
@@ -25,13 +25,13 @@ no_front profile (c ∷ s) z a h e = cc
 
 -- a piece is its slice and what it is
 one_piece : (p q : Lexeme) → slice p ≡ slice q → front_of p ≡ front_of q → p ≡ q
-one_piece (gap s) (gap t) e h = ap gap e
-one_piece (gap s) (token k t) e h = cc
-one_piece (token k s) (gap t) e h = cc
+one_piece (white_space s) (white_space t) e h = ap white_space e
+one_piece (white_space s) (token k t) e h = cc
+one_piece (token k s) (white_space t) e h = cc
 one_piece (token k s) (token l t) e h = cc
 
 not_bad : (p : Lexeme) (r : LexReason) → front_of p ≡ Bad r → ⊥
-not_bad (gap s) r e = cc
+not_bad (white_space s) r e = cc
 not_bad (token k s) r e = cc
 
 -- two readings: the fronts of one text are the same
@@ -116,7 +116,7 @@ some_long profile (c ∷ s) z a h = omega arith
 
 spans : (profile : Profile) (ps : List Lexeme) (n : ℕ) (z : List ℕ) → AreRead profile ps z → SpansRise n (tokens n ps) (n + length (spelled ps))
 spans profile [] n z h = omega arith
-spans profile (gap s ∷ ps) n z h =
+spans profile (white_space s ∷ ps) n z h =
     let size : n + length s + length (spelled ps) ≡ n + length (s ++ spelled ps) = omega (arith, length-append s (spelled ps)) in
     lower n (n + length s) (n + length (s ++ spelled ps)) (tokens (n + length s) ps) (omega arith) (subst (λ (end : ℕ). SpansRise (n + length s) (tokens (n + length s) ps) end) size (spans profile ps (n + length s) z h.1))
 spans profile (token k s ∷ ps) n z h =
@@ -161,7 +161,7 @@ onto profile p z text h e (inr r) =
     })
 
 step : (profile : Profile) (s z text : List ℕ) (a : Front) → Reads profile s z a → text ≡ s ++ z → (Chain profile z ⊎ Broken profile z) → Chain profile text ⊎ Broken profile text
-step profile s z text Blank h e r = onto profile (gap s) z text h e r
+step profile s z text WhiteSpace h e r = onto profile (white_space s) z text h e r
 step profile s z text (Read k) h e r = onto profile (token k s) z text h e r
 step profile s z text (Bad b) h e r = inr (record { pieces = []; front = s; rest = z; reason = b; read = tt; bad = h; whole = e })
 

@@ -3,20 +3,20 @@ use Rattle.std.proofs.Common.{◌≡◌, refl, sym, ap, ◌∙◌, subst, ℕ, �
 use Rattle.cborn_lex.specs.declared.classes.Profile.{Profile}
 use Rattle.cborn_lex.specs.declared.classes.Token.{Token}
 use Rattle.cborn_lex.specs.declared.faults.LexReason.{LexReason}
-use Rattle.cborn_lex.specs.Tokens.{Blank, Read}
+use Rattle.cborn_lex.specs.Tokens.{WhiteSpace, Read}
 use Rattle.cborn_lex.specs.Forms.{Reads}
 use Rattle.cborn_lex.specs.Lex as text
 use Rattle.cborn_lex.specs.Lex.{Through, Lex, Stop, HasNoPiece}
-use Rattle.cborn_lex.specs.devices.Pieces.{Lexeme, gap, token, spelled, AreRead, tokens, Parted, BeginsNoPiece, LexParted, StopParted}
+use Rattle.cborn_lex.specs.devices.Pieces.{Lexeme, white_space, token, spelled, AreRead, tokens, Parted, BeginsNoPiece, LexParted, StopParted}
 
 pub parted : (profile : Profile) {n m : ℕ} {x y : List ℕ} {ts : List Token} → Through profile n x ts m y → Parted profile n x ts m y
 parted profile (text.here n x) = record { pieces = []; read = tt; whole = refl; place = omega arith; placed = refl }
-parted profile (text.gap n m s x y ts h t) =
+parted profile (text.white_space n m s x y ts h t) =
     let r = parted profile t in
     let place = r.place in
     record {
-      pieces = gap s ∷ r.pieces;
-      read = (subst (λ (z : List ℕ). Reads profile s z Blank) r.whole h, r.read);
+      pieces = white_space s ∷ r.pieces;
+      read = (subst (λ (z : List ℕ). Reads profile s z WhiteSpace) r.whole h, r.read);
       whole = ap (λ z. s ++ z) r.whole ∙ sym (append_assoc s (spelled r.pieces) y);
       place = omega (arith, length-append s (spelled r.pieces));
       placed = r.placed;
@@ -34,9 +34,9 @@ parted profile (text.token n m k s x y ts h t) =
 
 through_all : (profile : Profile) (n m : ℕ) (ps : List Lexeme) (y : List ℕ) → AreRead profile ps y → m ≡ n + length (spelled ps) → Through profile n (spelled ps ++ y) (tokens n ps) m y
 through_all profile n m [] y h e = subst (λ (k : ℕ). Through profile n y [] k y) (omega arith) (text.here n y)
-through_all profile n m (gap s ∷ ps) y h e =
+through_all profile n m (white_space s ∷ ps) y h e =
     subst (λ (z : List ℕ). Through profile n z (tokens (n + length s) ps) m y) (sym (append_assoc s (spelled ps) y))
-    (text.gap n m s (spelled ps ++ y) y (tokens (n + length s) ps) h.0 (through_all profile (n + length s) m ps y h.1 (omega (arith, length-append s (spelled ps)))))
+    (text.white_space n m s (spelled ps ++ y) y (tokens (n + length s) ps) h.0 (through_all profile (n + length s) m ps y h.1 (omega (arith, length-append s (spelled ps)))))
 through_all profile n m (token k s ∷ ps) y h e =
     subst (λ (z : List ℕ). Through profile n z (tokens n (token k s ∷ ps)) m y) (sym (append_assoc s (spelled ps) y))
     (text.token n m k s (spelled ps ++ y) y (tokens (n + length s) ps) h.0 (through_all profile (n + length s) m ps y h.1 (omega (arith, length-append s (spelled ps)))))
@@ -66,4 +66,4 @@ parted_stop profile text n r p =
     (tokens 0 p.pieces, p.front, p.rest, through profile 0 n text (p.front ++ p.rest) (tokens 0 p.pieces) (record { pieces = p.pieces; read = p.read; whole = p.whole; place = omega arith; placed = refl }), p.bad)
 
 pub has_no_piece : (profile : Profile) (z : List ℕ) → BeginsNoPiece profile z → HasNoPiece profile z
-has_no_piece profile z h s x e = (λ r. h (gap s) x r e, λ k r. h (token k s) x r e)
+has_no_piece profile z h s x e = (λ r. h (white_space s) x r e, λ k r. h (token k s) x r e)

@@ -9,9 +9,9 @@ use Rattle.cborn_lex.specs.declared.faults.LexFault.{LexFault}
 use Rattle.cborn_lex.specs.declared.faults.LexFault.TheVariants.{Refused, OutOfMemory}
 use Rattle.cborn_lex.specs.declared.classes.Class.{Class}
 use Rattle.cborn_lex.specs.declared.classes.Token.{Token}
-use Rattle.cborn_lex.specs.Tokens.{Front, Blank, Read, Bad, is_white}
+use Rattle.cborn_lex.specs.Tokens.{Front, WhiteSpace, Read, Bad, is_white}
 use Rattle.cborn_lex.specs.Forms.{Start, white, start_of, ReadsFrom, Reads}
-use Rattle.cborn_lex.specs.Lex.{Through, here, gap, token, Lex, Stop, Between, IsStopAt, IsStopFrom}
+use Rattle.cborn_lex.specs.Lex.{Through, here, white_space, token, Lex, Stop, Between, IsStopAt, IsStopFrom}
 use Rattle.cborn_lex.proofs.WholeTexts.Chains.{some_long}
 
 pub first_reads : (profile : Profile) (text tail : List ℕ) (n : ℕ) (a : Front) → 0 < length text → tail ≡ drop 1 text → n ≤ length tail → ReadsFrom (start_of (get_or text 0 0)) profile (get_or text 0 0) (take n tail) (drop n tail) a
@@ -23,26 +23,26 @@ first_reads profile (c ∷ x) tail n a some e h k =
 
 -- One part of a text after another.
 
--- the same between lists and at places that equal these
+-- what is between two places, by equal places and lists
 along : (profile : Profile) (n m l : ℕ) (x y z w : List ℕ) (ts us : List Token) → x ≡ y → ts ≡ us → m ≡ l → z ≡ w → Through profile n x ts m z → Through profile n y us l w
 along profile n m l x y z w ts us a b c d t = rw (← a, ← b, ← c, ← d) t
 
 then : (profile : Profile) (l : ℕ) (z : List ℕ) (us : List Token) {n m : ℕ} {x y : List ℕ} {ts : List Token} → Through profile n x ts m y → Through profile m y us l z → Through profile n x (ts ++ us) l z
 then profile l z us (here n x) k = k
-then profile l z us (gap n m s x y ts h t) k = gap n l s x z (ts ++ us) h (then profile l z us t k)
+then profile l z us (white_space n m s x y ts h t) k = white_space n l s x z (ts ++ us) h (then profile l z us t k)
 then profile l z us (token n m c s x y ts h t) k = token n l c s x z (ts ++ us) h (then profile l z us t k)
 
--- LAW: nothing stands between a place and itself
+-- LAW: no token is between a place and itself
 pub nothing : (profile : Profile) (text : List ℕ) (n : ℕ) → Between profile text n n []
 nothing profile text n = here n (drop n text)
 
--- LAW: what stands between three places
+-- LAW: the tokens between three places
 pub joins : (profile : Profile) (text : List ℕ) (l m n : ℕ) (ts us : List Token) → Between profile text l m ts → Between profile text m n us → Between profile text l n (ts ++ us)
 joins profile text l m n ts us h k = then profile n (drop n text) us h k
 
 taken : (profile : Profile) {n m : ℕ} {x y : List ℕ} {ts : List Token} → Through profile n x ts m y → (n + length ts ≤ m) × (m + length y ≡ n + length x)
 taken profile (here n x) = (omega arith, refl)
-taken profile (gap n m s x y ts h t) = let r = taken profile t in (omega (arith, r.0), omega (arith, r.1, length-append s x))
+taken profile (white_space n m s x y ts h t) = let r = taken profile t in (omega (arith, r.0), omega (arith, r.1, length-append s x))
 taken profile (token n m c s x y ts h t) =
     let r = taken profile t in
     let long = some_long profile s x (Read c) h in
@@ -56,9 +56,9 @@ inside profile text n m ts h k =
 -- a part read from another place on
 moved : (profile : Profile) {n m : ℕ} {x y : List ℕ} {ts : List Token} → Through profile n x ts m y → (i : ℕ) → (j : ℕ) × (us : List Token) × (j + n ≡ m + i) × Through profile i x us j y
 moved profile (here n x) i = (i, [], omega arith, here i x)
-moved profile (gap n m s x y ts h t) i =
+moved profile (white_space n m s x y ts h t) i =
     let r = moved profile t (i + length s) in
-    (r.0, r.1, omega (arith, r.2), gap i r.0 s x y r.1 h r.3)
+    (r.0, r.1, omega (arith, r.2), white_space i r.0 s x y r.1 h r.3)
 moved profile (token n m c s x y ts h t) i =
     let r = moved profile t (i + length s) in
     (r.0, record { start = i; stop = i + length s; class = c } ∷ r.1, omega (arith, r.2), token i r.0 c s x y r.1 h r.3)
@@ -67,22 +67,22 @@ moved profile (token n m c s x y ts h t) i =
 record Next (text : List ℕ) (at n : ℕ) : Type 0 where
   whole : take n (drop at text) ++ drop n (drop at text) ≡ drop at text
   size : length (take n (drop at text)) ≡ n
-  behind : drop n (drop at text) ≡ drop (at + n) text
+  after : drop n (drop at text) ≡ drop (at + n) text
 
 next : (text : List ℕ) (at n : ℕ) → n ≤ length (drop at text) → Next text at n
-next text at n h = record { whole = take-append-drop n (drop at text); size = length-take-le n (drop at text) h; behind = drop-drop n at text }
+next text at n h = record { whole = take-append-drop n (drop at text); size = length-take-le n (drop at text) h; after = drop-drop n at text }
 
-pub after_blank : (profile : Profile) (text : List ℕ) (from at n : ℕ) → Between profile text from at [] → n ≤ length (drop at text) → Reads profile (take n (drop at text)) (drop n (drop at text)) Blank → Between profile text from (at + n) []
+pub after_blank : (profile : Profile) (text : List ℕ) (from at n : ℕ) → Between profile text from at [] → n ≤ length (drop at text) → Reads profile (take n (drop at text)) (drop n (drop at text)) WhiteSpace → Between profile text from (at + n) []
 after_blank profile text from at n h k r =
     let e = next text at n k in
     let s = take n (drop at text) in
     let x = drop n (drop at text) in
     joins profile text from at (at + n) [] [] h
-    (along profile at (at + length s) (at + n) (s ++ x) (drop at text) x (drop (at + n) text) [] [] e.whole refl (ap (λ m. at + m) e.size) e.behind (gap at (at + length s) s x x [] r (here (at + length s) x)))
+    (along profile at (at + length s) (at + n) (s ++ x) (drop at text) x (drop (at + n) text) [] [] e.whole refl (ap (λ m. at + m) e.size) e.after (white_space at (at + length s) s x x [] r (here (at + length s) x)))
 
-white_reads : (profile : Profile) (x : List ℕ) → 0 < length x → is_white (get_or x 0 0) ≡ true → Reads profile (take 1 x) (drop 1 x) Blank
+white_reads : (profile : Profile) (x : List ℕ) → 0 < length x → is_white (get_or x 0 0) ≡ true → Reads profile (take 1 x) (drop 1 x) WhiteSpace
 white_reads profile [] h k = absurd (omega arith)
-white_reads profile (c ∷ x) h k = subst (λ (s : Start). ReadsFrom s profile c [] x Blank) (sym (cond-true (is_white c) white _ k)) (refl, refl)
+white_reads profile (c ∷ x) h k = subst (λ (s : Start). ReadsFrom s profile c [] x WhiteSpace) (sym (cond-true (is_white c) white _ k)) (refl, refl)
 
 pub after_white : (profile : Profile) (text : List ℕ) (from at : ℕ) → Between profile text from at [] → at < length text → is_white (get_or text at 0) ≡ true → Between profile text from (at + 1) []
 after_white profile text from at h k e =
@@ -98,7 +98,7 @@ then_token profile text from at n class h k r =
     let s = take n (drop at text) in
     let x = drop n (drop at text) in
     joins profile text from at (at + n) [] (record { start = at; stop = at + n; class = class } ∷ []) h
-    (along profile at (at + length s) (at + n) (s ++ x) (drop at text) x (drop (at + n) text) (record { start = at; stop = at + length s; class = class } ∷ []) (record { start = at; stop = at + n; class = class } ∷ []) e.whole (ap (λ m. record { start = at; stop = at + m; class = class } ∷ []) e.size) (ap (λ m. at + m) e.size) e.behind
+    (along profile at (at + length s) (at + n) (s ++ x) (drop at text) x (drop (at + n) text) (record { start = at; stop = at + length s; class = class } ∷ []) (record { start = at; stop = at + n; class = class } ∷ []) e.whole (ap (λ m. record { start = at; stop = at + m; class = class } ∷ []) e.size) (ap (λ m. at + m) e.size) e.after
     (token at (at + length s) class s x x [] r (here (at + length s) x)))
 
 pub then_end : (profile : Profile) (text : List ℕ) (from at : ℕ) → from ≤ length text → Between profile text from at [] → length text ≤ at → Between profile text from (length text) []
@@ -113,14 +113,14 @@ then_stop profile text from at n reason h r =
     let m = moved profile h 0 in
     (m.0, omega (arith, m.2), (m.1, take n d, drop n d, subst (Through profile 0 (drop from text) m.1 m.0) (sym (take-append-drop n d)) m.3, r))
 
--- the same of a slice and a front that equal these
+-- what reads, by an equal slice and front
 pub reads_at : (profile : Profile) (x y : List ℕ) (n : ℕ) (a b : Front) → x ≡ y → a ≡ b → n ≤ length x → Reads profile (take n x) (drop n x) a → (n ≤ length y) × Reads profile (take n y) (drop n y) b
 reads_at profile x y n a b e f h k =
     (subst (λ (z : List ℕ). n ≤ length z) e h, subst (λ (c : Front). Reads profile (take n y) (drop n y) c) f (subst (λ (z : List ℕ). Reads profile (take n z) (drop n z) a) e k))
 
 -- Whole texts.
 
--- LAW: all that stands in a text
+-- LAW: the tokens of a whole text
 pub whole_text : (profile : Profile) (text : List ℕ) (ts : List Token) → Between profile text 0 (length text) ts → Lex profile text ts
 whole_text profile text ts h = subst (Through profile 0 text ts (length text)) (drop_all (length text) text (omega arith)) h
 

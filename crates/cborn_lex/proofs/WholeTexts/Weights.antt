@@ -20,14 +20,14 @@ use Rattle.cborn_lex.specs.declared.classes.Class.TheVariants.{ArrayOpen, MapOpe
 use Rattle.cborn_lex.specs.declared.classes.Token.{Token}
 use Rattle.cborn_lex.specs.declared.faults.LexReason.{LexReason}
 use Rattle.cborn_lex.specs.declared.faults.LexReason.TheVariants.{NumberTooLarge}
-use Rattle.cborn_lex.specs.Tokens.{Front, Blank, Read, Bad, mark_of, marked, is_white, is_not}
+use Rattle.cborn_lex.specs.Tokens.{Front, WhiteSpace, Read, Bad, mark_of, marked, is_white, is_not}
 use Rattle.cborn_lex.specs.Numbers.{integer, within, signed, number_front, word_front}
 use Rattle.cborn_lex.specs.Strings.{escape_code, are_hex, code, is_high, is_low, IsText, HasDigits, nothing, digit as one_digit, space, comment, IsHex, to_standard, filled, IsBase64, is_content, is_unclosed}
 use Rattle.cborn_lex.proofs.Contents.Lettered.{has_letters}
-use Rattle.cborn_lex.specs.shared.Letters.{Letter, raw, escaped, unit, pair, written, meant, is_letter}
+use Rattle.cborn_lex.specs.devices.Letters.{Letter, raw, escaped, unit, pair, written, meant, is_letter}
 use Rattle.cborn_lex.specs.Forms.{IsString, Prefix, hexadecimal, base64, unknown, prefix_of, IsPrefixed, IsAfterWord, ReadsNumber, double, simple, Start, white, slash, hash, less, greater, paren, letter, minus, digit, other, single, opening, start_of, paren_front, ReadsFrom, Reads}
 use Rattle.cborn_lex.specs.Lex.{Lex, Between}
-use Rattle.cborn_lex.specs.devices.Pieces.{Lexeme, gap, token, spelled, AreRead, tokens}
+use Rattle.cborn_lex.specs.devices.Pieces.{Lexeme, white_space, token, spelled, AreRead, tokens}
 use Rattle.cborn_lex.proofs.WholeTexts.Parts.{parted, lex_parted}
 use Rattle.cborn_lex.proofs.Contents.Decoded.{is_byte, are_bytes}
 use Rattle.cborn_lex.proofs.Contents.Base64s.{bytes_from}
@@ -55,13 +55,13 @@ AreModest (t ∷ ts) = IsModest t.class × AreModest ts
 
 -- a token that weighs n at most, or none
 data IsLight (n : ℕ) : Front → Type 0 where
-  blank : IsLight n Blank
+  no_token : IsLight n WhiteSpace
   bad : {r : LexReason} → IsLight n (Bad r)
   read : {k : Class} → IsModest k → weight k ≤ n → IsLight n (Read k)
 
 lighter : (m n : ℕ) (a : Front) → m ≤ n → IsLight m a → IsLight n a
 lighter m n (Read k) h (read is l) = read is (omega arith)
-lighter m n Blank h blank = blank
+lighter m n WhiteSpace h no_token = no_token
 lighter m n (Bad r) h bad = bad
 
 either_light : (n : ℕ) (b : Bool) (x y : Front) → IsLight n x → IsLight n y → IsLight n (cond b x y)
@@ -153,7 +153,7 @@ letters_light q (l ∷ ls) h k =
     let b = letters_light q ls hs.1 ks.1 in
     (joined (meant l) (flat_map meant ls) a.0 b.0, omega (arith, a.1, b.1, length-append (meant l) (flat_map meant ls), length-append (written l) (flat_map written ls)))
 
--- what stands for a content has three bytes more than it at most
+-- the bytes that a content stands for are at most three more than it has
 abbrev AreSpelled : (List ℕ → List ℕ → Type 0) → Type 0
 AreSpelled Is = (x bytes : List ℕ) → are_bytes x ≡ true → Is x bytes → AreFew (length x + 3) bytes
 
@@ -299,12 +299,12 @@ paren_light : (mark : List ℕ) → IsLight 1 (paren_front mark)
 paren_light mark = let chunks : IsLight 1 (Read ChunkOpen) = read tt (omega arith) in search (either_light 1, bad, chunks) depth 8
 
 from_light : (k : Start) (profile : Profile) (c : ℕ) (s z : List ℕ) (a : Front) → IsLightStart k → are_bytes s ≡ true → ReadsFrom k profile c s z a → IsLight (length s + 4) a
-from_light white profile c s z a l h is = subst (IsLight _) (sym is.1) blank
-from_light slash profile c s z a l h (inl (body, is, e)) = subst (IsLight _) (sym e) blank
+from_light white profile c s z a l h is = subst (IsLight _) (sym is.1) no_token
+from_light slash profile c s z a l h (inl (body, is, e)) = subst (IsLight _) (sym e) no_token
 from_light slash profile c s z a l h (inr is) = subst (IsLight _) (sym is.1) bad
 from_light hash One c s z a l h is = subst (IsLight _) (sym is.1) bad
-from_light hash Two c s z a l h (inl (body, is, e)) = subst (IsLight _) (sym e) blank
-from_light hash Two c s z a l h (inr is) = subst (IsLight _) (sym is.1) blank
+from_light hash Two c s z a l h (inl (body, is, e)) = subst (IsLight _) (sym e) no_token
+from_light hash Two c s z a l h (inr is) = subst (IsLight _) (sym is.1) no_token
 from_light (single k) profile c s z a (one modest l) h is = subst (IsLight _) (sym is.1) (read modest (omega arith))
 from_light (opening k) profile c s z a (each l) h is = subst (IsLight _) (sym is.1) (lighter 1 _ (marked k (mark_of s)) (omega arith) (marked_light 1 k (mark_of s) l))
 from_light less profile c s z a l h (inl is) = subst (IsLight _) (sym is.1) (read tt (omega arith))
@@ -333,7 +333,7 @@ front_light profile (c ∷ s) z a h is = lighter (length s + 4) _ a (omega arith
 
 tokens_light : (profile : Profile) (ps : List Lexeme) (n : ℕ) (z : List ℕ) → are_bytes (spelled ps) ≡ true → AreRead profile ps z → AreModest (tokens n ps) × (weigh (tokens n ps) ≤ 4 * length (spelled ps))
 tokens_light profile [] n z h is = (tt, omega arith)
-tokens_light profile (gap s ∷ ps) n z h is =
+tokens_light profile (white_space s ∷ ps) n z h is =
     let r = tokens_light profile ps (n + length s) z (split s (spelled ps) h).1 is.1 in
     (r.0, omega (arith, r.1, length-append s (spelled ps)))
 tokens_light profile (token k s ∷ ps) n z h is =
@@ -350,10 +350,10 @@ text_light profile text ts h a =
     let r = tokens_light profile lex.pieces 0 [] (ap are_bytes (sym whole) ∙ as_test text h) lex.read in
     rw lex.placed (r.0, omega (arith, r.1, ap length whole))
 
--- LAW: tokens that stand between two places of a text are modest, also where the rest of it has none
+-- LAW: the tokens between two places of a text are modest, also if the text has a lexical fault after them
 pub between_modest : (profile : Profile) (text : List ℕ) (n m : ℕ) (ts : List Token) → AreBytes text → Between profile text n m ts → AreModest ts
 between_modest profile text n m ts h a =
     let b = parted profile a in
-    let behind : are_bytes (drop n text) ≡ true = (split (take n text) (drop n text) (ap are_bytes (take-append-drop n text) ∙ as_test text h)).1 in
-    let here = (split (spelled b.pieces) (drop m text) (ap are_bytes (sym b.whole) ∙ behind)).0 in
+    let after : are_bytes (drop n text) ≡ true = (split (take n text) (drop n text) (ap are_bytes (take-append-drop n text) ∙ as_test text h)).1 in
+    let here = (split (spelled b.pieces) (drop m text) (ap are_bytes (sym b.whole) ∙ after)).0 in
     rw b.placed (tokens_light profile b.pieces n (drop m text) here b.read).0

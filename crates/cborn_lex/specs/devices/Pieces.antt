@@ -4,27 +4,27 @@ use Rattle.cborn_lex.specs.declared.classes.Profile.{Profile}
 use Rattle.cborn_lex.specs.declared.classes.Class.{Class}
 use Rattle.cborn_lex.specs.declared.classes.Token.{Token}
 use Rattle.cborn_lex.specs.declared.faults.LexReason.{LexReason}
-use Rattle.cborn_lex.specs.Tokens.{Front, Blank, Read, Bad}
+use Rattle.cborn_lex.specs.Tokens.{Front, WhiteSpace, Read, Bad}
 use Rattle.cborn_lex.specs.Forms.{Reads}
 
 -- a character of white space, a comment or a token, each with its slice of the text
 pub data Lexeme : Type 0 where
-  gap : List ℕ → Lexeme
+  white_space : List ℕ → Lexeme
   token : Class → List ℕ → Lexeme
 
 abbrev pub slice : Lexeme → List ℕ
-slice (gap s) = s
+slice (white_space s) = s
 slice (token k s) = s
 
 abbrev pub front_of : Lexeme → Front
-front_of (gap s) = Blank
+front_of (white_space s) = WhiteSpace
 front_of (token k s) = Read k
 
 abbrev pub spelled : List Lexeme → List ℕ
 spelled [] = []
 spelled (p ∷ ps) = slice p ++ spelled ps
 
--- each piece is what it is, if the text goes on after it
+-- each piece reads as what it is, before the pieces after it and z
 abbrev pub AreRead : Profile → List Lexeme → List ℕ → Type 0
 AreRead profile [] z = Unit {0}
 AreRead profile (p ∷ ps) z = Reads profile (slice p) (spelled ps ++ z) (front_of p) × AreRead profile ps z
@@ -32,7 +32,7 @@ AreRead profile (p ∷ ps) z = Reads profile (slice p) (spelled ps ++ z) (front_
 -- the tokens among pieces, the first of which starts at n
 abbrev pub tokens : ℕ → List Lexeme → List Token
 tokens n [] = []
-tokens n (gap s ∷ ps) = tokens (n + length s) ps
+tokens n (white_space s ∷ ps) = tokens (n + length s) ps
 tokens n (token k s ∷ ps) = record { start = n; stop = n + length s; class = k } ∷ tokens (n + length s) ps
 
 -- the pieces of a part of a text, from the offset n up to m, where y begins
@@ -54,7 +54,7 @@ pub record LexParted (profile : Profile) (text : List ℕ) (ts : List Token) : T
   pub whole : text ≡ spelled pieces
   pub placed : ts ≡ tokens 0 pieces
 
--- the pieces before what is bad
+-- the pieces before a lexical fault
 pub record StopParted (profile : Profile) (text : List ℕ) (n : ℕ) (r : LexReason) : Type 0 where
   pub pieces : List Lexeme
   pub front : List ℕ

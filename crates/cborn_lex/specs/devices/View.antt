@@ -1,19 +1,19 @@
--- What the private types of the code stand for. They are devices of the proofs; no definition cites them.
+-- A device of the proofs: what the private types of the code stand for. No definition cites it.
 use Rattle.std.specs.Prelude.{◌≡◌, ℕ, List}
 use Rattle.cborn_lex.specs.declared.classes.Class.{Class}
 use Rattle.cborn_lex.specs.declared.fronts.Front.{Front as FrontIn}
 use Rattle.cborn_lex.specs.declared.fronts.Front.TheVariants as fronts
-use Rattle.cborn_lex.specs.Tokens.{Front, Blank, Read, Bad}
+use Rattle.cborn_lex.specs.Tokens.{Front, WhiteSpace, Read, Bad}
 use Rattle.cborn_lex.specs.Kinds.{class_of, StandsFor}
 
 -- what a front of the code is, with the number n or the content x
 abbrev pub front_view : ℕ → List ℕ → FrontIn → Front
-front_view n x fronts.Blank = Blank
+front_view n x fronts.WhiteSpace = WhiteSpace
 front_view n x (fronts.Read k) = Read (class_of k n x)
 front_view n x (fronts.Bad r) = Bad r
 
--- a front of the code, the number n and what was appended to old, which made it new, stand for this front
+-- a front of the code, the number n and what was appended to old to make it new are the front a
 abbrev pub FrontStandsFor : FrontIn → ℕ → List ℕ → List ℕ → Front → Type 0
-FrontStandsFor fronts.Blank n old new a = (a ≡ Blank) × (new ≡ old)
+FrontStandsFor fronts.WhiteSpace n old new a = (a ≡ WhiteSpace) × (new ≡ old)
 FrontStandsFor (fronts.Read k) n old new a = (c : Class) × (a ≡ Read c) × StandsFor k n old new c
 FrontStandsFor (fronts.Bad r) n old new a = a ≡ Bad r

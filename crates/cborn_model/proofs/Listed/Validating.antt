@@ -57,7 +57,7 @@ given_in_front k v (suc n) [] g = g
 given_in_front k v (suc n) (p ∷ ps) g = elim g [ inl s ↦ inl s | inr s ↦ inr (given_in_front k v n ps s) ]
 
 -- so no key has a value that is given after it
-pub given_behind_head : (v : Value) (n : ℕ) (ps : List (Item × Item)) (x : Item × Item) → 0 < length ps → x ≡ get_or ps 0 x → HasNewKeys (pairs_of (pairs ps)) → Gives (item_value x.0) v (pairs (take n (drop 1 ps))) → ⊥
-given_behind_head v n [] x l e h g = absurd (omega arith)
-given_behind_head v n (p ∷ ps) x l e h g =
+pub given_after_head : (v : Value) (n : ℕ) (ps : List (Item × Item)) (x : Item × Item) → 0 < length ps → x ≡ get_or ps 0 x → HasNewKeys (pairs_of (pairs ps)) → Gives (item_value x.0) v (pairs (take n (drop 1 ps))) → ⊥
+given_after_head v n [] x l e h g = absurd (omega arith)
+given_after_head v n (p ∷ ps) x l e h g =
     given_not_new (item_value p.0) v (pairs ps) h.0 (subst (λ (z : Item × Item). Gives (item_value z.0) v (pairs ps)) e (given_in_front (item_value x.0) v n ps g))

@@ -8,7 +8,7 @@ use Rattle.cborn_model.specs.devices.Pairs.{HasPair, Gives}
 use Rattle.std.proofs.lemmas.Bool.{cases_lt}
 use Rattle.std.proofs.lemmas.List.{length-map, get_or_default, map-append}
 use Rattle.cborn_model.proofs.Listed.Values.{pair_count-pairs_of, listed-pairs_of}
-use Rattle.cborn_model.proofs.SameItems.Matching.{given_behind, given_before, new_in_both, AllHave, matched, all_have, same_count}
+use Rattle.cborn_model.proofs.SameItems.Matching.{given_after, given_before, new_in_both, AllHave, matched, all_have, same_count}
 
 abbrev pub values : List Item → List Value
 values is = map item_value is
@@ -119,7 +119,7 @@ one_more_had ps qs i x l e h before k d m =
 -- what is given among the pairs of two parts
 pub given_last : (k v : Value) (ps front back : List (Item × Item)) → ps ≡ front ++ back → Gives k v (pairs back) → Gives k v (pairs ps)
 given_last k v ps front back e h =
-    subst (λ l. Gives k v (pairs l)) (sym e) (rw map-append (given_behind k v (pairs front) (pairs back) h))
+    subst (λ l. Gives k v (pairs l)) (sym e) (rw map-append (given_after k v (pairs front) (pairs back) h))
 
 pub given_first : (k v : Value) (ps front back : List (Item × Item)) → ps ≡ front ++ back → Gives k v (pairs front) → Gives k v (pairs ps)
 given_first k v ps front back e h =

@@ -100,9 +100,9 @@ given_only k v w (q ∷ qs) new g h =
     ]
 
 -- among pairs in two parts
-pub given_behind : (k v : Value) (ps qs : List (Value × Value)) → Gives k v qs → Gives k v (ps ++ qs)
-given_behind k v [] qs h = h
-given_behind k v (p ∷ ps) qs h = inr (given_behind k v ps qs h)
+pub given_after : (k v : Value) (ps qs : List (Value × Value)) → Gives k v qs → Gives k v (ps ++ qs)
+given_after k v [] qs h = h
+given_after k v (p ∷ ps) qs h = inr (given_after k v ps qs h)
 
 pub given_before : (k v : Value) (ps qs : List (Value × Value)) → Gives k v ps → Gives k v (ps ++ qs)
 given_before k v [] qs h = absurd h

@@ -8,7 +8,7 @@ use Rattle.cborn_model.specs.Tree.{Trees, no_item, depth_all}
 use Rattle.cborn_model.specs.Spelled.{spelled_all, FitsAll}
 use Rattle.cborn_model.proofs.Bytes.{bytes-left}
 use Rattle.cborn_wire.specs.declared.heads.Head.{Head}
-use Rattle.cborn_wire.specs.Slots.{Begun, beginnings, slot, AreBegun}
+use Rattle.cborn_wire.specs.Slots.{OpenContainer, beginnings, slot, AreOpen}
 use Rattle.cborn_wire.specs.HeadReading.{major_at, seen_argument, IsHeadOf}
 use Rattle.cborn_wire.specs.Places.{all_from}
 use Rattle.cborn_wire.specs.shared.InitialBytes.{head_reason, info_for}
@@ -30,15 +30,15 @@ use Rattle.cborn_paths.specs.declared.walks.Level.{Level}
 use Rattle.cborn_paths.specs.Paths.{EndsAt, LeadsTo}
 use Rattle.cborn_paths.specs.Levels.{path_of}
 use Rattle.cborn_paths.specs.shared.WholeHeads.{IsWholeHead, HasNoHead}
-use Rattle.cborn_paths.specs.devices.Walks.{slot_of, may_stand, take_head, nesting_at, open_count, levels_of, IsBetween, IsOpened, AreCounted}
+use Rattle.cborn_paths.specs.devices.Walks.{slot_of, is_allowed, take_head, top_kind, open_count, levels_of, IsBetween, IsOpened, AreCounted}
 use Rattle.cborn_paths.proofs.Walking.Items.{levels_length, slot_is, path_is, counted}
 use Rattle.cborn_paths.proofs.Walking.Heads.{HasNotFailed, head_taken}
 use Rattle.cborn_paths.proofs.Walking.Stops.{IsNotBetween, no_head_stops, refused_stops, none_first, reason_first}
 
--- the state that a walk stands for
+-- the state of the machine that a walk follows
 record Stands (at : ℕ) (ls : List Level) (s : State) : Type 0 where
   ready : Trees
-  os : List Begun
+  os : List OpenContainer
   state : s ≡ Live at ready os nothing
   kept : levels_of ready os ≡ ls
 
@@ -53,9 +53,9 @@ scanned_lives (Live fed ready os (gathering p g n got)) at ls h = absurd h
 scanned_lives (Failed ready p r) at ls h = absurd h
 
 -- a front that ends between two heads is one that the machine takes
-pub taken_between : (g : List ℕ) (ts : Trees) (os : List Begun) → FitsAll ts → depth_all ts ≤ 1024 → AreBegun 1024 os → g ≡ spelled_all ts ++ beginnings os
+pub taken_between : (g : List ℕ) (ts : Trees) (os : List OpenContainer) → FitsAll ts → depth_all ts ≤ 1024 → AreOpen 1024 os → g ≡ spelled_all ts ++ beginnings os
     → run 1024 (start 0) g ≡ Live (length g) (all_from 0 ts) (open_from (0 + length (spelled_all (all_from 0 ts))) os) nothing
-taken_between g ts os fits deep begun is =
+taken_between g ts os fits deep are_open is =
     let us = all_from 0 ts in
     let same : spelled_all us ≡ spelled_all ts = spelled_all-from ts 0 in
     let whole : g ≡ spelled_all us ++ (beginnings os ++ []) = is ∙ ap (λ l. l ++ beginnings os) (sym same) ∙ ap (λ l. spelled_all us ++ l) (sym (append-nil (beginnings os))) in
@@ -63,13 +63,13 @@ taken_between g ts os fits deep begun is =
     let total : q + length (beginnings os) ≡ length g = omega (arith, ap length is, ap length same, length-append (spelled_all ts) (beginnings os)) in
     ap (run 1024 (start 0)) whole
     ∙ takes_sequence us 1024 0 no_item (beginnings os ++ []) (fits_all-from ts 0 fits) (omega (arith, depth_all-from ts 0, deep)) (placed_all-from ts 0)
-    ∙ takes_open 1024 os q us [] begun
+    ∙ takes_open 1024 os q us [] are_open
     ∙ ap (λ k. Live k us (open_from q os) nothing) total
 
-ends_between : (g : List ℕ) (path : List Step) → EndsAt g path → (ready : Trees) × (os : List Begun) × (run 1024 (start 0) g ≡ Live (length g) ready os nothing)
-ends_between g path (ts, os, fits, deep, begun, is, e) = (all_from 0 ts, open_from (0 + length (spelled_all (all_from 0 ts))) os, taken_between g ts os fits deep begun is)
+ends_between : (g : List ℕ) (path : List Step) → EndsAt g path → (ready : Trees) × (os : List OpenContainer) × (run 1024 (start 0) g ≡ Live (length g) ready os nothing)
+ends_between g path (ts, os, fits, deep, are_open, is, e) = (all_from 0 ts, open_from (0 + length (spelled_all (all_from 0 ts))) os, taken_between g ts os fits deep are_open is)
 
--- The path leads to all places beyond the end, too.
+-- The path to the end leads to all places beyond it, too.
 pub leads_beyond : (x : List ℕ) (n place : ℕ) (path : List Step) → (n ≡ place) ⊎ ((n ≡ length x) × (length x ≤ place)) → LeadsTo x n path → LeadsTo x place path
 leads_beyond x n place path (inl e) h = subst (λ k. LeadsTo x k path) e h
 leads_beyond x n place path (inr (e, l)) (f, y, whole, up, at, longest) =
@@ -85,8 +85,8 @@ module _ (x : List ℕ) (bytes : AreBytes x) (at : ℕ) (ls : List Level) (withi
   front_len : length (take at x) ≡ at
   front_len = length-take-le at x within
 
-  begun : AreBegun 1024 here.os
-  begun = front_sound.ground.begun
+  are_open : AreOpen 1024 here.os
+  are_open = front_sound.ground.are_open
 
   pub walk_counted : at + 1 < 2 ^ 64 → AreCounted ls
   walk_counted short =
@@ -95,13 +95,13 @@ module _ (x : List ℕ) (bytes : AreBytes x) (at : ℕ) (ls : List Level) (withi
   pub walk_opened : IsOpened x at ls
   walk_opened = (within, (here.ready, here.os, front_sound.ground, front_sound.bytes ∙ append-nil (front here.ready here.os), here.kept))
 
-  slotted : slot here.os ≡ slot_of (nesting_at ls)
-  slotted = sym (slot_is here.ready here.os) ∙ ap (λ l. slot_of (nesting_at l)) here.kept
+  slotted : slot here.os ≡ slot_of (top_kind ls)
+  slotted = sym (slot_is here.ready here.os) ∙ ap (λ l. slot_of (top_kind l)) here.kept
 
   counts : length (scanning.levels_of here.os) ≡ open_count ls
   counts = omega (arith, same here.os, levels_length here.ready here.os, ap length here.kept)
     where
-      same : (os : List Begun) → length (scanning.levels_of os) ≡ length os
+      same : (os : List OpenContainer) → length (scanning.levels_of os) ≡ length os
       same [] = refl
       same (o ∷ os) = omega (arith, same os)
 
@@ -121,7 +121,7 @@ module _ (x : List ℕ) (bytes : AreBytes x) (at : ℕ) (ls : List Level) (withi
       here.os,
       front_sound.ground.fit,
       front_sound.ground.shallow,
-      begun,
+      are_open,
       front_sound.bytes ∙ append-nil (front here.ready here.os),
       sym (ap path_of here.kept) ∙ path_is here.ready here.os,
     ),
@@ -146,7 +146,7 @@ module _ (x : List ℕ) (bytes : AreBytes x) (at : ℕ) (ls : List Level) (withi
 
   module _ (room : ℕ) (piece : List ℕ) (is : piece ≡ take room (drop at x)) (inside : at + room ≤ length x) where
     -- A head is taken, and a string's bytes with it.
-    pub walk_taken : (h : Head) (n : ℕ) → IsWholeHead piece h n → may_stand (slot_of (nesting_at ls)) (open_count ls) (major_at h.major) (info_for (seen_argument h.argument)) ≡ true
+    pub walk_taken : (h : Head) (n : ℕ) → IsWholeHead piece h n → is_allowed (slot_of (top_kind ls)) (open_count ls) (major_at h.major) (info_for (seen_argument h.argument)) ≡ true
         → (0 < n) × (n ≤ room) × IsBetween (at + n) (take_head ls at (major_at h.major) (seen_argument h.argument)) (run 1024 (start 0) (take (at + n) x))
     walk_taken h n (k, i, count, fits) may =
         let m = major_at h.major in
@@ -156,17 +156,17 @@ module _ (x : List ℕ) (bytes : AreBytes x) (at : ℕ) (ls : List Level) (withi
         let some = head_fits piece h k i in
         let full : 0 < length piece = omega (arith, some) in
         let piece_len : length piece ≡ room = ap length is ∙ length-take-le room (drop at x) (omega (arith, length-drop at x, inside)) in
-        let clear = none_first os piece h k (slot_of (nesting_at ls)) (open_count ls) i full slotted counts may in
-        let none : None ≡ reason_here 1024 (scanning.levels_of os) piece = sym (reason_first os piece h k (slot_of (nesting_at ls)) (open_count ls) i full slotted counts ∙ clear) in
+        let clear = none_first os piece h k (slot_of (top_kind ls)) (open_count ls) i full slotted counts may in
+        let none : None ≡ reason_here 1024 (scanning.levels_of os) piece = sym (reason_first os piece h k (slot_of (top_kind ls)) (open_count ls) i full slotted counts ∙ clear) in
         let y = take c (drop k piece) in
         let y_len : length y ≡ c = length-take-le c (drop k piece) (omega (arith, length-drop k piece, count, fits)) in
         let run_is : run 1024 (Live at here.ready os nothing) (take (k + c) piece) ≡ run 1024 (after_head (at + k) at here.ready os m a) y
         = ap (run 1024 (Live at here.ready os nothing)) (take-add k c piece) ∙ run-append 1024 (Live at here.ready os nothing) (take k piece) y
-        ∙ ap (λ s. run 1024 s y) (steps.head_taken 1024 at here.ready os piece h k i (none ∙ reason_levels 1024 os _ _ begun)) in
-        let scanned = step_taken 1024 at here.ready os (scanning.levels_of os) begun refl piece full h k i none c refl (omega (arith, count, fits)) in
+        ∙ ap (λ s. run 1024 s y) (steps.head_taken 1024 at here.ready os piece h k i (none ∙ reason_levels 1024 os _ _ are_open)) in
+        let scanned = step_taken 1024 at here.ready os (scanning.levels_of os) are_open refl piece full h k i none c refl (omega (arith, count, fits)) in
         let lives : HasNotFailed (run 1024 (after_head (at + k) at here.ready os m a) y) = subst HasNotFailed run_is (scanned_lives _ _ _ scanned.2) in
-        let suits : head_reason (slot os) (leb 1024 (open_count ls)) m (info_for a) [] ≡ None = ap (λ s. head_reason s (leb 1024 (open_count ls)) m (info_for a) []) slotted ∙ clear in
-        let taken = head_taken 1024 here.ready os begun (leb 1024 (open_count ls)) (at + k) at m a y suits lives y_len in
+        let allowed : head_reason (slot os) (leb 1024 (open_count ls)) m (info_for a) [] ≡ None = ap (λ s. head_reason s (leb 1024 (open_count ls)) m (info_for a) []) slotted ∙ clear in
+        let taken = head_taken 1024 here.ready os are_open (leb 1024 (open_count ls)) (at + k) at m a y allowed lives y_len in
         let near : take (k + c) (drop at x) ≡ take (k + c) piece
         = ap (take (k + c)) (sym (take-append-drop room (drop at x)) ∙ ap (λ l. l ++ drop room (drop at x)) (sym is)) ∙ take-append-le (k + c) piece (drop room (drop at x)) (omega (arith, count, fits)) in
         let front_is : take (at + n) x ≡ take at x ++ take (k + c) piece = ap (λ j. take (at + j) x) count ∙ take-add at (k + c) x ∙ ap (λ l. take at x ++ l) near in
@@ -178,11 +178,11 @@ module _ (x : List ℕ) (bytes : AreBytes x) (at : ℕ) (ls : List Level) (withi
               (subst (λ l. IsBetween (at + k + length y) (take_head l at m a) (run 1024 (after_head (at + k) at here.ready os m a) y)) here.kept taken)),
         )
 
-    -- No whole head stands there.
+    -- No whole head is there.
     pub walk_ends : HasNoHead piece → LeadsTo x (at + room) (path_of ls)
-    walk_ends none = stays room piece is (λ g z e some. no_head_stops at here.ready here.os begun g z (subst HasNoHead e none) some)
+    walk_ends none = stays room piece is (λ g z e some. no_head_stops at here.ready here.os are_open g z (subst HasNoHead e none) some)
 
-    -- A head stands there that may not.
-    pub walk_refused : (h : Head) (n : ℕ) → IsWholeHead piece h n → may_stand (slot_of (nesting_at ls)) (open_count ls) (major_at h.major) (info_for (seen_argument h.argument)) ≡ false → LeadsTo x (at + room) (path_of ls)
+    -- A head is there that isn't allowed.
+    pub walk_refused : (h : Head) (n : ℕ) → IsWholeHead piece h n → is_allowed (slot_of (top_kind ls)) (open_count ls) (major_at h.major) (info_for (seen_argument h.argument)) ≡ false → LeadsTo x (at + room) (path_of ls)
     walk_refused h n (k, i, count, fits) may =
-        stays room piece is (λ g z e some. refused_stops at here.ready here.os begun g z h k (slot_of (nesting_at ls)) (open_count ls) (subst (λ l. IsHeadOf l h k) e i) some slotted counts may)
+        stays room piece is (λ g z e some. refused_stops at here.ready here.os are_open g z h k (slot_of (top_kind ls)) (open_count ls) (subst (λ l. IsHeadOf l h k) e i) some slotted counts may)

@@ -2,7 +2,7 @@
 use Rattle.std.specs.Prelude.{◌≡◌, ◌≢◌, ℕ, ◌-◌, List, [], ◌∷◌, ◌++◌, length, Bool, true, Result, Ok, Err, ⊤}
 use Rattle.std.specs.declared.cmp.Ordering.{Ordering}
 use Rattle.cborn_model.specs.declared.nodes.Chunk.{Chunk}
-use Rattle.cborn_model.specs.Heads.{Argument, Given, Unbounded, IsLeastHead, code}
+use Rattle.cborn_model.specs.Heads.{Argument, Given, EndlessArgument, IsLeastHead, code}
 use Rattle.cborn_model.specs.Meaning.{ChunksAreText, joined_chunks}
 use Rattle.cborn_model.specs.Tree.{Tree}
 use Rattle.cborn_det.specs.Appending.{Appends}
@@ -13,14 +13,14 @@ use Rattle.cborn_transcode.specs.declared.entries.Unarranged.{Unarranged}
 use Rattle.cborn_transcode.specs.declared.entries.Unarranged.TheVariants.{RepeatedKey, OutOfMemory}
 use Rattle.cborn_transcode.specs.declared.encodings.OpenString.{OpenString}
 use Rattle.cborn_transcode.specs.declared.encodings.OpenMap.{OpenMap}
-use Rattle.cborn_transcode.specs.declared.encodings.Begun.{Begun}
-use Rattle.cborn_transcode.specs.declared.encodings.Begun.TheVariants.{Inside, Whole}
+use Rattle.cborn_transcode.specs.declared.encodings.MapStart.{MapStart}
+use Rattle.cborn_transcode.specs.declared.encodings.MapStart.TheVariants.{Inside, Whole}
 use Rattle.cborn_transcode.specs.Transcoding.{IsEncodedAs, AreEncodedAs, ArePairsWritten, MapTranscoded, IsMapRead}
 
 -- the head of an array or a map, which is written; or a byte, in whose place it will stand
 abbrev pub HeadOpen : (major place : ℕ) → Argument → (old mid : List ℕ) → Type 0
 HeadOpen major place (Given w n) old mid = Appends (IsLeastHead major n) old mid
-HeadOpen major place Unbounded old mid = (place ≡ length old) × (mid ≡ old ++ 0 ∷ [])
+HeadOpen major place EndlessArgument old mid = (place ≡ length old) × (mid ≡ old ++ 0 ∷ [])
 
 -- a string in chunks, which are joined after a head
 pub record ChunksOpen (text : Bool) (kept : OpenString) (old new : List ℕ) (cs : List Chunk) : Type 0 where
@@ -52,8 +52,8 @@ module _ (order : List ℕ → List ℕ → Ordering) where
   ValueNext g kept old new ps k = (half : List ℕ) × PairsOpen g kept.start kept.spans.items old half ps × (kept.key ≡ length half) × Appends (IsEncodedAs order k) half new × (kept.middle ≡ length new)
 
   -- what became of the beginning of a map of n pairs
-  abbrev pub MapBegun : (n : ℕ) (input old new : List ℕ) → Result Begun Unarranged → Type 0
-  MapBegun n input old new (Ok (Whole left)) = (mid : List ℕ) × Appends (IsLeastHead 5 n) old mid × ((room : ℕ) → Leaves (λ rest. MapTranscoded order room n input rest mid new) left)
-  MapBegun n input old new (Ok (Inside kept)) = (kept.spans.items ≡ []) × (kept.start ≡ length new) × Appends (IsLeastHead 5 n) old new
-  MapBegun n input old new (Err RepeatedKey) = (room : ℕ) (rest : List ℕ) → IsMapRead room n input rest → ⊥
-  MapBegun n input old new (Err (OutOfMemory e)) = ⊤
+  abbrev pub StartsMap : (n : ℕ) (input old new : List ℕ) → Result MapStart Unarranged → Type 0
+  StartsMap n input old new (Ok (Whole left)) = (mid : List ℕ) × Appends (IsLeastHead 5 n) old mid × ((room : ℕ) → Leaves (λ rest. MapTranscoded order room n input rest mid new) left)
+  StartsMap n input old new (Ok (Inside kept)) = (kept.spans.items ≡ []) × (kept.start ≡ length new) × Appends (IsLeastHead 5 n) old new
+  StartsMap n input old new (Err RepeatedKey) = (room : ℕ) (rest : List ℕ) → IsMapRead room n input rest → ⊥
+  StartsMap n input old new (Err (OutOfMemory e)) = ⊤

@@ -24,7 +24,7 @@ PlacesPut order bytes places old new (Err (OutOfMemory e)) = ⊤
 
 -- what became of n pairs of a map that may be great: where two keys are equal, no n pairs at the front are those of a map
 abbrev pub GreatPut : (List ℕ → List ℕ → Ordering) → ℕ → List ℕ → List ℕ → List ℕ → Result Great Unarranged → Type 0
-GreatPut order n input old new (Ok (greats.Behind left)) = (room : ℕ) → Leaves (λ rest. MapTranscoded order room n input rest old new) left
+GreatPut order n input old new (Ok (greats.After left)) = (room : ℕ) → Leaves (λ rest. MapTranscoded order room n input rest old new) left
 GreatPut order n input old new (Ok greats.Unfit) = new ≡ old
 GreatPut order n input old new (Err RepeatedKey) = (room : ℕ) (rest : List ℕ) → IsMapRead room n input rest → ⊥
 GreatPut order n input old new (Err (OutOfMemory e)) = ⊤

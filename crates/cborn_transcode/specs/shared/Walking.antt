@@ -1,19 +1,17 @@
--- A device of the proofs: what a walk finds in place, where the front of its input spells what it encodes, so that it is its own deterministic encoding. No public contract cites it.
-use Rattle.std.specs.Prelude.{◌≡◌, ℕ, ◌+◌, ◌*◌, ◌/◌, ◌%◌, ◌⊎◌, ◌<◌, List, [], ◌++◌, map, length, Option}
+-- What is read in place: the shortest head at the front of an input, and items that are their own deterministic encodings. The front of the input then spells what is encoded.
+use Rattle.std.specs.Prelude.{◌≡◌, ◌≢◌, ℕ, ◌+◌, ◌*◌, ◌/◌, ◌%◌, ◌⊎◌, ◌<◌, List, [], ◌++◌, map, IsTrue, Option, None, Some, ⊤}
+use Rattle.std.specs.declared.cmp.Ordering.TheVariants.{Less}
 use Rattle.std.specs.declared.cmp.Ordering.{Ordering}
 use Rattle.std.proofs.Common.{Bor}
-use Rattle.cborn_model.specs.Bytes.{IsShortest}
 use Rattle.cborn_model.specs.declared.heads.Major.{Major}
-use Rattle.cborn_model.specs.Heads.{Given, head, WidthFits, least}
-use Rattle.cborn_model.specs.Orders.{Rising}
+use Rattle.cborn_model.specs.declared.heads.Major.TheVariants.{Unsigned, Negative, ByteString, TextString, Other}
+use Rattle.cborn_model.specs.Heads.{Given, head, WidthFits, least, is_simple_value}
 use Rattle.cborn_model.specs.Spelled.{spelled, spelled_all, spelled_entries}
-use Rattle.cborn_model.specs.Tree.{Tree, Bytes, trees, entries}
+use Rattle.cborn_model.specs.Tree.{Tree, trees, entries}
 use Rattle.cborn_wire.specs.Parts.{Pair, StringRead, NodeRead, NodesRead, PairsRead}
-use Rattle.cborn_det.specs.Det.{Entry, joined, keys}
-use Rattle.cborn_det.specs.shared.KeyBefore.{EndsIn}
 use Rattle.cborn_transcode.specs.declared.entries.Span.{Span}
 use Rattle.cborn_transcode.specs.declared.places.PairPlace.{PairPlace}
-use Rattle.cborn_transcode.specs.Transcoding.{IsEncodedAs, AreEncodedAs, ArePairsEncodedAs, ArePairsWritten, IsContent}
+use Rattle.cborn_transcode.specs.Transcoding.{IsEncodedAs, AreEncodedAs, ArePairsWritten, IsContent}
 
 -- a place as a span
 abbrev pub span_of : PairPlace → Span
@@ -21,10 +19,6 @@ span_of p = record { hint = p.hint; start = p.start; key_len = p.key_len; value_
 
 abbrev pub spans_of : List PairPlace → List Span
 spans_of = map span_of
-
--- x is the end, so many bytes long, of the input
-abbrev pub IsLast : List ℕ → ℕ → List ℕ → Type 0
-IsLast input len x = (front : List ℕ) × (input ≡ front ++ x) × (length x ≡ len)
 
 -- the input begins with the shortest head of the major type with the argument n
 pub record LeastHeadRead (major : Major) (n : ℕ) (input rest : List ℕ) : Type 0 where
@@ -49,12 +43,22 @@ IsIntegerForm first len top =
 abbrev pub ContentWalked : Major → ℕ → List ℕ → List ℕ → Type 0
 ContentWalked major n input rest = (content : List ℕ) × StringRead n input content rest × IsContent major content
 
--- the shortest byte string of a number of more than 64 bits, without leading zeros
-abbrev pub IsLongMagnitude : Tree → Type 0
-IsLongMagnitude t = (m : List ℕ) × (t ≡ Bytes 0 (least (length m)) m) × IsShortest m × (8 < length m)
+-- no content of a string of n bytes of the major type
+abbrev pub NoContent : Major → ℕ → List ℕ → Type 0
+NoContent major n input = (content rest : List ℕ) → StringRead n input content rest → IsContent major content → ⊥
 
-abbrev pub BignumWalked : List ℕ → List ℕ → Type 0
-BignumWalked = NodeRead IsLongMagnitude 0
+-- no shortest head is at the front, but one of what is no simple value
+abbrev pub HasNoLeastHead : List ℕ → Type 0
+HasNoLeastHead input = (m : Major) (n : ℕ) (rest : List ℕ) → LeastHeadRead m n input rest → (m ≡ Other → IsTrue (is_simple_value n)) → ⊥
+
+-- no item without children after the shortest head of this major type with the argument n; of an array, a map or a tag it says nothing
+abbrev pub HasNoLeaf : Major → ℕ → List ℕ → Type 0
+HasNoLeaf Unsigned n input = ⊥
+HasNoLeaf Negative n input = ⊥
+HasNoLeaf ByteString n input = NoContent ByteString n input
+HasNoLeaf TextString n input = NoContent TextString n input
+HasNoLeaf Other n input = IsTrue (is_simple_value n) → ⊥
+HasNoLeaf _ n input = ⊤
 
 module _ (order : List ℕ → List ℕ → Ordering) where
   -- the node, nodes or pairs are the encoding of what they mean
@@ -68,13 +72,10 @@ module _ (order : List ℕ → List ℕ → Ordering) where
   abbrev pub ArePairsFound : List Span → List Pair → Type 0
   ArePairsFound spans ns = ArePairsWritten order spans [] (spelled_entries (entries ns)) ns
 
-  -- the same of pairs whose keys rise up to the one before
-  pub record HaveRisingKeys (before : Option (Bor (List ℕ))) (ns : List Pair) : Type 0 where
-    pub es : List Entry
-    pub encoded : ArePairsEncodedAs order ns es
-    pub spells : spelled_entries (entries ns) ≡ joined es
-    pub rises : Rising order (keys es)
-    pub last : EndsIn before (keys es)
+  -- the key before, if there is one, is not below
+  abbrev pub IsFallen : Option (Bor (List ℕ)) → List ℕ → Type 0
+  IsFallen None y = ⊥
+  IsFallen (Some x) y = order x.now y ≢ Less
 
 module _ (order : List ℕ → List ℕ → Ordering) (room : ℕ) where
   -- the encoding of an item no deeper than the room
@@ -89,10 +90,6 @@ module _ (order : List ℕ → List ℕ → Ordering) (room : ℕ) where
   abbrev pub PairsFound : ℕ → List Span → List ℕ → List ℕ → Type 0
   PairsFound n spans = PairsRead (ArePairsFound order spans) room n
 
-  -- the encodings of n pairs one after another, whose keys rise up to the one before
-  abbrev pub PairsWalked : ℕ → Option (Bor (List ℕ)) → List ℕ → List ℕ → Type 0
-  PairsWalked n before = PairsRead (HaveRisingKeys order before) room n
-
   -- what the input has after the shortest head of this major type with the argument n makes an item of it
-  abbrev pub WalkedBehind : Major → ℕ → List ℕ → List ℕ → Type 0
-  WalkedBehind m n input rest = WidthFits (least n) n → ItemWalked (head m (Given (least n) n) ++ input) rest
+  abbrev pub WalkedAfter : Major → ℕ → List ℕ → List ℕ → Type 0
+  WalkedAfter m n input rest = WidthFits (least n) n → ItemWalked (head m (Given (least n) n) ++ input) rest

@@ -6,11 +6,11 @@ use Rattle.cborn_model.specs.Spelled.{spelled, spelled_all, Fits, FitsAll, Wellf
 use Rattle.cborn_model.specs.Placed.{Placed, PlacedAll}
 use Rattle.cborn_wire.specs.declared.faults.WireReason.{WireReason}
 use Rattle.cborn_wire.specs.declared.faults.WireReason.TheVariants.{Truncated}
-use Rattle.cborn_wire.specs.Slots.{Begun, beginnings}
+use Rattle.cborn_wire.specs.Slots.{OpenContainer, beginnings}
 use Rattle.cborn_wire.specs.Faults.{IsWellformed, Fault}
 use Rattle.cborn_wire.specs.Places.{all_from}
 use Rattle.cborn_wire.specs.Feeding.{AreComplete}
-use Rattle.cborn_wire.specs.shared.Machine.{append_trees, snoc, IsLive, Partial, nothing, State, Live, Failed, start, ready_in, part_bytes, run}
+use Rattle.cborn_wire.specs.shared.Machine.{append_trees, snoc, IsLive, Partial, nothing, State, Live, Failed, start, ready_in, partial_bytes, run}
 use Rattle.cborn_wire.proofs.Machine.Running.{failed_run}
 use Rattle.cborn_wire.proofs.Spelled.AsPlaced.{spelled_all-from}
 use Rattle.cborn_wire.proofs.Machine.WholeFront.{front_run}
@@ -25,15 +25,15 @@ use Rattle.cborn_wire.proofs.Spelled.TreeLists.{spelled_all-append}
 
 -- Whole items stay, and more follow them.
 pub ready_grows : (limit : ℕ) (s : State) (y : List ℕ) → (us : Trees) × (ready_in (run limit s y) ≡ append_trees (ready_in s) us)
-ready_grows limit (Live fed ready os part) y =
-    let s = Live fed no_item os part in (
+ready_grows limit (Live fed ready os partial) y =
+    let s = Live fed no_item os partial in (
       ready_in (run limit s y),
-      ap ready_in (ap (λ l. run limit (Live fed l os part) y) (sym (append_trees-nil ready)) ∙ front_run ready limit y s) ∙ ready_front ready (run limit s y),
+      ap ready_in (ap (λ l. run limit (Live fed l os partial) y) (sym (append_trees-nil ready)) ∙ front_run ready limit y s) ∙ ready_front ready (run limit s y),
     )
 ready_grows limit (Failed ready p r) y = (no_item, ap ready_in (failed_run limit y ready p r) ∙ sym (append_trees-nil ready))
 
 module _ (limit base : ℕ) where
-  -- No well-formed front is longer than what the whole items spell.
+  -- No well-formed front is longer than what the complete items spell.
   no_longer : (x f y : List ℕ) (us : Trees) → x ≡ f ++ y → Wellformed limit us f → length f ≤ length (spelled_all (ready_in (run limit (start base) x)))
   no_longer x f y us is w =
       let (vs, e) = longest limit base us f y w in
@@ -42,23 +42,23 @@ module _ (limit base : ℕ) where
       ∙ ap (λ l. l ++ spelled_all vs) (spelled_all-from us base ∙ w.spells) in
       omega (arith, ap length same, length-append f (spelled_all vs))
 
-  -- the whole items of a state are sound, and something follows them
+  -- the complete items of a state are sound, and something follows them
   record Begins (x : List ℕ) (ready : Trees) : Type 0 where
     others : List ℕ
     whole : x ≡ spelled_all ready ++ others
     read : Wellformed limit ready (spelled_all ready)
     placed : PlacedAll base ready
 
-  begins_live : (x : List ℕ) (fed : ℕ) (ready : Trees) (os : List Begun) (part : Partial) → SoundLive limit base x fed ready os part → Begins x ready
-  begins_live x fed ready os part h = record {
-    others = beginnings os ++ part_bytes part;
-    whole = h.bytes ∙ append_assoc (spelled_all ready) (beginnings os) (part_bytes part);
+  begins_live : (x : List ℕ) (fed : ℕ) (ready : Trees) (os : List OpenContainer) (partial : Partial) → SoundLive limit base x fed ready os partial → Begins x ready
+  begins_live x fed ready os partial h = record {
+    others = beginnings os ++ partial_bytes partial;
+    whole = h.bytes ∙ append_assoc (spelled_all ready) (beginnings os) (partial_bytes partial);
     read = record { spells = refl; fit = h.ground.fit; shallow = h.ground.shallow };
     placed = h.ground.placed;
   }
 
   begins : (x : List ℕ) (s : State) → Sound limit base x s → Begins x (ready_in s)
-  begins x (Live fed ready os part) h = begins_live x fed ready os part h
+  begins x (Live fed ready os partial) h = begins_live x fed ready os partial h
   begins x (Failed ready p r) h =
       let b = begins_live h.before p ready h.os nothing h.live in
       record {
@@ -83,7 +83,7 @@ module _ (limit base : ℕ) where
         longest = λ f y others is w. subst (λ l. length f ≤ length l) same (no_longer x f y (trees others) is w);
       }
 
-  -- No item is whole: none is at the front.
+  -- No item is complete: none is at the front.
   pub no_first : (x : List ℕ) (t : Tree) (y : List ℕ) → ready_in (run limit (start base) x) ≡ no_item → x ≡ spelled t ++ y → Fits t → depth t ≤ limit → ⊥
   no_first x t y e is fits deep =
       let w : Wellformed limit (more t no_item) (spelled t) = record { spells = append-nil (spelled t); fit = (fits, tt); shallow = omega arith } in
@@ -99,7 +99,7 @@ module _ (limit base : ℕ) where
       let (w, placed) = ends_read limit base y bytes fed (more t no_item) e in
       (sym w.spells ∙ append-nil (spelled t), w.fit.0, omega (arith, w.shallow), placed.0)
 
-  -- Bytes without a whole item, of which none is refused, are none at all, or are cut.
+  -- Bytes without a complete item, of which none is refused, are none at all, or are cut.
   pub no_item_cut : (x : List ℕ) → AreBytes x → IsLive (run limit (start base) x) → ready_in (run limit (start base) x) ≡ no_item → (x ≡ []) ⊎ Fault limit x (length x) Truncated
   no_item_cut x bytes live e = choose (well_or_fault limit x bytes)
     where

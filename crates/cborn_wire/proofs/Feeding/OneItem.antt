@@ -1,4 +1,4 @@
--- A reader that stops at the first whole item has read it, and one that comes to none knows the fault.
+-- A reader that stops at the first complete item has read it, and one that finds none gives the fault.
 use Rattle.std.proofs.Common.{◌≡◌, refl, sym, ap, ◌∙◌, subst, ℕ, ◌+◌, ◌≤◌, List, [], ◌++◌, length, take, drop, ◌⊎◌, inl, inr, arith, append_assoc, length-drop}
 use Rattle.std.proofs.lemmas.List.{take-append-drop, drop-drop, nil_from_length}
 use Rattle.cborn_model.specs.Bytes.{AreBytes}
@@ -8,10 +8,10 @@ use Rattle.cborn_wire.specs.declared.faults.WireFault.{WireFault}
 use Rattle.cborn_wire.specs.declared.faults.WireFault.TheVariants as faults
 use Rattle.cborn_wire.specs.declared.faults.WireReason.{WireReason}
 use Rattle.cborn_wire.specs.declared.faults.WireReason.TheVariants.{Truncated}
-use Rattle.cborn_wire.specs.Slots.{Begun}
+use Rattle.cborn_wire.specs.Slots.{OpenContainer}
 use Rattle.cborn_wire.specs.Faults.{Fault}
 use Rattle.cborn_wire.specs.Reading.{IsFirstItem, ItemFault}
-use Rattle.cborn_wire.specs.shared.Machine.{snoc, Partial, nothing, State, Live, Failed, start, IsLive, ready_in, run, Stops, Settles}
+use Rattle.cborn_wire.specs.shared.Machine.{snoc, Partial, nothing, State, Live, Failed, start, IsLive, ready_in, run, Stops, AtMostOneMore}
 use Rattle.cborn_wire.proofs.Machine.Running.{run-append}
 use Rattle.cborn_wire.proofs.Feeding.Outcomes.{refused_is}
 use Rattle.cborn_wire.proofs.Spelled.FaultLaws.{fails_refused}
@@ -28,14 +28,14 @@ module _ (limit base : ℕ) where
       let (p, at, fault) = fails_refused limit base x are no_item q r e in
       (p, at, (λ t rest. no_first limit base x t rest (ap ready_in e), inr (inl fault)))
 
-  pub item_cut : (x : List ℕ) (fed : ℕ) (os : List Begun) (part : Partial) → AreBytes x → run limit (start base) x ≡ Live fed no_item os part → ItemFault limit x (length x) Truncated
-  item_cut x fed os part are e = (λ t rest. no_first limit base x t rest (ap ready_in e), choose (no_item_cut limit base x are (subst IsLive (sym e) tt) (ap ready_in e)))
+  pub item_cut : (x : List ℕ) (fed : ℕ) (os : List OpenContainer) (partial : Partial) → AreBytes x → run limit (start base) x ≡ Live fed no_item os partial → ItemFault limit x (length x) Truncated
+  item_cut x fed os partial are e = (λ t rest. no_first limit base x t rest (ap ready_in e), choose (no_item_cut limit base x are (subst IsLive (sym e) tt) (ap ready_in e)))
     where
       choose : (x ≡ []) ⊎ Fault limit x (length x) Truncated → ((x ≡ []) × (length x ≡ 0) × (Truncated ≡ Truncated)) ⊎ Fault limit x (length x) Truncated
       choose (inl n) = inl (n, ap length n, refl)
       choose (inr h) = inr h
 
--- A reader of one item, which goes from the offset start on and stands at the offset end: what it read makes the state.
+-- A reader of one item, from the offset start on, that has come to the offset end: what it read makes this state.
 pub record ReadSoFar (limit from end : ℕ) (bytes : List ℕ) (s : State) : Type 0 where
   pub read : List ℕ
   pub above : from ≤ end
@@ -62,8 +62,8 @@ module _ (limit from : ℕ) (bytes : List ℕ) (are : AreBytes bytes) where
         makes = run-append limit (start from) h.read piece ∙ ap (λ v. run limit v piece) h.makes ∙ goes;
       }
 
-  -- One item is whole.
-  pub read_item : (end : ℕ) (s : State) (t : Tree) (ts : Trees) → ReadSoFar limit from end bytes s → Settles no_item s → ready_in s ≡ more t ts → IsFirstItem limit from t (drop from bytes) (drop end bytes)
+  -- One item is complete.
+  pub read_item : (end : ℕ) (s : State) (t : Tree) (ts : Trees) → ReadSoFar limit from end bytes s → AtMostOneMore no_item s → ready_in s ≡ more t ts → IsFirstItem limit from t (drop from bytes) (drop end bytes)
   read_item end s t ts h (inl none) is = absurd (clash (sym none ∙ is))
     where
       clash : no_item ≡ more t ts → ⊥
@@ -78,7 +78,7 @@ module _ (limit from : ℕ) (bytes : List ℕ) (are : AreBytes bytes) where
   whole_run : (end : ℕ) (s : State) (h : ReadSoFar limit from end bytes s) → run limit (start from) (drop from bytes) ≡ run limit s (drop end bytes)
   whole_run end s h = ap (run limit (start from)) h.cut ∙ run-append limit (start from) h.read (drop end bytes) ∙ ap (λ v. run limit v (drop end bytes)) h.makes
 
-  -- A head is refused before any item is whole.
+  -- A head is refused before any item is complete.
   pub read_refused : (end : ℕ) (s : State) (e : WireFault) (p : ℕ) (r : WireReason) → ReadSoFar limit from end bytes s → Stops limit s (drop end bytes) e no_item → e ≡ faults.Refused p r
       → (q : ℕ) × (p ≡ from + q) × ItemFault limit (drop from bytes) q r
   read_refused end s (faults.Refused q t) p r h stops e =
@@ -87,11 +87,11 @@ module _ (limit from : ℕ) (bytes : List ℕ) (are : AreBytes bytes) where
       item_refused limit from (drop from bytes) p r are_later failed
   read_refused end s faults.OutOfMemory p r h stops e = cc
 
-  -- The bytes end before any item is whole.
-  pub read_cut : (end fed : ℕ) (os : List Begun) (part : Partial) → ReadSoFar limit from end bytes (Live fed no_item os part) → length bytes ≤ end
+  -- The bytes end before any item is complete.
+  pub read_cut : (end fed : ℕ) (os : List OpenContainer) (partial : Partial) → ReadSoFar limit from end bytes (Live fed no_item os partial) → length bytes ≤ end
       → (q : ℕ) × (length bytes ≡ from + q) × ItemFault limit (drop from bytes) q Truncated
-  read_cut end fed os part h over =
+  read_cut end fed os partial h over =
       let x = drop from bytes in
       let rest : drop end bytes ≡ [] = nil_from_length (drop end bytes) (omega (arith, length-drop end bytes)) in
-      let here : run limit (start from) x ≡ Live fed no_item os part = whole_run end (Live fed no_item os part) h ∙ ap (run limit (Live fed no_item os part)) rest in
-      (length x, omega (arith, length-drop from bytes, h.above, h.below), item_cut limit from x fed os part are_later here)
+      let here : run limit (start from) x ≡ Live fed no_item os partial = whole_run end (Live fed no_item os partial) h ∙ ap (run limit (Live fed no_item os partial)) rest in
+      (length x, omega (arith, length-drop from bytes, h.above, h.below), item_cut limit from x fed os partial are_later here)

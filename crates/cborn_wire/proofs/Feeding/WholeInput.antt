@@ -1,4 +1,4 @@
--- A reader that hands its whole input to a feeder reads it, or knows its fault.
+-- A reader that gives its whole input to a feeder reads it, or gives its fault.
 use Rattle.std.proofs.Common.{◌≡◌, sym, ap, ◌∙◌, subst, ℕ, List, length, inl, arith, zero-add, None, Result, Err, OnErr}
 use Rattle.cborn_wire.specs.declared.faults.WireFault.{WireFault}
 use Rattle.cborn_wire.specs.declared.faults.WireFault.TheVariants as faults
@@ -21,19 +21,19 @@ all_cut limit x f (is, fed, free) fault =
 
 -- The feeder refuses its one piece.
 pub piece_refused : (limit : ℕ) (x : List ℕ) (f g : Feeding) (e : WireFault) (p : ℕ) (r : WireReason) → f ≡ fresh limit → (f.fault ≡ None → Feeds x f (Err e) g) → e ≡ faults.Refused p r → Fault limit x p r
-piece_refused limit x f g e p r is fed told = go e told (subst (λ f. Feeds x f (Err e) g) is (fed (ap (λ f. f.fault) is)))
+piece_refused limit x f g e p r is fed said = go e said (subst (λ f. Feeds x f (Err e) g) is (fed (ap (λ f. f.fault) is)))
   where
     go : (e : WireFault) → e ≡ faults.Refused p r → Feeds x (fresh limit) (Err e) g → Fault limit x p r
-    go (faults.Refused q s) told h =
-        let (a, b) = refused_is q p s r told in
+    go (faults.Refused q s) said h =
+        let (a, b) = refused_is q p s r said in
         subst (λ r. Fault limit x p r) b (subst (λ p. Fault limit x p s) a (all_refused limit x g q s h.1))
-    go faults.OutOfMemory told h = cc
+    go faults.OutOfMemory said h = cc
 
--- It takes it, and the input ends too soon.
+-- The feeder takes the piece, and the input ends too soon.
 pub input_ends : {T : Type 0} (limit : ℕ) (x : List ℕ) (f g : Feeding) (result : Result T WireFault) (p : ℕ) (r : WireReason) → f ≡ fresh limit → (f.fault ≡ None → Accepts x f g)
     → (g.fault ≡ None → OnErr result ((result ≡ Err (faults.Refused g.fed Truncated)) × Fault g.limit g.held (length g.held) Truncated)) → result ≡ Err (faults.Refused p r) → Fault limit x p r
-input_ends limit x f g result p r is fed cut told =
+input_ends limit x f g result p r is fed cut said =
     let h : Accepts x (fresh limit) g = subst (λ f. Accepts x f g) is (fed (ap (λ f. f.fault) is)) in
-    let (answer, fault) = on_err result _ (faults.Refused p r) (cut (ap (λ f. f.fault) h.0)) told in
-    let (a, b) = refused_is g.fed p Truncated r (err_is (faults.Refused g.fed Truncated) (faults.Refused p r) (sym answer ∙ told)) in
+    let (answer, fault) = on_err result _ (faults.Refused p r) (cut (ap (λ f. f.fault) h.0)) said in
+    let (a, b) = refused_is g.fed p Truncated r (err_is (faults.Refused g.fed Truncated) (faults.Refused p r) (sym answer ∙ said)) in
     subst (λ r. Fault limit x p r) b (subst (λ p. Fault limit x p Truncated) a (all_cut limit x g h fault))

@@ -15,7 +15,7 @@ use Rattle.cborn_wire.specs.declared.heads.Argument.TheVariants.{Given, Endless}
 use Rattle.cborn_wire.specs.declared.heads.HeadRead.{HeadRead}
 use Rattle.cborn_wire.specs.HeadReading.{major_at, reason_alone, IsHeadOf, IsFrontOfHead, ReadsHead}
 use Rattle.cborn_wire.specs.Slots.{element_or_end}
-use Rattle.cborn_wire.specs.shared.InitialBytes.{Info, Now, Next, Unended, Reserved, info_at, is_unended, is_always_bounded, is_other, head_reason}
+use Rattle.cborn_wire.specs.shared.InitialBytes.{Info, Now, Next, EndlessInformation, Reserved, info_at, is_endless_head, is_always_bounded, is_other, head_reason}
 use Rattle.cborn_wire.specs.shared.Machine.{width_bytes, number}
 use Rattle.cborn_wire.proofs.HeadReading.InitialBytes.{same_alone}
 use Rattle.cborn_wire.proofs.Machine.TakesHeads.{info_at-now}
@@ -32,7 +32,7 @@ module _ (y : List ℕ) where
   now_free Tag n = refl
   now_free Other n = refl
 
-  endless_free : (m : Major) → is_always_bounded m ≡ false → head_reason element_or_end false m Unended y ≡ None
+  endless_free : (m : Major) → is_always_bounded m ≡ false → head_reason element_or_end false m EndlessInformation y ≡ None
   endless_free Unsigned e = cc
   endless_free Negative e = cc
   endless_free ByteString e = refl
@@ -54,7 +54,7 @@ module _ (y : List ℕ) where
         free = same_alone b y ∙ ap (λ i. head_reason element_or_end false (major_at (b / 32)) i y) (info_at-now (b % 32) h) ∙ now_free (major_at (b / 32)) (b % 32);
       }
 
-  pub endless_head : (b m : ℕ) → m < 8 → b / 32 ≡ m → info_at (b % 32) ≡ Unended → is_always_bounded (major_at m) ≡ false → IsHeadOf (b ∷ y) (record { major = m; argument = Endless }) 1
+  pub endless_head : (b m : ℕ) → m < 8 → b / 32 ≡ m → info_at (b % 32) ≡ EndlessInformation → is_always_bounded (major_at m) ≡ false → IsHeadOf (b ∷ y) (record { major = m; argument = Endless }) 1
   endless_head b m small e i free =
       let low : b % 32 ≡ 31 = subst (InfoIs (b % 32)) i (info_is (b % 32)) in
       let same : b ≡ 32 * code (major_at m) + 31 = omega (arith, code_at m small, e, low) in
@@ -116,11 +116,11 @@ pub no_head : (x : List ℕ) → length x < 1 → IsFrontOfHead x
 no_head [] h = record { major = Unsigned; argument = heads.Given Direct 0; missing = 0 ∷ []; fits = omega arith; whole = refl; some = omega arith; free = refl }
 no_head (b ∷ x) h = absurd (omega arith)
 
-unended_is : (i : Info) → is_unended i ≡ true → i ≡ Unended
-unended_is (Now n) e = cc
-unended_is (Next w) e = cc
-unended_is Reserved e = cc
-unended_is Unended e = refl
+endless_information_is : (i : Info) → is_endless_head i ≡ true → i ≡ EndlessInformation
+endless_information_is (Now n) e = cc
+endless_information_is (Next w) e = cc
+endless_information_is Reserved e = cc
+endless_information_is EndlessInformation e = refl
 
 no_other : (m : Major) → (m ≡ Other → ⊥) → is_other (major_at (code m)) ≡ false
 no_other Unsigned h = refl
@@ -158,10 +158,10 @@ direct_front [] m are h first low = absurd (omega arith)
 direct_front (b ∷ y) m are h first low =
     subst (λ (n : ℕ). IsHeadOf (b ∷ y) (record { major = n; argument = Given Direct (b % 32) }) 1) (sym first) (direct_head y b are.0 low)
 
-pub endless_front : (x : List ℕ) (r : HeadRead) (m : Major) → 1 ≤ length x → code m ≡ get_or x 0 0 / 32 → is_unended (info_at (get_or x 0 0 % 32)) ≡ true
-    → ((b : ℕ) (y : List ℕ) → b / 32 ≡ code m → info_at (b % 32) ≡ Unended → ReadsHead (b ∷ y) r) → ReadsHead x r
+pub endless_front : (x : List ℕ) (r : HeadRead) (m : Major) → 1 ≤ length x → code m ≡ get_or x 0 0 / 32 → is_endless_head (info_at (get_or x 0 0 % 32)) ≡ true
+    → ((b : ℕ) (y : List ℕ) → b / 32 ≡ code m → info_at (b % 32) ≡ EndlessInformation → ReadsHead (b ∷ y) r) → ReadsHead x r
 endless_front [] r m h first e reads = absurd (omega arith)
-endless_front (b ∷ y) r m h first e reads = reads b y (sym first) (unended_is (info_at (b % 32)) e)
+endless_front (b ∷ y) r m h first e reads = reads b y (sym first) (endless_information_is (info_at (b % 32)) e)
 
 pub wide_fronts : (x rest : List ℕ) (r : HeadRead) (m : Major) (w : Width) → rest ≡ drop 1 x → 1 ≤ length x → code m ≡ get_or x 0 0 / 32 → info_at (get_or x 0 0 % 32) ≡ Next w → (m ≡ Other → ⊥)
     → ((b : ℕ) → b / 32 ≡ code m → info_at (b % 32) ≡ Next w → reason_alone (b ∷ rest) ≡ None → ReadsHead (b ∷ rest) r) → ReadsHead x r
@@ -190,7 +190,7 @@ short_front (b ∷ x) some f = go f.argument f.whole
     go (heads.Given Two n) e = let first : b ≡ 32 * code f.major + 25 = cc in (omega (arith, first), omega (arith, first))
     go (heads.Given Four n) e = let first : b ≡ 32 * code f.major + 26 = cc in (omega (arith, first), omega (arith, first))
     go (heads.Given Eight n) e = let first : b ≡ 32 * code f.major + 27 = cc in (omega (arith, first), omega (arith, first))
-    go heads.Unbounded e = absurd (omega (arith, ap length e, length-append x f.missing, f.some))
+    go heads.EndlessArgument e = absurd (omega (arith, ap length e, length-append x f.missing, f.some))
 
 -- what is said of the number of eight bytes, of the eight at the front of more
 pub number_first : (w : Width) (x : List ℕ) (n : ℕ) → 8 ≤ length x → AreBytes x

@@ -5,19 +5,18 @@ use Rattle.std.proofs.lemmas.List.{take_all, take-append-le, length-take}
 use Rattle.cborn_model.specs.declared.heads.Width.{Width}
 use Rattle.cborn_model.specs.declared.heads.Width.TheVariants.{Direct, One, Two, Four, Eight}
 use Rattle.cborn_model.specs.declared.heads.Major.{Major}
-use Rattle.cborn_model.specs.Heads.{Argument, Given, Unbounded, code, head}
+use Rattle.cborn_model.specs.Heads.{Argument, Given, EndlessArgument, head}
 use Rattle.cborn_model.specs.Tree.{Trees}
 use Rattle.cborn_wire.specs.declared.faults.WireReason.{WireReason}
 use Rattle.cborn_wire.specs.declared.faults.WireReason.TheVariants.{BadSimple, TooDeep}
 use Rattle.cborn_wire.specs.declared.heads.Head.{Head}
 use Rattle.cborn_wire.specs.HeadReading.{major_at, seen_argument, reason_alone, IsHeadOf}
-use Rattle.cborn_wire.specs.Slots.{Slot, element_or_end, Begun, slot, open_depth}
+use Rattle.cborn_wire.specs.Slots.{Slot, element_or_end, OpenContainer, slot, open_depth}
 use Rattle.cborn_wire.specs.SlotFaults.{begins_low}
 use Rattle.cborn_wire.specs.shared.InitialBytes.{Info, info_at, is_break, is_other, is_one, is_container, head_reason}
 use Rattle.cborn_wire.specs.shared.Machine.{width_bytes, number, argument_of, nothing, gathering, Live, Failed, after_head, run}
 use Rattle.cborn_wire.proofs.HeadReading.InitialBytes.{same_alone}
-use Rattle.cborn_wire.proofs.Machine.Pieces.{major_of_head, takes_whole_head, refuses_first, argument_done}
-use Rattle.cborn_wire.proofs.Machine.TakesHeads.{major_at-code}
+use Rattle.cborn_wire.proofs.Machine.Pieces.{takes_whole_head, refuses_first, argument_done}
 use Rattle.cborn_wire.proofs.Machine.SoundSteps.{is_clear}
 use Rattle.cborn_wire.proofs.Machine.SomeEnd.{refused_run}
 
@@ -38,22 +37,14 @@ argument_room w n bytes l h = omega (arith, length-take n bytes, l, fills w, h)
 
 head_some : (m : Major) (a : Argument) → 0 < length (head m a)
 head_some m (Given w n) = omega arith
-head_some m Unbounded = omega arith
+head_some m EndlessArgument = omega arith
 
 pub head_front : (piece : List ℕ) (h : Head) (n : ℕ) → IsHeadOf piece h n → take n piece ≡ head (major_at h.major) (seen_argument h.argument)
 head_front piece h n i =
     let x = head (major_at h.major) (seen_argument h.argument) in
     ap (take n) i.whole ∙ ap (λ k. take k (x ++ i.rest)) i.len ∙ take-append-le (length x) x i.rest (omega arith) ∙ take_all (length x) x (omega arith)
 
--- The initial byte tells the major type.
-pub major_first : (piece : List ℕ) (h : Head) (n : ℕ) (m : Major) → IsHeadOf piece h n → code m ≡ get_or piece 0 0 / 32 → major_at h.major ≡ m
-major_first piece h n m i told = go piece i.whole told
-  where
-    go : (x : List ℕ) → x ≡ head (major_at h.major) (seen_argument h.argument) ++ i.rest → code m ≡ get_or x 0 0 / 32 → major_at h.major ≡ m
-    go [] e told = absurd (omega (arith, ap length e, length-append (head (major_at h.major) (seen_argument h.argument)) i.rest, head_some (major_at h.major) (seen_argument h.argument)))
-    go (b ∷ z) e told = sym (major_of_head (major_at h.major) (seen_argument h.argument) b z i.rest i.fits e) ∙ ap major_at (sym told) ∙ major_at-code m
-
-module _ (limit at : ℕ) (ready : Trees) (os : List Begun) where
+module _ (limit at : ℕ) (ready : Trees) (os : List OpenContainer) where
   -- The last byte of an argument.
   pub argument_ends : (p : ℕ) (m : Major) (w : Width) (got all piece : List ℕ) (n : ℕ) → 0 < length piece → all ≡ got ++ get_or piece 0 0 ∷ [] → length got < width_bytes w → width_bytes w ≤ length all → n ≡ number w (take (width_bytes w) all)
       → run limit (Live at ready os (gathering p (argument_of m w) (width_bytes w) got)) (take 1 piece) ≡ after_head (at + 1) p ready os m (Given w n)
@@ -88,7 +79,7 @@ module _ (limit at : ℕ) (ready : Trees) (os : List Begun) where
           ∙ takes_whole_head limit at ready os (major_at h.major) (seen_argument h.argument) b y [] i.fits (e ∙ sym (append-nil (head (major_at h.major) (seen_argument h.argument)))) clear
           ∙ ap (λ k. after_head (at + k) at ready os (major_at h.major) (seen_argument h.argument)) (sym i.len)
 
--- A reason that the initial byte alone doesn't give is told by the second byte, wherever the head stands.
+-- A reason that the initial byte alone doesn't give follows from the second byte, wherever the head is.
 bad_simple : (s : Slot) (full : Bool) (m : Major) (i : Info) (y : List ℕ) (r : WireReason) → head_reason s full m i [] ≡ None → head_reason element_or_end false m i y ≡ Some r → head_reason s full m i y ≡ Some r
 bad_simple s full m i y r none e =
     let c = is_clear s full m i [] none in
@@ -103,7 +94,7 @@ bad_simple s full m i y r none e =
         let c = is_clear s full m i [] none in
         last (is_other m && is_one i && begins_low y) (is_container m) (Some BadSimple) (rw (c.reserved, c.bounded, and-false (is_break m i), c.float) at e)
 
-pub second_refused : (limit at : ℕ) (ready : Trees) (os : List Begun) (piece : List ℕ) (r : WireReason) → 0 < length piece
+pub second_refused : (limit at : ℕ) (ready : Trees) (os : List OpenContainer) (piece : List ℕ) (r : WireReason) → 0 < length piece
     → None ≡ head_reason (slot os) (leb limit (open_depth os)) (major_at (get_or piece 0 0 / 32)) (info_at (get_or piece 0 0 % 32)) [] → reason_alone piece ≡ Some r
     → run limit (Live at ready os nothing) piece ≡ Failed ready at r
 second_refused limit at ready os [] r some none e = absurd (omega arith)

@@ -6,7 +6,7 @@ use Rattle.cborn_wire.specs.Slots.{StringKind, OfBytes, OfText, major_of, Slot, 
 use Rattle.cborn_wire.specs.SlotFaults as numbers
 use Rattle.cborn_wire.specs.SlotFaults.{reason_of, reason_at}
 use Rattle.cborn_wire.specs.HeadReading.{major_at, reason_alone}
-use Rattle.cborn_wire.specs.shared.InitialBytes.{Info, info_at, is_reserved, is_unended, is_always_bounded, is_other, is_container, is_of_kind, is_bad_chunk, is_float, is_one, head_reason, front_reason}
+use Rattle.cborn_wire.specs.shared.InitialBytes.{Info, info_at, is_reserved, is_endless_head, is_always_bounded, is_other, is_container, is_of_kind, is_bad_chunk, is_float, is_one, head_reason, front_reason}
 
 other_is : (m : ℕ) → leb 7 m ≡ is_other (major_at m)
 other_is zero = refl
@@ -63,14 +63,14 @@ kind_is OfText (suc (suc (suc (suc (suc (suc (suc n))))))) = ne_eqb (suc (suc (s
 -- information and the data that it is
 record SaysInfo (i : ℕ) (j : Info) : Type 0 where
   reserved : (leb 28 i && leb i 30) ≡ is_reserved j
-  unended : eqb i 31 ≡ is_unended j
+  endless_information : eqb i 31 ≡ is_endless_head j
   float : (leb 25 i && leb i 27) ≡ is_float j
   one : eqb i 24 ≡ is_one j
 
 info_says : (i : ℕ) → i < 32 → SaysInfo i (info_at i)
 info_says i low = record {
   reserved = agree_below_at (λ n. leb 28 n && leb n 30) (λ n. is_reserved (info_at n)) 32 i refl low;
-  unended = agree_below_at (λ n. eqb n 31) (λ n. is_unended (info_at n)) 32 i refl low;
+  endless_information = agree_below_at (λ n. eqb n 31) (λ n. is_endless_head (info_at n)) 32 i refl low;
   float = agree_below_at (λ n. leb 25 n && leb n 27) (λ n. is_float (info_at n)) 32 i refl low;
   one = agree_below_at (λ n. eqb n 24) (λ n. is_one (info_at n)) 32 i refl low;
 }
@@ -80,10 +80,10 @@ bad_chunk_is item m i j h = refl
 bad_chunk_is value m i j h = refl
 bad_chunk_is element_or_end m i j h = refl
 bad_chunk_is key_or_end m i j h = refl
-bad_chunk_is (chunk k) m i j h = rw (other_is m, h.unended, kind_is k m) refl
+bad_chunk_is (chunk k) m i j h = rw (other_is m, h.endless_information, kind_is k m) refl
 
 reason_is : (s : Slot) (full : Bool) (m i : ℕ) (j : Info) (y : List ℕ) → SaysInfo i j → reason_of s full m i y ≡ head_reason s full (major_at m) j y
-reason_is s full m i j y h = rw (bad_chunk_is s m i j h, h.reserved, h.unended, bounded_is m, other_is m, h.float, h.one, container_is m) refl
+reason_is s full m i j y h = rw (bad_chunk_is s m i j h, h.reserved, h.endless_information, bounded_is m, other_is m, h.float, h.one, container_is m) refl
 
 pub same_reason : (limit : ℕ) (s : Slot) (k : ℕ) (y : List ℕ) → reason_at limit s k y ≡ front_reason limit s k y
 same_reason limit s k [] = refl

@@ -4,10 +4,10 @@ use Rattle.std.proofs.lemmas.Bool.{lt-leb, le-leb}
 use Rattle.cborn_model.specs.declared.heads.Width.{Width}
 use Rattle.cborn_model.specs.declared.heads.Width.TheVariants.{Direct, One, Two, Four, Eight}
 use Rattle.cborn_model.specs.declared.heads.Major.{Major}
-use Rattle.cborn_model.specs.Heads.{Argument, Given, Unbounded, code, following, head}
+use Rattle.cborn_model.specs.Heads.{Argument, Given, EndlessArgument, code, following, head}
 use Rattle.cborn_model.specs.Tree.{Trees}
 use Rattle.cborn_wire.specs.declared.faults.WireReason.{WireReason}
-use Rattle.cborn_wire.specs.Slots.{StringKind, Begun, slot, open_depth}
+use Rattle.cborn_wire.specs.Slots.{StringKind, OpenContainer, slot, open_depth}
 use Rattle.cborn_wire.specs.shared.InitialBytes.{info_at, head_reason, info_for}
 use Rattle.cborn_wire.specs.shared.Machine.{number, Goal, argument_of, content_of, nothing, gathering, Live, Failed, string_done, content_at, after_head, gathered, gather, begin_head, unless, step, run}
 use Rattle.cborn_wire.proofs.Machine.Running.{failed_run}
@@ -28,7 +28,7 @@ first_of m (Given One n) h = record { low = 24; others = following One n; bytes 
 first_of m (Given Two n) h = record { low = 25; others = following Two n; bytes = refl; small = omega arith; says = refl }
 first_of m (Given Four n) h = record { low = 26; others = following Four n; bytes = refl; small = omega arith; says = refl }
 first_of m (Given Eight n) h = record { low = 27; others = following Eight n; bytes = refl; small = omega arith; says = refl }
-first_of m Unbounded h = record { low = 31; others = []; bytes = refl; small = omega arith; says = refl }
+first_of m EndlessArgument h = record { low = 31; others = []; bytes = refl; small = omega arith; says = refl }
 
 first_byte : (m : Major) (a : Argument) (b : ℕ) (z y : List ℕ) → b ∷ z ≡ head m a ++ y → (f : FirstOf m a) → b ≡ 32 * code m + f.low
 first_byte m a b z y e f = go (e ∙ ap (λ l. l ++ y) f.bytes)
@@ -46,16 +46,16 @@ info_of_head m a b z y fits e =
     let f = first_of m a fits in
     ap (λ n. info_at (n % 32)) (first_byte m a b z y e f) ∙ ap info_at (remainder (code m) f.low f.small) ∙ f.says
 
-module _ (limit fed : ℕ) (ready : Trees) (os : List Begun) where
-  -- A head that lies whole at the front of a piece.
+module _ (limit fed : ℕ) (ready : Trees) (os : List OpenContainer) where
+  -- A head that is whole at the front of a piece.
   pub takes_whole_head : (m : Major) (a : Argument) (b : ℕ) (z y : List ℕ) → ArgumentFits a → b ∷ z ≡ head m a ++ y
       → head_reason (slot os) (leb limit (open_depth os)) (major_at (b / 32)) (info_at (b % 32)) [] ≡ None
       → run limit (Live fed ready os nothing) (b ∷ z) ≡ run limit (after_head (fed + length (head m a)) fed ready os m a) y
   takes_whole_head m a b z y fits e none =
-      let suits : head_reason (slot os) (leb limit (open_depth os)) m (info_for a) [] ≡ None
+      let allowed : head_reason (slot os) (leb limit (open_depth os)) m (info_for a) [] ≡ None
       = ap (λ j. head_reason (slot os) (leb limit (open_depth os)) j (info_for a) []) (sym (major_of_head m a b z y fits e))
       ∙ ap (λ i. head_reason (slot os) (leb limit (open_depth os)) (major_at (b / 32)) i []) (sym (info_of_head m a b z y fits e)) ∙ none in
-      ap (run limit (Live fed ready os nothing)) e ∙ takes_head limit fed ready os m a y fits suits
+      ap (run limit (Live fed ready os nothing)) e ∙ takes_head limit fed ready os m a y fits allowed
 
   -- An initial byte that isn't allowed in the slot.
   pub refuses_first : (b : ℕ) (y : List ℕ) (r : WireReason) → head_reason (slot os) (leb limit (open_depth os)) (major_at (b / 32)) (info_at (b % 32)) [] ≡ Some r

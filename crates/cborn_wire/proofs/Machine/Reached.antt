@@ -7,7 +7,7 @@ use Rattle.cborn_model.specs.Heads.{WidthFits}
 use Rattle.cborn_model.specs.Tree.{Tree, Trees, no_item, more, depth, depth_all}
 use Rattle.cborn_model.specs.Spelled.{Fits, FitsAll}
 use Rattle.cborn_model.proofs.Bytes.{bytes-append}
-use Rattle.cborn_wire.specs.Slots.{StringKind, Begun, begun_items, begun_pairs, begun_value, begun_tag, begun_chunks, slot, open_depth, IsNoChunk, AreBegun}
+use Rattle.cborn_wire.specs.Slots.{StringKind, OpenContainer, opened_items, opened_pairs, opened_value, opened_tag, opened_chunks, slot, open_depth, IsNoChunk, AreOpen}
 use Rattle.cborn_wire.specs.shared.Machine.{snoc, width_bytes, argument_of, content_of, Partial, gathering, State, Live, Failed, start, IsLive, held, run, IsReached}
 use Rattle.cborn_wire.proofs.Machine.Running.{run-append}
 use Rattle.cborn_wire.proofs.Machine.SoundItems.{SoundLive, Sound}
@@ -22,13 +22,13 @@ depth_last no_item t = omega arith
 depth_last (more u ts) t = omega (arith, depth_last ts t)
 
 -- No array, map or tag is open inside an indefinite string, so all that is open counts.
-pub depth_is_length : (limit : ℕ) (os : List Begun) → AreBegun limit os → IsNoChunk (slot os) → open_depth os ≡ length os
+pub depth_is_length : (limit : ℕ) (os : List OpenContainer) → AreOpen limit os → IsNoChunk (slot os) → open_depth os ≡ length os
 depth_is_length limit [] h free = refl
-depth_is_length limit (begun_items p a ts ∷ os) h free = omega (arith, depth_is_length limit os h.2 h.1)
-depth_is_length limit (begun_pairs p a es ∷ os) h free = omega (arith, depth_is_length limit os h.2 h.1)
-depth_is_length limit (begun_value p a es k ∷ os) h free = omega (arith, depth_is_length limit os h.2 h.1)
-depth_is_length limit (begun_tag p w n ∷ os) h free = omega (arith, depth_is_length limit os h.2 h.1)
-depth_is_length limit (begun_chunks p k cs ∷ os) h free = absurd free
+depth_is_length limit (opened_items p a ts ∷ os) h free = omega (arith, depth_is_length limit os h.2 h.1)
+depth_is_length limit (opened_pairs p a es ∷ os) h free = omega (arith, depth_is_length limit os h.2 h.1)
+depth_is_length limit (opened_value p a es k ∷ os) h free = omega (arith, depth_is_length limit os h.2 h.1)
+depth_is_length limit (opened_tag p w n ∷ os) h free = omega (arith, depth_is_length limit os h.2 h.1)
+depth_is_length limit (opened_chunks p k cs ∷ os) h free = absurd free
 
 module _ (limit base : ℕ) where
   pub reached_start : IsReached limit base (start base)
@@ -40,32 +40,32 @@ module _ (limit base : ℕ) where
   pub reached_sound : (s : State) → IsReached limit base s → (x : List ℕ) × Sound limit base x s
   reached_sound s (x, bytes, is) = (x, subst (Sound limit base x) is (sound limit base x bytes))
 
-  -- A state that lives tells the bytes that it stands for.
+  -- From a live state follow the bytes that make it.
   pub reached_held : (s : State) → IsReached limit base s → IsLive s → (run limit (start base) (held s) ≡ s) × AreBytes (held s)
-  reached_held (Live fed ready os part) (x, bytes, is) live =
-      let h : SoundLive limit base x fed ready os part = subst (Sound limit base x) is (sound limit base x bytes) in
+  reached_held (Live fed ready os partial) (x, bytes, is) live =
+      let h : SoundLive limit base x fed ready os partial = subst (Sound limit base x) is (sound limit base x bytes) in
       (ap (run limit (start base)) (sym h.bytes) ∙ is, subst AreBytes h.bytes bytes)
   reached_held (Failed ready p r) h live = absurd live
 
-  pub reached_offset : (fed : ℕ) (ready : Trees) (os : List Begun) (part : Partial) → IsReached limit base (Live fed ready os part) → fed ≡ base + length (held (Live fed ready os part))
-  reached_offset fed ready os part h = let (x, s) = reached_sound (Live fed ready os part) h in s.fed_is ∙ ap (λ l. base + length l) s.bytes
+  pub reached_offset : (fed : ℕ) (ready : Trees) (os : List OpenContainer) (partial : Partial) → IsReached limit base (Live fed ready os partial) → fed ≡ base + length (held (Live fed ready os partial))
+  reached_offset fed ready os partial h = let (x, s) = reached_sound (Live fed ready os partial) h in s.fed_is ∙ ap (λ l. base + length l) s.bytes
 
-  -- a whole item
-  pub reached_item : (fed : ℕ) (ready : Trees) (t : Tree) (os : List Begun) (part : Partial) → IsReached limit base (Live fed (snoc ready t) os part) → Fits t × (depth t ≤ limit)
-  reached_item fed ready t os part h =
-      let (x, s) = reached_sound (Live fed (snoc ready t) os part) h in
+  -- a complete item
+  pub reached_item : (fed : ℕ) (ready : Trees) (t : Tree) (os : List OpenContainer) (partial : Partial) → IsReached limit base (Live fed (snoc ready t) os partial) → Fits t × (depth t ≤ limit)
+  reached_item fed ready t os partial h =
+      let (x, s) = reached_sound (Live fed (snoc ready t) os partial) h in
       (fits_last ready t s.ground.fit, omega (arith, depth_last ready t, s.ground.shallow))
 
-  pub reached_begun : (fed : ℕ) (ready : Trees) (os : List Begun) (part : Partial) → IsReached limit base (Live fed ready os part) → AreBegun limit os
-  reached_begun fed ready os part h = let (x, s) = reached_sound (Live fed ready os part) h in s.ground.begun
+  pub reached_opened : (fed : ℕ) (ready : Trees) (os : List OpenContainer) (partial : Partial) → IsReached limit base (Live fed ready os partial) → AreOpen limit os
+  reached_opened fed ready os partial h = let (x, s) = reached_sound (Live fed ready os partial) h in s.ground.are_open
 
-  -- a part of an argument, and of a string's content
-  pub reached_argument : (fed p n : ℕ) (ready : Trees) (os : List Begun) (m : Major) (w : Width) (got : List ℕ) → IsReached limit base (Live fed ready os (gathering p (argument_of m w) n got)) → (n ≡ width_bytes w) × (length got < n)
+  -- a partial argument, and a partial content of a string
+  pub reached_argument : (fed p n : ℕ) (ready : Trees) (os : List OpenContainer) (m : Major) (w : Width) (got : List ℕ) → IsReached limit base (Live fed ready os (gathering p (argument_of m w) n got)) → (n ≡ width_bytes w) × (length got < n)
   reached_argument fed p n ready os m w got h =
       let (x, s) = reached_sound (Live fed ready os (gathering p (argument_of m w) n got)) h in
-      (s.part_fits.1, s.part_fits.2)
+      (s.partial_fits.1, s.partial_fits.2)
 
-  pub reached_content : (fed p n : ℕ) (ready : Trees) (os : List Begun) (k : StringKind) (w : Width) (got : List ℕ) → IsReached limit base (Live fed ready os (gathering p (content_of k w) n got)) → WidthFits w n × (length got < n) × AreBytes got
+  pub reached_content : (fed p n : ℕ) (ready : Trees) (os : List OpenContainer) (k : StringKind) (w : Width) (got : List ℕ) → IsReached limit base (Live fed ready os (gathering p (content_of k w) n got)) → WidthFits w n × (length got < n) × AreBytes got
   reached_content fed p n ready os k w got h =
       let (x, s) = reached_sound (Live fed ready os (gathering p (content_of k w) n got)) h in
-      (s.part_fits.1, s.part_fits.2, s.part_fits.4)
+      (s.partial_fits.1, s.partial_fits.2, s.partial_fits.4)

@@ -8,15 +8,15 @@ use Rattle.cborn_model.specs.declared.heads.Width.{Width}
 use Rattle.cborn_model.specs.declared.heads.Width.TheVariants.{Direct, One, Two, Four, Eight}
 use Rattle.cborn_model.specs.declared.heads.Major.{Major}
 use Rattle.cborn_model.specs.declared.heads.Major.TheVariants.{Unsigned, Negative, ByteString, TextString, Array, Map, Tag, Other}
-use Rattle.cborn_model.specs.Heads.{Given, Unbounded, code, information, following, head, WidthFits}
+use Rattle.cborn_model.specs.Heads.{Given, EndlessArgument, code, information, following, head, WidthFits}
 use Rattle.cborn_model.specs.Tree.{Trees}
 use Rattle.cborn_model.proofs.Bytes.{bytes-append}
 pub use Rattle.cborn_model.proofs.Numbers.Majors.{code_at}
 use Rattle.cborn_wire.specs.declared.faults.WireReason.{WireReason}
 use Rattle.cborn_wire.specs.declared.faults.WireReason.TheVariants.{BadSimple, TooDeep}
-use Rattle.cborn_wire.specs.Slots.{major_of, Slot, Begun, slot, open_depth}
+use Rattle.cborn_wire.specs.Slots.{major_of, Slot, OpenContainer, slot, open_depth}
 use Rattle.cborn_wire.specs.SlotFaults.{needs_item, begins_low}
-use Rattle.cborn_wire.specs.shared.InitialBytes.{Info, Now, Next, Reserved, Unended, info_at, is_bad_chunk, head_reason, front_reason, is_reserved, is_unended, is_always_bounded, is_break, is_other, is_float, is_one, is_container, info_for}
+use Rattle.cborn_wire.specs.shared.InitialBytes.{Info, Now, Next, Reserved, EndlessInformation, info_at, is_bad_chunk, head_reason, front_reason, is_reserved, is_endless_head, is_always_bounded, is_break, is_other, is_float, is_one, is_container, info_for}
 use Rattle.cborn_wire.specs.HeadReading.{major_at}
 use Rattle.cborn_wire.specs.shared.Machine.{start, width_bytes, number, argument_of, content_of, nothing, gathering, State, Live, Failed, gather, begin_head, after_head, at_slot, unless, step, run, front}
 use Rattle.cborn_wire.proofs.Machine.SoundItems.{SoundLive, Sound}
@@ -37,7 +37,7 @@ abbrev pub InfoIs : ℕ → Info → Type 0
 InfoIs i (Now n) = (i ≡ n) × (n < 24)
 InfoIs i (Next w) = (i ≡ information w 0) × IsWide w
 InfoIs i Reserved = Unit {0}
-InfoIs i Unended = i ≡ 31
+InfoIs i EndlessInformation = i ≡ 31
 
 chosen : (P : Info → Type 0) (b : Bool) (x y : Info) → (b ≡ true → P x) → (b ≡ false → P y) → P (cond b x y)
 chosen P true x y f g = f refl
@@ -50,7 +50,7 @@ info_is i =
     chosen (InfoIs i) (eqb i 25) (Next Two) _ (λ e. (eqb-true i 25 e, tt)) (λ _.
     chosen (InfoIs i) (eqb i 26) (Next Four) _ (λ e. (eqb-true i 26 e, tt)) (λ _.
     chosen (InfoIs i) (eqb i 27) (Next Eight) _ (λ e. (eqb-true i 27 e, tt)) (λ _.
-    chosen (InfoIs i) (eqb i 31) Unended Reserved (λ e. eqb-true i 31 e) (λ _. tt))))))
+    chosen (InfoIs i) (eqb i 31) EndlessInformation Reserved (λ e. eqb-true i 31 e) (λ _. tt))))))
 
 small : (x : List ℕ) → AreBytes x → (i : ℕ) → get_or x i 0 < 256
 small [] h i = omega arith
@@ -108,11 +108,11 @@ reason_last full one Tag y r e = e
 reason_last full true Other y r e = cc
 reason_last full false Other y r e = e
 
--- a reason that the initial byte gives stands, whatever follows
+-- a reason that the initial byte gives stays, whatever follows
 pub reason_stays : (s : Slot) (full : Bool) (m : Major) (i : Info) (y : List ℕ) (r : WireReason) → head_reason s full m i [] ≡ Some r → head_reason s full m i y ≡ Some r
 reason_stays s full m i y r e =
     pass (is_reserved i) _ _ _ r e (λ e.
-    pass (is_unended i && is_always_bounded m) _ _ _ r e (λ e.
+    pass (is_endless_head i && is_always_bounded m) _ _ _ r e (λ e.
     pass (is_bad_chunk s m i) _ _ _ r e (λ e.
     pass (is_break m i && needs_item s) _ _ _ r e (λ e.
     pass (is_other m && is_float i) _ _ _ r e (λ e.
@@ -125,7 +125,7 @@ front_reason_stays limit s k (c ∷ []) z r e = reason_stays s (leb limit k) (ma
 
 module _ (limit base : ℕ) where
   -- some bytes of an argument came
-  sound_argument : (m : Major) (w : Width) (ready : Trees) (os : List Begun) (n : ℕ) (got : List ℕ) (fed p : ℕ) (x : List ℕ)
+  sound_argument : (m : Major) (w : Width) (ready : Trees) (os : List OpenContainer) (n : ℕ) (got : List ℕ) (fed p : ℕ) (x : List ℕ)
       → Ground limit base ready os → head_reason (slot os) (leb limit (open_depth os)) m (Next w) [] ≡ None → AreBytes got → IsWide w
       → n ≡ width_bytes w → length got ≤ n → p ≡ base + length (front ready os)
       → x ≡ front ready os ++ ((32 * code m + information w 0) ∷ got) → fed ≡ base + length x
@@ -141,9 +141,9 @@ module _ (limit base : ℕ) where
           sound_head limit base m (Given w k) ready os fed p x g (subst (Clear (slot os) (leb limit (open_depth os)) m) (sym (wide_info w k broad)) clear) same.1 placed
           (is ∙ ap (λ i. front ready os ++ ((32 * code m + i) ∷ got)) (sym (wide_information w k broad))
           ∙ ap (λ l. front ready os ++ ((32 * code m + information w k) ∷ l)) (sym same.0)) at
-      go false e = record { ground = g; bytes = is; fed_is = at; part_fits = (placed, all, leb-false n (length got) e, none, bytes) }
+      go false e = record { ground = g; bytes = is; fed_is = at; partial_fits = (placed, all, leb-false n (length got) e, none, bytes) }
 
-  sound_begin : (i : Info) (m : Major) (ready : Trees) (os : List Begun) (fed b : ℕ) (x : List ℕ)
+  sound_begin : (i : Info) (m : Major) (ready : Trees) (os : List OpenContainer) (fed b : ℕ) (x : List ℕ)
       → SoundLive limit base x fed ready os nothing → head_reason (slot os) (leb limit (open_depth os)) m i [] ≡ None
       → b ≡ 32 * code m + b % 32 → InfoIs (b % 32) i
       → Sound limit base (x ++ b ∷ []) (begin_head fed ready os m i)
@@ -165,9 +165,9 @@ module _ (limit base : ℕ) where
       go (Now n) none is = sound_head limit base m (Given Direct n) ready os (suc fed) fed (x ++ b ∷ []) h.ground (is_clear (slot os) (leb limit (open_depth os)) m (Now n) [] none) is.1 placed (read n is.0) at
       go (Next w) none is = sound_argument m w ready os (width_bytes w) [] (suc fed) fed (x ++ b ∷ []) h.ground none tt is.1 refl (omega arith) placed (read (information w 0) is.0) at
       go Reserved none is = let e : true ≡ false = (is_clear (slot os) (leb limit (open_depth os)) m Reserved [] none).reserved in cc
-      go Unended none is = sound_head limit base m Unbounded ready os (suc fed) fed (x ++ b ∷ []) h.ground (is_clear (slot os) (leb limit (open_depth os)) m Unended [] none) tt placed (read 31 is) at
+      go EndlessInformation none is = sound_head limit base m EndlessArgument ready os (suc fed) fed (x ++ b ∷ []) h.ground (is_clear (slot os) (leb limit (open_depth os)) m EndlessInformation [] none) tt placed (read 31 is) at
 
-  sound_slot : (ready : Trees) (os : List Begun) (fed b : ℕ) (x : List ℕ) → b < 256 → SoundLive limit base x fed ready os nothing
+  sound_slot : (ready : Trees) (os : List OpenContainer) (fed b : ℕ) (x : List ℕ) → b < 256 → SoundLive limit base x fed ready os nothing
       → Sound limit base (x ++ b ∷ []) (at_slot limit fed ready os (major_at (b / 32)) (info_at (b % 32)))
   sound_slot ready os fed b x byte h = go (head_reason (slot os) (leb limit (open_depth os)) (major_at (b / 32)) (info_at (b % 32)) []) refl
     where
@@ -187,12 +187,12 @@ module _ (limit base : ℕ) where
   }
   sound_step (Live fed ready os nothing) b x byte h = sound_slot ready os fed b x byte h
   sound_step (Live fed ready os (gathering p (argument_of m w) n got)) b x byte h =
-      sound_argument m w ready os n (got ++ b ∷ []) (suc fed) p (x ++ b ∷ []) h.ground h.part_fits.3 (bytes-append got (b ∷ []) h.part_fits.4 (byte, tt))
-      (wide w (omega (arith, h.part_fits.1, h.part_fits.2))) h.part_fits.1 (omega (arith, h.part_fits.2, length_push got b)) h.part_fits.0
+      sound_argument m w ready os n (got ++ b ∷ []) (suc fed) p (x ++ b ∷ []) h.ground h.partial_fits.3 (bytes-append got (b ∷ []) h.partial_fits.4 (byte, tt))
+      (wide w (omega (arith, h.partial_fits.1, h.partial_fits.2))) h.partial_fits.1 (omega (arith, h.partial_fits.2, length_push got b)) h.partial_fits.0
       (ap (λ l. l ++ b ∷ []) h.bytes ∙ append_assoc (front ready os) _ (b ∷ [])) (omega (arith, h.fed_is, length_push x b))
   sound_step (Live fed ready os (gathering p (content_of k w) n got)) b x byte h =
-      sound_content limit base k ready os w n (got ++ b ∷ []) (suc fed) p (x ++ b ∷ []) h.ground h.part_fits.3 h.part_fits.1 h.part_fits.0
-      (omega (arith, h.part_fits.2, length_push got b)) (bytes-append got (b ∷ []) h.part_fits.4 (byte, tt))
+      sound_content limit base k ready os w n (got ++ b ∷ []) (suc fed) p (x ++ b ∷ []) h.ground h.partial_fits.3 h.partial_fits.1 h.partial_fits.0
+      (omega (arith, h.partial_fits.2, length_push got b)) (bytes-append got (b ∷ []) h.partial_fits.4 (byte, tt))
       (ap (λ l. l ++ b ∷ []) h.bytes ∙ append_assoc (front ready os) _ (b ∷ []) ∙ ap (λ l. front ready os ++ l) (append_assoc (head (major_of k) (Given w n)) got (b ∷ [])))
       (omega (arith, h.fed_is, length_push x b))
 
@@ -201,7 +201,7 @@ module _ (limit base : ℕ) where
   sound_run (b ∷ y) s x h k = subst (λ l. Sound limit base l (run limit (step limit s b) y)) (append_assoc x (b ∷ []) y) (sound_run y (step limit s b) (x ++ b ∷ []) h.1 (sound_step s b x h.0 k))
 
   pub sound_start : Sound limit base [] (start base)
-  sound_start = record { ground = record { fit = tt; shallow = omega arith; placed = tt; begun = tt; open_placed = tt }; bytes = refl; fed_is = omega arith; part_fits = tt }
+  sound_start = record { ground = record { fit = tt; shallow = omega arith; placed = tt; are_open = tt; open_placed = tt }; bytes = refl; fed_is = omega arith; partial_fits = tt }
 
   pub sound : (x : List ℕ) → AreBytes x → Sound limit base x (run limit (start base) x)
   sound x h = sound_run x (start base) [] h sound_start

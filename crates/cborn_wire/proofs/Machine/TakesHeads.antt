@@ -5,12 +5,12 @@ use Rattle.std.proofs.lemmas.Nat.{from_be_bytes-to_be_bytes_2, from_be_bytes-to_
 use Rattle.cborn_model.specs.declared.heads.Width.{Width}
 use Rattle.cborn_model.specs.declared.heads.Width.TheVariants.{Direct, One, Two, Four, Eight}
 use Rattle.cborn_model.specs.declared.heads.Major.{Major}
-use Rattle.cborn_model.specs.Heads.{Argument, Given, Unbounded, code, following, head}
+use Rattle.cborn_model.specs.Heads.{Argument, Given, EndlessArgument, code, following, head}
 use Rattle.cborn_model.specs.Tree.{Trees}
 pub use Rattle.cborn_model.proofs.Numbers.Majors.{major_at-code}
 use Rattle.cborn_wire.specs.HeadReading.{major_at, ArgumentFits}
-use Rattle.cborn_wire.specs.Slots.{Begun, slot, open_depth}
-use Rattle.cborn_wire.specs.shared.InitialBytes.{Info, Now, Next, Unended, info_at, info_for, head_reason}
+use Rattle.cborn_wire.specs.Slots.{OpenContainer, slot, open_depth}
+use Rattle.cborn_wire.specs.shared.InitialBytes.{Info, Now, Next, EndlessInformation, info_at, info_for, head_reason}
 use Rattle.cborn_wire.specs.shared.Machine.{width_bytes, number, Goal, argument_of, nothing, gathering, Live, gather, gathered, begin_head, after_head, at_slot, unless, step, run}
 
 pub quotient : (c i : ℕ) → i < 32 → (32 * c + i) / 32 ≡ c
@@ -19,7 +19,7 @@ quotient c i h = omega arith
 pub remainder : (c i : ℕ) → i < 32 → (32 * c + i) % 32 ≡ i
 remainder c i h = omega arith
 
-pub gathers : (limit : ℕ) (y : List ℕ) (fed p : ℕ) (ready : Trees) (os : List Begun) (g : Goal) (n : ℕ) (got x : List ℕ) → length got + length y ≤ n
+pub gathers : (limit : ℕ) (y : List ℕ) (fed p : ℕ) (ready : Trees) (os : List OpenContainer) (g : Goal) (n : ℕ) (got x : List ℕ) → length got + length y ≤ n
     → run limit (gather fed p ready os g n got) (y ++ x) ≡ run limit (gather (fed + length y) p ready os g n (got ++ y)) x
 gathers limit [] fed p ready os g n got x h = rw (append-nil, add-zero) refl
 gathers limit (b ∷ y) fed p ready os g n got x h =
@@ -29,8 +29,8 @@ gathers limit (b ∷ y) fed p ready os g n got x h =
     ap (λ k. run limit (gather k p ready os g n ((got ++ b ∷ []) ++ y)) x) count
     ∙ ap (λ l. run limit (gather (fed + suc (length y)) p ready os g n l) x) (append_assoc got (b ∷ []) y))
 
--- what an initial byte does at a slot that it suits
-pub first : (limit fed : ℕ) (ready : Trees) (os : List Begun) (m : Major) (i : ℕ) (info : Info) → i < 32 → info_at i ≡ info
+-- what an initial byte does in a slot where it is allowed
+pub first : (limit fed : ℕ) (ready : Trees) (os : List OpenContainer) (m : Major) (i : ℕ) (info : Info) → i < 32 → info_at i ≡ info
     → head_reason (slot os) (leb limit (open_depth os)) m info [] ≡ None
     → step limit (Live fed ready os nothing) (32 * code m + i) ≡ begin_head fed ready os m info
 first limit fed ready os m i info h e r =
@@ -44,7 +44,7 @@ pub info_at-now : (n : ℕ) → n < 24 → info_at n ≡ Now n
 info_at-now n h = rw (lt-ltb n 24 h) refl
 
 -- a head whose argument follows the initial byte
-wide : (limit fed : ℕ) (ready : Trees) (os : List Begun) (m : Major) (w : Width) (i n : ℕ) (y x : List ℕ) → i < 32 → info_at i ≡ Next w
+wide : (limit fed : ℕ) (ready : Trees) (os : List OpenContainer) (m : Major) (w : Width) (i n : ℕ) (y x : List ℕ) → i < 32 → info_at i ≡ Next w
     → head_reason (slot os) (leb limit (open_depth os)) m (Next w) [] ≡ None
     → length y ≡ width_bytes w → number w y ≡ n
     → run limit (Live fed ready os nothing) ((32 * code m + i) ∷ (y ++ x)) ≡ run limit (after_head (fed + suc (length y)) fed ready os m (Given w n)) x
@@ -57,7 +57,7 @@ wide limit fed ready os m w i n y x h e r l is =
     ap (λ k. run limit (after_head k fed ready os m (Given w n)) x) count)
 
 -- The machine takes a head where it is allowed.
-pub takes_head : (limit fed : ℕ) (ready : Trees) (os : List Begun) (m : Major) (a : Argument) (x : List ℕ) → ArgumentFits a
+pub takes_head : (limit fed : ℕ) (ready : Trees) (os : List OpenContainer) (m : Major) (a : Argument) (x : List ℕ) → ArgumentFits a
     → head_reason (slot os) (leb limit (open_depth os)) m (info_for a) [] ≡ None
     → run limit (Live fed ready os nothing) (head m a ++ x) ≡ run limit (after_head (fed + length (head m a)) fed ready os m a) x
 takes_head limit fed ready os m (Given Direct n) x h r =
@@ -67,6 +67,6 @@ takes_head limit fed ready os m (Given One n) x h r = wide limit fed ready os m 
 takes_head limit fed ready os m (Given Two n) x h r = wide limit fed ready os m Two 25 n (following Two n) x (omega arith) refl r refl (from_be_bytes-to_be_bytes_2 n h)
 takes_head limit fed ready os m (Given Four n) x h r = wide limit fed ready os m Four 26 n (following Four n) x (omega arith) refl r refl (from_be_bytes-to_be_bytes_4 n h)
 takes_head limit fed ready os m (Given Eight n) x h r = wide limit fed ready os m Eight 27 n (following Eight n) x (omega arith) refl r refl (from_be_bytes-to_be_bytes_8 n h)
-takes_head limit fed ready os m Unbounded x h r =
-    ap (λ s. run limit s x) (first limit fed ready os m 31 Unended (omega arith) refl r)
-    ∙ ap (λ k. run limit (after_head k fed ready os m Unbounded) x) (sym (add-one fed))
+takes_head limit fed ready os m EndlessArgument x h r =
+    ap (λ s. run limit s x) (first limit fed ready os m 31 EndlessInformation (omega arith) refl r)
+    ∙ ap (λ k. run limit (after_head k fed ready os m EndlessArgument) x) (sym (add-one fed))

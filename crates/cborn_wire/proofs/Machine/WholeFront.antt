@@ -5,16 +5,16 @@ use Rattle.cborn_model.specs.declared.heads.Width.TheVariants.{Direct, One, Two,
 use Rattle.cborn_model.specs.declared.heads.Size.TheVariants.{Endless}
 use Rattle.cborn_model.specs.declared.heads.Major.{Major}
 use Rattle.cborn_model.specs.declared.heads.Major.TheVariants.{Unsigned, Negative, ByteString, TextString, Array, Map, Tag, Other}
-use Rattle.cborn_model.specs.Heads.{Argument, Given, Unbounded}
+use Rattle.cborn_model.specs.Heads.{Argument, Given, EndlessArgument}
 use Rattle.cborn_model.specs.Tree.{Tree, Items, Pairs, Tagged, Trees, no_item, more, count, count_entries}
 use Rattle.cborn_wire.specs.declared.faults.WireReason.{WireReason}
-use Rattle.cborn_wire.specs.Slots.{StringKind, OfBytes, OfText, Begun, begun_items, begun_pairs, begun_value, begun_tag, begun_chunks}
-use Rattle.cborn_wire.specs.shared.InitialBytes.{Info, Now, Next, Reserved, Unended, info_at}
+use Rattle.cborn_wire.specs.Slots.{StringKind, OfBytes, OfText, OpenContainer, opened_items, opened_pairs, opened_value, opened_tag, opened_chunks}
+use Rattle.cborn_wire.specs.shared.InitialBytes.{Info, Now, Next, Reserved, EndlessInformation, info_at}
 use Rattle.cborn_wire.specs.HeadReading.{major_at}
 use Rattle.cborn_wire.specs.shared.Machine.{append_trees, snoc, snoc_entry, width_bytes, number, Goal, argument_of, content_of, nothing, gathering, State, Live, Failed, is_full, items_tree, pairs_tree, string_tree, chunks_tree, finished, string_done, ended, gather, begin_head, after_head, unless, step, run}
 
 abbrev pub with_front : Trees → State → State
-with_front front (Live fed ready os part) = Live fed (append_trees front ready) os part
+with_front front (Live fed ready os partial) = Live fed (append_trees front ready) os partial
 with_front front (Failed ready p r) = Failed (append_trees front ready) p r
 
 snoc-append : (front ts : Trees) (t : Tree) → snoc (append_trees front ts) t ≡ append_trees front (snoc ts t)
@@ -26,36 +26,36 @@ either front true a b a' b' e h = e
 either front false a b a' b' e h = h
 
 module _ (front : Trees) where
-  pub front_finished : (os : List Begun) (fed : ℕ) (ready : Trees) (t : Tree) → finished fed (append_trees front ready) os t ≡ with_front front (finished fed ready os t)
+  pub front_finished : (os : List OpenContainer) (fed : ℕ) (ready : Trees) (t : Tree) → finished fed (append_trees front ready) os t ≡ with_front front (finished fed ready os t)
   front_finished [] fed ready t = ap (λ l. Live fed l [] nothing) (snoc-append front ready t)
-  front_finished (begun_items p a ts ∷ os) fed ready t = either front (is_full a (count (snoc ts t))) _ _ _ _ (front_finished os fed ready (items_tree p a (snoc ts t))) refl
-  front_finished (begun_pairs p a es ∷ os) fed ready t = refl
-  front_finished (begun_value p a es k ∷ os) fed ready t = either front (is_full a (count_entries (snoc_entry es k t))) _ _ _ _ (front_finished os fed ready (pairs_tree p a (snoc_entry es k t))) refl
-  front_finished (begun_tag p w n ∷ os) fed ready t = front_finished os fed ready (Tagged p w n t)
-  front_finished (begun_chunks p k cs ∷ os) fed ready t = refl
+  front_finished (opened_items p a ts ∷ os) fed ready t = either front (is_full a (count (snoc ts t))) _ _ _ _ (front_finished os fed ready (items_tree p a (snoc ts t))) refl
+  front_finished (opened_pairs p a es ∷ os) fed ready t = refl
+  front_finished (opened_value p a es k ∷ os) fed ready t = either front (is_full a (count_entries (snoc_entry es k t))) _ _ _ _ (front_finished os fed ready (pairs_tree p a (snoc_entry es k t))) refl
+  front_finished (opened_tag p w n ∷ os) fed ready t = front_finished os fed ready (Tagged p w n t)
+  front_finished (opened_chunks p k cs ∷ os) fed ready t = refl
 
-  front_string : (os : List Begun) (fed p : ℕ) (ready : Trees) (k : StringKind) (w : Width) (bytes : List ℕ) → string_done fed p (append_trees front ready) os k w bytes ≡ with_front front (string_done fed p ready os k w bytes)
+  front_string : (os : List OpenContainer) (fed p : ℕ) (ready : Trees) (k : StringKind) (w : Width) (bytes : List ℕ) → string_done fed p (append_trees front ready) os k w bytes ≡ with_front front (string_done fed p ready os k w bytes)
   front_string [] fed p ready k w bytes = front_finished [] fed ready (string_tree p k w bytes)
-  front_string (begun_items q a ts ∷ os) fed p ready k w bytes = front_finished (begun_items q a ts ∷ os) fed ready (string_tree p k w bytes)
-  front_string (begun_pairs q a es ∷ os) fed p ready k w bytes = refl
-  front_string (begun_value q a es t ∷ os) fed p ready k w bytes = front_finished (begun_value q a es t ∷ os) fed ready (string_tree p k w bytes)
-  front_string (begun_tag q v n ∷ os) fed p ready k w bytes = front_finished (begun_tag q v n ∷ os) fed ready (string_tree p k w bytes)
-  front_string (begun_chunks q l cs ∷ os) fed p ready k w bytes = refl
+  front_string (opened_items q a ts ∷ os) fed p ready k w bytes = front_finished (opened_items q a ts ∷ os) fed ready (string_tree p k w bytes)
+  front_string (opened_pairs q a es ∷ os) fed p ready k w bytes = refl
+  front_string (opened_value q a es t ∷ os) fed p ready k w bytes = front_finished (opened_value q a es t ∷ os) fed ready (string_tree p k w bytes)
+  front_string (opened_tag q v n ∷ os) fed p ready k w bytes = front_finished (opened_tag q v n ∷ os) fed ready (string_tree p k w bytes)
+  front_string (opened_chunks q l cs ∷ os) fed p ready k w bytes = refl
 
-  front_ended : (os : List Begun) (fed : ℕ) (ready : Trees) → ended fed (append_trees front ready) os ≡ with_front front (ended fed ready os)
+  front_ended : (os : List OpenContainer) (fed : ℕ) (ready : Trees) → ended fed (append_trees front ready) os ≡ with_front front (ended fed ready os)
   front_ended [] fed ready = refl
-  front_ended (begun_items p (Given w n) ts ∷ os) fed ready = refl
-  front_ended (begun_items p Unbounded ts ∷ os) fed ready = front_finished os fed ready (Items p Endless ts)
-  front_ended (begun_pairs p (Given w n) es ∷ os) fed ready = refl
-  front_ended (begun_pairs p Unbounded es ∷ os) fed ready = front_finished os fed ready (Pairs p Endless es)
-  front_ended (begun_value p a es t ∷ os) fed ready = refl
-  front_ended (begun_tag p w n ∷ os) fed ready = refl
-  front_ended (begun_chunks p k cs ∷ os) fed ready = front_finished os fed ready (chunks_tree p k cs)
+  front_ended (opened_items p (Given w n) ts ∷ os) fed ready = refl
+  front_ended (opened_items p EndlessArgument ts ∷ os) fed ready = front_finished os fed ready (Items p Endless ts)
+  front_ended (opened_pairs p (Given w n) es ∷ os) fed ready = refl
+  front_ended (opened_pairs p EndlessArgument es ∷ os) fed ready = front_finished os fed ready (Pairs p Endless es)
+  front_ended (opened_value p a es t ∷ os) fed ready = refl
+  front_ended (opened_tag p w n ∷ os) fed ready = refl
+  front_ended (opened_chunks p k cs ∷ os) fed ready = front_finished os fed ready (chunks_tree p k cs)
 
-  front_content : (os : List Begun) (fed p : ℕ) (ready : Trees) (k : StringKind) (w : Width) (n : ℕ) (got : List ℕ) → gather fed p (append_trees front ready) os (content_of k w) n got ≡ with_front front (gather fed p ready os (content_of k w) n got)
+  front_content : (os : List OpenContainer) (fed p : ℕ) (ready : Trees) (k : StringKind) (w : Width) (n : ℕ) (got : List ℕ) → gather fed p (append_trees front ready) os (content_of k w) n got ≡ with_front front (gather fed p ready os (content_of k w) n got)
   front_content os fed p ready k w n got = either front (leb n (length got)) _ _ _ _ (front_string os fed p ready k w got) refl
 
-  front_head : (m : Major) (a : Argument) (os : List Begun) (fed p : ℕ) (ready : Trees) → after_head fed p (append_trees front ready) os m a ≡ with_front front (after_head fed p ready os m a)
+  front_head : (m : Major) (a : Argument) (os : List OpenContainer) (fed p : ℕ) (ready : Trees) → after_head fed p (append_trees front ready) os m a ≡ with_front front (after_head fed p ready os m a)
   front_head Unsigned (Given w n) os fed p ready = front_finished os fed ready _
   front_head Negative (Given w n) os fed p ready = front_finished os fed ready _
   front_head ByteString (Given w n) os fed p ready = front_content os fed p ready OfBytes w n []
@@ -68,21 +68,21 @@ module _ (front : Trees) where
   front_head Other (Given Two n) os fed p ready = refl
   front_head Other (Given Four n) os fed p ready = refl
   front_head Other (Given Eight n) os fed p ready = refl
-  front_head Other Unbounded os fed p ready = front_ended os fed ready
-  front_head Unsigned Unbounded os fed p ready = refl
-  front_head Negative Unbounded os fed p ready = refl
-  front_head ByteString Unbounded os fed p ready = refl
-  front_head TextString Unbounded os fed p ready = refl
-  front_head Tag Unbounded os fed p ready = refl
+  front_head Other EndlessArgument os fed p ready = front_ended os fed ready
+  front_head Unsigned EndlessArgument os fed p ready = refl
+  front_head Negative EndlessArgument os fed p ready = refl
+  front_head ByteString EndlessArgument os fed p ready = refl
+  front_head TextString EndlessArgument os fed p ready = refl
+  front_head Tag EndlessArgument os fed p ready = refl
 
-  front_gather : (g : Goal) (os : List Begun) (fed p : ℕ) (ready : Trees) (n : ℕ) (got : List ℕ) → gather fed p (append_trees front ready) os g n got ≡ with_front front (gather fed p ready os g n got)
+  front_gather : (g : Goal) (os : List OpenContainer) (fed p : ℕ) (ready : Trees) (n : ℕ) (got : List ℕ) → gather fed p (append_trees front ready) os g n got ≡ with_front front (gather fed p ready os g n got)
   front_gather (argument_of m w) os fed p ready n got = either front (leb n (length got)) _ _ _ _ (front_head m (Given w (number w got)) os fed p ready) refl
   front_gather (content_of k w) os fed p ready n got = front_content os fed p ready k w n got
 
-  front_begin : (i : Info) (m : Major) (os : List Begun) (fed : ℕ) (ready : Trees) → begin_head fed (append_trees front ready) os m i ≡ with_front front (begin_head fed ready os m i)
+  front_begin : (i : Info) (m : Major) (os : List OpenContainer) (fed : ℕ) (ready : Trees) → begin_head fed (append_trees front ready) os m i ≡ with_front front (begin_head fed ready os m i)
   front_begin (Now n) m os fed ready = front_head m (Given Direct n) os (suc fed) fed ready
   front_begin (Next w) m os fed ready = front_gather (argument_of m w) os (suc fed) fed ready (width_bytes w) []
-  front_begin Unended m os fed ready = front_head m Unbounded os (suc fed) fed ready
+  front_begin EndlessInformation m os fed ready = front_head m EndlessArgument os (suc fed) fed ready
   front_begin Reserved m os fed ready = refl
 
   front_unless : (o : Option WireReason) (ready : Trees) (p : ℕ) (s s' : State) → s ≡ with_front front s' → unless o (append_trees front ready) p s ≡ with_front front (unless o ready p s')

@@ -3,7 +3,7 @@ use Rattle.std.proofs.Common.{◌≡◌, ℕ, ◌+◌, ◌-◌, ◌≤◌, List,
 use Rattle.cborn_model.specs.declared.heads.Major.{Major}
 use Rattle.cborn_model.specs.declared.heads.Size.TheVariants.{Fixed, Endless}
 use Rattle.cborn_model.specs.declared.heads.Width.{Width}
-use Rattle.cborn_model.specs.Heads.{Given, Unbounded, head}
+use Rattle.cborn_model.specs.Heads.{Given, EndlessArgument, head}
 use Rattle.cborn_model.specs.Spelled.{ending}
 use Rattle.cborn_wire.specs.declared.heads.Argument.{Argument}
 use Rattle.cborn_wire.specs.declared.heads.Head.{Head}
@@ -15,7 +15,7 @@ head_split x h n i =
     let front : List ℕ = head (major_at h.major) (seen_argument h.argument) in
     i.whole ∙ ap (λ l. front ++ l) (sym (ap (drop n) i.whole ∙ drop_at front i.rest n (sym i.len)))
 
--- the same, where its major type and its argument are known
+-- a head whose major type and argument are known
 pub head_read : {x tail : List ℕ} {h : Head} {n : ℕ} {m : Major} {a : Argument} → tail ≡ drop n x → IsHeadOf x h n → major_at h.major ≡ m → h.argument ≡ a → x ≡ head m (seen_argument a) ++ tail
 head_read {x} {tail} {h} {n} {m} {a} t i e f = head_split x h n i ∙ (λ j. head (e j) (seen_argument (f j)) ++ sym t j)
 
@@ -40,13 +40,13 @@ fixed_split m w body rest {count = count} c e =
     let front : List ℕ = head m (Given w count) in
     (λ i. head m (Given w (sym c i)) ++ e i) ∙ sym (append_assoc front body rest) ∙ ap (λ z. z ++ rest) (sym (append-nil (front ++ body)))
 
-pub endless_split : (m : Major) (body : List ℕ) {input after rest : List ℕ} → input ≡ body ++ after → after ≡ 255 ∷ rest → head m Unbounded ++ input ≡ ((head m Unbounded ++ body) ++ ending Endless) ++ rest
+pub endless_split : (m : Major) (body : List ℕ) {input after rest : List ℕ} → input ≡ body ++ after → after ≡ 255 ∷ rest → head m EndlessArgument ++ input ≡ ((head m EndlessArgument ++ body) ++ ending Endless) ++ rest
 endless_split m body {rest = rest} e f =
-    let front : List ℕ = head m Unbounded in
+    let front : List ℕ = head m EndlessArgument in
     ap (λ z. front ++ z) (e ∙ ap (λ z. body ++ z) f) ∙ sym (append_assoc front body (255 ∷ rest)) ∙ sym (append_assoc (front ++ body) (ending Endless) rest)
 
 -- ---- places
 
 -- the place of what follows
-pub behind : (total : ℕ) (input front rest : List ℕ) → length input ≤ total → input ≡ front ++ rest → total - length rest ≡ (total - length input) + length front
-behind total input front rest l e = omega (arith, l, ap length e ∙ length-append front rest)
+pub place_after : (total : ℕ) (input front rest : List ℕ) → length input ≤ total → input ≡ front ++ rest → total - length rest ≡ (total - length input) + length front
+place_after total input front rest l e = omega (arith, l, ap length e ∙ length-append front rest)

@@ -3,7 +3,7 @@ use Rattle.std.proofs.Common.{◌≡◌, ℕ, ◌+◌, ◌-◌, ◌≤◌, List,
 use Rattle.cborn_model.specs.declared.heads.Width.{Width}
 use Rattle.cborn_model.specs.declared.heads.Size.TheVariants.{Fixed, Endless}
 use Rattle.cborn_model.specs.declared.heads.Major.TheVariants.{Unsigned, Negative, Array, Tag, Other}
-use Rattle.cborn_model.specs.Heads.{Given, Unbounded, head, WidthFits}
+use Rattle.cborn_model.specs.Heads.{Given, EndlessArgument, head, WidthFits}
 use Rattle.cborn_model.specs.Spelled.{spelled, spelled_all, FitsAll, Wellformed}
 use Rattle.cborn_model.specs.Tree.{Tree, Uint, Nint, Items, Tagged, Simple, trees, depth_all, count}
 use Rattle.cborn_model.proofs.Listed.Trees.{count-trees}
@@ -107,7 +107,7 @@ module _ {P : List Tree → Type 0} {Q : Tree → Type 0} {room n : ℕ} (place 
       let c : count (trees s.nodes) ≡ n = count-trees s.nodes ∙ s.count in
       record { node = Items place (Fixed w) (trees s.nodes); read = fixed_split Array w (spelled_all (trees s.nodes)) rest c s.read; fits = (subst (WidthFits w) (sym c) h, s.fits); shallow = omega (arith, r, s.shallow); holds = q }
 
-  pub endless_array_read : {input after rest : List ℕ} → 1 ≤ room → after ≡ 255 ∷ rest → (s : NodesRead P (room - 1) n input after) → Q (Items place Endless (trees s.nodes)) → NodeRead Q room (head Array Unbounded ++ input) rest
+  pub endless_array_read : {input after rest : List ℕ} → 1 ≤ room → after ≡ 255 ∷ rest → (s : NodesRead P (room - 1) n input after) → Q (Items place Endless (trees s.nodes)) → NodeRead Q room (head Array EndlessArgument ++ input) rest
   endless_array_read r e s q = record { node = Items place Endless (trees s.nodes); read = endless_split Array (spelled_all (trees s.nodes)) s.read e; fits = (tt, s.fits); shallow = omega (arith, r, s.shallow); holds = q }
 
 pub tagged_read : {P Q : Tree → Type 0} {room : ℕ} {input rest : List ℕ} (place : ℕ) (w : Width) (n : ℕ) → 1 ≤ room → WidthFits w n → (x : NodeRead P (room - 1) input rest) → Q (Tagged place w n x.node) → NodeRead Q room (head Tag (Given w n) ++ input) rest

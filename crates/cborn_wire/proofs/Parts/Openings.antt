@@ -6,7 +6,7 @@ use Rattle.cborn_model.specs.declared.heads.Major.TheVariants.{Unsigned, Negativ
 use Rattle.cborn_model.specs.declared.heads.Size.TheVariants.{Fixed, Endless}
 use Rattle.cborn_model.specs.declared.heads.Width.{Width}
 use Rattle.cborn_model.specs.declared.heads.Width.TheVariants.{Direct, One, Two, Four, Eight}
-use Rattle.cborn_model.specs.Heads.{Argument, Given, Unbounded, head, argument, code, major_at, information, least, WidthFits}
+use Rattle.cborn_model.specs.Heads.{Argument, Given, EndlessArgument, head, argument, code, major_at, information, least, WidthFits}
 use Rattle.cborn_model.specs.Spelled.{spelled, spelled_all, spelled_entries, Fits, chunk_bytes, ending}
 use Rattle.cborn_model.specs.Tree.{Tree, Uint, Nint, Bytes, Text, ByteChunks, TextChunks, Items, Pairs, Tagged, Simple, count, count_entries}
 use Rattle.cborn_model.proofs.Numbers.Majors.{major_at-code}
@@ -44,13 +44,13 @@ one_argument m k (Given w n) (Given v j) x y f g e =
     let info : information w n ≡ information v n = (let i : information v j ≡ information v n = ap (information v) (sym n_is) in omega (arith, low, codes, i)) in
     let widths : w ≡ v = same_width w v n f (subst (WidthFits v) (sym n_is) g) info in
     (same_major m k codes, (λ i. Given (widths i) (n_is i)), h.rest)
-one_argument m k (Given w n) Unbounded x y f g e =
+one_argument m k (Given w n) EndlessArgument x y f g e =
     let low : 32 * code m + information w n ≡ 32 * code k + 31 = first_byte _ _ _ _ e in
     absurd (omega (arith, low, low_information w n f))
-one_argument m k Unbounded (Given v j) x y f g e =
+one_argument m k EndlessArgument (Given v j) x y f g e =
     let low : 32 * code m + 31 ≡ 32 * code k + information v j = first_byte _ _ _ _ e in
     absurd (omega (arith, low, low_information v j g))
-one_argument m k Unbounded Unbounded x y f g e =
+one_argument m k EndlessArgument EndlessArgument x y f g e =
     let low : 32 * code m + 31 ≡ 32 * code k + 31 = first_byte _ _ _ _ e in
     (same_major m k (omega (arith, low)), refl, (append_same ((32 * code m + 31) ∷ []) ((32 * code k + 31) ∷ []) x y refl e).1)
 
@@ -61,8 +61,8 @@ opening (Uint q w n) = (Unsigned, Given w n)
 opening (Nint q w n) = (Negative, Given w n)
 opening (Bytes q w b) = (ByteString, Given w (length b))
 opening (Text q w b) = (TextString, Given w (length b))
-opening (ByteChunks q cs) = (ByteString, Unbounded)
-opening (TextChunks q cs) = (TextString, Unbounded)
+opening (ByteChunks q cs) = (ByteString, EndlessArgument)
+opening (TextChunks q cs) = (TextString, EndlessArgument)
 opening (Items q s ts) = (Array, argument s (count ts))
 opening (Pairs q s es) = (Map, argument s (count_entries es))
 opening (Tagged q w n t) = (Tag, Given w n)
@@ -85,8 +85,8 @@ opens (Uint q w n) = sym (append-nil (head Unsigned (Given w n)))
 opens (Nint q w n) = sym (append-nil (head Negative (Given w n)))
 opens (Bytes q w b) = refl
 opens (Text q w b) = refl
-opens (ByteChunks q cs) = append_assoc (head ByteString Unbounded) (flat_map (chunk_bytes ByteString) cs) (ending Endless)
-opens (TextChunks q cs) = append_assoc (head TextString Unbounded) (flat_map (chunk_bytes TextString) cs) (ending Endless)
+opens (ByteChunks q cs) = append_assoc (head ByteString EndlessArgument) (flat_map (chunk_bytes ByteString) cs) (ending Endless)
+opens (TextChunks q cs) = append_assoc (head TextString EndlessArgument) (flat_map (chunk_bytes TextString) cs) (ending Endless)
 opens (Items q s ts) = append_assoc (head Array (argument s (count ts))) (spelled_all ts) (ending s)
 opens (Pairs q s es) = append_assoc (head Map (argument s (count_entries es))) (spelled_entries es) (ending s)
 opens (Tagged q w n t) = refl

@@ -3,7 +3,7 @@ use Rattle.std.proofs.Common.{◌≡◌, ℕ, ◌+◌, ◌-◌, ◌≤◌, List,
 use Rattle.cborn_model.specs.declared.heads.Width.{Width}
 use Rattle.cborn_model.specs.declared.heads.Size.TheVariants.{Fixed, Endless}
 use Rattle.cborn_model.specs.declared.heads.Major.TheVariants.{Map}
-use Rattle.cborn_model.specs.Heads.{Given, Unbounded, head, WidthFits}
+use Rattle.cborn_model.specs.Heads.{Given, EndlessArgument, head, WidthFits}
 use Rattle.cborn_model.specs.Spelled.{spelled, spelled_entries, Fits, FitsEntries}
 use Rattle.cborn_model.specs.Tree.{Tree, Pairs, entries, depth, count_entries, depth_entries}
 use Rattle.cborn_model.proofs.Listed.Trees.{count_entries-entries}
@@ -48,7 +48,7 @@ pair_more {room = room} {rest = rest} x y q =
       count = length-append x.nodes (y.pair ∷ []) ∙ ap (λ i. i + 1) x.count;
     }
 
--- a key more, and its value
+-- one more key, and its value
 pub entry_more : {P Q : List Pair → Type 0} {K V : Tree → Type 0} {room n : ℕ} {input mid half rest : List ℕ} (x : PairsRead P room n input mid) (k : NodeRead K room mid half) (v : NodeRead V room half rest) → Q (x.nodes ++ (k.node, v.node) ∷ []) → PairsRead Q room (n + 1) input rest
 unfolding pair_read
 entry_more x k v q = pair_more x (pair_read {Q = λ _. Unit {0}} k v tt) q
@@ -67,5 +67,5 @@ module _ {P : List Pair → Type 0} {Q : Tree → Type 0} {room n : ℕ} (place 
       let c : count_entries (entries s.nodes) ≡ n = count_entries-entries s.nodes ∙ s.count in
       record { node = Pairs place (Fixed w) (entries s.nodes); read = fixed_split Map w (spelled_entries (entries s.nodes)) rest c s.read; fits = (subst (WidthFits w) (sym c) h, s.fits); shallow = omega (arith, r, s.shallow); holds = q }
 
-  pub endless_map_read : {input after rest : List ℕ} → 1 ≤ room → after ≡ 255 ∷ rest → (s : PairsRead P (room - 1) n input after) → Q (Pairs place Endless (entries s.nodes)) → NodeRead Q room (head Map Unbounded ++ input) rest
+  pub endless_map_read : {input after rest : List ℕ} → 1 ≤ room → after ≡ 255 ∷ rest → (s : PairsRead P (room - 1) n input after) → Q (Pairs place Endless (entries s.nodes)) → NodeRead Q room (head Map EndlessArgument ++ input) rest
   endless_map_read r e s q = record { node = Pairs place Endless (entries s.nodes); read = endless_split Map (spelled_entries (entries s.nodes)) s.read e; fits = (tt, s.fits); shallow = omega (arith, r, s.shallow); holds = q }

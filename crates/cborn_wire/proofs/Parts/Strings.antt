@@ -7,7 +7,7 @@ use Rattle.cborn_model.specs.declared.heads.Width.{Width}
 use Rattle.cborn_model.specs.declared.heads.Major.{Major}
 use Rattle.cborn_model.specs.declared.heads.Major.TheVariants.{ByteString, TextString}
 use Rattle.cborn_model.specs.declared.nodes.Chunk.{Chunk}
-use Rattle.cborn_model.specs.Heads.{Given, Unbounded, head, WidthFits}
+use Rattle.cborn_model.specs.Heads.{Given, EndlessArgument, head, WidthFits}
 use Rattle.cborn_model.specs.Spelled.{string, chunk_bytes}
 use Rattle.cborn_model.specs.Tree.{Tree, Bytes, Text, ByteChunks, TextChunks}
 use Rattle.cborn_model.proofs.Bytes.{bytes-left}
@@ -89,8 +89,8 @@ chunks_left {major = major} {rest = rest} x = omega (arith, ap length x.read ∙
 
 -- chunks between a head and a break
 module _ {P : List Chunk → Type 0} {Q : Tree → Type 0} {room : ℕ} {input after rest : List ℕ} (place : ℕ) where
-  pub byte_chunks_read : after ≡ 255 ∷ rest → (s : ChunksRead P ByteString input after) → Q (ByteChunks place s.chunks) → NodeRead Q room (head ByteString Unbounded ++ input) rest
+  pub byte_chunks_read : after ≡ 255 ∷ rest → (s : ChunksRead P ByteString input after) → Q (ByteChunks place s.chunks) → NodeRead Q room (head ByteString EndlessArgument ++ input) rest
   byte_chunks_read e s q = record { node = ByteChunks place s.chunks; read = endless_split ByteString (flat_map (chunk_bytes ByteString) s.chunks) s.read e; fits = s.fits; shallow = omega arith; holds = q }
 
-  pub text_chunks_read : after ≡ 255 ∷ rest → (s : ChunksRead P TextString input after) → Q (TextChunks place s.chunks) → NodeRead Q room (head TextString Unbounded ++ input) rest
+  pub text_chunks_read : after ≡ 255 ∷ rest → (s : ChunksRead P TextString input after) → Q (TextChunks place s.chunks) → NodeRead Q room (head TextString EndlessArgument ++ input) rest
   text_chunks_read e s q = record { node = TextChunks place s.chunks; read = endless_split TextString (flat_map (chunk_bytes TextString) s.chunks) s.read e; fits = s.fits; shallow = omega arith; holds = q }

@@ -13,18 +13,18 @@ turned-length : (ls xs : List Level) → length (turned ls xs) ≡ length xs + l
 turned-length ls [] = omega arith
 turned-length ls (x ∷ xs) = omega (arith, turned-length (x ∷ ls) xs)
 
--- how much is open
+-- how many containers are open
 pub open_count : (top : Option Level) (l : Level) (n : ℕ) (xs : List Level) → top ≡ Some l → n ≤ length xs → length (open_levels top (take n xs)) ≡ n + 1
 open_count top l n xs e h = rw e (omega (arith, turned-length [] (take n xs), length-take-le n xs h))
 
--- one more is opened
+-- one more container is opened
 pub opened_in : (top : Option Level) (l around : Level) (xs ys : List Level) → top ≡ Some around → ys ≡ xs ++ around ∷ [] → open_levels (Some l) ys ≡ l ∷ open_levels top xs
 opened_in top l around xs ys e h = rw e (ap (λ zs. l ∷ turned [] zs) h ∙ ap (λ zs. l ∷ zs) (turned-push [] xs around))
 
 pub bare : (top : Option Level) (xs : List Level) → top ≡ None → open_levels top xs ≡ []
 bare top xs e = rw e refl
 
--- the innermost is taken off
+-- the innermost is removed
 pub left_around : (top : Option Level) (d : Level) (n : ℕ) (xs : List Level) → true ≡ is_some top → (n ≡ 0 → ⊥) → n ≤ length xs
     → open_levels (Some (get_or xs (n - 1) d)) (take (n - 1) xs) ≡ leave (open_levels top (take n xs))
 left_around None d n xs e some h = cc

@@ -7,14 +7,14 @@ use Rattle.cborn_model.specs.declared.heads.Width.{Width}
 use Rattle.cborn_model.specs.declared.heads.Width.TheVariants.{Direct, One, Two, Four, Eight}
 use Rattle.cborn_model.specs.declared.heads.Major.{Major}
 use Rattle.cborn_model.specs.declared.heads.Major.TheVariants.{Unsigned, Other}
-use Rattle.cborn_model.specs.Heads.{Argument, Given, Unbounded, head}
+use Rattle.cborn_model.specs.Heads.{Argument, Given, EndlessArgument, head}
 use Rattle.cborn_model.specs.Tree.{Trees}
 use Rattle.cborn_wire.specs.declared.faults.WireReason.{WireReason}
 use Rattle.cborn_wire.specs.declared.faults.WireReason.TheVariants.{BadSimple}
 use Rattle.cborn_wire.specs.declared.heads.Argument.TheVariants as arguments
 use Rattle.cborn_wire.specs.declared.heads.Head.{Head}
 use Rattle.cborn_wire.specs.declared.levels.Level.{Level}
-use Rattle.cborn_wire.specs.Slots.{Begun, slot, element_or_end, open_depth, IsNoChunk, AreBegun}
+use Rattle.cborn_wire.specs.Slots.{OpenContainer, slot, element_or_end, open_depth, IsNoChunk, AreOpen}
 use Rattle.cborn_wire.specs.shared.InitialBytes.{Now, Next, info_at, head_reason, info_for}
 use Rattle.cborn_wire.specs.HeadReading.{major_at, seen_argument, reason_alone, IsHeadOf, IsFrontOfHead}
 use Rattle.cborn_wire.specs.shared.Machine.{width_bytes, argument_of, nothing, gathering, Live, gather, gathered, begin_head, after_head, unless, at_slot, run}
@@ -49,7 +49,7 @@ is_high Other (Given Direct n) b z rest e free = tt
 is_high Other (Given Two n) b z rest e free = tt
 is_high Other (Given Four n) b z rest e free = tt
 is_high Other (Given Eight n) b z rest e free = tt
-is_high Other Unbounded b z rest e free = tt
+is_high Other EndlessArgument b z rest e free = tt
 is_high Unsigned a b z rest e free = tt
 is_high Rattle.cborn_model.specs.declared.heads.Major.TheVariants.Negative a b z rest e free = tt
 is_high Rattle.cborn_model.specs.declared.heads.Major.TheVariants.ByteString a b z rest e free = tt
@@ -58,13 +58,13 @@ is_high Rattle.cborn_model.specs.declared.heads.Major.TheVariants.Array a b z re
 is_high Rattle.cborn_model.specs.declared.heads.Major.TheVariants.Map a b z rest e free = tt
 is_high Rattle.cborn_model.specs.declared.heads.Major.TheVariants.Tag a b z rest e free = tt
 
-module _ (limit at : ℕ) (ready : Trees) (os : List Begun) (ls : List Level) (begun : AreBegun limit os) (is : levels_of os ≡ ls) (piece : List ℕ) (some : 0 < length piece) where
+module _ (limit at : ℕ) (ready : Trees) (os : List OpenContainer) (ls : List Level) (are_open : AreOpen limit os) (is : levels_of os ≡ ls) (piece : List ℕ) (some : 0 < length piece) where
   abbrev full : Bool
   full = leb limit (open_depth os)
 
   same : reason_here limit ls piece ≡ head_reason (slot os) (leb limit (open_depth os)) (major_at (get_or piece 0 0 / 32)) (info_at (get_or piece 0 0 % 32)) []
   same = subst (λ l. reason_here limit l piece ≡ head_reason (slot os) (leb limit (open_depth os)) (major_at (get_or piece 0 0 / 32)) (info_at (get_or piece 0 0 % 32)) []) is
-      (reason_levels limit os (major_at (get_or piece 0 0 / 32)) (info_at (get_or piece 0 0 % 32)) begun)
+      (reason_levels limit os (major_at (get_or piece 0 0 / 32)) (info_at (get_or piece 0 0 % 32)) are_open)
 
   -- The initial byte is refused, and the second is.
   pub step_refused : (r : WireReason) → Some r ≡ reason_here limit ls piece → HasFailed at r (run limit (Live at ready os nothing) piece)
@@ -74,9 +74,9 @@ module _ (limit at : ℕ) (ready : Trees) (os : List Begun) (ls : List Level) (b
   step_bad r none e = (ready, second_refused limit at ready os piece r some (none ∙ same) e)
 
   module _ (h : Head) (n : ℕ) (i : IsHeadOf piece h n) (none : None ≡ reason_here limit ls piece) where
-    suits : (x : List ℕ) → x ≡ piece → 0 < length x → (head_reason (slot os) (leb limit (open_depth os)) (major_at h.major) (info_for (seen_argument h.argument)) [] ≡ None) × IsHigh (major_at h.major) (seen_argument h.argument)
-    suits [] e l = absurd (omega (arith, l))
-    suits (b ∷ z) e l =
+    allowed : (x : List ℕ) → x ≡ piece → 0 < length x → (head_reason (slot os) (leb limit (open_depth os)) (major_at h.major) (info_for (seen_argument h.argument)) [] ≡ None) × IsHigh (major_at h.major) (seen_argument h.argument)
+    allowed [] e l = absurd (omega (arith, l))
+    allowed (b ∷ z) e l =
         let whole : b ∷ z ≡ head (major_at h.major) (seen_argument h.argument) ++ i.rest = e ∙ i.whole in
         let major : major_at (b / 32) ≡ major_at h.major = major_of_head (major_at h.major) (seen_argument h.argument) b z i.rest i.fits whole in
         let info : info_at (b % 32) ≡ info_for (seen_argument h.argument) = info_of_head (major_at h.major) (seen_argument h.argument) b z i.rest i.fits whole in
@@ -96,8 +96,8 @@ module _ (limit at : ℕ) (ready : Trees) (os : List Begun) (ls : List Level) (b
     step_taken k e fits =
         let y = take k (drop n piece) in
         let count : length y ≡ k = length-take-le k (drop n piece) (omega (arith, length-drop n piece, fits)) in
-        let h' = suits piece refl some in
-        let scanned = head_scanned limit ready os begun full (at + n) at (major_at h.major) (seen_argument h.argument) y h'.0 h'.1 (count ∙ e) in
+        let h' = allowed piece refl some in
+        let scanned = head_scanned limit ready os are_open full (at + n) at (major_at h.major) (seen_argument h.argument) y h'.0 h'.1 (count ∙ e) in
         let run_is : run limit (Live at ready os nothing) (take (n + k) piece) ≡ run limit (after_head (at + n) at ready os (major_at h.major) (seen_argument h.argument)) y
         = ap (run limit (Live at ready os nothing)) (take-add n k piece) ∙ goes y in (
           omega (arith, (head_fits piece h n i).0),
@@ -113,7 +113,7 @@ module _ (limit at : ℕ) (ready : Trees) (os : List Begun) (ls : List Level) (b
         let fits = (head_fits piece h n i).1 in
         let run_is : run limit (Live at ready os nothing) piece ≡ run limit (after_head (at + n) at ready os (major_at h.major) (seen_argument h.argument)) y
         = ap (run limit (Live at ready os nothing)) (sym (take-append-drop n piece)) ∙ goes y in
-        subst IsAmid (sym run_is) (head_cut limit ready os begun full (at + n) at (major_at h.major) (seen_argument h.argument) y (omega (arith, length-drop n piece, short, fits)))
+        subst IsAmid (sym run_is) (head_cut limit ready os are_open full (at + n) at (major_at h.major) (seen_argument h.argument) y (omega (arith, length-drop n piece, short, fits)))
 
   -- An integer that is its initial byte, where no chunk is wanted.
   pub step_small : get_or piece 0 0 < 24 → IsNoChunk (slot_at ls) → (0 < 1) × (1 ≤ length piece) × IsScanned (at + 1) (finish ls) (run limit (Live at ready os nothing) (take 1 piece))
@@ -144,7 +144,7 @@ module _ (limit at : ℕ) (ready : Trees) (os : List Begun) (ls : List Level) (b
   amid_head (Given Two n) m b z missing e l = amid_argument m Two z (omega (arith, ap length e, length-append z missing, l))
   amid_head (Given Four n) m b z missing e l = amid_argument m Four z (omega (arith, ap length e, length-append z missing, l))
   amid_head (Given Eight n) m b z missing e l = amid_argument m Eight z (omega (arith, ap length e, length-append z missing, l))
-  amid_head Unbounded m b z missing e l = absurd (omega (arith, ap length e, length-append z missing, l))
+  amid_head EndlessArgument m b z missing e l = absurd (omega (arith, ap length e, length-append z missing, l))
 
   pub step_short : IsFrontOfHead piece → None ≡ reason_here limit ls piece → IsAmid (run limit (Live at ready os nothing) piece)
   step_short f none = go piece refl some

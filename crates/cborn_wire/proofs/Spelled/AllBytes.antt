@@ -9,7 +9,7 @@ use Rattle.cborn_model.specs.declared.heads.Size.TheVariants.{Fixed, Endless}
 use Rattle.cborn_model.specs.declared.nodes.Chunk.{Chunk}
 use Rattle.cborn_model.specs.declared.heads.Major.{Major}
 use Rattle.cborn_model.specs.declared.heads.Major.TheVariants.{Unsigned, Negative, ByteString, TextString, Array, Map, Tag, Other}
-use Rattle.cborn_model.specs.Heads.{code, WidthFits, information, following, least, Argument, Given, Unbounded, head, argument, SizeFits}
+use Rattle.cborn_model.specs.Heads.{code, WidthFits, information, following, least, Argument, Given, EndlessArgument, head, argument, SizeFits}
 use Rattle.cborn_model.specs.Tree.{Tree, Uint, Nint, Bytes, Text, ByteChunks, TextChunks, Items, Pairs, Tagged, Simple, Trees, no_item, more, Entries, no_entry, entry, count, count_entries}
 use Rattle.cborn_model.specs.Spelled.{ending, string, chunk_bytes, chunks, spelled, spelled_all, spelled_entries, ChunksFit, Fits, FitsAll, FitsEntries, Wellformed}
 use Rattle.cborn_wire.specs.HeadReading.{ArgumentFits}
@@ -43,7 +43,7 @@ following_bytes Eight n h = (omega arith, (omega arith, (omega arith, (omega ari
 
 pub head_bytes : (m : Major) (a : Argument) → ArgumentFits a → AreBytes (head m a)
 head_bytes m (Given w n) h = (omega (arith, code_below m, information_below w n h), following_bytes w n h)
-head_bytes m Unbounded h = (omega (arith, code_below m), tt)
+head_bytes m EndlessArgument h = (omega (arith, code_below m), tt)
 
 string_bytes : (m : Major) (w : Width) (b : List ℕ) → WidthFits w (length b) → AreBytes b → AreBytes (string m w b)
 string_bytes m w b h k = bytes-append (head m (Given w (length b))) b (head_bytes m (Given w (length b)) h) k
@@ -54,11 +54,11 @@ chunks_bytes m (c ∷ cs) h = bytes-append (chunk_bytes m c) (flat_map (chunk_by
 
 ending_bytes : (s : Size) → AreBytes (ending s)
 ending_bytes (Fixed w) = tt
-ending_bytes Endless = head_bytes Other Unbounded tt
+ending_bytes Endless = head_bytes Other EndlessArgument tt
 
 chunked_bytes : (m : Major) (cs : List Chunk) → ChunksFit cs → AreBytes (chunks m cs ++ ending Endless)
 chunked_bytes m cs h =
-    bytes-append (chunks m cs) (ending Endless) (bytes-append (head m Unbounded) (flat_map (chunk_bytes m) cs) (head_bytes m Unbounded tt) (chunks_bytes m cs h)) (ending_bytes Endless)
+    bytes-append (chunks m cs) (ending Endless) (bytes-append (head m EndlessArgument) (flat_map (chunk_bytes m) cs) (head_bytes m EndlessArgument tt) (chunks_bytes m cs h)) (ending_bytes Endless)
 
 -- what a head and an ending enclose
 inside_bytes : (m : Major) (s : Size) (n : ℕ) (x : List ℕ) → SizeFits s n → AreBytes x → AreBytes (head m (argument s n) ++ x ++ ending s)

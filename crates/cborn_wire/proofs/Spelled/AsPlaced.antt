@@ -5,7 +5,7 @@ use Rattle.cborn_model.specs.declared.heads.Size.TheVariants.{Endless}
 use Rattle.cborn_model.specs.declared.nodes.Chunk.{Chunk}
 use Rattle.cborn_model.specs.declared.heads.Major.{Major}
 use Rattle.cborn_model.specs.declared.heads.Major.TheVariants.{ByteString, TextString, Array, Map, Tag}
-use Rattle.cborn_model.specs.Heads.{Given, head, argument, Unbounded, SizeFits}
+use Rattle.cborn_model.specs.Heads.{Given, head, argument, EndlessArgument, SizeFits}
 use Rattle.cborn_model.specs.Tree.{Tree, Uint, Nint, Bytes, Text, ByteChunks, TextChunks, Items, Pairs, Tagged, Simple, Trees, no_item, more, Entries, no_entry, entry, count, count_entries, depth, depth_all, depth_entries}
 use Rattle.cborn_model.specs.Spelled.{ending, chunk_bytes, spelled, spelled_all, spelled_entries, ChunksFit, Fits, FitsAll, FitsEntries}
 use Rattle.cborn_model.specs.Placed.{ChunksPlaced, Placed, PlacedAll, PlacedEntries}
@@ -29,8 +29,8 @@ mutual
   spelled-from (Nint q w n) p = refl
   spelled-from (Bytes q w bytes) p = refl
   spelled-from (Text q w bytes) p = refl
-  spelled-from (ByteChunks q cs) p = ap (λ l. head ByteString Unbounded ++ l ++ ending Endless) (spelled_chunks-from ByteString cs (suc p))
-  spelled-from (TextChunks q cs) p = ap (λ l. head TextString Unbounded ++ l ++ ending Endless) (spelled_chunks-from TextString cs (suc p))
+  spelled-from (ByteChunks q cs) p = ap (λ l. head ByteString EndlessArgument ++ l ++ ending Endless) (spelled_chunks-from ByteString cs (suc p))
+  spelled-from (TextChunks q cs) p = ap (λ l. head TextString EndlessArgument ++ l ++ ending Endless) (spelled_chunks-from TextString cs (suc p))
   spelled-from (Items q s ts) p =
       let p' = p + length (head Array (argument s (count ts))) in
       ap (λ n. head Array (argument s n) ++ spelled_all (all_from p' ts) ++ ending s) (count-from ts p')

@@ -7,7 +7,7 @@ use Rattle.cborn_model.specs.Spelled.{Wellformed}
 use Rattle.cborn_model.proofs.Bytes.{bytes-left}
 use Rattle.cborn_wire.specs.declared.faults.WireReason.{WireReason}
 use Rattle.cborn_wire.specs.declared.faults.WireReason.TheVariants.{Truncated}
-use Rattle.cborn_wire.specs.Slots.{Begun}
+use Rattle.cborn_wire.specs.Slots.{OpenContainer}
 use Rattle.cborn_wire.specs.Faults.{IsWellformed, GoesOn, IsReason, Refused, Fault}
 use Rattle.cborn_wire.specs.SlotFaults.{SlotRefused}
 use Rattle.cborn_wire.specs.shared.Machine.{Partial, nothing, gathering, State, Live, Failed, run, start}
@@ -55,9 +55,9 @@ module _ (limit : ℕ) where
   one_fault x p q r s (inr g) (inl h) = absurd (refused_ends limit x q s h g.1.2)
   one_fault x p q r s (inr g) (inr h) = (g.1.0 ∙ sym h.1.0, g.0 ∙ sym h.0)
 
-  not_whole : (x : List ℕ) (fed : ℕ) (ready : Trees) (os : List Begun) (part : Partial) → run limit (start 0) x ≡ Live fed ready os part
-      → ((n : ℕ) (us : Trees) → Live n us [] nothing ≡ Live fed ready os part → ⊥) → IsWellformed limit x → ⊥
-  not_whole x fed ready os part e differs w = differs _ _ (sym (reads limit 0 w.0 x w.1) ∙ e)
+  not_whole : (x : List ℕ) (fed : ℕ) (ready : Trees) (os : List OpenContainer) (partial : Partial) → run limit (start 0) x ≡ Live fed ready os partial
+      → ((n : ℕ) (us : Trees) → Live n us [] nothing ≡ Live fed ready os partial → ⊥) → IsWellformed limit x → ⊥
+  not_whole x fed ready os partial e differs w = differs _ _ (sym (reads limit 0 w.0 x w.1) ∙ e)
 
   -- one of them
   pub well_or_fault : (x : List ℕ) → AreBytes x → IsWellformed limit x ⊎ ((p : ℕ) × (r : WireReason) × Fault limit x p r)
@@ -83,7 +83,7 @@ module _ (limit : ℕ) where
   said_refused x p r bytes h = go (run limit (start 0) x) refl
     where
       go : (s : State) → run limit (start 0) x ≡ s → SlotRefused limit x p r
-      go (Live fed ready os part) e = absurd (refused_ends limit x p r h (goes_on limit 0 x bytes fed ready os part e))
+      go (Live fed ready os partial) e = absurd (refused_ends limit x p r h (goes_on limit 0 x bytes fed ready os partial e))
       go (Failed ready q s) e =
           let (n, at, k) = fails_at_slot limit 0 x bytes ready q s e in
           let (place, reason) = one_refused x n p s r (refused_said limit x n s bytes k) h in

@@ -1,4 +1,4 @@
--- Which bytes go on: what the machine is at where a head begins, and which heads are allowed there.
+-- Which bytes go on: the state of the machine where a head begins, and which heads are allowed there.
 use Rattle.std.proofs.Common.{◌≡◌, refl, sym, ap, ◌∙◌, subst, ℕ, suc, ◌+◌, ◌/◌, ◌%◌, ◌<◌, List, [], ◌∷◌, ◌++◌, length, take, drop, Bool, true, false, cond, leb, eqb, Option, Some, None, inl, inr, arith, append_assoc, append-nil}
 use Rattle.std.proofs.lemmas.Bool.{eqb-true}
 use Rattle.std.proofs.lemmas.List.{take-append-drop}
@@ -8,7 +8,7 @@ use Rattle.cborn_model.specs.declared.heads.Width.TheVariants.{One}
 use Rattle.cborn_model.specs.declared.heads.Major.TheVariants.{Other}
 use Rattle.cborn_model.proofs.Bytes.{bytes-append, bytes-left, bytes-right}
 use Rattle.cborn_wire.specs.declared.faults.WireReason.{WireReason}
-use Rattle.cborn_wire.specs.Slots.{StringKind, OfBytes, OfText, Slot, item, value, element_or_end, key_or_end, chunk, Begun, slot, open_depth, IsNoChunk, Open}
+use Rattle.cborn_wire.specs.Slots.{StringKind, OfBytes, OfText, Slot, item, value, element_or_end, key_or_end, chunk, OpenContainer, slot, open_depth, IsNoChunk, Open}
 use Rattle.cborn_wire.specs.Faults.{IsWellformed, GoesOn, BeginsHead, judged, IsReason, Refused}
 use Rattle.cborn_wire.specs.SlotFaults.{reason_at, SlotRefused}
 use Rattle.cborn_wire.specs.shared.InitialBytes.{Next, head_reason}
@@ -43,7 +43,7 @@ module _ (limit : ℕ) where
   pub record Between (f : List ℕ) : Type 0 where
     pub fed : ℕ
     pub ready : Trees
-    pub os : List Begun
+    pub os : List OpenContainer
     pub is : run limit (start 0) f ≡ Live fed ready os nothing
 
   pub begins_between : (f : List ℕ) → BeginsHead limit f → Between f
@@ -82,7 +82,7 @@ module _ (limit : ℕ) where
       let (z, e) = judged_front b y in
       bad (goes_front (f ++ judged b y) z (subst (GoesOn limit) (is ∙ ap (λ l. f ++ l) e ∙ sym (append_assoc f (judged b y) z)) goes))
 
-  -- Behind a head that is refused no further one begins.
+  -- After a head that is refused no further one begins.
   pub none_later : (x f g y z : List ℕ) (b c : ℕ) → x ≡ f ++ b ∷ y → x ≡ g ++ c ∷ z → BeginsHead limit f → (GoesOn limit (f ++ judged b y) → ⊥) → BeginsHead limit g → length f < length g → ⊥
   none_later x f g y z b c e h begins bad after l =
       let (w, front, rest) = later x f g y z b c e h l in
@@ -108,7 +108,7 @@ module _ (limit : ℕ) where
   some_integer f s k bytes opens free =
       let a : At limit 0 f s k = opened limit 0 f s k opens in
       let h : SoundLive limit 0 f (0 + length f) a.ready a.os nothing = subst (Sound limit 0 f) a.is (sound limit 0 f bytes) in
-      byte_goes f 0 (Live (0 + length f) a.ready a.os nothing) bytes (omega arith) a.is (takes_integer limit (0 + length f) a.ready a.os h.ground.begun (subst IsNoChunk (sym a.slot_is) free))
+      byte_goes f 0 (Live (0 + length f) a.ready a.os nothing) bytes (omega arith) a.is (takes_integer limit (0 + length f) a.ready a.os h.ground.are_open (subst IsNoChunk (sym a.slot_is) free))
 
   reason_there : (f : List ℕ) (s : Slot) (k b : ℕ) (y : List ℕ) (r : WireReason) → AreBytes f → Open limit f s k → reason_at limit s k (b ∷ y) ≡ Some r → IsReason limit f b r
   reason_there f item k b y r bytes opens e = inl (some_integer f item k bytes opens tt, table_reason item (leb limit k) (b / 32) (b % 32) y r e)

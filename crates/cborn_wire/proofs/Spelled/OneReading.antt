@@ -70,7 +70,7 @@ no_front t u y h k e =
     (append_cancel_left (spelled t) y [] (e ∙ sym (spelled-from u 0) ∙ sym (ap spelled same) ∙ spelled-from t 0 ∙ sym (append-nil (spelled t))), same)
   where
     first_is : (t u : Tree) (s : State) {fed : ℕ} → with_front (more t no_item) s ≡ Live fed (more u no_item) [] nothing → t ≡ u
-    first_is t u (Live fed ready os part) e = ap (λ s. head_of t (ready_in s)) e
+    first_is t u (Live fed ready os partial) e = ap (λ s. head_of t (ready_in s)) e
     first_is t u (Failed ready p r) e = ap (λ s. head_of t (ready_in s)) e
 
 pub no_item_begins : (t u : Tree) (y : List ℕ) → Fits t → Fits u → spelled t ++ y ≡ spelled u → (y ≡ []) × ((p : ℕ) → placed_from p t ≡ placed_from p u)
@@ -88,7 +88,7 @@ pub after_first : (t : Tree) (limit p : ℕ) (x : List ℕ) → Fits t → depth
 after_first t limit p x fits deep placed = takes t limit p no_item [] x fits tt (omega arith) placed ∙ front_run (more t no_item) limit x (start (p + length (spelled t)))
 
 pub ready_front : (front : Trees) (s : State) → ready_in (with_front front s) ≡ append_trees front (ready_in s)
-ready_front front (Live fed ready os part) = refl
+ready_front front (Live fed ready os partial) = refl
 ready_front front (Failed ready q r) = refl
 
 -- Each well-formed front of what was read is among the items that are whole: they are the longest.

@@ -1,4 +1,4 @@
--- What the machine is at, at a slot, and what it fails for there.
+-- The state of the machine at a slot, and what it fails for there.
 use Rattle.std.proofs.Common.{◌≡◌, refl, sym, ap, ◌∙◌, subst, ℕ, ◌+◌, List, [], ◌++◌, length, Some, arith, append-nil, length-append}
 use Rattle.cborn_model.specs.Bytes.{AreBytes}
 use Rattle.cborn_model.specs.Tree.{Trees, no_item}
@@ -6,7 +6,7 @@ use Rattle.cborn_model.specs.Spelled.{spelled_all, Wellformed}
 use Rattle.cborn_model.specs.Placed.{PlacedAll}
 use Rattle.cborn_model.proofs.Bytes.{bytes-append}
 use Rattle.cborn_wire.specs.declared.faults.WireReason.{WireReason}
-use Rattle.cborn_wire.specs.Slots.{Slot, Begun, beginnings, slot, open_depth, Open}
+use Rattle.cborn_wire.specs.Slots.{Slot, OpenContainer, beginnings, slot, open_depth, Open}
 use Rattle.cborn_wire.specs.Faults.{IsWellformed, GoesOn}
 use Rattle.cborn_wire.specs.SlotFaults.{SlotRefused}
 use Rattle.cborn_wire.specs.shared.InitialBytes.{front_reason}
@@ -21,20 +21,20 @@ use Rattle.cborn_wire.proofs.Machine.SoundRuns.{sound}
 use Rattle.cborn_wire.proofs.Machine.TakesOpen.{open_from, slot-from, open_depth-from, takes_open}
 use Rattle.cborn_wire.proofs.Machine.SomeEnd.{refused_run, Closable, closes}
 
-pub no_fail : {fed p : ℕ} {ts us : Trees} {os : List Begun} {v : Partial} {r : WireReason} {A : Type 0} → Live fed ts os v ≡ Failed us p r → A
+pub no_fail : {fed p : ℕ} {ts us : Trees} {os : List OpenContainer} {v : Partial} {r : WireReason} {A : Type 0} → Live fed ts os v ≡ Failed us p r → A
 no_fail e = cc
 
 module _ (limit base : ℕ) where
-  -- what the machine is at, at a slot
+  -- the state of the machine at a slot
   pub record At (f : List ℕ) (s : Slot) (k : ℕ) : Type 0 where
     pub ready : Trees
-    pub os : List Begun
+    pub os : List OpenContainer
     pub is : run limit (start base) f ≡ Live (base + length f) ready os nothing
     pub slot_is : slot os ≡ s
     pub depth_is : open_depth os ≡ k
 
   pub opened : (f : List ℕ) (s : Slot) (k : ℕ) → Open limit f s k → At f s k
-  opened f s k (ts, os, fits, deep, begun, is, e, d) =
+  opened f s k (ts, os, fits, deep, are_open, is, e, d) =
       let us = all_from base ts in
       let same : spelled_all us ≡ spelled_all ts = spelled_all-from ts base in
       let whole : f ≡ spelled_all us ++ (beginnings os ++ []) = is ∙ ap (λ l. l ++ beginnings os) (sym same) ∙ ap (λ l. spelled_all us ++ l) (sym (append-nil (beginnings os))) in
@@ -45,7 +45,7 @@ module _ (limit base : ℕ) where
         os = open_from q os;
         is = ap (run limit (start base)) whole
             ∙ takes_sequence us limit base no_item (beginnings os ++ []) (fits_all-from ts base fits) (omega (arith, depth_all-from ts base)) (placed_all-from ts base)
-            ∙ takes_open limit os q us [] begun
+            ∙ takes_open limit os q us [] are_open
             ∙ ap (λ k. Live k us (open_from q os) nothing) total;
         slot_is = slot-from os q ∙ sym e;
         depth_is = open_depth-from os q ∙ sym d;
@@ -71,7 +71,7 @@ module _ (limit base : ℕ) where
           open_depth h.os,
           h.whole,
           refl,
-          (ready, h.os, h.live.ground.fit, h.live.ground.shallow, h.live.ground.begun, h.live.bytes ∙ append-nil (front ready h.os), refl, refl),
+          (ready, h.os, h.live.ground.fit, h.live.ground.shallow, h.live.ground.are_open, h.live.bytes ∙ append-nil (front ready h.os), refl, refl),
           same_reason limit (slot h.os) (open_depth h.os) h.after ∙ h.refused,
         ),
       )
@@ -85,21 +85,21 @@ module _ (limit base : ℕ) where
   pub ends_whole : (x : List ℕ) → AreBytes x → (fed : ℕ) (ready : Trees) → run limit (start base) x ≡ Live fed ready [] nothing → IsWellformed limit x
   ends_whole x bytes fed ready e = (ready, (ends_read x bytes fed ready e).0)
 
-  -- what can come to an end of whole items goes on
+  -- what can come to an end of complete items goes on
   pub closable_goes : (x : List ℕ) → AreBytes x → Closable limit (run limit (start base) x) → GoesOn limit x
   closable_goes x bytes (y, more, fed, ready, end) = (y, ends_whole (x ++ y) (bytes-append x y bytes more) fed ready (run-append limit (start base) x y ∙ end))
 
   -- so does what lives
-  pub goes_on : (x : List ℕ) → AreBytes x → (fed : ℕ) (ready : Trees) (os : List Begun) (part : Partial) → run limit (start base) x ≡ Live fed ready os part → GoesOn limit x
-  goes_on x bytes fed ready os part e =
-      let h : SoundLive limit base x fed ready os part = subst (Sound limit base x) e (sound limit base x bytes) in
-      closable_goes x bytes (subst (Closable limit) (sym e) (closes limit base x fed ready os part h))
+  pub goes_on : (x : List ℕ) → AreBytes x → (fed : ℕ) (ready : Trees) (os : List OpenContainer) (partial : Partial) → run limit (start base) x ≡ Live fed ready os partial → GoesOn limit x
+  goes_on x bytes fed ready os partial e =
+      let h : SoundLive limit base x fed ready os partial = subst (Sound limit base x) e (sound limit base x bytes) in
+      closable_goes x bytes (subst (Closable limit) (sym e) (closes limit base x fed ready os partial h))
 
   pub live_goes : (x : List ℕ) → AreBytes x → IsLive (run limit (start base) x) → GoesOn limit x
   live_goes x bytes live = go (run limit (start base) x) refl live
     where
       go : (s : State) → run limit (start base) x ≡ s → IsLive s → GoesOn limit x
-      go (Live fed ready os part) e live = goes_on x bytes fed ready os part e
+      go (Live fed ready os partial) e live = goes_on x bytes fed ready os partial e
       go (Failed ready p r) e live = absurd live
 
   -- and what fails doesn't
@@ -116,7 +116,7 @@ module _ (limit : ℕ) where
       let same : a.os ≡ b.os = stack (sym a.is ∙ b.is) in
       (sym a.slot_is ∙ ap slot same ∙ b.slot_is, sym a.depth_is ∙ ap open_depth same ∙ b.depth_is)
     where
-      stack : {m n : ℕ} {ts us : Trees} {os ps : List Begun} {v w : Partial} → Live m ts os v ≡ Live n us ps w → os ≡ ps
+      stack : {m n : ℕ} {ts us : Trees} {os ps : List OpenContainer} {v w : Partial} → Live m ts os v ≡ Live n us ps w → os ≡ ps
       stack e = cc
 
   -- What the table refuses has no end.

@@ -30,7 +30,7 @@ pair_fits [] i e h below is = absurd (omega arith)
 pair_fits (u ∷ xs) zero e h below is = subst (λ (e : Tree × Tree). Fits e.0 × Fits e.1) (sym is) (h.0, h.1)
 pair_fits (u ∷ xs) (suc i) e h below is = pair_fits xs i e h.2 (omega arith) is
 
--- one part more
+-- one more part
 part_more : {A : Type 0} (f : A → List ℕ) (xs : List A) (i : ℕ) (x : A) → i < length xs → x ≡ get_or xs i x → flat_map f (take (i + 1) xs) ≡ flat_map f (take i xs) ++ f x
 part_more f xs i x below is =
     ap (flat_map f) (take_more xs i x below) ∙ flat_map-append f (take i xs) (get_or xs i x ∷ []) ∙ ap (λ l. flat_map f (take i xs) ++ l) (append-nil (f (get_or xs i x)) ∙ ap f (sym is))

@@ -10,16 +10,16 @@ use Rattle.cborn_model.specs.Spelled.{IsSpelled}
 use Rattle.cborn_model.proofs.Bytes.{bytes-left}
 use Rattle.cborn_wire.specs.declared.faults.WireFault.{WireFault}
 use Rattle.cborn_wire.specs.declared.faults.WireFault.TheVariants.{Refused, OutOfMemory}
-use Rattle.cborn_wire.specs.declared.frames.Partial.{Partial}
-use Rattle.cborn_wire.specs.declared.frames.Partial.TheVariants as partials
+use Rattle.cborn_wire.specs.declared.containers.Partial.{Partial}
+use Rattle.cborn_wire.specs.declared.containers.Partial.TheVariants as partials
 use Rattle.cborn_wire.specs.declared.nests.Nest.{Nest}
 use Rattle.cborn_wire.specs.declared.nests.Outcome.{Outcome}
-use Rattle.cborn_wire.specs.declared.nests.Outcome.TheVariants.{Open, Whole, Part}
-use Rattle.cborn_wire.specs.devices.Standing.{Standing}
-use Rattle.cborn_wire.specs.Slots.{StringKind, OfBytes, OfText, Begun, major_of}
+use Rattle.cborn_wire.specs.declared.nests.Outcome.TheVariants.{Open, Whole, Unfinished}
+use Rattle.cborn_wire.specs.devices.StackState.{StackState}
+use Rattle.cborn_wire.specs.Slots.{StringKind, OfBytes, OfText, OpenContainer, major_of}
 use Rattle.cborn_wire.specs.HeadReading.{major_at}
 use Rattle.cborn_wire.specs.shared.Machine as machine
-use Rattle.cborn_wire.specs.shared.Machine.{append_trees, State, Live, Failed, ready_in, Stops, Settles, content_of, gathering, width_bytes, snoc, string_done, content_at, after_head, run, IsReached}
+use Rattle.cborn_wire.specs.shared.Machine.{append_trees, State, Live, Failed, ready_in, Stops, AtMostOneMore, content_of, gathering, width_bytes, snoc, string_done, content_at, after_head, run, IsReached}
 use Rattle.cborn_wire.specs.devices.StackView.{seen_kind, seen_partial, opened, left, seen, FailsAs, Took, IsShort, Fails, IsMade, IsMoved, Advances}
 use Rattle.cborn_wire.proofs.Machine.Running.{run-append, failed_run}
 use Rattle.cborn_wire.proofs.Machine.Reached.{reached_more, reached_item, reached_argument, reached_content}
@@ -32,17 +32,17 @@ pub bytes-take : (n : ℕ) (x : List ℕ) → AreBytes x → AreBytes (take n x)
 bytes-take n x h = bytes-left (take n x) (drop n x) (subst AreBytes (sym (take-append-drop n x)) h)
 
 -- The machine comes to s over a front of the piece.
-module _ (limit at : ℕ) (part : machine.Partial) (old : Nest) (s : State) (n : ℕ) (piece : List ℕ) (goes : run limit (Live at no_item (opened old) part) (take n piece) ≡ s) where
-  pub fails_on : (e : WireFault) → FailsAs s e → FailsAs (run limit (Live at no_item (opened old) part) piece) e
+module _ (limit at : ℕ) (partial : machine.Partial) (old : Nest) (s : State) (n : ℕ) (piece : List ℕ) (goes : run limit (Live at no_item (opened old) partial) (take n piece) ≡ s) where
+  pub fails_on : (e : WireFault) → FailsAs s e → FailsAs (run limit (Live at no_item (opened old) partial) piece) e
   fails_on (Refused p r) h =
-      let from = Live at no_item (opened old) part in
+      let from = Live at no_item (opened old) partial in
       ap (run limit from) (sym (take-append-drop n piece)) ∙ run-append limit from (take n piece) (drop n piece) ∙ ap (λ u. run limit u (drop n piece)) (goes ∙ h) ∙ failed_run limit (drop n piece) no_item p r
   fails_on OutOfMemory h = tt
 
-  pub took : (new : Nest) (o : Outcome) → 0 < n → n ≤ length piece → s ≡ left (at + n) (opened new) o → Settles no_item s → Took limit at part piece old new n o
-  took new o some within is settles = record { some = some; within = within; goes = goes ∙ is; settles = subst (Settles no_item) is settles }
+  pub took : (new : Nest) (o : Outcome) → 0 < n → n ≤ length piece → s ≡ left (at + n) (opened new) o → AtMostOneMore no_item s → Took limit at partial piece old new n o
+  took new o some within is one_more = record { some = some; within = within; goes = goes ∙ is; one_more = subst (AtMostOneMore no_item) is one_more }
 
-module _ (limit at : ℕ) (ready : Trees) (os : List Begun) (p : ℕ) (k : StringKind) (w : Width) (n : ℕ) (got piece : List ℕ) (m : ℕ) (fits : m ≤ length piece) where
+module _ (limit at : ℕ) (ready : Trees) (os : List OpenContainer) (p : ℕ) (k : StringKind) (w : Width) (n : ℕ) (got piece : List ℕ) (m : ℕ) (fits : m ≤ length piece) where
   many : length (take m piece) ≡ m
   many = length-take-le m piece fits
 
@@ -58,12 +58,12 @@ module _ (limit at : ℕ) (ready : Trees) (os : List Begun) (p : ℕ) (k : Strin
       ∙ content_more limit at ready os p k w n got (take m piece) [] (omega (arith, many))
       ∙ ap (λ j. Live (at + j) ready os (gathering p (content_of k w) n (got ++ take m piece))) many
 
-string_head : (fed p : ℕ) (ready : Trees) (os : List Begun) (k : StringKind) (w : Width) (n : ℕ) → after_head fed p ready os (major_of k) (Given w n) ≡ content_at fed p ready os k w n []
+string_head : (fed p : ℕ) (ready : Trees) (os : List OpenContainer) (k : StringKind) (w : Width) (n : ℕ) → after_head fed p ready os (major_of k) (Given w n) ≡ content_at fed p ready os k w n []
 string_head fed p ready os OfBytes w n = refl
 string_head fed p ready os OfText w n = refl
 
--- A definite string of which all stands in the piece.
-pub string_whole : (limit at len : ℕ) (ready : Trees) (os : List Begun) (k : StringKind) (w : Width) (n : ℕ) (piece bytes : List ℕ) → len + n ≤ length piece → bytes ≡ take n (take (length piece - len) (drop len piece))
+-- A definite string that is whole in the piece.
+pub string_whole : (limit at len : ℕ) (ready : Trees) (os : List OpenContainer) (k : StringKind) (w : Width) (n : ℕ) (piece bytes : List ℕ) → len + n ≤ length piece → bytes ≡ take n (take (length piece - len) (drop len piece))
     → run limit (Live at ready os machine.nothing) (take len piece) ≡ after_head (at + len) at ready os (major_of k) (Given w n)
     → run limit (Live at ready os machine.nothing) (take (len + n) piece) ≡ string_done (at + (len + n)) at ready os k w bytes
 string_whole limit at len ready os k w n piece bytes fits is goes =
@@ -76,46 +76,46 @@ string_whole limit at len ready os k w n piece bytes fits is goes =
     ∙ ap (string_done (at + (len + n)) at ready os k w) (sym (is ∙ ap (take n) (take_rest piece len)))
 
 module _ (limit base : ℕ) where
-  -- what some bytes make has a part of which more is to come
-  pub part_short : (at : ℕ) (ready : Trees) (os : List Begun) (part : Partial) → IsReached limit base (Live at ready os (seen_partial part)) → IsShort part
-  part_short at ready os partials.Nothing h = tt
-  part_short at ready os (partials.Argument p m w bytes n) h = (reached_argument limit base at p (width_bytes w) ready os (major_at m) w (take n bytes) h).1
-  part_short at ready os (partials.Content p k w n bytes) h = (reached_content limit base at p n ready os (seen_kind k) w bytes.items h).1
+  -- of a partial head or string that some bytes make, more is to come
+  pub partial_short : (at : ℕ) (ready : Trees) (os : List OpenContainer) (partial : Partial) → IsReached limit base (Live at ready os (seen_partial partial)) → IsShort partial
+  partial_short at ready os partials.Nothing h = tt
+  partial_short at ready os (partials.Argument g) h = (reached_argument limit base at g.place (width_bytes g.width) ready os (major_at g.major) g.width (take g.len g.bytes) h).1
+  partial_short at ready os (partials.Content g bytes) h = (reached_content limit base at g.place g.len ready os (seen_kind g.kind) g.width bytes.items h).1
 
   pub then_made : (s u : State) (x : List ℕ) → IsReached limit base s → AreBytes x → run limit s x ≡ u → IsReached limit base u
   then_made s u x h are goes = subst (IsReached limit base) goes (reached_more limit base s x h are)
 
-  -- an item that is whole is spelled
-  pub then_spelled : (s : State) (x : List ℕ) (at : ℕ) (ready : Trees) (t : Tree) (os : List Begun) (part : machine.Partial) → limit ≤ 1024 → IsReached limit base s → AreBytes x → run limit s x ≡ Live at (snoc ready t) os part → IsSpelled t
-  then_spelled s x at ready t os part small h are goes =
-      let i = reached_item limit base at ready t os part (then_made s _ x h are goes) in
+  -- a complete item is spelled
+  pub then_spelled : (s : State) (x : List ℕ) (at : ℕ) (ready : Trees) (t : Tree) (os : List OpenContainer) (partial : machine.Partial) → limit ≤ 1024 → IsReached limit base s → AreBytes x → run limit s x ≡ Live at (snoc ready t) os partial → IsSpelled t
+  then_spelled s x at ready t os partial small h are goes =
+      let i = reached_item limit base at ready t os partial (then_made s _ x h are goes) in
       (i.0, omega (arith, i.1))
 
--- The whole items of a stack stand before what its nest makes whole.
+-- The complete items of a stack come before the one that its nest completes.
 
 snoc_front : (us : Trees) (t : Tree) → append_trees us (more t no_item) ≡ snoc us t
 snoc_front us t = sym (append_trees-snoc us t no_item) ∙ append_trees-nil (snoc us t)
 
-settles_front : (us : Trees) (s : State) → Settles no_item s → Settles us (with_front us s)
-settles_front us (Live fed ready os part) (inl e) = inl (ap (append_trees us) e ∙ append_trees-nil us)
-settles_front us (Failed ready p r) (inl e) = inl (ap (append_trees us) e ∙ append_trees-nil us)
-settles_front us s (inr (fed, t, e)) = inr (fed, t, ap (with_front us) e ∙ ap (λ l. Live fed l [] machine.nothing) (snoc_front us t))
+one_more_front : (us : Trees) (s : State) → AtMostOneMore no_item s → AtMostOneMore us (with_front us s)
+one_more_front us (Live fed ready os partial) (inl e) = inl (ap (append_trees us) e ∙ append_trees-nil us)
+one_more_front us (Failed ready p r) (inl e) = inl (ap (append_trees us) e ∙ append_trees-nil us)
+one_more_front us s (inr (fed, t, e)) = inr (fed, t, ap (with_front us) e ∙ ap (λ l. Live fed l [] machine.nothing) (snoc_front us t))
 
-module _ (f : Standing) (x : List ℕ) where
+module _ (f : StackState) (x : List ℕ) where
   from_none : run f.limit (seen f) x ≡ with_front (trees f.items) (run f.limit (Live f.at no_item (opened f.nest) (seen_partial f.partial)) x)
   from_none =
       ap (λ l. run f.limit (Live f.at l (opened f.nest) (seen_partial f.partial)) x) (sym (append_trees-nil (trees f.items)))
       ∙ front_run (trees f.items) f.limit x (Live f.at no_item (opened f.nest) (seen_partial f.partial))
 
-  -- the fault that the nest answers
+  -- the fault that the nest gives
   pub stack_fails : (e : WireFault) → FailsAs (run f.limit (Live f.at no_item (opened f.nest) (seen_partial f.partial)) x) e → Fails (run f.limit (seen f) x) f.items f.items e
   stack_fails (Refused p r) h = (refl, from_none ∙ ap (with_front (trees f.items)) h ∙ ap (λ l. Failed l p r) (append_trees-nil (trees f.items)))
   stack_fails OutOfMemory h = refl
 
 -- What a stack is once its nest took a front of a piece.
-module _ (f : Standing) (piece : List ℕ) (new : Nest) (n : ℕ) (o : Outcome) (t : Took f.limit f.at (seen_partial f.partial) piece f.nest new n o) where
-  abbrev pub moved : List Tree → Partial → Standing
-  moved items part = record { limit = f.limit; at = f.at + n; items = items; nest = new; partial = part; fault = f.fault }
+module _ (f : StackState) (piece : List ℕ) (new : Nest) (n : ℕ) (o : Outcome) (t : Took f.limit f.at (seen_partial f.partial) piece f.nest new n o) where
+  abbrev pub moved : List Tree → Partial → StackState
+  moved items partial = record { limit = f.limit; at = f.at + n; items = items; nest = new; partial = partial; fault = f.fault }
 
   abbrev pub here : Outcome → State
   here o = with_front (trees f.items) (left (f.at + n) (opened new) o)
@@ -123,23 +123,23 @@ module _ (f : Standing) (piece : List ℕ) (new : Nest) (n : ℕ) (o : Outcome) 
   comes : run f.limit (seen f) (take n piece) ≡ here o
   comes = from_none f (take n piece) ∙ ap (with_front (trees f.items)) t.goes
 
-  module _ (items : List Tree) (part : Partial) (is : here o ≡ seen (moved items part)) where
-    pub advanced : f.fault ≡ None → Advances piece f (moved items part) (Ok n)
+  module _ (items : List Tree) (partial : Partial) (is : here o ≡ seen (moved items partial)) where
+    pub advanced : f.fault ≡ None → Advances piece f (moved items partial) (Ok n)
     advanced live = (
       t.some,
       t.within,
       record { fault = live; limit = refl; at = ap (λ m. f.at + m) (sym (length-take-le n piece t.within)); goes = comes ∙ is },
-      subst (Settles (trees f.items)) is (settles_front (trees f.items) _ t.settles),
+      subst (AtMostOneMore (trees f.items)) is (one_more_front (trees f.items) _ t.one_more),
     )
 
-    pub made : AreBytes piece → IsMade f → IsMade (moved items part)
-    made are h = (h.0, then_made f.limit h.0 (seen f) (seen (moved items part)) (take n piece) h.1 (bytes-take n piece are) (comes ∙ is))
+    pub made : AreBytes piece → IsMade f → IsMade (moved items partial)
+    made are h = (h.0, then_made f.limit h.0 (seen f) (seen (moved items partial)) (take n piece) h.1 (bytes-take n piece are) (comes ∙ is))
 
   pub is_open : (p : Partial) → o ≡ Open → p ≡ partials.Nothing → here o ≡ seen (moved f.items p)
   is_open p e used = ap here e ∙ ap (λ l. Live (f.at + n) l (opened new) machine.nothing) (append_trees-nil (trees f.items)) ∙ ap (λ q. Live (f.at + n) (trees f.items) (opened new) (seen_partial q)) (sym used)
 
-  pub is_part : (p : Partial) → o ≡ Part p → here o ≡ seen (moved f.items p)
-  is_part p e = ap here e ∙ ap (λ l. Live (f.at + n) l (opened new) (seen_partial p)) (append_trees-nil (trees f.items))
+  pub is_partial : (p : Partial) → o ≡ Unfinished p → here o ≡ seen (moved f.items p)
+  is_partial p e = ap here e ∙ ap (λ l. Live (f.at + n) l (opened new) (seen_partial p)) (append_trees-nil (trees f.items))
 
   is_next : (u : Tree) → o ≡ Whole u → here o ≡ Live (f.at + n) (snoc (trees f.items) u) (opened new) machine.nothing
   is_next u e = ap here e ∙ ap (λ l. Live (f.at + n) l (opened new) machine.nothing) (snoc_front (trees f.items) u)
@@ -152,13 +152,13 @@ module _ (f : Standing) (piece : List ℕ) (new : Nest) (n : ℕ) (o : Outcome) 
   is_spelled u e small are h = then_spelled f.limit h.0 (seen f) (take n piece) (f.at + n) (trees f.items) u (opened new) machine.nothing small h.1 (bytes-take n piece are) (comes ∙ is_next u e)
 
 -- A front y of the piece was taken, and the rest is to come.
-module _ (s now : Standing) (piece y rest : List ℕ) (cut : piece ≡ y ++ rest) (m : IsMoved s now y) where
+module _ (s now : StackState) (piece y rest : List ℕ) (cut : piece ≡ y ++ rest) (m : IsMoved s now y) where
   pub then_stops : (left : List Tree) (e : WireFault) → Fails (run now.limit (seen now) rest) now.items left e → Stops s.limit (seen s) piece e (trees left)
   then_stops left (Refused p r) h =
       ap (run s.limit (seen s)) cut ∙ run-append s.limit (seen s) y rest ∙ ap (λ u. run s.limit u rest) m.goes ∙ ap (λ k. run k (seen now) rest) (sym m.limit) ∙ h.1
   then_stops left OutOfMemory h = (y, rest, cut, ap ready_in m.goes ∙ ap trees (sym h))
 
-  pub then_moved : (n : ℕ) (next : Standing) → IsMoved now next (take n rest) → (piece ≡ (y ++ take n rest) ++ drop n rest) × IsMoved s next (y ++ take n rest)
+  pub then_moved : (n : ℕ) (next : StackState) → IsMoved now next (take n rest) → (piece ≡ (y ++ take n rest) ++ drop n rest) × IsMoved s next (y ++ take n rest)
   then_moved n next further = (
     cut ∙ ap (λ l. y ++ l) (sym (take-append-drop n rest)) ∙ sym (append_assoc y (take n rest) (drop n rest)),
     record {
@@ -169,7 +169,7 @@ module _ (s now : Standing) (piece y rest : List ℕ) (cut : piece ≡ y ++ rest
     },
   )
 
--- Where no item was whole, none is after a failure.
+-- Where no item was complete, none is after a failure.
 pub stops_bare : (limit : ℕ) (s : State) (x : List ℕ) (before left : List Tree) (e : WireFault) → before ≡ [] → ready_in s ≡ trees before → Fails (run limit s x) before left e → Stops limit s x e no_item
 stops_bare limit s x before left (Refused p r) none had h = h.1 ∙ ap (λ l. Failed (trees l) p r) (h.0 ∙ none)
 stops_bare limit s x before left OutOfMemory none had h = ([], x, refl, had ∙ ap trees none)

@@ -1,4 +1,4 @@
--- A device of the proofs: a code for what a feeder tells. No definition cites it.
+-- A device of the proofs: a code for what contracts see of a feeder. No definition cites it.
 use Rattle.std.specs.Prelude.{ℕ, List, Option, refl}
 use Rattle.std.specs.Coded.{Coded, code_by, coded×, coded_ℕ, coded_list, coded_option}
 use Rattle.cborn_model.specs.Tree.{Tree}

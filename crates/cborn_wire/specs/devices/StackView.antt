@@ -7,23 +7,23 @@ use Rattle.cborn_model.specs.Tree.{Tree, Trees, no_item, more, trees, entries}
 use Rattle.cborn_wire.specs.declared.faults.WireFault.{WireFault}
 use Rattle.cborn_wire.specs.declared.faults.WireFault.TheVariants.{Refused, OutOfMemory}
 use Rattle.cborn_wire.specs.declared.faults.WireReason.TheVariants.{UnexpectedBreak}
-use Rattle.cborn_wire.specs.declared.frames.StringKind.{StringKind}
-use Rattle.cborn_wire.specs.declared.frames.StringKind.TheVariants as kinds
-use Rattle.cborn_wire.specs.declared.frames.Frame.{Frame}
-use Rattle.cborn_wire.specs.declared.frames.Frame.TheVariants as frames
-use Rattle.cborn_wire.specs.declared.frames.Partial.{Partial}
-use Rattle.cborn_wire.specs.declared.frames.Partial.TheVariants as partials
+use Rattle.cborn_wire.specs.declared.containers.StringKind.{StringKind}
+use Rattle.cborn_wire.specs.declared.containers.StringKind.TheVariants as kinds
+use Rattle.cborn_wire.specs.declared.containers.Container.{Container}
+use Rattle.cborn_wire.specs.declared.containers.Container.TheVariants as containers
+use Rattle.cborn_wire.specs.declared.containers.Partial.{Partial}
+use Rattle.cborn_wire.specs.declared.containers.Partial.TheVariants as partials
 use Rattle.cborn_wire.specs.declared.nests.Nest.{Nest}
 use Rattle.cborn_wire.specs.declared.nests.Outcome.{Outcome}
-use Rattle.cborn_wire.specs.declared.nests.Outcome.TheVariants.{Open, Whole, Part}
+use Rattle.cborn_wire.specs.declared.nests.Outcome.TheVariants.{Open, Whole, Unfinished}
 use Rattle.cborn_wire.specs.declared.refusals.Slot.{Slot}
 use Rattle.cborn_wire.specs.declared.refusals.Slot.TheVariants.{Item, ItemOrBreak, Chunk}
-use Rattle.cborn_wire.specs.devices.Standing.{Standing}
+use Rattle.cborn_wire.specs.devices.StackState.{StackState}
 use Rattle.cborn_wire.specs.HeadReading.{major_at, seen_argument}
 use Rattle.cborn_wire.specs.Slots as slots
-use Rattle.cborn_wire.specs.Slots.{OfBytes, OfText, item, value, element_or_end, key_or_end, chunk, Begun, begun_items, begun_pairs, begun_value, begun_tag, begun_chunks, slot, IsNoChunk}
+use Rattle.cborn_wire.specs.Slots.{OfBytes, OfText, item, value, element_or_end, key_or_end, chunk, OpenContainer, opened_items, opened_pairs, opened_value, opened_tag, opened_chunks, slot, IsNoChunk}
 use Rattle.cborn_wire.specs.shared.Machine as machine
-use Rattle.cborn_wire.specs.shared.Machine.{argument_of, content_of, nothing, gathering, width_bytes, State, Live, Failed, finished, ended, run, IsReached, Stops, Settles}
+use Rattle.cborn_wire.specs.shared.Machine.{argument_of, content_of, nothing, gathering, width_bytes, State, Live, Failed, finished, ended, run, IsReached, Stops, AtMostOneMore}
 
 abbrev pub seen_kind : StringKind → slots.StringKind
 seen_kind kinds.Bytes = OfBytes
@@ -34,7 +34,7 @@ seen_slot Item = item
 seen_slot ItemOrBreak = element_or_end
 seen_slot (Chunk k) = chunk (seen_kind k)
 
--- the slot in which the same heads are allowed, for a slot that the code doesn't tell apart
+-- a slot as the code knows it, which has one for all in which the same heads are allowed
 abbrev pub plain : slots.Slot → slots.Slot
 plain value = item
 plain key_or_end = element_or_end
@@ -43,108 +43,108 @@ plain s = s
 -- the slot of an item of an array, or a key of a map, with this argument
 abbrev pub element_slot : heads.Argument → slots.Slot
 element_slot (heads.Given w n) = item
-element_slot heads.Unbounded = element_or_end
+element_slot heads.EndlessArgument = element_or_end
 
 -- a map's pairs, and the key whose value is missing
-abbrev pub seen_pairs : ℕ → heads.Argument → List (Tree × Tree) → Option Tree → Begun
-seen_pairs p a es None = begun_pairs p a (entries es)
-seen_pairs p a es (Some k) = begun_value p a (entries es) k
+abbrev pub seen_pairs : ℕ → heads.Argument → List (Tree × Tree) → Option Tree → OpenContainer
+seen_pairs p a es None = opened_pairs p a (entries es)
+seen_pairs p a es (Some k) = opened_value p a (entries es) k
 
-abbrev pub seen_frame : Frame → Begun
-seen_frame (frames.Items p a items) = begun_items p (seen_argument a) (trees items.items)
-seen_frame (frames.Pairs p a pairs key) = seen_pairs p (seen_argument a) pairs.items key
-seen_frame (frames.Tag p w n) = begun_tag p w n
-seen_frame (frames.Chunks p k chunks) = begun_chunks p (seen_kind k) chunks.items
+abbrev pub seen_container : Container → OpenContainer
+seen_container (containers.Items p a items) = opened_items p (seen_argument a) (trees items.items)
+seen_container (containers.Pairs p a pairs key) = seen_pairs p (seen_argument a) pairs.items key
+seen_container (containers.Tag p w n) = opened_tag p w n
+seen_container (containers.Chunks p k chunks) = opened_chunks p (seen_kind k) chunks.items
 
--- what is around the innermost frame: the list has the innermost last, and the machine has it first
-abbrev pub seen_outer : List Begun → List Frame → List Begun
+-- the containers around the innermost: the list has the innermost of them last, and the machine has it first
+abbrev pub seen_outer : List OpenContainer → List Container → List OpenContainer
 seen_outer os [] = os
-seen_outer os (f ∷ fs) = seen_outer (seen_frame f ∷ os) fs
+seen_outer os (f ∷ fs) = seen_outer (seen_container f ∷ os) fs
 
-abbrev pub seen_open : Option Frame → List Frame → List Begun
+abbrev pub seen_open : Option Container → List Container → List OpenContainer
 seen_open None fs = []
-seen_open (Some f) fs = seen_frame f ∷ seen_outer [] fs
+seen_open (Some f) fs = seen_container f ∷ seen_outer [] fs
 
 abbrev pub seen_partial : Partial → machine.Partial
 seen_partial partials.Nothing = nothing
-seen_partial (partials.Argument p m w bytes n) = gathering p (argument_of (major_at m) w) (width_bytes w) (take n bytes)
-seen_partial (partials.Content p k w n bytes) = gathering p (content_of (seen_kind k) w) n bytes.items
+seen_partial (partials.Argument h) = gathering h.place (argument_of (major_at h.major) h.width) (width_bytes h.width) (take h.len h.bytes)
+seen_partial (partials.Content h bytes) = gathering h.place (content_of (seen_kind h.kind) h.width) h.len bytes.items
 
-abbrev pub opened : Nest → List Begun
+abbrev pub opened : Nest → List OpenContainer
 opened n = seen_open n.top n.outer.items
 
--- what is open around the innermost
-abbrev pub around : Nest → List Begun
+-- the open containers around the innermost
+abbrev pub around : Nest → List OpenContainer
 around n = seen_outer [] n.outer.items
 
--- how many frames there are
+-- how many containers are open
 abbrev pub open_len : Nest → ℕ
 open_len n = length (option_to_list n.top) + vec_len n.outer
 
--- more bytes of the part are to come
+-- more bytes of the partial head or string are to come
 abbrev pub IsShort : Partial → Type 0
 IsShort partials.Nothing = Unit {0}
-IsShort (partials.Argument p m w bytes n) = length (take n bytes) < width_bytes w
-IsShort (partials.Content p k w n bytes) = length bytes.items < n
+IsShort (partials.Argument h) = length (take h.len h.bytes) < width_bytes h.width
+IsShort (partials.Content h bytes) = length bytes.items < h.len
 
--- The machine after that, up to `at`. Here and below no item was complete before: a nest knows of none.
-abbrev pub left : ℕ → List Begun → Outcome → State
+-- The state of the machine after this outcome, at the offset `at`. Here and below no item was complete before, since a nest knows of none.
+abbrev pub left : ℕ → List OpenContainer → Outcome → State
 left at os Open = Live at no_item os nothing
 left at os (Whole t) = Live at (more t no_item) os nothing
-left at os (Part p) = Live at no_item os (seen_partial p)
+left at os (Unfinished p) = Live at no_item os (seen_partial p)
 
 -- the state of the machine after a call that failed: that fault, or memory was refused
 abbrev pub FailsAs : State → WireFault → Type 0
 FailsAs s (Refused p r) = s ≡ Failed no_item p r
 FailsAs s OutOfMemory = Unit {0}
 
--- the nest and the outcome are the machine's state up to `at`, or the call failed
+-- the nest and the outcome are the machine's state at the offset `at`, or the call failed
 abbrev pub Gives : State → ℕ → Nest → Result Outcome WireFault → Type 0
 Gives s at new r = MatchResult r (λ o. s ≡ left at (opened new) o) (FailsAs s)
 
--- From the piece, which follows the part at `at`, this many bytes were taken, at least one, and at most one more item is complete.
-pub record Took (limit at : ℕ) (part : machine.Partial) (piece : List ℕ) (old new : Nest) (n : ℕ) (o : Outcome) : Type 0 where
+-- This many bytes of the piece, which is at the offset `at`, were taken after the partial head or string: at least one. At most one more item is complete.
+pub record Took (limit at : ℕ) (partial : machine.Partial) (piece : List ℕ) (old new : Nest) (n : ℕ) (o : Outcome) : Type 0 where
   pub some : 0 < n
   pub within : n ≤ length piece
-  pub goes : run limit (Live at no_item (opened old) part) (take n piece) ≡ left (at + n) (opened new) o
-  pub settles : Settles no_item (left (at + n) (opened new) o)
+  pub goes : run limit (Live at no_item (opened old) partial) (take n piece) ≡ left (at + n) (opened new) o
+  pub one_more : AtMostOneMore no_item (left (at + n) (opened new) o)
 
 abbrev pub Takes : ℕ → ℕ → machine.Partial → List ℕ → Nest → Nest → Result (ℕ × Outcome) WireFault → Type 0
-Takes limit at part piece old new r =
-    MatchResult r (λ t. Took limit at part piece old new t.0 t.1) (FailsAs (run limit (Live at no_item (opened old) part) piece))
+Takes limit at partial piece old new r =
+    MatchResult r (λ t. Took limit at partial piece old new t.0 t.1) (FailsAs (run limit (Live at no_item (opened old) partial) piece))
 
--- This item is first in the piece, which is at `at`, and its head is n bytes: the machine takes it wherever no chunk is wanted.
-pub record StandsFirst (at : ℕ) (piece : List ℕ) (t : Tree) (n : ℕ) : Type 0 where
+-- The piece, which is at the offset `at`, begins with this item, and its first n bytes are all of it: the machine takes it wherever no chunk is wanted.
+pub record IsFirstInPiece (at : ℕ) (piece : List ℕ) (t : Tree) (n : ℕ) : Type 0 where
   pub some : 0 < n
   pub within : n ≤ length piece
-  pub goes : (limit : ℕ) (os : List Begun) → IsNoChunk (slot os) → run limit (Live at no_item os nothing) (take n piece) ≡ finished (at + n) no_item os t
+  pub goes : (limit : ℕ) (os : List OpenContainer) → IsNoChunk (slot os) → run limit (Live at no_item os nothing) (take n piece) ≡ finished (at + n) no_item os t
 
--- The state of the machine after a complete item is put into the frame f, if the call answers this: f is then g, or is complete.
-abbrev pub PutGives : State → ℕ → Trees → List Begun → Frame → Result (Option Tree) WireFault → Type 0
-PutGives s at ready os g (Ok None) = s ≡ Live at ready (seen_frame g ∷ os) nothing
+-- The state of the machine after a complete item is put into the container f, if the call gives this: f is then g, or is complete.
+abbrev pub PutGives : State → ℕ → Trees → List OpenContainer → Container → Result (Option Tree) WireFault → Type 0
+PutGives s at ready os g (Ok None) = s ≡ Live at ready (seen_container g ∷ os) nothing
 PutGives s at ready os g (Ok (Some t)) = s ≡ finished at ready os t
 PutGives s at ready os g (Err (Refused p r)) = s ≡ Failed ready p r
 PutGives s at ready os g (Err OutOfMemory) = Unit {0}
 
-abbrev pub Puts : ℕ → Frame → Frame → Tree → Result (Option Tree) WireFault → Type 0
-Puts at f g t r = (ready : Trees) (os : List Begun) → PutGives (finished at ready (seen_frame f ∷ os) t) at ready os g r
+abbrev pub Puts : ℕ → Container → Container → Tree → Result (Option Tree) WireFault → Type 0
+Puts at f g t r = (ready : Trees) (os : List OpenContainer) → PutGives (finished at ready (seen_container f ∷ os) t) at ready os g r
 
--- The state of the machine after a complete item is put into the nest: its innermost frame stays open, or it is complete and removed.
+-- The state of the machine after a complete item is put into the nest: its innermost container stays open, or it is complete and removed.
 abbrev pub PutLeaves : State → ℕ → Nest → Nest → Result (Option Tree) WireFault → Type 0
 PutLeaves s at old new (Ok None) = s ≡ Live at no_item (opened new) nothing
 PutLeaves s at old new (Ok (Some t)) = (s ≡ finished at no_item (opened new) t) × (open_len new + 1 ≡ open_len old)
 PutLeaves s at old new (Err e) = FailsAs s e
 
--- the state of the machine after a break in the frame f, if closing it answers this
-abbrev pub Closes : Frame → Option Tree → Type 0
-Closes f None = (at : ℕ) (ready : Trees) (os : List Begun) → ended at ready (seen_frame f ∷ os) ≡ Failed ready at UnexpectedBreak
-Closes f (Some t) = (at : ℕ) (ready : Trees) (os : List Begun) → ended at ready (seen_frame f ∷ os) ≡ finished at ready os t
+-- the state of the machine after a break in the container f, if closing it gives this
+abbrev pub Closes : Container → Option Tree → Type 0
+Closes f None = (at : ℕ) (ready : Trees) (os : List OpenContainer) → ended at ready (seen_container f ∷ os) ≡ Failed ready at UnexpectedBreak
+Closes f (Some t) = (at : ℕ) (ready : Trees) (os : List OpenContainer) → ended at ready (seen_container f ∷ os) ≡ finished at ready os t
 
-abbrev pub seen : Standing → State
+abbrev pub seen : StackState → State
 seen s = Live s.at (trees s.items) (opened s.nest) (seen_partial s.partial)
 
--- some bytes make it
-abbrev pub IsMade : Standing → Type 0
+-- some bytes make this state
+abbrev pub IsMade : StackState → Type 0
 IsMade s = (base : ℕ) × IsReached s.limit base (seen s)
 
 -- the item follows the others, or memory was refused
@@ -157,23 +157,23 @@ Fails s before now (Refused p r) = (now ≡ before) × (s ≡ Failed (trees now)
 Fails s before now OutOfMemory = now ≡ before
 
 -- What a stack is after a call that failed.
-pub record IsFailed (old new : Standing) (e : WireFault) : Type 0 where
+pub record IsFailed (old new : StackState) (e : WireFault) : Type 0 where
   pub fault : new.fault ≡ Some e
   pub limit : new.limit ≡ old.limit
 
 -- What a stack is after a call that took these bytes.
-pub record IsMoved (old new : Standing) (x : List ℕ) : Type 0 where
+pub record IsMoved (old new : StackState) (x : List ℕ) : Type 0 where
   pub fault : new.fault ≡ None
   pub limit : new.limit ≡ old.limit
   pub at : new.at ≡ old.at + length x
   pub goes : run old.limit (seen old) x ≡ seen new
 
 -- This many bytes of the piece are taken, at least one, and at most one more item is complete; or the call failed.
-abbrev pub Advances : List ℕ → Standing → Standing → Result ℕ WireFault → Type 0
+abbrev pub Advances : List ℕ → StackState → StackState → Result ℕ WireFault → Type 0
 Advances piece old new r =
-    MatchResult r (λ n. (0 < n) × (n ≤ length piece) × IsMoved old new (take n piece) × Settles (trees old.items) (seen new))
+    MatchResult r (λ n. (0 < n) × (n ≤ length piece) × IsMoved old new (take n piece) × AtMostOneMore (trees old.items) (seen new))
     (λ e. IsFailed old new e × Fails (run old.limit (seen old) piece) old.items new.items e)
 
 -- a piece is taken, or the reader stops
-abbrev pub Runs : {T : Type 0} → List ℕ → Standing → Standing → Result T WireFault → Type 0
+abbrev pub Runs : {T : Type 0} → List ℕ → StackState → StackState → Result T WireFault → Type 0
 Runs piece old new r = MatchResult r (λ _. IsMoved old new piece) (λ e. IsFailed old new e × Stops old.limit (seen old) piece e (trees new.items))

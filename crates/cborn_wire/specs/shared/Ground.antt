@@ -5,24 +5,24 @@ use Rattle.cborn_model.specs.Heads.{head}
 use Rattle.cborn_model.specs.Tree.{Trees, depth_all}
 use Rattle.cborn_model.specs.Spelled.{spelled_all, spelled_entries, FitsAll}
 use Rattle.cborn_model.specs.Placed.{ChunksPlaced, Placed, PlacedAll, PlacedEntries}
-use Rattle.cborn_wire.specs.Slots.{major_of, Begun, begun_items, begun_pairs, begun_value, begun_tag, begun_chunks, beginnings, AreBegun}
+use Rattle.cborn_wire.specs.Slots.{major_of, OpenContainer, opened_items, opened_pairs, opened_value, opened_tag, opened_chunks, beginnings, AreOpen}
 
 -- the offsets of what is open
-abbrev pub BegunPlaced : ℕ → Begun → Type 0
-BegunPlaced p (begun_items q a ts) = (q ≡ p) × PlacedAll (p + length (head Array a)) ts
-BegunPlaced p (begun_pairs q a es) = (q ≡ p) × PlacedEntries (p + length (head Map a)) es
-BegunPlaced p (begun_value q a es t) = (q ≡ p) × PlacedEntries (p + length (head Map a)) es × Placed (p + length (head Map a) + length (spelled_entries es)) t
-BegunPlaced p (begun_tag q w n) = q ≡ p
-BegunPlaced p (begun_chunks q k cs) = (q ≡ p) × ChunksPlaced (major_of k) (suc p) cs
+abbrev pub IsPlacedOpen : ℕ → OpenContainer → Type 0
+IsPlacedOpen p (opened_items q a ts) = (q ≡ p) × PlacedAll (p + length (head Array a)) ts
+IsPlacedOpen p (opened_pairs q a es) = (q ≡ p) × PlacedEntries (p + length (head Map a)) es
+IsPlacedOpen p (opened_value q a es t) = (q ≡ p) × PlacedEntries (p + length (head Map a)) es × Placed (p + length (head Map a) + length (spelled_entries es)) t
+IsPlacedOpen p (opened_tag q w n) = q ≡ p
+IsPlacedOpen p (opened_chunks q k cs) = (q ≡ p) × ChunksPlaced (major_of k) (suc p) cs
 
-abbrev pub OpenPlaced : ℕ → List Begun → Type 0
-OpenPlaced p [] = Unit {0}
-OpenPlaced p (o ∷ os) = BegunPlaced (p + length (beginnings os)) o × OpenPlaced p os
+abbrev pub ArePlacedOpen : ℕ → List OpenContainer → Type 0
+ArePlacedOpen p [] = Unit {0}
+ArePlacedOpen p (o ∷ os) = IsPlacedOpen (p + length (beginnings os)) o × ArePlacedOpen p os
 
 -- the complete items and what is open begin at base, and are within the limit
-pub record Ground (limit base : ℕ) (ready : Trees) (os : List Begun) : Type 0 where
+pub record Ground (limit base : ℕ) (ready : Trees) (os : List OpenContainer) : Type 0 where
   pub fit : FitsAll ready
   pub shallow : depth_all ready ≤ limit
   pub placed : PlacedAll base ready
-  pub begun : AreBegun limit os
-  pub open_placed : OpenPlaced (base + length (spelled_all ready)) os
+  pub are_open : AreOpen limit os
+  pub open_placed : ArePlacedOpen (base + length (spelled_all ready)) os

@@ -4,7 +4,7 @@ use Rattle.cborn_model.specs.declared.heads.Width.{Width}
 use Rattle.cborn_model.specs.declared.heads.Width.TheVariants.{Direct, One, Two, Four, Eight}
 use Rattle.cborn_model.specs.declared.heads.Major.{Major}
 use Rattle.cborn_model.specs.declared.heads.Major.TheVariants.{Unsigned, Negative, ByteString, TextString, Array, Map, Tag, Other}
-use Rattle.cborn_model.specs.Heads.{Argument, Given, Unbounded}
+use Rattle.cborn_model.specs.Heads.{Argument, Given, EndlessArgument}
 use Rattle.cborn_wire.specs.declared.faults.WireReason.{WireReason}
 use Rattle.cborn_wire.specs.declared.faults.WireReason.TheVariants.{ReservedInfo, EndlessNotAllowed, BadChunk, UnexpectedBreak, FloatLeftOut, BadSimple, TooDeep}
 use Rattle.cborn_wire.specs.Slots.{StringKind, OfBytes, OfText, Slot, item, value, element_or_end, key_or_end, chunk}
@@ -15,7 +15,7 @@ use Rattle.cborn_wire.specs.HeadReading.{major_at}
 pub data Info : Type 0 where
   Now : ℕ → Info
   Next : Width → Info
-  Reserved Unended : Info
+  Reserved EndlessInformation : Info
 
 abbrev pub info_at : ℕ → Info
 info_at i =
@@ -24,7 +24,7 @@ info_at i =
     else if i == 25 then Next Two
     else if i == 26 then Next Four
     else if i == 27 then Next Eight
-    else if i == 31 then Unended
+    else if i == 31 then EndlessInformation
     else Reserved
 
 -- what the information of a head says
@@ -34,19 +34,19 @@ info_for (Given One n) = Next One
 info_for (Given Two n) = Next Two
 info_for (Given Four n) = Next Four
 info_for (Given Eight n) = Next Eight
-info_for Unbounded = Unended
+info_for EndlessArgument = EndlessInformation
 
 abbrev pub is_reserved : Info → Bool
 is_reserved (Now n) = false
 is_reserved (Next w) = false
 is_reserved Reserved = true
-is_reserved Unended = false
+is_reserved EndlessInformation = false
 
-abbrev pub is_unended : Info → Bool
-is_unended (Now n) = false
-is_unended (Next w) = false
-is_unended Reserved = false
-is_unended Unended = true
+abbrev pub is_endless_head : Info → Bool
+is_endless_head (Now n) = false
+is_endless_head (Next w) = false
+is_endless_head Reserved = false
+is_endless_head EndlessInformation = true
 
 -- the major types that have no indefinite form (RFC 8949 section 3.2)
 abbrev pub is_always_bounded : Major → Bool
@@ -86,7 +86,7 @@ is_of_kind OfText TextString = true
 is_of_kind _ _ = false
 
 abbrev pub is_break : Major → Info → Bool
-is_break m i = is_other m && is_unended i
+is_break m i = is_other m && is_endless_head i
 
 -- in an indefinite string neither a break nor a definite string of its kind (RFC 8949 section 3.2.3)
 abbrev pub is_bad_chunk : Slot → Major → Info → Bool
@@ -94,7 +94,7 @@ is_bad_chunk item m i = false
 is_bad_chunk value m i = false
 is_bad_chunk element_or_end m i = false
 is_bad_chunk key_or_end m i = false
-is_bad_chunk (chunk k) m i = not (is_break m i || (is_of_kind k m && not (is_unended i)))
+is_bad_chunk (chunk k) m i = not (is_break m i || (is_of_kind k m && not (is_endless_head i)))
 
 abbrev pub is_float : Info → Bool
 is_float (Next Two) = true
@@ -109,7 +109,7 @@ is_one _ = false
 abbrev pub head_reason : Slot → Bool → Major → Info → List ℕ → Option WireReason
 head_reason s full m i y =
     if is_reserved i then Some ReservedInfo
-    else if is_unended i && is_always_bounded m then Some EndlessNotAllowed
+    else if is_endless_head i && is_always_bounded m then Some EndlessNotAllowed
     else if is_bad_chunk s m i then Some BadChunk
     else if is_break m i && needs_item s then Some UnexpectedBreak
     else if is_other m && is_float i then Some FloatLeftOut

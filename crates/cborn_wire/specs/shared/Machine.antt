@@ -8,15 +8,15 @@ use Rattle.cborn_model.specs.declared.heads.Size.TheVariants.{Fixed, Endless}
 use Rattle.cborn_model.specs.declared.nodes.Chunk.{Chunk}
 use Rattle.cborn_model.specs.declared.heads.Major.{Major}
 use Rattle.cborn_model.specs.declared.heads.Major.TheVariants.{Unsigned, Negative, ByteString, TextString, Array, Map, Tag, Other}
-use Rattle.cborn_model.specs.Heads.{code, information, Argument, Given, Unbounded, head}
+use Rattle.cborn_model.specs.Heads.{code, information, Argument, Given, EndlessArgument, head}
 use Rattle.cborn_model.specs.Tree.{Tree, Uint, Nint, Bytes, Text, ByteChunks, TextChunks, Items, Pairs, Tagged, Simple, Trees, no_item, more, Entries, no_entry, entry, count, count_entries}
 use Rattle.cborn_model.specs.Spelled.{spelled_all}
 use Rattle.cborn_wire.specs.declared.faults.WireFault.{WireFault}
 use Rattle.cborn_wire.specs.declared.faults.WireFault.TheVariants as faults
 use Rattle.cborn_wire.specs.declared.faults.WireReason.{WireReason}
 use Rattle.cborn_wire.specs.declared.faults.WireReason.TheVariants.{ReservedInfo, EndlessNotAllowed, BadChunk, UnexpectedBreak, FloatLeftOut, BadSimple}
-use Rattle.cborn_wire.specs.Slots.{StringKind, OfBytes, OfText, Begun, begun_items, begun_pairs, begun_value, begun_tag, begun_chunks, beginnings, major_of, slot, open_depth}
-use Rattle.cborn_wire.specs.shared.InitialBytes.{Info, Now, Next, Reserved, Unended, info_at, head_reason}
+use Rattle.cborn_wire.specs.Slots.{StringKind, OfBytes, OfText, OpenContainer, opened_items, opened_pairs, opened_value, opened_tag, opened_chunks, beginnings, major_of, slot, open_depth}
+use Rattle.cborn_wire.specs.shared.InitialBytes.{Info, Now, Next, Reserved, EndlessInformation, info_at, head_reason}
 use Rattle.cborn_wire.specs.HeadReading.{major_at}
 
 -- one list of nodes after another, and a node or a pair at the end of a list
@@ -54,14 +54,14 @@ pub data Goal : Type 0 where
   argument_of : Major → Width → Goal
   content_of : StringKind → Width → Goal
 
--- A part of a head or of a definite string: the place of its head, what is gathered, how many bytes there have to be, and those that came.
+-- A partial head or definite string: the offset of its head, what is gathered, how many bytes there have to be, and those that came.
 pub data Partial : Type 0 where
   nothing : Partial
   gathering : ℕ → Goal → ℕ → List ℕ → Partial
 
--- `Live`: the offset of the next byte, the complete items, what is open, the innermost first, and a part. `Failed`: the items that were complete before the fault, its offset and its reason.
+-- `Live`: the offset of the next byte, the complete items, what is open, the innermost first, and the partial head or string. `Failed`: the items that were complete before the fault, its offset and its reason.
 pub data State : Type 0 where
-  Live : ℕ → Trees → List Begun → Partial → State
+  Live : ℕ → Trees → List OpenContainer → Partial → State
   Failed : Trees → ℕ → WireReason → State
 
 -- before any byte, the first being at p
@@ -69,39 +69,39 @@ abbrev pub start : ℕ → State
 start p = Live p no_item [] nothing
 
 abbrev pub IsLive : State → Type 0
-IsLive (Live fed ready os part) = Unit {0}
+IsLive (Live fed ready os partial) = Unit {0}
 IsLive (Failed ready p r) = ⊥
 
 abbrev pub ready_in : State → Trees
-ready_in (Live fed ready os part) = ready
+ready_in (Live fed ready os partial) = ready
 ready_in (Failed ready p r) = ready
 
 -- the bytes of complete items and of what is open
-abbrev pub front : Trees → List Begun → List ℕ
+abbrev pub front : Trees → List OpenContainer → List ℕ
 front ready os = spelled_all ready ++ beginnings os
 
-abbrev pub part_bytes : Partial → List ℕ
-part_bytes nothing = []
-part_bytes (gathering p (argument_of m w) n got) = (32 * code m + information w 0) ∷ got
-part_bytes (gathering p (content_of k w) n got) = head (major_of k) (Given w n) ++ got
+abbrev pub partial_bytes : Partial → List ℕ
+partial_bytes nothing = []
+partial_bytes (gathering p (argument_of m w) n got) = (32 * code m + information w 0) ∷ got
+partial_bytes (gathering p (content_of k w) n got) = head (major_of k) (Given w n) ++ got
 
 -- the bytes that make a live state
 abbrev pub held : State → List ℕ
-held (Live fed ready os part) = front ready os ++ part_bytes part
+held (Live fed ready os partial) = front ready os ++ partial_bytes partial
 held (Failed ready p r) = []
 
--- as many parts as the head announced
+-- as many items or pairs as the head says
 abbrev pub is_full : Argument → ℕ → Bool
 is_full (Given w n) k = nat_le n k
-is_full Unbounded k = false
+is_full EndlessArgument k = false
 
 abbrev pub items_tree : ℕ → Argument → Trees → Tree
 items_tree p (Given w n) ts = Items p (Fixed w) ts
-items_tree p Unbounded ts = Items p Endless ts
+items_tree p EndlessArgument ts = Items p Endless ts
 
 abbrev pub pairs_tree : ℕ → Argument → Entries → Tree
 pairs_tree p (Given w n) es = Pairs p (Fixed w) es
-pairs_tree p Unbounded es = Pairs p Endless es
+pairs_tree p EndlessArgument es = Pairs p Endless es
 
 abbrev pub string_tree : ℕ → StringKind → Width → List ℕ → Tree
 string_tree p OfBytes w bytes = Bytes p w bytes
@@ -111,91 +111,91 @@ abbrev pub chunks_tree : ℕ → StringKind → List Chunk → Tree
 chunks_tree p OfBytes cs = ByteChunks p cs
 chunks_tree p OfText cs = TextChunks p cs
 
--- a complete item, with what is open around it
-abbrev pub finished : ℕ → Trees → List Begun → Tree → State
+-- after a complete item, inside what is open
+abbrev pub finished : ℕ → Trees → List OpenContainer → Tree → State
 finished fed ready [] t = Live fed (snoc ready t) [] nothing
-finished fed ready (begun_items p a ts ∷ os) t = if is_full a (count (snoc ts t)) then finished fed ready os (items_tree p a (snoc ts t)) else Live fed ready (begun_items p a (snoc ts t) ∷ os) nothing
-finished fed ready (begun_pairs p a es ∷ os) t = Live fed ready (begun_value p a es t ∷ os) nothing
-finished fed ready (begun_value p a es k ∷ os) t = if is_full a (count_entries (snoc_entry es k t)) then finished fed ready os (pairs_tree p a (snoc_entry es k t)) else Live fed ready (begun_pairs p a (snoc_entry es k t) ∷ os) nothing
-finished fed ready (begun_tag p w n ∷ os) t = finished fed ready os (Tagged p w n t)
-finished fed ready (begun_chunks p k cs ∷ os) t = Failed ready fed BadChunk
+finished fed ready (opened_items p a ts ∷ os) t = if is_full a (count (snoc ts t)) then finished fed ready os (items_tree p a (snoc ts t)) else Live fed ready (opened_items p a (snoc ts t) ∷ os) nothing
+finished fed ready (opened_pairs p a es ∷ os) t = Live fed ready (opened_value p a es t ∷ os) nothing
+finished fed ready (opened_value p a es k ∷ os) t = if is_full a (count_entries (snoc_entry es k t)) then finished fed ready os (pairs_tree p a (snoc_entry es k t)) else Live fed ready (opened_pairs p a (snoc_entry es k t) ∷ os) nothing
+finished fed ready (opened_tag p w n ∷ os) t = finished fed ready os (Tagged p w n t)
+finished fed ready (opened_chunks p k cs ∷ os) t = Failed ready fed BadChunk
 
--- an array with these items so far
-abbrev pub items_at : ℕ → Trees → List Begun → ℕ → Argument → Trees → State
-items_at fed ready os p a ts = if is_full a (count ts) then finished fed ready os (items_tree p a ts) else Live fed ready (begun_items p a ts ∷ os) nothing
+-- after the head of an array and these items
+abbrev pub items_at : ℕ → Trees → List OpenContainer → ℕ → Argument → Trees → State
+items_at fed ready os p a ts = if is_full a (count ts) then finished fed ready os (items_tree p a ts) else Live fed ready (opened_items p a ts ∷ os) nothing
 
--- a map with these pairs so far
-abbrev pub pairs_at : ℕ → Trees → List Begun → ℕ → Argument → Entries → State
-pairs_at fed ready os p a es = if is_full a (count_entries es) then finished fed ready os (pairs_tree p a es) else Live fed ready (begun_pairs p a es ∷ os) nothing
+-- after the head of a map and these pairs
+abbrev pub pairs_at : ℕ → Trees → List OpenContainer → ℕ → Argument → Entries → State
+pairs_at fed ready os p a es = if is_full a (count_entries es) then finished fed ready os (pairs_tree p a es) else Live fed ready (opened_pairs p a es ∷ os) nothing
 
--- a whole definite string: a chunk, where an indefinite string is open, else an item
-abbrev pub string_done : ℕ → ℕ → Trees → List Begun → StringKind → Width → List ℕ → State
+-- after a whole definite string: a chunk, where an indefinite string is open, else an item
+abbrev pub string_done : ℕ → ℕ → Trees → List OpenContainer → StringKind → Width → List ℕ → State
 string_done fed p ready [] k w bytes = finished fed ready [] (string_tree p k w bytes)
-string_done fed p ready (begun_items q a ts ∷ os) k w bytes = finished fed ready (begun_items q a ts ∷ os) (string_tree p k w bytes)
-string_done fed p ready (begun_pairs q a es ∷ os) k w bytes = finished fed ready (begun_pairs q a es ∷ os) (string_tree p k w bytes)
-string_done fed p ready (begun_value q a es t ∷ os) k w bytes = finished fed ready (begun_value q a es t ∷ os) (string_tree p k w bytes)
-string_done fed p ready (begun_tag q v n ∷ os) k w bytes = finished fed ready (begun_tag q v n ∷ os) (string_tree p k w bytes)
-string_done fed p ready (begun_chunks q l cs ∷ os) k w bytes = Live fed ready (begun_chunks q l (cs ++ record { place = p; width = w; bytes = bytes } ∷ []) ∷ os) nothing
+string_done fed p ready (opened_items q a ts ∷ os) k w bytes = finished fed ready (opened_items q a ts ∷ os) (string_tree p k w bytes)
+string_done fed p ready (opened_pairs q a es ∷ os) k w bytes = finished fed ready (opened_pairs q a es ∷ os) (string_tree p k w bytes)
+string_done fed p ready (opened_value q a es t ∷ os) k w bytes = finished fed ready (opened_value q a es t ∷ os) (string_tree p k w bytes)
+string_done fed p ready (opened_tag q v n ∷ os) k w bytes = finished fed ready (opened_tag q v n ∷ os) (string_tree p k w bytes)
+string_done fed p ready (opened_chunks q l cs ∷ os) k w bytes = Live fed ready (opened_chunks q l (cs ++ record { place = p; width = w; bytes = bytes } ∷ []) ∷ os) nothing
 
--- a definite string's head and these bytes of its content
-abbrev pub content_at : ℕ → ℕ → Trees → List Begun → StringKind → Width → ℕ → List ℕ → State
+-- after a definite string's head and these bytes of its content
+abbrev pub content_at : ℕ → ℕ → Trees → List OpenContainer → StringKind → Width → ℕ → List ℕ → State
 content_at fed p ready os k w n got = if nat_le n (length got) then string_done fed p ready os k w got else Live fed ready os (gathering p (content_of k w) n got)
 
--- a break
-abbrev pub ended : ℕ → Trees → List Begun → State
-ended fed ready (begun_items p Unbounded ts ∷ os) = finished fed ready os (Items p Endless ts)
-ended fed ready (begun_pairs p Unbounded es ∷ os) = finished fed ready os (Pairs p Endless es)
-ended fed ready (begun_chunks p k cs ∷ os) = finished fed ready os (chunks_tree p k cs)
+-- after a break
+abbrev pub ended : ℕ → Trees → List OpenContainer → State
+ended fed ready (opened_items p EndlessArgument ts ∷ os) = finished fed ready os (Items p Endless ts)
+ended fed ready (opened_pairs p EndlessArgument es ∷ os) = finished fed ready os (Pairs p Endless es)
+ended fed ready (opened_chunks p k cs ∷ os) = finished fed ready os (chunks_tree p k cs)
 ended fed ready _ = Failed ready fed UnexpectedBreak
 
--- a whole head, at p
-abbrev pub after_head : ℕ → ℕ → Trees → List Begun → Major → Argument → State
+-- after a whole head, at p
+abbrev pub after_head : ℕ → ℕ → Trees → List OpenContainer → Major → Argument → State
 after_head fed p ready os Unsigned (Given w n) = finished fed ready os (Uint p w n)
 after_head fed p ready os Negative (Given w n) = finished fed ready os (Nint p w n)
 after_head fed p ready os ByteString (Given w n) = content_at fed p ready os OfBytes w n []
 after_head fed p ready os TextString (Given w n) = content_at fed p ready os OfText w n []
-after_head fed p ready os ByteString Unbounded = Live fed ready (begun_chunks p OfBytes [] ∷ os) nothing
-after_head fed p ready os TextString Unbounded = Live fed ready (begun_chunks p OfText [] ∷ os) nothing
+after_head fed p ready os ByteString EndlessArgument = Live fed ready (opened_chunks p OfBytes [] ∷ os) nothing
+after_head fed p ready os TextString EndlessArgument = Live fed ready (opened_chunks p OfText [] ∷ os) nothing
 after_head fed p ready os Array a = items_at fed ready os p a no_item
 after_head fed p ready os Map a = pairs_at fed ready os p a no_entry
-after_head fed p ready os Tag (Given w n) = Live fed ready (begun_tag p w n ∷ os) nothing
+after_head fed p ready os Tag (Given w n) = Live fed ready (opened_tag p w n ∷ os) nothing
 after_head fed p ready os Other (Given Direct n) = finished fed ready os (Simple p n)
 after_head fed p ready os Other (Given One n) = if nat_lt n 32 then Failed ready p BadSimple else finished fed ready os (Simple p n)
-after_head fed p ready os Other Unbounded = ended fed ready os
+after_head fed p ready os Other EndlessArgument = ended fed ready os
 after_head fed p ready os Other (Given w n) = Failed ready p FloatLeftOut
-after_head fed p ready os m Unbounded = Failed ready p EndlessNotAllowed
+after_head fed p ready os m EndlessArgument = Failed ready p EndlessNotAllowed
 
--- all bytes that were wanted
-abbrev pub gathered : ℕ → ℕ → Trees → List Begun → Goal → List ℕ → State
+-- after all bytes that were wanted
+abbrev pub gathered : ℕ → ℕ → Trees → List OpenContainer → Goal → List ℕ → State
 gathered fed p ready os (argument_of m w) got = after_head fed p ready os m (Given w (number w got))
 gathered fed p ready os (content_of k w) got = string_done fed p ready os k w got
 
--- these bytes so far, of n
-abbrev pub gather : ℕ → ℕ → Trees → List Begun → Goal → ℕ → List ℕ → State
+-- after these of the n bytes
+abbrev pub gather : ℕ → ℕ → Trees → List OpenContainer → Goal → ℕ → List ℕ → State
 gather fed p ready os g n got = if nat_le n (length got) then gathered fed p ready os g got else Live fed ready os (gathering p g n got)
 
--- an initial byte that is allowed in the slot
-abbrev pub begin_head : ℕ → Trees → List Begun → Major → Info → State
+-- after an initial byte that is allowed in the slot
+abbrev pub begin_head : ℕ → Trees → List OpenContainer → Major → Info → State
 begin_head fed ready os m (Now n) = after_head (suc fed) fed ready os m (Given Direct n)
 begin_head fed ready os m (Next w) = gather (suc fed) fed ready os (argument_of m w) (width_bytes w) []
-begin_head fed ready os m Unended = after_head (suc fed) fed ready os m Unbounded
+begin_head fed ready os m EndlessInformation = after_head (suc fed) fed ready os m EndlessArgument
 begin_head fed ready os m Reserved = Failed ready fed ReservedInfo
 
 abbrev pub unless : Option WireReason → Trees → ℕ → State → State
 unless None ready p s = s
 unless (Some r) ready p s = Failed ready p r
 
--- an initial byte, in the slot that what is open leaves
-abbrev pub at_slot : ℕ → ℕ → Trees → List Begun → Major → Info → State
+-- after an initial byte, in the slot that what is open leaves
+abbrev pub at_slot : ℕ → ℕ → Trees → List OpenContainer → Major → Info → State
 at_slot limit fed ready os m i = unless (head_reason (slot os) (nat_le limit (open_depth os)) m i []) ready fed (begin_head fed ready os m i)
 
--- one byte
+-- after one byte
 abbrev pub step : ℕ → State → ℕ → State
 step limit (Failed ready p r) b = Failed ready p r
 step limit (Live fed ready os nothing) b = at_slot limit fed ready os (major_at (b / 32)) (info_at (b % 32))
 step limit (Live fed ready os (gathering p g n got)) b = gather (suc fed) p ready os g n (got ++ b ∷ [])
 
--- all bytes of a list, in order
+-- after all bytes of a list, in order
 abbrev pub run : ℕ → State → List ℕ → State
 run limit s [] = s
 run limit s (b ∷ x) = run limit (step limit s b) x
@@ -205,8 +205,8 @@ abbrev pub IsReached : ℕ → ℕ → State → Type 0
 IsReached limit base s = (x : List ℕ) × AreBytes x × (run limit (start base) x ≡ s)
 
 -- The complete items are as they were, or one more is complete and nothing is open.
-abbrev pub Settles : Trees → State → Type 0
-Settles ready s = (ready_in s ≡ ready) ⊎ ((fed : ℕ) × (t : Tree) × (s ≡ Live fed (snoc ready t) [] nothing))
+abbrev pub AtMostOneMore : Trees → State → Type 0
+AtMostOneMore ready s = (ready_in s ≡ ready) ⊎ ((fed : ℕ) × (t : Tree) × (s ≡ Live fed (snoc ready t) [] nothing))
 
 -- A reader that is fed the bytes x in the state s stops with this fault, and then has these complete items: the machine fails, or memory was refused after some front of x.
 abbrev pub Stops : ℕ → State → List ℕ → WireFault → Trees → Type 0

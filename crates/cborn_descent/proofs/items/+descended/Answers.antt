@@ -1,7 +1,7 @@
 use Rattle.std.proofs.Common.{◌≢◌, ◌+◌, ◌-◌, ℕ, List, refl, sym, ap, ◌∙◌, subst, arith, inl, inr}
 use Rattle.std.proofs.lemmas.List.{take_rest}
 use Rattle.cborn_model.specs.declared.heads.Size.TheVariants.{Fixed, Endless}
-use Rattle.cborn_model.specs.Heads.{Given, Unbounded, WidthFits}
+use Rattle.cborn_model.specs.Heads.{Given, EndlessArgument, WidthFits}
 use Rattle.cborn_model.specs.Tree.{Uint, Nint, Simple}
 use Rattle.cborn_wire.specs.Parts.{NodesRead}
 use Rattle.cborn_wire.proofs.Parts.Heads.{read_from}
@@ -30,7 +30,7 @@ take_array-returns-in-Some-close_array g t c =
       refl,
       array_closed c.args.room c.args.width c.args.n c.in-Ok.count c.args.bytes.now c.in-Ok.rest.now (omega arith) c.requires.fits r.0 r.1
           (λ ts p l e. c.in-Some-close_array.ensures.taken c.args.sink.now (Fixed c.args.width) ts refl l (subst (WidthFits c.args.width) (sym e) c.requires.fits)
-          (subst (λ (k : ℕ). g.S.Sink.in_array c.args.sink.now c.take_items.new.sink c.take_items.new.begun (Given c.args.width k) ts) (sym e) p)),
+          (subst (λ (k : ℕ). g.S.Sink.in_array c.args.sink.now c.take_items.new.sink c.take_items.new.started (Given c.args.width k) ts) (sym e) p)),
     )
 
 pub take_array-close_array-requires : goal.take_array-close_array-requires
@@ -42,7 +42,7 @@ take_array-close_array-requires g t c =
       r.0.nodes,
       refl,
       r.0.count,
-      subst (λ (k : ℕ). g.S.Sink.in_array c.args.sink.now c.take_items.new.sink c.take_items.new.begun (Given c.args.width k) r.0.nodes) (sym e) r.0.holds,
+      subst (λ (k : ℕ). g.S.Sink.in_array c.args.sink.now c.take_items.new.sink c.take_items.new.started (Given c.args.width k) r.0.nodes) (sym e) r.0.holds,
     )
 
 pub take_array-returns-in-None : goal.take_array-returns-in-None
@@ -61,23 +61,23 @@ pub take_endless_array-returns-in_default : goal.take_endless_array-returns-in_d
 take_endless_array-returns-in_default g t c =
     always_only (g.S.Sink.blames c.open_endless_array.new.self) c.args.room _ (c.open_endless_array.ensures.stopped c.in_default.is)
 
-pub take_endless_array-returns-in_default-behind_break : goal.take_endless_array-returns-in_default-behind_break
-take_endless_array-returns-in_default-behind_break g t c =
-    let r = c.in-Ok.ensures c.args.sink.now Unbounded c.in-Some.ensures.opened in
-    elim r.1 [ inl e ↦ endless_all c.args.room c.in-Ok.count c.args.bytes.now c.in-Ok.rest.now r.0 e | inr p ↦ absurd (c.in_default-behind_break.ensures p.1.0 p.1.1) ]
+pub take_endless_array-returns-in_default-after_break : goal.take_endless_array-returns-in_default-after_break
+take_endless_array-returns-in_default-after_break g t c =
+    let r = c.in-Ok.ensures c.args.sink.now EndlessArgument c.in-Some.ensures.opened in
+    elim r.1 [ inl e ↦ endless_all c.args.room c.in-Ok.count c.args.bytes.now c.in-Ok.rest.now r.0 e | inr p ↦ absurd (c.in_default-after_break.ensures p.1.0 p.1.1) ]
 
 pub take_endless_array-returns-in-Some-close_array : goal.take_endless_array-returns-in-Some-close_array
 take_endless_array-returns-in-Some-close_array g t c =
-    let r = c.in-Ok.ensures c.args.sink.now Unbounded c.in-Some.ensures.opened in (
-      c.in-Some-behind_break.after.now,
+    let r = c.in-Ok.ensures c.args.sink.now EndlessArgument c.in-Some.ensures.opened in (
+      c.in-Some-after_break.after.now,
       refl,
-      endless_array_read 0 (omega arith) c.in-Some-behind_break.ensures r.0
+      endless_array_read 0 (omega arith) c.in-Some-after_break.ensures r.0
           (c.in-Some-close_array.ensures.taken c.args.sink.now Endless r.0.nodes refl r.0.count tt r.0.holds),
     )
 
 pub take_endless_array-close_array-requires : goal.take_endless_array-close_array-requires
 take_endless_array-close_array-requires g t c =
-    let r = c.in-Ok.ensures c.args.sink.now Unbounded c.in-Some.ensures.opened in
+    let r = c.in-Ok.ensures c.args.sink.now EndlessArgument c.in-Some.ensures.opened in
     (c.args.sink.now, Endless, r.0.nodes, refl, r.0.count, r.0.holds)
 
 pub take_endless_array-returns-in-None : goal.take_endless_array-returns-in-None
@@ -86,49 +86,49 @@ take_endless_array-returns-in-None g t c =
 
 pub take_endless_array-returns-in-Err : goal.take_endless_array-returns-in-Err
 take_endless_array-returns-in-Err g t c =
-    endless_descended (g.S.Sink.took c.args.sink.now c.take_items.new.sink) (g.S.Sink.blames c.take_items.new.sink) c.args.room _ c.args.bytes.now c.in-Err.descent (g.met.S.Sink.rises c.take_items.new.sink) (c.in-Err.ensures c.args.sink.now Unbounded c.in-Some.ensures.opened)
+    endless_descended (g.S.Sink.took c.args.sink.now c.take_items.new.sink) (g.S.Sink.blames c.take_items.new.sink) c.args.room _ c.args.bytes.now c.in-Err.descent (g.met.S.Sink.rises c.take_items.new.sink) (c.in-Err.ensures c.args.sink.now EndlessArgument c.in-Some.ensures.opened)
 
 pub take_items-returns-in_default : goal.take_items-returns-in_default
 take_items-returns-in_default g t c a n h =
-    items_always (g.S.Sink.blames c.integers.new.self) c.args.room c.args.most c.args.may_end c.args.bytes.now (c.integers.ensures.stopped c.in_default.is)
+    items_always (g.S.Sink.blames c.integers.new.self) c.args.room c.args.bound.most c.args.bound.may_end c.args.bytes.now (c.integers.ensures.stopped c.in_default.is)
 
 pub take_items-returns-then-is_done : goal.take_items-returns-then-is_done
 take_items-returns-then-is_done g t c a n h =
     let s = c.items.invariant.0 a n h in
-    let run = items_run {P = λ ts. g.S.Sink.in_array a c.items.sink c.items.begun n ts} {Q = λ ts. g.S.Sink.in_array a c.integers.new.self c.integers.new.begun n ts} s (c.in-Some.ensures.taken a n s.nodes s.count s.holds) in
-    let now = subst (λ (l : List ℕ). NodesRead (λ ts. g.S.Sink.in_array a c.integers.new.self c.integers.new.begun n ts) c.args.room (c.items.count + c.in-Some.more) c.args.bytes.now l) (sym (take_rest c.items.rest.now c.in-Some.len)) run in
+    let run = items_run {P = λ ts. g.S.Sink.in_array a c.items.sink c.items.started n ts} {Q = λ ts. g.S.Sink.in_array a c.integers.new.self c.integers.new.started n ts} s (c.in-Some.ensures.taken a n s.nodes s.count s.holds) in
+    let now = subst (λ (l : List ℕ). NodesRead (λ ts. g.S.Sink.in_array a c.integers.new.self c.integers.new.started n ts) c.args.room (c.items.count + c.in-Some.more) c.args.bytes.now l) (sym (take_rest c.items.rest.now c.in-Some.len)) run in
     (now, c.if-is_done.ensures)
 
 pub take_items-returns-in_default-before_item : goal.take_items-returns-in_default-before_item
 take_items-returns-in_default-before_item g t c a n h =
-    items_always (g.S.Sink.blames c.before_item.new.self) c.args.room c.args.most c.args.may_end c.args.bytes.now (c.before_item.ensures.stopped c.in_default-before_item.is)
+    items_always (g.S.Sink.blames c.before_item.new.self) c.args.room c.args.bound.most c.args.bound.may_end c.args.bytes.now (c.before_item.ensures.stopped c.in_default-before_item.is)
 
 pub take_items-returns-in-Malformed : goal.take_items-returns-in-Malformed
 take_items-returns-in-Malformed g t c a n h =
     let s = c.items.invariant.0 a n h in
-    let run = items_run {P = λ ts. g.S.Sink.in_array a c.items.sink c.items.begun n ts} {Q = λ ts. g.S.Sink.in_array a c.integers.new.self c.integers.new.begun n ts} s (c.in-Some.ensures.taken a n s.nodes s.count s.holds) in
-    let now = subst (λ (l : List ℕ). NodesRead (λ ts. g.S.Sink.in_array a c.integers.new.self c.integers.new.begun n ts) c.args.room (c.items.count + c.in-Some.more) c.args.bytes.now l) (sym (take_rest c.items.rest.now c.in-Some.len)) run in
-    let more : c.items.count + c.in-Some.more ≢ c.args.most = c.if-is_done.ensures.0 in
-    items_next Never c.args.room c.args.most (c.items.count + c.in-Some.more) c.args.may_end c.args.bytes.now _ now (omega (arith, more, c.items.invariant.1, c.in-Some.ensures.within.1)) c.if-is_done.ensures.1 c.in-Malformed.ensures
+    let run = items_run {P = λ ts. g.S.Sink.in_array a c.items.sink c.items.started n ts} {Q = λ ts. g.S.Sink.in_array a c.integers.new.self c.integers.new.started n ts} s (c.in-Some.ensures.taken a n s.nodes s.count s.holds) in
+    let now = subst (λ (l : List ℕ). NodesRead (λ ts. g.S.Sink.in_array a c.integers.new.self c.integers.new.started n ts) c.args.room (c.items.count + c.in-Some.more) c.args.bytes.now l) (sym (take_rest c.items.rest.now c.in-Some.len)) run in
+    let more : c.items.count + c.in-Some.more ≢ c.args.bound.most = c.if-is_done.ensures.0 in
+    items_next Never c.args.room c.args.bound.most (c.items.count + c.in-Some.more) c.args.bound.may_end c.args.bytes.now _ now (omega (arith, more, c.items.invariant.1, c.in-Some.ensures.within.1)) c.if-is_done.ensures.1 c.in-Malformed.ensures
 
 pub take_items-returns-in-Stopped : goal.take_items-returns-in-Stopped
 take_items-returns-in-Stopped g t c a n h =
     let s = c.items.invariant.0 a n h in
-    let run = items_run {P = λ ts. g.S.Sink.in_array a c.items.sink c.items.begun n ts} {Q = λ ts. g.S.Sink.in_array a c.integers.new.self c.integers.new.begun n ts} s (c.in-Some.ensures.taken a n s.nodes s.count s.holds) in
-    let now = subst (λ (l : List ℕ). NodesRead (λ ts. g.S.Sink.in_array a c.integers.new.self c.integers.new.begun n ts) c.args.room (c.items.count + c.in-Some.more) c.args.bytes.now l) (sym (take_rest c.items.rest.now c.in-Some.len)) run in
-    let more : c.items.count + c.in-Some.more ≢ c.args.most = c.if-is_done.ensures.0 in
-    items_next (g.S.Sink.blames c.take_node.new.sink) c.args.room c.args.most (c.items.count + c.in-Some.more) c.args.may_end c.args.bytes.now _ now (omega (arith, more, c.items.invariant.1, c.in-Some.ensures.within.1)) c.if-is_done.ensures.1 c.in-Stopped.ensures
+    let run = items_run {P = λ ts. g.S.Sink.in_array a c.items.sink c.items.started n ts} {Q = λ ts. g.S.Sink.in_array a c.integers.new.self c.integers.new.started n ts} s (c.in-Some.ensures.taken a n s.nodes s.count s.holds) in
+    let now = subst (λ (l : List ℕ). NodesRead (λ ts. g.S.Sink.in_array a c.integers.new.self c.integers.new.started n ts) c.args.room (c.items.count + c.in-Some.more) c.args.bytes.now l) (sym (take_rest c.items.rest.now c.in-Some.len)) run in
+    let more : c.items.count + c.in-Some.more ≢ c.args.bound.most = c.if-is_done.ensures.0 in
+    items_next (g.S.Sink.blames c.take_node.new.sink) c.args.room c.args.bound.most (c.items.count + c.in-Some.more) c.args.bound.may_end c.args.bytes.now _ now (omega (arith, more, c.items.invariant.1, c.in-Some.ensures.within.1)) c.if-is_done.ensures.1 c.in-Stopped.ensures
 
 pub take_items-returns-in_default-after_item : goal.take_items-returns-in_default-after_item
 take_items-returns-in_default-after_item g t c a n h =
-    items_always (g.S.Sink.blames c.after_item.new.self) c.args.room c.args.most c.args.may_end c.args.bytes.now (c.after_item.ensures.stopped c.in_default-after_item.is)
+    items_always (g.S.Sink.blames c.after_item.new.self) c.args.room c.args.bound.most c.args.bound.may_end c.args.bytes.now (c.after_item.ensures.stopped c.in_default-after_item.is)
 
 pub take_items-items-preserved : goal.take_items-items-preserved
 take_items-items-preserved g t c =
-    let more : c.items.count + c.in-Some.more ≢ c.args.most = c.if-is_done.ensures.0 in (
+    let more : c.items.count + c.in-Some.more ≢ c.args.bound.most = c.if-is_done.ensures.0 in (
       λ a n h. let s = c.items.invariant.0 a n h in
-          let run = items_run {P = λ ts. g.S.Sink.in_array a c.items.sink c.items.begun n ts} {Q = λ ts. g.S.Sink.in_array a c.integers.new.self c.integers.new.begun n ts} s (c.in-Some.ensures.taken a n s.nodes s.count s.holds) in
-          let now = subst (λ (l : List ℕ). NodesRead (λ ts. g.S.Sink.in_array a c.integers.new.self c.integers.new.begun n ts) c.args.room (c.items.count + c.in-Some.more) c.args.bytes.now l) (sym (take_rest c.items.rest.now c.in-Some.len)) run in
+          let run = items_run {P = λ ts. g.S.Sink.in_array a c.items.sink c.items.started n ts} {Q = λ ts. g.S.Sink.in_array a c.integers.new.self c.integers.new.started n ts} s (c.in-Some.ensures.taken a n s.nodes s.count s.holds) in
+          let now = subst (λ (l : List ℕ). NodesRead (λ ts. g.S.Sink.in_array a c.integers.new.self c.integers.new.started n ts) c.args.room (c.items.count + c.in-Some.more) c.args.bytes.now l) (sym (take_rest c.items.rest.now c.in-Some.len)) run in
           let y = node_last c.in-Taken.ensures c.in-Some-last.ensures.found in
           node_more now y (c.in-Some-after_item.ensures.taken a c.before_item.new.self n now.nodes y.node (c.in-Some-before_item.ensures.taken a n now.nodes now.count now.holds) y.holds),
       omega (arith, more, c.items.invariant.1, c.in-Some.ensures.within.1),
@@ -227,7 +227,7 @@ take_map-returns-in-Some g t c =
       refl,
       map_closed c.args.room c.args.width c.args.n c.in-Ok.count c.args.bytes.now c.in-Ok.rest.now (omega arith) c.requires.fits (omega arith) r.0 r.1
           (λ ts p l spells e. c.in-Some.ensures.taken c.args.sink.now (Fixed c.args.width) ts refl l (subst (WidthFits c.args.width) (sym e) c.requires.fits) spells
-          (subst (λ (k : ℕ). g.S.Sink.in_map c.args.sink.now c.take_pairs.new.sink c.take_pairs.new.begun (Given c.args.width k) ts) (sym e) p)),
+          (subst (λ (k : ℕ). g.S.Sink.in_map c.args.sink.now c.take_pairs.new.sink c.take_pairs.new.started (Given c.args.width k) ts) (sym e) p)),
     )
 
 pub take_map-close_map-requires : goal.take_map-close_map-requires
@@ -239,7 +239,7 @@ take_map-close_map-requires g t c =
       r.0.nodes,
       refl,
       r.0.count,
-      subst (λ (k : ℕ). g.S.Sink.in_map c.args.sink.now c.take_pairs.new.sink c.take_pairs.new.begun (Given c.args.width k) r.0.nodes) (sym e) r.0.holds,
+      subst (λ (k : ℕ). g.S.Sink.in_map c.args.sink.now c.take_pairs.new.sink c.take_pairs.new.started (Given c.args.width k) r.0.nodes) (sym e) r.0.holds,
     )
 
 pub take_map-returns-in-None : goal.take_map-returns-in-None
@@ -247,7 +247,7 @@ take_map-returns-in-None g t c =
     let r = c.in-Ok.ensures c.args.sink.now (Given c.args.width c.args.n) c.in-Inside.ensures in
     map_blamed (g.S.Sink.blames c.close_map.new.self) c.args.room c.args.width c.args.n c.in-Ok.count c.args.bytes.now c.in-Ok.rest.now c.requires.fits r.0 r.1
     (λ e. c.close_map.ensures.stopped c.in-None.is c.args.sink.now (Fixed c.args.width) r.0.nodes r.0.count (spellable (c.args.room - 1) c.in-Ok.count c.args.bytes.now c.in-Ok.rest.now (omega arith) r.0)
-    (subst (λ (k : ℕ). g.S.Sink.in_map c.args.sink.now c.take_pairs.new.sink c.take_pairs.new.begun (Given c.args.width k) r.0.nodes) (sym e) r.0.holds))
+    (subst (λ (k : ℕ). g.S.Sink.in_map c.args.sink.now c.take_pairs.new.sink c.take_pairs.new.started (Given c.args.width k) r.0.nodes) (sym e) r.0.holds))
 
 pub take_map-returns-in-Err : goal.take_map-returns-in-Err
 take_map-returns-in-Err g t c =
@@ -261,57 +261,57 @@ pub take_endless_map-returns-in_default : goal.take_endless_map-returns-in_defau
 take_endless_map-returns-in_default g t c =
     always_only (g.S.Sink.blames c.open_endless_map.new.self) c.args.room _ (c.open_endless_map.ensures.stopped c.in_default.is)
 
-pub take_endless_map-returns-in_default-behind_break : goal.take_endless_map-returns-in_default-behind_break
-take_endless_map-returns-in_default-behind_break g t c =
-    let r = c.in-Ok.ensures c.args.sink.now Unbounded c.in-Some.ensures.opened in
-    elim r.1 [ inl e ↦ endless_map_all c.args.room c.in-Ok.count c.args.bytes.now c.in-Ok.rest.now r.0 e | inr p ↦ absurd (c.in_default-behind_break.ensures p.1.0 p.1.1) ]
+pub take_endless_map-returns-in_default-after_break : goal.take_endless_map-returns-in_default-after_break
+take_endless_map-returns-in_default-after_break g t c =
+    let r = c.in-Ok.ensures c.args.sink.now EndlessArgument c.in-Some.ensures.opened in
+    elim r.1 [ inl e ↦ endless_map_all c.args.room c.in-Ok.count c.args.bytes.now c.in-Ok.rest.now r.0 e | inr p ↦ absurd (c.in_default-after_break.ensures p.1.0 p.1.1) ]
 
 pub take_endless_map-returns-in-Some-close_map : goal.take_endless_map-returns-in-Some-close_map
 take_endless_map-returns-in-Some-close_map g t c =
-    let r = c.in-Ok.ensures c.args.sink.now Unbounded c.in-Some.ensures.opened in (
-      c.in-Some-behind_break.after.now,
+    let r = c.in-Ok.ensures c.args.sink.now EndlessArgument c.in-Some.ensures.opened in (
+      c.in-Some-after_break.after.now,
       refl,
-      endless_map_read 0 (omega arith) c.in-Some-behind_break.ensures r.0
+      endless_map_read 0 (omega arith) c.in-Some-after_break.ensures r.0
           (c.in-Some-close_map.ensures.taken c.args.sink.now Endless r.0.nodes refl r.0.count tt (spellable (c.args.room - 1) c.in-Ok.count c.args.bytes.now c.in-Ok.rest.now (omega arith) r.0) r.0.holds),
     )
 
 pub take_endless_map-close_map-requires : goal.take_endless_map-close_map-requires
 take_endless_map-close_map-requires g t c =
-    let r = c.in-Ok.ensures c.args.sink.now Unbounded c.in-Some.ensures.opened in
+    let r = c.in-Ok.ensures c.args.sink.now EndlessArgument c.in-Some.ensures.opened in
     (c.args.sink.now, Endless, r.0.nodes, refl, r.0.count, r.0.holds)
 
 pub take_endless_map-returns-in-None : goal.take_endless_map-returns-in-None
 take_endless_map-returns-in-None g t c =
-    let r = c.in-Ok.ensures c.args.sink.now Unbounded c.in-Some.ensures.opened in
-    endless_map_blamed (g.S.Sink.blames c.close_map.new.self) c.args.room c.in-Ok.count c.args.bytes.now c.in-Ok.rest.now _ r.0 c.in-Some-behind_break.ensures
+    let r = c.in-Ok.ensures c.args.sink.now EndlessArgument c.in-Some.ensures.opened in
+    endless_map_blamed (g.S.Sink.blames c.close_map.new.self) c.args.room c.in-Ok.count c.args.bytes.now c.in-Ok.rest.now _ r.0 c.in-Some-after_break.ensures
     (c.close_map.ensures.stopped c.in-None.is c.args.sink.now Endless r.0.nodes r.0.count (spellable (c.args.room - 1) c.in-Ok.count c.args.bytes.now c.in-Ok.rest.now (omega arith) r.0) r.0.holds)
 
 pub take_endless_map-returns-in-Err : goal.take_endless_map-returns-in-Err
 take_endless_map-returns-in-Err g t c =
-    endless_map_descended (g.S.Sink.took c.args.sink.now c.take_pairs.new.sink) (g.S.Sink.blames c.take_pairs.new.sink) c.args.room _ c.args.bytes.now c.in-Err.descent (g.met.S.Sink.rises c.take_pairs.new.sink) (c.in-Err.ensures c.args.sink.now Unbounded c.in-Some.ensures.opened)
+    endless_map_descended (g.S.Sink.took c.args.sink.now c.take_pairs.new.sink) (g.S.Sink.blames c.take_pairs.new.sink) c.args.room _ c.args.bytes.now c.in-Err.descent (g.met.S.Sink.rises c.take_pairs.new.sink) (c.in-Err.ensures c.args.sink.now EndlessArgument c.in-Some.ensures.opened)
 
 pub take_pairs-returns-in_default : goal.take_pairs-returns-in_default
 take_pairs-returns-in_default g t c a n h =
-    pairs_always (g.S.Sink.blames c.before_key.new.self) c.args.room c.args.most c.args.may_end c.args.bytes.now (c.before_key.ensures.stopped c.in_default.is)
+    pairs_always (g.S.Sink.blames c.before_key.new.self) c.args.room c.args.bound.most c.args.bound.may_end c.args.bytes.now (c.before_key.ensures.stopped c.in_default.is)
 
 pub take_pairs-returns-in-Malformed : goal.take_pairs-returns-in-Malformed
 take_pairs-returns-in-Malformed g t c a n h =
     let s = c.pairs.invariant.0 a n h in
-    let more : c.pairs.count ≢ c.args.most = c.if-is_done.ensures.0 in
-    pairs_next Never c.args.room c.args.most c.pairs.count c.args.may_end c.args.bytes.now c.pairs.rest.now s (omega (arith, more, c.pairs.invariant.1)) c.if-is_done.ensures.1 (c.in-Malformed.ensures.taken a n s.nodes (c.in-Some.ensures.taken a n s.nodes s.count s.holds))
+    let more : c.pairs.count ≢ c.args.bound.most = c.if-is_done.ensures.0 in
+    pairs_next Never c.args.room c.args.bound.most c.pairs.count c.args.bound.may_end c.args.bytes.now c.pairs.rest.now s (omega (arith, more, c.pairs.invariant.1)) c.if-is_done.ensures.1 (c.in-Malformed.ensures.taken a n s.nodes (c.in-Some.ensures.taken a n s.nodes s.count s.holds))
 
 pub take_pairs-returns-in-Stopped : goal.take_pairs-returns-in-Stopped
 take_pairs-returns-in-Stopped g t c a n h =
     let s = c.pairs.invariant.0 a n h in
-    let more : c.pairs.count ≢ c.args.most = c.if-is_done.ensures.0 in
-    pairs_next (g.S.Sink.blames c.take_pair.new.sink) c.args.room c.args.most c.pairs.count c.args.may_end c.args.bytes.now c.pairs.rest.now s (omega (arith, more, c.pairs.invariant.1)) c.if-is_done.ensures.1 (c.in-Stopped.ensures.taken a n s.nodes (c.in-Some.ensures.taken a n s.nodes s.count s.holds))
+    let more : c.pairs.count ≢ c.args.bound.most = c.if-is_done.ensures.0 in
+    pairs_next (g.S.Sink.blames c.take_pair.new.sink) c.args.room c.args.bound.most c.pairs.count c.args.bound.may_end c.args.bytes.now c.pairs.rest.now s (omega (arith, more, c.pairs.invariant.1)) c.if-is_done.ensures.1 (c.in-Stopped.ensures.taken a n s.nodes (c.in-Some.ensures.taken a n s.nodes s.count s.holds))
 
 pub take_pairs-pairs-smaller : goal.take_pairs-pairs-smaller
 take_pairs-pairs-smaller g t c = pair_some (pair_last c.in-Taken.ensures.read c.in-Some-last.ensures.found)
 
 pub take_pairs-pairs-preserved : goal.take_pairs-pairs-preserved
 take_pairs-pairs-preserved g t c =
-    let more : c.pairs.count ≢ c.args.most = c.if-is_done.ensures.0 in (
+    let more : c.pairs.count ≢ c.args.bound.most = c.if-is_done.ensures.0 in (
       λ a n h. let s = c.pairs.invariant.0 a n h in
           let y = pair_last (c.in-Taken.ensures.taken a n s.nodes (c.in-Some.ensures.taken a n s.nodes s.count s.holds)) c.in-Some-last.ensures.found in
           pair_more s y y.holds,
@@ -320,15 +320,15 @@ take_pairs-pairs-preserved g t c =
 
 pub take_pair-before_value-requires : goal.take_pair-before_value-requires
 take_pair-before_value-requires g t c =
-    let begun = c.requires.begun in
-    (begun.0, c.args.sink.now, begun.1, begun.2, begun.3, (c.args.room, c.requires.room, c.in-Taken.ensures))
+    let started = c.requires.started in
+    (started.0, c.args.sink.now, started.1, started.2, started.3, (c.args.room, c.requires.room, c.in-Taken.ensures))
 
 pub take_pair-after_value-requires : goal.take_pair-after_value-requires
 take_pair-after_value-requires g t c =
-    let begun = c.requires.begun in
+    let started = c.requires.started in
     let k = node_last c.in-Taken.ensures c.in-Some-last.ensures.found in
     let v = c.in-Taken-take_node.ensures in
-    (begun.0, c.before_value.new.self, begun.1, begun.2, k.node, v.2.node, c.in-Some.ensures.taken begun.0 c.args.sink.now begun.1 begun.2 k.node begun.3 k.holds, v.2.holds)
+    (started.0, c.before_value.new.self, started.1, started.2, k.node, v.2.node, c.in-Some.ensures.taken started.0 c.args.sink.now started.1 started.2 k.node started.3 k.holds, v.2.holds)
 
 pub take_pair-returns-in_default-clause-taken : goal.take_pair-returns-in_default-clause-taken
 take_pair-returns-in_default-clause-taken g t c a n ps h =

@@ -35,11 +35,11 @@ abbrev pub decreases-take_items-items : goal.decreases-take_items-items
 decreases-take_items-items g l = length l.rest
 
 abbrev pub invariant-take_items-items : goal.invariant-take_items-items
-invariant-take_items-items g l = ((a : g.row.S.Denot) (n : Argument) → g.S.Sink.in_array a l.initial.sink l.initial.begun n [] → NodesRead (λ ts. g.S.Sink.in_array a l.sink l.begun n ts) l.room l.count l.bytes l.rest) × (l.count ≤ l.most)
+invariant-take_items-items g l = ((a : g.row.S.Denot) (n : Argument) → g.S.Sink.in_array a l.initial.sink l.initial.started n [] → NodesRead (λ ts. g.S.Sink.in_array a l.sink l.started n ts) l.room l.count l.bytes l.rest) × (l.count ≤ l.bound.most)
 
 -- the pairs so far
 abbrev pub decreases-take_pairs-pairs : goal.decreases-take_pairs-pairs
 decreases-take_pairs-pairs g l = length l.rest
 
 abbrev pub invariant-take_pairs-pairs : goal.invariant-take_pairs-pairs
-invariant-take_pairs-pairs g l = ((a : g.row.S.Denot) (n : Argument) → g.S.Sink.in_map a l.initial.sink l.initial.begun n [] → PairsRead (λ ps. g.S.Sink.in_map a l.sink l.begun n ps) l.room l.count l.bytes l.rest) × (l.count ≤ l.most)
+invariant-take_pairs-pairs g l = ((a : g.row.S.Denot) (n : Argument) → g.S.Sink.in_map a l.initial.sink l.initial.started n [] → PairsRead (λ ps. g.S.Sink.in_map a l.sink l.started n ps) l.room l.count l.bytes l.rest) × (l.count ≤ l.bound.most)

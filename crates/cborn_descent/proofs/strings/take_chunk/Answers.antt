@@ -32,20 +32,20 @@ returns-then-n-after g c a cs l h =
 pub chunk-requires-clause-bytes : goal.chunk-requires-clause-bytes
 chunk-requires-clause-bytes g c =
     let all : AreBytes c.args.bytes.now = are_bytes c.args.bytes.now c.type_inv.bytes in
-    let behind : AreBytes (drop c.in-Full.len c.args.bytes.now) = bytes-right (take c.in-Full.len c.args.bytes.now) (drop c.in-Full.len c.args.bytes.now) (subst AreBytes (sym (take-append-drop c.in-Full.len c.args.bytes.now)) all) in
-    (split_read c.in-Given.n _ c.split_at.result.0.now c.split_at.result.1.now c.if-n-after.false c.split_at.ensures.front c.split_at.ensures.back (subst AreBytes (sym (take_rest c.args.bytes.now c.in-Full.len)) behind)).bytes
+    let beyond : AreBytes (drop c.in-Full.len c.args.bytes.now) = bytes-right (take c.in-Full.len c.args.bytes.now) (drop c.in-Full.len c.args.bytes.now) (subst AreBytes (sym (take-append-drop c.in-Full.len c.args.bytes.now)) all) in
+    (split_read c.in-Given.n _ c.split_at.result.0.now c.split_at.result.1.now c.if-n-after.false c.split_at.ensures.front c.split_at.ensures.back (subst AreBytes (sym (take_rest c.args.bytes.now c.in-Full.len)) beyond)).bytes
 
 pub returns-in-Some : goal.returns-in-Some
 returns-in-Some g c a cs l h =
     let all : AreBytes c.args.bytes.now = are_bytes c.args.bytes.now c.type_inv.bytes in
-    let behind : AreBytes (drop c.in-Full.len c.args.bytes.now) = bytes-right (take c.in-Full.len c.args.bytes.now) (drop c.in-Full.len c.args.bytes.now) (subst AreBytes (sym (take-append-drop c.in-Full.len c.args.bytes.now)) all) in
-    let s = split_read c.in-Given.n _ c.split_at.result.0.now c.split_at.result.1.now c.if-n-after.false c.split_at.ensures.front c.split_at.ensures.back (subst AreBytes (sym (take_rest c.args.bytes.now c.in-Full.len)) behind) in
+    let beyond : AreBytes (drop c.in-Full.len c.args.bytes.now) = bytes-right (take c.in-Full.len c.args.bytes.now) (drop c.in-Full.len c.args.bytes.now) (subst AreBytes (sym (take-append-drop c.in-Full.len c.args.bytes.now)) all) in
+    let s = split_read c.in-Given.n _ c.split_at.result.0.now c.split_at.result.1.now c.if-n-after.false c.split_at.ensures.front c.split_at.ensures.back (subst AreBytes (sym (take_rest c.args.bytes.now c.in-Full.len)) beyond) in
     (c.split_at.result.1.now, refl, chunk_read 0 (take_rest c.args.bytes.now c.in-Full.len) c.in-Full.ensures (sym c.major_type.ensures ∙ c.is_string.ensures.good c.if-not-is_string.false) c.in-Given.is s (c.in-Some.ensures.taken a cs l h))
 
 pub returns-in-None : goal.returns-in-None
 returns-in-None g c a cs l h =
     let all : AreBytes c.args.bytes.now = are_bytes c.args.bytes.now c.type_inv.bytes in
-    let behind : AreBytes (drop c.in-Full.len c.args.bytes.now) = bytes-right (take c.in-Full.len c.args.bytes.now) (drop c.in-Full.len c.args.bytes.now) (subst AreBytes (sym (take-append-drop c.in-Full.len c.args.bytes.now)) all) in
-    let s = split_read c.in-Given.n _ c.split_at.result.0.now c.split_at.result.1.now c.if-n-after.false c.split_at.ensures.front c.split_at.ensures.back (subst AreBytes (sym (take_rest c.args.bytes.now c.in-Full.len)) behind) in
+    let beyond : AreBytes (drop c.in-Full.len c.args.bytes.now) = bytes-right (take c.in-Full.len c.args.bytes.now) (drop c.in-Full.len c.args.bytes.now) (subst AreBytes (sym (take-append-drop c.in-Full.len c.args.bytes.now)) all) in
+    let s = split_read c.in-Given.n _ c.split_at.result.0.now c.split_at.result.1.now c.if-n-after.false c.split_at.ensures.front c.split_at.ensures.back (subst AreBytes (sym (take_rest c.args.bytes.now c.in-Full.len)) beyond) in
     read_from (λ (y : List ℕ). ChunkFails (BlamesChunk (g.S.Sink.blames c.chunk.new.self) c.args.text) (major_of c.args.text) y) (take_rest c.args.bytes.now c.in-Full.len) c.in-Full.ensures (sym c.major_type.ensures ∙ c.is_string.ensures.good c.if-not-is_string.false) c.in-Given.is
     (λ fits. chunk_blamed (BlamesChunk (g.S.Sink.blames c.chunk.new.self) c.args.text) c.args.text c.in-Given.width c.in-Given.n _ c.split_at.result.0.now c.split_at.result.1.now s fits (search rules))

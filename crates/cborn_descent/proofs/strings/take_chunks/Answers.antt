@@ -13,7 +13,7 @@ returns-in-None g c room = always_only (g.S.Sink.blames c.close_chunks.new.self)
 pub returns-in_default-take_chunk : goal.returns-in_default-take_chunk
 returns-in_default-take_chunk g c room =
     let s = c.chunks.invariant.0 c.args.sink.now c.in-Some.ensures.opened in
-    chunks_stop _ (g.S.Sink.blames c.take_chunk.new.sink) room c.args.text c.args.bytes.now c.chunks.rest.now s c.in_default-behind_break.ensures _ c.take_chunk.result c.in_default-take_chunk.not-Taken (c.take_chunk.ensures c.args.sink.now s.chunks s.holds.0 s.holds.1)
+    chunks_stop _ (g.S.Sink.blames c.take_chunk.new.sink) room c.args.text c.args.bytes.now c.chunks.rest.now s c.in_default-after_break.ensures _ c.take_chunk.result c.in_default-take_chunk.not-Taken (c.take_chunk.ensures c.args.sink.now s.chunks s.holds.0 s.holds.1)
 
 pub chunks-smaller : goal.chunks-smaller
 chunks-smaller g c =

@@ -1,22 +1,22 @@
 use Rattle.std.proofs.Common.{refl, ◌∙◌, subst, Option}
-use Rattle.cborn_edn.specs.Says.{piece_slips}
-use Rattle.cborn_edn.specs.declared.slips.Slip.{Slip}
-use Rattle.cborn_edn.specs.devices.Slips.{Notes}
+use Rattle.cborn_edn.specs.Says.{piece_errors}
+use Rattle.cborn_edn.specs.declared.meaning_errors.MeaningError.{MeaningError}
+use Rattle.cborn_edn.specs.devices.MeaningErrors.{Notes}
 use Rattle.cborn_edn.proofs.Reader.Closed.{closed_embed}
 use Rattle.cborn_edn.proofs.closings.close_embedded.Goals as goal
 
 pub returns-clause-shows : goal.returns-clause-shows
 returns-clause-shows c = λ h o s a k p e.
-    closed_embed c.args.here.now c.shut-frame.new.here _ c.args.writer.now c.shut-frame.new.writer _ c.shut-frame.result c.in-Some.around c.with_embedded-string.result c.is_none-known.result c.args.mark c.args.place
+    closed_embed c.args.here.now c.shut-bracket.new.here _ c.args.writer.now c.shut-bracket.new.writer _ c.shut-bracket.result c.in-Some.around c.with_embedded-string.result c.is_none-known.result c.args.mark c.args.place
     (record {
-      shut = c.shut-frame.ensures.top;
+      shut = c.shut-bracket.ensures.top;
       known = c.is_none-known.ensures;
       popped = c.in-Some.ensures;
       joint = record {
         alone = λ t n i q l r m g. let d = c.with_embedded-string.ensures.alone t n i q l r m g in (d.0, d.1 ∙ c.earlier-writer.ensures);
-        more = λ start u t n i q r m g. let d = c.with_embedded-string.ensures.more start u t n i q r m g in (d.0, subst (λ (x : Option Slip). Notes x c.with_embedded-string.new.slip (piece_slips u t)) c.earlier-writer.ensures d.1);
+        more = λ start u t n i q r m g. let d = c.with_embedded-string.ensures.more start u t n i q r m g in (d.0, subst (λ (x : Option MeaningError). Notes x c.with_embedded-string.new.error (piece_errors u t)) c.earlier-writer.ensures d.1);
       };
-      frames = refl;
+      brackets = refl;
       chunks = refl;
       string = refl;
       out = refl;

@@ -1,6 +1,6 @@
 use Rattle.std.proofs.Common.{◌≡◌, sym, ap, ◌∙◌, subst, Some}
 use Rattle.cborn_lex.specs.declared.classes.Class.TheVariants.{ArrayClose}
-use Rattle.cborn_edn.specs.shared.Syntax.{array}
+use Rattle.cborn_edn.specs.devices.Syntax.{array}
 use Rattle.cborn_edn.proofs.Grammar.Machine.{State, has, step_by}
 use Rattle.cborn_edn.specs.devices.Steps.{is_array}
 use Rattle.cborn_edn.specs.devices.Shows.{Shows}

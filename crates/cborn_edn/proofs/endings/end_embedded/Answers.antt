@@ -1,6 +1,6 @@
 use Rattle.std.proofs.Common.{◌≡◌, sym, ap, ◌∙◌, subst, Some}
 use Rattle.cborn_lex.specs.declared.classes.Class.TheVariants.{EmbedClose}
-use Rattle.cborn_edn.specs.shared.Syntax.{embedded}
+use Rattle.cborn_edn.specs.devices.Syntax.{embedded}
 use Rattle.cborn_edn.proofs.Grammar.Machine.{State, builds, with_piece, step_by}
 use Rattle.cborn_edn.specs.devices.Steps.{is_embedded}
 use Rattle.cborn_edn.specs.devices.Shows.{Shows}

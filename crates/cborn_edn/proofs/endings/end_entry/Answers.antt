@@ -1,6 +1,6 @@
 use Rattle.std.proofs.Common.{◌≡◌, refl, sym, ap, ◌∙◌, subst, Some}
 use Rattle.cborn_lex.specs.declared.classes.Class.TheVariants.{Comma}
-use Rattle.cborn_edn.specs.shared.Syntax.{row, after_row, pairs, after_pairs}
+use Rattle.cborn_edn.specs.devices.Syntax.{row, after_row, pairs, after_pairs}
 use Rattle.cborn_edn.proofs.Grammar.Machine.{Stack, in_row, in_key, wants, has, step_by}
 use Rattle.cborn_edn.specs.devices.Steps.{is_value, is_row}
 use Rattle.cborn_edn.specs.devices.Shows.{Shows}

@@ -1,6 +1,6 @@
 use Rattle.std.proofs.Common.{◌≡◌, refl, sym, ap, ◌∙◌, subst, Some}
 use Rattle.cborn_lex.specs.declared.classes.Class.TheVariants.{ParenClose}
-use Rattle.cborn_edn.specs.shared.Syntax.{tag}
+use Rattle.cborn_edn.specs.devices.Syntax.{tag}
 use Rattle.cborn_edn.proofs.Grammar.Machine.{Stack, has, step_by}
 use Rattle.cborn_edn.specs.devices.Steps.{is_tag}
 use Rattle.cborn_edn.specs.devices.Shows.{Shows}

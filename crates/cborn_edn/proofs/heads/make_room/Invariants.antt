@@ -1,7 +1,7 @@
 use Rattle.std.proofs.Common.{◌≡◌, ◌≤◌, ◌+◌, ◌-◌, length, take, drop}
 use Rattle.cborn_edn.proofs.heads.make_room.Given as goal
 
--- what stands before the offset end is where it was, and the rest is moved
+-- the bytes before the offset end are where they were, and the rest is moved
 abbrev pub invariant-blocks-2 : goal.invariant-blocks-2
 invariant-blocks-2 l = record {
   least : l.from ≤ l.end;

@@ -1,5 +1,5 @@
 use Rattle.cborn_edn.proofs.Grammar.OneTree.{larger_limit}
-use Rattle.cborn_edn.proofs.Short.Jammed.{has_tree, tree_had}
+use Rattle.cborn_edn.proofs.Short.SyntaxErrors.{has_tree, tree_had}
 use Rattle.cborn_edn.proofs.laws.larger_limit.Goals as goal
 
 pub returns : goal.returns

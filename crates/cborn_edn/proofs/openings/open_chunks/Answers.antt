@@ -1,20 +1,20 @@
 use Rattle.std.proofs.Common.{refl, [], ◌∷◌, arith, ◌≡◌, length, rules, ◌∙◌, Some, None}
 use Rattle.cborn_edn.proofs.Reader.Laying.{laid_length, laid_bytes}
-use Rattle.cborn_edn.proofs.Reader.Showing.{same_slips}
+use Rattle.cborn_edn.proofs.Reader.Showing.{same_errors}
 use Rattle.cborn_edn.specs.devices.Laid.{laid_stack}
 use Rattle.cborn_edn.specs.devices.Noted.{noted_stack}
 use Rattle.cborn_edn.proofs.openings.open_chunks.Goals as goal
 
 pub returns-clause-shows : goal.returns-clause-shows
 returns-clause-shows c = let from : c.len-start.result ≡ length c.args.writer.now.out.items = search rules in λ st a e. record {
-  stand = refl;
+  phase = refl;
   level = e.level;
   count = e.count;
-  frames = e.frames;
+  brackets = e.brackets;
   around = e.around;
   string = e.string;
   chunks = λ i. Some (record { start = (from ∙ laid_length (laid_stack c.args.writer.now.heads st) c.args.writer.now.out.items e.out) i; kind = None });
   simple = tt;
-  slip = same_slips c.args.writer.now.slip (noted_stack st) e.slip;
+  error = same_errors c.args.writer.now.error (noted_stack st) e.error;
   out = laid_bytes (laid_stack c.args.writer.now.heads st) (0 ∷ []) c.args.writer.now.out.items c.push.new.self.items e.out (omega arith, tt) c.in_ok-push.ensures.items;
 }

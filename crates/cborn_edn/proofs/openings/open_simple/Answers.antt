@@ -3,14 +3,14 @@ use Rattle.cborn_edn.proofs.openings.open_simple.Goals as goal
 
 pub returns-clause-shows : goal.returns-clause-shows
 returns-clause-shows c = λ st a p e. record {
-  stand = refl;
+  phase = refl;
   level = e.level;
   count = e.count;
-  frames = e.frames;
+  brackets = e.brackets;
   around = e.around;
   string = e.string;
   chunks = e.chunks;
   simple = p;
-  slip = e.slip;
+  error = e.error;
   out = e.out;
 }

@@ -2,7 +2,7 @@ use Rattle.std.proofs.Common.{refl, sym, ap, ◌∙◌, ℕ, List, arith, ◌+�
 use Rattle.cborn_lex.proofs.WholeTexts.Weights.{utf8_bytes}
 use Rattle.cborn_lex.specs.declared.classes.Class.TheVariants.{ParenClose}
 use Rattle.cborn_lex.specs.Good as good
-use Rattle.cborn_edn.specs.shared.Syntax.{Span, simple}
+use Rattle.cborn_edn.specs.devices.Syntax.{Span, simple}
 use Rattle.cborn_edn.proofs.Grammar.Machine.{has, has_number}
 use Rattle.cborn_edn.proofs.Reader.CommonTokens.{single_here}
 use Rattle.cborn_edn.proofs.Reader.Taking.{turned, simple_number, shown_as}

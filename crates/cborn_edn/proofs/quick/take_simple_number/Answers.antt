@@ -1,7 +1,7 @@
 use Rattle.std.proofs.Common.{refl, arith, false, subst, if◌then◌else◌, List, ℕ}
 use Rattle.cborn_lex.proofs.WholeTexts.Weights.{utf8_bytes}
 use Rattle.cborn_lex.specs.declared.classes.Class.TheVariants.{Number, TagOpen}
-use Rattle.cborn_edn.specs.shared.Syntax.{Span}
+use Rattle.cborn_edn.specs.devices.Syntax.{Span}
 use Rattle.cborn_edn.proofs.Grammar.Machine.{has_number}
 use Rattle.cborn_edn.specs.devices.Ahead.{IsTokenAt}
 use Rattle.cborn_edn.proofs.Reader.Taking.{number_taken, number_low, beyond}

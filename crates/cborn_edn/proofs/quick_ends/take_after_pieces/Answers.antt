@@ -16,4 +16,4 @@ take_after-requires-clause-reading c =
 pub take_after-requires-clause-has : goal.take_after-requires-clause-has
 take_after-requires-clause-has c =
     let k = pieced c.args.profile c.args.limit c.args.text.now c.args.here.now c.args.writer.now c.requires.reading c.requires.builds (sym c.has_chunks.ensures ∙ c.if-has_chunks.false) in
-    (c.in_ok-end_item.ensures.shows k.st k.ps k.modest k.shows).stand
+    (c.in_ok-end_item.ensures.shows k.st k.ps k.modest k.shows).phase

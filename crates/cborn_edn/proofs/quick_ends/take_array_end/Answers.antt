@@ -2,7 +2,7 @@ use Rattle.std.proofs.Common.{refl, arith, ◌+◌, [], subst, length, ◌^◌, 
 use Rattle.cborn_lex.proofs.WholeTexts.Weights.{utf8_bytes}
 use Rattle.cborn_lex.specs.declared.classes.Class.TheVariants.{ArrayClose}
 use Rattle.cborn_lex.specs.Good as good
-use Rattle.cborn_edn.specs.shared.Syntax.{Span}
+use Rattle.cborn_edn.specs.devices.Syntax.{Span}
 use Rattle.cborn_lex.specs.declared.classes.Kind.TheVariants as kinds
 use Rattle.cborn_edn.proofs.Reader.CommonTokens.{single_here}
 use Rattle.cborn_edn.proofs.Reader.Taking.{end_taken, end_free, may_end, few_here}

@@ -2,7 +2,7 @@ use Rattle.std.proofs.Common.{refl, arith, ◌+◌}
 use Rattle.cborn_lex.proofs.WholeTexts.Weights.{utf8_bytes}
 use Rattle.cborn_lex.specs.declared.classes.Class.TheVariants.{Comma}
 use Rattle.cborn_lex.specs.Good as good
-use Rattle.cborn_edn.specs.shared.Syntax.{Span, strings, after_strings}
+use Rattle.cborn_edn.specs.devices.Syntax.{Span, strings, after_strings}
 use Rattle.cborn_edn.proofs.Grammar.Machine.{as_chunk, builds, wants_chunk}
 use Rattle.cborn_edn.proofs.Reader.CommonTokens.{single_here}
 use Rattle.cborn_edn.proofs.Reader.Taking.{chunked, turned}

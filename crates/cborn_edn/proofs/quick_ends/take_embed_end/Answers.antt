@@ -2,7 +2,7 @@ use Rattle.std.proofs.Common.{refl, arith, [], inl, subst, List, ℕ}
 use Rattle.cborn_lex.proofs.WholeTexts.Weights.{utf8_bytes}
 use Rattle.cborn_lex.specs.declared.classes.Class.TheVariants.{EmbedClose}
 use Rattle.cborn_lex.specs.declared.classes.Kind.TheVariants as kinds
-use Rattle.cborn_edn.specs.shared.Syntax.{Span}
+use Rattle.cborn_edn.specs.devices.Syntax.{Span}
 use Rattle.cborn_edn.specs.devices.Ahead.{IsTokenAt}
 use Rattle.cborn_edn.proofs.Reader.Taking.{end_taken, end_free, may_end, beyond}
 use Rattle.cborn_edn.proofs.quick_ends.take_embed_end.Goals as goal

@@ -3,7 +3,7 @@ use Rattle.cborn_lex.proofs.WholeTexts.Weights.{utf8_bytes}
 use Rattle.cborn_lex.specs.declared.classes.Class.TheVariants.{Number, TagOpen}
 use Rattle.cborn_lex.specs.declared.classes.Class.{Class}
 use Rattle.cborn_edn.specs.devices.Ahead.{IsTokenAt}
-use Rattle.cborn_edn.specs.shared.Syntax.{Span, number}
+use Rattle.cborn_edn.specs.devices.Syntax.{Span, number}
 use Rattle.cborn_edn.proofs.Grammar.Machine.{has}
 use Rattle.cborn_edn.proofs.Reader.Taking.{item_taken, beyond, number_low}
 use Rattle.cborn_edn.proofs.quick_items.take_integer.Goals as goal

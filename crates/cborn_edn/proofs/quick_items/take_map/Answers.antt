@@ -1,7 +1,7 @@
 use Rattle.std.proofs.Common.{refl, arith, subst, List, ℕ, ap, ◌∙◌, slice_index}
 use Rattle.cborn_lex.proofs.WholeTexts.Weights.{utf8_bytes}
 use Rattle.cborn_lex.specs.declared.classes.Class.TheVariants.{MapOpen}
-use Rattle.cborn_edn.specs.shared.Syntax.{Span, no_pair}
+use Rattle.cborn_edn.specs.devices.Syntax.{Span, no_pair}
 use Rattle.cborn_edn.proofs.Grammar.Machine.{wants, in_key}
 use Rattle.cborn_edn.specs.devices.Ahead.{IsTokenAt}
 use Rattle.cborn_edn.proofs.Reader.Taking.{item_taken, beyond}

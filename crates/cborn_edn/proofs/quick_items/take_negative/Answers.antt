@@ -2,7 +2,7 @@ use Rattle.std.proofs.Common.{refl, arith, true, subst, List, ℕ}
 use Rattle.cborn_lex.proofs.WholeTexts.Weights.{utf8_bytes}
 use Rattle.cborn_lex.specs.declared.classes.Class.TheVariants.{Number}
 use Rattle.cborn_lex.specs.declared.classes.Mark.TheVariants.{Absent}
-use Rattle.cborn_edn.specs.shared.Syntax.{Span, number}
+use Rattle.cborn_edn.specs.devices.Syntax.{Span, number}
 use Rattle.cborn_edn.proofs.Grammar.Machine.{has}
 use Rattle.cborn_edn.specs.devices.Ahead.{IsTokenAt}
 use Rattle.cborn_edn.proofs.Reader.Taking.{item_taken, beyond, number_low}

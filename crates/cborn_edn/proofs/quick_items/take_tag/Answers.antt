@@ -1,7 +1,7 @@
 use Rattle.std.proofs.Common.{refl, arith}
 use Rattle.cborn_lex.proofs.WholeTexts.Weights.{utf8_bytes}
 use Rattle.cborn_lex.specs.declared.classes.Class.TheVariants.{TagOpen}
-use Rattle.cborn_edn.specs.shared.Syntax.{Span}
+use Rattle.cborn_edn.specs.devices.Syntax.{Span}
 use Rattle.cborn_edn.proofs.Grammar.Machine.{wants, in_tag}
 use Rattle.cborn_edn.proofs.Reader.Taking.{item_taken, beyond}
 use Rattle.cborn_edn.proofs.quick_items.take_tag.Goals as goal

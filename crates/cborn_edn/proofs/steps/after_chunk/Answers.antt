@@ -2,7 +2,7 @@ use Rattle.std.proofs.Common.{refl, ap, ◌∙◌, true}
 use Rattle.cborn_lex.specs.declared.classes.Kind.{Kind}
 use Rattle.cborn_lex.specs.declared.classes.Kind.TheVariants as kinds
 use Rattle.cborn_lex.specs.Kinds.{class_of}
-use Rattle.cborn_edn.specs.shared.Syntax.{Span, strings, after_strings, chunked}
+use Rattle.cborn_edn.specs.devices.Syntax.{Span, strings, after_strings, chunked}
 use Rattle.cborn_edn.proofs.Grammar.Machine.{as_chunk, has, builds, wants_chunk}
 use Rattle.cborn_edn.proofs.Reader.Turning.{taken_as}
 use Rattle.cborn_edn.proofs.steps.after_chunk.Goals as goal

@@ -1,6 +1,6 @@
 use Rattle.std.proofs.Common.{refl, true}
 use Rattle.cborn_lex.specs.declared.classes.Kind.TheVariants as kinds
-use Rattle.cborn_edn.specs.shared.Syntax.{simple}
+use Rattle.cborn_edn.specs.devices.Syntax.{simple}
 use Rattle.cborn_edn.proofs.Grammar.Machine.{has, has_number}
 use Rattle.cborn_edn.proofs.Reader.Turning.{turn}
 use Rattle.cborn_edn.proofs.steps.after_number.Goals as goal

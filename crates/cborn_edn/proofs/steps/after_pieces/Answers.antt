@@ -1,5 +1,5 @@
 use Rattle.std.proofs.Common.{sym, ap, ◌∙◌, subst}
-use Rattle.cborn_edn.specs.shared.Syntax.{string}
+use Rattle.cborn_edn.specs.devices.Syntax.{string}
 use Rattle.cborn_edn.proofs.Grammar.Machine.{Home, builds, as_item, has}
 use Rattle.cborn_edn.proofs.Reader.Results.{if_ok}
 use Rattle.cborn_edn.specs.devices.Shows.{Shows}

@@ -1,6 +1,6 @@
 use Rattle.std.proofs.Common.{refl, true, None}
 use Rattle.cborn_lex.specs.declared.classes.Kind.TheVariants as kinds
-use Rattle.cborn_edn.specs.shared.Syntax.{text, bytes, piece, no_item}
+use Rattle.cborn_edn.specs.devices.Syntax.{text, bytes, piece, no_item}
 use Rattle.cborn_edn.proofs.Grammar.Machine.{in_row, in_embed, as_chunk, wants, builds, wants_chunk}
 use Rattle.cborn_edn.proofs.Reader.Turning.{arm, not_text}
 use Rattle.cborn_edn.proofs.steps.begin_chunk.Goals as goal

@@ -1,9 +1,9 @@
 use Rattle.std.proofs.Common.{refl, sym, ◌∙◌, subst, true, Some}
 use Rattle.cborn_lex.specs.declared.classes.Kind.TheVariants as kinds
-use Rattle.cborn_edn.specs.shared.Syntax.{text, bytes, also, no_item}
+use Rattle.cborn_edn.specs.devices.Syntax.{text, bytes, also, no_item}
 use Rattle.cborn_edn.proofs.Grammar.Machine.{in_row, in_embed, wants, builds}
-use Rattle.cborn_edn.proofs.Reader.Turning.{arm, bare, no_piece, shown_kind}
-use Rattle.cborn_edn.specs.shared.Syntax.{tokens_of_pieces}
+use Rattle.cborn_edn.proofs.Reader.Turning.{arm, appends_nothing, no_piece, shown_kind}
+use Rattle.cborn_edn.specs.devices.Syntax.{tokens_of_pieces}
 use Rattle.cborn_edn.proofs.Grammar.Held.{held_home}
 use Rattle.cborn_edn.proofs.Reader.Results.{if_ok}
 use Rattle.cborn_edn.specs.devices.Steps.{EndsPieces}
@@ -11,7 +11,7 @@ use Rattle.cborn_edn.proofs.Reader.Modest.{modest_right}
 use Rattle.cborn_edn.proofs.steps.more.Goals as goal
 
 pub returns-in_ok-open_embedded-in-EmbedOpen-clause-shows : goal.returns-in_ok-open_embedded-in-EmbedOpen-clause-shows
-returns-in_ok-open_embedded-in-EmbedOpen-clause-shows c = λ h ps. bare c.args.token.kind (kinds.EmbedOpen) c.args.number c.args.start c.args.token.start c.args.here.now c.open_embedded.new.here c.args.writer.now c.open_embedded.new.writer true (builds h ps) c.in-EmbedOpen.is (λ x. refl) (λ x a p e. (wants (in_row (in_embed h (Some ps) a) no_item), refl, c.in_ok-open_embedded-in-EmbedOpen.ensures.goes_on h ps a p e))
+returns-in_ok-open_embedded-in-EmbedOpen-clause-shows c = λ h ps. appends_nothing c.args.token.kind (kinds.EmbedOpen) c.args.number c.args.start c.args.token.start c.args.here.now c.open_embedded.new.here c.args.writer.now c.open_embedded.new.writer true (builds h ps) c.in-EmbedOpen.is (λ x. refl) (λ x a p e. (wants (in_row (in_embed h (Some ps) a) no_item), refl, c.in_ok-open_embedded-in-EmbedOpen.ensures.goes_on h ps a p e))
 
 pub returns-in-Text-clause-shows : goal.returns-in-Text-clause-shows
 returns-in-Text-clause-shows c = λ h ps. arm c.args.token.kind (kinds.Text c.in-Text.mark) c.args.number c.args.start c.args.token.start c.args.here.now c.args.here.now c.args.writer.now c.join.new.writer true (builds h ps) c.in-Text.is (λ x base a p are from e shows. (builds h (also ps (text a x c.in-Text.mark)), refl, c.join.ensures.shows c.args.here.now h ps a true x base p e are shows))

@@ -13,5 +13,5 @@ returns-clause-added c = on_ok c.set_length.result (λ h s base e f. h s.bytes b
 
 pub returns-clause-noted : goal.returns-clause-noted
 returns-clause-noted c = always_ok c.set_length.result (λ s base e f known.
-    chunk_noted c.are_same.result c.args.kind c.args.string s (length base) c.args.slip.now c.note_unless.new.slip c.note_string.new.slip e c.are_same.ensures c.note_unless.ensures
+    chunk_noted c.are_same.result c.args.kind c.args.string s (length base) c.args.error.now c.note_unless.new.error c.note_string.new.error e c.are_same.ensures c.note_unless.ensures
     (c.note_string.ensures s (length base) e (content_cut base s.bytes c.args.out.now.items _ c.args.string.start (ap (λ (x : Joint). x.start) e) f (take_rest c.deref.result.now (c.args.string.start + 1) ∙ ap (drop (c.args.string.start + 1)) c.deref.ensures.value)) known))

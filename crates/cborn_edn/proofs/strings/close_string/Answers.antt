@@ -9,7 +9,7 @@ use Rattle.cborn_edn.proofs.strings.close_string.Goals.{else-string-via-then-str
 
 pub returns-then-is_endless-clause-noted : goal.returns-then-is_endless-clause-noted
 returns-then-is_endless-clause-noted c = always_ok c.extend_from_slice.result (λ s base e f known.
-    lone_noted c.args.string s (length base) c.args.slip.now c.note_string.new.slip e (c.note_string.ensures s (length base) e (content_cut base s.bytes c.args.out.now.items _ c.args.string.start (ap (λ (x : Joint). x.start) e) f (take_rest c.deref.result.now (c.args.string.start + 1) ∙ ap (drop (c.args.string.start + 1)) c.deref.ensures.value)) known))
+    lone_noted c.args.string s (length base) c.args.error.now c.note_string.new.error e (c.note_string.ensures s (length base) e (content_cut base s.bytes c.args.out.now.items _ c.args.string.start (ap (λ (x : Joint). x.start) e) f (take_rest c.deref.result.now (c.args.string.start + 1) ∙ ap (drop (c.args.string.start + 1)) c.deref.ensures.value)) known))
 
 pub returns-then-is_endless-clause-added : goal.returns-then-is_endless-clause-added
 returns-then-is_endless-clause-added c = on_ok c.extend_from_slice.result (λ h s base e f.
@@ -22,4 +22,4 @@ returns-clause-added c =
 
 pub returns-clause-noted : goal.returns-clause-noted
 returns-clause-noted c = always_ok c.set_length.result (λ s base e f known.
-    lone_noted c.args.string s (length base) c.args.slip.now c.note_string.new.slip e (c.note_string.ensures s (length base) e (content_cut base s.bytes c.args.out.now.items _ c.args.string.start (ap (λ (x : Joint). x.start) e) f (take_rest c.deref.result.now (c.args.string.start + 1) ∙ ap (drop (c.args.string.start + 1)) c.deref.ensures.value)) known))
+    lone_noted c.args.string s (length base) c.args.error.now c.note_string.new.error e (c.note_string.ensures s (length base) e (content_cut base s.bytes c.args.out.now.items _ c.args.string.start (ap (λ (x : Joint). x.start) e) f (take_rest c.deref.result.now (c.args.string.start + 1) ∙ ap (drop (c.args.string.start + 1)) c.deref.ensures.value)) known))

@@ -22,7 +22,7 @@ returns-clause-taken c =
     let t = found.1 one (none_yet 34 tail one) in
     let place : at + 1 + (len + 1) ≡ at + len + 2 = omega arith in
     let after : drop (at + len + 2) text ≡ drop (len + 1) tail = ap (λ n. drop n text) (sym place) ∙ sym (drop-drop (len + 1) (at + 1) text) ∙ ap (drop (len + 1)) (sym is) in
-    let bare = subst (λ (y : List ℕ). begins (λ d. eqb d 95) y ≡ false) after c.in_ok-stop.ensures.bare in
+    let unmarked = subst (λ (y : List ℕ). begins (λ d. eqb d 95) y ≡ false) after c.in_ok-stop.ensures.no_mark in
     let start = c.len-start.result in
     let n = c.len.result - start - 1 in
     let first : start ≡ length old = search rules in
@@ -33,8 +33,8 @@ returns-clause-taken c =
     let small : n < 2 ^ 64 = omega arith in (
       t.bytes,
       at + len + 2,
-      text_here c.args.profile text tail t.bytes at len c.requires.inside c.requires.quote is t.within t.quote t.inside t.is bare,
+      text_here c.args.profile text tail t.bytes at len c.requires.inside c.requires.quote is t.within t.quote t.inside t.is unmarked,
       utf8,
-      c.in_ok-stop.ensures.gap,
+      c.in_ok-stop.ensures.white_space,
       text_headed old one two c.set_shortest_head.new.out.items t.bytes start n first put t.added size small c.in-Ok-set_shortest_head.ensures.set,
     )

@@ -1,14 +1,14 @@
 use Rattle.std.proofs.Common.{◌∙◌, sym}
 use Rattle.cborn_engine.specs.Checking.{Checks}
 use Rattle.cborn_engine.specs.Reading.{most_bytes}
-use Rattle.cborn_engine.proofs.Answers.Told.{told}
+use Rattle.cborn_engine.proofs.Answers.KnownErrors.{known_error}
 use Rattle.cborn_engine.proofs.Answers.Whole.{not_checked, checked_whole}
 use Rattle.cborn_engine.proofs.Streams.Counted.{read_counted}
 use Rattle.cborn_engine.proofs.checks.check.Goals as goal
 
 pub returns-in_err-input-clause-checks : goal.returns-in_err-input-clause-checks
 returns-in_err-input-clause-checks g c =
-    told (Checks g.O.KeyOrder.order c.args.limit most_bytes _ _) _ _ c.from_residual.ensures.1
+    known_error (Checks g.O.KeyOrder.order c.args.limit most_bytes _ _) _ _ c.from_residual.ensures.1
     (not_checked g.O.KeyOrder.order c.args.limit most_bytes _ (g.R.Source.remaining c.read_bytes.new.reader) c.in_err-input.field-0.0 c.in_err-input.ensures.collects)
 
 pub returns-clause-checks : goal.returns-clause-checks

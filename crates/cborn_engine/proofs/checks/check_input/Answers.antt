@@ -1,5 +1,5 @@
 use Rattle.std.proofs.Common.{arith, refl, subst}
-use Rattle.cborn_transcode.specs.Departing.{IsFirstDeparture}
+use Rattle.cborn_departures.specs.Departing.{IsFirstDeparture}
 use Rattle.cborn_transcode.specs.Transcoding.{HoldsNoItems}
 use Rattle.cborn_transcode.proofs.Nothings.{some_items}
 use Rattle.cborn_engine.specs.Reading.{most_bytes}
@@ -9,7 +9,7 @@ use Rattle.cborn_model.specs.Tree.{trees}
 use Rattle.cborn_engine.specs.Checking.{CheckAnswers}
 use Rattle.cborn_engine.specs.Whole.{TellsFault}
 use Rattle.cborn_engine.proofs.Answers.Malformed.{wellformed, handed}
-use Rattle.cborn_engine.proofs.Answers.Told.{told}
+use Rattle.cborn_engine.proofs.Answers.KnownErrors.{known_error}
 use Rattle.cborn_engine.proofs.checks.check_input.Goals as goal
 
 pub returns-in-Ok-Deterministic-clause-answers : goal.returns-in-Ok-Deterministic-clause-answers
@@ -33,11 +33,11 @@ returns-in_ok-judge_bytes-in-Ok-First-clause-malformed g c =
 
 pub returns-in_err-judge_bytes-in-Ok-First-clause-answers : goal.returns-in_err-judge_bytes-in-Ok-First-clause-answers
 returns-in_err-judge_bytes-in-Ok-First-clause-answers g c within =
-    told (CheckAnswers g.O.KeyOrder.order c.args.limit most_bytes c.args.input.now) _ _ c.from_residual.ensures.1 (c.in_err-judge_bytes-in-Ok-First.ensures.refused within)
+    known_error (CheckAnswers g.O.KeyOrder.order c.args.limit most_bytes c.args.input.now) _ _ c.from_residual.ensures.1 (c.in_err-judge_bytes-in-Ok-First.ensures.refused within)
 
 pub returns-in_err-judge_bytes-in-Ok-First-clause-malformed : goal.returns-in_err-judge_bytes-in-Ok-First-clause-malformed
 returns-in_err-judge_bytes-in-Ok-First-clause-malformed g c =
-    told (λ r. TellsFault kind.Wire c.args.limit c.args.input.now r) _ _ c.from_residual.ensures.1 (handed kind.Wire c.args.limit c.args.input.now c.in_err-judge_bytes-in-Ok-First.field-0.0 c.in_err-judge_bytes-in-Ok-First.ensures.malformed)
+    known_error (λ r. TellsFault kind.Wire c.args.limit c.args.input.now r) _ _ c.from_residual.ensures.1 (handed kind.Wire c.args.limit c.args.input.now c.in_err-judge_bytes-in-Ok-First.field-0.0 c.in_err-judge_bytes-in-Ok-First.ensures.malformed)
 
 pub unreachable-requires : goal.unreachable-requires
 unreachable-requires g c =
@@ -47,19 +47,19 @@ unreachable-requires g c =
 
 pub returns-in_err-judge_bytes-in-Ok-Nothing-clause-answers : goal.returns-in_err-judge_bytes-in-Ok-Nothing-clause-answers
 returns-in_err-judge_bytes-in-Ok-Nothing-clause-answers g c within =
-    told (CheckAnswers g.O.KeyOrder.order c.args.limit most_bytes c.args.input.now) _ _ c.from_residual-in_err-judge_bytes-in-Ok-Nothing.ensures.1 (c.in_err-judge_bytes-in-Ok-Nothing.ensures.refused within)
+    known_error (CheckAnswers g.O.KeyOrder.order c.args.limit most_bytes c.args.input.now) _ _ c.from_residual-in_err-judge_bytes-in-Ok-Nothing.ensures.1 (c.in_err-judge_bytes-in-Ok-Nothing.ensures.refused within)
 
 pub returns-in_err-judge_bytes-in-Ok-Nothing-clause-malformed : goal.returns-in_err-judge_bytes-in-Ok-Nothing-clause-malformed
 returns-in_err-judge_bytes-in-Ok-Nothing-clause-malformed g c =
-    told (λ r. TellsFault kind.Wire c.args.limit c.args.input.now r) _ _ c.from_residual-in_err-judge_bytes-in-Ok-Nothing.ensures.1 (handed kind.Wire c.args.limit c.args.input.now c.in_err-judge_bytes-in-Ok-Nothing.field-0.0 c.in_err-judge_bytes-in-Ok-Nothing.ensures.malformed)
+    known_error (λ r. TellsFault kind.Wire c.args.limit c.args.input.now r) _ _ c.from_residual-in_err-judge_bytes-in-Ok-Nothing.ensures.1 (handed kind.Wire c.args.limit c.args.input.now c.in_err-judge_bytes-in-Ok-Nothing.field-0.0 c.in_err-judge_bytes-in-Ok-Nothing.ensures.malformed)
 
 pub returns-in_err-judge_bytes-in-Err-clause-answers : goal.returns-in_err-judge_bytes-in-Err-clause-answers
 returns-in_err-judge_bytes-in-Err-clause-answers g c within =
-    told (CheckAnswers g.O.KeyOrder.order c.args.limit most_bytes c.args.input.now) _ _ c.from_residual-in_err-judge_bytes-in-Err.ensures.1 (c.in_err-judge_bytes-in-Err.ensures.refused within)
+    known_error (CheckAnswers g.O.KeyOrder.order c.args.limit most_bytes c.args.input.now) _ _ c.from_residual-in_err-judge_bytes-in-Err.ensures.1 (c.in_err-judge_bytes-in-Err.ensures.refused within)
 
 pub returns-in_err-judge_bytes-in-Err-clause-malformed : goal.returns-in_err-judge_bytes-in-Err-clause-malformed
 returns-in_err-judge_bytes-in-Err-clause-malformed g c =
-    told (λ r. TellsFault kind.Wire c.args.limit c.args.input.now r) _ _ c.from_residual-in_err-judge_bytes-in-Err.ensures.1 (handed kind.Wire c.args.limit c.args.input.now c.in_err-judge_bytes-in-Err.field-0.0 c.in_err-judge_bytes-in-Err.ensures.malformed)
+    known_error (λ r. TellsFault kind.Wire c.args.limit c.args.input.now r) _ _ c.from_residual-in_err-judge_bytes-in-Err.ensures.1 (handed kind.Wire c.args.limit c.args.input.now c.in_err-judge_bytes-in-Err.field-0.0 c.in_err-judge_bytes-in-Err.ensures.malformed)
 
 pub returns-in_ok-judge_bytes-in-Err-clause-malformed : goal.returns-in_ok-judge_bytes-in-Err-clause-malformed
 returns-in_ok-judge_bytes-in-Err-clause-malformed g c =

@@ -1,6 +1,6 @@
 use Rattle.std.proofs.Common.{arith}
 use Rattle.cborn_engine.specs.Canonical.{Normalises}
-use Rattle.cborn_engine.proofs.Answers.Told.{told}
+use Rattle.cborn_engine.proofs.Answers.KnownErrors.{known_error}
 use Rattle.cborn_engine.proofs.Canonical.Canonicity.{encoded_held, normalised}
 use Rattle.cborn_engine.proofs.Canonical.NormalForm.{written_form}
 use Rattle.cborn_engine.proofs.conversions.normalise.Goals as goal
@@ -16,7 +16,7 @@ returns-clause-normalises g c =
 
 pub returns-in_err-write_answer-clause-normalises : goal.returns-in_err-write_answer-clause-normalises
 returns-in_err-write_answer-clause-normalises g c =
-    told (Normalises g.O.KeyOrder.order c.args.in_kind c.args.out_kind c.args.limit _ _ _ _ _) _ _ c.from_residual-in_err-write_answer.ensures.1
+    known_error (Normalises g.O.KeyOrder.order c.args.in_kind c.args.out_kind c.args.limit _ _ _ _ _) _ _ c.from_residual-in_err-write_answer.ensures.1
     (normalised g.O.KeyOrder.order c.args.in_kind c.args.out_kind c.args.limit _ _ _ _ _ c.in_ok-bytes.bytes c.in_ok-answer.answer.items c.deref.result.now _
     c.in_ok-bytes.ensures.encodes c.in_ok-answer.ensures c.deref.ensures.value c.in_err-write_answer.ensures.writes)
 

@@ -31,8 +31,8 @@ items-preserved g c =
     let item = c.in-Some.item.now in
     let rest = c.in-Some.rest.now in
     let less : length rest < length c.items.left.now = item_less c.in-Some.ensures.item in (
-      passed g.O.KeyOrder.order g.met.O.KeyOrder.laws c.args.limit c.args.ours.now c.args.theirs.now c.items.left.now c.items.right.now item rest c.in-Some-behind.after.now c.items.index c.items.invariant.0
-          (encoding_taken g.O.KeyOrder.order c.args.limit c.items.left.now rest item (subst (λ (l : ℕ). ItemTranscoded g.O.KeyOrder.order l c.items.left.now rest [] item) c.get.ensures.value c.in-Some.ensures.item)) c.in-Some.ensures.parts c.in-Some-behind.ensures (search rules) (search rules),
+      passed g.O.KeyOrder.order g.met.O.KeyOrder.laws c.args.limit c.args.ours.now c.args.theirs.now c.items.left.now c.items.right.now item rest c.in-Some-after.remaining.now c.items.index c.items.invariant.0
+          (encoding_taken g.O.KeyOrder.order c.args.limit c.items.left.now rest item (subst (λ (l : ℕ). ItemTranscoded g.O.KeyOrder.order l c.items.left.now rest [] item) c.get.ensures.value c.in-Some.ensures.item)) c.in-Some.ensures.parts c.in-Some-after.ensures (search rules) (search rules),
       omega (arith, c.items.invariant.1, less),
     )
 

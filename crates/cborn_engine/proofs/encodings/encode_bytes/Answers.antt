@@ -4,7 +4,7 @@ use Rattle.cborn_engine.specs.Whole.{TellsFault}
 use Rattle.cborn_transcode.proofs.Nothings.{some_items}
 use Rattle.cborn_transcode.proofs.Outcomes.{of_some, of_none}
 use Rattle.cborn_engine.proofs.Answers.Malformed.{wellformed, handed}
-use Rattle.cborn_engine.proofs.Answers.Told.{told}
+use Rattle.cborn_engine.proofs.Answers.KnownErrors.{known_error}
 use Rattle.cborn_engine.proofs.Answers.Whole.{transcoded}
 use Rattle.cborn_engine.proofs.encodings.encode_bytes.Goals as goal
 
@@ -24,11 +24,11 @@ unreachable-requires g c =
 
 pub returns-in_err-judge_bytes-in-Ok-None-clause-malformed : goal.returns-in_err-judge_bytes-in-Ok-None-clause-malformed
 returns-in_err-judge_bytes-in-Ok-None-clause-malformed g c =
-    told (λ r. TellsFault kind.Wire c.args.limit c.args.input.now r) _ _ c.from_residual.ensures.1 (handed kind.Wire c.args.limit c.args.input.now c.in_err-judge_bytes-in-Ok-None.field-0.0 c.in_err-judge_bytes-in-Ok-None.ensures.malformed)
+    known_error (λ r. TellsFault kind.Wire c.args.limit c.args.input.now r) _ _ c.from_residual.ensures.1 (handed kind.Wire c.args.limit c.args.input.now c.in_err-judge_bytes-in-Ok-None.field-0.0 c.in_err-judge_bytes-in-Ok-None.ensures.malformed)
 
 pub returns-in_err-judge_bytes-in-Err-clause-malformed : goal.returns-in_err-judge_bytes-in-Err-clause-malformed
 returns-in_err-judge_bytes-in-Err-clause-malformed g c =
-    told (λ r. TellsFault kind.Wire c.args.limit c.args.input.now r) _ _ c.from_residual-in_err-judge_bytes-in-Err.ensures.1 (handed kind.Wire c.args.limit c.args.input.now c.in_err-judge_bytes-in-Err.field-0.0 c.in_err-judge_bytes-in-Err.ensures.malformed)
+    known_error (λ r. TellsFault kind.Wire c.args.limit c.args.input.now r) _ _ c.from_residual-in_err-judge_bytes-in-Err.ensures.1 (handed kind.Wire c.args.limit c.args.input.now c.in_err-judge_bytes-in-Err.field-0.0 c.in_err-judge_bytes-in-Err.ensures.malformed)
 
 pub returns-in_ok-judge_bytes-in-Err-clause-malformed : goal.returns-in_ok-judge_bytes-in-Err-clause-malformed
 returns-in_ok-judge_bytes-in-Err-clause-malformed g c =

@@ -4,14 +4,14 @@ use Rattle.cborn_transcode.proofs.Fronting.{whole_front}
 use Rattle.cborn_transcode.proofs.Outcomes.{of_some}
 use Rattle.cborn_engine.specs.Reading.{most_bytes}
 use Rattle.cborn_engine.specs.devices.Encoding.{EncodeAnswers, kind_of}
-use Rattle.cborn_engine.proofs.Answers.Told.{told}
+use Rattle.cborn_engine.proofs.Answers.KnownErrors.{known_error}
 use Rattle.cborn_engine.proofs.Answers.Listed.{with_shortest}
 use Rattle.cborn_engine.proofs.Answers.Noted.{encoded}
 use Rattle.cborn_engine.proofs.encodings.encode_text.Goals as goal
 
 pub returns-in_err-bytes-clause-answers : goal.returns-in_err-bytes-clause-answers
 returns-in_err-bytes-clause-answers g c within =
-    told (EncodeAnswers g.O.KeyOrder.order (kind_of c.args.profile) c.args.limit most_bytes c.args.input.now) _ _ c.from_residual.ensures.1 (c.in_err-bytes.ensures.refused _ within).0
+    known_error (EncodeAnswers g.O.KeyOrder.order (kind_of c.args.profile) c.args.limit most_bytes c.args.input.now) _ _ c.from_residual.ensures.1 (c.in_err-bytes.ensures.refused _ within).0
 
 pub returns-then-front-len-clause-answers : goal.returns-then-front-len-clause-answers
 returns-then-front-len-clause-answers g c within =

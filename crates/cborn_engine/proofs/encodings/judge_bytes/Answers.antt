@@ -1,9 +1,9 @@
 use Rattle.std.proofs.Common.{subst}
 use Rattle.cborn_model.specs.Tree.{trees}
-use Rattle.cborn_search.specs.Searching.{IsValidity}
+use Rattle.cborn_flaws.specs.Searching.{IsValidity}
 use Rattle.cborn_engine.specs.Reading.{most_bytes}
 use Rattle.cborn_engine.specs.declared.kinds.Kind.TheVariants as kind
-use Rattle.cborn_engine.proofs.Answers.Malformed.{wellformed, wire_told, wire_refused, wire_failures, refusal_told, refusal_refused, refusal_failures}
+use Rattle.cborn_engine.proofs.Answers.Malformed.{wellformed, wire_reported, wire_refused, wire_failures, refusal_reported, refusal_refused, refusal_failures}
 use Rattle.cborn_engine.proofs.encodings.judge_bytes.Goals as goal
 
 pub returns-in-Ok-Valid-clause-valid : goal.returns-in-Ok-Valid-clause-valid
@@ -31,7 +31,7 @@ pub returns-in-Ok-Malformed-clause-refused : goal.returns-in-Ok-Malformed-clause
 returns-in-Ok-Malformed-clause-refused c within = (wire_refused c.args.limit most_bytes c.args.input.now c.fault_of_bytes.result c.fault_of_bytes.ensures within).0
 
 pub returns-in-Ok-Malformed-clause-malformed : goal.returns-in-Ok-Malformed-clause-malformed
-returns-in-Ok-Malformed-clause-malformed c = wire_told c.args.limit c.args.input.now c.fault_of_bytes.result c.fault_of_bytes.ensures
+returns-in-Ok-Malformed-clause-malformed c = wire_reported c.args.limit c.args.input.now c.fault_of_bytes.result c.fault_of_bytes.ensures
 
 pub returns-in-Ok-Malformed-clause-failures : goal.returns-in-Ok-Malformed-clause-failures
 returns-in-Ok-Malformed-clause-failures c n = wire_failures c.args.limit c.args.input.now c.fault_of_bytes.result n c.fault_of_bytes.ensures
@@ -40,7 +40,7 @@ pub returns-in-Err-clause-refused : goal.returns-in-Err-clause-refused
 returns-in-Err-clause-refused c within = (refusal_refused c.args.limit most_bytes c.args.input.now c.fault_or_refusal.result c.fault_or_refusal.ensures within).0
 
 pub returns-in-Err-clause-malformed : goal.returns-in-Err-clause-malformed
-returns-in-Err-clause-malformed c = refusal_told c.args.limit c.args.input.now c.fault_or_refusal.result c.fault_or_refusal.ensures
+returns-in-Err-clause-malformed c = refusal_reported c.args.limit c.args.input.now c.fault_or_refusal.result c.fault_or_refusal.ensures
 
 pub returns-in-Err-clause-failures : goal.returns-in-Err-clause-failures
 returns-in-Err-clause-failures c n = refusal_failures c.args.limit c.args.input.now c.fault_or_refusal.result n c.fault_or_refusal.ensures

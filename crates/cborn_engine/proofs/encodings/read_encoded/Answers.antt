@@ -3,13 +3,13 @@ use Rattle.cborn_transcode.specs.Transcoding.{IsTranscoded}
 use Rattle.cborn_engine.specs.devices.Encoding.{EncodeAnswers, IsEncoded}
 use Rattle.cborn_engine.specs.devices.Reading.{Reads}
 use Rattle.cborn_engine.specs.Reading.{most_bytes}
-use Rattle.cborn_engine.proofs.Answers.Told.{told}
+use Rattle.cborn_engine.proofs.Answers.KnownErrors.{known_error}
 use Rattle.cborn_engine.proofs.Answers.Whole.{unread, read_whole}
 use Rattle.cborn_engine.proofs.encodings.read_encoded.Goals as goal
 
 pub returns-in_err-input-clause-encodes : goal.returns-in_err-input-clause-encodes
 returns-in_err-input-clause-encodes g c =
-    told (Reads (EncodeAnswers g.O.KeyOrder.order c.args.kind c.args.limit most_bytes) _ _) _ _ c.from_residual.ensures.1
+    known_error (Reads (EncodeAnswers g.O.KeyOrder.order c.args.kind c.args.limit most_bytes) _ _) _ _ c.from_residual.ensures.1
     (unread (EncodeAnswers g.O.KeyOrder.order c.args.kind c.args.limit most_bytes) most_bytes _ (g.R.Source.remaining c.read_bytes.new.reader) c.args.kind c.args.limit c.in_err-input.field-0.0 (λ x r. r.0) c.in_err-input.ensures.collects)
 
 pub returns-in-None-clause-encodes : goal.returns-in-None-clause-encodes

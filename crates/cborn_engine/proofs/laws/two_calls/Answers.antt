@@ -3,7 +3,7 @@ use Rattle.std.specs.Prelude.{IfErr}
 use Rattle.std.specs.Cow.{cow_slice_items}
 use Rattle.cborn_engine.specs.Reading.{most_bytes}
 use Rattle.cborn_engine.specs.Whole.{IsRefusedWhole}
-use Rattle.cborn_engine.proofs.Answers.Told.{told}
+use Rattle.cborn_engine.proofs.Answers.KnownErrors.{known_error}
 use Rattle.cborn_engine.proofs.Canonical.Headline.{alike, same_held}
 use Rattle.cborn_engine.proofs.laws.two_calls.Goals as goal
 
@@ -23,8 +23,8 @@ returns-clause-held g c =
 
 pub returns-in_err-ours-clause-refused : goal.returns-in_err-ours-clause-refused
 returns-in_err-ours-clause-refused g c =
-    told (λ r. IfErr r (λ why. IsRefusedWhole c.args.kind_a c.args.limit most_bytes c.args.first.now why ⊎ IsRefusedWhole c.args.kind_b c.args.limit most_bytes c.args.second.now why)) _ _ c.from_residual.ensures.1 (inl c.in_err-ours.ensures.refused)
+    known_error (λ r. IfErr r (λ why. IsRefusedWhole c.args.kind_a c.args.limit most_bytes c.args.first.now why ⊎ IsRefusedWhole c.args.kind_b c.args.limit most_bytes c.args.second.now why)) _ _ c.from_residual.ensures.1 (inl c.in_err-ours.ensures.refused)
 
 pub returns-in_err-theirs-clause-refused : goal.returns-in_err-theirs-clause-refused
 returns-in_err-theirs-clause-refused g c =
-    told (λ r. IfErr r (λ why. IsRefusedWhole c.args.kind_a c.args.limit most_bytes c.args.first.now why ⊎ IsRefusedWhole c.args.kind_b c.args.limit most_bytes c.args.second.now why)) _ _ c.from_residual-in_err-theirs.ensures.1 (inr c.in_err-theirs.ensures.refused)
+    known_error (λ r. IfErr r (λ why. IsRefusedWhole c.args.kind_a c.args.limit most_bytes c.args.first.now why ⊎ IsRefusedWhole c.args.kind_b c.args.limit most_bytes c.args.second.now why)) _ _ c.from_residual-in_err-theirs.ensures.1 (inr c.in_err-theirs.ensures.refused)

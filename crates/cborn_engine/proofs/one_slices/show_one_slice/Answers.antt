@@ -1,11 +1,11 @@
 use Rattle.cborn_engine.specs.OneItem.{OneAnswer, NormalisedWhole, ShownWhole, CheckedWhole}
 use Rattle.cborn_engine.specs.declared.kinds.Kind.TheVariants as kind
-use Rattle.cborn_engine.proofs.Answers.Told.{told}
+use Rattle.cborn_engine.proofs.Answers.KnownErrors.{known_error}
 use Rattle.cborn_engine.proofs.OneItem.Answered.{kept_one}
 use Rattle.cborn_engine.proofs.one_slices.show_one_slice.Goals as goal
 
 pub returns-in_err-answer : goal.returns-in_err-answer
-returns-in_err-answer c = told (λ r. OneAnswer c.args.in_kind c.args.limit c.args.input.now (ShownWhole c.args.in_kind c.args.out_kind c.args.limit c.args.input.now) r) _ _ c.from_residual.ensures.1 c.in_err-answer.ensures.refused
+returns-in_err-answer c = known_error (λ r. OneAnswer c.args.in_kind c.args.limit c.args.input.now (ShownWhole c.args.in_kind c.args.out_kind c.args.limit c.args.input.now) r) _ _ c.from_residual.ensures.1 c.in_err-answer.ensures.refused
 
 pub expect_one-requires : goal.expect_one-requires
 expect_one-requires c = let h = c.in_ok-answer.ensures.shown in record { short = h.0; spelled = (h.1.nodes, h.1.spelled) }
@@ -13,7 +13,7 @@ expect_one-requires c = let h = c.in_ok-answer.ensures.shown in record { short =
 pub returns-in_err-expect_one : goal.returns-in_err-expect_one
 returns-in_err-expect_one c =
     let h = c.in_ok-answer.ensures.shown in
-    told (λ r. OneAnswer c.args.in_kind c.args.limit c.args.input.now (ShownWhole c.args.in_kind c.args.out_kind c.args.limit c.args.input.now) r) _ _ c.from_residual-in_err-expect_one.ensures.1
+    known_error (λ r. OneAnswer c.args.in_kind c.args.limit c.args.input.now (ShownWhole c.args.in_kind c.args.out_kind c.args.limit c.args.input.now) r) _ _ c.from_residual-in_err-expect_one.ensures.1
     (kept_one c.args.in_kind c.args.limit c.args.input.now (ShownWhole c.args.in_kind c.args.out_kind c.args.limit c.args.input.now) c.in_ok-answer.answer c.in_err-expect_one.field-0.0 h (h.0, tt) c.in_err-expect_one.ensures.refused)
 
 pub returns : goal.returns

@@ -3,17 +3,17 @@ use Rattle.cborn_engine.specs.declared.faults.EngineFault.TheVariants as fault
 use Rattle.cborn_engine.specs.declared.one_faults.OneFault.TheVariants as one
 use Rattle.cborn_engine.specs.OneItem.{ChecksOne}
 use Rattle.cborn_engine.specs.Reading.{most_bytes}
-use Rattle.cborn_engine.proofs.Answers.Told.{told}
+use Rattle.cborn_engine.proofs.Answers.KnownErrors.{known_error}
 use Rattle.cborn_engine.proofs.OneItem.Answered.{unread_checked, read_checked, input_counted, checked_counted}
 use Rattle.cborn_engine.proofs.one_streams.check_one.Goals as goal
 
 pub returns-in_err-input-clause-checks : goal.returns-in_err-input-clause-checks
 returns-in_err-input-clause-checks g c =
-    told (ChecksOne g.O.KeyOrder.order c.args.limit most_bytes _ _) _ _ c.from_residual.ensures.1
+    known_error (ChecksOne g.O.KeyOrder.order c.args.limit most_bytes _ _) _ _ c.from_residual.ensures.1
     (unread_checked g.O.KeyOrder.order c.args.limit _ _ c.in_err-input.field-0.0 c.in_err-input.ensures.collects)
 
 pub returns-in_err-input-clause-failures : goal.returns-in_err-input-clause-failures
-returns-in_err-input-clause-failures g c = told (λ r. CountsFault (one.Engine fault.ReadFault) r (g.R.Source.failed c.args.reader.now) (g.R.Source.failed c.read_bytes.new.reader)) _ _ c.from_residual.ensures.1 (input_counted c.in_err-input.field-0.0 _ _ c.in_err-input.ensures.failures)
+returns-in_err-input-clause-failures g c = known_error (λ r. CountsFault (one.Engine fault.ReadFault) r (g.R.Source.failed c.args.reader.now) (g.R.Source.failed c.read_bytes.new.reader)) _ _ c.from_residual.ensures.1 (input_counted c.in_err-input.field-0.0 _ _ c.in_err-input.ensures.failures)
 
 pub returns-clause-checks : goal.returns-clause-checks
 returns-clause-checks g c =

@@ -10,7 +10,7 @@ use Rattle.cborn_engine.specs.declared.one_faults.OneFault.TheVariants as one
 use Rattle.cborn_engine.specs.devices.Encoding.{kind_of}
 use Rattle.cborn_engine.specs.OneItem.{IsNotOne}
 use Rattle.cborn_engine.specs.Reading.{most_bytes}
-use Rattle.cborn_engine.proofs.Answers.Told.{told}
+use Rattle.cborn_engine.proofs.Answers.KnownErrors.{known_error}
 use Rattle.cborn_engine.proofs.OneItem.Refused.{refused_memory}
 use Rattle.cborn_engine.proofs.OneItem.Second.{spelled_well, none_in_text, one_in_text}
 use Rattle.cborn_engine.proofs.ones.one_in_text.Goals as goal
@@ -39,4 +39,4 @@ returns-in_err-bytes-clause-refused c =
     let why = c.in_err-bytes in
     let nodes = c.requires.spelled in
     let e = refused_memory k c.args.limit most_bytes c.args.input.now nodes.0 why.field-0.0 c.requires.short nodes.1 (why.ensures.refused most_bytes c.requires.short) (why.ensures.failures 0) in
-    told (λ r. IfErr r (λ w. (w ≡ one.Engine fault.OutOfMemory) ⊎ IsNotOne k c.args.limit c.args.input.now w)) _ _ c.from_residual.ensures.1 (inl (ap one.Engine e))
+    known_error (λ r. IfErr r (λ w. (w ≡ one.Engine fault.OutOfMemory) ⊎ IsNotOne k c.args.limit c.args.input.now w)) _ _ c.from_residual.ensures.1 (inl (ap one.Engine e))

@@ -1,6 +1,6 @@
 use Rattle.std.proofs.Common.{ℕ, List, Option, subst}
 use Rattle.std.specs.Prelude.{IfSome}
-use Rattle.cborn_search.specs.Searching.{IsValidity}
+use Rattle.cborn_flaws.specs.Searching.{IsValidity}
 use Rattle.cborn_transcode.proofs.Nothings.{some_items}
 use Rattle.cborn_engine.proofs.Answers.Listed.{with_shortest}
 use Rattle.cborn_engine.proofs.Answers.Flawed.{IsCarried, HasNoStart, flawed, flaw_placed, spells_well}
@@ -25,8 +25,8 @@ unreachable-requires-in-Ok-None c =
 pub returns-in-Ok-Some-clause-refused : goal.returns-in-Ok-Some-clause-refused
 returns-in-Ok-Some-clause-refused c =
     let input = c.args.input.now in
-    let told : IsCarried c.args.profile c.in-Ok.text.now c.args.bytes.items c.in-Ok-Flaw.place c.in-Ok-Some.place
+    let reported : IsCarried c.args.profile c.in-Ok.text.now c.args.bytes.items c.in-Ok-Flaw.place c.in-Ok-Some.place
     = subst (λ (o : Option ℕ). IfSome o (IsCarried c.args.profile c.in-Ok.text.now c.args.bytes.items c.in-Ok-Flaw.place)) c.in-Ok-Some.field-0-is c.in-Ok-Some.ensures.flaw in
     flawed c.args.profile c.args.limit input c.args.bytes.items c.requires.text (with_shortest c.requires.spelled) c.in-Ok-Flaw.place c.in-Ok-Some.place c.in-Ok-Flaw.reason
     (subst (IsValidity c.args.limit c.args.bytes.items) c.in-Ok-Flaw.field-0-is (subst (λ (x : List ℕ). IsValidity c.args.limit x c.in-Ok-Flaw.field-0) c.deref.ensures.value c.in-Ok-Flaw.ensures))
-    (subst (λ (x : List ℕ). IsCarried c.args.profile x c.args.bytes.items c.in-Ok-Flaw.place c.in-Ok-Some.place) c.in-Ok.ensures.text.0 told)
+    (subst (λ (x : List ℕ). IsCarried c.args.profile x c.args.bytes.items c.in-Ok-Flaw.place c.in-Ok-Some.place) c.in-Ok.ensures.text.0 reported)

@@ -4,9 +4,9 @@ use Rattle.cborn_show.specs.Passed.{IsShownText, Notates}
 use Rattle.cborn_engine.specs.declared.kinds.Kind.TheVariants as kind
 use Rattle.cborn_engine.specs.Reading.{most_bytes}
 use Rattle.cborn_engine.specs.Showing.{IsSpelledAs}
-use Rattle.cborn_engine.proofs.Answers.Malformed.{wellformed, handed, wire_told, wire_refused, wire_failures, refusal_told, refusal_refused, refusal_failures}
+use Rattle.cborn_engine.proofs.Answers.Malformed.{wellformed, handed, wire_reported, wire_refused, wire_failures, refusal_reported, refusal_refused, refusal_failures}
 use Rattle.cborn_engine.proofs.Answers.Telling.{refused}
-use Rattle.cborn_engine.proofs.Answers.Told.{notation}
+use Rattle.cborn_engine.proofs.Answers.KnownErrors.{notation}
 use Rattle.cborn_engine.proofs.showings.notate_bytes.Goals as goal
 
 pub returns-in-Ok-Text : goal.returns-in-Ok-Text
@@ -27,7 +27,7 @@ returns-in-Ok-Malformed-clause-answers c within =
     refused kind.Wire c.args.out_kind c.args.limit most_bytes c.args.input.now c.fault_of_bytes.result (wire_refused c.args.limit most_bytes c.args.input.now c.fault_of_bytes.result c.fault_of_bytes.ensures within)
 
 pub returns-in-Ok-Malformed-clause-malformed : goal.returns-in-Ok-Malformed-clause-malformed
-returns-in-Ok-Malformed-clause-malformed c = wire_told c.args.limit c.args.input.now c.fault_of_bytes.result c.fault_of_bytes.ensures
+returns-in-Ok-Malformed-clause-malformed c = wire_reported c.args.limit c.args.input.now c.fault_of_bytes.result c.fault_of_bytes.ensures
 
 pub returns-in-Ok-Malformed-clause-failures : goal.returns-in-Ok-Malformed-clause-failures
 returns-in-Ok-Malformed-clause-failures c n = wire_failures c.args.limit c.args.input.now c.fault_of_bytes.result n c.fault_of_bytes.ensures
@@ -43,7 +43,7 @@ returns-in-Err-clause-answers c within =
     refused kind.Wire c.args.out_kind c.args.limit most_bytes c.args.input.now c.fault_or_refusal.result (refusal_refused c.args.limit most_bytes c.args.input.now c.fault_or_refusal.result c.fault_or_refusal.ensures within)
 
 pub returns-in-Err-clause-malformed : goal.returns-in-Err-clause-malformed
-returns-in-Err-clause-malformed c = refusal_told c.args.limit c.args.input.now c.fault_or_refusal.result c.fault_or_refusal.ensures
+returns-in-Err-clause-malformed c = refusal_reported c.args.limit c.args.input.now c.fault_or_refusal.result c.fault_or_refusal.ensures
 
 pub returns-in-Err-clause-failures : goal.returns-in-Err-clause-failures
 returns-in-Err-clause-failures c n = refusal_failures c.args.limit c.args.input.now c.fault_or_refusal.result n c.fault_or_refusal.ensures

@@ -6,13 +6,13 @@ use Rattle.cborn_engine.specs.Faults.{of_input}
 use Rattle.cborn_engine.specs.Showing.{IsShown, TellAnswers}
 use Rattle.cborn_engine.specs.Reading.{most_bytes}
 use Rattle.cborn_engine.proofs.Answers.Telling.{refused}
-use Rattle.cborn_engine.proofs.Answers.Told.{told}
+use Rattle.cborn_engine.proofs.Answers.KnownErrors.{known_error}
 use Rattle.cborn_engine.proofs.Answers.Whole.{unread, read_whole}
 use Rattle.cborn_engine.proofs.showings.read_shown.Goals as goal
 
 pub returns-in_err-input-clause-tells : goal.returns-in_err-input-clause-tells
 returns-in_err-input-clause-tells g c =
-    told (Reads (TellAnswers c.args.in_kind c.args.out_kind c.args.limit most_bytes) _ _) _ _ c.from_residual.ensures.1
+    known_error (Reads (TellAnswers c.args.in_kind c.args.out_kind c.args.limit most_bytes) _ _) _ _ c.from_residual.ensures.1
     (unread (TellAnswers c.args.in_kind c.args.out_kind c.args.limit most_bytes) most_bytes _ (g.R.Source.remaining c.read_bytes.new.reader) c.args.in_kind c.args.limit c.in_err-input.field-0.0 (λ x r. refused c.args.in_kind c.args.out_kind c.args.limit most_bytes x (of_input c.in_err-input.field-0.0) r) c.in_err-input.ensures.collects)
 
 pub returns-then-is_own_spelling-clause-tells : goal.returns-then-is_own_spelling-clause-tells

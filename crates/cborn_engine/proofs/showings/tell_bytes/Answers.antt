@@ -1,5 +1,5 @@
 use Rattle.cborn_engine.specs.Reading.{most_bytes}
-use Rattle.cborn_engine.proofs.Answers.Malformed.{wire_told, wire_refused, wire_failures}
+use Rattle.cborn_engine.proofs.Answers.Malformed.{wire_reported, wire_refused, wire_failures}
 use Rattle.cborn_engine.proofs.Answers.Noted.{never_wire}
 use Rattle.cborn_engine.proofs.Answers.Telling.{refused}
 use Rattle.cborn_engine.specs.declared.kinds.Kind.TheVariants as kind
@@ -13,7 +13,7 @@ returns-in-Wire-clause-answers c within =
     refused kind.Wire c.args.out_kind c.args.limit most_bytes c.args.input.now c.fault_of_bytes.result (wire_refused c.args.limit most_bytes c.args.input.now c.fault_of_bytes.result c.fault_of_bytes.ensures within)
 
 pub returns-in-Wire-clause-malformed : goal.returns-in-Wire-clause-malformed
-returns-in-Wire-clause-malformed c = wire_told c.args.limit c.args.input.now c.fault_of_bytes.result c.fault_of_bytes.ensures
+returns-in-Wire-clause-malformed c = wire_reported c.args.limit c.args.input.now c.fault_of_bytes.result c.fault_of_bytes.ensures
 
 pub returns-in-Wire-clause-failures : goal.returns-in-Wire-clause-failures
 returns-in-Wire-clause-failures c n = wire_failures c.args.limit c.args.input.now c.fault_of_bytes.result n c.fault_of_bytes.ensures

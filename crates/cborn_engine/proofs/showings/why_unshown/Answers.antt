@@ -6,9 +6,9 @@ use Rattle.cborn_edn.specs.declared.faults.ShowFault.TheVariants.{NotUtf8}
 use Rattle.cborn_engine.specs.declared.kinds.Kind.TheVariants as kind
 use Rattle.cborn_engine.specs.Reading.{most_bytes}
 use Rattle.cborn_engine.specs.Showing.{IsUnshownAs}
-use Rattle.cborn_engine.proofs.Answers.Malformed.{wellformed, wire_told, wire_refused, wire_failures}
+use Rattle.cborn_engine.proofs.Answers.Malformed.{wellformed, wire_reported, wire_refused, wire_failures}
 use Rattle.cborn_engine.proofs.Answers.Telling.{refused, untold_text}
-use Rattle.cborn_engine.proofs.Answers.Told.{notation}
+use Rattle.cborn_engine.proofs.Answers.KnownErrors.{notation}
 use Rattle.cborn_engine.proofs.Held.BadTexts.{lowest_bad_text, placed_reading, good_shows}
 use Rattle.cborn_engine.proofs.showings.why_unshown.Goals as goal
 
@@ -32,7 +32,7 @@ returns-in-Malformed-clause-answers c within =
     refused kind.Wire c.args.out_kind c.args.limit most_bytes c.args.input.now c.fault_of_bytes.result (wire_refused c.args.limit most_bytes c.args.input.now c.fault_of_bytes.result c.fault_of_bytes.ensures within)
 
 pub returns-in-Malformed-clause-malformed : goal.returns-in-Malformed-clause-malformed
-returns-in-Malformed-clause-malformed c = wire_told c.args.limit c.args.input.now c.fault_of_bytes.result c.fault_of_bytes.ensures
+returns-in-Malformed-clause-malformed c = wire_reported c.args.limit c.args.input.now c.fault_of_bytes.result c.fault_of_bytes.ensures
 
 pub returns-in-Malformed-clause-failures : goal.returns-in-Malformed-clause-failures
 returns-in-Malformed-clause-failures c n = wire_failures c.args.limit c.args.input.now c.fault_of_bytes.result n c.fault_of_bytes.ensures

@@ -2,7 +2,7 @@ use Rattle.std.specs.Cow.{cow_slice_items}
 use Rattle.cborn_engine.proofs.Answers.AtHand.{held, room}
 use Rattle.cborn_engine.specs.Whole.{TellsFault}
 use Rattle.cborn_engine.proofs.Answers.Malformed.{handed, answered}
-use Rattle.cborn_engine.proofs.Answers.Told.{told}
+use Rattle.cborn_engine.proofs.Answers.KnownErrors.{known_error}
 use Rattle.cborn_engine.proofs.Canonical.Canonicity.{canon_of}
 use Rattle.cborn_engine.proofs.Canonical.OfBytes.{encoded_bytes}
 use Rattle.cborn_engine.proofs.Canonical.NormalForm.{normal_form}
@@ -19,7 +19,7 @@ returns-clause-room g c =
 
 pub returns-in_err-bytes-clause-malformed : goal.returns-in_err-bytes-clause-malformed
 returns-in_err-bytes-clause-malformed g c l =
-    told (λ r. TellsFault c.args.in_kind c.args.limit c.args.input.now r) _ _ c.from_residual.ensures.1 (handed c.args.in_kind c.args.limit c.args.input.now c.in_err-bytes.field-0.0 (c.in_err-bytes.ensures.malformed l))
+    known_error (λ r. TellsFault c.args.in_kind c.args.limit c.args.input.now r) _ _ c.from_residual.ensures.1 (handed c.args.in_kind c.args.limit c.args.input.now c.in_err-bytes.field-0.0 (c.in_err-bytes.ensures.malformed l))
 
 pub returns-in_err-written_as-clause-malformed : goal.returns-in_err-written_as-clause-malformed
 returns-in_err-written_as-clause-malformed g c l = answered c.args.in_kind c.args.limit c.args.input.now c.in_ok-bytes.bytes _ (c.in_ok-bytes.ensures.malformed l)

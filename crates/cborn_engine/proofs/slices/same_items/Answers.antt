@@ -3,7 +3,7 @@ use Rattle.std.proofs.lemmas.Slice.Eq.{slice_eq-Decides}
 use Rattle.std.specs.Cow.{cow_slice_items}
 use Rattle.cborn_engine.specs.Whole.{TellsFirstFault}
 use Rattle.cborn_engine.proofs.Answers.Malformed.{first_handed, both_answered}
-use Rattle.cborn_engine.proofs.Answers.Told.{told}
+use Rattle.cborn_engine.proofs.Answers.KnownErrors.{known_error}
 use Rattle.cborn_engine.proofs.Comparison.Compared.{same_encodings, same_forms}
 use Rattle.cborn_engine.proofs.slices.same_items.Goals as goal
 
@@ -20,7 +20,7 @@ returns-clause-forms g c out v w a b =
 
 pub returns-in_err-ours-clause-malformed : goal.returns-in_err-ours-clause-malformed
 returns-in_err-ours-clause-malformed g c l =
-    told (λ r. TellsFirstFault c.args.kind_a c.args.limit c.args.first.now r) _ _ c.from_residual.ensures.1 (first_handed c.args.kind_a c.args.limit c.args.first.now c.in_err-ours.field-0.0 (c.in_err-ours.ensures.malformed l))
+    known_error (λ r. TellsFirstFault c.args.kind_a c.args.limit c.args.first.now r) _ _ c.from_residual.ensures.1 (first_handed c.args.kind_a c.args.limit c.args.first.now c.in_err-ours.field-0.0 (c.in_err-ours.ensures.malformed l))
 
 pub returns-clause-malformed : goal.returns-clause-malformed
 returns-clause-malformed g c l = both_answered c.args.kind_a c.args.limit c.args.first.now (c.in_ok-ours.ours, c.in_ok-ours.theirs) _ (c.in_ok-ours.ensures.malformed l)

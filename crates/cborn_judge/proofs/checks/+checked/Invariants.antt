@@ -2,7 +2,7 @@ use Rattle.std.proofs.Common.{◌+◌, ◌*◌, take}
 use Rattle.cborn_model.specs.Tree.{trees, entries, depth, depth_all, depth_entries}
 use Rattle.cborn_judge.specs.Departures.{FindsDefect}
 use Rattle.cborn_judge.specs.shared.Checked.{DefectInAll, DescentAt, DefectAmong}
-use Rattle.cborn_judge.proofs.Loops.Firsts.{Either}
+use Rattle.cborn_model.proofs.Found.{Either}
 use Rattle.cborn_judge.proofs.checks.+checked.Given as goal
 
 abbrev pub decreases-defect_of : goal.decreases-defect_of

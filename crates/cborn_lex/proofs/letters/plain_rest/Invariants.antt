@@ -1,6 +1,6 @@
 use Rattle.std.proofs.Common.{◌≡◌, ◌≤◌, ◌-◌, true, length, take}
 use Rattle.std.specs.List.{list_all}
-use Rattle.cborn_lex.specs.shared.Letters.{is_plain}
+use Rattle.cborn_lex.specs.devices.Letters.{is_plain}
 use Rattle.cborn_lex.proofs.letters.plain_rest.Given as goal
 
 abbrev pub invariant-letters : goal.invariant-letters

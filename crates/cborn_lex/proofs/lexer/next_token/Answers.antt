@@ -1,6 +1,6 @@
 use Rattle.std.proofs.Common.{refl, sym, subst, ◌∙◌, ◌≤◌, length, List, ℕ}
 use Rattle.cborn_lex.specs.Kinds.{StandsFor}
-use Rattle.cborn_lex.specs.Tokens.{Blank, Read, Bad}
+use Rattle.cborn_lex.specs.Tokens.{WhiteSpace, Read, Bad}
 use Rattle.cborn_lex.specs.declared.faults.LexFault.TheVariants.{Refused}
 use Rattle.cborn_lex.proofs.GoodTexts.{covers, no_token_from}
 use Rattle.cborn_lex.proofs.WholeTexts.Progress.{nothing, after_white, after_blank, then_token, then_end, then_stop, reads_at}
@@ -17,8 +17,8 @@ pub loop-place-preserved : goal.loop-place-preserved
 loop-place-preserved c =
     let h = c.in_ok-front.ensures in
     let t = h.2 in
-    let e = rw c.in-Blank.is at t.2 in
-    let r = reads_at c.args.profile c.rest_of.result.now _ c.in_ok-front.n t.0 Blank c.rest_of.ensures e.0 h.1 t.1 in
+    let e = rw c.in-WhiteSpace.is at t.2 in
+    let r = reads_at c.args.profile c.rest_of.result.now _ c.in_ok-front.n t.0 WhiteSpace c.rest_of.ensures e.0 h.1 t.1 in
     (after_blank c.args.profile c.as_bytes-bytes.result.now c.args.at c.loop-place.place c.in_ok-front.n c.loop-place.invariant.0 r.0 r.1, e.1 ∙ c.loop-place.invariant.1)
 
 pub returns-in-Read-clause-ok : goal.returns-in-Read-clause-ok

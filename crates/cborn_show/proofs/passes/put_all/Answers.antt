@@ -28,5 +28,5 @@ items-preserved g c =
 pub returns : goal.returns
 returns g c =
     let ended : (length c.items.rest.now == 0) ≡ true = sym c.is_empty-in-items.ensures ∙ search rules in
-    let begun : (length c.args.bytes.now == 0) ≡ false = sym c.is_empty.ensures ∙ search rules in
-    some_lines c.args.room c.items.count c.args.bytes.now c.items.rest.now c.items.notation.out.items c.push.new.self.items c.items.invariant.0 (nothing_left c.items.rest.now ended) (something_left c.args.bytes.now begun) (search rules)
+    let started : (length c.args.bytes.now == 0) ≡ false = sym c.is_empty.ensures ∙ search rules in
+    some_lines c.args.room c.items.count c.args.bytes.now c.items.rest.now c.items.notation.out.items c.push.new.self.items c.items.invariant.0 (nothing_left c.items.rest.now ended) (something_left c.args.bytes.now started) (search rules)

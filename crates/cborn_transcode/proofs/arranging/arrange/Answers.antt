@@ -7,7 +7,7 @@ use Rattle.cborn_det.specs.Det.{Entry, keys, joined}
 use Rattle.cborn_det.specs.shared.Distinct.{HasDistinctKeys}
 use Rattle.cborn_transcode.specs.declared.entries.Span.{Span}
 use Rattle.cborn_transcode.specs.Transcoding.{all_spanned}
-use Rattle.cborn_transcode.proofs.Keying.{spanned_behind}
+use Rattle.cborn_transcode.proofs.Keying.{spanned_after}
 use Rattle.cborn_transcode.proofs.Halves.{rearranged}
 use Rattle.cborn_transcode.proofs.Laying.{laid_apart, apart_moved}
 use Rattle.cborn_transcode.proofs.arranging.arrange.Goals as goal
@@ -16,13 +16,13 @@ pub returns-then-are_rising-clause-arranged : goal.returns-then-are_rising-claus
 returns-then-are_rising-clause-arranged g c es l =
     let b : List ℕ = c.args.out.now.items in
     let up : Rising g.O.KeyOrder.order (keys (all_spanned c.deref.result.now c.deref-2.result.now)) = search rules in
-    let same : all_spanned c.deref.result.now c.deref-2.result.now ≡ es = (λ i. all_spanned (c.deref.ensures.value i) (c.deref-2.ensures.value i)) ∙ spanned_behind c.args.start b es c.args.spans.now.items l.inside l.laid l.read in
+    let same : all_spanned c.deref.result.now c.deref-2.result.now ≡ es = (λ i. all_spanned (c.deref.ensures.value i) (c.deref-2.ensures.value i)) ∙ spanned_after c.args.start b es c.args.spans.now.items l.inside l.laid l.read in
     (es, IsPermutation-refl es, subst (λ (z : List Entry). Rising g.O.KeyOrder.order (keys z)) same up, sym (take-append-drop c.args.start b) ∙ ap (λ z. take c.args.start b ++ z) l.read)
 
 pub returns-then-not-sort_rising-clause-repeats : goal.returns-then-not-sort_rising-clause-repeats
 returns-then-not-sort_rising-clause-repeats g c q es l d =
     let b : List ℕ = c.args.out.now.items in
-    let same : all_spanned c.deref-3.result.now c.args.spans.now.items ≡ es = ap (λ z. all_spanned z c.args.spans.now.items) c.deref-3.ensures.value ∙ spanned_behind c.args.start b es c.args.spans.now.items l.inside l.laid l.read in
+    let same : all_spanned c.deref-3.result.now c.args.spans.now.items ≡ es = ap (λ z. all_spanned z c.args.spans.now.items) c.deref-3.ensures.value ∙ spanned_after c.args.start b es c.args.spans.now.items l.inside l.laid l.read in
     let whether : IsTrue c.sort_rising.result = c.sort_rising.ensures.rising (subst HasDistinctKeys (sym same) d) in
     let no : IsTrue false = subst IsTrue c.if-not-sort_rising.true whether in
     true≢false (sym no)

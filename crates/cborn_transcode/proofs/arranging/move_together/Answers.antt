@@ -38,7 +38,7 @@ copy_within-requires-clause-dest_in_bounds c =
     let n : NextLies c.loop-span.at i.0 (get_or c.loop-span.spans c.loop-span.span-index none) c.loop-span.out.items c.args.out.now.items (drop (c.loop-span.span-index + 1) c.args.spans.now)
     = next_lies c.args.start c.args.out.now.items c.args.spans.now c.loop-span.spans c.loop-span.span-index c.loop-span.at i.0 c.loop-span.out.items none i.1 i.2 short c.loop-span-test.true c.loop-span.auto.spans in
     let len : c.pair_len-len.result ≡ (get_or c.loop-span.spans c.loop-span.span-index none).key_len + (get_or c.loop-span.spans c.loop-span.span-index none).value_len = c.pair_len-len.ensures.sum n.small in
-    omega (arith, n.low, n.behind, n.inside, len)
+    omega (arith, n.low, n.kept_after, n.inside, len)
 
 pub overflow_add-at : goal.overflow_add-at
 unfolding none
@@ -48,7 +48,7 @@ overflow_add-at c =
     let n : NextLies c.loop-span.at i.0 (get_or c.loop-span.spans c.loop-span.span-index none) c.loop-span.out.items c.args.out.now.items (drop (c.loop-span.span-index + 1) c.args.spans.now)
     = next_lies c.args.start c.args.out.now.items c.args.spans.now c.loop-span.spans c.loop-span.span-index c.loop-span.at i.0 c.loop-span.out.items none i.1 i.2 short c.loop-span-test.true c.loop-span.auto.spans in
     let len : c.pair_len-len.result ≡ (get_or c.loop-span.spans c.loop-span.span-index none).key_len + (get_or c.loop-span.spans c.loop-span.span-index none).value_len = c.pair_len-len.ensures.sum n.small in
-    omega (arith, n.low, n.behind, n.inside, len)
+    omega (arith, n.low, n.kept_after, n.inside, len)
 
 pub loop-span-preserved : goal.loop-span-preserved
 unfolding none

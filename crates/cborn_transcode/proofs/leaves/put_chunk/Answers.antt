@@ -1,9 +1,8 @@
 use Rattle.std.proofs.Common.{◌≡◌, rules, sym, ◌∙◌}
 use Rattle.std.proofs.lemmas.List.{take_rest}
 use Rattle.cborn_model.specs.declared.heads.Major.TheVariants.{ByteString}
-use Rattle.cborn_transcode.proofs.Missing.{no_chunk_content}
+use Rattle.cborn_transcode.proofs.Missing.{content_short, no_chunk_content}
 use Rattle.cborn_transcode.proofs.Outcomes.{found_as}
-use Rattle.cborn_transcode.proofs.Straying.{content_short}
 use Rattle.cborn_transcode.proofs.Strings.{chunk_taken}
 use Rattle.cborn_transcode.proofs.leaves.put_chunk.Goals as goal
 

@@ -1,36 +1,21 @@
 use Rattle.std.proofs.Common.{◌≡◌, ◌≢◌, ◌-◌, ◌++◌, ◌∙◌, ap, sym, subst, take, drop, rules, length}
 use Rattle.std.proofs.lemmas.List.{take_rest}
-use Rattle.cborn_judge.specs.declared.defects.DefectReason.TheVariants.{EndlessLength}
-use Rattle.cborn_model.specs.Heads.{Given, Unbounded, head, least, WidthFits}
+use Rattle.cborn_model.specs.Heads.{Given, EndlessArgument, head, least, WidthFits}
 use Rattle.cborn_wire.specs.declared.heads.Argument.{Argument}
 use Rattle.cborn_wire.specs.HeadReading.{ArgumentFits, seen_argument}
 use Rattle.cborn_wire.proofs.Parts.Heads.{head_read}
-use Rattle.cborn_transcode.proofs.Departed.{endless_stops}
-use Rattle.cborn_transcode.proofs.Standing.{no_head_begins}
-use Rattle.cborn_transcode.proofs.Straying.{none_lacks, stops_strays, long_strays, no_least, other_least}
-use Rattle.cborn_transcode.proofs.Departing.{number_of, width_of}
-use Rattle.cborn_transcode.specs.devices.Departing.{without_defect}
+use Rattle.cborn_transcode.proofs.Standing.{number_of, width_of, no_least, other_least}
 use Rattle.cborn_transcode.proofs.walked_leaves.read_least.Goals as goal
 
 pub returns-in_default : goal.returns-in_default
 returns-in_default c = record {
   read = tt;
-  strays = λ e order room. none_lacks order without_defect room c.args.bytes.now (λ total t rest s. no_head_begins t c.args.bytes.now rest c.read_head.result c.read_head.ensures c.in_default.not-Full s.fits s.read);
   none = λ e. no_least c.args.bytes.now c.read_head.result c.read_head.ensures c.in_default.not-Full;
 }
 
-pub returns-in_default-argument-clause-strays : goal.returns-in_default-argument-clause-strays
-returns-in_default-argument-clause-strays c e order room =
-    stops_strays order room c.args.bytes.now EndlessLength (length c.args.bytes.now) (endless_stops order c.in-Full.len c.args.bytes.now c.in-Full.head c.in-Full.ensures c.in_default-argument.is)
-
-pub returns-then-ne-clause-strays : goal.returns-then-ne-clause-strays
-returns-then-ne-clause-strays c e order room =
-    let long : c.in-Given.width ≢ least c.in-Given.n = search rules in
-    long_strays order room c.in-Full.len c.in-Given.n c.in-Given.width c.args.bytes.now c.in-Full.head c.in-Full.ensures c.in-Given.is long
-
 pub returns-in_default-argument-clause-none : goal.returns-in_default-argument-clause-none
 returns-in_default-argument-clause-none c e =
-    other_least c.in-Full.len c.args.bytes.now c.in-Full.head c.in-Full.ensures (λ k same. (let z : Unbounded ≡ Given (least k) k = sym (ap seen_argument c.in_default-argument.is) ∙ same in cc))
+    other_least c.in-Full.len c.args.bytes.now c.in-Full.head c.in-Full.ensures (λ k same. (let z : EndlessArgument ≡ Given (least k) k = sym (ap seen_argument c.in_default-argument.is) ∙ same in cc))
 
 pub returns-then-ne-clause-none : goal.returns-then-ne-clause-none
 returns-then-ne-clause-none c e =

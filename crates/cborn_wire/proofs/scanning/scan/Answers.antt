@@ -6,14 +6,14 @@ use Rattle.cborn_wire.specs.declared.faults.WireReason.TheVariants.{Truncated}
 use Rattle.cborn_wire.specs.Faults.{Fault}
 use Rattle.cborn_wire.specs.shared.Scanning.{levels}
 use Rattle.cborn_wire.proofs.Spelled.ByteLists.{are_bytes}
-use Rattle.cborn_wire.proofs.Scans.ScanWhole.{scan_begun, scan_taken, scan_cut, scan_refused, scan_whole, scan_open}
+use Rattle.cborn_wire.proofs.Scans.ScanWhole.{scan_opened, scan_taken, scan_cut, scan_refused, scan_whole, scan_open}
 use Rattle.cborn_wire.proofs.Scans.OpenLevels.{some_open, none_open}
 use Rattle.cborn_wire.proofs.scanning.scan.Goals as goal
 
-pub take-requires-clause-begun : goal.take-requires-clause-begun
-take-requires-clause-begun c =
+pub take-requires-clause-are_open : goal.take-requires-clause-are_open
+take-requires-clause-are_open c =
     let x = c.args.bytes.now in
-    scan_begun c.get-most.result x (are_bytes x c.type_inv.bytes) c.loop-at.at (levels c.loop-at.levels) c.loop-at.invariant.2
+    scan_opened c.get-most.result x (are_bytes x c.type_inv.bytes) c.loop-at.at (levels c.loop-at.levels) c.loop-at.invariant.2
 
 pub overflow_add-at : goal.overflow_add-at
 overflow_add-at c =

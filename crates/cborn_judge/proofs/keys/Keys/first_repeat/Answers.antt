@@ -2,11 +2,11 @@ use Rattle.std.proofs.Common.{rules, arith, ℕ, ◌<◌, List, length, get_or, 
 use Rattle.std.specs.Prelude.{All}
 use Rattle.std.proofs.lemmas.List.{length-map}
 use Rattle.cborn_model.specs.Tree.{Tree, entries, place}
-use Rattle.cborn_judge.specs.Flaws.{flaw_rank}
+use Rattle.cborn_model.specs.Reasons.{flaw_rank}
 use Rattle.cborn_judge.specs.shared.Judged.{FindsFlaw, RepeatFlaw}
 use Rattle.cborn_judge.specs.devices.Places.{Key, key_bytes, key_position, key_places, RepeatAt}
 use Rattle.cborn_judge.proofs.SameKeys.Codes.{keys_kept, keys_below, none_repeated}
-use Rattle.cborn_judge.proofs.Loops.Firsts.{found_alike}
+use Rattle.cborn_model.proofs.Found.{found_alike}
 use Rattle.cborn_judge.proofs.SameKeys.Repeating.{keys_rise}
 use Rattle.cborn_judge.proofs.FirstFlaw.Steps.{repeats_alike}
 use Rattle.cborn_judge.proofs.keys.Keys.first_repeat.Goals as goal

@@ -3,7 +3,7 @@ use Rattle.cborn_paths.specs.Levels.{levels}
 use Rattle.cborn_paths.specs.devices.Walks.{finish, AreCounted}
 use Rattle.cborn_paths.proofs.walks.Walk.finish.Given as goal
 
--- what the item comes to now is what it came to at first
+-- counting the item now makes the levels that counting it at first makes
 abbrev pub invariant-levels : goal.invariant-levels
 invariant-levels l = (finish (levels l.self) ≡ finish (levels l.initial.self)) × AreCounted (levels l.self) × (l.self.at ≡ l.initial.self.at)
 

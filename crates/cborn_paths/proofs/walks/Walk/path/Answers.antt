@@ -10,5 +10,5 @@ returns c =
     let outer = c.args.self.now.outer.items in
     c.in_ok-push-2.ensures.items
     ∙ ap (λ s. c.steps.steps.items ++ s ∷ []) c.step-2.ensures
-    ∙ ap (λ l. l ++ step_of top.level.nesting ∷ []) (c.steps.invariant ∙ ap (map (λ o. step_of o.level.nesting)) (take_all c.steps.around-index outer (omega (arith, c.steps-test.false))))
+    ∙ ap (λ l. l ++ step_of top.level.kind ∷ []) (c.steps.invariant ∙ ap (map (λ o. step_of o.level.kind)) (take_all c.steps.around-index outer (omega (arith, c.steps-test.false))))
     ∙ sym (path_levels top outer)

@@ -11,12 +11,12 @@ returns-then-run-gt0-clause-steps c = c.take_run-run.ensures.steps c.if-run-gt0.
 pub returns-then-is_chunked-clause-steps : goal.returns-then-is_chunked-clause-steps
 returns-then-is_chunked-clause-steps c =
     let same : levels c.take_run-run.new.self ≡ levels c.args.self.now = c.take_run-run.ensures.none (omega (arith, c.if-run-gt0.false)) in
-    subst (λ l. Steps c.args.limit c.args.piece.now l (levels c.take_any.new.self) c.take_any.result) same c.take_any.ensures.steps
+    subst (λ l. Steps c.args.limit c.args.bytes.now l (levels c.take_any.new.self) c.take_any.result) same c.take_any.ensures.steps
 
 pub returns-clause-steps : goal.returns-clause-steps
-returns-clause-steps c = λ at ready os begun is.
+returns-clause-steps c = λ at ready os are_open is.
     let same : levels c.take_run-run.new.self ≡ levels c.args.self.now = c.take_run-run.ensures.none (omega (arith, c.if-run-gt0.false)) in
     let free : IsNoChunk (slot_at (levels c.args.self.now)) = subst (λ l. IsNoChunk (slot_at l)) same (c.is_chunked.ensures c.if-is_chunked.false) in
-    let taken = step_small c.args.limit at ready os (levels c.args.self.now) begun is c.args.piece.now c.requires.some c.requires.first free in
+    let taken = step_small c.args.limit at ready os (levels c.args.self.now) are_open is c.args.bytes.now c.requires.some c.requires.first free in
     let now = c.finish.ensures.open ∙ ap finish same in
-    (taken.0, taken.1, subst (λ l. IsScanned (at + 1) l (run c.args.limit (Live at ready os nothing) (take 1 c.args.piece.now))) (sym now) taken.2)
+    (taken.0, taken.1, subst (λ l. IsScanned (at + 1) l (run c.args.limit (Live at ready os nothing) (take 1 c.args.bytes.now))) (sym now) taken.2)

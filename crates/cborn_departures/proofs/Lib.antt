@@ -1,0 +1,10 @@
+pub mod Walking
+pub mod Opening
+pub mod Departing
+pub mod Departed
+pub mod Telling
+pub mod Answering
+pub mod Straying
+pub mod Falling
+pub mod Settling
+pub mod Tagging

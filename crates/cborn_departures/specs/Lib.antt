@@ -1,0 +1,2 @@
+pub mod Departing
+pub mod devices

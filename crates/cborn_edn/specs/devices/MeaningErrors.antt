@@ -1,0 +1,32 @@
+-- A device of the proofs: the first meaning error, and how the reader keeps it. No definition cites it.
+use Rattle.std.specs.Prelude.{◌≡◌, ℕ, List, [], ◌∷◌, ◌++◌, ◌==◌, ◌&&◌, ◌||◌, Bool, true, false, nat_lt, nat_le, if◌then◌else◌, Option, Some, None}
+use Rattle.cborn_edn.specs.declared.faults.EdnReason.{EdnReason}
+use Rattle.cborn_edn.specs.declared.meaning_errors.MeaningError.{MeaningError}
+use Rattle.cborn_edn.specs.devices.Meaning.{number_of}
+
+-- a has a lower place than b, or the same place and no higher number
+abbrev pub no_later : MeaningError → MeaningError → Bool
+no_later a b = nat_lt a.place b.place || (a.place == b.place && nat_le (number_of a.reason) (number_of b.reason))
+
+-- the first of two
+abbrev pub earlier : Option MeaningError → Option MeaningError → Option MeaningError
+earlier None b = b
+earlier (Some a) None = Some a
+earlier (Some a) (Some b) = Some (if no_later a b then a else b)
+
+-- the first of several
+abbrev pub first_error : List MeaningError → Option MeaningError
+first_error [] = None
+first_error (s ∷ l) = earlier (Some s) (first_error l)
+
+abbrev pub error_unless : Bool → ℕ → EdnReason → Option MeaningError
+error_unless true p r = None
+error_unless false p r = Some (record { place = p; reason = r })
+
+-- if old is the first of some meaning errors, new is the first of these and of l
+abbrev pub Notes : Option MeaningError → Option MeaningError → List MeaningError → Type 0
+Notes old new l = (before : List MeaningError) → old ≡ first_error before → new ≡ first_error (before ++ l)
+
+abbrev pub is_none : Option MeaningError → Bool
+is_none None = true
+is_none (Some s) = false

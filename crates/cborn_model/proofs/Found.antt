@@ -1,0 +1,77 @@
+-- The first of what two searches found.
+use Rattle.std.proofs.Common.{◌≡◌, ℕ, ◌⊎◌, inl, inr, refl, sym, ◌∙◌, subst, Option, None, Some}
+use Rattle.std.specs.Prelude.{◌↔◌}
+use Rattle.cborn_model.specs.First.{IsFirst}
+use Rattle.cborn_model.proofs.Firsts.{no_later_on}
+use Rattle.cborn_model.specs.Earliest.{IsEarlier, IsEarliest, Finds}
+
+abbrev pub Either : {R : Type 0} → (ℕ → R → Type 0) → (ℕ → R → Type 0) → ℕ → R → Type 0
+Either F G p r = F p r ⊎ G p r
+
+module _ {X R : Type 0} (rank : R → ℕ) (place_of : X → ℕ) (reason_of : X → R) where
+  abbrev First : (ℕ → R → Type 0) → X → Type 0
+  First F x = IsFirst rank F (place_of x) (reason_of x)
+
+  abbrev Found : (ℕ → R → Type 0) → Option X → Type 0
+  Found = Finds rank place_of reason_of
+
+  -- the place of what was found, and the number of its reason
+  abbrev key_of : X → ℕ × ℕ
+  key_of x = (place_of x, rank (reason_of x))
+
+  pub earlier_of : (F G : ℕ → R → Type 0) (x y z : X) → First F x → First G y → IsEarlier key_of x y z → First (Either F G) z
+  earlier_of F G x y z h k e = record {
+    is = elim e.0 [
+      | inl i ↦ subst (λ v. Either F G (place_of v) (reason_of v)) (sym i) (inl h.is)
+      | inr i ↦ subst (λ v. Either F G (place_of v) (reason_of v)) (sym i) (inr k.is)
+    ];
+    first = λ q s d. elim d [
+      | inl i ↦ no_later_on (key_of z) (key_of x) (q, rank s) e.1 (h.first q s i)
+      | inr i ↦ no_later_on (key_of z) (key_of y) (q, rank s) e.2 (k.first q s i)
+    ];
+  }
+
+  pub first_left : (F G : ℕ → R → Type 0) (x : X) → First F x → Found G None → First (Either F G) x
+  first_left F G x h n = record { is = inl h.is; first = λ q s k. elim k [ inl f ↦ h.first q s f | inr g ↦ absurd (n q s g) ] }
+
+  pub first_right : (F G : ℕ → R → Type 0) (x : X) → Found F None → First G x → First (Either F G) x
+  first_right F G x n h = record { is = inr h.is; first = λ q s k. elim k [ inl f ↦ absurd (n q s f) | inr g ↦ h.first q s g ] }
+
+  pub found_both : (F G : ℕ → R → Type 0) (a b o : Option X) → Found F a → Found G b → IsEarliest key_of a b o → Found (Either F G) o
+  found_both F G None None o h k e = subst (Found (Either F G)) (sym e) (λ p r d. elim d [ inl f ↦ h p r f | inr g ↦ k p r g ])
+  found_both F G None (Some y) o h k e = subst (Found (Either F G)) (sym e) (first_right F G y h k)
+  found_both F G (Some x) None o h k e = subst (Found (Either F G)) (sym e) (first_left F G x h k)
+  found_both F G (Some x) (Some y) None h k e = absurd e
+  found_both F G (Some x) (Some y) (Some z) h k e = earlier_of F G x y z h k e
+
+  pub found_alike : (F G : ℕ → R → Type 0) (o : Option X) → ((p : ℕ) (r : R) → F p r ↔ G p r) → Found F o → Found G o
+  found_alike F G None e h = λ p r g. h p r ((e p r).1 g)
+  found_alike F G (Some x) e h = record { is = (e (place_of x) (reason_of x)).0 h.is; first = λ q s g. h.first q s ((e q s).1 g) }
+
+  -- the earliest of two is none only if both are
+  pub none_both : (a b o : Option X) → IsEarliest key_of a b o → o ≡ None → (a ≡ None) × (b ≡ None)
+  none_both None b o e n = (refl, sym e ∙ n)
+  none_both (Some x) None o e n = let f : Some x ≡ None = sym e ∙ n in cc
+  none_both (Some x) (Some y) None e n = absurd e
+  none_both (Some x) (Some y) (Some z) e n = cc
+
+  -- ---- what a loop knows that looks for the first of F, and builds something of which P holds where there is none
+
+  abbrev pub Settles : (ℕ → R → Type 0) → Type 0 → Option X → Type 0
+  Settles F P None = P
+  Settles F P (Some x) = First F x
+
+  pub settled_found : (F : ℕ → R → Type 0) (P : Type 0) (o : Option X) → (P → Found F None) → Settles F P o → Found F o
+  settled_found F P None n h = n h
+  settled_found F P (Some x) n h = h
+
+  -- the next one has no fault
+  pub settled_fine : (F G H : ℕ → R → Type 0) (P Q : Type 0) (o : Option X) → ((p : ℕ) (r : R) → Either F G p r ↔ H p r) → (P → Q) → Found G None → Settles F P o → Settles H Q o
+  settled_fine F G H P Q None e f n h = f h
+  settled_fine F G H P Q (Some x) e f n h = found_alike (Either F G) H (Some x) e (first_left F G x h n)
+
+  -- y is the first fault of the next one
+  pub settled_flawed : (F G H : ℕ → R → Type 0) (P Q : Type 0) (o g : Option X) (y : X) → ((p : ℕ) (r : R) → Either F G p r ↔ H p r) → (P → Found F None) → First G y → IsEarliest key_of o (Some y) g → Settles F P o → Settles H Q g
+  settled_flawed F G H P Q None g y e n k i h = subst (Settles H Q) (sym i) (found_alike (Either F G) H (Some y) e (first_right F G y (n h) k))
+  settled_flawed F G H P Q (Some x) None y e n k i h = absurd i
+  settled_flawed F G H P Q (Some x) (Some z) y e n k i h = found_alike (Either F G) H (Some z) e (earlier_of F G x y z h k i)
