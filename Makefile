@@ -71,7 +71,7 @@ try-tests: kit
 # what needs the kit says so if it is missing
 .PHONY: kit
 kit:
-	@command -v rt > /dev/null || { echo "The command rt of the Rattle kit isn't on the path, and nothing is proved or built without it. README.md, 'Get it', says how to get it, and how to do without." >&2; exit 1; }
+	@command -v rt > /dev/null || { echo "The command rt of the Rattle kit isn't on the path, and nothing is proved or built without it. README.md, 'Get it', names it, and says how to do without." >&2; exit 1; }
 
 build: kit
 	@test -e $(PROGRAM) || echo 'Each crate is proved, lowest first, and then $(PROGRAM) is built: a quarter of an hour on four idle processors, more than an hour where others use them too. A quiet minute is no hang.'

@@ -5,9 +5,8 @@
 
 Each shape, of bytes and of texts, is made at a quarter and at the whole of N MB (16). For each command: the peak memory,
 less 3 MB that the process itself has, as a multiple of input and output together; MB of input a second; and the status.
-Ends with status 1 where a multiple is above RATIO (2.5; more for one great map of tiny pairs, whose keys have to be sorted,
-and for a text of integers in heads of nine bytes), where time grows by more than 1.6 times as much as the input, or where
-a run was ended. With --memory no time is judged.
+Ends with status 1 where a multiple is above RATIO (2.5; more for one great map of tiny pairs, whose keys have to be sorted),
+where time grows by more than 1.6 times as much as the input, or where a run was ended. With --memory no time is judged.
 """
 import argparse
 import os
@@ -23,9 +22,6 @@ OWN = 3_000_000
 GREAT_MAPS = ("map of integers", "map, repeated key last")
 # what is known to take more than RATIO
 MORE = {(name, command): 6 for name in GREAT_MAPS for command in ("normalise", "check", "show", "to notation")}
-# the encoded bytes are twice the text, and are copied as they grow; compare has no output to count with the input
-MORE.update({("text, wide heads", command): 4.5 for command in ("normalise", "profile 2")})
-MORE["text, wide heads", "compare"] = 5.5
 COMMANDS = {
     "normalise": ["normalise"],
     "check": ["check"],
@@ -74,7 +70,7 @@ def nests_of_keys(n):
         "keys in keys, long heads": long,
         "keys in keys, indefinite lengths": b"\xbf" * 100 + integers + b"\x00\xff" * 100,
         "keys in keys, bad text last": b"\xa1" * 100 + b"\x82" + integers + b"\x61\xff" + b"\x00" * 100,
-        "keys in keys, long heads, bad text behind": b"\xa1\x82" + long + b"\x61\xff\x00",
+        "keys in keys, long heads, bad text after": b"\xa1\x82" + long + b"\x61\xff\x00",
         "keys in keys, repeated key behind": b"\xa1\x82" + long + b"\xa2\x00\x00\x00\x00\x00",
         "second keys in second keys, long head last": b"\xa2\x00\x00" * 100 + b"\x82" + integers + b"\x18\x01" + b"\x00" * 100,
     }
@@ -87,9 +83,9 @@ def maps_out_of_order(n):
     even = head(5, count) + b"".join(head(0, key) + row for key in range(count, 0, -1))
     uneven = head(5, 2) + b"\x01" + head(4, n) + b"\x01" * n + b"\x00\x00"
     return {
-        "map out of order, bad text behind": b"\x82" + even + b"\x61\xff",
+        "map out of order, bad text after": b"\x82" + even + b"\x61\xff",
         "key is a map out of order": b"\xa1" + even + b"\x00",
-        "great pair out of order, bad text behind": b"\x82" + uneven + b"\x61\xff",
+        "great pair out of order, bad text after": b"\x82" + uneven + b"\x61\xff",
         "key is a map with a great pair": b"\xa1" + uneven + b"\x00",
     }
 

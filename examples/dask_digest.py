@@ -6,7 +6,8 @@
 A task is a file, or, of one longer than --part, a part of it that ends where an item does. One call of the library
 gives the canonical form of a part in notation, with each item on a line, so that equal items are equal lines however
 they were spelled. A worker gives the digest (SHA-256) of each line. Digests that occur more than once are printed with
-where they occur, each on a line: DIGEST FILE:INDEX FILE:INDEX .., where INDEX counts the items of a file from 0.
+where they occur, each on a line: DIGEST FILE:INDEX FILE:INDEX .., where INDEX counts the items of a file from 0. A last
+line has the number of all items, of different items, and the seconds.
 
 With --scheduler every machine needs the files at the same paths, and the packages cborn and distributed. Without it
 N worker processes are started on this machine.

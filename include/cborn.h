@@ -35,7 +35,7 @@ extern "C" {
 #endif
 
 /* The version of this header as one number: the major version times 65536, the minor one times 256,
- * and the patch. What follows a release has the number of the next one; this is 0.5.0-dev. */
+ * and the patch. After a release the source has the number of the next one. */
 #define CBORN_VERSION 0x000500
 
 /* The format of an input or an output. As output both notations are the same. */
@@ -216,7 +216,8 @@ uint32_t cborn_words(uint32_t number, char *out, size_t out_len);
  * CBORN_OUT_OF_MEMORY; or CBORN_BAD_ARGUMENT if no input of that format has a fault
  * or a defect of this number (CBORN_TOO_LONG has no place, and no explanation), or
  * the format or the depth is invalid. At all but CBORN_OK, out is unchanged.
- * told->place is 0. The call walks over the input up to the place. */
+ * told->place is 0. The call walks over the input up to the place, and keeps a tree of
+ * the item there, which can take eighty times the size of that item. */
 uint32_t cborn_explain(uint32_t from, uint64_t depth,
                        const uint8_t *input, size_t input_len,
                        uint32_t number, uint64_t place,

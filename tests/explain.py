@@ -17,6 +17,8 @@ from reading import head
 from run import Outcome
 
 SEED = 8949
+# the end of a path whose further steps aren't known
+CUT = ".."
 COUNT = 500
 WIDTHS = {24: 1, 25: 2, 26: 4, 27: 8}
 PLACE = re.compile(r"offset (\d+): (.*)")
@@ -120,8 +122,8 @@ def step_of(kind, parts):
 
 
 def path_in_text(text, place):
-    """The same of a text: the path to the token at a place."""
-    items, levels, at = 0, [], 0
+    """The same of a text: the path to the token at a place. It ends with CUT before a bracket with a wrong comma or colon."""
+    items, levels, at, is_whole = 0, [], 0, False
     while at < place:
         found = TOKEN.match(text, at)
         if not found or found.end() > place and not found["blank"]:
@@ -129,23 +131,32 @@ def path_in_text(text, place):
         at = found.end()
         if found["tag"]:
             digits = found["tag"].split("_")[0]
-            levels.append([int(digits, 0), 0])
+            levels.append([int(digits, 0), 0, False])
         elif found["simple"]:
-            levels.append([None, 0])
+            levels.append([None, 0, False])
         elif found["open"]:
-            levels.append([{"(_": "chunk", "<<": "embedded", "[": "array", "{": "map"}[found["open"]], 0])
+            levels.append([{"(_": "chunk", "<<": "embedded", "[": "array", "{": "map"}[found["open"]], 0, False])
         elif found["close"] and levels:
             levels.pop()
         elif found["comma"] or found["colon"]:
             if levels:
+                kind, parts, _ = levels[-1]
+                is_after_key = kind == "map" and parts % 2 == 0
+                if is_after_key and found["comma"] or found["colon"] and not (is_after_key and is_whole):
+                    levels[-1][2] = True
                 levels[-1][1] += 1
             elif found["comma"]:
                 items += 1
-    return items, [step_of(kind, parts) for kind, parts in levels if kind is not None]
+        if not found["blank"]:
+            is_whole = bool(found["close"] or found["string"] or found["item"])
+    wrong = next((index for index, level in enumerate(levels) if level[2]), len(levels))
+    steps = [step_of(kind, parts) for kind, parts, _ in levels[:wrong] if kind is not None]
+    return items, steps + [CUT] * (wrong < len(levels))
 
 
 def told_path(line):
     """The same, as the line of a path tells it."""
+    line, cut = line.removesuffix(f" {CUT}"), line.endswith(f" {CUT}")
     found = re.match(r"item (\d+)(?: |$)", line)
     item, at, steps = int(found[1]), found.end(), []
     while at < len(line):
@@ -154,7 +165,7 @@ def told_path(line):
             raise ValueError(f"no step at {at} of {line!r}")
         steps += [told_step(found[1])] * int(found[2] or 1)
         at = found.end()
-    return item, steps
+    return item, steps + [CUT] * cut
 
 
 def told_step(step):

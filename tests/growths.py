@@ -58,12 +58,17 @@ def wants_of_memory(words, refused):
 
 
 def shorter_explanations(words, ample):
-    """What a run answers that has no memory to explain its answer to the end."""
+    """What a run answers that has no memory to explain its answer to the end, or for a hint, each of which is made by itself."""
     if "--explain" in words:
+        none = b"  out of memory\n"
         lines = ample.stderr.splitlines(keepends=True)
         first = sum(not line.startswith(b"  ") for line in lines)
-        for kept in range(first, len(lines) + 1):
-            yield ample._replace(stderr=b"".join(lines[:kept]) + b"  out of memory\n")
+        end = len(lines) - sum(line.startswith(b"  hint ") for line in lines)
+        starts = [lines[:end], *([*lines[:kept], none] for kept in range(first, end + 1))]
+        for start, *hints in itertools.product(starts, *([[hint], [none]] for hint in lines[end:])):
+            said = [*start, *itertools.chain(*hints)]
+            # the line isn't said twice in a row
+            yield ample._replace(stderr=b"".join(line for before, line in zip([b"", *said], said) if line != none or before != none))
 
 
 def command_lines(served, those):

@@ -382,9 +382,10 @@ class AsProgram:
         """What is wrong with what it does. Its help, and what it says of a wrong command line, are its own."""
         outcome = case.run(self.path)
         if case.words[:1] == ["compare"] and "--explain" in case.words and case.status == 1:
-            # the library doesn't tell where two inputs differ: no path, and not what stands there
+            # the library doesn't say where two inputs differ, only what they look like
             case = copy.copy(case)
-            case.wanted = {**case.wanted, "stderr": [(False, b"")]}
+            said = b"".join(text for _, text in case.wanted["stderr"]).splitlines(keepends=True)
+            case.wanted = {**case.wanted, "stderr": [(False, b"".join(line for line in said if line.startswith(b"  hint ")))]}
         is_own = case.status == 3 or any(it in case.words for it in ("--help", "-h"))
         if not is_own:
             yield from case.differences(outcome)

@@ -171,14 +171,24 @@ class Inputs(unittest.TestCase):
                 times.append(time.perf_counter())
                 time.sleep(0.001)
 
+        def runs_beside(call):
+            """Returns whether the other thread ran all the time: while the lock is held it runs before and after the call alone."""
+            start = time.perf_counter()
+            call()
+            end = time.perf_counter()
+            moments = [start, *(moment for moment in times if start < moment < end), end]
+            return max(later - moment for moment, later in zip(moments, moments[1:])) < (end - start) / 2
+
         beating = threading.Thread(target=beat)
         beating.start()
-        start = time.perf_counter()
-        cborn.normalise(data)
-        end = time.perf_counter()
-        is_done.set()
-        beating.join()
-        self.assertTrue(any(start < moment < end for moment in times))
+        try:
+            # on a busy machine the other thread may get no processor during one call
+            self.assertTrue(any(runs_beside(lambda: cborn.normalise(data)) for _ in range(100)))
+            # sorting in Python keeps the lock, and that is seen
+            self.assertFalse(all(runs_beside(lambda: sorted(data)) for _ in range(100)))
+        finally:
+            is_done.set()
+            beating.join()
 
 
 class Errors(unittest.TestCase):
@@ -352,7 +362,7 @@ class Program(unittest.TestCase):
         return done.stdout, done.stderr, done.returncode
 
     def test_help_and_version(self):
-        self.assertEqual(self.run_on("--version"), (b"cborn 0.5.0-dev\n", b"", 0))
+        self.assertEqual(self.run_on("--version"), (b"cborn 0.5.0\n", b"", 0))
         for command in ("show", "normalise", "compare", "check"):
             out, err, status = self.run_on(command, "--help")
             self.assertEqual((err, status), (b"", 0))
@@ -385,7 +395,7 @@ class Program(unittest.TestCase):
             self.assertEqual(self.run_on("compare", "--explain", loose, refused), (b"", told, 2))
             # where two inputs differ the library doesn't tell; the second looks like a text
             out, err, status = self.run_on("compare", "--explain", loose, text)
-            self.assertEqual((out, err[:26], err.count(b"\n"), status), (b"different at item 0\n", b"  hint  the input is a tex", 1, 1))
+            self.assertEqual((out, err[:35], err.count(b"\n"), status), (b"different at item 0\n", b"  hint  the second input is a text,", 1, 1))
             as_notation = self.run_on("compare", "--explain", "--from-b", "notation", loose, text)
             self.assertEqual(as_notation, (b"different at item 0\n", b"", 1))
 

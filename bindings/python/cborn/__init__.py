@@ -208,7 +208,7 @@ class CbornError(ValueError):
         return f"{side}{where}{self.reason}"
 
     def explain(self, data: ReadableBuffer) -> str:
-        """Return lines that say where in `data` the fault is, what stands there, and why.
+        """Return lines that say where in `data` the fault is, what is there, and why.
 
         `data` is the input that was refused. The lines are those that the program adds with --explain, but they name
         arguments in place of options. docs/FORMATS.md says what is in them. The result is empty if the input is too
@@ -307,12 +307,12 @@ def stack(depth: int = 128) -> int:
 
 
 def version() -> str:
-    """Return the version of the library. What follows a release has that of the next release."""
+    """Return the version of the library. After a release the source has that of the next release."""
     number = _cborn.version()
     return f"{number >> 16}.{number >> 8 & 255}.{number & 255}"
 
 
-__version__: typing.Final[str] = "0.5.0.dev0"
+__version__: typing.Final[str] = "0.5.0"
 
 
 def __dir__() -> list[str]:

@@ -1,7 +1,7 @@
 """The program cborn, for whoever has the wheel alone: its commands, options, lines and statuses, over this library.
 
-Unlike the program it needs the whole input and the whole output in memory. With --explain it says what the program says,
-but not where two inputs of `compare` differ, which the library doesn't tell.
+With --explain it says what the program says, but not where two inputs of `compare` differ, which the library doesn't
+report. Only with --explain it says that an input looks like a text.
 """
 
 from __future__ import annotations
@@ -124,15 +124,16 @@ def parser() -> Parser:
     return program
 
 
-# what has no width, ends a line, turns its direction or is a control
+# what is a control or not shown, ends a line or turns its direction
 ESCAPED = re.compile(
     "[\x00-\x1f\x7f-\x9f\xad\u034f\u061c\u115f\u1160\u17b4\u17b5\u180b-\u180f\u200b-\u200f\u2028-\u202f"
-    "\u205f-\u206f\u3164\ufe00-\ufe0f\ufeff\uffa0\ufff0-\ufffb\ue000-\uf8ff\U000e0000-\U0010ffff]"
+    "\u205f-\u206f\u3164\ufe00-\ufe0f\ufeff\uffa0\ufff0-\ufffb\ue000-\uf8ff"
+    "\U00013430-\U0001343f\U0001bca0-\U0001bca3\U0001d173-\U0001d17a\U000e0000-\U0010ffff]"
 )
 
 
 def escaped(name: str) -> str:
-    """A name of a file, so that it changes nothing but the line that it stands in."""
+    """A name of a file, so that it changes nothing but the line that it is in."""
     return ESCAPED.sub(lambda c: f"\\u{ord(c[0]):04x}", name)
 
 
@@ -217,15 +218,15 @@ def answered(asked: argparse.Namespace, inputs: list[bytearray]) -> tuple[bytes,
     return cborn.show(data, source, asked.depth, asked.one).encode(), DONE, None
 
 
-def hint(data: bytearray, source: cborn.Kind) -> str:
-    """The line that says what bytes look like, where they look like a text.
+def hint(data: bytearray, source: cborn.Kind, name: str) -> str:
+    """The line that says what bytes look like, where they look like a text. `name` are the words for that input.
 
     It is the last line of an explanation, whatever that explains: here an input that ends too early, at its start.
     """
     if source is not cborn.Kind.WIRE:
         return ""
     lines = cborn.CbornError(cborn.Reason.TRUNCATED.number, 0)._lines(data).splitlines(keepends=True)
-    return lines[-1] if lines[-1].startswith("  hint ") else ""
+    return lines[-1].replace("the input", name, 1) if lines[-1].startswith("  hint ") else ""
 
 
 def explained(explain: typing.Callable[[], str]) -> str:
@@ -261,7 +262,8 @@ def said_after(asked: argparse.Namespace, inputs: list[bytearray], defect: cborn
     """What is said after an answer."""
     if defect is not None:
         return explained(functools.partial(defect._lines, inputs[0], asked.depth))
-    return explained(lambda: "".join(map(hint, inputs, kinds_of(asked))))
+    names = ["the first input", "the second input"] if len(inputs) == 2 else ["the input"]
+    return explained(lambda: "".join(map(hint, inputs, kinds_of(asked), names)))
 
 
 def main(words: typing.Sequence[str]) -> int:

@@ -7,7 +7,7 @@ use crate::faults::Fault;
 use crate::reasons::Reason;
 use crate::{Depth, Kind};
 
-/// What a call reports besides its number.
+/// What a call reports in addition to its number.
 #[repr(C)]
 pub struct Told {
     /// The offset of a fault in bytes, else 0.

@@ -302,7 +302,7 @@ pub fn compare_one(
     matched(code, place)
 }
 
-/// The version of the library: major, minor, patch. What follows a release has the numbers of the next release.
+/// The version of the library: major, minor, patch. After a release the source has the numbers of the next release.
 pub fn version() -> (u32, u32, u32) {
     // SAFETY: it takes nothing
     let number = unsafe { calls::cborn_version() };

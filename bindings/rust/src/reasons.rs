@@ -57,7 +57,7 @@ reasons! {
     IndefiniteLengthNotAllowed = 0x102, "indefinite length not allowed";
     /// A chunk of a string of indefinite length isn't a string of its type with a definite length (section 3.2.3).
     BadChunk = 0x103, "bad chunk";
-    /// A break where an item has to stand (section 3.2.1).
+    /// A break where an item has to be (section 3.2.1).
     UnexpectedBreak = 0x104, "unexpected break";
     /// A floating-point number, in bytes.
     FloatLeftOut = 0x105, "float left out";

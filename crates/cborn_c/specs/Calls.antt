@@ -28,7 +28,7 @@ abbrev pub IsPut : List ℕ → List ℕ → List ℕ → ℕ → Type 0
 IsPut answer before after code =
     ((code ≡ 0) × (length answer ≤ length before) × (after ≡ answer ++ drop (length answer) before)) ⊎ ((code ≡ 1) × (length before < length answer) × (after ≡ before))
 
--- the answer is in the buffer and its length is reported, or the fault is reported and the buffer is unchanged
+-- the answer is in the buffer or doesn't fit it, and its length is reported; or the fault is reported and the buffer is unchanged
 abbrev pub Told : Result (List ℕ) EngineFault → List ℕ → List ℕ → CbornTold → ℕ → Type 0
 Told (Ok answer) before after told code = IsPut answer before after code × (told.length ≡ length answer) × (told.place ≡ 0)
 Told (Err why) before after told code = (code ≡ fault_number why) × (told.place ≡ fault_place why) × (told.length ≡ 0) × (after ≡ before)
@@ -84,7 +84,7 @@ abbrev pub CheckCall : Option KeyOrdering → ℕ → List ℕ → ℕ → ℕ �
 CheckCall (Some order) limit x unplaced place code = (IsDepth limit → ChecksInto (order_of order) limit x place code) × ((IsDepth limit → ⊥) → IsBadPlaced unplaced place code)
 CheckCall None limit x unplaced place code = IsBadPlaced unplaced place code
 
--- a fault of the first input, or one of the second, whose number is 65,536 more
+-- a fault of the first input; or one of the second, whose number is 65,536 more; or refused memory, which is a fault of neither
 abbrev pub CompareFaultTold : CompareFault → ℕ → ℕ → Type 0
 CompareFaultTold (compared.First why) place code = (code ≡ fault_number why) × (place ≡ fault_place why)
 CompareFaultTold (compared.Second why) place code = (code ≡ fault_number why + 65536) × (place ≡ fault_place why)
@@ -109,7 +109,7 @@ CompareCall (Some k) (Some l) limit x y unplaced place code = (IsDepth limit →
 CompareCall (Some k) None limit x y unplaced place code = IsBadPlaced unplaced place code
 CompareCall None l limit x y unplaced place code = IsBadPlaced unplaced place code
 
--- the same items, or different ones, and no place
+-- the same items, or different ones, with 0 as the place
 abbrev pub SameTold : Result Bool CompareFault → ℕ → ℕ → Type 0
 SameTold (Ok true) place code = (code ≡ 0) × (place ≡ 0)
 SameTold (Ok false) place code = (code ≡ 5) × (place ≡ 0)
@@ -167,7 +167,7 @@ abbrev pub CheckOneCall : Option KeyOrdering → ℕ → List ℕ → ℕ → �
 CheckOneCall (Some order) limit x unplaced place code = (IsDepth limit → ChecksOneInto (order_of order) limit x place code) × ((IsDepth limit → ⊥) → IsBadPlaced unplaced place code)
 CheckOneCall None limit x unplaced place code = IsBadPlaced unplaced place code
 
--- the same item, or different ones
+-- the same item, or different ones, with 0 as the place; or a fault of the first input, one of the second, or refused memory
 abbrev pub SameOneTold : Result Bool CompareOneFault → ℕ → ℕ → Type 0
 SameOneTold (Ok true) place code = (code ≡ 0) × (place ≡ 0)
 SameOneTold (Ok false) place code = (code ≡ 5) × (place ≡ 0)
@@ -191,7 +191,7 @@ CompareOneCall None l limit x y unplaced place code = IsBadPlaced unplaced place
 abbrev pub HasWords : ℕ → Type 0
 HasWords number = ((why : OneFault) × (one_number why ≡ number)) ⊎ ((why : OneFault) × (one_number why + 65536 ≡ number)) ⊎ ((reason : DefectReason) × (defect_number reason ≡ number))
 
--- some words, and then a zero, are in the buffer. No clause says which words.
+-- some words, and then a zero, are in the buffer, or don't fit it. No clause says which words.
 pub record WordsPut (before after : List ℕ) (code : ℕ) : Type 0 where
   pub words : List ℕ
   pub short : length words < 64
@@ -216,12 +216,12 @@ IsDefectOf kind.Notation2 number = ⊥
 abbrev pub IsExplained : Kind → ℕ → Type 0
 IsExplained k number = IsFaultOf k number ⊎ ((fault : ℕ) × (fault + 65536 ≡ number) × IsFaultOf k fault) ⊎ IsDefectOf k number
 
--- a text is in the buffer and its length is reported, or memory was refused and the buffer is unchanged
+-- a text is in the buffer or doesn't fit it, and its length is reported; or memory was refused and the buffer is unchanged
 abbrev pub TextTold : Result (String Global) AllocError → List ℕ → List ℕ → CbornTold → ℕ → Type 0
 TextTold (Ok text) before after told code = IsPut (string_bytes text) before after code × (told.length ≡ length (string_bytes text)) × (told.place ≡ 0)
 TextTold (Err why) before after told code = (code ≡ 3) × (told.place ≡ 0) × (told.length ≡ 0) × (after ≡ before)
 
--- No clause says which text.
+-- some text is the explanation. No clause says which.
 pub record ExplainsInto (before after : List ℕ) (told : CbornTold) (code : ℕ) : Type 0 where
   pub answer : Result (String Global) AllocError
   pub put : TextTold answer before after told code

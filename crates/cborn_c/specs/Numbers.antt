@@ -114,7 +114,7 @@ text_number (text.Notation r) = edn_number r
 text_number (text.Invalid r) = invalid_number r
 text_number (text.Count r) = count_number r
 
--- 3: memory was refused. An input in memory has no failed read or write, so these have the same number.
+-- the number of a fault. 3: memory was refused. An input in memory has no failed read or write, so these have the same number.
 abbrev pub fault_number : EngineFault → ℕ
 fault_number (fault.Wire (wire_fault.Refused p r)) = wire_number r
 fault_number (fault.Wire wire_fault.OutOfMemory) = 3
@@ -149,7 +149,7 @@ fault_place fault.ReadFault = 0
 fault_place fault.WriteFault = 0
 fault_place fault.OutOfMemory = 0
 
--- where exactly one item is wanted
+-- the number of a fault where exactly one item is wanted
 abbrev pub one_number : OneFault → ℕ
 one_number (one.Engine why) = fault_number why
 one_number (one.NoItem p) = count_number counts.NoItem

@@ -59,8 +59,8 @@ fn text_fault_at(number: u32) -> Option<TextReason>
 }
 
 /// The explanation of a fault or a defect, whose number and offset in bytes another call reported for
-/// this input, or that memory for it is refused. `None`: no input of this format has a fault or a defect
-/// with this number.
+/// this input, or that memory for it is refused. `None`: no input of this format has a defect, or a
+/// fault in its content, with this number.
 pub fn explained(
     alloc: Global,
     limit: Limit,
@@ -91,8 +91,8 @@ pub fn explained(
     Some(explain_text(alloc, limit, text, place, reason))
 }
 
-/// Writes an explanation to the start of `out`, and answers the number for C. Where `out` is too small,
-/// or memory was refused, `out` is unchanged.
+/// Writes an explanation to the start of `out`, and answers the number for C. `told` gets its length in
+/// bytes. Where `out` is too small, or memory was refused, `out` is unchanged.
 pub fn put_text(answer: Result<String, AllocError>, out: &mut [u8], told: &mut CbornTold) -> u32
     ensures { TextTold answer out.old out.new told.new result }
 {

@@ -1,8 +1,9 @@
 //! The calls of `cborn_engine` for C, as `include/cborn.h` declares them.
 //!
-//! C passes a slice as a pointer and then a length, and a `Global` as nothing. A call answers a number,
-//! and writes its answer to a buffer of the caller's. Where the buffer is too small it writes nothing,
-//! and reports the length that the answer has. Nothing is kept between calls.
+//! C passes a slice as a pointer and then a length, and a `Global` as nothing. A call answers a number.
+//! Where its answer has bytes too, it writes them to a buffer of the caller's. Where that is too small
+//! it writes nothing to it, and reports the length that the answer has; `cborn_words` doesn't report it.
+//! Nothing is kept between calls.
 //!
 //! `specs/Calls.antt` says what each call answers, `specs/Numbers.antt` what the numbers mean.
 #![tactic(auto)]
@@ -35,12 +36,12 @@ use words::{defect_at, of_first, one_fault_at, put_words};
 /// encodings (RFC 8949 section 4.2), or the fixed notation of these. `from` and `to` number a format,
 /// `order` an order of keys. `depth` is the nesting limit, from 1 to 1,024. `told` gets the offset of
 /// a fault, in bytes from the start of `input`, and the length of the answer in bytes. From bytes to
-/// bytes, a buffer that is a third longer than the input is never too small.
+/// bytes, a buffer that is a third longer than the input is never too small. Answers `OK`.
 ///
 /// # Errors
-/// `TOO_SMALL` where the answer is longer than `out`; its length is reported. `BAD_ARGUMENT` where a
-/// number means nothing; `told` is then unchanged. Else the number of the fault of `input`. At each of
-/// these `out` is unchanged.
+/// `TOO_SMALL` where the answer is longer than `out`; its length is reported. `BAD_ARGUMENT` where
+/// `from`, `to` or `order` numbers nothing or `depth` is no limit; `told` is then unchanged. Else the
+/// number of the fault of `input`. At each of these `out` is unchanged.
 #[unsafe(no_mangle)]
 pub extern "C" fn cborn_normalise(
     alloc: Global,
@@ -78,12 +79,12 @@ pub extern "C" fn cborn_normalise(
 /// section 3), or in the fixed notation (section 8). `from` and `to` number a format. `depth` is the
 /// nesting limit, from 1 to 1,024. `told` gets the offset of a fault, in bytes from the start of
 /// `input`, and the length of the answer in bytes. Invalid items are written too. Notation has one
-/// exception: a text string that isn't UTF-8 is refused.
+/// exception: a text string that isn't UTF-8 is refused. Answers `OK`.
 ///
 /// # Errors
-/// `TOO_SMALL` where the answer is longer than `out`; its length is reported. `BAD_ARGUMENT` where a
-/// number means nothing; `told` is then unchanged. Else the number of the fault of `input`. At each of
-/// these `out` is unchanged.
+/// `TOO_SMALL` where the answer is longer than `out`; its length is reported. `BAD_ARGUMENT` where
+/// `from` or `to` numbers nothing or `depth` is no limit; `told` is then unchanged. Else the number of
+/// the fault of `input`. At each of these `out` is unchanged.
 #[unsafe(no_mangle)]
 pub extern "C" fn cborn_show(
     alloc: Global,
@@ -108,14 +109,14 @@ pub extern "C" fn cborn_show(
     put(shown(alloc, limit, from, to, input), out, told)
 }
 
-/// Tells whether the bytes of `input` are the deterministic encodings of the items that they hold
-/// (RFC 8949 section 4.2), else the number of the first defect. `order` numbers an order of keys.
-/// `depth` is the nesting limit, from 1 to 1,024. `place` gets the offset of the defect, in bytes from
-/// the start of `input`.
+/// `OK` if the bytes of `input` are the deterministic encodings of the items that they hold (RFC 8949
+/// section 4.2), else the number of the first defect. `order` numbers an order of keys. `depth` is the
+/// nesting limit, from 1 to 1,024. `place` gets the offset of the defect, in bytes from the start of
+/// `input`, or 0 where there is none.
 ///
 /// # Errors
-/// `BAD_ARGUMENT` where a number means nothing; `place` is then unchanged. Else the number of the
-/// fault of `input`, and `place` gets its offset in bytes.
+/// `BAD_ARGUMENT` where `order` numbers nothing or `depth` is no limit; `place` is then unchanged. Else
+/// the number of the fault of `input`, and `place` gets its offset, in bytes from the start of `input`.
 #[unsafe(no_mangle)]
 pub extern "C" fn cborn_check(
     alloc: Global,
@@ -139,14 +140,16 @@ pub extern "C" fn cborn_check(
     defect_told(answer, place)
 }
 
-/// Tells whether two inputs hold the same items (RFC 8949 section 2), else `DIFFERENT`, and `place`
-/// gets the index, from 0, of the first item that differs. `from_a` and `from_b` number the formats
-/// of `first` and `second`. `depth` is the nesting limit, from 1 to 1,024.
+/// `OK` if two inputs hold the same items (RFC 8949 section 2), else `DIFFERENT`, and `place` gets the
+/// index, from 0, of the first item that differs. An item that only one input has differs too. At `OK`
+/// `place` gets 0. `from_a` and `from_b` number the formats of `first` and `second`. `depth` is the
+/// nesting limit, from 1 to 1,024.
 ///
 /// # Errors
-/// `BAD_ARGUMENT` where a number means nothing; `place` is then unchanged. Else the number of the
-/// fault of `first`, or `OF_SECOND` more than that of `second`, and `place` gets its offset in bytes
-/// from the start of that input.
+/// `BAD_ARGUMENT` where `from_a` or `from_b` numbers nothing or `depth` is no limit; `place` is then
+/// unchanged. `OUT_OF_MEMORY` where memory is refused, for either input; `place` gets 0. Else the
+/// number of the fault of `first`, or `OF_SECOND` more than that of `second`, and `place` gets its
+/// offset in bytes from the start of that input.
 #[unsafe(no_mangle)]
 pub extern "C" fn cborn_compare(
     alloc: Global,
@@ -179,15 +182,16 @@ pub extern "C" fn cborn_compare(
     difference_told(compared(alloc, limit, first, second), place)
 }
 
-/// Tells whether two inputs hold the same items (RFC 8949 section 2), else `DIFFERENT`. They do if and
-/// only if their canonical forms are equal. `from_a` and `from_b` number the formats of `first` and
+/// `OK` if two inputs hold the same items (RFC 8949 section 2), else `DIFFERENT`. They do if and only
+/// if their canonical forms are equal. `from_a` and `from_b` number the formats of `first` and
 /// `second`. `depth` is the nesting limit, from 1 to 1,024. `place` gets 0, since nothing looks for
 /// where they differ.
 ///
 /// # Errors
-/// `BAD_ARGUMENT` where a number means nothing; `place` is then unchanged. Else the number of the
-/// fault of `first`, or `OF_SECOND` more than that of `second`, and `place` gets its offset in bytes
-/// from the start of that input.
+/// `BAD_ARGUMENT` where `from_a` or `from_b` numbers nothing or `depth` is no limit; `place` is then
+/// unchanged. `OUT_OF_MEMORY` where memory is refused, for either input; `place` gets 0. Else the
+/// number of the fault of `first`, or `OF_SECOND` more than that of `second`, and `place` gets its
+/// offset in bytes from the start of that input.
 #[unsafe(no_mangle)]
 pub extern "C" fn cborn_same(
     alloc: Global,
@@ -224,9 +228,9 @@ pub extern "C" fn cborn_same(
 /// (RFC 8949 section 4.2), or the fixed notation of it. The arguments are those of `cborn_normalise`.
 ///
 /// # Errors
-/// Each error of `cborn_normalise`. Where it has none: `NO_ITEM` where the input holds no item, with
+/// Each error of `cborn_normalise`. Of an input without a fault: `NO_ITEM` where it holds no item, with
 /// its length as the offset, and `MORE_ITEMS` where it holds more than one, with the offset of the
-/// second. At each of these `out` is unchanged.
+/// second. These two come before `TOO_SMALL`. At each of these `out` is unchanged.
 #[unsafe(no_mangle)]
 pub extern "C" fn cborn_normalise_one(
     alloc: Global,
@@ -265,9 +269,9 @@ pub extern "C" fn cborn_normalise_one(
 /// of `cborn_show`.
 ///
 /// # Errors
-/// Each error of `cborn_show`. Where it has none: `NO_ITEM` where the input holds no item, with its
+/// Each error of `cborn_show`. Of an input without a fault: `NO_ITEM` where it holds no item, with its
 /// length as the offset, and `MORE_ITEMS` where it holds more than one, with the offset of the second.
-/// At each of these `out` is unchanged.
+/// These two come before `TOO_SMALL`. At each of these `out` is unchanged.
 #[unsafe(no_mangle)]
 pub extern "C" fn cborn_show_one(
     alloc: Global,
@@ -292,8 +296,8 @@ pub extern "C" fn cborn_show_one(
     put_one(shown_one(alloc, limit, from, to, input), out, told)
 }
 
-/// Tells whether the one item that `input` has to hold is deterministic (RFC 8949 section 4.2), else
-/// the number of the first defect. The arguments are those of `cborn_check`. An input that doesn't hold
+/// `OK` if the one item that `input` has to hold is deterministic (RFC 8949 section 4.2), else the
+/// number of the first defect. The arguments are those of `cborn_check`. An input that doesn't hold
 /// exactly one item is refused even where it has a defect.
 ///
 /// # Errors
@@ -322,14 +326,15 @@ pub extern "C" fn cborn_check_one(
     defect_of_one_told(answer, place)
 }
 
-/// Tells whether two inputs, each of which has to hold exactly one item, hold the same one (RFC
-/// 8949 section 2), else `DIFFERENT`. `place` gets 0 in both cases. The arguments are those of
+/// `OK` if two inputs, each of which has to hold exactly one item, hold the same one (RFC 8949
+/// section 2), else `DIFFERENT`. `place` gets 0 in both cases. The arguments are those of
 /// `cborn_compare`.
 ///
 /// # Errors
-/// `BAD_ARGUMENT` where a number means nothing; `place` is then unchanged. Else the number of the
-/// fault of `first`, or `OF_SECOND` more than that of `second`, and `place` gets its offset in bytes
-/// from the start of that input. `NO_ITEM` and `MORE_ITEMS` are among these faults.
+/// `BAD_ARGUMENT` where `from_a` or `from_b` numbers nothing or `depth` is no limit; `place` is then
+/// unchanged. `OUT_OF_MEMORY` where memory is refused, for either input; `place` gets 0. Else the
+/// number of the fault of `first`, or `OF_SECOND` more than that of `second`, and `place` gets its
+/// offset in bytes from the start of that input. `NO_ITEM` and `MORE_ITEMS` are among these faults.
 #[unsafe(no_mangle)]
 pub extern "C" fn cborn_compare_one(
     alloc: Global,
@@ -364,7 +369,8 @@ pub extern "C" fn cborn_compare_one(
 
 /// Writes the words of a fault or a defect to the start of `out`, as the program prints them, and then
 /// a zero byte. `number` is that of a fault or a defect, as another call answered it. A fault of a
-/// second input has the same words. 64 bytes are always enough.
+/// second input has the same words, and `OUT_OF_MEMORY` and `TOO_LONG` have words too. 64 bytes are
+/// always enough. Answers `OK`.
 ///
 /// # Errors
 /// `TOO_SMALL` where `out` is too small. `BAD_ARGUMENT` where no fault and no defect has this number.
@@ -387,12 +393,14 @@ pub extern "C" fn cborn_words(number: u32, out: &mut [u8]) -> u32
 /// program adds with `--explain`, which say where in `input`, what is there, and why. Another call
 /// reported `number` and `place` for this input, under the same limit. The number may be that of a
 /// second input's fault. An offset beyond the end counts as the end. `told` gets the length of the
-/// explanation in bytes, and 0 as the offset.
+/// explanation in bytes, and 0 as the offset. Answers `OK`.
 ///
 /// # Errors
 /// `TOO_SMALL` where the explanation is longer than `out`; its length is reported. `BAD_ARGUMENT`
-/// where `from` or `depth` means nothing, or no input of that format has a fault or a defect with this
-/// number; `told` is then unchanged. `OUT_OF_MEMORY`. At each of these `out` is unchanged.
+/// where `from` numbers nothing, `depth` is no limit, or no input of that format has a defect, or a
+/// fault in its content, with this number; `told` is then unchanged. `TOO_LONG` is no fault in the
+/// content. `OUT_OF_MEMORY` where memory is refused; `told` gets 0 as the length and as the offset. At
+/// each of these `out` is unchanged.
 #[unsafe(no_mangle)]
 pub extern "C" fn cborn_explain(
     alloc: Global,

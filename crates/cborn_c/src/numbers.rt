@@ -9,11 +9,11 @@ use cborn_lex::{LexFault, LexReason};
 use cborn_model::{DefectReason, Invalid, InvalidReason};
 use cborn_wire::{WireFault, WireReason};
 
-/// The answer was written.
+/// The answer was written, the inputs hold the same items, or the input is deterministic.
 pub const OK: u32 = 0;
 /// The buffer is too small.
 pub const TOO_SMALL: u32 = 1;
-/// A number means nothing.
+/// An argument numbers no format, no order of keys, no fault and no defect, or is no nesting limit.
 pub const BAD_ARGUMENT: u32 = 2;
 /// Out of memory.
 pub const OUT_OF_MEMORY: u32 = 3;
@@ -21,7 +21,7 @@ pub const OUT_OF_MEMORY: u32 = 3;
 pub const TOO_LONG: u32 = 4;
 /// Two inputs hold different items.
 pub const DIFFERENT: u32 = 5;
-/// What the number of a fault has more if it is that of the second of two inputs.
+/// What is added to the number of a fault of the second of two inputs.
 pub const OF_SECOND: u32 = 0x10000;
 
 /// The sort order of map keys (RFC 8949 sections 4.2.1 and 4.2.3).
@@ -31,7 +31,7 @@ pub enum KeyOrdering {
     LengthFirst,
 }
 
-/// The format with this number.
+/// The format with this number. `None`: no format has it.
 pub fn kind_at(number: u32) -> Option<Kind>
     ensures { result ≡ numbered_kind number }
 {
@@ -43,7 +43,7 @@ pub fn kind_at(number: u32) -> Option<Kind>
     }
 }
 
-/// The order of keys with this number.
+/// The order of keys with this number. `None`: no order has it.
 pub fn order_at(number: u32) -> Option<KeyOrdering>
     ensures { result ≡ numbered_order number }
 {
@@ -135,7 +135,7 @@ pub fn number_defect(reason: DefectReason) -> u32
 }
 
 /// The number of a fault. Calls from C have no reader and no writer, so a failed read or write has no
-/// number of its own.
+/// number of its own: its number is `OUT_OF_MEMORY`.
 pub fn number_fault(why: EngineFault) -> u32
     ensures number { result ≡ fault_number why }
     ensures small { result < 65536 }

@@ -103,7 +103,8 @@ pub fn count_at(number: u32) -> Option<CountReason>
     }
 }
 
-/// The number of a fault without `OF_SECOND`, if it is that of a second input.
+/// The number without `OF_SECOND` where it is greater than that, as those of faults of a second input
+/// are; else the number itself.
 pub fn of_first(number: u32) -> u32
     ensures first { number ≤ 65536 → result ≡ number }
     ensures second { 65536 < number → result + 65536 ≡ number }
@@ -174,12 +175,13 @@ pub fn one_fault_at(number: u32) -> Option<OneFault>
 }
 
 /// Writes the words of a fault or a defect, without an offset, to the start of `out`, and then a zero
-/// byte: at most 64 bytes in all. Where `out` is too small, it is unchanged.
+/// byte: at most 64 bytes in all. Answers `OK`, or `TOO_SMALL` where they don't fit; `out` is then
+/// unchanged.
 pub fn put_words<T: Display>(why: &T, out: &mut [u8]) -> u32
     ensures { WordsPut out.old out.new result }
 {
     let mut line = ArrayString::<63>::new();
-    // words that are longer would be cut
+    // of longer words the pieces that don't fit would be missing
     let _written = write!(line, "{why}");
     let bytes = line.as_str().as_bytes();
     match bytes.strip_prefix(AT_START) {
@@ -188,7 +190,8 @@ pub fn put_words<T: Display>(why: &T, out: &mut [u8]) -> u32
     }
 }
 
-/// Writes a text to the start of `out`, and then a zero byte, if both fit.
+/// Writes a text to the start of `out`, and then a zero byte, and answers `OK`. Where they don't fit, it
+/// answers `TOO_SMALL`, and `out` is unchanged.
 fn put_text(text: &[u8], out: &mut [u8]) -> u32
     ensures { IsPut (text.now ++ 0 ∷ []) out.old out.new result }
 {

@@ -11,14 +11,14 @@ use Rattle.cborn_commands.specs.declared.lines.Answer.TheVariants as answer
 use Rattle.cborn_commands.specs.declared.lines.Trouble.{Trouble}
 use Rattle.cborn_commands.specs.declared.lines.Trouble.TheVariants as trouble
 
--- 0: the inputs hold the same items, or the input is deterministic. 1: they don't, or it isn't.
+-- the status of an answer. 0: the inputs hold the same items, or the input is deterministic. 1: they don't, or it isn't.
 abbrev pub status_of_answer : Answer → ℕ
 status_of_answer answer.Same = 0
 status_of_answer answer.Deterministic = 0
 status_of_answer (answer.DifferentAt i) = 1
 status_of_answer (answer.Defective d) = 1
 
--- 4: a read or a write failed, or out of memory. 2: the input is refused.
+-- the status of a fault. 4: a read or a write failed, or out of memory. 2: the input is refused.
 abbrev pub status_of_fault : EngineFault → ℕ
 status_of_fault fault.ReadFault = 4
 status_of_fault fault.WriteFault = 4
@@ -30,7 +30,7 @@ abbrev pub status_of_one : OneFault → ℕ
 status_of_one (one.Engine why) = status_of_fault why
 status_of_one _ = 2
 
--- the status of what keeps a task from being done. 4: a file can't be opened, too.
+-- the status of what keeps a task from being done. 4 also where a file can't be opened.
 abbrev pub status_of_trouble : Trouble → ℕ
 status_of_trouble (trouble.Engine why) = status_of_fault why
 status_of_trouble (trouble.Compare (compared.First why)) = status_of_fault why

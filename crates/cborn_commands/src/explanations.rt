@@ -50,7 +50,7 @@ pub fn explain_defect(
     explain_bytes(alloc, limit, input?, defect.place, reason)
 }
 
-/// Lines that say where two inputs differ that were compared, with the keys of maps in the order `O`.
+/// Lines that say where two compared inputs differ, with the keys of maps in the order `O`.
 ///
 /// # Errors
 /// `AllocError` where memory is refused, or was for the bytes of an input.
@@ -63,22 +63,30 @@ pub fn explain_index<O: KeyOrder>(
     match difference::<O>(alloc, limit, kinds, inputs) {
         Ok(text) => Ok(text),
         Err(EngineFault::OutOfMemory) => Err(AllocError),
-        // no input is refused that was compared
+        // a compared input isn't refused
         Err(_) => Ok(String::new(alloc)),
     }
 }
 
-/// A line that says what an input looks like that was read as bytes. Empty where it doesn't look like
-/// a text, or was read as one.
+/// A line that says that an input looks like a text or hexadecimal, though it was read as bytes. Empty
+/// where it doesn't, or was read as a text. `name` are the words for that input.
 ///
 /// # Errors
 /// `AllocError` where memory is refused, or was for the bytes of the input.
-pub fn explain_kind(alloc: Global, kind: Kind, input: Bytes<'_>) -> Result<String, AllocError> {
+pub fn explain_kind(
+    alloc: Global,
+    name: &str,
+    kind: Kind,
+    input: Bytes<'_>,
+) -> Result<String, AllocError> {
     if kind != Kind::Wire {
         return Ok(String::new(alloc));
     }
     match hint_of(input?) {
-        Some(hint) => format!(in alloc; "  hint  {hint}\n"),
+        Some(hint) => {
+            let words = hint.words();
+            format!(in alloc; "  hint  {name} {words}\n")
+        }
         None => Ok(String::new(alloc)),
     }
 }

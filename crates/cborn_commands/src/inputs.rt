@@ -34,12 +34,15 @@ impl<'r, 'p, F: Files> LateFile<'r, 'p, F> {
         }
     }
 
-    /// Whether it could not be opened.
+    /// Whether its first read found that it can't be opened.
     pub fn is_missing(&self) -> bool {
         self.is_missing
     }
 
-    /// The open file, which is taken out of here.
+    /// The open file, taken out of `self.file`. It is opened if that is empty, so the caller puts it back.
+    ///
+    /// # Errors
+    /// Why it can't be opened, at the first call; `NotFound` at each later one.
     fn opened(&mut self) -> io::Result<F::File>
         ensures { self.new.failed ≡ self.old.failed }
     {
@@ -118,7 +121,7 @@ pub enum Notes {
     Nothing,
     /// What its bytes look like.
     Look(Look),
-    /// All of its bytes.
+    /// All bytes that were read of it.
     Whole(Kept),
 }
 

@@ -17,9 +17,9 @@ use std::{fmt, io};
 pub enum Trouble<'a> {
     /// The file of this name can't be opened.
     CannotRead(&'a str),
-    /// The first of two files can't be opened.
+    /// The first of two files, which has this name, can't be opened.
     CannotReadFirst(&'a str),
-    /// The second of two files can't be opened.
+    /// The second of two files, which has this name, can't be opened.
     CannotReadSecond(&'a str),
     /// The engine reported a fault.
     Engine(EngineFault),
@@ -115,7 +115,7 @@ pub fn tell_trouble<E: Write>(err: &mut E, trouble: Trouble<'_>) -> u8
 }
 
 /// Prints a trouble on a line and `lines` after it, and answers its exit status: 2 or more. A write
-/// that fails is ignored.
+/// that fails is ignored, but `lines` aren't printed where the trouble couldn't be.
 pub fn explain_trouble<E: Write>(err: &mut E, trouble: Trouble<'_>, lines: &str) -> u8
     ensures status { result ≡ status_of_trouble trouble.entry }
     ensures undone { 2 ≤ result }

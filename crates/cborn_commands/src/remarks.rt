@@ -20,6 +20,37 @@ pub enum Audience {
     Program,
 }
 
+/// An input of a command.
+#[derive(Clone, Copy)]
+enum Side {
+    /// The only one.
+    Only,
+    /// The first of two.
+    First,
+    /// The second of two.
+    Second,
+}
+
+impl Side {
+    /// What the line of a trouble or a hint has after `cborn: `.
+    fn label(self) -> &'static str {
+        match self {
+            Side::Only => "",
+            Side::First => "first: ",
+            Side::Second => "second: ",
+        }
+    }
+
+    /// The words for it in a sentence.
+    fn name(self) -> &'static str {
+        match self {
+            Side::Only => "the input",
+            Side::First => "the first input",
+            Side::Second => "the second input",
+        }
+    }
+}
+
 /// The line of an explanation for which memory is refused.
 const OUT_OF_MEMORY: &str = "  out of memory\n";
 
@@ -58,29 +89,31 @@ impl Remarks {
         }
     }
 
-    /// Adds lines on why an input is refused. Of another trouble it adds nothing.
+    /// Adds lines on why an input is refused, or the hint on what it looks like. Of a trouble that isn't
+    /// the refusal of an input it adds nothing.
     pub fn on_trouble(&mut self, kind: Kind, notes: &Notes, trouble: Trouble<'_>) {
         let fault = match trouble {
             Trouble::Engine(fault) => OneFault::Engine(fault),
             Trouble::One(fault) => fault,
             _ => return,
         };
-        self.on_fault("", kind, notes, fault);
+        self.on_fault(Side::Only, kind, notes, fault);
     }
 
-    /// Adds lines on why an input isn't deterministic, where that was the answer, or on what it looks
-    /// like.
+    /// Adds lines on why an input isn't deterministic, where that was the answer and the input was kept.
+    /// Else it adds the hint on what the input looks like.
     pub fn on_answer(&mut self, kind: Kind, notes: &Notes, answer: Option<Answer>) {
         match (notes, answer) {
             (Notes::Whole(kept), Some(Answer::Defective(defect))) => {
                 let lines = explain_defect(self.alloc, self.limit, kept.bytes(), defect);
                 self.add(lines);
             }
-            _ => self.on_kind("", kind, notes),
+            _ => self.on_kind(Side::Only, kind, notes),
         }
     }
 
-    /// Adds lines on where two inputs differ and what they look like, or on why one is refused.
+    /// Adds lines on where two inputs differ and the hints on what they look like. Where one is refused,
+    /// it adds lines on why, or a hint.
     pub fn on_comparison<O: KeyOrder>(
         &mut self,
         kinds: (Kind, Kind),
@@ -92,8 +125,8 @@ impl Remarks {
                 if status != DONE {
                     self.on_difference::<O>(kinds, notes);
                 }
-                self.on_kind("first: ", kinds.0, notes.0);
-                self.on_kind("second: ", kinds.1, notes.1);
+                self.on_kind(Side::First, kinds.0, notes.0);
+                self.on_kind(Side::Second, kinds.1, notes.1);
             }
             Err(Trouble::Compare(CompareFault::First(fault))) => {
                 self.on_first(kinds, notes, OneFault::Engine(fault));
@@ -111,22 +144,22 @@ impl Remarks {
         }
     }
 
-    /// Adds lines on why the first of two inputs is refused.
+    /// Adds lines on why the first of two inputs is refused, or the hint on what it looks like.
     fn on_first(&mut self, kinds: (Kind, Kind), notes: (&Notes, &Notes), fault: OneFault) {
-        self.on_fault("first: ", kinds.0, notes.0, fault);
+        self.on_fault(Side::First, kinds.0, notes.0, fault);
     }
 
-    /// Adds lines on why the second of two inputs is refused, and on what the first looks like.
+    /// Adds lines on why the second of two inputs is refused, or the hint on what it looks like. Before
+    /// that it adds the hint on the first.
     fn on_second(&mut self, kinds: (Kind, Kind), notes: (&Notes, &Notes), fault: OneFault) {
         if let Notes::Look(look) = notes.0 {
-            self.hint_at_line_end("first: ", *look);
+            self.hint_at_line_end(Side::First, *look);
         }
-        self.on_fault("second: ", kinds.1, notes.1, fault);
+        self.on_fault(Side::Second, kinds.1, notes.1, fault);
     }
 
-    /// Adds lines on why an input is refused, or the hint on what it looks like. `which` is the word
-    /// for one of two inputs.
-    fn on_fault(&mut self, which: &str, kind: Kind, notes: &Notes, fault: OneFault) {
+    /// Adds lines on why an input is refused, or the hint on what it looks like.
+    fn on_fault(&mut self, which: Side, kind: Kind, notes: &Notes, fault: OneFault) {
         match notes {
             Notes::Nothing => {}
             Notes::Look(look) => {
@@ -149,28 +182,28 @@ impl Remarks {
         }
     }
 
-    /// Adds the hint on what an input looks like. `which` is the word for one of two inputs.
-    fn on_kind(&mut self, which: &str, kind: Kind, notes: &Notes) {
+    /// Adds the hint on what an input looks like.
+    fn on_kind(&mut self, which: Side, kind: Kind, notes: &Notes) {
         match notes {
             Notes::Nothing => {}
             Notes::Look(look) => self.hint_at_line_end(which, *look),
             Notes::Whole(kept) => {
-                let lines = explain_kind(self.alloc, kind, kept.bytes());
+                let lines = explain_kind(self.alloc, which.name(), kind, kept.bytes());
                 self.add(lines);
             }
         }
     }
 
-    /// Adds the hint on an input that isn't refused, if its last byte ends a line. Bytes that don't
-    /// may look like a text by chance.
-    fn hint_at_line_end(&mut self, which: &str, look: Look) {
+    /// Adds the hint on an input that isn't refused, if its last byte ends a line. Bytes that end
+    /// otherwise may look like a text by chance.
+    fn hint_at_line_end(&mut self, which: Side, look: Look) {
         if look.ends_line() {
             self.hint(which, look);
         }
     }
 
     /// Adds the hint on an input, if there is one. A hint is left out where memory for it is refused.
-    fn hint(&mut self, which: &str, look: Look) {
+    fn hint(&mut self, which: Side, look: Look) {
         if let Some(hint) = look.hint() {
             if let Ok(line) = hint_line(self.alloc, which, hint) {
                 let _ = self.lines.push_str(line.as_str());
@@ -189,8 +222,8 @@ impl Remarks {
         }
     }
 
-    /// Adds that there is no memory for an explanation. One line is enough: an input that wasn't kept
-    /// has neither an explanation nor a hint.
+    /// Adds the line that there is no memory for an explanation, unless it is the last line already: of
+    /// an input that wasn't kept both the explanation and the hint are missing.
     fn add_no_memory(&mut self) {
         if !self.lines.as_str().ends_with(OUT_OF_MEMORY) {
             let _ = self.lines.push_str(OUT_OF_MEMORY);
@@ -198,6 +231,7 @@ impl Remarks {
     }
 }
 
-fn hint_line(alloc: Global, which: &str, hint: Hint) -> Result<String, AllocError> {
-    format!(in alloc; "cborn: {which}hint: {hint}\n")
+fn hint_line(alloc: Global, which: Side, hint: Hint) -> Result<String, AllocError> {
+    let label = which.label();
+    format!(in alloc; "cborn: {label}hint: {hint}\n")
 }

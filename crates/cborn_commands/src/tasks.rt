@@ -19,7 +19,7 @@ use std::fs;
 use std::io::{Read, Write};
 use std::rt::Files;
 
-/// With what memory an input is read, and what it has to be.
+/// The memory with which an input is read, the nesting limit, and how many items it may hold.
 #[derive(Clone, Copy)]
 struct Wanted {
     alloc: Global,
@@ -63,7 +63,11 @@ pub fn perform<'a, F: Files, I: Read + Drop, W: Write>(
     }
 }
 
-/// Does a task with the keys of maps in the order `O`. Answers what `perform` does.
+/// Does a task with the keys of maps in the order `O`, flushes what it wrote, and answers the exit
+/// status: `DONE` or `DIFFERENT`. Adds to `remarks` what standard error gets.
+///
+/// # Errors
+/// Why the task wasn't done. Where an input is refused, nothing is written to `out`.
 fn act<'a, O: KeyOrder, F: Files, I: Read + Drop, W: Write>(
     system: &System<'_, F>,
     task: &Task<'a>,
@@ -120,7 +124,11 @@ fn difference(index: Option<u64>) -> Answer {
     }
 }
 
-/// Reads one input, and writes what is asked for.
+/// Reads one input, writes and flushes what is asked for, and answers the exit status: `DONE` or
+/// `DIFFERENT`.
+///
+/// # Errors
+/// Why the task wasn't done. Where the input is refused, nothing is written to `out`.
 fn read_for<'a, O: KeyOrder, I: Read + Drop, W: Write>(
     wanted: Wanted,
     purpose: Purpose,
@@ -161,7 +169,11 @@ fn read_for<'a, O: KeyOrder, I: Read + Drop, W: Write>(
     Ok(status)
 }
 
-/// Reads one input, and writes what is asked for, or answers what is to be printed.
+/// Reads one input. Writes and flushes what is asked for, and answers `None`, or answers what is to be
+/// printed.
+///
+/// # Errors
+/// The fault that the engine reports.
 #[tactic(auto, using(crate::proofs::Refusals::refused_is_unwritten))]
 fn answer_for<'a, O: KeyOrder, R: Source, W: Write>(
     alloc: Global,
@@ -190,8 +202,11 @@ fn answer_for<'a, O: KeyOrder, R: Source, W: Write>(
     }
 }
 
-/// Reads one input, which has to hold exactly one item, and writes what is asked for, or answers what
-/// is to be printed.
+/// Reads one input, which has to hold exactly one item. Writes and flushes what is asked for, and
+/// answers `None`, or answers what is to be printed.
+///
+/// # Errors
+/// The fault that the engine reports.
 #[tactic(auto, using(crate::proofs::Refusals::refused_one_is_unwritten))]
 fn answer_for_one<'a, O: KeyOrder, R: Source, W: Write>(
     alloc: Global,
@@ -220,7 +235,11 @@ fn answer_for_one<'a, O: KeyOrder, R: Source, W: Write>(
     }
 }
 
-/// Compares two files. The second is opened only once the first has been read and isn't refused.
+/// Compares two files, prints the answer, and answers the exit status: `DONE` or `DIFFERENT`. The second
+/// is opened only once the first has been read and isn't refused.
+///
+/// # Errors
+/// Why there is no answer. Where a file is refused, nothing is written to `out`.
 fn compare_files<'a, O: KeyOrder, F: Files, W: Write>(
     system: &System<'_, F>,
     wanted: Wanted,
@@ -262,6 +281,9 @@ enum Uncompared {
 }
 
 /// The index, from 0, of the first item at which two inputs differ. `None`: they hold the same items.
+///
+/// # Errors
+/// The fault that the engine reports.
 fn compare_readers<O: KeyOrder, R: Source, Q: Source>(
     wanted: Wanted,
     kinds: (Kind, Kind),
@@ -286,8 +308,11 @@ fn compare_readers<O: KeyOrder, R: Source, Q: Source>(
     }
 }
 
-/// Prints the answer of a comparison, or answers why there is none. `missing` is the name of the second
-/// file where it couldn't be opened.
+/// Prints the answer of a comparison, and answers the exit status: `DONE` or `DIFFERENT`. `missing` is
+/// the name of the second file where it couldn't be opened.
+///
+/// # Errors
+/// Why the files weren't compared, or that the answer can't be written.
 fn tell_comparison<'a, W: Write>(
     out: &mut Counted<W>,
     compared: Result<Option<u64>, Uncompared>,

@@ -31,7 +31,11 @@ pub fn tell_usage<W: Write, E: Write + Drop>(
     }
 }
 
-/// Prints a mistake to `err`, or help or the version to `out`. Answers the exit status.
+/// Prints a mistake to `err`, or help or the version to `out`. Answers the exit status: `USAGE` or
+/// `DONE`. A write to `err` that fails is ignored.
+///
+/// # Errors
+/// `OutOfMemory` where memory is refused, and `WriteFault` where `out` fails.
 fn answer_usage<'a, W: Write, E: Write>(
     alloc: Global,
     why: &Error,

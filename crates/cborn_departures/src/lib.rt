@@ -11,7 +11,7 @@
 //! * `departures`: what is answered where a walk stops.
 //! * `waiting_keys`: keys that hold a departure, and wait until it is known whether they are above the
 //!   one before; `settled_keys`: those of which it is known.
-//! * `ends`: bytes, cut where so many are left.
+//! * `ends`: bytes, cut so that a given number of them is left.
 #![tactic(auto)]
 
 mod bignums;

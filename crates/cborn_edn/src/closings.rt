@@ -51,7 +51,7 @@ fn set_size(
 {
     match bracket.mark {
         Mark::Absent => set_shortest_head(major, count, bracket.start, &mut writer.out),
-        _ => set_marked_size(major, bracket, count, writer),
+        _ => set_marked_size(major, bracket.same(), count, writer),
     }
 }
 

@@ -24,7 +24,7 @@
 //!   *embedded* in `<<..>>` is a piece too: the bytes of its items.
 //! - A *chunk* is a part of a string of indefinite length: `(_ "a", "b" h'62')` has two chunks, and
 //!   the second has two pieces.
-//! - A *lexical fault* is a part of the text that is no token. A *syntax error* is the first token
+//! - A *lexical fault* is a place where no token begins. A *syntax error* is the first token
 //!   with which no text of the grammar goes on, or the end of a text that has to go on. A *meaning
 //!   error* is what is wrong in a text of the grammar, as a number that is too large for the width
 //!   that its indicator asks for. A lexical fault is reported before any syntax error, and a syntax

@@ -99,6 +99,25 @@ pub(crate) struct OpenBracket {
     pub(crate) mark: Mark,
 }
 
+impl OpenBracket {
+    ghost use Rattle.std.specs.Prelude.{◌≡◌};
+
+    /// A copy, made field by field. Where a call needs it in memory, only this copy is there, and
+    /// the bracket itself stays in registers.
+    #[inline(always)]
+    pub(crate) fn same(&self) -> OpenBracket
+        ensures { result ≡ self.now }
+    {
+        OpenBracket {
+            place: self.place,
+            start: self.start,
+            count: self.count,
+            level: self.level,
+            mark: self.mark,
+        }
+    }
+}
+
 /// The pieces of a string that were read so far. The first gives `kind` and `place`, the last gives
 /// `mark`. Their bytes are those of the output after the byte at `start`.
 #[derive(Clone, Copy)]

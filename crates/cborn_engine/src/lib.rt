@@ -12,9 +12,10 @@
 //! [`laws`] has the headline in one place. In the code `texts` makes texts and bytes of what was
 //! read, `nodes` makes nodes and `inputs` hands them out. `encodings` encodes a whole input,
 //! `showings` writes it in another form, and `checks` judges it, by passes that keep no tree
-//! (`cborn_transcode`, `cborn_departures`, `cborn_edn`, `cborn_show`); `refusals` finds out why a text is refused.
+//! (`cborn_transcode`, `cborn_departures`, `cborn_edn`, `cborn_show`); `refusals` finds out why an
+//! input is refused, where these passes have no answer.
 //! `conversions` and `comparisons` are the calls over readers, `slices` those over inputs that are
-//! held whole.
+//! held whole; `differences` finds where two encodings differ.
 //!
 //! `one_streams` and `one_slices` have the same calls for inputs that have to hold exactly one item,
 //! by `ones`; `specs/OneItem.antt` says what they answer.

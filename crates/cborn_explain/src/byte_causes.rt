@@ -2,13 +2,12 @@
 
 ghost use Rattle.std.specs.Prelude.{◌≤◌};
 
-use crate::items::valid_at;
+use crate::items::{encoded_at, valid_at};
 use crate::quotes::{push_hex, push_item, slice_of, valid_front};
 use crate::reasons::BytesReason;
 use cborn_det::encode;
 use cborn_model::{
-    Bytewise, DefectReason, InvalidReason, KeyOrder, LengthFirst, Limit, Major, Valid, same,
-    shortest,
+    Bytewise, DefectReason, InvalidReason, KeyOrder, LengthFirst, Limit, Major, Valid, shortest,
 };
 use cborn_paths::{Level, LevelKind, Walk, content_len, end_of_item, whole_head};
 use cborn_wire::{Argument, Head, HeadRead, WireReason, head_bytes, read_head};
@@ -22,7 +21,8 @@ const ENCODING: usize = 16;
 #[derive(Clone, Copy)]
 pub(crate) struct RefusedBytes<'a> {
     pub(crate) bytes: &'a [u8],
-    /// A walk over the bytes up to the place that was reported with the reason.
+    /// A walk over the bytes to the place that was reported with the reason: to the head that begins
+    /// there, or to the one whose argument or string the place is in.
     pub(crate) walk: &'a Walk,
     /// The nesting limit under which they are refused.
     pub(crate) limit: Limit,
@@ -47,13 +47,13 @@ impl<'a> RefusedBytes<'a> {
         }
     }
 
-    /// The bytes from the place on.
+    /// The bytes from the head on to which the walk has come.
     fn rest(&self) -> &'a [u8] {
         let bytes = self.bytes;
         bytes.get(self.walk.at..).unwrap_or(&[])
     }
 
-    /// The innermost level at the place.
+    /// The innermost level at that head.
     fn level(&self) -> Level {
         self.walk.top.level
     }
@@ -73,7 +73,7 @@ impl<'a> RefusedBytes<'a> {
         }
     }
 
-    /// The byte at the place. 0: the place is the end.
+    /// The first byte of that head. 0: the input ends there.
     fn first(&self) -> u8 {
         self.rest().first().copied().unwrap_or(0)
     }
@@ -117,8 +117,8 @@ impl<'a> RefusedBytes<'a> {
         }
     }
 
-    /// The offset of the first key of the open map that is the same as the key at the place. `None`
-    /// says nothing: a key that can't be read alone isn't compared.
+    /// The offset of the first key of the open map that is the same as the key at the place. `None`:
+    /// none was found, though there may be one, since a key that isn't valid alone isn't compared.
     ///
     /// # Errors
     /// `AllocError` where memory is refused.
@@ -126,7 +126,7 @@ impl<'a> RefusedBytes<'a> {
         let bytes = self.bytes;
         let later = self.walk.at;
         let map = self.level().start;
-        let Some(wanted) = valid_at(alloc, self.limit, bytes, later)? else {
+        let Some(wanted) = encoded_at(alloc, self.limit, bytes, later)? else {
             return Ok(None);
         };
         let mut at = match whole_head(bytes.get(map..).unwrap_or(&[])) {
@@ -137,8 +137,8 @@ impl<'a> RefusedBytes<'a> {
             if at >= later {
                 break;
             }
-            if let Some(key) = valid_at(alloc, self.limit, bytes, at)? {
-                if same(&key, &wanted) {
+            if let Some(key) = encoded_at(alloc, self.limit, bytes, at)? {
+                if key == wanted {
                     return Ok(Some(at));
                 }
             }
@@ -173,7 +173,7 @@ impl<'a> RefusedBytes<'a> {
     fn push_order(&self, alloc: Global, out: &mut String) -> Result<(), AllocError> {
         out.push_str("the key ")?;
         self.push_key(alloc, out)?;
-        out.push_str(" has to stand before the key ")?;
+        out.push_str(" has to come before the key ")?;
         let (from, to) = self.walk.top.key;
         push_item(alloc, self.limit, out, slice_of(self.bytes, from, to))?;
         write!(out, " at offset {from}")?;
@@ -222,7 +222,7 @@ fn push_bad_simple(out: &mut String, rest: &[u8]) -> Result<(), AllocError> {
     let second = rest.get(1).copied().unwrap_or(0);
     write!(
         out,
-        "behind f8 stands {second:02x}, the simple value {second}: below 32 none has two bytes"
+        "after f8 comes {second:02x}, the simple value {second}: none below 32 has two bytes"
     )
 }
 
@@ -234,7 +234,7 @@ pub(crate) fn push_too_deep(limit: Limit, out: &mut String, open: &str) -> Resul
     let most = limit.get();
     write!(
         out,
-        "the nesting limit is {most}, and this stands in as many {open}: "
+        "the nesting limit is {most}, and this is inside as many {open}: "
     )?;
     out.push_str(if most < 1024 {
         "--depth N raises the limit, up to 1024"
@@ -247,7 +247,7 @@ fn push_bad_chunk(out: &mut String, level: Level) -> Result<(), AllocError> {
     let place = level.start;
     write!(
         out,
-        "an indefinite-length string is open since offset {place}: only definite-length strings of its kind may stand here, or the break ff"
+        "an indefinite-length string is open since offset {place}: only definite-length strings of its kind may follow, or the break ff"
     )
 }
 
@@ -259,7 +259,8 @@ fn push_bad_break(out: &mut String, level: Level) -> Result<(), AllocError> {
     push_missing(out, level)
 }
 
-/// Writes what an open container lacks. Of the input itself it writes nothing.
+/// Writes what the container of an open level lacks. Where the level is the input itself, it writes
+/// nothing.
 fn push_missing(out: &mut String, level: Level) -> Result<(), AllocError> {
     let place = level.start;
     match level.kind {
@@ -409,7 +410,7 @@ fn push_bad_bignum(out: &mut String, rest: &[u8]) -> Result<(), AllocError> {
     };
     write!(
         out,
-        "tag {number} makes an integer of a byte string, and here it stands over {kind}"
+        "tag {number} makes an integer of a byte string, and here it encloses {kind}"
     )
 }
 
@@ -448,8 +449,8 @@ fn shortest_head(number: u8, n: u64) -> ([u8; 9], usize)
     head_bytes(number, shortest(n), n)
 }
 
-/// Writes why a bignum isn't deterministic, and its encoding that is. `rest` begins with the
-/// bignum.
+/// Writes why a bignum isn't deterministic, and the deterministic encoding of its integer. `rest`
+/// begins with the bignum.
 fn push_loose(
     alloc: Global,
     limit: Limit,
@@ -465,29 +466,42 @@ fn push_loose(
 }
 
 /// Writes why `key` has to come before the key that precedes it, `before`. Where the two orders
-/// sort these keys differently, it writes which order has `key` first.
+/// sort these keys differently, it writes which order has `key` first. They may do so where the
+/// encodings are equally long: each order also sorts the maps within the keys.
 fn push_rule(
     alloc: Global,
     out: &mut String,
     key: &Valid,
     before: &Valid,
 ) -> Result<(), AllocError> {
-    let bytewise = is_first::<Bytewise>(alloc, key, before)?;
-    let length_first = is_first::<LengthFirst>(alloc, key, before)?;
+    let (bytewise, differ) = is_first::<Bytewise>(alloc, key, before)?;
+    let (length_first, _) = is_first::<LengthFirst>(alloc, key, before)?;
     out.push_str(match (bytewise, length_first) {
+        (true, false) if differ => {
+            ": in the bytewise order its encoding is the lesser; the length-first order has these two as they are, since it is the longer"
+        }
         (true, false) => {
-            ": in the bytewise order its encoding is the lesser; the length-first order has these two as they stand, since it is the longer"
+            ": in the bytewise order its encoding is the lesser; the length-first order has these two as they are"
+        }
+        (false, true) if differ => {
+            ": in the length-first order its encoding is the shorter; the bytewise order has these two as they are"
         }
         (false, true) => {
-            ": in the length-first order its encoding is the shorter; the bytewise order has these two as they stand"
+            ": in the length-first order its encoding is the lesser; the bytewise order has these two as they are"
         }
         _ => ": its encoding is the lesser, in the bytewise order and in the length-first order",
     })
 }
 
-/// Whether `key` comes before `other` in the order `O`.
-fn is_first<O: KeyOrder>(alloc: Global, key: &Valid, other: &Valid) -> Result<bool, AllocError> {
+/// Whether `key` comes before `other` in the order `O`, and whether their encodings differ in length,
+/// which doesn't depend on the order.
+fn is_first<O: KeyOrder>(
+    alloc: Global,
+    key: &Valid,
+    other: &Valid,
+) -> Result<(bool, bool), AllocError> {
     let ours = encode::<O>(alloc, key)?;
     let theirs = encode::<O>(alloc, other)?;
-    Ok(matches!(O::compare(&ours, &theirs), Ordering::Less))
+    let is_less = matches!(O::compare(&ours, &theirs), Ordering::Less);
+    Ok((is_less, ours.len() != theirs.len()))
 }

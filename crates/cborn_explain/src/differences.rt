@@ -11,12 +11,13 @@ use cborn_wire::Argument;
 use std::alloc::{AllocError, Global};
 use std::cmp::Ordering;
 
-/// How many bytes are written of each of two items whose notations are cut to the same text.
+/// How many bytes, from the first that differs on, are written of each of two items whose notations
+/// are cut to the same text.
 const REST: usize = 8;
 
 /// Lines that say where two deterministic encodings first differ, with the keys of maps in the
-/// order `O`: the path to that place, which is the same in both, and what each input has there.
-/// Empty where they are equal.
+/// order `O`: the path to that place, or to the outermost key around it, and what each input has
+/// there. The path is the same in both. Empty where they are equal.
 ///
 /// # Errors
 /// `AllocError` where memory is refused.
@@ -60,7 +61,10 @@ pub fn explain_difference<O: KeyOrder>(
         order.map(Ordering::reverse),
         shared,
     )?;
-    push_lone_key::<O>(alloc, limit, &mut out, ours, theirs)?;
+    // two keys that are maps are unrelated
+    if order.is_none() {
+        push_lone_key::<O>(alloc, limit, &mut out, ours, theirs)?;
+    }
     out.push('\n')?;
     Ok(out)
 }

@@ -17,15 +17,21 @@ pub enum Hint {
 
 impl Display for Hint {
     fn fmt<W: fmt::Write>(&self, f: &mut Formatter<W>) -> fmt::Result {
+        let words = self.words();
+        write!(f, "the input {words}")
+    }
+}
+
+impl Hint {
+    /// What is said of an input that looks so, after the words for that input.
+    pub fn words(self) -> &'static str {
         match self {
-            Hint::Notation => write!(
-                f,
-                "the input is a text, and was read as CBOR bytes: normalise and show read diagnostic notation by --from notation, compare by --from-a and --from-b"
-            ),
-            Hint::Hexadecimal => write!(
-                f,
-                "the input looks like hexadecimal, and was read as CBOR bytes: xxd -r -p makes bytes of it"
-            ),
+            Hint::Notation => {
+                "is a text, and was read as CBOR bytes: normalise and show read diagnostic notation by --from notation, compare by --from-a and --from-b"
+            }
+            Hint::Hexadecimal => {
+                "looks like hexadecimal, and was read as CBOR bytes: xxd -r -p makes bytes of it"
+            }
         }
     }
 }
@@ -116,7 +122,7 @@ impl Look {
 }
 
 impl Digits {
-    /// Which are digits once these characters of a text have come too.
+    /// Which characters are digits in the text so far with `bytes`, which are text too, after it.
     fn and(self, bytes: &[u8]) -> Digits {
         let mut digits = self;
         for byte in bytes.iter() {

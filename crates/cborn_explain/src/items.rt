@@ -1,9 +1,11 @@
-//! Single items of an input, read as nodes: to show them, and to compare them by what they mean.
+//! Single items of an input, read as nodes: to show them, and to compare them by their deterministic
+//! encodings.
 
+use cborn_det::encode;
 use cborn_edn::{EdnFault, ShowFault, read_notation, show};
 use cborn_judge::judge;
 use cborn_lex::{LexFault, Profile};
-use cborn_model::{Invalid, Limit, Spelled, Valid};
+use cborn_model::{Bytewise, Invalid, Limit, Spelled, Valid};
 use cborn_wire::{WireFault, read_one};
 use std::alloc::{AllocError, Global};
 
@@ -46,12 +48,47 @@ pub(crate) fn valid_at(
     }
 }
 
+/// The deterministic encoding of the item that begins at the offset `at` (RFC 8949 section 4.2.1).
+/// Two items are the same exactly if these are equal, and to compare these takes their length, in
+/// whatever order keys were written. `None`: no item begins there, or it is invalid.
+///
+/// # Errors
+/// `AllocError` where memory is refused.
+pub(crate) fn encoded_at(
+    alloc: Global,
+    limit: Limit,
+    bytes: &[u8],
+    at: usize,
+) -> Result<Option<Vec<u8>>, AllocError> {
+    match valid_at(alloc, limit, bytes, at)? {
+        Some(valid) => Ok(Some(encode::<Bytewise>(alloc, &valid)?)),
+        None => Ok(None),
+    }
+}
+
+/// The deterministic encoding of the item that this text notates (RFC 8949 section 4.2.1). `None`:
+/// it doesn't notate exactly one item, or the item is invalid.
+///
+/// # Errors
+/// `AllocError` where memory is refused.
+pub(crate) fn encoded_of_text(
+    alloc: Global,
+    limit: Limit,
+    profile: Profile,
+    text: &str,
+) -> Result<Option<Vec<u8>>, AllocError> {
+    match valid_of_text(alloc, limit, profile, text)? {
+        Some(valid) => Ok(Some(encode::<Bytewise>(alloc, &valid)?)),
+        None => Ok(None),
+    }
+}
+
 /// What the item that this text notates means. `None`: it doesn't notate exactly one item, or the
 /// item is invalid.
 ///
 /// # Errors
 /// `AllocError` where memory is refused.
-pub(crate) fn valid_of_text(
+fn valid_of_text(
     alloc: Global,
     limit: Limit,
     profile: Profile,

@@ -1,20 +1,20 @@
 //! Explanations in lines for people: where an input is refused or isn't deterministic, and why.
 //!
 //! ```text
-//! path   item 0 {"keys" #1} [2]
-//! bytes  82 01 >f9< 3c 00
-//! why    a float of 16 bits begins here, and floats are left out
+//! path  item 0 [1]
+//! bytes 82 01 >f9< 3c 00
+//! why   a float of 16 bits begins here, and floats are left out
 //! ```
 //!
 //! Another call refused the input, and reported an offset and a reason. The calls here are given
-//! these and the input, and walk over it once, up to the offset: [`explain_bytes`] from head to
-//! head, [`explain_text`] from token to token. [`explain_difference`] says where two deterministic
+//! these and the input, and walk over it up to the offset: [`explain_bytes`] from head to head,
+//! [`explain_text`] from token to token. [`explain_difference`] says where two deterministic
 //! encodings differ. [`hint_of`] says whether bytes look like a text, and [`Look`] does so of bytes
 //! that come in pieces.
 //!
 //! `cborn_paths` has the walk over bytes and the path, with a proof of where the path leads. Of the
-//! lines it is proved that they are written safely, and that each call ends. No clause says which
-//! words they have. docs/FORMATS.md has their form.
+//! lines it is proved that they are written safely, that each call ends, and that equal encodings give
+//! none. No clause says which words they have. docs/FORMATS.md has their form.
 //!
 //! - `notes`: the lines of one input; start here. `differences`: those of two.
 //! - `path_lines`: a path in a line. `hints`: whether bytes look like a text.

@@ -112,7 +112,8 @@ pub(crate) fn push_path(
     writer.end(out)
 }
 
-/// Writes the path to where a walk over a text has come.
+/// Writes the path to where a walk over a text has come. It is cut before a bracket whose parts aren't
+/// known, and where the walk doesn't keep more brackets.
 fn push_text_path(
     alloc: Global,
     out: &mut String,
@@ -123,6 +124,9 @@ fn push_text_path(
     let item = step_text(alloc, Step::Item(walk.items), "")?;
     path.step(out, item)?;
     for open in walk.open.iter() {
+        if open.is_lost {
+            return path.cut(out);
+        }
         if let Some(step) = open.step() {
             let mut key = String::new(alloc);
             if let Step::Value(_) = step {
@@ -132,6 +136,9 @@ fn push_text_path(
             let step = step_text(alloc, step, key.as_str())?;
             path.step(out, step)?;
         }
+    }
+    if walk.beyond > 0 {
+        return path.cut(out);
     }
     path.end(out)
 }

@@ -45,6 +45,12 @@ impl PathWriter {
         }
         Ok(())
     }
+
+    /// Ends the path with `..`, where further steps follow that aren't known.
+    pub(crate) fn cut(&mut self, out: &mut String) -> Result<(), AllocError> {
+        self.end(out)?;
+        out.push_str(" ..")
+    }
 }
 
 /// The text of a step. `key` is the text of the key where the step leads to a value of a map.

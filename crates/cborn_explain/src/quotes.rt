@@ -17,7 +17,7 @@ const BYTES_BEFORE: usize = 8;
 /// How many bytes are written after the one at a place.
 const BYTES_AFTER: usize = 12;
 
-/// How many characters of a piece are written.
+/// How many characters of a piece are written at most.
 const PIECE: usize = 40;
 
 /// How many characters of a line are written before a place.
@@ -47,8 +47,8 @@ pub(crate) fn push_char(out: &mut String, c: char) -> Result<usize, AllocError>
     }
 }
 
-/// Whether a terminal shows the character as itself. It doesn't where the character is a control,
-/// has no width, ends a line or changes the direction of text.
+/// Whether a terminal shows the character as itself. It doesn't where the character is a control or
+/// not shown, ends a line or changes the direction of text. Marks over the character before are shown.
 fn is_plain(c: char) -> bool {
     let code = c as u32;
     !matches!(
@@ -70,6 +70,9 @@ fn is_plain(c: char) -> bool {
             | 0xffa0
             | 0xfff0..=0xfffb
             | 0xd800..=0xf8ff
+            | 0x13430..=0x1343f
+            | 0x1bca0..=0x1bca3
+            | 0x1d173..=0x1d17a
             | 0xe0000..=0x10ffff
     )
 }
@@ -189,7 +192,8 @@ pub(crate) fn push_bytes_around(
 }
 
 /// Writes the item that these bytes encode in the fixed notation, cut where it is long. Where they
-/// encode no item that has a notation, it writes them in hexadecimal.
+/// encode no item that has a notation, it writes them in hexadecimal. Of more than `LONG_ITEM` bytes
+/// it writes what the first head says, and the start of a string.
 ///
 /// # Errors
 /// `AllocError` where memory is refused.
@@ -281,7 +285,8 @@ pub(crate) fn push_line_around(
     Ok(width)
 }
 
-/// The index at which the written part of the last line begins.
+/// The index at which the written part of the last line of `before` begins: at most `LINE_BEFORE`
+/// characters from its end.
 fn start_of_piece(before: &[u8]) -> usize {
     let mut from = before.len();
     let mut count: usize = 0;

@@ -33,7 +33,7 @@ pub enum TextReason {
     Count(CountReason),
 }
 
-/// Why an input is refused that has to hold exactly one item.
+/// Why an input that has to hold exactly one item is refused.
 #[derive(Clone, Copy, PartialEq, Eq, Debug)]
 pub enum CountReason {
     /// It holds none.

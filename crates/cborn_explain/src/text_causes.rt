@@ -47,7 +47,7 @@ impl RefusedText<'_> {
             }
             TextReason::Invalid(InvalidReason::BadBignum) => {
                 out.push_str(
-                    "tag 2 or 3 makes an integer of a byte string, and here it stands over another item",
+                    "tag 2 or 3 makes an integer of a byte string, and here it encloses another item",
                 )
             }
             TextReason::Invalid(InvalidReason::NotUtf8) => {
@@ -138,7 +138,7 @@ impl RefusedText<'_> {
             LexReason::BadHex if self.is_quote() => self.push_at_spot(
                 out,
                 "the quote at ",
-                " ends the bytes behind an odd number of digits",
+                " ends the bytes after an odd number of digits",
             ),
             LexReason::BadHex => self.push_at_spot(
                 out,
@@ -148,7 +148,7 @@ impl RefusedText<'_> {
             LexReason::BadBase64 if self.is_quote() => self.push_at_spot(
                 out,
                 "the quote at ",
-                " ends the bytes behind digits or padding that fit no bytes",
+                " ends the bytes after digits or padding that fit no bytes",
             ),
             LexReason::BadBase64 => self.push_at_spot(out, "", " is no digit of base64"),
             LexReason::UnknownPrefix => {
@@ -166,12 +166,12 @@ impl RefusedText<'_> {
             LexReason::BadIndicator => {
                 self.push_word(out, self.spot)?;
                 out.push_str(
-                    " is no encoding indicator: _, _0, _1, _2 and _3 are, and behind ( stands _ alone",
+                    " is no encoding indicator: _, _0, _1, _2 and _3 are, and after ( comes _ alone",
                 )
             }
             LexReason::FloatLeftOut => {
                 self.push_word(out, self.place)?;
-                out.push_str(" is a float, and floats are left out")
+                out.push_str(" is no integer, and floats are left out")
             }
         }
     }
@@ -183,19 +183,19 @@ impl RefusedText<'_> {
                 out.push_str(if is_low(hex_code(*a, *b, *c, *d)) {
                     "the escape at "
                 } else {
-                    "behind the escape at "
+                    "after the escape at "
                 })?;
                 self.push_place(out, self.spot)?;
                 out.push_str(if is_low(hex_code(*a, *b, *c, *d)) {
-                    " is the second half of a pair of surrogates, and no first half stands before it"
+                    " is the second half of a pair of surrogates, and no first half comes before it"
                 } else {
                     ", the first half of a pair of surrogates, the second has to follow"
                 })
             }
             [b'\\', b'u', ..] => self.push_at_spot(
                 out,
-                "behind \\u at ",
-                " stand no four hexadecimal digits",
+                "after \\u at ",
+                " there are no four hexadecimal digits",
             ),
             [b'\\', ..] => self.push_at_spot(out, "", " begins no escape of JSON"),
             _ => self.push_at_spot(out, "", " is a control character, which has to be escaped"),
@@ -238,7 +238,7 @@ impl RefusedText<'_> {
     ) -> Result<(), AllocError> {
         match reason {
             EdnReason::UnexpectedToken => {
-                out.push_str("here may stand ")?;
+                out.push_str("here may come ")?;
                 self.push_allowed(out, walk)
             }
             EdnReason::UnexpectedEnd => self.push_unexpected_end(out, walk),
@@ -251,7 +251,7 @@ impl RefusedText<'_> {
             EdnReason::IndicatorNotAllowed => out.push_str(self.unwanted_indicator(walk)),
             EdnReason::MixedString => {
                 out.push_str(
-                    "pieces behind a byte string are bytes too, and this one is a text in double quotes",
+                    "pieces after a byte string are bytes too, and this one is a text in double quotes",
                 )
             }
             EdnReason::MixedChunks => {
@@ -292,6 +292,9 @@ impl RefusedText<'_> {
         if self.is_at_number() {
             return match bracket {
                 Some(Bracket::Simple) => "the number of a simple value has no encoding indicator",
+                _ if self.is_indefinite() => {
+                    "_ asks for an indefinite length, which numbers and tags don't have"
+                }
                 _ => {
                     "an integer beyond 64 bits is encoded as a bignum, and has no encoding indicator"
                 }
@@ -301,15 +304,15 @@ impl RefusedText<'_> {
             return "of pieces side by side the last alone has an encoding indicator, for the whole string";
         }
         match bracket {
-            Some(Bracket::Chunks) => "a chunk has a definite length, so that no _ stands behind it",
+            Some(Bracket::Chunks) => "a chunk has a definite length, so that no _ follows it",
             _ => {
                 "only [, {, (, '' and \"\" have _, which is an indefinite length: a string with a prefix, with bytes or in pieces has none"
             }
         }
     }
 
-    /// Whether the encoding indicator of the string that begins at the place, or of the `>>` there,
-    /// is `_` alone. True too where it has none.
+    /// Whether the encoding indicator of the string, the number or the tag that begins at the place,
+    /// or of the `>>` there, is `_` alone. True too where it has none.
     fn is_indefinite(&self) -> bool {
         let token = self.input.text.get(self.place..).unwrap_or(&[]);
         let at = match token {
@@ -324,7 +327,7 @@ impl RefusedText<'_> {
 
     /// Writes what is missing at the end of the text, and which bracket is open.
     fn push_unexpected_end(&self, out: &mut String, walk: &TextWalk) -> Result<(), AllocError> {
-        out.push_str("the text ends, and here must stand ")?;
+        out.push_str("the text ends, and here must come ")?;
         self.push_allowed(out, walk)?;
         match walk.open.last() {
             Some(open) => {

@@ -1,14 +1,14 @@
 //! The key in a text that a later key repeats.
 
-use crate::items::valid_of_text;
+use crate::items::encoded_of_text;
 use crate::quotes::{slice_of, valid_front};
 use crate::text_walks::{LastToken, NotationText, TextWalk};
-use cborn_model::{Limit, same};
+use cborn_model::Limit;
 use std::alloc::{AllocError, Global};
 
 /// The offset of a key in the map whose bracket is at the offset `map`: the first that is the same
-/// as the key at the offset `later`. `None` says nothing: a key that can't be read alone isn't
-/// compared.
+/// as the key at the offset `later`. Offsets are in bytes from the start of the text. `None`: none was
+/// found, though there may be one, since a key that isn't valid alone isn't compared.
 ///
 /// # Errors
 /// `AllocError` where memory is refused.
@@ -21,7 +21,7 @@ pub(crate) fn earlier_key(
 ) -> Result<Option<usize>, AllocError> {
     let NotationText { profile, text } = input;
     let wanted = valid_front(key_at(alloc, input, later)?);
-    let Some(wanted) = valid_of_text(alloc, limit, profile, wanted)? else {
+    let Some(wanted) = encoded_of_text(alloc, limit, profile, wanted)? else {
         return Ok(None);
     };
     let inside = valid_front(text.get(map..later).unwrap_or(&[]));
@@ -32,8 +32,8 @@ pub(crate) fn earlier_key(
         }
         if let Some((from, to)) = walk.key_before_colon() {
             let key = valid_front(slice_of(inside.as_bytes(), from, to));
-            if let Some(key) = valid_of_text(alloc, limit, profile, key)? {
-                if same(&key, &wanted) {
+            if let Some(key) = encoded_of_text(alloc, limit, profile, key)? {
+                if key == wanted {
                     return Ok(Some(map.saturating_add(from)));
                 }
             }
@@ -42,7 +42,7 @@ pub(crate) fn earlier_key(
     Ok(None)
 }
 
-/// The key that begins at the offset `place`, up to its colon.
+/// The key that begins at the offset `place`, in bytes from the start of the text, up to its colon.
 ///
 /// # Errors
 /// `AllocError` where memory is refused.

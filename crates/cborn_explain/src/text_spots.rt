@@ -75,7 +75,8 @@ fn pair_len(rest: &[u8]) -> Option<usize> {
     }
 }
 
-/// The index in `h'..'` of the first character that is no digit. Where all are digits, their number
+/// The index in `h'..'` of the first character that is no digit, no white space and in no comment, or
+/// of the slash of a comment that isn't closed. Where there is no such character, the number of digits
 /// is odd, and it is the index of the closing quote.
 fn bad_hex(token: &[u8]) -> usize {
     let mut is_comment = false;
@@ -96,8 +97,8 @@ fn bad_hex(token: &[u8]) -> usize {
     0
 }
 
-/// The index in `b64'..'` of the first character that no alphabet of base64 has. Where all are in
-/// one, it is the index of the closing quote.
+/// The index in `b64'..'` of the first character that is no white space, no padding and in no alphabet
+/// of base64. Where there is no other, it is the index of the closing quote.
 fn bad_base64(token: &[u8]) -> usize {
     for (i, byte) in token.iter().enumerate() {
         if i >= 4 && !is_base64(*byte) && !is_white(*byte) {
@@ -157,7 +158,8 @@ fn is_body(byte: u8) -> bool {
 }
 
 /// The index of the underscore that begins a token's encoding indicator. Of a string it is the
-/// index after the closing quote. 0: there is none.
+/// index after the closing quote, whether or not an indicator is there. 0: there is no underscore, or
+/// no closing quote.
 pub(crate) fn indicator_at(token: &[u8]) -> usize {
     let quote = match token {
         [b'"', ..] => b'"',

@@ -5,8 +5,9 @@ use cborn_lex::{BareToken, Kind, LexFault, Profile, next_token};
 use cborn_paths::Step;
 use std::alloc::{AllocError, Global};
 
-/// The most brackets that can be open in a text whose fault another call reported: 1,024 levels,
-/// and a string or a simple value inside.
+/// How many open brackets a walk keeps at most. A fault of the grammar or of what a text means is inside
+/// fewer: those of 1,024 levels, and of a string or a simple value. A token that is wrong may be inside
+/// more, since all tokens are read before any level is counted. Of those it keeps the number alone.
 const MOST_OPEN: usize = 1026;
 
 /// A text of the notation, and the profile that it is read under.
@@ -37,15 +38,18 @@ pub(crate) struct OpenBracket {
     pub(crate) bracket: Bracket,
     /// The offset in bytes of its token.
     pub(crate) place: usize,
-    /// How many of its parts are whole. A part is an item, or a key or a value of a map.
+    /// How many of its parts a comma or a colon has ended. A part is an item, a chunk, or a key or a
+    /// value of a map.
     pub(crate) parts: u64,
-    /// In a map, the offsets in bytes at which the last key begins and ends. Where there is no key,
-    /// both are `place`.
+    /// In a map, the offsets in bytes at which the last key begins and ends. Until its colon is read,
+    /// both are where it begins. Where there is no key, both are `place`.
     pub(crate) key: (usize, usize),
+    /// A comma or a colon came where none may, so that its parts aren't known.
+    pub(crate) is_lost: bool,
 }
 
 impl OpenBracket {
-    /// The step of a path to its next part. `None`: a simple value has no parts.
+    /// The step of a path to its first part that isn't ended. `None`: a simple value has no parts.
     pub(crate) fn step(&self) -> Option<Step> {
         match self.bracket {
             Bracket::Array => Some(Step::Element(self.parts)),
@@ -89,6 +93,8 @@ pub(crate) struct TextWalk {
     pub(crate) items: u64,
     /// The brackets that are open, the innermost last.
     pub(crate) open: Vec<OpenBracket>,
+    /// How many are open inside of those, beyond `MOST_OPEN`.
+    pub(crate) beyond: u64,
     pub(crate) last: LastToken,
     /// The offset in bytes at which the last token ends.
     pub(crate) stop: usize,
@@ -96,8 +102,8 @@ pub(crate) struct TextWalk {
     content: Vec<u8>,
 }
 
-/// Walks over a text, and stops before the token that begins at the offset `place` or holds it, and
-/// before the first that is wrong. `place` is an offset in bytes from the start of the text.
+/// Walks over a text, and stops before the first token that ends after the offset `place`, or that is
+/// wrong. `place` is an offset in bytes from the start of the text.
 ///
 /// # Errors
 /// `AllocError` where memory is refused.
@@ -123,14 +129,15 @@ impl TextWalk {
         TextWalk {
             items: 0,
             open: Vec::new(alloc),
+            beyond: 0,
             last: LastToken::Opening,
             stop: 0,
             content: Vec::new(alloc),
         }
     }
 
-    /// Goes on past the next token, and gives `true`. `false`: the token begins at `place` or holds
-    /// it, or is wrong, or there is none.
+    /// Goes on past the next token, and gives `true`. `false`: the token ends after the offset `place`
+    /// or is wrong, or there is none.
     ///
     /// # Errors
     /// `AllocError` where memory is refused.
@@ -141,7 +148,7 @@ impl TextWalk {
         text: &str,
         place: usize,
     ) -> Result<bool, AllocError> {
-        if self.stop > text.len() || self.open.len() > MOST_OPEN {
+        if self.stop > text.len() {
             return Ok(false);
         }
         let mut number: u128 = 0;
@@ -166,7 +173,7 @@ impl TextWalk {
         }
     }
 
-    /// Goes on past a token. `number` is the number of a tag.
+    /// Goes on past a token. `number` is that of a tag, if the token opens one.
     fn take(&mut self, token: &BareToken, number: u128) -> Result<(), AllocError> {
         let start = token.start;
         match token.kind {
@@ -189,6 +196,9 @@ impl TextWalk {
 
     /// Keeps where a token begins, if it is the first of a key.
     fn begin_part(&mut self, start: usize) {
+        if self.beyond > 0 {
+            return;
+        }
         let is_first = matches!(self.last, LastToken::Opening | LastToken::Separator);
         if let Some(open) = self.open.last_mut() {
             if is_first && open.is_at_key() {
@@ -199,18 +209,27 @@ impl TextWalk {
 
     fn begin(&mut self, bracket: Bracket, place: usize) -> Result<(), AllocError> {
         self.begin_part(place);
+        self.last = LastToken::Opening;
+        if self.open.len() >= MOST_OPEN {
+            self.beyond = self.beyond.saturating_add(1);
+            return Ok(());
+        }
         self.open.push(OpenBracket {
             bracket,
             place,
             parts: 0,
             key: (place, place),
+            is_lost: false,
         })?;
-        self.last = LastToken::Opening;
         Ok(())
     }
 
     fn end(&mut self, last: LastToken) {
-        let _ = self.open.pop();
+        if self.beyond > 0 {
+            self.beyond = self.beyond.saturating_sub(1);
+        } else {
+            let _ = self.open.pop();
+        }
         self.last = last;
     }
 
@@ -221,21 +240,36 @@ impl TextWalk {
 
     /// Goes on past a comma.
     fn separate(&mut self) {
+        self.last = LastToken::Separator;
+        if self.beyond > 0 {
+            return;
+        }
         match self.open.last_mut() {
-            Some(open) => open.parts = open.parts.saturating_add(1),
+            Some(open) => {
+                if open.is_at_key() {
+                    open.is_lost = true;
+                }
+                open.parts = open.parts.saturating_add(1);
+            }
             None => self.items = self.items.saturating_add(1),
         }
-        self.last = LastToken::Separator;
     }
 
     /// Goes on past the colon after a key.
     fn end_key(&mut self) {
         let stop = self.stop;
+        let is_whole = matches!(self.last, LastToken::Piece | LastToken::Item);
+        self.last = LastToken::Separator;
+        if self.beyond > 0 {
+            return;
+        }
         if let Some(open) = self.open.last_mut() {
+            if !is_whole || !open.is_at_key() {
+                open.is_lost = true;
+            }
             open.key.1 = stop;
             open.parts = open.parts.saturating_add(1);
         }
-        self.last = LastToken::Separator;
     }
 
     /// The offsets in bytes at which the key before the last token, a colon, begins and ends, if

@@ -4,10 +4,11 @@
 //!
 //! ```text
 //! [_ 1_1, 24(h'01'), "é"]  / a comment /
-//! ─┬ ─┬─│ ─┬─ ──┬──│ ─┬─ └ ArrayClose
-//!  │  │ │  │    │  │  └ Text, the bytes c3 a9
-//!  │  │ │  │    │  └ ParenClose
-//!  │  │ │  │    └ Bytes, the byte 01
+//! ─┬ ─┬─│ ╶┬╴╶─┬─╴││ ─┬─└ ArrayClose
+//!  │  │ │  │   │  ││  └ Text, the bytes c3 a9
+//!  │  │ │  │   │  │└ Comma
+//!  │  │ │  │   │  └ ParenClose
+//!  │  │ │  │   └ Bytes, the byte 01
 //!  │  │ │  └ TagOpen, the number 24
 //!  │  │ └ Comma
 //!  │  └ Number, 1 with the indicator Wide(Two)

@@ -53,8 +53,8 @@ const ADVICE: &[Advice] = &[
     },
 ];
 
-/// The advice on the first option in the list that the words give to a command without it. The first of
-/// `words` is the program's name, the second the command's. `None`: there is no such option.
+/// The first advice of the list whose command and option the words have. The first of `words` is the
+/// program's name, the second the command's. `None`: the list has no advice on these words.
 pub fn advice_on(words: &[&str]) -> Option<&'static Advice> {
     let name = *words.get(1)?;
     for advice in ADVICE {

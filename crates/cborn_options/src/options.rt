@@ -39,25 +39,30 @@ fn no_command(program: &mut Command<'_>) -> Error {
     }
 }
 
-/// The mistake, with advice in place of it where another command has the option.
+/// The mistake that `clap` found in the words. Where they have an option that the command lacks, and
+/// there is advice on it, the mistake that gives the advice.
 fn explained(alloc: Global, words: &[&str], why: Error) -> Error {
     if why.kind() != ErrorKind::UnknownArgument {
         return why;
     }
     match advice_on(words) {
-        Some(advice) => reported_of(alloc, advice),
+        Some(advice) => error_of(alloc, advice),
         None => why,
     }
 }
 
-fn reported_of(alloc: Global, advice: &Advice) -> Error {
+/// The mistake that gives this advice, or that memory for it was refused.
+fn error_of(alloc: Global, advice: &Advice) -> Error {
     match advised(alloc, advice) {
         Ok(error) => error,
         Err(refused) => Error::from(refused),
     }
 }
 
-/// The line of an advice, with the usage of its command.
+/// The mistake whose text is the line of an advice and the usage of its command.
+///
+/// # Errors
+/// `AllocError` where memory is refused.
 fn advised(alloc: Global, advice: &Advice) -> Result<Error, AllocError> {
     let command = command(alloc, &advice.command)?;
     let mut command = command.bin_name(advice.command.whole_name)?;
@@ -152,7 +157,7 @@ fn with_command<'a>(
 
 fn named<'a>(alloc: Global) -> Command<'a> {
     Command::new(alloc, "cborn")
-        .version("0.5.0-dev")
+        .version("0.5.0")
         .about(help::PROGRAM)
         .after_long_help(help::PROGRAM_NOTES)
         .subcommand_required(true)

@@ -73,6 +73,7 @@ pub enum Format {
     Wire,
     /// Diagnostic notation.
     Notation,
-    /// Diagnostic notation with comments from `#` to the end of a line, and with trailing commas.
+    /// Diagnostic notation with comments from `#` to the end of a line, and one comma after the last item
+    /// of an array, pair of a map or embedded item.
     Notation2,
 }

@@ -15,7 +15,8 @@ use std::alloc::{AllocError, Global};
 
 /// Where the first item of some bytes ends: an offset in bytes from their start (RFC 8949 section
 /// 3, RFC 8742). What follows the item isn't read. `None`: the bytes don't begin with a whole item
-/// that is no deeper than the highest nesting limit.
+/// that is no deeper than the highest nesting limit. Well-formed bytes then hold no item; of others
+/// no clause says when the answer is `None`.
 ///
 /// # Errors
 /// `AllocError` where memory for the open levels is refused.

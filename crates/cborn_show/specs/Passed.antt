@@ -1,5 +1,5 @@
 -- What a pass over bytes writes of the nodes that it reads: their fixed notation, at the end of its buffer.
--- Start with IsShownText and HasNoNotation, at the end: they are all that the public call promises.
+-- Start with Notates, near the end: it is all that the public call promises. What comes before PassShown are devices.
 use Rattle.std.specs.Prelude.{◌≡◌, ℕ, zero, suc, List, [], ◌++◌, map, length, Bool, true, false, ⊤, codes, decimal}
 use Rattle.std.specs.List.{flat_map}
 use Rattle.cborn_model.specs.declared.heads.Width.{Width}

@@ -1,4 +1,4 @@
--- What is blamed of a node is blamed of what holds it.
+-- A device of the proofs: what is blamed of a node is blamed of what holds it.
 use Rattle.std.specs.Prelude.{List, [], ◌∷◌, ◌++◌, Bool}
 use Rattle.cborn_model.specs.Tree.{Tree, trees, entries}
 use Rattle.cborn_edn.specs.shared.Texts.{IsShowable, EachShowable, ArePairsShowable}

@@ -27,12 +27,12 @@ failures_after_read _ n = n
 abbrev pub CountsFault : {A E : Type 0} → E → Result A E → ℕ → ℕ → Type 0
 CountsFault why result before after = (result ≡ Err why → after ≡ one_more before) × (result ≢ Err why → after ≡ before)
 
--- the count of bytes that wait for a flush, after a write
+-- the count of bytes that wait for a flush, after a write: more by those that it took, and no more than `u64::MAX`
 abbrev pub unflushed_after_write : {E : Type 0} → Result ℕ E → ℕ → ℕ
 unflushed_after_write (Ok k) n = min (n + k) (2 ^ 64 - 1)
 unflushed_after_write (Err e) n = n
 
--- and after a flush: none wait, unless it failed
+-- the count of bytes that wait for a flush, after a flush: 0, or the same as before if it failed
 abbrev pub unflushed_after_flush : {A E : Type 0} → Result A E → ℕ → ℕ
 unflushed_after_flush (Ok a) n = 0
 unflushed_after_flush (Err e) n = n

@@ -5,7 +5,7 @@ use Rattle.std.specs.Io.KnownBytes.{IsAtEnd, Consumes, Keeps}
 use Rattle.cborn_streams.specs.declared.faults.InputFault.{InputFault}
 use Rattle.cborn_streams.specs.declared.faults.InputFault.TheVariants as fault
 
--- the reader gave a piece at the front of the buffer: nothing only at its end, and no more than is left
+-- the reader gave a piece at the front of the buffer: nothing only at its end, and no more than is left; or one byte more than is left; or it failed, and gave nothing
 abbrev pub PieceAnswers : Option (List ℕ) → Option (List ℕ) → ℕ → List ℕ → Result ℕ InputFault → Type 0
 PieceAnswers before after left buf (Ok count) =
     (count ≤ left) × (count ≤ length buf) × Consumes before after (take count buf) × (count ≡ 0 → IsAtEnd after)
@@ -20,7 +20,7 @@ CollectAnswers most input after (Err fault.TooLong) = length input ≡ most + 1
 CollectAnswers most input after (Err fault.ReadFault) = length input ≤ most
 CollectAnswers most input after (Err fault.OutOfMemory) = length input ≤ most
 
--- some input was taken from the reader, and kept
+-- the bytes that were taken from the reader, and what is answered of them
 pub record Collects (most : ℕ) (before after : Option (List ℕ)) (result : Result (Vec ℕ Global) InputFault) : Type 0 where
   pub input : List ℕ
   pub taken : Consumes before after input

@@ -12,7 +12,7 @@ abbrev pub WriteAnswers : List ℕ → List ℕ → Result Unit OutputFault → 
 WriteAnswers bytes output (Ok u) = output ≡ bytes
 WriteAnswers bytes output (Err why) = IsFront output bytes
 
--- the writer was given this answer, and nothing else
+-- the writer was given this answer, or a front of it if it failed, and nothing else
 pub record Sends (before after : Option (List ℕ)) (bytes : List ℕ) (result : Result Unit OutputFault) : Type 0 where
   pub output : List ℕ
   pub written : Appends before after output

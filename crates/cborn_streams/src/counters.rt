@@ -11,8 +11,8 @@ use std::io::{Read, Write};
 use std::marker::Model;
 
 /// A reader or a writer of std that counts its failures, the reads that were asked for, and the
-/// bytes that were written since the last flush without a failure. Each count stays at `u64::MAX`
-/// once it is there. An interrupted call is a failure like any other: nothing is tried again.
+/// bytes that were written since the last flush that didn't fail. No count goes beyond `u64::MAX`.
+/// An interrupted call is a failure like any other: nothing is tried again.
 #[derive(Drop)]
 pub struct Counted<T> {
     inner: T,

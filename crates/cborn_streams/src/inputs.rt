@@ -9,7 +9,7 @@ use crate::sources::Source;
 use std::alloc::Global;
 
 /// All bytes of an input, which may have at most `most`; `most` must be below 2^64 - 1. They are
-/// read to where they stay, in a buffer that grows with them.
+/// read straight into the buffer that is the answer, which grows with them.
 ///
 /// # Errors
 /// `ReadFault` if the reader fails, which ends the reading. `TooLong` if it gives `most` + 1 bytes;

@@ -9,7 +9,8 @@ use crate::sinks::Sink;
 /// Writes all bytes, and then flushes once, even if there are none.
 ///
 /// # Errors
-/// `WriteFault` if the writer fails, or takes nothing; then a front of the bytes was written.
+/// `WriteFault` if a write or the flush fails, or a write takes nothing; then a front of the bytes was
+/// written, which may be all of them.
 pub fn write_answer<W: Sink>(writer: &mut W, bytes: &[u8]) -> Result<(), OutputFault>
     ensures writes { Sends (W.contents writer.old) (W.contents writer.new) bytes.now result }
     ensures failures { W.failed writer.new ≡ failures_after result (W.failed writer.old) }

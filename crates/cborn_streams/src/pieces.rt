@@ -31,14 +31,15 @@ pub fn read_piece<R: Source>(reader: &mut R, buf: &mut [u8], left: u64) -> Resul
     Ok(count)
 }
 
-/// The first length of a buffer, in bytes: a small input needs no more.
+/// The first length of a buffer, in bytes: a small input needs no more. It is also the least by which
+/// a buffer grows.
 const FIRST_ROOM: usize = 512;
 
 /// The most by which a buffer grows at once, in bytes.
 const MOST_ROOM: usize = 1 << 18;
 
-/// Makes room for a piece after the first `filled` bytes, which stay. A full buffer is doubled
-/// while it is small.
+/// Makes room for a piece after the first `filled` bytes, which stay. A full buffer grows by its
+/// length, but by no less than `FIRST_ROOM` and by no more than `MOST_ROOM`.
 ///
 /// # Errors
 /// `AllocError` if memory is refused.
@@ -75,7 +76,11 @@ pub fn read_after<R: Source>(
     read_at(reader, bytes.as_mut_slice(), filled, left)
 }
 
-/// Reads the next piece of an input to a slice, from the offset `filled` on.
+/// Reads the next piece of an input, which may have at most `left` more bytes, to a slice from the
+/// offset `filled` on, and gives its length in bytes: 0 only at the end.
+///
+/// # Errors
+/// `ReadFault` if the reader fails. `TooLong` if it gives more than `left` bytes.
 fn read_at<R: Source>(
     reader: &mut R,
     buf: &mut [u8],

@@ -14,9 +14,9 @@ ghost use Rattle.cborn_model.specs.declared.faults.Invalid.TheVariants.{Refused}
 ghost use Rattle.cborn_model.specs.declared.faults.InvalidReason.{InvalidReason};
 ghost use Rattle.cborn_judge.specs.Flaws.{IsRefusalOfAll};
 
-/// Two lists of nodes spell the same bytes. The places of the first are those in a text or elsewhere, and
-/// rise where a flaw may be; those of the second are their offsets in the bytes. Then the first flaw of
-/// the one is the first flaw of the other, for the same reason and at the same start.
+/// Nodes have the same first flaw, for the same reason and at the same start, if they spell the same
+/// bytes. The places of the second nodes are their offsets in the bytes. Those of the first are in a
+/// text or elsewhere, and rise where a flaw may be.
 pub fn one_first_flaw()
     ensures { (limit : ℕ) (bytes : List ℕ) (nodes others : List Tree) → FitsAll (trees nodes) → spelled_all (trees nodes) ≡ bytes → Wellformed limit (trees others) bytes → PlacedAll 0 (trees others) → IsRising (spots_all (trees nodes)) → (i offset place : ℕ) (r : InvalidReason) → slice_get (starts_all (trees others)) i ≡ Some offset → slice_get (starts_all (trees nodes)) i ≡ Some place → IsRefusalOfAll others (Refused offset r) → IsRefusalOfAll nodes (Refused place r) }
 {}

@@ -1,7 +1,7 @@
-//! Where in a text of the notation a flaw stands that was found in the bytes that the text spells.
+//! Where in a text of the notation a flaw is that was found in the bytes that the text spells.
 //!
-//! [`place_in_text`] tells it without nodes. It counts which start of a node or a chunk the place in
-//! the bytes is (`indices`), and asks `cborn_edn` where that start stands in the text.
+//! [`place_in_text`] finds it without nodes. It counts which start of a node or a chunk the place in
+//! the bytes is (`indices`), and asks `cborn_edn` where that start is in the text.
 //!
 //! A reader of the definitions starts at `specs/Starts.antt` of `cborn_edn`; [`laws`] has why the
 //! first flaw of the bytes is that of the text.

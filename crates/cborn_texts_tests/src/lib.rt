@@ -1,5 +1,5 @@
-//! Tests of the libraries that read and write notation: one module for each. They test what no clause
-//! says.
+//! Tests of the libraries that read and write notation: `lex` of `cborn_lex`, the other modules of
+//! `cborn_edn`. They test what no clause says.
 #![tactic(auto)]
 
 #[cfg(test)]

@@ -1,10 +1,10 @@
 //! From bytes to the deterministic encodings of the data items that they hold (RFC 8949 section
 //! 4.2), in one pass that keeps no tree.
 //!
-//! [`transcode`] is a sink of the descent of `cborn_descent`: that reads the bytes once, from the front
-//! to the end, and the sink appends to one buffer. What a head announces is written with the shortest
-//! head at once, unless its length is known only after its contents: then a byte holds the head's
-//! place, and the head is set there later. The pairs of a map are written as they come; where their
+//! [`transcode`] runs the descent of `cborn_descent` with a sink: the descent reads the bytes once, from
+//! the front to the end, and the sink appends to one buffer. What a head announces is written with the
+//! shortest head at once, unless its length is known only after its contents: then a byte holds the
+//! head's place, and the head is set there later. The pairs of a map are written as they come; where their
 //! keys don't rise, the map's part of the buffer is arranged anew, and of a long one no more than half
 //! is copied at a time. Where a map of many pairs holds nothing but items without children, each its own
 //! deterministic encoding, its pairs are written from the input, in their order, and nothing is moved.

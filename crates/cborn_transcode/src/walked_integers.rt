@@ -5,7 +5,8 @@ ghost use Rattle.std.specs.declared.cmp.Ordering.{Ordering};
 ghost use Rattle.cborn_transcode.specs.shared.Walking.{IsIntegerForm, top_of, ItemWalked};
 
 /// The length in bytes of the integer at the front of the bytes, if its head is the shortest (RFC 8949
-/// section 4.2.1) and the bytes are nine or more; else 0. Takes no memory.
+/// section 4.2.1) and the bytes are nine or more; else 0. No clause says when it is above 0: the item is
+/// then read in another way. Takes no memory.
 #[inline(always)]
 pub fn int_len(bytes: &[u8]) -> usize
     ensures len { result ≤ length bytes.now }

@@ -1,4 +1,4 @@
--- A device of the proofs: the trees of the grammar of the notation, with the place of each token. No public contract but a law of the trees themselves cites it.
+-- A device of the proofs: the trees of the grammar of the notation, with the place of each token. No public contract cites it, but for laws that say what the trees are to tokens and nodes.
 use Rattle.std.specs.Prelude.{ℕ, suc, List, [], ◌∷◌, ◌++◌, Bool, max}
 use Rattle.cborn_lex.specs.declared.classes.Mark.{Mark}
 use Rattle.cborn_lex.specs.declared.classes.Class.TheVariants.{ArrayOpen, MapOpen, ArrayClose, MapClose, ParenClose, Comma, Colon, EmbedOpen, EmbedClose, ChunkOpen, Number, TagOpen, Word, SimpleOpen, Text, Bytes}

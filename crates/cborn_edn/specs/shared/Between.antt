@@ -1,4 +1,4 @@
--- A device of the proofs: texts one after another with a separator between them, as a loop writes them. No definition cites it.
+-- A device of the proofs, here and in the crates above: texts one after another with a separator between them, as a loop writes them.
 use Rattle.std.specs.Prelude.{ℕ, zero, suc, List, [], ◌++◌, codes}
 use Rattle.std.specs.List.{flat_map}
 use Rattle.cborn_model.specs.Tree.{Tree}

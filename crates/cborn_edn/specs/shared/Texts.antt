@@ -1,4 +1,4 @@
--- A device of the proofs: texts of nodes that are all UTF-8, node by node. No definition cites it.
+-- A device of the proofs, here and in the crates above: texts of nodes that are all UTF-8, node by node.
 use Rattle.std.specs.Prelude.{◌≡◌, List, [], ◌∷◌, true}
 use Rattle.std.specs.Str.{is_utf8}
 use Rattle.cborn_model.specs.declared.nodes.Chunk.{Chunk}

@@ -1,4 +1,4 @@
--- What is read in place: the shortest head at the front of an input, and items that are their own deterministic encodings. The front of the input then spells what is encoded.
+-- A device of the proofs, here and in the crates above: what is read in place, the shortest head at the front of an input, and items that are their own deterministic encodings. The front of the input then spells what is encoded.
 use Rattle.std.specs.Prelude.{◌≡◌, ◌≢◌, ℕ, ◌+◌, ◌*◌, ◌/◌, ◌%◌, ◌⊎◌, ◌<◌, List, [], ◌++◌, map, IsTrue, Option, None, Some, ⊤}
 use Rattle.std.specs.declared.cmp.Ordering.TheVariants.{Less}
 use Rattle.std.specs.declared.cmp.Ordering.{Ordering}
