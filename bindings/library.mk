@@ -1,6 +1,6 @@
 # The library for programs in C and other languages, from the archive that the proved crate cborn_c gives.
 # a release's version, or what follows a release: the next one's with -dev, which Python writes with .dev0
-VERSION := 0.5.0
+VERSION := 0.6.0-dev
 PYTHON_VERSION := $(VERSION:-dev=.dev0)
 SONAME := libcborn.so.0
 # the kit's folder, which has the three functions by which a library takes memory

@@ -35,8 +35,8 @@ extern "C" {
 #endif
 
 /* The version of this header as one number: the major version times 65536, the minor one times 256,
- * and the patch. After a release the source has the number of the next one. */
-#define CBORN_VERSION 0x000500
+ * and the patch. After a release the source has the number of the next one: this is 0.6.0-dev. */
+#define CBORN_VERSION 0x000600
 
 /* The format of an input or an output. As output both notations are the same. */
 enum {

@@ -78,7 +78,7 @@ class Calls(unittest.TestCase):
         self.assertRaises(cborn.CbornError, cborn.is_deterministic, TWICE)
 
     def test_version(self):
-        self.assertEqual(cborn.version(), "0.5.0")
+        self.assertEqual(cborn.version(), "0.6.0")
         self.assertEqual(cborn.__version__.partition(".dev")[0], cborn.version())
 
     def test_all_that_is_public_is_there_and_has_words(self):
@@ -362,7 +362,7 @@ class Program(unittest.TestCase):
         return done.stdout, done.stderr, done.returncode
 
     def test_help_and_version(self):
-        self.assertEqual(self.run_on("--version"), (b"cborn 0.5.0\n", b"", 0))
+        self.assertEqual(self.run_on("--version"), (b"cborn 0.6.0-dev\n", b"", 0))
         for command in ("show", "normalise", "compare", "check"):
             out, err, status = self.run_on(command, "--help")
             self.assertEqual((err, status), (b"", 0))

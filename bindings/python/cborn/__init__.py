@@ -312,7 +312,7 @@ def version() -> str:
     return f"{number >> 16}.{number >> 8 & 255}.{number & 255}"
 
 
-__version__: typing.Final[str] = "0.5.0"
+__version__: typing.Final[str] = "0.6.0.dev0"
 
 
 def __dir__() -> list[str]:

@@ -50,7 +50,8 @@ class Trouble(Exception):
 
 class Parser(argparse.ArgumentParser):
     def error(self, message: str) -> typing.NoReturn:
-        raise Trouble(f"error: {message}\n\n{self.format_usage()}", USAGE)
+        lines = "\n".join(map(escaped, message.split("\n")))
+        raise Trouble(f"error: {lines}\n\n{self.format_usage()}", USAGE)
 
     def _print_message(self, message: str, file: typing.Any = None) -> None:
         """Writes the help or the version, as any other output."""

@@ -431,10 +431,10 @@ pub extern "C" fn cborn_explain(
 }
 
 /// The version of the library as one number: the major version times 65,536, the minor one times 256,
-/// and the patch. It is 0.5.0. What follows a release has the number of the next release.
+/// and the patch. It is 0.6.0. What follows a release has the number of the next release.
 #[unsafe(no_mangle)]
 pub extern "C" fn cborn_version() -> u32
-    ensures { result ≡ 1280 }
+    ensures { result ≡ 1536 }
 {
-    0x000500
+    0x000600
 }

@@ -2,12 +2,13 @@
 ghost use Rattle.std.specs.Prelude.{◌≡◌, ◌≤◌, ◌⊎◌, IfOk, IfErr};
 ghost use Rattle.cborn_commands.specs.Statuses.{status_of_trouble};
 
-use crate::lines::{Trouble, print, tell_trouble};
+use crate::lines::{Trouble, print, print_lines, tell_trouble};
 use crate::statuses::{DONE, FAILED, REFUSED, USAGE};
 use cborn_engine::{Counted, EngineFault};
+use cborn_explain::Escaped;
 use clap::Error;
 use clap::error::ErrorKind;
-use std::alloc::Global;
+use std::alloc::{AllocError, Global};
 use std::io;
 use std::io::Write;
 
@@ -50,18 +51,36 @@ fn answer_usage<'a, W: Write, E: Write>(
     if why.kind() == ErrorKind::OutOfMemory {
         return Err(Trouble::Engine(EngineFault::OutOfMemory));
     }
-    if why.use_stderr() {
-        let _ = write!(err, "{why}");
-        return Ok(USAGE);
-    }
-    let text = match format!(in alloc; "{why}") {
+    let text = match text_of(alloc, why) {
         Ok(text) => text,
         Err(_) => return Err(Trouble::Engine(EngineFault::OutOfMemory)),
     };
+    if why.use_stderr() {
+        print_lines(err, &text);
+        return Ok(USAGE);
+    }
     match print(out, &text, "") {
         Ok(()) => Ok(DONE),
         Err(_) => Err(Trouble::Engine(EngineFault::WriteFault)),
     }
+}
+
+/// Help, the version, or what is wrong with the command line. The lines of a mistake are escaped,
+/// since they may quote an argument, which may hold any character.
+///
+/// # Errors
+/// `AllocError` where memory is refused.
+fn text_of(alloc: Global, why: &Error) -> Result<String, AllocError> {
+    let text = format!(in alloc; "{why}")?;
+    if !why.use_stderr() {
+        return Ok(text);
+    }
+    let mut lines = String::new(alloc);
+    for line in text.lines() {
+        let line = Escaped { text: line };
+        writeln!(lines, "{line}")?;
+    }
+    Ok(lines)
 }
 
 /// Prints why the words of the command line can't be had. Answers the exit status: 3 where a word isn't

@@ -14,6 +14,7 @@ ghost use Rattle.cborn_edn.specs.devices.Shows.{Shows};
 
 use crate::endings::has_chunks;
 use crate::quick::take_common;
+use crate::quick_ends::take_empty_end;
 use crate::refusals::{first_fault, refused};
 use crate::states::{Arounds, Brackets, Chunks, Heads, Here, Level, Phase, Writer};
 use crate::steps::take;
@@ -120,11 +121,33 @@ fn read_tokens(
     'tokens: while here.at < text.len() {
         if !take_common(limit, profile, text, &mut here, writer)? && here.at < text.len() {
             let mut next = here.same();
-            step(alloc, limit, profile, text, &mut next, writer)?;
+            take_rare(alloc, limit, profile, text, &mut next, writer)?;
             here.become_next(next);
         }
     }
     Ok(here)
+}
+
+/// Takes what is next in the text, where `take_common` takes nothing.
+fn take_rare(
+    alloc: Global,
+    limit: Limit,
+    profile: Profile,
+    text: &str,
+    here: &mut Here,
+    writer: &mut Writer,
+) -> Result<(), EdnFault>
+    requires reading { IsReading profile limit text.now here.old writer.old }
+    requires more { here.old.at < length text.now }
+    ensures read { OnOk result (IsReading profile limit text.now here.new writer.new) }
+    ensures further { OnOk result (here.old.at < here.new.at) }
+    ensures refused { IfErr result (IsNoNotation profile limit text.now) }
+    ensures heads { OnOk result (writer.new.heads ≡ writer.old.heads) }
+{
+    if take_empty_end(limit, profile, text, here, writer)? || here.at == text.len() {
+        return Ok(());
+    }
+    step(alloc, limit, profile, text, here, writer)
 }
 
 /// Reads one token, or the white space up to the text's end.

@@ -10,7 +10,7 @@ use crate::endings::{end_array, end_embedded, end_entry, end_key, end_map, end_t
 use crate::marks::embed_end_at;
 use crate::passes::bounded_len;
 use crate::quick::{skip_space, take_white_space};
-use crate::states::{Here, Writer};
+use crate::states::{Here, Phase, Writer};
 use crate::strings::{end_chunk, end_chunks, end_item};
 use crate::texts::ends_string;
 use cborn_lex::Profile;
@@ -152,6 +152,31 @@ pub(crate) fn take_map_end(
         here.at = at + 1;
     }
     Ok(taken)
+}
+
+/// Takes a `]` or `}` where an item may begin: after a bracket that is empty but for white space.
+pub(crate) fn take_empty_end(
+    limit: Limit,
+    profile: Profile,
+    text: &str,
+    here: &mut Here,
+    writer: &mut Writer,
+) -> Result<bool, AllocError>
+    requires reading { IsReading profile limit text.now here.old writer.old }
+    requires inside { here.old.at < length text.now }
+    ensures read { OnOk result (IsReading profile limit text.now here.new writer.new) }
+    ensures on { OnOk result (here.old.at ≤ here.new.at) }
+    ensures further { IfOk result (λ ok. ok ≡ true → here.old.at < here.new.at) }
+    ensures heads { OnOk result (writer.new.heads ≡ writer.old.heads) }
+{
+    if !matches!(here.phase, Phase::Wants) {
+        return Ok(false);
+    }
+    match text.as_bytes()[here.at] {
+        b']' => take_array_end(limit, profile, text, here, writer),
+        b'}' => take_map_end(limit, profile, text, here, writer),
+        _ => Ok(false),
+    }
 }
 
 /// Takes the `)` of a tag.

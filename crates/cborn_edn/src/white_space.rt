@@ -82,17 +82,17 @@ fn spaces_at(text: &[u8], at: usize) -> usize
     }
 }
 
-/// How many of the sixteen bytes from the offset `at` on come before the first that is `c`.
+/// How many of the 32 bytes from the offset `at` on come before the first that is `c`.
 #[inline(always)]
 fn place_in_block(c: u8, text: &[u8], at: usize) -> usize
-    requires { at + 16 ≤ length text.now }
-    ensures within { result ≤ 16 }
+    requires { at + 32 ≤ length text.now }
+    ensures within { result ≤ 32 }
     ensures before { list_all (is_not c) (take result (drop at text.now)) ≡ true }
-    ensures found { result < 16 → slice_index text.now (at + result) ≡ c }
+    ensures found { result < 32 → slice_index text.now (at + result) ≡ c }
 {
-    let found = bits_of(c, u8x16::from_slice(&text[at..]));
+    let found = bits_of(c, u8x32::from_slice(&text[at..]));
     if found == 0 {
-        16
+        32
     } else {
         found.trailing_zeros() as usize
     }
@@ -106,12 +106,12 @@ fn bits_of_others(c: u8, bytes: u8x16) -> u64
     bytes.simd_ne(u8x16::splat(c)).to_bitmask()
 }
 
-/// A bit for each of sixteen bytes, the lowest for the first. It is set if the byte is `c`.
+/// A bit for each of 32 bytes, the lowest for the first. It is set if the byte is `c`.
 #[inline(always)]
-fn bits_of(c: u8, bytes: u8x16) -> u64
+fn bits_of(c: u8, bytes: u8x32) -> u64
     ensures { result ≡ mask_l (map (λ d. d == c) bytes) }
 {
-    bytes.simd_eq(u8x16::splat(c)).to_bitmask()
+    bytes.simd_eq(u8x32::splat(c)).to_bitmask()
 }
 
 /// The offset after the comment between slashes that begins at the offset `at`. `None` if no slash
@@ -125,9 +125,9 @@ fn slashed_end(profile: Profile, text: &[u8], at: usize) -> Option<usize>
     ensures white_space { IfSome result (λ end. TokensBetween profile text.now at end []) }
 {
     let next = at + 1;
-    if text.len() - next >= 16 {
+    if text.len() - next >= 32 {
         let len = place_in_block(b'/', text, next);
-        if len < 16 {
+        if len < 32 {
             return Some(at + len + 2);
         }
     }

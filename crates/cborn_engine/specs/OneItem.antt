@@ -1,5 +1,5 @@
 -- What is answered for an input that has to hold exactly one item: what is answered without that, unless it holds none, or more.
-use Rattle.std.specs.Prelude.{◌≡◌, ◌≢◌, ℕ, ◌≤◌, ◌↔◌, Bool, IsTrue, List, [], ◌∷◌, length, Option, Result, Ok, Err, ⊤}
+use Rattle.std.specs.Prelude.{◌≡◌, ◌≢◌, ℕ, ◌≤◌, ◌⊎◌, ◌↔◌, Bool, IsTrue, List, [], ◌∷◌, length, Option, Result, Ok, Err, ⊤}
 use Rattle.std.specs.Global.{Global}
 use Rattle.std.specs.Cow.{cow_slice_items}
 use Rattle.std.specs.declared.borrow.CowSlice.{CowSlice}
@@ -99,7 +99,8 @@ abbrev pub MatchedWhole : Kind → Kind → ℕ → List ℕ → List ℕ → Re
 MatchedWhole k l limit x y (Ok same) = IsSameItem k l limit x y same
 MatchedWhole k l limit x y (Err (compared.First why)) = IsNoItem (IsRefusedWhole k limit most_bytes x) k limit x why
 MatchedWhole k l limit x y (Err (compared.Second why)) = (length x ≤ most_bytes) × HoldsOne k limit x × IsNoItem (IsRefusedWhole l limit most_bytes y) l limit y why
-MatchedWhole k l limit x y (Err compared.OutOfMemory) = length x ≤ most_bytes
+MatchedWhole k l limit x y (Err compared.OutOfMemory) =
+    IsRefusedWhole k limit most_bytes x fault.OutOfMemory ⊎ (length x ≤ most_bytes) × HoldsOne k limit x × IsRefusedWhole l limit most_bytes y fault.OutOfMemory
 
 -- ---- of an input that is read
 

@@ -1,5 +1,5 @@
 -- What is answered for an input that is held whole.
-use Rattle.std.specs.Prelude.{◌≡◌, ◌≢◌, ℕ, ◌<◌, ◌≤◌, List, length, Result, Err}
+use Rattle.std.specs.Prelude.{◌≡◌, ◌≢◌, ℕ, ◌<◌, ◌≤◌, ◌⊎◌, List, length, Result, Err}
 use Rattle.cborn_model.specs.Value.{Value}
 use Rattle.cborn_wire.specs.declared.faults.WireFault.TheVariants as wire
 use Rattle.cborn_wire.specs.declared.faults.WireReason.{WireReason}
@@ -15,10 +15,15 @@ use Rattle.cborn_engine.specs.Loading.{IsNoFlaw}
 use Rattle.cborn_engine.specs.Refusing.{IsRefused}
 use Rattle.cborn_engine.specs.Showing.{IsUnshowable}
 
--- Why such an input is refused. There is no reader that fails, and its length is known, however much longer than allowed it is.
+-- it isn't bytes that aren't well-formed
+pub record HasNoFault (k : Kind) (limit : ℕ) (input : List ℕ) : Type 0 where
+  pub none : (p : ℕ) (r : WireReason) → k ≡ kind.Wire → Fault limit input p r → ⊥
+
+-- Why such an input is refused. There is no reader that fails, and its length is known, however much longer than allowed it is. Memory is refused for no bytes that aren't well-formed: these have their one fault.
 abbrev pub IsRefusedWhole : Kind → ℕ → ℕ → List ℕ → EngineFault → Type 0
 IsRefusedWhole k limit most input fault.TooLong = most < length input
 IsRefusedWhole k limit most input fault.ReadFault = ⊥
+IsRefusedWhole k limit most input fault.OutOfMemory = (length input ≤ most) × HasNoFault k limit input
 IsRefusedWhole k limit most input why = IsRefused k limit most input why
 
 -- why it isn't shown: it is refused, but not for what it means, or what it spells has no notation
@@ -26,12 +31,13 @@ abbrev pub IsUnshownWhole : Kind → Kind → ℕ → ℕ → List ℕ → Engin
 IsUnshownWhole k out limit most input (fault.Show why) = (length input ≤ most) × IsUnshowable k out limit input why
 IsUnshownWhole k out limit most input why = IsRefusedWhole k limit most input why × IsNoFlaw why
 
--- why two of them aren't compared: the first is refused, or it isn't, and the second is
+-- why two of them aren't compared: the first is refused, or it isn't, and the second is. Memory may be refused for either.
 abbrev pub AreRefusedWhole : Kind → Kind → ℕ → ℕ → List ℕ → List ℕ → CompareFault → Type 0
 AreRefusedWhole k l limit most x y (compared.First why) = IsRefusedWhole k limit most x why × (why ≢ fault.OutOfMemory)
 AreRefusedWhole k l limit most x y (compared.Second why) =
     (length x ≤ most) × ((items : List Value) × Holds k limit x items) × IsRefusedWhole l limit most y why × (why ≢ fault.OutOfMemory)
-AreRefusedWhole k l limit most x y compared.OutOfMemory = length x ≤ most
+AreRefusedWhole k l limit most x y compared.OutOfMemory =
+    IsRefusedWhole k limit most x fault.OutOfMemory ⊎ (length x ≤ most) × ((items : List Value) × Holds k limit x items) × IsRefusedWhole l limit most y fault.OutOfMemory
 
 -- Bytes that aren't well-formed are refused for their one fault, whatever memory there is.
 abbrev pub TellsFault : {A : Type 0} → Kind → ℕ → List ℕ → Result A EngineFault → Type 0

@@ -2,7 +2,9 @@
 ghost use Rattle.std.specs.Prelude.{◌≡◌, ◌≤◌, ◌*◌, length, IfOk};
 ghost use Rattle.std.specs.Cow.{cow_slice_items};
 ghost use Rattle.cborn_engine.specs.declared.kinds.Kind.TheVariants as kinds;
+ghost use Rattle.cborn_engine.specs.Canonical.{IsNormalForm};
 ghost use Rattle.cborn_engine.specs.OneItem.{OneAnswer, NormalisedWhole, ShownWhole, CheckedWhole, MatchedWhole};
+ghost use Rattle.cborn_engine.specs.Showing.{SpellSameBytes};
 
 use crate::kinds::Kind;
 use crate::one_faults::{CompareOneFault, OneFault};
@@ -24,6 +26,7 @@ pub fn normalise_one_slice<'a, O: KeyOrder>(
     input: &'a [u8],
 ) -> Result<CowSlice<'a, u8, Global>, OneFault>
     ensures normalised { OneAnswer in_kind limit input.now (NormalisedWhole O.order in_kind out_kind limit input.now) result }
+    ensures headline { IfOk result (λ output. IsNormalForm O.order in_kind out_kind limit input.now (cow_slice_items output)) }
     ensures room { IfOk result (λ output. in_kind ≡ kinds.Wire → out_kind ≡ kinds.Wire → 3 * length (cow_slice_items output) ≤ 4 * length input.now) }
 {
     let answer = normalise_slice::<O>(alloc, limit, in_kind, out_kind, input)?;
@@ -42,7 +45,8 @@ pub fn show_one_slice<'a>(
     out_kind: Kind,
     input: &'a [u8],
 ) -> Result<CowSlice<'a, u8, Global>, OneFault>
-    ensures { OneAnswer in_kind limit input.now (ShownWhole in_kind out_kind limit input.now) result }
+    ensures shown { OneAnswer in_kind limit input.now (ShownWhole in_kind out_kind limit input.now) result }
+    ensures same_bytes { IfOk result (λ output. SpellSameBytes in_kind out_kind limit input.now (cow_slice_items output)) }
 {
     let answer = show_slice(alloc, limit, in_kind, out_kind, input)?;
     expect_one(alloc, limit, in_kind, input)?;

@@ -1,12 +1,15 @@
 //! The calls over readers and writers, where each input has to hold exactly one item.
-ghost use Rattle.std.specs.Prelude.{◌≡◌, ◌≢◌, ◌≤◌, ◌⊎◌, ◌+◌, Err, IfErr, OnOk};
+ghost use Rattle.std.specs.Prelude.{◌≡◌, ◌≢◌, ◌≤◌, ◌⊎◌, ◌+◌, ℕ, List, Err, IfErr, OnOk};
+ghost use Rattle.std.specs.Io.KnownBytes.{Consumes, Appends};
 ghost use Rattle.cborn_engine.specs.declared.faults.EngineFault.TheVariants as fault;
 ghost use Rattle.cborn_engine.specs.declared.one_faults.OneFault.{OneFault};
 ghost use Rattle.cborn_engine.specs.declared.one_faults.OneFault.TheVariants as one;
 ghost use Rattle.cborn_engine.specs.declared.one_faults.CompareOneFault.TheVariants as compared;
+ghost use Rattle.cborn_engine.specs.Canonical.{IsNormalForm};
 ghost use Rattle.cborn_engine.specs.devices.OneItem.{ReadsOne, one_failures};
 ghost use Rattle.cborn_engine.specs.OneItem.{NormalisesOne, ShowsOne, ChecksOne, ComparesOne};
 ghost use Rattle.cborn_engine.specs.Reading.{most_bytes};
+ghost use Rattle.cborn_engine.specs.Showing.{SpellSameBytes};
 ghost use Rattle.cborn_streams.specs.Failures.{CountsFault};
 
 use crate::encodings::{encode_input, front_to_copy};
@@ -34,6 +37,7 @@ pub fn normalise_one<O: KeyOrder, R: Source, W: Sink>(
     writer: &mut W,
 ) -> Result<(), OneFault>
     ensures normalises { NormalisesOne O.order in_kind out_kind limit most_bytes (R.remaining reader.old) (R.remaining reader.new) (W.contents writer.old) (W.contents writer.new) result }
+    ensures headline { OnOk result ((input : List ℕ) × (output : List ℕ) × Consumes (R.remaining reader.old) (R.remaining reader.new) input × Appends (W.contents writer.old) (W.contents writer.new) output × IsNormalForm O.order in_kind out_kind limit input output) }
     ensures read_failures { CountsFault (one.Engine fault.ReadFault) result (R.failed reader.old) (R.failed reader.new) }
     ensures write_failures { CountsFault (one.Engine fault.WriteFault) result (W.failed writer.old) (W.failed writer.new) }
     ensures untouched { IfErr result (λ why. why ≢ one.Engine fault.WriteFault → writer.new ≡ writer.old) }
@@ -60,6 +64,7 @@ pub fn show_one<R: Source, W: Sink>(
     writer: &mut W,
 ) -> Result<(), OneFault>
     ensures shows { ShowsOne in_kind out_kind limit most_bytes (R.remaining reader.old) (R.remaining reader.new) (W.contents writer.old) (W.contents writer.new) result }
+    ensures same_bytes { OnOk result ((input : List ℕ) × (output : List ℕ) × Consumes (R.remaining reader.old) (R.remaining reader.new) input × Appends (W.contents writer.old) (W.contents writer.new) output × SpellSameBytes in_kind out_kind limit input output) }
     ensures read_failures { CountsFault (one.Engine fault.ReadFault) result (R.failed reader.old) (R.failed reader.new) }
     ensures write_failures { CountsFault (one.Engine fault.WriteFault) result (W.failed writer.old) (W.failed writer.new) }
     ensures untouched { IfErr result (λ why. why ≢ one.Engine fault.WriteFault → writer.new ≡ writer.old) }

@@ -157,7 +157,7 @@ fn with_command<'a>(
 
 fn named<'a>(alloc: Global) -> Command<'a> {
     Command::new(alloc, "cborn")
-        .version("0.5.0")
+        .version("0.6.0-dev")
         .about(help::PROGRAM)
         .after_long_help(help::PROGRAM_NOTES)
         .subcommand_required(true)

@@ -1,4 +1,4 @@
--- Sixteen characters at once: how many come before the first of a kind.
+-- A block of up to 64 characters at once: how many come before the first of a kind.
 use Rattle.std.proofs.Common.{◌≡◌, refl, sym, ap, ap₂, ◌∙◌, subst, ℕ, zero, suc, ◌+◌, ◌<◌, ◌≤◌, ◌^◌, ◌%◌, List, [], ◌∷◌, length, take, drop, get_or, map, replicate, Bool, true, false, not, cond, eqb, arith}
 use Rattle.std.proofs.lemmas.Bool.{and_parts, and_from, or_cases, eq-eqb, eqb-true, ne_eqb, cond-true, cond-false, false≢true}
 use Rattle.std.proofs.lemmas.List.{take-take, length-map}
@@ -12,11 +12,11 @@ use Rattle.cborn_lex.specs.Good.{TokensBetween}
 use Rattle.cborn_edn.proofs.Reader.CommonTokens.{nothing, join, white_here, begins_here}
 use lib.Count.{count_trailing_zeros}
 
--- the bit of each of sixteen, by what says it of one
-pub marked : (f : ℕ → ℕ → ℕ) (p : ℕ → Bool) (c : ℕ) (v : List ℕ) → ((d : ℕ) → top 7 (f d c) ≡ p d) → length v ≡ 16 → mask_l (map (top 7) (zip2 f v (replicate 16 c))) % 2 ^ 64 ≡ mask_l (map p v)
-marked f p c v each long =
-    ap (λ l. mask_l l % 2 ^ 64) (ap (map (top 7)) (zip2_splat f v 16 c long) ∙ map-map (top 7) (λ d. f d c) v ∙ lanes v)
-    ∙ mask_l-mod (map p v) 64 (omega (arith, length-map v p, long))
+-- the bit of each in a block, by what says it of one
+pub marked : (width : ℕ) → width ≤ 64 → (f : ℕ → ℕ → ℕ) (p : ℕ → Bool) (c : ℕ) (v : List ℕ) → ((d : ℕ) → top 7 (f d c) ≡ p d) → length v ≡ width → mask_l (map (top 7) (zip2 f v (replicate width c))) % 2 ^ 64 ≡ mask_l (map p v)
+marked width most f p c v each long =
+    ap (λ l. mask_l l % 2 ^ 64) (ap (map (top 7)) (zip2_splat f v width c long) ∙ map-map (top 7) (λ d. f d c) v ∙ lanes v)
+    ∙ mask_l-mod (map p v) 64 (omega (arith, length-map v p, long, most))
   where
     lanes : (v : List ℕ) → map (λ d. top 7 (f d c)) v ≡ map p v
     lanes [] = refl
@@ -36,31 +36,31 @@ before : (p : ℕ → Bool) (x : List ℕ) → list_all (λ d. not (p d)) (take 
 before p [] = refl
 before p (c ∷ x) = before_one p (p c) c (prefix_len (λ c. not (p c)) x) x refl (before p x)
 
-module _ (p : ℕ → Bool) (text : List ℕ) (at found : ℕ) (room : at + 16 ≤ length text) (e : found ≡ mask_l (map p (take 16 (drop at text)))) where
-  long : length (take 16 (drop at text)) ≡ 16
-  long = length-chunk at 16 text room
+module _ (width : ℕ) (most : width ≤ 64) (p : ℕ → Bool) (text : List ℕ) (at found : ℕ) (room : at + width ≤ length text) (e : found ≡ mask_l (map p (take width (drop at text)))) where
+  long : length (take width (drop at text)) ≡ width
+  long = length-chunk at width text room
 
-  counted : cond (eqb found 0) 16 (count_trailing_zeros 64 found) ≡ prefix_len (λ c. not (p c)) (take 16 (drop at text))
-  counted = ap (λ m. cond (eqb m 0) 16 (count_trailing_zeros 64 m)) e ∙ first_set_mask_l p (take 16 (drop at text)) 16 long (omega arith)
+  counted : cond (eqb found 0) width (count_trailing_zeros 64 found) ≡ prefix_len (λ c. not (p c)) (take width (drop at text))
+  counted = ap (λ m. cond (eqb m 0) width (count_trailing_zeros 64 m)) e ∙ first_set_mask_l p (take width (drop at text)) width long most
 
-  small : cond (eqb found 0) 16 (count_trailing_zeros 64 found) ≤ 16
-  small = omega (arith, counted, prefix_len-le-length (λ c. not (p c)) (take 16 (drop at text)), long)
+  small : cond (eqb found 0) width (count_trailing_zeros 64 found) ≤ width
+  small = omega (arith, counted, prefix_len-le-length (λ c. not (p c)) (take width (drop at text)), long)
 
-  none_before : list_all (λ d. not (p d)) (take (cond (eqb found 0) 16 (count_trailing_zeros 64 found)) (drop at text)) ≡ true
+  none_before : list_all (λ d. not (p d)) (take (cond (eqb found 0) width (count_trailing_zeros 64 found)) (drop at text)) ≡ true
   none_before =
-      ap (list_all (λ d. not (p d))) (sym (take-take _ 16 (drop at text) small) ∙ ap (λ n. take n (take 16 (drop at text))) counted) ∙ before p (take 16 (drop at text))
+      ap (list_all (λ d. not (p d))) (sym (take-take _ width (drop at text) small) ∙ ap (λ n. take n (take width (drop at text))) counted) ∙ before p (take width (drop at text))
 
-  -- LAW: none of the sixteen is marked
-  pub none_found : found ≡ 0 → list_all (λ d. not (p d)) (take 16 (drop at text)) ≡ true
-  none_found h = subst (λ (n : ℕ). list_all (λ d. not (p d)) (take n (drop at text)) ≡ true) (cond-true (eqb found 0) 16 (count_trailing_zeros 64 found) (eq-eqb found 0 h)) none_before
+  -- LAW: none of the block is marked
+  pub none_found : found ≡ 0 → list_all (λ d. not (p d)) (take width (drop at text)) ≡ true
+  none_found h = subst (λ (n : ℕ). list_all (λ d. not (p d)) (take n (drop at text)) ≡ true) (cond-true (eqb found 0) width (count_trailing_zeros 64 found) (eq-eqb found 0 h)) none_before
 
   -- LAW: those before the first that is marked
-  pub first_found : (found ≡ 0 → ⊥) → (count_trailing_zeros 64 found ≤ 16) × (list_all (λ d. not (p d)) (take (count_trailing_zeros 64 found) (drop at text)) ≡ true)
-  first_found h = subst (λ (n : ℕ). (n ≤ 16) × (list_all (λ d. not (p d)) (take n (drop at text)) ≡ true)) (cond-false (eqb found 0) 16 (count_trailing_zeros 64 found) (ne_eqb found 0 h)) (small, none_before)
+  pub first_found : (found ≡ 0 → ⊥) → (count_trailing_zeros 64 found ≤ width) × (list_all (λ d. not (p d)) (take (count_trailing_zeros 64 found) (drop at text)) ≡ true)
+  first_found h = subst (λ (n : ℕ). (n ≤ width) × (list_all (λ d. not (p d)) (take n (drop at text)) ≡ true)) (cond-false (eqb found 0) width (count_trailing_zeros 64 found) (ne_eqb found 0 h)) (small, none_before)
 
   -- LAW: the first that is marked
-  pub first_marked : (found ≡ 0 → ⊥) → count_trailing_zeros 64 found < 16 → p (get_or text (at + count_trailing_zeros 64 found) 0) ≡ true
-  first_marked h l = run_in_chunk_stops p text at 16 (count_trailing_zeros 64 found) 0 room (sym (cond-false (eqb found 0) 16 (count_trailing_zeros 64 found) (ne_eqb found 0 h)) ∙ counted) l
+  pub first_marked : (found ≡ 0 → ⊥) → count_trailing_zeros 64 found < width → p (get_or text (at + count_trailing_zeros 64 found) 0) ≡ true
+  first_marked h l = run_in_chunk_stops p text at width (count_trailing_zeros 64 found) 0 room (sym (cond-false (eqb found 0) width (count_trailing_zeros 64 found) (ne_eqb found 0 h)) ∙ counted) l
 
 -- LAW: spaces, one after another
 pub spaces_here : (profile : Profile) (text : List ℕ) (n at : ℕ) → at + n ≤ length text → list_all (λ d. not (is_not 32 d)) (take n (drop at text)) ≡ true → TokensBetween profile text at (at + n) []

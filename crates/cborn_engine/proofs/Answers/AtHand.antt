@@ -12,13 +12,15 @@ use Rattle.cborn_engine.specs.declared.faults.EngineFault.TheVariants as fault
 use Rattle.cborn_engine.specs.declared.kinds.Kind.{Kind}
 use Rattle.cborn_engine.specs.declared.kinds.Kind.TheVariants as kind
 use Rattle.cborn_engine.specs.Checking.{CheckAnswers}
+use Rattle.cborn_engine.specs.Faults.{of_first, of_second}
 use Rattle.cborn_engine.specs.devices.Encoding.{EncodeAnswers, IsEncoded, IsWrittenAs}
 use Rattle.cborn_engine.specs.Holding.{Holds}
 use Rattle.cborn_engine.specs.devices.Counting.{read_failures, read_failures_at}
 use Rattle.cborn_engine.specs.Reading.{most_bytes}
 use Rattle.cborn_engine.specs.Refusing.{IsRefused}
 use Rattle.cborn_engine.specs.Showing.{TellAnswers}
-use Rattle.cborn_engine.specs.Whole.{IsRefusedWhole, IsUnshownWhole}
+use Rattle.cborn_engine.specs.Whole.{IsRefusedWhole, IsUnshownWhole, AreRefusedWhole, TellsFault}
+use Rattle.cborn_engine.proofs.Answers.Malformed.{unreported}
 use Rattle.cborn_engine.proofs.Canonical.Canonicity.{own_bytes}
 
 -- ---- its length
@@ -29,26 +31,39 @@ short most input b e f = elim (cases_lt most (length input)) [ inl l ↦ absurd 
 -- ---- why it is refused
 
 -- no reader failed
-refused_whole : (k : Kind) (limit most : ℕ) (input : List ℕ) (why : EngineFault) → length input ≤ most → ((n : ℕ) → read_failures_at why n ≡ n) → IsRefused k limit most input why → IsRefusedWhole k limit most input why
-refused_whole k limit most input fault.ReadFault l f r = absurd (let e = f 0 in omega (arith, e))
-refused_whole k limit most input fault.TooLong l f r = absurd (omega (arith, l, r))
-refused_whole k limit most input _ l f r = r
+refused_whole : {A : Type 0} (k : Kind) (limit most : ℕ) (input : List ℕ) (why : EngineFault) → length input ≤ most → ((n : ℕ) → read_failures_at why n ≡ n) → TellsFault {A = A} k limit input (Err why) → IsRefused k limit most input why → IsRefusedWhole k limit most input why
+refused_whole k limit most input fault.ReadFault l f m r = absurd (let e = f 0 in omega (arith, e))
+refused_whole k limit most input fault.TooLong l f m r = absurd (omega (arith, l, r))
+refused_whole k limit most input fault.OutOfMemory l f m r = (r, unreported k limit input m)
+refused_whole k limit most input _ l f m r = r
 
-unshown_whole : (k out : Kind) (limit most : ℕ) (input : List ℕ) (why : EngineFault) → length input ≤ most → ((n : ℕ) → read_failures_at why n ≡ n) → TellAnswers k out limit most input (Err why) → IsUnshownWhole k out limit most input why
-unshown_whole k out limit most input fault.ReadFault l f r = absurd (let e = f 0 in omega (arith, e))
-unshown_whole k out limit most input fault.TooLong l f r = absurd (omega (arith, l, r.0))
-unshown_whole k out limit most input _ l f r = r
+unshown_whole : {A : Type 0} (k out : Kind) (limit most : ℕ) (input : List ℕ) (why : EngineFault) → length input ≤ most → ((n : ℕ) → read_failures_at why n ≡ n) → TellsFault {A = A} k limit input (Err why) → TellAnswers k out limit most input (Err why) → IsUnshownWhole k out limit most input why
+unshown_whole k out limit most input fault.ReadFault l f m r = absurd (let e = f 0 in omega (arith, e))
+unshown_whole k out limit most input fault.TooLong l f m r = absurd (omega (arith, l, r.0))
+unshown_whole k out limit most input fault.OutOfMemory l f m r = ((r.0, unreported k limit input m), r.1)
+unshown_whole k out limit most input _ l f m r = r
 
 module _ (limit most : ℕ) (input : List ℕ) (l : length input ≤ most) where
-  pub not_encoded : (order : List ℕ → List ℕ → Ordering) (k : Kind) (why : EngineFault) → (length input ≤ most → EncodeAnswers order k limit most input (Err why)) → ((n : ℕ) → read_failures_at why n ≡ n) → IsRefusedWhole k limit most input why
-  not_encoded order k why f n = refused_whole k limit most input why l n (f l)
+  pub not_encoded : {A : Type 0} (order : List ℕ → List ℕ → Ordering) (k : Kind) (why : EngineFault) → (length input ≤ most → EncodeAnswers order k limit most input (Err why)) → ((n : ℕ) → read_failures_at why n ≡ n) → TellsFault {A = A} k limit input (Err why) → IsRefusedWhole k limit most input why
+  not_encoded order k why f n m = refused_whole k limit most input why l n m (f l)
 
-  pub not_shown : (k out : Kind) (why : EngineFault) → (length input ≤ most → TellAnswers k out limit most input (Err why)) → ((n : ℕ) → read_failures_at why n ≡ n) → IsUnshownWhole k out limit most input why
-  not_shown k out why f n = unshown_whole k out limit most input why l n (f l)
+  pub not_shown : {A : Type 0} (k out : Kind) (why : EngineFault) → (length input ≤ most → TellAnswers k out limit most input (Err why)) → ((n : ℕ) → read_failures_at why n ≡ n) → TellsFault {A = A} k limit input (Err why) → IsUnshownWhole k out limit most input why
+  not_shown k out why f n m = unshown_whole k out limit most input why l n m (f l)
 
-  pub not_checked : (order : List ℕ → List ℕ → Ordering) (r : Result (Option Defect) EngineFault) → (length input ≤ most → CheckAnswers order limit most input r) → ((n : ℕ) → read_failures r n ≡ n) → IfErr r (IsRefusedWhole kind.Wire limit most input)
-  not_checked order (Ok d) f n = tt
-  not_checked order (Err why) f n = refused_whole kind.Wire limit most input why l n (f l)
+  pub not_checked : (order : List ℕ → List ℕ → Ordering) (r : Result (Option Defect) EngineFault) → (length input ≤ most → CheckAnswers order limit most input r) → ((n : ℕ) → read_failures r n ≡ n) → TellsFault kind.Wire limit input r → IfErr r (IsRefusedWhole kind.Wire limit most input)
+  not_checked order (Ok d) f n m = tt
+  not_checked order (Err why) f n m = refused_whole kind.Wire limit most input why l n m (f l)
+
+-- ---- why two of them aren't compared
+
+module _ (k l : Kind) (limit most : ℕ) (x y : List ℕ) where
+  pub first_refused : (why : EngineFault) → IsRefusedWhole k limit most x why → AreRefusedWhole k l limit most x y (of_first why)
+  first_refused fault.OutOfMemory h = inl h
+  first_refused _ h = (h, λ p. absurd cc)
+
+  pub second_refused : (why : EngineFault) → length x ≤ most → (vs : List Value) → Holds k limit x vs → IsRefusedWhole l limit most y why → AreRefusedWhole k l limit most x y (of_second why)
+  second_refused fault.OutOfMemory n vs held h = inr (n, (vs, held), h)
+  second_refused _ n vs held h = (n, (vs, held), h, λ p. absurd cc)
 
 -- what follows from a search that finds nothing
 pub none_found : {A : Type 0} (o : Option A) (b : Bool) (P : Type 0) (Q : A → Type 0) → is_some o ≡ not b → IsTrue b → MatchOption o P Q → P

@@ -21,7 +21,7 @@ use Rattle.cborn_engine.specs.Loading.{IsNoFlaw}
 use Rattle.cborn_engine.specs.Refusing.{IsRefused}
 use Rattle.cborn_engine.specs.Faults.{of_first}
 use Rattle.cborn_engine.specs.Holding.{Spells, Holds}
-use Rattle.cborn_engine.specs.Whole.{TellsFault, TellsFirstFault}
+use Rattle.cborn_engine.specs.Whole.{HasNoFault, TellsFault, TellsFirstFault}
 
 -- nothing is wrong with what spells nodes
 pub wellformed : {A : Type 0} (k : Kind) (limit : ℕ) (input : List ℕ) (ts : Trees) (result : Result A EngineFault) → (k ≡ kind.Wire → Wellformed limit ts input) → TellsFault k limit input result
@@ -63,6 +63,14 @@ handed k limit input why h p r e f = ap Err (error_of (h p r e f))
 -- what was answered was not malformed
 pub answered : {A B : Type 0} (k : Kind) (limit : ℕ) (input : List ℕ) (a : A) (result : Result B EngineFault) → TellsFault k limit input (Ok a) → TellsFault k limit input result
 answered k limit input a result h p r e f = absurd (let clash = h p r e f in cc)
+
+-- what spells nodes has no fault
+pub unfaulted : (k : Kind) (limit : ℕ) (input : List ℕ) (nodes : List Tree) → Spells k limit input nodes → HasNoFault k limit input
+unfaulted k limit input nodes s = record { none = λ p r e f. let clash = spelled {A = Unit {0}} k limit input nodes (Ok tt) s p r e f in cc }
+
+-- nor has that for which memory was refused
+pub unreported : {A : Type 0} (k : Kind) (limit : ℕ) (input : List ℕ) → TellsFault {A = A} k limit input (Err fault.OutOfMemory) → HasNoFault k limit input
+unreported k limit input h = record { none = λ p r e f. let clash = error_of (h p r e f) in cc }
 
 -- the same of the first of two inputs
 pub of_the_first : {A B : Type 0} (k : Kind) (limit : ℕ) (input : List ℕ) (why : EngineFault) (reported : CompareFault) → reported ≡ of_first why → TellsFault {A = A} k limit input (Err why) → TellsFirstFault {A = B} k limit input (Err reported)

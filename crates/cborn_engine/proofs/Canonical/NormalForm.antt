@@ -5,6 +5,7 @@ use Rattle.cborn_model.specs.Orders.{IsKeyOrder}
 use Rattle.cborn_engine.specs.declared.kinds.Kind.{Kind}
 use Rattle.cborn_engine.specs.Holding.{Canon}
 use Rattle.cborn_engine.specs.Canonical.{IsCanonical, Normalises, IsNormalForm}
+use Rattle.cborn_engine.specs.OneItem.{NormalisesOne}
 use Rattle.cborn_engine.specs.Reading.{most_bytes}
 use Rattle.cborn_engine.proofs.Canonical.Canonicity.{reads_back, alone, one_for_same, own_form, again}
 use Rattle.cborn_engine.proofs.Held.Meant.{all_turned}
@@ -25,3 +26,7 @@ module _ (order : List ℕ → List ℕ → Ordering) (laws : IsKeyOrder order) 
   -- of what was read and written
   pub written_form : (before after sent sent_after : Option (List ℕ)) (u : Unit) → Normalises order k out limit most_bytes before after sent sent_after (Ok u) → (input : List ℕ) × (output : List ℕ) × Consumes before after input × Appends sent sent_after output × IsNormalForm order k out limit input output
   written_form before after sent sent_after u h = (h.input, h.output, h.taken, h.given, normal_form h.input h.output h.answer.0 h.answer.1)
+
+  -- of one item
+  pub one_form : (before after sent sent_after : Option (List ℕ)) (u : Unit) → NormalisesOne order k out limit most_bytes before after sent sent_after (Ok u) → (input : List ℕ) × (output : List ℕ) × Consumes before after input × Appends sent sent_after output × IsNormalForm order k out limit input output
+  one_form before after sent sent_after u h = (h.input, h.output, h.taken, h.given, normal_form h.input h.output h.answer.0.0 h.answer.0.1)

@@ -5,6 +5,7 @@ use Rattle.cborn_model.specs.Tree.{trees}
 use Rattle.cborn_model.specs.Spelled.{Wellformed, spelled_all}
 use Rattle.cborn_engine.specs.declared.kinds.Kind.{Kind}
 use Rattle.cborn_engine.specs.Showing.{IsShown, Shows, SpellSameBytes}
+use Rattle.cborn_engine.specs.OneItem.{ShowsOne}
 use Rattle.cborn_engine.specs.Reading.{most_bytes}
 use Rattle.cborn_engine.proofs.Canonical.Canonicity.{spelled_fits}
 use Rattle.cborn_engine.proofs.Held.ShownBack.{shown_as_bytes}
@@ -24,3 +25,7 @@ module _ (k out : Kind) (limit : ℕ) where
   -- of what was read and written
   pub written_bytes : (before after sent sent_after : Option (List ℕ)) (u : Unit) → Shows k out limit most_bytes before after sent sent_after (Ok u) → (input : List ℕ) × (output : List ℕ) × Consumes before after input × Appends sent sent_after output × SpellSameBytes k out limit input output
   written_bytes before after sent sent_after u h = (h.input, h.output, h.taken, h.given, same_bytes h.input h.output h.answer.0 h.answer.1)
+
+  -- of one item
+  pub one_written : (before after sent sent_after : Option (List ℕ)) (u : Unit) → ShowsOne k out limit most_bytes before after sent sent_after (Ok u) → (input : List ℕ) × (output : List ℕ) × Consumes before after input × Appends sent sent_after output × SpellSameBytes k out limit input output
+  one_written before after sent sent_after u h = (h.input, h.output, h.taken, h.given, same_bytes h.input h.output h.answer.0.0 h.answer.0.1)

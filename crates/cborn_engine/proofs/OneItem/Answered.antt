@@ -70,13 +70,13 @@ holds_one k limit x vs h (t, s) =
 
 module _ (order : List ℕ → List ℕ → Ordering) (k l : Kind) (limit : ℕ) (x y : List ℕ) where
   pub first_refused : (why : OneFault) → OneAnswer k limit x (NormalisedWhole order k kind.Wire limit x) (Err why) → MatchedWhole k l limit x y (Err (of_first_one why))
-  first_refused (one.Engine fault.OutOfMemory) h = h
+  first_refused (one.Engine fault.OutOfMemory) h = inl h
   first_refused (one.Engine _) h = (h, λ p. absurd cc)
   first_refused (one.NoItem p) h = (h.0.1.0, (h.0.1.1.items, h.0.1.1.held), h.1)
   first_refused (one.MoreItems p) h = (h.0.1.0, (h.0.1.1.items, h.0.1.1.held), h.1)
 
   pub second_refused : (why : OneFault) → length x ≤ most_bytes → HoldsOne k limit x → OneAnswer l limit y (NormalisedWhole order l kind.Wire limit y) (Err why) → MatchedWhole k l limit x y (Err (of_second_one why))
-  second_refused (one.Engine fault.OutOfMemory) n held h = n
+  second_refused (one.Engine fault.OutOfMemory) n held h = inr (n, held, h)
   second_refused (one.Engine _) n held h = (n, held, (h, λ p. absurd cc))
   second_refused (one.NoItem p) n held h = (n, held, (h.0.1.0, (h.0.1.1.items, h.0.1.1.held), h.1))
   second_refused (one.MoreItems p) n held h = (n, held, (h.0.1.0, (h.0.1.1.items, h.0.1.1.held), h.1))
@@ -87,6 +87,7 @@ module _ (order : List ℕ → List ℕ → Ordering) (k l : Kind) (limit : ℕ)
 pub read_refused : (k : Kind) (limit most : ℕ) (x : List ℕ) (why : EngineFault) → length x ≤ most → IsRefusedWhole k limit most x why → IsRefused k limit most x why
 read_refused k limit most x fault.TooLong l h = absurd (omega (arith, l, h))
 read_refused k limit most x fault.ReadFault l h = absurd h
+read_refused k limit most x fault.OutOfMemory l h = h.0
 read_refused k limit most x _ l h = h
 
 -- the reader failed, or didn't
@@ -183,6 +184,7 @@ module _ (order : List ℕ → List ℕ → Ordering) (k out : Kind) (limit : �
         refused fault.ReadFault r = absurd r.0
         refused fault.WriteFault r = absurd r.0
         refused (fault.Invalid w) r = absurd r.1
+        refused fault.OutOfMemory r = (r.0.0, r.1, refl)
         refused _ r = (r.0, r.1, refl)
 
         answer : (why : OneFault) → OneAnswer k limit h.input (ShownWhole k out limit h.input) (Err why)

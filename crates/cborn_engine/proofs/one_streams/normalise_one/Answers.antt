@@ -5,6 +5,7 @@ use Rattle.cborn_engine.specs.declared.one_faults.OneFault.TheVariants as one
 use Rattle.cborn_engine.specs.OneItem.{NormalisesOne, NormalisedWhole}
 use Rattle.cborn_engine.specs.Reading.{most_bytes}
 use Rattle.cborn_engine.proofs.Answers.KnownErrors.{known_error}
+use Rattle.cborn_engine.proofs.Canonical.NormalForm.{one_form}
 use Rattle.cborn_engine.proofs.OneItem.Answered.{unread_normalised, unsent_normalised, sent_normalised, refused_quiet, one_quiet, quiet_counted, input_counted, input_kept, sent_counted, sent_unread}
 use Rattle.cborn_engine.proofs.one_streams.normalise_one.Goals as goal
 
@@ -37,6 +38,9 @@ returns-in_err-answer-clause-write_failures g c =
 pub returns-clause-normalises : goal.returns-clause-normalises
 returns-clause-normalises g c =
     sent_normalised g.O.KeyOrder.order c.args.in_kind c.args.out_kind c.args.limit _ _ _ c.in_ok-input.input c.deref.result.now c.in_ok-input.ensures.collects c.deref.ensures.value _ c.in_ok-answer.answer c.deref-2.result.now (Ok tt) c.deref-2.ensures.value c.in_ok-write_answer.ensures.writes c.in_ok-answer.ensures.normalised
+
+pub returns-clause-headline : goal.returns-clause-headline
+returns-clause-headline g c = one_form g.O.KeyOrder.order g.met.O.KeyOrder.laws c.args.in_kind c.args.out_kind c.args.limit _ _ _ _ _ (returns-clause-normalises g c)
 
 pub returns-in_err-write_answer-clause-normalises : goal.returns-in_err-write_answer-clause-normalises
 returns-in_err-write_answer-clause-normalises g c =

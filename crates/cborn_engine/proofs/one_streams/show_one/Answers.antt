@@ -6,6 +6,7 @@ use Rattle.cborn_engine.specs.declared.one_faults.OneFault.TheVariants as one
 use Rattle.cborn_engine.specs.OneItem.{ShowsOne, ShownWhole}
 use Rattle.cborn_engine.specs.Reading.{most_bytes}
 use Rattle.cborn_engine.proofs.Answers.KnownErrors.{known_error}
+use Rattle.cborn_engine.proofs.Held.SameBytes.{one_written}
 use Rattle.cborn_engine.proofs.OneItem.Answered.{unread_shown, unsent_shown, sent_shown, unshown_quiet, one_quiet, quiet_counted, input_counted, input_kept, sent_counted, sent_unread}
 use Rattle.cborn_engine.proofs.one_streams.show_one.Goals as goal
 
@@ -23,26 +24,29 @@ returns-in_err-input-clause-write_failures g c = known_error (λ r. CountsFault 
 pub returns-in_err-answer-clause-shows : goal.returns-in_err-answer-clause-shows
 returns-in_err-answer-clause-shows g c =
     known_error (ShowsOne c.args.in_kind c.args.out_kind c.args.limit most_bytes _ _ _ _) _ _ c.from_residual-in_err-answer.ensures.1
-    (unsent_shown bytewise c.args.in_kind c.args.out_kind c.args.limit _ _ _ c.in_ok-input.input c.deref.result.now c.in_ok-input.ensures.collects c.deref.ensures.value c.in_err-answer.field-0.0 c.in_err-answer.ensures)
+    (unsent_shown bytewise c.args.in_kind c.args.out_kind c.args.limit _ _ _ c.in_ok-input.input c.deref.result.now c.in_ok-input.ensures.collects c.deref.ensures.value c.in_err-answer.field-0.0 c.in_err-answer.ensures.shown)
 
 pub returns-in_err-answer-clause-read_failures : goal.returns-in_err-answer-clause-read_failures
 returns-in_err-answer-clause-read_failures g c =
-    let q = one_quiet c.args.in_kind c.args.limit c.deref.result.now (ShownWhole c.args.in_kind c.args.out_kind c.args.limit c.deref.result.now) c.in_err-answer.field-0.0 (unshown_quiet c.args.in_kind c.args.out_kind c.args.limit most_bytes c.deref.result.now) c.in_err-answer.ensures in
+    let q = one_quiet c.args.in_kind c.args.limit c.deref.result.now (ShownWhole c.args.in_kind c.args.out_kind c.args.limit c.deref.result.now) c.in_err-answer.field-0.0 (unshown_quiet c.args.in_kind c.args.out_kind c.args.limit most_bytes c.deref.result.now) c.in_err-answer.ensures.shown in
     known_error (λ r. CountsFault (one.Engine fault.ReadFault) r (g.R.Source.failed c.args.reader.now) (g.R.Source.failed c.read_bytes.new.reader)) _ _ c.from_residual-in_err-answer.ensures.1 (quiet_counted (one.Engine fault.ReadFault) c.in_err-answer.field-0.0 _ _ q.0 c.in_ok-input.ensures.failures)
 
 pub returns-in_err-answer-clause-write_failures : goal.returns-in_err-answer-clause-write_failures
 returns-in_err-answer-clause-write_failures g c =
-    let q = one_quiet c.args.in_kind c.args.limit c.deref.result.now (ShownWhole c.args.in_kind c.args.out_kind c.args.limit c.deref.result.now) c.in_err-answer.field-0.0 (unshown_quiet c.args.in_kind c.args.out_kind c.args.limit most_bytes c.deref.result.now) c.in_err-answer.ensures in
+    let q = one_quiet c.args.in_kind c.args.limit c.deref.result.now (ShownWhole c.args.in_kind c.args.out_kind c.args.limit c.deref.result.now) c.in_err-answer.field-0.0 (unshown_quiet c.args.in_kind c.args.out_kind c.args.limit most_bytes c.deref.result.now) c.in_err-answer.ensures.shown in
     known_error (λ r. CountsFault (one.Engine fault.WriteFault) r (g.W.Sink.failed c.args.writer.now) (g.W.Sink.failed c.args.writer.now)) _ _ c.from_residual-in_err-answer.ensures.1 (quiet_counted (one.Engine fault.WriteFault) c.in_err-answer.field-0.0 _ _ q.1 refl)
 
 pub returns-clause-shows : goal.returns-clause-shows
 returns-clause-shows g c =
-    sent_shown bytewise c.args.in_kind c.args.out_kind c.args.limit _ _ _ c.in_ok-input.input c.deref.result.now c.in_ok-input.ensures.collects c.deref.ensures.value _ c.in_ok-answer.answer c.deref-2.result.now (Ok tt) c.deref-2.ensures.value c.in_ok-write_answer.ensures.writes c.in_ok-answer.ensures
+    sent_shown bytewise c.args.in_kind c.args.out_kind c.args.limit _ _ _ c.in_ok-input.input c.deref.result.now c.in_ok-input.ensures.collects c.deref.ensures.value _ c.in_ok-answer.answer c.deref-2.result.now (Ok tt) c.deref-2.ensures.value c.in_ok-write_answer.ensures.writes c.in_ok-answer.ensures.shown
+
+pub returns-clause-same_bytes : goal.returns-clause-same_bytes
+returns-clause-same_bytes g c = one_written c.args.in_kind c.args.out_kind c.args.limit _ _ _ _ _ (returns-clause-shows g c)
 
 pub returns-in_err-write_answer-clause-shows : goal.returns-in_err-write_answer-clause-shows
 returns-in_err-write_answer-clause-shows g c =
     known_error (ShowsOne c.args.in_kind c.args.out_kind c.args.limit most_bytes _ _ _ _) _ _ c.from_residual-in_err-write_answer.ensures.1
-    (sent_shown bytewise c.args.in_kind c.args.out_kind c.args.limit _ _ _ c.in_ok-input.input c.deref.result.now c.in_ok-input.ensures.collects c.deref.ensures.value _ c.in_ok-answer.answer c.deref-2.result.now (Err c.in_err-write_answer.field-0.0) c.deref-2.ensures.value c.in_err-write_answer.ensures.writes c.in_ok-answer.ensures)
+    (sent_shown bytewise c.args.in_kind c.args.out_kind c.args.limit _ _ _ c.in_ok-input.input c.deref.result.now c.in_ok-input.ensures.collects c.deref.ensures.value _ c.in_ok-answer.answer c.deref-2.result.now (Err c.in_err-write_answer.field-0.0) c.deref-2.ensures.value c.in_err-write_answer.ensures.writes c.in_ok-answer.ensures.shown)
 
 pub returns-in_err-write_answer-clause-read_failures : goal.returns-in_err-write_answer-clause-read_failures
 returns-in_err-write_answer-clause-read_failures g c = known_error (λ r. CountsFault (one.Engine fault.ReadFault) r (g.R.Source.failed c.args.reader.now) (g.R.Source.failed c.read_bytes.new.reader)) _ _ c.from_residual-in_err-write_answer.ensures.1 (sent_unread (Err c.in_err-write_answer.field-0.0) _ _ c.in_ok-input.ensures.failures)

@@ -13,7 +13,7 @@ returns-in_err-encode_input-in-Some-clause-refused g c =
     let l = short most_bytes c.args.input.now c.is_too_long.result c.is_too_long.ensures c.if-is_too_long.false in
     let e = c.in_err-encode_input-in-Some in
     known_error (λ r. IfErr r (IsRefusedWhole c.args.kind c.args.limit most_bytes c.args.input.now)) _ _ c.from_residual.ensures.1
-    (not_encoded c.args.limit most_bytes c.args.input.now l g.O.KeyOrder.order c.args.kind e.field-0.0 e.ensures.answers e.ensures.failures)
+    (not_encoded c.args.limit most_bytes c.args.input.now l g.O.KeyOrder.order c.args.kind e.field-0.0 e.ensures.answers e.ensures.failures (e.ensures.malformed l))
 
 pub returns-in-None-clause-malformed : goal.returns-in-None-clause-malformed
 returns-in-None-clause-malformed g c l =

@@ -1,7 +1,9 @@
+use Rattle.std.specs.Prelude.{IfErr}
 use Rattle.std.specs.Cow.{cow_slice_items}
 use Rattle.cborn_engine.proofs.Answers.AtHand.{held, room}
-use Rattle.cborn_engine.specs.Whole.{TellsFault}
-use Rattle.cborn_engine.proofs.Answers.Malformed.{handed, answered}
+use Rattle.cborn_engine.specs.Reading.{most_bytes}
+use Rattle.cborn_engine.specs.Whole.{IsRefusedWhole, TellsFault}
+use Rattle.cborn_engine.proofs.Answers.Malformed.{handed, answered, unfaulted}
 use Rattle.cborn_engine.proofs.Answers.KnownErrors.{known_error}
 use Rattle.cborn_engine.proofs.Canonical.Canonicity.{canon_of}
 use Rattle.cborn_engine.proofs.Canonical.OfBytes.{encoded_bytes}
@@ -16,6 +18,12 @@ written_as-requires g c =
 pub returns-clause-room : goal.returns-clause-room
 returns-clause-room g c =
     room g.O.KeyOrder.order c.args.in_kind c.args.out_kind c.args.limit c.args.input.now (cow_slice_items c.in_ok-bytes.bytes) (cow_slice_items c.in_ok-written_as.field-0) c.in_ok-bytes.ensures.encoded.1 c.in_ok-written_as.ensures
+
+pub returns-in_err-written_as-clause-refused : goal.returns-in_err-written_as-clause-refused
+returns-in_err-written_as-clause-refused g c =
+    let e = c.in_ok-bytes.ensures.encoded in
+    known_error (λ r. IfErr r (IsRefusedWhole c.args.in_kind c.args.limit most_bytes c.args.input.now)) _ _ c.from_residual-in_err-written_as.ensures.1
+    (e.0, unfaulted c.args.in_kind c.args.limit c.args.input.now e.1.held.nodes e.1.held.spelled)
 
 pub returns-in_err-bytes-clause-malformed : goal.returns-in_err-bytes-clause-malformed
 returns-in_err-bytes-clause-malformed g c l =

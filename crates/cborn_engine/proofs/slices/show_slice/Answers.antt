@@ -13,7 +13,7 @@ returns-in_err-show_input-clause-refused c =
     let l = short most_bytes c.args.input.now c.is_too_long.result c.is_too_long.ensures c.if-is_too_long.false in
     let e = c.in_err-show_input in
     known_error (λ r. IfErr r (IsUnshownWhole c.args.in_kind c.args.out_kind c.args.limit most_bytes c.args.input.now)) _ _ c.from_residual.ensures.1
-    (not_shown c.args.limit most_bytes c.args.input.now l c.args.in_kind c.args.out_kind e.field-0.0 e.ensures.answers e.ensures.failures)
+    (not_shown c.args.limit most_bytes c.args.input.now l c.args.in_kind c.args.out_kind e.field-0.0 e.ensures.answers e.ensures.failures (e.ensures.malformed l))
 
 pub returns-then-is_own_spelling-clause-malformed : goal.returns-then-is_own_spelling-clause-malformed
 returns-then-is_own_spelling-clause-malformed c l = let s = c.is_own_spelling.ensures.own c.if-is_own_spelling.true in spelled c.args.in_kind c.args.limit c.args.input.now s.nodes _ s.spelled
