@@ -15,11 +15,11 @@ use Rattle.cborn_engine.specs.Loading.{IsNoFlaw}
 use Rattle.cborn_engine.specs.Refusing.{IsRefused}
 use Rattle.cborn_engine.specs.Showing.{IsUnshowable}
 
--- it isn't bytes that aren't well-formed
+-- it is a text, or bytes without a fault (RFC 8949 section 3)
 pub record HasNoFault (k : Kind) (limit : ℕ) (input : List ℕ) : Type 0 where
   pub none : (p : ℕ) (r : WireReason) → k ≡ kind.Wire → Fault limit input p r → ⊥
 
--- Why such an input is refused. There is no reader that fails, and its length is known, however much longer than allowed it is. Memory is refused for no bytes that aren't well-formed: these have their one fault.
+-- Why such an input is refused. There is no reader that fails, and its length is known, however much longer than allowed it is. Out of memory is never the answer for bytes with a fault.
 abbrev pub IsRefusedWhole : Kind → ℕ → ℕ → List ℕ → EngineFault → Type 0
 IsRefusedWhole k limit most input fault.TooLong = most < length input
 IsRefusedWhole k limit most input fault.ReadFault = ⊥
@@ -31,7 +31,7 @@ abbrev pub IsUnshownWhole : Kind → Kind → ℕ → ℕ → List ℕ → Engin
 IsUnshownWhole k out limit most input (fault.Show why) = (length input ≤ most) × IsUnshowable k out limit input why
 IsUnshownWhole k out limit most input why = IsRefusedWhole k limit most input why × IsNoFlaw why
 
--- why two of them aren't compared: the first is refused, or it isn't, and the second is. Memory may be refused for either.
+-- why two of them aren't compared: the first is refused, or it isn't, and the second is. Memory may be refused for either: for the second only where the first holds items.
 abbrev pub AreRefusedWhole : Kind → Kind → ℕ → ℕ → List ℕ → List ℕ → CompareFault → Type 0
 AreRefusedWhole k l limit most x y (compared.First why) = IsRefusedWhole k limit most x why × (why ≢ fault.OutOfMemory)
 AreRefusedWhole k l limit most x y (compared.Second why) =
