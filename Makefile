@@ -11,13 +11,14 @@ STACK ?= 256
 # The size in MB of the inputs whose cost in memory is tested.
 COST ?= 8
 
-.PHONY: help try build test check-quick layout tables vectors ample explanations growths failures counts cost instructions inlined left-out believed stack big library-growths built-tests bench install clean
+.PHONY: help try build test check-quick wrong-bodies layout tables vectors ample explanations growths failures counts cost instructions inlined left-out believed stack big library-growths built-tests bench install clean
 
 help:
 	@echo 'make try        build the program from its source, before any proof and not optimised, and run it: ARGS="check FILE", or seven bytes'
 	@echo 'make build      prove every crate and build the program, $(PROGRAM)'
 	@echo 'make test       the merge gate from nothing, then side by side make $(AFTER), and which of it was left out'
 	@echo 'make check-quick   while you change something: proves what changed, then make layout, tables and believed'
+	@echo 'make wrong-bodies   the must-fail edits that rt ci does not try, many in one check: the prover refuses each'
 	@echo 'make try-tests  make try on its seven bytes, on files, on standard input and on a wrong option: one build, of a minute'
 	@echo 'make layout     whether each file of the crates is in the layout of rt fmt, cites what it may, makes up no out of memory, has no'
 	@echo '                new function of many arguments and keeps to the glossary, docs/PROMISES.md and the table of worked inputs are'
@@ -79,7 +80,7 @@ build: kit
 
 # What follows the gate: side by side, over the program and the tests that were built once before, while the library is proved
 # and built. First what keeps one processor busy for long, then what takes them all, the longest first.
-AFTER := library-tests dist-tests try-tests failures growths library-growths instructions vectors cost ample tables believed layout stack counts explanations
+AFTER := wrong-bodies library-tests dist-tests try-tests failures growths library-growths instructions vectors cost ample tables believed layout stack counts explanations
 
 test:
 	rt ci
@@ -92,6 +93,9 @@ test:
 check-quick:
 	rt all check
 	$(MAKE) layout tables believed
+
+wrong-bodies: build
+	python3 tests/must_fail.py --together
 
 layout:
 	@find crates -name out -prune -o \( -name '*.rt' -o -name '*.antt' \) -print0 | xargs -0 '$(dir $(shell rt doc))bin/rattle' fmt --check

@@ -2,11 +2,12 @@
 """Try must-fail edits many in one check: the prover has to refuse each, in the very function that it turns.
 
     must_fail.py [CRATE ..]    those of these crates, or of all
+    must_fail.py --together    of all crates those that `rt ci` doesn't try
 
-This is the quick trial, for while you change something; `rt ci` tries each edit by itself. An edit is a file
-crates/CRATE/must-fail/NAME.edit: a line 'fn: ' with the function that it turns, as `rt check` names it (`rt ci` passes over that
-line), then a line 'file: ' with a file of the crate and pairs of lines 'old: ' and 'new: ', each old text standing once in that
-file. The libraries below a crate have to be proved and built (`make build`).
+`rt ci` tries each edit of crates/CRATE/must-fail by itself, after one more proof of the crate. Those of crates/CRATE/must-fail-together
+are tried here alone. An edit is a file NAME.edit: a line 'fn: ' with the function that it turns, as `rt check` names it (`rt ci`
+passes over that line), then a line 'file: ' with a file of the crate and pairs of lines 'old: ' and 'new: ', each old text standing
+once in that file. The libraries below a crate have to be proved and built (`make build`).
 
 The proof of a function rests on its own body and on what the functions that it calls promise, and never on their bodies. So
 many are turned at once, in a copy of the crate: one of each function, and one of each cycle of calls, whose functions are
@@ -30,6 +31,8 @@ import shared
 
 ROOT = pathlib.Path(__file__).resolve().parent.parent
 PARTS = ("src", "specs", "proofs")
+# the folders of a crate's edits: those that rt ci tries, and those that it doesn't
+ALONE, TOGETHER = "must-fail", "must-fail-together"
 FUNCTION = re.compile(r'^( *)(?:pub(?:\(\w+\))? )?(?:const )?(?:extern "C" )?fn (\w+)', re.M)
 CYCLE = re.compile(r"#\[cycle\((\w+)\)\]")
 VERDICT = re.compile(r"^fn (\S+): (.*)$", re.M)
@@ -196,10 +199,10 @@ def tried(crate, folder, bodies):
     return wrong, checks
 
 
-def of_crate(crate):
-    """How many wrong bodies a crate has, in how many checks they were tried, and what is wrong."""
+def of_crate(crate, folders):
+    """How many wrong bodies a crate has in these folders, in how many checks they were tried, and what is wrong."""
     folder = ROOT / "crates" / crate
-    bodies = [read(path, folder) for path in sorted(folder.glob("must-fail/*.edit"))]
+    bodies = [read(path, folder) for it in folders for path in sorted(folder.glob(f"{it}/*.edit"))]
     with tempfile.TemporaryDirectory(prefix="must-fail-") as room:
         wrong, checks = tried(crate, copy(crate, pathlib.Path(room)), bodies)
     print(f"{crate}: {len(bodies)} must-fail edits, in {checks} checks", flush=True)
@@ -209,14 +212,17 @@ def of_crate(crate):
 def main():
     given = argparse.ArgumentParser(description=__doc__.splitlines()[0])
     given.add_argument("crates", metavar="CRATE", nargs="*")
+    given.add_argument("--together", action="store_true", help="only those that rt ci doesn't try")
     words = given.parse_args()
+    folders = (TOGETHER,) if words.together else (ALONE, TOGETHER)
     # those that take longest first
     size = lambda crate: sum(it.stat().st_size for part in PARTS for it in (ROOT / "crates" / crate / part).rglob("*.*t"))
-    crates = sorted(words.crates or {it.parent.parent.name for it in ROOT.glob("crates/*/must-fail/*.edit")}, key=size, reverse=True)
+    edits = [path for folder in folders for path in ROOT.glob(f"crates/*/{folder}/*.edit")]
+    crates = sorted(words.crates or {it.parent.parent.name for it in edits}, key=size, reverse=True)
     try:
         # threads do: what takes time are the checks, each a process
         with concurrent.futures.ThreadPoolExecutor(len(os.sched_getaffinity(0))) as pool:
-            counts, checks, wrong = zip(*pool.map(of_crate, crates))
+            counts, checks, wrong = zip(*pool.map(lambda crate: of_crate(crate, folders), crates))
     except Unfit as why:
         print(why)
         return 1
