@@ -1,13 +1,15 @@
 -- Letters between quotes: runs of plain ones, and escapes.
-use Rattle.std.proofs.Common.{◌≡◌, refl, sym, ap, ap₂, ◌∙◌, subst, ℕ, zero, suc, ◌+◌, ◌-◌, ◌<◌, ◌≤◌, ◌^◌, ◌%◌, List, [], ◌∷◌, ◌++◌, length, take, drop, get_or, map, replicate, Bool, true, false, ◌&&◌, ◌||◌, not, cond, eqb, leb, ltb, ◌⊎◌, inl, inr, Option, Some, None, arith, append-nil, append_assoc, encode_utf8}
+use Rattle.std.proofs.Common.{◌≡◌, refl, sym, ap, ap₂, ◌∙◌, subst, ℕ, zero, suc, ◌+◌, ◌-◌, ◌*◌, ◌/◌, ◌<◌, ◌≤◌, ◌^◌, ◌%◌, List, [], ◌∷◌, ◌++◌, length, take, drop, get_or, map, replicate, Bool, true, false, ◌&&◌, ◌||◌, not, cond, eqb, leb, ltb, ◌⊎◌, inl, inr, Option, Some, None, arith, append-nil, append_assoc, encode_utf8}
 use Rattle.std.proofs.lemmas.Bool.{and_parts, and_from, or_cases, eq-eqb, eqb-true, ne_eqb, cond-true, cond-false, not-true, false≢true, lt-ltb, le-leb, cases_lt}
 use Rattle.std.proofs.lemmas.Bool.Decides.{leb_tells}
 use Rattle.std.proofs.lemmas.List.Sums.{prefix_len-le-length}
-use Rattle.std.proofs.lemmas.List.{take-take, length-take, length-map, drop_more, take-append-drop, length-append, length-drop}
+use Rattle.std.proofs.lemmas.List.{take-take, length-take, length-map, drop_more, take-append-drop, length-append, length-drop, drop-map, drop-drop, take_rest}
+use Rattle.std.proofs.lemmas.Nat.{shr-shr, shr_high}
+use Rattle.std.proofs.Math.Nat.{zero-div}
 use Rattle.std.proofs.lemmas.List.Folds.{list_all-append}
 use Rattle.std.proofs.lemmas.List.Concat.{flat_map-append}
 use Rattle.std.proofs.lemmas.Simd.{zip2_splat, zip2_of_maps, map-map, mask_l-mod, first_set_mask_l, length-chunk, run_in_chunk_stops}
-use Rattle.std.proofs.Math.Seq.{take-add, take-append-add}
+use Rattle.std.proofs.Math.Seq.{take-add, take-append-add, take-nil}
 use Rattle.std.specs.List.{list_all, flat_map, prefix_len}
 use Rattle.std.specs.Char.{is_digit}
 use Rattle.std.specs.Simd.Lanes.{zip2, mask_l, top}
@@ -53,15 +55,15 @@ lanes : (q : ℕ) (v : List ℕ) → map (λ c. top 7 (bit_or (bit_or (hit c q) 
 lanes q [] = refl
 lanes q (c ∷ v) = ap₂ (λ b bs. b ∷ bs) (lane q c) (lanes q v)
 
-pub marked_lanes : (q : ℕ) (v : List ℕ) → length v ≡ 16 → mask_l (map (top 7) (zip2 bit_or (zip2 bit_or (zip2 hit v (replicate 16 q)) (zip2 hit v (replicate 16 92))) (zip2 below v (replicate 16 32)))) % 2 ^ 64 ≡ mask_l (map (is_special q) v)
-marked_lanes q v long =
-    let quotes = zip2_splat hit v 16 q long in
-    let slashes = zip2_splat hit v 16 92 long in
-    let controls = zip2_splat below v 16 32 long in
+pub marked_lanes : (width q : ℕ) (v : List ℕ) → width ≤ 64 → length v ≡ width → mask_l (map (top 7) (zip2 bit_or (zip2 bit_or (zip2 hit v (replicate width q)) (zip2 hit v (replicate width 92))) (zip2 below v (replicate width 32)))) % 2 ^ 64 ≡ mask_l (map (is_special q) v)
+marked_lanes width q v most long =
+    let quotes = zip2_splat hit v width q long in
+    let slashes = zip2_splat hit v width 92 long in
+    let controls = zip2_splat below v width 32 long in
     let two = zip2_of_maps bit_or (λ c. hit c q) (λ c. hit c 92) v quotes slashes in
     let all = zip2_of_maps bit_or (λ c. bit_or (hit c q) (hit c 92)) (λ c. below c 32) v two controls in
     ap (λ l. mask_l l % 2 ^ 64) (ap (map (top 7)) all ∙ map-map (top 7) (λ c. bit_or (bit_or (hit c q) (hit c 92)) (below c 32)) v ∙ lanes q v)
-    ∙ mask_l-mod (map (is_special q) v) 64 (omega (arith, length-map v (is_special q), long))
+    ∙ mask_l-mod (map (is_special q) v) 64 (omega (arith, length-map v (is_special q), long, most))
 
 -- How many come before the lowest bit.
 
@@ -73,28 +75,70 @@ all_plain : (q : ℕ) (x : List ℕ) → list_all (is_plain q) (take (prefix_len
 all_plain q [] = refl
 all_plain q (c ∷ x) = first_plain q (is_plain q c) c (prefix_len (λ c. not (is_special q c)) x) x refl (all_plain q x)
 
-module _ (q : ℕ) (tail : List ℕ) (at found : ℕ) (room : at + 16 ≤ length tail) (e : found ≡ mask_l (map (is_special q) (take 16 (drop at tail)))) where
-  long : length (take 16 (drop at tail)) ≡ 16
-  long = length-chunk at 16 tail room
+module _ (width q : ℕ) (tail : List ℕ) (at found : ℕ) (most : width ≤ 64) (room : at + width ≤ length tail) (e : found ≡ mask_l (map (is_special q) (take width (drop at tail)))) where
+  long : length (take width (drop at tail)) ≡ width
+  long = length-chunk at width tail room
 
-  counted : cond (eqb found 0) 16 (count_trailing_zeros 64 found) ≡ prefix_len (λ c. not (is_special q c)) (take 16 (drop at tail))
-  counted = ap (λ m. cond (eqb m 0) 16 (count_trailing_zeros 64 m)) e ∙ first_set_mask_l (is_special q) (take 16 (drop at tail)) 16 long (omega arith)
+  counted : cond (eqb found 0) width (count_trailing_zeros 64 found) ≡ prefix_len (λ c. not (is_special q c)) (take width (drop at tail))
+  counted = ap (λ m. cond (eqb m 0) width (count_trailing_zeros 64 m)) e ∙ first_set_mask_l (is_special q) (take width (drop at tail)) width long most
 
-  run_small : cond (eqb found 0) 16 (count_trailing_zeros 64 found) ≤ 16
-  run_small = omega (arith, counted, prefix_len-le-length (λ c. not (is_special q c)) (take 16 (drop at tail)), long)
+  run_small : cond (eqb found 0) width (count_trailing_zeros 64 found) ≤ width
+  run_small = omega (arith, counted, prefix_len-le-length (λ c. not (is_special q c)) (take width (drop at tail)), long)
 
-  run_is_plain : list_all (is_plain q) (take (cond (eqb found 0) 16 (count_trailing_zeros 64 found)) (drop at tail)) ≡ true
+  run_is_plain : list_all (is_plain q) (take (cond (eqb found 0) width (count_trailing_zeros 64 found)) (drop at tail)) ≡ true
   run_is_plain =
-      ap (list_all (is_plain q)) (sym (take-take _ 16 (drop at tail) run_small) ∙ ap (λ n. take n (take 16 (drop at tail))) counted) ∙ all_plain q (take 16 (drop at tail))
+      ap (list_all (is_plain q)) (sym (take-take _ width (drop at tail) run_small) ∙ ap (λ n. take n (take width (drop at tail))) counted) ∙ all_plain q (take width (drop at tail))
 
-  pub none_found : found ≡ 0 → list_all (is_plain q) (take 16 (drop at tail)) ≡ true
-  none_found h = subst (λ (n : ℕ). list_all (is_plain q) (take n (drop at tail)) ≡ true) (cond-true (eqb found 0) 16 (count_trailing_zeros 64 found) (eq-eqb found 0 h)) run_is_plain
+  pub none_found : found ≡ 0 → list_all (is_plain q) (take width (drop at tail)) ≡ true
+  none_found h = subst (λ (n : ℕ). list_all (is_plain q) (take n (drop at tail)) ≡ true) (cond-true (eqb found 0) width (count_trailing_zeros 64 found) (eq-eqb found 0 h)) run_is_plain
 
-  pub first_found : (found ≡ 0 → ⊥) → (count_trailing_zeros 64 found ≤ 16) × (list_all (is_plain q) (take (count_trailing_zeros 64 found) (drop at tail)) ≡ true)
-  first_found h = subst (λ (n : ℕ). (n ≤ 16) × (list_all (is_plain q) (take n (drop at tail)) ≡ true)) (cond-false (eqb found 0) 16 (count_trailing_zeros 64 found) (ne_eqb found 0 h)) (run_small, run_is_plain)
+  pub first_found : (found ≡ 0 → ⊥) → (count_trailing_zeros 64 found ≤ width) × (list_all (is_plain q) (take (count_trailing_zeros 64 found) (drop at tail)) ≡ true)
+  first_found h = subst (λ (n : ℕ). (n ≤ width) × (list_all (is_plain q) (take n (drop at tail)) ≡ true)) (cond-false (eqb found 0) width (count_trailing_zeros 64 found) (ne_eqb found 0 h)) (run_small, run_is_plain)
 
-  pub first_stops : (found ≡ 0 → ⊥) → count_trailing_zeros 64 found < 16 → is_plain q (get_or tail (at + count_trailing_zeros 64 found) 0) ≡ false
-  first_stops h l = not-true _ (run_in_chunk_stops (is_special q) tail at 16 (count_trailing_zeros 64 found) 0 room (sym (cond-false (eqb found 0) 16 (count_trailing_zeros 64 found) (ne_eqb found 0 h)) ∙ counted) l)
+  pub first_stops : (found ≡ 0 → ⊥) → count_trailing_zeros 64 found < width → is_plain q (get_or tail (at + count_trailing_zeros 64 found) 0) ≡ false
+  first_stops h l = not-true _ (run_in_chunk_stops (is_special q) tail at width (count_trailing_zeros 64 found) 0 room (sym (cond-false (eqb found 0) width (count_trailing_zeros 64 found) (ne_eqb found 0 h)) ∙ counted) l)
+
+-- The bits that are left of a block, once some of its letters are read.
+
+half : (b : Bool) (m : ℕ) → (cond b 1 0 + 2 * m) / 2 ^ 1 ≡ m
+half true m = let e : 1 + 2 * m ≡ m * 2 ^ 1 + 1 = omega arith in ap (λ n. n / 2 ^ 1) e ∙ shr_high m 1 1 (omega arith)
+half false m = let e : 0 + 2 * m ≡ m * 2 ^ 1 + 0 = omega arith in ap (λ n. n / 2 ^ 1) e ∙ shr_high m 1 0 (omega arith)
+
+bits_after : (k : ℕ) (bs : List Bool) → mask_l bs / 2 ^ k ≡ mask_l (drop k bs)
+bits_after zero bs = let e : mask_l bs ≡ mask_l bs * 2 ^ 0 + 0 = omega arith in ap (λ m. m / 2 ^ 0) e ∙ shr_high (mask_l bs) 0 0 (omega arith)
+bits_after (suc k) [] = zero-div (2 ^ suc k)
+bits_after (suc k) (b ∷ bs) =
+    let one : 1 + k ≡ suc k = omega arith in
+    ap (λ j. mask_l (b ∷ bs) / 2 ^ j) (sym one) ∙ sym (shr-shr (mask_l (b ∷ bs)) 1 k) ∙ ap (λ m. m / 2 ^ k) (half b (mask_l bs)) ∙ bits_after k bs
+
+taken_after : (k w : ℕ) (x : List ℕ) → drop k (take w x) ≡ take (w - k) (drop k x)
+taken_after zero w x = let e : w ≡ w - 0 = omega arith in ap (λ n. take n x) e
+taken_after (suc k) zero x = let e : 0 ≡ 0 - suc k = omega arith in ap (λ n. take n (drop (suc k) x)) e
+taken_after (suc k) (suc w) [] = sym (take-nil (suc w - suc k))
+taken_after (suc k) (suc w) (c ∷ x) = let e : w - k ≡ suc w - suc k = omega arith in taken_after k w x ∙ ap (λ n. take n (drop k x)) e
+
+-- LAW: the bits of what is left of a block that ends at the offset stop
+pub left_more : (q : ℕ) (tail : List ℕ) (stop at n left : ℕ) → left ≡ mask_l (map (is_special q) (take (stop - at) (drop at tail))) → left / 2 ^ n / 2 ^ 2 ≡ mask_l (map (is_special q) (take (stop - (at + n + 2)) (drop (at + n + 2) tail)))
+left_more q tail stop at n left e =
+    let k = n + 2 in
+    let far : at + k ≡ at + n + 2 = omega arith in
+    let less : stop - at - k ≡ stop - (at + n + 2) = omega arith in
+    shr-shr left n 2
+    ∙ ap (λ m. m / 2 ^ k) e
+    ∙ bits_after k (map (is_special q) (take (stop - at) (drop at tail)))
+    ∙ ap mask_l (drop-map (is_special q) k (take (stop - at) (drop at tail)) ∙ ap (map (is_special q)) (taken_after k (stop - at) (drop at tail)))
+    ∙ ap₂ (λ (w : ℕ) (x : List ℕ). mask_l (map (is_special q) (take w x))) less (drop-drop k at tail ∙ ap (λ i. drop i tail) far)
+
+-- LAW: where a bit is left, the letters before the lowest are plain, and it is in the block
+pub short_run : (q : ℕ) (tail : List ℕ) (from at left : ℕ) → from ≤ at → from + 64 ≤ length tail → left ≡ mask_l (map (is_special q) (take (from + 64 - at) (drop at tail))) → (left ≡ 0 → ⊥) → (at + count_trailing_zeros 64 left ≤ from + 64) × (list_all (is_plain q) (take (count_trailing_zeros 64 left) (drop at tail)) ≡ true)
+short_run q tail from at left h room e some = elim (cases_lt at (from + 64)) [
+  | inl l ↦
+      let found = first_found (from + 64 - at) q tail at left (omega (arith, h)) (omega (arith, l, room)) e some in
+      (omega (arith, found.0, l), found.1)
+  | inr l ↦
+      let none : from + 64 - at ≡ 0 = omega (arith, l) in
+      absurd (some (e ∙ ap (λ w. mask_l (map (is_special q) (take w (drop at tail)))) none))
+]
 
 -- More of plain letters.
 
@@ -143,6 +187,11 @@ run_more q tail old mid new at n h e s =
     let x = take n (drop at tail) in
     letters_also q tail old mid new at (at + n) (map raw x) s (raw_allowed q x (plain_raw q x h)) (ap (is_content q) (raw_written x) ∙ raw_content q x h)
     (take-add at n tail ∙ ap (λ z. take at tail ++ z) (sym (raw_written x))) (e ∙ ap (λ z. mid ++ z) (sym (raw_meant x)))
+
+-- LAW: a block's letters before the lowest bit that is left
+pub short_run_more : (q : ℕ) (tail old mid new : List ℕ) (from at left : ℕ) → from ≤ at → from + 64 ≤ length tail → left ≡ mask_l (map (is_special q) (take (from + 64 - at) (drop at tail))) → (left ≡ 0 → ⊥) → new ≡ mid ++ take (count_trailing_zeros 64 left) (take (length tail - at) (drop at tail)) → LettersSoFar q tail at old mid → LettersSoFar q tail (at + count_trailing_zeros 64 left) old new
+short_run_more q tail old mid new from at left h room e some w s =
+    run_more q tail old mid new at (count_trailing_zeros 64 left) (short_run q tail from at left h room e some).1 (w ∙ ap (λ x. mid ++ take (count_trailing_zeros 64 left) x) (take_rest tail at)) s
 
 pub letters_end : (q : ℕ) (tail old new : List ℕ) (at : ℕ) → at < length tail → get_or tail at 0 ≡ q → LettersSoFar q tail at old new → LettersTaken q tail at old new
 letters_end q tail old new at h e s = record { within = h; inside = s.inside; quote = e; bytes = flat_map meant s.letters; is = is_text q (take at tail) (flat_map meant s.letters) (record { letters = s.letters; allowed = s.allowed; whole = s.whole; value = refl }); added = s.added }

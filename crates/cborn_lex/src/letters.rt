@@ -107,6 +107,7 @@ pub fn push_letters(
 {
     let mut at = from;
     'letters: while at < tail.len() {
+        at = push_short_runs(quote, tail, at, out)?;
         let n = push_run(quote, tail, at, out)?;
         at += n;
         if at == tail.len() {
@@ -125,6 +126,59 @@ pub fn push_letters(
         }
     }
     Ok(None)
+}
+
+/// Appends what the letters from the offset `from` of `tail` on stand for, as long as they are
+/// escapes of two characters and short runs of plain letters. Gives the offset at which it stops.
+/// It finds the letters of a block that aren't plain all at once, so that an escape needn't wait
+/// for the one before it. That pays only in a long string, so it does nothing in the first 64
+/// letters.
+#[inline(always)]
+fn push_short_runs(
+    quote: u8,
+    tail: &[u8],
+    from: usize,
+    out: &mut Vec<u8>,
+) -> Result<usize, AllocError>
+    requires double_or_single { (quote ≡ 34) ⊎ (quote ≡ 39) }
+    requires within { from ≤ length tail.now }
+    ensures within { IfOk result (λ at. (from ≤ at) × (at ≤ length tail.now)) }
+    ensures letters { IfOk result (λ at. (old : List ℕ) → LettersSoFar quote tail.now from old out.old.items → LettersSoFar quote tail.now at old out.new.items) }
+    ensures before { take (length out.old.items) out.new.items ≡ out.old.items }
+{
+    if from < 64 || tail.len() - from < 96 {
+        return Ok(from);
+    }
+    let mut at = from;
+    let mut left = special_letters_of_64(quote, u8x64::from_slice(&tail[at..]));
+    'escapes: while left != 0 {
+        let n = left.trailing_zeros() as usize;
+        if n > 16 {
+            return Ok(at);
+        }
+        push_block(&tail[at..], n, out)?;
+        at += n;
+        if tail[at] != b'\\' {
+            return Ok(at);
+        }
+        if !push_short_escape(quote, tail, at, out)? {
+            return Ok(at);
+        }
+        at += 2;
+        left = left >> n >> 2;
+    }
+    Ok(at)
+}
+
+/// A bit for each of 64 letters, the lowest for the first. It is set if the letter isn't plain.
+#[inline(always)]
+fn special_letters_of_64(quote: u8, letters: u8x64) -> u64
+    ensures { result ≡ mask_l (map (is_special quote) letters) }
+{
+    let quotes = letters.simd_eq(u8x64::splat(quote));
+    let backslashes = letters.simd_eq(u8x64::splat(b'\\'));
+    let controls = letters.simd_lt(u8x64::splat(32));
+    (quotes | backslashes | controls).to_bitmask()
 }
 
 /// Appends the plain letters from the offset `at` of `tail` on, and gives how many they are.
@@ -203,11 +257,33 @@ fn push_escape(
             None => Ok(None),
         };
     }
-    let Some(c) = escape_code(quote, second) else {
-        return Ok(None);
+    if push_short_escape(quote, tail, at, out)? {
+        Ok(Some(at + 2))
+    } else {
+        Ok(None)
+    }
+}
+
+/// Appends the character of the escape of two characters whose backslash is at the offset `at` of
+/// `tail`. `false`, and nothing is appended, if there is no such escape.
+#[inline(always)]
+fn push_short_escape(
+    quote: u8,
+    tail: &[u8],
+    at: usize,
+    out: &mut Vec<u8>,
+) -> Result<bool, AllocError>
+    requires double_or_single { (quote ≡ 34) ⊎ (quote ≡ 39) }
+    requires inside { at + 1 < length tail.now }
+    ensures escape { IfOk result (λ found. found ≡ true → (c : ℕ) × (escape_of quote (drop (at + 1) tail.now) ≡ Some (c, 2)) × (out.new.items ≡ out.old.items ++ encode_utf8 c)) }
+    ensures none { IfOk result (λ found. found ≡ false → (is_escape quote (slice_index tail.now (at + 1)) ≡ false) × (out.new.items ≡ out.old.items)) }
+    ensures before { take (length out.old.items) out.new.items ≡ out.old.items }
+{
+    let Some(c) = escape_code(quote, tail[at + 1]) else {
+        return Ok(false);
     };
     out.push(c)?;
-    Ok(Some(at + 2))
+    Ok(true)
 }
 
 /// The character of an escape of two characters, whose second is `second`. `None` if there is no
