@@ -5,7 +5,6 @@ use Rattle.std.specs.List.{AllZip}
 use Rattle.cborn_model.specs.Value.{Value, Same}
 use Rattle.cborn_engine.specs.declared.faults.CompareFault.{CompareFault}
 use Rattle.cborn_engine.specs.declared.faults.CompareFault.TheVariants as compared
-use Rattle.cborn_engine.specs.declared.faults.EngineFault.{EngineFault}
 use Rattle.cborn_engine.specs.declared.faults.EngineFault.TheVariants as fault
 use Rattle.cborn_engine.specs.declared.kinds.Kind.{Kind}
 use Rattle.cborn_engine.specs.Holding.{Holds}

@@ -54,8 +54,7 @@ IsNotOne k limit input (one.MoreItems p) = SecondStarts k limit input p
 abbrev pub OneAnswer : {A : Type 0} → Kind → ℕ → List ℕ → (Result A EngineFault → Type 0) → Result A OneFault → Type 0
 OneAnswer k limit input Answers (Ok a) = Answers (Ok a) × SpellsOne k limit input
 OneAnswer k limit input Answers (Err (one.Engine why)) = Answers (Err why)
-OneAnswer {A} k limit input Answers (Err (one.NoItem p)) = ((a : A) × Answers (Ok a)) × IsNotOne k limit input (one.NoItem p)
-OneAnswer {A} k limit input Answers (Err (one.MoreItems p)) = ((a : A) × Answers (Ok a)) × IsNotOne k limit input (one.MoreItems p)
+OneAnswer {A} k limit input Answers (Err why) = ((a : A) × Answers (Ok a)) × IsNotOne k limit input why
 
 -- its canonical form, or why there is none
 abbrev pub NormalisedWhole : (List ℕ → List ℕ → Ordering) → Kind → Kind → ℕ → List ℕ → Result (CowSlice ℕ Global) EngineFault → Type 0
@@ -86,8 +85,7 @@ of_second_one why = compared.Second why
 -- the one is refused for this, where Refused says for what an input is that may hold any number of items
 abbrev pub IsNoItem : (EngineFault → Type 0) → Kind → ℕ → List ℕ → OneFault → Type 0
 IsNoItem Refused k limit input (one.Engine why) = Refused why × (why ≢ fault.OutOfMemory)
-IsNoItem Refused k limit input (one.NoItem p) = (length input ≤ most_bytes) × ((items : List Value) × Holds k limit input items) × IsNotOne k limit input (one.NoItem p)
-IsNoItem Refused k limit input (one.MoreItems p) = (length input ≤ most_bytes) × ((items : List Value) × Holds k limit input items) × IsNotOne k limit input (one.MoreItems p)
+IsNoItem Refused k limit input why = (length input ≤ most_bytes) × ((items : List Value) × Holds k limit input items) × IsNotOne k limit input why
 
 -- yes or no: both hold one item, and yes means that it is the same
 abbrev pub IsSameItem : Kind → Kind → ℕ → List ℕ → List ℕ → Bool → Type 0

@@ -1,5 +1,5 @@
 -- Why an input is refused.
-use Rattle.std.specs.Prelude.{◌≡◌, ℕ, ◌+◌, ◌≤◌, List, length, Option, Result, Ok, Err, ⊤, IsUtf8}
+use Rattle.std.specs.Prelude.{◌≡◌, ℕ, ◌+◌, ◌≤◌, List, length, Option, Result, Err, ⊤, IsUtf8}
 use Rattle.std.specs.Str.{IsValidUpTo}
 use Rattle.std.specs.Io.KnownBytes.{IsAtEnd}
 use Rattle.cborn_model.specs.Tree.{Tree}

@@ -1,5 +1,5 @@
 -- What showing an input answers.
-use Rattle.std.specs.Prelude.{◌≡◌, ℕ, ◌≤◌, List, [], length, Option, Result, Ok, Err, ⊤, Vec}
+use Rattle.std.specs.Prelude.{◌≡◌, ℕ, ◌≤◌, List, [], length, Option, Result, Ok, Err, Vec}
 use Rattle.std.specs.Global.{Global}
 use Rattle.std.specs.Io.KnownBytes.{Consumes, Appends}
 use Rattle.cborn_model.specs.Tree.{Tree, trees}

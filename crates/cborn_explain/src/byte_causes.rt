@@ -3,16 +3,14 @@
 ghost use Rattle.std.specs.Prelude.{◌≤◌};
 
 use crate::items::{encoded_at, valid_at};
+use crate::order_causes::push_rule;
 use crate::quotes::{push_hex, push_item, slice_of, valid_front};
 use crate::reasons::BytesReason;
 use cborn_det::encode;
-use cborn_model::{
-    Bytewise, DefectReason, InvalidReason, KeyOrder, LengthFirst, Limit, Major, Valid, shortest,
-};
+use cborn_model::{Bytewise, DefectReason, InvalidReason, Limit, Major, shortest};
 use cborn_paths::{Level, LevelKind, Walk, content_len, end_of_item, whole_head};
 use cborn_wire::{Argument, Head, HeadRead, WireReason, head_bytes, read_head};
 use std::alloc::{AllocError, Global};
-use std::cmp::Ordering;
 
 /// How many bytes of an encoding are written at most.
 const ENCODING: usize = 16;
@@ -463,45 +461,4 @@ fn push_loose(
         push_hex(out, &encode::<Bytewise>(alloc, &valid)?, ENCODING)?;
     }
     Ok(())
-}
-
-/// Writes why `key` has to come before the key that precedes it, `before`. Where the two orders
-/// sort these keys differently, it writes which order has `key` first. They may do so where the
-/// encodings are equally long: each order also sorts the maps within the keys.
-fn push_rule(
-    alloc: Global,
-    out: &mut String,
-    key: &Valid,
-    before: &Valid,
-) -> Result<(), AllocError> {
-    let (bytewise, differ) = is_first::<Bytewise>(alloc, key, before)?;
-    let (length_first, _) = is_first::<LengthFirst>(alloc, key, before)?;
-    out.push_str(match (bytewise, length_first) {
-        (true, false) if differ => {
-            ": in the bytewise order its encoding is the lesser; the length-first order has these two as they are, since it is the longer"
-        }
-        (true, false) => {
-            ": in the bytewise order its encoding is the lesser; the length-first order has these two as they are"
-        }
-        (false, true) if differ => {
-            ": in the length-first order its encoding is the shorter; the bytewise order has these two as they are"
-        }
-        (false, true) => {
-            ": in the length-first order its encoding is the lesser; the bytewise order has these two as they are"
-        }
-        _ => ": its encoding is the lesser, in the bytewise order and in the length-first order",
-    })
-}
-
-/// Whether `key` comes before `other` in the order `O`, and whether their encodings differ in length,
-/// which doesn't depend on the order.
-fn is_first<O: KeyOrder>(
-    alloc: Global,
-    key: &Valid,
-    other: &Valid,
-) -> Result<(bool, bool), AllocError> {
-    let ours = encode::<O>(alloc, key)?;
-    let theirs = encode::<O>(alloc, other)?;
-    let is_less = matches!(O::compare(&ours, &theirs), Ordering::Less);
-    Ok((is_less, ours.len() != theirs.len()))
 }

@@ -19,7 +19,7 @@
 //! - `notes`: the lines of one input; start here. `differences`: those of two.
 //! - `path_lines`: a path in a line. `hints`: whether bytes look like a text.
 //! - `reasons`: the reasons, as other calls report them.
-//! - `byte_causes`, `text_causes`: the sentence for each reason.
+//! - `byte_causes`, `order_causes`, `text_causes`: the sentence for each reason.
 //! - `text_walks`: a walk over a text from token to token.
 //! - `text_spots`: the character within a token that is at fault.
 //! - `text_keys`: the key that a later key repeats.
@@ -32,6 +32,7 @@ mod differences;
 mod hints;
 mod items;
 mod notes;
+mod order_causes;
 mod path_lines;
 mod quotes;
 mod reasons;

@@ -1,8 +1,6 @@
 //! Where the first item of some bytes ends.
 
-ghost use Rattle.std.specs.Prelude.{◌≡◌, ◌≤◌, ℕ, [], ◌∷◌, true, false, None, length, take, IfOk, IfSome, OnOk};
-ghost use Rattle.cborn_model.specs.Spelled.{Wellformed};
-ghost use Rattle.cborn_model.specs.Tree.{Trees, no_item};
+ghost use Rattle.std.specs.Prelude.{◌≡◌, ◌+◌, ◌≤◌, ℕ, [], ◌∷◌, true, false, None, length, take, drop, IfOk, IfSome, OnOk};
 ghost use Rattle.cborn_paths.specs.Levels.{levels, path_of};
 ghost use Rattle.cborn_paths.specs.Paths.{EndsAt, LeadsTo};
 ghost use Rattle.cborn_paths.specs.declared.paths.Step.TheVariants.{Item};
@@ -15,14 +13,13 @@ use std::alloc::{AllocError, Global};
 
 /// Where the first item of some bytes ends: an offset in bytes from their start (RFC 8949 section
 /// 3, RFC 8742). What follows the item isn't read. `None`: the bytes don't begin with a whole item
-/// that is no deeper than the highest nesting limit. Well-formed bytes then hold no item; of others
-/// no clause says when the answer is `None`.
+/// that is no deeper than the highest nesting limit.
 ///
 /// # Errors
 /// `AllocError` where memory for the open levels is refused.
 pub fn first_end(alloc: Global, bytes: &[u8]) -> Result<Option<usize>, AllocError>
     ensures item { IfOk result (λ found. IfSome found (λ end. (end ≤ length bytes.now) × EndsAt (take end bytes.now) (Item 1 ∷ []))) }
-    ensures none { IfOk result (λ found. found ≡ None → (limit : ℕ) (nodes : Trees) → limit ≤ 1024 → Wellformed limit nodes bytes.now → nodes ≡ no_item) }
+    ensures none { IfOk result (λ found. found ≡ None → (len : ℕ) → EndsAt (take len bytes.now) (Item 1 ∷ []) → ⊥) }
 {
     let mut walk = Walk::new(alloc);
     if walk.take_item(bytes)? {
@@ -38,7 +35,10 @@ pub fn first_end(alloc: Global, bytes: &[u8]) -> Result<Option<usize>, AllocErro
 ///
 /// # Errors
 /// `AllocError` where memory for the open levels is refused.
-pub fn end_of_item(alloc: Global, bytes: &[u8], at: usize) -> Result<usize, AllocError> {
+pub fn end_of_item(alloc: Global, bytes: &[u8], at: usize) -> Result<usize, AllocError>
+    ensures within { IfOk result (λ end. end ≤ length bytes.now) }
+    ensures item { IfOk result (λ end. (len : ℕ) → at + len ≤ length bytes.now → EndsAt (take len (drop at bytes.now)) (Item 1 ∷ []) → end ≡ at + len) }
+{
     if at > bytes.len() {
         return Ok(bytes.len());
     }
@@ -48,7 +48,8 @@ pub fn end_of_item(alloc: Global, bytes: &[u8], at: usize) -> Result<usize, Allo
 /// What [`end_of_item`] gives for an offset within the bytes.
 fn end_within(alloc: Global, bytes: &[u8], at: usize) -> Result<usize, AllocError>
     requires { at ≤ length bytes.now }
-    ensures { IfOk result (λ end. end ≤ length bytes.now) }
+    ensures within { IfOk result (λ end. end ≤ length bytes.now) }
+    ensures item { IfOk result (λ end. (len : ℕ) → at + len ≤ length bytes.now → EndsAt (take len (drop at bytes.now)) (Item 1 ∷ []) → end ≡ at + len) }
 {
     let rest = &bytes[at..];
     let mut walk = Walk::new(alloc);

@@ -1,5 +1,5 @@
 -- What an answer is worth: all that the headline says of it, at once.
-use Rattle.std.proofs.Common.{◌≡◌, ◌≤◌, ℕ, List, length, sym, subst, Ordering, Option, Result, Ok}
+use Rattle.std.proofs.Common.{◌≤◌, ℕ, List, length, sym, subst, Ordering, Option, Ok}
 use Rattle.std.specs.Io.KnownBytes.{Consumes, Appends}
 use Rattle.cborn_model.specs.Orders.{IsKeyOrder}
 use Rattle.cborn_engine.specs.declared.kinds.Kind.{Kind}

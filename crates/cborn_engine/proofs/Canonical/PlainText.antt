@@ -1,5 +1,5 @@
 -- Nodes that spell deterministic encodings have no indicator and no chunk in their fixed notation: it is their plain text.
-use Rattle.std.proofs.Common.{◌≡◌, refl, sym, ap, ◌∙◌, subst, ℕ, zero, suc, ◌+◌, ◌*◌, ◌<◌, ◌^◌, inl, inr, Bool, true, false, eqb, List, [], ◌∷◌, ◌++◌, length, map, codes, decimal, arith, Ordering, append-nil}
+use Rattle.std.proofs.Common.{◌≡◌, refl, sym, ap, ◌∙◌, subst, ℕ, zero, suc, ◌+◌, ◌*◌, ◌<◌, ◌^◌, inl, inr, Bool, true, false, eqb, List, [], ◌∷◌, ◌++◌, length, codes, decimal, arith, Ordering, append-nil}
 use Rattle.std.proofs.lemmas.Bool.{eq-eqb, cond-true}
 use Rattle.std.specs.List.{AllZip, flat_map}
 use Rattle.std.specs.Int.{byte_at, bytes_high_first}
@@ -13,7 +13,7 @@ use Rattle.cborn_model.specs.declared.heads.Size.{Size}
 use Rattle.cborn_model.specs.declared.heads.Size.TheVariants.{Fixed, Endless}
 use Rattle.cborn_model.specs.declared.nodes.Chunk.{Chunk}
 use Rattle.cborn_model.specs.Bytes.{AreBytes, big_endian}
-use Rattle.cborn_model.specs.Heads.{code, information, following, WidthFits, SizeFits, Given, EndlessArgument, head, argument, least, head_bytes, is_simple_value}
+use Rattle.cborn_model.specs.Heads.{code, following, WidthFits, SizeFits, Given, EndlessArgument, head, argument, least, head_bytes, is_simple_value}
 use Rattle.cborn_model.specs.Tree.{Tree, Uint, Nint, Bytes, Text, ByteChunks, TextChunks, Items, Pairs, Tagged, Simple, Trees, no_item, more, trees, Entries, no_entry, entry, count, count_entries}
 use Rattle.cborn_model.specs.Spelled.{ending, string, chunk_bytes, spelled, spelled_all, spelled_entries, ChunksFit, Fits, FitsAll, FitsEntries}
 use Rattle.cborn_model.specs.Value.{Value, Values, Couples, integer, bytes, text, array, dict, tagged, simple, no_values, value, no_pairs, pair, value_count, pair_count, listed}
@@ -22,8 +22,8 @@ use Rattle.cborn_model.proofs.Numbers.Simples.{simple_fits}
 use Rattle.cborn_model.proofs.SameItems.Rearranging.{carried}
 use Rattle.cborn_det.specs.Det.{Entry, IsInteger, Det, DetValues, DetPairs, DetSeq, joined}
 use Rattle.cborn_lex.specs.declared.classes.Mark.TheVariants.{Absent, Wide}
-use Rattle.cborn_edn.specs.Shown.{escaped, mark_for, indicator, opened, joined_by, shown, item_texts, pair_texts, shown_lines, Shown}
-use Rattle.cborn_edn.specs.Plain.{plain, plain_items, plain_pairs, plain_lines, IsPlain}
+use Rattle.cborn_edn.specs.Shown.{escaped, mark_for, indicator, opened, joined_by, shown, item_texts, pair_texts, shown_lines}
+use Rattle.cborn_edn.specs.Plain.{plain, plain_items, plain_pairs, plain_lines}
 use Rattle.cborn_edn.proofs.Shown.SameText.{same_text}
 use Rattle.cborn_edn.proofs.Shown.PlainText.{same_plain}
 use Rattle.cborn_engine.specs.Holding.{IsPlainText}

@@ -10,7 +10,7 @@ use Rattle.cborn_model.specs.Spelled.{spelled, spelled_all, Wellformed}
 use Rattle.cborn_model.specs.Tree.{Tree, trees}
 use Rattle.cborn_model.specs.Valid.{IsProper}
 use Rattle.cborn_model.specs.Value.{Value, Same}
-use Rattle.cborn_model.proofs.SameItems.Sameness.{same_chained, same_turned}
+use Rattle.cborn_model.proofs.SameItems.Sameness.{same_chained}
 use Rattle.cborn_det.specs.Det.{Det, DetSeq}
 use Rattle.cborn_det.proofs.Reading.{reads}
 use Rattle.cborn_det.proofs.Canon.{same_of_one, one_of_same, seq_of_one}

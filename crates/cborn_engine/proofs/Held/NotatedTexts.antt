@@ -5,7 +5,6 @@ use Rattle.std.specs.Prelude.{IsUtf8}
 use Rattle.std.specs.Str.{is_utf8}
 use Rattle.cborn_model.specs.declared.heads.Width.{Width}
 use Rattle.cborn_model.specs.declared.nodes.Chunk.{Chunk}
-use Rattle.cborn_model.specs.Spelled.{Wellformed}
 use Rattle.cborn_model.specs.Tree.{Tree, Trees, Entries, trees}
 use Rattle.cborn_lex.specs.declared.classes.Mark.{Mark}
 use Rattle.cborn_lex.specs.declared.classes.Token.{Token}
@@ -15,7 +14,7 @@ use Rattle.cborn_edn.specs.declared.strings.StringKind.{StringKind}
 use Rattle.cborn_edn.specs.declared.strings.StringKind.TheVariants.{Bytes as OfBytes, Text as OfText}
 use Rattle.cborn_edn.specs.declared.faults.EdnReason.{EdnReason}
 use Rattle.cborn_edn.specs.declared.faults.EdnReason.TheVariants.{MixedChunks, TextNotUtf8}
-use Rattle.cborn_edn.specs.Says.{unless, mark_errors, string_errors, chunk_errors, is_good, same_kind, is_endless, is_small, is_below, argument_of, integer, bignum, width, is_nil, number_node, string_node, chunked_node, said_string, chunk, Str}
+use Rattle.cborn_edn.specs.Says.{unless, mark_errors, string_errors, is_good, same_kind, is_endless, is_small, is_below, argument_of, integer, bignum, width, is_nil, number_node, string_node, chunked_node, said_string, chunk, Str}
 use Rattle.cborn_edn.specs.Grammar.{IsItem, IsPiece, ArePieces, AreChunks, AreItems, IsContent, ArePairs, IsFields, IsText, number, word, simple, tag, array, map, string, chunked, text_piece, byte_piece, embedded, piece, also, first, next, last, before, empty, tight, loose, last_pair, pair_before, no_fields, tight_fields, loose_fields, nothing, items}
 use Rattle.cborn_edn.specs.shared.Texts.{AreTexts, IsShowable, EachShowable, ArePairsShowable}
 use Rattle.cborn_edn.proofs.Shown.Lowests.{are_showable}

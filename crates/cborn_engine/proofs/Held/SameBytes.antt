@@ -1,5 +1,5 @@
 -- What is shown of an input spells the bytes that the input spells.
-use Rattle.std.proofs.Common.{◌≤◌, ℕ, List, length, refl, Option, Result, Ok}
+use Rattle.std.proofs.Common.{◌≤◌, ℕ, List, length, refl, Option, Ok}
 use Rattle.std.specs.Io.KnownBytes.{Consumes, Appends}
 use Rattle.cborn_model.specs.Tree.{trees}
 use Rattle.cborn_model.specs.Spelled.{Wellformed, spelled_all}

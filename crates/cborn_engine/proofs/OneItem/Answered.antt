@@ -1,9 +1,8 @@
 -- What is answered for an input that has to hold exactly one item, whole or read.
-use Rattle.std.proofs.Common.{◌≡◌, ◌≢◌, refl, sym, ap, ◌∙◌, subst, ◌⊎◌, ◌↔◌, ℕ, ◌≤◌, List, [], ◌∷◌, length, Bool, true, IsTrue, Decides, Option, None, Some, Result, Ok, Err, Vec, Global, Ordering, inl, inr, arith}
+use Rattle.std.proofs.Common.{◌≡◌, ◌≢◌, refl, sym, ◌∙◌, subst, ◌⊎◌, ◌↔◌, ℕ, ◌≤◌, List, [], ◌∷◌, length, Bool, IsTrue, Decides, Option, Result, Ok, Err, Vec, Global, Ordering, inl, inr, arith}
 use Rattle.std.specs.Cow.{cow_slice_items}
 use Rattle.std.specs.declared.borrow.CowSlice.{CowSlice}
 use Rattle.std.specs.List.{AllZip}
-use Rattle.std.specs.Io.KnownBytes.{IsAtEnd}
 use Rattle.cborn_model.specs.Tree.{Tree, trees}
 use Rattle.cborn_model.specs.Orders.{IsKeyOrder}
 use Rattle.cborn_model.specs.Value.{Value}
@@ -21,19 +20,15 @@ use Rattle.cborn_engine.specs.declared.faults.EngineFault.{EngineFault}
 use Rattle.cborn_engine.specs.declared.faults.EngineFault.TheVariants as fault
 use Rattle.cborn_engine.specs.declared.one_faults.OneFault.{OneFault}
 use Rattle.cborn_engine.specs.declared.one_faults.OneFault.TheVariants as one
-use Rattle.cborn_engine.specs.declared.one_faults.CompareOneFault.{CompareOneFault}
-use Rattle.cborn_engine.specs.declared.one_faults.CompareOneFault.TheVariants as compared
 use Rattle.cborn_engine.specs.declared.kinds.Kind.{Kind}
 use Rattle.cborn_engine.specs.declared.kinds.Kind.TheVariants as kind
 use Rattle.cborn_engine.specs.Canonical.{IsCanonical, NormaliseAnswers}
-use Rattle.cborn_engine.specs.Checking.{IsChecked, CheckAnswers}
+use Rattle.cborn_engine.specs.Checking.{CheckAnswers}
 use Rattle.cborn_engine.specs.Faults.{of_input, of_output}
-use Rattle.cborn_engine.specs.Holding.{Spells, Holds}
-use Rattle.cborn_engine.specs.OneItem.{SpellsOne, HoldsOne, IsNotOne, OneAnswer, NormalisedWhole, ShownWhole, CheckedWhole, MatchedWhole, IsNoItem, IsSameItem, of_first_one, of_second_one, OneSent, NormalisesOne, ShowsOne, ChecksOne, IsReadForOne}
-use Rattle.cborn_engine.specs.devices.OneItem.{one_failures, one_failures_at}
-use Rattle.cborn_engine.specs.devices.Counting.{read_failures_at}
+use Rattle.cborn_engine.specs.Holding.{Holds}
+use Rattle.cborn_engine.specs.OneItem.{SpellsOne, HoldsOne, IsNotOne, OneAnswer, NormalisedWhole, ShownWhole, CheckedWhole, MatchedWhole, IsSameItem, of_first_one, of_second_one, OneSent, NormalisesOne, ShowsOne, ChecksOne, IsReadForOne}
 use Rattle.cborn_engine.specs.Reading.{most_bytes}
-use Rattle.cborn_engine.specs.Refusing.{IsRefused, IsRead}
+use Rattle.cborn_engine.specs.Refusing.{IsRefused}
 use Rattle.cborn_engine.specs.Showing.{IsShown, ShowAnswers}
 use Rattle.cborn_engine.specs.Whole.{IsRefusedWhole, IsUnshownWhole}
 use Rattle.cborn_engine.proofs.Answers.Unanswered.{nothing_written}
@@ -48,10 +43,8 @@ pub kept_one : {A : Type 0} (k : Kind) (limit : ℕ) (x : List ℕ) (Answers : R
     → (why ≡ one.Engine fault.OutOfMemory) ⊎ IsNotOne k limit x why → OneAnswer k limit x Answers (Err why)
 kept_one k limit x Answers a (one.Engine w) h m (inl e) = let same : w ≡ fault.OutOfMemory = cc in subst (λ (v : EngineFault). Answers (Err v)) (sym same) m
 kept_one k limit x Answers a (one.Engine w) h m (inr n) = absurd n
-kept_one k limit x Answers a (one.NoItem p) h m (inl e) = absurd cc
-kept_one k limit x Answers a (one.NoItem p) h m (inr n) = ((a, h), n)
-kept_one k limit x Answers a (one.MoreItems p) h m (inl e) = absurd cc
-kept_one k limit x Answers a (one.MoreItems p) h m (inr n) = ((a, h), n)
+kept_one k limit x Answers a _ h m (inl e) = absurd cc
+kept_one k limit x Answers a _ h m (inr n) = ((a, h), n)
 
 -- items of one node are one
 pub holds_one : (k : Kind) (limit : ℕ) (x : List ℕ) (vs : List Value) → Holds k limit x vs → SpellsOne k limit x → HoldsOne k limit x
@@ -72,14 +65,12 @@ module _ (order : List ℕ → List ℕ → Ordering) (k l : Kind) (limit : ℕ)
   pub first_refused : (why : OneFault) → OneAnswer k limit x (NormalisedWhole order k kind.Wire limit x) (Err why) → MatchedWhole k l limit x y (Err (of_first_one why))
   first_refused (one.Engine fault.OutOfMemory) h = inl h
   first_refused (one.Engine _) h = (h, λ p. absurd cc)
-  first_refused (one.NoItem p) h = (h.0.1.0, (h.0.1.1.items, h.0.1.1.held), h.1)
-  first_refused (one.MoreItems p) h = (h.0.1.0, (h.0.1.1.items, h.0.1.1.held), h.1)
+  first_refused _ h = (h.0.1.0, (h.0.1.1.items, h.0.1.1.held), h.1)
 
   pub second_refused : (why : OneFault) → length x ≤ most_bytes → HoldsOne k limit x → OneAnswer l limit y (NormalisedWhole order l kind.Wire limit y) (Err why) → MatchedWhole k l limit x y (Err (of_second_one why))
   second_refused (one.Engine fault.OutOfMemory) n held h = inr (n, held, h)
   second_refused (one.Engine _) n held h = (n, held, (h, λ p. absurd cc))
-  second_refused (one.NoItem p) n held h = (n, held, (h.0.1.0, (h.0.1.1.items, h.0.1.1.held), h.1))
-  second_refused (one.MoreItems p) n held h = (n, held, (h.0.1.0, (h.0.1.1.items, h.0.1.1.held), h.1))
+  second_refused _ n held h = (n, held, (h.0.1.0, (h.0.1.1.items, h.0.1.1.held), h.1))
 
 -- ---- inputs that are read
 
@@ -112,8 +103,7 @@ unshown_quiet k out limit most x _ h = (λ e. cc, λ e. cc)
 
 pub one_quiet : {A : Type 0} (k : Kind) (limit : ℕ) (x : List ℕ) (Answers : Result A EngineFault → Type 0) (why : OneFault) → ((w : EngineFault) → Answers (Err w) → IsQuietOne (one.Engine w)) → OneAnswer k limit x Answers (Err why) → IsQuietOne why
 one_quiet k limit x Answers (one.Engine w) q h = q w h
-one_quiet k limit x Answers (one.NoItem p) q h = (λ e. cc, λ e. cc)
-one_quiet k limit x Answers (one.MoreItems p) q h = (λ e. cc, λ e. cc)
+one_quiet k limit x Answers _ q h = (λ e. cc, λ e. cc)
 
 pub quiet_counted : {A : Type 0} (loud why : OneFault) (n m : ℕ) → why ≢ loud → m ≡ n → CountsFault {A = A} loud (Err why) n m
 quiet_counted loud why n m q e = (λ p. let same : why ≡ loud = cc in absurd (q same), λ p. e)
@@ -158,8 +148,7 @@ module _ (order : List ℕ → List ℕ → Ordering) (k out : Kind) (limit : �
 
     at_end : (why : OneFault) → IsReadForOne {A = Unit} (Err why) after
     at_end (one.Engine w) = ended Unit w after h.answer.2
-    at_end (one.NoItem p) = h.answer.2
-    at_end (one.MoreItems p) = h.answer.2
+    at_end _ = h.answer.2
 
     -- it is refused
     pub unsent_normalised : (why : OneFault) → OneAnswer k limit now (NormalisedWhole order k out limit now) (Err why) → NormalisesOne order k out limit most_bytes before after sent sent (Err why)
@@ -172,8 +161,7 @@ module _ (order : List ℕ → List ℕ → Ordering) (k out : Kind) (limit : �
         answer : (why : OneFault) → OneAnswer k limit h.input (NormalisedWhole order k out limit h.input) (Err why)
             → OneSent k limit h.input [] (λ whole. (length h.input ≤ most_bytes) × IsCanonical order k out limit h.input whole) (NormaliseAnswers order k out limit most_bytes h.input []) (Err why)
         answer (one.Engine w) a = refused w (read_refused k limit most_bytes h.input w h.answer.1 a)
-        answer (one.NoItem p) a = ((cow_slice_items a.0.0, a.0.1), a.1, refl)
-        answer (one.MoreItems p) a = ((cow_slice_items a.0.0, a.0.1), a.1, refl)
+        answer _ a = ((cow_slice_items a.0.0, a.0.1), a.1, refl)
 
     pub unsent_shown : (why : OneFault) → OneAnswer k limit now (ShownWhole k out limit now) (Err why) → ShowsOne k out limit most_bytes before after sent sent (Err why)
     unsent_shown why a = record { input = h.input; output = []; taken = h.taken; given = nothing_written sent; answer = answer why (subst (λ (x : List ℕ). OneAnswer k limit x (ShownWhole k out limit x) (Err why)) same a); to_end = at_end why }
@@ -190,8 +178,7 @@ module _ (order : List ℕ → List ℕ → Ordering) (k out : Kind) (limit : �
         answer : (why : OneFault) → OneAnswer k limit h.input (ShownWhole k out limit h.input) (Err why)
             → OneSent k limit h.input [] (λ whole. (length h.input ≤ most_bytes) × IsShown k out limit h.input whole) (ShowAnswers k out limit most_bytes h.input []) (Err why)
         answer (one.Engine w) a = refused w a
-        answer (one.NoItem p) a = ((cow_slice_items a.0.0, a.0.1), a.1, refl)
-        answer (one.MoreItems p) a = ((cow_slice_items a.0.0, a.0.1), a.1, refl)
+        answer _ a = ((cow_slice_items a.0.0, a.0.1), a.1, refl)
 
     -- it is answered
     module _ (sent_after : Option (List ℕ)) (answer : CowSlice ℕ Global) (ys : List ℕ) (r : Result Unit OutputFault) (f : ys ≡ cow_slice_items answer) (w : Sends sent sent_after ys r) where
@@ -243,14 +230,12 @@ module _ (order : List ℕ → List ℕ → Ordering) (limit : ℕ) (before afte
       answer : (r : Result (Option Defect) OneFault) → OneAnswer kind.Wire limit h.input (CheckedWhole order limit h.input) r → OneAnswer kind.Wire limit h.input (CheckAnswers order limit most_bytes h.input) r
       answer (Ok d) a = a
       answer (Err (one.Engine w)) a = read_refused kind.Wire limit most_bytes h.input w h.answer.1 a
-      answer (Err (one.NoItem p)) a = a
-      answer (Err (one.MoreItems p)) a = a
+      answer (Err _) a = a
 
       at_end : (r : Result (Option Defect) OneFault) → IsReadForOne r after
       at_end (Ok d) = h.answer.2
       at_end (Err (one.Engine w)) = ended (Option Defect) w after h.answer.2
-      at_end (Err (one.NoItem p)) = h.answer.2
-      at_end (Err (one.MoreItems p)) = h.answer.2
+      at_end (Err _) = h.answer.2
 
 -- ---- and what was compared
 

@@ -1,12 +1,11 @@
 -- What is answered where two inputs are read, each of which has to hold exactly one item.
-use Rattle.std.proofs.Common.{◌≡◌, ◌≢◌, refl, sym, ap, ◌∙◌, subst, ◌⊎◌, ◌↔◌, ℕ, ◌≤◌, List, [], length, Bool, IsTrue, Decides, Option, None, Some, Result, Ok, Err, Vec, Global, Ordering, inl, inr, arith}
-use Rattle.std.specs.Io.KnownBytes.{Consumes, IsAtEnd}
+use Rattle.std.proofs.Common.{◌≡◌, refl, sym, ap, ◌∙◌, subst, ◌⊎◌, ℕ, ◌≤◌, List, [], length, Bool, Decides, Option, None, Some, Result, Ok, Err, Vec, Global, Ordering, inl, inr, arith}
+use Rattle.std.specs.Io.KnownBytes.{Consumes}
 use Rattle.cborn_model.specs.Orders.{IsKeyOrder}
 use Rattle.cborn_streams.specs.declared.faults.InputFault.{InputFault}
 use Rattle.cborn_streams.specs.declared.faults.InputFault.TheVariants as input
-use Rattle.cborn_streams.specs.Failures.{CountsFault, failures_after_read}
+use Rattle.cborn_streams.specs.Failures.{CountsFault}
 use Rattle.cborn_streams.specs.Reading.{Collects, CollectAnswers}
-use Rattle.cborn_engine.specs.declared.faults.EngineFault.{EngineFault}
 use Rattle.cborn_engine.specs.declared.faults.EngineFault.TheVariants as fault
 use Rattle.cborn_engine.specs.declared.one_faults.OneFault.{OneFault}
 use Rattle.cborn_engine.specs.declared.one_faults.OneFault.TheVariants as one
@@ -15,12 +14,10 @@ use Rattle.cborn_engine.specs.declared.kinds.Kind.{Kind}
 use Rattle.cborn_engine.specs.declared.kinds.Kind.TheVariants as kind
 use Rattle.cborn_engine.specs.Canonical.{IsCanonical}
 use Rattle.cborn_engine.specs.Faults.{of_input}
-use Rattle.cborn_engine.specs.OneItem.{SpellsOne, HoldsOne, IsNotOne, OneAnswer, IsSameItem, MatchAnswers, of_first_one, of_second_one, ComparesOne, AreReadForOne, IsReadForOne}
-use Rattle.cborn_engine.specs.devices.Counting.{read_failures_at}
+use Rattle.cborn_engine.specs.OneItem.{HoldsOne, IsNotOne, OneAnswer, MatchAnswers, of_first_one, of_second_one, ComparesOne, AreReadForOne, IsReadForOne}
 use Rattle.cborn_engine.specs.devices.Encoding.{EncodeAnswers, IsEncoded}
-use Rattle.cborn_engine.specs.devices.OneItem.{ReadsOne, one_failures, one_failures_at}
+use Rattle.cborn_engine.specs.devices.OneItem.{ReadsOne, one_failures_at}
 use Rattle.cborn_engine.specs.Reading.{most_bytes}
-use Rattle.cborn_engine.specs.Refusing.{IsRead}
 use Rattle.cborn_engine.proofs.Answers.Whole.{ended}
 use Rattle.cborn_engine.proofs.OneItem.Answered.{holds_one, same_forms_match}
 
@@ -49,15 +46,13 @@ module _ (order : List ℕ → List ℕ → Ordering) (k : Kind) (limit : ℕ) (
       at_end : (r : Result (Vec ℕ Global) OneFault) → IsReadForOne r after
       at_end (Ok a) = h.answer.2
       at_end (Err (one.Engine w)) = ended (Vec ℕ Global) w after h.answer.2
-      at_end (Err (one.NoItem p)) = h.answer.2
-      at_end (Err (one.MoreItems p)) = h.answer.2
+      at_end (Err _) = h.answer.2
 
 -- a count of items is no failed read
 pub count_quiet : (k : Kind) (limit : ℕ) (x : List ℕ) (why : OneFault) (n : ℕ) → (why ≡ one.Engine fault.OutOfMemory) ⊎ IsNotOne k limit x why → one_failures_at why n ≡ n
 count_quiet k limit x why n (inl e) = ap (λ (w : OneFault). one_failures_at w n) e
 count_quiet k limit x (one.Engine w) n (inr h) = absurd h
-count_quiet k limit x (one.NoItem p) n (inr h) = refl
-count_quiet k limit x (one.MoreItems p) n (inr h) = refl
+count_quiet k limit x _ n (inr h) = refl
 
 -- ---- two inputs
 
@@ -72,14 +67,11 @@ module _ (order : List ℕ → List ℕ → Ordering) (laws : IsKeyOrder order) 
       answer : (why : OneFault) → OneAnswer k limit h.input (EncodeAnswers order k limit most_bytes h.input) (Err why) → MatchAnswers k l limit h.input [] (Err (of_first_one why))
       answer (one.Engine fault.OutOfMemory) a = let n : 0 ≤ most_bytes = omega arith in (a, n)
       answer (one.Engine _) a = ((a, λ p. absurd cc), refl)
-      answer (one.NoItem p) a = ((a.0.1.0, (a.0.1.1.items, a.0.1.1.held), a.1), refl)
-      answer (one.MoreItems p) a = ((a.0.1.0, (a.0.1.1.items, a.0.1.1.held), a.1), refl)
+      answer _ a = ((a.0.1.0, (a.0.1.1.items, a.0.1.1.held), a.1), refl)
 
       at_end : (why : OneFault) → IsReadForOne {A = Vec ℕ Global} (Err why) after → AreReadForOne (Err (of_first_one why)) after before2
       at_end (one.Engine fault.OutOfMemory) e = tt
-      at_end (one.Engine _) e = e
-      at_end (one.NoItem p) e = e
-      at_end (one.MoreItems p) e = e
+      at_end _ e = e
 
   held_first : (bytes : Vec ℕ Global) (h : ReadsOne order k limit before after (Ok bytes)) → HoldsOne k limit h.input
   held_first bytes h = holds_one k limit h.input h.answer.0.1.items h.answer.0.1.held h.answer.1
@@ -90,14 +82,11 @@ module _ (order : List ℕ → List ℕ → Ordering) (laws : IsKeyOrder order) 
       answer : (why : OneFault) → OneAnswer l limit h.input (EncodeAnswers order l limit most_bytes h.input) (Err why) → MatchAnswers k l limit g.input h.input (Err (of_second_one why))
       answer (one.Engine fault.OutOfMemory) a = (g.answer.0.0, a)
       answer (one.Engine _) a = (g.answer.0.0, held_first bytes g, (a, λ p. absurd cc))
-      answer (one.NoItem p) a = (g.answer.0.0, held_first bytes g, (a.0.1.0, (a.0.1.1.items, a.0.1.1.held), a.1))
-      answer (one.MoreItems p) a = (g.answer.0.0, held_first bytes g, (a.0.1.0, (a.0.1.1.items, a.0.1.1.held), a.1))
+      answer _ a = (g.answer.0.0, held_first bytes g, (a.0.1.0, (a.0.1.1.items, a.0.1.1.held), a.1))
 
       at_end : (why : OneFault) → IsReadForOne {A = Vec ℕ Global} (Err why) after2 → AreReadForOne (Err (of_second_one why)) after after2
       at_end (one.Engine fault.OutOfMemory) e = tt
-      at_end (one.Engine _) e = (g.to_end, e)
-      at_end (one.NoItem p) e = (g.to_end, e)
-      at_end (one.MoreItems p) e = (g.to_end, e)
+      at_end _ e = (g.to_end, e)
 
   form : (j : Kind) (x v : List ℕ) → IsEncoded order j limit x v → IsCanonical order j kind.Wire limit x v
   form j x v e = record { items = e.items; held = e.held; written = e.encoded }
@@ -111,28 +100,18 @@ module _ (order : List ℕ → List ℕ → Ordering) (laws : IsKeyOrder order) 
 
 pub first_one_counted : {A : Type 0} (why : OneFault) (n m : ℕ) → m ≡ one_failures_at why n → CountsFault {A = A} (compared.First (one.Engine fault.ReadFault)) (Err (of_first_one why)) n m
 first_one_counted (one.Engine fault.ReadFault) n m e = (λ p. e, λ p. absurd (p refl))
-first_one_counted (one.Engine fault.OutOfMemory) n m e = (λ p. absurd cc, λ p. e)
-first_one_counted (one.Engine _) n m e = (λ p. absurd cc, λ p. e)
-first_one_counted (one.NoItem q) n m e = (λ p. absurd cc, λ p. e)
-first_one_counted (one.MoreItems q) n m e = (λ p. absurd cc, λ p. e)
+first_one_counted _ n m e = (λ p. absurd cc, λ p. e)
 
 pub second_one_counted : {A : Type 0} (why : OneFault) (n m : ℕ) → m ≡ one_failures_at why n → CountsFault {A = A} (compared.Second (one.Engine fault.ReadFault)) (Err (of_second_one why)) n m
 second_one_counted (one.Engine fault.ReadFault) n m e = (λ p. e, λ p. absurd (p refl))
-second_one_counted (one.Engine fault.OutOfMemory) n m e = (λ p. absurd cc, λ p. e)
-second_one_counted (one.Engine _) n m e = (λ p. absurd cc, λ p. e)
-second_one_counted (one.NoItem q) n m e = (λ p. absurd cc, λ p. e)
-second_one_counted (one.MoreItems q) n m e = (λ p. absurd cc, λ p. e)
+second_one_counted _ n m e = (λ p. absurd cc, λ p. e)
 
 -- the second isn't read
 pub second_one_kept : {A : Type 0} (why : OneFault) (n m : ℕ) → m ≡ n → CountsFault {A = A} (compared.Second (one.Engine fault.ReadFault)) (Err (of_first_one why)) n m
 second_one_kept (one.Engine fault.OutOfMemory) n m e = (λ p. absurd cc, λ p. e)
-second_one_kept (one.Engine _) n m e = (λ p. absurd cc, λ p. e)
-second_one_kept (one.NoItem q) n m e = (λ p. absurd cc, λ p. e)
-second_one_kept (one.MoreItems q) n m e = (λ p. absurd cc, λ p. e)
+second_one_kept _ n m e = (λ p. absurd cc, λ p. e)
 
 -- the first was read
 pub first_one_kept : {A : Type 0} (why : OneFault) (n m : ℕ) → m ≡ n → CountsFault {A = A} (compared.First (one.Engine fault.ReadFault)) (Err (of_second_one why)) n m
 first_one_kept (one.Engine fault.OutOfMemory) n m e = (λ p. absurd cc, λ p. e)
-first_one_kept (one.Engine _) n m e = (λ p. absurd cc, λ p. e)
-first_one_kept (one.NoItem q) n m e = (λ p. absurd cc, λ p. e)
-first_one_kept (one.MoreItems q) n m e = (λ p. absurd cc, λ p. e)
+first_one_kept _ n m e = (λ p. absurd cc, λ p. e)

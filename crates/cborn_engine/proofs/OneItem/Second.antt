@@ -2,13 +2,13 @@
 use Rattle.std.proofs.Common.{◌≡◌, ◌≢◌, refl, sym, ap, ◌∙◌, subst, ℕ, ◌+◌, ◌≤◌, List, [], ◌∷◌, ◌++◌, length, take, drop, arith, append-nil, length-append}
 use Rattle.cborn_engine.proofs.Answers.Listed.{TextRead, twins_read}
 use Rattle.std.proofs.lemmas.List.{take-append-drop, length-take-le}
+use Rattle.std.proofs.Math.Seq.{take-append_seam}
 use Rattle.std.specs.Prelude.{IsUtf8, Some, slice_get}
 use Rattle.std.specs.List.{AllZip}
 use Rattle.cborn_model.specs.Tree.{Tree, Uint, Nint, Bytes, Text, ByteChunks, TextChunks, Items, Pairs, Tagged, Simple, Trees, no_item, more, trees, place}
 use Rattle.cborn_model.specs.Placed.{Placed, PlacedAll}
-use Rattle.cborn_model.specs.Spelled.{spelled, spelled_all, Fits, FitsAll, Wellformed}
+use Rattle.cborn_model.specs.Spelled.{spelled, spelled_all, Wellformed}
 use Rattle.cborn_wire.specs.Places.{all_from}
-use Rattle.cborn_wire.specs.Slots.{OpenContainer, beginnings}
 use Rattle.cborn_wire.proofs.Spelled.AsPlaced.{spelled_all-from, depth_all-from, fits_all-from, placed_all-from}
 use Rattle.cborn_wire.proofs.Spelled.TreeLists.{tree_list, trees-tree_list}
 use Rattle.cborn_model.proofs.Lengths.{some_bytes}
@@ -21,7 +21,8 @@ use Rattle.cborn_edn.specs.Starts.{starts, starts_all}
 use Rattle.cborn_engine.proofs.Answers.Flawed.{HasNoStart}
 use Rattle.cborn_edn.specs.Spelling.{MaySpell}
 use Rattle.cborn_paths.specs.declared.paths.Step.TheVariants.{Item}
-use Rattle.cborn_paths.specs.Paths.{EndsAt, steps, step_in}
+use Rattle.cborn_paths.specs.Paths.{EndsAt}
+use Rattle.cborn_paths.proofs.Walking.FirstItem.{one_item}
 use Rattle.cborn_engine.specs.declared.kinds.Kind.TheVariants as kind
 use Rattle.cborn_engine.specs.devices.Encoding.{kind_of}
 use Rattle.cborn_engine.specs.Holding.{IsNotation, Spells, SpellsInPlace}
@@ -31,24 +32,7 @@ use Rattle.cborn_engine.proofs.Held.Notated.{fits}
 
 -- ---- bytes
 
-some_steps : (ts : Trees) (os : List OpenContainer) → 1 ≤ length (steps ts os)
-some_steps ts [] = omega arith
-some_steps ts (o ∷ os) = omega (arith, length-append (steps ts os) (step_in o ∷ []))
-
-same_index : (n m : ℕ) → Item n ∷ [] ≡ Item m ∷ [] → n ≡ m
-same_index n m e = cc
-
--- the node that a front spells which ends after one
-front_node : (x : List ℕ) → EndsAt x (Item 1 ∷ []) → (u : Tree) × Fits u × (spelled u ≡ x)
-front_node x (us, os, fit, deep, opened, is, path) = go us os fit is path
-  where
-    go : (us : Trees) (os : List OpenContainer) → FitsAll us → x ≡ spelled_all us ++ beginnings os → Item 1 ∷ [] ≡ steps us os → (u : Tree) × Fits u × (spelled u ≡ x)
-    go us (o ∷ os) fit is path = absurd (omega (arith, ap length path, length-append (steps us os) (step_in o ∷ []), some_steps us os))
-    go no_item [] fit is path = absurd (let n = same_index 1 0 path in omega (arith, n))
-    go (more u no_item) [] fit is path = (u, fit.0, sym (is ∙ append-nil (spelled u ++ []) ∙ append-nil (spelled u)))
-    go (more u (more v vs)) [] fit is path = absurd (let n = same_index 1 _ path in omega (arith, n))
-
--- it is the first
+-- the first node, where a front ends after one
 record Begins (limit : ℕ) (x : List ℕ) (ns : List Tree) (end : ℕ) : Type 0 where
   first : Tree
   others : List Tree
@@ -58,13 +42,13 @@ record Begins (limit : ℕ) (x : List ℕ) (ns : List Tree) (end : ℕ) : Type 0
 
 begins : (limit : ℕ) (x : List ℕ) (ns : List Tree) (end : ℕ) → Wellformed limit (trees ns) x → end ≤ length x → EndsAt (take end x) (Item 1 ∷ []) → Begins limit x ns end
 begins limit x [] end w l e =
-    let f = front_node (take end x) e in
-    absurd (omega (arith, some_bytes f.0, ap length f.2, length-take-le end x l, ap length w.spells, l))
+    let f = one_item (take end x) e in
+    absurd (omega (arith, some_bytes f.0, ap length f.1, length-take-le end x l, ap length w.spells, l))
 begins limit x (n ∷ ns) end w l e =
-    let f = front_node (take end x) e in
-    let whole : spelled n ++ spelled_all (trees ns) ≡ spelled f.0 ++ drop end x = w.spells ∙ sym (take-append-drop end x) ∙ ap (λ (y : List ℕ). y ++ drop end x) (sym f.2) in
-    let same = one_front n f.0 (spelled_all (trees ns)) (drop end x) w.fit.0 f.1 whole in
-    let long : length (spelled n) ≡ end = ap length same.0 ∙ ap length f.2 ∙ length-take-le end x l in
+    let f = one_item (take end x) e in
+    let whole : spelled n ++ spelled_all (trees ns) ≡ spelled f.0 ++ drop end x = w.spells ∙ sym (take-append-drop end x) ∙ ap (λ (y : List ℕ). y ++ drop end x) f.1 in
+    let same = one_front n f.0 (spelled_all (trees ns)) (drop end x) w.fit.0 f.2 whole in
+    let long : length (spelled n) ≡ end = ap length same.0 ∙ sym (ap length f.1) ∙ length-take-le end x l in
     record { first = n; others = ns; are = refl; long = long; rest = omega (arith, ap length w.spells, length-append (spelled n) (spelled_all (trees ns)), long) }
 
 no_more : (ns : List Tree) → length (spelled_all (trees ns)) ≡ 0 → ns ≡ []
@@ -144,6 +128,14 @@ second_in_bytes limit x ns end w l e at =
     let f = follows limit x m.0 end m.1.0 l e at in
     let spelled : SpellsInPlace kind.Wire limit x (f.first ∷ f.second ∷ f.others) = subst (SpellsInPlace kind.Wire limit x) f.are m.1 in
     record { first = f.first; second = f.second; rest = f.others; spelled = spelled; here = omega (arith, placed_there f.second _ spelled.1.1.0, f.long) }
+
+-- Well-formed bytes that don't begin with an item hold none.
+pub none_first : (limit : ℕ) (x : List ℕ) (ts : Trees) → limit ≤ 1024 → Wellformed limit ts x → ((len : ℕ) → EndsAt (take len x) (Item 1 ∷ []) → ⊥) → ts ≡ no_item
+none_first limit x no_item low w none = refl
+none_first limit x (more t ts) low w none =
+    let first : take (length (spelled t)) x ≡ spelled t = ap (take (length (spelled t))) (sym w.spells) ∙ take-append_seam (spelled t) (spelled_all ts) in
+    let alone : spelled t ≡ (spelled t ++ []) ++ [] = sym (append-nil (spelled t ++ []) ∙ append-nil (spelled t)) in
+    absurd (none (length (spelled t)) (more t no_item, [], (w.fit.0, tt), omega (arith, w.shallow, low), tt, first ∙ alone, refl))
 
 no_nodes : (ns : List Tree) → trees ns ≡ no_item → ns ≡ []
 no_nodes [] e = refl

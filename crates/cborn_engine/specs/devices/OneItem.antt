@@ -6,7 +6,7 @@ use Rattle.std.specs.Io.KnownBytes.{Consumes}
 use Rattle.cborn_engine.specs.declared.kinds.Kind.{Kind}
 use Rattle.cborn_engine.specs.declared.one_faults.OneFault.{OneFault}
 use Rattle.cborn_engine.specs.declared.one_faults.OneFault.TheVariants as one
-use Rattle.cborn_engine.specs.devices.Counting.{read_failures_at, write_failures_at}
+use Rattle.cborn_engine.specs.devices.Counting.{read_failures_at}
 use Rattle.cborn_engine.specs.devices.Encoding.{EncodeAnswers}
 use Rattle.cborn_engine.specs.OneItem.{OneAnswer, IsReadForOne}
 use Rattle.cborn_engine.specs.Reading.{most_bytes}

@@ -1,17 +1,20 @@
 -- How far a walk over the first item has come.
-use Rattle.std.proofs.Common.{◌≡◌, refl, sym, ap, ◌∙◌, subst, ℕ, ◌+◌, ◌≤◌, List, [], ◌∷◌, ◌++◌, length, take, Bool, true, false, Option, Some, None, if◌then◌else◌, inl, inr, arith, append-nil, length-append}
+use Rattle.std.proofs.Common.{◌≡◌, refl, sym, ap, ◌∙◌, subst, ℕ, ◌≤◌, List, [], ◌∷◌, ◌++◌, length, take, drop, Bool, true, false, Option, Some, None, if◌then◌else◌, inl, inr, arith, append-nil, length-append}
+use Rattle.std.proofs.lemmas.List.{length-take-le, take-append-drop}
 use Rattle.std.specs.Prelude.{nat_le}
 use Rattle.cborn_model.specs.declared.heads.Major.{Major}
 use Rattle.cborn_model.specs.declared.heads.Major.TheVariants as majors
 use Rattle.cborn_model.specs.Heads.{Given, EndlessArgument}
 use Rattle.cborn_model.specs.Heads as heads
-use Rattle.cborn_model.specs.Tree.{Trees, no_item, more, count, depth_all}
-use Rattle.cborn_model.specs.Spelled.{spelled_all, Wellformed}
-use Rattle.cborn_wire.specs.Slots.{OpenContainer}
+use Rattle.cborn_model.specs.Tree.{Tree, Trees, no_item, more, count, depth, depth_all}
+use Rattle.cborn_model.specs.Spelled.{spelled, spelled_all, Fits, FitsAll}
+use Rattle.cborn_wire.specs.Slots.{OpenContainer, beginnings}
 use Rattle.cborn_wire.specs.Places.{all_from}
-use Rattle.cborn_wire.specs.shared.Machine.{nothing, Live}
-use Rattle.cborn_wire.proofs.Machine.TakesOpen.{open_from}
+use Rattle.cborn_wire.specs.shared.Machine.{start, ready_in, run}
+use Rattle.cborn_wire.proofs.Feeding.Completing.{no_first}
+use Rattle.cborn_wire.proofs.Parts.Openings.{one_front}
 use Rattle.cborn_wire.proofs.Spelled.AsPlaced.{count-from}
+use Rattle.cborn_wire.proofs.Spelled.ByteLists.{split}
 use Rattle.cborn_paths.specs.declared.level_kinds.LevelKind.{LevelKind}
 use Rattle.cborn_paths.specs.declared.paths.Step.{Step}
 use Rattle.cborn_paths.specs.declared.paths.Step.TheVariants.{Item}
@@ -19,7 +22,7 @@ use Rattle.cborn_paths.specs.declared.walks.Level.{Level}
 use Rattle.cborn_paths.specs.declared.walks.OpenLevel.{OpenLevel}
 use Rattle.cborn_paths.specs.Levels.{step_of, path_of, turned, open_levels}
 use Rattle.cborn_paths.proofs.Walking.Levels.{count_open}
-use Rattle.cborn_paths.specs.Paths.{EndsAt, LeadsTo, steps}
+use Rattle.cborn_paths.specs.Paths.{EndsAt, LeadsTo, steps, step_in}
 use Rattle.cborn_paths.specs.devices.FirstItem.{IsBefore, IsAfter, IsUpTo}
 use Rattle.cborn_paths.specs.devices.Walks.{with_part, or_around, finish, leave, with_level, take_head, IsOpened}
 use Rattle.cborn_paths.proofs.Walking.Whole.{taken_between}
@@ -86,35 +89,54 @@ no_count : (ts : Trees) → count ts ≡ 0 → ts ≡ no_item
 no_count no_item e = refl
 no_count (more t ts) e = absurd (omega (arith, e))
 
-same_ready : (n : ℕ) (ts us : Trees) (os ps : List OpenContainer) → Live n ts os nothing ≡ Live n us ps nothing → (ts ≡ us) × (os ≡ ps)
-same_ready n ts us os ps e = (cc, cc)
+first_item : (n k : ℕ) (rest others : List Step) → Item n ∷ rest ≡ Item k ∷ others → n ≡ k
+first_item n k rest others e = cc
 
-none_open : (q : ℕ) (os : List OpenContainer) → [] ≡ open_from q os → os ≡ []
-none_open q [] e = refl
-none_open q (o ∷ os) e = absurd cc
+-- the first step counts the complete items
+first_step : (ts : Trees) (os : List OpenContainer) → (rest : List Step) × (steps ts os ≡ Item (count ts) ∷ rest)
+first_step ts [] = ([], refl)
+first_step ts (o ∷ os) = let r = first_step ts os in (r.0 ++ step_in o ∷ [], ap (λ (p : List Step). p ++ step_in o ∷ []) r.1)
 
-first_item : (n k : ℕ) (rest : List Step) → Item n ∷ [] ≡ Item k ∷ rest → n ≡ k
-first_item n k rest e = cc
-
-pub none_stands : (x : List ℕ) (ls : List Level) → IsBefore ls → LeadsTo x (length x) (path_of ls) → (limit : ℕ) (ts : Trees) → limit ≤ 1024 → Wellformed limit ts x → ts ≡ no_item
-none_stands x ls before (f, y, whole, up, (us, os, fits, deep, are_opened, is, path), longest) limit ts low well =
-    let shallow : depth_all ts ≤ 1024 = omega (arith, well.shallow, low) in
-    let itself : length x ≤ length x = omega arith in
-    let all : x ≡ spelled_all ts ++ [] = sym well.spells ∙ sym (append-nil (spelled_all ts)) in
-    let long = longest x [] (Item (count ts) ∷ []) (sym (append-nil x)) itself (ts, [], well.fit, shallow, tt, all, refl) in
-    let none_left : length y ≤ 0 = omega (arith, ap length whole, length-append f y, long) in
-    let same : f ≡ x = no_more f y whole none_left in
-    let ours = taken_between x ts [] well.fit shallow tt all in
-    let theirs = taken_between x us os fits deep are_opened (sym same ∙ is) in
-    let parts = same_ready (length x) (all_from 0 ts) (all_from 0 us) _ _ (sym ours ∙ theirs) in
-    let empty = none_open (0 + length (spelled_all (all_from 0 us))) os parts.1 in
-    let first = before_path ls before in
-    let none = first_item (count us) 0 first.0 (sym (path ∙ ap (steps us) empty) ∙ first.1) in
-    no_count ts (omega (arith, count-from ts 0, count-from us 0, ap count parts.0, none))
+-- what ends at the second item is one item
+pub one_item : (x : List ℕ) → EndsAt x (Item 1 ∷ []) → (t : Tree) × (x ≡ spelled t) × Fits t × (depth t ≤ 1024)
+one_item x (ts, os, fit, deep, opened, is, path) = go ts os fit deep is path
   where
-    no_more : (f y : List ℕ) → x ≡ f ++ y → length y ≤ 0 → f ≡ x
-    no_more f [] e l = sym (e ∙ append-nil f)
-    no_more f (b ∷ y) e l = absurd (omega (arith, l))
+    go : (ts : Trees) (os : List OpenContainer) → FitsAll ts → depth_all ts ≤ 1024 → x ≡ spelled_all ts ++ beginnings os → Item 1 ∷ [] ≡ steps ts os → (t : Tree) × (x ≡ spelled t) × Fits t × (depth t ≤ 1024)
+    go ts (o ∷ os) fit deep is path = absurd (let r = first_step ts os in omega (arith, ap length path, length-append (steps ts os) (step_in o ∷ []), ap length r.1))
+    go no_item [] fit deep is path = absurd (let n = first_item 1 0 [] [] path in omega (arith, n))
+    go (more t no_item) [] fit deep is path = (t, is ∙ append-nil (spelled t ++ []) ∙ append-nil (spelled t), fit.0, omega (arith, deep))
+    go (more t (more u us)) [] fit deep is path = absurd (let n = first_item 1 _ [] [] path in omega (arith, n))
+
+-- No front is an item: in a longer front that ends between two heads it would be complete.
+pub none_begins : (x : List ℕ) (ls : List Level) → IsBefore ls → LeadsTo x (length x) (path_of ls) → (len : ℕ) → EndsAt (take len x) (Item 1 ∷ []) → ⊥
+none_begins x ls before (f, y, whole, up, (us, os, fits, deep, are_opened, is, path), longest) len ends =
+    let g = take len x in
+    let z = drop len x in
+    let cut : g ++ z ≡ x = take-append-drop len x in
+    let within : length g ≤ length x = omega (arith, ap length cut, length-append g z) in
+    let (m, beyond) = split g f z y (cut ∙ whole) (longest g z (Item 1 ∷ []) (sym cut) within ends) in
+    let (t, spells, fit, shallow) = one_item g ends in
+    let none = first_item (count us) 0 (first_step us os).0 (before_path ls before).0 (sym (first_step us os).1 ∙ sym path ∙ (before_path ls before).1) in
+    let empty : all_from 0 us ≡ no_item = no_count (all_from 0 us) (omega (arith, count-from us 0, none)) in
+    let ready : ready_in (run 1024 (start 0) f) ≡ no_item = ap ready_in (taken_between f us os fits deep are_opened is) ∙ empty in
+    no_first 1024 0 f t m ready (beyond ∙ ap (λ l. l ++ m) spells) fit shallow
+
+-- ---- where an item ends
+
+-- two items at one place end together
+one_end : (x : List ℕ) (n m : ℕ) → n ≤ length x → m ≤ length x → EndsAt (take n x) (Item 1 ∷ []) → EndsAt (take m x) (Item 1 ∷ []) → n ≡ m
+one_end x n m low up e h =
+    let (t, t_is, t_fits, t_low) = one_item (take n x) e in
+    let (u, u_is, u_fits, u_low) = one_item (take m x) h in
+    let both = ap (λ l. l ++ drop n x) (sym t_is) ∙ take-append-drop n x ∙ sym (take-append-drop m x) ∙ ap (λ l. l ++ drop m x) u_is in
+    let same = one_front t u (drop n x) (drop m x) t_fits u_fits both in
+    omega (arith, length-take-le n x low, length-take-le m x up, ap length t_is, ap length u_is, ap length same.0)
+
+-- A walk over the first item is at its end, if there is one.
+pub walked_to_end : (x : List ℕ) (at : ℕ) (ls : List Level) (has : Bool) → IsOpened x at ls → (has ≡ true → IsAfter ls) → (has ≡ false → IsBefore ls × LeadsTo x (length x) (path_of ls))
+    → (len : ℕ) → len ≤ length x → EndsAt (take len x) (Item 1 ∷ []) → at ≡ len
+walked_to_end x at ls true opened after before len up ends = one_end x at len opened.0 up (item_ends x at ls opened (after refl)) ends
+walked_to_end x at ls false opened after before len up ends = absurd (none_begins x ls (before refl).0 (before refl).1 len ends)
 
 -- ---- where more than the input is open
 

@@ -1,4 +1,4 @@
-use Rattle.std.proofs.Common.{arith, refl, subst}
+use Rattle.std.proofs.Common.{arith, subst}
 use Rattle.cborn_departures.specs.Departing.{IsFirstDeparture}
 use Rattle.cborn_transcode.specs.Transcoding.{HoldsNoItems}
 use Rattle.cborn_transcode.proofs.Nothings.{some_items}

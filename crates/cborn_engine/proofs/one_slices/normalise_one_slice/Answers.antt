@@ -1,5 +1,4 @@
-use Rattle.cborn_engine.specs.OneItem.{OneAnswer, NormalisedWhole, ShownWhole, CheckedWhole}
-use Rattle.cborn_engine.specs.declared.kinds.Kind.TheVariants as kind
+use Rattle.cborn_engine.specs.OneItem.{OneAnswer, NormalisedWhole}
 use Rattle.cborn_engine.proofs.Answers.KnownErrors.{known_error}
 use Rattle.cborn_engine.proofs.Answers.Malformed.{unfaulted}
 use Rattle.cborn_engine.proofs.OneItem.Answered.{kept_one}

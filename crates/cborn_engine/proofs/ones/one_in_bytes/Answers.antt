@@ -1,13 +1,14 @@
 use Rattle.std.proofs.Common.{◌≤◌, inr, refl, arith}
 use Rattle.cborn_model.specs.Tree.{trees}
-use Rattle.cborn_engine.proofs.OneItem.Second.{none_in_bytes, one_in_bytes, second_in_bytes}
+use Rattle.cborn_engine.proofs.OneItem.Second.{none_first, none_in_bytes, one_in_bytes, second_in_bytes}
 use Rattle.cborn_engine.proofs.ones.one_in_bytes.Goals as goal
 
 pub returns-in_default-clause-refused : goal.returns-in_default-clause-refused
 returns-in_default-clause-refused c =
     let s = c.requires.spelled in
     let low : c.args.limit ≤ 1024 = omega (arith, c.get-most.ensures.value, c.get-most.ensures.most) in
-    inr ((none_in_bytes c.args.limit c.args.input.now s.0 s.1 (c.in_ok-end.ensures.none c.in_default.is c.args.limit (trees s.0) low s.1)).0, refl)
+    let none = none_first c.args.limit c.args.input.now (trees s.0) low s.1 (c.in_ok-end.ensures.none c.in_default.is) in
+    inr ((none_in_bytes c.args.limit c.args.input.now s.0 s.1 none).0, refl)
 
 pub returns-clause-refused : goal.returns-clause-refused
 returns-clause-refused c =

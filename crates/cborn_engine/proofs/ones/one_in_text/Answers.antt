@@ -12,7 +12,7 @@ use Rattle.cborn_engine.specs.OneItem.{IsNotOne}
 use Rattle.cborn_engine.specs.Reading.{most_bytes}
 use Rattle.cborn_engine.proofs.Answers.KnownErrors.{known_error}
 use Rattle.cborn_engine.proofs.OneItem.Refused.{refused_memory}
-use Rattle.cborn_engine.proofs.OneItem.Second.{spelled_well, none_in_text, one_in_text}
+use Rattle.cborn_engine.proofs.OneItem.Second.{spelled_well, none_first, none_in_text, one_in_text}
 use Rattle.cborn_engine.proofs.ones.one_in_text.Goals as goal
 
 pub returns-in_default-clause-refused : goal.returns-in_default-clause-refused
@@ -22,7 +22,8 @@ returns-in_default-clause-refused c =
     let low : c.args.limit ≤ 1024 = omega (arith, c.get-most.ensures.value, c.get-most.ensures.most) in
     let well = spelled_well c.args.profile c.args.limit c.args.input.now read.bytes.items c.requires.short read.ensures.spelled.0 s in
     let here : Wellformed c.args.limit (trees (twins_read s).twins) c.deref.result.now = subst (λ (x : List ℕ). Wellformed c.args.limit (trees (twins_read s).twins) x) (sym c.deref.ensures.value) well in
-    inr (none_in_text c.args.profile c.args.limit c.args.input.now read.bytes.items c.requires.short read.ensures.spelled.0 s (c.in_ok-end.ensures.none c.in_default.is c.args.limit (trees (twins_read s).twins) low here), refl)
+    let none = none_first c.args.limit c.deref.result.now (trees (twins_read s).twins) low here (c.in_ok-end.ensures.none c.in_default.is) in
+    inr (none_in_text c.args.profile c.args.limit c.args.input.now read.bytes.items c.requires.short read.ensures.spelled.0 s none, refl)
 
 pub returns-then-end-len-clause-one : goal.returns-then-end-len-clause-one
 returns-then-end-len-clause-one c =

@@ -1,7 +1,4 @@
-use Rattle.std.proofs.Common.{List}
-use Rattle.cborn_model.specs.Placed.{PlacedAll}
-use Rattle.cborn_model.specs.Spelled.{Wellformed}
-use Rattle.cborn_model.specs.Tree.{Tree, trees}
+use Rattle.cborn_model.specs.Tree.{trees}
 use Rattle.cborn_edn.specs.declared.faults.ShowFault.TheVariants.{NotUtf8}
 use Rattle.cborn_engine.specs.declared.kinds.Kind.TheVariants as kind
 use Rattle.cborn_engine.specs.Reading.{most_bytes}
