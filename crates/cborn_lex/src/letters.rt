@@ -107,7 +107,6 @@ pub fn push_letters(
 {
     let mut at = from;
     'letters: while at < tail.len() {
-        at = push_short_runs(quote, tail, at, out)?;
         let n = push_run(quote, tail, at, out)?;
         at += n;
         if at == tail.len() {
@@ -121,7 +120,10 @@ pub fn push_letters(
             return Ok(None);
         }
         match push_escape(quote, tail, at, out)? {
-            Some(end) => at = end,
+            Some(end) => {
+                let is_dense = n <= 16 && end - at == 2;
+                at = push_short_runs(quote, tail, end, is_dense, out)?;
+            }
             None => return Ok(None),
         }
     }
@@ -131,13 +133,14 @@ pub fn push_letters(
 /// Appends what the letters from the offset `from` of `tail` on stand for, as long as they are
 /// escapes of two characters and short runs of plain letters. Gives the offset at which it stops.
 /// It finds the letters of a block that aren't plain all at once, so that an escape needn't wait
-/// for the one before it. That pays only in a long string, so it does nothing in the first 64
-/// letters.
+/// for the one before it. That pays only in a long string with many such escapes, so it does
+/// nothing in the first 64 letters, nor if `is_dense` is false.
 #[inline(always)]
 fn push_short_runs(
     quote: u8,
     tail: &[u8],
     from: usize,
+    is_dense: bool,
     out: &mut Vec<u8>,
 ) -> Result<usize, AllocError>
     requires double_or_single { (quote ≡ 34) ⊎ (quote ≡ 39) }
@@ -146,7 +149,7 @@ fn push_short_runs(
     ensures letters { IfOk result (λ at. (old : List ℕ) → LettersSoFar quote tail.now from old out.old.items → LettersSoFar quote tail.now at old out.new.items) }
     ensures before { take (length out.old.items) out.new.items ≡ out.old.items }
 {
-    if from < 64 || tail.len() - from < 96 {
+    if !is_dense || from < 64 || tail.len() - from < 96 {
         return Ok(from);
     }
     let mut at = from;
