@@ -4,8 +4,8 @@
     must_fail.py [CRATE ..]    those of these crates, or of all
     must_fail.py --together    of all crates those that `rt ci` doesn't try
 
-`rt ci` tries each edit of crates/CRATE/must-fail by itself, after one more proof of the crate. Those of crates/CRATE/must-fail-together
-are tried here alone. An edit is a file NAME.edit: a line 'fn: ' with the function that it turns, as `rt check` names it (`rt ci`
+`rt ci` tries each edit of crates/CRATE/must-fail by itself, after one more proof of the crate. Those of
+crates/CRATE/must-fail-together are tried here alone. An edit is a file NAME.edit: a line 'fn: ' with the function that it turns, as `rt check` names it (`rt ci`
 passes over that line), then a line 'file: ' with a file of the crate and pairs of lines 'old: ' and 'new: ', each old text standing
 once in that file. The libraries below a crate have to be proved and built (`make build`).
 
