@@ -5,9 +5,9 @@
     must_fail.py --together    of all crates those that `rt ci` doesn't try
 
 `rt ci` tries each edit of crates/CRATE/must-fail by itself, after one more proof of the crate. Those of
-crates/CRATE/must-fail-together are tried here alone. An edit is a file NAME.edit: a line 'fn: ' with the function that it turns, as `rt check` names it (`rt ci`
-passes over that line), then a line 'file: ' with a file of the crate and pairs of lines 'old: ' and 'new: ', each old text standing
-once in that file. The libraries below a crate have to be proved and built (`make build`).
+crates/CRATE/must-fail-together are tried here alone. An edit is a file NAME.edit: a line 'fn: ' with the function that it turns, as
+`rt check` names it (`rt ci` passes over that line), then a line 'file: ' with a file of the crate and pairs of lines 'old: ' and
+'new: ', each old text standing once in that file. The libraries below a crate have to be proved and built (`make build`).
 
 The proof of a function rests on its own body and on what the functions that it calls promise, and never on their bodies. So
 many are turned at once, in a copy of the crate: one of each function, and one of each cycle of calls, whose functions are
