@@ -134,11 +134,13 @@ def below(crate, used):
     return {it for library in used[crate] for it in {library, *below(library, used)}}
 
 
-def copy(crate, to):
-    """Copies a crate, with what its last check kept, and the libraries below it as they were built, to the folder `to`."""
+def copy(crate, to, begins):
+    """Copies a crate and the libraries below it, as they were built, to the folder `to`; with what the crate's last check kept, if
+    this is to begin with it."""
     names = {crate, *below(crate, libraries())}
     for name in names:
-        for part in (*PARTS, "out/incremental" if name == crate else "out/rlib"):
+        own = ("out/incremental",) if begins else ()
+        for part in (*PARTS, *(own if name == crate else ("out/rlib",))):
             if (ROOT / "crates" / name / part).is_dir():
                 shutil.copytree(ROOT / "crates" / name / part, to / "crates" / name / part)
     rows = [it for it in (ROOT / "crates.txt").read_text(encoding="utf-8").splitlines() if re.split("[ :]", it)[0] in names]
@@ -199,12 +201,12 @@ def tried(crate, folder, bodies):
     return wrong, checks
 
 
-def of_crate(crate, folders):
+def of_crate(crate, folders, begins):
     """How many wrong bodies a crate has in these folders, in how many checks they were tried, and what is wrong."""
     folder = ROOT / "crates" / crate
     bodies = [read(path, folder) for it in folders for path in sorted(folder.glob(f"{it}/*.edit"))]
     with tempfile.TemporaryDirectory(prefix="must-fail-") as room:
-        wrong, checks = tried(crate, copy(crate, pathlib.Path(room)), bodies)
+        wrong, checks = tried(crate, copy(crate, pathlib.Path(room), begins), bodies)
     print(f"{crate}: {len(bodies)} must-fail edits, in {checks} checks", flush=True)
     return len(bodies), checks, wrong
 
@@ -215,6 +217,8 @@ def main():
     given.add_argument("--together", action="store_true", help="only those that rt ci doesn't try")
     words = given.parse_args()
     folders = (TOGETHER,) if words.together else (ALONE, TOGETHER)
+    # in the gate other commands write to out/ meanwhile
+    begins = not words.together
     # those that take longest first
     size = lambda crate: sum(it.stat().st_size for part in PARTS for it in (ROOT / "crates" / crate / part).rglob("*.*t"))
     edits = [path for folder in folders for path in ROOT.glob(f"crates/*/{folder}/*.edit")]
@@ -222,7 +226,7 @@ def main():
     try:
         # threads do: what takes time are the checks, each a process
         with concurrent.futures.ThreadPoolExecutor(len(os.sched_getaffinity(0))) as pool:
-            counts, checks, wrong = zip(*pool.map(lambda crate: of_crate(crate, folders), crates))
+            counts, checks, wrong = zip(*pool.map(lambda crate: of_crate(crate, folders, begins), crates))
     except Unfit as why:
         print(why)
         return 1
