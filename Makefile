@@ -11,7 +11,7 @@ STACK ?= 256
 # The size in MB of the inputs whose cost in memory is tested.
 COST ?= 8
 
-.PHONY: help try build test check-quick wrong-bodies layout tables vectors ample explanations growths failures counts cost instructions inlined left-out believed stack big library-growths built-tests bench install clean
+.PHONY: help try build test check-quick wrong-bodies wrong-bodies-alone layout tables vectors ample explanations growths failures counts cost instructions inlined left-out believed stack big library-growths built-tests bench install clean
 
 help:
 	@echo 'make try        build the program from its source, before any proof and not optimised, and run it: ARGS="check FILE", or seven bytes'
@@ -19,6 +19,7 @@ help:
 	@echo 'make test       the merge gate from nothing, then side by side make $(AFTER), and which of it was left out'
 	@echo 'make check-quick   while you change something: proves what changed, then make layout, tables and believed'
 	@echo 'make wrong-bodies   the must-fail edits that rt ci does not try, many in one check: the prover refuses each'
+	@echo 'make wrong-bodies-alone   rt ci with those edits too, each by itself: hours; CRATES="cborn_lex .." tries them of some crates'
 	@echo 'make try-tests  make try on its seven bytes, on files, on standard input and on a wrong option: one build, of a minute'
 	@echo 'make layout     whether each file of the crates is in the layout of rt fmt, cites what it may, makes up no out of memory, has no'
 	@echo '                new function of many arguments and keeps to the glossary, docs/PROMISES.md and the table of worked inputs are'
@@ -96,6 +97,17 @@ check-quick:
 
 wrong-bodies: build
 	python3 tests/must_fail.py --together
+
+# no part of make test: an edit by itself takes up to a minute
+wrong-bodies-alone: kit
+	rm -rf build/alone
+	mkdir -p build/alone
+	git archive HEAD | tar -x -C build/alone
+	for crate in $(or $(CRATES),$(notdir $(wildcard crates/*))); do \
+	    edits=build/alone/crates/$$crate/must-fail; \
+	    test ! -d $$edits-together || { mkdir -p $$edits && mv $$edits-together/*.edit $$edits; } || exit 1; \
+	done
+	cd build/alone && rt ci $(CRATES)
 
 layout:
 	@find crates -name out -prune -o \( -name '*.rt' -o -name '*.antt' \) -print0 | xargs -0 '$(dir $(shell rt doc))bin/rattle' fmt --check

@@ -211,6 +211,12 @@ def of_crate(crate, folders, begins):
     return len(bodies), checks, wrong
 
 
+def code_size(crate):
+    """How many bytes the code of a crate takes as the prover reads it, or 0 if it isn't built: its proof takes time by that."""
+    code = ROOT / f"crates/{crate}/out/rlib/{crate}.rlib/toolchain/mir.json"
+    return code.stat().st_size if code.exists() else 0
+
+
 def main():
     given = argparse.ArgumentParser(description=__doc__.splitlines()[0])
     given.add_argument("crates", metavar="CRATE", nargs="*")
@@ -219,10 +225,9 @@ def main():
     folders = (TOGETHER,) if words.together else (ALONE, TOGETHER)
     # in the gate other commands write to out/ meanwhile
     begins = not words.together
-    # those that take longest first
-    size = lambda crate: sum(it.stat().st_size for part in PARTS for it in (ROOT / "crates" / crate / part).rglob("*.*t"))
     edits = [path for folder in folders for path in ROOT.glob(f"crates/*/{folder}/*.edit")]
-    crates = sorted(words.crates or {it.parent.parent.name for it in edits}, key=size, reverse=True)
+    # those that take longest first
+    crates = sorted(words.crates or {it.parent.parent.name for it in edits}, key=code_size, reverse=True)
     try:
         # threads do: what takes time are the checks, each a process
         with concurrent.futures.ThreadPoolExecutor(len(os.sched_getaffinity(0))) as pool:
