@@ -98,16 +98,15 @@ check-quick:
 wrong-bodies: build
 	python3 tests/must_fail.py --together
 
-# no part of make test: an edit by itself takes up to a minute
+# no part of make test, since it takes hours: rt ci on a copy of the files as they stand, with all edits where it looks for them
 wrong-bodies-alone: kit
-	rm -rf build/alone
-	mkdir -p build/alone
-	git archive HEAD | tar -x -C build/alone
+	copy=$$(mktemp -d) && trap 'rm -rf "$$copy"' EXIT && chmod 755 "$$copy" || exit 1; \
+	git ls-files -z --cached --others --exclude-standard | tar -c --null -T - | tar -x -C "$$copy" || exit 1; \
 	for crate in $(or $(CRATES),$(notdir $(wildcard crates/*))); do \
-	    edits=build/alone/crates/$$crate/must-fail; \
-	    test ! -d $$edits-together || { mkdir -p $$edits && mv $$edits-together/*.edit $$edits; } || exit 1; \
-	done
-	cd build/alone && rt ci $(CRATES)
+	    edits="$$copy/crates/$$crate/must-fail"; \
+	    test ! -d "$$edits-together" || { mkdir -p "$$edits" && mv "$$edits-together"/*.edit "$$edits"; } || exit 1; \
+	done; \
+	cd "$$copy" && rt ci $(CRATES)
 
 layout:
 	@find crates -name out -prune -o \( -name '*.rt' -o -name '*.antt' \) -print0 | xargs -0 '$(dir $(shell rt doc))bin/rattle' fmt --check
