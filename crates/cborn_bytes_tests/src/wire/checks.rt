@@ -22,3 +22,12 @@ pub fn is_item(rt: &impl Abort, alloc: Global, item: &Spelled, place: u64, input
     let bytes = spell(alloc, item).expect(rt, "memory");
     assert_eq!(rt; bytes.as_slice(), input);
 }
+
+/// Asserts that both hold as many items, at the same offsets, which spell the same bytes.
+pub fn are_read_alike(rt: &impl Abort, alloc: Global, read: &[Spelled], other: &[Spelled]) {
+    assert_eq!(rt; read.len(), other.len());
+    for (item, twin) in read.iter().zip(other) {
+        let bytes = spell(alloc, twin).expect(rt, "memory");
+        is_item(rt, alloc, item, place_of(twin), &bytes);
+    }
+}

@@ -82,7 +82,7 @@ const COLLECTIONS: [&[u8]; 18] = [
 
 /// Bytes that aren't deterministic: long heads, loose bignums, indefinite lengths, keys in another
 /// order. Some are sequences.
-const LOOSE: [&[u8]; 29] = [
+pub const LOOSE: [&[u8]; 29] = [
     b"\x18\x01",
     b"\x98\x02\x18\x01\x58\x01\x61",
     b"\x19\x00\xff",
@@ -116,7 +116,7 @@ const LOOSE: [&[u8]; 29] = [
 
 /// Bytes that aren't well-formed, each with the place and the reason of its fault (RFC 8949, Appendix
 /// F): each reason, and declared lengths that no memory holds.
-pub const REFUSED: [(&[u8], u64, WireReason); 11] = [
+pub const REFUSED: [(&[u8], u64, WireReason); 23] = [
     (b"\x5f\x1c", 1, ReservedInfo),
     (b"\xdf", 0, EndlessNotAllowed),
     (b"\xc1\xfb\x41\xd4\x52\xd9\xe8\x20\x00\x00", 1, FloatLeftOut),
@@ -132,6 +132,18 @@ pub const REFUSED: [(&[u8], u64, WireReason); 11] = [
         11,
         Truncated,
     ),
+    (b"\xbf\x01\xff", 2, UnexpectedBreak),
+    (b"\xff", 0, UnexpectedBreak),
+    (b"\x9f\x00\xff\xff", 3, UnexpectedBreak),
+    (b"\x5f\x61\x61\xff", 1, BadChunk),
+    (b"\x5f\x5f\xff\xff", 1, BadChunk),
+    (b"\x1c", 0, ReservedInfo),
+    (b"\x00\x1c", 1, ReservedInfo),
+    (b"\x1f", 0, EndlessNotAllowed),
+    (b"\xf9\x3c\x00", 0, FloatLeftOut),
+    (b"\xf8", 1, Truncated),
+    (b"\x01\x18", 2, Truncated),
+    (b"\x9f", 1, Truncated),
 ];
 
 /// All of the bytes above that are well-formed.
