@@ -74,7 +74,7 @@ def in_python(archive):
     page = archive.example("Python")
     (archive.work / "page.txt").write_text(page)
     told = archive.run("PYTHONPATH=modules python3 -m doctest -v page.txt")
-    program = archive.run("PYTHONPATH=modules python3 -m cborn normalise", input=LOOSE)
+    programs = [archive.run(f"PYTHONPATH=modules {it} normalise", input=LOOSE) for it in ("python3 -m cborn", "modules/bin/cborn")]
     readme = (archive.top / "README.md").read_text().partition("**From Python:**\n\n")[2]
     lines = textwrap.dedent("".join(itertools.takewhile(lambda line: line.startswith("    "), readme.splitlines(keepends=True))))
     names = "".join(f"{name}\n" for name in sorted(set(re.findall(r"cborn\.\w+", lines))))
@@ -83,12 +83,12 @@ def in_python(archive):
     # it ends with the status 1: not deterministic
     explained = archive.run("PYTHONPATH=modules python3 -m cborn check --explain 2>&1 || test $? = 1", input=LOOSE)
     is_explained = explained.startswith(b"offset 0: long head\n  path  item 0\n  bytes >98< 02 18 01 58 01 61\n  why   ")
-    return b"Test passed." in told and f"\n{page.count('>>> ')} passed".encode() in told and program == TIGHT and is_explained and shown == f"{TIGHT.hex()}\n".encode()
+    return b"Test passed." in told and f"\n{page.count('>>> ')} passed".encode() in told and programs == [TIGHT] * 2 and is_explained and shown == f"{TIGHT.hex()}\n".encode()
 
 
 def in_python_from_sources(archive):
     archive.run(f"python3 -m pip install --quiet --no-index --no-build-isolation --target built {archive.top}/python/*.tar.gz")
-    return archive.run("PYTHONPATH=built python3 -m cborn normalise", input=LOOSE) == TIGHT
+    return archive.run("PYTHONPATH=built built/bin/cborn normalise", input=LOOSE) == TIGHT
 
 
 def in_rust(archive):

@@ -26,9 +26,19 @@ OF_SOURCES = ("README.md", "pyproject.toml", "setup.py", "test_cborn.py")
 OF_PACKAGE = ("__init__.py", "__main__.py", "_cborn.pyi", "py.typed")
 
 
+def told_project():
+    return tomllib.loads((HERE / "pyproject.toml").read_text())["project"]
+
+
+def commands():
+    """The commands that come with the package, for entry_points.txt of the wheel."""
+    lines = ["[console_scripts]", *(f"{name} = {called}" for name, called in told_project()["scripts"].items())]
+    return ("\n".join(lines) + "\n").encode()
+
+
 def metadata(version):
     """What the package says of itself, for METADATA of the wheel and PKG-INFO of the sources."""
-    project = tomllib.loads((HERE / "pyproject.toml").read_text())["project"]
+    project = told_project()
     if project["version"] != version:
         sys.exit(f"pyproject.toml has the version {project['version']}, and the library is made as {version}")
     lines = [
@@ -67,6 +77,7 @@ def wheel_files(version, build):
     found["cborn/_cborn.abi3.so"] = of_old_glibc((package / "_cborn.abi3.so").read_bytes())
     found[f"{about}/METADATA"] = metadata(version)
     found[f"{about}/WHEEL"] = f"Wheel-Version: 1.0\nGenerator: cborn\nRoot-Is-Purelib: false\nTag: {TAG}\n".encode()
+    found[f"{about}/entry_points.txt"] = commands()
     record = f"{about}/RECORD"
     found[record] = ("".join(entry(*it) for it in found.items()) + f"{record},,\n").encode()
     return found

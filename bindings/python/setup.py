@@ -1,5 +1,11 @@
 """Builds the extension over the library in lib/: one for CPython 3.8 and all later versions."""
+import platform
+import sys
+
 from setuptools import Extension, setup
+
+if (sys.platform, platform.machine()) != ("linux", "x86_64"):
+    sys.exit("cborn: lib/libcborn.a is a library for Linux on x86-64, and there is none for this platform")
 
 EXTENSION = Extension(
     "cborn._cborn",

@@ -12,9 +12,13 @@ import mmap
 import os
 import pathlib
 import pickle
+import pydoc
+import re
+import signal
 import subprocess
 import sys
 import tempfile
+import textwrap
 import threading
 import time
 import unittest
@@ -84,6 +88,23 @@ class Calls(unittest.TestCase):
     def test_all_that_is_public_is_there_and_has_words(self):
         for name in cborn.__all__:
             self.assertTrue(getattr(cborn, name).__doc__, name)
+
+    def test_help_begins_with_a_line_for_each_function(self):
+        functions = {name for name in cborn.__all__ if inspect.isroutine(getattr(cborn, name))}
+        first, lines, _ = cborn.__doc__.split("\n\n", 2)
+        self.assertEqual({line.split()[0] for line in lines.splitlines()}, functions)
+        self.assertEqual([line for line in lines.splitlines() if len(line.split()) < 3], [])
+        shown = pydoc.plain(pydoc.render_doc(cborn))
+        self.assertRegex(shown, rf"^.*\n\nNAME\n    cborn - {re.escape(first)}\n\nDESCRIPTION\n{re.escape(textwrap.indent(lines, '    '))}\n")
+
+    def test_each_docstring_is_read_alone(self):
+        for call in (cborn.normalise, cborn.show, cborn.spell, cborn.check, cborn.is_deterministic, cborn.compare, cborn.same):
+            for said in ("Return ", "With `one`, ", "Raises CbornError if ", "MemoryError."):
+                self.assertIn(said, call.__doc__, call.__name__)
+
+    def test_compare_says_that_an_index_may_be_false(self):
+        self.assertEqual(cborn.compare(b"\x05", b"\x06"), 0)
+        self.assertRegex(cborn.compare.__doc__, "0 is falsy.*`same` is the call for a yes")
 
     def test_signatures(self):
         self.assertEqual(
@@ -367,6 +388,21 @@ class Program(unittest.TestCase):
             out, err, status = self.run_on(command, "--help")
             self.assertEqual((err, status), (b"", 0))
             self.assertIn(b"--depth", out)
+
+    def test_help_says_what_compare_does_not_explain(self):
+        said = {command: " ".join(self.run_on(command, "--help")[0].decode().split()) for command in ("compare", "check")}
+        self.assertIn("where two inputs differ is explained by the program of the archive alone", said["compare"])
+        self.assertIn("after a refusal or a defect", said["check"])
+
+    def test_ctrl_c_ends_it_at_once(self):
+        for words in (("-m", "cborn"), ("-c", "import cborn.__main__; cborn.__main__.run()")):
+            program = subprocess.Popen([sys.executable, *words, "normalise"], stdin=subprocess.PIPE, stdout=subprocess.PIPE, stderr=subprocess.PIPE)
+            # more than a pipe holds, so that it is being read
+            program.stdin.write(bytes(1 << 20))
+            program.stdin.flush()
+            program.send_signal(signal.SIGINT)
+            self.assertEqual(program.communicate(timeout=60), (b"", b""))
+            self.assertEqual(program.returncode, -signal.SIGINT)
 
     def test_explanations(self):
         told = b"cborn: offset 2: float left out\n" + OF_FLOAT.encode()

@@ -1,5 +1,15 @@
 """CBOR (RFC 8949) in its one deterministic encoding, by the proved library cborn.
 
+    normalise         the canonical form of the items in an input
+    is_deterministic  whether an input is in that form already
+    check             the first defect of an input that isn't, or None
+    same              whether two inputs hold the same items
+    compare           the index of the first item that differs, or None: the index 0 is falsy too
+    show              the items of an input as they are encoded, in notation
+    spell             the bytes that notation stands for
+    stack             how many bytes of stack a call takes
+    version           the version of the library
+
     >>> import cborn
     >>> cborn.normalise(bytes.fromhex("98021801580161")).hex()
     '82014161'
@@ -17,6 +27,7 @@ An input is any number of data items, one after another. With `one=True` it has 
 the buffer protocol (bytes, bytearray, memoryview, mmap, array, NumPy arrays), and is read without a copy. A str is not
 accepted: encode notation first. Floats are left out: an input with one is refused. Calls may run in several threads at
 once. They release the interpreter's lock while they work on 4,096 bytes or more. Nothing may write to an input meanwhile.
+Ctrl-C doesn't end a call: KeyboardInterrupt is raised once it returns.
 
 `depth` is the maximum nesting depth of arrays, maps and tags, from 1 to 1024. `stack` returns how many bytes of stack
 a thread needs for it. With less, deeply nested input can overflow the stack and crash the process.
@@ -27,8 +38,9 @@ deterministic encoding. `Reason` names both, and the method `explain` of an erro
 Each call raises TypeError for an input that is no buffer, or a value that is no member of `Kind` or `Order`. It raises
 ValueError for a number that no member has, or a depth that is too small or too large.
 
-`python -m cborn` is the program, with its commands `normalise`, `show`, `check` and `compare`. With --explain it says where
-and why an input is refused or isn't deterministic, but not where two inputs of `compare` differ.
+`python -m cborn` is the program, with its commands `normalise`, `show`, `check` and `compare`; the wheel installs it as
+`cborn`, too. With --explain it says where and why an input is refused or isn't deterministic. Where two inputs of `compare`
+differ is explained by the program of the archive alone.
 """
 
 from __future__ import annotations

@@ -1,7 +1,7 @@
 """The program cborn, for whoever has the wheel alone: its commands, options, lines and statuses, over this library.
 
-With --explain it says what the program says, but not where two inputs of `compare` differ, which the library doesn't
-report. Only with --explain it says that an input looks like a text.
+The wheel installs it as `cborn`, too. With --explain it says what the program says, but not where two inputs of `compare`
+differ, which the library doesn't report. Only with --explain it says that an input looks like a text.
 """
 
 from __future__ import annotations
@@ -83,7 +83,16 @@ def depth_of(word: str) -> int:
     return depth
 
 
-def with_options(parser: argparse.ArgumentParser, kinds: typing.Sequence[str], to: str | None, has_order: bool) -> None:
+EXPLAINS = "say on standard error where in the input, and why, after a refusal or a defect"
+EXPLAINS_REFUSALS = (
+    "say on standard error where in the input, and why, after a refusal; where two inputs differ is explained by the "
+    "program of the archive alone"
+)
+
+
+def with_options(
+    parser: argparse.ArgumentParser, kinds: typing.Sequence[str], to: str | None, has_order: bool, explains: str = EXPLAINS
+) -> None:
     """Adds the options of a command: those of its inputs' formats, and the others that it has."""
     for name in kinds:
         parser.add_argument(f"--{name}", metavar="KIND", choices=list(KINDS), default="wire", action=Once,
@@ -99,8 +108,7 @@ def with_options(parser: argparse.ArgumentParser, kinds: typing.Sequence[str], t
                         help="the maximum nesting depth of arrays, maps and tags, 1 to 1024 [default: 128]")
     parser.add_argument("--one", nargs=0, default=False, action=Once,
                         help="refuse an input that holds no item, or more than one")
-    parser.add_argument("--explain", nargs=0, default=False, action=Once,
-                        help="say on standard error where in the input, and why, after a refusal or a defect")
+    parser.add_argument("--explain", nargs=0, default=False, action=Once, help=explains)
 
 
 def parser() -> Parser:
@@ -115,7 +123,7 @@ def parser() -> Parser:
     normalise = commands.add_parser("normalise", help="write the deterministic encoding of the input's items", **how)
     with_options(normalise, ["from"], "wire", has_order=True)
     compare = commands.add_parser("compare", help="tell whether two inputs hold the same items", **how)
-    with_options(compare, ["from-a", "from-b"], None, has_order=True)
+    with_options(compare, ["from-a", "from-b"], None, has_order=True, explains=EXPLAINS_REFUSALS)
     check = commands.add_parser("check", help="tell whether the input is in the deterministic encoding", **how)
     with_options(check, [], None, has_order=True)
     for command in (show, normalise, check):
@@ -278,6 +286,11 @@ def main(words: typing.Sequence[str]) -> int:
         return FAILED
 
 
-if __name__ == "__main__":
+def run() -> typing.NoReturn:
+    """The command `cborn` of the wheel, and `python -m cborn`. Ctrl-C ends it at once."""
     signal.signal(signal.SIGINT, signal.SIG_DFL)
     sys.exit(main(sys.argv[1:]))
+
+
+if __name__ == "__main__":
+    run()
