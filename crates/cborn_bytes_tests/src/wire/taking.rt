@@ -71,7 +71,13 @@ fn takes_chunks_in_pieces(rt: HostRuntime) {
     feeds(&rt, &mut feeder, b"\x62", Ok(()), 4);
     assert!(rt; feeder.take().is_none());
     feeds(&rt, &mut feeder, b"\x41\x63\xff\x00", Ok(()), 8);
-    takes(&rt, rt.alloc(), &mut feeder, 0, b"\x5f\x42\x61\x62\x41\x63\xff");
+    takes(
+        &rt,
+        rt.alloc(),
+        &mut feeder,
+        0,
+        b"\x5f\x42\x61\x62\x41\x63\xff",
+    );
     takes(&rt, rt.alloc(), &mut feeder, 7, b"\x00");
     ends(&rt, feeder);
 }
