@@ -68,6 +68,7 @@ fn refuses_by_bytes(rt: HostRuntime) {
 fn reads_at_every_cut(rt: HostRuntime) -> Result<(), Fail> {
     for input in LOOSE {
         let whole = read_all(rt.alloc(), Limit::USUAL, input)?;
+        assert!(rt; input.len() < 100);
         for cut in 0..=input.len() {
             let read = by_two(&rt, rt.alloc(), input, cut)?;
             are_read_alike(&rt, rt.alloc(), &read, &whole);
@@ -81,6 +82,7 @@ fn reads_at_every_cut(rt: HostRuntime) -> Result<(), Fail> {
 fn refuses_at_every_cut(rt: HostRuntime) {
     for (input, place, reason) in REFUSED {
         let fault = WireFault::Refused { place, reason };
+        assert!(rt; input.len() < 100);
         for cut in 0..=input.len() {
             let read = by_two(&rt, rt.alloc(), input, cut);
             assert_eq!(rt; read.err(), Some(fault), "{input:?} cut at {cut}");
