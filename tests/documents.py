@@ -222,7 +222,7 @@ def main():
     program = pathlib.Path(sys.argv[1]).resolve()
     root = pathlib.Path(__file__).resolve().parent.parent
     environment = {
-        **os.environ,
+        **{name: value for name, value in os.environ.items() if not name.startswith("GIT_")},
         "PATH": f"{program.parent}:{os.environ['PATH']}",
         # git as somebody has it who set nothing but a name
         "GIT_CONFIG_GLOBAL": os.devnull,
@@ -230,11 +230,12 @@ def main():
         **{f"GIT_{who}_{what}": "nobody" for who in ("AUTHOR", "COMMITTER") for what in ("NAME", "EMAIL")},
     }
     counts, failed = zip(failed_examples(root, environment), failed_recipes(root, environment))
-    lines = [line for lines in (*failed, untold(root), other_versions(root)) for line in lines]
-    for line in lines:
+    wrong = [line for lines in failed for line in lines]
+    lost = [*untold(root), *other_versions(root)]
+    for line in (*wrong, *lost):
         print(line)
-    print(f"{sum(counts)} examples, {len(lines)} failed")
-    return 1 if lines or not all(counts) else 0
+    print(f"{sum(counts) - len(wrong)} examples passed, {len(wrong) + len(lost)} failed")
+    return 1 if wrong or lost or not all(counts) else 0
 
 
 if __name__ == "__main__":
