@@ -99,7 +99,7 @@ class Calls(unittest.TestCase):
 
     def test_each_docstring_is_read_alone(self):
         for call in (cborn.normalise, cborn.show, cborn.spell, cborn.check, cborn.is_deterministic, cborn.compare, cborn.same):
-            for said in ("Return ", "With `one`, ", "Raises CbornError if ", "MemoryError."):
+            for said in ("Return ", "`depth` is ", "With `one`, ", "Raises CbornError if ", "MemoryError."):
                 self.assertIn(said, call.__doc__, call.__name__)
 
     def test_compare_says_that_an_index_may_be_false(self):

@@ -307,15 +307,16 @@ static PyObject *answered(PyObject *module, writer *call, const options *how, co
 
 #define DOCUMENTED(name, arguments, text) static const char name##_doc[] = #name arguments "\n--\n\n" text
 /* what each docstring ends with */
-#define ONE " With `one`, `data` has to hold exactly one item."
-#define REFUSED "\n\nRaises CbornError if `data` is refused, and MemoryError."
-#define BOTH                                                                                                                       \
-    " With `one`, each has to hold exactly one item.\n\n"                                                                          \
-    "Raises CbornError if one is refused (its `input` is 0 for the first, 1 for the second), and MemoryError."
+#define DEPTH "\n`depth` is the maximum nesting depth. "
+#define RAISED "TypeError or ValueError for an invalid argument, and MemoryError."
+#define OF_ONE DEPTH "With `one`, `data` has to hold exactly one item.\n\nRaises CbornError if `data` is refused, " RAISED
+#define OF_BOTH                                                                                                                    \
+    DEPTH "With `one`, each has to hold exactly one item.\n\n"                                                                     \
+          "Raises CbornError if one is refused (its `input` is 0 for the first, 1 for the second),\n" RAISED
 
 DOCUMENTED(normalise, "($module, data, source=Kind.WIRE, to=Kind.WIRE, order=Order.BYTEWISE, depth=128, one=False)",
            "Return the canonical form of the items in `data`: their deterministic encodings, or these in notation (UTF-8).\n\n"
-           "`source` is the format of `data`, `to` that of the answer, and `order` the sort order of map keys." ONE REFUSED);
+           "`source` is the format of `data`, `to` that of the answer, and `order` the sort order of map keys." OF_ONE);
 static const signature of_normalise = {"normalise", 1, 6, {"data", "source", "to", "order", "depth", "one"}};
 
 static PyObject *normalise(PyObject *module, PyObject *const *given, Py_ssize_t count, PyObject *keywords)
@@ -348,7 +349,7 @@ static PyObject *shown(PyObject *module, const signature *called, options how, P
 DOCUMENTED(show, "($module, data, source=Kind.WIRE, depth=128, one=False)",
            "Return the items in `data` as they are encoded, in diagnostic notation.\n\n"
            "It shows each width, order and indefinite length, and input with a validity error too, unless that is a text string\n"
-           "that isn't UTF-8. `source` is the format of `data`." ONE REFUSED);
+           "that isn't UTF-8. `source` is the format of `data`." OF_ONE);
 static const signature of_show = {"show", 1, 4, {"data", "source", "depth", "one"}};
 
 static PyObject *show(PyObject *module, PyObject *const *given, Py_ssize_t count, PyObject *keywords)
@@ -360,7 +361,7 @@ static PyObject *show(PyObject *module, PyObject *const *given, Py_ssize_t count
 
 DOCUMENTED(spell, "($module, data, source=Kind.NOTATION, depth=128, one=False)",
            "Return the bytes that the notation in `data` stands for: the inverse of `show`.\n\n"
-           "Each width, order and indefinite length is kept, and a validity error is accepted. `source` is the format of `data`." ONE REFUSED);
+           "Each width, order and indefinite length is kept, and a validity error is accepted. `source` is the format of `data`." OF_ONE);
 static const signature of_spell = {"spell", 1, 4, {"data", "source", "depth", "one"}};
 
 static PyObject *spell(PyObject *module, PyObject *const *given, Py_ssize_t count, PyObject *keywords)
@@ -395,9 +396,9 @@ static int is_checked(PyObject *module, const signature *called, PyObject *const
 }
 
 DOCUMENTED(check, "($module, data, order=Order.BYTEWISE, depth=128, one=False)",
-           "Return None if `data` is deterministic, else its first Defect: so an answer that is true means that it isn't.\n\n"
+           "Return None if `data` is deterministic, else its first Defect: so a truthy answer means that it isn't.\n\n"
            "None means that `normalise` would return the same bytes; `is_deterministic` is the call for a yes. The contents of\n"
-           "byte strings aren't checked. `order` is the sort order of map keys." ONE REFUSED);
+           "byte strings aren't checked. `order` is the sort order of map keys." OF_ONE);
 static const signature of_check = {"check", 1, 4, {"data", "order", "depth", "one"}};
 
 static PyObject *check(PyObject *module, PyObject *const *given, Py_ssize_t count, PyObject *keywords)
@@ -416,7 +417,7 @@ static PyObject *check(PyObject *module, PyObject *const *given, Py_ssize_t coun
 
 DOCUMENTED(is_deterministic, "($module, data, order=Order.BYTEWISE, depth=128, one=False)",
            "Return whether `data` is deterministic: whether `normalise` would return the same bytes.\n\n"
-           "Input that is refused is neither. The contents of byte strings aren't checked. `order` is the sort order of map keys." ONE REFUSED);
+           "Input that is refused is neither. The contents of byte strings aren't checked. `order` is the sort order of map keys." OF_ONE);
 static const signature of_is_deterministic = {"is_deterministic", 1, 4, {"data", "order", "depth", "one"}};
 
 static PyObject *is_deterministic(PyObject *module, PyObject *const *given, Py_ssize_t count, PyObject *keywords)
@@ -471,7 +472,7 @@ static int are_compared(PyObject *module, const signature *called, comparer *cal
 DOCUMENTED(compare, "($module, first, second, source_a=Kind.WIRE, source_b=Kind.WIRE, depth=128, one=False)",
            "Return None if both hold the same items, else the index, from 0, of the first item that differs.\n\n"
            "0 is falsy, as None is, and means that the first items differ: `same` is the call for a yes. `source_a` and\n"
-           "`source_b` are the formats of the inputs." BOTH);
+           "`source_b` are the formats of the inputs." OF_BOTH);
 static const signature of_compare = {"compare", 2, 6, {"first", "second", "source_a", "source_b", "depth", "one"}};
 
 static PyObject *compare(PyObject *module, PyObject *const *given, Py_ssize_t count, PyObject *keywords)
@@ -487,7 +488,7 @@ static PyObject *compare(PyObject *module, PyObject *const *given, Py_ssize_t co
 
 DOCUMENTED(same, "($module, first, second, source_a=Kind.WIRE, source_b=Kind.WIRE, depth=128, one=False)",
            "Return whether both hold the same items: whether their canonical forms are equal.\n\n"
-           "`source_a` and `source_b` are the formats of the inputs." BOTH);
+           "`source_a` and `source_b` are the formats of the inputs." OF_BOTH);
 static const signature of_same = {"same", 2, 6, {"first", "second", "source_a", "source_b", "depth", "one"}};
 
 static PyObject *same(PyObject *module, PyObject *const *given, Py_ssize_t count, PyObject *keywords)
