@@ -123,7 +123,7 @@ pub fn tell_answer_on<'a, W: Write>(
     let name = FileName { text: name };
     let line = match format!(in alloc; "{name}: {answer}\n") {
         Ok(line) => line,
-        Err(_) => return Err(Trouble::Engine(EngineFault::OutOfMemory)),
+        Err(refused) => return Err(Trouble::Engine(EngineFault::from(refused))),
     };
     match print(out, &line, "") {
         Ok(()) => Ok(status_of_answer(answer)),

@@ -1,6 +1,6 @@
 //! Where the answer of a task goes: to standard output or to a file.
 ghost use Rattle.std.specs.Prelude.{◌≡◌, ◌≤◌, IfOk, IfErr, OnOk};
-ghost use Rattle.cborn_commands.specs.Statuses.{IsRefusal, status_of_trouble};
+ghost use Rattle.cborn_commands.specs.Statuses.{IsRefusal, status_of_fault, status_of_trouble};
 
 use crate::lines::Trouble;
 use crate::remarks::Remarks;
@@ -10,7 +10,7 @@ use crate::systems::System;
 use crate::tasks::perform;
 use cborn_engine::{Counted, EngineFault, OneFault};
 use cborn_options::Task;
-use std::io::{Read, Write};
+use std::io::{ErrorKind, Read, Write};
 use std::rt::Files;
 
 /// Does a task as `perform` does it. Where it names a file for its answer, that goes there once it is
@@ -66,7 +66,7 @@ fn perform_into<'a, F: Files, I: Read + Drop>(
         Err(
             Trouble::Engine(EngineFault::WriteFault)
             | Trouble::One(OneFault::Engine(EngineFault::WriteFault)),
-        ) => Err(trouble_with(file)),
+        ) => Err(Trouble::Engine(fault_of(file.failure()))),
         _ => done,
     }
 }
@@ -88,17 +88,16 @@ fn finish<'a, F: Files, W: Write>(
     }
     match file.finish() {
         Ok(()) => Ok(()),
-        Err(_) => Err(trouble_with(file)),
+        Err(why) => Err(Trouble::Engine(fault_of(Some(why.kind())))),
     }
 }
 
-/// The trouble of a file that couldn't be written.
-fn trouble_with<'a, F: Files>(file: &SavedFile<'_, '_, F>) -> Trouble<'a>
-    ensures { status_of_trouble result ≡ FAILED }
+/// The fault of an answer that couldn't be written to a file, for this reason if one is known.
+fn fault_of(why: Option<ErrorKind>) -> EngineFault
+    ensures { status_of_fault result ≡ FAILED }
 {
-    Trouble::Engine(if file.lacks_memory() {
-        EngineFault::OutOfMemory
-    } else {
-        EngineFault::WriteFault
-    })
+    match why {
+        Some(ErrorKind::OutOfMemory) => EngineFault::OutOfMemory,
+        _ => EngineFault::WriteFault,
+    }
 }

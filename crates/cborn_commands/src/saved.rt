@@ -29,7 +29,7 @@ pub struct SavedFile<'r, 'p, F: Files> {
     alloc: Global,
     name: &'p str,
     new: Option<NewFile<F::File>>,
-    lacks_memory: bool,
+    failure: Option<ErrorKind>,
 }
 
 /// A new file, and the paths of itself and of the file whose place it takes.
@@ -48,13 +48,13 @@ impl<'r, 'p, F: Files> SavedFile<'r, 'p, F> {
             alloc,
             name,
             new: None,
-            lacks_memory: false,
+            failure: None,
         }
     }
 
-    /// Whether a call failed for want of memory.
-    pub fn lacks_memory(&self) -> bool {
-        self.lacks_memory
+    /// Why the new file couldn't be made. `None`: it could, or wasn't to be made yet.
+    pub fn failure(&self) -> Option<ErrorKind> {
+        self.failure
     }
 
     /// Puts the new file in the place of the one that was named.
@@ -87,7 +87,7 @@ impl<'r, 'p, F: Files> SavedFile<'r, 'p, F> {
             None => new_file(self.files, self.alloc, self.name),
         };
         if let Err(why) = &taken {
-            self.lacks_memory = why.kind() == ErrorKind::OutOfMemory;
+            self.failure = Some(why.kind());
         }
         taken
     }

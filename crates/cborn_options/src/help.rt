@@ -139,10 +139,10 @@ which is what isn't deterministic there: 'long head' (not the shortest),
 bytes that begin with 0) or 'key order'. N counts bytes from the start of the
 input. A FILE named - is a file of that name.
 
-Of two or more files each line begins with the file's name and ': ', also that
-of a file that is refused, after which the next file is checked. The exit status
-is the worst one: 4 before 2, 2 before 1. In names, control characters and the
-backslash are escaped, as \\u000a.
+Of two or more files each has a line with its name, as 'NAME: deterministic';
+that of a file that is refused goes to standard error, after 'cborn: '. The next
+file is checked in any case. The exit status is the worst one: 4 before 2 before
+1. In names control characters and the backslash are escaped, as \\u000a.
 
 It reads bytes alone. Pasted hexadecimal is text, and can happen to be
 deterministic CBOR: use 'xxd -r -p' first. The contents of byte strings aren't
