@@ -38,7 +38,7 @@ impl<'a> Trouble<'a> {
     /// The same trouble of the file of this name, where it is that of an input. Each other trouble stays
     /// as it is: it names its file, or is of what is written.
     pub fn of_file(self, name: &'a str) -> Trouble<'a>
-        ensures status { status_of_trouble result ≡ status_of_trouble self }
+        ensures status { status_of_trouble result ≡ status_of_trouble self.entry }
     {
         match self {
             Trouble::Engine(EngineFault::WriteFault) => self,

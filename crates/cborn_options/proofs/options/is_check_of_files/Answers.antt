@@ -1,4 +1,4 @@
-use Rattle.std.proofs.Common.{rules, ◌≡◌, length, refl, arith}
+use Rattle.std.proofs.Common.{rules, length, refl, arith}
 use Rattle.std.proofs.lemmas.Option.{slice_get_read}
 use Rattle.cborn_options.proofs.options.is_check_of_files.Goals as goal
 
