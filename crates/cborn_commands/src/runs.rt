@@ -16,8 +16,9 @@ use std::io::{IsTerminal, Read, Write};
 use std::rt::Files;
 
 /// Runs the program with the files of `rt`. Answers its exit status, from 0 to 4. The first of `words`
-/// is the program's name. Standard output is `out`. Where the command line is wrong, or the one input is
-/// refused, nothing is written to it. Where `err` is a terminal, hints may go there.
+/// is the program's name. Standard output is `out`. Where the command line is wrong or an input is
+/// refused, nothing is written to it, but for what `check` of several files says of the others. Where
+/// `err` is a terminal, hints may go there.
 pub fn run<F: Files, I: Read + Drop, W: Write, E: Write + IsTerminal + Drop>(
     rt: &F,
     alloc: Global,
