@@ -1,6 +1,6 @@
 //! From the words of the command line to what they ask for.
-ghost use Rattle.std.specs.Prelude.{◌<◌, ◌↔◌, length, IfOk, IfSome, IsTrue};
-ghost use Rattle.cborn_options.specs.Words.{IsCheckOfFiles};
+ghost use Rattle.std.specs.Prelude.{◌≡◌, ◌<◌, ◌≤◌, ◌⊎◌, length, true, IfOk, IfSome};
+ghost use Rattle.cborn_options.specs.Words.{is_option, plain_count, HasHyphens, IsCheckOfFiles};
 
 use crate::forms::{Argument, COMMANDS, Form, Takes, Value};
 use crate::help;
@@ -128,13 +128,40 @@ fn others_of<'a>(
     Ok(others)
 }
 
-/// Whether `check` comes after the program's name, and then two words at least.
+/// Whether `check` comes after the program's name, and then two words at least that may be names of
+/// files.
 fn is_check_of_files(words: &[&str]) -> bool
-    ensures { IsTrue result ↔ IsCheckOfFiles words.now }
+    ensures { result ≡ true → IsCheckOfFiles words.now }
 {
     match words.get(1) {
-        Some(name) => words.len() >= 4 && *name == "check",
+        Some(name) => *name == "check" && may_name_files(words),
         None => false,
+    }
+}
+
+/// Whether four words are no options, or one of them is `--`.
+fn may_name_files(words: &[&str]) -> bool
+    ensures { result ≡ true → (4 ≤ plain_count words.now) ⊎ HasHyphens words.now }
+{
+    let mut count: usize = 0;
+    for word in words {
+        if *word == "--" {
+            return true;
+        }
+        if !is_option(word) {
+            count += 1;
+        }
+    }
+    count >= 4
+}
+
+/// Whether the word begins with a hyphen.
+fn is_option(word: &str) -> bool
+    ensures { result ≡ is_option word.now }
+{
+    match word.as_bytes() {
+        [first, ..] => *first == b'-',
+        [] => false,
     }
 }
 
