@@ -29,7 +29,7 @@ help:
 	@echo 'make ample      the built program on some 4,000 inputs, bytes and texts, made and given: it never says out of memory'
 	@echo 'make explanations   the built program on random and mutated inputs with --explain: the paths that it tells are followed'
 	@echo 'make growths    the built program on those tables, each growth refused in turn'
-	@echo 'make failures   the built program on those tables, with trouble at each opening, read and write in turn'
+	@echo 'make failures   the built program on those tables, with trouble at each opening, read and write, and at each call that puts a file in place, in turn'
 	@echo 'make counts     how often and for how much the built program asks for memory on inputs of 1 MB: no more than its bounds'
 	@echo 'make cost       the bounds of make bench-cost on memory, on inputs of COST MB (COST is $(COST)), without the times'
 	@echo 'make instructions   how many instructions the built program takes on small inputs of each kind: no more than tests/instructions.txt'

@@ -12,10 +12,12 @@ import re
 import subprocess
 import sys
 
+FILE = "FILE"
 
 @dataclasses.dataclass
 class Option:
-    """An option: its names, the name of its value or none, the values that there are, and what it says of itself."""
+    """An option: its names, the name of its value or none, the values that there are, and what it says of itself. The value
+    FILE is the name of a file."""
 
     names: list
     value: str
@@ -25,12 +27,13 @@ class Option:
 
 @dataclasses.dataclass
 class Command:
-    """A command, what it says of itself, its options and the names of its files."""
+    """A command, what it says of itself, its options, the names of its files, and whether there may be more of the last."""
 
     name: str
     told: str
     options: list
     files: list
+    is_many: bool
 
 
 def said(program, *words):
@@ -51,10 +54,11 @@ def options_of(program, command, text):
     """The options of a command, or of the program itself where it is none."""
     for names, told in rows(text, "Options"):
         listed, _, value = names.partition(" <")
-        listed = listed.split(", ")
-        refused = said(program, *command, listed[-1], "?") if value else ""
+        listed, value = listed.split(", "), value.rstrip(">")
+        # any name is one of a file
+        refused = said(program, *command, listed[-1], "?") if value not in ("", FILE) else ""
         values = re.search(r"\[possible values: (.*)\]", refused)
-        yield Option(listed, value.rstrip(">"), values[1].split(", ") if values else [], re.sub(r" \(see more .*\)$", "", told))
+        yield Option(listed, value, values[1].split(", ") if values else [], re.sub(r" \(see more .*\)$", "", told))
 
 
 def commands_of(program):
@@ -64,7 +68,8 @@ def commands_of(program):
     for name, told in rows(text, "Commands"):
         own = said(program, name, "-h")
         usage = re.search(r"^Usage: .*", own, re.MULTILINE)[0]
-        found.append(Command(name, told, list(options_of(program, [name], own)), re.findall(r"\bFILE\w*", usage)))
+        files = re.findall(r"\bFILE\w*", usage)
+        found.append(Command(name, told, list(options_of(program, [name], own)), files, usage.endswith("...")))
     return found, list(options_of(program, [], text))
 
 
@@ -99,7 +104,9 @@ def for_bash(commands, own):
     )
     for command in commands:
         for option in command.options:
-            if option.value:
+            if option.value == FILE:
+                yield f"    {'|'.join(f'{command.name}:{name}' for name in option.names)}) return ;;"
+            elif option.value:
                 yield f'    {command.name}:{option.names[-1]}) offered="{" ".join(option.values)}" ;;'
     yield '    *) [[ $word == -* ]] || return; case ${COMP_WORDS[1]} in'
     for command in commands:
@@ -121,6 +128,9 @@ def quoted(text):
 
 def zsh_option(option):
     told = re.sub(r"([\[\]\\])", r"\\\1", option.told)
+    if option.value == FILE:
+        names = (f"{name}=" if name.startswith("--") else name for name in option.names)
+        return " ".join(quoted(f"{name}[{told}]:{option.value}:_files") for name in names)
     if option.value:
         values = f"({' '.join(option.values)})" if option.values else " "
         return quoted(f"{option.names[-1]}=[{told}]:{option.value}:{values}")
@@ -153,7 +163,8 @@ def for_zsh(commands, own):
         yield f"        {command.name})"
         yield "            _arguments \\"
         yield from (f"                {zsh_option(option)} \\" for option in command.options)
-        yield "                " + " ".join(quoted(f"{at}:{name}:_files") for at, name in enumerate(command.files, 1))
+        files = ["*"] if command.is_many else range(1, len(command.files) + 1)
+        yield "                " + " ".join(quoted(f"{at}:{name}:_files") for at, name in zip(files, command.files))
         yield "            ;;"
     yield from ("        esac", "        ;;", "    esac", "}", "", '_cborn "$@"')
 
@@ -165,6 +176,7 @@ def fish_quoted(text):
 def fish_option(option, where):
     names = " ".join(f"-l {name[2:]}" if name.startswith("--") else f"-s {name[1:]}" for name in option.names)
     value = f" -x -a {fish_quoted(' '.join(option.values))}" if option.values else " -x" if option.value else ""
+    value = " -r -F" if option.value == FILE else value
     return f"complete -c cborn -n {fish_quoted(where)} {names}{value} -d {fish_quoted(option.told)}"
 
 

@@ -69,6 +69,9 @@ def in_zsh(file, words):
 
 # bash cuts a word at "=", and takes its parts for words
 CUT = {"bash": [(["cborn", "show", "--from", "=", "no"], {"notation", "notation-2"}), (["cborn", "show", "--", "-"], set())], "zsh": [], "fish": []}
+# after an option with the name of a file no options are offered, and files by the shell itself
+for shell in ("bash", "fish"):
+    CUT[shell] += [(["cborn", "normalise", option, "-"], set()) for option in ("-o", "--output")]
 SHELLS = {"bash": ("cborn.bash", in_bash), "zsh": ("_cborn", in_zsh), "fish": ("cborn.fish", in_fish)}
 
 

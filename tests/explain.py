@@ -14,7 +14,6 @@ import sys
 
 import shared
 from reading import head
-from run import Outcome
 
 SEED = 8949
 # the end of a path whose further steps aren't known
@@ -221,12 +220,13 @@ def followed(text, path):
 
 def differences(served, words, content):
     """What is wrong with how a command explains an input."""
-    out, err, status = served.run(words, content)
+    done = served.run(words, content)
+    out, err, status = done.stdout, done.stderr, done.status
     explained = served.run([*words, "--explain"], content)
     if status not in (0, 1, 2):
         yield f"status {status}"
     if (explained.stdout, explained.status) != (out, status) or not explained.stderr.startswith(err):
-        yield f"with the option {explained}, without {Outcome(out, err, status)}"
+        yield f"with the option {explained}, without {done}"
         return
     told = PLACE.search((err or out).decode()) if status else None
     if not told:

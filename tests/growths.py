@@ -26,7 +26,7 @@ import subprocess
 import sys
 
 import shared
-from failures import files_of, which_input
+from failures import Part, files_of, joined, parts_of, which_input
 from run import Outcome, cases, listed
 
 WANT = re.compile(rb"AllocError|AllocFailed|OutOfMemory|[Oo]ut of memory")
@@ -57,6 +57,18 @@ def wants_of_memory(words, refused):
         yield Outcome(b"", os.fsencode(f"cborn: {which}cannot read {files[refused.opened]}\n"), 4)
 
 
+def wants_of_several(named, words):
+    """What a run on several files answers of which one lacks its answer, or some of its explanation, for want of memory."""
+    for at, (name, part) in enumerate(named):
+        # what explains an answer stands after a line with the name of its file
+        title = b"  file  %s\n" % name if part.out else b""
+        explained = Outcome(b"", part.err.removeprefix(title), part.status)
+        shorter = (it.stderr and title + it.stderr for it in shorter_explanations(words, explained))
+        wants = (Part(b"", line % name, 4) for line in (b"cborn: %s: out of memory\n", b"cborn: cannot read %s\n"))
+        for want in itertools.chain(wants, (part._replace(err=err) for err in shorter)):
+            yield joined([*(it for _, it in named[:at]), want, *(it for _, it in named[at + 1 :])])
+
+
 def shorter_explanations(words, ample):
     """What a run answers that has no memory to explain its answer to the end, or for a hint, each of which is made by itself."""
     if "--explain" in words:
@@ -77,9 +89,11 @@ def command_lines(served, those):
         ample, _ = served.of_case(case)
         outcomes = refused_in_turn(served.of_case, case)
 
-        def is_allowed(refused, ample=ample, words=case.words):
-            wants = (*wants_of_memory(words, refused), *shorter_explanations(words, ample))
-            return refused.outcome in (ample, *wants)
+        def is_allowed(refused, ample=ample, case=case):
+            # a want of memory leaves the folder as it was
+            wants = (it._replace(left=case.before) for it in wants_of_memory(case.words, refused))
+            several = wants_of_several(parts_of(case.words, ample), case.words)
+            return refused.outcome in (ample, *wants, *shorter_explanations(case.words, ample), *several)
 
         yield f"{table}: {case.name}", list(outcomes), is_allowed
 

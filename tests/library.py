@@ -7,7 +7,7 @@ FOLDER has libcborn.a and python/cborn, the package. An answer of the library is
 compared with the table and with what the program prints. The number of a fault is compared with the program's words, by
 way of include/cborn.h, docs/FORMATS.md and the bindings. Each number has to occur. Nests of arrays, maps and tags under
 the least, the usual and the largest limit are tried, too. `python -m cborn` has to do the command lines of the tables as
-the program does, but doesn't say where two inputs differ. The explanation of each input that is refused or isn't
+the program does, but reads one file, has no -o, and doesn't say where two inputs differ. The explanation of each input that is refused or isn't
 deterministic is what the program writes with --explain after its first line. library.c, which is compiled by $CC or cc,
 says what else is tested. Command lines that are no call (with files that fail, or for help) are counted.
 """
@@ -33,6 +33,8 @@ KINDS = {"wire": 0, "notation": 1, "notation-2": 2}
 ORDERS = {"bytewise": 0, "length-first": 1}
 BAD_ARGUMENT, OUT_OF_MEMORY, TOO_LONG, DIFFERENT = 2, 3, 4, 5
 OF_SECOND = 0x10000
+# what the program has and `python -m cborn` hasn't: several files, and a file for the answer
+OF_PROGRAM = ("several.table", "output.table")
 WRAPPED = "-Wl,--wrap=malloc,--wrap=realloc,--wrap=free"
 
 
@@ -442,7 +444,8 @@ def all_cases(folder):
 def main():
     program, build = (str(pathlib.Path(word).resolve()) for word in sys.argv[1:])
     words, met = words_of_header(), set()
-    runs = ((table, run) for table, lines in listed(tables_in(HERE)) for run in single_runs(lines))
+    own = [table for table in tables_in(HERE) if table.name not in OF_PROGRAM]
+    runs = ((table, run) for table, lines in listed(own) for run in single_runs(lines))
     through, wrong = shared.over_processors(through_python, runs, build, at_once=16)
     with tempfile.TemporaryDirectory() as folder:
         callers = {"C": InC(folder, build), "Python": InPython(build)}

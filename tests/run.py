@@ -9,6 +9,8 @@ A table is a list of cases, each a paragraph of lines 'WORD REST':
     file NAME hex BYTES  a file in the folder that the program runs in; 'text' in place of 'hex' takes
                          a text with the escapes \\n and \\xNN (none, if it isn't ASCII), and 'folder'
                          makes a folder
+    mode NAME N          the mode of that file, in octal
+    link NAME TARGET     a symbolic link
     length NAME N        zeros after what that file holds, so that it has N bytes
     stdin hex BYTES      standard input, which is else empty
     input failing        standard input fails after these bytes, in place of ending
@@ -21,10 +23,12 @@ A table is a list of cases, each a paragraph of lines 'WORD REST':
     stderr TEXT          what it must write to standard error, with the newline at its end, which is else
                          nothing; 'stderr holds TEXT' asks only that the text occurs
     status N             the exit status, which is else 0
+    left NAME hex BYTES  what a file must hold after a run that names an output. Of such a run each other file
+                         has to be as it was, and no further one there
 
 In BYTES 'X * N' repeats X, 'X * A..B' puts each number from A to B (up or down) in place of its {..}, formatted
 as Python does, 'X * A..B by S' each S-th of them, and '+' stands between parts. 'texts PARTS' has texts in place of
-bytes, each in double quotes, with their escapes. The last five words are those of a run. One case may have several runs,
+bytes, each in double quotes, with their escapes. The last six words are those of a run. One case may have several runs,
 on the same files and input. Runs in a row without lines between them must do the same.
 'stdout holds' and 'stderr holds' may stand more than once. A line that begins with '#' is a comment.
 """
@@ -34,6 +38,7 @@ import functools
 import itertools
 import os
 import pathlib
+import re
 import resource
 import shlex
 import signal
@@ -42,12 +47,16 @@ import subprocess
 import sys
 import tempfile
 
-Outcome = collections.namedtuple("Outcome", "stdout stderr status")
+# what a run wrote, its status, and what it left in its folder, if it names an output: see Case.state
+Outcome = collections.namedtuple("Outcome", "stdout stderr status left", defaults=(None,))
 HERE = pathlib.Path(__file__).resolve().parent
 # forms of items and texts; the growths and the failures of their runs are those of the other tables
 FORMS = HERE / "forms"
 LONG = 4096
-OF_A_RUN = ("run", "argument", "stdout", "stderr", "status")
+# what the system takes away of the mode of a new file
+MASK = os.umask(0)
+os.umask(MASK)
+OF_A_RUN = ("run", "argument", "stdout", "stderr", "status", "left")
 
 
 class Case:
@@ -57,8 +66,12 @@ class Case:
         self.name, self.words, self.folder = str(lines), None, folder
         self.stdin, self.is_failing, self.output, self.room, self.status = b"", False, None, None, 0
         self.wanted = {"stdout": [], "stderr": []}
+        self.changes = {}
         for word, rest in lines:
             self.read(word, rest)
+        # a run that writes to a file is followed by a look at its folder, which is then made as it was
+        self.saves = any(re.match("-o|--output", word) for word in self.words or [])
+        self.before = self.state() if self.saves else None
 
     def read(self, word, rest):
         if word == "case":
@@ -73,6 +86,15 @@ class Case:
         elif word == "length":
             name, _, length = rest.partition(" ")
             os.truncate(pathlib.Path(self.folder, name), int(length))
+        elif word == "mode":
+            name, _, mode = rest.partition(" ")
+            os.chmod(pathlib.Path(self.folder, name), int(mode, 8))
+        elif word == "link":
+            name, _, target = rest.partition(" ")
+            pathlib.Path(self.folder, name).symlink_to(target)
+        elif word == "left":
+            name, _, what = rest.partition(" ")
+            self.changes[name] = given_bytes(what)
         elif word == "stdin":
             self.stdin = given_bytes(rest)
         elif (word, rest) == ("input", "failing"):
@@ -109,7 +131,41 @@ class Case:
                 **how,
             )
             written = done.stdout if self.room is None else os.pread(to, self.room + 1, 0)
-        return Outcome(written or b"", done.stderr, done.returncode)
+        return Outcome(written or b"", done.stderr, done.returncode, self.left())
+
+    def state(self):
+        """Each file, link and folder in the folder of the run: what a file holds and its mode, or where a link leads."""
+        found = {}
+        for path in sorted(pathlib.Path(self.folder).rglob("*")):
+            name = str(path.relative_to(self.folder))
+            if path.is_symlink():
+                found[name] = os.readlink(path)
+            elif path.is_dir():
+                found[name] = None
+            else:
+                found[name] = path.read_bytes(), path.stat().st_mode & 0o7777
+        return found
+
+    def left(self):
+        """The state after a run that names an output, whose folder is then made as it was before; else None."""
+        if not self.saves:
+            return None
+        state = self.state()
+        for name in state.keys() - self.before.keys():
+            pathlib.Path(self.folder, name).unlink()
+        for name, kept in self.before.items():
+            if isinstance(kept, tuple) and state.get(name) != kept:
+                path = pathlib.Path(self.folder, name)
+                path.write_bytes(kept[0])
+                path.chmod(kept[1])
+        return state
+
+    def wanted_state(self):
+        """The state that a run has to leave: a file that was there keeps its mode."""
+        wanted = dict(self.before)
+        for name, what in self.changes.items():
+            wanted[name] = what, self.before[name][1] if name in self.before else 0o666 & ~MASK
+        return wanted
 
     def standard_input(self, opened):
         """The arguments of subprocess.run for standard input."""
@@ -150,6 +206,8 @@ class Case:
                     yield f"{word} is {told(got)}, not {told(want)}"
         if outcome.status != self.status:
             yield f"status is {outcome.status}, not {self.status}"
+        if self.saves and outcome.left != self.wanted_state():
+            yield f"the folder holds {outcome.left}, not {self.wanted_state()}"
 
 
 def text_bytes(text):

@@ -89,7 +89,8 @@ class Served:
     def of_case(self, case, **settings):
         """The same of a case of a table. Where its standard input fails or its output is another, the program is loaded for it alone."""
         if not case.is_failing and case.output is None:
-            return self.told(case.words, case.stdin, case.folder, **settings)
+            outcome, lines = self.told(case.words, case.stdin, case.folder, **settings)
+            return outcome._replace(left=case.left()), lines
         reader, writer = os.pipe()
         outcome = case.run(self.program, env={"LD_PRELOAD": self.library, "TELL": str(writer), **settings}, pass_fds=[writer])
         os.close(writer)

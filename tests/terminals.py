@@ -3,7 +3,8 @@
 
     terminals.py PROGRAM
 
-If the bytes of an input are all printable ASCII or white space, and are refused or end a line, the terminal gets a hint.
+If the bytes of an input are all printable ASCII or white space, and are refused, end a line or are hexadecimal, the terminal
+gets a hint.
 Each run is made a second time with a pipe in place of the terminal. The pipe must get no hint, and all else must be the
 same. So this catches a hint that a script gets, or that a person doesn't.
 """
@@ -20,7 +21,9 @@ FILES = {
     "digits": b"8301\n",
     "text": b"1\n",
     "item": bytes.fromhex("8201"),
+    "bare": b"8301",
     "cut": b'{"a": 1}',
+    "two\\lines": b"1\n",
     "items": bytes.fromhex("820102"),
     # 'a' times 38 after the head 78 26, which is 'x&': a text string, and all of it printable
     "string": b"x&" + b"a" * 38 + b"\n",
@@ -58,8 +61,13 @@ CASES = (
     ("show", LONG + b"1\n", [], [NOTATION], 0),
     ("show", LONG + b",\n", [], [NOTATION], 0),
     ("show", b",\n" + LONG, [], [NOTATION], 0),
-    # the last line isn't ended; a byte that no text has, first, last and far in
-    ("show", b"8301", [], [], 0),
+    # the last line isn't ended, of hexadecimal and of another text; a byte that no text has, first, last and far in
+    ("show", b"8301", [], [HEXADECIMAL], 0),
+    ("check", b"83 01", [], [HEXADECIMAL], 0),
+    ("normalise", b"38313031", [], [HEXADECIMAL], 0),
+    ("show", b"831", [], [], 0),
+    ("show", b"1 -2", [], [], 0),
+    ("compare items bare", b"", [], ["second: " + HEXADECIMAL], 1),
     ("show", b"\x01\n", [], [], 0),
     ("show", b"1\x01", [], [], 0),
     ("show", LONG + b"\x00\n", [], [], 0),
@@ -83,6 +91,9 @@ CASES = (
     ("compare text item", b"", ["cborn: second: offset 2: truncated"], ["first: " + NOTATION], 2),
     ("compare items cut", b"", ["cborn: second: offset 8: truncated"], ["second: " + NOTATION], 2),
     ("compare text cut", b"", ["cborn: second: offset 8: truncated"], ["first: " + NOTATION, "second: " + NOTATION], 2),
+    # of several files each hint has the name of its file
+    ("check digits items", b"", [], ["digits: " + HEXADECIMAL], 0),
+    ("check cut two\\lines bare", b"", ["cborn: cut: offset 8: truncated"], ["cut: " + NOTATION, "two\\u005clines: " + NOTATION, "bare: " + HEXADECIMAL], 2),
     # a file that isn't there is no refusal
     ("compare text none", b"", ["cborn: second: cannot read none"], [], 4),
     # the explanation has the hint whoever reads it

@@ -1,15 +1,18 @@
-/* Makes trouble for one call of open, read or write: the tests load it before the C library (glibc).
+/* Makes trouble for one call of open, read or write, or of what else puts a new file in the place of another: the tests
+   load it before the C library (glibc).
 
    The NTH of these calls, from 1, has the trouble KIND: 'fail' and 'interrupt' answer an error, 'short' moves
    one byte at most, and 'nothing' takes no byte of a write. A line goes to the file descriptor TELL then: the
-   call's name, its descriptor (of an opening 0), how many files the program had opened, and how many bytes it
-   had written to that descriptor. With NTH 0 the line is 'calls N', when the program ends. Standard input gives no more
+   call's name, its descriptor (0 where it has none), how many files the program had tried to open, and how many bytes it
+   had written to that descriptor. To open a file that is made is called 'create', and doesn't count as an opening. With NTH 0 the line is 'calls N', when the program ends. Standard input gives no more
    at one time than a pipe holds, so that a long one is read as often in each run. */
+#define _GNU_SOURCE
 #include <errno.h>
 #include <stdarg.h>
 #include <stdio.h>
 #include <stdlib.h>
 #include <string.h>
+#include <sys/stat.h>
 #include <sys/syscall.h>
 #include <unistd.h>
 #include <fcntl.h>
@@ -17,7 +20,7 @@
 #define DESCRIPTORS 16
 #define PIPE 65536
 
-static long nth, calls, opened, written[DESCRIPTORS];
+static long nth, calls, tried, written[DESCRIPTORS];
 static int tell = -1;
 static const char *kind = "";
 
@@ -58,7 +61,7 @@ static int is_troubled(const char *name, int fd)
     if (++calls != nth)
         return 0;
     long before = fd >= 0 && fd < DESCRIPTORS ? written[fd] : 0;
-    say(line, snprintf(line, sizeof line, "%s %d %ld %ld\n", name, fd, opened, before));
+    say(line, snprintf(line, sizeof line, "%s %d %ld %ld\n", name, fd, tried, before));
     return 1;
 }
 
@@ -77,11 +80,35 @@ int open(const char *path, int flags, ...)
     va_start(rest, flags);
     int mode = flags & O_CREAT ? va_arg(rest, int) : 0;
     va_end(rest);
-    if (is_troubled("open", 0) && is_error(EMFILE))
-        return -1;
-    int fd = (int)syscall(SYS_openat, AT_FDCWD, path, flags, mode);
-    opened += fd >= 0;
-    return fd;
+    int is_made = flags & O_CREAT;
+    int has_failed = is_troubled(is_made ? "create" : "open", 0) && is_error(EMFILE);
+    tried += !is_made;
+    return has_failed ? -1 : (int)syscall(SYS_openat, AT_FDCWD, path, flags, mode);
+}
+
+int fsync(int fd)
+{
+    return is_troubled("fsync", fd) && is_error(EIO) ? -1 : (int)syscall(SYS_fsync, fd);
+}
+
+int fchmod(int fd, mode_t mode)
+{
+    return is_troubled("fchmod", fd) && is_error(EPERM) ? -1 : (int)syscall(SYS_fchmod, fd, mode);
+}
+
+int rename(const char *from, const char *to)
+{
+    return is_troubled("rename", 0) && is_error(EACCES) ? -1 : (int)syscall(SYS_rename, from, to);
+}
+
+ssize_t readlink(const char *path, char *text, size_t size)
+{
+    return is_troubled("readlink", 0) && is_error(EACCES) ? -1 : syscall(SYS_readlink, path, text, size);
+}
+
+int statx(int fd, const char *path, int flags, unsigned mask, struct statx *found)
+{
+    return is_troubled("statx", 0) && is_error(EACCES) ? -1 : (int)syscall(SYS_statx, fd, path, flags, mask, found);
 }
 
 ssize_t read(int fd, void *buffer, size_t size)

@@ -3,10 +3,9 @@
 //! `cborn_commands` does the work. Here it is given what the system gives: words, files and memory.
 #![tactic(auto)]
 
-use cborn_commands::{Audience, Standard, System, run, tell_words};
+use cborn_commands::{run, tell_words};
 use cborn_streams::Counted;
 use std::alloc::Global;
-use std::io::IsTerminal;
 use std::process::ExitCode;
 use std::{env, io};
 
@@ -23,19 +22,9 @@ fn run_host(rt: &HostRuntime, alloc: Global) -> io::Result<u8> {
     for word in &owned {
         words.push(word.as_str())?;
     }
-    let audience = if rt.stderr().is_terminal() {
-        Audience::Person
-    } else {
-        Audience::Program
-    };
-    let standard = Standard {
-        input: rt.stdin(),
-        err: rt.stderr(),
-        audience,
-    };
     let mut out = Counted::new(rt.stdout());
-    let system = System { files: rt, alloc };
-    Ok(run(&system, &words, standard, &mut out))
+    let input = rt.stdin();
+    Ok(run(rt, alloc, &words, input, &mut out, rt.stderr()))
 }
 
 fn main(rt: HostRuntime) -> ExitCode {

@@ -38,6 +38,7 @@ status_of_trouble (trouble.Compare (compared.Second why)) = status_of_fault why
 status_of_trouble (trouble.One why) = status_of_one why
 status_of_trouble (trouble.CompareOne (compared_one.First why)) = status_of_one why
 status_of_trouble (trouble.CompareOne (compared_one.Second why)) = status_of_one why
+status_of_trouble (trouble.OfFile name why) = status_of_one why
 status_of_trouble _ = 4
 
 -- an input is refused

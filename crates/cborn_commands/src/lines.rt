@@ -4,10 +4,11 @@ ghost use Rattle.cborn_commands.specs.Statuses.{status_of_answer, status_of_faul
 ghost use Rattle.cborn_engine.specs.declared.EngineFault.TheVariants as fault;
 ghost use Rattle.cborn_commands.specs.declared.lines.Trouble.TheVariants as trouble;
 
+use crate::names::FileName;
 use crate::statuses::{DIFFERENT, DONE, FAILED, REFUSED};
 use cborn_engine::{CompareFault, CompareOneFault, Counted, EngineFault, OneFault};
-use cborn_explain::Escaped;
 use cborn_model::Defect;
+use std::alloc::Global;
 use std::fmt::{Display, Formatter};
 use std::io::Write;
 use std::{fmt, io};
@@ -29,6 +30,23 @@ pub enum Trouble<'a> {
     One(OneFault),
     /// The engine reported a fault of one of two such inputs.
     CompareOne(CompareOneFault),
+    /// The engine reported a fault of the file of this name, one of several.
+    OfFile(&'a str, OneFault),
+}
+
+impl<'a> Trouble<'a> {
+    /// The same trouble of the file of this name, where it is that of an input. Each other trouble stays
+    /// as it is: it names its file, or is of what is written.
+    pub fn of_file(self, name: &'a str) -> Trouble<'a>
+        ensures status { status_of_trouble result ≡ status_of_trouble self.entry }
+    {
+        match self {
+            Trouble::Engine(EngineFault::WriteFault) => self,
+            Trouble::Engine(fault) => Trouble::OfFile(name, OneFault::Engine(fault)),
+            Trouble::One(fault) => Trouble::OfFile(name, fault),
+            _ => self,
+        }
+    }
 }
 
 impl From<EngineFault> for Trouble<'_> {
@@ -86,6 +104,33 @@ pub fn tell_answer<'a, W: Write>(out: &mut Counted<W>, answer: Answer) -> Result
     }
 }
 
+/// Prints the name of a file and the answer on it on a line, and flushes it. The line is one write, so
+/// that the lines of programs side by side don't mix. Answers the exit status: 0 or 1.
+///
+/// # Errors
+/// `OutOfMemory` where memory for the line is refused, and `WriteFault` where it can't be written or
+/// flushed.
+pub fn tell_answer_on<'a, W: Write>(
+    alloc: Global,
+    out: &mut Counted<W>,
+    name: &str,
+    answer: Answer,
+) -> Result<u8, Trouble<'a>>
+    ensures status { IfOk result (λ status. status ≡ status_of_answer answer) }
+    ensures flushed { OnOk result (out.new.unflushed ≡ 0) }
+    ensures trouble { IfErr result (λ why. status_of_trouble why ≡ FAILED) }
+{
+    let name = FileName { text: name };
+    let line = match format!(in alloc; "{name}: {answer}\n") {
+        Ok(line) => line,
+        Err(refused) => return Err(Trouble::Engine(EngineFault::from(refused))),
+    };
+    match print(out, &line, "") {
+        Ok(()) => Ok(status_of_answer(answer)),
+        Err(_) => Err(Trouble::Engine(EngineFault::WriteFault)),
+    }
+}
+
 fn status_of_answer(answer: Answer) -> u8
     ensures { result ≡ status_of_answer answer }
 {
@@ -126,6 +171,15 @@ pub fn explain_trouble<E: Write>(err: &mut E, trouble: Trouble<'_>, lines: &str)
     status_of_trouble(trouble)
 }
 
+/// Prints the name of a file on a line and explaining lines after it, if there are any. A write that
+/// fails is ignored.
+pub fn print_lines_on<E: Write>(err: &mut E, name: &str, lines: &str) {
+    if !lines.is_empty() {
+        let name = FileName { text: name };
+        let _ = write!(err, "  file  {name}\n{lines}");
+    }
+}
+
 /// Prints lines, if there are any. A write that fails is ignored.
 pub fn print_lines<E: Write>(err: &mut E, lines: &str) {
     if !lines.is_empty() {
@@ -142,13 +196,16 @@ fn print_trouble<E: Write>(err: &mut E, trouble: Trouble<'_>) -> io::Result<()> 
         Trouble::Compare(fault) => writeln!(err, "cborn: {fault}"),
         Trouble::One(fault) => writeln!(err, "cborn: {fault}"),
         Trouble::CompareOne(fault) => writeln!(err, "cborn: {fault}"),
+        Trouble::OfFile(name, fault) => {
+            let name = FileName { text: name };
+            writeln!(err, "cborn: {name}: {fault}")
+        }
     }
 }
 
-/// Prints a line that ends with the name of a file. The name is escaped, since it may hold any
-/// character.
+/// Prints a line that ends with the name of a file.
 fn print_after<E: Write>(err: &mut E, start: &str, name: &str) -> io::Result<()> {
-    let name = Escaped { text: name };
+    let name = FileName { text: name };
     writeln!(err, "{start}{name}")
 }
 
@@ -161,6 +218,7 @@ fn status_of_trouble(trouble: Trouble<'_>) -> u8
         | Trouble::Compare(CompareFault::First(fault))
         | Trouble::Compare(CompareFault::Second(fault)) => status_of_fault(fault),
         Trouble::One(fault)
+        | Trouble::OfFile(_, fault)
         | Trouble::CompareOne(CompareOneFault::First(fault))
         | Trouble::CompareOne(CompareOneFault::Second(fault)) => status_of_one(fault),
         _ => FAILED,

@@ -4,12 +4,15 @@
 use crate::explanations::{explain_defect, explain_fault, explain_index, explain_kind};
 use crate::inputs::{Kept, Notes};
 use crate::lines::{Answer, Trouble, status_of_one};
+use crate::names::FileName;
 use crate::statuses::{DONE, REFUSED};
 use cborn_engine::{CompareFault, CompareOneFault, Kind, OneFault};
 use cborn_explain::{Hint, Look};
 use cborn_model::{KeyOrder, Limit};
 use cborn_options::Task;
 use std::alloc::{AllocError, Global};
+use std::fmt;
+use std::fmt::{Display, Formatter};
 
 /// Who reads standard error.
 #[derive(Clone, Copy)]
@@ -22,31 +25,39 @@ pub enum Audience {
 
 /// An input of a command.
 #[derive(Clone, Copy)]
-enum Side {
+enum Side<'a> {
     /// The only one.
     Only,
+    /// The file of this name, one of several.
+    File(&'a str),
     /// The first of two.
     First,
     /// The second of two.
     Second,
 }
 
-impl Side {
-    /// What the line of a trouble or a hint has after `cborn: `.
-    fn label(self) -> &'static str {
-        match self {
-            Side::Only => "",
-            Side::First => "first: ",
-            Side::Second => "second: ",
-        }
-    }
-
+impl Side<'_> {
     /// The words for it in a sentence.
     fn name(self) -> &'static str {
         match self {
-            Side::Only => "the input",
+            Side::Only | Side::File(_) => "the input",
             Side::First => "the first input",
             Side::Second => "the second input",
+        }
+    }
+}
+
+/// What the line of a trouble or a hint has after `cborn: `.
+impl Display for Side<'_> {
+    fn fmt<W: fmt::Write>(&self, f: &mut Formatter<W>) -> fmt::Result {
+        match self {
+            Side::Only => Ok(()),
+            Side::File(name) => {
+                let name = FileName { text: *name };
+                write!(f, "{name}: ")
+            }
+            Side::First => write!(f, "first: "),
+            Side::Second => write!(f, "second: "),
         }
     }
 }
@@ -56,9 +67,11 @@ const OUT_OF_MEMORY: &str = "  out of memory\n";
 
 /// The lines so far, and which lines are wanted.
 #[derive(Drop)]
-pub struct Remarks {
+pub struct Remarks<'a> {
     alloc: Global,
     audience: Audience,
+    /// The file that they are on, where it is one of several.
+    file: Option<&'a str>,
     limit: Limit,
     /// Whether lines that say where and why are wanted.
     explain: bool,
@@ -66,15 +79,29 @@ pub struct Remarks {
     pub lines: String,
 }
 
-impl Remarks {
-    /// No lines yet, for a task.
-    pub fn new(alloc: Global, audience: Audience, task: &Task<'_>) -> Self {
+impl<'a> Remarks<'a> {
+    /// No lines yet, for a task. `file` is what it reads where that is one of several files.
+    pub fn new(alloc: Global, audience: Audience, task: &Task<'_>, file: Option<&'a str>) -> Self {
         Remarks {
             alloc,
             audience,
+            file,
             limit: task.limit,
             explain: task.explain,
             lines: String::new(alloc),
+        }
+    }
+
+    /// The file that they are on, where it is one of several.
+    pub fn file(&self) -> Option<&'a str> {
+        self.file
+    }
+
+    /// The only input of a command that reads one at a time.
+    fn only(&self) -> Side<'a> {
+        match self.file {
+            None => Side::Only,
+            Some(name) => Side::File(name),
         }
     }
 
@@ -97,7 +124,7 @@ impl Remarks {
             Trouble::One(fault) => fault,
             _ => return,
         };
-        self.on_fault(Side::Only, kind, notes, fault);
+        self.on_fault(self.only(), kind, notes, fault);
     }
 
     /// Adds lines on why an input isn't deterministic, where that was the answer and the input was kept.
@@ -108,7 +135,7 @@ impl Remarks {
                 let lines = explain_defect(self.alloc, self.limit, kept.bytes(), defect);
                 self.add(lines);
             }
-            _ => self.on_kind(Side::Only, kind, notes),
+            _ => self.on_kind(self.only(), kind, notes),
         }
     }
 
@@ -153,13 +180,13 @@ impl Remarks {
     /// that it adds the hint on the first.
     fn on_second(&mut self, kinds: (Kind, Kind), notes: (&Notes, &Notes), fault: OneFault) {
         if let Notes::Look(look) = notes.0 {
-            self.hint_at_line_end(Side::First, *look);
+            self.hint_on_valid(Side::First, *look);
         }
         self.on_fault(Side::Second, kinds.1, notes.1, fault);
     }
 
     /// Adds lines on why an input is refused, or the hint on what it looks like.
-    fn on_fault(&mut self, which: Side, kind: Kind, notes: &Notes, fault: OneFault) {
+    fn on_fault(&mut self, which: Side<'_>, kind: Kind, notes: &Notes, fault: OneFault) {
         match notes {
             Notes::Nothing => {}
             Notes::Look(look) => {
@@ -183,10 +210,10 @@ impl Remarks {
     }
 
     /// Adds the hint on what an input looks like.
-    fn on_kind(&mut self, which: Side, kind: Kind, notes: &Notes) {
+    fn on_kind(&mut self, which: Side<'_>, kind: Kind, notes: &Notes) {
         match notes {
             Notes::Nothing => {}
-            Notes::Look(look) => self.hint_at_line_end(which, *look),
+            Notes::Look(look) => self.hint_on_valid(which, *look),
             Notes::Whole(kept) => {
                 let lines = explain_kind(self.alloc, which.name(), kind, kept.bytes());
                 self.add(lines);
@@ -194,16 +221,16 @@ impl Remarks {
         }
     }
 
-    /// Adds the hint on an input that isn't refused, if its last byte ends a line. Bytes that end
-    /// otherwise may look like a text by chance.
-    fn hint_at_line_end(&mut self, which: Side, look: Look) {
-        if look.ends_line() {
+    /// Adds the hint on an input that isn't refused, if its last byte ends a line or it looks like
+    /// hexadecimal. Bytes that end otherwise may look like a text by chance.
+    fn hint_on_valid(&mut self, which: Side<'_>, look: Look) {
+        if look.ends_line() || look.hint() == Some(Hint::Hexadecimal) {
             self.hint(which, look);
         }
     }
 
     /// Adds the hint on an input, if there is one. A hint is left out where memory for it is refused.
-    fn hint(&mut self, which: Side, look: Look) {
+    fn hint(&mut self, which: Side<'_>, look: Look) {
         if let Some(hint) = look.hint() {
             if let Ok(line) = hint_line(self.alloc, which, hint) {
                 let _ = self.lines.push_str(line.as_str());
@@ -231,7 +258,6 @@ impl Remarks {
     }
 }
 
-fn hint_line(alloc: Global, which: Side, hint: Hint) -> Result<String, AllocError> {
-    let label = which.label();
-    format!(in alloc; "cborn: {label}hint: {hint}\n")
+fn hint_line(alloc: Global, which: Side<'_>, hint: Hint) -> Result<String, AllocError> {
+    format!(in alloc; "cborn: {which}hint: {hint}\n")
 }

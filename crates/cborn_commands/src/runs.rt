@@ -1,68 +1,98 @@
 //! A run of the program.
-ghost use Rattle.std.specs.Prelude.{◌≡◌, ◌≤◌};
+ghost use Rattle.std.specs.Prelude.{◌≡◌, ◌≤◌, ◌<◌, ◌⊎◌, length};
+ghost use Rattle.cborn_options.specs.Words.{IsCheckOfFiles};
 
 use crate::lines::{explain_trouble, print_lines};
-use crate::remarks::Remarks;
+use crate::outputs::perform_to;
+use crate::remarks::{Audience, Remarks};
+use crate::several::check_files;
 use crate::statuses::{REFUSED, USAGE};
-use crate::systems::{Standard, System};
-use crate::tasks::perform;
+use crate::systems::System;
 use crate::usage::tell_usage;
 use cborn_engine::Counted;
-use cborn_options::{Task, read_task};
-use std::io::{Read, Write};
+use cborn_options::{Action, Request, Task, read_request};
+use std::alloc::Global;
+use std::io::{IsTerminal, Read, Write};
 use std::rt::Files;
 
-/// Runs the program. Answers its exit status, from 0 to 4. The first of `words` is the program's name.
-/// Standard output is `out`. Where an input is refused or the command line is wrong, nothing is written
-/// to it.
-pub fn run<F: Files, I: Read + Drop, W: Write, E: Write + Drop>(
-    system: &System<'_, F>,
+/// Runs the program with the files of `rt`. Answers its exit status, from 0 to 4. The first of `words`
+/// is the program's name. Standard output is `out`. Where the command line is wrong or an input is
+/// refused, nothing is written to it, but for what `check` of several files says of the others. Where
+/// `err` is a terminal, hints may go there.
+pub fn run<F: Files, I: Read + Drop, W: Write, E: Write + IsTerminal + Drop>(
+    rt: &F,
+    alloc: Global,
     words: &[&str],
-    standard: Standard<I, E>,
+    input: I,
     out: &mut Counted<W>,
+    err: E,
 ) -> u8
     ensures status { result ≤ 4 }
-    ensures refused { result ≡ REFUSED → out.new ≡ out.old }
+    ensures refused { result ≡ REFUSED → (out.new ≡ out.old) ⊎ IsCheckOfFiles words.now }
     ensures usage { result ≡ USAGE → out.new ≡ out.old }
     ensures flushed { result ≤ 1 → out.new.unflushed ≡ 0 }
 {
-    match read_task(system.alloc, words) {
-        Ok(task) => run_task(system, &task, standard, out),
-        Err(why) => {
-            let Standard {
-                input: _input,
-                err,
+    let audience = if err.is_terminal() {
+        Audience::Person
+    } else {
+        Audience::Program
+    };
+    let system = System {
+        files: rt,
+        alloc,
+        audience,
+    };
+    match read_request(alloc, words) {
+        Ok(request) => run_request(&system, &request, input, out, err),
+        Err(why) => tell_usage(alloc, &why, out, err),
+    }
+}
+
+/// Does what was asked for, and answers the exit status.
+fn run_request<F: Files, I: Read + Drop, W: Write, E: Write + Drop>(
+    system: &System<'_, F>,
+    request: &Request<'_>,
+    input: I,
+    out: &mut Counted<W>,
+    err: E,
+) -> u8
+    ensures status { result ≤ 4 }
+    ensures refused { result ≡ REFUSED → (out.new ≡ out.old) ⊎ (0 < length request.now.others.items) }
+    ensures usage { result ≡ USAGE → out.new ≡ out.old }
+    ensures flushed { result ≤ 1 → out.new.unflushed ≡ 0 }
+{
+    let mut err = err;
+    match (request.task.action, request.others.as_slice()) {
+        (
+            Action::Read {
+                file: Some(first),
                 ..
-            } = standard;
-            tell_usage(system.alloc, &why, out, err)
-        }
+            },
+            [_, ..],
+        ) => { check_files(system, request, first, out, &mut err) }
+        _ => run_task(system, &request.task, input, out, &mut err),
     }
 }
 
 /// Does a task, and answers its exit status.
-fn run_task<F: Files, I: Read + Drop, W: Write, E: Write + Drop>(
+fn run_task<F: Files, I: Read + Drop, W: Write, E: Write>(
     system: &System<'_, F>,
     task: &Task<'_>,
-    standard: Standard<I, E>,
+    input: I,
     out: &mut Counted<W>,
+    err: &mut E,
 ) -> u8
     ensures status { result ≤ 4 }
     ensures refused { result ≡ REFUSED → out.new ≡ out.old }
     ensures usage { result ≡ USAGE → out.new ≡ out.old }
     ensures flushed { result ≤ 1 → out.new.unflushed ≡ 0 }
 {
-    let Standard {
-        input,
-        err,
-        audience,
-    } = standard;
-    let mut err = err;
-    let mut remarks = Remarks::new(system.alloc, audience, task);
-    match perform(system, task, input, out, &mut remarks) {
+    let mut remarks = Remarks::new(system.alloc, system.audience, task, None);
+    match perform_to(system, task, input, out, &mut remarks) {
         Ok(status) => {
-            print_lines(&mut err, remarks.lines.as_str());
+            print_lines(err, remarks.lines.as_str());
             status
         }
-        Err(trouble) => explain_trouble(&mut err, trouble, remarks.lines.as_str()),
+        Err(trouble) => explain_trouble(err, trouble, remarks.lines.as_str()),
     }
 }

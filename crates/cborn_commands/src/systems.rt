@@ -3,17 +3,10 @@
 use crate::remarks::Audience;
 use std::alloc::Global;
 
-/// The files and the memory of the system.
+/// The files and the memory of the system, and who reads standard error.
 #[derive(Drop)]
 pub struct System<'r, F> {
     pub files: &'r F,
     pub alloc: Global,
-}
-
-/// Standard input and standard error, and who reads the latter.
-#[derive(Drop)]
-pub struct Standard<I, E> {
-    pub input: I,
-    pub err: E,
     pub audience: Audience,
 }

@@ -4,7 +4,7 @@ ghost use Rattle.cborn_commands.specs.Statuses.{IsRefusal};
 
 use crate::formats::kind_of;
 use crate::inputs::{LateFile, Noted};
-use crate::lines::{Answer, Trouble, tell_answer};
+use crate::lines::{Answer, Trouble, tell_answer, tell_answer_on};
 use crate::remarks::Remarks;
 use crate::statuses::DONE;
 use crate::systems::System;
@@ -51,7 +51,7 @@ pub fn perform<'a, F: Files, I: Read + Drop, W: Write>(
     task: &Task<'a>,
     input: I,
     out: &mut Counted<W>,
-    remarks: &mut Remarks,
+    remarks: &mut Remarks<'_>,
 ) -> Result<u8, Trouble<'a>>
     ensures status { IfOk result (λ status. status ≤ 1) }
     ensures untouched { IfErr result (λ why. IsRefusal why → out.new ≡ out.old) }
@@ -73,7 +73,7 @@ fn act<'a, O: KeyOrder, F: Files, I: Read + Drop, W: Write>(
     task: &Task<'a>,
     input: I,
     out: &mut Counted<W>,
-    remarks: &mut Remarks,
+    remarks: &mut Remarks<'_>,
 ) -> Result<u8, Trouble<'a>>
     ensures status { IfOk result (λ status. status ≤ 1) }
     ensures untouched { IfErr result (λ why. IsRefusal why → out.new ≡ out.old) }
@@ -134,7 +134,7 @@ fn read_for<'a, O: KeyOrder, I: Read + Drop, W: Write>(
     purpose: Purpose,
     input: I,
     out: &mut Counted<W>,
-    remarks: &mut Remarks,
+    remarks: &mut Remarks<'_>,
 ) -> Result<u8, Trouble<'a>>
     ensures status { IfOk result (λ status. status ≤ 1) }
     ensures untouched { IfErr result (λ why. IsRefusal why → out.new ≡ out.old) }
@@ -161,9 +161,10 @@ fn read_for<'a, O: KeyOrder, I: Read + Drop, W: Write>(
             return Err(trouble);
         }
     };
-    let status = match answer {
-        None => DONE,
-        Some(answer) => tell_answer(out, answer)?,
+    let status = match (answer, remarks.file()) {
+        (None, _) => DONE,
+        (Some(answer), None) => tell_answer(out, answer)?,
+        (Some(answer), Some(name)) => tell_answer_on(alloc, out, name, answer)?,
     };
     remarks.on_answer(kind, &reader.notes, answer);
     Ok(status)
@@ -245,7 +246,7 @@ fn compare_files<'a, O: KeyOrder, F: Files, W: Write>(
     wanted: Wanted,
     files: (Named<'a>, Named<'a>),
     out: &mut Counted<W>,
-    remarks: &mut Remarks,
+    remarks: &mut Remarks<'_>,
 ) -> Result<u8, Trouble<'a>>
     ensures status { IfOk result (λ status. status ≤ 1) }
     ensures untouched { IfErr result (λ why. IsRefusal why → out.new ≡ out.old) }

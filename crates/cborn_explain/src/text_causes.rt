@@ -126,6 +126,13 @@ impl RefusedText<'_> {
 
     /// Writes why a token is wrong.
     fn push_token(&self, out: &mut String, reason: LexReason) -> Result<(), AllocError> {
+        let is_word = matches!(
+            reason,
+            LexReason::UnexpectedCharacter | LexReason::UnknownPrefix
+        );
+        if is_word && self.is_after_slashes() {
+            return out.push_str("comments are / .. /, and the // before this is an empty one");
+        }
         match reason {
             LexReason::UnexpectedCharacter => self.push_unexpected_character(out),
             LexReason::UnclosedString => {
@@ -174,6 +181,15 @@ impl RefusedText<'_> {
                 out.push_str(" is no integer, and floats are left out")
             }
         }
+    }
+
+    /// Whether `//` comes before the place, and white space of the same line.
+    fn is_after_slashes(&self) -> bool {
+        let before = self.input.text.get(..self.place).unwrap_or(&[]);
+        let last = before.iter().rposition(|b| !matches!(*b, b' ' | b'\t'));
+        let len = last.map_or(0, |index| index.saturating_add(1));
+        let before = before.get(..len).unwrap_or(&[]);
+        before.ends_with(b"//")
     }
 
     /// Writes what is wrong with an escape, or with a character that has to be escaped.
@@ -239,7 +255,11 @@ impl RefusedText<'_> {
         match reason {
             EdnReason::UnexpectedToken => {
                 out.push_str("here may come ")?;
-                self.push_allowed(out, walk)
+                self.push_allowed(out, walk)?;
+                if self.is_after_trailing_comma(walk) {
+                    out.push_str("; a trailing comma is read with notation-2 alone")?;
+                }
+                Ok(())
             }
             EdnReason::UnexpectedEnd => self.push_unexpected_end(out, walk),
             EdnReason::TooDeep => self.push_deep(out),
@@ -371,6 +391,21 @@ impl RefusedText<'_> {
             },
         };
         out.push_str(words)
+    }
+
+    /// Whether a bracket is closed at the place after a trailing comma, which profile 2 alone allows.
+    fn is_after_trailing_comma(&self, walk: &TextWalk) -> bool {
+        let is_comma = matches!(walk.last, LastToken::Separator);
+        let Some(open) = walk.open.last() else {
+            return false;
+        };
+        let rest = self.input.text.get(self.place..).unwrap_or(&[]);
+        let is_closed = match (open.bracket, rest) {
+            (Bracket::Array, [b']', ..]) | (Bracket::Embedded, [b'>', b'>', ..]) => true,
+            (Bracket::Map, [b'}', ..]) => open.is_at_key(),
+            _ => false,
+        };
+        is_comma && is_closed && self.input.profile == Profile::One
     }
 
     /// Writes which key the key at the place repeats.

@@ -29,6 +29,10 @@ pub struct Argument {
 pub enum Takes {
     /// The name of a file.
     File { is_required: bool },
+    /// The names of any number of files.
+    Files,
+    /// An option with the name of a file, which has no default. It is also written as one letter.
+    Output { letter: char, name: &'static str },
     /// An option with a value.
     Value(Value),
     /// An option without a value.
@@ -46,23 +50,23 @@ pub struct Value {
 /// All commands.
 pub const COMMANDS: &[Form] = &[SHOW, NORMALISE, COMPARE, CHECK];
 
-pub const SHOW: Form = Form {
+const SHOW: Form = Form {
     name: "show",
     whole_name: "cborn show",
     about: help::SHOW,
     notes: help::SHOW_NOTES,
-    arguments: &[FILE, FROM, TO_NOTATION, DEPTH, ONE, EXPLAIN],
+    arguments: &[FILE, OUTPUT, FROM, TO_NOTATION, DEPTH, ONE, EXPLAIN],
 };
 
-pub const NORMALISE: Form = Form {
+const NORMALISE: Form = Form {
     name: "normalise",
     whole_name: "cborn normalise",
     about: help::NORMALISE,
     notes: help::NORMALISE_NOTES,
-    arguments: &[FILE, FROM, TO_WIRE, ORDER, DEPTH, ONE, EXPLAIN],
+    arguments: &[FILE, OUTPUT, FROM, TO_WIRE, ORDER, DEPTH, ONE, EXPLAIN],
 };
 
-pub const COMPARE: Form = Form {
+const COMPARE: Form = Form {
     name: "compare",
     whole_name: "cborn compare",
     about: help::COMPARE,
@@ -70,18 +74,33 @@ pub const COMPARE: Form = Form {
     arguments: &[FILE_A, FILE_B, FROM_A, FROM_B, ORDER, DEPTH, ONE, EXPLAIN],
 };
 
-pub const CHECK: Form = Form {
+const CHECK: Form = Form {
     name: "check",
     whole_name: "cborn check",
     about: help::CHECK,
     notes: help::CHECK_NOTES,
-    arguments: &[FILE, ORDER, DEPTH, ONE, EXPLAIN],
+    arguments: &[FILES, ORDER, DEPTH, ONE, EXPLAIN],
 };
 
 const FILE: Argument = Argument {
     name: "FILE",
     help: help::FILE,
     takes: Takes::File { is_required: false },
+};
+
+const FILES: Argument = Argument {
+    name: "FILE",
+    help: help::FILES,
+    takes: Takes::Files,
+};
+
+const OUTPUT: Argument = Argument {
+    name: "output",
+    help: help::OUTPUT,
+    takes: Takes::Output {
+        letter: 'o',
+        name: "FILE",
+    },
 };
 
 const FILE_A: Argument = Argument {

@@ -81,6 +81,10 @@ last. Under the same --order and the same --to, two inputs, each of any KIND,
 give the same output exactly if they hold the same items. A FILE named - is a
 file of that name.
 
+The shell empties f before 'cborn normalise f > f' reads it. 'cborn normalise f
+-o f' writes to a new file beside f, which takes its place once the answer is
+whole. Whatever is refused or fails, f is as it was.
+
 Without --from notation, text is read as CBOR bytes, and refused only if these
 are invalid: 'echo 1 | cborn normalise' writes 31 0a, the integers -18 and 10.
 
@@ -135,6 +139,11 @@ which is what isn't deterministic there: 'long head' (not the shortest),
 bytes that begin with 0) or 'key order'. N counts bytes from the start of the
 input. A FILE named - is a file of that name.
 
+Of two or more files each has a line with its name, as 'NAME: deterministic';
+that of a file that is refused goes to standard error, after 'cborn: '. The next
+file is checked in any case. The exit status is the worst one: 4 before 2 before
+1. In names control characters and the backslash are escaped, as \\u000a.
+
 It reads bytes alone. Pasted hexadecimal is text, and can happen to be
 deterministic CBOR: use 'xxd -r -p' first. The contents of byte strings aren't
 checked, even where they are CBOR.
@@ -160,6 +169,12 @@ pub const FROM_B: &str = "The format of FILE_B: wire (bytes), notation or\nnotat
 pub const TO: &str = "The format to write: wire (bytes) or\nnotation";
 
 pub const FILE: &str = "The file to read, in place of standard input";
+
+pub const FILES: &str = "The files to read, in place of standard input";
+
+pub const OUTPUT: &str = "\
+Write to FILE, once the answer is whole, in place of
+standard output; FILE may be the input";
 
 pub const FILE_A: &str = "The first file to read: bytes, unless --from-a says otherwise";
 

@@ -1,6 +1,6 @@
-//! Options that a command doesn't have, while another command does.
+//! Options that a command doesn't have, while another command does, or that another name is meant by.
 
-use crate::forms::{CHECK, COMPARE, Form, SHOW};
+use crate::forms::{COMMANDS, Form};
 
 const COMPARE_FROM: &str =
     "compare reads two files, and each has its own format: use '--from-a <KIND>' for FILE_A and '--from-b <KIND>' for FILE_B, in place of '--from'";
@@ -17,49 +17,104 @@ const CHECK_TO: &str =
 const SHOW_ORDER: &str =
     "show sorts nothing, and has no '--order': 'cborn normalise --to notation' sorts the keys of maps";
 
+const CHECK_OUTPUT: &str =
+    "check writes no items, and has no '--output': 'cborn normalise --output <FILE>' writes the deterministic encoding to FILE";
+
+const IN_PLACE: &str =
+    "there is no such option: '-o <FILE>' writes to FILE once the answer is whole, and FILE may be the input";
+
 /// What to say of an option that a command doesn't have.
 #[derive(Clone, Copy)]
 pub struct Advice {
-    pub command: Form,
-    option: &'static str,
+    pub command: &'static Form,
     pub line: &'static str,
 }
 
-const ADVICE: &[Advice] = &[
-    Advice {
-        command: COMPARE,
+/// The line on an option that the command of this name doesn't have.
+#[derive(Clone, Copy)]
+struct Rule {
+    command: &'static str,
+    option: &'static str,
+    line: &'static str,
+}
+
+const RULES: &[Rule] = &[
+    Rule {
+        command: "compare",
         option: "--from",
         line: COMPARE_FROM,
     },
-    Advice {
-        command: COMPARE,
+    Rule {
+        command: "compare",
         option: "--to",
         line: COMPARE_TO,
     },
-    Advice {
-        command: CHECK,
+    Rule {
+        command: "check",
         option: "--from",
         line: CHECK_FROM,
     },
-    Advice {
-        command: CHECK,
+    Rule {
+        command: "check",
         option: "--to",
         line: CHECK_TO,
     },
-    Advice {
-        command: SHOW,
+    Rule {
+        command: "show",
         option: "--order",
         line: SHOW_ORDER,
+    },
+    Rule {
+        command: "check",
+        option: "--output",
+        line: CHECK_OUTPUT,
+    },
+    Rule {
+        command: "check",
+        option: "-o",
+        line: CHECK_OUTPUT,
+    },
+    Rule {
+        command: "normalise",
+        option: "--in-place",
+        line: IN_PLACE,
+    },
+    Rule {
+        command: "normalise",
+        option: "-i",
+        line: IN_PLACE,
+    },
+    Rule {
+        command: "show",
+        option: "--in-place",
+        line: IN_PLACE,
+    },
+    Rule {
+        command: "show",
+        option: "-i",
+        line: IN_PLACE,
     },
 ];
 
 /// The first advice of the list whose command and option the words have. The first of `words` is the
 /// program's name, the second the command's. `None`: the list has no advice on these words.
-pub fn advice_on(words: &[&str]) -> Option<&'static Advice> {
+pub fn advice_on(words: &[&str]) -> Option<Advice> {
     let name = *words.get(1)?;
-    for advice in ADVICE {
-        if advice.command.name == name && has_option(words, advice.option) {
-            return Some(advice);
+    for rule in RULES {
+        if rule.command == name && has_option(words, rule.option) {
+            let command = form_of(name)?;
+            let line = rule.line;
+            return Some(Advice { command, line });
+        }
+    }
+    None
+}
+
+/// The command of this name, if there is one.
+fn form_of(name: &str) -> Option<&'static Form> {
+    for command in COMMANDS {
+        if command.name == name {
+            return Some(command);
         }
     }
     None

@@ -2,10 +2,20 @@
 
 use cborn_model::Limit;
 
-/// What the program is asked to do.
+/// What a command line asks for.
+#[derive(Drop)]
+pub struct Request<'a> {
+    pub task: Task<'a>,
+    /// The files after the first that are checked in the same way, one after the other.
+    pub others: Vec<&'a str>,
+}
+
+/// What the program is asked to do with one input, or with two that it compares.
 #[derive(Clone, Copy)]
 pub struct Task<'a> {
     pub action: Action<'a>,
+    /// The file that the answer goes to. `None`: it goes to standard output.
+    pub output: Option<&'a str>,
     pub order: Order,
     pub limit: Limit,
     pub items: Items,

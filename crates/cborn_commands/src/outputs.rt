@@ -1,0 +1,103 @@
+//! Where the answer of a task goes: to standard output or to a file.
+ghost use Rattle.std.specs.Prelude.{◌≡◌, ◌≤◌, IfOk, IfErr, OnOk};
+ghost use Rattle.cborn_commands.specs.Statuses.{IsRefusal, status_of_fault, status_of_trouble};
+
+use crate::lines::Trouble;
+use crate::remarks::Remarks;
+use crate::saved::SavedFile;
+use crate::statuses::FAILED;
+use crate::systems::System;
+use crate::tasks::perform;
+use cborn_engine::{Counted, EngineFault, OneFault};
+use cborn_options::Task;
+use std::io::{ErrorKind, Read, Write};
+use std::rt::Files;
+
+/// Does a task as `perform` does it. Where it names a file for its answer, that goes there once it is
+/// whole, and nothing is written to `out`. Whatever is refused or fails, that file stays as it was.
+///
+/// # Errors
+/// Why the task wasn't done. Where an input is refused, nothing is written to `out`.
+pub fn perform_to<'a, F: Files, I: Read + Drop, W: Write>(
+    system: &System<'_, F>,
+    task: &Task<'a>,
+    input: I,
+    out: &mut Counted<W>,
+    remarks: &mut Remarks<'_>,
+) -> Result<u8, Trouble<'a>>
+    ensures status { IfOk result (λ status. status ≤ 1) }
+    ensures untouched { IfErr result (λ why. IsRefusal why → out.new ≡ out.old) }
+    ensures flushed { OnOk result (out.new.unflushed ≡ 0) }
+{
+    let Some(name) = task.output else {
+        return perform(system, task, input, out, remarks);
+    };
+    let mut file = SavedFile::new(system.files, system.alloc, name);
+    match perform_into(system, task, input, &mut file, remarks) {
+        Ok(status) => match finish(&mut file, out) {
+            Ok(()) => Ok(status),
+            Err(trouble) => Err(trouble),
+        },
+        Err(trouble) => {
+            file.discard();
+            Err(trouble)
+        }
+    }
+}
+
+/// Does a task, with its answer to a file that is still to be put in its place.
+///
+/// # Errors
+/// Why the task wasn't done.
+fn perform_into<'a, F: Files, I: Read + Drop>(
+    system: &System<'_, F>,
+    task: &Task<'a>,
+    input: I,
+    file: &mut SavedFile<'_, '_, F>,
+    remarks: &mut Remarks<'_>,
+) -> Result<u8, Trouble<'a>>
+    ensures status { IfOk result (λ status. status ≤ 1) }
+{
+    let done = {
+        let mut out = Counted::new(&mut *file);
+        perform(system, task, input, &mut out, remarks)
+    };
+    match done {
+        Err(
+            Trouble::Engine(EngineFault::WriteFault)
+            | Trouble::One(OneFault::Engine(EngineFault::WriteFault)),
+        ) => Err(Trouble::Engine(fault_of(file.failure()))),
+        _ => done,
+    }
+}
+
+/// Puts a file in its place, after standard output, to which nothing of it went, is flushed.
+///
+/// # Errors
+/// `WriteFault` or `OutOfMemory`: the file stays as it was.
+fn finish<'a, F: Files, W: Write>(
+    file: &mut SavedFile<'_, '_, F>,
+    out: &mut Counted<W>,
+) -> Result<(), Trouble<'a>>
+    ensures flushed { OnOk result (out.new.unflushed ≡ 0) }
+    ensures trouble { IfErr result (λ why. status_of_trouble why ≡ FAILED) }
+{
+    if out.flush().is_err() {
+        file.discard();
+        return Err(Trouble::Engine(EngineFault::WriteFault));
+    }
+    match file.finish() {
+        Ok(()) => Ok(()),
+        Err(why) => Err(Trouble::Engine(fault_of(Some(why.kind())))),
+    }
+}
+
+/// The fault of an answer that couldn't be written to a file, for this reason if one is known.
+fn fault_of(why: Option<ErrorKind>) -> EngineFault
+    ensures { status_of_fault result ≡ FAILED }
+{
+    match why {
+        Some(ErrorKind::OutOfMemory) => EngineFault::OutOfMemory,
+        _ => EngineFault::WriteFault,
+    }
+}
