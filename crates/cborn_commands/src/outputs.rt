@@ -49,6 +49,7 @@ pub fn perform_to<'a, F: Files, I: Read + Drop, W: Write>(
 ///
 /// # Errors
 /// Why the task wasn't done.
+#[inline(never)]
 fn perform_into<'a, F: Files, I: Read + Drop>(
     system: &System<'_, F>,
     task: &Task<'a>,
@@ -75,6 +76,7 @@ fn perform_into<'a, F: Files, I: Read + Drop>(
 ///
 /// # Errors
 /// `WriteFault` or `OutOfMemory`: the file stays as it was.
+#[inline(never)]
 fn finish<'a, F: Files, W: Write>(
     file: &mut SavedFile<'_, '_, F>,
     out: &mut Counted<W>,

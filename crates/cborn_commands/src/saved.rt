@@ -61,6 +61,7 @@ impl<'r, 'p, F: Files> SavedFile<'r, 'p, F> {
     ///
     /// # Errors
     /// Why that failed; then the new file is removed.
+    #[inline(never)]
     pub fn finish(&mut self) -> io::Result<()> {
         let new = self.taken()?;
         let renamed = fs::rename(self.files, &new.path, &new.target);
@@ -71,6 +72,7 @@ impl<'r, 'p, F: Files> SavedFile<'r, 'p, F> {
     }
 
     /// Removes the new file, if there is one.
+    #[inline(never)]
     pub fn discard(&mut self) {
         if let Some(new) = self.new.take() {
             let _ = fs::remove_file(self.files, &new.path);
@@ -81,6 +83,7 @@ impl<'r, 'p, F: Files> SavedFile<'r, 'p, F> {
     ///
     /// # Errors
     /// Why it can't be made.
+    #[inline(never)]
     fn taken(&mut self) -> io::Result<NewFile<F::File>> {
         let taken = match self.new.take() {
             Some(new) => Ok(new),

@@ -16,6 +16,7 @@ use std::rt::Files;
 /// Checks the file `first` and then the others of a request, and prints a line for each: to `out`
 /// whether it is deterministic, or to `err` why that can't be said. Answers the worst of their exit
 /// statuses. Once `out` fails, no further file is checked.
+#[inline(never)]
 pub fn check_files<F: Files, W: Write, E: Write>(
     system: &System<'_, F>,
     request: &Request<'_>,

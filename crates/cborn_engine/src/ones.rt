@@ -1,8 +1,7 @@
 //! Whether an input that spells nodes spells exactly one.
-ghost use Rattle.std.specs.Prelude.{◌≡◌, ◌≢◌, ◌≤◌, ◌⊎◌, ℕ, List, [], ◌∷◌, length, take, IfErr, IsUtf8, OnOk};
+ghost use Rattle.std.specs.Prelude.{◌≡◌, ◌≢◌, ◌≤◌, ◌⊎◌, ℕ, List, length, drop, IfErr, IsUtf8, OnOk};
 ghost use Rattle.cborn_model.specs.Tree.{Tree};
-ghost use Rattle.cborn_paths.specs.Paths.{EndsAt};
-ghost use Rattle.cborn_paths.specs.declared.paths.Step.TheVariants.{Item};
+ghost use Rattle.cborn_wire.specs.Reading.{IsFirstItem};
 ghost use Rattle.cborn_edn.specs.Spelling.{IsShortSpelling};
 ghost use Rattle.cborn_engine.specs.declared.faults.EngineFault.TheVariants as fault;
 ghost use Rattle.cborn_engine.specs.declared.kinds.Kind.TheVariants as kinds;
@@ -17,8 +16,8 @@ use crate::one_faults::OneFault;
 use crate::texts::{HeadWidths, bytes_of_text, text_of};
 use cborn_lex::Profile;
 use cborn_model::Limit;
-use cborn_paths::first_end;
 use cborn_text_places::place_in_text;
+use cborn_wire::first_end;
 use std::alloc::Global;
 
 /// Refuses an input that spells nodes, but not exactly one.
@@ -88,7 +87,7 @@ fn second_in_text(
     requires spelled { IsShortSpelling profile limit input.now bytes.items }
     requires within { end ≤ length bytes.items }
     requires more { end ≢ length bytes.items }
-    requires first { EndsAt (take end bytes.items) (Item 1 ∷ []) }
+    requires first { (t : Tree) × IsFirstItem 1024 0 t bytes.items (drop end bytes.items) }
     ensures { (result ≡ one.Engine fault.OutOfMemory) ⊎ IsNotOne (kind_of profile) limit input.now result }
 {
     let Ok(text) = text_of(input) else {

@@ -2,14 +2,15 @@
 
 ghost use Rattle.std.specs.Prelude.{◌≤◌};
 
+use crate::byte_heads::{content_len, end_of_item, whole_head};
+use crate::byte_walks::Walk;
 use crate::items::{encoded_at, valid_at};
 use crate::order_causes::push_rule;
 use crate::quotes::{push_hex, push_item, slice_of, valid_front};
 use crate::reasons::BytesReason;
 use cborn_det::encode;
 use cborn_model::{Bytewise, DefectReason, InvalidReason, Limit, Major, shortest};
-use cborn_paths::{Level, LevelKind, Walk, content_len, end_of_item, whole_head};
-use cborn_wire::{Argument, Head, HeadRead, WireReason, head_bytes, read_head};
+use cborn_wire::{Argument, Head, HeadRead, Level, LevelKind, WireReason, head_bytes, read_head};
 use std::alloc::{AllocError, Global};
 
 /// How many bytes of an encoding are written at most.
@@ -53,7 +54,7 @@ impl<'a> RefusedBytes<'a> {
 
     /// The innermost level at that head.
     fn level(&self) -> Level {
-        self.walk.top.level
+        self.walk.innermost()
     }
 
     /// Writes why the bytes aren't well-formed.
@@ -123,7 +124,7 @@ impl<'a> RefusedBytes<'a> {
     fn earlier_key(&self, alloc: Global) -> Result<Option<usize>, AllocError> {
         let bytes = self.bytes;
         let later = self.walk.at;
-        let map = self.level().start;
+        let map = self.level().place as usize;
         let Some(wanted) = encoded_at(alloc, self.limit, bytes, later)? else {
             return Ok(None);
         };
@@ -172,7 +173,7 @@ impl<'a> RefusedBytes<'a> {
         out.push_str("the key ")?;
         self.push_key(alloc, out)?;
         out.push_str(" has to come before the key ")?;
-        let (from, to) = self.walk.top.key;
+        let (from, to) = self.walk.last_key();
         push_item(alloc, self.limit, out, slice_of(self.bytes, from, to))?;
         write!(out, " at offset {from}")?;
         let here = valid_at(alloc, self.limit, self.bytes, self.walk.at)?;
@@ -242,7 +243,7 @@ pub(crate) fn push_too_deep(limit: Limit, out: &mut String, open: &str) -> Resul
 }
 
 fn push_bad_chunk(out: &mut String, level: Level) -> Result<(), AllocError> {
-    let place = level.start;
+    let place = level.place;
     write!(
         out,
         "an indefinite-length string is open since offset {place}: only definite-length strings of its kind may follow, or the break ff"
@@ -260,7 +261,7 @@ fn push_bad_break(out: &mut String, level: Level) -> Result<(), AllocError> {
 /// Writes what the container of an open level lacks. Where the level is the input itself, it writes
 /// nothing.
 fn push_missing(out: &mut String, level: Level) -> Result<(), AllocError> {
-    let place = level.start;
+    let place = level.place;
     match level.kind {
         LevelKind::Sequence(_) => Ok(()),
         LevelKind::Array(Some(count), parts) => {
@@ -288,11 +289,11 @@ fn push_missing(out: &mut String, level: Level) -> Result<(), AllocError> {
         }
         LevelKind::Array(None, _) => push_endless(out, "array", place),
         LevelKind::Map(None, _) => push_endless(out, "map", place),
-        LevelKind::ByteChunks(_) | LevelKind::TextChunks(_) => push_endless(out, "string", place),
+        LevelKind::Chunks(_, _) => push_endless(out, "string", place),
     }
 }
 
-fn push_endless(out: &mut String, kind: &str, place: usize) -> Result<(), AllocError> {
+fn push_endless(out: &mut String, kind: &str, place: u64) -> Result<(), AllocError> {
     write!(
         out,
         "the indefinite-length {kind} at offset {place} isn't ended by a break"

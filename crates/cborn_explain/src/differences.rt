@@ -3,10 +3,12 @@
 ghost use Rattle.std.specs.Prelude.{◌≡◌, [], IfOk};
 ghost use Rattle.std.specs.String.{string_bytes};
 
+use crate::byte_heads::{end_of_item, whole_head};
+use crate::first_differences::walk_to_difference;
 use crate::notes::push_path;
+use crate::paths::Step;
 use crate::quotes::{push_hex, push_item, slice_of};
 use cborn_model::{KeyOrder, Limit, Major};
-use cborn_paths::{end_of_item, walk_to_difference, whole_head};
 use cborn_wire::Argument;
 use std::alloc::{AllocError, Global};
 use std::cmp::Ordering;
@@ -30,14 +32,15 @@ pub fn explain_difference<O: KeyOrder>(
     ensures same { IfOk result (λ text. first.now ≡ second.now → string_bytes text ≡ []) }
 {
     let mut out = String::new(alloc);
-    let Some(walk) = walk_to_difference(alloc, first, second)? else {
+    let Some((walk, difference)) = walk_to_difference(alloc, first, second)? else {
         return Ok(out);
     };
     out.push_str("  path   ")?;
-    push_path(alloc, limit, &mut out, first, &walk)?;
-    let ours = part_at(alloc, first, walk.at)?;
-    let theirs = part_at(alloc, second, walk.at)?;
-    let order = if walk.top.level.kind.is_at_key() {
+    push_path((alloc, limit), &mut out, first, &walk, &difference.path)?;
+    let at = difference.place as usize;
+    let ours = part_at(alloc, first, at)?;
+    let theirs = part_at(alloc, second, at)?;
+    let order = if let Some(Step::Key(_)) = difference.path.steps.last() {
         Some(O::compare(ours, theirs))
     } else {
         None

@@ -12,11 +12,16 @@
 //! encodings differ. [`hint_of`] says whether bytes look like a text, and [`Look`] does so of bytes
 //! that come in pieces.
 //!
-//! `cborn_paths` has the walk over bytes and the path, with a proof of where the path leads. Of the
-//! lines it is proved that they are written safely, that each call ends, and that equal encodings give
+//! A path leads from item to part up to an offset ([`path_to`]), or to where two inputs differ
+//! ([`find_difference`]). `specs/Paths.antt` defines where over the nodes that the bytes spell, and
+//! it is proved that the paths lead there. The path is read off the levels that a `HeadReader` of
+//! `cborn_wire` has open after the bytes before that offset. Of the lines it is proved that they are written safely, that each call ends, and that equal encodings give
 //! none. No clause says which words they have. docs/FORMATS.md has their form.
 //!
 //! - `notes`: the lines of one input; start here. `differences`: those of two.
+//! - `paths`: paths, and that to an offset. `first_differences`: where two inputs differ.
+//! - `byte_walks`: a walk over bytes to an offset. `part_places`: where the keys are on its way.
+//! - `byte_heads`: heads with their strings, and where an item ends.
 //! - `path_lines`: a path in a line. `hints`: whether bytes look like a text.
 //! - `reasons`: the reasons, as other calls report them.
 //! - `byte_causes`, `order_causes`, `text_causes`: the sentence for each reason.
@@ -28,12 +33,17 @@
 #![tactic(auto)]
 
 mod byte_causes;
+mod byte_heads;
+mod byte_walks;
 mod differences;
+mod first_differences;
 mod hints;
 mod items;
 mod notes;
 mod order_causes;
+mod part_places;
 mod path_lines;
+mod paths;
 mod quotes;
 mod reasons;
 mod text_causes;
@@ -41,10 +51,11 @@ mod text_keys;
 mod text_spots;
 mod text_walks;
 
-pub use cborn_paths::{Difference, Path, Step, find_difference, path_to};
 pub use differences::explain_difference;
+pub use first_differences::{Difference, find_difference};
 pub use hints::{Digits, Hint, Look, hint_of};
 pub use notes::{explain_bytes, explain_text};
+pub use paths::{Path, Step, path_to};
 pub use quotes::Escaped;
 pub use reasons::{BytesReason, CountReason, TextReason};
 pub use text_walks::NotationText;

@@ -1,8 +1,10 @@
 //! The lines of an explanation: where, what is there, and why.
 
 use crate::byte_causes::RefusedBytes;
+use crate::byte_walks::{Walk, place_in};
 use crate::hints::hint_of;
 use crate::path_lines::{PathWriter, step_text};
+use crate::paths::{Path, Step};
 use crate::quotes::{
     line_and_column, push_bytes_around, push_item, push_line_around, push_text, slice_of,
 };
@@ -11,7 +13,6 @@ use crate::text_causes::RefusedText;
 use crate::text_spots::spot_of;
 use crate::text_walks::{NotationText, TextWalk, walk_text};
 use cborn_model::Limit;
-use cborn_paths::{Step, Walk, walk_to_place};
 use std::alloc::{AllocError, Global};
 
 /// How many characters of a key in a text are written.
@@ -31,11 +32,12 @@ pub fn explain_bytes(
     place: u64,
     reason: BytesReason,
 ) -> Result<String, AllocError> {
-    let walk = walk_to_place(alloc, bytes, place)?;
     let place = place_in(bytes, place);
+    let walk = Walk::to(alloc, bytes, place)?;
     let mut out = String::new(alloc);
     out.push_str("  path  ")?;
-    push_path(alloc, limit, &mut out, bytes, &walk)?;
+    let path = walk.path(alloc)?;
+    push_path((alloc, limit), &mut out, bytes, &walk, &path)?;
     out.push_str("\n  bytes ")?;
     push_bytes_around(&mut out, bytes, place)?;
     out.push_str("\n  why   ")?;
@@ -85,20 +87,14 @@ pub fn explain_text(
     Ok(out)
 }
 
-/// The offset as an index: at most the length of the bytes.
-fn place_in(bytes: &[u8], place: u64) -> usize {
-    place.min(bytes.len() as u64) as usize
-}
-
-/// Writes the path to where a walk over bytes has come.
+/// Writes the path of a walk over bytes, or a front of it.
 pub(crate) fn push_path(
-    alloc: Global,
-    limit: Limit,
+    (alloc, limit): (Global, Limit),
     out: &mut String,
     bytes: &[u8],
     walk: &Walk,
+    path: &Path,
 ) -> Result<(), AllocError> {
-    let path = walk.path(alloc)?;
     let mut writer = PathWriter::new(alloc);
     for (i, step) in path.steps.iter().enumerate() {
         let mut key = String::new(alloc);

@@ -1,6 +1,6 @@
 //! A path as it is written.
 
-use cborn_paths::Step;
+use crate::paths::Step;
 use std::alloc::{AllocError, Global};
 
 /// Writes the steps of a path in a line. Steps in a row that are written alike are written once,

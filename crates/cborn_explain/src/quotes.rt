@@ -3,9 +3,9 @@
 
 ghost use Rattle.std.specs.Prelude.{◌≤◌, IfOk};
 
+use crate::byte_heads::{content_len, whole_head};
 use crate::items::notation_at;
 use cborn_model::{Limit, Major};
-use cborn_paths::{content_len, whole_head};
 use simdutf8::compat::from_utf8;
 use std::alloc::{AllocError, Global};
 use std::fmt;

@@ -1,8 +1,8 @@
 //! A walk over a text from token to token. It keeps the brackets that are open.
 
+use crate::paths::Step;
 use crate::quotes::valid_front;
 use cborn_lex::{BareToken, Kind, LexFault, Profile, next_token};
-use cborn_paths::Step;
 use std::alloc::{AllocError, Global};
 
 /// How many open brackets a walk keeps at most. A fault of the grammar or of what a text means is inside

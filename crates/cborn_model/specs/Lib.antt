@@ -4,6 +4,7 @@ pub mod Tree
 pub mod View
 pub mod Spelled
 pub mod Placed
+pub mod Partial
 pub mod Value
 pub mod MagnitudeView
 pub mod Numbers

@@ -4,6 +4,7 @@
 
 ghost use Rattle.std.specs.Prelude.{◌≡◌, ◌+◌, ◌*◌, ◌/◌, ◌<◌};
 ghost use Rattle.cborn_model.specs.Heads.{code, major_at, least, is_simple_value};
+ghost use Rattle.cborn_model.specs.Partial.{ended_size};
 
 /// The major type of a data item (RFC 8949 section 3.1).
 #[derive(Clone, Copy, PartialEq, Eq, Debug)]
@@ -174,6 +175,17 @@ pub fn shortest(n: u64) -> Width
         Width::Four
     } else {
         Width::Eight
+    }
+}
+
+/// The size of an array or a map that ends with `entries` items or pairs: that which it was given
+/// at its start, or the narrowest that has room, if this is a width without a `count` that hasn't.
+pub fn ended_size(size: Size, count: Option<u64>, entries: u64) -> Size
+    ensures { result ≡ ended_size size count entries }
+{
+    match (size, count) {
+        (Size::Fixed(width), None) if !width.holds(entries) => Size::Fixed(shortest(entries)),
+        _ => size,
     }
 }
 

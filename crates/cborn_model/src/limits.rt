@@ -27,6 +27,9 @@ impl Limit {
     /// The usual limit, 128.
     pub const USUAL: Limit = Limit { most: 128 };
 
+    /// The highest limit, 1,024.
+    pub const HIGHEST: Limit = Limit { most: 1024 };
+
     /// The limit `most`; `None` unless it is from 1 to 1,024.
     pub fn new(most: u64) -> Option<Limit>
         ensures { SomeIff result ((1 ≤ most) × (most ≤ 1024)) most }

@@ -5,7 +5,7 @@ ghost use Rattle.cborn_model.specs.Spelled.{Wellformed};
 ghost use Rattle.cborn_model.specs.Placed.{PlacedAll};
 ghost use Rattle.cborn_model.specs.Tree.{Trees};
 ghost use Rattle.cborn_wire.specs.HeadReading.{major_at, seen_argument};
-ghost use Rattle.cborn_wire.specs.shared.Scanning.{content_of};
+ghost use Rattle.cborn_wire.specs.shared.Contents.{content_of};
 ghost use Rattle.cborn_edn.specs.Starts.{starts_all};
 ghost use Rattle.cborn_text_places.specs.devices.Pieces.{Piece, IsPiece, piece_bytes};
 

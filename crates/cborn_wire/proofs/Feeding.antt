@@ -4,3 +4,5 @@ pub mod FeederLaws
 pub mod Outcomes
 pub mod WholeInput
 pub mod OneItem
+pub mod ItemSteps
+pub mod PieceSteps

@@ -1,7 +1,8 @@
 pub mod Machine
 pub mod Spelled
 pub mod HeadReading
-pub mod Stacked
+pub mod Building
 pub mod Feeding
-pub mod Scans
 pub mod Parts
+pub mod FirstItem
+pub mod Visiting

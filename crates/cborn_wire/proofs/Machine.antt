@@ -12,3 +12,4 @@ pub mod WholeFront
 pub mod Reached
 pub mod SomeEnd
 pub mod Pieces
+pub mod OneMore

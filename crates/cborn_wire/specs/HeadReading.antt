@@ -23,6 +23,10 @@ abbrev pub seen_size : Argument → Size
 seen_size (arguments.Given w n) = Fixed w
 seen_size arguments.Endless = Endless
 
+abbrev pub seen_count : Argument → Option ℕ
+seen_count (arguments.Given w n) = Some n
+seen_count arguments.Endless = None
+
 -- the argument fits its width
 abbrev pub ArgumentFits : heads.Argument → Type 0
 ArgumentFits (Given w n) = WidthFits w n

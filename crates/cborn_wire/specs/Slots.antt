@@ -2,15 +2,13 @@
 use Rattle.std.specs.Prelude.{◌≡◌, ℕ, suc, ◌+◌, ◌<◌, ◌≤◌, List, [], ◌∷◌, ◌++◌}
 use Rattle.cborn_model.specs.declared.heads.Width.{Width}
 use Rattle.cborn_model.specs.declared.nodes.Chunk.{Chunk}
+pub use Rattle.cborn_model.specs.declared.visitors.StringKind.{StringKind}
+pub use Rattle.cborn_model.specs.declared.visitors.StringKind.TheVariants.{OfBytes, OfText}
 use Rattle.cborn_model.specs.declared.heads.Major.{Major}
 use Rattle.cborn_model.specs.declared.heads.Major.TheVariants.{ByteString, TextString, Array, Map, Tag}
 use Rattle.cborn_model.specs.Heads.{WidthFits, Argument, Given, EndlessArgument, head}
 use Rattle.cborn_model.specs.Tree.{Tree, Trees, Entries, count, count_entries, depth, depth_all, depth_entries}
 use Rattle.cborn_model.specs.Spelled.{chunks, spelled, spelled_all, spelled_entries, ChunksFit, Fits, FitsAll, FitsEntries}
-
--- the two kinds of string
-pub data StringKind : Type 0 where
-  OfBytes OfText : StringKind
 
 abbrev pub major_of : StringKind → Major
 major_of OfBytes = ByteString

@@ -1,5 +1,5 @@
-pub mod FeedingCode
-pub mod StackView
+pub mod OpenNodes
+pub mod ItemReading
 pub mod FeederView
-pub mod StackKeeps
-pub mod StackState
+pub mod FeedingCode
+pub mod Counting

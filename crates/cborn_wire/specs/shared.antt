@@ -1,4 +1,5 @@
 pub mod Machine
-pub mod Scanning
 pub mod InitialBytes
 pub mod Ground
+pub mod Contents
+pub mod Visiting

@@ -1,9 +1,13 @@
 //! The [`Feeder`], a reader of input that comes in pieces.
 
-use crate::stacks::Stack;
+ghost use Rattle.std.specs.Prelude.{◌≡◌, ◌+◌, ◌<◌, ◌^◌, length};
+ghost use Rattle.cborn_wire.specs.devices.ItemReading.{IsMade, Runs};
+
+use crate::item_readers::ItemReader;
 use crate::{WireFault, WireReason};
 use cborn_model::{Limit, Spelled};
 use std::alloc::Global;
+use std::collections::VecDeque;
 use std::marker::Model;
 
 /// Reads a sequence of items (RFC 8742) that comes in pieces, cut anywhere. Keeps only the
@@ -13,7 +17,11 @@ use std::marker::Model;
 #[derive(Drop)]
 pub struct Feeder {
     fed: u64,
-    stack: Stack,
+    reader: ItemReader,
+    /// The whole items that weren't taken.
+    ready: VecDeque<Spelled>,
+    /// The fault of the piece that was refused.
+    fault: Option<WireFault>,
 }
 
 impl Model for Feeder {
@@ -49,7 +57,9 @@ impl Feeder {
     {
         Feeder {
             fed: 0,
-            stack: Stack::new(alloc, limit, 0),
+            reader: ItemReader::new(alloc, limit, 0),
+            ready: VecDeque::new(alloc),
+            fault: None,
         }
     }
 
@@ -75,10 +85,13 @@ impl Feeder {
         ensures fed { self.old.fault ≡ None → Feeds piece.now self.old result self.new }
         ensures again { (e : WireFault) → self.old.fault ≡ Some e → (result ≡ Err e) × (self.new ≡ self.old) }
     {
-        if let Some(fault) = self.stack.fault() {
+        if let Some(fault) = self.fault {
             return Err(fault);
         }
-        self.stack.read_piece(piece)?;
+        if let Err(fault) = read_piece(&mut self.reader, &mut self.ready, piece) {
+            self.fault = Some(fault);
+            return Err(fault);
+        }
         self.fed += piece.len() as u64;
         Ok(())
     }
@@ -91,7 +104,7 @@ impl Feeder {
         ensures held { self.old.fault ≡ None → self.old.held ≡ flat_map spelled (option_to_list result) ++ self.new.held }
         ensures fed { self.old.fault ≡ None → IsFed self.new }
     {
-        self.stack.pop_item()
+        self.ready.pop_front()
     }
 
     /// Ends the input, and gives the complete items that weren't yet taken. Takes no memory.
@@ -105,16 +118,38 @@ impl Feeder {
         ensures cut { self.fault ≡ None → OnErr result ((result ≡ Err (Refused self.fed Truncated)) × Fault self.limit self.held (length self.held) Truncated) }
         ensures again { (e : WireFault) → self.fault ≡ Some e → result ≡ Err e }
     {
-        let Feeder { fed, stack } = self;
-        if let Some(fault) = stack.fault() {
+        if let Some(fault) = self.fault {
             return Err(fault);
         }
-        if !stack.is_whole() {
+        if !self.reader.is_whole() {
             return Err(WireFault::Refused {
-                place: fed,
+                place: self.fed,
                 reason: WireReason::Truncated,
             });
         }
-        Ok(stack.into_items())
+        Ok(self.ready.into_vec())
     }
+}
+
+/// Reads the whole of `piece`, and puts the items that it completes at the end of `ready`; on an
+/// error those before it.
+fn read_piece(
+    reader: &mut ItemReader,
+    ready: &mut VecDeque<Spelled>,
+    piece: &[u8],
+) -> Result<(), WireFault>
+    requires made { IsMade reader.old }
+    requires room { reader.old.heads.at + length piece.now < 2 ^ 64 }
+    ensures runs { Runs piece.now reader.old ready.old.items reader.new ready.new.items result }
+    ensures limit { reader.new.heads.limit ≡ reader.old.heads.limit }
+{
+    let mut rest = piece;
+    while !rest.is_empty() {
+        let (len, item) = reader.read_item(rest)?;
+        if let Some(item) = item {
+            ready.push_back(item)?;
+        }
+        rest = &rest[len..];
+    }
+    Ok(())
 }

@@ -6,14 +6,12 @@ ghost use Rattle.std.specs.Int.{w64, from_be_bytes};
 ghost use Rattle.cborn_model.specs.Bytes.{AreBytes};
 ghost use Rattle.cborn_model.specs.Heads.{code, major_at, WidthFits, IsHead, head_bytes};
 ghost use Rattle.cborn_wire.specs.shared.InitialBytes.{Next, EndlessInformation, info_at, is_reserved, is_endless_head, is_always_bounded, is_break, is_other, is_float, is_container};
-ghost use Rattle.cborn_wire.specs.shared.Machine.{width_bytes, number, is_full};
-ghost use Rattle.cborn_wire.specs.HeadReading.{ReadsHead, reason_alone, seen_argument, seen_size};
-ghost use Rattle.cborn_wire.specs.devices.StackView.{seen_slot, element_slot};
+ghost use Rattle.cborn_wire.specs.shared.Machine.{width_bytes, number};
+ghost use Rattle.cborn_wire.specs.HeadReading.{ReadsHead, reason_alone, seen_size, seen_count};
 ghost use Rattle.cborn_model.specs.declared.heads.Width.{Width};
 ghost use Rattle.cborn_model.specs.declared.heads.Width.TheVariants.{One};
 
 use crate::WireReason;
-use crate::refusals::Slot;
 use cborn_model::{Major, Size, Width};
 use std::alloc::AllocError;
 
@@ -27,33 +25,23 @@ pub enum Argument {
 }
 
 impl Argument {
-    /// Whether an array or a map with this argument is complete with `count` elements or pairs.
-    pub(crate) fn is_met(&self, count: usize) -> bool
-        ensures { result ≡ is_full (seen_argument self.now) count }
-    {
-        match self {
-            Argument::Given(_, n) => *n <= count as u64,
-            Argument::Endless => false,
-        }
-    }
-
-    /// What may come next as an element of an array, or a key of a map, with this argument.
-    pub(crate) fn slot(&self) -> Slot
-        ensures { seen_slot result ≡ element_slot (seen_argument self.now) }
-    {
-        match self {
-            Argument::Given(_, _) => Slot::Item,
-            Argument::Endless => Slot::ItemOrBreak,
-        }
-    }
-
     /// How an array or a map with this argument says where it ends.
-    pub(crate) fn size(&self) -> Size
-        ensures { result ≡ seen_size self.now }
+    pub(crate) fn size(self) -> Size
+        ensures { result ≡ seen_size self }
     {
         match self {
-            Argument::Given(width, _) => Size::Fixed(*width),
+            Argument::Given(width, _) => Size::Fixed(width),
             Argument::Endless => Size::Endless,
+        }
+    }
+
+    /// How many items or pairs an array or a map with this argument announces.
+    pub(crate) fn count(self) -> Option<u64>
+        ensures { result ≡ seen_count self }
+    {
+        match self {
+            Argument::Given(_, count) => Some(count),
+            Argument::Endless => None,
         }
     }
 }

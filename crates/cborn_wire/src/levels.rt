@@ -1,224 +1,290 @@
-//! The open containers of a scan, of which only what is missing is kept. They are an array, large
-//! enough for the highest nesting limit, so that a scan takes no memory.
+//! The levels that a reader is inside: of each it keeps only what its next head needs.
 
-ghost use Rattle.std.specs.Prelude.{◌≡◌, ◌∷◌, ◌+◌, ◌<◌, ◌≤◌, [], length};
-ghost use Rattle.cborn_wire.specs.HeadReading.{seen_argument};
-ghost use Rattle.cborn_wire.specs.devices.StackView.{seen_slot, plain};
-ghost use Rattle.cborn_wire.specs.shared.Scanning.{levels, with_item, finish, leave, begin_items, begin_pairs, slot_of};
+ghost use Rattle.std.specs.Prelude.{◌≡◌, ◌∷◌, ◌++◌, ◌<◌, ℕ, List, [], length, true, false, IfOk, OnOk, OnErr};
+ghost use Rattle.cborn_wire.specs.Slots as slots;
+ghost use Rattle.cborn_wire.specs.declared.levels.Level.{Level as OneLevel};
+ghost use Rattle.cborn_wire.specs.devices.Counting.{seen_slot};
+ghost use Rattle.cborn_wire.specs.shared.Visiting.{next_number, is_all, with_part, may_end, slot_of, IsInput};
 
-use crate::Argument;
-use crate::containers::StringKind;
 use crate::refusals::Slot;
+use arrayvec::ArrayVec;
+use cborn_model::StringKind;
+use std::alloc::{AllocError, Global};
 
-/// An open container, and what it is missing.
+/// The input, or an open container in it. The last number is how many of its parts are complete,
+/// up to 2^64-1. An `Option` is how many the head announces, and `None` an indefinite length.
 #[derive(Clone, Copy)]
-pub(crate) enum Level {
-    /// An array that is missing this many items.
-    Array(u64),
-    EndlessArray,
-    /// A map that is missing this many pairs. A key comes next.
-    Map(u64),
-    /// A map that is missing this many values. A value comes next.
-    MapValue(u64),
-    /// A map of indefinite length. A key comes next, or the break.
-    EndlessMap,
-    EndlessMapValue,
-    Tag,
-    Chunks(StringKind),
+pub enum LevelKind {
+    /// The input itself: a sequence of items (RFC 8742).
+    Sequence(u64),
+    /// An array; its parts are elements.
+    Array(Option<u64>, u64),
+    /// A map in which a key comes next; its parts are pairs.
+    Map(Option<u64>, u64),
+    /// A map in which the value of a pair comes next; its parts are pairs.
+    MapValue(Option<u64>, u64),
+    /// A tag of this number.
+    Tag(u64),
+    /// A string of indefinite length; its parts are chunks.
+    Chunks(StringKind, u64),
 }
 
-impl Level {
-    /// What is missing after one more item; `None` if that completes the container. An item of an
-    /// indefinite string is a chunk.
+impl LevelKind {
+    /// This level with one more part. `None`: that was its last part.
     #[inline(always)]
-    pub(crate) fn with_item(self) -> Option<Level>
-        ensures { result ≡ with_item self }
+    pub(crate) fn with_part(self) -> Option<LevelKind>
+        ensures { result ≡ with_part self }
     {
         match self {
-            Level::Array(n) => {
-                if n <= 1 {
-                    None
-                } else {
-                    Some(Level::Array(n - 1))
+            LevelKind::Sequence(parts) => Some(LevelKind::Sequence(next_number(parts))),
+            LevelKind::Array(most, parts) => {
+                let parts = next_number(parts);
+                if is_all(most, parts) {
+                    return None;
                 }
+                Some(LevelKind::Array(most, parts))
             }
-            Level::EndlessArray => Some(Level::EndlessArray),
-            Level::Map(n) => Some(Level::MapValue(n)),
-            Level::MapValue(n) => {
-                if n <= 1 {
-                    None
-                } else {
-                    Some(Level::Map(n - 1))
+            LevelKind::Map(most, parts) => Some(LevelKind::MapValue(most, parts)),
+            LevelKind::MapValue(most, parts) => {
+                let parts = next_number(parts);
+                if is_all(most, parts) {
+                    return None;
                 }
+                Some(LevelKind::Map(most, parts))
             }
-            Level::EndlessMap => Some(Level::EndlessMapValue),
-            Level::EndlessMapValue => Some(Level::EndlessMap),
-            Level::Tag => None,
-            Level::Chunks(kind) => Some(Level::Chunks(kind)),
+            LevelKind::Tag(_) => None,
+            LevelKind::Chunks(kind, parts) => Some(LevelKind::Chunks(kind, next_number(parts))),
         }
     }
 
+    /// Whether a break may end it.
+    #[inline(always)]
+    pub(crate) fn may_end(self) -> bool
+        ensures { result ≡ may_end self }
+    {
+        matches!(
+            self,
+            LevelKind::Array(None, _) | LevelKind::Map(None, _) | LevelKind::Chunks(_, _)
+        )
+    }
+
+    /// What may come next in it.
+    #[inline(always)]
     pub(crate) fn slot(self) -> Slot
-        ensures { seen_slot result ≡ plain (slot_of self) }
+        ensures { seen_slot result ≡ slot_of self }
     {
         match self {
-            Level::EndlessArray | Level::EndlessMap => Slot::ItemOrBreak,
-            Level::Chunks(kind) => Slot::Chunk(kind),
+            LevelKind::Array(None, _) | LevelKind::Map(None, _) => Slot::ItemOrBreak,
+            LevelKind::Chunks(kind, _) => Slot::Chunk(kind),
             _ => Slot::Item,
         }
     }
 }
 
-/// The open containers, one inside another.
-#[derive(Drop)]
-pub(crate) struct Levels {
-    /// The innermost.
-    pub(crate) top: Option<Level>,
-    /// The first `len` are those around it, the innermost last.
-    pub(crate) outer: [Level; 1025],
-    pub(crate) len: usize,
+/// One more, up to 2^64-1.
+#[inline(always)]
+pub(crate) fn next_number(n: u64) -> u64
+    ensures { result ≡ next_number n }
+{
+    if n < u64::MAX { n + 1 } else { n }
 }
 
-impl Levels {
-    pub(crate) fn new() -> Levels
-        ensures open { levels result ≡ [] }
-        ensures kept { result.len ≤ 1025 }
+/// Whether `parts` are all that were announced.
+#[inline(always)]
+fn is_all(most: Option<u64>, parts: u64) -> bool
+    ensures { result ≡ is_all most parts }
+{
+    match most {
+        Some(most) => most <= parts,
+        None => false,
+    }
+}
+
+/// A level, and the offset in bytes of its head; 0 for the input.
+#[derive(Clone, Copy)]
+pub struct Level {
+    pub place: u64,
+    pub kind: LevelKind,
+}
+
+impl Level {
+    /// The input, of which nothing was read.
+    pub(crate) fn input() -> Level
+        ensures { result ≡ record { place = 0; kind = LevelKind.Sequence 0 } }
     {
-        Levels {
-            top: None,
-            outer: [Level::Array(0); 1025],
-            len: 0,
+        Level {
+            place: 0,
+            kind: LevelKind::Sequence(0),
+        }
+    }
+}
+
+/// The levels that a reader is inside, one inside another. There is always an innermost one.
+pub trait Levels {
+    /// Those around the innermost, the outermost first.
+    ghost outer: { Self → List OneLevel };
+
+    /// The innermost.
+    ghost inner: { Self → OneLevel };
+
+    /// Whether memory may be refused to it.
+    ghost takes_memory: { Type 0 };
+
+    /// The innermost.
+    fn innermost(&self) -> Level
+        ensures { result ≡ inner self.now };
+
+    /// How many are around the innermost.
+    fn count(&self) -> usize
+        ensures { result ≡ length (outer self.now) };
+
+    /// Takes `kind` for the innermost.
+    fn set(&mut self, kind: LevelKind)
+        ensures inner { inner self.new ≡ record (inner self.old) { kind = kind } }
+        ensures outer { outer self.new ≡ outer self.old };
+
+    /// Opens a level inside the innermost.
+    ///
+    /// # Errors
+    /// `AllocError` where memory for it is refused.
+    fn open(&mut self, level: Level) -> Result<(), AllocError>
+        requires { length (outer self.old) < 1026 }
+        ensures inner { OnOk result (inner self.new ≡ level) }
+        ensures outer { OnOk result (outer self.new ≡ outer self.old ++ inner self.old ∷ []) }
+        ensures memory { OnErr result takes_memory };
+
+    /// Removes the innermost, and gives whether there is one around it.
+    fn leave(&mut self) -> bool
+        ensures left { result ≡ true → outer self.old ≡ outer self.new ++ inner self.new ∷ [] }
+        ensures none { result ≡ false → outer self.old ≡ [] };
+}
+
+impl Default for Level {
+    fn default() -> Level {
+        Level::input()
+    }
+}
+
+/// Levels that take memory as they are opened.
+#[derive(Drop)]
+pub struct GrownLevels {
+    inner: Level,
+    outer: Vec<Level>,
+}
+
+impl GrownLevels {
+    /// The input, of which nothing was read. Takes no memory.
+    pub fn new(alloc: Global) -> GrownLevels
+        ensures { IsInput result.outer.items result.inner }
+    {
+        GrownLevels {
+            inner: Level::input(),
+            outer: Vec::new(alloc),
         }
     }
 
-    /// How many containers are open.
-    pub(crate) fn count(&self) -> u64
-        requires { self.now.len ≤ 1025 }
-        ensures { result ≡ length (levels self.now) }
+    /// All levels, the outermost first and the innermost last.
+    ///
+    /// # Errors
+    /// `AllocError` where memory for one more is refused.
+    pub fn into_vec(self) -> Result<Vec<Level>, AllocError>
+        ensures { IfOk result (λ all. all.items ≡ ⟦<GrownLevels as Levels>⟧.outer self ++ ⟦<GrownLevels as Levels>⟧.inner self ∷ []) }
     {
-        match self.top {
-            None => 0,
-            Some(_) => self.len as u64 + 1,
-        }
+        let mut all = self.outer;
+        all.push(self.inner)?;
+        Ok(all)
     }
+}
 
-    /// Opens a container inside the innermost one.
-    pub(crate) fn begin(&mut self, level: Level)
-        requires kept { self.old.len ≤ 1025 }
-        requires room { length (levels self.old) ≤ 1025 }
-        ensures open { levels self.new ≡ level ∷ levels self.old }
-        ensures kept { self.new.len ≤ 1025 }
-    {
-        let Some(around) = self.top else {
-            self.len = 0;
-            self.top = Some(level);
-            return;
-        };
-        self.outer[self.len] = around;
-        self.len += 1;
-        self.top = Some(level);
-    }
+impl Levels for GrownLevels {
+    ghost outer = { λ l. l.outer.items };
 
-    /// Removes the innermost open container.
-    pub(crate) fn leave(&mut self)
-        requires kept { self.old.len ≤ 1025 }
-        ensures open { levels self.new ≡ leave (levels self.old) }
-        ensures kept { self.new.len ≤ 1025 }
-    {
-        if self.len == 0 {
-            self.top = None;
-        } else if self.top.is_some() {
-            self.len -= 1;
-            self.top = Some(self.outer[self.len]);
-        }
-    }
+    ghost inner = { λ l. l.inner };
 
-    /// Counts a complete item in the innermost open container. If that completes the container, it
-    /// is counted in the next one, and so on. The commonest case, an array that goes on, comes
-    /// first.
+    ghost takes_memory = { Unit {0} };
+
     #[inline(always)]
-    pub(crate) fn finish(&mut self)
-        requires kept { self.old.len ≤ 1025 }
-        ensures open { levels self.new ≡ finish (levels self.old) }
-        ensures kept { self.new.len ≤ 1025 }
-    {
-        if let Some(Level::Array(n)) = &mut self.top {
-            if *n > 1 {
-                *n -= 1;
-                return;
-            }
-        }
-        self.finish_any();
+    fn innermost(&self) -> Level {
+        self.inner
     }
 
     #[inline(always)]
-    fn finish_any(&mut self)
-        requires kept { self.old.len ≤ 1025 }
-        ensures open { levels self.new ≡ finish (levels self.old) }
-        ensures kept { self.new.len ≤ 1025 }
-    {
-        let Some(level) = self.top else {
-            return;
+    fn count(&self) -> usize {
+        self.outer.len()
+    }
+
+    #[inline(always)]
+    fn set(&mut self, kind: LevelKind) {
+        self.inner.kind = kind;
+    }
+
+    fn open(&mut self, level: Level) -> Result<(), AllocError> {
+        self.outer.push(self.inner)?;
+        self.inner = level;
+        Ok(())
+    }
+
+    fn leave(&mut self) -> bool {
+        let Some(around) = self.outer.pop() else {
+            return false;
         };
-        match level.with_item() {
-            Some(rest) => self.top = Some(rest),
-            None => self.close_complete(),
+        self.inner = around;
+        true
+    }
+}
+
+/// Levels in a table, which has room for as many as the highest nesting limit allows.
+#[derive(Drop)]
+pub(crate) struct LevelTable {
+    inner: Level,
+    outer: ArrayVec<Level, 1026>,
+}
+
+impl LevelTable {
+    /// The input, of which nothing was read.
+    pub(crate) fn new() -> LevelTable
+        ensures { IsInput result.outer.items result.inner }
+    {
+        LevelTable {
+            inner: Level::input(),
+            outer: ArrayVec::new(),
         }
     }
+}
 
-    /// Counts a complete item, and each container that is completed by that.
-    #[inline(never)]
-    fn close_complete(&mut self)
-        requires kept { self.old.len ≤ 1025 }
-        ensures open { levels self.new ≡ finish (levels self.old) }
-        ensures kept { self.new.len ≤ 1025 }
-    {
-        while let Some(level) = self.top {
-            match level.with_item() {
-                Some(rest) => {
-                    self.top = Some(rest);
-                    return;
-                }
-                None => self.leave(),
-            }
-        }
+impl Levels for LevelTable {
+    ghost outer = { λ l. l.outer.items };
+
+    ghost inner = { λ l. l.inner };
+
+    ghost takes_memory = { ⊥ };
+
+    #[inline(always)]
+    fn innermost(&self) -> Level {
+        self.inner
     }
 
-    /// Begins an array with this argument; an empty one is complete at once.
-    pub(crate) fn begin_items(&mut self, argument: Argument)
-        requires kept { self.old.len ≤ 1025 }
-        requires room { length (levels self.old) ≤ 1025 }
-        ensures open { levels self.new ≡ begin_items (levels self.old) (seen_argument argument) }
-        ensures kept { self.new.len ≤ 1025 }
-    {
-        match argument {
-            Argument::Given(_, n) => {
-                if n == 0 {
-                    self.finish();
-                } else {
-                    self.begin(Level::Array(n));
-                }
-            }
-            Argument::Endless => self.begin(Level::EndlessArray),
-        }
+    #[inline(always)]
+    fn count(&self) -> usize {
+        self.outer.len()
     }
 
-    /// Begins a map with this argument; an empty one is complete at once.
-    pub(crate) fn begin_pairs(&mut self, argument: Argument)
-        requires kept { self.old.len ≤ 1025 }
-        requires room { length (levels self.old) ≤ 1025 }
-        ensures open { levels self.new ≡ begin_pairs (levels self.old) (seen_argument argument) }
-        ensures kept { self.new.len ≤ 1025 }
-    {
-        match argument {
-            Argument::Given(_, n) => {
-                if n == 0 {
-                    self.finish();
-                } else {
-                    self.begin(Level::Map(n));
-                }
-            }
-            Argument::Endless => self.begin(Level::EndlessMap),
-        }
+    #[inline(always)]
+    fn set(&mut self, kind: LevelKind) {
+        self.inner.kind = kind;
+    }
+
+    fn open(&mut self, level: Level) -> Result<(), AllocError> {
+        self.outer.push(self.inner);
+        self.inner = level;
+        Ok(())
+    }
+
+    fn leave(&mut self) -> bool {
+        let Some(around) = self.outer.pop() else {
+            return false;
+        };
+        self.inner = around;
+        true
     }
 }

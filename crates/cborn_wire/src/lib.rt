@@ -3,13 +3,16 @@
 //! An *open container* is an array, a map, a tag or an indefinite string whose head was read and
 //! whose end wasn't.
 //!
-//! - A [`Feeder`] is fed an input in pieces, cut anywhere, and gives items as they are completed.
-//!   [`read_all`] feeds it an input that is in memory; [`read_one`] reads one item from an offset
-//!   on. All keep a stack (`stacks`) in the place of recursion. Its open containers are a nest
-//!   (`nests`): `containers` has the kinds of them, `refusals` says where a head isn't allowed, and
-//!   `finishing` puts a complete item into the container around it.
-//! - [`scan`] says whether an input in memory is well-formed, or what its one fault is
-//!   (`scanning`). Of each open container, a level, it keeps only what is missing (`levels`).
+//! - A [`HeadReader`] reads bytes that come in pieces, cut anywhere, and hands each head and each
+//!   string to a visitor (`cborn_model::Visitor`). It is the one loop over heads. What is open are
+//!   its [`Levels`] (`levels`), a stack in the place of recursion; `refusals` says where a head
+//!   isn't allowed, and `counting` what a head makes of the levels.
+//! - A [`Feeder`] is fed an input in pieces, and gives items as they are completed. [`read_all`]
+//!   feeds it an input that is in memory; [`read_one`] reads one item from an offset on. Both read
+//!   one item after another (`item_readers`), with a visitor that builds nodes (`nodes`): it puts
+//!   what is whole into the innermost open container (`open_nodes`).
+//! - [`scan`] says whether an input in memory is well-formed, or what its one fault is: the reader
+//!   with a visitor that keeps nothing. [`first_end`] says where the first item ends, likewise.
 //! - [`spell`] writes the bytes that a node spells.
 //! - `heads` reads and writes single heads. `walks` has what walks of other crates over bytes ask
 //!   at each step, and `specs/Parts.antt` what they read.
@@ -22,25 +25,30 @@
 //! definitions alone.
 #![tactic(auto)]
 
-mod containers;
+mod counting;
 mod faults;
 mod feeders;
-mod finishing;
+mod first_items;
+mod head_readers;
 mod heads;
+mod item_readers;
 pub mod laws;
 mod levels;
-mod nests;
+mod nodes;
+mod open_nodes;
 mod readers;
 mod refusals;
 mod scanning;
 mod spelling;
-mod stacks;
 mod walks;
 
 pub use faults::{WireFault, WireReason};
 pub use feeders::Feeder;
+pub use first_items::first_end;
+pub use head_readers::{HeadReader, Until};
 pub use heads::{Argument, Head, HeadRead, head_bytes, push_head, read_head, read_mixed_head};
+pub use levels::{GrownLevels, Level, LevelKind, Levels};
 pub use readers::{read_all, read_one};
-pub use scanning::scan;
+pub use scanning::{Nothing, scan};
 pub use spelling::{spell, spell_all};
 pub use walks::{after_break, is_done, last};

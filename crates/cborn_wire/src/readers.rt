@@ -9,7 +9,7 @@ ghost use Rattle.cborn_wire.specs.declared.faults.WireReason.{WireReason};
 ghost use Rattle.cborn_wire.specs.Faults.{Fault};
 ghost use Rattle.cborn_wire.specs.Reading.{IsFirstItem, ItemFault};
 
-use crate::stacks::Stack;
+use crate::item_readers::ItemReader;
 use crate::{Feeder, WireFault, WireReason};
 use cborn_model::{Limit, Spelled};
 use std::alloc::Global;
@@ -48,11 +48,12 @@ pub fn read_one(
     ensures item { IfOk result (λ r. (r.1 ≤ length bytes.now) × IsFirstItem limit start r.0 (drop start bytes.now) (drop r.1 bytes.now)) }
     ensures fault { (p : ℕ) (r : WireReason) → result ≡ Err (Refused p r) → (q : ℕ) × (p ≡ start + q) × ItemFault limit (drop start bytes.now) q r }
 {
-    let mut stack = Stack::new(alloc, limit, start as u64);
+    let mut reader = ItemReader::new(alloc, limit, start as u64);
     let mut end = start;
     while end < bytes.len() {
-        end += stack.advance(&bytes[end..])?;
-        if let Some(item) = stack.pop_item() {
+        let (len, item) = reader.read_item(&bytes[end..])?;
+        end += len;
+        if let Some(item) = item {
             return Ok((item, end));
         }
     }

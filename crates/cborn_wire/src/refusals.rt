@@ -1,17 +1,14 @@
 //! Which initial bytes are allowed next, by what is open.
 
-ghost use Rattle.std.specs.Prelude.{◌≡◌, ◌<◌, ◌%◌, ◌/◌, [], nat_le};
-ghost use Rattle.cborn_wire.specs.Slots.{slot, open_depth, AreOpen};
+ghost use Rattle.std.specs.Prelude.{◌≡◌, ◌<◌, ◌%◌, ◌/◌, []};
 ghost use Rattle.cborn_wire.specs.SlotFaults.{needs_item};
 ghost use Rattle.cborn_wire.specs.shared.InitialBytes.{info_at, is_bad_chunk, is_of_kind, head_reason};
 ghost use Rattle.cborn_wire.specs.HeadReading.{major_at};
-ghost use Rattle.cborn_wire.specs.devices.StackView.{seen_kind, seen_slot, plain, opened};
+ghost use Rattle.cborn_wire.specs.devices.Counting.{seen_slot};
 
 use crate::WireReason;
-use crate::containers::StringKind;
 use crate::heads::{is_always_bounded, is_break, is_container, is_endless, is_float, is_reserved};
-use crate::nests::Nest;
-use cborn_model::Major;
+use cborn_model::{Major, StringKind};
 
 /// What may come next, by the innermost open container.
 #[derive(Clone, Copy)]
@@ -76,7 +73,8 @@ impl Slot {
     {
         match self {
             Slot::Chunk(kind) => {
-                !is_break(major, information) && (!kind.is_of(major) || is_endless(information))
+                !is_break(major, information)
+                    && (!is_of_kind(kind, major) || is_endless(information))
             }
             _ => false,
         }
@@ -90,46 +88,12 @@ impl Slot {
     }
 }
 
-impl StringKind {
-    /// Whether it is the kind of the strings of this major type.
-    fn is_of(self, major: Major) -> bool
-        ensures { result ≡ is_of_kind (seen_kind self) major }
-    {
-        match self {
-            StringKind::Bytes => major == Major::ByteString,
-            StringKind::Text => major == Major::TextString,
-        }
-    }
-}
-
-impl Nest {
-    /// Why a head with this initial byte isn't allowed next, as far as that byte says.
-    #[inline(always)]
-    pub(crate) fn refusal(&self, limit: u64, first: u8) -> Option<WireReason>
-        requires { AreOpen limit (opened self.now) }
-        ensures { result ≡ head_reason (slot (opened self.now)) (nat_le limit (open_depth (opened self.now))) (major_at (first / 32)) (info_at (first % 32)) [] }
-    {
-        let slot = self.slot();
-        slot.refusal(self.is_full(limit), first)
-    }
-
-    fn slot(&self) -> Slot
-        ensures { seen_slot result ≡ plain (slot (opened self.now)) }
-    {
-        match &self.top {
-            None => Slot::Item,
-            Some(container) => container.slot(),
-        }
-    }
-
-    /// Whether as many arrays, maps and tags are open as the limit allows.
-    fn is_full(&self, limit: u64) -> bool
-        requires { AreOpen limit (opened self.now) }
-        ensures { result ≡ nat_le limit (open_depth (opened self.now)) }
-    {
-        match &self.top {
-            None => limit == 0,
-            Some(container) => self.outer.len() as u64 + container.added_depth() >= limit,
-        }
+/// Whether this is the kind of the strings of this major type.
+fn is_of_kind(kind: StringKind, major: Major) -> bool
+    ensures { result ≡ is_of_kind kind major }
+{
+    match kind {
+        StringKind::OfBytes => major == Major::ByteString,
+        StringKind::OfText => major == Major::TextString,
     }
 }

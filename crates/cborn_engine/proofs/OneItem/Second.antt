@@ -1,14 +1,14 @@
 -- Where the second item of an input starts: where the first ends.
-use Rattle.std.proofs.Common.{◌≡◌, ◌≢◌, refl, sym, ap, ◌∙◌, subst, ℕ, ◌+◌, ◌≤◌, List, [], ◌∷◌, ◌++◌, length, take, drop, arith, append-nil, length-append}
+use Rattle.std.proofs.Common.{◌≡◌, ◌≢◌, refl, sym, ap, ◌∙◌, subst, ℕ, ◌+◌, ◌≤◌, List, [], ◌∷◌, ◌++◌, length, drop, arith, length-append}
 use Rattle.cborn_engine.proofs.Answers.Listed.{TextRead, twins_read}
-use Rattle.std.proofs.lemmas.List.{take-append-drop, length-take-le}
-use Rattle.std.proofs.Math.Seq.{take-append_seam}
+use Rattle.std.proofs.lemmas.List.{length-drop}
 use Rattle.std.specs.Prelude.{IsUtf8, Some, slice_get}
 use Rattle.std.specs.List.{AllZip}
-use Rattle.cborn_model.specs.Tree.{Tree, Uint, Nint, Bytes, Text, ByteChunks, TextChunks, Items, Pairs, Tagged, Simple, Trees, no_item, more, trees, place}
+use Rattle.cborn_model.specs.Tree.{Tree, Uint, Nint, Bytes, Text, ByteChunks, TextChunks, Items, Pairs, Tagged, Simple, Trees, no_item, more, trees, place, depth}
 use Rattle.cborn_model.specs.Placed.{Placed, PlacedAll}
-use Rattle.cborn_model.specs.Spelled.{spelled, spelled_all, Wellformed}
+use Rattle.cborn_model.specs.Spelled.{spelled, spelled_all, Fits, Wellformed}
 use Rattle.cborn_wire.specs.Places.{all_from}
+use Rattle.cborn_wire.specs.Reading.{IsFirstItem}
 use Rattle.cborn_wire.proofs.Spelled.AsPlaced.{spelled_all-from, depth_all-from, fits_all-from, placed_all-from}
 use Rattle.cborn_wire.proofs.Spelled.TreeLists.{tree_list, trees-tree_list}
 use Rattle.cborn_model.proofs.Lengths.{some_bytes}
@@ -20,9 +20,6 @@ use Rattle.cborn_edn.specs.Grammar.{Notates}
 use Rattle.cborn_edn.specs.Starts.{starts, starts_all}
 use Rattle.cborn_engine.proofs.Answers.Flawed.{HasNoStart}
 use Rattle.cborn_edn.specs.Spelling.{MaySpell}
-use Rattle.cborn_paths.specs.declared.paths.Step.TheVariants.{Item}
-use Rattle.cborn_paths.specs.Paths.{EndsAt}
-use Rattle.cborn_paths.proofs.Walking.FirstItem.{one_item}
 use Rattle.cborn_engine.specs.declared.kinds.Kind.TheVariants as kind
 use Rattle.cborn_engine.specs.devices.Encoding.{kind_of}
 use Rattle.cborn_engine.specs.Holding.{IsNotation, Spells, SpellsInPlace}
@@ -32,7 +29,11 @@ use Rattle.cborn_engine.proofs.Held.Notated.{fits}
 
 -- ---- bytes
 
--- the first node, where a front ends after one
+-- the first item of x ends there
+abbrev pub Ends : List ℕ → ℕ → Type 0
+Ends x end = (t : Tree) × IsFirstItem 1024 0 t x (drop end x)
+
+-- the first node, where the first item ends there
 record Begins (limit : ℕ) (x : List ℕ) (ns : List Tree) (end : ℕ) : Type 0 where
   first : Tree
   others : List Tree
@@ -40,15 +41,11 @@ record Begins (limit : ℕ) (x : List ℕ) (ns : List Tree) (end : ℕ) : Type 0
   long : length (spelled first) ≡ end
   rest : length (spelled_all (trees others)) + end ≡ length x
 
-begins : (limit : ℕ) (x : List ℕ) (ns : List Tree) (end : ℕ) → Wellformed limit (trees ns) x → end ≤ length x → EndsAt (take end x) (Item 1 ∷ []) → Begins limit x ns end
-begins limit x [] end w l e =
-    let f = one_item (take end x) e in
-    absurd (omega (arith, some_bytes f.0, ap length f.1, length-take-le end x l, ap length w.spells, l))
-begins limit x (n ∷ ns) end w l e =
-    let f = one_item (take end x) e in
-    let whole : spelled n ++ spelled_all (trees ns) ≡ spelled f.0 ++ drop end x = w.spells ∙ sym (take-append-drop end x) ∙ ap (λ (y : List ℕ). y ++ drop end x) f.1 in
-    let same = one_front n f.0 (spelled_all (trees ns)) (drop end x) w.fit.0 f.2 whole in
-    let long : length (spelled n) ≡ end = ap length same.0 ∙ sym (ap length f.1) ∙ length-take-le end x l in
+begins : (limit : ℕ) (x : List ℕ) (ns : List Tree) (end : ℕ) → Wellformed limit (trees ns) x → end ≤ length x → Ends x end → Begins limit x ns end
+begins limit x [] end w l (t, f) = absurd (omega (arith, some_bytes t, ap length f.whole, length-append (spelled t) (drop end x), ap length w.spells))
+begins limit x (n ∷ ns) end w l (t, f) =
+    let same = one_front n t (spelled_all (trees ns)) (drop end x) w.fit.0 f.fits (w.spells ∙ f.whole) in
+    let long : length (spelled n) ≡ end = omega (arith, ap length same.0, ap length f.whole, length-append (spelled t) (drop end x), length-drop end x, l) in
     record { first = n; others = ns; are = refl; long = long; rest = omega (arith, ap length w.spells, length-append (spelled n) (spelled_all (trees ns)), long) }
 
 no_more : (ns : List Tree) → length (spelled_all (trees ns)) ≡ 0 → ns ≡ []
@@ -56,7 +53,7 @@ no_more [] e = refl
 no_more (n ∷ ns) e = absurd (omega (arith, e, some_bytes n, length-append (spelled n) (spelled_all (trees ns))))
 
 -- ..and the only one, where it ends at the end
-pub alone : (limit : ℕ) (x : List ℕ) (ns : List Tree) (end : ℕ) → Wellformed limit (trees ns) x → end ≤ length x → EndsAt (take end x) (Item 1 ∷ []) → end ≡ length x → (t : Tree) × (ns ≡ t ∷ [])
+pub alone : (limit : ℕ) (x : List ℕ) (ns : List Tree) (end : ℕ) → Wellformed limit (trees ns) x → end ≤ length x → Ends x end → end ≡ length x → (t : Tree) × (ns ≡ t ∷ [])
 alone limit x ns end w l e at =
     let b = begins limit x ns end w l e in
     (b.first, b.are ∙ ap (λ (ts : List Tree). b.first ∷ ts) (no_more b.others (omega (arith, b.rest, at))))
@@ -69,7 +66,7 @@ record Follows (ns : List Tree) (end : ℕ) : Type 0 where
   long : length (spelled first) ≡ end
 
 -- else another follows
-follows : (limit : ℕ) (x : List ℕ) (ns : List Tree) (end : ℕ) → Wellformed limit (trees ns) x → end ≤ length x → EndsAt (take end x) (Item 1 ∷ []) → end ≢ length x → Follows ns end
+follows : (limit : ℕ) (x : List ℕ) (ns : List Tree) (end : ℕ) → Wellformed limit (trees ns) x → end ≤ length x → Ends x end → end ≢ length x → Follows ns end
 follows limit x ns end w l e at = let b = begins limit x ns end w l e in go b.first b.others b.are b.long b.rest
   where
     go : (t : Tree) (ts : List Tree) → ns ≡ t ∷ ts → length (spelled t) ≡ end → length (spelled_all (trees ts)) + end ≡ length x → Follows ns end
@@ -122,7 +119,7 @@ in_places limit ns x w =
     } in
     (tree_list ts, (subst (λ (us : Trees). Wellformed limit us x) (sym same) there, subst (PlacedAll 0) (sym same) (placed_all-from (trees ns) 0)))
 
-pub second_in_bytes : (limit : ℕ) (x : List ℕ) (ns : List Tree) (end : ℕ) → Wellformed limit (trees ns) x → end ≤ length x → EndsAt (take end x) (Item 1 ∷ []) → end ≢ length x → SecondStarts kind.Wire limit x end
+pub second_in_bytes : (limit : ℕ) (x : List ℕ) (ns : List Tree) (end : ℕ) → Wellformed limit (trees ns) x → end ≤ length x → Ends x end → end ≢ length x → SecondStarts kind.Wire limit x end
 second_in_bytes limit x ns end w l e at =
     let m = in_places limit ns x w in
     let f = follows limit x m.0 end m.1.0 l e at in
@@ -130,12 +127,9 @@ second_in_bytes limit x ns end w l e at =
     record { first = f.first; second = f.second; rest = f.others; spelled = spelled; here = omega (arith, placed_there f.second _ spelled.1.1.0, f.long) }
 
 -- Well-formed bytes that don't begin with an item hold none.
-pub none_first : (limit : ℕ) (x : List ℕ) (ts : Trees) → limit ≤ 1024 → Wellformed limit ts x → ((len : ℕ) → EndsAt (take len x) (Item 1 ∷ []) → ⊥) → ts ≡ no_item
+pub none_first : (limit : ℕ) (x : List ℕ) (ts : Trees) → limit ≤ 1024 → Wellformed limit ts x → ((t : Tree) (rest : List ℕ) → x ≡ spelled t ++ rest → Fits t → depth t ≤ 1024 → ⊥) → ts ≡ no_item
 none_first limit x no_item low w none = refl
-none_first limit x (more t ts) low w none =
-    let first : take (length (spelled t)) x ≡ spelled t = ap (take (length (spelled t))) (sym w.spells) ∙ take-append_seam (spelled t) (spelled_all ts) in
-    let alone : spelled t ≡ (spelled t ++ []) ++ [] = sym (append-nil (spelled t ++ []) ∙ append-nil (spelled t)) in
-    absurd (none (length (spelled t)) (more t no_item, [], (w.fit.0, tt), omega (arith, w.shallow, low), tt, first ∙ alone, refl))
+none_first limit x (more t ts) low w none = absurd (none t (spelled_all ts) (sym w.spells) w.fit.0 (omega (arith, w.shallow, low)))
 
 no_nodes : (ns : List Tree) → trees ns ≡ no_item → ns ≡ []
 no_nodes [] e = refl
@@ -146,7 +140,7 @@ none_in_bytes limit x ns w e =
     let none : Wellformed limit no_item x = subst (λ (ts : Trees). Wellformed limit ts x) e w in
     (none, sym (ap length none.spells))
 
-pub one_in_bytes : (limit : ℕ) (x : List ℕ) (ns : List Tree) (end : ℕ) → Wellformed limit (trees ns) x → end ≤ length x → EndsAt (take end x) (Item 1 ∷ []) → end ≡ length x → SpellsOne kind.Wire limit x
+pub one_in_bytes : (limit : ℕ) (x : List ℕ) (ns : List Tree) (end : ℕ) → Wellformed limit (trees ns) x → end ≤ length x → Ends x end → end ≡ length x → SpellsOne kind.Wire limit x
 one_in_bytes limit x ns end w l e at = let a = alone limit x ns end w l e at in (a.0, subst (Spells kind.Wire limit x) a.1 w)
 
 -- ---- a text, and the bytes that it spells
@@ -186,14 +180,14 @@ module _ (p : Profile) (limit : ℕ) (text bytes : List ℕ) (short : length tex
       let t = twins_read s in
       subst (Spells (kind_of p) limit text) (none_as t.twins s.nodes t.long (no_nodes t.twins e)) (notated p limit text s.nodes is_notation)
 
-  pub one_in_text : (end : ℕ) → end ≤ length bytes → EndsAt (take end bytes) (Item 1 ∷ []) → end ≡ length bytes → SpellsOne (kind_of p) limit text
+  pub one_in_text : (end : ℕ) → end ≤ length bytes → Ends bytes end → end ≡ length bytes → SpellsOne (kind_of p) limit text
   one_in_text end l e at =
       let t = twins_read s in
       let a = alone limit bytes t.twins end spelled_well l e at in
       let one = one_as t.twins s.nodes a.0 t.long a.1 in
       (one.0, subst (Spells (kind_of p) limit text) one.1 (notated p limit text s.nodes is_notation))
 
-  pub second_in_text : (end there : ℕ) → end ≤ length bytes → EndsAt (take end bytes) (Item 1 ∷ []) → end ≢ length bytes
+  pub second_in_text : (end there : ℕ) → end ≤ length bytes → Ends bytes end → end ≢ length bytes
       → ((limit : ℕ) (nodes others : List Tree) → Notates p limit text (trees nodes) → MaySpell (trees nodes) bytes → Wellformed limit (trees others) bytes → PlacedAll 0 (trees others) → AllZip (λ t u. place u ≡ end → place t ≡ there) nodes others)
       → SecondStarts (kind_of p) limit text there
   second_in_text end there l e at zip =
@@ -217,7 +211,7 @@ module _ (p : Profile) (limit : ℕ) (text bytes : List ℕ) (short : length tex
       }
 
   -- and the second has a place
-  pub second_placed : (end : ℕ) → end ≤ length bytes → EndsAt (take end bytes) (Item 1 ∷ []) → end ≢ length bytes → HasNoStart p text bytes end → ⊥
+  pub second_placed : (end : ℕ) → end ≤ length bytes → Ends bytes end → end ≢ length bytes → HasNoStart p text bytes end → ⊥
   second_placed end l e at none =
       let m = in_places limit (twins_read s).twins bytes spelled_well in
       let theirs = follows limit bytes m.0 end m.1.0 l e at in

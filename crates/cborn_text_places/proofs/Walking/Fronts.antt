@@ -12,7 +12,7 @@ use Rattle.cborn_wire.specs.declared.heads.HeadRead.{HeadRead}
 use Rattle.cborn_wire.specs.declared.heads.HeadRead.TheVariants.{Full, Short, Bad}
 use Rattle.cborn_wire.specs.HeadReading.{major_at, seen_argument, reason_alone, ArgumentFits, IsHeadOf, ReadsHead}
 use Rattle.cborn_wire.specs.shared.InitialBytes.{EndlessInformation, info_at, info_for}
-use Rattle.cborn_wire.specs.shared.Scanning.{content_of}
+use Rattle.cborn_wire.specs.shared.Contents.{content_of}
 use Rattle.cborn_wire.proofs.Machine.Pieces.{major_of_head, info_of_head}
 use Rattle.cborn_wire.proofs.Parts.Openings.{one_argument}
 use Rattle.cborn_text_places.specs.devices.Pieces.{Piece, piece_bytes, IsPiece, is_end}

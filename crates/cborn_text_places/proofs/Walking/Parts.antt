@@ -14,7 +14,7 @@ use Rattle.cborn_model.specs.Spelled.{ending, string, chunk_bytes, spelled, spel
 use Rattle.cborn_model.specs.Placed.{ChunksPlaced, Placed, PlacedAll, PlacedEntries}
 use Rattle.cborn_model.proofs.Numbers.Simples.{simple_fits}
 use Rattle.cborn_wire.specs.HeadReading.{ArgumentFits, reason_alone}
-use Rattle.cborn_wire.specs.shared.Scanning.{content_of}
+use Rattle.cborn_wire.specs.shared.Contents.{content_of}
 use Rattle.cborn_wire.proofs.Machine.TakesItems.{size_fits}
 use Rattle.cborn_descent.proofs.Heads.{free, alone_plain}
 use Rattle.cborn_edn.specs.Starts.{starts_of_chunks, starts, starts_all, starts_entries}

@@ -5,7 +5,7 @@ use Rattle.cborn_model.specs.declared.heads.Major.{Major}
 use Rattle.cborn_model.specs.declared.heads.Major.TheVariants.{Other}
 use Rattle.cborn_model.specs.Heads.{Argument, EndlessArgument, head}
 use Rattle.cborn_wire.specs.HeadReading.{ArgumentFits, reason_alone}
-use Rattle.cborn_wire.specs.shared.Scanning.{content_of}
+use Rattle.cborn_wire.specs.shared.Contents.{content_of}
 
 -- a head, of a break too, and the bytes of a definite string after it
 pub record Piece : Type 0 where

@@ -10,7 +10,7 @@ use Rattle.cborn_wire.specs.Slots.{OpenContainer, beginnings}
 use Rattle.cborn_wire.specs.Faults.{IsWellformed, Fault}
 use Rattle.cborn_wire.specs.Places.{all_from}
 use Rattle.cborn_wire.specs.Feeding.{AreComplete}
-use Rattle.cborn_wire.specs.shared.Machine.{append_trees, snoc, IsLive, Partial, nothing, State, Live, Failed, start, ready_in, partial_bytes, run}
+use Rattle.cborn_wire.specs.shared.Machine.{append_trees, snoc, IsLive, Unfinished, nothing, State, Live, Failed, start, ready_in, partial_bytes, run}
 use Rattle.cborn_wire.proofs.Machine.Running.{failed_run}
 use Rattle.cborn_wire.proofs.Spelled.AsPlaced.{spelled_all-from}
 use Rattle.cborn_wire.proofs.Machine.WholeFront.{front_run}
@@ -49,7 +49,7 @@ module _ (limit base : ℕ) where
     read : Wellformed limit ready (spelled_all ready)
     placed : PlacedAll base ready
 
-  begins_live : (x : List ℕ) (fed : ℕ) (ready : Trees) (os : List OpenContainer) (partial : Partial) → SoundLive limit base x fed ready os partial → Begins x ready
+  begins_live : (x : List ℕ) (fed : ℕ) (ready : Trees) (os : List OpenContainer) (partial : Unfinished) → SoundLive limit base x fed ready os partial → Begins x ready
   begins_live x fed ready os partial h = record {
     others = beginnings os ++ partial_bytes partial;
     whole = h.bytes ∙ append_assoc (spelled_all ready) (beginnings os) (partial_bytes partial);

@@ -13,7 +13,7 @@ use Rattle.cborn_wire.specs.declared.faults.WireReason.TheVariants.{Truncated}
 use Rattle.cborn_wire.specs.Slots.{OpenContainer}
 use Rattle.cborn_wire.specs.Faults.{IsWellformed, Refused, Fault}
 use Rattle.cborn_wire.specs.Feeding.{AreComplete, Feeding, IsFed, Accepts, Refuses, RunsShort, Feeds}
-use Rattle.cborn_wire.specs.shared.Machine.{append_trees, Partial, nothing, State, Live, Failed, start, IsLive, ready_in, held, run, IsReached, Stops}
+use Rattle.cborn_wire.specs.shared.Machine.{append_trees, Unfinished, nothing, State, Live, Failed, start, IsLive, ready_in, held, run, IsReached, Stops}
 use Rattle.cborn_wire.proofs.Machine.Running.{run-append}
 use Rattle.cborn_wire.proofs.Machine.WholeFront.{with_front}
 use Rattle.cborn_wire.proofs.Spelled.OneReading.{reads, after_first}
@@ -71,7 +71,7 @@ module _ (limit base : ℕ) where
       ends_read limit base (held (Live fed ready [] nothing)) r.1 fed ready r.0
 
   -- Where something is open, the input is cut short.
-  pub feeds_cut : (fed : ℕ) (ready : Trees) (os : List OpenContainer) (partial : Partial) → IsReached limit base (Live fed ready os partial) → (os ≡ [] → partial ≡ nothing → ⊥)
+  pub feeds_cut : (fed : ℕ) (ready : Trees) (os : List OpenContainer) (partial : Unfinished) → IsReached limit base (Live fed ready os partial) → (os ≡ [] → partial ≡ nothing → ⊥)
       → let x = held (Live fed ready os partial) in Fault limit x (length x) Truncated
   feeds_cut fed ready os partial h unfinished =
       let s = Live fed ready os partial in
@@ -84,12 +84,12 @@ module _ (limit base : ℕ) where
           go : {n : ℕ} {us : Trees} → Live n us [] nothing ≡ Live fed ready os partial → ⊥
           go d = unfinished (cc d) (cc d)
 
-  without : (t : Tree) (s : State) {fed : ℕ} {ts : Trees} {os : List OpenContainer} {partial : Partial} → with_front (more t no_item) s ≡ Live fed (more t ts) os partial → s ≡ Live fed ts os partial
+  without : (t : Tree) (s : State) {fed : ℕ} {ts : Trees} {os : List OpenContainer} {partial : Unfinished} → with_front (more t no_item) s ≡ Live fed (more t ts) os partial → s ≡ Live fed ts os partial
   without t (Live fed ready os partial) e = cc
   without t (Failed ready p r) e = cc
 
   -- The first item is taken, and with it the bytes that it spells.
-  pub feeds_taken : (fed : ℕ) (t : Tree) (ts : Trees) (os : List OpenContainer) (partial : Partial) → IsReached limit base (Live fed (more t ts) os partial)
+  pub feeds_taken : (fed : ℕ) (t : Tree) (ts : Trees) (os : List OpenContainer) (partial : Unfinished) → IsReached limit base (Live fed (more t ts) os partial)
       → (held (Live fed (more t ts) os partial) ≡ spelled t ++ held (Live fed ts os partial)) × Fits t × (depth t ≤ limit) × Placed base t × IsReached limit (base + length (spelled t)) (Live fed ts os partial)
   feeds_taken fed t ts os partial h =
       let s = Live fed (more t ts) os partial in
@@ -102,7 +102,7 @@ module _ (limit base : ℕ) where
       (cut, all.ground.fit.0, shallow, all.ground.placed.0, (rest, bytes-right (spelled t) rest (subst AreBytes cut r.1), without t (run limit (start (base + length (spelled t))) rest) goes))
 
 -- the state once the first item was taken, if there is one
-pub taken : (limit base at : ℕ) (o : Option Tree) (items left : List Tree) (os : List OpenContainer) (partial : Partial) → items ≡ option_to_list o ++ left
+pub taken : (limit base at : ℕ) (o : Option Tree) (items left : List Tree) (os : List OpenContainer) (partial : Unfinished) → items ≡ option_to_list o ++ left
     → IsReached limit base (Live at (trees items) os partial) → (q : ℕ) × IsReached limit q (Live at (trees left) os partial)
 taken limit base at None items left os partial e h = (base, subst (λ ts. IsReached limit base (Live at (trees ts) os partial)) e h)
 taken limit base at (Some t) items left os partial e h =
@@ -110,7 +110,7 @@ taken limit base at (Some t) items left os partial e h =
 
 -- These laws in the words of what contracts see of a feeder, for live states.
 
-module _ (limit base at fed : ℕ) (items : List Tree) (os : List OpenContainer) (partial : Partial) (h : IsReached limit base (Live at (trees items) os partial)) (same : at ≡ fed) where
+module _ (limit base at fed : ℕ) (items : List Tree) (os : List OpenContainer) (partial : Unfinished) (h : IsReached limit base (Live at (trees items) os partial)) (same : at ≡ fed) where
   abbrev pub with_fault : Option WireFault → Feeding
   with_fault fault = record { limit = limit; fed = fed; held = held (Live at (trees items) os partial); items = items; fault = fault }
 
@@ -120,7 +120,7 @@ module _ (limit base at fed : ℕ) (items : List Tree) (os : List OpenContainer)
   pub is_fed : (fault : Option WireFault) → IsFed (with_fault fault)
   is_fed fault = (base, offset, feeds_items limit base (Live at (trees items) os partial) items h tt refl)
 
-  pub accepts : (piece : List ℕ) (at' : ℕ) (items' : List Tree) (os' : List OpenContainer) (partial' : Partial) (fault : Option WireFault) → AreBytes piece
+  pub accepts : (piece : List ℕ) (at' : ℕ) (items' : List Tree) (os' : List OpenContainer) (partial' : Unfinished) (fault : Option WireFault) → AreBytes piece
       → run limit (Live at (trees items) os partial) piece ≡ Live at' (trees items') os' partial'
       → Accepts piece (with_fault fault) (record { limit = limit; fed = fed + length piece; held = held (Live at' (trees items') os' partial'); items = items'; fault = fault })
   accepts piece at' items' os' partial' fault are e =

@@ -170,15 +170,6 @@ wide_fronts (b ∷ y) rest r m w same h first i e reads =
     let other : is_other (major_at (b / 32)) ≡ false = ap (λ n. is_other (major_at n)) (sym first) ∙ no_other m e in
     subst (λ (l : List ℕ). ReadsHead (b ∷ l) r) same (reads b (sym first) i (same_alone b rest ∙ ap (λ j. head_reason element_or_end false (major_at (b / 32)) j rest) i ∙ next_free rest (major_at (b / 32)) w other))
 
--- A byte below 24 is the head of an unsigned integer.
-pub small_head : (x : List ℕ) → 0 < length x → get_or x 0 0 < 24 → IsHeadOf x (record { major = 0; argument = Given Direct (get_or x 0 0) }) 1
-small_head [] some h = absurd (omega arith)
-small_head (b ∷ y) some h =
-    let none : b / 32 ≡ 0 = omega arith in
-    let same : b % 32 ≡ b = omega arith in
-    subst (λ (n : ℕ). IsHeadOf (b ∷ y) (record { major = 0; argument = Given Direct n }) 1) same
-    (subst (λ (m : ℕ). IsHeadOf (b ∷ y) (record { major = m; argument = Given Direct (b % 32) }) 1) none (direct_head y b (omega arith) (omega arith)))
-
 -- The front of a head that isn't whole announces an argument of one byte or more.
 pub short_front : (x : List ℕ) → 0 < length x → IsFrontOfHead x → (24 ≤ get_or x 0 0 % 32) × (get_or x 0 0 % 32 ≤ 27)
 short_front [] some f = absurd (omega (arith, some))

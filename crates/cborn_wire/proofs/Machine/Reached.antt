@@ -1,14 +1,11 @@
 -- What is known of a state that some bytes make.
-use Rattle.std.proofs.Common.{◌≡◌, refl, sym, ap, ◌∙◌, subst, ℕ, ◌+◌, ◌<◌, ◌≤◌, List, [], ◌∷◌, ◌++◌, length, arith}
+use Rattle.std.proofs.Common.{◌≡◌, refl, sym, ap, ◌∙◌, subst, ℕ, ◌+◌, ◌≤◌, List, [], ◌∷◌, ◌++◌, length, arith}
 use Rattle.cborn_model.specs.Bytes.{AreBytes}
-use Rattle.cborn_model.specs.declared.heads.Width.{Width}
-use Rattle.cborn_model.specs.declared.heads.Major.{Major}
-use Rattle.cborn_model.specs.Heads.{WidthFits}
 use Rattle.cborn_model.specs.Tree.{Tree, Trees, no_item, more, depth, depth_all}
 use Rattle.cborn_model.specs.Spelled.{Fits, FitsAll}
 use Rattle.cborn_model.proofs.Bytes.{bytes-append}
-use Rattle.cborn_wire.specs.Slots.{StringKind, OpenContainer, opened_items, opened_pairs, opened_value, opened_tag, opened_chunks, slot, open_depth, IsNoChunk, AreOpen}
-use Rattle.cborn_wire.specs.shared.Machine.{snoc, width_bytes, argument_of, content_of, Partial, gathering, State, Live, Failed, start, IsLive, held, run, IsReached}
+use Rattle.cborn_wire.specs.Slots.{OpenContainer, opened_items, opened_pairs, opened_value, opened_tag, opened_chunks, slot, open_depth, IsNoChunk, AreOpen}
+use Rattle.cborn_wire.specs.shared.Machine.{snoc, Unfinished, State, Live, Failed, start, IsLive, held, run, IsReached}
 use Rattle.cborn_wire.proofs.Machine.Running.{run-append}
 use Rattle.cborn_wire.proofs.Machine.SoundItems.{SoundLive, Sound}
 use Rattle.cborn_wire.proofs.Machine.SoundRuns.{sound}
@@ -31,9 +28,6 @@ depth_is_length limit (opened_tag p w n ∷ os) h free = omega (arith, depth_is_
 depth_is_length limit (opened_chunks p k cs ∷ os) h free = absurd free
 
 module _ (limit base : ℕ) where
-  pub reached_start : IsReached limit base (start base)
-  reached_start = ([], tt, refl)
-
   pub reached_more : (s : State) (y : List ℕ) → IsReached limit base s → AreBytes y → IsReached limit base (run limit s y)
   reached_more s y (x, bytes, is) are = (x ++ y, bytes-append x y bytes are, run-append limit (start base) x y ∙ ap (λ u. run limit u y) is)
 
@@ -47,25 +41,11 @@ module _ (limit base : ℕ) where
       (ap (run limit (start base)) (sym h.bytes) ∙ is, subst AreBytes h.bytes bytes)
   reached_held (Failed ready p r) h live = absurd live
 
-  pub reached_offset : (fed : ℕ) (ready : Trees) (os : List OpenContainer) (partial : Partial) → IsReached limit base (Live fed ready os partial) → fed ≡ base + length (held (Live fed ready os partial))
+  pub reached_offset : (fed : ℕ) (ready : Trees) (os : List OpenContainer) (partial : Unfinished) → IsReached limit base (Live fed ready os partial) → fed ≡ base + length (held (Live fed ready os partial))
   reached_offset fed ready os partial h = let (x, s) = reached_sound (Live fed ready os partial) h in s.fed_is ∙ ap (λ l. base + length l) s.bytes
 
   -- a complete item
-  pub reached_item : (fed : ℕ) (ready : Trees) (t : Tree) (os : List OpenContainer) (partial : Partial) → IsReached limit base (Live fed (snoc ready t) os partial) → Fits t × (depth t ≤ limit)
+  pub reached_item : (fed : ℕ) (ready : Trees) (t : Tree) (os : List OpenContainer) (partial : Unfinished) → IsReached limit base (Live fed (snoc ready t) os partial) → Fits t × (depth t ≤ limit)
   reached_item fed ready t os partial h =
       let (x, s) = reached_sound (Live fed (snoc ready t) os partial) h in
       (fits_last ready t s.ground.fit, omega (arith, depth_last ready t, s.ground.shallow))
-
-  pub reached_opened : (fed : ℕ) (ready : Trees) (os : List OpenContainer) (partial : Partial) → IsReached limit base (Live fed ready os partial) → AreOpen limit os
-  reached_opened fed ready os partial h = let (x, s) = reached_sound (Live fed ready os partial) h in s.ground.are_open
-
-  -- a partial argument, and a partial content of a string
-  pub reached_argument : (fed p n : ℕ) (ready : Trees) (os : List OpenContainer) (m : Major) (w : Width) (got : List ℕ) → IsReached limit base (Live fed ready os (gathering p (argument_of m w) n got)) → (n ≡ width_bytes w) × (length got < n)
-  reached_argument fed p n ready os m w got h =
-      let (x, s) = reached_sound (Live fed ready os (gathering p (argument_of m w) n got)) h in
-      (s.partial_fits.1, s.partial_fits.2)
-
-  pub reached_content : (fed p n : ℕ) (ready : Trees) (os : List OpenContainer) (k : StringKind) (w : Width) (got : List ℕ) → IsReached limit base (Live fed ready os (gathering p (content_of k w) n got)) → WidthFits w n × (length got < n) × AreBytes got
-  reached_content fed p n ready os k w got h =
-      let (x, s) = reached_sound (Live fed ready os (gathering p (content_of k w) n got)) h in
-      (s.partial_fits.1, s.partial_fits.2, s.partial_fits.4)

@@ -15,7 +15,7 @@ use Rattle.cborn_wire.specs.Slots.{StringKind, OfBytes, OfText, Slot, item, valu
 use Rattle.cborn_wire.specs.SlotFaults.{begins_low}
 use Rattle.cborn_wire.specs.shared.InitialBytes.{Info, Now, Next, Reserved, EndlessInformation, info_at, is_other, is_one, head_reason, front_reason, info_for}
 use Rattle.cborn_wire.specs.HeadReading.{major_at}
-use Rattle.cborn_wire.specs.shared.Machine.{snoc, snoc_entry, width_bytes, number, Goal, argument_of, content_of, Partial, nothing, gathering, State, Live, Failed, items_tree, pairs_tree, string_tree, chunks_tree, finished, items_at, pairs_at, string_done, gather, begin_head, after_head, unless, step, run}
+use Rattle.cborn_wire.specs.shared.Machine.{snoc, snoc_entry, width_bytes, number, Goal, argument_of, content_of, Unfinished, nothing, gathering, State, Live, Failed, items_tree, pairs_tree, string_tree, chunks_tree, finished, items_at, pairs_at, string_done, gather, begin_head, after_head, unless, step, run}
 use Rattle.cborn_wire.proofs.Machine.Running.{failed_run}
 use Rattle.cborn_wire.proofs.Machine.TakesItems.{count-snoc, count_entries-snoc, items_open, pairs_open}
 use Rattle.cborn_wire.proofs.Machine.SoundItems.{SoundLive}
@@ -215,7 +215,7 @@ module _ (limit : ℕ) where
   takes_part base x fed ready os p (content_of k w) n got c high h = closes_content limit n os (suc fed) p ready k w n (got ++ c ∷ []) h.ground.are_open (omega arith)
 
   -- Each state that lives can come to an end of complete items.
-  pub closes : (base : ℕ) (x : List ℕ) (fed : ℕ) (ready : Trees) (os : List OpenContainer) (partial : Partial) → SoundLive limit base x fed ready os partial → Closable limit (Live fed ready os partial)
+  pub closes : (base : ℕ) (x : List ℕ) (fed : ℕ) (ready : Trees) (os : List OpenContainer) (partial : Unfinished) → SoundLive limit base x fed ready os partial → Closable limit (Live fed ready os partial)
   closes base x fed ready os nothing h = closes_open limit os fed ready h.ground.are_open
   closes base x fed ready os (gathering p g n got) h =
       after_byte limit 255 (Live fed ready os (gathering p g n got)) (omega arith) (takes_part base x fed ready os p g n got 255 (omega arith) h)

@@ -15,7 +15,7 @@ use Rattle.cborn_wire.specs.declared.faults.WireReason.{WireReason}
 use Rattle.cborn_wire.specs.Slots.{major_of, OpenContainer, opened_items, opened_pairs, opened_value, opened_tag, opened_chunks, beginnings, slot, open_depth, HasRoom, IsNoChunk, MayBegin}
 use Rattle.cborn_wire.specs.shared.InitialBytes.{Next, is_bad_chunk, head_reason, front_reason, info_for}
 use Rattle.cborn_wire.specs.shared.Ground.{IsPlacedOpen, Ground}
-use Rattle.cborn_wire.specs.shared.Machine.{front, partial_bytes, snoc, snoc_entry, width_bytes, argument_of, content_of, Partial, nothing, gathering, State, Live, Failed, finished, items_at, pairs_at}
+use Rattle.cborn_wire.specs.shared.Machine.{front, partial_bytes, snoc, snoc_entry, width_bytes, argument_of, content_of, Unfinished, nothing, gathering, State, Live, Failed, finished, items_at, pairs_at}
 use Rattle.cborn_wire.specs.HeadReading.{ArgumentFits}
 use Rattle.cborn_wire.proofs.Machine.TakesItems.{UpTo, count-snoc, count_entries-snoc}
 use Rattle.cborn_wire.proofs.Machine.TakesOpen.{room_fits}
@@ -73,13 +73,13 @@ chunk_bytes-snoc m [] c = append-nil (chunk_bytes m c)
 chunk_bytes-snoc m (d ∷ cs) c = ap (λ l. chunk_bytes m d ++ l) (chunk_bytes-snoc m cs c) ∙ sym (append_assoc (chunk_bytes m d) (flat_map (chunk_bytes m) cs) (chunk_bytes m c))
 
 -- A partial head or string is what the bytes so far make of one that is allowed here.
-abbrev pub PartialFits : ℕ → List OpenContainer → ℕ → Partial → Type 0
+abbrev pub PartialFits : ℕ → List OpenContainer → ℕ → Unfinished → Type 0
 PartialFits limit os at nothing = Unit {0}
 PartialFits limit os at (gathering p (argument_of m w) n got) = (p ≡ at) × (n ≡ width_bytes w) × (length got < n) × (head_reason (slot os) (leb limit (open_depth os)) m (Next w) [] ≡ None) × AreBytes got
 PartialFits limit os at (gathering p (content_of k w) n got) = (p ≡ at) × WidthFits w n × (length got < n) × (is_bad_chunk (slot os) (major_of k) (info_for (Given w n)) ≡ false) × AreBytes got
 
 module _ (limit base : ℕ) where
-  pub record SoundLive (x : List ℕ) (fed : ℕ) (ready : Trees) (os : List OpenContainer) (partial : Partial) : Type 0 where
+  pub record SoundLive (x : List ℕ) (fed : ℕ) (ready : Trees) (os : List OpenContainer) (partial : Unfinished) : Type 0 where
     pub ground : Ground limit base ready os
     pub bytes : x ≡ front ready os ++ partial_bytes partial
     pub fed_is : fed ≡ base + length x

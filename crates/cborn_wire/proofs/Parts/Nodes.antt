@@ -88,10 +88,6 @@ node_more x y q = nodes_more x (one_node {Q = λ _. Unit {0}} y tt) q
 pub nodes_as : {P Q : List Tree → Type 0} {room n : ℕ} {input rest : List ℕ} (x : NodesRead P room n input rest) → Q x.nodes → NodesRead Q room n input rest
 nodes_as x q = record { nodes = x.nodes; read = x.read; fits = x.fits; shallow = x.shallow; holds = q; count = x.count }
 
--- in more room
-pub nodes_within : {P : List Tree → Type 0} {room space n : ℕ} {input rest : List ℕ} → room ≤ space → NodesRead P room n input rest → NodesRead P space n input rest
-nodes_within l x = record { nodes = x.nodes; read = x.read; fits = x.fits; shallow = omega (arith, l, x.shallow); holds = x.holds; count = x.count }
-
 pub nodes_left : {P : List Tree → Type 0} {room n : ℕ} {input rest : List ℕ} → NodesRead P room n input rest → length rest ≤ length input
 nodes_left {rest = rest} x = omega (arith, ap length x.read ∙ length-append (spelled_all (trees x.nodes)) rest)
 

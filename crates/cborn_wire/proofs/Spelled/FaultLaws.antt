@@ -10,7 +10,7 @@ use Rattle.cborn_wire.specs.declared.faults.WireReason.TheVariants.{Truncated}
 use Rattle.cborn_wire.specs.Slots.{OpenContainer}
 use Rattle.cborn_wire.specs.Faults.{IsWellformed, GoesOn, IsReason, Refused, Fault}
 use Rattle.cborn_wire.specs.SlotFaults.{SlotRefused}
-use Rattle.cborn_wire.specs.shared.Machine.{Partial, nothing, gathering, State, Live, Failed, run, start}
+use Rattle.cborn_wire.specs.shared.Machine.{Unfinished, nothing, gathering, State, Live, Failed, run, start}
 use Rattle.cborn_wire.proofs.Spelled.AllBytes.{well_bytes}
 use Rattle.cborn_wire.proofs.Spelled.ByteLists.{same_place}
 use Rattle.cborn_wire.proofs.Spelled.OneReading.{reads}
@@ -55,7 +55,7 @@ module _ (limit : ℕ) where
   one_fault x p q r s (inr g) (inl h) = absurd (refused_ends limit x q s h g.1.2)
   one_fault x p q r s (inr g) (inr h) = (g.1.0 ∙ sym h.1.0, g.0 ∙ sym h.0)
 
-  not_whole : (x : List ℕ) (fed : ℕ) (ready : Trees) (os : List OpenContainer) (partial : Partial) → run limit (start 0) x ≡ Live fed ready os partial
+  not_whole : (x : List ℕ) (fed : ℕ) (ready : Trees) (os : List OpenContainer) (partial : Unfinished) → run limit (start 0) x ≡ Live fed ready os partial
       → ((n : ℕ) (us : Trees) → Live n us [] nothing ≡ Live fed ready os partial → ⊥) → IsWellformed limit x → ⊥
   not_whole x fed ready os partial e differs w = differs _ _ (sym (reads limit 0 w.0 x w.1) ∙ e)
 

@@ -11,7 +11,7 @@ use Rattle.cborn_wire.specs.Faults.{IsWellformed, GoesOn}
 use Rattle.cborn_wire.specs.SlotFaults.{SlotRefused}
 use Rattle.cborn_wire.specs.shared.InitialBytes.{front_reason}
 use Rattle.cborn_wire.specs.Places.{all_from}
-use Rattle.cborn_wire.specs.shared.Machine.{Partial, nothing, State, Live, Failed, IsLive, run, start, front}
+use Rattle.cborn_wire.specs.shared.Machine.{Unfinished, nothing, State, Live, Failed, IsLive, run, start, front}
 use Rattle.cborn_wire.proofs.HeadReading.InitialBytes.{same_reason}
 use Rattle.cborn_wire.proofs.Machine.Running.{run-append, failed_run}
 use Rattle.cborn_wire.proofs.Spelled.AsPlaced.{spelled_all-from, depth_all-from, fits_all-from, placed_all-from}
@@ -21,7 +21,7 @@ use Rattle.cborn_wire.proofs.Machine.SoundRuns.{sound}
 use Rattle.cborn_wire.proofs.Machine.TakesOpen.{open_from, slot-from, open_depth-from, takes_open}
 use Rattle.cborn_wire.proofs.Machine.SomeEnd.{refused_run, Closable, closes}
 
-pub no_fail : {fed p : ℕ} {ts us : Trees} {os : List OpenContainer} {v : Partial} {r : WireReason} {A : Type 0} → Live fed ts os v ≡ Failed us p r → A
+pub no_fail : {fed p : ℕ} {ts us : Trees} {os : List OpenContainer} {v : Unfinished} {r : WireReason} {A : Type 0} → Live fed ts os v ≡ Failed us p r → A
 no_fail e = cc
 
 module _ (limit base : ℕ) where
@@ -90,7 +90,7 @@ module _ (limit base : ℕ) where
   closable_goes x bytes (y, more, fed, ready, end) = (y, ends_whole (x ++ y) (bytes-append x y bytes more) fed ready (run-append limit (start base) x y ∙ end))
 
   -- so does what lives
-  pub goes_on : (x : List ℕ) → AreBytes x → (fed : ℕ) (ready : Trees) (os : List OpenContainer) (partial : Partial) → run limit (start base) x ≡ Live fed ready os partial → GoesOn limit x
+  pub goes_on : (x : List ℕ) → AreBytes x → (fed : ℕ) (ready : Trees) (os : List OpenContainer) (partial : Unfinished) → run limit (start base) x ≡ Live fed ready os partial → GoesOn limit x
   goes_on x bytes fed ready os partial e =
       let h : SoundLive limit base x fed ready os partial = subst (Sound limit base x) e (sound limit base x bytes) in
       closable_goes x bytes (subst (Closable limit) (sym e) (closes limit base x fed ready os partial h))
@@ -116,7 +116,7 @@ module _ (limit : ℕ) where
       let same : a.os ≡ b.os = stack (sym a.is ∙ b.is) in
       (sym a.slot_is ∙ ap slot same ∙ b.slot_is, sym a.depth_is ∙ ap open_depth same ∙ b.depth_is)
     where
-      stack : {m n : ℕ} {ts us : Trees} {os ps : List OpenContainer} {v w : Partial} → Live m ts os v ≡ Live n us ps w → os ≡ ps
+      stack : {m n : ℕ} {ts us : Trees} {os ps : List OpenContainer} {v w : Unfinished} → Live m ts os v ≡ Live n us ps w → os ≡ ps
       stack e = cc
 
   -- What the table refuses has no end.

@@ -5,12 +5,12 @@ use Rattle.cborn_model.specs.Bytes.{AreBytes}
 use Rattle.cborn_model.specs.declared.heads.Width.{Width}
 use Rattle.cborn_model.specs.declared.heads.Width.TheVariants.{Direct, One, Two, Four, Eight}
 use Rattle.cborn_model.specs.declared.heads.Size.TheVariants.{Fixed, Endless}
-use Rattle.cborn_model.specs.declared.nodes.Chunk.{Chunk}
 use Rattle.cborn_model.specs.declared.heads.Major.{Major}
 use Rattle.cborn_model.specs.declared.heads.Major.TheVariants.{Unsigned, Negative, ByteString, TextString, Array, Map, Tag, Other}
 use Rattle.cborn_model.specs.Heads.{code, information, Argument, Given, EndlessArgument, head}
-use Rattle.cborn_model.specs.Tree.{Tree, Uint, Nint, Bytes, Text, ByteChunks, TextChunks, Items, Pairs, Tagged, Simple, Trees, no_item, more, Entries, no_entry, entry, count, count_entries}
+use Rattle.cborn_model.specs.Tree.{Tree, Uint, Nint, Items, Pairs, Tagged, Simple, Trees, no_item, more, Entries, no_entry, entry, count, count_entries}
 use Rattle.cborn_model.specs.Spelled.{spelled_all}
+pub use Rattle.cborn_model.specs.Partial.{string_tree, chunks_tree}
 use Rattle.cborn_wire.specs.declared.faults.WireFault.{WireFault}
 use Rattle.cborn_wire.specs.declared.faults.WireFault.TheVariants as faults
 use Rattle.cborn_wire.specs.declared.faults.WireReason.{WireReason}
@@ -55,13 +55,13 @@ pub data Goal : Type 0 where
   content_of : StringKind → Width → Goal
 
 -- A partial head or definite string: the offset of its head, what is gathered, how many bytes there have to be, and those that came.
-pub data Partial : Type 0 where
-  nothing : Partial
-  gathering : ℕ → Goal → ℕ → List ℕ → Partial
+pub data Unfinished : Type 0 where
+  nothing : Unfinished
+  gathering : ℕ → Goal → ℕ → List ℕ → Unfinished
 
 -- `Live`: the offset of the next byte, the complete items, what is open, the innermost first, and the partial head or string. `Failed`: the items that were complete before the fault, its offset and its reason.
 pub data State : Type 0 where
-  Live : ℕ → Trees → List OpenContainer → Partial → State
+  Live : ℕ → Trees → List OpenContainer → Unfinished → State
   Failed : Trees → ℕ → WireReason → State
 
 -- before any byte, the first being at p
@@ -80,7 +80,7 @@ ready_in (Failed ready p r) = ready
 abbrev pub front : Trees → List OpenContainer → List ℕ
 front ready os = spelled_all ready ++ beginnings os
 
-abbrev pub partial_bytes : Partial → List ℕ
+abbrev pub partial_bytes : Unfinished → List ℕ
 partial_bytes nothing = []
 partial_bytes (gathering p (argument_of m w) n got) = (32 * code m + information w 0) ∷ got
 partial_bytes (gathering p (content_of k w) n got) = head (major_of k) (Given w n) ++ got
@@ -102,14 +102,6 @@ items_tree p EndlessArgument ts = Items p Endless ts
 abbrev pub pairs_tree : ℕ → Argument → Entries → Tree
 pairs_tree p (Given w n) es = Pairs p (Fixed w) es
 pairs_tree p EndlessArgument es = Pairs p Endless es
-
-abbrev pub string_tree : ℕ → StringKind → Width → List ℕ → Tree
-string_tree p OfBytes w bytes = Bytes p w bytes
-string_tree p OfText w bytes = Text p w bytes
-
-abbrev pub chunks_tree : ℕ → StringKind → List Chunk → Tree
-chunks_tree p OfBytes cs = ByteChunks p cs
-chunks_tree p OfText cs = TextChunks p cs
 
 -- after a complete item, inside what is open
 abbrev pub finished : ℕ → Trees → List OpenContainer → Tree → State

@@ -3,8 +3,6 @@ use Rattle.cborn_engine.proofs.Answers.Listed.{with_shortest, twins_read}
 use Rattle.std.proofs.Common.{◌≡◌, ◌≤◌, List, [], ◌∷◌, ℕ, length, take, inl, inr, refl, sym, ap, subst, arith}
 use Rattle.cborn_model.specs.Tree.{trees}
 use Rattle.cborn_model.specs.Spelled.{Wellformed}
-use Rattle.cborn_paths.specs.Paths.{EndsAt}
-use Rattle.cborn_paths.specs.declared.paths.Step.TheVariants.{Item}
 use Rattle.cborn_engine.specs.declared.faults.EngineFault.TheVariants as fault
 use Rattle.cborn_engine.specs.declared.one_faults.OneFault.TheVariants as one
 use Rattle.cborn_engine.specs.devices.Encoding.{kind_of}
@@ -12,7 +10,7 @@ use Rattle.cborn_engine.specs.OneItem.{IsNotOne}
 use Rattle.cborn_engine.specs.Reading.{most_bytes}
 use Rattle.cborn_engine.proofs.Answers.KnownErrors.{known_error}
 use Rattle.cborn_engine.proofs.OneItem.Refused.{refused_memory}
-use Rattle.cborn_engine.proofs.OneItem.Second.{spelled_well, none_first, none_in_text, one_in_text}
+use Rattle.cborn_engine.proofs.OneItem.Second.{Ends, spelled_well, none_first, none_in_text, one_in_text}
 use Rattle.cborn_engine.proofs.ones.one_in_text.Goals as goal
 
 pub returns-in_default-clause-refused : goal.returns-in_default-clause-refused
@@ -30,7 +28,7 @@ returns-then-end-len-clause-one c =
     let read = c.in_ok-bytes in
     let at = rw c.in-Some.is at c.in_ok-end.ensures.item in
     let items = read.bytes.items in
-    let there : (c.in-Some.end ≤ length items) × EndsAt (take c.in-Some.end items) (Item 1 ∷ []) = subst (λ (x : List ℕ). (c.in-Some.end ≤ length x) × EndsAt (take c.in-Some.end x) (Item 1 ∷ [])) c.deref.ensures.value at in
+    let there : (c.in-Some.end ≤ length items) × Ends items c.in-Some.end = subst (λ (x : List ℕ). (c.in-Some.end ≤ length x) × Ends x c.in-Some.end) c.deref.ensures.value at in
     let all : c.in-Some.end ≡ length items = omega (arith, c.if-end-len.true, c.len.ensures, c.deref.ensures.len, ap length c.deref.ensures.value) in
     one_in_text c.args.profile c.args.limit c.args.input.now items c.requires.short read.ensures.spelled.0 (with_shortest read.ensures.spelled.1) c.in-Some.end there.0 there.1 all
 

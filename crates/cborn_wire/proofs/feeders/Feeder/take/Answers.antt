@@ -1,14 +1,25 @@
 use Rattle.std.proofs.Common.{sym, ap, ◌∙◌}
 use Rattle.cborn_wire.specs.Feeding.{Feeding}
-use Rattle.cborn_wire.specs.devices.StackState.{StackState}
-use Rattle.cborn_wire.specs.devices.StackView.{seen_partial, opened}
-use Rattle.cborn_wire.proofs.Feeding.FeederLaws.{is_fed}
+use Rattle.cborn_wire.specs.shared.Visiting.{open_in}
+use Rattle.cborn_wire.specs.devices.OpenNodes.{seen_nodes}
+use Rattle.cborn_wire.specs.devices.ItemReading.{pending}
+use Rattle.cborn_wire.proofs.Feeding.FeederLaws.{taken, is_fed}
 use Rattle.cborn_wire.proofs.feeders.Feeder.take.Goals as goal
+
+pub invariant_of-self : goal.invariant_of-self
+invariant_of-self c = λ none.
+    let f = c.self.inside in
+    let r = f.reader in
+    let (made, (base, reached), at) = c.self.invariant none in
+    (made, taken r.heads.limit base r.heads.at c.pop_front.result f.ready.items c.pop_front.new.self.items (open_in (seen_nodes r.nodes)) (pending r.heads.head r.nodes.string) c.pop_front.ensures.items reached, at)
 
 pub returns-clause-fed : goal.returns-clause-fed
 returns-clause-fed c = λ none.
     let f = c.self.inside in
-    let u = c.pop_item.new.self in
-    let live = ap (λ (g : Feeding). g.fault) c.self.view_is ∙ none in
-    let h = c.pop_item.ensures.made live in
-    is_fed u.limit h.0 u.at f.fed u.items (opened u.nest) (seen_partial u.partial) h.1 (ap (λ (s : StackState). s.at) c.pop_item.ensures.rest ∙ sym (c.self.invariant live)) u.fault
+    let r = f.reader in
+    let left = c.pop_front.new.self.items in
+    let os = open_in (seen_nodes r.nodes) in
+    let q = pending r.heads.head r.nodes.string in
+    let (made, (base, reached), at) = c.self.invariant (ap (λ (g : Feeding). g.fault) c.self.view_is ∙ none) in
+    let (later, still) = taken r.heads.limit base r.heads.at c.pop_front.result f.ready.items left os q c.pop_front.ensures.items reached in
+    is_fed r.heads.limit later r.heads.at f.fed left os q still (sym at) f.fault

@@ -1,0 +1,158 @@
+-- The path into the levels of a walk is that into what is open, and its fronts lead to where the levels begin.
+use Rattle.std.proofs.Common.{◌≡◌, refl, sym, ap, ◌∙◌, subst, ℕ, zero, suc, ◌+◌, ◌-◌, ◌^◌, ◌<◌, ◌≤◌, List, [], ◌∷◌, ◌++◌, length, take, drop, get_or, cond, Option, Some, None, ◌⊎◌, inl, inr, arith, append_assoc, length-append}
+use Rattle.std.proofs.lemmas.Bool.{cases_lt, lt-ltb, le-ltb}
+use Rattle.std.proofs.lemmas.List.{length-take-le, take-append-drop, take-append-le, take_all, take_at}
+use Rattle.std.specs.List.{flat_map}
+use Rattle.cborn_model.specs.declared.heads.Major.{Major}
+use Rattle.cborn_model.specs.declared.heads.Major.TheVariants as majors
+use Rattle.cborn_model.specs.declared.nodes.Chunk.{Chunk}
+use Rattle.cborn_model.specs.Heads.{EndlessArgument, head}
+use Rattle.cborn_model.specs.Tree.{Tree, Trees, no_item, more, trees, Entries, no_entry, entry, entries, count, count_entries}
+use Rattle.cborn_model.specs.Spelled.{chunk_bytes, spelled, spelled_all, spelled_entries}
+use Rattle.cborn_model.specs.Partial.{Opening, an_array, a_map, a_tag, in_chunks, Partial, top, inside, paired, last_key, chunks_of}
+use Rattle.cborn_model.proofs.Lengths.{some_bytes}
+use Rattle.cborn_model.proofs.Listed.Trees.{count-trees, count_entries-entries}
+use Rattle.cborn_wire.specs.Slots.{beginning, beginnings, major_of}
+use Rattle.cborn_wire.specs.declared.levels.Level.{Level}
+use Rattle.cborn_wire.specs.shared.Ground.{IsPlacedOpen}
+use Rattle.cborn_wire.specs.shared.Machine.{front}
+use Rattle.cborn_wire.specs.shared.Visiting.{argument_from, map_container, container, ready, open_in, at_most_highest, map_kind, kind_in, place_of, levels}
+use Rattle.cborn_wire.proofs.Machine.SoundItems.{ground_less}
+use Rattle.cborn_explain.specs.declared.paths.Step.TheVariants.{Item, Element, Key, Value, Chunk as AChunk}
+use Rattle.cborn_explain.specs.Paths.{step_in, steps, EndsAt}
+use Rattle.cborn_explain.specs.devices.Walks.{step_of, path_of, place_at, Opened}
+
+-- A list of nodes isn't longer than the bytes that spell it, so its length is exact in bytes that are in memory.
+
+exact : (n m : ℕ) → n ≤ m → m < 2 ^ 64 → at_most_highest n ≡ n
+exact n m low short = go (cases_lt n (2 ^ 64 - 1))
+  where
+    go : (n < 2 ^ 64 - 1) ⊎ (2 ^ 64 - 1 ≤ n) → at_most_highest n ≡ n
+    go (inl h) = ap (λ b. cond b n (2 ^ 64 - 1)) (lt-ltb n (2 ^ 64 - 1) h)
+    go (inr h) = ap (λ b. cond b n (2 ^ 64 - 1)) (le-ltb n (2 ^ 64 - 1) h) ∙ omega (arith, h, low, short)
+
+count_below : (ts : Trees) → count ts ≤ length (spelled_all ts)
+count_below no_item = omega arith
+count_below (more t ts) = omega (arith, length-append (spelled t) (spelled_all ts), some_bytes t, count_below ts)
+
+count_entries_below : (es : Entries) → count_entries es ≤ length (spelled_entries es)
+count_entries_below no_entry = omega arith
+count_entries_below (entry k v es) = omega (arith, length-append (spelled k ++ spelled v) (spelled_entries es), length-append (spelled k) (spelled v), some_bytes k, count_entries_below es)
+
+count_chunks : (m : Major) (cs : List Chunk) → length cs ≤ length (flat_map (chunk_bytes m) cs)
+count_chunks m [] = omega arith
+count_chunks m (c ∷ cs) = omega (arith, length-append (chunk_bytes m c) (flat_map (chunk_bytes m) cs), count_chunks m cs)
+
+length_chunks : (ts : List Tree) → length (chunks_of ts) ≡ length ts
+length_chunks [] = refl
+length_chunks (t ∷ ts) = omega (arith, length_chunks ts)
+
+step_same : (o : Opening) (ts : List Tree) → length (beginning (container o ts)) < 2 ^ 64 → step_of (kind_in o ts) ≡ step_in (container o ts)
+step_same (an_array p s c) ts short =
+    ap Element (exact (length ts) _ (omega (arith, count-trees ts, count_below (trees ts), length-append (head majors.Array (argument_from s c)) (spelled_all (trees ts)))) short ∙ sym (count-trees ts))
+step_same (a_map p s c) ts short = go (last_key ts) short
+  where
+    es : List (Tree × Tree)
+    es = paired ts
+
+    low : length es ≤ length (head majors.Map (argument_from s c) ++ spelled_entries (entries es))
+    low = omega (arith, count_entries-entries es, count_entries_below (entries es), length-append (head majors.Map (argument_from s c)) (spelled_entries (entries es)))
+
+    go : (x : Option Tree) → length (beginning (map_container p (argument_from s c) es x)) < 2 ^ 64 → step_of (map_kind c (at_most_highest (length es)) x) ≡ step_in (map_container p (argument_from s c) es x)
+    go None short = ap Key (exact (length es) _ low short ∙ sym (count_entries-entries es))
+    go (Some k) short = ap Value (exact (length es) _ (omega (arith, low, length-append (head majors.Map (argument_from s c) ++ spelled_entries (entries es)) (spelled k))) short ∙ sym (count_entries-entries es))
+step_same (a_tag p w n) ts short = refl
+step_same (in_chunks p k) ts short =
+    ap AChunk (exact (length ts) _ (omega (arith, length_chunks ts, count_chunks (major_of k) (chunks_of ts), length-append (head (major_of k) EndlessArgument) (flat_map (chunk_bytes (major_of k)) (chunks_of ts)))) short ∙ sym (length_chunks ts))
+
+path_append : (ls : List Level) (l : Level) → path_of (ls ++ l ∷ []) ≡ path_of ls ++ step_of l.kind ∷ []
+path_append [] l = refl
+path_append (m ∷ ls) l = ap (λ p. step_of m.kind ∷ p) (path_append ls l)
+
+pub path_is : (f : Partial) → length (front (ready f) (open_in f)) < 2 ^ 64 → path_of (levels f) ≡ steps (ready f) (open_in f)
+path_is (top ts) short = ap (λ n. Item n ∷ []) (exact (length ts) _ (omega (arith, count-trees ts, count_below (trees ts), length-append (spelled_all (trees ts)) [])) short ∙ sym (count-trees ts))
+path_is (inside f o ts) short =
+    let all = length-append (spelled_all (ready f)) (beginnings (open_in f) ++ beginning (container o ts)) in
+    let both = length-append (beginnings (open_in f)) (beginning (container o ts)) in
+    path_append (levels f) _
+    ∙ ap (λ p. p ++ step_of (kind_in o ts) ∷ []) (path_is f (omega (arith, short, all, both, length-append (spelled_all (ready f)) (beginnings (open_in f)))))
+    ∙ ap (λ s. steps (ready f) (open_in f) ++ s ∷ []) (step_same o ts (omega (arith, short, all, both)))
+
+-- where the levels begin
+
+pub place_there : (ls : List Level) (k at : ℕ) (d : Level) → k < length ls → place_at ls k at ≡ (get_or ls k d).place
+place_there [] k at d h = absurd (omega (arith, h))
+place_there (l ∷ ls) zero at d h = refl
+place_there (l ∷ ls) (suc k) at d h = place_there ls k at d (omega (arith, h))
+
+pub place_beyond : (ls : List Level) (k at : ℕ) → length ls ≤ k → place_at ls k at ≡ at
+place_beyond [] k at h = refl
+place_beyond (l ∷ ls) zero at h = absurd (omega (arith, h))
+place_beyond (l ∷ ls) (suc k) at h = place_beyond ls k at (omega (arith, h))
+
+place_append : (ls : List Level) (l : Level) (k at : ℕ) → k ≤ length ls → place_at (ls ++ l ∷ []) k at ≡ place_at ls k l.place
+place_append [] l zero at h = refl
+place_append [] l (suc k) at h = absurd (omega (arith, h))
+place_append (m ∷ ls) l zero at h = refl
+place_append (m ∷ ls) l (suc k) at h = place_append ls l k at (omega (arith, h))
+
+length_path : (ls : List Level) → length (path_of ls) ≡ length ls
+length_path [] = refl
+length_path (l ∷ ls) = omega (arith, length_path ls)
+
+pub some_path : (f : Partial) → 0 < length (path_of (levels f))
+some_path (top ts) = omega arith
+some_path (inside f o ts) = omega (arith, length_path (levels (inside f o ts)), length-append (levels f) (record { place = place_of o; kind = kind_in o ts } ∷ []))
+
+place_is : (o : Opening) (ts : List Tree) (p : ℕ) → IsPlacedOpen p (container o ts) → place_of o ≡ p
+place_is (an_array q s c) ts p h = h.0
+place_is (a_map q s c) ts p h = go (last_key ts) h
+  where
+    go : (x : Option Tree) → IsPlacedOpen p (map_container q (argument_from s c) (paired ts) x) → q ≡ p
+    go None h = h.0
+    go (Some k) h = h.0
+place_is (a_tag q w n) ts p h = h
+place_is (in_chunks q k) ts p h = h.0
+
+-- The bytes before the head of the innermost open container end with what is open around it.
+opened_back : (x : List ℕ) (at : ℕ) (f : Partial) (o : Opening) (ts : List Tree) → Opened x at (inside f o ts) → (place_of o ≤ at) × Opened x (place_of o) f
+opened_back x at f o ts h =
+    let before = front (ready f) (open_in f) in
+    let more = beginning (container o ts) in
+    let p : place_of o ≡ 0 + length (spelled_all (ready f)) + length (beginnings (open_in f)) = place_is o ts _ h.ground.open_placed.0 in
+    let len : length before ≡ place_of o = omega (arith, p, length-append (spelled_all (ready f)) (beginnings (open_in f))) in
+    let longer : take at x ≡ before ++ more = h.bytes ∙ sym (append_assoc (spelled_all (ready f)) (beginnings (open_in f)) more) in
+    let below : place_of o ≤ at = omega (arith, len, ap length longer, length-append before more, length-take-le at x h.within) in
+    let whole : x ≡ before ++ (more ++ drop at x) = sym (take-append-drop at x) ∙ ap (λ k. k ++ drop at x) longer ∙ append_assoc before more (drop at x) in
+    (below, record { within = omega (arith, below, h.within); ground = ground_less 1024 0 (ready f) (open_in f) (container o ts) h.ground; bytes = ap (take (place_of o)) whole ∙ take_at before (more ++ drop at x) (place_of o) len })
+
+pub opened_ends : (x : List ℕ) (at : ℕ) (f : Partial) → length x < 2 ^ 64 → Opened x at f → EndsAt (take at x) (path_of (levels f))
+opened_ends x at f short h =
+    (ready f, open_in f, h.ground.fit, h.ground.shallow, h.ground.are_open, h.bytes, path_is f (omega (arith, ap length h.bytes, length-take-le at x h.within, h.within, short)))
+
+-- A front of the path leads to where the next level begins.
+
+abbrev Front : List ℕ → Partial → ℕ → ℕ → Type 0
+Front x f at k = (place_at (levels f) k at ≤ at) × EndsAt (take (place_at (levels f) k at) x) (take k (path_of (levels f)))
+
+whole_ends : (x : List ℕ) (f : Partial) (at k : ℕ) → length x < 2 ^ 64 → Opened x at f → length (levels f) ≤ k → Front x f at k
+whole_ends x f at k short h beyond =
+    let there = place_beyond (levels f) k at beyond in
+    (omega (arith, there), subst (λ n. EndsAt (take n x) (take k (path_of (levels f)))) (sym there) (subst (EndsAt (take at x)) (sym (take_all k (path_of (levels f)) (omega (arith, length_path (levels f), beyond)))) (opened_ends x at f short h)))
+
+further : (x : List ℕ) (f : Partial) (o : Opening) (ts : List Tree) (at k : ℕ) → k ≤ length (levels f) → place_of o ≤ at → Front x f (place_of o) k → Front x (inside f o ts) at k
+further x f o ts at k low below before =
+    let l : Level = record { place = place_of o; kind = kind_in o ts } in
+    let there = place_append (levels f) l k at low in
+    let path : take k (path_of (levels f ++ l ∷ [])) ≡ take k (path_of (levels f)) = ap (take k) (path_append (levels f) l) ∙ take-append-le k (path_of (levels f)) (step_of l.kind ∷ []) (omega (arith, length_path (levels f), low)) in
+    (omega (arith, there, before.0, below), subst (λ n. EndsAt (take n x) (take k (path_of (levels f ++ l ∷ [])))) (sym there) (subst (EndsAt (take (place_at (levels f) k (place_of o)) x)) (sym path) before.1))
+
+pub front_ends : (x : List ℕ) (f : Partial) (at k : ℕ) → length x < 2 ^ 64 → Opened x at f → 0 < k → (place_at (levels f) k at ≤ at) × EndsAt (take (place_at (levels f) k at) x) (take k (path_of (levels f)))
+front_ends x (top ts) at k short h some = whole_ends x (top ts) at k short h (omega (arith, some))
+front_ends x (inside f o ts) at k short h some =
+    let back = opened_back x at f o ts h in
+    let before = front_ends x f (place_of o) k short back.1 some in
+    elim (cases_lt k (length (levels (inside f o ts)))) [
+      | inl less ↦ further x f o ts at k (omega (arith, less, length-append (levels f) (record { place = place_of o; kind = kind_in o ts } ∷ []))) back.0 before
+      | inr beyond ↦ whole_ends x (inside f o ts) at k short h beyond
+    ]

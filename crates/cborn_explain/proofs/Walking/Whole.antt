@@ -1,0 +1,160 @@
+-- A walk is where the longest front that ends between two heads ends.
+use Rattle.std.proofs.Common.{◌≡◌, refl, sym, ap, ◌∙◌, subst, ℕ, ◌+◌, ◌^◌, ◌<◌, ◌≤◌, List, [], ◌∷◌, ◌++◌, length, take, drop, Option, Some, None, ◌⊎◌, inl, inr, arith, append-nil, length-append}
+use Rattle.std.proofs.lemmas.List.{length-take-le, take-append-drop, take-append-le, take_at}
+use Rattle.std.proofs.Math.Seq.{take-append_seam}
+use Rattle.cborn_model.specs.Bytes.{AreBytes}
+use Rattle.cborn_model.proofs.Bytes.{bytes-left}
+use Rattle.cborn_model.specs.Tree.{Trees, no_item, depth_all}
+use Rattle.cborn_model.specs.Spelled.{spelled_all, FitsAll}
+use Rattle.cborn_model.specs.Partial.{Partial, Part, no_part, part}
+use Rattle.cborn_wire.specs.declared.faults.WireReason.{WireReason}
+use Rattle.cborn_wire.specs.declared.head_readers.PartialHead.{PartialHead}
+use Rattle.cborn_wire.specs.declared.levels.Level.{Level}
+use Rattle.cborn_wire.specs.Slots.{OpenContainer, beginnings, AreOpen}
+use Rattle.cborn_wire.specs.Places.{all_from}
+use Rattle.cborn_wire.specs.shared.Machine.{argument_of, content_of, Unfinished, nothing, gathering, Live, Failed, start, front, partial_bytes, run}
+use Rattle.cborn_wire.specs.shared.Visiting.{ready, open_in, unfinished, levels, seen_head, HereAt, head_at}
+use Rattle.cborn_wire.proofs.Machine.Running.{run-append}
+use Rattle.cborn_wire.proofs.Machine.TakesOpen.{open_from, takes_open}
+use Rattle.cborn_wire.proofs.Machine.SoundItems.{SoundLive, SoundFailed, Sound}
+use Rattle.cborn_wire.proofs.Machine.SoundRuns.{sound}
+use Rattle.cborn_wire.proofs.Spelled.AsPlaced.{spelled_all-from, depth_all-from, fits_all-from, placed_all-from}
+use Rattle.cborn_wire.proofs.Spelled.OneReading.{takes_sequence}
+use Rattle.cborn_explain.specs.declared.paths.Step.{Step}
+use Rattle.cborn_explain.specs.Paths.{EndsAt, LeadsTo}
+use Rattle.cborn_explain.specs.devices.Walks.{path_of, IsAmid, place_in, IsOver, IsWalked}
+use Rattle.cborn_explain.proofs.Walking.Places.{place_rises}
+use Rattle.cborn_explain.proofs.Walking.Levels.{opened_ends}
+
+-- A front that ends between two heads is one that the machine takes.
+
+pub record Between (g : List ℕ) : Type 0 where
+  pub items : Trees
+  pub os : List OpenContainer
+  pub is : run 1024 (start 0) g ≡ Live (length g) items os nothing
+
+between : (g : List ℕ) (ts : Trees) (os : List OpenContainer) → FitsAll ts → depth_all ts ≤ 1024 → AreOpen 1024 os → g ≡ front ts os → Between g
+between g ts os fits deep are_open is =
+    let us = all_from 0 ts in
+    let same : spelled_all us ≡ spelled_all ts = spelled_all-from ts 0 in
+    let whole : g ≡ spelled_all us ++ (beginnings os ++ []) = is ∙ ap (λ l. l ++ beginnings os) (sym same) ∙ ap (λ l. spelled_all us ++ l) (sym (append-nil (beginnings os))) in
+    let q = 0 + length (spelled_all us) in
+    let total : q + length (beginnings os) ≡ length g = omega (arith, ap length is, ap length same, length-append (spelled_all ts) (beginnings os)) in
+    record {
+      items = us;
+      os = open_from q os;
+      is =
+          ap (run 1024 (start 0)) whole
+          ∙ takes_sequence us 1024 0 no_item (beginnings os ++ []) (fits_all-from ts 0 fits) (omega (arith, depth_all-from ts 0, deep)) (placed_all-from ts 0)
+          ∙ takes_open 1024 os q us [] are_open
+          ∙ ap (λ k. Live k us (open_from q os) nothing) total;
+    }
+
+-- no head comes next before such a front ends
+after_front : (g y : List ℕ) → Between g → length g ≤ place_in (run 1024 (start 0) (g ++ y))
+after_front g y b = subst (λ s. length g ≤ place_in s) (sym (run-append 1024 (start 0) g y ∙ ap (λ s. run 1024 s y) b.is)) (place_rises 1024 (length g) b.items b.os y)
+
+pub near : (n m : ℕ) (x : List ℕ) → n ≤ m → m ≤ length x → take n (take m x) ≡ take n x
+near n m x low up = sym (ap (take n) (sym (take-append-drop m x)) ∙ take-append-le n (take m x) (drop m x) (omega (arith, low, length-take-le m x up)))
+
+-- What the reader keeps after all of y.
+
+module _ (y : List ℕ) (bytes : AreBytes y) where
+  place_front : (fed : ℕ) (rd : Trees) (os : List OpenContainer) (q : Unfinished) → SoundLive 1024 0 y fed rd os q → place_in (Live fed rd os q) ≡ length (front rd os)
+  place_front fed rd os nothing s = s.fed_is ∙ omega (arith, ap length s.bytes, length-append (front rd os) [])
+  place_front fed rd os (gathering p (argument_of m w) n got) s = omega (arith, s.partial_fits.0)
+  place_front fed rd os (gathering p (content_of k w) n got) s = omega (arith, s.partial_fits.0)
+
+  over : (f : Partial) (fed at : ℕ) (q : Unfinished) → run 1024 (start 0) y ≡ Live fed (ready f) (open_in f) q → place_in (Live fed (ready f) (open_in f) q) ≡ at → IsOver y at (levels f)
+  over f fed at q is there =
+      let s : SoundLive 1024 0 y fed (ready f) (open_in f) q = subst (Sound 1024 0 y) is (sound 1024 0 y bytes) in
+      let len : length (front (ready f) (open_in f)) ≡ at = sym (place_front fed (ready f) (open_in f) q s) ∙ there in
+      record {
+        partial = f;
+        kept = refl;
+        opened = record {
+          within = omega (arith, len, ap length s.bytes, length-append (front (ready f) (open_in f)) (partial_bytes q));
+          ground = s.ground;
+          bytes = ap (take at) s.bytes ∙ take_at (front (ready f) (open_in f)) (partial_bytes q) at len;
+        };
+        stands = ap place_in is ∙ there;
+      }
+
+  pub read_over : (string : Option ℕ) (around : List Level) (l : Level) (left at place : ℕ) (h : Option PartialHead) → HereAt (λ f c. IsAmid string c) around l left at h (run 1024 (start 0) y)
+      → (string ≡ None → place ≡ head_at at h) → ((p : ℕ) → string ≡ Some p → place ≡ p) → IsOver y place (around ++ l ∷ [])
+  read_over string around l left at place (Some h) (short, f, held, keeps, takes, is) none some = subst (IsOver y place) keeps.0 (over f at place (seen_head h) is (sym (none held)))
+  read_over string around l left at place None s none some = subst (IsOver y place) s.levels.0 (over s.partial at place (unfinished s.amid) s.is (go s.amid s.held))
+    where
+      go : (c : Part) → IsAmid string c → place_in (Live at (ready s.partial) (open_in s.partial) (unfinished c)) ≡ place
+      go no_part held = sym (none held)
+      go (part p k w n x) held = sym (some p held)
+
+-- A head is refused: the bytes before it end between two heads.
+pub before_fault : (y : List ℕ) → AreBytes y → (ts : Trees) (p : ℕ) (r : WireReason) → run 1024 (start 0) y ≡ Failed ts p r → (p ≤ length y) × Between (take p y)
+before_fault y bytes ts p r is =
+    let s : SoundFailed 1024 0 y ts p r = subst (Sound 1024 0 y) is (sound 1024 0 y bytes) in
+    let len : length s.before ≡ p = omega (arith, s.live.fed_is) in
+    let front_is : take p y ≡ s.before = ap (take p) s.whole ∙ take_at s.before s.after p len in
+    (omega (arith, len, ap length s.whole, length-append s.before s.after), between (take p y) ts s.os s.live.ground.fit s.live.ground.shallow s.live.ground.are_open (front_is ∙ s.live.bytes ∙ append-nil (front ts s.os)))
+
+-- A walk over a front of x, up to where a walk over all up to the place comes.
+module _ (x : List ℕ) (place : ℕ) (within : place ≤ length x) where
+  walked : (n at : ℕ) (ls : List Level) → n ≤ place → IsOver (take n x) at ls → place_in (run 1024 (start 0) (take place x)) ≡ at → IsWalked x place at ls
+  walked n at ls low over there =
+      let up : at ≤ n = omega (arith, over.opened.within, length-take-le n x (omega (arith, low, within))) in
+      record {
+        partial = over.partial;
+        kept = over.kept;
+        opened = record { within = omega (arith, up, low, within); ground = over.opened.ground; bytes = sym (near at n x up (omega (arith, low, within))) ∙ over.opened.bytes };
+        low = omega (arith, up, low);
+        longest = longest;
+      }
+    where
+      longest : (g z : List ℕ) (other : List Step) → x ≡ g ++ z → length g ≤ place → EndsAt g other → length g ≤ at
+      longest g z other whole below (ts, os, fits, deep, are_open, is, path) =
+          let y = take place x in
+          let front_is : take (length g) y ≡ g = near (length g) place x below within ∙ ap (take (length g)) whole ∙ take-append_seam g z in
+          let split : g ++ drop (length g) y ≡ y = ap (λ l. l ++ drop (length g) y) (sym front_is) ∙ take-append-drop (length g) y in
+          omega (arith, after_front g (drop (length g) y) (between g ts os fits deep are_open is), ap (λ l. place_in (run 1024 (start 0) l)) split, there)
+
+  pub walked_all : (at : ℕ) (ls : List Level) → IsOver (take place x) at ls → IsWalked x place at ls
+  walked_all at ls over = walked place at ls (omega arith) over over.stands
+
+  module _ (bytes : AreBytes x) (ts : Trees) (p : ℕ) (r : WireReason) (fails : run 1024 (start 0) (take place x) ≡ Failed ts p r) where
+    before : (p ≤ length (take place x)) × Between (take p (take place x))
+    before = before_fault (take place x) (bytes-left (take place x) (drop place x) (subst AreBytes (sym (take-append-drop place x)) bytes)) ts p r fails
+
+    pub fault_within : p ≤ place
+    fault_within = omega (arith, before.0, length-take-le place x within)
+
+    there : Between (take p x)
+    there = subst Between (near p place x fault_within within) before.1
+
+    len : length (take p x) ≡ p
+    len = length-take-le p x (omega (arith, fault_within, within))
+
+    pub walked_before : (at : ℕ) (ls : List Level) → IsOver (take p x) at ls → IsWalked x place at ls
+    walked_before at ls over = walked p at ls fault_within over (ap place_in fails ∙ sym len ∙ sym (ap place_in there.is) ∙ over.stands)
+
+    pub not_refused : (us : Trees) (q : ℕ) (s : WireReason) → run 1024 (start 0) (take p x) ≡ Failed us q s → ⊥
+    not_refused us q s is = let e = sym there.is ∙ is in cc
+
+-- The path of a walk leads to the place,
+pub walk_leads : (x : List ℕ) (place at : ℕ) (ls : List Level) → length x < 2 ^ 64 → IsWalked x place at ls → LeadsTo x place (path_of ls)
+walk_leads x place at ls short w = (
+  take at x,
+  drop at x,
+  sym (take-append-drop at x),
+  omega (arith, len, w.low),
+  subst (λ l. EndsAt (take at x) (path_of l)) w.kept (opened_ends x at w.partial short w.opened),
+  λ g z other is up ends. omega (arith, len, w.longest g z other is up ends),
+)
+  where
+    len : length (take at x) ≡ at
+    len = length-take-le at x w.opened.within
+
+-- and that to the end leads to all places beyond it, too.
+pub leads_beyond : (x : List ℕ) (n place : ℕ) (path : List Step) → (n ≡ place) ⊎ ((n ≡ length x) × (length x ≤ place)) → LeadsTo x n path → LeadsTo x place path
+leads_beyond x n place path (inl e) h = subst (λ k. LeadsTo x k path) e h
+leads_beyond x n place path (inr (e, l)) (f, y, whole, up, at, longest) =
+    (f, y, whole, omega (arith, e, l, up), at, λ g z other is h ends. longest g z other is (omega (arith, e, ap length is, length-append g z)) ends)

@@ -1,0 +1,6 @@
+use Rattle.std.proofs.Common.{◌≡◌, take}
+use Rattle.cborn_explain.specs.devices.Walks.{path_of}
+use Rattle.cborn_explain.proofs.byte_walks.Walk.path.Given as goal
+
+abbrev pub invariant-loop-level : goal.invariant-loop-level
+invariant-loop-level l = l.steps.items ≡ path_of (take l.level-index l.self.levels.items)

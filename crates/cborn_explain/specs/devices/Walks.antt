@@ -1,0 +1,63 @@
+-- A device of the proofs: what a walk over the first bytes of an input keeps of what is open at their end. No public contract cites it; the contracts of the crate's own functions do.
+use Rattle.std.specs.Prelude.{◌≡◌, ℕ, zero, suc, ◌≤◌, List, [], ◌∷◌, ◌++◌, length, map, take, Option, Some, None}
+use Rattle.cborn_model.specs.Partial.{Partial, Part, no_part, part}
+use Rattle.cborn_wire.specs.declared.levels.LevelKind.{LevelKind}
+use Rattle.cborn_wire.specs.declared.levels.LevelKind.TheVariants.{Sequence, Array, Map, MapValue, Tag, Chunks}
+use Rattle.cborn_wire.specs.declared.levels.Level.{Level}
+use Rattle.cborn_wire.specs.shared.Ground.{Ground}
+use Rattle.cborn_wire.specs.shared.Machine.{nothing, gathering, State, Live, Failed, start, front, run}
+use Rattle.cborn_wire.specs.shared.Visiting.{ready, open_in, levels}
+use Rattle.cborn_explain.specs.declared.paths.Step.{Step}
+use Rattle.cborn_explain.specs.declared.paths.Step.TheVariants as steps
+use Rattle.cborn_explain.specs.Paths.{EndsAt}
+
+-- the step to the next part of a level
+abbrev pub step_of : LevelKind → Step
+step_of (Sequence n) = steps.Item n
+step_of (Array c n) = steps.Element n
+step_of (Map c n) = steps.Key n
+step_of (MapValue c n) = steps.Value n
+step_of (Tag t) = steps.Content t
+step_of (Chunks k n) = steps.Chunk n
+
+-- the steps to the head that comes next
+abbrev pub path_of : List Level → List Step
+path_of ls = map (λ l. step_of l.kind) ls
+
+-- the offset of the head of the level with this index, or of the head that comes next
+abbrev pub place_at : List Level → ℕ → ℕ → ℕ
+place_at [] k at = at
+place_at (l ∷ ls) zero at = l.place
+place_at (l ∷ ls) (suc k) at = place_at ls k at
+
+-- the offset of the head of the string that is partial
+abbrev pub IsAmid : Option ℕ → Part → Type 0
+IsAmid o no_part = o ≡ None
+IsAmid o (part p k w n x) = o ≡ Some p
+
+-- the offset of the head that comes next, or of one that is partial with its string
+abbrev pub place_in : State → ℕ
+place_in (Live at rd os nothing) = at
+place_in (Live at rd os (gathering p g n got)) = p
+place_in (Failed rd p r) = p
+
+-- the first bytes of x, up to there, end between two heads, and this is open at their end
+pub record Opened (x : List ℕ) (at : ℕ) (f : Partial) : Type 0 where
+  pub within : at ≤ length x
+  pub ground : Ground 1024 0 (ready f) (open_in f)
+  pub bytes : take at x ≡ front (ready f) (open_in f)
+
+-- A walk over all of y, with these levels, is at the head that comes next or that is partial.
+pub record IsOver (y : List ℕ) (at : ℕ) (ls : List Level) : Type 0 where
+  pub partial : Partial
+  pub kept : levels partial ≡ ls
+  pub opened : Opened y at partial
+  pub stands : place_in (run 1024 (start 0) y) ≡ at
+
+-- A walk with these levels is where the longest front of x up to the place that ends between two heads ends.
+pub record IsWalked (x : List ℕ) (place at : ℕ) (ls : List Level) : Type 0 where
+  pub partial : Partial
+  pub kept : levels partial ≡ ls
+  pub opened : Opened x at partial
+  pub low : at ≤ place
+  pub longest : (g z : List ℕ) (other : List Step) → x ≡ g ++ z → length g ≤ place → EndsAt g other → length g ≤ at

@@ -1,0 +1,138 @@
+//! A walk over the first bytes of an input: what is open at their end, and where the parts of that
+//! begin.
+
+ghost use Rattle.std.specs.Prelude.{◌≡◌, ◌≤◌, ◌⊎◌, ℕ, length, take, IfOk, Err};
+ghost use Rattle.cborn_model.specs.Tree.{Trees};
+ghost use Rattle.cborn_wire.specs.declared.faults.WireFault.TheVariants.{Refused};
+ghost use Rattle.cborn_wire.specs.declared.faults.WireReason.{WireReason as Reason};
+ghost use Rattle.cborn_wire.specs.shared.Machine.{Failed, start, run};
+ghost use Rattle.cborn_explain.specs.devices.Walks.{step_of, path_of, place_at, IsOver, IsWalked};
+
+use crate::part_places::PartPlaces;
+use crate::paths::{Path, Step};
+use cborn_model::Limit;
+use cborn_wire::{GrownLevels, HeadReader, Level, LevelKind, Until, WireFault};
+use std::alloc::{AllocError, Global};
+
+/// A walk from head to head, between two of them.
+#[derive(Drop)]
+pub(crate) struct Walk {
+    /// The input and what is open in it, the innermost last.
+    levels: Vec<Level>,
+    parts: PartPlaces,
+    /// The offset in bytes of the head that comes next.
+    pub(crate) at: usize,
+}
+
+impl Walk {
+    /// A walk to the head at `place`; to the head whose argument or string the place is in; or to a
+    /// head before it that isn't whole or isn't allowed.
+    ///
+    /// # Errors
+    /// `AllocError` where memory for what is open is refused.
+    pub(crate) fn to(alloc: Global, bytes: &[u8], place: usize) -> Result<Walk, AllocError>
+        requires { place ≤ length bytes.now }
+        ensures { IfOk result (λ walk. IsWalked bytes.now place walk.at walk.levels.items) }
+    {
+        let refused = match Walk::over(alloc, &bytes[..place]) {
+            Ok(walk) => return Ok(walk),
+            Err(WireFault::OutOfMemory) => return Err(AllocError),
+            Err(WireFault::Refused { place, .. }) => place,
+        };
+        // none of the bytes before a refused head is refused
+        match Walk::over(alloc, &bytes[..refused as usize]) {
+            Ok(walk) => Ok(walk),
+            Err(WireFault::OutOfMemory) => Err(AllocError),
+            Err(WireFault::Refused { .. }) => unreachable!(),
+        }
+    }
+
+    /// A walk over all of these bytes.
+    ///
+    /// # Errors
+    /// `Refused` if a head isn't allowed where it is. `OutOfMemory` where memory for what is open
+    /// is refused.
+    fn over(alloc: Global, bytes: &[u8]) -> Result<Walk, WireFault>
+        ensures walked { IfOk result (λ walk. IsOver bytes.now walk.at walk.levels.items) }
+        ensures refused { (p : ℕ) (r : Reason) → result ≡ Err (Refused p r) → (ts : Trees) × (run 1024 (start 0) bytes.now ≡ Failed ts p r) }
+    {
+        let mut reader = HeadReader::new(Limit::HIGHEST, 0);
+        let mut levels = GrownLevels::new(alloc);
+        let mut parts = PartPlaces::new(alloc);
+        if let Err(fault) = reader.read(&mut levels, &mut parts, bytes, Until::End) {
+            return Err(fault);
+        }
+        let at = parts.next_head(reader.next_head()) as usize;
+        let levels = levels.into_vec()?;
+        Ok(Walk { levels, parts, at })
+    }
+
+    /// The path to the head that comes next.
+    ///
+    /// # Errors
+    /// `AllocError` where memory for the path is refused.
+    pub(crate) fn path(&self, alloc: Global) -> Result<Path, AllocError>
+        ensures { IfOk result (λ path. path.steps.items ≡ path_of self.now.levels.items) }
+    {
+        let mut steps = Vec::new(alloc);
+        for level in &self.levels {
+            steps.push(step(level.kind))?;
+        }
+        Ok(Path { steps })
+    }
+
+    /// The offset of the head of the level with this index, or of the head that comes next.
+    pub(crate) fn place_of(&self, index: usize) -> usize
+        ensures { result ≡ place_at self.now.levels.items index self.now.at }
+    {
+        match self.levels.get(index) {
+            Some(level) => level.place as usize,
+            None => self.at,
+        }
+    }
+
+    /// The innermost level: an open container, or else the input.
+    pub(crate) fn innermost(&self) -> Level {
+        self.levels.last().copied().unwrap_or_default()
+    }
+
+    /// The offsets in bytes at which the last key begins and ends in the level with this index,
+    /// a map in which a value is next.
+    pub(crate) fn key_at(&self, index: usize) -> (usize, usize) {
+        let end = self.place_of(index.saturating_add(1));
+        let (before, last) = self.parts.last_two(index);
+        (if last < end { last } else { before }, end)
+    }
+
+    /// The offsets in bytes at which the last key begins and ends in the innermost level, a map in
+    /// which a key is next.
+    pub(crate) fn last_key(&self) -> (usize, usize) {
+        self.parts.last_two(self.levels.len().saturating_sub(1))
+    }
+}
+
+/// The step to the next part of a level.
+fn step(kind: LevelKind) -> Step
+    ensures { result ≡ step_of kind }
+{
+    match kind {
+        LevelKind::Sequence(parts) => Step::Item(parts),
+        LevelKind::Array(_, parts) => Step::Element(parts),
+        LevelKind::Map(_, parts) => Step::Key(parts),
+        LevelKind::MapValue(_, parts) => Step::Value(parts),
+        LevelKind::Tag(number) => Step::Content(u128::from(number)),
+        LevelKind::Chunks(_, parts) => Step::Chunk(parts),
+    }
+}
+
+/// The offset as an index: at most the length of the bytes.
+pub(crate) fn place_in(bytes: &[u8], place: u64) -> usize
+    ensures within { result ≤ length bytes.now }
+    ensures place { (result ≡ place) ⊎ ((result ≡ length bytes.now) × (length bytes.now ≤ place)) }
+{
+    if place > bytes.len() as u64 {
+        bytes.len()
+    } else {
+        place as usize
+    }
+}

@@ -1,4 +1,0 @@
-pub mod Levels
-pub mod Paths
-pub mod devices
-pub mod shared

@@ -1,2 +1,0 @@
-pub mod FirstItem
-pub mod Walks

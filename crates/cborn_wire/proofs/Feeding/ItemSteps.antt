@@ -1,0 +1,200 @@
+-- What a reader of items takes of a piece, as steps of the machine.
+use Rattle.std.proofs.Common.{◌≡◌, refl, sym, ap, ◌∙◌, subst, ℕ, ◌≤◌, List, [], ◌∷◌, ◌++◌, length, Option, Some, None, Err, inl, inr, arith}
+use Rattle.std.proofs.lemmas.List.{nil_from_length}
+use Rattle.cborn_model.specs.Tree.{Tree, Trees, no_item, more, trees}
+use Rattle.cborn_model.specs.Spelled.{IsSpelled}
+use Rattle.cborn_model.specs.Partial.{Partial, top, inside, Part, no_part, part, put, whole}
+use Rattle.cborn_wire.specs.declared.faults.WireFault.{WireFault}
+use Rattle.cborn_wire.specs.declared.faults.WireFault.TheVariants.{Refused, OutOfMemory}
+use Rattle.cborn_wire.specs.declared.levels.LevelKind.TheVariants.{Sequence}
+use Rattle.cborn_wire.specs.declared.levels.Level.{Level}
+use Rattle.cborn_wire.specs.declared.levels.GrownLevels.{GrownLevels}
+use Rattle.cborn_wire.specs.declared.head_readers.PartialHead.{PartialHead}
+use Rattle.cborn_wire.specs.declared.head_readers.HeadReader.{HeadReader}
+use Rattle.cborn_wire.specs.declared.nodes.OpenString.{OpenString}
+use Rattle.cborn_wire.specs.declared.nodes.Nodes.{Nodes}
+use Rattle.cborn_wire.specs.declared.item_readers.ItemReader.{ItemReader}
+use Rattle.cborn_wire.specs.Slots.{OpenContainer}
+use Rattle.cborn_wire.specs.shared.Machine.{Unfinished, nothing, State, Live, Failed, ready_in, start, run, AtMostOneMore}
+use Rattle.cborn_wire.specs.shared.Visiting as visiting
+use Rattle.cborn_wire.specs.shared.Visiting.{levels as levels_of, ready, open_in, unfinished, state, seen_head, Keeps, IsInput, Missing, Stands, HereAt, MayEnd, IsFed, FailsAs}
+use Rattle.cborn_wire.specs.devices.OpenNodes.{seen_string, seen_nodes, IsHeld}
+use Rattle.cborn_wire.specs.devices.ItemReading.{pending, seen, IsMade}
+use Rattle.cborn_wire.proofs.Machine.Running.{run-append}
+use Rattle.cborn_wire.proofs.Machine.Reached.{reached_item}
+use Rattle.cborn_wire.proofs.Visiting.Taking.{outer_count}
+use Rattle.cborn_wire.proofs.Visiting.Pieces.{may_end_here}
+
+-- what the visitor holds is what it is seen as
+pub here_seen : (n : Nodes) (around : List Level) (l : Level) (left at : ℕ) (h : Option PartialHead) (s : State) → HereAt (IsHeld n) around l left at h s
+    → s ≡ Live at (ready (seen_nodes n)) (open_in (seen_nodes n)) (pending h n.string)
+here_seen n around l left at None s h = h.is ∙ ap (λ f. state at f h.amid) h.held.0 ∙ ap (state at (seen_nodes n)) h.held.1
+here_seen n around l left at (Some g) s (short, f, held, keeps, takes, is) = is ∙ ap (λ f. Live at (ready f) (open_in f) (seen_head g)) held.0
+
+-- another visitor that holds the same is here too
+pub here_held : (H K : Partial → Part → Type 0) → ((f : Partial) (c : Part) → H f c → K f c) → (around : List Level) (l : Level) (left at : ℕ) (h : Option PartialHead) (s : State)
+    → HereAt H around l left at h s → HereAt K around l left at h s
+here_held H K same around l left at None s h = record { partial = h.partial; amid = h.amid; held = same h.partial h.amid h.held; levels = h.levels; missing = h.missing; fits = h.fits; is = h.is }
+here_held H K same around l left at (Some g) s (short, f, held, keeps, takes, is) = (short, f, same f no_part held, keeps, takes, is)
+
+nothing_open : (f : Partial) → open_in f ≡ [] → f ≡ top (whole f)
+nothing_open (top ts) e = refl
+nothing_open (inside f o ts) e = cc
+
+no_head : (h : Option PartialHead) (s : Option OpenString) → pending h s ≡ nothing → (h ≡ None) × (seen_string s ≡ no_part)
+no_head None None e = (refl, refl)
+no_head None (Some s) e = cc
+no_head (Some h) s e = cc
+
+-- A reader that is at the offset `at`, and nothing is open.
+pub fresh_made : (r : ItemReader) (at : ℕ) → r.heads.at ≡ at → r.heads.limit ≤ 1024 → r.heads.left ≡ 0 → r.heads.head ≡ None → IsInput r.levels.outer.items r.levels.inner → IsHeld r.nodes (top []) no_part
+    → IsMade r × (seen [] r ≡ start at)
+fresh_made r at is small left head input held =
+    let same : seen [] r ≡ start at
+    = ap (λ h. Live r.heads.at no_item (open_in (seen_nodes r.nodes)) (pending h r.nodes.string)) head
+    ∙ ap (λ c. Live r.heads.at no_item (open_in (seen_nodes r.nodes)) (unfinished c)) (sym held.1)
+    ∙ ap (λ f. Live r.heads.at no_item (open_in f) nothing) (sym held.0) ∙ ap start is in
+    let here : HereAt (IsHeld r.nodes) r.levels.outer.items r.levels.inner r.heads.left r.heads.at None (start r.heads.at)
+    = record { partial = top []; amid = no_part; held = held; levels = (sym (ap (λ l. r.levels.outer.items ++ l ∷ []) input.1 ∙ ap (λ o. o ++ record { place = 0; kind = Sequence 0 } ∷ []) input.0), tt, tt); missing = left; fits = tt; is = refl } in (
+      record {
+        base = r.heads.at;
+        read = [];
+        fed = (tt, small, subst (λ h. HereAt (IsHeld r.nodes) r.levels.outer.items r.levels.inner r.heads.left r.heads.at h (start r.heads.at)) (sym head) here);
+        is = ap start is ∙ sym same;
+      },
+      same,
+    )
+
+none_missing : (left : ℕ) (c : Part) → Missing left c → left ≡ 0 → unfinished c ≡ nothing
+none_missing left no_part h e = refl
+none_missing left (part p k w n x) (all, some) e = absurd (omega (arith, some, e))
+
+-- The input may end exactly if nothing is open, and no head or string is partial.
+module _ (r : ItemReader) (made : IsMade r) where
+  pub may_end : open_in (seen_nodes r.nodes) ≡ [] → pending r.heads.head r.nodes.string ≡ nothing → MayEnd r.levels.outer.items r.heads
+  may_end none still =
+      let now = run r.heads.limit (start made.base) made.read in
+      may_end_here (IsHeld r.nodes) r.levels.outer.items r.levels.inner r.heads now r.heads.at no_item made.fed.2
+      (made.is ∙ ap (λ os. Live r.heads.at no_item os (pending r.heads.head r.nodes.string)) none ∙ ap (Live r.heads.at no_item []) still)
+
+  pub none_open : MayEnd r.levels.outer.items r.heads → (open_in (seen_nodes r.nodes) ≡ []) × (pending r.heads.head r.nodes.string ≡ nothing)
+  none_open (head, left, outer) =
+      let now = run r.heads.limit (start made.base) made.read in
+      let s : Stands (IsHeld r.nodes) r.levels.outer.items r.levels.inner r.heads.left r.heads.at now = subst (λ h. HereAt (IsHeld r.nodes) r.levels.outer.items r.levels.inner r.heads.left r.heads.at h now) head made.fed.2 in
+      let many = outer_count s.partial r.levels.outer.items r.levels.inner s.levels.0 in (
+        ap open_in (sym s.held.0) ∙ nil_from_length (open_in s.partial) (omega (arith, many, ap length outer)),
+        ap (λ h. pending h r.nodes.string) head ∙ ap unfinished (sym s.held.1) ∙ none_missing r.heads.left s.amid s.missing left,
+      )
+
+-- Reading fails as the machine does.
+pub fails_item : (old : ItemReader) (made : IsMade old) (piece : List ℕ) (e : WireFault) → visiting.ReadsItem old.heads.limit made.base made.read piece (Err e) → FailsAs no_item (run old.heads.limit (seen [] old) piece) e
+fails_item old made piece (Refused p r) h =
+    ap (λ u. run old.heads.limit u piece) (sym made.is) ∙ sym (run-append old.heads.limit (start made.base) made.read piece) ∙ h ∙ ap (λ ts. Failed ts p r) (ap ready_in made.is)
+fails_item old made piece OutOfMemory h = tt
+
+-- After these bytes heads, levels and nodes are what they are here.
+module _ (old : ItemReader) (made : IsMade old) (heads : HeadReader) (levels : GrownLevels) (nodes : Nodes) (y : List ℕ) (same : heads.limit ≡ old.heads.limit)
+    (fed : IsFed (IsHeld nodes) levels.outer.items levels.inner heads made.base (made.read ++ y)) where
+  abbrev now : State
+  now = run heads.limit (start made.base) (made.read ++ y)
+
+  is_now : now ≡ Live heads.at (ready (seen_nodes nodes)) (open_in (seen_nodes nodes)) (pending heads.head nodes.string)
+  is_now = here_seen nodes levels.outer.items levels.inner heads.left heads.at heads.head now fed.2
+
+  comes : run old.heads.limit (seen [] old) y ≡ now
+  comes = ap (λ u. run old.heads.limit u y) (sym made.is) ∙ sym (run-append old.heads.limit (start made.base) made.read y) ∙ ap (λ k. run k (start made.base) (made.read ++ y)) (sym same)
+
+  one_more : AtMostOneMore (ready_in (run old.heads.limit (start made.base) made.read)) (run old.heads.limit (start made.base) (made.read ++ y)) → AtMostOneMore no_item now
+  one_more h =
+      subst (λ ts. AtMostOneMore ts now) (ap ready_in made.is)
+      (subst (λ k. AtMostOneMore (ready_in (run old.heads.limit (start made.base) made.read)) (run k (start made.base) (made.read ++ y))) (sym same) h)
+
+  -- no item is whole
+  none_ready : ((ts : List Tree) → seen_nodes nodes ≡ top ts → ts ≡ []) → AtMostOneMore no_item now → ready (seen_nodes nodes) ≡ no_item
+  none_ready none (inl e) = ap ready_in (sym is_now) ∙ e
+  none_ready none (inr (at, t, e)) =
+      let all = nothing_open (seen_nodes nodes) (no_open (sym is_now ∙ e)) in
+      ap ready all ∙ ap trees (none (whole (seen_nodes nodes)) all)
+    where
+      no_open : {a b : ℕ} {ts us : Trees} {os : List OpenContainer} {q : Unfinished} → Live a ts os q ≡ Live b us [] nothing → os ≡ []
+      no_open e = cc
+
+  pub no_item_whole : (next : Nodes) → seen_nodes next ≡ seen_nodes nodes → next.string ≡ nodes.string → ((ts : List Tree) → seen_nodes nodes ≡ top ts → ts ≡ [])
+      → AtMostOneMore (ready_in (run old.heads.limit (start made.base) made.read)) (run old.heads.limit (start made.base) (made.read ++ y))
+      → let r : ItemReader = record { heads = heads; levels = levels; nodes = next } in IsMade r × (run old.heads.limit (seen [] old) y ≡ seen [] r)
+  no_item_whole next is string none at_most =
+      let is_next : now ≡ Live heads.at no_item (open_in (seen_nodes next)) (pending heads.head next.string)
+      = is_now ∙ ap (λ ts. Live heads.at ts (open_in (seen_nodes nodes)) (pending heads.head nodes.string)) (none_ready none (one_more at_most))
+      ∙ ap (λ f. Live heads.at no_item (open_in f) (pending heads.head nodes.string)) (sym is) ∙ ap (λ s. Live heads.at no_item (open_in (seen_nodes next)) (pending heads.head s)) (sym string) in
+      let hands : (f : Partial) (c : Part) → IsHeld nodes f c → IsHeld next f c = λ f c h. (h.0 ∙ sym is, h.1 ∙ ap seen_string (sym string)) in (
+        record {
+          base = made.base;
+          read = made.read ++ y;
+          fed = (fed.0, fed.1, here_held (IsHeld nodes) (IsHeld next) hands levels.outer.items levels.inner heads.left heads.at heads.head now fed.2);
+          is = is_next;
+        },
+        comes ∙ is_next,
+      )
+
+  -- one item is whole, the node t
+  module _ (t : Tree) (next : Nodes) (is : seen_nodes nodes ≡ put (seen_nodes next) t) (bare : seen_nodes next ≡ top (whole (seen_nodes next))) where
+    abbrev these : List Tree
+    these = whole (seen_nodes next)
+
+    is_top : seen_nodes nodes ≡ top (these ++ t ∷ [])
+    is_top = is ∙ ap (λ f. put f t) bare
+
+    -- nothing is open, and no other item is whole
+    single : AtMostOneMore no_item now → (these ≡ []) × (now ≡ Live heads.at (more t no_item) [] nothing)
+    single (inl e) = absurd (clash these (ap ready (sym is_top) ∙ ap ready_in (sym is_now) ∙ e))
+      where
+        clash : (us : List Tree) → trees (us ++ t ∷ []) ≡ no_item → ⊥
+        clash [] e = cc
+        clash (u ∷ us) e = cc
+    single (inr (at, u, e)) =
+        let here : now ≡ Live heads.at (trees (these ++ t ∷ [])) [] (pending heads.head nodes.string) = is_now ∙ ap (λ f. Live heads.at (ready f) (open_in f) (pending heads.head nodes.string)) is_top in
+        let both = sym here ∙ e in
+        let none = alone these (ready_same both) in
+        (none, here ∙ ap (λ us. Live heads.at (trees (us ++ t ∷ [])) [] (pending heads.head nodes.string)) none ∙ ap (Live heads.at (more t no_item) []) (still both))
+      where
+        ready_same : {a b : ℕ} {ts us : Trees} {p q : Unfinished} → Live a ts [] p ≡ Live b us [] q → ts ≡ us
+        ready_same e = cc
+
+        still : {a b : ℕ} {ts us : Trees} {p : Unfinished} → Live a ts [] p ≡ Live b us [] nothing → p ≡ nothing
+        still e = cc
+
+        alone : (us : List Tree) → trees (us ++ t ∷ []) ≡ more u no_item → us ≡ []
+        alone [] e = refl
+        alone (v ∷ []) e = cc
+        alone (v ∷ w ∷ us) e = cc
+
+    pub item_whole : (counted : GrownLevels) → next.string ≡ nodes.string → counted.outer.items ≡ levels.outer.items → counted.inner ≡ record levels.inner { kind = Sequence 0 }
+        → AtMostOneMore (ready_in (run old.heads.limit (start made.base) made.read)) (run old.heads.limit (start made.base) (made.read ++ y))
+        → let r : ItemReader = record { heads = heads; levels = counted; nodes = next } in IsMade r × (run old.heads.limit (seen [] old) y ≡ seen (t ∷ []) r) × (seen [] r ≡ start heads.at) × IsSpelled t
+    item_whole counted string outer inner at_most =
+        let r : ItemReader = record { heads = heads; levels = counted; nodes = next } in
+        let (none, is_one) = single (one_more at_most) in
+        let (head, left, around) = may_end_here (IsHeld nodes) levels.outer.items levels.inner heads now heads.at (more t no_item) fed.2 is_one in
+        let here : Stands (IsHeld nodes) levels.outer.items levels.inner heads.left heads.at now = subst (λ h. HereAt (IsHeld nodes) levels.outer.items levels.inner heads.left heads.at h now) head fed.2 in
+        let no_string : no_part ≡ seen_string next.string = sym (part_none heads.left here.amid here.missing left) ∙ here.held.1 ∙ ap seen_string (sym string) in
+        let place : levels.inner.place ≡ 0 = at_zero (these ++ t ∷ []) (sym (ap levels_of (here.held.0 ∙ is_top)) ∙ here.levels.0 ∙ ap (λ o. o ++ levels.inner ∷ []) around) in
+        let input : IsInput counted.outer.items counted.inner = (outer ∙ around, inner ∙ ap (λ p. record { place = p; kind = Sequence 0 }) place) in
+        let bare_next : top [] ≡ seen_nodes next = sym (bare ∙ ap top none) in
+        let (made_next, fresh) = fresh_made r heads.at refl fed.1 left head input (bare_next, no_string) in
+        let one : now ≡ seen (t ∷ []) r = is_one ∙ ap with_one (sym fresh) in
+        let (fits, shallow) = reached_item heads.limit made.base heads.at no_item t [] nothing (made.read ++ y, fed.0, is_one) in
+        (made_next, comes ∙ one, fresh, (fits, omega (arith, shallow, fed.1)))
+      where
+        with_one : State → State
+        with_one (Live at ts os q) = Live at (more t ts) os q
+        with_one (Failed ts p r) = Failed ts p r
+
+        part_none : (n : ℕ) (c : Part) → Missing n c → n ≡ 0 → c ≡ no_part
+        part_none n no_part h e = refl
+        part_none n (part p k w m x) (all, some) e = absurd (omega (arith, some, e))
+
+        at_zero : (ts : List Tree) → levels_of (top ts) ≡ levels.inner ∷ [] → levels.inner.place ≡ 0
+        at_zero ts e = sym (same_place e)
+          where
+            same_place : {a b : Level} → a ∷ [] ≡ b ∷ [] → a.place ≡ b.place
+            same_place e = cc

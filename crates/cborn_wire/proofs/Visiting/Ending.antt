@@ -1,0 +1,76 @@
+-- What a reader is before the first byte, at the end of the input, and at a head that isn't allowed.
+use Rattle.std.proofs.Common.{◌≡◌, refl, sym, ap, ◌∙◌, subst, ℕ, ◌+◌, List, [], ◌∷◌, ◌++◌, length, take, Option, Some, None, inl, inr, arith}
+use Rattle.std.proofs.lemmas.List.{take_all}
+use Rattle.cborn_model.specs.Bytes.{AreBytes}
+use Rattle.cborn_model.specs.Tree.{Tree, Trees, trees}
+use Rattle.cborn_model.specs.Spelled.{Wellformed}
+use Rattle.cborn_model.specs.Placed.{PlacedAll}
+use Rattle.cborn_model.specs.Partial.{Partial, top, inside, Part, no_part, part}
+use Rattle.cborn_wire.specs.declared.faults.WireReason.{WireReason}
+use Rattle.cborn_wire.specs.declared.faults.WireReason.TheVariants.{Truncated}
+use Rattle.cborn_wire.specs.declared.levels.Level.{Level}
+use Rattle.cborn_wire.specs.declared.head_readers.PartialHead.{PartialHead}
+use Rattle.cborn_wire.specs.declared.head_readers.HeadReader.{HeadReader}
+use Rattle.cborn_wire.specs.Faults.{IsWellformed, Fault, Refused}
+use Rattle.cborn_wire.specs.Slots.{OpenContainer}
+use Rattle.cborn_wire.specs.shared.Machine.{Unfinished, nothing, State, Live, start, run}
+use Rattle.cborn_wire.specs.shared.Visiting.{ready, open_in, unfinished, Stands, seen_head, HereAt, IsFresh, IsInput, IsFed, MayEnd, levels, Missing, RefusesPiece}
+use Rattle.cborn_wire.proofs.Spelled.SlotLaws.{ends_read, goes_on}
+use Rattle.cborn_wire.proofs.Spelled.FaultLaws.{fails_refused}
+use Rattle.cborn_wire.proofs.Spelled.OneReading.{reads}
+use Rattle.cborn_wire.proofs.Visiting.Taking.{outer_count}
+use Rattle.cborn_wire.proofs.Visiting.Pieces.{may_end_here}
+
+-- a reader that was handed nothing
+pub fresh_fed : (holds : Partial → Part → Type 0) (outer : List Level) (l : Level) (limit at : ℕ) (m : HeadReader) → holds (top []) no_part → IsInput outer l → IsFresh limit at m → IsFed holds outer l m at []
+fresh_fed holds outer l limit at m held (bare, input) (limited, at_is, none, between, small) =
+    (tt, small, rw (at_is, none, between) (record { partial = top []; amid = no_part; held = held; levels = (ap (λ k. k ∷ []) (sym input) ∙ ap (λ ls. ls ++ l ∷ []) (sym bare), tt, tt); missing = refl; fits = tt; is = refl }))
+
+-- a state that a reader is at lives
+live_here : (holds : Partial → Part → Type 0) (outer : List Level) (l : Level) (left at : ℕ) (h : Option PartialHead) (s : State) → HereAt holds outer l left at h s → (rd : Trees) × (os : List OpenContainer) × (q : Unfinished) × (s ≡ Live at rd os q)
+live_here holds outer l left at None s here = (ready here.partial, open_in here.partial, unfinished here.amid, here.is)
+live_here holds outer l left at (Some p) s (short, f, held, are, takes, is) = (ready f, open_in f, seen_head p, is)
+
+module _ (holds : Partial → Part → Type 0) (outer : List Level) (l : Level) (m : HeadReader) (base : ℕ) (x : List ℕ) (fed : IsFed holds outer l m base x) where
+  -- The input may end: the visitor holds the nodes that the bytes spell.
+  pub whole : MayEnd outer m → (ts : List Tree) × holds (top ts) no_part × Wellformed m.limit (trees ts) x × PlacedAll base (trees ts) × (run m.limit (start base) x ≡ Live m.at (trees ts) [] nothing)
+  whole (between, none, bare) = at_end (subst (λ h. HereAt holds outer l m.left m.at h (run m.limit (start base) x)) between fed.2)
+    where
+      at_end : Stands holds outer l m.left m.at (run m.limit (start base) x) → (ts : List Tree) × holds (top ts) no_part × Wellformed m.limit (trees ts) x × PlacedAll base (trees ts) × (run m.limit (start base) x ≡ Live m.at (trees ts) [] nothing)
+      at_end h = go h.partial h.amid h.missing h.held h.levels.0 h.is
+        where
+          go : (f : Partial) (c : Part) → Missing m.left c → holds f c → levels f ≡ outer ++ l ∷ [] → run m.limit (start base) x ≡ Live m.at (ready f) (open_in f) (unfinished c)
+              → (ts : List Tree) × holds (top ts) no_part × Wellformed m.limit (trees ts) x × PlacedAll base (trees ts) × (run m.limit (start base) x ≡ Live m.at (trees ts) [] nothing)
+          go (top ts) no_part missing held e is = let (read, placed) = ends_read m.limit base x fed.0 m.at (trees ts) is in (ts, held, read, placed, is)
+          go (inside f o ts) no_part missing held e is = absurd (omega (arith, outer_count (inside f o ts) outer l e, ap length bare))
+          go f (part p k w n y) missing held e is = absurd (omega (arith, none, missing.1))
+
+  -- The input may not end: it is cut.
+  pub cut : (MayEnd outer m → ⊥) → Fault m.limit x (length x) Truncated
+  cut never =
+      let (rd, os, q, is) = live_here holds outer l m.left m.at m.head _ fed.2 in
+      inr (refl, (refl, not_whole, goes_on m.limit base x fed.0 m.at rd os q is))
+    where
+      not_whole : IsWellformed m.limit x → ⊥
+      not_whole (ts, w) = never (may_end_here holds outer l m _ _ _ fed.2 (reads m.limit base ts x w))
+
+-- A head that isn't allowed is the fault of the bytes.
+pub refused : (holds : Partial → Part → Type 0) (outer : List Level) (l : Level) (m : HeadReader) (base : ℕ) (x piece : List ℕ) (p : ℕ) (r : WireReason) → AreBytes (x ++ piece) → RefusesPiece holds outer l m base x piece p r
+    → (q : ℕ) × (p ≡ base + q) × Refused m.limit (x ++ piece) q r
+refused holds outer l m base x piece p r are h = fails_refused m.limit base (x ++ piece) are _ p r h.fails
+
+-- an input that is read as one piece
+module _ (holds : Partial → Part → Type 0) (outer : List Level) (l : Level) (m : HeadReader) (limit : ℕ) (x : List ℕ) (limited : m.limit ≡ limit) where
+  pub one_piece : (n : ℕ) → n ≡ length x → IsFed holds outer l m 0 ([] ++ take n x) → IsFed holds outer l m 0 x
+  one_piece n all h = subst (IsFed holds outer l m 0) (ap (λ k. take k x) all ∙ take_all (length x) x (omega arith)) h
+
+  pub whole_piece : IsFed holds outer l m 0 x → MayEnd outer m → (ts : List Tree) × holds (top ts) no_part × Wellformed limit (trees ts) x × PlacedAll 0 (trees ts)
+  whole_piece h may = let (ts, held, read, placed, is) = whole holds outer l m 0 x h may in (ts, held, subst (λ k. Wellformed k (trees ts) x) limited read, placed)
+
+  pub cut_piece : IsFed holds outer l m 0 x → (MayEnd outer m → ⊥) → Fault limit x (length x) Truncated
+  cut_piece h never = subst (λ k. Fault k x (length x) Truncated) limited (cut holds outer l m 0 x h never)
+
+  pub refused_piece : (p : ℕ) (r : WireReason) → AreBytes x → RefusesPiece holds outer l m 0 [] x p r → Fault limit x p r
+  refused_piece p r are h =
+      let (q, at, fault) = refused holds outer l m 0 [] x p r are h in
+      subst (λ k. Fault limit x k r) (omega (arith, at)) (subst (λ k. Fault k x q r) limited (inl fault))

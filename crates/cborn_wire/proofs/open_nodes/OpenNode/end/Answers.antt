@@ -1,0 +1,17 @@
+use Rattle.std.proofs.Common.{rules, ◌≡◌, sym, ap, ◌∙◌, length, Some}
+use Rattle.cborn_model.specs.Tree.{Pairs, entries}
+use Rattle.cborn_model.specs.Partial.{ended_size}
+use Rattle.cborn_wire.specs.devices.OpenNodes.{within, ended}
+use Rattle.cborn_wire.proofs.Building.{map_ends, chunks_end}
+use Rattle.cborn_wire.proofs.open_nodes.OpenNode.end.Goals as goal
+
+pub returns-in-Pairs : goal.returns-in-Pairs
+returns-in-Pairs c = λ f.
+    let h = c.in-Pairs.head in
+    let es = c.in-Pairs.pairs.items in
+    let many : c.ended_size-in-Pairs.result ≡ ended_size h.size h.count (length es) = search rules in
+    ap (λ s. Some (Pairs h.place s (entries es))) many ∙ map_ends h.place h.size h.count es c.in-Pairs._key f ∙ sym (ap (λ k. ended (within f k)) c.in-Pairs.is)
+
+pub returns-in-Chunks : goal.returns-in-Chunks
+returns-in-Chunks c = λ f.
+    ap Some (c.chunks_form-form.ensures c.in-Chunks.place) ∙ chunks_end c.in-Chunks.place c.in-Chunks.kind c.in-Chunks.chunks.items f ∙ sym (ap (λ k. ended (within f k)) c.in-Chunks.is)

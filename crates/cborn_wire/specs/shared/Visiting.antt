@@ -1,0 +1,248 @@
+-- A device of the proofs: what a machine keeps of the partial sequence that its visitor holds, and what both are as a state of the machine of these proofs.
+use Rattle.std.specs.Prelude.{◌≡◌, ℕ, ◌+◌, ◌-◌, ◌^◌, ◌<◌, ◌≤◌, List, [], ◌∷◌, ◌++◌, length, take, Bool, true, false, Option, Some, None, Result, Ok, Err, MatchResult, if◌then◌else◌, nat_le, nat_lt}
+use Rattle.cborn_model.specs.Bytes.{AreBytes}
+use Rattle.cborn_model.specs.declared.heads.Size.{Size}
+use Rattle.cborn_model.specs.declared.heads.Size.TheVariants.{Fixed, Endless}
+use Rattle.cborn_model.specs.declared.heads.Major.{Major}
+use Rattle.cborn_model.specs.declared.heads.Major.TheVariants.{ByteString, TextString, Other}
+use Rattle.cborn_model.specs.Heads.{Argument, Given, EndlessArgument}
+use Rattle.cborn_model.specs.Tree.{Tree, Trees, trees, entries}
+use Rattle.cborn_model.specs.Spelled.{Wellformed}
+use Rattle.cborn_model.specs.Placed.{PlacedAll}
+use Rattle.cborn_model.specs.Partial.{Opening, an_array, a_map, a_tag, in_chunks, Partial, top, inside, Part, no_part, part, paired, last_key, chunks_of, TakesItem, TakesString, Proper}
+use Rattle.cborn_wire.specs.declared.faults.WireFault.{WireFault}
+use Rattle.cborn_wire.specs.declared.faults.WireFault.TheVariants.{Refused, OutOfMemory}
+use Rattle.cborn_wire.specs.declared.faults.WireReason.{WireReason}
+use Rattle.cborn_wire.specs.Slots.{OfBytes, OfText, Slot, item, element_or_end, chunk, OpenContainer, opened_items, opened_pairs, opened_value, opened_tag, opened_chunks, AreOpen}
+use Rattle.cborn_wire.specs.HeadReading.{major_at}
+use Rattle.cborn_wire.specs.shared.Machine.{width_bytes, Unfinished, argument_of, content_of, nothing, gathering, State, Live, Failed, ready_in, start, run, AtMostOneMore}
+use Rattle.cborn_wire.specs.declared.levels.LevelKind.{LevelKind}
+use Rattle.cborn_wire.specs.declared.levels.LevelKind.TheVariants.{Sequence, Array, Map, MapValue, Tag, Chunks}
+use Rattle.cborn_wire.specs.declared.levels.Level.{Level}
+use Rattle.cborn_wire.specs.declared.head_readers.PartialHead.{PartialHead}
+use Rattle.cborn_wire.specs.declared.head_readers.HeadReader.{HeadReader}
+
+-- a partial sequence as a state of the machine of the proofs
+
+-- the argument of the head of an array or a map
+abbrev pub argument_from : Size → Option ℕ → Argument
+argument_from (Fixed w) (Some n) = Given w n
+argument_from s c = EndlessArgument
+
+-- a map's pairs, and the key whose value is missing
+abbrev pub map_container : ℕ → Argument → List (Tree × Tree) → Option Tree → OpenContainer
+map_container p a es None = opened_pairs p a (entries es)
+map_container p a es (Some k) = opened_value p a (entries es) k
+
+abbrev pub container : Opening → List Tree → OpenContainer
+container (an_array p s c) ts = opened_items p (argument_from s c) (trees ts)
+container (a_map p s c) ts = map_container p (argument_from s c) (paired ts) (last_key ts)
+container (a_tag p w n) ts = opened_tag p w n
+container (in_chunks p k) ts = opened_chunks p k (chunks_of ts)
+
+abbrev pub ready : Partial → Trees
+ready (top ts) = trees ts
+ready (inside f o ts) = ready f
+
+abbrev pub open_in : Partial → List OpenContainer
+open_in (top ts) = []
+open_in (inside f o ts) = container o ts ∷ open_in f
+
+abbrev pub unfinished : Part → Unfinished
+unfinished no_part = nothing
+unfinished (part p k w n x) = gathering p (content_of k w) n x
+
+abbrev pub state : ℕ → Partial → Part → State
+state at f c = Live at (ready f) (open_in f) (unfinished c)
+
+-- what bytes spell: a number of items or pairs that fits 64 bits, or an indefinite length
+abbrev pub BytesSay : Size → Option ℕ → Type 0
+BytesSay (Fixed w) (Some n) = n < 2 ^ 64
+BytesSay Endless None = Unit {0}
+BytesSay _ _ = ⊥
+
+abbrev pub IsFromBytes : Opening → Type 0
+IsFromBytes (an_array p s c) = BytesSay s c
+IsFromBytes (a_map p s c) = BytesSay s c
+IsFromBytes _ = Unit {0}
+
+abbrev pub AreFromBytes : Partial → Type 0
+AreFromBytes (top ts) = Unit {0}
+AreFromBytes (inside f o ts) = AreFromBytes f × IsFromBytes o
+
+-- the levels of what is open
+
+-- one more, as a number of 64 bits that stays at its highest
+abbrev pub next_number : ℕ → ℕ
+next_number n = if nat_lt n (2 ^ 64 - 1) then n + 1 else n
+
+-- n, or the highest number of 64 bits
+abbrev pub at_most_highest : ℕ → ℕ
+at_most_highest n = if nat_lt n (2 ^ 64 - 1) then n else 2 ^ 64 - 1
+
+abbrev pub map_kind : Option ℕ → ℕ → Option Tree → LevelKind
+map_kind c k None = Map c k
+map_kind c k (Some t) = MapValue c k
+
+abbrev pub kind_in : Opening → List Tree → LevelKind
+kind_in (an_array p s c) ts = Array c (at_most_highest (length ts))
+kind_in (a_map p s c) ts = map_kind c (at_most_highest (length (paired ts))) (last_key ts)
+kind_in (a_tag p w n) ts = Tag n
+kind_in (in_chunks p k) ts = Chunks k (at_most_highest (length ts))
+
+abbrev pub place_of : Opening → ℕ
+place_of (an_array p s c) = p
+place_of (a_map p s c) = p
+place_of (a_tag p w n) = p
+place_of (in_chunks p k) = p
+
+-- the outermost first
+abbrev pub levels : Partial → List Level
+levels (top ts) = record { place = 0; kind = Sequence (at_most_highest (length ts)) } ∷ []
+levels (inside f o ts) = levels f ++ record { place = place_of o; kind = kind_in o ts } ∷ []
+
+-- The levels are those of the partial sequence, which bytes spell: the innermost is l, the others are around it.
+abbrev pub Keeps : Partial → List Level → Level → Type 0
+Keeps f around l = (levels f ≡ around ++ l ∷ []) × Proper f × AreFromBytes f
+
+-- the levels of an input of which nothing was read
+abbrev pub IsInput : List Level → Level → Type 0
+IsInput around l = (around ≡ []) × (l ≡ record { place = 0; kind = Sequence 0 })
+
+abbrev pub is_all : Option ℕ → ℕ → Bool
+is_all (Some n) k = nat_le n k
+is_all None k = false
+
+-- what a level is with one more part; None if that was its last
+abbrev pub with_part : LevelKind → Option LevelKind
+with_part (Sequence k) = Some (Sequence (next_number k))
+with_part (Array c k) = if is_all c (next_number k) then None else Some (Array c (next_number k))
+with_part (Map c k) = Some (MapValue c k)
+with_part (MapValue c k) = if is_all c (next_number k) then None else Some (Map c (next_number k))
+with_part (Tag n) = None
+with_part (Chunks k n) = Some (Chunks k (next_number n))
+
+-- a break may end it
+abbrev pub may_end : LevelKind → Bool
+may_end (Array None k) = true
+may_end (Map None k) = true
+may_end (Chunks k n) = true
+may_end _ = false
+
+-- its slot, as the code knows it, which has one for all in which the same heads are allowed
+abbrev pub slot_of : LevelKind → Slot
+slot_of (Array None k) = element_or_end
+slot_of (Map None k) = element_or_end
+slot_of (Chunks k n) = chunk k
+slot_of _ = item
+
+-- what is read and what comes
+
+-- this many bytes of a string are to come
+abbrev pub Missing : ℕ → Part → Type 0
+Missing left no_part = left ≡ 0
+Missing left (part p k w n x) = (left + length x ≡ n) × (0 < left)
+
+-- a part of a string may be next
+abbrev pub PartFits : Partial → Part → Type 0
+PartFits f no_part = Unit {0}
+PartFits f (part p k w n x) = TakesString f k
+
+-- this head may be next
+abbrev pub Takes : Partial → Major → Argument → Type 0
+Takes f ByteString (Given w n) = TakesString f OfBytes
+Takes f TextString (Given w n) = TakesString f OfText
+Takes f Other EndlessArgument = Unit {0}
+Takes f _ _ = TakesItem f
+
+-- The levels are those of a partial sequence that the visitor holds, and both are the state s at the offset `at`.
+pub record Stands (holds : Partial → Part → Type 0) (around : List Level) (l : Level) (left at : ℕ) (s : State) : Type 0 where
+  pub partial : Partial
+  pub amid : Part
+  pub held : holds partial amid
+  pub levels : Keeps partial around l
+  pub missing : Missing left amid
+  pub fits : PartFits partial amid
+  pub is : s ≡ state at partial amid
+
+-- the state s is this failure, after these whole nodes; or memory was refused
+abbrev pub FailsAs : Trees → State → WireFault → Type 0
+FailsAs ts s (Refused p r) = s ≡ Failed ts p r
+FailsAs ts s OutOfMemory = Unit {0}
+
+-- A call gives the number of bytes of a string that are to come, or failed.
+abbrev pub Gives : (Partial → Part → Type 0) → List Level → Level → ℕ → Trees → State → Result ℕ WireFault → Type 0
+Gives holds around l at ts s r = MatchResult r (λ left. Stands holds around l left at s) (FailsAs ts s)
+
+-- the partial head in bytes of its argument so far
+abbrev pub seen_head : PartialHead → Unfinished
+seen_head h = gathering h.place (argument_of (major_at h.major) h.width) (width_bytes h.width) (take h.len h.bytes)
+
+abbrev pub IsShort : PartialHead → Type 0
+IsShort h = length (take h.len h.bytes) < width_bytes h.width
+
+-- What is read is at the state s at the offset `at`, and the visitor holds what that says; after a partial head it holds what was before.
+abbrev pub HereAt : (Partial → Part → Type 0) → List Level → Level → ℕ → ℕ → Option PartialHead → State → Type 0
+HereAt holds around l left at None s = Stands holds around l left at s
+HereAt holds around l left at (Some h) s = IsShort h × (f : Partial) × holds f no_part × Keeps f around l × Takes f (major_at h.major) (Given h.width 0) × (s ≡ Live at (ready f) (open_in f) (seen_head h))
+
+abbrev pub Here : (Partial → Part → Type 0) → List Level → Level → HeadReader → State → Type 0
+Here holds around l m s = HereAt holds around l m.left m.at m.head s
+
+-- what is open is within the limit
+abbrev pub OpenIn : ℕ → State → Type 0
+OpenIn limit (Live at ts os q) = AreOpen limit os
+OpenIn limit (Failed ts p r) = ⊥
+
+-- This many bytes of the piece are taken, and at most one more item is whole; or the call fails as the piece does.
+abbrev pub TakesPiece : ℕ → State → List ℕ → (Partial → Part → Type 0) → List Level → Level → ℕ → ℕ → Option PartialHead → Result ℕ WireFault → Type 0
+TakesPiece limit s piece holds around l left at h result =
+    MatchResult result (λ n. HereAt holds around l left (at + n) h (run limit s (take n piece)) × AtMostOneMore (ready_in s) (run limit s (take n piece))) (FailsAs (ready_in s) (run limit s piece))
+
+-- nothing was read, and the first byte is at the offset `at`
+abbrev pub IsFresh : ℕ → ℕ → HeadReader → Type 0
+IsFresh limit at m = (m.limit ≡ limit) × (m.at ≡ at) × (m.left ≡ 0) × (m.head ≡ None) × (m.limit ≤ 1024)
+
+-- nothing is open, and no head or string is partial
+abbrev pub MayEnd : List Level → HeadReader → Type 0
+MayEnd around m = (m.head ≡ None) × (m.left ≡ 0) × (around ≡ [])
+
+-- A reader that began at the offset `base` was handed the bytes x, and its visitor holds what they hold.
+abbrev pub IsFed : (Partial → Part → Type 0) → List Level → Level → HeadReader → ℕ → List ℕ → Type 0
+IsFed holds around l m base x = AreBytes x × (m.limit ≤ 1024) × Here holds around l m (run m.limit (start base) x)
+
+-- The bytes x, the first of them at the offset `base`, are whole items, and the visitor holds the nodes that they spell.
+pub record Whole (holds : Partial → Part → Type 0) (limit base : ℕ) (x : List ℕ) (at : ℕ) : Type 0 where
+  pub nodes : List Tree
+  pub held : holds (top nodes) no_part
+  pub read : Wellformed limit (trees nodes) x
+  pub placed : PlacedAll base (trees nodes)
+  pub is : run limit (start base) x ≡ Live at (trees nodes) [] nothing
+
+-- The piece is refused after the bytes x: the first n bytes of the piece were taken, and the items that are whole then are whole before the fault.
+pub record RefusesPiece (holds : Partial → Part → Type 0) (around : List Level) (l : Level) (m : HeadReader) (base : ℕ) (x piece : List ℕ) (p : ℕ) (r : WireReason) : Type 0 where
+  pub taken : ℕ
+  pub within : taken ≤ length piece
+  pub fed : IsFed holds around l m base (x ++ take taken piece)
+  pub fails : run m.limit (start base) (x ++ piece) ≡ Failed (ready_in (run m.limit (start base) (x ++ take taken piece))) p r
+
+-- After the bytes x this many bytes of the piece are read, or it is refused.
+abbrev pub Reads : (Partial → Part → Type 0) → List Level → Level → HeadReader → ℕ → List ℕ → List ℕ → Result ℕ WireFault → Type 0
+Reads holds around l m base x piece (Ok n) = IsFed holds around l m base (x ++ take n piece)
+Reads holds around l m base x piece (Err (Refused p r)) = RefusesPiece holds around l m base x piece p r
+Reads holds around l m base x piece (Err OutOfMemory) = Unit {0}
+
+-- After the bytes x at most one more item is whole in what is read of the piece, and none before the fault of one that is refused.
+abbrev pub ReadsItem : ℕ → ℕ → List ℕ → List ℕ → Result ℕ WireFault → Type 0
+ReadsItem limit base x piece (Ok n) = AtMostOneMore (ready_in (run limit (start base) x)) (run limit (start base) (x ++ take n piece))
+ReadsItem limit base x piece (Err (Refused p r)) = run limit (start base) (x ++ piece) ≡ Failed (ready_in (run limit (start base) x)) p r
+ReadsItem limit base x piece (Err OutOfMemory) = Unit {0}
+
+-- the offset of the head that comes next, or of the one that is partial
+
+abbrev pub head_at : ℕ → Option PartialHead → ℕ
+head_at at None = at
+head_at at (Some h) = h.place
+
+abbrev pub next_head : HeadReader → ℕ
+next_head m = head_at m.at m.head

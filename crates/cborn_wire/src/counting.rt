@@ -1,0 +1,305 @@
+//! What a head makes of the levels, and of what a visitor holds.
+
+ghost use Rattle.std.specs.Prelude.{◌≡◌, ◌∷◌, ◌++◌, ◌+◌, ◌<◌, ◌≤◌, ℕ, List, [], length, OnErr, IfOk, Err, ◌⊎◌};
+ghost use Rattle.cborn_model.specs.declared.heads.Width.{Width as Wide};
+ghost use Rattle.cborn_model.specs.declared.heads.Major.TheVariants as majors;
+ghost use Rattle.cborn_model.specs.declared.visitors.StringKind.{StringKind as Kind};
+ghost use Rattle.cborn_model.specs.Heads.{WidthFits};
+ghost use Rattle.cborn_model.specs.Partial.{Partial, no_part, part, put, TakesItem, TakesString};
+ghost use Rattle.cborn_model.specs.Tree.{Tree, no_item, no_entry};
+ghost use Rattle.cborn_wire.specs.declared.faults.WireFault.TheVariants.{Refused, OutOfMemory};
+ghost use Rattle.cborn_wire.specs.declared.faults.WireReason.{WireReason as Reason};
+ghost use Rattle.cborn_wire.specs.Slots.{opened_chunks, opened_tag, major_of};
+ghost use Rattle.cborn_wire.specs.HeadReading.{major_at, seen_argument, ArgumentFits};
+ghost use Rattle.cborn_wire.specs.shared.Machine.{nothing, Live, finished, ended, string_done, content_at, items_at, pairs_at, after_head};
+ghost use Rattle.cborn_wire.specs.shared.Visiting.{ready, open_in, Keeps, Takes, Stands, Gives};
+
+use crate::levels::{Level, LevelKind, Levels, next_number};
+use crate::{Argument, Head, WireFault, WireReason};
+use cborn_model::{Major, StringKind, Visitor, Width};
+use std::alloc::AllocError;
+
+/// Counts a whole item, which ends at the offset `end` and which the visitor has taken, in the
+/// innermost level. If that was its last part, the level is closed and counted in the next one, and
+/// so on. Gives 0.
+pub(crate) fn finish<L: Levels, V: Visitor>(
+    levels: &mut L,
+    visitor: &mut V,
+    end: u64,
+) -> Result<u64, AllocError>
+    ensures goes { (f : Partial) (t : Tree) → TakesItem f → V.holds visitor.old (put f t) no_part → Keeps f (L.outer levels.old) (L.inner levels.old) → IfOk result (λ left. Stands (V.holds visitor.new) (L.outer levels.new) (L.inner levels.new) left end (finished end (ready f) (open_in f) t)) }
+    ensures memory { OnErr result V.takes_memory }
+{
+    loop {
+        if let Some(kind) = levels.innermost().kind.with_part() {
+            levels.set(kind);
+            return Ok(0);
+        }
+        if !levels.leave() {
+            return Ok(0);
+        }
+        visitor.close()?;
+    }
+}
+
+/// Takes a break, which ends at the offset `end`. Gives 0.
+fn end<L: Levels, V: Visitor>(levels: &mut L, visitor: &mut V, end: u64) -> Result<u64, WireFault>
+    ensures goes { (f : Partial) → V.holds visitor.old f no_part → Keeps f (L.outer levels.old) (L.inner levels.old) → Gives (V.holds visitor.new) (L.outer levels.new) (L.inner levels.new) end (ready f) (ended end (ready f) (open_in f)) result }
+    ensures kept { (p : ℕ) (r : Reason) → result ≡ Err (Refused p r) → (visitor.new ≡ visitor.old) × (levels.new ≡ levels.old) }
+    ensures memory { result ≡ Err OutOfMemory → V.takes_memory }
+{
+    if !levels.innermost().kind.may_end() {
+        return Err(WireFault::Refused {
+            place: end,
+            reason: WireReason::UnexpectedBreak,
+        });
+    }
+    if !levels.leave() {
+        return Ok(0);
+    }
+    visitor.close()?;
+    Ok(finish(levels, visitor, end)?)
+}
+
+/// Ends a string, at the offset `end`, of which the visitor has all bytes. Gives 0.
+#[inline(always)]
+pub(crate) fn close_string<L: Levels, V: Visitor>(
+    levels: &mut L,
+    visitor: &mut V,
+    end: u64,
+) -> Result<u64, AllocError>
+    ensures goes { (f : Partial) (p : ℕ) (k : Kind) (w : Wide) (n : ℕ) (x : List ℕ) → length x ≡ n → TakesString f k → V.holds visitor.old f (part p k w n x) → Keeps f (L.outer levels.old) (L.inner levels.old) → IfOk result (λ left. Stands (V.holds visitor.new) (L.outer levels.new) (L.inner levels.new) left end (string_done end p (ready f) (open_in f) k w x)) }
+    ensures memory { OnErr result V.takes_memory }
+{
+    visitor.close_string()?;
+    if let LevelKind::Chunks(kind, parts) = levels.innermost().kind {
+        levels.set(LevelKind::Chunks(kind, next_number(parts)));
+        return Ok(0);
+    }
+    finish(levels, visitor, end)
+}
+
+/// The head of a definite string, its offset in bytes, and the length of the string.
+#[derive(Clone, Copy)]
+struct StringHead {
+    place: u64,
+    kind: StringKind,
+    width: Width,
+    len: u64,
+}
+
+/// Takes the head of a string, which ends at the offset `end`. Gives the string's length.
+#[inline(always)]
+fn open_string<L: Levels, V: Visitor>(
+    levels: &mut L,
+    visitor: &mut V,
+    end: u64,
+    head: StringHead,
+) -> Result<u64, AllocError>
+    requires { WidthFits head.width head.len }
+    ensures goes { (f : Partial) → TakesString f head.kind → V.holds visitor.old f no_part → Keeps f (L.outer levels.old) (L.inner levels.old) → IfOk result (λ left. Stands (V.holds visitor.new) (L.outer levels.new) (L.inner levels.new) left end (content_at end head.place (ready f) (open_in f) head.kind head.width head.len [])) }
+    ensures memory { OnErr result V.takes_memory }
+{
+    visitor.open_string(head.place, head.kind, head.width, head.len)?;
+    if head.len == 0 {
+        return close_string(levels, visitor, end);
+    }
+    Ok(head.len)
+}
+
+/// Takes the head at `place` of a string of indefinite length, which ends at the offset `end`.
+/// Gives 0.
+fn open_chunks<L: Levels, V: Visitor>(
+    levels: &mut L,
+    visitor: &mut V,
+    end: u64,
+    place: u64,
+    kind: StringKind,
+) -> Result<u64, AllocError>
+    requires { length (L.outer levels.old) < 1026 }
+    ensures goes { (f : Partial) → TakesItem f → V.holds visitor.old f no_part → Keeps f (L.outer levels.old) (L.inner levels.old) → IfOk result (λ left. Stands (V.holds visitor.new) (L.outer levels.new) (L.inner levels.new) left end (Live end (ready f) (opened_chunks place kind [] ∷ open_in f) nothing)) }
+    ensures memory { OnErr result (V.takes_memory ⊎ L.takes_memory) }
+{
+    visitor.open_chunks(place, kind)?;
+    let kind = LevelKind::Chunks(kind, 0);
+    levels.open(Level { place, kind })?;
+    Ok(0)
+}
+
+/// Takes the head at `place` of an array, which ends at the offset `end`. Gives 0.
+fn open_array<L: Levels, V: Visitor>(
+    levels: &mut L,
+    visitor: &mut V,
+    end: u64,
+    place: u64,
+    argument: Argument,
+) -> Result<u64, AllocError>
+    requires fits { ArgumentFits (seen_argument argument) }
+    requires room { length (L.outer levels.old) < 1026 }
+    ensures goes { (f : Partial) → TakesItem f → V.holds visitor.old f no_part → Keeps f (L.outer levels.old) (L.inner levels.old) → IfOk result (λ left. Stands (V.holds visitor.new) (L.outer levels.new) (L.inner levels.new) left end (items_at end (ready f) (open_in f) place (seen_argument argument) no_item)) }
+    ensures memory { OnErr result (V.takes_memory ⊎ L.takes_memory) }
+{
+    let count = argument.count();
+    visitor.open_array(place, argument.size(), count)?;
+    if let Some(0) = count {
+        visitor.close()?;
+        return finish(levels, visitor, end);
+    }
+    let kind = LevelKind::Array(count, 0);
+    levels.open(Level { place, kind })?;
+    Ok(0)
+}
+
+/// Takes the head at `place` of a map, which ends at the offset `end`. Gives 0.
+fn open_map<L: Levels, V: Visitor>(
+    levels: &mut L,
+    visitor: &mut V,
+    end: u64,
+    place: u64,
+    argument: Argument,
+) -> Result<u64, AllocError>
+    requires fits { ArgumentFits (seen_argument argument) }
+    requires room { length (L.outer levels.old) < 1026 }
+    ensures goes { (f : Partial) → TakesItem f → V.holds visitor.old f no_part → Keeps f (L.outer levels.old) (L.inner levels.old) → IfOk result (λ left. Stands (V.holds visitor.new) (L.outer levels.new) (L.inner levels.new) left end (pairs_at end (ready f) (open_in f) place (seen_argument argument) no_entry)) }
+    ensures memory { OnErr result (V.takes_memory ⊎ L.takes_memory) }
+{
+    let count = argument.count();
+    visitor.open_map(place, argument.size(), count)?;
+    if let Some(0) = count {
+        visitor.close()?;
+        return finish(levels, visitor, end);
+    }
+    let kind = LevelKind::Map(count, 0);
+    levels.open(Level { place, kind })?;
+    Ok(0)
+}
+
+/// Takes the head at `place` of the tag `n`, which ends at the offset `end`. Gives 0.
+fn open_tag<L: Levels, V: Visitor>(
+    levels: &mut L,
+    visitor: &mut V,
+    place: u64,
+    width: Width,
+    n: u64,
+) -> Result<u64, AllocError>
+    requires fits { WidthFits width n }
+    requires room { length (L.outer levels.old) < 1026 }
+    ensures goes { (end : ℕ) (f : Partial) → TakesItem f → V.holds visitor.old f no_part → Keeps f (L.outer levels.old) (L.inner levels.old) → IfOk result (λ left. Stands (V.holds visitor.new) (L.outer levels.new) (L.inner levels.new) left end (Live end (ready f) (opened_tag place width n ∷ open_in f) nothing)) }
+    ensures memory { OnErr result (V.takes_memory ⊎ L.takes_memory) }
+{
+    visitor.open_tag(place, width, n)?;
+    let kind = LevelKind::Tag(n);
+    levels.open(Level { place, kind })?;
+    Ok(0)
+}
+
+/// Takes a head of major type 7 at `place`, which ends at the offset `end`: a simple value or the
+/// break. Gives 0.
+fn take_simple<L: Levels, V: Visitor>(
+    levels: &mut L,
+    visitor: &mut V,
+    end: u64,
+    place: u64,
+    argument: Argument,
+) -> Result<u64, WireFault>
+    requires { ArgumentFits (seen_argument argument) }
+    ensures goes { (f : Partial) → Takes f majors.Other (seen_argument argument) → V.holds visitor.old f no_part → Keeps f (L.outer levels.old) (L.inner levels.old) → Gives (V.holds visitor.new) (L.outer levels.new) (L.inner levels.new) end (ready f) (after_head end place (ready f) (open_in f) majors.Other (seen_argument argument)) result }
+    ensures kept { (p : ℕ) (r : Reason) → result ≡ Err (Refused p r) → (visitor.new ≡ visitor.old) × (levels.new ≡ levels.old) }
+    ensures memory { result ≡ Err OutOfMemory → V.takes_memory }
+{
+    match argument {
+        Argument::Given(Width::Direct, n) => {
+            visitor.simple(place, n as u8)?;
+            Ok(finish(levels, visitor, end)?)
+        }
+        Argument::Given(Width::One, n) if n >= 32 => {
+            visitor.simple(place, n as u8)?;
+            Ok(finish(levels, visitor, end)?)
+        }
+        Argument::Given(Width::One, _) => Err(WireFault::Refused {
+            place,
+            reason: WireReason::BadSimple,
+        }),
+        Argument::Given(_, _) => Err(WireFault::Refused {
+            place,
+            reason: WireReason::FloatLeftOut,
+        }),
+        Argument::Endless => self::end(levels, visitor, end),
+    }
+}
+
+/// Takes the head of a string at `place`, which ends at the offset `end`. Gives the number of bytes
+/// of the string that are to come.
+#[inline(always)]
+fn take_string<L: Levels, V: Visitor>(
+    levels: &mut L,
+    visitor: &mut V,
+    end: u64,
+    place: u64,
+    string: (StringKind, Argument),
+) -> Result<u64, AllocError>
+    requires fits { ArgumentFits (seen_argument string.1) }
+    requires room { length (L.outer levels.old) < 1026 }
+    ensures goes { (f : Partial) → Takes f (major_of string.0) (seen_argument string.1) → V.holds visitor.old f no_part → Keeps f (L.outer levels.old) (L.inner levels.old) → IfOk result (λ left. Stands (V.holds visitor.new) (L.outer levels.new) (L.inner levels.new) left end (after_head end place (ready f) (open_in f) (major_of string.0) (seen_argument string.1))) }
+    ensures memory { OnErr result (V.takes_memory ⊎ L.takes_memory) }
+{
+    let (kind, argument) = string;
+    match argument {
+        Argument::Given(width, len) => {
+            let head = StringHead {
+                place,
+                kind,
+                width,
+                len,
+            };
+            open_string(levels, visitor, end, head)
+        }
+        Argument::Endless => open_chunks(levels, visitor, end, place, kind),
+    }
+}
+
+/// Takes a whole head, from the offset `place` to the offset `end`. Gives the number of bytes of a
+/// string that are to come.
+#[inline(always)]
+pub(crate) fn take_head<L: Levels, V: Visitor>(
+    levels: &mut L,
+    visitor: &mut V,
+    end: u64,
+    place: u64,
+    head: Head,
+) -> Result<u64, WireFault>
+    requires fits { ArgumentFits (seen_argument head.argument) }
+    requires room { length (L.outer levels.old) < 1026 }
+    ensures goes { (f : Partial) → Takes f (major_at head.major) (seen_argument head.argument) → V.holds visitor.old f no_part → Keeps f (L.outer levels.old) (L.inner levels.old) → Gives (V.holds visitor.new) (L.outer levels.new) (L.inner levels.new) end (ready f) (after_head end place (ready f) (open_in f) (major_at head.major) (seen_argument head.argument)) result }
+    ensures kept { (p : ℕ) (r : Reason) → result ≡ Err (Refused p r) → (visitor.new ≡ visitor.old) × (levels.new ≡ levels.old) }
+    ensures memory { result ≡ Err OutOfMemory → V.takes_memory ⊎ L.takes_memory }
+{
+    match (head.major_type(), head.argument) {
+        (Major::Unsigned, Argument::Given(width, n)) => {
+            visitor.integer(place, false, width, n)?;
+            Ok(finish(levels, visitor, end)?)
+        }
+        (Major::Negative, Argument::Given(width, n)) => {
+            visitor.integer(place, true, width, n)?;
+            Ok(finish(levels, visitor, end)?)
+        }
+        (Major::ByteString, argument) => {
+            let string = (StringKind::OfBytes, argument);
+            Ok(take_string(levels, visitor, end, place, string)?)
+        }
+        (Major::TextString, argument) => {
+            let string = (StringKind::OfText, argument);
+            Ok(take_string(levels, visitor, end, place, string)?)
+        }
+        (Major::Array, argument) => Ok(open_array(levels, visitor, end, place, argument)?),
+        (Major::Map, argument) => Ok(open_map(levels, visitor, end, place, argument)?),
+        (Major::Tag, Argument::Given(width, n)) => {
+            Ok(open_tag(levels, visitor, place, width, n)?)
+        }
+        (Major::Other, argument) => take_simple(levels, visitor, end, place, argument),
+        (_, Argument::Endless) => Err(WireFault::Refused {
+            place,
+            reason: WireReason::EndlessNotAllowed,
+        }),
+    }
+}
