@@ -116,7 +116,7 @@ fn open_chunks<L: Levels, V: Visitor>(
     place: u64,
     kind: StringKind,
 ) -> Result<u64, AllocError>
-    requires { length (L.outer levels.old) < 1026 }
+    requires { length (L.outer levels.old) < L.most }
     ensures goes { (f : Partial) → TakesItem f → V.holds visitor.old f no_part → Keeps f (L.outer levels.old) (L.inner levels.old) → IfOk result (λ left. Stands (V.holds visitor.new) (L.outer levels.new) (L.inner levels.new) left end (Live end (ready f) (opened_chunks place kind [] ∷ open_in f) nothing)) }
     ensures memory { OnErr result (V.takes_memory ⊎ L.takes_memory) }
 {
@@ -135,7 +135,7 @@ fn open_array<L: Levels, V: Visitor>(
     argument: Argument,
 ) -> Result<u64, AllocError>
     requires fits { ArgumentFits (seen_argument argument) }
-    requires room { length (L.outer levels.old) < 1026 }
+    requires room { length (L.outer levels.old) < L.most }
     ensures goes { (f : Partial) → TakesItem f → V.holds visitor.old f no_part → Keeps f (L.outer levels.old) (L.inner levels.old) → IfOk result (λ left. Stands (V.holds visitor.new) (L.outer levels.new) (L.inner levels.new) left end (items_at end (ready f) (open_in f) place (seen_argument argument) no_item)) }
     ensures memory { OnErr result (V.takes_memory ⊎ L.takes_memory) }
 {
@@ -159,7 +159,7 @@ fn open_map<L: Levels, V: Visitor>(
     argument: Argument,
 ) -> Result<u64, AllocError>
     requires fits { ArgumentFits (seen_argument argument) }
-    requires room { length (L.outer levels.old) < 1026 }
+    requires room { length (L.outer levels.old) < L.most }
     ensures goes { (f : Partial) → TakesItem f → V.holds visitor.old f no_part → Keeps f (L.outer levels.old) (L.inner levels.old) → IfOk result (λ left. Stands (V.holds visitor.new) (L.outer levels.new) (L.inner levels.new) left end (pairs_at end (ready f) (open_in f) place (seen_argument argument) no_entry)) }
     ensures memory { OnErr result (V.takes_memory ⊎ L.takes_memory) }
 {
@@ -183,7 +183,7 @@ fn open_tag<L: Levels, V: Visitor>(
     n: u64,
 ) -> Result<u64, AllocError>
     requires fits { WidthFits width n }
-    requires room { length (L.outer levels.old) < 1026 }
+    requires room { length (L.outer levels.old) < L.most }
     ensures goes { (end : ℕ) (f : Partial) → TakesItem f → V.holds visitor.old f no_part → Keeps f (L.outer levels.old) (L.inner levels.old) → IfOk result (λ left. Stands (V.holds visitor.new) (L.outer levels.new) (L.inner levels.new) left end (Live end (ready f) (opened_tag place width n ∷ open_in f) nothing)) }
     ensures memory { OnErr result (V.takes_memory ⊎ L.takes_memory) }
 {
@@ -239,7 +239,7 @@ fn take_string<L: Levels, V: Visitor>(
     string: (StringKind, Argument),
 ) -> Result<u64, AllocError>
     requires fits { ArgumentFits (seen_argument string.1) }
-    requires room { length (L.outer levels.old) < 1026 }
+    requires room { length (L.outer levels.old) < L.most }
     ensures goes { (f : Partial) → Takes f (major_of string.0) (seen_argument string.1) → V.holds visitor.old f no_part → Keeps f (L.outer levels.old) (L.inner levels.old) → IfOk result (λ left. Stands (V.holds visitor.new) (L.outer levels.new) (L.inner levels.new) left end (after_head end place (ready f) (open_in f) (major_of string.0) (seen_argument string.1))) }
     ensures memory { OnErr result (V.takes_memory ⊎ L.takes_memory) }
 {
@@ -269,7 +269,7 @@ pub(crate) fn take_head<L: Levels, V: Visitor>(
     head: Head,
 ) -> Result<u64, WireFault>
     requires fits { ArgumentFits (seen_argument head.argument) }
-    requires room { length (L.outer levels.old) < 1026 }
+    requires room { length (L.outer levels.old) < L.most }
     ensures goes { (f : Partial) → Takes f (major_at head.major) (seen_argument head.argument) → V.holds visitor.old f no_part → Keeps f (L.outer levels.old) (L.inner levels.old) → Gives (V.holds visitor.new) (L.outer levels.new) (L.inner levels.new) end (ready f) (after_head end place (ready f) (open_in f) (major_at head.major) (seen_argument head.argument)) result }
     ensures kept { (p : ℕ) (r : Reason) → result ≡ Err (Refused p r) → (visitor.new ≡ visitor.old) × (levels.new ≡ levels.old) }
     ensures memory { result ≡ Err OutOfMemory → V.takes_memory ⊎ L.takes_memory }

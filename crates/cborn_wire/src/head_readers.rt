@@ -127,6 +127,7 @@ impl HeadReader {
     ) -> Result<usize, WireFault>
         requires fed { (base : ℕ) × (x : List ℕ) × IsFed (V.holds visitor.old) (L.outer levels.old) (L.inner levels.old) self.old base x }
         requires room { self.old.at + length piece.now < 2 ^ 64 }
+        requires levels { self.old.limit + 1 < L.most }
         ensures fed { (base : ℕ) (x : List ℕ) → IsFed (V.holds visitor.old) (L.outer levels.old) (L.inner levels.old) self.old base x → Reads (V.holds visitor.new) (L.outer levels.new) (L.inner levels.new) self.new base x piece.now result }
         ensures item { until ≡ Until.Item → (base : ℕ) (x : List ℕ) → IsFed (V.holds visitor.old) (L.outer levels.old) (L.inner levels.old) self.old base x → ReadsItem self.old.limit base x piece.now result }
         ensures end { until ≡ Until.End → IfOk result (λ n. n ≡ length piece.now) }
@@ -159,7 +160,7 @@ impl HeadReader {
         piece: &[u8],
     ) -> Result<usize, WireFault>
         requires here { (s : State) × Here (V.holds visitor.old) (L.outer levels.old) (L.inner levels.old) self.old s × OpenIn self.old.limit s }
-        requires small { self.old.limit ≤ 1024 }
+        requires levels { self.old.limit + 1 < L.most }
         requires some { 0 < length piece.now }
         requires room { self.old.at + length piece.now < 2 ^ 64 }
         ensures goes { (s : State) → Here (V.holds visitor.old) (L.outer levels.old) (L.inner levels.old) self.old s → OpenIn self.old.limit s → TakesPiece self.old.limit s piece.now (V.holds visitor.new) (L.outer levels.new) (L.inner levels.new) self.new.left self.old.at self.new.head result }
@@ -191,7 +192,7 @@ impl HeadReader {
         requires room { self.old.at + length piece.now < 2 ^ 64 }
         requires between { self.old.head ≡ None }
         requires none { self.old.left ≡ 0 }
-        requires open { length (L.outer levels.old) < 1026 }
+        requires open { length (L.outer levels.old) < L.most }
         ensures goes { (f : Partial) → V.holds visitor.old f no_part → Keeps f (L.outer levels.old) (L.inner levels.old) → AreOpen self.old.limit (open_in f) → TakesPiece self.old.limit (state self.old.at f no_part) piece.now (V.holds visitor.new) (L.outer levels.new) (L.inner levels.new) self.new.left self.old.at self.new.head result }
         ensures some { IfOk result (λ n. 0 < n) }
         ensures within { IfOk result (λ n. n ≤ length piece.now) }
@@ -236,7 +237,7 @@ impl HeadReader {
         requires short { IsShort head }
         requires some { 0 < length piece.now }
         requires room { self.old.at + length piece.now < 2 ^ 64 }
-        requires open { length (L.outer levels.old) < 1026 }
+        requires open { length (L.outer levels.old) < L.most }
         ensures goes { (f : Partial) → V.holds visitor.old f no_part → Keeps f (L.outer levels.old) (L.inner levels.old) → Takes f (major_at head.major) (Given head.width 0) → TakesPiece self.old.limit (Live self.old.at (ready f) (open_in f) (seen_head head)) piece.now (V.holds visitor.new) (L.outer levels.new) (L.inner levels.new) self.new.left self.old.at self.new.head result }
         ensures some { IfOk result (λ n. 0 < n) }
         ensures within { IfOk result (λ n. n ≤ length piece.now) }

@@ -130,6 +130,9 @@ pub trait Levels {
     /// Whether memory may be refused to it.
     ghost takes_memory: { Type 0 };
 
+    /// How many there is room for around the innermost.
+    ghost most: { ℕ };
+
     /// The innermost.
     fn innermost(&self) -> Level
         ensures { result ≡ inner self.now };
@@ -148,7 +151,7 @@ pub trait Levels {
     /// # Errors
     /// `AllocError` where memory for it is refused.
     fn open(&mut self, level: Level) -> Result<(), AllocError>
-        requires { length (outer self.old) < 1026 }
+        requires { length (outer self.old) < most }
         ensures inner { OnOk result (inner self.new ≡ level) }
         ensures outer { OnOk result (outer self.new ≡ outer self.old ++ inner self.old ∷ []) }
         ensures memory { OnErr result takes_memory };
@@ -203,6 +206,8 @@ impl Levels for GrownLevels {
 
     ghost takes_memory = { Unit {0} };
 
+    ghost most = { 1026 };
+
     #[inline(always)]
     fn innermost(&self) -> Level {
         self.inner
@@ -233,16 +238,16 @@ impl Levels for GrownLevels {
     }
 }
 
-/// Levels in a table, which has room for as many as the highest nesting limit allows.
+/// Levels in a table of fixed size.
 #[derive(Drop)]
-pub(crate) struct LevelTable {
+pub(crate) struct LevelTable<const MOST: usize> {
     inner: Level,
-    outer: ArrayVec<Level, 1026>,
+    outer: ArrayVec<Level, MOST>,
 }
 
-impl LevelTable {
+impl<const MOST: usize> LevelTable<MOST> {
     /// The input, of which nothing was read.
-    pub(crate) fn new() -> LevelTable
+    pub(crate) fn new() -> Self
         ensures { IsInput result.outer.items result.inner }
     {
         LevelTable {
@@ -252,12 +257,14 @@ impl LevelTable {
     }
 }
 
-impl Levels for LevelTable {
+impl<const MOST: usize> Levels for LevelTable<MOST> {
     ghost outer = { λ l. l.outer.items };
 
     ghost inner = { λ l. l.inner };
 
     ghost takes_memory = { ⊥ };
+
+    ghost most = { MOST };
 
     #[inline(always)]
     fn innermost(&self) -> Level {

@@ -1,6 +1,6 @@
 //! Whether bytes are well-formed, and if not, where and why. No item is kept.
 
-ghost use Rattle.std.specs.Prelude.{MatchOption};
+ghost use Rattle.std.specs.Prelude.{◌+◌, ◌<◌, ◌≤◌, MatchOption};
 ghost use Rattle.cborn_model.specs.Tree.{Trees};
 ghost use Rattle.cborn_model.specs.Spelled.{Wellformed};
 ghost use Rattle.cborn_model.specs.Placed.{PlacedAll};
@@ -85,12 +85,24 @@ impl Visitor for Nothing {
 
 /// The one fault of `bytes` if they are no sequence of items (RFC 8742) within the nesting limit:
 /// its offset in bytes from their start, and the reason (RFC 8949 section 3). `None` if they are
-/// one. Takes no memory.
-#[inline(never)]
+/// one. Takes no memory, and of the stack more under a limit above the usual one.
 pub fn scan(limit: Limit, bytes: &[u8]) -> Option<(u64, WireReason)>
     ensures { MatchOption result ((ts : Trees) × Wellformed limit ts bytes.now × PlacedAll 0 ts) (λ f. Fault limit bytes.now f.0 f.1) }
 {
-    let mut levels = LevelTable::new();
+    if limit.get() <= 128 {
+        return scan_with::<130>(limit, bytes);
+    }
+    scan_with::<1026>(limit, bytes)
+}
+
+/// What [`scan`] gives, with room for `MOST` levels around the innermost.
+#[inline(never)]
+fn scan_with<const MOST: usize>(limit: Limit, bytes: &[u8]) -> Option<(u64, WireReason)>
+    requires levels { limit + 1 < MOST }
+    requires most { MOST ≤ 1026 }
+    ensures { MatchOption result ((ts : Trees) × Wellformed limit ts bytes.now × PlacedAll 0 ts) (λ f. Fault limit bytes.now f.0 f.1) }
+{
+    let mut levels = LevelTable::<MOST>::new();
     let mut reader = HeadReader::new(limit, 0);
     match reader.read(&mut levels, &mut Nothing, bytes, Until::End) {
         Ok(_) if reader.is_whole(&levels) => None,

@@ -145,8 +145,8 @@ open_most limit [] h = omega arith
 open_most limit (o ∷ os) h = omega (arith, depth_is_length limit os h.2 h.1, depth_most limit os h.2)
 
 -- there is room for one more level
-pub room : (limit : ℕ) (f : Partial) (ls : List Level) (l : Level) → Keeps f ls l → limit ≤ 1024 → AreOpen limit (open_in f) → length ls < 1026
-room limit f ls l are small h = omega (arith, outer_count f ls l are.0, open_most limit (open_in f) h, small)
+pub room : (limit most : ℕ) (f : Partial) (ls : List Level) (l : Level) → Keeps f ls l → limit + 1 < most → AreOpen limit (open_in f) → length ls < most
+room limit most f ls l are small h = omega (arith, outer_count f ls l are.0, open_most limit (open_in f) h, small)
 
 -- what is allowed may be next
 
@@ -284,7 +284,6 @@ ready_whole (top ts) = refl
 ready_whole (inside f o ts) = ready_whole f
 
 -- there is room for one more level where a reader is
-pub here_room : (limit : ℕ) (holds : Partial → Part → Type 0) (outer : List Level) (l : Level) (left at : ℕ) (h : Option PartialHead) (s : State) → limit ≤ 1024 → HereAt holds outer l left at h s → OpenIn limit s → length outer < 1026
-here_room limit holds outer l left at None s small here within =
-    room limit here.partial outer l here.levels small (subst (OpenIn limit) here.is within)
-here_room limit holds outer l left at (Some h) s small (short, f, held, are, takes, is) within = room limit f outer l are small (subst (OpenIn limit) is within)
+pub here_room : (limit most : ℕ) (holds : Partial → Part → Type 0) (outer : List Level) (l : Level) (left at : ℕ) (h : Option PartialHead) (s : State) → limit + 1 < most → HereAt holds outer l left at h s → OpenIn limit s → length outer < most
+here_room limit most holds outer l left at None s small here within = room limit most here.partial outer l here.levels small (subst (OpenIn limit) here.is within)
+here_room limit most holds outer l left at (Some h) s small (short, f, held, are, takes, is) within = room limit most f outer l are small (subst (OpenIn limit) is within)

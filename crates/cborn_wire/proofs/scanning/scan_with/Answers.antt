@@ -4,16 +4,16 @@ use Rattle.cborn_wire.specs.shared.Visiting.{Reads}
 use Rattle.cborn_wire.proofs.Spelled.ByteLists.{are_bytes}
 use Rattle.cborn_wire.proofs.Visiting.Ending.{fresh_fed, one_piece, whole_piece, cut_piece, refused_piece}
 use Rattle.cborn_model.specs.Tree.{trees}
-use Rattle.cborn_wire.proofs.scanning.scan.Goals as goal
+use Rattle.cborn_wire.proofs.scanning.scan_with.Goals as goal
 
 abbrev anything : Partial → Part → Type 0
 anything f c = Unit {0}
 
 pub read-requires-clause-fed : goal.read-requires-clause-fed
-read-requires-clause-fed c = (0, [], fresh_fed anything c.new-levels.result.outer.items c.new-levels.result.inner c.args.limit 0 c.new-reader.result tt c.new-levels.ensures c.new-reader.ensures)
+read-requires-clause-fed g c = (0, [], fresh_fed anything c.new-levels.result.outer.items c.new-levels.result.inner c.args.limit 0 c.new-reader.result tt c.new-levels.ensures c.new-reader.ensures)
 
 pub returns-in-Ok : goal.returns-in-Ok
-returns-in-Ok c =
+returns-in-Ok g c =
     let start = fresh_fed anything c.new-levels.result.outer.items c.new-levels.result.inner c.args.limit 0 c.new-reader.result tt c.new-levels.ensures c.new-reader.ensures in
     let new = c.read.new in
     let outer = new.levels.outer.items in
@@ -25,7 +25,7 @@ returns-in-Ok c =
     (trees w.0, w.2, w.3)
 
 pub returns-in-Ok-2 : goal.returns-in-Ok-2
-returns-in-Ok-2 c =
+returns-in-Ok-2 g c =
     let start = fresh_fed anything c.new-levels.result.outer.items c.new-levels.result.inner c.args.limit 0 c.new-reader.result tt c.new-levels.ensures c.new-reader.ensures in
     let new = c.read.new in
     let outer = new.levels.outer.items in
@@ -36,7 +36,7 @@ returns-in-Ok-2 c =
     cut_piece anything outer inner new.self c.args.limit x limited fed (c.if-is_whole.ensures.cut refl)
 
 pub returns-in-Refused : goal.returns-in-Refused
-returns-in-Refused c =
+returns-in-Refused g c =
     let start = fresh_fed anything c.new-levels.result.outer.items c.new-levels.result.inner c.args.limit 0 c.new-reader.result tt c.new-levels.ensures c.new-reader.ensures in
     let new = c.read.new in
     let outer = new.levels.outer.items in
