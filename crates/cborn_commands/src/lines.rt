@@ -35,8 +35,9 @@ pub enum Trouble<'a> {
 }
 
 impl<'a> Trouble<'a> {
-    /// The same trouble of the file of this name, where it is that of an input. Each other trouble stays
-    /// as it is: it names its file, or is of what is written.
+    /// This trouble with `name`, the name of the file that was read: a fault of the engine becomes
+    /// `OfFile`. A failed write, and a trouble that names its file, are given back as they are. The
+    /// exit status stays the same.
     pub fn of_file(self, name: &'a str) -> Trouble<'a>
         ensures status { status_of_trouble result ≡ status_of_trouble self.entry }
     {
