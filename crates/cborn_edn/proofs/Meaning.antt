@@ -1,10 +1,5 @@
--- A tree says nodes that fit, or has a first meaning error, and never both; of a short text always one of the two.
+-- The nodes of a text fit their widths where there is no meaning error, and there is a first meaning error where there is any.
 pub mod Earliest
-pub mod StringErrors
-pub mod Agree
-pub mod Plain
-pub mod Fit
 pub mod NoError
+pub mod Fit
 pub mod Counting
-pub mod AnyLength
-pub mod ShortTexts

@@ -68,10 +68,3 @@ IsNoNotation profile limit text (LexPart (LexRefused p r)) = FailsAt profile tex
 IsNoNotation profile limit text (LexPart LexOutOfMemory) = ⊥
 IsNoNotation profile limit text (Refused p r) = HasSyntaxError profile limit text p r ⊎ HasMeaningError profile limit text p r
 IsNoNotation profile limit text OutOfMemory = Unit {0}
-
--- Why a text isn't one of the grammar, whatever it means: a lexical fault or a syntax error.
-abbrev pub IsNoTree : Profile → ℕ → List ℕ → EdnFault → Type 0
-IsNoTree profile limit text (LexPart (LexRefused p r)) = FailsAt profile text p r
-IsNoTree profile limit text (LexPart LexOutOfMemory) = ⊥
-IsNoTree profile limit text (Refused p r) = HasSyntaxError profile limit text p r
-IsNoTree profile limit text OutOfMemory = Unit {0}

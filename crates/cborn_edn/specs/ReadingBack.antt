@@ -1,17 +1,13 @@
--- What the laws of reading back speak of: the tree of the fixed notation, nodes and tokens without places, and tokens that say nodes that spell the same bytes.
-use Rattle.std.specs.Prelude.{◌≡◌, ℕ, suc, ◌≤◌, List, [], ◌∷◌, length, true, false, nat_lt, if◌then◌else◌}
+-- What the laws of reading back speak of: the tree of the fixed notation, and nodes and tokens without places.
+use Rattle.std.specs.Prelude.{ℕ, suc, List, [], ◌∷◌, length, true, false, nat_lt, if◌then◌else◌}
 use Rattle.cborn_model.specs.declared.nodes.Chunk.{Chunk}
 use Rattle.cborn_model.specs.Tree.{Tree, Uint, Nint, Bytes as ByteNode, Text as TextNode, ByteChunks, TextChunks, Items, Pairs as PairNode, Tagged, Simple, Trees, no_item as no_node, more, Entries, no_entry, entry, count, count_entries}
-use Rattle.cborn_model.specs.Spelled.{spelled_all}
 use Rattle.cborn_lex.specs.declared.classes.Mark.{Mark}
 use Rattle.cborn_lex.specs.declared.classes.Mark.TheVariants.{Absent, Endless}
 use Rattle.cborn_lex.specs.declared.classes.Token.{Token}
-use Rattle.cborn_lex.specs.declared.classes.Profile.{Profile}
 use Rattle.cborn_edn.specs.declared.strings.StringKind.{StringKind}
 use Rattle.cborn_edn.specs.declared.strings.StringKind.TheVariants.{Bytes as OfBytes, Text as OfText}
-use Rattle.cborn_edn.specs.devices.Syntax.{Span, Item, number, word, tag, simple, string, chunked, array, map as map_item, text, bytes, Pieces, piece, Strings, strings, StringsBefore, no_string, after_strings, Row, row, RowBefore, no_item, after_row, Content, loose, tight, Pairs, pairs, PairsBefore, no_pair, after_pairs, Fields, loose_fields, tight_fields, Input, nothing, items, token, depth_of_input}
-use Rattle.cborn_edn.specs.devices.Parse.{Parse}
-use Rattle.cborn_edn.specs.devices.Meaning.{Says}
+use Rattle.cborn_edn.specs.devices.Syntax.{Span, Item, number, word, tag, simple, string, chunked, array, map as map_item, text, bytes, Pieces, piece, Strings, strings, StringsBefore, no_string, after_strings, Row, row, RowBefore, no_item, after_row, Content, loose, tight, Pairs, pairs, PairsBefore, no_pair, after_pairs, Fields, loose_fields, tight_fields, Input, nothing, items, token}
 use Rattle.cborn_edn.specs.Shown.{mark_for, mark_for_size}
 
 abbrev pub nowhere : Span
@@ -103,12 +99,3 @@ abbrev mutual
 -- a token without its place, which is 0
 abbrev pub unplaced_token : Token → Token
 unplaced_token t = token nowhere t.class
-
--- the tokens say nodes that spell the same bytes, within the limit
-pub record ReadsBack (profile : Profile) (limit : ℕ) (nodes : Trees) (tokens : List Token) : Type 0 where
-  pub tree : Input
-  pub parse : Parse profile tokens tree
-  pub shallow : depth_of_input tree ≤ limit
-  pub says : Trees
-  pub said : Says tree says
-  pub bytes : spelled_all says ≡ spelled_all nodes

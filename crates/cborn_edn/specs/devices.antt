@@ -6,13 +6,10 @@ pub mod MeaningErrors
 pub mod Levels
 pub mod Commas
 pub mod Syntax
-pub mod Meaning
 pub mod Machine
 pub mod Said
 pub mod Put
 pub mod Parse
-pub mod Notates
-pub mod Counted
 pub mod Ahead
 pub mod Modest
 pub mod Written

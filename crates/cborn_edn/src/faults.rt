@@ -100,7 +100,7 @@ impl From<AllocError> for ShowFault {
 }
 
 impl EdnReason {
-    ghost use Rattle.cborn_edn.specs.devices.Meaning.{number_of};
+    ghost use Rattle.cborn_edn.specs.Faults.{number_of};
 
     /// The number of the reason: 20 to 22 for syntax errors, 30 to 36 for meaning errors. Of
     /// several meaning errors at one place the one with the lowest number is reported.

@@ -14,17 +14,16 @@ ghost use Rattle.cborn_lex.specs.declared.classes.Token.{Token};
 ghost use Rattle.cborn_lex.specs.declared.faults.LexReason.{LexReason};
 ghost use Rattle.cborn_lex.specs.Good.{HasTokens};
 ghost use Rattle.cborn_lex.specs.Bad.{FailsAt};
-ghost use Rattle.cborn_edn.specs.declared.faults.EdnFault.{EdnFault};
 ghost use Rattle.cborn_edn.specs.declared.faults.EdnReason.{EdnReason};
 ghost use Rattle.cborn_edn.specs.devices.Syntax.{tokens_of_input};
 ghost use Rattle.cborn_edn.specs.devices.Parse as trees;
+ghost use Rattle.cborn_edn.specs.devices.Said.{Parsed};
 ghost use Rattle.cborn_edn.specs.ReadingBack.{unplaced_token, notated_input, unplaced_all};
 ghost use Rattle.cborn_edn.specs.Shown.{AreShowable, Shown, shown_lines};
 ghost use Rattle.cborn_edn.specs.Starts.{spots_all, IsRising};
 ghost use Rattle.cborn_edn.specs.Grammar.{IsText, Notates};
 ghost use Rattle.cborn_edn.specs.declared.meaning_errors.MeaningError.{MeaningError};
-ghost use Rattle.cborn_edn.specs.Faults.{HasTree, IsSyntaxError, HasMeaningError, HasSyntaxError, IsNoNotation};
-ghost use Rattle.cborn_edn.specs.devices.Notates as trees_say;
+ghost use Rattle.cborn_edn.specs.Faults.{HasTree, IsSyntaxError, HasMeaningError, HasSyntaxError};
 
 /// Tokens are a text of the grammar in at most one way, with the same nodes and meaning errors in
 /// each profile and within each limit.
@@ -81,11 +80,11 @@ pub fn one_notation()
     ensures both { (limit : ℕ) (text : List ℕ) (nodes : Trees) → Notates ProfileOne limit text nodes → Notates ProfileTwo limit text nodes }
 {}
 
-/// A text of fewer than 2^56 bytes has an answer: it notates nodes, or it has a lexical fault, a
-/// syntax error or a meaning error. The nodes that it notates fit their widths and are within the
-/// limit. No text of any length both notates nodes and has a meaning error, within any limits.
+/// Each text has an answer: it notates nodes, or it has a lexical fault, a syntax error or a meaning
+/// error. No text both notates nodes and has a meaning error, within any limits. The nodes that a
+/// text of fewer than 2^56 bytes notates fit their widths and are within the limit.
 pub fn short_text()
-    ensures answered { (profile : Profile) (limit : ℕ) (text : List ℕ) → AreBytes text → length text < 2 ^ 56 → ((nodes : Trees) × Notates profile limit text nodes) ⊎ (((p : ℕ) × (r : LexReason) × FailsAt profile text p r) ⊎ ((p : ℕ) × (r : EdnReason) × (HasSyntaxError profile limit text p r ⊎ HasMeaningError profile limit text p r))) }
+    ensures answered { (profile : Profile) (limit : ℕ) (text : List ℕ) → AreBytes text → ((nodes : Trees) × Notates profile limit text nodes) ⊎ (((p : ℕ) × (r : LexReason) × FailsAt profile text p r) ⊎ ((p : ℕ) × (r : EdnReason) × (HasSyntaxError profile limit text p r ⊎ HasMeaningError profile limit text p r))) }
     ensures no_error { (profile : Profile) (limit most : ℕ) (text : List ℕ) (nodes : Trees) (p : ℕ) (r : EdnReason) → Notates profile limit text nodes → HasMeaningError profile most text p r → ⊥ }
     ensures fits { (profile : Profile) (limit : ℕ) (text : List ℕ) (nodes : Trees) → AreBytes text → length text < 2 ^ 56 → Notates profile limit text nodes → FitsAll nodes × (depth_all nodes ≤ limit) }
 {}
@@ -96,14 +95,11 @@ pub fn spots_rise()
     ensures { (profile : Profile) (limit : ℕ) (text : List ℕ) (nodes : Trees) → Notates profile limit text nodes → IsRising (spots_all nodes) }
 {}
 
-/// The trees of the grammar, a device of the proofs, agree with its relation. They have the same
-/// syntax errors, and nodes that a text notates by a tree it notates by the relation. Of a text of
-/// fewer than 2^56 bytes both say the same: its nodes, its meaning error, and why it is refused.
+/// The trees of the grammar, a device of the proofs, agree with its relation. Tokens are a text of
+/// the grammar exactly if they are those of a tree, which says the same nodes and has the same
+/// meaning errors. They have the same syntax errors.
 pub fn short_form()
-    ensures notates { (profile : Profile) (limit : ℕ) (text : List ℕ) (nodes : Trees) → trees_say.Notates profile limit text nodes → Notates profile limit text nodes }
+    ensures text { (profile : Profile) (limit : ℕ) (tokens : List Token) (nodes : Trees) (errors : List MeaningError) → Parsed profile limit tokens nodes errors ↔ IsText profile limit tokens nodes errors }
     ensures tree { (profile : Profile) (limit : ℕ) (tokens : List Token) → trees.HasTree profile limit tokens ↔ HasTree profile limit tokens }
     ensures syntax_error { (profile : Profile) (limit end : ℕ) (tokens : List Token) (p : ℕ) (r : EdnReason) → trees.IsSyntaxError profile limit end tokens p r ↔ IsSyntaxError profile limit end tokens p r }
-    ensures nodes { (profile : Profile) (limit : ℕ) (text : List ℕ) (nodes : Trees) → AreBytes text → length text < 2 ^ 56 → trees_say.Notates profile limit text nodes ↔ Notates profile limit text nodes }
-    ensures error { (profile : Profile) (limit : ℕ) (text : List ℕ) (p : ℕ) (r : EdnReason) → AreBytes text → length text < 2 ^ 56 → trees_say.HasMeaningError profile limit text p r ↔ HasMeaningError profile limit text p r }
-    ensures refused { (profile : Profile) (limit : ℕ) (text : List ℕ) (why : EdnFault) → AreBytes text → length text < 2 ^ 56 → trees_say.IsNoNotation profile limit text why ↔ IsNoNotation profile limit text why }
 {}

@@ -8,8 +8,7 @@ use Rattle.cborn_lex.specs.declared.classes.Profile.TheVariants.{One as ProfileO
 use Rattle.cborn_edn.specs.devices.Commas.{AllowsCount}
 use Rattle.cborn_edn.specs.devices.Syntax.{token, span, Input, depth_of_input}
 use Rattle.cborn_edn.proofs.Grammar.Machine.{State, start, step}
-use Rattle.cborn_edn.specs.declared.faults.EdnReason.{EdnReason}
-use Rattle.cborn_edn.specs.declared.faults.EdnReason.TheVariants.{UnexpectedToken, UnexpectedEnd, TooDeep}
+use Rattle.cborn_edn.specs.declared.faults.EdnReason.TheVariants.{UnexpectedToken, TooDeep}
 use Rattle.cborn_edn.specs.devices.Parse.{Parse, GoesOn, IsSyntaxError}
 use Rattle.cborn_edn.proofs.Grammar.Takes.{finish}
 use Rattle.cborn_edn.specs.devices.Levels.{reach}

@@ -7,8 +7,8 @@ use Rattle.cborn_model.proofs.Firsts.{no_later_on, no_later_turned, first_alone,
 use Rattle.cborn_edn.specs.declared.faults.EdnReason.{EdnReason}
 use Rattle.cborn_edn.specs.declared.faults.EdnReason.TheVariants.{UnexpectedToken, UnexpectedEnd, TooDeep, IndicatorTooNarrow, IndicatorNotAllowed, MixedString, MixedChunks, TextNotUtf8, BadSimple, TagTooLarge}
 use Rattle.cborn_edn.specs.declared.meaning_errors.MeaningError.{MeaningError}
-use Rattle.cborn_edn.specs.devices.Meaning.{number_of, unless, IsAmong}
-use Rattle.cborn_edn.specs.devices.MeaningErrors.{earlier, first_error, error_unless}
+use Rattle.cborn_edn.specs.Faults.{number_of, IsAmong}
+use Rattle.cborn_edn.specs.devices.MeaningErrors.{earlier, first_error}
 
 -- the reason that has a number
 abbrev reason_at : ℕ → EdnReason
@@ -87,39 +87,23 @@ rank-pick a b = go (pick a b) (picks a b)
     go c (left e h) = ap rank e ∙ omega arith
     go c (right e h) = ap rank e ∙ omega arith
 
-pick-comm : (a b : MeaningError) → pick a b ≡ pick b a
-pick-comm a b = one_rank _ _ (omega (arith, rank-pick a b, rank-pick b a))
-
 pick-assoc : (a b c : MeaningError) → pick (pick a b) c ≡ pick a (pick b c)
 pick-assoc a b c = one_rank _ _ (omega (arith, rank-pick (pick a b) c, rank-pick a b, rank-pick a (pick b c), rank-pick b c))
 
-pub earlier-none : (a : Option MeaningError) → earlier a None ≡ a
+earlier-none : (a : Option MeaningError) → earlier a None ≡ a
 earlier-none None = refl
 earlier-none (Some a) = refl
 
-earlier-comm : (a b : Option MeaningError) → earlier a b ≡ earlier b a
-earlier-comm None b = sym (earlier-none b)
-earlier-comm (Some a) None = refl
-earlier-comm (Some a) (Some b) = picked a b ∙ ap Some (pick-comm a b) ∙ sym (picked b a)
-
-pub earlier-assoc : (a b c : Option MeaningError) → earlier (earlier a b) c ≡ earlier a (earlier b c)
+earlier-assoc : (a b c : Option MeaningError) → earlier (earlier a b) c ≡ earlier a (earlier b c)
 earlier-assoc None b c = refl
 earlier-assoc (Some a) None c = refl
 earlier-assoc (Some a) (Some b) None = earlier-none (earlier (Some a) (Some b))
 earlier-assoc (Some a) (Some b) (Some c) =
     ap (λ o. earlier o (Some c)) (picked a b) ∙ picked (pick a b) c ∙ ap Some (pick-assoc a b c) ∙ sym (picked a (pick b c)) ∙ ap (earlier (Some a)) (sym (picked b c))
 
--- the second of three goes to the front
-pub earlier-swap : (a b c : Option MeaningError) → earlier a (earlier b c) ≡ earlier b (earlier a c)
-earlier-swap a b c = sym (earlier-assoc a b c) ∙ ap (λ o. earlier o c) (earlier-comm a b) ∙ earlier-assoc b a c
-
 pub first-append : (a b : List MeaningError) → first_error (a ++ b) ≡ earlier (first_error a) (first_error b)
 first-append [] b = refl
 first-append (s ∷ a) b = ap (earlier (Some s)) (first-append a b) ∙ sym (earlier-assoc (Some s) (first_error a) (first_error b))
-
-pub first-unless : (b : Bool) (p : ℕ) (r : EdnReason) → first_error (unless b p r) ≡ error_unless b p r
-first-unless true p r = refl
-first-unless false p r = refl
 
 -- it is the one of least place, and there of least number
 abbrev IsFirstOf : List MeaningError → MeaningError → Type 0

@@ -1,230 +1,237 @@
--- The nodes that a tree says fit their widths, and are no deeper than the tree.
-use Rattle.std.proofs.Common.{◌≡◌, refl, subst, ℕ, suc, ◌^◌, ◌<◌, ◌≤◌, List, [], ◌∷◌, ◌++◌, length, Bool, true, false, ◌&&◌, not, cond, ltb, Option, Some, None, inl, arith}
+-- Tokens without a meaning error say nodes that fit their widths, if the nodes spell fewer than 2^64 bytes. The nodes are within the limit.
+use Rattle.std.proofs.Common.{◌≡◌, refl, ap, ℕ, zero, suc, ◌^◌, ◌<◌, ◌≤◌, List, [], ◌∷◌, ◌++◌, length, Bool, true, false, ◌&&◌, not, cond, inl, arith}
+use Rattle.std.specs.List.{flat_map}
 use Rattle.std.specs.Int.Digits.{digits_of}
-use Rattle.std.proofs.lemmas.Bool.{ltb-true, and_parts}
-use Rattle.std.specs.Prelude.{IsTrue}
-use Rattle.cborn_model.specs.declared.heads.Width.{Width}
-use Rattle.cborn_model.specs.declared.heads.Width.TheVariants.{Direct, One, Two, Four, Eight}
-use Rattle.cborn_model.specs.declared.heads.Size.{Size}
-use Rattle.cborn_model.specs.declared.heads.Size.TheVariants.{Fixed}
+use Rattle.std.proofs.lemmas.Bool.{ltb-true, and_parts, and_from}
+use Rattle.std.proofs.lemmas.Int.Digits.{length-digits_of-le, all_below_base_digits_of}
+use Rattle.std.proofs.lemmas.List.{length-append}
+use Rattle.std.proofs.lemmas.Grind.{flat_map-append}
+use Rattle.cborn_model.specs.declared.heads.Major.{Major}
+use Rattle.cborn_model.specs.declared.heads.Major.TheVariants.{ByteString, TextString, Array, Map as MapHead, Tag as TagHead}
 use Rattle.cborn_model.specs.declared.nodes.Chunk.{Chunk}
-use Rattle.cborn_model.specs.Tree.{Tree, Uint, Nint, Bytes as ByteNode, Items, Pairs as PairNode, Tagged, Simple, Trees, no_item as no_node, more, Entries, no_entry, entry, count, count_entries, depth as node_depth, depth_all, depth_entries}
-use Rattle.cborn_model.specs.Heads.{holds, least, is_simple_value, WidthFits, SizeFits}
+use Rattle.cborn_model.specs.Bytes.{AreBytes}
+use Rattle.cborn_model.specs.Heads.{Given, EndlessArgument, head, argument, is_simple_value, WidthFits}
+use Rattle.cborn_model.specs.Tree.{Tree, Uint, Nint, Trees, Entries, count, count_entries, depth, depth_all, depth_entries}
+use Rattle.cborn_model.specs.Spelled.{ChunksFit, Fits, FitsAll, FitsEntries, chunk_bytes, spelled, spelled_all, spelled_entries, ending}
+use Rattle.cborn_model.proofs.Bytes.{bytes-append}
 use Rattle.cborn_model.proofs.Numbers.OneHead.{least_holds}
 use Rattle.cborn_model.proofs.Numbers.Simples.{simple_value}
-use Rattle.cborn_model.specs.Spelled.{ChunksFit, Fits, FitsAll, FitsEntries}
+use Rattle.cborn_wire.proofs.Spelled.AllBytes.{spelled_all_bytes}
 use Rattle.cborn_lex.specs.declared.classes.Mark.{Mark}
-use Rattle.cborn_lex.specs.declared.classes.Mark.TheVariants.{Absent, Endless, Wide}
-use Rattle.cborn_edn.specs.devices.Syntax.{Item, number, word, tag, simple, string, chunked, array, map as map_item, Piece, text, bytes, embedded, Pieces, piece, also, Strings, strings, StringsBefore, no_string, after_strings, Row, row, RowBefore, no_item, after_row, Content, loose, tight, Pairs, pairs, PairsBefore, no_pair, after_pairs, Fields, loose_fields, tight_fields, Input, nothing, items, argument_of, is_small, depth_of_number, depth, depth_of_row, depth_of_row_before, depth_of_content, depth_of_pairs, depth_of_pairs_before, depth_of_fields, depth_of_input, is_below}
-use Rattle.cborn_edn.specs.devices.Meaning.{and_then, when, width_for, size_for, is_absent, snoc, snoc_entry, integer, bignum, means_number, is_simple, kind, place, last_piece, mark_of, is_string, is_empty_quote, string_node, chunked_node, marked_string, means_string, means_chunk, kind_of_strings, kind_after, same_kind, means, joined, joined_piece, means_strings, means_strings_before, means_row, means_row_before, means_content, means_pairs, means_pairs_before, means_fields, Says}
+use Rattle.cborn_lex.specs.declared.classes.Class.TheVariants.{ArrayClose, MapClose, ParenClose, Comma, Colon, EmbedClose}
+use Rattle.cborn_lex.specs.declared.classes.Token.{Token}
+use Rattle.cborn_lex.specs.declared.classes.Profile.{Profile}
+use Rattle.cborn_lex.proofs.WholeTexts.Weights.{AreModest}
+use Rattle.cborn_edn.specs.declared.faults.EdnReason.TheVariants.{IndicatorNotAllowed, BadSimple}
+use Rattle.cborn_edn.specs.declared.meaning_errors.MeaningError.{MeaningError}
 use Rattle.cborn_edn.specs.declared.strings.StringKind.{StringKind}
 use Rattle.cborn_edn.specs.declared.strings.StringKind.TheVariants.{Bytes as OfBytes, Text as OfText}
-use Rattle.cborn_model.specs.Bytes.{AreBytes}
-use Rattle.cborn_model.specs.Spelled.{spelled_all}
-use Rattle.cborn_model.proofs.Bytes.{bytes-append}
-use Rattle.std.proofs.lemmas.Int.Digits.{all_below_base_digits_of}
-use Rattle.cborn_edn.proofs.Meaning.Agree.{made, some_is}
-use Rattle.cborn_edn.proofs.Meaning.Plain.{Plain, PlainPiece, PlainPieces, PlainStrings, PlainStringsBefore, PlainRow, PlainRowBefore, PlainContent, PlainPairs, PlainPairsBefore, PlainFields, PlainInput}
-use Rattle.cborn_wire.proofs.Spelled.AllBytes.{spelled_all_bytes}
+use Rattle.cborn_edn.specs.Says.{width, size, is_absent, is_below, argument_of, is_small, depth_of_number, integer, bignum, number_node, number_errors, width_errors, tag_errors, is_simple, unless, Str, is_endless, is_nil, said_string, chunk, chunked_node, string_node, mark_errors, string_errors}
+use Rattle.cborn_edn.specs.Grammar.{token, IsItem, number, word, simple, tag, array, map, string, chunked, IsPiece, text_piece, byte_piece, embedded, ArePieces, piece, also, AreChunks, first, next, AreItems, last, before, IsContent, empty, tight, loose, ArePairs, last_pair, pair_before, IsFields, no_fields, tight_fields, loose_fields, IsText, nothing, items}
+use Rattle.cborn_edn.proofs.Meaning.NoError.{no_left, no_right, held, width_fits, size_fits, tag_fits, mark_fits}
+use Rattle.cborn_edn.proofs.Reader.Counts.{few_items, few_entries}
 
--- What a tree says fits its widths, and is no deeper than the tree.
+pub front : (a b : List Token) → AreModest (a ++ b) → AreModest a
+front [] b h = tt
+front (t ∷ a) b h = (h.0, front a b h.1)
 
-pub record Chosen {A : Type 0} (b : Bool) (o : Option A) (y : A) : Type 0 where
-  pub test : b ≡ true
-  pub then : o ≡ Some y
+pub back : (a b : List Token) → AreModest (a ++ b) → AreModest b
+back [] b h = h
+back (t ∷ a) b h = back a b h.1
 
-pub chosen : {A : Type 0} (b : Bool) (o : Option A) (y : A) → when b o ≡ Some y → Chosen b o y
-chosen true o y e = record { test = refl; then = e }
-chosen false o y e = absurd (clash e)
+-- what is said, d deep at most
+record Sound (d : ℕ) (t : Tree) : Type 0 where
+  fits : Fits t
+  low : depth t ≤ d
+
+pub record SoundAll (d : ℕ) (ts : Trees) : Type 0 where
+  pub fits : FitsAll ts
+  pub low : depth_all ts ≤ d
+
+record SoundEntries (d : ℕ) (es : Entries) : Type 0 where
+  fits : FitsEntries es
+  low : depth_entries es ≤ d
+
+record SoundString (s : Str) : Type 0 where
+  known : s.known ≡ true
+  bytes : AreBytes s.bytes
+
+-- Numbers.
+
+argument_below : (n : Bool) (v : ℕ) → v < 2 ^ 128 → argument_of n v < 2 ^ 128
+argument_below true zero h = omega arith
+argument_below true (suc v) h = omega arith
+argument_below false v h = h
+
+pub few_digits : (n : Bool) (v : ℕ) → v < 2 ^ 128 → length (digits_of 256 (argument_of n v)) ≤ 16
+few_digits n v h = length-digits_of-le 256 16 (argument_of n v) (omega arith) (argument_below n v h)
+
+number_sound : (p : ℕ) (n : Bool) (v : ℕ) (m : Mark) (d : ℕ) → depth_of_number n v ≤ d → v < 2 ^ 128 → number_errors p n v m ≡ [] → Sound d (number_node p n v m)
+number_sound p n v m d low h e = go (is_small n v) refl low e
   where
-    clash : None ≡ Some y → ⊥
-    clash e = cc
+    small : (b : Bool) → WidthFits (width m (argument_of n v)) (argument_of n v) → Sound d (cond b (Nint p (width m (argument_of n v)) (argument_of n v)) (Uint p (width m (argument_of n v)) (argument_of n v)))
+    small true fits = record { fits = fits; low = omega arith }
+    small false fits = record { fits = fits; low = omega arith }
 
-holds_is : (w : Width) (n : ℕ) → holds w n ≡ true → WidthFits w n
-holds_is Direct n e = ltb-true _ _ e
-holds_is One n e = ltb-true _ _ e
-holds_is Two n e = ltb-true _ _ e
-holds_is Four n e = ltb-true _ _ e
-holds_is Eight n e = ltb-true _ _ e
+    big : (b : Bool) → cond b 3 2 < 24
+    big true = omega arith
+    big false = omega arith
 
-pub width_holds : (m : Mark) (n : ℕ) (w : Width) → width_for m n ≡ Some w → WidthFits w n
-width_holds Absent n w e = let c = chosen (ltb n (2 ^ 64)) (Some (least n)) w e in subst (λ v. WidthFits v n) (some_is c.then) (least_holds n (ltb-true _ _ c.test))
-width_holds Endless n w e = absurd (clash e)
+    go : (b : Bool) → is_small n v ≡ b → cond b 0 1 ≤ d → cond b (width_errors p m (argument_of n v)) (unless (is_absent m) p IndicatorNotAllowed) ≡ [] → Sound d (cond b (integer p n v (width m (argument_of n v))) (bignum p n v))
+    go true f low e = small (is_below n v) (width_fits p m (argument_of n v) (ltb-true _ _ f) e)
+    go false f low e =
+        let l = few_digits n v h in
+        record { fits = (big (is_below n v), (least_holds (length (digits_of 256 (argument_of n v))) (omega arith), all_below_base_digits_of 256 (argument_of n v) (omega arith))); low = low }
+
+-- Strings.
+
+-- a lone '' or "" has no bytes
+lone_nothing : {p : Profile} {d : ℕ} {x : List Token} {s : Str} {l : List MeaningError} → ArePieces p d x s l → s.lone ≡ true → length s.bytes ≡ 0
+lone_nothing (piece (text_piece {b = []} a)) e = refl
+lone_nothing (piece (text_piece {b = c ∷ b} a)) e = absurd (let bad : false ≡ true = e in cc)
+lone_nothing (piece (byte_piece {q = true} {b = []} a)) e = refl
+lone_nothing (piece (byte_piece {q = true} {b = c ∷ b} a)) e = absurd (let bad : false ≡ true = e in cc)
+lone_nothing (piece (byte_piece {q = false} a)) e = absurd (let bad : false ≡ true = e in cc)
+lone_nothing (piece (embedded a e m c)) f = absurd (let bad : false ≡ true = f in cc)
+lone_nothing (also ps q) e = absurd (let bad : false ≡ true = e in cc)
+
+-- the bytes that a string spells contain its content
+in_string : (s : Str) → (s.lone ≡ true → length s.bytes ≡ 0) → length s.bytes ≤ length (spelled (said_string s))
+in_string s none = go s.lone (is_endless s.mark) none
   where
-    clash : None ≡ Some w → ⊥
-    clash e = cc
-width_holds (Wide v) n w e = let c = chosen (holds v n) (Some v) w e in subst (λ u. WidthFits u n) (some_is c.then) (holds_is v n c.test)
+    whole : (k : StringKind) → length s.bytes ≤ length (spelled (string_node k s.place (width s.mark (length s.bytes)) s.bytes))
+    whole OfBytes = omega (arith, length-append (head ByteString (Given (width s.mark (length s.bytes)) (length s.bytes))) s.bytes)
+    whole OfText = omega (arith, length-append (head TextString (Given (width s.mark (length s.bytes)) (length s.bytes))) s.bytes)
 
-size_holds : (m : Mark) (n : ℕ) (s : Size) → size_for m n ≡ Some s → SizeFits s n
-size_holds Absent n s e = let c = chosen (ltb n (2 ^ 64)) (Some (Fixed (least n))) s e in subst (λ v. SizeFits v n) (some_is c.then) (least_holds n (ltb-true _ _ c.test))
-size_holds Endless n s e = subst (λ v. SizeFits v n) (some_is e) tt
-size_holds (Wide v) n s e = let c = chosen (holds v n) (Some (Fixed v)) s e in subst (λ u. SizeFits u n) (some_is c.then) (holds_is v n c.test)
+    go : (b e : Bool) → (b ≡ true → length s.bytes ≡ 0) → length s.bytes ≤ length (spelled (cond (b && e) (chunked_node s.kind s.place []) (string_node s.kind s.place (width s.mark (length s.bytes)) s.bytes)))
+    go true true f = omega (arith, f refl)
+    go true false f = whole s.kind
+    go false e f = whole s.kind
 
--- what is said, k deep at most
-pub record Sound (k : ℕ) (t : Tree) : Type 0 where
-  pub fits : Fits t
-  pub low : node_depth t ≤ k
+-- the bytes that a string spells contain those of its chunks
+in_chunks : (k : StringKind) (p : ℕ) (cs : List Chunk) (n : ℕ) → length (spelled (chunked_node k p cs)) < n → (m : Major) × (length (flat_map (chunk_bytes m) cs) < n)
+in_chunks OfBytes p cs n h = (ByteString, omega (arith, length-append (head ByteString EndlessArgument ++ flat_map (chunk_bytes ByteString) cs) (255 ∷ []), length-append (head ByteString EndlessArgument) (flat_map (chunk_bytes ByteString) cs)))
+in_chunks OfText p cs n h = (TextString, omega (arith, length-append (head TextString EndlessArgument ++ flat_map (chunk_bytes TextString) cs) (255 ∷ []), length-append (head TextString EndlessArgument) (flat_map (chunk_bytes TextString) cs)))
 
-integer_sound : (p : ℕ) (n : Bool) (v : ℕ) (w : Width) (k : ℕ) → WidthFits w (argument_of n v) → Sound k (integer p n v w)
-integer_sound p n v w k h = go (is_below n v)
-  where
-    go : (b : Bool) → Sound k (cond b (Nint p w (argument_of n v)) (Uint p w (argument_of n v)))
-    go true = record { fits = h; low = omega arith }
-    go false = record { fits = h; low = omega arith }
+in_chunk : (k : Major) (s : Str) → length s.bytes ≤ length (chunk_bytes k (chunk s))
+in_chunk k s = omega (arith, length-append (head k (Given (width s.mark (length s.bytes)) (length s.bytes))) s.bytes)
 
-big_sound : (p : ℕ) (n : Bool) (v : ℕ) (t : Tree) → bignum p n v ≡ Some t → Sound 1 t
-big_sound p n v t e =
-    let x = digits_of 256 (argument_of n v) in
-    let m = made (width_for Absent (length x)) (λ w. Some (Tagged p Direct (cond (is_below n v) 3 2) (ByteNode p w x))) t e in
-    subst (Sound 1) (some_is m.then) (record { fits = (small (is_below n v), (width_holds Absent (length x) m.first m.was, all_below_base_digits_of 256 (argument_of n v) (omega arith))); low = omega arith })
-  where
-    small : (b : Bool) → cond b 3 2 < 24
-    small true = omega arith
-    small false = omega arith
-
-number_sound : (p : ℕ) (n : Bool) (v : ℕ) (m : Mark) (t : Tree) → means_number p n v m ≡ Some t → Sound (depth_of_number n v) t
-number_sound p n v m t e = go (is_small n v) e
-  where
-    go : (b : Bool) → cond b (and_then (width_for m (argument_of n v)) (λ w. Some (integer p n v w))) (when (is_absent m) (bignum p n v)) ≡ Some t → Sound (cond b 0 1) t
-    go true f = let d = made (width_for m (argument_of n v)) (λ w. Some (integer p n v w)) t f in subst (Sound 0) (some_is d.then) (integer_sound p n v d.first 0 (width_holds m _ d.first d.was))
-    go false f = big_sound p n v t (chosen (is_absent m) (bignum p n v) t f).then
-
-string_sound : (k : StringKind) (p : ℕ) (w : Width) (x : List ℕ) (d : ℕ) → WidthFits w (length x) × AreBytes x → Sound d (string_node k p w x)
-string_sound OfBytes p w x d h = record { fits = h; low = omega arith }
-string_sound OfText p w x d h = record { fits = h; low = omega arith }
+-- what is between a head and its end
+inside : (a b c : List ℕ) → length b ≤ length (a ++ b ++ c)
+inside a b c = omega (arith, length-append (a ++ b) c, length-append a b)
 
 chunked_sound : (k : StringKind) (p : ℕ) (cs : List Chunk) (d : ℕ) → ChunksFit cs → Sound d (chunked_node k p cs)
 chunked_sound OfBytes p cs d h = record { fits = h; low = omega arith }
 chunked_sound OfText p cs d h = record { fits = h; low = omega arith }
 
-marked_sound : (m : Mark) (ps : Pieces) (x : List ℕ) (d : ℕ) (t : Tree) → AreBytes x → marked_string m ps x ≡ Some t → Sound d t
-marked_sound Endless ps x d t b e = let c = chosen (is_empty_quote ps) (Some (chunked_node (kind ps) (place ps) [])) t e in subst (Sound d) (some_is c.then) (chunked_sound (kind ps) (place ps) [] d tt)
-marked_sound Absent ps x d t b e = let c = made (width_for Absent (length x)) (λ w. Some (string_node (kind ps) (place ps) w x)) t e in subst (Sound d) (some_is c.then) (string_sound (kind ps) (place ps) c.first x d (width_holds Absent _ c.first c.was, b))
-marked_sound (Wide v) ps x d t b e = let c = made (width_for (Wide v) (length x)) (λ w. Some (string_node (kind ps) (place ps) w x)) t e in subst (Sound d) (some_is c.then) (string_sound (kind ps) (place ps) c.first x d (width_holds (Wide v) _ c.first c.was, b))
+said_sound : (s : Str) (d : ℕ) → SoundString s → string_errors s.lone s ≡ [] → length s.bytes < 2 ^ 64 → Sound d (said_string s)
+said_sound s d h e short = go (s.lone && is_endless s.mark)
+  where
+    whole : (k : StringKind) → Sound d (string_node k s.place (width s.mark (length s.bytes)) s.bytes)
+    whole OfBytes = record { fits = (mark_fits s.lone s h.known (no_left (mark_errors s.lone s) _ e) short, h.bytes); low = omega arith }
+    whole OfText = record { fits = (mark_fits s.lone s h.known (no_left (mark_errors s.lone s) _ e) short, h.bytes); low = omega arith }
 
-fits_chunk : (cs : List Chunk) (c : Chunk) → ChunksFit cs → WidthFits c.width (length c.bytes) × AreBytes c.bytes → ChunksFit (cs ++ (c ∷ []))
-fits_chunk [] c h g = (g, tt)
-fits_chunk (d ∷ cs) c h g = (h.0, fits_chunk cs c h.1 g)
+    go : (b : Bool) → Sound d (cond b (chunked_node s.kind s.place []) (string_node s.kind s.place (width s.mark (length s.bytes)) s.bytes))
+    go true = chunked_sound s.kind s.place [] d tt
+    go false = whole s.kind
 
-chunk_sound : (ps : Pieces) (x : List ℕ) (c : Chunk) → AreBytes x → means_chunk ps x ≡ Some c → WidthFits c.width (length c.bytes) × AreBytes c.bytes
-chunk_sound ps x c b e =
-    let mark = mark_of (last_piece ps) in
-    let d = chosen (is_string ps x) (and_then (width_for mark (length x)) (λ w. Some (record { place = place ps; width = w; bytes = x }))) c e in
-    let m = made (width_for mark (length x)) (λ w. Some (record { place = place ps; width = w; bytes = x })) c d.then in
-    subst (λ (d : Chunk). WidthFits d.width (length d.bytes) × AreBytes d.bytes) (some_is m.then) (width_holds mark _ m.first m.was, b)
+chunk_sound : (s : Str) → SoundString s → string_errors false s ≡ [] → length s.bytes < 2 ^ 64 → WidthFits (chunk s).width (length s.bytes) × AreBytes s.bytes
+chunk_sound s h e short = (mark_fits false s h.known (no_left (mark_errors false s) _ e) short, h.bytes)
 
--- a row of nodes
-pub record SoundAll (k : ℕ) (ts : Trees) : Type 0 where
-  pub fits : FitsAll ts
-  pub low : depth_all ts ≤ k
+one_more : (cs : List Chunk) (c : Chunk) → ChunksFit cs → WidthFits c.width (length c.bytes) × AreBytes c.bytes → ChunksFit (cs ++ (c ∷ []))
+one_more [] c h g = (g, tt)
+one_more (d ∷ cs) c h g = (h.0, one_more cs c h.1 g)
 
-record SoundEntries (k : ℕ) (es : Entries) : Type 0 where
-  fits : FitsEntries es
-  low : depth_entries es ≤ k
+module _ {p : Profile} where
+  mutual
+    sound : {d : ℕ} {x : List Token} {t : Tree} {l : List MeaningError} → IsItem p d x t l → AreModest x → l ≡ [] → length (spelled t) < 2 ^ 64 → Sound d t
+    sound (number {d = d} {v = v} {n = n} {m = m} a low) h e k = number_sound a.start n v m d low h.0 e
+    sound (word {n = n} a) h e k = record { fits = simple_value n (inl h.0); low = omega arith }
+    sound (simple {v = v} {n = n} {m = m} a b end low) h e k =
+        let is = held (is_simple n v) a.start BadSimple (no_left (unless (is_simple n v) a.start BadSimple) _ e) in
+        record { fits = (and_parts (not (is_below n v)) (is_simple_value v) is).1; low = omega arith }
+    sound (tag {n = n} {m = m} {x = x} {t = t} {l = l} a end i) h e k =
+        let s = sound i (front x (token end ParenClose ∷ []) h.1) (no_right (tag_errors a.start m n) l e) (omega (arith, k, length-append (head TagHead (Given (width m n) n)) (spelled t))) in
+        record { fits = (tag_fits a.start m n (no_left (tag_errors a.start m n) l e), s.fits); low = omega (arith, s.low) }
+    sound (array {m = m} {x = x} {ts = ts} {l = l} a end c) h e k =
+        let n = count ts in
+        let short : length (spelled_all ts) < 2 ^ 64 = omega (arith, k, inside (head Array (argument (size m n) n)) (spelled_all ts) (ending (size m n))) in
+        let s = sound_content c (front x (token end ArrayClose ∷ []) h.1) (no_left l _ e) short in
+        record { fits = (size_fits a.start m n (omega (arith, short, few_items ts)) (no_right l _ e), s.fits); low = omega (arith, s.low) }
+    sound (map {m = m} {x = x} {es = es} {l = l} a end f) h e k =
+        let n = count_entries es in
+        let short : length (spelled_entries es) < 2 ^ 64 = omega (arith, k, inside (head MapHead (argument (size m n) n)) (spelled_entries es) (ending (size m n))) in
+        let s = sound_fields f (front x (token end MapClose ∷ []) h.1) (no_left l _ e) short in
+        record { fits = (size_fits a.start m n (omega (arith, short, few_entries es)) (no_right l _ e), s.fits); low = omega (arith, s.low) }
+    sound (string {d = d} {s = s} {l = l} ps) h e k =
+        let short : length s.bytes < 2 ^ 64 = omega (arith, k, in_string s (lone_nothing ps)) in
+        said_sound s d (sound_pieces ps h (no_left l _ e) short) (no_right l _ e) short
+    sound (chunked {d = d} {x = x} {k = kind} {cs = cs} a end c) h e k =
+        let few = in_chunks kind a.start cs (2 ^ 64) k in
+        chunked_sound kind a.start cs d (sound_chunks few.0 c (front x (token end ParenClose ∷ []) h.1) e few.1)
 
-snoc_sound : (j k n : ℕ) (ts : Trees) (t : Tree) → j ≤ n → k ≤ n → SoundAll j ts → Sound k t → SoundAll n (snoc ts t)
-snoc_sound j k n no_node t p q a b = record { fits = (b.fits, tt); low = omega (arith, b.low) }
-snoc_sound j k n (more u ts) t p q a b =
-    let r = snoc_sound j k n ts t p q (record { fits = a.fits.1; low = omega (arith, a.low) }) b in
-    record { fits = (a.fits.0, r.fits); low = omega (arith, a.low, r.low) }
+    sound_piece : {d : ℕ} {x : List Token} {s : Str} {l : List MeaningError} → IsPiece p d x s l → AreModest x → l ≡ [] → length s.bytes < 2 ^ 64 → SoundString s
+    sound_piece (text_piece a) h e k = record { known = refl; bytes = h.0 }
+    sound_piece (byte_piece a) h e k = record { known = refl; bytes = h.0 }
+    sound_piece (embedded {x = x} {ts = ts} a end m c) h e k =
+        record { known = ap is_nil e; bytes = spelled_all_bytes ts (sound_content c (front x (token end (EmbedClose m) ∷ []) h.1) e k).fits }
 
-snoc_entry_sound : (j k l n : ℕ) (es : Entries) (t u : Tree) → j ≤ n → k ≤ n → l ≤ n → SoundEntries j es → Sound k t → Sound l u → SoundEntries n (snoc_entry es t u)
-snoc_entry_sound j k l n no_entry t u p q s a b c = record { fits = (b.fits, c.fits, tt); low = omega (arith, b.low, c.low) }
-snoc_entry_sound j k l n (entry v w es) t u p q s a b c =
-    let r = snoc_entry_sound j k l n es t u p q s (record { fits = a.fits.2; low = omega (arith, a.low) }) b c in
-    record { fits = (a.fits.0, a.fits.1, r.fits); low = omega (arith, a.low, r.low) }
+    sound_pieces : {d : ℕ} {x : List Token} {s : Str} {l : List MeaningError} → ArePieces p d x s l → AreModest x → l ≡ [] → length s.bytes < 2 ^ 64 → SoundString s
+    sound_pieces (piece q) h e k = sound_piece q h e k
+    sound_pieces (also {x = x} {y = y} {s = s} {t = t} {l = l} {r = r} ps q) h e k =
+        let sum = length-append s.bytes t.bytes in
+        let a = sound_pieces ps (front x y h) (no_left l _ e) (omega (arith, k, sum)) in
+        let b = sound_piece q (back x y h) (no_left r _ (no_right l _ e)) (omega (arith, k, sum)) in
+        record { known = and_from s.known t.known a.known b.known; bytes = bytes-append s.bytes t.bytes a.bytes b.bytes }
 
-simple_fits : (n : Bool) (v : ℕ) (b : Bool) → (is_simple n v && b) ≡ true → IsTrue (is_simple_value v)
-simple_fits n v b e = (and_parts (not (is_below n v)) (is_simple_value v) (and_parts (is_simple n v) b e).0).1
+    sound_chunks : {d : ℕ} {x : List Token} {k : StringKind} {cs : List Chunk} {l : List MeaningError} (g : Major) → AreChunks p d x k cs l → AreModest x → l ≡ [] → length (flat_map (chunk_bytes g) cs) < 2 ^ 64 → ChunksFit cs
+    sound_chunks g (first {s = s} {l = l} ps) h e k =
+        let short : length s.bytes < 2 ^ 64 = omega (arith, k, in_chunk g s, length-append (chunk_bytes g (chunk s)) []) in
+        (chunk_sound s (sound_pieces ps h (no_left l _ e) short) (no_right l _ e) short, tt)
+    sound_chunks g (next {x = x} {y = y} {cs = cs} {s = s} {l = l} {r = r} a c ps) h e k =
+        let sum = ap length (flat_map-append (chunk_bytes g) cs (chunk s ∷ [])) in
+        let two = length-append (flat_map (chunk_bytes g) cs) (chunk_bytes g (chunk s) ++ []) in
+        let short : length s.bytes < 2 ^ 64 = omega (arith, k, sum, two, in_chunk g s, length-append (chunk_bytes g (chunk s)) []) in
+        let own = no_right l _ e in
+        one_more cs (chunk s) (sound_chunks g c (front x (token a Comma ∷ y) h) (no_left l _ e) (omega (arith, k, sum, two)))
+        (chunk_sound s (sound_pieces ps (back x (token a Comma ∷ y) h).1 (no_left r _ own) short) (no_right _ (string_errors false s) (no_right r _ own)) short)
 
-said_string : (ps : Pieces) (d : ℕ) (t : Tree) → ((x : List ℕ) → joined ps ≡ Some x → AreBytes x) → means (string ps) ≡ Some t → Sound d t
-said_string ps d t are e =
-    let a = made (joined ps) (means_string ps) t e in
-    marked_sound (mark_of (last_piece ps)) ps a.first d t (are a.first a.was) (chosen (is_string ps a.first) (marked_string (mark_of (last_piece ps)) ps a.first) t a.then).then
+    sound_items : {d : ℕ} {x : List Token} {ts : Trees} {l : List MeaningError} → AreItems p d x ts l → AreModest x → l ≡ [] → length (spelled_all ts) < 2 ^ 64 → SoundAll d ts
+    sound_items (last {t = t} i) h e k = let s = sound i h e (omega (arith, k, length-append (spelled t) [])) in record { fits = (s.fits, tt); low = omega (arith, s.low) }
+    sound_items (before {x = x} {y = y} {t = t} {ts = ts} {l = l} {r = r} a i is) h e k =
+        let sum = length-append (spelled t) (spelled_all ts) in
+        let s = sound i (front x (token a Comma ∷ y) h) (no_left l r e) (omega (arith, k, sum)) in
+        let rest = sound_items is (back x (token a Comma ∷ y) h).1 (no_right l r e) (omega (arith, k, sum)) in
+        record { fits = (s.fits, rest.fits); low = omega (arith, s.low, rest.low) }
 
-mutual
-  plain_sound : (i : Item) (t : Tree) → Plain i → means i ≡ Some t → Sound (depth i) t
-  plain_sound (number at n v m) t h e = number_sound at.start n v m t e
-  plain_sound (word at n) t h e = subst (Sound 0) (some_is e) (record { fits = simple_value n (inl h); low = omega arith })
-  plain_sound (tag at n m i end) t h e =
-      let a = made (width_for m n) (λ w. and_then (means i) (λ u. Some (Tagged at.start w n u))) t e in
-      let b = made (means i) (λ u. Some (Tagged at.start a.first n u)) t a.then in
-      let s = plain_sound i b.first h b.was in
-      subst (Sound (suc (depth i))) (some_is b.then) (record { fits = (width_holds m n a.first a.was, s.fits); low = omega (arith, s.low) })
-  plain_sound (simple at b n v m end) t h e =
-      let c = chosen (is_simple n v && is_absent m) (Some (Simple at.start v)) t e in
-      subst (Sound (depth_of_number n v)) (some_is c.then) (record { fits = simple_fits n v (is_absent m) c.test; low = omega arith })
-  plain_sound (string ps) t h e = said_string ps _ t (λ x f. joined_bytes ps x h f) e
-  plain_sound (chunked at ss end) t h e =
-      let a = made (means_strings ss) (λ cs. Some (chunked_node (kind_of_strings ss) at.start cs)) t e in
-      subst (Sound (depth (chunked at ss end))) (some_is a.then) (chunked_sound (kind_of_strings ss) at.start a.first _ (chunks_sound ss a.first h a.was))
-  plain_sound (array at m c end) t h e =
-      let a = made (means_content c) (λ ts. and_then (size_for m (count ts)) (λ s. Some (Items at.start s ts))) t e in
-      let b = made (size_for m (count a.first)) (λ s. Some (Items at.start s a.first)) t a.then in
-      let s = sound_content c a.first h a.was in
-      subst (Sound (depth (array at m c end))) (some_is b.then) (record { fits = (size_holds m _ b.first b.was, s.fits); low = omega (arith, s.low) })
-  plain_sound (map_item at m f end) t h e =
-      let a = made (means_fields f) (λ es. and_then (size_for m (count_entries es)) (λ s. Some (PairNode at.start s es))) t e in
-      let b = made (size_for m (count_entries a.first)) (λ s. Some (PairNode at.start s a.first)) t a.then in
-      let s = sound_fields f a.first h a.was in
-      subst (Sound (depth (map_item at m f end))) (some_is b.then) (record { fits = (size_holds m _ b.first b.was, s.fits); low = omega (arith, s.low) })
+    sound_content : {d : ℕ} {x : List Token} {ts : Trees} {l : List MeaningError} → IsContent p d x ts l → AreModest x → l ≡ [] → length (spelled_all ts) < 2 ^ 64 → SoundAll d ts
+    sound_content empty h e k = record { fits = tt; low = omega arith }
+    sound_content (tight is) h e k = sound_items is h e k
+    sound_content (loose {x = x} a two is) h e k = sound_items is (front x (token a Comma ∷ []) h) e k
 
-  chunks_sound : (ss : Strings) (cs : List Chunk) → PlainStrings ss → means_strings ss ≡ Some cs → ChunksFit cs
-  chunks_sound (strings b ps) cs h e =
-      let same = same_kind (kind_after b (kind ps)) (kind ps) in
-      let m = made (means_strings_before b) (λ ds. and_then (joined ps) (λ x. when same (and_then (means_chunk ps x) (λ c. Some (ds ++ c ∷ []))))) cs e in
-      let n = made (joined ps) (λ x. when same (and_then (means_chunk ps x) (λ c. Some (m.first ++ c ∷ [])))) cs m.then in
-      let d = chosen same (and_then (means_chunk ps n.first) (λ c. Some (m.first ++ c ∷ []))) cs n.then in
-      let l = made (means_chunk ps n.first) (λ c. Some (m.first ++ c ∷ [])) cs d.then in
-      subst ChunksFit (some_is l.then) (fits_chunk m.first l.first (chunks_before_sound b m.first h.0 m.was) (chunk_sound ps n.first l.first (joined_bytes ps n.first h.1 n.was) l.was))
+    sound_pairs : {d : ℕ} {x : List Token} {es : Entries} {l : List MeaningError} → ArePairs p d x es l → AreModest x → l ≡ [] → length (spelled_entries es) < 2 ^ 64 → SoundEntries d es
+    sound_pairs (last_pair {x = x} {y = y} {k = key} {v = value} {l = l} {r = r} a i j) h e k =
+        let sum = length-append (spelled key ++ spelled value) [] in
+        let two = length-append (spelled key) (spelled value) in
+        let s = sound i (front x (token a Colon ∷ y) h) (no_left l r e) (omega (arith, k, sum, two)) in
+        let t = sound j (back x (token a Colon ∷ y) h).1 (no_right l r e) (omega (arith, k, sum, two)) in
+        record { fits = (s.fits, t.fits, tt); low = omega (arith, s.low, t.low) }
+    sound_pairs (pair_before {x = x} {y = y} {z = z} {k = key} {v = value} {es = es} {l = l} {r = r} {s = others} a c i j is) h e k =
+        let sum = length-append (spelled key ++ spelled value) (spelled_entries es) in
+        let two = length-append (spelled key) (spelled value) in
+        let after = (back x (token a Colon ∷ (y ++ token c Comma ∷ z)) h).1 in
+        let own = no_right l _ e in
+        let s = sound i (front x (token a Colon ∷ (y ++ token c Comma ∷ z)) h) (no_left l _ e) (omega (arith, k, sum, two)) in
+        let t = sound j (front y (token c Comma ∷ z) after) (no_left r others own) (omega (arith, k, sum, two)) in
+        let rest = sound_pairs is (back y (token c Comma ∷ z) after).1 (no_right r others own) (omega (arith, k, sum, two)) in
+        record { fits = (s.fits, t.fits, rest.fits); low = omega (arith, s.low, t.low, rest.low) }
 
-  chunks_before_sound : (b : StringsBefore) (cs : List Chunk) → PlainStringsBefore b → means_strings_before b ≡ Some cs → ChunksFit cs
-  chunks_before_sound no_string cs h e = subst ChunksFit (some_is e) tt
-  chunks_before_sound (after_strings ss c) cs h e = chunks_sound ss cs h e
+    sound_fields : {d : ℕ} {x : List Token} {es : Entries} {l : List MeaningError} → IsFields p d x es l → AreModest x → l ≡ [] → length (spelled_entries es) < 2 ^ 64 → SoundEntries d es
+    sound_fields no_fields h e k = record { fits = tt; low = omega arith }
+    sound_fields (tight_fields is) h e k = sound_pairs is h e k
+    sound_fields (loose_fields {x = x} a two is) h e k = sound_pairs is (front x (token a Comma ∷ []) h) e k
 
-  joined_bytes : (ps : Pieces) (x : List ℕ) → PlainPieces ps → joined ps ≡ Some x → AreBytes x
-  joined_bytes (piece p) x h e = piece_bytes p x h e
-  joined_bytes (also ps p) x h e =
-      let a = made (joined ps) (λ y. and_then (joined_piece p) (λ z. Some (y ++ z))) x e in
-      let b = made (joined_piece p) (λ z. Some (a.first ++ z)) x a.then in
-      subst AreBytes (some_is b.then) (bytes-append a.first b.first (joined_bytes ps a.first h.0 a.was) (piece_bytes p b.first h.1 b.was))
-
-  piece_bytes : (p : Piece) (x : List ℕ) → PlainPiece p → joined_piece p ≡ Some x → AreBytes x
-  piece_bytes (text at y m) x h e = subst AreBytes (some_is e) h
-  piece_bytes (bytes at q y m) x h e = subst AreBytes (some_is e) h
-  piece_bytes (embedded at c end m) x h e =
-      let a = made (means_content c) (λ ts. Some (spelled_all ts)) x e in
-      subst AreBytes (some_is a.then) (spelled_all_bytes a.first (sound_content c a.first h a.was).fits)
-
-  sound_row : (r : Row) (ts : Trees) → PlainRow r → means_row r ≡ Some ts → SoundAll (depth_of_row r) ts
-  sound_row (row b i) ts h e =
-      let m = made (means_row_before b) (λ us. and_then (means i) (λ t. Some (snoc us t))) ts e in
-      let n = made (means i) (λ t. Some (snoc m.first t)) ts m.then in
-      subst (SoundAll (depth_of_row (row b i))) (some_is n.then) (snoc_sound (depth_of_row_before b) (depth i) _ m.first n.first (omega arith) (omega arith) (sound_row_before b m.first h.0 m.was) (plain_sound i n.first h.1 n.was))
-
-  sound_row_before : (b : RowBefore) (ts : Trees) → PlainRowBefore b → means_row_before b ≡ Some ts → SoundAll (depth_of_row_before b) ts
-  sound_row_before no_item ts h e = subst (SoundAll 0) (some_is e) (record { fits = tt; low = omega arith })
-  sound_row_before (after_row r c) ts h e = sound_row r ts h e
-
-  sound_content : (c : Content) (ts : Trees) → PlainContent c → means_content c ≡ Some ts → SoundAll (depth_of_content c) ts
-  sound_content (loose b) ts h e = sound_row_before b ts h e
-  sound_content (tight r) ts h e = sound_row r ts h e
-
-  sound_pairs : (ps : Pairs) (es : Entries) → PlainPairs ps → means_pairs ps ≡ Some es → SoundEntries (depth_of_pairs ps) es
-  sound_pairs (pairs b k c v) es h e =
-      let m = made (means_pairs_before b) (λ ds. and_then (means k) (λ t. and_then (means v) (λ u. Some (snoc_entry ds t u)))) es e in
-      let n = made (means k) (λ t. and_then (means v) (λ u. Some (snoc_entry m.first t u))) es m.then in
-      let l = made (means v) (λ u. Some (snoc_entry m.first n.first u)) es n.then in
-      subst (SoundEntries (depth_of_pairs (pairs b k c v))) (some_is l.then) (snoc_entry_sound (depth_of_pairs_before b) (depth k) (depth v) _ m.first n.first l.first (omega arith) (omega arith) (omega arith) (sound_pairs_before b m.first h.0 m.was) (plain_sound k n.first h.1 n.was) (plain_sound v l.first h.2 l.was))
-
-  sound_pairs_before : (b : PairsBefore) (es : Entries) → PlainPairsBefore b → means_pairs_before b ≡ Some es → SoundEntries (depth_of_pairs_before b) es
-  sound_pairs_before no_pair es h e = subst (SoundEntries 0) (some_is e) (record { fits = tt; low = omega arith })
-  sound_pairs_before (after_pairs ps c) es h e = sound_pairs ps es h e
-
-  sound_fields : (f : Fields) (es : Entries) → PlainFields f → means_fields f ≡ Some es → SoundEntries (depth_of_fields f) es
-  sound_fields (loose_fields b) es h e = sound_pairs_before b es h e
-  sound_fields (tight_fields ps) es h e = sound_pairs ps es h e
-
-pub plain_fits : (t : Input) (ts : Trees) → PlainInput t → Says t ts → FitsAll ts × (depth_all ts ≤ depth_of_input t)
-plain_fits nothing ts h e = subst (λ us. FitsAll us × (depth_all us ≤ 0)) (some_is e) (tt, omega arith)
-plain_fits (items r) ts h e = let s = sound_row r ts h e in (s.fits, s.low)
+  -- LAW: the nodes fit their widths and are within the limit
+  pub text_sound : {d : ℕ} {x : List Token} {ts : Trees} → IsText p d x ts [] → AreModest x → length (spelled_all ts) < 2 ^ 64 → SoundAll d ts
+  text_sound nothing h k = record { fits = tt; low = omega arith }
+  text_sound (items is) h k = sound_items is h refl k

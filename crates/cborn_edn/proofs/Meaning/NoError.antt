@@ -1,50 +1,64 @@
--- A head that has a width has no meaning error, nor has an integer that says a node.
-use Rattle.std.proofs.Common.{◌≡◌, refl, sym, ap, ◌∙◌, ℕ, ◌^◌, List, [], ◌∷◌, Bool, true, false, ltb, cond, Some, None}
+-- What is known where there is no meaning error: an argument, a count or a length below 2^64 fits its width.
+use Rattle.std.proofs.Common.{◌≡◌, refl, ℕ, ◌^◌, ◌<◌, List, [], ◌∷◌, ◌++◌, length, Bool, true, false, ltb, cond}
+use Rattle.std.specs.Prelude.{if◌then◌else◌}
+use Rattle.std.proofs.lemmas.Bool.{ltb-true}
 use Rattle.cborn_model.specs.declared.heads.Width.{Width}
-use Rattle.cborn_model.specs.declared.heads.Size.{Size}
-use Rattle.cborn_model.specs.declared.heads.Size.TheVariants.{Fixed}
-use Rattle.cborn_model.specs.Tree.{Tree, Trees}
+use Rattle.cborn_model.specs.declared.heads.Width.TheVariants.{Direct, One, Two, Four, Eight}
+use Rattle.cborn_model.specs.Heads.{holds, WidthFits, SizeFits}
+use Rattle.cborn_model.proofs.Numbers.OneHead.{least_holds}
 use Rattle.cborn_lex.specs.declared.classes.Mark.{Mark}
 use Rattle.cborn_lex.specs.declared.classes.Mark.TheVariants.{Absent, Endless, Wide}
-use Rattle.cborn_edn.specs.devices.Syntax.{Strings, strings, argument_of}
-use Rattle.cborn_model.specs.Heads.{holds}
-use Rattle.cborn_edn.specs.devices.Meaning.{and_then, when, width_for, size_for, is_absent, integer, bignum, means_number, unless, width_errors, size_errors, number_errors, tag_errors}
 use Rattle.cborn_edn.specs.declared.faults.EdnReason.{EdnReason}
-use Rattle.cborn_edn.specs.declared.faults.EdnReason.TheVariants.{IndicatorTooNarrow, IndicatorNotAllowed}
-use Rattle.cborn_edn.specs.declared.meaning_errors.MeaningError.{MeaningError}
-use Rattle.cborn_edn.proofs.Meaning.Agree.{is_there, is_nil, tag_agrees, made}
-use Rattle.cborn_edn.proofs.Meaning.Fit.{chosen}
+use Rattle.cborn_edn.specs.declared.faults.EdnReason.TheVariants.{IndicatorTooNarrow, IndicatorNotAllowed, TagTooLarge}
+use Rattle.cborn_edn.specs.Says.{width, size, unless, width_errors, size_errors, tag_errors, Str, is_endless, is_nil, mark_errors}
 
-pub nothing_there : {A B : Type 0} (x : A) → None ≡ Some x → B
-nothing_there x e = absurd (clash e)
+pub no_left : {A : Type 0} (x y : List A) → x ++ y ≡ [] → x ≡ []
+no_left [] y e = refl
+no_left (a ∷ x) y e = absurd (let bad : a ∷ (x ++ y) ≡ [] = e in cc)
+
+pub no_right : {A : Type 0} (x y : List A) → x ++ y ≡ [] → y ≡ []
+no_right [] y e = e
+no_right (a ∷ x) y e = absurd (let bad : a ∷ (x ++ y) ≡ [] = e in cc)
+
+pub nil_is : {A : Type 0} (l : List A) → is_nil l ≡ true → l ≡ []
+nil_is [] e = refl
+nil_is (s ∷ l) e = absurd (let bad : false ≡ true = e in cc)
+
+-- the test holds
+pub held : (b : Bool) (p : ℕ) (r : EdnReason) → unless b p r ≡ [] → b ≡ true
+held true p r e = refl
+held false p r e = absurd (let bad : record { place = p; reason = r } ∷ [] ≡ [] = e in cc)
+
+pub holds_is : (w : Width) (n : ℕ) → holds w n ≡ true → WidthFits w n
+holds_is Direct n e = ltb-true _ _ e
+holds_is One n e = ltb-true _ _ e
+holds_is Two n e = ltb-true _ _ e
+holds_is Four n e = ltb-true _ _ e
+holds_is Eight n e = ltb-true _ _ e
+
+pub width_fits : (p : ℕ) (m : Mark) (n : ℕ) → n < 2 ^ 64 → width_errors p m n ≡ [] → WidthFits (width m n) n
+width_fits p Absent n h e = least_holds n h
+width_fits p Endless n h e = least_holds n h
+width_fits p (Wide w) n h e = holds_is w n (held (holds w n) p IndicatorTooNarrow e)
+
+pub size_fits : (p : ℕ) (m : Mark) (n : ℕ) → n < 2 ^ 64 → size_errors p m n ≡ [] → SizeFits (size m n) n
+size_fits p Absent n h e = least_holds n h
+size_fits p Endless n h e = tt
+size_fits p (Wide w) n h e = width_fits p (Wide w) n h e
+
+pub tag_fits : (p : ℕ) (m : Mark) (n : ℕ) → tag_errors p m n ≡ [] → WidthFits (width m n) n
+tag_fits p m n e = go (ltb n (2 ^ 64)) refl e
   where
-    clash : None ≡ Some x → ⊥
-    clash e = cc
+    go : (b : Bool) → ltb n (2 ^ 64) ≡ b → cond b (width_errors p m n) (unless false p TagTooLarge) ≡ [] → WidthFits (width m n) n
+    go true f e = width_fits p m n (ltb-true _ _ f) e
+    go false f e = absurd (let bad : false ≡ true = held false p TagTooLarge e in cc)
 
-pub empty : (l : List MeaningError) → is_nil l ≡ true → l ≡ []
-empty [] e = refl
-empty (s ∷ l) e = absurd (let f : false ≡ true = e in cc)
-
-pub none_unless : (b : Bool) (p : ℕ) (r : EdnReason) → b ≡ true → unless b p r ≡ []
-none_unless b p r e = rw e refl
-
-pub width_none : (p : ℕ) (m : Mark) (n : ℕ) (w : Width) → width_for m n ≡ Some w → width_errors p m n ≡ []
-width_none p Absent n w e = refl
-width_none p Endless n w e = nothing_there w e
-width_none p (Wide v) n w e = none_unless (holds v n) p IndicatorTooNarrow (chosen (holds v n) (Some v) w e).test
-
-pub size_none : (p : ℕ) (m : Mark) (n : ℕ) (s : Size) → size_for m n ≡ Some s → size_errors p m n ≡ []
-size_none p Absent n s e = refl
-size_none p Endless n s e = refl
-size_none p (Wide v) n s e = none_unless (holds v n) p IndicatorTooNarrow (chosen (holds v n) (Some (Fixed v)) s e).test
-
-pub number_none : (p : ℕ) (n : Bool) (v : ℕ) (m : Mark) (t : Tree) → means_number p n v m ≡ Some t → number_errors p n v m ≡ []
-number_none p n v m t e = go (ltb (argument_of n v) (2 ^ 64)) e
+-- the length of a string that is known
+pub mark_fits : (may_end : Bool) (s : Str) → s.known ≡ true → mark_errors may_end s ≡ [] → length s.bytes < 2 ^ 64 → WidthFits (width s.mark (length s.bytes)) (length s.bytes)
+mark_fits may_end s known e h = go s.mark s.known known e
   where
-    go : (b : Bool) → cond b (and_then (width_for m (argument_of n v)) (λ w. Some (integer p n v w))) (when (is_absent m) (bignum p n v)) ≡ Some t
-        → cond b (width_errors p m (argument_of n v)) (unless (is_absent m) p IndicatorNotAllowed) ≡ []
-    go true e = let d = made (width_for m (argument_of n v)) (λ w. Some (integer p n v w)) t e in width_none p m (argument_of n v) d.first d.was
-    go false e = none_unless (is_absent m) p IndicatorNotAllowed (chosen (is_absent m) (bignum p n v) t e).test
-
-pub tag_none : (p : ℕ) (m : Mark) (n : ℕ) (w : Width) → width_for m n ≡ Some w → tag_errors p m n ≡ []
-tag_none p m n w e = empty (tag_errors p m n) (sym (tag_agrees p m n) ∙ ap is_there e)
+    go : (m : Mark) (k : Bool) → k ≡ true → (if is_endless m then unless may_end s.mark_place IndicatorNotAllowed else if k then width_errors s.mark_place m (length s.bytes) else []) ≡ [] → WidthFits (width m (length s.bytes)) (length s.bytes)
+    go Absent k f e = least_holds (length s.bytes) h
+    go Endless k f e = least_holds (length s.bytes) h
+    go (Wide w) true f e = width_fits s.mark_place (Wide w) (length s.bytes) h e
+    go (Wide w) false f e = absurd (let bad : false ≡ true = f in cc)

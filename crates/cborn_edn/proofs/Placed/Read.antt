@@ -1,31 +1,25 @@
 -- The nodes that are read from bytes, with the places of a text that spells the bytes, are the nodes that the text notates.
-use Rattle.std.proofs.Common.{◌≡◌, sym, ap, ◌∙◌, subst, ℕ, ◌^◌, ◌<◌, ◌≤◌, List, [], length, arith}
+use Rattle.std.proofs.Common.{◌≡◌, sym, ap, ◌∙◌, subst, ℕ, ◌^◌, ◌<◌, ◌≤◌, List, length, arith}
 use Rattle.cborn_model.specs.Bytes.{AreBytes}
 use Rattle.cborn_model.specs.Tree.{Trees, depth_all}
-use Rattle.cborn_model.specs.Spelled.{FitsAll, Wellformed, spelled_all}
+use Rattle.cborn_model.specs.Spelled.{FitsAll, Wellformed}
 use Rattle.cborn_lex.specs.declared.classes.Profile.{Profile}
 use Rattle.cborn_lex.proofs.GoodTexts.{lexed as lex_of}
-use Rattle.cborn_lex.proofs.WholeTexts.Weights.{AreModest, text_light}
+use Rattle.cborn_lex.proofs.WholeTexts.Weights.{text_light}
 use Rattle.cborn_wire.specs.Faults.{IsWellformed}
 use Rattle.cborn_edn.specs.Grammar.{Notates}
 use Rattle.cborn_edn.specs.Spelling.{IsSpelling}
 use Rattle.cborn_edn.specs.Starts.{starts_all}
 use Rattle.cborn_edn.specs.devices.Put.{put_all}
-use Rattle.cborn_edn.proofs.Meaning.AnyLength.{any_fits}
-use Rattle.cborn_edn.proofs.Placed.Bounded.{bounded_input}
+use Rattle.cborn_edn.proofs.Meaning.Fit.{text_sound}
 use Rattle.cborn_edn.proofs.Placed.Putting.{same_nodes}
-use Rattle.cborn_edn.proofs.Short.SyntaxErrors.{parsed}
-use Rattle.cborn_edn.proofs.Short.Same.{meant}
 
 module _ (profile : Profile) (limit : ℕ) (text bytes : List ℕ) (are : AreBytes text) (few : length bytes < 2 ^ 64) (h : IsSpelling profile limit text bytes) where
   fit : FitsAll h.nodes × (depth_all h.nodes ≤ limit)
   fit =
-      let x = h.notated.0 in
-      let lex = lex_of profile text x h.notated.1 in
-      let r = parsed profile limit x h.nodes [] h.notated.2 in
-      let modest = subst AreModest (sym r.parse.is) (text_light profile text x are lex).0 in
-      let counted = bounded_input r.tree modest (omega (arith, few, ap (λ ts. length (spelled_all ts)) r.says, ap length h.spells)) in
-      any_fits profile limit text h.nodes are (meant profile limit text h.nodes x lex r counted)
+      let modest = (text_light profile text h.notated.0 are (lex_of profile text h.notated.0 h.notated.1)).0 in
+      let s = text_sound h.notated.2 modest (omega (arith, few, ap length h.spells)) in
+      (s.fits, s.low)
 
   pub is_wellformed : IsWellformed limit bytes
   is_wellformed = (h.nodes, record { spells = h.spells; fit = fit.0; shallow = fit.1 })

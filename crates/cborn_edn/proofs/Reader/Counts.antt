@@ -17,7 +17,7 @@ use Rattle.cborn_edn.specs.declared.states.Writer.{Writer}
 use Rattle.cborn_edn.specs.devices.Laid.{place_of, chunks_laid, laid_stack, laid_nest, laid_home, laid}
 use Rattle.cborn_edn.specs.devices.Kept.{stack_of, stack_in, count_of, brackets_of, brackets_nest, brackets_home}
 use Rattle.cborn_edn.specs.devices.Shows.{Shows}
-use Rattle.cborn_edn.specs.devices.Written.{heads_at, heads_nest, written_mark, node_as, nodes_as, entries_as}
+use Rattle.cborn_edn.specs.devices.Written.{heads_at, heads_nest, node_as, nodes_as, entries_as}
 use Rattle.cborn_edn.proofs.Reader.Laying.{laid_length}
 use Rattle.cborn_edn.proofs.Reader.Written.{count_as, count_entries_as}
 

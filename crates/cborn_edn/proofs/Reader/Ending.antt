@@ -17,8 +17,9 @@ use Rattle.cborn_edn.proofs.Grammar.Machine.{in_row, in_key, in_value, in_tag, a
 use Rattle.cborn_edn.proofs.Grammar.Takes.{finish}
 use Rattle.cborn_edn.proofs.Grammar.Parser.{at_end, parse, Meets, parses}
 use Rattle.cborn_edn.proofs.Meaning.Earliest.{Tells, tells}
+use Rattle.cborn_edn.proofs.Meaning.NoError.{nil_is}
 use Rattle.cborn_edn.proofs.Short.Said.{node, nodes_before, nodes_of_input, faults_of_input}
-use Rattle.cborn_edn.proofs.Short.SyntaxErrors.{not_had, text_of}
+use Rattle.cborn_edn.proofs.Short.SyntaxErrors.{refused, text_of}
 use Rattle.cborn_edn.specs.devices.Written.{IsSpellingAs, nodes_as}
 use Rattle.cborn_edn.proofs.Reader.Written.{same_nodes, short_nodes}
 use Rattle.cborn_edn.proofs.Reader.ShortHeads.{written_bytes}
@@ -34,7 +35,7 @@ use Rattle.cborn_edn.specs.devices.Reading.{may_end, ends_string, Last, empty, i
 use Rattle.cborn_edn.proofs.Reader.Laying.{cut_bytes}
 use Rattle.cborn_edn.proofs.Reader.NotedErrors.{none_first}
 use Rattle.cborn_edn.proofs.Reader.Rows.{written_snoc}
-use Rattle.cborn_edn.proofs.Reader.Modest.{nil_is, input_bytes}
+use Rattle.cborn_edn.proofs.Reader.Modest.{input_bytes}
 
 -- whether the text may end
 pub data Ends (s : State) (b : Bool) : Type 0 where
@@ -109,7 +110,7 @@ module _ (p : Profile) (limit : ℕ) (text : List ℕ) (s : State) (r : Reached 
       subst (Meets p limit (length text) r.tokens) on (parses p limit (length text) r.tokens)
 
   pub cut_short : finish s ≡ None → IsNoNotation p limit text (Refused (length text) UnexpectedEnd)
-  cut_short e = not_had p limit text (Refused (length text) UnexpectedEnd) (r.tokens, lex, met None e)
+  cut_short e = refused p limit text r.tokens (length text) UnexpectedEnd lex (met None e)
 
   is_text : (t : Input) → finish s ≡ Some t → IsText p limit r.tokens (nodes_of_input t) (faults_of_input t)
   is_text t e = let m = met (Some t) e in text_of p limit r.tokens t m.0 m.1

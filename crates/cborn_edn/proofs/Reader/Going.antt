@@ -12,6 +12,7 @@ use Rattle.cborn_lex.specs.declared.classes.Profile.TheVariants.{One, Two}
 use Rattle.cborn_lex.specs.declared.classes.Token.{Token}
 use Rattle.cborn_lex.specs.declared.faults.LexFault.{LexFault}
 use Rattle.cborn_lex.specs.declared.faults.LexFault.TheVariants.{Refused as LexRefused, OutOfMemory as LexOutOfMemory}
+use Rattle.cborn_lex.proofs.GoodTexts.{failed}
 use Rattle.cborn_lex.proofs.WholeTexts.Progress.{nothing, joins, whole_text, whole_stop, stops}
 use Rattle.cborn_edn.specs.devices.Modest.{AreModest}
 use Rattle.cborn_edn.specs.declared.faults.EdnReason.{EdnReason}
@@ -26,8 +27,7 @@ use Rattle.cborn_edn.proofs.Grammar.Machine.{in_row, in_key, in_value, in_tag, a
 use Rattle.cborn_edn.proofs.Grammar.Held.{held, open_levels, deep, commas_held, comma_at, After, Grows}
 use Rattle.cborn_edn.proofs.Grammar.Grows.{grows}
 use Rattle.cborn_edn.proofs.Grammar.Parser.{Answer, HasSyntaxError, forbids, checked, parse, Meets, parses}
-use Rattle.cborn_edn.specs.devices.Notates.{IsNoTree}
-use Rattle.cborn_edn.proofs.Short.SyntaxErrors.{not_had}
+use Rattle.cborn_edn.proofs.Short.SyntaxErrors.{refused}
 use Rattle.cborn_edn.specs.declared.states.Phase.{Phase}
 use Rattle.cborn_edn.specs.declared.states.Phase.TheVariants.{Wants, WantsMore}
 use Rattle.cborn_edn.specs.declared.states.Phase.TheVariants as phases
@@ -39,8 +39,8 @@ pub begins : (profile : Profile) (limit : ℕ) (text : List ℕ) → Reached pro
 begins profile limit text = record { tokens = []; between = nothing profile text 0; modest = tt; held = refl; runs = λ t stop b more end. refl; stops = λ end. refl }
 
 -- what is reported of a text with a lexical fault
-lexical_reported : (profile : Profile) (limit : ℕ) (text : List ℕ) (e : LexFault) → IsStopAt profile text e → IsNoTree profile limit text (lexical e)
-lexical_reported profile limit text (LexRefused p r) h = h
+lexical_reported : (profile : Profile) (limit : ℕ) (text : List ℕ) (e : LexFault) → IsStopAt profile text e → IsNoNotation profile limit text (lexical e)
+lexical_reported profile limit text (LexRefused p r) h = failed profile text p r h
 lexical_reported profile limit text LexOutOfMemory h = tt
 
 clash : {A : Type 0} → true ≡ false → A
@@ -94,7 +94,7 @@ module _ (profile : Profile) (limit : ℕ) (text : List ℕ) (at : ℕ) (s : Sta
   ends last = skips (length text) last
 
   pub stopped : (e : LexFault) → IsStopFrom profile text at e → IsNoNotation profile limit text (lexical e)
-  stopped e h = not_had profile limit text (lexical e) (lexical_reported profile limit text e (whole_stop profile text e (stops profile text 0 at r.tokens e r.between h)))
+  stopped e h = lexical_reported profile limit text e (whole_stop profile text e (stops profile text 0 at r.tokens e r.between h))
 
   -- a token that is refused; but a later lexical fault comes first
   syntax : (t : Token) (why : EdnReason) (fault : EdnFault) → Between profile text at t.stop (t ∷ []) → ((more : List Token) (end : ℕ) → parse profile limit end (r.tokens ++ (t ∷ more)) start ≡ HasSyntaxError t.start why)
@@ -102,7 +102,7 @@ module _ (profile : Profile) (limit : ℕ) (text : List ℕ) (at : ℕ) (s : Sta
   syntax t why fault next reported (inl (more, rest, f)) =
       let all = joins profile text 0 at (length text) r.tokens (t ∷ more) r.between (joins profile text at t.stop (length text) (t ∷ []) more next rest) in
       let met = subst (Meets profile limit (length text) (r.tokens ++ (t ∷ more))) (reported more (length text)) (parses profile limit (length text) (r.tokens ++ (t ∷ more))) in
-      subst (IsNoNotation profile limit text) (sym f) (not_had profile limit text (Refused t.start why) (r.tokens ++ (t ∷ more), whole_text profile text (r.tokens ++ (t ∷ more)) all, met))
+      subst (IsNoNotation profile limit text) (sym f) (refused profile limit text (r.tokens ++ (t ∷ more)) t.start why (whole_text profile text (r.tokens ++ (t ∷ more)) all) met)
   syntax t why fault next reported (inr (stop, h, f)) = subst (IsNoNotation profile limit text) (sym f) (stopped stop (stops profile text at t.stop (t ∷ []) stop next h))
 
   pub unexpected : (t : Token) (fault : EdnFault) → Between profile text at t.stop (t ∷ []) → checked profile limit s t (step s t) ≡ None

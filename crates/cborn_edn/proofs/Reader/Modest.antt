@@ -1,5 +1,5 @@
 -- What tokens say that are read from a text, where there is no meaning error, are bytes.
-use Rattle.std.proofs.Common.{◌≡◌, refl, sym, ap, ◌∙◌, subst, ℕ, ◌+◌, ◌*◌, ◌^◌, ◌<◌, ◌≤◌, List, [], ◌∷◌, ◌++◌, length, Bool, true, false, ◌&&◌, ltb, Some, arith}
+use Rattle.std.proofs.Common.{◌≡◌, refl, sym, ap, ◌∙◌, subst, ℕ, ◌+◌, ◌*◌, ◌^◌, ◌<◌, ◌≤◌, List, [], ◌∷◌, ◌++◌, length, Bool, true, false, ◌&&◌, ltb, arith}
 use Rattle.std.specs.Prelude.{if◌then◌else◌}
 use Rattle.std.specs.List.{flat_map}
 use Rattle.std.specs.Int.Digits.{digits_of}
@@ -28,10 +28,9 @@ use Rattle.cborn_edn.specs.declared.strings.StringKind.{StringKind}
 use Rattle.cborn_edn.specs.declared.strings.StringKind.TheVariants.{Bytes as OfBytes, Text as OfText}
 use Rattle.cborn_edn.specs.Says as says
 use Rattle.cborn_edn.specs.Says.{width, size, unless, width_errors, size_errors, is_below, argument_of, is_small, number_node, number_errors, tag_errors, is_endless, is_good, is_nil, Str, chunk, chunked_node, string_node, said_string, mark_errors, string_errors, chunk_errors, piece_errors}
-use Rattle.cborn_edn.specs.devices.Meaning.{when}
 use Rattle.cborn_edn.specs.devices.Syntax as tree
 use Rattle.cborn_edn.specs.devices.Syntax.{token, Item, Piece, Pieces, piece, also, Strings, strings, StringsBefore, no_string, after_strings, Row, row, RowBefore, no_item, after_row, Content, loose, tight, Pairs, pairs, PairsBefore, no_pair, after_pairs, Fields, loose_fields, tight_fields, Input, nothing, items, tokens_of, tokens_of_piece, tokens_of_pieces, tokens_of_strings, tokens_of_strings_before, tokens_of_row, tokens_of_row_before, tokens_of_content, tokens_of_pairs, tokens_of_pairs_before, tokens_of_fields, tokens_of_input}
-use Rattle.cborn_edn.proofs.Meaning.Fit.{width_holds}
+use Rattle.cborn_edn.proofs.Meaning.NoError.{no_left, no_right, nil_is, held, holds_is}
 use Rattle.cborn_edn.proofs.Short.Said.{node, str_of, str, kind_in, chunks, nodes, nodes_before, nodes_in, entries, entries_before, entries_in, faults, faults_of_pieces, faults_of_strings, faults_of_row, faults_before, faults_in, faults_of_pairs, faults_before_pairs, faults_of_fields, nodes_of_input, faults_of_input}
 use Rattle.cborn_edn.proofs.Reader.Rows.{spelled_snoc, spelled_snoc_entry}
 
@@ -46,14 +45,6 @@ modest_right (t ∷ x) y h = modest_right x y h.1
 pub modest_both : (x y : List Token) → AreModest x → AreModest y → AreModest (x ++ y)
 modest_both [] y h k = k
 modest_both (t ∷ x) y h k = (h.0, modest_both x y h.1 k)
-
-no_left : {A : Type 0} (x y : List A) → x ++ y ≡ [] → x ≡ []
-no_left [] y e = refl
-no_left (a ∷ x) y e = absurd (let bad : a ∷ (x ++ y) ≡ [] = e in cc)
-
-no_right : {A : Type 0} (x y : List A) → x ++ y ≡ [] → y ≡ []
-no_right [] y e = e
-no_right (a ∷ x) y e = absurd (let bad : a ∷ (x ++ y) ≡ [] = e in cc)
 
 pub least_bytes : (k : Major) (n : ℕ) → AreBytes (head k (Given (least n) n))
 least_bytes k n = go (ltb n (2 ^ 64)) refl
@@ -83,17 +74,13 @@ least_bytes k n = go (ltb n (2 ^ 64)) refl
     go true e = head_bytes k (Given (least n) n) (least_holds n (ltb-true _ _ e))
     go false e = subst (λ w. AreBytes (head k (Given w n))) (sym (wide (ltb-false _ _ e))) (eight k)
 
-held : (b : Bool) (p : ℕ) → unless b p IndicatorTooNarrow ≡ [] → b ≡ true
-held true p e = refl
-held false p e = absurd (let bad : record { place = p; reason = IndicatorTooNarrow } ∷ [] ≡ [] = e in cc)
-
 no_error : {A : Type 0} (s : MeaningError) (l : List MeaningError) → s ∷ l ≡ [] → A
 no_error s l e = absurd (let bad : s ∷ l ≡ [] = e in cc)
 
 width_bytes : (k : Major) (p : ℕ) (m : Mark) (n : ℕ) → width_errors p m n ≡ [] → AreBytes (head k (Given (width m n) n))
 width_bytes k p Absent n e = least_bytes k n
 width_bytes k p Endless n e = no_error (record { place = p; reason = IndicatorNotAllowed }) [] e
-width_bytes k p (Wide w) n e = head_bytes k (Given w n) (width_holds (Wide w) n w (ap (λ b. when b (Some w)) (held (holds w n) p e)))
+width_bytes k p (Wide w) n e = head_bytes k (Given w n) (holds_is w n (held (holds w n) p IndicatorTooNarrow e))
 
 -- what an array's or a map's head and its end enclose
 sized_bytes : (k : Major) (p : ℕ) (m : Mark) (n : ℕ) (x : List ℕ) → size_errors p m n ≡ [] → AreBytes x → AreBytes (head k (argument (size m n) n) ++ x ++ ending (size m n))
@@ -157,10 +144,6 @@ left_true false b e = e
 right_true : (a b : Bool) → (a && b) ≡ true → b ≡ true
 right_true true b e = e
 right_true false b e = absurd (let bad : false ≡ true = e in cc)
-
-pub nil_is : (l : List MeaningError) → is_nil l ≡ true → l ≡ []
-nil_is [] e = refl
-nil_is (s ∷ l) e = absurd (let bad : false ≡ true = e in cc)
 
 chunk_head : (k : Major) (s : Str) → s.known ≡ true → string_errors false s ≡ [] → AreBytes s.bytes → AreBytes (chunk_bytes k (chunk s))
 chunk_head k s known e h = bytes-append (head k (Given (width s.mark (length s.bytes)) (length s.bytes))) s.bytes (mark_head k false s known refl (no_left (mark_errors false s) _ e)) h

@@ -1,15 +1,14 @@
 -- What is shown after a number, a word, the head of a tag or the number of a simple value.
-use Rattle.std.proofs.Common.{◌≡◌, refl, sym, ap, ◌∙◌, ℕ, List, ◌++◌, Bool, append-nil}
+use Rattle.std.proofs.Common.{◌≡◌, refl, sym, ap, ◌∙◌, ℕ, List, ◌++◌, Bool}
 use Rattle.cborn_model.specs.Heads.{Given, head}
 use Rattle.cborn_model.specs.declared.heads.Major.TheVariants.{Tag}
 use Rattle.cborn_model.specs.Spelled.{spelled}
 use Rattle.cborn_model.specs.Tree.{Simple}
 use Rattle.cborn_lex.specs.declared.classes.Mark.{Mark}
 use Rattle.cborn_edn.specs.Says.{width, number_node, number_errors, simple_errors}
-use Rattle.cborn_edn.specs.declared.meaning_errors.MeaningError.{MeaningError}
 use Rattle.cborn_edn.specs.devices.MeaningErrors.{first_error, Notes}
 use Rattle.cborn_edn.specs.devices.Syntax.{Span, number, word}
-use Rattle.cborn_edn.proofs.Grammar.Machine.{Stack, in_row, in_tag, State, wants, has, wants_number, has_number}
+use Rattle.cborn_edn.proofs.Grammar.Machine.{Stack, in_tag, wants, has, wants_number, has_number}
 use Rattle.cborn_edn.specs.declared.states.Around.{Around}
 use Rattle.cborn_edn.specs.declared.states.Heads.{Heads}
 use Rattle.cborn_edn.specs.declared.states.Here.{Here}

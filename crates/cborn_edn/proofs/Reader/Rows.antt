@@ -1,14 +1,13 @@
 -- What is shown before the bracket that ends a row or a map.
-use Rattle.std.proofs.Common.{◌≡◌, refl, sym, ap, ◌∙◌, ℕ, ◌+◌, List, ◌∷◌, ◌++◌, length, Some, None, append-nil, append_assoc, arith}
+use Rattle.std.proofs.Common.{◌≡◌, refl, sym, ap, ◌∙◌, ℕ, suc, ◌+◌, List, ◌∷◌, ◌++◌, length, Some, None, append-nil, append_assoc, arith}
 use Rattle.cborn_model.specs.Tree.{Tree, Trees, no_item as no_node, more, Entries, no_entry, entry, count, count_entries}
 use Rattle.cborn_model.specs.Spelled.{spelled, spelled_all, spelled_entries}
 use Rattle.cborn_model.specs.declared.heads.Major.TheVariants.{Map}
 use Rattle.cborn_lex.specs.declared.classes.Mark.{Mark}
 use Rattle.cborn_edn.specs.devices.MeaningErrors.{first_error}
-use Rattle.cborn_edn.specs.devices.Meaning.{snoc, snoc_entry}
+use Rattle.cborn_edn.specs.devices.Said.{snoc, snoc_entry}
 use Rattle.cborn_edn.specs.devices.Syntax.{Span, Item, row, RowBefore, no_item, after_row, Content, loose, tight, pairs, PairsBefore, no_pair, after_pairs, Fields, loose_fields, tight_fields}
 use Rattle.cborn_edn.proofs.Grammar.Machine.{Stack, in_row, in_key, in_value, Nest, at_top, in_array, in_embed, has, wants}
-use Rattle.cborn_edn.proofs.Meaning.Agree.{count-snoc, count-snoc_entry}
 use Rattle.cborn_edn.proofs.Short.Said.{node, nodes_before, nodes_in, entries_before, entries_in, faults, faults_before, faults_in, faults_before_pairs, faults_of_fields}
 use Rattle.cborn_edn.specs.declared.states.Here.{Here}
 use Rattle.cborn_edn.specs.declared.states.Writer.{Writer}
@@ -21,6 +20,14 @@ use Rattle.cborn_edn.specs.devices.Kept.{level_of, bracket, brackets_of, bracket
 use Rattle.cborn_edn.specs.devices.Shows.{Shows, content_state, fields_state, entries_at}
 use Rattle.cborn_edn.specs.devices.Written.{heads_at, heads_nest, node_as, nodes_as, entries_as}
 use Rattle.cborn_edn.proofs.Reader.Written.{snoc_as, snoc_entry_as}
+
+count-snoc : (ts : Trees) (t : Tree) → count (snoc ts t) ≡ suc (count ts)
+count-snoc no_node t = refl
+count-snoc (more u ts) t = ap suc (count-snoc ts t)
+
+count-snoc_entry : (es : Entries) (k v : Tree) → count_entries (snoc_entry es k v) ≡ suc (count_entries es)
+count-snoc_entry no_entry k v = refl
+count-snoc_entry (entry l w es) k v = ap suc (count-snoc_entry es k v)
 
 pub spelled_snoc : (ts : Trees) (t : Tree) → spelled_all (snoc ts t) ≡ spelled_all ts ++ spelled t
 spelled_snoc no_node t = append-nil (spelled t)

@@ -1,5 +1,5 @@
 -- A string that no other piece follows is an item.
-use Rattle.std.proofs.Common.{◌≡◌, refl, sym, ap, ◌∙◌, subst, ℕ, List, [], ◌∷◌, ◌++◌, length, Bool, true, cond, leb, Option, Some, None, append-nil}
+use Rattle.std.proofs.Common.{◌≡◌, refl, sym, ap, ◌∙◌, subst, ℕ, List, [], ◌∷◌, ◌++◌, length, true, cond, leb, Option, Some, None, append-nil}
 use Rattle.std.proofs.lemmas.Str.{is_utf8-from_IsUtf8}
 use Rattle.std.specs.Str.{IsUtf8}
 use Rattle.cborn_model.specs.Bytes.{AreBytes}
@@ -13,7 +13,7 @@ use Rattle.cborn_edn.specs.declared.faults.EdnReason.TheVariants.{TextNotUtf8}
 use Rattle.cborn_edn.specs.devices.MeaningErrors.{first_error}
 use Rattle.cborn_edn.specs.devices.Levels.{reach}
 use Rattle.cborn_edn.specs.devices.Syntax.{Span, span, Item, Pieces, piece, text, string}
-use Rattle.cborn_edn.proofs.Grammar.Machine.{Stack, in_row, in_key, in_value, in_tag, at_top, in_array, in_embed, as_item, State, wants, has, builds, step, step_by}
+use Rattle.cborn_edn.proofs.Grammar.Machine.{Stack, in_row, in_key, in_value, in_tag, at_top, in_array, in_embed, as_item, State, wants, has, builds, step}
 use Rattle.cborn_edn.proofs.Grammar.Held.{levels, comma_at}
 use Rattle.cborn_edn.proofs.Grammar.Takes.{finish}
 use Rattle.cborn_edn.proofs.Grammar.Parser.{at_end, checked, forbids, parse}
@@ -24,7 +24,7 @@ use Rattle.cborn_edn.specs.declared.states.Writer.{Writer}
 use Rattle.cborn_edn.specs.declared.states.Heads.{Heads}
 use Rattle.cborn_edn.specs.declared.states.Heads.TheVariants.{AsWritten, Shortest}
 use Rattle.cborn_edn.specs.declared.states.Phase.TheVariants.{Has}
-use Rattle.cborn_edn.specs.devices.Laid.{cut, laid_stack}
+use Rattle.cborn_edn.specs.devices.Laid.{laid_stack}
 use Rattle.cborn_edn.specs.devices.Noted.{noted_stack}
 use Rattle.cborn_edn.specs.devices.Shows.{Shows}
 use Rattle.cborn_edn.specs.devices.Reading.{Reached}

@@ -1,5 +1,5 @@
 -- Frequent tokens, taken without the lexer: the reader goes on as the machine of tokens does.
-use Rattle.std.proofs.Common.{◌≡◌, refl, sym, ap, ◌∙◌, subst, ℕ, zero, suc, ◌+◌, ◌^◌, if◌then◌else◌, ◌<◌, ◌≤◌, List, [], ◌∷◌, ◌++◌, length, Bool, true, false, Option, Some, arith, ◌⊎◌, inl, inr}
+use Rattle.std.proofs.Common.{◌≡◌, refl, sym, ap, ◌∙◌, subst, ℕ, zero, suc, ◌+◌, ◌^◌, if◌then◌else◌, ◌<◌, ◌≤◌, List, [], ◌∷◌, ◌++◌, length, Bool, true, false, Some, arith, ◌⊎◌, inl, inr}
 use Rattle.std.proofs.lemmas.Bool.{lt-ltb}
 use Rattle.std.specs.Str.{IsUtf8}
 use Rattle.cborn_model.specs.Bytes.{AreBytes}
@@ -13,7 +13,6 @@ use Rattle.cborn_lex.specs.declared.classes.Class.TheVariants.{Number, Text}
 use Rattle.cborn_lex.specs.declared.classes.Mark.{Mark}
 use Rattle.cborn_lex.specs.declared.classes.Mark.TheVariants.{Absent}
 use Rattle.cborn_lex.specs.declared.classes.Profile.{Profile}
-use Rattle.cborn_lex.specs.declared.classes.Profile.TheVariants.{One, Two}
 use Rattle.cborn_lex.specs.declared.classes.Token.{Token}
 use Rattle.cborn_lex.proofs.GoodTexts.{through}
 use Rattle.cborn_lex.proofs.WholeTexts.Progress.{inside, few}
@@ -21,13 +20,12 @@ use Rattle.cborn_lex.proofs.WholeTexts.Weights.{between_modest}
 use Rattle.cborn_edn.specs.Says.{is_small}
 use Rattle.cborn_edn.specs.devices.Levels.{reach}
 use Rattle.cborn_edn.specs.devices.Syntax.{Span, Item, Pieces, piece, text as piece_text, string, StringsBefore, tokens_of_pieces}
-use Rattle.cborn_edn.proofs.Grammar.Machine.{Stack, Home, as_item, as_chunk, State, wants, has, builds, wants_number, has_number, step_by}
+use Rattle.cborn_edn.proofs.Grammar.Machine.{Stack, Home, as_item, as_chunk, State, wants, has, builds, wants_number, step_by}
 use Rattle.cborn_edn.proofs.Grammar.Held.{held, held_home, open_levels, comma_at, comma_in}
 use Rattle.cborn_edn.proofs.Grammar.Parser.{forbids}
 use Rattle.cborn_edn.specs.devices.Ahead.{IsTokenAt, NoPieceAt}
 use Rattle.cborn_edn.specs.declared.states.Here.{Here}
 use Rattle.cborn_edn.specs.declared.states.Writer.{Writer}
-use Rattle.cborn_edn.specs.declared.states.Phase.{Phase}
 use Rattle.cborn_edn.specs.declared.states.Phase.TheVariants as phases
 use Rattle.cborn_edn.specs.devices.Kept.{phase_of}
 use Rattle.cborn_edn.specs.devices.Modest.{AreModest}

@@ -1,24 +1,21 @@
 -- What is written if heads are the shortest: of nodes, pairs and chunks.
-use Rattle.std.proofs.Common.{◌≡◌, refl, sym, ap, ap₂, ◌∙◌, ℕ, suc, List, [], ◌∷◌, ◌++◌, length, Bool, true, false, ◌&&◌, arith}
+use Rattle.std.proofs.Common.{◌≡◌, refl, sym, ap, ◌∙◌, ℕ, suc, List, [], ◌∷◌, ◌++◌, length, Bool, true, false, ◌&&◌}
 use Rattle.std.specs.Prelude.{if◌then◌else◌}
-use Rattle.std.specs.List.{flat_map}
 use Rattle.std.specs.Int.Digits.{digits_of}
 use Rattle.cborn_model.specs.declared.nodes.Chunk.{Chunk}
 use Rattle.cborn_model.specs.declared.heads.Major.{Major}
-use Rattle.cborn_model.specs.declared.heads.Major.TheVariants.{Unsigned, Negative, ByteString, TextString, Array, Map, Tag, Other}
-use Rattle.cborn_model.specs.declared.heads.Size.{Size}
-use Rattle.cborn_model.specs.declared.heads.Size.TheVariants.{Fixed, Endless as EndlessMark}
+use Rattle.cborn_model.specs.declared.heads.Major.TheVariants.{Unsigned, Negative, Array, Map, Tag}
 use Rattle.cborn_model.specs.declared.heads.Width.TheVariants.{Direct}
-use Rattle.cborn_model.specs.Heads.{Given, EndlessArgument, head, argument, least}
-use Rattle.cborn_model.specs.Tree.{Tree, Uint, Nint, Bytes as ByteNode, Text as TextNode, ByteChunks, TextChunks, Items, Pairs, Tagged, Simple, Trees, no_item as no_node, more, Entries, no_entry, entry, count, count_entries}
-use Rattle.cborn_model.specs.Spelled.{ending, chunk_bytes, spelled, spelled_all, spelled_entries}
+use Rattle.cborn_model.specs.Heads.{Given, head, argument, least}
+use Rattle.cborn_model.specs.Tree.{Tree, Uint, Nint, Bytes as ByteNode, ByteChunks, TextChunks, Items, Pairs, Tagged, Simple, Trees, no_item as no_node, more, Entries, no_entry, entry, count, count_entries}
+use Rattle.cborn_model.specs.Spelled.{ending, spelled, spelled_all, spelled_entries}
 use Rattle.cborn_lex.specs.declared.classes.Mark.{Mark}
 use Rattle.cborn_lex.specs.declared.classes.Mark.TheVariants.{Absent, Endless, Wide}
 use Rattle.cborn_edn.specs.declared.strings.StringKind.{StringKind}
 use Rattle.cborn_edn.specs.declared.strings.StringKind.TheVariants.{Bytes as OfBytes, Text as OfText}
 use Rattle.cborn_edn.specs.Says.{width, size, is_below, is_small, argument_of, number_node, is_endless, Str, chunk, chunked_node, string_node, said_string}
 use Rattle.cborn_edn.specs.Shortened.{chunks_shortened, size_shortened, shortened, all_shortened, entries_shortened}
-use Rattle.cborn_edn.specs.devices.Meaning.{snoc, snoc_entry}
+use Rattle.cborn_edn.specs.devices.Said.{snoc, snoc_entry}
 use Rattle.cborn_edn.proofs.Grammar.Machine.{Stack, in_row, in_key, in_value, in_tag, Nest, at_top, in_array, in_embed}
 use Rattle.cborn_edn.specs.declared.states.Heads.{Heads}
 use Rattle.cborn_edn.specs.declared.states.Heads.TheVariants.{AsWritten, Shortest}

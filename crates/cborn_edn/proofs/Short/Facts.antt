@@ -1,5 +1,6 @@
 -- What is known of the trees holds of the relation: a text notates one list of nodes, the same within larger limits and in profile 2, and is then not refused; what was shown reads back.
-use Rattle.std.proofs.Common.{◌≡◌, refl, sym, ap, ◌∙◌, subst, ℕ, ◌^◌, ◌<◌, ◌≤◌, List, [], length, ◌⊎◌, inl, inr, arith}
+use Rattle.std.proofs.Common.{◌≡◌, refl, sym, ap, ◌∙◌, subst, ℕ, ◌^◌, ◌<◌, ◌≤◌, List, [], length, Option, Some, None, ◌⊎◌, inl, inr, arith}
+use Rattle.std.specs.Str.{IsUtf8}
 use Rattle.cborn_model.specs.Bytes.{AreBytes}
 use Rattle.cborn_model.specs.Tree.{Trees, depth_all}
 use Rattle.cborn_model.specs.Spelled.{FitsAll, spelled_all}
@@ -8,11 +9,13 @@ use Rattle.cborn_lex.specs.declared.classes.Token.{Token}
 use Rattle.cborn_lex.specs.declared.classes.Profile.{Profile}
 use Rattle.cborn_lex.specs.declared.classes.Profile.TheVariants.{One as ProfileOne, Two as ProfileTwo}
 use Rattle.cborn_lex.specs.declared.faults.LexReason.{LexReason}
-use Rattle.cborn_lex.proofs.WholeTexts.Chains.{one_list, both_profiles as both_lexed, not_both as not_stopped}
+use Rattle.cborn_lex.specs.Good.{HasTokens}
+use Rattle.cborn_lex.proofs.WholeTexts.Chains.{one_list, both_profiles as both_lexed, not_both as not_stopped, some_answer}
+use Rattle.cborn_lex.proofs.WholeTexts.Weights.{as_test, text_light}
 use Rattle.cborn_lex.proofs.GoodTexts.{has_tokens, lexed as lex_of, failed, stopped}
 use Rattle.cborn_edn.specs.declared.faults.EdnReason.{EdnReason}
-use Rattle.cborn_edn.specs.declared.faults.EdnFault.TheVariants.{Refused}
 use Rattle.cborn_edn.specs.declared.meaning_errors.MeaningError.{MeaningError}
+use Rattle.cborn_edn.specs.devices.MeaningErrors.{first_error}
 use Rattle.cborn_edn.specs.devices.Syntax.{depth_of_input}
 use Rattle.cborn_edn.specs.devices.Parse as tree
 use Rattle.cborn_edn.specs.devices.Parse.{Parse}
@@ -20,13 +23,16 @@ use Rattle.cborn_edn.specs.ReadingBack.{unplaced_all}
 use Rattle.cborn_edn.specs.Shown.{Shown}
 use Rattle.cborn_edn.specs.Grammar.{IsText, Notates}
 use Rattle.cborn_edn.specs.Faults.{HasSyntaxError, HasMeaningError}
-use Rattle.cborn_edn.proofs.Grammar.OneTree.{one_tree, both_profiles, not_both}
-use Rattle.cborn_edn.proofs.Meaning.ShortTexts.{Answered, short_answer as tree_answer, notated_fits as tree_fits}
-use Rattle.cborn_edn.proofs.Meaning.Earliest.{nothing_among}
-use Rattle.cborn_edn.proofs.RoundTrip.ReadBack.{shown_back as tree_shown_back}
-use Rattle.cborn_edn.proofs.Short.Said.{nodes_of_input, faults_of_input}
-use Rattle.cborn_edn.proofs.Short.SyntaxErrors.{text_of, Parsed, parsed, notated, tree_had, tree_syntax_error}
-use Rattle.cborn_edn.proofs.Short.Same.{notated_by, refused}
+use Rattle.cborn_edn.proofs.Grammar.OneTree.{one_tree, both_profiles, not_both, answered}
+use Rattle.cborn_edn.proofs.Meaning.Counting.{text_short}
+use Rattle.cborn_edn.proofs.Meaning.Earliest.{nothing_among, Tells, tells}
+use Rattle.cborn_edn.proofs.Meaning.Fit.{text_sound}
+use Rattle.cborn_edn.proofs.RoundTrip.ReadBack.{shown_tokens}
+use Rattle.cborn_edn.proofs.RoundTrip.Retelling.{reads_same}
+use Rattle.cborn_edn.proofs.RoundTrip.Unplaced.{same_bytes}
+use Rattle.cborn_edn.proofs.Shown.Readable.{lines_show}
+use Rattle.cborn_edn.specs.devices.Said.{nodes_of_input, faults_of_input, Parsed}
+use Rattle.cborn_edn.proofs.Short.SyntaxErrors.{text_of, parsed, said_by, tree_had, syntax_error, tree_syntax_error}
 
 -- two texts of the relation with the same tokens have one tree
 same_parse : (p q : Profile) (limit most : ℕ) (x y : List Token) (ts us : Trees) (l m : List MeaningError) → x ≡ y → (a : Parsed p limit x ts l) → (b : Parsed q most y us m) → a.tree ≡ b.tree
@@ -48,7 +54,7 @@ one_text p q limit most x ts us l m h k =
 
 -- the same text, under another limit or profile
 again : (p q : Profile) (limit most : ℕ) (x : List Token) (ts : Trees) (l : List MeaningError) (a : Parsed p limit x ts l) → Parse q x a.tree → depth_of_input a.tree ≤ most → IsText q most x ts l
-again p q limit most x ts l a parse low = subst (λ us. IsText q most x us l) a.says (subst (λ m. IsText q most x (nodes_of_input a.tree) m) a.errors (text_of q most x a.tree parse low))
+again p q limit most x ts l a parse low = said_by q most x ts l (record { tree = a.tree; parse = parse; shallow = low; says = a.says; errors = a.errors })
 
 pub larger : (profile : Profile) (limit most : ℕ) (text : List ℕ) (nodes : Trees) → limit ≤ most → Notates profile limit text nodes → Notates profile most text nodes
 larger p limit most text nodes low (x, lex, h) = let a = parsed p limit x nodes [] h in (x, lex, again p p limit most x nodes [] a a.parse (omega (arith, low, a.shallow)))
@@ -62,7 +68,10 @@ both_notate limit text nodes (x, lex, h) = let a = parsed ProfileOne limit x nod
 
 -- LAW: what was shown reads back
 pub shown_back : (profile : Profile) (limit : ℕ) (nodes : Trees) (text : List ℕ) → FitsAll nodes → Shown nodes text → depth_all nodes ≤ limit → (says : Trees) × Notates profile limit text says × (unplaced_all says ≡ unplaced_all nodes) × (spelled_all says ≡ spelled_all nodes)
-shown_back p limit nodes text fits shown low = let r = tree_shown_back p limit nodes text fits shown low in (r.0, notated p limit text r.0 r.1, r.2, r.3)
+shown_back p limit nodes text fits shown low =
+    let r = shown_tokens p nodes text fits shown in
+    let b = reads_same p limit nodes r.0 fits (lines_show nodes fits (subst IsUtf8 shown.1 shown.0)) low r.2 in
+    (b.0, (r.0, has_tokens p text r.0 r.1, b.1), b.2, same_bytes b.0 nodes b.2)
 
 pub shown_only : (profile : Profile) (limit : ℕ) (nodes : Trees) (text : List ℕ) (says : Trees) → FitsAll nodes → Shown nodes text → Notates profile limit text says → (unplaced_all says ≡ unplaced_all nodes) × (spelled_all says ≡ spelled_all nodes)
 shown_only p limit nodes text says fits shown h =
@@ -72,7 +81,10 @@ shown_only p limit nodes text says fits shown h =
 
 -- LAW: the nodes of a short text fit their widths and are within the limit
 pub notated_fits : (profile : Profile) (limit : ℕ) (text : List ℕ) (nodes : Trees) → AreBytes text → length text < 2 ^ 56 → Notates profile limit text nodes → FitsAll nodes × (depth_all nodes ≤ limit)
-notated_fits p limit text nodes are short h = tree_fits p limit text nodes are short (notated_by p limit text are short nodes h)
+notated_fits p limit text nodes are short (x, taken, h) =
+    let light = text_light p text x are (lex_of p text x taken) in
+    let s = text_sound h light.0 (omega (arith, light.1, text_short h light.0)) in
+    (s.fits, s.low)
 
 -- LAW: a text that notates nodes isn't refused
 pub no_stop : (p : Profile) (limit : ℕ) (text : List ℕ) (nodes : Trees) → Notates p limit text nodes → (q : ℕ) (r : LexReason) → FailsAt p text q r → ⊥
@@ -90,12 +102,16 @@ no_error p limit most text nodes (x, lex, h) q r (y, ts, l, lexed, k, f) =
     let same = same_parse p p most limit y x ts nodes l [] (one_list p text y x (lex_of p text y lexed) (lex_of p text x lex)) b a in
     nothing_among l q r (sym b.errors ∙ ap faults_of_input same ∙ a.errors) f.is
 
--- LAW: a short text has an answer
-pub short_answer : (p : Profile) (limit : ℕ) (text : List ℕ) → AreBytes text → length text < 2 ^ 56
-    → ((nodes : Trees) × Notates p limit text nodes) ⊎ (((q : ℕ) × (r : LexReason) × FailsAt p text q r) ⊎ ((q : ℕ) × (r : EdnReason) × (HasSyntaxError p limit text q r ⊎ HasMeaningError p limit text q r)))
-short_answer p limit text are short = go (tree_answer p limit text are short)
+abbrev pub Answered : Profile → ℕ → List ℕ → Type 0
+Answered p limit text = ((nodes : Trees) × Notates p limit text nodes) ⊎ (((q : ℕ) × (r : LexReason) × FailsAt p text q r) ⊎ ((q : ℕ) × (r : EdnReason) × (HasSyntaxError p limit text q r ⊎ HasMeaningError p limit text q r)))
+
+-- LAW: a text has an answer
+pub some_text : (p : Profile) (limit : ℕ) (text : List ℕ) → AreBytes text → Answered p limit text
+some_text p limit text are = elim (some_answer p text (as_test text are)) [ inl (x, lex) ↦ elim (answered p limit (length text) x) [ inl (t, h, low) ↦ judged x (has_tokens p text x lex) (nodes_of_input t) (faults_of_input t) (text_of p limit x t h low) | inr (q, r, e) ↦ inr (inr (q, r, inl (x, has_tokens p text x lex, syntax_error p limit (length text) x q r e))) ] | inr (q, r, stop) ↦ inr (inl (q, r, failed p text q r stop)) ]
   where
-    go : Answered p limit text → ((nodes : Trees) × Notates p limit text nodes) ⊎ (((q : ℕ) × (r : LexReason) × FailsAt p text q r) ⊎ ((q : ℕ) × (r : EdnReason) × (HasSyntaxError p limit text q r ⊎ HasMeaningError p limit text q r)))
-    go (inl (nodes, h)) = inl (nodes, notated p limit text nodes h)
-    go (inr (inl (q, r, s))) = inr (inl (q, r, failed p text q r s))
-    go (inr (inr (q, r, h))) = inr (inr (q, r, refused p limit text are short (Refused q r) h))
+    judged : (x : List Token) → HasTokens p text x → (ts : Trees) (l : List MeaningError) → IsText p limit x ts l → Answered p limit text
+    judged x taken ts l h = go (first_error l) (tells l)
+      where
+        go : (o : Option MeaningError) → Tells l o → Answered p limit text
+        go None e = inl (ts, (x, taken, subst (IsText p limit x ts) e h))
+        go (Some s) f = inr (inr (s.place, s.reason, inr (x, ts, l, taken, h, f)))

@@ -5,7 +5,7 @@ use Rattle.cborn_lex.specs.declared.classes.Class.{Class}
 use Rattle.cborn_lex.specs.declared.classes.Class.TheVariants.{ArrayOpen, MapOpen, EmbedClose, ArrayClose, MapClose, ParenClose, Comma, Colon, EmbedOpen, ChunkOpen, SimpleOpen, Number, TagOpen, Word, Text, Bytes}
 use Rattle.cborn_lex.specs.declared.classes.Token.{Token}
 use Rattle.cborn_edn.specs.devices.Syntax.{Span, span, Item, string, Pieces, StringsBefore, no_item, after_row, no_pair, after_pairs, row, Content, loose, tight, Input, nothing, items}
-use Rattle.cborn_edn.specs.devices.Meaning.{place}
+use Rattle.cborn_edn.specs.devices.Said.{str}
 use Rattle.cborn_edn.specs.devices.Kept.{wanting, phase_of, stack_in}
 use Rattle.cborn_edn.specs.devices.TokenStarts.{starting_item, starting_at, starting}
 use Rattle.cborn_edn.specs.devices.Started.{item_starts, strings_before_starts, row_before_starts, content_starts, pairs_before_starts, input_starts, counted, outside, outside_nest, outside_home, started_stack, started_nest, started_home, started}
@@ -58,13 +58,13 @@ after_adds (in_value st s m b k c) i MapClose a =
 after_adds (in_tag st s n m) i ParenClose a = sym (onto (outside st) (started_stack st) (s.start ∷ []) (item_starts i))
 after_adds _ _ _ _ = tt
 
-string_adds : (h : Home) (ps : Pieces) (e : Class) (a : Span) → After (after_string h ps e a) (Adds (started_home h ++ counted (outside_home h) (place ps ∷ [])))
+string_adds : (h : Home) (ps : Pieces) (e : Class) (a : Span) → After (after_string h ps e a) (Adds (started_home h ++ counted (outside_home h) ((str ps).place ∷ [])))
 string_adds (as_item st) ps e a = after_adds st (string ps) e a
-string_adds (as_chunk st s b) ps Comma a = sym (onto (outside st) (started_stack st) (s.start ∷ strings_before_starts b) (place ps ∷ []))
-string_adds (as_chunk st s b) ps ParenClose a = sym (onto (outside st) (started_stack st) (s.start ∷ strings_before_starts b) (place ps ∷ []))
+string_adds (as_chunk st s b) ps Comma a = sym (onto (outside st) (started_stack st) (s.start ∷ strings_before_starts b) ((str ps).place ∷ []))
+string_adds (as_chunk st s b) ps ParenClose a = sym (onto (outside st) (started_stack st) (s.start ∷ strings_before_starts b) ((str ps).place ∷ []))
 string_adds _ _ _ _ = tt
 
-more_adds : (h : Home) (ps : Pieces) (e : Class) (a : Span) → After (more_string h ps e a) (Adds (started_home h ++ counted (outside_home h) (place ps ∷ [])))
+more_adds : (h : Home) (ps : Pieces) (e : Class) (a : Span) → After (more_string h ps e a) (Adds (started_home h ++ counted (outside_home h) ((str ps).place ∷ [])))
 more_adds h ps (Text x m) a = refl
 more_adds h ps (Bytes q x m) a = refl
 more_adds h ps EmbedOpen a = append-nil _

@@ -9,11 +9,10 @@ use Rattle.cborn_lex.specs.declared.classes.Token.{Token}
 use Rattle.cborn_edn.specs.declared.strings.StringKind.{StringKind}
 use Rattle.cborn_edn.specs.declared.strings.StringKind.TheVariants.{Bytes as OfBytes, Text as OfText}
 use Rattle.cborn_edn.specs.devices.Syntax.{Span, Item, number, word, tag, simple, string, chunked, array, map, Piece, text, bytes, embedded, Pieces, piece, also, Strings, strings, StringsBefore, no_string, after_strings, Row, row, RowBefore, no_item, after_row, Content, loose, tight, Pairs, pairs, PairsBefore, no_pair, after_pairs, Fields, loose_fields, tight_fields, Input, nothing, items, token, tokens_of, tokens_of_piece, tokens_of_pieces, tokens_of_strings, tokens_of_strings_before, tokens_of_row, tokens_of_row_before, tokens_of_content, tokens_of_pairs, tokens_of_pairs_before, tokens_of_fields, tokens_of_input, is_below, argument_of, is_small}
-use Rattle.cborn_edn.specs.devices.Meaning.{snoc, snoc_entry, integer, place, start_of, string_node, chunked_node}
-use Rattle.cborn_edn.specs.Says.{width, is_endless, bignum, number_node, Str, said_string, chunk}
+use Rattle.cborn_edn.specs.devices.Said.{snoc, snoc_entry}
+use Rattle.cborn_edn.specs.Says.{integer, string_node, chunked_node, width, is_endless, bignum, number_node, Str, said_string, chunk}
 use Rattle.cborn_edn.specs.Starts.{starts_of_chunks, starts, starts_all, starts_entries, unless_bytes, spots, spots_all, spots_entries}
-use Rattle.cborn_edn.proofs.Short.Meant.{str_place}
-use Rattle.cborn_edn.proofs.Short.Said.{node, str, kind_in, chunks, chunks_before, nodes, nodes_before, nodes_in, entries, entries_before, entries_in, nodes_of_input}
+use Rattle.cborn_edn.proofs.Short.Said.{node, str_of, str, kind_in, chunks, chunks_before, nodes, nodes_before, nodes_in, entries, entries_before, entries_in, nodes_of_input}
 use Rattle.cborn_edn.specs.devices.Started.{item_starts, strings_starts, strings_before_starts, row_starts, row_before_starts, content_starts, pairs_starts, pairs_before_starts, fields_starts, input_starts}
 
 -- places of some of the tokens, in their order
@@ -63,14 +62,14 @@ number_placed at n v m = go (is_small n v)
 
 -- Strings.
 
-piece_among : (p : Piece) → Among (start_of p ∷ []) (tokens_of_piece p)
+piece_among : (p : Piece) → Among ((str_of p).place ∷ []) (tokens_of_piece p)
 piece_among (text at x m) = inr ([], refl, refl)
 piece_among (bytes at q x m) = inr ([], refl, refl)
 piece_among (embedded at c end m) = inr ([], refl, none_among (tokens_of_content c ++ (token end (EmbedClose m) ∷ [])))
 
-first_among : (ps : Pieces) → Among (place ps ∷ []) (tokens_of_pieces ps)
+first_among : (ps : Pieces) → Among ((str ps).place ∷ []) (tokens_of_pieces ps)
 first_among (piece p) = piece_among p
-first_among (also ps p) = with_more (place ps ∷ []) (tokens_of_pieces ps) (tokens_of_piece p) (first_among ps)
+first_among (also ps p) = with_more ((str ps).place ∷ []) (tokens_of_pieces ps) (tokens_of_piece p) (first_among ps)
 
 -- a node at p alone
 record Alone (p : ℕ) (t : Tree) : Type 0 where
@@ -133,7 +132,7 @@ mutual
   item_placed (simple at b n v m end) = record { starts = refl; spots = inr ([], refl, none_among (token b (Number n v m) ∷ token end ParenClose ∷ [])) }
   item_placed (string ps) =
       let alone = said_alone (str ps) in
-      record { starts = alone.starts ∙ ap (λ p. p ∷ []) (str_place ps); spots = subst (λ (w : List ℕ). Among w (tokens_of_pieces ps)) (sym (alone.spots ∙ ap (λ p. p ∷ []) (str_place ps))) (first_among ps) }
+      record { starts = alone.starts; spots = subst (λ (w : List ℕ). Among w (tokens_of_pieces ps)) (sym alone.spots) (first_among ps) }
   item_placed (chunked at ss end) =
       let inner = strings_placed ss in
       let rest = with_more _ (tokens_of_strings ss) (token end ParenClose ∷ []) inner.spots in
@@ -150,10 +149,9 @@ mutual
   strings_placed : (ss : Strings) → Placed (starts_of_chunks (chunks ss)) (starts_of_chunks (chunks ss)) (strings_starts ss) (tokens_of_strings ss)
   strings_placed (strings b ps) =
       let r = strings_before_placed b in
-      let all : starts_of_chunks (chunks_before b ++ (chunk (str ps) ∷ [])) ≡ starts_of_chunks (chunks_before b) ++ (place ps ∷ []) =
-      chunks_append (chunks_before b) (chunk (str ps)) ∙ ap (λ p. starts_of_chunks (chunks_before b) ++ (p ∷ [])) (str_place ps) in
+      let all = chunks_append (chunks_before b) (chunk (str ps)) in
       record {
-        starts = all ∙ ap (λ w. w ++ (place ps ∷ [])) r.starts;
+        starts = all ∙ ap (λ w. w ++ ((str ps).place ∷ [])) r.starts;
         spots = subst (λ (w : List ℕ). Among w (tokens_of_strings (strings b ps))) (sym all) (both_among _ _ (tokens_of_strings_before b) (tokens_of_pieces ps) r.spots (first_among ps));
       }
 

@@ -1,8 +1,7 @@
 -- A device of the proofs: the first meaning error, and how the reader keeps it. No definition cites it.
-use Rattle.std.specs.Prelude.{◌≡◌, ℕ, List, [], ◌∷◌, ◌++◌, ◌==◌, ◌&&◌, ◌||◌, Bool, true, false, nat_lt, nat_le, if◌then◌else◌, Option, Some, None}
-use Rattle.cborn_edn.specs.declared.faults.EdnReason.{EdnReason}
+use Rattle.std.specs.Prelude.{◌≡◌, List, [], ◌∷◌, ◌++◌, ◌==◌, ◌&&◌, ◌||◌, Bool, true, false, nat_lt, nat_le, if◌then◌else◌, Option, Some, None}
 use Rattle.cborn_edn.specs.declared.meaning_errors.MeaningError.{MeaningError}
-use Rattle.cborn_edn.specs.devices.Meaning.{number_of}
+use Rattle.cborn_edn.specs.Faults.{number_of}
 
 -- a has a lower place than b, or the same place and no higher number
 abbrev pub no_later : MeaningError → MeaningError → Bool
@@ -18,10 +17,6 @@ earlier (Some a) (Some b) = Some (if no_later a b then a else b)
 abbrev pub first_error : List MeaningError → Option MeaningError
 first_error [] = None
 first_error (s ∷ l) = earlier (Some s) (first_error l)
-
-abbrev pub error_unless : Bool → ℕ → EdnReason → Option MeaningError
-error_unless true p r = None
-error_unless false p r = Some (record { place = p; reason = r })
 
 -- if old is the first of some meaning errors, new is the first of these and of l
 abbrev pub Notes : Option MeaningError → Option MeaningError → List MeaningError → Type 0

@@ -1,14 +1,25 @@
--- A device of the proofs: the node that a tree says, also if it has a meaning error, and its meaning errors in the order of the relation. No definition cites it.
-use Rattle.std.specs.Prelude.{List, [], ◌∷◌, ◌++◌, true, false}
+-- A device of the proofs: the node that a tree says, also if it has a meaning error, and its meaning errors in the order of the relation. No definition cites it, but a law says that it agrees with the relation.
+use Rattle.std.specs.Prelude.{◌≡◌, ℕ, ◌≤◌, List, [], ◌∷◌, ◌++◌, true, false}
 use Rattle.cborn_model.specs.declared.nodes.Chunk.{Chunk}
-use Rattle.cborn_model.specs.Tree.{Tree, Items, Pairs as PairNode, Tagged, Simple, Trees, no_item as no_node, Entries, no_entry, count, count_entries}
+use Rattle.cborn_model.specs.Tree.{Tree, Items, Pairs as PairNode, Tagged, Simple, Trees, no_item as no_node, more, Entries, no_entry, entry, count, count_entries}
 use Rattle.cborn_model.specs.Spelled.{spelled_all}
+use Rattle.cborn_lex.specs.declared.classes.Profile.{Profile}
+use Rattle.cborn_lex.specs.declared.classes.Token.{Token}
 use Rattle.cborn_edn.specs.declared.strings.StringKind.{StringKind}
 use Rattle.cborn_edn.specs.declared.strings.StringKind.TheVariants.{Bytes as OfBytes, Text as OfText}
 use Rattle.cborn_edn.specs.declared.meaning_errors.MeaningError.{MeaningError}
-use Rattle.cborn_edn.specs.devices.Syntax.{Item, number, word, tag, simple, string, chunked, array, map, Piece, text, bytes, embedded, Pieces, piece, also, Strings, strings, StringsBefore, no_string, after_strings, Row, row, RowBefore, no_item, after_row, Content, loose, tight, Pairs, pairs, PairsBefore, no_pair, after_pairs, Fields, loose_fields, tight_fields, Input, nothing, items}
-use Rattle.cborn_edn.specs.devices.Meaning.{snoc, snoc_entry, chunked_node, number_errors, tag_errors, size_errors}
-use Rattle.cborn_edn.specs.Says.{width, size, number_node, simple_errors, Str, is_nil, quoted, joined, said_string, chunk, piece_errors, string_errors, chunk_errors}
+use Rattle.cborn_edn.specs.devices.Syntax.{Item, number, word, tag, simple, string, chunked, array, map, Piece, text, bytes, embedded, Pieces, piece, also, Strings, strings, StringsBefore, no_string, after_strings, Row, row, RowBefore, no_item, after_row, Content, loose, tight, Pairs, pairs, PairsBefore, no_pair, after_pairs, Fields, loose_fields, tight_fields, Input, nothing, items, depth_of_input}
+use Rattle.cborn_edn.specs.devices.Parse.{Parse}
+use Rattle.cborn_edn.specs.Says.{chunked_node, number_errors, tag_errors, size_errors, width, size, number_node, simple_errors, Str, is_nil, quoted, joined, said_string, chunk, piece_errors, string_errors, chunk_errors}
+
+-- nodes, and one more at the end
+abbrev pub snoc : Trees → Tree → Trees
+snoc no_node t = more t no_node
+snoc (more u ts) t = more u (snoc ts t)
+
+abbrev pub snoc_entry : Entries → Tree → Tree → Entries
+snoc_entry no_entry k v = entry k v no_entry
+snoc_entry (entry l w es) k v = entry l w (snoc_entry es k v)
 
 abbrev mutual
   pub node : Item → Tree
@@ -121,3 +132,11 @@ nodes_of_input (items r) = nodes r
 abbrev pub faults_of_input : Input → List MeaningError
 faults_of_input nothing = []
 faults_of_input (items r) = faults_of_row r
+
+-- the tokens are those of a tree within the limit, and it says these nodes and has these meaning errors
+pub record Parsed (p : Profile) (limit : ℕ) (x : List Token) (ts : Trees) (l : List MeaningError) : Type 0 where
+  pub tree : Input
+  pub parse : Parse p x tree
+  pub shallow : depth_of_input tree ≤ limit
+  pub says : nodes_of_input tree ≡ ts
+  pub errors : faults_of_input tree ≡ l

@@ -1,8 +1,8 @@
 -- A device of the proofs: the starts of a tree, which are the places where its nodes and chunks begin, and the starts of a state of the machine of tokens. No definition cites it.
 use Rattle.std.specs.Prelude.{ℕ, List, [], ◌∷◌, ◌++◌, Bool, true, false, Option, Some, None, replicate}
 use Rattle.cborn_edn.specs.devices.Syntax.{Span, Item, number, word, tag, simple, string, chunked, array, map, Pieces, Strings, strings, StringsBefore, no_string, after_strings, Row, row, RowBefore, no_item, after_row, Content, loose, tight, Pairs, pairs, PairsBefore, no_pair, after_pairs, Fields, loose_fields, tight_fields, Input, nothing, items}
-use Rattle.cborn_edn.specs.devices.Meaning.{place}
 use Rattle.cborn_edn.specs.devices.Machine.{Stack, in_row, in_key, in_value, in_tag, Nest, at_top, in_array, in_embed, Home, as_item, as_chunk, State, wants, has, builds, wants_chunk, wants_number, has_number}
+use Rattle.cborn_edn.specs.devices.Said.{str}
 use Rattle.cborn_edn.specs.devices.TokenStarts.{heads_of_number}
 
 -- The starts of a tree.
@@ -12,13 +12,13 @@ abbrev mutual
   item_starts (word at n) = at.start ∷ []
   item_starts (tag at n m i end) = at.start ∷ item_starts i
   item_starts (simple at b n v m end) = at.start ∷ []
-  item_starts (string ps) = place ps ∷ []
+  item_starts (string ps) = (str ps).place ∷ []
   item_starts (chunked at ss end) = at.start ∷ strings_starts ss
   item_starts (array at m c end) = at.start ∷ content_starts c
   item_starts (map at m f end) = at.start ∷ fields_starts f
 
   pub strings_starts : Strings → List ℕ
-  strings_starts (strings b ps) = strings_before_starts b ++ (place ps ∷ [])
+  strings_starts (strings b ps) = strings_before_starts b ++ ((str ps).place ∷ [])
 
   pub strings_before_starts : StringsBefore → List ℕ
   strings_before_starts no_string = []
@@ -58,7 +58,7 @@ counted false ps = []
 -- the start of a string with a `<<` at s after these pieces
 abbrev pub place_before : Option Pieces → Span → ℕ
 place_before None s = s.start
-place_before (Some ps) s = place ps
+place_before (Some ps) s = (str ps).place
 
 -- whether no `<<` is open there
 abbrev mutual
@@ -97,7 +97,7 @@ abbrev mutual
 abbrev pub started : State → List ℕ
 started (wants st) = started_stack st
 started (has st i) = started_stack st ++ counted (outside st) (item_starts i)
-started (builds h ps) = started_home h ++ counted (outside_home h) (place ps ∷ [])
+started (builds h ps) = started_home h ++ counted (outside_home h) ((str ps).place ∷ [])
 started (wants_chunk st s b) = started_stack st ++ counted (outside st) (s.start ∷ strings_before_starts b)
 started (wants_number st s) = started_stack st ++ counted (outside st) (s.start ∷ [])
 started (has_number st s b n v m) = started_stack st ++ counted (outside st) (s.start ∷ [])

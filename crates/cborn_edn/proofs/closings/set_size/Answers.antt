@@ -1,4 +1,3 @@
-use Rattle.std.proofs.Common.{refl}
 use Rattle.cborn_edn.specs.devices.Written.{heads_in}
 use Rattle.cborn_edn.proofs.Reader.Results.{on_ok, always_ok}
 use Rattle.cborn_edn.proofs.Reader.Closed.{size_absent, absent_noted}

@@ -1,4 +1,4 @@
-use Rattle.std.proofs.Common.{◌≡◌, ◌∙◌, ◌+◌, ◌∷◌, [], refl, ap, arith, drop, eqb}
+use Rattle.std.proofs.Common.{◌≡◌, ◌∙◌, ◌+◌, ◌∷◌, [], refl, ap, arith, drop}
 use Rattle.std.proofs.lemmas.Bool.{eqb-true}
 use Rattle.cborn_lex.specs.declared.classes.Class.TheVariants.{EmbedOpen}
 use Rattle.cborn_lex.specs.Good as good

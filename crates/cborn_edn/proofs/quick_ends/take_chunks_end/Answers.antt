@@ -2,7 +2,7 @@ use Rattle.std.proofs.Common.{refl, arith, ◌+◌}
 use Rattle.cborn_lex.proofs.WholeTexts.Weights.{utf8_bytes}
 use Rattle.cborn_lex.specs.declared.classes.Class.TheVariants.{ParenClose}
 use Rattle.cborn_lex.specs.Good as good
-use Rattle.cborn_edn.specs.devices.Syntax.{Span, strings, after_strings, chunked as chunked_item}
+use Rattle.cborn_edn.specs.devices.Syntax.{Span, strings, chunked as chunked_item}
 use Rattle.cborn_edn.proofs.Grammar.Machine.{as_chunk, builds, has}
 use Rattle.cborn_edn.proofs.Reader.CommonTokens.{single_here}
 use Rattle.cborn_edn.proofs.Reader.Taking.{chunked, turned}

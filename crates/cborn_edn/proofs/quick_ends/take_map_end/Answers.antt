@@ -1,4 +1,4 @@
-use Rattle.std.proofs.Common.{refl, arith, ◌+◌, [], subst, length, ◌^◌, ◌<◌}
+use Rattle.std.proofs.Common.{arith, ◌+◌, [], subst, ◌^◌, ◌<◌}
 use Rattle.cborn_lex.proofs.WholeTexts.Weights.{utf8_bytes}
 use Rattle.cborn_lex.specs.declared.classes.Class.TheVariants.{MapClose}
 use Rattle.cborn_lex.specs.Good as good

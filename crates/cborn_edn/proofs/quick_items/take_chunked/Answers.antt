@@ -1,10 +1,10 @@
-use Rattle.std.proofs.Common.{refl, arith, ◌+◌, subst, List, ℕ, ap, ◌∙◌, slice_index}
+use Rattle.std.proofs.Common.{refl, arith, ◌+◌, subst, List, ℕ}
 use Rattle.cborn_lex.proofs.WholeTexts.Weights.{utf8_bytes}
 use Rattle.cborn_lex.specs.declared.classes.Class.TheVariants.{ChunkOpen}
 use Rattle.cborn_edn.specs.devices.Syntax.{Span, no_string}
 use Rattle.cborn_edn.proofs.Grammar.Machine.{wants_chunk}
 use Rattle.cborn_edn.specs.devices.Ahead.{IsTokenAt}
-use Rattle.cborn_edn.proofs.Reader.Taking.{item_taken, beyond}
+use Rattle.cborn_edn.proofs.Reader.Taking.{item_taken}
 use Rattle.cborn_edn.proofs.quick_items.take_chunked.Goals as goal
 
 pub returns-clause-read : goal.returns-clause-read

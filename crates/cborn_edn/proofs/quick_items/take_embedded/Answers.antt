@@ -1,11 +1,11 @@
-use Rattle.std.proofs.Common.{◌≡◌, refl, arith, ◌+◌, ◌++◌, ◌∷◌, [], length, None, rules, subst, List, ℕ, ap, ◌∙◌, slice_index}
+use Rattle.std.proofs.Common.{refl, arith, ◌+◌, None, rules, subst, List, ℕ}
 use Rattle.cborn_lex.proofs.WholeTexts.Weights.{utf8_bytes}
 use Rattle.cborn_lex.specs.declared.classes.Class.TheVariants.{EmbedOpen}
 use Rattle.cborn_edn.specs.devices.Syntax.{Span, no_item}
 use Rattle.cborn_edn.proofs.Grammar.Machine.{wants, as_item, in_row, in_embed}
 use Rattle.cborn_edn.specs.devices.Ahead.{IsTokenAt}
 use Rattle.cborn_edn.proofs.Reader.Stepping.{same_shown}
-use Rattle.cborn_edn.proofs.Reader.Taking.{item_taken, beyond}
+use Rattle.cborn_edn.proofs.Reader.Taking.{item_taken}
 use Rattle.cborn_edn.proofs.quick_items.take_embedded.Goals as goal
 
 pub returns-clause-read : goal.returns-clause-read

@@ -1,7 +1,6 @@
-use Rattle.std.proofs.Common.{refl, arith, true, false, subst, if◌then◌else◌, List, ℕ}
+use Rattle.std.proofs.Common.{refl, arith, false, subst, if◌then◌else◌, List, ℕ}
 use Rattle.cborn_lex.proofs.WholeTexts.Weights.{utf8_bytes}
 use Rattle.cborn_lex.specs.declared.classes.Class.TheVariants.{Number, TagOpen}
-use Rattle.cborn_lex.specs.declared.classes.Class.{Class}
 use Rattle.cborn_edn.specs.devices.Ahead.{IsTokenAt}
 use Rattle.cborn_edn.specs.devices.Syntax.{Span, number}
 use Rattle.cborn_edn.proofs.Grammar.Machine.{has}

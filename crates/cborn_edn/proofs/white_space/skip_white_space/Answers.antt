@@ -1,5 +1,5 @@
-use Rattle.std.proofs.Common.{[], sym, ◌∙◌, arith, ◌+◌}
-use Rattle.cborn_edn.proofs.Reader.CommonTokens.{nothing, join, white_here}
+use Rattle.std.proofs.Common.{[]}
+use Rattle.cborn_edn.proofs.Reader.CommonTokens.{nothing, join}
 use Rattle.cborn_edn.proofs.white_space.skip_white_space.Goals as goal
 
 pub white_space-init : goal.white_space-init
