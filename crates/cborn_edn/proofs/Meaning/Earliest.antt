@@ -1,35 +1,13 @@
--- The first of several meaning errors: there is one where there is any, and it doesn't depend on their order.
-use Rattle.std.proofs.Common.{◌≡◌, refl, sym, ap, subst, ◌∙◌, ℕ, ◌+◌, ◌*◌, ◌<◌, ◌≤◌, List, [], ◌∷◌, ◌++◌, Bool, true, false, ◌==◌, ◌&&◌, ◌||◌, cond, if◌then◌else◌, leb, ltb, eqb, Option, Some, None, arith}
-use Rattle.std.specs.Prelude.{min}
+-- The first of several meaning errors: there is one where there is any, and it is the first of the first ones of two parts.
+use Rattle.std.proofs.Common.{◌≡◌, refl, sym, ap, subst, ◌∙◌, ℕ, ◌+◌, ◌*◌, ◌<◌, ◌≤◌, List, [], ◌∷◌, ◌++◌, Bool, true, false, ◌&&◌, ◌||◌, cond, leb, ltb, eqb, Option, Some, None, arith}
 use Rattle.std.proofs.lemmas.Bool.{leb-true, leb-false, le-leb, lt-leb, ltb-true, ltb-false, eqb-true, eqb-false}
 use Rattle.cborn_model.specs.First.{NoLater, IsFirst}
-use Rattle.cborn_model.proofs.Firsts.{no_later_on, no_later_turned, first_alone, first_left, first_right}
+use Rattle.cborn_model.proofs.Firsts.{no_later_on, first_alone, first_left, first_right}
 use Rattle.cborn_edn.specs.declared.faults.EdnReason.{EdnReason}
-use Rattle.cborn_edn.specs.declared.faults.EdnReason.TheVariants.{UnexpectedToken, UnexpectedEnd, TooDeep, IndicatorTooNarrow, IndicatorNotAllowed, MixedString, MixedChunks, TextNotUtf8, BadSimple, TagTooLarge}
+use Rattle.cborn_edn.specs.declared.faults.EdnReason.TheVariants.{UnexpectedToken}
 use Rattle.cborn_edn.specs.declared.meaning_errors.MeaningError.{MeaningError}
 use Rattle.cborn_edn.specs.Faults.{number_of, IsAmong}
 use Rattle.cborn_edn.specs.devices.MeaningErrors.{earlier, first_error}
-
--- the reason that has a number
-abbrev reason_at : ℕ → EdnReason
-reason_at n =
-    if n == 20 then UnexpectedToken
-    else if n == 21 then UnexpectedEnd
-    else if n == 22 then TooDeep
-    else if n == 30 then IndicatorTooNarrow
-    else if n == 31 then IndicatorNotAllowed
-    else if n == 32 then MixedString
-    else if n == 33 then MixedChunks
-    else if n == 34 then TextNotUtf8
-    else if n == 35 then BadSimple
-    else TagTooLarge
-
-reason_at-number : (r : EdnReason) → reason_at (number_of r) ≡ r
-reason_at-number UnexpectedToken = refl
-reason_at-number _ = refl
-
-one_number : (r s : EdnReason) → number_of r ≡ number_of s → r ≡ s
-one_number r s e = sym (reason_at-number r) ∙ ap reason_at e ∙ reason_at-number s
 
 low_number : (r : EdnReason) → number_of r < 64
 low_number UnexpectedToken = omega arith
@@ -38,18 +16,6 @@ low_number _ = omega arith
 -- place and number of the reason as one number
 rank : MeaningError → ℕ
 rank s = s.place * 64 + number_of s.reason
-
-same_error : (p q : ℕ) (r s : EdnReason) → p ≡ q → r ≡ s → let a : MeaningError = record { place = p; reason = r } in a ≡ record { place = q; reason = s }
-same_error p q r s e f = rw (e, f)
-
-one_rank : (a b : MeaningError) → rank a ≡ rank b → a ≡ b
-unfolding rank
-one_rank a b e =
-    let la = low_number a.reason in
-    let lb = low_number b.reason in
-    let p : a.place ≡ b.place = omega arith in
-    let n : number_of a.reason ≡ number_of b.reason = omega arith in
-    same_error a.place b.place a.reason b.reason p (one_number a.reason b.reason n)
 
 by_parts : (p q m n : ℕ) → m < 64 → n < 64 → (ltb p q || (eqb p q && leb m n)) ≡ leb (p * 64 + m) (q * 64 + n)
 by_parts p q m n hm hn = go (ltb p q) refl (eqb p q) refl (leb m n) refl
@@ -67,28 +33,31 @@ picked : (a b : MeaningError) → earlier (Some a) (Some b) ≡ Some (pick a b)
 unfolding pick rank
 picked a b = ap (λ c. Some (cond c a b)) (by_parts a.place b.place (number_of a.reason) (number_of b.reason) (low_number a.reason) (low_number b.reason))
 
--- of two the first that has the lower rank, or the second
-data Picks (a b c : MeaningError) : Type 0 where
-  left : c ≡ a → rank a ≤ rank b → Picks a b c
-  right : c ≡ b → rank b < rank a → Picks a b c
-
-picks : (a b : MeaningError) → Picks a b (pick a b)
+pick-first : (a b : MeaningError) → rank a ≤ rank b → pick a b ≡ a
 unfolding pick
-picks a b = go (leb (rank a) (rank b)) refl
-  where
-    go : (c : Bool) → leb (rank a) (rank b) ≡ c → Picks a b (cond c a b)
-    go true e = left refl (leb-true _ _ e)
-    go false e = right refl (leb-false _ _ e)
+pick-first a b h = ap (λ c. cond c a b) (le-leb _ _ h)
 
-rank-pick : (a b : MeaningError) → rank (pick a b) ≡ min (rank a) (rank b)
-rank-pick a b = go (pick a b) (picks a b)
-  where
-    go : (c : MeaningError) → Picks a b c → rank c ≡ min (rank a) (rank b)
-    go c (left e h) = ap rank e ∙ omega arith
-    go c (right e h) = ap rank e ∙ omega arith
+pick-second : (a b : MeaningError) → rank b < rank a → pick a b ≡ b
+unfolding pick
+pick-second a b h = ap (λ c. cond c a b) (lt-leb _ _ h)
 
 pick-assoc : (a b c : MeaningError) → pick (pick a b) c ≡ pick a (pick b c)
-pick-assoc a b c = one_rank _ _ (omega (arith, rank-pick (pick a b) c, rank-pick a b, rank-pick a (pick b c), rank-pick b c))
+pick-assoc a b c = go (leb (rank a) (rank b)) refl (leb (rank b) (rank c)) refl
+  where
+    go : (x : Bool) → leb (rank a) (rank b) ≡ x → (y : Bool) → leb (rank b) (rank c) ≡ y → pick (pick a b) c ≡ pick a (pick b c)
+    go true e true f =
+        let h = leb-true _ _ e in
+        let k = leb-true _ _ f in
+        ap (λ d. pick d c) (pick-first a b h) ∙ pick-first a c (omega arith) ∙ sym (ap (pick a) (pick-first b c k) ∙ pick-first a b h)
+    go true e false f = ap (λ d. pick d c) (pick-first a b (leb-true _ _ e)) ∙ ap (pick a) (sym (pick-second b c (leb-false _ _ f)))
+    go false e true f =
+        let h = leb-false _ _ e in
+        let k = leb-true _ _ f in
+        ap (λ d. pick d c) (pick-second a b h) ∙ pick-first b c k ∙ sym (ap (pick a) (pick-first b c k) ∙ pick-second a b h)
+    go false e false f =
+        let h = leb-false _ _ e in
+        let k = leb-false _ _ f in
+        ap (λ d. pick d c) (pick-second a b h) ∙ pick-second b c k ∙ sym (ap (pick a) (pick-second b c k) ∙ pick-second a c (omega arith))
 
 earlier-none : (a : Option MeaningError) → earlier a None ≡ a
 earlier-none None = refl
@@ -130,19 +99,14 @@ pub nothing_among : (l : List MeaningError) (p : ℕ) (r : EdnReason) → l ≡ 
 nothing_among l p r e h = subst (λ k. IsAmong k p r) e h
 
 pub tells : (l : List MeaningError) → Tells l (first_error l)
+unfolding pick
 tells [] = refl
 tells (s ∷ l) = go (first_error l) (tells l)
   where
     go : (o : Option MeaningError) → Tells l o → Tells (s ∷ l) (earlier (Some s) o)
     go None e = first_left number_of _ (IsAmong l) s.place s.reason (first_alone number_of s.place s.reason) (λ q r i. absurd (nothing_among l q r e i))
-    go (Some t) f = subst (Tells (s ∷ l)) (sym (picked s t)) (choose (pick s t) (picks s t))
+    go (Some t) f = subst (Tells (s ∷ l)) (sym (picked s t)) (choose (leb (rank s) (rank t)) refl)
       where
-        choose : (u : MeaningError) → Picks s t u → IsFirstOf (s ∷ l) u
-        choose u (left e h) = subst (IsFirstOf (s ∷ l)) (sym e) (reported_first s t l f h)
-        choose u (right e h) = subst (IsFirstOf (s ∷ l)) (sym e) (reported_second s t l f h)
-
--- two firsts are one
-pub one_first : (l : List MeaningError) (p q : ℕ) (r s : EdnReason) → IsFirst number_of (IsAmong l) p r → IsFirst number_of (IsAmong l) q s → (p ≡ q) × (r ≡ s)
-one_first l p q r s f g =
-    let e = no_later_turned (p, number_of r) (q, number_of s) (f.first q s g.is) (g.first p r f.is) in
-    (e.0, one_number r s e.1)
+        choose : (b : Bool) → leb (rank s) (rank t) ≡ b → IsFirstOf (s ∷ l) (cond b s t)
+        choose true e = reported_first s t l f (leb-true _ _ e)
+        choose false e = reported_second s t l f (leb-false _ _ e)

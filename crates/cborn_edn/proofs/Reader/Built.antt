@@ -19,7 +19,7 @@ use Rattle.cborn_edn.specs.devices.MeaningErrors.{first_error}
 use Rattle.cborn_edn.specs.devices.Syntax.{Span, Pieces, piece, also, Strings, strings, StringsBefore, no_string, after_strings, string, chunked}
 use Rattle.cborn_edn.proofs.Grammar.Machine.{Stack, Home, as_item, as_chunk, has, builds, wants_chunk}
 use Rattle.cborn_edn.proofs.Grammar.Takes.{at_home}
-use Rattle.cborn_edn.proofs.Short.Said.{str, str_of, kind_in, chunks, faults_of_pieces, faults_of_strings}
+use Rattle.cborn_edn.specs.devices.Said.{str, str_of, kind_in, chunks, faults_of_pieces, faults_of_strings}
 use Rattle.cborn_edn.specs.declared.states.Here.{Here}
 use Rattle.cborn_edn.specs.declared.states.Writer.{Writer}
 use Rattle.cborn_edn.specs.declared.states.Heads.{Heads}

@@ -15,7 +15,7 @@ use Rattle.cborn_edn.specs.Says.{width, size, size_errors, width_errors, is_endl
 use Rattle.cborn_edn.specs.devices.MeaningErrors.{first_error, earlier}
 use Rattle.cborn_edn.specs.devices.Syntax.{Span, Content, Fields, Pieces, embedded, array, map}
 use Rattle.cborn_edn.proofs.Grammar.Machine.{Stack, in_array, in_embed, Home, with_piece, has, builds}
-use Rattle.cborn_edn.proofs.Short.Said.{str, str_of, nodes_in, entries_in, faults_in, faults_of_fields, faults_of_pieces}
+use Rattle.cborn_edn.specs.devices.Said.{str, str_of, nodes_in, entries_in, faults_in, faults_of_fields, faults_of_pieces}
 use Rattle.cborn_edn.specs.declared.states.Here.{Here}
 use Rattle.cborn_edn.specs.declared.states.Writer.{Writer}
 use Rattle.cborn_edn.specs.declared.states.Heads.{Heads}

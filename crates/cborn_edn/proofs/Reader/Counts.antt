@@ -10,7 +10,7 @@ use Rattle.cborn_model.specs.Spelled.{spelled, spelled_all, spelled_entries, end
 use Rattle.cborn_model.specs.Tree.{Tree, Uint, Nint, Bytes, Text, ByteChunks, TextChunks, Items, Pairs, Tagged, Simple, Trees, no_item, more, Entries, no_entry, entry, count, count_entries}
 use Rattle.cborn_edn.proofs.Grammar.Machine.{Stack, in_row, in_key, in_value, in_tag, Nest, at_top, in_array, in_embed, Home, as_item, as_chunk, State, wants, has, builds, wants_chunk, wants_number, has_number}
 use Rattle.cborn_edn.proofs.Grammar.Held.{levels, levels_nest, levels_home, open_levels}
-use Rattle.cborn_edn.proofs.Short.Said.{node, str, nodes_before, entries_before}
+use Rattle.cborn_edn.specs.devices.Said.{node, str, nodes_before, entries_before}
 use Rattle.cborn_edn.specs.declared.states.Here.{Here}
 use Rattle.cborn_edn.specs.declared.states.Heads.{Heads}
 use Rattle.cborn_edn.specs.declared.states.Writer.{Writer}

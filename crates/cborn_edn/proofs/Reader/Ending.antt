@@ -18,7 +18,7 @@ use Rattle.cborn_edn.proofs.Grammar.Takes.{finish}
 use Rattle.cborn_edn.proofs.Grammar.Parser.{at_end, parse, Meets, parses}
 use Rattle.cborn_edn.proofs.Meaning.Earliest.{Tells, tells}
 use Rattle.cborn_edn.proofs.Meaning.NoError.{nil_is}
-use Rattle.cborn_edn.proofs.Short.Said.{node, nodes_before, nodes_of_input, faults_of_input}
+use Rattle.cborn_edn.specs.devices.Said.{node, nodes_before, nodes_of_input, faults_of_input}
 use Rattle.cborn_edn.proofs.Short.SyntaxErrors.{refused, text_of}
 use Rattle.cborn_edn.specs.devices.Written.{IsSpellingAs, nodes_as}
 use Rattle.cborn_edn.proofs.Reader.Written.{same_nodes, short_nodes}

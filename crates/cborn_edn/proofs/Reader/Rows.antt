@@ -5,10 +5,9 @@ use Rattle.cborn_model.specs.Spelled.{spelled, spelled_all, spelled_entries}
 use Rattle.cborn_model.specs.declared.heads.Major.TheVariants.{Map}
 use Rattle.cborn_lex.specs.declared.classes.Mark.{Mark}
 use Rattle.cborn_edn.specs.devices.MeaningErrors.{first_error}
-use Rattle.cborn_edn.specs.devices.Said.{snoc, snoc_entry}
+use Rattle.cborn_edn.specs.devices.Said.{snoc, snoc_entry, node, nodes_before, nodes_in, entries_before, entries_in, faults, faults_before, faults_in, faults_before_pairs, faults_of_fields}
 use Rattle.cborn_edn.specs.devices.Syntax.{Span, Item, row, RowBefore, no_item, after_row, Content, loose, tight, pairs, PairsBefore, no_pair, after_pairs, Fields, loose_fields, tight_fields}
 use Rattle.cborn_edn.proofs.Grammar.Machine.{Stack, in_row, in_key, in_value, Nest, at_top, in_array, in_embed, has, wants}
-use Rattle.cborn_edn.proofs.Short.Said.{node, nodes_before, nodes_in, entries_before, entries_in, faults, faults_before, faults_in, faults_before_pairs, faults_of_fields}
 use Rattle.cborn_edn.specs.declared.states.Here.{Here}
 use Rattle.cborn_edn.specs.declared.states.Writer.{Writer}
 use Rattle.cborn_edn.specs.declared.states.Heads.{Heads}

@@ -17,7 +17,7 @@ use Rattle.cborn_edn.proofs.Grammar.Machine.{Stack, in_row, in_key, in_value, in
 use Rattle.cborn_edn.proofs.Grammar.Held.{levels, comma_at}
 use Rattle.cborn_edn.proofs.Grammar.Takes.{finish}
 use Rattle.cborn_edn.proofs.Grammar.Parser.{at_end, checked, forbids, parse}
-use Rattle.cborn_edn.proofs.Short.Said.{node, faults}
+use Rattle.cborn_edn.specs.devices.Said.{node, faults}
 use Rattle.cborn_edn.specs.devices.Ahead.{NoPieceAt}
 use Rattle.cborn_edn.specs.declared.states.Here.{Here}
 use Rattle.cborn_edn.specs.declared.states.Writer.{Writer}

@@ -12,7 +12,7 @@ use Rattle.cborn_edn.specs.devices.MeaningErrors.{first_error}
 use Rattle.cborn_edn.specs.devices.Syntax.{Span, no_item, no_pair}
 use Rattle.cborn_edn.proofs.Grammar.Machine.{Stack, in_row, in_key, in_array, Home, as_item, as_chunk, State}
 use Rattle.cborn_edn.proofs.Grammar.Takes.{at_home}
-use Rattle.cborn_edn.proofs.Short.Said.{str_of, faults_of_piece}
+use Rattle.cborn_edn.specs.devices.Said.{str_of, faults_of_piece}
 use Rattle.cborn_edn.specs.declared.states.Here.{Here}
 use Rattle.cborn_edn.specs.declared.states.Writer.{Writer}
 use Rattle.cborn_edn.specs.declared.states.Heads.{Heads}

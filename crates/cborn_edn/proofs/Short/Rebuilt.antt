@@ -14,10 +14,9 @@ use Rattle.cborn_edn.specs.declared.strings.StringKind.TheVariants.{Bytes as OfB
 use Rattle.cborn_edn.specs.devices.Syntax as tree
 use Rattle.cborn_edn.specs.devices.Syntax.{Span, token, Item, Piece, Pieces, Strings, Row, RowBefore, Content, Pairs, PairsBefore, Fields, Input, tokens_of, tokens_of_piece, tokens_of_pieces, tokens_of_strings, tokens_of_row, tokens_of_row_before, tokens_of_content, tokens_of_pairs, tokens_of_pairs_before, tokens_of_fields, tokens_of_input, depth, depth_of_piece, depth_of_pieces, depth_of_strings, depth_of_row, depth_of_row_before, depth_of_content, depth_of_pairs, depth_of_pairs_before, depth_of_fields, depth_of_input}
 use Rattle.cborn_edn.specs.devices.Commas.{AllowsCount, commas, commas_of_piece, commas_of_pieces, commas_of_strings, commas_of_row, commas_of_row_before, commas_of_content, commas_of_pairs, commas_of_pairs_before, commas_of_fields, commas_of_input}
-use Rattle.cborn_edn.specs.devices.Said.{snoc, snoc_entry}
+use Rattle.cborn_edn.specs.devices.Said.{snoc, snoc_entry, node, str_of, str, kind_in, chunks, nodes, nodes_before, nodes_in, entries, entries_before, entries_in, faults, faults_of_piece, faults_of_pieces, faults_of_strings, faults_of_row, faults_before, faults_in, faults_of_pairs, faults_before_pairs, faults_of_fields, nodes_of_input, faults_of_input}
 use Rattle.cborn_edn.specs.Says.{chunked_node, tag_errors, size_errors, width, size, Str, is_nil, joined, said_string, chunk, piece_errors, string_errors, chunk_errors}
 use Rattle.cborn_edn.specs.Grammar.{IsItem, number, word, simple, tag, array, map, string, chunked, IsPiece, text_piece, byte_piece, embedded, ArePieces, piece, also, AreChunks, first, next, AreItems, last, before, IsContent, empty, tight, loose, ArePairs, last_pair, pair_before, IsFields, no_fields, tight_fields, loose_fields, IsText, nothing, items}
-use Rattle.cborn_edn.proofs.Short.Said.{node, str_of, str, kind_in, chunks, nodes, nodes_before, nodes_in, entries, entries_before, entries_in, faults, faults_of_piece, faults_of_pieces, faults_of_strings, faults_of_row, faults_before, faults_in, faults_of_pairs, faults_before_pairs, faults_of_fields, nodes_of_input, faults_of_input}
 use Rattle.cborn_edn.proofs.Short.Derived.{both_allowed}
 
 -- a tree that has these tokens, says this and has these meaning errors

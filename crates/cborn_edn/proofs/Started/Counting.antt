@@ -21,7 +21,6 @@ use Rattle.cborn_edn.proofs.Grammar.OneTree.{takes_all}
 use Rattle.cborn_edn.proofs.Grammar.Takes.{whole}
 use Rattle.cborn_edn.proofs.Started.Begins.{starts_go_on, whole_starts, no_some, one_state}
 use Rattle.cborn_edn.proofs.Started.Fronts.{goes_on}
-use Rattle.cborn_edn.proofs.Started.Meant.{input_meant}
 use Rattle.cborn_edn.proofs.Short.SyntaxErrors.{parsed}
 
 -- the tokens of a text that notates nodes, and where they lead
@@ -40,7 +39,7 @@ whole_notated profile limit text nodes (tokens, taken, notates) =
       lex = lexed profile text tokens taken;
       state = whole a.tree;
       runs = ap (λ ts. run ts (Some start)) (sym a.parse.is) ∙ takes_all a.tree;
-      starts = whole_starts a.tree ∙ sym (input_meant a.tree nodes a.says);
+      starts = whole_starts a.tree ∙ ap starts_all a.says;
     }
 
 pub counts_begin : (profile : Profile) (text : List ℕ) (here : Here) (writer : Writer) → here.at ≡ 0 → Shows here writer writer.out.items start → Counts profile text here writer []

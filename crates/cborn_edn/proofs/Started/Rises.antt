@@ -9,8 +9,7 @@ use Rattle.cborn_lex.proofs.GoodTexts.{lexed}
 use Rattle.cborn_lex.proofs.WholeTexts.Chains.{spans_rise}
 use Rattle.cborn_edn.specs.Grammar.{Notates}
 use Rattle.cborn_edn.specs.Starts.{IsRising, spots_all}
-use Rattle.cborn_edn.proofs.Short.SyntaxErrors.{parsed}
-use Rattle.cborn_edn.proofs.Started.Meant.{Among, input_among}
+use Rattle.cborn_edn.proofs.Started.Meant.{Among, text_among}
 
 abbrev AreFrom : ℕ → List ℕ → Type 0
 AreFrom n xs = AllByRecursion (λ q. n ≤ q) xs
@@ -42,6 +41,4 @@ rise n end xs (t ∷ ts) s (inr (ys, e, h)) =
 -- LAW: spots rise
 pub spots_rise : (profile : Profile) (limit : ℕ) (text : List ℕ) (nodes : Trees) → Notates profile limit text nodes → IsRising (spots_all nodes)
 spots_rise profile limit text nodes (tokens, taken, h) =
-    let r = parsed profile limit tokens nodes [] h in
-    let among = subst (Among (spots_all nodes)) r.parse.is (input_among r.tree nodes r.says) in
-    (rise 0 (length text) (spots_all nodes) tokens (spans_rise profile text tokens (lexed profile text tokens taken)) among).1
+    (rise 0 (length text) (spots_all nodes) tokens (spans_rise profile text tokens (lexed profile text tokens taken)) (text_among h)).1
