@@ -2,7 +2,7 @@
 use Rattle.std.proofs.Common.{◌≡◌, refl, ap, ℕ, zero, suc, ◌^◌, ◌<◌, ◌≤◌, List, [], ◌∷◌, ◌++◌, length, Bool, true, false, ◌&&◌, not, cond, inl, arith}
 use Rattle.std.specs.List.{flat_map}
 use Rattle.std.specs.Int.Digits.{digits_of}
-use Rattle.std.proofs.lemmas.Bool.{ltb-true, and_parts, and_from}
+use Rattle.std.proofs.lemmas.Bool.{ltb-true, and_parts}
 use Rattle.std.proofs.lemmas.Int.Digits.{length-digits_of-le, all_below_base_digits_of}
 use Rattle.std.proofs.lemmas.List.{length-append}
 use Rattle.std.proofs.lemmas.Grind.{flat_map-append}
@@ -26,9 +26,9 @@ use Rattle.cborn_edn.specs.declared.faults.EdnReason.TheVariants.{IndicatorNotAl
 use Rattle.cborn_edn.specs.declared.meaning_errors.MeaningError.{MeaningError}
 use Rattle.cborn_edn.specs.declared.strings.StringKind.{StringKind}
 use Rattle.cborn_edn.specs.declared.strings.StringKind.TheVariants.{Bytes as OfBytes, Text as OfText}
-use Rattle.cborn_edn.specs.Says.{width, size, is_absent, is_below, argument_of, is_small, depth_of_number, integer, bignum, number_node, number_errors, width_errors, tag_errors, is_simple, unless, Str, is_endless, is_nil, said_string, chunk, chunked_node, string_node, mark_errors, string_errors}
+use Rattle.cborn_edn.specs.Says.{width, size, is_absent, is_below, argument_of, is_small, depth_of_number, integer, bignum, number_node, number_errors, width_errors, tag_errors, is_simple, unless, Str, is_endless, said_string, chunk, chunked_node, string_node, mark_errors, string_errors}
 use Rattle.cborn_edn.specs.Grammar.{token, IsItem, number, word, simple, tag, array, map, string, chunked, IsPiece, text_piece, byte_piece, embedded, ArePieces, piece, also, AreChunks, first, next, AreItems, last, before, IsContent, empty, tight, loose, ArePairs, last_pair, pair_before, IsFields, no_fields, tight_fields, loose_fields, IsText, nothing, items}
-use Rattle.cborn_edn.proofs.Meaning.NoError.{no_left, no_right, held, width_fits, size_fits, tag_fits, mark_fits}
+use Rattle.cborn_edn.proofs.Meaning.NoError.{no_left, no_right, nil_is, known_pieces, held, width_fits, size_fits, tag_fits, mark_fits}
 use Rattle.cborn_edn.proofs.Reader.Counts.{few_items, few_entries}
 
 pub front : (a b : List Token) → AreModest (a ++ b) → AreModest a
@@ -51,10 +51,6 @@ pub record SoundAll (d : ℕ) (ts : Trees) : Type 0 where
 record SoundEntries (d : ℕ) (es : Entries) : Type 0 where
   fits : FitsEntries es
   low : depth_entries es ≤ d
-
-record SoundString (s : Str) : Type 0 where
-  known : s.known ≡ true
-  bytes : AreBytes s.bytes
 
 -- Numbers.
 
@@ -124,19 +120,19 @@ chunked_sound : (k : StringKind) (p : ℕ) (cs : List Chunk) (d : ℕ) → Chunk
 chunked_sound OfBytes p cs d h = record { fits = h; low = omega arith }
 chunked_sound OfText p cs d h = record { fits = h; low = omega arith }
 
-said_sound : (s : Str) (d : ℕ) → SoundString s → string_errors s.lone s ≡ [] → length s.bytes < 2 ^ 64 → Sound d (said_string s)
-said_sound s d h e short = go (s.lone && is_endless s.mark)
+said_sound : (s : Str) (d : ℕ) → s.known ≡ true → AreBytes s.bytes → string_errors s.lone s ≡ [] → length s.bytes < 2 ^ 64 → Sound d (said_string s)
+said_sound s d known h e short = go (s.lone && is_endless s.mark)
   where
     whole : (k : StringKind) → Sound d (string_node k s.place (width s.mark (length s.bytes)) s.bytes)
-    whole OfBytes = record { fits = (mark_fits s.lone s h.known (no_left (mark_errors s.lone s) _ e) short, h.bytes); low = omega arith }
-    whole OfText = record { fits = (mark_fits s.lone s h.known (no_left (mark_errors s.lone s) _ e) short, h.bytes); low = omega arith }
+    whole OfBytes = record { fits = (mark_fits s.lone s known (no_left (mark_errors s.lone s) _ e) short, h); low = omega arith }
+    whole OfText = record { fits = (mark_fits s.lone s known (no_left (mark_errors s.lone s) _ e) short, h); low = omega arith }
 
     go : (b : Bool) → Sound d (cond b (chunked_node s.kind s.place []) (string_node s.kind s.place (width s.mark (length s.bytes)) s.bytes))
     go true = chunked_sound s.kind s.place [] d tt
     go false = whole s.kind
 
-chunk_sound : (s : Str) → SoundString s → string_errors false s ≡ [] → length s.bytes < 2 ^ 64 → WidthFits (chunk s).width (length s.bytes) × AreBytes s.bytes
-chunk_sound s h e short = (mark_fits false s h.known (no_left (mark_errors false s) _ e) short, h.bytes)
+chunk_sound : (s : Str) → s.known ≡ true → AreBytes s.bytes → string_errors false s ≡ [] → length s.bytes < 2 ^ 64 → WidthFits (chunk s).width (length s.bytes) × AreBytes s.bytes
+chunk_sound s known h e short = (mark_fits false s known (no_left (mark_errors false s) _ e) short, h)
 
 one_more : (cs : List Chunk) (c : Chunk) → ChunksFit cs → WidthFits c.width (length c.bytes) × AreBytes c.bytes → ChunksFit (cs ++ (c ∷ []))
 one_more [] c h g = (g, tt)
@@ -165,36 +161,37 @@ module _ {p : Profile} where
         record { fits = (size_fits a.start m n (omega (arith, short, few_entries es)) (no_right l _ e), s.fits); low = omega (arith, s.low) }
     sound (string {d = d} {s = s} {l = l} ps) h e k =
         let short : length s.bytes < 2 ^ 64 = omega (arith, k, in_string s (lone_nothing ps)) in
-        said_sound s d (sound_pieces ps h (no_left l _ e) short) (no_right l _ e) short
+        let known = known_pieces ps (no_left l _ e) in
+        said_sound s d known (sound_pieces ps h known short) (no_right l _ e) short
     sound (chunked {d = d} {x = x} {k = kind} {cs = cs} a end c) h e k =
         let few = in_chunks kind a.start cs (2 ^ 64) k in
         chunked_sound kind a.start cs d (sound_chunks few.0 c (front x (token end ParenClose ∷ []) h.1) e few.1)
 
-    sound_piece : {d : ℕ} {x : List Token} {s : Str} {l : List MeaningError} → IsPiece p d x s l → AreModest x → l ≡ [] → length s.bytes < 2 ^ 64 → SoundString s
-    sound_piece (text_piece a) h e k = record { known = refl; bytes = h.0 }
-    sound_piece (byte_piece a) h e k = record { known = refl; bytes = h.0 }
-    sound_piece (embedded {x = x} {ts = ts} a end m c) h e k =
-        record { known = ap is_nil e; bytes = spelled_all_bytes ts (sound_content c (front x (token end (EmbedClose m) ∷ []) h.1) e k).fits }
+    sound_piece : {d : ℕ} {x : List Token} {s : Str} {l : List MeaningError} → IsPiece p d x s l → AreModest x → s.known ≡ true → length s.bytes < 2 ^ 64 → AreBytes s.bytes
+    sound_piece (text_piece a) h e k = h.0
+    sound_piece (byte_piece a) h e k = h.0
+    sound_piece (embedded {x = x} {ts = ts} {l = l} a end m c) h e k = spelled_all_bytes ts (sound_content c (front x (token end (EmbedClose m) ∷ []) h.1) (nil_is l e) k).fits
 
-    sound_pieces : {d : ℕ} {x : List Token} {s : Str} {l : List MeaningError} → ArePieces p d x s l → AreModest x → l ≡ [] → length s.bytes < 2 ^ 64 → SoundString s
+    sound_pieces : {d : ℕ} {x : List Token} {s : Str} {l : List MeaningError} → ArePieces p d x s l → AreModest x → s.known ≡ true → length s.bytes < 2 ^ 64 → AreBytes s.bytes
     sound_pieces (piece q) h e k = sound_piece q h e k
-    sound_pieces (also {x = x} {y = y} {s = s} {t = t} {l = l} {r = r} ps q) h e k =
+    sound_pieces (also {x = x} {y = y} {s = s} {t = t} ps q) h e k =
         let sum = length-append s.bytes t.bytes in
-        let a = sound_pieces ps (front x y h) (no_left l _ e) (omega (arith, k, sum)) in
-        let b = sound_piece q (back x y h) (no_left r _ (no_right l _ e)) (omega (arith, k, sum)) in
-        record { known = and_from s.known t.known a.known b.known; bytes = bytes-append s.bytes t.bytes a.bytes b.bytes }
+        let both = and_parts s.known t.known e in
+        bytes-append s.bytes t.bytes (sound_pieces ps (front x y h) both.0 (omega (arith, k, sum))) (sound_piece q (back x y h) both.1 (omega (arith, k, sum)))
 
     sound_chunks : {d : ℕ} {x : List Token} {k : StringKind} {cs : List Chunk} {l : List MeaningError} (g : Major) → AreChunks p d x k cs l → AreModest x → l ≡ [] → length (flat_map (chunk_bytes g) cs) < 2 ^ 64 → ChunksFit cs
     sound_chunks g (first {s = s} {l = l} ps) h e k =
         let short : length s.bytes < 2 ^ 64 = omega (arith, k, in_chunk g s, length-append (chunk_bytes g (chunk s)) []) in
-        (chunk_sound s (sound_pieces ps h (no_left l _ e) short) (no_right l _ e) short, tt)
+        let known = known_pieces ps (no_left l _ e) in
+        (chunk_sound s known (sound_pieces ps h known short) (no_right l _ e) short, tt)
     sound_chunks g (next {x = x} {y = y} {cs = cs} {s = s} {l = l} {r = r} a c ps) h e k =
         let sum = ap length (flat_map-append (chunk_bytes g) cs (chunk s ∷ [])) in
         let two = length-append (flat_map (chunk_bytes g) cs) (chunk_bytes g (chunk s) ++ []) in
         let short : length s.bytes < 2 ^ 64 = omega (arith, k, sum, two, in_chunk g s, length-append (chunk_bytes g (chunk s)) []) in
         let own = no_right l _ e in
+        let known = known_pieces ps (no_left r _ own) in
         one_more cs (chunk s) (sound_chunks g c (front x (token a Comma ∷ y) h) (no_left l _ e) (omega (arith, k, sum, two)))
-        (chunk_sound s (sound_pieces ps (back x (token a Comma ∷ y) h).1 (no_left r _ own) short) (no_right _ (string_errors false s) (no_right r _ own)) short)
+        (chunk_sound s known (sound_pieces ps (back x (token a Comma ∷ y) h).1 known short) (no_right _ (string_errors false s) (no_right r _ own)) short)
 
     sound_items : {d : ℕ} {x : List Token} {ts : Trees} {l : List MeaningError} → AreItems p d x ts l → AreModest x → l ≡ [] → length (spelled_all ts) < 2 ^ 64 → SoundAll d ts
     sound_items (last {t = t} i) h e k = let s = sound i h e (omega (arith, k, length-append (spelled t) [])) in record { fits = (s.fits, tt); low = omega (arith, s.low) }

@@ -1,16 +1,20 @@
 -- What is known where there is no meaning error: an argument, a count or a length below 2^64 fits its width.
-use Rattle.std.proofs.Common.{◌≡◌, refl, ℕ, ◌^◌, ◌<◌, List, [], ◌∷◌, ◌++◌, length, Bool, true, false, ltb, cond}
+use Rattle.std.proofs.Common.{◌≡◌, refl, ap, ℕ, ◌^◌, ◌<◌, List, [], ◌∷◌, ◌++◌, length, Bool, true, false, ltb, cond}
 use Rattle.std.specs.Prelude.{if◌then◌else◌}
-use Rattle.std.proofs.lemmas.Bool.{ltb-true}
+use Rattle.std.proofs.lemmas.Bool.{ltb-true, and_from}
 use Rattle.cborn_model.specs.declared.heads.Width.{Width}
 use Rattle.cborn_model.specs.declared.heads.Width.TheVariants.{Direct, One, Two, Four, Eight}
 use Rattle.cborn_model.specs.Heads.{holds, WidthFits, SizeFits}
 use Rattle.cborn_model.proofs.Numbers.OneHead.{least_holds}
 use Rattle.cborn_lex.specs.declared.classes.Mark.{Mark}
 use Rattle.cborn_lex.specs.declared.classes.Mark.TheVariants.{Absent, Endless, Wide}
+use Rattle.cborn_lex.specs.declared.classes.Token.{Token}
+use Rattle.cborn_lex.specs.declared.classes.Profile.{Profile}
+use Rattle.cborn_edn.specs.declared.meaning_errors.MeaningError.{MeaningError}
 use Rattle.cborn_edn.specs.declared.faults.EdnReason.{EdnReason}
 use Rattle.cborn_edn.specs.declared.faults.EdnReason.TheVariants.{IndicatorTooNarrow, IndicatorNotAllowed, TagTooLarge}
 use Rattle.cborn_edn.specs.Says.{width, size, unless, width_errors, size_errors, tag_errors, Str, is_endless, is_nil, mark_errors}
+use Rattle.cborn_edn.specs.Grammar.{IsPiece, text_piece, byte_piece, embedded, ArePieces, piece, also}
 
 pub no_left : {A : Type 0} (x y : List A) → x ++ y ≡ [] → x ≡ []
 no_left [] y e = refl
@@ -62,3 +66,12 @@ mark_fits may_end s known e h = go s.mark s.known known e
     go Endless k f e = least_holds (length s.bytes) h
     go (Wide w) true f e = width_fits s.mark_place (Wide w) (length s.bytes) h e
     go (Wide w) false f e = absurd (let bad : false ≡ true = f in cc)
+
+known_piece : {p : Profile} {d : ℕ} {x : List Token} {s : Str} {l : List MeaningError} → IsPiece p d x s l → l ≡ [] → s.known ≡ true
+known_piece (text_piece a) e = refl
+known_piece (byte_piece a) e = refl
+known_piece (embedded a end m c) e = ap is_nil e
+
+pub known_pieces : {p : Profile} {d : ℕ} {x : List Token} {s : Str} {l : List MeaningError} → ArePieces p d x s l → l ≡ [] → s.known ≡ true
+known_pieces (piece q) e = known_piece q e
+known_pieces (also {s = s} {t = t} {l = l} {r = r} ps q) e = and_from s.known t.known (known_pieces ps (no_left l _ e)) (known_piece q (no_left r _ (no_right l _ e)))

@@ -6,7 +6,6 @@ use Rattle.cborn_lex.specs.Lex.{Lex}
 use Rattle.cborn_lex.specs.declared.classes.Profile.{Profile}
 use Rattle.cborn_lex.proofs.GoodTexts.{has_tokens}
 use Rattle.cborn_lex.proofs.WholeTexts.Progress.{whole_text}
-use Rattle.cborn_edn.specs.devices.Modest.{AreModest}
 use Rattle.cborn_edn.specs.declared.meaning_errors.MeaningError.{MeaningError}
 use Rattle.cborn_edn.specs.declared.faults.EdnReason.TheVariants.{UnexpectedEnd}
 use Rattle.cborn_edn.specs.declared.faults.EdnFault.TheVariants.{Refused}
@@ -35,7 +34,7 @@ use Rattle.cborn_edn.specs.devices.Reading.{may_end, ends_string, Last, empty, i
 use Rattle.cborn_edn.proofs.Reader.Laying.{cut_bytes}
 use Rattle.cborn_edn.proofs.Reader.NotedErrors.{none_first}
 use Rattle.cborn_edn.proofs.Reader.Rows.{written_snoc}
-use Rattle.cborn_edn.proofs.Reader.Modest.{input_bytes}
+use Rattle.cborn_edn.proofs.Reader.Modest.{text_bytes}
 
 -- whether the text may end
 pub data Ends (s : State) (b : Bool) : Type 0 where
@@ -122,9 +121,9 @@ module _ (p : Profile) (limit : ℕ) (text : List ℕ) (s : State) (r : Reached 
   pub spelled_text : (t : Input) (w : Writer) → finish s ≡ Some t → AtEnd t w → w.error ≡ None → IsSpellingAs w.heads p limit text w.out.items
   spelled_text t w e k h =
       let none : faults_of_input t ≡ [] = nil_is (faults_of_input t) (sym (none_first (faults_of_input t)) ∙ ap is_none (sym k.error ∙ h)) in
-      let m = met (Some t) e in
-      let are = written_bytes w.heads (nodes_of_input t) (input_bytes t (subst AreModest (sym m.0.is) r.modest) none) in
-      spelled_as w.heads (nodes_of_input t) w.out.items (r.tokens, has_tokens p text r.tokens lex, subst (IsText p limit r.tokens (nodes_of_input t)) none (is_text t e)) (sym (k.laid ∙ cut_bytes (spelled_all (nodes_as w.heads (nodes_of_input t))) are))
+      let is = subst (IsText p limit r.tokens (nodes_of_input t)) none (is_text t e) in
+      let are = written_bytes w.heads (nodes_of_input t) (text_bytes is r.modest) in
+      spelled_as w.heads (nodes_of_input t) w.out.items (r.tokens, has_tokens p text r.tokens lex, is) (sym (k.laid ∙ cut_bytes (spelled_all (nodes_as w.heads (nodes_of_input t))) are))
 
 pub may_end_at : (k : Heads) (s : State) → may_end (phase_of s) (level_of (stack_in s)) (chunks_in k s) ≡ true → (t : Input) × (finish s ≡ Some t) × Last s t
 may_end_at k s e = elim (ends k s) [ some t b f l ↦ (t, f, l) | none b f ↦ absurd (let bad : false ≡ true = sym b ∙ e in cc) ]

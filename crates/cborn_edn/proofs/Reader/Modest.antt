@@ -1,38 +1,39 @@
 -- What tokens say that are read from a text, where there is no meaning error, are bytes.
-use Rattle.std.proofs.Common.{◌≡◌, refl, sym, ap, ◌∙◌, subst, ℕ, ◌+◌, ◌*◌, ◌^◌, ◌<◌, ◌≤◌, List, [], ◌∷◌, ◌++◌, length, Bool, true, false, ◌&&◌, ltb, arith}
+use Rattle.std.proofs.Common.{◌≡◌, refl, sym, subst, ℕ, ◌+◌, ◌*◌, ◌^◌, ◌<◌, ◌≤◌, List, [], ◌∷◌, ◌++◌, length, Bool, true, false, ◌&&◌, ltb, cond, arith}
 use Rattle.std.specs.Prelude.{if◌then◌else◌}
 use Rattle.std.specs.List.{flat_map}
 use Rattle.std.specs.Int.Digits.{digits_of}
-use Rattle.std.proofs.lemmas.Bool.{ltb-true, ltb-false, le-ltb}
+use Rattle.std.proofs.lemmas.Bool.{ltb-true, ltb-false, le-ltb, and_parts}
 use Rattle.std.proofs.lemmas.Int.Digits.{all_below_base_digits_of}
 use Rattle.std.proofs.lemmas.Grind.{flat_map-append}
 use Rattle.cborn_model.specs.Bytes.{AreBytes}
 use Rattle.cborn_model.proofs.Bytes.{bytes-append}
 use Rattle.cborn_model.specs.declared.heads.Width.TheVariants.{Direct, Eight}
 use Rattle.cborn_model.specs.declared.heads.Major.{Major}
-use Rattle.cborn_model.specs.declared.heads.Major.TheVariants.{Unsigned, Negative, ByteString, TextString, Array, Map, Tag, Other}
+use Rattle.cborn_model.specs.declared.heads.Major.TheVariants.{Unsigned, Negative, ByteString, TextString, Array, Map as MapHead, Tag as TagHead, Other}
 use Rattle.cborn_model.specs.declared.nodes.Chunk.{Chunk}
 use Rattle.cborn_model.specs.Heads.{code, holds, least, Given, EndlessArgument, head, argument}
-use Rattle.cborn_model.specs.Spelled.{ending, string, chunk_bytes, spelled, spelled_all, spelled_entries}
-use Rattle.cborn_model.specs.Tree.{Uint, Nint, Bytes as ByteNode, Tagged, count, count_entries}
+use Rattle.cborn_model.specs.Spelled.{ending, string as string_bytes, chunk_bytes, spelled, spelled_all, spelled_entries}
+use Rattle.cborn_model.specs.Tree.{Tree, Uint, Nint, Trees, Entries, count, count_entries}
 use Rattle.cborn_model.proofs.Numbers.OneHead.{least_holds}
 use Rattle.cborn_wire.proofs.Spelled.AllBytes.{head_bytes}
 use Rattle.cborn_lex.specs.declared.classes.Mark.{Mark}
 use Rattle.cborn_lex.specs.declared.classes.Mark.TheVariants.{Absent, Endless, Wide}
-use Rattle.cborn_lex.specs.declared.classes.Class.TheVariants.{Comma}
+use Rattle.cborn_lex.specs.declared.classes.Class.TheVariants.{ArrayClose, MapClose, ParenClose, Comma, Colon, EmbedClose}
 use Rattle.cborn_lex.specs.declared.classes.Token.{Token}
+use Rattle.cborn_lex.specs.declared.classes.Profile.{Profile}
+use Rattle.cborn_lex.specs.declared.classes.Profile.TheVariants.{Two}
 use Rattle.cborn_edn.specs.devices.Modest.{AreModest}
 use Rattle.cborn_edn.specs.declared.meaning_errors.MeaningError.{MeaningError}
 use Rattle.cborn_edn.specs.declared.faults.EdnReason.TheVariants.{IndicatorTooNarrow, IndicatorNotAllowed, MixedChunks, TagTooLarge}
 use Rattle.cborn_edn.specs.declared.strings.StringKind.{StringKind}
 use Rattle.cborn_edn.specs.declared.strings.StringKind.TheVariants.{Bytes as OfBytes, Text as OfText}
-use Rattle.cborn_edn.specs.Says as says
-use Rattle.cborn_edn.specs.Says.{width, size, unless, width_errors, size_errors, is_below, argument_of, is_small, number_node, number_errors, tag_errors, is_endless, is_good, is_nil, Str, chunk, chunked_node, string_node, said_string, mark_errors, string_errors, chunk_errors, piece_errors}
-use Rattle.cborn_edn.specs.devices.Syntax as tree
-use Rattle.cborn_edn.specs.devices.Syntax.{token, Item, Piece, Pieces, piece, also, Strings, strings, StringsBefore, no_string, after_strings, Row, row, RowBefore, no_item, after_row, Content, loose, tight, Pairs, pairs, PairsBefore, no_pair, after_pairs, Fields, loose_fields, tight_fields, Input, nothing, items, tokens_of, tokens_of_piece, tokens_of_pieces, tokens_of_strings, tokens_of_strings_before, tokens_of_row, tokens_of_row_before, tokens_of_content, tokens_of_pairs, tokens_of_pairs_before, tokens_of_fields, tokens_of_input}
-use Rattle.cborn_edn.proofs.Meaning.NoError.{no_left, no_right, nil_is, held, holds_is}
-use Rattle.cborn_edn.specs.devices.Said.{node, str_of, str, kind_in, chunks, nodes, nodes_before, nodes_in, entries, entries_before, entries_in, faults, faults_of_pieces, faults_of_strings, faults_of_row, faults_before, faults_in, faults_of_pairs, faults_before_pairs, faults_of_fields, nodes_of_input, faults_of_input}
-use Rattle.cborn_edn.proofs.Reader.Rows.{spelled_snoc, spelled_snoc_entry}
+use Rattle.cborn_edn.specs.Says.{width, size, is_absent, same_kind, unless, width_errors, size_errors, is_below, argument_of, is_small, integer, bignum, number_node, number_errors, tag_errors, is_endless, Str, chunk, chunked_node, string_node, said_string, mark_errors, string_errors}
+use Rattle.cborn_edn.specs.Grammar.{token, IsItem, number, word, simple, tag, array, map, string, chunked, IsPiece, text_piece, byte_piece, embedded, ArePieces, piece, also, AreChunks, first, next, AreItems, last, before, IsContent, empty, tight, loose, ArePairs, last_pair, pair_before, IsFields, no_fields, tight_fields, loose_fields, IsText, nothing, items}
+use Rattle.cborn_edn.specs.devices.Syntax.{Pieces, tokens_of_pieces, depth_of_pieces}
+use Rattle.cborn_edn.specs.devices.Said.{str}
+use Rattle.cborn_edn.proofs.Meaning.NoError.{no_left, no_right, nil_is, held, holds_is, known_pieces}
+use Rattle.cborn_edn.proofs.Short.Derived.{derived_pieces}
 
 pub modest_left : (x y : List Token) → AreModest (x ++ y) → AreModest x
 modest_left [] y h = tt
@@ -66,20 +67,17 @@ least_bytes k n = go (ltb n (2 ^ 64)) refl
         first ByteString = omega arith
         first TextString = omega arith
         first Array = omega arith
-        first Map = omega arith
-        first Tag = omega arith
+        first MapHead = omega arith
+        first TagHead = omega arith
         first Other = omega arith
 
     go : (b : Bool) → ltb n (2 ^ 64) ≡ b → AreBytes (head k (Given (least n) n))
     go true e = head_bytes k (Given (least n) n) (least_holds n (ltb-true _ _ e))
     go false e = subst (λ w. AreBytes (head k (Given w n))) (sym (wide (ltb-false _ _ e))) (eight k)
 
-no_error : {A : Type 0} (s : MeaningError) (l : List MeaningError) → s ∷ l ≡ [] → A
-no_error s l e = absurd (let bad : s ∷ l ≡ [] = e in cc)
-
 width_bytes : (k : Major) (p : ℕ) (m : Mark) (n : ℕ) → width_errors p m n ≡ [] → AreBytes (head k (Given (width m n) n))
 width_bytes k p Absent n e = least_bytes k n
-width_bytes k p Endless n e = no_error (record { place = p; reason = IndicatorNotAllowed }) [] e
+width_bytes k p Endless n e = least_bytes k n
 width_bytes k p (Wide w) n e = head_bytes k (Given w n) (holds_is w n (held (holds w n) p IndicatorTooNarrow e))
 
 -- what an array's or a map's head and its end enclose
@@ -88,160 +86,126 @@ sized_bytes k p Absent n x e h = bytes-append (head k (Given (least n) n) ++ x) 
 sized_bytes k p Endless n x e h = bytes-append (head k EndlessArgument ++ x) (255 ∷ []) (bytes-append (head k EndlessArgument) x (head_bytes k EndlessArgument tt) h) (omega arith, tt)
 sized_bytes k p (Wide w) n x e h = bytes-append (head k (Given w n) ++ x) [] (bytes-append (head k (Given w n)) x (width_bytes k p (Wide w) n e) h) tt
 
-number_bytes : (p : ℕ) (n : Bool) (v : ℕ) (m : Mark) → v < 2 ^ 128 → number_errors p n v m ≡ [] → AreBytes (spelled (number_node p n v m))
-number_bytes p n v m low e = go (is_small n v) e
+number_bytes : (p : ℕ) (n : Bool) (v : ℕ) (m : Mark) → number_errors p n v m ≡ [] → AreBytes (spelled (number_node p n v m))
+number_bytes p n v m e = go (is_small n v) e
   where
-    small : (b : Bool) → width_errors p m (argument_of n v) ≡ [] → AreBytes (spelled (if b then Nint p (width m (argument_of n v)) (argument_of n v) else Uint p (width m (argument_of n v)) (argument_of n v)))
+    small : (b : Bool) → width_errors p m (argument_of n v) ≡ [] → AreBytes (spelled (cond b (Nint p (width m (argument_of n v)) (argument_of n v)) (Uint p (width m (argument_of n v)) (argument_of n v))))
     small true e = width_bytes Negative p m (argument_of n v) e
     small false e = width_bytes Unsigned p m (argument_of n v) e
 
-    big : (b : Bool) → AreBytes (spelled (let x = digits_of 256 (argument_of n v) in Tagged p Direct (if b then 3 else 2) (ByteNode p (least (length x)) x)))
-    big true = bytes-append (195 ∷ []) (string ByteString (least (length (digits_of 256 (argument_of n v)))) (digits_of 256 (argument_of n v))) (omega arith, tt) (bytes-append (head ByteString (Given (least (length (digits_of 256 (argument_of n v)))) (length (digits_of 256 (argument_of n v))))) (digits_of 256 (argument_of n v)) (least_bytes ByteString (length (digits_of 256 (argument_of n v)))) (all_below_base_digits_of 256 (argument_of n v) (omega arith)))
-    big false = bytes-append (194 ∷ []) (string ByteString (least (length (digits_of 256 (argument_of n v)))) (digits_of 256 (argument_of n v))) (omega arith, tt) (bytes-append (head ByteString (Given (least (length (digits_of 256 (argument_of n v)))) (length (digits_of 256 (argument_of n v))))) (digits_of 256 (argument_of n v)) (least_bytes ByteString (length (digits_of 256 (argument_of n v)))) (all_below_base_digits_of 256 (argument_of n v) (omega arith)))
+    tagged : (b : Bool) → AreBytes (head TagHead (Given Direct (cond b 3 2)))
+    tagged true = (omega arith, tt)
+    tagged false = (omega arith, tt)
 
-    go : (b : Bool) → (if b then width_errors p m (argument_of n v) else unless (says.is_absent m) p IndicatorNotAllowed) ≡ [] → AreBytes (spelled (if b then says.integer p n v (width m (argument_of n v)) else says.bignum p n v))
+    go : (b : Bool) → cond b (width_errors p m (argument_of n v)) (unless (is_absent m) p IndicatorNotAllowed) ≡ [] → AreBytes (spelled (cond b (integer p n v (width m (argument_of n v))) (bignum p n v)))
     go true e = small (is_below n v) e
-    go false e = big (is_below n v)
+    go false e =
+        let x = digits_of 256 (argument_of n v) in
+        bytes-append (head TagHead (Given Direct (cond (is_below n v) 3 2))) (string_bytes ByteString (least (length x)) x) (tagged (is_below n v)) (bytes-append (head ByteString (Given (least (length x)) (length x))) x (least_bytes ByteString (length x)) (all_below_base_digits_of 256 (argument_of n v) (omega arith)))
 
-tag_bytes : (p : ℕ) (m : Mark) (n : ℕ) → tag_errors p m n ≡ [] → AreBytes (head Tag (Given (width m n) n))
+tag_bytes : (p : ℕ) (m : Mark) (n : ℕ) → tag_errors p m n ≡ [] → AreBytes (head TagHead (Given (width m n) n))
 tag_bytes p m n e = go (ltb n (2 ^ 64)) e
   where
-    go : (b : Bool) → (if b then width_errors p m n else unless false p TagTooLarge) ≡ [] → AreBytes (head Tag (Given (width m n) n))
-    go true e = width_bytes Tag p m n e
-    go false e = no_error (record { place = p; reason = TagTooLarge }) [] e
+    go : (b : Bool) → cond b (width_errors p m n) (unless false p TagTooLarge) ≡ [] → AreBytes (head TagHead (Given (width m n) n))
+    go true e = width_bytes TagHead p m n e
+    go false e = absurd (let bad : false ≡ true = held false p TagTooLarge e in cc)
 
-both_endless : {A : Type 0} (a b : Bool) → (a && b) ≡ false → b ≡ true → unless a 0 IndicatorNotAllowed ≡ [] → A
-both_endless true b e f g = absurd (let bad : false ≡ true = sym e ∙ f in cc)
-both_endless false b e f g = no_error (record { place = 0; reason = IndicatorNotAllowed }) [] g
-
-no_unless : (a : Bool) (p q : ℕ) → unless a p IndicatorNotAllowed ≡ [] → unless a q IndicatorNotAllowed ≡ []
-no_unless true p q e = refl
-no_unless false p q e = no_error (record { place = p; reason = IndicatorNotAllowed }) [] e
-
--- a string that is known and has no meaning error of its indicator has a head of bytes, where it isn't without chunks
-mark_head : (k : Major) (may_end : Bool) (s : Str) → s.known ≡ true → (may_end && is_endless s.mark) ≡ false → mark_errors may_end s ≡ [] → AreBytes (head k (Given (width s.mark (length s.bytes)) (length s.bytes)))
-mark_head k may_end s known not e = go (is_endless s.mark) refl e
+-- a string that is known, with its head
+marked_bytes : (k : Major) (may_end : Bool) (s : Str) → s.known ≡ true → mark_errors may_end s ≡ [] → AreBytes s.bytes → AreBytes (string_bytes k (width s.mark (length s.bytes)) s.bytes)
+marked_bytes k may_end s known e h = bytes-append (head k (Given (width s.mark (length s.bytes)) (length s.bytes))) s.bytes (go s.mark s.known known e) h
   where
-    sure : (b : Bool) → b ≡ true → (if b then width_errors s.mark_place s.mark (length s.bytes) else []) ≡ [] → width_errors s.mark_place s.mark (length s.bytes) ≡ []
-    sure true f g = g
-    sure false f g = absurd (let bad : false ≡ true = f in cc)
+    go : (m : Mark) (b : Bool) → b ≡ true → (if is_endless m then unless may_end s.mark_place IndicatorNotAllowed else if b then width_errors s.mark_place m (length s.bytes) else []) ≡ [] → AreBytes (head k (Given (width m (length s.bytes)) (length s.bytes)))
+    go Absent b f e = least_bytes k (length s.bytes)
+    go Endless b f e = least_bytes k (length s.bytes)
+    go (Wide w) true f e = width_bytes k s.mark_place (Wide w) (length s.bytes) e
+    go (Wide w) false f e = absurd (let bad : false ≡ true = f in cc)
 
-    go : (b : Bool) → is_endless s.mark ≡ b → (if b then unless may_end s.mark_place IndicatorNotAllowed else if s.known then width_errors s.mark_place s.mark (length s.bytes) else []) ≡ [] → AreBytes (head k (Given (width s.mark (length s.bytes)) (length s.bytes)))
-    go true f g = both_endless may_end (is_endless s.mark) not f (no_unless may_end s.mark_place 0 g)
-    go false f g = width_bytes k s.mark_place s.mark (length s.bytes) (sure s.known known g)
-
-known_piece : (l : List MeaningError) → l ≡ [] → is_nil l ≡ true
-known_piece l e = ap is_nil e
-
-both_true : (a b : Bool) → a ≡ true → b ≡ true → (a && b) ≡ true
-both_true true b e f = f
-both_true false b e f = e
-
-left_true : (a b : Bool) → (a && b) ≡ true → a ≡ true
-left_true true b e = refl
-left_true false b e = e
-
-right_true : (a b : Bool) → (a && b) ≡ true → b ≡ true
-right_true true b e = e
-right_true false b e = absurd (let bad : false ≡ true = e in cc)
-
-chunk_head : (k : Major) (s : Str) → s.known ≡ true → string_errors false s ≡ [] → AreBytes s.bytes → AreBytes (chunk_bytes k (chunk s))
-chunk_head k s known e h = bytes-append (head k (Given (width s.mark (length s.bytes)) (length s.bytes))) s.bytes (mark_head k false s known refl (no_left (mark_errors false s) _ e)) h
-
-item_string : (s : Str) → s.known ≡ true → string_errors s.lone s ≡ [] → AreBytes s.bytes → AreBytes (spelled (said_string s))
-item_string s known e h = go (s.lone && is_endless s.mark) refl
+said_bytes : (s : Str) → s.known ≡ true → string_errors s.lone s ≡ [] → AreBytes s.bytes → AreBytes (spelled (said_string s))
+said_bytes s known e h = go (s.lone && is_endless s.mark)
   where
     alone : (k : StringKind) → AreBytes (spelled (chunked_node k s.place []))
     alone OfBytes = (omega arith, (omega arith, tt))
     alone OfText = (omega arith, (omega arith, tt))
 
-    long : (k : StringKind) → (s.lone && is_endless s.mark) ≡ false → AreBytes (spelled (string_node k s.place (width s.mark (length s.bytes)) s.bytes))
-    long OfBytes f = bytes-append (head ByteString (Given (width s.mark (length s.bytes)) (length s.bytes))) s.bytes (mark_head ByteString s.lone s known f (no_left (mark_errors s.lone s) _ e)) h
-    long OfText f = bytes-append (head TextString (Given (width s.mark (length s.bytes)) (length s.bytes))) s.bytes (mark_head TextString s.lone s known f (no_left (mark_errors s.lone s) _ e)) h
+    long : (k : StringKind) → AreBytes (spelled (string_node k s.place (width s.mark (length s.bytes)) s.bytes))
+    long OfBytes = marked_bytes ByteString s.lone s known (no_left (mark_errors s.lone s) _ e) h
+    long OfText = marked_bytes TextString s.lone s known (no_left (mark_errors s.lone s) _ e) h
 
-    go : (b : Bool) → (s.lone && is_endless s.mark) ≡ b → AreBytes (spelled (if b then chunked_node s.kind s.place [] else string_node s.kind s.place (width s.mark (length s.bytes)) s.bytes))
-    go true f = alone s.kind
-    go false f = long s.kind f
+    go : (b : Bool) → AreBytes (spelled (cond b (chunked_node s.kind s.place []) (string_node s.kind s.place (width s.mark (length s.bytes)) s.bytes)))
+    go true = alone s.kind
+    go false = long s.kind
 
 chunked_bytes : (k : StringKind) (p : ℕ) (cs : List Chunk) → ((m : Major) → AreBytes (flat_map (chunk_bytes m) cs)) → AreBytes (spelled (chunked_node k p cs))
 chunked_bytes OfBytes p cs h = bytes-append (95 ∷ flat_map (chunk_bytes ByteString) cs) (255 ∷ []) (omega arith, h ByteString) (omega arith, tt)
 chunked_bytes OfText p cs h = bytes-append (127 ∷ flat_map (chunk_bytes TextString) cs) (255 ∷ []) (omega arith, h TextString) (omega arith, tt)
 
-pub pieces_known : (ps : Pieces) → faults_of_pieces ps ≡ [] → (str ps).known ≡ true
-pieces_known (piece (tree.text at x m)) e = refl
-pieces_known (piece (tree.bytes at q x m)) e = refl
-pieces_known (piece (tree.embedded at c end m)) e = ap is_nil e
-pieces_known (also ps (tree.text at x m)) e = both_true (str ps).known true (pieces_known ps (no_left (faults_of_pieces ps) _ e)) refl
-pieces_known (also ps (tree.bytes at q x m)) e = both_true (str ps).known true (pieces_known ps (no_left (faults_of_pieces ps) _ e)) refl
-pieces_known (also ps (tree.embedded at c end m)) e = both_true (str ps).known (is_nil (faults_in c)) (pieces_known ps (no_left (faults_of_pieces ps) _ e)) (ap is_nil (no_left (faults_in c) _ (no_right (faults_of_pieces ps) _ e)))
+module _ {p : Profile} where
+  mutual
+    item_bytes : {d : ℕ} {x : List Token} {t : Tree} {l : List MeaningError} → IsItem p d x t l → AreModest x → l ≡ [] → AreBytes (spelled t)
+    item_bytes (number {v = v} {n = n} {m = m} a low) h e = number_bytes a.start n v m e
+    item_bytes (word {n = n} a) h e = least_bytes Other n
+    item_bytes (simple {v = v} a b end low) h e = least_bytes Other v
+    item_bytes (tag {n = n} {m = m} {x = x} {t = t} {l = l} a end i) h e =
+        bytes-append (head TagHead (Given (width m n) n)) (spelled t) (tag_bytes a.start m n (no_left (tag_errors a.start m n) l e)) (item_bytes i (modest_left x (token end ParenClose ∷ []) h.1) (no_right (tag_errors a.start m n) l e))
+    item_bytes (array {m = m} {x = x} {ts = ts} {l = l} a end c) h e = sized_bytes Array a.start m (count ts) (spelled_all ts) (no_right l _ e) (content_bytes c (modest_left x (token end ArrayClose ∷ []) h.1) (no_left l _ e))
+    item_bytes (map {m = m} {x = x} {es = es} {l = l} a end f) h e = sized_bytes MapHead a.start m (count_entries es) (spelled_entries es) (no_right l _ e) (fields_bytes f (modest_left x (token end MapClose ∷ []) h.1) (no_left l _ e))
+    item_bytes (string {s = s} {l = l} ps) h e = let known = known_pieces ps (no_left l _ e) in said_bytes s known (no_right l _ e) (joined_bytes ps h known)
+    item_bytes (chunked {x = x} {k = k} {cs = cs} a end c) h e = chunked_bytes k a.start cs (λ g. chunks_bytes g c (modest_left x (token end ParenClose ∷ []) h.1) e)
 
-mutual
-  pub item_bytes : (i : Item) → AreModest (tokens_of i) → faults i ≡ [] → AreBytes (spelled (node i))
-  item_bytes (tree.number at n v m) h e = number_bytes at.start n v m h.0 e
-  item_bytes (tree.word at n) h e = least_bytes Other n
-  item_bytes (tree.tag at n m i end) h e = bytes-append (head Tag (Given (width m n) n)) (spelled (node i)) (tag_bytes at.start m n (no_left (tag_errors at.start m n) (faults i) e)) (item_bytes i (modest_left (tokens_of i) _ h.1) (no_right (tag_errors at.start m n) (faults i) e))
-  item_bytes (tree.simple at b n v m end) h e = least_bytes Other v
-  item_bytes (tree.string ps) h e =
-      let known = pieces_known ps (no_left (faults_of_pieces ps) _ e) in
-      item_string (str ps) known (no_right (faults_of_pieces ps) _ e) (pieces_bytes ps h known)
-  item_bytes (tree.chunked at ss end) h e = chunked_bytes (kind_in ss) at.start (chunks ss) (λ k. strings_bytes ss k (modest_left (tokens_of_strings ss) _ h.1) e)
-  item_bytes (tree.array at m c end) h e =
-      sized_bytes Array at.start m (count (nodes_in c)) (spelled_all (nodes_in c)) (no_right (faults_in c) _ e) (content_bytes c (modest_left (tokens_of_content c) _ h.1) (no_left (faults_in c) _ e))
-  item_bytes (tree.map at m f end) h e =
-      sized_bytes Map at.start m (count_entries (entries_in f)) (spelled_entries (entries_in f)) (no_right (faults_of_fields f) _ e) (fields_bytes f (modest_left (tokens_of_fields f) _ h.1) (no_left (faults_of_fields f) _ e))
+    piece_bytes : {d : ℕ} {x : List Token} {s : Str} {l : List MeaningError} → IsPiece p d x s l → AreModest x → s.known ≡ true → AreBytes s.bytes
+    piece_bytes (text_piece a) h k = h.0
+    piece_bytes (byte_piece a) h k = h.0
+    piece_bytes (embedded {x = x} {l = l} a end m c) h k = content_bytes c (modest_left x (token end (EmbedClose m) ∷ []) h.1) (nil_is l k)
 
-  piece_bytes : (q : Piece) → AreModest (tokens_of_piece q) → (str_of q).known ≡ true → AreBytes (str_of q).bytes
-  piece_bytes (tree.text at x m) h k = h.0
-  piece_bytes (tree.bytes at q x m) h k = h.0
-  piece_bytes (tree.embedded at c end m) h k = content_bytes c (modest_left (tokens_of_content c) _ h.1) (nil_is (faults_in c) k)
+    joined_bytes : {d : ℕ} {x : List Token} {s : Str} {l : List MeaningError} → ArePieces p d x s l → AreModest x → s.known ≡ true → AreBytes s.bytes
+    joined_bytes (piece q) h k = piece_bytes q h k
+    joined_bytes (also {x = x} {y = y} {s = s} {t = t} ps q) h k =
+        let both = and_parts s.known t.known k in
+        bytes-append s.bytes t.bytes (joined_bytes ps (modest_left x y h) both.0) (piece_bytes q (modest_right x y h) both.1)
 
-  pub pieces_bytes : (ps : Pieces) → AreModest (tokens_of_pieces ps) → (str ps).known ≡ true → AreBytes (str ps).bytes
-  pieces_bytes (piece q) h k = piece_bytes q h k
-  pieces_bytes (also ps q) h k =
-      bytes-append (str ps).bytes (str_of q).bytes (pieces_bytes ps (modest_left (tokens_of_pieces ps) (tokens_of_piece q) h) (left_true (str ps).known (str_of q).known k)) (piece_bytes q (modest_right (tokens_of_pieces ps) (tokens_of_piece q) h) (right_true (str ps).known (str_of q).known k))
+    chunks_bytes : {d : ℕ} {x : List Token} {k : StringKind} {cs : List Chunk} {l : List MeaningError} (g : Major) → AreChunks p d x k cs l → AreModest x → l ≡ [] → AreBytes (flat_map (chunk_bytes g) cs)
+    chunks_bytes g (first {s = s} {l = l} ps) h e =
+        let known = known_pieces ps (no_left l _ e) in
+        bytes-append (chunk_bytes g (chunk s)) [] (marked_bytes g false s known (no_left (mark_errors false s) _ (no_right l _ e)) (joined_bytes ps h known)) tt
+    chunks_bytes g (next {x = x} {y = y} {k = k} {cs = cs} {s = s} {l = l} {r = r} a c ps) h e =
+        let own = no_right l _ e in
+        let known = known_pieces ps (no_left r _ own) in
+        let none = no_right (unless (same_kind k s.kind) s.place MixedChunks) (string_errors false s) (no_right r _ own) in
+        subst AreBytes (sym (flat_map-append (chunk_bytes g) cs (chunk s ∷ [])))
+        (bytes-append (flat_map (chunk_bytes g) cs) (chunk_bytes g (chunk s) ++ []) (chunks_bytes g c (modest_left x (token a Comma ∷ y) h) (no_left l _ e))
+        (bytes-append (chunk_bytes g (chunk s)) [] (marked_bytes g false s known (no_left (mark_errors false s) _ none) (joined_bytes ps (modest_right x (token a Comma ∷ y) h).1 known)) tt))
 
-  strings_bytes : (ss : Strings) (k : Major) → AreModest (tokens_of_strings ss) → faults_of_strings ss ≡ [] → AreBytes (flat_map (chunk_bytes k) (chunks ss))
-  strings_bytes (strings no_string ps) k h e =
-      let known = pieces_known ps (no_left (faults_of_pieces ps) _ e) in
-      bytes-append (chunk_bytes k (chunk (str ps))) [] (chunk_head k (str ps) known (no_right (faults_of_pieces ps) _ e) (pieces_bytes ps h known)) tt
-  strings_bytes (strings (after_strings ss c) ps) k h e =
-      let errors = no_right (faults_of_strings ss) _ e in
-      let known = pieces_known ps (no_left (faults_of_pieces ps) _ errors) in
-      let tail = no_right (unless (says.same_kind (kind_in ss) (str ps).kind) (str ps).place MixedChunks) _ (no_right (faults_of_pieces ps) _ errors) in
-      subst AreBytes (sym (flat_map-append (chunk_bytes k) (chunks ss) (chunk (str ps) ∷ [])))
-      (bytes-append (flat_map (chunk_bytes k) (chunks ss)) (chunk_bytes k (chunk (str ps)) ++ []) (strings_bytes ss k (modest_left (tokens_of_strings ss) _ (modest_left (tokens_of_strings ss ++ token c Comma ∷ []) (tokens_of_pieces ps) h)) (no_left (faults_of_strings ss) _ e))
-      (bytes-append (chunk_bytes k (chunk (str ps))) [] (chunk_head k (str ps) known tail (pieces_bytes ps (modest_right (tokens_of_strings ss ++ token c Comma ∷ []) (tokens_of_pieces ps) h) known)) tt))
+    items_bytes : {d : ℕ} {x : List Token} {ts : Trees} {l : List MeaningError} → AreItems p d x ts l → AreModest x → l ≡ [] → AreBytes (spelled_all ts)
+    items_bytes (last {t = t} i) h e = bytes-append (spelled t) [] (item_bytes i h e) tt
+    items_bytes (before {x = x} {y = y} {t = t} {ts = ts} {l = l} {r = r} a i is) h e =
+        bytes-append (spelled t) (spelled_all ts) (item_bytes i (modest_left x (token a Comma ∷ y) h) (no_left l r e)) (items_bytes is (modest_right x (token a Comma ∷ y) h).1 (no_right l r e))
 
-  row_bytes : (r : Row) → AreModest (tokens_of_row r) → faults_of_row r ≡ [] → AreBytes (spelled_all (nodes r))
-  row_bytes (row b i) h e =
-      subst AreBytes (sym (spelled_snoc (nodes_before b) (node i)))
-      (bytes-append (spelled_all (nodes_before b)) (spelled (node i)) (before_bytes b (modest_left (tokens_of_row_before b) (tokens_of i) h) (no_left (faults_before b) (faults i) e)) (item_bytes i (modest_right (tokens_of_row_before b) (tokens_of i) h) (no_right (faults_before b) (faults i) e)))
+    content_bytes : {d : ℕ} {x : List Token} {ts : Trees} {l : List MeaningError} → IsContent p d x ts l → AreModest x → l ≡ [] → AreBytes (spelled_all ts)
+    content_bytes empty h e = tt
+    content_bytes (tight is) h e = items_bytes is h e
+    content_bytes (loose {x = x} a two is) h e = items_bytes is (modest_left x (token a Comma ∷ []) h) e
 
-  before_bytes : (b : RowBefore) → AreModest (tokens_of_row_before b) → faults_before b ≡ [] → AreBytes (spelled_all (nodes_before b))
-  before_bytes no_item h e = tt
-  before_bytes (after_row r c) h e = row_bytes r (modest_left (tokens_of_row r) _ h) e
+    pairs_bytes : {d : ℕ} {x : List Token} {es : Entries} {l : List MeaningError} → ArePairs p d x es l → AreModest x → l ≡ [] → AreBytes (spelled_entries es)
+    pairs_bytes (last_pair {x = x} {y = y} {k = k} {v = v} {l = l} {r = r} a i j) h e =
+        bytes-append (spelled k ++ spelled v) [] (bytes-append (spelled k) (spelled v) (item_bytes i (modest_left x (token a Colon ∷ y) h) (no_left l r e)) (item_bytes j (modest_right x (token a Colon ∷ y) h).1 (no_right l r e))) tt
+    pairs_bytes (pair_before {x = x} {y = y} {z = z} {k = k} {v = v} {es = es} {l = l} {r = r} {s = others} a c i j is) h e =
+        let rest = token a Colon ∷ (y ++ token c Comma ∷ z) in
+        let after = (modest_right x rest h).1 in
+        let own = no_right l _ e in
+        bytes-append (spelled k ++ spelled v) (spelled_entries es)
+        (bytes-append (spelled k) (spelled v) (item_bytes i (modest_left x rest h) (no_left l _ e)) (item_bytes j (modest_left y (token c Comma ∷ z) after) (no_left r others own)))
+        (pairs_bytes is (modest_right y (token c Comma ∷ z) after).1 (no_right r others own))
 
-  content_bytes : (c : Content) → AreModest (tokens_of_content c) → faults_in c ≡ [] → AreBytes (spelled_all (nodes_in c))
-  content_bytes (loose b) h e = before_bytes b h e
-  content_bytes (tight r) h e = row_bytes r h e
+    fields_bytes : {d : ℕ} {x : List Token} {es : Entries} {l : List MeaningError} → IsFields p d x es l → AreModest x → l ≡ [] → AreBytes (spelled_entries es)
+    fields_bytes no_fields h e = tt
+    fields_bytes (tight_fields is) h e = pairs_bytes is h e
+    fields_bytes (loose_fields {x = x} a two is) h e = pairs_bytes is (modest_left x (token a Comma ∷ []) h) e
 
-  pairs_bytes : (ps : Pairs) → AreModest (tokens_of_pairs ps) → faults_of_pairs ps ≡ [] → AreBytes (spelled_entries (entries ps))
-  pairs_bytes (pairs b k c v) h e =
-      let rest = modest_right (tokens_of_pairs_before b) _ h in
-      let errors = no_right (faults_before_pairs b) _ e in
-      subst AreBytes (sym (spelled_snoc_entry (entries_before b) (node k) (node v)))
-      (bytes-append (spelled_entries (entries_before b)) (spelled (node k) ++ spelled (node v)) (pairs_before_bytes b (modest_left (tokens_of_pairs_before b) _ h) (no_left (faults_before_pairs b) _ e))
-      (bytes-append (spelled (node k)) (spelled (node v)) (item_bytes k (modest_left (tokens_of k) _ rest) (no_left (faults k) (faults v) errors)) (item_bytes v (modest_right (tokens_of k) _ rest).1 (no_right (faults k) (faults v) errors))))
+  -- a whole text
+  pub text_bytes : {d : ℕ} {x : List Token} {ts : Trees} → IsText p d x ts [] → AreModest x → AreBytes (spelled_all ts)
+  text_bytes nothing h = tt
+  text_bytes (items is) h = items_bytes is h refl
 
-  pairs_before_bytes : (b : PairsBefore) → AreModest (tokens_of_pairs_before b) → faults_before_pairs b ≡ [] → AreBytes (spelled_entries (entries_before b))
-  pairs_before_bytes no_pair h e = tt
-  pairs_before_bytes (after_pairs ps c) h e = pairs_bytes ps (modest_left (tokens_of_pairs ps) _ h) e
-
-  fields_bytes : (f : Fields) → AreModest (tokens_of_fields f) → faults_of_fields f ≡ [] → AreBytes (spelled_entries (entries_in f))
-  fields_bytes (loose_fields b) h e = pairs_before_bytes b h e
-  fields_bytes (tight_fields ps) h e = pairs_bytes ps h e
-
--- a whole text
-pub input_bytes : (t : Input) → AreModest (tokens_of_input t) → faults_of_input t ≡ [] → AreBytes (spelled_all (nodes_of_input t))
-input_bytes nothing h e = tt
-input_bytes (items r) h e = row_bytes r h e
+-- the content of a string in pieces
+pub pieces_bytes : (ps : Pieces) → AreModest (tokens_of_pieces ps) → (str ps).known ≡ true → AreBytes (str ps).bytes
+pieces_bytes ps h k = joined_bytes (derived_pieces Two ps (depth_of_pieces ps) (omega arith) tt) h k

@@ -3,6 +3,8 @@ use Rattle.std.proofs.Common.{◌≡◌, refl, sym, ap, ◌∙◌, subst, ℕ, L
 use Rattle.std.proofs.lemmas.Str.{is_utf8-from_IsUtf8}
 use Rattle.std.specs.Str.{IsUtf8}
 use Rattle.cborn_model.specs.Bytes.{AreBytes}
+use Rattle.cborn_model.proofs.Bytes.{bytes-append}
+use Rattle.cborn_model.specs.declared.heads.Major.TheVariants.{TextString}
 use Rattle.cborn_model.specs.Heads.{head_bytes, least}
 use Rattle.cborn_model.specs.Spelled.{spelled}
 use Rattle.cborn_lex.specs.declared.classes.Mark.TheVariants.{Absent}
@@ -30,7 +32,7 @@ use Rattle.cborn_edn.specs.devices.Shows.{Shows}
 use Rattle.cborn_edn.specs.devices.Reading.{Reached}
 use Rattle.cborn_edn.proofs.Reader.Going.{after_token}
 use Rattle.cborn_edn.proofs.Reader.Laying.{laid_bytes}
-use Rattle.cborn_edn.proofs.Reader.Modest.{item_bytes}
+use Rattle.cborn_edn.proofs.Reader.Modest.{least_bytes}
 use Rattle.cborn_edn.proofs.Reader.NextPieces.{is_single, string_ends, next_single}
 use Rattle.cborn_edn.specs.devices.Written.{heads_at, node_as}
 use Rattle.cborn_edn.proofs.Reader.Showing.{with_heads}
@@ -84,7 +86,7 @@ pub text_shown : (here : Here) (w left : Writer) (st : Stack) (a : Span) (x : Li
 text_shown here w left st a x are u same new e =
     let none = text_faults a x u in
     let k = heads_at w.heads st in
-    let bytes : AreBytes (spelled (node_as k (node (text_item a x)))) = subst AreBytes (text_spelled AsWritten a x ∙ sym (text_spelled k a x)) (item_bytes (text_item a x) (are, tt) none) in
+    let bytes : AreBytes (spelled (node_as k (node (text_item a x)))) = subst AreBytes (sym (text_spelled k a x)) (bytes-append (head_bytes 3 (least (length x)) (length x)) x (least_bytes TextString (length x)) are) in
     with_heads (record here { phase = Has }) left w.heads left.out.items (has st (text_item a x)) same.heads (record {
       phase = refl;
       level = e.level;

@@ -72,7 +72,7 @@ module _ (p : Profile) where
     derived_piece (tree.embedded at c end m) zero h a = absurd (omega (arith, h))
     derived_piece (tree.embedded at c end m) (suc d) h a = embedded at end m (derived_content c d (omega (arith, h)) a)
 
-    derived_pieces : (ps : Pieces) (d : ℕ) → depth_of_pieces ps ≤ d → AllowsCount p (commas_of_pieces ps) → ArePieces p d (tokens_of_pieces ps) (str ps) (faults_of_pieces ps)
+    pub derived_pieces : (ps : Pieces) (d : ℕ) → depth_of_pieces ps ≤ d → AllowsCount p (commas_of_pieces ps) → ArePieces p d (tokens_of_pieces ps) (str ps) (faults_of_pieces ps)
     derived_pieces (tree.piece q) d h a = piece (derived_piece q d h a)
     derived_pieces (tree.also ps q) d h a =
         also (derived_pieces ps d (omega (arith, h)) (left_allowed p (commas_of_pieces ps) (commas_of_piece q) a)) (derived_piece q d (omega (arith, h)) (right_allowed p (commas_of_pieces ps) (commas_of_piece q) a))
