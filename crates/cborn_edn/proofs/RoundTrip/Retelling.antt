@@ -56,21 +56,21 @@ parted (s ∷ x) (t ∷ y) z e =
     record { front = s ∷ r.front; back = r.back; is = ap (λ w. s ∷ w) r.is; left = both_ap (λ (a : Token) (w : List Token). a ∷ w) h r.left; right = r.right }
 
 -- a token of this class, and others
-record Begun (x : List Token) (k : Class) (y : List Token) : Type 0 where
+record FirstToken (x : List Token) (k : Class) (y : List Token) : Type 0 where
   at : Span
   rest : List Token
   is : x ≡ token at k ∷ rest
   same : list_map unplaced_token rest ≡ y
 
-begun : (x : List Token) (k : Class) (y : List Token) → list_map unplaced_token x ≡ token nowhere k ∷ y → Begun x k y
-begun [] k y e = absurd (let bad : [] ≡ token nowhere k ∷ y = e in cc)
-begun (t ∷ x) k y e =
+first_token : (x : List Token) (k : Class) (y : List Token) → list_map unplaced_token x ≡ token nowhere k ∷ y → FirstToken x k y
+first_token [] k y e = absurd (let bad : [] ≡ token nowhere k ∷ y = e in cc)
+first_token (t ∷ x) k y e =
     let h : unplaced_token t ≡ token nowhere k = cc in
     record { at = span t; rest = x; is = ap (λ (u : Token). token (span t) u.class ∷ x) h; same = cc }
 
 -- a token of this class alone
 alone : (x : List Token) (k : Class) → list_map unplaced_token x ≡ token nowhere k ∷ [] → (a : Span) × (token a k ∷ [] ≡ x)
-alone x k e = let b = begun x k [] e in (b.at, sym (b.is ∙ ap (λ w. token b.at k ∷ w) (no_tokens b.rest b.same)))
+alone x k e = let b = first_token x k [] e in (b.at, sym (b.is ∙ ap (λ w. token b.at k ∷ w) (no_tokens b.rest b.same)))
 
 -- tokens between two of these classes
 record Enclosed (x : List Token) (k end : Class) (y : List Token) : Type 0 where
@@ -82,7 +82,7 @@ record Enclosed (x : List Token) (k end : Class) (y : List Token) : Type 0 where
 
 enclosed : (x : List Token) (k end : Class) (y : List Token) → list_map unplaced_token x ≡ token nowhere k ∷ y ++ token nowhere end ∷ [] → Enclosed x k end y
 enclosed x k end y e =
-    let b = begun x k (y ++ token nowhere end ∷ []) e in
+    let b = first_token x k (y ++ token nowhere end ∷ []) e in
     let q = parted b.rest y (token nowhere end ∷ []) b.same in
     let c = alone q.back end q.right in
     record { at = b.at; stop = c.0; inner = q.front; is = sym (b.is ∙ ap (λ w. token b.at k ∷ w) (q.is ∙ ap (λ w. q.front ++ w) (sym c.1))); same = q.left }
@@ -101,7 +101,7 @@ record Paired (x y z w : List Token) : Type 0 where
 paired : (x y z w : List Token) → list_map unplaced_token x ≡ y ++ token nowhere Colon ∷ (z ++ w) → Paired x y z w
 paired x y z w e =
     let q = parted x y (token nowhere Colon ∷ (z ++ w)) e in
-    let c = begun q.back Colon (z ++ w) q.right in
+    let c = first_token q.back Colon (z ++ w) q.right in
     let r = parted c.rest z w c.same in
     record { key = q.front; colon = c.at; value = r.front; rest = r.back; is = q.is ∙ ap (λ u. q.front ++ u) (c.is ∙ ap (λ u. token c.at Colon ∷ u) r.is); left = q.left; mid = r.left; right = r.right }
 
@@ -152,15 +152,15 @@ no_size_errors p EndlessMark n h = refl
 no_size_errors p (Fixed w) n h = (marks w n).size_fits p h
 
 -- What tokens say, without a meaning error, is this but for places.
-record Told {S : Type 0} (Is : List Token → S → List MeaningError → Type 0) (aside : S → S) (x : List Token) (s : S) : Type 0 where
+record Said {S : Type 0} (Is : List Token → S → List MeaningError → Type 0) (aside : S → S) (x : List Token) (s : S) : Type 0 where
   says : S
   errors : List MeaningError
-  told : Is x says errors
+  said : Is x says errors
   none : errors ≡ []
   same : aside says ≡ s
 
-retold : {S : Type 0} {Is : List Token → S → List MeaningError → Type 0} {aside : S → S} {x y : List Token} {s : S} → x ≡ y → Told Is aside x s → Told Is aside y s
-retold {S} {Is} {aside} {x} {y} {s} e h = subst (λ z. Told Is aside z s) e h
+said_at : {S : Type 0} {Is : List Token → S → List MeaningError → Type 0} {aside : S → S} {x y : List Token} {s : S} → x ≡ y → Said Is aside x s → Said Is aside y s
+said_at {S} {Is} {aside} {x} {y} {s} e h = subst (λ z. Said Is aside z s) e h
 
 -- Strings of one piece.
 
@@ -202,8 +202,8 @@ unplaced_chunked : (k : StringKind) (p : ℕ) (cs : List Chunk) → unplaced (ch
 unplaced_chunked OfBytes p cs = refl
 unplaced_chunked OfText p cs = refl
 
-said : (k : StringKind) (a : Span) (w : Width) (b : List ℕ) → said_string (str_of k a b (mark_for w (length b))) ≡ string_node k a.start w b
-said k a w b =
+string_is : (k : StringKind) (a : Span) (w : Width) (b : List ℕ) → said_string (str_of k a b (mark_for w (length b))) ≡ string_node k a.start w b
+string_is k a w b =
     let m = mark_for w (length b) in
     ap (λ c. cond c (chunked_node k a.start []) (string_node k a.start (width m (length b)) b)) (ap (λ c. (is_text k && is_nil b) && c) (marks w (length b)).definite ∙ and_false (is_text k && is_nil b))
     ∙ ap (λ v. string_node k a.start v b) (marks w (length b)).wide
@@ -233,205 +233,205 @@ chunks-append (c ∷ cs) ds = ap (λ l. record c { place = 0 } ∷ l) (chunks-ap
 abbrev made_chunk : Width → List ℕ → Chunk
 made_chunk w b = record { place = 0; width = w; bytes = b }
 
-abbrev ToldItem : Profile → ℕ → List Token → Tree → Type 0
-ToldItem p d = Told (IsItem p d) unplaced
+abbrev SaidItem : Profile → ℕ → List Token → Tree → Type 0
+SaidItem p d = Said (IsItem p d) unplaced
 
-abbrev ToldChunks : Profile → ℕ → StringKind → List Token → List Chunk → Type 0
-ToldChunks p d k = Told (λ x cs l. AreChunks p d x k cs l) unplaced_chunks
+abbrev SaidChunks : Profile → ℕ → StringKind → List Token → List Chunk → Type 0
+SaidChunks p d k = Said (λ x cs l. AreChunks p d x k cs l) unplaced_chunks
 
 one_chunk : (k : StringKind) (c : Chunk) (x : List Token) → list_map unplaced_token x ≡ tokens_of_pieces (chunk_pieces k c) → (a : Span) × (token a (class_of k c.bytes (mark_for c.width (length c.bytes))) ∷ [] ≡ x)
 one_chunk k c x e = alone x _ (e ∙ one_token k c.bytes (mark_for c.width (length c.bytes)))
 
 module _ {p : Profile} {d : ℕ} where
   -- the chunks after some
-  more_chunks : (k : StringKind) (cs ds : List Chunk) (x y : List Token) → ToldChunks p d k x ds → list_map unplaced_token y ≡ more_chunk_tokens k cs → ChunksFit cs → AreGood k cs → ToldChunks p d k (x ++ y) (ds ++ unplaced_chunks cs)
+  more_chunks : (k : StringKind) (cs ds : List Chunk) (x y : List Token) → SaidChunks p d k x ds → list_map unplaced_token y ≡ more_chunk_tokens k cs → ChunksFit cs → AreGood k cs → SaidChunks p d k (x ++ y) (ds ++ unplaced_chunks cs)
   more_chunks k [] ds x y h e fits good =
-      retold (sym (ap (λ w. x ++ w) (no_tokens y e) ∙ append-nil x)) (record { says = h.says; errors = h.errors; told = h.told; none = h.none; same = h.same ∙ sym (append-nil ds) })
+      said_at (sym (ap (λ w. x ++ w) (no_tokens y e) ∙ append-nil x)) (record { says = h.says; errors = h.errors; said = h.said; none = h.none; same = h.same ∙ sym (append-nil ds) })
   more_chunks k (c ∷ cs) ds x y h e fits good =
-      let b = begun y Comma (tokens_of_pieces (chunk_pieces k c) ++ more_chunk_tokens k cs) e in
+      let b = first_token y Comma (tokens_of_pieces (chunk_pieces k c) ++ more_chunk_tokens k cs) e in
       let q = parted b.rest (tokens_of_pieces (chunk_pieces k c)) (more_chunk_tokens k cs) b.same in
       let a = one_chunk k c q.front q.left in
       let m = mark_for c.width (length c.bytes) in
       let s = str_of k a.0 c.bytes m in
-      let one : ToldChunks p d k (x ++ token b.at Comma ∷ q.front) (ds ++ made_chunk c.width c.bytes ∷ []) = retold (ap (λ w. x ++ token b.at Comma ∷ w) a.1)
+      let one : SaidChunks p d k (x ++ token b.at Comma ∷ q.front) (ds ++ made_chunk c.width c.bytes ∷ []) = said_at (ap (λ w. x ++ token b.at Comma ∷ w) a.1)
       (record {
         says = h.says ++ chunk s ∷ [];
         errors = h.errors ++ ([] ++ chunk_errors k s);
-        told = next b.at h.told (piece (piece_at k a.0 c.bytes m));
+        said = next b.at h.said (piece (piece_at k a.0 c.bytes m));
         none = then_errors h.none (then_errors (ap (λ t. unless t a.0.start MixedChunks) (same_kind-same k)) (no_string_errors false k a.0 c.width c.bytes fits.0.0 good.0));
         same = chunks-append h.says (chunk s ∷ []) ∙ both_ap (λ (us : List Chunk) (w : Width). us ++ made_chunk w c.bytes ∷ []) h.same (marks c.width (length c.bytes)).wide;
       }) in
       let r = more_chunks k cs (ds ++ made_chunk c.width c.bytes ∷ []) (x ++ token b.at Comma ∷ q.front) q.back one q.right fits.1 good.1 in
-      retold (append_assoc x (token b.at Comma ∷ q.front) q.back ∙ ap (λ w. x ++ w) (sym (b.is ∙ ap (λ w. token b.at Comma ∷ w) q.is))) (subst (λ us. ToldChunks p d k ((x ++ token b.at Comma ∷ q.front) ++ q.back) us) (append_assoc ds (made_chunk c.width c.bytes ∷ []) (unplaced_chunks cs)) r)
+      said_at (append_assoc x (token b.at Comma ∷ q.front) q.back ∙ ap (λ w. x ++ w) (sym (b.is ∙ ap (λ w. token b.at Comma ∷ w) q.is))) (subst (λ us. SaidChunks p d k ((x ++ token b.at Comma ∷ q.front) ++ q.back) us) (append_assoc ds (made_chunk c.width c.bytes ∷ []) (unplaced_chunks cs)) r)
 
-  chunks_told : (k : StringKind) (c : Chunk) (cs : List Chunk) (x : List Token) → list_map unplaced_token x ≡ tokens_of_pieces (chunk_pieces k c) ++ more_chunk_tokens k cs → ChunksFit (c ∷ cs) → AreGood k (c ∷ cs) → ToldChunks p d k x (unplaced_chunks (c ∷ cs))
-  chunks_told k c cs x e fits good =
+  chunks_said : (k : StringKind) (c : Chunk) (cs : List Chunk) (x : List Token) → list_map unplaced_token x ≡ tokens_of_pieces (chunk_pieces k c) ++ more_chunk_tokens k cs → ChunksFit (c ∷ cs) → AreGood k (c ∷ cs) → SaidChunks p d k x (unplaced_chunks (c ∷ cs))
+  chunks_said k c cs x e fits good =
       let q = parted x (tokens_of_pieces (chunk_pieces k c)) (more_chunk_tokens k cs) e in
       let a = one_chunk k c q.front q.left in
       let m = mark_for c.width (length c.bytes) in
       let s = str_of k a.0 c.bytes m in
-      let one : ToldChunks p d k q.front (made_chunk c.width c.bytes ∷ []) = retold a.1
+      let one : SaidChunks p d k q.front (made_chunk c.width c.bytes ∷ []) = said_at a.1
       (record {
         says = chunk s ∷ [];
         errors = [] ++ string_errors false s;
-        told = first (piece (piece_at k a.0 c.bytes m));
+        said = first (piece (piece_at k a.0 c.bytes m));
         none = no_string_errors false k a.0 c.width c.bytes fits.0.0 good.0;
         same = ap (λ w. made_chunk w c.bytes ∷ []) (marks c.width (length c.bytes)).wide;
       }) in
-      retold (sym q.is) (more_chunks k cs (made_chunk c.width c.bytes ∷ []) q.front q.back one q.right fits.1 good.1)
+      said_at (sym q.is) (more_chunks k cs (made_chunk c.width c.bytes ∷ []) q.front q.back one q.right fits.1 good.1)
 
-  empty_told : (k : StringKind) (x : List Token) → list_map unplaced_token x ≡ tokens_of (chunk_item k []) → ToldItem p d x (chunked_node k 0 [])
-  empty_told OfBytes x e = let a = alone x (Bytes true [] Endless) e in retold a.1 (record { says = ByteChunks a.0.start []; errors = []; told = string (piece (byte_piece a.0)); none = refl; same = refl })
-  empty_told OfText x e =
+  empty_said : (k : StringKind) (x : List Token) → list_map unplaced_token x ≡ tokens_of (chunk_item k []) → SaidItem p d x (chunked_node k 0 [])
+  empty_said OfBytes x e = let a = alone x (Bytes true [] Endless) e in said_at a.1 (record { says = ByteChunks a.0.start []; errors = []; said = string (piece (byte_piece a.0)); none = refl; same = refl })
+  empty_said OfText x e =
       let a = alone x (Text [] Endless) e in
-      retold a.1 (record { says = TextChunks a.0.start []; errors = _; told = string (piece (text_piece a.0)); none = ap (λ b. unless b a.0.start TextNotUtf8) (is_utf8-from_IsUtf8 [] ([], (refl, refl))); same = refl })
+      said_at a.1 (record { says = TextChunks a.0.start []; errors = _; said = string (piece (text_piece a.0)); none = ap (λ b. unless b a.0.start TextNotUtf8) (is_utf8-from_IsUtf8 [] ([], (refl, refl))); same = refl })
 
-  chunked_told : (k : StringKind) (cs : List Chunk) (x : List Token) → list_map unplaced_token x ≡ tokens_of (chunk_item k cs) → ChunksFit cs → AreGood k cs → ToldItem p d x (chunked_node k 0 (unplaced_chunks cs))
-  chunked_told k [] x e fits good = empty_told k x e
-  chunked_told k (c ∷ cs) x e fits good =
+  chunked_said : (k : StringKind) (cs : List Chunk) (x : List Token) → list_map unplaced_token x ≡ tokens_of (chunk_item k cs) → ChunksFit cs → AreGood k cs → SaidItem p d x (chunked_node k 0 (unplaced_chunks cs))
+  chunked_said k [] x e fits good = empty_said k x e
+  chunked_said k (c ∷ cs) x e fits good =
       let o = enclosed x ChunkOpen ParenClose (tokens_of_strings (chunk_row k cs tree.no_string c)) e in
-      let r = chunks_told k c cs o.inner (o.same ∙ chunk_tokens k cs tree.no_string c) fits good in
-      retold o.is (record { says = chunked_node k o.at.start r.says; errors = r.errors; told = chunked o.at o.stop r.told; none = r.none; same = unplaced_chunked k o.at.start r.says ∙ ap (chunked_node k 0) r.same })
+      let r = chunks_said k c cs o.inner (o.same ∙ chunk_tokens k cs tree.no_string c) fits good in
+      said_at o.is (record { says = chunked_node k o.at.start r.says; errors = r.errors; said = chunked o.at o.stop r.said; none = r.none; same = unplaced_chunked k o.at.start r.says ∙ ap (chunked_node k 0) r.same })
 
-  string_told : (k : StringKind) (w : Width) (b : List ℕ) (x : List Token) → list_map unplaced_token x ≡ token nowhere (class_of k b (mark_for w (length b))) ∷ [] → WidthFits w (length b) → is_good k b ≡ true → ToldItem p d x (string_node k 0 w b)
-  string_told k w b x e h good =
+  string_said : (k : StringKind) (w : Width) (b : List ℕ) (x : List Token) → list_map unplaced_token x ≡ token nowhere (class_of k b (mark_for w (length b))) ∷ [] → WidthFits w (length b) → is_good k b ≡ true → SaidItem p d x (string_node k 0 w b)
+  string_said k w b x e h good =
       let m = mark_for w (length b) in
       let a = alone x (class_of k b m) e in
       let s = str_of k a.0 b m in
-      retold a.1 (record { says = said_string s; errors = [] ++ string_errors s.lone s; told = string (piece (piece_at k a.0 b m)); none = no_string_errors s.lone k a.0 w b h good; same = ap unplaced (said k a.0 w b) ∙ unplaced_string k a.0.start w b })
+      said_at a.1 (record { says = said_string s; errors = [] ++ string_errors s.lone s; said = string (piece (piece_at k a.0 b m)); none = no_string_errors s.lone k a.0 w b h good; same = ap unplaced (string_is k a.0 w b) ∙ unplaced_string k a.0.start w b })
 
   -- an integer of major type 0 or 1
-  number_told : (n : Bool) (v : ℕ) (w : Width) (t : Tree) (x : List Token) → list_map unplaced_token x ≡ token nowhere (Number n v (mark_for w (argument_of n v))) ∷ [] → WidthFits w (argument_of n v) → ((q : ℕ) → unplaced (integer q n v w) ≡ t) → ToldItem p d x t
-  number_told n v w t x e h f =
+  number_said : (n : Bool) (v : ℕ) (w : Width) (t : Tree) (x : List Token) → list_map unplaced_token x ≡ token nowhere (Number n v (mark_for w (argument_of n v))) ∷ [] → WidthFits w (argument_of n v) → ((q : ℕ) → unplaced (integer q n v w) ≡ t) → SaidItem p d x t
+  number_said n v w t x e h f =
       let m = mark_for w (argument_of n v) in
       let a = alone x (Number n v m) e in
       let q = a.0.start in
       let small : is_small n v ≡ true = lt-ltb (argument_of n v) (2 ^ 64) (below w (argument_of n v) h) in
-      retold a.1 (record {
+      said_at a.1 (record {
         says = number_node q n v m;
         errors = number_errors q n v m;
-        told = number a.0 (subst (λ b. cond b 0 1 ≤ d) (sym small) (omega arith));
+        said = number a.0 (subst (λ b. cond b 0 1 ≤ d) (sym small) (omega arith));
         none = ap (λ b. cond b (width_errors q m (argument_of n v)) (unless (is_absent m) q IndicatorNotAllowed)) small ∙ (marks w (argument_of n v)).fits q h;
         same = ap (λ b. unplaced (cond b (integer q n v (width m (argument_of n v))) (bignum q n v))) small ∙ ap (λ u. unplaced (integer q n v u)) (marks w (argument_of n v)).wide ∙ f q;
       })
 
-  simple_told : (n : ℕ) (x : List Token) → IsTrue (is_simple_value n) → list_map unplaced_token x ≡ tokens_of (simple_item n) → ToldItem p d x (Simple 0 n)
-  simple_told n x h e = go (ltb n 20) (ltb n 24) e
+  simple_said : (n : ℕ) (x : List Token) → IsTrue (is_simple_value n) → list_map unplaced_token x ≡ tokens_of (simple_item n) → SaidItem p d x (Simple 0 n)
+  simple_said n x h e = go (ltb n 20) (ltb n 24) e
     where
-      bracketed : list_map unplaced_token x ≡ tokens_of (tree.simple nowhere nowhere false n Absent nowhere) → ToldItem p d x (Simple 0 n)
+      bracketed : list_map unplaced_token x ≡ tokens_of (tree.simple nowhere nowhere false n Absent nowhere) → SaidItem p d x (Simple 0 n)
       bracketed e =
           let o = enclosed x SimpleOpen ParenClose (token nowhere (Number false n Absent) ∷ []) e in
           let a = alone o.inner (Number false n Absent) o.same in
           let few = simple_below n h in
           let small : is_small false n ≡ true = lt-ltb n (2 ^ 64) (omega arith) in
-          retold (ap (λ w. token o.at SimpleOpen ∷ w ++ token o.stop ParenClose ∷ []) a.1 ∙ o.is) (record {
+          said_at (ap (λ w. token o.at SimpleOpen ∷ w ++ token o.stop ParenClose ∷ []) a.1 ∙ o.is) (record {
             says = Simple o.at.start n;
             errors = simple_errors o.at.start a.0.start false n Absent;
-            told = simple o.at a.0 o.stop (subst (λ b. cond b 0 1 ≤ d) (sym small) (omega arith));
+            said = simple o.at a.0 o.stop (subst (λ b. cond b 0 1 ≤ d) (sym small) (omega arith));
             none = ap (λ b. unless b o.at.start BadSimple ++ []) h;
             same = refl;
           })
 
-      go : (b c : Bool) → list_map unplaced_token x ≡ tokens_of (cond b (tree.simple nowhere nowhere false n Absent nowhere) (cond c (tree.word nowhere n) (tree.simple nowhere nowhere false n Absent nowhere))) → ToldItem p d x (Simple 0 n)
+      go : (b c : Bool) → list_map unplaced_token x ≡ tokens_of (cond b (tree.simple nowhere nowhere false n Absent nowhere) (cond c (tree.word nowhere n) (tree.simple nowhere nowhere false n Absent nowhere))) → SaidItem p d x (Simple 0 n)
       go true c e = bracketed e
-      go false true e = let a = alone x (Word n) e in retold a.1 (record { says = Simple a.0.start n; errors = []; told = word a.0; none = refl; same = refl })
+      go false true e = let a = alone x (Word n) e in said_at a.1 (record { says = Simple a.0.start n; errors = []; said = word a.0; none = refl; same = refl })
       go false false e = bracketed e
 
 module _ {p : Profile} where
   mutual
-    told : (t : Tree) (d : ℕ) (x : List Token) → Fits t → IsShowable t → depth t ≤ d → list_map unplaced_token x ≡ tokens_of (notated t) → ToldItem p d x (unplaced t)
-    told (Uint q w n) d x h s low e = number_told false n w (Uint 0 w n) x e h (λ r. refl)
-    told (Nint q w n) d x h s low e = number_told true (suc n) w (Nint 0 w n) x e h (λ r. refl)
-    told (ByteNode q w b) d x h s low e = string_told OfBytes w b x e h.0 refl
-    told (TextNode q w b) d x h s low e = string_told OfText w b x e h.0 s
-    told (ByteChunks q cs) d x h s low e = chunked_told OfBytes cs x e h (bytes_good cs)
-    told (TextChunks q cs) d x h s low e = chunked_told OfText cs x e h (texts_good cs s)
-    told (Items q s ts) zero x h show low e = absurd (omega (arith, low))
-    told (Items q s ts) (suc d) x h show low e =
+    item_said : (t : Tree) (d : ℕ) (x : List Token) → Fits t → IsShowable t → depth t ≤ d → list_map unplaced_token x ≡ tokens_of (notated t) → SaidItem p d x (unplaced t)
+    item_said (Uint q w n) d x h s low e = number_said false n w (Uint 0 w n) x e h (λ r. refl)
+    item_said (Nint q w n) d x h s low e = number_said true (suc n) w (Nint 0 w n) x e h (λ r. refl)
+    item_said (ByteNode q w b) d x h s low e = string_said OfBytes w b x e h.0 refl
+    item_said (TextNode q w b) d x h s low e = string_said OfText w b x e h.0 s
+    item_said (ByteChunks q cs) d x h s low e = chunked_said OfBytes cs x e h (bytes_good cs)
+    item_said (TextChunks q cs) d x h s low e = chunked_said OfText cs x e h (texts_good cs s)
+    item_said (Items q s ts) zero x h show low e = absurd (omega (arith, low))
+    item_said (Items q s ts) (suc d) x h show low e =
         let m = mark_for_size s (count ts) in
         let o = enclosed x (ArrayOpen m) ArrayClose (tokens_of_content (notated_content ts)) e in
-        let r = content_told ts d o.inner h.1 show (omega (arith, low)) o.same in
+        let r = content_said ts d o.inner h.1 show (omega (arith, low)) o.same in
         let n : count r.says ≡ count ts = sym (count-unplaced r.says) ∙ ap count r.same ∙ count-unplaced ts in
-        retold o.is (record {
+        said_at o.is (record {
           says = Items o.at.start (size m (count r.says)) r.says;
           errors = r.errors ++ size_errors o.at.start m (count r.says);
-          told = array o.at o.stop r.told;
+          said = array o.at o.stop r.said;
           none = then_errors r.none (ap (size_errors o.at.start m) n ∙ no_size_errors o.at.start s (count ts) h.0);
           same = both_ap (Items 0) (ap (size m) n ∙ size_back s (count ts)) r.same;
         })
-    told (PairNode q s es) zero x h show low e = absurd (omega (arith, low))
-    told (PairNode q s es) (suc d) x h show low e =
+    item_said (PairNode q s es) zero x h show low e = absurd (omega (arith, low))
+    item_said (PairNode q s es) (suc d) x h show low e =
         let m = mark_for_size s (count_entries es) in
         let o = enclosed x (MapOpen m) MapClose (tokens_of_fields (notated_fields es)) e in
-        let r = fields_told es d o.inner h.1 show (omega (arith, low)) o.same in
+        let r = fields_said es d o.inner h.1 show (omega (arith, low)) o.same in
         let n : count_entries r.says ≡ count_entries es = sym (count-unplaced_entries r.says) ∙ ap count_entries r.same ∙ count-unplaced_entries es in
-        retold o.is (record {
+        said_at o.is (record {
           says = PairNode o.at.start (size m (count_entries r.says)) r.says;
           errors = r.errors ++ size_errors o.at.start m (count_entries r.says);
-          told = map o.at o.stop r.told;
+          said = map o.at o.stop r.said;
           none = then_errors r.none (ap (size_errors o.at.start m) n ∙ no_size_errors o.at.start s (count_entries es) h.0);
           same = both_ap (PairNode 0) (ap (size m) n ∙ size_back s (count_entries es)) r.same;
         })
-    told (Tagged q w n t) zero x h show low e = absurd (omega (arith, low))
-    told (Tagged q w n t) (suc d) x h show low e =
+    item_said (Tagged q w n t) zero x h show low e = absurd (omega (arith, low))
+    item_said (Tagged q w n t) (suc d) x h show low e =
         let m = mark_for w n in
         let o = enclosed x (TagOpen n m) ParenClose (tokens_of (notated t)) e in
-        let r = told t d o.inner h.1 show (omega (arith, low)) o.same in
-        retold o.is (record {
+        let r = item_said t d o.inner h.1 show (omega (arith, low)) o.same in
+        said_at o.is (record {
           says = Tagged o.at.start (width m n) n r.says;
           errors = tag_errors o.at.start m n ++ r.errors;
-          told = tag o.at o.stop r.told;
+          said = tag o.at o.stop r.said;
           none = then_errors (ap (λ b. cond b (width_errors o.at.start m n) (unless false o.at.start TagTooLarge)) (lt-ltb n (2 ^ 64) (below w n h.0)) ∙ (marks w n).fits o.at.start h.0) r.none;
           same = both_ap (λ (v : Width) (u : Tree). Tagged 0 v n u) (marks w n).wide r.same;
         })
-    told (Simple q n) d x h s low e = simple_told n x h e
+    item_said (Simple q n) d x h s low e = simple_said n x h e
 
-    content_told : (ts : Trees) (d : ℕ) (x : List Token) → FitsAll ts → EachShowable ts → depth_all ts ≤ d → list_map unplaced_token x ≡ tokens_of_content (notated_content ts) → Told (IsContent p d) unplaced_all x (unplaced_all ts)
-    content_told no_node d x h s low e = retold (sym (no_tokens x e)) (record { says = no_node; errors = []; told = empty; none = refl; same = refl })
-    content_told (more t ts) d x h s low e =
+    content_said : (ts : Trees) (d : ℕ) (x : List Token) → FitsAll ts → EachShowable ts → depth_all ts ≤ d → list_map unplaced_token x ≡ tokens_of_content (notated_content ts) → Said (IsContent p d) unplaced_all x (unplaced_all ts)
+    content_said no_node d x h s low e = said_at (sym (no_tokens x e)) (record { says = no_node; errors = []; said = empty; none = refl; same = refl })
+    content_said (more t ts) d x h s low e =
         let q = parted x (tokens_of (notated t)) (more_tokens ts) (e ∙ row_tokens ts tree.no_item (notated t)) in
-        let r = items_told ts d q.front q.back (unplaced t) (told t d q.front h.0 s.0 (omega (arith, low)) q.left) h.1 s.1 (omega (arith, low)) q.right in
-        retold (sym q.is) (record { says = r.says; errors = r.errors; told = tight r.told; none = r.none; same = r.same })
+        let r = items_said ts d q.front q.back (unplaced t) (item_said t d q.front h.0 s.0 (omega (arith, low)) q.left) h.1 s.1 (omega (arith, low)) q.right in
+        said_at (sym q.is) (record { says = r.says; errors = r.errors; said = tight r.said; none = r.none; same = r.same })
 
     -- an item, and those after it
-    items_told : (ts : Trees) (d : ℕ) (x y : List Token) (u : Tree) → ToldItem p d x u → FitsAll ts → EachShowable ts → depth_all ts ≤ d → list_map unplaced_token y ≡ more_tokens ts → Told (AreItems p d) unplaced_all (x ++ y) (more u (unplaced_all ts))
-    items_told no_node d x y u f h s low e =
-        retold (sym (ap (λ w. x ++ w) (no_tokens y e) ∙ append-nil x)) (record { says = more f.says no_node; errors = f.errors; told = last f.told; none = f.none; same = ap (λ v. more v no_node) f.same })
-    items_told (more t ts) d x y u f h s low e =
-        let b = begun y Comma (tokens_of (notated t) ++ more_tokens ts) e in
+    items_said : (ts : Trees) (d : ℕ) (x y : List Token) (u : Tree) → SaidItem p d x u → FitsAll ts → EachShowable ts → depth_all ts ≤ d → list_map unplaced_token y ≡ more_tokens ts → Said (AreItems p d) unplaced_all (x ++ y) (more u (unplaced_all ts))
+    items_said no_node d x y u f h s low e =
+        said_at (sym (ap (λ w. x ++ w) (no_tokens y e) ∙ append-nil x)) (record { says = more f.says no_node; errors = f.errors; said = last f.said; none = f.none; same = ap (λ v. more v no_node) f.same })
+    items_said (more t ts) d x y u f h s low e =
+        let b = first_token y Comma (tokens_of (notated t) ++ more_tokens ts) e in
         let q = parted b.rest (tokens_of (notated t)) (more_tokens ts) b.same in
-        let r = items_told ts d q.front q.back (unplaced t) (told t d q.front h.0 s.0 (omega (arith, low)) q.left) h.1 s.1 (omega (arith, low)) q.right in
-        retold (ap (λ w. x ++ w) (sym (b.is ∙ ap (λ w. token b.at Comma ∷ w) q.is)))
-        (record { says = more f.says r.says; errors = f.errors ++ r.errors; told = before b.at f.told r.told; none = then_errors f.none r.none; same = both_ap more f.same r.same })
+        let r = items_said ts d q.front q.back (unplaced t) (item_said t d q.front h.0 s.0 (omega (arith, low)) q.left) h.1 s.1 (omega (arith, low)) q.right in
+        said_at (ap (λ w. x ++ w) (sym (b.is ∙ ap (λ w. token b.at Comma ∷ w) q.is)))
+        (record { says = more f.says r.says; errors = f.errors ++ r.errors; said = before b.at f.said r.said; none = then_errors f.none r.none; same = both_ap more f.same r.same })
 
-    fields_told : (es : Entries) (d : ℕ) (x : List Token) → FitsEntries es → ArePairsShowable es → depth_entries es ≤ d → list_map unplaced_token x ≡ tokens_of_fields (notated_fields es) → Told (IsFields p d) unplaced_entries x (unplaced_entries es)
-    fields_told no_entry d x h s low e = retold (sym (no_tokens x e)) (record { says = no_entry; errors = []; told = no_fields; none = refl; same = refl })
-    fields_told (entry k v es) d x h s low e =
+    fields_said : (es : Entries) (d : ℕ) (x : List Token) → FitsEntries es → ArePairsShowable es → depth_entries es ≤ d → list_map unplaced_token x ≡ tokens_of_fields (notated_fields es) → Said (IsFields p d) unplaced_entries x (unplaced_entries es)
+    fields_said no_entry d x h s low e = said_at (sym (no_tokens x e)) (record { says = no_entry; errors = []; said = no_fields; none = refl; same = refl })
+    fields_said (entry k v es) d x h s low e =
         let q = paired x (tokens_of (notated k)) (tokens_of (notated v)) (more_pair_tokens es) (e ∙ pair_tokens es tree.no_pair (notated k) (notated v)) in
-        let f = told k d q.key h.0 s.0 (omega (arith, low)) q.left in
-        let g = told v d q.value h.1 s.1 (omega (arith, low)) q.mid in
-        let r = pairs_told es d q.key q.value q.rest q.colon (unplaced k) (unplaced v) f g h.2 s.2 (omega (arith, low)) q.right in
-        retold (sym q.is) (record { says = r.says; errors = r.errors; told = tight_fields r.told; none = r.none; same = r.same })
+        let f = item_said k d q.key h.0 s.0 (omega (arith, low)) q.left in
+        let g = item_said v d q.value h.1 s.1 (omega (arith, low)) q.mid in
+        let r = pairs_said es d q.key q.value q.rest q.colon (unplaced k) (unplaced v) f g h.2 s.2 (omega (arith, low)) q.right in
+        said_at (sym q.is) (record { says = r.says; errors = r.errors; said = tight_fields r.said; none = r.none; same = r.same })
 
     -- a pair, and those after it
-    pairs_told : (es : Entries) (d : ℕ) (x y z : List Token) (a : Span) (t u : Tree) → ToldItem p d x t → ToldItem p d y u → FitsEntries es → ArePairsShowable es → depth_entries es ≤ d → list_map unplaced_token z ≡ more_pair_tokens es
-        → Told (ArePairs p d) unplaced_entries (x ++ token a Colon ∷ (y ++ z)) (entry t u (unplaced_entries es))
-    pairs_told no_entry d x y z a t u f g h s low e =
-        retold (ap (λ w. x ++ token a Colon ∷ w) (sym (ap (λ w. y ++ w) (no_tokens z e) ∙ append-nil y)))
-        (record { says = entry f.says g.says no_entry; errors = f.errors ++ g.errors; told = last_pair a f.told g.told; none = then_errors f.none g.none; same = both_ap (λ (i j : Tree). entry i j no_entry) f.same g.same })
-    pairs_told (entry k v es) d x y z a t u f g h s low e =
-        let b = begun z Comma (tokens_of (notated k) ++ (token nowhere Colon ∷ (tokens_of (notated v) ++ more_pair_tokens es))) e in
+    pairs_said : (es : Entries) (d : ℕ) (x y z : List Token) (a : Span) (t u : Tree) → SaidItem p d x t → SaidItem p d y u → FitsEntries es → ArePairsShowable es → depth_entries es ≤ d → list_map unplaced_token z ≡ more_pair_tokens es
+        → Said (ArePairs p d) unplaced_entries (x ++ token a Colon ∷ (y ++ z)) (entry t u (unplaced_entries es))
+    pairs_said no_entry d x y z a t u f g h s low e =
+        said_at (ap (λ w. x ++ token a Colon ∷ w) (sym (ap (λ w. y ++ w) (no_tokens z e) ∙ append-nil y)))
+        (record { says = entry f.says g.says no_entry; errors = f.errors ++ g.errors; said = last_pair a f.said g.said; none = then_errors f.none g.none; same = both_ap (λ (i j : Tree). entry i j no_entry) f.same g.same })
+    pairs_said (entry k v es) d x y z a t u f g h s low e =
+        let b = first_token z Comma (tokens_of (notated k) ++ (token nowhere Colon ∷ (tokens_of (notated v) ++ more_pair_tokens es))) e in
         let q = paired b.rest (tokens_of (notated k)) (tokens_of (notated v)) (more_pair_tokens es) b.same in
-        let i = told k d q.key h.0 s.0 (omega (arith, low)) q.left in
-        let j = told v d q.value h.1 s.1 (omega (arith, low)) q.mid in
-        let r = pairs_told es d q.key q.value q.rest q.colon (unplaced k) (unplaced v) i j h.2 s.2 (omega (arith, low)) q.right in
-        retold (ap (λ w. x ++ token a Colon ∷ (y ++ w)) (sym (b.is ∙ ap (λ w. token b.at Comma ∷ w) q.is)))
-        (record { says = entry f.says g.says r.says; errors = f.errors ++ (g.errors ++ r.errors); told = pair_before a b.at f.told g.told r.told; none = then_errors f.none (then_errors g.none r.none); same = both_ap (λ (l : Tree × Tree) (es : Entries). entry l.0 l.1 es) (both_ap (λ (l m : Tree). (l, m)) f.same g.same) r.same })
+        let i = item_said k d q.key h.0 s.0 (omega (arith, low)) q.left in
+        let j = item_said v d q.value h.1 s.1 (omega (arith, low)) q.mid in
+        let r = pairs_said es d q.key q.value q.rest q.colon (unplaced k) (unplaced v) i j h.2 s.2 (omega (arith, low)) q.right in
+        said_at (ap (λ w. x ++ token a Colon ∷ (y ++ w)) (sym (b.is ∙ ap (λ w. token b.at Comma ∷ w) q.is)))
+        (record { says = entry f.says g.says r.says; errors = f.errors ++ (g.errors ++ r.errors); said = pair_before a b.at f.said g.said r.said; none = then_errors f.none (then_errors g.none r.none); same = both_ap (λ (l : Tree × Tree) (es : Entries). entry l.0 l.1 es) (both_ap (λ (l m : Tree). (l, m)) f.same g.same) r.same })
 
 -- LAW: tokens of the fixed notation say the nodes, places aside
 pub reads_same : (p : Profile) (limit : ℕ) (nodes : Trees) (x : List Token) → FitsAll nodes → EachShowable nodes → depth_all nodes ≤ limit → list_map unplaced_token x ≡ tokens_of_input (notated_input nodes) → (says : Trees) × IsText p limit x says [] × (unplaced_all says ≡ unplaced_all nodes)
 reads_same p limit no_node x h s low e = (no_node, subst (λ y. IsText p limit y no_node []) (sym (no_tokens x e)) nothing, refl)
 reads_same p limit (more t ts) x h s low e =
     let q = parted x (tokens_of (notated t)) (more_tokens ts) (e ∙ row_tokens ts tree.no_item (notated t)) in
-    let r = items_told ts limit q.front q.back (unplaced t) (told t limit q.front h.0 s.0 (omega (arith, low)) q.left) h.1 s.1 (omega (arith, low)) q.right in
-    (r.says, subst (λ y. IsText p limit y r.says []) (sym q.is) (subst (IsText p limit (q.front ++ q.back) r.says) r.none (items r.told)), r.same)
+    let r = items_said ts limit q.front q.back (unplaced t) (item_said t limit q.front h.0 s.0 (omega (arith, low)) q.left) h.1 s.1 (omega (arith, low)) q.right in
+    (r.says, subst (λ y. IsText p limit y r.says []) (sym q.is) (subst (IsText p limit (q.front ++ q.back) r.says) r.none (items r.said)), r.same)
