@@ -10,6 +10,7 @@ use Rattle.cborn_lex.specs.declared.classes.Profile.{Profile}
 use Rattle.cborn_lex.specs.declared.classes.Profile.TheVariants.{One as ProfileOne, Two as ProfileTwo}
 use Rattle.cborn_lex.specs.declared.faults.LexReason.{LexReason}
 use Rattle.cborn_lex.specs.Good.{HasTokens}
+use Rattle.cborn_lex.specs.Lex.{Lex, Stop}
 use Rattle.cborn_lex.proofs.WholeTexts.Chains.{one_list, both_profiles as both_lexed, not_both as not_stopped, some_answer}
 use Rattle.cborn_lex.proofs.WholeTexts.Weights.{as_test, text_light}
 use Rattle.cborn_lex.proofs.GoodTexts.{has_tokens, lexed as lex_of, failed, stopped}
@@ -105,13 +106,22 @@ no_error p limit most text nodes (x, lex, h) q r (y, ts, l, lexed, k, f) =
 abbrev pub Answered : Profile → ℕ → List ℕ → Type 0
 Answered p limit text = ((nodes : Trees) × Notates p limit text nodes) ⊎ (((q : ℕ) × (r : LexReason) × FailsAt p text q r) ⊎ ((q : ℕ) × (r : EdnReason) × (HasSyntaxError p limit text q r ⊎ HasMeaningError p limit text q r)))
 
--- LAW: a text has an answer
-pub some_text : (p : Profile) (limit : ℕ) (text : List ℕ) → AreBytes text → Answered p limit text
-some_text p limit text are = elim (some_answer p text (as_test text are)) [ inl (x, lex) ↦ elim (answered p limit (length text) x) [ inl (t, h, low) ↦ judged x (has_tokens p text x lex) (nodes_of_input t) (faults_of_input t) (text_of p limit x t h low) | inr (q, r, e) ↦ inr (inr (q, r, inl (x, has_tokens p text x lex, syntax_error p limit (length text) x q r e))) ] | inr (q, r, stop) ↦ inr (inl (q, r, failed p text q r stop)) ]
-  where
-    judged : (x : List Token) → HasTokens p text x → (ts : Trees) (l : List MeaningError) → IsText p limit x ts l → Answered p limit text
-    judged x taken ts l h = go (first_error l) (tells l)
-      where
-        go : (o : Option MeaningError) → Tells l o → Answered p limit text
-        go None e = inl (ts, (x, taken, subst (IsText p limit x ts) e h))
-        go (Some s) f = inr (inr (s.place, s.reason, inr (x, ts, l, taken, h, f)))
+module _ (p : Profile) (limit : ℕ) (text : List ℕ) where
+  judged : (x : List Token) → HasTokens p text x → (ts : Trees) (l : List MeaningError) → IsText p limit x ts l → Answered p limit text
+  judged x taken ts l h = go (first_error l) (tells l)
+    where
+      go : (o : Option MeaningError) → Tells l o → Answered p limit text
+      go None e = inl (ts, (x, taken, subst (IsText p limit x ts) e h))
+      go (Some s) f = inr (inr (s.place, s.reason, inr (x, ts, l, taken, h, f)))
+
+  of_tokens : (x : List Token) → HasTokens p text x → tree.HasTree p limit x ⊎ ((q : ℕ) × (r : EdnReason) × tree.IsSyntaxError p limit (length text) x q r) → Answered p limit text
+  of_tokens x taken (inl (t, h, low)) = judged x taken (nodes_of_input t) (faults_of_input t) (text_of p limit x t h low)
+  of_tokens x taken (inr (q, r, e)) = inr (inr (q, r, inl (x, taken, syntax_error p limit (length text) x q r e)))
+
+  of_text : ((x : List Token) × Lex p text x) ⊎ ((q : ℕ) × (r : LexReason) × Stop p text q r) → Answered p limit text
+  of_text (inl (x, lex)) = of_tokens x (has_tokens p text x lex) (answered p limit (length text) x)
+  of_text (inr (q, r, stop)) = inr (inl (q, r, failed p text q r stop))
+
+  -- LAW: a text has an answer
+  pub some_text : AreBytes text → Answered p limit text
+  some_text are = of_text (some_answer p text (as_test text are))
