@@ -2,4 +2,4 @@
 pub mod Earliest
 pub mod NoError
 pub mod Fit
-pub mod Counting
+pub mod Sound

@@ -50,11 +50,12 @@ size_fits p Absent n h e = least_holds n h
 size_fits p Endless n h e = tt
 size_fits p (Wide w) n h e = width_fits p (Wide w) n h e
 
-pub tag_fits : (p : ℕ) (m : Mark) (n : ℕ) → tag_errors p m n ≡ [] → WidthFits (width m n) n
-tag_fits p m n e = go (ltb n (2 ^ 64)) refl e
+-- a tag number is below 2^64
+pub tag_small : (p : ℕ) (m : Mark) (n : ℕ) → tag_errors p m n ≡ [] → (n < 2 ^ 64) × (width_errors p m n ≡ [])
+tag_small p m n e = go (ltb n (2 ^ 64)) refl e
   where
-    go : (b : Bool) → ltb n (2 ^ 64) ≡ b → cond b (width_errors p m n) (unless false p TagTooLarge) ≡ [] → WidthFits (width m n) n
-    go true f e = width_fits p m n (ltb-true _ _ f) e
+    go : (b : Bool) → ltb n (2 ^ 64) ≡ b → cond b (width_errors p m n) (unless false p TagTooLarge) ≡ [] → (n < 2 ^ 64) × (width_errors p m n ≡ [])
+    go true f e = (ltb-true _ _ f, e)
     go false f e = absurd (let bad : false ≡ true = held false p TagTooLarge e in cc)
 
 -- the length of a string that is known

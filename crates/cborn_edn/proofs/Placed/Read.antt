@@ -11,15 +11,16 @@ use Rattle.cborn_edn.specs.Grammar.{Notates}
 use Rattle.cborn_edn.specs.Spelling.{IsSpelling}
 use Rattle.cborn_edn.specs.Starts.{starts_all}
 use Rattle.cborn_edn.specs.devices.Put.{put_all}
-use Rattle.cborn_edn.proofs.Meaning.Fit.{text_sound}
+use Rattle.cborn_edn.proofs.Meaning.Sound.{text_sound}
+use Rattle.cborn_edn.proofs.Reader.Modest.{all_modest}
 use Rattle.cborn_edn.proofs.Placed.Putting.{same_nodes}
 
 module _ (profile : Profile) (limit : ℕ) (text bytes : List ℕ) (are : AreBytes text) (few : length bytes < 2 ^ 64) (h : IsSpelling profile limit text bytes) where
   fit : FitsAll h.nodes × (depth_all h.nodes ≤ limit)
   fit =
-      let modest = (text_light profile text h.notated.0 are (lex_of profile text h.notated.0 h.notated.1)).0 in
-      let s = text_sound h.notated.2 modest (omega (arith, few, ap length h.spells)) in
-      (s.fits, s.low)
+      let x = h.notated.0 in
+      let s = text_sound h.notated.2 (all_modest x (text_light profile text x are (lex_of profile text x h.notated.1)).0) in
+      (s.fits (omega (arith, few, ap length h.spells)), s.low)
 
   pub is_wellformed : IsWellformed limit bytes
   is_wellformed = (h.nodes, record { spells = h.spells; fit = fit.0; shallow = fit.1 })

@@ -34,7 +34,7 @@ use Rattle.cborn_edn.specs.devices.Reading.{may_end, ends_string, Last, empty, i
 use Rattle.cborn_edn.proofs.Reader.Laying.{cut_bytes}
 use Rattle.cborn_edn.proofs.Reader.NotedErrors.{none_first}
 use Rattle.cborn_edn.proofs.Reader.Rows.{written_snoc}
-use Rattle.cborn_edn.proofs.Reader.Modest.{text_bytes}
+use Rattle.cborn_edn.proofs.Meaning.Sound.{text_sound}
 
 -- whether the text may end
 pub data Ends (s : State) (b : Bool) : Type 0 where
@@ -122,7 +122,7 @@ module _ (p : Profile) (limit : ℕ) (text : List ℕ) (s : State) (r : Reached 
   spelled_text t w e k h =
       let none : faults_of_input t ≡ [] = nil_is (faults_of_input t) (sym (none_first (faults_of_input t)) ∙ ap is_none (sym k.error ∙ h)) in
       let is = subst (IsText p limit r.tokens (nodes_of_input t)) none (is_text t e) in
-      let are = written_bytes w.heads (nodes_of_input t) (text_bytes is r.modest) in
+      let are = written_bytes w.heads (nodes_of_input t) (text_sound is r.modest).bytes in
       spelled_as w.heads (nodes_of_input t) w.out.items (r.tokens, has_tokens p text r.tokens lex, is) (sym (k.laid ∙ cut_bytes (spelled_all (nodes_as w.heads (nodes_of_input t))) are))
 
 pub may_end_at : (k : Heads) (s : State) → may_end (phase_of s) (level_of (stack_in s)) (chunks_in k s) ≡ true → (t : Input) × (finish s ≡ Some t) × Last s t

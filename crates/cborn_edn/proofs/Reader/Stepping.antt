@@ -13,7 +13,8 @@ use Rattle.cborn_lex.specs.declared.classes.Token.{Token}
 use Rattle.cborn_lex.specs.declared.faults.LexFault.{LexFault}
 use Rattle.cborn_lex.proofs.GoodTexts.{through}
 use Rattle.cborn_lex.proofs.WholeTexts.Progress.{inside, few}
-use Rattle.cborn_lex.proofs.WholeTexts.Weights.{between_modest, IsModest as IsModestThere}
+use Rattle.cborn_lex.proofs.WholeTexts.Weights.{between_modest}
+use Rattle.cborn_edn.proofs.Reader.Modest.{modest_here}
 use Rattle.cborn_edn.specs.devices.Modest.{IsModest, AreModest}
 use Rattle.cborn_edn.specs.declared.faults.EdnReason.{EdnReason}
 use Rattle.cborn_edn.specs.declared.faults.EdnReason.TheVariants.{UnexpectedToken, UnexpectedEnd, TooDeep, IndicatorTooNarrow, IndicatorNotAllowed, MixedString, MixedChunks, TextNotUtf8, BadSimple, TagTooLarge}
@@ -39,12 +40,6 @@ recontent : (k : Kind) (n : ℕ) (x : List ℕ) → class_of k n x ≡ class_of 
 recontent (kinds.Text m) n x = refl
 recontent (kinds.Bytes q m) n x = refl
 recontent _ n x = refl
-
-pub modest_here : (c : Class) → IsModestThere c → IsModest c
-modest_here (classes.Number n v m) h = h
-modest_here (classes.Text x m) h = h
-modest_here (classes.Bytes q x m) h = h
-modest_here _ h = tt
 
 plain_content : (c : Class) → IsModest c → AreBytes (content_of c)
 plain_content (classes.Text x m) h = h

@@ -34,9 +34,9 @@ use Rattle.cborn_edn.specs.devices.Steps.{MayEnd, Taken, has_chunks}
 use Rattle.cborn_edn.specs.devices.Reading.{IsReading, Reached}
 use Rattle.cborn_edn.proofs.Reader.Counts.{shown_few, brackets_levels}
 use Rattle.cborn_edn.proofs.Reader.Going.{goes_on, skips, free_none, tight_free}
-use Rattle.cborn_edn.proofs.Reader.Modest.{modest_right}
+use Rattle.cborn_edn.proofs.Reader.Modest.{modest_here, modest_right}
 use Rattle.cborn_edn.proofs.Reader.Settling.{settled, text_item, text_shown}
-use Rattle.cborn_edn.proofs.Reader.Stepping.{modest_here, SameButOut}
+use Rattle.cborn_edn.proofs.Reader.Stepping.{SameButOut}
 use Rattle.cborn_edn.proofs.Reader.Turning.{is_has, is_wants, is_builds, is_wants_number, HasNumber, is_has_number, item_home, chunk_home}
 
 -- a token between two offsets of a text

@@ -25,9 +25,9 @@ use Rattle.cborn_edn.specs.Shown.{Shown}
 use Rattle.cborn_edn.specs.Grammar.{IsText, Notates}
 use Rattle.cborn_edn.specs.Faults.{HasSyntaxError, HasMeaningError}
 use Rattle.cborn_edn.proofs.Grammar.OneTree.{one_tree, both_profiles, not_both, answered}
-use Rattle.cborn_edn.proofs.Meaning.Counting.{text_short}
 use Rattle.cborn_edn.proofs.Meaning.Earliest.{nothing_among, Tells, tells}
-use Rattle.cborn_edn.proofs.Meaning.Fit.{text_sound}
+use Rattle.cborn_edn.proofs.Meaning.Sound.{text_sound}
+use Rattle.cborn_edn.proofs.Reader.Modest.{all_modest}
 use Rattle.cborn_edn.proofs.RoundTrip.ReadBack.{shown_tokens}
 use Rattle.cborn_edn.proofs.RoundTrip.Retelling.{reads_same}
 use Rattle.cborn_edn.proofs.RoundTrip.Unplaced.{same_bytes}
@@ -84,8 +84,8 @@ shown_only p limit nodes text says fits shown h =
 pub notated_fits : (profile : Profile) (limit : ℕ) (text : List ℕ) (nodes : Trees) → AreBytes text → length text < 2 ^ 56 → Notates profile limit text nodes → FitsAll nodes × (depth_all nodes ≤ limit)
 notated_fits p limit text nodes are short (x, taken, h) =
     let light = text_light p text x are (lex_of p text x taken) in
-    let s = text_sound h light.0 (omega (arith, light.1, text_short h light.0)) in
-    (s.fits, s.low)
+    let s = text_sound h (all_modest x light.0) in
+    (s.fits (omega (arith, light.1, s.few)), s.low)
 
 -- LAW: a text that notates nodes isn't refused
 pub no_stop : (p : Profile) (limit : ℕ) (text : List ℕ) (nodes : Trees) → Notates p limit text nodes → (q : ℕ) (r : LexReason) → FailsAt p text q r → ⊥

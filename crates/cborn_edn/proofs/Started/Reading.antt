@@ -38,8 +38,8 @@ use Rattle.cborn_edn.proofs.Grammar.Machine.{State, has, step_by}
 use Rattle.cborn_edn.proofs.Grammar.OneTree.{leads_on}
 use Rattle.cborn_edn.proofs.Reader.Counts.{shown_few}
 use Rattle.cborn_edn.proofs.Reader.Going.{held_more}
-use Rattle.cborn_edn.proofs.Reader.Modest.{modest_both}
-use Rattle.cborn_edn.proofs.Reader.Stepping.{modest_here, SameButOut, ReadToken, ready_at}
+use Rattle.cborn_edn.proofs.Reader.Modest.{modest_both, modest_here}
+use Rattle.cborn_edn.proofs.Reader.Stepping.{SameButOut, ReadToken, ready_at}
 use Rattle.cborn_edn.proofs.Reader.Turning.{is_has}
 use Rattle.cborn_edn.proofs.Started.Begins.{Grown, adds}
 use Rattle.cborn_edn.proofs.Started.Counting.{none_left, no_stop, not_taken}

@@ -1,7 +1,7 @@
 use Rattle.std.proofs.Common.{refl}
 use Rattle.cborn_edn.proofs.Reader.Results.{both_ok}
 use Rattle.cborn_edn.proofs.Reader.Built.{item_shown}
-use Rattle.cborn_edn.proofs.Reader.Modest.{pieces_bytes}
+use Rattle.cborn_edn.proofs.Meaning.Sound.{pieces_bytes}
 use Rattle.cborn_edn.proofs.Reader.Put.{mark_here}
 use Rattle.cborn_edn.proofs.strings.end_item.Goals as goal
 
