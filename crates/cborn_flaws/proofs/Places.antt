@@ -1,5 +1,5 @@
 -- The places of what was read: one after another, and inside one another.
-use Rattle.std.proofs.Common.{◌≡◌, ℕ, ◌+◌, ◌-◌, ◌≤◌, List, [], ◌∷◌, ◌++◌, length, refl, sym, ap, ◌∙◌, subst, arith, length-append}
+use Rattle.std.proofs.Common.{◌≡◌, ℕ, ◌+◌, ◌-◌, ◌≤◌, List, [], ◌∷◌, ◌++◌, length, refl, sym, ap, ◌∙◌, subst, arith, add-zero, length-append}
 use Rattle.std.specs.List.{flat_map}
 use Rattle.cborn_model.specs.declared.heads.Width.{Width}
 use Rattle.cborn_model.specs.declared.heads.Major.{Major}
@@ -11,7 +11,6 @@ use Rattle.cborn_model.specs.Spelled.{spelled, spelled_all, spelled_entries, chu
 use Rattle.cborn_model.specs.Tree.{Tree, trees, entries, count, count_entries}
 use Rattle.cborn_model.proofs.Listed.Trees.{count-trees, count_entries-entries}
 use Rattle.cborn_wire.specs.Parts.{Pair}
-use Rattle.cborn_wire.proofs.Machine.SoundItems.{placed_chunks-snoc}
 use Rattle.cborn_wire.proofs.Parts.Heads.{place_after}
 
 -- ---- one after another
@@ -30,6 +29,11 @@ pair_last p (m ∷ ns) n h k v =
     let e : p + length ((spelled m.0 ++ spelled m.1) ++ spelled_entries (entries ns)) ≡ ((p + length (spelled m.0)) + length (spelled m.1)) + length (spelled_entries (entries ns)) =
     omega (arith, length-append (spelled m.0 ++ spelled m.1) (spelled_entries (entries ns)), length-append (spelled m.0) (spelled m.1)) in
     (h.0, h.1, pair_last ((p + length (spelled m.0)) + length (spelled m.1)) ns n h.2 (subst (λ q. Placed q n.0) e k) (subst (λ q. Placed (q + length (spelled n.0)) n.1) e v))
+
+placed_chunks-snoc : (m : Major) (cs : List Chunk) (c : Chunk) (p : ℕ) → ChunksPlaced m p cs → c.place ≡ p + length (flat_map (chunk_bytes m) cs) → ChunksPlaced m p (cs ++ c ∷ [])
+placed_chunks-snoc m [] c p h k = (k ∙ add-zero p, tt)
+placed_chunks-snoc m (d ∷ cs) c p h k =
+    (h.0, placed_chunks-snoc m cs c _ h.1 (omega (arith, k, length-append (chunk_bytes m d) (flat_map (chunk_bytes m) cs))))
 
 module _ (total : ℕ) (input mid : List ℕ) (l : length input ≤ total) where
   pub node_placed : (ts : List Tree) (t : Tree) → input ≡ spelled_all (trees ts) ++ mid → PlacedAll (total - length input) (trees ts) → Placed (total - length mid) t → PlacedAll (total - length input) (trees (ts ++ t ∷ []))

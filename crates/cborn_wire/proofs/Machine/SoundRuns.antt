@@ -138,9 +138,9 @@ module _ (limit base : ℕ) where
           let k = number w got in
           let same = again w got broad full bytes in
           let clear = is_clear (slot os) (leb limit (open_depth os)) m (Next w) [] none in
-          sound_head limit base m (Given w k) ready os fed p x g (subst (Clear (slot os) (leb limit (open_depth os)) m) (sym (wide_info w k broad)) clear) same.1 placed
+          sound_head limit base ready os fed p x g placed at m (Given w k) (subst (Clear (slot os) (leb limit (open_depth os)) m) (sym (wide_info w k broad)) clear) same.1
           (is ∙ ap (λ i. front ready os ++ ((32 * code m + i) ∷ got)) (sym (wide_information w k broad))
-          ∙ ap (λ l. front ready os ++ ((32 * code m + information w k) ∷ l)) (sym same.0)) at
+          ∙ ap (λ l. front ready os ++ ((32 * code m + information w k) ∷ l)) (sym same.0))
       go false e = record { ground = g; bytes = is; fed_is = at; partial_fits = (placed, all, leb-false n (length got) e, none, bytes) }
 
   sound_begin : (i : Info) (m : Major) (ready : Trees) (os : List OpenContainer) (fed b : ℕ) (x : List ℕ)
@@ -162,10 +162,10 @@ module _ (limit base : ℕ) where
       read j e = ap (λ l. l ++ b ∷ []) here ∙ ap (λ c. front ready os ++ c ∷ []) (first ∙ ap (λ k. 32 * code m + k) e)
 
       go : (i : Info) → head_reason (slot os) (leb limit (open_depth os)) m i [] ≡ None → InfoIs (b % 32) i → Sound limit base (x ++ b ∷ []) (begin_head fed ready os m i)
-      go (Now n) none is = sound_head limit base m (Given Direct n) ready os (suc fed) fed (x ++ b ∷ []) h.ground (is_clear (slot os) (leb limit (open_depth os)) m (Now n) [] none) is.1 placed (read n is.0) at
+      go (Now n) none is = sound_head limit base ready os (suc fed) fed (x ++ b ∷ []) h.ground placed at m (Given Direct n) (is_clear (slot os) (leb limit (open_depth os)) m (Now n) [] none) is.1 (read n is.0)
       go (Next w) none is = sound_argument m w ready os (width_bytes w) [] (suc fed) fed (x ++ b ∷ []) h.ground none tt is.1 refl (omega arith) placed (read (information w 0) is.0) at
       go Reserved none is = let e : true ≡ false = (is_clear (slot os) (leb limit (open_depth os)) m Reserved [] none).reserved in cc
-      go EndlessInformation none is = sound_head limit base m EndlessArgument ready os (suc fed) fed (x ++ b ∷ []) h.ground (is_clear (slot os) (leb limit (open_depth os)) m EndlessInformation [] none) tt placed (read 31 is) at
+      go EndlessInformation none is = sound_head limit base ready os (suc fed) fed (x ++ b ∷ []) h.ground placed at m EndlessArgument (is_clear (slot os) (leb limit (open_depth os)) m EndlessInformation [] none) tt (read 31 is)
 
   sound_slot : (ready : Trees) (os : List OpenContainer) (fed b : ℕ) (x : List ℕ) → b < 256 → SoundLive limit base x fed ready os nothing
       → Sound limit base (x ++ b ∷ []) (at_slot limit fed ready os (major_at (b / 32)) (info_at (b % 32)))
@@ -191,10 +191,9 @@ module _ (limit base : ℕ) where
       (wide w (omega (arith, h.partial_fits.1, h.partial_fits.2))) h.partial_fits.1 (omega (arith, h.partial_fits.2, length_push got b)) h.partial_fits.0
       (ap (λ l. l ++ b ∷ []) h.bytes ∙ append_assoc (front ready os) _ (b ∷ [])) (omega (arith, h.fed_is, length_push x b))
   sound_step (Live fed ready os (gathering p (content_of k w) n got)) b x byte h =
-      sound_content limit base k ready os w n (got ++ b ∷ []) (suc fed) p (x ++ b ∷ []) h.ground h.partial_fits.3 h.partial_fits.1 h.partial_fits.0
+      sound_content limit base ready os (suc fed) p (x ++ b ∷ []) h.ground h.partial_fits.0 (omega (arith, h.fed_is, length_push x b)) k w n (got ++ b ∷ []) h.partial_fits.3 h.partial_fits.1
       (omega (arith, h.partial_fits.2, length_push got b)) (bytes-append got (b ∷ []) h.partial_fits.4 (byte, tt))
       (ap (λ l. l ++ b ∷ []) h.bytes ∙ append_assoc (front ready os) _ (b ∷ []) ∙ ap (λ l. front ready os ++ l) (append_assoc (head (major_of k) (Given w n)) got (b ∷ [])))
-      (omega (arith, h.fed_is, length_push x b))
 
   pub sound_run : (y : List ℕ) (s : State) (x : List ℕ) → AreBytes y → Sound limit base x s → Sound limit base (x ++ y) (run limit s y)
   sound_run [] s x h k = subst (λ l. Sound limit base l s) (sym (append-nil x)) k
