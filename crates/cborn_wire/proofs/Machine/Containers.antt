@@ -7,13 +7,13 @@ use Rattle.cborn_model.specs.declared.heads.Size.TheVariants.{Fixed, Endless}
 use Rattle.cborn_model.specs.declared.heads.Width.{Width}
 use Rattle.cborn_model.specs.declared.heads.Major.TheVariants.{Array, Map, Tag}
 use Rattle.cborn_model.specs.declared.nodes.Chunk.{Chunk}
-use Rattle.cborn_model.specs.Heads.{WidthFits, Given, EndlessArgument, head}
+use Rattle.cborn_model.specs.Heads.{WidthFits, Given, EndlessArgument, head, argument, SizeFits}
 use Rattle.cborn_model.specs.Tree.{Tree, Bytes, Text, ByteChunks, TextChunks, Items, Pairs, Tagged, more, Entries, no_entry, entry, trees, entries, count_entries, depth, depth_all, depth_entries}
 use Rattle.cborn_model.specs.Spelled.{ending, chunk_bytes, spelled, spelled_all, spelled_entries, ChunksFit, Fits, FitsAll, FitsEntries}
 use Rattle.cborn_model.specs.Placed.{ChunksPlaced, Placed, PlacedAll, PlacedEntries}
-use Rattle.cborn_model.specs.Partial.{Opening, an_array, a_map, a_tag, in_chunks, paired, last_key, last_of, chunk_of, chunks_of, built, string_tree, IsAll, IsString, AreStrings, Goes, Ends}
+use Rattle.cborn_model.specs.Partial.{Opening, an_array, a_map, a_tag, in_chunks, paired, last_key, last_of, chunk_of, chunks_of, built, string_tree, ended_size, IsAll, IsString, AreStrings, Goes, Ends}
 use Rattle.cborn_model.proofs.Listed.Trees.{count-trees, count_entries-entries}
-use Rattle.cborn_wire.specs.Slots.{StringKind, OfBytes, OfText, major_of, OpenContainer, opened, opening, slot_in, slot_in_map, added_depth, Announces, HeadFits}
+use Rattle.cborn_wire.specs.Slots.{StringKind, OfBytes, OfText, major_of, opened, announced, opening, slot_in, slot_in_map, added_depth, Announces, HeadFits}
 use Rattle.cborn_wire.specs.SlotFaults.{needs_item}
 use Rattle.cborn_wire.specs.Places.{chunks_from, placed_from, all_from, entries_from}
 use Rattle.cborn_wire.specs.shared.Machine.{is_full}
@@ -167,40 +167,71 @@ empty_whole (in_chunks p k) e = cc
 -- What it is when it ends.
 
 -- the bytes after its nodes
+
+abbrev pub closing_of : Option ℕ → List ℕ
+closing_of (Some n) = []
+closing_of None = ending Endless
+
 abbrev pub closing : Opening → List ℕ
-closing (an_array p s c) = ending s
-closing (a_map p s c) = ending s
+closing (an_array p s c) = closing_of c
+closing (a_map p s c) = closing_of c
 closing (a_tag p w n) = []
 closing (in_chunks p k) = ending Endless
 
 -- none, where it is whole by the number in its head
-pub full_closing : (o : Opening) (n : ℕ) → HeadFits o → is_full o n ≡ true → closing o ≡ []
-full_closing (an_array p (Fixed w) c) n h e = refl
-full_closing (an_array p Endless None) n h e = cc
-full_closing (an_array p Endless (Some m)) n h e = absurd h
-full_closing (a_map p (Fixed w) c) n h e = refl
-full_closing (a_map p Endless None) n h e = cc
-full_closing (a_map p Endless (Some m)) n h e = absurd h
-full_closing (a_tag p w m) n h e = refl
-full_closing (in_chunks p k) n h e = cc
+pub full_closing : (o : Opening) (n : ℕ) → is_full o n ≡ true → closing o ≡ []
+full_closing (an_array p s (Some m)) n e = refl
+full_closing (an_array p s None) n e = cc
+full_closing (a_map p s (Some m)) n e = refl
+full_closing (a_map p s None) n e = cc
+full_closing (a_tag p w m) n e = refl
+full_closing (in_chunks p k) n e = cc
+
+-- Where it isn't whole by a number, a break ends it.
+pub endless_closing : (o : Opening) (ts : List Tree) → Ends o ts → is_full o (length ts) ≡ false → (closing o ≡ ending Endless) × (needs_item (slot_in (opened o ts)) ≡ false)
+endless_closing (an_array p s (Some n)) ts h e = absurd (omega (arith, leb-false n (length ts) e, h))
+endless_closing (an_array p s None) ts h e = (refl, refl)
+endless_closing (a_map p s (Some n)) ts h e = absurd (omega (arith, leb-false n (length ts / 2) e, h.0, pair_count ts))
+endless_closing (a_map p s None) ts h e = (refl, ap (λ k. needs_item (slot_in_map None k)) h.1)
+endless_closing (a_tag p w m) ts (t, is) e = absurd (omega (arith, leb-false 1 (length ts) e, ap length is))
+endless_closing (in_chunks p k) ts h e = (refl, refl)
+
+-- Where a break may be, it may end.
+pub break_ends : (o : Opening) (ts : List Tree) → Goes o ts → needs_item (slot_in (opened o ts)) ≡ false → Ends o ts × (closing o ≡ ending Endless)
+break_ends (an_array p s (Some n)) ts h e = cc
+break_ends (an_array p s None) ts h e = (tt, refl)
+break_ends (a_map p s c) ts h e = in_map c (last_key ts) refl e
+  where
+    in_map : (c : Option ℕ) (x : Option Tree) → last_key ts ≡ x → needs_item (slot_in_map c x) ≡ false → Ends (a_map p s c) ts × (closing_of c ≡ ending Endless)
+    in_map c (Some k) is e = cc
+    in_map (Some n) None is e = cc
+    in_map None None is e = ((tt, is), refl)
+break_ends (a_tag p w n) ts h e = cc
+break_ends (in_chunks p k) ts h e = (h, refl)
+
+-- the size of an array or a map, with as many items or pairs as were announced
+record Sized (s : Size) (c : Option ℕ) (n : ℕ) : Type 0 where
+  size : ended_size s c n ≡ s
+  says : argument s n ≡ announced s c
+  end : ending s ≡ closing_of c
+  fits : SizeFits s n
+
+sized : (s : Size) (c : Option ℕ) (n : ℕ) → Announces s c → IsAll c n → Sized s c n
+sized (Fixed w) (Some m) n fits all = record { size = refl; says = ap (Given w) all; end = refl; fits = subst (WidthFits w) (sym all) fits }
+sized Endless None n fits all = record { size = refl; says = refl; end = refl; fits = tt }
+sized (Fixed w) None n fits all = absurd fits
+sized Endless (Some m) n fits all = absurd fits
 
 chunked_spelled : (p : ℕ) (k : StringKind) (ts : List Tree) → AreStrings k ts → spelled (built (in_chunks p k) ts) ≡ opening (in_chunks p k) ++ spelled_all (trees ts) ++ ending Endless
 chunked_spelled p OfBytes ts h = ap (λ x. head (major_of OfBytes) EndlessArgument ++ x ++ ending Endless) (chunks_spelled OfBytes ts h)
 chunked_spelled p OfText ts h = ap (λ x. head (major_of OfText) EndlessArgument ++ x ++ ending Endless) (chunks_spelled OfText ts h)
 
 pub built_spelled : (o : Opening) (ts : List Tree) → HeadFits o → Ends o ts → spelled (built o ts) ≡ opening o ++ spelled_all (trees ts) ++ closing o
-built_spelled (an_array p (Fixed w) (Some n)) ts fits h = ap (λ k. head Array (Given w k) ++ spelled_all (trees ts) ++ []) (count-trees ts ∙ h)
-built_spelled (an_array p Endless None) ts fits h = refl
-built_spelled (an_array p (Fixed w) None) ts fits h = absurd fits
-built_spelled (an_array p Endless (Some n)) ts fits h = absurd fits
-built_spelled (a_map p (Fixed w) (Some n)) ts fits h =
-    ap (λ k. head Map (Given w k) ++ spelled_entries (entries (paired ts)) ++ []) (count_entries-entries (paired ts) ∙ h.0) ∙ ap (λ x. head Map (Given w n) ++ x ++ []) (pairs_spelled ts h.1)
-built_spelled (a_map p Endless None) ts fits h = ap (λ x. head Map EndlessArgument ++ x ++ ending Endless) (pairs_spelled ts h.1)
-built_spelled (a_map p (Fixed w) None) ts fits h = absurd fits
-built_spelled (a_map p Endless (Some n)) ts fits h = absurd fits
+built_spelled (an_array p s c) ts fits h = let z = sized s c (length ts) fits h in rw (z.size, count-trees ts, z.says, z.end) refl
+built_spelled (a_map p s c) ts fits h = let z = sized s c (length (paired ts)) fits h.0 in rw (z.size, count_entries-entries (paired ts), z.says, z.end, pairs_spelled ts h.1) refl
 built_spelled (a_tag p w n) ts fits (t, e) =
-    ap (λ us. spelled (built (a_tag p w n) us)) e ∙ ap (λ x. head Tag (Given w n) ++ x) (sym (append-nil (spelled t))) ∙ sym (append-nil (head Tag (Given w n) ++ (spelled t ++ [])))
-    ∙ ap (λ us. head Tag (Given w n) ++ spelled_all (trees us) ++ []) (sym e)
+    let start = head Tag (Given w n) in
+    subst (λ us. spelled (built (a_tag p w n) us) ≡ start ++ spelled_all (trees us) ++ []) (sym e) (ap (λ x. start ++ x) (sym (append-nil (spelled t))) ∙ sym (append-nil (start ++ (spelled t ++ []))))
 built_spelled (in_chunks p k) ts fits h = chunked_spelled p k ts h
 
 chunked_fits : (p : ℕ) (k : StringKind) (ts : List Tree) → AreStrings k ts → FitsAll (trees ts) → Fits (built (in_chunks p k) ts)
@@ -208,14 +239,8 @@ chunked_fits p OfBytes ts h fits = strings_fit OfBytes (chunks_of ts) (subst (λ
 chunked_fits p OfText ts h fits = strings_fit OfText (chunks_of ts) (subst (λ us. FitsAll (trees us)) (sym (strings_are OfText ts h)) fits)
 
 pub built_fits : (o : Opening) (ts : List Tree) → HeadFits o → Ends o ts → FitsAll (trees ts) → Fits (built o ts)
-built_fits (an_array p (Fixed w) (Some n)) ts fits h all = (subst (WidthFits w) (sym (count-trees ts ∙ h)) fits, all)
-built_fits (an_array p Endless None) ts fits h all = (tt, all)
-built_fits (an_array p (Fixed w) None) ts fits h all = absurd fits
-built_fits (an_array p Endless (Some n)) ts fits h all = absurd fits
-built_fits (a_map p (Fixed w) (Some n)) ts fits h all = (subst (WidthFits w) (sym (count_entries-entries (paired ts) ∙ h.0)) fits, pairs_fit ts all)
-built_fits (a_map p Endless None) ts fits h all = (tt, pairs_fit ts all)
-built_fits (a_map p (Fixed w) None) ts fits h all = absurd fits
-built_fits (a_map p Endless (Some n)) ts fits h all = absurd fits
+built_fits (an_array p s c) ts fits h all = let z = sized s c (length ts) fits h in rw (z.size, count-trees ts) (z.fits, all)
+built_fits (a_map p s c) ts fits h all = let z = sized s c (length (paired ts)) fits h.0 in rw (z.size, count_entries-entries (paired ts)) (z.fits, pairs_fit ts all)
 built_fits (a_tag p w n) ts fits (t, e) all = subst (λ us. Fits (built (a_tag p w n) us)) (sym e) (fits, (subst (λ us. FitsAll (trees us)) e all).0)
 built_fits (in_chunks p k) ts fits h all = chunked_fits p k ts h all
 
@@ -227,52 +252,17 @@ built_deep (in_chunks p OfBytes) ts h = omega arith
 built_deep (in_chunks p OfText) ts h = omega arith
 
 chunked_placed : (q : ℕ) (k : StringKind) (ts : List Tree) (p : ℕ) → AreStrings k ts → q ≡ p → PlacedAll (p + 1) (trees ts) → Placed p (built (in_chunks q k) ts)
-chunked_placed q k ts p h at all = go k (strings_placed k (chunks_of ts) (p + 1) (subst (λ us. PlacedAll (p + 1) (trees us)) (sym (strings_are k ts h)) all))
+chunked_placed q k ts p h at all = go k (strings_placed k (chunks_of ts) (suc p) (subst (λ us. PlacedAll (suc p) (trees us)) (sym (strings_are k ts h)) (subst (λ n. PlacedAll n (trees ts)) (add-one p) all)))
   where
-    go : (k : StringKind) → ChunksPlaced (major_of k) (p + 1) (chunks_of ts) → Placed p (built (in_chunks q k) ts)
-    go OfBytes h = (at, subst (λ n. ChunksPlaced (major_of OfBytes) n (chunks_of ts)) (omega arith) h)
-    go OfText h = (at, subst (λ n. ChunksPlaced (major_of OfText) n (chunks_of ts)) (omega arith) h)
+    go : (k : StringKind) → ChunksPlaced (major_of k) (suc p) (chunks_of ts) → Placed p (built (in_chunks q k) ts)
+    go OfBytes h = (at, h)
+    go OfText h = (at, h)
 
 pub built_placed : (o : Opening) (ts : List Tree) (p : ℕ) → HeadFits o → Ends o ts → place_of o ≡ p → PlacedAll (p + length (opening o)) (trees ts) → Placed p (built o ts)
-built_placed (an_array q (Fixed w) (Some n)) ts p fits h at all = (at, subst (λ k. PlacedAll (p + length (head Array (Given w k))) (trees ts)) (sym (count-trees ts ∙ h)) all)
-built_placed (an_array q Endless None) ts p fits h at all = (at, all)
-built_placed (an_array q (Fixed w) None) ts p fits h at all = absurd fits
-built_placed (an_array q Endless (Some n)) ts p fits h at all = absurd fits
-built_placed (a_map q (Fixed w) (Some n)) ts p fits h at all =
-    (at, pairs_placed ts _ (subst (λ k. PlacedAll (p + length (head Map (Given w k))) (trees ts)) (sym (count_entries-entries (paired ts) ∙ h.0)) all))
-built_placed (a_map q Endless None) ts p fits h at all = (at, pairs_placed ts _ all)
-built_placed (a_map q (Fixed w) None) ts p fits h at all = absurd fits
-built_placed (a_map q Endless (Some n)) ts p fits h at all = absurd fits
+built_placed (an_array q s c) ts p fits h at all = let z = sized s c (length ts) fits h in rw (z.size, count-trees ts, z.says) (at, all)
+built_placed (a_map q s c) ts p fits h at all = let z = sized s c (length (paired ts)) fits h.0 in rw (z.size, count_entries-entries (paired ts), z.says) (at, pairs_placed ts _ all)
 built_placed (a_tag q w n) ts p fits (t, e) at all = subst (λ us. Placed p (built (a_tag q w n) us)) (sym e) (at, (subst (λ us. PlacedAll (p + length (head Tag (Given w n))) (trees us)) e all).0)
 built_placed (in_chunks q k) ts p fits h at all = chunked_placed q k ts p h at all
-
--- Where it isn't whole by a number, a break ends it.
-pub endless_closing : (o : Opening) (ts : List Tree) → HeadFits o → Ends o ts → is_full o (length ts) ≡ false → (closing o ≡ ending Endless) × (needs_item (slot_in (opened o ts)) ≡ false)
-endless_closing (an_array p (Fixed w) (Some n)) ts fits h e = absurd (omega (arith, leb-false n (length ts) e, h))
-endless_closing (an_array p Endless None) ts fits h e = (refl, refl)
-endless_closing (an_array p (Fixed w) None) ts fits h e = absurd fits
-endless_closing (an_array p Endless (Some n)) ts fits h e = absurd fits
-endless_closing (a_map p (Fixed w) (Some n)) ts fits h e = absurd (omega (arith, leb-false n (length ts / 2) e, h.0, pair_count ts))
-endless_closing (a_map p Endless None) ts fits h e = (refl, ap (λ k. needs_item (slot_in_map None k)) h.1)
-endless_closing (a_map p (Fixed w) None) ts fits h e = absurd fits
-endless_closing (a_map p Endless (Some n)) ts fits h e = absurd fits
-endless_closing (a_tag p w m) ts fits (t, is) e = absurd (omega (arith, leb-false 1 (length ts) e, ap length is))
-endless_closing (in_chunks p k) ts fits h e = (refl, refl)
-
--- Where a break may be, it may end.
-pub break_ends : (o : Opening) (ts : List Tree) → HeadFits o → Goes o ts → needs_item (slot_in (opened o ts)) ≡ false → Ends o ts × (closing o ≡ ending Endless)
-break_ends (an_array p s (Some n)) ts fits h e = cc
-break_ends (an_array p Endless None) ts fits h e = (tt, refl)
-break_ends (an_array p (Fixed w) None) ts fits h e = absurd fits
-break_ends (a_map p s c) ts fits h e = in_map s c (last_key ts) refl fits e
-  where
-    in_map : (s : Size) (c : Option ℕ) (x : Option Tree) → last_key ts ≡ x → Announces s c → needs_item (slot_in_map c x) ≡ false → Ends (a_map p s c) ts × (closing (a_map p s c) ≡ ending Endless)
-    in_map s c (Some k) is fits e = cc
-    in_map s (Some n) None is fits e = cc
-    in_map Endless None None is fits e = ((tt, is), refl)
-    in_map (Fixed w) None None is fits e = absurd fits
-break_ends (a_tag p w n) ts fits h e = cc
-break_ends (in_chunks p k) ts fits h e = (h, refl)
 
 -- What nodes are one after another in it, from an offset on.
 
@@ -325,16 +315,14 @@ ends_from (a_tag q w n) ts p (t, e) = (placed_from p t, ap (list_from p) e)
 ends_from (in_chunks q k) ts p h = strings_stay k ts p h
 
 pub built_from : (o : Opening) (ts : List Tree) (p : ℕ) → HeadFits o → Ends o ts → built (opening_from p o) (list_from (p + length (opening o)) ts) ≡ placed_from p (built o ts)
-built_from (an_array q (Fixed w) (Some n)) ts p fits h =
-    ap (Items p (Fixed w)) (list_trees ts _ ∙ ap (λ k. all_from (p + length (head Array (Given w k))) (trees ts)) (sym (count-trees ts ∙ h)))
-built_from (an_array q Endless None) ts p fits h = ap (Items p Endless) (list_trees ts _)
-built_from (an_array q (Fixed w) None) ts p fits h = absurd fits
-built_from (an_array q Endless (Some n)) ts p fits h = absurd fits
-built_from (a_map q (Fixed w) (Some n)) ts p fits h =
-    ap (Pairs p (Fixed w)) (list_entries ts _ ∙ ap (λ k. entries_from (p + length (head Map (Given w k))) (entries (paired ts))) (sym (count_entries-entries (paired ts) ∙ h.0)))
-built_from (a_map q Endless None) ts p fits h = ap (Pairs p Endless) (list_entries ts _)
-built_from (a_map q (Fixed w) None) ts p fits h = absurd fits
-built_from (a_map q Endless (Some n)) ts p fits h = absurd fits
+built_from (an_array q s c) ts p fits h =
+    let z = sized s c (length ts) fits h in
+    let r = p + length (head Array (announced s c)) in
+    rw (list_length ts r, z.size, list_trees ts r, count-trees ts, z.says) refl
+built_from (a_map q s c) ts p fits h =
+    let z = sized s c (length (paired ts)) fits h.0 in
+    let r = p + length (head Map (announced s c)) in
+    rw (list_pairs ts r, z.size, list_entries ts r, count_entries-entries (paired ts), z.says) refl
 built_from (a_tag q w n) ts p fits (t, e) = subst (λ us. built (a_tag p w n) (list_from (p + length (head Tag (Given w n))) us) ≡ placed_from p (built (a_tag q w n) us)) (sym e) refl
 built_from (in_chunks q k) ts p fits h = chunked_from k
     (ap chunks_of (list_strings k ts (p + 1) h) ∙ chunks_same k (chunks_from (major_of k) (p + 1) (chunks_of ts)) ∙ ap (λ n. chunks_from (major_of k) n (chunks_of ts)) (add-one p))

@@ -123,7 +123,7 @@ module _ (limit base : ℕ) where
         go : (b : Bool) → is_full o (length ts) ≡ b → Sound x (cond b (finished fed ready os (built o ts)) (Live fed ready (opened o ts ∷ os) nothing))
         go true e =
             let start = opening o ++ spelled_all (trees ts) in
-            next (built o ts) (ends (end e) (bytes ∙ ap (λ l. front ready os ++ l) (sym (append-nil start) ∙ ap (λ l. start ++ l) (sym (full_closing o (length ts) fits e)))))
+            next (built o ts) (ends (end e) (bytes ∙ ap (λ l. front ready os ++ l) (sym (append-nil start) ∙ ap (λ l. start ++ l) (sym (full_closing o (length ts) e)))))
         go false e = record {
           ground = ground_more ready os (opened o ts) g free (fits, goes e, all, deep) placed;
           bytes = nothing_more _ _ (bytes ∙ append_assoc (spelled_all ready) (beginnings os) _);

@@ -85,7 +85,7 @@ sound_ended : (limit base : ℕ) (ready : Trees) (os : List OpenContainer) (fed 
 sound_ended limit base ready [] fed x g at slotted is = cc
 sound_ended limit base ready (opened o ts ∷ os) fed x g at slotted is =
     let (fits, goes, all, deep) = g.are_open.0 in
-    let (h, closed) = break_ends o ts fits goes slotted in
+    let (h, closed) = break_ends o ts goes slotted in
     let cut : front ready (opened o ts ∷ os) ++ ending Endless ≡ front ready os ++ (opening o ++ spelled_all (trees ts) ++ ending Endless) = simp append_assoc in
     subst (λ b. Sound limit base x (cond b (Failed ready fed UnexpectedBreak) (finished fed ready os (built o ts)))) (sym slotted) (sound_finished limit base os ready (built o ts) fed x
     (ends limit base ready os o ts (ground_less limit base ready os (opened o ts) g) g.are_open.1 fits all deep (top_placed limit base ready os (opened o ts) g) fed x at h

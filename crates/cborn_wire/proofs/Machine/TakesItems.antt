@@ -159,13 +159,13 @@ module _ (limit fed : ℕ) (ready : Trees) (os : List OpenContainer) where
       ∙ ap (λ b. run limit (cond b (Failed ready (fed + 1) UnexpectedBreak) (finished (fed + 1) ready os (built o ts))) x) e
 
   -- the end of one that may end
-  takes_closing : (o : Opening) (ts : List Tree) (x : List ℕ) → HeadFits o → Ends o ts
+  takes_closing : (o : Opening) (ts : List Tree) (x : List ℕ) → Ends o ts
       → run limit (holding fed ready os o ts) (closing o ++ x) ≡ run limit (finished (fed + length (closing o)) ready os (built o ts)) x
-  takes_closing o ts x fits h = go (is_full o (length ts)) refl
+  takes_closing o ts x h = go (is_full o (length ts)) refl
     where
       go : (b : Bool) → is_full o (length ts) ≡ b → run limit (cond b (finished fed ready os (built o ts)) (Live fed ready (opened o ts ∷ os) nothing)) (closing o ++ x) ≡ run limit (finished (fed + length (closing o)) ready os (built o ts)) x
-      go true e = rw (full_closing o (length ts) fits e, add-zero) refl
-      go false e = let c = endless_closing o ts fits h e in rw c.0 (takes_break o ts x c.1)
+      go true e = rw (full_closing o (length ts) e, add-zero) refl
+      go false e = let c = endless_closing o ts h e in rw c.0 (takes_break o ts x c.1)
 
 -- The machine takes t inside such a container.
 abbrev pub Taken : ℕ → Opening → Tree → Type 0
@@ -213,7 +213,7 @@ takes_container limit fed ready os o us x here taken fit all ends free deep =
     ∙ takes_opening limit fed ready os o (content ++ (closing o ++ x)) fit free (omega (arith, deep))
     ∙ ap (λ p. run limit (holding inner ready os p []) (content ++ (closing o ++ x))) here
     ∙ takes_nodes us limit inner ready os o [] (closing o ++ x) taken all deep (λ k h. not_yet o us k ends (omega (arith, h)))
-    ∙ takes_closing limit (inner + length content) ready os o vs x fit (ends_from o us inner ends)
+    ∙ takes_closing limit (inner + length content) ready os o vs x (ends_from o us inner ends)
     ∙ ap (λ q. run limit (finished q ready os (built o vs)) x) (total ∙ ap (λ l. fed + length l) (sym is))
     ∙ ap (λ t. run limit (finished (fed + length (spelled (built o us))) ready os t) x) (ap (λ p. built p vs) (sym here) ∙ built_from o us fed fit ends)
 

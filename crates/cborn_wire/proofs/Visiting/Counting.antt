@@ -203,7 +203,7 @@ module _ (end : ℕ) where
   breaks (inside f o ts) ls l e proper say m =
       let h = last_same (levels f) ls e in
       let free = not_is _ false (sym (may_end_slot o ts) ∙ ap (λ (m : Level). may_end m.kind) h.1 ∙ m) in
-      (record { around = f; opening = o; nodes = ts; is = refl; levels_are = h.0; free = (proper.0, proper.1); from_bytes = say.0 }, (break_ends o ts say.1 proper.2 free).0, broken f o ts false free)
+      (record { around = f; opening = o; nodes = ts; is = refl; levels_are = h.0; free = (proper.0, proper.1); from_bytes = say.0 }, (break_ends o ts proper.2 free).0, broken f o ts false free)
 
   pub breaks_not : (h : Partial) (ls : List Level) (l : Level) → levels h ≡ ls ++ l ∷ [] → may_end l.kind ≡ false → ended end (ready h) (open_in h) ≡ Failed (ready h) end UnexpectedBreak
   breaks_not (top ts) ls l e m = refl
