@@ -24,23 +24,13 @@ use Rattle.cborn_wire.proofs.Machine.SoundRuns.{code_at, IsWide, InfoIs, info_is
 module _ (y : List ℕ) where
   now_free : (m : Major) (n : ℕ) → head_reason element_or_end false m (Now n) y ≡ None
   now_free Unsigned n = refl
-  now_free Negative n = refl
-  now_free ByteString n = refl
-  now_free TextString n = refl
-  now_free Array n = refl
-  now_free Map n = refl
-  now_free Tag n = refl
-  now_free Other n = refl
+  now_free m n = refl
 
   endless_free : (m : Major) → is_always_bounded m ≡ false → head_reason element_or_end false m EndlessInformation y ≡ None
   endless_free Unsigned e = cc
   endless_free Negative e = cc
-  endless_free ByteString e = refl
-  endless_free TextString e = refl
-  endless_free Array e = refl
-  endless_free Map e = refl
   endless_free Tag e = cc
-  endless_free Other e = refl
+  endless_free m e = refl
 
   pub direct_head : (b : ℕ) → b < 256 → b % 32 < 24 → IsHeadOf (b ∷ y) (record { major = b / 32; argument = Given Direct (b % 32) }) 1
   direct_head b small h =
@@ -123,34 +113,16 @@ endless_information_is Reserved e = cc
 endless_information_is EndlessInformation e = refl
 
 no_other : (m : Major) → (m ≡ Other → ⊥) → is_other (major_at (code m)) ≡ false
-no_other Unsigned h = refl
-no_other Negative h = refl
-no_other ByteString h = refl
-no_other TextString h = refl
-no_other Array h = refl
-no_other Map h = refl
-no_other Tag h = refl
 no_other Other h = absurd (h refl)
+no_other m h = refl
 
 pub code_small : (m : Major) → code m < 8
 code_small Unsigned = omega arith
-code_small Negative = omega arith
-code_small ByteString = omega arith
-code_small TextString = omega arith
-code_small Array = omega arith
-code_small Map = omega arith
-code_small Tag = omega arith
-code_small Other = omega arith
+code_small m = omega arith
 
 next_free : (y : List ℕ) (m : Major) (w : Width) → is_other m ≡ false → head_reason element_or_end false m (Next w) y ≡ None
-next_free y Unsigned w e = refl
-next_free y Negative w e = refl
-next_free y ByteString w e = refl
-next_free y TextString w e = refl
-next_free y Array w e = refl
-next_free y Map w e = refl
-next_free y Tag w e = refl
 next_free y Other w e = cc
+next_free y m w e = refl
 
 pub direct_front : (x : List ℕ) (m : Major) → AreBytes x → 1 ≤ length x → code m ≡ get_or x 0 0 / 32 → get_or x 0 0 % 32 < 24
     → IsHeadOf x (record { major = code m; argument = Given Direct (get_or x 0 0 % 32) }) 1
@@ -191,10 +163,7 @@ number_first w (a ∷ b ∷ c ∷ d ∷ e ∷ f ∷ g ∷ h ∷ x) n l are says 
   where
     wide : (w : Width) → width_bytes w ≤ length (a ∷ b ∷ c ∷ d ∷ e ∷ f ∷ g ∷ h ∷ x)
     wide Direct = omega arith
-    wide One = omega arith
-    wide Two = omega arith
-    wide Four = omega arith
-    wide Eight = omega arith
+    wide w = omega arith
 
     go : (w : Width) → n ≡ number w (take (width_bytes w) (a ∷ b ∷ c ∷ d ∷ e ∷ f ∷ g ∷ h ∷ [])) → n ≡ number w (take (width_bytes w) (a ∷ b ∷ c ∷ d ∷ e ∷ f ∷ g ∷ h ∷ x))
     go Direct e = e
@@ -202,11 +171,4 @@ number_first w (a ∷ b ∷ c ∷ d ∷ e ∷ f ∷ g ∷ h ∷ x) n l are says 
     go Two e = e
     go Four e = e
     go Eight e = e
-number_first w [] n l are says = absurd (omega arith)
-number_first w (a ∷ []) n l are says = absurd (omega arith)
-number_first w (a ∷ b ∷ []) n l are says = absurd (omega arith)
-number_first w (a ∷ b ∷ c ∷ []) n l are says = absurd (omega arith)
-number_first w (a ∷ b ∷ c ∷ d ∷ []) n l are says = absurd (omega arith)
-number_first w (a ∷ b ∷ c ∷ d ∷ e ∷ []) n l are says = absurd (omega arith)
-number_first w (a ∷ b ∷ c ∷ d ∷ e ∷ f ∷ []) n l are says = absurd (omega arith)
-number_first w (a ∷ b ∷ c ∷ d ∷ e ∷ f ∷ g ∷ []) n l are says = absurd (omega arith)
+number_first w x n l are says = absurd (omega arith)

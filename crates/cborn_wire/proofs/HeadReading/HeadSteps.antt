@@ -26,10 +26,7 @@ take_one (b ∷ x) h = refl
 
 fills : (w : Width) → width_bytes w ≤ 8
 fills Direct = omega arith
-fills One = omega arith
-fills Two = omega arith
-fills Four = omega arith
-fills Eight = omega arith
+fills w = omega arith
 
 -- There is room for one byte more of an argument.
 pub argument_room : (w : Width) (n : ℕ) (bytes : List ℕ) → length bytes ≡ 8 → length (take n bytes) < width_bytes w → n < 8

@@ -113,20 +113,16 @@ more_is ts t = length-append ts (t ∷ [])
 
 pub not_full : (o : Opening) (ts : List Tree) (n : ℕ) → Goes o ts → n ≤ length ts → is_full o n ≡ false
 not_full (an_array p s (Some m)) ts n h up = lt-leb m n (omega (arith, h, up))
-not_full (an_array p s None) ts n h up = refl
 not_full (a_map p s (Some m)) ts n h up = lt-leb m (n / 2) (omega (arith, h, up, pair_count ts))
-not_full (a_map p s None) ts n h up = refl
 not_full (a_tag p w m) ts n h up = lt-leb 1 n (omega (arith, ap length h, up))
-not_full (in_chunks p k) ts n h up = refl
+not_full o ts n h up = refl
 
 -- Before its last node it isn't.
 pub not_yet : (o : Opening) (ts : List Tree) (n : ℕ) → Ends o ts → n < length ts → is_full o n ≡ false
 not_yet (an_array p s (Some m)) ts n h up = lt-leb m n (omega (arith, h, up))
-not_yet (an_array p s None) ts n h up = refl
 not_yet (a_map p s (Some m)) ts n h up = lt-leb m (n / 2) (omega (arith, h.0, up, pair_count ts, even ts h.1))
-not_yet (a_map p s None) ts n h up = refl
 not_yet (a_tag p w m) ts n (t, e) up = lt-leb 1 n (omega (arith, ap length e, up))
-not_yet (in_chunks p k) ts n h up = refl
+not_yet o ts n h up = refl
 
 -- with one more node
 pub goes_on : (o : Opening) (ts : List Tree) (t : Tree) → Goes o ts → Belongs o t → is_full o (length (ts ++ t ∷ [])) ≡ false → Goes o (ts ++ t ∷ [])
@@ -139,30 +135,23 @@ goes_on (in_chunks p k) ts t h is e = strings_push k ts t h is
 
 pub goes_whole : (o : Opening) (ts : List Tree) (t : Tree) → Goes o ts → is_full o (length (ts ++ t ∷ [])) ≡ true → Ends o (ts ++ t ∷ [])
 goes_whole (an_array p s (Some m)) ts t h e = omega (arith, leb-true m (length (ts ++ t ∷ [])) e, h, more_is ts t)
-goes_whole (an_array p s None) ts t h e = cc
 goes_whole (a_map p s (Some m)) ts t h e =
     let all = leb-true m (length (ts ++ t ∷ []) / 2) e in
     (omega (arith, all, h, more_is ts t, pair_count ts, pair_count (ts ++ t ∷ [])), no_key (ts ++ t ∷ []) (omega (arith, all, h, more_is ts t, pair_count ts)))
-goes_whole (a_map p s None) ts t h e = cc
 goes_whole (a_tag p w m) ts t h e = (t, ap (λ us. us ++ t ∷ []) h)
-goes_whole (in_chunks p k) ts t h e = cc
+goes_whole o ts t h e = cc
 
 -- what is full before any node
 pub empty_goes : (o : Opening) → is_full o 0 ≡ false → Goes o []
 empty_goes (an_array p s (Some m)) e = leb-false m 0 e
-empty_goes (an_array p s None) e = tt
 empty_goes (a_map p s (Some m)) e = leb-false m 0 e
-empty_goes (a_map p s None) e = tt
 empty_goes (a_tag p w m) e = refl
-empty_goes (in_chunks p k) e = tt
+empty_goes o e = tt
 
 pub empty_whole : (o : Opening) → is_full o 0 ≡ true → Ends o []
 empty_whole (an_array p s (Some m)) e = omega (arith, leb-true m 0 e)
-empty_whole (an_array p s None) e = cc
 empty_whole (a_map p s (Some m)) e = (omega (arith, leb-true m 0 e), refl)
-empty_whole (a_map p s None) e = cc
-empty_whole (a_tag p w m) e = cc
-empty_whole (in_chunks p k) e = cc
+empty_whole o e = cc
 
 -- What it is when it ends.
 
@@ -181,11 +170,9 @@ closing (in_chunks p k) = ending Endless
 -- none, where it is whole by the number in its head
 pub full_closing : (o : Opening) (n : ℕ) → is_full o n ≡ true → closing o ≡ []
 full_closing (an_array p s (Some m)) n e = refl
-full_closing (an_array p s None) n e = cc
 full_closing (a_map p s (Some m)) n e = refl
-full_closing (a_map p s None) n e = cc
 full_closing (a_tag p w m) n e = refl
-full_closing (in_chunks p k) n e = cc
+full_closing o n e = cc
 
 -- Where it isn't whole by a number, a break ends it.
 pub endless_closing : (o : Opening) (ts : List Tree) → Ends o ts → is_full o (length ts) ≡ false → (closing o ≡ ending Endless) × (needs_item (slot_in (opened o ts)) ≡ false)

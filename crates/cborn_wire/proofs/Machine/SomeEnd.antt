@@ -32,26 +32,12 @@ module _ (limit : ℕ) where
   low_run : (m : Major) (i : Info) (fed : ℕ) (ready : Trees) (os : List OpenContainer) (y : List ℕ) (r : WireReason)
       → cond ((is_other m && is_one i) && begins_low y) (Some BadSimple) None ≡ Some r
       → run limit (begin_head fed ready os m i) y ≡ Failed ready fed r
-  low_run Unsigned i fed ready os y r e = cc
-  low_run Negative i fed ready os y r e = cc
-  low_run ByteString i fed ready os y r e = cc
-  low_run TextString i fed ready os y r e = cc
-  low_run Array i fed ready os y r e = cc
-  low_run Map i fed ready os y r e = cc
-  low_run Tag i fed ready os y r e = cc
-  low_run Other (Now n) fed ready os y r e = cc
-  low_run Other Reserved fed ready os y r e = cc
-  low_run Other EndlessInformation fed ready os y r e = cc
-  low_run Other (Next Direct) fed ready os y r e = cc
-  low_run Other (Next Two) fed ready os y r e = cc
-  low_run Other (Next Four) fed ready os y r e = cc
-  low_run Other (Next Eight) fed ready os y r e = cc
-  low_run Other (Next One) fed ready os [] r e = cc
   low_run Other (Next One) fed ready os (n ∷ y) r e = go (ltb n 32) e
     where
       go : (c : Bool) → cond c (Some BadSimple) None ≡ Some r → run limit (cond c (Failed ready fed BadSimple) (finished (suc (suc fed)) ready os (Simple fed n))) y ≡ Failed ready fed r
       go true e = failed_run limit y ready fed BadSimple ∙ ap (Failed ready fed) (some_is BadSimple r e)
       go false e = cc
+  low_run m i fed ready os y r e = cc
 
   -- What isn't allowed at a slot fails there, for that reason.
   pub refused_run : (y : List ℕ) (fed : ℕ) (ready : Trees) (os : List OpenContainer) (r : WireReason) → front_reason limit (slot os) (open_depth os) y ≡ Some r

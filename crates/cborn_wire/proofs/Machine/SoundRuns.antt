@@ -28,10 +28,7 @@ initial b h = omega (arith, code_at (b / 32) (omega arith))
 
 abbrev pub IsWide : Width → Type 0
 IsWide Direct = ⊥
-IsWide One = Unit {0}
-IsWide Two = Unit {0}
-IsWide Four = Unit {0}
-IsWide Eight = Unit {0}
+IsWide _ = Unit {0}
 
 abbrev pub InfoIs : ℕ → Info → Type 0
 InfoIs i (Now n) = (i ≡ n) × (n < 24)
@@ -72,24 +69,15 @@ again Eight got wide l h = (
 
 pub wide : (w : Width) → 0 < width_bytes w → IsWide w
 wide Direct h = omega arith
-wide One h = tt
-wide Two h = tt
-wide Four h = tt
-wide Eight h = tt
+wide w h = tt
 
 pub wide_info : (w : Width) (n : ℕ) → IsWide w → info_for (Given w n) ≡ Next w
 wide_info Direct n h = absurd h
-wide_info One n h = refl
-wide_info Two n h = refl
-wide_info Four n h = refl
-wide_info Eight n h = refl
+wide_info w n h = refl
 
 pub wide_information : (w : Width) (n : ℕ) → IsWide w → information w n ≡ information w 0
 wide_information Direct n h = absurd h
-wide_information One n h = refl
-wide_information Two n h = refl
-wide_information Four n h = refl
-wide_information Eight n h = refl
+wide_information w n h = refl
 
 pass : (c : Bool) (q : WireReason) (o o' : Option WireReason) (r : WireReason) → cond c (Some q) o ≡ Some r → (o ≡ Some r → o' ≡ Some r) → cond c (Some q) o' ≡ Some r
 pass true q o o' r e f = e
@@ -98,15 +86,9 @@ pass false q o o' r e f = f e
 reason_last : (full one : Bool) (m : Major) (y : List ℕ) (r : WireReason)
     → cond ((is_other m && one) && false) (Some BadSimple) (cond (is_container m && full) (Some TooDeep) None) ≡ Some r
     → cond ((is_other m && one) && begins_low y) (Some BadSimple) (cond (is_container m && full) (Some TooDeep) None) ≡ Some r
-reason_last full one Unsigned y r e = e
-reason_last full one Negative y r e = e
-reason_last full one ByteString y r e = e
-reason_last full one TextString y r e = e
-reason_last full one Array y r e = e
-reason_last full one Map y r e = e
-reason_last full one Tag y r e = e
 reason_last full true Other y r e = cc
 reason_last full false Other y r e = e
+reason_last full one m y r e = e
 
 -- a reason that the initial byte gives stays, whatever follows
 pub reason_stays : (s : Slot) (full : Bool) (m : Major) (i : Info) (y : List ℕ) (r : WireReason) → head_reason s full m i [] ≡ Some r → head_reason s full m i y ≡ Some r

@@ -31,17 +31,15 @@ use Rattle.cborn_wire.proofs.Spelled.TreeLists.{tree_list, trees-tree_list, tree
 -- Which heads are allowed in a slot.
 
 pub no_bad_chunk : (os : List OpenContainer) (m : Major) (i : Info) → IsNoString os → is_bad_chunk (slot os) m i ≡ false
-no_bad_chunk [] m i h = refl
 no_bad_chunk (opened (an_array p s None) ts ∷ os) m i h = refl
-no_bad_chunk (opened (an_array p s (Some n)) ts ∷ os) m i h = refl
 no_bad_chunk (opened (a_map p s c) ts ∷ os) m i h = go c (last_key ts)
   where
     go : (c : Option ℕ) (x : Option Tree) → is_bad_chunk (slot_in_map c x) m i ≡ false
     go c (Some k) = refl
     go (Some n) None = refl
     go None None = refl
-no_bad_chunk (opened (a_tag p w n) ts ∷ os) m i h = refl
 no_bad_chunk (opened (in_chunks p k) ts ∷ os) m i h = absurd h
+no_bad_chunk os m i h = refl
 
 clear : (s : Slot) (full : Bool) (m : Major) (i : Info) → is_bad_chunk s m i ≡ false → is_reserved i ≡ false → (is_endless_head i && is_always_bounded m) ≡ false → is_other m ≡ false → (is_container m && full) ≡ false
     → head_reason s full m i [] ≡ None
@@ -49,17 +47,11 @@ clear s full m i bad reserved bounded other room = rw (reserved, bounded, bad, o
 
 given_reserved : (w : Width) (n : ℕ) → is_reserved (info_for (Given w n)) ≡ false
 given_reserved Direct n = refl
-given_reserved One n = refl
-given_reserved Two n = refl
-given_reserved Four n = refl
-given_reserved Eight n = refl
+given_reserved w n = refl
 
-given_endless : (w : Width) (n : ℕ) → is_endless_head (info_for (Given w n)) ≡ false
+pub given_endless : (w : Width) (n : ℕ) → is_endless_head (info_for (Given w n)) ≡ false
 given_endless Direct n = refl
-given_endless One n = refl
-given_endless Two n = refl
-given_endless Four n = refl
-given_endless Eight n = refl
+given_endless w n = refl
 
 pub clear_given : (s : Slot) (full : Bool) (m : Major) (w : Width) (n : ℕ) → is_bad_chunk s m (info_for (Given w n)) ≡ false → is_other m ≡ false → (is_container m && full) ≡ false → head_reason s full m (info_for (Given w n)) [] ≡ None
 clear_given s full m w n bad other room = clear s full m _ bad (given_reserved w n) (ap (λ b. b && is_always_bounded m) (given_endless w n)) other room
@@ -79,10 +71,8 @@ clear_chunk OfText full w n = rw (given_reserved w n, given_endless w n) refl
 clear_break : (s : Slot) (full : Bool) → needs_item s ≡ false → head_reason s full Other EndlessInformation [] ≡ None
 clear_break item full e = cc
 clear_break value full e = cc
-clear_break element_or_end full e = refl
-clear_break key_or_end full e = refl
 clear_break (chunk OfBytes) full e = refl
-clear_break (chunk OfText) full e = refl
+clear_break s full e = refl
 
 -- A definite string, also as a chunk.
 

@@ -20,18 +20,13 @@ map_slot-from c (k ∷ []) p = refl
 map_slot-from c (k ∷ v ∷ ts) p = map_slot-from c ts _
 
 pub slot-from : (os : List OpenContainer) (p : ℕ) → slot (open_from p os) ≡ slot os
-slot-from [] p = refl
 slot-from (opened (an_array q s None) ts ∷ os) p = refl
-slot-from (opened (an_array q s (Some n)) ts ∷ os) p = refl
 slot-from (opened (a_map q s c) ts ∷ os) p = map_slot-from c ts _
-slot-from (opened (a_tag q w n) ts ∷ os) p = refl
-slot-from (opened (in_chunks q k) ts ∷ os) p = refl
+slot-from os p = refl
 
 added_depth-from : (o : Opening) (p : ℕ) → added_depth (opening_from p o) ≡ added_depth o
 added_depth-from (an_array q s c) p = refl
-added_depth-from (a_map q s c) p = refl
-added_depth-from (a_tag q w n) p = refl
-added_depth-from (in_chunks q k) p = refl
+added_depth-from o p = refl
 
 pub open_depth-from : (os : List OpenContainer) (p : ℕ) → open_depth (open_from p os) ≡ open_depth os
 open_depth-from [] p = refl
@@ -44,9 +39,7 @@ no_string-from (opened o ts ∷ os) p h = tt
 
 full-from : (o : Opening) (p n : ℕ) → is_full (opening_from p o) n ≡ is_full o n
 full-from (an_array q s c) p n = refl
-full-from (a_map q s c) p n = refl
-full-from (a_tag q w m) p n = refl
-full-from (in_chunks q k) p n = refl
+full-from o p n = refl
 
 pub takes_open : (limit : ℕ) (os : List OpenContainer) (fed : ℕ) (ready : Trees) (x : List ℕ) → AreOpen limit os
     → run limit (Live fed ready [] nothing) (beginnings os ++ x) ≡ run limit (Live (fed + length (beginnings os)) ready (open_from fed os) nothing) x

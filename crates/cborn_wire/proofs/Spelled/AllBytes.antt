@@ -19,20 +19,11 @@ use Rattle.cborn_wire.proofs.Machine.TakesItems.{size_fits}
 
 information_below : (w : Width) (n : ℕ) → WidthFits w n → information w n < 32
 information_below Direct n h = omega arith
-information_below One n h = omega arith
-information_below Two n h = omega arith
-information_below Four n h = omega arith
-information_below Eight n h = omega arith
+information_below w n h = omega arith
 
 code_below : (m : Major) → code m < 8
 code_below Unsigned = omega arith
-code_below Negative = omega arith
-code_below ByteString = omega arith
-code_below TextString = omega arith
-code_below Array = omega arith
-code_below Map = omega arith
-code_below Tag = omega arith
-code_below Other = omega arith
+code_below m = omega arith
 
 following_bytes : (w : Width) (n : ℕ) → WidthFits w n → AreBytes (following w n)
 following_bytes Direct n h = tt

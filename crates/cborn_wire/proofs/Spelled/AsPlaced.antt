@@ -25,10 +25,6 @@ spelled_chunks-from m (c ∷ cs) p = ap (λ l. chunk_bytes m c ++ l) (spelled_ch
 
 mutual
   pub spelled-from : (t : Tree) (p : ℕ) → spelled (placed_from p t) ≡ spelled t
-  spelled-from (Uint q w n) p = refl
-  spelled-from (Nint q w n) p = refl
-  spelled-from (Bytes q w bytes) p = refl
-  spelled-from (Text q w bytes) p = refl
   spelled-from (ByteChunks q cs) p = ap (λ l. head ByteString EndlessArgument ++ l ++ ending Endless) (spelled_chunks-from ByteString cs (suc p))
   spelled-from (TextChunks q cs) p = ap (λ l. head TextString EndlessArgument ++ l ++ ending Endless) (spelled_chunks-from TextString cs (suc p))
   spelled-from (Items q s ts) p =
@@ -40,7 +36,7 @@ mutual
       ap (λ n. head Map (argument s n) ++ spelled_entries (entries_from p' es) ++ ending s) (count_entries-from es p')
       ∙ ap (λ l. head Map (argument s (count_entries es)) ++ l ++ ending s) (spelled_entries-from es p')
   spelled-from (Tagged q w n t) p = ap (λ l. head Tag (Given w n) ++ l) (spelled-from t _)
-  spelled-from (Simple q n) p = refl
+  spelled-from t p = refl
 
   pub spelled_all-from : (ts : Trees) (p : ℕ) → spelled_all (all_from p ts) ≡ spelled_all ts
   spelled_all-from no_item p = refl
@@ -57,16 +53,10 @@ mutual
 
 mutual
   pub depth-from : (t : Tree) (p : ℕ) → depth (placed_from p t) ≡ depth t
-  depth-from (Uint q w n) p = refl
-  depth-from (Nint q w n) p = refl
-  depth-from (Bytes q w bytes) p = refl
-  depth-from (Text q w bytes) p = refl
-  depth-from (ByteChunks q cs) p = refl
-  depth-from (TextChunks q cs) p = refl
   depth-from (Items q s ts) p = ap suc (depth_all-from ts _)
   depth-from (Pairs q s es) p = ap suc (depth_entries-from es _)
   depth-from (Tagged q w n t) p = ap suc (depth-from t _)
-  depth-from (Simple q n) p = refl
+  depth-from t p = refl
 
   pub depth_all-from : (ts : Trees) (p : ℕ) → depth_all (all_from p ts) ≡ depth_all ts
   depth_all-from no_item p = refl
@@ -85,16 +75,12 @@ fits_chunks-from m (c ∷ cs) p h = (h.0, fits_chunks-from m cs _ h.1)
 
 mutual
   pub fits-from : (t : Tree) (p : ℕ) → Fits t → Fits (placed_from p t)
-  fits-from (Uint q w n) p h = h
-  fits-from (Nint q w n) p h = h
-  fits-from (Bytes q w bytes) p h = h
-  fits-from (Text q w bytes) p h = h
   fits-from (ByteChunks q cs) p h = fits_chunks-from ByteString cs _ h
   fits-from (TextChunks q cs) p h = fits_chunks-from TextString cs _ h
   fits-from (Items q s ts) p h = (subst (SizeFits s) (sym (count-from ts _)) h.0, fits_all-from ts _ h.1)
   fits-from (Pairs q s es) p h = (subst (SizeFits s) (sym (count_entries-from es _)) h.0, fits_entries-from es _ h.1)
   fits-from (Tagged q w n t) p h = (h.0, fits-from t _ h.1)
-  fits-from (Simple q n) p h = h
+  fits-from t p h = h
 
   pub fits_all-from : (ts : Trees) (p : ℕ) → FitsAll ts → FitsAll (all_from p ts)
   fits_all-from no_item p h = tt
@@ -110,10 +96,6 @@ chunks_placed-from m (c ∷ cs) p = (refl, chunks_placed-from m cs _)
 
 mutual
   pub placed-from : (t : Tree) (p : ℕ) → Placed p (placed_from p t)
-  placed-from (Uint q w n) p = refl
-  placed-from (Nint q w n) p = refl
-  placed-from (Bytes q w bytes) p = refl
-  placed-from (Text q w bytes) p = refl
   placed-from (ByteChunks q cs) p = (refl, chunks_placed-from ByteString cs _)
   placed-from (TextChunks q cs) p = (refl, chunks_placed-from TextString cs _)
   placed-from (Items q s ts) p =
@@ -123,7 +105,7 @@ mutual
       let p' = p + length (head Map (argument s (count_entries es))) in
       (refl, subst (λ n. PlacedEntries (p + length (head Map (argument s n))) (entries_from p' es)) (sym (count_entries-from es p')) (placed_entries-from es p'))
   placed-from (Tagged q w n t) p = (refl, placed-from t _)
-  placed-from (Simple q n) p = refl
+  placed-from t p = refl
 
   pub placed_all-from : (ts : Trees) (p : ℕ) → PlacedAll p (all_from p ts)
   placed_all-from no_item p = tt

@@ -76,11 +76,8 @@ counted n k j kind below e =
     ap (λ m. cond (leb n m) None (Some (kind m))) (next_highest k j e) ∙ ap (λ b. cond b None (Some (kind (at_most_highest j)))) (all_same n j below)
 
 small : (w : Width) (n : ℕ) → WidthFits w n → n < 2 ^ 64
-small Direct n h = omega arith
-small One n h = omega arith
-small Two n h = omega arith
-small Four n h = omega arith
 small Eight n h = h
+small w n h = omega arith
 
 -- The level of a container with one more node: none, if it is whole.
 
@@ -143,7 +140,6 @@ none_of false k e = cc
 
 may_end_slot : (o : Opening) (ts : List Tree) → may_end (kind_in o ts) ≡ not (needs_item (slot_in (opened o ts)))
 may_end_slot (an_array p s None) ts = refl
-may_end_slot (an_array p s (Some n)) ts = refl
 may_end_slot (a_map p s c) ts = go c (last_key ts)
   where
     go : (c : Option ℕ) (x : Option Tree) → may_end (map_kind c (at_most_highest (length (paired ts))) x) ≡ not (needs_item (slot_in_map c x))
@@ -151,8 +147,7 @@ may_end_slot (a_map p s c) ts = go c (last_key ts)
     go None (Some k) = refl
     go (Some n) None = refl
     go (Some n) (Some k) = refl
-may_end_slot (a_tag p w n) ts = refl
-may_end_slot (in_chunks p k) ts = refl
+may_end_slot o ts = refl
 
 not_is : (b c : Bool) → not b ≡ not c → b ≡ c
 not_is true true e = refl

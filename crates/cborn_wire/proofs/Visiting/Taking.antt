@@ -24,6 +24,7 @@ use Rattle.cborn_wire.specs.shared.Ground.{place_of}
 use Rattle.cborn_wire.specs.shared.Machine.{width_bytes, argument_of, content_of, nothing, gathering, State, Live, start, begin_head, unless, finished, run}
 use Rattle.cborn_wire.specs.shared.Visiting.{ready, open_in, state, at_most_highest, map_kind, kind_in, levels, Keeps, Takes, slot_of, Missing, Stands, FailsAs, HereAt, OpenIn}
 use Rattle.cborn_wire.proofs.Machine.Reached.{depth_is_length}
+use Rattle.cborn_wire.proofs.Machine.TakesItems.{given_endless}
 use Rattle.cborn_wire.proofs.Machine.Pieces.{major_of_head, info_of_head, content_more, content_done}
 use Rattle.cborn_wire.proofs.Machine.SoundSteps.{is_clear, free_of, other_kind, open_string, shallow_open}
 use Rattle.cborn_wire.proofs.Machine.Running.{run-append, failed_run}
@@ -67,14 +68,10 @@ stands_here holds outer l left at h s u none is stands = subst (λ o. HereAt hol
 
 plain_same : (s : Slot) (full : Bool) (m : Major) (i : Info) → head_reason (plain s) full m i [] ≡ head_reason s full m i []
 plain_same item full m i = refl
-plain_same value full m i = refl
-plain_same element_or_end full m i = refl
-plain_same key_or_end full m i = refl
-plain_same (chunk k) full m i = refl
+plain_same s full m i = refl
 
 level_slot : (o : Opening) (ts : List Tree) → slot_of (kind_in o ts) ≡ plain (slot_in (opened o ts))
 level_slot (an_array p s None) ts = refl
-level_slot (an_array p s (Some n)) ts = refl
 level_slot (a_map p s c) ts = go c (last_key ts)
   where
     go : (c : Option ℕ) (x : Option Tree) → slot_of (map_kind c (at_most_highest (length (paired ts))) x) ≡ plain (slot_in_map c x)
@@ -82,8 +79,7 @@ level_slot (a_map p s c) ts = go c (last_key ts)
     go None (Some k) = refl
     go (Some n) None = refl
     go (Some n) (Some k) = refl
-level_slot (a_tag p w n) ts = refl
-level_slot (in_chunks p k) ts = refl
+level_slot o ts = refl
 
 top_slot : (f : Partial) (ls : List Level) (l : Level) → levels f ≡ ls ++ l ∷ [] → slot_of l.kind ≡ plain (slot (open_in f))
 top_slot (top ts) ls l e = ap (λ (m : Level). slot_of m.kind) (sym (last_same [] ls e).1)
@@ -98,17 +94,10 @@ outer_count f ls l e = omega (arith, level_count f, ap length e, length-append l
 
 -- in an indefinite string the depth says nothing
 chunk_reason : (k : StringKind) (m : Major) (i : Info) (f g : Bool) → head_reason (chunk k) f m i [] ≡ head_reason (chunk k) g m i []
-chunk_reason k Unsigned i f g = refl
-chunk_reason k Negative i f g = refl
-chunk_reason k ByteString i f g = refl
-chunk_reason k TextString i f g = refl
-chunk_reason OfBytes majors.Array i f g = refl
-chunk_reason OfText majors.Array i f g = refl
-chunk_reason OfBytes majors.Map i f g = refl
-chunk_reason OfText majors.Map i f g = refl
-chunk_reason OfBytes majors.Tag i f g = refl
-chunk_reason OfText majors.Tag i f g = refl
-chunk_reason k Other i f g = refl
+chunk_reason OfBytes Unsigned i f g = refl
+chunk_reason OfText Unsigned i f g = refl
+chunk_reason OfBytes m i f g = refl
+chunk_reason OfText m i f g = refl
 
 any_depth : (os : List OpenContainer) (limit j : ℕ) (m : Major) (i : Info) → (IsNoString os → j ≡ open_depth os) → head_reason (slot os) (leb limit j) m i [] ≡ head_reason (slot os) (leb limit (open_depth os)) m i []
 any_depth [] limit j m i e = ap (λ n. head_reason item (leb limit n) m i []) (e tt)
@@ -163,14 +152,7 @@ module _ (f : Partial) (full : Bool) where
   head_next majors.Array a e = no_string majors.Array a (other_kind majors.Array refl refl) refl e
   head_next majors.Map a e = no_string majors.Map a (other_kind majors.Map refl refl) refl e
   head_next majors.Tag a e = no_string majors.Tag a (other_kind majors.Tag refl refl) refl e
-  head_next Other (Given w n) e = no_string Other (Given w n) (other_kind Other refl refl) (no_break w n) e
-    where
-      no_break : (w : Width) (n : ℕ) → is_break Other (info_for (Given w n)) ≡ false
-      no_break Direct n = refl
-      no_break One n = refl
-      no_break Two n = refl
-      no_break Four n = refl
-      no_break Eight n = refl
+  head_next Other (Given w n) e = no_string Other (Given w n) (other_kind Other refl refl) (given_endless w n) e
   head_next Other EndlessArgument e = tt
 
   pub first_next : (piece : List ℕ) (h : Head) (n : ℕ) → IsHeadOf piece h n → 0 < length piece → None ≡ head_reason (slot (open_in f)) full (major_at (get_or piece 0 0 / 32)) (info_at (get_or piece 0 0 % 32)) []
@@ -183,21 +165,12 @@ module _ (f : Partial) (full : Bool) where
 
   pub short_next : (m : Major) (i : Info) (w : Width) → i ≡ Next w → 0 < width_bytes w → None ≡ head_reason (slot (open_in f)) full m i [] → Takes f m (Given w 0)
   short_next m i Direct is some e = absurd (omega (arith, some))
-  short_next m i One is some e = head_next m (Given One 0) (ap (λ j. head_reason (slot (open_in f)) full m j []) (sym is) ∙ sym e)
-  short_next m i Two is some e = head_next m (Given Two 0) (ap (λ j. head_reason (slot (open_in f)) full m j []) (sym is) ∙ sym e)
-  short_next m i Four is some e = head_next m (Given Four 0) (ap (λ j. head_reason (slot (open_in f)) full m j []) (sym is) ∙ sym e)
-  short_next m i Eight is some e = head_next m (Given Eight 0) (ap (λ j. head_reason (slot (open_in f)) full m j []) (sym is) ∙ sym e)
+  short_next m i w is some e = head_next m (Given w 0) (ap (λ j. head_reason (slot (open_in f)) full m j []) (sym is) ∙ sym e)
 
 -- of which argument that is doesn't matter
 pub any_argument : (f : Partial) (m : Major) (w : Width) (n k : ℕ) → Takes f m (Given w n) → Takes f m (Given w k)
 any_argument f Unsigned w n k h = h
-any_argument f Negative w n k h = h
-any_argument f ByteString w n k h = h
-any_argument f TextString w n k h = h
-any_argument f majors.Array w n k h = h
-any_argument f majors.Map w n k h = h
-any_argument f majors.Tag w n k h = h
-any_argument f Other w n k h = h
+any_argument f m w n k h = h
 
 -- the initial byte of a head that ends after the piece
 pub short_taken : (limit at : ℕ) (rd : Trees) (os : List OpenContainer) (piece : List ℕ) (w : Width) → 0 < length piece → info_at (get_or piece 0 0 % 32) ≡ Next w
@@ -211,17 +184,11 @@ short_taken limit at rd os (b ∷ y) w some info none =
   where
     some_bytes : (w : Width) → IsWide w → 0 < width_bytes w
     some_bytes Direct h = absurd h
-    some_bytes One h = omega arith
-    some_bytes Two h = omega arith
-    some_bytes Four h = omega arith
-    some_bytes Eight h = omega arith
+    some_bytes w h = omega arith
 
     gathers : (m : Major) (w : Width) → IsWide w → begin_head at rd os m (Next w) ≡ Live (at + 1) rd os (gathering at (argument_of m w) (width_bytes w) [])
     gathers m Direct h = absurd h
-    gathers m One h = ap (λ k. Live k rd os (gathering at (argument_of m One) 1 [])) (sym (add-one at))
-    gathers m Two h = ap (λ k. Live k rd os (gathering at (argument_of m Two) 2 [])) (sym (add-one at))
-    gathers m Four h = ap (λ k. Live k rd os (gathering at (argument_of m Four) 4 [])) (sym (add-one at))
-    gathers m Eight h = ap (λ k. Live k rd os (gathering at (argument_of m Eight) 8 [])) (sym (add-one at))
+    gathers m w h = ap (λ k. Live k rd os (gathering at (argument_of m w) (width_bytes w) [])) (sym (add-one at))
 
 -- what fails on a front of the piece fails on it
 pub fails_on : (limit : ℕ) (s u : State) (ts : Trees) (n : ℕ) (piece : List ℕ) (e : WireFault) → run limit s (take n piece) ≡ u → FailsAs ts u e → FailsAs ts (run limit s piece) e
