@@ -107,10 +107,8 @@ no_head [] h = record { major = Unsigned; argument = heads.Given Direct 0; missi
 no_head (b ∷ x) h = absurd (omega arith)
 
 endless_information_is : (i : Info) → is_endless_head i ≡ true → i ≡ EndlessInformation
-endless_information_is (Now n) e = cc
-endless_information_is (Next w) e = cc
-endless_information_is Reserved e = cc
 endless_information_is EndlessInformation e = refl
+endless_information_is i e = cc
 
 no_other : (m : Major) → (m ≡ Other → ⊥) → is_other (major_at (code m)) ≡ false
 no_other Other h = absurd (h refl)

@@ -209,27 +209,21 @@ sized Endless None n fits all = record { size = refl; says = refl; end = refl; f
 sized (Fixed w) None n fits all = absurd fits
 sized Endless (Some m) n fits all = absurd fits
 
-chunked_spelled : (p : ℕ) (k : StringKind) (ts : List Tree) → AreStrings k ts → spelled (built (in_chunks p k) ts) ≡ opening (in_chunks p k) ++ spelled_all (trees ts) ++ ending Endless
-chunked_spelled p OfBytes ts h = ap (λ x. head (major_of OfBytes) EndlessArgument ++ x ++ ending Endless) (chunks_spelled OfBytes ts h)
-chunked_spelled p OfText ts h = ap (λ x. head (major_of OfText) EndlessArgument ++ x ++ ending Endless) (chunks_spelled OfText ts h)
-
 pub built_spelled : (o : Opening) (ts : List Tree) → HeadFits o → Ends o ts → spelled (built o ts) ≡ opening o ++ spelled_all (trees ts) ++ closing o
 built_spelled (an_array p s c) ts fits h = let z = sized s c (length ts) fits h in rw (z.size, count-trees ts, z.says, z.end) refl
 built_spelled (a_map p s c) ts fits h = let z = sized s c (length (paired ts)) fits h.0 in rw (z.size, count_entries-entries (paired ts), z.says, z.end, pairs_spelled ts h.1) refl
 built_spelled (a_tag p w n) ts fits (t, e) =
     let start = head Tag (Given w n) in
     subst (λ us. spelled (built (a_tag p w n) us) ≡ start ++ spelled_all (trees us) ++ []) (sym e) (ap (λ x. start ++ x) (sym (append-nil (spelled t))) ∙ sym (append-nil (start ++ (spelled t ++ []))))
-built_spelled (in_chunks p k) ts fits h = chunked_spelled p k ts h
-
-chunked_fits : (p : ℕ) (k : StringKind) (ts : List Tree) → AreStrings k ts → FitsAll (trees ts) → Fits (built (in_chunks p k) ts)
-chunked_fits p OfBytes ts h fits = strings_fit OfBytes (chunks_of ts) (subst (λ us. FitsAll (trees us)) (sym (strings_are OfBytes ts h)) fits)
-chunked_fits p OfText ts h fits = strings_fit OfText (chunks_of ts) (subst (λ us. FitsAll (trees us)) (sym (strings_are OfText ts h)) fits)
+built_spelled (in_chunks p OfBytes) ts fits h = ap (λ x. head (major_of OfBytes) EndlessArgument ++ x ++ ending Endless) (chunks_spelled OfBytes ts h)
+built_spelled (in_chunks p OfText) ts fits h = ap (λ x. head (major_of OfText) EndlessArgument ++ x ++ ending Endless) (chunks_spelled OfText ts h)
 
 pub built_fits : (o : Opening) (ts : List Tree) → HeadFits o → Ends o ts → FitsAll (trees ts) → Fits (built o ts)
 built_fits (an_array p s c) ts fits h all = let z = sized s c (length ts) fits h in rw (z.size, count-trees ts) (z.fits, all)
 built_fits (a_map p s c) ts fits h all = let z = sized s c (length (paired ts)) fits h.0 in rw (z.size, count_entries-entries (paired ts)) (z.fits, pairs_fit ts all)
 built_fits (a_tag p w n) ts fits (t, e) all = subst (λ us. Fits (built (a_tag p w n) us)) (sym e) (fits, (subst (λ us. FitsAll (trees us)) e all).0)
-built_fits (in_chunks p k) ts fits h all = chunked_fits p k ts h all
+built_fits (in_chunks p OfBytes) ts fits h all = strings_fit OfBytes (chunks_of ts) (subst (λ us. FitsAll (trees us)) (sym (strings_are OfBytes ts h)) all)
+built_fits (in_chunks p OfText) ts fits h all = strings_fit OfText (chunks_of ts) (subst (λ us. FitsAll (trees us)) (sym (strings_are OfText ts h)) all)
 
 pub built_deep : (o : Opening) (ts : List Tree) → Ends o ts → depth (built o ts) ≤ added_depth o + depth_all (trees ts)
 built_deep (an_array p s c) ts h = omega arith
@@ -238,18 +232,15 @@ built_deep (a_tag p w n) ts (t, e) = subst (λ us. depth (built (a_tag p w n) us
 built_deep (in_chunks p OfBytes) ts h = omega arith
 built_deep (in_chunks p OfText) ts h = omega arith
 
-chunked_placed : (q : ℕ) (k : StringKind) (ts : List Tree) (p : ℕ) → AreStrings k ts → q ≡ p → PlacedAll (p + 1) (trees ts) → Placed p (built (in_chunks q k) ts)
-chunked_placed q k ts p h at all = go k (strings_placed k (chunks_of ts) (suc p) (subst (λ us. PlacedAll (suc p) (trees us)) (sym (strings_are k ts h)) (subst (λ n. PlacedAll n (trees ts)) (add-one p) all)))
-  where
-    go : (k : StringKind) → ChunksPlaced (major_of k) (suc p) (chunks_of ts) → Placed p (built (in_chunks q k) ts)
-    go OfBytes h = (at, h)
-    go OfText h = (at, h)
+chunks_there : (k : StringKind) (ts : List Tree) (p : ℕ) → AreStrings k ts → PlacedAll (p + 1) (trees ts) → ChunksPlaced (major_of k) (suc p) (chunks_of ts)
+chunks_there k ts p h all = strings_placed k (chunks_of ts) (suc p) (subst (λ us. PlacedAll (suc p) (trees us)) (sym (strings_are k ts h)) (subst (λ n. PlacedAll n (trees ts)) (add-one p) all))
 
 pub built_placed : (o : Opening) (ts : List Tree) (p : ℕ) → HeadFits o → Ends o ts → place_of o ≡ p → PlacedAll (p + length (opening o)) (trees ts) → Placed p (built o ts)
 built_placed (an_array q s c) ts p fits h at all = let z = sized s c (length ts) fits h in rw (z.size, count-trees ts, z.says) (at, all)
 built_placed (a_map q s c) ts p fits h at all = let z = sized s c (length (paired ts)) fits h.0 in rw (z.size, count_entries-entries (paired ts), z.says) (at, pairs_placed ts _ all)
 built_placed (a_tag q w n) ts p fits (t, e) at all = subst (λ us. Placed p (built (a_tag q w n) us)) (sym e) (at, (subst (λ us. PlacedAll (p + length (head Tag (Given w n))) (trees us)) e all).0)
-built_placed (in_chunks q k) ts p fits h at all = chunked_placed q k ts p h at all
+built_placed (in_chunks q OfBytes) ts p fits h at all = (at, chunks_there OfBytes ts p h all)
+built_placed (in_chunks q OfText) ts p fits h at all = (at, chunks_there OfText ts p h all)
 
 -- What nodes are one after another in it, from an offset on.
 
@@ -301,6 +292,10 @@ ends_from (a_map q s c) ts p h = (subst (IsAll c) (sym (list_pairs ts p)) h.0, n
 ends_from (a_tag q w n) ts p (t, e) = (placed_from p t, ap (list_from p) e)
 ends_from (in_chunks q k) ts p h = strings_stay k ts p h
 
+list_chunks : (k : StringKind) (ts : List Tree) (p : ℕ) → AreStrings k ts → chunks_of (list_from (p + 1) ts) ≡ chunks_from (major_of k) (suc p) (chunks_of ts)
+list_chunks k ts p h =
+    ap chunks_of (list_strings k ts (p + 1) h) ∙ chunks_same k (chunks_from (major_of k) (p + 1) (chunks_of ts)) ∙ ap (λ n. chunks_from (major_of k) n (chunks_of ts)) (add-one p)
+
 pub built_from : (o : Opening) (ts : List Tree) (p : ℕ) → HeadFits o → Ends o ts → built (opening_from p o) (list_from (p + length (opening o)) ts) ≡ placed_from p (built o ts)
 built_from (an_array q s c) ts p fits h =
     let z = sized s c (length ts) fits h in
@@ -311,12 +306,8 @@ built_from (a_map q s c) ts p fits h =
     let r = p + length (head Map (announced s c)) in
     rw (list_pairs ts r, z.size, list_entries ts r, count_entries-entries (paired ts), z.says) refl
 built_from (a_tag q w n) ts p fits (t, e) = subst (λ us. built (a_tag p w n) (list_from (p + length (head Tag (Given w n))) us) ≡ placed_from p (built (a_tag q w n) us)) (sym e) refl
-built_from (in_chunks q k) ts p fits h = chunked_from k
-    (ap chunks_of (list_strings k ts (p + 1) h) ∙ chunks_same k (chunks_from (major_of k) (p + 1) (chunks_of ts)) ∙ ap (λ n. chunks_from (major_of k) n (chunks_of ts)) (add-one p))
-  where
-    chunked_from : (k : StringKind) → chunks_of (list_from (p + 1) ts) ≡ chunks_from (major_of k) (suc p) (chunks_of ts) → built (in_chunks p k) (list_from (p + 1) ts) ≡ placed_from p (built (in_chunks q k) ts)
-    chunked_from OfBytes e = ap (ByteChunks p) e
-    chunked_from OfText e = ap (TextChunks p) e
+built_from (in_chunks q OfBytes) ts p fits h = ap (ByteChunks p) (list_chunks OfBytes ts p h)
+built_from (in_chunks q OfText) ts p fits h = ap (TextChunks p) (list_chunks OfText ts p h)
 
 -- The nodes in a container that is whole.
 

@@ -38,15 +38,8 @@ module _ (ready : Trees) where
   one_more_head TextString (Given w n) os fed p = one_more_content os fed p OfText w n []
   one_more_head Array a os fed p = one_more_opened os fed (an_array p (size_in a) (count_in a))
   one_more_head Map a os fed p = one_more_opened os fed (a_map p (size_in a) (count_in a))
-  one_more_head Tag (Given w n) os fed p = inl refl
   one_more_head Other (Given Direct n) os fed p = one_more_finished os fed _
   one_more_head Other (Given One n) os fed p = one_more_if ready (ltb n 32) (inl refl) (one_more_finished os fed _)
-  one_more_head Other (Given Two n) os fed p = inl refl
-  one_more_head Other (Given Four n) os fed p = inl refl
-  one_more_head Other (Given Eight n) os fed p = inl refl
   one_more_head Other EndlessArgument os fed p = one_more_ended os fed
-  one_more_head Unsigned EndlessArgument os fed p = inl refl
-  one_more_head Negative EndlessArgument os fed p = inl refl
-  one_more_head ByteString EndlessArgument os fed p = inl refl
-  one_more_head TextString EndlessArgument os fed p = inl refl
-  one_more_head Tag EndlessArgument os fed p = inl refl
+  one_more_head Tag (Given w n) os fed p = inl refl
+  one_more_head m a os fed p = inl refl

@@ -154,9 +154,7 @@ module _ (limit : ℕ) where
   closes_head Tag w n os fed p ready h c high = closes_opening os fed ready (a_tag p w n) h
   closes_head Other Direct n os fed p ready h c high = closes_finished os fed ready _ h
   closes_head Other One n os fed p ready h c high = subst (λ b. Closable (cond b (Failed ready p BadSimple) (finished fed ready os (Simple p n)))) (sym (le-ltb n 32 high)) (closes_finished os fed ready (Simple p n) h)
-  closes_head Other Two n os fed p ready h c high = let e : true ≡ false = c.float in cc
-  closes_head Other Four n os fed p ready h c high = let e : true ≡ false = c.float in cc
-  closes_head Other Eight n os fed p ready h c high = let e : true ≡ false = c.float in cc
+  closes_head Other w n os fed p ready h c high = let e : true ≡ false = c.float in cc
 
 number_last : (w : Width) (g : List ℕ) (c : ℕ) → 32 ≤ c → suc (length g) ≡ width_bytes w → 32 ≤ number w (g ++ c ∷ [])
 number_last Direct g c high l = absurd (omega arith)

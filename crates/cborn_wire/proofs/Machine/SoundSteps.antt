@@ -161,9 +161,5 @@ module _ (limit base : ℕ) (ready : Trees) (os : List OpenContainer) (fed p : �
           sound_leaf (Simple p n) (accepted os _ (free_of os Other _ c.chunked (other_kind Other refl refl) refl)) (simple_value n (inr (high, fits))) refl placed
           (is ∙ ap (λ w. front ready os ++ head Other (Given w n)) (sym (least_one n (omega arith) fits)))
   sound_head Other EndlessArgument c fits is = sound_ended limit base ready os fed x g at c.broken is
-  sound_head Other (Given Two n) c fits is = let e : true ≡ false = c.float in cc
-  sound_head Other (Given Four n) c fits is = let e : true ≡ false = c.float in cc
-  sound_head Other (Given Eight n) c fits is = let e : true ≡ false = c.float in cc
-  sound_head Unsigned EndlessArgument c fits is = let e : true ≡ false = c.bounded in cc
-  sound_head Negative EndlessArgument c fits is = let e : true ≡ false = c.bounded in cc
-  sound_head Tag EndlessArgument c fits is = let e : true ≡ false = c.bounded in cc
+  sound_head Other (Given w n) c fits is = let e : true ≡ false = c.float in cc
+  sound_head m EndlessArgument c fits is = let e : true ≡ false = c.bounded in cc

@@ -48,18 +48,11 @@ module _ (front : Trees) where
   front_head TextString (Given w n) os fed p ready = front_content os fed p ready OfText w n []
   front_head Array a os fed p ready = front_opened os fed ready (an_array p (size_in a) (count_in a))
   front_head Map a os fed p ready = front_opened os fed ready (a_map p (size_in a) (count_in a))
-  front_head Tag (Given w n) os fed p ready = refl
   front_head Other (Given Direct n) os fed p ready = front_finished os fed ready _
   front_head Other (Given One n) os fed p ready = either front (ltb n 32) _ _ _ _ refl (front_finished os fed ready _)
-  front_head Other (Given Two n) os fed p ready = refl
-  front_head Other (Given Four n) os fed p ready = refl
-  front_head Other (Given Eight n) os fed p ready = refl
   front_head Other EndlessArgument os fed p ready = front_ended os fed ready
-  front_head Unsigned EndlessArgument os fed p ready = refl
-  front_head Negative EndlessArgument os fed p ready = refl
-  front_head ByteString EndlessArgument os fed p ready = refl
-  front_head TextString EndlessArgument os fed p ready = refl
-  front_head Tag EndlessArgument os fed p ready = refl
+  front_head Tag (Given w n) os fed p ready = refl
+  front_head m a os fed p ready = refl
 
   front_gather : (g : Goal) (os : List OpenContainer) (fed p : ℕ) (ready : Trees) (n : ℕ) (got : List ℕ) → gather fed p (append_trees front ready) os g n got ≡ with_front front (gather fed p ready os g n got)
   front_gather (argument_of m w) os fed p ready n got = either front (leb n (length got)) _ _ _ _ (front_head m (Given w (number w got)) os fed p ready) refl

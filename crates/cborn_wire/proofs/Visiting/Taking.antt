@@ -147,13 +147,9 @@ module _ (f : Partial) (full : Bool) where
   head_next TextString (Given w n) e = string_next f OfText (info_for (Given w n)) (allowed TextString (Given w n) e)
   head_next ByteString EndlessArgument e = item_next f (open_string (open_in f) OfBytes (allowed ByteString EndlessArgument e))
   head_next TextString EndlessArgument e = item_next f (open_string (open_in f) OfText (allowed TextString EndlessArgument e))
-  head_next Unsigned a e = no_string Unsigned a (other_kind Unsigned refl refl) refl e
-  head_next Negative a e = no_string Negative a (other_kind Negative refl refl) refl e
-  head_next majors.Array a e = no_string majors.Array a (other_kind majors.Array refl refl) refl e
-  head_next majors.Map a e = no_string majors.Map a (other_kind majors.Map refl refl) refl e
-  head_next majors.Tag a e = no_string majors.Tag a (other_kind majors.Tag refl refl) refl e
   head_next Other (Given w n) e = no_string Other (Given w n) (other_kind Other refl refl) (given_endless w n) e
   head_next Other EndlessArgument e = tt
+  head_next m a e = no_string m a (other_kind m refl refl) refl e
 
   pub first_next : (piece : List ℕ) (h : Head) (n : ℕ) → IsHeadOf piece h n → 0 < length piece → None ≡ head_reason (slot (open_in f)) full (major_at (get_or piece 0 0 / 32)) (info_at (get_or piece 0 0 % 32)) []
       → Takes f (major_at h.major) (seen_argument h.argument)
