@@ -1,8 +1,8 @@
 -- The table of faults says the same by numbers as by the major type and the information as data.
-use Rattle.std.proofs.Common.{◌≡◌, refl, ap, ◌∙◌, ℕ, zero, suc, ◌/◌, ◌%◌, ◌<◌, List, [], ◌∷◌, Bool, false, ◌&&◌, ◌||◌, leb, eqb, arith}
+use Rattle.std.proofs.Common.{◌≡◌, refl, ap, ◌∙◌, ℕ, suc, ◌/◌, ◌%◌, ◌<◌, List, [], ◌∷◌, Bool, false, ◌&&◌, ◌||◌, leb, eqb, arith}
 use Rattle.std.proofs.lemmas.Bool.{le-leb, lt-leb, ne_eqb, agree_below_at}
 use Rattle.cborn_model.specs.Heads.{code}
-use Rattle.cborn_wire.specs.Slots.{StringKind, OfBytes, OfText, major_of, Slot, item, value, element_or_end, key_or_end, chunk}
+use Rattle.cborn_wire.specs.Slots.{StringKind, OfBytes, OfText, major_of, Slot, element_or_end, chunk}
 use Rattle.cborn_wire.specs.SlotFaults as numbers
 use Rattle.cborn_wire.specs.SlotFaults.{reason_of, reason_at}
 use Rattle.cborn_wire.specs.HeadReading.{major_at, reason_alone}

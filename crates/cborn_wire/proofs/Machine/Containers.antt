@@ -1,17 +1,16 @@
 -- A container and the nodes in it: when more may come, when it is whole, and what it is then.
-use Rattle.std.proofs.Common.{◌≡◌, refl, sym, ap, ◌∙◌, subst, ℕ, suc, ◌+◌, ◌/◌, ◌%◌, ◌<◌, ◌≤◌, List, [], ◌∷◌, ◌++◌, length, map, Bool, true, false, leb, Option, Some, None, arith, append_assoc, append-nil, length-append, add-one}
-use Rattle.std.proofs.lemmas.Bool.{leb-true, leb-false, le-leb, lt-leb}
+use Rattle.std.proofs.Common.{◌≡◌, refl, sym, ap, ◌∙◌, subst, ℕ, suc, ◌+◌, ◌/◌, ◌%◌, ◌<◌, ◌≤◌, List, [], ◌∷◌, ◌++◌, length, map, true, false, Option, Some, None, arith, append_assoc, append-nil, length-append, add-one}
+use Rattle.std.proofs.lemmas.Bool.{leb-true, leb-false, lt-leb}
 use Rattle.std.specs.List.{flat_map}
 use Rattle.cborn_model.specs.declared.heads.Size.{Size}
 use Rattle.cborn_model.specs.declared.heads.Size.TheVariants.{Fixed, Endless}
-use Rattle.cborn_model.specs.declared.heads.Width.{Width}
 use Rattle.cborn_model.specs.declared.heads.Major.TheVariants.{Array, Map, Tag}
 use Rattle.cborn_model.specs.declared.nodes.Chunk.{Chunk}
 use Rattle.cborn_model.specs.Heads.{WidthFits, Given, EndlessArgument, head, argument, SizeFits}
-use Rattle.cborn_model.specs.Tree.{Tree, Bytes, Text, ByteChunks, TextChunks, Items, Pairs, Tagged, more, Entries, no_entry, entry, trees, entries, count_entries, depth, depth_all, depth_entries}
+use Rattle.cborn_model.specs.Tree.{Tree, Bytes, Text, ByteChunks, TextChunks, more, Entries, no_entry, entry, trees, entries, count_entries, depth, depth_all, depth_entries}
 use Rattle.cborn_model.specs.Spelled.{ending, chunk_bytes, spelled, spelled_all, spelled_entries, ChunksFit, Fits, FitsAll, FitsEntries}
 use Rattle.cborn_model.specs.Placed.{ChunksPlaced, Placed, PlacedAll, PlacedEntries}
-use Rattle.cborn_model.specs.Partial.{Opening, an_array, a_map, a_tag, in_chunks, paired, last_key, last_of, chunk_of, chunks_of, built, string_tree, ended_size, IsAll, IsString, AreStrings, Goes, Ends}
+use Rattle.cborn_model.specs.Partial.{Opening, an_array, a_map, a_tag, in_chunks, paired, last_key, chunk_of, chunks_of, built, ended_size, IsAll, IsString, AreStrings, Goes, Ends}
 use Rattle.cborn_model.proofs.Listed.Trees.{count-trees, count_entries-entries}
 use Rattle.cborn_wire.specs.Slots.{StringKind, OfBytes, OfText, major_of, opened, announced, opening, slot_in, slot_in_map, added_depth, Announces, HeadFits}
 use Rattle.cborn_wire.specs.SlotFaults.{needs_item}

@@ -1,7 +1,7 @@
 -- Where an item becomes complete nothing is left open, so a reader of one item may stop there.
 use Rattle.std.proofs.Common.{refl, ℕ, List, [], ◌∷◌, ◌++◌, length, Bool, true, false, cond, ltb, leb, inl, inr}
 use Rattle.cborn_model.specs.declared.heads.Width.{Width}
-use Rattle.cborn_model.specs.declared.heads.Width.TheVariants.{Direct, One, Two, Four, Eight}
+use Rattle.cborn_model.specs.declared.heads.Width.TheVariants.{Direct, One}
 use Rattle.cborn_model.specs.declared.heads.Major.{Major}
 use Rattle.cborn_model.specs.declared.heads.Major.TheVariants.{Unsigned, Negative, ByteString, TextString, Array, Map, Tag, Other}
 use Rattle.cborn_model.specs.Heads.{Argument, Given, EndlessArgument}

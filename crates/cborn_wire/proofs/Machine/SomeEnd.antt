@@ -15,7 +15,7 @@ use Rattle.cborn_wire.specs.declared.faults.WireReason.TheVariants.{BadSimple}
 use Rattle.cborn_wire.specs.Slots.{StringKind, OfBytes, OfText, Slot, OpenContainer, opened, slot, slot_in, slot_in_map, open_depth, AreOpen}
 use Rattle.cborn_wire.specs.SlotFaults.{needs_item, begins_low}
 use Rattle.cborn_wire.specs.HeadReading.{major_at}
-use Rattle.cborn_wire.specs.shared.InitialBytes.{Info, Now, Next, Reserved, EndlessInformation, info_at, is_other, is_one, is_bad_chunk, head_reason, front_reason, info_for}
+use Rattle.cborn_wire.specs.shared.InitialBytes.{Info, Now, Next, info_at, is_other, is_one, is_bad_chunk, head_reason, front_reason, info_for}
 use Rattle.cborn_wire.specs.shared.Machine.{snoc, width_bytes, number, Goal, argument_of, content_of, Unfinished, nothing, gathering, State, Live, Failed, is_full, finished, holding, gather, begin_head, after_head, unless, step, run}
 use Rattle.cborn_wire.proofs.Machine.Running.{failed_run}
 use Rattle.cborn_wire.proofs.Machine.Containers.{value_next, not_full}

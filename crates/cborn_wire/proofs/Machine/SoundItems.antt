@@ -1,7 +1,7 @@
 -- What the machine has is what was read.
 use Rattle.std.proofs.Common.{◌≡◌, refl, sym, ap, ◌∙◌, subst, ℕ, ◌+◌, ◌<◌, ◌≤◌, List, [], ◌∷◌, ◌++◌, length, Bool, true, false, cond, leb, Some, None, arith, append_assoc, append-nil, length-append, add-zero, max}
 use Rattle.cborn_model.specs.Bytes.{AreBytes}
-use Rattle.cborn_model.specs.Heads.{Given, head, WidthFits}
+use Rattle.cborn_model.specs.Heads.{Given, WidthFits}
 use Rattle.cborn_model.specs.Partial.{Opening, in_chunks, built, Goes, Ends}
 use Rattle.cborn_model.specs.Tree.{Tree, Trees, no_item, more, trees, depth, depth_all}
 use Rattle.cborn_model.specs.Spelled.{spelled, spelled_all, Fits, FitsAll}

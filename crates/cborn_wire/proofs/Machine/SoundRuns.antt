@@ -7,7 +7,7 @@ use Rattle.cborn_model.specs.Bytes.{AreBytes}
 use Rattle.cborn_model.specs.declared.heads.Width.{Width}
 use Rattle.cborn_model.specs.declared.heads.Width.TheVariants.{Direct, One, Two, Four, Eight}
 use Rattle.cborn_model.specs.declared.heads.Major.{Major}
-use Rattle.cborn_model.specs.declared.heads.Major.TheVariants.{Unsigned, Negative, ByteString, TextString, Array, Map, Tag, Other}
+use Rattle.cborn_model.specs.declared.heads.Major.TheVariants.{Other}
 use Rattle.cborn_model.specs.Heads.{Given, EndlessArgument, code, information, following, head, WidthFits}
 use Rattle.cborn_model.specs.Tree.{Trees}
 use Rattle.cborn_model.proofs.Bytes.{bytes-append}

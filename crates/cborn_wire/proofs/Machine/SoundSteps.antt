@@ -1,9 +1,9 @@
 -- Each step keeps what the machine has to what was read.
-use Rattle.std.proofs.Common.{◌≡◌, refl, sym, ap, ◌∙◌, subst, ℕ, suc, ◌+◌, ◌≤◌, List, [], ◌∷◌, ◌++◌, length, Bool, true, false, ◌&&◌, cond, ltb, leb, Option, Some, None, inl, inr, arith, append_assoc, append-nil, length-append}
+use Rattle.std.proofs.Common.{◌≡◌, refl, sym, ap, ◌∙◌, subst, ℕ, ◌+◌, ◌≤◌, List, [], ◌∷◌, ◌++◌, length, Bool, true, false, ◌&&◌, cond, ltb, leb, Option, Some, None, inl, inr, arith, append_assoc, append-nil}
 use Rattle.std.proofs.lemmas.Bool.{leb-true, leb-false, ltb-false}
 use Rattle.cborn_model.specs.Bytes.{AreBytes}
 use Rattle.cborn_model.specs.declared.heads.Width.{Width}
-use Rattle.cborn_model.specs.declared.heads.Width.TheVariants.{Direct, One, Two, Four, Eight}
+use Rattle.cborn_model.specs.declared.heads.Width.TheVariants.{Direct, One}
 use Rattle.cborn_model.specs.declared.heads.Size.TheVariants.{Fixed, Endless}
 use Rattle.cborn_model.specs.declared.heads.Major.{Major}
 use Rattle.cborn_model.specs.declared.heads.Major.TheVariants.{Unsigned, Negative, ByteString, TextString, Array, Map, Tag, Other}
@@ -20,9 +20,9 @@ use Rattle.cborn_wire.specs.SlotFaults.{needs_item, begins_low}
 use Rattle.cborn_wire.specs.HeadReading.{ArgumentFits}
 use Rattle.cborn_wire.specs.shared.InitialBytes.{Info, Next, EndlessInformation, is_reserved, is_endless_head, is_always_bounded, is_other, is_container, is_of_kind, is_break, is_bad_chunk, is_float, is_one, head_reason, info_for}
 use Rattle.cborn_wire.specs.shared.Ground.{place_of, Ground}
-use Rattle.cborn_wire.specs.shared.Machine.{content_of, nothing, gathering, Live, Failed, finished, holding, ended, gather, after_head, front}
+use Rattle.cborn_wire.specs.shared.Machine.{content_of, gathering, Live, Failed, finished, holding, ended, gather, after_head, front}
 use Rattle.cborn_wire.proofs.Machine.Containers.{empty_goes, empty_whole, break_ends}
-use Rattle.cborn_wire.proofs.Machine.SoundItems.{SoundLive, Sound, Accepts, accepted, ground_less, top_placed, nothing_more, ends, sound_holding, sound_finished}
+use Rattle.cborn_wire.proofs.Machine.SoundItems.{Sound, Accepts, accepted, ground_less, top_placed, nothing_more, ends, sound_holding, sound_finished}
 
 -- What no reason means.
 pub record Clear (s : Slot) (full : Bool) (m : Major) (i : Info) : Type 0 where

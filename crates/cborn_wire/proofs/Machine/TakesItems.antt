@@ -1,9 +1,9 @@
 -- The machine takes what an item spells, and has that item.
-use Rattle.std.proofs.Common.{◌≡◌, refl, sym, ap, ◌∙◌, subst, ℕ, suc, ◌+◌, ◌<◌, ◌≤◌, List, [], ◌∷◌, ◌++◌, length, map, Bool, true, false, ◌&&◌, cond, leb, Some, None, inl, inr, arith, append_assoc, append-nil, length-append, add-zero}
+use Rattle.std.proofs.Common.{◌≡◌, refl, sym, ap, ◌∙◌, subst, ℕ, ◌+◌, ◌<◌, ◌≤◌, List, [], ◌∷◌, ◌++◌, length, map, Bool, true, false, ◌&&◌, cond, leb, Some, None, inl, inr, arith, append_assoc, append-nil, length-append, add-zero}
 use Rattle.std.proofs.lemmas.Bool.{lt-leb, le-leb, le-ltb}
 use Rattle.std.specs.Prelude.{IsTrue, Option}
 use Rattle.cborn_model.specs.declared.heads.Width.{Width}
-use Rattle.cborn_model.specs.declared.heads.Width.TheVariants.{Direct, One, Two, Four, Eight}
+use Rattle.cborn_model.specs.declared.heads.Width.TheVariants.{Direct, One}
 use Rattle.cborn_model.specs.declared.heads.Size.{Size}
 use Rattle.cborn_model.specs.declared.heads.Size.TheVariants.{Fixed, Endless}
 use Rattle.cborn_model.specs.declared.nodes.Chunk.{Chunk}
@@ -11,13 +11,13 @@ use Rattle.cborn_model.specs.declared.heads.Major.{Major}
 use Rattle.cborn_model.specs.declared.heads.Major.TheVariants.{Unsigned, Negative, ByteString, TextString, Array, Map, Tag, Other}
 use Rattle.cborn_model.specs.Heads.{Given, EndlessArgument, head, WidthFits, least, is_simple_value, argument, SizeFits}
 use Rattle.cborn_model.specs.Partial.{Opening, an_array, a_map, a_tag, in_chunks, built, string_tree, last_key, chunks_of, Goes, Ends}
-use Rattle.cborn_model.specs.Tree.{Tree, Uint, Nint, Bytes, Text, ByteChunks, TextChunks, Items, Pairs, Tagged, Simple, Trees, no_item, more, Entries, no_entry, entry, trees, entries, count, count_entries, depth, depth_all, depth_entries}
-use Rattle.cborn_model.specs.Spelled.{ending, string, spelled, spelled_all, ChunksFit, Fits, FitsAll, FitsEntries}
+use Rattle.cborn_model.specs.Tree.{Tree, Uint, Nint, Bytes, Text, ByteChunks, TextChunks, Items, Pairs, Tagged, Simple, Trees, no_item, more, Entries, no_entry, entry, trees, count, count_entries, depth, depth_all}
+use Rattle.cborn_model.specs.Spelled.{ending, string, spelled, spelled_all, Fits, FitsAll}
 use Rattle.cborn_model.proofs.Numbers.Simples.{simple_cases, simple_fits, least_direct, least_one}
 use Rattle.cborn_wire.specs.declared.faults.WireReason.{WireReason}
 use Rattle.cborn_wire.specs.declared.faults.WireReason.TheVariants.{BadSimple, UnexpectedBreak}
-use Rattle.cborn_wire.specs.Places.{placed_from, all_from}
-use Rattle.cborn_wire.specs.Slots.{StringKind, OfBytes, OfText, major_of, Slot, item, value, element_or_end, key_or_end, chunk, OpenContainer, opened, opening, slot, slot_in, slot_in_map, added_depth, open_depth, HeadFits, IsNoString}
+use Rattle.cborn_wire.specs.Places.{placed_from}
+use Rattle.cborn_wire.specs.Slots.{StringKind, OfBytes, OfText, major_of, Slot, item, value, chunk, OpenContainer, opened, opening, slot, slot_in, slot_in_map, added_depth, open_depth, HeadFits, IsNoString}
 use Rattle.cborn_wire.specs.SlotFaults.{needs_item}
 use Rattle.cborn_wire.specs.HeadReading.{ArgumentFits}
 use Rattle.cborn_wire.specs.devices.OpenNodes.{string_of}

@@ -1,6 +1,6 @@
 -- The machine takes what is open, too.
-use Rattle.std.proofs.Common.{◌≡◌, refl, sym, ap, ◌∙◌, ℕ, ◌+◌, ◌≤◌, List, [], ◌∷◌, ◌++◌, length, Option, Some, None, cond, arith, append_assoc, length-append, add-zero}
-use Rattle.cborn_model.specs.Partial.{Opening, an_array, a_map, a_tag, in_chunks, last_key, built}
+use Rattle.std.proofs.Common.{◌≡◌, refl, ap, ◌∙◌, ℕ, ◌+◌, ◌≤◌, List, [], ◌∷◌, ◌++◌, length, Option, None, cond, arith, append_assoc, length-append, add-zero}
+use Rattle.cborn_model.specs.Partial.{Opening, an_array, a_map, in_chunks, last_key, built}
 use Rattle.cborn_model.specs.Tree.{Tree, Trees, trees, depth_all}
 use Rattle.cborn_model.specs.Spelled.{spelled_all}
 use Rattle.cborn_wire.specs.Slots.{OpenContainer, opened, opening, beginnings, slot, slot_in_map, added_depth, open_depth, IsNoString, AreOpen}

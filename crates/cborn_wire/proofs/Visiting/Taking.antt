@@ -3,22 +3,21 @@ use Rattle.std.proofs.Common.{◌≡◌, refl, sym, ap, ◌∙◌, subst, ℕ, �
 use Rattle.std.proofs.lemmas.List.{take-append-drop, length-take-le}
 use Rattle.cborn_model.specs.Bytes.{AreBytes}
 use Rattle.cborn_model.specs.declared.heads.Width.{Width}
-use Rattle.cborn_model.specs.declared.heads.Width.TheVariants.{Direct, One, Two, Four, Eight}
+use Rattle.cborn_model.specs.declared.heads.Width.TheVariants.{Direct}
 use Rattle.cborn_model.specs.declared.heads.Major.{Major}
-use Rattle.cborn_model.specs.declared.heads.Major.TheVariants as majors
-use Rattle.cborn_model.specs.declared.heads.Major.TheVariants.{Unsigned, Negative, ByteString, TextString, Other}
+use Rattle.cborn_model.specs.declared.heads.Major.TheVariants.{Unsigned, ByteString, TextString, Other}
 use Rattle.cborn_model.specs.Heads.{Argument, Given, EndlessArgument}
 use Rattle.cborn_model.specs.Tree.{Tree, Trees, trees}
-use Rattle.cborn_model.specs.Partial.{Opening, an_array, a_map, a_tag, in_chunks, Partial, top, inside, Part, no_part, part, whole, paired, last_key, string_tree, TakesItem, TakesString}
+use Rattle.cborn_model.specs.Partial.{Opening, an_array, a_map, in_chunks, Partial, top, inside, Part, no_part, part, whole, paired, last_key, string_tree, TakesItem, TakesString}
 use Rattle.cborn_model.proofs.Bytes.{bytes-left}
 use Rattle.cborn_wire.specs.declared.faults.WireFault.{WireFault}
 use Rattle.cborn_wire.specs.declared.faults.WireFault.TheVariants.{Refused, OutOfMemory}
-use Rattle.cborn_wire.specs.Slots.{StringKind, OfBytes, OfText, major_of, Slot, item, value, element_or_end, key_or_end, chunk, OpenContainer, opened, slot, slot_in, slot_in_map, open_depth, IsNoString, AreOpen}
+use Rattle.cborn_wire.specs.Slots.{StringKind, OfBytes, OfText, major_of, Slot, item, chunk, OpenContainer, opened, slot, slot_in, slot_in_map, open_depth, IsNoString, AreOpen}
 use Rattle.cborn_wire.specs.declared.heads.Head.{Head}
 use Rattle.cborn_wire.specs.declared.levels.Level.{Level}
 use Rattle.cborn_wire.specs.declared.head_readers.PartialHead.{PartialHead}
 use Rattle.cborn_wire.specs.HeadReading.{major_at, seen_argument, IsHeadOf}
-use Rattle.cborn_wire.specs.shared.InitialBytes.{Info, Next, EndlessInformation, info_at, info_for, is_of_kind, is_break, is_bad_chunk, head_reason}
+use Rattle.cborn_wire.specs.shared.InitialBytes.{Info, Next, info_at, info_for, is_of_kind, is_break, is_bad_chunk, head_reason}
 use Rattle.cborn_wire.specs.devices.Counting.{plain}
 use Rattle.cborn_wire.specs.shared.Ground.{place_of}
 use Rattle.cborn_wire.specs.shared.Machine.{width_bytes, argument_of, content_of, nothing, gathering, State, Live, start, begin_head, unless, finished, run}

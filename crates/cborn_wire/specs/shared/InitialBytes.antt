@@ -7,7 +7,7 @@ use Rattle.cborn_model.specs.declared.heads.Major.TheVariants.{Unsigned, Negativ
 use Rattle.cborn_model.specs.Heads.{Argument, Given, EndlessArgument}
 use Rattle.cborn_wire.specs.declared.faults.WireReason.{WireReason}
 use Rattle.cborn_wire.specs.declared.faults.WireReason.TheVariants.{ReservedInfo, EndlessNotAllowed, BadChunk, UnexpectedBreak, FloatLeftOut, BadSimple, TooDeep}
-use Rattle.cborn_wire.specs.Slots.{StringKind, OfBytes, OfText, Slot, item, value, element_or_end, key_or_end, chunk}
+use Rattle.cborn_wire.specs.Slots.{StringKind, OfBytes, OfText, Slot, chunk}
 use Rattle.cborn_wire.specs.SlotFaults.{needs_item, begins_low}
 use Rattle.cborn_wire.specs.HeadReading.{major_at}
 

@@ -1,4 +1,4 @@
-use Rattle.std.proofs.Common.{refl, sym, ap, ◌∙◌, subst, ◌≡◌, ℕ}
+use Rattle.std.proofs.Common.{refl, sym, ap, ◌∙◌, ◌≡◌, ℕ}
 use Rattle.cborn_model.specs.declared.visitors.StringKind.{StringKind}
 use Rattle.cborn_model.specs.Partial.{no_part, put, string_tree}
 use Rattle.cborn_wire.specs.declared.levels.Level.{Level}
