@@ -1,14 +1,19 @@
 -- A list of bytes has one reading at most, and no item begins another.
-use Rattle.std.proofs.Common.{◌≡◌, refl, sym, ap, ◌∙◌, ℕ, ◌+◌, ◌≤◌, List, [], ◌++◌, length, max, arith, append_assoc, append-nil, length-append, add-zero}
+use Rattle.std.proofs.Common.{◌≡◌, refl, sym, ap, ◌∙◌, subst, ℕ, ◌+◌, ◌≤◌, List, [], ◌++◌, length, max, arith, append_assoc, append-nil, length-append, add-zero}
 use Rattle.std.proofs.lemmas.List.{append_cancel_left}
-use Rattle.cborn_model.specs.Tree.{Tree, Trees, no_item, more, depth, depth_all}
+use Rattle.cborn_model.specs.Bytes.{AreBytes}
+use Rattle.cborn_model.specs.Tree.{Tree, Trees, trees, no_item, more, depth, depth_all}
 use Rattle.cborn_model.specs.Spelled.{spelled, spelled_all, Fits, FitsAll, Wellformed}
 use Rattle.cborn_model.specs.Placed.{Placed, PlacedAll}
 use Rattle.cborn_wire.specs.Places.{placed_from, all_from}
-use Rattle.cborn_wire.specs.shared.Machine.{append_trees, snoc, nothing, State, Live, Failed, start, ready_in, run}
+use Rattle.cborn_wire.specs.shared.Machine.{append_trees, snoc, nothing, State, Live, Failed, start, ready_in, front, run}
 use Rattle.cborn_wire.proofs.Machine.Running.{run-append}
 use Rattle.cborn_wire.proofs.Machine.TakesItems.{takes, append_trees-nil, append_trees-snoc}
-use Rattle.cborn_wire.proofs.Spelled.AsPlaced.{spelled-from, same-from, same_all-from}
+use Rattle.cborn_wire.proofs.Spelled.AsPlaced.{same-from, same_all-from}
+use Rattle.cborn_wire.proofs.Machine.SoundItems.{SoundLive, Sound}
+use Rattle.cborn_wire.proofs.Machine.SoundRuns.{sound}
+use Rattle.cborn_wire.proofs.Spelled.AllBytes.{well_bytes}
+use Rattle.cborn_wire.proofs.Spelled.TreeLists.{tree_list, trees-tree_list}
 use Rattle.cborn_wire.proofs.Machine.WholeFront.{with_front, front_run}
 
 pub takes_sequence : (ts : Trees) (limit fed : ℕ) (ready : Trees) (x : List ℕ) → FitsAll ts → depth_all ts ≤ limit
@@ -32,6 +37,27 @@ reads limit p ts x h =
     ap (run limit (start p)) (sym h.spells ∙ sym (append-nil (spelled_all ts)))
     ∙ takes_sequence ts limit p no_item [] h.fit h.shallow
     ∙ ap (λ l. Live (p + length l) (all_from p ts) [] nothing) h.spells
+
+-- Where nothing is open the items are the reading.
+pub ends_read : (limit base : ℕ) (x : List ℕ) → AreBytes x → (fed : ℕ) (ready : Trees) → run limit (start base) x ≡ Live fed ready [] nothing → Wellformed limit ready x × PlacedAll base ready
+ends_read limit base x bytes fed ready e =
+    let h : SoundLive limit base x fed ready [] nothing = subst (Sound limit base x) e (sound limit base x bytes) in
+    (record { spells = sym (h.bytes ∙ append-nil (front ready []) ∙ append-nil (spelled_all ready)); fit = h.ground.fit; shallow = h.ground.shallow }, h.ground.placed)
+
+-- So each node may be at its offset,
+pub placed_reading : (limit p : ℕ) (ts : Trees) (x : List ℕ) → Wellformed limit ts x → Wellformed limit (all_from p ts) x × PlacedAll p (all_from p ts)
+placed_reading limit p ts x w = ends_read limit p x (well_bytes limit ts x w) (p + length x) (all_from p ts) (reads limit p ts x w)
+
+-- in a list,
+pub listed_reading : (limit p : ℕ) (ts : Trees) (x : List ℕ) → Wellformed limit ts x → Wellformed limit (trees (tree_list (all_from p ts))) x × PlacedAll p (trees (tree_list (all_from p ts)))
+listed_reading limit p ts x w = subst (λ us. Wellformed limit us x × PlacedAll p us) (sym (trees-tree_list (all_from p ts))) (placed_reading limit p ts x w)
+
+-- and alone.
+pub placed_node : (p : ℕ) (t : Tree) → Fits t → (spelled (placed_from p t) ≡ spelled t) × Fits (placed_from p t) × (depth (placed_from p t) ≤ depth t) × Placed p (placed_from p t)
+placed_node p t h =
+    let u = placed_from p t in
+    let (w, placed) = placed_reading (depth t) p (more t no_item) (spelled t ++ []) (record { spells = refl; fit = (h, tt); shallow = omega arith }) in
+    (sym (append-nil (spelled u)) ∙ w.spells ∙ append-nil (spelled t), w.fit.0, omega (arith, w.shallow), placed.0)
 
 -- but for offsets
 pub one_reading : (limit : ℕ) (ts us : Trees) (x : List ℕ) → Wellformed limit ts x → Wellformed limit us x → (p : ℕ) → all_from p ts ≡ all_from p us
@@ -64,7 +90,7 @@ no_front t u y h k e =
     let all : with_front (more t' no_item) (run limit (start end) y) ≡ Live (0 + length (spelled u)) (more u' no_item) [] nothing
     = sym left ∙ ap (run limit (start 0)) (e ∙ sym (append-nil (spelled u))) ∙ right in
     let same : t' ≡ u' = first_is t' u' (run limit (start end) y) all in
-    (append_cancel_left (spelled t) y [] (e ∙ sym (spelled-from u 0) ∙ sym (ap spelled same) ∙ spelled-from t 0 ∙ sym (append-nil (spelled t))), same)
+    (append_cancel_left (spelled t) y [] (e ∙ sym (placed_node 0 u k).0 ∙ sym (ap spelled same) ∙ (placed_node 0 t h).0 ∙ sym (append-nil (spelled t))), same)
   where
     first_is : (t u : Tree) (s : State) {fed : ℕ} → with_front (more t no_item) s ≡ Live fed (more u no_item) [] nothing → t ≡ u
     first_is t u (Live fed ready os partial) e = ap (λ s. head_of t (ready_in s)) e

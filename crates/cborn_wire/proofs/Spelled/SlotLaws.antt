@@ -2,8 +2,7 @@
 use Rattle.std.proofs.Common.{◌≡◌, refl, sym, ap, ◌∙◌, subst, ℕ, ◌+◌, List, [], ◌++◌, length, Some, arith, append-nil, length-append}
 use Rattle.cborn_model.specs.Bytes.{AreBytes}
 use Rattle.cborn_model.specs.Tree.{Trees, no_item}
-use Rattle.cborn_model.specs.Spelled.{spelled_all, Wellformed}
-use Rattle.cborn_model.specs.Placed.{PlacedAll}
+use Rattle.cborn_model.specs.Spelled.{spelled_all}
 use Rattle.cborn_model.proofs.Bytes.{bytes-append}
 use Rattle.cborn_wire.specs.declared.faults.WireReason.{WireReason}
 use Rattle.cborn_wire.specs.Slots.{Slot, OpenContainer, beginnings, slot, open_depth, Open}
@@ -14,7 +13,7 @@ use Rattle.cborn_wire.specs.Places.{all_from}
 use Rattle.cborn_wire.specs.shared.Machine.{Unfinished, nothing, State, Live, Failed, IsLive, run, start, front}
 use Rattle.cborn_wire.proofs.HeadReading.InitialBytes.{same_reason}
 use Rattle.cborn_wire.proofs.Machine.Running.{run-append, failed_run}
-use Rattle.cborn_wire.proofs.Spelled.OneReading.{reads, takes_sequence}
+use Rattle.cborn_wire.proofs.Spelled.OneReading.{reads, takes_sequence, ends_read}
 use Rattle.cborn_wire.proofs.Machine.SoundItems.{SoundLive, SoundFailed, Sound}
 use Rattle.cborn_wire.proofs.Machine.SoundRuns.{sound}
 use Rattle.cborn_wire.proofs.Machine.TakesOpen.{open_from, slot-from, open_depth-from, takes_open}
@@ -71,14 +70,8 @@ module _ (limit base : ℕ) where
         ),
       )
 
-  -- where nothing is open the items are the reading
-  pub ends_read : (x : List ℕ) → AreBytes x → (fed : ℕ) (ready : Trees) → run limit (start base) x ≡ Live fed ready [] nothing → Wellformed limit ready x × PlacedAll base ready
-  ends_read x bytes fed ready e =
-      let h : SoundLive limit base x fed ready [] nothing = subst (Sound limit base x) e (sound limit base x bytes) in
-      (record { spells = sym (h.bytes ∙ append-nil (front ready []) ∙ append-nil (spelled_all ready)); fit = h.ground.fit; shallow = h.ground.shallow }, h.ground.placed)
-
   pub ends_whole : (x : List ℕ) → AreBytes x → (fed : ℕ) (ready : Trees) → run limit (start base) x ≡ Live fed ready [] nothing → IsWellformed limit x
-  ends_whole x bytes fed ready e = (ready, (ends_read x bytes fed ready e).0)
+  ends_whole x bytes fed ready e = (ready, (ends_read limit base x bytes fed ready e).0)
 
   -- what can come to an end of complete items goes on
   pub closable_goes : (x : List ℕ) → AreBytes x → Closable limit (run limit (start base) x) → GoesOn limit x
