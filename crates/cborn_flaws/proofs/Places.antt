@@ -11,15 +11,14 @@ use Rattle.cborn_model.specs.Spelled.{spelled, spelled_all, spelled_entries, chu
 use Rattle.cborn_model.specs.Tree.{Tree, trees, entries, count, count_entries}
 use Rattle.cborn_model.proofs.Listed.Trees.{count-trees, count_entries-entries}
 use Rattle.cborn_wire.specs.Parts.{Pair}
+use Rattle.cborn_wire.proofs.Machine.SoundItems.{placed-snoc}
+use Rattle.cborn_wire.proofs.Spelled.TreeLists.{trees-push}
 use Rattle.cborn_wire.proofs.Parts.Heads.{place_after}
 
 -- ---- one after another
 
 node_last : (p : ℕ) (ts : List Tree) (t : Tree) → PlacedAll p (trees ts) → Placed (p + length (spelled_all (trees ts))) t → PlacedAll p (trees (ts ++ t ∷ []))
-node_last p [] t h k = (let e : p + 0 ≡ p = omega arith in subst (λ q. Placed q t) e k, tt)
-node_last p (u ∷ ts) t h k =
-    let e : p + length (spelled u ++ spelled_all (trees ts)) ≡ (p + length (spelled u)) + length (spelled_all (trees ts)) = omega (arith, length-append (spelled u) (spelled_all (trees ts))) in
-    (h.0, node_last (p + length (spelled u)) ts t h.1 (subst (λ q. Placed q t) e k))
+node_last p ts t h k = subst (PlacedAll p) (sym (trees-push ts t)) (placed-snoc (trees ts) t p h k)
 
 pair_last : (p : ℕ) (ns : List Pair) (n : Pair) → PlacedEntries p (entries ns) → Placed (p + length (spelled_entries (entries ns))) n.0 → Placed (p + length (spelled_entries (entries ns)) + length (spelled n.0)) n.1 → PlacedEntries p (entries (ns ++ n ∷ []))
 pair_last p [] n h k v =

@@ -15,7 +15,7 @@ use Rattle.cborn_model.specs.Heads.{holds, following, least, is_simple_value, Wi
 use Rattle.cborn_model.proofs.Numbers.Simples.{simple_below}
 use Rattle.cborn_model.specs.Spelled.{ChunksFit, Fits, FitsAll, FitsEntries, spelled, spelled_all, spelled_entries, chunk_bytes}
 use Rattle.cborn_wire.specs.shared.Machine.{append_trees}
-use Rattle.cborn_wire.proofs.Machine.TakesItems.{append_trees-nil, append_entries, append_entries-nil}
+use Rattle.cborn_wire.proofs.Machine.TakesItems.{append_trees-nil}
 use Rattle.cborn_lex.specs.declared.classes.Mark.{Mark}
 use Rattle.cborn_lex.specs.declared.classes.Mark.TheVariants.{Absent, Endless, Wide}
 use Rattle.cborn_edn.specs.devices.Syntax.{Item, word, simple, string, Pieces, strings, StringsBefore, no_string, after_strings, row, RowBefore, no_item, after_row, pairs, PairsBefore, no_pair, after_pairs, depth, depth_of_strings, depth_of_strings_before, depth_of_row, depth_of_row_before, depth_of_content, depth_of_pairs, depth_of_pairs_before, depth_of_fields, depth_of_input}
@@ -165,6 +165,14 @@ count-unplaced_entries (entry k v es) = ap suc (count-unplaced_entries es)
 append_trees-snoc : (us : Trees) (t : Tree) (ts : Trees) → append_trees (snoc us t) ts ≡ append_trees us (more t ts)
 append_trees-snoc no_node t ts = refl
 append_trees-snoc (more u us) t ts = ap (more u) (append_trees-snoc us t ts)
+
+abbrev append_entries : Entries → Entries → Entries
+append_entries no_entry es = es
+append_entries (entry k v ds) es = entry k v (append_entries ds es)
+
+append_entries-nil : (es : Entries) → append_entries es no_entry ≡ es
+append_entries-nil no_entry = refl
+append_entries-nil (entry k v es) = ap (entry k v) (append_entries-nil es)
 
 append_entries-snoc : (ds : Entries) (k v : Tree) (es : Entries) → append_entries (snoc_entry ds k v) es ≡ append_entries ds (entry k v es)
 append_entries-snoc no_entry k v es = refl

@@ -103,7 +103,7 @@ lowest_bad_text nodes p h = record { is = bad_among h.is.0 p h.is.2 nodes h.is.1
 
 -- nodes at their places spell what nodes spell
 pub placed_reading : (limit : ℕ) (x : List ℕ) → IsWellformed limit x → (ts : Trees) × Wellformed limit ts x × PlacedAll 0 ts
-placed_reading limit x (ts, w) = (all_from 0 ts, one_reading.placed_reading limit 0 ts x w)
+placed_reading limit x (ts, w) = let (read, placed) = one_reading.placed_reading limit 0 ts x w in (all_from 0 ts, read, placed)
 
 -- what isn't well-formed has none
 pub malformed_unshown : (limit : ℕ) (x : List ℕ) → (IsWellformed limit x → ⊥) → HasNoNotation limit x

@@ -28,7 +28,7 @@ depth-snoc : (ts : Trees) (t : Tree) → depth_all (snoc ts t) ≡ max (depth_al
 depth-snoc no_item t = omega arith
 depth-snoc (more u ts) t = omega (arith, depth-snoc ts t)
 
-placed-snoc : (ts : Trees) (t : Tree) (p : ℕ) → PlacedAll p ts → Placed (p + length (spelled_all ts)) t → PlacedAll p (snoc ts t)
+pub placed-snoc : (ts : Trees) (t : Tree) (p : ℕ) → PlacedAll p ts → Placed (p + length (spelled_all ts)) t → PlacedAll p (snoc ts t)
 placed-snoc no_item t p h k = (subst (λ q. Placed q t) (add-zero p) k, tt)
 placed-snoc (more u ts) t p h k =
     let total : p + length (spelled u ++ spelled_all ts) ≡ p + length (spelled u) + length (spelled_all ts) = omega (arith, length-append (spelled u) (spelled_all ts)) in

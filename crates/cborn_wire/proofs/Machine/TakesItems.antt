@@ -96,14 +96,6 @@ takes_string limit fed ready os k w bytes x h r =
 
 -- Containers.
 
-abbrev pub append_entries : Entries → Entries → Entries
-append_entries no_entry es = es
-append_entries (entry k v ds) es = entry k v (append_entries ds es)
-
-pub append_entries-nil : (es : Entries) → append_entries es no_entry ≡ es
-append_entries-nil no_entry = refl
-append_entries-nil (entry k v es) = ap (entry k v) (append_entries-nil es)
-
 pub append_trees-nil : (ts : Trees) → append_trees ts no_item ≡ ts
 append_trees-nil no_item = refl
 append_trees-nil (more t ts) = ap (more t) (append_trees-nil ts)
