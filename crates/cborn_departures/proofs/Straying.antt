@@ -21,7 +21,7 @@ use Rattle.cborn_wire.specs.declared.heads.Head.{Head}
 use Rattle.cborn_wire.specs.HeadReading.{major_at, seen_argument, IsHeadOf, ArgumentFits}
 use Rattle.cborn_wire.specs.Parts.{Leaves}
 use Rattle.cborn_wire.specs.Places.{placed_from}
-use Rattle.cborn_wire.proofs.Spelled.AsPlaced.{spelled-from, fits-from, placed-from, depth-from}
+use Rattle.cborn_wire.proofs.Spelled.OneReading.{placed_node}
 use Rattle.cborn_departures.specs.declared.departures.Walked.{Walked}
 use Rattle.cborn_departures.specs.declared.departures.Walked.TheVariants.{After}
 use Rattle.cborn_departures.specs.devices.Departing.{Lacking, any_item, without_defect, Stands, AllStand, PairsStand, NoneStands, HasNoString, IsTight, TellsLoose, IsOf, Stops, Lacks, LacksAfter, Strays, StraysAfter, Walks, Remain, RemainAmong, Leads, LeadsPairs}
@@ -286,15 +286,15 @@ module _ (order : List ℕ → List ℕ → Ordering) where
   lacks_item room input x rest i v m =
       let total : ℕ = length input in
       let t : Tree = placed_from (total - length input) i.node in
-      let spells : spelled t ≡ spelled i.node = spelled-from i.node (total - length input) in
+      let (spells, fits, deep, placed) = placed_node (total - length input) i.node i.fits in
       let s : Stands total t input rest = record {
         item = v;
         read = i.read ∙ ap (λ l. l ++ rest) (sym spells);
-        fits = fits-from i.node (total - length input) i.fits;
-        placed = placed-from i.node (total - length input);
+        fits = fits;
+        placed = placed;
         meant = means-from i.node (total - length input) v m;
       } in
-      x total t rest (omega arith) s (subst (λ d. d ≤ room) (sym (depth-from i.node (total - length input))) i.shallow) tt
+      x total t rest (omega arith) s (omega (arith, deep, i.shallow)) tt
 
   pub item_lacks : (most room : ℕ) (input : List ℕ) → room ≤ most → HoldsNoItem most input → Lacks order any_item room input
   unfolding HoldsNoItem
@@ -307,12 +307,12 @@ module _ (order : List ℕ → List ℕ → Ordering) where
   strays_none laws room input front rest short x e i =
       let total : ℕ = length input in
       let t : Tree = placed_from (total - length input) i.node in
-      let spells : spelled t ≡ spelled i.node = spelled-from i.node (total - length input) in
+      let (spells, fits, deep, placed) = placed_node (total - length input) i.node i.fits in
       let s : Stands total t input rest = record {
         item = i.holds.1.0;
         read = i.read ∙ ap (λ l. l ++ rest) (sym spells);
-        fits = fits-from i.node (total - length input) i.fits;
-        placed = placed-from i.node (total - length input);
+        fits = fits;
+        placed = placed;
         meant = means-from i.node (total - length input) i.holds.1.0 i.holds.1.1;
       } in
-      x total t rest (omega arith) s (subst (λ d. d ≤ room) (sym (depth-from i.node (total - length input))) i.shallow) (item_clears order laws total input rest short (own_walked order room input front rest e i) t rest s).1
+      x total t rest (omega arith) s (omega (arith, deep, i.shallow)) (item_clears order laws total input rest short (own_walked order room input front rest e i) t rest s).1

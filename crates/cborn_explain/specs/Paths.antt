@@ -1,18 +1,23 @@
 -- Paths: where a place in some bytes is among their items (RFC 8949 section 3, RFC 8742).
-use Rattle.std.specs.Prelude.{◌≡◌, ℕ, ◌+◌, ◌≤◌, List, [], ◌∷◌, ◌++◌, length, take, Bool, true, false, if◌then◌else◌}
-use Rattle.cborn_model.specs.Tree.{Trees, count, count_entries, depth_all}
+use Rattle.std.specs.Prelude.{◌≡◌, ℕ, ◌+◌, ◌≤◌, List, [], ◌∷◌, ◌++◌, length, take, Bool, true, false, Option, Some, None, if◌then◌else◌}
+use Rattle.cborn_model.specs.Tree.{Tree, Trees, count, depth_all}
+use Rattle.cborn_model.specs.Partial.{an_array, a_map, a_tag, in_chunks, paired, last_key}
 use Rattle.cborn_model.specs.Spelled.{spelled_all, FitsAll}
-use Rattle.cborn_wire.specs.Slots.{OpenContainer, opened_items, opened_pairs, opened_value, opened_tag, opened_chunks, beginnings, AreOpen}
+use Rattle.cborn_wire.specs.Slots.{OpenContainer, opened, beginnings, AreOpen}
 use Rattle.cborn_explain.specs.declared.paths.Step.{Step}
 use Rattle.cborn_explain.specs.declared.paths.Step.TheVariants.{Item, Element, Key, Value, Content, Chunk}
 
+-- in a map, after this many pairs, and the key whose value is missing
+abbrev pub step_in_map : ℕ → Option Tree → Step
+step_in_map n None = Key n
+step_in_map n (Some k) = Value n
+
 -- The step into an open container, to the part that comes next. Parts are counted from 0: the index is how many are complete before it.
 abbrev pub step_in : OpenContainer → Step
-step_in (opened_items p a ts) = Element (count ts)
-step_in (opened_pairs p a es) = Key (count_entries es)
-step_in (opened_value p a es k) = Value (count_entries es)
-step_in (opened_tag p w n) = Content n
-step_in (opened_chunks p k cs) = Chunk (length cs)
+step_in (opened (an_array p s c) ts) = Element (length ts)
+step_in (opened (a_map p s c) ts) = step_in_map (length (paired ts)) (last_key ts)
+step_in (opened (a_tag p w n) ts) = Content n
+step_in (opened (in_chunks p k) ts) = Chunk (length ts)
 
 -- The path after these complete items, into the open containers, the innermost first: the step to an item of the sequence, and then the steps inwards.
 abbrev pub steps : Trees → List OpenContainer → List Step

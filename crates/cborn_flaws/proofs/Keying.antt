@@ -8,7 +8,7 @@ use Rattle.cborn_model.specs.Value.{Value}
 use Rattle.cborn_model.specs.Meaning.{Means}
 use Rattle.cborn_wire.specs.Places.{placed_from}
 use Rattle.cborn_wire.specs.Parts.{Leaves}
-use Rattle.cborn_wire.proofs.Spelled.AsPlaced.{spelled-from, depth-from, fits-from, placed-from}
+use Rattle.cborn_wire.proofs.Spelled.OneReading.{placed_node}
 use Rattle.cborn_det.specs.Det.{Det}
 use Rattle.cborn_judge.specs.Flaws.{Flaw}
 use Rattle.cborn_judge.proofs.Meaning.Judging.{no_flaw, meaning}
@@ -34,16 +34,17 @@ key_added room total pairs x rest out old new short s marked =
     let t : Tree = placed_from p s.node in
     let item : Value = s.holds.1.0 in
     let means : Means t item = means-from s.node p item s.holds.1.1 in
-    let read : x ≡ spelled t ++ rest = s.read ∙ ap (λ l. l ++ rest) (sym (spelled-from s.node p)) in
+    let (same, fits, deep, placed) = placed_node p s.node s.fits in
+    let read : x ≡ spelled t ++ rest = s.read ∙ ap (λ l. l ++ rest) (sym same) in
     let below : length (spelled t) < 2 ^ 64 = omega (arith, short, ap length read ∙ length-append (spelled t) rest) in
     let encoded : Det bytewise item out = subst (Det bytewise item) (sym s.holds.2) s.holds.1.2 in
     record {
-      key = record { node = t; read = read; fits = fits-from s.node p s.fits; shallow = omega (arith, depth-from s.node p, s.shallow); holds = (placed-from s.node p, no_flaw t item means) };
+      key = record { node = t; read = read; fits = fits; shallow = omega (arith, deep, s.shallow); holds = (placed, no_flaw t item means) };
       pushed = λ ks n h. (
         ks ++ (out, n, p) ∷ [],
         marked ks n h,
         λ v ns c are.
-            keys_push seen_bytes seen_position seen_place ns 0 ks (t, v) (out, n, p) item are (omega (arith, c)) (sym (stands p t (placed-from s.node p))) (meaning_valid t item (fits-from s.node p s.fits) below means) means encoded,
+            keys_push seen_bytes seen_position seen_place ns 0 ks (t, v) (out, n, p) item are (omega (arith, c)) (sym (stands p t placed)) (meaning_valid t item fits below means) means encoded,
       );
     }
 

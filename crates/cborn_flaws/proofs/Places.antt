@@ -1,5 +1,5 @@
 -- The places of what was read: one after another, and inside one another.
-use Rattle.std.proofs.Common.{◌≡◌, ℕ, ◌+◌, ◌-◌, ◌≤◌, List, [], ◌∷◌, ◌++◌, length, refl, sym, ap, ◌∙◌, subst, arith, length-append}
+use Rattle.std.proofs.Common.{◌≡◌, ℕ, ◌+◌, ◌-◌, ◌≤◌, List, [], ◌∷◌, ◌++◌, length, refl, sym, ap, ◌∙◌, subst, arith, add-zero, length-append}
 use Rattle.std.specs.List.{flat_map}
 use Rattle.cborn_model.specs.declared.heads.Width.{Width}
 use Rattle.cborn_model.specs.declared.heads.Major.{Major}
@@ -11,16 +11,14 @@ use Rattle.cborn_model.specs.Spelled.{spelled, spelled_all, spelled_entries, chu
 use Rattle.cborn_model.specs.Tree.{Tree, trees, entries, count, count_entries}
 use Rattle.cborn_model.proofs.Listed.Trees.{count-trees, count_entries-entries}
 use Rattle.cborn_wire.specs.Parts.{Pair}
-use Rattle.cborn_wire.proofs.Machine.SoundItems.{placed_chunks-snoc}
+use Rattle.cborn_wire.proofs.Machine.SoundItems.{placed-snoc}
+use Rattle.cborn_wire.proofs.Spelled.TreeLists.{trees-push}
 use Rattle.cborn_wire.proofs.Parts.Heads.{place_after}
 
 -- ---- one after another
 
 node_last : (p : ℕ) (ts : List Tree) (t : Tree) → PlacedAll p (trees ts) → Placed (p + length (spelled_all (trees ts))) t → PlacedAll p (trees (ts ++ t ∷ []))
-node_last p [] t h k = (let e : p + 0 ≡ p = omega arith in subst (λ q. Placed q t) e k, tt)
-node_last p (u ∷ ts) t h k =
-    let e : p + length (spelled u ++ spelled_all (trees ts)) ≡ (p + length (spelled u)) + length (spelled_all (trees ts)) = omega (arith, length-append (spelled u) (spelled_all (trees ts))) in
-    (h.0, node_last (p + length (spelled u)) ts t h.1 (subst (λ q. Placed q t) e k))
+node_last p ts t h k = subst (PlacedAll p) (sym (trees-push ts t)) (placed-snoc (trees ts) t p h k)
 
 pair_last : (p : ℕ) (ns : List Pair) (n : Pair) → PlacedEntries p (entries ns) → Placed (p + length (spelled_entries (entries ns))) n.0 → Placed (p + length (spelled_entries (entries ns)) + length (spelled n.0)) n.1 → PlacedEntries p (entries (ns ++ n ∷ []))
 pair_last p [] n h k v =
@@ -30,6 +28,11 @@ pair_last p (m ∷ ns) n h k v =
     let e : p + length ((spelled m.0 ++ spelled m.1) ++ spelled_entries (entries ns)) ≡ ((p + length (spelled m.0)) + length (spelled m.1)) + length (spelled_entries (entries ns)) =
     omega (arith, length-append (spelled m.0 ++ spelled m.1) (spelled_entries (entries ns)), length-append (spelled m.0) (spelled m.1)) in
     (h.0, h.1, pair_last ((p + length (spelled m.0)) + length (spelled m.1)) ns n h.2 (subst (λ q. Placed q n.0) e k) (subst (λ q. Placed (q + length (spelled n.0)) n.1) e v))
+
+placed_chunks-snoc : (m : Major) (cs : List Chunk) (c : Chunk) (p : ℕ) → ChunksPlaced m p cs → c.place ≡ p + length (flat_map (chunk_bytes m) cs) → ChunksPlaced m p (cs ++ c ∷ [])
+placed_chunks-snoc m [] c p h k = (k ∙ add-zero p, tt)
+placed_chunks-snoc m (d ∷ cs) c p h k =
+    (h.0, placed_chunks-snoc m cs c _ h.1 (omega (arith, k, length-append (chunk_bytes m d) (flat_map (chunk_bytes m) cs))))
 
 module _ (total : ℕ) (input mid : List ℕ) (l : length input ≤ total) where
   pub node_placed : (ts : List Tree) (t : Tree) → input ≡ spelled_all (trees ts) ++ mid → PlacedAll (total - length input) (trees ts) → Placed (total - length mid) t → PlacedAll (total - length input) (trees (ts ++ t ∷ []))

@@ -8,7 +8,7 @@ use Rattle.cborn_model.specs.Tree.{Tree, Uint, Trees, no_item, more, trees}
 use Rattle.cborn_wire.specs.Parts.{NodeRead, NodesRead}
 use Rattle.cborn_wire.specs.Places.{all_from}
 use Rattle.cborn_wire.proofs.Parts.Nodes.{no_node, node_more, wellformed}
-use Rattle.cborn_wire.proofs.Spelled.AsPlaced.{spelled_all-from, fits_all-from, placed_all-from}
+use Rattle.cborn_wire.proofs.Spelled.OneReading.{placed_reading}
 use Rattle.cborn_judge.specs.Flaws.{WithinAll, FlawAt}
 use Rattle.cborn_model.specs.declared.faults.InvalidReason.TheVariants.{NotUtf8}
 use Rattle.cborn_flaws.specs.Searching.{FirstBadText, HaveFirstBadText}
@@ -53,7 +53,8 @@ texts_found b room n input rest end short x = record { read = (trees x.nodes, w)
     first : (most : ℕ) (nodes : Trees) → Wellformed most nodes input → PlacedAll 0 nodes → FirstBadText nodes b.first
     first most nodes v placed =
         let us : Trees = all_from 0 (trees x.nodes) in
-        let same : us ≡ nodes = one_list us nodes (fits_all-from (trees x.nodes) 0 w.fit) v.fit (spelled_all-from (trees x.nodes) 0 ∙ w.spells ∙ sym v.spells) (placed_all-from (trees x.nodes) 0) placed in
+        let (here, there) = placed_reading room 0 (trees x.nodes) input w in
+        let same : us ≡ nodes = one_list us nodes here.fit v.fit (here.spells ∙ sym v.spells) there placed in
         subst (λ (ts : Trees). FirstBadText ts b.first) same (first_of x.nodes b.first found)
 
 -- ---- integers of one byte

@@ -18,7 +18,7 @@ use Rattle.cborn_edn.proofs.Shown.SameText.{same_notation}
 use Rattle.cborn_wire.specs.Parts.{NodesRead}
 use Rattle.cborn_wire.specs.Places.{chunks_from, placed_from, all_from, entries_from}
 use Rattle.cborn_wire.proofs.Parts.Nodes.{wellformed}
-use Rattle.cborn_wire.proofs.Spelled.AsPlaced.{spelled_all-from, depth_all-from, fits_all-from, placed_all-from}
+use Rattle.cborn_wire.proofs.Spelled.OneReading.{listed_reading}
 use Rattle.cborn_wire.proofs.Spelled.TreeLists.{tree_list, trees-tree_list}
 use Rattle.cborn_edn.specs.shared.Texts.{IsShowable, EachShowable}
 use Rattle.cborn_edn.proofs.Shown.Lowests.{each_showable}
@@ -59,15 +59,11 @@ mutual
 pub placed_text : (limit : ℕ) (input text : List ℕ) → PassShown limit input text → IsShownText limit input text
 placed_text limit input text n =
     let same : trees (tree_list (all_from 0 (trees n.nodes))) ≡ all_from 0 (trees n.nodes) = trees-tree_list (all_from 0 (trees n.nodes)) in
-    let read : Wellformed limit (all_from 0 (trees n.nodes)) input = record {
-      spells = spelled_all-from (trees n.nodes) 0 ∙ n.read.spells;
-      fit = fits_all-from (trees n.nodes) 0 n.read.fit;
-      shallow = subst (λ (d : ℕ). d ≤ limit) (sym (depth_all-from (trees n.nodes) 0)) n.read.shallow;
-    } in
+    let (read, placed) = listed_reading limit 0 (trees n.nodes) input n.read in
     record {
       nodes = tree_list (all_from 0 (trees n.nodes));
-      read = subst (λ (us : Trees). Wellformed limit us input) (sym same) read;
-      placed = subst (PlacedAll 0) (sym same) (placed_all-from (trees n.nodes) 0);
+      read = read;
+      placed = placed;
       shown = subst (λ (us : Trees). Shown us text) (sym same) (same_notation (trees n.nodes) (all_from 0 (trees n.nodes)) text (sym (all-aside (trees n.nodes) 0)) n.shown);
     }
 

@@ -11,7 +11,7 @@ use Rattle.cborn_model.specs.Placed.{PlacedAll}
 use Rattle.cborn_model.specs.Value.{Value, Values, Couples, bytes, text, no_values, value, no_pairs, pair}
 use Rattle.cborn_model.specs.Meaning.{Means, AllMean, EntriesMean, IsByteString, IsBignum, ChunksAreText, joined_chunks}
 use Rattle.cborn_wire.specs.Places.{chunks_from, placed_from, all_from, entries_from}
-use Rattle.cborn_wire.proofs.Spelled.AsPlaced.{spelled_all-from, depth_all-from, fits_all-from, placed_all-from}
+use Rattle.cborn_wire.proofs.Spelled.OneReading.{listed_reading}
 use Rattle.cborn_wire.proofs.Spelled.TreeLists.{tree_list, trees-tree_list}
 use Rattle.cborn_transcode.specs.Transcoding.{IsTranscoded}
 
@@ -81,15 +81,5 @@ pub record Placements (limit : ℕ) (input : List ℕ) (items : List Value) : Ty
 
 pub placements : (order : List ℕ → List ℕ → Ordering) (limit : ℕ) (input output : List ℕ) (n : IsTranscoded order limit input output) → Placements limit input n.items
 placements order limit input output n =
-    let same : trees (tree_list (all_from 0 (trees n.nodes))) ≡ all_from 0 (trees n.nodes) = trees-tree_list (all_from 0 (trees n.nodes)) in
-    let read : Wellformed limit (all_from 0 (trees n.nodes)) input = record {
-      spells = spelled_all-from (trees n.nodes) 0 ∙ n.read.spells;
-      fit = fits_all-from (trees n.nodes) 0 n.read.fit;
-      shallow = subst (λ (d : ℕ). d ≤ limit) (sym (depth_all-from (trees n.nodes) 0)) n.read.shallow;
-    } in
-    record {
-      nodes = tree_list (all_from 0 (trees n.nodes));
-      read = subst (λ (us : Trees). Wellformed limit us input) (sym same) read;
-      placed = subst (PlacedAll 0) (sym same) (placed_all-from (trees n.nodes) 0);
-      meant = zip-from n.nodes 0 n.items n.meant;
-    }
+    let (read, placed) = listed_reading limit 0 (trees n.nodes) input n.read in
+    record { nodes = tree_list (all_from 0 (trees n.nodes)); read = read; placed = placed; meant = zip-from n.nodes 0 n.items n.meant }

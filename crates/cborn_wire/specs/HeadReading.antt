@@ -19,13 +19,15 @@ abbrev pub seen_argument : Argument → heads.Argument
 seen_argument (arguments.Given w n) = Given w n
 seen_argument arguments.Endless = EndlessArgument
 
-abbrev pub seen_size : Argument → Size
-seen_size (arguments.Given w n) = Fixed w
-seen_size arguments.Endless = Endless
+-- the size and the number of items or pairs that the head of an array or a map says
 
-abbrev pub seen_count : Argument → Option ℕ
-seen_count (arguments.Given w n) = Some n
-seen_count arguments.Endless = None
+abbrev pub size_in : heads.Argument → Size
+size_in (Given w n) = Fixed w
+size_in EndlessArgument = Endless
+
+abbrev pub count_in : heads.Argument → Option ℕ
+count_in (Given w n) = Some n
+count_in EndlessArgument = None
 
 -- the argument fits its width
 abbrev pub ArgumentFits : heads.Argument → Type 0

@@ -1,17 +1,17 @@
 //! What a head makes of the levels, and of what a visitor holds.
 
-ghost use Rattle.std.specs.Prelude.{◌≡◌, ◌∷◌, ◌++◌, ◌+◌, ◌<◌, ◌≤◌, ℕ, List, [], length, OnErr, IfOk, Err, ◌⊎◌};
+ghost use Rattle.std.specs.Prelude.{◌≡◌, ◌<◌, ℕ, List, [], length, OnErr, IfOk, Err, ◌⊎◌};
 ghost use Rattle.cborn_model.specs.declared.heads.Width.{Width as Wide};
 ghost use Rattle.cborn_model.specs.declared.heads.Major.TheVariants as majors;
 ghost use Rattle.cborn_model.specs.declared.visitors.StringKind.{StringKind as Kind};
 ghost use Rattle.cborn_model.specs.Heads.{WidthFits};
-ghost use Rattle.cborn_model.specs.Partial.{Partial, no_part, part, put, TakesItem, TakesString};
-ghost use Rattle.cborn_model.specs.Tree.{Tree, no_item, no_entry};
+ghost use Rattle.cborn_model.specs.Partial.{an_array, a_map, a_tag, in_chunks, Partial, no_part, part, put, string_tree, TakesItem, TakesString};
+ghost use Rattle.cborn_model.specs.Tree.{Tree};
 ghost use Rattle.cborn_wire.specs.declared.faults.WireFault.TheVariants.{Refused, OutOfMemory};
 ghost use Rattle.cborn_wire.specs.declared.faults.WireReason.{WireReason as Reason};
-ghost use Rattle.cborn_wire.specs.Slots.{opened_chunks, opened_tag, major_of};
-ghost use Rattle.cborn_wire.specs.HeadReading.{major_at, seen_argument, ArgumentFits};
-ghost use Rattle.cborn_wire.specs.shared.Machine.{nothing, Live, finished, ended, string_done, content_at, items_at, pairs_at, after_head};
+ghost use Rattle.cborn_wire.specs.Slots.{major_of};
+ghost use Rattle.cborn_wire.specs.HeadReading.{major_at, size_in, count_in, seen_argument, ArgumentFits};
+ghost use Rattle.cborn_wire.specs.shared.Machine.{finished, holding, ended, content_at, after_head};
 ghost use Rattle.cborn_wire.specs.shared.Visiting.{ready, open_in, Keeps, Takes, Stands, Gives};
 
 use crate::levels::{Level, LevelKind, Levels, next_number};
@@ -68,7 +68,7 @@ pub(crate) fn close_string<L: Levels, V: Visitor>(
     visitor: &mut V,
     end: u64,
 ) -> Result<u64, AllocError>
-    ensures goes { (f : Partial) (p : ℕ) (k : Kind) (w : Wide) (n : ℕ) (x : List ℕ) → length x ≡ n → TakesString f k → V.holds visitor.old f (part p k w n x) → Keeps f (L.outer levels.old) (L.inner levels.old) → IfOk result (λ left. Stands (V.holds visitor.new) (L.outer levels.new) (L.inner levels.new) left end (string_done end p (ready f) (open_in f) k w x)) }
+    ensures goes { (f : Partial) (p : ℕ) (k : Kind) (w : Wide) (n : ℕ) (x : List ℕ) → length x ≡ n → TakesString f k → V.holds visitor.old f (part p k w n x) → Keeps f (L.outer levels.old) (L.inner levels.old) → IfOk result (λ left. Stands (V.holds visitor.new) (L.outer levels.new) (L.inner levels.new) left end (finished end (ready f) (open_in f) (string_tree p k w x))) }
     ensures memory { OnErr result V.takes_memory }
 {
     visitor.close_string()?;
@@ -117,7 +117,7 @@ fn open_chunks<L: Levels, V: Visitor>(
     kind: StringKind,
 ) -> Result<u64, AllocError>
     requires { length (L.outer levels.old) < L.most }
-    ensures goes { (f : Partial) → TakesItem f → V.holds visitor.old f no_part → Keeps f (L.outer levels.old) (L.inner levels.old) → IfOk result (λ left. Stands (V.holds visitor.new) (L.outer levels.new) (L.inner levels.new) left end (Live end (ready f) (opened_chunks place kind [] ∷ open_in f) nothing)) }
+    ensures goes { (f : Partial) → TakesItem f → V.holds visitor.old f no_part → Keeps f (L.outer levels.old) (L.inner levels.old) → IfOk result (λ left. Stands (V.holds visitor.new) (L.outer levels.new) (L.inner levels.new) left end (holding end (ready f) (open_in f) (in_chunks place kind) [])) }
     ensures memory { OnErr result (V.takes_memory ⊎ L.takes_memory) }
 {
     visitor.open_chunks(place, kind)?;
@@ -136,7 +136,7 @@ fn open_array<L: Levels, V: Visitor>(
 ) -> Result<u64, AllocError>
     requires fits { ArgumentFits (seen_argument argument) }
     requires room { length (L.outer levels.old) < L.most }
-    ensures goes { (f : Partial) → TakesItem f → V.holds visitor.old f no_part → Keeps f (L.outer levels.old) (L.inner levels.old) → IfOk result (λ left. Stands (V.holds visitor.new) (L.outer levels.new) (L.inner levels.new) left end (items_at end (ready f) (open_in f) place (seen_argument argument) no_item)) }
+    ensures goes { (f : Partial) → TakesItem f → V.holds visitor.old f no_part → Keeps f (L.outer levels.old) (L.inner levels.old) → IfOk result (λ left. Stands (V.holds visitor.new) (L.outer levels.new) (L.inner levels.new) left end (holding end (ready f) (open_in f) (an_array place (size_in (seen_argument argument)) (count_in (seen_argument argument))) [])) }
     ensures memory { OnErr result (V.takes_memory ⊎ L.takes_memory) }
 {
     let count = argument.count();
@@ -160,7 +160,7 @@ fn open_map<L: Levels, V: Visitor>(
 ) -> Result<u64, AllocError>
     requires fits { ArgumentFits (seen_argument argument) }
     requires room { length (L.outer levels.old) < L.most }
-    ensures goes { (f : Partial) → TakesItem f → V.holds visitor.old f no_part → Keeps f (L.outer levels.old) (L.inner levels.old) → IfOk result (λ left. Stands (V.holds visitor.new) (L.outer levels.new) (L.inner levels.new) left end (pairs_at end (ready f) (open_in f) place (seen_argument argument) no_entry)) }
+    ensures goes { (f : Partial) → TakesItem f → V.holds visitor.old f no_part → Keeps f (L.outer levels.old) (L.inner levels.old) → IfOk result (λ left. Stands (V.holds visitor.new) (L.outer levels.new) (L.inner levels.new) left end (holding end (ready f) (open_in f) (a_map place (size_in (seen_argument argument)) (count_in (seen_argument argument))) [])) }
     ensures memory { OnErr result (V.takes_memory ⊎ L.takes_memory) }
 {
     let count = argument.count();
@@ -184,7 +184,7 @@ fn open_tag<L: Levels, V: Visitor>(
 ) -> Result<u64, AllocError>
     requires fits { WidthFits width n }
     requires room { length (L.outer levels.old) < L.most }
-    ensures goes { (end : ℕ) (f : Partial) → TakesItem f → V.holds visitor.old f no_part → Keeps f (L.outer levels.old) (L.inner levels.old) → IfOk result (λ left. Stands (V.holds visitor.new) (L.outer levels.new) (L.inner levels.new) left end (Live end (ready f) (opened_tag place width n ∷ open_in f) nothing)) }
+    ensures goes { (end : ℕ) (f : Partial) → TakesItem f → V.holds visitor.old f no_part → Keeps f (L.outer levels.old) (L.inner levels.old) → IfOk result (λ left. Stands (V.holds visitor.new) (L.outer levels.new) (L.inner levels.new) left end (holding end (ready f) (open_in f) (a_tag place width n) [])) }
     ensures memory { OnErr result (V.takes_memory ⊎ L.takes_memory) }
 {
     visitor.open_tag(place, width, n)?;

@@ -7,7 +7,7 @@ ghost use Rattle.cborn_model.specs.Bytes.{AreBytes};
 ghost use Rattle.cborn_model.specs.Heads.{code, major_at, WidthFits, IsHead, head_bytes};
 ghost use Rattle.cborn_wire.specs.shared.InitialBytes.{Next, EndlessInformation, info_at, is_reserved, is_endless_head, is_always_bounded, is_break, is_other, is_float, is_container};
 ghost use Rattle.cborn_wire.specs.shared.Machine.{width_bytes, number};
-ghost use Rattle.cborn_wire.specs.HeadReading.{ReadsHead, reason_alone, seen_size, seen_count};
+ghost use Rattle.cborn_wire.specs.HeadReading.{ReadsHead, reason_alone, seen_argument, size_in, count_in};
 ghost use Rattle.cborn_model.specs.declared.heads.Width.{Width};
 ghost use Rattle.cborn_model.specs.declared.heads.Width.TheVariants.{One};
 
@@ -27,7 +27,7 @@ pub enum Argument {
 impl Argument {
     /// How an array or a map with this argument says where it ends.
     pub(crate) fn size(self) -> Size
-        ensures { result ≡ seen_size self }
+        ensures { result ≡ size_in (seen_argument self) }
     {
         match self {
             Argument::Given(width, _) => Size::Fixed(width),
@@ -37,7 +37,7 @@ impl Argument {
 
     /// How many items or pairs an array or a map with this argument announces.
     pub(crate) fn count(self) -> Option<u64>
-        ensures { result ≡ seen_count self }
+        ensures { result ≡ count_in (seen_argument self) }
     {
         match self {
             Argument::Given(_, count) => Some(count),

@@ -4,7 +4,8 @@ ghost use Rattle.std.specs.Prelude.{◌≡◌, ◌∷◌, ◌++◌, ◌<◌, ℕ
 ghost use Rattle.cborn_wire.specs.Slots as slots;
 ghost use Rattle.cborn_wire.specs.declared.levels.Level.{Level as OneLevel};
 ghost use Rattle.cborn_wire.specs.devices.Counting.{seen_slot};
-ghost use Rattle.cborn_wire.specs.shared.Visiting.{next_number, is_all, with_part, may_end, slot_of, IsInput};
+ghost use Rattle.cborn_wire.specs.shared.Machine.{is_all};
+ghost use Rattle.cborn_wire.specs.shared.Visiting.{next_number, with_part, may_end, slot_of, IsInput};
 
 use crate::refusals::Slot;
 use arrayvec::ArrayVec;

@@ -15,7 +15,7 @@ use Rattle.cborn_model.specs.Placed.{PlacedAll}
 use Rattle.cborn_model.specs.Spelled.{Wellformed}
 use Rattle.cborn_wire.specs.Faults.{IsWellformed}
 use Rattle.cborn_wire.specs.Places.{all_from}
-use Rattle.cborn_wire.proofs.Spelled.AsPlaced.{spelled_all-from, depth_all-from, fits_all-from, placed_all-from}
+use Rattle.cborn_wire.proofs.Spelled.OneReading as one_reading
 use Rattle.cborn_flaws.specs.Searching.{HasBadText, IsFirstBadText, HaveFirstBadText}
 use Rattle.cborn_show.specs.Passed.{HasNoNotation}
 use Rattle.cborn_engine.specs.declared.kinds.Kind.TheVariants as kind
@@ -103,11 +103,7 @@ lowest_bad_text nodes p h = record { is = bad_among h.is.0 p h.is.2 nodes h.is.1
 
 -- nodes at their places spell what nodes spell
 pub placed_reading : (limit : ℕ) (x : List ℕ) → IsWellformed limit x → (ts : Trees) × Wellformed limit ts x × PlacedAll 0 ts
-placed_reading limit x (ts, w) = (
-  all_from 0 ts,
-  record { spells = spelled_all-from ts 0 ∙ w.spells; fit = fits_all-from ts 0 w.fit; shallow = subst (λ (d : ℕ). d ≤ limit) (sym (depth_all-from ts 0)) w.shallow },
-  placed_all-from ts 0,
-)
+placed_reading limit x (ts, w) = let (read, placed) = one_reading.placed_reading limit 0 ts x w in (all_from 0 ts, read, placed)
 
 -- what isn't well-formed has none
 pub malformed_unshown : (limit : ℕ) (x : List ℕ) → (IsWellformed limit x → ⊥) → HasNoNotation limit x

@@ -9,7 +9,7 @@ use Rattle.cborn_model.specs.Placed.{Placed, PlacedAll}
 use Rattle.cborn_model.specs.Spelled.{spelled, spelled_all, Fits, Wellformed}
 use Rattle.cborn_wire.specs.Places.{all_from}
 use Rattle.cborn_wire.specs.Reading.{IsFirstItem}
-use Rattle.cborn_wire.proofs.Spelled.AsPlaced.{spelled_all-from, depth_all-from, fits_all-from, placed_all-from}
+use Rattle.cborn_wire.proofs.Spelled.OneReading.{listed_reading}
 use Rattle.cborn_wire.proofs.Spelled.TreeLists.{tree_list, trees-tree_list}
 use Rattle.cborn_model.proofs.Lengths.{some_bytes}
 use Rattle.cborn_text_places.proofs.Shortening.Twins.{twins_well}
@@ -109,15 +109,7 @@ second_start t u us =
 
 -- nodes in their places
 pub in_places : (limit : ℕ) (ns : List Tree) (x : List ℕ) → Wellformed limit (trees ns) x → (ms : List Tree) × SpellsInPlace kind.Wire limit x ms
-in_places limit ns x w =
-    let ts = all_from 0 (trees ns) in
-    let same : trees (tree_list ts) ≡ ts = trees-tree_list ts in
-    let there : Wellformed limit ts x = record {
-      spells = spelled_all-from (trees ns) 0 ∙ w.spells;
-      fit = fits_all-from (trees ns) 0 w.fit;
-      shallow = omega (arith, depth_all-from (trees ns) 0, w.shallow);
-    } in
-    (tree_list ts, (subst (λ (us : Trees). Wellformed limit us x) (sym same) there, subst (PlacedAll 0) (sym same) (placed_all-from (trees ns) 0)))
+in_places limit ns x w = (tree_list (all_from 0 (trees ns)), listed_reading limit 0 (trees ns) x w)
 
 pub second_in_bytes : (limit : ℕ) (x : List ℕ) (ns : List Tree) (end : ℕ) → Wellformed limit (trees ns) x → end ≤ length x → Ends x end → end ≢ length x → SecondStarts kind.Wire limit x end
 second_in_bytes limit x ns end w l e at =

@@ -2,24 +2,20 @@
 use Rattle.std.proofs.Common.{◌≡◌, refl, sym, ap, ◌∙◌, subst, ℕ, zero, suc, ◌+◌, ◌-◌, ◌^◌, ◌<◌, ◌≤◌, List, [], ◌∷◌, ◌++◌, length, take, drop, get_or, cond, Option, Some, None, ◌⊎◌, inl, inr, arith, append_assoc, length-append}
 use Rattle.std.proofs.lemmas.Bool.{cases_lt, lt-ltb, le-ltb}
 use Rattle.std.proofs.lemmas.List.{length-take-le, take-append-drop, take-append-le, take_all, take_at}
-use Rattle.std.specs.List.{flat_map}
-use Rattle.cborn_model.specs.declared.heads.Major.{Major}
-use Rattle.cborn_model.specs.declared.heads.Major.TheVariants as majors
-use Rattle.cborn_model.specs.declared.nodes.Chunk.{Chunk}
-use Rattle.cborn_model.specs.Heads.{EndlessArgument, head}
-use Rattle.cborn_model.specs.Tree.{Tree, Trees, no_item, more, trees, Entries, no_entry, entry, entries, count, count_entries}
-use Rattle.cborn_model.specs.Spelled.{chunk_bytes, spelled, spelled_all, spelled_entries}
-use Rattle.cborn_model.specs.Partial.{Opening, an_array, a_map, a_tag, in_chunks, Partial, top, inside, paired, last_key, chunks_of}
+use Rattle.cborn_model.specs.Tree.{Tree, trees}
+use Rattle.cborn_model.specs.Spelled.{spelled, spelled_all}
+use Rattle.cborn_model.specs.Partial.{Opening, an_array, a_map, a_tag, in_chunks, Partial, top, inside, paired, last_key}
 use Rattle.cborn_model.proofs.Lengths.{some_bytes}
-use Rattle.cborn_model.proofs.Listed.Trees.{count-trees, count_entries-entries}
-use Rattle.cborn_wire.specs.Slots.{beginning, beginnings, major_of}
+use Rattle.cborn_model.proofs.Listed.Trees.{count-trees}
+use Rattle.cborn_wire.specs.Slots.{opened, opening, beginning, beginnings}
 use Rattle.cborn_wire.specs.declared.levels.Level.{Level}
-use Rattle.cborn_wire.specs.shared.Ground.{IsPlacedOpen}
+use Rattle.cborn_wire.specs.shared.Ground.{place_of}
 use Rattle.cborn_wire.specs.shared.Machine.{front}
-use Rattle.cborn_wire.specs.shared.Visiting.{argument_from, map_container, container, ready, open_in, at_most_highest, map_kind, kind_in, place_of, levels}
+use Rattle.cborn_wire.specs.shared.Visiting.{ready, open_in, at_most_highest, map_kind, kind_in, levels}
+use Rattle.cborn_wire.proofs.Machine.Containers.{pair_count}
 use Rattle.cborn_wire.proofs.Machine.SoundItems.{ground_less}
 use Rattle.cborn_explain.specs.declared.paths.Step.TheVariants.{Item, Element, Key, Value, Chunk as AChunk}
-use Rattle.cborn_explain.specs.Paths.{step_in, steps, EndsAt}
+use Rattle.cborn_explain.specs.Paths.{step_in_map, step_in, steps, EndsAt}
 use Rattle.cborn_explain.specs.devices.Walks.{step_of, path_of, place_at, Opened}
 
 -- A list of nodes isn't longer than the bytes that spell it, so its length is exact in bytes that are in memory.
@@ -31,49 +27,35 @@ exact n m low short = go (cases_lt n (2 ^ 64 - 1))
     go (inl h) = ap (λ b. cond b n (2 ^ 64 - 1)) (lt-ltb n (2 ^ 64 - 1) h)
     go (inr h) = ap (λ b. cond b n (2 ^ 64 - 1)) (le-ltb n (2 ^ 64 - 1) h) ∙ omega (arith, h, low, short)
 
-count_below : (ts : Trees) → count ts ≤ length (spelled_all ts)
-count_below no_item = omega arith
-count_below (more t ts) = omega (arith, length-append (spelled t) (spelled_all ts), some_bytes t, count_below ts)
+count_below : (ts : List Tree) → length ts ≤ length (spelled_all (trees ts))
+count_below [] = omega arith
+count_below (t ∷ ts) = omega (arith, length-append (spelled t) (spelled_all (trees ts)), some_bytes t, count_below ts)
 
-count_entries_below : (es : Entries) → count_entries es ≤ length (spelled_entries es)
-count_entries_below no_entry = omega arith
-count_entries_below (entry k v es) = omega (arith, length-append (spelled k ++ spelled v) (spelled_entries es), length-append (spelled k) (spelled v), some_bytes k, count_entries_below es)
-
-count_chunks : (m : Major) (cs : List Chunk) → length cs ≤ length (flat_map (chunk_bytes m) cs)
-count_chunks m [] = omega arith
-count_chunks m (c ∷ cs) = omega (arith, length-append (chunk_bytes m c) (flat_map (chunk_bytes m) cs), count_chunks m cs)
-
-length_chunks : (ts : List Tree) → length (chunks_of ts) ≡ length ts
-length_chunks [] = refl
-length_chunks (t ∷ ts) = omega (arith, length_chunks ts)
-
-step_same : (o : Opening) (ts : List Tree) → length (beginning (container o ts)) < 2 ^ 64 → step_of (kind_in o ts) ≡ step_in (container o ts)
-step_same (an_array p s c) ts short =
-    ap Element (exact (length ts) _ (omega (arith, count-trees ts, count_below (trees ts), length-append (head majors.Array (argument_from s c)) (spelled_all (trees ts)))) short ∙ sym (count-trees ts))
-step_same (a_map p s c) ts short = go (last_key ts) short
+step_same : (o : Opening) (ts : List Tree) → length (beginning (opened o ts)) < 2 ^ 64 → step_of (kind_in o ts) ≡ step_in (opened o ts)
+step_same o ts short = go o (omega (arith, short, length-append (opening o) (spelled_all (trees ts))))
   where
-    es : List (Tree × Tree)
-    es = paired ts
+    all : (n : ℕ) → n ≤ length ts → length (spelled_all (trees ts)) < 2 ^ 64 → at_most_highest n ≡ n
+    all n low short = exact n _ (omega (arith, low, count_below ts)) short
 
-    low : length es ≤ length (head majors.Map (argument_from s c) ++ spelled_entries (entries es))
-    low = omega (arith, count_entries-entries es, count_entries_below (entries es), length-append (head majors.Map (argument_from s c)) (spelled_entries (entries es)))
+    in_map : (c : Option ℕ) (n k : ℕ) (x : Option Tree) → n ≡ k → step_of (map_kind c n x) ≡ step_in_map k x
+    in_map c n k None e = ap Key e
+    in_map c n k (Some t) e = ap Value e
 
-    go : (x : Option Tree) → length (beginning (map_container p (argument_from s c) es x)) < 2 ^ 64 → step_of (map_kind c (at_most_highest (length es)) x) ≡ step_in (map_container p (argument_from s c) es x)
-    go None short = ap Key (exact (length es) _ low short ∙ sym (count_entries-entries es))
-    go (Some k) short = ap Value (exact (length es) _ (omega (arith, low, length-append (head majors.Map (argument_from s c) ++ spelled_entries (entries es)) (spelled k))) short ∙ sym (count_entries-entries es))
-step_same (a_tag p w n) ts short = refl
-step_same (in_chunks p k) ts short =
-    ap AChunk (exact (length ts) _ (omega (arith, length_chunks ts, count_chunks (major_of k) (chunks_of ts), length-append (head (major_of k) EndlessArgument) (flat_map (chunk_bytes (major_of k)) (chunks_of ts)))) short ∙ sym (length_chunks ts))
+    go : (o : Opening) → length (spelled_all (trees ts)) < 2 ^ 64 → step_of (kind_in o ts) ≡ step_in (opened o ts)
+    go (an_array p s c) short = ap Element (all (length ts) (omega arith) short)
+    go (a_map p s c) short = in_map c _ _ (last_key ts) (all (length (paired ts)) (omega (arith, pair_count ts)) short)
+    go (a_tag p w n) short = refl
+    go (in_chunks p k) short = ap AChunk (all (length ts) (omega arith) short)
 
 path_append : (ls : List Level) (l : Level) → path_of (ls ++ l ∷ []) ≡ path_of ls ++ step_of l.kind ∷ []
 path_append [] l = refl
 path_append (m ∷ ls) l = ap (λ p. step_of m.kind ∷ p) (path_append ls l)
 
 pub path_is : (f : Partial) → length (front (ready f) (open_in f)) < 2 ^ 64 → path_of (levels f) ≡ steps (ready f) (open_in f)
-path_is (top ts) short = ap (λ n. Item n ∷ []) (exact (length ts) _ (omega (arith, count-trees ts, count_below (trees ts), length-append (spelled_all (trees ts)) [])) short ∙ sym (count-trees ts))
+path_is (top ts) short = ap (λ n. Item n ∷ []) (exact (length ts) _ (omega (arith, count_below ts, length-append (spelled_all (trees ts)) [])) short ∙ sym (count-trees ts))
 path_is (inside f o ts) short =
-    let all = length-append (spelled_all (ready f)) (beginnings (open_in f) ++ beginning (container o ts)) in
-    let both = length-append (beginnings (open_in f)) (beginning (container o ts)) in
+    let all = length-append (spelled_all (ready f)) (beginnings (open_in f) ++ beginning (opened o ts)) in
+    let both = length-append (beginnings (open_in f)) (beginning (opened o ts)) in
     path_append (levels f) _
     ∙ ap (λ p. p ++ step_of (kind_in o ts) ∷ []) (path_is f (omega (arith, short, all, both, length-append (spelled_all (ready f)) (beginnings (open_in f)))))
     ∙ ap (λ s. steps (ready f) (open_in f) ++ s ∷ []) (step_same o ts (omega (arith, short, all, both)))
@@ -104,27 +86,17 @@ pub some_path : (f : Partial) → 0 < length (path_of (levels f))
 some_path (top ts) = omega arith
 some_path (inside f o ts) = omega (arith, length_path (levels (inside f o ts)), length-append (levels f) (record { place = place_of o; kind = kind_in o ts } ∷ []))
 
-place_is : (o : Opening) (ts : List Tree) (p : ℕ) → IsPlacedOpen p (container o ts) → place_of o ≡ p
-place_is (an_array q s c) ts p h = h.0
-place_is (a_map q s c) ts p h = go (last_key ts) h
-  where
-    go : (x : Option Tree) → IsPlacedOpen p (map_container q (argument_from s c) (paired ts) x) → q ≡ p
-    go None h = h.0
-    go (Some k) h = h.0
-place_is (a_tag q w n) ts p h = h
-place_is (in_chunks q k) ts p h = h.0
-
 -- The bytes before the head of the innermost open container end with what is open around it.
 opened_back : (x : List ℕ) (at : ℕ) (f : Partial) (o : Opening) (ts : List Tree) → Opened x at (inside f o ts) → (place_of o ≤ at) × Opened x (place_of o) f
 opened_back x at f o ts h =
     let before = front (ready f) (open_in f) in
-    let more = beginning (container o ts) in
-    let p : place_of o ≡ 0 + length (spelled_all (ready f)) + length (beginnings (open_in f)) = place_is o ts _ h.ground.open_placed.0 in
+    let more = beginning (opened o ts) in
+    let p : place_of o ≡ 0 + length (spelled_all (ready f)) + length (beginnings (open_in f)) = h.ground.open_placed.0.0 in
     let len : length before ≡ place_of o = omega (arith, p, length-append (spelled_all (ready f)) (beginnings (open_in f))) in
     let longer : take at x ≡ before ++ more = h.bytes ∙ sym (append_assoc (spelled_all (ready f)) (beginnings (open_in f)) more) in
     let below : place_of o ≤ at = omega (arith, len, ap length longer, length-append before more, length-take-le at x h.within) in
     let whole : x ≡ before ++ (more ++ drop at x) = sym (take-append-drop at x) ∙ ap (λ k. k ++ drop at x) longer ∙ append_assoc before more (drop at x) in
-    (below, record { within = omega (arith, below, h.within); ground = ground_less 1024 0 (ready f) (open_in f) (container o ts) h.ground; bytes = ap (take (place_of o)) whole ∙ take_at before (more ++ drop at x) (place_of o) len })
+    (below, record { within = omega (arith, below, h.within); ground = ground_less 1024 0 (ready f) (open_in f) (opened o ts) h.ground; bytes = ap (take (place_of o)) whole ∙ take_at before (more ++ drop at x) (place_of o) len })
 
 pub opened_ends : (x : List ℕ) (at : ℕ) (f : Partial) → length x < 2 ^ 64 → Opened x at f → EndsAt (take at x) (path_of (levels f))
 opened_ends x at f short h =

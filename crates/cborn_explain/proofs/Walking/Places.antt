@@ -1,16 +1,17 @@
 -- The head that comes next, or is partial, is never before one that came.
 use Rattle.std.proofs.Common.{ℕ, suc, ◌/◌, ◌%◌, ◌≤◌, List, [], ◌∷◌, ◌++◌, length, Bool, true, false, cond, leb, ltb, Option, Some, None, arith}
-use Rattle.cborn_model.specs.declared.heads.Width.{Width}
 use Rattle.cborn_model.specs.declared.heads.Width.TheVariants.{Direct, One}
 use Rattle.cborn_model.specs.declared.heads.Major.{Major}
 use Rattle.cborn_model.specs.declared.heads.Major.TheVariants.{Unsigned, Negative, ByteString, TextString, Array, Map, Tag, Other}
 use Rattle.cborn_model.specs.Heads.{Argument, Given, EndlessArgument}
-use Rattle.cborn_model.specs.Tree.{Tree, Trees, Tagged, count, count_entries}
+use Rattle.cborn_model.specs.Partial.{Opening, an_array, a_map, built}
+use Rattle.cborn_model.specs.Tree.{Tree, Trees}
 use Rattle.cborn_wire.specs.declared.faults.WireReason.{WireReason}
-use Rattle.cborn_wire.specs.Slots.{StringKind, OpenContainer, opened_items, opened_pairs, opened_value, opened_tag, opened_chunks, slot, open_depth}
-use Rattle.cborn_wire.specs.HeadReading.{major_at}
+use Rattle.cborn_wire.specs.Slots.{OpenContainer, opened, slot, slot_in, open_depth}
+use Rattle.cborn_wire.specs.SlotFaults.{needs_item}
+use Rattle.cborn_wire.specs.HeadReading.{major_at, size_in, count_in}
 use Rattle.cborn_wire.specs.shared.InitialBytes.{Info, Now, Next, Reserved, EndlessInformation, info_at, head_reason}
-use Rattle.cborn_wire.specs.shared.Machine.{snoc, snoc_entry, Goal, argument_of, content_of, nothing, gathering, State, Live, Failed, is_full, items_tree, pairs_tree, string_tree, finished, string_done, ended, after_head, gather, begin_head, unless, at_slot, number, step, run}
+use Rattle.cborn_wire.specs.shared.Machine.{Goal, argument_of, content_of, nothing, gathering, State, Live, Failed, is_full, finished, holding, ended, after_head, gather, begin_head, unless, at_slot, number, step, run}
 use Rattle.cborn_explain.specs.devices.Walks.{place_in}
 
 -- the state is at p or after it
@@ -26,34 +27,25 @@ either p false s u h k = k
 module _ (p fed : ℕ) (rd : Trees) (up : p ≤ fed) where
   item_rises : (os : List OpenContainer) (t : Tree) → Rises p (finished fed rd os t)
   item_rises [] t = up
-  item_rises (opened_items q a ts ∷ os) t = either p (is_full a (count (snoc ts t))) _ _ (item_rises os (items_tree q a (snoc ts t))) up
-  item_rises (opened_pairs q a es ∷ os) t = up
-  item_rises (opened_value q a es k ∷ os) t = either p (is_full a (count_entries (snoc_entry es k t))) _ _ (item_rises os (pairs_tree q a (snoc_entry es k t))) up
-  item_rises (opened_tag q w n ∷ os) t = item_rises os (Tagged q w n t)
-  item_rises (opened_chunks q k cs ∷ os) t = up
+  item_rises (opened o ts ∷ os) t = either p (is_full o (length (ts ++ t ∷ []))) _ _ (item_rises os (built o (ts ++ t ∷ []))) up
 
-  string_rises : (os : List OpenContainer) (q : ℕ) (k : StringKind) (w : Width) (x : List ℕ) → Rises p (string_done fed q rd os k w x)
-  string_rises (opened_chunks r l cs ∷ os) q k w x = up
-  string_rises os q k w x = item_rises os (string_tree q k w x)
+  opened_rises : (os : List OpenContainer) (o : Opening) → Rises p (holding fed rd os o [])
+  opened_rises os o = either p (is_full o 0) _ _ (item_rises os (built o [])) up
 
   end_rises : (os : List OpenContainer) → Rises p (ended fed rd os)
-  end_rises (opened_items q EndlessArgument ts ∷ os) = item_rises os _
-  end_rises (opened_pairs q EndlessArgument es ∷ os) = item_rises os _
-  end_rises (opened_chunks q k cs ∷ os) = item_rises os _
-  end_rises os = up
+  end_rises [] = up
+  end_rises (opened o ts ∷ os) = either p (needs_item (slot_in (opened o ts))) _ _ up (item_rises os (built o ts))
 
   module _ (q : ℕ) (os : List OpenContainer) (from : p ≤ q) (to : q ≤ fed) where
     head_rises : (m : Major) (a : Argument) → Rises p (after_head fed q rd os m a)
     head_rises Unsigned (Given w n) = item_rises os _
     head_rises Negative (Given w n) = item_rises os _
-    head_rises ByteString (Given w n) = either p (leb n 0) _ _ (string_rises os q _ w []) (from, to)
-    head_rises TextString (Given w n) = either p (leb n 0) _ _ (string_rises os q _ w []) (from, to)
+    head_rises ByteString (Given w n) = either p (leb n 0) _ _ (item_rises os _) (from, to)
+    head_rises TextString (Given w n) = either p (leb n 0) _ _ (item_rises os _) (from, to)
     head_rises ByteString EndlessArgument = up
     head_rises TextString EndlessArgument = up
-    head_rises Array (Given w n) = either p (leb n 0) _ _ (item_rises os _) up
-    head_rises Array EndlessArgument = up
-    head_rises Map (Given w n) = either p (leb n 0) _ _ (item_rises os _) up
-    head_rises Map EndlessArgument = up
+    head_rises Array a = opened_rises os (an_array q (size_in a) (count_in a))
+    head_rises Map a = opened_rises os (a_map q (size_in a) (count_in a))
     head_rises Tag (Given w n) = up
     head_rises Other (Given Direct n) = item_rises os _
     head_rises Other (Given One n) = either p (ltb n 32) _ _ from (item_rises os _)
@@ -62,7 +54,7 @@ module _ (p fed : ℕ) (rd : Trees) (up : p ≤ fed) where
 
     gather_rises : (g : Goal) (n : ℕ) (got : List ℕ) → Rises p (gather fed q rd os g n got)
     gather_rises (argument_of m w) n got = either p (leb n (length got)) _ _ (head_rises m (Given w (number w got))) (from, to)
-    gather_rises (content_of k w) n got = either p (leb n (length got)) _ _ (string_rises os q k w got) (from, to)
+    gather_rises (content_of k w) n got = either p (leb n (length got)) _ _ (item_rises os _) (from, to)
 
 first_rises : (limit p fed : ℕ) (rd : Trees) (os : List OpenContainer) (m : Major) (i : Info) → p ≤ fed → Rises p (at_slot limit fed rd os m i)
 first_rises limit p fed rd os m i up = go (head_reason (slot os) (leb limit (open_depth os)) m i [])

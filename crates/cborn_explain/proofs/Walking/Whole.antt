@@ -1,25 +1,22 @@
 -- A walk is where the longest front that ends between two heads ends.
-use Rattle.std.proofs.Common.{◌≡◌, refl, sym, ap, ◌∙◌, subst, ℕ, ◌+◌, ◌^◌, ◌<◌, ◌≤◌, List, [], ◌∷◌, ◌++◌, length, take, drop, Option, Some, None, ◌⊎◌, inl, inr, arith, append-nil, length-append}
+use Rattle.std.proofs.Common.{◌≡◌, refl, sym, ap, ◌∙◌, subst, ℕ, ◌^◌, ◌<◌, ◌≤◌, List, [], ◌∷◌, ◌++◌, length, take, drop, Option, Some, None, ◌⊎◌, inl, inr, arith, append-nil, length-append, zero-add}
 use Rattle.std.proofs.lemmas.List.{length-take-le, take-append-drop, take-append-le, take_at}
 use Rattle.std.proofs.Math.Seq.{take-append_seam}
 use Rattle.cborn_model.specs.Bytes.{AreBytes}
 use Rattle.cborn_model.proofs.Bytes.{bytes-left}
-use Rattle.cborn_model.specs.Tree.{Trees, no_item, depth_all}
-use Rattle.cborn_model.specs.Spelled.{spelled_all, FitsAll}
+use Rattle.cborn_model.specs.Tree.{Trees, depth_all}
+use Rattle.cborn_model.specs.Spelled.{FitsAll}
 use Rattle.cborn_model.specs.Partial.{Partial, Part, no_part, part}
 use Rattle.cborn_wire.specs.declared.faults.WireReason.{WireReason}
 use Rattle.cborn_wire.specs.declared.head_readers.PartialHead.{PartialHead}
 use Rattle.cborn_wire.specs.declared.levels.Level.{Level}
-use Rattle.cborn_wire.specs.Slots.{OpenContainer, beginnings, AreOpen}
-use Rattle.cborn_wire.specs.Places.{all_from}
+use Rattle.cborn_wire.specs.Slots.{OpenContainer, slot, open_depth, AreOpen}
 use Rattle.cborn_wire.specs.shared.Machine.{argument_of, content_of, Unfinished, nothing, gathering, Live, Failed, start, front, partial_bytes, run}
 use Rattle.cborn_wire.specs.shared.Visiting.{ready, open_in, unfinished, levels, seen_head, HereAt, head_at}
 use Rattle.cborn_wire.proofs.Machine.Running.{run-append}
-use Rattle.cborn_wire.proofs.Machine.TakesOpen.{open_from, takes_open}
 use Rattle.cborn_wire.proofs.Machine.SoundItems.{SoundLive, SoundFailed, Sound}
 use Rattle.cborn_wire.proofs.Machine.SoundRuns.{sound}
-use Rattle.cborn_wire.proofs.Spelled.AsPlaced.{spelled_all-from, depth_all-from, fits_all-from, placed_all-from}
-use Rattle.cborn_wire.proofs.Spelled.OneReading.{takes_sequence}
+use Rattle.cborn_wire.proofs.Spelled.SlotLaws.{opened}
 use Rattle.cborn_explain.specs.declared.paths.Step.{Step}
 use Rattle.cborn_explain.specs.Paths.{EndsAt, LeadsTo}
 use Rattle.cborn_explain.specs.devices.Walks.{path_of, IsAmid, place_in, IsOver, IsWalked}
@@ -35,20 +32,8 @@ pub record Between (g : List ℕ) : Type 0 where
 
 between : (g : List ℕ) (ts : Trees) (os : List OpenContainer) → FitsAll ts → depth_all ts ≤ 1024 → AreOpen 1024 os → g ≡ front ts os → Between g
 between g ts os fits deep are_open is =
-    let us = all_from 0 ts in
-    let same : spelled_all us ≡ spelled_all ts = spelled_all-from ts 0 in
-    let whole : g ≡ spelled_all us ++ (beginnings os ++ []) = is ∙ ap (λ l. l ++ beginnings os) (sym same) ∙ ap (λ l. spelled_all us ++ l) (sym (append-nil (beginnings os))) in
-    let q = 0 + length (spelled_all us) in
-    let total : q + length (beginnings os) ≡ length g = omega (arith, ap length is, ap length same, length-append (spelled_all ts) (beginnings os)) in
-    record {
-      items = us;
-      os = open_from q os;
-      is =
-          ap (run 1024 (start 0)) whole
-          ∙ takes_sequence us 1024 0 no_item (beginnings os ++ []) (fits_all-from ts 0 fits) (omega (arith, depth_all-from ts 0, deep)) (placed_all-from ts 0)
-          ∙ takes_open 1024 os q us [] are_open
-          ∙ ap (λ k. Live k us (open_from q os) nothing) total;
-    }
+    let a = opened 1024 0 g (slot os) (open_depth os) (ts, os, fits, deep, are_open, is, refl, refl) in
+    record { items = a.ready; os = a.os; is = a.is ∙ ap (λ n. Live n a.ready a.os nothing) (zero-add (length g)) }
 
 -- no head comes next before such a front ends
 after_front : (g y : List ℕ) → Between g → length g ≤ place_in (run 1024 (start 0) (g ++ y))

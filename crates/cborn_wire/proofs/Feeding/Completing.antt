@@ -12,15 +12,14 @@ use Rattle.cborn_wire.specs.Places.{all_from}
 use Rattle.cborn_wire.specs.Feeding.{AreComplete}
 use Rattle.cborn_wire.specs.shared.Machine.{append_trees, snoc, IsLive, Unfinished, nothing, State, Live, Failed, start, ready_in, partial_bytes, run}
 use Rattle.cborn_wire.proofs.Machine.Running.{failed_run}
-use Rattle.cborn_wire.proofs.Spelled.AsPlaced.{spelled_all-from}
 use Rattle.cborn_wire.proofs.Machine.WholeFront.{front_run}
 use Rattle.cborn_wire.proofs.Machine.TakesItems.{append_trees-nil}
-use Rattle.cborn_wire.proofs.Spelled.OneReading.{reads, longest, ready_front}
+use Rattle.cborn_wire.proofs.Spelled.OneReading.{reads, ends_read, placed_reading, longest, ready_front}
 use Rattle.cborn_wire.proofs.Machine.SoundItems.{SoundLive, Sound}
 use Rattle.cborn_wire.proofs.Machine.SoundRuns.{sound}
 use Rattle.cborn_wire.proofs.Spelled.FaultLaws.{well_or_fault}
 use Rattle.cborn_wire.proofs.Spelled.GoingOn.{refused_ends}
-use Rattle.cborn_wire.proofs.Spelled.SlotLaws.{ends_read, live_goes}
+use Rattle.cborn_wire.proofs.Spelled.SlotLaws.{live_goes}
 use Rattle.cborn_wire.proofs.Spelled.TreeLists.{spelled_all-append}
 
 -- Whole items stay, and more follow them.
@@ -39,7 +38,7 @@ module _ (limit base : ℕ) where
       let (vs, e) = longest limit base us f y w in
       let same : spelled_all (ready_in (run limit (start base) x)) ≡ f ++ spelled_all vs
       = ap (λ l. spelled_all (ready_in (run limit (start base) l))) is ∙ ap spelled_all e ∙ spelled_all-append (all_from base us) vs
-      ∙ ap (λ l. l ++ spelled_all vs) (spelled_all-from us base ∙ w.spells) in
+      ∙ ap (λ l. l ++ spelled_all vs) (placed_reading limit base us f w).0.spells in
       omega (arith, ap length same, length-append f (spelled_all vs))
 
   -- the complete items of a state are sound, and something follows them

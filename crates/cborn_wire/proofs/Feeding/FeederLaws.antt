@@ -16,12 +16,12 @@ use Rattle.cborn_wire.specs.Feeding.{AreComplete, Feeding, IsFed, Accepts, Refus
 use Rattle.cborn_wire.specs.shared.Machine.{append_trees, Unfinished, nothing, State, Live, Failed, start, IsLive, ready_in, held, run, IsReached, Stops}
 use Rattle.cborn_wire.proofs.Machine.Running.{run-append}
 use Rattle.cborn_wire.proofs.Machine.WholeFront.{with_front}
-use Rattle.cborn_wire.proofs.Spelled.OneReading.{reads, after_first}
+use Rattle.cborn_wire.proofs.Spelled.OneReading.{reads, ends_read, after_first}
 use Rattle.cborn_wire.proofs.Machine.SoundItems.{SoundLive, Sound}
 use Rattle.cborn_wire.proofs.Machine.SoundRuns.{sound}
 use Rattle.cborn_wire.proofs.Spelled.FaultLaws.{fails_refused}
 use Rattle.cborn_wire.proofs.Spelled.GoingOn.{refused_ends}
-use Rattle.cborn_wire.proofs.Spelled.SlotLaws.{ends_read, goes_on, live_goes}
+use Rattle.cborn_wire.proofs.Spelled.SlotLaws.{goes_on, live_goes}
 use Rattle.cborn_wire.proofs.Machine.Reached.{reached_held, reached_more, reached_offset}
 use Rattle.cborn_wire.proofs.Feeding.Completing.{complete, ready_grows}
 use Rattle.cborn_wire.proofs.Spelled.TreeLists.{trees-append, trees-tree_list, tree_list, begins_list}

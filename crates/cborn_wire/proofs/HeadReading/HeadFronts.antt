@@ -7,7 +7,7 @@ use Rattle.cborn_model.specs.Bytes.{AreBytes}
 use Rattle.cborn_model.specs.declared.heads.Width.{Width}
 use Rattle.cborn_model.specs.declared.heads.Width.TheVariants.{Direct, One, Two, Four, Eight}
 use Rattle.cborn_model.specs.declared.heads.Major.{Major}
-use Rattle.cborn_model.specs.declared.heads.Major.TheVariants.{Unsigned, Negative, ByteString, TextString, Array, Map, Tag, Other}
+use Rattle.cborn_model.specs.declared.heads.Major.TheVariants.{Unsigned, Negative, Tag, Other}
 use Rattle.cborn_model.specs.Heads.{code, information, following}
 use Rattle.cborn_model.specs.Heads as heads
 use Rattle.cborn_model.proofs.Bytes.{bytes-append, bytes-left}
@@ -15,7 +15,7 @@ use Rattle.cborn_wire.specs.declared.heads.Argument.TheVariants.{Given, Endless}
 use Rattle.cborn_wire.specs.declared.heads.HeadRead.{HeadRead}
 use Rattle.cborn_wire.specs.HeadReading.{major_at, reason_alone, IsHeadOf, IsFrontOfHead, ReadsHead}
 use Rattle.cborn_wire.specs.Slots.{element_or_end}
-use Rattle.cborn_wire.specs.shared.InitialBytes.{Info, Now, Next, EndlessInformation, Reserved, info_at, is_endless_head, is_always_bounded, is_other, head_reason}
+use Rattle.cborn_wire.specs.shared.InitialBytes.{Info, Now, Next, EndlessInformation, info_at, is_endless_head, is_always_bounded, is_other, head_reason}
 use Rattle.cborn_wire.specs.shared.Machine.{width_bytes, number}
 use Rattle.cborn_wire.proofs.HeadReading.InitialBytes.{same_alone}
 use Rattle.cborn_wire.proofs.Machine.TakesHeads.{info_at-now}
@@ -24,23 +24,13 @@ use Rattle.cborn_wire.proofs.Machine.SoundRuns.{code_at, IsWide, InfoIs, info_is
 module _ (y : List ℕ) where
   now_free : (m : Major) (n : ℕ) → head_reason element_or_end false m (Now n) y ≡ None
   now_free Unsigned n = refl
-  now_free Negative n = refl
-  now_free ByteString n = refl
-  now_free TextString n = refl
-  now_free Array n = refl
-  now_free Map n = refl
-  now_free Tag n = refl
-  now_free Other n = refl
+  now_free m n = refl
 
   endless_free : (m : Major) → is_always_bounded m ≡ false → head_reason element_or_end false m EndlessInformation y ≡ None
   endless_free Unsigned e = cc
   endless_free Negative e = cc
-  endless_free ByteString e = refl
-  endless_free TextString e = refl
-  endless_free Array e = refl
-  endless_free Map e = refl
   endless_free Tag e = cc
-  endless_free Other e = refl
+  endless_free m e = refl
 
   pub direct_head : (b : ℕ) → b < 256 → b % 32 < 24 → IsHeadOf (b ∷ y) (record { major = b / 32; argument = Given Direct (b % 32) }) 1
   direct_head b small h =
@@ -117,40 +107,20 @@ no_head [] h = record { major = Unsigned; argument = heads.Given Direct 0; missi
 no_head (b ∷ x) h = absurd (omega arith)
 
 endless_information_is : (i : Info) → is_endless_head i ≡ true → i ≡ EndlessInformation
-endless_information_is (Now n) e = cc
-endless_information_is (Next w) e = cc
-endless_information_is Reserved e = cc
 endless_information_is EndlessInformation e = refl
+endless_information_is i e = cc
 
 no_other : (m : Major) → (m ≡ Other → ⊥) → is_other (major_at (code m)) ≡ false
-no_other Unsigned h = refl
-no_other Negative h = refl
-no_other ByteString h = refl
-no_other TextString h = refl
-no_other Array h = refl
-no_other Map h = refl
-no_other Tag h = refl
 no_other Other h = absurd (h refl)
+no_other m h = refl
 
 pub code_small : (m : Major) → code m < 8
 code_small Unsigned = omega arith
-code_small Negative = omega arith
-code_small ByteString = omega arith
-code_small TextString = omega arith
-code_small Array = omega arith
-code_small Map = omega arith
-code_small Tag = omega arith
-code_small Other = omega arith
+code_small m = omega arith
 
 next_free : (y : List ℕ) (m : Major) (w : Width) → is_other m ≡ false → head_reason element_or_end false m (Next w) y ≡ None
-next_free y Unsigned w e = refl
-next_free y Negative w e = refl
-next_free y ByteString w e = refl
-next_free y TextString w e = refl
-next_free y Array w e = refl
-next_free y Map w e = refl
-next_free y Tag w e = refl
 next_free y Other w e = cc
+next_free y m w e = refl
 
 pub direct_front : (x : List ℕ) (m : Major) → AreBytes x → 1 ≤ length x → code m ≡ get_or x 0 0 / 32 → get_or x 0 0 % 32 < 24
     → IsHeadOf x (record { major = code m; argument = Given Direct (get_or x 0 0 % 32) }) 1
@@ -191,10 +161,7 @@ number_first w (a ∷ b ∷ c ∷ d ∷ e ∷ f ∷ g ∷ h ∷ x) n l are says 
   where
     wide : (w : Width) → width_bytes w ≤ length (a ∷ b ∷ c ∷ d ∷ e ∷ f ∷ g ∷ h ∷ x)
     wide Direct = omega arith
-    wide One = omega arith
-    wide Two = omega arith
-    wide Four = omega arith
-    wide Eight = omega arith
+    wide w = omega arith
 
     go : (w : Width) → n ≡ number w (take (width_bytes w) (a ∷ b ∷ c ∷ d ∷ e ∷ f ∷ g ∷ h ∷ [])) → n ≡ number w (take (width_bytes w) (a ∷ b ∷ c ∷ d ∷ e ∷ f ∷ g ∷ h ∷ x))
     go Direct e = e
@@ -202,11 +169,4 @@ number_first w (a ∷ b ∷ c ∷ d ∷ e ∷ f ∷ g ∷ h ∷ x) n l are says 
     go Two e = e
     go Four e = e
     go Eight e = e
-number_first w [] n l are says = absurd (omega arith)
-number_first w (a ∷ []) n l are says = absurd (omega arith)
-number_first w (a ∷ b ∷ []) n l are says = absurd (omega arith)
-number_first w (a ∷ b ∷ c ∷ []) n l are says = absurd (omega arith)
-number_first w (a ∷ b ∷ c ∷ d ∷ []) n l are says = absurd (omega arith)
-number_first w (a ∷ b ∷ c ∷ d ∷ e ∷ []) n l are says = absurd (omega arith)
-number_first w (a ∷ b ∷ c ∷ d ∷ e ∷ f ∷ []) n l are says = absurd (omega arith)
-number_first w (a ∷ b ∷ c ∷ d ∷ e ∷ f ∷ g ∷ []) n l are says = absurd (omega arith)
+number_first w x n l are says = absurd (omega arith)

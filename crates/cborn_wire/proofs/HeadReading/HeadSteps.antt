@@ -3,7 +3,7 @@ use Rattle.std.proofs.Common.{◌≡◌, refl, sym, ap, ◌∙◌, ℕ, ◌+◌,
 use Rattle.std.proofs.Math.Bool.{and-false}
 use Rattle.std.proofs.lemmas.List.{take_all, take-append-le, length-take}
 use Rattle.cborn_model.specs.declared.heads.Width.{Width}
-use Rattle.cborn_model.specs.declared.heads.Width.TheVariants.{Direct, One, Two, Four, Eight}
+use Rattle.cborn_model.specs.declared.heads.Width.TheVariants.{Direct}
 use Rattle.cborn_model.specs.declared.heads.Major.{Major}
 use Rattle.cborn_model.specs.Heads.{Argument, Given, EndlessArgument, head}
 use Rattle.cborn_model.specs.Tree.{Trees}
@@ -26,10 +26,7 @@ take_one (b ∷ x) h = refl
 
 fills : (w : Width) → width_bytes w ≤ 8
 fills Direct = omega arith
-fills One = omega arith
-fills Two = omega arith
-fills Four = omega arith
-fills Eight = omega arith
+fills w = omega arith
 
 -- There is room for one byte more of an argument.
 pub argument_room : (w : Width) (n : ℕ) (bytes : List ℕ) → length bytes ≡ 8 → length (take n bytes) < width_bytes w → n < 8

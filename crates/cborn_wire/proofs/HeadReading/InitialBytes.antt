@@ -1,64 +1,33 @@
 -- The table of faults says the same by numbers as by the major type and the information as data.
-use Rattle.std.proofs.Common.{◌≡◌, refl, ap, ◌∙◌, ℕ, zero, suc, ◌/◌, ◌%◌, ◌<◌, List, [], ◌∷◌, Bool, false, ◌&&◌, ◌||◌, leb, eqb, arith}
+use Rattle.std.proofs.Common.{◌≡◌, refl, ap, ◌∙◌, ℕ, suc, ◌/◌, ◌%◌, ◌<◌, List, [], ◌∷◌, Bool, false, ◌&&◌, ◌||◌, leb, eqb, arith}
 use Rattle.std.proofs.lemmas.Bool.{le-leb, lt-leb, ne_eqb, agree_below_at}
 use Rattle.cborn_model.specs.Heads.{code}
-use Rattle.cborn_wire.specs.Slots.{StringKind, OfBytes, OfText, major_of, Slot, item, value, element_or_end, key_or_end, chunk}
+use Rattle.cborn_wire.specs.Slots.{StringKind, OfBytes, OfText, major_of, Slot, element_or_end, chunk}
 use Rattle.cborn_wire.specs.SlotFaults as numbers
 use Rattle.cborn_wire.specs.SlotFaults.{reason_of, reason_at}
 use Rattle.cborn_wire.specs.HeadReading.{major_at, reason_alone}
 use Rattle.cborn_wire.specs.shared.InitialBytes.{Info, info_at, is_reserved, is_endless_head, is_always_bounded, is_other, is_container, is_of_kind, is_bad_chunk, is_float, is_one, head_reason, front_reason}
 
 other_is : (m : ℕ) → leb 7 m ≡ is_other (major_at m)
-other_is zero = refl
-other_is (suc zero) = refl
-other_is (suc (suc zero)) = refl
-other_is (suc (suc (suc zero))) = refl
-other_is (suc (suc (suc (suc zero)))) = refl
-other_is (suc (suc (suc (suc (suc zero))))) = refl
-other_is (suc (suc (suc (suc (suc (suc zero)))))) = refl
 other_is (suc (suc (suc (suc (suc (suc (suc n))))))) = le-leb 7 (suc (suc (suc (suc (suc (suc (suc n))))))) (omega arith)
+other_is m = refl
 
 bounded_is : (m : ℕ) → (leb m 1 || eqb m 6) ≡ is_always_bounded (major_at m)
-bounded_is zero = refl
-bounded_is (suc zero) = refl
-bounded_is (suc (suc zero)) = refl
-bounded_is (suc (suc (suc zero))) = refl
-bounded_is (suc (suc (suc (suc zero)))) = refl
-bounded_is (suc (suc (suc (suc (suc zero))))) = refl
-bounded_is (suc (suc (suc (suc (suc (suc zero)))))) = refl
 bounded_is (suc (suc (suc (suc (suc (suc (suc n))))))) =
     let m = suc (suc (suc (suc (suc (suc (suc n)))))) in
     ap (λ b. b || eqb m 6) (lt-leb m 1 (omega arith)) ∙ ne_eqb m 6 (λ e. omega (arith, e))
+bounded_is m = refl
 
 container_is : (m : ℕ) → (leb 4 m && leb m 6) ≡ is_container (major_at m)
-container_is zero = refl
-container_is (suc zero) = refl
-container_is (suc (suc zero)) = refl
-container_is (suc (suc (suc zero))) = refl
-container_is (suc (suc (suc (suc zero)))) = refl
-container_is (suc (suc (suc (suc (suc zero))))) = refl
-container_is (suc (suc (suc (suc (suc (suc zero)))))) = refl
 container_is (suc (suc (suc (suc (suc (suc (suc n))))))) =
     let m = suc (suc (suc (suc (suc (suc (suc n)))))) in
     ap (λ b. b && leb m 6) (le-leb 4 m (omega arith)) ∙ lt-leb m 6 (omega arith)
+container_is m = refl
 
 kind_is : (k : StringKind) (m : ℕ) → eqb m (code (major_of k)) ≡ is_of_kind k (major_at m)
-kind_is OfBytes zero = refl
-kind_is OfBytes (suc zero) = refl
-kind_is OfBytes (suc (suc zero)) = refl
-kind_is OfBytes (suc (suc (suc zero))) = refl
-kind_is OfBytes (suc (suc (suc (suc zero)))) = refl
-kind_is OfBytes (suc (suc (suc (suc (suc zero))))) = refl
-kind_is OfBytes (suc (suc (suc (suc (suc (suc zero)))))) = refl
 kind_is OfBytes (suc (suc (suc (suc (suc (suc (suc n))))))) = ne_eqb (suc (suc (suc (suc (suc (suc (suc n))))))) 2 (λ e. omega (arith, e))
-kind_is OfText zero = refl
-kind_is OfText (suc zero) = refl
-kind_is OfText (suc (suc zero)) = refl
-kind_is OfText (suc (suc (suc zero))) = refl
-kind_is OfText (suc (suc (suc (suc zero)))) = refl
-kind_is OfText (suc (suc (suc (suc (suc zero))))) = refl
-kind_is OfText (suc (suc (suc (suc (suc (suc zero)))))) = refl
 kind_is OfText (suc (suc (suc (suc (suc (suc (suc n))))))) = ne_eqb (suc (suc (suc (suc (suc (suc (suc n))))))) 3 (λ e. omega (arith, e))
+kind_is k m = refl
 
 -- information and the data that it is
 record SaysInfo (i : ℕ) (j : Info) : Type 0 where
@@ -76,11 +45,8 @@ info_says i low = record {
 }
 
 bad_chunk_is : (s : Slot) (m i : ℕ) (j : Info) → SaysInfo i j → numbers.is_bad_chunk s m i ≡ is_bad_chunk s (major_at m) j
-bad_chunk_is item m i j h = refl
-bad_chunk_is value m i j h = refl
-bad_chunk_is element_or_end m i j h = refl
-bad_chunk_is key_or_end m i j h = refl
 bad_chunk_is (chunk k) m i j h = rw (other_is m, h.endless_information, kind_is k m) refl
+bad_chunk_is s m i j h = refl
 
 reason_is : (s : Slot) (full : Bool) (m i : ℕ) (j : Info) (y : List ℕ) → SaysInfo i j → reason_of s full m i y ≡ head_reason s full (major_at m) j y
 reason_is s full m i j y h = rw (bad_chunk_is s m i j h, h.reserved, h.endless_information, bounded_is m, other_is m, h.float, h.one, container_is m) refl

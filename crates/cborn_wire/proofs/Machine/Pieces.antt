@@ -5,11 +5,12 @@ use Rattle.cborn_model.specs.declared.heads.Width.{Width}
 use Rattle.cborn_model.specs.declared.heads.Width.TheVariants.{Direct, One, Two, Four, Eight}
 use Rattle.cborn_model.specs.declared.heads.Major.{Major}
 use Rattle.cborn_model.specs.Heads.{Argument, Given, EndlessArgument, code, following, head}
+use Rattle.cborn_model.specs.Partial.{string_tree}
 use Rattle.cborn_model.specs.Tree.{Trees}
 use Rattle.cborn_wire.specs.declared.faults.WireReason.{WireReason}
 use Rattle.cborn_wire.specs.Slots.{StringKind, OpenContainer, slot, open_depth}
 use Rattle.cborn_wire.specs.shared.InitialBytes.{info_at, head_reason, info_for}
-use Rattle.cborn_wire.specs.shared.Machine.{number, Goal, argument_of, content_of, nothing, gathering, Live, Failed, string_done, content_at, after_head, gathered, gather, begin_head, unless, step, run}
+use Rattle.cborn_wire.specs.shared.Machine.{number, Goal, argument_of, content_of, nothing, gathering, Live, Failed, finished, content_at, after_head, gathered, gather, begin_head, unless, step, run}
 use Rattle.cborn_wire.proofs.Machine.Running.{failed_run}
 use Rattle.cborn_wire.specs.HeadReading.{major_at, ArgumentFits}
 use Rattle.cborn_wire.proofs.Machine.TakesHeads.{gathers, takes_head, quotient, remainder, major_at-code, info_at-now}
@@ -79,20 +80,20 @@ module _ (limit fed : ℕ) (ready : Trees) (os : List OpenContainer) where
   content_more p k w n got y x h =
       starts_gathering p (content_of k w) n got (y ++ x) (omega arith)
       ∙ gathers limit y fed p ready os (content_of k w) n got x (omega arith)
-      ∙ ap (λ c. run limit (cond c (string_done (fed + length y) p ready os k w (got ++ y)) (Live (fed + length y) ready os (gathering p (content_of k w) n (got ++ y)))) x)
+      ∙ ap (λ c. run limit (cond c (finished (fed + length y) ready os (string_tree p k w (got ++ y))) (Live (fed + length y) ready os (gathering p (content_of k w) n (got ++ y)))) x)
       (lt-leb n (length (got ++ y)) (omega (arith, length-append got y)))
 
   pub content_done : (p : ℕ) (k : StringKind) (w : Width) (n : ℕ) (got y x : List ℕ) → length got < n → length got + length y ≡ n
-      → run limit (Live fed ready os (gathering p (content_of k w) n got)) (y ++ x) ≡ run limit (string_done (fed + length y) p ready os k w (got ++ y)) x
+      → run limit (Live fed ready os (gathering p (content_of k w) n got)) (y ++ x) ≡ run limit (finished (fed + length y) ready os (string_tree p k w (got ++ y))) x
   content_done p k w n got y x h all =
       starts_gathering p (content_of k w) n got (y ++ x) h
       ∙ gathers limit y fed p ready os (content_of k w) n got x (omega arith)
-      ∙ ap (λ c. run limit (cond c (string_done (fed + length y) p ready os k w (got ++ y)) (Live (fed + length y) ready os (gathering p (content_of k w) n (got ++ y)))) x)
+      ∙ ap (λ c. run limit (cond c (finished (fed + length y) ready os (string_tree p k w (got ++ y))) (Live (fed + length y) ready os (gathering p (content_of k w) n (got ++ y)))) x)
       (le-leb n (length (got ++ y)) (omega (arith, length-append got y)))
 
   -- All of a string's content, after its head.
-  pub content_whole : (p : ℕ) (k : StringKind) (w : Width) (n : ℕ) (y : List ℕ) → length y ≡ n → run limit (content_at fed p ready os k w n []) y ≡ string_done (fed + length y) p ready os k w y
+  pub content_whole : (p : ℕ) (k : StringKind) (w : Width) (n : ℕ) (y : List ℕ) → length y ≡ n → run limit (content_at fed p ready os k w n []) y ≡ finished (fed + length y) ready os (string_tree p k w y)
   content_whole p k w n y all =
       ap (run limit (content_at fed p ready os k w n [])) (sym (append-nil y))
       ∙ gathers limit y fed p ready os (content_of k w) n [] [] (omega (arith, all))
-      ∙ ap (λ c. cond c (string_done (fed + length y) p ready os k w y) (Live (fed + length y) ready os (gathering p (content_of k w) n y))) (le-leb n (length y) (omega (arith, all)))
+      ∙ ap (λ c. cond c (finished (fed + length y) ready os (string_tree p k w y)) (Live (fed + length y) ready os (gathering p (content_of k w) n y))) (le-leb n (length y) (omega (arith, all)))

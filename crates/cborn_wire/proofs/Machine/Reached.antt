@@ -1,10 +1,11 @@
 -- What is known of a state that some bytes make.
 use Rattle.std.proofs.Common.{◌≡◌, refl, sym, ap, ◌∙◌, subst, ℕ, ◌+◌, ◌≤◌, List, [], ◌∷◌, ◌++◌, length, arith}
 use Rattle.cborn_model.specs.Bytes.{AreBytes}
+use Rattle.cborn_model.specs.Partial.{in_chunks}
 use Rattle.cborn_model.specs.Tree.{Tree, Trees, no_item, more, depth, depth_all}
 use Rattle.cborn_model.specs.Spelled.{Fits, FitsAll}
 use Rattle.cborn_model.proofs.Bytes.{bytes-append}
-use Rattle.cborn_wire.specs.Slots.{OpenContainer, opened_items, opened_pairs, opened_value, opened_tag, opened_chunks, slot, open_depth, IsNoChunk, AreOpen}
+use Rattle.cborn_wire.specs.Slots.{OpenContainer, opened, open_depth, IsNoString, AreOpen}
 use Rattle.cborn_wire.specs.shared.Machine.{snoc, Unfinished, State, Live, Failed, start, IsLive, held, run, IsReached}
 use Rattle.cborn_wire.proofs.Machine.Running.{run-append}
 use Rattle.cborn_wire.proofs.Machine.SoundItems.{SoundLive, Sound}
@@ -19,13 +20,10 @@ depth_last no_item t = omega arith
 depth_last (more u ts) t = omega (arith, depth_last ts t)
 
 -- No array, map or tag is open inside an indefinite string, so all that is open counts.
-pub depth_is_length : (limit : ℕ) (os : List OpenContainer) → AreOpen limit os → IsNoChunk (slot os) → open_depth os ≡ length os
+pub depth_is_length : (limit : ℕ) (os : List OpenContainer) → AreOpen limit os → IsNoString os → open_depth os ≡ length os
 depth_is_length limit [] h free = refl
-depth_is_length limit (opened_items p a ts ∷ os) h free = omega (arith, depth_is_length limit os h.2 h.1)
-depth_is_length limit (opened_pairs p a es ∷ os) h free = omega (arith, depth_is_length limit os h.2 h.1)
-depth_is_length limit (opened_value p a es k ∷ os) h free = omega (arith, depth_is_length limit os h.2 h.1)
-depth_is_length limit (opened_tag p w n ∷ os) h free = omega (arith, depth_is_length limit os h.2 h.1)
-depth_is_length limit (opened_chunks p k cs ∷ os) h free = absurd free
+depth_is_length limit (opened (in_chunks p k) ts ∷ os) h free = absurd free
+depth_is_length limit (opened o ts ∷ os) h free = omega (arith, depth_is_length limit os h.2 h.1)
 
 module _ (limit base : ℕ) where
   pub reached_more : (s : State) (y : List ℕ) → IsReached limit base s → AreBytes y → IsReached limit base (run limit s y)

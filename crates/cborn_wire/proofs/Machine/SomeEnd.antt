@@ -1,27 +1,28 @@
 -- What is refused, and what can go on.
-use Rattle.std.proofs.Common.{◌≡◌, refl, sym, ap, ◌∙◌, subst, ℕ, zero, suc, ◌+◌, ◌-◌, ◌/◌, ◌%◌, ◌<◌, ◌≤◌, List, [], ◌∷◌, ◌++◌, length, Bool, true, false, ◌&&◌, cond, ltb, leb, Option, Some, None, arith, length-append}
+use Rattle.std.proofs.Common.{◌≡◌, refl, sym, ap, ◌∙◌, subst, ℕ, zero, suc, ◌+◌, ◌-◌, ◌*◌, ◌/◌, ◌%◌, ◌<◌, ◌≤◌, List, [], ◌∷◌, ◌++◌, length, Bool, true, false, ◌&&◌, cond, ltb, leb, Option, Some, None, arith, length-append, add-one, add-zero}
 use Rattle.std.proofs.lemmas.Bool.{lt-leb, le-leb, le-ltb}
 use Rattle.cborn_model.specs.Bytes.{AreBytes}
 use Rattle.cborn_model.specs.declared.heads.Width.{Width}
 use Rattle.cborn_model.specs.declared.heads.Width.TheVariants.{Direct, One, Two, Four, Eight}
-use Rattle.cborn_model.specs.declared.heads.Size.TheVariants.{Endless}
+use Rattle.cborn_model.specs.declared.heads.Size.TheVariants.{Fixed}
 use Rattle.cborn_model.specs.declared.heads.Major.{Major}
 use Rattle.cborn_model.specs.declared.heads.Major.TheVariants.{Unsigned, Negative, ByteString, TextString, Array, Map, Tag, Other}
-use Rattle.cborn_model.specs.Heads.{Argument, Given, EndlessArgument}
-use Rattle.cborn_model.specs.Tree.{Tree, Uint, Items, Pairs, Tagged, Simple, Trees, no_item, Entries, no_entry, count, count_entries}
+use Rattle.cborn_model.specs.Heads.{Given}
+use Rattle.cborn_model.specs.Partial.{Opening, an_array, a_map, a_tag, in_chunks, last_key, built, string_tree}
+use Rattle.cborn_model.specs.Tree.{Tree, Uint, Simple, Trees}
 use Rattle.cborn_wire.specs.declared.faults.WireReason.{WireReason}
 use Rattle.cborn_wire.specs.declared.faults.WireReason.TheVariants.{BadSimple}
-use Rattle.cborn_wire.specs.Slots.{StringKind, OfBytes, OfText, Slot, item, value, element_or_end, key_or_end, chunk, OpenContainer, opened_items, opened_pairs, opened_value, opened_tag, opened_chunks, slot, open_depth, IsNoChunk, AreOpen}
-use Rattle.cborn_wire.specs.SlotFaults.{begins_low}
-use Rattle.cborn_wire.specs.shared.InitialBytes.{Info, Now, Next, Reserved, EndlessInformation, info_at, is_other, is_one, head_reason, front_reason, info_for}
+use Rattle.cborn_wire.specs.Slots.{StringKind, OfBytes, OfText, Slot, OpenContainer, opened, slot, slot_in, slot_in_map, open_depth, AreOpen}
+use Rattle.cborn_wire.specs.SlotFaults.{needs_item, begins_low}
 use Rattle.cborn_wire.specs.HeadReading.{major_at}
-use Rattle.cborn_wire.specs.shared.Machine.{snoc, snoc_entry, width_bytes, number, Goal, argument_of, content_of, Unfinished, nothing, gathering, State, Live, Failed, items_tree, pairs_tree, string_tree, chunks_tree, finished, items_at, pairs_at, string_done, gather, begin_head, after_head, unless, step, run}
+use Rattle.cborn_wire.specs.shared.InitialBytes.{Info, Now, Next, info_at, is_other, is_one, is_bad_chunk, head_reason, front_reason, info_for}
+use Rattle.cborn_wire.specs.shared.Machine.{snoc, width_bytes, number, Goal, argument_of, content_of, Unfinished, nothing, gathering, State, Live, Failed, is_full, finished, holding, gather, begin_head, after_head, unless, step, run}
 use Rattle.cborn_wire.proofs.Machine.Running.{failed_run}
-use Rattle.cborn_wire.proofs.Machine.TakesItems.{count-snoc, count_entries-snoc, items_open, pairs_open}
+use Rattle.cborn_wire.proofs.Machine.Containers.{value_next, not_full}
+use Rattle.cborn_wire.proofs.Machine.TakesItems.{takes_break}
 use Rattle.cborn_wire.proofs.Machine.SoundItems.{SoundLive}
-use Rattle.cborn_wire.proofs.Machine.SoundSteps.{Clear, is_clear, free_of, other_kind}
+use Rattle.cborn_wire.proofs.Machine.SoundSteps.{Clear, is_clear}
 use Rattle.cborn_wire.proofs.Machine.SoundRuns.{reason_stays, wide, wide_info}
-use Rattle.cborn_wire.proofs.Machine.TakesOpen.{room_open}
 use Rattle.std.proofs.lemmas.List.{get_or_at}
 
 pub some_is : (q r : WireReason) → Some q ≡ Some r → q ≡ r
@@ -31,26 +32,12 @@ module _ (limit : ℕ) where
   low_run : (m : Major) (i : Info) (fed : ℕ) (ready : Trees) (os : List OpenContainer) (y : List ℕ) (r : WireReason)
       → cond ((is_other m && is_one i) && begins_low y) (Some BadSimple) None ≡ Some r
       → run limit (begin_head fed ready os m i) y ≡ Failed ready fed r
-  low_run Unsigned i fed ready os y r e = cc
-  low_run Negative i fed ready os y r e = cc
-  low_run ByteString i fed ready os y r e = cc
-  low_run TextString i fed ready os y r e = cc
-  low_run Array i fed ready os y r e = cc
-  low_run Map i fed ready os y r e = cc
-  low_run Tag i fed ready os y r e = cc
-  low_run Other (Now n) fed ready os y r e = cc
-  low_run Other Reserved fed ready os y r e = cc
-  low_run Other EndlessInformation fed ready os y r e = cc
-  low_run Other (Next Direct) fed ready os y r e = cc
-  low_run Other (Next Two) fed ready os y r e = cc
-  low_run Other (Next Four) fed ready os y r e = cc
-  low_run Other (Next Eight) fed ready os y r e = cc
-  low_run Other (Next One) fed ready os [] r e = cc
   low_run Other (Next One) fed ready os (n ∷ y) r e = go (ltb n 32) e
     where
       go : (c : Bool) → cond c (Some BadSimple) None ≡ Some r → run limit (cond c (Failed ready fed BadSimple) (finished (suc (suc fed)) ready os (Simple fed n))) y ≡ Failed ready fed r
       go true e = failed_run limit y ready fed BadSimple ∙ ap (Failed ready fed) (some_is BadSimple r e)
       go false e = cc
+  low_run m i fed ready os y r e = cc
 
   -- What isn't allowed at a slot fails there, for that reason.
   pub refused_run : (y : List ℕ) (fed : ℕ) (ready : Trees) (os : List OpenContainer) (r : WireReason) → front_reason limit (slot os) (open_depth os) y ≡ Some r
@@ -87,96 +74,87 @@ module _ (limit : ℕ) where
   pick true h k = h
   pick false h k = k
 
-  -- zeros fill an array
-  closes_items : (j fed : ℕ) (ready : Trees) (os : List OpenContainer) (p : ℕ) (w : Width) (n : ℕ) (ts : Trees) → ((fed : ℕ) (t : Tree) → Closable (finished fed ready os t)) → n ≤ count ts + j
-      → Closable (items_at fed ready os p (Given w n) ts)
-  closes_items zero fed ready os p w n ts next h =
-      subst (λ c. Closable (cond c (finished fed ready os (items_tree p (Given w n) ts)) (Live fed ready (opened_items p (Given w n) ts ∷ os) nothing)))
-      (sym (le-leb n (count ts) (omega arith))) (next fed (items_tree p (Given w n) ts))
-  closes_items (suc j) fed ready os p w n ts next h =
-      pick (leb n (count ts)) (next fed (items_tree p (Given w n) ts))
-      (after_byte 0 (Live fed ready (opened_items p (Given w n) ts ∷ os) nothing) (omega arith)
-      (closes_items j (suc fed) ready os p w n (snoc ts (Uint fed Direct 0)) next (omega (arith, count-snoc ts (Uint fed Direct 0)))))
+  none_there : (s : Slot) (full : Bool) → is_bad_chunk s Unsigned (Now 0) ≡ false → head_reason s full Unsigned (Now 0) [] ≡ None
+  none_there s full e = rw e refl
 
-  closes_pairs : (j fed : ℕ) (ready : Trees) (os : List OpenContainer) (p : ℕ) (w : Width) (n : ℕ) (es : Entries) → ((fed : ℕ) (t : Tree) → Closable (finished fed ready os t)) → n ≤ count_entries es + j
-      → Closable (pairs_at fed ready os p (Given w n) es)
-  closes_pairs zero fed ready os p w n es next h =
-      subst (λ c. Closable (cond c (finished fed ready os (pairs_tree p (Given w n) es)) (Live fed ready (opened_pairs p (Given w n) es ∷ os) nothing)))
-      (sym (le-leb n (count_entries es) (omega arith))) (next fed (pairs_tree p (Given w n) es))
-  closes_pairs (suc j) fed ready os p w n es next h =
-      let k = Uint fed Direct 0 in
-      let v = Uint (suc fed) Direct 0 in
-      pick (leb n (count_entries es)) (next fed (pairs_tree p (Given w n) es))
-      (after_byte 0 (Live fed ready (opened_pairs p (Given w n) es ∷ os) nothing) (omega arith)
-      (after_byte 0 (Live (suc fed) ready (opened_value p (Given w n) es k ∷ os) nothing) (omega arith)
-      (closes_pairs j (suc (suc fed)) ready os p w n (snoc_entry es k v) next (omega (arith, count_entries-snoc es k v)))))
+  -- An integer is allowed wherever no chunk has to be.
+  zero_step : (fed : ℕ) (ready : Trees) (os : List OpenContainer) → is_bad_chunk (slot os) Unsigned (Now 0) ≡ false → step limit (Live fed ready os nothing) 0 ≡ finished (suc fed) ready os (Uint fed Direct 0)
+  zero_step fed ready os free = ap (λ o. unless o ready fed (finished (suc fed) ready os (Uint fed Direct 0))) (none_there (slot os) (leb limit (open_depth os)) free)
 
-  any_items : (fed : ℕ) (ready : Trees) (os : List OpenContainer) (p : ℕ) (a : Argument) (ts : Trees) → ((fed : ℕ) (t : Tree) → Closable (finished fed ready os t)) → Closable (items_at fed ready os p a ts)
-  any_items fed ready os p (Given w n) ts next = closes_items n fed ready os p w n ts next (omega arith)
-  any_items fed ready os p EndlessArgument ts next = after_byte 255 (Live fed ready (opened_items p EndlessArgument ts ∷ os) nothing) (omega arith) (next (suc fed) (Items p Endless ts))
+  break_step : (fed : ℕ) (ready : Trees) (os : List OpenContainer) (o : Opening) (ts : List Tree) → needs_item (slot_in (opened o ts)) ≡ false
+      → step limit (Live fed ready (opened o ts ∷ os) nothing) 255 ≡ finished (suc fed) ready os (built o ts)
+  break_step fed ready os o ts e = takes_break limit fed ready os o ts [] e ∙ ap (λ q. finished q ready os (built o ts)) (add-one fed)
 
-  any_pairs : (fed : ℕ) (ready : Trees) (os : List OpenContainer) (p : ℕ) (a : Argument) (es : Entries) → ((fed : ℕ) (t : Tree) → Closable (finished fed ready os t)) → Closable (pairs_at fed ready os p a es)
-  any_pairs fed ready os p (Given w n) es next = closes_pairs n fed ready os p w n es next (omega arith)
-  any_pairs fed ready os p EndlessArgument es next = after_byte 255 (Live fed ready (opened_pairs p EndlessArgument es ∷ os) nothing) (omega arith) (next (suc fed) (Pairs p Endless es))
+  module _ (os : List OpenContainer) (ready : Trees) (o : Opening) (next : (fed : ℕ) (t : Tree) → Closable (finished fed ready os t)) where
+    -- zeros fill a container
+    filled : (j fed : ℕ) (ts : List Tree) → ((us : List Tree) → is_bad_chunk (slot_in (opened o us)) Unsigned (Now 0) ≡ false) → is_full o (length ts + j) ≡ true → Closable (holding fed ready os o ts)
+    filled zero fed ts free full =
+        subst (λ c. Closable (cond c (finished fed ready os (built o ts)) (Live fed ready (opened o ts ∷ os) nothing))) (sym (ap (is_full o) (sym (add-zero (length ts))) ∙ full)) (next fed (built o ts))
+    filled (suc j) fed ts free full =
+        pick (is_full o (length ts)) (next fed (built o ts))
+        (after_byte 0 (Live fed ready (opened o ts ∷ os) nothing) (omega arith) (subst Closable (sym (zero_step fed ready (opened o ts ∷ os) (free ts)))
+        (filled j (suc fed) (ts ++ Uint fed Direct 0 ∷ []) free (subst (λ n. is_full o n ≡ true) (omega (arith, length-append ts (Uint fed Direct 0 ∷ []))) full))))
 
-  any_value : (fed : ℕ) (ready : Trees) (os : List OpenContainer) (p : ℕ) (a : Argument) (es : Entries) (k : Tree) → ((fed : ℕ) (t : Tree) → Closable (finished fed ready os t)) → Closable (Live fed ready (opened_value p a es k ∷ os) nothing)
-  any_value fed ready os p a es k next = after_byte 0 (Live fed ready (opened_value p a es k ∷ os) nothing) (omega arith) (any_pairs (suc fed) ready os p a (snoc_entry es k (Uint fed Direct 0)) next)
+    -- a break ends it
+    broken : (fed : ℕ) (ts : List Tree) → needs_item (slot_in (opened o ts)) ≡ false → Closable (Live fed ready (opened o ts ∷ os) nothing)
+    broken fed ts e = after_byte 255 (Live fed ready (opened o ts ∷ os) nothing) (omega arith) (subst Closable (sym (break_step fed ready os o ts e)) (next (suc fed) (built o ts)))
 
-  pub closes_finished : (os : List OpenContainer) (fed : ℕ) (ready : Trees) (t : Tree) → AreOpen limit os → IsNoChunk (slot os) → Closable (finished fed ready os t)
-  closes_finished [] fed ready t h free = ([], tt, fed, snoc ready t, refl)
-  closes_finished (opened_items p a ts ∷ os) fed ready t h free = any_items fed ready os p a (snoc ts t) (λ fed t. closes_finished os fed ready t h.2 h.1)
-  closes_finished (opened_pairs p a es ∷ os) fed ready t h free = any_value fed ready os p a es t (λ fed t. closes_finished os fed ready t h.2 h.1)
-  closes_finished (opened_value p a es k ∷ os) fed ready t h free = any_pairs fed ready os p a (snoc_entry es k t) (λ fed t. closes_finished os fed ready t h.2 h.1)
-  closes_finished (opened_tag p w n ∷ os) fed ready t h free = closes_finished os fed ready (Tagged p w n t) h.2 h.1
-  closes_finished (opened_chunks p k cs ∷ os) fed ready t h free = absurd free
+  no_chunk_in : (c : Option ℕ) (x : Option Tree) → is_bad_chunk (slot_in_map c x) Unsigned (Now 0) ≡ false
+  no_chunk_in c (Some k) = refl
+  no_chunk_in (Some n) None = refl
+  no_chunk_in None None = refl
 
-  pub closes_open : (os : List OpenContainer) (fed : ℕ) (ready : Trees) → AreOpen limit os → Closable (Live fed ready os nothing)
+  -- a container comes to its end
+  closes_holding : (os : List OpenContainer) (fed : ℕ) (ready : Trees) (o : Opening) (ts : List Tree) → ((fed : ℕ) (t : Tree) → Closable (finished fed ready os t)) → Closable (holding fed ready os o ts)
+  closes_holding os fed ready (an_array p s (Some n)) ts next = filled os ready (an_array p s (Some n)) next n fed ts (λ us. refl) (le-leb n (length ts + n) (omega arith))
+  closes_holding os fed ready (an_array p s None) ts next = broken os ready (an_array p s None) next fed ts refl
+  closes_holding os fed ready (a_map p s (Some n)) ts next = filled os ready (a_map p s (Some n)) next (2 * n) fed ts (λ us. no_chunk_in (Some n) (last_key us)) (le-leb n ((length ts + 2 * n) / 2) (omega arith))
+  closes_holding os fed ready (a_map p s None) ts next = go (last_key ts) refl
+    where
+      o : Opening
+      o = a_map p s None
+
+      -- a break, after a value that is missing
+      go : (x : Option Tree) → last_key ts ≡ x → Closable (Live fed ready (opened o ts ∷ os) nothing)
+      go None e = broken os ready o next fed ts (ap (λ k. needs_item (slot_in_map None k)) e)
+      go (Some k) e =
+          after_byte 0 (Live fed ready (opened o ts ∷ os) nothing) (omega arith) (subst Closable (sym (zero_step fed ready (opened o ts ∷ os) (no_chunk_in None (last_key ts))))
+          (broken os ready o next (suc fed) (ts ++ Uint fed Direct 0 ∷ []) (ap (λ k. needs_item (slot_in_map None k)) (value_next ts (Uint fed Direct 0) k e).1)))
+  closes_holding os fed ready (a_tag p w n) ts next = filled os ready (a_tag p w n) next 1 fed ts (λ us. refl) (le-leb 1 (length ts + 1) (omega arith))
+  closes_holding os fed ready (in_chunks p k) ts next = broken os ready (in_chunks p k) next fed ts refl
+
+  closes_finished : (os : List OpenContainer) (fed : ℕ) (ready : Trees) (t : Tree) → AreOpen limit os → Closable (finished fed ready os t)
+  closes_finished [] fed ready t h = ([], tt, fed, snoc ready t, refl)
+  closes_finished (opened o ts ∷ os) fed ready t h = closes_holding os fed ready o (ts ++ t ∷ []) (λ fed t. closes_finished os fed ready t h.2)
+
+  closes_open : (os : List OpenContainer) (fed : ℕ) (ready : Trees) → AreOpen limit os → Closable (Live fed ready os nothing)
   closes_open [] fed ready h = ([], tt, fed, ready, refl)
-  closes_open (opened_items p a ts ∷ os) fed ready h =
-      subst (λ c. Closable (cond c (finished fed ready os (items_tree p a ts)) (Live fed ready (opened_items p a ts ∷ os) nothing))) (room_open a (count ts) h.0.0)
-      (any_items fed ready os p a ts (λ fed t. closes_finished os fed ready t h.2 h.1))
-  closes_open (opened_pairs p a es ∷ os) fed ready h =
-      subst (λ c. Closable (cond c (finished fed ready os (pairs_tree p a es)) (Live fed ready (opened_pairs p a es ∷ os) nothing))) (room_open a (count_entries es) h.0.0)
-      (any_pairs fed ready os p a es (λ fed t. closes_finished os fed ready t h.2 h.1))
-  closes_open (opened_value p a es k ∷ os) fed ready h = any_value fed ready os p a es k (λ fed t. closes_finished os fed ready t h.2 h.1)
-  closes_open (opened_tag p w n ∷ os) fed ready h =
-      after_byte 0 (Live fed ready (opened_tag p w n ∷ os) nothing) (omega arith) (closes_finished os (suc fed) ready (Tagged p w n (Uint fed Direct 0)) h.2 h.1)
-  closes_open (opened_chunks p k cs ∷ os) fed ready h =
-      after_byte 255 (Live fed ready (opened_chunks p k cs ∷ os) nothing) (omega arith) (closes_finished os (suc fed) ready (chunks_tree p k cs) h.2 h.1)
+  closes_open (opened o ts ∷ os) fed ready h =
+      subst (λ c. Closable (cond c (finished fed ready os (built o ts)) (Live fed ready (opened o ts ∷ os) nothing))) (not_full o ts (length ts) h.0.1 (omega arith))
+      (closes_holding os fed ready o ts (λ fed t. closes_finished os fed ready t h.2))
 
-  closes_string : (os : List OpenContainer) (fed p : ℕ) (ready : Trees) (k : StringKind) (w : Width) (bytes : List ℕ) → AreOpen limit os → Closable (string_done fed p ready os k w bytes)
-  closes_string [] fed p ready k w bytes h = closes_finished [] fed ready (string_tree p k w bytes) tt tt
-  closes_string (opened_items q a ts ∷ os) fed p ready k w bytes h = closes_finished (opened_items q a ts ∷ os) fed ready (string_tree p k w bytes) h (items_open q a ts)
-  closes_string (opened_pairs q a es ∷ os) fed p ready k w bytes h = closes_finished (opened_pairs q a es ∷ os) fed ready (string_tree p k w bytes) h (pairs_open q a es)
-  closes_string (opened_value q a es t ∷ os) fed p ready k w bytes h = closes_finished (opened_value q a es t ∷ os) fed ready (string_tree p k w bytes) h tt
-  closes_string (opened_tag q v n ∷ os) fed p ready k w bytes h = closes_finished (opened_tag q v n ∷ os) fed ready (string_tree p k w bytes) h tt
-  closes_string (opened_chunks q l cs ∷ os) fed p ready k w bytes h =
-      after_byte 255 (string_done fed p ready (opened_chunks q l cs ∷ os) k w bytes) (omega arith) (closes_finished os (suc fed) ready (chunks_tree q l (cs ++ record { place = p; width = w; bytes = bytes } ∷ [])) h.2 h.1)
+  closes_opening : (os : List OpenContainer) (fed : ℕ) (ready : Trees) (o : Opening) → AreOpen limit os → Closable (holding fed ready os o [])
+  closes_opening os fed ready o h = closes_holding os fed ready o [] (λ fed t. closes_finished os fed ready t h)
 
   closes_content : (j : ℕ) (os : List OpenContainer) (fed p : ℕ) (ready : Trees) (k : StringKind) (w : Width) (n : ℕ) (got : List ℕ) → AreOpen limit os → n ≤ length got + j → Closable (gather fed p ready os (content_of k w) n got)
   closes_content zero os fed p ready k w n got h up =
-      subst (λ c. Closable (cond c (string_done fed p ready os k w got) (Live fed ready os (gathering p (content_of k w) n got)))) (sym (le-leb n (length got) (omega arith))) (closes_string os fed p ready k w got h)
+      subst (λ c. Closable (cond c (finished fed ready os (string_tree p k w got)) (Live fed ready os (gathering p (content_of k w) n got)))) (sym (le-leb n (length got) (omega arith))) (closes_finished os fed ready (string_tree p k w got) h)
   closes_content (suc j) os fed p ready k w n got h up =
-      pick (leb n (length got)) (closes_string os fed p ready k w got h)
+      pick (leb n (length got)) (closes_finished os fed ready (string_tree p k w got) h)
       (after_byte 0 (Live fed ready os (gathering p (content_of k w) n got)) (omega arith) (closes_content j os (suc fed) p ready k w n (got ++ 0 ∷ []) h (omega (arith, length-append got (0 ∷ [])))))
 
   closes_head : (m : Major) (w : Width) (n : ℕ) (os : List OpenContainer) (fed p : ℕ) (ready : Trees) → AreOpen limit os → Clear (slot os) (leb limit (open_depth os)) m (info_for (Given w n)) → 32 ≤ n
       → Closable (after_head fed p ready os m (Given w n))
-  closes_head Unsigned w n os fed p ready h c high = closes_finished os fed ready _ h (free_of (slot os) Unsigned (info_for (Given w n)) c.chunked (other_kind Unsigned refl refl) refl)
-  closes_head Negative w n os fed p ready h c high = closes_finished os fed ready _ h (free_of (slot os) Negative (info_for (Given w n)) c.chunked (other_kind Negative refl refl) refl)
+  closes_head Unsigned w n os fed p ready h c high = closes_finished os fed ready _ h
+  closes_head Negative w n os fed p ready h c high = closes_finished os fed ready _ h
   closes_head ByteString w n os fed p ready h c high = closes_content n os fed p ready OfBytes w n [] h (omega arith)
   closes_head TextString w n os fed p ready h c high = closes_content n os fed p ready OfText w n [] h (omega arith)
-  closes_head Array w n os fed p ready h c high = any_items fed ready os p (Given w n) no_item (λ fed t. closes_finished os fed ready t h (free_of (slot os) Array (info_for (Given w n)) c.chunked (other_kind Array refl refl) refl))
-  closes_head Map w n os fed p ready h c high = any_pairs fed ready os p (Given w n) no_entry (λ fed t. closes_finished os fed ready t h (free_of (slot os) Map (info_for (Given w n)) c.chunked (other_kind Map refl refl) refl))
-  closes_head Tag w n os fed p ready h c high =
-      after_byte 0 (Live fed ready (opened_tag p w n ∷ os) nothing) (omega arith) (closes_finished os (suc fed) ready (Tagged p w n (Uint fed Direct 0)) h (free_of (slot os) Tag (info_for (Given w n)) c.chunked (other_kind Tag refl refl) refl))
-  closes_head Other Direct n os fed p ready h c high = closes_finished os fed ready _ h (free_of (slot os) Other (Now n) c.chunked (other_kind Other refl refl) refl)
-  closes_head Other One n os fed p ready h c high =
-      subst (λ b. Closable (cond b (Failed ready p BadSimple) (finished fed ready os (Simple p n)))) (sym (le-ltb n 32 high))
-      (closes_finished os fed ready (Simple p n) h (free_of (slot os) Other (Next One) c.chunked (other_kind Other refl refl) refl))
-  closes_head Other Two n os fed p ready h c high = let e : true ≡ false = c.float in cc
-  closes_head Other Four n os fed p ready h c high = let e : true ≡ false = c.float in cc
-  closes_head Other Eight n os fed p ready h c high = let e : true ≡ false = c.float in cc
+  closes_head Array w n os fed p ready h c high = closes_opening os fed ready (an_array p (Fixed w) (Some n)) h
+  closes_head Map w n os fed p ready h c high = closes_opening os fed ready (a_map p (Fixed w) (Some n)) h
+  closes_head Tag w n os fed p ready h c high = closes_opening os fed ready (a_tag p w n) h
+  closes_head Other Direct n os fed p ready h c high = closes_finished os fed ready _ h
+  closes_head Other One n os fed p ready h c high = subst (λ b. Closable (cond b (Failed ready p BadSimple) (finished fed ready os (Simple p n)))) (sym (le-ltb n 32 high)) (closes_finished os fed ready (Simple p n) h)
+  closes_head Other w n os fed p ready h c high = let e : true ≡ false = c.float in cc
 
 number_last : (w : Width) (g : List ℕ) (c : ℕ) → 32 ≤ c → suc (length g) ≡ width_bytes w → 32 ≤ number w (g ++ c ∷ [])
 number_last Direct g c high l = absurd (omega arith)
@@ -220,15 +198,6 @@ module _ (limit : ℕ) where
   closes base x fed ready os (gathering p g n got) h =
       after_byte limit 255 (Live fed ready os (gathering p g n got)) (omega arith) (takes_part base x fed ready os p g n got 255 (omega arith) h)
 
-  none_there : (s : Slot) (full : Bool) → IsNoChunk s → head_reason s full Unsigned (Now 0) [] ≡ None
-  none_there item full free = refl
-  none_there value full free = refl
-  none_there element_or_end full free = refl
-  none_there key_or_end full free = refl
-  none_there (chunk k) full free = absurd free
-
   -- An integer is allowed wherever no chunk has to be.
-  pub takes_integer : (fed : ℕ) (ready : Trees) (os : List OpenContainer) → AreOpen limit os → IsNoChunk (slot os) → Closable limit (step limit (Live fed ready os nothing) 0)
-  takes_integer fed ready os h free =
-      subst (λ o. Closable limit (unless o ready fed (finished (suc fed) ready os (Uint fed Direct 0)))) (sym (none_there (slot os) (leb limit (open_depth os)) free))
-      (closes_finished limit os (suc fed) ready (Uint fed Direct 0) h free)
+  pub takes_integer : (fed : ℕ) (ready : Trees) (os : List OpenContainer) → AreOpen limit os → is_bad_chunk (slot os) Unsigned (Now 0) ≡ false → Closable limit (step limit (Live fed ready os nothing) 0)
+  takes_integer fed ready os h free = subst (Closable limit) (sym (zero_step limit fed ready os free)) (closes_finished limit os (suc fed) ready (Uint fed Direct 0) h)

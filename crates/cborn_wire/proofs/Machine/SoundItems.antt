@@ -1,24 +1,18 @@
 -- What the machine has is what was read.
-use Rattle.std.proofs.Common.{◌≡◌, refl, sym, ap, ◌∙◌, subst, ℕ, suc, ◌+◌, ◌<◌, ◌≤◌, List, [], ◌∷◌, ◌++◌, length, Bool, true, false, cond, leb, Some, None, arith, append_assoc, append-nil, length-append, add-zero, max}
-use Rattle.std.proofs.lemmas.Bool.{leb-true, leb-false}
-use Rattle.std.specs.List.{flat_map}
+use Rattle.std.proofs.Common.{◌≡◌, refl, sym, ap, ◌∙◌, subst, ℕ, ◌+◌, ◌<◌, ◌≤◌, List, [], ◌∷◌, ◌++◌, length, Bool, true, false, cond, leb, Some, None, arith, append_assoc, append-nil, length-append, add-zero, max}
 use Rattle.cborn_model.specs.Bytes.{AreBytes}
-use Rattle.cborn_model.specs.declared.heads.Size.TheVariants.{Fixed}
-use Rattle.cborn_model.specs.declared.nodes.Chunk.{Chunk}
-use Rattle.cborn_model.specs.declared.heads.Major.{Major}
-use Rattle.cborn_model.specs.declared.heads.Major.TheVariants.{Array, Map, Tag}
-use Rattle.cborn_model.specs.Heads.{Argument, Given, EndlessArgument, head, WidthFits}
-use Rattle.cborn_model.specs.Tree.{Tree, Items, Pairs, Tagged, Trees, no_item, more, Entries, no_entry, entry, count, count_entries, depth, depth_all, depth_entries}
-use Rattle.cborn_model.specs.Spelled.{chunk_bytes, spelled, spelled_all, spelled_entries, ChunksFit, Fits, FitsAll, FitsEntries}
-use Rattle.cborn_model.specs.Placed.{ChunksPlaced, Placed, PlacedAll, PlacedEntries}
+use Rattle.cborn_model.specs.Heads.{Given, WidthFits}
+use Rattle.cborn_model.specs.Partial.{Opening, in_chunks, built, Goes, Ends}
+use Rattle.cborn_model.specs.Tree.{Tree, Trees, no_item, more, trees, depth, depth_all}
+use Rattle.cborn_model.specs.Spelled.{spelled, spelled_all, Fits, FitsAll}
+use Rattle.cborn_model.specs.Placed.{Placed, PlacedAll}
 use Rattle.cborn_wire.specs.declared.faults.WireReason.{WireReason}
-use Rattle.cborn_wire.specs.Slots.{major_of, OpenContainer, opened_items, opened_pairs, opened_value, opened_tag, opened_chunks, beginnings, slot, open_depth, HasRoom, IsNoChunk, MayBegin}
+use Rattle.cborn_wire.specs.Slots.{major_of, OpenContainer, opened, opening, beginnings, slot, added_depth, open_depth, HeadFits, IsNoString, MayBegin}
 use Rattle.cborn_wire.specs.shared.InitialBytes.{Next, is_bad_chunk, head_reason, front_reason, info_for}
 use Rattle.cborn_wire.specs.shared.Ground.{IsPlacedOpen, Ground}
-use Rattle.cborn_wire.specs.shared.Machine.{front, partial_bytes, snoc, snoc_entry, width_bytes, argument_of, content_of, Unfinished, nothing, gathering, State, Live, Failed, finished, items_at, pairs_at}
-use Rattle.cborn_wire.specs.HeadReading.{ArgumentFits}
-use Rattle.cborn_wire.proofs.Machine.TakesItems.{UpTo, count-snoc, count_entries-snoc}
-use Rattle.cborn_wire.proofs.Machine.TakesOpen.{room_fits}
+use Rattle.cborn_wire.specs.shared.Machine.{front, partial_bytes, snoc, width_bytes, argument_of, content_of, Unfinished, nothing, gathering, State, Live, Failed, is_full, finished, holding}
+use Rattle.cborn_wire.proofs.Spelled.TreeLists.{trees-push}
+use Rattle.cborn_wire.proofs.Machine.Containers.{Belongs, closing, full_closing, goes_on, goes_whole, built_spelled, built_fits, built_deep, built_placed}
 
 -- One more at the end.
 
@@ -34,43 +28,21 @@ depth-snoc : (ts : Trees) (t : Tree) → depth_all (snoc ts t) ≡ max (depth_al
 depth-snoc no_item t = omega arith
 depth-snoc (more u ts) t = omega (arith, depth-snoc ts t)
 
-placed-snoc : (ts : Trees) (t : Tree) (p : ℕ) → PlacedAll p ts → Placed (p + length (spelled_all ts)) t → PlacedAll p (snoc ts t)
+pub placed-snoc : (ts : Trees) (t : Tree) (p : ℕ) → PlacedAll p ts → Placed (p + length (spelled_all ts)) t → PlacedAll p (snoc ts t)
 placed-snoc no_item t p h k = (subst (λ q. Placed q t) (add-zero p) k, tt)
 placed-snoc (more u ts) t p h k =
     let total : p + length (spelled u ++ spelled_all ts) ≡ p + length (spelled u) + length (spelled_all ts) = omega (arith, length-append (spelled u) (spelled_all ts)) in
     (h.0, placed-snoc ts t _ h.1 (subst (λ q. Placed q t) total k))
 
-spelled_entries-snoc : (es : Entries) (k v : Tree) → spelled_entries (snoc_entry es k v) ≡ spelled_entries es ++ spelled k ++ spelled v
-spelled_entries-snoc no_entry k v = append-nil (spelled k ++ spelled v)
-spelled_entries-snoc (entry l w es) k v = ap (λ z. spelled l ++ spelled w ++ z) (spelled_entries-snoc es k v) ∙ simp append_assoc
+-- t may be next.
+abbrev pub Accepts : List OpenContainer → Tree → Type 0
+Accepts [] t = Unit {0}
+Accepts (opened o ts ∷ os) t = Belongs o t
 
-fits_entries-snoc : (es : Entries) (k v : Tree) → FitsEntries es → Fits k → Fits v → FitsEntries (snoc_entry es k v)
-fits_entries-snoc no_entry k v h i j = (i, j, tt)
-fits_entries-snoc (entry l w es) k v h i j = (h.0, h.1, fits_entries-snoc es k v h.2 i j)
-
-depth_entries-snoc : (es : Entries) (k v : Tree) → depth_entries (snoc_entry es k v) ≡ max (depth_entries es) (max (depth k) (depth v))
-depth_entries-snoc no_entry k v = omega arith
-depth_entries-snoc (entry l w es) k v = omega (arith, depth_entries-snoc es k v)
-
-placed_entries-snoc : (es : Entries) (k v : Tree) (p : ℕ) → PlacedEntries p es → Placed (p + length (spelled_entries es)) k → Placed (p + length (spelled_entries es) + length (spelled k)) v → PlacedEntries p (snoc_entry es k v)
-placed_entries-snoc no_entry k v p h i j = (subst (λ q. Placed q k) (add-zero p) i, subst (λ q. Placed (q + length (spelled k)) v) (add-zero p) j, tt)
-placed_entries-snoc (entry l w es) k v p h i j =
-    let total : p + length (spelled l ++ spelled w ++ spelled_entries es) ≡ p + length (spelled l) + length (spelled w) + length (spelled_entries es)
-    = omega (arith, length-append (spelled l ++ spelled w) (spelled_entries es), length-append (spelled l) (spelled w)) in
-    (h.0, h.1, placed_entries-snoc es k v _ h.2 (subst (λ q. Placed q k) total i) (subst (λ q. Placed (q + length (spelled k)) v) total j))
-
-pub fits_chunks-snoc : (cs : List Chunk) (c : Chunk) → ChunksFit cs → WidthFits c.width (length c.bytes) → AreBytes c.bytes → ChunksFit (cs ++ c ∷ [])
-fits_chunks-snoc [] c h k are = ((k, are), tt)
-fits_chunks-snoc (d ∷ cs) c h k are = (h.0, fits_chunks-snoc cs c h.1 k are)
-
-pub placed_chunks-snoc : (m : Major) (cs : List Chunk) (c : Chunk) (p : ℕ) → ChunksPlaced m p cs → c.place ≡ p + length (flat_map (chunk_bytes m) cs) → ChunksPlaced m p (cs ++ c ∷ [])
-placed_chunks-snoc m [] c p h k = (k ∙ add-zero p, tt)
-placed_chunks-snoc m (d ∷ cs) c p h k =
-    (h.0, placed_chunks-snoc m cs c _ h.1 (omega (arith, k, length-append (chunk_bytes m d) (flat_map (chunk_bytes m) cs))))
-
-pub chunk_bytes-snoc : (m : Major) (cs : List Chunk) (c : Chunk) → flat_map (chunk_bytes m) (cs ++ c ∷ []) ≡ flat_map (chunk_bytes m) cs ++ chunk_bytes m c
-chunk_bytes-snoc m [] c = append-nil (chunk_bytes m c)
-chunk_bytes-snoc m (d ∷ cs) c = ap (λ l. chunk_bytes m d ++ l) (chunk_bytes-snoc m cs c) ∙ sym (append_assoc (chunk_bytes m d) (flat_map (chunk_bytes m) cs) (chunk_bytes m c))
+pub accepted : (os : List OpenContainer) (t : Tree) → IsNoString os → Accepts os t
+accepted [] t h = tt
+accepted (opened (in_chunks p k) ts ∷ os) t h = absurd h
+accepted (opened o ts ∷ os) t h = tt
 
 -- A partial head or string is what the bytes so far make of one that is allowed here.
 abbrev pub PartialFits : ℕ → List OpenContainer → ℕ → Unfinished → Type 0
@@ -101,7 +73,7 @@ module _ (limit base : ℕ) where
   length_front ready os = omega (arith, length-append (spelled_all ready) (beginnings os))
 
   -- one more thing is open
-  pub ground_more : (ready : Trees) (os : List OpenContainer) (o : OpenContainer) → Ground limit base ready os → IsNoChunk (slot os) → MayBegin limit (open_depth os) o → IsPlacedOpen (base + length (front ready os)) o → Ground limit base ready (o ∷ os)
+  pub ground_more : (ready : Trees) (os : List OpenContainer) (o : OpenContainer) → Ground limit base ready os → IsNoString os → MayBegin limit (open_depth os) o → IsPlacedOpen (base + length (front ready os)) o → Ground limit base ready (o ∷ os)
   ground_more ready os o g free may placed = record {
     fit = g.fit;
     shallow = g.shallow;
@@ -120,7 +92,7 @@ module _ (limit base : ℕ) where
   -- the machine has a complete t after what is open
   pub record Whole (x : List ℕ) (fed : ℕ) (ready : Trees) (os : List OpenContainer) (t : Tree) : Type 0 where
     pub ground : Ground limit base ready os
-    pub free : IsNoChunk (slot os)
+    pub accepts : Accepts os t
     pub fits : Fits t
     pub shallow : open_depth os + depth t ≤ limit
     pub placed : Placed (base + length (front ready os)) t
@@ -130,81 +102,34 @@ module _ (limit base : ℕ) where
   pub nothing_more : (x y : List ℕ) → x ≡ y → x ≡ y ++ []
   nothing_more x y e = e ∙ sym (append-nil y)
 
-  -- an array with these items so far
-  pub sound_items : (ready : Trees) (os : List OpenContainer) (p : ℕ) (a : Argument) (ts : Trees) (fed : ℕ) (x : List ℕ)
-      → ((t : Tree) → Whole x fed ready os t → Sound x (finished fed ready os t))
-      → Ground limit base ready os → IsNoChunk (slot os) → ArgumentFits a → UpTo a (count ts) → FitsAll ts → open_depth os + suc (depth_all ts) ≤ limit
-      → IsPlacedOpen (base + length (front ready os)) (opened_items p a ts)
-      → x ≡ front ready os ++ (head Array a ++ spelled_all ts) → fed ≡ base + length x
-      → Sound x (items_at fed ready os p a ts)
-  sound_items ready os p (Given w n) ts fed x next g free fits up fit deep placed bytes at = go (leb n (count ts)) refl
-    where
-      go : (b : Bool) → leb n (count ts) ≡ b → Sound x (cond b (finished fed ready os (Items p (Fixed w) ts)) (Live fed ready (opened_items p (Given w n) ts ∷ os) nothing))
-      go true e =
-          let same : n ≡ count ts = omega (arith, leb-true n (count ts) e) in
-          next (Items p (Fixed w) ts) (record {
-            ground = g;
-            free = free;
-            fits = (subst (WidthFits w) same fits, fit);
-            shallow = deep;
-            placed = (placed.0, subst (λ k. PlacedAll (base + length (front ready os) + length (head Array (Given w k))) ts) same placed.1);
-            bytes = bytes ∙ ap (λ k. front ready os ++ (head Array (Given w k) ++ spelled_all ts)) same ∙ ap (λ l. front ready os ++ l) (sym (append-nil (head Array (Given w (count ts)) ++ spelled_all ts)));
-            fed_is = at;
-          })
-      go false e = record {
-        ground = ground_more ready os (opened_items p (Given w n) ts) g free ((fits, leb-false n (count ts) e), fit, deep) placed;
-        bytes = nothing_more _ _ (bytes ∙ append_assoc (spelled_all ready) (beginnings os) _);
-        fed_is = at;
-        partial_fits = tt;
-      }
-  sound_items ready os p EndlessArgument ts fed x next g free fits up fit deep placed bytes at = record {
-    ground = ground_more ready os (opened_items p EndlessArgument ts) g free (tt, fit, deep) placed;
-    bytes = nothing_more _ _ (bytes ∙ append_assoc (spelled_all ready) (beginnings os) _);
-    fed_is = at;
-    partial_fits = tt;
-  }
+  -- a container with these nodes, which ends or goes on
+  module _ (ready : Trees) (os : List OpenContainer) (o : Opening) (ts : List Tree) (g : Ground limit base ready os) (free : IsNoString os) (fits : HeadFits o) (all : FitsAll (trees ts))
+      (deep : added_depth o + open_depth os + depth_all (trees ts) ≤ limit) (placed : IsPlacedOpen (base + length (front ready os)) (opened o ts)) (fed : ℕ) (x : List ℕ) (at : fed ≡ base + length x) where
+    pub ends : Ends o ts → x ≡ front ready os ++ (opening o ++ spelled_all (trees ts) ++ closing o) → Whole x fed ready os (built o ts)
+    ends h bytes = record {
+      ground = g;
+      accepts = accepted os (built o ts) free;
+      fits = built_fits o ts fits h all;
+      shallow = omega (arith, built_deep o ts h, deep);
+      placed = built_placed o ts _ fits h placed.0 placed.1;
+      bytes = bytes ∙ ap (λ l. front ready os ++ l) (sym (built_spelled o ts fits h));
+      fed_is = at;
+    }
 
-  pub sound_pairs : (ready : Trees) (os : List OpenContainer) (p : ℕ) (a : Argument) (es : Entries) (fed : ℕ) (x : List ℕ)
-      → ((t : Tree) → Whole x fed ready os t → Sound x (finished fed ready os t))
-      → Ground limit base ready os → IsNoChunk (slot os) → ArgumentFits a → UpTo a (count_entries es) → FitsEntries es → open_depth os + suc (depth_entries es) ≤ limit
-      → IsPlacedOpen (base + length (front ready os)) (opened_pairs p a es)
-      → x ≡ front ready os ++ (head Map a ++ spelled_entries es) → fed ≡ base + length x
-      → Sound x (pairs_at fed ready os p a es)
-  sound_pairs ready os p (Given w n) es fed x next g free fits up fit deep placed bytes at = go (leb n (count_entries es)) refl
-    where
-      go : (b : Bool) → leb n (count_entries es) ≡ b → Sound x (cond b (finished fed ready os (Pairs p (Fixed w) es)) (Live fed ready (opened_pairs p (Given w n) es ∷ os) nothing))
-      go true e =
-          let same : n ≡ count_entries es = omega (arith, leb-true n (count_entries es) e) in
-          next (Pairs p (Fixed w) es) (record {
-            ground = g;
-            free = free;
-            fits = (subst (WidthFits w) same fits, fit);
-            shallow = deep;
-            placed = (placed.0, subst (λ k. PlacedEntries (base + length (front ready os) + length (head Map (Given w k))) es) same placed.1);
-            bytes = bytes ∙ ap (λ k. front ready os ++ (head Map (Given w k) ++ spelled_entries es)) same ∙ ap (λ l. front ready os ++ l) (sym (append-nil (head Map (Given w (count_entries es)) ++ spelled_entries es)));
-            fed_is = at;
-          })
-      go false e = record {
-        ground = ground_more ready os (opened_pairs p (Given w n) es) g free ((fits, leb-false n (count_entries es) e), fit, deep) placed;
-        bytes = nothing_more _ _ (bytes ∙ append_assoc (spelled_all ready) (beginnings os) _);
-        fed_is = at;
-        partial_fits = tt;
-      }
-  sound_pairs ready os p EndlessArgument es fed x next g free fits up fit deep placed bytes at = record {
-    ground = ground_more ready os (opened_pairs p EndlessArgument es) g free (tt, fit, deep) placed;
-    bytes = nothing_more _ _ (bytes ∙ append_assoc (spelled_all ready) (beginnings os) _);
-    fed_is = at;
-    partial_fits = tt;
-  }
-
-  -- the arguments of what is open
-  room_up : (a : Argument) (k : ℕ) → HasRoom a k → UpTo a (suc k)
-  room_up (Given w n) k h = h.1
-  room_up EndlessArgument k h = tt
-
-  here_pairs : (ready : Trees) (os : List OpenContainer) (p : ℕ) (a : Argument) (es : Entries)
-      → base + length (front ready (opened_pairs p a es ∷ os)) ≡ base + length (front ready os) + length (head Map a) + length (spelled_entries es)
-  here_pairs ready os p a es = omega (arith, length_front ready os, length_front ready (opened_pairs p a es ∷ os), length-append (beginnings os) (head Map a ++ spelled_entries es), length-append (head Map a) (spelled_entries es))
+    pub sound_holding : ((t : Tree) → Whole x fed ready os t → Sound x (finished fed ready os t)) → (is_full o (length ts) ≡ false → Goes o ts) → (is_full o (length ts) ≡ true → Ends o ts)
+        → x ≡ front ready os ++ (opening o ++ spelled_all (trees ts)) → Sound x (holding fed ready os o ts)
+    sound_holding next goes end bytes = go (is_full o (length ts)) refl
+      where
+        go : (b : Bool) → is_full o (length ts) ≡ b → Sound x (cond b (finished fed ready os (built o ts)) (Live fed ready (opened o ts ∷ os) nothing))
+        go true e =
+            let start = opening o ++ spelled_all (trees ts) in
+            next (built o ts) (ends (end e) (bytes ∙ ap (λ l. front ready os ++ l) (sym (append-nil start) ∙ ap (λ l. start ++ l) (sym (full_closing o (length ts) e)))))
+        go false e = record {
+          ground = ground_more ready os (opened o ts) g free (fits, goes e, all, deep) placed;
+          bytes = nothing_more _ _ (bytes ∙ append_assoc (spelled_all ready) (beginnings os) _);
+          fed_is = at;
+          partial_fits = tt;
+        }
 
   pub sound_finished : (os : List OpenContainer) (ready : Trees) (t : Tree) (fed : ℕ) (x : List ℕ) → Whole x fed ready os t → Sound x (finished fed ready os t)
   sound_finished [] ready t fed x h = record {
@@ -219,59 +144,14 @@ module _ (limit base : ℕ) where
     fed_is = h.fed_is;
     partial_fits = tt;
   }
-  sound_finished (opened_items p a ts ∷ os) ready t fed x h =
-      let top = top_placed ready os (opened_items p a ts) h.ground in
+  sound_finished (opened o ts ∷ os) ready t fed x h =
+      let top = top_placed ready os (opened o ts) h.ground in
       let may = h.ground.are_open.0 in
-      let q = base + length (front ready os) in
-      let here : base + length (front ready (opened_items p a ts ∷ os)) ≡ q + length (head Array a) + length (spelled_all ts)
-      = omega (arith, length_front ready os, length_front ready (opened_items p a ts ∷ os), length-append (beginnings os) (head Array a ++ spelled_all ts), length-append (head Array a) (spelled_all ts)) in
-      let cut : front ready (opened_items p a ts ∷ os) ++ spelled t ≡ front ready os ++ (head Array a ++ (spelled_all ts ++ spelled t)) = simp append_assoc in
-      sound_items ready os p a (snoc ts t) fed x (λ u. sound_finished os ready u fed x)
-      (ground_less ready os (opened_items p a ts) h.ground) h.ground.are_open.1 (room_fits a (count ts) may.0)
-      (subst (UpTo a) (sym (count-snoc ts t)) (room_up a (count ts) may.0))
-      (fits-snoc ts t may.1 h.fits) (omega (arith, depth-snoc ts t, may.2, h.shallow))
-      (top.0, placed-snoc ts t _ top.1 (subst (λ k. Placed k t) here h.placed))
-      (h.bytes ∙ cut ∙ ap (λ l. front ready os ++ (head Array a ++ l)) (sym (spelled_all-snoc ts t))) h.fed_is
-  sound_finished (opened_pairs p a es ∷ os) ready t fed x h =
-      let o = opened_pairs p a es in
-      let less = ground_less ready os o h.ground in
-      let top = top_placed ready os o h.ground in
-      let may = h.ground.are_open.0 in
-      let cut : front ready (o ∷ os) ++ spelled t ≡ front ready os ++ (head Map a ++ spelled_entries es ++ spelled t) = simp append_assoc in
-      record {
-        ground = ground_more ready os (opened_value p a es t) less h.ground.are_open.1 (may.0, may.1, may.2, h.fits, omega (arith, h.shallow))
-            (top.0, top.1, subst (λ k. Placed k t) (here_pairs ready os p a es) h.placed);
-        bytes = nothing_more _ _ (h.bytes ∙ cut ∙ append_assoc (spelled_all ready) (beginnings os) _);
-        fed_is = h.fed_is;
-        partial_fits = tt;
-      }
-  sound_finished (opened_value p a es k ∷ os) ready t fed x h =
-      let o = opened_value p a es k in
-      let top = top_placed ready os o h.ground in
-      let may = h.ground.are_open.0 in
-      let q = base + length (front ready os) in
-      let here : base + length (front ready (o ∷ os)) ≡ q + length (head Map a) + length (spelled_entries es) + length (spelled k)
-      = omega (arith, length_front ready os, length_front ready (o ∷ os), length-append (beginnings os) (head Map a ++ spelled_entries es ++ spelled k), length-append (head Map a ++ spelled_entries es) (spelled k), length-append (head Map a) (spelled_entries es)) in
-      let cut : front ready (o ∷ os) ++ spelled t ≡ front ready os ++ (head Map a ++ (spelled_entries es ++ spelled k ++ spelled t)) = simp append_assoc in
-      sound_pairs ready os p a (snoc_entry es k t) fed x (λ u. sound_finished os ready u fed x)
-      (ground_less ready os o h.ground) h.ground.are_open.1 (room_fits a (count_entries es) may.0)
-      (subst (UpTo a) (sym (count_entries-snoc es k t)) (room_up a (count_entries es) may.0))
-      (fits_entries-snoc es k t may.1 may.3 h.fits) (omega (arith, depth_entries-snoc es k t, may.2, may.4, h.shallow))
-      (top.0, placed_entries-snoc es k t _ top.1 top.2 (subst (λ k. Placed k t) here h.placed))
-      (h.bytes ∙ cut ∙ ap (λ l. front ready os ++ (head Map a ++ l)) (sym (spelled_entries-snoc es k t))) h.fed_is
-  sound_finished (opened_tag p w n ∷ os) ready t fed x h =
-      let o = opened_tag p w n in
-      let top = top_placed ready os o h.ground in
-      let here : base + length (front ready (o ∷ os)) ≡ base + length (front ready os) + length (head Tag (Given w n))
-      = omega (arith, length_front ready os, length_front ready (o ∷ os), length-append (beginnings os) (head Tag (Given w n))) in
-      let cut : front ready (o ∷ os) ++ spelled t ≡ front ready os ++ (head Tag (Given w n) ++ spelled t) = simp append_assoc in
-      sound_finished os ready (Tagged p w n t) fed x (record {
-        ground = ground_less ready os o h.ground;
-        free = h.ground.are_open.1;
-        fits = (h.ground.are_open.0.0, h.fits);
-        shallow = omega (arith, h.shallow);
-        placed = (top, subst (λ k. Placed k t) here h.placed);
-        bytes = h.bytes ∙ cut;
-        fed_is = h.fed_is;
-      })
-  sound_finished (opened_chunks p k cs ∷ os) ready t fed x h = absurd h.free
+      let same = trees-push ts t in
+      let here : base + length (front ready (opened o ts ∷ os)) ≡ base + length (front ready os) + length (opening o) + length (spelled_all (trees ts))
+      = omega (arith, length_front ready os, length_front ready (opened o ts ∷ os), length-append (beginnings os) (opening o ++ spelled_all (trees ts)), length-append (opening o) (spelled_all (trees ts))) in
+      let cut : front ready (opened o ts ∷ os) ++ spelled t ≡ front ready os ++ (opening o ++ (spelled_all (trees ts) ++ spelled t)) = simp append_assoc in
+      sound_holding ready os o (ts ++ t ∷ []) (ground_less ready os (opened o ts) h.ground) h.ground.are_open.1 may.0 (subst FitsAll (sym same) (fits-snoc (trees ts) t may.2 h.fits))
+      (omega (arith, ap depth_all same, depth-snoc (trees ts) t, may.3, h.shallow)) (top.0, subst (PlacedAll _) (sym same) (placed-snoc (trees ts) t _ top.1 (subst (λ k. Placed k t) here h.placed))) fed x h.fed_is
+      (λ u. sound_finished os ready u fed x) (goes_on o ts t may.1 h.accepts) (goes_whole o ts t may.1)
+      (h.bytes ∙ cut ∙ ap (λ l. front ready os ++ (opening o ++ l)) (sym (ap spelled_all same ∙ spelled_all-snoc (trees ts) t)))

@@ -7,7 +7,7 @@ use Rattle.cborn_model.specs.Bytes.{AreBytes}
 use Rattle.cborn_model.specs.declared.heads.Width.{Width}
 use Rattle.cborn_model.specs.declared.heads.Width.TheVariants.{Direct, One, Two, Four, Eight}
 use Rattle.cborn_model.specs.declared.heads.Major.{Major}
-use Rattle.cborn_model.specs.declared.heads.Major.TheVariants.{Unsigned, Negative, ByteString, TextString, Array, Map, Tag, Other}
+use Rattle.cborn_model.specs.declared.heads.Major.TheVariants.{Other}
 use Rattle.cborn_model.specs.Heads.{Given, EndlessArgument, code, information, following, head, WidthFits}
 use Rattle.cborn_model.specs.Tree.{Trees}
 use Rattle.cborn_model.proofs.Bytes.{bytes-append}
@@ -28,10 +28,7 @@ initial b h = omega (arith, code_at (b / 32) (omega arith))
 
 abbrev pub IsWide : Width → Type 0
 IsWide Direct = ⊥
-IsWide One = Unit {0}
-IsWide Two = Unit {0}
-IsWide Four = Unit {0}
-IsWide Eight = Unit {0}
+IsWide _ = Unit {0}
 
 abbrev pub InfoIs : ℕ → Info → Type 0
 InfoIs i (Now n) = (i ≡ n) × (n < 24)
@@ -72,24 +69,15 @@ again Eight got wide l h = (
 
 pub wide : (w : Width) → 0 < width_bytes w → IsWide w
 wide Direct h = omega arith
-wide One h = tt
-wide Two h = tt
-wide Four h = tt
-wide Eight h = tt
+wide w h = tt
 
 pub wide_info : (w : Width) (n : ℕ) → IsWide w → info_for (Given w n) ≡ Next w
 wide_info Direct n h = absurd h
-wide_info One n h = refl
-wide_info Two n h = refl
-wide_info Four n h = refl
-wide_info Eight n h = refl
+wide_info w n h = refl
 
 pub wide_information : (w : Width) (n : ℕ) → IsWide w → information w n ≡ information w 0
 wide_information Direct n h = absurd h
-wide_information One n h = refl
-wide_information Two n h = refl
-wide_information Four n h = refl
-wide_information Eight n h = refl
+wide_information w n h = refl
 
 pass : (c : Bool) (q : WireReason) (o o' : Option WireReason) (r : WireReason) → cond c (Some q) o ≡ Some r → (o ≡ Some r → o' ≡ Some r) → cond c (Some q) o' ≡ Some r
 pass true q o o' r e f = e
@@ -98,15 +86,9 @@ pass false q o o' r e f = f e
 reason_last : (full one : Bool) (m : Major) (y : List ℕ) (r : WireReason)
     → cond ((is_other m && one) && false) (Some BadSimple) (cond (is_container m && full) (Some TooDeep) None) ≡ Some r
     → cond ((is_other m && one) && begins_low y) (Some BadSimple) (cond (is_container m && full) (Some TooDeep) None) ≡ Some r
-reason_last full one Unsigned y r e = e
-reason_last full one Negative y r e = e
-reason_last full one ByteString y r e = e
-reason_last full one TextString y r e = e
-reason_last full one Array y r e = e
-reason_last full one Map y r e = e
-reason_last full one Tag y r e = e
 reason_last full true Other y r e = cc
 reason_last full false Other y r e = e
+reason_last full one m y r e = e
 
 -- a reason that the initial byte gives stays, whatever follows
 pub reason_stays : (s : Slot) (full : Bool) (m : Major) (i : Info) (y : List ℕ) (r : WireReason) → head_reason s full m i [] ≡ Some r → head_reason s full m i y ≡ Some r
@@ -138,9 +120,9 @@ module _ (limit base : ℕ) where
           let k = number w got in
           let same = again w got broad full bytes in
           let clear = is_clear (slot os) (leb limit (open_depth os)) m (Next w) [] none in
-          sound_head limit base m (Given w k) ready os fed p x g (subst (Clear (slot os) (leb limit (open_depth os)) m) (sym (wide_info w k broad)) clear) same.1 placed
+          sound_head limit base ready os fed p x g placed at m (Given w k) (subst (Clear (slot os) (leb limit (open_depth os)) m) (sym (wide_info w k broad)) clear) same.1
           (is ∙ ap (λ i. front ready os ++ ((32 * code m + i) ∷ got)) (sym (wide_information w k broad))
-          ∙ ap (λ l. front ready os ++ ((32 * code m + information w k) ∷ l)) (sym same.0)) at
+          ∙ ap (λ l. front ready os ++ ((32 * code m + information w k) ∷ l)) (sym same.0))
       go false e = record { ground = g; bytes = is; fed_is = at; partial_fits = (placed, all, leb-false n (length got) e, none, bytes) }
 
   sound_begin : (i : Info) (m : Major) (ready : Trees) (os : List OpenContainer) (fed b : ℕ) (x : List ℕ)
@@ -162,10 +144,10 @@ module _ (limit base : ℕ) where
       read j e = ap (λ l. l ++ b ∷ []) here ∙ ap (λ c. front ready os ++ c ∷ []) (first ∙ ap (λ k. 32 * code m + k) e)
 
       go : (i : Info) → head_reason (slot os) (leb limit (open_depth os)) m i [] ≡ None → InfoIs (b % 32) i → Sound limit base (x ++ b ∷ []) (begin_head fed ready os m i)
-      go (Now n) none is = sound_head limit base m (Given Direct n) ready os (suc fed) fed (x ++ b ∷ []) h.ground (is_clear (slot os) (leb limit (open_depth os)) m (Now n) [] none) is.1 placed (read n is.0) at
+      go (Now n) none is = sound_head limit base ready os (suc fed) fed (x ++ b ∷ []) h.ground placed at m (Given Direct n) (is_clear (slot os) (leb limit (open_depth os)) m (Now n) [] none) is.1 (read n is.0)
       go (Next w) none is = sound_argument m w ready os (width_bytes w) [] (suc fed) fed (x ++ b ∷ []) h.ground none tt is.1 refl (omega arith) placed (read (information w 0) is.0) at
       go Reserved none is = let e : true ≡ false = (is_clear (slot os) (leb limit (open_depth os)) m Reserved [] none).reserved in cc
-      go EndlessInformation none is = sound_head limit base m EndlessArgument ready os (suc fed) fed (x ++ b ∷ []) h.ground (is_clear (slot os) (leb limit (open_depth os)) m EndlessInformation [] none) tt placed (read 31 is) at
+      go EndlessInformation none is = sound_head limit base ready os (suc fed) fed (x ++ b ∷ []) h.ground placed at m EndlessArgument (is_clear (slot os) (leb limit (open_depth os)) m EndlessInformation [] none) tt (read 31 is)
 
   sound_slot : (ready : Trees) (os : List OpenContainer) (fed b : ℕ) (x : List ℕ) → b < 256 → SoundLive limit base x fed ready os nothing
       → Sound limit base (x ++ b ∷ []) (at_slot limit fed ready os (major_at (b / 32)) (info_at (b % 32)))
@@ -191,10 +173,9 @@ module _ (limit base : ℕ) where
       (wide w (omega (arith, h.partial_fits.1, h.partial_fits.2))) h.partial_fits.1 (omega (arith, h.partial_fits.2, length_push got b)) h.partial_fits.0
       (ap (λ l. l ++ b ∷ []) h.bytes ∙ append_assoc (front ready os) _ (b ∷ [])) (omega (arith, h.fed_is, length_push x b))
   sound_step (Live fed ready os (gathering p (content_of k w) n got)) b x byte h =
-      sound_content limit base k ready os w n (got ++ b ∷ []) (suc fed) p (x ++ b ∷ []) h.ground h.partial_fits.3 h.partial_fits.1 h.partial_fits.0
+      sound_content limit base ready os (suc fed) p (x ++ b ∷ []) h.ground h.partial_fits.0 (omega (arith, h.fed_is, length_push x b)) k w n (got ++ b ∷ []) h.partial_fits.3 h.partial_fits.1
       (omega (arith, h.partial_fits.2, length_push got b)) (bytes-append got (b ∷ []) h.partial_fits.4 (byte, tt))
       (ap (λ l. l ++ b ∷ []) h.bytes ∙ append_assoc (front ready os) _ (b ∷ []) ∙ ap (λ l. front ready os ++ l) (append_assoc (head (major_of k) (Given w n)) got (b ∷ [])))
-      (omega (arith, h.fed_is, length_push x b))
 
   pub sound_run : (y : List ℕ) (s : State) (x : List ℕ) → AreBytes y → Sound limit base x s → Sound limit base (x ++ y) (run limit s y)
   sound_run [] s x h k = subst (λ l. Sound limit base l s) (sym (append-nil x)) k

@@ -1,5 +1,5 @@
 -- Strings that were read, and strings in chunks.
-use Rattle.std.proofs.Common.{◌≡◌, ℕ, ◌≤◌, List, [], ◌∷◌, ◌++◌, length, take, drop, refl, sym, ap, ◌∙◌, subst, arith, append_assoc, length-append}
+use Rattle.std.proofs.Common.{◌≡◌, ℕ, ◌≤◌, List, [], ◌∷◌, ◌++◌, length, take, drop, refl, sym, ap, ◌∙◌, subst, arith, append_assoc, append-nil, length-append}
 use Rattle.std.specs.List.{flat_map}
 use Rattle.std.proofs.lemmas.List.{length-take-le, take-append-drop}
 use Rattle.cborn_model.specs.Bytes.{AreBytes}
@@ -8,7 +8,7 @@ use Rattle.cborn_model.specs.declared.heads.Major.{Major}
 use Rattle.cborn_model.specs.declared.heads.Major.TheVariants.{ByteString, TextString}
 use Rattle.cborn_model.specs.declared.nodes.Chunk.{Chunk}
 use Rattle.cborn_model.specs.Heads.{Given, EndlessArgument, head, WidthFits}
-use Rattle.cborn_model.specs.Spelled.{string, chunk_bytes}
+use Rattle.cborn_model.specs.Spelled.{string, chunk_bytes, ChunksFit}
 use Rattle.cborn_model.specs.Tree.{Tree, Bytes, Text, ByteChunks, TextChunks}
 use Rattle.cborn_model.proofs.Bytes.{bytes-left}
 use Rattle.cborn_wire.specs.declared.heads.Argument.{Argument}
@@ -16,7 +16,6 @@ use Rattle.cborn_wire.specs.declared.heads.Argument.TheVariants as arguments
 use Rattle.cborn_wire.specs.declared.heads.Head.{Head}
 use Rattle.cborn_wire.specs.HeadReading.{major_at, IsHeadOf, seen_argument, ArgumentFits}
 use Rattle.cborn_wire.specs.Parts.{StringRead, ChunkRead, ChunksRead, NodeRead}
-use Rattle.cborn_wire.proofs.Machine.SoundItems.{fits_chunks-snoc, chunk_bytes-snoc}
 use Rattle.cborn_wire.proofs.Parts.Heads.{head_read, endless_split}
 
 -- ---- strings
@@ -45,6 +44,14 @@ module _ {Q : Tree → Type 0} {room n : ℕ} {input content rest : List ℕ} (p
   text_read h s q = record { node = Text place w content; read = string_split TextString w s; fits = string_fits w h s; shallow = omega arith; holds = q }
 
 -- ---- chunks
+
+fits_chunks-snoc : (cs : List Chunk) (c : Chunk) → ChunksFit cs → WidthFits c.width (length c.bytes) → AreBytes c.bytes → ChunksFit (cs ++ c ∷ [])
+fits_chunks-snoc [] c h k are = ((k, are), tt)
+fits_chunks-snoc (d ∷ cs) c h k are = (h.0, fits_chunks-snoc cs c h.1 k are)
+
+chunk_bytes-snoc : (m : Major) (cs : List Chunk) (c : Chunk) → flat_map (chunk_bytes m) (cs ++ c ∷ []) ≡ flat_map (chunk_bytes m) cs ++ chunk_bytes m c
+chunk_bytes-snoc m [] c = append-nil (chunk_bytes m c)
+chunk_bytes-snoc m (d ∷ cs) c = ap (λ l. chunk_bytes m d ++ l) (chunk_bytes-snoc m cs c) ∙ sym (append_assoc (chunk_bytes m d) (flat_map (chunk_bytes m) cs) (chunk_bytes m c))
 
 pub chunk_read : {P : Chunk → Type 0} {major : Major} {x tail content rest : List ℕ} {h : Head} {n k : ℕ} {w : Width} (place : ℕ) → tail ≡ drop n x → IsHeadOf x h n → major_at h.major ≡ major → h.argument ≡ arguments.Given w k → StringRead k tail content rest
     → P (record { place = place; width = w; bytes = content })

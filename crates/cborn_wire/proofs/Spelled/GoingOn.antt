@@ -5,13 +5,13 @@ use Rattle.std.proofs.lemmas.List.{take-append-drop}
 use Rattle.cborn_model.specs.Bytes.{AreBytes}
 use Rattle.cborn_model.specs.Tree.{Trees}
 use Rattle.cborn_model.specs.declared.heads.Width.TheVariants.{One}
-use Rattle.cborn_model.specs.declared.heads.Major.TheVariants.{Other}
+use Rattle.cborn_model.specs.declared.heads.Major.TheVariants.{Unsigned, Other}
 use Rattle.cborn_model.proofs.Bytes.{bytes-append, bytes-left, bytes-right}
 use Rattle.cborn_wire.specs.declared.faults.WireReason.{WireReason}
-use Rattle.cborn_wire.specs.Slots.{StringKind, OfBytes, OfText, Slot, item, value, element_or_end, key_or_end, chunk, OpenContainer, slot, open_depth, IsNoChunk, Open}
+use Rattle.cborn_wire.specs.Slots.{StringKind, OfBytes, OfText, Slot, item, value, element_or_end, key_or_end, chunk, OpenContainer, slot, open_depth, Open}
 use Rattle.cborn_wire.specs.Faults.{IsWellformed, GoesOn, BeginsHead, judged, IsReason, Refused}
 use Rattle.cborn_wire.specs.SlotFaults.{reason_at, SlotRefused}
-use Rattle.cborn_wire.specs.shared.InitialBytes.{Next, head_reason}
+use Rattle.cborn_wire.specs.shared.InitialBytes.{Now, Next, is_bad_chunk, head_reason}
 use Rattle.cborn_wire.specs.shared.Machine.{argument_of, nothing, gathering, State, Live, Failed, step, start, run, unless}
 use Rattle.cborn_wire.proofs.Machine.Running.{run-append}
 use Rattle.cborn_wire.proofs.Machine.SomeEnd.{Closable, takes_part, takes_integer}
@@ -104,17 +104,17 @@ module _ (limit : ℕ) where
   no_integer f OfBytes k opens = stands_not f (0 ∷ []) (chunk OfBytes) k _ opens refl
   no_integer f OfText k opens = stands_not f (0 ∷ []) (chunk OfText) k _ opens refl
 
-  some_integer : (f : List ℕ) (s : Slot) (k : ℕ) → AreBytes f → Open limit f s k → IsNoChunk s → GoesOn limit (f ++ 0 ∷ [])
+  some_integer : (f : List ℕ) (s : Slot) (k : ℕ) → AreBytes f → Open limit f s k → is_bad_chunk s Unsigned (Now 0) ≡ false → GoesOn limit (f ++ 0 ∷ [])
   some_integer f s k bytes opens free =
       let a : At limit 0 f s k = opened limit 0 f s k opens in
       let h : SoundLive limit 0 f (0 + length f) a.ready a.os nothing = subst (Sound limit 0 f) a.is (sound limit 0 f bytes) in
-      byte_goes f 0 (Live (0 + length f) a.ready a.os nothing) bytes (omega arith) a.is (takes_integer limit (0 + length f) a.ready a.os h.ground.are_open (subst IsNoChunk (sym a.slot_is) free))
+      byte_goes f 0 (Live (0 + length f) a.ready a.os nothing) bytes (omega arith) a.is (takes_integer limit (0 + length f) a.ready a.os h.ground.are_open (ap (λ t. is_bad_chunk t Unsigned (Now 0)) a.slot_is ∙ free))
 
   reason_there : (f : List ℕ) (s : Slot) (k b : ℕ) (y : List ℕ) (r : WireReason) → AreBytes f → Open limit f s k → reason_at limit s k (b ∷ y) ≡ Some r → IsReason limit f b r
-  reason_there f item k b y r bytes opens e = inl (some_integer f item k bytes opens tt, table_reason item (leb limit k) (b / 32) (b % 32) y r e)
-  reason_there f value k b y r bytes opens e = inl (some_integer f value k bytes opens tt, table_reason value (leb limit k) (b / 32) (b % 32) y r e)
-  reason_there f element_or_end k b y r bytes opens e = inl (some_integer f element_or_end k bytes opens tt, table_reason element_or_end (leb limit k) (b / 32) (b % 32) y r e)
-  reason_there f key_or_end k b y r bytes opens e = inl (some_integer f key_or_end k bytes opens tt, table_reason key_or_end (leb limit k) (b / 32) (b % 32) y r e)
+  reason_there f item k b y r bytes opens e = inl (some_integer f item k bytes opens refl, table_reason item (leb limit k) (b / 32) (b % 32) y r e)
+  reason_there f value k b y r bytes opens e = inl (some_integer f value k bytes opens refl, table_reason value (leb limit k) (b / 32) (b % 32) y r e)
+  reason_there f element_or_end k b y r bytes opens e = inl (some_integer f element_or_end k bytes opens refl, table_reason element_or_end (leb limit k) (b / 32) (b % 32) y r e)
+  reason_there f key_or_end k b y r bytes opens e = inl (some_integer f key_or_end k bytes opens refl, table_reason key_or_end (leb limit k) (b / 32) (b % 32) y r e)
   reason_there f (chunk kind) k b y r bytes opens e = inr (no_integer f kind k opens, table_reason (chunk kind) (leb limit k) (b / 32) (b % 32) y r e)
 
   -- What the table refuses is refused.

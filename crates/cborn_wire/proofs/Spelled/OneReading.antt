@@ -1,37 +1,63 @@
 -- A list of bytes has one reading at most, and no item begins another.
-use Rattle.std.proofs.Common.{◌≡◌, refl, sym, ap, ◌∙◌, ℕ, ◌+◌, ◌≤◌, List, [], ◌++◌, length, max, arith, append_assoc, append-nil, length-append, add-zero}
+use Rattle.std.proofs.Common.{◌≡◌, refl, sym, ap, ◌∙◌, subst, ℕ, ◌+◌, ◌≤◌, List, [], ◌++◌, length, max, arith, append_assoc, append-nil, length-append, add-zero}
 use Rattle.std.proofs.lemmas.List.{append_cancel_left}
-use Rattle.cborn_model.specs.Tree.{Tree, Trees, no_item, more, depth, depth_all}
+use Rattle.cborn_model.specs.Bytes.{AreBytes}
+use Rattle.cborn_model.specs.Tree.{Tree, Trees, trees, no_item, more, depth, depth_all}
 use Rattle.cborn_model.specs.Spelled.{spelled, spelled_all, Fits, FitsAll, Wellformed}
 use Rattle.cborn_model.specs.Placed.{Placed, PlacedAll}
 use Rattle.cborn_wire.specs.Places.{placed_from, all_from}
-use Rattle.cborn_wire.specs.shared.Machine.{append_trees, snoc, nothing, State, Live, Failed, start, ready_in, run}
+use Rattle.cborn_wire.specs.shared.Machine.{append_trees, snoc, nothing, State, Live, Failed, start, ready_in, front, run}
 use Rattle.cborn_wire.proofs.Machine.Running.{run-append}
 use Rattle.cborn_wire.proofs.Machine.TakesItems.{takes, append_trees-nil, append_trees-snoc}
-use Rattle.cborn_wire.proofs.Spelled.AsPlaced.{spelled-from, spelled_all-from, depth-from, depth_all-from, fits-from, fits_all-from, placed-from, placed_all-from, same_all-from}
+use Rattle.cborn_wire.proofs.Spelled.AsPlaced.{same-from, same_all-from}
+use Rattle.cborn_wire.proofs.Machine.SoundItems.{SoundLive, Sound}
+use Rattle.cborn_wire.proofs.Machine.SoundRuns.{sound}
+use Rattle.cborn_wire.proofs.Spelled.AllBytes.{well_bytes}
+use Rattle.cborn_wire.proofs.Spelled.TreeLists.{tree_list, trees-tree_list}
 use Rattle.cborn_wire.proofs.Machine.WholeFront.{with_front, front_run}
 
-pub takes_sequence : (ts : Trees) (limit fed : ℕ) (ready : Trees) (x : List ℕ) → FitsAll ts → depth_all ts ≤ limit → PlacedAll fed ts
-    → run limit (Live fed ready [] nothing) (spelled_all ts ++ x) ≡ run limit (Live (fed + length (spelled_all ts)) (append_trees ready ts) [] nothing) x
-takes_sequence no_item limit fed ready x fits deep placed = rw (append_trees-nil, add-zero) refl
-takes_sequence (more t ts) limit fed ready x fits deep placed =
+pub takes_sequence : (ts : Trees) (limit fed : ℕ) (ready : Trees) (x : List ℕ) → FitsAll ts → depth_all ts ≤ limit
+    → run limit (Live fed ready [] nothing) (spelled_all ts ++ x) ≡ run limit (Live (fed + length (spelled_all ts)) (append_trees ready (all_from fed ts)) [] nothing) x
+takes_sequence no_item limit fed ready x fits deep = rw (append_trees-nil, add-zero) refl
+takes_sequence (more t ts) limit fed ready x fits deep =
     let rest = spelled_all ts in
-    let total : fed + length (spelled t) + length rest ≡ fed + length (spelled t ++ rest) = omega (arith, length-append (spelled t) rest) in
+    let next = fed + length (spelled t) in
+    let u = placed_from fed t in
+    let us = all_from next ts in
+    let total : next + length rest ≡ fed + length (spelled t ++ rest) = omega (arith, length-append (spelled t) rest) in
     ap (run limit (Live fed ready [] nothing)) (append_assoc (spelled t) rest x)
-    ∙ takes t limit fed ready [] (rest ++ x) fits.0 tt (omega arith) placed.0
-    ∙ takes_sequence ts limit (fed + length (spelled t)) (snoc ready t) x fits.1 (omega arith) placed.1
-    ∙ ap (λ k. run limit (Live k (append_trees (snoc ready t) ts) [] nothing) x) total
-    ∙ ap (λ l. run limit (Live (fed + length (spelled t ++ rest)) l [] nothing) x) (append_trees-snoc ready t ts)
+    ∙ takes t limit fed ready [] (rest ++ x) fits.0 tt (omega arith)
+    ∙ takes_sequence ts limit next (snoc ready u) x fits.1 (omega arith)
+    ∙ ap (λ k. run limit (Live k (append_trees (snoc ready u) us) [] nothing) x) total
+    ∙ ap (λ l. run limit (Live (fed + length (spelled t ++ rest)) l [] nothing) x) (append_trees-snoc ready u us)
 
 -- What is well-formed is read, wherever it begins.
 pub reads : (limit p : ℕ) (ts : Trees) (x : List ℕ) → Wellformed limit ts x → run limit (start p) x ≡ Live (p + length x) (all_from p ts) [] nothing
 reads limit p ts x h =
-    let us = all_from p ts in
-    let same : spelled_all us ≡ x = spelled_all-from ts p ∙ h.spells in
-    let deep : depth_all us ≤ limit = omega (arith, depth_all-from ts p, h.shallow) in
-    ap (run limit (start p)) (sym same ∙ sym (append-nil (spelled_all us)))
-    ∙ takes_sequence us limit p no_item [] (fits_all-from ts p h.fit) deep (placed_all-from ts p)
-    ∙ ap (λ l. Live (p + length l) us [] nothing) same
+    ap (run limit (start p)) (sym h.spells ∙ sym (append-nil (spelled_all ts)))
+    ∙ takes_sequence ts limit p no_item [] h.fit h.shallow
+    ∙ ap (λ l. Live (p + length l) (all_from p ts) [] nothing) h.spells
+
+-- Where nothing is open the items are the reading.
+pub ends_read : (limit base : ℕ) (x : List ℕ) → AreBytes x → (fed : ℕ) (ready : Trees) → run limit (start base) x ≡ Live fed ready [] nothing → Wellformed limit ready x × PlacedAll base ready
+ends_read limit base x bytes fed ready e =
+    let h : SoundLive limit base x fed ready [] nothing = subst (Sound limit base x) e (sound limit base x bytes) in
+    (record { spells = sym (h.bytes ∙ append-nil (front ready []) ∙ append-nil (spelled_all ready)); fit = h.ground.fit; shallow = h.ground.shallow }, h.ground.placed)
+
+-- So each node may be at its offset,
+pub placed_reading : (limit p : ℕ) (ts : Trees) (x : List ℕ) → Wellformed limit ts x → Wellformed limit (all_from p ts) x × PlacedAll p (all_from p ts)
+placed_reading limit p ts x w = ends_read limit p x (well_bytes limit ts x w) (p + length x) (all_from p ts) (reads limit p ts x w)
+
+-- in a list,
+pub listed_reading : (limit p : ℕ) (ts : Trees) (x : List ℕ) → Wellformed limit ts x → Wellformed limit (trees (tree_list (all_from p ts))) x × PlacedAll p (trees (tree_list (all_from p ts)))
+listed_reading limit p ts x w = subst (λ us. Wellformed limit us x × PlacedAll p us) (sym (trees-tree_list (all_from p ts))) (placed_reading limit p ts x w)
+
+-- and alone.
+pub placed_node : (p : ℕ) (t : Tree) → Fits t → (spelled (placed_from p t) ≡ spelled t) × Fits (placed_from p t) × (depth (placed_from p t) ≤ depth t) × Placed p (placed_from p t)
+placed_node p t h =
+    let u = placed_from p t in
+    let (w, placed) = placed_reading (depth t) p (more t no_item) (spelled t ++ []) (record { spells = refl; fit = (h, tt); shallow = omega arith }) in
+    (sym (append-nil (spelled u)) ∙ w.spells ∙ append-nil (spelled t), w.fit.0, omega (arith, w.shallow), placed.0)
 
 -- but for offsets
 pub one_reading : (limit : ℕ) (ts us : Trees) (x : List ℕ) → Wellformed limit ts x → Wellformed limit us x → (p : ℕ) → all_from p ts ≡ all_from p us
@@ -57,17 +83,14 @@ no_front t u y h k e =
     let limit = max (depth t) (depth u) in
     let t' = placed_from 0 t in
     let u' = placed_from 0 u in
-    let end = 0 + length (spelled t') in
-    let left : run limit (start 0) (spelled t' ++ y) ≡ with_front (more t' no_item) (run limit (start end) y)
-    = takes t' limit 0 no_item [] y (fits-from t 0 h) tt (omega (arith, depth-from t 0)) (placed-from t 0)
-    ∙ front_run (more t' no_item) limit y (start end) in
-    let right : run limit (start 0) (spelled u' ++ []) ≡ Live (0 + length (spelled u')) (more u' no_item) [] nothing
-    = takes u' limit 0 no_item [] [] (fits-from u 0 k) tt (omega (arith, depth-from u 0)) (placed-from u 0) in
-    let bytes : spelled t' ++ y ≡ spelled u' ++ [] = ap (λ l. l ++ y) (spelled-from t 0) ∙ e ∙ sym (spelled-from u 0) ∙ sym (append-nil (spelled u')) in
-    let all : with_front (more t' no_item) (run limit (start end) y) ≡ Live (0 + length (spelled u')) (more u' no_item) [] nothing
-    = sym left ∙ ap (run limit (start 0)) bytes ∙ right in
+    let end = 0 + length (spelled t) in
+    let left : run limit (start 0) (spelled t ++ y) ≡ with_front (more t' no_item) (run limit (start end) y)
+    = takes t limit 0 no_item [] y h tt (omega arith) ∙ front_run (more t' no_item) limit y (start end) in
+    let right : run limit (start 0) (spelled u ++ []) ≡ Live (0 + length (spelled u)) (more u' no_item) [] nothing = takes u limit 0 no_item [] [] k tt (omega arith) in
+    let all : with_front (more t' no_item) (run limit (start end) y) ≡ Live (0 + length (spelled u)) (more u' no_item) [] nothing
+    = sym left ∙ ap (run limit (start 0)) (e ∙ sym (append-nil (spelled u))) ∙ right in
     let same : t' ≡ u' = first_is t' u' (run limit (start end) y) all in
-    (append_cancel_left (spelled t) y [] (e ∙ sym (spelled-from u 0) ∙ sym (ap spelled same) ∙ spelled-from t 0 ∙ sym (append-nil (spelled t))), same)
+    (append_cancel_left (spelled t) y [] (e ∙ sym (placed_node 0 u k).0 ∙ sym (ap spelled same) ∙ (placed_node 0 t h).0 ∙ sym (append-nil (spelled t))), same)
   where
     first_is : (t u : Tree) (s : State) {fed : ℕ} → with_front (more t no_item) s ≡ Live fed (more u no_item) [] nothing → t ≡ u
     first_is t u (Live fed ready os partial) e = ap (λ s. head_of t (ready_in s)) e
@@ -85,7 +108,8 @@ no_item_begins t u y h k e =
 -- For a feeder: what is left once the first item was taken is what the bytes after it make.
 pub after_first : (t : Tree) (limit p : ℕ) (x : List ℕ) → Fits t → depth t ≤ limit → Placed p t
     → run limit (start p) (spelled t ++ x) ≡ with_front (more t no_item) (run limit (start (p + length (spelled t))) x)
-after_first t limit p x fits deep placed = takes t limit p no_item [] x fits tt (omega arith) placed ∙ front_run (more t no_item) limit x (start (p + length (spelled t)))
+after_first t limit p x fits deep placed =
+    takes t limit p no_item [] x fits tt (omega arith) ∙ ap (λ u. run limit (Live (p + length (spelled t)) (more u no_item) [] nothing) x) (same-from t p placed) ∙ front_run (more t no_item) limit x (start (p + length (spelled t)))
 
 pub ready_front : (front : Trees) (s : State) → ready_in (with_front front s) ≡ append_trees front (ready_in s)
 ready_front front (Live fed ready os partial) = refl

@@ -2,8 +2,7 @@
 use Rattle.std.proofs.Common.{◌≡◌, refl, sym, ap, ◌∙◌, subst, ℕ, ◌+◌, List, [], ◌++◌, length, Some, arith, append-nil, length-append}
 use Rattle.cborn_model.specs.Bytes.{AreBytes}
 use Rattle.cborn_model.specs.Tree.{Trees, no_item}
-use Rattle.cborn_model.specs.Spelled.{spelled_all, Wellformed}
-use Rattle.cborn_model.specs.Placed.{PlacedAll}
+use Rattle.cborn_model.specs.Spelled.{spelled_all}
 use Rattle.cborn_model.proofs.Bytes.{bytes-append}
 use Rattle.cborn_wire.specs.declared.faults.WireReason.{WireReason}
 use Rattle.cborn_wire.specs.Slots.{Slot, OpenContainer, beginnings, slot, open_depth, Open}
@@ -14,8 +13,7 @@ use Rattle.cborn_wire.specs.Places.{all_from}
 use Rattle.cborn_wire.specs.shared.Machine.{Unfinished, nothing, State, Live, Failed, IsLive, run, start, front}
 use Rattle.cborn_wire.proofs.HeadReading.InitialBytes.{same_reason}
 use Rattle.cborn_wire.proofs.Machine.Running.{run-append, failed_run}
-use Rattle.cborn_wire.proofs.Spelled.AsPlaced.{spelled_all-from, depth_all-from, fits_all-from, placed_all-from}
-use Rattle.cborn_wire.proofs.Spelled.OneReading.{reads, takes_sequence}
+use Rattle.cborn_wire.proofs.Spelled.OneReading.{reads, takes_sequence, ends_read}
 use Rattle.cborn_wire.proofs.Machine.SoundItems.{SoundLive, SoundFailed, Sound}
 use Rattle.cborn_wire.proofs.Machine.SoundRuns.{sound}
 use Rattle.cborn_wire.proofs.Machine.TakesOpen.{open_from, slot-from, open_depth-from, takes_open}
@@ -36,17 +34,13 @@ module _ (limit base : ℕ) where
   pub opened : (f : List ℕ) (s : Slot) (k : ℕ) → Open limit f s k → At f s k
   opened f s k (ts, os, fits, deep, are_open, is, e, d) =
       let us = all_from base ts in
-      let same : spelled_all us ≡ spelled_all ts = spelled_all-from ts base in
-      let whole : f ≡ spelled_all us ++ (beginnings os ++ []) = is ∙ ap (λ l. l ++ beginnings os) (sym same) ∙ ap (λ l. spelled_all us ++ l) (sym (append-nil (beginnings os))) in
-      let q = base + length (spelled_all us) in
-      let total : q + length (beginnings os) ≡ base + length f = omega (arith, ap length is, ap length same, length-append (spelled_all ts) (beginnings os)) in
+      let whole : f ≡ spelled_all ts ++ (beginnings os ++ []) = is ∙ ap (λ l. spelled_all ts ++ l) (sym (append-nil (beginnings os))) in
+      let q = base + length (spelled_all ts) in
+      let total : q + length (beginnings os) ≡ base + length f = omega (arith, ap length is, length-append (spelled_all ts) (beginnings os)) in
       record {
         ready = us;
         os = open_from q os;
-        is = ap (run limit (start base)) whole
-            ∙ takes_sequence us limit base no_item (beginnings os ++ []) (fits_all-from ts base fits) (omega (arith, depth_all-from ts base)) (placed_all-from ts base)
-            ∙ takes_open limit os q us [] are_open
-            ∙ ap (λ k. Live k us (open_from q os) nothing) total;
+        is = ap (run limit (start base)) whole ∙ takes_sequence ts limit base no_item (beginnings os ++ []) fits deep ∙ takes_open limit os q us [] are_open ∙ ap (λ k. Live k us (open_from q os) nothing) total;
         slot_is = slot-from os q ∙ sym e;
         depth_is = open_depth-from os q ∙ sym d;
       }
@@ -76,14 +70,8 @@ module _ (limit base : ℕ) where
         ),
       )
 
-  -- where nothing is open the items are the reading
-  pub ends_read : (x : List ℕ) → AreBytes x → (fed : ℕ) (ready : Trees) → run limit (start base) x ≡ Live fed ready [] nothing → Wellformed limit ready x × PlacedAll base ready
-  ends_read x bytes fed ready e =
-      let h : SoundLive limit base x fed ready [] nothing = subst (Sound limit base x) e (sound limit base x bytes) in
-      (record { spells = sym (h.bytes ∙ append-nil (front ready []) ∙ append-nil (spelled_all ready)); fit = h.ground.fit; shallow = h.ground.shallow }, h.ground.placed)
-
   pub ends_whole : (x : List ℕ) → AreBytes x → (fed : ℕ) (ready : Trees) → run limit (start base) x ≡ Live fed ready [] nothing → IsWellformed limit x
-  ends_whole x bytes fed ready e = (ready, (ends_read x bytes fed ready e).0)
+  ends_whole x bytes fed ready e = (ready, (ends_read limit base x bytes fed ready e).0)
 
   -- what can come to an end of complete items goes on
   pub closable_goes : (x : List ℕ) → AreBytes x → Closable limit (run limit (start base) x) → GoesOn limit x

@@ -1,9 +1,9 @@
 -- Nodes one after another, as lists of std and as the trees' own.
-use Rattle.std.proofs.Common.{◌≡◌, refl, sym, ap, ◌∙◌, List, [], ◌∷◌, ◌++◌, append_assoc}
-use Rattle.cborn_model.specs.Tree.{Tree, Trees, no_item, more, entry, trees, entries}
+use Rattle.std.proofs.Common.{◌≡◌, refl, sym, ap, ◌∙◌, suc, List, [], ◌∷◌, ◌++◌, length, append_assoc}
+use Rattle.cborn_model.specs.Tree.{Tree, Trees, no_item, more, trees, count}
 use Rattle.cborn_model.specs.Spelled.{spelled, spelled_all}
 use Rattle.cborn_model.proofs.Listed.Trees.{trees-injective}
-use Rattle.cborn_wire.specs.shared.Machine.{append_trees, snoc, snoc_entry}
+use Rattle.cborn_wire.specs.shared.Machine.{append_trees, snoc}
 
 pub trees-append : (ts us : List Tree) → trees (ts ++ us) ≡ append_trees (trees ts) (trees us)
 trees-append [] us = refl
@@ -13,10 +13,6 @@ pub trees-push : (ts : List Tree) (t : Tree) → trees (ts ++ t ∷ []) ≡ snoc
 trees-push [] t = refl
 trees-push (u ∷ ts) t = ap (more u) (trees-push ts t)
 
-pub entries-push : (es : List (Tree × Tree)) (k v : Tree) → entries (es ++ (k, v) ∷ []) ≡ snoc_entry (entries es) k v
-entries-push [] k v = refl
-entries-push (e ∷ es) k v = ap (entry e.0 e.1) (entries-push es k v)
-
 abbrev pub tree_list : Trees → List Tree
 tree_list no_item = []
 tree_list (more t ts) = t ∷ tree_list ts
@@ -24,6 +20,10 @@ tree_list (more t ts) = t ∷ tree_list ts
 pub trees-tree_list : (ts : Trees) → trees (tree_list ts) ≡ ts
 trees-tree_list no_item = refl
 trees-tree_list (more t ts) = ap (more t) (trees-tree_list ts)
+
+pub tree_count : (ts : Trees) → length (tree_list ts) ≡ count ts
+tree_count no_item = refl
+tree_count (more t ts) = ap suc (tree_count ts)
 
 -- a list that begins with another, seen from its trees
 pub begins_list : (ts us : List Tree) (vs : Trees) → trees us ≡ append_trees (trees ts) vs → us ≡ ts ++ tree_list vs

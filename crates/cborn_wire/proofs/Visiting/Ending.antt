@@ -15,9 +15,9 @@ use Rattle.cborn_wire.specs.Faults.{IsWellformed, Fault, Refused}
 use Rattle.cborn_wire.specs.Slots.{OpenContainer}
 use Rattle.cborn_wire.specs.shared.Machine.{Unfinished, nothing, State, Live, start, run}
 use Rattle.cborn_wire.specs.shared.Visiting.{ready, open_in, unfinished, Stands, seen_head, HereAt, IsFresh, IsInput, IsFed, MayEnd, levels, Missing, RefusesPiece}
-use Rattle.cborn_wire.proofs.Spelled.SlotLaws.{ends_read, goes_on}
+use Rattle.cborn_wire.proofs.Spelled.SlotLaws.{goes_on}
 use Rattle.cborn_wire.proofs.Spelled.FaultLaws.{fails_refused}
-use Rattle.cborn_wire.proofs.Spelled.OneReading.{reads}
+use Rattle.cborn_wire.proofs.Spelled.OneReading.{reads, ends_read}
 use Rattle.cborn_wire.proofs.Visiting.Taking.{outer_count}
 use Rattle.cborn_wire.proofs.Visiting.Pieces.{may_end_here}
 

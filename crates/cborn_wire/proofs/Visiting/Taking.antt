@@ -3,30 +3,29 @@ use Rattle.std.proofs.Common.{◌≡◌, refl, sym, ap, ◌∙◌, subst, ℕ, �
 use Rattle.std.proofs.lemmas.List.{take-append-drop, length-take-le}
 use Rattle.cborn_model.specs.Bytes.{AreBytes}
 use Rattle.cborn_model.specs.declared.heads.Width.{Width}
-use Rattle.cborn_model.specs.declared.heads.Width.TheVariants.{Direct, One, Two, Four, Eight}
-use Rattle.cborn_model.specs.declared.heads.Size.{Size}
-use Rattle.cborn_model.specs.declared.heads.Size.TheVariants.{Fixed, Endless}
+use Rattle.cborn_model.specs.declared.heads.Width.TheVariants.{Direct}
 use Rattle.cborn_model.specs.declared.heads.Major.{Major}
-use Rattle.cborn_model.specs.declared.heads.Major.TheVariants as majors
-use Rattle.cborn_model.specs.declared.heads.Major.TheVariants.{Unsigned, Negative, ByteString, TextString, Other}
+use Rattle.cborn_model.specs.declared.heads.Major.TheVariants.{Unsigned, ByteString, TextString, Other}
 use Rattle.cborn_model.specs.Heads.{Argument, Given, EndlessArgument}
 use Rattle.cborn_model.specs.Tree.{Tree, Trees, trees}
-use Rattle.cborn_model.specs.Partial.{Opening, an_array, a_map, a_tag, in_chunks, Partial, top, inside, Part, no_part, part, whole, paired, last_key, TakesItem, TakesString}
+use Rattle.cborn_model.specs.Partial.{Opening, an_array, a_map, in_chunks, Partial, top, inside, Part, no_part, part, whole, paired, last_key, string_tree, TakesItem, TakesString}
 use Rattle.cborn_model.proofs.Bytes.{bytes-left}
 use Rattle.cborn_wire.specs.declared.faults.WireFault.{WireFault}
 use Rattle.cborn_wire.specs.declared.faults.WireFault.TheVariants.{Refused, OutOfMemory}
-use Rattle.cborn_wire.specs.Slots.{StringKind, OfBytes, OfText, major_of, Slot, item, value, element_or_end, key_or_end, chunk, OpenContainer, opened_items, opened_pairs, opened_value, opened_tag, opened_chunks, slot, slot_in, open_depth, IsNoChunk, AreOpen}
+use Rattle.cborn_wire.specs.Slots.{StringKind, OfBytes, OfText, major_of, Slot, item, chunk, OpenContainer, opened, slot, slot_in, slot_in_map, open_depth, IsNoString, AreOpen}
 use Rattle.cborn_wire.specs.declared.heads.Head.{Head}
 use Rattle.cborn_wire.specs.declared.levels.Level.{Level}
 use Rattle.cborn_wire.specs.declared.head_readers.PartialHead.{PartialHead}
 use Rattle.cborn_wire.specs.HeadReading.{major_at, seen_argument, IsHeadOf}
-use Rattle.cborn_wire.specs.shared.InitialBytes.{Info, Next, EndlessInformation, info_at, info_for, is_of_kind, is_break, head_reason}
+use Rattle.cborn_wire.specs.shared.InitialBytes.{Info, Next, info_at, info_for, is_of_kind, is_break, is_bad_chunk, head_reason}
 use Rattle.cborn_wire.specs.devices.Counting.{plain}
-use Rattle.cborn_wire.specs.shared.Machine.{width_bytes, argument_of, content_of, nothing, gathering, State, Live, start, begin_head, unless, string_done, run}
-use Rattle.cborn_wire.specs.shared.Visiting.{argument_from, map_container, container, ready, open_in, state, BytesSay, IsFromBytes, AreFromBytes, at_most_highest, map_kind, kind_in, place_of, levels, Keeps, Takes, slot_of, Missing, Stands, FailsAs, HereAt, OpenIn}
+use Rattle.cborn_wire.specs.shared.Ground.{place_of}
+use Rattle.cborn_wire.specs.shared.Machine.{width_bytes, argument_of, content_of, nothing, gathering, State, Live, start, begin_head, unless, finished, run}
+use Rattle.cborn_wire.specs.shared.Visiting.{ready, open_in, state, at_most_highest, map_kind, kind_in, levels, Keeps, Takes, slot_of, Missing, Stands, FailsAs, HereAt, OpenIn}
 use Rattle.cborn_wire.proofs.Machine.Reached.{depth_is_length}
+use Rattle.cborn_wire.proofs.Machine.TakesItems.{given_endless}
 use Rattle.cborn_wire.proofs.Machine.Pieces.{major_of_head, info_of_head, content_more, content_done}
-use Rattle.cborn_wire.proofs.Machine.SoundSteps.{is_clear, free_of, other_kind}
+use Rattle.cborn_wire.proofs.Machine.SoundSteps.{is_clear, free_of, other_kind, open_string, shallow_open}
 use Rattle.cborn_wire.proofs.Machine.Running.{run-append, failed_run}
 use Rattle.cborn_wire.proofs.Machine.SoundItems.{SoundLive, Sound}
 use Rattle.cborn_wire.proofs.Machine.SoundRuns.{sound, InfoIs, IsWide, info_is}
@@ -40,11 +39,11 @@ module _ (limit at : ℕ) (rd : Trees) (os : List OpenContainer) (p : ℕ) (k : 
   many : length (take m piece) ≡ m
   many = length-take-le m piece fits
 
-  pub content_ends : length got < n → length got + m ≡ n → run limit (Live at rd os (gathering p (content_of k w) n got)) (take m piece) ≡ string_done (at + m) p rd os k w (got ++ take m piece)
+  pub content_ends : length got < n → length got + m ≡ n → run limit (Live at rd os (gathering p (content_of k w) n got)) (take m piece) ≡ finished (at + m) rd os (string_tree p k w (got ++ take m piece))
   content_ends h all =
       ap (run limit (Live at rd os (gathering p (content_of k w) n got))) (sym (append-nil (take m piece)))
       ∙ content_done limit at rd os p k w n got (take m piece) [] h (omega (arith, many))
-      ∙ ap (λ j. string_done (at + j) p rd os k w (got ++ take m piece)) many
+      ∙ ap (λ j. finished (at + j) rd os (string_tree p k w (got ++ take m piece))) many
 
   pub content_stays : length got + m < n → run limit (Live at rd os (gathering p (content_of k w) n got)) (take m piece) ≡ Live (at + m) rd os (gathering p (content_of k w) n (got ++ take m piece))
   content_stays h =
@@ -68,32 +67,22 @@ stands_here holds outer l left at h s u none is stands = subst (λ o. HereAt hol
 
 plain_same : (s : Slot) (full : Bool) (m : Major) (i : Info) → head_reason (plain s) full m i [] ≡ head_reason s full m i []
 plain_same item full m i = refl
-plain_same value full m i = refl
-plain_same element_or_end full m i = refl
-plain_same key_or_end full m i = refl
-plain_same (chunk k) full m i = refl
+plain_same s full m i = refl
 
-map_slot : (p : ℕ) (s : Size) (c : Option ℕ) (es : List (Tree × Tree)) (n : ℕ) (x : Option Tree) → BytesSay s c → slot_of (map_kind c n x) ≡ plain (slot_in (map_container p (argument_from s c) es x))
-map_slot p (Fixed w) (Some m) es n None say = refl
-map_slot p (Fixed w) (Some m) es n (Some k) say = refl
-map_slot p Endless None es n None say = refl
-map_slot p Endless None es n (Some k) say = refl
-map_slot p (Fixed w) None es n x say = absurd say
-map_slot p Endless (Some m) es n x say = absurd say
+level_slot : (o : Opening) (ts : List Tree) → slot_of (kind_in o ts) ≡ plain (slot_in (opened o ts))
+level_slot (an_array p s None) ts = refl
+level_slot (a_map p s c) ts = go c (last_key ts)
+  where
+    go : (c : Option ℕ) (x : Option Tree) → slot_of (map_kind c (at_most_highest (length (paired ts))) x) ≡ plain (slot_in_map c x)
+    go None None = refl
+    go None (Some k) = refl
+    go (Some n) None = refl
+    go (Some n) (Some k) = refl
+level_slot o ts = refl
 
-level_slot : (o : Opening) (ts : List Tree) → IsFromBytes o → slot_of (kind_in o ts) ≡ plain (slot_in (container o ts))
-level_slot (an_array p (Fixed w) (Some n)) ts say = refl
-level_slot (an_array p Endless None) ts say = refl
-level_slot (an_array p (Fixed w) None) ts say = absurd say
-level_slot (an_array p Endless (Some n)) ts say = absurd say
-level_slot (a_map p s c) ts say = map_slot p s c (paired ts) (at_most_highest (length (paired ts))) (last_key ts) say
-level_slot (a_tag p w n) ts say = refl
-level_slot (in_chunks p OfBytes) ts say = refl
-level_slot (in_chunks p OfText) ts say = refl
-
-top_slot : (f : Partial) (ls : List Level) (l : Level) → levels f ≡ ls ++ l ∷ [] → AreFromBytes f → slot_of l.kind ≡ plain (slot (open_in f))
-top_slot (top ts) ls l e say = ap (λ (m : Level). slot_of m.kind) (sym (last_same [] ls e).1)
-top_slot (inside f o ts) ls l e say = ap (λ (m : Level). slot_of m.kind) (sym (last_same (levels f) ls e).1) ∙ level_slot o ts say.1
+top_slot : (f : Partial) (ls : List Level) (l : Level) → levels f ≡ ls ++ l ∷ [] → slot_of l.kind ≡ plain (slot (open_in f))
+top_slot (top ts) ls l e = ap (λ (m : Level). slot_of m.kind) (sym (last_same [] ls e).1)
+top_slot (inside f o ts) ls l e = ap (λ (m : Level). slot_of m.kind) (sym (last_same (levels f) ls e).1) ∙ level_slot o ts
 
 level_count : (f : Partial) → length (levels f) ≡ length (open_in f) + 1
 level_count (top ts) = refl
@@ -104,45 +93,27 @@ outer_count f ls l e = omega (arith, level_count f, ap length e, length-append l
 
 -- in an indefinite string the depth says nothing
 chunk_reason : (k : StringKind) (m : Major) (i : Info) (f g : Bool) → head_reason (chunk k) f m i [] ≡ head_reason (chunk k) g m i []
-chunk_reason k Unsigned i f g = refl
-chunk_reason k Negative i f g = refl
-chunk_reason k ByteString i f g = refl
-chunk_reason k TextString i f g = refl
-chunk_reason OfBytes majors.Array i f g = refl
-chunk_reason OfText majors.Array i f g = refl
-chunk_reason OfBytes majors.Map i f g = refl
-chunk_reason OfText majors.Map i f g = refl
-chunk_reason OfBytes majors.Tag i f g = refl
-chunk_reason OfText majors.Tag i f g = refl
-chunk_reason k Other i f g = refl
+chunk_reason OfBytes Unsigned i f g = refl
+chunk_reason OfText Unsigned i f g = refl
+chunk_reason OfBytes m i f g = refl
+chunk_reason OfText m i f g = refl
 
-any_slot : (s : Slot) (limit j k : ℕ) (m : Major) (i : Info) → (IsNoChunk s → j ≡ k) → head_reason s (leb limit j) m i [] ≡ head_reason s (leb limit k) m i []
-any_slot item limit j k m i e = ap (λ n. head_reason item (leb limit n) m i []) (e tt)
-any_slot value limit j k m i e = ap (λ n. head_reason value (leb limit n) m i []) (e tt)
-any_slot element_or_end limit j k m i e = ap (λ n. head_reason element_or_end (leb limit n) m i []) (e tt)
-any_slot key_or_end limit j k m i e = ap (λ n. head_reason key_or_end (leb limit n) m i []) (e tt)
-any_slot (chunk c) limit j k m i e = chunk_reason c m i (leb limit j) (leb limit k)
+any_depth : (os : List OpenContainer) (limit j : ℕ) (m : Major) (i : Info) → (IsNoString os → j ≡ open_depth os) → head_reason (slot os) (leb limit j) m i [] ≡ head_reason (slot os) (leb limit (open_depth os)) m i []
+any_depth [] limit j m i e = ap (λ n. head_reason item (leb limit n) m i []) (e tt)
+any_depth (opened (in_chunks p c) ts ∷ os) limit j m i e = chunk_reason c m i (leb limit j) _
+any_depth (opened o ts ∷ os) limit j m i e = ap (λ n. head_reason (slot_in (opened o ts)) (leb limit n) m i []) (e tt)
 
 pub reason_same : (limit : ℕ) (f : Partial) (ls : List Level) (l : Level) (m : Major) (i : Info) → Keeps f ls l → AreOpen limit (open_in f)
     → head_reason (slot_of l.kind) (leb limit (length ls)) m i [] ≡ head_reason (slot (open_in f)) (leb limit (open_depth (open_in f))) m i []
 reason_same limit f ls l m i are h =
-    ap (λ s. head_reason s (leb limit (length ls)) m i []) (top_slot f ls l are.0 are.2)
+    ap (λ s. head_reason s (leb limit (length ls)) m i []) (top_slot f ls l are.0)
     ∙ plain_same (slot (open_in f)) (leb limit (length ls)) m i
-    ∙ any_slot (slot (open_in f)) limit (length ls) (open_depth (open_in f)) m i (λ free. outer_count f ls l are.0 ∙ sym (depth_is_length limit (open_in f) h free))
+    ∙ any_depth (open_in f) limit (length ls) m i (λ free. outer_count f ls l are.0 ∙ sym (depth_is_length limit (open_in f) h free))
 
 -- how many may be open
-
-depth_most : (limit : ℕ) (os : List OpenContainer) → AreOpen limit os → open_depth os ≤ limit
-depth_most limit [] h = omega arith
-depth_most limit (opened_items p a ts ∷ os) h = omega (arith, h.0.2)
-depth_most limit (opened_pairs p a es ∷ os) h = omega (arith, h.0.2)
-depth_most limit (opened_value p a es k ∷ os) h = omega (arith, h.0.2)
-depth_most limit (opened_tag p w n ∷ os) h = omega (arith, h.0.1)
-depth_most limit (opened_chunks p k cs ∷ os) h = omega (arith, depth_most limit os h.2)
-
 open_most : (limit : ℕ) (os : List OpenContainer) → AreOpen limit os → length os ≤ limit + 1
 open_most limit [] h = omega arith
-open_most limit (o ∷ os) h = omega (arith, depth_is_length limit os h.2 h.1, depth_most limit os h.2)
+open_most limit (o ∷ os) h = omega (arith, depth_is_length limit os h.2 h.1, shallow_open limit os h.2)
 
 -- there is room for one more level
 pub room : (limit most : ℕ) (f : Partial) (ls : List Level) (l : Level) → Keeps f ls l → limit + 1 < most → AreOpen limit (open_in f) → length ls < most
@@ -150,67 +121,34 @@ room limit most f ls l are small h = omega (arith, outer_count f ls l are.0, ope
 
 -- what is allowed may be next
 
-item_next : (f : Partial) → IsNoChunk (slot (open_in f)) → TakesItem f
+item_next : (f : Partial) → IsNoString (open_in f) → TakesItem f
 item_next (top ts) h = tt
-item_next (inside f (an_array p s c) ts) h = tt
-item_next (inside f (a_map p s c) ts) h = tt
-item_next (inside f (a_tag p w n) ts) h = tt
 item_next (inside f (in_chunks p k) ts) h = absurd h
+item_next (inside f o ts) h = tt
 
-string_next : (f : Partial) (full : Bool) (k : StringKind) (w : Width) (n : ℕ) → head_reason (slot (open_in f)) full (major_of k) (info_for (Given w n)) [] ≡ None → TakesString f k
-string_next (top ts) full k w n e = tt
-string_next (inside f (an_array p s c) ts) full k w n e = tt
-string_next (inside f (a_map p s c) ts) full k w n e = tt
-string_next (inside f (a_tag p v m) ts) full k w n e = tt
-string_next (inside f (in_chunks p j) ts) full k w n e = go j k w e
-  where
-    go : (j k : StringKind) (w : Width) → head_reason (chunk j) full (major_of k) (info_for (Given w n)) [] ≡ None → j ≡ k
-    go OfBytes OfBytes w e = refl
-    go OfText OfText w e = refl
-    go OfBytes OfText Direct e = cc
-    go OfBytes OfText One e = cc
-    go OfBytes OfText Two e = cc
-    go OfBytes OfText Four e = cc
-    go OfBytes OfText Eight e = cc
-    go OfText OfBytes Direct e = cc
-    go OfText OfBytes One e = cc
-    go OfText OfBytes Two e = cc
-    go OfText OfBytes Four e = cc
-    go OfText OfBytes Eight e = cc
-
-endless_next : (f : Partial) (full : Bool) (k : StringKind) → head_reason (slot (open_in f)) full (major_of k) EndlessInformation [] ≡ None → TakesItem f
-endless_next (top ts) full k e = tt
-endless_next (inside f (an_array p s c) ts) full k e = tt
-endless_next (inside f (a_map p s c) ts) full k e = tt
-endless_next (inside f (a_tag p w n) ts) full k e = tt
-endless_next (inside f (in_chunks p OfBytes) ts) full OfBytes e = cc
-endless_next (inside f (in_chunks p OfBytes) ts) full OfText e = cc
-endless_next (inside f (in_chunks p OfText) ts) full OfBytes e = cc
-endless_next (inside f (in_chunks p OfText) ts) full OfText e = cc
+string_next : (f : Partial) (k : StringKind) (i : Info) → is_bad_chunk (slot (open_in f)) (major_of k) i ≡ false → TakesString f k
+string_next (top ts) k i e = tt
+string_next (inside f (in_chunks p OfBytes) ts) OfBytes i e = refl
+string_next (inside f (in_chunks p OfText) ts) OfText i e = refl
+string_next (inside f (in_chunks p OfBytes) ts) OfText i e = cc
+string_next (inside f (in_chunks p OfText) ts) OfBytes i e = cc
+string_next (inside f o ts) k i e = tt
 
 module _ (f : Partial) (full : Bool) where
+  allowed : (m : Major) (a : Argument) → head_reason (slot (open_in f)) full m (info_for a) [] ≡ None → is_bad_chunk (slot (open_in f)) m (info_for a) ≡ false
+  allowed m a e = (is_clear (slot (open_in f)) full m (info_for a) [] e).chunked
+
   no_string : (m : Major) (a : Argument) → ((k : StringKind) → is_of_kind k m ≡ false) → is_break m (info_for a) ≡ false → head_reason (slot (open_in f)) full m (info_for a) [] ≡ None → TakesItem f
-  no_string m a k b e = item_next f (free_of (slot (open_in f)) m (info_for a) (is_clear (slot (open_in f)) full m (info_for a) [] e).chunked k b)
+  no_string m a k b e = item_next f (free_of (open_in f) m (info_for a) (allowed m a e) k b)
 
   pub head_next : (m : Major) (a : Argument) → head_reason (slot (open_in f)) full m (info_for a) [] ≡ None → Takes f m a
-  head_next ByteString (Given w n) e = string_next f full OfBytes w n e
-  head_next TextString (Given w n) e = string_next f full OfText w n e
-  head_next ByteString EndlessArgument e = endless_next f full OfBytes e
-  head_next TextString EndlessArgument e = endless_next f full OfText e
-  head_next Unsigned a e = no_string Unsigned a (other_kind Unsigned refl refl) refl e
-  head_next Negative a e = no_string Negative a (other_kind Negative refl refl) refl e
-  head_next majors.Array a e = no_string majors.Array a (other_kind majors.Array refl refl) refl e
-  head_next majors.Map a e = no_string majors.Map a (other_kind majors.Map refl refl) refl e
-  head_next majors.Tag a e = no_string majors.Tag a (other_kind majors.Tag refl refl) refl e
-  head_next Other (Given w n) e = no_string Other (Given w n) (other_kind Other refl refl) (no_break w n) e
-    where
-      no_break : (w : Width) (n : ℕ) → is_break Other (info_for (Given w n)) ≡ false
-      no_break Direct n = refl
-      no_break One n = refl
-      no_break Two n = refl
-      no_break Four n = refl
-      no_break Eight n = refl
+  head_next ByteString (Given w n) e = string_next f OfBytes (info_for (Given w n)) (allowed ByteString (Given w n) e)
+  head_next TextString (Given w n) e = string_next f OfText (info_for (Given w n)) (allowed TextString (Given w n) e)
+  head_next ByteString EndlessArgument e = item_next f (open_string (open_in f) OfBytes (allowed ByteString EndlessArgument e))
+  head_next TextString EndlessArgument e = item_next f (open_string (open_in f) OfText (allowed TextString EndlessArgument e))
+  head_next Other (Given w n) e = no_string Other (Given w n) (other_kind Other refl refl) (given_endless w n) e
   head_next Other EndlessArgument e = tt
+  head_next m a e = no_string m a (other_kind m refl refl) refl e
 
   pub first_next : (piece : List ℕ) (h : Head) (n : ℕ) → IsHeadOf piece h n → 0 < length piece → None ≡ head_reason (slot (open_in f)) full (major_at (get_or piece 0 0 / 32)) (info_at (get_or piece 0 0 % 32)) []
       → Takes f (major_at h.major) (seen_argument h.argument)
@@ -222,21 +160,12 @@ module _ (f : Partial) (full : Bool) where
 
   pub short_next : (m : Major) (i : Info) (w : Width) → i ≡ Next w → 0 < width_bytes w → None ≡ head_reason (slot (open_in f)) full m i [] → Takes f m (Given w 0)
   short_next m i Direct is some e = absurd (omega (arith, some))
-  short_next m i One is some e = head_next m (Given One 0) (ap (λ j. head_reason (slot (open_in f)) full m j []) (sym is) ∙ sym e)
-  short_next m i Two is some e = head_next m (Given Two 0) (ap (λ j. head_reason (slot (open_in f)) full m j []) (sym is) ∙ sym e)
-  short_next m i Four is some e = head_next m (Given Four 0) (ap (λ j. head_reason (slot (open_in f)) full m j []) (sym is) ∙ sym e)
-  short_next m i Eight is some e = head_next m (Given Eight 0) (ap (λ j. head_reason (slot (open_in f)) full m j []) (sym is) ∙ sym e)
+  short_next m i w is some e = head_next m (Given w 0) (ap (λ j. head_reason (slot (open_in f)) full m j []) (sym is) ∙ sym e)
 
 -- of which argument that is doesn't matter
 pub any_argument : (f : Partial) (m : Major) (w : Width) (n k : ℕ) → Takes f m (Given w n) → Takes f m (Given w k)
 any_argument f Unsigned w n k h = h
-any_argument f Negative w n k h = h
-any_argument f ByteString w n k h = h
-any_argument f TextString w n k h = h
-any_argument f majors.Array w n k h = h
-any_argument f majors.Map w n k h = h
-any_argument f majors.Tag w n k h = h
-any_argument f Other w n k h = h
+any_argument f m w n k h = h
 
 -- the initial byte of a head that ends after the piece
 pub short_taken : (limit at : ℕ) (rd : Trees) (os : List OpenContainer) (piece : List ℕ) (w : Width) → 0 < length piece → info_at (get_or piece 0 0 % 32) ≡ Next w
@@ -250,17 +179,11 @@ short_taken limit at rd os (b ∷ y) w some info none =
   where
     some_bytes : (w : Width) → IsWide w → 0 < width_bytes w
     some_bytes Direct h = absurd h
-    some_bytes One h = omega arith
-    some_bytes Two h = omega arith
-    some_bytes Four h = omega arith
-    some_bytes Eight h = omega arith
+    some_bytes w h = omega arith
 
     gathers : (m : Major) (w : Width) → IsWide w → begin_head at rd os m (Next w) ≡ Live (at + 1) rd os (gathering at (argument_of m w) (width_bytes w) [])
     gathers m Direct h = absurd h
-    gathers m One h = ap (λ k. Live k rd os (gathering at (argument_of m One) 1 [])) (sym (add-one at))
-    gathers m Two h = ap (λ k. Live k rd os (gathering at (argument_of m Two) 2 [])) (sym (add-one at))
-    gathers m Four h = ap (λ k. Live k rd os (gathering at (argument_of m Four) 4 [])) (sym (add-one at))
-    gathers m Eight h = ap (λ k. Live k rd os (gathering at (argument_of m Eight) 8 [])) (sym (add-one at))
+    gathers m w h = ap (λ k. Live k rd os (gathering at (argument_of m w) (width_bytes w) [])) (sym (add-one at))
 
 -- what fails on a front of the piece fails on it
 pub fails_on : (limit : ℕ) (s u : State) (ts : Trees) (n : ℕ) (piece : List ℕ) (e : WireFault) → run limit s (take n piece) ≡ u → FailsAs ts u e → FailsAs ts (run limit s piece) e

@@ -1,19 +1,22 @@
 -- A device of the proofs: complete items, and what is open after them, as the machine finds them in what it took; each with its offset. No definition cites it.
-use Rattle.std.specs.Prelude.{◌≡◌, ℕ, suc, ◌+◌, ◌≤◌, List, [], ◌∷◌, length}
-use Rattle.cborn_model.specs.declared.heads.Major.TheVariants.{Array, Map}
-use Rattle.cborn_model.specs.Heads.{head}
-use Rattle.cborn_model.specs.Tree.{Trees, depth_all}
-use Rattle.cborn_model.specs.Spelled.{spelled_all, spelled_entries, FitsAll}
-use Rattle.cborn_model.specs.Placed.{ChunksPlaced, Placed, PlacedAll, PlacedEntries}
-use Rattle.cborn_wire.specs.Slots.{major_of, OpenContainer, opened_items, opened_pairs, opened_value, opened_tag, opened_chunks, beginnings, AreOpen}
+use Rattle.std.specs.Prelude.{◌≡◌, ℕ, ◌+◌, ◌≤◌, List, [], ◌∷◌, length}
+use Rattle.cborn_model.specs.Partial.{Opening, an_array, a_map, a_tag, in_chunks}
+use Rattle.cborn_model.specs.Tree.{Trees, trees, depth_all}
+use Rattle.cborn_model.specs.Spelled.{spelled_all, FitsAll}
+use Rattle.cborn_model.specs.Placed.{PlacedAll}
+use Rattle.cborn_wire.specs.Slots.{OpenContainer, opened, opening, beginnings, AreOpen}
+
+-- the offset of its head
+abbrev pub place_of : Opening → ℕ
+place_of (an_array p s c) = p
+place_of (a_map p s c) = p
+place_of (a_tag p w n) = p
+place_of (in_chunks p k) = p
 
 -- the offsets of what is open
+
 abbrev pub IsPlacedOpen : ℕ → OpenContainer → Type 0
-IsPlacedOpen p (opened_items q a ts) = (q ≡ p) × PlacedAll (p + length (head Array a)) ts
-IsPlacedOpen p (opened_pairs q a es) = (q ≡ p) × PlacedEntries (p + length (head Map a)) es
-IsPlacedOpen p (opened_value q a es t) = (q ≡ p) × PlacedEntries (p + length (head Map a)) es × Placed (p + length (head Map a) + length (spelled_entries es)) t
-IsPlacedOpen p (opened_tag q w n) = q ≡ p
-IsPlacedOpen p (opened_chunks q k cs) = (q ≡ p) × ChunksPlaced (major_of k) (suc p) cs
+IsPlacedOpen p (opened o ts) = (place_of o ≡ p) × PlacedAll (p + length (opening o)) (trees ts)
 
 abbrev pub ArePlacedOpen : ℕ → List OpenContainer → Type 0
 ArePlacedOpen p [] = Unit {0}

@@ -7,7 +7,7 @@ use Rattle.cborn_model.specs.declared.heads.Major.TheVariants.{Unsigned, Negativ
 use Rattle.cborn_model.specs.Heads.{Argument, Given, EndlessArgument}
 use Rattle.cborn_wire.specs.declared.faults.WireReason.{WireReason}
 use Rattle.cborn_wire.specs.declared.faults.WireReason.TheVariants.{ReservedInfo, EndlessNotAllowed, BadChunk, UnexpectedBreak, FloatLeftOut, BadSimple, TooDeep}
-use Rattle.cborn_wire.specs.Slots.{StringKind, OfBytes, OfText, Slot, item, value, element_or_end, key_or_end, chunk}
+use Rattle.cborn_wire.specs.Slots.{StringKind, OfBytes, OfText, Slot, chunk}
 use Rattle.cborn_wire.specs.SlotFaults.{needs_item, begins_low}
 use Rattle.cborn_wire.specs.HeadReading.{major_at}
 
@@ -37,48 +37,30 @@ info_for (Given Eight n) = Next Eight
 info_for EndlessArgument = EndlessInformation
 
 abbrev pub is_reserved : Info → Bool
-is_reserved (Now n) = false
-is_reserved (Next w) = false
 is_reserved Reserved = true
-is_reserved EndlessInformation = false
+is_reserved _ = false
 
 abbrev pub is_endless_head : Info → Bool
-is_endless_head (Now n) = false
-is_endless_head (Next w) = false
-is_endless_head Reserved = false
 is_endless_head EndlessInformation = true
+is_endless_head _ = false
 
 -- the major types that have no indefinite form (RFC 8949 section 3.2)
 abbrev pub is_always_bounded : Major → Bool
 is_always_bounded Unsigned = true
 is_always_bounded Negative = true
-is_always_bounded ByteString = false
-is_always_bounded TextString = false
-is_always_bounded Array = false
-is_always_bounded Map = false
 is_always_bounded Tag = true
-is_always_bounded Other = false
+is_always_bounded _ = false
 
 abbrev pub is_other : Major → Bool
-is_other Unsigned = false
-is_other Negative = false
-is_other ByteString = false
-is_other TextString = false
-is_other Array = false
-is_other Map = false
-is_other Tag = false
 is_other Other = true
+is_other _ = false
 
 -- arrays, maps and tags
 abbrev pub is_container : Major → Bool
-is_container Unsigned = false
-is_container Negative = false
-is_container ByteString = false
-is_container TextString = false
 is_container Array = true
 is_container Map = true
 is_container Tag = true
-is_container Other = false
+is_container _ = false
 
 abbrev pub is_of_kind : StringKind → Major → Bool
 is_of_kind OfBytes ByteString = true
@@ -90,11 +72,8 @@ is_break m i = is_other m && is_endless_head i
 
 -- in an indefinite string neither a break nor a definite string of its kind (RFC 8949 section 3.2.3)
 abbrev pub is_bad_chunk : Slot → Major → Info → Bool
-is_bad_chunk item m i = false
-is_bad_chunk value m i = false
-is_bad_chunk element_or_end m i = false
-is_bad_chunk key_or_end m i = false
 is_bad_chunk (chunk k) m i = not (is_break m i || (is_of_kind k m && not (is_endless_head i)))
+is_bad_chunk _ m i = false
 
 abbrev pub is_float : Info → Bool
 is_float (Next Two) = true

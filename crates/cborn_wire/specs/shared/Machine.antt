@@ -4,22 +4,22 @@ use Rattle.std.specs.Int.{w16, w32, w64, from_be_bytes}
 use Rattle.cborn_model.specs.Bytes.{AreBytes}
 use Rattle.cborn_model.specs.declared.heads.Width.{Width}
 use Rattle.cborn_model.specs.declared.heads.Width.TheVariants.{Direct, One, Two, Four, Eight}
-use Rattle.cborn_model.specs.declared.heads.Size.TheVariants.{Fixed, Endless}
 use Rattle.cborn_model.specs.declared.heads.Major.{Major}
 use Rattle.cborn_model.specs.declared.heads.Major.TheVariants.{Unsigned, Negative, ByteString, TextString, Array, Map, Tag, Other}
 use Rattle.cborn_model.specs.Heads.{code, information, Argument, Given, EndlessArgument, head}
-use Rattle.cborn_model.specs.Tree.{Tree, Uint, Nint, Items, Pairs, Tagged, Simple, Trees, no_item, more, Entries, no_entry, entry, count, count_entries}
+use Rattle.cborn_model.specs.Partial.{Opening, an_array, a_map, a_tag, in_chunks, built, string_tree}
+use Rattle.cborn_model.specs.Tree.{Tree, Uint, Nint, Simple, Trees, no_item, more}
 use Rattle.cborn_model.specs.Spelled.{spelled_all}
-pub use Rattle.cborn_model.specs.Partial.{string_tree, chunks_tree}
 use Rattle.cborn_wire.specs.declared.faults.WireFault.{WireFault}
 use Rattle.cborn_wire.specs.declared.faults.WireFault.TheVariants as faults
 use Rattle.cborn_wire.specs.declared.faults.WireReason.{WireReason}
-use Rattle.cborn_wire.specs.declared.faults.WireReason.TheVariants.{ReservedInfo, EndlessNotAllowed, BadChunk, UnexpectedBreak, FloatLeftOut, BadSimple}
-use Rattle.cborn_wire.specs.Slots.{StringKind, OfBytes, OfText, OpenContainer, opened_items, opened_pairs, opened_value, opened_tag, opened_chunks, beginnings, major_of, slot, open_depth}
+use Rattle.cborn_wire.specs.declared.faults.WireReason.TheVariants.{ReservedInfo, EndlessNotAllowed, UnexpectedBreak, FloatLeftOut, BadSimple}
+use Rattle.cborn_wire.specs.Slots.{StringKind, OfBytes, OfText, OpenContainer, opened, beginnings, major_of, slot, slot_in, open_depth}
+use Rattle.cborn_wire.specs.SlotFaults.{needs_item}
 use Rattle.cborn_wire.specs.shared.InitialBytes.{Info, Now, Next, Reserved, EndlessInformation, info_at, head_reason}
-use Rattle.cborn_wire.specs.HeadReading.{major_at}
+use Rattle.cborn_wire.specs.HeadReading.{major_at, size_in, count_in}
 
--- one list of nodes after another, and a node or a pair at the end of a list
+-- one list of nodes after another, and a node at the end of a list
 
 abbrev pub append_trees : Trees → Trees → Trees
 append_trees no_item ts = ts
@@ -28,10 +28,6 @@ append_trees (more u us) ts = more u (append_trees us ts)
 abbrev pub snoc : Trees → Tree → Trees
 snoc no_item t = more t no_item
 snoc (more u ts) t = more u (snoc ts t)
-
-abbrev pub snoc_entry : Entries → Tree → Tree → Entries
-snoc_entry no_entry k v = entry k v no_entry
-snoc_entry (entry l w es) k v = entry l w (snoc_entry es k v)
 
 -- An argument of a width: how many bytes follow the initial byte, and the number that they write.
 
@@ -90,55 +86,35 @@ abbrev pub held : State → List ℕ
 held (Live fed ready os partial) = front ready os ++ partial_bytes partial
 held (Failed ready p r) = []
 
--- as many items or pairs as the head says
-abbrev pub is_full : Argument → ℕ → Bool
-is_full (Given w n) k = nat_le n k
-is_full EndlessArgument k = false
+-- k are as many as are announced
+abbrev pub is_all : Option ℕ → ℕ → Bool
+is_all (Some n) k = nat_le n k
+is_all None k = false
 
-abbrev pub items_tree : ℕ → Argument → Trees → Tree
-items_tree p (Given w n) ts = Items p (Fixed w) ts
-items_tree p EndlessArgument ts = Items p Endless ts
+-- With n nodes in it the container is whole.
+abbrev pub is_full : Opening → ℕ → Bool
+is_full (an_array p s c) n = is_all c n
+is_full (a_map p s c) n = is_all c (n / 2)
+is_full (a_tag p w m) n = is_all (Some 1) n
+is_full (in_chunks p k) n = false
 
-abbrev pub pairs_tree : ℕ → Argument → Entries → Tree
-pairs_tree p (Given w n) es = Pairs p (Fixed w) es
-pairs_tree p EndlessArgument es = Pairs p Endless es
-
--- after a complete item, inside what is open
+-- after a complete node, inside what is open
 abbrev pub finished : ℕ → Trees → List OpenContainer → Tree → State
 finished fed ready [] t = Live fed (snoc ready t) [] nothing
-finished fed ready (opened_items p a ts ∷ os) t = if is_full a (count (snoc ts t)) then finished fed ready os (items_tree p a (snoc ts t)) else Live fed ready (opened_items p a (snoc ts t) ∷ os) nothing
-finished fed ready (opened_pairs p a es ∷ os) t = Live fed ready (opened_value p a es t ∷ os) nothing
-finished fed ready (opened_value p a es k ∷ os) t = if is_full a (count_entries (snoc_entry es k t)) then finished fed ready os (pairs_tree p a (snoc_entry es k t)) else Live fed ready (opened_pairs p a (snoc_entry es k t) ∷ os) nothing
-finished fed ready (opened_tag p w n ∷ os) t = finished fed ready os (Tagged p w n t)
-finished fed ready (opened_chunks p k cs ∷ os) t = Failed ready fed BadChunk
+finished fed ready (opened o ts ∷ os) t = if is_full o (length (ts ++ t ∷ [])) then finished fed ready os (built o (ts ++ t ∷ [])) else Live fed ready (opened o (ts ++ t ∷ []) ∷ os) nothing
 
--- after the head of an array and these items
-abbrev pub items_at : ℕ → Trees → List OpenContainer → ℕ → Argument → Trees → State
-items_at fed ready os p a ts = if is_full a (count ts) then finished fed ready os (items_tree p a ts) else Live fed ready (opened_items p a ts ∷ os) nothing
-
--- after the head of a map and these pairs
-abbrev pub pairs_at : ℕ → Trees → List OpenContainer → ℕ → Argument → Entries → State
-pairs_at fed ready os p a es = if is_full a (count_entries es) then finished fed ready os (pairs_tree p a es) else Live fed ready (opened_pairs p a es ∷ os) nothing
-
--- after a whole definite string: a chunk, where an indefinite string is open, else an item
-abbrev pub string_done : ℕ → ℕ → Trees → List OpenContainer → StringKind → Width → List ℕ → State
-string_done fed p ready [] k w bytes = finished fed ready [] (string_tree p k w bytes)
-string_done fed p ready (opened_items q a ts ∷ os) k w bytes = finished fed ready (opened_items q a ts ∷ os) (string_tree p k w bytes)
-string_done fed p ready (opened_pairs q a es ∷ os) k w bytes = finished fed ready (opened_pairs q a es ∷ os) (string_tree p k w bytes)
-string_done fed p ready (opened_value q a es t ∷ os) k w bytes = finished fed ready (opened_value q a es t ∷ os) (string_tree p k w bytes)
-string_done fed p ready (opened_tag q v n ∷ os) k w bytes = finished fed ready (opened_tag q v n ∷ os) (string_tree p k w bytes)
-string_done fed p ready (opened_chunks q l cs ∷ os) k w bytes = Live fed ready (opened_chunks q l (cs ++ record { place = p; width = w; bytes = bytes } ∷ []) ∷ os) nothing
+-- after the head of a container and these nodes in it
+abbrev pub holding : ℕ → Trees → List OpenContainer → Opening → List Tree → State
+holding fed ready os o ts = if is_full o (length ts) then finished fed ready os (built o ts) else Live fed ready (opened o ts ∷ os) nothing
 
 -- after a definite string's head and these bytes of its content
 abbrev pub content_at : ℕ → ℕ → Trees → List OpenContainer → StringKind → Width → ℕ → List ℕ → State
-content_at fed p ready os k w n got = if nat_le n (length got) then string_done fed p ready os k w got else Live fed ready os (gathering p (content_of k w) n got)
+content_at fed p ready os k w n got = if nat_le n (length got) then finished fed ready os (string_tree p k w got) else Live fed ready os (gathering p (content_of k w) n got)
 
 -- after a break
 abbrev pub ended : ℕ → Trees → List OpenContainer → State
-ended fed ready (opened_items p EndlessArgument ts ∷ os) = finished fed ready os (Items p Endless ts)
-ended fed ready (opened_pairs p EndlessArgument es ∷ os) = finished fed ready os (Pairs p Endless es)
-ended fed ready (opened_chunks p k cs ∷ os) = finished fed ready os (chunks_tree p k cs)
-ended fed ready _ = Failed ready fed UnexpectedBreak
+ended fed ready [] = Failed ready fed UnexpectedBreak
+ended fed ready (opened o ts ∷ os) = if needs_item (slot_in (opened o ts)) then Failed ready fed UnexpectedBreak else finished fed ready os (built o ts)
 
 -- after a whole head, at p
 abbrev pub after_head : ℕ → ℕ → Trees → List OpenContainer → Major → Argument → State
@@ -146,11 +122,11 @@ after_head fed p ready os Unsigned (Given w n) = finished fed ready os (Uint p w
 after_head fed p ready os Negative (Given w n) = finished fed ready os (Nint p w n)
 after_head fed p ready os ByteString (Given w n) = content_at fed p ready os OfBytes w n []
 after_head fed p ready os TextString (Given w n) = content_at fed p ready os OfText w n []
-after_head fed p ready os ByteString EndlessArgument = Live fed ready (opened_chunks p OfBytes [] ∷ os) nothing
-after_head fed p ready os TextString EndlessArgument = Live fed ready (opened_chunks p OfText [] ∷ os) nothing
-after_head fed p ready os Array a = items_at fed ready os p a no_item
-after_head fed p ready os Map a = pairs_at fed ready os p a no_entry
-after_head fed p ready os Tag (Given w n) = Live fed ready (opened_tag p w n ∷ os) nothing
+after_head fed p ready os ByteString EndlessArgument = holding fed ready os (in_chunks p OfBytes) []
+after_head fed p ready os TextString EndlessArgument = holding fed ready os (in_chunks p OfText) []
+after_head fed p ready os Array a = holding fed ready os (an_array p (size_in a) (count_in a)) []
+after_head fed p ready os Map a = holding fed ready os (a_map p (size_in a) (count_in a)) []
+after_head fed p ready os Tag (Given w n) = holding fed ready os (a_tag p w n) []
 after_head fed p ready os Other (Given Direct n) = finished fed ready os (Simple p n)
 after_head fed p ready os Other (Given One n) = if nat_lt n 32 then Failed ready p BadSimple else finished fed ready os (Simple p n)
 after_head fed p ready os Other EndlessArgument = ended fed ready os
@@ -160,7 +136,7 @@ after_head fed p ready os m EndlessArgument = Failed ready p EndlessNotAllowed
 -- after all bytes that were wanted
 abbrev pub gathered : ℕ → ℕ → Trees → List OpenContainer → Goal → List ℕ → State
 gathered fed p ready os (argument_of m w) got = after_head fed p ready os m (Given w (number w got))
-gathered fed p ready os (content_of k w) got = string_done fed p ready os k w got
+gathered fed p ready os (content_of k w) got = finished fed ready os (string_tree p k w got)
 
 -- after these of the n bytes
 abbrev pub gather : ℕ → ℕ → Trees → List OpenContainer → Goal → ℕ → List ℕ → State

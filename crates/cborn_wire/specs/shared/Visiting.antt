@@ -1,21 +1,20 @@
 -- A device of the proofs: what a machine keeps of the partial sequence that its visitor holds, and what both are as a state of the machine of these proofs.
-use Rattle.std.specs.Prelude.{◌≡◌, ℕ, ◌+◌, ◌-◌, ◌^◌, ◌<◌, ◌≤◌, List, [], ◌∷◌, ◌++◌, length, take, Bool, true, false, Option, Some, None, Result, Ok, Err, MatchResult, if◌then◌else◌, nat_le, nat_lt}
+use Rattle.std.specs.Prelude.{◌≡◌, ℕ, ◌+◌, ◌-◌, ◌^◌, ◌<◌, ◌≤◌, List, [], ◌∷◌, ◌++◌, length, take, Bool, true, false, Option, Some, None, Result, Ok, Err, MatchResult, if◌then◌else◌, nat_lt}
 use Rattle.cborn_model.specs.Bytes.{AreBytes}
-use Rattle.cborn_model.specs.declared.heads.Size.{Size}
-use Rattle.cborn_model.specs.declared.heads.Size.TheVariants.{Fixed, Endless}
 use Rattle.cborn_model.specs.declared.heads.Major.{Major}
 use Rattle.cborn_model.specs.declared.heads.Major.TheVariants.{ByteString, TextString, Other}
 use Rattle.cborn_model.specs.Heads.{Argument, Given, EndlessArgument}
-use Rattle.cborn_model.specs.Tree.{Tree, Trees, trees, entries}
+use Rattle.cborn_model.specs.Tree.{Tree, Trees, trees}
 use Rattle.cborn_model.specs.Spelled.{Wellformed}
 use Rattle.cborn_model.specs.Placed.{PlacedAll}
-use Rattle.cborn_model.specs.Partial.{Opening, an_array, a_map, a_tag, in_chunks, Partial, top, inside, Part, no_part, part, paired, last_key, chunks_of, TakesItem, TakesString, Proper}
+use Rattle.cborn_model.specs.Partial.{Opening, an_array, a_map, a_tag, in_chunks, Partial, top, inside, Part, no_part, part, paired, last_key, TakesItem, TakesString, Proper}
 use Rattle.cborn_wire.specs.declared.faults.WireFault.{WireFault}
 use Rattle.cborn_wire.specs.declared.faults.WireFault.TheVariants.{Refused, OutOfMemory}
 use Rattle.cborn_wire.specs.declared.faults.WireReason.{WireReason}
-use Rattle.cborn_wire.specs.Slots.{OfBytes, OfText, Slot, item, element_or_end, chunk, OpenContainer, opened_items, opened_pairs, opened_value, opened_tag, opened_chunks, AreOpen}
+use Rattle.cborn_wire.specs.Slots.{OfBytes, OfText, Slot, item, element_or_end, chunk, OpenContainer, opened, HeadFits, AreOpen}
 use Rattle.cborn_wire.specs.HeadReading.{major_at}
-use Rattle.cborn_wire.specs.shared.Machine.{width_bytes, Unfinished, argument_of, content_of, nothing, gathering, State, Live, Failed, ready_in, start, run, AtMostOneMore}
+use Rattle.cborn_wire.specs.shared.Ground.{place_of}
+use Rattle.cborn_wire.specs.shared.Machine.{width_bytes, Unfinished, argument_of, content_of, nothing, gathering, State, Live, Failed, ready_in, start, run, is_all, AtMostOneMore}
 use Rattle.cborn_wire.specs.declared.levels.LevelKind.{LevelKind}
 use Rattle.cborn_wire.specs.declared.levels.LevelKind.TheVariants.{Sequence, Array, Map, MapValue, Tag, Chunks}
 use Rattle.cborn_wire.specs.declared.levels.Level.{Level}
@@ -24,29 +23,13 @@ use Rattle.cborn_wire.specs.declared.head_readers.HeadReader.{HeadReader}
 
 -- a partial sequence as a state of the machine of the proofs
 
--- the argument of the head of an array or a map
-abbrev pub argument_from : Size → Option ℕ → Argument
-argument_from (Fixed w) (Some n) = Given w n
-argument_from s c = EndlessArgument
-
--- a map's pairs, and the key whose value is missing
-abbrev pub map_container : ℕ → Argument → List (Tree × Tree) → Option Tree → OpenContainer
-map_container p a es None = opened_pairs p a (entries es)
-map_container p a es (Some k) = opened_value p a (entries es) k
-
-abbrev pub container : Opening → List Tree → OpenContainer
-container (an_array p s c) ts = opened_items p (argument_from s c) (trees ts)
-container (a_map p s c) ts = map_container p (argument_from s c) (paired ts) (last_key ts)
-container (a_tag p w n) ts = opened_tag p w n
-container (in_chunks p k) ts = opened_chunks p k (chunks_of ts)
-
 abbrev pub ready : Partial → Trees
 ready (top ts) = trees ts
 ready (inside f o ts) = ready f
 
 abbrev pub open_in : Partial → List OpenContainer
 open_in (top ts) = []
-open_in (inside f o ts) = container o ts ∷ open_in f
+open_in (inside f o ts) = opened o ts ∷ open_in f
 
 abbrev pub unfinished : Part → Unfinished
 unfinished no_part = nothing
@@ -55,20 +38,10 @@ unfinished (part p k w n x) = gathering p (content_of k w) n x
 abbrev pub state : ℕ → Partial → Part → State
 state at f c = Live at (ready f) (open_in f) (unfinished c)
 
--- what bytes spell: a number of items or pairs that fits 64 bits, or an indefinite length
-abbrev pub BytesSay : Size → Option ℕ → Type 0
-BytesSay (Fixed w) (Some n) = n < 2 ^ 64
-BytesSay Endless None = Unit {0}
-BytesSay _ _ = ⊥
-
-abbrev pub IsFromBytes : Opening → Type 0
-IsFromBytes (an_array p s c) = BytesSay s c
-IsFromBytes (a_map p s c) = BytesSay s c
-IsFromBytes _ = Unit {0}
-
+-- what is open is spelled by bytes
 abbrev pub AreFromBytes : Partial → Type 0
 AreFromBytes (top ts) = Unit {0}
-AreFromBytes (inside f o ts) = AreFromBytes f × IsFromBytes o
+AreFromBytes (inside f o ts) = AreFromBytes f × HeadFits o
 
 -- the levels of what is open
 
@@ -90,12 +63,6 @@ kind_in (a_map p s c) ts = map_kind c (at_most_highest (length (paired ts))) (la
 kind_in (a_tag p w n) ts = Tag n
 kind_in (in_chunks p k) ts = Chunks k (at_most_highest (length ts))
 
-abbrev pub place_of : Opening → ℕ
-place_of (an_array p s c) = p
-place_of (a_map p s c) = p
-place_of (a_tag p w n) = p
-place_of (in_chunks p k) = p
-
 -- the outermost first
 abbrev pub levels : Partial → List Level
 levels (top ts) = record { place = 0; kind = Sequence (at_most_highest (length ts)) } ∷ []
@@ -108,10 +75,6 @@ Keeps f around l = (levels f ≡ around ++ l ∷ []) × Proper f × AreFromBytes
 -- the levels of an input of which nothing was read
 abbrev pub IsInput : List Level → Level → Type 0
 IsInput around l = (around ≡ []) × (l ≡ record { place = 0; kind = Sequence 0 })
-
-abbrev pub is_all : Option ℕ → ℕ → Bool
-is_all (Some n) k = nat_le n k
-is_all None k = false
 
 -- what a level is with one more part; None if that was its last
 abbrev pub with_part : LevelKind → Option LevelKind

@@ -3,7 +3,7 @@ use Rattle.std.proofs.lemmas.List.{length-take-le}
 use Rattle.cborn_model.specs.Partial.{part}
 use Rattle.cborn_wire.specs.shared.Machine.{ready_in, AtMostOneMore}
 use Rattle.cborn_wire.specs.shared.Visiting.{ready, open_in}
-use Rattle.cborn_wire.proofs.Machine.OneMore.{one_more_string}
+use Rattle.cborn_wire.proofs.Machine.OneMore.{one_more_finished}
 use Rattle.cborn_wire.proofs.Visiting.Taking.{stands_here, content_ends, content_stays}
 use Rattle.cborn_wire.proofs.head_readers.HeadReader.take_content.Goals as goal
 
@@ -17,7 +17,7 @@ returns-in_ok-self-clause-goes g c = λ f p k w n x held are takes all.
     let goes = content_ends s.limit s.at (ready f) (open_in f) p k w n x piece m fits (omega (arith, c.requires.amid, all)) whole in (
       stands_here _ _ _ _ _ s.head _ _ c.requires.between goes
           (c.in_ok-self.ensures.goes f p k w n (x ++ take m piece) (omega (arith, length-append x (take m piece), length-take-le m piece fits, whole)) takes (c.in_ok-part.ensures.held f p k w n x held) are),
-      subst (AtMostOneMore (ready f)) (sym goes) (one_more_string (ready f) (open_in f) _ p k w _),
+      subst (AtMostOneMore (ready f)) (sym goes) (one_more_finished (ready f) (open_in f) _ _),
     )
 
 pub returns-else-self-eq0-clause-goes : goal.returns-else-self-eq0-clause-goes

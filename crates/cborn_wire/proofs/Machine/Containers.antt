@@ -1,0 +1,344 @@
+-- A container and the nodes in it: when more may come, when it is whole, and what it is then.
+use Rattle.std.proofs.Common.{◌≡◌, refl, sym, ap, ◌∙◌, subst, ℕ, suc, ◌+◌, ◌/◌, ◌%◌, ◌<◌, ◌≤◌, List, [], ◌∷◌, ◌++◌, length, map, true, false, Option, Some, None, arith, append_assoc, append-nil, length-append, add-one}
+use Rattle.std.proofs.lemmas.Bool.{leb-true, leb-false, lt-leb}
+use Rattle.std.specs.List.{flat_map}
+use Rattle.cborn_model.specs.declared.heads.Size.{Size}
+use Rattle.cborn_model.specs.declared.heads.Size.TheVariants.{Fixed, Endless}
+use Rattle.cborn_model.specs.declared.heads.Major.TheVariants.{Array, Map, Tag}
+use Rattle.cborn_model.specs.declared.nodes.Chunk.{Chunk}
+use Rattle.cborn_model.specs.Heads.{WidthFits, Given, EndlessArgument, head, argument, SizeFits}
+use Rattle.cborn_model.specs.Tree.{Tree, Bytes, Text, ByteChunks, TextChunks, more, Entries, no_entry, entry, trees, entries, count_entries, depth, depth_all, depth_entries}
+use Rattle.cborn_model.specs.Spelled.{ending, chunk_bytes, spelled, spelled_all, spelled_entries, ChunksFit, Fits, FitsAll, FitsEntries}
+use Rattle.cborn_model.specs.Placed.{ChunksPlaced, Placed, PlacedAll, PlacedEntries}
+use Rattle.cborn_model.specs.Partial.{Opening, an_array, a_map, a_tag, in_chunks, paired, last_key, chunk_of, chunks_of, built, ended_size, IsAll, IsString, AreStrings, Goes, Ends}
+use Rattle.cborn_model.proofs.Listed.Trees.{count-trees, count_entries-entries}
+use Rattle.cborn_wire.specs.Slots.{StringKind, OfBytes, OfText, major_of, opened, announced, opening, slot_in, slot_in_map, added_depth, Announces, HeadFits}
+use Rattle.cborn_wire.specs.SlotFaults.{needs_item}
+use Rattle.cborn_wire.specs.Places.{chunks_from, placed_from, all_from, entries_from}
+use Rattle.cborn_wire.specs.shared.Machine.{is_full}
+use Rattle.cborn_wire.specs.shared.Ground.{place_of}
+use Rattle.cborn_wire.specs.devices.OpenNodes.{string_of}
+use Rattle.cborn_wire.proofs.Building.{chunks_same}
+
+-- Keys and values in turn: how many pairs they are, and whether a value is missing.
+
+pub pair_count : (ts : List Tree) → length (paired ts) ≡ length ts / 2
+pair_count [] = refl
+pair_count (k ∷ []) = refl
+pair_count (k ∷ v ∷ ts) = omega (arith, pair_count ts)
+
+pub even : (ts : List Tree) → last_key ts ≡ None → length ts % 2 ≡ 0
+even [] e = refl
+even (k ∷ []) e = cc
+even (k ∷ v ∷ ts) e = omega (arith, even ts e)
+
+pub no_key : (ts : List Tree) → length ts % 2 ≡ 0 → last_key ts ≡ None
+no_key [] e = refl
+no_key (k ∷ []) e = absurd (omega (arith, e))
+no_key (k ∷ v ∷ ts) e = no_key ts (omega (arith, e))
+
+pub key_next : (ts : List Tree) (t : Tree) → last_key ts ≡ None → (paired (ts ++ t ∷ []) ≡ paired ts) × (last_key (ts ++ t ∷ []) ≡ Some t)
+key_next [] t e = (refl, refl)
+key_next (k ∷ []) t e = cc
+key_next (k ∷ v ∷ ts) t e = let h = key_next ts t e in (ap (λ l. (k, v) ∷ l) h.0, h.1)
+
+pub value_next : (ts : List Tree) (t k : Tree) → last_key ts ≡ Some k → (paired (ts ++ t ∷ []) ≡ paired ts ++ (k, t) ∷ []) × (last_key (ts ++ t ∷ []) ≡ None)
+value_next [] t k e = cc
+value_next (l ∷ []) t k e = let same : l ≡ k = cc in (ap (λ l. (l, t) ∷ []) same, refl)
+value_next (l ∷ v ∷ ts) t k e = let h = value_next ts t k e in (ap (λ m. (l, v) ∷ m) h.0, h.1)
+
+pairs_spelled : (ts : List Tree) → last_key ts ≡ None → spelled_entries (entries (paired ts)) ≡ spelled_all (trees ts)
+pairs_spelled [] e = refl
+pairs_spelled (k ∷ []) e = cc
+pairs_spelled (k ∷ v ∷ ts) e = ap (λ x. spelled k ++ spelled v ++ x) (pairs_spelled ts e) ∙ append_assoc (spelled k) (spelled v) (spelled_all (trees ts))
+
+pairs_fit : (ts : List Tree) → FitsAll (trees ts) → FitsEntries (entries (paired ts))
+pairs_fit [] h = tt
+pairs_fit (k ∷ []) h = tt
+pairs_fit (k ∷ v ∷ ts) h = (h.0, h.1.0, pairs_fit ts h.1.1)
+
+pairs_deep : (ts : List Tree) → depth_entries (entries (paired ts)) ≤ depth_all (trees ts)
+pairs_deep [] = omega arith
+pairs_deep (k ∷ []) = omega arith
+pairs_deep (k ∷ v ∷ ts) = omega (arith, pairs_deep ts)
+
+pairs_placed : (ts : List Tree) (p : ℕ) → PlacedAll p (trees ts) → PlacedEntries p (entries (paired ts))
+pairs_placed [] p h = tt
+pairs_placed (k ∷ []) p h = tt
+pairs_placed (k ∷ v ∷ ts) p h = (h.0, h.1.0, pairs_placed ts _ h.1.1)
+
+-- Strings as chunks.
+
+string_is : (k : StringKind) (t : Tree) → IsString k t → string_of k (chunk_of t) ≡ t
+string_is OfBytes (Bytes p w x) h = refl
+string_is OfText (Text p w x) h = refl
+string_is k t h = absurd h
+
+pub strings_are : (k : StringKind) (ts : List Tree) → AreStrings k ts → map (string_of k) (chunks_of ts) ≡ ts
+strings_are k [] h = refl
+strings_are k (t ∷ ts) h = ap (λ u. u ∷ map (string_of k) (chunks_of ts)) (string_is k t h.0) ∙ ap (λ us. t ∷ us) (strings_are k ts h.1)
+
+pub strings_spelled : (k : StringKind) (cs : List Chunk) → flat_map (chunk_bytes (major_of k)) cs ≡ spelled_all (trees (map (string_of k) cs))
+strings_spelled k [] = refl
+strings_spelled OfBytes (c ∷ cs) = ap (λ x. chunk_bytes (major_of OfBytes) c ++ x) (strings_spelled OfBytes cs)
+strings_spelled OfText (c ∷ cs) = ap (λ x. chunk_bytes (major_of OfText) c ++ x) (strings_spelled OfText cs)
+
+strings_fit : (k : StringKind) (cs : List Chunk) → FitsAll (trees (map (string_of k) cs)) → ChunksFit cs
+strings_fit k [] h = tt
+strings_fit OfBytes (c ∷ cs) h = (h.0, strings_fit OfBytes cs h.1)
+strings_fit OfText (c ∷ cs) h = (h.0, strings_fit OfText cs h.1)
+
+strings_placed : (k : StringKind) (cs : List Chunk) (p : ℕ) → PlacedAll p (trees (map (string_of k) cs)) → ChunksPlaced (major_of k) p cs
+strings_placed k [] p h = tt
+strings_placed OfBytes (c ∷ cs) p h = (h.0, strings_placed OfBytes cs _ h.1)
+strings_placed OfText (c ∷ cs) p h = (h.0, strings_placed OfText cs _ h.1)
+
+chunks_spelled : (k : StringKind) (ts : List Tree) → AreStrings k ts → flat_map (chunk_bytes (major_of k)) (chunks_of ts) ≡ spelled_all (trees ts)
+chunks_spelled k ts h = strings_spelled k (chunks_of ts) ∙ ap (λ us. spelled_all (trees us)) (strings_are k ts h)
+
+pub strings_push : (k : StringKind) (ts : List Tree) (t : Tree) → AreStrings k ts → IsString k t → AreStrings k (ts ++ t ∷ [])
+strings_push k [] t h is = (is, tt)
+strings_push k (u ∷ ts) t h is = (h.0, strings_push k ts t h.1 is)
+
+-- One more node may be in it.
+abbrev pub Belongs : Opening → Tree → Type 0
+Belongs (in_chunks p k) t = IsString k t
+Belongs _ t = Unit {0}
+
+-- When it is whole.
+
+more_is : (ts : List Tree) (t : Tree) → length (ts ++ t ∷ []) ≡ length ts + 1
+more_is ts t = length-append ts (t ∷ [])
+
+pub not_full : (o : Opening) (ts : List Tree) (n : ℕ) → Goes o ts → n ≤ length ts → is_full o n ≡ false
+not_full (an_array p s (Some m)) ts n h up = lt-leb m n (omega (arith, h, up))
+not_full (a_map p s (Some m)) ts n h up = lt-leb m (n / 2) (omega (arith, h, up, pair_count ts))
+not_full (a_tag p w m) ts n h up = lt-leb 1 n (omega (arith, ap length h, up))
+not_full o ts n h up = refl
+
+-- Before its last node it isn't.
+pub not_yet : (o : Opening) (ts : List Tree) (n : ℕ) → Ends o ts → n < length ts → is_full o n ≡ false
+not_yet (an_array p s (Some m)) ts n h up = lt-leb m n (omega (arith, h, up))
+not_yet (a_map p s (Some m)) ts n h up = lt-leb m (n / 2) (omega (arith, h.0, up, pair_count ts, even ts h.1))
+not_yet (a_tag p w m) ts n (t, e) up = lt-leb 1 n (omega (arith, ap length e, up))
+not_yet o ts n h up = refl
+
+-- with one more node
+pub goes_on : (o : Opening) (ts : List Tree) (t : Tree) → Goes o ts → Belongs o t → is_full o (length (ts ++ t ∷ [])) ≡ false → Goes o (ts ++ t ∷ [])
+goes_on (an_array p s (Some m)) ts t h is e = leb-false m (length (ts ++ t ∷ [])) e
+goes_on (an_array p s None) ts t h is e = tt
+goes_on (a_map p s (Some m)) ts t h is e = omega (arith, leb-false m (length (ts ++ t ∷ []) / 2) e, pair_count (ts ++ t ∷ []))
+goes_on (a_map p s None) ts t h is e = tt
+goes_on (a_tag p w m) ts t h is e = absurd (omega (arith, leb-false 1 (length (ts ++ t ∷ [])) e, more_is ts t))
+goes_on (in_chunks p k) ts t h is e = strings_push k ts t h is
+
+pub goes_whole : (o : Opening) (ts : List Tree) (t : Tree) → Goes o ts → is_full o (length (ts ++ t ∷ [])) ≡ true → Ends o (ts ++ t ∷ [])
+goes_whole (an_array p s (Some m)) ts t h e = omega (arith, leb-true m (length (ts ++ t ∷ [])) e, h, more_is ts t)
+goes_whole (a_map p s (Some m)) ts t h e =
+    let all = leb-true m (length (ts ++ t ∷ []) / 2) e in
+    (omega (arith, all, h, more_is ts t, pair_count ts, pair_count (ts ++ t ∷ [])), no_key (ts ++ t ∷ []) (omega (arith, all, h, more_is ts t, pair_count ts)))
+goes_whole (a_tag p w m) ts t h e = (t, ap (λ us. us ++ t ∷ []) h)
+goes_whole o ts t h e = cc
+
+-- what is full before any node
+pub empty_goes : (o : Opening) → is_full o 0 ≡ false → Goes o []
+empty_goes (an_array p s (Some m)) e = leb-false m 0 e
+empty_goes (a_map p s (Some m)) e = leb-false m 0 e
+empty_goes (a_tag p w m) e = refl
+empty_goes o e = tt
+
+pub empty_whole : (o : Opening) → is_full o 0 ≡ true → Ends o []
+empty_whole (an_array p s (Some m)) e = omega (arith, leb-true m 0 e)
+empty_whole (a_map p s (Some m)) e = (omega (arith, leb-true m 0 e), refl)
+empty_whole o e = cc
+
+-- What it is when it ends.
+
+-- the bytes after its nodes
+
+abbrev pub closing_of : Option ℕ → List ℕ
+closing_of (Some n) = []
+closing_of None = ending Endless
+
+abbrev pub closing : Opening → List ℕ
+closing (an_array p s c) = closing_of c
+closing (a_map p s c) = closing_of c
+closing (a_tag p w n) = []
+closing (in_chunks p k) = ending Endless
+
+-- none, where it is whole by the number in its head
+pub full_closing : (o : Opening) (n : ℕ) → is_full o n ≡ true → closing o ≡ []
+full_closing (an_array p s (Some m)) n e = refl
+full_closing (a_map p s (Some m)) n e = refl
+full_closing (a_tag p w m) n e = refl
+full_closing o n e = cc
+
+-- Where it isn't whole by a number, a break ends it.
+pub endless_closing : (o : Opening) (ts : List Tree) → Ends o ts → is_full o (length ts) ≡ false → (closing o ≡ ending Endless) × (needs_item (slot_in (opened o ts)) ≡ false)
+endless_closing (an_array p s (Some n)) ts h e = absurd (omega (arith, leb-false n (length ts) e, h))
+endless_closing (an_array p s None) ts h e = (refl, refl)
+endless_closing (a_map p s (Some n)) ts h e = absurd (omega (arith, leb-false n (length ts / 2) e, h.0, pair_count ts))
+endless_closing (a_map p s None) ts h e = (refl, ap (λ k. needs_item (slot_in_map None k)) h.1)
+endless_closing (a_tag p w m) ts (t, is) e = absurd (omega (arith, leb-false 1 (length ts) e, ap length is))
+endless_closing (in_chunks p k) ts h e = (refl, refl)
+
+-- Where a break may be, it may end.
+pub break_ends : (o : Opening) (ts : List Tree) → Goes o ts → needs_item (slot_in (opened o ts)) ≡ false → Ends o ts × (closing o ≡ ending Endless)
+break_ends (an_array p s (Some n)) ts h e = cc
+break_ends (an_array p s None) ts h e = (tt, refl)
+break_ends (a_map p s c) ts h e = in_map c (last_key ts) refl e
+  where
+    in_map : (c : Option ℕ) (x : Option Tree) → last_key ts ≡ x → needs_item (slot_in_map c x) ≡ false → Ends (a_map p s c) ts × (closing_of c ≡ ending Endless)
+    in_map c (Some k) is e = cc
+    in_map (Some n) None is e = cc
+    in_map None None is e = ((tt, is), refl)
+break_ends (a_tag p w n) ts h e = cc
+break_ends (in_chunks p k) ts h e = (h, refl)
+
+-- the size of an array or a map, with as many items or pairs as were announced
+record Sized (s : Size) (c : Option ℕ) (n : ℕ) : Type 0 where
+  size : ended_size s c n ≡ s
+  says : argument s n ≡ announced s c
+  end : ending s ≡ closing_of c
+  fits : SizeFits s n
+
+sized : (s : Size) (c : Option ℕ) (n : ℕ) → Announces s c → IsAll c n → Sized s c n
+sized (Fixed w) (Some m) n fits all = record { size = refl; says = ap (Given w) all; end = refl; fits = subst (WidthFits w) (sym all) fits }
+sized Endless None n fits all = record { size = refl; says = refl; end = refl; fits = tt }
+sized (Fixed w) None n fits all = absurd fits
+sized Endless (Some m) n fits all = absurd fits
+
+pub built_spelled : (o : Opening) (ts : List Tree) → HeadFits o → Ends o ts → spelled (built o ts) ≡ opening o ++ spelled_all (trees ts) ++ closing o
+built_spelled (an_array p s c) ts fits h = let z = sized s c (length ts) fits h in rw (z.size, count-trees ts, z.says, z.end) refl
+built_spelled (a_map p s c) ts fits h = let z = sized s c (length (paired ts)) fits h.0 in rw (z.size, count_entries-entries (paired ts), z.says, z.end, pairs_spelled ts h.1) refl
+built_spelled (a_tag p w n) ts fits (t, e) =
+    let start = head Tag (Given w n) in
+    subst (λ us. spelled (built (a_tag p w n) us) ≡ start ++ spelled_all (trees us) ++ []) (sym e) (ap (λ x. start ++ x) (sym (append-nil (spelled t))) ∙ sym (append-nil (start ++ (spelled t ++ []))))
+built_spelled (in_chunks p OfBytes) ts fits h = ap (λ x. head (major_of OfBytes) EndlessArgument ++ x ++ ending Endless) (chunks_spelled OfBytes ts h)
+built_spelled (in_chunks p OfText) ts fits h = ap (λ x. head (major_of OfText) EndlessArgument ++ x ++ ending Endless) (chunks_spelled OfText ts h)
+
+pub built_fits : (o : Opening) (ts : List Tree) → HeadFits o → Ends o ts → FitsAll (trees ts) → Fits (built o ts)
+built_fits (an_array p s c) ts fits h all = let z = sized s c (length ts) fits h in rw (z.size, count-trees ts) (z.fits, all)
+built_fits (a_map p s c) ts fits h all = let z = sized s c (length (paired ts)) fits h.0 in rw (z.size, count_entries-entries (paired ts)) (z.fits, pairs_fit ts all)
+built_fits (a_tag p w n) ts fits (t, e) all = subst (λ us. Fits (built (a_tag p w n) us)) (sym e) (fits, (subst (λ us. FitsAll (trees us)) e all).0)
+built_fits (in_chunks p OfBytes) ts fits h all = strings_fit OfBytes (chunks_of ts) (subst (λ us. FitsAll (trees us)) (sym (strings_are OfBytes ts h)) all)
+built_fits (in_chunks p OfText) ts fits h all = strings_fit OfText (chunks_of ts) (subst (λ us. FitsAll (trees us)) (sym (strings_are OfText ts h)) all)
+
+pub built_deep : (o : Opening) (ts : List Tree) → Ends o ts → depth (built o ts) ≤ added_depth o + depth_all (trees ts)
+built_deep (an_array p s c) ts h = omega arith
+built_deep (a_map p s c) ts h = omega (arith, pairs_deep ts)
+built_deep (a_tag p w n) ts (t, e) = subst (λ us. depth (built (a_tag p w n) us) ≤ 1 + depth_all (trees us)) (sym e) (omega arith)
+built_deep (in_chunks p OfBytes) ts h = omega arith
+built_deep (in_chunks p OfText) ts h = omega arith
+
+chunks_there : (k : StringKind) (ts : List Tree) (p : ℕ) → AreStrings k ts → PlacedAll (p + 1) (trees ts) → ChunksPlaced (major_of k) (suc p) (chunks_of ts)
+chunks_there k ts p h all = strings_placed k (chunks_of ts) (suc p) (subst (λ us. PlacedAll (suc p) (trees us)) (sym (strings_are k ts h)) (subst (λ n. PlacedAll n (trees ts)) (add-one p) all))
+
+pub built_placed : (o : Opening) (ts : List Tree) (p : ℕ) → HeadFits o → Ends o ts → place_of o ≡ p → PlacedAll (p + length (opening o)) (trees ts) → Placed p (built o ts)
+built_placed (an_array q s c) ts p fits h at all = let z = sized s c (length ts) fits h in rw (z.size, count-trees ts, z.says) (at, all)
+built_placed (a_map q s c) ts p fits h at all = let z = sized s c (length (paired ts)) fits h.0 in rw (z.size, count_entries-entries (paired ts), z.says) (at, pairs_placed ts _ all)
+built_placed (a_tag q w n) ts p fits (t, e) at all = subst (λ us. Placed p (built (a_tag q w n) us)) (sym e) (at, (subst (λ us. PlacedAll (p + length (head Tag (Given w n))) (trees us)) e all).0)
+built_placed (in_chunks q OfBytes) ts p fits h at all = (at, chunks_there OfBytes ts p h all)
+built_placed (in_chunks q OfText) ts p fits h at all = (at, chunks_there OfText ts p h all)
+
+-- What nodes are one after another in it, from an offset on.
+
+abbrev pub list_from : ℕ → List Tree → List Tree
+list_from p [] = []
+list_from p (t ∷ ts) = placed_from p t ∷ list_from (p + length (spelled t)) ts
+
+abbrev pub opening_from : ℕ → Opening → Opening
+opening_from p (an_array q s c) = an_array p s c
+opening_from p (a_map q s c) = a_map p s c
+opening_from p (a_tag q w n) = a_tag p w n
+opening_from p (in_chunks q k) = in_chunks p k
+
+pub list_length : (ts : List Tree) (p : ℕ) → length (list_from p ts) ≡ length ts
+list_length [] p = refl
+list_length (t ∷ ts) p = ap suc (list_length ts _)
+
+list_trees : (ts : List Tree) (p : ℕ) → trees (list_from p ts) ≡ all_from p (trees ts)
+list_trees [] p = refl
+list_trees (t ∷ ts) p = ap (more (placed_from p t)) (list_trees ts _)
+
+list_entries : (ts : List Tree) (p : ℕ) → entries (paired (list_from p ts)) ≡ entries_from p (entries (paired ts))
+list_entries [] p = refl
+list_entries (k ∷ []) p = refl
+list_entries (k ∷ v ∷ ts) p = ap (entry (placed_from p k) (placed_from (p + length (spelled k)) v)) (list_entries ts _)
+
+pub list_pairs : (ts : List Tree) (p : ℕ) → length (paired (list_from p ts)) ≡ length (paired ts)
+list_pairs ts p = pair_count (list_from p ts) ∙ ap (λ n. n / 2) (list_length ts p) ∙ sym (pair_count ts)
+
+pub strings_all : (k : StringKind) (cs : List Chunk) → AreStrings k (map (string_of k) cs)
+strings_all k [] = tt
+strings_all OfBytes (c ∷ cs) = (tt, strings_all OfBytes cs)
+strings_all OfText (c ∷ cs) = (tt, strings_all OfText cs)
+
+strings_from : (k : StringKind) (cs : List Chunk) (p : ℕ) → list_from p (map (string_of k) cs) ≡ map (string_of k) (chunks_from (major_of k) p cs)
+strings_from k [] p = refl
+strings_from OfBytes (c ∷ cs) p = ap (λ ts. Bytes p c.width c.bytes ∷ ts) (strings_from OfBytes cs _)
+strings_from OfText (c ∷ cs) p = ap (λ ts. Text p c.width c.bytes ∷ ts) (strings_from OfText cs _)
+
+list_strings : (k : StringKind) (ts : List Tree) (p : ℕ) → AreStrings k ts → list_from p ts ≡ map (string_of k) (chunks_from (major_of k) p (chunks_of ts))
+list_strings k ts p h = ap (list_from p) (sym (strings_are k ts h)) ∙ strings_from k (chunks_of ts) p
+
+pub strings_stay : (k : StringKind) (ts : List Tree) (p : ℕ) → AreStrings k ts → AreStrings k (list_from p ts)
+strings_stay k ts p h = subst (AreStrings k) (sym (list_strings k ts p h)) (strings_all k (chunks_from (major_of k) p (chunks_of ts)))
+
+pub ends_from : (o : Opening) (ts : List Tree) (p : ℕ) → Ends o ts → Ends o (list_from p ts)
+ends_from (an_array q s c) ts p h = subst (IsAll c) (sym (list_length ts p)) h
+ends_from (a_map q s c) ts p h = (subst (IsAll c) (sym (list_pairs ts p)) h.0, no_key (list_from p ts) (omega (arith, list_length ts p, even ts h.1)))
+ends_from (a_tag q w n) ts p (t, e) = (placed_from p t, ap (list_from p) e)
+ends_from (in_chunks q k) ts p h = strings_stay k ts p h
+
+list_chunks : (k : StringKind) (ts : List Tree) (p : ℕ) → AreStrings k ts → chunks_of (list_from (p + 1) ts) ≡ chunks_from (major_of k) (suc p) (chunks_of ts)
+list_chunks k ts p h =
+    ap chunks_of (list_strings k ts (p + 1) h) ∙ chunks_same k (chunks_from (major_of k) (p + 1) (chunks_of ts)) ∙ ap (λ n. chunks_from (major_of k) n (chunks_of ts)) (add-one p)
+
+pub built_from : (o : Opening) (ts : List Tree) (p : ℕ) → HeadFits o → Ends o ts → built (opening_from p o) (list_from (p + length (opening o)) ts) ≡ placed_from p (built o ts)
+built_from (an_array q s c) ts p fits h =
+    let z = sized s c (length ts) fits h in
+    let r = p + length (head Array (announced s c)) in
+    rw (list_length ts r, z.size, list_trees ts r, count-trees ts, z.says) refl
+built_from (a_map q s c) ts p fits h =
+    let z = sized s c (length (paired ts)) fits h.0 in
+    let r = p + length (head Map (announced s c)) in
+    rw (list_pairs ts r, z.size, list_entries ts r, count_entries-entries (paired ts), z.says) refl
+built_from (a_tag q w n) ts p fits (t, e) = subst (λ us. built (a_tag p w n) (list_from (p + length (head Tag (Given w n))) us) ≡ placed_from p (built (a_tag q w n) us)) (sym e) refl
+built_from (in_chunks q OfBytes) ts p fits h = ap (ByteChunks p) (list_chunks OfBytes ts p h)
+built_from (in_chunks q OfText) ts p fits h = ap (TextChunks p) (list_chunks OfText ts p h)
+
+-- The nodes in a container that is whole.
+
+abbrev pub nodes_of : Entries → List Tree
+nodes_of no_entry = []
+nodes_of (entry k v es) = k ∷ v ∷ nodes_of es
+
+pub nodes_entries : (es : Entries) → entries (paired (nodes_of es)) ≡ es
+nodes_entries no_entry = refl
+nodes_entries (entry k v es) = ap (entry k v) (nodes_entries es)
+
+pub nodes_end : (es : Entries) → last_key (nodes_of es) ≡ None
+nodes_end no_entry = refl
+nodes_end (entry k v es) = nodes_end es
+
+pub nodes_count : (es : Entries) → length (paired (nodes_of es)) ≡ count_entries es
+nodes_count es = sym (count_entries-entries (paired (nodes_of es))) ∙ ap count_entries (nodes_entries es)
+
+pub nodes_fit : (es : Entries) → FitsEntries es → FitsAll (trees (nodes_of es))
+nodes_fit no_entry h = tt
+nodes_fit (entry k v es) h = (h.0, (h.1, nodes_fit es h.2))
+
+pub nodes_deep : (es : Entries) → depth_all (trees (nodes_of es)) ≤ depth_entries es
+nodes_deep no_entry = omega arith
+nodes_deep (entry k v es) = omega (arith, nodes_deep es)
+
+pub strings_fitting : (k : StringKind) (cs : List Chunk) → ChunksFit cs → FitsAll (trees (map (string_of k) cs))
+strings_fitting k [] h = tt
+strings_fitting OfBytes (c ∷ cs) h = (h.0, strings_fitting OfBytes cs h.1)
+strings_fitting OfText (c ∷ cs) h = (h.0, strings_fitting OfText cs h.1)
+
+pub strings_flat : (k : StringKind) (cs : List Chunk) → depth_all (trees (map (string_of k) cs)) ≤ 0
+strings_flat k [] = omega arith
+strings_flat OfBytes (c ∷ cs) = omega (arith, strings_flat OfBytes cs)
+strings_flat OfText (c ∷ cs) = omega (arith, strings_flat OfText cs)
