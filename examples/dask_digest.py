@@ -25,49 +25,11 @@ import distributed
 SIZE = hashlib.sha256().digest_size
 
 
-def head(data, at):
-    """The major type, the argument (None: an indefinite length) and the length of the head at an offset."""
-    major, information = data[at] >> 5, data[at] & 31
-    if information < 24:
-        return major, information, 1
-    if information == 31:
-        return major, None, 1
-    width = 1 << (information - 24)
-    return major, int.from_bytes(data[at + 1 : at + 1 + width], "big"), 1 + width
-
-
-def end_of_item(data, at):
-    """Where the item that begins at an offset ends. The data is well-formed, as `cborn.check` tells."""
-    left = [1]
-    while left:
-        if left[-1] == 0:
-            left.pop()
-            continue
-        if left[-1] is None and data[at] == 0xFF:
-            at += 1
-            left.pop()
-            continue
-        if left[-1] is not None:
-            left[-1] -= 1
-        major, argument, length = head(data, at)
-        at += length
-        if major in (2, 3) and argument is not None:
-            at += argument
-        elif major in (2, 3, 4, 5) and argument is None:
-            left.append(None)
-        elif major in (4, 5):
-            left.append(argument * (major - 3))
-        elif major == 6:
-            left.append(1)
-    return at
-
-
 def cut(data, size):
     """Parts of a sequence of at least so many bytes, each of whole items: offset, length, and index of the first item."""
-    start = first = index = at = 0
-    while at < len(data):
-        at = end_of_item(data, at)
-        index += 1
+    start = first = at = 0
+    for index, item in enumerate(cborn.items(data), 1):
+        at += len(item)
         if at - start >= size or at == len(data):
             yield start, at - start, first
             start, first = at, index
@@ -79,8 +41,7 @@ def parts(name, size):
     if length <= size:
         return [(0, length, 0)]
     with open(name, "rb") as file, mmap.mmap(file.fileno(), 0, access=mmap.ACCESS_READ) as data:
-        cborn.check(data)  # CbornError, if it holds no items
-        return list(cut(data, size))
+        return list(cut(data, size))  # CbornError, if it holds no items
 
 
 def digests(name, start, length):

@@ -56,7 +56,7 @@ enum { CBORN_USUAL_DEPTH = 128, CBORN_MOST_DEPTH = 1024 };
 enum {
     CBORN_OK = 0,            /* done; the same; deterministic */
     CBORN_TOO_SMALL = 1,     /* out is too small, and unchanged; told->length is the length needed */
-    CBORN_BAD_ARGUMENT = 2,  /* an invalid format, order, depth or number; *told and *place are unchanged */
+    CBORN_BAD_ARGUMENT = 2,  /* an invalid format, order, depth, start or number; *told and *place are unchanged */
     CBORN_OUT_OF_MEMORY = 3, /* malloc or realloc refused */
     CBORN_TOO_LONG = 4,      /* an input has more than 2^30 bytes */
     CBORN_DIFFERENT = 5      /* cborn_compare, cborn_same, cborn_compare_one: the items differ; of cborn_compare, *place says where */
@@ -109,7 +109,7 @@ enum {
     CBORN_DEFECT_INDEFINITE_LENGTH = 0x602,        /* indefinite length */
     CBORN_DEFECT_LOOSE_BIGNUM = 0x603,             /* loose bignum */
     CBORN_DEFECT_KEY_ORDER = 0x604,                /* key order */
-    /* of the calls .._one alone: the input has no other fault, but isn't one item */
+    /* of the calls .._one: the input has no other fault, but isn't one item; and of cborn_item_end */
     CBORN_NO_ITEM = 0x701,                         /* no item */
     CBORN_MORE_ITEMS = 0x702,                      /* more than one item */
     /* cborn_compare, cborn_same and cborn_compare_one: added to a fault of the second input */
@@ -195,6 +195,16 @@ uint32_t cborn_check_one(uint32_t order, uint64_t depth,
 uint32_t cborn_compare_one(uint32_t from_a, uint32_t from_b, uint64_t depth,
                            const uint8_t *first, size_t first_len,
                            const uint8_t *second, size_t second_len, uint64_t *place);
+
+/* Finds the end of the item that starts at the offset start of the input, CBOR bytes.
+ * Returns CBORN_OK, and sets *place to the offset after the item: where the next item of
+ * a sequence (RFC 8742) starts, if there is one. Returns CBORN_NO_ITEM, with *place
+ * input_len, if the input ends at start. Otherwise it returns why the item is malformed,
+ * and sets *place to the offset of that fault, from the start of the input. What follows
+ * the item isn't read, so finding all items takes linear time, and the input may have
+ * more than 2^30 bytes. Validity errors are no faults here. */
+uint32_t cborn_item_end(uint64_t depth, const uint8_t *input, size_t input_len,
+                        uint64_t start, uint64_t *place);
 
 /* Writes the words of a fault or a defect to the start of out, as the program prints
  * them and with a zero at their end: "duplicate key". number is what another call

@@ -11,8 +11,8 @@
 
 A command line has to answer as it does with enough memory, or with out of memory: status 4, nothing on standard output,
 and one line on standard error. An explanation may end with a line that says out of memory, after an unchanged first
-line. If the growth was for the path of a file that was to be opened, the line is that this file can't be read. A test has
-to pass with enough memory. With a growth refused it has to pass too, or to fail by out of memory: by the error that a
+line. If the growth was for the path of a file that was to be opened, the line is that this file can't be read, and with -o
+it may be that the write failed. A test has to pass with enough memory. With a growth refused it has to pass too, or to fail by out of memory: by the error that a
 call answered, and not by an answer that differs. A quick pass over a text answers nothing in place of that error, so a
 test of passes may also stop where an answer is missing. refuse.c, which is compiled by $CC or cc, refuses, and serve.c
 begins the runs.
@@ -49,8 +49,11 @@ def refused_in_turn(run, *given):
 
 
 def wants_of_memory(words, refused):
-    """The outcomes of a run with out of memory. Where memory for the path of a file was refused, the file can't be read."""
+    """The outcomes of a run with out of memory. Where memory for the path of a file was refused, the file can't be read or
+    written."""
     yield Outcome(b"", b"cborn: out of memory\n", 4)
+    if any(re.match("-o|--output", word) for word in words):
+        yield Outcome(b"", b"cborn: write failed\n", 4)
     files = files_of(words)
     if refused.opened < len(files) and refused.size == len(os.fsencode(files[refused.opened])) + 1:
         which = which_input(words, refused.opened)

@@ -5,6 +5,7 @@
        check ORDER DEPTH FILE
        compare FROM_A FROM_B DEPTH FILE FILE
        same FROM_A FROM_B DEPTH FILE FILE
+       end DEPTH START FILE
        explain FROM DEPTH NUMBER PLACE FILE
        words NUMBER
 
@@ -137,6 +138,8 @@ static answer answered(const call *asked, uint8_t *out, size_t room)
         it.code = (asked->one ? cborn_show_one : cborn_show)(asked->from, asked->to, asked->depth, a.bytes, a.length, out, room, &it.told);
     else if (is_called(asked, "explain"))
         it.code = cborn_explain(asked->from, asked->depth, a.bytes, a.length, asked->number, asked->place, (char *)out, room, &it.told);
+    else if (is_called(asked, "end"))
+        it.code = cborn_item_end(asked->depth, a.bytes, a.length, asked->place, &it.told.place);
     else if (is_called(asked, "check"))
         it.code = (asked->one ? cborn_check_one : cborn_check)(asked->order, asked->depth, a.bytes, a.length, &it.told.place);
     else if (is_called(asked, "compare"))
@@ -378,13 +381,15 @@ static bool parsed(const char *line, call *asked, char *first, char *second)
         return sscanf(line, "%*s %u %u %lu %4095s", &asked->from, &asked->to, &asked->depth, first) == 4;
     if (is_called(asked, "check"))
         return sscanf(line, "%*s %u %lu %4095s", &asked->order, &asked->depth, first) == 3;
+    if (is_called(asked, "end"))
+        return sscanf(line, "%*s %lu %lu %4095s", &asked->depth, &asked->place, first) == 3;
     if (is_called(asked, "explain"))
         return sscanf(line, "%*s %u %lu %u %lu %4095s", &asked->from, &asked->depth, &asked->number, &asked->place, first) == 5;
     return (is_called(asked, "compare") || is_called(asked, "same")) &&
            sscanf(line, "%*s %u %u %lu %4095s %4095s", &asked->from, &asked->to, &asked->depth, first, second) == 5;
 }
 
-/* A place beyond the end counts as the end, and what is no argument leaves all as it was. */
+/* A place beyond the end counts as the end, where one is explained, and what is no argument leaves all as it was. */
 static void test_arguments(void)
 {
     static const uint8_t array[] = {0x81};
@@ -398,6 +403,10 @@ static void test_arguments(void)
         cborn_explain(3, 128, array, 1, 0x108, 1, out, SHORT, &told),
         cborn_explain(CBORN_WIRE, 1025, array, 1, 0x108, 1, out, SHORT, &told),
         cborn_explain(CBORN_WIRE, 128, array, 1, 0x208, 1, out, SHORT, &told),
+        cborn_item_end(128, array, 1, 2, &told.place),
+        cborn_item_end(128, array, 1, UINT64_MAX, &told.place),
+        cborn_item_end(0, array, 1, 0, &told.place),
+        cborn_item_end(1025, array, 1, 0, &told.place),
     };
     for (size_t i = 0; i < sizeof wrong / sizeof *wrong; i++)
         if (wrong[i] != CBORN_BAD_ARGUMENT || told.place != 99 || told.length != 99)

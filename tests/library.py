@@ -8,7 +8,7 @@ compared with the table and with what the program prints. The number of a fault 
 way of include/cborn.h, docs/FORMATS.md and the bindings. Each number has to occur. Nests of arrays, maps and tags under
 the least, the usual and the largest limit are tried, too. `python -m cborn` has to do the command lines of the tables as
 the program does, but reads one file, has no -o, and doesn't say where two inputs differ. The explanation of each input that is refused or isn't
-deterministic is what the program writes with --explain after its first line. library.c, which is compiled by $CC or cc,
+deterministic is what the program writes with --explain after its first line. Short inputs of bytes are cut into their items. library.c, which is compiled by $CC or cc,
 says what else is tested. Command lines that are no call (with files that fail, or for help) are counted.
 """
 import argparse
@@ -31,7 +31,9 @@ HERE = pathlib.Path(__file__).resolve().parent
 TOP = HERE.parent
 KINDS = {"wire": 0, "notation": 1, "notation-2": 2}
 ORDERS = {"bytewise": 0, "length-first": 1}
-BAD_ARGUMENT, OUT_OF_MEMORY, TOO_LONG, DIFFERENT = 2, 3, 4, 5
+BAD_ARGUMENT, OUT_OF_MEMORY, TOO_LONG, DIFFERENT, NO_ITEM = 2, 3, 4, 5, 0x701
+# inputs up to this length are cut into their items, too
+SHORT = 512
 OF_SECOND = 0x10000
 # what the program has and `python -m cborn` hasn't: several files, and a file for the answer
 OF_PROGRAM = ("several.table", "output.table")
@@ -163,6 +165,15 @@ class InC:
         kind = KINDS[(asked.from_a, asked.from_b)[which] if asked.command == "compare" else asked.source]
         answer = self.line(f"explain {kind} {asked.depth} {code} {place} {asked.files[which]}")
         return answer[2] if answer[:2] == (0, 0) else answer
+
+    def ends(self, depth, path):
+        """Where the items of a file of bytes end, by cborn_item_end, and what is answered after the last."""
+        ends = [0]
+        code, place, _ = self.line(f"end {depth} 0 {path}")
+        while code == 0 and place > ends[-1]:
+            ends.append(place)
+            code, place, _ = self.line(f"end {depth} {place} {path}")
+        return ends, (code, place)
 
     def words(self, numbers):
         """The words of those of these numbers that have some."""
@@ -407,6 +418,34 @@ def through_python(build, runs):
     return len(runs), wrong
 
 
+def uncut(asked, callers):
+    """What is wrong with the cut of a file of bytes into its items. Each is one item to another call, and what follows them is
+    the end, or the fault that another call has for the file."""
+    cborn, path = callers["Python"].cborn, asked.files[0]
+    data = path.read_bytes()
+    ends, last = callers["C"].ends(asked.depth, path)
+    pieces = [data[start:end] for start, end in zip(ends, ends[1:])]
+    for piece in pieces:
+        if cborn.spell(piece, cborn.Kind.WIRE, asked.depth, True) != piece:
+            yield f"cborn_item_end gives {piece.hex()}, which isn't one item"
+    whole = callers["C"].line(f"show 0 0 {asked.depth} {path}")
+    if last != ((NO_ITEM, len(data)) if whole[0] == 0 else whole[:2]):
+        yield f"after the items cborn_item_end answers {last}, and cborn_show {whole[:2]}"
+    found, refused = [], None
+    try:
+        for item in cborn.items(data, asked.depth):
+            found.append(item)
+    except cborn.CbornError as why:
+        refused = why.number, why.place
+    if found != pieces or refused != (None if last[0] == NO_ITEM else last):
+        yield f"Python cuts into {[item.hex() for item in found]} and then {refused}, C into {ends} and then {last}"
+
+
+def is_cut(asked):
+    """Whether it is a short input of bytes, and a limit."""
+    return asked.command != "compare" and asked.source == "wire" and 1 <= asked.depth <= 1024 and asked.files[0].stat().st_size <= SHORT
+
+
 def of_same(answer):
     """What cborn_same answers where cborn_compare answers so."""
     code, place, out = answer
@@ -449,7 +488,7 @@ def main():
     through, wrong = shared.over_processors(through_python, runs, build, at_once=16)
     with tempfile.TemporaryDirectory() as folder:
         callers = {"C": InC(folder, build), "Python": InPython(build)}
-        passed = others = explained = 0
+        passed = others = explained = cut = 0
         for table, case in all_cases(folder):
             asked = parsed(case)
             if asked is None:
@@ -468,15 +507,18 @@ def main():
                     wrong += [f"{table}: {case.name}: from {name}: {line}" for line in differences(case, asked, answer, words, done)]
             wrong += [f"{table}: {case.name}: {line}" for line in unexplained(case, asked, answer, callers, program)]
             explained += answer[0] % OF_SECOND >= 0x100
+            if is_cut(asked):
+                cut += 1
+                wrong += [f"{table}: {case.name}: {line}" for line in uncut(asked, callers)]
             passed += len(wrong) == before
         wrong += tables_of_words(met, callers)
         told = callers["C"].end()
     for line in wrong:
         print(line)
-    print(f"{passed} command lines passed through the library, {others} are no call, {explained} were explained; {told}")
+    print(f"{passed} command lines passed through the library, {others} are no call, {explained} were explained, {cut} cut into items; {told}")
     print(f"{through} command lines through python -m cborn")
     print(f"{len(wrong)} failed")
-    return 1 if wrong or not passed or not explained or not through else 0
+    return 1 if wrong or not passed or not explained or not cut or not through else 0
 
 
 if __name__ == "__main__":

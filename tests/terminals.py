@@ -4,7 +4,7 @@
     terminals.py PROGRAM
 
 If the bytes of an input are all printable ASCII or white space, and are refused, end a line or are hexadecimal, the terminal
-gets a hint.
+gets a hint. So it does where a file that can't be read or written is a folder.
 Each run is made a second time with a pipe in place of the terminal. The pipe must get no hint, and all else must be the
 same. So this catches a hint that a script gets, or that a person doesn't.
 """
@@ -17,6 +17,7 @@ import tempfile
 
 HEXADECIMAL = "hint: the input looks like hexadecimal, and was read as CBOR bytes: xxd -r -p makes bytes of it"
 NOTATION = "hint: the input is a text, and was read as CBOR bytes: normalise and show read diagnostic notation by --from notation, compare by --from-a and --from-b"
+FOLDER = "hint: . is a folder"
 FILES = {
     "digits": b"8301\n",
     "text": b"1\n",
@@ -96,6 +97,15 @@ CASES = (
     ("check cut two\\lines bare", b"", ["cborn: cut: offset 8: truncated"], ["cut: " + NOTATION, "two\\u005clines: " + NOTATION, "bare: " + HEXADECIMAL], 2),
     # a file that isn't there is no refusal
     ("compare text none", b"", ["cborn: second: cannot read none"], [], 4),
+    # a folder can be opened, and not read or replaced
+    ("check .", b"", ["cborn: read failed"], [FOLDER], 4),
+    ("show --one .", b"", ["cborn: read failed"], [FOLDER], 4),
+    ("compare . items", b"", ["cborn: first: read failed"], [FOLDER], 4),
+    ("compare items .", b"", ["cborn: second: read failed"], [FOLDER], 4),
+    ("compare --one items .", b"", ["cborn: second: read failed"], [FOLDER], 4),
+    ("check items .", b"", ["cborn: .: read failed"], [FOLDER], 4),
+    ("normalise items -o .", b"", ["cborn: write failed"], [FOLDER], 4),
+    ("normalise -o none/none", b"\x01", ["cborn: write failed"], [], 4),
     # the explanation has the hint whoever reads it
     ("check --explain", b"8301\n", ["  hint  " + HEXADECIMAL.removeprefix("hint: ")], [], 0),
 )

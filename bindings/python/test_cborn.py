@@ -130,6 +130,111 @@ class Calls(unittest.TestCase):
         self.assertLess(cborn.stack(1), cborn.stack(1024))
 
 
+# of appendix A of RFC 8949, without those that are floats
+APPENDIX_A = [bytes.fromhex(item) for item in (
+    "00 01 0a 17 1818 1819 1864 1903e8 1a000f4240 1b000000e8d4a51000 1bffffffffffffffff c249010000000000000000 3bffffffffffffffff "
+    "c349010000000000000000 20 29 3863 3903e7 f4 f5 f6 f7 f0 f8ff c074323031332d30332d32315432303a30343a30305a c11a514b67b0 "
+    "d74401020304 d818456449455446 d82076687474703a2f2f7777772e6578616d706c652e636f6d 40 4401020304 60 6161 6449455446 62225c "
+    "62c3bc 63e6b0b4 64f0908591 80 83010203 8301820203820405 98190102030405060708090a0b0c0d0e0f101112131415161718181819 a0 "
+    "a201020304 a26161016162820203 826161a161626163 a56161614161626142616361436164614461656145 5f42010243030405ff "
+    "7f657374726561646d696e67ff 9fff 9f018202039f0405ffff 9f01820203820405ff 83018202039f0405ff 83019f0203ff820405 "
+    "9f0102030405060708090a0b0c0d0e0f101112131415161718181819ff bf61610161629f0203ffff 826161bf61626163ff bf6346756ef563416d7421ff"
+).split()]
+
+
+class Items(unittest.TestCase):
+    """Cutting a sequence (RFC 8742)."""
+
+    def test_each_item_of_appendix_a(self):
+        sequence = b"".join(APPENDIX_A)
+        self.assertEqual(list(cborn.items(sequence)), APPENDIX_A)
+        # encoded CBOR sequences are concatenated into one (RFC 8742 section 2)
+        self.assertEqual(list(cborn.items(sequence + sequence)), APPENDIX_A + APPENDIX_A)
+        self.assertEqual(list(cborn.items(b"")), [])
+
+    def test_each_cut_is_refused_where_it_is(self):
+        for item in APPENDIX_A:
+            for end in range(1, len(item)):
+                found = cborn.items(b"\x00" + item[:end])
+                self.assertEqual(next(found), b"\x00")
+                with self.assertRaises(cborn.CbornError) as raised:
+                    next(found)
+                self.assertEqual((raised.exception.reason, raised.exception.place), (cborn.Reason.TRUNCATED, 1 + end))
+                self.assertRaises(StopIteration, next, found)
+
+    def test_a_fault_has_its_offset_in_the_sequence(self):
+        for data, given, reason, place in (
+            # each is in appendix F of RFC 8949, after one good item
+            ("01 1c", 1, cborn.Reason.RESERVED_ADDITIONAL_INFORMATION, 1),
+            ("01 ff", 1, cborn.Reason.UNEXPECTED_BREAK, 1),
+            ("01 5f00ff", 1, cborn.Reason.BAD_CHUNK, 2),
+            ("01 1f", 1, cborn.Reason.INDEFINITE_LENGTH_NOT_ALLOWED, 1),
+            ("01 f800", 1, cborn.Reason.BAD_SIMPLE, 1),
+            ("82f93c0000", 0, cborn.Reason.FLOAT_LEFT_OUT, 1),
+        ):
+            found, items = [], cborn.items(bytes.fromhex(data))
+            with self.assertRaises(cborn.CbornError) as raised:
+                for item in items:
+                    found.append(item)
+            self.assertEqual(found, [b"\x01"] * given)
+            self.assertEqual((raised.exception.reason, raised.exception.place), (reason, place), data)
+            self.assertIn("path  item " + str(given), raised.exception.explain(bytes.fromhex(data)))
+        self.assertEqual(list(cborn.items(TWICE)), [TWICE])
+
+    def test_depth(self):
+        self.assertEqual(list(cborn.items(b"\x81\x80", depth=2)), [b"\x81\x80"])
+        with self.assertRaisesRegex(cborn.CbornError, "offset 1: too deep"):
+            list(cborn.items(b"\x81\x80", depth=1))
+        nest = b"\x81" * 1024
+        self.assertEqual(list(cborn.items(nest[1:] + b"\x80" + nest[1:] + b"\x80", depth=1024)), [nest[1:] + b"\x80"] * 2)
+        with self.assertRaisesRegex(cborn.CbornError, "offset 1024: too deep"):
+            list(cborn.items(nest + b"\x80", depth=1024))
+
+    def test_slices_of_what_was_given(self):
+        sequence = b"".join(APPENDIX_A)
+        view = memoryview(bytearray(sequence))
+        found = list(cborn.items(view))
+        self.assertEqual(found, APPENDIX_A)
+        self.assertTrue(all(isinstance(item, memoryview) and item.obj is view.obj for item in found))
+        found[1][0] = 2
+        self.assertEqual(view[1], 2)
+        for lender in (bytearray(sequence), array.array("B", sequence), array.array("H", sequence + sequence)):
+            found = list(cborn.items(lender))
+            self.assertEqual(b"".join(found), bytes(lender))
+            self.assertTrue(all(type(item) is bytes for item in found))
+        self.assertEqual(list(cborn.items(memoryview(array.array("H", [0x0101, 0x0101])))), [b"\x01"] * 4)
+
+    def test_a_file_that_is_mapped_can_be_closed(self):
+        with tempfile.TemporaryFile() as file:
+            file.write(b"".join(APPENDIX_A))
+            file.flush()
+            with mmap.mmap(file.fileno(), 0, access=mmap.ACCESS_READ) as data:
+                for item in cborn.items(data):
+                    self.assertIs(type(item), bytes)
+
+    def test_wrong_arguments_raise_at_the_call(self):
+        self.assertRaises(TypeError, cborn.items, "01")
+        self.assertRaises(TypeError, cborn.items, 1)
+        self.assertRaises(TypeError, cborn.items, b"", depth="1")
+        self.assertRaises(ValueError, cborn.items, b"", depth=0)
+        self.assertRaises(ValueError, cborn.items, b"", depth=1025)
+        self.assertRaises(TypeError, cborn.items, memoryview(LOOSE)[::2])
+
+    def test_time_is_linear_in_the_items(self):
+        # a way that is quadratic takes a hundred times as long for ten times as many
+        def seconds(count):
+            data = bytes.fromhex("a2616101616282020300") * count
+            took = []
+            for _ in range(3):
+                begun = time.process_time()
+                self.assertEqual(sum(1 for _ in cborn.items(data)), 2 * count)
+                took.append(time.process_time() - begun)
+            return min(took)
+
+        few = seconds(5000)
+        self.assertLess(seconds(50000), 40 * few)
+
+
 class Inputs(unittest.TestCase):
     def test_whatever_lends_its_bytes(self):
         for lender in (bytearray(LOOSE), memoryview(LOOSE), memoryview(b"_" + LOOSE)[1:], array.array("B", LOOSE)):

@@ -7,6 +7,7 @@
     compare           the index of the first item that differs, or None: the index 0 is falsy too
     show              the items of an input as they are encoded, in notation
     spell             the bytes that notation stands for
+    items             the items of a sequence, one after another
     stack             how many bytes of stack a call takes
     version           the version of the library
 
@@ -52,6 +53,8 @@ from . import _cborn
 from ._cborn import check, compare, is_deterministic, normalise, same, show, spell
 
 if typing.TYPE_CHECKING:
+    from collections.abc import Iterator
+
     from _typeshed import ReadableBuffer
 
 __all__ = [
@@ -64,6 +67,7 @@ __all__ = [
     "check",
     "compare",
     "is_deterministic",
+    "items",
     "normalise",
     "same",
     "show",
@@ -311,6 +315,37 @@ def _defect(code: int, place: int) -> Defect:
 
 
 _cborn.begin(Kind, Order, _fault, _defect)
+
+
+@typing.overload
+def items(data: memoryview, depth: int = 128) -> Iterator[memoryview]: ...
+@typing.overload
+def items(data: ReadableBuffer, depth: int = 128) -> Iterator[bytes]: ...
+def items(data: ReadableBuffer, depth: int = 128) -> Iterator[bytes] | Iterator[memoryview]:
+    """Return an iterator over the items of a sequence of CBOR bytes (RFC 8742), each as it is encoded.
+
+    An item is `bytes`, or a memoryview if `data` is one: then nothing is copied. Each is found when it is asked for, and
+    what follows it isn't read yet. `data` may have more than 2**30 bytes. `depth` is the maximum nesting depth.
+
+        >>> import cborn
+        >>> [item.hex() for item in cborn.items(bytes.fromhex("01820203" "6161"))]
+        ['01', '820203', '6161']
+
+    The iterator raises CbornError if no well-formed item is next, with the offset in `data`; a validity error is accepted.
+    A call raises TypeError or ValueError for an invalid argument, and either raises MemoryError.
+    """
+    lent = data.cast("B") if isinstance(data, memoryview) else data
+    _cborn.item_at(lent, None, depth)  # a wrong argument raises here, and not at the first item
+    return _items(lent, depth)
+
+
+def _items(data: ReadableBuffer, depth: int) -> Iterator[typing.Any]:
+    at = 0
+    item = _cborn.item_at(data, at, depth)
+    while item is not None:
+        yield item
+        at += len(item)
+        item = _cborn.item_at(data, at, depth)
 
 
 def stack(depth: int = 128) -> int:

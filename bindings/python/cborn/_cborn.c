@@ -216,7 +216,7 @@ static PyObject *raised(PyObject *module, uint32_t code, uint64_t place, uint32_
         return NULL;
     }
     if (code == CBORN_BAD_ARGUMENT) {
-        /* only explain gets here: the other calls pass valid arguments alone */
+        /* only explain gets here, and item_at with a wrong start: the other calls pass valid arguments alone */
         PyErr_SetString(PyExc_ValueError, "no input of this format is refused for this reason");
         return NULL;
     }
@@ -530,6 +530,37 @@ static PyObject *explain(PyObject *module, PyObject *const *given, Py_ssize_t co
     return out;
 }
 
+/* The bytes of an item: of a memoryview of bytes a part of it, else a copy. */
+static PyObject *part_of(PyObject *data, const input *from, uint64_t start, uint64_t end)
+{
+    if (PyMemoryView_Check(data))
+        return PySequence_GetSlice(data, (Py_ssize_t)start, (Py_ssize_t)end);
+    return PyBytes_FromStringAndSize((const char *)from->bytes + start, (Py_ssize_t)(end - start));
+}
+
+/* item_at(data, start, depth): the item that starts there. None at the end of the data, and where start is None. The lock
+ * is kept, since an item is walked over quickly, and to take the lock back can take long. */
+static const signature of_item_at = {"items", 3, 3, {"data", "start", "depth"}};
+
+static PyObject *item_at(PyObject *module, PyObject *const *given, Py_ssize_t count, PyObject *keywords)
+{
+    PyObject *of[MOST_ARGUMENTS], *item;
+    options how = usual;
+    input from;
+    if (!are_bound(&of_item_at, given, count, keywords, of) || !is_depth(of[2], &how.depth) || !is_lent(of[0], "data", &from))
+        return NULL;
+    uint64_t end = 0, start = of[1] == Py_None ? from.length : PyLong_AsUnsignedLongLong(of[1]);
+    uint32_t code = cborn_item_end(how.depth, from.bytes, from.length, start, &end);
+    if (code == CBORN_OK)
+        item = part_of(of[0], &from, start, end);
+    else if (code == CBORN_NO_ITEM)
+        item = Py_BuildValue("");
+    else
+        item = raised(module, code, end, how.from, how.depth);
+    give_back(&from);
+    return item;
+}
+
 /* words(number) -> str */
 static PyObject *words(PyObject *module, PyObject *value)
 {
@@ -570,6 +601,7 @@ static PyMethodDef methods[] = {
     PUBLIC(normalise), PUBLIC(show), PUBLIC(spell), PUBLIC(check), PUBLIC(is_deterministic), PUBLIC(compare), PUBLIC(same),
     {"begin", begin, METH_VARARGS, NULL},
     {"explain", (PyCFunction)(void (*)(void))explain, METH_FASTCALL | METH_KEYWORDS, NULL},
+    {"item_at", (PyCFunction)(void (*)(void))item_at, METH_FASTCALL | METH_KEYWORDS, NULL},
     {"words", words, METH_O, NULL},
     {"version", version, METH_NOARGS, NULL},
     {NULL, NULL, 0, NULL},

@@ -48,6 +48,7 @@ extern "C" {
         out: *mut u8, out_len: usize, told: *mut Told,
     ) -> u32;
     pub fn cborn_check_one(order: u32, depth: u64, input: *const u8, input_len: usize, place: *mut u64) -> u32;
+    pub fn cborn_item_end(depth: u64, input: *const u8, input_len: usize, start: u64, place: *mut u64) -> u32;
     pub fn cborn_compare_one(
         from_a: u32, from_b: u32, depth: u64, first: *const u8, first_len: usize,
         second: *const u8, second_len: usize, place: *mut u64,

@@ -302,6 +302,57 @@ pub fn compare_one(
     matched(code, place)
 }
 
+/// The items of a sequence of CBOR bytes (RFC 8742), one after another, each as it is encoded. Each is found when it is
+/// asked for, in time linear in its length. The input may have more than 2^30 bytes.
+///
+/// ```
+/// use cborn::{items, Depth};
+/// let all: Result<Vec<&[u8]>, _> = items(&[1, 0x82, 2, 3, 0x61, 0x61], Depth::default()).collect();
+/// assert_eq!(all.unwrap(), [&[1][..], &[0x82, 2, 3], &[0x61, 0x61]]);
+/// ```
+///
+/// # Errors
+/// The last thing that it gives is [`Fault::Refused`], with the offset in the input, if no well-formed item is next.
+/// Validity errors are accepted.
+pub fn items(input: &[u8], depth: Depth) -> Items<'_> {
+    Items { input, depth, at: 0, is_done: false }
+}
+
+/// What [`items`] gives.
+#[derive(Clone, Debug)]
+pub struct Items<'a> {
+    input: &'a [u8],
+    depth: Depth,
+    at: usize,
+    is_done: bool,
+}
+
+impl<'a> Iterator for Items<'a> {
+    type Item = Result<&'a [u8], Fault>;
+
+    fn next(&mut self) -> Option<Self::Item> {
+        if self.is_done {
+            return None;
+        }
+        let mut place = 0;
+        let input = self.input;
+        // SAFETY: as in `calls`
+        let code =
+            unsafe { calls::cborn_item_end(self.depth.0, input.as_ptr(), input.len(), self.at as u64, &mut place) };
+        self.is_done = code != 0;
+        match code {
+            0 => {
+                let start = std::mem::replace(&mut self.at, place as usize);
+                Some(Ok(&input[start..self.at]))
+            }
+            0x701 => None,
+            code => Some(Err(Fault::new(code, place))),
+        }
+    }
+}
+
+impl std::iter::FusedIterator for Items<'_> {}
+
 /// The version of the library: major, minor, patch. After a release the source has the numbers of the next release.
 pub fn version() -> (u32, u32, u32) {
     // SAFETY: it takes nothing

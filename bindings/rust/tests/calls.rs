@@ -1,7 +1,7 @@
 //! What the tables of cborn's tests don't reach of this crate. Expected values come from RFC 8949 and docs/FORMATS.md.
 
 use cborn::{
-    check, check_one, compare, compare_one, normalise, normalise_one, same, show, show_one, version, CompareFault, Depth,
+    check, check_one, compare, compare_one, items, normalise, normalise_one, same, show, show_one, version, CompareFault, Depth,
     Fault, Kind, Options, Order, Reason,
 };
 
@@ -153,4 +153,36 @@ fn wants_exactly_one_item() {
     assert_eq!(compare_one(&[1], Kind::Wire, &[2], Kind::Wire, depth), Ok(false));
     assert_eq!(compare_one(&[], Kind::Wire, &[], Kind::Wire, depth), Err(CompareFault::First(none)));
     assert_eq!(compare_one(&[1], Kind::Wire, &[], Kind::Wire, depth), Err(CompareFault::Second(none)));
+}
+
+#[test]
+fn gives_the_items_of_a_sequence() {
+    // the integers, the string, the array, the map, the tag, the strings of indefinite length and the nest of appendix A
+    let examples: [&[u8]; 10] = [
+        &[0x00],
+        &[0x1a, 0x00, 0x0f, 0x42, 0x40],
+        &[0x64, 0x49, 0x45, 0x54, 0x46],
+        &[0x83, 0x01, 0x82, 0x02, 0x03, 0x82, 0x04, 0x05],
+        &[0xa2, 0x01, 0x02, 0x03, 0x04],
+        &[0xc1, 0x1a, 0x51, 0x4b, 0x67, 0xb0],
+        &[0x5f, 0x42, 0x01, 0x02, 0x43, 0x03, 0x04, 0x05, 0xff],
+        &[0x9f, 0xff],
+        &[0xbf, 0x61, 0x61, 0x01, 0x61, 0x62, 0x9f, 0x02, 0x03, 0xff, 0xff],
+        &[0xf6],
+    ];
+    let sequence = examples.concat();
+    let depth = Depth::default();
+    assert!(items(&sequence, depth).map(Result::unwrap).eq(examples));
+    assert_eq!(items(&[], depth).count(), 0);
+    // of what is cut the items before it are given, then the fault at the end of the input, and then nothing
+    let mut cut = items(&sequence[..12], depth);
+    assert!(cut.by_ref().take(3).map(Result::unwrap).eq(examples[..3].iter().copied()));
+    assert_eq!(cut.next(), Some(Err(Fault::Refused { reason: Reason::Truncated, place: 12 })));
+    assert_eq!(cut.next(), None);
+    // a break ends no item here, and a map with equal keys is well-formed
+    let mut broken = items(&[0xa2, 1, 0, 1, 0, 0xff], depth);
+    assert_eq!(broken.next(), Some(Ok(&[0xa2, 1, 0, 1, 0][..])));
+    assert_eq!(broken.next(), Some(Err(Fault::Refused { reason: Reason::UnexpectedBreak, place: 5 })));
+    let deep = Fault::Refused { reason: Reason::TooDeep, place: 2 };
+    assert_eq!(items(&[0, 0x81, 0x80], Depth::new(1).unwrap()).last(), Some(Err(deep)));
 }

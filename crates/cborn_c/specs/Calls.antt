@@ -7,11 +7,14 @@ use Rattle.std.specs.Global.{Global}
 use Rattle.std.specs.String.{string_bytes}
 use Rattle.cborn_model.specs.declared.defects.Defect.{Defect}
 use Rattle.cborn_model.specs.declared.defects.DefectReason.{DefectReason}
+use Rattle.cborn_wire.specs.declared.faults.WireFault.{WireFault}
+use Rattle.cborn_wire.specs.Reading.{EndsItem}
 use Rattle.cborn_explain.specs.declared.reasons.BytesReason.{BytesReason}
 use Rattle.cborn_explain.specs.declared.reasons.TextReason.{TextReason}
 use Rattle.cborn_engine.specs.declared.faults.CompareFault.{CompareFault}
 use Rattle.cborn_engine.specs.declared.faults.CompareFault.TheVariants as compared
 use Rattle.cborn_engine.specs.declared.faults.EngineFault.{EngineFault}
+use Rattle.cborn_engine.specs.declared.faults.EngineFault.TheVariants as fault
 use Rattle.cborn_engine.specs.declared.one_faults.CompareOneFault.{CompareOneFault}
 use Rattle.cborn_engine.specs.declared.one_faults.CompareOneFault.TheVariants as compared_one
 use Rattle.cborn_engine.specs.declared.one_faults.OneFault.{OneFault}
@@ -184,6 +187,23 @@ abbrev pub CompareOneCall : Option Kind → Option Kind → ℕ → List ℕ →
 CompareOneCall (Some k) (Some l) limit x y unplaced place code = (IsDepth limit → MatchesOneInto k l limit x y place code) × ((IsDepth limit → ⊥) → IsBadPlaced unplaced place code)
 CompareOneCall (Some k) None limit x y unplaced place code = IsBadPlaced unplaced place code
 CompareOneCall None l limit x y unplaced place code = IsBadPlaced unplaced place code
+
+-- ---- where an item ends
+
+-- its end; or that there is no item, with the length of the input; or the fault
+abbrev pub EndTold : Result (Option ℕ) WireFault → ℕ → ℕ → ℕ → Type 0
+EndTold (Ok (Some end)) size place code = (code ≡ 0) × (place ≡ end)
+EndTold (Ok None) size place code = (code ≡ 1793) × (place ≡ size)
+EndTold (Err why) size place code = (code ≡ fault_number (fault.Wire why)) × (place ≡ fault_place (fault.Wire why))
+
+pub record EndsItemInto (limit : ℕ) (x : List ℕ) (start place code : ℕ) : Type 0 where
+  pub answer : Result (Option ℕ) WireFault
+  pub ends : EndsItem limit x start answer
+  pub told : EndTold answer (length x) place code
+
+abbrev pub ItemEndCall : ℕ → List ℕ → ℕ → ℕ → ℕ → ℕ → Type 0
+ItemEndCall limit x start unplaced place code =
+    (IsDepth limit → start ≤ length x → EndsItemInto limit x start place code) × ((IsDepth limit → ⊥) → IsBadPlaced unplaced place code) × (length x < start → IsBadPlaced unplaced place code)
 
 -- ---- words and explanations
 

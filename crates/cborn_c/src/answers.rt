@@ -1,7 +1,7 @@
 //! How answers are reported to C.
 ghost use Rattle.std.specs.Prelude.{◌≡◌};
 ghost use Rattle.cborn_c.specs.Answers.{listed, listed_one};
-ghost use Rattle.cborn_c.specs.Calls.{Told, CheckTold, CompareFaultTold, CompareTold, SameTold, ToldOne, CheckOneTold, SameOneTold};
+ghost use Rattle.cborn_c.specs.Calls.{Told, CheckTold, CompareFaultTold, CompareTold, SameTold, ToldOne, CheckOneTold, SameOneTold, EndTold};
 
 use crate::numbers::{
     DIFFERENT, OF_SECOND, OK, OUT_OF_MEMORY, TOO_SMALL, number_defect, number_fault, number_one,
@@ -9,6 +9,7 @@ use crate::numbers::{
 };
 use cborn_engine::{CompareFault, CompareOneFault, EngineFault, OneFault};
 use cborn_model::Defect;
+use cborn_wire::WireFault;
 use std::alloc::Global;
 use std::borrow::CowSlice;
 
@@ -179,4 +180,25 @@ pub fn same_one_told(answer: Result<bool, CompareOneFault>, place: &mut u64) -> 
             OUT_OF_MEMORY
         }
     }
+}
+
+/// Reports where an item of an input of this length ends, that the input ends where it would start,
+/// or why no item starts there. Answers the number for C.
+pub fn end_told(
+    answer: Result<Option<usize>, WireFault>,
+    input_length: usize,
+    place: &mut u64,
+) -> u32
+    ensures { EndTold answer input_length place.new result }
+{
+    let why = match answer {
+        Ok(Some(end)) => {
+            *place = end as u64;
+            return OK;
+        }
+        Ok(None) => OneFault::NoItem(input_length as u64),
+        Err(why) => OneFault::Engine(EngineFault::Wire(why)),
+    };
+    *place = place_of_one(why);
+    number_one(why)
 }

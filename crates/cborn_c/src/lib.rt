@@ -16,13 +16,14 @@ mod words;
 
 ghost use Rattle.std.specs.Prelude.{◌≡◌, ◌≢◌, ◌≤◌, ◌+◌, ◌/◌, length};
 ghost use Rattle.cborn_c.specs.Numbers.{numbered_kind, numbered_order};
-ghost use Rattle.cborn_c.specs.Calls.{NormaliseCall, ShowCall, CheckCall, CompareCall, SameCall, NormaliseOneCall, ShowOneCall, CheckOneCall, CompareOneCall, WordsCall, ExplainCall};
+ghost use Rattle.cborn_c.specs.Calls.{NormaliseCall, ShowCall, CheckCall, CompareCall, SameCall, NormaliseOneCall, ShowOneCall, CheckOneCall, CompareOneCall, ItemEndCall, WordsCall, ExplainCall};
 
 use answers::{
-    CbornTold, defect_of_one_told, defect_told, difference_told, put, put_one, same_one_told,
-    same_told,
+    CbornTold, defect_of_one_told, defect_told, difference_told, end_told, put, put_one,
+    same_one_told, same_told,
 };
 use cborn_model::{Bytewise, LengthFirst, Limit};
+use cborn_wire::item_end;
 use explanations::{explained, put_text};
 use inputs::{
     Input, checked, checked_one, compared, matched, matched_one, normalised, normalised_one, shown,
@@ -365,6 +366,36 @@ pub extern "C" fn cborn_compare_one(
         bytes: second,
     };
     same_one_told(matched_one(alloc, limit, first, second), place)
+}
+
+/// `OK` if a well-formed item starts in `input`, which is CBOR bytes, at the offset `start` (RFC 8949
+/// section 3), and `place` gets the offset after it. `depth` is the nesting limit, from 1 to 1,024.
+/// What follows the item isn't read: the items of a sequence (RFC 8742) are found one after another in
+/// linear time. Offsets are in bytes from the start of `input`, which may have more than 2^30.
+///
+/// # Errors
+/// `NO_ITEM` where `input` ends at `start`; `place` gets its length. The number of the fault where no
+/// well-formed item starts there; `place` gets its offset. `OUT_OF_MEMORY` where memory is refused;
+/// `place` gets 0. `BAD_ARGUMENT` where `start` is beyond the end or `depth` is no limit; `place` is
+/// then unchanged.
+#[unsafe(no_mangle)]
+pub extern "C" fn cborn_item_end(
+    alloc: Global,
+    depth: u64,
+    input: &[u8],
+    start: u64,
+    place: &mut u64,
+) -> u32
+    ensures { ItemEndCall depth input.now start place.old place.new result }
+{
+    if start > input.len() as u64 {
+        return BAD_ARGUMENT;
+    }
+    let Some(limit) = Limit::new(depth) else {
+        return BAD_ARGUMENT;
+    };
+    let answer = item_end(alloc, limit, input, start as usize);
+    end_told(answer, input.len(), place)
 }
 
 /// Writes the words of a fault or a defect to the start of `out`, as the program prints them, and then

@@ -1,5 +1,6 @@
--- The exit statuses of the program.
-use Rattle.std.specs.Prelude.{ℕ, ◌≡◌}
+-- The exit statuses of the program, and what keeps a task from being done.
+use Rattle.std.specs.Borrow.{Bor}
+use Rattle.std.specs.Prelude.{ℕ, List, ◌≡◌}
 use Rattle.cborn_engine.specs.declared.EngineFault.{EngineFault}
 use Rattle.cborn_engine.specs.declared.EngineFault.TheVariants as fault
 use Rattle.cborn_engine.specs.declared.CompareFault.TheVariants as compared
@@ -44,3 +45,10 @@ status_of_trouble _ = 4
 -- an input is refused
 abbrev pub IsRefusal : Trouble → Type 0
 IsRefusal why = status_of_trouble why ≡ 2
+
+-- The trouble with the file of this name, one of several: a fault of the engine is one of that file, but for a failed write.
+abbrev pub of_file : Bor (List ℕ) → Trouble → Trouble
+of_file name (trouble.Engine fault.WriteFault) = trouble.Engine fault.WriteFault
+of_file name (trouble.Engine why) = trouble.OfFile name (one.Engine why)
+of_file name (trouble.One why) = trouble.OfFile name why
+of_file name why = why

@@ -1,6 +1,6 @@
 //! The lines that the program prints.
 ghost use Rattle.std.specs.Prelude.{◌≡◌, ◌≤◌, IfOk, IfErr, OnOk};
-ghost use Rattle.cborn_commands.specs.Statuses.{status_of_answer, status_of_fault, status_of_one, status_of_trouble};
+ghost use Rattle.cborn_commands.specs.Statuses.{of_file, status_of_answer, status_of_fault, status_of_one, status_of_trouble};
 ghost use Rattle.cborn_engine.specs.declared.EngineFault.TheVariants as fault;
 ghost use Rattle.cborn_commands.specs.declared.lines.Trouble.TheVariants as trouble;
 
@@ -39,6 +39,7 @@ impl<'a> Trouble<'a> {
     /// `OfFile`. A failed write, and a trouble that names its file, are given back as they are. The
     /// exit status stays the same.
     pub fn of_file(self, name: &'a str) -> Trouble<'a>
+        ensures trouble { result ≡ of_file name.entry self.entry }
         ensures status { status_of_trouble result ≡ status_of_trouble self.entry }
     {
         match self {

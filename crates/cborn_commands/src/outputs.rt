@@ -1,16 +1,17 @@
 //! Where the answer of a task goes: to standard output or to a file.
 ghost use Rattle.std.specs.Prelude.{◌≡◌, ◌≤◌, IfOk, IfErr, OnOk};
-ghost use Rattle.cborn_commands.specs.Statuses.{IsRefusal, status_of_fault, status_of_trouble};
+ghost use Rattle.cborn_engine.specs.declared.EngineFault.TheVariants as fault;
+ghost use Rattle.cborn_commands.specs.declared.lines.Trouble.TheVariants as trouble;
+ghost use Rattle.cborn_commands.specs.Statuses.{IsRefusal};
 
 use crate::lines::Trouble;
 use crate::remarks::Remarks;
 use crate::saved::SavedFile;
-use crate::statuses::FAILED;
 use crate::systems::System;
 use crate::tasks::perform;
-use cborn_engine::{Counted, EngineFault, OneFault};
+use cborn_engine::{Counted, EngineFault};
 use cborn_options::Task;
-use std::io::{ErrorKind, Read, Write};
+use std::io::{Read, Write};
 use std::rt::Files;
 
 /// Does a task as `perform` does it. Where it names a file for its answer, that goes there once it is
@@ -59,30 +60,21 @@ fn perform_into<'a, F: Files, I: Read + Drop>(
 ) -> Result<u8, Trouble<'a>>
     ensures status { IfOk result (λ status. status ≤ 1) }
 {
-    let done = {
-        let mut out = Counted::new(&mut *file);
-        perform(system, task, input, &mut out, remarks)
-    };
-    match done {
-        Err(
-            Trouble::Engine(EngineFault::WriteFault)
-            | Trouble::One(OneFault::Engine(EngineFault::WriteFault)),
-        ) => Err(Trouble::Engine(fault_of(file.failure()))),
-        _ => done,
-    }
+    let mut out = Counted::new(file);
+    perform(system, task, input, &mut out, remarks)
 }
 
 /// Puts a file in its place, after standard output, to which nothing of it went, is flushed.
 ///
 /// # Errors
-/// `WriteFault` or `OutOfMemory`: the file stays as it was.
+/// `WriteFault`: the file stays as it was.
 #[inline(never)]
 fn finish<'a, F: Files, W: Write>(
     file: &mut SavedFile<'_, '_, F>,
     out: &mut Counted<W>,
 ) -> Result<(), Trouble<'a>>
     ensures flushed { OnOk result (out.new.unflushed ≡ 0) }
-    ensures trouble { IfErr result (λ why. status_of_trouble why ≡ FAILED) }
+    ensures trouble { IfErr result (λ why. why ≡ trouble.Engine fault.WriteFault) }
 {
     if out.flush().is_err() {
         file.discard();
@@ -90,16 +82,6 @@ fn finish<'a, F: Files, W: Write>(
     }
     match file.finish() {
         Ok(()) => Ok(()),
-        Err(why) => Err(Trouble::Engine(fault_of(Some(why.kind())))),
-    }
-}
-
-/// The fault of an answer that couldn't be written to a file, for this reason if one is known.
-fn fault_of(why: Option<ErrorKind>) -> EngineFault
-    ensures { status_of_fault result ≡ FAILED }
-{
-    match why {
-        Some(ErrorKind::OutOfMemory) => EngineFault::OutOfMemory,
-        _ => EngineFault::WriteFault,
+        Err(_) => Err(Trouble::Engine(EngineFault::WriteFault)),
     }
 }

@@ -6,13 +6,14 @@ use crate::inputs::{Kept, Notes};
 use crate::lines::{Answer, Trouble, status_of_one};
 use crate::names::FileName;
 use crate::statuses::{DONE, REFUSED};
-use cborn_engine::{CompareFault, CompareOneFault, Kind, OneFault};
+use cborn_engine::{CompareFault, CompareOneFault, EngineFault, Kind, OneFault};
 use cborn_explain::{Hint, Look};
 use cborn_model::{KeyOrder, Limit};
-use cborn_options::Task;
+use cborn_options::{Action, Task};
 use std::alloc::{AllocError, Global};
-use std::fmt;
 use std::fmt::{Display, Formatter};
+use std::rt::Files;
+use std::{fmt, fs};
 
 /// Who reads standard error.
 #[derive(Clone, Copy)]
@@ -125,6 +126,22 @@ impl<'a> Remarks<'a> {
             _ => return,
         };
         self.on_fault(self.only(), kind, notes, fault);
+    }
+
+    /// Adds the hint for a person that the file which a read or a write failed of is a folder.
+    pub fn on_failure<F: Files>(&mut self, files: &F, task: &Task<'_>, trouble: Trouble<'_>) {
+        if !matches!(self.audience, Audience::Person) {
+            return;
+        }
+        let Some(text) = failed_file(task, trouble) else {
+            return;
+        };
+        if is_folder(files, text) {
+            let name = FileName { text };
+            if let Ok(line) = format!(in self.alloc; "cborn: hint: {name} is a folder\n") {
+                let _ = self.lines.push_str(line.as_str());
+            }
+        }
     }
 
     /// Adds lines on why an input isn't deterministic, where that was the answer and the input was kept.
@@ -260,4 +277,36 @@ impl<'a> Remarks<'a> {
 
 fn hint_line(alloc: Global, which: Side<'_>, hint: Hint) -> Result<String, AllocError> {
     format!(in alloc; "cborn: {which}hint: {hint}\n")
+}
+
+/// The name of the file that a read or a write failed of, where one was named.
+fn failed_file<'a>(task: &Task<'a>, trouble: Trouble<'_>) -> Option<&'a str> {
+    let fault = match trouble {
+        Trouble::Engine(fault) | Trouble::One(OneFault::Engine(fault)) => fault,
+        Trouble::Compare(CompareFault::First(fault))
+        | Trouble::CompareOne(CompareOneFault::First(OneFault::Engine(fault))) => fault,
+        Trouble::Compare(CompareFault::Second(fault))
+        | Trouble::CompareOne(CompareOneFault::Second(OneFault::Engine(fault))) => fault,
+        _ => return None,
+    };
+    let is_second = matches!(
+        trouble,
+        Trouble::Compare(CompareFault::Second(_)) | Trouble::CompareOne(CompareOneFault::Second(_))
+    );
+    match (fault, task.action) {
+        (EngineFault::WriteFault, _) => task.output,
+        (EngineFault::ReadFault, Action::Read { file, .. }) => file,
+        (EngineFault::ReadFault, Action::Compare { first, second, .. }) => {
+            Some(if is_second { second } else { first })
+        }
+        _ => None,
+    }
+}
+
+/// Whether the path leads to a folder.
+fn is_folder<F: Files>(files: &F, path: &str) -> bool {
+    match fs::metadata(files, path) {
+        Ok(found) => found.is_dir(),
+        Err(_) => false,
+    }
 }

@@ -93,6 +93,9 @@ fn run_task<F: Files, I: Read + Drop, W: Write, E: Write>(
             print_lines(err, remarks.lines.as_str());
             status
         }
-        Err(trouble) => explain_trouble(err, trouble, remarks.lines.as_str()),
+        Err(trouble) => {
+            remarks.on_failure(system.files, task, trouble);
+            explain_trouble(err, trouble, remarks.lines.as_str())
+        }
     }
 }

@@ -29,7 +29,6 @@ pub struct SavedFile<'r, 'p, F: Files> {
     alloc: Global,
     name: &'p str,
     new: Option<NewFile<F::File>>,
-    failure: Option<ErrorKind>,
 }
 
 /// A new file, and the paths of itself and of the file whose place it takes.
@@ -48,13 +47,7 @@ impl<'r, 'p, F: Files> SavedFile<'r, 'p, F> {
             alloc,
             name,
             new: None,
-            failure: None,
         }
-    }
-
-    /// Why the new file couldn't be made. `None`: it could, or wasn't to be made yet.
-    pub fn failure(&self) -> Option<ErrorKind> {
-        self.failure
     }
 
     /// Puts the new file in the place of the one that was named.
@@ -85,14 +78,10 @@ impl<'r, 'p, F: Files> SavedFile<'r, 'p, F> {
     /// Why it can't be made.
     #[inline(never)]
     fn taken(&mut self) -> io::Result<NewFile<F::File>> {
-        let taken = match self.new.take() {
+        match self.new.take() {
             Some(new) => Ok(new),
             None => new_file(self.files, self.alloc, self.name),
-        };
-        if let Err(why) = &taken {
-            self.failure = Some(why.kind());
         }
-        taken
     }
 }
 

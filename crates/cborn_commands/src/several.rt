@@ -71,7 +71,10 @@ fn check_file<'a, F: Files, W: Write, E: Write>(
         Err(Trouble::Engine(EngineFault::WriteFault)) => {
             Err(Trouble::Engine(EngineFault::WriteFault))
         }
-        Err(trouble) => Ok(explain_trouble(err, trouble.of_file(name), remarks.lines.as_str())),
+        Err(trouble) => {
+            remarks.on_failure(system.files, &task, trouble);
+            Ok(explain_trouble(err, trouble.of_file(name), remarks.lines.as_str()))
+        }
     }
 }
 

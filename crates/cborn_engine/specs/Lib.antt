@@ -10,4 +10,5 @@ pub mod Comparing
 pub mod Checking
 pub mod Whole
 pub mod OneItem
+pub mod Items
 pub mod devices

@@ -4,3 +4,4 @@ pub mod Malformed
 pub mod Reading
 pub mod OneItem
 pub mod TextBytes
+pub mod CuttingCode

@@ -17,6 +17,8 @@
 //! `conversions` and `comparisons` are the calls over readers, `slices` those over inputs that are
 //! held whole; `differences` finds where two encodings differ.
 //!
+//! [`Items`] cuts bytes into their items, one after another (`specs/Items.antt`).
+//!
 //! `one_streams` and `one_slices` have the same calls for inputs that have to hold exactly one item,
 //! by `ones`; `specs/OneItem.antt` says what they answer.
 #![tactic(auto)]
@@ -28,6 +30,7 @@ mod differences;
 mod encodings;
 mod faults;
 mod inputs;
+mod items;
 mod kinds;
 pub mod laws;
 mod nodes;
@@ -46,6 +49,7 @@ pub use comparisons::compare;
 pub use conversions::{normalise, show_all};
 pub use faults::{CompareFault, EngineFault};
 pub use inputs::{load, load_within};
+pub use items::Items;
 pub use kinds::Kind;
 pub use one_faults::{CompareOneFault, OneFault};
 pub use one_slices::{check_one_slice, normalise_one_slice, same_item, show_one_slice};

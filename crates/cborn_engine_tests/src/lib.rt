@@ -9,6 +9,8 @@ mod fronts;
 #[cfg(test)]
 mod growths;
 #[cfg(test)]
+mod items;
+#[cfg(test)]
 mod memory;
 #[cfg(test)]
 mod ones;

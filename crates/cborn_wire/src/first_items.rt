@@ -1,16 +1,48 @@
-//! Where the first item of some bytes ends.
+//! Where the item that starts at an offset ends.
 
 ghost use Rattle.std.specs.Prelude.{◌≡◌, ◌++◌, ◌≤◌, ℕ, List, None, length, drop, IfOk, IfSome};
 ghost use Rattle.cborn_model.specs.Tree.{Tree, depth};
 ghost use Rattle.cborn_model.specs.Spelled.{spelled, Fits};
-ghost use Rattle.cborn_wire.specs.Reading.{IsFirstItem};
+ghost use Rattle.cborn_wire.specs.Reading.{IsFirstItem, EndsItem};
 
-use crate::WireFault;
 use crate::head_readers::{HeadReader, Until};
 use crate::levels::GrownLevels;
 use crate::scanning::Nothing;
+use crate::{WireFault, WireReason};
 use cborn_model::Limit;
 use std::alloc::{AllocError, Global};
+
+/// Where the item ends that starts in `bytes` at the offset `start`, which is at most their length:
+/// the offset after it (RFC 8949 section 3). What follows the item isn't read. `None`: the bytes end
+/// at `start`. Offsets are in bytes from the start of `bytes`.
+///
+/// # Errors
+/// `Refused` if no item within the nesting limit starts there, with the one fault that is met:
+/// `Truncated`, at the length of `bytes`, if they end before the item does. `OutOfMemory` if memory
+/// for the open levels is refused.
+pub fn item_end(
+    alloc: Global,
+    limit: Limit,
+    bytes: &[u8],
+    start: usize,
+) -> Result<Option<usize>, WireFault>
+    requires { start ≤ length bytes.now }
+    ensures { EndsItem limit bytes.now start result }
+{
+    if start == bytes.len() {
+        return Ok(None);
+    }
+    let mut reader = HeadReader::new(limit, start as u64);
+    let mut levels = GrownLevels::new(alloc);
+    match reader.read(&mut levels, &mut Nothing, &bytes[start..], Until::Item) {
+        Ok(len) if reader.is_whole(&levels) => Ok(Some(start + len)),
+        Ok(_) => Err(WireFault::Refused {
+            place: bytes.len() as u64,
+            reason: WireReason::Truncated,
+        }),
+        Err(why) => Err(why),
+    }
+}
 
 /// Where the first item of some bytes ends: an offset in bytes from their start (RFC 8949 section
 /// 3, RFC 8742). What follows the item isn't read. `None`: the bytes don't begin with a whole item
@@ -22,18 +54,9 @@ pub fn first_end(alloc: Global, bytes: &[u8]) -> Result<Option<usize>, AllocErro
     ensures item { IfOk result (λ found. IfSome found (λ end. (end ≤ length bytes.now) × ((t : Tree) × IsFirstItem 1024 0 t bytes.now (drop end bytes.now)))) }
     ensures none { IfOk result (λ found. found ≡ None → (t : Tree) (rest : List ℕ) → bytes.now ≡ spelled t ++ rest → Fits t → depth t ≤ 1024 → ⊥) }
 {
-    let mut reader = HeadReader::new(Limit::HIGHEST, 0);
-    let mut levels = GrownLevels::new(alloc);
-    let end = match reader.read(&mut levels, &mut Nothing, bytes, Until::Item) {
-        Ok(end) => end,
-        Err(WireFault::Refused { .. }) => return Ok(None),
-        Err(WireFault::OutOfMemory) => return Err(AllocError),
-    };
-    if end == 0 {
-        return Ok(None);
+    match item_end(alloc, Limit::HIGHEST, bytes, 0) {
+        Ok(end) => Ok(end),
+        Err(WireFault::Refused { .. }) => Ok(None),
+        Err(WireFault::OutOfMemory) => Err(AllocError),
     }
-    if !reader.is_whole(&levels) {
-        return Ok(None);
-    }
-    Ok(Some(end))
 }

@@ -12,7 +12,8 @@
 //!   one item after another (`item_readers`), with a visitor that builds nodes (`nodes`): it puts
 //!   what is whole into the innermost open container (`open_nodes`).
 //! - [`scan`] says whether an input in memory is well-formed, or what its one fault is: the reader
-//!   with a visitor that keeps nothing. [`first_end`] says where the first item ends, likewise.
+//!   with a visitor that keeps nothing. [`item_end`] says where the item at an offset ends,
+//!   likewise.
 //! - [`spell`] writes the bytes that a node spells.
 //! - `heads` reads and writes single heads. `walks` has what walks of other crates over bytes ask
 //!   at each step, and `specs/Parts.antt` what they read.
@@ -44,7 +45,7 @@ mod walks;
 
 pub use faults::{WireFault, WireReason};
 pub use feeders::Feeder;
-pub use first_items::first_end;
+pub use first_items::{first_end, item_end};
 pub use head_readers::{HeadReader, Until};
 pub use heads::{Argument, Head, HeadRead, head_bytes, push_head, read_head, read_mixed_head};
 pub use levels::{GrownLevels, Level, LevelKind, Levels};
