@@ -20,8 +20,23 @@ from corpus import head
 MB = 1_000_000
 OWN = 3_000_000
 GREAT_MAPS = ("map of integers", "map, repeated key last")
+# what is refused at its end, when `show` has written the text of what comes before
+REFUSED_LATE = (
+    "flat, bad text last",
+    "cut array",
+    "array with no break",
+    "flat, too deep last",
+    "keys in keys, bad text last",
+    "keys in keys, long heads, bad text after",
+    "map out of order, bad text after",
+    "great pair out of order, bad text after",
+    "text in chunks, bad one last",
+)
 # what is known to take more than RATIO
-MORE = {(name, command): 6 for name in GREAT_MAPS for command in ("normalise", "check", "show", "to notation")}
+MORE = {
+    **{(name, command): 6 for name in GREAT_MAPS for command in ("normalise", "check", "show", "to notation")},
+    **{(name, "show"): 5 for name in REFUSED_LATE},
+}
 COMMANDS = {
     "normalise": ["normalise"],
     "check": ["check"],

@@ -25,7 +25,7 @@ OWN, OWN_REQUESTS = 200_000, 600
 MOST = 2.5
 # a map's keys are sorted, or searched for one that is repeated
 MOST_OF_MAPS = 6
-# what is known to hold more: lists of keys, and texts that `show` has written when the input turns out to be refused
+# what is known to hold more: lists of keys, and texts of inputs that turn out to be refused
 HELD = {
     "map, first key again": 9,
     "map, keys that fall": 9,
@@ -40,6 +40,22 @@ HELD = {
     "last chunk is missing": 4.5,
     "array of integers, indefinite": 4,
     "one string": 3.5,
+}
+# texts that `show` has written, and room for more of them, when the input turns out to be refused
+WRITTEN = {
+    (name, "show"): 7.5
+    for name in (
+        "last text isn't UTF-8",
+        "last chunk isn't UTF-8",
+        "last head is cut",
+        "last item is a nest",
+        "last break is missing",
+        "last chunk is missing",
+        "last item is too deep",
+        "array that is cut",
+        "count of 2^64-1 items",
+        "length of 2^64-1 bytes",
+    )
 }
 # of a map whose pairs all stand as they are written nothing is copied: with an array as one of the values it is 1.7
 IN_PLACE = {("map of strings, keys that fall", "normalise"): 1.4}
@@ -163,7 +179,7 @@ def excess(name, words, counts, given, size, status):
     if counts is None or status not in (0, 1, 2):
         yield f"{name}: {words}: status {status}, {counts}"
         return
-    most = IN_PLACE.get((name, words)) or HELD.get(name, MOST_OF_MAPS if name.startswith("map") else MOST)
+    most = IN_PLACE.get((name, words)) or WRITTEN.get((name, words)) or HELD.get(name, MOST_OF_MAPS if name.startswith("map") else MOST)
     if counts.requests > REQUESTS.get(name, OWN_REQUESTS):
         yield f"{name}: {words}: {counts.requests} requests"
     if is_moved(name, words) and counts.asked > MOST_TO_READ * given + OWN:

@@ -14,7 +14,7 @@ from pathlib import Path
 ROOT = Path(__file__).resolve().parent.parent
 PAGE = ROOT / "docs/PROMISES.md"
 # the order of the chapters: from the calls that a user makes down to what they stand on
-CRATES = "engine c commands options streams model wire det judge lex edn transcode departures flaws show descent text_places explain".split()
+CRATES = "engine c commands options streams model wire det judge lex edn transcode departures flaws descent text_places explain".split()
 # those whose list says what each function does; the lists of the crates below them go by module
 CALLED = {"engine", "c", "commands", "options"}
 MADE = "<!-- from here on made by tests/promises.py -->\n"

@@ -7,3 +7,4 @@ pub mod RoundTrip
 pub mod Started
 pub mod Placed
 pub mod Short
+pub mod Notating

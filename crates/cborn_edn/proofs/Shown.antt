@@ -1,5 +1,4 @@
 -- The fixed notation of nodes is UTF-8 exactly if their texts are, and doesn't depend on their places.
-pub mod Separated
 pub mod Escapes
 pub mod Lowests
 pub mod Characters

@@ -11,8 +11,8 @@ use Rattle.cborn_lex.specs.declared.classes.Token.{Token}
 use Rattle.cborn_lex.specs.declared.classes.Profile.{Profile}
 use Rattle.cborn_lex.specs.declared.classes.Profile.TheVariants.{Two as ProfileTwo}
 use Rattle.cborn_lex.specs.Good.{HasTokens}
-use Rattle.cborn_edn.specs.declared.strings.StringKind.{StringKind}
-use Rattle.cborn_edn.specs.declared.strings.StringKind.TheVariants.{Bytes as OfBytes, Text as OfText}
+use Rattle.cborn_model.specs.declared.visitors.StringKind.{StringKind}
+use Rattle.cborn_model.specs.declared.visitors.StringKind.TheVariants.{OfBytes, OfText}
 use Rattle.cborn_edn.specs.declared.meaning_errors.MeaningError.{MeaningError}
 use Rattle.cborn_edn.specs.Says.{width, size, size_errors, depth_of_number, number_node, number_errors, tag_errors, simple_errors, chunked_node, Str, is_nil, quoted, joined, said_string, chunk, piece_errors, string_errors, chunk_errors}
 

@@ -3,6 +3,7 @@ pub mod Grammar
 pub mod Faults
 pub mod Spelling
 pub mod Shown
+pub mod ShownBytes
 pub mod Plain
 pub mod ReadingBack
 pub mod Starts

@@ -14,8 +14,8 @@ use Rattle.cborn_lex.specs.declared.classes.Mark.{Mark}
 use Rattle.cborn_lex.specs.declared.classes.Mark.TheVariants.{Absent, Endless, Wide}
 use Rattle.cborn_edn.specs.declared.faults.ShowFault.{ShowFault}
 use Rattle.cborn_edn.specs.declared.faults.ShowFault.TheVariants.{NotUtf8, OutOfMemory}
-use Rattle.cborn_edn.specs.declared.strings.StringKind.{StringKind}
-use Rattle.cborn_edn.specs.declared.strings.StringKind.TheVariants.{Bytes as OfBytes, Text as OfText}
+use Rattle.cborn_model.specs.declared.visitors.StringKind.{StringKind}
+use Rattle.cborn_model.specs.declared.visitors.StringKind.TheVariants.{OfBytes, OfText}
 
 -- a head has an indicator only if it isn't the shortest: if its argument takes more bytes than it needs
 abbrev pub mark_for : Width → ℕ → Mark

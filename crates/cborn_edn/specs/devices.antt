@@ -1,5 +1,4 @@
 pub mod TreesCode
-pub mod Lowest
 pub mod Escaping
 pub mod Lexical
 pub mod MeaningErrors
@@ -22,3 +21,4 @@ pub mod Reading
 pub mod TokenStarts
 pub mod Started
 pub mod Counting
+pub mod Notating

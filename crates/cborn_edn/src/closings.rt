@@ -2,7 +2,7 @@
 
 ghost use Rattle.std.specs.Prelude.{◌≡◌, ℕ, ◌<◌, ◌^◌, ◌++◌, ◌∷◌, List, length, Option, Some, None, OnOk, false, ◌&&◌};
 ghost use Rattle.cborn_lex.specs.declared.classes.Mark.{Mark as Indicator};
-ghost use Rattle.cborn_edn.specs.declared.strings.StringKind.TheVariants.{Bytes as OfBytes};
+ghost use Rattle.cborn_model.specs.declared.visitors.StringKind.TheVariants.{OfBytes};
 ghost use Rattle.cborn_edn.specs.devices.Syntax.{Span as Place, Item, Content, Fields, Pieces as Joined, array, map, tag, embedded, row, RowBefore, after_row, pairs, PairsBefore, after_pairs};
 ghost use Rattle.cborn_edn.specs.devices.Machine.{Stack, Nest, in_row, in_key, in_value, in_tag, in_array, in_embed, Home, with_piece, wants, has, builds};
 ghost use Rattle.cborn_edn.specs.devices.Shows.{Shows, Leads, content_state, fields_state, entries_at};
@@ -15,14 +15,14 @@ ghost use Rattle.cborn_edn.specs.Says.{Str, joined, piece_errors, size_errors};
 ghost use Rattle.cborn_edn.specs.devices.Shows.{Same, Sized};
 ghost use Rattle.cborn_edn.specs.devices.Written.{heads_in, written_mark};
 
+use crate::MeaningError;
 use crate::heads::{set_head, set_shortest_head};
 use crate::meaning_errors::{earlier, is_none, note_width};
 use crate::numbers::width_for;
 use crate::states::{Here, Joint, Level, OpenBracket, Phase, Writer};
 use crate::strings::{is_endless, note_piece};
-use crate::{MeaningError, StringKind};
 use cborn_lex::Mark;
-use cborn_model::{BREAK, Major};
+use cborn_model::{BREAK, Major, StringKind};
 use std::alloc::AllocError;
 
 /// Notes what is wrong with the indicator of an array or a map of `count` items or pairs.
@@ -192,7 +192,7 @@ fn with_embedded(
 {
     match before {
         Some(string) => {
-            note_piece(string, StringKind::Bytes, bracket.place, error);
+            note_piece(string, StringKind::OfBytes, bracket.place, error);
             Joint {
                 mark,
                 mark_place: place,
@@ -202,7 +202,7 @@ fn with_embedded(
             }
         }
         None => Joint {
-            kind: StringKind::Bytes,
+            kind: StringKind::OfBytes,
             start: bracket.start,
             place: bracket.place,
             mark,

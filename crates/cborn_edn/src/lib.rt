@@ -84,7 +84,6 @@
 //! machine. The law `short_form` says that the trees and the relation agree.
 #![tactic(auto)]
 
-mod bad_texts;
 mod closings;
 mod endings;
 mod faults;
@@ -93,6 +92,7 @@ mod integers;
 pub mod laws;
 mod marks;
 mod meaning_errors;
+mod notators;
 mod numbers;
 mod openings;
 mod passes;
@@ -103,6 +103,7 @@ mod quick_items;
 mod readers;
 mod refusals;
 mod showing;
+mod shown_bytes;
 mod starts;
 mod states;
 mod steps;
@@ -115,9 +116,9 @@ mod writing;
 
 pub use faults::{EdnFault, EdnReason, ShowFault};
 pub use meaning_errors::MeaningError;
+pub use notators::Notator;
 pub use passes::{read_shortest, read_text};
 pub use readers::read_notation;
 pub use showing::show;
+pub use shown_bytes::{Notated, show_bytes};
 pub use starts::start_at;
-pub use strings::StringKind;
-pub use writing::{push_between, push_escaped, push_indicator, push_simple};

@@ -1,9 +1,9 @@
 //! What the reader keeps: where it is in the text, what it has written, and an entry for each open
 //! bracket.
 
-use crate::{MeaningError, StringKind};
+use crate::MeaningError;
 use cborn_lex::Mark;
-use cborn_model::push_doubling;
+use cborn_model::{StringKind, push_doubling};
 use std::alloc::{AllocError, Global};
 use std::marker::Model;
 

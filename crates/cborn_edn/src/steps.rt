@@ -9,13 +9,13 @@ ghost use Rattle.cborn_edn.specs.devices.Modest.{AreModest};
 ghost use Rattle.cborn_edn.specs.devices.Shows.{Shows};
 ghost use Rattle.cborn_edn.specs.devices.Steps.{is_piece, IsReady, Takes, Turns, EndsAt};
 
-use crate::StringKind;
 use crate::endings::{end_array, end_embedded, end_entry, end_key, end_map, end_tag, has_chunks};
 use crate::numbers::{Numeral, close_simple, put_number, put_simple, put_word};
 use crate::openings::{open_array, open_chunks, open_embedded, open_map, open_simple, open_tag};
 use crate::states::{Here, Phase, Writer};
 use crate::strings::{StringToken, begin_string, end_chunk, end_chunks, end_item, join};
 use cborn_lex::{BareToken, Kind};
+use cborn_model::StringKind;
 use std::alloc::AllocError;
 
 /// Takes a token that was read. Its number is `number`, and the content of a string is in the
@@ -96,7 +96,7 @@ fn begin(
         }
         Kind::Text(mark) => {
             let piece = StringToken {
-                kind: StringKind::Text,
+                kind: StringKind::OfText,
                 quoted: true,
                 place,
                 mark,
@@ -106,7 +106,7 @@ fn begin(
         }
         Kind::Bytes { quoted, mark } => {
             let piece = StringToken {
-                kind: StringKind::Bytes,
+                kind: StringKind::OfBytes,
                 quoted,
                 place,
                 mark,
@@ -163,14 +163,14 @@ fn more(
     }
     match token.kind {
         Kind::Text(mark) => {
-            join(StringKind::Text, token.start, mark, writer);
+            join(StringKind::OfText, token.start, mark, writer);
             Ok(true)
         }
         Kind::Bytes {
             quoted: _quoted,
             mark,
         } => {
-            join(StringKind::Bytes, token.start, mark, writer);
+            join(StringKind::OfBytes, token.start, mark, writer);
             Ok(true)
         }
         Kind::EmbedOpen => {
@@ -249,7 +249,7 @@ fn begin_chunk(
     match token.kind {
         Kind::Text(mark) => {
             let piece = StringToken {
-                kind: StringKind::Text,
+                kind: StringKind::OfText,
                 quoted: true,
                 place,
                 mark,
@@ -259,7 +259,7 @@ fn begin_chunk(
         }
         Kind::Bytes { quoted, mark } => {
             let piece = StringToken {
-                kind: StringKind::Bytes,
+                kind: StringKind::OfBytes,
                 quoted,
                 place,
                 mark,

@@ -4,7 +4,7 @@ ghost use Rattle.std.specs.Prelude.{◌≡◌, ℕ, ◌<◌, ◌++◌, ◌∷◌
 ghost use Rattle.cborn_model.specs.Bytes.{AreBytes};
 ghost use Rattle.cborn_edn.specs.devices.Modest.{AreModest};
 ghost use Rattle.cborn_edn.specs.Says as says;
-ghost use Rattle.cborn_edn.specs.declared.strings.StringKind.TheVariants.{Text as OfText};
+ghost use Rattle.cborn_model.specs.declared.visitors.StringKind.TheVariants.{OfText};
 ghost use Rattle.cborn_edn.specs.devices.Syntax.{Span as Place, Pieces as Joined, Strings, StringsBefore, strings, string, chunked, also, piece, after_strings, tokens_of_pieces};
 ghost use Rattle.cborn_edn.specs.devices.Machine.{Stack, Home, as_item, as_chunk, has, builds, wants_chunk};
 ghost use Rattle.cborn_edn.specs.devices.Machine.{at_home};
@@ -22,17 +22,8 @@ use crate::numbers::{is_absent, width_for};
 use crate::states::{Chunks, Here, Joint, Phase, Writer};
 use crate::{EdnReason, MeaningError};
 use cborn_lex::Mark;
-use cborn_model::{BREAK, Major};
+use cborn_model::{BREAK, Major, StringKind};
 use std::alloc::AllocError;
-
-/// Whether a string is a byte string or a text string.
-#[derive(Clone, Copy, PartialEq, Eq)]
-pub enum StringKind {
-    /// A byte string.
-    Bytes,
-    /// A text string.
-    Text,
-}
 
 /// The major type of a string.
 #[inline(always)]
@@ -40,8 +31,8 @@ fn major_of(kind: StringKind) -> Major
     ensures { result ≡ major_of kind }
 {
     match kind {
-        StringKind::Bytes => Major::ByteString,
-        StringKind::Text => Major::TextString,
+        StringKind::OfBytes => Major::ByteString,
+        StringKind::OfText => Major::TextString,
     }
 }
 
@@ -51,7 +42,8 @@ fn are_same(one: StringKind, other: StringKind) -> bool
     ensures { result ≡ says.same_kind one other }
 {
     match (one, other) {
-        (StringKind::Bytes, StringKind::Bytes) | (StringKind::Text, StringKind::Text) => true,
+        (StringKind::OfBytes, StringKind::OfBytes) | (StringKind::OfText, StringKind::OfText) =>
+            true,
         _ => false,
     }
 }
@@ -63,7 +55,7 @@ fn may_join(kind: StringKind, next: StringKind) -> bool
     ensures { result ≡ says.may_join kind next }
 {
     match (kind, next) {
-        (StringKind::Bytes, StringKind::Text) => false,
+        (StringKind::OfBytes, StringKind::OfText) => false,
         _ => true,
     }
 }
@@ -137,8 +129,8 @@ fn is_good(kind: StringKind, content: &[u8]) -> bool
     ensures { result ≡ says.is_good kind content.now }
 {
     match kind {
-        StringKind::Bytes => true,
-        StringKind::Text => simdutf8::is_utf8(content),
+        StringKind::OfBytes => true,
+        StringKind::OfText => simdutf8::is_utf8(content),
     }
 }
 

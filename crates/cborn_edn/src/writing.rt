@@ -1,124 +1,62 @@
-//! The fixed notation of a node, appended to a buffer.
+//! Parts of the fixed notation, appended to a buffer.
 
-ghost use Rattle.std.specs.Prelude.{◌≡◌, ◌++◌, map, suc, true, OnOk, codes, decimal};
+ghost use Rattle.std.specs.Prelude.{◌≡◌, ◌≤◌, ◌++◌, ◌∷◌, ℕ, suc, true, length, OnOk, codes, decimal};
 ghost use Rattle.std.specs.List.{flat_map};
-ghost use Rattle.cborn_edn.specs.declared.strings.StringKind.TheVariants.{Bytes as OfBytes, Text as OfText};
+ghost use Rattle.hex.specs.Hex.{encode_lower};
+ghost use Rattle.cborn_model.specs.Partial.{integer_tree};
 ghost use Rattle.cborn_edn.specs.Shown as pure;
-ghost use Rattle.cborn_edn.specs.shared.Between.{between, shown_pair};
-ghost use Rattle.cborn_edn.specs.Shown.{mark_for, mark_for_size};
+ghost use Rattle.cborn_edn.specs.Shown.{mark_for};
 ghost use Rattle.cborn_edn.specs.devices.Escaping.{is_escaped};
+ghost use Rattle.cborn_edn.specs.devices.Notating.{quote, content, string_end, size_text};
 
-use cborn_model::{ByteString, Chunk, Form, Node, Size, Width, shortest};
+use cborn_model::{Size, StringKind, Width, shortest};
 use itoa::Buffer;
-use std::alloc::{AllocError, Global};
+use std::alloc::AllocError;
 
-/// Appends the text of a node.
-#[cycle(push_node)]
-pub(crate) fn push_node(alloc: Global, out: &mut Vec<u8>, node: &Node) -> Result<(), AllocError>
-    ensures { OnOk result (out.new.items ≡ out.old.items ++ pure.shown node.now) }
+/// Appends an integer, and its indicator if its head isn't the shortest.
+#[inline(always)]
+pub(crate) fn push_integer(
+    negative: bool,
+    width: Width,
+    n: u64,
+    out: &mut Vec<u8>,
+) -> Result<(), AllocError>
+    ensures { OnOk result ((place : ℕ) → out.new.items ≡ out.old.items ++ pure.shown (integer_tree place negative width n)) }
 {
-    match &node.form {
-        Form::Uint(width, n) => push_number(out, *width, *n),
-        Form::Nint(width, n) => push_below(out, *width, *n),
-        Form::Bytes(width, bytes) => push_bytes(alloc, out, *width, bytes),
-        Form::Text(width, bytes) => push_text(alloc, out, *width, bytes),
-        Form::ByteChunks(chunks) => push_byte_chunks(alloc, out, chunks),
-        Form::TextChunks(chunks) => push_text_chunks(alloc, out, chunks),
-        Form::Items(size, items) => {
-            out.push(b'[')?;
-            push_size(out, *size, items.len() as u64)?;
-            push_items(alloc, out, items)?;
-            out.push(b']')?;
-            Ok(())
-        }
-        Form::Pairs(size, pairs) => {
-            out.push(b'{')?;
-            push_size(out, *size, pairs.len() as u64)?;
-            push_pairs(alloc, out, pairs)?;
-            out.push(b'}')?;
-            Ok(())
-        }
-        Form::Tagged(width, n, item) => {
-            push_number(out, *width, *n)?;
-            out.push(b'(')?;
-            push_node(alloc, out, item)?;
-            out.push(b')')?;
-            Ok(())
-        }
-        Form::Simple(n) => push_simple(out, *n),
+    if negative {
+        out.extend_from_slice(b"-")?;
+        push_successor(n, out)?;
+    } else {
+        push_decimal(n, out)?;
     }
-}
-
-/// Appends the items of an array.
-#[cycle(push_node)]
-fn push_items(alloc: Global, out: &mut Vec<u8>, items: &[Node]) -> Result<(), AllocError>
-    ensures { OnOk result (out.new.items ≡ out.old.items ++ pure.joined_by (codes ", ") (map pure.shown items.now)) }
-{
-    for (i, item) in items.iter().enumerate() {
-        push_between(out, i, b", ")?;
-        push_node(alloc, out, item)?;
-    }
-    Ok(())
-}
-
-/// Appends the pairs of a map.
-#[cycle(push_node)]
-fn push_pairs(alloc: Global, out: &mut Vec<u8>, pairs: &[(Node, Node)]) -> Result<(), AllocError>
-    ensures { OnOk result (out.new.items ≡ out.old.items ++ pure.joined_by (codes ", ") (map shown_pair pairs.now)) }
-{
-    for (i, (key, value)) in pairs.iter().enumerate() {
-        push_between(out, i, b", ")?;
-        push_node(alloc, out, key)?;
-        out.extend_from_slice(b": ")?;
-        push_node(alloc, out, value)?;
-    }
-    Ok(())
-}
-
-/// Appends `separator` before the item with the index `i`, but before the first nothing.
-///
-/// # Errors
-/// `AllocError` if memory was refused.
-pub fn push_between(out: &mut Vec<u8>, i: usize, separator: &[u8]) -> Result<(), AllocError>
-    ensures { OnOk result (out.new.items ≡ out.old.items ++ between separator.now i) }
-{
-    if i > 0 {
-        out.extend_from_slice(separator)?;
-    }
-    Ok(())
-}
-
-/// Appends a number, and its indicator if its head isn't the shortest.
-fn push_number(out: &mut Vec<u8>, width: Width, n: u64) -> Result<(), AllocError>
-    ensures { OnOk result (out.new.items ≡ out.old.items ++ (decimal n ++ pure.indicator (mark_for width n))) }
-{
-    push_decimal(out, n as u128)?;
-    push_indicator(out, width, n)
-}
-
-/// Appends -1-n, and its indicator if its head isn't the shortest.
-fn push_below(out: &mut Vec<u8>, width: Width, n: u64) -> Result<(), AllocError>
-    ensures { OnOk result (out.new.items ≡ out.old.items ++ (codes "-" ++ (decimal (suc n) ++ pure.indicator (mark_for width n)))) }
-{
-    out.push(b'-')?;
-    push_decimal(out, n as u128 + 1)?;
-    push_indicator(out, width, n)
+    push_indicator(width, n, out)
 }
 
 /// Appends a number in decimal.
-fn push_decimal(out: &mut Vec<u8>, n: u128) -> Result<(), AllocError>
+#[inline]
+fn push_decimal(n: u64, out: &mut Vec<u8>) -> Result<(), AllocError>
     ensures { OnOk result (out.new.items ≡ out.old.items ++ decimal n) }
 {
     let mut buffer = Buffer::new();
     out.extend_from_slice(buffer.format(n).as_bytes())
 }
 
+/// Appends the number after `n` in decimal.
+#[inline]
+fn push_successor(n: u64, out: &mut Vec<u8>) -> Result<(), AllocError>
+    ensures { OnOk result (out.new.items ≡ out.old.items ++ decimal (suc n)) }
+{
+    if n < u64::MAX {
+        return push_decimal(n + 1, out);
+    }
+    let mut buffer = Buffer::new();
+    out.extend_from_slice(buffer.format(n as u128 + 1).as_bytes())
+}
+
 /// Appends the indicator of a head with the argument `n` (RFC 8949 section 8.1), but nothing if
 /// `width` is the shortest.
-///
-/// # Errors
-/// `AllocError` if memory was refused.
-pub fn push_indicator(out: &mut Vec<u8>, width: Width, n: u64) -> Result<(), AllocError>
+#[inline(always)]
+fn push_indicator(width: Width, n: u64, out: &mut Vec<u8>) -> Result<(), AllocError>
     ensures { OnOk result (out.new.items ≡ out.old.items ++ pure.indicator (mark_for width n)) }
 {
     if width == shortest(n) {
@@ -133,29 +71,42 @@ pub fn push_indicator(out: &mut Vec<u8>, width: Width, n: u64) -> Result<(), All
     }
 }
 
-/// Appends the indicator of an array or a map of `n` items or pairs, and a space after it, if it
-/// has one.
-fn push_size(out: &mut Vec<u8>, size: Size, n: u64) -> Result<(), AllocError>
-    ensures { OnOk result (out.new.items ≡ out.old.items ++ pure.opened (mark_for_size size n)) }
+/// Appends a tag's number, its indicator if its head isn't the shortest, and a parenthesis.
+pub(crate) fn push_tag(width: Width, n: u64, out: &mut Vec<u8>) -> Result<(), AllocError>
+    ensures { OnOk result (out.new.items ≡ out.old.items ++ (decimal n ++ (pure.indicator (mark_for width n) ++ codes "("))) }
 {
+    push_decimal(n, out)?;
+    push_indicator(width, n, out)?;
+    out.extend_from_slice(b"(")
+}
+
+/// Appends the opening bracket of an array or a map of `count` items or pairs, its indicator, and a
+/// space after it, if it has one.
+pub(crate) fn push_bracket(
+    bracket: u8,
+    size: Size,
+    count: Option<u64>,
+    out: &mut Vec<u8>,
+) -> Result<(), AllocError>
+    ensures { OnOk result (out.new.items ≡ out.old.items ++ (bracket ∷ size_text size count)) }
+{
+    out.extend_from_slice(&[bracket])?;
+    let count = count.unwrap_or(0);
     match size {
         Size::Endless => out.extend_from_slice(b"_ "),
         Size::Fixed(width) => {
-            if width != shortest(n) {
-                push_indicator(out, width, n)?;
-                out.push(b' ')?;
+            if width == shortest(count) {
+                return Ok(());
             }
-            Ok(())
+            push_indicator(width, count, out)?;
+            out.extend_from_slice(b" ")
         }
     }
 }
 
 /// Appends a simple value: `false`, `true`, `null`, `undefined`, or its number in `simple(..)` (RFC
 /// 8949 sections 3.3 and 8).
-///
-/// # Errors
-/// `AllocError` if memory was refused.
-pub fn push_simple(out: &mut Vec<u8>, n: u8) -> Result<(), AllocError>
+pub(crate) fn push_simple(n: u8, out: &mut Vec<u8>) -> Result<(), AllocError>
     ensures { OnOk result (out.new.items ≡ out.old.items ++ pure.shown_simple n) }
 {
     match n {
@@ -165,58 +116,92 @@ pub fn push_simple(out: &mut Vec<u8>, n: u8) -> Result<(), AllocError>
         23 => out.extend_from_slice(b"undefined"),
         _ => {
             out.extend_from_slice(b"simple(")?;
-            push_decimal(out, n as u128)?;
-            out.push(b')')?;
-            Ok(())
+            push_decimal(n as u64, out)?;
+            out.extend_from_slice(b")")
         }
     }
 }
 
-/// Appends a byte string or a chunk of one, in hexadecimal.
-fn push_bytes(
-    alloc: Global,
-    out: &mut Vec<u8>,
-    width: Width,
-    bytes: &ByteString,
-) -> Result<(), AllocError>
-    ensures { OnOk result (out.new.items ≡ out.old.items ++ pure.shown_string OfBytes width bytes.now) }
+/// Appends what precedes the content of a string of this kind.
+#[inline(always)]
+pub(crate) fn push_quote(kind: StringKind, out: &mut Vec<u8>) -> Result<(), AllocError>
+    ensures { OnOk result (out.new.items ≡ out.old.items ++ quote kind) }
 {
-    let bytes = bytes.as_slice();
-    let digits = hex::encode(alloc, bytes)?;
-    out.extend_from_slice(b"h'")?;
-    out.extend_from_slice(digits.as_bytes())?;
-    out.push(b'\'')?;
-    push_indicator(out, width, bytes.len() as u64)
+    match kind {
+        StringKind::OfBytes => out.extend_from_slice(b"h'"),
+        StringKind::OfText => out.extend_from_slice(b"\""),
+    }
 }
 
-/// Appends a text string or a chunk of one, in double quotes.
-fn push_text(
-    alloc: Global,
+/// Appends bytes of a string of this kind: in hexadecimal, or with escapes.
+pub(crate) fn push_content(
+    kind: StringKind,
+    bytes: &[u8],
     out: &mut Vec<u8>,
-    width: Width,
-    bytes: &ByteString,
 ) -> Result<(), AllocError>
-    ensures { OnOk result (out.new.items ≡ out.old.items ++ pure.shown_string OfText width bytes.now) }
+    ensures { OnOk result (out.new.items ≡ out.old.items ++ content kind bytes.now) }
 {
-    let bytes = bytes.as_slice();
-    out.push(b'"')?;
-    push_escaped(alloc, out, bytes)?;
-    out.push(b'"')?;
-    push_indicator(out, width, bytes.len() as u64)
+    match kind {
+        StringKind::OfBytes => push_hex(bytes, out),
+        StringKind::OfText => push_escaped(bytes, out),
+    }
+}
+
+/// Appends what follows the content of a string of `len` bytes: the quote, and the indicator if its
+/// head isn't the shortest.
+#[inline(always)]
+pub(crate) fn push_string_end(
+    kind: StringKind,
+    width: Width,
+    len: u64,
+    out: &mut Vec<u8>,
+) -> Result<(), AllocError>
+    ensures { OnOk result (out.new.items ≡ out.old.items ++ string_end kind width len) }
+{
+    match kind {
+        StringKind::OfBytes => out.extend_from_slice(b"'")?,
+        StringKind::OfText => out.extend_from_slice(b"\"")?,
+    };
+    push_indicator(width, len, out)
+}
+
+/// How many bytes are written in hexadecimal at a time.
+const HEX_BYTES: usize = 32;
+
+/// Appends bytes in hexadecimal.
+fn push_hex(bytes: &[u8], out: &mut Vec<u8>) -> Result<(), AllocError>
+    ensures { OnOk result (out.new.items ≡ out.old.items ++ encode_lower bytes.now) }
+{
+    let mut rest = bytes;
+    while rest.len() > HEX_BYTES {
+        push_some_hex(&rest[..HEX_BYTES], out)?;
+        rest = &rest[HEX_BYTES..];
+    }
+    push_some_hex(rest, out)
+}
+
+/// Appends at most `HEX_BYTES` bytes in hexadecimal.
+fn push_some_hex(bytes: &[u8], out: &mut Vec<u8>) -> Result<(), AllocError>
+    requires { length bytes.now ≤ 32 }
+    ensures { OnOk result (out.new.items ≡ out.old.items ++ encode_lower bytes.now) }
+{
+    let mut digits = [0; 2 * HEX_BYTES];
+    let digits = &mut digits[..2 * bytes.len()];
+    let Ok(()) = hex::encode_to_slice(bytes, digits) else {
+        unreachable!();
+    };
+    out.extend_from_slice(digits)
 }
 
 /// Appends `text` with escapes for quotes, backslashes and control characters (RFC 8259 section 7).
-///
-/// # Errors
-/// `AllocError` if memory was refused.
-pub fn push_escaped(alloc: Global, out: &mut Vec<u8>, text: &[u8]) -> Result<(), AllocError>
+fn push_escaped(text: &[u8], out: &mut Vec<u8>) -> Result<(), AllocError>
     ensures { OnOk result (out.new.items ≡ out.old.items ++ flat_map pure.escaped text.now) }
 {
     let mut from = 0;
     for (i, b) in text.iter().enumerate() {
         if is_escaped(*b) {
             out.extend_from_slice(&text[from..i])?;
-            push_escape(alloc, out, *b)?;
+            push_escape(*b, out)?;
             from = i + 1;
         }
     }
@@ -231,7 +216,7 @@ fn is_escaped(b: u8) -> bool
 }
 
 /// Appends the escape of the byte `b`.
-fn push_escape(alloc: Global, out: &mut Vec<u8>, b: u8) -> Result<(), AllocError>
+fn push_escape(b: u8, out: &mut Vec<u8>) -> Result<(), AllocError>
     requires { is_escaped b ≡ true }
     ensures { OnOk result (out.new.items ≡ out.old.items ++ pure.escaped b) }
 {
@@ -244,41 +229,8 @@ fn push_escape(alloc: Global, out: &mut Vec<u8>, b: u8) -> Result<(), AllocError
         b'\r' => out.extend_from_slice(b"\\r"),
         b'\t' => out.extend_from_slice(b"\\t"),
         _ => {
-            let digits = hex::encode(alloc, &[b])?;
             out.extend_from_slice(b"\\u00")?;
-            out.extend_from_slice(digits.as_bytes())
+            push_hex(&[b], out)
         }
     }
-}
-
-/// Appends a byte string in chunks.
-fn push_byte_chunks(alloc: Global, out: &mut Vec<u8>, chunks: &[Chunk]) -> Result<(), AllocError>
-    ensures { OnOk result (out.new.items ≡ out.old.items ++ pure.shown_chunks OfBytes chunks.now) }
-{
-    if chunks.is_empty() {
-        return out.extend_from_slice(b"''_");
-    }
-    out.extend_from_slice(b"(_ ")?;
-    for (i, chunk) in chunks.iter().enumerate() {
-        push_between(out, i, b", ")?;
-        push_bytes(alloc, out, chunk.width, &chunk.bytes)?;
-    }
-    out.push(b')')?;
-    Ok(())
-}
-
-/// Appends a text string in chunks.
-fn push_text_chunks(alloc: Global, out: &mut Vec<u8>, chunks: &[Chunk]) -> Result<(), AllocError>
-    ensures { OnOk result (out.new.items ≡ out.old.items ++ pure.shown_chunks OfText chunks.now) }
-{
-    if chunks.is_empty() {
-        return out.extend_from_slice(b"\"\"_");
-    }
-    out.extend_from_slice(b"(_ ")?;
-    for (i, chunk) in chunks.iter().enumerate() {
-        push_between(out, i, b", ")?;
-        push_text(alloc, out, chunk.width, &chunk.bytes)?;
-    }
-    out.push(b')')?;
-    Ok(())
 }

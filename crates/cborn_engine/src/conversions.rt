@@ -16,8 +16,8 @@ use crate::encodings::read_encoded;
 use crate::faults::EngineFault;
 use crate::kinds::Kind;
 use crate::showings::read_shown;
+use cborn_edn::{Notated, show_bytes};
 use cborn_model::{KeyOrder, Limit};
-use cborn_show::{Notated, show_bytes};
 use cborn_streams::{Sink, Source, write_answer};
 use std::alloc::{AllocError, Global};
 
@@ -97,7 +97,7 @@ fn written_as(
     }
 }
 
-/// Bytes that hold items, in notation, in one pass that keeps no tree. They have one: such bytes are
+/// Bytes that hold items, in notation. They have one: such bytes are
 /// well-formed, and their text strings are UTF-8.
 ///
 /// # Errors
@@ -108,6 +108,7 @@ pub fn fixed_text(alloc: Global, limit: Limit, bytes: &[u8]) -> Result<Vec<u8>, 
 {
     match show_bytes(alloc, limit, bytes)? {
         Notated::Text(text) => Ok(text),
-        Notated::Malformed | Notated::Unshowable => unreachable!(),
+        Notated::Malformed { .. } => unreachable!(),
+        Notated::NotUtf8 { .. } => unreachable!(),
     }
 }

@@ -12,7 +12,7 @@
 //! [`laws`] has the headline in one place. In the code `texts` makes texts and bytes of what was
 //! read, `nodes` makes nodes and `inputs` hands them out. `encodings` encodes a whole input,
 //! `showings` writes it in another form, and `checks` judges it, by passes that keep no tree
-//! (`cborn_transcode`, `cborn_departures`, `cborn_edn`, `cborn_show`); `refusals` finds out why an
+//! (`cborn_transcode`, `cborn_departures`, `cborn_edn`); `refusals` finds out why an
 //! input is refused, where these passes have no answer.
 //! `conversions` and `comparisons` are the calls over readers, `slices` those over inputs that are
 //! held whole; `differences` finds where two encodings differ.

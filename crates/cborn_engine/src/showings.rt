@@ -1,13 +1,11 @@
 //! Reading a whole input, and writing what it holds in another form. Bytes that are to stay bytes
-//! are what their nodes spell, once it is known that they are well-formed. Else they become
-//! notation by a pass that keeps no tree. Where they have no notation, the reason is looked for,
-//! without a tree too. A text becomes bytes first, by such a pass.
+//! are what their nodes spell, once it is known that they are well-formed. Else they are read head
+//! by head, and become notation on the way. A text becomes bytes first.
 ghost use Rattle.std.specs.Prelude.{◌≡◌, ◌≢◌, ◌≤◌, ◌+◌, ℕ, List, length, Err, IsTrue, IsFalse, IsUtf8};
 ghost use Rattle.cborn_lex.specs.declared.classes.Profile.{Profile as ProfileSpec};
 ghost use Rattle.cborn_edn.specs.Spelling.{IsSpelling};
 ghost use Rattle.cborn_wire.specs.declared.faults.WireReason.{WireReason};
 ghost use Rattle.cborn_wire.specs.Faults.{Fault, IsWellformed};
-ghost use Rattle.cborn_show.specs.Passed.{HasNoNotation};
 ghost use Rattle.cborn_engine.specs.declared.kinds.Kind.TheVariants as kinds;
 ghost use Rattle.cborn_engine.specs.devices.Encoding.{kind_of};
 ghost use Rattle.cborn_engine.specs.devices.Reading.{Reads};
@@ -21,13 +19,11 @@ use crate::inputs::MOST;
 use crate::kinds::{Kind, profile_of};
 use crate::refusals::{fault_of_bytes, fault_or_refusal};
 use crate::texts::{HeadWidths, bytes_of_text};
-use cborn_edn::ShowFault;
-use cborn_flaws::{TextValidity, first_bad_text};
+use cborn_edn::{Notated, ShowFault, show_bytes};
 use cborn_lex::Profile;
 use cborn_model::Limit;
-use cborn_show::{Notated, show_bytes};
 use cborn_streams::{Source, read_bytes};
-use cborn_wire::scan;
+use cborn_wire::{WireFault, scan};
 use std::alloc::Global;
 
 /// The items of the whole input as they are spelled, in a form of this kind. Bytes that are to stay
@@ -146,27 +142,16 @@ fn notate_bytes(
     ensures malformed { TellsFault kinds.Wire limit input.now result }
     ensures failures { (n : ℕ) → read_failures result n ≡ n }
 {
-    match show_bytes(alloc, limit, input) {
-        Ok(Notated::Text(answer)) => Ok(answer),
-        Ok(Notated::Malformed) => Err(fault_of_bytes(limit, input)),
-        Ok(Notated::Unshowable) => Err(why_unshown(limit, out_kind, input)),
-        Err(refused) => Err(fault_or_refusal(limit, input, refused)),
-    }
-}
-
-/// Why bytes have no notation: the first text string that isn't UTF-8, or the fault of bytes that
-/// aren't well-formed.
-fn why_unshown(limit: Limit, out_kind: Kind, input: &[u8]) -> EngineFault
-    requires notation { out_kind ≢ kinds.Wire }
-    requires none { HasNoNotation limit input.now }
-    ensures answers { length input.now ≤ most_bytes → TellAnswers kinds.Wire out_kind limit most_bytes input.now (Err result) }
-    ensures malformed { TellsFault {A = Unit {0}} kinds.Wire limit input.now (Err result) }
-    ensures failures { (n : ℕ) → read_failures_at result n ≡ n }
-{
-    match first_bad_text(limit, input) {
-        TextValidity::Valid => unreachable!(),
-        TextValidity::NotUtf8 { place } => EngineFault::Show(ShowFault::NotUtf8 { place }),
-        TextValidity::Malformed => fault_of_bytes(limit, input),
+    let notated = match show_bytes(alloc, limit, input) {
+        Ok(notated) => notated,
+        Err(refused) => return Err(fault_or_refusal(limit, input, refused)),
+    };
+    match notated {
+        Notated::Text(answer) => Ok(answer),
+        Notated::Malformed { place, reason } => {
+            Err(EngineFault::Wire(WireFault::Refused { place, reason }))
+        }
+        Notated::NotUtf8 { place } => Err(EngineFault::Show(ShowFault::NotUtf8 { place })),
     }
 }
 
@@ -220,7 +205,8 @@ fn tell_spelling(
         Kind::Wire => Ok(bytes),
         Kind::Notation | Kind::Notation2 => match show_bytes(alloc, limit, &bytes)? {
             Notated::Text(answer) => Ok(answer),
-            Notated::Malformed | Notated::Unshowable => unreachable!(),
+            Notated::Malformed { .. } => unreachable!(),
+            Notated::NotUtf8 { .. } => unreachable!(),
         },
     }
 }

@@ -67,6 +67,8 @@ impl Visitor for PartPlaces {
 
     ghost takes_memory = { Unit {0} };
 
+    ghost takes_uncounted = { Unit {0} };
+
     fn integer(
         &mut self,
         place: u64,

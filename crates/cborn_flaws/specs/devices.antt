@@ -1,4 +1,3 @@
 pub mod Ending
 pub mod Marks
 pub mod Rising
-pub mod Texts

@@ -5,12 +5,11 @@
 //! those of keys with a flaw more than once. Of the keys of the maps that are open it keeps where they
 //! are, and the encodings of those that aren't their own encodings. A key is encoded before it is
 //! searched, since one that has an encoding has no flaw. Only a key that has none is searched, with all
-//! that it holds. [`first_bad_text`] looks only for text strings that aren't UTF-8, and keeps nothing.
+//! that it holds.
 //!
 //! A reader of the definitions starts at `specs/Searching.antt`.
 #![tactic(auto)]
 
-mod bad_texts;
 mod finding;
 mod flaws;
 mod keys;
@@ -18,5 +17,4 @@ mod leaves;
 mod searched_maps;
 mod sequences;
 
-pub use bad_texts::{TextValidity, first_bad_text};
 pub use sequences::{Validity, first_flaw};

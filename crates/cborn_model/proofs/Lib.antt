@@ -6,3 +6,4 @@ pub mod Firsts
 pub mod Found
 pub mod Reasons
 pub mod Lengths
+pub mod HandedOver

@@ -2,3 +2,4 @@ pub mod TreeFalls
 pub mod ValueCode
 pub mod ItemFalls
 pub mod Pairs
+pub mod Walks

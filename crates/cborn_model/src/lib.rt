@@ -50,6 +50,7 @@ mod spellings;
 mod strings;
 mod validity;
 mod visitors;
+mod walks;
 
 pub use comparisons::same;
 pub use defects::{Defect, DefectReason};
@@ -66,3 +67,4 @@ pub use spellings::{Spelled, depth, fits};
 pub use strings::ByteString;
 pub use validity::{Valid, is_valid};
 pub use visitors::{StringKind, Visitor};
+pub use walks::visit_node;

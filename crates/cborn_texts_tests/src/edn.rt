@@ -1,10 +1,10 @@
 //! A text is read to its nodes, and nodes are shown, in each form. By their contracts these calls
 //! could always answer out of memory. Which answer is right is a clause.
 
-use cborn_edn::{EdnFault, EdnReason, read_notation, show};
+use cborn_edn::{EdnFault, EdnReason, Notated, read_notation, show, show_bytes};
 use cborn_lex::Profile;
 use cborn_model::Limit;
-use cborn_wire::{read_all, spell_all};
+use cborn_wire::{WireReason, read_all, spell_all};
 use std::alloc::{AllocError, Global};
 use std::test::Fail;
 
@@ -156,5 +156,33 @@ fn shows_each_form(rt: HostRuntime) -> Result<(), Fail> {
     let back = read_notation(rt.alloc(), Limit::USUAL, Profile::One, SHOWN)?;
     let bytes = spell_all(rt.alloc(), &back)?;
     assert_eq!(rt; bytes.as_slice(), BYTES);
+    Ok(())
+}
+
+/// Catches bytes that are shown in another way than their nodes.
+#[test]
+fn shows_bytes_as_their_nodes(rt: HostRuntime) -> Result<(), Fail> {
+    match show_bytes(rt.alloc(), Limit::USUAL, BYTES)? {
+        Notated::Text(text) => assert_eq!(rt; text.as_slice(), SHOWN.as_bytes()),
+        _ => assert!(rt; false),
+    }
+    Ok(())
+}
+
+/// Catches a fault of bytes that a text which isn't UTF-8 hides, and a later such text.
+#[test]
+fn tells_why_bytes_have_no_text(rt: HostRuntime) -> Result<(), Fail> {
+    // a text of one byte that isn't UTF-8, in an array and by itself, and then 0x1c
+    match show_bytes(rt.alloc(), Limit::USUAL, b"\x81\x61\xff\x61\xff\x1c")? {
+        Notated::Malformed { place, reason } => {
+            assert_eq!(rt; place, 5);
+            assert!(rt; reason == WireReason::ReservedInfo);
+        }
+        _ => assert!(rt; false),
+    }
+    match show_bytes(rt.alloc(), Limit::USUAL, b"\x81\x61\xff\x61\xff\x01")? {
+        Notated::NotUtf8 { place } => assert_eq!(rt; place, 1),
+        _ => assert!(rt; false),
+    }
     Ok(())
 }

@@ -41,6 +41,7 @@ mod readers;
 mod refusals;
 mod scanning;
 mod spelling;
+mod visits;
 mod walks;
 
 pub use faults::{WireFault, WireReason};
@@ -52,4 +53,5 @@ pub use levels::{GrownLevels, Level, LevelKind, Levels};
 pub use readers::{read_all, read_one};
 pub use scanning::{Nothing, scan};
 pub use spelling::{spell, spell_all};
+pub use visits::visit;
 pub use walks::{after_break, is_done, last};

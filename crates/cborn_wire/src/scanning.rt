@@ -7,7 +7,8 @@ ghost use Rattle.cborn_model.specs.Placed.{PlacedAll};
 ghost use Rattle.cborn_wire.specs.Faults.{Fault};
 
 use crate::levels::LevelTable;
-use crate::{HeadReader, Until, WireFault, WireReason};
+use crate::visits::visit_in;
+use crate::{WireFault, WireReason};
 use cborn_model::{Limit, Size, StringKind, Visitor, Width};
 use std::alloc::AllocError;
 
@@ -19,6 +20,8 @@ impl Visitor for Nothing {
     ghost holds = { λ v f c. Unit {0} };
 
     ghost takes_memory = { ⊥ };
+
+    ghost takes_uncounted = { Unit {0} };
 
     fn integer(
         &mut self,
@@ -102,14 +105,9 @@ fn scan_with<const MOST: usize>(limit: Limit, bytes: &[u8]) -> Option<(u64, Wire
     requires most { MOST ≤ 1026 }
     ensures { MatchOption result ((ts : Trees) × Wellformed limit ts bytes.now × PlacedAll 0 ts) (λ f. Fault limit bytes.now f.0 f.1) }
 {
-    let mut levels = LevelTable::<MOST>::new();
-    let mut reader = HeadReader::new(limit, 0);
-    match reader.read(&mut levels, &mut Nothing, bytes, Until::End) {
-        Ok(_) if reader.is_whole(&levels) => None,
-        Ok(_) => Some((bytes.len() as u64, WireReason::Truncated)),
-        Err(fault) => match fault {
-            WireFault::Refused { place, reason } => Some((place, reason)),
-            WireFault::OutOfMemory => unreachable!(),
-        },
+    match visit_in(&mut LevelTable::<MOST>::new(), limit, bytes, &mut Nothing) {
+        Ok(()) => None,
+        Err(WireFault::Refused { place, reason }) => Some((place, reason)),
+        Err(WireFault::OutOfMemory) => unreachable!(),
     }
 }

@@ -5,7 +5,7 @@ use Rattle.cborn_model.specs.Tree.{Trees, no_item as no_node, more, Entries, no_
 use Rattle.cborn_lex.specs.declared.classes.Class.TheVariants.{Comma, Colon}
 use Rattle.cborn_lex.specs.declared.classes.Token.{Token}
 use Rattle.cborn_edn.specs.devices.Syntax.{Item, StringsBefore, strings, after_strings, RowBefore, row, after_row, PairsBefore, pairs, after_pairs, token, tokens_of, tokens_of_pieces, tokens_of_strings, tokens_of_strings_before, tokens_of_row, tokens_of_row_before, tokens_of_pairs, tokens_of_pairs_before}
-use Rattle.cborn_edn.specs.declared.strings.StringKind.{StringKind}
+use Rattle.cborn_model.specs.declared.visitors.StringKind.{StringKind}
 use Rattle.cborn_edn.specs.ReadingBack.{nowhere, chunk_pieces, chunk_row, notated, notated_row, notated_pairs}
 
 abbrev comma : Token

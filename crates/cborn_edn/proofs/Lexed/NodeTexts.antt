@@ -12,8 +12,8 @@ use Rattle.cborn_lex.specs.declared.classes.Class.TheVariants.{ArrayOpen, ArrayC
 use Rattle.cborn_lex.specs.declared.classes.Token.{Token}
 use Rattle.cborn_lex.specs.Tokens.{begins}
 use Rattle.cborn_edn.specs.devices.Syntax.{no_string, no_item, no_pair, token, tokens_of, tokens_of_pieces, tokens_of_strings, tokens_of_content, tokens_of_fields, tokens_of_input}
-use Rattle.cborn_edn.specs.declared.strings.StringKind.{StringKind}
-use Rattle.cborn_edn.specs.declared.strings.StringKind.TheVariants.{Bytes as OfBytes, Text as OfText}
+use Rattle.cborn_model.specs.declared.visitors.StringKind.{StringKind}
+use Rattle.cborn_model.specs.declared.visitors.StringKind.TheVariants.{OfBytes, OfText}
 use Rattle.cborn_edn.specs.ReadingBack.{nowhere, chunk_pieces, chunk_row, chunk_item, notated, notated_content, notated_fields, notated_input}
 use Rattle.cborn_edn.specs.shared.Between.{others}
 use Rattle.cborn_edn.specs.Shown.{mark_for, mark_for_size, indicator, opened, shown_string, shown_chunk, joined_by, shown_chunks, shown, item_texts, pair_texts, shown_lines}

@@ -22,8 +22,8 @@ use Rattle.cborn_wire.proofs.Spelled.AllBytes.{head_bytes}
 use Rattle.cborn_lex.specs.declared.classes.Mark.{Mark}
 use Rattle.cborn_lex.specs.declared.classes.Mark.TheVariants.{Absent, Endless, Wide}
 use Rattle.cborn_edn.specs.declared.faults.EdnReason.TheVariants.{IndicatorNotAllowed}
-use Rattle.cborn_edn.specs.declared.strings.StringKind.{StringKind}
-use Rattle.cborn_edn.specs.declared.strings.StringKind.TheVariants.{Bytes as OfBytes, Text as OfText}
+use Rattle.cborn_model.specs.declared.visitors.StringKind.{StringKind}
+use Rattle.cborn_model.specs.declared.visitors.StringKind.TheVariants.{OfBytes, OfText}
 use Rattle.cborn_edn.specs.Says.{width, size, is_absent, unless, width_errors, size_errors, is_below, argument_of, is_small, depth_of_number, integer, bignum, number_node, number_errors, is_endless, Str, chunked_node, string_node, said_string, mark_errors, string_errors}
 use Rattle.cborn_edn.proofs.Meaning.NoError.{no_left, width_fits, size_fits, mark_fits}
 use Rattle.cborn_edn.proofs.Reader.Modest.{least_bytes, width_bytes}

@@ -20,7 +20,7 @@ use Rattle.cborn_lex.specs.declared.classes.Profile.TheVariants.{Two}
 use Rattle.cborn_lex.proofs.WholeTexts.Weights.{weigh}
 use Rattle.cborn_edn.specs.declared.faults.EdnReason.TheVariants.{MixedChunks, BadSimple}
 use Rattle.cborn_edn.specs.declared.meaning_errors.MeaningError.{MeaningError}
-use Rattle.cborn_edn.specs.declared.strings.StringKind.{StringKind}
+use Rattle.cborn_model.specs.declared.visitors.StringKind.{StringKind}
 use Rattle.cborn_edn.specs.Says.{width, same_kind, is_below, tag_errors, is_simple, unless, Str, chunk, mark_errors, string_errors}
 use Rattle.cborn_edn.specs.Grammar.{token, IsItem, number, word, simple, tag, array, map, string, chunked, IsPiece, text_piece, byte_piece, embedded, ArePieces, piece, also, AreChunks, first, next, AreItems, last, before, IsContent, empty, tight, loose, ArePairs, last_pair, pair_before, IsFields, no_fields, tight_fields, loose_fields, IsText, nothing, items}
 use Rattle.cborn_edn.specs.devices.Modest.{AreModest}

@@ -11,8 +11,8 @@ use Rattle.cborn_model.specs.Heads.{code}
 use Rattle.cborn_model.specs.Spelled.{spelled, chunk_bytes}
 use Rattle.cborn_lex.specs.declared.classes.Mark.{Mark}
 use Rattle.cborn_edn.specs.declared.meaning_errors.MeaningError.{MeaningError}
-use Rattle.cborn_edn.specs.declared.strings.StringKind.{StringKind}
-use Rattle.cborn_edn.specs.declared.strings.StringKind.TheVariants.{Bytes as OfBytes, Text as OfText}
+use Rattle.cborn_model.specs.declared.visitors.StringKind.{StringKind}
+use Rattle.cborn_model.specs.declared.visitors.StringKind.TheVariants.{OfBytes, OfText}
 use Rattle.cborn_edn.specs.Says.{Str, is_nil, chunk, same_kind, unless, said_string, chunked_node, string_errors, chunk_errors, piece_errors}
 use Rattle.cborn_edn.specs.declared.faults.EdnReason.TheVariants.{MixedChunks}
 use Rattle.cborn_edn.specs.devices.MeaningErrors.{first_error}

@@ -10,7 +10,7 @@ use Rattle.cborn_model.specs.Spelled.{ending, spelled_all, spelled_entries}
 use Rattle.cborn_lex.specs.declared.classes.Mark.{Mark}
 use Rattle.cborn_lex.specs.declared.classes.Mark.TheVariants.{Absent, Endless, Wide}
 use Rattle.cborn_edn.specs.declared.meaning_errors.MeaningError.{MeaningError}
-use Rattle.cborn_edn.specs.declared.strings.StringKind.TheVariants.{Bytes as OfBytes}
+use Rattle.cborn_model.specs.declared.visitors.StringKind.TheVariants.{OfBytes}
 use Rattle.cborn_edn.specs.Says.{width, size, size_errors, width_errors, is_endless, is_nil, Str, joined, piece_errors}
 use Rattle.cborn_edn.specs.devices.MeaningErrors.{first_error, earlier}
 use Rattle.cborn_edn.specs.devices.Syntax.{Span, Content, Fields, Pieces, embedded, array, map}

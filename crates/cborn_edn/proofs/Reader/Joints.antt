@@ -3,7 +3,7 @@ use Rattle.std.proofs.Math.Seq.{take-append_seam, drop-append-add}
 use Rattle.cborn_model.specs.declared.heads.Major.TheVariants.{ByteString}
 use Rattle.cborn_model.specs.Spelled.{spelled}
 use Rattle.cborn_model.specs.Heads.{least}
-use Rattle.cborn_edn.specs.declared.strings.StringKind.TheVariants.{Bytes as OfBytes, Text as OfText}
+use Rattle.cborn_model.specs.declared.visitors.StringKind.TheVariants.{OfBytes, OfText}
 use Rattle.cborn_lex.specs.declared.classes.Mark.{Mark}
 use Rattle.cborn_edn.specs.Says.{said_string, string_node, chunked_node}
 use Rattle.cborn_edn.specs.devices.Laid.{major_of}
@@ -18,7 +18,7 @@ use Rattle.cborn_model.specs.Heads.{code, head_bytes}
 use Rattle.cborn_model.specs.Spelled.{string}
 use Rattle.cborn_edn.specs.declared.meaning_errors.MeaningError.{MeaningError}
 use Rattle.cborn_edn.specs.declared.faults.EdnReason.TheVariants.{IndicatorNotAllowed, TextNotUtf8, MixedString, MixedChunks}
-use Rattle.cborn_edn.specs.declared.strings.StringKind.{StringKind}
+use Rattle.cborn_model.specs.declared.visitors.StringKind.{StringKind}
 use Rattle.cborn_edn.specs.Says.{width, unless, width_errors, is_absent, is_endless, is_good, may_join, same_kind, Str, joined, piece_errors, mark_errors, string_errors, chunk_errors}
 use Rattle.cborn_edn.specs.declared.states.Joint.{Joint}
 use Rattle.cborn_edn.specs.devices.MeaningErrors.{Notes}

@@ -7,7 +7,7 @@ use Rattle.cborn_lex.specs.declared.classes.Class.{Class}
 use Rattle.cborn_lex.specs.Kinds.{class_of, content_of}
 use Rattle.cborn_lex.specs.declared.classes.Class.TheVariants as classes
 use Rattle.cborn_model.specs.Bytes.{AreBytes}
-use Rattle.cborn_edn.specs.declared.strings.StringKind.TheVariants.{Bytes as OfBytes, Text as OfText}
+use Rattle.cborn_model.specs.declared.visitors.StringKind.TheVariants.{OfBytes, OfText}
 use Rattle.cborn_edn.specs.devices.Syntax.{Span, Item, Pieces, StringsBefore, string, no_item, after_row, no_pair, after_pairs}
 use Rattle.cborn_edn.proofs.Grammar.Machine.{Stack, in_row, in_key, in_value, in_tag, Home, as_item, as_chunk, State, wants, has, builds, wants_chunk, wants_number, has_number, step_by}
 use Rattle.cborn_edn.specs.declared.states.Here.{Here}

@@ -11,8 +11,8 @@ use Rattle.cborn_model.specs.Tree.{Tree, Uint, Nint, Bytes as ByteNode, ByteChun
 use Rattle.cborn_model.specs.Spelled.{ending, spelled, spelled_all, spelled_entries}
 use Rattle.cborn_lex.specs.declared.classes.Mark.{Mark}
 use Rattle.cborn_lex.specs.declared.classes.Mark.TheVariants.{Absent, Endless, Wide}
-use Rattle.cborn_edn.specs.declared.strings.StringKind.{StringKind}
-use Rattle.cborn_edn.specs.declared.strings.StringKind.TheVariants.{Bytes as OfBytes, Text as OfText}
+use Rattle.cborn_model.specs.declared.visitors.StringKind.{StringKind}
+use Rattle.cborn_model.specs.declared.visitors.StringKind.TheVariants.{OfBytes, OfText}
 use Rattle.cborn_edn.specs.Says.{width, size, is_below, is_small, argument_of, number_node, is_endless, Str, chunk, chunked_node, string_node, said_string}
 use Rattle.cborn_edn.specs.Shortened.{chunks_shortened, size_shortened, shortened, all_shortened, entries_shortened}
 use Rattle.cborn_edn.specs.devices.Said.{snoc, snoc_entry}

@@ -9,8 +9,8 @@ use Rattle.cborn_lex.specs.declared.classes.Token.{Token}
 use Rattle.cborn_lex.specs.declared.classes.Profile.{Profile}
 use Rattle.cborn_lex.specs.declared.classes.Profile.TheVariants.{One as ProfileOne, Two as ProfileTwo}
 use Rattle.cborn_edn.specs.declared.meaning_errors.MeaningError.{MeaningError}
-use Rattle.cborn_edn.specs.declared.strings.StringKind.{StringKind}
-use Rattle.cborn_edn.specs.declared.strings.StringKind.TheVariants.{Bytes as OfBytes}
+use Rattle.cborn_model.specs.declared.visitors.StringKind.{StringKind}
+use Rattle.cborn_model.specs.declared.visitors.StringKind.TheVariants.{OfBytes}
 use Rattle.cborn_edn.specs.devices.Syntax as tree
 use Rattle.cborn_edn.specs.devices.Syntax.{Span, token, Item, Piece, Pieces, Strings, Row, RowBefore, Content, Pairs, PairsBefore, Fields, Input, tokens_of, tokens_of_piece, tokens_of_pieces, tokens_of_strings, tokens_of_row, tokens_of_row_before, tokens_of_content, tokens_of_pairs, tokens_of_pairs_before, tokens_of_fields, tokens_of_input, depth, depth_of_piece, depth_of_pieces, depth_of_strings, depth_of_row, depth_of_row_before, depth_of_content, depth_of_pairs, depth_of_pairs_before, depth_of_fields, depth_of_input}
 use Rattle.cborn_edn.specs.devices.Commas.{AllowsCount, commas, commas_of_piece, commas_of_pieces, commas_of_strings, commas_of_row, commas_of_row_before, commas_of_content, commas_of_pairs, commas_of_pairs_before, commas_of_fields, commas_of_input}

@@ -1,8 +1,8 @@
 -- The text of the fixed notation is UTF-8.
-use Rattle.std.proofs.Common.{◌≡◌, refl, sym, ap, ◌∙◌, subst, ℕ, suc, ◌+◌, ◌^◌, ◌<◌, ◌≤◌, List, [], ◌∷◌, ◌++◌, map, length, get_or, take, Bool, true, false, ◌&&◌, ltb, eqb, cond, inl, inr, decimal, append-nil, arith}
+use Rattle.std.proofs.Common.{◌≡◌, refl, sym, ap, ◌∙◌, subst, ℕ, zero, suc, ◌+◌, ◌^◌, ◌<◌, ◌≤◌, List, [], ◌∷◌, ◌++◌, map, length, get_or, take, Bool, true, false, ◌&&◌, ltb, eqb, cond, inl, inr, decimal, append-nil, arith}
 use Rattle.std.proofs.lemmas.Bool.{and_parts, cond-false, le-ltb, ltb-true, ne_eqb, cases_lt}
-use Rattle.std.proofs.lemmas.List.{take_more, take_all}
-use Rattle.std.proofs.lemmas.Str.{IsUtf8-append, IsUtf8-nil, IsUtf8-encode, IsUtf8-from_ascii, IsUtf8-from_is_utf8, is_utf8-from_IsUtf8, inside_one, encode_ascii}
+use Rattle.std.proofs.lemmas.List.{take_more, take_all, length-append}
+use Rattle.std.proofs.lemmas.Str.{IsUtf8-append, IsUtf8-nil, IsUtf8-encode, IsUtf8-past_char, length-encode, len_utf8_bounds, IsUtf8-from_ascii, IsUtf8-from_is_utf8, is_utf8-from_IsUtf8, inside_one, encode_ascii}
 use Rattle.std.proofs.lemmas.Str.Ascii.{IsAscii-nil, IsAscii-cons}
 use Rattle.std.proofs.lemmas.Fmt.{IsAscii-decimal_wide}
 use Rattle.std.proofs.lemmas.Grind.{flat_map-append}
@@ -19,8 +19,8 @@ use Rattle.cborn_model.specs.Tree.{Tree, Uint, Nint, Bytes as ByteNode, Text as 
 use Rattle.cborn_model.specs.Spelled.{Fits, FitsAll, FitsEntries}
 use Rattle.cborn_lex.specs.declared.classes.Mark.{Mark}
 use Rattle.cborn_lex.specs.declared.classes.Mark.TheVariants.{Wide}
-use Rattle.cborn_edn.specs.declared.strings.StringKind.{StringKind}
-use Rattle.cborn_edn.specs.declared.strings.StringKind.TheVariants.{Bytes as OfBytes, Text as OfText}
+use Rattle.cborn_model.specs.declared.visitors.StringKind.{StringKind}
+use Rattle.cborn_model.specs.declared.visitors.StringKind.TheVariants.{OfBytes, OfText}
 use Rattle.cborn_edn.specs.shared.Between.{others}
 use Rattle.cborn_edn.specs.Shown.{mark_for, mark_for_size, escaped, indicator, opened, shown_string, shown_chunk, joined_by, shown_chunks, shown_simple, shown, item_texts, pair_texts, shown_lines, Shown}
 use Rattle.cborn_edn.specs.shared.Texts.{AreTexts, IsShowable, EachShowable, ArePairsShowable}
@@ -42,10 +42,13 @@ each_low : passes (λ b. ltb 0 (length (escaped b)) && is_low (escaped b)) 0 128
 unfolding encode_with
 each_low = refl
 
-pub escaped_low : (b : ℕ) → b < 128 → IsAscii (escaped b) × (0 < length (escaped b))
-escaped_low b h =
+pub escape_low : (b : ℕ) → b < 128 → (is_low (escaped b) ≡ true) × (0 < length (escaped b))
+escape_low b h =
     let e = and_parts (ltb 0 (length (escaped b))) (is_low (escaped b)) (passes-at (λ b. ltb 0 (length (escaped b)) && is_low (escaped b)) 0 128 b each_low (omega arith) (omega arith)) in
-    (low_ascii (escaped b) e.1, ltb-true 0 (length (escaped b)) e.0)
+    (e.1, ltb-true 0 (length (escaped b)) e.0)
+
+pub escaped_low : (b : ℕ) → b < 128 → IsAscii (escaped b) × (0 < length (escaped b))
+escaped_low b h = let e = escape_low b h in (low_ascii (escaped b) e.0, e.1)
 
 -- a byte that isn't ASCII stands for itself
 pub plain : (b : ℕ) → 128 ≤ b → escaped b ≡ b ∷ []
@@ -83,6 +86,63 @@ escaped_chars (c ∷ cs) h =
 
 escaped_text : (x : List ℕ) → is_utf8 x ≡ true → IsUtf8 (flat_map escaped x)
 escaped_text x h = let u = IsUtf8-from_is_utf8 x h in subst (λ (y : List ℕ). IsUtf8 (flat_map escaped y)) u.1.1 (escaped_chars u.0 u.1.0)
+
+-- Bytes with escapes are a text only if the bytes are.
+
+after_ascii : (a x : List ℕ) → is_low a ≡ true → IsUtf8 (a ++ x) → IsUtf8 x
+after_ascii [] x low h = h
+after_ascii (b ∷ a) x low h =
+    let e = and_parts (ltb b 128) (is_low a) low in
+    after_ascii a x e.1 (IsUtf8-past_char (b ∷ (a ++ x)) (a ++ x) b h (ap (λ l. l ++ (a ++ x)) (sym (encode_ascii b (ltb-true b 128 e.0)))))
+
+same_head : {a b : ℕ} {x y : List ℕ} → a ∷ x ≡ b ∷ y → (a ≡ b) × (x ≡ y)
+same_head e = (cc, cc)
+
+low_head : (a y : List ℕ) (c : ℕ) (z : List ℕ) → is_low a ≡ true → 0 < length a → a ++ y ≡ c ∷ z → c < 128
+low_head [] y c z low some e = absurd (omega arith)
+low_head (d ∷ a) y c z low some e = subst (λ n. n < 128) (same_head e).0 (ltb-true d 128 (and_parts (ltb d 128) (is_low a) low).0)
+
+-- bytes at the front that aren't ASCII were written for themselves
+front_stays : (w x r : List ℕ) → ((k : ℕ) → k < length w → 128 ≤ get_or w k 0) → flat_map escaped x ≡ w ++ r → (y : List ℕ) × (x ≡ w ++ y) × (flat_map escaped y ≡ r)
+front_stays [] x r h e = (x, refl, e)
+front_stays (c ∷ w) [] r h e = absurd (let d = ap (length {A = ℕ}) e in omega (arith, d))
+front_stays (c ∷ w) (b ∷ x) r h e = elim (cases_lt b 128) [
+  | inl low ↦ absurd (let g = escape_low b low in omega (arith, low_head (escaped b) (flat_map escaped x) c (w ++ r) g.0 g.1 e, h 0 (omega arith)))
+  | inr high ↦
+      let same = same_head (sym (ap (λ l. l ++ flat_map escaped x) (plain b high)) ∙ e) in
+      let rest = front_stays w x r (λ k l. h (suc k) (omega arith)) same.1 in
+      (rest.0, (λ i. same.0 i ∷ rest.1 i), rest.2)
+]
+
+char_back : (n b : ℕ) (x : List ℕ) → ((y : List ℕ) → length y ≤ n → IsUtf8 (flat_map escaped y) → IsUtf8 y) → length x ≤ n → 128 ≤ b → (cs : List ℕ) → all_scalars cs ≡ true → encode_utf8_all cs ≡ flat_map escaped (b ∷ x) → IsUtf8 (b ∷ x)
+char_back n b x back l high [] s e = absurd (let d = ap (length {A = ℕ}) (e ∙ ap (λ l. l ++ flat_map escaped x) (plain b high)) in omega (arith, d))
+char_back n b x back l high (c ∷ cs) s e = elim (cases_lt c 128) [
+  | inl low ↦ absurd (let same = same_head (sym (ap (λ l. l ++ encode_utf8_all cs) (encode_ascii c low)) ∙ e ∙ ap (λ l. l ++ flat_map escaped x) (plain b high)) in omega (arith, low, high, same.0))
+  | inr ok ↦
+      let hs = and_parts _ (all_scalars cs) s in
+      let rest = front_stays (encode_utf8 c) (b ∷ x) (encode_utf8_all cs) (wide c ok) (sym e) in
+      let some = len_utf8_bounds c in
+      let all = ap (length {A = ℕ}) rest.1 in
+      let shorter : length rest.0 ≤ n = omega (arith, l, some.0, length-encode c, all, length-append (encode_utf8 c) rest.0) in
+      subst IsUtf8 (sym rest.1) (IsUtf8-append (encode_utf8 c) rest.0 (IsUtf8-encode c hs.0) (back rest.0 shorter (cs, (hs.1, sym rest.2))))
+]
+
+text_back : (n : ℕ) (x : List ℕ) → length x ≤ n → IsUtf8 (flat_map escaped x) → IsUtf8 x
+text_back n [] l h = IsUtf8-nil
+text_back zero (b ∷ x) l h = absurd (omega arith)
+text_back (suc n) (b ∷ x) l h = elim (cases_lt b 128) [
+  | inl low ↦ IsUtf8-append (b ∷ []) x (IsUtf8-from_ascii (b ∷ []) (IsAscii-cons b [] low IsAscii-nil)) (text_back n x (omega arith) (after_ascii (escaped b) (flat_map escaped x) (escape_low b low).0 h))
+  | inr high ↦ char_back n b x (text_back n) (omega arith) high h.0 h.1.0 h.1.1
+]
+
+pub same_utf8 : (x : List ℕ) → is_utf8 (flat_map escaped x) ≡ is_utf8 x
+same_utf8 x = go (is_utf8 x) refl (is_utf8 (flat_map escaped x)) refl
+  where
+    go : (a : Bool) → is_utf8 x ≡ a → (b : Bool) → is_utf8 (flat_map escaped x) ≡ b → b ≡ a
+    go true e true f = refl
+    go true e false f = sym f ∙ is_utf8-from_IsUtf8 (flat_map escaped x) (escaped_text x e)
+    go false e true f = sym (is_utf8-from_IsUtf8 x (text_back (length x) x (omega arith) (IsUtf8-from_is_utf8 (flat_map escaped x) f))) ∙ e
+    go false e false f = refl
 
 -- Nodes.
 

@@ -15,7 +15,7 @@ use Rattle.cborn_model.specs.declared.nodes.Chunk.{Chunk}
 use Rattle.cborn_model.specs.declared.heads.Width.{Width}
 use Rattle.cborn_model.specs.Tree.{Tree, Text as TextNode, TextChunks, Items, Pairs as PairNode, Tagged, Trees, no_item as no_node, more, Entries, no_entry, entry, count, count_entries}
 use Rattle.cborn_model.specs.Spelled.{Fits, FitsAll, FitsEntries}
-use Rattle.cborn_edn.specs.declared.strings.StringKind.TheVariants.{Text as OfText}
+use Rattle.cborn_model.specs.declared.visitors.StringKind.TheVariants.{OfText}
 use Rattle.cborn_edn.specs.Shown.{AreShowable, Shown, mark_for, mark_for_size, escaped, indicator, opened, shown_string, shown_chunk, joined_by, shown, item_texts, pair_texts, shown_lines}
 use Rattle.cborn_edn.specs.shared.Between.{others}
 use Rattle.cborn_edn.specs.shared.Texts.{AreTexts, IsShowable, EachShowable, ArePairsShowable}

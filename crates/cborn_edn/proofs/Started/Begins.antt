@@ -8,8 +8,8 @@ use Rattle.cborn_lex.specs.declared.classes.Class.{Class}
 use Rattle.cborn_lex.specs.declared.classes.Class.TheVariants.{ArrayOpen, MapOpen, EmbedClose, ArrayClose, MapClose, ParenClose, Comma, Colon, EmbedOpen, ChunkOpen, SimpleOpen, Number, TagOpen, Word, Text, Bytes}
 use Rattle.cborn_lex.specs.declared.classes.Token.{Token}
 use Rattle.cborn_edn.specs.devices.Syntax.{Span, span, Item, string, Pieces, strings, StringsBefore, RowBefore, no_item, after_row, PairsBefore, no_pair, after_pairs, row, Content, loose, tight, Input, nothing, items}
-use Rattle.cborn_edn.specs.declared.strings.StringKind.{StringKind}
-use Rattle.cborn_edn.specs.declared.strings.StringKind.TheVariants.{Bytes as OfBytes, Text as OfText}
+use Rattle.cborn_model.specs.declared.visitors.StringKind.{StringKind}
+use Rattle.cborn_model.specs.declared.visitors.StringKind.TheVariants.{OfBytes, OfText}
 use Rattle.cborn_edn.specs.Says.{width, argument_of, is_below, is_small, integer, bignum, number_node, chunked_node, chunk}
 use Rattle.cborn_edn.specs.Starts.{starts_of_chunks, starts, starts_all, starts_entries}
 use Rattle.cborn_edn.specs.devices.Said.{snoc, snoc_entry, node, str, kind_in, chunks, chunks_before, nodes_before, nodes_in, entries_before, nodes_of_input}

@@ -8,8 +8,8 @@ use Rattle.cborn_lex.specs.declared.classes.Class.TheVariants.{ArrayClose, MapCl
 use Rattle.cborn_lex.specs.declared.classes.Token.{Token}
 use Rattle.cborn_lex.specs.declared.classes.Profile.{Profile}
 use Rattle.cborn_edn.specs.declared.meaning_errors.MeaningError.{MeaningError}
-use Rattle.cborn_edn.specs.declared.strings.StringKind.{StringKind}
-use Rattle.cborn_edn.specs.declared.strings.StringKind.TheVariants.{Bytes as OfBytes, Text as OfText}
+use Rattle.cborn_model.specs.declared.visitors.StringKind.{StringKind}
+use Rattle.cborn_model.specs.declared.visitors.StringKind.TheVariants.{OfBytes, OfText}
 use Rattle.cborn_edn.specs.Says.{integer, string_node, chunked_node, width, is_endless, is_below, argument_of, is_small, bignum, number_node, Str, said_string, chunk}
 use Rattle.cborn_edn.specs.Starts.{starts_of_chunks, starts, unless_bytes, spots, spots_all, spots_entries}
 use Rattle.cborn_edn.specs.Grammar.{token, IsItem, number, word, simple, tag, array, map, string, chunked, text_piece, byte_piece, embedded, ArePieces, piece, also, AreChunks, first, next, AreItems, last, before, IsContent, empty, tight, loose, ArePairs, last_pair, pair_before, IsFields, no_fields, tight_fields, loose_fields, IsText, nothing, items}

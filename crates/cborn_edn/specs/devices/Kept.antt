@@ -3,7 +3,7 @@ use Rattle.std.specs.Prelude.{ℕ, List, [], ◌∷◌, ◌++◌, length, Option
 use Rattle.cborn_model.specs.Tree.{count, count_entries}
 use Rattle.cborn_lex.specs.declared.classes.Mark.{Mark}
 use Rattle.cborn_lex.specs.declared.classes.Mark.TheVariants.{Absent}
-use Rattle.cborn_edn.specs.declared.strings.StringKind.{StringKind}
+use Rattle.cborn_model.specs.declared.visitors.StringKind.{StringKind}
 use Rattle.cborn_edn.specs.devices.Machine.{first_error}
 use Rattle.cborn_edn.specs.Says.{Str}
 use Rattle.cborn_edn.specs.devices.Syntax.{Pieces, StringsBefore, no_string, after_strings, after_row, after_pairs}

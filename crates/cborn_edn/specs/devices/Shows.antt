@@ -4,8 +4,8 @@ use Rattle.cborn_model.specs.declared.heads.Major.{Major}
 use Rattle.cborn_model.specs.Heads.{head, argument}
 use Rattle.cborn_model.specs.Spelled.{ending}
 use Rattle.cborn_lex.specs.declared.classes.Mark.{Mark}
-use Rattle.cborn_edn.specs.declared.strings.StringKind.{StringKind}
-use Rattle.cborn_edn.specs.declared.strings.StringKind.TheVariants.{Bytes as OfBytes, Text as OfText}
+use Rattle.cborn_model.specs.declared.visitors.StringKind.{StringKind}
+use Rattle.cborn_model.specs.declared.visitors.StringKind.TheVariants.{OfBytes, OfText}
 use Rattle.cborn_edn.specs.devices.Syntax.{Span, Piece, text, bytes, row, Content, loose, tight, pairs, Fields, loose_fields, tight_fields}
 use Rattle.cborn_edn.specs.devices.Machine.{first_error}
 use Rattle.cborn_edn.specs.devices.Machine.{Stack, in_row, in_key, in_value, Nest, State, wants, has, wants_number}

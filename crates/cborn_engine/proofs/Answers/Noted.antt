@@ -11,7 +11,7 @@ use Rattle.cborn_lex.proofs.WholeTexts.Weights.{utf8_bytes}
 use Rattle.cborn_edn.proofs.Shown.SameText.{same_notation}
 use Rattle.cborn_edn.proofs.Short.Facts.{notated_fits}
 use Rattle.cborn_edn.proofs.RoundTrip.Unplaced.{same_meaning}
-use Rattle.cborn_show.specs.Passed.{IsShownText}
+use Rattle.cborn_edn.specs.ShownBytes.{IsShownText}
 use Rattle.cborn_edn.specs.Spelling.{IsSpelling}
 use Rattle.cborn_transcode.specs.Transcoding.{IsTranscoded}
 use Rattle.cborn_transcode.proofs.Lists.{all_mean}

@@ -5,7 +5,7 @@ use Rattle.cborn_model.specs.Spelled.{Wellformed, spelled_all}
 use Rattle.cborn_model.specs.Placed.{PlacedAll}
 use Rattle.cborn_wire.proofs.Spelled.TreeLists.{tree_list, trees-tree_list}
 use Rattle.cborn_edn.specs.declared.faults.ShowFault.TheVariants as unshown
-use Rattle.cborn_show.specs.Passed.{IsShownText}
+use Rattle.cborn_edn.specs.ShownBytes.{IsShownText}
 use Rattle.cborn_engine.specs.declared.faults.EngineFault.{EngineFault}
 use Rattle.cborn_engine.specs.declared.faults.EngineFault.TheVariants as fault
 use Rattle.cborn_engine.specs.declared.kinds.Kind.{Kind}
@@ -40,16 +40,6 @@ own_spelling limit input (ts, w, p) =
       spelled = subst (λ (us : Trees). Wellformed limit us input) (sym same) w;
       shown = sym (ap spelled_all same ∙ w.spells);
     }
-
--- well-formed bytes that aren't written as this kind
-pub untold_text : (out : Kind) (limit most place : ℕ) (input : List ℕ) → length input ≤ most → (ts : Trees) × Wellformed limit ts input × PlacedAll 0 ts
-    → ((most : ℕ) (nodes : List Tree) → Wellformed most (trees nodes) input → PlacedAll 0 (trees nodes) → IsUnshownAs out nodes (unshown.NotUtf8 place))
-    → TellAnswers kind.Wire out limit most input (Err (fault.Show (unshown.NotUtf8 place)))
-untold_text out limit most place input l w f =
-    let same : trees (tree_list w.0) ≡ w.0 = trees-tree_list w.0 in
-    let read : Wellformed limit (trees (tree_list w.0)) input = subst (λ (us : Trees). Wellformed limit us input) (sym same) w.1 in
-    let placed : PlacedAll 0 (trees (tree_list w.0)) = subst (PlacedAll 0) (sym same) w.2 in
-    (l, record { nodes = tree_list w.0; spelled = (read, placed); unshown = f limit (tree_list w.0) read placed })
 
 -- ---- and what went out
 

@@ -10,8 +10,8 @@ use Rattle.cborn_lex.specs.declared.classes.Mark.{Mark}
 use Rattle.cborn_lex.specs.declared.classes.Token.{Token}
 use Rattle.cborn_lex.specs.declared.classes.Profile.{Profile}
 use Rattle.cborn_lex.proofs.WholeTexts.Weights.{utf8_bytes}
-use Rattle.cborn_edn.specs.declared.strings.StringKind.{StringKind}
-use Rattle.cborn_edn.specs.declared.strings.StringKind.TheVariants.{Bytes as OfBytes, Text as OfText}
+use Rattle.cborn_model.specs.declared.visitors.StringKind.{StringKind}
+use Rattle.cborn_model.specs.declared.visitors.StringKind.TheVariants.{OfBytes, OfText}
 use Rattle.cborn_edn.specs.declared.faults.EdnReason.{EdnReason}
 use Rattle.cborn_edn.specs.declared.faults.EdnReason.TheVariants.{MixedChunks, TextNotUtf8}
 use Rattle.cborn_edn.specs.Says.{unless, mark_errors, string_errors, is_good, same_kind, is_endless, is_small, is_below, argument_of, integer, bignum, width, is_nil, number_node, string_node, chunked_node, said_string, chunk, Str}
@@ -20,7 +20,9 @@ use Rattle.cborn_edn.specs.shared.Texts.{AreTexts, IsShowable, EachShowable, Are
 use Rattle.cborn_edn.proofs.Shown.Lowests.{are_showable}
 use Rattle.cborn_edn.proofs.Short.Facts.{notated_fits}
 use Rattle.cborn_edn.specs.Spelling.{IsSpelling}
-use Rattle.cborn_show.specs.Passed.{HasNoNotation}
+use Rattle.cborn_edn.specs.ShownBytes.{IsUnshown}
+use Rattle.cborn_wire.specs.Faults.{IsWellformed}
+use Rattle.cborn_engine.proofs.Held.BadTexts.{good_shows}
 use Rattle.cborn_engine.specs.Reading.{most_bytes}
 
 -- of two lists that are empty together, each is
@@ -145,8 +147,13 @@ text_shows nothing e = tt
 text_shows (items h) e = items_show h e
 
 -- the bytes that a text notates have a notation
-pub spelled_shows : (p : Profile) (limit : ℕ) (text bytes : List ℕ) → length text ≤ most_bytes → IsUtf8 text → IsSpelling p limit text bytes → HasNoNotation limit bytes → ⊥
-unfolding HasNoNotation
-spelled_shows p limit text bytes within u s none =
+pub spelled_shows : (p : Profile) (limit : ℕ) (text bytes : List ℕ) → length text ≤ most_bytes → IsUtf8 text → IsSpelling p limit text bytes → (q : ℕ) → IsUnshown limit bytes q → ⊥
+spelled_shows p limit text bytes within u s q =
     let f = notated_fits p limit text (trees (nodes_of s)) (utf8_bytes text u) (omega (arith, within)) (notated_of s) in
-    none (trees (nodes_of s)) (record { spells = (spells_of s); fit = f.0; shallow = f.1 }) (are_showable (trees (nodes_of s)) (text_shows (notated_of s).2 refl))
+    good_shows limit limit bytes (trees (nodes_of s)) q (record { spells = (spells_of s); fit = f.0; shallow = f.1 }) (are_showable (trees (nodes_of s)) (text_shows (notated_of s).2 refl))
+
+-- and they are well-formed
+pub spelled_read : (p : Profile) (limit : ℕ) (text bytes : List ℕ) → length text ≤ most_bytes → IsUtf8 text → IsSpelling p limit text bytes → IsWellformed limit bytes
+spelled_read p limit text bytes within u s =
+    let f = notated_fits p limit text (trees (nodes_of s)) (utf8_bytes text u) (omega (arith, within)) (notated_of s) in
+    (trees (nodes_of s), record { spells = (spells_of s); fit = f.0; shallow = f.1 })

@@ -1,21 +1,40 @@
-use Rattle.std.proofs.Common.{sym, ◌∙◌, subst, ap}
+use Rattle.std.proofs.Common.{◌≡◌, ◌++◌, ◌∷◌, [], ◌+◌, sym, ap, ◌∙◌, subst, take, arith}
 use Rattle.std.specs.Str.{IsUtf8}
+use Rattle.std.specs.String.{string_bytes}
+use Rattle.std.proofs.lemmas.List.{take_more, take_all}
 use Rattle.cborn_model.specs.Tree.{trees}
-use Rattle.cborn_edn.proofs.Shown.Characters.{lines_text}
-use Rattle.cborn_edn.proofs.Shown.Lowests.{lowest_is, none_bad, each_showable}
+use Rattle.cborn_model.specs.Partial.{top, no_part}
+use Rattle.cborn_edn.specs.devices.Notating.{IsHeld}
+use Rattle.cborn_edn.proofs.Notating.{error_is}
+use Rattle.cborn_edn.proofs.Shown.Characters.{fits_more, fits_whole}
 use Rattle.cborn_edn.proofs.showing.show.Goals as goal
 
-pub returns-in-Some-clause-refused : goal.returns-in-Some-clause-refused
-returns-in-Some-clause-refused c =
-    lowest_is (trees c.args.items.now) c.in-Some.place (sym c.lowest_bad_text.ensures ∙ c.in-Some.is)
+pub returns-in_err-finish-clause-refused : goal.returns-in_err-finish-clause-refused
+returns-in_err-finish-clause-refused c =
+    let items = c.args.items.now in
+    let all = subst (λ ts. IsHeld c.loop-item.notator (top ts) no_part) (take_all c.loop-item.item-index items (omega arith)) c.loop-item.invariant.0 in
+    error_is c.from_residual-in_err-finish.result c.in_err-finish.field-0.0 _ c.from_residual-in_err-finish.ensures.1 (c.in_err-finish.ensures.refused items all)
 
 pub unwrap-requires : goal.unwrap-requires
 unwrap-requires c =
-    let text = lines_text (trees c.args.items.now) c.in_ok-text.ensures.fits (each_showable (trees c.args.items.now) (none_bad (trees c.args.items.now) (sym c.lowest_bad_text.ensures ∙ c.in_default.is))) in
-    c.from_utf8.ensures.succeeds (subst IsUtf8 (sym c.in_ok-text.ensures.text) text)
+    let items = c.args.items.now in
+    let all = subst (λ ts. IsHeld c.loop-item.notator (top ts) no_part) (take_all c.loop-item.item-index items (omega arith)) c.loop-item.invariant.0 in
+    c.from_utf8.ensures.succeeds (c.in_ok-finish.ensures.shown items (fits_whole items c.loop-item.item-index (omega arith) c.loop-item.invariant.1) all).0
 
 pub returns-clause-shown : goal.returns-clause-shown
 returns-clause-shown c =
-    let text = lines_text (trees c.args.items.now) c.in_ok-text.ensures.fits (each_showable (trees c.args.items.now) (none_bad (trees c.args.items.now) (sym c.lowest_bad_text.ensures ∙ c.in_default.is))) in
-    let same = ap (λ v. v.items) (rw c.unwrap.ensures at c.from_utf8.ensures.ok) ∙ c.in_ok-text.ensures.text in
-    (subst IsUtf8 (sym same) text, same)
+    let items = c.args.items.now in
+    let all = subst (λ ts. IsHeld c.loop-item.notator (top ts) no_part) (take_all c.loop-item.item-index items (omega arith)) c.loop-item.invariant.0 in
+    let shown = c.in_ok-finish.ensures.shown items (fits_whole items c.loop-item.item-index (omega arith) c.loop-item.invariant.1) all in
+    let same = ap (λ v. v.items) (rw c.unwrap.ensures at c.from_utf8.ensures.ok) in
+    (subst IsUtf8 (sym same) shown.0, same ∙ shown.1)
+
+pub loop-item-preserved : goal.loop-item-preserved
+loop-item-preserved c =
+    let items = c.args.items.now in
+    let i = c.loop-item.item-index in
+    let x = c.item-item.result in
+    let more = ap (λ y. take i items ++ y ∷ []) (c.node.ensures.same ∙ c.item-item.is) ∙ sym (take_more items i x (omega arith)) in (
+      subst (λ ts. IsHeld c.visit_node.new.visitor (top ts) no_part) more (c.in_ok-visit_node.ensures.held (top (take i items)) (tt, tt) c.loop-item.invariant.0),
+      fits_more items i x (omega arith) c.item-item.is c.loop-item.invariant.1 c.node.ensures.spelled.0,
+    )

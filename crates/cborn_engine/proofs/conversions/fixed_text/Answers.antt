@@ -1,7 +1,9 @@
-use Rattle.std.proofs.Common.{inl, inr, subst}
-use Rattle.cborn_show.specs.Passed.{Notates}
+use Rattle.std.proofs.Common.{subst}
+use Rattle.cborn_model.specs.Tree.{trees}
+use Rattle.cborn_edn.specs.ShownBytes.{Notates}
+use Rattle.cborn_engine.proofs.Answers.Malformed.{no_reading}
 use Rattle.cborn_engine.proofs.Answers.Telling.{as_fixed}
-use Rattle.cborn_engine.proofs.Held.BadTexts.{held_shows, malformed_unshown}
+use Rattle.cborn_engine.proofs.Held.BadTexts.{held_shows}
 use Rattle.cborn_engine.proofs.conversions.fixed_text.Goals as goal
 
 pub returns : goal.returns
@@ -9,8 +11,8 @@ returns c = as_fixed c.args.limit c.args.bytes.now c.in-Text.text.items (subst (
 
 pub unreachable-requires : goal.unreachable-requires
 unreachable-requires c =
-    held_shows c.args.limit c.args.bytes.now c.requires.0 c.requires.1
-    (elim c.in-Malformed.is [
-      | inl m ↦ malformed_unshown c.args.limit c.args.bytes.now (subst (Notates c.args.limit c.args.bytes.now) m c.in_ok-text.ensures)
-      | inr u ↦ subst (Notates c.args.limit c.args.bytes.now) u c.in_ok-text.ensures
-    ])
+    no_reading c.args.limit c.args.bytes.now (c.in-Malformed.place, c.in-Malformed.reason, subst (Notates c.args.limit c.args.bytes.now) c.in-Malformed.is c.in_ok-text.ensures) (trees c.requires.1.nodes, c.requires.1.spelled)
+
+pub unreachable-requires-in-NotUtf8 : goal.unreachable-requires-in-NotUtf8
+unreachable-requires-in-NotUtf8 c =
+    held_shows c.args.limit c.args.bytes.now c.requires.0 c.requires.1 c.in-NotUtf8.place (subst (Notates c.args.limit c.args.bytes.now) c.in-NotUtf8.is c.in_ok-text.ensures)

@@ -1,8 +1,9 @@
-use Rattle.std.proofs.Common.{ℕ, List, inl, inr, refl, subst}
-use Rattle.cborn_show.specs.Passed.{HasNoNotation, IsShownText, Notates}
+use Rattle.std.proofs.Common.{ℕ, List, refl, subst}
+use Rattle.cborn_edn.specs.ShownBytes.{IsShownText, IsUnshown, Notates}
+use Rattle.cborn_wire.specs.Faults.{Fault}
+use Rattle.cborn_engine.proofs.Answers.Malformed.{no_reading}
 use Rattle.cborn_engine.proofs.Answers.Noted.{as_bytes, as_text, never_wire}
-use Rattle.cborn_engine.proofs.Held.BadTexts.{malformed_unshown}
-use Rattle.cborn_engine.proofs.Held.NotatedTexts.{spelled_shows}
+use Rattle.cborn_engine.proofs.Held.NotatedTexts.{spelled_shows, spelled_read}
 use Rattle.cborn_engine.proofs.showings.tell_spelling.Goals as goal
 
 pub returns-in-Wire-clause-answers : goal.returns-in-Wire-clause-answers
@@ -23,10 +24,12 @@ returns-in-Text c =
 
 pub unreachable-requires : goal.unreachable-requires
 unreachable-requires c =
-    let none : HasNoNotation c.args.limit c.deref.result.now =
-    elim c.in-Malformed.is [
-      | inl m ↦ malformed_unshown c.args.limit c.deref.result.now (subst (Notates c.args.limit c.deref.result.now) m c.in_ok-answer-in-Notation.ensures)
-      | inr u ↦ subst (Notates c.args.limit c.deref.result.now) u c.in_ok-answer-in-Notation.ensures
-    ] in
     let r = c.requires in
-    spelled_shows r.0 c.args.limit r.1 c.args.bytes.items r.2 r.3 r.4 (subst (HasNoNotation c.args.limit) c.deref.ensures.value none)
+    let fault = subst (Notates c.args.limit c.deref.result.now) c.in-Malformed.is c.in_ok-answer-in-Notation.ensures in
+    no_reading c.args.limit c.args.bytes.items (c.in-Malformed.place, c.in-Malformed.reason, subst (λ (x : List ℕ). Fault c.args.limit x c.in-Malformed.place c.in-Malformed.reason) c.deref.ensures.value fault) (spelled_read r.0 c.args.limit r.1 c.args.bytes.items r.2 r.3 r.4)
+
+pub unreachable-requires-in-NotUtf8 : goal.unreachable-requires-in-NotUtf8
+unreachable-requires-in-NotUtf8 c =
+    let r = c.requires in
+    let unshown = subst (Notates c.args.limit c.deref.result.now) c.in-NotUtf8.is c.in_ok-answer-in-Notation.ensures in
+    spelled_shows r.0 c.args.limit r.1 c.args.bytes.items r.2 r.3 r.4 c.in-NotUtf8.place (subst (λ (x : List ℕ). IsUnshown c.args.limit x c.in-NotUtf8.place) c.deref.ensures.value unshown)

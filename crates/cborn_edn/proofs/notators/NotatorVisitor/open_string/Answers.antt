@@ -1,0 +1,7 @@
+use Rattle.std.proofs.Common.{refl, arith}
+use Rattle.cborn_edn.proofs.Notating.{string_open}
+use Rattle.cborn_edn.proofs.notators.NotatorVisitor.open_string.Goals as goal
+
+pub returns-clause-held : goal.returns-clause-held
+returns-clause-held c = λ f proper takes held.
+    string_open c.args.self.now _ f c.args.place c.args.kind c.args.width c.args.len c.len-start.result c.push_separator.new.out.items refl refl refl refl c.in_ok-push_separator.ensures c.in_ok-push_quote.ensures (omega (arith, c.len-start.ensures, c.push_quote.new.out.ok.0)) held

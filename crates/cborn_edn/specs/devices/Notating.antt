@@ -1,0 +1,147 @@
+-- A device of the proofs: the text of a partial sequence, as the visitor that writes notation has it. No definition cites it.
+use Rattle.std.specs.Prelude.{◌≡◌, ℕ, ◌≤◌, List, [], ◌∷◌, ◌++◌, length, Option, Some, None, codes, decimal, min, if◌then◌else◌, ◌⊎◌}
+use Rattle.std.specs.List.{flat_map}
+use Rattle.hex.specs.Hex.{encode_lower}
+use Rattle.cborn_model.specs.declared.heads.Size.{Size}
+use Rattle.cborn_model.specs.declared.heads.Size.TheVariants.{Fixed, Endless}
+use Rattle.cborn_model.specs.declared.heads.Width.{Width}
+use Rattle.cborn_model.specs.declared.visitors.StringKind.{StringKind}
+use Rattle.cborn_model.specs.declared.visitors.StringKind.TheVariants.{OfBytes, OfText}
+use Rattle.cborn_model.specs.Tree.{Tree, trees}
+use Rattle.cborn_model.specs.Partial.{Partial, top, inside, Opening, an_array, a_map, a_tag, in_chunks, Part, no_part, part, IsCounted}
+use Rattle.cborn_edn.specs.declared.notators.Next.{Next}
+use Rattle.cborn_edn.specs.declared.notators.Next.TheVariants.{FirstItem, Item, FirstElement, Element, FirstKey, Key, Value, Content, TagEnd, FirstChunk, Chunk}
+use Rattle.cborn_edn.specs.declared.notators.OpenString.{OpenString}
+use Rattle.cborn_edn.specs.declared.notators.Notator.{Notator}
+use Rattle.cborn_edn.specs.Says.{is_good}
+use Rattle.cborn_edn.specs.Shown.{shown, escaped, indicator, mark_for, mark_for_size, opened, IsBadText, IsBadAmong}
+
+-- what comes next in a container after one more part
+abbrev pub after : Next → Next
+after FirstItem = Item
+after Item = Item
+after FirstElement = Element
+after Element = Element
+after FirstKey = Value
+after Key = Value
+after Value = Key
+after Content = TagEnd
+after TagEnd = TagEnd
+after (FirstChunk k) = Chunk
+after Chunk = Chunk
+
+-- what is written before the part that comes next
+abbrev pub separator : Next → List ℕ
+separator Item = codes ",\n"
+separator Element = codes ", "
+separator Key = codes ", "
+separator Value = codes ": "
+separator (FirstChunk k) = codes "(_ "
+separator Chunk = codes ", "
+separator _ = []
+
+-- what is written where the container ends
+abbrev pub ending : Next → List ℕ
+ending FirstItem = []
+ending Item = codes "\n"
+ending FirstElement = codes "]"
+ending Element = codes "]"
+ending (FirstChunk OfBytes) = codes "''_"
+ending (FirstChunk OfText) = codes "\"\"_"
+ending Content = codes ")"
+ending TagEnd = codes ")"
+ending Chunk = codes ")"
+ending _ = codes "}"
+
+-- what is written of nodes in a container, the first of them after this
+abbrev pub following : Next → List Tree → List ℕ
+following s [] = []
+following s (t ∷ ts) = separator s ++ (shown t ++ following (after s) ts)
+
+abbrev pub next_after : Next → List Tree → Next
+next_after s [] = s
+next_after s (t ∷ ts) = next_after (after s) ts
+
+abbrev pub first : Opening → Next
+first (an_array p s c) = FirstElement
+first (a_map p s c) = FirstKey
+first (a_tag p w n) = Content
+first (in_chunks p k) = FirstChunk k
+
+-- the indicator of an array or a map. Where the count isn't known it means nothing.
+abbrev pub size_text : Size → Option ℕ → List ℕ
+size_text s (Some n) = opened (mark_for_size s n)
+size_text s None = opened (mark_for_size s 0)
+
+-- what is written where a container begins
+abbrev pub beginning : Opening → List ℕ
+beginning (an_array p s c) = codes "[" ++ size_text s c
+beginning (a_map p s c) = codes "{" ++ size_text s c
+beginning (a_tag p w n) = decimal n ++ (indicator (mark_for w n) ++ codes "(")
+beginning (in_chunks p k) = []
+
+abbrev pub next_in : Partial → Next
+next_in (top ts) = next_after FirstItem ts
+next_in (inside f o ts) = next_after (first o) ts
+
+abbrev pub next_around : Partial → List Next
+next_around (top ts) = []
+next_around (inside f o ts) = next_around f ++ next_in f ∷ []
+
+abbrev pub written : Partial → List ℕ
+written (top ts) = following FirstItem ts
+written (inside f o ts) = (written f ++ separator (next_in f)) ++ (beginning o ++ following (first o) ts)
+
+abbrev pub HasCount : Opening → Type 0
+HasCount (an_array p s c) = IsCounted s c
+HasCount (a_map p s c) = IsCounted s c
+HasCount _ = Unit {0}
+
+-- the count of each open array and map is known, unless its length is indefinite
+abbrev pub AreCounted : Partial → Type 0
+AreCounted (top ts) = Unit {0}
+AreCounted (inside f o ts) = AreCounted f × HasCount o
+
+-- the place p is that of a text in it that isn't UTF-8
+abbrev pub IsBadIn : Partial → ℕ → Type 0
+IsBadIn (top ts) p = IsBadAmong (trees ts) p
+IsBadIn (inside f o ts) p = IsBadIn f p ⊎ IsBadAmong (trees ts) p
+
+-- the lowest place of which P holds, if there is one
+abbrev pub IsLowest : (ℕ → Type 0) → Option ℕ → Type 0
+IsLowest P None = (p : ℕ) → P p → ⊥
+IsLowest P (Some p) = P p × ((q : ℕ) → P q → p ≤ q)
+
+abbrev pub least : Option ℕ → ℕ → ℕ
+least None q = q
+least (Some p) q = min p q
+
+-- the lowest place after this string, of whose content this is written
+abbrev pub lowest_with : Option ℕ → OpenString → List ℕ → Option ℕ
+lowest_with bad s x = if is_good s.kind x then bad else Some (least bad s.place)
+
+abbrev pub quote : StringKind → List ℕ
+quote OfBytes = codes "h'"
+quote OfText = codes "\""
+
+abbrev pub content : StringKind → List ℕ → List ℕ
+content OfBytes x = encode_lower x
+content OfText x = flat_map escaped x
+
+abbrev pub string_end : StringKind → Width → ℕ → List ℕ
+string_end OfBytes w n = codes "'" ++ indicator (mark_for w n)
+string_end OfText w n = codes "\"" ++ indicator (mark_for w n)
+
+-- what is written of the part of a string
+abbrev pub WritesPart : List ℕ → Option OpenString → Option ℕ → Partial → Part → Type 0
+WritesPart out string bad f no_part = bad ≡ None → out ≡ written f
+WritesPart out string bad f (part p k w n x) =
+    (front : List ℕ) × (string ≡ Some (record { place = p; kind = k; width = w; len = n; start = length front })) × (out ≡ front ++ content k x)
+    × (bad ≡ None → front ≡ (written f ++ separator (next_in f)) ++ quote k)
+
+pub record IsHeld (v : Notator) (f : Partial) (c : Part) : Type 0 where
+  pub next : v.next ≡ next_in f
+  pub around : v.around.items ≡ next_around f
+  pub counted : AreCounted f
+  pub bad : IsLowest (IsBadIn f) v.bad
+  pub text : WritesPart v.out.items v.string v.bad f c

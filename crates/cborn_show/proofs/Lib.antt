@@ -1,7 +1,0 @@
-pub mod Blames
-pub mod Checked
-pub mod Decimals
-pub mod EightDigits
-pub mod Nodes
-pub mod Placing
-pub mod Strings

@@ -1,8 +1,0 @@
-use Rattle.std.proofs.Common.{rules, ◌<◌, length, arith}
-use Rattle.cborn_show.proofs.Checked.{small_more}
-use Rattle.cborn_show.proofs.checks.small_integers.Goals as goal
-
-pub integers-preserved : goal.integers-preserved
-integers-preserved c =
-    let within : c.integers.at < length c.args.bytes.now = search rules in
-    (small_more c.args.bytes.now c.integers.at within c.if-bytes-at-lt24.true c.integers.invariant.0, omega (arith, c.integers-test.true))

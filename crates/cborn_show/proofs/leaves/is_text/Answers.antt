@@ -1,9 +1,0 @@
-use Rattle.std.proofs.lemmas.Str.{IsUtf8-from_ascii}
-use Rattle.cborn_edn.proofs.Shown.Lowests.{utf8_is}
-use Rattle.cborn_show.proofs.leaves.is_text.Goals as goal
-
-pub returns-then-is_ascii : goal.returns-then-is_ascii
-returns-then-is_ascii c = utf8_is c.is_ascii.result c.args.bytes.now (λ e. IsUtf8-from_ascii c.args.bytes.now c.if-is_ascii.ensures.cases) (λ u. c.if-is_ascii.true)
-
-pub returns-else-is_ascii : goal.returns-else-is_ascii
-returns-else-is_ascii c = utf8_is c.is_utf8.result c.args.bytes.now c.is_utf8.ensures.0 c.is_utf8.ensures.1

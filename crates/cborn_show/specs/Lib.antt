@@ -1,3 +1,0 @@
-pub mod Passed
-pub mod Rising
-pub mod devices
