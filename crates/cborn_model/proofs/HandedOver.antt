@@ -1,6 +1,7 @@
 -- What a walk over nodes hands to a visitor.
-use Rattle.std.proofs.Common.{◌≡◌, refl, sym, ap, ◌∙◌, subst, ℕ, suc, ◌+◌, ◌<◌, List, [], ◌∷◌, ◌++◌, length, map, get_or, take, Option, Some, None, Result, Ok, Err, OnOk, arith}
-use Rattle.std.proofs.lemmas.List.{take_more, take_all, length-take, map-append}
+use Rattle.std.proofs.Common.{◌≡◌, refl, sym, ap, ◌∙◌, subst, ℕ, suc, ◌+◌, ◌<◌, List, [], ◌∷◌, ◌++◌, length, map, get_or, take, Option, Some, None, Result, Ok, Err, OnOk, arith, append-nil}
+use Rattle.std.proofs.lemmas.List.{take_more, length-take, map-append}
+use Rattle.std.specs.Option.{option_to_list}
 use Rattle.cborn_model.specs.Heads.{SizeFits}
 use Rattle.cborn_model.specs.Spelled.{Fits, FitsAll, FitsEntries}
 use Rattle.cborn_model.specs.View.{tree_of}
@@ -13,23 +14,24 @@ use Rattle.cborn_model.specs.declared.heads.Size.TheVariants.{Fixed, Endless}
 use Rattle.cborn_model.specs.declared.visitors.StringKind.{StringKind}
 use Rattle.cborn_model.specs.declared.visitors.StringKind.TheVariants.{OfBytes, OfText}
 use Rattle.cborn_model.specs.Tree.{Tree, Items, Pairs, trees, entries, depth, depth_all, depth_entries}
-use Rattle.cborn_model.specs.Partial.{Partial, Opening, an_array, a_map, in_chunks, inside, put, paired, last_key, chunks_of, chunks_tree, built, string_tree, IsMore, IsAll, AreStrings, Ends, IsFree, Proper, TakesString, CountFits}
-use Rattle.cborn_model.specs.devices.Walks.{flat, string_of, count_of}
+use Rattle.cborn_model.specs.Partial.{Partial, Opening, a_map, in_chunks, inside, put, paired, last_key, chunks_of, chunks_tree, built, IsMore, IsAll, AreStrings, Ends, IsFree, Proper, TakesString}
+use Rattle.cborn_model.specs.shared.Walks.{flat, string_of, count_of}
 
 -- fewer than all are there
 pub is_more : (c : Option ℕ) (n k : ℕ) → IsAll c n → k < n → IsMore c k
 is_more (Some m) n k all h = omega (arith, all, h)
 is_more None n k all h = tt
 
-pub paired_flat : (es : List (Tree × Tree)) → (paired (flat es) ≡ es) × (last_key (flat es) ≡ None)
-paired_flat [] = (refl, refl)
-paired_flat (e ∷ es) = let h = paired_flat es in (ap (λ l. e ∷ l) h.0, h.1)
+-- a key whose value is missing comes last
+pub paired_with : (es : List (Tree × Tree)) (x : Option Tree) → (paired (flat es ++ option_to_list x) ≡ es) × (last_key (flat es ++ option_to_list x) ≡ x)
+paired_with [] None = (refl, refl)
+paired_with [] (Some k) = (refl, refl)
+paired_with (e ∷ es) x = let h = paired_with es x in (ap (λ l. e ∷ l) h.0, h.1)
 
-pub paired_key : (es : List (Tree × Tree)) (k : Tree) → (paired (flat es ++ k ∷ []) ≡ es) × (last_key (flat es ++ k ∷ []) ≡ Some k)
-paired_key [] k = (refl, refl)
-paired_key (e ∷ es) k = let h = paired_key es k in (ap (λ l. e ∷ l) h.0, h.1)
+paired_flat : (es : List (Tree × Tree)) → (paired (flat es) ≡ es) × (last_key (flat es) ≡ None)
+paired_flat es = subst (λ l. (paired l ≡ es) × (last_key l ≡ None)) (append-nil (flat es)) (paired_with es None)
 
-flat_push : (es : List (Tree × Tree)) (e : Tree × Tree) → (flat es ++ e.0 ∷ []) ++ e.1 ∷ [] ≡ flat (es ++ e ∷ [])
+pub flat_push : (es : List (Tree × Tree)) (e : Tree × Tree) → (flat es ++ e.0 ∷ []) ++ e.1 ∷ [] ≡ flat (es ++ e ∷ [])
 flat_push [] e = refl
 flat_push (d ∷ es) e = ap (λ l. d.0 ∷ d.1 ∷ l) (flat_push es e)
 
@@ -47,7 +49,7 @@ pair_over A B C xs i x h e key value f p s free old =
     let es = take i xs in
     let few : length es < length xs = omega (arith, length-take i xs, h) in
     let more : IsMore c (length (paired (flat es))) = subst (λ l. IsMore c (length l)) (sym (paired_flat es).0) (is_more c (length xs) (length es) all few) in
-    let most : IsMore c (length (paired (flat es ++ x.0 ∷ []))) = subst (λ l. IsMore c (length l)) (sym (paired_key es x.0).0) (is_more c (length xs) (length es) all few) in
+    let most : IsMore c (length (paired (flat es ++ x.0 ∷ []))) = subst (λ l. IsMore c (length l)) (sym (paired_with es (Some x.0)).0) (is_more c (length xs) (length es) all few) in
     subst (λ ts. C (inside f (a_map p s c) ts)) (flat_push es x ∙ ap flat (ap (λ y. es ++ y ∷ []) e ∙ sym (take_more xs i x h)))
     (value (inside f (a_map p s c) (flat es ++ x.0 ∷ [])) ((free.0, free.1, most), tt) (key (inside f (a_map p s c) (flat es)) ((free.0, free.1, more), tt) old))
 
@@ -73,7 +75,7 @@ on_ok (Err e) go h = h
 
 -- chunks as strings
 
-strings : (k : StringKind) (cs : List Chunk) → AreStrings k (map (string_of k) cs) × (chunks_of (map (string_of k) cs) ≡ cs)
+pub strings : (k : StringKind) (cs : List Chunk) → AreStrings k (map (string_of k) cs) × (chunks_of (map (string_of k) cs) ≡ cs)
 strings k [] = (tt, refl)
 strings OfBytes (c ∷ cs) = let h = strings OfBytes cs in ((tt, h.0), ap (λ l. c ∷ l) h.1)
 strings OfText (c ∷ cs) = let h = strings OfText cs in ((tt, h.0), ap (λ l. c ∷ l) h.1)

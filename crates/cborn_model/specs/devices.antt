@@ -2,4 +2,3 @@ pub mod TreeFalls
 pub mod ValueCode
 pub mod ItemFalls
 pub mod Pairs
-pub mod Walks

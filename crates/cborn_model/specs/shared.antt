@@ -1,2 +1,3 @@
 pub mod TreeCode
 pub mod OrderLaws
+pub mod Walks

@@ -5,7 +5,7 @@ ghost use Rattle.cborn_model.specs.Heads.{WidthFits, SizeFits};
 ghost use Rattle.cborn_model.specs.Tree.{Items, Pairs, trees, entries};
 ghost use Rattle.cborn_model.specs.Spelled.{Fits, FitsAll, FitsEntries, ChunksFit};
 ghost use Rattle.cborn_model.specs.Partial.{Partial, no_part, put, string_tree, IsFree, chunks_tree, TakesString, Proper, CountFits, IsCounted};
-ghost use Rattle.cborn_model.specs.devices.Walks.{count_of};
+ghost use Rattle.cborn_model.specs.shared.Walks.{count_of};
 
 use crate::nodes::{Chunk, Form, Node};
 use crate::strings::ByteString;

@@ -47,7 +47,7 @@ pub(crate) enum OpenNode {
 
 impl OpenNode {
     /// Puts a whole node into it. A string of indefinite length takes none.
-    #[tactic(auto, using(crate::proofs::Building::flat_push))]
+    #[tactic(auto, using(crate::proofs::Building::pair_push))]
     pub(crate) fn put(&mut self, node: Node) -> Result<(), AllocError>
         ensures { OnOk result ((f : Partial) → IsFree (within f self.old) → within f self.new ≡ put (within f self.old) node) }
     {

@@ -37,24 +37,25 @@ trees-injective (x ∷ xs) (y ∷ ys) e =
     let first : x ≡ y = cc in
     let others : trees xs ≡ trees ys = cc in rw (first, trees-injective xs ys others)
 
--- one more child, as a loop over the children meets it
+-- F of a list is the greatest of what `each` says of what is in it.
+module _ {A : Type 0} (F : List A → ℕ) (each : A → ℕ) (none : F [] ≡ 0) (step : (x : A) (xs : List A) → F (x ∷ xs) ≡ max (each x) (F xs)) where
+  -- as a loop over the list meets it
+  pub greatest_more : (xs : List A) (i : ℕ) (x : A) → i < length xs → x ≡ get_or xs i x → F (take (i + 1) xs) ≡ max (F (take i xs)) (each x)
+  greatest_more xs i x h e = ap F (take_more xs i x h) ∙ max_push F each none step (take i xs) (get_or xs i x) ∙ ap (λ y. max (F (take i xs)) (each y)) (sym e)
+
+  pub no_greater : (xs : List A) (i : ℕ) (x : A) → i < length xs → x ≡ get_or xs i x → each x ≤ F xs
+  no_greater xs i x h e = subst (λ y. each y ≤ F xs) (sym e) (max_bounds F each none step xs i x h)
+
+-- one more child
 pub depth-take_more : (xs : List Tree) (i : ℕ) (x : Tree) → i < length xs → x ≡ get_or xs i x → depth_all (trees (take (i + 1) xs)) ≡ max (depth_all (trees (take i xs))) (depth x)
-depth-take_more xs i x h e =
-    let F : List Tree → ℕ = λ ts. depth_all (trees ts) in
-    ap F (take_more xs i x h) ∙ max_push F depth refl (λ _ _. refl) (take i xs) (get_or xs i x) ∙ ap (λ y. max (F (take i xs)) (depth y)) (sym e)
+depth-take_more = greatest_more (λ ts. depth_all (trees ts)) depth refl (λ _ _. refl)
 
 pub pair_depth-take_more : (xs : List (Tree × Tree)) (i : ℕ) (x : Tree × Tree) → i < length xs → x ≡ get_or xs i x → depth_entries (entries (take (i + 1) xs)) ≡ max (depth_entries (entries (take i xs))) (max (depth x.0) (depth x.1))
-pair_depth-take_more xs i x h e =
-    let F : List (Tree × Tree) → ℕ = λ ps. depth_entries (entries ps) in
-    ap F (take_more xs i x h) ∙ max_push F pair_depth refl (λ _ _. refl) (take i xs) (get_or xs i x) ∙ ap (λ y. max (F (take i xs)) (pair_depth y)) (sym e)
+pair_depth-take_more = greatest_more (λ ps. depth_entries (entries ps)) pair_depth refl (λ _ _. refl)
 
 -- a child is no deeper than all of them
 pub depth_of_item : (xs : List Tree) (i : ℕ) (x : Tree) → i < length xs → x ≡ get_or xs i x → depth x ≤ depth_all (trees xs)
-depth_of_item xs i x h e =
-    let bound = max_bounds (λ ts. depth_all (trees ts)) depth refl (λ _ _. refl) xs i x h in
-    subst (λ (y : Tree). depth y ≤ depth_all (trees xs)) (sym e) bound
+depth_of_item = no_greater (λ ts. depth_all (trees ts)) depth refl (λ _ _. refl)
 
 pub depth_of_pair : (xs : List (Tree × Tree)) (i : ℕ) (x : Tree × Tree) → i < length xs → x ≡ get_or xs i x → pair_depth x ≤ depth_entries (entries xs)
-depth_of_pair xs i x h e =
-    let bound = max_bounds (λ ps. depth_entries (entries ps)) pair_depth refl (λ _ _. refl) xs i x h in
-    subst (λ (y : Tree × Tree). pair_depth y ≤ depth_entries (entries xs)) (sym e) bound
+depth_of_pair = no_greater (λ ps. depth_entries (entries ps)) pair_depth refl (λ _ _. refl)

@@ -1,12 +1,12 @@
 -- Items of a slice, one by one: what is valid, and how deep.
-use Rattle.std.proofs.Common.{◌≡◌, ℕ, zero, suc, ◌+◌, ◌<◌, ◌^◌, max, List, [], ◌∷◌, map, length, take, drop, get_or, refl, sym, ap, subst, ◌∙◌, arith, Bool, IsTrue, ◌↔◌, inl, inr}
-use Rattle.std.proofs.lemmas.List.{length-map, take_more}
-use Rattle.std.proofs.lemmas.List.Recursion.{max_push}
+use Rattle.std.proofs.Common.{◌≡◌, ℕ, zero, suc, ◌+◌, ◌<◌, ◌^◌, max, List, [], ◌∷◌, map, length, take, drop, get_or, refl, sym, subst, ◌∙◌, arith, Bool, IsTrue, ◌↔◌, inl, inr}
+use Rattle.std.proofs.lemmas.List.{length-map}
 use Rattle.cborn_model.specs.declared.items.Item.{Item}
 use Rattle.cborn_model.specs.ItemView.{item_value, pair_value}
 use Rattle.cborn_model.specs.Value.{Value, array, dict, values_of, pairs_of}
 use Rattle.cborn_model.specs.Valid.{IsNew, HasNewKeys, IsProper, AreProper, HasProperPairs, value_depth, values_depth, pairs_depth}
 use Rattle.cborn_model.specs.devices.Pairs.{Gives}
+use Rattle.cborn_model.proofs.Listed.Trees.{greatest_more}
 use Rattle.cborn_model.proofs.Listed.Values.{value_count-values_of, pair_count-pairs_of}
 use Rattle.cborn_model.proofs.SameItems.Comparing.{values, pairs, IsProperItem, IsProperPair}
 
@@ -38,18 +38,12 @@ pub given_not_new : (k v : Value) (ps : List (Value × Value)) → IsNew k (pair
 given_not_new k v [] h g = g
 given_not_new k v (p ∷ ps) h g = elim g [ inl s ↦ h.0 s.0 | inr s ↦ given_not_new k v ps h.1 s ]
 
--- one more item, as a loop over the items meets it
+-- one more item
 pub value_depth-take_more : (is : List Item) (i : ℕ) (x : Item) → i < length is → x ≡ get_or is i x → values_depth (values_of (map item_value (take (i + 1) is))) ≡ max (values_depth (values_of (map item_value (take i is)))) (value_depth (item_value x))
-value_depth-take_more is i x h e =
-    let F : List Item → ℕ = λ l. values_depth (values_of (map item_value l)) in
-    let each : Item → ℕ = λ y. value_depth (item_value y) in
-    ap F (take_more is i x h) ∙ max_push F each refl (λ _ _. refl) (take i is) (get_or is i x) ∙ ap (λ y. max (F (take i is)) (each y)) (sym e)
+value_depth-take_more = greatest_more (λ l. values_depth (values_of (map item_value l))) (λ y. value_depth (item_value y)) refl (λ _ _. refl)
 
 pub pair_value_depth-take_more : (ps : List (Item × Item)) (i : ℕ) (x : Item × Item) → i < length ps → x ≡ get_or ps i x → pairs_depth (pairs_of (map pair_value (take (i + 1) ps))) ≡ max (pairs_depth (pairs_of (map pair_value (take i ps)))) (max (value_depth (item_value x.0)) (value_depth (item_value x.1)))
-pair_value_depth-take_more ps i x h e =
-    let F : List (Item × Item) → ℕ = λ l. pairs_depth (pairs_of (map pair_value l)) in
-    let each : Item × Item → ℕ = λ y. max (value_depth (item_value y.0)) (value_depth (item_value y.1)) in
-    ap F (take_more ps i x h) ∙ max_push F each refl (λ _ _. refl) (take i ps) (get_or ps i x) ∙ ap (λ y. max (F (take i ps)) (each y)) (sym e)
+pair_value_depth-take_more = greatest_more (λ l. pairs_depth (pairs_of (map pair_value l))) (λ y. max (value_depth (item_value y.0)) (value_depth (item_value y.1))) refl (λ _ _. refl)
 
 given_in_front : (k v : Value) (n : ℕ) (ps : List (Item × Item)) → Gives k v (pairs (take n ps)) → Gives k v (pairs ps)
 given_in_front k v zero ps g = absurd g

@@ -1,9 +1,9 @@
 -- The definitions over items, in std's words, and what a recursion over an `Item` goes down by.
-use Rattle.std.proofs.Common.{◌≡◌, ℕ, suc, ◌<◌, ◌≤◌, max, map, List, [], ◌∷◌, length, get_or, refl, sym, ap, subst}
-use Rattle.std.proofs.lemmas.List.Recursion.{max_bounds}
+use Rattle.std.proofs.Common.{◌≡◌, ℕ, suc, ◌<◌, ◌≤◌, max, map, List, [], ◌∷◌, length, get_or, refl, ap}
 use Rattle.cborn_model.specs.declared.items.Item.{Item}
 use Rattle.cborn_model.specs.ItemView.{item_value, pair_value}
 use Rattle.cborn_model.specs.Value.{Value, values_of, pairs_of, listed, value_count, pair_count, height, height_all, height_pairs}
+use Rattle.cborn_model.proofs.Listed.Trees.{no_greater}
 
 pub value_count-values_of : (vs : List Value) → value_count (values_of vs) ≡ length vs
 value_count-values_of [] = refl
@@ -22,11 +22,7 @@ pair_height p = max (height (item_value p.0)) (height (item_value p.1))
 
 -- an item of a list is no higher than all of them
 pub height_of_item : (is : List Item) (n : ℕ) (x : Item) → n < length is → x ≡ get_or is n x → height (item_value x) ≤ height_all (values_of (map item_value is))
-height_of_item is n x h e =
-    let bound = max_bounds (λ xs. height_all (values_of (map item_value xs))) (λ i. height (item_value i)) refl (λ _ _. refl) is n x h in
-    subst (λ (y : Item). height (item_value y) ≤ height_all (values_of (map item_value is))) (sym e) bound
+height_of_item = no_greater (λ xs. height_all (values_of (map item_value xs))) (λ i. height (item_value i)) refl (λ _ _. refl)
 
 pub height_of_pair : (ps : List (Item × Item)) (n : ℕ) (x : Item × Item) → n < length ps → x ≡ get_or ps n x → pair_height x ≤ height_pairs (pairs_of (map pair_value ps))
-height_of_pair ps n x h e =
-    let bound = max_bounds (λ xs. height_pairs (pairs_of (map pair_value xs))) pair_height refl (λ _ _. refl) ps n x h in
-    subst (λ (y : Item × Item). pair_height y ≤ height_pairs (pairs_of (map pair_value ps))) (sym e) bound
+height_of_pair = no_greater (λ xs. height_pairs (pairs_of (map pair_value xs))) pair_height refl (λ _ _. refl)

@@ -1,120 +1,73 @@
--- A device of the proofs: a code for items, by which they are told apart. An item is the list of its marks, children first. No definition cites it.
-use Rattle.std.specs.Prelude.{ℕ, ◌≡◌, ◌⊎◌, Bool, List, [], ◌∷◌, refl}
-use Rattle.std.proofs.Common.{inl, inr, ◌∙◌}
-use Rattle.std.specs.Coded.{Coded, code_by, coded×, coded⊎, coded_ℕ, coded_bool, coded_list}
-use base.Stored.{coded_unit}
+-- A device of the proofs: a code for items, by which they are told apart. It is that of a tree, which is another for each. No definition cites it.
+use Rattle.std.specs.Prelude.{zero, ◌≡◌, true, false, refl}
+use Rattle.std.proofs.Common.{ap, ◌∙◌}
+use Rattle.std.specs.Coded.{Coded, code_by}
+use Rattle.cborn_model.specs.declared.heads.Width.TheVariants.{Direct}
+use Rattle.cborn_model.specs.declared.heads.Size.TheVariants.{Endless}
+use Rattle.cborn_model.specs.Tree.{Tree, Bytes, Text, Items, Pairs, Tagged, Simple, Trees, no_item, more, Entries, no_entry, entry}
 use Rattle.cborn_model.specs.Value.{Value, integer, bytes, text, array, dict, tagged, simple, Values, no_values, value, Couples, no_pairs, pair}
+use Rattle.cborn_model.specs.shared.TreeCode.{tree_code}
 
--- an item without children
-abbrev Leaf : Type 0
-Leaf = (Bool × List ℕ) ⊎ (List ℕ ⊎ (List ℕ ⊎ ℕ))
-
--- what a mark says: a leaf, or what is made of the marks before it
-abbrev Mark : Type 0
-Mark = Leaf ⊎ (ℕ ⊎ (Unit {0} ⊎ (Unit {0} ⊎ (Unit {0} ⊎ (Unit {0} ⊎ (Unit {0} ⊎ Unit {0}))))))
-
-abbrev tagged_mark : ℕ → Mark
-tagged_mark n = inr (inl n)
-
-abbrev array_mark : Mark
-array_mark = inr (inr (inl tt))
-
-abbrev dict_mark : Mark
-dict_mark = inr (inr (inr (inl tt)))
-
-abbrev no_values_mark : Mark
-no_values_mark = inr (inr (inr (inr (inl tt))))
-
-abbrev value_mark : Mark
-value_mark = inr (inr (inr (inr (inr (inl tt)))))
-
-abbrev no_pairs_mark : Mark
-no_pairs_mark = inr (inr (inr (inr (inr (inr (inl tt))))))
-
-abbrev pair_mark : Mark
-pair_mark = inr (inr (inr (inr (inr (inr (inr tt))))))
-
--- the marks of an item, before the marks k
+-- the place is the sign of an integer, and the kind of a string
 abbrev mutual
-  marks : Value → List Mark → List Mark
-  marks (integer s m) k = inl (inl (s, m)) ∷ k
-  marks (bytes b) k = inl (inr (inl b)) ∷ k
-  marks (text b) k = inl (inr (inr (inl b))) ∷ k
-  marks (simple n) k = inl (inr (inr (inr n))) ∷ k
-  marks (array vs) k = marks_all vs (array_mark ∷ k)
-  marks (dict ps) k = marks_pairs ps (dict_mark ∷ k)
-  marks (tagged t v) k = marks v (tagged_mark t ∷ k)
+  tree : Value → Tree
+  tree (integer false m) = Bytes 0 Direct m
+  tree (integer true m) = Bytes 1 Direct m
+  tree (bytes b) = Text 0 Direct b
+  tree (text b) = Text 1 Direct b
+  tree (array vs) = Items 0 Endless (all_trees vs)
+  tree (dict ps) = Pairs 0 Endless (pair_trees ps)
+  tree (tagged n v) = Tagged 0 Direct n (tree v)
+  tree (simple n) = Simple 0 n
 
-  marks_all : Values → List Mark → List Mark
-  marks_all no_values k = no_values_mark ∷ k
-  marks_all (value v vs) k = marks v (marks_all vs (value_mark ∷ k))
+  all_trees : Values → Trees
+  all_trees no_values = no_item
+  all_trees (value v vs) = more (tree v) (all_trees vs)
 
-  marks_pairs : Couples → List Mark → List Mark
-  marks_pairs no_pairs k = no_pairs_mark ∷ k
-  marks_pairs (pair a b ps) k = marks a (marks b (marks_pairs ps (pair_mark ∷ k)))
+  pair_trees : Couples → Entries
+  pair_trees no_pairs = no_entry
+  pair_trees (pair k v ps) = entry (tree k) (tree v) (pair_trees ps)
 
-module _ {A : Type 0} where
-  abbrev first : A → List A → A
-  first d [] = d
-  first d (x ∷ xs) = x
+-- the item of which this is the tree
+abbrev mutual
+  item : Tree → Value
+  item (Bytes zero w m) = integer false m
+  item (Bytes p w m) = integer true m
+  item (Text zero w b) = bytes b
+  item (Text p w b) = text b
+  item (Items p s ts) = array (all_items ts)
+  item (Pairs p s es) = dict (pair_items es)
+  item (Tagged p w n t) = tagged n (item t)
+  item (Simple p n) = simple n
+  item _ = simple 0
 
-  abbrev rest : List A → List A
-  rest [] = []
-  rest (x ∷ xs) = xs
+  all_items : Trees → Values
+  all_items no_item = no_values
+  all_items (more t ts) = value (item t) (all_items ts)
 
-abbrev leaf : Leaf → Value
-leaf (inl x) = integer x.0 x.1
-leaf (inr (inl b)) = bytes b
-leaf (inr (inr (inl b))) = text b
-leaf (inr (inr (inr n))) = simple n
-
-abbrev value_first : List Value → Value
-value_first a = first (simple 0) a
-
--- the item that marks make, next to the items, lists and pairs that were made before
-abbrev made : List Mark → List Value → List Values → List Couples → Value
-made [] a b c = value_first a
-made (inl l ∷ ms) a b c = made ms (leaf l ∷ a) b c
-made (inr (inl n) ∷ ms) a b c = made ms (tagged n (value_first a) ∷ rest a) b c
-made (inr (inr (inl u)) ∷ ms) a b c = made ms (array (first no_values b) ∷ a) (rest b) c
-made (inr (inr (inr (inl u))) ∷ ms) a b c = made ms (dict (first no_pairs c) ∷ a) b (rest c)
-made (inr (inr (inr (inr (inl u)))) ∷ ms) a b c = made ms a (no_values ∷ b) c
-made (inr (inr (inr (inr (inr (inl u))))) ∷ ms) a b c =
-    made ms (rest a) (value (value_first a) (first no_values b) ∷ rest b) c
-made (inr (inr (inr (inr (inr (inr (inl u)))))) ∷ ms) a b c = made ms a b (no_pairs ∷ c)
-made (inr (inr (inr (inr (inr (inr (inr u)))))) ∷ ms) a b c =
-    made ms (rest (rest a)) b (pair (value_first (rest a)) (value_first a) (first no_pairs c) ∷ rest c)
+  pair_items : Entries → Couples
+  pair_items no_entry = no_pairs
+  pair_items (entry k v es) = pair (item k) (item v) (pair_items es)
 
 mutual
-  pub made-marks : (v : Value) (k : List Mark) (a : List Value) (b : List Values) (c : List Couples) → made (marks v k) a b c ≡ made k (v ∷ a) b c
-  made-marks (integer s m) k a b c = refl
-  made-marks (bytes x) k a b c = refl
-  made-marks (text x) k a b c = refl
-  made-marks (simple n) k a b c = refl
-  made-marks (array vs) k a b c = made-marks_all vs (array_mark ∷ k) a b c
-  made-marks (dict ps) k a b c = made-marks_pairs ps (dict_mark ∷ k) a b c
-  made-marks (tagged t v) k a b c = made-marks v (tagged_mark t ∷ k) a b c
+  pub same : (v : Value) → item (tree v) ≡ v
+  same (integer false m) = refl
+  same (integer true m) = refl
+  same (bytes b) = refl
+  same (text b) = refl
+  same (array vs) = ap array (same_all vs)
+  same (dict ps) = ap dict (same_pairs ps)
+  same (tagged n v) = ap (tagged n) (same v)
+  same (simple n) = refl
 
-  made-marks_all : (vs : Values) (k : List Mark) (a : List Value) (b : List Values) (c : List Couples) → made (marks_all vs k) a b c ≡ made k a (vs ∷ b) c
-  made-marks_all no_values k a b c = refl
-  made-marks_all (value v vs) k a b c =
-      made-marks v (marks_all vs (value_mark ∷ k)) a b c ∙ made-marks_all vs (value_mark ∷ k) (v ∷ a) b c
+  same_all : (vs : Values) → all_items (all_trees vs) ≡ vs
+  same_all no_values = refl
+  same_all (value v vs) = ap (λ w. value w (all_items (all_trees vs))) (same v) ∙ ap (value v) (same_all vs)
 
-  made-marks_pairs : (ps : Couples) (k : List Mark) (a : List Value) (b : List Values) (c : List Couples) → made (marks_pairs ps k) a b c ≡ made k a b (ps ∷ c)
-  made-marks_pairs no_pairs k a b c = refl
-  made-marks_pairs (pair x y ps) k a b c =
-      made-marks x (marks y (marks_pairs ps (pair_mark ∷ k))) a b c ∙ made-marks y (marks_pairs ps (pair_mark ∷ k)) (x ∷ a) b c ∙ made-marks_pairs ps (pair_mark ∷ k) (y ∷ x ∷ a) b c
-
-abbrev leaf_code : Coded Leaf
-leaf_code =
-    let string : Coded (List ℕ) = coded_list coded_ℕ in
-    coded⊎ (coded× coded_bool string) (coded⊎ string (coded⊎ string coded_ℕ))
-
-abbrev mark_code : Coded Mark
-mark_code =
-    let unit : Coded (Unit {0}) = coded_unit in
-    coded⊎ leaf_code (coded⊎ coded_ℕ (coded⊎ unit (coded⊎ unit (coded⊎ unit (coded⊎ unit (coded⊎ unit unit))))))
+  same_pairs : (ps : Couples) → pair_items (pair_trees ps) ≡ ps
+  same_pairs no_pairs = refl
+  same_pairs (pair k v ps) =
+      ap (λ w. pair w (item (tree v)) (pair_items (pair_trees ps))) (same k) ∙ ap (λ w. pair k w (pair_items (pair_trees ps))) (same v) ∙ ap (pair k v) (same_pairs ps)
 
 abbrev pub value_code : Coded Value
-value_code =
-    code_by (List Mark) (coded_list mark_code) (λ v. marks v []) (λ ms. made ms [] [] []) (λ v. made-marks v [] [] [] [])
+value_code = code_by Tree tree_code tree item same

@@ -11,14 +11,14 @@ use Rattle.cborn_model.specs.Tree.{Tree, Bytes, Text, ByteChunks, TextChunks, mo
 use Rattle.cborn_model.specs.Spelled.{ending, chunk_bytes, spelled, spelled_all, spelled_entries, ChunksFit, Fits, FitsAll, FitsEntries}
 use Rattle.cborn_model.specs.Placed.{ChunksPlaced, Placed, PlacedAll, PlacedEntries}
 use Rattle.cborn_model.specs.Partial.{Opening, an_array, a_map, a_tag, in_chunks, paired, last_key, chunk_of, chunks_of, built, ended_size, IsAll, IsString, AreStrings, Goes, Ends}
+use Rattle.cborn_model.specs.shared.Walks.{string_of}
 use Rattle.cborn_model.proofs.Listed.Trees.{count-trees, count_entries-entries}
+use Rattle.cborn_model.proofs.HandedOver.{strings}
 use Rattle.cborn_wire.specs.Slots.{StringKind, OfBytes, OfText, major_of, opened, announced, opening, slot_in, slot_in_map, added_depth, Announces, HeadFits}
 use Rattle.cborn_wire.specs.SlotFaults.{needs_item}
 use Rattle.cborn_wire.specs.Places.{chunks_from, placed_from, all_from, entries_from}
 use Rattle.cborn_wire.specs.shared.Machine.{is_full}
 use Rattle.cborn_wire.specs.shared.Ground.{place_of}
-use Rattle.cborn_wire.specs.devices.OpenNodes.{string_of}
-use Rattle.cborn_wire.proofs.Building.{chunks_same}
 
 -- Keys and values in turn: how many pairs they are, and whether a value is missing.
 
@@ -269,11 +269,6 @@ list_entries (k ∷ v ∷ ts) p = ap (entry (placed_from p k) (placed_from (p + 
 pub list_pairs : (ts : List Tree) (p : ℕ) → length (paired (list_from p ts)) ≡ length (paired ts)
 list_pairs ts p = pair_count (list_from p ts) ∙ ap (λ n. n / 2) (list_length ts p) ∙ sym (pair_count ts)
 
-pub strings_all : (k : StringKind) (cs : List Chunk) → AreStrings k (map (string_of k) cs)
-strings_all k [] = tt
-strings_all OfBytes (c ∷ cs) = (tt, strings_all OfBytes cs)
-strings_all OfText (c ∷ cs) = (tt, strings_all OfText cs)
-
 strings_from : (k : StringKind) (cs : List Chunk) (p : ℕ) → list_from p (map (string_of k) cs) ≡ map (string_of k) (chunks_from (major_of k) p cs)
 strings_from k [] p = refl
 strings_from OfBytes (c ∷ cs) p = ap (λ ts. Bytes p c.width c.bytes ∷ ts) (strings_from OfBytes cs _)
@@ -283,7 +278,7 @@ list_strings : (k : StringKind) (ts : List Tree) (p : ℕ) → AreStrings k ts �
 list_strings k ts p h = ap (list_from p) (sym (strings_are k ts h)) ∙ strings_from k (chunks_of ts) p
 
 pub strings_stay : (k : StringKind) (ts : List Tree) (p : ℕ) → AreStrings k ts → AreStrings k (list_from p ts)
-strings_stay k ts p h = subst (AreStrings k) (sym (list_strings k ts p h)) (strings_all k (chunks_from (major_of k) p (chunks_of ts)))
+strings_stay k ts p h = subst (AreStrings k) (sym (list_strings k ts p h)) (strings k (chunks_from (major_of k) p (chunks_of ts))).0
 
 pub ends_from : (o : Opening) (ts : List Tree) (p : ℕ) → Ends o ts → Ends o (list_from p ts)
 ends_from (an_array q s c) ts p h = subst (IsAll c) (sym (list_length ts p)) h
@@ -293,7 +288,7 @@ ends_from (in_chunks q k) ts p h = strings_stay k ts p h
 
 list_chunks : (k : StringKind) (ts : List Tree) (p : ℕ) → AreStrings k ts → chunks_of (list_from (p + 1) ts) ≡ chunks_from (major_of k) (suc p) (chunks_of ts)
 list_chunks k ts p h =
-    ap chunks_of (list_strings k ts (p + 1) h) ∙ chunks_same k (chunks_from (major_of k) (p + 1) (chunks_of ts)) ∙ ap (λ n. chunks_from (major_of k) n (chunks_of ts)) (add-one p)
+    ap chunks_of (list_strings k ts (p + 1) h) ∙ (strings k (chunks_from (major_of k) (p + 1) (chunks_of ts))).1 ∙ ap (λ n. chunks_from (major_of k) n (chunks_of ts)) (add-one p)
 
 pub built_from : (o : Opening) (ts : List Tree) (p : ℕ) → HeadFits o → Ends o ts → built (opening_from p o) (list_from (p + length (opening o)) ts) ≡ placed_from p (built o ts)
 built_from (an_array q s c) ts p fits h =

@@ -13,6 +13,8 @@ use Rattle.cborn_model.specs.Heads.{Given, EndlessArgument, head, WidthFits, lea
 use Rattle.cborn_model.specs.Partial.{Opening, an_array, a_map, a_tag, in_chunks, built, string_tree, last_key, chunks_of, Goes, Ends}
 use Rattle.cborn_model.specs.Tree.{Tree, Uint, Nint, Bytes, Text, ByteChunks, TextChunks, Items, Pairs, Tagged, Simple, Trees, no_item, more, Entries, no_entry, entry, trees, count, count_entries, depth, depth_all}
 use Rattle.cborn_model.specs.Spelled.{ending, string, spelled, spelled_all, Fits, FitsAll}
+use Rattle.cborn_model.specs.shared.Walks.{string_of}
+use Rattle.cborn_model.proofs.HandedOver.{strings}
 use Rattle.cborn_model.proofs.Numbers.Simples.{simple_cases, simple_fits, least_direct, least_one}
 use Rattle.cborn_wire.specs.declared.faults.WireReason.{WireReason}
 use Rattle.cborn_wire.specs.declared.faults.WireReason.TheVariants.{BadSimple, UnexpectedBreak}
@@ -20,11 +22,9 @@ use Rattle.cborn_wire.specs.Places.{placed_from}
 use Rattle.cborn_wire.specs.Slots.{StringKind, OfBytes, OfText, major_of, Slot, item, value, chunk, OpenContainer, opened, opening, slot, slot_in, slot_in_map, added_depth, open_depth, HeadFits, IsNoString}
 use Rattle.cborn_wire.specs.SlotFaults.{needs_item}
 use Rattle.cborn_wire.specs.HeadReading.{ArgumentFits}
-use Rattle.cborn_wire.specs.devices.OpenNodes.{string_of}
 use Rattle.cborn_wire.specs.shared.InitialBytes.{Info, Now, Next, EndlessInformation, is_reserved, is_endless_head, is_always_bounded, is_other, is_container, is_bad_chunk, head_reason, info_for}
 use Rattle.cborn_wire.specs.shared.Machine.{append_trees, snoc, content_of, nothing, gathering, Live, Failed, is_full, finished, holding, gather, after_head, run}
-use Rattle.cborn_wire.proofs.Machine.Containers.{nodes_of, nodes_entries, nodes_end, nodes_count, nodes_fit, nodes_deep, strings_are, strings_all, strings_fitting, strings_flat, not_yet, closing, endless_closing, full_closing, built_spelled, list_from, opening_from, ends_from, built_from}
-use Rattle.cborn_wire.proofs.Building.{chunks_same}
+use Rattle.cborn_wire.proofs.Machine.Containers.{nodes_of, nodes_entries, nodes_end, nodes_count, nodes_fit, nodes_deep, strings_are, strings_fitting, strings_flat, not_yet, closing, endless_closing, full_closing, built_spelled, list_from, opening_from, ends_from, built_from}
 use Rattle.cborn_wire.proofs.Machine.TakesHeads.{gathers, takes_head}
 use Rattle.cborn_wire.proofs.Spelled.TreeLists.{tree_list, trees-tree_list, tree_count}
 
@@ -227,11 +227,11 @@ mutual
   takes (Text q w bytes) limit fed ready os x fits free deep =
       takes_string limit fed ready os OfText w bytes x fits.0 (clear_given (slot os) (leb limit (open_depth os)) TextString w (length bytes) (no_bad_chunk os TextString _ free) refl refl)
   takes (ByteChunks q cs) limit fed ready os x fits free deep =
-      subst (λ ds. IsTaken limit fed ready os x (ByteChunks q ds)) (chunks_same OfBytes cs) (takes_container limit fed ready os (in_chunks fed OfBytes) (map (string_of OfBytes) cs) x refl
-      (strings_taken limit fed OfBytes cs) tt (strings_fitting OfBytes cs fits) (strings_all OfBytes cs) free (omega (arith, strings_flat OfBytes cs, deep)))
+      subst (λ ds. IsTaken limit fed ready os x (ByteChunks q ds)) (strings OfBytes cs).1 (takes_container limit fed ready os (in_chunks fed OfBytes) (map (string_of OfBytes) cs) x refl
+      (strings_taken limit fed OfBytes cs) tt (strings_fitting OfBytes cs fits) (strings OfBytes cs).0 free (omega (arith, strings_flat OfBytes cs, deep)))
   takes (TextChunks q cs) limit fed ready os x fits free deep =
-      subst (λ ds. IsTaken limit fed ready os x (TextChunks q ds)) (chunks_same OfText cs) (takes_container limit fed ready os (in_chunks fed OfText) (map (string_of OfText) cs) x refl
-      (strings_taken limit fed OfText cs) tt (strings_fitting OfText cs fits) (strings_all OfText cs) free (omega (arith, strings_flat OfText cs, deep)))
+      subst (λ ds. IsTaken limit fed ready os x (TextChunks q ds)) (strings OfText cs).1 (takes_container limit fed ready os (in_chunks fed OfText) (map (string_of OfText) cs) x refl
+      (strings_taken limit fed OfText cs) tt (strings_fitting OfText cs fits) (strings OfText cs).0 free (omega (arith, strings_flat OfText cs, deep)))
   takes (Items q (Fixed w) ts) limit fed ready os x fits free deep =
       let o = an_array fed (Fixed w) (Some (count ts)) in
       let same = trees-tree_list ts in

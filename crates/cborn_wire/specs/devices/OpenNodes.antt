@@ -1,23 +1,13 @@
 -- A device of the proofs: the partial sequence that the visitor which builds nodes holds. No definition cites it; the contracts of the crate's own functions do.
 use Rattle.std.specs.Prelude.{◌≡◌, List, [], ◌∷◌, ◌++◌, map, Option, Some, None}
 use Rattle.std.specs.Option.{option_to_list}
-use Rattle.cborn_model.specs.declared.nodes.Chunk.{Chunk}
-use Rattle.cborn_model.specs.declared.visitors.StringKind.{StringKind}
 use Rattle.cborn_model.specs.Tree.{Tree}
-use Rattle.cborn_model.specs.Partial.{an_array, a_map, a_tag, in_chunks, Partial, top, inside, Part, no_part, part, string_tree, built}
+use Rattle.cborn_model.specs.Partial.{an_array, a_map, a_tag, in_chunks, Partial, top, inside, Part, no_part, part, built}
+use Rattle.cborn_model.specs.shared.Walks.{flat, string_of}
 use Rattle.cborn_wire.specs.declared.open_nodes.OpenNode.{OpenNode}
 use Rattle.cborn_wire.specs.declared.open_nodes.OpenNode.TheVariants.{Input, Items, Pairs, Tag, Chunks}
 use Rattle.cborn_wire.specs.declared.nodes.OpenString.{OpenString}
 use Rattle.cborn_wire.specs.declared.nodes.Nodes.{Nodes}
-
--- keys and values in turn
-abbrev pub flat : List (Tree × Tree) → List Tree
-flat [] = []
-flat (e ∷ es) = e.0 ∷ e.1 ∷ flat es
-
--- a chunk as a string of this kind
-abbrev pub string_of : StringKind → Chunk → Tree
-string_of k c = string_tree c.place k c.width c.bytes
 
 -- a container in a partial sequence
 abbrev pub within : Partial → OpenNode → Partial
