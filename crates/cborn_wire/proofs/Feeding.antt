@@ -3,6 +3,5 @@ pub mod Completing
 pub mod FeederLaws
 pub mod Outcomes
 pub mod WholeInput
-pub mod OneItem
 pub mod ItemSteps
 pub mod PieceSteps

@@ -1,15 +1,17 @@
 //! Where the item that starts at an offset ends.
 
-ghost use Rattle.std.specs.Prelude.{◌≡◌, ◌++◌, ◌≤◌, ℕ, List, None, length, drop, IfOk, IfSome};
+ghost use Rattle.std.specs.Prelude.{◌≡◌, ◌∷◌, ◌++◌, ◌≤◌, ℕ, List, [], None, length, drop, IfOk, IfSome};
 ghost use Rattle.cborn_model.specs.Tree.{Tree, depth};
 ghost use Rattle.cborn_model.specs.Spelled.{spelled, Fits};
+ghost use Rattle.cborn_model.specs.Partial.{top, no_part};
 ghost use Rattle.cborn_wire.specs.Reading.{IsFirstItem, EndsItem};
+ghost use Rattle.cborn_wire.specs.devices.ItemReading.{EndsHeld};
 
 use crate::head_readers::{HeadReader, Until};
 use crate::levels::GrownLevels;
 use crate::scanning::Nothing;
 use crate::{WireFault, WireReason};
-use cborn_model::Limit;
+use cborn_model::{Limit, Visitor};
 use std::alloc::{AllocError, Global};
 
 /// Where the item ends that starts in `bytes` at the offset `start`, which is at most their length:
@@ -29,12 +31,28 @@ pub fn item_end(
     requires { start ≤ length bytes.now }
     ensures { EndsItem limit bytes.now start result }
 {
+    visit_item(alloc, limit, bytes, start, &mut Nothing)
+}
+
+/// What [`item_end`] gives. A visitor that was handed nothing is handed the item.
+#[inline(always)]
+pub(crate) fn visit_item<V: Visitor>(
+    alloc: Global,
+    limit: Limit,
+    bytes: &[u8],
+    start: usize,
+    visitor: &mut V,
+) -> Result<Option<usize>, WireFault>
+    requires start { start ≤ length bytes.now }
+    requires nothing { V.holds visitor.old (top []) no_part }
+    ensures { EndsHeld (λ t. V.holds visitor.new (top (t ∷ [])) no_part) limit bytes.now start result }
+{
     if start == bytes.len() {
         return Ok(None);
     }
     let mut reader = HeadReader::new(limit, start as u64);
     let mut levels = GrownLevels::new(alloc);
-    match reader.read(&mut levels, &mut Nothing, &bytes[start..], Until::Item) {
+    match reader.read(&mut levels, visitor, &bytes[start..], Until::Item) {
         Ok(len) if reader.is_whole(&levels) => Ok(Some(start + len)),
         Ok(_) => Err(WireFault::Refused {
             place: bytes.len() as u64,

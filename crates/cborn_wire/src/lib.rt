@@ -7,13 +7,12 @@
 //!   string to a visitor (`cborn_model::Visitor`). It is the one loop over heads. What is open are
 //!   its [`Levels`] (`levels`), a stack in the place of recursion; `refusals` says where a head
 //!   isn't allowed, and `counting` what a head makes of the levels.
-//! - A [`Feeder`] is fed an input in pieces, and gives items as they are completed. [`read_all`]
-//!   feeds it an input that is in memory; [`read_one`] reads one item from an offset on. Both read
-//!   one item after another (`item_readers`), with a visitor that builds nodes (`nodes`): it puts
-//!   what is whole into the innermost open container (`open_nodes`).
+//! - A [`Feeder`] is fed an input in pieces, and gives items as they are completed, one after
+//!   another (`item_readers`). [`read_all`] feeds it an input that is in memory. A visitor builds
+//!   the nodes (`nodes`): it puts what is whole into the innermost open container (`open_nodes`).
 //! - [`scan`] says whether an input in memory is well-formed, or what its one fault is: the reader
 //!   with a visitor that keeps nothing. [`item_end`] says where the item at an offset ends,
-//!   likewise.
+//!   likewise, and [`read_one`] reads it, with the visitor that builds nodes.
 //! - [`spell`] writes the bytes that a node spells.
 //! - `heads` reads and writes single heads. `walks` has what walks of other crates over bytes ask
 //!   at each step, and `specs/Parts.antt` what they read.

@@ -9,7 +9,8 @@ ghost use Rattle.cborn_wire.specs.declared.faults.WireReason.{WireReason};
 ghost use Rattle.cborn_wire.specs.Faults.{Fault};
 ghost use Rattle.cborn_wire.specs.Reading.{IsFirstItem, ItemFault};
 
-use crate::item_readers::ItemReader;
+use crate::first_items::visit_item;
+use crate::nodes::Nodes;
 use crate::{Feeder, WireFault, WireReason};
 use cborn_model::{Limit, Spelled};
 use std::alloc::Global;
@@ -48,17 +49,15 @@ pub fn read_one(
     ensures item { IfOk result (λ r. (r.1 ≤ length bytes.now) × IsFirstItem limit start r.0 (drop start bytes.now) (drop r.1 bytes.now)) }
     ensures fault { (p : ℕ) (r : WireReason) → result ≡ Err (Refused p r) → (q : ℕ) × (p ≡ start + q) × ItemFault limit (drop start bytes.now) q r }
 {
-    let mut reader = ItemReader::new(alloc, limit, start as u64);
-    let mut end = start;
-    while end < bytes.len() {
-        let (len, item) = reader.read_item(&bytes[end..])?;
-        end += len;
-        if let Some(item) = item {
-            return Ok((item, end));
-        }
-    }
-    Err(WireFault::Refused {
-        place: bytes.len() as u64,
-        reason: WireReason::Truncated,
-    })
+    let mut nodes = Nodes::new(alloc);
+    let Some(end) = visit_item(alloc, limit, bytes, start, &mut nodes)? else {
+        return Err(WireFault::Refused {
+            place: start as u64,
+            reason: WireReason::Truncated,
+        });
+    };
+    let Some(node) = nodes.take_whole() else {
+        unreachable!()
+    };
+    Ok((Spelled::new(node), end))
 }

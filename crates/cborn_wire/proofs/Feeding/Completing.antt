@@ -1,25 +1,19 @@
 -- What a reader that is fed by pieces has ready is what it has to give.
-use Rattle.std.proofs.Common.{◌≡◌, refl, sym, ap, ◌∙◌, subst, ℕ, ◌≤◌, List, [], ◌++◌, length, ◌⊎◌, inl, inr, arith, append_assoc, append-nil, length-append}
+use Rattle.std.proofs.Common.{◌≡◌, refl, sym, ap, ◌∙◌, subst, ℕ, ◌≤◌, List, [], ◌++◌, length, arith, append_assoc, append-nil, length-append}
 use Rattle.cborn_model.specs.Bytes.{AreBytes}
 use Rattle.cborn_model.specs.Tree.{Tree, Trees, no_item, more, trees, depth, depth_all}
 use Rattle.cborn_model.specs.Spelled.{spelled, spelled_all, Fits, FitsAll, Wellformed}
 use Rattle.cborn_model.specs.Placed.{Placed, PlacedAll}
-use Rattle.cborn_wire.specs.declared.faults.WireReason.{WireReason}
-use Rattle.cborn_wire.specs.declared.faults.WireReason.TheVariants.{Truncated}
 use Rattle.cborn_wire.specs.Slots.{OpenContainer, beginnings}
-use Rattle.cborn_wire.specs.Faults.{IsWellformed, Fault}
 use Rattle.cborn_wire.specs.Places.{all_from}
 use Rattle.cborn_wire.specs.Feeding.{AreComplete}
-use Rattle.cborn_wire.specs.shared.Machine.{append_trees, snoc, IsLive, Unfinished, nothing, State, Live, Failed, start, ready_in, partial_bytes, run}
+use Rattle.cborn_wire.specs.shared.Machine.{append_trees, snoc, Unfinished, nothing, State, Live, Failed, start, ready_in, partial_bytes, run}
 use Rattle.cborn_wire.proofs.Machine.Running.{failed_run}
 use Rattle.cborn_wire.proofs.Machine.WholeFront.{front_run}
 use Rattle.cborn_wire.proofs.Machine.TakesItems.{append_trees-nil}
-use Rattle.cborn_wire.proofs.Spelled.OneReading.{reads, ends_read, placed_reading, longest, ready_front}
+use Rattle.cborn_wire.proofs.Spelled.OneReading.{ends_read, placed_reading, longest, ready_front}
 use Rattle.cborn_wire.proofs.Machine.SoundItems.{SoundLive, Sound}
 use Rattle.cborn_wire.proofs.Machine.SoundRuns.{sound}
-use Rattle.cborn_wire.proofs.Spelled.FaultLaws.{well_or_fault}
-use Rattle.cborn_wire.proofs.Spelled.GoingOn.{refused_ends}
-use Rattle.cborn_wire.proofs.Spelled.SlotLaws.{live_goes}
 use Rattle.cborn_wire.proofs.Spelled.TreeLists.{spelled_all-append}
 
 -- Whole items stay, and more follow them.
@@ -97,16 +91,3 @@ module _ (limit base : ℕ) where
   first_read y fed t bytes e =
       let (w, placed) = ends_read limit base y bytes fed (more t no_item) e in
       (sym w.spells ∙ append-nil (spelled t), w.fit.0, omega (arith, w.shallow), placed.0)
-
-  -- Bytes without a complete item, of which none is refused, are none at all, or are cut.
-  pub no_item_cut : (x : List ℕ) → AreBytes x → IsLive (run limit (start base) x) → ready_in (run limit (start base) x) ≡ no_item → (x ≡ []) ⊎ Fault limit x (length x) Truncated
-  no_item_cut x bytes live e = choose (well_or_fault limit x bytes)
-    where
-      empty : (ts : Trees) → all_from base ts ≡ no_item → spelled_all ts ≡ x → x ≡ []
-      empty no_item n is = sym is
-      empty (more t ts) n is = cc
-
-      choose : IsWellformed limit x ⊎ ((p : ℕ) × (r : WireReason) × Fault limit x p r) → (x ≡ []) ⊎ Fault limit x (length x) Truncated
-      choose (inl (ts, w)) = inl (empty ts (sym (ap ready_in (reads limit base ts x w)) ∙ e) w.spells)
-      choose (inr (p, r, inl h)) = absurd (refused_ends limit x p r h (live_goes limit base x bytes live))
-      choose (inr (p, r, inr h)) = inr (inr (refl, (refl, h.1.1, h.1.2)))

@@ -1,6 +1,6 @@
 -- A piece is read by its fronts.
-use Rattle.std.proofs.Common.{◌≡◌, refl, sym, ap, ◌∙◌, subst, ℕ, ◌-◌, ◌≤◌, List, [], ◌++◌, length, take, drop, Option, Some, None, Err, inl, inr, arith, append_assoc, length-append}
-use Rattle.std.proofs.lemmas.List.{take-append-drop, take_all, take-append-le, nil_from_length}
+use Rattle.std.proofs.Common.{◌≡◌, refl, sym, ap, ◌∙◌, subst, ℕ, ◌+◌, ◌-◌, ◌≤◌, List, [], ◌++◌, length, take, drop, Option, Some, None, Result, Ok, Err, inl, inr, arith, append_assoc, length-append}
+use Rattle.std.proofs.lemmas.List.{take-append-drop, take_all, take_rest, take-append-le, nil_from_length}
 use Rattle.cborn_model.specs.Bytes.{AreBytes}
 use Rattle.cborn_model.specs.Tree.{Trees}
 use Rattle.cborn_model.specs.Partial.{Partial, Part, no_part, part}
@@ -13,9 +13,9 @@ use Rattle.cborn_wire.specs.declared.head_readers.PartialHead.{PartialHead}
 use Rattle.cborn_wire.specs.declared.head_readers.HeadReader.{HeadReader}
 use Rattle.cborn_wire.specs.Slots.{OpenContainer}
 use Rattle.cborn_wire.specs.shared.Machine.{Unfinished, nothing, State, Live, Failed, ready_in, start, run, AtMostOneMore}
-use Rattle.cborn_wire.specs.shared.Visiting.{unfinished, seen_head, Missing, Stands, FailsAs, HereAt, Here, IsFed, MayEnd, Reads, ReadsItem}
+use Rattle.cborn_wire.specs.shared.Visiting.{unfinished, seen_head, Missing, Stands, HereAt, Here, OpenIn, TakesPiece, IsFed, MayEnd, Reads, ReadsItem}
 use Rattle.cborn_wire.proofs.Machine.Running.{run-append}
-use Rattle.cborn_wire.proofs.Visiting.Taking.{bytes-take, outer_count}
+use Rattle.cborn_wire.proofs.Visiting.Taking.{bytes-take, is_open, outer_count}
 
 -- what was taken of a piece
 pub front_taken : (piece y rest : List ℕ) → piece ≡ y ++ rest → take (length y) piece ≡ y
@@ -47,55 +47,71 @@ may_end_here holds outer l m s n ts here is = go m.head refl here
 
 -- A front y of the piece was read, the rest is to come, and n bytes of that are taken next.
 module _ (piece y rest : List ℕ) (cut : piece ≡ y ++ rest) (n : ℕ) (fits : n ≤ length rest) where
-  pub next_cut : piece ≡ (y ++ take n rest) ++ drop n rest
-  next_cut = cut ∙ ap (λ l. y ++ l) (sym (take-append-drop n rest)) ∙ sym (append_assoc y (take n rest) (drop n rest))
+  pub next_cut : piece ≡ (y ++ take n rest) ++ take (length rest - n) (drop n rest)
+  next_cut = cut ∙ ap (λ l. y ++ l) (sym (take-append-drop n rest)) ∙ sym (append_assoc y (take n rest) (drop n rest)) ∙ ap (λ l. (y ++ take n rest) ++ l) (sym (take_rest rest n))
 
-  pub next_taken : take (length piece - length (drop n rest)) piece ≡ y ++ take n rest
-  next_taken = ap (λ k. take k piece) (omega (arith, ap length next_cut, length-append (y ++ take n rest) (drop n rest))) ∙ front_taken piece (y ++ take n rest) (drop n rest) next_cut
+  pub next_taken : take (length piece - length (take (length rest - n) (drop n rest))) piece ≡ y ++ take n rest
+  next_taken = ap (λ k. take k piece) (omega (arith, ap length next_cut, length-append (y ++ take n rest) (take (length rest - n) (drop n rest)))) ∙ front_taken piece (y ++ take n rest) (take (length rest - n) (drop n rest)) next_cut
 
--- After the bytes x and y a front of the rest is taken, or the rest is refused.
-module _ (limit base : ℕ) (x y rest : List ℕ) where
-  next_state : (n : ℕ) → run limit (run limit (start base) (x ++ y)) (take n rest) ≡ run limit (start base) (x ++ (y ++ take n rest))
-  next_state n = sym (run-append limit (start base) (x ++ y) (take n rest)) ∙ ap (run limit (start base)) (append_assoc x y (take n rest))
+-- After the bytes x and y the reader m takes a front of the rest, or the rest is refused.
+module _ {V L : Type 0} (holds : V → Partial → Part → Type 0) (outer : L → List Level) (inner : L → Level) (v : V) (k : L) (m : HeadReader) (base : ℕ) (x y rest : List ℕ) (fed : IsFed (holds v) (outer k) (inner k) m base (x ++ y)) where
+  abbrev now : State
+  now = run m.limit (start base) (x ++ y)
 
-  pub next_fed : (holds : Partial → Part → Type 0) (outer : List Level) (l : Level) (m : HeadReader) (n : ℕ) → AreBytes (x ++ y) → AreBytes rest → limit ≤ 1024 → m.limit ≡ limit
-      → HereAt holds outer l m.left m.at m.head (run limit (run limit (start base) (x ++ y)) (take n rest)) → IsFed holds outer l m base (x ++ (y ++ take n rest))
-  next_fed holds outer l m n are more small same here = (
-    subst AreBytes (append_assoc x y (take n rest)) (bytes-append (x ++ y) (take n rest) are (bytes-take n rest more)),
-    subst (λ k. k ≤ 1024) (sym same) small,
-    subst (λ k. Here holds outer l m (run k (start base) (x ++ (y ++ take n rest)))) (sym same) (subst (Here holds outer l m) (next_state n) here),
-  )
+  -- what a call that takes bytes gives here
+  abbrev Takes : V → L → HeadReader → Result ℕ WireFault → Type 0
+  Takes w j next r = (s : State) → Here (holds v) (outer k) (inner k) m s → OpenIn m.limit s → TakesPiece m.limit s rest (holds w) (outer j) (inner j) next.left m.at next.head r
 
-  pub next_item : (n : ℕ) → ready_in (run limit (start base) (x ++ y)) ≡ ready_in (run limit (start base) x)
-      → AtMostOneMore (ready_in (run limit (start base) (x ++ y))) (run limit (run limit (start base) (x ++ y)) (take n rest))
-      → AtMostOneMore (ready_in (run limit (start base) x)) (run limit (start base) (x ++ (y ++ take n rest)))
-  next_item n none one = subst (λ ts. AtMostOneMore ts (run limit (start base) (x ++ (y ++ take n rest)))) none (subst (AtMostOneMore (ready_in (run limit (start base) (x ++ y)))) (next_state n) one)
+  pub open_now : OpenIn m.limit now
+  open_now = is_open m.limit base (x ++ y) fed.0 (holds v) (outer k) (inner k) m.left m.at m.head fed.2
 
-  all_state : (piece : List ℕ) → piece ≡ y ++ rest → run limit (start base) (x ++ piece) ≡ run limit (run limit (start base) (x ++ y)) rest
-  all_state piece cut = ap (λ l. run limit (start base) (x ++ l)) cut ∙ ap (run limit (start base)) (sym (append_assoc x y rest)) ∙ run-append limit (start base) (x ++ y) rest
+  next_state : (n : ℕ) → run m.limit now (take n rest) ≡ run m.limit (start base) (x ++ (y ++ take n rest))
+  next_state n = sym (run-append m.limit (start base) (x ++ y) (take n rest)) ∙ ap (run m.limit (start base)) (append_assoc x y (take n rest))
 
-  pub next_refused : (holds : Partial → Part → Type 0) (outer : List Level) (l : Level) (m : HeadReader) (piece : List ℕ) (e : WireFault) → piece ≡ y ++ rest → m.limit ≡ limit
-      → ((p : ℕ) (r : WireReason) → e ≡ Refused p r → IsFed holds outer l m base (x ++ y))
-      → FailsAs (ready_in (run limit (start base) (x ++ y))) (run limit (run limit (start base) (x ++ y)) rest) e → Reads holds outer l m base x piece (Err e)
-  next_refused holds outer l m piece (Refused p r) cut same fed fails =
-      let taken : take (length y) piece ≡ y = front_taken piece y rest cut in
-      record {
-        taken = length y;
-        within = omega (arith, ap length cut, length-append y rest);
-        fed = subst (λ z. IsFed holds outer l m base (x ++ z)) (sym taken) (fed p r refl);
-        fails = rw (same, taken) (all_state piece cut ∙ fails);
-      }
-  next_refused holds outer l m piece OutOfMemory cut same fed fails = tt
+  module _ (w : V) (j : L) (next : HeadReader) (n : ℕ) (takes : Takes w j next (Ok n)) (same : next.limit ≡ m.limit) (at : next.at ≡ m.at) where
+    abbrev moved : HeadReader
+    moved = record next { at = next.at + n }
 
-  pub next_item_refused : (piece : List ℕ) (e : WireFault) → piece ≡ y ++ rest → ready_in (run limit (start base) (x ++ y)) ≡ ready_in (run limit (start base) x)
-      → FailsAs (ready_in (run limit (start base) (x ++ y))) (run limit (run limit (start base) (x ++ y)) rest) e → ReadsItem limit base x piece (Err e)
-  next_item_refused piece (Refused p r) cut none fails = all_state piece cut ∙ fails ∙ ap (λ ts. Failed ts p r) none
-  next_item_refused piece OutOfMemory cut none fails = tt
+    here : Here (holds w) (outer j) (inner j) moved (run m.limit (start base) (x ++ (y ++ take n rest)))
+    here = subst (λ p. HereAt (holds w) (outer j) (inner j) next.left (p + n) next.head (run m.limit (start base) (x ++ (y ++ take n rest)))) (sym at) (subst (HereAt (holds w) (outer j) (inner j) next.left (m.at + n) next.head) (next_state n) (takes now fed.2 open_now).0)
 
-  -- an item isn't whole where the input may not end
-  pub none_more : (holds : Partial → Part → Type 0) (outer : List Level) (l : Level) (m : HeadReader) (n : ℕ) → (MayEnd outer m → ⊥) → HereAt holds outer l m.left m.at m.head (run limit (run limit (start base) (x ++ y)) (take n rest))
-      → ready_in (run limit (start base) (x ++ y)) ≡ ready_in (run limit (start base) x)
-      → AtMostOneMore (ready_in (run limit (start base) (x ++ y))) (run limit (run limit (start base) (x ++ y)) (take n rest))
-      → ready_in (run limit (start base) (x ++ (y ++ take n rest))) ≡ ready_in (run limit (start base) x)
-  none_more holds outer l m n never here none (inl same) = ap ready_in (sym (next_state n)) ∙ same ∙ none
-  none_more holds outer l m n never here none (inr (fed, t, is)) = absurd (never (may_end_here holds outer l m _ fed _ here is))
+    pub next_fed : AreBytes rest → IsFed (holds w) (outer j) (inner j) moved base (x ++ (y ++ take n rest))
+    next_fed more = (
+      subst AreBytes (append_assoc x y (take n rest)) (bytes-append (x ++ y) (take n rest) fed.0 (bytes-take n rest more)),
+      subst (λ l. l ≤ 1024) (sym same) fed.1,
+      subst (λ l. Here (holds w) (outer j) (inner j) moved (run l (start base) (x ++ (y ++ take n rest)))) (sym same) here,
+    )
+
+    -- no item is whole before
+    module _ (none : ready_in now ≡ ready_in (run m.limit (start base) x)) where
+      pub next_item : AtMostOneMore (ready_in (run m.limit (start base) x)) (run m.limit (start base) (x ++ (y ++ take n rest)))
+      next_item = subst (λ ts. AtMostOneMore ts (run m.limit (start base) (x ++ (y ++ take n rest)))) none (subst (AtMostOneMore (ready_in now)) (next_state n) (takes now fed.2 open_now).1)
+
+      -- nor now, where the input may not end
+      pub none_more : (MayEnd (outer j) moved → ⊥) → ready_in (run next.limit (start base) (x ++ (y ++ take n rest))) ≡ ready_in (run next.limit (start base) x)
+      none_more never = subst (λ l. ready_in (run l (start base) (x ++ (y ++ take n rest))) ≡ ready_in (run l (start base) x)) (sym same) (go next_item)
+        where
+          go : AtMostOneMore (ready_in (run m.limit (start base) x)) (run m.limit (start base) (x ++ (y ++ take n rest))) → ready_in (run m.limit (start base) (x ++ (y ++ take n rest))) ≡ ready_in (run m.limit (start base) x)
+          go (inl is) = is
+          go (inr (end, t, is)) = absurd (never (may_end_here (holds w) (outer j) (inner j) moved _ end _ here is))
+
+  module _ (piece : List ℕ) (cut : piece ≡ y ++ rest) where
+    all_state : run m.limit (start base) (x ++ piece) ≡ run m.limit now rest
+    all_state = ap (λ l. run m.limit (start base) (x ++ l)) cut ∙ ap (run m.limit (start base)) (sym (append_assoc x y rest)) ∙ run-append m.limit (start base) (x ++ y) rest
+
+    pub next_refused : (w : V) (j : L) (next : HeadReader) (e : WireFault) → Takes w j next (Err e) → next.limit ≡ m.limit → ((p : ℕ) (r : WireReason) → ◌≡◌ {A = Result ℕ WireFault} (Err e) (Err (Refused p r)) → (w ≡ v) × (j ≡ k) × (next ≡ m))
+        → Reads (holds w) (outer j) (inner j) next base x piece (Err e)
+    next_refused w j next (Refused p r) takes same kept =
+        let taken : take (length y) piece ≡ y = front_taken piece y rest cut in
+        let (vs, ks, ms) = kept p r refl in
+        rw (vs, ks, ms) (record {
+          taken = length y;
+          within = omega (arith, ap length cut, length-append y rest);
+          fed = subst (λ z. IsFed (holds v) (outer k) (inner k) m base (x ++ z)) (sym taken) fed;
+          fails = rw taken (all_state ∙ takes now fed.2 open_now);
+        })
+    next_refused w j next OutOfMemory takes same kept = tt
+
+    pub next_item_refused : (w : V) (j : L) (next : HeadReader) (e : WireFault) → Takes w j next (Err e) → ready_in now ≡ ready_in (run m.limit (start base) x) → ReadsItem m.limit base x piece (Err e)
+    next_item_refused w j next (Refused p r) takes none = all_state ∙ takes now fed.2 open_now ∙ ap (λ ts. Failed ts p r) none
+    next_item_refused w j next OutOfMemory takes none = tt

@@ -1,8 +1,9 @@
 -- A device of the proofs: a reader of items, one after another, as a state of the machine. No definition cites it; the contracts of the crate's own functions do.
-use Rattle.std.specs.Prelude.{◌≡◌, ℕ, ◌+◌, ◌<◌, ◌≤◌, List, [], length, take, Option, Some, None, Result, MatchResult}
+use Rattle.std.specs.Prelude.{◌≡◌, ℕ, ◌+◌, ◌<◌, ◌≤◌, List, [], length, take, drop, Option, Some, None, Result, Ok, MatchResult}
 use Rattle.std.specs.Option.{option_to_list}
 use Rattle.cborn_model.specs.Tree.{Tree, no_item, trees}
 use Rattle.cborn_wire.specs.declared.faults.WireFault.{WireFault}
+use Rattle.cborn_wire.specs.Reading.{IsFirstItem, EndsItem}
 use Rattle.cborn_wire.specs.declared.head_readers.PartialHead.{PartialHead}
 use Rattle.cborn_wire.specs.declared.nodes.OpenString.{OpenString}
 use Rattle.cborn_wire.specs.declared.item_readers.ItemReader.{ItemReader}
@@ -53,3 +54,8 @@ pub record IsMoved (old : ItemReader) (before : List Tree) (new : ItemReader) (n
 -- The piece is read, or the reader stops, and has these whole items.
 abbrev pub Runs : List ℕ → ItemReader → List Tree → ItemReader → List Tree → Result (Unit {0}) WireFault → Type 0
 Runs piece old before new now r = MatchResult r (λ _. IsMoved old before new now piece) (λ e. Stops old.heads.limit (seen before old) piece e (trees now))
+
+-- Where the item ends that starts at the offset p, as `EndsItem` says. P holds of the item.
+abbrev pub EndsHeld : (Tree → Type 0) → ℕ → List ℕ → ℕ → Result (Option ℕ) WireFault → Type 0
+EndsHeld P limit x p (Ok (Some end)) = (p < end) × (end ≤ length x) × (t : Tree) × P t × IsFirstItem limit p t (drop p x) (drop end x)
+EndsHeld P limit x p r = EndsItem limit x p r
