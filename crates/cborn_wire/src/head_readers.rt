@@ -11,7 +11,7 @@ ghost use Rattle.cborn_wire.specs.Slots.{AreOpen, slot, open_depth};
 ghost use Rattle.cborn_wire.specs.HeadReading.{major_at};
 ghost use Rattle.cborn_wire.specs.shared.InitialBytes.{info_at, head_reason};
 ghost use Rattle.cborn_wire.specs.shared.Machine.{Live, State};
-ghost use Rattle.cborn_wire.specs.shared.Visiting.{ready, open_in, state, Keeps, seen_head, Here, IsShort, Takes, TakesPiece, OpenIn, IsFresh, IsFed, MayEnd, Reads, ReadsItem, next_head};
+ghost use Rattle.cborn_wire.specs.shared.Visiting.{ready, open_in, state, Keeps, seen_head, Here, IsShort, Takes, TakesPiece, TakesSome, OpenIn, IsFresh, IsFed, MayEnd, Reads, ReadsItem, next_head};
 
 use crate::counting::{close_string, take_head};
 use crate::heads::{read_number, wide_width};
@@ -164,10 +164,7 @@ impl HeadReader {
         requires some { 0 < length piece.now }
         requires room { self.old.at + length piece.now < 2 ^ 64 }
         ensures goes { (s : State) → Here (V.holds visitor.old) (L.outer levels.old) (L.inner levels.old) self.old s → OpenIn self.old.limit s → TakesPiece self.old.limit s piece.now (V.holds visitor.new) (L.outer levels.new) (L.inner levels.new) self.new.left self.old.at self.new.head result }
-        ensures some { IfOk result (λ n. 0 < n) }
-        ensures within { IfOk result (λ n. n ≤ length piece.now) }
-        ensures limit { self.new.limit ≡ self.old.limit }
-        ensures at { self.new.at ≡ self.old.at }
+        ensures some { TakesSome (length piece.now) self.old self.new result }
         ensures kept { (p : ℕ) (r : Reason) → result ≡ Err (Refused p r) → (visitor.new ≡ visitor.old) × (levels.new ≡ levels.old) × (self.new ≡ self.old) }
         ensures memory { result ≡ Err OutOfMemory → V.takes_memory ⊎ L.takes_memory }
     {
@@ -194,10 +191,7 @@ impl HeadReader {
         requires none { self.old.left ≡ 0 }
         requires open { length (L.outer levels.old) < L.most }
         ensures goes { (f : Partial) → V.holds visitor.old f no_part → Keeps f (L.outer levels.old) (L.inner levels.old) → AreOpen self.old.limit (open_in f) → TakesPiece self.old.limit (state self.old.at f no_part) piece.now (V.holds visitor.new) (L.outer levels.new) (L.inner levels.new) self.new.left self.old.at self.new.head result }
-        ensures some { IfOk result (λ n. 0 < n) }
-        ensures within { IfOk result (λ n. n ≤ length piece.now) }
-        ensures limit { self.new.limit ≡ self.old.limit }
-        ensures at { self.new.at ≡ self.old.at }
+        ensures some { TakesSome (length piece.now) self.old self.new result }
         ensures kept { (p : ℕ) (r : Reason) → result ≡ Err (Refused p r) → (visitor.new ≡ visitor.old) × (levels.new ≡ levels.old) × (self.new ≡ self.old) }
         ensures memory { result ≡ Err OutOfMemory → V.takes_memory ⊎ L.takes_memory }
     {
@@ -239,10 +233,7 @@ impl HeadReader {
         requires room { self.old.at + length piece.now < 2 ^ 64 }
         requires open { length (L.outer levels.old) < L.most }
         ensures goes { (f : Partial) → V.holds visitor.old f no_part → Keeps f (L.outer levels.old) (L.inner levels.old) → Takes f (major_at head.major) (Given head.width 0) → TakesPiece self.old.limit (Live self.old.at (ready f) (open_in f) (seen_head head)) piece.now (V.holds visitor.new) (L.outer levels.new) (L.inner levels.new) self.new.left self.old.at self.new.head result }
-        ensures some { IfOk result (λ n. 0 < n) }
-        ensures within { IfOk result (λ n. n ≤ length piece.now) }
-        ensures limit { self.new.limit ≡ self.old.limit }
-        ensures at { self.new.at ≡ self.old.at }
+        ensures some { TakesSome (length piece.now) self.old self.new result }
         ensures kept { (p : ℕ) (r : Reason) → result ≡ Err (Refused p r) → (visitor.new ≡ visitor.old) × (levels.new ≡ levels.old) × (self.new ≡ self.old) }
         ensures memory { result ≡ Err OutOfMemory → V.takes_memory ⊎ L.takes_memory }
     {
@@ -274,10 +265,7 @@ impl HeadReader {
         requires between { self.old.head ≡ None }
         requires amid { 0 < self.old.left }
         ensures goes { (f : Partial) (p : ℕ) (k : Kind) (w : Wide) (n : ℕ) (x : List ℕ) → V.holds visitor.old f (part p k w n x) → Keeps f (L.outer levels.old) (L.inner levels.old) → TakesString f k → self.old.left + length x ≡ n → TakesPiece self.old.limit (state self.old.at f (part p k w n x)) piece.now (V.holds visitor.new) (L.outer levels.new) (L.inner levels.new) self.new.left self.old.at self.new.head result }
-        ensures some { IfOk result (λ n. 0 < n) }
-        ensures within { IfOk result (λ n. n ≤ length piece.now) }
-        ensures limit { self.new.limit ≡ self.old.limit }
-        ensures at { self.new.at ≡ self.old.at }
+        ensures some { TakesSome (length piece.now) self.old self.new result }
         ensures kept { (p : ℕ) (r : Reason) → result ≡ Err (Refused p r) → (visitor.new ≡ visitor.old) × (levels.new ≡ levels.old) × (self.new ≡ self.old) }
         ensures memory { result ≡ Err OutOfMemory → V.takes_memory ⊎ L.takes_memory }
     {

@@ -54,9 +54,6 @@ differ_first n x y ours theirs same differ some = (ours, theirs, same, λ e. go 
     go e (inr h) (inl k) = ended x y h k e
     go e (inr h) (inr k) = some (omega (arith, h, ours)) (omega (arith, k, theirs))
 
-pub equal_whole : (n : ℕ) (x y : List ℕ) → n ≡ length x → n ≡ length y → take n x ≡ take n y → x ≡ y
-equal_whole n x y ours theirs same = sym (take_all n x (omega (arith, ours))) ∙ same ∙ take_all n y (omega (arith, theirs))
-
 some_key : (path : List Step) (k : ℕ) → 0 < length path → take k path ≡ up_to_key path → 0 < k
 some_key [] k some e = absurd (omega (arith, some))
 some_key (s ∷ path) zero some e = cc

@@ -10,7 +10,7 @@ use Rattle.cborn_model.specs.Tree.{Trees}
 use Rattle.cborn_wire.specs.declared.faults.WireReason.{WireReason}
 use Rattle.cborn_wire.specs.Slots.{StringKind, OpenContainer, slot, open_depth}
 use Rattle.cborn_wire.specs.shared.InitialBytes.{info_at, head_reason, info_for}
-use Rattle.cborn_wire.specs.shared.Machine.{number, Goal, argument_of, content_of, nothing, gathering, Live, Failed, finished, content_at, after_head, gathered, gather, begin_head, unless, step, run}
+use Rattle.cborn_wire.specs.shared.Machine.{number, argument_of, content_of, nothing, gathering, Live, Failed, finished, after_head, gathered, gather, begin_head, unless, step, run}
 use Rattle.cborn_wire.proofs.Machine.Running.{failed_run}
 use Rattle.cborn_wire.specs.HeadReading.{major_at, ArgumentFits}
 use Rattle.cborn_wire.proofs.Machine.TakesHeads.{gathers, takes_head, quotient, remainder, major_at-code, info_at-now}
@@ -71,29 +71,20 @@ module _ (limit fed : ℕ) (ready : Trees) (os : List OpenContainer) where
       ap (λ c. cond c (gathered (suc fed) p ready os (argument_of m w) (got ++ b ∷ [])) (Live (suc fed) ready os (gathering p (argument_of m w) n (got ++ b ∷ []))))
       (le-leb n (length (got ++ b ∷ [])) (omega (arith, length-append got (b ∷ []))))
 
-  starts_gathering : (p : ℕ) (g : Goal) (n : ℕ) (got x : List ℕ) → length got < n → run limit (Live fed ready os (gathering p g n got)) x ≡ run limit (gather fed p ready os g n got) x
-  starts_gathering p g n got x h = ap (λ c. run limit (cond c (gathered fed p ready os g got) (Live fed ready os (gathering p g n got))) x) (sym (lt-leb n (length got) h))
+  -- A slice of a string's content: one that leaves some to come, and one that ends it.
+  module _ (p : ℕ) (k : StringKind) (w : Width) (n : ℕ) (got y : List ℕ) where
+    content_taken : length got < n → length got + length y ≤ n → run limit (Live fed ready os (gathering p (content_of k w) n got)) y ≡ gather (fed + length y) p ready os (content_of k w) n (got ++ y)
+    content_taken some fits =
+        ap (run limit (Live fed ready os (gathering p (content_of k w) n got))) (sym (append-nil y))
+        ∙ ap (λ c. run limit (cond c (finished fed ready os (string_tree p k w got)) (Live fed ready os (gathering p (content_of k w) n got))) (y ++ [])) (sym (lt-leb n (length got) some))
+        ∙ gathers limit y fed p ready os (content_of k w) n got [] fits
 
-  -- A slice of a string's content that leaves some to come, and one that ends it.
-  pub content_more : (p : ℕ) (k : StringKind) (w : Width) (n : ℕ) (got y x : List ℕ) → length got + length y < n
-      → run limit (Live fed ready os (gathering p (content_of k w) n got)) (y ++ x) ≡ run limit (Live (fed + length y) ready os (gathering p (content_of k w) n (got ++ y))) x
-  content_more p k w n got y x h =
-      starts_gathering p (content_of k w) n got (y ++ x) (omega arith)
-      ∙ gathers limit y fed p ready os (content_of k w) n got x (omega arith)
-      ∙ ap (λ c. run limit (cond c (finished (fed + length y) ready os (string_tree p k w (got ++ y))) (Live (fed + length y) ready os (gathering p (content_of k w) n (got ++ y)))) x)
-      (lt-leb n (length (got ++ y)) (omega (arith, length-append got y)))
+    pub content_more : length got + length y < n → run limit (Live fed ready os (gathering p (content_of k w) n got)) y ≡ Live (fed + length y) ready os (gathering p (content_of k w) n (got ++ y))
+    content_more h =
+        content_taken (omega arith) (omega arith)
+        ∙ ap (λ c. cond c (finished (fed + length y) ready os (string_tree p k w (got ++ y))) (Live (fed + length y) ready os (gathering p (content_of k w) n (got ++ y)))) (lt-leb n (length (got ++ y)) (omega (arith, length-append got y)))
 
-  pub content_done : (p : ℕ) (k : StringKind) (w : Width) (n : ℕ) (got y x : List ℕ) → length got < n → length got + length y ≡ n
-      → run limit (Live fed ready os (gathering p (content_of k w) n got)) (y ++ x) ≡ run limit (finished (fed + length y) ready os (string_tree p k w (got ++ y))) x
-  content_done p k w n got y x h all =
-      starts_gathering p (content_of k w) n got (y ++ x) h
-      ∙ gathers limit y fed p ready os (content_of k w) n got x (omega arith)
-      ∙ ap (λ c. run limit (cond c (finished (fed + length y) ready os (string_tree p k w (got ++ y))) (Live (fed + length y) ready os (gathering p (content_of k w) n (got ++ y)))) x)
-      (le-leb n (length (got ++ y)) (omega (arith, length-append got y)))
-
-  -- All of a string's content, after its head.
-  pub content_whole : (p : ℕ) (k : StringKind) (w : Width) (n : ℕ) (y : List ℕ) → length y ≡ n → run limit (content_at fed p ready os k w n []) y ≡ finished (fed + length y) ready os (string_tree p k w y)
-  content_whole p k w n y all =
-      ap (run limit (content_at fed p ready os k w n [])) (sym (append-nil y))
-      ∙ gathers limit y fed p ready os (content_of k w) n [] [] (omega (arith, all))
-      ∙ ap (λ c. cond c (finished (fed + length y) ready os (string_tree p k w y)) (Live (fed + length y) ready os (gathering p (content_of k w) n y))) (le-leb n (length y) (omega (arith, all)))
+    pub content_done : length got < n → length got + length y ≡ n → run limit (Live fed ready os (gathering p (content_of k w) n got)) y ≡ finished (fed + length y) ready os (string_tree p k w (got ++ y))
+    content_done h all =
+        content_taken h (omega arith)
+        ∙ ap (λ c. cond c (finished (fed + length y) ready os (string_tree p k w (got ++ y))) (Live (fed + length y) ready os (gathering p (content_of k w) n (got ++ y)))) (le-leb n (length (got ++ y)) (omega (arith, length-append got y)))

@@ -77,15 +77,6 @@ chunk_more {major = major} {rest = rest} x y q =
       holds = q;
     }
 
--- one before the others
-pub chunk_first : {P : Chunk → Type 0} {R Q : List Chunk → Type 0} {major : Major} {input mid rest : List ℕ} (x : ChunkRead P major input mid) (y : ChunksRead R major mid rest) → Q (x.chunk ∷ y.chunks) → ChunksRead Q major input rest
-chunk_first {major = major} {rest = rest} x y q = record {
-  chunks = x.chunk ∷ y.chunks;
-  read = x.read ∙ ap (λ z. chunk_bytes major x.chunk ++ z) y.read ∙ sym (append_assoc (chunk_bytes major x.chunk) (flat_map (chunk_bytes major) y.chunks) rest);
-  fits = (x.fits, y.fits);
-  holds = q;
-}
-
 -- the same chunks, of which something else holds
 pub chunks_as : {P Q : List Chunk → Type 0} {major : Major} {input rest : List ℕ} (x : ChunksRead P major input rest) → Q x.chunks → ChunksRead Q major input rest
 chunks_as x q = record { chunks = x.chunks; read = x.read; fits = x.fits; holds = q }

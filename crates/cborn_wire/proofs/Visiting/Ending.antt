@@ -1,11 +1,13 @@
 -- What a reader is before the first byte, at the end of the input, and at a head that isn't allowed.
-use Rattle.std.proofs.Common.{◌≡◌, refl, sym, ap, ◌∙◌, subst, ℕ, ◌+◌, List, [], ◌∷◌, ◌++◌, length, take, Option, Some, None, inl, inr, arith}
+use Rattle.std.proofs.Common.{◌≡◌, refl, sym, ap, ◌∙◌, subst, ℕ, ◌+◌, List, [], ◌∷◌, ◌++◌, length, take, Option, Some, None, Err, inl, inr, arith}
 use Rattle.std.proofs.lemmas.List.{take_all}
 use Rattle.cborn_model.specs.Bytes.{AreBytes}
 use Rattle.cborn_model.specs.Tree.{Tree, Trees, trees}
 use Rattle.cborn_model.specs.Spelled.{Wellformed}
 use Rattle.cborn_model.specs.Placed.{PlacedAll}
 use Rattle.cborn_model.specs.Partial.{Partial, top, inside, Part, no_part, part}
+use Rattle.cborn_wire.specs.declared.faults.WireFault.{WireFault}
+use Rattle.cborn_wire.specs.declared.faults.WireFault.TheVariants as faults
 use Rattle.cborn_wire.specs.declared.faults.WireReason.{WireReason}
 use Rattle.cborn_wire.specs.declared.faults.WireReason.TheVariants.{Truncated}
 use Rattle.cborn_wire.specs.declared.levels.Level.{Level}
@@ -14,10 +16,11 @@ use Rattle.cborn_wire.specs.declared.head_readers.HeadReader.{HeadReader}
 use Rattle.cborn_wire.specs.Faults.{IsWellformed, Fault, Refused}
 use Rattle.cborn_wire.specs.Slots.{OpenContainer}
 use Rattle.cborn_wire.specs.shared.Machine.{Unfinished, nothing, State, Live, start, run}
-use Rattle.cborn_wire.specs.shared.Visiting.{ready, open_in, unfinished, Stands, seen_head, HereAt, IsFresh, IsInput, IsFed, MayEnd, levels, Missing, RefusesPiece}
+use Rattle.cborn_wire.specs.shared.Visiting.{ready, open_in, unfinished, Stands, seen_head, HereAt, IsFresh, IsInput, IsFed, MayEnd, levels, Missing, Reads, RefusesPiece}
 use Rattle.cborn_wire.proofs.Spelled.SlotLaws.{goes_on}
 use Rattle.cborn_wire.proofs.Spelled.FaultLaws.{fails_refused}
 use Rattle.cborn_wire.proofs.Spelled.OneReading.{reads, ends_read}
+use Rattle.cborn_wire.proofs.Feeding.Outcomes.{refused_is}
 use Rattle.cborn_wire.proofs.Visiting.Taking.{outer_count}
 use Rattle.cborn_wire.proofs.Visiting.Pieces.{may_end_here}
 
@@ -61,16 +64,19 @@ refused holds outer l m base x piece p r are h = fails_refused m.limit base (x +
 
 -- an input that is read as one piece
 module _ (holds : Partial → Part → Type 0) (outer : List Level) (l : Level) (m : HeadReader) (limit : ℕ) (x : List ℕ) (limited : m.limit ≡ limit) where
-  pub one_piece : (n : ℕ) → n ≡ length x → IsFed holds outer l m 0 ([] ++ take n x) → IsFed holds outer l m 0 x
-  one_piece n all h = subst (IsFed holds outer l m 0) (ap (λ k. take k x) all ∙ take_all (length x) x (omega arith)) h
+  module _ (n : ℕ) (all : n ≡ length x) (h : IsFed holds outer l m 0 ([] ++ take n x)) where
+    fed : IsFed holds outer l m 0 x
+    fed = subst (IsFed holds outer l m 0) (ap (λ k. take k x) all ∙ take_all (length x) x (omega arith)) h
 
-  pub whole_piece : IsFed holds outer l m 0 x → MayEnd outer m → (ts : List Tree) × holds (top ts) no_part × Wellformed limit (trees ts) x × PlacedAll 0 (trees ts)
-  whole_piece h may = let (ts, held, read, placed, is) = whole holds outer l m 0 x h may in (ts, held, subst (λ k. Wellformed k (trees ts) x) limited read, placed)
+    pub whole_piece : MayEnd outer m → (ts : List Tree) × holds (top ts) no_part × Wellformed limit (trees ts) x × PlacedAll 0 (trees ts)
+    whole_piece may = let (ts, held, read, placed, is) = whole holds outer l m 0 x fed may in (ts, held, subst (λ k. Wellformed k (trees ts) x) limited read, placed)
 
-  pub cut_piece : IsFed holds outer l m 0 x → (MayEnd outer m → ⊥) → Fault limit x (length x) Truncated
-  cut_piece h never = subst (λ k. Fault k x (length x) Truncated) limited (cut holds outer l m 0 x h never)
+    pub cut_piece : (MayEnd outer m → ⊥) → (e : WireFault) → e ≡ faults.Refused (length x) Truncated → (p : ℕ) (r : WireReason) → e ≡ faults.Refused p r → Fault limit x p r
+    cut_piece never e is p r said =
+        let same = refused_is (length x) p Truncated r (sym is ∙ said) in
+        rw (← same.0, ← same.1) (subst (λ k. Fault k x (length x) Truncated) limited (cut holds outer l m 0 x fed never))
 
-  pub refused_piece : (p : ℕ) (r : WireReason) → AreBytes x → RefusesPiece holds outer l m 0 [] x p r → Fault limit x p r
-  refused_piece p r are h =
-      let (q, at, fault) = refused holds outer l m 0 [] x p r are h in
+  pub refused_piece : AreBytes x → (e : WireFault) → Reads holds outer l m 0 [] x (Err e) → (p : ℕ) (r : WireReason) → e ≡ faults.Refused p r → Fault limit x p r
+  refused_piece are e h p r said =
+      let (q, at, fault) = refused holds outer l m 0 [] x p r are (subst (λ f. Reads holds outer l m 0 [] x (Err f)) said h) in
       subst (λ k. Fault limit x k r) (omega (arith, at)) (subst (λ k. Fault k x q r) limited (inl fault))

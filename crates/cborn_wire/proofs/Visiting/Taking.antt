@@ -1,5 +1,5 @@
 -- What is taken off the front of a piece.
-use Rattle.std.proofs.Common.{◌≡◌, refl, sym, ap, ◌∙◌, subst, ℕ, ◌+◌, ◌/◌, ◌%◌, ◌<◌, ◌≤◌, List, [], ◌∷◌, ◌++◌, length, take, drop, get_or, Bool, false, leb, Option, Some, None, arith, append-nil, length-append, add-one}
+use Rattle.std.proofs.Common.{◌≡◌, refl, sym, ap, ◌∙◌, subst, ℕ, ◌+◌, ◌/◌, ◌%◌, ◌<◌, ◌≤◌, List, [], ◌∷◌, ◌++◌, length, take, drop, get_or, Bool, false, leb, Option, Some, None, arith, length-append, add-one}
 use Rattle.std.proofs.lemmas.List.{take-append-drop, length-take-le}
 use Rattle.cborn_model.specs.Bytes.{AreBytes}
 use Rattle.cborn_model.specs.declared.heads.Width.{Width}
@@ -7,8 +7,8 @@ use Rattle.cborn_model.specs.declared.heads.Width.TheVariants.{Direct}
 use Rattle.cborn_model.specs.declared.heads.Major.{Major}
 use Rattle.cborn_model.specs.declared.heads.Major.TheVariants.{Unsigned, ByteString, TextString, Other}
 use Rattle.cborn_model.specs.Heads.{Argument, Given, EndlessArgument}
-use Rattle.cborn_model.specs.Tree.{Tree, Trees, trees}
-use Rattle.cborn_model.specs.Partial.{Opening, an_array, a_map, in_chunks, Partial, top, inside, Part, no_part, part, whole, paired, last_key, string_tree, TakesItem, TakesString}
+use Rattle.cborn_model.specs.Tree.{Tree, Trees}
+use Rattle.cborn_model.specs.Partial.{Opening, an_array, a_map, in_chunks, Partial, top, inside, Part, no_part, part, paired, last_key, string_tree, TakesItem, TakesString}
 use Rattle.cborn_model.proofs.Bytes.{bytes-left}
 use Rattle.cborn_wire.specs.declared.faults.WireFault.{WireFault}
 use Rattle.cborn_wire.specs.declared.faults.WireFault.TheVariants.{Refused, OutOfMemory}
@@ -40,16 +40,10 @@ module _ (limit at : ℕ) (rd : Trees) (os : List OpenContainer) (p : ℕ) (k : 
   many = length-take-le m piece fits
 
   pub content_ends : length got < n → length got + m ≡ n → run limit (Live at rd os (gathering p (content_of k w) n got)) (take m piece) ≡ finished (at + m) rd os (string_tree p k w (got ++ take m piece))
-  content_ends h all =
-      ap (run limit (Live at rd os (gathering p (content_of k w) n got))) (sym (append-nil (take m piece)))
-      ∙ content_done limit at rd os p k w n got (take m piece) [] h (omega (arith, many))
-      ∙ ap (λ j. finished (at + j) rd os (string_tree p k w (got ++ take m piece))) many
+  content_ends h all = content_done limit at rd os p k w n got (take m piece) h (omega (arith, many)) ∙ ap (λ j. finished (at + j) rd os (string_tree p k w (got ++ take m piece))) many
 
   pub content_stays : length got + m < n → run limit (Live at rd os (gathering p (content_of k w) n got)) (take m piece) ≡ Live (at + m) rd os (gathering p (content_of k w) n (got ++ take m piece))
-  content_stays h =
-      ap (run limit (Live at rd os (gathering p (content_of k w) n got))) (sym (append-nil (take m piece)))
-      ∙ content_more limit at rd os p k w n got (take m piece) [] (omega (arith, many))
-      ∙ ap (λ j. Live (at + j) rd os (gathering p (content_of k w) n (got ++ take m piece))) many
+  content_stays h = content_more limit at rd os p k w n got (take m piece) (omega (arith, many)) ∙ ap (λ j. Live (at + j) rd os (gathering p (content_of k w) n (got ++ take m piece))) many
 
 -- Between strings the visitor holds no part of one.
 pub between : (holds : Partial → Part → Type 0) (outer : List Level) (l : Level) (left at : ℕ) (s : State) → left ≡ 0 → Stands holds outer l left at s
@@ -201,10 +195,6 @@ module _ (limit base : ℕ) (x : List ℕ) (bytes : AreBytes x) where
   pub is_open : (holds : Partial → Part → Type 0) (outer : List Level) (l : Level) (left at : ℕ) (h : Option PartialHead) → HereAt holds outer l left at h (run limit (start base) x) → OpenIn limit (run limit (start base) x)
   is_open holds outer l left at None h = live_open _ at (ready h.partial) (open_in h.partial) _ refl h.is
   is_open holds outer l left at (Some p) (short, f, held, are, takes, is) = live_open _ at (ready f) (open_in f) _ refl is
-
-pub ready_whole : (f : Partial) → ready f ≡ trees (whole f)
-ready_whole (top ts) = refl
-ready_whole (inside f o ts) = ready_whole f
 
 -- there is room for one more level where a reader is
 pub here_room : (limit most : ℕ) (holds : Partial → Part → Type 0) (outer : List Level) (l : Level) (left at : ℕ) (h : Option PartialHead) (s : State) → limit + 1 < most → HereAt holds outer l left at h s → OpenIn limit s → length outer < most

@@ -1,5 +1,5 @@
 -- A device of the proofs: what a machine keeps of the partial sequence that its visitor holds, and what both are as a state of the machine of these proofs.
-use Rattle.std.specs.Prelude.{◌≡◌, ℕ, ◌+◌, ◌-◌, ◌^◌, ◌<◌, ◌≤◌, List, [], ◌∷◌, ◌++◌, length, take, Bool, true, false, Option, Some, None, Result, Ok, Err, MatchResult, if◌then◌else◌, nat_lt}
+use Rattle.std.specs.Prelude.{◌≡◌, ℕ, ◌+◌, ◌-◌, ◌^◌, ◌<◌, ◌≤◌, List, [], ◌∷◌, ◌++◌, length, take, Bool, true, false, Option, Some, None, Result, Ok, Err, IfOk, MatchResult, if◌then◌else◌, nat_lt}
 use Rattle.cborn_model.specs.Bytes.{AreBytes}
 use Rattle.cborn_model.specs.declared.heads.Major.{Major}
 use Rattle.cborn_model.specs.declared.heads.Major.TheVariants.{ByteString, TextString, Other}
@@ -161,6 +161,10 @@ OpenIn limit (Failed ts p r) = ⊥
 abbrev pub TakesPiece : ℕ → State → List ℕ → (Partial → Part → Type 0) → List Level → Level → ℕ → ℕ → Option PartialHead → Result ℕ WireFault → Type 0
 TakesPiece limit s piece holds around l left at h result =
     MatchResult result (λ n. HereAt holds around l left (at + n) h (run limit s (take n piece)) × AtMostOneMore (ready_in s) (run limit s (take n piece))) (FailsAs (ready_in s) (run limit s piece))
+
+-- At least one byte is taken, and no more than there are; limit and offset stay.
+abbrev pub TakesSome : ℕ → HeadReader → HeadReader → Result ℕ WireFault → Type 0
+TakesSome most old new r = IfOk r (λ n. (0 < n) × (n ≤ most)) × (new.limit ≡ old.limit) × (new.at ≡ old.at)
 
 -- nothing was read, and the first byte is at the offset `at`
 abbrev pub IsFresh : ℕ → ℕ → HeadReader → Type 0

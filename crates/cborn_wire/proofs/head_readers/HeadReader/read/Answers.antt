@@ -24,7 +24,7 @@ returns-in_err-len-clause-fed g c = λ base x fed.
     let p = err_from_is_err_and c.from_residual.result c.from_residual.ensures.1 in
     let took = c.in_err-len.ensures in
     rw (p.1, p.2) (next_refused g.V.Visitor.holds g.L.Levels.outer g.L.Levels.inner c.loop-rest.visitor c.loop-rest.levels c.loop-rest.self base x y c.loop-rest.rest.now (goes base x fed) c.args.piece.now cut
-    c.take.new.visitor c.take.new.levels c.take.new.self c.in_err-len.field-0.0 took.goes took.limit took.kept)
+    c.take.new.visitor c.take.new.levels c.take.new.self c.in_err-len.field-0.0 took.goes took.some.1 took.kept)
 
 pub returns-in_err-len-clause-item : goal.returns-in_err-len-clause-item
 returns-in_err-len-clause-item g c = λ item base x fed.
@@ -39,16 +39,16 @@ returns-then-is_whole-clause-fed g c = λ base x fed.
     let (y, cut, limit, at, goes, none) = c.loop-rest.invariant in
     let rest = c.loop-rest.rest.now in
     let took = c.in_ok-len.ensures in
-    rw (next_taken c.args.piece.now y rest cut c.in_ok-len.len took.within) (next_fed g.V.Visitor.holds g.L.Levels.outer g.L.Levels.inner c.loop-rest.visitor c.loop-rest.levels c.loop-rest.self base x y rest (goes base x fed)
-    c.take.new.visitor c.take.new.levels c.take.new.self c.in_ok-len.len took.goes took.limit took.at (bytes-right y rest (subst AreBytes cut (are_bytes c.args.piece.now c.type_inv.piece))))
+    rw (next_taken c.args.piece.now y rest cut c.in_ok-len.len took.some.0.1) (next_fed g.V.Visitor.holds g.L.Levels.outer g.L.Levels.inner c.loop-rest.visitor c.loop-rest.levels c.loop-rest.self base x y rest (goes base x fed)
+    c.take.new.visitor c.take.new.levels c.take.new.self c.in_ok-len.len took.goes took.some.1 took.some.2 (bytes-right y rest (subst AreBytes cut (are_bytes c.args.piece.now c.type_inv.piece))))
 
 pub returns-then-is_whole-clause-item : goal.returns-then-is_whole-clause-item
 returns-then-is_whole-clause-item g c = λ item base x fed.
     let (y, cut, limit, at, goes, none) = c.loop-rest.invariant in
     let rest = c.loop-rest.rest.now in
     let took = c.in_ok-len.ensures in
-    rw (next_taken c.args.piece.now y rest cut c.in_ok-len.len took.within, ← limit) (next_item g.V.Visitor.holds g.L.Levels.outer g.L.Levels.inner c.loop-rest.visitor c.loop-rest.levels c.loop-rest.self base x y rest (goes base x fed)
-    c.take.new.visitor c.take.new.levels c.take.new.self c.in_ok-len.len took.goes took.limit took.at (none item base x fed))
+    rw (next_taken c.args.piece.now y rest cut c.in_ok-len.len took.some.0.1, ← limit) (next_item g.V.Visitor.holds g.L.Levels.outer g.L.Levels.inner c.loop-rest.visitor c.loop-rest.levels c.loop-rest.self base x y rest (goes base x fed)
+    c.take.new.visitor c.take.new.levels c.take.new.self c.in_ok-len.len took.goes took.some.1 took.some.2 (none item base x fed))
 
 pub loop-rest-preserved : goal.loop-rest-preserved
 loop-rest-preserved g c =
@@ -59,13 +59,13 @@ loop-rest-preserved g c =
     let new = c.take.new in
     let old = c.loop-rest in (
       y ++ take n rest,
-      next_cut c.args.piece.now y rest cut n took.within,
-      took.limit ∙ limit,
-      omega (arith, at, took.at, length-append y (take n rest), length-take-le n rest took.within),
+      next_cut c.args.piece.now y rest cut n took.some.0.1,
+      took.some.1 ∙ limit,
+      omega (arith, at, took.some.2, length-append y (take n rest), length-take-le n rest took.some.0.1),
       λ base x fed.
-          next_fed g.V.Visitor.holds g.L.Levels.outer g.L.Levels.inner old.visitor old.levels old.self base x y rest (goes base x fed) new.visitor new.levels new.self n took.goes took.limit took.at
+          next_fed g.V.Visitor.holds g.L.Levels.outer g.L.Levels.inner old.visitor old.levels old.self base x y rest (goes base x fed) new.visitor new.levels new.self n took.goes took.some.1 took.some.2
           (bytes-right y rest (subst AreBytes cut (are_bytes c.args.piece.now c.type_inv.piece))),
       λ item base x fed.
-          none_more g.V.Visitor.holds g.L.Levels.outer g.L.Levels.inner old.visitor old.levels old.self base x y rest (goes base x fed) new.visitor new.levels new.self n took.goes took.limit took.at (none item base x fed)
+          none_more g.V.Visitor.holds g.L.Levels.outer g.L.Levels.inner old.visitor old.levels old.self base x y rest (goes base x fed) new.visitor new.levels new.self n took.goes took.some.1 took.some.2 (none item base x fed)
           (elim c.else-is_item.branch [ else-is_item-via-then-is_item+else-is_whole w ↦ w.if-is_whole.ensures.cut refl | else-is_item-via-else-is_item w ↦ absurd (w.if-is_item.ensures.item refl item) ]),
     )

@@ -1,4 +1,4 @@
-use Rattle.std.proofs.Common.{sym, ◌∙◌, subst, inl, ap}
+use Rattle.std.proofs.Common.{refl, sym, ◌∙◌, subst, inl, ap}
 use Rattle.std.proofs.lemmas.Result.{err_from_is_err_and}
 use Rattle.cborn_model.specs.Partial.{no_part}
 use Rattle.cborn_wire.specs.HeadReading.{major_at, seen_argument}
@@ -45,7 +45,4 @@ returns-in_ok-self-in-Full-clause-goes g c = λ f held are inside.
     )
 
 pub returns-in_ok-self-in-Full-clause-some : goal.returns-in_ok-self-in-Full-clause-some
-returns-in_ok-self-in-Full-clause-some g c = (head_fits c.args.piece.now c.in-Full.head c.in-Full.len c.in-Full.ensures).0
-
-pub returns-in_ok-self-in-Full-clause-within : goal.returns-in_ok-self-in-Full-clause-within
-returns-in_ok-self-in-Full-clause-within g c = (head_fits c.args.piece.now c.in-Full.head c.in-Full.len c.in-Full.ensures).1
+returns-in_ok-self-in-Full-clause-some g c = (head_fits c.args.piece.now c.in-Full.head c.in-Full.len c.in-Full.ensures, refl, refl)
