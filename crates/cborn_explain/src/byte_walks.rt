@@ -1,12 +1,9 @@
 //! A walk over the first bytes of an input: what is open at their end, and where the parts of that
 //! begin.
 
-ghost use Rattle.std.specs.Prelude.{◌≡◌, ◌≤◌, ◌⊎◌, ℕ, length, take, IfOk, Err};
-ghost use Rattle.cborn_model.specs.Tree.{Trees};
-ghost use Rattle.cborn_wire.specs.declared.faults.WireFault.TheVariants.{Refused};
-ghost use Rattle.cborn_wire.specs.declared.faults.WireReason.{WireReason as Reason};
-ghost use Rattle.cborn_wire.specs.shared.Machine.{Failed, start, run};
-ghost use Rattle.cborn_explain.specs.devices.Walks.{step_of, path_of, place_at, IsOver, IsWalked};
+ghost use Rattle.std.specs.Prelude.{◌≡◌, ◌≤◌, ◌⊎◌, length, IfOk, OnOk, Err};
+ghost use Rattle.cborn_wire.specs.declared.faults.WireFault.TheVariants.{OutOfMemory};
+ghost use Rattle.cborn_explain.specs.devices.Walks.{step_of, path_of, place_at, IsWalked};
 
 use crate::part_places::PartPlaces;
 use crate::paths::{Path, Step};
@@ -34,34 +31,11 @@ impl Walk {
         requires { place ≤ length bytes.now }
         ensures { IfOk result (λ walk. IsWalked bytes.now place walk.at walk.levels.items) }
     {
-        let refused = match Walk::over(alloc, &bytes[..place]) {
-            Ok(walk) => return Ok(walk),
-            Err(WireFault::OutOfMemory) => return Err(AllocError),
-            Err(WireFault::Refused { place, .. }) => place,
-        };
-        // none of the bytes before a refused head is refused
-        match Walk::over(alloc, &bytes[..refused as usize]) {
-            Ok(walk) => Ok(walk),
-            Err(WireFault::OutOfMemory) => Err(AllocError),
-            Err(WireFault::Refused { .. }) => unreachable!(),
-        }
-    }
-
-    /// A walk over all of these bytes.
-    ///
-    /// # Errors
-    /// `Refused` if a head isn't allowed where it is. `OutOfMemory` where memory for what is open
-    /// is refused.
-    fn over(alloc: Global, bytes: &[u8]) -> Result<Walk, WireFault>
-        ensures walked { IfOk result (λ walk. IsOver bytes.now walk.at walk.levels.items) }
-        ensures refused { (p : ℕ) (r : Reason) → result ≡ Err (Refused p r) → (ts : Trees) × (run 1024 (start 0) bytes.now ≡ Failed ts p r) }
-    {
         let mut reader = HeadReader::new(Limit::HIGHEST, 0);
         let mut levels = GrownLevels::new(alloc);
         let mut parts = PartPlaces::new(alloc);
-        if let Err(fault) = reader.read(&mut levels, &mut parts, bytes, Until::End) {
-            return Err(fault);
-        }
+        // a reader that refuses a head stands before it
+        had_memory(reader.read(&mut levels, &mut parts, &bytes[..place], Until::End))?;
         let at = parts.next_head(reader.next_head()) as usize;
         let levels = levels.into_vec()?;
         Ok(Walk { levels, parts, at })
@@ -108,6 +82,16 @@ impl Walk {
     /// which a key is next.
     pub(crate) fn last_key(&self) -> (usize, usize) {
         self.parts.last_two(self.levels.len().saturating_sub(1))
+    }
+}
+
+/// Fails if memory was refused to a reader.
+fn had_memory(read: Result<usize, WireFault>) -> Result<(), AllocError>
+    ensures { OnOk result (read ≡ Err OutOfMemory → ⊥) }
+{
+    match read {
+        Err(WireFault::OutOfMemory) => Err(AllocError),
+        _ => Ok(()),
     }
 }
 

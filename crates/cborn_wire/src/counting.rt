@@ -42,15 +42,20 @@ pub(crate) fn finish<L: Levels, V: Visitor>(
     }
 }
 
-/// Takes a break, which ends at the offset `end`. Gives 0.
-fn end<L: Levels, V: Visitor>(levels: &mut L, visitor: &mut V, end: u64) -> Result<u64, WireFault>
-    ensures goes { (f : Partial) → V.holds visitor.old f no_part → Keeps f (L.outer levels.old) (L.inner levels.old) → Gives (V.holds visitor.new) (L.outer levels.new) (L.inner levels.new) end (ready f) (ended end (ready f) (open_in f)) result }
-    ensures kept { (p : ℕ) (r : Reason) → result ≡ Err (Refused p r) → (visitor.new ≡ visitor.old) × (levels.new ≡ levels.old) }
+/// Takes a break, from the offset `place` to the offset `end`. Gives 0.
+fn end<L: Levels, V: Visitor>(
+    levels: &mut L,
+    visitor: &mut V,
+    end: u64,
+    place: u64,
+) -> Result<u64, WireFault>
+    ensures goes { (f : Partial) → V.holds visitor.old f no_part → Keeps f (L.outer levels.old) (L.inner levels.old) → Gives (V.holds visitor.new) (L.outer levels.new) (L.inner levels.new) end (ready f) (ended end place (ready f) (open_in f)) result }
+    ensures kept { (p : ℕ) (r : Reason) → result ≡ Err (Refused p r) → (p ≡ place) × (visitor.new ≡ visitor.old) × (levels.new ≡ levels.old) }
     ensures memory { result ≡ Err OutOfMemory → V.takes_memory }
 {
     if !levels.innermost().kind.may_end() {
         return Err(WireFault::Refused {
-            place: end,
+            place,
             reason: WireReason::UnexpectedBreak,
         });
     }
@@ -204,7 +209,7 @@ fn take_simple<L: Levels, V: Visitor>(
 ) -> Result<u64, WireFault>
     requires { ArgumentFits (seen_argument argument) }
     ensures goes { (f : Partial) → Takes f majors.Other (seen_argument argument) → V.holds visitor.old f no_part → Keeps f (L.outer levels.old) (L.inner levels.old) → Gives (V.holds visitor.new) (L.outer levels.new) (L.inner levels.new) end (ready f) (after_head end place (ready f) (open_in f) majors.Other (seen_argument argument)) result }
-    ensures kept { (p : ℕ) (r : Reason) → result ≡ Err (Refused p r) → (visitor.new ≡ visitor.old) × (levels.new ≡ levels.old) }
+    ensures kept { (p : ℕ) (r : Reason) → result ≡ Err (Refused p r) → (p ≡ place) × (visitor.new ≡ visitor.old) × (levels.new ≡ levels.old) }
     ensures memory { result ≡ Err OutOfMemory → V.takes_memory }
 {
     match argument {
@@ -224,7 +229,7 @@ fn take_simple<L: Levels, V: Visitor>(
             place,
             reason: WireReason::FloatLeftOut,
         }),
-        Argument::Endless => self::end(levels, visitor, end),
+        Argument::Endless => self::end(levels, visitor, end, place),
     }
 }
 
@@ -271,7 +276,7 @@ pub(crate) fn take_head<L: Levels, V: Visitor>(
     requires fits { ArgumentFits (seen_argument head.argument) }
     requires room { length (L.outer levels.old) < L.most }
     ensures goes { (f : Partial) → Takes f (major_at head.major) (seen_argument head.argument) → V.holds visitor.old f no_part → Keeps f (L.outer levels.old) (L.inner levels.old) → Gives (V.holds visitor.new) (L.outer levels.new) (L.inner levels.new) end (ready f) (after_head end place (ready f) (open_in f) (major_at head.major) (seen_argument head.argument)) result }
-    ensures kept { (p : ℕ) (r : Reason) → result ≡ Err (Refused p r) → (visitor.new ≡ visitor.old) × (levels.new ≡ levels.old) }
+    ensures kept { (p : ℕ) (r : Reason) → result ≡ Err (Refused p r) → (p ≡ place) × (visitor.new ≡ visitor.old) × (levels.new ≡ levels.old) }
     ensures memory { result ≡ Err OutOfMemory → V.takes_memory ⊎ L.takes_memory }
 {
     match (head.major_type(), head.argument) {

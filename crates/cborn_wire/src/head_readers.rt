@@ -165,7 +165,7 @@ impl HeadReader {
         requires room { self.old.at + length piece.now < 2 ^ 64 }
         ensures goes { (s : State) → Here (V.holds visitor.old) (L.outer levels.old) (L.inner levels.old) self.old s → OpenIn self.old.limit s → TakesPiece self.old.limit s piece.now (V.holds visitor.new) (L.outer levels.new) (L.inner levels.new) self.new.left self.old.at self.new.head result }
         ensures some { TakesSome (length piece.now) self.old self.new result }
-        ensures kept { (p : ℕ) (r : Reason) → result ≡ Err (Refused p r) → (visitor.new ≡ visitor.old) × (levels.new ≡ levels.old) × (self.new ≡ self.old) }
+        ensures kept { (p : ℕ) (r : Reason) → result ≡ Err (Refused p r) → (p ≡ next_head self.old) × (visitor.new ≡ visitor.old) × (levels.new ≡ levels.old) × (self.new ≡ self.old) }
         ensures memory { result ≡ Err OutOfMemory → V.takes_memory ⊎ L.takes_memory }
     {
         if let Some(head) = self.head {
@@ -192,7 +192,7 @@ impl HeadReader {
         requires open { length (L.outer levels.old) < L.most }
         ensures goes { (f : Partial) → V.holds visitor.old f no_part → Keeps f (L.outer levels.old) (L.inner levels.old) → AreOpen self.old.limit (open_in f) → TakesPiece self.old.limit (state self.old.at f no_part) piece.now (V.holds visitor.new) (L.outer levels.new) (L.inner levels.new) self.new.left self.old.at self.new.head result }
         ensures some { TakesSome (length piece.now) self.old self.new result }
-        ensures kept { (p : ℕ) (r : Reason) → result ≡ Err (Refused p r) → (visitor.new ≡ visitor.old) × (levels.new ≡ levels.old) × (self.new ≡ self.old) }
+        ensures kept { (p : ℕ) (r : Reason) → result ≡ Err (Refused p r) → (p ≡ self.old.at) × (visitor.new ≡ visitor.old) × (levels.new ≡ levels.old) × (self.new ≡ self.old) }
         ensures memory { result ≡ Err OutOfMemory → V.takes_memory ⊎ L.takes_memory }
     {
         let first = piece[0];
@@ -234,7 +234,7 @@ impl HeadReader {
         requires open { length (L.outer levels.old) < L.most }
         ensures goes { (f : Partial) → V.holds visitor.old f no_part → Keeps f (L.outer levels.old) (L.inner levels.old) → Takes f (major_at head.major) (Given head.width 0) → TakesPiece self.old.limit (Live self.old.at (ready f) (open_in f) (seen_head head)) piece.now (V.holds visitor.new) (L.outer levels.new) (L.inner levels.new) self.new.left self.old.at self.new.head result }
         ensures some { TakesSome (length piece.now) self.old self.new result }
-        ensures kept { (p : ℕ) (r : Reason) → result ≡ Err (Refused p r) → (visitor.new ≡ visitor.old) × (levels.new ≡ levels.old) × (self.new ≡ self.old) }
+        ensures kept { (p : ℕ) (r : Reason) → result ≡ Err (Refused p r) → (p ≡ head.place) × (visitor.new ≡ visitor.old) × (levels.new ≡ levels.old) × (self.new ≡ self.old) }
         ensures memory { result ≡ Err OutOfMemory → V.takes_memory ⊎ L.takes_memory }
     {
         let mut bytes = head.bytes;
@@ -266,7 +266,7 @@ impl HeadReader {
         requires amid { 0 < self.old.left }
         ensures goes { (f : Partial) (p : ℕ) (k : Kind) (w : Wide) (n : ℕ) (x : List ℕ) → V.holds visitor.old f (part p k w n x) → Keeps f (L.outer levels.old) (L.inner levels.old) → TakesString f k → self.old.left + length x ≡ n → TakesPiece self.old.limit (state self.old.at f (part p k w n x)) piece.now (V.holds visitor.new) (L.outer levels.new) (L.inner levels.new) self.new.left self.old.at self.new.head result }
         ensures some { TakesSome (length piece.now) self.old self.new result }
-        ensures kept { (p : ℕ) (r : Reason) → result ≡ Err (Refused p r) → (visitor.new ≡ visitor.old) × (levels.new ≡ levels.old) × (self.new ≡ self.old) }
+        ensures kept { (p : ℕ) (r : Reason) → result ≡ Err (Refused p r) → (p ≡ next_head self.old) × (visitor.new ≡ visitor.old) × (levels.new ≡ levels.old) × (self.new ≡ self.old) }
         ensures memory { result ≡ Err OutOfMemory → V.takes_memory ⊎ L.takes_memory }
     {
         let taken = self.left.min(piece.len() as u64) as usize;

@@ -32,11 +32,11 @@ module _ (p fed : ℕ) (rd : Trees) (up : p ≤ fed) where
   opened_rises : (os : List OpenContainer) (o : Opening) → Rises p (holding fed rd os o [])
   opened_rises os o = either p (is_full o 0) _ _ (item_rises os (built o [])) up
 
-  end_rises : (os : List OpenContainer) → Rises p (ended fed rd os)
-  end_rises [] = up
-  end_rises (opened o ts ∷ os) = either p (needs_item (slot_in (opened o ts))) _ _ up (item_rises os (built o ts))
-
   module _ (q : ℕ) (os : List OpenContainer) (from : p ≤ q) (to : q ≤ fed) where
+    end_rises : (os : List OpenContainer) → Rises p (ended fed q rd os)
+    end_rises [] = from
+    end_rises (opened o ts ∷ os) = either p (needs_item (slot_in (opened o ts))) _ _ from (item_rises os (built o ts))
+
     head_rises : (m : Major) (a : Argument) → Rises p (after_head fed q rd os m a)
     head_rises Unsigned (Given w n) = item_rises os _
     head_rises Negative (Given w n) = item_rises os _

@@ -1,18 +1,21 @@
 -- A walk is where the longest front that ends between two heads ends.
-use Rattle.std.proofs.Common.{◌≡◌, refl, sym, ap, ◌∙◌, subst, ℕ, ◌^◌, ◌<◌, ◌≤◌, List, [], ◌∷◌, ◌++◌, length, take, drop, Option, Some, None, ◌⊎◌, inl, inr, arith, append-nil, length-append, zero-add}
-use Rattle.std.proofs.lemmas.List.{length-take-le, take-append-drop, take-append-le, take_at}
+use Rattle.std.proofs.Common.{◌≡◌, refl, sym, ap, ◌∙◌, subst, ℕ, ◌^◌, ◌<◌, ◌≤◌, List, [], ◌∷◌, ◌++◌, length, take, drop, Option, Some, None, Result, Ok, Err, IfOk, ◌⊎◌, inl, inr, arith, append-nil, length-append, zero-add}
+use Rattle.std.proofs.lemmas.List.{length-take-le, take-append-drop, take-append-le, take_all, take_at}
 use Rattle.std.proofs.Math.Seq.{take-append_seam}
 use Rattle.cborn_model.specs.Bytes.{AreBytes}
 use Rattle.cborn_model.proofs.Bytes.{bytes-left}
 use Rattle.cborn_model.specs.Tree.{Trees, depth_all}
 use Rattle.cborn_model.specs.Spelled.{FitsAll}
 use Rattle.cborn_model.specs.Partial.{Partial, Part, no_part, part}
+use Rattle.cborn_wire.specs.declared.faults.WireFault.{WireFault}
+use Rattle.cborn_wire.specs.declared.faults.WireFault.TheVariants.{Refused, OutOfMemory}
 use Rattle.cborn_wire.specs.declared.faults.WireReason.{WireReason}
+use Rattle.cborn_wire.specs.declared.head_readers.HeadReader.{HeadReader}
 use Rattle.cborn_wire.specs.declared.head_readers.PartialHead.{PartialHead}
 use Rattle.cborn_wire.specs.declared.levels.Level.{Level}
 use Rattle.cborn_wire.specs.Slots.{OpenContainer, slot, open_depth, AreOpen}
-use Rattle.cborn_wire.specs.shared.Machine.{argument_of, content_of, Unfinished, nothing, gathering, Live, Failed, start, front, partial_bytes, run}
-use Rattle.cborn_wire.specs.shared.Visiting.{ready, open_in, unfinished, levels, seen_head, HereAt, head_at}
+use Rattle.cborn_wire.specs.shared.Machine.{argument_of, content_of, Unfinished, nothing, gathering, Live, Failed, ready_in, start, front, partial_bytes, run}
+use Rattle.cborn_wire.specs.shared.Visiting.{ready, open_in, unfinished, levels, seen_head, HereAt, IsFed, Reads, head_at, next_head}
 use Rattle.cborn_wire.proofs.Machine.Running.{run-append}
 use Rattle.cborn_wire.proofs.Machine.SoundItems.{SoundLive, SoundFailed, Sound}
 use Rattle.cborn_wire.proofs.Machine.SoundRuns.{sound}
@@ -65,7 +68,7 @@ module _ (y : List ℕ) (bytes : AreBytes y) where
         stands = ap place_in is ∙ there;
       }
 
-  pub read_over : (string : Option ℕ) (around : List Level) (l : Level) (left at place : ℕ) (h : Option PartialHead) → HereAt (λ f c. IsAmid string c) around l left at h (run 1024 (start 0) y)
+  read_over : (string : Option ℕ) (around : List Level) (l : Level) (left at place : ℕ) (h : Option PartialHead) → HereAt (λ f c. IsAmid string c) around l left at h (run 1024 (start 0) y)
       → (string ≡ None → place ≡ head_at at h) → ((p : ℕ) → string ≡ Some p → place ≡ p) → IsOver y place (around ++ l ∷ [])
   read_over string around l left at place (Some h) (short, f, held, keeps, takes, is) none some = subst (IsOver y place) keeps.0 (over f at place (seen_head h) is (sym (none held)))
   read_over string around l left at place None s none some = subst (IsOver y place) s.levels.0 (over s.partial at place (unfinished s.amid) s.is (go s.amid s.held))
@@ -75,54 +78,63 @@ module _ (y : List ℕ) (bytes : AreBytes y) where
       go (part p k w n x) held = sym (some p held)
 
 -- A head is refused: the bytes before it end between two heads.
-pub before_fault : (y : List ℕ) → AreBytes y → (ts : Trees) (p : ℕ) (r : WireReason) → run 1024 (start 0) y ≡ Failed ts p r → (p ≤ length y) × Between (take p y)
+before_fault : (y : List ℕ) → AreBytes y → (ts : Trees) (p : ℕ) (r : WireReason) → run 1024 (start 0) y ≡ Failed ts p r → (p ≤ length y) × Between (take p y)
 before_fault y bytes ts p r is =
     let s : SoundFailed 1024 0 y ts p r = subst (Sound 1024 0 y) is (sound 1024 0 y bytes) in
     let len : length s.before ≡ p = omega (arith, s.live.fed_is) in
     let front_is : take p y ≡ s.before = ap (take p) s.whole ∙ take_at s.before s.after p len in
     (omega (arith, len, ap length s.whole, length-append s.before s.after), between (take p y) ts s.os s.live.ground.fit s.live.ground.shallow s.live.ground.are_open (front_is ∙ s.live.bytes ∙ append-nil (front ts s.os)))
 
--- A walk over a front of x, up to where a walk over all up to the place comes.
-module _ (x : List ℕ) (place : ℕ) (within : place ≤ length x) where
-  walked : (n at : ℕ) (ls : List Level) → n ≤ place → IsOver (take n x) at ls → place_in (run 1024 (start 0) (take place x)) ≡ at → IsWalked x place at ls
+-- A reader that is handed the bytes of x up to the place.
+module _ (x : List ℕ) (place : ℕ) (within : place ≤ length x) (bytes : AreBytes x) where
+  abbrev y : List ℕ
+  y = take place x
+
+  walked : (n at : ℕ) (ls : List Level) → n ≤ length y → IsOver (take n y) at ls → place_in (run 1024 (start 0) y) ≡ at → IsWalked x place at ls
   walked n at ls low over there =
-      let up : at ≤ n = omega (arith, over.opened.within, length-take-le n x (omega (arith, low, within))) in
+      let up : at ≤ n = omega (arith, over.opened.within, length-take-le n y low) in
+      let all = length-take-le place x within in
       record {
         partial = over.partial;
         kept = over.kept;
-        opened = record { within = omega (arith, up, low, within); ground = over.opened.ground; bytes = sym (near at n x up (omega (arith, low, within))) ∙ over.opened.bytes };
-        low = omega (arith, up, low);
+        opened = record { within = omega (arith, up, low, all, within); ground = over.opened.ground; bytes = sym (near at n y up low ∙ near at place x (omega (arith, up, low, all)) within) ∙ over.opened.bytes };
+        low = omega (arith, up, low, all);
         longest = longest;
       }
     where
       longest : (g z : List ℕ) (other : List Step) → x ≡ g ++ z → length g ≤ place → EndsAt g other → length g ≤ at
       longest g z other whole below (ts, os, fits, deep, are_open, is, path) =
-          let y = take place x in
           let front_is : take (length g) y ≡ g = near (length g) place x below within ∙ ap (take (length g)) whole ∙ take-append_seam g z in
           let split : g ++ drop (length g) y ≡ y = ap (λ l. l ++ drop (length g) y) (sym front_is) ∙ take-append-drop (length g) y in
           omega (arith, after_front g (drop (length g) y) (between g ts os fits deep are_open is), ap (λ l. place_in (run 1024 (start 0) l)) split, there)
 
-  pub walked_all : (at : ℕ) (ls : List Level) → IsOver (take place x) at ls → IsWalked x place at ls
-  walked_all at ls over = walked place at ls (omega arith) over over.stands
+  -- A reader that refuses a head stands before it.
+  stands_there : (holds : Partial → Part → Type 0) (around : List Level) (l : Level) (left at n : ℕ) (h : Option PartialHead) (ts : Trees) (p : ℕ) (r : WireReason) → run 1024 (start 0) y ≡ Failed ts p r → n ≤ length y → AreBytes (take n y)
+      → HereAt holds around l left at h (run 1024 (start 0) (take n y)) → head_at at h ≡ p → place_in (run 1024 (start 0) (take n y)) ≡ p
+  stands_there holds around l left at n (Some h) ts p r fails low are (short, f, held, keeps, takes, is) next = ap place_in is ∙ next
+  stands_there holds around l left at n None ts p r fails low are here next =
+      let before = before_fault y (bytes-left y (drop place x) (subst AreBytes (sym (take-append-drop place x)) bytes)) ts p r fails in
+      let s : SoundLive 1024 0 (take n y) at (ready here.partial) (open_in here.partial) (unfinished here.amid) = subst (Sound 1024 0 (take n y)) here.is (sound 1024 0 (take n y) are) in
+      let all : n ≡ p = omega (arith, s.fed_is, next, length-take-le n y low) in
+      ap (λ k. place_in (run 1024 (start 0) (take k y))) all ∙ ap place_in before.1.is ∙ length-take-le p y before.0
 
-  module _ (bytes : AreBytes x) (ts : Trees) (p : ℕ) (r : WireReason) (fails : run 1024 (start 0) (take place x) ≡ Failed ts p r) where
-    before : (p ≤ length (take place x)) × Between (take p (take place x))
-    before = before_fault (take place x) (bytes-left (take place x) (drop place x) (subst AreBytes (sym (take-append-drop place x)) bytes)) ts p r fails
+  pub read_to : (string : Option ℕ) (around : List Level) (l : Level) (m : HeadReader) (at : ℕ) (r : Result ℕ WireFault) → Reads (λ f c. IsAmid string c) around l m 0 [] y r → (r ≡ Err OutOfMemory → ⊥) → IfOk r (λ n. n ≡ length y) → m.limit ≡ 1024
+      → (string ≡ None → at ≡ next_head m) → ((p : ℕ) → string ≡ Some p → at ≡ p) → IsWalked x place at (around ++ l ∷ [])
+  read_to string around l m at r reads never end limited none some = go r reads never end
+    where
+      here : (n : ℕ) → IsFed (λ f c. IsAmid string c) around l m 0 (take n y) → HereAt (λ f c. IsAmid string c) around l m.left m.at m.head (run 1024 (start 0) (take n y))
+      here n fed = subst (λ k. HereAt (λ f c. IsAmid string c) around l m.left m.at m.head (run k (start 0) (take n y))) limited fed.2
 
-    pub fault_within : p ≤ place
-    fault_within = omega (arith, before.0, length-take-le place x within)
+      over : (n : ℕ) → IsFed (λ f c. IsAmid string c) around l m 0 (take n y) → IsOver (take n y) at (around ++ l ∷ [])
+      over n fed = read_over (take n y) fed.0 string around l m.left m.at at m.head (here n fed) none some
 
-    there : Between (take p x)
-    there = subst Between (near p place x fault_within within) before.1
-
-    len : length (take p x) ≡ p
-    len = length-take-le p x (omega (arith, fault_within, within))
-
-    pub walked_before : (at : ℕ) (ls : List Level) → IsOver (take p x) at ls → IsWalked x place at ls
-    walked_before at ls over = walked p at ls fault_within over (ap place_in fails ∙ sym len ∙ sym (ap place_in there.is) ∙ over.stands)
-
-    pub not_refused : (us : Trees) (q : ℕ) (s : WireReason) → run 1024 (start 0) (take p x) ≡ Failed us q s → ⊥
-    not_refused us q s is = let e = sym there.is ∙ is in cc
+      go : (r : Result ℕ WireFault) → Reads (λ f c. IsAmid string c) around l m 0 [] y r → (r ≡ Err OutOfMemory → ⊥) → IfOk r (λ n. n ≡ length y) → IsWalked x place at (around ++ l ∷ [])
+      go (Ok n) fed never all = walked n at _ (omega (arith, all)) (over n fed) (ap (λ z. place_in (run 1024 (start 0) z)) (sym (take_all n y (omega (arith, all)))) ∙ (over n fed).stands)
+      go (Err (Refused p r)) h never all =
+          let fails = subst (λ k. run k (start 0) y ≡ Failed (ready_in (run k (start 0) (take h.taken y))) p r) limited h.fails in
+          walked h.taken at _ h.within (over h.taken h.fed)
+          (ap place_in fails ∙ sym (stands_there (λ f c. IsAmid string c) around l m.left m.at h.taken m.head _ p r fails h.within h.fed.0 (here h.taken h.fed) h.next) ∙ (over h.taken h.fed).stands)
+      go (Err OutOfMemory) h never all = absurd (never refl)
 
 -- The path of a walk leads to the place,
 pub walk_leads : (x : List ℕ) (place at : ℕ) (ls : List Level) → length x < 2 ^ 64 → IsWalked x place at ls → LeadsTo x place (path_of ls)

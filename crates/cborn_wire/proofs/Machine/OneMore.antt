@@ -21,9 +21,9 @@ module _ (ready : Trees) where
   one_more_finished [] fed t = inr (fed, t, refl)
   one_more_finished (opened o ts ∷ os) fed t = one_more_if ready (is_full o (length (ts ++ t ∷ []))) (one_more_finished os fed (built o (ts ++ t ∷ []))) (inl refl)
 
-  one_more_ended : (os : List OpenContainer) (fed : ℕ) → AtMostOneMore ready (ended fed ready os)
-  one_more_ended [] fed = inl refl
-  one_more_ended (opened o ts ∷ os) fed = one_more_if ready (needs_item (slot_in (opened o ts))) (inl refl) (one_more_finished os fed (built o ts))
+  one_more_ended : (os : List OpenContainer) (fed p : ℕ) → AtMostOneMore ready (ended fed p ready os)
+  one_more_ended [] fed p = inl refl
+  one_more_ended (opened o ts ∷ os) fed p = one_more_if ready (needs_item (slot_in (opened o ts))) (inl refl) (one_more_finished os fed (built o ts))
 
   one_more_opened : (os : List OpenContainer) (fed : ℕ) (o : Opening) → AtMostOneMore ready (holding fed ready os o [])
   one_more_opened os fed o = one_more_if ready (is_full o 0) (one_more_finished os fed (built o [])) (inl refl)
@@ -40,6 +40,6 @@ module _ (ready : Trees) where
   one_more_head Map a os fed p = one_more_opened os fed (a_map p (size_in a) (count_in a))
   one_more_head Other (Given Direct n) os fed p = one_more_finished os fed _
   one_more_head Other (Given One n) os fed p = one_more_if ready (ltb n 32) (inl refl) (one_more_finished os fed _)
-  one_more_head Other EndlessArgument os fed p = one_more_ended os fed
+  one_more_head Other EndlessArgument os fed p = one_more_ended os fed p
   one_more_head Tag (Given w n) os fed p = inl refl
   one_more_head m a os fed p = inl refl

@@ -80,14 +80,14 @@ shallow_open limit [] h = omega arith
 shallow_open limit (opened o ts ∷ os) h = omega (arith, h.0.3)
 
 -- a break
-sound_ended : (limit base : ℕ) (ready : Trees) (os : List OpenContainer) (fed : ℕ) (x : List ℕ) → Ground limit base ready os → fed ≡ base + length x → needs_item (slot os) ≡ false → x ≡ front ready os ++ ending Endless
-    → Sound limit base x (ended fed ready os)
-sound_ended limit base ready [] fed x g at slotted is = cc
-sound_ended limit base ready (opened o ts ∷ os) fed x g at slotted is =
+sound_ended : (limit base : ℕ) (ready : Trees) (os : List OpenContainer) (fed p : ℕ) (x : List ℕ) → Ground limit base ready os → fed ≡ base + length x → needs_item (slot os) ≡ false → x ≡ front ready os ++ ending Endless
+    → Sound limit base x (ended fed p ready os)
+sound_ended limit base ready [] fed p x g at slotted is = cc
+sound_ended limit base ready (opened o ts ∷ os) fed p x g at slotted is =
     let (fits, goes, all, deep) = g.are_open.0 in
     let (h, closed) = break_ends o ts goes slotted in
     let cut : front ready (opened o ts ∷ os) ++ ending Endless ≡ front ready os ++ (opening o ++ spelled_all (trees ts) ++ ending Endless) = simp append_assoc in
-    subst (λ b. Sound limit base x (cond b (Failed ready fed UnexpectedBreak) (finished fed ready os (built o ts)))) (sym slotted) (sound_finished limit base os ready (built o ts) fed x
+    subst (λ b. Sound limit base x (cond b (Failed ready p UnexpectedBreak) (finished fed ready os (built o ts)))) (sym slotted) (sound_finished limit base os ready (built o ts) fed x
     (ends limit base ready os o ts (ground_less limit base ready os (opened o ts) g) g.are_open.1 fits all deep (top_placed limit base ready os (opened o ts) g) fed x at h
     (is ∙ cut ∙ ap (λ l. front ready os ++ (opening o ++ spelled_all (trees ts) ++ l)) (sym closed))))
 
@@ -160,6 +160,6 @@ module _ (limit base : ℕ) (ready : Trees) (os : List OpenContainer) (fed p : �
           let high : 32 ≤ n = ltb-false n 32 e in
           sound_leaf (Simple p n) (accepted os _ (free_of os Other _ c.chunked (other_kind Other refl refl) refl)) (simple_value n (inr (high, fits))) refl placed
           (is ∙ ap (λ w. front ready os ++ head Other (Given w n)) (sym (least_one n (omega arith) fits)))
-  sound_head Other EndlessArgument c fits is = sound_ended limit base ready os fed x g at c.broken is
+  sound_head Other EndlessArgument c fits is = sound_ended limit base ready os fed p x g at c.broken is
   sound_head Other (Given w n) c fits is = let e : true ≡ false = c.float in cc
   sound_head m EndlessArgument c fits is = let e : true ≡ false = c.bounded in cc

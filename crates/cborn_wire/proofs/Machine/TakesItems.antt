@@ -138,7 +138,7 @@ module _ (limit fed : ℕ) (ready : Trees) (os : List OpenContainer) where
       → run limit (Live fed ready (opened o ts ∷ os) nothing) (ending Endless ++ x) ≡ run limit (finished (fed + 1) ready os (built o ts)) x
   takes_break o ts x e =
       takes_head limit fed ready (opened o ts ∷ os) Other EndlessArgument x tt (clear_break (slot_in (opened o ts)) (leb limit (open_depth (opened o ts ∷ os))) e)
-      ∙ ap (λ b. run limit (cond b (Failed ready (fed + 1) UnexpectedBreak) (finished (fed + 1) ready os (built o ts))) x) e
+      ∙ ap (λ b. run limit (cond b (Failed ready fed UnexpectedBreak) (finished (fed + 1) ready os (built o ts))) x) e
 
   -- the end of one that may end
   takes_closing : (o : Opening) (ts : List Tree) (x : List ℕ) → Ends o ts

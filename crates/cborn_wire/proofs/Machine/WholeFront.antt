@@ -31,9 +31,9 @@ module _ (front : Trees) where
   front_finished [] fed ready t = ap (λ l. Live fed l [] nothing) (snoc-append front ready t)
   front_finished (opened o ts ∷ os) fed ready t = either front (is_full o (length (ts ++ t ∷ []))) _ _ _ _ (front_finished os fed ready (built o (ts ++ t ∷ []))) refl
 
-  front_ended : (os : List OpenContainer) (fed : ℕ) (ready : Trees) → ended fed (append_trees front ready) os ≡ with_front front (ended fed ready os)
-  front_ended [] fed ready = refl
-  front_ended (opened o ts ∷ os) fed ready = either front (needs_item (slot_in (opened o ts))) _ _ _ _ refl (front_finished os fed ready (built o ts))
+  front_ended : (os : List OpenContainer) (fed p : ℕ) (ready : Trees) → ended fed p (append_trees front ready) os ≡ with_front front (ended fed p ready os)
+  front_ended [] fed p ready = refl
+  front_ended (opened o ts ∷ os) fed p ready = either front (needs_item (slot_in (opened o ts))) _ _ _ _ refl (front_finished os fed ready (built o ts))
 
   front_opened : (os : List OpenContainer) (fed : ℕ) (ready : Trees) (o : Opening) → holding fed (append_trees front ready) os o [] ≡ with_front front (holding fed ready os o [])
   front_opened os fed ready o = either front (is_full o 0) _ _ _ _ (front_finished os fed ready (built o [])) refl
@@ -50,7 +50,7 @@ module _ (front : Trees) where
   front_head Map a os fed p ready = front_opened os fed ready (a_map p (size_in a) (count_in a))
   front_head Other (Given Direct n) os fed p ready = front_finished os fed ready _
   front_head Other (Given One n) os fed p ready = either front (ltb n 32) _ _ _ _ refl (front_finished os fed ready _)
-  front_head Other EndlessArgument os fed p ready = front_ended os fed ready
+  front_head Other EndlessArgument os fed p ready = front_ended os fed p ready
   front_head Tag (Given w n) os fed p ready = refl
   front_head m a os fed p ready = refl
 

@@ -188,21 +188,21 @@ module _ (end : ℕ) where
       )
 
   -- what a break makes of the innermost container, of whose slot this says whether an item has to be in it
-  broken : (f : Partial) (o : Opening) (ts : List Tree) (b : Bool) → needs_item (slot_in (opened o ts)) ≡ b
-      → ended end (ready f) (open_in (inside f o ts)) ≡ cond b (Failed (ready f) end UnexpectedBreak) (finished end (ready f) (open_in f) (built o ts))
-  broken f o ts b e = ap (λ c. cond c (Failed (ready f) end UnexpectedBreak) (finished end (ready f) (open_in f) (built o ts))) e
+  broken : (p : ℕ) (f : Partial) (o : Opening) (ts : List Tree) (b : Bool) → needs_item (slot_in (opened o ts)) ≡ b
+      → ended end p (ready f) (open_in (inside f o ts)) ≡ cond b (Failed (ready f) p UnexpectedBreak) (finished end (ready f) (open_in f) (built o ts))
+  broken p f o ts b e = ap (λ c. cond c (Failed (ready f) p UnexpectedBreak) (finished end (ready f) (open_in f) (built o ts))) e
 
-  pub breaks : (h : Partial) (ls : List Level) (l : Level) → levels h ≡ ls ++ l ∷ [] → Proper h → AreFromBytes h → may_end l.kind ≡ true
-      → (i : Innermost h ls) × Ends i.opening i.nodes × (ended end (ready h) (open_in h) ≡ finished end (ready i.around) (open_in i.around) (built i.opening i.nodes))
-  breaks (top ts) ls l e proper say m = let h = last_same [] ls e in cc (ap (λ (m : Level). may_end m.kind) h.1 ∙ m)
-  breaks (inside f o ts) ls l e proper say m =
+  pub breaks : (p : ℕ) (h : Partial) (ls : List Level) (l : Level) → levels h ≡ ls ++ l ∷ [] → Proper h → AreFromBytes h → may_end l.kind ≡ true
+      → (i : Innermost h ls) × Ends i.opening i.nodes × (ended end p (ready h) (open_in h) ≡ finished end (ready i.around) (open_in i.around) (built i.opening i.nodes))
+  breaks p (top ts) ls l e proper say m = let h = last_same [] ls e in cc (ap (λ (m : Level). may_end m.kind) h.1 ∙ m)
+  breaks p (inside f o ts) ls l e proper say m =
       let h = last_same (levels f) ls e in
       let free = not_is _ false (sym (may_end_slot o ts) ∙ ap (λ (m : Level). may_end m.kind) h.1 ∙ m) in
-      (record { around = f; opening = o; nodes = ts; is = refl; levels_are = h.0; free = (proper.0, proper.1); from_bytes = say.0 }, (break_ends o ts proper.2 free).0, broken f o ts false free)
+      (record { around = f; opening = o; nodes = ts; is = refl; levels_are = h.0; free = (proper.0, proper.1); from_bytes = say.0 }, (break_ends o ts proper.2 free).0, broken p f o ts false free)
 
-  pub breaks_not : (h : Partial) (ls : List Level) (l : Level) → levels h ≡ ls ++ l ∷ [] → may_end l.kind ≡ false → ended end (ready h) (open_in h) ≡ Failed (ready h) end UnexpectedBreak
-  breaks_not (top ts) ls l e m = refl
-  breaks_not (inside f o ts) ls l e m = broken f o ts true (not_is _ true (sym (may_end_slot o ts) ∙ ap (λ (m : Level). may_end m.kind) (last_same (levels f) ls e).1 ∙ m))
+  pub breaks_not : (p : ℕ) (h : Partial) (ls : List Level) (l : Level) → levels h ≡ ls ++ l ∷ [] → may_end l.kind ≡ false → ended end p (ready h) (open_in h) ≡ Failed (ready h) p UnexpectedBreak
+  breaks_not p (top ts) ls l e m = refl
+  breaks_not p (inside f o ts) ls l e m = broken p f o ts true (not_is _ true (sym (may_end_slot o ts) ∙ ap (λ (m : Level). may_end m.kind) (last_same (levels f) ls e).1 ∙ m))
 
 -- the innermost level is set
 pub keeps_set : (f : Partial) (outer now : List Level) (l new : Level) (r : LevelKind) → now ≡ outer → new ≡ with_kind l r → (levels f ≡ outer ++ with_kind l r ∷ []) × Proper f × AreFromBytes f → Keeps f now new

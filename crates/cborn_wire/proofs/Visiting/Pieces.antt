@@ -13,7 +13,7 @@ use Rattle.cborn_wire.specs.declared.head_readers.PartialHead.{PartialHead}
 use Rattle.cborn_wire.specs.declared.head_readers.HeadReader.{HeadReader}
 use Rattle.cborn_wire.specs.Slots.{OpenContainer}
 use Rattle.cborn_wire.specs.shared.Machine.{Unfinished, nothing, State, Live, Failed, ready_in, start, run, AtMostOneMore}
-use Rattle.cborn_wire.specs.shared.Visiting.{unfinished, seen_head, Missing, Stands, HereAt, Here, OpenIn, TakesPiece, IsFed, MayEnd, Reads, ReadsItem}
+use Rattle.cborn_wire.specs.shared.Visiting.{unfinished, seen_head, Missing, Stands, HereAt, Here, OpenIn, TakesPiece, IsFed, MayEnd, Reads, ReadsItem, next_head}
 use Rattle.cborn_wire.proofs.Machine.Running.{run-append}
 use Rattle.cborn_wire.proofs.Visiting.Taking.{bytes-take, is_open, outer_count}
 
@@ -99,16 +99,17 @@ module _ {V L : Type 0} (holds : V → Partial → Part → Type 0) (outer : L �
     all_state : run m.limit (start base) (x ++ piece) ≡ run m.limit now rest
     all_state = ap (λ l. run m.limit (start base) (x ++ l)) cut ∙ ap (run m.limit (start base)) (sym (append_assoc x y rest)) ∙ run-append m.limit (start base) (x ++ y) rest
 
-    pub next_refused : (w : V) (j : L) (next : HeadReader) (e : WireFault) → Takes w j next (Err e) → next.limit ≡ m.limit → ((p : ℕ) (r : WireReason) → ◌≡◌ {A = Result ℕ WireFault} (Err e) (Err (Refused p r)) → (w ≡ v) × (j ≡ k) × (next ≡ m))
+    pub next_refused : (w : V) (j : L) (next : HeadReader) (e : WireFault) → Takes w j next (Err e) → next.limit ≡ m.limit → ((p : ℕ) (r : WireReason) → ◌≡◌ {A = Result ℕ WireFault} (Err e) (Err (Refused p r)) → (p ≡ next_head m) × (w ≡ v) × (j ≡ k) × (next ≡ m))
         → Reads (holds w) (outer j) (inner j) next base x piece (Err e)
     next_refused w j next (Refused p r) takes same kept =
         let taken : take (length y) piece ≡ y = front_taken piece y rest cut in
-        let (vs, ks, ms) = kept p r refl in
+        let (there, vs, ks, ms) = kept p r refl in
         rw (vs, ks, ms) (record {
           taken = length y;
           within = omega (arith, ap length cut, length-append y rest);
           fed = subst (λ z. IsFed (holds v) (outer k) (inner k) m base (x ++ z)) (sym taken) fed;
           fails = rw taken (all_state ∙ takes now fed.2 open_now);
+          next = sym there;
         })
     next_refused w j next OutOfMemory takes same kept = tt
 

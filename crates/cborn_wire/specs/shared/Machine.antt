@@ -111,10 +111,10 @@ holding fed ready os o ts = if is_full o (length ts) then finished fed ready os 
 abbrev pub content_at : ℕ → ℕ → Trees → List OpenContainer → StringKind → Width → ℕ → List ℕ → State
 content_at fed p ready os k w n got = if nat_le n (length got) then finished fed ready os (string_tree p k w got) else Live fed ready os (gathering p (content_of k w) n got)
 
--- after a break
-abbrev pub ended : ℕ → Trees → List OpenContainer → State
-ended fed ready [] = Failed ready fed UnexpectedBreak
-ended fed ready (opened o ts ∷ os) = if needs_item (slot_in (opened o ts)) then Failed ready fed UnexpectedBreak else finished fed ready os (built o ts)
+-- after a break, at p
+abbrev pub ended : ℕ → ℕ → Trees → List OpenContainer → State
+ended fed p ready [] = Failed ready p UnexpectedBreak
+ended fed p ready (opened o ts ∷ os) = if needs_item (slot_in (opened o ts)) then Failed ready p UnexpectedBreak else finished fed ready os (built o ts)
 
 -- after a whole head, at p
 abbrev pub after_head : ℕ → ℕ → Trees → List OpenContainer → Major → Argument → State
@@ -129,7 +129,7 @@ after_head fed p ready os Map a = holding fed ready os (a_map p (size_in a) (cou
 after_head fed p ready os Tag (Given w n) = holding fed ready os (a_tag p w n) []
 after_head fed p ready os Other (Given Direct n) = finished fed ready os (Simple p n)
 after_head fed p ready os Other (Given One n) = if nat_lt n 32 then Failed ready p BadSimple else finished fed ready os (Simple p n)
-after_head fed p ready os Other EndlessArgument = ended fed ready os
+after_head fed p ready os Other EndlessArgument = ended fed p ready os
 after_head fed p ready os Other (Given w n) = Failed ready p FloatLeftOut
 after_head fed p ready os m EndlessArgument = Failed ready p EndlessNotAllowed
 

@@ -186,12 +186,22 @@ pub record Whole (holds : Partial → Part → Type 0) (limit base : ℕ) (x : L
   pub placed : PlacedAll base (trees nodes)
   pub is : run limit (start base) x ≡ Live at (trees nodes) [] nothing
 
--- The piece is refused after the bytes x: the first n bytes of the piece were taken, and the items that are whole then are whole before the fault.
+-- the offset of the head that comes next, or of the one that is partial
+
+abbrev pub head_at : ℕ → Option PartialHead → ℕ
+head_at at None = at
+head_at at (Some h) = h.place
+
+abbrev pub next_head : HeadReader → ℕ
+next_head m = head_at m.at m.head
+
+-- The piece is refused after the bytes x: the first n bytes of the piece were taken, the items that are whole then are whole before the fault, and the head that is refused comes next or is partial.
 pub record RefusesPiece (holds : Partial → Part → Type 0) (around : List Level) (l : Level) (m : HeadReader) (base : ℕ) (x piece : List ℕ) (p : ℕ) (r : WireReason) : Type 0 where
   pub taken : ℕ
   pub within : taken ≤ length piece
   pub fed : IsFed holds around l m base (x ++ take taken piece)
   pub fails : run m.limit (start base) (x ++ piece) ≡ Failed (ready_in (run m.limit (start base) (x ++ take taken piece))) p r
+  pub next : next_head m ≡ p
 
 -- After the bytes x this many bytes of the piece are read, or it is refused.
 abbrev pub Reads : (Partial → Part → Type 0) → List Level → Level → HeadReader → ℕ → List ℕ → List ℕ → Result ℕ WireFault → Type 0
@@ -204,12 +214,3 @@ abbrev pub ReadsItem : ℕ → ℕ → List ℕ → List ℕ → Result ℕ Wire
 ReadsItem limit base x piece (Ok n) = AtMostOneMore (ready_in (run limit (start base) x)) (run limit (start base) (x ++ take n piece))
 ReadsItem limit base x piece (Err (Refused p r)) = run limit (start base) (x ++ piece) ≡ Failed (ready_in (run limit (start base) x)) p r
 ReadsItem limit base x piece (Err OutOfMemory) = Unit {0}
-
--- the offset of the head that comes next, or of the one that is partial
-
-abbrev pub head_at : ℕ → Option PartialHead → ℕ
-head_at at None = at
-head_at at (Some h) = h.place
-
-abbrev pub next_head : HeadReader → ℕ
-next_head m = head_at m.at m.head

@@ -1,34 +1,18 @@
-use Rattle.std.proofs.Common.{ap, Err, sym, arith}
-use Rattle.std.proofs.lemmas.List.{length-take-le}
+use Rattle.std.proofs.Common.{refl, sym, ◌∙◌, subst, []}
 use Rattle.cborn_wire.proofs.Spelled.ByteLists.{are_bytes}
-use Rattle.cborn_explain.proofs.Walking.Whole.{walked_all, walked_before, not_refused, fault_within}
+use Rattle.cborn_wire.proofs.Visiting.Ending.{fresh_fed}
+use Rattle.cborn_explain.specs.devices.Walks.{IsAmid, IsWalked}
+use Rattle.cborn_explain.proofs.Walking.Whole.{read_to}
 use Rattle.cborn_explain.proofs.byte_walks.Walk.to.Goals as goal
 
-pub returns-in-Ok : goal.returns-in-Ok
-returns-in-Ok c = walked_all c.args.bytes.now c.args.place c.requires c.in-Ok.walk.at c.in-Ok.walk.levels.items c.in-Ok.ensures.walked
+pub read-requires-clause-fed : goal.read-requires-clause-fed
+read-requires-clause-fed c = (0, [], fresh_fed (λ f q. IsAmid c.new-parts.result.string q) _ _ 1024 0 c.new-reader.result c.new-parts.ensures c.new-levels.ensures c.new-reader.ensures)
 
-pub slice_bounds-over-end-2 : goal.slice_bounds-over-end-2
-slice_bounds-over-end-2 c =
-    let x = c.args.bytes.now in
-    let p = c.in-Err-Refused.place in
-    let r = c.in-Err-Refused.field-0-1 in
-    let fails = c.in-Err-Refused.ensures.refused p r (ap Err c.in-Err-Refused.field-0-is) in
-    sym (length-take-le p x (omega (arith, c.requires, fault_within x c.args.place c.requires (are_bytes x c.type_inv.bytes) fails.0 p r fails.1)))
-
-pub unreachable-requires : goal.unreachable-requires
-unreachable-requires c =
-    let x = c.args.bytes.now in
-    let p = c.in-Err-Refused.place in
-    let r = c.in-Err-Refused.field-0-1 in
-    let again = c.in-Err-Refused-over in
-    let fails = c.in-Err-Refused.ensures.refused p r (ap Err c.in-Err-Refused.field-0-is) in
-    let fails_too = again.ensures.refused again.field-0-0 again.field-0-1 (ap Err again.field-0-is) in
-    not_refused x c.args.place c.requires (are_bytes x c.type_inv.bytes) fails.0 p r fails.1 fails_too.0 again.field-0-0 again.field-0-1 fails_too.1
-
-pub returns-in-Ok-over : goal.returns-in-Ok-over
-returns-in-Ok-over c =
-    let x = c.args.bytes.now in
-    let p = c.in-Err-Refused.place in
-    let r = c.in-Err-Refused.field-0-1 in
-    let fails = c.in-Err-Refused.ensures.refused p r (ap Err c.in-Err-Refused.field-0-is) in
-    walked_before x c.args.place c.requires (are_bytes x c.type_inv.bytes) fails.0 p r fails.1 c.in-Ok-over.walk.at c.in-Ok-over.walk.levels.items c.in-Ok-over.ensures.walked
+pub returns : goal.returns
+returns c =
+    let fresh = fresh_fed (λ f q. IsAmid c.new-parts.result.string q) _ _ 1024 0 c.new-reader.result c.new-parts.ensures c.new-levels.ensures c.new-reader.ensures in
+    let read = c.read.ensures in
+    let next = c.next_head-at.ensures in
+    subst (IsWalked c.args.bytes.now c.args.place c.next_head-at.result) (sym c.in_ok-levels.ensures)
+    (read_to c.args.bytes.now c.args.place c.requires (are_bytes c.args.bytes.now c.type_inv.bytes) c.read.new.visitor.string c.read.new.levels.outer.items c.read.new.levels.inner c.read.new.self c.next_head-at.result c.read.result
+    (read.fed 0 [] fresh) c.in_ok-had_memory.ensures (read.end refl) (read.limit ∙ c.new-reader.ensures.0) (λ e. next.none e ∙ c.next_head.ensures) next.some)
