@@ -1,17 +1,17 @@
 -- What a reader that is fed by pieces has ready is what it has to give.
-use Rattle.std.proofs.Common.{◌≡◌, refl, sym, ap, ◌∙◌, subst, ℕ, ◌≤◌, List, [], ◌++◌, length, arith, append_assoc, append-nil, length-append}
+use Rattle.std.proofs.Common.{◌≡◌, refl, sym, ap, ◌∙◌, subst, ℕ, ◌≤◌, List, ◌++◌, length, arith, append_assoc, append-nil, length-append}
 use Rattle.cborn_model.specs.Bytes.{AreBytes}
 use Rattle.cborn_model.specs.Tree.{Tree, Trees, no_item, more, trees, depth, depth_all}
 use Rattle.cborn_model.specs.Spelled.{spelled, spelled_all, Fits, FitsAll, Wellformed}
-use Rattle.cborn_model.specs.Placed.{Placed, PlacedAll}
+use Rattle.cborn_model.specs.Placed.{PlacedAll}
 use Rattle.cborn_wire.specs.Slots.{OpenContainer, beginnings}
 use Rattle.cborn_wire.specs.Places.{all_from}
 use Rattle.cborn_wire.specs.Feeding.{AreComplete}
-use Rattle.cborn_wire.specs.shared.Machine.{append_trees, snoc, Unfinished, nothing, State, Live, Failed, start, ready_in, partial_bytes, run}
+use Rattle.cborn_wire.specs.shared.Machine.{append_trees, Unfinished, nothing, State, Live, Failed, start, ready_in, partial_bytes, run}
 use Rattle.cborn_wire.proofs.Machine.Running.{failed_run}
 use Rattle.cborn_wire.proofs.Machine.WholeFront.{front_run}
 use Rattle.cborn_wire.proofs.Machine.TakesItems.{append_trees-nil}
-use Rattle.cborn_wire.proofs.Spelled.OneReading.{ends_read, placed_reading, longest, ready_front}
+use Rattle.cborn_wire.proofs.Spelled.OneReading.{placed_reading, longest, ready_front}
 use Rattle.cborn_wire.proofs.Machine.SoundItems.{SoundLive, Sound}
 use Rattle.cborn_wire.proofs.Machine.SoundRuns.{sound}
 use Rattle.cborn_wire.proofs.Spelled.TreeLists.{spelled_all-append}
@@ -85,9 +85,3 @@ module _ (limit base : ℕ) where
     where
       clash : {u : Tree} {us : Trees} → no_item ≡ more u us → ⊥
       clash e = cc
-
-  -- The item that is whole, where nothing is left open.
-  pub first_read : (y : List ℕ) (fed : ℕ) (t : Tree) → AreBytes y → run limit (start base) y ≡ Live fed (snoc no_item t) [] nothing → (y ≡ spelled t) × Fits t × (depth t ≤ limit) × Placed base t
-  first_read y fed t bytes e =
-      let (w, placed) = ends_read limit base y bytes fed (more t no_item) e in
-      (sym w.spells ∙ append-nil (spelled t), w.fit.0, omega (arith, w.shallow), placed.0)

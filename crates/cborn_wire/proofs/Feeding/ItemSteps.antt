@@ -1,5 +1,5 @@
 -- What a reader of items takes of a piece, as steps of the machine.
-use Rattle.std.proofs.Common.{◌≡◌, refl, sym, ap, ◌∙◌, subst, ℕ, ◌≤◌, List, [], ◌∷◌, ◌++◌, length, Option, Some, None, Err, inl, inr, arith}
+use Rattle.std.proofs.Common.{◌≡◌, refl, sym, ap, ◌∙◌, subst, ℕ, List, [], ◌∷◌, ◌++◌, length, Option, Some, None, Err, inl, inr, arith}
 use Rattle.std.proofs.lemmas.List.{nil_from_length}
 use Rattle.cborn_model.specs.Tree.{Tree, Trees, no_item, more, trees}
 use Rattle.cborn_model.specs.Spelled.{IsSpelled}
@@ -17,13 +17,14 @@ use Rattle.cborn_wire.specs.declared.item_readers.ItemReader.{ItemReader}
 use Rattle.cborn_wire.specs.Slots.{OpenContainer}
 use Rattle.cborn_wire.specs.shared.Machine.{Unfinished, nothing, State, Live, Failed, ready_in, start, run, AtMostOneMore}
 use Rattle.cborn_wire.specs.shared.Visiting as visiting
-use Rattle.cborn_wire.specs.shared.Visiting.{levels as levels_of, ready, open_in, unfinished, state, seen_head, Keeps, IsInput, Missing, Stands, HereAt, MayEnd, IsFed, FailsAs}
+use Rattle.cborn_wire.specs.shared.Visiting.{levels as levels_of, ready, open_in, unfinished, state, seen_head, Keeps, IsFresh, IsInput, Missing, Stands, HereAt, MayEnd, IsFed, FailsAs}
 use Rattle.cborn_wire.specs.devices.OpenNodes.{seen_string, seen_nodes, IsHeld}
 use Rattle.cborn_wire.specs.devices.ItemReading.{pending, seen, IsMade}
 use Rattle.cborn_wire.proofs.Machine.Running.{run-append}
 use Rattle.cborn_wire.proofs.Machine.Reached.{reached_item}
 use Rattle.cborn_wire.proofs.Visiting.Taking.{outer_count}
 use Rattle.cborn_wire.proofs.Visiting.Pieces.{may_end_here}
+use Rattle.cborn_wire.proofs.Visiting.Ending.{fresh_fed}
 
 -- what the visitor holds is what it is seen as
 pub here_seen : (n : Nodes) (around : List Level) (l : Level) (left at : ℕ) (h : Option PartialHead) (s : State) → HereAt (IsHeld n) around l left at h s
@@ -47,23 +48,12 @@ no_head None (Some s) e = cc
 no_head (Some h) s e = cc
 
 -- A reader that is at the offset `at`, and nothing is open.
-pub fresh_made : (r : ItemReader) (at : ℕ) → r.heads.at ≡ at → r.heads.limit ≤ 1024 → r.heads.left ≡ 0 → r.heads.head ≡ None → IsInput r.levels.outer.items r.levels.inner → IsHeld r.nodes (top []) no_part
-    → IsMade r × (seen [] r ≡ start at)
-fresh_made r at is small left head input held =
+pub fresh_made : (r : ItemReader) (limit at : ℕ) → IsFresh limit at r.heads → IsInput r.levels.outer.items r.levels.inner → IsHeld r.nodes (top []) no_part → IsMade r × (seen [] r ≡ start at)
+fresh_made r limit at fresh input held =
+    let fed = fresh_fed (IsHeld r.nodes) r.levels.outer.items r.levels.inner limit at r.heads held input fresh in
     let same : seen [] r ≡ start at
-    = ap (λ h. Live r.heads.at no_item (open_in (seen_nodes r.nodes)) (pending h r.nodes.string)) head
-    ∙ ap (λ c. Live r.heads.at no_item (open_in (seen_nodes r.nodes)) (unfinished c)) (sym held.1)
-    ∙ ap (λ f. Live r.heads.at no_item (open_in f) nothing) (sym held.0) ∙ ap start is in
-    let here : HereAt (IsHeld r.nodes) r.levels.outer.items r.levels.inner r.heads.left r.heads.at None (start r.heads.at)
-    = record { partial = top []; amid = no_part; held = held; levels = (sym (ap (λ l. r.levels.outer.items ++ l ∷ []) input.1 ∙ ap (λ o. o ++ record { place = 0; kind = Sequence 0 } ∷ []) input.0), tt, tt); missing = left; fits = tt; is = refl } in (
-      record {
-        base = r.heads.at;
-        read = [];
-        fed = (tt, small, subst (λ h. HereAt (IsHeld r.nodes) r.levels.outer.items r.levels.inner r.heads.left r.heads.at h (start r.heads.at)) (sym head) here);
-        is = ap start is ∙ sym same;
-      },
-      same,
-    )
+    = ap (λ f. Live r.heads.at (ready f) (open_in (seen_nodes r.nodes)) (pending r.heads.head r.nodes.string)) held.0 ∙ sym (here_seen r.nodes r.levels.outer.items r.levels.inner r.heads.left r.heads.at r.heads.head (start at) fed.2) in
+    (record { base = at; read = []; fed = fed; is = sym same }, same)
 
 none_missing : (left : ℕ) (c : Part) → Missing left c → left ≡ 0 → unfinished c ≡ nothing
 none_missing left no_part h e = refl
@@ -180,7 +170,7 @@ module _ (old : ItemReader) (made : IsMade old) (heads : HeadReader) (levels : G
         let place : levels.inner.place ≡ 0 = at_zero (these ++ t ∷ []) (sym (ap levels_of (here.held.0 ∙ is_top)) ∙ here.levels.0 ∙ ap (λ o. o ++ levels.inner ∷ []) around) in
         let input : IsInput counted.outer.items counted.inner = (outer ∙ around, inner ∙ ap (λ p. record { place = p; kind = Sequence 0 }) place) in
         let bare_next : top [] ≡ seen_nodes next = sym (bare ∙ ap top none) in
-        let (made_next, fresh) = fresh_made r heads.at refl fed.1 left head input (bare_next, no_string) in
+        let (made_next, fresh) = fresh_made r heads.limit heads.at (refl, refl, left, head, fed.1) input (bare_next, no_string) in
         let one : now ≡ seen (t ∷ []) r = is_one ∙ ap with_one (sym fresh) in
         let (fits, shallow) = reached_item heads.limit made.base heads.at no_item t [] nothing (made.read ++ y, fed.0, is_one) in
         (made_next, comes ∙ one, fresh, (fits, omega (arith, shallow, fed.1)))

@@ -1,7 +1,7 @@
 -- A piece is read item by item, as steps of the machine.
-use Rattle.std.proofs.Common.{◌≡◌, sym, ap, ◌∙◌, ℕ, List, [], ◌++◌, take, drop, Option, arith, append_assoc, length-append}
+use Rattle.std.proofs.Common.{◌≡◌, sym, ap, ◌∙◌, ℕ, List, [], ◌++◌, take, Option, arith, length-append}
 use Rattle.std.specs.Option.{option_to_list}
-use Rattle.std.proofs.lemmas.List.{take-append-drop, length-take-le}
+use Rattle.std.proofs.lemmas.List.{length-take-le}
 use Rattle.cborn_model.specs.Tree.{Tree, no_item, trees}
 use Rattle.cborn_wire.specs.declared.faults.WireFault.{WireFault}
 use Rattle.cborn_wire.specs.declared.faults.WireFault.TheVariants.{Refused, OutOfMemory}
@@ -38,9 +38,6 @@ module _ (old : ItemReader) (before : List Tree) (now : ItemReader) (items : Lis
       ap (run old.heads.limit (seen before old)) cut ∙ run-append old.heads.limit (seen before old) y rest ∙ ap (λ u. run old.heads.limit u rest) m.goes
       ∙ ap (λ k. run k (seen items now) rest) (sym m.limit) ∙ fails_after now items rest (Refused p r) h
   then_stops OutOfMemory h = (y, rest, cut, ap ready_in m.goes)
-
-  pub then_cut : (n : ℕ) → piece ≡ (y ++ take n rest) ++ drop n rest
-  then_cut n = cut ∙ ap (λ l. y ++ l) (sym (take-append-drop n rest)) ∙ sym (append_assoc y (take n rest) (drop n rest))
 
   pub then_moved : (next : ItemReader) (n : ℕ) (item : Option Tree) (left : List Tree) → Took rest now next n item → next.heads.limit ≡ now.heads.limit → left ≡ items ++ option_to_list item
       → IsMoved old before next left (y ++ take n rest)

@@ -1,8 +1,8 @@
-use Rattle.std.proofs.Common.{rules, ◌≡◌, sym, ap, ◌∙◌, ◌++◌, take, append-nil}
+use Rattle.std.proofs.Common.{rules, ◌≡◌, ◌++◌, take, append-nil}
 use Rattle.std.specs.Option.{option_to_list}
-use Rattle.std.proofs.lemmas.List.{take_rest}
 use Rattle.std.proofs.lemmas.Result.{err_from_is_err_and}
-use Rattle.cborn_wire.proofs.Feeding.PieceSteps.{then_stops, then_cut, then_moved}
+use Rattle.cborn_wire.proofs.Feeding.PieceSteps.{then_stops, then_moved}
+use Rattle.cborn_wire.proofs.Visiting.Pieces.{next_cut}
 use Rattle.cborn_wire.proofs.feeders.read_piece.Goals as goal
 use Rattle.cborn_wire.proofs.feeders.read_piece.Goals.{in-Some+in_ok-push_back, in_default}
 
@@ -21,6 +21,6 @@ loop-rest-preserved c =
     let added : c.match-item.ready.items ≡ items ++ option_to_list c.in_ok-len.item
     = elim c.match-item.branch [ in-Some+in_ok-push_back w ↦ search rules | in_default w ↦ search (rules, append-nil) ] in (
       y ++ take n rest,
-      then_cut c.args.reader.now c.args.ready.now.items c.loop-rest.reader items c.args.piece.now y rest cut moved n ∙ ap (λ l. (y ++ take n rest) ++ l) (sym (take_rest rest n)),
+      next_cut c.args.piece.now y rest cut n c.in_ok-len.ensures.item.within,
       then_moved c.args.reader.now c.args.ready.now.items c.loop-rest.reader items c.args.piece.now y rest cut moved c.read_item.new.self n c.in_ok-len.item c.match-item.ready.items c.in_ok-len.ensures.item c.in_ok-len.ensures.limit added,
     )
