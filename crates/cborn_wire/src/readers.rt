@@ -51,6 +51,7 @@ pub fn read_one(
 {
     let mut nodes = Nodes::new(alloc);
     let Some(end) = visit_item(alloc, limit, bytes, start, &mut nodes)? else {
+        // the bytes end at `start`
         return Err(WireFault::Refused {
             place: start as u64,
             reason: WireReason::Truncated,
