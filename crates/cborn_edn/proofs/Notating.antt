@@ -1,31 +1,36 @@
 -- The text of a partial sequence, as heads and strings come.
-use Rattle.std.proofs.Common.{◌≡◌, refl, sym, ap, ◌∙◌, subst, ℕ, ◌+◌, ◌<◌, ◌≤◌, List, [], ◌∷◌, ◌++◌, length, map, take, drop, min, codes, decimal, append_assoc, append-nil, Option, Some, None, Bool, true, false, not, is_some, if◌then◌else◌, ◌⊎◌, inl, inr, slice_index, ◌/◌, ◌%◌, Result, Ok, Err, IfErr, IsErrAnd, arith}
-use Rattle.std.specs.List.{flat_map}
-use Rattle.std.specs.Str.{is_utf8, IsUtf8}
+use Rattle.std.proofs.Common.{◌≡◌, refl, sym, ap, ◌∙◌, subst, ℕ, ◌+◌, ◌-◌, ◌^◌, ◌≤◌, List, [], ◌∷◌, ◌++◌, length, map, take, drop, min, codes, decimal, append_assoc, append-nil, Option, Some, None, Bool, true, false, not, is_some, if◌then◌else◌, ◌⊎◌, inl, inr, slice_index, ◌/◌, ◌%◌, Result, Ok, Err, OnOk, IfErr, IsErrAnd, arith}
+use Rattle.std.proofs.lemmas.Bool.{le-ltb, ltb-true, ltb-false, eq-eqb}
+use Rattle.std.proofs.Math.Dec.{ltb}
+use Rattle.std.specs.Str.{IsUtf8}
 use Rattle.std.proofs.lemmas.Grind.{flat_map-append}
 use Rattle.std.proofs.Math.Seq.{drop-append_seam}
 use Rattle.std.proofs.lemmas.List.{take-append-drop}
 use Rattle.hex.specs.Hex.{encode_lower, encode_with, lower_digits}
-use Rattle.cborn_model.specs.declared.heads.Size.{Size}
 use Rattle.cborn_model.specs.declared.heads.Size.TheVariants.{Fixed, Endless}
 use Rattle.cborn_model.specs.declared.heads.Width.{Width}
+use Rattle.cborn_model.specs.declared.heads.Width.TheVariants.{Direct, One, Two, Four, Eight}
+use Rattle.cborn_model.specs.Heads.{holds, least}
 use Rattle.cborn_model.specs.declared.visitors.StringKind.{StringKind}
 use Rattle.cborn_model.specs.declared.visitors.StringKind.TheVariants.{OfBytes, OfText}
-use Rattle.cborn_model.specs.Tree.{Tree, Bytes, Text, Trees, trees, entries, count, no_item, more}
+use Rattle.cborn_model.specs.Tree.{Tree, Bytes, Text, trees, entries}
 use Rattle.cborn_model.specs.Spelled.{FitsAll}
-use Rattle.cborn_model.specs.Partial.{Partial, top, inside, Opening, an_array, a_map, a_tag, in_chunks, Part, no_part, part, put, built, paired, last_key, chunks_of, string_tree, integer_tree, AreStrings, Ends}
+use Rattle.cborn_model.specs.Partial.{Partial, top, inside, Opening, an_array, a_map, a_tag, in_chunks, no_part, part, put, built, paired, last_key, chunks_of, string_tree, integer_tree, AreStrings, Ends, IsFree, ended_size}
 use Rattle.cborn_model.proofs.Listed.Trees.{count-trees, count_entries-entries}
 use Rattle.cborn_wire.proofs.Visiting.Counting.{last_same}
 use Rattle.cborn_edn.specs.declared.notators.Next.{Next}
-use Rattle.cborn_edn.specs.declared.notators.Next.TheVariants.{FirstItem, Item, FirstElement, Element, FirstKey, Key, Value, Content, TagEnd, FirstChunk, Chunk}
+use Rattle.cborn_edn.specs.declared.notators.Next.TheVariants.{FirstItem, Item, FirstElement, Element, FirstKey, Key, Value, Content, FirstChunk, Chunk, FirstLateElement, LateElement, FirstLateKey, LateKey, LateValue}
 use Rattle.cborn_edn.specs.declared.notators.OpenString.{OpenString}
+use Rattle.cborn_edn.specs.declared.notators.Late.{Late}
 use Rattle.cborn_edn.specs.declared.notators.Notator.{Notator}
+use Rattle.cborn_lex.specs.declared.classes.Mark.TheVariants.{Absent, Wide}
 use Rattle.cborn_edn.specs.declared.faults.ShowFault.{ShowFault}
 use Rattle.cborn_edn.specs.Says.{is_good}
 use Rattle.cborn_edn.specs.shared.Between.{others}
-use Rattle.cborn_edn.specs.Shown.{shown, shown_chunk, shown_chunks, shown_string, shown_lines, item_texts, pair_texts, joined_by, indicator, mark_for, mark_for_size, opened, Shown, IsBadText, IsBadAmong, IsBadInPairs, IsBadChunk, IsShowFault, LowestBadText}
-use Rattle.cborn_edn.specs.devices.Notating.{after, separator, ending, following, next_after, first, size_text, beginning, next_in, next_around, written, HasCount, AreCounted, IsBadIn, IsLowest, least, lowest_with, quote, content, string_end, WritesPart, IsHeld}
+use Rattle.cborn_edn.specs.Shown.{shown, shown_chunk, shown_string, shown_lines, item_texts, pair_texts, joined_by, indicator, mark_for, mark_for_size, opened, Shown, IsBadText, IsBadAmong, IsBadInPairs, IsBadChunk, LowestBadText}
+use Rattle.cborn_edn.specs.devices.Notating.{after, separator, ending, following, next_after, first, beginning, next_in, next_around, written, late_size, is_counted, one_more, IsCounted, IsEnded, count_one, tally, late_in, lates, IsBadIn, IsLowest, least as lower, lowest_with, quote, content, string_end, IsHeld}
 use Rattle.cborn_edn.proofs.Shown.Characters.{lines_text, same_utf8}
+use Rattle.cborn_edn.proofs.Reader.Modest.{least_is_eight}
 use Rattle.cborn_edn.proofs.Shown.Lowests.{each_showable}
 
 -- One more node.
@@ -54,9 +59,13 @@ written_put (inside f o ts) t =
     ap (λ l. (written f ++ separator (next_in f)) ++ (beginning o ++ l)) (following_push (first o) ts t)
     ∙ simp append_assoc
 
-counted_put : (f : Partial) (t : Tree) → AreCounted f → AreCounted (put f t)
-counted_put (top ts) t h = h
-counted_put (inside f o ts) t h = h
+tally_put : (s : Next) (n : ℕ) (ts : List Tree) (t : Tree) → tally s n (ts ++ t ∷ []) false ≡ tally s n ts true
+tally_put s n [] t = refl
+tally_put s n (u ∷ ts) t = tally_put (after s) (count_one s n) ts t
+
+lates_put : (f : Partial) (t : Tree) → lates false (put f t) ≡ lates true f
+lates_put (top ts) t = refl
+lates_put (inside f o ts) t = ap (λ n. lates true f ++ late_in o (length ((written f ++ separator (next_in f)) ++ beginning o)) n) (tally_put (first o) 0 ts t)
 
 -- Texts that aren't UTF-8.
 
@@ -141,30 +150,173 @@ chunks_joined OfText p (_ ∷ ts) h = absurd h.0
 bracketed : (a b x y z : List ℕ) → y ≡ x → z ≡ b → (a ++ y) ++ z ≡ a ++ (x ++ b)
 bracketed a b x y z e f = ap (λ l. (a ++ l) ++ z) e ∙ append_assoc a x z ∙ ap (λ l. a ++ (x ++ l)) f
 
-shown_built : (o : Opening) (ts : List Tree) → Ends o ts → HasCount o → (beginning o ++ following (first o) ts) ++ ending (next_after (first o) ts) ≡ shown (built o ts)
-shown_built (an_array p (Fixed w) (Some n)) ts e h =
+-- Where the count isn't known from the start, parts come as in other arrays and maps.
+
+abbrev plain : Next → Next
+plain FirstLateElement = FirstElement
+plain LateElement = Element
+plain FirstLateKey = FirstKey
+plain LateKey = Key
+plain LateValue = Value
+plain s = s
+
+plain_after : (s : Next) → after (plain s) ≡ plain (after s)
+plain_after FirstItem = refl
+plain_after _ = refl
+
+plain_separator : (s : Next) → separator (plain s) ≡ separator s
+plain_separator FirstItem = refl
+plain_separator _ = refl
+
+plain_ending : (s : Next) → ending (plain s) ≡ ending s
+plain_ending (FirstChunk OfBytes) = refl
+plain_ending (FirstChunk OfText) = refl
+plain_ending _ = refl
+
+plain_counted : (s : Next) → is_counted (plain s) ≡ false
+plain_counted FirstItem = refl
+plain_counted _ = refl
+
+plain_following : (s : Next) (ts : List Tree) → (following s ts ≡ following (plain s) ts) × (plain (next_after s ts) ≡ next_after (plain s) ts)
+plain_following s [] = (refl, refl)
+plain_following s (t ∷ ts) =
+    let h = plain_following (after s) ts in
+    ((λ i. sym (plain_separator s) i ++ (shown t ++ (h.0 ∙ ap (λ u. following u ts) (sym (plain_after s))) i)), h.1 ∙ ap (λ u. next_after u ts) (sym (plain_after s)))
+
+ending_plain : (s : Next) (ts : List Tree) → ending (next_after s ts) ≡ ending (next_after (plain s) ts)
+ending_plain s ts = sym (plain_ending (next_after s ts)) ∙ ap ending (plain_following s ts).1
+
+uncounted : (s : Next) (ts : List Tree) → is_counted (next_after (plain s) ts) ≡ false
+uncounted s ts = ap is_counted (sym (plain_following s ts).1) ∙ plain_counted (next_after s ts)
+
+-- Counts, up to the greatest number of 64 bits.
+
+abbrev low : ℕ → ℕ
+low n = min n (2 ^ 64 - 1)
+
+low_more : (n : ℕ) → one_more (low n) ≡ low (n + 1)
+low_more n = grind arith
+
+later_items : (n : ℕ) (ts : List Tree) → (tally LateElement (low n) ts false ≡ low (n + length ts)) × (is_counted (next_after LateElement ts) ≡ true)
+later_items n [] = (ap low (omega arith), refl)
+later_items n (t ∷ ts) = let h = later_items (n + 1) ts in (ap (λ k. tally LateElement k ts false) (low_more n) ∙ h.0 ∙ ap low (omega arith), h.1)
+
+late_items : (ts : List Tree) → (tally FirstLateElement 0 ts false ≡ low (length ts)) × (is_counted (next_after FirstLateElement ts) ≡ true)
+late_items [] = (refl, refl)
+late_items (t ∷ ts) = let h = later_items 1 ts in (h.0 ∙ ap low (omega arith), h.1)
+
+later_pairs : (n : ℕ) (ts : List Tree) → last_key ts ≡ None → (tally LateKey (low n) ts false ≡ low (n + length (paired ts))) × (is_counted (next_after LateKey ts) ≡ true)
+later_pairs n [] e = (ap low (omega arith), refl)
+later_pairs n (k ∷ []) e = absurd (let d : Some k ≡ None = e in cc)
+later_pairs n (k ∷ v ∷ ts) e = let h = later_pairs (n + 1) ts e in (ap (λ k. tally LateKey k ts false) (low_more n) ∙ h.0 ∙ ap low (omega arith), h.1)
+
+late_pairs : (ts : List Tree) → last_key ts ≡ None → (tally FirstLateKey 0 ts false ≡ low (length (paired ts))) × (is_counted (next_after FirstLateKey ts) ≡ true)
+late_pairs [] e = (refl, refl)
+late_pairs (k ∷ []) e = absurd (let d : Some k ≡ None = e in cc)
+late_pairs (k ∷ v ∷ ts) e = let h = later_pairs 1 ts e in (h.0 ∙ ap low (omega arith), h.1)
+
+tally_one : (s : Next) (n : ℕ) (ts : List Tree) → tally s n ts true ≡ count_one (next_after s ts) (tally s n ts false)
+tally_one s n [] = refl
+tally_one s n (t ∷ ts) = tally_one (after s) (count_one s n) ts
+
+counted_last : (s : Next) (ts : List Tree) (i : ℕ) (w : Width) (front old new : List Late) → IsCounted (next_after s ts) old new → old ≡ front ++ record { at = i; width = w; count = tally s 0 ts false } ∷ []
+    → new ≡ front ++ record { at = i; width = w; count = tally s 0 ts true } ∷ []
+counted_last s ts i w front old new c h = go (is_counted (next_after s ts)) refl
+  where
+    more_is : (b : Bool) → is_counted (next_after s ts) ≡ b → (if b then one_more (tally s 0 ts false) else tally s 0 ts false) ≡ tally s 0 ts true
+    more_is b e = ap (λ b. if b then one_more (tally s 0 ts false) else tally s 0 ts false) (sym e) ∙ sym (tally_one s 0 ts)
+
+    go : (b : Bool) → is_counted (next_after s ts) ≡ b → new ≡ front ++ record { at = i; width = w; count = tally s 0 ts true } ∷ []
+    go true e = c.1 e front (record { at = i; width = w; count = tally s 0 ts false }) h ∙ ap (λ n. front ++ record { at = i; width = w; count = n } ∷ []) (more_is true e)
+    go false e = c.0 e ∙ h ∙ ap (λ n. front ++ record { at = i; width = w; count = n } ∷ []) (more_is false e)
+
+-- one more node begins
+counted_next : (f : Partial) (old new : List Late) → IsCounted (next_in f) old new → old ≡ lates false f → new ≡ lates true f
+counted_next (top ts) old new c h = c.0 (uncounted FirstItem ts) ∙ h
+counted_next (inside f (an_array p (Fixed w) None) ts) old new c h = counted_last FirstLateElement ts (length ((written f ++ separator (next_in f)) ++ codes "[")) w (lates true f) old new c h
+counted_next (inside f (a_map p (Fixed w) None) ts) old new c h = counted_last FirstLateKey ts (length ((written f ++ separator (next_in f)) ++ codes "{")) w (lates true f) old new c h
+counted_next (inside f o ts) old new c h = c.0 (uncounted (first o) ts) ∙ h
+
+-- a count beyond that has no indicator
+late_low : (w : Width) (n : ℕ) → late_size w (low n) ≡ late_size w n
+late_low w n = go (ltb n (2 ^ 64)) refl
+  where
+    either : (b : Bool) (m : ℕ) → 2 ^ 32 ≤ m → (if b then Eight else least m) ≡ least m
+    either true m most = sym (least_is_eight m most)
+    either false m most = refl
+
+    same : (w : Width) (m : ℕ) → 2 ^ 32 ≤ m → (if holds w m then w else least m) ≡ least m
+    same Direct m most = ap (λ b. if b then Direct else least m) (le-ltb m 24 (omega (arith, most)))
+    same One m most = ap (λ b. if b then One else least m) (le-ltb m 256 (omega (arith, most)))
+    same Two m most = ap (λ b. if b then Two else least m) (le-ltb m (2 ^ 16) (omega (arith, most)))
+    same Four m most = ap (λ b. if b then Four else least m) (le-ltb m (2 ^ 32) (omega (arith, most)))
+    same Eight m most = either (ltb m (2 ^ 64)) m most
+
+    none : (w : Width) (m : ℕ) → 2 ^ 32 ≤ m → late_size w m ≡ []
+    none w m most =
+        ap (λ v. opened (mark_for v m)) (same w m most)
+        ∙ ap (λ b. opened (if b then Absent else Wide (least m))) (eq-eqb _ _ refl)
+
+    go : (b : Bool) → ltb n (2 ^ 64) ≡ b → late_size w (low n) ≡ late_size w n
+    go true e = let few = ltb-true n (2 ^ 64) e in ap (late_size w) (omega (arith, few))
+    go false e = let many = ltb-false n (2 ^ 64) e in none w (low n) (grind (arith, many)) ∙ sym (none w n (omega (arith, many)))
+
+-- the indicator that is inserted where the container ends
+abbrev late_text : Opening → List Tree → List ℕ
+late_text (an_array p (Fixed w) None) ts = late_size w (length ts)
+late_text (a_map p (Fixed w) None) ts = late_size w (length (paired ts))
+late_text _ ts = []
+
+sized_end : (f : Partial) (o : Opening) (ts : List Tree) (old new : List Late) (out text : List ℕ) → Ends o ts → IsEnded (next_after (first o) ts) old out new text → old ≡ lates false (inside f o ts) → out ≡ written (inside f o ts)
+    → (new ≡ lates true f) × (text ≡ ((written f ++ separator (next_in f)) ++ (beginning o ++ (late_text o ts ++ following (first o) ts))) ++ ending (next_after (first o) ts))
+sized_end f (an_array p (Fixed w) None) ts old new out text ends ended e g =
+    let a = written f ++ separator (next_in f) in
+    let y = following FirstLateElement ts in
+    let h = late_items ts in
+    let n = ap (late_size w) h.0 ∙ late_low w (length ts) in
+    let r = ended.1 h.1 (lates true f) (record { at = length (a ++ codes "["); width = w; count = tally FirstLateElement 0 ts false }) (a ++ codes "[") y e (g ∙ sym (append_assoc a (codes "[") y)) refl in
+    (r.0, r.1 ∙ ap (λ l. l ++ ending (next_after FirstLateElement ts)) (append_assoc a (codes "[") _ ∙ ap (λ m. a ++ (codes "[" ++ (m ++ y))) n))
+sized_end f (a_map p (Fixed w) None) ts old new out text ends ended e g =
+    let a = written f ++ separator (next_in f) in
+    let y = following FirstLateKey ts in
+    let h = late_pairs ts ends.1 in
+    let n = ap (late_size w) h.0 ∙ late_low w (length (paired ts)) in
+    let r = ended.1 h.1 (lates true f) (record { at = length (a ++ codes "{"); width = w; count = tally FirstLateKey 0 ts false }) (a ++ codes "{") y e (g ∙ sym (append_assoc a (codes "{") y)) refl in
+    (r.0, r.1 ∙ ap (λ l. l ++ ending (next_after FirstLateKey ts)) (append_assoc a (codes "{") _ ∙ ap (λ m. a ++ (codes "{" ++ (m ++ y))) n))
+sized_end f o ts old new out text ends ended e g =
+    let r = ended.0 (uncounted (first o) ts) in
+    (r.0 ∙ e ∙ append-nil (lates true f), r.1 ∙ ap (λ l. l ++ ending (next_after (first o) ts)) g)
+
+shown_built : (o : Opening) (ts : List Tree) → Ends o ts → (beginning o ++ (late_text o ts ++ following (first o) ts)) ++ ending (next_after (first o) ts) ≡ shown (built o ts)
+shown_built (an_array p (Fixed w) (Some n)) ts e =
     let g = items_joined ts in
     bracketed (codes "[" ++ opened (mark_for w n)) (codes "]") _ _ _ g.0 g.1
     ∙ ap (λ m. codes "[" ++ (opened (mark_for w m) ++ (joined_by (codes ", ") (item_texts (trees ts)) ++ codes "]"))) (sym (count-trees ts ∙ e))
-shown_built (an_array p (Fixed w) None) ts e h = absurd h
-shown_built (an_array p Endless (Some n)) ts e h = let g = items_joined ts in bracketed (codes "[_ ") (codes "]") _ _ _ g.0 g.1
-shown_built (an_array p Endless None) ts e h = let g = items_joined ts in bracketed (codes "[_ ") (codes "]") _ _ _ g.0 g.1
-shown_built (a_map p (Fixed w) (Some n)) ts e h =
+shown_built (an_array p (Fixed w) None) ts e =
+    let g = items_joined ts in
+    bracketed (codes "[" ++ late_size w (length ts)) (codes "]") _ _ _ ((plain_following FirstLateElement ts).0 ∙ g.0) (ending_plain FirstLateElement ts ∙ g.1)
+    ∙ ap (λ m. codes "[" ++ (opened (mark_for_size (ended_size (Fixed w) None (length ts)) m) ++ (joined_by (codes ", ") (item_texts (trees ts)) ++ codes "]"))) (sym (count-trees ts))
+shown_built (an_array p Endless (Some n)) ts e = let g = items_joined ts in bracketed (codes "[_ ") (codes "]") _ _ _ g.0 g.1
+shown_built (an_array p Endless None) ts e = let g = items_joined ts in bracketed (codes "[_ ") (codes "]") _ _ _ g.0 g.1
+shown_built (a_map p (Fixed w) (Some n)) ts e =
     let g = pairs_joined ts e.1 in
     bracketed (codes "{" ++ opened (mark_for w n)) (codes "}") _ _ _ g.0 g.1
     ∙ ap (λ m. codes "{" ++ (opened (mark_for w m) ++ (joined_by (codes ", ") (pair_texts (entries (paired ts))) ++ codes "}"))) (sym (count_entries-entries (paired ts) ∙ e.0))
-shown_built (a_map p (Fixed w) None) ts e h = absurd h
-shown_built (a_map p Endless (Some n)) ts e h = let g = pairs_joined ts e.1 in bracketed (codes "{_ ") (codes "}") _ _ _ g.0 g.1
-shown_built (a_map p Endless None) ts e h = let g = pairs_joined ts e.1 in bracketed (codes "{_ ") (codes "}") _ _ _ g.0 g.1
-shown_built (a_tag p w n) ts (t, is) h =
+shown_built (a_map p (Fixed w) None) ts e =
+    let g = pairs_joined ts e.1 in
+    bracketed (codes "{" ++ late_size w (length (paired ts))) (codes "}") _ _ _ ((plain_following FirstLateKey ts).0 ∙ g.0) (ending_plain FirstLateKey ts ∙ g.1)
+    ∙ ap (λ m. codes "{" ++ (opened (mark_for_size (ended_size (Fixed w) None (length (paired ts))) m) ++ (joined_by (codes ", ") (pair_texts (entries (paired ts))) ++ codes "}"))) (sym (count_entries-entries (paired ts)))
+shown_built (a_map p Endless (Some n)) ts e = let g = pairs_joined ts e.1 in bracketed (codes "{_ ") (codes "}") _ _ _ g.0 g.1
+shown_built (a_map p Endless None) ts e = let g = pairs_joined ts e.1 in bracketed (codes "{_ ") (codes "}") _ _ _ g.0 g.1
+shown_built (a_tag p w n) ts (t, is) =
     subst (λ us. (beginning (a_tag p w n) ++ following Content us) ++ ending (next_after Content us) ≡ shown (built (a_tag p w n) us)) (sym is)
     (ap (λ l. ((decimal n ++ (indicator (mark_for w n) ++ codes "(")) ++ l) ++ codes ")") (append-nil (shown t)) ∙ simp append_assoc)
-shown_built (in_chunks p k) ts e h = chunks_joined k p ts e
+shown_built (in_chunks p k) ts e = chunks_joined k p ts e
 
-written_end : (f : Partial) (o : Opening) (ts : List Tree) → Ends o ts → HasCount o → written (inside f o ts) ++ ending (next_in (inside f o ts)) ≡ written (put f (built o ts))
-written_end f o ts e h =
-    append_assoc (written f ++ separator (next_in f)) (beginning o ++ following (first o) ts) (ending (next_after (first o) ts))
-    ∙ ap (λ l. (written f ++ separator (next_in f)) ++ l) (shown_built o ts e h) ∙ sym (written_put f (built o ts))
+written_end : (f : Partial) (o : Opening) (ts : List Tree) → Ends o ts → ((written f ++ separator (next_in f)) ++ (beginning o ++ (late_text o ts ++ following (first o) ts))) ++ ending (next_after (first o) ts) ≡ written (put f (built o ts))
+written_end f o ts e =
+    append_assoc (written f ++ separator (next_in f)) (beginning o ++ (late_text o ts ++ following (first o) ts)) (ending (next_after (first o) ts))
+    ∙ ap (λ l. (written f ++ separator (next_in f)) ++ l) (shown_built o ts e) ∙ sym (written_put f (built o ts))
 
 in_pairs : (ts : List Tree) (p : ℕ) → last_key ts ≡ None → IsBadAmong (trees ts) p → IsBadInPairs (entries (paired ts)) p
 in_pairs [] p e h = h
@@ -211,13 +363,13 @@ noted (Some p) b e f none = cc
 
 -- a node that is no text is whole
 pub put_held : (v w : Notator) (f : Partial) (t : Tree) → ((p : ℕ) → IsBadText t p → ⊥) → w.next ≡ after v.next → w.around ≡ v.around → w.bad ≡ v.bad
-    → (v.bad ≡ None → w.out.items ≡ (v.out.items ++ separator v.next) ++ shown t) → IsHeld v f no_part → IsHeld w (put f t) no_part
-put_held v w f t good next around bad out h =
+    → (v.bad ≡ None → IsCounted v.next v.lates.items w.lates.items) → (v.bad ≡ None → w.out.items ≡ (v.out.items ++ separator v.next) ++ shown t) → IsHeld v f no_part → IsHeld w (put f t) no_part
+put_held v w f t good next around bad counted out h =
     record {
       next = next ∙ ap after h.next ∙ sym (next_put f t);
       around = ap (λ a. a.items) around ∙ h.around ∙ sym (around_put f t);
       bad = lowest_same (IsBadIn f) (IsBadIn (put f t)) w.bad (bad_before f t) (λ p b. elim (bad_put f t p b) [ inl a ↦ a | inr c ↦ absurd (good p c) ]) (subst (IsLowest (IsBadIn f)) (sym bad) h.bad);
-      counted = counted_put f t h.counted;
+      lates = λ none. counted_next f v.lates.items w.lates.items (subst (λ s. IsCounted s v.lates.items w.lates.items) h.next (counted (sym bad ∙ none))) (h.lates (sym bad ∙ none)) ∙ sym (lates_put f t);
       text = λ none. out (sym bad ∙ none) ∙ (λ i. (h.text (sym bad ∙ none) i ++ separator (h.next i)) ++ shown t) ∙ sym (written_put f t);
     }
 
@@ -225,11 +377,40 @@ pub good_integer : (p : ℕ) (negative : Bool) (w : Width) (n q : ℕ) → IsBad
 good_integer p true w n q h = h
 good_integer p false w n q h = h
 
+-- a container begins
+pub open_held : (v w : Notator) (f : Partial) (o : Opening) → w.next ≡ first o → w.around.items ≡ v.around.items ++ v.next ∷ [] → w.bad ≡ v.bad → (v.bad ≡ None → w.out.items ≡ (v.out.items ++ separator v.next) ++ beginning o)
+    → (v.bad ≡ None → (l : List Late) × IsCounted v.next v.lates.items l × (w.lates.items ≡ l ++ late_in o (length w.out.items) 0)) → IsHeld v f no_part → IsHeld w (inside f o []) no_part
+open_held v w f o next around bad out counted h =
+    let at : (none : v.bad ≡ None) → w.out.items ≡ (written f ++ separator (next_in f)) ++ beginning o = λ none. out none ∙ (λ i. (h.text none i ++ separator (h.next i)) ++ beginning o) in
+    record {
+      next = next;
+      around = around ∙ (λ i. h.around i ++ h.next i ∷ []);
+      bad = lowest_same (IsBadIn f) (IsBadIn (inside f o [])) w.bad (λ p b. inl b) (λ p b. elim b [ inl a ↦ a | inr c ↦ absurd c ]) (subst (IsLowest (IsBadIn f)) (sym bad) h.bad);
+      lates = λ none. (let c = counted (sym bad ∙ none) in c.2 ∙ (λ i. counted_next f v.lates.items c.0 (subst (λ s. IsCounted s v.lates.items c.0) h.next c.1) (h.lates (sym bad ∙ none)) i ++ late_in o (length (at (sym bad ∙ none) i)) 0));
+      text = λ none. at (sym bad ∙ none) ∙ ap (λ l. (written f ++ separator (next_in f)) ++ l) (sym (append-nil (beginning o)));
+    }
+
+pub opened_held : {E : Type 0} (r : Result (Unit {0}) E) (v w : Notator) (o : Opening) → OnOk r (w.next ≡ first o) → OnOk r (w.around.items ≡ v.around.items ++ v.next ∷ []) → w.bad ≡ v.bad → OnOk r (v.bad ≡ None → w.out.items ≡ (v.out.items ++ separator v.next) ++ beginning o)
+    → OnOk r (v.bad ≡ None → (l : List Late) × IsCounted v.next v.lates.items l × (w.lates.items ≡ l ++ late_in o (length w.out.items) 0)) → OnOk r ((f : Partial) → IsFree f → IsHeld v f no_part → IsHeld w (inside f o []) no_part)
+opened_held (Ok u) v w o next around bad out counted = λ f free h. open_held v w f o next around bad out counted h
+opened_held (Err e) v w o next around bad out counted = tt
+
+-- of a container without a count u is held before it is entered
+pub entered_held : {E : Type 0} (r : Result (Unit {0}) E) (v u w : Notator) (o : Opening) → ((i : ℕ) → late_in o i 0 ≡ []) → OnOk r (w.next ≡ first o) → OnOk r (w.around.items ≡ u.around.items ++ u.next ∷ []) → w.bad ≡ u.bad → w.out ≡ u.out → w.lates ≡ u.lates
+    → u.next ≡ v.next → u.around.items ≡ v.around.items → u.bad ≡ v.bad → (v.bad ≡ None → u.out.items ≡ (v.out.items ++ separator v.next) ++ beginning o) → (v.bad ≡ None → IsCounted v.next v.lates.items u.lates.items)
+    → OnOk r ((f : Partial) → IsFree f → IsHeld v f no_part → IsHeld w (inside f o []) no_part)
+entered_held (Ok x) v u w o none_in next around bad out same_lates next_is around_is bad_is out_is counted = λ f free h.
+    open_held v w f o next (around ∙ (λ i. around_is i ++ next_is i ∷ [])) (bad ∙ bad_is) (λ none. ap (λ y. y.items) out ∙ out_is none)
+    (λ none. (u.lates.items, counted none, ap (λ l. l.items) same_lates ∙ sym (ap (λ l. u.lates.items ++ l) (none_in (length w.out.items)) ∙ append-nil u.lates.items))) h
+entered_held (Err e) v u w o none_in next around bad out same_lates next_is around_is bad_is out_is counted = tt
+
 -- a container ends
 pub end_held : (v w : Notator) (f : Partial) (o : Opening) (ts : List Tree) (a : Next) → Ends o ts → v.around.items ≡ w.around.items ++ a ∷ [] → w.next ≡ after a → w.bad ≡ v.bad
-    → (v.bad ≡ None → w.out.items ≡ v.out.items ++ ending v.next) → IsHeld v (inside f o ts) no_part → IsHeld w (put f (built o ts)) no_part
-end_held v w f o ts a ends around next bad out h =
+    → (v.bad ≡ None → IsEnded v.next v.lates.items v.out.items w.lates.items w.out.items) → IsHeld v (inside f o ts) no_part → IsHeld w (put f (built o ts)) no_part
+end_held v w f o ts a ends around next bad end h =
     let last = last_same w.around.items (next_around f) (sym around ∙ h.around) in
+    let ended : (none : v.bad ≡ None) → (w.lates.items ≡ lates true f) × (w.out.items ≡ ((written f ++ separator (next_in f)) ++ (beginning o ++ (late_text o ts ++ following (first o) ts))) ++ ending (next_after (first o) ts)) =
+    λ none. sized_end f o ts v.lates.items w.lates.items v.out.items w.out.items ends (subst (λ s. IsEnded s v.lates.items v.out.items w.lates.items w.out.items) h.next (end none)) (h.lates none) (h.text none) in
     record {
       next = next ∙ ap after last.1 ∙ sym (next_put f (built o ts));
       around = last.0 ∙ sym (around_put f (built o ts));
@@ -237,8 +418,8 @@ end_held v w f o ts a ends around next bad out h =
           (λ p b. elim b [ inl x ↦ bad_before f (built o ts) p x | inr y ↦ bad_last f (built o ts) p ((bad_built o ts p ends).0 y) ])
           (λ p b. elim (bad_put f (built o ts) p b) [ inl x ↦ inl x | inr y ↦ inr ((bad_built o ts p ends).1 y) ])
           (subst (IsLowest (IsBadIn (inside f o ts))) (sym bad) h.bad);
-      counted = counted_put f (built o ts) h.counted.0;
-      text = λ none. out (sym bad ∙ none) ∙ (λ i. h.text (sym bad ∙ none) i ++ ending (h.next i)) ∙ written_end f o ts ends h.counted.1;
+      lates = λ none. (ended (sym bad ∙ none)).0 ∙ sym (lates_put f (built o ts));
+      text = λ none. (ended (sym bad ∙ none)).1 ∙ written_end f o ts ends;
     }
 
 hex_nothing : encode_lower [] ≡ []
@@ -257,13 +438,13 @@ hex_on old out new rest n h e =
     ∙ sym (append_assoc out (encode_lower (take n rest)) (encode_lower (drop n rest))) ∙ ap (λ l. l ++ encode_lower (drop n rest)) (sym e)
 
 -- a string begins
-pub string_open : (v w : Notator) (f : Partial) (p : ℕ) (k : StringKind) (l : Width) (n start : ℕ) (o1 : List ℕ) → w.next ≡ v.next → w.around ≡ v.around → w.bad ≡ v.bad → w.string ≡ Some (record { place = p; kind = k; width = l; len = n; start = start })
+pub string_open : (v w : Notator) (f : Partial) (p : ℕ) (k : StringKind) (l : Width) (n start : ℕ) (o1 : List ℕ) → w.next ≡ v.next → w.around ≡ v.around → IsCounted v.next v.lates.items w.lates.items → w.bad ≡ v.bad → w.string ≡ Some (record { place = p; kind = k; width = l; len = n; start = start })
     → o1 ≡ v.out.items ++ separator v.next → w.out.items ≡ o1 ++ quote k → start ≡ length w.out.items → IsHeld v f no_part → IsHeld w f (part p k l n [])
-string_open v w f p k l n start o1 next around bad string sep out at h =
+string_open v w f p k l n start o1 next around counted bad string sep out at h =
     record {
       next = next ∙ h.next;
       around = ap (λ a. a.items) around ∙ h.around;
-      counted = h.counted;
+      lates = λ none. counted_next f v.lates.items w.lates.items (subst (λ s. IsCounted s v.lates.items w.lates.items) h.next counted) (h.lates (sym bad ∙ none));
       bad = subst (IsLowest (IsBadIn f)) (sym bad) h.bad;
       text = (
         w.out.items,
@@ -278,14 +459,14 @@ string_open v w f p k l n start o1 next around bad string sep out at h =
     nothing OfText = refl
 
 -- more of it comes
-pub more_held : (v w : Notator) (f : Partial) (p : ℕ) (k : StringKind) (l : Width) (n : ℕ) (x y : List ℕ) (s : OpenString) → w.next ≡ v.next → w.around ≡ v.around → w.bad ≡ v.bad → w.string ≡ v.string → v.string ≡ Some s
+pub more_held : (v w : Notator) (f : Partial) (p : ℕ) (k : StringKind) (l : Width) (n : ℕ) (x y : List ℕ) (s : OpenString) → w.next ≡ v.next → w.around ≡ v.around → w.lates ≡ v.lates → w.bad ≡ v.bad → w.string ≡ v.string → v.string ≡ Some s
     → w.out.items ≡ v.out.items ++ content s.kind y → IsHeld v f (part p k l n x) → IsHeld w f (part p k l n (x ++ y))
-more_held v w f p k l n x y s next around bad string is out h =
+more_held v w f p k l n x y s next around same_lates bad string is out h =
     let same : s.kind ≡ k = kind_is (sym is ∙ h.text.1) in
     record {
       next = next ∙ h.next;
       around = ap (λ a. a.items) around ∙ h.around;
-      counted = h.counted;
+      lates = λ none. ap (λ l. l.items) same_lates ∙ h.lates (sym bad ∙ none);
       bad = subst (IsLowest (IsBadIn f)) (sym bad) h.bad;
       text = (h.text.0, string ∙ h.text.1, out ∙ (λ i. h.text.2 i ++ content (same i) y) ∙ append_assoc h.text.0 (content k x) (content k y) ∙ ap (λ z. h.text.0 ++ z) (sym (content_more k x y)), λ none. h.text.3 (sym bad ∙ none));
     }
@@ -307,7 +488,7 @@ shown_text : (k : StringKind) (p : ℕ) (l : Width) (x : List ℕ) → (quote k 
 shown_text OfBytes p l x = append_assoc (codes "h'") (encode_lower x) (codes "'" ++ indicator (mark_for l (length x)))
 shown_text OfText p l x = append_assoc (codes "\"") (content OfText x) (codes "\"" ++ indicator (mark_for l (length x)))
 
-lowest_more : (P Q : ℕ → Type 0) (o : Option ℕ) (p : ℕ) → IsLowest P o → ((q : ℕ) → Q q → q ≡ p) → Q p → IsLowest (λ q. P q ⊎ Q q) (Some (least o p))
+lowest_more : (P Q : ℕ → Type 0) (o : Option ℕ) (p : ℕ) → IsLowest P o → ((q : ℕ) → Q q → q ≡ p) → Q p → IsLowest (λ q. P q ⊎ Q q) (Some (lower o p))
 lowest_more P Q None p h only is = (inr is, λ q k. elim k [ inl a ↦ absurd (h q a) | inr b ↦ omega (arith, only q b) ])
 lowest_more P Q (Some m) p h only is = (which (low m p), λ q k. elim k [ inl a ↦ omega (arith, h.1 q a) | inr b ↦ omega (arith, only q b) ])
   where
@@ -318,28 +499,28 @@ lowest_more P Q (Some m) p h only is = (which (low m p), λ q k. elim k [ inl a 
     which (inl e) = inl (rw e h.0)
     which (inr e) = inr (rw e is)
 
-lowest_string : (f : Partial) (k : StringKind) (p : ℕ) (l : Width) (x : List ℕ) (o : Option ℕ) (b : Bool) → is_good k (content k x) ≡ b → IsLowest (IsBadIn f) o → IsLowest (IsBadIn (put f (string_tree p k l x))) (if b then o else Some (least o p))
+lowest_string : (f : Partial) (k : StringKind) (p : ℕ) (l : Width) (x : List ℕ) (o : Option ℕ) (b : Bool) → is_good k (content k x) ≡ b → IsLowest (IsBadIn f) o → IsLowest (IsBadIn (put f (string_tree p k l x))) (if b then o else Some (lower o p))
 lowest_string f k p l x o true good h =
     lowest_same (IsBadIn f) (IsBadIn (put f (string_tree p k l x))) o (bad_before f (string_tree p k l x))
     (λ q b. elim (bad_put f (string_tree p k l x) q b) [ inl a ↦ a | inr c ↦ absurd (let d : true ≡ false = sym good ∙ (bad_string k p q l x c).1 in cc) ]) h
 lowest_string f OfBytes p l x o false good h = absurd (let d : true ≡ false = good in cc)
 lowest_string f OfText p l x o false good h =
     let t = string_tree p OfText l x in
-    lowest_same (λ q. IsBadIn f q ⊎ IsBadText t q) (IsBadIn (put f t)) (Some (least o p)) (λ q b. elim b [ inl a ↦ bad_before f t q a | inr c ↦ bad_last f t q c ]) (bad_put f t)
+    lowest_same (λ q. IsBadIn f q ⊎ IsBadText t q) (IsBadIn (put f t)) (Some (lower o p)) (λ q b. elim b [ inl a ↦ bad_before f t q a | inr c ↦ bad_last f t q c ]) (bad_put f t)
     (lowest_more (IsBadIn f) (IsBadText t) o p h (λ q b. (bad_string OfText p q l x b).0) (refl, sym (same_utf8 x) ∙ good))
 
-pub string_held : (v w : Notator) (f : Partial) (p : ℕ) (k : StringKind) (l : Width) (n : ℕ) (x : List ℕ) (s : OpenString) → v.string ≡ Some s → length x ≡ n → w.next ≡ after v.next → w.around ≡ v.around
+pub string_held : (v w : Notator) (f : Partial) (p : ℕ) (k : StringKind) (l : Width) (n : ℕ) (x : List ℕ) (s : OpenString) → v.string ≡ Some s → length x ≡ n → w.next ≡ after v.next → w.around ≡ v.around → w.lates ≡ v.lates
     → w.bad ≡ lowest_with v.bad s (drop s.start v.out.items) → (w.bad ≡ None → w.out.items ≡ v.out.items ++ string_end s.kind s.width s.len)
     → IsHeld v f (part p k l n x) → IsHeld w (put f (string_tree p k l x)) no_part
-string_held v w f p k l n x s is len next around low out h =
+string_held v w f p k l n x s is len next around same_lates low out h =
     let t = string_tree p k l x in
     let same : s ≡ record { place = p; kind = k; width = l; len = n; start = length h.text.0 } = some_is (sym is ∙ h.text.1) in
     let from : drop s.start v.out.items ≡ content k x = ap (λ (u : OpenString). drop u.start v.out.items) same ∙ ap (drop (length h.text.0)) h.text.2 ∙ drop-append_seam h.text.0 (content k x) in
-    let lowest : w.bad ≡ (if is_good k (content k x) then v.bad else Some (least v.bad p)) = low ∙ (λ i. if is_good (same i).kind (from i) then v.bad else Some (least v.bad (same i).place)) in
+    let lowest : w.bad ≡ (if is_good k (content k x) then v.bad else Some (lower v.bad p)) = low ∙ (λ i. if is_good (same i).kind (from i) then v.bad else Some (lower v.bad (same i).place)) in
     record {
       next = next ∙ ap after h.next ∙ sym (next_put f t);
       around = ap (λ a. a.items) around ∙ h.around ∙ sym (around_put f t);
-      counted = counted_put f t h.counted;
+      lates = λ none. ap (λ l. l.items) same_lates ∙ h.lates (before (is_good k (content k x)) (sym lowest ∙ none)) ∙ sym (lates_put f t);
       bad = subst (IsLowest (IsBadIn (put f t))) (sym lowest) (lowest_string f k p l x v.bad (is_good k (content k x)) refl h.bad);
       text = λ none. out none ∙ (λ i. h.text.2 i ++ string_end (same i).kind (same i).width (same i).len)
           ∙ (λ i. (h.text.3 (before (is_good k (content k x)) (sym lowest ∙ none)) i ++ content k x) ++ string_end k l (sym len i))
@@ -349,9 +530,9 @@ string_held v w f p k l n x s is len next around low out h =
     some_is : {s t : OpenString} → Some s ≡ Some t → s ≡ t
     some_is e = cc
 
-    before : (b : Bool) → (if b then v.bad else Some (least v.bad p)) ≡ None → v.bad ≡ None
+    before : (b : Bool) → (if b then v.bad else Some (lower v.bad p)) ≡ None → v.bad ≡ None
     before true e = e
-    before false e = absurd (let d : Some (least v.bad p) ≡ None = e in cc)
+    before false e = absurd (let d : Some (lower v.bad p) ≡ None = e in cc)
 
 -- The whole text.
 

@@ -1,19 +1,21 @@
 //! The visitor [`Notator`], which writes the fixed notation.
 
-ghost use Rattle.std.specs.Prelude.{◌≡◌, ◌++◌, ◌∷◌, List, [], drop, None, OnOk, IfOk, IfErr};
+ghost use Rattle.std.specs.Prelude.{◌≡◌, ◌++◌, ◌∷◌, ℕ, List, [], length, drop, None, OnOk, IfOk, IfErr};
 ghost use Rattle.cborn_model.specs.Tree.{Tree, trees};
 ghost use Rattle.cborn_model.specs.Spelled.{FitsAll};
-ghost use Rattle.cborn_model.specs.Partial.{top, no_part};
+ghost use Rattle.cborn_model.specs.Partial.{top, an_array, a_map, no_part};
+ghost use Rattle.cborn_edn.specs.declared.notators.Late.{Late};
 ghost use Rattle.cborn_edn.specs.Says.{is_good};
 ghost use Rattle.cborn_edn.specs.Shown.{Shown, IsShowFault};
 ghost use Rattle.cborn_edn.specs.devices.Notating as pure;
-ghost use Rattle.cborn_edn.specs.devices.Notating.{IsHeld};
+ghost use Rattle.cborn_edn.specs.devices.Notating.{IsHeld, IsCounted, IsEnded};
 
 use crate::ShowFault;
 use crate::writing::{
-    push_bracket, push_content, push_integer, push_quote, push_simple, push_string_end, push_tag,
+    push_bracket, push_content, push_integer, push_quote, push_simple, push_size, push_string_end,
+    push_tag,
 };
-use cborn_model::{Size, StringKind, Visitor, Width};
+use cborn_model::{Size, StringKind, Visitor, Width, ended_size};
 use std::alloc::{AllocError, Global};
 
 /// What comes next in a container, or in the input.
@@ -41,6 +43,16 @@ pub(crate) enum Next {
     FirstChunk(StringKind),
     /// A further chunk.
     Chunk,
+    /// The first element of an array whose indicator is still to be written.
+    FirstLateElement,
+    /// A further element of such an array.
+    LateElement,
+    /// The first key of a map whose indicator is still to be written.
+    FirstLateKey,
+    /// A further key of such a map.
+    LateKey,
+    /// The value of a key of such a map.
+    LateValue,
 }
 
 impl Next {
@@ -56,6 +68,9 @@ impl Next {
             Next::Value => Next::Key,
             Next::Content | Next::TagEnd => Next::TagEnd,
             Next::FirstChunk(_) | Next::Chunk => Next::Chunk,
+            Next::FirstLateElement | Next::LateElement => Next::LateElement,
+            Next::FirstLateKey | Next::LateKey => Next::LateValue,
+            Next::LateValue => Next::LateKey,
         }
     }
 }
@@ -67,7 +82,8 @@ fn push_separator(next: Next, out: &mut Vec<u8>) -> Result<(), AllocError>
 {
     match next {
         Next::Element | Next::Key | Next::Chunk => out.extend_from_slice(b", "),
-        Next::Value => out.extend_from_slice(b": "),
+        Next::LateElement | Next::LateKey => out.extend_from_slice(b", "),
+        Next::Value | Next::LateValue => out.extend_from_slice(b": "),
         Next::Item => out.extend_from_slice(b",\n"),
         Next::FirstChunk(_) => out.extend_from_slice(b"(_ "),
         _ => Ok(()),
@@ -83,10 +99,11 @@ fn push_ending(next: Next, out: &mut Vec<u8>) -> Result<(), AllocError>
         Next::FirstItem => Ok(()),
         Next::Item => out.extend_from_slice(b"\n"),
         Next::FirstElement | Next::Element => out.extend_from_slice(b"]"),
-        Next::FirstKey | Next::Key | Next::Value => out.extend_from_slice(b"}"),
+        Next::FirstLateElement | Next::LateElement => out.extend_from_slice(b"]"),
         Next::Content | Next::TagEnd | Next::Chunk => out.extend_from_slice(b")"),
         Next::FirstChunk(StringKind::OfBytes) => out.extend_from_slice(b"''_"),
         Next::FirstChunk(StringKind::OfText) => out.extend_from_slice(b"\"\"_"),
+        _ => out.extend_from_slice(b"}"),
     }
 }
 
@@ -100,6 +117,15 @@ pub(crate) struct OpenString {
     start: usize,
 }
 
+/// An array or a map whose indicator is still to be written, since its count wasn't known from the
+/// start: where its bracket ends, the least width of its head, and how many items or pairs began.
+#[derive(Clone, Copy)]
+pub(crate) struct Late {
+    at: usize,
+    width: Width,
+    count: u64,
+}
+
 /// Writes the items that a source hands it in the fixed notation (RFC 8949 section 8). Once a text
 /// isn't UTF-8 it only looks for such texts at lower places.
 #[derive(Drop)]
@@ -108,6 +134,7 @@ pub struct Notator {
     next: Next,
     /// What came next in the containers around the innermost, when the one in them began.
     around: Vec<Next>,
+    lates: Vec<Late>,
     string: Option<OpenString>,
     /// The lowest place of a text that isn't UTF-8.
     bad: Option<u64>,
@@ -122,6 +149,7 @@ impl Notator {
             out: Vec::new(alloc),
             next: Next::FirstItem,
             around: Vec::new(alloc),
+            lates: Vec::new(alloc),
             string: None,
             bad: None,
         }
@@ -145,6 +173,98 @@ impl Notator {
         Ok(out)
     }
 
+    /// Writes what comes before the next part.
+    #[inline(always)]
+    fn begin(&mut self) -> Result<(), AllocError>
+        ensures next { self.new.next ≡ self.old.next }
+        ensures around { self.new.around ≡ self.old.around }
+        ensures string { self.new.string ≡ self.old.string }
+        ensures bad { self.new.bad ≡ self.old.bad }
+        ensures out { OnOk result (self.new.out.items ≡ self.old.out.items ++ pure.separator self.old.next) }
+        ensures lates { OnOk result (IsCounted self.old.next self.old.lates.items self.new.lates.items) }
+    {
+        match self.next {
+            Next::FirstLateElement | Next::LateElement | Next::FirstLateKey | Next::LateKey =>
+                self.begin_late(),
+            next => push_separator(next, &mut self.out),
+        }
+    }
+
+    /// Writes what comes before an element of an array or a key of a map, and counts it.
+    #[cold]
+    #[inline(never)]
+    fn begin_late(&mut self) -> Result<(), AllocError>
+        ensures next { self.new.next ≡ self.old.next }
+        ensures around { self.new.around ≡ self.old.around }
+        ensures string { self.new.string ≡ self.old.string }
+        ensures bad { self.new.bad ≡ self.old.bad }
+        ensures out { OnOk result (self.new.out.items ≡ self.old.out.items ++ pure.separator self.old.next) }
+        ensures lates { OnOk result ((front : List Late) (late : Late) → self.old.lates.items ≡ front ++ late ∷ [] → self.new.lates.items ≡ front ++ pure.more late ∷ []) }
+    {
+        if let Some(late) = self.lates.pop() {
+            let count = late.count.saturating_add(1);
+            self.lates.push(Late { count, ..late })?;
+        }
+        push_separator(self.next, &mut self.out)
+    }
+
+    /// Begins an array or a map, in which `first` comes next.
+    #[inline(always)]
+    fn open(
+        &mut self,
+        bracket: u8,
+        size: Size,
+        count: Option<u64>,
+        first: Next,
+    ) -> Result<(), AllocError>
+        ensures around { OnOk result (self.new.around.items ≡ self.old.around.items ++ self.old.next ∷ []) }
+        ensures next { OnOk result (self.new.next ≡ first) }
+        ensures bad { self.new.bad ≡ self.old.bad }
+        ensures out { OnOk result (self.old.bad ≡ None → self.new.out.items ≡ (self.old.out.items ++ pure.separator self.old.next) ++ (bracket ∷ pure.size_text size count)) }
+        ensures lates { OnOk result (self.old.bad ≡ None → (l : List Late) × IsCounted self.old.next self.old.lates.items l × (self.new.lates.items ≡ l ++ pure.late_at size count (length self.new.out.items) 0)) }
+    {
+        if self.bad.is_none() {
+            self.begin()?;
+            push_bracket(bracket, size, count, &mut self.out)?;
+            if let (Size::Fixed(width), None) = (size, count) {
+                let at = self.out.len();
+                let count = 0;
+                self.lates.push(Late { at, width, count })?;
+            }
+        }
+        self.enter(first)
+    }
+
+    /// Writes what ends the container that ends here.
+    #[inline(always)]
+    fn end(&mut self) -> Result<(), AllocError>
+        ensures next { self.new.next ≡ self.old.next }
+        ensures around { self.new.around ≡ self.old.around }
+        ensures bad { self.new.bad ≡ self.old.bad }
+        ensures ended { OnOk result (IsEnded self.old.next self.old.lates.items self.old.out.items self.new.lates.items self.new.out.items) }
+    {
+        match self.next {
+            Next::FirstLateElement | Next::LateElement | Next::FirstLateKey | Next::LateKey =>
+                self.end_late(),
+            next => push_ending(next, &mut self.out),
+        }
+    }
+
+    /// Writes what ends an array or a map, and its indicator.
+    #[cold]
+    #[inline(never)]
+    fn end_late(&mut self) -> Result<(), AllocError>
+        ensures next { self.new.next ≡ self.old.next }
+        ensures around { self.new.around ≡ self.old.around }
+        ensures bad { self.new.bad ≡ self.old.bad }
+        ensures ended { OnOk result ((front : List Late) (late : Late) (x y : List ℕ) → self.old.lates.items ≡ front ++ late ∷ [] → self.old.out.items ≡ x ++ y → late.at ≡ length x → (self.new.lates.items ≡ front) × (self.new.out.items ≡ (x ++ (pure.late_size late.width late.count ++ y)) ++ pure.ending self.old.next)) }
+    {
+        if let Some(late) = self.lates.pop() {
+            insert_size(late, &mut self.out)?;
+        }
+        push_ending(self.next, &mut self.out)
+    }
+
     /// Enters a container, in which `first` comes next.
     #[inline(always)]
     fn enter(&mut self, first: Next) -> Result<(), AllocError>
@@ -152,6 +272,7 @@ impl Notator {
         ensures next { OnOk result (self.new.next ≡ first) }
         ensures out { self.new.out ≡ self.old.out }
         ensures bad { self.new.bad ≡ self.old.bad }
+        ensures lates { self.new.lates ≡ self.old.lates }
     {
         self.around.push(self.next)?;
         self.next = first;
@@ -162,6 +283,7 @@ impl Notator {
     fn end_string(&mut self, string: OpenString) -> Result<(), AllocError>
         ensures next { self.new.next ≡ self.old.next }
         ensures around { self.new.around ≡ self.old.around }
+        ensures lates { self.new.lates ≡ self.old.lates }
         ensures bad { OnOk result (self.new.bad ≡ pure.lowest_with self.old.bad string (drop string.start self.old.out.items)) }
         ensures out { OnOk result (self.new.bad ≡ None → self.new.out.items ≡ self.old.out.items ++ pure.string_end string.kind string.width string.len) }
     {
@@ -181,8 +303,6 @@ impl Visitor for Notator {
 
     ghost takes_memory = { Unit {0} };
 
-    ghost takes_uncounted = { ⊥ };
-
     fn integer(
         &mut self,
         _place: u64,
@@ -191,7 +311,7 @@ impl Visitor for Notator {
         n: u64,
     ) -> Result<(), AllocError> {
         if self.bad.is_none() {
-            push_separator(self.next, &mut self.out)?;
+            self.begin()?;
             push_integer(negative, width, n, &mut self.out)?;
         }
         self.next = self.next.after();
@@ -200,7 +320,7 @@ impl Visitor for Notator {
 
     fn simple(&mut self, _place: u64, n: u8) -> Result<(), AllocError> {
         if self.bad.is_none() {
-            push_separator(self.next, &mut self.out)?;
+            self.begin()?;
             push_simple(n, &mut self.out)?;
         }
         self.next = self.next.after();
@@ -213,24 +333,16 @@ impl Visitor for Notator {
         size: Size,
         count: Option<u64>,
     ) -> Result<(), AllocError> {
-        if self.bad.is_none() {
-            push_separator(self.next, &mut self.out)?;
-            push_bracket(b'[', size, count, &mut self.out)?;
-        }
-        self.enter(Next::FirstElement)
+        self.open(b'[', size, count, first_element(size, count))
     }
 
     fn open_map(&mut self, _place: u64, size: Size, count: Option<u64>) -> Result<(), AllocError> {
-        if self.bad.is_none() {
-            push_separator(self.next, &mut self.out)?;
-            push_bracket(b'{', size, count, &mut self.out)?;
-        }
-        self.enter(Next::FirstKey)
+        self.open(b'{', size, count, first_key(size, count))
     }
 
     fn open_tag(&mut self, _place: u64, width: Width, n: u64) -> Result<(), AllocError> {
         if self.bad.is_none() {
-            push_separator(self.next, &mut self.out)?;
+            self.begin()?;
             push_tag(width, n, &mut self.out)?;
         }
         self.enter(Next::Content)
@@ -238,14 +350,14 @@ impl Visitor for Notator {
 
     fn open_chunks(&mut self, _place: u64, kind: StringKind) -> Result<(), AllocError> {
         if self.bad.is_none() {
-            push_separator(self.next, &mut self.out)?;
+            self.begin()?;
         }
         self.enter(Next::FirstChunk(kind))
     }
 
     fn close(&mut self) -> Result<(), AllocError> {
         if self.bad.is_none() {
-            push_ending(self.next, &mut self.out)?;
+            self.end()?;
         }
         if let Some(around) = self.around.pop() {
             self.next = around.after();
@@ -260,7 +372,7 @@ impl Visitor for Notator {
         width: Width,
         len: u64,
     ) -> Result<(), AllocError> {
-        push_separator(self.next, &mut self.out)?;
+        self.begin()?;
         push_quote(kind, &mut self.out)?;
         let start = self.out.len();
         self.string = Some(OpenString {
@@ -287,6 +399,42 @@ impl Visitor for Notator {
         self.next = self.next.after();
         Ok(())
     }
+}
+
+/// What comes first in an array.
+#[inline(always)]
+fn first_element(size: Size, count: Option<u64>) -> Next
+    ensures { (place : ℕ) → result ≡ pure.first (an_array place size count) }
+{
+    match (size, count) {
+        (Size::Fixed(_), None) => Next::FirstLateElement,
+        _ => Next::FirstElement,
+    }
+}
+
+/// What comes first in a map.
+#[inline(always)]
+fn first_key(size: Size, count: Option<u64>) -> Next
+    ensures { (place : ℕ) → result ≡ pure.first (a_map place size count) }
+{
+    match (size, count) {
+        (Size::Fixed(_), None) => Next::FirstLateKey,
+        _ => Next::FirstKey,
+    }
+}
+
+/// Inserts the indicator of an array or a map that ends. What follows its bracket is moved.
+fn insert_size(late: Late, out: &mut Vec<u8>) -> Result<(), AllocError>
+    ensures { OnOk result ((x y : List ℕ) → out.old.items ≡ x ++ y → late.at ≡ length x → out.new.items ≡ x ++ (pure.late_size late.width late.count ++ y)) }
+{
+    let end = out.len();
+    if late.at > end {
+        return Ok(());
+    }
+    let size = ended_size(Size::Fixed(late.width), None, late.count);
+    push_size(size, Some(late.count), out)?;
+    out[late.at..].rotate_left(end - late.at);
+    Ok(())
 }
 
 /// What was written from the index `start` on.

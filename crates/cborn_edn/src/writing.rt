@@ -91,16 +91,24 @@ pub(crate) fn push_bracket(
     ensures { OnOk result (out.new.items ≡ out.old.items ++ (bracket ∷ size_text size count)) }
 {
     out.extend_from_slice(&[bracket])?;
-    let count = count.unwrap_or(0);
-    match size {
-        Size::Endless => out.extend_from_slice(b"_ "),
-        Size::Fixed(width) => {
+    push_size(size, count, out)
+}
+
+/// Appends the indicator of an array or a map of `count` items or pairs, and a space after it, if it
+/// has one. If it has a width and no count, its indicator isn't known yet.
+pub(crate) fn push_size(size: Size, count: Option<u64>, out: &mut Vec<u8>) -> Result<(), AllocError>
+    ensures { OnOk result (out.new.items ≡ out.old.items ++ size_text size count) }
+{
+    match (size, count) {
+        (Size::Endless, _) => out.extend_from_slice(b"_ "),
+        (Size::Fixed(width), Some(count)) => {
             if width == shortest(count) {
                 return Ok(());
             }
             push_indicator(width, count, out)?;
             out.extend_from_slice(b" ")
         }
+        (Size::Fixed(_), None) => Ok(()),
     }
 }
 

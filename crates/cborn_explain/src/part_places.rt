@@ -67,8 +67,6 @@ impl Visitor for PartPlaces {
 
     ghost takes_memory = { Unit {0} };
 
-    ghost takes_uncounted = { Unit {0} };
-
     fn integer(
         &mut self,
         place: u64,

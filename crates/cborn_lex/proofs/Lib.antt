@@ -9,5 +9,4 @@ pub mod BadBack
 pub mod GoodTexts
 pub mod Runs
 pub mod TwoParts
-pub mod Nibbles
 pub mod Decimals

@@ -1,11 +1,12 @@
 //! Byte strings with the prefix `h` or `b64` (RFC 8949 section 8, RFC 4648).
 
-ghost use Rattle.std.specs.Prelude.{◌≡◌, ℕ, ◌≤◌, List, true, length, take, drop, map, filter, replicate, OnOk, MatchOption, IfOk, false, ◌==◌, not, ◌++◌};
+ghost use Rattle.std.specs.Prelude.{◌≡◌, ℕ, ◌≤◌, List, true, length, take, drop, map, filter, replicate, OnOk, MatchOption, IfOk, false, Some, None, ◌==◌, not, ◌++◌};
 ghost use Rattle.std.specs.List.{list_any};
 ghost use Rattle.cborn_lex.specs.declared.classes.Class.TheVariants.{Bytes};
 ghost use Rattle.cborn_lex.specs.Tokens.{Front as AnyFront, is_white, marked};
 ghost use Rattle.cborn_lex.specs.Strings.{IsHex, base64_text, to_standard, IsBase64};
-ghost use Rattle.cborn_lex.specs.Forms.{IsPrefixed, hexadecimal, base64};
+ghost use Rattle.cborn_lex.specs.Forms.{IsUnquoted};
+ghost use Rattle.cborn_lex.specs.devices.Scan.{strip, IsEncoded, refusal};
 ghost use Rattle.cborn_lex.specs.devices.View.{front_view, FrontStandsFor};
 
 use crate::escaped::bytes_front;
@@ -15,54 +16,50 @@ use crate::integers::digit_of;
 use crate::slices::{find, front_of, is_white, mark_at, rest_of};
 use base64::DecodeAllocError;
 use base64::engine::general_purpose::STANDARD;
+use hex::FromHexError;
 use std::alloc::{AllocError, Global};
 
-/// Appends the bytes that a content in hexadecimal encodes: digits, with white space and comments
-/// between them. Gives false if the content is anything else. A part of the bytes may then be
-/// appended.
-fn push_hex(content: &[u8], out: &mut Vec<u8>) -> Result<bool, AllocError>
-    ensures yes { IfOk result (λ b. b ≡ true → (bytes : List ℕ) × IsHex content.now bytes × (out.new.items ≡ out.old.items ++ bytes)) }
-    ensures no { IfOk result (λ b. b ≡ false → (bytes : List ℕ) → IsHex content.now bytes → ⊥) }
+/// How the content of a string with a prefix encodes its bytes.
+#[derive(Clone, Copy)]
+pub enum Encoding {
+    /// In hexadecimal.
+    Hex,
+    /// In base64.
+    Base64,
+}
+
+/// The digits of a content in hexadecimal, which may have white space and comments between them.
+/// `None` if it has anything else.
+fn hex_digits(alloc: Global, content: &[u8]) -> Result<Option<Vec<u8>>, AllocError>
+    ensures { IfOk result (λ r. MatchOption r (strip false content.now ≡ None) (λ v. strip false content.now ≡ Some v.items)) }
 {
+    let mut digits = Vec::with_capacity(alloc, content.len())?;
     let mut inside = false;
-    // the first digit of a byte; 16 if none is waiting for its second
-    let mut high: u8 = 16;
     for c in content {
-        let digit = digit_of(*c);
         if inside {
-            if *c == b'/' {
-                inside = false;
-            }
-        } else if digit < 16 {
-            if high < 16 {
-                out.push(high * 16 + digit)?;
-                high = 16;
-            } else {
-                high = digit;
-            }
+            inside = *c != b'/';
+        } else if digit_of(*c) < 16 {
+            digits.push(*c)?;
         } else if *c == b'/' {
             inside = true;
         } else if !is_white(*c) {
-            return Ok(false);
+            return Ok(None);
         }
     }
-    Ok(!inside && high == 16)
+    Ok(if inside { None } else { Some(digits) })
 }
 
-/// Reads a string after its `h'`, and appends its bytes to `out`. Gives its kind, or what is wrong
-/// with it, and how many bytes of `tail` it takes.
-pub fn in_hex(tail: &[u8], out: &mut Vec<u8>) -> Result<(Front, usize), AllocError>
-    ensures { IfOk result (λ r. (r.1 ≤ length tail.now) × ((a : AnyFront) × IsPrefixed hexadecimal (take r.1 tail.now) (drop r.1 tail.now) a × ((n : ℕ) → FrontStandsFor r.0 n out.old.items out.new.items a))) }
+/// The bytes that a content in hexadecimal encodes; `None` if it encodes none.
+fn hex_bytes(alloc: Global, content: &[u8]) -> Result<Option<Vec<u8>>, AllocError>
+    ensures { IfOk result (λ r. MatchOption r ((bytes : List ℕ) → IsHex content.now bytes → ⊥) (λ v. IsHex content.now v.items)) }
 {
-    let Some(i) = find(b'\'', tail) else {
-        return Ok((Front::Bad(LexReason::UnclosedString), tail.len()));
+    let Some(digits) = hex_digits(alloc, content)? else {
+        return Ok(None);
     };
-    let content = front_of(tail, i);
-    let (mark, m) = mark_at(rest_of(tail, i + 1));
-    if push_hex(content, out)? {
-        Ok((bytes_front(false, mark), i + 1 + m))
-    } else {
-        Ok((Front::Bad(LexReason::BadHex), i + 1 + m))
+    match hex::decode(alloc, digits.as_slice()) {
+        Ok(bytes) => Ok(Some(bytes)),
+        Err(FromHexError::OutOfMemory) => Err(AllocError),
+        Err(_) => Ok(None),
     }
 }
 
@@ -133,25 +130,46 @@ fn base64_bytes(alloc: Global, content: &[u8]) -> Result<Option<Vec<u8>>, AllocE
     }
 }
 
-/// Reads a string after its `b64'`, and appends its bytes to `out`. Gives its kind, or what is
-/// wrong with it, and how many bytes of `tail` it takes.
-pub fn in_base64(
+/// The bytes that a content encodes; `None` if it encodes none.
+fn decoded(alloc: Global, encoding: Encoding, content: &[u8]) -> Result<Option<Vec<u8>>, AllocError>
+    ensures { IfOk result (λ r. MatchOption r ((bytes : List ℕ) → IsEncoded encoding content.now bytes → ⊥) (λ v. IsEncoded encoding content.now v.items)) }
+{
+    match encoding {
+        Encoding::Hex => hex_bytes(alloc, content),
+        Encoding::Base64 => base64_bytes(alloc, content),
+    }
+}
+
+/// Why a content is bad that encodes no bytes.
+fn refusal(encoding: Encoding) -> LexReason
+    ensures { result ≡ refusal encoding }
+{
+    match encoding {
+        Encoding::Hex => LexReason::BadHex,
+        Encoding::Base64 => LexReason::BadBase64,
+    }
+}
+
+/// Reads a string after its prefix and its opening quote, and appends its bytes to `out`. Gives its
+/// kind, or what is wrong with it, and how many bytes of `tail` it takes.
+pub fn in_encoding(
     alloc: Global,
+    encoding: Encoding,
     tail: &[u8],
     out: &mut Vec<u8>,
 ) -> Result<(Front, usize), AllocError>
-    ensures { IfOk result (λ r. (r.1 ≤ length tail.now) × ((a : AnyFront) × IsPrefixed base64 (take r.1 tail.now) (drop r.1 tail.now) a × ((n : ℕ) → FrontStandsFor r.0 n out.old.items out.new.items a))) }
+    ensures { IfOk result (λ r. (r.1 ≤ length tail.now) × ((a : AnyFront) × IsUnquoted (IsEncoded encoding) (refusal encoding) (take r.1 tail.now) (drop r.1 tail.now) a × ((n : ℕ) → FrontStandsFor r.0 n out.old.items out.new.items a))) }
 {
     let Some(i) = find(b'\'', tail) else {
         return Ok((Front::Bad(LexReason::UnclosedString), tail.len()));
     };
     let content = front_of(tail, i);
     let (mark, m) = mark_at(rest_of(tail, i + 1));
-    match base64_bytes(alloc, content)? {
+    match decoded(alloc, encoding, content)? {
         Some(bytes) => {
             out.extend_from_slice(bytes.as_slice())?;
             Ok((bytes_front(false, mark), i + 1 + m))
         }
-        None => Ok((Front::Bad(LexReason::BadBase64), i + 1 + m)),
+        None => Ok((Front::Bad(refusal(encoding)), i + 1 + m)),
     }
 }

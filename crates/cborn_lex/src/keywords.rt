@@ -7,7 +7,7 @@ ghost use Rattle.cborn_lex.specs.Forms.{IsPrefixed, prefix_of, IsAfterWord, Read
 ghost use Rattle.cborn_lex.specs.devices.View.{front_view, FrontStandsFor};
 
 use crate::classes::Kind;
-use crate::encoded::{in_base64, in_hex};
+use crate::encoded::{Encoding, in_encoding};
 use crate::faults::LexReason;
 use crate::fronts::Front;
 use crate::slices::{begins_with, front_of, has_prefix, rest_of, word_len};
@@ -43,9 +43,9 @@ fn prefixed(
     ensures { IfOk result (λ r. (r.1 ≤ length tail.now) × ((a : AnyFront) × IsPrefixed (prefix_of word.now) (take r.1 tail.now) (drop r.1 tail.now) a × ((n : ℕ) → FrontStandsFor r.0 n out.old.items out.new.items a))) }
 {
     if word == b"h".as_slice() {
-        in_hex(tail, out)
+        in_encoding(alloc, Encoding::Hex, tail, out)
     } else if word == b"b64".as_slice() {
-        in_base64(alloc, tail, out)
+        in_encoding(alloc, Encoding::Base64, tail, out)
     } else {
         Ok((Front::Bad(LexReason::UnknownPrefix), 0))
     }

@@ -148,8 +148,3 @@ CountFits (Fixed w) (Some n) = WidthFits w n
 CountFits (Fixed w) None = Unit {0}
 CountFits Endless (Some n) = ⊥
 CountFits Endless None = Unit {0}
-
--- the number is known, unless the length is indefinite
-abbrev pub IsCounted : Size → Option ℕ → Type 0
-IsCounted (Fixed w) None = ⊥
-IsCounted s c = Unit {0}

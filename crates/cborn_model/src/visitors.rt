@@ -1,11 +1,11 @@
 //! The [`Visitor`], which is handed data items head by head, whatever they are read from.
 
-ghost use Rattle.std.specs.Prelude.{◌≡◌, ◌++◌, ℕ, List, [], length, OnOk, OnErr, IsTrue, ◌⊎◌};
+ghost use Rattle.std.specs.Prelude.{◌≡◌, ◌++◌, ℕ, List, [], length, OnOk, OnErr, IsTrue};
 ghost use Rattle.cborn_model.specs.declared.heads.Width.{Width as Wide};
 ghost use Rattle.cborn_model.specs.declared.visitors.StringKind.{StringKind as Kind};
 ghost use Rattle.cborn_model.specs.Heads.{WidthFits, is_simple_value};
 ghost use Rattle.cborn_model.specs.Tree.{Tree, Simple};
-ghost use Rattle.cborn_model.specs.Partial.{Opening, an_array, a_map, a_tag, in_chunks, Partial, inside, Part, no_part, part, put, built, integer_tree, string_tree, Proper, TakesString, IsFree, Ends, CountFits, IsCounted};
+ghost use Rattle.cborn_model.specs.Partial.{Opening, an_array, a_map, a_tag, in_chunks, Partial, inside, Part, no_part, part, put, built, integer_tree, string_tree, Proper, TakesString, IsFree, Ends, CountFits};
 
 use crate::heads::{Size, Width};
 use std::alloc::AllocError;
@@ -32,9 +32,6 @@ pub trait Visitor {
     /// Whether memory may be refused to it.
     ghost takes_memory: { Type 0 };
 
-    /// Whether it takes arrays and maps of a fixed size whose count isn't known where they begin.
-    ghost takes_uncounted: { Type 0 };
-
     /// Takes the integer `n`, or -1 - `n` if it is `negative`.
     fn integer(
         &mut self,
@@ -56,8 +53,7 @@ pub trait Visitor {
     /// Begins an array, whose items follow. `count` is their number if it is known before they
     /// come. A size of a fixed width without it asks for a head of at least this width.
     fn open_array(&mut self, place: u64, size: Size, count: Option<u64>) -> Result<(), AllocError>
-        requires fits { CountFits size count }
-        requires counted { IsCounted size count ⊎ takes_uncounted }
+        requires { CountFits size count }
         ensures held { OnOk result ((f : Partial) → IsFree f → holds self.old f no_part → holds self.new (inside f (an_array place size count) []) no_part) }
         ensures memory { OnErr result takes_memory };
 
@@ -65,8 +61,7 @@ pub trait Visitor {
     /// known before they come. A size of a fixed width without it asks for a head of at least this
     /// width.
     fn open_map(&mut self, place: u64, size: Size, count: Option<u64>) -> Result<(), AllocError>
-        requires fits { CountFits size count }
-        requires counted { IsCounted size count ⊎ takes_uncounted }
+        requires { CountFits size count }
         ensures held { OnOk result ((f : Partial) → IsFree f → holds self.old f no_part → holds self.new (inside f (a_map place size count) []) no_part) }
         ensures memory { OnErr result takes_memory };
 

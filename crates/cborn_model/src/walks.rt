@@ -4,7 +4,7 @@ ghost use Rattle.std.specs.Prelude.{◌≡◌, length, OnOk, OnErr};
 ghost use Rattle.cborn_model.specs.Heads.{WidthFits, SizeFits};
 ghost use Rattle.cborn_model.specs.Tree.{Items, Pairs, trees, entries};
 ghost use Rattle.cborn_model.specs.Spelled.{Fits, FitsAll, FitsEntries, ChunksFit};
-ghost use Rattle.cborn_model.specs.Partial.{Partial, no_part, put, string_tree, IsFree, chunks_tree, TakesString, Proper, CountFits, IsCounted};
+ghost use Rattle.cborn_model.specs.Partial.{Partial, no_part, put, string_tree, IsFree, chunks_tree, TakesString, Proper, CountFits};
 ghost use Rattle.cborn_model.specs.shared.Walks.{count_of};
 
 use crate::nodes::{Chunk, Form, Node};
@@ -93,7 +93,6 @@ fn count_of(size: Size, len: usize) -> Option<u64>
     requires { SizeFits size len }
     ensures is { result ≡ count_of size len }
     ensures fits { CountFits size result }
-    ensures counted { IsCounted size result }
 {
     match size {
         Size::Fixed(_) => Some(len as u64),

@@ -1,9 +1,9 @@
 //! A text is read to its nodes, and nodes are shown, in each form. By their contracts these calls
 //! could always answer out of memory. Which answer is right is a clause.
 
-use cborn_edn::{EdnFault, EdnReason, Notated, read_notation, show, show_bytes};
+use cborn_edn::{EdnFault, EdnReason, Notated, Notator, read_notation, show, show_bytes};
 use cborn_lex::Profile;
-use cborn_model::Limit;
+use cborn_model::{Limit, Size, Visitor, Width};
 use cborn_wire::{WireReason, read_all, spell_all};
 use std::alloc::{AllocError, Global};
 use std::test::Fail;
@@ -166,6 +166,24 @@ fn shows_bytes_as_their_nodes(rt: HostRuntime) -> Result<(), Fail> {
         Notated::Text(text) => assert_eq!(rt; text.as_slice(), SHOWN.as_bytes()),
         _ => assert!(rt; false),
     }
+    Ok(())
+}
+
+/// Catches an indicator that isn't inserted, or elsewhere, where a count wasn't known from the start.
+#[test]
+fn inserts_indicators(rt: HostRuntime) -> Result<(), Fail> {
+    let mut notator = Notator::new(rt.alloc());
+    notator.open_array(0, Size::Fixed(Width::One), None)?;
+    notator.integer(2, false, Width::Direct, 1)?;
+    notator.open_map(3, Size::Fixed(Width::Two), None)?;
+    notator.integer(6, false, Width::Direct, 2)?;
+    notator.open_array(7, Size::Fixed(Width::Direct), None)?;
+    notator.integer(8, false, Width::Direct, 3)?;
+    notator.close()?;
+    notator.close()?;
+    notator.close()?;
+    let text = notator.finish()?;
+    assert_eq!(rt; text.as_slice(), b"[_0 1, {_1 2: [3]}]\n".as_slice());
     Ok(())
 }
 

@@ -21,8 +21,6 @@ impl Visitor for Nothing {
 
     ghost takes_memory = { ⊥ };
 
-    ghost takes_uncounted = { Unit {0} };
-
     fn integer(
         &mut self,
         _place: u64,

@@ -43,17 +43,17 @@ pub modest_both : (x y : List Token) → AreModest x → AreModest y → AreMode
 modest_both [] y h k = k
 modest_both (t ∷ x) y h k = (h.0, modest_both x y h.1 k)
 
+pub least_is_eight : (n : ℕ) → 2 ^ 32 ≤ n → least n ≡ Eight
+least_is_eight n h =
+    let a : ltb n 24 ≡ false = le-ltb n 24 (omega arith) in
+    let b : ltb n 256 ≡ false = le-ltb n 256 (omega arith) in
+    let c : ltb n (2 ^ 16) ≡ false = le-ltb n (2 ^ 16) (omega arith) in
+    let d : ltb n (2 ^ 32) ≡ false = le-ltb n (2 ^ 32) (omega arith) in
+    rw (a, b, c, d) refl
+
 pub least_bytes : (k : Major) (n : ℕ) → AreBytes (head k (Given (least n) n))
 least_bytes k n = go (ltb n (2 ^ 64)) refl
   where
-    wide : 2 ^ 64 ≤ n → least n ≡ Eight
-    wide h =
-        let a : ltb n 24 ≡ false = le-ltb n 24 (omega arith) in
-        let b : ltb n 256 ≡ false = le-ltb n 256 (omega arith) in
-        let c : ltb n (2 ^ 16) ≡ false = le-ltb n (2 ^ 16) (omega arith) in
-        let d : ltb n (2 ^ 32) ≡ false = le-ltb n (2 ^ 32) (omega arith) in
-        rw (a, b, c, d) refl
-
     eight : (k : Major) → AreBytes (head k (Given Eight n))
     eight k = (first k, (omega arith, (omega arith, (omega arith, (omega arith, (omega arith, (omega arith, (omega arith, (omega arith, tt)))))))))
       where
@@ -69,7 +69,7 @@ least_bytes k n = go (ltb n (2 ^ 64)) refl
 
     go : (b : Bool) → ltb n (2 ^ 64) ≡ b → AreBytes (head k (Given (least n) n))
     go true e = head_bytes k (Given (least n) n) (least_holds n (ltb-true _ _ e))
-    go false e = subst (λ w. AreBytes (head k (Given w n))) (sym (wide (ltb-false _ _ e))) (eight k)
+    go false e = subst (λ w. AreBytes (head k (Given w n))) (sym (least_is_eight n (let many = ltb-false n (2 ^ 64) e in omega (arith, many)))) (eight k)
 
 pub width_bytes : (k : Major) (p : ℕ) (m : Mark) (n : ℕ) → width_errors p m n ≡ [] → AreBytes (head k (Given (width m n) n))
 width_bytes k p Absent n e = least_bytes k n

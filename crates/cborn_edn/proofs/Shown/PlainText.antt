@@ -1,5 +1,5 @@
 -- The plain text of nodes doesn't depend on their places.
-use Rattle.std.proofs.Common.{◌≡◌, refl, sym, ap, ◌∙◌, ℕ, List, ◌∷◌, ◌++◌, codes, decimal}
+use Rattle.std.proofs.Common.{◌≡◌, refl, sym, ap, ◌∙◌, ◌∷◌, ◌++◌, codes, decimal}
 use Rattle.cborn_model.specs.Tree.{Tree, Items, Pairs, Tagged, Trees, no_item, more, Entries, no_entry, entry}
 use Rattle.cborn_edn.specs.Shown.{joined_by}
 use Rattle.cborn_edn.specs.Plain.{plain, plain_items, plain_pairs, plain_lines}

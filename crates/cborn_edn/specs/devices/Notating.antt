@@ -1,5 +1,5 @@
 -- A device of the proofs: the text of a partial sequence, as the visitor that writes notation has it. No definition cites it.
-use Rattle.std.specs.Prelude.{◌≡◌, ℕ, ◌≤◌, List, [], ◌∷◌, ◌++◌, length, Option, Some, None, codes, decimal, min, if◌then◌else◌, ◌⊎◌}
+use Rattle.std.specs.Prelude.{◌≡◌, ℕ, ◌+◌, ◌-◌, ◌^◌, ◌≤◌, List, [], ◌∷◌, ◌++◌, length, Option, Some, None, codes, decimal, min, if◌then◌else◌, Bool, true, false, ◌⊎◌}
 use Rattle.std.specs.List.{flat_map}
 use Rattle.hex.specs.Hex.{encode_lower}
 use Rattle.cborn_model.specs.declared.heads.Size.{Size}
@@ -8,13 +8,14 @@ use Rattle.cborn_model.specs.declared.heads.Width.{Width}
 use Rattle.cborn_model.specs.declared.visitors.StringKind.{StringKind}
 use Rattle.cborn_model.specs.declared.visitors.StringKind.TheVariants.{OfBytes, OfText}
 use Rattle.cborn_model.specs.Tree.{Tree, trees}
-use Rattle.cborn_model.specs.Partial.{Partial, top, inside, Opening, an_array, a_map, a_tag, in_chunks, Part, no_part, part, IsCounted}
+use Rattle.cborn_model.specs.Partial.{Partial, top, inside, Opening, an_array, a_map, a_tag, in_chunks, Part, no_part, part, ended_size}
 use Rattle.cborn_edn.specs.declared.notators.Next.{Next}
-use Rattle.cborn_edn.specs.declared.notators.Next.TheVariants.{FirstItem, Item, FirstElement, Element, FirstKey, Key, Value, Content, TagEnd, FirstChunk, Chunk}
+use Rattle.cborn_edn.specs.declared.notators.Next.TheVariants.{FirstItem, Item, FirstElement, Element, FirstKey, Key, Value, Content, TagEnd, FirstChunk, Chunk, FirstLateElement, LateElement, FirstLateKey, LateKey, LateValue}
 use Rattle.cborn_edn.specs.declared.notators.OpenString.{OpenString}
+use Rattle.cborn_edn.specs.declared.notators.Late.{Late}
 use Rattle.cborn_edn.specs.declared.notators.Notator.{Notator}
 use Rattle.cborn_edn.specs.Says.{is_good}
-use Rattle.cborn_edn.specs.Shown.{shown, escaped, indicator, mark_for, mark_for_size, opened, IsBadText, IsBadAmong}
+use Rattle.cborn_edn.specs.Shown.{shown, escaped, indicator, mark_for, opened, IsBadAmong}
 
 -- what comes next in a container after one more part
 abbrev pub after : Next → Next
@@ -29,6 +30,11 @@ after Content = TagEnd
 after TagEnd = TagEnd
 after (FirstChunk k) = Chunk
 after Chunk = Chunk
+after FirstLateElement = LateElement
+after LateElement = LateElement
+after FirstLateKey = LateValue
+after LateKey = LateValue
+after LateValue = LateKey
 
 -- what is written before the part that comes next
 abbrev pub separator : Next → List ℕ
@@ -38,6 +44,9 @@ separator Key = codes ", "
 separator Value = codes ": "
 separator (FirstChunk k) = codes "(_ "
 separator Chunk = codes ", "
+separator LateElement = codes ", "
+separator LateKey = codes ", "
+separator LateValue = codes ": "
 separator _ = []
 
 -- what is written where the container ends
@@ -51,6 +60,8 @@ ending (FirstChunk OfText) = codes "\"\"_"
 ending Content = codes ")"
 ending TagEnd = codes ")"
 ending Chunk = codes ")"
+ending FirstLateElement = codes "]"
+ending LateElement = codes "]"
 ending _ = codes "}"
 
 -- what is written of nodes in a container, the first of them after this
@@ -63,15 +74,27 @@ next_after s [] = s
 next_after s (t ∷ ts) = next_after (after s) ts
 
 abbrev pub first : Opening → Next
+first (an_array p (Fixed w) None) = FirstLateElement
 first (an_array p s c) = FirstElement
+first (a_map p (Fixed w) None) = FirstLateKey
 first (a_map p s c) = FirstKey
 first (a_tag p w n) = Content
 first (in_chunks p k) = FirstChunk k
 
--- the indicator of an array or a map. Where the count isn't known it means nothing.
+-- The indicator of an array or a map. It has none yet if it has a width and its count isn't known.
 abbrev pub size_text : Size → Option ℕ → List ℕ
-size_text s (Some n) = opened (mark_for_size s n)
-size_text s None = opened (mark_for_size s 0)
+size_text Endless c = codes "_ "
+size_text (Fixed w) (Some n) = opened (mark_for w n)
+size_text (Fixed w) None = []
+
+-- its indicator then, where it ends with n items or pairs
+abbrev pub late_size : Width → ℕ → List ℕ
+late_size w n = size_text (ended_size (Fixed w) None n) (Some n)
+
+-- what is kept of it until then, where its bracket ends at i and n items or pairs began
+abbrev pub late_at : Size → Option ℕ → ℕ → ℕ → List Late
+late_at (Fixed w) None i n = record { at = i; width = w; count = n } ∷ []
+late_at s c i n = []
 
 -- what is written where a container begins
 abbrev pub beginning : Opening → List ℕ
@@ -92,15 +115,55 @@ abbrev pub written : Partial → List ℕ
 written (top ts) = following FirstItem ts
 written (inside f o ts) = (written f ++ separator (next_in f)) ++ (beginning o ++ following (first o) ts)
 
-abbrev pub HasCount : Opening → Type 0
-HasCount (an_array p s c) = IsCounted s c
-HasCount (a_map p s c) = IsCounted s c
-HasCount _ = Unit {0}
+-- this is a part that is counted
+abbrev pub is_counted : Next → Bool
+is_counted FirstLateElement = true
+is_counted LateElement = true
+is_counted FirstLateKey = true
+is_counted LateKey = true
+is_counted _ = false
 
--- the count of each open array and map is known, unless its length is indefinite
-abbrev pub AreCounted : Partial → Type 0
-AreCounted (top ts) = Unit {0}
-AreCounted (inside f o ts) = AreCounted f × HasCount o
+-- a count after one more, up to the greatest number of 64 bits
+abbrev pub one_more : ℕ → ℕ
+one_more n = min (n + 1) (2 ^ 64 - 1)
+
+abbrev pub more : Late → Late
+more l = record { at = l.at; width = l.width; count = one_more l.count }
+
+-- where this part begins it is counted at the last of these
+abbrev pub IsCounted : Next → List Late → List Late → Type 0
+IsCounted s old new =
+    (is_counted s ≡ false → new ≡ old)
+    × (is_counted s ≡ true → (front : List Late) (late : Late) → old ≡ front ++ late ∷ [] → new ≡ front ++ more late ∷ [])
+
+-- the container ends where this comes next: what is written, and an indicator inserted, if the last of these lacks it
+abbrev pub IsEnded : Next → List Late → List ℕ → List Late → List ℕ → Type 0
+IsEnded s old out new text =
+    (is_counted s ≡ false → (new ≡ old) × (text ≡ out ++ ending s))
+    × (is_counted s ≡ true → (front : List Late) (late : Late) (x y : List ℕ) → old ≡ front ++ late ∷ [] → out ≡ x ++ y → late.at ≡ length x → (new ≡ front) × (text ≡ (x ++ (late_size late.width late.count ++ y)) ++ ending s))
+
+abbrev pub count_one : Next → ℕ → ℕ
+count_one s n = if is_counted s then one_more n else n
+
+-- the count after these nodes, and after the beginning of one more if that is so
+abbrev pub tally : Next → ℕ → List Tree → Bool → ℕ
+tally s n [] false = n
+tally s n [] true = count_one s n
+tally s n (t ∷ ts) b = tally (after s) (count_one s n) ts b
+
+abbrev pub late_in : Opening → ℕ → ℕ → List Late
+late_in (an_array p s c) i n = late_at s c i n
+late_in (a_map p s c) i n = late_at s c i n
+late_in _ i n = []
+
+-- what is kept of each array and map whose indicator is missing; the test says whether one more node began in the innermost container
+abbrev pub lates : Bool → Partial → List Late
+lates b (top ts) = []
+lates b (inside f o ts) = lates true f ++ late_in o (length ((written f ++ separator (next_in f)) ++ beginning o)) (tally (first o) 0 ts b)
+
+abbrev pub begins : Part → Bool
+begins no_part = false
+begins (part p k w n x) = true
 
 -- the place p is that of a text in it that isn't UTF-8
 abbrev pub IsBadIn : Partial → ℕ → Type 0
@@ -142,6 +205,6 @@ WritesPart out string bad f (part p k w n x) =
 pub record IsHeld (v : Notator) (f : Partial) (c : Part) : Type 0 where
   pub next : v.next ≡ next_in f
   pub around : v.around.items ≡ next_around f
-  pub counted : AreCounted f
+  pub lates : v.bad ≡ None → v.lates.items ≡ lates (begins c) f
   pub bad : IsLowest (IsBadIn f) v.bad
   pub text : WritesPart v.out.items v.string v.bad f c

@@ -1,11 +1,12 @@
 -- A content of h'..' stands for some bytes or for none.
-use Rattle.std.proofs.Common.{◌≡◌, refl, sym, ap, ◌∙◌, subst, ℕ, ◌+◌, ◌<◌, List, [], ◌∷◌, ◌++◌, length, drop, get_or, Bool, true, false, not, cond, eqb, ◌⊎◌, inl, inr, Option, Some, None, Result, Ok, Err, append_assoc}
-use Rattle.std.proofs.lemmas.List.{drop_more}
-use Rattle.std.proofs.lemmas.Bool.{cond-true, cond-false, and_parts, and_from, eq-eqb, eqb-true, not-true, or_cases, ne_eqb}
+use Rattle.std.proofs.Common.{◌≡◌, refl, sym, ap, ◌∙◌, subst, ℕ, ◌+◌, ◌<◌, ◌≤◌, List, [], ◌∷◌, ◌++◌, length, drop, get_or, Bool, true, false, not, cond, eqb, ◌⊎◌, inl, inr, Option, Some, None, Result, Ok, Err, append_assoc}
+use Rattle.std.proofs.lemmas.List.{drop_more, drop_all}
+use Rattle.std.proofs.lemmas.Bool.{cond-true, cond-false, and_parts, and_from, eq-eqb, eqb-true, not-true, or_cases}
 use Rattle.std.specs.List.{list_all}
 use Rattle.std.specs.Char.{is_digit}
 use Rattle.hex.specs.Hex.{decode_of}
 use Rattle.hex.specs.declared.error.FromHexError.{FromHexError}
+use Rattle.hex.specs.declared.error.FromHexError.TheVariants.{OutOfMemory}
 use Rattle.cborn_lex.specs.Tokens.{is_not, is_white}
 use Rattle.cborn_lex.specs.devices.Scan.{onto, strip, after}
 use Rattle.cborn_lex.specs.Strings.{HasDigits, nothing, digit, space, comment, IsHex}
@@ -97,6 +98,11 @@ hex_err x ds f e h bytes t =
     let n = t.2 in
     cc
 
+-- the decoder fails, and memory is there
+pub not_hex : (x ds : List ℕ) (f : FromHexError) → strip false x ≡ Some ds → (f ≡ OutOfMemory → ⊥) → (f ≡ OutOfMemory) ⊎ (decode_of ds ≡ Err f) → (bytes : List ℕ) → IsHex x bytes → ⊥
+not_hex x ds f e room (inl full) = absurd (room full)
+not_hex x ds f e room (inr h) = hex_err x ds f e h
+
 hex_decoded : (x ds : List ℕ) (r : Result (List ℕ) FromHexError) → strip false x ≡ Some ds → HasDigits x ds → decode_of ds ≡ r → ((bytes : List ℕ) × IsHex x bytes) ⊎ ((bytes : List ℕ) → IsHex x bytes → ⊥)
 hex_decoded x ds (Ok bytes) e k h = inl (bytes, (ds, k, h))
 hex_decoded x ds (Err f) e k h = inr (hex_err x ds f e h)
@@ -117,17 +123,26 @@ from_option x ds (Some d) e k = let same : d ≡ ds = cc in subst (HasDigits x) 
 pub hex_ok : (x ds bytes : List ℕ) → strip false x ≡ Some ds → decode_of ds ≡ Ok bytes → IsHex x bytes
 hex_ok x ds bytes e h = (ds, from_option x ds (strip false x) e (strips false x), h)
 
--- One step of the loop.
+-- The loop.
+
+pub after_none : (o : Option (List ℕ)) → after [] o ≡ o
+after_none None = refl
+after_none (Some x) = refl
+
+-- after all of it
+pub at_end : (content ds : List ℕ) (at : ℕ) (i : Bool) → length content ≤ at → after ds (strip i (drop at content)) ≡ strip false content → strip false content ≡ after ds (strip i [])
+at_end content ds at i h e = sym e ∙ ap (λ x. after ds (strip i x)) (drop_all at content h)
 
 after_onto : (ds : List ℕ) (c : ℕ) (o : Option (List ℕ)) → after ds (onto c o) ≡ after (ds ++ c ∷ []) o
 after_onto ds c None = refl
 after_onto ds c (Some x) = ap Some (sym (append_assoc ds (c ∷ []) x))
 
-pub at_close : (ds x : List ℕ) (c : ℕ) → c ≡ 47 → after ds (strip true (c ∷ x)) ≡ after ds (strip false x)
-at_close ds x c h = ap (after ds) (cond-true (eqb c 47) _ _ (eq-eqb c 47 h))
-
-pub at_stay : (ds x : List ℕ) (c : ℕ) → (c ≡ 47 → ⊥) → after ds (strip true (c ∷ x)) ≡ after ds (strip true x)
-at_stay ds x c h = ap (after ds) (cond-false (eqb c 47) _ _ (ne_eqb c 47 h))
+pub at_inside : (ds x : List ℕ) (c : ℕ) → after ds (strip true (c ∷ x)) ≡ after ds (strip (not (eqb c 47)) x)
+at_inside ds x c = ap (after ds) (go (eqb c 47))
+  where
+    go : (b : Bool) → cond b (strip false x) (strip true x) ≡ strip (not b) x
+    go true = refl
+    go false = refl
 
 pub at_digit : (ds x : List ℕ) (c : ℕ) → is_digit c 16 ≡ true → after ds (strip false (c ∷ x)) ≡ after (ds ++ c ∷ []) (strip false x)
 at_digit ds x c h = ap (after ds) (cond-true (is_digit c 16) _ _ h) ∙ after_onto ds c (strip false x)

@@ -2,7 +2,11 @@
 use Rattle.std.specs.Prelude.{ℕ, ◌+◌, ◌-◌, ◌*◌, Bool, true, false, not, List, [], ◌∷◌, ◌++◌, drop, Option, Some, None, ◌==◌, ◌&&◌, nat_le, cond}
 use Rattle.std.specs.Char.{is_digit}
 use Rattle.cborn_lex.specs.Tokens.{is_white}
-use Rattle.cborn_lex.specs.Strings.{is_escape, escape_code, are_hex, code, is_high, is_low}
+use Rattle.cborn_lex.specs.declared.encoded.Encoding.{Encoding}
+use Rattle.cborn_lex.specs.declared.encoded.Encoding.TheVariants.{Hex, Base64}
+use Rattle.cborn_lex.specs.declared.faults.LexReason.{LexReason}
+use Rattle.cborn_lex.specs.declared.faults.LexReason.TheVariants.{BadHex, BadBase64}
+use Rattle.cborn_lex.specs.Strings.{IsHex, IsBase64, is_escape, escape_code, are_hex, code, is_high, is_low}
 
 abbrev pub onto : ℕ → Option (List ℕ) → Option (List ℕ)
 onto c None = None
@@ -18,6 +22,16 @@ strip false (c ∷ x) = cond (is_digit c 16) (onto c (strip false x)) (cond (is_
 abbrev pub after : List ℕ → Option (List ℕ) → Option (List ℕ)
 after xs None = None
 after xs (Some ys) = Some (xs ++ ys)
+
+-- a content stands for these bytes
+abbrev pub IsEncoded : Encoding → List ℕ → List ℕ → Type 0
+IsEncoded Hex = IsHex
+IsEncoded Base64 = IsBase64
+
+-- why a content is bad that stands for none
+abbrev pub refusal : Encoding → LexReason
+refusal Hex = BadHex
+refusal Base64 = BadBase64
 
 -- a character of a string that stands for itself
 abbrev pub is_raw : ℕ → Bool

@@ -1,8 +1,6 @@
-use Rattle.std.proofs.Common.{◌≡◌, ◌++◌, ◌∷◌, [], ◌+◌, sym, ap, ◌∙◌, subst, take, arith}
+use Rattle.std.proofs.Common.{◌++◌, ◌∷◌, [], sym, ap, ◌∙◌, subst, take, arith}
 use Rattle.std.specs.Str.{IsUtf8}
-use Rattle.std.specs.String.{string_bytes}
 use Rattle.std.proofs.lemmas.List.{take_more, take_all}
-use Rattle.cborn_model.specs.Tree.{trees}
 use Rattle.cborn_model.specs.Partial.{top, no_part}
 use Rattle.cborn_edn.specs.devices.Notating.{IsHeld}
 use Rattle.cborn_edn.proofs.Notating.{error_is}

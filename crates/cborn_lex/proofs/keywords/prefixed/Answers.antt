@@ -7,12 +7,12 @@ use Rattle.cborn_lex.proofs.TwoParts.{prefix_known, prefix_hex, prefix_base64, p
 use Rattle.cborn_lex.proofs.keywords.prefixed.Goals as goal
 
 pub returns-then-eq : goal.returns-then-eq
-returns-then-eq c = prefix_known hexadecimal c.args.word.now c.args.tail.now c.args.out.now.items c.in_hex.new.out.items c.in_hex.result (prefix_hex c.args.word.now (ap (bytes_eq c.args.word.now) (sym c.as_slice.ensures) ∙ sym c.eq.ensures ∙ c.if-eq.true)) c.in_hex.ensures
+returns-then-eq c = prefix_known hexadecimal c.args.word.now c.args.tail.now c.args.out.now.items c.in_encoding.new.out.items c.in_encoding.result (prefix_hex c.args.word.now (ap (bytes_eq c.args.word.now) (sym c.as_slice.ensures) ∙ sym c.eq.ensures ∙ c.if-eq.true)) c.in_encoding.ensures
 
 pub returns-then-eq-2 : goal.returns-then-eq-2
 returns-then-eq-2 c =
-    prefix_known base64 c.args.word.now c.args.tail.now c.args.out.now.items c.in_base64.new.out.items c.in_base64.result
-    (prefix_base64 c.args.word.now (ap (bytes_eq c.args.word.now) (sym c.as_slice.ensures) ∙ sym c.eq.ensures ∙ c.if-eq.false) (ap (bytes_eq c.args.word.now) (sym c.as_slice-else-eq.ensures) ∙ sym c.eq-else-eq.ensures ∙ c.if-eq-2.true)) c.in_base64.ensures
+    prefix_known base64 c.args.word.now c.args.tail.now c.args.out.now.items c.in_encoding-then-eq-2.new.out.items c.in_encoding-then-eq-2.result
+    (prefix_base64 c.args.word.now (ap (bytes_eq c.args.word.now) (sym c.as_slice.ensures) ∙ sym c.eq.ensures ∙ c.if-eq.false) (ap (bytes_eq c.args.word.now) (sym c.as_slice-else-eq.ensures) ∙ sym c.eq-else-eq.ensures ∙ c.if-eq-2.true)) c.in_encoding-then-eq-2.ensures
 
 pub returns-else-eq-2 : goal.returns-else-eq-2
 returns-else-eq-2 c =

@@ -1,22 +1,22 @@
-use Rattle.std.proofs.Common.{refl, false, arith, ap, ◌∙◌, ◌++◌}
+use Rattle.std.proofs.Common.{refl, sym, false, arith, ap, ◌∙◌, ◌++◌}
 use Rattle.std.specs.List.{list_all}
-use Rattle.cborn_lex.specs.declared.faults.LexReason.TheVariants.{BadBase64, UnclosedString}
+use Rattle.cborn_lex.specs.declared.faults.LexReason.TheVariants.{UnclosedString}
 use Rattle.cborn_lex.specs.declared.classes.Class.TheVariants.{Bytes}
 use Rattle.cborn_lex.specs.Tokens.{is_not, Bad, marked}
-use Rattle.cborn_lex.specs.Strings.{IsBase64}
+use Rattle.cborn_lex.specs.devices.Scan.{IsEncoded, refusal}
 use Rattle.cborn_lex.proofs.Sliced.Words.{string_ok, string_bad}
 use Rattle.cborn_lex.proofs.TwoParts.{string_appended, unclosed_made}
-use Rattle.cborn_lex.proofs.encoded.in_base64.Goals as goal
+use Rattle.cborn_lex.proofs.encoded.in_encoding.Goals as goal
 
 pub returns-in_default : goal.returns-in_default
-returns-in_default c = (omega arith, (Bad UnclosedString, unclosed_made (list_all (is_not 39)) (list_all (is_not 39)) 39 IsBase64 BadBase64 (Bytes false) c.args.tail.now c.in_default.ensures, λ n. refl))
+returns-in_default c = (omega arith, (Bad UnclosedString, unclosed_made (list_all (is_not 39)) (list_all (is_not 39)) 39 (IsEncoded c.args.encoding) (refusal c.args.encoding) (Bytes false) c.args.tail.now c.in_default.ensures, λ n. refl))
 
 pub returns-in_ok-extend_from_slice-in-Some-2 : goal.returns-in_ok-extend_from_slice-in-Some-2
 returns-in_ok-extend_from_slice-in-Some-2 c =
     let is = rw c.in-Some-2.is at c.in_ok-bytes.ensures in
     let a = marked (Bytes false c.in-Some-2.bytes.items) c.mark_at-mark.result.0 in
     let s =
-    string_ok (list_all (is_not 39)) (list_all (is_not 39)) 39 IsBase64 BadBase64 (Bytes false) c.in-Some.i c.mark_at-mark.result.1 c.args.tail.now c.front_of-content.result.now c.rest_of.result.now c.in-Some-2.bytes.items a c.mark_at-mark.result.0
+    string_ok (list_all (is_not 39)) (list_all (is_not 39)) 39 (IsEncoded c.args.encoding) (refusal c.args.encoding) (Bytes false) c.in-Some.i c.mark_at-mark.result.1 c.args.tail.now c.front_of-content.result.now c.rest_of.result.now c.in-Some-2.bytes.items a c.mark_at-mark.result.0
     (record {
       inside = c.in-Some.ensures.1;
       fits = c.in-Some.ensures.0;
@@ -31,7 +31,7 @@ returns-in_ok-extend_from_slice-in-Some-2 c =
 pub returns-in-None : goal.returns-in-None
 returns-in-None c =
     let s =
-    string_bad (list_all (is_not 39)) (list_all (is_not 39)) 39 IsBase64 BadBase64 (Bytes false) c.in-Some.i c.mark_at-mark.result.1 c.args.tail.now c.front_of-content.result.now c.rest_of.result.now (Bad BadBase64)
+    string_bad (list_all (is_not 39)) (list_all (is_not 39)) 39 (IsEncoded c.args.encoding) (refusal c.args.encoding) (Bytes false) c.in-Some.i c.mark_at-mark.result.1 c.args.tail.now c.front_of-content.result.now c.rest_of.result.now (Bad (refusal c.args.encoding))
     (record {
       inside = c.in-Some.ensures.1;
       fits = c.in-Some.ensures.0;
@@ -41,4 +41,4 @@ returns-in-None c =
       mark_fits = c.mark_at-mark.ensures.within;
       indicator = c.mark_at-mark.ensures.run;
     }) (rw c.in-None.is at c.in_ok-bytes.ensures) refl in
-    (s.0, (Bad BadBase64, s.1, λ n. refl))
+    (s.0, (Bad (refusal c.args.encoding), s.1, λ n. ap Bad (sym c.refusal.ensures)))

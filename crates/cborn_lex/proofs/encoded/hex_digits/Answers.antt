@@ -1,0 +1,49 @@
+use Rattle.std.proofs.Common.{◌≡◌, refl, sym, ap, ◌∙◌, ◌+◌, [], subst, false, true, not, eqb, get_or, drop, nat_lt, append-nil, Some}
+use Rattle.std.proofs.lemmas.Bool.{lt-ltb, le-ltb, cond-false, ne_eqb}
+use Rattle.std.proofs.lemmas.List.{drop_more}
+use Rattle.cborn_lex.specs.devices.Scan.{strip, after}
+use Rattle.cborn_lex.proofs.Contents.Hexes.{after_none, at_inside, at_digit, at_space, at_open, at_end, moved}
+use Rattle.cborn_lex.proofs.encoded.hex_digits.Goals as goal
+use Rattle.cborn_lex.proofs.encoded.hex_digits.Goals.{then-inside, else-inside+then-digit_of-lt16+in_ok-push, else-inside+else-digit_of-lt16+then-c-eq47, else-inside+else-digit_of-lt16+else-c-eq47+else-not-is_white, then-inside-2, else-inside-2}
+
+pub loop-c-init : goal.loop-c-init
+loop-c-init c = ap (λ ds. after ds (strip false c.args.content.now)) c.in_ok-digits.ensures.items ∙ after_none (strip false c.args.content.now)
+
+pub loop-c-preserved : goal.loop-c-preserved
+loop-c-preserved c =
+    let x = c.args.content.now in
+    let k = c.loop-c.c-index in
+    let b = get_or x k 0 in
+    let z = drop (k + 1) x in
+    let ds = c.loop-c.digits.items in
+    let es = c.if-inside.digits.items in
+    elim c.if-inside.branch [
+      | then-inside w ↦ moved x ds es k c.loop-c.inside c.if-inside.inside true (not (eqb b 47)) c.loop-c-test.true w.if-inside.true w.inside-is (at_inside ds z b ∙ ap (λ v. after v.items (strip (not (eqb b 47)) z)) (sym w.digits-is)) c.loop-c.invariant
+      | else-inside+then-digit_of-lt16+in_ok-push w ↦
+          let is = ap (λ n. nat_lt n 16) (sym w.digit_of.ensures) ∙ lt-ltb w.digit_of.result 16 w.if-digit_of-lt16.true in
+          moved x ds es k c.loop-c.inside c.if-inside.inside false false c.loop-c-test.true w.if-inside.false (w.inside-is ∙ w.if-inside.false) (at_digit ds z b is ∙ ap (λ l. after l (strip false z)) (sym (ap (λ v. v.items) w.digits-is ∙ w.in_ok-push.ensures.items))) c.loop-c.invariant
+      | else-inside+else-digit_of-lt16+then-c-eq47 w ↦
+          let no = ap (λ n. nat_lt n 16) (sym w.digit_of.ensures) ∙ le-ltb w.digit_of.result 16 w.if-digit_of-lt16.false in
+          moved x ds es k c.loop-c.inside c.if-inside.inside false true c.loop-c-test.true w.if-inside.false w.inside-is (at_open ds z b no (rw w.if-c-eq47.true refl) w.if-c-eq47.true ∙ ap (λ v. after v.items (strip true z)) (sym w.digits-is)) c.loop-c.invariant
+      | else-inside+else-digit_of-lt16+else-c-eq47+else-not-is_white w ↦
+          let no = ap (λ n. nat_lt n 16) (sym w.digit_of.ensures) ∙ le-ltb w.digit_of.result 16 w.if-digit_of-lt16.false in
+          moved x ds es k c.loop-c.inside c.if-inside.inside false false c.loop-c-test.true w.if-inside.false (w.inside-is ∙ w.if-inside.false) (at_space ds z b no (sym w.is_white.ensures ∙ w.if-not-is_white.false) ∙ ap (λ v. after v.items (strip false z)) (sym w.digits-is)) c.loop-c.invariant
+    ]
+
+pub returns : goal.returns
+returns c =
+    let end = at_end c.args.content.now c.loop-c.digits.items c.loop-c.c-index c.loop-c.inside c.loop-c-test.false c.loop-c.invariant in
+    elim c.if-inside-2.branch [
+      | then-inside-2 w ↦ rw w.result-is (end ∙ ap (λ i. after c.loop-c.digits.items (strip i [])) w.if-inside-2.true)
+      | else-inside-2 w ↦ rw w.result-is (end ∙ ap (λ i. after c.loop-c.digits.items (strip i [])) w.if-inside-2.false ∙ ap Some (append-nil c.loop-c.digits.items))
+    ]
+
+pub returns-then-not-is_white : goal.returns-then-not-is_white
+returns-then-not-is_white c =
+    let x = c.args.content.now in
+    let k = c.loop-c.c-index in
+    let b = get_or x k 0 in
+    let ds = c.loop-c.digits.items in
+    let no = ap (λ n. nat_lt n 16) (sym c.digit_of.ensures) ∙ le-ltb c.digit_of.result 16 c.if-digit_of-lt16.false in
+    sym (subst (λ i. after ds (strip i (drop k x)) ≡ strip false x) c.if-inside.false c.loop-c.invariant) ∙ ap (λ y. after ds (strip false y)) (drop_more x k 0 c.loop-c-test.true)
+    ∙ ap (after ds) (cond-false _ _ _ no ∙ (cond-false _ _ _ (sym c.is_white.ensures ∙ c.if-not-is_white.true) ∙ cond-false _ _ _ (ne_eqb b 47 c.if-c-eq47.false)))

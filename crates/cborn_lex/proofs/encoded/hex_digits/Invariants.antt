@@ -1,0 +1,6 @@
+use Rattle.std.proofs.Common.{◌≡◌, false, drop}
+use Rattle.cborn_lex.specs.devices.Scan.{strip, after}
+use Rattle.cborn_lex.proofs.encoded.hex_digits.Given as goal
+
+abbrev pub invariant-loop-c : goal.invariant-loop-c
+invariant-loop-c l = after l.digits.items (strip l.inside (drop l.c-index l.content)) ≡ strip false l.content
