@@ -67,4 +67,4 @@ pub use spellings::{Spelled, depth, fits};
 pub use strings::ByteString;
 pub use validity::{Valid, is_valid};
 pub use visitors::{StringKind, Visitor};
-pub use walks::visit_node;
+pub use walks::{visit_node, visit_string};

@@ -8,7 +8,6 @@ ghost use Rattle.cborn_model.specs.Partial.{Partial, no_part, put, string_tree, 
 ghost use Rattle.cborn_model.specs.shared.Walks.{count_of};
 
 use crate::nodes::{Chunk, Form, Node};
-use crate::strings::ByteString;
 use crate::visitors::{StringKind, Visitor};
 use crate::{Size, Width};
 use std::alloc::AllocError;
@@ -29,10 +28,16 @@ pub fn visit_node<V: Visitor>(visitor: &mut V, node: &Node) -> Result<(), AllocE
         Form::Uint(width, n) => visitor.integer(place, false, *width, *n),
         Form::Nint(width, n) => visitor.integer(place, true, *width, *n),
         Form::Bytes(width, bytes) => {
-            visit_string(visitor, place, StringKind::OfBytes, *width, bytes)
+            visit_string(
+                visitor,
+                place,
+                StringKind::OfBytes,
+                *width,
+                bytes.as_slice(),
+            )
         }
         Form::Text(width, bytes) => {
-            visit_string(visitor, place, StringKind::OfText, *width, bytes)
+            visit_string(visitor, place, StringKind::OfText, *width, bytes.as_slice())
         }
         Form::ByteChunks(chunks) => visit_chunks(visitor, place, StringKind::OfBytes, chunks),
         Form::TextChunks(chunks) => visit_chunks(visitor, place, StringKind::OfText, chunks),
@@ -100,19 +105,23 @@ fn count_of(size: Size, len: usize) -> Option<u64>
     }
 }
 
-/// Hands a string of definite length to a visitor.
-fn visit_string<V: Visitor>(
+/// Hands a string of definite length to a visitor. Its head has this width and is at this offset in
+/// bytes from the start of the input.
+///
+/// # Errors
+/// `AllocError` if memory is refused to the visitor, of which nothing is known then.
+#[inline(always)]
+pub fn visit_string<V: Visitor>(
     visitor: &mut V,
     place: u64,
     kind: StringKind,
     width: Width,
-    bytes: &ByteString,
+    bytes: &[u8],
 ) -> Result<(), AllocError>
     requires { WidthFits width (length bytes.now) }
     ensures held { OnOk result ((f : Partial) → Proper f → TakesString f kind → V.holds visitor.old f no_part → V.holds visitor.new (put f (string_tree place kind width bytes.now)) no_part) }
     ensures memory { OnErr result V.takes_memory }
 {
-    let bytes = bytes.as_slice();
     visitor.open_string(place, kind, width, bytes.len() as u64)?;
     visitor.part(bytes)?;
     visitor.close_string()
@@ -131,7 +140,13 @@ fn visit_chunks<V: Visitor>(
 {
     visitor.open_chunks(place, kind)?;
     for chunk in chunks {
-        visit_string(visitor, chunk.place, kind, chunk.width, &chunk.bytes)?;
+        visit_string(
+            visitor,
+            chunk.place,
+            kind,
+            chunk.width,
+            chunk.bytes.as_slice(),
+        )?;
     }
     visitor.close()
 }

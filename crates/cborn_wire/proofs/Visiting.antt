@@ -3,3 +3,4 @@ pub mod Counting
 pub mod Taking
 pub mod Pieces
 pub mod Ending
+pub mod Leaves

@@ -3,3 +3,4 @@ pub mod ItemReading
 pub mod FeederView
 pub mod FeedingCode
 pub mod Counting
+pub mod Leaves

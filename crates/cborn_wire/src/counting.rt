@@ -28,6 +28,7 @@ pub(crate) fn finish<L: Levels, V: Visitor>(
     end: u64,
 ) -> Result<u64, AllocError>
     ensures goes { (f : Partial) (t : Tree) → TakesItem f → V.holds visitor.old (put f t) no_part → Keeps f (L.outer levels.old) (L.inner levels.old) → IfOk result (λ left. Stands (V.holds visitor.new) (L.outer levels.new) (L.inner levels.new) left end (finished end (ready f) (open_in f) t)) }
+    ensures zero { IfOk result (λ left. left ≡ 0) }
     ensures memory { OnErr result V.takes_memory }
 {
     loop {
@@ -43,7 +44,7 @@ pub(crate) fn finish<L: Levels, V: Visitor>(
 }
 
 /// Takes a break, from the offset `place` to the offset `end`. Gives 0.
-fn end<L: Levels, V: Visitor>(
+pub(crate) fn end<L: Levels, V: Visitor>(
     levels: &mut L,
     visitor: &mut V,
     end: u64,

@@ -257,7 +257,7 @@ pub(crate) fn wide_width(information: u8) -> Width
 
 /// How many bytes follow an initial byte with this additional information, from 24 to 27.
 #[inline(always)]
-fn wide_len(information: u8) -> usize
+pub(crate) fn wide_len(information: u8) -> usize
     requires least { 24 ≤ information }
     requires most { information ≤ 27 }
     ensures { (width : Width) → info_at information ≡ Next width → result ≡ width_bytes width }

@@ -5,7 +5,7 @@ ghost use Rattle.cborn_wire.specs.Slots as slots;
 ghost use Rattle.cborn_wire.specs.declared.levels.Level.{Level as OneLevel};
 ghost use Rattle.cborn_wire.specs.devices.Counting.{seen_slot};
 ghost use Rattle.cborn_wire.specs.shared.Machine.{is_all};
-ghost use Rattle.cborn_wire.specs.shared.Visiting.{next_number, with_part, may_end, slot_of, IsInput};
+ghost use Rattle.cborn_wire.specs.shared.Visiting.{next_number, with_part, is_chunks, may_end, slot_of, IsInput};
 
 use crate::refusals::Slot;
 use arrayvec::ArrayVec;
@@ -56,6 +56,14 @@ impl LevelKind {
             LevelKind::Tag(_) => None,
             LevelKind::Chunks(kind, parts) => Some(LevelKind::Chunks(kind, next_number(parts))),
         }
+    }
+
+    /// Whether it is a string of indefinite length.
+    #[inline(always)]
+    pub(crate) fn is_chunks(self) -> bool
+        ensures { result ≡ is_chunks self }
+    {
+        matches!(self, LevelKind::Chunks(_, _))
     }
 
     /// Whether a break may end it.

@@ -33,6 +33,7 @@ mod head_readers;
 mod heads;
 mod item_readers;
 pub mod laws;
+mod leaves;
 mod levels;
 mod nodes;
 mod open_nodes;

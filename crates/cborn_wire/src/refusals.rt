@@ -1,10 +1,11 @@
 //! Which initial bytes are allowed next, by what is open.
 
-ghost use Rattle.std.specs.Prelude.{◌≡◌, ◌<◌, ◌%◌, ◌/◌, []};
+ghost use Rattle.std.specs.Prelude.{◌≡◌, ◌<◌, ◌%◌, ◌/◌, [], true, false, None};
 ghost use Rattle.cborn_wire.specs.SlotFaults.{needs_item};
 ghost use Rattle.cborn_wire.specs.shared.InitialBytes.{info_at, is_bad_chunk, is_of_kind, head_reason};
 ghost use Rattle.cborn_wire.specs.HeadReading.{major_at};
-ghost use Rattle.cborn_wire.specs.devices.Counting.{seen_slot};
+ghost use Rattle.cborn_wire.specs.devices.Counting.{seen_slot, IsPlainSlot};
+ghost use Rattle.cborn_wire.specs.Slots as slots;
 
 use crate::WireReason;
 use crate::heads::{is_always_bounded, is_break, is_container, is_endless, is_float, is_reserved};
@@ -86,6 +87,15 @@ impl Slot {
     {
         matches!(self, Slot::Item)
     }
+}
+
+/// Whether a head with this initial byte is allowed wherever an item is and one more container may
+/// open: it is well-formed by itself, and neither a simple value, a float nor a break.
+#[inline(always)]
+pub(crate) fn is_plain(first: u8) -> bool
+    ensures { result ≡ true → (s : slots.Slot) → IsPlainSlot s → head_reason s false (major_at (first / 32)) (info_at (first % 32)) [] ≡ None }
+{
+    first < 224 && (first % 32 < 28 || (first % 32 == 31 && 64 <= first && first < 192))
 }
 
 /// Whether this is the kind of the strings of this major type.

@@ -1,20 +1,22 @@
 -- The machine takes what `read_head` reads.
-use Rattle.std.proofs.Common.{◌≡◌, refl, sym, ap, ◌∙◌, ℕ, ◌+◌, ◌/◌, ◌%◌, ◌<◌, ◌≤◌, List, [], ◌∷◌, ◌++◌, length, take, get_or, Bool, true, false, ◌&&◌, cond, leb, Option, Some, None, arith, append-nil, length-append, add-one}
+use Rattle.std.proofs.Common.{◌≡◌, refl, sym, ap, ◌∙◌, ℕ, suc, ◌+◌, ◌/◌, ◌%◌, ◌<◌, ◌≤◌, List, [], ◌∷◌, ◌++◌, length, take, get_or, Bool, true, false, ◌&&◌, cond, leb, Option, Some, None, arith, append-nil, length-append, add-one}
 use Rattle.std.proofs.Math.Bool.{and-false}
 use Rattle.std.proofs.lemmas.List.{take_all, take-append-le, length-take}
 use Rattle.cborn_model.specs.declared.heads.Width.{Width}
 use Rattle.cborn_model.specs.declared.heads.Width.TheVariants.{Direct}
 use Rattle.cborn_model.specs.declared.heads.Major.{Major}
+use Rattle.cborn_model.specs.declared.heads.Major.TheVariants.{Other}
 use Rattle.cborn_model.specs.Heads.{Argument, Given, EndlessArgument, head}
 use Rattle.cborn_model.specs.Tree.{Trees}
 use Rattle.cborn_wire.specs.declared.faults.WireReason.{WireReason}
-use Rattle.cborn_wire.specs.declared.faults.WireReason.TheVariants.{BadSimple, TooDeep}
+use Rattle.cborn_wire.specs.declared.faults.WireReason.TheVariants.{BadSimple, TooDeep, UnexpectedBreak}
 use Rattle.cborn_wire.specs.declared.heads.Head.{Head}
 use Rattle.cborn_wire.specs.HeadReading.{major_at, seen_argument, reason_alone, IsHeadOf}
-use Rattle.cborn_wire.specs.Slots.{Slot, element_or_end, OpenContainer, slot, open_depth}
-use Rattle.cborn_wire.specs.SlotFaults.{begins_low}
-use Rattle.cborn_wire.specs.shared.InitialBytes.{Info, info_at, is_break, is_other, is_one, is_container, head_reason}
-use Rattle.cborn_wire.specs.shared.Machine.{width_bytes, number, argument_of, nothing, gathering, Live, Failed, after_head, run}
+use Rattle.cborn_model.specs.Partial.{built}
+use Rattle.cborn_wire.specs.Slots.{Slot, item, value as a_value, element_or_end, key_or_end, chunk, OpenContainer, opened, slot, slot_in, open_depth}
+use Rattle.cborn_wire.specs.SlotFaults.{needs_item, begins_low}
+use Rattle.cborn_wire.specs.shared.InitialBytes.{Info, EndlessInformation, info_at, is_break, is_other, is_one, is_container, head_reason}
+use Rattle.cborn_wire.specs.shared.Machine.{width_bytes, number, argument_of, nothing, gathering, State, Live, Failed, finished, ended, after_head, unless, at_slot, run}
 use Rattle.cborn_wire.proofs.HeadReading.InitialBytes.{same_alone}
 use Rattle.cborn_wire.proofs.Machine.Pieces.{takes_whole_head, refuses_first, argument_done}
 use Rattle.cborn_wire.proofs.Machine.SoundSteps.{is_clear}
@@ -32,7 +34,7 @@ fills w = omega arith
 pub argument_room : (w : Width) (n : ℕ) (bytes : List ℕ) → length bytes ≡ 8 → length (take n bytes) < width_bytes w → n < 8
 argument_room w n bytes l h = omega (arith, length-take n bytes, l, fills w, h)
 
-head_some : (m : Major) (a : Argument) → 0 < length (head m a)
+pub head_some : (m : Major) (a : Argument) → 0 < length (head m a)
 head_some m (Given w n) = omega arith
 head_some m EndlessArgument = omega arith
 
@@ -101,3 +103,25 @@ second_refused limit at ready os (b ∷ y) r some none e =
 pub head_fits : (piece : List ℕ) (h : Head) (n : ℕ) → IsHeadOf piece h n → (0 < n) × (n ≤ length piece)
 head_fits piece h n i =
     (omega (arith, i.len, head_some (major_at h.major) (seen_argument h.argument)), omega (arith, i.len, ap length i.whole, length-append (head (major_at h.major) (seen_argument h.argument)) i.rest))
+
+-- a break, which says by itself where it isn't allowed
+
+break_reason : (s : Slot) (full : Bool) → head_reason s full Other EndlessInformation [] ≡ cond (needs_item s) (Some UnexpectedBreak) None
+break_reason item full = refl
+break_reason a_value full = refl
+break_reason element_or_end full = refl
+break_reason key_or_end full = refl
+break_reason (chunk k) full = refl
+
+unless_needed : (b : Bool) (rd : Trees) (p : ℕ) (s : State) → unless (cond b (Some UnexpectedBreak) None) rd p (cond b (Failed rd p UnexpectedBreak) s) ≡ cond b (Failed rd p UnexpectedBreak) s
+unless_needed true rd p s = refl
+unless_needed false rd p s = refl
+
+break_ended : (limit at : ℕ) (rd : Trees) (os : List OpenContainer) → at_slot limit at rd os Other EndlessInformation ≡ ended (suc at) at rd os
+break_ended limit at rd [] = refl
+break_ended limit at rd (opened o ts ∷ os) =
+    ap (λ r. unless r rd at (ended (suc at) at rd (opened o ts ∷ os))) (break_reason (slot_in (opened o ts)) (leb limit (open_depth (opened o ts ∷ os))))
+    ∙ unless_needed (needs_item (slot_in (opened o ts))) rd at (finished (suc at) rd os (built o ts))
+
+pub break_taken : (limit at : ℕ) (rd : Trees) (os : List OpenContainer) (piece : List ℕ) → 0 < length piece → get_or piece 0 0 ≡ 255 → run limit (Live at rd os nothing) (take 1 piece) ≡ ended (at + 1) at rd os
+break_taken limit at rd os piece some e = ap (run limit (Live at rd os nothing)) (take_one piece some ∙ ap (λ b. b ∷ []) e) ∙ break_ended limit at rd os ∙ ap (λ k. ended k at rd os) (sym (add-one at))

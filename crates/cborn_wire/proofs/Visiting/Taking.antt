@@ -54,6 +54,10 @@ between holds outer l left at s none h = go h.amid h.missing h.held h.is
     go no_part m held is = (h.partial, held, h.levels, is)
     go (part p k w n x) m held is = absurd (omega (arith, none, m.1))
 
+pub between_here : (holds : Partial → Part → Type 0) (outer : List Level) (l : Level) (left at : ℕ) (h : Option PartialHead) (s : State) → h ≡ None → left ≡ 0 → HereAt holds outer l left at h s
+    → (f : Partial) × holds f no_part × Keeps f outer l × (s ≡ state at f no_part)
+between_here holds outer l left at h s none zero here = between holds outer l left at s zero (subst (λ o. HereAt holds outer l left at o s) none here)
+
 pub stands_here : (holds : Partial → Part → Type 0) (outer : List Level) (l : Level) (left at : ℕ) (h : Option PartialHead) (s u : State) → h ≡ None → s ≡ u → Stands holds outer l left at u → HereAt holds outer l left at h s
 stands_here holds outer l left at h s u none is stands = subst (λ o. HereAt holds outer l left at o s) (sym none) (subst (Stands holds outer l left at) (sym is) stands)
 

@@ -14,3 +14,8 @@ abbrev pub plain : slots.Slot → slots.Slot
 plain value = item
 plain key_or_end = element_or_end
 plain s = s
+
+-- it isn't that of a chunk
+abbrev pub IsPlainSlot : slots.Slot → Type 0
+IsPlainSlot (chunk k) = ⊥
+IsPlainSlot s = Unit {0}

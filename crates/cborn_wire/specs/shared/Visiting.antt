@@ -85,6 +85,10 @@ with_part (MapValue c k) = if is_all c (next_number k) then None else Some (Map 
 with_part (Tag n) = None
 with_part (Chunks k n) = Some (Chunks k (next_number n))
 
+abbrev pub is_chunks : LevelKind → Bool
+is_chunks (Chunks k n) = true
+is_chunks _ = false
+
 -- a break may end it
 abbrev pub may_end : LevelKind → Bool
 may_end (Array None k) = true

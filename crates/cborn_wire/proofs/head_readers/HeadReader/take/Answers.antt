@@ -1,4 +1,8 @@
-use Rattle.cborn_wire.proofs.Visiting.Taking.{here_room}
+use Rattle.std.proofs.Common.{◌≡◌, ◌+◌, ◌∙◌, refl, sym, ap, subst, take, arith}
+use Rattle.cborn_model.specs.Partial.{no_part}
+use Rattle.cborn_wire.specs.shared.Machine.{ready_in, run, AtMostOneMore}
+use Rattle.cborn_wire.specs.shared.Visiting.{state, head_at, Keeps, HereAt, OpenIn, TakesPiece}
+use Rattle.cborn_wire.proofs.Visiting.Taking.{between_here, here_room, stands_here}
 use Rattle.cborn_wire.proofs.head_readers.HeadReader.take.Goals as goal
 
 pub take_argument-requires-clause-open : goal.take_argument-requires-clause-open
@@ -11,4 +15,35 @@ pub take_head-requires-clause-open : goal.take_head-requires-clause-open
 take_head-requires-clause-open g c =
     let m = c.args.self.now in
     let l = c.args.levels.now in
-    here_room m.limit g.L.Levels.most (g.V.Visitor.holds c.args.visitor.now) (g.L.Levels.outer l) (g.L.Levels.inner l) m.left m.at m.head c.requires.here.0 c.requires.levels c.requires.here.1 c.requires.here.2
+    rw ((c.in_ok-len.ensures.none (omega (arith, c.if-len-gt0.false))).1) (here_room m.limit g.L.Levels.most (g.V.Visitor.holds c.args.visitor.now) (g.L.Levels.outer l) (g.L.Levels.inner l) m.left m.at m.head c.requires.here.0 c.requires.levels c.requires.here.1 c.requires.here.2)
+
+pub returns-clause-goes : goal.returns-clause-goes
+returns-clause-goes g c = λ s here inside.
+    let m = c.args.self.now in
+    let l = c.args.levels.now in
+    let (f, held, keeps, is) = between_here (g.V.Visitor.holds c.args.visitor.now) (g.L.Levels.outer l) (g.L.Levels.inner l) m.left m.at m.head s c.in_default.is (omega (arith, c.if-self-gt0.false)) here in
+    let same = c.in_ok-len.ensures.none (omega (arith, c.if-len-gt0.false)) in
+    let new = c.take_head.new in
+    subst (λ u. TakesPiece m.limit u c.args.piece.now (g.V.Visitor.holds new.visitor) (g.L.Levels.outer new.levels) (g.L.Levels.inner new.levels) new.self.left m.at new.self.head c.take_head.result) (sym is)
+    (c.take_head.ensures.goes f (subst (λ v. g.V.Visitor.holds v f no_part) (sym same.0) held) (subst (λ k. Keeps f (g.L.Levels.outer k) (g.L.Levels.inner k)) (sym same.1) keeps) (subst (OpenIn m.limit) is inside))
+
+pub returns-clause-kept : goal.returns-clause-kept
+returns-clause-kept g c = λ p r e.
+    let same = c.in_ok-len.ensures.none (omega (arith, c.if-len-gt0.false)) in
+    let kept = c.take_head.ensures.kept p r e in
+    (kept.0 ∙ ap (head_at c.args.self.now.at) (sym c.in_default.is), kept.1 ∙ same.0, kept.2 ∙ same.1, kept.3)
+
+pub returns-then-len-gt0-clause-goes : goal.returns-then-len-gt0-clause-goes
+returns-then-len-gt0-clause-goes g c = λ s here inside.
+    let m = c.args.self.now in
+    let l = c.args.levels.now in
+    let zero : m.left ≡ 0 = omega (arith, c.if-self-gt0.false) in
+    let (f, held, keeps, is) = between_here (g.V.Visitor.holds c.args.visitor.now) (g.L.Levels.outer l) (g.L.Levels.inner l) m.left m.at m.head s c.in_default.is zero here in
+    let n = c.in_ok-len.len in
+    let new = c.take_leaves.new in
+    let holds = g.V.Visitor.holds new.visitor in
+    let outer = g.L.Levels.outer new.levels in
+    let inner = g.L.Levels.inner new.levels in
+    let (stands, more) = (c.in_ok-len.ensures.goes f held keeps).1 m.limit in
+    subst (λ u. HereAt holds outer inner m.left (m.at + n) m.head (run m.limit u (take n c.args.piece.now)) × AtMostOneMore (ready_in u) (run m.limit u (take n c.args.piece.now))) (sym is)
+    (subst (λ k. HereAt holds outer inner k (m.at + n) m.head (run m.limit (state m.at f no_part) (take n c.args.piece.now))) (sym zero) (stands_here holds outer inner 0 (m.at + n) m.head _ _ c.in_default.is refl stands), more)

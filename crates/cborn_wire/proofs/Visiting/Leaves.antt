@@ -1,0 +1,254 @@
+-- What is read and made of a leaf.
+use Rattle.std.proofs.Common.{◌≡◌, refl, sym, ap, ◌∙◌, subst, inl, ℕ, zero, suc, ◌+◌, ◌-◌, ◌/◌, ◌%◌, ◌<◌, ◌≤◌, List, [], ◌∷◌, ◌++◌, length, take, drop, get_or, Bool, true, false, cond, leb, Option, Some, None, arith, length-append}
+use Rattle.std.proofs.lemmas.Bool.{leb-true, leb-false, lt-leb}
+use Rattle.std.proofs.lemmas.List.{length-take-le}
+use Rattle.std.proofs.Math.Seq.{take-add}
+use Rattle.cborn_model.specs.Bytes.{AreBytes}
+use Rattle.cborn_model.specs.declared.heads.Width.{Width}
+use Rattle.cborn_model.specs.declared.heads.Width.TheVariants.{Direct, One, Two, Four, Eight}
+use Rattle.cborn_model.specs.declared.heads.Major.{Major}
+use Rattle.cborn_model.specs.declared.heads.Major.TheVariants.{Unsigned, Negative, ByteString, TextString, Array, Map, Tag, Other}
+use Rattle.cborn_model.specs.Heads as heads
+use Rattle.cborn_model.specs.Heads.{code, WidthFits}
+use Rattle.cborn_model.specs.Tree.{Tree, Trees, Uint, Nint, Simple}
+use Rattle.cborn_model.specs.Partial.{an_array, a_map, a_tag, in_chunks, Partial, top, inside, Part, no_part, put, last_key, TakesItem, TakesString, integer_tree, string_tree}
+use Rattle.cborn_model.specs.declared.visitors.StringKind.{StringKind}
+use Rattle.cborn_model.specs.declared.visitors.StringKind.TheVariants.{OfBytes, OfText}
+use Rattle.cborn_wire.specs.declared.heads.Argument.TheVariants.{Given}
+use Rattle.cborn_wire.specs.declared.heads.HeadRead.TheVariants.{Full}
+use Rattle.cborn_wire.specs.declared.leaves.GivenHead.{GivenHead}
+use Rattle.cborn_wire.specs.declared.levels.Level.{Level}
+use Rattle.cborn_wire.specs.declared.levels.LevelKind.{LevelKind}
+use Rattle.cborn_wire.specs.declared.levels.LevelKind.TheVariants.{Sequence, Array as AnArray, Map as AMap, MapValue, Tag as ATag, Chunks}
+use Rattle.cborn_wire.specs.HeadReading.{major_at, IsHeadOf}
+use Rattle.cborn_wire.specs.Slots.{Slot, chunk, OpenContainer, slot, slot_in_map, open_depth}
+use Rattle.cborn_wire.specs.shared.InitialBytes.{Info, Now, Next, info_at, info_for, is_bad_chunk, head_reason}
+use Rattle.cborn_wire.specs.shared.Machine.{width_bytes, number, content_of, gathering, Live, content_at, after_head, finished, run, ready_in, AtMostOneMore}
+use Rattle.cborn_wire.specs.shared.Visiting.{ready, open_in, state, levels, slot_of, is_chunks, Keeps, Stands}
+use Rattle.cborn_wire.specs.devices.Counting.{IsPlainSlot}
+use Rattle.cborn_wire.specs.devices.Leaves.{IsGiven, IsLeafOf, IsLeaf, content_len, leaf_tree, TakesLeaves}
+use Rattle.cborn_wire.proofs.HeadReading.HeadFronts.{direct_head, wide_head, wide_fronts}
+use Rattle.cborn_wire.proofs.HeadReading.HeadSteps.{head_some, head_taken}
+use Rattle.cborn_wire.proofs.Machine.TakesItems.{clear_given}
+use Rattle.cborn_wire.proofs.Machine.OneMore.{one_more_finished}
+use Rattle.cborn_wire.proofs.Machine.Pieces.{major_of_head, info_of_head, content_done}
+use Rattle.cborn_wire.proofs.Machine.Running.{run-append}
+use Rattle.cborn_wire.proofs.Machine.SoundRuns.{code_at}
+use Rattle.cborn_wire.proofs.Visiting.Pieces.{front_taken, next_cut, next_taken}
+
+-- the head
+
+pub given_direct : (x : List ℕ) → AreBytes x → 1 ≤ length x → get_or x 0 0 % 32 < 24 → IsGiven x (record { first = get_or x 0 0; width = Direct; argument = get_or x 0 0 % 32; len = 1 })
+given_direct [] are some low = absurd (omega arith)
+given_direct (b ∷ y) are some low = record { head = direct_head y b are.0 low; first = refl; direct = λ h. refl }
+
+not_other : (n : ℕ) → n < 7 → major_at n ≡ Other → ⊥
+not_other n h e = absurd (omega (arith, h, code_at n (omega arith), ap code e))
+
+pub given_wide : (x rest : List ℕ) (w : Width) (n k : ℕ) → rest ≡ drop 1 x → AreBytes x → 1 ≤ length x → get_or x 0 0 < 224 → info_at (get_or x 0 0 % 32) ≡ Next w → width_bytes w ≤ length rest → n ≡ number w (take (width_bytes w) rest) → k ≡ width_bytes w
+    → IsGiven x (record { first = get_or x 0 0; width = w; argument = n; len = 1 + k })
+given_wide [] rest w n k same are some low i all value len = absurd (omega arith)
+given_wide (b ∷ y) rest w n k same are some low i all value len =
+    record {
+      head =
+          wide_fronts (b ∷ y) y (Full (record { major = b / 32; argument = Given w n }) (1 + k)) (major_at (b / 32)) w refl some (code_at (b / 32) (omega arith)) i (not_other (b / 32) (omega arith))
+          (λ c e j free. subst (λ m. IsHeadOf (c ∷ y) (record { major = m; argument = Given w n }) (1 + k)) (e ∙ code_at (b / 32) (omega arith)) (wide_head y c (c / 32) n k w (omega (arith, e, code_at (b / 32) (omega arith))) refl j are.1 (subst (λ r. width_bytes w ≤ length r) same all) (subst (λ r. n ≡ number w (take (width_bytes w) r)) same value) len free));
+      first = refl;
+      direct = λ h. absurd (omega arith);
+    }
+
+-- which heads are those of leaves
+
+pub low_leaf : (n k : ℕ) (w : Width) → n < 2 → IsLeaf (major_at n) w × (content_len (major_at n) k ≡ 0)
+low_leaf zero k w h = (tt, refl)
+low_leaf (suc zero) k w h = (tt, refl)
+low_leaf (suc (suc n)) k w h = absurd (omega arith)
+
+pub string_leaf : (n k : ℕ) (w : Width) → 2 ≤ n → n < 4 → IsLeaf (major_at n) w × (content_len (major_at n) k ≡ k)
+string_leaf (suc (suc zero)) k w l h = (tt, refl)
+string_leaf (suc (suc (suc zero))) k w l h = (tt, refl)
+string_leaf (suc (suc (suc (suc n)))) k w l h = absurd (omega arith)
+string_leaf n k w l h = absurd (omega arith)
+
+pub integer_is : (p b k : ℕ) (w : Width) (x : List ℕ) → b < 64 → integer_tree p (leb 32 b) w k ≡ leaf_tree p (major_at (b / 32)) w k x
+integer_is p b k w x h = go (b / 32) refl (leb 32 b) refl
+  where
+    go : (n : ℕ) → b / 32 ≡ n → (c : Bool) → leb 32 b ≡ c → integer_tree p c w k ≡ leaf_tree p (major_at n) w k x
+    go zero e false f = refl
+    go zero e true f = absurd (omega (arith, e, leb-true 32 b f))
+    go (suc zero) e true f = refl
+    go (suc zero) e false f = absurd (omega (arith, e, leb-false 32 b f))
+    go (suc (suc n)) e c f = absurd (omega (arith, e, h))
+
+pub simple_leaf : (n k : ℕ) (w : Width) → n ≡ 7 → w ≡ Direct → IsLeaf (major_at n) w × (content_len (major_at n) k ≡ 0)
+simple_leaf n k w e d = (subst (λ m. IsLeaf (major_at m) w) (sym e) d, ap (λ m. content_len (major_at m) k) e)
+
+pub simple_is : (p n k : ℕ) (w : Width) (x : List ℕ) → n ≡ 7 → Simple p k ≡ leaf_tree p (major_at n) w k x
+simple_is p n k w x e = ap (λ m. leaf_tree p (major_at m) w k x) (sym e)
+
+text_major : (n : ℕ) (w : Width) → IsLeaf (major_at n) w → 3 ≤ n → n < 7 → n ≡ 3
+text_major (suc (suc (suc zero))) w l low high = refl
+text_major (suc (suc (suc (suc zero)))) w l low high = absurd l
+text_major (suc (suc (suc (suc (suc zero))))) w l low high = absurd l
+text_major (suc (suc (suc (suc (suc (suc zero)))))) w l low high = absurd l
+text_major n w l low high = absurd (omega (arith, low, high))
+
+pub bytes_are : (p n k : ℕ) (w : Width) (x : List ℕ) → n ≡ 2 → string_tree p OfBytes w x ≡ leaf_tree p (major_at n) w k x
+bytes_are p n k w x e = ap (λ m. leaf_tree p (major_at m) w k x) (sym e)
+
+pub text_is : (p n k : ℕ) (w : Width) (x : List ℕ) → IsLeaf (major_at n) w → 3 ≤ n → n < 7 → string_tree p OfText w x ≡ leaf_tree p (major_at n) w k x
+text_is p n k w x l low high = ap (λ m. leaf_tree p (major_at m) w k x) (sym (text_major n w l low high))
+
+pub string_free : (f : Partial) (k : StringKind) → TakesItem f → TakesString f k
+string_free (top ts) k h = tt
+string_free (inside f (in_chunks p j) ts) k h = absurd h
+string_free (inside f o ts) k h = tt
+
+-- a leaf is allowed wherever an item is
+
+plain_slot : (f : Partial) → TakesItem f → IsPlainSlot (slot (open_in f))
+plain_slot (top ts) h = tt
+plain_slot (inside f (in_chunks p k) ts) h = absurd h
+plain_slot (inside f (an_array p s None) ts) h = tt
+plain_slot (inside f (an_array p s (Some n)) ts) h = tt
+plain_slot (inside f (a_map p s c) ts) h = go c (last_key ts)
+  where
+    go : (c : Option ℕ) (x : Option Tree) → IsPlainSlot (slot_in_map c x)
+    go None None = tt
+    go None (Some k) = tt
+    go (Some n) None = tt
+    go (Some n) (Some k) = tt
+plain_slot (inside f (a_tag p w n) ts) h = tt
+
+no_chunk : (s : Slot) (m : Major) (i : Info) → IsPlainSlot s → is_bad_chunk s m i ≡ false
+no_chunk (chunk k) m i h = absurd h
+no_chunk s m i h = refl
+
+leaf_free : (s : Slot) (full : Bool) (m : Major) (w : Width) (n : ℕ) → IsPlainSlot s → IsLeaf m w → head_reason s full m (info_for (heads.Given w n)) [] ≡ None
+leaf_free s full Unsigned w n h l = clear_given s full Unsigned w n (no_chunk s Unsigned (info_for (heads.Given w n)) h) refl refl
+leaf_free s full Negative w n h l = clear_given s full Negative w n (no_chunk s Negative (info_for (heads.Given w n)) h) refl refl
+leaf_free s full ByteString w n h l = clear_given s full ByteString w n (no_chunk s ByteString (info_for (heads.Given w n)) h) refl refl
+leaf_free s full TextString w n h l = clear_given s full TextString w n (no_chunk s TextString (info_for (heads.Given w n)) h) refl refl
+leaf_free s full Other Direct n h l = rw (no_chunk s Other (Now n) h) refl
+leaf_free s full Other One n h l = cc
+leaf_free s full Other Two n h l = cc
+leaf_free s full Other Four n h l = cc
+leaf_free s full Other Eight n h l = cc
+leaf_free s full Array w n h l = absurd l
+leaf_free s full Map w n h l = absurd l
+leaf_free s full Tag w n h l = absurd l
+
+leaf_allowed : (limit : ℕ) (os : List OpenContainer) (x : List ℕ) (m : Major) (w : Width) (n : ℕ) (rest : List ℕ) → WidthFits w n → x ≡ heads.head m (heads.Given w n) ++ rest → IsPlainSlot (slot os) → IsLeaf m w
+    → None ≡ head_reason (slot os) (leb limit (open_depth os)) (major_at (get_or x 0 0 / 32)) (info_at (get_or x 0 0 % 32)) []
+leaf_allowed limit os [] m w n rest fits e h l = absurd (omega (arith, ap length e))
+leaf_allowed limit os (b ∷ y) m w n rest fits e h l =
+    sym (ap (λ j. head_reason (slot os) (leb limit (open_depth os)) j (info_at (b % 32)) []) (major_of_head m (heads.Given w n) b y rest fits e)
+    ∙ ap (λ i. head_reason (slot os) (leb limit (open_depth os)) m i []) (info_of_head m (heads.Given w n) b y rest fits e)
+    ∙ leaf_free (slot os) (leb limit (open_depth os)) m w n h l)
+
+-- a level in which an item may be next
+pub plain_kind : (k : LevelKind) → is_chunks k ≡ false → IsPlainSlot (slot_of k)
+plain_kind (Sequence n) e = tt
+plain_kind (AnArray None n) e = tt
+plain_kind (AnArray (Some c) n) e = tt
+plain_kind (AMap None n) e = tt
+plain_kind (AMap (Some c) n) e = tt
+plain_kind (MapValue c n) e = tt
+plain_kind (ATag n) e = tt
+plain_kind (Chunks k n) e = cc
+
+-- what is made of one
+
+string_read : (limit at p : ℕ) (rd : Trees) (os : List OpenContainer) (k : StringKind) (w : Width) (n : ℕ) (x : List ℕ) → length x ≡ n → run limit (content_at at p rd os k w n []) x ≡ finished (at + length x) rd os (string_tree p k w x)
+string_read limit at p rd os k w zero [] e = ap (λ j. finished j rd os (string_tree p k w [])) (omega arith)
+string_read limit at p rd os k w (suc n) [] e = absurd (omega (arith, e))
+string_read limit at p rd os k w n (b ∷ x) e =
+    ap (λ c. run limit (cond c (finished at rd os (string_tree p k w [])) (Live at rd os (gathering p (content_of k w) n []))) (b ∷ x)) (lt-leb n 0 (omega (arith, e)))
+    ∙ content_done limit at rd os p k w n [] (b ∷ x) (omega (arith, e)) (omega (arith, e))
+
+-- its content after its head
+content_read : (limit at p : ℕ) (rd : Trees) (os : List OpenContainer) (m : Major) (w : Width) (n : ℕ) (x : List ℕ) → IsLeaf m w → length x ≡ content_len m n
+    → run limit (after_head at p rd os m (heads.Given w n)) x ≡ finished (at + length x) rd os (leaf_tree p m w n x)
+content_read limit at p rd os Unsigned w n [] l e = ap (λ k. finished k rd os (Uint p w n)) (omega arith)
+content_read limit at p rd os Negative w n [] l e = ap (λ k. finished k rd os (Nint p w n)) (omega arith)
+content_read limit at p rd os Other Direct n [] l e = ap (λ k. finished k rd os (Simple p n)) (omega arith)
+content_read limit at p rd os Unsigned w n (b ∷ x) l e = absurd (omega (arith, e))
+content_read limit at p rd os Negative w n (b ∷ x) l e = absurd (omega (arith, e))
+content_read limit at p rd os Other Direct n (b ∷ x) l e = absurd (omega (arith, e))
+content_read limit at p rd os Other One n x l e = cc
+content_read limit at p rd os Other Two n x l e = cc
+content_read limit at p rd os Other Four n x l e = cc
+content_read limit at p rd os Other Eight n x l e = cc
+content_read limit at p rd os ByteString w n x l e = string_read limit at p rd os OfBytes w n x e
+content_read limit at p rd os TextString w n x l e = string_read limit at p rd os OfText w n x e
+content_read limit at p rd os Array w n x l e = absurd l
+content_read limit at p rd os Map w n x l e = absurd l
+content_read limit at p rd os Tag w n x l e = absurd l
+
+pub leaf_read : (limit at : ℕ) (f : Partial) (x y : List ℕ) (h : GivenHead) (n : ℕ) → TakesItem f → IsLeafOf x h n → take n x ≡ take h.len x ++ y
+    → run limit (state at f no_part) (take n x) ≡ finished (at + n) (ready f) (open_in f) (leaf_tree at (major_at (h.first / 32)) h.width h.argument y)
+leaf_read limit at f x y h n takes leaf cut =
+    let m = major_at (h.first / 32) in
+    let len : length y ≡ content_len m h.argument = omega (arith, ap length cut, length-append (take h.len x) y, length-take-le n x leaf.whole, length-take-le h.len x (omega (arith, leaf.len, leaf.whole)), leaf.len) in
+    ap (run limit (state at f no_part)) cut
+    ∙ run-append limit (state at f no_part) (take h.len x) y
+    ∙ ap (λ s. run limit s y) (head_taken limit at (ready f) (open_in f) x (record { major = h.first / 32; argument = Given h.width h.argument }) h.len leaf.given.head (leaf_allowed limit (open_in f) x m h.width h.argument leaf.given.head.rest leaf.given.head.fits leaf.given.head.whole (plain_slot f takes) leaf.leaf))
+    ∙ content_read limit (at + h.len) at (ready f) (open_in f) m h.width h.argument y leaf.leaf len
+    ∙ ap (λ k. finished k (ready f) (open_in f) (leaf_tree at m h.width h.argument y)) (omega (arith, leaf.len, len))
+
+-- inside a container no item of the input becomes whole
+pub ready_same : (f : Partial) (t : Tree) (ls : List Level) (l : Level) → levels f ≡ ls ++ l ∷ [] → 0 < length ls → ready (put f t) ≡ ready f
+ready_same (top ts) t ls l e some = absurd (omega (arith, some, ap length e, length-append ls (l ∷ [])))
+ready_same (inside f o ts) t ls l e some = refl
+
+pub item_after : (f : Partial) (t : Tree) → TakesItem f → TakesItem (put f t)
+item_after (top ts) t h = tt
+item_after (inside f (in_chunks p k) ts) t h = absurd h
+item_after (inside f o ts) t h = tt
+
+-- after more bytes and this leaf
+pub next_leaf : (limit place at : ℕ) (f h : Partial) (y x z : List ℕ) (g : GivenHead) (n : ℕ) → TakesItem h → IsLeafOf x g n → take n x ≡ take g.len x ++ z → run limit (state place f no_part) y ≡ state at h no_part
+    → run limit (state place f no_part) (y ++ take n x) ≡ finished (at + n) (ready h) (open_in h) (leaf_tree at (major_at (g.first / 32)) g.width g.argument z)
+next_leaf limit place at f h y x z g n takes leaf cut e = run-append limit (state place f no_part) y (take n x) ∙ ap (λ s. run limit s (take n x)) e ∙ leaf_read limit at h x z g n takes leaf cut
+
+pub leaf_cut : (x : List ℕ) (g : GivenHead) (n : ℕ) → IsLeafOf x g n → take n x ≡ take g.len x ++ take (n - g.len) (drop g.len x)
+leaf_cut x g n leaf = ap (λ k. take k x) (omega (arith, leaf.len)) ∙ take-add g.len (n - g.len) x
+
+pub leaf_some : (x : List ℕ) (g : GivenHead) (n : ℕ) → IsLeafOf x g n → 0 < n
+leaf_some x g n leaf = omega (arith, leaf.len, leaf.given.head.len, head_some (major_at (g.first / 32)) (heads.Given g.width g.argument))
+
+-- how far a piece is read, of which y and n bytes of what follows are read
+taken_len : (piece y rest : List ℕ) → piece ≡ y ++ rest → (n : ℕ) → n ≤ length rest → length piece - length (take (length rest - n) (drop n rest)) ≡ length y + n
+taken_len piece y rest cut n fits = omega (arith, ap length (next_cut piece y rest cut n fits), length-append (y ++ take n rest) (take (length rest - n) (drop n rest)), length-append y (take n rest), length-take-le n rest fits)
+
+module _ (holds : Partial → Part → Type 0) (outer : List Level) (inner : Level) (place : ℕ) (f : Partial) (piece y rest : List ℕ) (cut : piece ≡ y ++ rest) where
+  -- the last leaf of the innermost container was taken
+  pub last_taken : (at : ℕ) (h : Partial) (t : Tree) (n : ℕ) → at ≡ place + length y → n ≤ length rest → ready h ≡ ready f
+      → ((limit : ℕ) → run limit (state place f no_part) (y ++ take n rest) ≡ finished (at + n) (ready h) (open_in h) t) → Stands holds outer inner 0 (at + n) (finished (at + n) (ready h) (open_in h) t)
+      → TakesLeaves place f piece holds outer inner (length piece - length (take (length rest - n) (drop n rest)))
+  last_taken at h t n e fits rd is stands =
+      let k = length piece - length (take (length rest - n) (drop n rest)) in
+      let front : take k piece ≡ y ++ take n rest = next_taken piece y rest cut n fits in
+      let far : at + n ≡ place + k = omega (arith, e, taken_len piece y rest cut n fits) in (
+        omega arith,
+        λ limit.
+            let goes : run limit (state place f no_part) (take k piece) ≡ finished (at + n) (ready h) (open_in h) t = ap (run limit (state place f no_part)) front ∙ is limit in (
+              subst (λ j. Stands holds outer inner 0 j (run limit (state place f no_part) (take k piece))) far (subst (Stands holds outer inner 0 (at + n)) (sym goes) stands),
+              subst (AtMostOneMore (ready f)) (sym goes) (subst (λ r. AtMostOneMore r (finished (at + n) (ready h) (open_in h) t)) rd (one_more_finished (ready h) (open_in h) (at + n) t)),
+            ),
+      )
+
+  -- the innermost container goes on
+  pub some_taken : (at : ℕ) (h : Partial) → at ≡ place + length y → holds h no_part → Keeps h outer inner → ready h ≡ ready f → ((limit : ℕ) → run limit (state place f no_part) y ≡ state at h no_part) → TakesLeaves place f piece holds outer inner (length piece - length rest)
+  some_taken at h e held kept rd is =
+      let k = length piece - length rest in
+      let many : k ≡ length y = omega (arith, ap length cut, length-append y rest) in
+      let front : take k piece ≡ y = ap (λ j. take j piece) many ∙ front_taken piece y rest cut in (
+        omega arith,
+        λ limit.
+            let goes : run limit (state place f no_part) (take k piece) ≡ state at h no_part = ap (run limit (state place f no_part)) front ∙ is limit in
+            let far : at ≡ place + k = omega (arith, e, many) in (
+              record { partial = h; amid = no_part; held = held; levels = kept; missing = refl; fits = tt; is = goes ∙ ap (λ j. state j h no_part) far },
+              inl (ap ready_in goes ∙ rd),
+            ),
+      )

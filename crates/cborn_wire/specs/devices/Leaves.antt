@@ -1,0 +1,54 @@
+-- A device of the proofs: leaves, the items that hold no other items, as the reader takes them. No definition cites it.
+use Rattle.std.specs.Prelude.{◌≡◌, ℕ, ◌+◌, ◌/◌, ◌≤◌, List, length, take, slice_index, ⊤}
+use Rattle.cborn_model.specs.declared.heads.Width.{Width}
+use Rattle.cborn_model.specs.declared.heads.Width.TheVariants.{Direct}
+use Rattle.cborn_model.specs.declared.heads.Major.{Major}
+use Rattle.cborn_model.specs.declared.heads.Major.TheVariants.{Unsigned, Negative, ByteString, TextString, Other}
+use Rattle.cborn_model.specs.Tree.{Tree, Uint, Nint, Bytes, Text, Simple}
+use Rattle.cborn_model.specs.Partial.{Partial, Part, no_part}
+use Rattle.cborn_wire.specs.declared.heads.Argument.TheVariants.{Given}
+use Rattle.cborn_wire.specs.declared.levels.Level.{Level}
+use Rattle.cborn_wire.specs.declared.leaves.GivenHead.{GivenHead}
+use Rattle.cborn_wire.specs.HeadReading.{major_at, IsHeadOf}
+use Rattle.cborn_wire.specs.shared.Machine.{AtMostOneMore, run}
+use Rattle.cborn_wire.specs.shared.Visiting.{ready, state, Stands}
+
+-- this head is at the front of x, and of major type 7 only with a direct argument
+pub record IsGiven (x : List ℕ) (h : GivenHead) : Type 0 where
+  pub head : IsHeadOf x (record { major = h.first / 32; argument = Given h.width h.argument }) h.len
+  pub first : h.first ≡ slice_index x 0
+  pub direct : 224 ≤ h.first → h.width ≡ Direct
+
+-- an integer, a string of definite length or a simple value has such a head
+abbrev pub IsLeaf : Major → Width → Type 0
+IsLeaf Unsigned w = ⊤
+IsLeaf Negative w = ⊤
+IsLeaf ByteString w = ⊤
+IsLeaf TextString w = ⊤
+IsLeaf Other w = w ≡ Direct
+IsLeaf m w = ⊥
+
+-- how many bytes follow its head
+abbrev pub content_len : Major → ℕ → ℕ
+content_len ByteString n = n
+content_len TextString n = n
+content_len m n = 0
+
+abbrev pub leaf_tree : ℕ → Major → Width → ℕ → List ℕ → Tree
+leaf_tree p Unsigned w n x = Uint p w n
+leaf_tree p Negative w n x = Nint p w n
+leaf_tree p ByteString w n x = Bytes p w x
+leaf_tree p TextString w n x = Text p w x
+leaf_tree p m w n x = Simple p n
+
+-- the first n bytes of x are a leaf with this head
+pub record IsLeafOf (x : List ℕ) (h : GivenHead) (n : ℕ) : Type 0 where
+  pub given : IsGiven x h
+  pub leaf : IsLeaf (major_at (h.first / 32)) h.width
+  pub len : n ≡ h.len + content_len (major_at (h.first / 32)) h.argument
+  pub whole : n ≤ length x
+
+-- n bytes of the piece were read after the partial sequence f, and at most one more item of the input is whole
+abbrev pub TakesLeaves : ℕ → Partial → List ℕ → (Partial → Part → Type 0) → List Level → Level → ℕ → Type 0
+TakesLeaves place f piece holds around l n =
+    (n ≤ length piece) × ((limit : ℕ) → Stands holds around l 0 (place + n) (run limit (state place f no_part) (take n piece)) × AtMostOneMore (ready f) (run limit (state place f no_part) (take n piece)))

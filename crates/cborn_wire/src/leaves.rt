@@ -1,0 +1,148 @@
+//! Leaves: items that hold no other items, taken whole from the front of a piece, one after another.
+
+ghost use Rattle.std.specs.Prelude.{◌≡◌, ◌+◌, ◌<◌, ◌≤◌, ◌/◌, ◌^◌, ℕ, List, length, take, OnOk, OnErr, IfOk, MatchOption, ⊤};
+ghost use Rattle.cborn_model.specs.Heads.{WidthFits};
+ghost use Rattle.cborn_model.specs.Partial.{Partial, no_part, put, IsFree};
+ghost use Rattle.cborn_wire.specs.HeadReading.{major_at};
+ghost use Rattle.cborn_wire.specs.devices.Leaves.{IsGiven, IsLeafOf, IsLeaf, content_len, leaf_tree, TakesLeaves};
+ghost use Rattle.cborn_wire.specs.shared.Visiting.{Keeps};
+
+use crate::counting::finish;
+use crate::heads::{read_number, wide_len, wide_width};
+use crate::levels::Levels;
+use cborn_model::{StringKind, Visitor, Width, visit_string};
+use std::alloc::AllocError;
+
+/// A head with an argument, at the front of some bytes.
+#[derive(Clone, Copy)]
+pub(crate) struct GivenHead {
+    pub(crate) first: u8,
+    pub(crate) width: Width,
+    pub(crate) argument: u64,
+    pub(crate) len: usize,
+}
+
+/// The head at the front of `bytes`, if it has an argument and is no float and no simple value of
+/// two bytes.
+#[inline(always)]
+fn given_head(bytes: &[u8]) -> Option<GivenHead>
+    ensures { MatchOption result ⊤ (IsGiven bytes.now) }
+{
+    let [first, rest @ ..] = bytes else {
+        return None;
+    };
+    let first = *first;
+    let information = first % 32;
+    if information < 24 {
+        return Some(GivenHead {
+            first,
+            width: Width::Direct,
+            argument: u64::from(information),
+            len: 1,
+        });
+    }
+    if information > 27 || first >= 224 {
+        return None;
+    }
+    let width = wide_width(information);
+    let argument = read_number(width, rest)?;
+    let len = 1 + wide_len(information);
+    Some(GivenHead {
+        first,
+        width,
+        argument,
+        len,
+    })
+}
+
+/// The head of the leaf that is whole at the front of `bytes`, and where the leaf ends.
+#[inline(always)]
+fn leaf_at(bytes: &[u8]) -> Option<(GivenHead, usize)>
+    ensures { MatchOption result ⊤ (λ leaf. IsLeafOf bytes.now leaf.0 leaf.1) }
+{
+    let head = given_head(bytes)?;
+    if head.first < 64 || head.first >= 224 {
+        return Some((head, head.len));
+    }
+    if head.first >= 128 || head.argument > (bytes.len() - head.len) as u64 {
+        return None;
+    }
+    Some((head, head.len + head.argument as usize))
+}
+
+/// Whether a leaf may begin with this byte.
+#[inline(always)]
+fn may_be_leaf(first: u8) -> bool {
+    first < 128 || first >= 224
+}
+
+/// Hands a leaf to a visitor. A string is these bytes.
+#[inline(always)]
+fn visit_leaf<V: Visitor>(
+    visitor: &mut V,
+    place: u64,
+    head: GivenHead,
+    bytes: &[u8],
+) -> Result<(), AllocError>
+    requires leaf { IsLeaf (major_at (head.first / 32)) head.width }
+    requires fits { WidthFits head.width head.argument }
+    requires bytes { length bytes.now ≡ content_len (major_at (head.first / 32)) head.argument }
+    ensures held { OnOk result ((f : Partial) → IsFree f → V.holds visitor.old f no_part → V.holds visitor.new (put f (leaf_tree place (major_at (head.first / 32)) head.width head.argument bytes.now)) no_part) }
+    ensures memory { OnErr result V.takes_memory }
+{
+    if head.first < 64 {
+        return visitor.integer(place, head.first >= 32, head.width, head.argument);
+    }
+    if head.first >= 224 {
+        return visitor.simple(place, head.argument as u8);
+    }
+    let kind = if head.first < 96 {
+        StringKind::OfBytes
+    } else {
+        StringKind::OfText
+    };
+    visit_string(visitor, place, kind, head.width, bytes)
+}
+
+/// Takes the leaves at the front of `piece`, whose first byte is at the offset `place`: those that
+/// are whole in it, up to the last part of the innermost container. Gives their length in bytes.
+/// Between items of the input and in a string of indefinite length it takes none.
+#[inline(always)]
+pub(crate) fn take_leaves<L: Levels, V: Visitor>(
+    levels: &mut L,
+    visitor: &mut V,
+    place: u64,
+    piece: &[u8],
+) -> Result<usize, AllocError>
+    requires some { 0 < length piece.now }
+    requires room { place + length piece.now < 2 ^ 64 }
+    ensures goes { (f : Partial) → V.holds visitor.old f no_part → Keeps f (L.outer levels.old) (L.inner levels.old) → IfOk result (TakesLeaves place f piece.now (V.holds visitor.new) (L.outer levels.new) (L.inner levels.new)) }
+    ensures none { IfOk result (λ n. n ≡ 0 → (visitor.new ≡ visitor.old) × (levels.new ≡ levels.old)) }
+    ensures memory { OnErr result V.takes_memory }
+{
+    if !may_be_leaf(piece[0]) {
+        return Ok(0);
+    }
+    let mut kind = levels.innermost().kind;
+    if kind.is_chunks() || levels.count() == 0 {
+        return Ok(0);
+    }
+    let mut rest = piece;
+    let mut at = place;
+    while let Some((head, end)) = leaf_at(rest) {
+        visit_leaf(visitor, at, head, &rest[head.len..end])?;
+        rest = &rest[end..];
+        at += end as u64;
+        let Some(next) = kind.with_part() else {
+            levels.set(kind);
+            finish(levels, visitor, at)?;
+            return Ok(piece.len() - rest.len());
+        };
+        kind = next;
+    }
+    if rest.len() == piece.len() {
+        return Ok(0);
+    }
+    levels.set(kind);
+    Ok(piece.len() - rest.len())
+}
