@@ -1,8 +1,8 @@
-//! What no clause of the model says: how much memory its trees take, and that the bytes of a number are
-//! given, where the contract allows out of memory. The other functions have clauses that name the
+//! What no clause of the model says: how much memory its trees take, and that a magnitude is made,
+//! where the contract allows out of memory. The other functions have clauses that name the
 //! answer for each argument.
 
-use cborn_model::{Item, Magnitude, Node, push_doubling};
+use cborn_model::{Item, Node, magnitude_of, push_doubling};
 use std::mem::size_of;
 use std::test::Fail;
 
@@ -25,10 +25,10 @@ fn grows_by_doubling(rt: HostRuntime) -> Result<(), Fail> {
     Ok(())
 }
 
-/// Catches a number that never gives its bytes.
+/// Catches a magnitude that is never made.
 #[test]
 fn gives_bytes(rt: HostRuntime) -> Result<(), Fail> {
-    let bytes = Magnitude::word(258).into_vec(rt.alloc())?;
+    let bytes = magnitude_of(rt.alloc(), &258u64.to_be_bytes())?.into_vec();
     assert_eq!(rt; bytes.as_slice(), b"\x01\x02".as_slice());
     Ok(())
 }

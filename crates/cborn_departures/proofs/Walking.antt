@@ -1,5 +1,5 @@
 -- Arrays, maps and tags that are their own encodings.
-use Rattle.std.proofs.Common.{◌≡◌, ◌≢◌, ℕ, ◌+◌, ◌-◌, ◌⊎◌, ◌<◌, ◌≤◌, List, [], ◌∷◌, ◌++◌, length, take, drop, IsPermutation, Bool, true, false, refl, sym, ap, ◌∙◌, subst, arith, append_assoc, append-nil, length-append, Option, Some, None, Bor, Ordering}
+use Rattle.std.proofs.Common.{◌≡◌, ◌≢◌, ℕ, ◌+◌, ◌-◌, ◌⊎◌, inr, ◌<◌, ◌≤◌, List, [], ◌∷◌, ◌++◌, length, take, drop, Bool, true, false, refl, sym, ap, ◌∙◌, subst, arith, append_assoc, append-nil, length-append, Option, Some, None, Bor, Ordering}
 use Rattle.std.proofs.lemmas.List.{append_cancel_right, map-append}
 use Rattle.std.proofs.lemmas.List.Sorted.{IsPermutation-refl}
 use Rattle.cborn_model.specs.declared.heads.Size.TheVariants.{Fixed}
@@ -9,16 +9,15 @@ use Rattle.cborn_model.specs.declared.heads.Major.TheVariants.{ByteString, Array
 use Rattle.cborn_model.specs.Heads.{Given, head, WidthFits, least, IsLeastHead}
 use Rattle.cborn_model.specs.Spelled.{spelled, spelled_all, spelled_entries, string, Fits, FitsEntries}
 use Rattle.cborn_model.specs.Tree.{Tree, Bytes, Items, Pairs, Tagged, trees, entries, count, count_entries}
-use Rattle.cborn_model.specs.Value.{bytes}
 use Rattle.cborn_model.specs.Orders.{IsKeyOrder}
 use Rattle.cborn_model.proofs.Listed.Trees.{count-trees, count_entries-entries}
 use Rattle.cborn_model.proofs.Numbers.OneHead.{append_same}
+use Rattle.cborn_model.proofs.Numbers.OneMagnitude.{large}
 use Rattle.cborn_model.proofs.Bytes.{bytes-right}
 use Rattle.cborn_judge.proofs.Meaning.Meanings.{Short, left}
 use Rattle.cborn_det.specs.Det.{bignum_tag, Entry, joined, keys}
 use Rattle.cborn_det.proofs.Cutting.{rise_more}
 use Rattle.cborn_det.specs.shared.KeyBefore.{EndsIn, Below}
-use Rattle.cborn_wire.specs.declared.heads.Argument.TheVariants as arguments
 use Rattle.cborn_wire.specs.Parts.{Pair, Leaves, StringRead}
 use Rattle.cborn_wire.proofs.Parts.Nodes.{node_as, node_within, node_last, array_read, tagged_read}
 use Rattle.cborn_wire.proofs.Parts.Pairs.{no_pair, entry_more, map_read}
@@ -27,7 +26,7 @@ use Rattle.cborn_transcode.specs.Transcoding.{IsEncodedAs, ItemTranscoded}
 use Rattle.cborn_transcode.specs.shared.Walking.{LeastHeadRead, IsDeterministic, AreDeterministic, ItemWalked, ItemsWalked, WalkedAfter}
 use Rattle.cborn_departures.specs.devices.Walking.{IsLast, IsLongMagnitude, BignumWalked, HaveRisingKeys, PairsWalked}
 use Rattle.cborn_transcode.proofs.Walking.{spelled_pairs}
-use Rattle.cborn_transcode.proofs.Encoding.{least_head, least_string, big_integer, bignum_encoded, tagged_encoded}
+use Rattle.cborn_transcode.proofs.Encoding.{least_head, least_string, bignum_encoded, tagged_encoded}
 use Rattle.cborn_transcode.proofs.Keying.{joined_more}
 use Rattle.cborn_transcode.proofs.Lists.{array_encoded}
 use Rattle.cborn_transcode.proofs.Pairing.{pair_encoded, map_encoded}
@@ -93,7 +92,7 @@ module _ (order : List ℕ → List ℕ → Ordering) {room : ℕ} (some : 1 ≤
           whole fits =
               let x : List ℕ = string ByteString (least (length m)) m in
               bignum_encoded order negative (least n) n (Bytes 0 (least (length m)) m) m (front ++ x) k (m, refl, (m, fits.1, short, refl, refl))
-              (big_integer negative m front x short long (subst (λ j. IsLeastHead 6 j front) e (h, refl)) (least_string ByteString (length m) m fits.0 refl))
+              (inr (large m short long, front, x, subst (λ j. IsLeastHead 6 j front) e (h, refl), least_string ByteString (length m) m fits.0 refl, refl))
 
 -- the content of a bignum, whose head was read
 pub bignum_found : {x tail content rest : List ℕ} {major : Major} {n : ℕ} → LeastHeadRead major n x tail → major ≡ ByteString → content ≡ take n tail → rest ≡ drop n tail → 8 < n → n ≤ length tail → AreBytes x → IsShortest content → BignumWalked x rest

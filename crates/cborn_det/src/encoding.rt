@@ -94,7 +94,7 @@ fn push_item<O: KeyOrder>(alloc: Global, item: &Item, out: &mut Vec<u8>) -> Resu
         Item::Int {
             negative,
             magnitude,
-        } => push_integer(*negative, magnitude, out),
+        } => push_integer(*negative, magnitude.as_slice(), out),
         Item::Bytes(bytes) => push_string(Major::ByteString, bytes.as_slice(), out),
         Item::Text(text) => push_string(Major::TextString, text.as_bytes(), out),
         Item::Items(items) => {

@@ -5,8 +5,7 @@
 //! An item is written to the end of one buffer: `encoding` goes through it, and `parts` appends its
 //! strings and numbers. Once all pairs of a map are written, `entries` arranges them in the buffer:
 //! nothing is moved if their keys rise already, else the map is copied once. `heads` has the
-//! shortest head, also for callers that write an encoding without an item, and `integers` what the
-//! head of an integer is made of.
+//! shortest head. Callers that write an encoding without an item use it too, and `push_integer`.
 //!
 //! `laws` has what follows from the definitions: two valid items have equal encodings exactly if
 //! they are the same.
@@ -15,10 +14,9 @@
 mod encoding;
 mod entries;
 mod heads;
-mod integers;
 pub mod laws;
 mod parts;
 
 pub use encoding::{encode, encode_all, equal_bytes, push_encoding};
 pub use heads::{put_head, set_head};
-pub use integers::{integer_major, number_of};
+pub use parts::{integer_major, push_integer};

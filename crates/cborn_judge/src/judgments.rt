@@ -88,8 +88,8 @@ fn judge_node(alloc: Global, node: &Node, spare: &mut Vec<Keys>) -> Result<Judge
 {
     let place = node.place;
     match &node.form {
-        Form::Uint(_, n) => Ok(Judged::Valid(small_integer(false, *n))),
-        Form::Nint(_, n) => Ok(Judged::Valid(small_integer(true, *n))),
+        Form::Uint(_, n) => Ok(Judged::Valid(small_integer(alloc, false, *n)?)),
+        Form::Nint(_, n) => Ok(Judged::Valid(small_integer(alloc, true, *n)?)),
         Form::Bytes(_, bytes) => judge_bytes(alloc, bytes.as_slice()),
         Form::Text(_, bytes) => judge_text(alloc, place, bytes.as_slice()),
         Form::ByteChunks(chunks) => judge_byte_chunks(alloc, chunks),
@@ -111,8 +111,8 @@ fn judge_items(alloc: Global, nodes: &[Node], spare: &mut Vec<Keys>) -> Result<J
     let mut items = Vec::with_capacity(alloc, nodes.len())?;
     for node in nodes {
         match &node.form {
-            Form::Uint(_, n) => items.push(small_integer(false, *n))?,
-            Form::Nint(_, n) => items.push(small_integer(true, *n))?,
+            Form::Uint(_, n) => items.push(small_integer(alloc, false, *n)?)?,
+            Form::Nint(_, n) => items.push(small_integer(alloc, true, *n)?)?,
             _ => match judge_node(alloc, node, spare)? {
                 Judged::Valid(item) => items.push(item)?,
                 Judged::Flawed(flaw) => first = earliest(first, Some(flaw)),

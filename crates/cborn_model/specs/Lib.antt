@@ -6,8 +6,6 @@ pub mod Spelled
 pub mod Placed
 pub mod Partial
 pub mod Value
-pub mod MagnitudeView
-pub mod Numbers
 pub mod ItemView
 pub mod Valid
 pub mod Meaning

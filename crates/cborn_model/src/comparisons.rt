@@ -8,7 +8,7 @@ ghost use Rattle.cborn_model.specs.devices.Pairs.{HasPair, Gives};
 ghost use Rattle.cborn_model.specs.Valid.{IsNew, HasNewKeys, IsProper, AreProper, HasProperPairs};
 ghost use Rattle.cborn_model.specs.Value.{Same, SameValues, dict, values_of, pairs_of};
 
-use crate::{Item, Magnitude, Number, Valid};
+use crate::{ByteString, Item, Valid};
 
 /// Whether two items are the same: integers by their number, arrays by their elements in order,
 /// maps by their pairs in any order (RFC 8949 sections 2, 3.4.3 and 5.6.1). Takes no memory. Maps
@@ -47,16 +47,12 @@ pub(crate) fn same_items(a: &Item, b: &Item) -> bool
 }
 
 /// Whether two magnitudes without leading zeros are the same number.
-fn same_magnitudes(a: &Magnitude, b: &Magnitude) -> bool
+fn same_magnitudes(a: &ByteString, b: &ByteString) -> bool
     requires first { IsShortest a.now }
     requires second { IsShortest b.now }
     ensures { IsTrue result ↔ big_endian a.now ≡ big_endian b.now }
 {
-    match (a.number(), b.number()) {
-        (Number::Word(m), Number::Word(n)) => m == n,
-        (Number::Long(x), Number::Long(y)) => x == y,
-        _ => false,
-    }
+    a.as_slice() == b.as_slice()
 }
 
 #[cycle(same_items)]

@@ -1,7 +1,7 @@
 //! Items: data items without widths, chunks and offsets, valid or not. Elements, pairs and contents
 //! are wrapped, so that contracts see what they mean, and no vectors and boxes.
 
-use crate::{ByteString, Magnitude};
+use crate::ByteString;
 use std::alloc::{AllocError, Global};
 use std::marker::Model;
 
@@ -14,7 +14,7 @@ pub enum Item {
         /// Whether the integer is below 0.
         negative: bool,
         /// The bytes of n, most significant first. A valid item has no leading zero here.
-        magnitude: Magnitude,
+        magnitude: ByteString,
     },
     /// A byte string: its bytes, of all chunks joined.
     Bytes(ByteString),

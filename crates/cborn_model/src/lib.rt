@@ -59,7 +59,7 @@ pub use growth::push_doubling;
 pub use heads::{BREAK, Major, Size, Width, ended_size, is_simple_value, shortest};
 pub use items::{Item, ItemBox, ItemList, PairList};
 pub use limits::Limit;
-pub use magnitudes::{Magnitude, Number, without_zeros};
+pub use magnitudes::{magnitude_of, without_zeros, word_of};
 pub use nodes::{Chunk, Form, Node};
 pub use orders::{Bytewise, KeyOrder, LengthFirst};
 pub use precedence::{Fault, earlier, earliest};

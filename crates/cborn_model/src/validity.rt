@@ -7,7 +7,7 @@ ghost use Rattle.cborn_model.specs.Value.{values_of, pairs_of};
 ghost use Rattle.cborn_model.specs.Valid.{HasNewKeys, IsProper, AreProper, HasProperPairs, IsValid, value_depth, values_depth, pairs_depth};
 
 use crate::comparisons::value_of;
-use crate::{ByteString, Item, Magnitude, Number, is_simple_value};
+use crate::{ByteString, Item, is_simple_value, word_of};
 use std::marker::Model;
 
 /// A valid item (RFC 8949 section 5.3), with a nesting depth of at most 1,024.
@@ -127,12 +127,11 @@ fn has_new_keys(pairs: &[(Item, Item)]) -> bool
     true
 }
 
-/// Whether there is no leading zero. Reading the number gives the prover the type's bounds.
-fn is_proper_magnitude(magnitude: &Magnitude) -> bool
+/// Whether there is no leading zero.
+fn is_proper_magnitude(magnitude: &ByteString) -> bool
     ensures { IsTrue result ↔ AreBytes magnitude.now × IsShortest magnitude.now × (length magnitude.now < 2 ^ 64) }
 {
-    let _number = magnitude.number();
-    magnitude.is_shortest()
+    is_proper_string(magnitude) && magnitude.as_slice().first() != Some(&0)
 }
 
 /// Always true. Reading the length gives the prover the type's bounds.
@@ -157,9 +156,9 @@ fn item_depth(item: &Item) -> u64
     ensures { result ≡ min (value_depth (item_value item.now)) (2 ^ 64 - 1) }
 {
     match item {
-        Item::Int { magnitude, .. } => match magnitude.number() {
-            Number::Word(_) => 0,
-            Number::Long(_) => 1,
+        Item::Int { magnitude, .. } => match word_of(magnitude.as_slice()) {
+            Some(_) => 0,
+            None => 1,
         },
         Item::Items(items) => items_depth(items.as_slice()).saturating_add(1),
         Item::Pairs(pairs) => pairs_depth(pairs.as_slice()).saturating_add(1),

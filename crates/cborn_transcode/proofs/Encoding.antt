@@ -1,6 +1,6 @@
 -- What nodes are encoded as, and what is written one after the other.
 use Rattle.std.proofs.Common.{◌≡◌, ◌≢◌, ℕ, ◌+◌, ◌⊎◌, ◌<◌, ◌^◌, inl, inr, List, [], ◌∷◌, ◌++◌, length, take, drop, Bool, true, false, refl, sym, ap, ◌∙◌, subst, arith, append_assoc, length-append, take_at, drop_at, Ordering}
-use Rattle.cborn_model.specs.Bytes.{IsShortest, big_endian}
+use Rattle.cborn_model.specs.Bytes.{big_endian}
 use Rattle.cborn_model.specs.declared.heads.Major.{Major}
 use Rattle.cborn_model.specs.declared.heads.Width.{Width}
 use Rattle.cborn_model.specs.Heads.{code, head_bytes, least, WidthFits, IsLeastHead}
@@ -8,9 +8,8 @@ use Rattle.cborn_model.specs.Meaning.{Means, IsBignum}
 use Rattle.cborn_model.specs.Spelled.{string}
 use Rattle.cborn_model.specs.Tree.{Tree, Uint, Nint, Tagged}
 use Rattle.cborn_model.specs.Value.{integer, tagged}
-use Rattle.cborn_model.proofs.Numbers.OneMagnitude.{large}
 use Rattle.cborn_model.proofs.Numbers.SomeMagnitude.{magnitude_of}
-use Rattle.cborn_det.specs.Det.{IsInteger, IsString, bignum_tag}
+use Rattle.cborn_det.specs.Det.{IsInteger, IsString}
 use Rattle.cborn_det.specs.Appending.{Appends, Replaces}
 use Rattle.cborn_det.proofs.Room.{holds_below}
 use Rattle.cborn_transcode.specs.Transcoding.{IsEncodedAs}
@@ -47,10 +46,6 @@ least_head major n k j h e f = (subst (λ i. WidthFits (least i) i) (sym e) h, (
 -- a string that is spelled with the shortest head
 pub least_string : (major : Major) (n : ℕ) (content : List ℕ) → WidthFits (least n) n → length content ≡ n → IsString (code major) content (string major (least n) content)
 least_string major n content h l = (head_bytes (code major) (least n) (length content), least_head (code major) n (length content) (length content) h l l, refl)
-
--- an integer outside 64 bits
-pub big_integer : (negative : Bool) (m h x : List ℕ) → IsShortest m → 8 < length m → IsLeastHead 6 (bignum_tag negative) h → IsString 2 m x → IsInteger negative m (h ++ x)
-big_integer negative m h x s l a b = inr (large m s l, h, x, a, b, refl)
 
 module _ (order : List ℕ → List ℕ → Ordering) where
   -- an integer within 64 bits

@@ -1,5 +1,5 @@
 -- What nodes mean does not depend on where they are.
-use Rattle.std.proofs.Common.{◌≡◌, ℕ, suc, ◌+◌, ◌≤◌, inl, inr, List, [], ◌∷◌, ◌++◌, length, Bool, true, false, refl, sym, ap, ◌∙◌, subst, Ordering}
+use Rattle.std.proofs.Common.{◌≡◌, ℕ, suc, ◌+◌, inl, inr, List, [], ◌∷◌, ◌++◌, length, Bool, true, false, refl, sym, ap, ◌∙◌, Ordering}
 use Rattle.std.specs.List.{AllZip}
 use Rattle.cborn_model.specs.declared.nodes.Chunk.{Chunk}
 use Rattle.cborn_model.specs.declared.heads.Major.{Major}
@@ -12,7 +12,7 @@ use Rattle.cborn_model.specs.Value.{Value, Values, Couples, bytes, text, no_valu
 use Rattle.cborn_model.specs.Meaning.{Means, AllMean, EntriesMean, IsByteString, IsBignum, ChunksAreText, joined_chunks}
 use Rattle.cborn_wire.specs.Places.{chunks_from, placed_from, all_from, entries_from}
 use Rattle.cborn_wire.proofs.Spelled.OneReading.{listed_reading}
-use Rattle.cborn_wire.proofs.Spelled.TreeLists.{tree_list, trees-tree_list}
+use Rattle.cborn_wire.proofs.Spelled.TreeLists.{tree_list}
 use Rattle.cborn_transcode.specs.Transcoding.{IsTranscoded}
 
 joined-from : (m : Major) (cs : List Chunk) (p : ℕ) → joined_chunks (chunks_from m p cs) ≡ joined_chunks cs

@@ -8,11 +8,10 @@ use Rattle.cborn_model.specs.declared.heads.Major.{Major}
 use Rattle.cborn_model.specs.declared.heads.Major.TheVariants.{Unsigned, Negative, ByteString, TextString, Other}
 use Rattle.cborn_model.specs.Heads.{Given, head, WidthFits, least, is_simple_value}
 use Rattle.cborn_model.specs.Spelled.{spelled, spelled_all, spelled_entries}
-use Rattle.cborn_model.specs.Tree.{Tree, Items, trees, entries}
+use Rattle.cborn_model.specs.Tree.{Tree, trees, entries}
 use Rattle.cborn_model.specs.Value.{bytes, text, simple}
 use Rattle.cborn_model.specs.Orders.{Rising}
 use Rattle.cborn_model.proofs.Listed.Trees.{spelled_pair, spelled_all-trees, spelled_entries-entries}
-use Rattle.cborn_judge.proofs.Meaning.Meanings.{left}
 use Rattle.cborn_det.specs.Det.{Entry, joined, keys}
 use Rattle.cborn_wire.specs.declared.heads.Head.{Head}
 use Rattle.cborn_wire.specs.declared.heads.Argument.{Argument}

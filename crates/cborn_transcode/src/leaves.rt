@@ -5,14 +5,14 @@ ghost use Rattle.cborn_model.specs.declared.heads.Width.{Width as WidthSpec};
 ghost use Rattle.cborn_model.specs.declared.heads.Major.TheVariants.{ByteString};
 ghost use Rattle.cborn_model.specs.Bytes.{AreBytes, IsShortest, big_endian};
 ghost use Rattle.cborn_det.specs.Appending.{Appends};
-ghost use Rattle.cborn_det.specs.Det.{IsInteger, IsString, bignum_tag};
+ghost use Rattle.cborn_det.specs.Det.{IsInteger, IsString};
 ghost use Rattle.cborn_descent.specs.Descending.{major_of};
 ghost use Rattle.cborn_model.specs.Heads.{code, IsLeastHead, Given, EndlessArgument, head, WidthFits};
 ghost use Rattle.cborn_transcode.specs.Transcoding.{ContentTaken, ChunkTaken, ChunksTaken, BignumTaken};
 ghost use Rattle.cborn_transcode.specs.devices.Missing.{NoChunk, NoChunks, NoByteString};
 
-use cborn_det::{integer_major, number_of, put_head};
-use cborn_model::{Major, without_zeros};
+use cborn_det::{integer_major, push_integer, put_head};
+use cborn_model::{Major, without_zeros, word_of};
 use cborn_wire::{Argument, HeadRead, after_break, read_head};
 use std::alloc::{AllocError, Global};
 
@@ -214,7 +214,7 @@ fn put_fixed_bignum<'a>(
         return Ok(None);
     }
     let (content, rest) = bytes.split_at(n as usize);
-    put_integer(negative, without_zeros(content), out)?;
+    push_integer(negative, without_zeros(content), out)?;
     Ok(Some(rest))
 }
 
@@ -254,58 +254,11 @@ fn set_integer(
     ensures { OnOk result ((m : List ℕ) × AreBytes m × IsShortest m × (big_endian m ≡ big_endian (drop start out.old.items)) × Appends (IsInteger negative m) (take start out.old.items) out.new.items) }
 {
     let digits = without_zeros(&out[start..]);
-    if digits.len() <= 8 {
-        let n = number_of(digits);
+    if let Some(n) = word_of(digits) {
         out.truncate(start);
         return put_head(integer_major(negative), n, out);
     }
     let digits = Vec::from_slice(alloc, digits)?;
     out.truncate(start);
-    put_long(negative, &digits, out)
-}
-
-/// The integer of these digits, the first of which isn't zero: a head alone within 64 bits, and
-/// otherwise tag 2 or 3 over them.
-///
-/// # Errors
-/// Memory was refused.
-fn put_integer(negative: bool, digits: &[u8], out: &mut Vec<u8>) -> Result<(), AllocError>
-    requires bytes { AreBytes digits.now }
-    requires shortest { IsShortest digits.now }
-    ensures { OnOk result (Appends (IsInteger negative digits.now) out.old.items out.new.items) }
-{
-    if digits.len() <= 8 {
-        put_head(integer_major(negative), number_of(digits), out)
-    } else {
-        put_long(negative, digits, out)
-    }
-}
-
-/// The integer of more than eight digits.
-///
-/// # Errors
-/// Memory was refused.
-fn put_long(negative: bool, digits: &[u8], out: &mut Vec<u8>) -> Result<(), AllocError>
-    requires shortest { IsShortest digits.now }
-    requires long { 8 < length digits.now }
-    ensures { OnOk result (Appends (IsInteger negative digits.now) out.old.items out.new.items) }
-{
-    put_tag(negative, out)?;
-    put_head(Major::ByteString, digits.len() as u64, out)?;
-    out.extend_from_slice(digits)?;
-    Ok(())
-}
-
-/// Tag 2, or 3 where negative.
-///
-/// # Errors
-/// Memory was refused.
-fn put_tag(negative: bool, out: &mut Vec<u8>) -> Result<(), AllocError>
-    ensures { OnOk result (Appends (IsLeastHead 6 (bignum_tag negative)) out.old.items out.new.items) }
-{
-    if negative {
-        put_head(Major::Tag, 3, out)
-    } else {
-        put_head(Major::Tag, 2, out)
-    }
+    push_integer(negative, &digits, out)
 }

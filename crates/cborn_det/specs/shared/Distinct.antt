@@ -1,5 +1,5 @@
 -- A device of the proofs, here and in the crates above: no two entries of a map have the same key. No definition and no public contract cites it.
-use Rattle.std.specs.Prelude.{◌≡◌, ℕ, List, [], ◌∷◌, ⊤}
+use Rattle.std.specs.Prelude.{◌≡◌, List, [], ◌∷◌, ⊤}
 use Rattle.std.specs.List.{AllByRecursion}
 use Rattle.cborn_det.specs.Det.{Entry}
 

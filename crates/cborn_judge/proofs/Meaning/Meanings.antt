@@ -13,7 +13,7 @@ use Rattle.cborn_model.specs.declared.heads.Major.TheVariants.{ByteString, TextS
 use Rattle.cborn_model.specs.Heads.{Given, EndlessArgument, head, argument}
 use Rattle.cborn_model.specs.declared.nodes.Chunk.{Chunk}
 use Rattle.cborn_model.specs.Tree.{Tree, Uint, Nint, Bytes, Text, ByteChunks, TextChunks, Items, Pairs, Tagged, Simple, Trees, no_item, more, Entries, no_entry, entry, count, count_entries, depth, depth_all, depth_entries}
-use Rattle.cborn_model.specs.declared.heads.Size.TheVariants.{Fixed, Endless}
+use Rattle.cborn_model.specs.declared.heads.Size.TheVariants.{Endless}
 use Rattle.cborn_model.specs.Spelled.{ending, chunk_bytes, spelled, spelled_all, spelled_entries, Fits, FitsAll, FitsEntries}
 use Rattle.cborn_judge.specs.Flaws.{Within, WithinAll, WithinEntries, IsWord}
 use Rattle.cborn_det.proofs.Room.{length_of_chunks, no_more, counted, counted_pairs}

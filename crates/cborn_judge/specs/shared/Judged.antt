@@ -1,6 +1,5 @@
 -- A device of the proofs: what the parts of the judge answer. No public contract cites it.
-use Rattle.std.specs.Prelude.{◌≡◌, ℕ, ◌^◌, ◌<◌, ◌⊎◌, Bool, List, length, Option, None, Some}
-use Rattle.cborn_model.specs.Bytes.{AreBytes, IsShortest, big_endian}
+use Rattle.std.specs.Prelude.{◌≡◌, ℕ, ◌⊎◌, Bool, List, Option, None, Some}
 use Rattle.cborn_model.specs.First.{IsFirst}
 use Rattle.cborn_model.specs.ItemView.{item_value}
 use Rattle.cborn_model.specs.Meaning.{IsByteString, IsBignum, Means}
@@ -72,13 +71,6 @@ IsBignumItem negative t (Some item) = IsBignum negative t (item_value item) × I
 abbrev pub IsFirstWith : flaw.Flaw → Judged → flaw.Flaw → Type 0
 IsFirstWith f (judged.Valid item) g = g ≡ f
 IsFirstWith f (judged.Flawed next) g = IsEarlierFlaw f next g
-
--- the bytes of the big-endian number of b, without leading zeros
-pub record IsMagnitudeOf (b m : List ℕ) : Type 0 where
-  pub bytes : AreBytes m
-  pub shortest : IsShortest m
-  pub number : big_endian m ≡ big_endian b
-  pub short : length m < 2 ^ 64
 
 -- a key and its value fit
 abbrev pub PairFits : Tree × Tree → Type 0

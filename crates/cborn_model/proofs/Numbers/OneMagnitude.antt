@@ -1,5 +1,5 @@
 -- A number has one magnitude without leading zeros.
-use Rattle.std.proofs.Common.{◌≡◌, ℕ, suc, ◌+◌, ◌*◌, ◌<◌, ◌≤◌, ◌^◌, inl, inr, List, [], ◌∷◌, length, refl, sym, ap, subst, arith, true, false, Bool, pow-suc, lit<, add-one, ◌∙◌, ◌↔◌, IsTrue, drop, get_or, mul-le-mul_right}
+use Rattle.std.proofs.Common.{◌≡◌, ℕ, suc, ◌+◌, ◌*◌, ◌<◌, ◌≤◌, ◌^◌, inl, inr, List, [], ◌∷◌, length, refl, sym, ap, subst, arith, true, false, Bool, pow-suc, lit<, ◌↔◌, IsTrue, drop, get_or, mul-le-mul_right}
 use Rattle.std.proofs.lemmas.Bool.{cases_lt}
 use Rattle.std.proofs.lemmas.List.{drop_more}
 use Rattle.std.proofs.Math.Nat.{pow-le-pow_right}
@@ -60,9 +60,6 @@ one_number true false m n e = cc
 one_number false true m n e = cc
 one_number false false m n e = (refl, cc)
 
-pub times_below : (n b i : ℕ) → n < 256 ^ i → b < 256 → n * 256 + b < 256 ^ (i + 1)
-times_below n b i h l = rw (add-one) (rw pow-suc (omega arith))
-
 pub fits_in : (n i : ℕ) → n < 256 ^ i → i ≤ 8 → n < 2 ^ 64
 fits_in n i h l = let m : 256 ^ i ≤ 256 ^ 8 = pow-le-pow_right (lit< tt) l in omega arith
 
@@ -83,7 +80,6 @@ large (b ∷ bs) s l =
     let top : 1 * 256 ^ length bs ≤ b * 256 ^ length bs = mul-le-mul_right (256 ^ length bs) s in
     omega (arith, m, top)
 
--- so equal magnitudes are equal lists, under whatever names a test has them
-pub equal_magnitudes : (cs bs xs ys : List ℕ) (r : Bool) → (IsTrue r ↔ xs ≡ ys) → xs ≡ cs → ys ≡ bs → AreBytes cs → AreBytes bs → IsShortest cs → IsShortest bs → (IsTrue r ↔ big_endian cs ≡ big_endian bs)
-equal_magnitudes cs bs xs ys r f p q h k s t =
-    (λ y. ap big_endian (sym p ∙ f.0 y ∙ q), λ e. f.1 (p ∙ one_magnitude cs bs h k s t e ∙ sym q))
+-- so equal magnitudes are equal lists
+pub equal_magnitudes : (cs bs : List ℕ) (r : Bool) → (IsTrue r ↔ cs ≡ bs) → AreBytes cs → AreBytes bs → IsShortest cs → IsShortest bs → (IsTrue r ↔ big_endian cs ≡ big_endian bs)
+equal_magnitudes cs bs r f h k s t = (λ y. ap big_endian (f.0 y), λ e. f.1 (one_magnitude cs bs h k s t e))

@@ -1,12 +1,9 @@
 -- Each number has a magnitude without leading zeros.
-use Rattle.std.proofs.Common.{◌≡◌, ℕ, suc, ◌+◌, ◌*◌, ◌<◌, ◌^◌, inl, inr, List, [], ◌∷◌, length, get_or, ap, sym, subst, ◌∙◌, arith, pow-suc, lit<, w64, ◌≤◌, drop, length-drop, mul-le-mul_right}
+use Rattle.std.proofs.Common.{◌≡◌, ℕ, suc, ◌+◌, ◌*◌, ◌<◌, ◌^◌, inl, inr, List, [], ◌∷◌, length, get_or, ap, sym, subst, arith, pow-suc, lit<, ◌≤◌, drop, length-drop, mul-le-mul_right}
 use Rattle.std.proofs.Math.Nat.{pow-le-pow_right}
-use Rattle.std.specs.Int.{to_be_bytes, from_be_bytes}
-use Rattle.std.proofs.lemmas.Nat.{from_be_bytes-to_be_bytes_8}
-use Rattle.cborn_model.proofs.Numbers.OneMagnitude.{one_magnitude}
 use Rattle.std.proofs.lemmas.Bool.{cases_lt}
 use Rattle.std.specs.Int.Digits.{number_from_digits_after, digits_of}
-use Rattle.std.proofs.lemmas.Int.Digits.{all_below_base_digits_of, first_digits_of, number_digits_of, length-digits_of-le}
+use Rattle.std.proofs.lemmas.Int.Digits.{all_below_base_digits_of, first_digits_of, number_digits_of}
 use Rattle.cborn_model.specs.Bytes.{big_endian, AreBytes, IsShortest}
 
 -- Horner's sum and the sum of powers are one number.
@@ -22,38 +19,24 @@ shortest_first : (m : List ℕ) → 0 < get_or m 0 0 → IsShortest m
 shortest_first [] h = tt
 shortest_first (b ∷ bs) h = h
 
-pub digits_are_bytes : (n : ℕ) → AreBytes (digits_of 256 n)
+digits_are_bytes : (n : ℕ) → AreBytes (digits_of 256 n)
 digits_are_bytes n = all_below_base_digits_of 256 n (omega arith)
 
-pub digits_are_shortest : (n : ℕ) → IsShortest (digits_of 256 n)
+digits_are_shortest : (n : ℕ) → IsShortest (digits_of 256 n)
 digits_are_shortest n =
     elim (cases_lt 0 n) [
       | inl h ↦ shortest_first (digits_of 256 n) (first_digits_of 256 n (omega arith) h)
       | inr h ↦ let z : n ≡ 0 = omega arith in subst (λ k. IsShortest (digits_of 256 k)) (sym z) tt
     ]
 
-pub number_of_digits : (n : ℕ) → big_endian (digits_of 256 n) ≡ n
+number_of_digits : (n : ℕ) → big_endian (digits_of 256 n) ≡ n
 number_of_digits n =
     let e = horner 0 (digits_of 256 n) in
     let k = number_digits_of 256 n (omega arith) in
     omega arith
 
-pub digits_are_few : (n : ℕ) → n < 2 ^ 64 → length (digits_of 256 n) ≤ 8
-digits_are_few n h = length-digits_of-le 256 8 n (omega arith) h
-
 pub magnitude_of : (n : ℕ) → (m : List ℕ) × AreBytes m × IsShortest m × (big_endian m ≡ n)
 magnitude_of n = (digits_of 256 n, digits_are_bytes n, digits_are_shortest n, number_of_digits n)
-
--- the digits are the one list without leading zeros
-pub digits_of_shortest : (n : ℕ) (m : List ℕ) → AreBytes m → IsShortest m → big_endian m ≡ n → m ≡ digits_of 256 n
-digits_of_shortest n m h s e =
-    one_magnitude m (digits_of 256 n) h (digits_are_bytes n) s (digits_are_shortest n) (e ∙ sym (number_of_digits n))
-
-eight_digits : (a b c d e f g h : ℕ) → from_be_bytes w64 (a ∷ b ∷ c ∷ d ∷ e ∷ f ∷ g ∷ h ∷ []) ≡ big_endian (a ∷ b ∷ c ∷ d ∷ e ∷ f ∷ g ∷ h ∷ [])
-eight_digits a b c d e f g h = omega arith
-
-pub number_of_eight : (n : ℕ) → n < 2 ^ 64 → big_endian (to_be_bytes w64 n) ≡ n
-number_of_eight n h = sym (eight_digits _ _ _ _ _ _ _ _) ∙ from_be_bytes-to_be_bytes_8 n h
 
 -- with a byte left, a number of more than 56 bits has more than 64
 pub number_above : (bs : List ℕ) (i n : ℕ) → i < length bs → 2 ^ 56 ≤ n → n * 256 ^ length (drop i bs) + big_endian (drop i bs) ≡ big_endian bs → 2 ^ 64 ≤ big_endian bs

@@ -7,19 +7,18 @@ use Rattle.cborn_judge.proofs.FirstFlaw.Pairing as pairs
 use Rattle.cborn_judge.proofs.FirstFlaw.Pairing.{kept_valid, kept_flawed, kept-take_more}
 use Rattle.cborn_judge.proofs.FirstFlaw.Tagging.{plain_flawed, bad_judged}
 use Rattle.cborn_judge.proofs.FirstFlaw.Walking.{valid-take_more, flawed-take_more, all_valid, some_flawed}
-use Rattle.cborn_judge.proofs.Meaning.Meanings.{number_valid}
 use Rattle.cborn_judge.proofs.judgments.+judged.Goals as goal
-use Rattle.cborn_judge.proofs.judgments.+judged.Goals.{judge_items-in-Uint+in_ok-push-in-Uint, judge_items-in-Nint+in_ok-push-in-Nint, judge_items-in_default+in_ok-item-in_default+in-Valid+in_ok-push-in-Valid, judge_items-in_default+in_ok-item-in_default+in-Flawed, judge_key-in-Valid+in_ok-push, judge_key-in_default, judge_pairs-in-Valid+in_ok-push-in-Valid, judge_pairs-in-Flawed, judge_tagged-then-number-eq2-via-then-number-eq2, judge_tagged-then-number-eq2-via-else-number-eq2+then-number-eq3}
+use Rattle.cborn_judge.proofs.judgments.+judged.Goals.{judge_items-in-Uint+in_ok-small_integer-in-Uint+in_ok-push-in-Uint, judge_items-in-Nint+in_ok-small_integer-in-Nint+in_ok-push-in-Nint, judge_items-in_default+in_ok-item-in_default+in-Valid+in_ok-push-in-Valid, judge_items-in_default+in_ok-item-in_default+in-Flawed, judge_key-in-Valid+in_ok-push, judge_key-in_default, judge_pairs-in-Valid+in_ok-push-in-Valid, judge_pairs-in-Flawed, judge_tagged-then-number-eq2-via-then-number-eq2, judge_tagged-then-number-eq2-via-else-number-eq2+then-number-eq3}
 
 pub judge_items-loop-node-preserved : goal.judge_items-loop-node-preserved
 judge_items-loop-node-preserved t c =
     elim c.match-node.branch [
-      | judge_items-in-Uint+in_ok-push-in-Uint w ↦
-          let means : MeansItem c.node-item.result w.small_integer.result = rw (← c.node.view_is, w.in-Uint.is) (w.small_integer.ensures, number_valid _ w.in-Uint.n _ w.small_integer.ensures (search rules)) in
-          rw w.first-is (valid-take_more c.args.nodes.now c.loop-node.node-index c.node-item.result c.loop-node.first c.loop-node.items.items c.match-node.items.items w.small_integer.result (omega arith) c.node-item.is c.loop-node.invariant means (search rules))
-      | judge_items-in-Nint+in_ok-push-in-Nint w ↦
-          let means : MeansItem c.node-item.result w.small_integer-in-Nint.result = rw (← c.node.view_is, w.in-Nint.is) (w.small_integer-in-Nint.ensures, number_valid _ w.in-Nint.n _ w.small_integer-in-Nint.ensures (search rules)) in
-          rw w.first-is (valid-take_more c.args.nodes.now c.loop-node.node-index c.node-item.result c.loop-node.first c.loop-node.items.items c.match-node.items.items w.small_integer-in-Nint.result (omega arith) c.node-item.is c.loop-node.invariant means (search rules))
+      | judge_items-in-Uint+in_ok-small_integer-in-Uint+in_ok-push-in-Uint w ↦
+          let means : MeansItem c.node-item.result w.in_ok-small_integer-in-Uint.field-0 = rw (← c.node.view_is, w.in-Uint.is) w.in_ok-small_integer-in-Uint.ensures in
+          rw w.first-is (valid-take_more c.args.nodes.now c.loop-node.node-index c.node-item.result c.loop-node.first c.loop-node.items.items c.match-node.items.items w.in_ok-small_integer-in-Uint.field-0 (omega arith) c.node-item.is c.loop-node.invariant means (search rules))
+      | judge_items-in-Nint+in_ok-small_integer-in-Nint+in_ok-push-in-Nint w ↦
+          let means : MeansItem c.node-item.result w.in_ok-small_integer-in-Nint.field-0 = rw (← c.node.view_is, w.in-Nint.is) w.in_ok-small_integer-in-Nint.ensures in
+          rw w.first-is (valid-take_more c.args.nodes.now c.loop-node.node-index c.node-item.result c.loop-node.first c.loop-node.items.items c.match-node.items.items w.in_ok-small_integer-in-Nint.field-0 (omega arith) c.node-item.is c.loop-node.invariant means (search rules))
       | judge_items-in_default+in_ok-item-in_default+in-Valid+in_ok-push-in-Valid w ↦
           rw w.first-is (valid-take_more c.args.nodes.now c.loop-node.node-index c.node-item.result c.loop-node.first c.loop-node.items.items c.match-node.items.items w.in-Valid.item (omega arith) c.node-item.is c.loop-node.invariant (subst (IsJudged c.node-item.result) w.in-Valid.is w.in_ok-item-in_default.ensures) (search rules))
       | judge_items-in_default+in_ok-item-in_default+in-Flawed w ↦
@@ -33,11 +32,11 @@ pub judge_items-returns-in-None : goal.judge_items-returns-in-None
 judge_items-returns-in-None t c p s =
     rw c.new.ensures (all_valid p s c.args.nodes.now c.loop-node.node-index c.loop-node.first c.loop-node.items.items (omega arith) (search rules) c.loop-node.invariant c.in-None.is)
 
-pub judge_node-returns-in-Uint : goal.judge_node-returns-in-Uint
-judge_node-returns-in-Uint t c = rw (← c.node.view_is, c.in-Uint.is) (c.small_integer.ensures, number_valid _ c.in-Uint.n _ c.small_integer.ensures (search rules))
+pub judge_node-returns-in_ok-small_integer-in-Uint : goal.judge_node-returns-in_ok-small_integer-in-Uint
+judge_node-returns-in_ok-small_integer-in-Uint t c = rw (← c.node.view_is, c.in-Uint.is) c.in_ok-small_integer-in-Uint.ensures
 
-pub judge_node-returns-in-Nint : goal.judge_node-returns-in-Nint
-judge_node-returns-in-Nint t c = rw (← c.node.view_is, c.in-Nint.is) (c.small_integer-in-Nint.ensures, number_valid _ c.in-Nint.n _ c.small_integer-in-Nint.ensures (search rules))
+pub judge_node-returns-in_ok-small_integer-in-Nint : goal.judge_node-returns-in_ok-small_integer-in-Nint
+judge_node-returns-in_ok-small_integer-in-Nint t c = rw (← c.node.view_is, c.in-Nint.is) c.in_ok-small_integer-in-Nint.ensures
 
 pub judge_items-judge_node-requires : goal.judge_items-judge_node-requires
 judge_items-judge_node-requires t c = (omega (arith, depth_of_item c.args.nodes.now c.loop-node.node-index c.node-item.result (omega arith) c.node-item.is), fits_at c.args.nodes.now c.loop-node.node-index c.node-item.result (omega arith) c.node-item.is c.requires)
