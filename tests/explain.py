@@ -6,14 +6,19 @@
 Of each input the first line and the status have to be the same with --explain and without it, and the path has to lead to
 the place of the first line: a walker of its own, over bytes or tokens, says which path stands there. Of bytes that are
 well-formed the path is also followed in the notation that `show` writes, to the text that `show` writes of the part alone.
+
+Then compare random inputs, and again what they are with what `normalise` makes of them. The path has to lead to where the
+deterministic encodings of tests/reading.py, or the bytes, first differ, and in each input the place to what is told of it.
 """
 import pathlib
+import os
 import random
 import re
 import sys
+import tempfile
 
 import shared
-from reading import head
+from reading import Bytes, canonical, head
 
 SEED = 8949
 # the end of a path whose further steps aren't known
@@ -272,6 +277,187 @@ def with_texts(served, those):
             yield ["normalise", "--from", "notation"], mutated(random.Random(content), shown.stdout)
 
 
+# what `compare` tells of a side: of bytes the offset, of a text line and column too
+SIDE = re.compile(r"(?:\[(?P<index>\d+)\] )?(?:of the (?P<of>first|second) )?at (?:\d+:\d+ \()?offset (?P<place>\d+)\)?: (?P<what>.*)")
+AROUND = re.compile(r"^(?:the key |an? (?:array|map) of \d+: )?(.*?)(?:, which the (?:first|second|other map) lacks)?$")
+
+
+def first_difference(left, right):
+    """How many bytes two byte strings have in common at their start."""
+    return next((at for at, (ours, theirs) in enumerate(zip(left, right)) if ours != theirs), min(len(left), len(right)))
+
+
+def to_key(path):
+    """A path up to the first key on it."""
+    item, steps = path
+    keys = [at + 1 for at, (kind, _) in enumerate(steps) if kind == "key"]
+    return item, steps[: keys[0]] if keys else steps
+
+
+def place_of(content, path):
+    """Where the part begins that a path leads to."""
+    return next(place for place in range(len(content) + 1) if path_in_bytes(content, place) == path)
+
+
+def fixed(served, content, *words):
+    """The fixed notation of the deterministic encoding of an item, as it is quoted."""
+    return served.run(["normalise", "--to", "notation", *words], content).stdout.decode().removesuffix("\n").replace("\u202e", "\\u202e")
+
+
+def named(served, content, path):
+    """The line of a path, with the keys of pairs in the place of their indexes."""
+    item, steps = path
+    texts = [f"item {item}"]
+    for at, (kind, number) in enumerate(steps):
+        text = {"array": f"[{number}]", "tag": f"{number}()", "chunk": f"(_ #{number})", "key": "{key}"}.get(kind)
+        if kind == "value":
+            key = place_of(content, (item, [*steps[:at], ("key", number)]))
+            text = "{%s}" % fixed(served, content[key : end_of(content, key)])
+        times = 1
+        if texts[-1].split("*")[0] == text:
+            last = texts.pop()
+            times += int(last[len(text) + 1 :] or 1)
+        texts.append(f"{text}*{times}" if times > 1 else text)
+    return " ".join(texts)
+
+
+def told_part(served, content, is_text, line):
+    """The part of an input that a line of `compare` tells of: its place, where it ends, and whether the line says what it is."""
+    found = SIDE.fullmatch(line)
+    place, told = int(found["place"]), AROUND.match(found["what"])[1]
+    if is_text:
+        end = parsed(content.decode(), len(content[:place].decode()))[1]
+        item = fixed(served, content.decode()[len(content[:place].decode()) : end].encode(), "--from", "notation")
+    else:
+        item = fixed(served, content[place : end_of(content, place)])
+    return place, told == item or ".." in told or len(item) > 40
+
+
+def difference_faults(served, files, is_text, told):
+    """What is wrong with where two inputs are told to differ. The second may be the text of bytes."""
+    encodings = [b"".join(canonical(content)) for content in files]
+    at = first_difference(*encodings)
+    wanted = named(served, encodings[0], to_key(path_in_bytes(encodings[0], at)))
+    path = told["path"][0]
+    if ".." in path or len(wanted) > 40:
+        return
+    if path != wanted:
+        yield f"the path is {path}, not {wanted}"
+    for name, content, text in zip(("first", "second"), files, (None, is_text)):
+        lines = [line for label in (name, "part", "key") for line in told.get(label, []) if label == name or f"of the {name} " in line]
+        for line in lines:
+            if line.startswith("nothing: the items end at"):
+                if not text and int(line.split()[-1]) != len(content):
+                    yield f"{line}, and not {len(content)}"
+                continue
+            if not SIDE.fullmatch(line):
+                yield f"no place: {line}"
+                continue
+            place, is_right = told_part(served, text or content, bool(text), line)
+            if not is_right:
+                yield f"there isn't what is told: {line}"
+            index, own_line = SIDE.fullmatch(line)["index"], line is lines[0]
+            inside = "" if own_line else " {key}" if index is None else f" [{index}]"
+            there = None if text else named(served, content, to_key(path_in_bytes(content, place)))
+            if there and there != path + inside and "*" not in there:
+                yield f"at {place} is {there}, not {path}{inside}"
+    for kind, label in (("an array of", "part"), ("a map of", "key")):
+        if all(f": {kind}" in told[name][0] for name in ("first", "second")) and not told.get(label):
+            yield f"no line on a {label}"
+
+
+def spelling_faults(files, text, told):
+    """What is wrong with where the bytes of two inputs that are the same are told to differ. The second may be a text."""
+    path = path_in_bytes(files[0], first_difference(*files))
+    wanted = to_key(path) if told.get("why") else path
+    if told_path(told["path"][0]) != wanted:
+        yield f"the path is {told['path'][0]}, not {wanted}"
+        return
+    for name, content, own_text in zip(("first", "second"), files, (None, text)):
+        found = SIDE.fullmatch(told[name][0])
+        place, (quoted, _, how) = int(found["place"]), found["what"].partition(", ")
+        if own_text:
+            before = own_text[:place].decode()
+            # the end of the chunks is told at the string
+            if path_in_text(before, len(before)) != wanted and how != "the end of the chunks":
+                yield f"in the text there isn't what is told: {told[name][0]}"
+            place = place_of(content, wanted)
+        if place != place_of(content, wanted) or not content[place:].startswith(bytes.fromhex(quoted.removesuffix(" .."))):
+            yield f"there isn't what is told: {told[name][0]}"
+        reader = Bytes(content)
+        reader.items()
+        defects = {(place, words) for place, _, words in reader.defects}
+        for words, defect in (("a long head", "long head"), ("an indefinite", "indefinite length"), ("a bignum that", "loose bignum")):
+            if how.startswith(words) and (place, defect) not in defects:
+                yield f"no {defect} at {place}"
+
+
+def comparison_faults(served, folder, files, is_notation):
+    """What is wrong with how `compare` explains two inputs, the second as a text if asked for."""
+    text = served.run(["show"], files[1]).stdout if is_notation else None
+    for name, content in zip("ab", (files[0], text or files[1])):
+        with open(os.path.join(folder, name), "wb") as file:
+            file.write(content)
+    words = ["compare", *(["--from-b", "notation"] if text else [])]
+    plain, explained = (served.run([*words, *more, "a", "b"], folder=folder) for more in ([], ["--explain"]))
+    if plain.status not in (0, 1):
+        return
+    if (explained.stdout, explained.status) != (plain.stdout, plain.status) or plain.stderr:
+        yield f"with the option {explained}, without {plain}"
+    told = {}
+    for line in explained.stderr.decode().splitlines():
+        label, rest = line.split(maxsplit=1)
+        told.setdefault(label, []).append(rest)
+    if bool(told) != (files[0] != files[1]):
+        yield f"it is told {told}"
+    elif plain.status:
+        yield from difference_faults(served, files, text, told)
+    elif told:
+        yield from spelling_faults(files, text, told)
+
+
+def changed(choice, parts):
+    """The same parts with one put in, left out or replaced, or all of them shuffled."""
+    at, how = choice.randrange(len(parts) + 1), choice.randrange(5)
+    if how == 4:
+        return choice.sample(parts, len(parts))
+    return parts[:at] + [random_item(choice, 1)] * (how != 1) + parts[at + (how > 0) :]
+
+
+def pairs_of_inputs(choice, count):
+    """Two inputs that are alike but for the parts of one array or map, and whether the second shall be a text."""
+    for _ in range(count):
+        major, around = choice.choice([4, 5]), choice.randrange(4)
+        before, after, key = (random_item(choice, 1) for _ in range(3))
+        parts = [random_item(choice, 2) for _ in range(choice.randrange(5))]
+        values = [random_item(choice, 0) for _ in range(6)] if major == 5 else [b""] * 6
+        inputs = []
+        for own in (parts, changed(choice, parts)):
+            inside = container(choice, major, [part + value for part, value in zip(own, values)], None)
+            if around == 1:
+                inside = container(choice, 4, [before, inside, after], None)
+            elif around == 2:
+                inside = container(choice, 5, [after + before, key + head(6, 99) + inside], None)
+            elif around == 3:
+                inside = before + inside + after
+            inputs.append(inside)
+        yield inputs, not choice.randrange(3)
+
+
+def compared(library, program, those):
+    """The same of pairs of inputs, each way round, and of each with what is the same in other bytes."""
+    passed = failed = 0
+    lines = []
+    with shared.Served(library, program) as served, tempfile.TemporaryDirectory() as folder:
+        for (left, right), is_text in those:
+            in_order = [served.run(["normalise", "--order", order], left).stdout for order in ("bytewise", "length-first")]
+            for files in ([left, right], [right, left], *([left, other] for other in in_order)):
+                wrong = list(comparison_faults(served, folder, files, is_text))
+                passed, failed = (passed, failed + 1) if wrong else (passed + 1, failed)
+                lines += [f"compare {files[0].hex()} {files[1].hex()} {'in notation' * is_text}: {line}" for line in wrong]
+    return passed, failed, lines
+
+
 def tried(library, program, those):
     """Some command lines: how many passed and failed, and what is wrong."""
     passed = failed = 0
@@ -289,6 +475,8 @@ def main():
     count = int(sys.argv[2]) if len(sys.argv) > 2 else COUNT
     with shared.library("serve.c") as library:
         passed, failed, lines = shared.over_processors(tried, inputs(random.Random(SEED), count), library, program, at_once=64)
+        pairs = shared.over_processors(compared, pairs_of_inputs(random.Random(SEED), count), library, program, at_once=64)
+    passed, failed, lines = passed + pairs[0], failed + pairs[1], lines + pairs[2]
     print(*lines, f"{passed} explanations passed, {failed} failed", sep="\n")
     return 1 if failed or not passed else 0
 

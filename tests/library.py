@@ -394,8 +394,8 @@ class AsProgram:
     def differences(self, case):
         """What is wrong with what it does. Its help, and what it says of a wrong command line, are its own."""
         outcome = case.run(self.path)
-        if case.words[:1] == ["compare"] and "--explain" in case.words and case.status == 1:
-            # the library doesn't say where two inputs differ, only what they look like
+        if case.words[:1] == ["compare"] and "--explain" in case.words and case.status < 2:
+            # the library doesn't say where two inputs differ, in items or bytes, only what they look like
             case = copy.copy(case)
             said = b"".join(text for _, text in case.wanted["stderr"]).splitlines(keepends=True)
             case.wanted = {**case.wanted, "stderr": [(False, b"".join(line for line in said if line.startswith(b"  hint ")))]}

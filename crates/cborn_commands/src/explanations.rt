@@ -1,10 +1,10 @@
 //! What `--explain` adds to a refusal, a defect or a difference.
 
 use cborn_edn::{EdnFault, ShowFault};
-use cborn_engine::{EngineFault, Kind, OneFault, normalise_slice};
+use cborn_engine::{EngineFault, Kind, OneFault, normalise_slice, show_slice};
 use cborn_explain::{
-    BytesReason, CountReason, NotationText, TextReason, explain_bytes, explain_difference,
-    explain_text, hint_of,
+    BytesReason, Compared, CountReason, NotationText, TextReason, explain_bytes,
+    explain_difference, explain_same, explain_text, hint_of,
 };
 use cborn_lex::{LexFault, Profile};
 use cborn_model::{Defect, Invalid, InvalidReason, KeyOrder, Limit};
@@ -50,17 +50,19 @@ pub fn explain_defect(
     explain_bytes(alloc, limit, input?, defect.place, reason)
 }
 
-/// Lines that say where two compared inputs differ, with the keys of maps in the order `O`.
+/// Lines that say where two compared inputs differ, with the keys of maps in the order `O`: in their
+/// items, or where they are the same, in how these are encoded.
 ///
 /// # Errors
 /// `AllocError` where memory is refused, or was for the bytes of an input.
-pub fn explain_index<O: KeyOrder>(
+pub fn explain_comparison<O: KeyOrder>(
     alloc: Global,
     limit: Limit,
     kinds: (Kind, Kind),
     inputs: (Bytes<'_>, Bytes<'_>),
+    are_same: bool,
 ) -> Result<String, AllocError> {
-    match difference::<O>(alloc, limit, kinds, inputs) {
+    match compared_lines::<O>(alloc, limit, kinds, (inputs.0?, inputs.1?), are_same) {
         Ok(text) => Ok(text),
         Err(EngineFault::OutOfMemory) => Err(AllocError),
         // a compared input isn't refused
@@ -146,17 +148,46 @@ fn of_text(kind: Kind, reason: TextReason, place: u64) -> Reason {
     Reason::Text(profile, reason, place)
 }
 
-/// Lines that say where the items of two inputs differ.
+/// What [`explain_comparison`] gives of two inputs.
 ///
 /// # Errors
 /// `OutOfMemory`, and the fault of an input that is refused.
-fn difference<O: KeyOrder>(
+fn compared_lines<O: KeyOrder>(
     alloc: Global,
     limit: Limit,
     kinds: (Kind, Kind),
-    inputs: (Bytes<'_>, Bytes<'_>),
+    (first, second): (&[u8], &[u8]),
+    are_same: bool,
 ) -> Result<String, EngineFault> {
-    let ours = normalise_slice::<O>(alloc, limit, kinds.0, Kind::Wire, inputs.0?)?;
-    let theirs = normalise_slice::<O>(alloc, limit, kinds.1, Kind::Wire, inputs.1?)?;
-    Ok(explain_difference::<O>(alloc, limit, &ours, &theirs)?)
+    let our_bytes = show_slice(alloc, limit, kinds.0, Kind::Wire, first)?;
+    let their_bytes = show_slice(alloc, limit, kinds.1, Kind::Wire, second)?;
+    let ours = compared(kinds.0, first, &our_bytes);
+    let theirs = compared(kinds.1, second, &their_bytes);
+    if are_same {
+        return Ok(explain_same(alloc, limit, ours, theirs)?);
+    }
+    let first = normalise_slice::<O>(alloc, limit, kinds.0, Kind::Wire, first)?;
+    let second = normalise_slice::<O>(alloc, limit, kinds.1, Kind::Wire, second)?;
+    let inputs = (ours, theirs);
+    Ok(explain_difference::<O>(alloc, limit, inputs, &first, &second)?)
+}
+
+/// An input that is compared, with the bytes that it spells.
+fn compared<'a>(kind: Kind, input: &'a [u8], spelled: &'a [u8]) -> Compared<'a> {
+    let profile = match kind {
+        Kind::Wire => return Compared {
+            spelled,
+            text: None,
+        },
+        Kind::Notation => Profile::One,
+        Kind::Notation2 => Profile::Two,
+    };
+    let text = NotationText {
+        profile,
+        text: input,
+    };
+    Compared {
+        spelled,
+        text: Some(text),
+    }
 }

@@ -1,7 +1,7 @@
 //! What standard error gets besides the line of a trouble: explanations, where they are asked for, and
 //! the hint that an input looks like a text. A person at a terminal gets the hint without asking.
 
-use crate::explanations::{explain_defect, explain_fault, explain_index, explain_kind};
+use crate::explanations::{explain_comparison, explain_defect, explain_fault, explain_kind};
 use crate::inputs::{Kept, Notes};
 use crate::lines::{Answer, Trouble, status_of_one};
 use crate::names::FileName;
@@ -166,9 +166,7 @@ impl<'a> Remarks<'a> {
     ) {
         match reported {
             Ok(status) => {
-                if status != DONE {
-                    self.on_difference::<O>(kinds, notes);
-                }
+                self.on_compared::<O>(kinds, notes, status == DONE);
                 self.on_kind(Side::First, kinds.0, notes.0);
                 self.on_kind(Side::Second, kinds.1, notes.1);
             }
@@ -218,10 +216,16 @@ impl<'a> Remarks<'a> {
         }
     }
 
-    fn on_difference<O: KeyOrder>(&mut self, kinds: (Kind, Kind), notes: (&Notes, &Notes)) {
+    /// Adds lines on where two inputs differ, in their items or in how these are encoded.
+    fn on_compared<O: KeyOrder>(
+        &mut self,
+        kinds: (Kind, Kind),
+        notes: (&Notes, &Notes),
+        are_same: bool,
+    ) {
         if let (Notes::Whole(first), Notes::Whole(second)) = notes {
             let inputs = (first.bytes(), second.bytes());
-            let lines = explain_index::<O>(self.alloc, self.limit, kinds, inputs);
+            let lines = explain_comparison::<O>(self.alloc, self.limit, kinds, inputs, are_same);
             self.add(lines);
         }
     }

@@ -2,7 +2,7 @@
 
 ghost use Rattle.std.specs.Prelude.{◌≤◌};
 
-use crate::byte_heads::{content_len, end_of_item, whole_head};
+use crate::byte_heads::{content_len, end_of_item, item_at, whole_head};
 use crate::byte_walks::Walk;
 use crate::items::{encoded_at, valid_at};
 use crate::order_causes::push_rule;
@@ -101,8 +101,7 @@ impl<'a> RefusedBytes<'a> {
 
     /// Writes the key at the place.
     fn push_key(&self, alloc: Global, out: &mut String) -> Result<(), AllocError> {
-        let end = end_of_item(alloc, self.bytes, self.walk.at)?;
-        let key = slice_of(self.bytes, self.walk.at, end);
+        let key = item_at(alloc, self.bytes, self.walk.at)?;
         push_item(alloc, self.limit, out, key)
     }
 
@@ -339,7 +338,7 @@ fn push_cut_head(out: &mut String, rest: &[u8], place: usize) -> Result<(), Allo
 }
 
 /// `one` where the count is 1, else `more`.
-fn counted<'a>(count: u64, one: &'a str, more: &'a str) -> &'a str {
+pub(crate) fn counted<'a>(count: u64, one: &'a str, more: &'a str) -> &'a str {
     if count == 1 { one } else { more }
 }
 
@@ -433,7 +432,7 @@ fn push_long_head(out: &mut String, rest: &[u8]) -> Result<(), AllocError> {
 }
 
 /// Writes the shortest head of this major type with this argument.
-fn push_shortest(out: &mut String, major: Major, n: u64) -> Result<(), AllocError> {
+pub(crate) fn push_shortest(out: &mut String, major: Major, n: u64) -> Result<(), AllocError> {
     let number = major.number();
     if number > 6 {
         return write!(out, "{n:02x}");

@@ -32,6 +32,18 @@ pub(crate) fn content_len(head: Head) -> u64 {
     }
 }
 
+/// The content of the string that some bytes begin with. Empty where they begin with none, or its
+/// length is indefinite.
+pub(crate) fn content_of(bytes: &[u8]) -> &[u8] {
+    match whole_head(bytes) {
+        Some((head, len)) => {
+            let start = len.saturating_sub(content_len(head) as usize);
+            bytes.get(start..len).unwrap_or(&[])
+        }
+        None => &[],
+    }
+}
+
 /// Where the item at `at` ends: an offset in bytes from the start of `bytes`. Where no whole item
 /// begins there, it is the offset of the first head that isn't whole or isn't allowed. Where `at`
 /// is beyond the end, it is the length.
@@ -53,4 +65,13 @@ pub(crate) fn end_of_item(alloc: Global, bytes: &[u8], at: usize) -> Result<usiz
             Ok(at + walk.at)
         }
     }
+}
+
+/// The bytes of the item that begins at an offset. Empty where there is none.
+///
+/// # Errors
+/// `AllocError` where memory for what is open is refused.
+pub(crate) fn item_at(alloc: Global, bytes: &[u8], at: usize) -> Result<&[u8], AllocError> {
+    let end = end_of_item(alloc, bytes, at)?;
+    Ok(bytes.get(at..end).unwrap_or(&[]))
 }

@@ -70,6 +70,19 @@ impl Walk {
         self.levels.last().copied().unwrap_or_default()
     }
 
+    /// The offset of the item that the next head is of: of the string where it is of a chunk, and of the
+    /// bignum where it is of its bytes.
+    pub(crate) fn item_place(&self) -> usize {
+        let mut place = self.at;
+        for level in self.levels.iter().rev() {
+            if !holds_parts(level.kind) {
+                break;
+            }
+            place = level.place as usize;
+        }
+        place
+    }
+
     /// The offsets in bytes at which the last key begins and ends in the level with this index,
     /// a map in which a value is next.
     pub(crate) fn key_at(&self, index: usize) -> (usize, usize) {
@@ -92,6 +105,15 @@ fn had_memory(read: Result<usize, WireFault>) -> Result<(), AllocError>
     match read {
         Err(WireFault::OutOfMemory) => Err(AllocError),
         _ => Ok(()),
+    }
+}
+
+/// Whether a level holds chunks of a string or the bytes of a bignum, which are no items of their own.
+pub(crate) fn holds_parts(kind: LevelKind) -> bool {
+    match kind {
+        LevelKind::Chunks(_, _) => true,
+        LevelKind::Tag(number) => number == 2 || number == 3,
+        _ => false,
     }
 }
 

@@ -3,13 +3,16 @@
 ghost use Rattle.std.specs.Prelude.{◌≡◌, [], IfOk};
 ghost use Rattle.std.specs.String.{string_bytes};
 
-use crate::byte_heads::{end_of_item, whole_head};
-use crate::first_differences::walk_to_difference;
-use crate::notes::push_path;
+use crate::byte_causes::counted;
+use crate::byte_heads::{content_of, end_of_item, item_at, whole_head};
+use crate::byte_walks::Walk;
+use crate::compared_parts::{Compared, Part};
+use crate::first_differences::{Difference, common_len, walk_to_difference};
+use crate::path_lines::{BytesPath, Pairs};
 use crate::paths::Step;
 use crate::quotes::{push_hex, push_item, slice_of};
 use cborn_model::{KeyOrder, Limit, Major};
-use cborn_wire::Argument;
+use cborn_wire::{Argument, LevelKind};
 use std::alloc::{AllocError, Global};
 use std::cmp::Ordering;
 
@@ -17,156 +20,328 @@ use std::cmp::Ordering;
 /// are cut to the same text.
 const REST: usize = 8;
 
-/// Lines that say where two deterministic encodings first differ, with the keys of maps in the
-/// order `O`: the path to that place, or to the outermost key around it, and what each input has
-/// there. The path is the same in both. Empty where they are equal.
+/// Lines that say where two inputs differ. `first` and `second` are their deterministic encodings,
+/// with the keys of maps in the order `O`. The lines give the path to the first place at which these
+/// differ, or to the outermost key around it, and where that is in each input, with what is there. Of
+/// two arrays or maps of different lengths they give the first element or key that only one has.
+/// Empty where the encodings are equal.
 ///
 /// # Errors
 /// `AllocError` where memory is refused.
-pub fn explain_difference<O: KeyOrder>(
+pub fn explain_difference<'a, O: KeyOrder>(
     alloc: Global,
     limit: Limit,
-    first: &[u8],
-    second: &[u8],
+    inputs: (Compared<'a>, Compared<'a>),
+    first: &'a [u8],
+    second: &'a [u8],
 ) -> Result<String, AllocError>
     ensures same { IfOk result (λ text. first.now ≡ second.now → string_bytes text ≡ []) }
 {
     let mut out = String::new(alloc);
-    let Some((walk, difference)) = walk_to_difference(alloc, first, second)? else {
+    let Some(found) = walk_to_difference(alloc, first, second)? else {
         return Ok(out);
     };
+    let (walk, difference) = &found;
     out.push_str("  path   ")?;
-    push_path((alloc, limit), &mut out, first, &walk, &difference.path)?;
-    let at = difference.place as usize;
-    let ours = part_at(alloc, first, at)?;
-    let theirs = part_at(alloc, second, at)?;
-    let order = if let Some(Step::Key(_)) = difference.path.steps.last() {
-        Some(O::compare(ours, theirs))
-    } else {
-        None
+    let line = BytesPath {
+        bytes: first,
+        walk,
+        path: &difference.path,
+        pairs: Pairs::Named,
     };
-    let mut left = String::new(alloc);
-    push_item(alloc, limit, &mut left, ours)?;
-    let mut right = String::new(alloc);
-    push_item(alloc, limit, &mut right, theirs)?;
-    let shared = if left.as_str() == right.as_str() {
-        Some(common_len(ours, theirs))
+    line.push(alloc, limit, &mut out)?;
+    let mut ours = Side::new((alloc, limit), "first", inputs.0, first, &found)?;
+    let mut theirs = Side::new((alloc, limit), "second", inputs.1, second, &found)?;
+    if let Some(Step::Key(_)) = difference.path.steps.last() {
+        push_sides(
+            &mut out,
+            &ours,
+            &theirs,
+            Some(O::compare(ours.item, theirs.item)),
+        )?;
     } else {
-        None
-    };
-    out.push_str("\n  first  ")?;
-    push_side(&mut out, ours, left.as_str(), order, shared)?;
-    out.push_str("\n  second ")?;
-    push_side(
-        &mut out,
-        theirs,
-        right.as_str(),
-        order.map(Ordering::reverse),
-        shared,
-    )?;
-    // two keys that are maps are unrelated
-    if order.is_none() {
-        push_lone_key::<O>(alloc, limit, &mut out, ours, theirs)?;
+        push_sides(&mut out, &ours, &theirs, None)?;
+        push_lone_element(&mut out, &mut ours, &mut theirs)?;
+        push_lone_key::<O>(&mut out, &mut ours, &mut theirs)?;
     }
     out.push('\n')?;
     Ok(out)
 }
 
-/// The bytes of the item that begins at an offset. Empty where there is none.
-fn part_at(alloc: Global, bytes: &[u8], at: usize) -> Result<&[u8], AllocError> {
-    let end = end_of_item(alloc, bytes, at)?;
-    Ok(slice_of(bytes, at, end))
-}
-
-/// How many bytes two items have in common at their start.
-fn common_len(ours: &[u8], theirs: &[u8]) -> usize {
-    let mut len: usize = 0;
-    for (a, b) in ours.iter().zip(theirs.iter()) {
-        if a != b {
-            break;
-        }
-        len = len.saturating_add(1);
-    }
-    len
-}
-
-/// Writes the item of one side, whose text is `notation`. `order` is how a key compares with the
-/// key of the other side: the lesser key is missing in the other map. `shared` is how many bytes
-/// both items have in common, where their notations are the same text.
-fn push_side(
-    out: &mut String,
-    item: &[u8],
-    notation: &str,
-    order: Option<Ordering>,
-    shared: Option<usize>,
-) -> Result<(), AllocError> {
-    let Some((head, _)) = whole_head(item) else {
-        return out.push_str("nothing: the items end here");
-    };
-    if order.is_some() {
-        out.push_str("the key ")?;
-    } else {
-        match (head.major_type(), head.argument) {
-            (Major::Array, Argument::Given(_, count)) => {
-                write!(out, "an array of {count}: ")?;
-            }
-            (Major::Map, Argument::Given(_, count)) => {
-                write!(out, "a map of {count}: ")?;
-            }
-            _ => {}
-        }
-    }
-    out.push_str(notation)?;
-    if let Some(len) = shared {
-        write!(out, ", its encoding from byte {len} on: ")?;
-        push_hex(out, slice_of(item, len, item.len()), REST)?;
-    }
-    match order {
-        Some(Ordering::Less) => out.push_str(", which the other map lacks"),
-        _ => Ok(()),
-    }
-}
-
-/// Writes the first key that only one of two maps has. Of anything else it writes nothing.
-fn push_lone_key<O: KeyOrder>(
+/// What one of two inputs has where they differ.
+#[derive(Drop)]
+struct Side<'a> {
     alloc: Global,
     limit: Limit,
+    /// What the input is called.
+    name: &'static str,
+    /// The deterministic encoding of the item. Empty where the items end.
+    item: &'a [u8],
+    /// The item in the input, or a part of it that was entered.
+    part: Part<'a>,
+}
+
+impl<'a> Side<'a> {
+    /// The side of the input whose items are encoded as `encoded`. `found` is where it differs from
+    /// the other.
+    fn new(
+        (alloc, limit): (Global, Limit),
+        name: &'static str,
+        input: Compared<'a>,
+        encoded: &'a [u8],
+        found: &(Walk, Difference),
+    ) -> Result<Side<'a>, AllocError> {
+        let (walk, difference) = found;
+        let item = item_at(alloc, encoded, difference.place as usize)?;
+        let mut part = Part::new((alloc, limit), input, 0, Vec::new(alloc));
+        for (i, step) in difference.path.steps.iter().enumerate() {
+            let key = match *step {
+                Step::Value(_) => {
+                    let (from, to) = walk.key_at(i);
+                    slice_of(encoded, from, to)
+                }
+                _ => item,
+            };
+            part.enter(*step, key)?;
+        }
+        Ok(Side {
+            alloc,
+            limit,
+            name,
+            item,
+            part,
+        })
+    }
+
+    /// The notation of the item.
+    fn notation(&self) -> Result<String, AllocError> {
+        let mut notation = String::new(self.alloc);
+        push_item(self.alloc, self.limit, &mut notation, self.item)?;
+        Ok(notation)
+    }
+
+    /// Writes where the item is, and its notation. `order` is how a key compares with the key of the
+    /// other side: the lesser is missing in the other map. `other` is the item of the other side,
+    /// where the notations of both are the same text.
+    fn push(
+        &self,
+        out: &mut String,
+        notation: &str,
+        order: Option<Ordering>,
+        other: Option<&[u8]>,
+    ) -> Result<(), AllocError> {
+        if self.item.is_empty() {
+            out.push_str("nothing: the items end ")?;
+            return self.part.push_place(out);
+        }
+        self.part.push_place(out)?;
+        out.push_str(": ")?;
+        match (order, count_of(self.item)) {
+            (None, Some((kind, count))) => return write!(out, "{kind} of {count}: {notation}"),
+            (None, None) => {}
+            (Some(_), _) => out.push_str("the key ")?,
+        }
+        out.push_str(notation)?;
+        if let Some(other) = other {
+            push_rest(out, self.item, other)?;
+        }
+        match order {
+            Some(Ordering::Less) => out.push_str(", which the other map lacks"),
+            _ => Ok(()),
+        }
+    }
+
+    /// Writes where the part is that was entered last, and its notation. `part` is its encoding.
+    fn push_part(&self, out: &mut String, part: &[u8]) -> Result<(), AllocError> {
+        let name = self.name;
+        write!(out, "of the {name} ")?;
+        self.part.push_place(out)?;
+        out.push_str(": ")?;
+        push_item(self.alloc, self.limit, out, part)
+    }
+}
+
+/// Writes a line for each side. `order` is how our key compares with theirs.
+fn push_sides(
     out: &mut String,
-    ours: &[u8],
-    theirs: &[u8],
+    ours: &Side<'_>,
+    theirs: &Side<'_>,
+    order: Option<Ordering>,
 ) -> Result<(), AllocError> {
-    let (Some(mut left), Some(mut right)) = (pairs_of(ours), pairs_of(theirs)) else {
+    let left = ours.notation()?;
+    let right = theirs.notation()?;
+    let is_one = left.as_str() == right.as_str();
+    out.push_str("\n  first  ")?;
+    ours.push(out, left.as_str(), order, is_one.then_some(theirs.item))?;
+    out.push_str("\n  second ")?;
+    let order = order.map(Ordering::reverse);
+    theirs.push(out, right.as_str(), order, is_one.then_some(ours.item))
+}
+
+/// The kind and the length of an encoded array or map. `None`: it is neither.
+fn count_of(item: &[u8]) -> Option<(&'static str, u64)> {
+    let (head, _) = whole_head(item)?;
+    match (head.major_type(), head.argument) {
+        (Major::Array, Argument::Given(_, count)) => Some(("an array", count)),
+        (Major::Map, Argument::Given(_, count)) => Some(("a map", count)),
+        _ => None,
+    }
+}
+
+/// Writes the bytes of an item from the first on that differs from those of another: of a string those
+/// of its content, of anything else those of its encoding.
+fn push_rest(out: &mut String, ours: &[u8], theirs: &[u8]) -> Result<(), AllocError> {
+    let (left, right) = (content_of(ours), content_of(theirs));
+    if left.is_empty() || right.is_empty() {
+        let len = common_len(ours, theirs);
+        write!(out, ", its encoding from byte {len} on: ")?;
+        return push_hex(out, slice_of(ours, len, ours.len()), REST);
+    }
+    let len = common_len(left, right);
+    if len == left.len() {
+        return write!(out, ", of {len} {}", counted(len as u64, "byte", "bytes"));
+    }
+    write!(out, ", from byte {len} on: ")?;
+    push_hex(out, slice_of(left, len, left.len()), REST)
+}
+
+/// Writes the first element that only one of two arrays has, or where elements differ otherwise, the
+/// first of each that do. Of anything else it writes nothing.
+fn push_lone_element(
+    out: &mut String,
+    ours: &mut Side<'_>,
+    theirs: &mut Side<'_>,
+) -> Result<(), AllocError> {
+    let alloc = ours.alloc;
+    let left = inside(ours.item, Major::Array);
+    let right = inside(theirs.item, Major::Array);
+    let (Some(left), Some(right)) = (left, right) else {
         return Ok(());
     };
-    'pairs: for _ in 0..ours.len().saturating_add(theirs.len()) {
-        let our_key = part_at(alloc, left, 0)?;
-        let their_key = part_at(alloc, right, 0)?;
-        let (side, key) = match (our_key.is_empty(), their_key.is_empty()) {
-            (true, true) => return Ok(()),
-            (false, true) => ("first", our_key),
-            (true, false) => ("second", their_key),
-            (false, false) => match O::compare(our_key, their_key) {
-                Ordering::Less => ("first", our_key),
-                Ordering::Greater => ("second", their_key),
-                Ordering::Equal => {
-                    left = after_pair(alloc, left, our_key.len())?;
-                    right = after_pair(alloc, right, their_key.len())?;
-                    continue;
-                }
-            },
-        };
-        out.push_str("\n  key    ")?;
-        push_item(alloc, limit, out, key)?;
-        write!(out, ", which only the {side} has")?;
+    let Some((index, at)) = first_difference(alloc, left, right)? else {
         return Ok(());
+    };
+    let our_rest = slice_of(left, at, left.len());
+    let their_rest = slice_of(right, at, right.len());
+    let is_ours = ends_with_items(alloc, our_rest, their_rest)?;
+    let is_theirs = ends_with_items(alloc, their_rest, our_rest)?;
+    if !is_theirs {
+        push_element(out, ours, index, our_rest)?;
+    }
+    if is_ours {
+        return out.push_str(", which the second lacks");
+    }
+    push_element(out, theirs, index, their_rest)?;
+    if is_theirs {
+        return out.push_str(", which the first lacks");
     }
     Ok(())
 }
 
-/// What follows the head of a map. `None`: the item is no map.
-fn pairs_of(item: &[u8]) -> Option<&[u8]> {
+/// The index of the first item in which two sequences differ, and its offset, the same in both. `None`:
+/// they are equal.
+fn first_difference(
+    alloc: Global,
+    left: &[u8],
+    right: &[u8],
+) -> Result<Option<(u64, usize)>, AllocError> {
+    match walk_to_difference(alloc, left, right)? {
+        Some((walk, difference)) => {
+            Ok(match difference.path.steps.first() {
+                Some(Step::Item(index)) => Some((*index, walk.place_of(1))),
+                _ => None,
+            })
+        }
+        None => Ok(None),
+    }
+}
+
+/// Writes an element of the array of a side. `rest` are the encodings of the elements from it on.
+fn push_element(
+    out: &mut String,
+    side: &mut Side<'_>,
+    index: u64,
+    rest: &[u8],
+) -> Result<(), AllocError> {
+    let element = item_at(side.alloc, rest, 0)?;
+    side.part.enter(Step::Element(index), element)?;
+    write!(out, "\n  part   [{index}] ")?;
+    side.push_part(out, element)
+}
+
+/// Whether `items` are one or more items and then those of `last`.
+fn ends_with_items(alloc: Global, items: &[u8], last: &[u8]) -> Result<bool, AllocError> {
+    let len = items.len().saturating_sub(last.len());
+    if len == 0 || !items.ends_with(last) {
+        return Ok(false);
+    }
+    let walk = Walk::to(alloc, items, len)?;
+    Ok(walk.at == len && matches!(walk.innermost().kind, LevelKind::Sequence(_)))
+}
+
+/// Writes the first key that only one of two maps has. Of anything else it writes nothing.
+fn push_lone_key<O: KeyOrder>(
+    out: &mut String,
+    ours: &mut Side<'_>,
+    theirs: &mut Side<'_>,
+) -> Result<(), AllocError> {
+    let left = inside(ours.item, Major::Map);
+    let right = inside(theirs.item, Major::Map);
+    let (Some(left), Some(right)) = (left, right) else {
+        return Ok(());
+    };
+    match lone_key::<O>(ours.alloc, left, right)? {
+        (Ordering::Less, key) => push_key(out, ours, key, "second"),
+        (Ordering::Greater, key) => push_key(out, theirs, key, "first"),
+        (Ordering::Equal, _) => Ok(()),
+    }
+}
+
+/// Writes a key of the map of a side, which the map of the other side lacks.
+fn push_key(
+    out: &mut String,
+    side: &mut Side<'_>,
+    key: &[u8],
+    other: &str,
+) -> Result<(), AllocError> {
+    side.part.enter(Step::Key(0), key)?;
+    out.push_str("\n  key    ")?;
+    side.push_part(out, key)?;
+    write!(out, ", which the {other} lacks")
+}
+
+/// The first key that only one of two lists of pairs has: `Less` where that is the left one, `Greater`
+/// where it is the right one, and `Equal` where there is no such key.
+fn lone_key<'a, O: KeyOrder>(
+    alloc: Global,
+    mut left: &'a [u8],
+    mut right: &'a [u8],
+) -> Result<(Ordering, &'a [u8]), AllocError> {
+    'pairs: for _ in 0..left.len().saturating_add(right.len()) {
+        let ours = item_at(alloc, left, 0)?;
+        let theirs = item_at(alloc, right, 0)?;
+        match (ours.is_empty(), theirs.is_empty()) {
+            (true, true) => break,
+            (false, true) => return Ok((Ordering::Less, ours)),
+            (true, false) => return Ok((Ordering::Greater, theirs)),
+            (false, false) => {}
+        }
+        match O::compare(ours, theirs) {
+            Ordering::Less => return Ok((Ordering::Less, ours)),
+            Ordering::Greater => return Ok((Ordering::Greater, theirs)),
+            Ordering::Equal => {
+                left = after_pair(alloc, left, ours.len())?;
+                right = after_pair(alloc, right, theirs.len())?;
+            }
+        }
+    }
+    Ok((Ordering::Equal, &[]))
+}
+
+/// What follows the head of an item of this major type. `None`: it is of another.
+fn inside(item: &[u8], major: Major) -> Option<&[u8]> {
     let (head, len) = whole_head(item)?;
-    if head.major_type() == Major::Map {
+    if head.major_type() == major {
         item.get(len..)
     } else {
         None

@@ -72,7 +72,7 @@ fn len_to_key(steps: &[Step]) -> usize
 }
 
 /// How many bytes the two inputs have in common at their start.
-fn common_len(first: &[u8], second: &[u8]) -> usize
+pub(crate) fn common_len(first: &[u8], second: &[u8]) -> usize
     ensures ours { result ≤ length first.now }
     ensures theirs { result ≤ length second.now }
     ensures same { take result first.now ≡ take result second.now }

@@ -3,10 +3,10 @@
 use crate::byte_causes::RefusedBytes;
 use crate::byte_walks::{Walk, place_in};
 use crate::hints::hint_of;
-use crate::path_lines::{PathWriter, step_text};
-use crate::paths::{Path, Step};
+use crate::path_lines::{BytesPath, Pairs, PathWriter, step_text};
+use crate::paths::Step;
 use crate::quotes::{
-    line_and_column, push_bytes_around, push_item, push_line_around, push_text, slice_of,
+    line_and_column, push_bytes_around, push_line_around, push_notation, slice_of,
 };
 use crate::reasons::{BytesReason, TextReason};
 use crate::text_causes::RefusedText;
@@ -14,9 +14,6 @@ use crate::text_spots::spot_of;
 use crate::text_walks::{NotationText, TextWalk, walk_text};
 use cborn_model::Limit;
 use std::alloc::{AllocError, Global};
-
-/// How many characters of a key in a text are written.
-const KEY: usize = 40;
 
 /// Lines that say where bytes are refused or aren't deterministic, and why: the path to `place`,
 /// the bytes around it, a sentence, and a hint where the bytes look like a text. Another call
@@ -37,7 +34,13 @@ pub fn explain_bytes(
     let mut out = String::new(alloc);
     out.push_str("  path  ")?;
     let path = walk.path(alloc)?;
-    push_path((alloc, limit), &mut out, bytes, &walk, &path)?;
+    let line = BytesPath {
+        bytes,
+        walk: &walk,
+        path: &path,
+        pairs: Pairs::Numbered,
+    };
+    line.push(alloc, limit, &mut out)?;
     out.push_str("\n  bytes ")?;
     push_bytes_around(&mut out, bytes, place)?;
     out.push_str("\n  why   ")?;
@@ -87,27 +90,6 @@ pub fn explain_text(
     Ok(out)
 }
 
-/// Writes the path of a walk over bytes, or a front of it.
-pub(crate) fn push_path(
-    (alloc, limit): (Global, Limit),
-    out: &mut String,
-    bytes: &[u8],
-    walk: &Walk,
-    path: &Path,
-) -> Result<(), AllocError> {
-    let mut writer = PathWriter::new(alloc);
-    for (i, step) in path.steps.iter().enumerate() {
-        let mut key = String::new(alloc);
-        if let Step::Value(_) = *step {
-            let (from, to) = walk.key_at(i);
-            push_item(alloc, limit, &mut key, slice_of(bytes, from, to))?;
-        }
-        let text = step_text(alloc, *step, key.as_str())?;
-        writer.step(out, text)?;
-    }
-    writer.end(out)
-}
-
 /// Writes the path to where a walk over a text has come. It is cut before a bracket whose parts aren't
 /// known, and where the walk doesn't keep more brackets.
 fn push_text_path(
@@ -117,7 +99,7 @@ fn push_text_path(
     walk: &TextWalk,
 ) -> Result<(), AllocError> {
     let mut path = PathWriter::new(alloc);
-    let item = step_text(alloc, Step::Item(walk.items), "")?;
+    let item = step_text(alloc, Step::Item(walk.items), "", Pairs::Numbered)?;
     path.step(out, item)?;
     for open in walk.open.iter() {
         if open.is_lost {
@@ -127,9 +109,9 @@ fn push_text_path(
             let mut key = String::new(alloc);
             if let Step::Value(_) = step {
                 let (from, to) = open.key;
-                push_text(&mut key, slice_of(text, from, to), KEY)?;
+                push_notation(&mut key, slice_of(text, from, to))?;
             }
-            let step = step_text(alloc, step, key.as_str())?;
+            let step = step_text(alloc, step, key.as_str(), Pairs::Numbered)?;
             path.step(out, step)?;
         }
     }

@@ -3,7 +3,7 @@
 
 ghost use Rattle.std.specs.Prelude.{◌≤◌, IfOk};
 
-use crate::byte_heads::{content_len, whole_head};
+use crate::byte_heads::{content_len, content_of, whole_head};
 use crate::items::notation_at;
 use cborn_model::{Limit, Major};
 use simdutf8::compat::from_utf8;
@@ -109,23 +109,65 @@ pub(crate) fn slice_of(bytes: &[u8], from: usize, to: usize) -> &[u8] {
 /// # Errors
 /// `AllocError` where memory for `out` is refused.
 pub(crate) fn push_text(out: &mut String, bytes: &[u8], most: usize) -> Result<usize, AllocError> {
-    let front = bytes.get(..most.saturating_mul(4)).unwrap_or(bytes);
-    let mut width: usize = 0;
-    let mut count: usize = 0;
-    let mut taken: usize = 0;
-    for c in valid_front(front).chars() {
-        if count >= most {
-            break;
-        }
-        width = width.saturating_add(push_char(out, c)?);
-        count = count.saturating_add(1);
-        taken = taken.saturating_add(c.len_utf8());
-    }
-    if taken < bytes.len() {
+    let front = front_of(bytes, most);
+    let mut width = push_chars(out, front)?;
+    if front.len() < bytes.len() {
         out.push_str("..")?;
         width = width.saturating_add(2);
     }
     Ok(width)
+}
+
+/// Writes the start of a notation as [`push_text`] does, at most `PIECE` characters. Where it is cut
+/// within a string, a quote closes the string before the `..`.
+///
+/// # Errors
+/// `AllocError` where memory for `out` is refused.
+pub(crate) fn push_notation(out: &mut String, notation: &[u8]) -> Result<(), AllocError> {
+    let front = front_of(notation, PIECE);
+    push_chars(out, front)?;
+    if front.len() == notation.len() {
+        return Ok(());
+    }
+    if let Some(quote) = open_quote(front) {
+        out.push(quote)?;
+    }
+    out.push_str("..")
+}
+
+/// At most `most` characters at the start of the bytes, up to the first byte that isn't UTF-8.
+fn front_of(bytes: &[u8], most: usize) -> &str {
+    let front = valid_front(bytes.get(..most.saturating_mul(4)).unwrap_or(bytes));
+    let mut len: usize = 0;
+    for c in front.chars().take(most) {
+        len = len.saturating_add(c.len_utf8());
+    }
+    valid_front(slice_of(bytes, 0, len))
+}
+
+/// Writes characters, escaped where they aren't plain. Answers how many columns were written.
+fn push_chars(out: &mut String, text: &str) -> Result<usize, AllocError> {
+    let mut width: usize = 0;
+    for c in text.chars() {
+        width = width.saturating_add(push_char(out, c)?);
+    }
+    Ok(width)
+}
+
+/// The quote that ends the string in which this front of a notation ends. `None`: it ends in none.
+fn open_quote(front: &str) -> Option<char> {
+    let mut open = None;
+    let mut is_escaped = false;
+    for c in front.chars() {
+        match open {
+            None if matches!(c, '"' | '\'') => open = Some(c),
+            Some(_) if is_escaped => is_escaped = false,
+            Some(_) if c == '\\' => is_escaped = true,
+            Some(quote) if c == quote => open = None,
+            _ => {}
+        }
+    }
+    open
 }
 
 /// The longest front of the bytes that is UTF-8.
@@ -205,8 +247,7 @@ pub(crate) fn push_item(
 ) -> Result<(), AllocError> {
     if item.len() <= LONG_ITEM {
         if let Some(text) = notation_at(alloc, limit, item, 0)? {
-            push_text(out, text.as_str().trim_end().as_bytes(), PIECE)?;
-            return Ok(());
+            return push_notation(out, text.as_str().trim_end().as_bytes());
         }
         return push_hex(out, item, PIECE / 3);
     }
@@ -215,20 +256,21 @@ pub(crate) fn push_item(
 
 /// Writes the start of a long item.
 fn push_front(out: &mut String, item: &[u8]) -> Result<(), AllocError> {
-    let Some((head, len)) = whole_head(item) else {
+    let Some((head, _)) = whole_head(item) else {
         return push_hex(out, item, PIECE / 3);
     };
-    let content = content_len(head) as usize;
-    let front = item.get(len.saturating_sub(content)..).unwrap_or(&[]);
     match head.major_type() {
-        Major::TextString if content > 0 => {
+        Major::TextString if content_len(head) > 0 => {
             out.push('"')?;
-            push_text(out, front, PIECE)?;
-            Ok(())
+            push_chars(out, front_of(content_of(item), PIECE))?;
+            out.push_str("\"..")
         }
-        Major::ByteString if content > 0 => {
+        Major::ByteString if content_len(head) > 0 => {
             out.push_str("h'")?;
-            push_hex(out, front, PIECE / 3)
+            for byte in content_of(item).iter().take(PIECE / 3) {
+                write!(out, "{byte:02x}")?;
+            }
+            out.push_str("'..")
         }
         Major::Array => out.push_str("[..]"),
         Major::Map => out.push_str("{..}"),
@@ -273,9 +315,7 @@ pub(crate) fn push_line_around(
         out.push_str("..")?;
         width = 2;
     }
-    for c in valid_front(piece).chars() {
-        width = width.saturating_add(push_char(out, c)?);
-    }
+    width = width.saturating_add(push_chars(out, valid_front(piece))?);
     let end = after.iter().position(|b| *b == b'\n' || *b == b'\r');
     let rest = match end {
         Some(end) => after.get(..end).unwrap_or(after),

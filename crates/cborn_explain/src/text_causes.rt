@@ -1,7 +1,7 @@
 //! Why a text is refused: a sentence for each reason.
 
 use crate::byte_causes::push_too_deep;
-use crate::quotes::{line_and_column, push_char, push_text, valid_front};
+use crate::quotes::{line_and_column, push_char, push_notation, push_text, valid_front};
 use crate::reasons::TextReason;
 use crate::text_keys::{earlier_key, key_at};
 use crate::text_spots::indicator_at;
@@ -417,7 +417,7 @@ impl RefusedText<'_> {
     ) -> Result<(), AllocError> {
         let key = key_at(alloc, self.input, self.place)?;
         out.push_str("the key ")?;
-        push_text(out, key, WORD)?;
+        push_notation(out, key)?;
         let found = match walk.open.last() {
             Some(open) => earlier_key(alloc, self.limit, self.input, open.place, self.place)?,
             None => None,
