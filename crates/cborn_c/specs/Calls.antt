@@ -5,26 +5,27 @@ use Rattle.std.specs.declared.alloc.AllocError.{AllocError}
 use Rattle.std.specs.declared.string.String.{String}
 use Rattle.std.specs.Global.{Global}
 use Rattle.std.specs.String.{string_bytes}
+use Rattle.std.specs.Cow.{cow_slice_items}
+use Rattle.std.specs.declared.borrow.CowSlice.{CowSlice}
 use Rattle.cborn_model.specs.declared.defects.Defect.{Defect}
 use Rattle.cborn_model.specs.declared.defects.DefectReason.{DefectReason}
 use Rattle.cborn_wire.specs.declared.faults.WireFault.{WireFault}
 use Rattle.cborn_wire.specs.Reading.{EndsItem}
 use Rattle.cborn_explain.specs.declared.reasons.BytesReason.{BytesReason}
 use Rattle.cborn_explain.specs.declared.reasons.TextReason.{TextReason}
-use Rattle.cborn_engine.specs.declared.faults.CompareFault.{CompareFault}
-use Rattle.cborn_engine.specs.declared.faults.CompareFault.TheVariants as compared
-use Rattle.cborn_engine.specs.declared.faults.EngineFault.{EngineFault}
 use Rattle.cborn_engine.specs.declared.faults.EngineFault.TheVariants as fault
-use Rattle.cborn_engine.specs.declared.one_faults.CompareOneFault.{CompareOneFault}
-use Rattle.cborn_engine.specs.declared.one_faults.CompareOneFault.TheVariants as compared_one
-use Rattle.cborn_engine.specs.declared.one_faults.OneFault.{OneFault}
-use Rattle.cborn_engine.specs.declared.one_faults.OneFault.TheVariants as one
+use Rattle.cborn_engine.specs.declared.count_faults.CompareCountFault.{CompareCountFault}
+use Rattle.cborn_engine.specs.declared.count_faults.CompareCountFault.TheVariants as compared
+use Rattle.cborn_engine.specs.declared.count_faults.CountFault.{CountFault}
+use Rattle.cborn_engine.specs.declared.counts.Count.{Count}
+use Rattle.cborn_engine.specs.declared.counts.Count.TheVariants as counts
 use Rattle.cborn_engine.specs.declared.kinds.Kind.{Kind}
 use Rattle.cborn_engine.specs.declared.kinds.Kind.TheVariants as kind
 use Rattle.cborn_c.specs.declared.numbers.KeyOrdering.{KeyOrdering}
 use Rattle.cborn_c.specs.declared.answers.CbornTold.{CbornTold}
-use Rattle.cborn_c.specs.Numbers.{order_of, fault_number, fault_place, one_number, one_place, defect_number, TellsOfBytes, text_number}
-use Rattle.cborn_c.specs.Answers.{Normalised, Shown, Checked, Compared, Matched, NormalisedOne, ShownOne, CheckedOne, MatchedOne}
+use Rattle.cborn_c.specs.Numbers.{order_of, fault_number, fault_place, counted_number, counted_place, defect_number, TellsOfBytes, text_number}
+use Rattle.cborn_engine.specs.Counts.{CountAnswer, NormalisedWhole, ShownWhole, CheckedWhole}
+use Rattle.cborn_c.specs.Answers.{Compared, Matched}
 
 -- the buffer begins with the answer, and is unchanged after it; or it is too small for the answer, and unchanged
 abbrev pub IsPut : List ℕ → List ℕ → List ℕ → ℕ → Type 0
@@ -32,9 +33,9 @@ IsPut answer before after code =
     ((code ≡ 0) × (length answer ≤ length before) × (after ≡ answer ++ drop (length answer) before)) ⊎ ((code ≡ 1) × (length before < length answer) × (after ≡ before))
 
 -- the answer is in the buffer or doesn't fit it, and its length is reported; or the fault is reported and the buffer is unchanged
-abbrev pub Told : Result (List ℕ) EngineFault → List ℕ → List ℕ → CbornTold → ℕ → Type 0
-Told (Ok answer) before after told code = IsPut answer before after code × (told.length ≡ length answer) × (told.place ≡ 0)
-Told (Err why) before after told code = (code ≡ fault_number why) × (told.place ≡ fault_place why) × (told.length ≡ 0) × (after ≡ before)
+abbrev pub Told : Result (CowSlice ℕ Global) CountFault → List ℕ → List ℕ → CbornTold → ℕ → Type 0
+Told (Ok answer) before after told code = IsPut (cow_slice_items answer) before after code × (told.length ≡ length (cow_slice_items answer)) × (told.place ≡ 0)
+Told (Err why) before after told code = (code ≡ counted_number why) × (told.place ≡ counted_place why) × (told.length ≡ 0) × (after ≡ before)
 
 -- an argument's number means nothing: the buffer, and what a call reports besides its number, are unchanged
 abbrev pub IsBad : List ℕ → List ℕ → CbornTold → CbornTold → ℕ → Type 0
@@ -46,51 +47,52 @@ IsBadPlaced unplaced place code = (code ≡ 2) × (place ≡ unplaced)
 abbrev pub IsDepth : ℕ → Type 0
 IsDepth limit = (1 ≤ limit) × (limit ≤ 1024)
 
-pub record NormalisesInto (order : List ℕ → List ℕ → Ordering) (k out : Kind) (limit : ℕ) (x before after : List ℕ) (told : CbornTold) (code : ℕ) : Type 0 where
-  pub answer : Result (List ℕ) EngineFault
-  pub normalised : Normalised order k out limit x answer
+-- the input, which has to hold so many items, is normalised
+pub record NormalisesInto (count : Count) (order : List ℕ → List ℕ → Ordering) (k out : Kind) (limit : ℕ) (x before after : List ℕ) (told : CbornTold) (code : ℕ) : Type 0 where
+  pub answer : Result (CowSlice ℕ Global) CountFault
+  pub normalised : CountAnswer count k limit x (NormalisedWhole order k out limit x) answer
   pub put : Told answer before after told code
 
-abbrev pub NormaliseCall : Option Kind → Option Kind → Option KeyOrdering → ℕ → List ℕ → List ℕ → List ℕ → CbornTold → CbornTold → ℕ → Type 0
-NormaliseCall (Some k) (Some out) (Some order) limit x before after untold told code =
-    (IsDepth limit → NormalisesInto (order_of order) k out limit x before after told code) × ((IsDepth limit → ⊥) → IsBad before after untold told code)
-NormaliseCall (Some k) (Some out) None limit x before after untold told code = IsBad before after untold told code
-NormaliseCall (Some k) None order limit x before after untold told code = IsBad before after untold told code
-NormaliseCall None out order limit x before after untold told code = IsBad before after untold told code
+abbrev pub NormaliseCall : Count → Option Kind → Option Kind → Option KeyOrdering → ℕ → List ℕ → List ℕ → List ℕ → CbornTold → CbornTold → ℕ → Type 0
+NormaliseCall count (Some k) (Some out) (Some order) limit x before after untold told code =
+    (IsDepth limit → NormalisesInto count (order_of order) k out limit x before after told code) × ((IsDepth limit → ⊥) → IsBad before after untold told code)
+NormaliseCall count (Some k) (Some out) None limit x before after untold told code = IsBad before after untold told code
+NormaliseCall count (Some k) None order limit x before after untold told code = IsBad before after untold told code
+NormaliseCall count None out order limit x before after untold told code = IsBad before after untold told code
 
-pub record ShowsInto (k out : Kind) (limit : ℕ) (x before after : List ℕ) (told : CbornTold) (code : ℕ) : Type 0 where
-  pub answer : Result (List ℕ) EngineFault
-  pub shown : Shown k out limit x answer
+pub record ShowsInto (count : Count) (k out : Kind) (limit : ℕ) (x before after : List ℕ) (told : CbornTold) (code : ℕ) : Type 0 where
+  pub answer : Result (CowSlice ℕ Global) CountFault
+  pub shown : CountAnswer count k limit x (ShownWhole k out limit x) answer
   pub put : Told answer before after told code
 
-abbrev pub ShowCall : Option Kind → Option Kind → ℕ → List ℕ → List ℕ → List ℕ → CbornTold → CbornTold → ℕ → Type 0
-ShowCall (Some k) (Some out) limit x before after untold told code =
-    (IsDepth limit → ShowsInto k out limit x before after told code) × ((IsDepth limit → ⊥) → IsBad before after untold told code)
-ShowCall (Some k) None limit x before after untold told code = IsBad before after untold told code
-ShowCall None out limit x before after untold told code = IsBad before after untold told code
+abbrev pub ShowCall : Count → Option Kind → Option Kind → ℕ → List ℕ → List ℕ → List ℕ → CbornTold → CbornTold → ℕ → Type 0
+ShowCall count (Some k) (Some out) limit x before after untold told code =
+    (IsDepth limit → ShowsInto count k out limit x before after told code) × ((IsDepth limit → ⊥) → IsBad before after untold told code)
+ShowCall count (Some k) None limit x before after untold told code = IsBad before after untold told code
+ShowCall count None out limit x before after untold told code = IsBad before after untold told code
 
 -- no defect, or the number and the offset of the first one
 abbrev pub DefectTold : Option Defect → ℕ → ℕ → Type 0
 DefectTold None place code = (code ≡ 0) × (place ≡ 0)
 DefectTold (Some d) place code = (code ≡ defect_number d.reason) × (place ≡ d.place)
 
-abbrev pub CheckTold : Result (Option Defect) EngineFault → ℕ → ℕ → Type 0
+abbrev pub CheckTold : Result (Option Defect) CountFault → ℕ → ℕ → Type 0
 CheckTold (Ok defect) place code = DefectTold defect place code
-CheckTold (Err why) place code = (code ≡ fault_number why) × (place ≡ fault_place why)
+CheckTold (Err why) place code = (code ≡ counted_number why) × (place ≡ counted_place why)
 
-pub record ChecksInto (order : List ℕ → List ℕ → Ordering) (limit : ℕ) (x : List ℕ) (place code : ℕ) : Type 0 where
-  pub answer : Result (Option Defect) EngineFault
-  pub checked : Checked order limit x answer
+pub record ChecksInto (count : Count) (order : List ℕ → List ℕ → Ordering) (limit : ℕ) (x : List ℕ) (place code : ℕ) : Type 0 where
+  pub answer : Result (Option Defect) CountFault
+  pub checked : CountAnswer count kind.Wire limit x (CheckedWhole order limit x) answer
   pub told : CheckTold answer place code
 
-abbrev pub CheckCall : Option KeyOrdering → ℕ → List ℕ → ℕ → ℕ → ℕ → Type 0
-CheckCall (Some order) limit x unplaced place code = (IsDepth limit → ChecksInto (order_of order) limit x place code) × ((IsDepth limit → ⊥) → IsBadPlaced unplaced place code)
-CheckCall None limit x unplaced place code = IsBadPlaced unplaced place code
+abbrev pub CheckCall : Count → Option KeyOrdering → ℕ → List ℕ → ℕ → ℕ → ℕ → Type 0
+CheckCall count (Some order) limit x unplaced place code = (IsDepth limit → ChecksInto count (order_of order) limit x place code) × ((IsDepth limit → ⊥) → IsBadPlaced unplaced place code)
+CheckCall count None limit x unplaced place code = IsBadPlaced unplaced place code
 
 -- a fault of the first input; or one of the second, whose number is 65,536 more; or refused memory, which is a fault of neither
-abbrev pub CompareFaultTold : CompareFault → ℕ → ℕ → Type 0
-CompareFaultTold (compared.First why) place code = (code ≡ fault_number why) × (place ≡ fault_place why)
-CompareFaultTold (compared.Second why) place code = (code ≡ fault_number why + 65536) × (place ≡ fault_place why)
+abbrev pub CompareFaultTold : CompareCountFault → ℕ → ℕ → Type 0
+CompareFaultTold (compared.First why) place code = (code ≡ counted_number why) × (place ≡ counted_place why)
+CompareFaultTold (compared.Second why) place code = (code ≡ counted_number why + 65536) × (place ≡ counted_place why)
 CompareFaultTold compared.OutOfMemory place code = (code ≡ 3) × (place ≡ 0)
 
 -- the same items; or different ones, and the index of the first as the place
@@ -98,13 +100,13 @@ abbrev pub DifferenceTold : Option ℕ → ℕ → ℕ → Type 0
 DifferenceTold None place code = (code ≡ 0) × (place ≡ 0)
 DifferenceTold (Some i) place code = (code ≡ 5) × (place ≡ i)
 
-abbrev pub CompareTold : Result (Option ℕ) CompareFault → ℕ → ℕ → Type 0
+abbrev pub CompareTold : Result (Option ℕ) CompareCountFault → ℕ → ℕ → Type 0
 CompareTold (Ok difference) place code = DifferenceTold difference place code
 CompareTold (Err why) place code = CompareFaultTold why place code
 
 pub record ComparesInto (k l : Kind) (limit : ℕ) (x y : List ℕ) (place code : ℕ) : Type 0 where
-  pub answer : Result (Option ℕ) CompareFault
-  pub compared : Compared k l limit x y answer
+  pub answer : Result (Option ℕ) CompareCountFault
+  pub compared : Compared counts.Any k l limit x y answer
   pub told : CompareTold answer place code
 
 abbrev pub CompareCall : Option Kind → Option Kind → ℕ → List ℕ → List ℕ → ℕ → ℕ → ℕ → Type 0
@@ -113,80 +115,20 @@ CompareCall (Some k) None limit x y unplaced place code = IsBadPlaced unplaced p
 CompareCall None l limit x y unplaced place code = IsBadPlaced unplaced place code
 
 -- the same items, or different ones, with 0 as the place
-abbrev pub SameTold : Result Bool CompareFault → ℕ → ℕ → Type 0
+abbrev pub SameTold : Result Bool CompareCountFault → ℕ → ℕ → Type 0
 SameTold (Ok true) place code = (code ≡ 0) × (place ≡ 0)
 SameTold (Ok false) place code = (code ≡ 5) × (place ≡ 0)
 SameTold (Err why) place code = CompareFaultTold why place code
 
-pub record MatchesInto (k l : Kind) (limit : ℕ) (x y : List ℕ) (place code : ℕ) : Type 0 where
-  pub answer : Result Bool CompareFault
-  pub matched : Matched k l limit x y answer
+pub record MatchesInto (count : Count) (k l : Kind) (limit : ℕ) (x y : List ℕ) (place code : ℕ) : Type 0 where
+  pub answer : Result Bool CompareCountFault
+  pub matched : Matched count k l limit x y answer
   pub told : SameTold answer place code
 
-abbrev pub SameCall : Option Kind → Option Kind → ℕ → List ℕ → List ℕ → ℕ → ℕ → ℕ → Type 0
-SameCall (Some k) (Some l) limit x y unplaced place code = (IsDepth limit → MatchesInto k l limit x y place code) × ((IsDepth limit → ⊥) → IsBadPlaced unplaced place code)
-SameCall (Some k) None limit x y unplaced place code = IsBadPlaced unplaced place code
-SameCall None l limit x y unplaced place code = IsBadPlaced unplaced place code
-
--- ---- where exactly one item is wanted
-
-abbrev pub ToldOne : Result (List ℕ) OneFault → List ℕ → List ℕ → CbornTold → ℕ → Type 0
-ToldOne (Ok answer) before after told code = IsPut answer before after code × (told.length ≡ length answer) × (told.place ≡ 0)
-ToldOne (Err why) before after told code = (code ≡ one_number why) × (told.place ≡ one_place why) × (told.length ≡ 0) × (after ≡ before)
-
-pub record NormalisesOneInto (order : List ℕ → List ℕ → Ordering) (k out : Kind) (limit : ℕ) (x before after : List ℕ) (told : CbornTold) (code : ℕ) : Type 0 where
-  pub answer : Result (List ℕ) OneFault
-  pub normalised : NormalisedOne order k out limit x answer
-  pub put : ToldOne answer before after told code
-
-abbrev pub NormaliseOneCall : Option Kind → Option Kind → Option KeyOrdering → ℕ → List ℕ → List ℕ → List ℕ → CbornTold → CbornTold → ℕ → Type 0
-NormaliseOneCall (Some k) (Some out) (Some order) limit x before after untold told code =
-    (IsDepth limit → NormalisesOneInto (order_of order) k out limit x before after told code) × ((IsDepth limit → ⊥) → IsBad before after untold told code)
-NormaliseOneCall (Some k) (Some out) None limit x before after untold told code = IsBad before after untold told code
-NormaliseOneCall (Some k) None order limit x before after untold told code = IsBad before after untold told code
-NormaliseOneCall None out order limit x before after untold told code = IsBad before after untold told code
-
-pub record ShowsOneInto (k out : Kind) (limit : ℕ) (x before after : List ℕ) (told : CbornTold) (code : ℕ) : Type 0 where
-  pub answer : Result (List ℕ) OneFault
-  pub shown : ShownOne k out limit x answer
-  pub put : ToldOne answer before after told code
-
-abbrev pub ShowOneCall : Option Kind → Option Kind → ℕ → List ℕ → List ℕ → List ℕ → CbornTold → CbornTold → ℕ → Type 0
-ShowOneCall (Some k) (Some out) limit x before after untold told code =
-    (IsDepth limit → ShowsOneInto k out limit x before after told code) × ((IsDepth limit → ⊥) → IsBad before after untold told code)
-ShowOneCall (Some k) None limit x before after untold told code = IsBad before after untold told code
-ShowOneCall None out limit x before after untold told code = IsBad before after untold told code
-
-abbrev pub CheckOneTold : Result (Option Defect) OneFault → ℕ → ℕ → Type 0
-CheckOneTold (Ok defect) place code = DefectTold defect place code
-CheckOneTold (Err why) place code = (code ≡ one_number why) × (place ≡ one_place why)
-
-pub record ChecksOneInto (order : List ℕ → List ℕ → Ordering) (limit : ℕ) (x : List ℕ) (place code : ℕ) : Type 0 where
-  pub answer : Result (Option Defect) OneFault
-  pub checked : CheckedOne order limit x answer
-  pub told : CheckOneTold answer place code
-
-abbrev pub CheckOneCall : Option KeyOrdering → ℕ → List ℕ → ℕ → ℕ → ℕ → Type 0
-CheckOneCall (Some order) limit x unplaced place code = (IsDepth limit → ChecksOneInto (order_of order) limit x place code) × ((IsDepth limit → ⊥) → IsBadPlaced unplaced place code)
-CheckOneCall None limit x unplaced place code = IsBadPlaced unplaced place code
-
--- the same item, or different ones, with 0 as the place; or a fault of the first input, one of the second, or refused memory
-abbrev pub SameOneTold : Result Bool CompareOneFault → ℕ → ℕ → Type 0
-SameOneTold (Ok true) place code = (code ≡ 0) × (place ≡ 0)
-SameOneTold (Ok false) place code = (code ≡ 5) × (place ≡ 0)
-SameOneTold (Err (compared_one.First why)) place code = (code ≡ one_number why) × (place ≡ one_place why)
-SameOneTold (Err (compared_one.Second why)) place code = (code ≡ one_number why + 65536) × (place ≡ one_place why)
-SameOneTold (Err compared_one.OutOfMemory) place code = (code ≡ 3) × (place ≡ 0)
-
-pub record MatchesOneInto (k l : Kind) (limit : ℕ) (x y : List ℕ) (place code : ℕ) : Type 0 where
-  pub answer : Result Bool CompareOneFault
-  pub matched : MatchedOne k l limit x y answer
-  pub told : SameOneTold answer place code
-
-abbrev pub CompareOneCall : Option Kind → Option Kind → ℕ → List ℕ → List ℕ → ℕ → ℕ → ℕ → Type 0
-CompareOneCall (Some k) (Some l) limit x y unplaced place code = (IsDepth limit → MatchesOneInto k l limit x y place code) × ((IsDepth limit → ⊥) → IsBadPlaced unplaced place code)
-CompareOneCall (Some k) None limit x y unplaced place code = IsBadPlaced unplaced place code
-CompareOneCall None l limit x y unplaced place code = IsBadPlaced unplaced place code
+abbrev pub SameCall : Count → Option Kind → Option Kind → ℕ → List ℕ → List ℕ → ℕ → ℕ → ℕ → Type 0
+SameCall count (Some k) (Some l) limit x y unplaced place code = (IsDepth limit → MatchesInto count k l limit x y place code) × ((IsDepth limit → ⊥) → IsBadPlaced unplaced place code)
+SameCall count (Some k) None limit x y unplaced place code = IsBadPlaced unplaced place code
+SameCall count None l limit x y unplaced place code = IsBadPlaced unplaced place code
 
 -- ---- where an item ends
 
@@ -209,7 +151,7 @@ ItemEndCall limit x start unplaced place code =
 
 -- the number of a fault, of a fault of a second input, or of a defect
 abbrev pub HasWords : ℕ → Type 0
-HasWords number = ((why : OneFault) × (one_number why ≡ number)) ⊎ ((why : OneFault) × (one_number why + 65536 ≡ number)) ⊎ ((reason : DefectReason) × (defect_number reason ≡ number))
+HasWords number = ((why : CountFault) × (counted_number why ≡ number)) ⊎ ((why : CountFault) × (counted_number why + 65536 ≡ number)) ⊎ ((reason : DefectReason) × (defect_number reason ≡ number))
 
 -- some words, and then a zero, are in the buffer, or don't fit it. No clause says which words.
 pub record WordsPut (before after : List ℕ) (code : ℕ) : Type 0 where

@@ -25,8 +25,8 @@ use Rattle.cborn_explain.specs.declared.reasons.TextReason.{TextReason}
 use Rattle.cborn_explain.specs.declared.reasons.TextReason.TheVariants as text
 use Rattle.cborn_engine.specs.declared.faults.EngineFault.{EngineFault}
 use Rattle.cborn_engine.specs.declared.faults.EngineFault.TheVariants as fault
-use Rattle.cborn_engine.specs.declared.one_faults.OneFault.{OneFault}
-use Rattle.cborn_engine.specs.declared.one_faults.OneFault.TheVariants as one
+use Rattle.cborn_engine.specs.declared.count_faults.CountFault.{CountFault}
+use Rattle.cborn_engine.specs.declared.count_faults.CountFault.TheVariants as counted
 use Rattle.cborn_engine.specs.declared.kinds.Kind.{Kind}
 use Rattle.cborn_engine.specs.declared.kinds.Kind.TheVariants as kind
 use Rattle.cborn_c.specs.declared.numbers.KeyOrdering.{KeyOrdering}
@@ -149,13 +149,13 @@ fault_place fault.ReadFault = 0
 fault_place fault.WriteFault = 0
 fault_place fault.OutOfMemory = 0
 
--- the number of a fault where exactly one item is wanted
-abbrev pub one_number : OneFault → ℕ
-one_number (one.Engine why) = fault_number why
-one_number (one.NoItem p) = count_number counts.NoItem
-one_number (one.MoreItems p) = count_number counts.MoreItems
+-- the number of a fault where the input has to hold a number of items
+abbrev pub counted_number : CountFault → ℕ
+counted_number (counted.Engine why) = fault_number why
+counted_number (counted.NoItem p) = count_number counts.NoItem
+counted_number (counted.MoreItems p) = count_number counts.MoreItems
 
-abbrev pub one_place : OneFault → ℕ
-one_place (one.Engine why) = fault_place why
-one_place (one.NoItem p) = p
-one_place (one.MoreItems p) = p
+abbrev pub counted_place : CountFault → ℕ
+counted_place (counted.Engine why) = fault_place why
+counted_place (counted.NoItem p) = p
+counted_place (counted.MoreItems p) = p

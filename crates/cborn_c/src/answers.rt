@@ -1,13 +1,12 @@
 //! How answers are reported to C.
 ghost use Rattle.std.specs.Prelude.{◌≡◌};
-ghost use Rattle.cborn_c.specs.Answers.{listed, listed_one};
-ghost use Rattle.cborn_c.specs.Calls.{Told, CheckTold, CompareFaultTold, CompareTold, SameTold, ToldOne, CheckOneTold, SameOneTold, EndTold};
+ghost use Rattle.cborn_c.specs.Calls.{Told, CheckTold, CompareFaultTold, CompareTold, SameTold, EndTold};
 
 use crate::numbers::{
-    DIFFERENT, OF_SECOND, OK, OUT_OF_MEMORY, TOO_SMALL, number_defect, number_fault, number_one,
-    place_of, place_of_one,
+    DIFFERENT, OF_SECOND, OK, OUT_OF_MEMORY, TOO_SMALL, number_counted, number_defect,
+    place_of_counted,
 };
-use cborn_engine::{CompareFault, CompareOneFault, EngineFault, OneFault};
+use cborn_engine::{CompareCountFault, CountFault, EngineFault};
 use cborn_model::Defect;
 use cborn_wire::WireFault;
 use std::alloc::Global;
@@ -26,11 +25,11 @@ pub struct CbornTold {
 /// Writes an answer to the start of `out`, or reports its fault. Answers the number for C. Where `out`
 /// is too small, or at a fault, `out` is unchanged.
 pub fn put(
-    answer: Result<CowSlice<'_, u8, Global>, EngineFault>,
+    answer: Result<CowSlice<'_, u8, Global>, CountFault>,
     out: &mut [u8],
     told: &mut CbornTold,
 ) -> u32
-    ensures { Told (listed answer.entry) out.old out.new told.new result }
+    ensures { Told answer.entry out.old out.new told.new result }
 {
     match answer {
         Ok(bytes) => {
@@ -47,16 +46,16 @@ pub fn put(
         }
         Err(why) => {
             *told = CbornTold {
-                place: place_of(why),
+                place: place_of_counted(why),
                 length: 0,
             };
-            number_fault(why)
+            number_counted(why)
         }
     }
 }
 
 /// Reports a defect, that there is none, or the fault of the input. Answers the number for C.
-pub fn defect_told(answer: Result<Option<Defect>, EngineFault>, place: &mut u64) -> u32
+pub fn defect_told(answer: Result<Option<Defect>, CountFault>, place: &mut u64) -> u32
     ensures { CheckTold answer place.new result }
 {
     match answer {
@@ -69,14 +68,14 @@ pub fn defect_told(answer: Result<Option<Defect>, EngineFault>, place: &mut u64)
             number_defect(defect.reason)
         }
         Err(why) => {
-            *place = place_of(why);
-            number_fault(why)
+            *place = place_of_counted(why);
+            number_counted(why)
         }
     }
 }
 
 /// Reports a difference, that there is none, or the fault of an input. Answers the number for C.
-pub fn difference_told(answer: Result<Option<u64>, CompareFault>, place: &mut u64) -> u32
+pub fn difference_told(answer: Result<Option<u64>, CompareCountFault>, place: &mut u64) -> u32
     ensures { CompareTold answer place.new result }
 {
     match answer {
@@ -93,7 +92,7 @@ pub fn difference_told(answer: Result<Option<u64>, CompareFault>, place: &mut u6
 }
 
 /// Reports whether two inputs hold the same items, or the fault of one. Answers the number for C.
-pub fn same_told(answer: Result<bool, CompareFault>, place: &mut u64) -> u32
+pub fn same_told(answer: Result<bool, CompareCountFault>, place: &mut u64) -> u32
     ensures { SameTold answer place.new result }
 {
     match answer {
@@ -106,76 +105,19 @@ pub fn same_told(answer: Result<bool, CompareFault>, place: &mut u64) -> u32
 }
 
 /// Reports why two inputs weren't compared. Answers the number for C.
-fn compare_fault_told(why: CompareFault, place: &mut u64) -> u32
+fn compare_fault_told(why: CompareCountFault, place: &mut u64) -> u32
     ensures { CompareFaultTold why place.new result }
 {
     match why {
-        CompareFault::First(why) => {
-            *place = place_of(why);
-            number_fault(why)
+        CompareCountFault::First(why) => {
+            *place = place_of_counted(why);
+            number_counted(why)
         }
-        CompareFault::Second(why) => {
-            *place = place_of(why);
-            number_fault(why) + OF_SECOND
+        CompareCountFault::Second(why) => {
+            *place = place_of_counted(why);
+            number_counted(why) + OF_SECOND
         }
-        CompareFault::OutOfMemory => {
-            *place = 0;
-            OUT_OF_MEMORY
-        }
-    }
-}
-
-/// Writes the answer for an input that has to hold one item to the start of `out`, or reports its
-/// fault. Answers the number for C. Where `out` is too small, or at a fault, `out` is unchanged.
-pub fn put_one(
-    answer: Result<CowSlice<'_, u8, Global>, OneFault>,
-    out: &mut [u8],
-    told: &mut CbornTold,
-) -> u32
-    ensures { ToldOne (listed_one answer.entry) out.old out.new told.new result }
-{
-    match answer {
-        Ok(bytes) => put(Ok(bytes), out, told),
-        Err(why) => {
-            *told = CbornTold {
-                place: place_of_one(why),
-                length: 0,
-            };
-            number_one(why)
-        }
-    }
-}
-
-/// Reports a defect of an input that has to hold one item, that there is none, or the fault of the
-/// input. Answers the number for C.
-pub fn defect_of_one_told(answer: Result<Option<Defect>, OneFault>, place: &mut u64) -> u32
-    ensures { CheckOneTold answer place.new result }
-{
-    match answer {
-        Ok(defect) => defect_told(Ok(defect), place),
-        Err(why) => {
-            *place = place_of_one(why);
-            number_one(why)
-        }
-    }
-}
-
-/// Reports whether two inputs that have to hold one item each hold the same, or the fault of one.
-/// Answers the number for C.
-pub fn same_one_told(answer: Result<bool, CompareOneFault>, place: &mut u64) -> u32
-    ensures { SameOneTold answer place.new result }
-{
-    match answer {
-        Ok(same) => same_told(Ok(same), place),
-        Err(CompareOneFault::First(why)) => {
-            *place = place_of_one(why);
-            number_one(why)
-        }
-        Err(CompareOneFault::Second(why)) => {
-            *place = place_of_one(why);
-            number_one(why) + OF_SECOND
-        }
-        Err(CompareOneFault::OutOfMemory) => {
+        CompareCountFault::OutOfMemory => {
             *place = 0;
             OUT_OF_MEMORY
         }
@@ -196,9 +138,9 @@ pub fn end_told(
             *place = end as u64;
             return OK;
         }
-        Ok(None) => OneFault::NoItem(input_length as u64),
-        Err(why) => OneFault::Engine(EngineFault::Wire(why)),
+        Ok(None) => CountFault::NoItem(input_length as u64),
+        Err(why) => CountFault::Engine(EngineFault::Wire(why)),
     };
-    *place = place_of_one(why);
-    number_one(why)
+    *place = place_of_counted(why);
+    number_counted(why)
 }

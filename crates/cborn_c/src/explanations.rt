@@ -6,14 +6,20 @@ ghost use Rattle.cborn_c.specs.Calls.{IsExplained, TextTold};
 ghost use Rattle.cborn_c.specs.Numbers.{TellsOfBytes, text_number};
 
 use crate::answers::{CbornTold, put};
-use crate::inputs::Input;
 use crate::words::{count_at, defect_at, edn_at, invalid_at, lex_at, of_first, wire_at};
-use cborn_engine::{EngineFault, Kind};
+use cborn_engine::{CountFault, EngineFault, Kind};
 use cborn_explain::{BytesReason, NotationText, TextReason, explain_bytes, explain_text};
 use cborn_lex::Profile;
 use cborn_model::{InvalidReason, Limit};
 use std::alloc::{AllocError, Global};
 use std::borrow::CowSlice;
+
+/// An input in memory, and the format that it is read as.
+#[derive(Clone, Copy)]
+pub struct Input<'a> {
+    pub kind: Kind,
+    pub bytes: &'a [u8],
+}
 
 /// The reason for which bytes are refused that has this number. `None`: no such reason has it.
 fn bytes_fault_at(number: u32) -> Option<BytesReason>
@@ -98,7 +104,7 @@ pub fn put_text(answer: Result<String, AllocError>, out: &mut [u8], told: &mut C
 {
     let bytes = match answer {
         Ok(text) => Ok(CowSlice::Owned(text.into_bytes())),
-        Err(_) => Err(EngineFault::OutOfMemory),
+        Err(_) => Err(CountFault::Engine(EngineFault::OutOfMemory)),
     };
     put(bytes, out, told)
 }

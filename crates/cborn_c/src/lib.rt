@@ -9,29 +9,25 @@
 #![tactic(auto)]
 
 mod answers;
+mod calls;
 mod explanations;
-mod inputs;
 mod numbers;
 mod words;
 
 ghost use Rattle.std.specs.Prelude.{◌≡◌, ◌≢◌, ◌≤◌, ◌+◌, ◌/◌, length};
+ghost use Rattle.cborn_engine.specs.declared.counts.Count.TheVariants as counts;
 ghost use Rattle.cborn_c.specs.Numbers.{numbered_kind, numbered_order};
-ghost use Rattle.cborn_c.specs.Calls.{NormaliseCall, ShowCall, CheckCall, CompareCall, SameCall, NormaliseOneCall, ShowOneCall, CheckOneCall, CompareOneCall, ItemEndCall, WordsCall, ExplainCall};
+ghost use Rattle.cborn_c.specs.Calls.{NormaliseCall, ShowCall, CheckCall, CompareCall, SameCall, ItemEndCall, WordsCall, ExplainCall};
 
-use answers::{
-    CbornTold, defect_of_one_told, defect_told, difference_told, end_told, put, put_one,
-    same_one_told, same_told,
-};
-use cborn_model::{Bytewise, LengthFirst, Limit};
+use answers::{CbornTold, difference_told, end_told};
+use calls::{check, normalise, same, show};
+use cborn_engine::{Count, compare_slices};
+use cborn_model::{Bytewise, Limit};
 use cborn_wire::item_end;
-use explanations::{explained, put_text};
-use inputs::{
-    Input, checked, checked_one, compared, matched, matched_one, normalised, normalised_one, shown,
-    shown_one,
-};
-use numbers::{BAD_ARGUMENT, KeyOrdering, kind_at, order_at};
+use explanations::{Input, explained, put_text};
+use numbers::{BAD_ARGUMENT, kind_at};
 use std::alloc::Global;
-use words::{defect_at, of_first, one_fault_at, put_words};
+use words::{counted_fault_at, defect_at, of_first, put_words};
 
 /// Writes the canonical form of the items of `input` to the start of `out`: their deterministic
 /// encodings (RFC 8949 section 4.2), or the fixed notation of these. `from` and `to` number a format,
@@ -54,26 +50,10 @@ pub extern "C" fn cborn_normalise(
     out: &mut [u8],
     told: &mut CbornTold,
 ) -> u32
-    ensures call { NormaliseCall (numbered_kind from) (numbered_kind to) (numbered_order order) depth input.now out.old out.new told.old told.new result }
+    ensures call { NormaliseCall counts.Any (numbered_kind from) (numbered_kind to) (numbered_order order) depth input.now out.old out.new told.old told.new result }
     ensures room { from ≡ 0 → to ≡ 0 → length input.now + length input.now / 3 ≤ length out.old → result ≢ 1 }
 {
-    let Some(from) = kind_at(from) else {
-        return BAD_ARGUMENT;
-    };
-    let Some(to) = kind_at(to) else {
-        return BAD_ARGUMENT;
-    };
-    let Some(order) = order_at(order) else {
-        return BAD_ARGUMENT;
-    };
-    let Some(limit) = Limit::new(depth) else {
-        return BAD_ARGUMENT;
-    };
-    let answer = match order {
-        KeyOrdering::Bytewise => normalised::<Bytewise>(alloc, limit, from, to, input),
-        KeyOrdering::LengthFirst => normalised::<LengthFirst>(alloc, limit, from, to, input),
-    };
-    put(answer, out, told)
+    normalise(alloc, Count::Any, from, to, order, depth, input, out, told)
 }
 
 /// Writes the items of `input` as they are spelled to the start of `out`: as bytes (RFC 8949
@@ -96,18 +76,9 @@ pub extern "C" fn cborn_show(
     out: &mut [u8],
     told: &mut CbornTold,
 ) -> u32
-    ensures { ShowCall (numbered_kind from) (numbered_kind to) depth input.now out.old out.new told.old told.new result }
+    ensures { ShowCall counts.Any (numbered_kind from) (numbered_kind to) depth input.now out.old out.new told.old told.new result }
 {
-    let Some(from) = kind_at(from) else {
-        return BAD_ARGUMENT;
-    };
-    let Some(to) = kind_at(to) else {
-        return BAD_ARGUMENT;
-    };
-    let Some(limit) = Limit::new(depth) else {
-        return BAD_ARGUMENT;
-    };
-    put(shown(alloc, limit, from, to, input), out, told)
+    show(alloc, Count::Any, from, to, depth, input, out, told)
 }
 
 /// `OK` if the bytes of `input` are the deterministic encodings of the items that they hold (RFC 8949
@@ -126,19 +97,9 @@ pub extern "C" fn cborn_check(
     input: &[u8],
     place: &mut u64,
 ) -> u32
-    ensures { CheckCall (numbered_order order) depth input.now place.old place.new result }
+    ensures { CheckCall counts.Any (numbered_order order) depth input.now place.old place.new result }
 {
-    let Some(order) = order_at(order) else {
-        return BAD_ARGUMENT;
-    };
-    let Some(limit) = Limit::new(depth) else {
-        return BAD_ARGUMENT;
-    };
-    let answer = match order {
-        KeyOrdering::Bytewise => checked::<Bytewise>(alloc, limit, input),
-        KeyOrdering::LengthFirst => checked::<LengthFirst>(alloc, limit, input),
-    };
-    defect_told(answer, place)
+    check(alloc, Count::Any, order, depth, input, place)
 }
 
 /// `OK` if two inputs hold the same items (RFC 8949 section 2), else `DIFFERENT`, and `place` gets the
@@ -172,15 +133,9 @@ pub extern "C" fn cborn_compare(
     let Some(limit) = Limit::new(depth) else {
         return BAD_ARGUMENT;
     };
-    let first = Input {
-        kind: from_a,
-        bytes: first,
-    };
-    let second = Input {
-        kind: from_b,
-        bytes: second,
-    };
-    difference_told(compared(alloc, limit, first, second), place)
+    let any = Count::Any;
+    let answer = compare_slices::<Bytewise>(alloc, limit, any, from_a, first, from_b, second);
+    difference_told(answer, place)
 }
 
 /// `OK` if two inputs hold the same items (RFC 8949 section 2), else `DIFFERENT`. They do if and only
@@ -203,26 +158,18 @@ pub extern "C" fn cborn_same(
     second: &[u8],
     place: &mut u64,
 ) -> u32
-    ensures { SameCall (numbered_kind from_a) (numbered_kind from_b) depth first.now second.now place.old place.new result }
+    ensures { SameCall counts.Any (numbered_kind from_a) (numbered_kind from_b) depth first.now second.now place.old place.new result }
 {
-    let Some(from_a) = kind_at(from_a) else {
-        return BAD_ARGUMENT;
-    };
-    let Some(from_b) = kind_at(from_b) else {
-        return BAD_ARGUMENT;
-    };
-    let Some(limit) = Limit::new(depth) else {
-        return BAD_ARGUMENT;
-    };
-    let first = Input {
-        kind: from_a,
-        bytes: first,
-    };
-    let second = Input {
-        kind: from_b,
-        bytes: second,
-    };
-    same_told(matched(alloc, limit, first, second), place)
+    same(
+        alloc,
+        Count::Any,
+        from_a,
+        from_b,
+        depth,
+        first,
+        second,
+        place,
+    )
 }
 
 /// Writes the deterministic encoding of the one item that `input` has to hold to the start of `out`
@@ -243,26 +190,10 @@ pub extern "C" fn cborn_normalise_one(
     out: &mut [u8],
     told: &mut CbornTold,
 ) -> u32
-    ensures call { NormaliseOneCall (numbered_kind from) (numbered_kind to) (numbered_order order) depth input.now out.old out.new told.old told.new result }
+    ensures call { NormaliseCall counts.One (numbered_kind from) (numbered_kind to) (numbered_order order) depth input.now out.old out.new told.old told.new result }
     ensures room { from ≡ 0 → to ≡ 0 → length input.now + length input.now / 3 ≤ length out.old → result ≢ 1 }
 {
-    let Some(from) = kind_at(from) else {
-        return BAD_ARGUMENT;
-    };
-    let Some(to) = kind_at(to) else {
-        return BAD_ARGUMENT;
-    };
-    let Some(order) = order_at(order) else {
-        return BAD_ARGUMENT;
-    };
-    let Some(limit) = Limit::new(depth) else {
-        return BAD_ARGUMENT;
-    };
-    let answer = match order {
-        KeyOrdering::Bytewise => normalised_one::<Bytewise>(alloc, limit, from, to, input),
-        KeyOrdering::LengthFirst => normalised_one::<LengthFirst>(alloc, limit, from, to, input),
-    };
-    put_one(answer, out, told)
+    normalise(alloc, Count::One, from, to, order, depth, input, out, told)
 }
 
 /// Writes the one item that `input` has to hold as it is spelled, valid or not, to the start of
@@ -283,18 +214,9 @@ pub extern "C" fn cborn_show_one(
     out: &mut [u8],
     told: &mut CbornTold,
 ) -> u32
-    ensures { ShowOneCall (numbered_kind from) (numbered_kind to) depth input.now out.old out.new told.old told.new result }
+    ensures { ShowCall counts.One (numbered_kind from) (numbered_kind to) depth input.now out.old out.new told.old told.new result }
 {
-    let Some(from) = kind_at(from) else {
-        return BAD_ARGUMENT;
-    };
-    let Some(to) = kind_at(to) else {
-        return BAD_ARGUMENT;
-    };
-    let Some(limit) = Limit::new(depth) else {
-        return BAD_ARGUMENT;
-    };
-    put_one(shown_one(alloc, limit, from, to, input), out, told)
+    show(alloc, Count::One, from, to, depth, input, out, told)
 }
 
 /// `OK` if the one item that `input` has to hold is deterministic (RFC 8949 section 4.2), else the
@@ -312,19 +234,9 @@ pub extern "C" fn cborn_check_one(
     input: &[u8],
     place: &mut u64,
 ) -> u32
-    ensures { CheckOneCall (numbered_order order) depth input.now place.old place.new result }
+    ensures { CheckCall counts.One (numbered_order order) depth input.now place.old place.new result }
 {
-    let Some(order) = order_at(order) else {
-        return BAD_ARGUMENT;
-    };
-    let Some(limit) = Limit::new(depth) else {
-        return BAD_ARGUMENT;
-    };
-    let answer = match order {
-        KeyOrdering::Bytewise => checked_one::<Bytewise>(alloc, limit, input),
-        KeyOrdering::LengthFirst => checked_one::<LengthFirst>(alloc, limit, input),
-    };
-    defect_of_one_told(answer, place)
+    check(alloc, Count::One, order, depth, input, place)
 }
 
 /// `OK` if two inputs, each of which has to hold exactly one item, hold the same one (RFC 8949
@@ -346,26 +258,18 @@ pub extern "C" fn cborn_compare_one(
     second: &[u8],
     place: &mut u64,
 ) -> u32
-    ensures { CompareOneCall (numbered_kind from_a) (numbered_kind from_b) depth first.now second.now place.old place.new result }
+    ensures { SameCall counts.One (numbered_kind from_a) (numbered_kind from_b) depth first.now second.now place.old place.new result }
 {
-    let Some(from_a) = kind_at(from_a) else {
-        return BAD_ARGUMENT;
-    };
-    let Some(from_b) = kind_at(from_b) else {
-        return BAD_ARGUMENT;
-    };
-    let Some(limit) = Limit::new(depth) else {
-        return BAD_ARGUMENT;
-    };
-    let first = Input {
-        kind: from_a,
-        bytes: first,
-    };
-    let second = Input {
-        kind: from_b,
-        bytes: second,
-    };
-    same_one_told(matched_one(alloc, limit, first, second), place)
+    same(
+        alloc,
+        Count::One,
+        from_a,
+        from_b,
+        depth,
+        first,
+        second,
+        place,
+    )
 }
 
 /// `OK` if a well-formed item starts in `input`, which is CBOR bytes, at the offset `start` (RFC 8949
@@ -414,7 +318,7 @@ pub extern "C" fn cborn_words(number: u32, out: &mut [u8]) -> u32
     if let Some(reason) = defect_at(number) {
         return put_words(&reason, out);
     }
-    match one_fault_at(of_first(number)) {
+    match counted_fault_at(of_first(number)) {
         Some(why) => put_words(&why, out),
         None => BAD_ARGUMENT,
     }

@@ -1,10 +1,10 @@
 //! The numbers of formats, orders of keys, faults and defects in C. That of a fault or a defect has its
 //! class in the second byte from below, and its reason in the lowest. No number ever changes its meaning.
 ghost use Rattle.std.specs.Prelude.{◌≡◌, ◌<◌};
-ghost use Rattle.cborn_c.specs.Numbers.{numbered_kind, numbered_order, wire_number, lex_number, edn_number, invalid_number, defect_number, fault_number, fault_place, one_number, one_place};
+ghost use Rattle.cborn_c.specs.Numbers.{numbered_kind, numbered_order, wire_number, lex_number, edn_number, invalid_number, defect_number, fault_number, fault_place, counted_number, counted_place};
 
 use cborn_edn::{EdnFault, EdnReason, ShowFault};
-use cborn_engine::{EngineFault, Kind, OneFault};
+use cborn_engine::{CountFault, EngineFault, Kind};
 use cborn_lex::{LexFault, LexReason};
 use cborn_model::{DefectReason, Invalid, InvalidReason};
 use cborn_wire::{WireFault, WireReason};
@@ -183,25 +183,25 @@ pub fn place_of(why: EngineFault) -> u64
     }
 }
 
-/// The number of a fault of an input that has to hold exactly one item.
-pub fn number_one(why: OneFault) -> u32
-    ensures number { result ≡ one_number why }
+/// The number of a fault of an input that has to hold a number of items.
+pub fn number_counted(why: CountFault) -> u32
+    ensures number { result ≡ counted_number why }
     ensures small { result < 65536 }
 {
     match why {
-        OneFault::Engine(why) => number_fault(why),
-        OneFault::NoItem(_) => 0x701,
-        OneFault::MoreItems(_) => 0x702,
+        CountFault::Engine(why) => number_fault(why),
+        CountFault::NoItem(_) => 0x701,
+        CountFault::MoreItems(_) => 0x702,
     }
 }
 
-/// The offset of a fault of an input that has to hold exactly one item, in bytes from its start. 0
+/// The offset of a fault of an input that has to hold a number of items, in bytes from its start. 0
 /// where it isn't in the content of the input.
-pub fn place_of_one(why: OneFault) -> u64
-    ensures { result ≡ one_place why }
+pub fn place_of_counted(why: CountFault) -> u64
+    ensures { result ≡ counted_place why }
 {
     match why {
-        OneFault::Engine(why) => place_of(why),
-        OneFault::NoItem(place) | OneFault::MoreItems(place) => place,
+        CountFault::Engine(why) => place_of(why),
+        CountFault::NoItem(place) | CountFault::MoreItems(place) => place,
     }
 }

@@ -1,14 +1,14 @@
 //! The words of a number: those that the program prints for that fault or defect.
 ghost use Rattle.std.specs.Prelude.{◌≡◌, ◌≢◌, ◌<◌, ◌≤◌, ◌+◌, ◌⊎◌, ◌∷◌, ◌++◌, [], IfSome, IfNone};
 ghost use Rattle.cborn_engine.specs.declared.faults.EngineFault.{EngineFault};
-ghost use Rattle.cborn_engine.specs.declared.one_faults.OneFault.{OneFault};
+ghost use Rattle.cborn_engine.specs.declared.count_faults.CountFault.{CountFault};
 ghost use Rattle.cborn_c.specs.Calls.{IsPut, WordsPut};
-ghost use Rattle.cborn_c.specs.Numbers.{wire_number, lex_number, edn_number, invalid_number, count_number, defect_number, fault_number, one_number};
+ghost use Rattle.cborn_c.specs.Numbers.{wire_number, lex_number, edn_number, invalid_number, count_number, defect_number, fault_number, counted_number};
 
 use crate::numbers::{OF_SECOND, OK, OUT_OF_MEMORY, TOO_LONG, TOO_SMALL};
 use arrayvec::ArrayString;
 use cborn_edn::{EdnFault, EdnReason, ShowFault};
-use cborn_engine::{EngineFault, OneFault};
+use cborn_engine::{CountFault, EngineFault};
 use cborn_explain::CountReason;
 use cborn_lex::{LexFault, LexReason};
 use cborn_model::{DefectReason, Invalid, InvalidReason};
@@ -158,17 +158,17 @@ pub fn fault_at(number: u32) -> Option<EngineFault>
     }
 }
 
-/// A fault, at offset 0, of an input that has to hold exactly one item, that has this number. `None`:
+/// A fault, at offset 0, of an input that has to hold a number of items, that has this number. `None`:
 /// no such fault has it.
-pub fn one_fault_at(number: u32) -> Option<OneFault>
-    ensures numbered { IfSome result (λ why. one_number why ≡ number) }
-    ensures every { IfNone result ((why : OneFault) → one_number why ≢ number) }
+pub fn counted_fault_at(number: u32) -> Option<CountFault>
+    ensures numbered { IfSome result (λ why. counted_number why ≡ number) }
+    ensures every { IfNone result ((why : CountFault) → counted_number why ≢ number) }
 {
     match count_at(number) {
-        Some(CountReason::NoItem) => Some(OneFault::NoItem(0)),
-        Some(CountReason::MoreItems) => Some(OneFault::MoreItems(0)),
+        Some(CountReason::NoItem) => Some(CountFault::NoItem(0)),
+        Some(CountReason::MoreItems) => Some(CountFault::MoreItems(0)),
         None => match fault_at(number) {
-            Some(why) => Some(OneFault::Engine(why)),
+            Some(why) => Some(CountFault::Engine(why)),
             None => None,
         },
     }

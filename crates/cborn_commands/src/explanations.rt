@@ -1,7 +1,7 @@
 //! What `--explain` adds to a refusal, a defect or a difference.
 
 use cborn_edn::{EdnFault, ShowFault};
-use cborn_engine::{EngineFault, Kind, OneFault, normalise_slice, show_slice};
+use cborn_engine::{Count, CountFault, EngineFault, Kind, normalise_slice, show_slice};
 use cborn_explain::{
     BytesReason, Compared, CountReason, NotationText, TextReason, explain_bytes,
     explain_difference, explain_same, explain_text, hint_of,
@@ -23,7 +23,7 @@ pub fn explain_fault(
     limit: Limit,
     kind: Kind,
     input: Bytes<'_>,
-    fault: OneFault,
+    fault: CountFault,
 ) -> Result<String, AllocError> {
     match reason_of(kind, fault) {
         Some(Reason::Bytes(reason, place)) => explain_bytes(alloc, limit, input?, place, reason),
@@ -64,7 +64,7 @@ pub fn explain_comparison<O: KeyOrder>(
 ) -> Result<String, AllocError> {
     match compared_lines::<O>(alloc, limit, kinds, (inputs.0?, inputs.1?), are_same) {
         Ok(text) => Ok(text),
-        Err(EngineFault::OutOfMemory) => Err(AllocError),
+        Err(CountFault::Engine(EngineFault::OutOfMemory)) => Err(AllocError),
         // a compared input isn't refused
         Err(_) => Ok(String::new(alloc)),
     }
@@ -101,11 +101,11 @@ enum Reason {
 }
 
 /// The reason and the offset of a fault. `None`: it isn't in the content of the input.
-fn reason_of(kind: Kind, fault: OneFault) -> Option<Reason> {
+fn reason_of(kind: Kind, fault: CountFault) -> Option<Reason> {
     match fault {
-        OneFault::Engine(fault) => reason_of_content(kind, fault),
-        OneFault::NoItem(place) => Some(of_count(kind, CountReason::NoItem, place)),
-        OneFault::MoreItems(place) => Some(of_count(kind, CountReason::MoreItems, place)),
+        CountFault::Engine(fault) => reason_of_content(kind, fault),
+        CountFault::NoItem(place) => Some(of_count(kind, CountReason::NoItem, place)),
+        CountFault::MoreItems(place) => Some(of_count(kind, CountReason::MoreItems, place)),
     }
 }
 
@@ -158,16 +158,16 @@ fn compared_lines<O: KeyOrder>(
     kinds: (Kind, Kind),
     (first, second): (&[u8], &[u8]),
     are_same: bool,
-) -> Result<String, EngineFault> {
-    let our_bytes = show_slice(alloc, limit, kinds.0, Kind::Wire, first)?;
-    let their_bytes = show_slice(alloc, limit, kinds.1, Kind::Wire, second)?;
+) -> Result<String, CountFault> {
+    let our_bytes = show_slice(alloc, limit, Count::Any, kinds.0, Kind::Wire, first)?;
+    let their_bytes = show_slice(alloc, limit, Count::Any, kinds.1, Kind::Wire, second)?;
     let ours = compared(kinds.0, first, &our_bytes);
     let theirs = compared(kinds.1, second, &their_bytes);
     if are_same {
         return Ok(explain_same(alloc, limit, ours, theirs)?);
     }
-    let first = normalise_slice::<O>(alloc, limit, kinds.0, Kind::Wire, first)?;
-    let second = normalise_slice::<O>(alloc, limit, kinds.1, Kind::Wire, second)?;
+    let first = normalise_slice::<O>(alloc, limit, Count::Any, kinds.0, Kind::Wire, first)?;
+    let second = normalise_slice::<O>(alloc, limit, Count::Any, kinds.1, Kind::Wire, second)?;
     let inputs = (ours, theirs);
     Ok(explain_difference::<O>(alloc, limit, inputs, &first, &second)?)
 }

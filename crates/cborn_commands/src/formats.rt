@@ -1,7 +1,7 @@
-//! The formats of the command line, as the engine names them.
+//! What the command line names, as the engine names it.
 
-use cborn_engine::Kind;
-use cborn_options::Format;
+use cborn_engine::{Count, Kind};
+use cborn_options::{Format, Items};
 
 /// The engine's name of a format.
 pub fn kind_of(format: Format) -> Kind {
@@ -9,5 +9,13 @@ pub fn kind_of(format: Format) -> Kind {
         Format::Wire => Kind::Wire,
         Format::Notation => Kind::Notation,
         Format::Notation2 => Kind::Notation2,
+    }
+}
+
+/// How many items an input has to hold.
+pub fn count_of(items: Items) -> Count {
+    match items {
+        Items::Any => Count::Any,
+        Items::One => Count::One,
     }
 }

@@ -1,12 +1,13 @@
 //! The lines that the program prints.
 ghost use Rattle.std.specs.Prelude.{◌≡◌, ◌≤◌, IfOk, IfErr, OnOk};
-ghost use Rattle.cborn_commands.specs.Statuses.{of_file, status_of_answer, status_of_fault, status_of_one, status_of_trouble};
+ghost use Rattle.cborn_commands.specs.Statuses.{of_file, status_of_answer, status_of_fault, status_of_trouble};
 ghost use Rattle.cborn_engine.specs.declared.EngineFault.TheVariants as fault;
+ghost use Rattle.cborn_engine.specs.declared.CountFault.TheVariants as counted;
 ghost use Rattle.cborn_commands.specs.declared.lines.Trouble.TheVariants as trouble;
 
 use crate::names::FileName;
 use crate::statuses::{DIFFERENT, DONE, FAILED, REFUSED};
-use cborn_engine::{CompareFault, CompareOneFault, Counted, EngineFault, OneFault};
+use cborn_engine::{CompareCountFault, CountFault, Counted, EngineFault};
 use cborn_model::Defect;
 use std::alloc::Global;
 use std::fmt::{Display, Formatter};
@@ -23,15 +24,11 @@ pub enum Trouble<'a> {
     /// The second of two files, which has this name, can't be opened.
     CannotReadSecond(&'a str),
     /// The engine reported a fault.
-    Engine(EngineFault),
+    Engine(CountFault),
     /// The engine reported a fault of one of two inputs.
-    Compare(CompareFault),
-    /// The engine reported a fault of an input that has to hold exactly one item.
-    One(OneFault),
-    /// The engine reported a fault of one of two such inputs.
-    CompareOne(CompareOneFault),
+    Compare(CompareCountFault),
     /// The engine reported a fault of the file of this name, one of several.
-    OfFile(&'a str, OneFault),
+    OfFile(&'a str, CountFault),
 }
 
 impl<'a> Trouble<'a> {
@@ -43,27 +40,26 @@ impl<'a> Trouble<'a> {
         ensures status { status_of_trouble result ≡ status_of_trouble self.entry }
     {
         match self {
-            Trouble::Engine(EngineFault::WriteFault) => self,
-            Trouble::Engine(fault) => Trouble::OfFile(name, OneFault::Engine(fault)),
-            Trouble::One(fault) => Trouble::OfFile(name, fault),
+            Trouble::Engine(CountFault::Engine(EngineFault::WriteFault)) => self,
+            Trouble::Engine(fault) => Trouble::OfFile(name, fault),
             _ => self,
         }
     }
 }
 
 impl From<EngineFault> for Trouble<'_> {
-    ghost from_gives = { λ why gave. gave ≡ trouble.Engine why };
+    ghost from_gives = { λ why gave. gave ≡ trouble.Engine (counted.Engine why) };
 
     fn from(fault: EngineFault) -> Self {
-        Trouble::Engine(fault)
+        Trouble::Engine(CountFault::Engine(fault))
     }
 }
 
-impl From<OneFault> for Trouble<'_> {
-    ghost from_gives = { λ why gave. gave ≡ trouble.One why };
+impl From<CountFault> for Trouble<'_> {
+    ghost from_gives = { λ why gave. gave ≡ trouble.Engine why };
 
-    fn from(fault: OneFault) -> Self {
-        Trouble::One(fault)
+    fn from(fault: CountFault) -> Self {
+        Trouble::Engine(fault)
     }
 }
 
@@ -94,15 +90,15 @@ impl Display for Answer {
 /// Prints an answer on a line and flushes it. Answers the exit status that goes with it: 0 or 1.
 ///
 /// # Errors
-/// `Trouble::Engine(EngineFault::WriteFault)` where the line can't be written or flushed.
+/// `Trouble::Engine(CountFault::Engine(EngineFault::WriteFault))` where the line can't be written or flushed.
 pub fn tell_answer<'a, W: Write>(out: &mut Counted<W>, answer: Answer) -> Result<u8, Trouble<'a>>
     ensures status { IfOk result (λ status. status ≡ status_of_answer answer) }
     ensures flushed { OnOk result (out.new.unflushed ≡ 0) }
-    ensures trouble { IfErr result (λ why. why ≡ trouble.Engine fault.WriteFault) }
+    ensures trouble { IfErr result (λ why. why ≡ trouble.Engine (counted.Engine fault.WriteFault)) }
 {
     match print(out, &answer, "\n") {
         Ok(()) => Ok(status_of_answer(answer)),
-        Err(_) => Err(Trouble::Engine(EngineFault::WriteFault)),
+        Err(_) => Err(Trouble::Engine(CountFault::Engine(EngineFault::WriteFault))),
     }
 }
 
@@ -125,11 +121,11 @@ pub fn tell_answer_on<'a, W: Write>(
     let name = FileName { text: name };
     let line = match format!(in alloc; "{name}: {answer}\n") {
         Ok(line) => line,
-        Err(refused) => return Err(Trouble::Engine(EngineFault::from(refused))),
+        Err(refused) => return Err(Trouble::Engine(CountFault::from(refused))),
     };
     match print(out, &line, "") {
         Ok(()) => Ok(status_of_answer(answer)),
-        Err(_) => Err(Trouble::Engine(EngineFault::WriteFault)),
+        Err(_) => Err(Trouble::Engine(CountFault::Engine(EngineFault::WriteFault))),
     }
 }
 
@@ -196,8 +192,6 @@ fn print_trouble<E: Write>(err: &mut E, trouble: Trouble<'_>) -> io::Result<()> 
         Trouble::CannotReadSecond(name) => print_after(err, "cborn: second: cannot read ", name),
         Trouble::Engine(fault) => writeln!(err, "cborn: {fault}"),
         Trouble::Compare(fault) => writeln!(err, "cborn: {fault}"),
-        Trouble::One(fault) => writeln!(err, "cborn: {fault}"),
-        Trouble::CompareOne(fault) => writeln!(err, "cborn: {fault}"),
         Trouble::OfFile(name, fault) => {
             let name = FileName { text: name };
             writeln!(err, "cborn: {name}: {fault}")
@@ -217,33 +211,22 @@ fn status_of_trouble(trouble: Trouble<'_>) -> u8
 {
     match trouble {
         Trouble::Engine(fault)
-        | Trouble::Compare(CompareFault::First(fault))
-        | Trouble::Compare(CompareFault::Second(fault)) => status_of_fault(fault),
-        Trouble::One(fault)
         | Trouble::OfFile(_, fault)
-        | Trouble::CompareOne(CompareOneFault::First(fault))
-        | Trouble::CompareOne(CompareOneFault::Second(fault)) => status_of_one(fault),
+        | Trouble::Compare(CompareCountFault::First(fault))
+        | Trouble::Compare(CompareCountFault::Second(fault)) => status_of_fault(fault),
         _ => FAILED,
     }
 }
 
-fn status_of_fault(fault: EngineFault) -> u8
+/// The exit status of a fault: 2 where an input is refused, else 4.
+pub fn status_of_fault(fault: CountFault) -> u8
     ensures status { result ≡ status_of_fault fault }
     ensures undone { 2 ≤ result }
 {
     match fault {
-        EngineFault::ReadFault | EngineFault::WriteFault | EngineFault::OutOfMemory => FAILED,
+        CountFault::Engine(EngineFault::ReadFault) => FAILED,
+        CountFault::Engine(EngineFault::WriteFault) => FAILED,
+        CountFault::Engine(EngineFault::OutOfMemory) => FAILED,
         _ => REFUSED,
-    }
-}
-
-/// The exit status of a fault: 2 where an input is refused, else 4.
-pub fn status_of_one(fault: OneFault) -> u8
-    ensures status { result ≡ status_of_one fault }
-    ensures undone { 2 ≤ result }
-{
-    match fault {
-        OneFault::Engine(fault) => status_of_fault(fault),
-        OneFault::NoItem(_) | OneFault::MoreItems(_) => REFUSED,
     }
 }

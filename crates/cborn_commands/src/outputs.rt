@@ -1,5 +1,6 @@
 //! Where the answer of a task goes: to standard output or to a file.
 ghost use Rattle.std.specs.Prelude.{◌≡◌, ◌≤◌, IfOk, IfErr, OnOk};
+ghost use Rattle.cborn_engine.specs.declared.CountFault.TheVariants as counted;
 ghost use Rattle.cborn_engine.specs.declared.EngineFault.TheVariants as fault;
 ghost use Rattle.cborn_commands.specs.declared.lines.Trouble.TheVariants as trouble;
 ghost use Rattle.cborn_commands.specs.Statuses.{IsRefusal};
@@ -9,7 +10,7 @@ use crate::remarks::Remarks;
 use crate::saved::SavedFile;
 use crate::systems::System;
 use crate::tasks::perform;
-use cborn_engine::{Counted, EngineFault};
+use cborn_engine::{CountFault, Counted, EngineFault};
 use cborn_options::Task;
 use std::io::{Read, Write};
 use std::rt::Files;
@@ -74,14 +75,14 @@ fn finish<'a, F: Files, W: Write>(
     out: &mut Counted<W>,
 ) -> Result<(), Trouble<'a>>
     ensures flushed { OnOk result (out.new.unflushed ≡ 0) }
-    ensures trouble { IfErr result (λ why. why ≡ trouble.Engine fault.WriteFault) }
+    ensures trouble { IfErr result (λ why. why ≡ trouble.Engine (counted.Engine fault.WriteFault)) }
 {
     if out.flush().is_err() {
         file.discard();
-        return Err(Trouble::Engine(EngineFault::WriteFault));
+        return Err(Trouble::Engine(CountFault::Engine(EngineFault::WriteFault)));
     }
     match file.finish() {
         Ok(()) => Ok(()),
-        Err(_) => Err(Trouble::Engine(EngineFault::WriteFault)),
+        Err(_) => Err(Trouble::Engine(CountFault::Engine(EngineFault::WriteFault))),
     }
 }

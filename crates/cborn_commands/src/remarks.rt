@@ -3,10 +3,10 @@
 
 use crate::explanations::{explain_comparison, explain_defect, explain_fault, explain_kind};
 use crate::inputs::{Kept, Notes};
-use crate::lines::{Answer, Trouble, status_of_one};
+use crate::lines::{Answer, Trouble, status_of_fault};
 use crate::names::FileName;
 use crate::statuses::{DONE, REFUSED};
-use cborn_engine::{CompareFault, CompareOneFault, EngineFault, Kind, OneFault};
+use cborn_engine::{CompareCountFault, CountFault, EngineFault, Kind};
 use cborn_explain::{Hint, Look};
 use cborn_model::{KeyOrder, Limit};
 use cborn_options::{Action, Task};
@@ -120,12 +120,9 @@ impl<'a> Remarks<'a> {
     /// Adds lines on why an input is refused, or the hint on what it looks like. Of a trouble that isn't
     /// the refusal of an input it adds nothing.
     pub fn on_trouble(&mut self, kind: Kind, notes: &Notes, trouble: Trouble<'_>) {
-        let fault = match trouble {
-            Trouble::Engine(fault) => OneFault::Engine(fault),
-            Trouble::One(fault) => fault,
-            _ => return,
-        };
-        self.on_fault(self.only(), kind, notes, fault);
+        if let Trouble::Engine(fault) = trouble {
+            self.on_fault(self.only(), kind, notes, fault);
+        }
     }
 
     /// Adds the hint for a person that the file which a read or a write failed of is a folder.
@@ -170,16 +167,10 @@ impl<'a> Remarks<'a> {
                 self.on_kind(Side::First, kinds.0, notes.0);
                 self.on_kind(Side::Second, kinds.1, notes.1);
             }
-            Err(Trouble::Compare(CompareFault::First(fault))) => {
-                self.on_first(kinds, notes, OneFault::Engine(fault));
-            }
-            Err(Trouble::Compare(CompareFault::Second(fault))) => {
-                self.on_second(kinds, notes, OneFault::Engine(fault));
-            }
-            Err(Trouble::CompareOne(CompareOneFault::First(fault))) => {
+            Err(Trouble::Compare(CompareCountFault::First(fault))) => {
                 self.on_first(kinds, notes, fault);
             }
-            Err(Trouble::CompareOne(CompareOneFault::Second(fault))) => {
+            Err(Trouble::Compare(CompareCountFault::Second(fault))) => {
                 self.on_second(kinds, notes, fault);
             }
             Err(_) => {}
@@ -187,13 +178,13 @@ impl<'a> Remarks<'a> {
     }
 
     /// Adds lines on why the first of two inputs is refused, or the hint on what it looks like.
-    fn on_first(&mut self, kinds: (Kind, Kind), notes: (&Notes, &Notes), fault: OneFault) {
+    fn on_first(&mut self, kinds: (Kind, Kind), notes: (&Notes, &Notes), fault: CountFault) {
         self.on_fault(Side::First, kinds.0, notes.0, fault);
     }
 
     /// Adds lines on why the second of two inputs is refused, or the hint on what it looks like. Before
     /// that it adds the hint on the first.
-    fn on_second(&mut self, kinds: (Kind, Kind), notes: (&Notes, &Notes), fault: OneFault) {
+    fn on_second(&mut self, kinds: (Kind, Kind), notes: (&Notes, &Notes), fault: CountFault) {
         if let Notes::Look(look) = notes.0 {
             self.hint_on_valid(Side::First, *look);
         }
@@ -201,11 +192,11 @@ impl<'a> Remarks<'a> {
     }
 
     /// Adds lines on why an input is refused, or the hint on what it looks like.
-    fn on_fault(&mut self, which: Side<'_>, kind: Kind, notes: &Notes, fault: OneFault) {
+    fn on_fault(&mut self, which: Side<'_>, kind: Kind, notes: &Notes, fault: CountFault) {
         match notes {
             Notes::Nothing => {}
             Notes::Look(look) => {
-                if status_of_one(fault) == REFUSED {
+                if status_of_fault(fault) == REFUSED {
                     self.hint(which, *look);
                 }
             }
@@ -285,18 +276,12 @@ fn hint_line(alloc: Global, which: Side<'_>, hint: Hint) -> Result<String, Alloc
 
 /// The name of the file that a read or a write failed of, where one was named.
 fn failed_file<'a>(task: &Task<'a>, trouble: Trouble<'_>) -> Option<&'a str> {
-    let fault = match trouble {
-        Trouble::Engine(fault) | Trouble::One(OneFault::Engine(fault)) => fault,
-        Trouble::Compare(CompareFault::First(fault))
-        | Trouble::CompareOne(CompareOneFault::First(OneFault::Engine(fault))) => fault,
-        Trouble::Compare(CompareFault::Second(fault))
-        | Trouble::CompareOne(CompareOneFault::Second(OneFault::Engine(fault))) => fault,
+    let (fault, is_second) = match trouble {
+        Trouble::Engine(CountFault::Engine(fault))
+        | Trouble::Compare(CompareCountFault::First(CountFault::Engine(fault))) => (fault, false),
+        Trouble::Compare(CompareCountFault::Second(CountFault::Engine(fault))) => (fault, true),
         _ => return None,
     };
-    let is_second = matches!(
-        trouble,
-        Trouble::Compare(CompareFault::Second(_)) | Trouble::CompareOne(CompareOneFault::Second(_))
-    );
     match (fault, task.action) {
         (EngineFault::WriteFault, _) => task.output,
         (EngineFault::ReadFault, Action::Read { file, .. }) => file,

@@ -7,7 +7,7 @@ use crate::remarks::Remarks;
 use crate::statuses::{FAILED, USAGE};
 use crate::systems::System;
 use crate::tasks::perform;
-use cborn_engine::{Counted, EngineFault};
+use cborn_engine::{CountFault, Counted, EngineFault};
 use cborn_options::{Action, Purpose, Request, Task};
 use std::io;
 use std::io::Write;
@@ -68,8 +68,8 @@ fn check_file<'a, F: Files, W: Write, E: Write>(
             tell_remarks(err, &task, name, remarks.lines.as_str());
             Ok(status)
         }
-        Err(Trouble::Engine(EngineFault::WriteFault)) => {
-            Err(Trouble::Engine(EngineFault::WriteFault))
+        Err(Trouble::Engine(CountFault::Engine(EngineFault::WriteFault))) => {
+            Err(Trouble::Engine(CountFault::Engine(EngineFault::WriteFault)))
         }
         Err(trouble) => {
             remarks.on_failure(system.files, &task, trouble);

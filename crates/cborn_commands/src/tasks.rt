@@ -2,29 +2,29 @@
 ghost use Rattle.std.specs.Prelude.{◌≡◌, ◌≤◌, IfOk, IfErr, OnOk, None};
 ghost use Rattle.cborn_commands.specs.Statuses.{IsRefusal};
 
-use crate::formats::kind_of;
+use crate::formats::{count_of, kind_of};
 use crate::inputs::{LateFile, Noted};
 use crate::lines::{Answer, Trouble, tell_answer, tell_answer_on};
 use crate::remarks::Remarks;
 use crate::statuses::DONE;
 use crate::systems::System;
 use cborn_engine::{
-    CompareFault, CompareOneFault, Counted, Kind, Source, check, check_one, compare, compare_one,
-    normalise, normalise_one, show_all, show_one,
+    CompareCountFault, Count, Counted, Kind, Source, check_stream, compare_streams,
+    normalise_stream, show_stream,
 };
 use cborn_model::{Bytewise, KeyOrder, LengthFirst, Limit};
-use cborn_options::{Action, Format, Items, Order, Purpose, Task};
+use cborn_options::{Action, Format, Order, Purpose, Task};
 use std::alloc::Global;
 use std::fs;
 use std::io::{Read, Write};
 use std::rt::Files;
 
-/// The memory with which an input is read, the nesting limit, and how many items it may hold.
+/// The memory with which an input is read, the nesting limit, and how many items it has to hold.
 #[derive(Clone, Copy)]
 struct Wanted {
     alloc: Global,
     limit: Limit,
-    items: Items,
+    count: Count,
 }
 
 /// The name of a file, and the format that it is read as.
@@ -89,7 +89,7 @@ fn act<'a, O: KeyOrder, F: Files, I: Read + Drop, W: Write>(
     let wanted = Wanted {
         alloc,
         limit,
-        items,
+        count: count_of(items),
     };
     let file_system = system.files;
     match action {
@@ -140,21 +140,13 @@ fn read_for<'a, O: KeyOrder, I: Read + Drop, W: Write>(
     ensures untouched { IfErr result (λ why. IsRefusal why → out.new ≡ out.old) }
     ensures flushed { OnOk result (out.new.unflushed ≡ 0) }
 {
-    let Wanted {
-        alloc,
-        limit,
-        items,
-    } = wanted;
+    let alloc = wanted.alloc;
     let kind = kind_of(purpose.from());
     let mut reader = Noted {
         inner: Counted::new(input),
         notes: remarks.notes(kind),
     };
-    let answer = match items {
-        Items::Any => answer_for::<O, _, W>(alloc, limit, purpose, &mut reader, out),
-        Items::One => answer_for_one::<O, _, W>(alloc, limit, purpose, &mut reader, out),
-    };
-    let answer = match answer {
+    let answer = match answer_for::<O, _, W>(wanted, purpose, &mut reader, out) {
         Ok(answer) => answer,
         Err(trouble) => {
             remarks.on_trouble(kind, &reader.notes, trouble);
@@ -177,8 +169,7 @@ fn read_for<'a, O: KeyOrder, I: Read + Drop, W: Write>(
 /// The fault that the engine reports.
 #[tactic(auto, using(crate::proofs::Refusals::refused_is_unwritten))]
 fn answer_for<'a, O: KeyOrder, R: Source, W: Write>(
-    alloc: Global,
-    limit: Limit,
+    wanted: Wanted,
     purpose: Purpose,
     reader: &mut R,
     out: &mut Counted<W>,
@@ -186,50 +177,22 @@ fn answer_for<'a, O: KeyOrder, R: Source, W: Write>(
     ensures untouched { IfErr result (λ why. IsRefusal why → out.new ≡ out.old) }
     ensures flushed { IfOk result (λ answer. answer ≡ None → out.new.unflushed ≡ 0) }
 {
+    let Wanted {
+        alloc,
+        limit,
+        count,
+    } = wanted;
     match purpose {
         Purpose::Show { from, to } => {
-            show_all(alloc, limit, kind_of(from), kind_of(to), reader, out)?;
+            show_stream(alloc, limit, count, kind_of(from), kind_of(to), reader, out)?;
             Ok(None)
         }
         Purpose::Normalise { from, to } => {
             let (from, to) = (kind_of(from), kind_of(to));
-            normalise::<O, _, _>(alloc, limit, from, to, reader, out)?;
+            normalise_stream::<O, _, _>(alloc, limit, count, from, to, reader, out)?;
             Ok(None)
         }
-        Purpose::Check => match check::<O, _>(alloc, limit, reader)? {
-            None => Ok(Some(Answer::Deterministic)),
-            Some(defect) => Ok(Some(Answer::Defective(defect))),
-        },
-    }
-}
-
-/// Reads one input, which has to hold exactly one item. Writes and flushes what is asked for, and
-/// answers `None`, or answers what is to be printed.
-///
-/// # Errors
-/// The fault that the engine reports.
-#[tactic(auto, using(crate::proofs::Refusals::refused_one_is_unwritten))]
-fn answer_for_one<'a, O: KeyOrder, R: Source, W: Write>(
-    alloc: Global,
-    limit: Limit,
-    purpose: Purpose,
-    reader: &mut R,
-    out: &mut Counted<W>,
-) -> Result<Option<Answer>, Trouble<'a>>
-    ensures untouched { IfErr result (λ why. IsRefusal why → out.new ≡ out.old) }
-    ensures flushed { IfOk result (λ answer. answer ≡ None → out.new.unflushed ≡ 0) }
-{
-    match purpose {
-        Purpose::Show { from, to } => {
-            show_one(alloc, limit, kind_of(from), kind_of(to), reader, out)?;
-            Ok(None)
-        }
-        Purpose::Normalise { from, to } => {
-            let (from, to) = (kind_of(from), kind_of(to));
-            normalise_one::<O, _, _>(alloc, limit, from, to, reader, out)?;
-            Ok(None)
-        }
-        Purpose::Check => match check_one::<O, _>(alloc, limit, reader)? {
+        Purpose::Check => match check_stream::<O, _>(alloc, limit, count, reader)? {
             None => Ok(Some(Answer::Deterministic)),
             Some(defect) => Ok(Some(Answer::Defective(defect))),
         },
@@ -267,46 +230,24 @@ fn compare_files<'a, O: KeyOrder, F: Files, W: Write>(
         inner: LateFile::new(file_system, second.name),
         notes: remarks.notes(second.kind),
     };
-    let compared = compare_readers::<O, _, _>(wanted, kinds, &mut reader, &mut late);
+    let Wanted {
+        alloc,
+        limit,
+        count,
+    } = wanted;
+    let compared = compare_streams::<O, _, _>(
+        alloc,
+        limit,
+        count,
+        kinds.0,
+        &mut reader,
+        kinds.1,
+        &mut late,
+    );
     let missing = late.inner.is_missing().then_some(second.name);
     let reported = tell_comparison(out, compared, missing);
     remarks.on_comparison::<O>(kinds, (&reader.notes, &late.notes), reported);
     reported
-}
-
-/// Why two inputs weren't compared: they hold any number of items, or have to hold one.
-#[derive(Clone, Copy)]
-enum Uncompared {
-    Items(CompareFault),
-    One(CompareOneFault),
-}
-
-/// The index, from 0, of the first item at which two inputs differ. `None`: they hold the same items.
-///
-/// # Errors
-/// The fault that the engine reports.
-fn compare_readers<O: KeyOrder, R: Source, Q: Source>(
-    wanted: Wanted,
-    kinds: (Kind, Kind),
-    first: &mut R,
-    second: &mut Q,
-) -> Result<Option<u64>, Uncompared> {
-    let Wanted {
-        alloc,
-        limit,
-        items,
-    } = wanted;
-    match items {
-        Items::Any => match compare::<O, _, _>(alloc, limit, kinds.0, first, kinds.1, second) {
-            Ok(index) => Ok(index),
-            Err(why) => Err(Uncompared::Items(why)),
-        },
-        Items::One => match compare_one::<O, _, _>(alloc, limit, kinds.0, first, kinds.1, second) {
-            Ok(true) => Ok(None),
-            Ok(false) => Ok(Some(0)),
-            Err(why) => Err(Uncompared::One(why)),
-        },
-    }
 }
 
 /// Prints the answer of a comparison, and answers the exit status: `DONE` or `DIFFERENT`. `missing` is
@@ -316,7 +257,7 @@ fn compare_readers<O: KeyOrder, R: Source, Q: Source>(
 /// Why the files weren't compared, or that the answer can't be written.
 fn tell_comparison<'a, W: Write>(
     out: &mut Counted<W>,
-    compared: Result<Option<u64>, Uncompared>,
+    compared: Result<Option<u64>, CompareCountFault>,
     missing: Option<&'a str>,
 ) -> Result<u8, Trouble<'a>>
     ensures status { IfOk result (λ status. status ≤ 1) }
@@ -325,13 +266,7 @@ fn tell_comparison<'a, W: Write>(
 {
     match (compared, missing) {
         (Ok(index), _) => tell_answer(out, difference(index)),
-        (Err(Uncompared::Items(CompareFault::Second(_))), Some(name)) => {
-            Err(Trouble::CannotReadSecond(name))
-        }
-        (Err(Uncompared::One(CompareOneFault::Second(_))), Some(name)) => {
-            Err(Trouble::CannotReadSecond(name))
-        }
-        (Err(Uncompared::Items(why)), _) => Err(Trouble::Compare(why)),
-        (Err(Uncompared::One(why)), _) => Err(Trouble::CompareOne(why)),
+        (Err(CompareCountFault::Second(_)), Some(name)) => Err(Trouble::CannotReadSecond(name)),
+        (Err(why), _) => Err(Trouble::Compare(why)),
     }
 }

@@ -4,7 +4,7 @@ ghost use Rattle.cborn_commands.specs.Statuses.{status_of_trouble};
 
 use crate::lines::{Trouble, print, print_lines, tell_trouble};
 use crate::statuses::{DONE, FAILED, REFUSED, USAGE};
-use cborn_engine::{Counted, EngineFault};
+use cborn_engine::{CountFault, Counted, EngineFault};
 use cborn_explain::Escaped;
 use clap::Error;
 use clap::error::ErrorKind;
@@ -49,11 +49,11 @@ fn answer_usage<'a, W: Write, E: Write>(
     ensures trouble { IfErr result (λ why. status_of_trouble why ≡ FAILED) }
 {
     if why.kind() == ErrorKind::OutOfMemory {
-        return Err(Trouble::Engine(EngineFault::OutOfMemory));
+        return Err(Trouble::Engine(CountFault::Engine(EngineFault::OutOfMemory)));
     }
     let text = match text_of(alloc, why) {
         Ok(text) => text,
-        Err(_) => return Err(Trouble::Engine(EngineFault::OutOfMemory)),
+        Err(_) => return Err(Trouble::Engine(CountFault::Engine(EngineFault::OutOfMemory))),
     };
     if why.use_stderr() {
         print_lines(err, &text);
@@ -61,7 +61,7 @@ fn answer_usage<'a, W: Write, E: Write>(
     }
     match print(out, &text, "") {
         Ok(()) => Ok(DONE),
-        Err(_) => Err(Trouble::Engine(EngineFault::WriteFault)),
+        Err(_) => Err(Trouble::Engine(CountFault::Engine(EngineFault::WriteFault))),
     }
 }
 

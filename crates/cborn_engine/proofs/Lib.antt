@@ -3,4 +3,4 @@ pub mod Canonical
 pub mod Streams
 pub mod Answers
 pub mod Comparison
-pub mod OneItem
+pub mod CountAnswers

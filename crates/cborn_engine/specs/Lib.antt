@@ -9,6 +9,6 @@ pub mod Showing
 pub mod Comparing
 pub mod Checking
 pub mod Whole
-pub mod OneItem
+pub mod Counts
 pub mod Items
 pub mod devices

@@ -1,16 +1,12 @@
 -- What is answered for an input that is held whole.
-use Rattle.std.specs.Prelude.{◌≡◌, ◌≢◌, ℕ, ◌<◌, ◌≤◌, ◌⊎◌, List, length, Result, Err}
-use Rattle.cborn_model.specs.Value.{Value}
+use Rattle.std.specs.Prelude.{◌≡◌, ℕ, ◌<◌, ◌≤◌, List, length, Result, Err}
 use Rattle.cborn_wire.specs.declared.faults.WireFault.TheVariants as wire
 use Rattle.cborn_wire.specs.declared.faults.WireReason.{WireReason}
 use Rattle.cborn_wire.specs.Faults.{Fault}
-use Rattle.cborn_engine.specs.declared.faults.CompareFault.{CompareFault}
-use Rattle.cborn_engine.specs.declared.faults.CompareFault.TheVariants as compared
 use Rattle.cborn_engine.specs.declared.faults.EngineFault.{EngineFault}
 use Rattle.cborn_engine.specs.declared.faults.EngineFault.TheVariants as fault
 use Rattle.cborn_engine.specs.declared.kinds.Kind.{Kind}
 use Rattle.cborn_engine.specs.declared.kinds.Kind.TheVariants as kind
-use Rattle.cborn_engine.specs.Holding.{Holds}
 use Rattle.cborn_engine.specs.Loading.{IsNoFlaw}
 use Rattle.cborn_engine.specs.Refusing.{IsRefused}
 use Rattle.cborn_engine.specs.Showing.{IsUnshowable}
@@ -31,18 +27,9 @@ abbrev pub IsUnshownWhole : Kind → Kind → ℕ → ℕ → List ℕ → Engin
 IsUnshownWhole k out limit most input (fault.Show why) = (length input ≤ most) × IsUnshowable k out limit input why
 IsUnshownWhole k out limit most input why = IsRefusedWhole k limit most input why × IsNoFlaw why
 
--- why two of them aren't compared: the first is refused, or it isn't, and the second is. Memory may be refused for either: for the second only where the first holds items.
-abbrev pub AreRefusedWhole : Kind → Kind → ℕ → ℕ → List ℕ → List ℕ → CompareFault → Type 0
-AreRefusedWhole k l limit most x y (compared.First why) = IsRefusedWhole k limit most x why × (why ≢ fault.OutOfMemory)
-AreRefusedWhole k l limit most x y (compared.Second why) =
-    (length x ≤ most) × ((items : List Value) × Holds k limit x items) × IsRefusedWhole l limit most y why × (why ≢ fault.OutOfMemory)
-AreRefusedWhole k l limit most x y compared.OutOfMemory =
-    IsRefusedWhole k limit most x fault.OutOfMemory ⊎ (length x ≤ most) × ((items : List Value) × Holds k limit x items) × IsRefusedWhole l limit most y fault.OutOfMemory
+-- Bytes that aren't well-formed are refused for their one fault, whatever memory there is, as a call names it.
+abbrev pub TellsFaultAs : {A E : Type 0} → (EngineFault → E) → Kind → ℕ → List ℕ → Result A E → Type 0
+TellsFaultAs name k limit input result = (p : ℕ) (r : WireReason) → k ≡ kind.Wire → Fault limit input p r → result ≡ Err (name (fault.Wire (wire.Refused p r)))
 
--- Bytes that aren't well-formed are refused for their one fault, whatever memory there is.
 abbrev pub TellsFault : {A : Type 0} → Kind → ℕ → List ℕ → Result A EngineFault → Type 0
-TellsFault k limit input result = (p : ℕ) (r : WireReason) → k ≡ kind.Wire → Fault limit input p r → result ≡ Err (fault.Wire (wire.Refused p r))
-
--- Where the first of two inputs has a fault of its bytes, nothing else is reported.
-abbrev pub TellsFirstFault : {A : Type 0} → Kind → ℕ → List ℕ → Result A CompareFault → Type 0
-TellsFirstFault k limit input result = (p : ℕ) (r : WireReason) → k ≡ kind.Wire → Fault limit input p r → result ≡ Err (compared.First (fault.Wire (wire.Refused p r)))
+TellsFault k limit input result = TellsFaultAs (λ why. why) k limit input result

@@ -2,6 +2,6 @@ pub mod Counting
 pub mod Encoding
 pub mod Malformed
 pub mod Reading
-pub mod OneItem
+pub mod Counts
 pub mod TextBytes
 pub mod CuttingCode

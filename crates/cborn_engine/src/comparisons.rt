@@ -9,6 +9,7 @@ ghost use Rattle.cborn_streams.specs.Failures.{CountsFault};
 ghost use Rattle.cborn_engine.specs.Faults.{of_first, of_second};
 ghost use Rattle.cborn_engine.specs.Reading.{most_bytes};
 
+use crate::counts::Count;
 use crate::differences::difference;
 use crate::encodings::read_encoded;
 use crate::faults::{CompareFault, EngineFault};
@@ -74,5 +75,5 @@ pub fn compare<O: KeyOrder, R: Source, Q: Source>(
         Ok(bytes) => bytes,
         Err(why) => return Err(CompareFault::of_second(why)),
     };
-    Ok(difference::<O>(limit, &ours, &theirs))
+    Ok(difference::<O>(limit, Count::Any, &ours, &theirs))
 }

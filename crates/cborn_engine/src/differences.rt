@@ -1,23 +1,36 @@
 //! Where two sequences differ whose deterministic encodings are held. The encodings are walked side
 //! by side in place, item by item.
 ghost use Rattle.std.specs.Prelude.{◌≡◌, ◌≢◌, ◌++◌, ℕ, List, Some, MatchOption};
+ghost use Rattle.cborn_engine.specs.declared.counts.Count.TheVariants as counts;
 ghost use Rattle.cborn_engine.specs.declared.kinds.Kind.TheVariants as kinds;
 ghost use Rattle.cborn_engine.specs.Comparing.{AreCompared};
+ghost use Rattle.cborn_engine.specs.Counts.{HoldsOne};
 ghost use Rattle.cborn_engine.specs.devices.Encoding.{IsEncoded};
 
+use crate::counts::Count;
 use cborn_departures::split_item;
 use cborn_model::{KeyOrder, Limit};
 
-/// The difference of what two deterministic encodings hold.
-pub fn difference<O: KeyOrder>(limit: Limit, ours: &[u8], theirs: &[u8]) -> Option<u64>
+/// The difference of what two deterministic encodings hold. Where each holds one item, they aren't
+/// walked.
+pub fn difference<O: KeyOrder>(
+    limit: Limit,
+    count: Count,
+    ours: &[u8],
+    theirs: &[u8],
+) -> Option<u64>
     requires ours { IsEncoded O.order kinds.Wire limit ours.now ours.now }
     requires theirs { IsEncoded O.order kinds.Wire limit theirs.now theirs.now }
+    requires single { count ≡ counts.One → HoldsOne kinds.Wire limit ours.now × HoldsOne kinds.Wire limit theirs.now }
     ensures { AreCompared kinds.Wire kinds.Wire limit ours.now theirs.now result }
 {
     if ours == theirs {
         return None;
     }
-    Some(difference_of_encodings::<O>(limit, ours, theirs))
+    match count {
+        Count::Any => Some(difference_of_encodings::<O>(limit, ours, theirs)),
+        Count::One => Some(0),
+    }
 }
 
 /// The index of the first item at which two encodings differ, which aren't equal.

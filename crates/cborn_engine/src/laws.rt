@@ -27,6 +27,7 @@ ghost use Rattle.cborn_engine.specs.Showing.{IsShown};
 ghost use Rattle.cborn_engine.specs.Whole.{IsRefusedWhole};
 ghost use Rattle.cborn_engine.specs.Reading.{most_bytes};
 
+use crate::counts::Count;
 use crate::faults::EngineFault;
 use crate::kinds::Kind;
 use crate::slices::normalise_slice;
@@ -67,8 +68,14 @@ pub fn two_calls<'a, 'b, O: KeyOrder>(
     ensures held { IfOk result (λ both. HoldSameItems kind_a out_kind limit first.now (cow_slice_items both.0) × HoldSameItems kind_b out_kind limit second.now (cow_slice_items both.1)) }
     ensures refused { IfErr result (λ why. IsRefusedWhole kind_a limit most_bytes first.now why ⊎ IsRefusedWhole kind_b limit most_bytes second.now why) }
 {
-    let ours = normalise_slice::<O>(alloc, limit, kind_a, out_kind, first)?;
-    let theirs = normalise_slice::<O>(alloc, limit, kind_b, out_kind, second)?;
+    let ours = match normalise_slice::<O>(alloc, limit, Count::Any, kind_a, out_kind, first) {
+        Ok(bytes) => bytes,
+        Err(why) => return Err(why.of_any()),
+    };
+    let theirs = match normalise_slice::<O>(alloc, limit, Count::Any, kind_b, out_kind, second) {
+        Ok(bytes) => bytes,
+        Err(why) => return Err(why.of_any()),
+    };
     Ok((ours, theirs))
 }
 

@@ -19,13 +19,16 @@
 //!
 //! [`Items`] cuts bytes into their items, one after another (`specs/Items.antt`).
 //!
-//! `one_streams` and `one_slices` have the same calls for inputs that have to hold exactly one item,
-//! by `ones`; `specs/OneItem.antt` says what they answer.
+//! How many items an input has to hold ([`Count`]) is an argument of the calls over slices, and of
+//! those of `counted_streams` over readers; `specs/Counts.antt` says what they answer.
 #![tactic(auto)]
 
 mod checks;
 mod comparisons;
 mod conversions;
+mod count_faults;
+mod counted_streams;
+mod counts;
 mod differences;
 mod encodings;
 mod faults;
@@ -34,10 +37,6 @@ mod items;
 mod kinds;
 pub mod laws;
 mod nodes;
-mod one_faults;
-mod one_slices;
-mod one_streams;
-mod ones;
 mod refusals;
 mod showings;
 mod slices;
@@ -47,11 +46,11 @@ pub use cborn_streams::{Counted, Sink, Source};
 pub use checks::check;
 pub use comparisons::compare;
 pub use conversions::{normalise, show_all};
+pub use count_faults::{CompareCountFault, CountFault};
+pub use counted_streams::{check_stream, compare_streams, normalise_stream, show_stream};
+pub use counts::Count;
 pub use faults::{CompareFault, EngineFault};
 pub use inputs::{load, load_within};
 pub use items::Items;
 pub use kinds::Kind;
-pub use one_faults::{CompareOneFault, OneFault};
-pub use one_slices::{check_one_slice, normalise_one_slice, same_item, show_one_slice};
-pub use one_streams::{check_one, compare_one, normalise_one, show_one};
 pub use slices::{check_slice, compare_slices, normalise_slice, same_items, show_slice};

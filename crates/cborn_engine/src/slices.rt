@@ -4,24 +4,29 @@ ghost use Rattle.std.specs.Prelude.{◌≡◌, ◌≢◌, ◌<◌, ◌≤◌, �
 ghost use Rattle.std.specs.Cow.{cow_slice_items};
 ghost use Rattle.cborn_model.specs.Value.{Value, Values};
 ghost use Rattle.cborn_det.specs.Det.{DetValues};
+ghost use Rattle.cborn_engine.specs.declared.count_faults.CountFault.TheVariants as counted;
+ghost use Rattle.cborn_engine.specs.declared.counts.Count.TheVariants as counts;
 ghost use Rattle.cborn_engine.specs.declared.faults.EngineFault.TheVariants as fault;
 ghost use Rattle.cborn_engine.specs.declared.kinds.Kind.TheVariants as kinds;
 ghost use Rattle.cborn_engine.specs.declared.kinds.Kind.{Kind};
 ghost use Rattle.cborn_engine.specs.Bytes.{BytesHold};
 ghost use Rattle.cborn_engine.specs.Canonical.{IsCanonical, IsNormalForm};
-ghost use Rattle.cborn_engine.specs.Checking.{IsChecked};
 ghost use Rattle.cborn_engine.specs.Comparing.{AreCompared};
+ghost use Rattle.cborn_engine.specs.Counts.{CountAnswer, NormalisedWhole, ShownWhole, CheckedWhole, IsTaken, AreRefusedWhole, of_the_first};
+ghost use Rattle.cborn_engine.specs.devices.Counts.{EncodedWhole};
 ghost use Rattle.cborn_engine.specs.devices.Encoding.{IsEncoded, IsWrittenAs};
 ghost use Rattle.cborn_engine.specs.Holding.{Holds, HoldSameItems};
-ghost use Rattle.cborn_engine.specs.Showing.{IsShown, SpellSameBytes};
-ghost use Rattle.cborn_engine.specs.Whole.{IsRefusedWhole, IsUnshownWhole, AreRefusedWhole, TellsFault, TellsFirstFault};
+ghost use Rattle.cborn_engine.specs.Showing.{SpellSameBytes};
+ghost use Rattle.cborn_engine.specs.Whole.{TellsFaultAs};
 ghost use Rattle.cborn_engine.specs.Reading.{most_bytes};
 
 use crate::checks::check_input;
 use crate::conversions::fixed_text;
+use crate::count_faults::{CompareCountFault, CountFault};
+use crate::counts::{Count, expect};
 use crate::differences::difference;
 use crate::encodings::{encode_input, front_to_copy};
-use crate::faults::{CompareFault, EngineFault};
+use crate::faults::EngineFault;
 use crate::inputs::MOST;
 use crate::kinds::Kind;
 use crate::showings::{is_own_spelling, show_input};
@@ -36,43 +41,138 @@ use std::borrow::CowSlice;
 ///
 /// # Errors
 /// `TooLong` where the input has more than 2^30 bytes. Else the fault of its content, as
-/// `normalise` gives it, at its offset in bytes from the start of the input, or `OutOfMemory`.
+/// `normalise` gives it, at its offset in bytes from the start of the input, or `OutOfMemory`. Where
+/// there is none of these, `NoItem` or `MoreItems`.
 pub fn normalise_slice<'a, O: KeyOrder>(
     alloc: Global,
     limit: Limit,
+    count: Count,
     in_kind: Kind,
     out_kind: Kind,
     input: &'a [u8],
-) -> Result<CowSlice<'a, u8, Global>, EngineFault>
-    ensures canonical { IfOk result (λ output. (length input.now ≤ most_bytes) × IsCanonical O.order in_kind out_kind limit input.now (cow_slice_items output)) }
+) -> Result<CowSlice<'a, u8, Global>, CountFault>
+    ensures normalised { CountAnswer count in_kind limit input.now (NormalisedWhole O.order in_kind out_kind limit input.now) result }
     ensures headline { IfOk result (λ output. IsNormalForm O.order in_kind out_kind limit input.now (cow_slice_items output)) }
     ensures bytes { IfOk result (λ output. in_kind ≡ kinds.Wire → out_kind ≡ kinds.Wire → (items : Values) × BytesHold input.now items × DetValues O.order items (cow_slice_items output)) }
     ensures room { IfOk result (λ output. in_kind ≡ kinds.Wire → out_kind ≡ kinds.Wire → 3 * length (cow_slice_items output) ≤ 4 * length input.now) }
-    ensures refused { IfErr result (IsRefusedWhole in_kind limit most_bytes input.now) }
-    ensures malformed { length input.now ≤ most_bytes → TellsFault in_kind limit input.now result }
+    ensures malformed { length input.now ≤ most_bytes → TellsFaultAs counted.Engine in_kind limit input.now result }
 {
     let bytes = encode_slice::<O>(alloc, limit, in_kind, input)?;
-    Ok(written_as(alloc, limit, out_kind, bytes)?)
+    let answer = written_as(alloc, limit, out_kind, bytes)?;
+    expect(alloc, limit, count, in_kind, input)?;
+    Ok(answer)
 }
 
-/// The items of an input as they are spelled: as bytes (RFC 8949 section 3), which are lent from an
-/// input of bytes, or in the fixed notation (section 8).
+/// The items of an input as they are spelled, valid or not: as bytes (RFC 8949 section 3), which are
+/// lent from an input of bytes, or in the fixed notation (section 8).
 ///
 /// # Errors
 /// `TooLong` where the input has more than 2^30 bytes. Else the fault of its content, as `show_all`
-/// gives it, at its offset in bytes from the start of the input, or `OutOfMemory`.
+/// gives it, at its offset in bytes from the start of the input, or `OutOfMemory`. Where there is none
+/// of these, `NoItem` or `MoreItems`.
 #[inline(always)]
 pub fn show_slice<'a>(
     alloc: Global,
     limit: Limit,
+    count: Count,
+    in_kind: Kind,
+    out_kind: Kind,
+    input: &'a [u8],
+) -> Result<CowSlice<'a, u8, Global>, CountFault>
+    ensures shown { CountAnswer count in_kind limit input.now (ShownWhole in_kind out_kind limit input.now) result }
+    ensures same_bytes { IfOk result (λ output. SpellSameBytes in_kind out_kind limit input.now (cow_slice_items output)) }
+    ensures malformed { length input.now ≤ most_bytes → TellsFaultAs counted.Engine in_kind limit input.now result }
+    ensures unfailing { count ≡ counts.Any → in_kind ≡ kinds.Wire → out_kind ≡ kinds.Wire → result ≢ Err (counted.Engine fault.OutOfMemory) }
+{
+    let answer = spell_slice(alloc, limit, in_kind, out_kind, input)?;
+    expect(alloc, limit, count, in_kind, input)?;
+    Ok(answer)
+}
+
+/// The first defect of bytes, if they aren't the deterministic encodings of the items that they
+/// hold, the keys of maps in the order `O` (RFC 8949 section 4.2). None: they are.
+///
+/// # Errors
+/// `TooLong` where there are more than 2^30 bytes. Else the fault of their content, as `check`
+/// gives it, at its offset from their start, or `OutOfMemory`. Where there is none of these, `NoItem`
+/// or `MoreItems`, also of bytes that have a defect.
+#[inline(always)]
+pub fn check_slice<O: KeyOrder>(
+    alloc: Global,
+    limit: Limit,
+    count: Count,
+    input: &[u8],
+) -> Result<Option<Defect>, CountFault>
+    ensures checked { CountAnswer count kinds.Wire limit input.now (CheckedWhole O.order limit input.now) result }
+    ensures malformed { length input.now ≤ most_bytes → TellsFaultAs counted.Engine kinds.Wire limit input.now result }
+{
+    if is_too_long(input) {
+        return Err(CountFault::Engine(EngineFault::TooLong));
+    }
+    let defect = check_input::<O>(alloc, limit, input)?;
+    expect(alloc, limit, count, Kind::Wire, input)?;
+    Ok(defect)
+}
+
+/// Compares what two inputs hold. None: they hold the same items. Else the least index, from 0, at
+/// which the items differ or only one input has an item. The answer doesn't depend on `O`.
+///
+/// # Errors
+/// `First`, where the first input isn't taken, by the fault that `normalise_slice` gives for it.
+/// `Second`, likewise, where the first is taken and the second isn't. `OutOfMemory` is never inside
+/// of these.
+pub fn compare_slices<O: KeyOrder>(
+    alloc: Global,
+    limit: Limit,
+    count: Count,
+    kind_a: Kind,
+    first: &[u8],
+    kind_b: Kind,
+    second: &[u8],
+) -> Result<Option<u64>, CompareCountFault>
+    ensures compared { IfOk result (λ answer. IsTaken count kind_a limit first.now × IsTaken count kind_b limit second.now × AreCompared kind_a kind_b limit first.now second.now answer) }
+    ensures refused { IfErr result (AreRefusedWhole count kind_a kind_b limit first.now second.now) }
+    ensures malformed { length first.now ≤ most_bytes → TellsFaultAs of_the_first kind_a limit first.now result }
+{
+    let (ours, theirs) = encode_both::<O>(alloc, limit, count, kind_a, first, kind_b, second)?;
+    Ok(difference::<O>(limit, count, &ours, &theirs))
+}
+
+/// Whether two inputs hold the same items. They do exactly if their canonical forms are equal. What
+/// each holds is encoded, the keys of maps in the order `O`, and the encodings are compared; the
+/// answer doesn't depend on `O`.
+///
+/// # Errors
+/// Those of `compare_slices`.
+pub fn same_items<O: KeyOrder>(
+    alloc: Global,
+    limit: Limit,
+    count: Count,
+    kind_a: Kind,
+    first: &[u8],
+    kind_b: Kind,
+    second: &[u8],
+) -> Result<bool, CompareCountFault>
+    ensures same { IfOk result (λ same. IsTrue same ↔ HoldSameItems kind_a kind_b limit first.now second.now) }
+    ensures forms { IfOk result (λ same. (out : Kind) (v w : List ℕ) → IsCanonical O.order kind_a out limit first.now v → IsCanonical O.order kind_b out limit second.now w → IsTrue same ↔ (v ≡ w)) }
+    ensures taken { IfOk result (λ same. IsTaken count kind_a limit first.now × IsTaken count kind_b limit second.now) }
+    ensures refused { IfErr result (AreRefusedWhole count kind_a kind_b limit first.now second.now) }
+    ensures malformed { length first.now ≤ most_bytes → TellsFaultAs of_the_first kind_a limit first.now result }
+{
+    let (ours, theirs) = encode_both::<O>(alloc, limit, count, kind_a, first, kind_b, second)?;
+    Ok(*ours == *theirs)
+}
+
+/// What `show_slice` answers of an input that may hold any number of items.
+#[inline(always)]
+fn spell_slice<'a>(
+    alloc: Global,
+    limit: Limit,
     in_kind: Kind,
     out_kind: Kind,
     input: &'a [u8],
 ) -> Result<CowSlice<'a, u8, Global>, EngineFault>
-    ensures shown { IfOk result (λ output. (length input.now ≤ most_bytes) × IsShown in_kind out_kind limit input.now (cow_slice_items output)) }
-    ensures same_bytes { IfOk result (λ output. SpellSameBytes in_kind out_kind limit input.now (cow_slice_items output)) }
-    ensures refused { IfErr result (IsUnshownWhole in_kind out_kind limit most_bytes input.now) }
-    ensures malformed { length input.now ≤ most_bytes → TellsFault in_kind limit input.now result }
+    ensures shown { ShownWhole in_kind out_kind limit input.now result }
     ensures unfailing { in_kind ≡ kinds.Wire → out_kind ≡ kinds.Wire → result ≢ Err fault.OutOfMemory }
 {
     if is_too_long(input) {
@@ -82,77 +182,6 @@ pub fn show_slice<'a>(
         return Ok(CowSlice::Borrowed(input));
     }
     Ok(CowSlice::Owned(show_input(alloc, limit, in_kind, out_kind, input)?))
-}
-
-/// The first defect of bytes, if they aren't the deterministic encodings of the items that they
-/// hold, the keys of maps in the order `O` (RFC 8949 section 4.2). None: they are.
-///
-/// # Errors
-/// `TooLong` where there are more than 2^30 bytes. Else the fault of their content, as `check`
-/// gives it, at its offset from their start, or `OutOfMemory`.
-#[inline(always)]
-pub fn check_slice<O: KeyOrder>(
-    alloc: Global,
-    limit: Limit,
-    input: &[u8],
-) -> Result<Option<Defect>, EngineFault>
-    ensures checked { IfOk result (λ defect. (length input.now ≤ most_bytes) × IsChecked O.order limit input.now defect) }
-    ensures refused { IfErr result (IsRefusedWhole kinds.Wire limit most_bytes input.now) }
-    ensures malformed { length input.now ≤ most_bytes → TellsFault kinds.Wire limit input.now result }
-{
-    if is_too_long(input) {
-        return Err(EngineFault::TooLong);
-    }
-    check_input::<O>(alloc, limit, input)
-}
-
-/// Compares what two inputs hold. None: they hold the same items. Else the least index, from 0, at
-/// which the items differ or only one input has an item. The answer doesn't depend on `O`.
-///
-/// # Errors
-/// `First`, where the first input gives no items, by the fault that `normalise_slice` gives for it.
-/// `Second`, likewise, where the first gives items and the second gives none. `OutOfMemory` is
-/// never inside of these.
-pub fn compare_slices<O: KeyOrder>(
-    alloc: Global,
-    limit: Limit,
-    kind_a: Kind,
-    first: &[u8],
-    kind_b: Kind,
-    second: &[u8],
-) -> Result<Option<u64>, CompareFault>
-    ensures compared { IfOk result (λ answer. (length first.now ≤ most_bytes) × (length second.now ≤ most_bytes) × AreCompared kind_a kind_b limit first.now second.now answer) }
-    ensures refused { IfErr result (AreRefusedWhole kind_a kind_b limit most_bytes first.now second.now) }
-    ensures malformed { length first.now ≤ most_bytes → TellsFirstFault kind_a limit first.now result }
-{
-    let (ours, theirs) = encode_both::<O>(alloc, limit, kind_a, first, kind_b, second)?;
-    Ok(difference::<O>(limit, &ours, &theirs))
-}
-
-/// Whether two inputs hold the same items. They do exactly if their canonical forms are equal. What
-/// each holds is encoded, the keys of maps in the order `O`, and the encodings are compared; the
-/// answer doesn't depend on `O`.
-///
-/// # Errors
-/// `First`, where the first input gives no items, by the fault that `normalise_slice` gives for it.
-/// `Second`, likewise, where the first gives items and the second gives none. `OutOfMemory` is
-/// never inside of these.
-pub fn same_items<O: KeyOrder>(
-    alloc: Global,
-    limit: Limit,
-    kind_a: Kind,
-    first: &[u8],
-    kind_b: Kind,
-    second: &[u8],
-) -> Result<bool, CompareFault>
-    ensures same { IfOk result (λ same. IsTrue same ↔ HoldSameItems kind_a kind_b limit first.now second.now) }
-    ensures forms { IfOk result (λ same. (out : Kind) (v w : List ℕ) → IsCanonical O.order kind_a out limit first.now v → IsCanonical O.order kind_b out limit second.now w → IsTrue same ↔ (v ≡ w)) }
-    ensures held { IfOk result (λ same. (length first.now ≤ most_bytes) × (length second.now ≤ most_bytes) × ((items : List Value) × Holds kind_a limit first.now items) × ((items : List Value) × Holds kind_b limit second.now items)) }
-    ensures refused { IfErr result (AreRefusedWhole kind_a kind_b limit most_bytes first.now second.now) }
-    ensures malformed { length first.now ≤ most_bytes → TellsFirstFault kind_a limit first.now result }
-{
-    let (ours, theirs) = encode_both::<O>(alloc, limit, kind_a, first, kind_b, second)?;
-    Ok(*ours == *theirs)
 }
 
 /// Whether an input is longer than allowed.
@@ -169,9 +198,7 @@ fn encode_slice<'a, O: KeyOrder>(
     kind: Kind,
     input: &'a [u8],
 ) -> Result<CowSlice<'a, u8, Global>, EngineFault>
-    ensures encoded { IfOk result (λ bytes. (length input.now ≤ most_bytes) × IsEncoded O.order kind limit input.now (cow_slice_items bytes)) }
-    ensures refused { IfErr result (IsRefusedWhole kind limit most_bytes input.now) }
-    ensures malformed { length input.now ≤ most_bytes → TellsFault kind limit input.now result }
+    ensures { EncodedWhole O.order kind limit input.now result }
 {
     if is_too_long(input) {
         return Err(EngineFault::TooLong);
@@ -182,27 +209,42 @@ fn encode_slice<'a, O: KeyOrder>(
     }
 }
 
+/// The deterministic encodings of what an input holds, where that are as many items as it has to hold.
+fn encode_counted<'a, O: KeyOrder>(
+    alloc: Global,
+    limit: Limit,
+    count: Count,
+    kind: Kind,
+    input: &'a [u8],
+) -> Result<CowSlice<'a, u8, Global>, CountFault>
+    ensures { CountAnswer count kind limit input.now (EncodedWhole O.order kind limit input.now) result }
+{
+    let bytes = encode_slice::<O>(alloc, limit, kind, input)?;
+    expect(alloc, limit, count, kind, input)?;
+    Ok(bytes)
+}
+
 /// The deterministic encodings of what two inputs hold, those of each one after another.
 fn encode_both<'a, 'b, O: KeyOrder>(
     alloc: Global,
     limit: Limit,
+    count: Count,
     kind_a: Kind,
     first: &'a [u8],
     kind_b: Kind,
     second: &'b [u8],
-) -> Result<(CowSlice<'a, u8, Global>, CowSlice<'b, u8, Global>), CompareFault>
-    ensures short { IfOk result (λ both. (length first.now ≤ most_bytes) × (length second.now ≤ most_bytes)) }
+) -> Result<(CowSlice<'a, u8, Global>, CowSlice<'b, u8, Global>), CompareCountFault>
+    ensures taken { IfOk result (λ both. IsTaken count kind_a limit first.now × IsTaken count kind_b limit second.now) }
     ensures encoded { IfOk result (λ both. IsEncoded O.order kind_a limit first.now (cow_slice_items both.0) × IsEncoded O.order kind_b limit second.now (cow_slice_items both.1)) }
-    ensures refused { IfErr result (AreRefusedWhole kind_a kind_b limit most_bytes first.now second.now) }
-    ensures malformed { length first.now ≤ most_bytes → TellsFirstFault kind_a limit first.now result }
+    ensures refused { IfErr result (AreRefusedWhole count kind_a kind_b limit first.now second.now) }
 {
-    let ours = match encode_slice::<O>(alloc, limit, kind_a, first) {
+    let ours = match encode_counted::<O>(alloc, limit, count, kind_a, first) {
         Ok(bytes) => bytes,
-        Err(why) => return Err(CompareFault::of_first(why)),
+        Err(why) => return Err(CompareCountFault::of_first(why)),
     };
-    let theirs = match encode_slice::<O>(alloc, limit, kind_b, second) {
+    let theirs = match encode_counted::<O>(alloc, limit, count, kind_b, second) {
         Ok(bytes) => bytes,
-        Err(why) => return Err(CompareFault::of_second(why)),
+        Err(why) => return Err(CompareCountFault::of_second(why)),
     };
     Ok((ours, theirs))
 }

@@ -5,6 +5,8 @@
 #[cfg(test)]
 mod counted;
 #[cfg(test)]
+mod counts;
+#[cfg(test)]
 mod fronts;
 #[cfg(test)]
 mod growths;
@@ -12,8 +14,6 @@ mod growths;
 mod items;
 #[cfg(test)]
 mod memory;
-#[cfg(test)]
-mod ones;
 #[cfg(test)]
 mod readers;
 #[cfg(test)]

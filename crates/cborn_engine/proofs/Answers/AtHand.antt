@@ -12,14 +12,13 @@ use Rattle.cborn_engine.specs.declared.faults.EngineFault.TheVariants as fault
 use Rattle.cborn_engine.specs.declared.kinds.Kind.{Kind}
 use Rattle.cborn_engine.specs.declared.kinds.Kind.TheVariants as kind
 use Rattle.cborn_engine.specs.Checking.{CheckAnswers}
-use Rattle.cborn_engine.specs.Faults.{of_first, of_second}
 use Rattle.cborn_engine.specs.devices.Encoding.{EncodeAnswers, IsEncoded, IsWrittenAs}
 use Rattle.cborn_engine.specs.Holding.{Holds}
 use Rattle.cborn_engine.specs.devices.Counting.{read_failures, read_failures_at}
 use Rattle.cborn_engine.specs.Reading.{most_bytes}
 use Rattle.cborn_engine.specs.Refusing.{IsRefused}
 use Rattle.cborn_engine.specs.Showing.{TellAnswers}
-use Rattle.cborn_engine.specs.Whole.{IsRefusedWhole, IsUnshownWhole, AreRefusedWhole, TellsFault}
+use Rattle.cborn_engine.specs.Whole.{IsRefusedWhole, IsUnshownWhole, TellsFault}
 use Rattle.cborn_engine.proofs.Answers.Malformed.{unreported}
 use Rattle.cborn_engine.proofs.Canonical.Canonicity.{own_bytes}
 
@@ -53,17 +52,6 @@ module _ (limit most : ℕ) (input : List ℕ) (l : length input ≤ most) where
   pub not_checked : (order : List ℕ → List ℕ → Ordering) (r : Result (Option Defect) EngineFault) → (length input ≤ most → CheckAnswers order limit most input r) → ((n : ℕ) → read_failures r n ≡ n) → TellsFault kind.Wire limit input r → IfErr r (IsRefusedWhole kind.Wire limit most input)
   not_checked order (Ok d) f n m = tt
   not_checked order (Err why) f n m = refused_whole kind.Wire limit most input why l n m (f l)
-
--- ---- why two of them aren't compared
-
-module _ (k l : Kind) (limit most : ℕ) (x y : List ℕ) where
-  pub first_refused : (why : EngineFault) → IsRefusedWhole k limit most x why → AreRefusedWhole k l limit most x y (of_first why)
-  first_refused fault.OutOfMemory h = inl h
-  first_refused _ h = (h, λ p. absurd cc)
-
-  pub second_refused : (why : EngineFault) → length x ≤ most → (vs : List Value) → Holds k limit x vs → IsRefusedWhole l limit most y why → AreRefusedWhole k l limit most x y (of_second why)
-  second_refused fault.OutOfMemory n vs held h = inr (n, (vs, held), h)
-  second_refused _ n vs held h = (n, (vs, held), h, λ p. absurd cc)
 
 -- what follows from a search that finds nothing
 pub none_found : {A : Type 0} (o : Option A) (b : Bool) (P : Type 0) (Q : A → Type 0) → is_some o ≡ not b → IsTrue b → MatchOption o P Q → P

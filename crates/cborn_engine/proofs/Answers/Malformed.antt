@@ -9,7 +9,6 @@ use Rattle.cborn_wire.specs.Faults.{Fault, IsWellformed}
 use Rattle.cborn_wire.proofs.Spelled.FaultLaws.{not_both, one_fault}
 use Rattle.cborn_lex.specs.declared.classes.Profile.{Profile}
 use Rattle.cborn_lex.specs.declared.classes.Profile.TheVariants as profile
-use Rattle.cborn_engine.specs.declared.faults.CompareFault.{CompareFault}
 use Rattle.cborn_engine.specs.declared.faults.EngineFault.{EngineFault}
 use Rattle.cborn_engine.specs.declared.faults.EngineFault.TheVariants as fault
 use Rattle.cborn_engine.specs.declared.kinds.Kind.{Kind}
@@ -19,9 +18,8 @@ use Rattle.cborn_engine.specs.devices.Encoding.{kind_of}
 use Rattle.cborn_engine.specs.devices.Malformed.{IsWireFault}
 use Rattle.cborn_engine.specs.Loading.{IsNoFlaw}
 use Rattle.cborn_engine.specs.Refusing.{IsRefused}
-use Rattle.cborn_engine.specs.Faults.{of_first}
 use Rattle.cborn_engine.specs.Holding.{Spells, Holds}
-use Rattle.cborn_engine.specs.Whole.{HasNoFault, TellsFault, TellsFirstFault}
+use Rattle.cborn_engine.specs.Whole.{HasNoFault, TellsFault}
 
 -- nothing is wrong with what spells nodes
 pub wellformed : {A : Type 0} (k : Kind) (limit : ℕ) (input : List ℕ) (ts : Trees) (result : Result A EngineFault) → (k ≡ kind.Wire → Wellformed limit ts input) → TellsFault k limit input result
@@ -71,19 +69,6 @@ unfaulted k limit input nodes s = record { none = λ p r e f. let clash = spelle
 -- nor has that for which memory was refused
 pub unreported : {A : Type 0} (k : Kind) (limit : ℕ) (input : List ℕ) → TellsFault {A = A} k limit input (Err fault.OutOfMemory) → HasNoFault k limit input
 unreported k limit input h = record { none = λ p r e f. let clash = error_of (h p r e f) in cc }
-
--- the same of the first of two inputs
-pub of_the_first : {A B : Type 0} (k : Kind) (limit : ℕ) (input : List ℕ) (why : EngineFault) (reported : CompareFault) → reported ≡ of_first why → TellsFault {A = A} k limit input (Err why) → TellsFirstFault {A = B} k limit input (Err reported)
-of_the_first k limit input why reported s h p r e f = ap Err (s ∙ ap of_first (error_of (h p r e f)))
-
-pub first_answered : {A B : Type 0} (k : Kind) (limit : ℕ) (input : List ℕ) (a : A) (result : Result B CompareFault) → TellsFault k limit input (Ok a) → TellsFirstFault k limit input result
-first_answered k limit input a result h p r e f = absurd (let clash = h p r e f in cc)
-
-pub first_handed : {A B : Type 0} (k : Kind) (limit : ℕ) (input : List ℕ) (why : CompareFault) → TellsFirstFault {A = A} k limit input (Err why) → TellsFirstFault {A = B} k limit input (Err why)
-first_handed k limit input why h p r e f = ap Err (error_of (h p r e f))
-
-pub both_answered : {A B : Type 0} (k : Kind) (limit : ℕ) (input : List ℕ) (a : A) (result : Result B CompareFault) → TellsFirstFault k limit input (Ok a) → TellsFirstFault k limit input result
-both_answered k limit input a result h p r e f = absurd (let clash = h p r e f in cc)
 
 -- ---- the fault of bytes that aren't well-formed
 

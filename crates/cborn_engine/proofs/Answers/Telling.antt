@@ -1,10 +1,9 @@
 -- What is answered where an input is written in another form.
-use Rattle.std.proofs.Common.{◌≡◌, ◌≤◌, ℕ, List, [], length, refl, sym, ap, ◌∙◌, subst, Option, Result, Ok, Err, Vec, Global}
-use Rattle.cborn_model.specs.Tree.{Tree, Trees, trees}
+use Rattle.std.proofs.Common.{◌≡◌, ℕ, List, [], refl, sym, ap, ◌∙◌, subst, Option, Result, Ok, Err, Vec, Global}
+use Rattle.cborn_model.specs.Tree.{Trees, trees}
 use Rattle.cborn_model.specs.Spelled.{Wellformed, spelled_all}
 use Rattle.cborn_model.specs.Placed.{PlacedAll}
 use Rattle.cborn_wire.proofs.Spelled.TreeLists.{tree_list, trees-tree_list}
-use Rattle.cborn_edn.specs.declared.faults.ShowFault.TheVariants as unshown
 use Rattle.cborn_edn.specs.ShownBytes.{IsShownText}
 use Rattle.cborn_engine.specs.declared.faults.EngineFault.{EngineFault}
 use Rattle.cborn_engine.specs.declared.faults.EngineFault.TheVariants as fault
@@ -14,7 +13,7 @@ use Rattle.cborn_engine.specs.devices.Encoding.{IsFixedText}
 use Rattle.cborn_engine.specs.Loading.{IsNoFlaw}
 use Rattle.cborn_engine.specs.devices.Reading.{Reads}
 use Rattle.cborn_engine.specs.Refusing.{IsRefused, IsRead}
-use Rattle.cborn_engine.specs.Showing.{ShowAnswers, Shows, IsShown, IsUnshownAs, TellAnswers}
+use Rattle.cborn_engine.specs.Showing.{ShowAnswers, Shows, IsShown, TellAnswers}
 use Rattle.cborn_streams.specs.declared.faults.OutputFault.{OutputFault}
 use Rattle.cborn_streams.specs.declared.faults.OutputFault.TheVariants as output
 use Rattle.cborn_streams.specs.Writing.{Sends, WriteAnswers}

@@ -15,7 +15,7 @@ pub nothing_written : (s : Option (List ℕ)) → Appends s s []
 nothing_written None = tt
 nothing_written (Some xs) = sym (append-nil xs)
 
-nothing_read : (s : Option (List ℕ)) → Consumes s s []
+pub nothing_read : (s : Option (List ℕ)) → Consumes s s []
 nothing_read None = tt
 nothing_read (Some xs) = refl
 

@@ -13,13 +13,14 @@ use Rattle.cborn_model.specs.Value.{Value, Same}
 use Rattle.cborn_model.proofs.SameItems.Sameness.{same_chained}
 use Rattle.cborn_det.specs.Det.{Det, DetSeq}
 use Rattle.cborn_det.proofs.Reading.{reads}
-use Rattle.cborn_det.proofs.Canon.{same_of_one, one_of_same, seq_of_one}
+use Rattle.cborn_det.proofs.Canon.{same_of_one, one_of_same, seq_of_one, one_of_seq}
 use Rattle.cborn_transcode.specs.Transcoding.{ItemTranscoded}
 use Rattle.cborn_engine.specs.declared.kinds.Kind.TheVariants as kind
 use Rattle.cborn_engine.specs.Comparing.{Difference, AreCompared}
+use Rattle.cborn_engine.specs.Counts.{HoldsOne}
 use Rattle.cborn_engine.specs.devices.Encoding.{IsEncoded}
 use Rattle.cborn_engine.specs.Holding.{Holds}
-use Rattle.cborn_engine.proofs.Held.Meant.{all_turned}
+use Rattle.cborn_engine.proofs.Held.Meant.{all_turned, holds_once}
 use Rattle.cborn_engine.proofs.Canonical.Proper.{sequence_proper}
 
 nothing : (x : List ℕ) → length x ≡ 0 → x ≡ []
@@ -39,6 +40,13 @@ differ_here v w vs ws never = (tt, λ h. never h.0)
 
 differ_after : (v w : Value) (vs ws : List Value) (j : ℕ) → Same v w → Difference vs ws (Some j) → Difference (v ∷ vs) (w ∷ ws) (Some (suc j))
 differ_after v w vs ws j same d = ((same, d.0), λ h. d.1 h.1)
+
+all_first : (a b : List Value) (v w : Value) → a ≡ v ∷ [] → b ≡ w ∷ [] → AllZip Same (take 1 a) (take 1 b) → AllZip Same a b
+all_first (v ∷ []) (w ∷ []) _ _ e f s = s
+all_first [] b v w e f s = absurd cc
+all_first (u ∷ t ∷ a) b v w e f s = absurd cc
+all_first a [] v w e f s = absurd cc
+all_first a (u ∷ t ∷ b) v w e f s = absurd cc
 
 -- ---- what is left of two encodings
 
@@ -167,6 +175,19 @@ module _ (order : List ℕ → List ℕ → Ordering) (laws : IsKeyOrder order) 
       held2 = k.held;
       difference = seq_of_one order laws h.items k.items ours (proper ours h) (proper theirs k) h.encoded (subst (DetSeq order k.items) (sym e) k.encoded);
     }
+
+    -- where each holds one item, that is another
+    pub alone_apart : IsEncoded order kind.Wire limit ours ours → IsEncoded order kind.Wire limit theirs theirs → HoldsOne kind.Wire limit ours → HoldsOne kind.Wire limit theirs → (ours ≡ theirs → ⊥) → AreCompared kind.Wire kind.Wire limit ours theirs (Some 0)
+    alone_apart h k (v, f) (w, g) never =
+        let a = holds_once kind.Wire limit ours h.items (v ∷ []) h.held f in
+        let b = holds_once kind.Wire limit theirs k.items (w ∷ []) k.held g in
+        record {
+          ours = h.items;
+          theirs = k.items;
+          held = h.held;
+          held2 = k.held;
+          difference = (tt, λ s. never (one_of_seq order laws h.items k.items ours theirs (proper ours h) (proper theirs k) (all_first h.items k.items v w a b s) h.encoded k.encoded));
+        }
 
     found : (left right : List ℕ) (k : ℕ) (s : SoFar order limit ours theirs left right k) → Difference s.vs s.ws (Some 0) → AreCompared kind.Wire kind.Wire limit ours theirs (Some k)
     found left right k s d =

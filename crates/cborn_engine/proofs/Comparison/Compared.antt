@@ -1,11 +1,12 @@
 -- What is answered where two inputs were encoded.
-use Rattle.std.proofs.Common.{◌≡◌, ◌≤◌, ◌↔◌, ℕ, Bool, true, false, IsTrue, Decides, refl, List, length, arith, sym, ◌∙◌, subst, Option, Ok, Vec, Global, Ordering}
+use Rattle.std.proofs.Common.{◌≡◌, ◌≤◌, ◌↔◌, ℕ, Bool, true, false, IsTrue, Decides, refl, List, [], ◌∷◌, length, arith, sym, ◌∙◌, subst, Option, Ok, Vec, Global, Ordering}
 use Rattle.std.specs.List.{AllZip}
 use Rattle.cborn_model.specs.Orders.{IsKeyOrder}
 use Rattle.cborn_model.specs.Value.{Value, Same}
 use Rattle.cborn_engine.specs.declared.kinds.Kind.{Kind}
 use Rattle.cborn_engine.specs.declared.kinds.Kind.TheVariants as kind
 use Rattle.cborn_engine.specs.Comparing.{AreCompared, Compares}
+use Rattle.cborn_engine.specs.Counts.{HoldsOne}
 use Rattle.cborn_engine.specs.devices.Encoding.{IsEncoded, EncodeAnswers}
 use Rattle.cborn_engine.specs.devices.Reading.{Reads}
 use Rattle.cborn_engine.specs.Canonical.{IsCanonical}
@@ -20,9 +21,24 @@ pub from_decides : (b : Bool) (P : Type 0) → Decides b P → IsTrue b ↔ P
 from_decides true P d = (λ _. d.0 refl, λ _. refl)
 from_decides false P d = (λ h. d.0 h, λ p. d.1 p)
 
+alone : (us vs : List Value) (v : Value) → AllZip Same us vs → vs ≡ v ∷ [] → (u : Value) × (us ≡ u ∷ [])
+alone [] [] v s e = absurd cc
+alone [] (w ∷ ws) v s e = absurd s
+alone (u ∷ us) [] v s e = absurd s
+alone (u ∷ []) (w ∷ ws) v s e = (u, refl)
+alone (u ∷ t ∷ us) (w ∷ []) v s e = absurd s.1
+alone (u ∷ t ∷ us) (w ∷ x ∷ ws) v s e = absurd cc
+
 module _ (order : List ℕ → List ℕ → Ordering) (laws : IsKeyOrder order) where
   pub its_own : (k : Kind) (limit : ℕ) (input bytes x : List ℕ) → length input ≤ most_bytes → IsEncoded order k limit input bytes → x ≡ bytes → IsEncoded order kind.Wire limit x x
   its_own k limit input bytes x short e f = subst (λ (y : List ℕ). IsEncoded order kind.Wire limit y y) (sym f) (own_bytes order laws k limit input bytes short e).own
+
+  -- the encoding of one item holds one
+  pub single : (k : Kind) (limit : ℕ) (input bytes x : List ℕ) → length input ≤ most_bytes → IsEncoded order k limit input bytes → HoldsOne k limit input → x ≡ bytes → HoldsOne kind.Wire limit x
+  single k limit input bytes x short e (v, h) f =
+      let o = own_bytes order laws k limit input bytes short e in
+      let one = alone o.own.items e.items v o.same (holds_once k limit input e.items (v ∷ []) e.held h) in
+      (one.0, subst (λ (y : List ℕ). Holds kind.Wire limit y (one.0 ∷ [])) (sym f) (subst (Holds kind.Wire limit bytes) one.1 o.own.held))
 
   pub encodes_itself : (k : Kind) (limit most : ℕ) (before after : Option (List ℕ)) (bytes : Vec ℕ Global) (x : List ℕ) → most ≤ most_bytes → Reads (EncodeAnswers order k limit most) before after (Ok bytes) → x ≡ bytes.items → IsEncoded order kind.Wire limit x x
   encodes_itself k limit most before after bytes x bounded h e = its_own k limit h.input bytes.items x (omega (arith, h.answer.0, bounded)) h.answer.1 e

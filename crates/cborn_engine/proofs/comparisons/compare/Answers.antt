@@ -9,6 +9,7 @@ pub difference-requires : goal.difference-requires
 difference-requires g c = record {
   ours = encodes_itself g.O.KeyOrder.order g.met.O.KeyOrder.laws c.args.kind_a c.args.limit most_bytes _ _ c.in-Ok.bytes c.deref.result.now (omega arith) c.in-Ok.ensures.encodes c.deref.ensures.value;
   theirs = encodes_itself g.O.KeyOrder.order g.met.O.KeyOrder.laws c.args.kind_b c.args.limit most_bytes _ _ c.in-Ok-read_encoded.bytes c.deref-2.result.now (omega arith) c.in-Ok-read_encoded.ensures.encodes c.deref-2.ensures.value;
+  single = λ e. absurd cc;
 }
 
 pub returns-clause-compares : goal.returns-clause-compares

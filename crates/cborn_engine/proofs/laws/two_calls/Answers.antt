@@ -1,30 +1,39 @@
-use Rattle.std.proofs.Common.{◌⊎◌, inl, inr}
-use Rattle.std.specs.Prelude.{IfErr}
+use Rattle.std.proofs.Common.{inl, inr, subst, Err}
 use Rattle.std.specs.Cow.{cow_slice_items}
-use Rattle.cborn_engine.specs.Reading.{most_bytes}
-use Rattle.cborn_engine.specs.Whole.{IsRefusedWhole}
-use Rattle.cborn_engine.proofs.Answers.KnownErrors.{known_error}
+use Rattle.cborn_engine.specs.declared.count_faults.CountFault.{CountFault}
+use Rattle.cborn_engine.specs.declared.counts.Count.TheVariants as counts
+use Rattle.cborn_engine.specs.Counts.{CountAnswer, NormalisedWhole}
 use Rattle.cborn_engine.proofs.Canonical.Headline.{alike, same_held}
+use Rattle.cborn_engine.proofs.CountAnswers.Answered.{engine_of}
 use Rattle.cborn_engine.proofs.laws.two_calls.Goals as goal
 
 pub returns-clause-alike : goal.returns-clause-alike
 returns-clause-alike g c =
-    let m = c.in_ok-ours in
-    let n = c.in_ok-theirs in
-    alike g.O.KeyOrder.order g.met.O.KeyOrder.laws c.args.kind_a c.args.kind_b c.args.out_kind c.args.limit c.args.first.now c.args.second.now (cow_slice_items m.ours) (cow_slice_items n.theirs) m.ensures.canonical.0 n.ensures.canonical.0 m.ensures.canonical.1 n.ensures.canonical.1
+    let m = c.in-Ok in
+    let n = c.in-Ok-normalise_slice in
+    alike g.O.KeyOrder.order g.met.O.KeyOrder.laws c.args.kind_a c.args.kind_b c.args.out_kind c.args.limit c.args.first.now c.args.second.now (cow_slice_items m.bytes) (cow_slice_items n.bytes) m.ensures.normalised.0.0 n.ensures.normalised.0.0 m.ensures.normalised.0.1 n.ensures.normalised.0.1
 
 pub returns-clause-held : goal.returns-clause-held
 returns-clause-held g c =
-    let m = c.in_ok-ours in
-    let n = c.in_ok-theirs in (
-      same_held g.O.KeyOrder.order g.met.O.KeyOrder.laws c.args.kind_a c.args.out_kind c.args.limit c.args.first.now (cow_slice_items m.ours) m.ensures.canonical.0 m.ensures.canonical.1,
-      same_held g.O.KeyOrder.order g.met.O.KeyOrder.laws c.args.kind_b c.args.out_kind c.args.limit c.args.second.now (cow_slice_items n.theirs) n.ensures.canonical.0 n.ensures.canonical.1,
+    let m = c.in-Ok in
+    let n = c.in-Ok-normalise_slice in (
+      same_held g.O.KeyOrder.order g.met.O.KeyOrder.laws c.args.kind_a c.args.out_kind c.args.limit c.args.first.now (cow_slice_items m.bytes) m.ensures.normalised.0.0 m.ensures.normalised.0.1,
+      same_held g.O.KeyOrder.order g.met.O.KeyOrder.laws c.args.kind_b c.args.out_kind c.args.limit c.args.second.now (cow_slice_items n.bytes) n.ensures.normalised.0.0 n.ensures.normalised.0.1,
     )
 
-pub returns-in_err-ours-clause-refused : goal.returns-in_err-ours-clause-refused
-returns-in_err-ours-clause-refused g c =
-    known_error (λ r. IfErr r (λ why. IsRefusedWhole c.args.kind_a c.args.limit most_bytes c.args.first.now why ⊎ IsRefusedWhole c.args.kind_b c.args.limit most_bytes c.args.second.now why)) _ _ c.from_residual.ensures.1 (inl c.in_err-ours.ensures.refused)
+pub of_any-requires : goal.of_any-requires
+of_any-requires g c =
+    let e = engine_of c.args.kind_a c.args.limit c.args.first.now (NormalisedWhole g.O.KeyOrder.order c.args.kind_a c.args.out_kind c.args.limit c.args.first.now) c.in-Err.why c.in-Err.ensures.normalised in (e.0, e.1)
 
-pub returns-in_err-theirs-clause-refused : goal.returns-in_err-theirs-clause-refused
-returns-in_err-theirs-clause-refused g c =
-    known_error (λ r. IfErr r (λ why. IsRefusedWhole c.args.kind_a c.args.limit most_bytes c.args.first.now why ⊎ IsRefusedWhole c.args.kind_b c.args.limit most_bytes c.args.second.now why)) _ _ c.from_residual-in_err-theirs.ensures.1 (inr c.in_err-theirs.ensures.refused)
+pub of_any-requires-in-Err-normalise_slice : goal.of_any-requires-in-Err-normalise_slice
+of_any-requires-in-Err-normalise_slice g c =
+    let n = c.in-Err-normalise_slice in
+    let e = engine_of c.args.kind_b c.args.limit c.args.second.now (NormalisedWhole g.O.KeyOrder.order c.args.kind_b c.args.out_kind c.args.limit c.args.second.now) n.why n.ensures.normalised in (e.0, e.1)
+
+pub returns-in-Err-clause-refused : goal.returns-in-Err-clause-refused
+returns-in-Err-clause-refused g c =
+    inl (subst (λ (v : CountFault). CountAnswer counts.Any c.args.kind_a c.args.limit c.args.first.now (NormalisedWhole g.O.KeyOrder.order c.args.kind_a c.args.out_kind c.args.limit c.args.first.now) (Err v)) c.of_any.ensures c.in-Err.ensures.normalised)
+
+pub returns-in-Err-normalise_slice-clause-refused : goal.returns-in-Err-normalise_slice-clause-refused
+returns-in-Err-normalise_slice-clause-refused g c =
+    inr (subst (λ (v : CountFault). CountAnswer counts.Any c.args.kind_b c.args.limit c.args.second.now (NormalisedWhole g.O.KeyOrder.order c.args.kind_b c.args.out_kind c.args.limit c.args.second.now) (Err v)) c.of_any-in-Err-normalise_slice.ensures c.in-Err-normalise_slice.ensures.normalised)

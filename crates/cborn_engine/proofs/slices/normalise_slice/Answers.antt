@@ -1,51 +1,68 @@
-use Rattle.std.specs.Prelude.{IfErr}
 use Rattle.std.specs.Cow.{cow_slice_items}
+use Rattle.cborn_engine.specs.Counts.{CountAnswer, NormalisedWhole}
 use Rattle.cborn_engine.proofs.Answers.AtHand.{held, room}
-use Rattle.cborn_engine.specs.Reading.{most_bytes}
-use Rattle.cborn_engine.specs.Whole.{IsRefusedWhole, TellsFault}
-use Rattle.cborn_engine.proofs.Answers.Malformed.{handed, answered, unfaulted}
 use Rattle.cborn_engine.proofs.Answers.KnownErrors.{known_error}
+use Rattle.cborn_engine.proofs.Answers.Malformed.{unfaulted}
 use Rattle.cborn_engine.proofs.Canonical.Canonicity.{canon_of}
-use Rattle.cborn_engine.proofs.Canonical.OfBytes.{encoded_bytes}
 use Rattle.cborn_engine.proofs.Canonical.NormalForm.{normal_form}
+use Rattle.cborn_engine.proofs.Canonical.OfBytes.{encoded_bytes}
+use Rattle.cborn_engine.proofs.CountAnswers.Answered.{kept_counted, normalised_reported}
 use Rattle.cborn_engine.proofs.slices.normalise_slice.Goals as goal
 
 pub written_as-requires : goal.written_as-requires
 written_as-requires g c =
-    let e = c.in_ok-bytes.ensures.encoded in
-    held g.O.KeyOrder.order g.met.O.KeyOrder.laws c.args.in_kind c.args.limit c.args.input.now (cow_slice_items c.in_ok-bytes.bytes) e.0 e.1
+    let e = c.in_ok-bytes.ensures in held g.O.KeyOrder.order g.met.O.KeyOrder.laws c.args.in_kind c.args.limit c.args.input.now (cow_slice_items c.in_ok-bytes.bytes) e.0 e.1
 
-pub returns-clause-room : goal.returns-clause-room
-returns-clause-room g c =
-    room g.O.KeyOrder.order c.args.in_kind c.args.out_kind c.args.limit c.args.input.now (cow_slice_items c.in_ok-bytes.bytes) (cow_slice_items c.in_ok-written_as.field-0) c.in_ok-bytes.ensures.encoded.1 c.in_ok-written_as.ensures
+pub expect-requires : goal.expect-requires
+expect-requires g c = let e = c.in_ok-bytes.ensures in record { short = e.0; spelled = (e.1.held.nodes, e.1.held.spelled) }
 
-pub returns-in_err-written_as-clause-refused : goal.returns-in_err-written_as-clause-refused
-returns-in_err-written_as-clause-refused g c =
-    let e = c.in_ok-bytes.ensures.encoded in
-    known_error (λ r. IfErr r (IsRefusedWhole c.args.in_kind c.args.limit most_bytes c.args.input.now)) _ _ c.from_residual-in_err-written_as.ensures.1
-    (e.0, unfaulted c.args.in_kind c.args.limit c.args.input.now e.1.held.nodes e.1.held.spelled)
+pub returns-in_err-bytes-clause-normalised : goal.returns-in_err-bytes-clause-normalised
+returns-in_err-bytes-clause-normalised g c =
+    known_error (λ r. CountAnswer c.args.count c.args.in_kind c.args.limit c.args.input.now (NormalisedWhole g.O.KeyOrder.order c.args.in_kind c.args.out_kind c.args.limit c.args.input.now) r) _ _ c.from_residual.ensures.1 c.in_err-bytes.ensures
 
 pub returns-in_err-bytes-clause-malformed : goal.returns-in_err-bytes-clause-malformed
-returns-in_err-bytes-clause-malformed g c l =
-    known_error (λ r. TellsFault c.args.in_kind c.args.limit c.args.input.now r) _ _ c.from_residual.ensures.1 (handed c.args.in_kind c.args.limit c.args.input.now c.in_err-bytes.field-0.0 (c.in_err-bytes.ensures.malformed l))
+returns-in_err-bytes-clause-malformed g c l = normalised_reported c.args.count c.args.in_kind c.args.out_kind c.args.limit c.args.input.now l g.O.KeyOrder.order _ (returns-in_err-bytes-clause-normalised g c)
 
-pub returns-in_err-written_as-clause-malformed : goal.returns-in_err-written_as-clause-malformed
-returns-in_err-written_as-clause-malformed g c l = answered c.args.in_kind c.args.limit c.args.input.now c.in_ok-bytes.bytes _ (c.in_ok-bytes.ensures.malformed l)
+pub returns-in_err-answer-clause-normalised : goal.returns-in_err-answer-clause-normalised
+returns-in_err-answer-clause-normalised g c =
+    let e = c.in_ok-bytes.ensures in
+    known_error (λ r. CountAnswer c.args.count c.args.in_kind c.args.limit c.args.input.now (NormalisedWhole g.O.KeyOrder.order c.args.in_kind c.args.out_kind c.args.limit c.args.input.now) r) _ _ c.from_residual-in_err-answer.ensures.1
+    (e.0, unfaulted c.args.in_kind c.args.limit c.args.input.now e.1.held.nodes e.1.held.spelled)
+
+pub returns-in_err-answer-clause-malformed : goal.returns-in_err-answer-clause-malformed
+returns-in_err-answer-clause-malformed g c l = normalised_reported c.args.count c.args.in_kind c.args.out_kind c.args.limit c.args.input.now l g.O.KeyOrder.order _ (returns-in_err-answer-clause-normalised g c)
+
+pub returns-in_err-expect-clause-normalised : goal.returns-in_err-expect-clause-normalised
+returns-in_err-expect-clause-normalised g c =
+    let order = g.O.KeyOrder.order in
+    let e = c.in_ok-bytes.ensures in
+    let Whole = NormalisedWhole order c.args.in_kind c.args.out_kind c.args.limit c.args.input.now in
+    let written = canon_of order c.args.out_kind e.1.items (cow_slice_items c.in_ok-bytes.bytes) (cow_slice_items c.in_ok-answer.answer) e.1.encoded c.in_ok-answer.ensures in
+    known_error (λ r. CountAnswer c.args.count c.args.in_kind c.args.limit c.args.input.now Whole r) _ _ c.from_residual-in_err-expect.ensures.1
+    (kept_counted c.args.count c.args.in_kind c.args.limit c.args.input.now Whole c.in_ok-answer.answer c.in_err-expect.field-0.0
+    (e.0, record { items = e.1.items; held = e.1.held; written = written }) (e.0, unfaulted c.args.in_kind c.args.limit c.args.input.now e.1.held.nodes e.1.held.spelled) c.in_err-expect.ensures.refused)
+
+pub returns-in_err-expect-clause-malformed : goal.returns-in_err-expect-clause-malformed
+returns-in_err-expect-clause-malformed g c l = normalised_reported c.args.count c.args.in_kind c.args.out_kind c.args.limit c.args.input.now l g.O.KeyOrder.order _ (returns-in_err-expect-clause-normalised g c)
+
+pub returns-clause-normalised : goal.returns-clause-normalised
+returns-clause-normalised g c =
+    let e = c.in_ok-bytes.ensures in
+    let written = canon_of g.O.KeyOrder.order c.args.out_kind e.1.items (cow_slice_items c.in_ok-bytes.bytes) (cow_slice_items c.in_ok-answer.answer) e.1.encoded c.in_ok-answer.ensures in
+    ((e.0, record { items = e.1.items; held = e.1.held; written = written }), c.in_ok-expect.ensures.counted)
 
 pub returns-clause-malformed : goal.returns-clause-malformed
-returns-clause-malformed g c l = answered c.args.in_kind c.args.limit c.args.input.now c.in_ok-bytes.bytes _ (c.in_ok-bytes.ensures.malformed l)
-
-pub returns-clause-bytes : goal.returns-clause-bytes
-returns-clause-bytes g c =
-    encoded_bytes g.O.KeyOrder.order c.args.in_kind c.args.out_kind c.args.limit c.args.input.now (cow_slice_items c.in_ok-bytes.bytes) (cow_slice_items c.in_ok-written_as.field-0) c.in_ok-bytes.ensures.encoded.1 c.in_ok-written_as.ensures
-
-pub returns-clause-canonical : goal.returns-clause-canonical
-returns-clause-canonical g c =
-    let e = c.in_ok-bytes.ensures.encoded in
-    let written = canon_of g.O.KeyOrder.order c.args.out_kind e.1.items (cow_slice_items c.in_ok-bytes.bytes) (cow_slice_items c.in_ok-written_as.field-0) e.1.encoded c.in_ok-written_as.ensures in
-    (e.0, record { items = e.1.items; held = e.1.held; written = written })
+returns-clause-malformed g c l = normalised_reported c.args.count c.args.in_kind c.args.out_kind c.args.limit c.args.input.now l g.O.KeyOrder.order _ (returns-clause-normalised g c)
 
 pub returns-clause-headline : goal.returns-clause-headline
 returns-clause-headline g c =
-    let canonical = returns-clause-canonical g c in
+    let canonical = (returns-clause-normalised g c).0 in
     normal_form g.O.KeyOrder.order g.met.O.KeyOrder.laws c.args.in_kind c.args.out_kind c.args.limit c.args.input.now _ canonical.0 canonical.1
+
+pub returns-clause-bytes : goal.returns-clause-bytes
+returns-clause-bytes g c =
+    encoded_bytes g.O.KeyOrder.order c.args.in_kind c.args.out_kind c.args.limit c.args.input.now (cow_slice_items c.in_ok-bytes.bytes) (cow_slice_items c.in_ok-answer.answer) c.in_ok-bytes.ensures.1 c.in_ok-answer.ensures
+
+pub returns-clause-room : goal.returns-clause-room
+returns-clause-room g c =
+    room g.O.KeyOrder.order c.args.in_kind c.args.out_kind c.args.limit c.args.input.now (cow_slice_items c.in_ok-bytes.bytes) (cow_slice_items c.in_ok-answer.answer) c.in_ok-bytes.ensures.1 c.in_ok-answer.ensures

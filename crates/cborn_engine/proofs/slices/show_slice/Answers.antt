@@ -1,48 +1,47 @@
-use Rattle.std.specs.Prelude.{IfErr}
-use Rattle.cborn_engine.specs.Whole.{IsUnshownWhole}
-use Rattle.cborn_engine.specs.Reading.{most_bytes}
-use Rattle.cborn_engine.proofs.Answers.AtHand.{short, not_shown}
+use Rattle.std.proofs.Common.{◌≡◌, ◌≢◌, sym, ap, ◌∙◌, Err}
+use Rattle.cborn_engine.specs.declared.count_faults.CountFault.TheVariants as counted
+use Rattle.cborn_engine.specs.declared.counts.Count.TheVariants as counts
+use Rattle.cborn_engine.specs.declared.faults.EngineFault.TheVariants as fault
+use Rattle.cborn_engine.specs.declared.kinds.Kind.TheVariants as kind
+use Rattle.cborn_engine.specs.Counts.{CountAnswer, ShownWhole}
 use Rattle.cborn_engine.proofs.Answers.KnownErrors.{known_error}
-use Rattle.cborn_engine.specs.Whole.{TellsFault}
-use Rattle.cborn_engine.proofs.Answers.Malformed.{handed, answered, spelled, no_reading}
+use Rattle.cborn_engine.proofs.Answers.Malformed.{unfaulted}
+use Rattle.cborn_engine.proofs.CountAnswers.Answered.{kept_counted, shown_reported, same_engine}
 use Rattle.cborn_engine.proofs.Held.SameBytes.{same_bytes}
 use Rattle.cborn_engine.proofs.slices.show_slice.Goals as goal
 
-pub returns-in_err-show_input-clause-refused : goal.returns-in_err-show_input-clause-refused
-returns-in_err-show_input-clause-refused c =
-    let l = short most_bytes c.args.input.now c.is_too_long.result c.is_too_long.ensures c.if-is_too_long.false in
-    let e = c.in_err-show_input in
-    known_error (λ r. IfErr r (IsUnshownWhole c.args.in_kind c.args.out_kind c.args.limit most_bytes c.args.input.now)) _ _ c.from_residual.ensures.1
-    (not_shown c.args.limit most_bytes c.args.input.now l c.args.in_kind c.args.out_kind e.field-0.0 e.ensures.answers e.ensures.failures (e.ensures.malformed l))
+pub expect-requires : goal.expect-requires
+expect-requires c = let h = c.in_ok-answer.ensures.shown in record { short = h.0; spelled = (h.1.nodes, h.1.spelled) }
 
-pub returns-then-is_own_spelling-clause-malformed : goal.returns-then-is_own_spelling-clause-malformed
-returns-then-is_own_spelling-clause-malformed c l = let s = c.is_own_spelling.ensures.own c.if-is_own_spelling.true in spelled c.args.in_kind c.args.limit c.args.input.now s.nodes _ s.spelled
+pub returns-in_err-answer-clause-shown : goal.returns-in_err-answer-clause-shown
+returns-in_err-answer-clause-shown c = known_error (λ r. CountAnswer c.args.count c.args.in_kind c.args.limit c.args.input.now (ShownWhole c.args.in_kind c.args.out_kind c.args.limit c.args.input.now) r) _ _ c.from_residual.ensures.1 c.in_err-answer.ensures.shown
 
-pub returns-in_err-show_input-clause-malformed : goal.returns-in_err-show_input-clause-malformed
-returns-in_err-show_input-clause-malformed c l =
-    known_error (λ r. TellsFault c.args.in_kind c.args.limit c.args.input.now r) _ _ c.from_residual.ensures.1 (handed c.args.in_kind c.args.limit c.args.input.now c.in_err-show_input.field-0.0 (c.in_err-show_input.ensures.malformed l))
+pub returns-in_err-answer-clause-malformed : goal.returns-in_err-answer-clause-malformed
+returns-in_err-answer-clause-malformed c l = shown_reported c.args.count c.args.in_kind c.args.out_kind c.args.limit c.args.input.now l _ (returns-in_err-answer-clause-shown c)
 
-pub returns-in_err-show_input-clause-unfailing : goal.returns-in_err-show_input-clause-unfailing
-returns-in_err-show_input-clause-unfailing c e f h =
-    let found = c.is_own_spelling.ensures.malformed c.if-is_own_spelling.false e f in
-    let known_error = returns-in_err-show_input-clause-malformed c (short most_bytes c.args.input.now c.is_too_long.result c.is_too_long.ensures c.if-is_too_long.false) found.0 found.1 e found.2 in
-    cc
+pub returns-in_err-answer-clause-unfailing : goal.returns-in_err-answer-clause-unfailing
+returns-in_err-answer-clause-unfailing c =
+    known_error (λ r. c.args.count ≡ counts.Any → c.args.in_kind ≡ kind.Wire → c.args.out_kind ≡ kind.Wire → r ≢ Err (counted.Engine fault.OutOfMemory)) _ _ c.from_residual.ensures.1
+    (λ e a b h. c.in_err-answer.ensures.unfailing a b (ap Err (same_engine c.in_err-answer.field-0.0 fault.OutOfMemory h)))
+
+pub returns-in_err-expect-clause-shown : goal.returns-in_err-expect-clause-shown
+returns-in_err-expect-clause-shown c =
+    let h = c.in_ok-answer.ensures.shown in
+    let Whole = ShownWhole c.args.in_kind c.args.out_kind c.args.limit c.args.input.now in
+    known_error (λ r. CountAnswer c.args.count c.args.in_kind c.args.limit c.args.input.now Whole r) _ _ c.from_residual-in_err-expect.ensures.1
+    (kept_counted c.args.count c.args.in_kind c.args.limit c.args.input.now Whole c.in_ok-answer.answer c.in_err-expect.field-0.0 h ((h.0, unfaulted c.args.in_kind c.args.limit c.args.input.now h.1.nodes h.1.spelled), tt) c.in_err-expect.ensures.refused)
+
+pub returns-in_err-expect-clause-malformed : goal.returns-in_err-expect-clause-malformed
+returns-in_err-expect-clause-malformed c l = shown_reported c.args.count c.args.in_kind c.args.out_kind c.args.limit c.args.input.now l _ (returns-in_err-expect-clause-shown c)
+
+pub returns-in_err-expect-clause-unfailing : goal.returns-in_err-expect-clause-unfailing
+returns-in_err-expect-clause-unfailing c e a b h = let clash : counts.Any ≡ counts.One = sym e ∙ c.in_err-expect.ensures.refused.0 in absurd cc
 
 pub returns-clause-shown : goal.returns-clause-shown
-returns-clause-shown c = c.in_ok-show_input.ensures.answers (short most_bytes c.args.input.now c.is_too_long.result c.is_too_long.ensures c.if-is_too_long.false)
+returns-clause-shown c = (c.in_ok-answer.ensures.shown, c.in_ok-expect.ensures.counted)
 
 pub returns-clause-malformed : goal.returns-clause-malformed
-returns-clause-malformed c l = answered c.args.in_kind c.args.limit c.args.input.now c.in_ok-show_input.field-0 _ (c.in_ok-show_input.ensures.malformed l)
-
-pub returns-then-is_own_spelling-clause-same_bytes : goal.returns-then-is_own_spelling-clause-same_bytes
-returns-then-is_own_spelling-clause-same_bytes c =
-    let l = short most_bytes c.args.input.now c.is_too_long.result c.is_too_long.ensures c.if-is_too_long.false in
-    same_bytes c.args.in_kind c.args.out_kind c.args.limit c.args.input.now c.args.input.now l (c.is_own_spelling.ensures.own c.if-is_own_spelling.true)
+returns-clause-malformed c l = shown_reported c.args.count c.args.in_kind c.args.out_kind c.args.limit c.args.input.now l _ (returns-clause-shown c)
 
 pub returns-clause-same_bytes : goal.returns-clause-same_bytes
-returns-clause-same_bytes c =
-    let shown = returns-clause-shown c in
-    same_bytes c.args.in_kind c.args.out_kind c.args.limit c.args.input.now _ shown.0 shown.1
-
-pub show_input-requires-clause-malformed : goal.show_input-requires-clause-malformed
-show_input-requires-clause-malformed c e f = no_reading c.args.limit c.args.input.now (c.is_own_spelling.ensures.malformed c.if-is_own_spelling.false e f)
+returns-clause-same_bytes c = let h = c.in_ok-answer.ensures.shown in same_bytes c.args.in_kind c.args.out_kind c.args.limit c.args.input.now _ h.0 h.1

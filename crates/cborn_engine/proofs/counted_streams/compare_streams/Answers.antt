@@ -1,0 +1,46 @@
+use Rattle.std.proofs.Common.{inr, sym, subst, Err}
+use Rattle.cborn_engine.specs.declared.count_faults.CompareCountFault.{CompareCountFault}
+use Rattle.cborn_engine.specs.Counts.{ComparesCount}
+use Rattle.cborn_engine.proofs.Comparison.Compared.{its_own, single}
+use Rattle.cborn_engine.proofs.CountAnswers.Answered.{holds_one}
+use Rattle.cborn_engine.proofs.CountAnswers.Compared.{first_not_read, second_not_read, both_read, held_whole}
+use Rattle.cborn_engine.proofs.counted_streams.compare_streams.Goals as goal
+
+pub returns-in-Err-clause-compares : goal.returns-in-Err-clause-compares
+returns-in-Err-clause-compares g c =
+    let before2 = g.Q.Source.remaining c.args.second.now in
+    subst (λ (w : CompareCountFault). ComparesCount c.args.count c.args.kind_a c.args.kind_b c.args.limit (g.R.Source.remaining c.args.first.now) (g.R.Source.remaining c.read_counted.new.reader) before2 before2 (Err w)) (sym c.of_first.ensures)
+    (first_not_read c.args.count g.O.KeyOrder.order g.met.O.KeyOrder.laws c.args.kind_a c.args.kind_b c.args.limit (g.R.Source.remaining c.args.first.now) (g.R.Source.remaining c.read_counted.new.reader) before2 before2 c.in-Err.why c.in-Err.ensures.reads)
+
+pub returns-in-Err-read_counted-clause-compares : goal.returns-in-Err-read_counted-clause-compares
+returns-in-Err-read_counted-clause-compares g c =
+    let before2 = g.Q.Source.remaining c.args.second.now in
+    let after2 = g.Q.Source.remaining c.read_counted-2.new.reader in
+    subst (λ (w : CompareCountFault). ComparesCount c.args.count c.args.kind_a c.args.kind_b c.args.limit (g.R.Source.remaining c.args.first.now) (g.R.Source.remaining c.read_counted.new.reader) before2 after2 (Err w)) (sym c.of_second.ensures)
+    (second_not_read c.args.count g.O.KeyOrder.order g.met.O.KeyOrder.laws c.args.kind_a c.args.kind_b c.args.limit (g.R.Source.remaining c.args.first.now) (g.R.Source.remaining c.read_counted.new.reader) before2 after2 c.in-Ok.bytes c.in-Err-read_counted.why c.in-Ok.ensures.reads c.in-Err-read_counted.ensures.reads)
+
+pub returns-in-Err-read_counted-clause-first_held : goal.returns-in-Err-read_counted-clause-first_held
+returns-in-Err-read_counted-clause-first_held g c = inr (held_whole c.args.count g.O.KeyOrder.order c.args.kind_a c.args.limit _ _ c.in-Ok.bytes c.in-Ok.ensures.reads)
+
+pub returns-clause-first_held : goal.returns-clause-first_held
+returns-clause-first_held g c = inr (held_whole c.args.count g.O.KeyOrder.order c.args.kind_a c.args.limit _ _ c.in-Ok.bytes c.in-Ok.ensures.reads)
+
+pub difference-requires : goal.difference-requires
+difference-requires g c =
+    let a = c.in-Ok.ensures.reads in
+    let b = c.in-Ok-read_counted.ensures.reads in
+    let order = g.O.KeyOrder.order in
+    let laws = g.met.O.KeyOrder.laws in
+    record {
+      ours = its_own order laws c.args.kind_a c.args.limit a.input c.in-Ok.bytes.items c.deref.result.now a.answer.0.0 a.answer.0.1 c.deref.ensures.value;
+      theirs = its_own order laws c.args.kind_b c.args.limit b.input c.in-Ok-read_counted.bytes.items c.deref-2.result.now b.answer.0.0 b.answer.0.1 c.deref-2.ensures.value;
+      single = λ e. (
+        single order laws c.args.kind_a c.args.limit a.input c.in-Ok.bytes.items c.deref.result.now a.answer.0.0 a.answer.0.1 (holds_one c.args.kind_a c.args.limit a.input a.answer.0.1.items a.answer.0.1.held (a.answer.1 e)) c.deref.ensures.value,
+        single order laws c.args.kind_b c.args.limit b.input c.in-Ok-read_counted.bytes.items c.deref-2.result.now b.answer.0.0 b.answer.0.1 (holds_one c.args.kind_b c.args.limit b.input b.answer.0.1.items b.answer.0.1.held (b.answer.1 e)) c.deref-2.ensures.value,
+      );
+    }
+
+pub returns-clause-compares : goal.returns-clause-compares
+returns-clause-compares g c =
+    both_read c.args.count g.O.KeyOrder.order g.met.O.KeyOrder.laws c.args.kind_a c.args.kind_b c.args.limit (g.R.Source.remaining c.args.first.now) (g.R.Source.remaining c.read_counted.new.reader) (g.Q.Source.remaining c.args.second.now) (g.Q.Source.remaining c.read_counted-2.new.reader)
+    c.in-Ok.bytes c.in-Ok-read_counted.bytes c.deref.result.now c.deref-2.result.now c.difference.result c.in-Ok.ensures.reads c.in-Ok-read_counted.ensures.reads c.deref.ensures.value c.deref-2.ensures.value c.difference.ensures

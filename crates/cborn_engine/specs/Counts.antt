@@ -1,0 +1,178 @@
+-- What is answered for an input that has to hold a number of items: what is answered for any number, unless it holds another.
+use Rattle.std.specs.Prelude.{◌≡◌, ◌≢◌, ℕ, ◌≤◌, ◌⊎◌, List, [], ◌∷◌, length, Option, Result, Ok, Err, ⊤}
+use Rattle.std.specs.Global.{Global}
+use Rattle.std.specs.Cow.{cow_slice_items}
+use Rattle.std.specs.declared.borrow.CowSlice.{CowSlice}
+use Rattle.std.specs.declared.cmp.Ordering.{Ordering}
+use Rattle.std.specs.Io.KnownBytes.{IsAtEnd, Consumes, Appends}
+use Rattle.cborn_model.specs.Tree.{Tree, place}
+use Rattle.cborn_model.specs.Value.{Value}
+use Rattle.cborn_model.specs.declared.defects.Defect.{Defect}
+use Rattle.cborn_engine.specs.declared.count_faults.CompareCountFault.{CompareCountFault}
+use Rattle.cborn_engine.specs.declared.count_faults.CompareCountFault.TheVariants as compared
+use Rattle.cborn_engine.specs.declared.count_faults.CountFault.{CountFault}
+use Rattle.cborn_engine.specs.declared.count_faults.CountFault.TheVariants as counted
+use Rattle.cborn_engine.specs.declared.counts.Count.{Count}
+use Rattle.cborn_engine.specs.declared.counts.Count.TheVariants as counts
+use Rattle.cborn_engine.specs.declared.faults.EngineFault.{EngineFault}
+use Rattle.cborn_engine.specs.declared.faults.EngineFault.TheVariants as fault
+use Rattle.cborn_engine.specs.declared.kinds.Kind.{Kind}
+use Rattle.cborn_engine.specs.declared.kinds.Kind.TheVariants as kind
+use Rattle.cborn_engine.specs.Canonical.{IsCanonical, NormaliseAnswers}
+use Rattle.cborn_engine.specs.Checking.{IsChecked, CheckAnswers}
+use Rattle.cborn_engine.specs.Comparing.{AreCompared}
+use Rattle.cborn_engine.specs.Holding.{Spells, SpellsInPlace, Holds}
+use Rattle.cborn_engine.specs.Reading.{most_bytes}
+use Rattle.cborn_engine.specs.Refusing.{IsRefused, IsRead}
+use Rattle.cborn_engine.specs.Showing.{IsShown, ShowAnswers}
+use Rattle.cborn_engine.specs.Whole.{IsRefusedWhole, IsUnshownWhole}
+
+-- ---- how many items an input holds
+
+-- the input spells one node, and no more
+abbrev pub SpellsOne : Kind → ℕ → List ℕ → Type 0
+SpellsOne k limit input = (t : Tree) × Spells k limit input (t ∷ [])
+
+-- it holds one item, and no more
+abbrev pub HoldsOne : Kind → ℕ → List ℕ → Type 0
+HoldsOne k limit input = (item : Value) × Holds k limit input (item ∷ [])
+
+-- it spells more than one node, of which the second starts here
+pub record SecondStarts (k : Kind) (limit : ℕ) (input : List ℕ) (p : ℕ) : Type 0 where
+  pub first : Tree
+  pub second : Tree
+  pub rest : List Tree
+  pub spelled : SpellsInPlace k limit input (first ∷ second ∷ rest)
+  pub here : place second ≡ p
+
+-- Why it isn't one item: it spells none, which is reported at its end; or more, which is reported where the second starts.
+abbrev pub IsNotOne : Kind → ℕ → List ℕ → CountFault → Type 0
+IsNotOne k limit input (counted.Engine why) = ⊥
+IsNotOne k limit input (counted.NoItem p) = Spells k limit input [] × (p ≡ length input)
+IsNotOne k limit input (counted.MoreItems p) = SecondStarts k limit input p
+
+-- ---- how many it has to hold
+
+-- it spells as many nodes as it has to
+abbrev pub SpellsCount : Count → Kind → ℕ → List ℕ → Type 0
+SpellsCount count k limit input = count ≡ counts.One → SpellsOne k limit input
+
+-- why it doesn't, which is reported of no input that may hold any number
+abbrev pub IsMiscount : Count → Kind → ℕ → List ℕ → CountFault → Type 0
+IsMiscount count k limit input why = (count ≡ counts.One) × IsNotOne k limit input why
+
+-- an input of the length allowed holds items, and as many as it has to
+pub record IsTaken (count : Count) (k : Kind) (limit : ℕ) (input : List ℕ) : Type 0 where
+  pub short : length input ≤ most_bytes
+  pub items : List Value
+  pub held : Holds k limit input items
+  pub one : count ≡ counts.One → HoldsOne k limit input
+
+-- ---- of an input that is held whole
+
+-- what is answered, where Answers says what is answered for any number of items
+abbrev pub CountAnswer : {A : Type 0} → Count → Kind → ℕ → List ℕ → (Result A EngineFault → Type 0) → Result A CountFault → Type 0
+CountAnswer count k limit input Answers (Ok a) = Answers (Ok a) × SpellsCount count k limit input
+CountAnswer count k limit input Answers (Err (counted.Engine why)) = Answers (Err why)
+CountAnswer {A} count k limit input Answers (Err why) = ((a : A) × Answers (Ok a)) × IsMiscount count k limit input why
+
+-- its canonical form, or why there is none
+abbrev pub NormalisedWhole : (List ℕ → List ℕ → Ordering) → Kind → Kind → ℕ → List ℕ → Result (CowSlice ℕ Global) EngineFault → Type 0
+NormalisedWhole order k out limit input (Ok output) = (length input ≤ most_bytes) × IsCanonical order k out limit input (cow_slice_items output)
+NormalisedWhole order k out limit input (Err why) = IsRefusedWhole k limit most_bytes input why
+
+-- what it spells, in another form
+abbrev pub ShownWhole : Kind → Kind → ℕ → List ℕ → Result (CowSlice ℕ Global) EngineFault → Type 0
+ShownWhole k out limit input (Ok output) = (length input ≤ most_bytes) × IsShown k out limit input (cow_slice_items output)
+ShownWhole k out limit input (Err why) = IsUnshownWhole k out limit most_bytes input why
+
+-- its first defect, or that it has none
+abbrev pub CheckedWhole : (List ℕ → List ℕ → Ordering) → ℕ → List ℕ → Result (Option Defect) EngineFault → Type 0
+CheckedWhole order limit input (Ok defect) = (length input ≤ most_bytes) × IsChecked order limit input defect
+CheckedWhole order limit input (Err why) = IsRefusedWhole kind.Wire limit most_bytes input why
+
+-- ---- of two inputs
+
+-- a fault of the first
+abbrev pub of_the_first : EngineFault → CompareCountFault
+of_the_first why = compared.First (counted.Engine why)
+
+-- out of memory is reported of neither input, but as the comparison's own
+abbrev pub of_first_counted : CountFault → CompareCountFault
+of_first_counted (counted.Engine fault.OutOfMemory) = compared.OutOfMemory
+of_first_counted why = compared.First why
+
+abbrev pub of_second_counted : CountFault → CompareCountFault
+of_second_counted (counted.Engine fault.OutOfMemory) = compared.OutOfMemory
+of_second_counted why = compared.Second why
+
+-- an input is refused for this, where Refused says for what it is that may hold any number of items
+abbrev pub IsNotTaken : Count → (EngineFault → Type 0) → Kind → ℕ → List ℕ → CountFault → Type 0
+IsNotTaken count Refused k limit input (counted.Engine why) = Refused why × (why ≢ fault.OutOfMemory)
+IsNotTaken count Refused k limit input why = (length input ≤ most_bytes) × ((items : List Value) × Holds k limit input items) × IsMiscount count k limit input why
+
+-- Why two inputs that are held whole aren't compared: the first is refused, or it isn't, and the second is. Memory may be refused for either: for the second only where the first is taken.
+abbrev pub AreRefusedWhole : Count → Kind → Kind → ℕ → List ℕ → List ℕ → CompareCountFault → Type 0
+AreRefusedWhole count k l limit x y (compared.First why) = IsNotTaken count (IsRefusedWhole k limit most_bytes x) k limit x why
+AreRefusedWhole count k l limit x y (compared.Second why) = IsTaken count k limit x × IsNotTaken count (IsRefusedWhole l limit most_bytes y) l limit y why
+AreRefusedWhole count k l limit x y compared.OutOfMemory = IsRefusedWhole k limit most_bytes x fault.OutOfMemory ⊎ IsTaken count k limit x × IsRefusedWhole l limit most_bytes y fault.OutOfMemory
+
+-- ---- of an input that is read
+
+-- The reader was read to its end before this was answered.
+abbrev pub IsReadForCount : {A : Type 0} → Result A CountFault → Option (List ℕ) → Type 0
+IsReadForCount {A} (Err (counted.Engine why)) rest = IsRead {A = A} (Err why) rest
+IsReadForCount _ rest = IsAtEnd rest
+
+-- What is answered and given to a writer, where Answers says what is answered for any number of items, and Whole what is the whole answer then. Of an input that holds another number nothing goes out.
+abbrev pub CountSent : Count → Kind → ℕ → List ℕ → List ℕ → (List ℕ → Type 0) → (Result Unit EngineFault → Type 0) → Result Unit CountFault → Type 0
+CountSent count k limit input output Whole Answers (Ok u) = Answers (Ok u) × SpellsCount count k limit input
+CountSent count k limit input output Whole Answers (Err (counted.Engine fault.WriteFault)) = Answers (Err fault.WriteFault) × SpellsCount count k limit input
+CountSent count k limit input output Whole Answers (Err (counted.Engine why)) = Answers (Err why)
+CountSent count k limit input output Whole Answers (Err why) = ((whole : List ℕ) × Whole whole) × IsMiscount count k limit input why × (output ≡ [])
+
+-- some input was taken from the reader and some output given to the writer, and this is answered for them
+pub record NormalisesCount (count : Count) (order : List ℕ → List ℕ → Ordering) (k out : Kind) (limit most : ℕ) (before after sent sent_after : Option (List ℕ)) (result : Result Unit CountFault) : Type 0 where
+  pub input : List ℕ
+  pub output : List ℕ
+  pub taken : Consumes before after input
+  pub given : Appends sent sent_after output
+  pub answer : CountSent count k limit input output (λ whole. (length input ≤ most) × IsCanonical order k out limit input whole) (NormaliseAnswers order k out limit most input output) result
+  pub to_end : IsReadForCount result after
+
+pub record ShowsCount (count : Count) (k out : Kind) (limit most : ℕ) (before after sent sent_after : Option (List ℕ)) (result : Result Unit CountFault) : Type 0 where
+  pub input : List ℕ
+  pub output : List ℕ
+  pub taken : Consumes before after input
+  pub given : Appends sent sent_after output
+  pub answer : CountSent count k limit input output (λ whole. (length input ≤ most) × IsShown k out limit input whole) (ShowAnswers k out limit most input output) result
+  pub to_end : IsReadForCount result after
+
+pub record ChecksCount (count : Count) (order : List ℕ → List ℕ → Ordering) (limit most : ℕ) (before after : Option (List ℕ)) (result : Result (Option Defect) CountFault) : Type 0 where
+  pub input : List ℕ
+  pub taken : Consumes before after input
+  pub answer : CountAnswer count kind.Wire limit input (CheckAnswers order limit most input) result
+  pub to_end : IsReadForCount result after
+
+-- The first is refused before a byte of the second is read.
+abbrev pub CompareCountAnswers : Count → Kind → Kind → ℕ → List ℕ → List ℕ → Result (Option ℕ) CompareCountFault → Type 0
+CompareCountAnswers count k l limit x y (Ok answer) = IsTaken count k limit x × IsTaken count l limit y × AreCompared k l limit x y answer
+CompareCountAnswers count k l limit x y (Err (compared.First why)) = IsNotTaken count (IsRefused k limit most_bytes x) k limit x why × (y ≡ [])
+CompareCountAnswers count k l limit x y (Err (compared.Second why)) = IsTaken count k limit x × IsNotTaken count (IsRefused l limit most_bytes y) l limit y why
+CompareCountAnswers count k l limit x y (Err compared.OutOfMemory) = (length x ≤ most_bytes) × (length y ≤ most_bytes)
+
+-- the readers were read to their ends before this was answered
+abbrev pub AreReadForCount : Result (Option ℕ) CompareCountFault → Option (List ℕ) → Option (List ℕ) → Type 0
+AreReadForCount (Ok answer) rest rest2 = IsAtEnd rest × IsAtEnd rest2
+AreReadForCount (Err (compared.First why)) rest rest2 = IsReadForCount {A = Option ℕ} (Err why) rest
+AreReadForCount (Err (compared.Second why)) rest rest2 = IsAtEnd rest × IsReadForCount {A = Option ℕ} (Err why) rest2
+AreReadForCount (Err compared.OutOfMemory) rest rest2 = ⊤
+
+-- an input was taken from each reader, and this is answered for them
+pub record ComparesCount (count : Count) (k l : Kind) (limit : ℕ) (before after before2 after2 : Option (List ℕ)) (result : Result (Option ℕ) CompareCountFault) : Type 0 where
+  pub first : List ℕ
+  pub second : List ℕ
+  pub taken : Consumes before after first
+  pub taken2 : Consumes before2 after2 second
+  pub answer : CompareCountAnswers count k l limit first second result
+  pub to_end : AreReadForCount result after after2

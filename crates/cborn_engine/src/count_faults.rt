@@ -1,0 +1,114 @@
+//! Why an input that has to hold a number of items gives no answer.
+ghost use Rattle.std.specs.Prelude.{◌≡◌};
+ghost use Rattle.cborn_engine.specs.declared.count_faults.CompareCountFault.{CompareCountFault};
+ghost use Rattle.cborn_engine.specs.declared.count_faults.CountFault.{CountFault};
+ghost use Rattle.cborn_engine.specs.Counts.{of_first_counted, of_second_counted};
+
+use crate::faults::EngineFault;
+use cborn_streams::{InputFault, OutputFault};
+use std::alloc::AllocError;
+use thiserror::Error;
+
+/// Why an input that has to hold a number of items gave no answer. Where any number will do, it is
+/// `Engine`.
+#[derive(Clone, Copy, PartialEq, Eq, Debug, Error)]
+pub enum CountFault {
+    /// The input is refused, or could not be read, or its answer not be written. Such a fault comes
+    /// before the two that follow.
+    #[error("{0}")]
+    Engine(EngineFault),
+    /// The input holds no item. The place is its length in bytes.
+    #[error("offset {0}: no item")]
+    NoItem(u64),
+    /// The input holds more than one item. The place is where the second starts, in bytes from the
+    /// start of the input.
+    #[error("offset {0}: more than one item")]
+    MoreItems(u64),
+}
+
+/// Why two inputs could not be compared, each of which has to hold a number of items.
+#[derive(Clone, Copy, PartialEq, Eq, Debug, Error)]
+pub enum CompareCountFault {
+    /// The first input was not taken. Not a byte of the second was read.
+    #[error("first: {0}")]
+    First(CountFault),
+    /// The second input was not taken.
+    #[error("second: {0}")]
+    Second(CountFault),
+    /// Memory was refused.
+    #[error("out of memory")]
+    OutOfMemory,
+}
+
+impl From<EngineFault> for CountFault {
+    ghost from_gives = { λ why e. e ≡ CountFault.Engine why };
+
+    fn from(why: EngineFault) -> Self {
+        CountFault::Engine(why)
+    }
+}
+
+impl From<AllocError> for CountFault {
+    ghost use Rattle.cborn_engine.specs.declared.faults.EngineFault.{EngineFault};
+
+    ghost from_gives = { λ _ e. e ≡ CountFault.Engine EngineFault.OutOfMemory };
+
+    fn from(_why: AllocError) -> Self {
+        CountFault::Engine(EngineFault::OutOfMemory)
+    }
+}
+
+impl From<InputFault> for CountFault {
+    ghost use Rattle.cborn_engine.specs.Faults.{of_input};
+
+    ghost from_gives = { λ why e. e ≡ CountFault.Engine (of_input why) };
+
+    fn from(why: InputFault) -> Self {
+        CountFault::Engine(EngineFault::from(why))
+    }
+}
+
+impl From<OutputFault> for CountFault {
+    ghost use Rattle.cborn_engine.specs.Faults.{of_output};
+
+    ghost from_gives = { λ why e. e ≡ CountFault.Engine (of_output why) };
+
+    fn from(why: OutputFault) -> Self {
+        CountFault::Engine(EngineFault::from(why))
+    }
+}
+
+impl CountFault {
+    /// The fault of an input that may hold any number of items.
+    pub fn of_any(self) -> EngineFault
+        requires { (why : EngineFault) × (self ≡ CountFault.Engine why) }
+        ensures { self ≡ CountFault.Engine result }
+    {
+        match self {
+            CountFault::Engine(why) => why,
+            CountFault::NoItem(_) | CountFault::MoreItems(_) => unreachable!(),
+        }
+    }
+}
+
+impl CompareCountFault {
+    /// Why two inputs aren't compared, where the first was not taken for this reason.
+    pub fn of_first(why: CountFault) -> Self
+        ensures { result ≡ of_first_counted why }
+    {
+        match why {
+            CountFault::Engine(EngineFault::OutOfMemory) => CompareCountFault::OutOfMemory,
+            why => CompareCountFault::First(why),
+        }
+    }
+
+    /// Why two inputs aren't compared, where the second was not taken for this reason.
+    pub fn of_second(why: CountFault) -> Self
+        ensures { result ≡ of_second_counted why }
+    {
+        match why {
+            CountFault::Engine(EngineFault::OutOfMemory) => CompareCountFault::OutOfMemory,
+            why => CompareCountFault::Second(why),
+        }
+    }
+}

@@ -1,0 +1,170 @@
+//! The calls over readers and writers of inputs that have to hold a number of items. One that has to
+//! hold one item is kept until its items are counted.
+ghost use Rattle.std.specs.Prelude.{◌≡◌, ◌≢◌, ◌≤◌, ◌⊎◌, ◌+◌, ℕ, List, Err, IfErr, OnOk};
+ghost use Rattle.std.specs.Io.KnownBytes.{Consumes, Appends};
+ghost use Rattle.cborn_engine.specs.declared.faults.EngineFault.TheVariants as fault;
+ghost use Rattle.cborn_engine.specs.declared.count_faults.CountFault.{CountFault};
+ghost use Rattle.cborn_engine.specs.declared.count_faults.CountFault.TheVariants as counted;
+ghost use Rattle.cborn_engine.specs.declared.count_faults.CompareCountFault.TheVariants as compared;
+ghost use Rattle.cborn_engine.specs.Canonical.{IsNormalForm};
+ghost use Rattle.cborn_engine.specs.Comparing.{IsHeldWhole};
+ghost use Rattle.cborn_engine.specs.devices.Counts.{ReadsCount, count_failures};
+ghost use Rattle.cborn_engine.specs.Counts.{NormalisesCount, ShowsCount, ChecksCount, ComparesCount};
+ghost use Rattle.cborn_engine.specs.Reading.{most_bytes};
+ghost use Rattle.cborn_engine.specs.Showing.{SpellSameBytes};
+ghost use Rattle.cborn_streams.specs.Failures.{CountsFault};
+
+use crate::conversions::{normalise, show_all};
+use crate::count_faults::{CompareCountFault, CountFault};
+use crate::counts::{Count, expect};
+use crate::differences::difference;
+use crate::encodings::{encode_input, front_to_copy};
+use crate::inputs::MOST;
+use crate::kinds::Kind;
+use crate::slices::{check_slice, normalise_slice, show_slice};
+use cborn_model::{Defect, KeyOrder, Limit};
+use cborn_streams::{Sink, Source, read_bytes, write_answer};
+use std::alloc::Global;
+
+/// Writes the canonical form of the items that the input holds, as `normalise` does.
+///
+/// # Errors
+/// `Engine`, with the fault that `normalise` gives. Where it gives none, `NoItem` or
+/// `MoreItems`; at these the writer is as it was.
+pub fn normalise_stream<O: KeyOrder, R: Source, W: Sink>(
+    alloc: Global,
+    limit: Limit,
+    count: Count,
+    in_kind: Kind,
+    out_kind: Kind,
+    reader: &mut R,
+    writer: &mut W,
+) -> Result<(), CountFault>
+    ensures normalises { NormalisesCount count O.order in_kind out_kind limit most_bytes (R.remaining reader.old) (R.remaining reader.new) (W.contents writer.old) (W.contents writer.new) result }
+    ensures headline { OnOk result ((input : List ℕ) × (output : List ℕ) × Consumes (R.remaining reader.old) (R.remaining reader.new) input × Appends (W.contents writer.old) (W.contents writer.new) output × IsNormalForm O.order in_kind out_kind limit input output) }
+    ensures read_failures { CountsFault (counted.Engine fault.ReadFault) result (R.failed reader.old) (R.failed reader.new) }
+    ensures write_failures { CountsFault (counted.Engine fault.WriteFault) result (W.failed writer.old) (W.failed writer.new) }
+    ensures untouched { IfErr result (λ why. why ≢ counted.Engine fault.WriteFault → writer.new ≡ writer.old) }
+    ensures flushed { OnOk result (W.unflushed writer.new ≡ 0) }
+    ensures calls { R.asked reader.new ≤ R.asked reader.old + most_bytes + 1 }
+{
+    if count == Count::Any {
+        return Ok(normalise::<O, R, W>(alloc, limit, in_kind, out_kind, reader, writer)?);
+    }
+    let input = read_bytes(alloc, MOST, reader)?;
+    let answer = normalise_slice::<O>(alloc, limit, count, in_kind, out_kind, &input)?;
+    Ok(write_answer(writer, &answer)?)
+}
+
+/// Writes the items of the input as they are spelled, as `show_all` does.
+///
+/// # Errors
+/// `Engine`, with the fault that `show_all` gives. Where it gives none, `NoItem` or
+/// `MoreItems`; at these the writer is as it was.
+pub fn show_stream<R: Source, W: Sink>(
+    alloc: Global,
+    limit: Limit,
+    count: Count,
+    in_kind: Kind,
+    out_kind: Kind,
+    reader: &mut R,
+    writer: &mut W,
+) -> Result<(), CountFault>
+    ensures shows { ShowsCount count in_kind out_kind limit most_bytes (R.remaining reader.old) (R.remaining reader.new) (W.contents writer.old) (W.contents writer.new) result }
+    ensures same_bytes { OnOk result ((input : List ℕ) × (output : List ℕ) × Consumes (R.remaining reader.old) (R.remaining reader.new) input × Appends (W.contents writer.old) (W.contents writer.new) output × SpellSameBytes in_kind out_kind limit input output) }
+    ensures read_failures { CountsFault (counted.Engine fault.ReadFault) result (R.failed reader.old) (R.failed reader.new) }
+    ensures write_failures { CountsFault (counted.Engine fault.WriteFault) result (W.failed writer.old) (W.failed writer.new) }
+    ensures untouched { IfErr result (λ why. why ≢ counted.Engine fault.WriteFault → writer.new ≡ writer.old) }
+    ensures flushed { OnOk result (W.unflushed writer.new ≡ 0) }
+    ensures calls { R.asked reader.new ≤ R.asked reader.old + most_bytes + 1 }
+{
+    if count == Count::Any {
+        return Ok(show_all::<R, W>(alloc, limit, in_kind, out_kind, reader, writer)?);
+    }
+    let input = read_bytes(alloc, MOST, reader)?;
+    let answer = show_slice(alloc, limit, count, in_kind, out_kind, &input)?;
+    Ok(write_answer(writer, &answer)?)
+}
+
+/// What `check` answers of bytes. Those that hold another number of items than they have to are
+/// refused, also where they have a defect.
+///
+/// # Errors
+/// `Engine`, with the fault that `check` gives. Else `NoItem` or `MoreItems`.
+pub fn check_stream<O: KeyOrder, R: Source>(
+    alloc: Global,
+    limit: Limit,
+    count: Count,
+    reader: &mut R,
+) -> Result<Option<Defect>, CountFault>
+    ensures checks { ChecksCount count O.order limit most_bytes (R.remaining reader.old) (R.remaining reader.new) result }
+    ensures failures { CountsFault (counted.Engine fault.ReadFault) result (R.failed reader.old) (R.failed reader.new) }
+    ensures calls { R.asked reader.new ≤ R.asked reader.old + most_bytes + 1 }
+{
+    let input = read_bytes(alloc, MOST, reader)?;
+    check_slice::<O>(alloc, limit, count, &input)
+}
+
+/// Compares what two inputs hold, as `compare` does.
+///
+/// # Errors
+/// `First`, where the first input isn't taken, by the fault that `normalise_stream` gives for it; then
+/// not a byte of the second was read. `Second`, likewise, where the first input is taken and the
+/// second isn't. `OutOfMemory` may come at any time, and is never inside of `First` or `Second`.
+pub fn compare_streams<O: KeyOrder, R: Source, Q: Source>(
+    alloc: Global,
+    limit: Limit,
+    count: Count,
+    kind_a: Kind,
+    first: &mut R,
+    kind_b: Kind,
+    second: &mut Q,
+) -> Result<Option<u64>, CompareCountFault>
+    ensures compares { ComparesCount count kind_a kind_b limit (R.remaining first.old) (R.remaining first.new) (Q.remaining second.old) (Q.remaining second.new) result }
+    ensures unread { (why : CountFault) → result ≡ Err (compared.First why) → second.new ≡ second.old }
+    ensures first_held { (second.new ≡ second.old) ⊎ IsHeldWhole kind_a limit (R.remaining first.old) (R.remaining first.new) }
+    ensures first_failures { CountsFault (compared.First (counted.Engine fault.ReadFault)) result (R.failed first.old) (R.failed first.new) }
+    ensures second_failures { CountsFault (compared.Second (counted.Engine fault.ReadFault)) result (Q.failed second.old) (Q.failed second.new) }
+    ensures first_calls { R.asked first.new ≤ R.asked first.old + most_bytes + 1 }
+    ensures second_calls { Q.asked second.new ≤ Q.asked second.old + most_bytes + 1 }
+{
+    let ours = match read_counted::<O, R>(alloc, limit, count, kind_a, first) {
+        Ok(bytes) => bytes,
+        Err(why) => return Err(CompareCountFault::of_first(why)),
+    };
+    let theirs = match read_counted::<O, Q>(alloc, limit, count, kind_b, second) {
+        Ok(bytes) => bytes,
+        Err(why) => return Err(CompareCountFault::of_second(why)),
+    };
+    Ok(difference::<O>(limit, count, &ours, &theirs))
+}
+
+/// The deterministic encodings of what the whole input holds, where that are as many items as it has
+/// to hold. Bytes that are these already are moved.
+///
+/// # Errors
+/// Those of `normalise_stream` but `WriteFault`.
+fn read_counted<O: KeyOrder, R: Source>(
+    alloc: Global,
+    limit: Limit,
+    count: Count,
+    kind: Kind,
+    reader: &mut R,
+) -> Result<Vec<u8>, CountFault>
+    ensures reads { ReadsCount count O.order kind limit (R.remaining reader.old) (R.remaining reader.new) result }
+    ensures failures { R.failed reader.new ≡ count_failures result (R.failed reader.old) }
+    ensures calls { R.asked reader.new ≤ R.asked reader.old + most_bytes + 1 }
+{
+    let input = read_bytes(alloc, MOST, reader)?;
+    match front_to_copy::<O>(limit, kind, &input) {
+        None => {
+            expect(alloc, limit, count, kind, &input)?;
+            Ok(input)
+        }
+        Some(front) => {
+            let bytes = encode_input::<O>(alloc, limit, kind, front, &input)?;
+            expect(alloc, limit, count, kind, &input)?;
+            Ok(bytes)
+        }
+    }
+}
