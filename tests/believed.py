@@ -19,8 +19,8 @@ CALLS = {
     "cborn_engine/src/conversions.rt": ["fn normalise"],
     "cborn_engine/src/checks.rt": ["fn check"],
     "cborn_engine/src/comparisons.rt": ["fn compare"],
-    "cborn_streams/src/sources.rt": ["trait Source"],
-    "cborn_streams/src/sinks.rt": ["trait Sink"],
+    "cborn_engine/src/sources.rt": ["trait Source"],
+    "cborn_engine/src/sinks.rt": ["trait Sink"],
     **ORDERS,
 }
 HEADLINE = {"cborn_engine/src/conversions.rt": ["fn normalise: headline"], **ORDERS}

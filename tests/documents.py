@@ -201,7 +201,7 @@ def other_versions(root):
         "CHANGELOG.md": f"## {version} (" if is_released else "## Unreleased\n",
         "README.md": f"cborn-{last}-linux",
         "docs/LIBRARY.md": f"cborn-{last}-linux",
-        "crates/cborn_options/src/options.rt": f'.version("{version}")',
+        "crates/cborn/src/options.rt": f'.version("{version}")',
         "crates/cborn_c/src/lib.rt": f"    {number}\n",
         "include/cborn.h": f"#define CBORN_VERSION {number}\n",
         "man/cborn.1": f'"cborn {version}"',

@@ -1,5 +1,5 @@
 #!/usr/bin/env python3
-"""Makes the lists of docs/PROMISES.md from the sources: each public function of each library, and its clauses by name. Of a function that a user calls, the list has the first sentence of the docstring. Of a law, that sentence is the theorem.
+"""Makes the lists of docs/PROMISES.md from the sources: each public function of each library and of the program, and its clauses by name. Of a function that a user calls, the list has the first sentence of the docstring. Of a law, that sentence is the theorem.
 
 A function is public if its module is, or if the crate's root file names it, or the type or trait that it belongs to, in a `pub use`. A single clause has no name, and the list doesn't mention it. Where a function has no clause, the list says so.
 
@@ -14,9 +14,12 @@ from pathlib import Path
 ROOT = Path(__file__).resolve().parent.parent
 PAGE = ROOT / "docs/PROMISES.md"
 # the order of the chapters: from the calls that a user makes down to what they stand on
-CRATES = "engine c commands options streams model wire det judge lex edn transcode departures flaws descent text_places explain".split()
+CRATES = """cborn_engine cborn_c cborn cborn_model cborn_wire cborn_det cborn_judge cborn_lex cborn_edn cborn_transcode
+    cborn_departures cborn_flaws cborn_descent cborn_text_places cborn_explain""".split()
 # those whose list says what each function does; the lists of the crates below them go by module
-CALLED = {"engine", "c", "commands", "options"}
+CALLED = {"cborn_engine", "cborn_c", "cborn"}
+# the file of each crate that names its modules
+ROOTS = [it for it in sorted(ROOT.glob("crates/*/src/*.rt")) if it.name in ("lib.rt", "main.rt")]
 MADE = "<!-- from here on made by tests/promises.py -->\n"
 PUBLIC = re.compile(r"pub use (?!cborn_)\w+::(?:\{([^}]*)\}|(\w+));")
 FUNCTION = re.compile(r'^( *)(pub )?(?:pub\(crate\) )?(?:const )?(?:unsafe )?(?:extern "C" )?fn (\w+)')
@@ -78,8 +81,8 @@ def told(name, clauses):
 
 def public(crate):
     """The public functions of a crate, each with the module in which it stands."""
-    source = ROOT / "crates" / f"cborn_{crate}" / "src"
-    modules, names = exported(source / "lib.rt")
+    source = ROOT / "crates" / crate / "src"
+    modules, names = exported(next(it for it in ROOTS if it.parent == source))
     return [(file.stem, *it) for file in sorted(source.glob("*.rt")) for it in functions(file, modules, names)]
 
 
@@ -96,15 +99,15 @@ def chapter(crate, listed):
             free.append(f"- {told(name, clauses)}: {sentence}")
     lines = [*free, *(f"- `{place}`: {', '.join(of_it)}" for place, of_it in by_place.items())]
     parts = ["\n".join(lines) + "\n"] * bool(lines) + ["Laws:\n\n" + "\n".join(laws) + "\n"] * bool(laws)
-    return f"## `cborn_{crate}`\n\n" + "\n".join(parts)
+    return f"## `{crate}`\n\n" + "\n".join(parts)
 
 
 def main():
     page = PAGE.read_text()
     introduction = page.partition(MADE)[0]
-    libraries = {file.parents[1].name.removeprefix("cborn_") for file in ROOT.glob("crates/cborn_*/src/lib.rt") if not file.parents[1].name.endswith("_tests")}
-    if libraries != set(CRATES):
-        print(f"CRATES of tests/promises.py isn't what crates/ has: {sorted(libraries ^ set(CRATES))}")
+    crates = {it.parents[1].name for it in ROOTS if not it.parents[1].name.endswith("_tests")}
+    if crates != set(CRATES):
+        print(f"CRATES of tests/promises.py isn't what crates/ has: {sorted(crates ^ set(CRATES))}")
         return 1
     found = {crate: public(crate) for crate in CRATES}
     made = introduction + MADE + "\n" + "\n".join(itertools.starmap(chapter, found.items()))

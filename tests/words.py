@@ -96,7 +96,7 @@ def lost(pages):
 
 def strays(text):
     """The definitions that aren't in the file which the list of all definitions names."""
-    rows = re.findall(r"^- (`cborn_\w+/[^:]*): (.*)$", text.partition("\n## All definitions\n")[2], re.MULTILINE)
+    rows = re.findall(r"^- (`cborn\w*/[^:]*): (.*)$", text.partition("\n## All definitions\n")[2], re.MULTILINE)
     if not rows:
         yield "docs/DEFINITIONS.md lists no definition"
     for places, said in rows:

@@ -1,13 +1,52 @@
 //! Reads CBOR data items and writes their deterministic encoding.
 //!
-//! `cborn_commands` does the work. Here it is given what the system gives: words, files and memory.
+//! [`run`] is all of it. It has the words read, does what they ask for, writes remarks to standard error, and
+//! answers the exit status. Here it is given what the system gives: words, files and memory. Where the system
+//! gives no words, [`tell_words`] says so.
+//!
+//! - `options`: from the words to a request, by the argument parser `clap`; `requests`: that request, and its
+//!   task.
+//! - `forms`: the commands and their arguments; `help`: the texts of help.
+//! - `misplaced`: what is said of an option that only another command has, or that is meant by another name.
+//! - `systems`: what a run is given.
+//! - `tasks`: the commands, by the calls of `cborn_engine`; `several`: a command on several files.
+//! - `inputs`: the files that they read.
+//! - `outputs`: where their answers go; `saved`: the file that one goes to.
+//! - `lines`: the lines that are printed, and `names` the names in them; `usage` those on a wrong command
+//!   line.
+//! - `remarks`: what else standard error gets. `explanations` has the part that `--explain` asks for.
+//! - `statuses`: the exit statuses.
+//!
+//! `specs/Statuses.antt` says which exit status goes with what, `specs/Words.antt` when a request has more
+//! than one file to check.
 #![tactic(auto)]
 
-use cborn_commands::{run, tell_words};
-use cborn_streams::Counted;
+mod explanations;
+mod formats;
+mod forms;
+mod help;
+mod inputs;
+mod lines;
+mod misplaced;
+mod names;
+mod options;
+mod outputs;
+mod remarks;
+mod requests;
+mod runs;
+mod saved;
+mod several;
+mod statuses;
+mod systems;
+mod tasks;
+mod usage;
+
+use cborn_engine::Counted;
+pub use runs::run;
 use std::alloc::Global;
 use std::process::ExitCode;
 use std::{env, io};
+use usage::tell_words;
 
 /// Runs the program with what the system gives, and answers its exit status.
 ///

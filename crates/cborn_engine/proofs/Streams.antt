@@ -1,3 +1,5 @@
 -- What loops know that read an input by pieces, or write an answer.
 pub mod Counted
 pub mod Feeding
+pub mod Collecting
+pub mod Written

@@ -10,7 +10,7 @@ use Rattle.cborn_engine.specs.declared.faults.EngineFault.TheVariants as fault
 use Rattle.cborn_engine.specs.declared.kinds.Kind.{Kind}
 use Rattle.cborn_engine.specs.Holding.{Holds, Canon}
 use Rattle.cborn_engine.specs.Refusing.{IsRefused, IsRead}
-use Rattle.cborn_streams.specs.Writing.{IsFront}
+use Rattle.cborn_engine.specs.Writing.{IsFront}
 
 -- the input holds items, and the output is their canonical form
 pub record IsCanonical (order : List ℕ → List ℕ → Ordering) (k out : Kind) (limit : ℕ) (input output : List ℕ) : Type 0 where

@@ -8,10 +8,10 @@ use Rattle.cborn_edn.specs.declared.faults.ShowFault.{ShowFault}
 use Rattle.cborn_edn.specs.declared.faults.ShowFault.TheVariants as unshown
 use Rattle.cborn_model.specs.declared.faults.Invalid.{Invalid}
 use Rattle.cborn_model.specs.declared.faults.Invalid.TheVariants as invalid
-use Rattle.cborn_streams.specs.declared.faults.InputFault.{InputFault}
-use Rattle.cborn_streams.specs.declared.faults.InputFault.TheVariants as input
-use Rattle.cborn_streams.specs.declared.faults.OutputFault.{OutputFault}
-use Rattle.cborn_streams.specs.declared.faults.OutputFault.TheVariants as output
+use Rattle.cborn_engine.specs.declared.stream_faults.InputFault.{InputFault}
+use Rattle.cborn_engine.specs.declared.stream_faults.InputFault.TheVariants as input
+use Rattle.cborn_engine.specs.declared.stream_faults.OutputFault.{OutputFault}
+use Rattle.cborn_engine.specs.declared.stream_faults.OutputFault.TheVariants as output
 use Rattle.cborn_engine.specs.declared.faults.CompareFault.{CompareFault}
 use Rattle.cborn_engine.specs.declared.faults.CompareFault.TheVariants as compared
 use Rattle.cborn_engine.specs.declared.faults.EngineFault.{EngineFault}

@@ -1,3 +1,7 @@
+pub mod Failures
+pub mod Collecting
+pub mod Writing
+pub mod Counters
 pub mod Faults
 pub mod Reading
 pub mod Bytes

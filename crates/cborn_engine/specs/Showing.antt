@@ -14,7 +14,7 @@ use Rattle.cborn_engine.specs.declared.kinds.Kind.TheVariants as kind
 use Rattle.cborn_engine.specs.Holding.{Spells, SpellsInPlace}
 use Rattle.cborn_engine.specs.Loading.{IsNoFlaw}
 use Rattle.cborn_engine.specs.Refusing.{IsRefused, IsRead}
-use Rattle.cborn_streams.specs.Writing.{IsFront}
+use Rattle.cborn_engine.specs.Writing.{IsFront}
 
 -- the nodes as they are spelled, or their fixed notation
 abbrev pub IsSpelledAs : Kind → List Tree → List ℕ → Type 0

@@ -3,7 +3,7 @@ ghost use Rattle.std.specs.Prelude.{◌≡◌, ◌≤◌, ◌+◌, ℕ, length};
 ghost use Rattle.cborn_engine.specs.declared.kinds.Kind.TheVariants as kinds;
 ghost use Rattle.cborn_engine.specs.Whole.{TellsFault};
 ghost use Rattle.cborn_engine.specs.declared.faults.EngineFault.TheVariants as fault;
-ghost use Rattle.cborn_streams.specs.Failures.{CountsFault};
+ghost use Rattle.cborn_engine.specs.Failures.{CountsFault};
 ghost use Rattle.cborn_engine.specs.Checking.{Checks, CheckAnswers};
 ghost use Rattle.cborn_engine.specs.Reading.{most_bytes};
 ghost use Rattle.cborn_engine.specs.devices.Counting.{read_failures};
@@ -11,9 +11,10 @@ ghost use Rattle.cborn_engine.specs.devices.Counting.{read_failures};
 use crate::encodings::judge_bytes;
 use crate::faults::EngineFault;
 use crate::inputs::MOST;
+use crate::sources::Source;
+use crate::whole_inputs::read_bytes;
 use cborn_departures::{Departure, first_departure};
 use cborn_model::{Defect, KeyOrder, Limit};
-use cborn_streams::{Source, read_bytes};
 use std::alloc::Global;
 
 /// The first defect of the bytes of an input, if they aren't the deterministic encodings of the

@@ -5,7 +5,7 @@ ghost use Rattle.cborn_engine.specs.declared.faults.CompareFault.TheVariants as 
 ghost use Rattle.cborn_engine.specs.declared.faults.EngineFault.{EngineFault};
 ghost use Rattle.cborn_engine.specs.declared.faults.EngineFault.TheVariants as fault;
 ghost use Rattle.cborn_engine.specs.Comparing.{Compares, IsHeldWhole};
-ghost use Rattle.cborn_streams.specs.Failures.{CountsFault};
+ghost use Rattle.cborn_engine.specs.Failures.{CountsFault};
 ghost use Rattle.cborn_engine.specs.Faults.{of_first, of_second};
 ghost use Rattle.cborn_engine.specs.Reading.{most_bytes};
 
@@ -14,8 +14,8 @@ use crate::differences::difference;
 use crate::encodings::read_encoded;
 use crate::faults::{CompareFault, EngineFault};
 use crate::kinds::Kind;
+use crate::sources::Source;
 use cborn_model::{KeyOrder, Limit};
-use cborn_streams::Source;
 use std::alloc::Global;
 
 impl CompareFault {

@@ -10,15 +10,17 @@ ghost use Rattle.cborn_engine.specs.Holding.{Holds};
 ghost use Rattle.cborn_engine.specs.devices.Encoding.{IsFixedText};
 ghost use Rattle.cborn_engine.specs.devices.Encoding.{IsWrittenAs};
 ghost use Rattle.cborn_engine.specs.Showing.{Shows, SpellSameBytes};
-ghost use Rattle.cborn_streams.specs.Failures.{CountsFault};
+ghost use Rattle.cborn_engine.specs.Failures.{CountsFault};
 
 use crate::encodings::read_encoded;
 use crate::faults::EngineFault;
 use crate::kinds::Kind;
+use crate::outputs::write_answer;
 use crate::showings::read_shown;
+use crate::sinks::Sink;
+use crate::sources::Source;
 use cborn_edn::{Notated, show_bytes};
 use cborn_model::{KeyOrder, Limit};
-use cborn_streams::{Sink, Source, write_answer};
 use std::alloc::{AllocError, Global};
 
 /// Writes the canonical form of the items that the input holds: their deterministic encodings one

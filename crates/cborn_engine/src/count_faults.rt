@@ -5,7 +5,7 @@ ghost use Rattle.cborn_engine.specs.declared.count_faults.CountFault.{CountFault
 ghost use Rattle.cborn_engine.specs.Counts.{of_first_counted, of_second_counted};
 
 use crate::faults::EngineFault;
-use cborn_streams::{InputFault, OutputFault};
+use crate::stream_faults::{InputFault, OutputFault};
 use std::alloc::AllocError;
 use thiserror::Error;
 

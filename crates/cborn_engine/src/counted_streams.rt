@@ -12,7 +12,7 @@ ghost use Rattle.cborn_engine.specs.devices.Counts.{ReadsCount, count_failures};
 ghost use Rattle.cborn_engine.specs.Counts.{NormalisesCount, ShowsCount, ChecksCount, ComparesCount};
 ghost use Rattle.cborn_engine.specs.Reading.{most_bytes};
 ghost use Rattle.cborn_engine.specs.Showing.{SpellSameBytes};
-ghost use Rattle.cborn_streams.specs.Failures.{CountsFault};
+ghost use Rattle.cborn_engine.specs.Failures.{CountsFault};
 
 use crate::conversions::{normalise, show_all};
 use crate::count_faults::{CompareCountFault, CountFault};
@@ -21,9 +21,12 @@ use crate::differences::difference;
 use crate::encodings::{encode_input, front_to_copy};
 use crate::inputs::MOST;
 use crate::kinds::Kind;
+use crate::outputs::write_answer;
+use crate::sinks::Sink;
 use crate::slices::{check_slice, normalise_slice, show_slice};
+use crate::sources::Source;
+use crate::whole_inputs::read_bytes;
 use cborn_model::{Defect, KeyOrder, Limit};
-use cborn_streams::{Sink, Source, read_bytes, write_answer};
 use std::alloc::Global;
 
 /// Writes the canonical form of the items that the input holds, as `normalise` does.

@@ -16,12 +16,13 @@ use crate::faults::EngineFault;
 use crate::inputs::MOST;
 use crate::kinds::{Kind, profile_of};
 use crate::refusals::{fault_of_bytes, fault_or_refusal, flaw_of_text};
+use crate::sources::Source;
 use crate::texts::{HeadWidths, bytes_of_text};
+use crate::whole_inputs::read_bytes;
 use cborn_departures::deterministic_front;
 use cborn_flaws::{Validity, first_flaw};
 use cborn_lex::Profile;
 use cborn_model::{Invalid, KeyOrder, Limit};
-use cborn_streams::{Source, read_bytes};
 use cborn_transcode::transcode_after;
 use std::alloc::Global;
 

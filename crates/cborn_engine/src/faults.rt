@@ -3,10 +3,10 @@ ghost use Rattle.std.specs.Prelude.{◌≡◌};
 ghost use Rattle.cborn_engine.specs.declared.faults.CompareFault.{CompareFault};
 ghost use Rattle.cborn_engine.specs.declared.faults.EngineFault.{EngineFault};
 
+use crate::stream_faults::{InputFault, OutputFault};
 use cborn_edn::{EdnFault, ShowFault};
 use cborn_lex::LexFault;
 use cborn_model::Invalid;
-use cborn_streams::{InputFault, OutputFault};
 use cborn_wire::WireFault;
 use std::alloc::AllocError;
 use thiserror::Error;

@@ -2,7 +2,7 @@
 ghost use Rattle.std.specs.Prelude.{◌≡◌, ◌≤◌, ◌+◌};
 ghost use Rattle.cborn_engine.specs.declared.faults.EngineFault.TheVariants as fault;
 ghost use Rattle.cborn_engine.specs.declared.kinds.Kind.TheVariants as kinds;
-ghost use Rattle.cborn_streams.specs.Failures.{CountsFault};
+ghost use Rattle.cborn_engine.specs.Failures.{CountsFault};
 ghost use Rattle.cborn_engine.specs.devices.Encoding.{kind_of};
 ghost use Rattle.cborn_engine.specs.Loading.{Loads};
 ghost use Rattle.cborn_engine.specs.Reading.{most_bytes};
@@ -11,9 +11,11 @@ ghost use Rattle.cborn_engine.specs.devices.Counting.{read_failures};
 use crate::faults::EngineFault;
 use crate::kinds::{Kind, profile_of};
 use crate::nodes::notated_nodes;
+use crate::pieces::read_piece;
+use crate::sources::Source;
+use crate::whole_inputs::read_bytes;
 use cborn_lex::Profile;
 use cborn_model::{Limit, Spelled};
-use cborn_streams::{Source, read_bytes, read_piece};
 use cborn_wire::Feeder;
 use std::alloc::Global;
 

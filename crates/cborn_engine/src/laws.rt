@@ -20,7 +20,7 @@ ghost use Rattle.cborn_engine.specs.Holding.{Holds, HoldSameItems, Spells, Canon
 ghost use Rattle.cborn_engine.specs.Loading.{LoadAnswers};
 ghost use Rattle.cborn_engine.specs.Refusing.{IsRefused, IsNoRefusal, IsTrouble};
 ghost use Rattle.cborn_engine.specs.Canonical.{IsCanonical, NormaliseAnswers};
-ghost use Rattle.cborn_streams.specs.Writing.{IsFront};
+ghost use Rattle.cborn_engine.specs.Writing.{IsFront};
 ghost use Rattle.cborn_engine.specs.Comparing.{AreCompared};
 ghost use Rattle.cborn_engine.specs.Checking.{IsChecked};
 ghost use Rattle.cborn_engine.specs.Showing.{IsShown};

@@ -2,9 +2,11 @@
 //!
 //! [`load`] reads a whole input, bytes or notation ([`Kind`]), and gives its items as they are
 //! spelled. [`normalise`] and [`show_all`] go on to a writer; [`compare`] and [`check`] answer.
-//! What is read from is a [`Source`], what is written to a [`Sink`]; [`Counted`] makes them of the
-//! readers and writers of std. All three are those of `cborn_streams`, which reads whole inputs and
-//! writes whole answers.
+//! What is read from is a [`Source`], what is written to a [`Sink`], both of which count their
+//! failures; [`Counted`] makes them of the readers and writers of std. `whole_inputs` reads all of
+//! an input, `pieces` the next piece of one that isn't kept, and `outputs` writes a whole answer and
+//! flushes it. `specs/Failures.antt` says how the counts go on, `specs/Collecting.antt` and
+//! `specs/Writing.antt` what was taken from a reader and given to a writer.
 //!
 //! A reader of the definitions starts at `specs/Holding.antt` (what an input holds, and its
 //! canonical form) and `specs/Canonical.antt` (the headline). `Refusing` says why an input is
@@ -28,6 +30,7 @@ mod comparisons;
 mod conversions;
 mod count_faults;
 mod counted_streams;
+mod counters;
 mod counts;
 mod differences;
 mod encodings;
@@ -37,20 +40,28 @@ mod items;
 mod kinds;
 pub mod laws;
 mod nodes;
+mod outputs;
+mod pieces;
 mod refusals;
 mod showings;
+mod sinks;
 mod slices;
+mod sources;
+mod stream_faults;
 mod texts;
+mod whole_inputs;
 
-pub use cborn_streams::{Counted, Sink, Source};
 pub use checks::check;
 pub use comparisons::compare;
 pub use conversions::{normalise, show_all};
 pub use count_faults::{CompareCountFault, CountFault};
 pub use counted_streams::{check_stream, compare_streams, normalise_stream, show_stream};
+pub use counters::Counted;
 pub use counts::Count;
 pub use faults::{CompareFault, EngineFault};
 pub use inputs::{load, load_within};
 pub use items::Items;
 pub use kinds::Kind;
+pub use sinks::Sink;
 pub use slices::{check_slice, compare_slices, normalise_slice, same_items, show_slice};
+pub use sources::Source;

@@ -18,11 +18,12 @@ use crate::faults::EngineFault;
 use crate::inputs::MOST;
 use crate::kinds::{Kind, profile_of};
 use crate::refusals::{fault_of_bytes, fault_or_refusal};
+use crate::sources::Source;
 use crate::texts::{HeadWidths, bytes_of_text};
+use crate::whole_inputs::read_bytes;
 use cborn_edn::{Notated, ShowFault, show_bytes};
 use cborn_lex::Profile;
 use cborn_model::Limit;
-use cborn_streams::{Source, read_bytes};
 use cborn_wire::{WireFault, scan};
 use std::alloc::Global;
 

@@ -14,9 +14,9 @@ use Rattle.cborn_engine.specs.Loading.{IsNoFlaw}
 use Rattle.cborn_engine.specs.devices.Reading.{Reads}
 use Rattle.cborn_engine.specs.Refusing.{IsRefused, IsRead}
 use Rattle.cborn_engine.specs.Showing.{ShowAnswers, Shows, IsShown, TellAnswers}
-use Rattle.cborn_streams.specs.declared.faults.OutputFault.{OutputFault}
-use Rattle.cborn_streams.specs.declared.faults.OutputFault.TheVariants as output
-use Rattle.cborn_streams.specs.Writing.{Sends, WriteAnswers}
+use Rattle.cborn_engine.specs.declared.stream_faults.OutputFault.{OutputFault}
+use Rattle.cborn_engine.specs.declared.stream_faults.OutputFault.TheVariants as output
+use Rattle.cborn_engine.specs.Writing.{Sends, WriteAnswers}
 use Rattle.cborn_engine.proofs.Answers.KnownErrors.{answer_of}
 use Rattle.cborn_engine.proofs.Answers.Unanswered.{nothing_written}
 

@@ -16,9 +16,9 @@ use Rattle.cborn_engine.specs.devices.Reading.{Reads}
 use Rattle.cborn_engine.specs.Holding.{Spells, Holds, Canon}
 use Rattle.cborn_engine.specs.devices.Encoding.{IsWrittenAs, IsEncoded, EncodeAnswers}
 use Rattle.cborn_engine.specs.Refusing.{IsRead}
-use Rattle.cborn_streams.specs.declared.faults.OutputFault.{OutputFault}
-use Rattle.cborn_streams.specs.declared.faults.OutputFault.TheVariants as output
-use Rattle.cborn_streams.specs.Writing.{Sends, WriteAnswers}
+use Rattle.cborn_engine.specs.declared.stream_faults.OutputFault.{OutputFault}
+use Rattle.cborn_engine.specs.declared.stream_faults.OutputFault.TheVariants as output
+use Rattle.cborn_engine.specs.Writing.{Sends, WriteAnswers}
 use Rattle.cborn_engine.proofs.Answers.KnownErrors.{answer_of}
 use Rattle.cborn_engine.specs.Canonical.{IsCanonical, NormaliseAnswers, Normalises}
 use Rattle.cborn_engine.specs.Reading.{most_bytes}

@@ -8,7 +8,7 @@ use Rattle.cborn_engine.specs.declared.faults.EngineFault.TheVariants as fault
 use Rattle.cborn_engine.specs.declared.kinds.Kind.{Kind}
 use Rattle.cborn_engine.specs.Holding.{Canon, HoldSameItems}
 use Rattle.cborn_engine.specs.Refusing.{IsRefused, IsNoRefusal, IsTrouble}
-use Rattle.cborn_streams.specs.Writing.{IsFront}
+use Rattle.cborn_engine.specs.Writing.{IsFront}
 use Rattle.cborn_engine.specs.Canonical.{IsCanonical, NormaliseAnswers}
 use Rattle.cborn_engine.specs.Reading.{most_bytes}
 use Rattle.cborn_engine.proofs.Canonical.Canonicity.{valid, reads_back, alone, one_for_same, again}

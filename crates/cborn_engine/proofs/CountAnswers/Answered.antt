@@ -13,13 +13,13 @@ use Rattle.cborn_wire.specs.declared.faults.WireFault.TheVariants as wire
 use Rattle.cborn_wire.specs.declared.faults.WireReason.{WireReason}
 use Rattle.cborn_wire.specs.Faults.{Fault}
 use Rattle.cborn_wire.proofs.Spelled.FaultLaws.{not_both, one_fault}
-use Rattle.cborn_streams.specs.declared.faults.InputFault.{InputFault}
-use Rattle.cborn_streams.specs.declared.faults.InputFault.TheVariants as input
-use Rattle.cborn_streams.specs.declared.faults.OutputFault.{OutputFault}
-use Rattle.cborn_streams.specs.declared.faults.OutputFault.TheVariants as output
-use Rattle.cborn_streams.specs.Failures.{CountsFault, failures_after, failures_after_read}
-use Rattle.cborn_streams.specs.Reading.{Collects, CollectAnswers}
-use Rattle.cborn_streams.specs.Writing.{Sends, WriteAnswers}
+use Rattle.cborn_engine.specs.declared.stream_faults.InputFault.{InputFault}
+use Rattle.cborn_engine.specs.declared.stream_faults.InputFault.TheVariants as input
+use Rattle.cborn_engine.specs.declared.stream_faults.OutputFault.{OutputFault}
+use Rattle.cborn_engine.specs.declared.stream_faults.OutputFault.TheVariants as output
+use Rattle.cborn_engine.specs.Failures.{CountsFault, failures_after, failures_after_read}
+use Rattle.cborn_engine.specs.Collecting.{Collects, CollectAnswers}
+use Rattle.cborn_engine.specs.Writing.{Sends, WriteAnswers}
 use Rattle.cborn_engine.specs.declared.count_faults.CompareCountFault.{CompareCountFault}
 use Rattle.cborn_engine.specs.declared.count_faults.CompareCountFault.TheVariants as compared
 use Rattle.cborn_engine.specs.declared.counts.Count.{Count}

@@ -1,10 +1,10 @@
 -- What is answered where two inputs are read, each of which has to hold a number of items.
 use Rattle.std.proofs.Common.{◌≡◌, refl, sym, ap, ◌∙◌, subst, ◌⊎◌, ℕ, ◌≤◌, List, [], length, Option, Result, Ok, Err, Vec, Global, Ordering, inl, inr, arith}
 use Rattle.cborn_model.specs.Orders.{IsKeyOrder}
-use Rattle.cborn_streams.specs.declared.faults.InputFault.{InputFault}
-use Rattle.cborn_streams.specs.declared.faults.InputFault.TheVariants as input
-use Rattle.cborn_streams.specs.Failures.{CountsFault}
-use Rattle.cborn_streams.specs.Reading.{Collects, CollectAnswers}
+use Rattle.cborn_engine.specs.declared.stream_faults.InputFault.{InputFault}
+use Rattle.cborn_engine.specs.declared.stream_faults.InputFault.TheVariants as input
+use Rattle.cborn_engine.specs.Failures.{CountsFault}
+use Rattle.cborn_engine.specs.Collecting.{Collects, CollectAnswers}
 use Rattle.cborn_engine.specs.declared.faults.EngineFault.TheVariants as fault
 use Rattle.cborn_engine.specs.declared.count_faults.CountFault.{CountFault}
 use Rattle.cborn_engine.specs.declared.counts.Count.{Count}

@@ -4,7 +4,7 @@ use Rattle.cborn_engine.specs.declared.faults.CompareFault.TheVariants as compar
 use Rattle.cborn_engine.specs.declared.faults.EngineFault.{EngineFault}
 use Rattle.cborn_engine.specs.declared.faults.EngineFault.TheVariants as fault
 use Rattle.cborn_engine.specs.devices.Counting.{read_failures, read_failures_at, write_failures}
-use Rattle.cborn_streams.specs.Failures.{CountsFault}
+use Rattle.cborn_engine.specs.Failures.{CountsFault}
 use Rattle.cborn_engine.specs.Faults.{of_first, of_second}
 
 pub read_counted : {A : Type 0} (r : Result A EngineFault) (n m : ℕ) → m ≡ read_failures r n → CountsFault fault.ReadFault r n m

@@ -17,9 +17,9 @@ use Rattle.cborn_wire.proofs.Spelled.FaultLaws.{refused_stays}
 use Rattle.cborn_engine.specs.declared.kinds.Kind.TheVariants as kind
 use Rattle.cborn_engine.specs.Faults.{of_input, of_wire}
 use Rattle.cborn_engine.specs.Loading.{Loads}
-use Rattle.cborn_streams.specs.declared.faults.InputFault.{InputFault}
-use Rattle.cborn_streams.specs.declared.faults.InputFault.TheVariants as input
-use Rattle.cborn_streams.specs.Reading.{PieceAnswers}
+use Rattle.cborn_engine.specs.declared.stream_faults.InputFault.{InputFault}
+use Rattle.cborn_engine.specs.declared.stream_faults.InputFault.TheVariants as input
+use Rattle.cborn_engine.specs.Collecting.{PieceAnswers}
 
 abbrev pub StaysRefused : ℕ → List ℕ → WireFault → Type 0
 StaysRefused limit x (wire.Refused p r) = Refused limit x p r

@@ -2,7 +2,7 @@
 use Rattle.std.specs.Prelude.{ℕ, Result, Ok, Err}
 use Rattle.cborn_engine.specs.declared.faults.EngineFault.{EngineFault}
 use Rattle.cborn_engine.specs.declared.faults.EngineFault.TheVariants as fault
-use Rattle.cborn_streams.specs.Failures.{one_more}
+use Rattle.cborn_engine.specs.Failures.{one_more}
 
 abbrev pub read_failures_at : EngineFault → ℕ → ℕ
 read_failures_at fault.ReadFault n = one_more n

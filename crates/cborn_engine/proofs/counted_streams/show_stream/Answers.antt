@@ -1,6 +1,6 @@
 use Rattle.std.proofs.Common.{refl, Ok, Err}
 use Rattle.cborn_model.specs.Orders.{bytewise}
-use Rattle.cborn_streams.specs.Failures.{CountsFault}
+use Rattle.cborn_engine.specs.Failures.{CountsFault}
 use Rattle.cborn_engine.specs.declared.faults.EngineFault.TheVariants as fault
 use Rattle.cborn_engine.specs.declared.count_faults.CountFault.TheVariants as counted
 use Rattle.cborn_engine.specs.Counts.{ShowsCount, ShownWhole}

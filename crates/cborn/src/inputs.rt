@@ -1,0 +1,171 @@
+//! The files that the program reads.
+ghost use Rattle.std.specs.Prelude.{◌≡◌, ◌≤◌, ◌+◌, None};
+ghost use Rattle.std.specs.Io.{ReadsAtMost};
+ghost use Rattle.std.specs.Io.KnownBytes.{ReadConsumes};
+ghost use Rattle.cborn_engine.specs.Failures.{failures_after};
+
+use cborn_engine::Source;
+use cborn_explain::Look;
+use std::alloc::{AllocError, Global};
+use std::io::{ErrorKind, Read};
+use std::rt::Files;
+use std::{fs, io};
+
+/// A file that is opened at its first read. Where it can't be opened, that read fails, and so does each
+/// later one.
+#[derive(Drop)]
+pub struct LateFile<'r, 'p, F: Files> {
+    rt: &'r F,
+    path: &'p str,
+    file: Option<F::File>,
+    is_missing: bool,
+    failed: u64,
+}
+
+impl<'r, 'p, F: Files> LateFile<'r, 'p, F> {
+    /// The file at `path`, which isn't opened yet.
+    pub fn new(rt: &'r F, path: &'p str) -> Self {
+        LateFile {
+            rt,
+            path,
+            file: None,
+            is_missing: false,
+            failed: 0,
+        }
+    }
+
+    /// Whether its first read found that it can't be opened.
+    pub fn is_missing(&self) -> bool {
+        self.is_missing
+    }
+
+    /// The open file, taken out of `self.file`. It is opened if that is empty, so the caller puts it back.
+    ///
+    /// # Errors
+    /// Why it can't be opened, at the first call; `NotFound` at each later one.
+    fn opened(&mut self) -> io::Result<F::File>
+        ensures { self.new.failed ≡ self.old.failed }
+    {
+        if self.is_missing {
+            return Err(io::Error::from(ErrorKind::NotFound));
+        }
+        if let Some(file) = self.file.take() {
+            return Ok(file);
+        }
+        let opened = fs::open(self.rt, self.path);
+        self.is_missing = opened.is_err();
+        opened
+    }
+}
+
+impl<F: Files> Source for LateFile<'_, '_, F> {
+    ghost remaining = { λ _. None };
+
+    ghost failed = { λ l. l.failed };
+
+    fn read_some(&mut self, buf: &mut [u8]) -> io::Result<usize> {
+        let result = match self.opened() {
+            Ok(mut file) => {
+                let result = file.read(buf);
+                self.file = Some(file);
+                result
+            }
+            Err(why) => Err(why),
+        };
+        if result.is_err() {
+            self.failed = self.failed.saturating_add(1);
+        }
+        result
+    }
+
+    fn failures(&self) -> u64 {
+        self.failed
+    }
+}
+
+/// A source, with notes of what was read from it.
+#[derive(Drop)]
+pub struct Noted<S> {
+    pub inner: S,
+    pub notes: Notes,
+}
+
+impl<S: Source> Source for Noted<S> {
+    ghost remaining = { λ n. S.remaining n.inner };
+
+    ghost failed = { λ n. S.failed n.inner };
+
+    ghost asked = { λ n. S.asked n.inner };
+
+    fn read_some(&mut self, buf: &mut [u8]) -> io::Result<usize>
+        ensures bound { ReadsAtMost result buf.new }
+        ensures bytes { ReadConsumes (S.remaining self.old.inner) (S.remaining self.new.inner) result buf.new }
+        ensures failures { S.failed self.new.inner ≡ failures_after result (S.failed self.old.inner) }
+        ensures calls { S.asked self.new.inner ≤ S.asked self.old.inner + 1 }
+    {
+        let result = self.inner.read_some(buf);
+        if let Ok(count) = &result {
+            self.notes.see(&buf[..*count]);
+        }
+        result
+    }
+
+    fn failures(&self) -> u64 {
+        self.inner.failures()
+    }
+}
+
+/// What is kept of an input, so that standard error can say more of it.
+#[derive(Drop)]
+pub enum Notes {
+    Nothing,
+    /// What its bytes look like.
+    Look(Look),
+    /// All bytes that were read of it.
+    Whole(Kept),
+}
+
+impl Notes {
+    fn see(&mut self, bytes: &[u8]) {
+        match self {
+            Notes::Nothing => {}
+            Notes::Look(look) => look.see(bytes),
+            Notes::Whole(kept) => kept.see(bytes),
+        }
+    }
+}
+
+/// The bytes of an input that were read.
+#[derive(Drop)]
+pub struct Kept {
+    bytes: Vec<u8>,
+    /// The refused growth for which some bytes are missing.
+    lost: Option<AllocError>,
+}
+
+impl Kept {
+    /// No bytes yet.
+    pub fn new(alloc: Global) -> Self {
+        Kept {
+            bytes: Vec::new(alloc),
+            lost: None,
+        }
+    }
+
+    fn see(&mut self, bytes: &[u8]) {
+        if let Err(why) = self.bytes.extend_from_slice(bytes) {
+            self.lost = Some(why);
+        }
+    }
+
+    /// All bytes that were read.
+    ///
+    /// # Errors
+    /// `AllocError` where memory for some of them was refused.
+    pub fn bytes(&self) -> Result<&[u8], AllocError> {
+        match self.lost {
+            None => Ok(self.bytes.as_slice()),
+            Some(why) => Err(why),
+        }
+    }
+}

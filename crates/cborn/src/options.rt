@@ -1,0 +1,278 @@
+//! From the words of the command line to what they ask for.
+ghost use Rattle.std.specs.Prelude.{◌≡◌, ◌<◌, ◌≤◌, ◌⊎◌, length, true, IfOk, IfSome};
+ghost use Rattle.cborn.specs.Words.{is_option, plain_count, HasHyphens, IsCheckOfFiles};
+
+use crate::forms::{Argument, COMMANDS, Form, Takes, Value};
+use crate::help;
+use crate::misplaced::{Advice, advice_on};
+use crate::requests::{Action, Format, Items, Order, Purpose, Request, Task};
+use cborn_model::Limit;
+use clap::error::ErrorKind;
+use clap::{Arg, ArgAction, ArgMatches, Command, Error};
+use std::alloc::{AllocError, Global};
+
+/// What the words of a command line ask for. The first word is the program's name.
+///
+/// # Errors
+/// What is wrong with the words, a request for help or the version, or `ErrorKind::OutOfMemory`.
+pub fn read_request<'a>(alloc: Global, words: &'a [&'a str]) -> Result<Request<'a>, Error>
+    ensures several { IfOk result (λ request. 0 < length request.others.items → IsCheckOfFiles words.now) }
+{
+    let mut program = program(alloc)?;
+    request_by(alloc, &mut program, words)
+}
+
+fn request_by<'a>(
+    alloc: Global,
+    program: &mut Command<'a>,
+    words: &'a [&'a str],
+) -> Result<Request<'a>, Error>
+    ensures several { IfOk result (λ request. 0 < length request.others.items → IsCheckOfFiles words.now) }
+{
+    match program.try_get_matches_from_mut(words) {
+        Ok(matches) => match request_of(alloc, words, &matches) {
+            Ok(Some(request)) => Ok(request),
+            Ok(None) => Err(no_command(program)),
+            Err(refused) => Err(Error::from(refused)),
+        },
+        Err(why) => Err(explained(alloc, words, why)),
+    }
+}
+
+fn no_command(program: &mut Command<'_>) -> Error {
+    match program.error(ErrorKind::MissingSubcommand, "a command is required") {
+        Ok(error) => error,
+        Err(refused) => Error::from(refused),
+    }
+}
+
+/// The mistake that `clap` found in the words. Where they have an option that the command lacks, and
+/// there is advice on it, the mistake that gives the advice.
+fn explained(alloc: Global, words: &[&str], why: Error) -> Error {
+    if why.kind() != ErrorKind::UnknownArgument {
+        return why;
+    }
+    match advice_on(words) {
+        Some(advice) => error_of(alloc, &advice),
+        None => why,
+    }
+}
+
+/// The mistake that gives this advice, or that memory for it was refused.
+fn error_of(alloc: Global, advice: &Advice) -> Error {
+    match advised(alloc, advice) {
+        Ok(error) => error,
+        Err(refused) => Error::from(refused),
+    }
+}
+
+/// The mistake whose text is the line of an advice and the usage of its command.
+///
+/// # Errors
+/// `AllocError` where memory is refused.
+fn advised(alloc: Global, advice: &Advice) -> Result<Error, AllocError> {
+    let command = command(alloc, advice.command)?;
+    let mut command = command.bin_name(advice.command.whole_name)?;
+    command.error(ErrorKind::UnknownArgument, advice.line)
+}
+
+/// What was found in the words. `None`: there is no command.
+///
+/// # Errors
+/// `AllocError` where memory for the names of files is refused.
+fn request_of<'a>(
+    alloc: Global,
+    words: &[&str],
+    matches: &ArgMatches<'a>,
+) -> Result<Option<Request<'a>>, AllocError>
+    ensures several { IfOk result (λ found. IfSome found (λ request. 0 < length request.others.items → IsCheckOfFiles words.now)) }
+{
+    let Some((name, found)) = matches.subcommand() else {
+        return Ok(None);
+    };
+    let Some(task) = task_of(name, found) else {
+        return Ok(None);
+    };
+    let others = others_of(alloc, words, found)?;
+    Ok(Some(Request { task, others }))
+}
+
+fn task_of<'a>(name: &str, found: &ArgMatches<'a>) -> Option<Task<'a>> {
+    Some(Task {
+        action: action_of(name, found)?,
+        output: found.get_str("output"),
+        order: order_of(found),
+        limit: limit_of(found)?,
+        items: items_of(found),
+        explain: found.get_flag("explain"),
+    })
+}
+
+/// The files after the first one of a command line that checks two at least. Of any other there are none.
+///
+/// # Errors
+/// `AllocError` where memory is refused.
+fn others_of<'a>(
+    alloc: Global,
+    words: &[&str],
+    found: &ArgMatches<'a>,
+) -> Result<Vec<&'a str>, AllocError>
+    ensures several { IfOk result (λ others. 0 < length others.items → IsCheckOfFiles words.now) }
+{
+    let mut others = Vec::new(alloc);
+    if is_check_of_files(words) {
+        if let Some([_, rest @ ..]) = found.get_strs("FILE") {
+            others.extend_from_slice(rest)?;
+        }
+    }
+    Ok(others)
+}
+
+/// Whether `check` comes after the program's name, and then two words at least that may be names of
+/// files.
+fn is_check_of_files(words: &[&str]) -> bool
+    ensures { result ≡ true → IsCheckOfFiles words.now }
+{
+    match words.get(1) {
+        Some(name) => *name == "check" && may_name_files(words),
+        None => false,
+    }
+}
+
+/// Whether four words are no options, or one of them is `--`.
+fn may_name_files(words: &[&str]) -> bool
+    ensures { result ≡ true → (4 ≤ plain_count words.now) ⊎ HasHyphens words.now }
+{
+    let mut count: usize = 0;
+    for word in words {
+        if *word == "--" {
+            return true;
+        }
+        if !is_option(word) {
+            count += 1;
+        }
+    }
+    count >= 4
+}
+
+/// Whether the word begins with a hyphen.
+fn is_option(word: &str) -> bool
+    ensures { result ≡ is_option word.now }
+{
+    match word.as_bytes() {
+        [first, ..] => *first == b'-',
+        [] => false,
+    }
+}
+
+fn limit_of(found: &ArgMatches<'_>) -> Option<Limit> {
+    Limit::new(found.get_one::<u64>("depth")?)
+}
+
+fn items_of(found: &ArgMatches<'_>) -> Items {
+    if found.get_flag("one") {
+        Items::One
+    } else {
+        Items::Any
+    }
+}
+
+fn action_of<'a>(name: &str, found: &ArgMatches<'a>) -> Option<Action<'a>> {
+    if name == "compare" {
+        return comparison_of(found);
+    }
+    Some(Action::Read {
+        file: found.get_str("FILE"),
+        purpose: purpose_of(name, found)?,
+    })
+}
+
+fn comparison_of<'a>(found: &ArgMatches<'a>) -> Option<Action<'a>> {
+    Some(Action::Compare {
+        first: found.get_str("FILE_A")?,
+        second: found.get_str("FILE_B")?,
+        from_a: format_of(found, "from-a"),
+        from_b: format_of(found, "from-b"),
+    })
+}
+
+fn purpose_of(name: &str, found: &ArgMatches<'_>) -> Option<Purpose> {
+    let from = format_of(found, "from");
+    let to = format_of(found, "to");
+    match name {
+        "show" => Some(Purpose::Show { from, to }),
+        "normalise" => Some(Purpose::Normalise { from, to }),
+        "check" => Some(Purpose::Check),
+        _ => None,
+    }
+}
+
+fn order_of(found: &ArgMatches<'_>) -> Order {
+    match found.get_str("order") {
+        Some("length-first") => Order::LengthFirst,
+        _ => Order::Bytewise,
+    }
+}
+
+/// The format that an option names. A command without that option reads or writes bytes.
+fn format_of(found: &ArgMatches<'_>, name: &str) -> Format {
+    match found.get_str(name) {
+        Some("notation") => Format::Notation,
+        Some("notation-2") => Format::Notation2,
+        _ => Format::Wire,
+    }
+}
+
+fn program<'a>(alloc: Global) -> Result<Command<'a>, AllocError> {
+    let mut program = named(alloc);
+    for form in COMMANDS {
+        program = with_command(alloc, program, form)?;
+    }
+    Ok(program)
+}
+
+fn with_command<'a>(
+    alloc: Global,
+    program: Command<'a>,
+    form: &Form,
+) -> Result<Command<'a>, AllocError> {
+    let command = command(alloc, form)?;
+    program.subcommand(command)
+}
+
+fn named<'a>(alloc: Global) -> Command<'a> {
+    Command::new(alloc, "cborn")
+        .version("0.6.0-dev")
+        .about(help::PROGRAM)
+        .after_long_help(help::PROGRAM_NOTES)
+        .subcommand_required(true)
+        .disable_help_subcommand(true)
+}
+
+fn command<'a>(alloc: Global, form: &Form) -> Result<Command<'a>, AllocError> {
+    let mut command = Command::new(alloc, form.name)
+        .about(form.about)
+        .after_long_help(form.notes);
+    for argument in form.arguments {
+        command = command.arg(argument_of(alloc, argument))?;
+    }
+    Ok(command)
+}
+
+fn argument_of<'a>(alloc: Global, argument: &Argument) -> Arg<'a> {
+    let arg = Arg::new(alloc, argument.name).help(argument.help);
+    match argument.takes {
+        Takes::File { is_required } => arg.required(is_required),
+        Takes::Files => arg.num_args(0..).action(ArgAction::Append),
+        Takes::Output { letter, name } => arg.short(letter).long(argument.name).value_name(name),
+        Takes::Value(value) => with_value(arg.long(argument.name), value),
+        Takes::Nothing => arg.long(argument.name).action(ArgAction::SetTrue),
+    }
+}
+
+fn with_value<'a>(arg: Arg<'a>, value: Value) -> Arg<'a> {
+    arg.value_name(value.name)
+        .value_parser(value.parser)
+        .hide_possible_values(true)
+        .default_value(value.default)
+}

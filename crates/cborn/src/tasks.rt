@@ -1,0 +1,272 @@
+//! The program's commands.
+ghost use Rattle.std.specs.Prelude.{◌≡◌, ◌≤◌, IfOk, IfErr, OnOk, None};
+ghost use Rattle.cborn.specs.Statuses.{IsRefusal};
+
+use crate::formats::{count_of, kind_of};
+use crate::inputs::{LateFile, Noted};
+use crate::lines::{Answer, Trouble, tell_answer, tell_answer_on};
+use crate::remarks::Remarks;
+use crate::requests::{Action, Format, Order, Purpose, Task};
+use crate::statuses::DONE;
+use crate::systems::System;
+use cborn_engine::{
+    CompareCountFault, Count, Counted, Kind, Source, check_stream, compare_streams,
+    normalise_stream, show_stream,
+};
+use cborn_model::{Bytewise, KeyOrder, LengthFirst, Limit};
+use std::alloc::Global;
+use std::fs;
+use std::io::{Read, Write};
+use std::rt::Files;
+
+/// The memory with which an input is read, the nesting limit, and how many items it has to hold.
+#[derive(Clone, Copy)]
+struct Wanted {
+    alloc: Global,
+    limit: Limit,
+    count: Count,
+}
+
+/// The name of a file, and the format that it is read as.
+#[derive(Clone, Copy)]
+struct Named<'a> {
+    name: &'a str,
+    kind: Kind,
+}
+
+impl<'a> Named<'a> {
+    fn new(name: &'a str, format: Format) -> Self {
+        let kind = kind_of(format);
+        Named { name, kind }
+    }
+}
+
+/// Does a task, flushes what it wrote, and answers the exit status: `DONE` or `DIFFERENT`. Adds to
+/// `remarks` what standard error gets then, or gets after the line of a trouble.
+///
+/// # Errors
+/// Why the task wasn't done. Where an input is refused, nothing is written to `out`.
+pub fn perform<'a, F: Files, I: Read + Drop, W: Write>(
+    system: &System<'_, F>,
+    task: &Task<'a>,
+    input: I,
+    out: &mut Counted<W>,
+    remarks: &mut Remarks<'_>,
+) -> Result<u8, Trouble<'a>>
+    ensures status { IfOk result (λ status. status ≤ 1) }
+    ensures untouched { IfErr result (λ why. IsRefusal why → out.new ≡ out.old) }
+    ensures flushed { OnOk result (out.new.unflushed ≡ 0) }
+{
+    match task.order {
+        Order::Bytewise => act::<Bytewise, F, I, W>(system, task, input, out, remarks),
+        Order::LengthFirst => act::<LengthFirst, F, I, W>(system, task, input, out, remarks),
+    }
+}
+
+/// Does a task with the keys of maps in the order `O`, flushes what it wrote, and answers the exit
+/// status: `DONE` or `DIFFERENT`. Adds to `remarks` what standard error gets.
+///
+/// # Errors
+/// Why the task wasn't done. Where an input is refused, nothing is written to `out`.
+fn act<'a, O: KeyOrder, F: Files, I: Read + Drop, W: Write>(
+    system: &System<'_, F>,
+    task: &Task<'a>,
+    input: I,
+    out: &mut Counted<W>,
+    remarks: &mut Remarks<'_>,
+) -> Result<u8, Trouble<'a>>
+    ensures status { IfOk result (λ status. status ≤ 1) }
+    ensures untouched { IfErr result (λ why. IsRefusal why → out.new ≡ out.old) }
+    ensures flushed { OnOk result (out.new.unflushed ≡ 0) }
+{
+    let Task {
+        action,
+        limit,
+        items,
+        ..
+    } = *task;
+    let alloc = system.alloc;
+    let wanted = Wanted {
+        alloc,
+        limit,
+        count: count_of(items),
+    };
+    let file_system = system.files;
+    match action {
+        Action::Read {
+            file: None,
+            purpose,
+        } => read_for::<O, I, W>(wanted, purpose, input, out, remarks),
+        Action::Read {
+            file: Some(name),
+            purpose,
+        } => match fs::open(file_system, name) {
+            Ok(file) => read_for::<O, F::File, W>(wanted, purpose, file, out, remarks),
+            Err(_) => Err(Trouble::CannotRead(name)),
+        },
+        Action::Compare {
+            first,
+            second,
+            from_a,
+            from_b,
+        } => {
+            let files = (Named::new(first, from_a), Named::new(second, from_b));
+            compare_files::<O, F, W>(system, wanted, files, out, remarks)
+        }
+    }
+}
+
+/// The answer on two inputs, by the index of the first difference.
+fn difference(index: Option<u64>) -> Answer {
+    match index {
+        None => Answer::Same,
+        Some(index) => Answer::DifferentAt(index),
+    }
+}
+
+/// Reads one input, writes and flushes what is asked for, and answers the exit status: `DONE` or
+/// `DIFFERENT`.
+///
+/// # Errors
+/// Why the task wasn't done. Where the input is refused, nothing is written to `out`.
+fn read_for<'a, O: KeyOrder, I: Read + Drop, W: Write>(
+    wanted: Wanted,
+    purpose: Purpose,
+    input: I,
+    out: &mut Counted<W>,
+    remarks: &mut Remarks<'_>,
+) -> Result<u8, Trouble<'a>>
+    ensures status { IfOk result (λ status. status ≤ 1) }
+    ensures untouched { IfErr result (λ why. IsRefusal why → out.new ≡ out.old) }
+    ensures flushed { OnOk result (out.new.unflushed ≡ 0) }
+{
+    let alloc = wanted.alloc;
+    let kind = kind_of(purpose.from());
+    let mut reader = Noted {
+        inner: Counted::new(input),
+        notes: remarks.notes(kind),
+    };
+    let answer = match answer_for::<O, _, W>(wanted, purpose, &mut reader, out) {
+        Ok(answer) => answer,
+        Err(trouble) => {
+            remarks.on_trouble(kind, &reader.notes, trouble);
+            return Err(trouble);
+        }
+    };
+    let status = match (answer, remarks.file()) {
+        (None, _) => DONE,
+        (Some(answer), None) => tell_answer(out, answer)?,
+        (Some(answer), Some(name)) => tell_answer_on(alloc, out, name, answer)?,
+    };
+    remarks.on_answer(kind, &reader.notes, answer);
+    Ok(status)
+}
+
+/// Reads one input. Writes and flushes what is asked for, and answers `None`, or answers what is to be
+/// printed.
+///
+/// # Errors
+/// The fault that the engine reports.
+#[tactic(auto, using(crate::proofs::Refusals::refused_is_unwritten))]
+fn answer_for<'a, O: KeyOrder, R: Source, W: Write>(
+    wanted: Wanted,
+    purpose: Purpose,
+    reader: &mut R,
+    out: &mut Counted<W>,
+) -> Result<Option<Answer>, Trouble<'a>>
+    ensures untouched { IfErr result (λ why. IsRefusal why → out.new ≡ out.old) }
+    ensures flushed { IfOk result (λ answer. answer ≡ None → out.new.unflushed ≡ 0) }
+{
+    let Wanted {
+        alloc,
+        limit,
+        count,
+    } = wanted;
+    match purpose {
+        Purpose::Show { from, to } => {
+            show_stream(alloc, limit, count, kind_of(from), kind_of(to), reader, out)?;
+            Ok(None)
+        }
+        Purpose::Normalise { from, to } => {
+            let (from, to) = (kind_of(from), kind_of(to));
+            normalise_stream::<O, _, _>(alloc, limit, count, from, to, reader, out)?;
+            Ok(None)
+        }
+        Purpose::Check => match check_stream::<O, _>(alloc, limit, count, reader)? {
+            None => Ok(Some(Answer::Deterministic)),
+            Some(defect) => Ok(Some(Answer::Defective(defect))),
+        },
+    }
+}
+
+/// Compares two files, prints the answer, and answers the exit status: `DONE` or `DIFFERENT`. The second
+/// is opened only once the first has been read and isn't refused.
+///
+/// # Errors
+/// Why there is no answer. Where a file is refused, nothing is written to `out`.
+fn compare_files<'a, O: KeyOrder, F: Files, W: Write>(
+    system: &System<'_, F>,
+    wanted: Wanted,
+    files: (Named<'a>, Named<'a>),
+    out: &mut Counted<W>,
+    remarks: &mut Remarks<'_>,
+) -> Result<u8, Trouble<'a>>
+    ensures status { IfOk result (λ status. status ≤ 1) }
+    ensures untouched { IfErr result (λ why. IsRefusal why → out.new ≡ out.old) }
+    ensures flushed { OnOk result (out.new.unflushed ≡ 0) }
+{
+    let (first, second) = files;
+    let kinds = (first.kind, second.kind);
+    let file_system = system.files;
+    let file = match fs::open(file_system, first.name) {
+        Ok(file) => file,
+        Err(_) => return Err(Trouble::CannotReadFirst(first.name)),
+    };
+    let mut reader = Noted {
+        inner: Counted::new(file),
+        notes: remarks.notes(first.kind),
+    };
+    let mut late = Noted {
+        inner: LateFile::new(file_system, second.name),
+        notes: remarks.notes(second.kind),
+    };
+    let Wanted {
+        alloc,
+        limit,
+        count,
+    } = wanted;
+    let compared = compare_streams::<O, _, _>(
+        alloc,
+        limit,
+        count,
+        kinds.0,
+        &mut reader,
+        kinds.1,
+        &mut late,
+    );
+    let missing = late.inner.is_missing().then_some(second.name);
+    let reported = tell_comparison(out, compared, missing);
+    remarks.on_comparison::<O>(kinds, (&reader.notes, &late.notes), reported);
+    reported
+}
+
+/// Prints the answer of a comparison, and answers the exit status: `DONE` or `DIFFERENT`. `missing` is
+/// the name of the second file where it couldn't be opened.
+///
+/// # Errors
+/// Why the files weren't compared, or that the answer can't be written.
+fn tell_comparison<'a, W: Write>(
+    out: &mut Counted<W>,
+    compared: Result<Option<u64>, CompareCountFault>,
+    missing: Option<&'a str>,
+) -> Result<u8, Trouble<'a>>
+    ensures status { IfOk result (λ status. status ≤ 1) }
+    ensures untouched { IfErr result (λ why. IsRefusal why → out.new ≡ out.old) }
+    ensures flushed { OnOk result (out.new.unflushed ≡ 0) }
+{
+    match (compared, missing) {
+        (Ok(index), _) => tell_answer(out, difference(index)),
+        (Err(CompareCountFault::Second(_)), Some(name)) => Err(Trouble::CannotReadSecond(name)),
+        (Err(why), _) => Err(Trouble::Compare(why)),
+    }
+}

@@ -1,5 +1,0 @@
-use Rattle.std.proofs.Common.{rules}
-use Rattle.cborn_commands.proofs.tasks.read_for.Goals as goal
-
-pub returns-clause-status : goal.returns-clause-status
-returns-clause-status g c = search rules

@@ -1,0 +1,36 @@
+//! Why an input could not be read, or an answer not be written.
+ghost use Rattle.std.specs.Prelude.{◌≡◌};
+ghost use Rattle.cborn_engine.specs.declared.stream_faults.InputFault.{InputFault};
+
+use std::alloc::AllocError;
+use thiserror::Error;
+
+/// Why an input was not read to its end.
+#[derive(Clone, Copy, PartialEq, Eq, Debug, Error)]
+pub enum InputFault {
+    /// The reader failed.
+    #[error("read failed")]
+    ReadFault,
+    /// The input is longer than allowed.
+    #[error("input too long")]
+    TooLong,
+    /// Memory was refused.
+    #[error("out of memory")]
+    OutOfMemory,
+}
+
+/// Why an answer was not written whole.
+#[derive(Clone, Copy, PartialEq, Eq, Debug, Error)]
+pub enum OutputFault {
+    /// The writer failed. What it took before is a front of the answer.
+    #[error("write failed")]
+    WriteFault,
+}
+
+impl From<AllocError> for InputFault {
+    ghost from_gives = { λ _ e. e ≡ InputFault.OutOfMemory };
+
+    fn from(_why: AllocError) -> Self {
+        InputFault::OutOfMemory
+    }
+}

@@ -1,3 +1,0 @@
-pub mod Collecting
-pub mod KnownErrors
-pub mod Written

@@ -1,4 +1,0 @@
-pub mod Failures
-pub mod Reading
-pub mod Writing
-pub mod Counts
