@@ -3,3 +3,5 @@ pub mod Second
 pub mod Answered
 pub mod Compared
 pub mod Refused
+pub mod Any
+pub mod Normalised

@@ -14,6 +14,8 @@ use Rattle.cborn_engine.specs.declared.count_faults.CountFault.{CountFault}
 use Rattle.cborn_engine.specs.declared.count_faults.CountFault.TheVariants as counted
 use Rattle.cborn_engine.specs.declared.counts.Count.{Count}
 use Rattle.cborn_engine.specs.declared.counts.Count.TheVariants as counts
+use Rattle.cborn_engine.specs.declared.faults.CompareFault.{CompareFault}
+use Rattle.cborn_engine.specs.declared.faults.CompareFault.TheVariants as engine
 use Rattle.cborn_engine.specs.declared.faults.EngineFault.{EngineFault}
 use Rattle.cborn_engine.specs.declared.faults.EngineFault.TheVariants as fault
 use Rattle.cborn_engine.specs.declared.kinds.Kind.{Kind}
@@ -67,6 +69,17 @@ pub record IsTaken (count : Count) (k : Kind) (limit : ℕ) (input : List ℕ) :
   pub items : List Value
   pub held : Holds k limit input items
   pub one : count ≡ counts.One → HoldsOne k limit input
+
+-- ---- what is answered where any number will do, as a call that may count gives it
+
+abbrev pub counted_of : {A : Type 0} → Result A EngineFault → Result A CountFault
+counted_of (Ok a) = Ok a
+counted_of (Err why) = Err (counted.Engine why)
+
+abbrev pub compare_counted_of : CompareFault → CompareCountFault
+compare_counted_of (engine.First why) = compared.First (counted.Engine why)
+compare_counted_of (engine.Second why) = compared.Second (counted.Engine why)
+compare_counted_of engine.OutOfMemory = compared.OutOfMemory
 
 -- ---- of an input that is held whole
 

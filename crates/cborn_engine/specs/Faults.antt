@@ -12,8 +12,6 @@ use Rattle.cborn_engine.specs.declared.stream_faults.InputFault.{InputFault}
 use Rattle.cborn_engine.specs.declared.stream_faults.InputFault.TheVariants as input
 use Rattle.cborn_engine.specs.declared.stream_faults.OutputFault.{OutputFault}
 use Rattle.cborn_engine.specs.declared.stream_faults.OutputFault.TheVariants as output
-use Rattle.cborn_engine.specs.declared.faults.CompareFault.{CompareFault}
-use Rattle.cborn_engine.specs.declared.faults.CompareFault.TheVariants as compared
 use Rattle.cborn_engine.specs.declared.faults.EngineFault.{EngineFault}
 use Rattle.cborn_engine.specs.declared.faults.EngineFault.TheVariants as fault
 
@@ -42,12 +40,3 @@ of_show unshown.OutOfMemory = fault.OutOfMemory
 abbrev pub of_invalid : Invalid → EngineFault
 of_invalid (invalid.Refused p r) = fault.Invalid (invalid.Refused p r)
 of_invalid invalid.OutOfMemory = fault.OutOfMemory
-
--- a fault of one of two inputs, as their comparison gives it
-abbrev pub of_first : EngineFault → CompareFault
-of_first fault.OutOfMemory = compared.OutOfMemory
-of_first why = compared.First why
-
-abbrev pub of_second : EngineFault → CompareFault
-of_second fault.OutOfMemory = compared.OutOfMemory
-of_second why = compared.Second why

@@ -8,11 +8,12 @@ ghost use Rattle.cborn_engine.specs.Checking.{Checks, CheckAnswers};
 ghost use Rattle.cborn_engine.specs.Reading.{most_bytes};
 ghost use Rattle.cborn_engine.specs.devices.Counting.{read_failures};
 
+use crate::count_faults::of_any;
+use crate::counted_streams::check_stream;
+use crate::counts::Count;
 use crate::encodings::judge_bytes;
 use crate::faults::EngineFault;
-use crate::inputs::MOST;
 use crate::sources::Source;
-use crate::whole_inputs::read_bytes;
 use cborn_departures::{Departure, first_departure};
 use cborn_model::{Defect, KeyOrder, Limit};
 use std::alloc::Global;
@@ -25,7 +26,7 @@ use std::alloc::Global;
 /// `ReadFault`, `TooLong`, `Wire` and `OutOfMemory`, as `load_within` gives them for bytes, and
 /// `Invalid`: the first flaw of the first item that isn't valid, at its offset in bytes from the
 /// start of the input. A defect is reported only of bytes whose items are all valid.
-#[tactic(auto, using(crate::proofs::Streams::Counted::read_counted))]
+#[tactic(auto, using(crate::proofs::CountAnswers::Any::any_checked, crate::proofs::CountAnswers::Any::any_counts))]
 pub fn check<O: KeyOrder, R: Source>(
     alloc: Global,
     limit: Limit,
@@ -35,8 +36,7 @@ pub fn check<O: KeyOrder, R: Source>(
     ensures failures { CountsFault fault.ReadFault result (R.failed reader.old) (R.failed reader.new) }
     ensures calls { R.asked reader.new ≤ R.asked reader.old + most_bytes + 1 }
 {
-    let input = read_bytes(alloc, MOST, reader)?;
-    check_input::<O>(alloc, limit, &input)
+    of_any(check_stream::<O, R>(alloc, limit, Count::Any, reader))
 }
 
 /// The first defect of these bytes, or the fault of their content. No fault is the reader's. A defect

@@ -6,39 +6,15 @@ ghost use Rattle.cborn_engine.specs.declared.faults.EngineFault.{EngineFault};
 ghost use Rattle.cborn_engine.specs.declared.faults.EngineFault.TheVariants as fault;
 ghost use Rattle.cborn_engine.specs.Comparing.{Compares, IsHeldWhole};
 ghost use Rattle.cborn_engine.specs.Failures.{CountsFault};
-ghost use Rattle.cborn_engine.specs.Faults.{of_first, of_second};
 ghost use Rattle.cborn_engine.specs.Reading.{most_bytes};
 
+use crate::counted_streams::compare_streams;
 use crate::counts::Count;
-use crate::differences::difference;
-use crate::encodings::read_encoded;
-use crate::faults::{CompareFault, EngineFault};
+use crate::faults::CompareFault;
 use crate::kinds::Kind;
 use crate::sources::Source;
 use cborn_model::{KeyOrder, Limit};
 use std::alloc::Global;
-
-impl CompareFault {
-    /// Why two inputs aren't compared, where the first gave no items for this reason.
-    pub fn of_first(why: EngineFault) -> Self
-        ensures { result ≡ of_first why }
-    {
-        match why {
-            EngineFault::OutOfMemory => CompareFault::OutOfMemory,
-            why => CompareFault::First(why),
-        }
-    }
-
-    /// Why two inputs aren't compared, where the second gave no items for this reason.
-    pub fn of_second(why: EngineFault) -> Self
-        ensures { result ≡ of_second why }
-    {
-        match why {
-            EngineFault::OutOfMemory => CompareFault::OutOfMemory,
-            why => CompareFault::Second(why),
-        }
-    }
-}
 
 /// Compares what two inputs hold. None: they hold the same items. Else the least index, from 0, at
 /// which the items differ or only one input has an item. The answer doesn't depend on `O`. Each
@@ -50,7 +26,7 @@ impl CompareFault {
 /// byte of the second was read. `Second`, likewise, where the first input gave items and the second
 /// gave none. `OutOfMemory` may come at any time, before a byte of the second was read or once the
 /// first is known to hold items, and is never inside of `First` or `Second`.
-#[tactic(auto, using(crate::proofs::Answers::Unanswered::not_compared, crate::proofs::Streams::Counted::first_kept, crate::proofs::Streams::Counted::first_counted, crate::proofs::Streams::Counted::second_kept, crate::proofs::Streams::Counted::second_counted))]
+#[tactic(auto, using(crate::proofs::CountAnswers::Any::compared_any, crate::proofs::CountAnswers::Any::any_compared))]
 pub fn compare<O: KeyOrder, R: Source, Q: Source>(
     alloc: Global,
     limit: Limit,
@@ -67,13 +43,8 @@ pub fn compare<O: KeyOrder, R: Source, Q: Source>(
     ensures first_calls { R.asked first.new ≤ R.asked first.old + most_bytes + 1 }
     ensures second_calls { Q.asked second.new ≤ Q.asked second.old + most_bytes + 1 }
 {
-    let ours = match read_encoded::<O, R>(alloc, limit, kind_a, first) {
-        Ok(bytes) => bytes,
-        Err(why) => return Err(CompareFault::of_first(why)),
-    };
-    let theirs = match read_encoded::<O, Q>(alloc, limit, kind_b, second) {
-        Ok(bytes) => bytes,
-        Err(why) => return Err(CompareFault::of_second(why)),
-    };
-    Ok(difference::<O>(limit, Count::Any, &ours, &theirs))
+    match compare_streams::<O, R, Q>(alloc, limit, Count::Any, kind_a, first, kind_b, second) {
+        Ok(answer) => Ok(answer),
+        Err(why) => Err(why.of_any()),
+    }
 }

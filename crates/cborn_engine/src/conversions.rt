@@ -12,7 +12,9 @@ ghost use Rattle.cborn_engine.specs.devices.Encoding.{IsWrittenAs};
 ghost use Rattle.cborn_engine.specs.Showing.{Shows, SpellSameBytes};
 ghost use Rattle.cborn_engine.specs.Failures.{CountsFault};
 
-use crate::encodings::read_encoded;
+use crate::count_faults::of_any;
+use crate::counted_streams::normalise_stream;
+use crate::counts::Count;
 use crate::faults::EngineFault;
 use crate::kinds::Kind;
 use crate::outputs::write_answer;
@@ -32,7 +34,7 @@ use std::alloc::{AllocError, Global};
 /// Those of `load_within`, and `Invalid`: the first flaw of the first item that isn't valid, at its
 /// offset in bytes from the start of the input. At these the writer is as it was. `WriteFault`
 /// where the writer failed; then a front of the answer went out.
-#[tactic(auto, using(crate::proofs::Answers::Unanswered::not_normalised, crate::proofs::Canonical::Canonicity::no_answer, crate::proofs::Streams::Counted::read_counted, crate::proofs::Streams::Counted::write_counted))]
+#[tactic(auto, using(crate::proofs::CountAnswers::Any::any_normalised, crate::proofs::CountAnswers::Any::any_counts, crate::proofs::CountAnswers::Any::any_ok, crate::proofs::CountAnswers::Any::any_kept))]
 pub fn normalise<O: KeyOrder, R: Source, W: Sink>(
     alloc: Global,
     limit: Limit,
@@ -49,9 +51,8 @@ pub fn normalise<O: KeyOrder, R: Source, W: Sink>(
     ensures flushed { OnOk result (W.unflushed writer.new ≡ 0) }
     ensures calls { R.asked reader.new ≤ R.asked reader.old + most_bytes + 1 }
 {
-    let bytes = read_encoded::<O, R>(alloc, limit, in_kind, reader)?;
-    let answer = written_as(alloc, limit, out_kind, bytes)?;
-    Ok(write_answer(writer, &answer)?)
+    let count = Count::Any;
+    of_any(normalise_stream::<O, R, W>(alloc, limit, count, in_kind, out_kind, reader, writer))
 }
 
 /// Writes the items of the input as they are spelled: as bytes (RFC 8949 section 3), or in the
@@ -84,7 +85,7 @@ pub fn show_all<R: Source, W: Sink>(
 }
 
 /// Bytes that hold items, as an output of this kind: themselves, or their fixed notation.
-fn written_as(
+pub fn written_as(
     alloc: Global,
     limit: Limit,
     kind: Kind,

@@ -1,10 +1,12 @@
 //! Why an input that has to hold a number of items gives no answer.
-ghost use Rattle.std.specs.Prelude.{◌≡◌};
+ghost use Rattle.std.specs.Prelude.{◌≡◌, Result};
 ghost use Rattle.cborn_engine.specs.declared.count_faults.CompareCountFault.{CompareCountFault};
 ghost use Rattle.cborn_engine.specs.declared.count_faults.CountFault.{CountFault};
-ghost use Rattle.cborn_engine.specs.Counts.{of_first_counted, of_second_counted};
+ghost use Rattle.cborn_engine.specs.Counts.{compare_counted_of, counted_of, of_first_counted, of_second_counted};
+ghost use Rattle.cborn_engine.specs.declared.faults.CompareFault.{CompareFault};
+ghost use Rattle.cborn_engine.specs.declared.faults.EngineFault.{EngineFault};
 
-use crate::faults::EngineFault;
+use crate::faults::{CompareFault, EngineFault};
 use crate::stream_faults::{InputFault, OutputFault};
 use std::alloc::AllocError;
 use thiserror::Error;
@@ -49,8 +51,6 @@ impl From<EngineFault> for CountFault {
 }
 
 impl From<AllocError> for CountFault {
-    ghost use Rattle.cborn_engine.specs.declared.faults.EngineFault.{EngineFault};
-
     ghost from_gives = { λ _ e. e ≡ CountFault.Engine EngineFault.OutOfMemory };
 
     fn from(_why: AllocError) -> Self {
@@ -91,7 +91,33 @@ impl CountFault {
     }
 }
 
+/// What is answered for an input that may hold any number of items.
+///
+/// # Errors
+/// The fault of the answer, which is none of the count's.
+pub fn of_any<A>(answer: Result<A, CountFault>) -> Result<A, EngineFault>
+    requires { (any : Result A EngineFault) × (answer ≡ counted_of any) }
+    ensures { answer ≡ counted_of result }
+{
+    match answer {
+        Ok(found) => Ok(found),
+        Err(why) => Err(why.of_any()),
+    }
+}
+
 impl CompareCountFault {
+    /// The fault of two inputs that may hold any number of items each.
+    pub fn of_any(self) -> CompareFault
+        requires { (why : CompareFault) × (self ≡ compare_counted_of why) }
+        ensures { self ≡ compare_counted_of result }
+    {
+        match self {
+            CompareCountFault::First(why) => CompareFault::First(why.of_any()),
+            CompareCountFault::Second(why) => CompareFault::Second(why.of_any()),
+            CompareCountFault::OutOfMemory => CompareFault::OutOfMemory,
+        }
+    }
+
     /// Why two inputs aren't compared, where the first was not taken for this reason.
     pub fn of_first(why: CountFault) -> Self
         ensures { result ≡ of_first_counted why }

@@ -14,7 +14,7 @@ ghost use Rattle.cborn_engine.specs.Reading.{most_bytes};
 ghost use Rattle.cborn_engine.specs.Showing.{SpellSameBytes};
 ghost use Rattle.cborn_engine.specs.Failures.{CountsFault};
 
-use crate::conversions::{normalise, show_all};
+use crate::conversions::{show_all, written_as};
 use crate::count_faults::{CompareCountFault, CountFault};
 use crate::counts::{Count, expect};
 use crate::differences::difference;
@@ -23,7 +23,7 @@ use crate::inputs::MOST;
 use crate::kinds::Kind;
 use crate::outputs::write_answer;
 use crate::sinks::Sink;
-use crate::slices::{check_slice, normalise_slice, show_slice};
+use crate::slices::{check_slice, show_slice};
 use crate::sources::Source;
 use crate::whole_inputs::read_bytes;
 use cborn_model::{Defect, KeyOrder, Limit};
@@ -51,11 +51,8 @@ pub fn normalise_stream<O: KeyOrder, R: Source, W: Sink>(
     ensures flushed { OnOk result (W.unflushed writer.new ≡ 0) }
     ensures calls { R.asked reader.new ≤ R.asked reader.old + most_bytes + 1 }
 {
-    if count == Count::Any {
-        return Ok(normalise::<O, R, W>(alloc, limit, in_kind, out_kind, reader, writer)?);
-    }
-    let input = read_bytes(alloc, MOST, reader)?;
-    let answer = normalise_slice::<O>(alloc, limit, count, in_kind, out_kind, &input)?;
+    let bytes = read_counted::<O, R>(alloc, limit, count, in_kind, reader)?;
+    let answer = written_as(alloc, limit, out_kind, bytes)?;
     Ok(write_answer(writer, &answer)?)
 }
 

@@ -26,28 +26,6 @@ use cborn_model::{Invalid, KeyOrder, Limit};
 use cborn_transcode::transcode_after;
 use std::alloc::Global;
 
-/// The deterministic encodings of what the whole input holds, one after another. Bytes that are
-/// these already are moved.
-///
-/// # Errors
-/// Those of `load_within`, and `Invalid`.
-pub fn read_encoded<O: KeyOrder, R: Source>(
-    alloc: Global,
-    limit: Limit,
-    kind: Kind,
-    reader: &mut R,
-) -> Result<Vec<u8>, EngineFault>
-    ensures encodes { Reads (EncodeAnswers O.order kind limit most_bytes) (R.remaining reader.old) (R.remaining reader.new) result }
-    ensures failures { R.failed reader.new ≡ read_failures result (R.failed reader.old) }
-    ensures calls { R.asked reader.new ≤ R.asked reader.old + most_bytes + 1 }
-{
-    let input = read_bytes(alloc, MOST, reader)?;
-    match front_to_copy::<O>(limit, kind, &input) {
-        None => Ok(input),
-        Some(front) => encode_input::<O>(alloc, limit, kind, front, &input),
-    }
-}
-
 /// How many bytes at the front of an input of bytes are the deterministic encodings of items, one
 /// after another; of a text 0. None: the whole input is those of what it holds.
 pub fn front_to_copy<O: KeyOrder>(limit: Limit, kind: Kind, input: &[u8]) -> Option<usize>

@@ -22,7 +22,7 @@ use Rattle.cborn_engine.specs.Collecting.{Collects, CollectAnswers}
 use Rattle.cborn_engine.specs.Faults.{of_input}
 use Rattle.cborn_engine.specs.devices.Reading.{Reads}
 use Rattle.cborn_engine.specs.devices.Encoding.{IsEncoded}
-use Rattle.cborn_engine.specs.Checking.{CheckAnswers, Checks}
+use Rattle.cborn_engine.specs.Checking.{CheckAnswers}
 use Rattle.cborn_engine.specs.Reading.{most_bytes}
 use Rattle.cborn_flaws.specs.Searching.{IsFirstFlawOf}
 use Rattle.cborn_departures.specs.Departing.{IsFirstDefectOfItems}
@@ -70,15 +70,6 @@ loaded k limit most before after bytes now h e r good bad =
     answer : (r : Result (Vec Tree Global) EngineFault) → IfOk r (λ nodes. SpellsInPlace k limit now nodes.items) → IfErr r (λ why. (most : ℕ) → length now ≤ most → IsRefused k limit most now why × IsNoFlaw why) → length now ≤ most → LoadAnswers k limit most now r
     answer (Ok nodes) good bad l = (l, good)
     answer (Err why) good bad l = bad most l
-
-module _ (order : List ℕ → List ℕ → Ordering) (limit most : ℕ) (before after : Option (List ℕ)) where
-  pub not_checked : (why : InputFault) → Collects most before after (Err why) → Checks order limit most before after (Err (of_input why))
-  not_checked why h = let r = stopped (Option Defect) kind.Wire limit most h.input after why h.answer in record { input = h.input; taken = h.taken; answer = r.0.0; to_end = r.1 }
-
-  pub checked_whole : (bytes : Vec ℕ Global) (now : List ℕ) → Collects most before after (Ok bytes) → now ≡ bytes.items → (r : Result (Option Defect) EngineFault) → (length now ≤ most → CheckAnswers order limit most now r) → Checks order limit most before after r
-  checked_whole bytes now h e r f =
-      let w = read_whole (CheckAnswers order limit most) most before after bytes now h e r f in
-      record { input = w.input; taken = w.taken; answer = w.answer; to_end = w.to_end }
 
 -- ---- the bytes
 

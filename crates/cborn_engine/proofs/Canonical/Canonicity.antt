@@ -1,5 +1,5 @@
 -- What is encoded of what an input holds is canonical.
-use Rattle.std.proofs.Common.{◌≡◌, ◌≤◌, ◌↔◌, ℕ, List, [], length, refl, sym, ◌∙◌, subst, arith, Ordering, Option, Result, Ok, Err, Vec, Global}
+use Rattle.std.proofs.Common.{◌≡◌, ◌≤◌, ◌↔◌, ℕ, List, length, refl, sym, ◌∙◌, subst, Ordering}
 use Rattle.std.specs.List.{AllZip, AllByRecursion}
 use Rattle.cborn_model.specs.Value.{Value, Same}
 use Rattle.cborn_model.specs.Tree.{Tree, trees, depth_all}
@@ -9,26 +9,19 @@ use Rattle.cborn_model.specs.Orders.{IsKeyOrder}
 use Rattle.cborn_det.specs.Det.{DetSeq}
 use Rattle.cborn_det.proofs.Canon.{seq_of_one, one_of_seq, seq_exists}
 use Rattle.cborn_lex.specs.declared.classes.Profile.TheVariants as profile
-use Rattle.cborn_engine.specs.declared.faults.EngineFault.TheVariants as fault
 use Rattle.cborn_engine.specs.declared.kinds.Kind.{Kind}
 use Rattle.cborn_engine.specs.declared.kinds.Kind.TheVariants as kind
-use Rattle.cborn_engine.specs.devices.Reading.{Reads}
 use Rattle.cborn_engine.specs.Holding.{Spells, Holds, Canon}
-use Rattle.cborn_engine.specs.devices.Encoding.{IsWrittenAs, IsEncoded, EncodeAnswers}
-use Rattle.cborn_engine.specs.Refusing.{IsRead}
-use Rattle.cborn_engine.specs.declared.stream_faults.OutputFault.{OutputFault}
-use Rattle.cborn_engine.specs.declared.stream_faults.OutputFault.TheVariants as output
-use Rattle.cborn_engine.specs.Writing.{Sends, WriteAnswers}
-use Rattle.cborn_engine.proofs.Answers.KnownErrors.{answer_of}
-use Rattle.cborn_engine.specs.Canonical.{IsCanonical, NormaliseAnswers, Normalises}
+use Rattle.cborn_engine.specs.devices.Encoding.{IsWrittenAs, IsEncoded}
+use Rattle.cborn_engine.specs.Canonical.{IsCanonical}
 use Rattle.cborn_engine.specs.Reading.{most_bytes}
+use Rattle.cborn_engine.proofs.Held.BadTexts.{held_text}
 use Rattle.cborn_engine.proofs.Held.Notated.{fits}
 use Rattle.cborn_engine.proofs.Canonical.Proper.{sequence_proper, sequence_shallow}
 use Rattle.cborn_engine.proofs.Held.Meant.{holds_once, all_same, all_turned, AreSound}
 use Rattle.cborn_engine.proofs.Canonical.FixedText.{text_once, bytes_once, text_back}
 use Rattle.cborn_engine.proofs.Canonical.PlainText.{as_plain, as_fixed}
 use Rattle.cborn_engine.proofs.Held.ReadsBack.{SequenceReadsBack, sequence_back}
-use Rattle.cborn_engine.proofs.Answers.Unanswered.{nothing_written}
 
 module _ (order : List ℕ → List ℕ → Ordering) (laws : IsKeyOrder order) where
   -- items that are the same as encoded ones have that encoding
@@ -157,32 +150,14 @@ own_bytes order laws k limit input bytes short e =
       same = back.same;
     }
 
--- likewise of what was read
-pub own_encoding : (order : List ℕ → List ℕ → Ordering) (laws : IsKeyOrder order) (k : Kind) (limit most : ℕ) (before after : Option (List ℕ)) (bytes : Vec ℕ Global) → most ≤ most_bytes → (h : Reads (EncodeAnswers order k limit most) before after (Ok bytes)) → OwnEncoding order limit bytes.items h.answer.1.items
-own_encoding order laws k limit most before after bytes bounded h = own_bytes order laws k limit h.input bytes.items (omega (arith, h.answer.0, bounded)) h.answer.1
-
--- what was encoded of what was read holds items
-pub encoded_held : (order : List ℕ → List ℕ → Ordering) (laws : IsKeyOrder order) (k : Kind) (limit most : ℕ) (before after : Option (List ℕ)) (bytes : Vec ℕ Global) → most ≤ most_bytes → Reads (EncodeAnswers order k limit most) before after (Ok bytes) → (vs : List Value) × Holds kind.Wire limit bytes.items vs
-encoded_held order laws k limit most before after bytes bounded h =
-    let o = own_encoding order laws k limit most before after bytes bounded h in
-    (o.own.items, o.own.held)
-
--- what was encoded of what was read, written out
-pub normalised : (order : List ℕ → List ℕ → Ordering) (k out : Kind) (limit most : ℕ) (before after sent sent_after : Option (List ℕ)) (bytes : Vec ℕ Global) (zs ys : List ℕ) (r : Result Unit OutputFault) → Reads (EncodeAnswers order k limit most) before after (Ok bytes) → IsWrittenAs out bytes.items zs → ys ≡ zs → Sends sent sent_after ys r → Normalises order k out limit most before after sent sent_after (answer_of r)
-normalised order k out limit most before after sent sent_after bytes zs ys r h t f w =
-    let e = h.answer.1 in
-    let reported : IsWrittenAs out bytes.items ys = subst (IsWrittenAs out bytes.items) (sym f) t in
-    let all : IsCanonical order k out limit h.input ys = record { items = e.items; held = e.held; written = canon_of order out e.items bytes.items ys e.encoded reported } in
-    record { input = h.input; output = w.output; taken = h.taken; given = w.written; answer = answer r w.answer all; to_end = ended r }
+-- what was encoded has an output of each kind
+pub some_form : (order : List ℕ → List ℕ → Ordering) (laws : IsKeyOrder order) (k out : Kind) (limit : ℕ) (input bytes : List ℕ) → length input ≤ most_bytes → IsEncoded order k limit input bytes → (w : List ℕ) × IsCanonical order k out limit input w
+some_form order laws k out limit input bytes short e =
+    let own = (own_bytes order laws k limit input bytes short e).own in
+    let w = some_output out own.items own.held in
+    (w.0, record { items = e.items; held = e.held; written = canon_of order out e.items bytes w.0 e.encoded w.1 })
   where
-    answer : (r : Result Unit OutputFault) → WriteAnswers ys w.output r → IsCanonical order k out limit h.input ys → NormaliseAnswers order k out limit most h.input w.output (answer_of r)
-    answer (Ok u) a c = (h.answer.0, subst (IsCanonical order k out limit h.input) (sym a) c)
-    answer (Err output.WriteFault) a c = (h.answer.0, (ys, c, a))
-
-    ended : (r : Result Unit OutputFault) → IsRead (answer_of r) after
-    ended (Ok u) = h.to_end
-    ended (Err output.WriteFault) = h.to_end
-
--- there was no memory to answer
-pub no_answer : (order : List ℕ → List ℕ → Ordering) (k out : Kind) (limit most : ℕ) (before after sent : Option (List ℕ)) (bytes : Vec ℕ Global) → Reads (EncodeAnswers order k limit most) before after (Ok bytes) → Normalises order k out limit most before after sent sent (Err fault.OutOfMemory)
-no_answer order k out limit most before after sent bytes h = record { input = h.input; output = []; taken = h.taken; given = nothing_written sent; answer = (h.answer.0, refl); to_end = tt }
+    some_output : (out : Kind) (vs : List Value) → Holds kind.Wire limit bytes vs → (w : List ℕ) × IsWrittenAs out bytes w
+    some_output kind.Wire vs h = (bytes, refl)
+    some_output kind.Notation vs h = held_text limit bytes vs h
+    some_output kind.Notation2 vs h = held_text limit bytes vs h

@@ -1,14 +1,13 @@
 -- What is answered where two inputs were encoded.
-use Rattle.std.proofs.Common.{◌≡◌, ◌≤◌, ◌↔◌, ℕ, Bool, true, false, IsTrue, Decides, refl, List, [], ◌∷◌, length, arith, sym, ◌∙◌, subst, Option, Ok, Vec, Global, Ordering}
+use Rattle.std.proofs.Common.{◌≡◌, ◌≤◌, ◌↔◌, ℕ, Bool, true, false, IsTrue, Decides, refl, List, [], ◌∷◌, length, sym, ◌∙◌, subst, Option, Ordering}
 use Rattle.std.specs.List.{AllZip}
 use Rattle.cborn_model.specs.Orders.{IsKeyOrder}
 use Rattle.cborn_model.specs.Value.{Value, Same}
 use Rattle.cborn_engine.specs.declared.kinds.Kind.{Kind}
 use Rattle.cborn_engine.specs.declared.kinds.Kind.TheVariants as kind
-use Rattle.cborn_engine.specs.Comparing.{AreCompared, Compares}
+use Rattle.cborn_engine.specs.Comparing.{AreCompared}
 use Rattle.cborn_engine.specs.Counts.{HoldsOne}
-use Rattle.cborn_engine.specs.devices.Encoding.{IsEncoded, EncodeAnswers}
-use Rattle.cborn_engine.specs.devices.Reading.{Reads}
+use Rattle.cborn_engine.specs.devices.Encoding.{IsEncoded}
 use Rattle.cborn_engine.specs.Canonical.{IsCanonical}
 use Rattle.cborn_engine.specs.Holding.{Holds, HoldSameItems}
 use Rattle.cborn_engine.specs.Reading.{most_bytes}
@@ -40,9 +39,6 @@ module _ (order : List ℕ → List ℕ → Ordering) (laws : IsKeyOrder order) 
       let one = alone o.own.items e.items v o.same (holds_once k limit input e.items (v ∷ []) e.held h) in
       (one.0, subst (λ (y : List ℕ). Holds kind.Wire limit y (one.0 ∷ [])) (sym f) (subst (Holds kind.Wire limit bytes) one.1 o.own.held))
 
-  pub encodes_itself : (k : Kind) (limit most : ℕ) (before after : Option (List ℕ)) (bytes : Vec ℕ Global) (x : List ℕ) → most ≤ most_bytes → Reads (EncodeAnswers order k limit most) before after (Ok bytes) → x ≡ bytes.items → IsEncoded order kind.Wire limit x x
-  encodes_itself k limit most before after bytes x bounded h e = its_own k limit h.input bytes.items x (omega (arith, h.answer.0, bounded)) h.answer.1 e
-
   -- inputs differ where their encodings do
   pub bytes_compared : (k l : Kind) (limit : ℕ) (first second ours theirs x y : List ℕ) (answer : Option ℕ) → length first ≤ most_bytes → length second ≤ most_bytes
       → IsEncoded order k limit first ours → IsEncoded order l limit second theirs → x ≡ ours → y ≡ theirs → AreCompared kind.Wire kind.Wire limit x y answer → AreCompared k l limit first second answer
@@ -54,18 +50,6 @@ module _ (order : List ℕ → List ℕ → Ordering) (laws : IsKeyOrder order) 
       let same : AllZip Same c.ours a.items = subst (λ (vs : List Value). AllZip Same vs a.items) (holds_once kind.Wire limit ours p.own.items c.ours p.own.held held) p.same in
       let same2 : AllZip Same c.theirs b.items = subst (λ (vs : List Value). AllZip Same vs b.items) (holds_once kind.Wire limit theirs q.own.items c.theirs q.own.held held2) q.same in
       record { ours = a.items; theirs = b.items; held = a.held; held2 = b.held; difference = difference_too c.ours c.theirs a.items b.items answer same same2 c.difference }
-
-  pub compared : (k l : Kind) (limit most : ℕ) (before after before2 after2 : Option (List ℕ)) (ours theirs : Vec ℕ Global) (x y : List ℕ) (answer : Option ℕ) → most ≤ most_bytes
-      → Reads (EncodeAnswers order k limit most) before after (Ok ours) → Reads (EncodeAnswers order l limit most) before2 after2 (Ok theirs) → x ≡ ours.items → y ≡ theirs.items
-      → AreCompared kind.Wire kind.Wire limit x y answer → Compares k l limit most before after before2 after2 (Ok answer)
-  compared k l limit most before after before2 after2 ours theirs x y answer bounded h g e f c = record {
-    first = h.input;
-    second = g.input;
-    taken = h.taken;
-    taken2 = g.taken;
-    answer = (h.answer.0, g.answer.0, bytes_compared k l limit h.input g.input ours.items theirs.items x y answer (omega (arith, h.answer.0, bounded)) (omega (arith, g.answer.0, bounded)) h.answer.1 g.answer.1 e f c);
-    to_end = (h.to_end, g.to_end);
-  }
 
   -- inputs hold the same items exactly if their encodings are found to be the same bytes
   pub same_encodings : (k l : Kind) (limit : ℕ) (first second ours theirs x y : List ℕ) (b : Bool) → length first ≤ most_bytes → length second ≤ most_bytes

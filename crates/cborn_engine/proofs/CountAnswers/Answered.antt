@@ -30,11 +30,10 @@ use Rattle.cborn_engine.specs.declared.count_faults.CountFault.{CountFault}
 use Rattle.cborn_engine.specs.declared.count_faults.CountFault.TheVariants as counted
 use Rattle.cborn_engine.specs.declared.kinds.Kind.{Kind}
 use Rattle.cborn_engine.specs.declared.kinds.Kind.TheVariants as kind
-use Rattle.cborn_engine.specs.Canonical.{IsCanonical, NormaliseAnswers}
 use Rattle.cborn_engine.specs.Checking.{CheckAnswers}
 use Rattle.cborn_engine.specs.Faults.{of_input, of_output}
 use Rattle.cborn_engine.specs.Holding.{Holds, Spells, SpellsInPlace}
-use Rattle.cborn_engine.specs.Counts.{SpellsOne, SpellsCount, HoldsOne, IsTaken, IsNotOne, CountAnswer, NormalisedWhole, ShownWhole, CheckedWhole, AreRefusedWhole, of_the_first, of_first_counted, of_second_counted, CountSent, NormalisesCount, ShowsCount, ChecksCount, IsReadForCount}
+use Rattle.cborn_engine.specs.Counts.{SpellsOne, SpellsCount, HoldsOne, IsTaken, IsNotOne, CountAnswer, NormalisedWhole, ShownWhole, CheckedWhole, AreRefusedWhole, of_the_first, of_first_counted, of_second_counted, CountSent, ShowsCount, ChecksCount, IsReadForCount}
 use Rattle.cborn_engine.specs.devices.Counts.{EncodedWhole}
 use Rattle.cborn_engine.specs.Reading.{most_bytes}
 use Rattle.cborn_engine.specs.Refusing.{IsRefused}
@@ -183,19 +182,6 @@ sent_of (Err why) = Err (counted.Engine (of_output why))
 
 module _ (count : Count) (order : List ℕ → List ℕ → Ordering) (k out : Kind) (limit : ℕ) (before after sent : Option (List ℕ)) where
   -- the input wasn't read
-  pub unread_normalised : (why : InputFault) → Collects most_bytes before after (Err why) → NormalisesCount count order k out limit most_bytes before after sent sent (Err (counted.Engine (of_input why)))
-  unread_normalised why h = record { input = h.input; output = []; taken = h.taken; given = nothing_written sent; answer = answer why h.answer; to_end = at_end why }
-    where
-      answer : (why : InputFault) → CollectAnswers most_bytes h.input after (Err why) → CountSent count k limit h.input [] (λ whole. (length h.input ≤ most_bytes) × IsCanonical order k out limit h.input whole) (NormaliseAnswers order k out limit most_bytes h.input []) (Err (counted.Engine (of_input why)))
-      answer input.TooLong a = (a, refl)
-      answer input.ReadFault a = (a, refl)
-      answer input.OutOfMemory a = (a, refl)
-
-      at_end : (why : InputFault) → IsReadForCount {A = Unit} (Err (counted.Engine (of_input why))) after
-      at_end input.TooLong = tt
-      at_end input.ReadFault = tt
-      at_end input.OutOfMemory = tt
-
   pub unread_shown : (why : InputFault) → Collects most_bytes before after (Err why) → ShowsCount count k out limit most_bytes before after sent sent (Err (counted.Engine (of_input why)))
   unread_shown why h = record { input = h.input; output = []; taken = h.taken; given = nothing_written sent; answer = answer why h.answer; to_end = at_end why }
     where
@@ -218,18 +204,6 @@ module _ (count : Count) (order : List ℕ → List ℕ → Ordering) (k out : K
     at_end _ = h.answer.2
 
     -- it is refused
-    pub unsent_normalised : (why : CountFault) → CountAnswer count k limit now (NormalisedWhole order k out limit now) (Err why) → NormalisesCount count order k out limit most_bytes before after sent sent (Err why)
-    unsent_normalised why a = record { input = h.input; output = []; taken = h.taken; given = nothing_written sent; answer = answer why (subst (λ (x : List ℕ). CountAnswer count k limit x (NormalisedWhole order k out limit x) (Err why)) same a); to_end = at_end why }
-      where
-        refused : (w : EngineFault) → IsRefused k limit most_bytes h.input w → CountSent count k limit h.input [] (λ whole. (length h.input ≤ most_bytes) × IsCanonical order k out limit h.input whole) (NormaliseAnswers order k out limit most_bytes h.input []) (Err (counted.Engine w))
-        refused fault.WriteFault r = absurd r
-        refused _ r = (r, refl)
-
-        answer : (why : CountFault) → CountAnswer count k limit h.input (NormalisedWhole order k out limit h.input) (Err why)
-            → CountSent count k limit h.input [] (λ whole. (length h.input ≤ most_bytes) × IsCanonical order k out limit h.input whole) (NormaliseAnswers order k out limit most_bytes h.input []) (Err why)
-        answer (counted.Engine w) a = refused w (read_refused k limit most_bytes h.input w h.answer.1 a)
-        answer _ a = ((cow_slice_items a.0.0, a.0.1), a.1, refl)
-
     pub unsent_shown : (why : CountFault) → CountAnswer count k limit now (ShownWhole k out limit now) (Err why) → ShowsCount count k out limit most_bytes before after sent sent (Err why)
     unsent_shown why a = record { input = h.input; output = []; taken = h.taken; given = nothing_written sent; answer = answer why (subst (λ (x : List ℕ). CountAnswer count k limit x (ShownWhole k out limit x) (Err why)) same a); to_end = at_end why }
       where
@@ -252,17 +226,6 @@ module _ (count : Count) (order : List ℕ → List ℕ → Ordering) (k out : K
       sent_end : (r : Result Unit OutputFault) → IsReadForCount (sent_of r) after
       sent_end (Ok u) = h.answer.2
       sent_end (Err output.WriteFault) = h.answer.2
-
-      pub sent_normalised : CountAnswer count k limit now (NormalisedWhole order k out limit now) (Ok answer) → NormalisesCount count order k out limit most_bytes before after sent sent_after (sent_of r)
-      sent_normalised a = record { input = h.input; output = w.output; taken = h.taken; given = w.written; answer = go r w.answer (subst (IsCanonical order k out limit h.input) (sym f) here.0.1); to_end = sent_end r }
-        where
-          here : CountAnswer count k limit h.input (NormalisedWhole order k out limit h.input) (Ok answer)
-          here = subst (λ (x : List ℕ). CountAnswer count k limit x (NormalisedWhole order k out limit x) (Ok answer)) same a
-
-          go : (r : Result Unit OutputFault) → WriteAnswers ys w.output r → IsCanonical order k out limit h.input ys
-              → CountSent count k limit h.input w.output (λ whole. (length h.input ≤ most_bytes) × IsCanonical order k out limit h.input whole) (NormaliseAnswers order k out limit most_bytes h.input w.output) (sent_of r)
-          go (Ok u) b c = ((here.0.0, subst (IsCanonical order k out limit h.input) (sym b) c), here.1)
-          go (Err output.WriteFault) b c = ((here.0.0, (ys, c, b)), here.1)
 
       pub sent_shown : CountAnswer count k limit now (ShownWhole k out limit now) (Ok answer) → ShowsCount count k out limit most_bytes before after sent sent_after (sent_of r)
       sent_shown a = record { input = h.input; output = w.output; taken = h.taken; given = w.written; answer = go r w.answer (subst (IsShown k out limit h.input) (sym f) here.0.1); to_end = sent_end r }

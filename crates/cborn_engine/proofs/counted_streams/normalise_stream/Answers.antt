@@ -1,54 +1,32 @@
-use Rattle.std.proofs.Common.{refl, Ok, Err}
-use Rattle.cborn_engine.specs.Failures.{CountsFault}
-use Rattle.cborn_engine.specs.declared.faults.EngineFault.TheVariants as fault
-use Rattle.cborn_engine.specs.declared.count_faults.CountFault.TheVariants as counted
-use Rattle.cborn_engine.specs.Counts.{NormalisesCount, NormalisedWhole}
+use Rattle.std.proofs.Common.{Ok, Err}
+use Rattle.cborn_engine.specs.Counts.{NormalisesCount}
 use Rattle.cborn_engine.specs.Reading.{most_bytes}
 use Rattle.cborn_engine.proofs.Answers.KnownErrors.{known_error}
 use Rattle.cborn_engine.proofs.Canonical.NormalForm.{counted_form}
-use Rattle.cborn_engine.proofs.CountAnswers.Answered.{unread_normalised, unsent_normalised, sent_normalised, refused_quiet, count_quiet, quiet_counted, input_counted, input_kept, sent_counted, sent_unread}
+use Rattle.cborn_engine.proofs.CountAnswers.Normalised.{not_encoded, encoded_holds, not_written, encoded_sent}
 use Rattle.cborn_engine.proofs.counted_streams.normalise_stream.Goals as goal
 
-pub returns-in_err-input-clause-normalises : goal.returns-in_err-input-clause-normalises
-returns-in_err-input-clause-normalises g c =
-    known_error (NormalisesCount c.args.count g.O.KeyOrder.order c.args.in_kind c.args.out_kind c.args.limit most_bytes _ _ _ _) _ _ c.from_residual-in_err-input.ensures.1
-    (unread_normalised c.args.count g.O.KeyOrder.order c.args.in_kind c.args.out_kind c.args.limit _ _ _ c.in_err-input.field-0.0 c.in_err-input.ensures.collects)
-
-pub returns-in_err-input-clause-read_failures : goal.returns-in_err-input-clause-read_failures
-returns-in_err-input-clause-read_failures g c = known_error (λ r. CountsFault (counted.Engine fault.ReadFault) r (g.R.Source.failed c.args.reader.now) (g.R.Source.failed c.read_bytes.new.reader)) _ _ c.from_residual-in_err-input.ensures.1 (input_counted c.in_err-input.field-0.0 _ _ c.in_err-input.ensures.failures)
-
-pub returns-in_err-input-clause-write_failures : goal.returns-in_err-input-clause-write_failures
-returns-in_err-input-clause-write_failures g c = known_error (λ r. CountsFault (counted.Engine fault.WriteFault) r (g.W.Sink.failed c.args.writer.now) (g.W.Sink.failed c.args.writer.now)) _ _ c.from_residual-in_err-input.ensures.1 (input_kept c.in_err-input.field-0.0 _)
-
-pub returns-in_err-answer-clause-normalises : goal.returns-in_err-answer-clause-normalises
-returns-in_err-answer-clause-normalises g c =
-    known_error (NormalisesCount c.args.count g.O.KeyOrder.order c.args.in_kind c.args.out_kind c.args.limit most_bytes _ _ _ _) _ _ c.from_residual-in_err-answer.ensures.1
-    (unsent_normalised c.args.count g.O.KeyOrder.order c.args.in_kind c.args.out_kind c.args.limit _ _ _ c.in_ok-input.input c.deref.result.now c.in_ok-input.ensures.collects c.deref.ensures.value c.in_err-answer.field-0.0 c.in_err-answer.ensures.normalised)
-
-pub returns-in_err-answer-clause-read_failures : goal.returns-in_err-answer-clause-read_failures
-returns-in_err-answer-clause-read_failures g c =
-    let q = count_quiet c.args.count c.args.in_kind c.args.limit c.deref.result.now (NormalisedWhole g.O.KeyOrder.order c.args.in_kind c.args.out_kind c.args.limit c.deref.result.now) c.in_err-answer.field-0.0 (refused_quiet c.args.in_kind c.args.limit most_bytes c.deref.result.now) c.in_err-answer.ensures.normalised in
-    known_error (λ r. CountsFault (counted.Engine fault.ReadFault) r (g.R.Source.failed c.args.reader.now) (g.R.Source.failed c.read_bytes.new.reader)) _ _ c.from_residual-in_err-answer.ensures.1 (quiet_counted (counted.Engine fault.ReadFault) c.in_err-answer.field-0.0 _ _ q.0 c.in_ok-input.ensures.failures)
-
-pub returns-in_err-answer-clause-write_failures : goal.returns-in_err-answer-clause-write_failures
-returns-in_err-answer-clause-write_failures g c =
-    let q = count_quiet c.args.count c.args.in_kind c.args.limit c.deref.result.now (NormalisedWhole g.O.KeyOrder.order c.args.in_kind c.args.out_kind c.args.limit c.deref.result.now) c.in_err-answer.field-0.0 (refused_quiet c.args.in_kind c.args.limit most_bytes c.deref.result.now) c.in_err-answer.ensures.normalised in
-    known_error (λ r. CountsFault (counted.Engine fault.WriteFault) r (g.W.Sink.failed c.args.writer.now) (g.W.Sink.failed c.args.writer.now)) _ _ c.from_residual-in_err-answer.ensures.1 (quiet_counted (counted.Engine fault.WriteFault) c.in_err-answer.field-0.0 _ _ q.1 refl)
+pub written_as-requires : goal.written_as-requires
+written_as-requires g c = encoded_holds c.args.count g.O.KeyOrder.order g.met.O.KeyOrder.laws c.args.in_kind c.args.out_kind c.args.limit _ _ (g.W.Sink.contents c.args.writer.now) c.in_ok-bytes.bytes c.in_ok-bytes.ensures.reads
 
 pub returns-clause-normalises : goal.returns-clause-normalises
 returns-clause-normalises g c =
-    sent_normalised c.args.count g.O.KeyOrder.order c.args.in_kind c.args.out_kind c.args.limit _ _ _ c.in_ok-input.input c.deref.result.now c.in_ok-input.ensures.collects c.deref.ensures.value _ c.in_ok-answer.answer c.deref-2.result.now (Ok tt) c.deref-2.ensures.value c.in_ok-write_answer.ensures.writes c.in_ok-answer.ensures.normalised
+    encoded_sent c.args.count g.O.KeyOrder.order g.met.O.KeyOrder.laws c.args.in_kind c.args.out_kind c.args.limit _ _ _ c.in_ok-bytes.bytes c.in_ok-bytes.ensures.reads _ c.in_ok-answer.answer.items c.deref.result.now (Ok tt) c.in_ok-answer.ensures c.deref.ensures.value c.in_ok-write_answer.ensures.writes
 
 pub returns-clause-headline : goal.returns-clause-headline
 returns-clause-headline g c = counted_form g.O.KeyOrder.order g.met.O.KeyOrder.laws c.args.in_kind c.args.out_kind c.args.limit c.args.count _ _ _ _ _ (returns-clause-normalises g c)
 
+pub returns-in_err-bytes-clause-normalises : goal.returns-in_err-bytes-clause-normalises
+returns-in_err-bytes-clause-normalises g c =
+    known_error (NormalisesCount c.args.count g.O.KeyOrder.order c.args.in_kind c.args.out_kind c.args.limit most_bytes _ _ _ _) _ _ c.from_residual.ensures.1
+    (not_encoded c.args.count g.O.KeyOrder.order g.met.O.KeyOrder.laws c.args.in_kind c.args.out_kind c.args.limit _ _ _ c.in_err-bytes.field-0.0 c.in_err-bytes.ensures.reads)
+
+pub returns-in_err-answer-clause-normalises : goal.returns-in_err-answer-clause-normalises
+returns-in_err-answer-clause-normalises g c =
+    known_error (NormalisesCount c.args.count g.O.KeyOrder.order c.args.in_kind c.args.out_kind c.args.limit most_bytes _ _ _ _) _ _ c.from_residual-in_err-answer.ensures.1
+    (not_written c.args.count g.O.KeyOrder.order g.met.O.KeyOrder.laws c.args.in_kind c.args.out_kind c.args.limit _ _ _ c.in_ok-bytes.bytes c.in_ok-bytes.ensures.reads)
+
 pub returns-in_err-write_answer-clause-normalises : goal.returns-in_err-write_answer-clause-normalises
 returns-in_err-write_answer-clause-normalises g c =
     known_error (NormalisesCount c.args.count g.O.KeyOrder.order c.args.in_kind c.args.out_kind c.args.limit most_bytes _ _ _ _) _ _ c.from_residual-in_err-write_answer.ensures.1
-    (sent_normalised c.args.count g.O.KeyOrder.order c.args.in_kind c.args.out_kind c.args.limit _ _ _ c.in_ok-input.input c.deref.result.now c.in_ok-input.ensures.collects c.deref.ensures.value _ c.in_ok-answer.answer c.deref-2.result.now (Err c.in_err-write_answer.field-0.0) c.deref-2.ensures.value c.in_err-write_answer.ensures.writes c.in_ok-answer.ensures.normalised)
-
-pub returns-in_err-write_answer-clause-read_failures : goal.returns-in_err-write_answer-clause-read_failures
-returns-in_err-write_answer-clause-read_failures g c = known_error (λ r. CountsFault (counted.Engine fault.ReadFault) r (g.R.Source.failed c.args.reader.now) (g.R.Source.failed c.read_bytes.new.reader)) _ _ c.from_residual-in_err-write_answer.ensures.1 (sent_unread (Err c.in_err-write_answer.field-0.0) _ _ c.in_ok-input.ensures.failures)
-
-pub returns-in_err-write_answer-clause-write_failures : goal.returns-in_err-write_answer-clause-write_failures
-returns-in_err-write_answer-clause-write_failures g c = known_error (λ r. CountsFault (counted.Engine fault.WriteFault) r (g.W.Sink.failed c.args.writer.now) (g.W.Sink.failed c.write_answer.new.writer)) _ _ c.from_residual-in_err-write_answer.ensures.1 (sent_counted (Err c.in_err-write_answer.field-0.0) _ _ c.in_err-write_answer.ensures.failures)
+    (encoded_sent c.args.count g.O.KeyOrder.order g.met.O.KeyOrder.laws c.args.in_kind c.args.out_kind c.args.limit _ _ _ c.in_ok-bytes.bytes c.in_ok-bytes.ensures.reads _ c.in_ok-answer.answer.items c.deref.result.now (Err c.in_err-write_answer.field-0.0) c.in_ok-answer.ensures c.deref.ensures.value c.in_err-write_answer.ensures.writes)
