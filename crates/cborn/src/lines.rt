@@ -90,7 +90,7 @@ impl Display for Answer {
 /// Prints an answer on a line and flushes it. Answers the exit status that goes with it: 0 or 1.
 ///
 /// # Errors
-/// `Trouble::Engine(CountFault::Engine(EngineFault::WriteFault))` where the line can't be written or flushed.
+/// `WriteFault` where the line can't be written or flushed.
 pub fn tell_answer<'a, W: Write>(out: &mut Counted<W>, answer: Answer) -> Result<u8, Trouble<'a>>
     ensures status { IfOk result (λ status. status ≡ status_of_answer answer) }
     ensures flushed { OnOk result (out.new.unflushed ≡ 0) }

@@ -149,7 +149,7 @@ fault_place fault.ReadFault = 0
 fault_place fault.WriteFault = 0
 fault_place fault.OutOfMemory = 0
 
--- the number of a fault where the input has to hold a number of items
+-- the number of a fault where the input has to hold a given number of items
 abbrev pub counted_number : CountFault → ℕ
 counted_number (counted.Engine why) = fault_number why
 counted_number (counted.NoItem p) = count_number counts.NoItem

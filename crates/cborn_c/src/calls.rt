@@ -1,4 +1,4 @@
-//! The calls on inputs that have to hold a number of items. `lib.rt` exports each for any number
+//! The calls on inputs that have to hold a given number of items. `lib.rt` exports each for any number
 //! and for exactly one.
 ghost use Rattle.std.specs.Prelude.{◌≡◌, ◌≢◌, ◌≤◌, ◌+◌, ◌*◌, ◌/◌, length, IfOk};
 ghost use Rattle.std.specs.Cow.{cow_slice_items};

@@ -183,7 +183,7 @@ pub fn place_of(why: EngineFault) -> u64
     }
 }
 
-/// The number of a fault of an input that has to hold a number of items.
+/// The number of a fault of an input that has to hold a given number of items.
 pub fn number_counted(why: CountFault) -> u32
     ensures number { result ≡ counted_number why }
     ensures small { result < 65536 }
@@ -195,7 +195,7 @@ pub fn number_counted(why: CountFault) -> u32
     }
 }
 
-/// The offset of a fault of an input that has to hold a number of items, in bytes from its start. 0
+/// The offset of a fault of an input that has to hold a given number of items, in bytes from its start. 0
 /// where it isn't in the content of the input.
 pub fn place_of_counted(why: CountFault) -> u64
     ensures { result ≡ counted_place why }

@@ -158,7 +158,7 @@ pub fn fault_at(number: u32) -> Option<EngineFault>
     }
 }
 
-/// A fault, at offset 0, of an input that has to hold a number of items, that has this number. `None`:
+/// A fault, at offset 0, of an input that has to hold a given number of items, that has this number. `None`:
 /// no such fault has it.
 pub fn counted_fault_at(number: u32) -> Option<CountFault>
     ensures numbered { IfSome result (λ why. counted_number why ≡ number) }

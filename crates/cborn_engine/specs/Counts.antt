@@ -1,4 +1,4 @@
--- What is answered for an input that has to hold a number of items: what is answered for any number, unless it holds another.
+-- What is answered for an input that has to hold a given number of items: what is answered for any number, unless it holds another.
 use Rattle.std.specs.Prelude.{◌≡◌, ◌≢◌, ℕ, ◌≤◌, ◌⊎◌, List, [], ◌∷◌, length, Option, Result, Ok, Err, ⊤}
 use Rattle.std.specs.Global.{Global}
 use Rattle.std.specs.Cow.{cow_slice_items}

@@ -1,4 +1,4 @@
-//! Why an input that has to hold a number of items gives no answer.
+//! Why an input that has to hold a given number of items gives no answer.
 ghost use Rattle.std.specs.Prelude.{◌≡◌, Result};
 ghost use Rattle.cborn_engine.specs.declared.count_faults.CompareCountFault.{CompareCountFault};
 ghost use Rattle.cborn_engine.specs.declared.count_faults.CountFault.{CountFault};
@@ -11,12 +11,12 @@ use crate::stream_faults::{InputFault, OutputFault};
 use std::alloc::AllocError;
 use thiserror::Error;
 
-/// Why an input that has to hold a number of items gave no answer. Where any number will do, it is
+/// Why an input that has to hold a given number of items gave no answer. Where any number will do, it is
 /// `Engine`.
 #[derive(Clone, Copy, PartialEq, Eq, Debug, Error)]
 pub enum CountFault {
-    /// The input is refused, or could not be read, or its answer not be written. Such a fault comes
-    /// before the two that follow.
+    /// The input is refused, or could not be read, which comes before the two that follow; or its
+    /// answer could not be written; or out of memory.
     #[error("{0}")]
     Engine(EngineFault),
     /// The input holds no item. The place is its length in bytes.
@@ -28,7 +28,7 @@ pub enum CountFault {
     MoreItems(u64),
 }
 
-/// Why two inputs could not be compared, each of which has to hold a number of items.
+/// Why two inputs could not be compared, each of which has to hold a given number of items.
 #[derive(Clone, Copy, PartialEq, Eq, Debug, Error)]
 pub enum CompareCountFault {
     /// The first input was not taken. Not a byte of the second was read.

@@ -1,4 +1,4 @@
-//! The calls over readers and writers of inputs that have to hold a number of items. One that has to
+//! The calls over readers and writers of inputs that have to hold a given number of items. One that has to
 //! hold one item is kept until its items are counted.
 ghost use Rattle.std.specs.Prelude.{◌≡◌, ◌≢◌, ◌≤◌, ◌⊎◌, ◌+◌, ℕ, List, Err, IfErr, OnOk};
 ghost use Rattle.std.specs.Io.KnownBytes.{Consumes, Appends};

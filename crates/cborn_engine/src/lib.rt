@@ -16,8 +16,9 @@
 //! `showings` writes it in another form, and `checks` judges it, by passes that keep no tree
 //! (`cborn_transcode`, `cborn_departures`, `cborn_edn`); `refusals` finds out why an
 //! input is refused, where these passes have no answer.
-//! `conversions` and `comparisons` are the calls over readers, `slices` those over inputs that are
-//! held whole; `differences` finds where two encodings differ.
+//! `conversions`, `comparisons` and `checks` have the calls over readers of any number of items,
+//! `counted_streams` those with a count, and `slices` those over inputs that are held whole;
+//! `differences` finds where two encodings differ.
 //!
 //! [`Items`] cuts bytes into their items, one after another (`specs/Items.antt`).
 //!

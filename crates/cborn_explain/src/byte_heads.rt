@@ -67,7 +67,8 @@ pub(crate) fn end_of_item(alloc: Global, bytes: &[u8], at: usize) -> Result<usiz
     }
 }
 
-/// The bytes of the item that begins at an offset. Empty where there is none.
+/// The bytes of the item that begins at an offset; of one that isn't whole or isn't allowed, those
+/// before the head at fault. Empty where none begins.
 ///
 /// # Errors
 /// `AllocError` where memory for what is open is refused.

@@ -70,8 +70,8 @@ impl Walk {
         self.levels.last().copied().unwrap_or_default()
     }
 
-    /// The offset of the item that the next head is of: of the string where it is of a chunk, and of the
-    /// bignum where it is of its bytes.
+    /// The offset of the item to which the next head belongs. Where that head is of a chunk, it is the
+    /// offset of the string; where it is of the bytes of a bignum, that of the bignum.
     pub(crate) fn item_place(&self) -> usize {
         let mut place = self.at;
         for level in self.levels.iter().rev() {
@@ -108,7 +108,7 @@ fn had_memory(read: Result<usize, WireFault>) -> Result<(), AllocError>
     }
 }
 
-/// Whether a level holds chunks of a string or the bytes of a bignum, which are no items of their own.
+/// Whether a level holds chunks of a string or the bytes of a bignum: parts of one value.
 pub(crate) fn holds_parts(kind: LevelKind) -> bool {
     match kind {
         LevelKind::Chunks(_, _) => true,

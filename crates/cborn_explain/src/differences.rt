@@ -188,8 +188,8 @@ fn count_of(item: &[u8]) -> Option<(&'static str, u64)> {
     }
 }
 
-/// Writes the bytes of an item from the first on that differs from those of another: of a string those
-/// of its content, of anything else those of its encoding.
+/// Writes the bytes of an item from the first on in which it differs from another: of two strings the
+/// bytes of the content, of anything else those of the encoding.
 fn push_rest(out: &mut String, ours: &[u8], theirs: &[u8]) -> Result<(), AllocError> {
     let (left, right) = (content_of(ours), content_of(theirs));
     if left.is_empty() || right.is_empty() {
@@ -205,8 +205,8 @@ fn push_rest(out: &mut String, ours: &[u8], theirs: &[u8]) -> Result<(), AllocEr
     push_hex(out, slice_of(left, len, left.len()), REST)
 }
 
-/// Writes the first element that only one of two arrays has, or where elements differ otherwise, the
-/// first of each that do. Of anything else it writes nothing.
+/// Of two arrays, writes the first element that only one has, where the rest is the same. Else it
+/// writes the first element of each that differs. Of anything else it writes nothing.
 fn push_lone_element(
     out: &mut String,
     ours: &mut Side<'_>,

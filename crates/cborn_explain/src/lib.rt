@@ -19,8 +19,8 @@
 //! written safely, that each call ends, and that equal bytes give none. No clause says which words
 //! they have. docs/FORMATS.md has their form.
 //!
-//! - `notes`: the lines of one input; start here. `differences`: those of two that differ.
-//! - `same_items`: those of two that are the same. `compared_parts`: where parts of the two are.
+//! - `notes`: the lines of one input; start here. `differences`: those of two that hold other items.
+//! - `same_items`: those of two that hold the same. `compared_parts`: where parts of the two are.
 //! - `paths`: paths, and that to an offset. `first_differences`: where two inputs differ.
 //! - `byte_walks`: a walk over bytes to an offset. `part_places`: where the keys are on its way.
 //! - `byte_heads`: heads with their strings, and where an item ends.

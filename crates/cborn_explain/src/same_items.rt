@@ -67,8 +67,8 @@ pub fn explain_same(
     Ok(out)
 }
 
-/// Whether two inputs have other items at the place to which a walk over them has come: so they have,
-/// where they hold the same items, only of keys in another order.
+/// Whether two inputs have different items at the place to which a walk has come. Of inputs that hold
+/// the same items that is so only where the keys of a map come in another order.
 fn are_other_items(
     alloc: Global,
     limit: Limit,

@@ -7,7 +7,7 @@ ghost use Rattle.cborn_model.specs.Bytes.{AreBytes, IsShortest, big_endian};
 use crate::ByteString;
 use std::alloc::{AllocError, Global};
 
-/// The magnitude with the number of these big-endian bytes, such as those of a `u64`: the bytes
+/// The magnitude of the number with these big-endian bytes, such as those of a `u64`: the bytes
 /// without leading zeros.
 ///
 /// # Errors

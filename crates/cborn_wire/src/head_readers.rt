@@ -51,6 +51,7 @@ fn refusal<L: Levels>(levels: &L, limit: u64, first: u8) -> Option<WireReason>
 {
     let is_full = levels.count() as u64 >= limit;
     let kind = levels.innermost().kind;
+    // Most heads need no more than this. What follows is for chunks, and for what may be refused.
     if is_plain(first) && !is_full && !kind.is_chunks() {
         return None;
     }
@@ -156,8 +157,8 @@ impl HeadReader {
         Ok(piece.len())
     }
 
-    /// Takes bytes from the front of `piece`, a head or a part of a head or a string, and gives
-    /// their number.
+    /// Takes bytes from the front of `piece`, and gives their number: leaves, one after another, or
+    /// else a head, or a part of a head or a string.
     #[inline(always)]
     fn take<L: Levels, V: Visitor>(
         &mut self,

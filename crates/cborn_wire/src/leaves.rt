@@ -1,4 +1,5 @@
-//! Leaves: items that hold no other items, taken whole from the front of a piece, one after another.
+//! Leaves that have one head: integers, simple values of one byte and strings of definite length.
+//! They are taken whole from the front of a piece, one after another.
 
 ghost use Rattle.std.specs.Prelude.{◌≡◌, ◌+◌, ◌<◌, ◌≤◌, ◌/◌, ◌^◌, ℕ, List, length, take, OnOk, OnErr, IfOk, MatchOption, ⊤};
 ghost use Rattle.cborn_model.specs.Heads.{WidthFits};
@@ -16,14 +17,16 @@ use std::alloc::AllocError;
 /// A head with an argument, at the front of some bytes.
 #[derive(Clone, Copy)]
 pub(crate) struct GivenHead {
+    /// The initial byte.
     pub(crate) first: u8,
     pub(crate) width: Width,
     pub(crate) argument: u64,
+    /// The length of the head in bytes.
     pub(crate) len: usize,
 }
 
 /// The head at the front of `bytes`, if it has an argument and is no float and no simple value of
-/// two bytes.
+/// two bytes. It says less than `read_head`, and takes half of its instructions here.
 #[inline(always)]
 fn given_head(bytes: &[u8]) -> Option<GivenHead>
     ensures { MatchOption result ⊤ (IsGiven bytes.now) }
@@ -76,7 +79,8 @@ fn may_be_leaf(first: u8) -> bool {
     first < 128 || first >= 224
 }
 
-/// Hands a leaf to a visitor. A string is these bytes.
+/// Hands the leaf with this head, at the offset `place`, to a visitor. `bytes` is the content of a
+/// string, and empty of other leaves.
 #[inline(always)]
 fn visit_leaf<V: Visitor>(
     visitor: &mut V,
@@ -107,6 +111,9 @@ fn visit_leaf<V: Visitor>(
 /// Takes the leaves at the front of `piece`, whose first byte is at the offset `place`: those that
 /// are whole in it, up to the last part of the innermost container. Gives their length in bytes.
 /// Between items of the input and in a string of indefinite length it takes none.
+///
+/// # Errors
+/// `AllocError` if memory is refused to the visitor, of which nothing is known then.
 #[inline(always)]
 pub(crate) fn take_leaves<L: Levels, V: Visitor>(
     levels: &mut L,

@@ -4,7 +4,7 @@ ghost use Rattle.std.specs.Prelude.{◌≡◌, ◌<◌, ◌%◌, ◌/◌, [], tr
 ghost use Rattle.cborn_wire.specs.SlotFaults.{needs_item};
 ghost use Rattle.cborn_wire.specs.shared.InitialBytes.{info_at, is_bad_chunk, is_of_kind, head_reason};
 ghost use Rattle.cborn_wire.specs.HeadReading.{major_at};
-ghost use Rattle.cborn_wire.specs.devices.Counting.{seen_slot, IsPlainSlot};
+ghost use Rattle.cborn_wire.specs.devices.Counting.{seen_slot, IsNoChunkSlot};
 ghost use Rattle.cborn_wire.specs.Slots as slots;
 
 use crate::WireReason;
@@ -89,11 +89,11 @@ impl Slot {
     }
 }
 
-/// Whether a head with this initial byte is allowed wherever an item is and one more container may
-/// open: it is well-formed by itself, and neither a simple value, a float nor a break.
+/// Whether this initial byte alone says that its head is allowed wherever an item is and one more
+/// container may open. That of a simple value, a float or a break doesn't.
 #[inline(always)]
 pub(crate) fn is_plain(first: u8) -> bool
-    ensures { result ≡ true → (s : slots.Slot) → IsPlainSlot s → head_reason s false (major_at (first / 32)) (info_at (first % 32)) [] ≡ None }
+    ensures { result ≡ true → (s : slots.Slot) → IsNoChunkSlot s → head_reason s false (major_at (first / 32)) (info_at (first % 32)) [] ≡ None }
 {
     first < 224 && (first % 32 < 28 || (first % 32 == 31 && 64 <= first && first < 192))
 }

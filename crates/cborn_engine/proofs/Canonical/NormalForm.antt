@@ -5,7 +5,7 @@ use Rattle.cborn_model.specs.Orders.{IsKeyOrder}
 use Rattle.cborn_engine.specs.declared.counts.Count.{Count}
 use Rattle.cborn_engine.specs.declared.kinds.Kind.{Kind}
 use Rattle.cborn_engine.specs.Holding.{Canon}
-use Rattle.cborn_engine.specs.Canonical.{IsCanonical, Normalises, IsNormalForm}
+use Rattle.cborn_engine.specs.Canonical.{IsCanonical, IsNormalForm}
 use Rattle.cborn_engine.specs.Counts.{NormalisesCount}
 use Rattle.cborn_engine.specs.Reading.{most_bytes}
 use Rattle.cborn_engine.proofs.Canonical.Canonicity.{reads_back, alone, one_for_same, own_form, again}
@@ -24,10 +24,6 @@ module _ (order : List ℕ → List ℕ → Ordering) (laws : IsKeyOrder order) 
         again = λ v. (λ b. again order laws k out limit x w short a v b, λ e. subst (IsCanonical order out out limit w) (sym e) (own_form order laws k out limit x w short a));
       }
 
-  -- of what was read and written
-  pub written_form : (before after sent sent_after : Option (List ℕ)) (u : Unit) → Normalises order k out limit most_bytes before after sent sent_after (Ok u) → (input : List ℕ) × (output : List ℕ) × Consumes before after input × Appends sent sent_after output × IsNormalForm order k out limit input output
-  written_form before after sent sent_after u h = (h.input, h.output, h.taken, h.given, normal_form h.input h.output h.answer.0 h.answer.1)
-
-  -- likewise where the input has to hold a number of items
+  -- likewise where the input has to hold a given number of items
   pub counted_form : (count : Count) (before after sent sent_after : Option (List ℕ)) (u : Unit) → NormalisesCount count order k out limit most_bytes before after sent sent_after (Ok u) → (input : List ℕ) × (output : List ℕ) × Consumes before after input × Appends sent sent_after output × IsNormalForm order k out limit input output
   counted_form count before after sent sent_after u h = (h.input, h.output, h.taken, h.given, normal_form h.input h.output h.answer.0.0 h.answer.0.1)

@@ -1,4 +1,4 @@
--- What is answered for an input that has to hold a number of items, whole or read.
+-- What is answered for an input that has to hold a given number of items, whole or read.
 use Rattle.std.proofs.Common.{◌≡◌, ◌≢◌, refl, sym, ap, ◌∙◌, subst, ◌⊎◌, ℕ, ◌≤◌, List, [], ◌∷◌, length, Option, Result, Ok, Err, Vec, Global, Ordering, inl, inr, arith}
 use Rattle.std.specs.Cow.{cow_slice_items}
 use Rattle.std.specs.declared.borrow.CowSlice.{CowSlice}

@@ -71,9 +71,6 @@ module _ (k l : Kind) (limit : ℕ) (before after before2 after2 : Option (List 
   compared_any (compared.Second _) h = absurd (let e = h.answer.1.2.0 in cc)
   compared_any compared.OutOfMemory h = (engine.OutOfMemory, refl)
 
-  pub same_compared : (answer : Option ℕ) → ComparesCount counts.Any k l limit before after before2 after2 (Ok answer) → Compares k l limit most_bytes before after before2 after2 (Ok answer)
-  same_compared answer h = record { first = h.first; second = h.second; taken = h.taken; taken2 = h.taken2; answer = (h.answer.0.short, h.answer.1.short, h.answer.2); to_end = h.to_end }
-
   pub any_compared : (w : CompareCountFault) (why : CompareFault) → w ≡ compare_counted_of why → ComparesCount counts.Any k l limit before after before2 after2 (Err w) → Compares k l limit most_bytes before after before2 after2 (Err why)
   any_compared w why e h = go why (subst (λ (v : CompareCountFault). ComparesCount counts.Any k l limit before after before2 after2 (Err v)) e h)
     where

@@ -1,16 +1,14 @@
--- What is answered where two inputs are read, each of which has to hold a number of items.
+-- What is answered where two inputs are read, each of which has to hold a given number of items.
 use Rattle.std.proofs.Common.{◌≡◌, refl, sym, ap, ◌∙◌, subst, ◌⊎◌, ℕ, ◌≤◌, List, [], length, Option, Result, Ok, Err, Vec, Global, Ordering, inl, inr, arith}
 use Rattle.cborn_model.specs.Orders.{IsKeyOrder}
 use Rattle.cborn_engine.specs.declared.stream_faults.InputFault.{InputFault}
 use Rattle.cborn_engine.specs.declared.stream_faults.InputFault.TheVariants as input
-use Rattle.cborn_engine.specs.Failures.{CountsFault}
 use Rattle.cborn_engine.specs.Collecting.{Collects, CollectAnswers}
 use Rattle.cborn_engine.specs.declared.faults.EngineFault.TheVariants as fault
 use Rattle.cborn_engine.specs.declared.count_faults.CountFault.{CountFault}
 use Rattle.cborn_engine.specs.declared.counts.Count.{Count}
 use Rattle.cborn_engine.specs.declared.counts.Count.TheVariants as counts
 use Rattle.cborn_engine.specs.declared.count_faults.CountFault.TheVariants as counted
-use Rattle.cborn_engine.specs.declared.count_faults.CompareCountFault.TheVariants as compared
 use Rattle.cborn_engine.specs.declared.kinds.Kind.{Kind}
 use Rattle.cborn_engine.specs.declared.kinds.Kind.TheVariants as kind
 use Rattle.cborn_engine.specs.Faults.{of_input}
@@ -96,23 +94,3 @@ module _ (count : Count) (order : List ℕ → List ℕ → Ordering) (laws : Is
       let both = bytes_compared order laws k l limit g.input h.input ours.items theirs.items v w answer g.answer.0.0 h.answer.0.0 g.answer.0.1 h.answer.0.1 e f c in
       let theirs_taken = taken count l limit h.input h.answer.0.1.items h.answer.0.0 h.answer.0.1.held h.answer.1 in
       record { first = g.input; second = h.input; taken = g.taken; taken2 = h.taken; answer = (taken_first ours g, theirs_taken, both); to_end = (g.to_end, h.to_end) }
-
--- ---- the counts of failures
-
-pub first_one_counted : {A : Type 0} (why : CountFault) (n m : ℕ) → m ≡ count_failures_at why n → CountsFault {A = A} (compared.First (counted.Engine fault.ReadFault)) (Err (of_first_counted why)) n m
-first_one_counted (counted.Engine fault.ReadFault) n m e = (λ p. e, λ p. absurd (p refl))
-first_one_counted _ n m e = (λ p. absurd cc, λ p. e)
-
-pub second_one_counted : {A : Type 0} (why : CountFault) (n m : ℕ) → m ≡ count_failures_at why n → CountsFault {A = A} (compared.Second (counted.Engine fault.ReadFault)) (Err (of_second_counted why)) n m
-second_one_counted (counted.Engine fault.ReadFault) n m e = (λ p. e, λ p. absurd (p refl))
-second_one_counted _ n m e = (λ p. absurd cc, λ p. e)
-
--- the second isn't read
-pub second_one_kept : {A : Type 0} (why : CountFault) (n m : ℕ) → m ≡ n → CountsFault {A = A} (compared.Second (counted.Engine fault.ReadFault)) (Err (of_first_counted why)) n m
-second_one_kept (counted.Engine fault.OutOfMemory) n m e = (λ p. absurd cc, λ p. e)
-second_one_kept _ n m e = (λ p. absurd cc, λ p. e)
-
--- the first was read
-pub first_one_kept : {A : Type 0} (why : CountFault) (n m : ℕ) → m ≡ n → CountsFault {A = A} (compared.First (counted.Engine fault.ReadFault)) (Err (of_second_counted why)) n m
-first_one_kept (counted.Engine fault.OutOfMemory) n m e = (λ p. absurd cc, λ p. e)
-first_one_kept _ n m e = (λ p. absurd cc, λ p. e)

@@ -1,4 +1,4 @@
--- What is answered where an input that has to hold a number of items is read, encoded and written.
+-- What is answered where an input that has to hold a given number of items is read, encoded and written.
 use Rattle.std.proofs.Common.{◌≡◌, refl, sym, subst, ℕ, ◌≤◌, List, [], length, Option, Result, Ok, Err, Vec, Global, Ordering}
 use Rattle.cborn_model.specs.Orders.{IsKeyOrder}
 use Rattle.cborn_model.specs.Value.{Value}
@@ -12,10 +12,9 @@ use Rattle.cborn_engine.specs.declared.kinds.Kind.{Kind}
 use Rattle.cborn_engine.specs.declared.kinds.Kind.TheVariants as kind
 use Rattle.cborn_engine.specs.Canonical.{IsCanonical, NormaliseAnswers}
 use Rattle.cborn_engine.specs.Counts.{CountAnswer, CountSent, NormalisesCount, IsReadForCount}
-use Rattle.cborn_engine.specs.Failures.{CountsFault}
 use Rattle.cborn_engine.specs.Holding.{Holds}
 use Rattle.cborn_engine.specs.devices.Encoding.{EncodeAnswers, IsWrittenAs}
-use Rattle.cborn_engine.specs.devices.Counts.{ReadsCount, count_failures_at}
+use Rattle.cborn_engine.specs.devices.Counts.{ReadsCount}
 use Rattle.cborn_engine.specs.Reading.{most_bytes}
 use Rattle.cborn_engine.specs.Writing.{Sends, WriteAnswers}
 use Rattle.cborn_engine.proofs.Answers.Unanswered.{nothing_written}
@@ -57,14 +56,3 @@ module _ (count : Count) (order : List ℕ → List ℕ → Ordering) (laws : Is
         at_end : (r : Result Unit OutputFault) → IsReadForCount (sent_of r) after
         at_end (Ok u) = h.to_end
         at_end (Err output.WriteFault) = h.to_end
-
--- ---- the counts of failures
-
-pub encoding_counted : {A : Type 0} (why : CountFault) (n m : ℕ) → m ≡ count_failures_at why n → CountsFault {A = A} (counted.Engine fault.ReadFault) (Err why) n m
-encoding_counted (counted.Engine fault.ReadFault) n m e = (λ p. e, λ p. absurd (p refl))
-encoding_counted _ n m e = (λ p. absurd cc, λ p. e)
-
--- nothing was written
-pub encoding_kept : {A : Type 0} (count : Count) (order : List ℕ → List ℕ → Ordering) (k : Kind) (limit : ℕ) (before after : Option (List ℕ)) (why : CountFault) (n : ℕ) → ReadsCount count order k limit before after (Err why) → CountsFault {A = A} (counted.Engine fault.WriteFault) (Err why) n n
-encoding_kept count order k limit before after (counted.Engine fault.WriteFault) n h = absurd h.answer
-encoding_kept count order k limit before after _ n h = (λ p. absurd cc, λ p. refl)

@@ -27,6 +27,6 @@ module _ (k out : Kind) (limit : ℕ) where
   pub written_bytes : (before after sent sent_after : Option (List ℕ)) (u : Unit) → Shows k out limit most_bytes before after sent sent_after (Ok u) → (input : List ℕ) × (output : List ℕ) × Consumes before after input × Appends sent sent_after output × SpellSameBytes k out limit input output
   written_bytes before after sent sent_after u h = (h.input, h.output, h.taken, h.given, same_bytes h.input h.output h.answer.0 h.answer.1)
 
-  -- likewise where the input has to hold a number of items
+  -- likewise where the input has to hold a given number of items
   pub counted_written : (count : Count) (before after sent sent_after : Option (List ℕ)) (u : Unit) → ShowsCount count k out limit most_bytes before after sent sent_after (Ok u) → (input : List ℕ) × (output : List ℕ) × Consumes before after input × Appends sent sent_after output × SpellSameBytes k out limit input output
   counted_written count before after sent sent_after u h = (h.input, h.output, h.taken, h.given, same_bytes h.input h.output h.answer.0.0 h.answer.0.1)

@@ -52,10 +52,6 @@ at_first limit most a = record {
   fed = (refl, refl, refl, refl, (0, refl, record { front = []; rest = []; whole = refl; read = record { spells = refl; fit = tt; shallow = omega arith }; placed = tt; longest = λ f y others h w. nothing_longer [] f y refl h }));
 }
 
--- what is allowed still, and what was fed, is no more than the most
-pub fed_below : (limit most left : ℕ) (before after : Option (List ℕ)) (f : Feeding) → SoFar limit most left before after false f → f.fed + left ≤ most
-fed_below limit most left before after f s = omega (arith, s.fed.2, s.count)
-
 -- no further piece came
 pub halted : (limit most left : ℕ) (a b c : Option (List ℕ)) (refused : Bool) (f : Feeding) (buf : List ℕ) (why : InputFault) → SoFar limit most left a b refused f → PieceAnswers b c left buf (Err why) → Loads kind.Wire limit most a c (Err (of_input why))
 halted limit most left a b c refused f buf input.TooLong s p =

@@ -1,4 +1,4 @@
--- Devices: what reading an input and encoding what it holds answers, where it has to hold a number of items, and the count of failures after it. No public contract cites them.
+-- Devices: what reading an input and encoding what it holds answers, where it has to hold a given number of items, and the count of failures after it. No public contract cites them.
 use Rattle.std.specs.Prelude.{ℕ, ◌≤◌, List, length, Option, Result, Ok, Err, Vec}
 use Rattle.std.specs.Global.{Global}
 use Rattle.std.specs.Cow.{cow_slice_items}

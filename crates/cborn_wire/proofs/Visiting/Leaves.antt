@@ -1,6 +1,6 @@
 -- What is read and made of a leaf.
-use Rattle.std.proofs.Common.{◌≡◌, refl, sym, ap, ◌∙◌, subst, inl, ℕ, zero, suc, ◌+◌, ◌-◌, ◌/◌, ◌%◌, ◌<◌, ◌≤◌, List, [], ◌∷◌, ◌++◌, length, take, drop, get_or, Bool, true, false, cond, leb, Option, Some, None, arith, length-append}
-use Rattle.std.proofs.lemmas.Bool.{leb-true, leb-false, lt-leb}
+use Rattle.std.proofs.Common.{◌≡◌, refl, sym, ap, ◌∙◌, subst, inl, ℕ, zero, suc, ◌+◌, ◌-◌, ◌/◌, ◌%◌, ◌<◌, ◌≤◌, List, [], ◌∷◌, ◌++◌, length, take, drop, get_or, Bool, false, cond, leb, Option, Some, None, arith, length-append}
+use Rattle.std.proofs.lemmas.Bool.{lt-leb}
 use Rattle.std.proofs.lemmas.List.{length-take-le}
 use Rattle.std.proofs.Math.Seq.{take-add}
 use Rattle.cborn_model.specs.Bytes.{AreBytes}
@@ -11,7 +11,7 @@ use Rattle.cborn_model.specs.declared.heads.Major.TheVariants.{Unsigned, Negativ
 use Rattle.cborn_model.specs.Heads as heads
 use Rattle.cborn_model.specs.Heads.{code, WidthFits}
 use Rattle.cborn_model.specs.Tree.{Tree, Trees, Uint, Nint, Simple}
-use Rattle.cborn_model.specs.Partial.{an_array, a_map, a_tag, in_chunks, Partial, top, inside, Part, no_part, put, last_key, TakesItem, TakesString, integer_tree, string_tree}
+use Rattle.cborn_model.specs.Partial.{an_array, a_map, a_tag, in_chunks, Partial, top, inside, Part, no_part, put, last_key, TakesItem, TakesString, string_tree}
 use Rattle.cborn_model.specs.declared.visitors.StringKind.{StringKind}
 use Rattle.cborn_model.specs.declared.visitors.StringKind.TheVariants.{OfBytes, OfText}
 use Rattle.cborn_wire.specs.declared.heads.Argument.TheVariants.{Given}
@@ -25,7 +25,7 @@ use Rattle.cborn_wire.specs.Slots.{Slot, chunk, OpenContainer, slot, slot_in_map
 use Rattle.cborn_wire.specs.shared.InitialBytes.{Info, Now, Next, info_at, info_for, is_bad_chunk, head_reason}
 use Rattle.cborn_wire.specs.shared.Machine.{width_bytes, number, content_of, gathering, Live, content_at, after_head, finished, run, ready_in, AtMostOneMore}
 use Rattle.cborn_wire.specs.shared.Visiting.{ready, open_in, state, levels, slot_of, is_chunks, Keeps, Stands}
-use Rattle.cborn_wire.specs.devices.Counting.{IsPlainSlot}
+use Rattle.cborn_wire.specs.devices.Counting.{IsNoChunkSlot}
 use Rattle.cborn_wire.specs.devices.Leaves.{IsGiven, IsLeafOf, IsLeaf, content_len, leaf_tree, TakesLeaves}
 use Rattle.cborn_wire.proofs.HeadReading.HeadFronts.{direct_head, wide_head, wide_fronts}
 use Rattle.cborn_wire.proofs.HeadReading.HeadSteps.{head_some, head_taken}
@@ -59,33 +59,6 @@ given_wide (b ∷ y) rest w n k same are some low i all value len =
 
 -- which heads are those of leaves
 
-pub low_leaf : (n k : ℕ) (w : Width) → n < 2 → IsLeaf (major_at n) w × (content_len (major_at n) k ≡ 0)
-low_leaf zero k w h = (tt, refl)
-low_leaf (suc zero) k w h = (tt, refl)
-low_leaf (suc (suc n)) k w h = absurd (omega arith)
-
-pub string_leaf : (n k : ℕ) (w : Width) → 2 ≤ n → n < 4 → IsLeaf (major_at n) w × (content_len (major_at n) k ≡ k)
-string_leaf (suc (suc zero)) k w l h = (tt, refl)
-string_leaf (suc (suc (suc zero))) k w l h = (tt, refl)
-string_leaf (suc (suc (suc (suc n)))) k w l h = absurd (omega arith)
-string_leaf n k w l h = absurd (omega arith)
-
-pub integer_is : (p b k : ℕ) (w : Width) (x : List ℕ) → b < 64 → integer_tree p (leb 32 b) w k ≡ leaf_tree p (major_at (b / 32)) w k x
-integer_is p b k w x h = go (b / 32) refl (leb 32 b) refl
-  where
-    go : (n : ℕ) → b / 32 ≡ n → (c : Bool) → leb 32 b ≡ c → integer_tree p c w k ≡ leaf_tree p (major_at n) w k x
-    go zero e false f = refl
-    go zero e true f = absurd (omega (arith, e, leb-true 32 b f))
-    go (suc zero) e true f = refl
-    go (suc zero) e false f = absurd (omega (arith, e, leb-false 32 b f))
-    go (suc (suc n)) e c f = absurd (omega (arith, e, h))
-
-pub simple_leaf : (n k : ℕ) (w : Width) → n ≡ 7 → w ≡ Direct → IsLeaf (major_at n) w × (content_len (major_at n) k ≡ 0)
-simple_leaf n k w e d = (subst (λ m. IsLeaf (major_at m) w) (sym e) d, ap (λ m. content_len (major_at m) k) e)
-
-pub simple_is : (p n k : ℕ) (w : Width) (x : List ℕ) → n ≡ 7 → Simple p k ≡ leaf_tree p (major_at n) w k x
-simple_is p n k w x e = ap (λ m. leaf_tree p (major_at m) w k x) (sym e)
-
 text_major : (n : ℕ) (w : Width) → IsLeaf (major_at n) w → 3 ≤ n → n < 7 → n ≡ 3
 text_major (suc (suc (suc zero))) w l low high = refl
 text_major (suc (suc (suc (suc zero)))) w l low high = absurd l
@@ -106,25 +79,25 @@ string_free (inside f o ts) k h = tt
 
 -- a leaf is allowed wherever an item is
 
-plain_slot : (f : Partial) → TakesItem f → IsPlainSlot (slot (open_in f))
+plain_slot : (f : Partial) → TakesItem f → IsNoChunkSlot (slot (open_in f))
 plain_slot (top ts) h = tt
 plain_slot (inside f (in_chunks p k) ts) h = absurd h
 plain_slot (inside f (an_array p s None) ts) h = tt
 plain_slot (inside f (an_array p s (Some n)) ts) h = tt
 plain_slot (inside f (a_map p s c) ts) h = go c (last_key ts)
   where
-    go : (c : Option ℕ) (x : Option Tree) → IsPlainSlot (slot_in_map c x)
+    go : (c : Option ℕ) (x : Option Tree) → IsNoChunkSlot (slot_in_map c x)
     go None None = tt
     go None (Some k) = tt
     go (Some n) None = tt
     go (Some n) (Some k) = tt
 plain_slot (inside f (a_tag p w n) ts) h = tt
 
-no_chunk : (s : Slot) (m : Major) (i : Info) → IsPlainSlot s → is_bad_chunk s m i ≡ false
+no_chunk : (s : Slot) (m : Major) (i : Info) → IsNoChunkSlot s → is_bad_chunk s m i ≡ false
 no_chunk (chunk k) m i h = absurd h
 no_chunk s m i h = refl
 
-leaf_free : (s : Slot) (full : Bool) (m : Major) (w : Width) (n : ℕ) → IsPlainSlot s → IsLeaf m w → head_reason s full m (info_for (heads.Given w n)) [] ≡ None
+leaf_free : (s : Slot) (full : Bool) (m : Major) (w : Width) (n : ℕ) → IsNoChunkSlot s → IsLeaf m w → head_reason s full m (info_for (heads.Given w n)) [] ≡ None
 leaf_free s full Unsigned w n h l = clear_given s full Unsigned w n (no_chunk s Unsigned (info_for (heads.Given w n)) h) refl refl
 leaf_free s full Negative w n h l = clear_given s full Negative w n (no_chunk s Negative (info_for (heads.Given w n)) h) refl refl
 leaf_free s full ByteString w n h l = clear_given s full ByteString w n (no_chunk s ByteString (info_for (heads.Given w n)) h) refl refl
@@ -138,7 +111,7 @@ leaf_free s full Array w n h l = absurd l
 leaf_free s full Map w n h l = absurd l
 leaf_free s full Tag w n h l = absurd l
 
-leaf_allowed : (limit : ℕ) (os : List OpenContainer) (x : List ℕ) (m : Major) (w : Width) (n : ℕ) (rest : List ℕ) → WidthFits w n → x ≡ heads.head m (heads.Given w n) ++ rest → IsPlainSlot (slot os) → IsLeaf m w
+leaf_allowed : (limit : ℕ) (os : List OpenContainer) (x : List ℕ) (m : Major) (w : Width) (n : ℕ) (rest : List ℕ) → WidthFits w n → x ≡ heads.head m (heads.Given w n) ++ rest → IsNoChunkSlot (slot os) → IsLeaf m w
     → None ≡ head_reason (slot os) (leb limit (open_depth os)) (major_at (get_or x 0 0 / 32)) (info_at (get_or x 0 0 % 32)) []
 leaf_allowed limit os [] m w n rest fits e h l = absurd (omega (arith, ap length e))
 leaf_allowed limit os (b ∷ y) m w n rest fits e h l =
@@ -147,7 +120,7 @@ leaf_allowed limit os (b ∷ y) m w n rest fits e h l =
     ∙ leaf_free (slot os) (leb limit (open_depth os)) m w n h l)
 
 -- a level in which an item may be next
-pub plain_kind : (k : LevelKind) → is_chunks k ≡ false → IsPlainSlot (slot_of k)
+pub plain_kind : (k : LevelKind) → is_chunks k ≡ false → IsNoChunkSlot (slot_of k)
 plain_kind (Sequence n) e = tt
 plain_kind (AnArray None n) e = tt
 plain_kind (AnArray (Some c) n) e = tt

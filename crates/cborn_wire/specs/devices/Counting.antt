@@ -16,6 +16,6 @@ plain key_or_end = element_or_end
 plain s = s
 
 -- it isn't that of a chunk
-abbrev pub IsPlainSlot : slots.Slot → Type 0
-IsPlainSlot (chunk k) = ⊥
-IsPlainSlot s = Unit {0}
+abbrev pub IsNoChunkSlot : slots.Slot → Type 0
+IsNoChunkSlot (chunk k) = ⊥
+IsNoChunkSlot s = Unit {0}

@@ -1,4 +1,4 @@
--- A device of the proofs: leaves, the items that hold no other items, as the reader takes them. No definition cites it.
+-- A device of the proofs: leaves that have one head, as the reader takes them. No definition cites it.
 use Rattle.std.specs.Prelude.{◌≡◌, ℕ, ◌+◌, ◌/◌, ◌≤◌, List, length, take, slice_index, ⊤}
 use Rattle.cborn_model.specs.declared.heads.Width.{Width}
 use Rattle.cborn_model.specs.declared.heads.Width.TheVariants.{Direct}
