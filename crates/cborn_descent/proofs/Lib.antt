@@ -5,4 +5,3 @@ pub mod Texts
 pub mod Pairs
 pub mod Chunks
 pub mod Maps
-pub mod Wholes

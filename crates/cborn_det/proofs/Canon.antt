@@ -40,7 +40,7 @@ record Led (v : Value) (x : List ℕ) : Type 0 where
   is : x ≡ head ++ content
   leads : Leads v major argument
 
-tags : (b : Bool) → (bignum_tag b ≡ 2) ⊎ (bignum_tag b ≡ 3)
+pub tags : (b : Bool) → (bignum_tag b ≡ 2) ⊎ (bignum_tag b ≡ 3)
 tags true = inr refl
 tags false = inl refl
 

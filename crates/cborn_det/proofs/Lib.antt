@@ -5,3 +5,4 @@ pub mod Arranging
 pub mod Cutting
 pub mod Steps
 pub mod Room
+pub mod Written

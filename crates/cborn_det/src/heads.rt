@@ -1,7 +1,7 @@
 //! The shortest head, at the end of a buffer or in the place of a byte. Other crates' passes use it
 //! too. Each width is a branch of its own, where the length of what is copied is known.
 
-ghost use Rattle.std.specs.Prelude.{◌≡◌, ◌<◌, ◌++◌, ◌∷◌, ℕ, List, length, take, OnOk, OnErr};
+ghost use Rattle.std.specs.Prelude.{◌≡◌, ◌<◌, ◌≤◌, ◌++◌, ◌∷◌, ℕ, List, length, take, OnOk, OnErr};
 ghost use Rattle.std.specs.Int.{w16, w32, w64, to_be_bytes};
 ghost use Rattle.cborn_model.specs.Heads.{code, IsLeastHead};
 ghost use Rattle.cborn_det.specs.Appending.{Appends, Replaces};
@@ -13,15 +13,26 @@ use std::alloc::{AllocError, Global};
 ///
 /// # Errors
 /// `AllocError` if memory is refused; `out` is then unchanged.
-#[inline]
+#[inline(always)]
 pub fn put_head(major: Major, n: u64, out: &mut Vec<u8>) -> Result<(), AllocError>
     ensures appended { OnOk result (Appends (IsLeastHead (code major) n) out.old.items out.new.items) }
     ensures kept { OnErr result (out.new.items ≡ out.old.items) }
 {
     if n < 24 {
         out.push(major.initial_byte(n as u8))?;
-        Ok(())
-    } else if n < 256 {
+        return Ok(());
+    }
+    put_wide_head(major, n, out)
+}
+
+/// Appends the shortest head with an argument that doesn't fit the initial byte.
+#[inline(never)]
+fn put_wide_head(major: Major, n: u64, out: &mut Vec<u8>) -> Result<(), AllocError>
+    requires { 24 ≤ n }
+    ensures appended { OnOk result (Appends (IsLeastHead (code major) n) out.old.items out.new.items) }
+    ensures kept { OnErr result (out.new.items ≡ out.old.items) }
+{
+    if n < 256 {
         out.extend_from_slice(&[major.initial_byte(24), n as u8])
     } else if n < 65536 {
         push_two(major.initial_byte(25), n as u16, out)

@@ -11,11 +11,11 @@ ghost use Rattle.cborn_engine.specs.devices.Counting.{read_failures};
 use crate::count_faults::of_any;
 use crate::counted_streams::check_stream;
 use crate::counts::Count;
-use crate::encodings::judge_bytes;
 use crate::faults::EngineFault;
+use crate::judgments::judge_bytes;
 use crate::sources::Source;
-use cborn_departures::{Departure, first_departure};
 use cborn_model::{Defect, KeyOrder, Limit};
+use cborn_transcode::deterministic_front;
 use std::alloc::Global;
 
 /// The first defect of the bytes of an input, if they aren't the deterministic encodings of the
@@ -40,8 +40,8 @@ pub fn check<O: KeyOrder, R: Source>(
 }
 
 /// The first defect of these bytes, or the fault of their content. No fault is the reader's. A defect
-/// is reported only where the bytes hold items; where they hold none, a reason is found. Where memory was
-/// refused, the fault of the bytes is answered if they have one.
+/// is reported only where the bytes hold items; where they hold none, a reason is found. Where memory
+/// was refused, the fault of the bytes is answered if they have one.
 ///
 /// # Errors
 /// The fault of their content, or `OutOfMemory`.
@@ -54,19 +54,9 @@ pub fn check_input<O: KeyOrder>(
     ensures malformed { TellsFault kinds.Wire limit input.now result }
     ensures failures { (n : ℕ) → read_failures result n ≡ n }
 {
-    match first_departure::<O>(alloc, limit, input) {
-        Ok(Departure::Deterministic) => Ok(None),
-        Ok(Departure::First(defect)) => {
-            judge_bytes(alloc, limit, input)?;
-            Ok(Some(defect))
-        }
-        Ok(Departure::Nothing) => {
-            judge_bytes(alloc, limit, input)?;
-            unreachable!()
-        }
-        Err(refused) => {
-            judge_bytes(alloc, limit, input)?;
-            Err(EngineFault::from(refused))
-        }
+    if deterministic_front::<O>(limit, input) == input.len() {
+        return Ok(None);
     }
+    let encoded = judge_bytes::<O>(alloc, limit, input)?;
+    Ok(encoded.defect)
 }

@@ -1,8 +1,7 @@
 //! Reading a whole input, and encoding what it holds. Bytes go by a pass that keeps no tree; where
 //! it answers nothing, what is wrong with them is looked for, without a tree too. A text becomes
 //! bytes first, by such a pass.
-ghost use Rattle.std.specs.Prelude.{◌≡◌, ◌≤◌, ◌+◌, ℕ, None, length, take, IfSome, IfErr, OnOk};
-ghost use Rattle.cborn_flaws.specs.Searching.{IsFirstFlawOf};
+ghost use Rattle.std.specs.Prelude.{◌≡◌, ◌≤◌, ◌+◌, ℕ, None, length, take, IfSome};
 ghost use Rattle.cborn_transcode.specs.Transcoding.{IsTranscoded};
 ghost use Rattle.cborn_engine.specs.declared.kinds.Kind.TheVariants as kinds;
 ghost use Rattle.cborn_engine.specs.devices.Encoding.{EncodeAnswers, IsEncoded, kind_of};
@@ -14,16 +13,15 @@ ghost use Rattle.cborn_engine.specs.Whole.{TellsFault};
 
 use crate::faults::EngineFault;
 use crate::inputs::MOST;
+use crate::judgments::judge_bytes;
 use crate::kinds::{Kind, profile_of};
-use crate::refusals::{fault_of_bytes, fault_or_refusal, flaw_of_text};
+use crate::refusals::flaw_of_text;
 use crate::sources::Source;
 use crate::texts::{HeadWidths, bytes_of_text};
 use crate::whole_inputs::read_bytes;
-use cborn_departures::deterministic_front;
-use cborn_flaws::{Validity, first_flaw};
 use cborn_lex::Profile;
-use cborn_model::{Invalid, KeyOrder, Limit};
-use cborn_transcode::transcode_after;
+use cborn_model::{KeyOrder, Limit};
+use cborn_transcode::{deterministic_front, transcode_after};
 use std::alloc::Global;
 
 /// How many bytes at the front of an input of bytes are the deterministic encodings of items, one
@@ -67,8 +65,8 @@ pub fn encode_input<O: KeyOrder>(
     }
 }
 
-/// What `encode_input` answers of bytes. Where the pass answers nothing, they hold no items, so that
-/// a reason is found. Where memory was refused, the fault of the bytes is answered if they have one.
+/// What `encode_input` answers of bytes. Where the pass answers nothing, they are judged. Where memory
+/// was refused, the fault of the bytes is answered if they have one.
 fn encode_bytes<O: KeyOrder>(
     alloc: Global,
     limit: Limit,
@@ -84,35 +82,13 @@ fn encode_bytes<O: KeyOrder>(
     match transcode_after::<O>(alloc, limit, front, input) {
         Ok(Some(bytes)) => Ok(bytes),
         Ok(None) => {
-            judge_bytes(alloc, limit, input)?;
-            unreachable!()
+            let encoded = judge_bytes::<O>(alloc, limit, input)?;
+            Ok(encoded.bytes)
         }
         Err(refused) => {
-            judge_bytes(alloc, limit, input)?;
+            judge_bytes::<O>(alloc, limit, input)?;
             Err(EngineFault::from(refused))
         }
-    }
-}
-
-/// Looks whether bytes hold items: first for a flaw, and for the fault of bytes that aren't
-/// well-formed only where they are none.
-///
-/// # Errors
-/// The first flaw of the first item that isn't valid, the fault of bytes that aren't well-formed, or
-/// `OutOfMemory`.
-pub fn judge_bytes(alloc: Global, limit: Limit, input: &[u8]) -> Result<(), EngineFault>
-    ensures valid { OnOk result (IsFirstFlawOf limit input.now None) }
-    ensures refused { IfErr result (λ why. length input.now ≤ most_bytes → IsRefused kinds.Wire limit most_bytes input.now why) }
-    ensures malformed { TellsFault kinds.Wire limit input.now result }
-    ensures failures { (n : ℕ) → read_failures result n ≡ n }
-{
-    match first_flaw(alloc, limit, input) {
-        Ok(Validity::Valid) => Ok(()),
-        Ok(Validity::Flaw { place, reason }) => {
-            Err(EngineFault::Invalid(Invalid::Refused { place, reason }))
-        }
-        Ok(Validity::Malformed) => Err(fault_of_bytes(limit, input)),
-        Err(refused) => Err(fault_or_refusal(limit, input, refused)),
     }
 }
 
@@ -135,6 +111,6 @@ fn encode_text<O: KeyOrder>(
     }
     match transcode_after::<O>(alloc, limit, front, &bytes)? {
         Some(encodings) => Ok(encodings),
-        None => Err(flaw_of_text(alloc, limit, profile, input, bytes)),
+        None => Err(flaw_of_text::<O>(alloc, limit, profile, input, bytes)),
     }
 }

@@ -13,9 +13,9 @@
 //! refused; `Loading`, `Showing`, `Comparing` and `Checking` say what the other calls answer.
 //! [`laws`] has the headline in one place. In the code `texts` makes texts and bytes of what was
 //! read, `nodes` makes nodes and `inputs` hands them out. `encodings` encodes a whole input,
-//! `showings` writes it in another form, and `checks` judges it, by passes that keep no tree
-//! (`cborn_transcode`, `cborn_departures`, `cborn_edn`); `refusals` finds out why an
-//! input is refused, where these passes have no answer.
+//! `showings` writes it in another form, and `checks` looks whether it is deterministic, by passes
+//! that keep no tree (`cborn_transcode`, `cborn_edn`). Where these have no answer, `judgments` finds
+//! the first flaw or the first defect of bytes, and `refusals` why an input is refused.
 //! `conversions`, `comparisons` and `checks` have the calls over readers of any number of items,
 //! `counted_streams` those with a count, and `slices` those over inputs that are held whole;
 //! `differences` finds where two encodings differ.
@@ -38,6 +38,7 @@ mod encodings;
 mod faults;
 mod inputs;
 mod items;
+mod judgments;
 mod kinds;
 pub mod laws;
 mod nodes;

@@ -14,10 +14,10 @@ ghost use Rattle.cborn_engine.specs.Reading.{most_bytes};
 ghost use Rattle.cborn_engine.specs.Refusing.{IsRefused};
 
 use crate::faults::EngineFault;
+use crate::judgments::judge_bytes;
 use crate::texts::text_of;
-use cborn_flaws::{Validity, first_flaw};
 use cborn_lex::Profile;
-use cborn_model::{Invalid, Limit};
+use cborn_model::{Invalid, KeyOrder, Limit};
 use cborn_text_places::place_in_text;
 use cborn_wire::{WireFault, scan};
 use std::alloc::{AllocError, Global};
@@ -35,7 +35,7 @@ pub fn fault_of_bytes(limit: Limit, input: &[u8]) -> EngineFault
 
 /// What is answered of bytes where a growth was refused: the fault of those that aren't well-formed,
 /// whatever memory there is; else `OutOfMemory`.
-pub fn fault_or_refusal(limit: Limit, input: &[u8], refused: AllocError) -> EngineFault
+pub fn fault_or_refusal(refused: AllocError, limit: Limit, input: &[u8]) -> EngineFault
     ensures { IsWireFault limit input.now result ⊎ IsWellformed limit input.now × (result ≡ fault.OutOfMemory) }
 {
     match scan(limit, input) {
@@ -46,7 +46,7 @@ pub fn fault_or_refusal(limit: Limit, input: &[u8], refused: AllocError) -> Engi
 
 /// Why a text has no answer that spells these bytes, which hold no items: their first flaw, or that
 /// memory was refused. Their memory is given up before the flaw's place is looked for in the text.
-pub fn flaw_of_text(
+pub fn flaw_of_text<O: KeyOrder>(
     alloc: Global,
     limit: Limit,
     profile: Profile,
@@ -60,11 +60,14 @@ pub fn flaw_of_text(
     ensures refused { length input.now ≤ most_bytes → IsRefused (kind_of profile) limit most_bytes input.now result }
     ensures failures { (n : ℕ) → read_failures_at result n ≡ n }
 {
-    let (place, reason) = match first_flaw(alloc, limit, &bytes) {
-        Ok(Validity::Flaw { place, reason }) => (place, reason),
-        Ok(Validity::Valid) => unreachable!(),
-        Ok(Validity::Malformed) => unreachable!(),
-        Err(refused) => return EngineFault::from(refused),
+    let Err(why) = judge_bytes::<O>(alloc, limit, &bytes) else {
+        unreachable!();
+    };
+    let EngineFault::Invalid(invalid) = why else {
+        return why;
+    };
+    let Invalid::Refused { place, reason } = invalid else {
+        return why;
     };
     let Ok(text) = text_of(input) else {
         unreachable!();

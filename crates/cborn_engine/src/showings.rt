@@ -145,7 +145,7 @@ fn notate_bytes(
 {
     let notated = match show_bytes(alloc, limit, input) {
         Ok(notated) => notated,
-        Err(refused) => return Err(fault_or_refusal(limit, input, refused)),
+        Err(refused) => return Err(fault_or_refusal(refused, limit, input)),
     };
     match notated {
         Notated::Text(answer) => Ok(answer),

@@ -1,5 +1,4 @@
--- The first defect of a node by those of its parts, as the loops of the check meet them.
+-- The first defect of a node: of one without children, of a bignum, and by the order of keys; and what the check says of it.
 pub mod Departing
-pub mod Contents
 pub mod Descending
 pub mod Concluding

@@ -1,7 +1,6 @@
--- The first flaw of a node by those of its parts, as the loops of the judge meet them.
+-- The flaws of a node by those of its parts.
 pub mod Steps
 pub mod Texts
 pub mod Walking
 pub mod Pairing
-pub mod Tagging
 pub mod Sequences

@@ -4,3 +4,4 @@ pub mod FirstFlaw
 pub mod SameKeys
 pub mod Encoded
 pub mod FirstDefect
+pub mod Encoding

@@ -2,3 +2,4 @@
 pub mod Meanings
 pub mod Judging
 pub mod Placing
+pub mod Building

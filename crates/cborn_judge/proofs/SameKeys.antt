@@ -1,6 +1,3 @@
--- Keys of a map are the same exactly if their encodings are equal, and so a search finds the first that is repeated.
--- The keys are collected (`Pushing`), sorted, and compared with their neighbours; codes that rise need no sort.
+-- Keys of a map are the same exactly if their encodings are equal. Once they are sorted, those that are repeated lie next to one another.
 pub mod Repeating
 pub mod Pushing
-pub mod Neighbours
-pub mod Codes

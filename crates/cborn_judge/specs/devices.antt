@@ -1,2 +1,4 @@
-pub mod Places
-pub mod Keeping
+pub mod Building
+pub mod Encoding
+pub mod Marks
+pub mod Encoders

@@ -1,40 +1,27 @@
 //! What nodes mean (RFC 8949 section 5.3), or their first flaw.
 
-ghost use Rattle.std.specs.Prelude.{◌≤◌, ℕ, IfOk, IfErr, OnOk, vec_len};
+ghost use Rattle.std.specs.Prelude.{◌≡◌, ◌++◌, ◌∷◌, [], ℕ, IfOk, IfErr, OnOk};
 ghost use Rattle.std.specs.List.{AllZip};
 ghost use Rattle.cborn_model.specs.declared.heads.Width.{Width};
 ghost use Rattle.cborn_model.specs.declared.heads.Size.{Size};
 ghost use Rattle.cborn_model.specs.Meaning.{Means};
-ghost use Rattle.cborn_model.specs.Spelled.{Fits, FitsAll, FitsEntries};
+ghost use Rattle.cborn_model.specs.Spelled.{Fits};
 ghost use Rattle.cborn_model.specs.Tree as tree;
-ghost use Rattle.cborn_model.specs.Tree.{Tree, trees, entries};
+ghost use Rattle.cborn_model.specs.Tree.{trees, entries};
+ghost use Rattle.cborn_judge.specs.Departures.{FindsDefect};
 ghost use Rattle.cborn_judge.specs.Flaws.{IsRefusal, IsRefusalOfAll};
-ghost use Rattle.cborn_judge.specs.shared.Judged.{IsJudged, IsJudgedPair, IsFirstWith, PairFits};
-ghost use Rattle.cborn_judge.specs.devices.Keeping.{KeepsKey};
+ghost use Rattle.cborn_judge.specs.shared.Checked.{DefectIn};
+ghost use Rattle.cborn_judge.specs.devices.Building.{IsItemOf};
+ghost use Rattle.cborn_judge.specs.devices.Encoding.{IsEncodedAs};
 
-use crate::bignums::{judge_bignum, small_integer};
-use crate::flaws::Flaw;
-use crate::keys::{Keys, cleared};
-use crate::strings::{judge_byte_chunks, judge_bytes, judge_text, judge_text_chunks};
+use crate::bignums::{big_integer, small_integer};
+use crate::encoders::{EncodedItems, Encoder};
+use crate::strings::{bytes_of, bytes_of_chunks, text_of, text_of_chunks};
 use cborn_model::{
-    Form, Invalid, InvalidReason, Item, ItemBox, ItemList, Node, PairList, Spelled, Valid, earlier,
-    earliest,
+    Bytewise, Form, Invalid, Item, ItemBox, ItemList, KeyOrder, Node, PairList, Spelled, Valid,
+    visit_node,
 };
 use std::alloc::{AllocError, Global};
-
-/// What a node means, or its first flaw.
-#[derive(Drop)]
-pub(crate) enum Judged {
-    Valid(Item),
-    Flawed(Flaw),
-}
-
-/// What a pair of nodes means, or their first flaw.
-#[derive(Drop)]
-pub(crate) enum JudgedPair {
-    Valid(Item, Item),
-    Flawed(Flaw),
-}
 
 /// The item that the node means (RFC 8949 section 5.3; bignums: section 3.4.3).
 ///
@@ -45,19 +32,9 @@ pub fn judge(alloc: Global, spelled: &Spelled) -> Result<Valid, Invalid>
     ensures meant { IfOk result (λ valid. Means spelled.now valid) }
     ensures refused { IfErr result (IsRefusal spelled.now) }
 {
-    judge_with(alloc, spelled, &mut Vec::new(alloc))
-}
-
-/// `judge` with buffers to use again: `spare` has those of maps that are done.
-#[inline(always)]
-fn judge_with(alloc: Global, spelled: &Spelled, spare: &mut Vec<Keys>) -> Result<Valid, Invalid>
-    ensures meant { IfOk result (λ valid. Means spelled.now valid) }
-    ensures refused { IfErr result (IsRefusal spelled.now) }
-{
-    match judge_node(alloc, spelled.node(), spare)? {
-        Judged::Valid(item) => Ok(Valid::new(item)),
-        Judged::Flawed(Flaw { place, reason }) => Err(Invalid::Refused { place, reason }),
-    }
+    encode::<Bytewise>(alloc, spelled)?;
+    let item = item_of(alloc, spelled.node())?;
+    Ok(Valid::new(item))
 }
 
 /// The items that the nodes mean, in order (RFC 8949 sections 5.3 and 3.4.3).
@@ -70,179 +47,101 @@ pub fn judge_all(alloc: Global, spelled: &[Spelled]) -> Result<Vec<Valid>, Inval
     ensures refused { IfErr result (IsRefusalOfAll spelled.now) }
 {
     let mut items = Vec::with_capacity(alloc, spelled.len())?;
-    let mut spare = Vec::new(alloc);
     for node in spelled {
-        let item = judge_with(alloc, node, &mut spare)?;
+        let item = judge(alloc, node)?;
         items.push(item)?;
     }
     Ok(items)
 }
 
-/// What the node means. What `spare` holds means nothing: its buffers are used again for the keys
-/// of maps, one for each map that is open at a time.
-#[cycle(judged)]
-#[inline(always)]
-fn judge_node(alloc: Global, node: &Node, spare: &mut Vec<Keys>) -> Result<Judged, AllocError>
-    requires { Fits node.now }
-    ensures { IfOk result (IsJudged node.now) }
+/// The deterministic encoding of the item that the node means, with the keys of maps in the order
+/// `O`, and the node's first defect.
+///
+/// # Errors
+/// Those of [`judge`].
+pub(crate) fn encode<O: KeyOrder>(alloc: Global, spelled: &Spelled) -> Result<EncodedItems, Invalid>
+    ensures fits { Fits spelled.now }
+    ensures encoded { IfOk result (λ encoded. IsEncodedAs O.order spelled.now encoded.bytes.items) }
+    ensures defect { IfOk result (λ encoded. FindsDefect (DefectIn O.order spelled.now) encoded.defect) }
+    ensures refused { IfErr result (IsRefusal spelled.now) }
 {
-    let place = node.place;
-    match &node.form {
-        Form::Uint(_, n) => Ok(Judged::Valid(small_integer(alloc, false, *n)?)),
-        Form::Nint(_, n) => Ok(Judged::Valid(small_integer(alloc, true, *n)?)),
-        Form::Bytes(_, bytes) => judge_bytes(alloc, bytes.as_slice()),
-        Form::Text(_, bytes) => judge_text(alloc, place, bytes.as_slice()),
-        Form::ByteChunks(chunks) => judge_byte_chunks(alloc, chunks),
-        Form::TextChunks(chunks) => judge_text_chunks(alloc, chunks),
-        Form::Items(_, nodes) => judge_items(alloc, nodes, spare),
-        Form::Pairs(_, nodes) => judge_pairs(alloc, nodes, spare),
-        Form::Tagged(_, number, content) => judge_tagged(alloc, place, *number, content, spare),
-        Form::Simple(n) => Ok(Judged::Valid(Item::Simple(*n))),
+    let mut encoder = Encoder::<O>::new(alloc);
+    visit_node(&mut encoder, spelled.node())?;
+    match encoder.finish() {
+        Ok(encoded) => Ok(encoded),
+        Err((place, reason)) => Err(Invalid::Refused { place, reason }),
     }
 }
 
-#[cycle(judged)]
-#[inline(never)]
-fn judge_items(alloc: Global, nodes: &[Node], spare: &mut Vec<Keys>) -> Result<Judged, AllocError>
-    requires { FitsAll (trees nodes.now) }
-    ensures { IfOk result (λ judged. (p : ℕ) (s : Size) → IsJudged (tree.Items p s (trees nodes.now)) judged) }
+/// The item that the node means. Any item if it means none.
+#[cycle(built)]
+#[inline(always)]
+fn item_of(alloc: Global, node: &Node) -> Result<Item, AllocError>
+    ensures { IfOk result (IsItemOf node.now) }
 {
-    let mut first: Option<Flaw> = None;
+    match &node.form {
+        Form::Uint(_, n) => small_integer(alloc, false, *n),
+        Form::Nint(_, n) => small_integer(alloc, true, *n),
+        Form::Bytes(_, bytes) => bytes_of(alloc, bytes.as_slice()),
+        Form::Text(_, bytes) => text_of(alloc, bytes.as_slice()),
+        Form::ByteChunks(chunks) => bytes_of_chunks(alloc, chunks),
+        Form::TextChunks(chunks) => text_of_chunks(alloc, chunks),
+        Form::Items(_, nodes) => array_of(alloc, nodes),
+        Form::Pairs(_, nodes) => map_of(alloc, nodes),
+        Form::Tagged(_, number, content) => tagged_of(alloc, *number, content),
+        Form::Simple(n) => Ok(Item::Simple(*n)),
+    }
+}
+
+/// The array of what these nodes mean.
+#[cycle(built)]
+#[inline(never)]
+fn array_of(alloc: Global, nodes: &[Node]) -> Result<Item, AllocError>
+    ensures { IfOk result (λ item. (p : ℕ) (s : Size) → IsItemOf (tree.Items p s (trees nodes.now)) item) }
+{
     let mut items = Vec::with_capacity(alloc, nodes.len())?;
     for node in nodes {
-        match &node.form {
-            Form::Uint(_, n) => items.push(small_integer(alloc, false, *n)?)?,
-            Form::Nint(_, n) => items.push(small_integer(alloc, true, *n)?)?,
-            _ => match judge_node(alloc, node, spare)? {
-                Judged::Valid(item) => items.push(item)?,
-                Judged::Flawed(flaw) => first = earliest(first, Some(flaw)),
-            },
-        }
+        let item = item_of(alloc, node)?;
+        items.push(item)?;
     }
-    match first {
-        Some(flaw) => Ok(Judged::Flawed(flaw)),
-        None => Ok(Judged::Valid(Item::Items(ItemList::new(items)))),
-    }
+    Ok(Item::Items(ItemList::new(items)))
 }
 
-#[cycle(judged)]
+/// The map of what these nodes mean.
+#[cycle(built)]
 #[inline(never)]
-fn judge_pairs(
-    alloc: Global,
-    nodes: &[(Node, Node)],
-    spare: &mut Vec<Keys>,
-) -> Result<Judged, AllocError>
-    requires { FitsEntries (entries nodes.now) }
-    ensures { IfOk result (λ judged. (p : ℕ) (s : Size) → IsJudged (tree.Pairs p s (entries nodes.now)) judged) }
+fn map_of(alloc: Global, nodes: &[(Node, Node)]) -> Result<Item, AllocError>
+    ensures { IfOk result (λ item. (p : ℕ) (s : Size) → IsItemOf (tree.Pairs p s (entries nodes.now)) item) }
 {
-    let mut first: Option<Flaw> = None;
     let mut pairs = Vec::with_capacity(alloc, nodes.len())?;
-    let mut keys = cleared(alloc, spare);
-    for (position, pair) in nodes.iter().enumerate() {
-        match judge_pair(alloc, position, pair, &mut keys, spare)? {
-            JudgedPair::Valid(key, value) => pairs.push((key, value))?,
-            JudgedPair::Flawed(flaw) => first = earliest(first, Some(flaw)),
-        }
+    for (key, value) in nodes {
+        let key = item_of(alloc, key)?;
+        let value = item_of(alloc, value)?;
+        push_pair(&mut pairs, key, value)?;
     }
-    let repeat = keys.first_repeat(alloc, nodes)?;
-    spare.push(keys)?;
-    match earliest(first, repeat) {
-        Some(flaw) => Ok(Judged::Flawed(flaw)),
-        None => Ok(Judged::Valid(Item::Pairs(PairList::new(pairs)))),
-    }
+    Ok(Item::Pairs(PairList::new(pairs)))
 }
 
-/// What the pair at index `position` means. A key that means something is added to `keys`.
-#[cycle(judged)]
-fn judge_pair(
-    alloc: Global,
-    position: usize,
-    pair: &(Node, Node),
-    keys: &mut Keys,
-    spare: &mut Vec<Keys>,
-) -> Result<JudgedPair, AllocError>
-    requires started { keys.old.last ≤ vec_len keys.old.bytes }
-    requires fits { PairFits pair.now }
-    ensures judged { IfOk result (IsJudgedPair pair.now) }
-    ensures kept { OnOk result (KeepsKey position pair.now keys.old keys.new) }
-{
-    let key = judge_key(alloc, position, &pair.0, keys, spare)?;
-    let value = judge_node(alloc, &pair.1, spare)?;
-    Ok(paired(key, value))
-}
-
-/// What the key at index `position` means. It is added to `keys` if it means something.
-#[cycle(judged)]
-fn judge_key(
-    alloc: Global,
-    position: usize,
-    node: &Node,
-    keys: &mut Keys,
-    spare: &mut Vec<Keys>,
-) -> Result<Judged, AllocError>
-    requires started { keys.old.last ≤ vec_len keys.old.bytes }
-    requires fits { Fits node.now }
-    ensures judged { IfOk result (IsJudged node.now) }
-    ensures kept { OnOk result ((value : Tree) → KeepsKey position (node.now, value) keys.old keys.new) }
-{
-    let judged = judge_node(alloc, node, spare)?;
-    if let Judged::Valid(key) = &judged {
-        keys.push(alloc, key, position)?;
-    }
-    Ok(judged)
-}
-
-/// What a key and its value mean together.
-#[inline(always)]
-fn paired(key: Judged, value: Judged) -> JudgedPair
-    ensures { (n : Tree × Tree) → IsJudged n.0 key → IsJudged n.1 value → IsJudgedPair n result }
-{
-    match key {
-        Judged::Valid(key) => match value {
-            Judged::Valid(value) => JudgedPair::Valid(key, value),
-            Judged::Flawed(flaw) => JudgedPair::Flawed(flaw),
-        },
-        Judged::Flawed(flaw) => JudgedPair::Flawed(first_flaw(flaw, &value)),
-    }
-}
-
-/// What a tag at the offset `place` means.
-#[cycle(judged)]
+/// Adds a pair. Not inlined, so that a level of a map takes less stack.
 #[inline(never)]
-fn judge_tagged(
-    alloc: Global,
-    place: u64,
-    number: u64,
-    content: &Node,
-    spare: &mut Vec<Keys>,
-) -> Result<Judged, AllocError>
-    requires { Fits content.now }
-    ensures { IfOk result (λ judged. (w : Width) → IsJudged (tree.Tagged place w number content.now) judged) }
+fn push_pair(pairs: &mut Vec<(Item, Item)>, key: Item, value: Item) -> Result<(), AllocError>
+    ensures { OnOk result (pairs.new.items ≡ pairs.old.items ++ (key, value) ∷ []) }
 {
-    if number == 2 || number == 3 {
-        if let Some(item) = judge_bignum(alloc, number == 3, content)? {
-            return Ok(Judged::Valid(item));
-        }
-        let judged = judge_node(alloc, content, spare)?;
-        let reason = InvalidReason::BadBignum;
-        let flaw = first_flaw(Flaw { place, reason }, &judged);
-        return Ok(Judged::Flawed(flaw));
-    }
-    match judge_node(alloc, content, spare)? {
-        Judged::Valid(item) => {
-            let content = ItemBox::new(alloc, item)?;
-            Ok(Judged::Valid(Item::Tagged(number, content)))
-        }
-        Judged::Flawed(flaw) => Ok(Judged::Flawed(flaw)),
-    }
+    pairs.push((key, value))?;
+    Ok(())
 }
 
-/// The first of a flaw and of that of what was judged next, if that has one.
-fn first_flaw(flaw: Flaw, next: &Judged) -> Flaw
-    ensures { IsFirstWith flaw next.now result }
+/// The tag of this number over what its content means, or the integer of a bignum (RFC 8949 section
+/// 3.4.3).
+#[cycle(built)]
+#[inline(never)]
+fn tagged_of(alloc: Global, number: u64, content: &Node) -> Result<Item, AllocError>
+    ensures { IfOk result (λ item. (p : ℕ) (w : Width) → IsItemOf (tree.Tagged p w number content.now) item) }
 {
-    match next {
-        Judged::Valid(_) => flaw,
-        Judged::Flawed(next) => earlier(flaw, *next),
+    if let Some(item) = big_integer(alloc, number, content)? {
+        return Ok(item);
     }
+    let item = item_of(alloc, content)?;
+    let content = ItemBox::new(alloc, item)?;
+    Ok(Item::Tagged(number, content))
 }

@@ -1,11 +1,14 @@
 //! What items mean: validity, and the check for the deterministic encoding (RFC 8949 sections 4.2
 //! and 5.3).
 //!
-//! Two questions are answered about a node. *Does it mean an item?* [`judge`] gives the item, or
-//! the first flaw: `judgments` goes through the node, and `strings`, `bignums` and `keys` with
-//! `repeats` judge what has rules of its own. *Does it spell the deterministic encoding of that
-//! item?* [`first_defect`] goes through the node and its item together (`checks`), and `spellings`
-//! looks at its heads. Flaws and defects, and which of two comes first, are those of `cborn_model`.
+//! Two questions are answered about items. *Do they mean something?* *Do they spell their
+//! deterministic encodings?* One visitor answers both, whatever the items are read from:
+//! [`Encoder`] takes them head by head, writes what they are encoded as, and keeps the first flaw
+//! and the first defect. `levels` and `pairs` are what it keeps of open containers, `ends` says how
+//! these end, and `spellings` has the defects of single heads. [`judge`] hands it a node, and builds
+//! the item of one that means something (`judgments`, `strings`, `bignums`); [`first_defect`] tells
+//! the first defect of a node (`checks`). Flaws and defects, and which of two comes first, are those
+//! of `cborn_model`.
 //!
 //! A reader of the definitions starts at `specs/Flaws.antt` (what is wrong with a node, and what
 //! comes first) and `specs/Defects.antt` (where a spelling departs from the deterministic
@@ -16,15 +19,19 @@
 
 mod bignums;
 mod checks;
+mod encoders;
+mod ends;
 mod flaws;
 mod judgments;
-mod keys;
 pub mod laws;
-mod repeats;
+mod levels;
+mod marks;
+mod pairs;
 mod spellings;
 mod strings;
 
 pub use cborn_model::{Defect, DefectReason, Fault, Invalid, InvalidReason, earlier, earliest};
 pub use checks::first_defect;
+pub use encoders::{EncodedItems, Encoder};
 pub use judgments::{judge, judge_all};
 pub use spellings::{head_defect, loose_defect, order_defect};

@@ -1,18 +1,12 @@
 //! The defects of heads, strings, bignums and keys. Passes that keep no node use those of one head,
 //! of one bignum and of one key.
 
-ghost use Rattle.std.specs.Prelude.{◌≡◌, ◌⊎◌, ◌↔◌, IfOk, IsTrue, List, ℕ};
-ghost use Rattle.std.proofs.Common.{Ordering};
-ghost use Rattle.cborn_model.specs.Meaning.{IsByteString};
+ghost use Rattle.std.specs.Prelude.{◌↔◌, IsTrue};
 ghost use Rattle.cborn_judge.specs.Departures.{FindsDefect, LongAt, LooseBytesAt, NotAboveAt};
-ghost use Rattle.cborn_judge.specs.shared.Checked.{SizeAt, TagDefect};
-ghost use Rattle.cborn_judge.specs.Defects.{ChunksDefect, IsLoose};
+ghost use Rattle.cborn_judge.specs.shared.Checked.{SizeAt};
+ghost use Rattle.cborn_judge.specs.Defects.{IsLoose};
 
-use crate::strings::join;
-use cborn_model::{
-    Chunk, Defect, DefectReason, Form, KeyOrder, Node, Size, Width, earliest, shortest,
-};
-use std::alloc::{AllocError, Global};
+use cborn_model::{Defect, DefectReason, KeyOrder, Size, Width, shortest};
 
 /// The defect of a head at the offset `place` with the argument `n`, if it is not the shortest (RFC
 /// 8949 section 4.2.1).
@@ -37,48 +31,6 @@ pub(crate) fn size_defect(place: u64, size: Size, n: u64) -> Option<Defect>
             let reason = DefectReason::EndlessLength;
             Some(Defect { place, reason })
         }
-    }
-}
-
-/// The first defect of a string in these chunks at `place`.
-pub(crate) fn chunks_defect(place: u64, chunks: &[Chunk]) -> Option<Defect>
-    ensures { FindsDefect (ChunksDefect place chunks.now) result }
-{
-    let reason = DefectReason::EndlessLength;
-    let mut first = Some(Defect { place, reason });
-    for chunk in chunks {
-        let next = head_defect(
-            chunk.place,
-            chunk.width,
-            chunk.bytes.as_slice().len() as u64,
-        );
-        first = earliest(first, next);
-    }
-    first
-}
-
-/// The first defect of tag 2 or 3 at `place`, but for its head's, and of its content, a byte
-/// string.
-pub(crate) fn bignum_defect(
-    alloc: Global,
-    place: u64,
-    content: &Node,
-) -> Result<Option<Defect>, AllocError>
-    ensures { IfOk result (λ defect. (order : List ℕ → List ℕ → Ordering) (n : ℕ) (b : List ℕ) → (n ≡ 2) ⊎ (n ≡ 3) → IsByteString content.now b → FindsDefect (TagDefect order place n content.now) defect) }
-{
-    match &content.form {
-        Form::Bytes(width, bytes) => {
-            let own = loose_defect(place, bytes.as_slice());
-            let inner = head_defect(content.place, *width, bytes.as_slice().len() as u64);
-            Ok(earliest(own, inner))
-        }
-        Form::ByteChunks(chunks) => {
-            let bytes = join(alloc, chunks)?;
-            let own = loose_defect(place, &bytes);
-            let inner = chunks_defect(content.place, chunks);
-            Ok(earliest(own, inner))
-        }
-        _ => Ok(None),
     }
 }
 

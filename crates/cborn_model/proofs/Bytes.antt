@@ -1,5 +1,5 @@
 -- Bytes one after another are bytes.
-use Rattle.std.proofs.Common.{ℕ, List, [], ◌∷◌, ◌++◌}
+use Rattle.std.proofs.Common.{ℕ, suc, List, [], ◌∷◌, ◌++◌, get_or, Fits, w8, arith}
 use Rattle.cborn_model.specs.Bytes.{AreBytes}
 
 pub bytes-append : (x y : List ℕ) → AreBytes x → AreBytes y → AreBytes (x ++ y)
@@ -13,3 +13,8 @@ bytes-left (b ∷ x) y h = (h.0, bytes-left x y h.1)
 pub bytes-right : (x y : List ℕ) → AreBytes (x ++ y) → AreBytes y
 bytes-right [] y h = h
 bytes-right (b ∷ x) y h = bytes-right x y h.1
+
+-- the elements of a slice of bytes are bytes
+pub are_bytes : (x : List ℕ) → ((i : ℕ) → Fits w8 (get_or x i 0)) → AreBytes x
+are_bytes [] h = tt
+are_bytes (b ∷ x) h = (omega (arith, h 0), are_bytes x (λ i. h (suc i)))

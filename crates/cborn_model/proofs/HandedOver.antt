@@ -13,8 +13,8 @@ use Rattle.cborn_model.specs.declared.heads.Size.{Size}
 use Rattle.cborn_model.specs.declared.heads.Size.TheVariants.{Fixed, Endless}
 use Rattle.cborn_model.specs.declared.visitors.StringKind.{StringKind}
 use Rattle.cborn_model.specs.declared.visitors.StringKind.TheVariants.{OfBytes, OfText}
-use Rattle.cborn_model.specs.Tree.{Tree, Items, Pairs, trees, entries, depth, depth_all, depth_entries}
-use Rattle.cborn_model.specs.Partial.{Partial, Opening, a_map, in_chunks, inside, put, paired, last_key, chunks_of, chunks_tree, built, IsMore, IsAll, AreStrings, Ends, IsFree, Proper, TakesString}
+use Rattle.cborn_model.specs.Tree.{Tree, Bytes, Text, Items, Pairs, trees, entries, depth, depth_all, depth_entries}
+use Rattle.cborn_model.specs.Partial.{Partial, Opening, a_map, in_chunks, inside, put, paired, last_key, chunk_of, chunks_of, chunks_tree, built, IsMore, IsAll, IsString, AreStrings, Ends, IsFree, Proper, TakesString}
 use Rattle.cborn_model.specs.shared.Walks.{flat, string_of, count_of}
 
 -- fewer than all are there
@@ -79,6 +79,15 @@ pub strings : (k : StringKind) (cs : List Chunk) → AreStrings k (map (string_o
 strings k [] = (tt, refl)
 strings OfBytes (c ∷ cs) = let h = strings OfBytes cs in ((tt, h.0), ap (λ l. c ∷ l) h.1)
 strings OfText (c ∷ cs) = let h = strings OfText cs in ((tt, h.0), ap (λ l. c ∷ l) h.1)
+
+string_is : (k : StringKind) (t : Tree) → IsString k t → string_of k (chunk_of t) ≡ t
+string_is OfBytes (Bytes p w x) h = refl
+string_is OfText (Text p w x) h = refl
+string_is k t h = absurd h
+
+pub strings_are : (k : StringKind) (ts : List Tree) → AreStrings k ts → map (string_of k) (chunks_of ts) ≡ ts
+strings_are k [] h = refl
+strings_are k (t ∷ ts) h = ap (λ u. u ∷ map (string_of k) (chunks_of ts)) (string_is k t h.0) ∙ ap (λ us. t ∷ us) (strings_are k ts h.1)
 
 -- one more chunk
 pub chunk_over : (A B : Partial → Type 0) (k : StringKind) (xs : List Chunk) (i : ℕ) (x : Chunk) → i < length xs → x ≡ get_or xs i x

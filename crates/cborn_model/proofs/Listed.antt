@@ -4,3 +4,4 @@ pub mod Fitting
 pub mod Values
 pub mod Validating
 pub mod Deciding
+pub mod Meanings

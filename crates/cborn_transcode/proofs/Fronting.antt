@@ -13,7 +13,7 @@ use Rattle.cborn_judge.proofs.Meaning.Meanings.{all_valid}
 use Rattle.cborn_wire.proofs.Parts.Nodes.{node_as}
 use Rattle.cborn_transcode.specs.Transcoding.{ItemTranscoded, ItemsTranscoded, IsTranscoded}
 use Rattle.cborn_transcode.specs.shared.Walking.{ItemWalked, ItemsWalked}
-use Rattle.cborn_transcode.proofs.Lists.{all_mean}
+use Rattle.cborn_model.proofs.Listed.Meanings.{all_mean}
 use Rattle.cborn_wire.proofs.Parts.Openings.{one_front}
 
 module _ (order : List ℕ → List ℕ → Ordering) where

@@ -9,6 +9,8 @@ pub mod Walking
 pub mod Walked
 pub mod Standing
 pub mod Fronting
+pub mod Following
+pub mod Lacking
 pub mod Halves
 pub mod Missing
 pub mod Hooks

@@ -3,9 +3,10 @@ use Rattle.std.proofs.Common.{◌≡◌, ℕ, suc, ◌+◌, List, [], ◌∷◌,
 use Rattle.std.specs.List.{AllZip}
 use Rattle.cborn_model.specs.declared.heads.Size.{Size}
 use Rattle.cborn_model.specs.Heads.{IsLeastHead}
-use Rattle.cborn_model.specs.Meaning.{Means, AllMean}
+use Rattle.cborn_model.specs.Meaning.{Means}
 use Rattle.cborn_model.specs.Tree.{Tree, Items, trees}
 use Rattle.cborn_model.specs.Value.{Value, array, values_of}
+use Rattle.cborn_model.proofs.Listed.Meanings.{all_mean}
 use Rattle.cborn_model.proofs.Listed.Values.{value_count-values_of}
 use Rattle.cborn_det.specs.Det.{DetSeq}
 use Rattle.cborn_det.proofs.Steps.{values_of_seq}
@@ -24,12 +25,6 @@ zip_count [] [] h = refl
 zip_count [] (v ∷ vs) h = absurd h
 zip_count (t ∷ ts) [] h = absurd h
 zip_count (t ∷ ts) (v ∷ vs) h = ap suc (zip_count ts vs h.1)
-
-pub all_mean : (ts : List Tree) (vs : List Value) → AllZip Means ts vs → AllMean (trees ts) (values_of vs)
-all_mean [] [] h = tt
-all_mean [] (v ∷ vs) h = absurd h
-all_mean (t ∷ ts) [] h = absurd h
-all_mean (t ∷ ts) (v ∷ vs) h = (h.0, all_mean ts vs h.1)
 
 module _ (order : List ℕ → List ℕ → Ordering) where
   det_append : (vs ws : List Value) (x y : List ℕ) → DetSeq order vs x → DetSeq order ws y → DetSeq order (vs ++ ws) (x ++ y)

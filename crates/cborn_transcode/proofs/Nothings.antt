@@ -14,17 +14,6 @@ use Rattle.cborn_descent.proofs.Inside.{Next, next_at_end, some_byte}
 use Rattle.cborn_transcode.specs.Transcoding.{MeansNothing, HoldsNoItem, HoldsNoItems}
 use Rattle.cborn_transcode.specs.devices.Blaming.{Blamed}
 
--- ---- one item
-
-pub malformed_item : (room : ℕ) (input : List ℕ) → Only Never room input → HoldsNoItem room input
-unfolding Only HoldsNoItem
-malformed_item room input only rest t v m = only rest t
-
-pub blamed_item : {E : Type 0} (refused : Option E) (room : ℕ) (input : List ℕ) → refused ≡ None → Only (Blamed refused) room input → HoldsNoItem room input
-unfolding Only HoldsNoItem
-blamed_item None room input e only rest t = only rest t
-blamed_item (Some x) room input e only rest t = cc
-
 -- ---- items up to the end
 
 zipped : (front back : List Tree) (t : Tree) (vs : List Value) → AllZip Means (front ++ t ∷ back) vs → (v : Value) × Means t v

@@ -1,5 +1,5 @@
 -- Pairs one after another, and maps of them.
-use Rattle.std.proofs.Common.{◌≡◌, ℕ, ◌+◌, ◌-◌, ◌≤◌, List, [], ◌∷◌, ◌++◌, length, refl, sym, ap, ◌∙◌, subst, arith, append_assoc, append-nil, length-append, Ordering, Less, false, true≢false, is_eq, IsPermutation}
+use Rattle.std.proofs.Common.{◌≡◌, ℕ, ◌+◌, ◌-◌, ◌≤◌, List, [], ◌∷◌, ◌++◌, length, refl, sym, ap, ◌∙◌, subst, arith, append_assoc, length-append, Ordering, Less, false, true≢false, is_eq, IsPermutation}
 use Rattle.std.specs.List.{AllByRecursion, IsDistinct}
 use Rattle.std.proofs.lemmas.List.Sorted.{IsPermutation-sym}
 use Rattle.std.proofs.lemmas.Map.Keys.{IsDistinct-IsPermutation}
@@ -16,7 +16,7 @@ use Rattle.cborn_model.specs.Meaning.{Means, EntriesMean}
 use Rattle.cborn_model.specs.Orders.{IsKeyOrder, Rising}
 use Rattle.cborn_model.proofs.Listed.Trees.{count_entries-entries}
 use Rattle.cborn_wire.specs.Parts.{Pair}
-use Rattle.cborn_wire.proofs.Parts.Pairs.{no_pair, entry_more, map_read}
+use Rattle.cborn_wire.proofs.Parts.Pairs.{entry_more, map_read}
 use Rattle.cborn_judge.proofs.Meaning.Meanings.{Short, left, entries_valid}
 use Rattle.cborn_det.specs.Det.{Det, DetPairs, Entry, joined, keys}
 use Rattle.cborn_det.specs.shared.Distinct.{HasDistinctKeys}
@@ -42,9 +42,6 @@ mean_more (o ∷ ns) (q ∷ ps) n p m f g = (m.0, m.1, mean_more ns ps n p m.2 f
 module _ (order : List ℕ → List ℕ → Ordering) where
   pub pair_encoded : (ns : List Pair) (es : List Entry) (n : Pair) (e : Entry) → ArePairsEncodedAs order ns es → IsEncodedAs order n.0 e.0 → IsEncodedAs order n.1 e.1 → ArePairsEncodedAs order (ns ++ n ∷ []) (es ++ e ∷ [])
   pair_encoded ns es n e s k v = (s.0 ++ (k.0, v.0) ∷ [], mean_more ns s.0 n (k.0, v.0) s.1 k.1 v.1, pairs_push order s.0 (k.0, v.0) es e s.2 k.2 v.2)
-
-  pub pairs_none : (room : ℕ) (input old : List ℕ) → PairsTranscoded order room 0 [] input input old old
-  pairs_none room input old = no_pair (record { es = []; encoded = ([], tt, tt); laid = tt; written = sym (append-nil old) })
 
   -- the entries of one pair more
   pub written_more : (spans : List Span) (span : Span) (ns : List Pair) (n : Pair) (old some most new : List ℕ) → ArePairsWritten order spans old some ns → Appends (IsEncodedAs order n.0) some most → Appends (IsEncodedAs order n.1) most new

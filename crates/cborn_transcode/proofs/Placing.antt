@@ -1,19 +1,14 @@
 -- What nodes mean does not depend on where they are.
-use Rattle.std.proofs.Common.{◌≡◌, ℕ, suc, ◌+◌, inl, inr, List, [], ◌∷◌, ◌++◌, length, Bool, true, false, refl, sym, ap, ◌∙◌, Ordering}
-use Rattle.std.specs.List.{AllZip}
+use Rattle.std.proofs.Common.{◌≡◌, ℕ, suc, ◌+◌, inl, inr, List, [], ◌∷◌, ◌++◌, length, Bool, true, false, refl, sym, ap, ◌∙◌}
 use Rattle.cborn_model.specs.declared.nodes.Chunk.{Chunk}
 use Rattle.cborn_model.specs.declared.heads.Major.{Major}
 use Rattle.cborn_model.specs.declared.heads.Major.TheVariants.{ByteString, TextString, Array, Map, Tag}
 use Rattle.cborn_model.specs.Heads.{Given, head, argument}
-use Rattle.cborn_model.specs.Tree.{Tree, Uint, Nint, Bytes, Text, ByteChunks, TextChunks, Items, Pairs, Tagged, Simple, Trees, no_item, more, Entries, no_entry, entry, trees, count, count_entries}
-use Rattle.cborn_model.specs.Spelled.{chunk_bytes, spelled, Wellformed}
-use Rattle.cborn_model.specs.Placed.{PlacedAll}
+use Rattle.cborn_model.specs.Tree.{Tree, Uint, Nint, Bytes, Text, ByteChunks, TextChunks, Items, Pairs, Tagged, Simple, Trees, no_item, more, Entries, no_entry, entry, count, count_entries}
+use Rattle.cborn_model.specs.Spelled.{chunk_bytes, spelled}
 use Rattle.cborn_model.specs.Value.{Value, Values, Couples, bytes, text, no_values, value, no_pairs, pair}
 use Rattle.cborn_model.specs.Meaning.{Means, AllMean, EntriesMean, IsByteString, IsBignum, ChunksAreText, joined_chunks}
 use Rattle.cborn_wire.specs.Places.{chunks_from, placed_from, all_from, entries_from}
-use Rattle.cborn_wire.proofs.Spelled.OneReading.{listed_reading}
-use Rattle.cborn_wire.proofs.Spelled.TreeLists.{tree_list}
-use Rattle.cborn_transcode.specs.Transcoding.{IsTranscoded}
 
 joined-from : (m : Major) (cs : List Chunk) (p : ℕ) → joined_chunks (chunks_from m p cs) ≡ joined_chunks cs
 joined-from m [] p = refl
@@ -65,21 +60,3 @@ mutual
   entries_mean-from (entry k v es) p no_pairs h = absurd h
   entries_mean-from (entry k v es) p (pair a b ps) h =
       (means-from k p a h.0, means-from v (p + length (spelled k)) b h.1, entries_mean-from es (p + length (spelled k) + length (spelled v)) ps h.2)
-
-zip-from : (ts : List Tree) (p : ℕ) (vs : List Value) → AllZip Means ts vs → AllZip Means (tree_list (all_from p (trees ts))) vs
-zip-from [] p [] h = tt
-zip-from [] p (v ∷ vs) h = absurd h
-zip-from (t ∷ ts) p [] h = absurd h
-zip-from (t ∷ ts) p (v ∷ vs) h = (means-from t p v h.0, zip-from ts (p + length (spelled t)) vs h.1)
-
--- the nodes of what was normalised, each at its place
-pub record Placements (limit : ℕ) (input : List ℕ) (items : List Value) : Type 0 where
-  pub nodes : List Tree
-  pub read : Wellformed limit (trees nodes) input
-  pub placed : PlacedAll 0 (trees nodes)
-  pub meant : AllZip Means nodes items
-
-pub placements : (order : List ℕ → List ℕ → Ordering) (limit : ℕ) (input output : List ℕ) (n : IsTranscoded order limit input output) → Placements limit input n.items
-placements order limit input output n =
-    let (read, placed) = listed_reading limit 0 (trees n.nodes) input n.read in
-    record { nodes = tree_list (all_from 0 (trees n.nodes)); read = read; placed = placed; meant = zip-from n.nodes 0 n.items n.meant }

@@ -16,7 +16,7 @@ use Rattle.cborn_det.specs.Appending.{Appends}
 use Rattle.cborn_transcode.specs.declared.entries.Span.{Span}
 use Rattle.cborn_wire.specs.declared.heads.Argument.{Argument}
 use Rattle.cborn_wire.specs.declared.heads.Argument.TheVariants as arguments
-use Rattle.cborn_wire.specs.Parts.{Pair, Leaves, StringRead, ChunkRead, ChunksRead, NodeRead, NodesRead, PairsRead}
+use Rattle.cborn_wire.specs.Parts.{Pair, StringRead, ChunkRead, ChunksRead, NodeRead, NodesRead, PairsRead}
 
 -- ---- what nodes are encoded as
 
@@ -99,10 +99,6 @@ module _ (order : List ℕ → List ℕ → Ordering) (room : ℕ) where
   -- a node no deeper than the room; the encoding of what it means is written
   abbrev pub ItemTranscoded : List ℕ → List ℕ → List ℕ → List ℕ → Type 0
   ItemTranscoded input rest old new = NodeRead (λ t. Appends (IsEncodedAs order t) old new) room input rest
-
-  -- such a node, after which so many bytes are left
-  abbrev pub ItemLeaves : List ℕ → ℕ → List ℕ → List ℕ → Type 0
-  ItemLeaves input left old new = Leaves (λ rest. ItemTranscoded input rest old new) left
 
   -- n nodes one after another
   abbrev pub ItemsTranscoded : ℕ → List ℕ → List ℕ → List ℕ → List ℕ → Type 0

@@ -9,7 +9,6 @@ ghost use Rattle.cborn_transcode.specs.devices.Blaming.{Blamed, blamed_rises};
 
 use crate::arranging::arrange;
 use crate::entries::{Span, Unarranged, push_span};
-use crate::key_notes::KeyNotes;
 use crate::leaves::{is_bad_text, joined_len, put_bignum, put_string, put_string_head, set_string};
 use crate::places::{Great, put_great};
 use crate::runs::put_run;
@@ -21,9 +20,8 @@ use std::marker::PhantomData;
 
 /// Writes the deterministic encoding of what a descent reads at the end of a buffer.
 #[derive(Drop)]
-pub(crate) struct Encoder<'n, O, N> {
+pub(crate) struct Encoder<O> {
     alloc: Global,
-    notes: &'n mut N,
     /// Where it stopped since memory was refused, the error of that growth. Where it stopped at what
     /// means nothing, none.
     pub refused: Option<AllocError>,
@@ -54,15 +52,14 @@ pub(crate) struct OpenMap {
     pub spans: Vec<Span>,
 }
 
-impl<'n, O: KeyOrder, N: KeyNotes<O>> Encoder<'n, O, N> {
+impl<O: KeyOrder> Encoder<O> {
     /// Writes at the end of `out`.
     #[inline(always)]
-    pub(crate) fn new(alloc: Global, notes: &'n mut N, out: Vec<u8>) -> Encoder<'n, O, N>
+    pub(crate) fn new(alloc: Global, out: Vec<u8>) -> Encoder<O>
         ensures { result.out.items ≡ out.items }
     {
         Encoder {
             alloc,
-            notes,
             refused: None,
             out,
             order: PhantomData,
@@ -70,7 +67,7 @@ impl<'n, O: KeyOrder, N: KeyNotes<O>> Encoder<'n, O, N> {
     }
 }
 
-impl<'n, O: KeyOrder, N: KeyNotes<O>> Sink for Encoder<'n, O, N> {
+impl<O: KeyOrder> Sink for Encoder<O> {
     type Chunks = OpenString;
 
     type Array = usize;
@@ -297,28 +294,16 @@ impl<'n, O: KeyOrder, N: KeyNotes<O>> Sink for Encoder<'n, O, N> {
         started: &mut OpenMap,
         _index: u64,
         _may_end: bool,
-        bytes: &[u8],
+        _bytes: &[u8],
     ) -> Option<()> {
         started.key = self.out.len();
-        match self.notes.enter(bytes.len()) {
-            Ok(()) => Some(()),
-            Err(e) => {
-                self.refused = Some(e);
-                None
-            }
-        }
+        Some(())
     }
 
     #[inline(always)]
-    fn before_value(&mut self, started: &mut OpenMap, bytes: &[u8], left: usize) -> Option<()> {
+    fn before_value(&mut self, started: &mut OpenMap, _bytes: &[u8], _left: usize) -> Option<()> {
         started.middle = self.out.len();
-        match self.notes.leave(bytes, left, &self.out[started.key..]) {
-            Ok(()) => Some(()),
-            Err(e) => {
-                self.refused = Some(e);
-                None
-            }
-        }
+        Some(())
     }
 
     #[inline(always)]

@@ -21,32 +21,26 @@
 //! * `entries`: where the pairs of a map lie, and how two of them compare.
 //! * `arranging`: the pairs of a map, so arranged that their keys rise.
 //! * `places`: the pairs of a great map, by where they are in the input.
-//! * `walked_leaves` and `walked_integers`: items without children that are their own encodings,
-//!   read in place.
-//! * `key_notes`: what is noted of keys on the way, as which are open (`open_keys`).
-//! * `items`: an item or a key at the front; `passes`: a whole input.
+//! * `walked_leaves`, `walked_integers` and `walked_bignums`: items without children that are their own
+//!   encodings, read in place.
+//! * `fronts`: how far bytes are their own encodings.
+//! * `passes`: a whole input.
 //!
-//! Where the front of an input is deterministic already, [`transcode_after`] copies it and goes on from
-//! there.
+//! [`deterministic_front`] gives the length of the longest front that is deterministic already, and
+//! [`split_item`] one such item. [`transcode_after`] copies such a front and goes on from there.
 #![tactic(auto)]
 
 mod arranging;
 mod encodings;
 mod entries;
-mod items;
-mod key_notes;
+mod fronts;
 mod leaves;
-mod open_keys;
 mod passes;
 mod places;
 mod runs;
+mod walked_bignums;
 mod walked_integers;
 mod walked_leaves;
 
-pub use entries::rises_above;
-pub use items::{put_item, put_key};
-pub use key_notes::{KeyNotes, NoNotes};
-pub use open_keys::OpenKeys;
-pub use passes::{transcode, transcode_after, transcode_item};
-pub use walked_integers::int_len;
-pub use walked_leaves::{read_least, walk_leaf};
+pub use fronts::{deterministic_front, split_item};
+pub use passes::{transcode, transcode_after};

@@ -1,12 +1,9 @@
 //! A whole input.
 
 ghost use Rattle.std.specs.Prelude.{ℕ, ◌≤◌, [], length, take, drop, IfOk, MatchOption};
-ghost use Rattle.cborn_transcode.specs.Transcoding.{ItemTranscoded, ItemsTranscoded, IsTranscoded, HoldsNoItem, HoldsNoItems};
+ghost use Rattle.cborn_transcode.specs.Transcoding.{ItemsTranscoded, IsTranscoded, HoldsNoItems};
 
 use crate::encodings::Encoder;
-use crate::items::put_item;
-use crate::key_notes::NoNotes;
-use crate::open_keys::OpenKeys;
 use cborn_descent::{Descent, descend};
 use cborn_model::{KeyOrder, Limit};
 use cborn_wire::last;
@@ -48,26 +45,6 @@ pub fn transcode_after<O: KeyOrder>(
     put_all::<O>(alloc, limit.get(), front, bytes)
 }
 
-/// Appends the deterministic encoding of the item at the front of the bytes, which is no deeper than
-/// `room`, the keys of maps in the order `O` (RFC 8949 section 4.2); answers what follows it, which
-/// isn't looked at. None where no such item is there. Then, and after an error, nothing is
-/// promised of what `out` holds, and `open` has the keys that hold the place where it stopped.
-///
-/// # Errors
-/// A growth of the memory was refused.
-pub fn transcode_item<'a, O: KeyOrder>(
-    alloc: Global,
-    open: &mut OpenKeys,
-    room: u64,
-    bytes: &'a [u8],
-    out: &mut Vec<u8>,
-) -> Result<Option<&'a [u8]>, AllocError>
-    requires { room ≤ 1024 }
-    ensures { IfOk result (λ found. MatchOption found (HoldsNoItem room bytes.now) (λ rest. ItemTranscoded O.order room bytes.now rest.now out.old.items out.new.items)) }
-{
-    put_item::<O, OpenKeys>(alloc, open, room, bytes, out)
-}
-
 /// The first `front` bytes as they are, and after them the encodings of the items that the others
 /// hold, none deeper than `room`. None where these hold no such items.
 ///
@@ -86,8 +63,7 @@ fn put_all<O: KeyOrder>(
     let mut out = Vec::with_capacity(alloc, bytes.len())?;
     let (own, others) = bytes.split_at(front);
     out.extend_from_slice(own)?;
-    let mut notes = NoNotes;
-    let mut encoder: Encoder<O, NoNotes> = Encoder::new(alloc, &mut notes, out);
+    let mut encoder = Encoder::<O>::new(alloc, out);
     let mut rest = others;
     'items: while !rest.is_empty() {
         match descend(&mut encoder, room, rest) {

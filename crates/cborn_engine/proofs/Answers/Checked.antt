@@ -1,25 +1,31 @@
 -- The first defect of the nodes of an input is the verdict on the input.
-use Rattle.std.proofs.Common.{◌<◌, ◌^◌, ℕ, List, [], ◌∷◌, length, Some, Ordering, sym, subst}
-use Rattle.std.specs.List.{AllByRecursion}
-use Rattle.cborn_model.specs.Tree.{trees}
+use Rattle.std.proofs.Common.{◌<◌, ◌^◌, ℕ, List, length, Option, None, Some, Ordering, sym, subst}
+use Rattle.std.specs.List.{AllZip}
+use Rattle.cborn_model.specs.Meaning.{Means}
+use Rattle.cborn_model.specs.Tree.{Tree, trees}
 use Rattle.cborn_model.specs.Orders.{IsKeyOrder}
 use Rattle.cborn_model.specs.Placed.{PlacedAll}
 use Rattle.cborn_model.specs.Value.{Value, values_of}
-use Rattle.cborn_model.specs.Valid.{IsProper, AreProper}
 use Rattle.cborn_det.specs.Det.{DetValues}
-use Rattle.cborn_det.proofs.Steps.{values_of_seq}
+use Rattle.cborn_det.proofs.Steps.{seq_of_values, values_of_seq}
 use Rattle.cborn_model.specs.declared.defects.Defect.{Defect as Found}
-use Rattle.cborn_judge.specs.Defects.{IsFirstOfSequence}
-use Rattle.cborn_judge.proofs.Encoded.Checking.{check_sequence_whole}
-use Rattle.cborn_transcode.proofs.Lists.{all_mean}
+use Rattle.cborn_model.specs.declared.defects.DefectReason.{DefectReason}
+use Rattle.cborn_judge.specs.Defects.{IsFirstOfSequence, SequenceDefect}
+use Rattle.cborn_judge.specs.Departures.{FindsDefect}
+use Rattle.cborn_judge.specs.shared.Checked.{DefectInAll}
+use Rattle.cborn_judge.proofs.Encoded.Checking.{check_sequence_sound, check_sequence_whole}
+use Rattle.cborn_judge.proofs.FirstDefect.Departing.{alike}
+use Rattle.cborn_model.proofs.Listed.Meanings.{all_mean, are_proper}
 use Rattle.cborn_engine.specs.declared.kinds.Kind.TheVariants as kind
 use Rattle.cborn_engine.specs.Holding.{Holds}
 use Rattle.cborn_engine.specs.Checking.{Verdict}
 use Rattle.cborn_engine.proofs.Held.Meant.{held_is_sound, AreSound}
 
-are_proper : (vs : List Value) → AllByRecursion IsProper vs → AreProper (values_of vs)
-are_proper [] h = tt
-are_proper (v ∷ vs) h = (h.0, are_proper vs h.1)
+module _ (order : List ℕ → List ℕ → Ordering) where
+  -- of nodes that mean items
+  pub found_in_sequence : (nodes : List Tree) (items : List Value) (d : Option Found) → AllZip Means nodes items → FindsDefect (DefectInAll order (trees nodes)) d → FindsDefect (SequenceDefect order (trees nodes)) d
+  found_in_sequence nodes items d m h =
+      alike (DefectInAll order (trees nodes)) (SequenceDefect order (trees nodes)) d (λ p r. ((λ f. (values_of items, all_mean nodes items m, f.0, f.1, f.2)), (λ f. (f.2, f.3, f.4)))) h
 
 module _ (order : List ℕ → List ℕ → Ordering) (laws : IsKeyOrder order) (limit : ℕ) (input : List ℕ) (items : List Value) (held : Holds kind.Wire limit input items) where
   pub with_defect : (d : Found) → length input < 2 ^ 64 → PlacedAll 0 (trees held.nodes) → IsFirstOfSequence order (trees held.nodes) d.place d.reason → Verdict order limit input items held (Some d)
@@ -30,3 +36,8 @@ module _ (order : List ℕ → List ℕ → Ordering) (laws : IsKeyOrder order) 
         placed,
         first,
       )
+
+  pub without_defect : ((p : ℕ) (r : DefectReason) → SequenceDefect order (trees held.nodes) p r → ⊥) → Verdict order limit input items held None
+  without_defect none =
+      let all = check_sequence_sound order laws (trees held.nodes) (values_of items) held.spelled.fit (all_mean held.nodes items held.meant) none in
+      seq_of_values order items input (subst (DetValues order (values_of items)) held.spelled.spells all)

@@ -14,14 +14,13 @@ use Rattle.cborn_edn.proofs.RoundTrip.Unplaced.{same_meaning}
 use Rattle.cborn_edn.specs.ShownBytes.{IsShownText}
 use Rattle.cborn_edn.specs.Spelling.{IsSpelling}
 use Rattle.cborn_transcode.specs.Transcoding.{IsTranscoded}
-use Rattle.cborn_transcode.proofs.Lists.{all_mean}
+use Rattle.cborn_model.proofs.Listed.Meanings.{all_mean, zip_mean}
 use Rattle.cborn_engine.specs.declared.kinds.Kind.{Kind}
 use Rattle.cborn_engine.specs.declared.kinds.Kind.TheVariants as kind
 use Rattle.cborn_engine.specs.devices.Encoding.{kind_of, IsEncoded}
 use Rattle.cborn_engine.specs.Holding.{IsNotation, Spells}
 use Rattle.cborn_engine.specs.Showing.{IsShown, IsSpelledAs}
 use Rattle.cborn_engine.specs.Reading.{most_bytes}
-use Rattle.cborn_engine.proofs.Held.Meant.{zip_mean}
 use Rattle.cborn_engine.proofs.Held.SameNodes.{same_nodes}
 use Rattle.cborn_engine.proofs.Answers.KnownErrors.{notation}
 

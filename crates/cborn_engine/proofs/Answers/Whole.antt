@@ -4,11 +4,11 @@ use Rattle.std.specs.Io.KnownBytes.{IsAtEnd}
 use Rattle.std.specs.Prelude.{IfOk, IfErr}
 use Rattle.cborn_model.specs.Tree.{Tree, trees}
 use Rattle.cborn_model.specs.Orders.{IsKeyOrder}
-use Rattle.cborn_model.specs.Value.{Value, values_of}
-use Rattle.cborn_judge.specs.Defects.{IsFirstOfSequence}
+use Rattle.cborn_model.specs.Value.{Value}
+use Rattle.cborn_judge.specs.Defects.{SequenceDefect}
+use Rattle.cborn_judge.specs.Departures.{FindsDefect}
 use Rattle.cborn_model.specs.declared.defects.Defect.{Defect}
 use Rattle.cborn_transcode.specs.Transcoding.{IsTranscoded}
-use Rattle.cborn_transcode.proofs.Lists.{all_mean}
 use Rattle.cborn_engine.specs.declared.faults.EngineFault.{EngineFault}
 use Rattle.cborn_engine.specs.declared.faults.EngineFault.TheVariants as fault
 use Rattle.cborn_engine.specs.declared.kinds.Kind.{Kind}
@@ -21,12 +21,10 @@ use Rattle.cborn_engine.specs.declared.stream_faults.InputFault.TheVariants as i
 use Rattle.cborn_engine.specs.Collecting.{Collects, CollectAnswers}
 use Rattle.cborn_engine.specs.Faults.{of_input}
 use Rattle.cborn_engine.specs.devices.Reading.{Reads}
-use Rattle.cborn_engine.specs.devices.Encoding.{IsEncoded}
-use Rattle.cborn_engine.specs.Checking.{CheckAnswers}
+use Rattle.cborn_engine.specs.devices.Encoding.{IsEncoded, AreJudged}
+use Rattle.cborn_engine.specs.Checking.{CheckAnswers, Verdict}
 use Rattle.cborn_engine.specs.Reading.{most_bytes}
-use Rattle.cborn_flaws.specs.Searching.{IsFirstFlawOf}
-use Rattle.cborn_departures.specs.Departing.{IsFirstDefectOfItems}
-use Rattle.cborn_engine.proofs.Answers.Checked.{with_defect}
+use Rattle.cborn_engine.proofs.Answers.Checked.{with_defect, without_defect}
 
 pub ended : (A : Type 0) (why : EngineFault) (rest : Option (List ℕ)) → IsAtEnd rest → IsRead {A = A} (Err why) rest
 ended A fault.TooLong rest h = tt
@@ -79,13 +77,19 @@ transcoded_held order limit input output n = record { nodes = n.nodes; spelled =
 pub transcoded : (order : List ℕ → List ℕ → Ordering) (limit : ℕ) (input output : List ℕ) → IsTranscoded order limit input output → IsEncoded order kind.Wire limit input output
 transcoded order limit input output n = record { items = n.items; held = transcoded_held order limit input output n; encoded = n.encoded }
 
+pub judged : (order : List ℕ → List ℕ → Ordering) (limit : ℕ) (input bytes : List ℕ) (d : Option Defect) → AreJudged order limit input bytes d → IsEncoded order kind.Wire limit input bytes
+judged order limit input bytes d j = record { items = j.items; held = record { nodes = j.nodes; spelled = j.read; meant = j.meant }; encoded = j.encoded }
+
 module _ (limit most : ℕ) (input : List ℕ) (within : length input ≤ most) where
   pub deterministic : (order : List ℕ → List ℕ → Ordering) → IsTranscoded order limit input input → CheckAnswers order limit most input (Ok None)
   deterministic order n = (within, record { items = n.items; held = transcoded_held order limit input input n; verdict = n.encoded })
 
-  pub checked_searched : (order : List ℕ → List ℕ → Ordering) → IsKeyOrder order → most ≤ most_bytes → (d : Defect) → IsFirstFlawOf limit input None → IsFirstDefectOfItems order limit input d → CheckAnswers order limit most input (Ok (Some d))
-  checked_searched order laws bounded d f first =
-      let items : List Value = f.verdict.0 in
-      let held : Holds kind.Wire limit input items = record { nodes = f.nodes; spelled = f.read; meant = f.verdict.1 } in
-      let is : IsFirstOfSequence order (trees f.nodes) d.place d.reason = first f.nodes (values_of items) f.read f.placed (all_mean f.nodes items f.verdict.1) in
-      (within, record { items = items; held = held; verdict = with_defect order laws limit input items held d (omega (arith, within, bounded)) f.placed is })
+  pub checked : (order : List ℕ → List ℕ → Ordering) → IsKeyOrder order → most ≤ most_bytes → (bytes : List ℕ) (d : Option Defect) → AreJudged order limit input bytes d → CheckAnswers order limit most input (Ok d)
+  checked order laws bounded bytes d j = (within, record { items = j.items; held = held; verdict = verdict d j.found })
+    where
+      held : Holds kind.Wire limit input j.items
+      held = record { nodes = j.nodes; spelled = j.read; meant = j.meant }
+
+      verdict : (o : Option Defect) → FindsDefect (SequenceDefect order (trees j.nodes)) o → Verdict order limit input j.items held o
+      verdict None none = without_defect order laws limit input j.items held none
+      verdict (Some x) first = with_defect order laws limit input j.items held x (omega (arith, within, bounded)) j.placed first

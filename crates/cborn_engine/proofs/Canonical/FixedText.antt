@@ -13,10 +13,9 @@ use Rattle.cborn_edn.specs.devices.TreesCode.{listed_trees, trees-listed}
 use Rattle.cborn_edn.proofs.Short.Facts.{shown_back, shown_only}
 use Rattle.cborn_edn.proofs.Shown.SameText.{same_text}
 use Rattle.cborn_edn.proofs.RoundTrip.Unplaced.{same_depth, same_meaning}
-use Rattle.cborn_transcode.proofs.Lists.{all_mean}
+use Rattle.cborn_model.proofs.Listed.Meanings.{all_mean, zip_mean}
 use Rattle.cborn_engine.specs.Holding.{IsNotation}
 use Rattle.cborn_engine.specs.devices.Encoding.{IsFixedText}
-use Rattle.cborn_engine.proofs.Held.Meant.{zip_mean}
 use Rattle.cborn_engine.proofs.Held.SameNodes.{same_nodes}
 
 -- bytes have one text

@@ -11,7 +11,8 @@ use Rattle.cborn_det.proofs.Canon.{seq_of_one, one_of_seq}
 use Rattle.cborn_det.proofs.Steps.{values_of_seq, seq_of_values}
 use Rattle.cborn_wire.proofs.Spelled.TreeLists.{tree_list, trees-tree_list}
 use Rattle.cborn_transcode.specs.Transcoding.{ItemsTranscoded}
-use Rattle.cborn_transcode.proofs.Lists.{all_append, all_mean, normalised}
+use Rattle.cborn_model.proofs.Listed.Meanings.{all_mean, zip_mean}
+use Rattle.cborn_transcode.proofs.Lists.{all_append, normalised}
 use Rattle.cborn_engine.specs.declared.kinds.Kind.{Kind}
 use Rattle.cborn_engine.specs.declared.kinds.Kind.TheVariants as kind
 use Rattle.cborn_engine.specs.Bytes.{BytesHold}
@@ -20,7 +21,7 @@ use Rattle.cborn_engine.specs.Holding.{Holds}
 use Rattle.cborn_engine.specs.devices.Encoding.{IsEncoded, IsWrittenAs}
 use Rattle.cborn_engine.proofs.Canonical.Canonicity.{same_encoded}
 use Rattle.cborn_engine.proofs.Canonical.Proper.{sequence_proper, sequence_shallow}
-use Rattle.cborn_engine.proofs.Held.Meant.{AreSound, holds_once, all_turned, zip_mean}
+use Rattle.cborn_engine.proofs.Held.Meant.{AreSound, holds_once, all_turned}
 use Rattle.cborn_engine.proofs.Held.ReadsBack.{sequence_back}
 
 -- ---- lists, as the contents of an array

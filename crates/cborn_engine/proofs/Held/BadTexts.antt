@@ -10,7 +10,7 @@ use Rattle.cborn_judge.specs.Flaws.{Within, WithinAll, WithinEntries, HasBadChun
 use Rattle.cborn_model.specs.declared.faults.InvalidReason.TheVariants.{NotUtf8}
 use Rattle.cborn_edn.specs.Shown.{shown_lines, IsBadText, IsBadAmong, IsBadInPairs, IsBadChunk, AreShowable}
 use Rattle.cborn_judge.proofs.Meaning.Judging.{sound_all}
-use Rattle.cborn_transcode.proofs.Lists.{all_mean}
+use Rattle.cborn_model.proofs.Listed.Meanings.{all_mean}
 use Rattle.cborn_model.specs.Spelled.{Wellformed}
 use Rattle.cborn_edn.specs.ShownBytes.{IsUnshown}
 use Rattle.cborn_edn.proofs.Shown.Characters.{lines_text}

@@ -5,7 +5,7 @@ use Rattle.cborn_model.specs.Tree.{Tree, trees, depth_all}
 use Rattle.cborn_model.specs.Spelled.{spelled_all, spelled, FitsAll}
 use Rattle.cborn_model.specs.Value.{Value, values_of, Same}
 use Rattle.cborn_model.specs.Valid.{IsProper}
-use Rattle.cborn_model.specs.Meaning.{Means, AllMean}
+use Rattle.cborn_model.specs.Meaning.{Means}
 use Rattle.cborn_model.proofs.Listed.Trees.{trees-injective}
 use Rattle.cborn_model.proofs.SameItems.Sameness.{same_itself, same_turned}
 use Rattle.cborn_wire.proofs.Spelled.OneReading.{one_placed_reading}
@@ -14,7 +14,7 @@ use Rattle.cborn_lex.specs.declared.classes.Profile.TheVariants as profile
 use Rattle.cborn_edn.specs.ReadingBack.{unplaced_all}
 use Rattle.cborn_edn.proofs.Short.Facts.{one_notation}
 use Rattle.cborn_edn.proofs.RoundTrip.Unplaced.{same_meaning}
-use Rattle.cborn_transcode.proofs.Lists.{all_mean}
+use Rattle.cborn_model.proofs.Listed.Meanings.{all_mean, zip_mean}
 use Rattle.cborn_judge.proofs.Meaning.Meanings.{means_once, meaning_valid, meaning_shallow, left, right}
 use Rattle.cborn_engine.specs.declared.kinds.Kind.{Kind}
 use Rattle.cborn_engine.specs.declared.kinds.Kind.TheVariants as kind
@@ -39,13 +39,6 @@ all_mean_once [] (v ∷ vs) ws h g = absurd h
 all_mean_once (n ∷ ns) [] ws h g = absurd h
 all_mean_once (n ∷ ns) (v ∷ vs) [] h g = absurd g
 all_mean_once (n ∷ ns) (v ∷ vs) (w ∷ ws) h g = λ i. means_once n v w h.0 g.0 i ∷ all_mean_once ns vs ws h.1 g.1 i
-
--- what nodes of a sequence mean is what they mean one by one
-pub zip_mean : (ns : List Tree) (vs : List Value) → AllMean (trees ns) (values_of vs) → AllZip Means ns vs
-zip_mean [] [] h = tt
-zip_mean [] (v ∷ vs) h = absurd h
-zip_mean (n ∷ ns) [] h = absurd h
-zip_mean (n ∷ ns) (v ∷ vs) h = (h.0, zip_mean ns vs h.1)
 
 -- what is spelled in place is spelled
 pub in_place : (k : Kind) (limit : ℕ) (input : List ℕ) (ns : List Tree) → SpellsInPlace k limit input ns → Spells k limit input ns

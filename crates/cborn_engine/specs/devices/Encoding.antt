@@ -1,9 +1,15 @@
 -- Devices: what reading an input, encoding what it holds and writing that out answers. No public contract cites them.
-use Rattle.std.specs.Prelude.{◌≡◌, ℕ, ◌≤◌, List, length, Result, Ok, Err, Vec}
+use Rattle.std.specs.Prelude.{◌≡◌, ℕ, ◌≤◌, List, length, Option, Result, Ok, Err, Vec}
+use Rattle.std.specs.List.{AllZip}
 use Rattle.std.specs.Global.{Global}
 use Rattle.std.specs.declared.cmp.Ordering.{Ordering}
+use Rattle.cborn_model.specs.Meaning.{Means}
+use Rattle.cborn_model.specs.Placed.{PlacedAll}
 use Rattle.cborn_model.specs.Value.{Value}
+use Rattle.cborn_model.specs.declared.defects.Defect.{Defect}
 use Rattle.cborn_det.specs.Det.{DetSeq}
+use Rattle.cborn_judge.specs.Defects.{SequenceDefect}
+use Rattle.cborn_judge.specs.Departures.{FindsDefect}
 use Rattle.cborn_engine.specs.declared.faults.EngineFault.{EngineFault}
 use Rattle.cborn_lex.specs.declared.classes.Profile.{Profile}
 use Rattle.cborn_lex.specs.declared.classes.Profile.TheVariants as profile
@@ -11,7 +17,7 @@ use Rattle.cborn_engine.specs.declared.kinds.Kind.{Kind}
 use Rattle.cborn_engine.specs.declared.kinds.Kind.TheVariants as kind
 use Rattle.cborn_edn.specs.Shown.{Shown}
 use Rattle.cborn_model.specs.Tree.{Tree, trees}
-use Rattle.cborn_model.specs.Spelled.{FitsAll, spelled_all}
+use Rattle.cborn_model.specs.Spelled.{FitsAll, spelled_all, Wellformed}
 use Rattle.cborn_engine.specs.Holding.{Holds}
 use Rattle.cborn_engine.specs.Refusing.{IsRefused}
 
@@ -42,3 +48,13 @@ pub record IsEncoded (order : List ℕ → List ℕ → Ordering) (k : Kind) (li
 abbrev pub EncodeAnswers : (List ℕ → List ℕ → Ordering) → Kind → ℕ → ℕ → List ℕ → Result (Vec ℕ Global) EngineFault → Type 0
 EncodeAnswers order k limit most input (Ok bytes) = (length input ≤ most) × IsEncoded order k limit input bytes.items
 EncodeAnswers order k limit most input (Err why) = IsRefused k limit most input why
+
+-- the bytes are the deterministic encodings of the items that the input holds, and this is the first defect of its nodes, if they have one
+pub record AreJudged (order : List ℕ → List ℕ → Ordering) (limit : ℕ) (input bytes : List ℕ) (defect : Option Defect) : Type 0 where
+  pub nodes : List Tree
+  pub items : List Value
+  pub read : Wellformed limit (trees nodes) input
+  pub placed : PlacedAll 0 (trees nodes)
+  pub meant : AllZip Means nodes items
+  pub encoded : DetSeq order items bytes
+  pub found : FindsDefect (SequenceDefect order (trees nodes)) defect

@@ -1,15 +1,20 @@
--- From the defects of a node to what the check says of it.
-use Rattle.std.proofs.Common.{◌≡◌, ℕ, List, refl, subst, Option, None, Some, Ordering}
+-- From what an encoder finds of a node alone to what the check says of it.
+use Rattle.std.proofs.Common.{◌≡◌, ℕ, inl, inr, List, [], ◌∷◌, refl, subst, Option, None, Some, Ordering}
 use Rattle.std.specs.Prelude.{◌↔◌}
+use Rattle.cborn_model.specs.First.{IsFirst}
 use Rattle.cborn_model.specs.Meaning.{Means}
 use Rattle.cborn_model.specs.Orders.{IsKeyOrder}
+use Rattle.cborn_model.specs.Reasons.{flaw_rank}
 use Rattle.cborn_model.specs.Spelled.{spelled, Fits}
-use Rattle.cborn_model.specs.Tree.{Tree}
+use Rattle.cborn_model.specs.Tree.{Tree, trees}
 use Rattle.cborn_model.specs.Valid.{IsProper}
+use Rattle.cborn_model.specs.declared.faults.InvalidReason.{InvalidReason}
 use Rattle.cborn_model.specs.Value.{Value}
 use Rattle.cborn_det.specs.Det.{Det}
 use Rattle.cborn_judge.specs.Departures.{FindsDefect}
-use Rattle.cborn_judge.specs.shared.Checked.{DefectIn}
+use Rattle.cborn_judge.specs.shared.Checked.{DefectIn, DefectInAll}
+use Rattle.cborn_judge.specs.shared.Judged.{FlawIn}
+use Rattle.cborn_judge.specs.Flaws.{IsFirstFlaw}
 use Rattle.cborn_judge.specs.Defects.{Defect, IsCheck, IsDeterministic}
 use Rattle.cborn_model.specs.declared.defects.Defect as defect
 use Rattle.cborn_judge.proofs.Encoded.Checking.{check_sound, check_whole}
@@ -36,3 +41,9 @@ module _ (order : List ℕ → List ℕ → Ordering) where
       by : (p : Option defect.Defect) → FindsDefect (Defect order t) p → (p ≡ None) ↔ IsDeterministic order t
       by None k = ((λ e. (v, m, check_sound order laws t v f m k)), (λ d. refl))
       by (Some x) k = ((λ e. cc), (λ d. absurd (check_whole order laws t v f g m (spells d) x.place x.reason k.is)))
+
+  pub alone : (t : Tree) (o : Option defect.Defect) → FindsDefect (DefectInAll order (trees (t ∷ []))) o → FindsDefect (DefectIn order t) o
+  alone t o h = alike (DefectInAll order (trees (t ∷ []))) (DefectIn order t) o (λ p r. ((λ d. elim d.1 [ inl i ↦ (d.0, i, d.2) | inr i ↦ absurd i ]), (λ d. (d.0, inl d.1, d.2)))) h
+
+pub flawed_alone : (t : Tree) (p : ℕ) (r : InvalidReason) → IsFirst flaw_rank (FlawIn (trees (t ∷ []))) p r → IsFirstFlaw t p r
+flawed_alone t p r h = record { is = elim h.is.1 [ inl i ↦ (h.is.0, i, h.is.2) | inr i ↦ absurd i ]; first = λ q s d. h.first q s (d.0, inl d.1, d.2) }

@@ -1,25 +1,26 @@
 -- What the nodes of a sequence mean, or the first flaw of the first that means nothing, as a loop over them meets them.
-use Rattle.std.proofs.Common.{◌≡◌, ℕ, zero, suc, ◌+◌, ◌<◌, inl, inr, List, [], ◌∷◌, ◌++◌, length, get_or, take, refl, sym, subst, arith, Result, Ok, Err}
+use Rattle.std.proofs.Common.{◌≡◌, ℕ, zero, suc, ◌+◌, ◌<◌, ◌≤◌, ◌⊎◌, inl, inr, List, [], ◌∷◌, ◌++◌, length, get_or, take, refl, sym, subst, arith, Result, Ok, Err}
 use Rattle.std.specs.List.{AllZip}
 use Rattle.std.specs.Prelude.{IfErr, IsErr}
 use Rattle.std.specs.Result.{IsErrAnd}
+use Rattle.cborn_model.specs.First.{IsFirst, NoLater}
 use Rattle.cborn_model.specs.Meaning.{Means}
-use Rattle.cborn_model.specs.Tree.{Tree}
+use Rattle.cborn_model.specs.Placed.{PlacedAll}
+use Rattle.cborn_model.specs.Reasons.{flaw_rank}
+use Rattle.cborn_model.specs.Spelled.{spelled}
+use Rattle.cborn_model.specs.Tree.{Tree, trees}
 use Rattle.cborn_model.specs.Value.{Value}
-use Rattle.cborn_judge.specs.Flaws.{IsRefusal, IsRefusalOfAll}
+use Rattle.cborn_judge.specs.Flaws.{Flaw, FlawAt, IsRefusal, IsRefusalOfAll, Within, WithinAll}
+use Rattle.cborn_judge.specs.shared.Judged.{FlawIn}
 use Rattle.cborn_model.specs.declared.faults.Invalid.{Invalid}
-use Rattle.cborn_model.specs.declared.faults.Invalid.TheVariants.{OutOfMemory}
-use Rattle.cborn_judge.proofs.Loops.Passing.{passed_one}
+use Rattle.cborn_model.specs.declared.faults.Invalid.TheVariants.{OutOfMemory, Refused}
+use Rattle.cborn_model.specs.declared.faults.InvalidReason.{InvalidReason}
+use Rattle.cborn_judge.proofs.Loops.Passing.{zip_more}
+use Rattle.cborn_judge.proofs.Meaning.Judging.{meaning}
+use Rattle.cborn_judge.proofs.Meaning.Placing.{flaw_within}
 
 pub mean_more : (ts : List Tree) (vs : List Value) (t : Tree) (v : Value) → AllZip Means ts vs → Means t v → AllZip Means (ts ++ t ∷ []) (vs ++ v ∷ [])
-mean_more [] [] t v h m = (m, tt)
-mean_more [] (w ∷ ws) t v h m = absurd h
-mean_more (s ∷ ts) [] t v h m = absurd h
-mean_more (s ∷ ts) (w ∷ ws) t v h m = (h.0, mean_more ts ws t v h.1 m)
-
-pub mean-take_more : (ts : List Tree) (i : ℕ) (t : Tree) (vs ws : List Value) (v : Value) → i < length ts → t ≡ get_or ts i t → AllZip Means (take i ts) vs → Means t v → ws ≡ vs ++ v ∷ [] → AllZip Means (take (i + 1) ts) ws
-mean-take_more ts i t vs ws v l e h m w =
-    subst (λ z. AllZip Means z ws) (sym (passed_one ts i t l e)) (subst (AllZip Means (take i ts ++ t ∷ [])) (sym w) (mean_more (take i ts) vs t v h m))
+mean_more = zip_more Means
 
 refused_here : (ts : List Tree) (i : ℕ) (d : Tree) (vs : List Value) (f : Invalid) → i < length ts → AllZip Means (take i ts) vs → IsRefusal (get_or ts i d) f → IsRefusalOfAll ts f
 refused_here [] i d vs f l h r = absurd (omega arith)
@@ -38,3 +39,27 @@ refused_memory (t ∷ ts) = inl tt
 pub passed_on : {A E : Type 0} (r : Result A E) (P Q : E → Type 0) → ((e : E) → P e → Q e) → IsErr r × IsErrAnd r P → IfErr r Q
 passed_on (Ok x) P Q f h = tt
 passed_on (Err e) P Q f h = f e h.1
+
+-- ---- nodes that lie one after another
+
+-- their flaws are not before them
+flaw_from : (ts : List Tree) (a : ℕ) (q : Tree) (p : ℕ) (r : InvalidReason) → PlacedAll a (trees ts) → WithinAll q (trees ts) → FlawAt q p r → a ≤ p
+flaw_from [] a q p r h w f = absurd w
+flaw_from (t ∷ ts) a q p r h (inl w) f = (flaw_within t a p r h.0 (q, w, f)).0
+flaw_from (t ∷ ts) a q p r h (inr w) f = omega (arith, flaw_from ts (a + length (spelled t)) q p r h.1 w f)
+
+no_sooner : (p q m n : ℕ) → q < p → NoLater (p, m) (q, n) → ⊥
+no_sooner p q m n l (inl h) = omega (arith, l, h)
+no_sooner p q m n l (inr h) = omega (arith, l, h.0)
+
+-- the first flaw of all is that of the first node that means nothing
+pub first_refusal : (ts : List Tree) (a p : ℕ) (r : InvalidReason) → PlacedAll a (trees ts) → IsFirst flaw_rank (FlawIn (trees ts)) p r → IsRefusalOfAll ts (Refused p r)
+first_refusal [] a p r h f = absurd f.is.1
+first_refusal (t ∷ ts) a p r h f = by f.is.0 f.is.1 f.is.2 (first_refusal ts (a + length (spelled t)) p r h.1)
+  where
+    by : (q : Tree) → WithinAll q (trees (t ∷ ts)) → FlawAt q p r → (IsFirst flaw_rank (FlawIn (trees ts)) p r → IsRefusalOfAll ts (Refused p r)) → IsRefusalOfAll (t ∷ ts) (Refused p r)
+    by q (inl w) g rest = inl (record { is = (q, w, g); first = λ s i k. f.first s i (k.0, inl k.1, k.2) })
+    by q (inr w) g rest =
+        let sound : (s : ℕ) (i : InvalidReason) → Flaw t s i → ⊥ = λ s i k.
+        no_sooner p s (flaw_rank r) (flaw_rank i) (omega (arith, (flaw_within t a s i h.0 k).1, flaw_from ts (a + length (spelled t)) q p r h.1 w g)) (f.first s i (k.0, inl k.1, k.2)) in
+        inr (meaning t sound, rest (record { is = (q, w, g); first = λ s i k. f.first s i (k.0, inr k.1, k.2) }))

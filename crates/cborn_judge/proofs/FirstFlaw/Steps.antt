@@ -1,13 +1,10 @@
 -- The flaws of a node, one level at a time.
-use Rattle.std.proofs.Common.{◌≡◌, ℕ, ◌⊎◌, inl, inr, List, get_or, refl, subst}
+use Rattle.std.proofs.Common.{◌≡◌, ℕ, ◌⊎◌, inl, inr, refl, subst}
 use Rattle.std.specs.Prelude.{◌↔◌}
 use Rattle.cborn_judge.specs.Flaws.{Within, HasRepeat, FlawAt, Flaw}
 use Rattle.cborn_model.specs.declared.faults.InvalidReason.{InvalidReason}
 use Rattle.cborn_model.specs.declared.faults.InvalidReason.TheVariants.{DuplicateKey}
-use Rattle.cborn_judge.specs.shared.Judged.{FlawIn, FlawAmong, RepeatFlaw}
-use Rattle.cborn_judge.specs.shared.Repeats.{AreKeys}
-use Rattle.cborn_judge.specs.devices.Places.{Key, key_bytes, key_position, RepeatAt}
-use Rattle.cborn_judge.proofs.SameKeys.Repeating.{repeat_again, again_repeat}
+use Rattle.cborn_judge.specs.shared.Judged.{FlawIn, FlawAmong}
 use Rattle.cborn_model.specs.declared.heads.Size.{Size}
 use Rattle.cborn_model.specs.Tree.{Tree, Items, Pairs, Tagged, Trees, Entries}
 use Rattle.cborn_model.specs.declared.heads.Width.{Width}
@@ -42,10 +39,3 @@ flaw_tagged p w n t q r = ((λ f. to f.0 f.1 f.2), from)
     from : FlawAt (Tagged p w n t) q r ⊎ Flaw t q r → Flaw (Tagged p w n t) q r
     from (inl f) = (Tagged p w n t, inl refl, f)
     from (inr f) = (f.0, inr f.1, f.2)
-
--- the keys that are kept are repeated where those of the pairs are
-pub repeats_alike : (es : Entries) (ks : List Key) (places : List ℕ) (p : ℕ) (r : InvalidReason) → AreKeys key_bytes key_position (λ k. get_or places k.1 0) es 0 ks → RepeatAt ks places p r ↔ RepeatFlaw es p r
-repeats_alike es ks places p r h = (
-  (λ a. (a.0, subst (HasRepeat es) a.3 (again_repeat key_bytes key_position (λ k. get_or places k.1 0) es 0 ks a.1 h a.2))),
-  (λ a. let u = repeat_again key_bytes key_position (λ k. get_or places k.1 0) es 0 ks p h a.1 in (a.0, u.0, u.1, u.2)),
-)

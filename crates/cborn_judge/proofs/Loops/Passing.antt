@@ -1,6 +1,20 @@
 -- What a loop over a list has passed, with the next element.
-use Rattle.std.proofs.Common.{◌≡◌, ℕ, ◌+◌, ◌<◌, List, [], ◌∷◌, ◌++◌, length, get_or, take, sym, ap, ◌∙◌}
+use Rattle.std.proofs.Common.{◌≡◌, ℕ, ◌+◌, ◌<◌, List, [], ◌∷◌, ◌++◌, length, get_or, take, sym, ap, ◌∙◌, subst}
+use Rattle.std.specs.List.{AllZip}
 use Rattle.std.proofs.lemmas.List.{take_more}
 
 pub passed_one : {A : Type 0} (xs : List A) (i : ℕ) (x : A) → i < length xs → x ≡ get_or xs i x → take (i + 1) xs ≡ take i xs ++ x ∷ []
 passed_one {A} xs i x l e = take_more xs i x l ∙ ap (λ (z : A). take i xs ++ z ∷ []) (sym e)
+
+-- ---- with another list that the loop builds
+
+module _ {A B : Type 0} (R : A → B → Type 0) where
+  pub zip_more : (xs : List A) (ys : List B) (x : A) (y : B) → AllZip R xs ys → R x y → AllZip R (xs ++ x ∷ []) (ys ++ y ∷ [])
+  zip_more [] [] x y h r = (r, tt)
+  zip_more [] (b ∷ ys) x y h r = absurd h
+  zip_more (a ∷ xs) [] x y h r = absurd h
+  zip_more (a ∷ xs) (b ∷ ys) x y h r = (h.0, zip_more xs ys x y h.1 r)
+
+  pub zip-take_more : (xs : List A) (i : ℕ) (x : A) (ys zs : List B) (y : B) → i < length xs → x ≡ get_or xs i x → AllZip R (take i xs) ys → R x y → zs ≡ ys ++ y ∷ [] → AllZip R (take (i + 1) xs) zs
+  zip-take_more xs i x ys zs y l e h r z =
+      subst (λ t. AllZip R t zs) (sym (passed_one xs i x l e)) (subst (AllZip R (take i xs ++ x ∷ [])) (sym z) (zip_more (take i xs) ys x y h r))

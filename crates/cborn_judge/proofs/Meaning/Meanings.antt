@@ -22,7 +22,7 @@ use Rattle.cborn_model.specs.Meaning.{joined_chunks, IsNumber, IsByteString, IsB
 
 -- ---- at most one
 
-number_once : (s : Bool) (n : ℕ) (a b : Value) → IsNumber s n a → IsNumber s n b → a ≡ b
+pub number_once : (s : Bool) (n : ℕ) (a b : Value) → IsNumber s n a → IsNumber s n b → a ≡ b
 number_once s n a b h k =
     let e : h.0 ≡ k.0 = one_magnitude h.0 k.0 h.1 k.1 h.2 k.2 (h.3 ∙ sym k.3) in
     h.4 ∙ ap (integer s) e ∙ sym k.4
@@ -73,6 +73,27 @@ mutual
   entries_mean_once no_entry no_pairs (pair c d qs) h k = absurd k
   entries_mean_once (entry k v es) no_pairs qs h j = absurd h
   entries_mean_once (entry k v es) (pair a b ps) no_pairs h j = absurd j
+
+-- ---- byte strings
+
+pub string_means : (t : Tree) (b : List ℕ) → IsByteString t b → Means t (bytes b)
+string_means (Bytes p w c) b h = ap bytes h
+string_means (ByteChunks p cs) b h = ap bytes h
+string_means _ b h = absurd h
+
+pub means_string : (t : Tree) (b : List ℕ) → Means t (bytes b) → IsByteString t b
+means_string (Uint p w n) b h = let e : bytes b ≡ integer false h.0 = h.4 in cc
+means_string (Nint p w n) b h = let e : bytes b ≡ integer true h.0 = h.4 in cc
+means_string (Bytes p w c) b h = cc
+means_string (Text p w c) b h = let e = h.1 in cc
+means_string (ByteChunks p cs) b h = cc
+means_string (TextChunks p cs) b h = let e = h.1 in cc
+means_string (Items p s ts) b h = let e = h.2 in cc
+means_string (Pairs p s es) b h = let e = h.3 in cc
+means_string (Tagged p w n t) b (inl h) = let e = h.1.2.4 in cc
+means_string (Tagged p w n t) b (inr (inl h)) = let e = h.1.2.4 in cc
+means_string (Tagged p w n t) b (inr (inr h)) = let e = h.4 in cc
+means_string (Simple p n) b h = cc
 
 -- ---- how many bytes a node spells
 

@@ -1,6 +1,6 @@
 -- Keys are the same exactly if their encodings are equal; so after a sort the repeats are those that tie with their neighbour.
 use Rattle.std.proofs.Common.{◌≡◌, ◌≢◌, ℕ, suc, ◌<◌, ◌≤◌, ◌⊎◌, inl, inr, List, [], ◌∷◌, refl, sym, ap, ◌∙◌, subst, arith, true, false, Bool, true≢false, add-one, IsPermutation, Ordering, Less, Equal, Greater, is_lt, nat_cmp, eqb}
-use Rattle.std.specs.Prelude.{⊤, ◌↔◌}
+use Rattle.std.specs.Prelude.{⊤, ◌↔◌, ◌&&◌}
 use Rattle.std.specs.Ordering.{nat_cmp, ordering_then, ordering_reverse}
 use Rattle.std.specs.List.{AllByRecursion, IsDistinct}
 use Rattle.std.specs.List.Sorted.{IsSortedBy}
@@ -15,17 +15,23 @@ use Rattle.cborn_det.proofs.Canon.{same_of_one, one_of_same}
 use Rattle.cborn_judge.proofs.Meaning.Meanings.{means_once}
 use Rattle.cborn_model.specs.Value.{Value, Same}
 use Rattle.cborn_model.specs.Valid.{IsProper}
-use Rattle.cborn_model.specs.Orders.{bytewise}
+use Rattle.cborn_model.specs.Orders.{bytewise, IsKeyOrder}
 use Rattle.cborn_det.specs.Det.{Det}
 use Rattle.cborn_model.specs.Tree.{Tree, Entries, no_entry, entry}
 use Rattle.cborn_model.specs.Meaning.{Means}
 
-module _ {X : Type 0} (bytes : X → List ℕ) (position : X → ℕ) where
+module _ {X : Type 0} (order : List ℕ → List ℕ → Ordering) (bytes : X → List ℕ) (position : X → ℕ) where
   -- by the encoding, and at equal encodings by the position
   abbrev pub key_order : X → X → Ordering
-  key_order x y = ordering_then (bytewise (bytes x) (bytes y)) (nat_cmp (position x) (position y))
+  key_order x y = ordering_then (order (bytes x) (bytes y)) (nat_cmp (position x) (position y))
 
 -- ---- the same keys have one encoding
+
+-- what means nothing is the same as no key
+pub nothing_repeated : (k : Tree) (es : Entries) (p : ℕ) → ((a : Value) → Means k a → ⊥) → IsRepeated k es p → ⊥
+nothing_repeated k no_entry p h r = r
+nothing_repeated k (entry l v es) p h (inl r) = h r.1.0 r.1.2
+nothing_repeated k (entry l v es) p h (inr r) = nothing_repeated k es p h r
 
 module _ {X : Type 0} (bytes : X → List ℕ) (position place_of : X → ℕ) where
   -- a key that means the same as k, among the keys
@@ -60,11 +66,6 @@ module _ {X : Type 0} (bytes : X → List ℕ) (position place_of : X → ℕ) w
       let u = repeat_again es (suc n) ys p t r in
       (u.0, subst (λ l. IsAgain bytes l u.0) (sym e) (inr u.1), u.2)
   repeat_again (entry k v es) n ks p (inr h) (inl r) = absurd (nothing_repeated k es p h.0 r)
-    where
-      nothing_repeated : (k : Tree) (es : Entries) (p : ℕ) → ((a : Value) → Means k a → ⊥) → IsRepeated k es p → ⊥
-      nothing_repeated k no_entry p h r = r
-      nothing_repeated k (entry l v es) p h (inl r) = h r.1.0 r.1.2
-      nothing_repeated k (entry l v es) p h (inr r) = nothing_repeated k es p h r
   repeat_again (entry k v es) n ks p (inr h) (inr r) = repeat_again es (suc n) ks p h.1 r
 
   pub again_repeat : (es : Entries) (n : ℕ) (ks : List X) (z : X) → AreKeys bytes position place_of es n ks → IsAgain bytes ks z → HasRepeat es (place_of z)
@@ -85,49 +86,61 @@ module _ {X : Type 0} (bytes : X → List ℕ) (position place_of : X → ℕ) w
 -- ---- after a sort
 
 module _ {X : Type 0} (bytes : X → List ℕ) (position : X → ℕ) where
-  -- z has the bytes of one at a lower position
-  abbrev HasEarlier : List X → X → Type 0
-  HasEarlier xs z = (w : X) × IsOneOf w xs × IsOneOf z xs × (bytes w ≡ bytes z) × (position w < position z)
-
   above_all : (n : ℕ) (xs : List X) (z : X) → PositionsRise bytes position n xs → IsOneOf z xs → n ≤ position z
   above_all n [] z h i = absurd i
   above_all n (x ∷ xs) z h (inl e) = let f : position z ≡ position x = ap position e in omega arith
   above_all n (x ∷ xs) z h (inr i) = let k = above_all (suc (position x)) xs z h.1 i in omega arith
 
-  again_earlier : (n : ℕ) (xs : List X) (z : X) → PositionsRise bytes position n xs → IsAgain bytes xs z → HasEarlier xs z
-  again_earlier n [] z h r = absurd r
-  again_earlier n (x ∷ xs) z h (inl r) = (x, inl refl, inr r.0, r.1, (let k = above_all (suc (position x)) xs z h.1 r.0 in omega arith))
-  again_earlier n (x ∷ xs) z h (inr r) = let u = again_earlier (suc (position x)) xs z h.1 r in (u.0, inr u.1, inr u.2, u.3, u.4)
+-- Of the keys only those count whose encodings pass the test.
+module _ {X : Type 0} (counts : List ℕ → Bool) (bytes : X → List ℕ) (position : X → ℕ) where
+  -- each that counts is at a lower position than those after it
+  abbrev pub LieBefore : List X → Type 0
+  LieBefore [] = ⊤
+  LieBefore (x ∷ xs) = ((z : X) → IsOneOf z xs → counts (bytes x) ≡ true → position x < position z) × LieBefore xs
 
-  earlier_again : (n : ℕ) (xs : List X) (w z : X) → PositionsRise bytes position n xs → IsOneOf w xs → IsOneOf z xs → bytes w ≡ bytes z → position w < position z → IsAgain bytes xs z
-  earlier_again n [] w z h i j e l = absurd i
-  earlier_again n (x ∷ xs) w z h (inl i) (inl j) e l = let f : position w ≡ position z = ap position (i ∙ sym j) in absurd (omega arith)
-  earlier_again n (x ∷ xs) w z h (inl i) (inr j) e l = inl (j, ap bytes (sym i) ∙ e)
-  earlier_again n (x ∷ xs) w z h (inr i) (inl j) e l =
-      let k = above_all (suc (position x)) xs w h.1 i in
+  pub lie_before : (n : ℕ) (xs : List X) → PositionsRise bytes position n xs → LieBefore xs
+  lie_before n [] h = tt
+  lie_before n (x ∷ xs) h = ((λ z i s. let k = above_all bytes position (suc (position x)) xs z h.1 i in omega arith), lie_before (suc (position x)) xs h.1)
+
+module _ {X : Type 0} (order : List ℕ → List ℕ → Ordering) (laws : IsKeyOrder order) (counts : List ℕ → Bool) (bytes : X → List ℕ) (position : X → ℕ) where
+  -- z has the bytes of one at a lower position
+  abbrev HasEarlier : List X → X → Type 0
+  HasEarlier xs z = (w : X) × IsOneOf w xs × IsOneOf z xs × (bytes w ≡ bytes z) × (position w < position z)
+
+  again_earlier : (xs : List X) (z : X) → counts (bytes z) ≡ true → LieBefore counts bytes position xs → IsAgain bytes xs z → HasEarlier xs z
+  again_earlier [] z s h r = absurd r
+  again_earlier (x ∷ xs) z s h (inl r) = (x, inl refl, inr r.0, r.1, h.0 z r.0 (ap counts r.1 ∙ s))
+  again_earlier (x ∷ xs) z s h (inr r) = let u = again_earlier xs z s h.1 r in (u.0, inr u.1, inr u.2, u.3, u.4)
+
+  earlier_again : (xs : List X) (w z : X) → counts (bytes z) ≡ true → LieBefore counts bytes position xs → IsOneOf w xs → IsOneOf z xs → bytes w ≡ bytes z → position w < position z → IsAgain bytes xs z
+  earlier_again [] w z s h i j e l = absurd i
+  earlier_again (x ∷ xs) w z s h (inl i) (inl j) e l = let f : position w ≡ position z = ap position (i ∙ sym j) in absurd (omega arith)
+  earlier_again (x ∷ xs) w z s h (inl i) (inr j) e l = inl (j, ap bytes (sym i) ∙ e)
+  earlier_again (x ∷ xs) w z s h (inr i) (inl j) e l =
+      let k = h.0 w i (ap (λ y. counts (bytes y)) (sym j) ∙ s) in
       let f : position z ≡ position x = ap position j in absurd (omega arith)
-  earlier_again n (x ∷ xs) w z h (inr i) (inr j) e l = inr (earlier_again (suc (position x)) xs w z h.1 i j e l)
+  earlier_again (x ∷ xs) w z s h (inr i) (inr j) e l = inr (earlier_again xs w z s h.1 i j e l)
 
-  -- x comes before y in strict order
+  -- x comes before y in the order, strictly if it counts
   abbrev Comes : X → X → Type 0
-  Comes x y = (bytewise (bytes x) (bytes y) ≡ Less) ⊎ ((bytes x ≡ bytes y) × (position x < position y))
+  Comes x y = (order (bytes x) (bytes y) ≡ Less) ⊎ ((bytes x ≡ bytes y) × (counts (bytes x) ≡ true → position x < position y))
 
   abbrev pub InOrder : List X → Type 0
   InOrder [] = ⊤
   InOrder (x ∷ []) = ⊤
   InOrder (x ∷ y ∷ ys) = Comes x y × InOrder (y ∷ ys)
 
-  not_less_itself : (a b : List ℕ) → a ≡ b → bytewise a b ≡ Less → ⊥
-  not_less_itself a b e l = let f : bytewise a a ≡ Equal = bytewise_order.itself a in let g : bytewise a a ≡ Less = subst (λ c. bytewise a c ≡ Less) (sym e) l in cc
+  not_less_itself : (a b : List ℕ) → a ≡ b → order a b ≡ Less → ⊥
+  not_less_itself a b e l = let f : order a a ≡ Equal = laws.itself a in let g : order a a ≡ Less = subst (λ c. order a c ≡ Less) (sym e) l in cc
 
-  less_turned : (a b : List ℕ) → bytewise a b ≡ Less → bytewise b a ≡ Less → ⊥
-  less_turned a b l m = let f : bytewise b a ≡ Greater = bytewise_order.turned a b ∙ ap ordering_reverse l in cc
+  less_turned : (a b : List ℕ) → order a b ≡ Less → order b a ≡ Less → ⊥
+  less_turned a b l m = let f : order b a ≡ Greater = laws.turned a b ∙ ap ordering_reverse l in cc
 
   comes_on : (x y z : X) → Comes x y → Comes y z → Comes x z
-  comes_on x y z (inl h) (inl k) = inl (bytewise_order.along (bytes x) (bytes y) (bytes z) h k)
-  comes_on x y z (inl h) (inr k) = inl (subst (λ c. bytewise (bytes x) c ≡ Less) k.0 h)
-  comes_on x y z (inr h) (inl k) = inl (subst (λ c. bytewise c (bytes z) ≡ Less) (sym h.0) k)
-  comes_on x y z (inr h) (inr k) = inr (h.0 ∙ k.0, (omega arith))
+  comes_on x y z (inl h) (inl k) = inl (laws.along (bytes x) (bytes y) (bytes z) h k)
+  comes_on x y z (inl h) (inr k) = inl (subst (λ c. order (bytes x) c ≡ Less) k.0 h)
+  comes_on x y z (inr h) (inl k) = inl (subst (λ c. order c (bytes z) ≡ Less) (sym h.0) k)
+  comes_on x y z (inr h) (inr k) = inr (h.0 ∙ k.0, (λ s. let f = h.1 s in let g = k.1 (ap counts (sym h.0) ∙ s) in omega arith))
 
   first_comes : (x : X) (xs : List X) (z : X) → InOrder (x ∷ xs) → IsOneOf z xs → Comes x z
   first_comes x [] z o i = absurd i
@@ -135,37 +148,42 @@ module _ {X : Type 0} (bytes : X → List ℕ) (position : X → ℕ) where
   first_comes x (y ∷ ys) z o (inr i) = comes_on x y z o.0 (first_comes y ys z o.1 i)
 
   -- between two with equal bytes stand none with others
-  between : (x y z : X) → Comes x y → Comes y z → bytes x ≡ bytes z → (bytes x ≡ bytes y) × (position y < position z)
-  between x y z (inl h) (inl k) e = absurd (less_turned (bytes x) (bytes y) h (subst (λ c. bytewise (bytes y) c ≡ Less) (sym e) k))
-  between x y z (inl h) (inr k) e = absurd (not_less_itself (bytes x) (bytes y) (e ∙ sym k.0) h)
-  between x y z (inr h) (inl k) e = absurd (not_less_itself (bytes y) (bytes z) (sym h.0 ∙ e) k)
-  between x y z (inr h) (inr k) e = (h.0, k.1)
+  between : (x y z : X) → counts (bytes z) ≡ true → Comes x y → Comes y z → bytes x ≡ bytes z → (bytes x ≡ bytes y) × (position y < position z)
+  between x y z s (inl h) (inl k) e = absurd (less_turned (bytes x) (bytes y) h (subst (λ c. order (bytes y) c ≡ Less) (sym e) k))
+  between x y z s (inl h) (inr k) e = absurd (not_less_itself (bytes x) (bytes y) (e ∙ sym k.0) h)
+  between x y z s (inr h) (inl k) e = absurd (not_less_itself (bytes y) (bytes z) (sym h.0 ∙ e) k)
+  between x y z s (inr h) (inr k) e = (h.0, k.1 (ap counts k.0 ∙ s))
 
-  tied_earlier : (xs : List X) (z : X) → InOrder xs → IsTied bytes xs z → HasEarlier xs z
-  tied_earlier [] z o t = absurd t
-  tied_earlier (x ∷ []) z o t = absurd t
-  tied_earlier (x ∷ y ∷ ys) z o (inl t) =
+  tied_earlier : (xs : List X) (z : X) → counts (bytes z) ≡ true → InOrder xs → IsTied bytes xs z → HasEarlier xs z
+  tied_earlier [] z s o t = absurd t
+  tied_earlier (x ∷ []) z s o t = absurd t
+  tied_earlier (x ∷ y ∷ ys) z s o (inl t) =
       elim o.0 [
         | inl l ↦ absurd (not_less_itself (bytes x) (bytes y) t.1 l)
-        | inr l ↦ (x, inl refl, inr (inl (sym t.0)), t.1 ∙ ap bytes t.0, (let f : position y ≡ position z = ap position t.0 in omega arith))
+        | inr l ↦
+            let f : position y ≡ position z = ap position t.0 in
+            let k = l.1 (ap counts (t.1 ∙ ap bytes t.0) ∙ s) in
+            (x, inl refl, inr (inl (sym t.0)), t.1 ∙ ap bytes t.0, (omega arith))
       ]
-  tied_earlier (x ∷ y ∷ ys) z o (inr t) = let u = tied_earlier (y ∷ ys) z o.1 t in (u.0, inr u.1, inr u.2, u.3, u.4)
+  tied_earlier (x ∷ y ∷ ys) z s o (inr t) = let u = tied_earlier (y ∷ ys) z s o.1 t in (u.0, inr u.1, inr u.2, u.3, u.4)
 
-  earlier_tied : (xs : List X) (w z : X) → InOrder xs → IsOneOf w xs → IsOneOf z xs → bytes w ≡ bytes z → position w < position z → IsTied bytes xs z
-  earlier_tied [] w z o i j e l = absurd i
-  earlier_tied (x ∷ xs) w z o (inl i) (inl j) e l = let f : position w ≡ position z = ap position (i ∙ sym j) in absurd (omega arith)
-  earlier_tied (x ∷ []) w z o (inl i) (inr j) e l = absurd j
-  earlier_tied (x ∷ []) w z o (inr i) j e l = absurd i
-  earlier_tied (x ∷ y ∷ ys) w z o (inl i) (inr (inl j)) e l = inl (sym j, ap bytes (sym i) ∙ e ∙ ap bytes j)
-  earlier_tied (x ∷ y ∷ ys) w z o (inl i) (inr (inr j)) e l =
-      let b = between x y z o.0 (first_comes y ys z o.1 j) (ap bytes (sym i) ∙ e) in
-      inr (earlier_tied (y ∷ ys) y z o.1 (inl refl) (inr j) (sym b.0 ∙ ap bytes (sym i) ∙ e) b.1)
-  earlier_tied (x ∷ y ∷ ys) w z o (inr i) (inl j) e l =
+  earlier_tied : (xs : List X) (w z : X) → counts (bytes z) ≡ true → InOrder xs → IsOneOf w xs → IsOneOf z xs → bytes w ≡ bytes z → position w < position z → IsTied bytes xs z
+  earlier_tied [] w z s o i j e l = absurd i
+  earlier_tied (x ∷ xs) w z s o (inl i) (inl j) e l = let f : position w ≡ position z = ap position (i ∙ sym j) in absurd (omega arith)
+  earlier_tied (x ∷ []) w z s o (inl i) (inr j) e l = absurd j
+  earlier_tied (x ∷ []) w z s o (inr i) j e l = absurd i
+  earlier_tied (x ∷ y ∷ ys) w z s o (inl i) (inr (inl j)) e l = inl (sym j, ap bytes (sym i) ∙ e ∙ ap bytes j)
+  earlier_tied (x ∷ y ∷ ys) w z s o (inl i) (inr (inr j)) e l =
+      let b = between x y z s o.0 (first_comes y ys z o.1 j) (ap bytes (sym i) ∙ e) in
+      inr (earlier_tied (y ∷ ys) y z s o.1 (inl refl) (inr j) (sym b.0 ∙ ap bytes (sym i) ∙ e) b.1)
+  earlier_tied (x ∷ y ∷ ys) w z s o (inr i) (inl j) e l =
       elim (first_comes x (y ∷ ys) w o i) [
         | inl k ↦ absurd (not_less_itself (bytes x) (bytes w) (ap bytes (sym j) ∙ sym e) k)
-        | inr k ↦ let f : position z ≡ position x = ap position j in absurd (omega arith)
+        | inr k ↦
+            let f : position z ≡ position x = ap position j in
+            let m = k.1 (ap (λ v. counts (bytes v)) (sym j) ∙ s) in absurd (omega arith)
       ]
-  earlier_tied (x ∷ y ∷ ys) w z o (inr i) (inr j) e l = inr (earlier_tied (y ∷ ys) w z o.1 i j e l)
+  earlier_tied (x ∷ y ∷ ys) w z s o (inr i) (inr j) e l = inr (earlier_tied (y ∷ ys) w z s o.1 i j e l)
 
   one_of_moved : (xs ys : List X) (z : X) → IsPermutation xs ys → IsOneOf z xs → IsOneOf z ys
   one_of_moved xs ys z p i = at_member (λ x. IsOneOf x ys) z xs i (All_moved (λ x. IsOneOf x ys) ys xs (IsPermutation-sym xs ys p) (all_in ys))
@@ -175,20 +193,27 @@ module _ {X : Type 0} (bytes : X → List ℕ) (position : X → ℕ) where
       all_in (x ∷ xs) = (inl refl, weaker (λ z. IsOneOf z xs) (λ z. IsOneOf z (x ∷ xs)) (λ z h. inr h) xs (all_in xs))
 
   -- of keys in the order of their positions, the repeats are those that tie once the keys are sorted
-  pub again_tied : (n : ℕ) (xs ys : List X) (z : X) → PositionsRise bytes position n xs → IsPermutation xs ys → InOrder ys → IsAgain bytes xs z ↔ IsTied bytes ys z
-  again_tied n xs ys z h p o = (
-    (λ r. let u = again_earlier n xs z h r in earlier_tied ys u.0 z o (one_of_moved xs ys u.0 p u.1) (one_of_moved xs ys z p u.2) u.3 u.4),
-    (λ t. let u = tied_earlier ys z o t in
+  pub again_tied : (xs ys : List X) (z : X) → counts (bytes z) ≡ true → LieBefore counts bytes position xs → IsPermutation xs ys → InOrder ys → IsAgain bytes xs z ↔ IsTied bytes ys z
+  again_tied xs ys z s h p o = (
+    (λ r. let u = again_earlier xs z s h r in earlier_tied ys u.0 z s o (one_of_moved xs ys u.0 p u.1) (one_of_moved xs ys z p u.2) u.3 u.4),
+    (λ t. let u = tied_earlier ys z s o t in
         let q = IsPermutation-sym xs ys p in
-        earlier_again n xs u.0 z h (one_of_moved ys xs u.0 q u.1) (one_of_moved ys xs z q u.2) u.3 u.4),
+        earlier_again xs u.0 z s h (one_of_moved ys xs u.0 q u.1) (one_of_moved ys xs z q u.2) u.3 u.4),
   )
 
+  -- both count, and are at one position
   abbrev AtOnePlace : X → X → Bool
-  AtOnePlace x y = eqb (position x) (position y)
+  AtOnePlace x y = counts (bytes x) && (counts (bytes y) && eqb (position x) (position y))
 
   at_one_turned : (x y : X) → AtOnePlace x y ≡ AtOnePlace y x
-  at_one_turned x y = by (position x) (position y) (cases_eq (position x) (position y))
+  at_one_turned x y = swapped (counts (bytes x)) (counts (bytes y)) (eqb (position x) (position y)) ∙ ap (λ b. counts (bytes y) && (counts (bytes x) && b)) (by (position x) (position y) (cases_eq (position x) (position y)))
     where
+      swapped : (a b c : Bool) → a && (b && c) ≡ b && (a && c)
+      swapped true true c = refl
+      swapped true false c = refl
+      swapped false true c = refl
+      swapped false false c = refl
+
       by : (m n : ℕ) → (m ≡ n) ⊎ (m ≡ n → ⊥) → eqb m n ≡ eqb n m
       by m n (inl e) = eq-eqb m n e ∙ sym (eq-eqb n m (sym e))
       by m n (inr e) = not_eq m n e ∙ sym (not_eq n m (λ f. e (sym f)))
@@ -200,36 +225,42 @@ module _ {X : Type 0} (bytes : X → List ℕ) (position : X → ℕ) where
               go true f = absurd (e (eqb-true m n f))
               go false f = f
 
-  positions_apart : (n : ℕ) (xs : List X) → PositionsRise bytes position n xs → IsDistinct AtOnePlace xs
+  positions_apart : (xs : List X) → LieBefore counts bytes position xs → IsDistinct AtOnePlace xs
   unfolding IsDistinct
-  positions_apart n [] h = tt
-  positions_apart n (x ∷ xs) h = (apart_from x xs (λ z i. above_all (suc (position x)) xs z h.1 i), positions_apart (suc (position x)) xs h.1)
+  positions_apart [] h = tt
+  positions_apart (x ∷ xs) h = (apart_from x xs h.0, positions_apart xs h.1)
     where
-      apart : (x z : X) → suc (position x) ≤ position z → AtOnePlace x z ≡ false
-      apart x z l = go (AtOnePlace x z) refl
+      apart : (x z : X) → (counts (bytes x) ≡ true → position x < position z) → AtOnePlace x z ≡ false
+      apart x z l = go (counts (bytes x)) (counts (bytes z)) (eqb (position x) (position z)) refl refl
         where
-          go : (b : Bool) → AtOnePlace x z ≡ b → AtOnePlace x z ≡ false
-          go true f = absurd (let e = eqb-true (position x) (position z) f in omega arith)
-          go false f = f
+          go : (a b c : Bool) → counts (bytes x) ≡ a → eqb (position x) (position z) ≡ c → a && (b && c) ≡ false
+          go false b c e f = refl
+          go true false c e f = refl
+          go true true false e f = refl
+          go true true true e f = absurd (let m = eqb-true (position x) (position z) f in let k = l e in omega arith)
 
-      apart_from : (x : X) (xs : List X) → ((z : X) → IsOneOf z xs → suc (position x) ≤ position z) → AllByRecursion (λ z. AtOnePlace x z ≡ false) xs
+      apart_from : (x : X) (xs : List X) → ((z : X) → IsOneOf z xs → counts (bytes x) ≡ true → position x < position z) → AllByRecursion (λ z. AtOnePlace x z ≡ false) xs
       apart_from x [] h = tt
       apart_from x (y ∷ ys) h = (apart x y (h y (inl refl)), apart_from x ys (λ z i. h z (inr i)))
 
-  comes_from : (x y : X) → is_lt (key_order bytes position y x) ≡ false → AtOnePlace x y ≡ false → Comes x y
-  comes_from x y h k = by (bytewise (bytes y) (bytes x)) refl h
+  comes_from : (x y : X) → is_lt (key_order order bytes position y x) ≡ false → AtOnePlace x y ≡ false → Comes x y
+  comes_from x y h k = by (order (bytes y) (bytes x)) refl h
     where
-      by : (o : Ordering) → bytewise (bytes y) (bytes x) ≡ o → is_lt (ordering_then o (nat_cmp (position y) (position x))) ≡ false → Comes x y
+      by : (o : Ordering) → order (bytes y) (bytes x) ≡ o → is_lt (ordering_then o (nat_cmp (position y) (position x))) ≡ false → Comes x y
       by Less q l = absurd (true≢false l)
       by Equal q l =
+          let same : bytes x ≡ bytes y = sym (laws.exact (bytes y) (bytes x) q) in
           let at_least : position x ≤ position y = ge_from_not_lt (position y) (position x) l in
-          elim (cases_eq (position x) (position y)) [
-            | inl e ↦ absurd (true≢false (sym (eq-eqb (position x) (position y) e) ∙ k))
-            | inr e ↦ inr (sym (bytewise_order.exact (bytes y) (bytes x) q), (let ne : position x ≢ position y = e in omega arith))
-          ]
-      by Greater q l = inl (bytewise_order.turned (bytes y) (bytes x) ∙ ap ordering_reverse q)
+          inr (
+            same,
+            (λ s. elim (cases_eq (position x) (position y)) [
+              | inl e ↦ absurd (true≢false (sym ((λ i. s i && (((ap counts (sym same) ∙ s) i) && eq-eqb (position x) (position y) e i))) ∙ k))
+              | inr e ↦ let ne : position x ≢ position y = e in omega arith
+            ]),
+          )
+      by Greater q l = inl (laws.turned (bytes y) (bytes x) ∙ ap ordering_reverse q)
 
-  in_order_sorted : (ys : List X) → IsSortedBy (λ x y. is_lt (key_order bytes position x y)) ys → IsDistinct AtOnePlace ys → InOrder ys
+  in_order_sorted : (ys : List X) → IsSortedBy (λ x y. is_lt (key_order order bytes position x y)) ys → IsDistinct AtOnePlace ys → InOrder ys
   unfolding IsDistinct
   in_order_sorted [] s d = tt
   in_order_sorted (x ∷ []) s d = tt
@@ -239,5 +270,5 @@ module _ {X : Type 0} (bytes : X → List ℕ) (position : X → ℕ) where
   )
 
   -- keys in the order of their positions, once sorted
-  pub sorted_in_order : (n : ℕ) (xs ys : List X) → PositionsRise bytes position n xs → IsPermutation xs ys → IsSortedBy (λ x y. is_lt (key_order bytes position x y)) ys → InOrder ys
-  sorted_in_order n xs ys h p s = in_order_sorted ys s (IsDistinct-IsPermutation AtOnePlace at_one_turned xs ys p (positions_apart n xs h))
+  pub sorted_in_order : (xs ys : List X) → LieBefore counts bytes position xs → IsPermutation xs ys → IsSortedBy (λ x y. is_lt (key_order order bytes position x y)) ys → InOrder ys
+  sorted_in_order xs ys h p s = in_order_sorted ys s (IsDistinct-IsPermutation AtOnePlace at_one_turned xs ys p (positions_apart xs h))

@@ -6,7 +6,7 @@ use Rattle.cborn_model.specs.Tree.{Tree, Trees, Entries}
 use Rattle.cborn_model.specs.declared.heads.Size.{Size}
 use Rattle.cborn_judge.specs.Defects.{IsLoose, SizeDefect, HasDescent, DefectAt}
 use Rattle.cborn_model.specs.Reasons.{defect_rank}
-use Rattle.cborn_judge.specs.Flaws.{Within, WithinAll, WithinEntries}
+use Rattle.cborn_judge.specs.Flaws.{Within, WithinAll}
 use Rattle.cborn_model.specs.Earliest.{IsEarliest}
 use Rattle.cborn_model.specs.declared.defects.Defect as defect
 use Rattle.cborn_model.specs.declared.defects.DefectReason.{DefectReason}
@@ -24,23 +24,13 @@ abbrev pub LooseAt : ℕ → ℕ → Tree → ℕ → DefectReason → Type 0
 LooseAt q n t p r = (p ≡ q) × (r ≡ LooseBignum) × ((n ≡ 2) ⊎ (n ≡ 3)) × (b : List ℕ) × IsByteString t b × IsLoose b
 
 module _ (order : List ℕ → List ℕ → Ordering) where
-  -- the defects of a node, of some nodes, and of the keys and values of some pairs, each by itself
+  -- the defects of a node, and of some nodes, each by itself
   abbrev pub DefectIn : Tree → ℕ → DefectReason → Type 0
   DefectIn t p r = (q : Tree) × Within q t × DefectAt order q p r
 
   abbrev pub DefectInAll : Trees → ℕ → DefectReason → Type 0
   DefectInAll ts p r = (q : Tree) × WithinAll q ts × DefectAt order q p r
 
-  abbrev pub DefectAmong : Entries → ℕ → DefectReason → Type 0
-  DefectAmong es p r = (q : Tree) × WithinEntries q es × DefectAt order q p r
-
+  -- a key is not above the one before it
   abbrev pub DescentAt : Entries → ℕ → DefectReason → Type 0
   DescentAt es p r = (r ≡ KeyOrder) × HasDescent order es p
-
-  -- what a map is checked for besides its head
-  abbrev pub MapDefect : Entries → ℕ → DefectReason → Type 0
-  MapDefect es p r = DescentAt es p r ⊎ DefectAmong es p r
-
-  -- what a tag is checked for besides its head
-  abbrev pub TagDefect : ℕ → ℕ → Tree → ℕ → DefectReason → Type 0
-  TagDefect q n t p r = LooseAt q n t p r ⊎ DefectIn t p r

@@ -13,7 +13,7 @@ use Rattle.cborn_model.specs.Placed.{ChunksPlaced, Placed, PlacedAll, PlacedEntr
 use Rattle.cborn_model.specs.Partial.{Opening, an_array, a_map, a_tag, in_chunks, paired, last_key, chunk_of, chunks_of, built, ended_size, IsAll, IsString, AreStrings, Goes, Ends}
 use Rattle.cborn_model.specs.shared.Walks.{string_of}
 use Rattle.cborn_model.proofs.Listed.Trees.{count-trees, count_entries-entries}
-use Rattle.cborn_model.proofs.HandedOver.{strings}
+use Rattle.cborn_model.proofs.HandedOver.{strings, strings_are}
 use Rattle.cborn_wire.specs.Slots.{StringKind, OfBytes, OfText, major_of, opened, announced, opening, slot_in, slot_in_map, added_depth, Announces, HeadFits}
 use Rattle.cborn_wire.specs.SlotFaults.{needs_item}
 use Rattle.cborn_wire.specs.Places.{chunks_from, placed_from, all_from, entries_from}
@@ -68,15 +68,6 @@ pairs_placed (k ∷ []) p h = tt
 pairs_placed (k ∷ v ∷ ts) p h = (h.0, h.1.0, pairs_placed ts _ h.1.1)
 
 -- Strings as chunks.
-
-string_is : (k : StringKind) (t : Tree) → IsString k t → string_of k (chunk_of t) ≡ t
-string_is OfBytes (Bytes p w x) h = refl
-string_is OfText (Text p w x) h = refl
-string_is k t h = absurd h
-
-pub strings_are : (k : StringKind) (ts : List Tree) → AreStrings k ts → map (string_of k) (chunks_of ts) ≡ ts
-strings_are k [] h = refl
-strings_are k (t ∷ ts) h = ap (λ u. u ∷ map (string_of k) (chunks_of ts)) (string_is k t h.0) ∙ ap (λ us. t ∷ us) (strings_are k ts h.1)
 
 pub strings_spelled : (k : StringKind) (cs : List Chunk) → flat_map (chunk_bytes (major_of k)) cs ≡ spelled_all (trees (map (string_of k) cs))
 strings_spelled k [] = refl

@@ -1,5 +1,5 @@
 -- A head that was read at the front of bytes, and what is after it.
-use Rattle.std.proofs.Common.{◌≡◌, ℕ, ◌+◌, ◌-◌, ◌≤◌, List, ◌∷◌, ◌++◌, length, drop, sym, ap, ◌∙◌, subst, arith, append_assoc, append-nil, length-append, drop_at}
+use Rattle.std.proofs.Common.{◌≡◌, ℕ, ◌+◌, ◌-◌, List, ◌∷◌, ◌++◌, drop, sym, ap, ◌∙◌, subst, append_assoc, append-nil, drop_at}
 use Rattle.cborn_model.specs.declared.heads.Major.{Major}
 use Rattle.cborn_model.specs.declared.heads.Size.TheVariants.{Fixed, Endless}
 use Rattle.cborn_model.specs.declared.heads.Width.{Width}
@@ -8,7 +8,6 @@ use Rattle.cborn_model.specs.Spelled.{ending}
 use Rattle.cborn_wire.specs.declared.heads.Argument.{Argument}
 use Rattle.cborn_wire.specs.declared.heads.Head.{Head}
 use Rattle.cborn_wire.specs.HeadReading.{major_at, IsHeadOf, seen_argument, ArgumentFits}
-use Rattle.cborn_wire.specs.Parts.{Leaves}
 
 pub head_split : (x : List ℕ) (h : Head) (n : ℕ) → IsHeadOf x h n → x ≡ head (major_at h.major) (seen_argument h.argument) ++ drop n x
 head_split x h n i =
@@ -23,16 +22,6 @@ head_read {x} {tail} {h} {n} {m} {a} t i e f = head_split x h n i ∙ (λ j. hea
 pub read_from : (F : List ℕ → Type 0) {x tail : List ℕ} {h : Head} {n : ℕ} {m : Major} {a : Argument} → tail ≡ drop n x → IsHeadOf x h n → major_at h.major ≡ m → h.argument ≡ a → (ArgumentFits (seen_argument a) → F (head m (seen_argument a) ++ tail)) → F x
 read_from F t i e f done = subst F (sym (head_read t i e f)) (done (subst (λ (b : Argument). ArgumentFits (seen_argument b)) f i.fits))
 
--- R x rest: something is at the front of x, and rest after it
-module _ (R : List ℕ → List ℕ → Type 0) where
-  -- it goes on after its head
-  pub head_before : {x tail : List ℕ} {h : Head} {n left : ℕ} {m : Major} {a : Argument} → tail ≡ drop n x → IsHeadOf x h n → major_at h.major ≡ m → h.argument ≡ a → (ArgumentFits (seen_argument a) → Leaves (R (head m (seen_argument a) ++ tail)) left) → Leaves (R x) left
-  head_before {left = left} t i e f done = read_from (λ (y : List ℕ). Leaves (R y) left) t i e f done
-
-  -- the head is all of it
-  pub head_alone : {x tail : List ℕ} {h : Head} {n left : ℕ} {m : Major} {a : Argument} → tail ≡ drop n x → IsHeadOf x h n → major_at h.major ≡ m → h.argument ≡ a → length tail ≡ left → (ArgumentFits (seen_argument a) → R (head m (seen_argument a) ++ tail) tail) → Leaves (R x) left
-  head_alone {tail = tail} t i e f l done = head_before t i e f (λ fits. (tail, l, done fits))
-
 -- ---- contents after a head, and the end of them
 
 pub fixed_split : (m : Major) (w : Width) (body rest : List ℕ) {n count : ℕ} {input : List ℕ} → count ≡ n → input ≡ body ++ rest → head m (Given w n) ++ input ≡ ((head m (Given w count) ++ body) ++ ending (Fixed w)) ++ rest
@@ -46,7 +35,3 @@ endless_split m body {rest = rest} e f =
     ap (λ z. front ++ z) (e ∙ ap (λ z. body ++ z) f) ∙ sym (append_assoc front body (255 ∷ rest)) ∙ sym (append_assoc (front ++ body) (ending Endless) rest)
 
 -- ---- places
-
--- the place of what follows
-pub place_after : (total : ℕ) (input front rest : List ℕ) → length input ≤ total → input ≡ front ++ rest → total - length rest ≡ (total - length input) + length front
-place_after total input front rest l e = omega (arith, l, ap length e ∙ length-append front rest)

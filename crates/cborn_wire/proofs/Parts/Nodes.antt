@@ -88,9 +88,6 @@ node_more x y q = nodes_more x (one_node {Q = λ _. Unit {0}} y tt) q
 pub nodes_as : {P Q : List Tree → Type 0} {room n : ℕ} {input rest : List ℕ} (x : NodesRead P room n input rest) → Q x.nodes → NodesRead Q room n input rest
 nodes_as x q = record { nodes = x.nodes; read = x.read; fits = x.fits; shallow = x.shallow; holds = q; count = x.count }
 
-pub nodes_left : {P : List Tree → Type 0} {room n : ℕ} {input rest : List ℕ} → NodesRead P room n input rest → length rest ≤ length input
-nodes_left {rest = rest} x = omega (arith, ap length x.read ∙ length-append (spelled_all (trees x.nodes)) rest)
-
 -- nodes that were read up to the end
 pub wellformed : {P : List Tree → Type 0} {room n : ℕ} {input rest : List ℕ} (x : NodesRead P room n input rest) → rest ≡ [] → Wellformed room (trees x.nodes) input
 wellformed x e = record { spells = sym (x.read ∙ ap (λ z. spelled_all (trees x.nodes) ++ z) e ∙ append-nil (spelled_all (trees x.nodes))); fit = x.fits; shallow = x.shallow }

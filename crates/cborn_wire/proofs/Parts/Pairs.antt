@@ -1,5 +1,5 @@
 -- Pairs that were read, and maps of them.
-use Rattle.std.proofs.Common.{◌≡◌, ℕ, ◌+◌, ◌-◌, ◌≤◌, List, [], ◌∷◌, ◌++◌, length, refl, sym, ap, ◌∙◌, subst, arith, append_assoc, append-nil, length-append}
+use Rattle.std.proofs.Common.{◌≡◌, ℕ, ◌+◌, ◌-◌, ◌≤◌, List, [], ◌∷◌, ◌++◌, refl, sym, ap, ◌∙◌, subst, arith, append_assoc, append-nil, length-append}
 use Rattle.cborn_model.specs.declared.heads.Width.{Width}
 use Rattle.cborn_model.specs.declared.heads.Size.TheVariants.{Fixed, Endless}
 use Rattle.cborn_model.specs.declared.heads.Major.TheVariants.{Map}
@@ -56,10 +56,6 @@ entry_more x k v q = pair_more x (pair_read {Q = λ _. Unit {0}} k v tt) q
 -- the same pairs, of which something else holds
 pub pairs_as : {P Q : List Pair → Type 0} {room n : ℕ} {input rest : List ℕ} (x : PairsRead P room n input rest) → Q x.nodes → PairsRead Q room n input rest
 pairs_as x q = record { nodes = x.nodes; read = x.read; fits = x.fits; shallow = x.shallow; holds = q; count = x.count }
-
--- what is left is no longer
-pub pairs_left : {P : List Pair → Type 0} {room n : ℕ} {input rest : List ℕ} → PairsRead P room n input rest → length rest ≤ length input
-pairs_left {rest = rest} x = omega (arith, ap length x.read ∙ length-append (spelled_entries (entries x.nodes)) rest)
 
 module _ {P : List Pair → Type 0} {Q : Tree → Type 0} {room n : ℕ} (place : ℕ) where
   pub map_read : {input rest : List ℕ} (w : Width) → 1 ≤ room → WidthFits w n → (s : PairsRead P (room - 1) n input rest) → Q (Pairs place (Fixed w) (entries s.nodes)) → NodeRead Q room (head Map (Given w n) ++ input) rest

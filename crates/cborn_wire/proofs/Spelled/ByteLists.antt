@@ -3,11 +3,6 @@ use Rattle.std.proofs.Common.{◌≡◌, refl, sym, ap, ◌∙◌, ℕ, suc, ◌
 use Rattle.std.proofs.lemmas.List.{append_cancel_left, nil_from_length}
 use Rattle.cborn_model.specs.Bytes.{AreBytes}
 
--- the elements of a slice of bytes are bytes
-pub are_bytes : (x : List ℕ) → ((i : ℕ) → Fits w8 (get_or x i 0)) → AreBytes x
-are_bytes [] h = tt
-are_bytes (b ∷ x) h = (omega (arith, h 0), are_bytes x (λ i. h (suc i)))
-
 -- one list is the front of another that begins with the same
 pub split : (g h z r : List ℕ) → g ++ z ≡ h ++ r → length g ≤ length h → (m : List ℕ) × (h ≡ g ++ m)
 split [] h z r e l = (h, refl)

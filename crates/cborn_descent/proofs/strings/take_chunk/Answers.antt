@@ -1,10 +1,9 @@
 use Rattle.std.proofs.Common.{rules, ℕ, List, refl, subst, sym, ◌∙◌, drop, take, inl, inr}
 use Rattle.std.proofs.lemmas.List.{take_rest, take-append-drop}
 use Rattle.cborn_model.specs.Bytes.{AreBytes}
-use Rattle.cborn_model.proofs.Bytes.{bytes-right}
+use Rattle.cborn_model.proofs.Bytes.{bytes-right, are_bytes}
 use Rattle.cborn_wire.proofs.Parts.Heads.{read_from}
 use Rattle.cborn_wire.proofs.Parts.Strings.{chunk_read}
-use Rattle.cborn_wire.proofs.Spelled.ByteLists.{are_bytes}
 use Rattle.cborn_descent.specs.Descending.{ChunkFails, BlamesChunk, major_of}
 use Rattle.cborn_descent.proofs.Heads.{head_never}
 use Rattle.cborn_descent.proofs.Texts.{string_short, split_read}

@@ -1,5 +1,5 @@
 use Rattle.std.proofs.Common.{rules, refl}
-use Rattle.cborn_wire.proofs.Spelled.ByteLists.{are_bytes}
+use Rattle.cborn_model.proofs.Bytes.{are_bytes}
 use Rattle.cborn_descent.specs.Descending.{Never}
 use Rattle.cborn_descent.proofs.Texts.{string_short, string_only, string_read, split_read}
 use Rattle.cborn_descent.proofs.strings.take_string.Goals as goal

@@ -1,5 +1,5 @@
 use Rattle.std.proofs.Common.{ℕ, ◌≤◌, subst}
-use Rattle.cborn_wire.proofs.Spelled.ByteLists.{are_bytes}
+use Rattle.cborn_model.proofs.Bytes.{are_bytes}
 use Rattle.cborn_transcode.proofs.Walked.{integer_found}
 use Rattle.cborn_transcode.proofs.walked_integers.int_len.Goals as goal
 

@@ -3,7 +3,7 @@ use Rattle.std.proofs.lemmas.List.{take_rest}
 use Rattle.cborn_model.specs.Partial.{top, no_part}
 use Rattle.cborn_wire.specs.shared.Visiting.{ReadsItem}
 use Rattle.cborn_wire.proofs.FirstItem.{refused_first, first_whole, first_cut}
-use Rattle.cborn_wire.proofs.Spelled.ByteLists.{are_bytes}
+use Rattle.cborn_model.proofs.Bytes.{are_bytes}
 use Rattle.cborn_wire.proofs.Visiting.Ending.{fresh_fed}
 use Rattle.cborn_wire.proofs.first_items.visit_item.Goals as goal
 

@@ -1,7 +1,7 @@
 use Rattle.std.proofs.Common.{refl, ◌∙◌, [], length}
 use Rattle.cborn_wire.specs.declared.faults.WireFault.TheVariants.{Refused}
 use Rattle.cborn_wire.specs.declared.faults.WireReason.TheVariants.{Truncated}
-use Rattle.cborn_wire.proofs.Spelled.ByteLists.{are_bytes}
+use Rattle.cborn_model.proofs.Bytes.{are_bytes}
 use Rattle.cborn_wire.proofs.Feeding.Outcomes.{err_is}
 use Rattle.cborn_wire.proofs.Visiting.Ending.{fresh_fed, whole_piece, cut_piece, refused_piece}
 use Rattle.cborn_wire.proofs.visits.visit_in.Goals as goal

@@ -5,7 +5,7 @@ use Rattle.cborn_wire.specs.shared.Visiting.{open_in}
 use Rattle.cborn_wire.specs.devices.OpenNodes.{seen_nodes}
 use Rattle.cborn_wire.specs.devices.ItemReading.{pending, seen}
 use Rattle.cborn_wire.proofs.Machine.Reached.{reached_more}
-use Rattle.cborn_wire.proofs.Spelled.ByteLists.{are_bytes}
+use Rattle.cborn_model.proofs.Bytes.{are_bytes}
 use Rattle.cborn_wire.proofs.Feeding.FeederLaws.{accepts, fails}
 use Rattle.cborn_wire.proofs.feeders.Feeder.feed.Goals as goal
 

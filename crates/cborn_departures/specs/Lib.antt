@@ -1,2 +1,0 @@
-pub mod Departing
-pub mod devices

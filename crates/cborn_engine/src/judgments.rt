@@ -1,0 +1,70 @@
+//! Judging bytes: what the items that they hold are encoded as, and where they first depart from
+//! that, or why they hold none. One look finds it all, and keeps no tree.
+
+ghost use Rattle.std.specs.Prelude.{◌≡◌, ◌≤◌, ℕ, [], length, IfOk, IfErr};
+ghost use Rattle.cborn_model.specs.Partial.{top, no_part};
+ghost use Rattle.cborn_engine.specs.declared.kinds.Kind.TheVariants as kinds;
+ghost use Rattle.cborn_engine.specs.devices.Counting.{read_failures};
+ghost use Rattle.cborn_engine.specs.devices.Encoding.{AreJudged};
+ghost use Rattle.cborn_engine.specs.Refusing.{IsRefused};
+ghost use Rattle.cborn_engine.specs.Whole.{TellsFault};
+
+use crate::faults::EngineFault;
+use crate::refusals::fault_or_refusal;
+use cborn_judge::{EncodedItems, Encoder};
+use cborn_model::{Invalid, KeyOrder, Limit, Visitor};
+use cborn_wire::{WireFault, visit};
+use std::alloc::{AllocError, Global};
+
+/// The deterministic encodings of the items that bytes hold, the keys of maps in the order `O`, and
+/// the first defect of the bytes, if they aren't these encodings (RFC 8949 section 4.2). Where memory
+/// was refused, the fault of the bytes is answered if they have one.
+///
+/// # Errors
+/// The fault of bytes that aren't well-formed, the first flaw of the first item that isn't valid, or
+/// `OutOfMemory`.
+pub fn judge_bytes<O: KeyOrder>(
+    alloc: Global,
+    limit: Limit,
+    input: &[u8],
+) -> Result<EncodedItems, EngineFault>
+    ensures judged { IfOk result (λ found. AreJudged O.order limit input.now found.bytes.items found.defect) }
+    ensures refused { IfErr result (λ why. (most : ℕ) → length input.now ≤ most → IsRefused kinds.Wire limit most input.now why) }
+    ensures malformed { TellsFault kinds.Wire limit input.now result }
+    ensures failures { (n : ℕ) → read_failures result n ≡ n }
+{
+    // An encoding is longer than what it was read from only where an indefinite length, which takes
+    // two bytes, becomes the head of 256 entries or more.
+    let capacity = input.len().saturating_add(input.len() / 256 + 8);
+    match Encoder::<O>::with_capacity(alloc, capacity) {
+        Ok(encoder) => judge_with(alloc, limit, input, encoder),
+        Err(refused) => Err(fault_or_refusal(refused, limit, input)),
+    }
+}
+
+/// What `judge_bytes` answers, by an encoder that was handed nothing.
+fn judge_with<O: KeyOrder>(
+    alloc: Global,
+    limit: Limit,
+    input: &[u8],
+    encoder: Encoder<O>,
+) -> Result<EncodedItems, EngineFault>
+    requires { ⟦<Encoder<O> as Visitor>⟧.holds encoder (top []) no_part }
+    ensures judged { IfOk result (λ found. AreJudged O.order limit input.now found.bytes.items found.defect) }
+    ensures refused { IfErr result (λ why. (most : ℕ) → length input.now ≤ most → IsRefused kinds.Wire limit most input.now why) }
+    ensures malformed { TellsFault kinds.Wire limit input.now result }
+    ensures failures { (n : ℕ) → read_failures result n ≡ n }
+{
+    let mut encoder = encoder;
+    match visit(alloc, limit, input, &mut encoder) {
+        Ok(()) => {}
+        Err(WireFault::Refused { place, reason }) => {
+            return Err(EngineFault::Wire(WireFault::Refused { place, reason }));
+        }
+        Err(WireFault::OutOfMemory) => return Err(fault_or_refusal(AllocError, limit, input)),
+    }
+    match encoder.finish() {
+        Ok(encoded) => Ok(encoded),
+        Err((place, reason)) => Err(EngineFault::Invalid(Invalid::Refused { place, reason })),
+    }
+}

@@ -1,3 +1,0 @@
-pub mod Flawed
-pub mod Searching
-pub mod devices

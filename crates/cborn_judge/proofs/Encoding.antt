@@ -1,0 +1,14 @@
+pub mod Standing
+pub mod Finding
+pub mod MapsRows
+pub mod MapsEnding
+pub mod Ends
+pub mod EndsChunks
+pub mod EndsTags
+pub mod EndsWell
+pub mod Strings
+pub mod Leaves
+pub mod Fronts
+pub mod PairsRead
+pub mod PairsMet
+pub mod PairsArranged

@@ -1,0 +1,217 @@
+-- The rows of a map and the pairs of its nodes: which keys are the same, which isn't above the one before it, and what the map is encoded as.
+use Rattle.std.proofs.Common.{◌≡◌, ◌≢◌, ℕ, inl, inr, List, [], ◌∷◌, ◌++◌, length, refl, sym, ap, ◌∙◌, subst, arith, None, Ordering, Less, Equal, IsPermutation}
+use Rattle.std.specs.Prelude.{◌↔◌}
+use Rattle.std.specs.List.{AllZip}
+use Rattle.std.proofs.lemmas.List.Sorted.{IsPermutation-refl}
+use Rattle.cborn_model.specs.Heads.{least, IsLeastHead}
+use Rattle.cborn_model.specs.Meaning.{Means, EntriesMean}
+use Rattle.cborn_model.specs.Orders.{IsKeyOrder, Rising}
+use Rattle.cborn_model.specs.Partial.{paired, last_key}
+use Rattle.cborn_model.specs.Tree.{Tree, Pairs, entries, place}
+use Rattle.cborn_model.specs.Valid.{IsProper, HasProperPairs}
+use Rattle.cborn_model.specs.Value.{Value, Couples, dict, no_pairs, pair, pair_count, Same}
+use Rattle.cborn_model.specs.declared.heads.Size.{Size}
+use Rattle.cborn_model.specs.declared.defects.DefectReason.{DefectReason}
+use Rattle.cborn_model.specs.declared.faults.InvalidReason.{InvalidReason}
+use Rattle.cborn_model.proofs.Listed.Trees.{count_entries-entries}
+use Rattle.cborn_det.specs.Det.{Det, DetPairs, keys, joined}
+use Rattle.cborn_det.proofs.Canon.{same_of_one, one_of_same}
+use Rattle.cborn_det.proofs.Room.{holds_below, counted_pairs}
+use Rattle.cborn_det.proofs.Written.{some_bytes}
+use Rattle.cborn_judge.specs.Flaws.{IsRepeated, HasRepeat}
+use Rattle.cborn_judge.specs.Defects.{Descends, HasDescent}
+use Rattle.cborn_judge.specs.shared.Checked.{DescentAt}
+use Rattle.cborn_judge.specs.shared.Judged.{RepeatFlaw}
+use Rattle.cborn_judge.specs.devices.Encoding.{MeansNothing, Row, row_entries, IsSameKey, HasSameKeys, RowRepeat, AreFilled, filled_keys, Falls, HasFall, RowDescent, AreArranged, IsEncodedAs, Coded, AreRows}
+use Rattle.cborn_judge.proofs.FirstDefect.Descending.{above_by_code}
+use Rattle.cborn_judge.proofs.Meaning.Judging.{no_repeat, new_keys}
+use Rattle.cborn_judge.proofs.Meaning.Meanings.{means_once}
+use Rattle.cborn_judge.proofs.SameKeys.Repeating.{nothing_repeated}
+
+-- ---- keys and values in turn
+
+pub sound_paired : (ts : List Tree) (vs : List Value) → last_key ts ≡ None → AllZip Means ts vs → (ps : Couples) × EntriesMean (entries (paired ts)) ps
+sound_paired [] vs l h = (no_pairs, tt)
+sound_paired (k ∷ []) vs l h = cc
+sound_paired (k ∷ v ∷ ts) [] l h = absurd h
+sound_paired (k ∷ v ∷ ts) (a ∷ []) l h = absurd h.1
+sound_paired (k ∷ v ∷ ts) (a ∷ b ∷ vs) l h = let r = sound_paired ts vs l h.1.1 in (pair a b r.0, (h.0, h.1.0, r.1))
+
+pub paired_sound : (ts : List Tree) (ps : Couples) → last_key ts ≡ None → EntriesMean (entries (paired ts)) ps → (vs : List Value) × AllZip Means ts vs
+paired_sound [] ps l h = ([], tt)
+paired_sound (k ∷ []) ps l h = cc
+paired_sound (k ∷ v ∷ ts) no_pairs l h = absurd h
+paired_sound (k ∷ v ∷ ts) (pair a b ps) l h = let r = paired_sound ts ps l h.2 in (a ∷ b ∷ r.0, (h.0, (h.1, r.1)))
+
+-- ---- keys that have an encoding
+
+pub keys-filled : (rs : List Row) → AreFilled rs → filled_keys rs ≡ keys (row_entries rs)
+keys-filled [] h = refl
+keys-filled ((p, [], v) ∷ rs) h = absurd (h.0.0 refl)
+keys-filled ((p, b ∷ bs, v) ∷ rs) h = ap (λ l. (b ∷ bs) ∷ l) (keys-filled rs h.1)
+
+module _ (order : List ℕ → List ℕ → Ordering) where
+  -- the row of a key and its value
+  abbrev pub IsRow : Tree × Tree → Row → Type 0
+  IsRow n r = (r.0 ≡ place n.0) × Coded order n.0 r.1 × Coded order n.1 r.2
+
+  pub paired_rows : (ts : List Tree) (rs : List Row) → last_key ts ≡ None → AreRows order ts rs → AllZip IsRow (paired ts) rs
+  paired_rows [] [] l h = tt
+  paired_rows [] (r ∷ rs) l h = absurd h
+  paired_rows (k ∷ []) rs l h = cc
+  paired_rows (k ∷ v ∷ ts) [] l h = absurd h
+  paired_rows (k ∷ v ∷ ts) (r ∷ rs) l h = ((h.0, h.1, h.2), paired_rows ts rs l h.3)
+
+  not_empty : (v : Value) (x : List ℕ) → Det order v x → x ≢ []
+  not_empty v x d e = omega (arith, some_bytes order v x d, ap length e)
+
+  -- ---- what a node means that means something
+
+  meant : (t : Tree) (v : Value) (x : List ℕ) → Coded order t x → Means t v → IsProper v × Det order v x
+  meant t v x (inl c) m = subst (λ u. IsProper u × Det order u x) (means_once t c.0 v c.1 m) (c.2, c.3)
+  meant t v x (inr c) m = absurd (c.1 v m)
+
+  -- each node means something
+  pub record AreWritten (rs : List Row) (ps : Couples) : Type 0 where
+    pub filled : AreFilled rs
+    pub proper : HasProperPairs ps
+    pub written : DetPairs order ps (row_entries rs)
+
+  pub written : (ns : List (Tree × Tree)) (rs : List Row) (ps : Couples) → AllZip IsRow ns rs → EntriesMean (entries ns) ps → AreWritten rs ps
+  written [] [] no_pairs h m = record { filled = tt; proper = tt; written = tt }
+  written [] [] (pair a b ps) h m = absurd m
+  written [] (r ∷ rs) ps h m = absurd h
+  written (n ∷ ns) [] ps h m = absurd h
+  written (n ∷ ns) (r ∷ rs) no_pairs h m = absurd m
+  written (n ∷ ns) (r ∷ rs) (pair a b ps) h m =
+      let k = meant n.0 a r.1 h.0.1 m.0 in
+      let v = meant n.1 b r.2 h.0.2 m.1 in
+      let w = written ns rs ps h.1 m.2 in
+      record {
+        filled = ((not_empty a r.1 k.1, not_empty b r.2 v.1), w.filled);
+        proper = (k.0, v.0, w.proper);
+        written = (k.1, v.1, w.written);
+      }
+
+  -- of rows whose keys rise
+  pub as_they_stand : (rs : List Row) → AreFilled rs → Rising order (filled_keys rs) → AreArranged order rs (joined (row_entries rs))
+  as_they_stand rs f h = (row_entries rs, IsPermutation-refl (row_entries rs), subst (Rising order) (keys-filled rs f) h, refl)
+
+  pub map_encoded : (p : ℕ) (s : Size) (ns : List (Tree × Tree)) (rs : List Row) (ps : Couples) (h x : List ℕ) → AllZip IsRow ns rs → EntriesMean (entries ns) ps → ((q : ℕ) → HasRepeat (entries ns) q → ⊥) → IsLeastHead 5 (length ns) h → AreArranged order rs x
+      → IsEncodedAs order (Pairs p s (entries ns)) (h ++ x)
+  map_encoded p s ns rs ps h x z m n l a =
+      let w = written ns rs ps z m in
+      let new = new_keys (entries ns) ps m n in
+      let count : length ns ≡ pair_count ps = sym (count_entries-entries ns) ∙ sym (counted_pairs (entries ns) ps m) in
+      let head : IsLeastHead 5 (pair_count ps) h = subst (λ k. IsLeastHead 5 k h) count l in
+      (dict ps, (ps, m, new, refl), (w.proper, new, holds_below (least (pair_count ps)) (pair_count ps) head.0), (h, row_entries rs, a.0, head, w.written, a.1, a.2, ap (λ y. h ++ y) a.3))
+
+  pub repeat_nothing : (p : ℕ) (s : Size) (ns : List (Tree × Tree)) (q : ℕ) → HasRepeat (entries ns) q → MeansNothing (Pairs p s (entries ns))
+  repeat_nothing p s ns q h v m = no_repeat (entries ns) m.0 q m.1 m.2 h
+
+  module _ (laws : IsKeyOrder order) where
+    -- ---- which keys are the same
+
+    -- a key that means the same as k
+    repeated_row : (k : Tree) (a : Value) (x : List ℕ) (ns : List (Tree × Tree)) (rs : List Row) (p : ℕ) → IsProper a → Means k a → Det order a x → AllZip IsRow ns rs → IsRepeated k (entries ns) p → IsSameKey x rs p
+    repeated_row k a x [] rs p g m d h r = absurd r
+    repeated_row k a x (n ∷ ns) [] p g m d h r = absurd h
+    repeated_row k a x (n ∷ ns) (r ∷ rs) p g m d h (inl q) =
+        let s = q.1 in
+        let b = meant n.0 s.1 r.1 h.0.1 s.3 in
+        let same : Same a s.1 = subst (λ c. Same c s.1) (means_once k s.0 a s.2 m) s.4 in
+        inl (q.0 ∙ sym h.0.0, sym (one_of_same order laws a s.1 x r.1 g b.0 same d b.1))
+    repeated_row k a x (n ∷ ns) (r ∷ rs) p g m d h (inr q) = inr (repeated_row k a x ns rs p g m d h.1 q)
+
+    row_repeated : (k : Tree) (a : Value) (x : List ℕ) (ns : List (Tree × Tree)) (rs : List Row) (p : ℕ) → IsProper a → Means k a → Det order a x → AllZip IsRow ns rs → IsSameKey x rs p → IsRepeated k (entries ns) p
+    row_repeated k a x [] [] p g m d h r = absurd r
+    row_repeated k a x [] (r ∷ rs) p g m d h q = absurd h
+    row_repeated k a x (n ∷ ns) [] p g m d h q = absurd h
+    row_repeated k a x (n ∷ ns) (r ∷ rs) p g m d h (inl q) = inl (q.0 ∙ h.0.0, by h.0.1)
+      where
+        by : Coded order n.0 r.1 → (b : Value) × (c : Value) × Means k b × Means n.0 c × Same b c
+        by (inl c) = (a, c.0, m, c.1, same_of_one order a c.0 x g c.2 d (subst (Det order c.0) q.1 c.3))
+        by (inr c) = absurd (not_empty a x d (sym q.1 ∙ c.0))
+    row_repeated k a x (n ∷ ns) (r ∷ rs) p g m d h (inr q) = inr (row_repeated k a x ns rs p g m d h.1 q)
+
+    repeat_row : (ns : List (Tree × Tree)) (rs : List Row) (p : ℕ) → AllZip IsRow ns rs → HasRepeat (entries ns) p → HasSameKeys rs p
+    repeat_row [] rs p h q = absurd q
+    repeat_row (n ∷ ns) [] p h q = absurd h
+    repeat_row (n ∷ ns) (r ∷ rs) p h (inl q) = by h.0.1
+      where
+        by : Coded order n.0 r.1 → HasSameKeys (r ∷ rs) p
+        by (inl c) = inl (not_empty c.0 r.1 c.3, repeated_row n.0 c.0 r.1 ns rs p c.2 c.1 c.3 h.1 q)
+        by (inr c) = absurd (nothing_repeated n.0 (entries ns) p c.1 q)
+    repeat_row (n ∷ ns) (r ∷ rs) p h (inr q) = inr (repeat_row ns rs p h.1 q)
+
+    row_repeat : (ns : List (Tree × Tree)) (rs : List Row) (p : ℕ) → AllZip IsRow ns rs → HasSameKeys rs p → HasRepeat (entries ns) p
+    row_repeat [] [] p h q = absurd q
+    row_repeat [] (r ∷ rs) p h q = absurd h
+    row_repeat (n ∷ ns) [] p h q = absurd h
+    row_repeat (n ∷ ns) (r ∷ rs) p h (inl q) = by h.0.1
+      where
+        by : Coded order n.0 r.1 → HasRepeat (entries (n ∷ ns)) p
+        by (inl c) = inl (row_repeated n.0 c.0 r.1 ns rs p c.2 c.1 c.3 h.1 q.1)
+        by (inr c) = absurd (q.0 c.0)
+    row_repeat (n ∷ ns) (r ∷ rs) p h (inr q) = inr (row_repeat ns rs p h.1 q)
+
+    -- keys are the same exactly if their encodings are equal
+    pub repeats : (ns : List (Tree × Tree)) (rs : List Row) → AllZip IsRow ns rs → (p : ℕ) (r : InvalidReason) → RowRepeat rs p r ↔ RepeatFlaw (entries ns) p r
+    repeats ns rs h p r = ((λ q. (q.0, row_repeat ns rs p h q.1)), (λ q. (q.0, repeat_row ns rs p h q.1)))
+
+    rising_skip : (k l : List ℕ) (ks : List (List ℕ)) → Rising order (k ∷ l ∷ ks) → Rising order (k ∷ ks)
+    rising_skip k l [] h = tt
+    rising_skip k l (m ∷ ks) h = (laws.along k l m h.0 h.1.0, h.1.1)
+
+    not_below : (k : List ℕ) → order k k ≡ Less → ⊥
+    not_below k h = let e : order k k ≡ Equal = laws.itself k in cc
+
+    rising_apart : (k : List ℕ) (rs : List Row) (p : ℕ) → k ≢ [] → Rising order (k ∷ filled_keys rs) → IsSameKey k rs p → ⊥
+    rising_apart k [] p n h q = q
+    rising_apart k ((o, [], v) ∷ rs) p n h (inl q) = n (sym q.1)
+    rising_apart k ((o, [], v) ∷ rs) p n h (inr q) = rising_apart k rs p n h q
+    rising_apart k ((o, b ∷ bs, v) ∷ rs) p n h (inl q) = not_below k (subst (λ l. order k l ≡ Less) q.1 h.0)
+    rising_apart k ((o, b ∷ bs, v) ∷ rs) p n h (inr q) = rising_apart k rs p n (rising_skip k (b ∷ bs) (filled_keys rs) h) q
+
+    -- keys that rise are the same as none of the others
+    pub rising_new : (rs : List Row) (p : ℕ) → Rising order (filled_keys rs) → HasSameKeys rs p → ⊥
+    rising_new [] p h q = q
+    rising_new ((o, [], v) ∷ rs) p h (inl q) = q.0 refl
+    rising_new ((o, [], v) ∷ rs) p h (inr q) = rising_new rs p h q
+    rising_new ((o, b ∷ bs, v) ∷ rs) p h (inl q) = rising_apart (b ∷ bs) rs p q.0 h q.1
+    rising_new ((o, b ∷ bs, v) ∷ rs) p h (inr q) = rising_new rs p (rest (filled_keys rs) h) q
+      where
+        rest : (ks : List (List ℕ)) → Rising order ((b ∷ bs) ∷ ks) → Rising order ks
+        rest [] h = tt
+        rest (k ∷ ks) h = h.1
+
+    -- ---- which key isn't above the one before it
+
+    encoded : (t : Tree) (x : List ℕ) → x ≢ [] → Coded order t x → IsEncodedAs order t x
+    encoded t x n (inl c) = c
+    encoded t x n (inr c) = absurd (n c.0)
+
+    falls : (m : Tree × Tree) (c : List ℕ) (ns : List (Tree × Tree)) (rs : List Row) (p : ℕ) → IsEncodedAs order m.0 c → AllZip IsRow ns rs → AreFilled rs → Falls order c rs p → Descends order m.0 (entries ns) p
+    falls m c [] [] p d h f q = q
+    falls m c [] (r ∷ rs) p d h f q = absurd h
+    falls m c (n ∷ ns) [] p d h f q = absurd h
+    falls m c (n ∷ ns) (r ∷ rs) p d h f (inl q) = inl (q.0 ∙ h.0.0, (above_by_code order laws m n c r.1 d (encoded n.0 r.1 f.0.0 h.0.1)).1 q.1)
+    falls m c (n ∷ ns) (r ∷ rs) p d h f (inr q) = inr (falls n r.1 ns rs p (encoded n.0 r.1 f.0.0 h.0.1) h.1 f.1 q)
+
+    descends : (m : Tree × Tree) (c : List ℕ) (ns : List (Tree × Tree)) (rs : List Row) (p : ℕ) → IsEncodedAs order m.0 c → AllZip IsRow ns rs → AreFilled rs → Descends order m.0 (entries ns) p → Falls order c rs p
+    descends m c [] [] p d h f q = q
+    descends m c [] (r ∷ rs) p d h f q = absurd h
+    descends m c (n ∷ ns) [] p d h f q = absurd h
+    descends m c (n ∷ ns) (r ∷ rs) p d h f (inl q) = inl (q.0 ∙ sym h.0.0, (above_by_code order laws m n c r.1 d (encoded n.0 r.1 f.0.0 h.0.1)).0 q.1)
+    descends m c (n ∷ ns) (r ∷ rs) p d h f (inr q) = inr (descends n r.1 ns rs p (encoded n.0 r.1 f.0.0 h.0.1) h.1 f.1 q)
+
+    fall : (ns : List (Tree × Tree)) (rs : List Row) (p : ℕ) → AllZip IsRow ns rs → AreFilled rs → HasFall order rs p ↔ HasDescent order (entries ns) p
+    fall [] [] p h f = ((λ q. q), (λ q. q))
+    fall [] (r ∷ rs) p h f = absurd h
+    fall (n ∷ ns) [] p h f = absurd h
+    fall (n ∷ ns) (r ∷ rs) p h f =
+        let c = encoded n.0 r.1 f.0.0 h.0.1 in
+        (falls n r.1 ns rs p c h.1 f.1, descends n r.1 ns rs p c h.1 f.1)
+
+    pub descents : (ns : List (Tree × Tree)) (rs : List Row) → AllZip IsRow ns rs → AreFilled rs → (p : ℕ) (r : DefectReason) → RowDescent order rs p r ↔ DescentAt order (entries ns) p r
+    descents ns rs h f p r = ((λ q. (q.0, (fall ns rs p h f).0 q.1)), (λ q. (q.0, (fall ns rs p h f).1 q.1)))

@@ -1,0 +1,142 @@
+-- Pairs that are sorted by their keys: what ties is a repeat, and where nothing does the keys rise.
+use Rattle.std.proofs.Common.{◌≡◌, ℕ, ◌+◌, ◌≤◌, inl, inr, List, [], ◌∷◌, ◌++◌, length, map, take, refl, sym, ap, ◌∙◌, subst, arith, take_at, Option, None, Ordering, Less, Equal, Greater, true, false, is_lt, IsPermutation, get_or}
+use Rattle.std.specs.Prelude.{◌↔◌, flat_map}
+use Rattle.std.specs.Ordering.{ordering_then, nat_cmp}
+use Rattle.std.specs.List.{AllByRecursion}
+use Rattle.std.specs.List.Sorted.{IsSortedBy}
+use Rattle.std.specs.Cmp.{IsTotalOrder, IsStrictWeakOrder}
+use Rattle.std.proofs.lemmas.Cmp.{on_total, then_total, nat_cmp_total}
+use Rattle.std.proofs.lemmas.List.{get_or-map, length-map, take-map, length-take-le}
+use Rattle.std.proofs.lemmas.List.Sorted.{IsPermutation-map, IsPermutation-refl, ranks_by}
+use Rattle.cborn_model.specs.Orders.{Rising, IsKeyOrder}
+use Rattle.cborn_model.specs.Reasons.{flaw_rank}
+use Rattle.cborn_model.specs.declared.faults.InvalidReason.{InvalidReason}
+use Rattle.cborn_model.specs.declared.faults.InvalidReason.TheVariants.{DuplicateKey}
+use Rattle.cborn_model.proofs.Found.{found_alike}
+use Rattle.cborn_model.proofs.SameItems.Rearranging.{All_moved}
+use Rattle.cborn_det.specs.Det.{Entry, joined, keys}
+use Rattle.cborn_det.specs.shared.Distinct.{HasDistinctKeys}
+use Rattle.cborn_det.proofs.Arranging.{total, rising_from_sorted}
+use Rattle.cborn_judge.specs.declared.flaws.Flaw as flaw
+use Rattle.cborn_judge.specs.shared.Judged.{FindsFlaw}
+use Rattle.cborn_judge.specs.devices.Encoding.{Row, row_entry, row_entries, Mark, AreMarked, AreFilled, AreArranged, IsSameKey, HasSameKeys, RowRepeat}
+use Rattle.cborn_judge.specs.devices.Marks.{key_of, pair_of, row_of, TiesIn, mark_order, AreSorted}
+use Rattle.cborn_judge.specs.shared.Repeats.{IsAgain, IsTied}
+use Rattle.cborn_judge.proofs.SameKeys.Repeating.{LieBefore, again_tied, sorted_in_order}
+use Rattle.cborn_judge.proofs.Encoding.PairsRead.{is_filled, begin_of, marked_read, marked_rise, IsSplit, marked_split, all_split}
+use Rattle.cborn_judge.proofs.Encoding.PairsMet.{ties_all, same_again}
+
+-- ---- no repeats
+
+abbrev HasNoRepeat : List Row → Type 0
+HasNoRepeat rows = (p : ℕ) → HasSameKeys rows p → ⊥
+
+apart_from : (k : List ℕ) (rows : List Row) → ((p : ℕ) → IsSameKey k rows p → ⊥) → AllByRecursion (λ (g : Entry). k ≡ g.0 → ⊥) (row_entries rows)
+apart_from k [] h = tt
+apart_from k (r ∷ rows) h = ((λ e. h r.0 (inl (refl, sym e))), apart_from k rows (λ p i. h p (inr i)))
+
+distinct : (rows : List Row) → AreFilled rows → HasNoRepeat rows → HasDistinctKeys (row_entries rows)
+distinct [] f h = tt
+distinct (r ∷ rows) f h = (apart_from r.1 rows (λ p i. h p (inl (f.0.0, i))), distinct rows f.1 (λ p i. h p (inr i)))
+
+-- ---- after the sort
+
+module _ (order : List ℕ → List ℕ → Ordering) (laws : IsKeyOrder order) (b y : List ℕ) (rows : List Row) (ms ys : List Mark) where
+  -- rows that stand in a buffer after a front, and their marks, once as they lie and once sorted
+  pub record AreRearranged : Type 0 where
+    pub stand : b ≡ y ++ joined (row_entries rows)
+    pub marked : AreMarked (length y) rows ms
+    pub moved : IsPermutation ms ys
+    pub sorted : AreSorted order b ys
+
+  rows_read : AreRearranged → map (row_of b) ms ≡ rows
+  rows_read r = marked_read b y rows ms (length y) refl r.stand r.marked
+
+  pub repeats_found : AreRearranged → (o : Option flaw.Flaw) → FindsFlaw (TiesIn b ys) o → FindsFlaw (RowRepeat rows) o
+  repeats_found r o h = found_alike flaw_rank (λ f. f.place) (λ f. f.reason) (TiesIn b ys) (RowRepeat rows) o (λ p s. (to p s, from p s)) h
+    where
+      read : map (row_of b) ms ≡ rows
+      read = rows_read r
+
+      rise : LieBefore is_filled (key_of b) begin_of ms
+      rise = marked_rise b rows ms (length y) read r.marked
+
+      both : (z : Mark) → is_filled (key_of b z) ≡ true → IsAgain (key_of b) ms z ↔ IsTied (key_of b) ys z
+      both z f = again_tied order laws is_filled (key_of b) begin_of ms ys z f rise r.moved (sorted_in_order order laws is_filled (key_of b) begin_of ms ys rise r.moved r.sorted)
+
+      to : (p : ℕ) (s : InvalidReason) → TiesIn b ys p s → RowRepeat rows p s
+      to p s (e, t) = let u = (ties_all b ys p).0 t in (e, subst (λ z. HasSameKeys z p) read ((same_again b ms p).1 (u.0, u.1, u.2, (both u.0 u.1).1 u.3)))
+
+      from : (p : ℕ) (s : InvalidReason) → RowRepeat rows p s → TiesIn b ys p s
+      from p s (e, t) = let u = (same_again b ms p).0 (subst (λ z. HasSameKeys z p) (sym read) t) in (e, (ties_all b ys p).1 (u.0, u.1, u.2, (both u.0 u.1).0 u.3))
+
+  not_then : (o q : Ordering) → is_lt (ordering_then o q) ≡ false → is_lt o ≡ false
+  not_then Less q h = h
+  not_then Equal q h = refl
+  not_then Greater q h = refl
+
+  pub arranged : AreRearranged → FindsFlaw (TiesIn b ys) None → AreFilled rows → AreArranged order rows (flat_map (pair_of b) ys)
+  arranged r h f = (fs, moved, rises, all_split b ys (All_moved (IsSplit b) ms ys r.moved (marked_split b rows ms (length y) r.marked)))
+    where
+      read : map (row_of b) ms ≡ rows
+      read = rows_read r
+
+      entry_at : Mark → Entry
+      entry_at m = row_entry (row_of b m)
+
+      fs : List Entry
+      fs = row_entries (map (row_of b) ys)
+
+      entries_at : (l : List Mark) → row_entries (map (row_of b) l) ≡ map entry_at l
+      entries_at [] = refl
+      entries_at (m ∷ l) = ap (λ z. entry_at m ∷ z) (entries_at l)
+
+      moved : IsPermutation (row_entries rows) fs
+      moved = subst (λ z. IsPermutation (row_entries z) fs) read (IsPermutation-map row_entry (map (row_of b) ms) (map (row_of b) ys) (IsPermutation-map (row_of b) ms ys r.moved))
+
+      none : HasNoRepeat rows
+      none p t = repeats_found r None h p DuplicateKey (refl, t)
+
+      apart : HasDistinctKeys (map entry_at ms)
+      apart = subst HasDistinctKeys (ap row_entries (sym read) ∙ entries_at ms) (distinct rows f none)
+
+      by_key : IsSortedBy (λ u v. is_lt (order (entry_at u).0 (entry_at v).0)) ys
+      by_key k d l m = not_then (order (key_of b (get_or ys (k + 1) d)) (key_of b (get_or ys k d))) (nat_cmp (get_or ys (k + 1) d).1 (get_or ys k d).1) (r.sorted k d l m)
+
+      rises : Rising order (keys fs)
+      rises = subst (λ z. Rising order (keys z)) (sym (entries_at ys)) (rising_from_sorted order laws entry_at ms ys apart (IsPermutation-map entry_at ms ys r.moved) by_key)
+
+-- ---- no marks
+
+pub none_marked : (rows : List Row) (p : ℕ) → AreMarked p rows [] → rows ≡ []
+none_marked [] p a = refl
+none_marked (r ∷ rows) p a = absurd a
+
+pub none_repeats : (rows : List Row) (p q : ℕ) (r : InvalidReason) → AreMarked p rows [] → RowRepeat rows q r → ⊥
+none_repeats rows p q r a h = subst (λ z. HasSameKeys z q) (none_marked rows p a) h.1
+
+pub none_arranged : (order : List ℕ → List ℕ → Ordering) (rows : List Row) (p : ℕ) (b y : List ℕ) → AreMarked p rows [] → b ≡ y ++ joined (row_entries rows) → (x : List ℕ) × AreArranged order rows x × (b ≡ y ++ x)
+none_arranged order rows p b y a e = subst (λ z. (x : List ℕ) × AreArranged order z x × (b ≡ y ++ x)) (sym (none_marked rows p a)) ([], ([], IsPermutation-refl [], tt, refl), e ∙ ap (λ z. y ++ joined (row_entries z)) (none_marked rows p a))
+
+-- ---- what the sort says
+
+module _ (order : List ℕ → List ℕ → Ordering) (laws : IsKeyOrder order) (b : List ℕ) {S : Type 0} (mark : S → Mark) where
+  mark_total : IsTotalOrder (mark_order order b)
+  mark_total = then_total (on_total (key_of b) (total order laws)) (on_total begin_of nat_cmp_total)
+
+  pub mark_ranks : IsStrictWeakOrder (λ x y. is_lt (mark_order order b (mark x) (mark y)))
+  mark_ranks = ranks_by mark_total mark
+
+  pub marks_sorted : (ss : List S) → IsSortedBy (λ x y. is_lt (mark_order order b (mark x) (mark y))) ss → AreSorted order b (map mark ss)
+  marks_sorted [] h k d l m = absurd (omega arith)
+  marks_sorted (s ∷ ss) h k d l m =
+      let long : length (map mark (s ∷ ss)) ≡ length (s ∷ ss) = length-map (s ∷ ss) mark in
+      let next : get_or (map mark (s ∷ ss)) (k + 1) d ≡ mark (get_or (s ∷ ss) (k + 1) s) = get_or-map mark (s ∷ ss) (k + 1) s d (omega (arith, long, m)) in
+      let here : get_or (map mark (s ∷ ss)) k d ≡ mark (get_or (s ∷ ss) k s) = get_or-map mark (s ∷ ss) k s d (omega (arith, long, m)) in
+      (λ i. is_lt (mark_order order b (next i) (here i))) ∙ h k s l (omega (arith, long, m))
+
+-- ---- marks before them
+
+pub front_kept : {S : Type 0} (mark : S → Mark) (from : ℕ) (old rest new : List S) → from ≤ length old → new ≡ take from old ++ rest → take from (map mark new) ≡ take from (map mark old)
+front_kept mark from old rest new l e =
+    take-map mark from new ∙ ap (map mark) (ap (take from) e ∙ take_at (take from old) rest from (length-take-le from old l)) ∙ sym (take-map mark from old)

@@ -1,0 +1,99 @@
+-- Pairs that lie in a buffer are read where their marks say.
+use Rattle.std.proofs.Common.{◌≡◌, ℕ, ◌+◌, ◌-◌, ◌<◌, ◌≤◌, inl, inr, List, [], ◌∷◌, ◌++◌, length, map, take, drop, refl, sym, ap, ◌∙◌, subst, arith, append_assoc, take_at, drop_at, length-append, Bool, true, false, true≢false}
+use Rattle.std.specs.Prelude.{◌==◌, flat_map}
+use Rattle.std.specs.List.{AllByRecursion}
+use Rattle.std.proofs.lemmas.Bool.{eqb-true}
+use Rattle.std.proofs.Math.Seq.{take-add}
+use Rattle.std.proofs.lemmas.List.{drop-drop}
+use Rattle.cborn_det.specs.Det.{joined}
+use Rattle.cborn_judge.specs.devices.Encoding.{Row, row_entries, Mark, AreMarked}
+use Rattle.cborn_judge.specs.devices.Marks.{between, key_of, pair_of, row_of}
+use Rattle.cborn_judge.specs.shared.Repeats.{IsOneOf}
+use Rattle.cborn_judge.proofs.SameKeys.Repeating.{LieBefore}
+
+pub marked_read : (b y : List ℕ) (rows : List Row) (ms : List Mark) (p : ℕ) → p ≡ length y → b ≡ y ++ joined (row_entries rows) → AreMarked p rows ms → map (row_of b) ms ≡ rows
+marked_read b y [] [] p q e a = refl
+marked_read b y [] (m ∷ ms) p q e a = absurd a
+marked_read b y (r ∷ rows) [] p q e a = absurd a
+marked_read b y (r ∷ rows) (m ∷ ms) p q e a =
+    let k : List ℕ = r.1 in
+    let v : List ℕ = r.2 in
+    let beyond : List ℕ = joined (row_entries rows) in
+    let here : drop p b ≡ k ++ (v ++ beyond) = ap (drop p) e ∙ drop_at y ((k ++ v) ++ beyond) p (sym q) ∙ append_assoc k v beyond in
+    let apart : b ≡ (y ++ k) ++ (v ++ beyond) = e ∙ ap (λ z. y ++ z) (append_assoc k v beyond) ∙ sym (append_assoc y k (v ++ beyond)) in
+    let after : drop (p + length k) b ≡ v ++ beyond = ap (drop (p + length k)) apart ∙ drop_at (y ++ k) (v ++ beyond) (p + length k) (omega (arith, q, length-append y k)) in
+    let one : (p + length k) - p ≡ length k = omega arith in
+    let two : (p + length k + length v) - (p + length k) ≡ length v = omega arith in
+    let key : between p (p + length k) b ≡ k = (λ i. take (one i) (here i)) ∙ take_at k (v ++ beyond) (length k) refl in
+    let value : between (p + length k) (p + length k + length v) b ≡ v = (λ i. take (two i) (after i)) ∙ take_at v beyond (length v) refl in
+    let row : row_of b m ≡ r = ap (row_of b) a.0 ∙ (λ i. (r.0, key i, value i)) in
+    let rest : map (row_of b) ms ≡ rows =
+    marked_read b (y ++ (k ++ v)) rows ms (p + length k + length v) (omega (arith, q, length-append y (k ++ v), length-append k v)) (e ∙ sym (append_assoc y (k ++ v) beyond)) a.1 in
+    λ i. row i ∷ rest i
+
+-- each begins at this place or after it
+marked_from : (rows : List Row) (ms : List Mark) (p : ℕ) (z : Mark) → AreMarked p rows ms → IsOneOf z ms → p ≤ z.1
+marked_from [] [] p z a i = absurd i
+marked_from [] (m ∷ ms) p z a i = absurd a
+marked_from (r ∷ rows) [] p z a i = absurd a
+marked_from (r ∷ rows) (m ∷ ms) p z a (inl e) = let f : z.1 ≡ p = ap (λ (x : Mark). x.1) (e ∙ a.0) in omega arith
+marked_from (r ∷ rows) (m ∷ ms) p z a (inr i) = let f = marked_from rows ms (p + length r.1 + length r.2) z a.1 i in omega arith
+
+abbrev pub is_filled : List ℕ → Bool
+is_filled [] = false
+is_filled (b ∷ bs) = true
+
+pub filled : (k : List ℕ) → (k ≡ [] → ⊥) → is_filled k ≡ true
+filled [] n = absurd (n refl)
+filled (b ∷ bs) n = refl
+
+pub not_empty : (k : List ℕ) → is_filled k ≡ true → k ≡ [] → ⊥
+not_empty k f e = true≢false (sym f ∙ ap is_filled e)
+
+some_long : (k : List ℕ) → is_filled k ≡ true → 0 < length k
+some_long [] f = absurd (true≢false (sym f))
+some_long (b ∷ bs) f = omega arith
+
+abbrev pub begin_of : Mark → ℕ
+begin_of m = m.1
+
+-- one whose key isn't empty begins before those after it
+pub marked_rise : (b : List ℕ) (rows : List Row) (ms : List Mark) (p : ℕ) → map (row_of b) ms ≡ rows → AreMarked p rows ms → LieBefore is_filled (key_of b) begin_of ms
+marked_rise b [] [] p e a = tt
+marked_rise b [] (m ∷ ms) p e a = absurd a
+marked_rise b (r ∷ rows) [] p e a = absurd a
+marked_rise b (r ∷ rows) (m ∷ ms) p e a =
+    let row : row_of b m ≡ r = cc in
+    let rest : map (row_of b) ms ≡ rows = cc in
+    let key : key_of b m ≡ r.1 = ap (λ (x : Row). x.1) row in
+    let begin : m.1 ≡ p = ap (λ (x : Mark). x.1) a.0 in (
+      (λ z i f. let from = marked_from rows ms (p + length r.1 + length r.2) z a.1 i in let long = some_long r.1 (ap is_filled (sym key) ∙ f) in omega arith),
+      marked_rise b rows ms (p + length r.1 + length r.2) rest a.1,
+    )
+
+-- a pair is its key and its value
+abbrev pub IsSplit : List ℕ → Mark → Type 0
+IsSplit b m = pair_of b m ≡ between m.1 m.2 b ++ between m.2 m.3 b
+
+split_at : (b : List ℕ) (s m e : ℕ) → s ≤ m → m ≤ e → between s e b ≡ between s m b ++ between m e b
+split_at b s m e l k =
+    let whole : e - s ≡ (m - s) + (e - m) = omega arith in
+    let from : drop (m - s) (drop s b) ≡ drop m b = drop-drop (m - s) s b ∙ ap (λ n. drop n b) (omega arith) in
+    ap (λ n. take n (drop s b)) whole ∙ take-add (m - s) (e - m) (drop s b) ∙ ap (λ z. between s m b ++ take (e - m) z) from
+
+pub marked_split : (b : List ℕ) (rows : List Row) (ms : List Mark) (p : ℕ) → AreMarked p rows ms → AllByRecursion (IsSplit b) ms
+marked_split b [] [] p a = tt
+marked_split b [] (m ∷ ms) p a = absurd a
+marked_split b (r ∷ rows) [] p a = absurd a
+marked_split b (r ∷ rows) (m ∷ ms) p a = (
+  subst (IsSplit b) (sym a.0) (split_at b p (p + length r.1) (p + length r.1 + length r.2) (omega arith) (omega arith)),
+  marked_split b rows ms (p + length r.1 + length r.2) a.1,
+)
+
+pub all_split : (b : List ℕ) (ms : List Mark) → AllByRecursion (IsSplit b) ms → flat_map (pair_of b) ms ≡ joined (row_entries (map (row_of b) ms))
+all_split b [] h = refl
+all_split b (m ∷ ms) h = let rest = all_split b ms h.1 in λ i. h.0 i ++ rest i
+
+pub empty : (k : List ℕ) → length k == 0 ≡ true → k ≡ []
+empty [] e = refl
+empty (b ∷ bs) e = absurd (let f : length (b ∷ bs) ≡ 0 = eqb-true (length (b ∷ bs)) 0 e in omega arith)

@@ -1,0 +1,366 @@
+-- One more whole node in what an encoder holds.
+use Rattle.std.proofs.Common.{◌≡◌, ℕ, suc, ◌+◌, ◌-◌, ◌<◌, ◌≤◌, ◌^◌, ◌⊎◌, inl, inr, List, [], ◌∷◌, ◌++◌, length, append_assoc, append-nil, length-append, refl, sym, ap, ◌∙◌, subst, arith, true, false, true≢false, Bool, not, Ordering, Option}
+use Rattle.std.specs.Prelude.{◌||◌, min}
+use Rattle.std.specs.List.{AllZip, AllByRecursion}
+use Rattle.cborn_model.specs.declared.heads.Size.{Size}
+use Rattle.cborn_model.specs.declared.heads.Width.{Width}
+use Rattle.cborn_model.specs.Meaning.{Means, joined_chunks}
+use Rattle.cborn_model.specs.Tree.{Tree, place}
+use Rattle.cborn_model.specs.Partial.{Partial, top, inside, Opening, an_array, a_map, a_tag, in_chunks, put, string_tree, chunk_of, chunks_of, IsFree}
+use Rattle.cborn_model.specs.Value.{Value, bytes, text}
+use Rattle.cborn_model.specs.Valid.{IsProper}
+use Rattle.cborn_det.specs.Det.{Det, DetSeq, joined}
+use Rattle.cborn_det.proofs.Steps.{seq_push}
+use Rattle.cborn_det.proofs.Written.{some_bytes}
+use Rattle.cborn_judge.specs.devices.Encoding.{MeansNothing, Row, Mark, row_entries, AreMarked, IsEncodedAs, Coded, AreEncodedAs, AreRows, IsSound, is_odd, after, Opens, IsFront, Contains, Inner, Stands}
+use Rattle.cborn_judge.specs.devices.Encoders.{IsChunk, IsChunkContent}
+use Rattle.cborn_model.specs.declared.visitors.StringKind.{StringKind}
+use Rattle.cborn_model.specs.declared.visitors.StringKind.TheVariants.{OfBytes, OfText}
+use Rattle.cborn_judge.specs.declared.levels.Level.{Level}
+use Rattle.cborn_judge.specs.declared.levels.Container.TheVariants as container
+use Rattle.cborn_judge.proofs.FirstFlaw.Sequences.{mean_more}
+
+-- ---- whether the nodes mean something
+
+zip_front : (ts : List Tree) (t : Tree) (ws : List Value) → AllZip Means (ts ++ t ∷ []) ws → (vs : List Value) × AllZip Means ts vs
+zip_front [] t ws h = ([], tt)
+zip_front (s ∷ ts) t [] h = absurd h
+zip_front (s ∷ ts) t (w ∷ ws) h = let r = zip_front ts t ws h.1 in (w ∷ r.0, (h.0, r.1))
+
+zip_last : (ts : List Tree) (t : Tree) (ws : List Value) → AllZip Means (ts ++ t ∷ []) ws → (v : Value) × Means t v
+zip_last [] t [] h = absurd h
+zip_last [] t (w ∷ ws) h = (w, h.0)
+zip_last (s ∷ ts) t [] h = absurd h
+zip_last (s ∷ ts) t (w ∷ ws) h = zip_last ts t ws h.1
+
+-- one node: it means nothing exactly if it is bad
+abbrev pub IsVerdict : Bool → Tree → Type 0
+IsVerdict false t = (v : Value) × Means t v
+IsVerdict true t = MeansNothing t
+
+pub sound_more : (b bad : Bool) (ts : List Tree) (t : Tree) → IsSound b ts → IsVerdict bad t → IsSound (b || bad) (ts ++ t ∷ [])
+sound_more false false ts t s v = (s.0 ++ v.0 ∷ [], mean_more ts s.0 t v.0 s.1 v.1)
+sound_more false true ts t s v = λ ws h. let m = zip_last ts t ws h in v m.0 m.1
+sound_more true bad ts t s v = λ ws h. let r = zip_front ts t ws h in s r.0 r.1
+
+module _ (order : List ℕ → List ℕ → Ordering) where
+  -- the node has an encoding exactly if it isn't bad
+  abbrev pub Verdict : Bool → Tree → List ℕ → Type 0
+  Verdict false t x = IsEncodedAs order t x
+  Verdict true t x = MeansNothing t × (x ≡ [])
+
+  -- a node whose encoding was written after n bytes: it is bad exactly if nothing was
+  pub verdict : (t : Tree) (y x : List ℕ) (bad : Bool) → Coded order t x → (bad ≡ true → length (y ++ x) ≤ length y) → (bad ≡ false → length y < length (y ++ x)) → Verdict bad t x
+  verdict t y x false (inl c) b g = c
+  verdict t y x true (inl c) b g = absurd (omega (arith, some_bytes order c.0 x c.3, b refl, length-append y x))
+  verdict t y x false (inr c) b g = absurd (omega (arith, ap length c.0, g refl, length-append y x))
+  verdict t y x true (inr c) b g = (c.1, c.0)
+
+  pub is_verdict : (t : Tree) (x : List ℕ) (bad : Bool) → Verdict bad t x → IsVerdict bad t
+  is_verdict t x false v = (v.0, v.1)
+  is_verdict t x true v = v.0
+
+  -- ---- encodings one after another
+
+  proper_more : (vs : List Value) (v : Value) → AllByRecursion IsProper vs → IsProper v → AllByRecursion IsProper (vs ++ v ∷ [])
+  proper_more [] v a p = (p, tt)
+  proper_more (w ∷ vs) v a p = (a.0, proper_more vs v a.1 p)
+
+  pub encoded_more : (ts : List Tree) (t : Tree) (y x : List ℕ) → AreEncodedAs order ts y → IsEncodedAs order t x → AreEncodedAs order (ts ++ t ∷ []) (y ++ x)
+  encoded_more ts t y x a e = (a.0 ++ e.0 ∷ [], mean_more ts a.0 t e.0 a.1 e.1, proper_more a.0 e.0 a.2 e.2, seq_push order a.0 e.0 y x a.3 e.3)
+
+  as_long : (ts : List Tree) (vs : List Value) (x : List ℕ) → AllZip Means ts vs → DetSeq order vs x → length ts ≤ length x
+  as_long [] vs x h d = omega arith
+  as_long (t ∷ ts) [] x h d = absurd h
+  as_long (t ∷ ts) (v ∷ vs) x h d = omega (arith, some_bytes order v d.0 d.2, as_long ts vs d.1 h.1 d.3, ap length d.4, length-append d.0 d.1)
+
+  -- one more, if none means nothing
+  pub contents_more : (b bad : Bool) (ts : List Tree) (t : Tree) (y x : List ℕ) → (b ≡ false → AreEncodedAs order ts y) → Verdict bad t x → (b || bad) ≡ false → AreEncodedAs order (ts ++ t ∷ []) (y ++ x)
+  contents_more false false ts t y x a v e = encoded_more ts t y x (a refl) v
+  contents_more false true ts t y x a v e = cc
+  contents_more true bad ts t y x a v e = cc
+
+  pub counted_more : (b bad : Bool) (n : ℕ) (ts : List Tree) (t : Tree) (y x : List ℕ) → (b ≡ false → AreEncodedAs order ts y × (n ≡ length ts)) → Verdict bad t x → length (y ++ x) < 2 ^ 64 → (b || bad) ≡ false → min (n + 1) (2 ^ 64 - 1) ≡ length (ts ++ t ∷ [])
+  counted_more false false n ts t y x a v l e = let c = a refl in omega (arith, c.1, as_long ts c.0.0 y c.0.1 c.0.3, some_bytes order v.0 x v.3, length-append y x, length-append ts (t ∷ []))
+  counted_more false true n ts t y x a v l e = cc
+  counted_more true bad n ts t y x a v l e = cc
+
+  -- ---- the pairs of a map
+
+  odd_more : (ts : List Tree) (t : Tree) → is_odd (ts ++ t ∷ []) ≡ not (is_odd ts)
+  odd_more [] t = refl
+  odd_more (s ∷ ts) t = ap not (odd_more ts t)
+
+  -- how many bytes rows have
+  abbrev row_len : List Row → ℕ
+  row_len rs = length (joined (row_entries rs))
+
+  key_more : (ts : List Tree) (t : Tree) (rs : List Row) (x : List ℕ) → is_odd ts ≡ false → AreRows order ts rs → Coded order t x → AreRows order (ts ++ t ∷ []) (rs ++ (place t, x, []) ∷ [])
+  key_more [] t [] x e a c = (refl, c, refl)
+  key_more [] t (r ∷ rs) x e a c = absurd a
+  key_more (k ∷ []) t rs x e a c = absurd (true≢false e)
+  key_more (k ∷ v ∷ ts) t [] x e a c = absurd a
+  key_more (k ∷ v ∷ ts) t (r ∷ rs) x e a c = (a.0, a.1, a.2, key_more ts t rs x (twice (is_odd ts) e) a.3 c)
+    where
+      twice : (b : Bool) → not (not b) ≡ false → b ≡ false
+      twice true e = e
+      twice false e = refl
+
+  value_more : (ts : List Tree) (t : Tree) (rs : List Row) (x : List ℕ) → is_odd ts ≡ true → AreRows order ts rs → Coded order t x
+      → (qs : List Row) × (r : Row) × (rs ≡ qs ++ r ∷ []) × (r.2 ≡ []) × AreRows order (ts ++ t ∷ []) (qs ++ (r.0, r.1, x) ∷ [])
+  value_more [] t rs x e a c = absurd (true≢false (sym e))
+  value_more (k ∷ []) t [] x e a c = absurd a
+  value_more (k ∷ []) t (r ∷ []) x e a c = ([], r, refl, a.2, (a.0, a.1, c, tt))
+  value_more (k ∷ []) t (r ∷ s ∷ rs) x e a c = absurd a
+  value_more (k ∷ v ∷ ts) t [] x e a c = absurd a
+  value_more (k ∷ v ∷ ts) t (r ∷ rs) x e a c =
+      let u = value_more ts t rs x (twice (is_odd ts) e) a.3 c in
+      (r ∷ u.0, u.1, ap (λ (l : List Row). r ∷ l) u.2, u.3, (a.0, a.1, a.2, u.4))
+    where
+      twice : (b : Bool) → not (not b) ≡ true → b ≡ true
+      twice true e = refl
+      twice false e = absurd (true≢false (sym e))
+
+-- ---- where rows lie
+
+joined_row : (rs : List Row) (r : Row) → joined (row_entries (rs ++ r ∷ [])) ≡ joined (row_entries rs) ++ (r.1 ++ r.2)
+joined_row [] r = append-nil (r.1 ++ r.2)
+joined_row (s ∷ rs) r = ap (λ z. (s.1 ++ s.2) ++ z) (joined_row rs r) ∙ sym (append_assoc (s.1 ++ s.2) (joined (row_entries rs)) (r.1 ++ r.2))
+
+marked_key : (p : ℕ) (rs : List Row) (ms : List Mark) (q : ℕ) (x : List ℕ) (s m : ℕ) → AreMarked p rs ms → s ≡ p + length (joined (row_entries rs)) → m ≡ s + length x → AreMarked p (rs ++ (q, x, []) ∷ []) (ms ++ (q, s, m, m) ∷ [])
+marked_key p [] [] q x s m h e f =
+    let a : s ≡ p = omega (arith, e) in
+    let b : m ≡ p + length x = omega (arith, e, f) in
+    let c : m ≡ p + length x + 0 = omega (arith, e, f) in
+    ((λ i. (q, a i, b i, c i)), tt)
+marked_key p [] (n ∷ ms) q x s m h e f = absurd h
+marked_key p (r ∷ rs) [] q x s m h e f = absurd h
+marked_key p (r ∷ rs) (n ∷ ms) q x s m h e f =
+    let o : s ≡ p + length r.1 + length r.2 + length (joined (row_entries rs)) = omega (arith, e, length-append (r.1 ++ r.2) (joined (row_entries rs)), length-append r.1 r.2) in
+    (h.0, marked_key (p + length r.1 + length r.2) rs ms q x s m h.1 o f)
+
+marked_value : (p : ℕ) (qs : List Row) (r : Row) (ms : List Mark) (x : List ℕ) (e : ℕ) → AreMarked p (qs ++ r ∷ []) ms → e ≡ p + length (joined (row_entries qs)) + length r.1 + length x
+    → (ns : List Mark) × (m : Mark) × (ms ≡ ns ++ m ∷ []) × AreMarked p (qs ++ (r.0, r.1, x) ∷ []) (ns ++ (m.0, m.1, m.2, e) ∷ [])
+marked_value p [] r [] x e h f = absurd h
+marked_value p [] r (m ∷ []) x e h f =
+    let a : m.0 ≡ r.0 = ap (λ (n : Mark). n.0) h.0 in
+    let b : m.1 ≡ p = ap (λ (n : Mark). n.1) h.0 in
+    let c : m.2 ≡ p + length r.1 = ap (λ (n : Mark). n.2) h.0 in
+    let d : e ≡ p + length r.1 + length x = omega (arith, f) in
+    ([], m, refl, ((λ i. (a i, b i, c i, d i)), tt))
+marked_value p [] r (m ∷ n ∷ ms) x e h f = absurd h.1
+marked_value p (q ∷ qs) r [] x e h f = absurd h
+marked_value p (q ∷ qs) r (m ∷ ms) x e h f =
+    let o : e ≡ p + length q.1 + length q.2 + length (joined (row_entries qs)) + length r.1 + length x = omega (arith, f, length-append (q.1 ++ q.2) (joined (row_entries qs)), length-append q.1 q.2) in
+    let u = marked_value (p + length q.1 + length q.2) qs r ms x e h.1 o in
+    (m ∷ u.0, u.1, ap (λ (l : List Mark). m ∷ l) u.2, (h.0, u.3))
+
+module _ (order : List ℕ → List ℕ → Ordering) where
+  -- ---- one more node in a container
+
+  abbrev Within : Level → Opening → List Tree → List Mark → List ℕ → Type 0
+  Within = Inner order
+
+  inner_array : (l : Level) (p : ℕ) (s : Size) (c : Option ℕ) (ts : List Tree) (t : Tree) (ms : List Mark) (z x : List ℕ) (bad : Bool) → length (z ++ x) < 2 ^ 64 → Verdict order bad t x → Within l (an_array p s c) ts ms z → Within (after l bad) (an_array p s c) (ts ++ t ∷ []) ms (z ++ x)
+  inner_array l p s c ts t ms z x bad k v h = record {
+    front = h.front;
+    contents = h.contents ++ x;
+    whole = ap (λ y. y ++ x) h.whole ∙ append_assoc h.front h.contents x;
+    opens = h.opens;
+    begins = h.begins;
+    content = h.content;
+    sound = sound_more l.flawed bad ts t h.sound (is_verdict order t x bad v);
+    contains = (h.contains.0, λ e. (
+      contents_more order l.flawed bad ts t h.contents x (λ f. (h.contains.1 f).0) v e,
+      counted_more order l.flawed bad l.count ts t h.contents x h.contains.1 v (omega (arith, k, ap length h.whole, length-append h.front h.contents, length-append z x, length-append h.contents x)) e));
+  }
+
+  inner_tag : (l : Level) (p : ℕ) (w : Width) (n : ℕ) (ts : List Tree) (t : Tree) (ms : List Mark) (z x : List ℕ) (bad : Bool) → Verdict order bad t x → Within l (a_tag p w n) ts ms z → Within (after l bad) (a_tag p w n) (ts ++ t ∷ []) ms (z ++ x)
+  inner_tag l p w n ts t ms z x bad v h = record {
+    front = h.front;
+    contents = h.contents ++ x;
+    whole = ap (λ y. y ++ x) h.whole ∙ append_assoc h.front h.contents x;
+    opens = h.opens;
+    begins = h.begins;
+    content = h.content;
+    sound = sound_more l.flawed bad ts t h.sound (is_verdict order t x bad v);
+    contains = (h.contains.0, λ e. contents_more order l.flawed bad ts t h.contents x h.contains.1 v e);
+  }
+
+  inner_key : (l : Level) (p : ℕ) (s : Size) (c : Option ℕ) (ts : List Tree) (t : Tree) (ms : List Mark) (z x : List ℕ) (bad : Bool) (b e : ℕ) → Verdict order bad t x → Coded order t x → l.has_key ≡ false → b ≡ l.start + length z → e ≡ b + length x
+      → Within l (a_map p s c) ts ms z → Within (after l bad) (a_map p s c) (ts ++ t ∷ []) (ms ++ (place t, b, e, e) ∷ []) (z ++ x)
+  inner_key l p s c ts t ms z x bad b e v d k f g h =
+      let rs = h.contains.1 in
+      let at : b ≡ l.content + length (joined (row_entries rs)) = omega (arith, f, h.content, ap length h.whole, length-append h.front h.contents, ap length h.contains.4) in
+      record {
+        front = h.front;
+        contents = h.contents ++ x;
+        whole = ap (λ y. y ++ x) h.whole ∙ append_assoc h.front h.contents x;
+        opens = h.opens;
+        begins = h.begins;
+        content = h.content;
+        sound = sound_more l.flawed bad ts t h.sound (is_verdict order t x bad v);
+        contains = (
+          ap not h.contains.0 ∙ sym (odd_more order ts t),
+          rs ++ (place t, x, []) ∷ [],
+          key_more order ts t rs x (sym h.contains.0 ∙ k) h.contains.2 d,
+          marked_key l.content rs ms (place t) x b e h.contains.3 at g,
+          ap (λ y. y ++ x) h.contains.4 ∙ sym (joined_row rs (place t, x, []) ∙ ap (λ y. joined (row_entries rs) ++ y) (append-nil x)),
+        );
+      }
+
+  inner_value : (l : Level) (p : ℕ) (s : Size) (c : Option ℕ) (ts : List Tree) (t : Tree) (ms : List Mark) (z x : List ℕ) (bad : Bool) (e : ℕ) → Verdict order bad t x → Coded order t x → l.has_key ≡ true → e ≡ l.start + length z + length x
+      → Within l (a_map p s c) ts ms z → (ns : List Mark) × (m : Mark) × (ms ≡ ns ++ m ∷ []) × Within (after l bad) (a_map p s c) (ts ++ t ∷ []) (ns ++ (m.0, m.1, m.2, e) ∷ []) (z ++ x)
+  inner_value l p s c ts t ms z x bad e v d k f h =
+      let u = value_more order ts t h.contains.1 x (sym h.contains.0 ∙ k) h.contains.2 d in
+      let r = u.1 in
+      let old : h.contents ≡ joined (row_entries u.0) ++ r.1 =
+        h.contains.4 ∙ ap (λ l. joined (row_entries l)) u.2 ∙ joined_row u.0 r ∙ ap (λ y. joined (row_entries u.0) ++ y) (ap (λ y. r.1 ++ y) u.3 ∙ append-nil r.1) in
+      let at : e ≡ l.content + length (joined (row_entries u.0)) + length r.1 + length x =
+        omega (arith, f, h.content, ap length h.whole, length-append h.front h.contents, ap length old, length-append (joined (row_entries u.0)) r.1) in
+      let w = marked_value l.content u.0 r ms x e (subst (λ rs. AreMarked l.content rs ms) u.2 h.contains.3) at in
+      (w.0, w.1, w.2, record {
+        front = h.front;
+        contents = h.contents ++ x;
+        whole = ap (λ y. y ++ x) h.whole ∙ append_assoc h.front h.contents x;
+        opens = h.opens;
+        begins = h.begins;
+        content = h.content;
+        sound = sound_more l.flawed bad ts t h.sound (is_verdict order t x bad v);
+        contains = (
+          ap not h.contains.0 ∙ sym (odd_more order ts t),
+          u.0 ++ (r.0, r.1, x) ∷ [],
+          u.4,
+          w.3,
+          ap (λ y. y ++ x) old ∙ append_assoc (joined (row_entries u.0)) r.1 x ∙ sym (joined_row u.0 (r.0, r.1, x)),
+        );
+      })
+
+  -- ---- and in a partial sequence
+
+  stands_plain : (outer : List Level) (l : Level) (f : Partial) (t : Tree) (ms : List Mark) (y x : List ℕ) (bad : Bool) → IsFree f → ((s : Size) (c : Option ℕ) → l.container ≡ container.Map s c → ⊥) → length (y ++ x) < 2 ^ 64
+      → Verdict order bad t x → Stands order outer l f ms y → Stands order outer (after l bad) (put f t) ms (y ++ x)
+  stands_plain outer l (top ts) t ms y x bad free never k v s =
+      (s.0, s.1, s.2, sound_more l.flawed bad ts t s.3 (is_verdict order t x bad v), λ e. contents_more order l.flawed bad ts t y x s.4 v e)
+  stands_plain outer l (inside f (an_array p z c) ts) t ms y x bad free never k v s =
+      (s.0, s.1, s.2, s.3 ++ x, s.4, s.5, s.6, ap (λ w. w ++ x) s.7 ∙ append_assoc s.2 s.3 x, s.8, s.9, s.10, s.11,
+      inner_array l p z c ts t s.5 s.3 x bad (omega (arith, k, length-append y x, ap length s.7, length-append s.2 s.3, length-append s.3 x)) v s.12)
+  stands_plain outer l (inside f (a_map p z c) ts) t ms y x bad free never k v s = absurd (never z c s.12.opens.1)
+  stands_plain outer l (inside f (a_tag p w n) ts) t ms y x bad free never k v s =
+      (s.0, s.1, s.2, s.3 ++ x, s.4, s.5, s.6, ap (λ w. w ++ x) s.7 ∙ append_assoc s.2 s.3 x, s.8, s.9, s.10, s.11,
+      inner_tag l p w n ts t s.5 s.3 x bad v s.12)
+  stands_plain outer l (inside f (in_chunks p j) ts) t ms y x bad free never k v s = absurd free.1
+
+  stands_key : (outer : List Level) (l : Level) (f : Partial) (t : Tree) (ms : List Mark) (y x : List ℕ) (bad : Bool) (i : Size) (c : Option ℕ) (b e : ℕ) → IsFree f → l.container ≡ container.Map i c → l.has_key ≡ false
+      → Verdict order bad t x → Coded order t x → b ≡ length y → e ≡ length (y ++ x) → Stands order outer l f ms y → Stands order outer (after l bad) (put f t) (ms ++ (place t, b, e, e) ∷ []) (y ++ x)
+  stands_key outer l (top ts) t ms y x bad i c b e free is k v d f g s = let h : container.Input ≡ container.Map i c = sym s.2 ∙ is in cc
+  stands_key outer l (inside f (an_array p z n) ts) t ms y x bad i c b e free is k v d j g s = let h : container.Array z n ≡ container.Map i c = sym s.12.opens.1 ∙ is in cc
+  stands_key outer l (inside f (a_map p z n) ts) t ms y x bad i c b e free is k v d j g s =
+      (s.0, s.1, s.2, s.3 ++ x, s.4, s.5 ++ (place t, b, e, e) ∷ [], s.6, ap (λ w. w ++ x) s.7 ∙ append_assoc s.2 s.3 x, ap (λ ns. ns ++ (place t, b, e, e) ∷ []) s.8 ∙ append_assoc s.4 s.5 ((place t, b, e, e) ∷ []), s.9, s.10, s.11,
+      inner_key l p z n ts t s.5 s.3 x bad b e v d k (omega (arith, j, s.9, ap length s.7, length-append s.2 s.3)) (omega (arith, g, j, length-append y x)) s.12)
+  stands_key outer l (inside f (a_tag p w n) ts) t ms y x bad i c b e free is k v d j g s = let h : container.Tag w n ≡ container.Map i c = sym s.12.opens.1 ∙ is in cc
+  stands_key outer l (inside f (in_chunks p a) ts) t ms y x bad i c b e free is k v d j g s = absurd free.1
+
+  stands_value : (outer : List Level) (l : Level) (f : Partial) (t : Tree) (ms ms' : List Mark) (y x : List ℕ) (bad : Bool) (i : Size) (c : Option ℕ) (e : ℕ) → IsFree f → l.container ≡ container.Map i c → l.has_key ≡ true
+      → Verdict order bad t x → Coded order t x → e ≡ length (y ++ x) → ((ns : List Mark) (p s m n : ℕ) → ms ≡ ns ++ (p, s, m, n) ∷ [] → ms' ≡ ns ++ (p, s, m, e) ∷ [])
+      → Stands order outer l f ms y → Stands order outer (after l bad) (put f t) ms' (y ++ x)
+  stands_value outer l (top ts) t ms ms' y x bad i c e free is k v d g set s = let h : container.Input ≡ container.Map i c = sym s.2 ∙ is in cc
+  stands_value outer l (inside f (an_array p z n) ts) t ms ms' y x bad i c e free is k v d g set s = let h : container.Array z n ≡ container.Map i c = sym s.12.opens.1 ∙ is in cc
+  stands_value outer l (inside f (a_map p z n) ts) t ms ms' y x bad i c e free is k v d g set s =
+      let u = inner_value l p z n ts t s.5 s.3 x bad e v d k (omega (arith, g, s.9, ap length s.7, length-append s.2 s.3, length-append y x)) s.12 in
+      let m = u.1 in
+      let old : ms ≡ (s.4 ++ u.0) ++ (m.0, m.1, m.2, m.3) ∷ [] = s.8 ∙ ap (λ ns. s.4 ++ ns) u.2 ∙ sym (append_assoc s.4 u.0 (m ∷ [])) in
+      (s.0, s.1, s.2, s.3 ++ x, s.4, u.0 ++ (m.0, m.1, m.2, e) ∷ [], s.6, ap (λ w. w ++ x) s.7 ∙ append_assoc s.2 s.3 x,
+      set (s.4 ++ u.0) m.0 m.1 m.2 m.3 old ∙ append_assoc s.4 u.0 ((m.0, m.1, m.2, e) ∷ []), s.9, s.10, s.11, u.3)
+  stands_value outer l (inside f (a_tag p w n) ts) t ms ms' y x bad i c e free is k v d g set s = let h : container.Tag w n ≡ container.Map i c = sym s.12.opens.1 ∙ is in cc
+  stands_value outer l (inside f (in_chunks p a) ts) t ms ms' y x bad i c e free is k v d g set s = absurd free.1
+
+  pub stands_put : (outer : List Level) (l : Level) (f : Partial) (t : Tree) (ms ms' : List Mark) (y x : List ℕ) (bad : Bool) → IsFree f → length (y ++ x) < 2 ^ 64 → Coded order t x
+      → (bad ≡ true → length (y ++ x) ≤ length y) → (bad ≡ false → length y < length (y ++ x))
+      → (((s : Size) (c : Option ℕ) → l.container ≡ container.Map s c → ⊥) → ms' ≡ ms)
+      → ((s : Size) (c : Option ℕ) → l.container ≡ container.Map s c → l.has_key ≡ false → ms' ≡ ms ++ (place t, length y, length (y ++ x), length (y ++ x)) ∷ [])
+      → ((s : Size) (c : Option ℕ) → l.container ≡ container.Map s c → l.has_key ≡ true → (ns : List Mark) (p b m n : ℕ) → ms ≡ ns ++ (p, b, m, n) ∷ [] → ms' ≡ ns ++ (p, b, m, length (y ++ x)) ∷ [])
+      → Stands order outer l f ms y → Stands order outer (after l bad) (put f t) ms' (y ++ x)
+  stands_put outer l f t ms ms' y x bad free k d g h plain key value s = by f free s
+    where
+      v : Verdict order bad t x
+      v = verdict order t y x bad d g h
+      unmarked : (f : Partial) → IsFree f → ((s : Size) (c : Option ℕ) → l.container ≡ container.Map s c → ⊥) → Stands order outer l f ms y → Stands order outer (after l bad) (put f t) ms' (y ++ x)
+      unmarked f free never s = subst (λ ns. Stands order outer (after l bad) (put f t) ns (y ++ x)) (sym (plain never)) (stands_plain outer l f t ms y x bad free never k v s)
+      by : (f : Partial) → IsFree f → Stands order outer l f ms y → Stands order outer (after l bad) (put f t) ms' (y ++ x)
+      by (top ts) free s = unmarked (top ts) free (λ i c e. let h : container.Input ≡ container.Map i c = sym s.2 ∙ e in cc) s
+      by (inside f (an_array p z n) ts) free s = unmarked (inside f (an_array p z n) ts) free (λ i c e. let h : container.Array z n ≡ container.Map i c = sym s.12.opens.1 ∙ e in cc) s
+      by (inside f (a_tag p w n) ts) free s = unmarked (inside f (a_tag p w n) ts) free (λ i c e. let h : container.Tag w n ≡ container.Map i c = sym s.12.opens.1 ∙ e in cc) s
+      by (inside f (in_chunks p j) ts) free s = absurd free.1
+      by (inside f (a_map p z n) ts) free s = go l.has_key refl
+        where
+          go : (b : Bool) → l.has_key ≡ b → Stands order outer (after l bad) (put (inside f (a_map p z n) ts) t) ms' (y ++ x)
+          go false e = subst (λ ns. Stands order outer (after l bad) (put (inside f (a_map p z n) ts) t) ns (y ++ x)) (sym (key z n s.12.opens.1 e))
+            (stands_key outer l (inside f (a_map p z n) ts) t ms y x bad z n (length y) (length (y ++ x)) free s.12.opens.1 e v d refl refl s)
+          go true e = stands_value outer l (inside f (a_map p z n) ts) t ms ms' y x bad z n (length (y ++ x)) free s.12.opens.1 e v d refl (value z n s.12.opens.1 e) s
+
+  pub stands_same : (outer outer' : List Level) (l l' : Level) (f : Partial) (ms ms' : List Mark) (y y' : List ℕ) → outer' ≡ outer → l' ≡ l → ms' ≡ ms → y' ≡ y → Stands order outer l f ms y → Stands order outer' l' f ms' y'
+  stands_same outer outer' l l' f ms ms' y y' a b c d s =
+      subst (λ os. Stands order os l' f ms' y') (sym a) (subst (λ m. Stands order outer m f ms' y') (sym b) (subst (λ ns. Stands order outer l f ns y') (sym c) (subst (λ z. Stands order outer l f ms z) (sym d) s)))
+
+  -- ---- what opens
+
+  pub stands_open : (outer : List Level) (l m : Level) (f : Partial) (o : Opening) (ms : List Mark) (y h : List ℕ) → Opens m o → IsFront o h → m.start ≡ length y → m.content ≡ length (y ++ h) → m.pairs ≡ length ms → m.has_key ≡ false → m.count ≡ 0 → m.flawed ≡ false
+      → Stands order outer l f ms y → Stands order (outer ++ l ∷ []) m (inside f o []) ms (y ++ h)
+  stands_open outer l m f o ms y h op fr a b c k n w s = (outer, l, y, h, ms, [], refl, refl, sym (append-nil ms), a, c, s, record {
+    front = h;
+    contents = [];
+    whole = sym (append-nil h);
+    opens = op;
+    begins = fr;
+    content = omega (arith, a, b, length-append y h);
+    sound = subst (λ z. IsSound z []) (sym w) ([], tt);
+    contains = nothing o;
+  })
+    where
+      empty : AreEncodedAs order [] []
+      empty = ([], tt, tt, refl)
+      nothing : (o : Opening) → Contains order m o [] [] []
+      nothing (an_array p z i) = (refl, λ e. (empty, n))
+      nothing (a_map p z i) = (k, [], tt, tt, refl)
+      nothing (a_tag p z i) = (refl, λ e. empty)
+      nothing (in_chunks p i) = (refl, λ e. refl)
+
+  -- ---- a string in a string of indefinite length
+
+  chunk_verdict : (k : StringKind) (t : Tree) (q : ℕ) (w : Width) (b x : List ℕ) (bad : Bool) → t ≡ string_tree q k w b → IsChunkContent bad k b x → IsVerdict bad t
+  chunk_verdict OfBytes t q w b x false e c = subst (IsVerdict false) (sym e) (bytes b, refl)
+  chunk_verdict OfText t q w b x false e c = subst (IsVerdict false) (sym e) (text b, (c.0, refl))
+  chunk_verdict OfBytes t q w b x true e c = absurd (c.0 tt)
+  chunk_verdict OfText t q w b x true e c = subst (IsVerdict true) (sym e) (λ v m. c.0 m.0)
+
+  chunk_bytes : (k : StringKind) (q : ℕ) (w : Width) (b : List ℕ) → (chunk_of (string_tree q k w b)).bytes ≡ b
+  chunk_bytes OfBytes q w b = refl
+  chunk_bytes OfText q w b = refl
+
+  chunk_joined : (ts : List Tree) (k : StringKind) (t : Tree) (q : ℕ) (w : Width) (b : List ℕ) → t ≡ string_tree q k w b → joined_chunks (chunks_of (ts ++ t ∷ [])) ≡ joined_chunks (chunks_of ts) ++ b
+  chunk_joined [] k t q w b e = append-nil (chunk_of t).bytes ∙ ap (λ u. (chunk_of u).bytes) e ∙ chunk_bytes k q w b
+  chunk_joined (s ∷ ts) k t q w b e = ap (λ z. (chunk_of s).bytes ++ z) (chunk_joined ts k t q w b e) ∙ sym (append_assoc (chunk_of s).bytes (joined_chunks (chunks_of ts)) b)
+
+  chunk_contents : (c bad : Bool) (ts : List Tree) (k : StringKind) (t : Tree) (q : ℕ) (w : Width) (b z x : List ℕ) → t ≡ string_tree q k w b → IsChunkContent bad k b x → (c ≡ false → z ≡ joined_chunks (chunks_of ts)) → (c || bad) ≡ false → z ++ x ≡ joined_chunks (chunks_of (ts ++ t ∷ []))
+  chunk_contents false false ts k t q w b z x e i h n = (λ j. h refl j ++ i.1 j) ∙ sym (chunk_joined ts k t q w b e)
+  chunk_contents false true ts k t q w b z x e i h n = cc
+  chunk_contents true bad ts k t q w b z x e i h n = cc
+
+  pub stands_chunk : (outer : List Level) (l : Level) (f : Partial) (t : Tree) (ms : List Mark) (y x : List ℕ) (bad : Bool) → IsChunk f t bad x → Stands order outer l f ms y → Stands order outer (after l bad) (put f t) ms (y ++ x)
+  stands_chunk outer l (top ts) t ms y x bad c s = absurd c
+  stands_chunk outer l (inside f (an_array p z n) ts) t ms y x bad c s = absurd c
+  stands_chunk outer l (inside f (a_map p z n) ts) t ms y x bad c s = absurd c
+  stands_chunk outer l (inside f (a_tag p z n) ts) t ms y x bad c s = absurd c
+  stands_chunk outer l (inside f (in_chunks p k) ts) t ms y x bad c s =
+      let h = s.12 in
+      (s.0, s.1, s.2, s.3 ++ x, s.4, s.5, s.6, ap (λ w. w ++ x) s.7 ∙ append_assoc s.2 s.3 x, s.8, s.9, s.10, s.11, record {
+        front = h.front;
+        contents = h.contents ++ x;
+        whole = ap (λ y. y ++ x) h.whole ∙ append_assoc h.front h.contents x;
+        opens = h.opens;
+        begins = h.begins;
+        content = h.content;
+        sound = sound_more l.flawed bad ts t h.sound (chunk_verdict k t c.0 c.1 c.2 x bad c.3 c.4);
+        contains = (h.contains.0, λ e. chunk_contents l.flawed bad ts k t c.0 c.1 c.2 h.contents x c.3 c.4 h.contains.1 e);
+      })

@@ -1,0 +1,49 @@
+-- A string that ends in what an encoder holds.
+use Rattle.std.proofs.Common.{◌≡◌, ℕ, ◌<◌, ◌^◌, inl, inr, List, [], ◌∷◌, ◌++◌, length, append_assoc, append-nil, refl, sym, ap, ◌∙◌, subst, true, false, true≢false, Bool, not, Ordering}
+use Rattle.std.specs.Prelude.{◌↔◌, IsTrue}
+use Rattle.cborn_model.specs.declared.heads.Width.{Width}
+use Rattle.cborn_model.specs.declared.visitors.StringKind.{StringKind}
+use Rattle.cborn_model.specs.declared.visitors.StringKind.TheVariants.{OfBytes, OfText}
+use Rattle.cborn_model.specs.Bytes.{AreBytes}
+use Rattle.cborn_model.specs.Tree.{Tree, place}
+use Rattle.cborn_model.specs.Value.{bytes, text}
+use Rattle.cborn_model.specs.Partial.{Partial, top, inside, an_array, a_map, a_tag, in_chunks, string_tree, Proper, TakesItem, TakesString, IsFree}
+use Rattle.cborn_judge.specs.devices.Encoding.{MeansNothing, Mark, Coded, Stands, is_chunks, are_chunks}
+use Rattle.cborn_judge.specs.devices.Encoders.{kept, IsContent, IsChunk, IsChunkContent, IsStringFront}
+use Rattle.cborn_judge.specs.declared.levels.Level.{Level}
+use Rattle.cborn_judge.specs.declared.levels.Container.TheVariants as container
+
+pub string_place : (p : ℕ) (k : StringKind) (w : Width) (x : List ℕ) → place (string_tree p k w x) ≡ p
+string_place p OfBytes w x = refl
+string_place p OfText w x = refl
+
+module _ (order : List ℕ → List ℕ → Ordering) where
+  no_chunks : (outer : List Level) (l : Level) (f : Partial) (ms : List Mark) (y : List ℕ) → Stands order outer l f ms y → is_chunks l ≡ false → TakesItem f
+  no_chunks outer l (top ts) ms y s e = tt
+  no_chunks outer l (inside f (an_array p z n) ts) ms y s e = tt
+  no_chunks outer l (inside f (a_map p z n) ts) ms y s e = tt
+  no_chunks outer l (inside f (a_tag p w n) ts) ms y s e = tt
+  no_chunks outer l (inside f (in_chunks p k) ts) ms y s e = let h : true ≡ false = sym (ap are_chunks s.12.opens.1) ∙ e in cc
+
+  -- a string that is none of chunks
+  pub free_there : (outer : List Level) (l : Level) (f : Partial) (ms : List Mark) (y : List ℕ) → Stands order outer l f ms y → is_chunks l ≡ false → Proper f → IsFree f
+  free_there outer l f ms y s e p = (p, no_chunks outer l f ms y s e)
+
+  pub string_coded : (p : ℕ) (k : StringKind) (w : Width) (n : ℕ) (h x : List ℕ) (good : Bool) → IsStringFront false k n h → length x ≡ n → n < 2 ^ 64 → AreBytes x → IsTrue good ↔ IsContent k x → Coded order (string_tree p k w x) (kept good (h ++ x))
+  string_coded p OfBytes w n h x true front len short are is = inl (bytes x, refl, (are, subst (λ m. m < 2 ^ 64) (sym len) short), (h, subst (λ m. IsStringFront false OfBytes m h) (sym len) front, refl))
+  string_coded p OfText w n h x true front len short are is = let u = is.0 refl in inl (text x, (u, refl), (u, subst (λ m. m < 2 ^ 64) (sym len) short), (h, subst (λ m. IsStringFront false OfText m h) (sym len) front, refl))
+  string_coded p OfBytes w n h x false front len short are is = absurd (true≢false (sym (is.1 tt)))
+  string_coded p OfText w n h x false front len short are is = inr (refl, λ v m. true≢false (sym (is.1 m.0)))
+
+  chunk_content : (k : StringKind) (good : Bool) (x : List ℕ) → IsTrue good ↔ IsContent k x → IsChunkContent (not good) k x (kept good x)
+  chunk_content k true x is = (is.0 refl, refl)
+  chunk_content k false x is = ((λ c. true≢false (sym (is.1 c))), refl)
+
+  pub chunk_there : (outer : List Level) (l : Level) (f : Partial) (ms : List Mark) (y : List ℕ) (p : ℕ) (k : StringKind) (w : Width) (x : List ℕ) (good : Bool) → Stands order outer l f ms y → is_chunks l ≡ true → TakesString f k → IsTrue good ↔ IsContent k x
+      → IsChunk f (string_tree p k w x) (not good) (kept good x)
+  chunk_there outer l (top ts) ms y p k w x good s e takes is = let h : false ≡ true = sym (ap are_chunks s.2) ∙ e in cc
+  chunk_there outer l (inside f (an_array q z n) ts) ms y p k w x good s e takes is = let h : false ≡ true = sym (ap are_chunks s.12.opens.1) ∙ e in cc
+  chunk_there outer l (inside f (a_map q z n) ts) ms y p k w x good s e takes is = let h : false ≡ true = sym (ap are_chunks s.12.opens.1) ∙ e in cc
+  chunk_there outer l (inside f (a_tag q v n) ts) ms y p k w x good s e takes is = let h : false ≡ true = sym (ap are_chunks s.12.opens.1) ∙ e in cc
+  chunk_there outer l (inside f (in_chunks q j) ts) ms y p k w x good s e takes is =
+      subst (λ i. IsChunk (inside f (in_chunks q i) ts) (string_tree p k w x) (not good) (kept good x)) (sym takes) (p, w, x, refl, chunk_content k good x is)

@@ -1,0 +1,7 @@
+use Rattle.std.proofs.Common.{rules, refl}
+use Rattle.cborn_model.specs.Partial.{in_chunks}
+use Rattle.cborn_model.proofs.HandedOver.{on_ok}
+use Rattle.cborn_judge.proofs.encoders.EncoderVisitor.open_chunks.Goals as goal
+
+pub returns-clause-held : goal.returns-clause-held
+returns-clause-held g c = on_ok c.open.result (λ held f free old. held f (in_chunks c.args.place c.args.kind) ((refl, refl), refl) old) c.open.ensures.held

@@ -1,0 +1,6 @@
+use Rattle.std.proofs.Common.{◌≡◌, map, take}
+use Rattle.cborn_judge.specs.devices.Marks.{mark_of, narrow_of}
+use Rattle.cborn_judge.proofs.pairs.widened.Given as goal
+
+abbrev pub invariant-loop-mark : goal.invariant-loop-mark
+invariant-loop-mark l = map mark_of l.wide.items ≡ map narrow_of (take l.mark-index l.narrow)

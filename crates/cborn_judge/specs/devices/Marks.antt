@@ -1,0 +1,101 @@
+-- A device of the proofs: the marks that are kept of pairs, and what is read and found where they lie. No definition cites it.
+use Rattle.std.specs.Prelude.{◌≡◌, ◌≢◌, ℕ, ◌-◌, ◌⊎◌, List, [], ◌∷◌, map, take, drop}
+use Rattle.std.specs.Ordering.{nat_cmp, ordering_then, is_lt}
+use Rattle.std.specs.List.Sorted.{IsSortedBy}
+use Rattle.std.specs.declared.cmp.Ordering.{Ordering}
+use Rattle.std.specs.declared.cmp.Ordering.TheVariants.{Less}
+use Rattle.cborn_model.specs.declared.defects.DefectReason.{DefectReason}
+use Rattle.cborn_model.specs.declared.defects.DefectReason.TheVariants.{KeyOrder}
+use Rattle.cborn_model.specs.declared.faults.InvalidReason.{InvalidReason}
+use Rattle.cborn_model.specs.declared.faults.InvalidReason.TheVariants.{DuplicateKey}
+use Rattle.cborn_judge.specs.devices.Encoding as encoding
+use Rattle.cborn_judge.specs.devices.Encoding.{Row}
+use Rattle.cborn_judge.specs.declared.marks.Mark.{Mark}
+use Rattle.cborn_judge.specs.declared.marks.NarrowMark.{NarrowMark}
+use Rattle.cborn_judge.specs.declared.pairs.Marks.{Marks}
+use Rattle.cborn_judge.specs.declared.pairs.Marks.TheVariants.{Narrow, Wide}
+use Rattle.cborn_judge.specs.declared.pairs.Pairs.{Pairs}
+
+abbrev pub mark_of : Mark → encoding.Mark
+mark_of m = (m.place, m.start, m.middle, m.end)
+
+abbrev pub narrow_of : NarrowMark → encoding.Mark
+narrow_of m = (m.place, m.start, m.middle, m.end)
+
+abbrev pub all_marks : Marks → List encoding.Mark
+all_marks (Narrow ms) = map narrow_of ms.items
+all_marks (Wide ms) = map mark_of ms.items
+
+abbrev pub marks_of : Pairs → List encoding.Mark
+marks_of p = all_marks p.marks
+
+-- ---- what lies where the marks say
+
+abbrev pub between : ℕ → ℕ → List ℕ → List ℕ
+between start end b = take (end - start) (drop start b)
+
+abbrev pub key_of : List ℕ → encoding.Mark → List ℕ
+key_of b m = between m.1 m.2 b
+
+abbrev pub pair_of : List ℕ → encoding.Mark → List ℕ
+pair_of b m = between m.1 m.3 b
+
+abbrev pub row_of : List ℕ → encoding.Mark → Row
+row_of b m = (m.0, between m.1 m.2 b, between m.2 m.3 b)
+
+-- ---- what is found where keys follow one another
+
+-- a key and its place
+abbrev pub Keyed : Type 0
+Keyed = ℕ × List ℕ
+
+abbrev pub keyed : List ℕ → encoding.Mark → Keyed
+keyed b m = (m.0, key_of b m)
+
+abbrev pub all_keyed : List ℕ → List encoding.Mark → List Keyed
+all_keyed b = map (keyed b)
+
+-- Here k l q p says that a key l at the place q, after k, is found at p, and next what is remembered of the two.
+module _ (Here : List ℕ → List ℕ → ℕ → ℕ → Type 0) (next : List ℕ → List ℕ → List ℕ) where
+  abbrev pub Met : List ℕ → List Keyed → ℕ → Type 0
+  Met k [] p = ⊥
+  Met k (x ∷ xs) p = Here k x.1 x.0 p ⊎ Met (next k x.1) xs p
+
+  abbrev pub remembered : List ℕ → List Keyed → List ℕ
+  remembered k [] = k
+  remembered k (x ∷ xs) = remembered (next k x.1) xs
+
+-- neither is empty, and the key isn't above the one before it
+abbrev pub IsFall : (List ℕ → List ℕ → Ordering) → List ℕ → List ℕ → ℕ → ℕ → Type 0
+IsFall order k l q p = (k ≢ []) × (l ≢ []) × (p ≡ q) × (order k l ≢ Less)
+
+-- the last of two keys that isn't empty
+abbrev pub last_filled : List ℕ → List ℕ → List ℕ
+last_filled k [] = k
+last_filled k (b ∷ bs) = b ∷ bs
+
+-- the key isn't empty, and is the same as the one before it
+abbrev pub IsTie : List ℕ → List ℕ → ℕ → ℕ → Type 0
+IsTie k l q p = (l ≢ []) × (k ≡ l) × (p ≡ q)
+
+abbrev pub last_key : List ℕ → List ℕ → List ℕ
+last_key k l = l
+
+abbrev pub FallAt : (List ℕ → List ℕ → Ordering) → List ℕ → List ℕ → ℕ → ℕ → DefectReason → Type 0
+FallAt order k l q p r = (r ≡ KeyOrder) × IsFall order k l q p
+
+abbrev pub FallsIn : (List ℕ → List ℕ → Ordering) → List ℕ → List encoding.Mark → ℕ → DefectReason → Type 0
+FallsIn order b ms p r = (r ≡ KeyOrder) × Met (IsFall order) last_filled [] (all_keyed b ms) p
+
+abbrev pub TieAt : List ℕ → List ℕ → ℕ → ℕ → InvalidReason → Type 0
+TieAt k l q p r = (r ≡ DuplicateKey) × IsTie k l q p
+
+abbrev pub TiesIn : List ℕ → List encoding.Mark → ℕ → InvalidReason → Type 0
+TiesIn b ms p r = (r ≡ DuplicateKey) × Met IsTie last_key [] (all_keyed b ms) p
+
+-- sorted by the keys, and at equal keys by where they begin
+abbrev pub mark_order : (List ℕ → List ℕ → Ordering) → List ℕ → encoding.Mark → encoding.Mark → Ordering
+mark_order order b x y = ordering_then (order (key_of b x) (key_of b y)) (nat_cmp x.1 y.1)
+
+abbrev pub AreSorted : (List ℕ → List ℕ → Ordering) → List ℕ → List encoding.Mark → Type 0
+AreSorted order b = IsSortedBy (λ x y. is_lt (mark_order order b x y))

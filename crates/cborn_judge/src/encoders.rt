@@ -1,0 +1,463 @@
+//! The visitor [`Encoder`], which encodes items, and finds their first flaw and their first defect.
+
+ghost use Rattle.std.specs.Prelude.{◌≡◌, ◌++◌, ◌∷◌, ◌↔◌, ℕ, List, [], length, Option, None, Some, true, false, IfOk, IfErr, OnOk, IsTrue};
+ghost use Rattle.cborn_model.specs.Tree as tree;
+ghost use Rattle.cborn_model.specs.Tree.{Tree, trees};
+ghost use Rattle.cborn_model.specs.Partial.{Partial, Opening, top, inside, in_chunks, put, no_part, IsFree, string_tree};
+ghost use Rattle.cborn_model.specs.Valid.{IsProper};
+ghost use Rattle.std.specs.declared.cmp.Ordering.{Ordering};
+ghost use Rattle.cborn_model.specs.Reasons.{flaw_rank};
+ghost use Rattle.cborn_model.specs.First.{IsFirst};
+ghost use Rattle.cborn_model.specs.Earliest.{IsEarliest};
+ghost use Rattle.cborn_judge.specs.Departures.{FindsDefect};
+ghost use Rattle.cborn_judge.specs.shared.Checked.{DefectInAll};
+ghost use Rattle.cborn_judge.specs.shared.Judged.{FlawIn, FindsFlaw};
+ghost use Rattle.cborn_model.specs.Heads.{code, IsLeastHead};
+ghost use Rattle.cborn_det.specs.Appending.{Appends};
+ghost use Rattle.cborn_model.specs.declared.faults.InvalidReason.TheVariants.{NotUtf8};
+ghost use Rattle.cborn_model.specs.declared.heads.Size.{Size};
+ghost use Rattle.cborn_judge.specs.declared.levels.Container.TheVariants as containers;
+ghost use Rattle.cborn_judge.specs.devices.Marks.{marks_of};
+ghost use Rattle.cborn_judge.specs.devices.Encoding.{is_chunks, Mark, Coded, AreEncodedAs, IsOpening, IsFront};
+ghost use Rattle.cborn_judge.specs.devices.Encoders.{kept, IsHeld, StandsIn, StandsAs, IsChunk, BeginsAs, IsContent, IsEndedString, IsStringFront, kind_major};
+
+use crate::flaws::Flaw;
+use crate::levels::{Container, Level};
+use crate::pairs::Pairs;
+use crate::spellings::head_defect;
+use cborn_det::{integer_major, put_head};
+use cborn_model::{
+    Defect, Fault, InvalidReason, KeyOrder, Major, Size, StringKind, Visitor, Width, earliest,
+};
+use std::alloc::{AllocError, Global};
+use std::marker::PhantomData;
+
+/// A string of `len` bytes that comes in parts.
+#[derive(Clone, Copy)]
+pub(crate) struct OpenString {
+    pub(crate) place: u64,
+    pub(crate) kind: StringKind,
+    pub(crate) width: Width,
+    pub(crate) len: u64,
+    /// Where its encoding begins in the buffer.
+    pub(crate) start: usize,
+    /// Where its content begins there.
+    pub(crate) content: usize,
+}
+
+/// The encodings of the nodes that are whole, and what is open around the next.
+#[derive(Drop)]
+pub(crate) struct Encodings {
+    pub(crate) out: Vec<u8>,
+    /// The innermost container; the input, if none is open.
+    pub(crate) innermost: Level,
+    /// Those around it, the innermost of them last.
+    pub(crate) outer: Vec<Level>,
+    pub(crate) pairs: Pairs,
+    /// Room for the bytes of a bignum.
+    pub(crate) spare: Vec<u8>,
+}
+
+/// The items that an encoder was handed, each of which means something.
+#[derive(Drop)]
+pub struct EncodedItems {
+    /// Their deterministic encodings, one after another (RFC 8949 section 4.2).
+    pub bytes: Vec<u8>,
+    /// Where their spelling first departs from these, if it does.
+    pub defect: Option<Defect>,
+}
+
+/// Writes the deterministic encodings of the items that a source hands it, with the keys of maps in
+/// the order `O` (RFC 8949 section 4.2). In the same look it finds what is wrong with them: the first
+/// flaw, and the first defect.
+#[derive(Drop)]
+pub struct Encoder<O> {
+    pub(crate) alloc: Global,
+    pub(crate) encodings: Encodings,
+    /// The string that comes in parts.
+    pub(crate) string: Option<OpenString>,
+    pub(crate) flaw: Option<Flaw>,
+    pub(crate) defect: Option<Defect>,
+    order: PhantomData<O>,
+}
+
+impl Encodings {
+    /// Those of no node, in the input. They are written to the empty buffer `out`.
+    fn new(alloc: Global, out: Vec<u8>) -> Encodings
+        requires { out.items ≡ [] }
+        ensures { (order : List ℕ → List ℕ → Ordering) → StandsIn order result (top []) }
+    {
+        Encodings {
+            out,
+            innermost: Level::new(Container::Input, 0, 0, 0, 0),
+            outer: Vec::new(alloc),
+            pairs: Pairs::new(alloc),
+            spare: Vec::new(alloc),
+        }
+    }
+
+    /// Counts a node in the innermost container, which is whole now. Its encoding stands in the
+    /// buffer from `start` on; nothing stands there if it means nothing.
+    #[inline(always)]
+    pub(crate) fn put(&mut self, place: u64, start: usize) -> Result<(), AllocError>
+        ensures held { OnOk result ((order : List ℕ → List ℕ → Ordering) (f : Partial) (t : Tree) (y x : List ℕ) → IsFree f → tree.place t ≡ place → self.old.out.items ≡ y ++ x → start ≡ length y → Coded order t x → StandsAs order self.old f y → StandsIn order self.new (put f t)) }
+    {
+        let end = self.out.len();
+        self.mark(place, start, end)?;
+        self.innermost = self.innermost.with(end <= start);
+        Ok(())
+    }
+
+    /// Marks the key or the value that stands in the buffer from `start` to `end`, if the innermost
+    /// container is a map.
+    #[inline(always)]
+    fn mark(&mut self, place: u64, start: usize, end: usize) -> Result<(), AllocError>
+        ensures plain { OnOk result (((s : Size) (c : Option ℕ) → self.old.innermost.container ≡ containers.Map s c → ⊥) → marks_of self.new.pairs ≡ marks_of self.old.pairs) }
+        ensures key { OnOk result ((s : Size) (c : Option ℕ) → self.old.innermost.container ≡ containers.Map s c → self.old.innermost.has_key ≡ false → marks_of self.new.pairs ≡ marks_of self.old.pairs ++ (place, start, end, end) ∷ []) }
+        ensures value { OnOk result ((s : Size) (c : Option ℕ) → self.old.innermost.container ≡ containers.Map s c → self.old.innermost.has_key ≡ true → (ms : List Mark) (p b m n : ℕ) → marks_of self.old.pairs ≡ ms ++ (p, b, m, n) ∷ [] → marks_of self.new.pairs ≡ ms ++ (p, b, m, end) ∷ []) }
+        ensures kept { (self.new.out ≡ self.old.out) × (self.new.innermost ≡ self.old.innermost) × (self.new.outer ≡ self.old.outer) }
+    {
+        match self.innermost.container {
+            Container::Map { .. } if self.innermost.has_key => self.pairs.set_end(end),
+            Container::Map { .. } => self.pairs.push(place, start, end),
+            _ => Ok(()),
+        }
+    }
+
+    /// Counts a string of a string of indefinite length. It means nothing if it is `flawed`.
+    #[inline(always)]
+    pub(crate) fn put_chunk(&mut self, flawed: bool)
+        ensures held { (order : List ℕ → List ℕ → Ordering) (f : Partial) (t : Tree) (y x : List ℕ) → self.old.out.items ≡ y ++ x → IsChunk f t flawed x → StandsAs order self.old f y → StandsIn order self.new (put f t) }
+    {
+        self.innermost = self.innermost.with(flawed);
+    }
+
+    /// Opens a container at the offset `place`. What stands in the buffer from `start` on is the
+    /// front of its encoding.
+    #[inline(always)]
+    pub(crate) fn open(
+        &mut self,
+        container: Container,
+        place: u64,
+        start: usize,
+    ) -> Result<(), AllocError>
+        ensures held { OnOk result ((order : List ℕ → List ℕ → Ordering) (f : Partial) (o : Opening) (y h : List ℕ) → self.old.out.items ≡ y ++ h → start ≡ length y → IsOpening container place o → IsFront o h → StandsAs order self.old f y → StandsIn order self.new (inside f o [])) }
+    {
+        let level = Level::new(container, place, start, self.out.len(), self.pairs.len());
+        self.outer.push(self.innermost)?;
+        self.innermost = level;
+        Ok(())
+    }
+
+    /// Writes what stands before the content of a string: its head, unless it is one of a string of
+    /// indefinite length.
+    #[inline(always)]
+    fn push_string_front(&mut self, kind: StringKind, len: u64) -> Result<(), AllocError>
+        ensures front { OnOk result ((h : List ℕ) × IsStringFront (is_chunks self.old.innermost) kind len h × (self.new.out.items ≡ self.old.out.items ++ h)) }
+        ensures rest { (self.new.innermost ≡ self.old.innermost) × (self.new.outer ≡ self.old.outer) × (self.new.pairs ≡ self.old.pairs) }
+    {
+        if self.innermost.is_chunks() {
+            return Ok(());
+        }
+        put_head(major_of(kind), len, &mut self.out)
+    }
+
+    /// Whether the string whose content was written may hold it.
+    #[inline(always)]
+    pub(crate) fn is_good(&self, string: OpenString) -> bool
+        ensures { (y x : List ℕ) → self.now.out.items ≡ y ++ x → string.content ≡ length y → IsTrue result ↔ IsContent string.kind x }
+    {
+        is_content(string.kind, written_from(string.content, &self.out))
+    }
+
+    /// Counts a string whose content was written. Nothing of it is left in the buffer unless it is
+    /// good.
+    #[inline(always)]
+    pub(crate) fn put_string(&mut self, string: OpenString, is_good: bool) -> Result<(), AllocError>
+        ensures held { OnOk result ((order : List ℕ → List ℕ → Ordering) (f : Partial) (y h x : List ℕ) → IsTrue is_good ↔ IsContent string.kind x → IsEndedString order self.old string f y h x → StandsIn order self.new (put f (string_tree string.place string.kind string.width x))) }
+    {
+        self.cut(string.start, is_good);
+        if self.innermost.is_chunks() {
+            self.put_chunk(!is_good);
+            return Ok(());
+        }
+        self.put(string.place, string.start)
+    }
+
+    /// Cuts the buffer at `start`, unless what follows is kept.
+    #[inline(always)]
+    fn cut(&mut self, start: usize, is_kept: bool)
+        ensures cut { (y x : List ℕ) → self.old.out.items ≡ y ++ x → start ≡ length y → self.new.out.items ≡ y ++ kept is_kept x }
+        ensures rest { (self.new.innermost ≡ self.old.innermost) × (self.new.outer ≡ self.old.outer) × (self.new.pairs ≡ self.old.pairs) }
+    {
+        if !is_kept {
+            self.out.truncate(start);
+        }
+    }
+
+    /// Leaves the innermost container, and gives it; the input is left by nothing.
+    #[inline(always)]
+    pub(crate) fn leave(&mut self) -> Level
+        ensures left { (os : List Level) (l m : Level) → self.old.outer.items ≡ os ++ l ∷ [] → self.old.innermost ≡ m → (self.new.outer.items ≡ os) × (self.new.innermost ≡ l) × (result ≡ m) }
+        ensures kept { (self.new.out ≡ self.old.out) × (self.new.pairs ≡ self.old.pairs) }
+    {
+        let level = self.innermost;
+        if let Some(around) = self.outer.pop() {
+            self.innermost = around;
+        }
+        level
+    }
+}
+
+impl<O: KeyOrder> Encoder<O> {
+    /// A visitor that was handed nothing. Takes no memory.
+    pub fn new(alloc: Global) -> Encoder<O>
+        ensures { ⟦<Encoder<O> as Visitor>⟧.holds result (top []) no_part }
+    {
+        Encoder::over(alloc, Vec::new(alloc))
+    }
+
+    /// A visitor that was handed nothing, with room for so many bytes of encodings. Bytes of a
+    /// sequence are seldom longer as encodings.
+    ///
+    /// # Errors
+    /// `AllocError` if memory is refused.
+    pub fn with_capacity(alloc: Global, capacity: usize) -> Result<Encoder<O>, AllocError>
+        ensures { IfOk result (λ encoder. ⟦<Encoder<O> as Visitor>⟧.holds encoder (top []) no_part) }
+    {
+        let out = Vec::with_capacity(alloc, capacity)?;
+        Ok(Encoder::over(alloc, out))
+    }
+
+    /// A visitor that was handed nothing, and writes to an empty buffer.
+    fn over(alloc: Global, out: Vec<u8>) -> Encoder<O>
+        requires { out.items ≡ [] }
+        ensures { ⟦<Encoder<O> as Visitor>⟧.holds result (top []) no_part }
+    {
+        Encoder {
+            alloc,
+            encodings: Encodings::new(alloc, out),
+            string: None,
+            flaw: None,
+            defect: None,
+            order: PhantomData,
+        }
+    }
+
+    /// What the items are encoded as that it was handed, and the first defect of their spelling: that
+    /// at the lowest offset, and there that with the lowest number.
+    ///
+    /// # Errors
+    /// If an item means nothing, the first flaw of all: its offset in bytes from the start of the
+    /// input, and its reason (RFC 8949 section 5.3).
+    pub fn finish(self) -> Result<EncodedItems, (u64, InvalidReason)>
+        ensures encoded { IfOk result (λ encoded. (ts : List Tree) → ⟦<Encoder<O> as Visitor>⟧.holds self (top ts) no_part → AreEncodedAs O.order ts encoded.bytes.items) }
+        ensures defect { IfOk result (λ encoded. (ts : List Tree) → ⟦<Encoder<O> as Visitor>⟧.holds self (top ts) no_part → FindsDefect (DefectInAll O.order (trees ts)) encoded.defect) }
+        ensures flawed { IfErr result (λ flaw. (ts : List Tree) → ⟦<Encoder<O> as Visitor>⟧.holds self (top ts) no_part → IsFirst flaw_rank (FlawIn (trees ts)) flaw.0 flaw.1) }
+    {
+        if let Some(flaw) = self.flaw {
+            return Err((flaw.place, flaw.reason));
+        }
+        let defect = self.defect;
+        let encodings = self.encodings;
+        let bytes = encodings.out;
+        Ok(EncodedItems { bytes, defect })
+    }
+
+    /// Opens a container at the offset `place`, whose encoding begins with the head of this major type
+    /// and this argument; where the argument isn't known, with a byte in its place.
+    fn open(
+        &mut self,
+        container: Container,
+        place: u64,
+        major: Major,
+        argument: Option<u64>,
+    ) -> Result<(), AllocError>
+        ensures held { OnOk result ((f : Partial) (o : Opening) → BeginsAs container place major argument o → IsHeld O.order self.old f no_part → IsHeld O.order self.new (inside f o []) no_part) }
+    {
+        let start = self.encodings.out.len();
+        push_front(major, argument, &mut self.encodings.out)?;
+        self.encodings.open(container, place, start)
+    }
+}
+
+impl<O: KeyOrder> Visitor for Encoder<O> {
+    ghost holds = { IsHeld O.order };
+
+    ghost takes_memory = { Unit {0} };
+
+    #[inline(always)]
+    fn integer(
+        &mut self,
+        place: u64,
+        negative: bool,
+        width: Width,
+        n: u64,
+    ) -> Result<(), AllocError> {
+        let start = self.encodings.out.len();
+        put_head(integer_major(negative), n, &mut self.encodings.out)?;
+        keep(&mut self.defect, head_defect(place, width, n));
+        self.encodings.put(place, start)
+    }
+
+    fn simple(&mut self, place: u64, n: u8) -> Result<(), AllocError> {
+        let start = self.encodings.out.len();
+        put_head(Major::Other, u64::from(n), &mut self.encodings.out)?;
+        self.encodings.put(place, start)
+    }
+
+    fn open_array(&mut self, place: u64, size: Size, count: Option<u64>) -> Result<(), AllocError> {
+        self.open(Container::Array { size, count }, place, Major::Array, count)
+    }
+
+    fn open_map(&mut self, place: u64, size: Size, count: Option<u64>) -> Result<(), AllocError> {
+        self.open(Container::Map { size, count }, place, Major::Map, count)
+    }
+
+    fn open_tag(&mut self, place: u64, width: Width, n: u64) -> Result<(), AllocError> {
+        let number = n;
+        self.open(Container::Tag { width, number }, place, Major::Tag, Some(n))
+    }
+
+    fn open_chunks(&mut self, place: u64, kind: StringKind) -> Result<(), AllocError> {
+        self.open(Container::Chunks(kind), place, major_of(kind), None)
+    }
+
+    fn close(&mut self) -> Result<(), AllocError> {
+        let level = self.encodings.leave();
+        let found = self.encodings.end::<O>(self.alloc, level)?;
+        keep(&mut self.flaw, found.flaw);
+        keep(&mut self.defect, found.defect);
+        self.encodings.put(level.place, level.start)
+    }
+
+    #[inline(always)]
+    fn open_string(
+        &mut self,
+        place: u64,
+        kind: StringKind,
+        width: Width,
+        len: u64,
+    ) -> Result<(), AllocError> {
+        let start = self.encodings.out.len();
+        self.encodings.push_string_front(kind, len)?;
+        let content = self.encodings.out.len();
+        self.string = Some(OpenString {
+            place,
+            kind,
+            width,
+            len,
+            start,
+            content,
+        });
+        Ok(())
+    }
+
+    #[inline(always)]
+    fn part(&mut self, bytes: &[u8]) -> Result<(), AllocError> {
+        self.encodings.out.extend_from_slice(bytes)?;
+        Ok(())
+    }
+
+    #[inline(always)]
+    fn close_string(&mut self) -> Result<(), AllocError> {
+        let Some(string) = self.string.take() else {
+            return Ok(());
+        };
+        let place = string.place;
+        let is_good = self.encodings.is_good(string);
+        keep(&mut self.flaw, text_flaw(place, is_good));
+        keep(
+            &mut self.defect,
+            head_defect(place, string.width, string.len),
+        );
+        self.encodings.put_string(string, is_good)
+    }
+}
+
+/// The major type of strings of this kind (RFC 8949 section 3.1).
+pub(crate) fn major_of(kind: StringKind) -> Major
+    ensures { result ≡ kind_major kind }
+{
+    match kind {
+        StringKind::OfBytes => Major::ByteString,
+        StringKind::OfText => Major::TextString,
+    }
+}
+
+/// Writes the front of a container: its head with this argument, or a byte in its place where the
+/// argument isn't known.
+#[inline(always)]
+fn push_front(major: Major, argument: Option<u64>, out: &mut Vec<u8>) -> Result<(), AllocError>
+    ensures known { OnOk result ((n : ℕ) → argument ≡ Some n → Appends (IsLeastHead (code major) n) out.old.items out.new.items) }
+    ensures unknown { OnOk result (argument ≡ None → Appends (λ h. length h ≡ 1) out.old.items out.new.items) }
+{
+    match argument {
+        Some(n) => put_head(major, n, out),
+        None => {
+            out.push(0)?;
+            Ok(())
+        }
+    }
+}
+
+/// The flaw of a string at `place`, if it isn't good.
+#[inline(always)]
+fn text_flaw(place: u64, is_good: bool) -> Option<Flaw>
+    ensures { FindsFlaw (λ p r. (p ≡ place) × (r ≡ NotUtf8) × (is_good ≡ false)) result }
+{
+    if is_good {
+        return None;
+    }
+    let reason = InvalidReason::NotUtf8;
+    Some(Flaw { place, reason })
+}
+
+/// Keeps the first of what was found so far and what was found next. As a rule nothing was, or what
+/// was is at a higher place.
+#[inline(always)]
+fn keep<F: Fault>(first: &mut Option<F>, next: Option<F>)
+    ensures { IsEarliest F.key first.old next first.new }
+{
+    let Some(fault) = next else {
+        return;
+    };
+    if let Some(so_far) = *first {
+        if so_far.place_and_number().0 < fault.place_and_number().0 {
+            return;
+        }
+    }
+    keep_earlier(first, fault);
+}
+
+/// What [`keep`] does where something was found that may come first.
+#[cold]
+#[inline(never)]
+fn keep_earlier<F: Fault>(first: &mut Option<F>, fault: F)
+    ensures { IsEarliest F.key first.old (Some fault) first.new }
+{
+    *first = earliest(*first, Some(fault));
+}
+
+/// What was written from the index `start` on.
+#[inline(always)]
+pub(crate) fn written_from(start: usize, out: &[u8]) -> &[u8]
+    ensures { (y x : List ℕ) → out.now ≡ y ++ x → start ≡ length y → result.now ≡ x }
+{
+    if start > out.len() {
+        return &[];
+    }
+    &out[start..]
+}
+
+/// Whether a string of this kind may hold these bytes: a text has to be UTF-8 (RFC 8949 section
+/// 3.1). Most texts are short and ASCII, which is quicker to see.
+#[inline]
+fn is_content(kind: StringKind, bytes: &[u8]) -> bool
+    ensures { IsTrue result ↔ IsContent kind bytes.now }
+{
+    match kind {
+        StringKind::OfBytes => true,
+        StringKind::OfText => bytes.is_ascii() || simdutf8::is_utf8(bytes),
+    }
+}

@@ -1,0 +1,292 @@
+//! How containers end while items are encoded: what they are encoded as, and what is wrong with
+//! them.
+
+ghost use Rattle.std.specs.Prelude.{◌≡◌, ◌++◌, ◌∷◌, ◌<◌, ℕ, List, [], length, take, drop, true, false, None, Some, IfOk, IfSome, OnOk};
+ghost use Rattle.std.specs.declared.cmp.Ordering.{Ordering};
+ghost use Rattle.cborn_model.specs.Partial.{Opening, an_array, a_map, a_tag, in_chunks};
+ghost use Rattle.cborn_model.specs.Heads.{code, IsLeastHead};
+ghost use Rattle.cborn_model.specs.Tree.{Tree};
+ghost use Rattle.cborn_model.specs.Valid.{IsProper};
+ghost use Rattle.cborn_model.specs.Value as value;
+ghost use Rattle.cborn_model.specs.Value.{Value};
+ghost use Rattle.cborn_det.specs.Appending.{Replaces};
+ghost use Rattle.cborn_det.specs.Det.{Det, joined};
+ghost use Rattle.cborn_judge.specs.Departures.{FindsDefect};
+ghost use Rattle.cborn_judge.specs.shared.Judged.{FindsFlaw};
+ghost use Rattle.cborn_judge.specs.devices.Encoding.{Row, row_entries, Mark, AreMarked, AreFilled, AreArranged, RowRepeat, RowDescent, Opens, IsSound, AreEncodedAs};
+ghost use Rattle.cborn_judge.specs.devices.Marks.{marks_of};
+ghost use Rattle.cborn_judge.specs.devices.Encoders.{EndsWell, EndsBignum, IsBignumFound};
+
+use crate::encoders::{Encodings, major_of};
+use crate::flaws::Flaw;
+use crate::levels::{Container, Level};
+use crate::spellings::{head_defect, loose_defect, size_defect};
+use cborn_det::{push_integer, set_head};
+use cborn_model::{
+    Defect, DefectReason, InvalidReason, KeyOrder, Major, Size, StringKind, Width, earliest,
+    ended_size, without_zeros,
+};
+use std::alloc::{AllocError, Global};
+
+/// What a container adds to the flaws and the defects when it ends.
+#[derive(Clone, Copy)]
+pub(crate) struct Findings {
+    pub(crate) flaw: Option<Flaw>,
+    pub(crate) defect: Option<Defect>,
+}
+
+impl Encodings {
+    /// Ends a container that was left: what stands of it in the buffer becomes its encoding, or goes
+    /// if it means nothing.
+    pub(crate) fn end<O: KeyOrder>(
+        &mut self,
+        alloc: Global,
+        level: Level,
+    ) -> Result<Findings, AllocError>
+        ensures ended { IfOk result (λ found. (o : Opening) (ns own : List Mark) → marks_of self.old.pairs ≡ ns ++ own → level.pairs ≡ length ns → Opens level o → EndsWell O.order level o own self.old.out.items self.new.out.items found) }
+        ensures marks { IfOk result (λ found. marks_of self.new.pairs ≡ take level.pairs (marks_of self.old.pairs)) }
+        ensures kept { (self.new.outer ≡ self.old.outer) × (self.new.innermost ≡ self.old.innermost) }
+    {
+        let found = match level.container {
+            Container::Input => Findings {
+                flaw: None,
+                defect: None,
+            },
+            Container::Array { size, count } => end_array(
+                alloc,
+                level,
+                size,
+                count,
+                &mut self.out,
+            )?,
+            Container::Map { size, count } => self.end_map::<O>(alloc, level, size, count)?,
+            Container::Tag { width, number } => {
+                let spare = &mut self.spare;
+                end_tag(level, width, number, spare, &mut self.out)?
+            }
+            Container::Chunks(kind) => end_chunks(alloc, level, kind, &mut self.out)?,
+        };
+        self.pairs.truncate(level.pairs);
+        Ok(found)
+    }
+
+    /// Ends a map.
+    fn end_map<O: KeyOrder>(
+        &mut self,
+        alloc: Global,
+        level: Level,
+        size: Size,
+        count: Option<u64>,
+    ) -> Result<Findings, AllocError>
+        ensures ended { IfOk result (λ found. EndsWell O.order level (a_map level.place size count) (drop level.pairs (marks_of self.old.pairs)) self.old.out.items self.new.out.items found) }
+        ensures marks { IfOk result (λ found. take level.pairs (marks_of self.new.pairs) ≡ take level.pairs (marks_of self.old.pairs)) }
+        ensures kept { (self.new.outer ≡ self.old.outer) × (self.new.innermost ≡ self.old.innermost) }
+    {
+        let len = self.pairs.len().saturating_sub(level.pairs) as u64;
+        let own = size_defect(level.place, ended_size(size, count, len), len);
+        let Findings { flaw, defect } = self.arrange::<O>(alloc, level)?;
+        let head = Head {
+            major: Major::Map,
+            count,
+            len,
+        };
+        let is_flawed = level.flawed || flaw.is_some();
+        end_head(alloc, head, level.start, is_flawed, &mut self.out)?;
+        let defect = earliest(own, defect);
+        Ok(Findings { flaw, defect })
+    }
+
+    /// Arranges the pairs of a map so that their keys rise. Finds the first key that is the same as
+    /// an earlier one, and the first that isn't above the one before it. If keys are the same, or a
+    /// node means nothing, the pairs needn't be arranged.
+    fn arrange<O: KeyOrder>(&mut self, alloc: Global, level: Level) -> Result<Findings, AllocError>
+        ensures repeat { IfOk result (λ found. (y : List ℕ) (rows : List Row) → level.content ≡ length y → self.old.out.items ≡ y ++ joined (row_entries rows) → AreMarked level.content rows (drop level.pairs (marks_of self.old.pairs)) → FindsFlaw (RowRepeat rows) found.flaw) }
+        ensures descent { IfOk result (λ found. (y : List ℕ) (rows : List Row) → level.content ≡ length y → self.old.out.items ≡ y ++ joined (row_entries rows) → AreMarked level.content rows (drop level.pairs (marks_of self.old.pairs)) → AreFilled rows → FindsDefect (RowDescent O.order rows) found.defect) }
+        ensures arranged { IfOk result (λ found. found.flaw ≡ None → (y : List ℕ) (rows : List Row) → level.content ≡ length y → self.old.out.items ≡ y ++ joined (row_entries rows) → AreMarked level.content rows (drop level.pairs (marks_of self.old.pairs)) → AreFilled rows → (x : List ℕ) × AreArranged O.order rows x × (self.new.out.items ≡ y ++ x)) }
+        ensures front { IfOk result (λ found. (y z : List ℕ) → level.content ≡ length y → self.old.out.items ≡ y ++ z → (x : List ℕ) × (self.new.out.items ≡ y ++ x)) }
+        ensures before { IfOk result (λ found. take level.pairs (marks_of self.new.pairs) ≡ take level.pairs (marks_of self.old.pairs)) }
+        ensures kept { (self.new.outer ≡ self.old.outer) × (self.new.innermost ≡ self.old.innermost) }
+    {
+        let defect = self.pairs.descent::<O>(level.pairs, &self.out);
+        if defect.is_none() {
+            // The keys rise, so no two are the same.
+            let flaw = None;
+            return Ok(Findings { flaw, defect });
+        }
+        let flaw = self
+            .pairs
+            .arrange::<O>(alloc, level.pairs, level.content, &mut self.out)?;
+        Ok(Findings { flaw, defect })
+    }
+}
+
+/// The head of a container: its major type, the argument if it stood in the head from the start,
+/// and the argument that it has now.
+#[derive(Clone, Copy)]
+struct Head {
+    major: Major,
+    count: Option<u64>,
+    len: u64,
+}
+
+/// Ends what stands in the buffer from `start` on: nothing of it is left if it is flawed, else it
+/// gets its head, unless that is there.
+fn end_head(
+    alloc: Global,
+    head: Head,
+    start: usize,
+    is_flawed: bool,
+    out: &mut Vec<u8>,
+) -> Result<(), AllocError>
+    ensures flawed { OnOk result (is_flawed ≡ true → out.new.items ≡ take start out.old.items) }
+    ensures known { OnOk result (is_flawed ≡ false → (n : ℕ) → head.count ≡ Some n → out.new.items ≡ out.old.items) }
+    ensures set { OnOk result (is_flawed ≡ false → head.count ≡ None → start < length out.old.items → Replaces (IsLeastHead (code head.major) head.len) start out.old.items out.new.items) }
+{
+    if is_flawed {
+        out.truncate(start);
+        return Ok(());
+    }
+    if head.count.is_none() && start < out.len() {
+        set_head(alloc, head.major, head.len, start, out)?;
+    }
+    Ok(())
+}
+
+/// Ends an array.
+fn end_array(
+    alloc: Global,
+    level: Level,
+    size: Size,
+    count: Option<u64>,
+    out: &mut Vec<u8>,
+) -> Result<Findings, AllocError>
+    ensures { IfOk result (λ found. (order : List ℕ → List ℕ → Ordering) → EndsWell order level (an_array level.place size count) [] out.old.items out.new.items found) }
+{
+    let len = count.unwrap_or(level.count);
+    let major = Major::Array;
+    let head = Head { major, count, len };
+    end_head(alloc, head, level.start, level.flawed, out)?;
+    let flaw = None;
+    let defect = size_defect(level.place, ended_size(size, count, len), len);
+    Ok(Findings { flaw, defect })
+}
+
+/// Ends a string of indefinite length.
+fn end_chunks(
+    alloc: Global,
+    level: Level,
+    kind: StringKind,
+    out: &mut Vec<u8>,
+) -> Result<Findings, AllocError>
+    ensures { IfOk result (λ found. (order : List ℕ → List ℕ → Ordering) → EndsWell order level (in_chunks level.place kind) [] out.old.items out.new.items found) }
+{
+    let len = out.len().saturating_sub(level.content) as u64;
+    let major = major_of(kind);
+    let count = None;
+    let head = Head { major, count, len };
+    end_head(alloc, head, level.start, level.flawed, out)?;
+    let flaw = None;
+    let place = level.place;
+    let reason = DefectReason::EndlessLength;
+    let defect = Some(Defect { place, reason });
+    Ok(Findings { flaw, defect })
+}
+
+/// Ends a tag. `spare` is room for the bytes of a bignum.
+fn end_tag(
+    level: Level,
+    width: Width,
+    number: u64,
+    spare: &mut Vec<u8>,
+    out: &mut Vec<u8>,
+) -> Result<Findings, AllocError>
+    ensures { IfOk result (λ found. (order : List ℕ → List ℕ → Ordering) → EndsWell order level (a_tag level.place width number) [] out.old.items out.new.items found) }
+{
+    let mut found = Findings {
+        flaw: None,
+        defect: head_defect(level.place, width, number),
+    };
+    if number == 2 || number == 3 {
+        let inner = end_bignum(level, number == 3, spare, out)?;
+        found.flaw = inner.flaw;
+        found.defect = earliest(found.defect, inner.defect);
+        return Ok(found);
+    }
+    if level.flawed {
+        out.truncate(level.start);
+    }
+    Ok(found)
+}
+
+/// Ends tag 2, or tag 3 if it is `negative`, over a byte string: the integer takes its place. Finds
+/// what is wrong with it but for its head.
+fn end_bignum(
+    level: Level,
+    negative: bool,
+    spare: &mut Vec<u8>,
+    out: &mut Vec<u8>,
+) -> Result<Findings, AllocError>
+    ensures { IfOk result (λ found. (order : List ℕ → List ℕ → Ordering) → EndsBignum order level negative out.old.items out.new.items found) }
+{
+    let place = level.place;
+    let bignum = bignum_of(level, out, spare)?;
+    out.truncate(level.start);
+    let Some(bignum) = bignum else {
+        let reason = InvalidReason::BadBignum;
+        let flaw = Some(Flaw { place, reason });
+        let defect = None;
+        return Ok(Findings { flaw, defect });
+    };
+    push_integer(negative, spare, out)?;
+    let flaw = None;
+    let defect = bignum.defect;
+    Ok(Findings { flaw, defect })
+}
+
+/// Whether a bignum had leading zeros or fits 64 bits.
+#[derive(Clone, Copy)]
+struct Bignum {
+    defect: Option<Defect>,
+}
+
+/// The bignum whose content is that of a tag which was left, and its bytes without leading zeros in
+/// `magnitude`; `None` if that is no byte string.
+fn bignum_of(
+    level: Level,
+    out: &[u8],
+    magnitude: &mut Vec<u8>,
+) -> Result<Option<Bignum>, AllocError>
+    ensures { IfOk result (λ found. (order : List ℕ → List ℕ → Ordering) (t : Tree) (y z : List ℕ) → out.now ≡ y ++ z → level.content ≡ length y → IsSound level.flawed (t ∷ []) → (level.flawed ≡ false → AreEncodedAs order (t ∷ []) z) → IsBignumFound level.place t magnitude.new.items found) }
+{
+    if level.flawed {
+        return Ok(None);
+    }
+    let code = out.get(level.content..).unwrap_or(&[]);
+    let Some(bytes) = string_content(code) else {
+        return Ok(None);
+    };
+    magnitude.clear();
+    magnitude.extend_from_slice(without_zeros(bytes))?;
+    let defect = loose_defect(level.place, bytes);
+    Ok(Some(Bignum { defect }))
+}
+
+/// The content of the byte string that `code` is the encoding of, with the shortest head; `None` if
+/// it is that of another item.
+fn string_content(code: &[u8]) -> Option<&[u8]>
+    ensures some { IfSome result (λ bytes. (order : List ℕ → List ℕ → Ordering) (v : Value) → IsProper v → Det order v code.now → v ≡ value.bytes bytes.now) }
+    ensures none { result ≡ None → (order : List ℕ → List ℕ → Ordering) (b : List ℕ) → IsProper (value.bytes b) → Det order (value.bytes b) code.now → ⊥ }
+{
+    let first = *code.first()?;
+    if first / 32 != 2 {
+        return None;
+    }
+    let head_len = match first % 32 {
+        24 => 2,
+        25 => 3,
+        26 => 5,
+        27 => 9,
+        _ => 1,
+    };
+    code.get(head_len..)
+}

@@ -1,0 +1,84 @@
+//! What is open while items are encoded.
+
+ghost use Rattle.std.specs.Prelude.{◌≡◌, false};
+ghost use Rattle.cborn_judge.specs.devices.Encoding.{after, is_chunks};
+
+use cborn_model::{Size, StringKind, Width};
+
+/// What an open container is.
+#[derive(Clone, Copy)]
+pub(crate) enum Container {
+    /// The input, in which everything else is.
+    Input,
+    Array { size: Size, count: Option<u64> },
+    Map { size: Size, count: Option<u64> },
+    Tag { width: Width, number: u64 },
+    /// A string of indefinite length.
+    Chunks(StringKind),
+}
+
+/// An open container.
+#[derive(Clone, Copy)]
+pub(crate) struct Level {
+    pub(crate) container: Container,
+    /// The offset of its head in the input.
+    pub(crate) place: u64,
+    /// Where its encoding begins in the buffer.
+    pub(crate) start: usize,
+    /// Where what is in it begins there.
+    pub(crate) content: usize,
+    /// How many pairs are marked of the maps around it.
+    pub(crate) pairs: usize,
+    /// How many nodes are whole in it, if each means something.
+    pub(crate) count: u64,
+    /// Whether a key came in it whose value is missing.
+    pub(crate) has_key: bool,
+    /// Whether a node in it means nothing.
+    pub(crate) flawed: bool,
+}
+
+impl Level {
+    /// A container in which nothing is whole yet.
+    #[inline(always)]
+    pub(crate) fn new(
+        container: Container,
+        place: u64,
+        start: usize,
+        content: usize,
+        pairs: usize,
+    ) -> Level
+        ensures { result ≡ record { container = container; place = place; start = start; content = content; pairs = pairs; count = 0; has_key = false; flawed = false } }
+    {
+        Level {
+            container,
+            place,
+            start,
+            content,
+            pairs,
+            count: 0,
+            has_key: false,
+            flawed: false,
+        }
+    }
+
+    /// The container with one more whole node, which means nothing if it is `flawed`.
+    #[inline(always)]
+    pub(crate) fn with(self, flawed: bool) -> Level
+        ensures { result ≡ after self flawed }
+    {
+        Level {
+            count: self.count.saturating_add(1),
+            has_key: !self.has_key,
+            flawed: self.flawed || flawed,
+            ..self
+        }
+    }
+
+    /// Whether it is a string of indefinite length.
+    #[inline(always)]
+    pub(crate) fn is_chunks(&self) -> bool
+        ensures { result ≡ is_chunks self.now }
+    {
+        matches!(self.container, Container::Chunks(_))
+    }
+}

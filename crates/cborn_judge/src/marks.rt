@@ -1,0 +1,289 @@
+//! Where the pairs of a map lie in a buffer, what is wrong with their order, and how they are
+//! arranged.
+
+ghost use Rattle.std.specs.Prelude.{◌≡◌, ◌<◌, ◌^◌, ◌++◌, ℕ, List, length, map, take, drop, flat_map, None, IfOk, IfSome, OnOk, IsPermutation};
+ghost use Rattle.cborn_model.specs.Orders.{Rising};
+ghost use Rattle.cborn_det.specs.Det.{joined};
+ghost use Rattle.cborn_judge.specs.Departures.{FindsDefect};
+ghost use Rattle.cborn_judge.specs.shared.Judged.{FindsFlaw};
+ghost use Rattle.cborn_judge.specs.devices.Encoding.{Row, row_entries, Mark as Marked, AreMarked, AreFilled, AreArranged, filled_keys, RowRepeat, RowDescent};
+ghost use Rattle.cborn_judge.specs.devices.Marks.{mark_of, narrow_of, between, key_of, pair_of, mark_order, last_filled, FallAt, TieAt, FallsIn, TiesIn, AreSorted};
+
+use crate::flaws::Flaw;
+use crate::spellings::order_defect;
+use cborn_model::{Defect, InvalidReason, KeyOrder, earliest};
+use std::alloc::{AllocError, Global};
+use std::cmp::Ordering;
+
+/// Where a key and its value lie in a buffer.
+#[derive(Clone, Copy)]
+pub(crate) struct Mark {
+    /// The offset of the key in the input.
+    pub(crate) place: u64,
+    /// Where the key begins in the buffer.
+    pub(crate) start: usize,
+    /// Where it ends, and the value begins.
+    pub(crate) middle: usize,
+    /// Where the value ends.
+    pub(crate) end: usize,
+}
+
+/// A mark whose numbers fit 32 bits, in half the room.
+#[derive(Clone, Copy)]
+pub(crate) struct NarrowMark {
+    place: u32,
+    start: u32,
+    middle: u32,
+    end: u32,
+}
+
+/// A mark, in whatever room it is kept.
+pub(crate) trait Spot: Copy {
+    /// What it marks, as contracts see it.
+    ghost seen: { Self → Marked };
+
+    /// The mark.
+    fn mark(self) -> Mark
+        ensures { mark_of result ≡ seen self };
+}
+
+impl Spot for Mark {
+    ghost seen = { mark_of };
+
+    #[inline(always)]
+    fn mark(self) -> Mark {
+        self
+    }
+}
+
+impl Spot for NarrowMark {
+    ghost seen = { narrow_of };
+
+    #[inline(always)]
+    fn mark(self) -> Mark {
+        Mark {
+            place: u64::from(self.place),
+            start: self.start as usize,
+            middle: self.middle as usize,
+            end: self.end as usize,
+        }
+    }
+}
+
+impl NarrowMark {
+    /// This mark, narrow; `None` if a number of it doesn't fit 32 bits.
+    #[inline(always)]
+    pub(crate) fn of(mark: Mark) -> Option<NarrowMark>
+        ensures narrow { IfSome result (λ narrow. narrow_of narrow ≡ mark_of mark) }
+        ensures wide { result ≡ None → mark.place < 2 ^ 32 → mark.start < 2 ^ 32 → mark.middle < 2 ^ 32 → mark.end < 2 ^ 32 → ⊥ }
+    {
+        Some(NarrowMark {
+            place: u32::try_from(mark.place).ok()?,
+            start: u32::try_from(mark.start).ok()?,
+            middle: u32::try_from(mark.middle).ok()?,
+            end: u32::try_from(mark.end).ok()?,
+        })
+    }
+}
+
+/// The first defect of the order of the pairs that are marked from the index `from` on, and lie in
+/// `out`. A key without an encoding is passed over.
+pub(crate) fn descent<O: KeyOrder, S: Spot>(spots: &[S], from: usize, out: &[u8]) -> Option<Defect>
+    ensures rising { result ≡ None → (y : List ℕ) (rows : List Row) → out.now ≡ y ++ joined (row_entries rows) → AreMarked (length y) rows (drop from (map S.seen spots.now)) → Rising O.order (filled_keys rows) }
+    ensures found { (y : List ℕ) (rows : List Row) → out.now ≡ y ++ joined (row_entries rows) → AreMarked (length y) rows (drop from (map S.seen spots.now)) → AreFilled rows → FindsDefect (RowDescent O.order rows) result }
+{
+    first_fall::<O, S>(from_index(spots, from), out)
+}
+
+/// Arranges the pairs that are marked from the index `from` on, and lie in `out` from the offset
+/// `start` on, so that their keys rise. Gives the first key that is the same as an earlier one;
+/// then they stay as they are. What the marks say of them means nothing after it.
+pub(crate) fn arrange<O: KeyOrder, S: Spot>(
+    alloc: Global,
+    spots: &mut Vec<S>,
+    from: usize,
+    start: usize,
+    out: &mut Vec<u8>,
+) -> Result<Option<Flaw>, AllocError>
+    ensures repeat { IfOk result (λ flaw. (y : List ℕ) (rows : List Row) → start ≡ length y → out.old.items ≡ y ++ joined (row_entries rows) → AreMarked start rows (drop from (map S.seen spots.old.items)) → FindsFlaw (RowRepeat rows) flaw) }
+    ensures arranged { IfOk result (λ flaw. flaw ≡ None → (y : List ℕ) (rows : List Row) → start ≡ length y → out.old.items ≡ y ++ joined (row_entries rows) → AreMarked start rows (drop from (map S.seen spots.old.items)) → AreFilled rows → (x : List ℕ) × AreArranged O.order rows x × (out.new.items ≡ y ++ x)) }
+    ensures front { OnOk result ((y z : List ℕ) → start ≡ length y → out.old.items ≡ y ++ z → (x : List ℕ) × (out.new.items ≡ y ++ x)) }
+    ensures before { take from (map S.seen spots.new.items) ≡ take from (map S.seen spots.old.items) }
+{
+    if from > spots.len() {
+        return Ok(None);
+    }
+    arrange_all::<O, S>(alloc, &mut spots[from..], start, out)
+}
+
+/// Arranges the pairs that lie in `out` from `start` on.
+fn arrange_all<O: KeyOrder, S: Spot>(
+    alloc: Global,
+    spots: &mut [S],
+    start: usize,
+    out: &mut Vec<u8>,
+) -> Result<Option<Flaw>, AllocError>
+    ensures repeat { IfOk result (λ flaw. (y : List ℕ) (rows : List Row) → start ≡ length y → out.old.items ≡ y ++ joined (row_entries rows) → AreMarked start rows (map S.seen spots.old) → FindsFlaw (RowRepeat rows) flaw) }
+    ensures arranged { IfOk result (λ flaw. flaw ≡ None → (y : List ℕ) (rows : List Row) → start ≡ length y → out.old.items ≡ y ++ joined (row_entries rows) → AreMarked start rows (map S.seen spots.old) → AreFilled rows → (x : List ℕ) × AreArranged O.order rows x × (out.new.items ≡ y ++ x)) }
+    ensures front { OnOk result ((y z : List ℕ) → start ≡ length y → out.old.items ≡ y ++ z → (x : List ℕ) × (out.new.items ≡ y ++ x)) }
+{
+    let flaw = sort_apart::<O, S>(spots, out);
+    if flaw.is_none() {
+        set(alloc, spots, start, out)?;
+    }
+    Ok(flaw)
+}
+
+/// Sorts marks by their keys, and gives the first key that is the same as an earlier one. If none
+/// is, and each key has an encoding, the keys rise then.
+fn sort_apart<O: KeyOrder, S: Spot>(spots: &mut [S], out: &[u8]) -> Option<Flaw>
+    ensures repeat { (y : List ℕ) (rows : List Row) → out.now ≡ y ++ joined (row_entries rows) → AreMarked (length y) rows (map S.seen spots.old) → FindsFlaw (RowRepeat rows) result }
+    ensures arranged { result ≡ None → (y : List ℕ) (rows : List Row) → out.now ≡ y ++ joined (row_entries rows) → AreMarked (length y) rows (map S.seen spots.old) → AreFilled rows → AreArranged O.order rows (flat_map (pair_of out.now) (map S.seen spots.new)) }
+{
+    sort::<O, S>(spots, out);
+    first_tie(spots, out)
+}
+
+/// The first key that isn't above the one before it, of those that have an encoding.
+fn first_fall<O: KeyOrder, S: Spot>(spots: &[S], out: &[u8]) -> Option<Defect>
+    ensures { FindsDefect (FallsIn O.order out.now (map S.seen spots.now)) result }
+{
+    let mut first: Option<Defect> = None;
+    let mut before: &[u8] = &[];
+    for spot in spots {
+        let mark = spot.mark();
+        let key = key_in(out, mark);
+        first = earliest(first, fall::<O>(mark.place, before, key));
+        before = last_of(before, key);
+    }
+    first
+}
+
+/// The defect of `key` at the offset `place`, if it isn't above the one before it. Either is empty
+/// if there is none.
+fn fall<O: KeyOrder>(place: u64, before: &[u8], key: &[u8]) -> Option<Defect>
+    ensures { FindsDefect (FallAt O.order before.now key.now place) result }
+{
+    if before.is_empty() || key.is_empty() {
+        return None;
+    }
+    order_defect::<O>(place, before, key)
+}
+
+/// The last of two keys that has an encoding.
+fn last_of<'a>(before: &'a [u8], key: &'a [u8]) -> &'a [u8]
+    ensures { result.now ≡ last_filled before.now key.now }
+{
+    if key.is_empty() { before } else { key }
+}
+
+/// Sorts marks by their keys, and those of equal keys by where they lie.
+fn sort<O: KeyOrder, S: Spot>(spots: &mut [S], out: &[u8])
+    ensures moved { IsPermutation spots.old spots.new }
+    ensures sorted { AreSorted O.order out.now (map S.seen spots.new) }
+{
+    spots.sort_unstable_by(|a, b| compare::<O>(out, a.mark(), b.mark()));
+}
+
+/// How two marks compare: by their keys, and at equal keys by where they lie.
+fn compare<O: KeyOrder>(out: &[u8], a: Mark, b: Mark) -> Ordering
+    ensures { result ≡ mark_order O.order out.now (mark_of a) (mark_of b) }
+{
+    match O::compare(key_in(out, a), key_in(out, b)) {
+        Ordering::Equal => a.start.cmp(&b.start),
+        unequal => unequal,
+    }
+}
+
+/// The first key that is the same as the one before it.
+fn first_tie<S: Spot>(spots: &[S], out: &[u8]) -> Option<Flaw>
+    ensures { FindsFlaw (TiesIn out.now (map S.seen spots.now)) result }
+{
+    let mut first: Option<Flaw> = None;
+    let mut before: &[u8] = &[];
+    for spot in spots {
+        let mark = spot.mark();
+        let key = key_in(out, mark);
+        first = earliest(first, tie(mark.place, before, key));
+        before = key;
+    }
+    first
+}
+
+/// The flaw of `key` at the offset `place`, if it is the same as the one before it, and not empty.
+fn tie(place: u64, before: &[u8], key: &[u8]) -> Option<Flaw>
+    ensures { FindsFlaw (TieAt before.now key.now place) result }
+{
+    if key.is_empty() {
+        return None;
+    }
+    if before != key {
+        return None;
+    }
+    let reason = InvalidReason::DuplicateKey;
+    Some(Flaw { place, reason })
+}
+
+/// Writes the pairs that `out` has from `start` on in the order of the marks: they are copied, and
+/// the copy is written over them.
+fn set<S: Spot>(
+    alloc: Global,
+    spots: &[S],
+    start: usize,
+    out: &mut Vec<u8>,
+) -> Result<(), AllocError>
+    ensures { OnOk result (out.new.items ≡ take start out.old.items ++ flat_map (pair_of out.old.items) (map S.seen spots.now)) }
+{
+    let copy = copied(alloc, spots, out.len().saturating_sub(start), out)?;
+    out.truncate(start);
+    out.extend_from_slice(&copy)
+}
+
+/// A copy of pairs one after another, which have `len` bytes.
+fn copied<S: Spot>(
+    alloc: Global,
+    spots: &[S],
+    len: usize,
+    out: &[u8],
+) -> Result<Vec<u8>, AllocError>
+    ensures { IfOk result (λ copy. copy.items ≡ flat_map (pair_of out.now) (map S.seen spots.now)) }
+{
+    let mut copy = Vec::with_capacity(alloc, len)?;
+    for spot in spots {
+        copy.extend_from_slice(pair_in(out, spot.mark()))?;
+    }
+    Ok(copy)
+}
+
+/// The key that is marked. Empty if it lies outside.
+#[inline(always)]
+fn key_in(out: &[u8], mark: Mark) -> &[u8]
+    ensures { result.now ≡ key_of out.now (mark_of mark) }
+{
+    bytes_between(out, mark.start, mark.middle)
+}
+
+/// The key and the value that are marked.
+#[inline(always)]
+fn pair_in(out: &[u8], mark: Mark) -> &[u8]
+    ensures { result.now ≡ pair_of out.now (mark_of mark) }
+{
+    bytes_between(out, mark.start, mark.end)
+}
+
+/// The bytes from one offset to another, as far as there are any.
+#[inline(always)]
+fn bytes_between(bytes: &[u8], start: usize, end: usize) -> &[u8]
+    ensures { result.now ≡ between start end bytes.now }
+{
+    let rest = from_index(bytes, start);
+    rest.get(..end.saturating_sub(start)).unwrap_or(rest)
+}
+
+/// The items from an index on.
+#[inline(always)]
+fn from_index<T>(items: &[T], from: usize) -> &[T]
+    ensures { result.now ≡ drop from items.now }
+{
+    items.get(from..).unwrap_or(&[])
+}

@@ -1,0 +1,186 @@
+//! The pairs of the maps that are open while items are encoded.
+
+ghost use Rattle.std.specs.Prelude.{◌≡◌, ◌++◌, ◌∷◌, ℕ, List, [], length, map, take, drop, None, IfOk, IfSome, OnOk};
+ghost use Rattle.cborn_model.specs.Orders.{Rising};
+ghost use Rattle.cborn_det.specs.Det.{joined};
+ghost use Rattle.cborn_judge.specs.Departures.{FindsDefect};
+ghost use Rattle.cborn_judge.specs.shared.Judged.{FindsFlaw};
+ghost use Rattle.cborn_judge.specs.devices.Encoding.{Row, row_entries, Mark as Marked, AreMarked, AreFilled, AreArranged, filled_keys, RowRepeat, RowDescent};
+ghost use Rattle.cborn_judge.specs.devices.Marks.{mark_of, narrow_of, marks_of};
+
+use crate::flaws::Flaw;
+use crate::marks::{Mark, NarrowMark, Spot, arrange, descent};
+use cborn_model::{Defect, KeyOrder};
+use std::alloc::{AllocError, Global};
+
+/// Marks of pairs. They are narrow until one of them doesn't fit 32 bits.
+#[derive(Drop)]
+pub(crate) enum Marks {
+    Narrow(Vec<NarrowMark>),
+    Wide(Vec<Mark>),
+}
+
+/// Where the pairs of the maps that are open lie in a buffer, those of the innermost map last.
+#[derive(Drop)]
+pub(crate) struct Pairs {
+    alloc: Global,
+    pub(crate) marks: Marks,
+}
+
+impl Pairs {
+    /// No pairs. Takes no memory.
+    pub(crate) fn new(alloc: Global) -> Pairs
+        ensures { marks_of result ≡ [] }
+    {
+        let marks = Marks::Narrow(Vec::new(alloc));
+        Pairs { alloc, marks }
+    }
+
+    /// How many pairs are marked.
+    #[inline(always)]
+    pub(crate) fn len(&self) -> usize
+        ensures { result ≡ length (marks_of self.now) }
+    {
+        match &self.marks {
+            Marks::Narrow(narrow) => narrow.len(),
+            Marks::Wide(wide) => wide.len(),
+        }
+    }
+
+    /// Marks a key, whose value is missing.
+    #[inline(always)]
+    pub(crate) fn push(&mut self, place: u64, start: usize, end: usize) -> Result<(), AllocError>
+        ensures { OnOk result (marks_of self.new ≡ marks_of self.old ++ (place, start, end, end) ∷ []) }
+    {
+        let middle = end;
+        self.add(Mark {
+            place,
+            start,
+            middle,
+            end,
+        })
+    }
+
+    /// Marks where the value of the last key ends.
+    #[inline(always)]
+    pub(crate) fn set_end(&mut self, end: usize) -> Result<(), AllocError>
+        ensures { OnOk result ((ms : List Marked) (p s m e : ℕ) → marks_of self.old ≡ ms ++ (p, s, m, e) ∷ [] → marks_of self.new ≡ ms ++ (p, s, m, end) ∷ []) }
+    {
+        if let Some(mark) = self.pop() {
+            self.add(Mark { end, ..mark })?;
+        }
+        Ok(())
+    }
+
+    /// Drops all pairs but the first `len`.
+    pub(crate) fn truncate(&mut self, len: usize)
+        ensures { marks_of self.new ≡ take len (marks_of self.old) }
+    {
+        if len == 0 {
+            self.clear();
+            return;
+        }
+        match &mut self.marks {
+            Marks::Narrow(narrow) => narrow.truncate(len),
+            Marks::Wide(wide) => wide.truncate(len),
+        }
+    }
+
+    /// The first defect of the order of the pairs that are marked from the index `from` on, and lie
+    /// in `out`. A key without an encoding is passed over.
+    pub(crate) fn descent<O: KeyOrder>(&self, from: usize, out: &[u8]) -> Option<Defect>
+        ensures rising { result ≡ None → (y : List ℕ) (rows : List Row) → out.now ≡ y ++ joined (row_entries rows) → AreMarked (length y) rows (drop from (marks_of self.now)) → Rising O.order (filled_keys rows) }
+        ensures found { (y : List ℕ) (rows : List Row) → out.now ≡ y ++ joined (row_entries rows) → AreMarked (length y) rows (drop from (marks_of self.now)) → AreFilled rows → FindsDefect (RowDescent O.order rows) result }
+    {
+        match &self.marks {
+            Marks::Narrow(narrow) => descent::<O, NarrowMark>(narrow, from, out),
+            Marks::Wide(wide) => descent::<O, Mark>(wide, from, out),
+        }
+    }
+
+    /// Arranges the pairs that are marked from the index `from` on, and lie in `out` from the offset
+    /// `start` on, so that their keys rise. Gives the first key that is the same as an earlier one;
+    /// then, and where a key has no encoding, they aren't arranged. What the marks say of them means
+    /// nothing after it.
+    pub(crate) fn arrange<O: KeyOrder>(
+        &mut self,
+        alloc: Global,
+        from: usize,
+        start: usize,
+        out: &mut Vec<u8>,
+    ) -> Result<Option<Flaw>, AllocError>
+        ensures repeat { IfOk result (λ flaw. (y : List ℕ) (rows : List Row) → start ≡ length y → out.old.items ≡ y ++ joined (row_entries rows) → AreMarked start rows (drop from (marks_of self.old)) → FindsFlaw (RowRepeat rows) flaw) }
+        ensures arranged { IfOk result (λ flaw. flaw ≡ None → (y : List ℕ) (rows : List Row) → start ≡ length y → out.old.items ≡ y ++ joined (row_entries rows) → AreMarked start rows (drop from (marks_of self.old)) → AreFilled rows → (x : List ℕ) × AreArranged O.order rows x × (out.new.items ≡ y ++ x)) }
+        ensures front { OnOk result ((y z : List ℕ) → start ≡ length y → out.old.items ≡ y ++ z → (x : List ℕ) × (out.new.items ≡ y ++ x)) }
+        ensures before { take from (marks_of self.new) ≡ take from (marks_of self.old) }
+    {
+        match &mut self.marks {
+            Marks::Narrow(narrow) => arrange::<O, NarrowMark>(alloc, narrow, from, start, out),
+            Marks::Wide(wide) => arrange::<O, Mark>(alloc, wide, from, start, out),
+        }
+    }
+
+    /// Adds a mark.
+    #[inline(always)]
+    fn add(&mut self, mark: Mark) -> Result<(), AllocError>
+        ensures { OnOk result (marks_of self.new ≡ marks_of self.old ++ mark_of mark ∷ []) }
+    {
+        let Some(small) = NarrowMark::of(mark) else {
+            return self.add_wide(mark);
+        };
+        match &mut self.marks {
+            Marks::Narrow(narrow) => narrow.push(small)?,
+            Marks::Wide(wide) => wide.push(mark)?,
+        }
+        Ok(())
+    }
+
+    /// Adds a mark that doesn't fit 32 bits. All are wide from then on.
+    #[inline(never)]
+    fn add_wide(&mut self, mark: Mark) -> Result<(), AllocError>
+        ensures { OnOk result (marks_of self.new ≡ marks_of self.old ++ mark_of mark ∷ []) }
+    {
+        match &mut self.marks {
+            Marks::Narrow(narrow) => {
+                let wide = widened(self.alloc, narrow, mark)?;
+                self.marks = Marks::Wide(wide);
+            }
+            Marks::Wide(wide) => wide.push(mark)?,
+        }
+        Ok(())
+    }
+
+    /// Takes the last mark, if there is one.
+    #[inline(always)]
+    fn pop(&mut self) -> Option<Mark>
+        ensures some { IfSome result (λ mark. marks_of self.old ≡ marks_of self.new ++ mark_of mark ∷ []) }
+        ensures none { result ≡ None → marks_of self.old ≡ [] }
+    {
+        match &mut self.marks {
+            Marks::Narrow(narrow) => Some(narrow.pop()?.mark()),
+            Marks::Wide(wide) => wide.pop(),
+        }
+    }
+
+    /// Drops all pairs. Marks are narrow again from then on.
+    fn clear(&mut self)
+        ensures { marks_of self.new ≡ [] }
+    {
+        match &mut self.marks {
+            Marks::Narrow(narrow) => narrow.clear(),
+            Marks::Wide(_) => self.marks = Marks::Narrow(Vec::new(self.alloc)),
+        }
+    }
+}
+
+/// These marks and one more, all of them wide.
+fn widened(alloc: Global, narrow: &[NarrowMark], last: Mark) -> Result<Vec<Mark>, AllocError>
+    ensures { IfOk result (λ wide. map mark_of wide.items ≡ map narrow_of narrow.now ++ mark_of last ∷ []) }
+{
+    let mut wide = Vec::with_capacity(alloc, narrow.len())?;
+    for mark in narrow {
+        wide.push(mark.mark())?;
+    }
+    wide.push(last)?;
+    Ok(wide)
+}

@@ -1,0 +1,29 @@
+-- What the nodes of a sequence mean, in std's words.
+use Rattle.std.proofs.Common.{List, [], ◌∷◌}
+use Rattle.std.specs.List.{AllZip, AllByRecursion}
+use Rattle.cborn_model.specs.Meaning.{Means, AllMean}
+use Rattle.cborn_model.specs.Tree.{Tree, trees}
+use Rattle.cborn_model.specs.Valid.{IsProper, AreProper}
+use Rattle.cborn_model.specs.Value.{Value, Values, no_values, value, values_of}
+
+-- what nodes mean one by one they mean in order
+pub all_mean : (ts : List Tree) (vs : List Value) → AllZip Means ts vs → AllMean (trees ts) (values_of vs)
+all_mean [] [] h = tt
+all_mean [] (v ∷ vs) h = absurd h
+all_mean (t ∷ ts) [] h = absurd h
+all_mean (t ∷ ts) (v ∷ vs) h = (h.0, all_mean ts vs h.1)
+
+pub zip_mean : (ts : List Tree) (vs : List Value) → AllMean (trees ts) (values_of vs) → AllZip Means ts vs
+zip_mean [] [] h = tt
+zip_mean [] (v ∷ vs) h = absurd h
+zip_mean (t ∷ ts) [] h = absurd h
+zip_mean (t ∷ ts) (v ∷ vs) h = (h.0, zip_mean ts vs h.1)
+
+pub each_means : (ts : List Tree) (vs : Values) → AllMean (trees ts) vs → (ws : List Value) × AllZip Means ts ws
+each_means [] vs h = ([], tt)
+each_means (t ∷ ts) no_values h = absurd h
+each_means (t ∷ ts) (value v vs) h = let (ws, m) = each_means ts vs h.1 in (v ∷ ws, (h.0, m))
+
+pub are_proper : (vs : List Value) → AllByRecursion IsProper vs → AreProper (values_of vs)
+are_proper [] h = tt
+are_proper (v ∷ vs) h = (h.0, are_proper vs h.1)
