@@ -1,5 +1,5 @@
 #!/usr/bin/env python3
-"""Run the built program with standard error on a terminal, and compare what a person gets there.
+"""Run the built program with standard error or standard output on a terminal, and compare what a person gets there.
 
     terminals.py PROGRAM
 
@@ -7,6 +7,8 @@ If the bytes of an input are all printable ASCII or white space, and are refused
 gets a hint. So it does where a file that can't be read or written is a folder.
 Each run is made a second time with a pipe in place of the terminal. The pipe must get no hint, and all else must be the
 same. So this catches a hint that a script gets, or that a person doesn't.
+Of runs with standard output on a terminal those that would write CBOR bytes there must write nothing, and say why. A pipe and
+a file must get these bytes.
 """
 import os
 import pathlib
@@ -18,6 +20,7 @@ import tempfile
 HEXADECIMAL = "hint: the input looks like hexadecimal, and was read as CBOR bytes: xxd -r -p makes bytes of it"
 NOTATION = "hint: the input is a text, and was read as CBOR bytes: normalise and show read diagnostic notation by --from notation, compare by --from-a and --from-b"
 FOLDER = "hint: . is a folder"
+BYTES = "error: the answer is bytes, and is not written to a terminal: use -o FILE, --to notation or a pipe"
 FILES = {
     "digits": b"8301\n",
     "text": b"1\n",
@@ -110,6 +113,30 @@ CASES = (
     ("check --explain", b"8301\n", ["  hint  " + HEXADECIMAL.removeprefix("hint: ")], [], 0),
 )
 
+# the bytes of [1, 2] in more bytes than it needs, and in as few as it can be
+WIDE, TIGHT, SHOWN = bytes.fromhex("9802180102"), bytes.fromhex("820102"), b"[1, 2]\n"
+# arguments, standard input, what a pipe gets, and whether a terminal gets the same
+OUTPUTS = (
+    ("normalise", WIDE, TIGHT, False),
+    ("normalise --to wire --order length-first --one", WIDE, TIGHT, False),
+    ("normalise --from notation", b"[1, 2]", TIGHT, False),
+    ("normalise items", b"", TIGHT, False),
+    ("show --to wire", WIDE, WIDE, False),
+    ("show --from notation --to wire", b"[1, 2]", TIGHT, False),
+    # no bytes are bytes too
+    ("normalise", b"", b"", False),
+    ("normalise --to notation", WIDE, SHOWN, True),
+    ("normalise --to notation items", b"", SHOWN, True),
+    ("show items", b"", SHOWN, True),
+    ("show", b"", b"", True),
+    ("check items", b"", b"deterministic\n", True),
+    ("compare items items", b"", b"same\n", True),
+    ("normalise -o kept", WIDE, b"", True),
+    ("show --to wire -o kept", WIDE, b"", True),
+)
+# what these leave in the file that they name
+KEPT = {"normalise -o kept": TIGHT, "show --to wire -o kept": WIDE}
+
 
 def piped(command, given, folder):
     """What a run writes, and its status."""
@@ -117,17 +144,19 @@ def piped(command, given, folder):
     return done.stdout, done.stderr, done.returncode
 
 
-def on_terminal(command, given, folder):
-    """The same, with standard error on a terminal, which puts CR before each LF."""
+def on_terminal(command, given, folder, name="stderr"):
+    """The same, with standard error or the other stream of this name on a terminal, which puts CR before each LF."""
     ours, theirs = pty.openpty()
-    with subprocess.Popen(command, stdin=subprocess.PIPE, stdout=subprocess.PIPE, stderr=theirs, cwd=folder) as run:
+    streams = {"stdout": subprocess.PIPE, "stderr": subprocess.PIPE, name: theirs}
+    with subprocess.Popen(command, stdin=subprocess.PIPE, cwd=folder, **streams) as run:
         os.close(theirs)
-        out, _ = run.communicate(given)
+        out, err = run.communicate(given)
     told = b""
     while piece := read_piece(ours):
         told += piece
     os.close(ours)
-    return out, told.replace(b"\r\n", b"\n"), run.returncode
+    told = told.replace(b"\r\n", b"\n")
+    return (out, told, run.returncode) if name == "stderr" else (told, err, run.returncode)
 
 
 def read_piece(terminal):
@@ -154,14 +183,36 @@ def wrong_runs(program, folder):
             yield f"{words} of {given[:20]}: a terminal gets {person[1:]}"
 
 
+def wrong_outputs(program, folder):
+    """A line for each run with standard output on a terminal that isn't as it should be."""
+    kept = pathlib.Path(folder, "kept")
+    for words, given, answer, is_shown in OUTPUTS:
+        command = [program, *words.split()]
+        script, of_script = piped(command, given, folder), left_in(kept)
+        person, of_person = on_terminal(command, given, folder, "stdout"), left_in(kept)
+        if script != (answer, b"", 0) or of_script != KEPT.get(words):
+            yield f"{words} of {given}: a pipe gets {script}, and the file {of_script}"
+        if person != ((answer, b"", 0) if is_shown else (b"", said([BYTES]), 3)) or of_person != KEPT.get(words):
+            yield f"{words} of {given}: a terminal gets {person}, and the file {of_person}"
+
+
+def left_in(file):
+    """The bytes of a file, which is then removed. None where there is no file."""
+    if not file.exists():
+        return None
+    data = file.read_bytes()
+    file.unlink()
+    return data
+
+
 def main():
     program = os.path.abspath(sys.argv[1])
     with tempfile.TemporaryDirectory() as folder:
         for name, data in FILES.items():
             pathlib.Path(folder, name).write_bytes(data)
-        wrong = list(wrong_runs(program, folder))
+        wrong = [*wrong_runs(program, folder), *wrong_outputs(program, folder)]
     print(*wrong, sep="\n", end="\n" if wrong else "")
-    print(f"{len(CASES)} runs with a terminal and without passed, {len(wrong)} lines of what is wrong")
+    print(f"{len(CASES) + len(OUTPUTS)} runs with a terminal and without passed, {len(wrong)} lines of what is wrong")
     return 1 if wrong else 0
 
 

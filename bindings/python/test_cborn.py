@@ -4,6 +4,7 @@
 """
 import array
 import concurrent.futures
+import contextlib
 import copy
 import doctest
 import importlib.util
@@ -12,6 +13,7 @@ import mmap
 import os
 import pathlib
 import pickle
+import pty
 import pydoc
 import re
 import signal
@@ -493,6 +495,27 @@ class Program(unittest.TestCase):
             out, err, status = self.run_on(command, "--help")
             self.assertEqual((err, status), (b"", 0))
             self.assertIn(b"--depth", out)
+
+    def test_no_bytes_go_to_a_terminal(self):
+        told = b"error: the answer is bytes, and is not written to a terminal: use --to notation or a pipe\n"
+        for words, shown, err, status in (
+            (["normalise"], b"", told, 3),
+            (["show", "--to", "wire"], b"", told, 3),
+            (["normalise", "--to", "notation"], b"[1]\r\n", b"", 0),
+            (["show"], b"[1]\r\n", b"", 0),
+            (["check"], b"deterministic\r\n", b"", 0),
+        ):
+            ours, theirs = pty.openpty()
+            command = [sys.executable, "-m", "cborn", *words]
+            done = subprocess.run(command, input=b"\x81\x01", stdout=theirs, stderr=subprocess.PIPE)
+            os.close(theirs)
+            out = b""
+            # a read fails once all is read, since the other side is closed
+            with contextlib.suppress(OSError):
+                while piece := os.read(ours, 4096):
+                    out += piece
+            os.close(ours)
+            self.assertEqual((out, done.stderr, done.returncode), (shown, err, status))
 
     def test_help_says_what_compare_does_not_explain(self):
         said = {command: " ".join(self.run_on(command, "--help")[0].decode().split()) for command in ("compare", "check")}

@@ -23,6 +23,16 @@ pub struct Task<'a> {
     pub explain: bool,
 }
 
+impl Task<'_> {
+    /// Whether its answer is CBOR bytes that go to standard output.
+    pub fn prints_bytes(&self) -> bool {
+        match (self.output, self.action) {
+            (None, Action::Read { purpose, .. }) => purpose.is_for_bytes(),
+            _ => false,
+        }
+    }
+}
+
 /// What a task does.
 #[derive(Clone, Copy)]
 pub enum Action<'a> {
@@ -54,6 +64,16 @@ impl Purpose {
         match self {
             Purpose::Show { from, .. } | Purpose::Normalise { from, .. } => from,
             Purpose::Check => Format::Wire,
+        }
+    }
+
+    /// Whether the answer is CBOR bytes.
+    fn is_for_bytes(self) -> bool {
+        match self {
+            Purpose::Show { to, .. } | Purpose::Normalise { to, .. } => {
+                matches!(to, Format::Wire)
+            }
+            Purpose::Check => false,
         }
     }
 }

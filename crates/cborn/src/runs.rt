@@ -10,7 +10,7 @@ use crate::requests::{Action, Request, Task};
 use crate::several::check_files;
 use crate::statuses::{REFUSED, USAGE};
 use crate::systems::System;
-use crate::usage::tell_usage;
+use crate::usage::{tell_bytes_at_terminal, tell_usage};
 use cborn_engine::Counted;
 use std::alloc::Global;
 use std::io::{IsTerminal, Read, Write};
@@ -19,8 +19,9 @@ use std::rt::Files;
 /// Runs the program with the files of `rt`. Answers its exit status, from 0 to 4. The first of `words`
 /// is the program's name. Standard output is `out`. Where the command line is wrong or an input is
 /// refused, nothing is written to it, but for what `check` of several files says of the others. Where
-/// `err` is a terminal, hints may go there.
-pub fn run<F: Files, I: Read + Drop, W: Write, E: Write + IsTerminal + Drop>(
+/// it is a terminal, CBOR bytes for it count as a wrong command line. Where `err` is a terminal, hints
+/// may go there.
+pub fn run<F: Files, I: Read + Drop, W: Write + IsTerminal, E: Write + IsTerminal + Drop>(
     rt: &F,
     alloc: Global,
     words: &[&str],
@@ -44,7 +45,13 @@ pub fn run<F: Files, I: Read + Drop, W: Write, E: Write + IsTerminal + Drop>(
         audience,
     };
     match read_request(alloc, words) {
-        Ok(request) => run_request(&system, &request, input, out, err),
+        Ok(request) => {
+            if request.task.prints_bytes() && out.is_terminal() {
+                let mut err = err;
+                return tell_bytes_at_terminal(&mut err);
+            }
+            run_request(&system, &request, input, out, err)
+        }
         Err(why) => tell_usage(alloc, &why, out, err),
     }
 }

@@ -95,3 +95,15 @@ pub fn tell_words<E: Write>(err: &mut E, why: io::Error) -> u8
     let _ = writeln!(err, "cborn: {why}");
     FAILED
 }
+
+/// Prints that CBOR bytes aren't written to a terminal, and where they can go. Answers the exit status.
+/// A write that fails is ignored.
+pub fn tell_bytes_at_terminal<E: Write>(err: &mut E) -> u8
+    ensures { result ≡ USAGE }
+{
+    let _ = writeln!(
+        err,
+        "error: the answer is bytes, and is not written to a terminal: use -o FILE, --to notation or a pipe"
+    );
+    USAGE
+}

@@ -7,7 +7,7 @@ ghost use Rattle.cborn_engine.specs.Failures.{one_more, failures_after, failures
 use crate::sinks::Sink;
 use crate::sources::Source;
 use std::io;
-use std::io::{Read, Write};
+use std::io::{IsTerminal, Read, Write};
 use std::marker::Model;
 
 /// A reader or a writer of std that counts its failures, the reads that were asked for, and the
@@ -43,6 +43,13 @@ impl<T> Counted<T> {
             asked: 0,
             unflushed: 0,
         }
+    }
+}
+
+impl<T: IsTerminal> IsTerminal for Counted<T> {
+    /// Whether the reader or the writer is a terminal.
+    fn is_terminal(&self) -> bool {
+        self.inner.is_terminal()
     }
 }
 

@@ -154,20 +154,33 @@ fn push_chars(out: &mut String, text: &str) -> Result<usize, AllocError> {
     Ok(width)
 }
 
-/// The quote that ends the string in which this front of a notation ends. `None`: it ends in none.
+/// The quote that ends the string in which this front of a notation ends. `None`: it ends in none. A
+/// quote within a comment opens no string.
 fn open_quote(front: &str) -> Option<char> {
     let mut open = None;
     let mut is_escaped = false;
     for c in front.chars() {
         match open {
-            None if matches!(c, '"' | '\'') => open = Some(c),
+            None => open = end_of(c),
             Some(_) if is_escaped => is_escaped = false,
-            Some(_) if c == '\\' => is_escaped = true,
-            Some(quote) if c == quote => open = None,
+            Some('"' | '\'') if c == '\\' => is_escaped = true,
+            Some(end) if c == end => open = None,
             _ => {}
         }
     }
-    open
+    match open {
+        Some('"' | '\'') => open,
+        _ => None,
+    }
+}
+
+/// The character that ends the string or the comment which `first` begins. `None`: it begins neither.
+fn end_of(first: char) -> Option<char> {
+    match first {
+        '"' | '\'' | '/' => Some(first),
+        '#' => Some('\n'),
+        _ => None,
+    }
 }
 
 /// The longest front of the bytes that is UTF-8.
