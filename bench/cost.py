@@ -32,8 +32,16 @@ REFUSED_LATE = (
     "great pair out of order, bad text after",
     "text in chunks, bad one last",
 )
+# maps whose pairs are copied while they are arranged, where what is wrong with an input is looked for
+ARRANGED = (
+    "map out of order, bad text after",
+    "key is a map out of order",
+    "great pair out of order, bad text after",
+    "key is a map with a great pair",
+)
 # what is known to take more than RATIO
 MORE = {
+    **{(name, command): 3 for name in ARRANGED for command in ("normalise", "check", "to notation")},
     **{(name, command): 6 for name in GREAT_MAPS for command in ("normalise", "check", "show", "to notation")},
     **{(name, "show"): 5 for name in REFUSED_LATE},
 }

@@ -4,3 +4,4 @@ pub mod Taking
 pub mod Pieces
 pub mod Ending
 pub mod Leaves
+pub mod Containers

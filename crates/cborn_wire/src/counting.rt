@@ -1,6 +1,6 @@
 //! What a head makes of the levels, and of what a visitor holds.
 
-ghost use Rattle.std.specs.Prelude.{◌≡◌, ◌<◌, ℕ, List, [], length, OnErr, IfOk, Err, ◌⊎◌};
+ghost use Rattle.std.specs.Prelude.{◌≡◌, ◌<◌, ℕ, List, [], length, true, OnErr, IfOk, Err, ◌⊎◌};
 ghost use Rattle.cborn_model.specs.declared.heads.Width.{Width as Wide};
 ghost use Rattle.cborn_model.specs.declared.heads.Major.TheVariants as majors;
 ghost use Rattle.cborn_model.specs.declared.visitors.StringKind.{StringKind as Kind};
@@ -12,7 +12,7 @@ ghost use Rattle.cborn_wire.specs.declared.faults.WireReason.{WireReason as Reas
 ghost use Rattle.cborn_wire.specs.Slots.{major_of};
 ghost use Rattle.cborn_wire.specs.HeadReading.{major_at, size_in, count_in, seen_argument, ArgumentFits};
 ghost use Rattle.cborn_wire.specs.shared.Machine.{finished, holding, ended, content_at, after_head};
-ghost use Rattle.cborn_wire.specs.shared.Visiting.{ready, open_in, Keeps, Takes, Stands, Gives};
+ghost use Rattle.cborn_wire.specs.shared.Visiting.{may_end, ready, open_in, Keeps, Takes, Stands, Gives};
 
 use crate::levels::{Level, LevelKind, Levels, next_number};
 use crate::{Argument, Head, WireFault, WireReason};
@@ -60,11 +60,27 @@ pub(crate) fn end<L: Levels, V: Visitor>(
             reason: WireReason::UnexpectedBreak,
         });
     }
+    Ok(end_innermost(levels, visitor, end)?)
+}
+
+/// Ends the innermost level by a break, which may end it, and which ends at the offset `end`. Gives
+/// 0.
+#[inline(always)]
+pub(crate) fn end_innermost<L: Levels, V: Visitor>(
+    levels: &mut L,
+    visitor: &mut V,
+    end: u64,
+) -> Result<u64, AllocError>
+    requires { may_end (L.inner levels.old).kind ≡ true }
+    ensures goes { (place : ℕ) (f : Partial) → V.holds visitor.old f no_part → Keeps f (L.outer levels.old) (L.inner levels.old) → IfOk result (λ left. Stands (V.holds visitor.new) (L.outer levels.new) (L.inner levels.new) left end (ended end place (ready f) (open_in f))) }
+    ensures zero { IfOk result (λ left. left ≡ 0) }
+    ensures memory { OnErr result V.takes_memory }
+{
     if !levels.leave() {
         return Ok(0);
     }
     visitor.close()?;
-    Ok(finish(levels, visitor, end)?)
+    finish(levels, visitor, end)
 }
 
 /// Ends a string, at the offset `end`, of which the visitor has all bytes. Gives 0.
@@ -133,7 +149,8 @@ fn open_chunks<L: Levels, V: Visitor>(
 }
 
 /// Takes the head at `place` of an array, which ends at the offset `end`. Gives 0.
-fn open_array<L: Levels, V: Visitor>(
+#[inline(always)]
+pub(crate) fn open_array<L: Levels, V: Visitor>(
     levels: &mut L,
     visitor: &mut V,
     end: u64,
@@ -143,6 +160,7 @@ fn open_array<L: Levels, V: Visitor>(
     requires fits { ArgumentFits (seen_argument argument) }
     requires room { length (L.outer levels.old) < L.most }
     ensures goes { (f : Partial) → TakesItem f → V.holds visitor.old f no_part → Keeps f (L.outer levels.old) (L.inner levels.old) → IfOk result (λ left. Stands (V.holds visitor.new) (L.outer levels.new) (L.inner levels.new) left end (holding end (ready f) (open_in f) (an_array place (size_in (seen_argument argument)) (count_in (seen_argument argument))) [])) }
+    ensures zero { IfOk result (λ left. left ≡ 0) }
     ensures memory { OnErr result (V.takes_memory ⊎ L.takes_memory) }
 {
     let count = argument.count();
@@ -157,7 +175,8 @@ fn open_array<L: Levels, V: Visitor>(
 }
 
 /// Takes the head at `place` of a map, which ends at the offset `end`. Gives 0.
-fn open_map<L: Levels, V: Visitor>(
+#[inline(always)]
+pub(crate) fn open_map<L: Levels, V: Visitor>(
     levels: &mut L,
     visitor: &mut V,
     end: u64,
@@ -167,6 +186,7 @@ fn open_map<L: Levels, V: Visitor>(
     requires fits { ArgumentFits (seen_argument argument) }
     requires room { length (L.outer levels.old) < L.most }
     ensures goes { (f : Partial) → TakesItem f → V.holds visitor.old f no_part → Keeps f (L.outer levels.old) (L.inner levels.old) → IfOk result (λ left. Stands (V.holds visitor.new) (L.outer levels.new) (L.inner levels.new) left end (holding end (ready f) (open_in f) (a_map place (size_in (seen_argument argument)) (count_in (seen_argument argument))) [])) }
+    ensures zero { IfOk result (λ left. left ≡ 0) }
     ensures memory { OnErr result (V.takes_memory ⊎ L.takes_memory) }
 {
     let count = argument.count();
@@ -181,7 +201,8 @@ fn open_map<L: Levels, V: Visitor>(
 }
 
 /// Takes the head at `place` of the tag `n`, which ends at the offset `end`. Gives 0.
-fn open_tag<L: Levels, V: Visitor>(
+#[inline(always)]
+pub(crate) fn open_tag<L: Levels, V: Visitor>(
     levels: &mut L,
     visitor: &mut V,
     place: u64,
@@ -191,6 +212,7 @@ fn open_tag<L: Levels, V: Visitor>(
     requires fits { WidthFits width n }
     requires room { length (L.outer levels.old) < L.most }
     ensures goes { (end : ℕ) (f : Partial) → TakesItem f → V.holds visitor.old f no_part → Keeps f (L.outer levels.old) (L.inner levels.old) → IfOk result (λ left. Stands (V.holds visitor.new) (L.outer levels.new) (L.inner levels.new) left end (holding end (ready f) (open_in f) (a_tag place width n) [])) }
+    ensures zero { IfOk result (λ left. left ≡ 0) }
     ensures memory { OnErr result (V.takes_memory ⊎ L.takes_memory) }
 {
     visitor.open_tag(place, width, n)?;

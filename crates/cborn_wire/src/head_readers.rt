@@ -13,11 +13,10 @@ ghost use Rattle.cborn_wire.specs.shared.InitialBytes.{info_at, head_reason};
 ghost use Rattle.cborn_wire.specs.shared.Machine.{Live, State};
 ghost use Rattle.cborn_wire.specs.shared.Visiting.{ready, open_in, state, Keeps, seen_head, Here, IsShort, Takes, TakesPiece, TakesSome, OpenIn, IsFresh, IsFed, MayEnd, Reads, ReadsItem, next_head};
 
-use crate::counting::{close_string, end, take_head};
+use crate::containers::take_leaves_or_container;
+use crate::counting::{close_string, take_head};
 use crate::heads::{read_number, wide_width};
-use crate::leaves::take_leaves;
 use crate::levels::Levels;
-use crate::refusals::is_plain;
 use crate::{Argument, Head, HeadRead, WireFault, WireReason, read_head};
 use cborn_model::{Limit, Visitor, Width};
 
@@ -45,17 +44,11 @@ pub struct HeadReader {
 }
 
 /// Why a head with this initial byte isn't allowed next, as far as that byte says.
-#[inline(always)]
 fn refusal<L: Levels>(levels: &L, limit: u64, first: u8) -> Option<WireReason>
     ensures { (f : Partial) → Keeps f (L.outer levels.now) (L.inner levels.now) → AreOpen limit (open_in f) → result ≡ head_reason (slot (open_in f)) (nat_le limit (open_depth (open_in f))) (major_at (first / 32)) (info_at (first % 32)) [] }
 {
     let is_full = levels.count() as u64 >= limit;
-    let kind = levels.innermost().kind;
-    // Most heads need no more than this. What follows is for chunks, and for what may be refused.
-    if is_plain(first) && !is_full && !kind.is_chunks() {
-        return None;
-    }
-    kind.slot().refusal(is_full, first)
+    levels.innermost().kind.slot().refusal(is_full, first)
 }
 
 /// How far a [`HeadReader`] reads.
@@ -181,7 +174,7 @@ impl HeadReader {
         if self.left > 0 {
             return self.take_content(levels, visitor, piece);
         }
-        let len = take_leaves(levels, visitor, self.at, piece)?;
+        let len = take_leaves_or_container(levels, visitor, self.limit, self.at, piece)?;
         if len > 0 {
             return Ok(len);
         }
@@ -189,7 +182,7 @@ impl HeadReader {
     }
 
     /// Takes a head at the front of `piece`, or the initial byte of one that ends after the piece.
-    #[inline(always)]
+    #[inline(never)]
     fn take_head<L: Levels, V: Visitor>(
         &mut self,
         levels: &mut L,
@@ -208,10 +201,6 @@ impl HeadReader {
     {
         let first = piece[0];
         let place = self.at;
-        if first == 255 {
-            self.left = end(levels, visitor, place + 1, place)?;
-            return Ok(1);
-        }
         if let Some(reason) = refusal(levels, self.limit, first) {
             return Err(WireFault::Refused { place, reason });
         }
@@ -268,7 +257,7 @@ impl HeadReader {
     }
 
     /// Takes the next bytes of a string.
-    #[inline(always)]
+    #[inline(never)]
     fn take_content<L: Levels, V: Visitor>(
         &mut self,
         levels: &mut L,

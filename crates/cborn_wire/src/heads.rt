@@ -184,7 +184,7 @@ fn read_endless(major: Major) -> HeadRead
 }
 
 /// How many bytes follow the initial byte in a head of this width.
-fn width_len(width: Width) -> usize
+pub(crate) fn width_len(width: Width) -> usize
     ensures { result ≡ width_bytes width }
 {
     match width {

@@ -1,15 +1,17 @@
 //! Leaves that have one head: integers, simple values of one byte and strings of definite length.
 //! They are taken whole from the front of a piece, one after another.
 
-ghost use Rattle.std.specs.Prelude.{◌≡◌, ◌+◌, ◌<◌, ◌≤◌, ◌/◌, ◌^◌, ℕ, List, length, take, OnOk, OnErr, IfOk, MatchOption, ⊤};
+ghost use Rattle.std.specs.Prelude.{◌≡◌, ◌+◌, ◌<◌, ◌≤◌, ◌/◌, ◌%◌, ◌^◌, ℕ, List, length, take, drop, slice_index, OnOk, OnErr, IfOk, MatchOption, ⊤};
+ghost use Rattle.cborn_model.specs.Bytes.{AreBytes};
 ghost use Rattle.cborn_model.specs.Heads.{WidthFits};
 ghost use Rattle.cborn_model.specs.Partial.{Partial, no_part, put, IsFree};
 ghost use Rattle.cborn_wire.specs.HeadReading.{major_at};
 ghost use Rattle.cborn_wire.specs.devices.Leaves.{IsGiven, IsLeafOf, IsLeaf, content_len, leaf_tree, TakesLeaves};
+ghost use Rattle.cborn_wire.specs.shared.InitialBytes.{Next, info_at};
 ghost use Rattle.cborn_wire.specs.shared.Visiting.{Keeps};
 
 use crate::counting::finish;
-use crate::heads::{read_number, wide_len, wide_width};
+use crate::heads::{read_number, width_len};
 use crate::levels::Levels;
 use cborn_model::{StringKind, Visitor, Width, visit_string};
 use std::alloc::AllocError;
@@ -28,7 +30,7 @@ pub(crate) struct GivenHead {
 /// The head at the front of `bytes`, if it has an argument and is no float and no simple value of
 /// two bytes. It says less than `read_head`, and takes half of its instructions here.
 #[inline(always)]
-fn given_head(bytes: &[u8]) -> Option<GivenHead>
+pub(crate) fn given_head(bytes: &[u8]) -> Option<GivenHead>
     ensures { MatchOption result ⊤ (IsGiven bytes.now) }
 {
     let [first, rest @ ..] = bytes else {
@@ -47,9 +49,22 @@ fn given_head(bytes: &[u8]) -> Option<GivenHead>
     if information > 27 || first >= 224 {
         return None;
     }
-    let width = wide_width(information);
+    match information {
+        24 => wide_head(first, Width::One, rest),
+        25 => wide_head(first, Width::Two, rest),
+        26 => wide_head(first, Width::Four, rest),
+        _ => wide_head(first, Width::Eight, rest),
+    }
+}
+
+/// The head with the initial byte `first`, whose argument is at the front of `rest`. At each call the
+/// width is a constant.
+#[inline(always)]
+fn wide_head(first: u8, width: Width, rest: &[u8]) -> Option<GivenHead>
+    ensures { (x : List ℕ) → AreBytes x → 1 ≤ length x → first ≡ slice_index x 0 → rest.now ≡ drop 1 x → first < 224 → info_at (first % 32) ≡ Next width → MatchOption result ⊤ (IsGiven x) }
+{
     let argument = read_number(width, rest)?;
-    let len = 1 + wide_len(information);
+    let len = 1 + width_len(width);
     Some(GivenHead {
         first,
         width,

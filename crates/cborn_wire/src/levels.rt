@@ -1,14 +1,14 @@
 //! The levels that a reader is inside: of each it keeps only what its next head needs.
 
-ghost use Rattle.std.specs.Prelude.{◌≡◌, ◌∷◌, ◌++◌, ◌<◌, ℕ, List, [], length, true, false, IfOk, OnOk, OnErr};
+ghost use Rattle.std.specs.Prelude.{◌≡◌, ◌∷◌, ◌++◌, ◌-◌, ◌<◌, ℕ, List, [], length, take, slice_index_or, true, false, IfOk, OnOk, OnErr};
 ghost use Rattle.cborn_wire.specs.Slots as slots;
 ghost use Rattle.cborn_wire.specs.declared.levels.Level.{Level as OneLevel};
+ghost use Rattle.cborn_wire.specs.declared.levels.LevelKind.TheVariants.{Sequence};
 ghost use Rattle.cborn_wire.specs.devices.Counting.{seen_slot};
 ghost use Rattle.cborn_wire.specs.shared.Machine.{is_all};
 ghost use Rattle.cborn_wire.specs.shared.Visiting.{next_number, with_part, is_chunks, may_end, slot_of, IsInput};
 
 use crate::refusals::Slot;
-use arrayvec::ArrayVec;
 use cborn_model::StringKind;
 use std::alloc::{AllocError, Global};
 
@@ -250,57 +250,62 @@ impl Levels for GrownLevels {
 /// Levels in a table of fixed size.
 #[derive(Drop)]
 pub(crate) struct LevelTable<const MOST: usize> {
-    inner: Level,
-    outer: ArrayVec<Level, MOST>,
+    /// The outermost first. After the innermost come levels that were left, or none.
+    levels: [Level; MOST],
+    /// How many are around the innermost.
+    around: usize,
+    ghost within: { around < MOST },
 }
 
 impl<const MOST: usize> LevelTable<MOST> {
     /// The input, of which nothing was read.
     pub(crate) fn new() -> Self
-        ensures { IsInput result.outer.items result.inner }
+        requires { 0 < MOST }
+        ensures { IsInput (⟦<LevelTable<MOST> as Levels>⟧.outer result) (⟦<LevelTable<MOST> as Levels>⟧.inner result) }
     {
         LevelTable {
-            inner: Level::input(),
-            outer: ArrayVec::new(),
+            levels: [Level::input(); MOST],
+            around: 0,
         }
     }
 }
 
 impl<const MOST: usize> Levels for LevelTable<MOST> {
-    ghost outer = { λ l. l.outer.items };
+    ghost outer = { λ l. take l.around l.levels };
 
-    ghost inner = { λ l. l.inner };
+    ghost inner = { λ l. slice_index_or l.levels l.around (record { place = 0; kind = Sequence 0 }) };
 
     ghost takes_memory = { ⊥ };
 
-    ghost most = { MOST };
+    ghost most = { MOST - 1 };
 
     #[inline(always)]
     fn innermost(&self) -> Level {
-        self.inner
+        self.levels[self.around]
     }
 
     #[inline(always)]
     fn count(&self) -> usize {
-        self.outer.len()
+        self.around
     }
 
     #[inline(always)]
     fn set(&mut self, kind: LevelKind) {
-        self.inner.kind = kind;
+        self.levels[self.around].kind = kind;
     }
 
     fn open(&mut self, level: Level) -> Result<(), AllocError> {
-        self.outer.push(self.inner);
-        self.inner = level;
+        let around = self.around + 1;
+        self.levels[around] = level;
+        self.around = around;
         Ok(())
     }
 
     fn leave(&mut self) -> bool {
-        let Some(around) = self.outer.pop() else {
+        if self.around == 0 {
             return false;
-        };
-        self.inner = around;
+        }
+        self.around -= 1;
         true
     }
 }

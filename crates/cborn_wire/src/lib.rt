@@ -26,6 +26,7 @@
 //! definitions alone.
 #![tactic(auto)]
 
+mod containers;
 mod counting;
 mod faults;
 mod feeders;

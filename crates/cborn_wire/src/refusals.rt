@@ -23,28 +23,14 @@ pub(crate) enum Slot {
 }
 
 impl Slot {
-    /// Why a head with this initial byte isn't allowed here, as far as that byte says. `is_full`:
-    /// as many arrays, maps and tags are open around it as the limit allows.
-    #[inline(always)]
+    /// Why a head with this initial byte isn't allowed here, as far as that byte says: the first
+    /// reason that holds. `is_full`: as many arrays, maps and tags are open around it as the limit
+    /// allows.
     pub(crate) fn refusal(self, is_full: bool, first: u8) -> Option<WireReason>
         ensures { result ≡ head_reason (seen_slot self) is_full (major_at (first / 32)) (info_at (first % 32)) [] }
     {
         let major = Major::at(first / 32);
         let information = first % 32;
-        // An integer, or a string of definite length, can only be a bad chunk.
-        if first / 32 < 4 && information < 28 && !self.is_bad_chunk(major, information) {
-            return None;
-        }
-        self.refusal_in_order(is_full, major, information)
-    }
-
-    /// Why a head with this initial byte isn't allowed here, for any byte. The first reason that
-    /// holds is given.
-    #[inline(never)]
-    fn refusal_in_order(self, is_full: bool, major: Major, information: u8) -> Option<WireReason>
-        requires { information < 32 }
-        ensures { result ≡ head_reason (seen_slot self) is_full major (info_at information) [] }
-    {
         if is_reserved(information) {
             return Some(WireReason::ReservedInfo);
         }
@@ -93,9 +79,14 @@ impl Slot {
 /// container may open. That of a simple value, a float or a break doesn't.
 #[inline(always)]
 pub(crate) fn is_plain(first: u8) -> bool
-    ensures { result ≡ true → (s : slots.Slot) → IsNoChunkSlot s → head_reason s false (major_at (first / 32)) (info_at (first % 32)) [] ≡ None }
+    ensures endless { result ≡ true → first % 32 ≡ 31 → first < 192 }
+    ensures free { result ≡ true → (s : slots.Slot) → IsNoChunkSlot s → head_reason s false (major_at (first / 32)) (info_at (first % 32)) [] ≡ None }
 {
-    first < 224 && (first % 32 < 28 || (first % 32 == 31 && 64 <= first && first < 192))
+    let information = first % 32;
+    if information == 31 {
+        return first >= 64 && first < 192;
+    }
+    information < 28 && first < 224
 }
 
 /// Whether this is the kind of the strings of this major type.

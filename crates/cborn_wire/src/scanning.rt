@@ -91,16 +91,16 @@ pub fn scan(limit: Limit, bytes: &[u8]) -> Option<(u64, WireReason)>
     ensures { MatchOption result ((ts : Trees) × Wellformed limit ts bytes.now × PlacedAll 0 ts) (λ f. Fault limit bytes.now f.0 f.1) }
 {
     if limit.get() <= 128 {
-        return scan_with::<130>(limit, bytes);
+        return scan_with::<131>(limit, bytes);
     }
-    scan_with::<1026>(limit, bytes)
+    scan_with::<1027>(limit, bytes)
 }
 
 /// What [`scan`] gives, with room for `MOST` levels around the innermost.
 #[inline(never)]
 fn scan_with<const MOST: usize>(limit: Limit, bytes: &[u8]) -> Option<(u64, WireReason)>
-    requires levels { limit + 1 < MOST }
-    requires most { MOST ≤ 1026 }
+    requires levels { limit + 2 < MOST }
+    requires most { MOST ≤ 1027 }
     ensures { MatchOption result ((ts : Trees) × Wellformed limit ts bytes.now × PlacedAll 0 ts) (λ f. Fault limit bytes.now f.0 f.1) }
 {
     match visit_in(&mut LevelTable::<MOST>::new(), limit, bytes, &mut Nothing) {

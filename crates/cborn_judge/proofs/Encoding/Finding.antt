@@ -1,10 +1,9 @@
 -- The flaws and the defects of one more whole node.
-use Rattle.std.proofs.Common.{◌≡◌, ℕ, ◌⊎◌, inl, inr, List, [], ◌∷◌, ◌++◌, length, map, refl, sym, ap, ◌∙◌, subst, Bool, true, false, Ordering, Option, None, Some}
-use Rattle.std.specs.Prelude.{◌↔◌, IsUtf8}
+use Rattle.std.proofs.Common.{◌≡◌, ℕ, ◌⊎◌, inl, inr, List, [], ◌∷◌, ◌++◌, length, map, refl, sym, subst, Bool, true, false, Ordering, Option, None}
+use Rattle.std.specs.Prelude.{◌↔◌}
 use Rattle.std.specs.List.{AllZip}
 use Rattle.cborn_model.specs.declared.nodes.Chunk.{Chunk}
 use Rattle.cborn_model.specs.declared.heads.Size.{Size}
-use Rattle.cborn_model.specs.declared.heads.Width.{Width}
 use Rattle.cborn_model.specs.declared.visitors.StringKind.{StringKind}
 use Rattle.cborn_model.specs.declared.visitors.StringKind.TheVariants.{OfBytes, OfText}
 use Rattle.cborn_model.specs.declared.faults.InvalidReason.{InvalidReason}
@@ -16,7 +15,7 @@ use Rattle.cborn_model.specs.Meaning.{Means}
 use Rattle.cborn_model.specs.Reasons.{flaw_rank, defect_rank}
 use Rattle.cborn_model.specs.Tree.{Tree, ByteChunks, TextChunks, Items, Pairs, Tagged, trees, entries}
 use Rattle.cborn_model.specs.Value.{Value}
-use Rattle.cborn_model.specs.Partial.{Partial, top, inside, Opening, an_array, a_map, a_tag, in_chunks, put, built, Ends, paired, last_key, last_of, chunks_of, chunks_tree, ended_size}
+use Rattle.cborn_model.specs.Partial.{Partial, top, inside, Opening, an_array, a_map, a_tag, in_chunks, put, built, Ends, paired, last_key, chunks_of, chunks_tree, ended_size}
 use Rattle.cborn_model.specs.shared.Walks.{string_of}
 use Rattle.cborn_model.proofs.Found.{Either, found_both, found_alike, none_both}
 use Rattle.cborn_model.proofs.HandedOver.{strings_are}
@@ -25,7 +24,7 @@ use Rattle.cborn_judge.specs.Flaws.{Within, WithinAll, WithinEntries, FlawAt, Fl
 use Rattle.cborn_judge.specs.Defects.{DefectAt, HasLongChunk}
 use Rattle.cborn_judge.specs.Departures.{FindsDefect}
 use Rattle.cborn_judge.specs.shared.Checked.{DefectIn, DefectInAll, SizeAt, DescentAt, IsEarliestDefect}
-use Rattle.cborn_judge.specs.shared.Judged.{FindsFlaw, FlawIn, IsEarliestFlaw, RepeatFlaw}
+use Rattle.cborn_judge.specs.shared.Judged.{FindsFlaw, FlawIn, IsEarliestFlaw}
 use Rattle.cborn_judge.specs.declared.flaws.Flaw as flaw
 use Rattle.cborn_judge.specs.devices.Encoding.{IsSound, Amid, OwnFlaw, OwnDefect, Finds}
 use Rattle.cborn_judge.proofs.FirstFlaw.Walking.{after, before, last}
@@ -56,6 +55,7 @@ module _ {R : Type 0} (at : Tree → ℕ → R → Type 0) where
       to (inl (inl h)) = inl h
       to (inl (inr h)) = inr ((all_more ts t p r).0 (inl h))
       to (inr h) = inr ((all_more ts t p r).0 (inr h))
+
       from : Amid at (put (inside f o ts) t) p r → Either (Amid at (inside f o ts)) (InOne t) p r
       from (inl h) = inl (inl h)
       from (inr h) = elim ((all_more ts t p r).1 h) [ inl k ↦ inl (inr k) | inr k ↦ inr k ]
@@ -71,6 +71,7 @@ module _ {R : Type 0} (at : Tree → ℕ → R → Type 0) where
       to (inl (inl h)) = inl h
       to (inl (inr h)) = inr ((all p r).0 (inl h))
       to (inr h) = inr ((all p r).0 (inr h))
+
       from : Either (Amid at f) (InOne t) p r → Either (Amid at (inside f o ts)) own p r
       from (inl h) = inl (inl h)
       from (inr h) = elim ((all p r).1 h) [ inl k ↦ inl (inr k) | inr k ↦ inr k ]
@@ -89,6 +90,7 @@ in_pairs (k ∷ v ∷ ts) q e = by (in_pairs ts q e)
         to (inl h) = inl h
         to (inr (inl h)) = inr (inl h)
         to (inr (inr h)) = inr (inr (rest.0 h))
+
         from : WithinAll q (trees (k ∷ v ∷ ts)) → WithinEntries q (entries (paired (k ∷ v ∷ ts)))
         from (inl h) = inl h
         from (inr (inl h)) = inr (inl h)
@@ -136,6 +138,7 @@ module _ (order : List ℕ → List ℕ → Ordering) where
       to : Either (DefectInAll order (trees (map (string_of OfBytes) cs))) (λ q r. (q ≡ p) × (r ≡ EndlessLength)) q r → DefectIn order (ByteChunks p cs) q r
       to (inl f) = (ByteChunks p cs, refl, inr (long_strings OfBytes cs f.0 q r f.1 f.2))
       to (inr f) = (ByteChunks p cs, refl, inl f)
+
       from : DefectAt order (ByteChunks p cs) q r → Either (DefectInAll order (trees (map (string_of OfBytes) cs))) (λ q r. (q ≡ p) × (r ≡ EndlessLength)) q r
       from (inl f) = inr f
       from (inr f) = inl (strings_long OfBytes cs q r f.0 f.1)
@@ -144,6 +147,7 @@ module _ (order : List ℕ → List ℕ → Ordering) where
       to : Either (DefectInAll order (trees (map (string_of OfText) cs))) (λ q r. (q ≡ p) × (r ≡ EndlessLength)) q r → DefectIn order (TextChunks p cs) q r
       to (inl f) = (TextChunks p cs, refl, inr (long_strings OfText cs f.0 q r f.1 f.2))
       to (inr f) = (TextChunks p cs, refl, inl f)
+
       from : DefectAt order (TextChunks p cs) q r → Either (DefectInAll order (trees (map (string_of OfText) cs))) (λ q r. (q ≡ p) × (r ≡ EndlessLength)) q r
       from (inl f) = inr f
       from (inr f) = inl (strings_long OfText cs q r f.0 f.1)
@@ -155,8 +159,7 @@ closed_flaw (an_array p s c) ts e q r =
     let f = flaw_items p (ended_size s c (length ts)) (trees ts) q r in
     ((λ h. elim h [ inl k ↦ f.1 k | inr k ↦ absurd k ]), (λ h. inl (f.0 h)))
 closed_flaw (a_map p s c) ts e q r =
-    let f = flaw_pairs p (ended_size s c (length (paired ts))) (entries (paired ts)) q r in
-    (
+    let f = flaw_pairs p (ended_size s c (length (paired ts))) (entries (paired ts)) q r in (
       (λ h. elim h [ inl k ↦ f.1 (inl (k.0, (in_pairs ts k.0 e.1).1 k.1, k.2)) | inr k ↦ f.1 (inr k) ]),
       (λ h. elim (f.0 h) [ inl k ↦ inl (k.0, (in_pairs ts k.0 e.1).0 k.1, k.2) | inr k ↦ inr k ]),
     )
@@ -164,10 +167,12 @@ closed_flaw (a_tag p w n) ts e q r = subst (λ us. Either (FlawIn (trees us)) (O
   where
     f : Flaw (Tagged p w n e.0) q r ↔ (FlawAt (Tagged p w n e.0) q r ⊎ Flaw e.0 q r)
     f = flaw_tagged p w n e.0 q r
+
     to : Either (FlawIn (trees (e.0 ∷ []))) (FlawAt (Tagged p w n e.0)) q r → Flaw (Tagged p w n e.0) q r
     to (inl (u, inl i, d)) = f.1 (inr (u, i, d))
     to (inl (u, inr i, d)) = absurd i
     to (inr d) = f.1 (inl d)
+
     by : Either (FlawIn (trees (e.0 ∷ []))) (FlawAt (Tagged p w n e.0)) q r ↔ Flaw (Tagged p w n e.0) q r
     by = (to, λ h. elim (f.0 h) [ inl k ↦ inr k | inr k ↦ inl (k.0, inl k.1, k.2) ])
 closed_flaw (in_chunks p k) ts e q r =
@@ -180,9 +185,11 @@ module _ (order : List ℕ → List ℕ → Ordering) where
     where
       z : Size
       z = ended_size s c (length ts)
+
       to : Either (DefectInAll order (trees ts)) (SizeAt p z (length ts)) q r → DefectIn order (Items p z (trees ts)) q r
       to (inl d) = (d.0, inr d.1, d.2)
       to (inr d) = (Items p z (trees ts), inl refl, subst (λ n. SizeAt p z n q r) (sym (count-trees ts)) d)
+
       from : (u : Tree) → Within u (Items p z (trees ts)) → DefectAt order u q r → Either (DefectInAll order (trees ts)) (SizeAt p z (length ts)) q r
       from u (inl i) d = inr (subst (λ n. SizeAt p z n q r) (count-trees ts) (subst (λ v. DefectAt order v q r) i d))
       from u (inr i) d = inl (u, i, d)
@@ -190,15 +197,19 @@ module _ (order : List ℕ → List ℕ → Ordering) where
     where
       ps : List (Tree × Tree)
       ps = paired ts
+
       z : Size
       z = ended_size s c (length ps)
+
       own : DefectAt order (Pairs p z (entries ps)) q r → Either (SizeAt p z (length ps)) (DescentAt order (entries ps)) q r
       own (inl d) = inl (subst (λ n. SizeAt p z n q r) (count_entries-entries ps) d)
       own (inr d) = inr d
+
       to : Either (DefectInAll order (trees ts)) (OwnDefect order (a_map p s c) ts) q r → DefectIn order (Pairs p z (entries ps)) q r
       to (inl d) = (d.0, inr ((in_pairs ts d.0 e.1).1 d.1), d.2)
       to (inr (inl d)) = (Pairs p z (entries ps), inl refl, inl (subst (λ n. SizeAt p z n q r) (sym (count_entries-entries ps)) d))
       to (inr (inr d)) = (Pairs p z (entries ps), inl refl, inr d)
+
       from : (u : Tree) → Within u (Pairs p z (entries ps)) → DefectAt order u q r → Either (DefectInAll order (trees ts)) (OwnDefect order (a_map p s c) ts) q r
       from u (inl i) d = inr (own (subst (λ v. DefectAt order v q r) i d))
       from u (inr i) d = inl (u, (in_pairs ts u e.1).0 i, d)
@@ -206,14 +217,17 @@ module _ (order : List ℕ → List ℕ → Ordering) where
     where
       t : Tree
       t = e.0
+
       to : Either (DefectInAll order (trees (t ∷ []))) (OwnDefect order (a_tag p w n) (t ∷ [])) q r → DefectIn order (Tagged p w n t) q r
       to (inl (u, inl i, d)) = (u, inr i, d)
       to (inl (u, inr i, d)) = absurd i
       to (inr (inl d)) = (Tagged p w n t, inl refl, (d.0, inl (d.1, d.2)))
       to (inr (inr d)) = (Tagged p w n t, inl refl, (d.0, inr (d.1, d.2, d.3, d.4, d.5)))
+
       own : DefectAt order (Tagged p w n t) q r → Either (DefectInAll order (trees (t ∷ []))) (OwnDefect order (a_tag p w n) (t ∷ [])) q r
       own (i, inl d) = inr (inl (i, d.0, d.1))
       own (i, inr d) = inr (inr (i, d.0, d.1, d.2, d.3, d.4))
+
       from : (u : Tree) → Within u (Tagged p w n t) → DefectAt order u q r → Either (DefectInAll order (trees (t ∷ []))) (OwnDefect order (a_tag p w n) (t ∷ [])) q r
       from u (inl i) d = own (subst (λ v. DefectAt order v q r) i d)
       from u (inr i) d = inl (u, inl i, d)
@@ -257,8 +271,8 @@ module _ (order : List ℕ → List ℕ → Ordering) where
   finds_close f p ts flawed a b o d e i ends s fl de g j h = (
     both_flaws (Amid FlawAt (inside f p ts)) (OwnFlaw p ts) (Amid FlawAt (put f (built p ts))) a b o (amid_closed FlawAt f p ts (built p ts) (OwnFlaw p ts) (closed_flaw p ts ends)) h.0 fl g,
     λ n.
-    let no_flaw = none_both flaw_rank (λ f. f.place) (λ f. f.reason) a b o g n in
-    let none : FindsFlaw (Amid FlawAt (inside f p ts)) None = subst (FindsFlaw (Amid FlawAt (inside f p ts))) no_flaw.0 h.0 in
-    both_defects (Amid (DefectAt order) (inside f p ts)) (OwnDefect order p ts) (Amid (DefectAt order) (put f (built p ts))) d e i
-    (amid_closed (DefectAt order) f p ts (built p ts) (OwnDefect order p ts) (closed_defect p ts ends)) (h.1 no_flaw.0) (de (sound flawed ts s (λ q r k. none q r (inr k))) no_flaw.1) j,
+        let no_flaw = none_both flaw_rank (λ f. f.place) (λ f. f.reason) a b o g n in
+        let none : FindsFlaw (Amid FlawAt (inside f p ts)) None = subst (FindsFlaw (Amid FlawAt (inside f p ts))) no_flaw.0 h.0 in
+        both_defects (Amid (DefectAt order) (inside f p ts)) (OwnDefect order p ts) (Amid (DefectAt order) (put f (built p ts))) d e i
+        (amid_closed (DefectAt order) f p ts (built p ts) (OwnDefect order p ts) (closed_defect p ts ends)) (h.1 no_flaw.0) (de (sound flawed ts s (λ q r k. none q r (inr k))) no_flaw.1) j,
   )

@@ -1,8 +1,8 @@
 -- What an encoder writes where a container opens.
-use Rattle.std.proofs.Common.{◌≡◌, ℕ, List, [], ◌∷◌, ◌++◌, length, subst, sym, Option, None, Some}
+use Rattle.std.proofs.Common.{◌≡◌, ℕ, List, ◌++◌, length, subst, sym, Option, None, Some}
 use Rattle.cborn_model.specs.declared.heads.Major.{Major}
 use Rattle.cborn_model.specs.Heads.{code, IsLeastHead}
-use Rattle.cborn_model.specs.Partial.{Opening, an_array, a_map, a_tag, in_chunks, Ends, built}
+use Rattle.cborn_model.specs.Partial.{Opening, an_array, a_map, a_tag, in_chunks, built}
 use Rattle.cborn_model.specs.declared.visitors.StringKind.TheVariants.{OfBytes, OfText}
 use Rattle.cborn_model.specs.Tree.{Tree, place}
 use Rattle.cborn_det.specs.Appending.{Appends}

@@ -1,5 +1,5 @@
 -- Integers, simple values and strings in what an encoder holds.
-use Rattle.std.proofs.Common.{◌≡◌, ℕ, ◌<◌, ◌^◌, inl, inr, List, [], ◌∷◌, length, refl, sym, ◌∙◌, subst, true, false, true≢false, Bool, Ordering, Option, None, Some}
+use Rattle.std.proofs.Common.{◌≡◌, ℕ, ◌<◌, ◌^◌, inl, List, length, refl, sym, ◌∙◌, subst, true, false, true≢false, Bool, Ordering, Option, None, Some}
 use Rattle.std.specs.Prelude.{◌↔◌, IsTrue, IsUtf8}
 use Rattle.cborn_model.specs.declared.heads.Width.{Width}
 use Rattle.cborn_model.specs.declared.visitors.StringKind.{StringKind}
@@ -8,7 +8,7 @@ use Rattle.cborn_model.specs.declared.faults.InvalidReason.{InvalidReason}
 use Rattle.cborn_model.specs.declared.faults.InvalidReason.TheVariants.{NotUtf8}
 use Rattle.cborn_model.specs.declared.defects.Defect as defect
 use Rattle.cborn_model.specs.Heads.{WidthFits, IsLeastHead, is_simple_value}
-use Rattle.cborn_model.specs.Tree.{Tree, Text, Simple, place}
+use Rattle.cborn_model.specs.Tree.{Text, Simple, place}
 use Rattle.cborn_model.specs.Meaning.{IsNumber}
 use Rattle.cborn_model.specs.Value.{integer, simple}
 use Rattle.cborn_model.specs.Partial.{Partial, put, integer_tree, string_tree}

@@ -1,5 +1,5 @@
 -- One more whole node in what an encoder holds.
-use Rattle.std.proofs.Common.{◌≡◌, ℕ, suc, ◌+◌, ◌-◌, ◌<◌, ◌≤◌, ◌^◌, ◌⊎◌, inl, inr, List, [], ◌∷◌, ◌++◌, length, append_assoc, append-nil, length-append, refl, sym, ap, ◌∙◌, subst, arith, true, false, true≢false, Bool, not, Ordering, Option}
+use Rattle.std.proofs.Common.{◌≡◌, ℕ, ◌+◌, ◌-◌, ◌<◌, ◌≤◌, ◌^◌, inl, inr, List, [], ◌∷◌, ◌++◌, length, append_assoc, append-nil, length-append, refl, sym, ap, ◌∙◌, subst, arith, true, false, true≢false, Bool, not, Ordering, Option}
 use Rattle.std.specs.Prelude.{◌||◌, min}
 use Rattle.std.specs.List.{AllZip, AllByRecursion}
 use Rattle.cborn_model.specs.declared.heads.Size.{Size}
@@ -9,7 +9,7 @@ use Rattle.cborn_model.specs.Tree.{Tree, place}
 use Rattle.cborn_model.specs.Partial.{Partial, top, inside, Opening, an_array, a_map, a_tag, in_chunks, put, string_tree, chunk_of, chunks_of, IsFree}
 use Rattle.cborn_model.specs.Value.{Value, bytes, text}
 use Rattle.cborn_model.specs.Valid.{IsProper}
-use Rattle.cborn_det.specs.Det.{Det, DetSeq, joined}
+use Rattle.cborn_det.specs.Det.{DetSeq, joined}
 use Rattle.cborn_det.proofs.Steps.{seq_push}
 use Rattle.cborn_det.proofs.Written.{some_bytes}
 use Rattle.cborn_judge.specs.devices.Encoding.{MeansNothing, Row, Mark, row_entries, AreMarked, IsEncodedAs, Coded, AreEncodedAs, AreRows, IsSound, is_odd, after, Opens, IsFront, Contains, Inner, Stands}
@@ -170,9 +170,13 @@ module _ (order : List ℕ → List ℕ → Ordering) where
     begins = h.begins;
     content = h.content;
     sound = sound_more l.flawed bad ts t h.sound (is_verdict order t x bad v);
-    contains = (h.contains.0, λ e. (
-      contents_more order l.flawed bad ts t h.contents x (λ f. (h.contains.1 f).0) v e,
-      counted_more order l.flawed bad l.count ts t h.contents x h.contains.1 v (omega (arith, k, ap length h.whole, length-append h.front h.contents, length-append z x, length-append h.contents x)) e));
+    contains = (
+      h.contains.0,
+      λ e. (
+        contents_more order l.flawed bad ts t h.contents x (λ f. (h.contains.1 f).0) v e,
+        counted_more order l.flawed bad l.count ts t h.contents x h.contains.1 v (omega (arith, k, ap length h.whole, length-append h.front h.contents, length-append z x, length-append h.contents x)) e,
+      ),
+    );
   }
 
   inner_tag : (l : Level) (p : ℕ) (w : Width) (n : ℕ) (ts : List Tree) (t : Tree) (ms : List Mark) (z x : List ℕ) (bad : Bool) → Verdict order bad t x → Within l (a_tag p w n) ts ms z → Within (after l bad) (a_tag p w n) (ts ++ t ∷ []) ms (z ++ x)
@@ -215,26 +219,30 @@ module _ (order : List ℕ → List ℕ → Ordering) where
       let u = value_more order ts t h.contains.1 x (sym h.contains.0 ∙ k) h.contains.2 d in
       let r = u.1 in
       let old : h.contents ≡ joined (row_entries u.0) ++ r.1 =
-        h.contains.4 ∙ ap (λ l. joined (row_entries l)) u.2 ∙ joined_row u.0 r ∙ ap (λ y. joined (row_entries u.0) ++ y) (ap (λ y. r.1 ++ y) u.3 ∙ append-nil r.1) in
+      h.contains.4 ∙ ap (λ l. joined (row_entries l)) u.2 ∙ joined_row u.0 r ∙ ap (λ y. joined (row_entries u.0) ++ y) (ap (λ y. r.1 ++ y) u.3 ∙ append-nil r.1) in
       let at : e ≡ l.content + length (joined (row_entries u.0)) + length r.1 + length x =
-        omega (arith, f, h.content, ap length h.whole, length-append h.front h.contents, ap length old, length-append (joined (row_entries u.0)) r.1) in
-      let w = marked_value l.content u.0 r ms x e (subst (λ rs. AreMarked l.content rs ms) u.2 h.contains.3) at in
-      (w.0, w.1, w.2, record {
-        front = h.front;
-        contents = h.contents ++ x;
-        whole = ap (λ y. y ++ x) h.whole ∙ append_assoc h.front h.contents x;
-        opens = h.opens;
-        begins = h.begins;
-        content = h.content;
-        sound = sound_more l.flawed bad ts t h.sound (is_verdict order t x bad v);
-        contains = (
-          ap not h.contains.0 ∙ sym (odd_more order ts t),
-          u.0 ++ (r.0, r.1, x) ∷ [],
-          u.4,
-          w.3,
-          ap (λ y. y ++ x) old ∙ append_assoc (joined (row_entries u.0)) r.1 x ∙ sym (joined_row u.0 (r.0, r.1, x)),
-        );
-      })
+      omega (arith, f, h.content, ap length h.whole, length-append h.front h.contents, ap length old, length-append (joined (row_entries u.0)) r.1) in
+      let w = marked_value l.content u.0 r ms x e (subst (λ rs. AreMarked l.content rs ms) u.2 h.contains.3) at in (
+        w.0,
+        w.1,
+        w.2,
+        record {
+          front = h.front;
+          contents = h.contents ++ x;
+          whole = ap (λ y. y ++ x) h.whole ∙ append_assoc h.front h.contents x;
+          opens = h.opens;
+          begins = h.begins;
+          content = h.content;
+          sound = sound_more l.flawed bad ts t h.sound (is_verdict order t x bad v);
+          contains = (
+            ap not h.contains.0 ∙ sym (odd_more order ts t),
+            u.0 ++ (r.0, r.1, x) ∷ [],
+            u.4,
+            w.3,
+            ap (λ y. y ++ x) old ∙ append_assoc (joined (row_entries u.0)) r.1 x ∙ sym (joined_row u.0 (r.0, r.1, x)),
+          );
+        },
+      )
 
   -- ---- and in a partial sequence
 
@@ -242,22 +250,58 @@ module _ (order : List ℕ → List ℕ → Ordering) where
       → Verdict order bad t x → Stands order outer l f ms y → Stands order outer (after l bad) (put f t) ms (y ++ x)
   stands_plain outer l (top ts) t ms y x bad free never k v s =
       (s.0, s.1, s.2, sound_more l.flawed bad ts t s.3 (is_verdict order t x bad v), λ e. contents_more order l.flawed bad ts t y x s.4 v e)
-  stands_plain outer l (inside f (an_array p z c) ts) t ms y x bad free never k v s =
-      (s.0, s.1, s.2, s.3 ++ x, s.4, s.5, s.6, ap (λ w. w ++ x) s.7 ∙ append_assoc s.2 s.3 x, s.8, s.9, s.10, s.11,
-      inner_array l p z c ts t s.5 s.3 x bad (omega (arith, k, length-append y x, ap length s.7, length-append s.2 s.3, length-append s.3 x)) v s.12)
+  stands_plain outer l (inside f (an_array p z c) ts) t ms y x bad free never k v s = (
+    s.0,
+    s.1,
+    s.2,
+    s.3 ++ x,
+    s.4,
+    s.5,
+    s.6,
+    ap (λ w. w ++ x) s.7 ∙ append_assoc s.2 s.3 x,
+    s.8,
+    s.9,
+    s.10,
+    s.11,
+    inner_array l p z c ts t s.5 s.3 x bad (omega (arith, k, length-append y x, ap length s.7, length-append s.2 s.3, length-append s.3 x)) v s.12,
+  )
   stands_plain outer l (inside f (a_map p z c) ts) t ms y x bad free never k v s = absurd (never z c s.12.opens.1)
-  stands_plain outer l (inside f (a_tag p w n) ts) t ms y x bad free never k v s =
-      (s.0, s.1, s.2, s.3 ++ x, s.4, s.5, s.6, ap (λ w. w ++ x) s.7 ∙ append_assoc s.2 s.3 x, s.8, s.9, s.10, s.11,
-      inner_tag l p w n ts t s.5 s.3 x bad v s.12)
+  stands_plain outer l (inside f (a_tag p w n) ts) t ms y x bad free never k v s = (
+    s.0,
+    s.1,
+    s.2,
+    s.3 ++ x,
+    s.4,
+    s.5,
+    s.6,
+    ap (λ w. w ++ x) s.7 ∙ append_assoc s.2 s.3 x,
+    s.8,
+    s.9,
+    s.10,
+    s.11,
+    inner_tag l p w n ts t s.5 s.3 x bad v s.12,
+  )
   stands_plain outer l (inside f (in_chunks p j) ts) t ms y x bad free never k v s = absurd free.1
 
   stands_key : (outer : List Level) (l : Level) (f : Partial) (t : Tree) (ms : List Mark) (y x : List ℕ) (bad : Bool) (i : Size) (c : Option ℕ) (b e : ℕ) → IsFree f → l.container ≡ container.Map i c → l.has_key ≡ false
       → Verdict order bad t x → Coded order t x → b ≡ length y → e ≡ length (y ++ x) → Stands order outer l f ms y → Stands order outer (after l bad) (put f t) (ms ++ (place t, b, e, e) ∷ []) (y ++ x)
   stands_key outer l (top ts) t ms y x bad i c b e free is k v d f g s = let h : container.Input ≡ container.Map i c = sym s.2 ∙ is in cc
   stands_key outer l (inside f (an_array p z n) ts) t ms y x bad i c b e free is k v d j g s = let h : container.Array z n ≡ container.Map i c = sym s.12.opens.1 ∙ is in cc
-  stands_key outer l (inside f (a_map p z n) ts) t ms y x bad i c b e free is k v d j g s =
-      (s.0, s.1, s.2, s.3 ++ x, s.4, s.5 ++ (place t, b, e, e) ∷ [], s.6, ap (λ w. w ++ x) s.7 ∙ append_assoc s.2 s.3 x, ap (λ ns. ns ++ (place t, b, e, e) ∷ []) s.8 ∙ append_assoc s.4 s.5 ((place t, b, e, e) ∷ []), s.9, s.10, s.11,
-      inner_key l p z n ts t s.5 s.3 x bad b e v d k (omega (arith, j, s.9, ap length s.7, length-append s.2 s.3)) (omega (arith, g, j, length-append y x)) s.12)
+  stands_key outer l (inside f (a_map p z n) ts) t ms y x bad i c b e free is k v d j g s = (
+    s.0,
+    s.1,
+    s.2,
+    s.3 ++ x,
+    s.4,
+    s.5 ++ (place t, b, e, e) ∷ [],
+    s.6,
+    ap (λ w. w ++ x) s.7 ∙ append_assoc s.2 s.3 x,
+    ap (λ ns. ns ++ (place t, b, e, e) ∷ []) s.8 ∙ append_assoc s.4 s.5 ((place t, b, e, e) ∷ []),
+    s.9,
+    s.10,
+    s.11,
+    inner_key l p z n ts t s.5 s.3 x bad b e v d k (omega (arith, j, s.9, ap length s.7, length-append s.2 s.3)) (omega (arith, g, j, length-append y x)) s.12,
+  )
   stands_key outer l (inside f (a_tag p w n) ts) t ms y x bad i c b e free is k v d j g s = let h : container.Tag w n ≡ container.Map i c = sym s.12.opens.1 ∙ is in cc
   stands_key outer l (inside f (in_chunks p a) ts) t ms y x bad i c b e free is k v d j g s = absurd free.1
 
@@ -269,9 +313,21 @@ module _ (order : List ℕ → List ℕ → Ordering) where
   stands_value outer l (inside f (a_map p z n) ts) t ms ms' y x bad i c e free is k v d g set s =
       let u = inner_value l p z n ts t s.5 s.3 x bad e v d k (omega (arith, g, s.9, ap length s.7, length-append s.2 s.3, length-append y x)) s.12 in
       let m = u.1 in
-      let old : ms ≡ (s.4 ++ u.0) ++ (m.0, m.1, m.2, m.3) ∷ [] = s.8 ∙ ap (λ ns. s.4 ++ ns) u.2 ∙ sym (append_assoc s.4 u.0 (m ∷ [])) in
-      (s.0, s.1, s.2, s.3 ++ x, s.4, u.0 ++ (m.0, m.1, m.2, e) ∷ [], s.6, ap (λ w. w ++ x) s.7 ∙ append_assoc s.2 s.3 x,
-      set (s.4 ++ u.0) m.0 m.1 m.2 m.3 old ∙ append_assoc s.4 u.0 ((m.0, m.1, m.2, e) ∷ []), s.9, s.10, s.11, u.3)
+      let old : ms ≡ (s.4 ++ u.0) ++ (m.0, m.1, m.2, m.3) ∷ [] = s.8 ∙ ap (λ ns. s.4 ++ ns) u.2 ∙ sym (append_assoc s.4 u.0 (m ∷ [])) in (
+        s.0,
+        s.1,
+        s.2,
+        s.3 ++ x,
+        s.4,
+        u.0 ++ (m.0, m.1, m.2, e) ∷ [],
+        s.6,
+        ap (λ w. w ++ x) s.7 ∙ append_assoc s.2 s.3 x,
+        set (s.4 ++ u.0) m.0 m.1 m.2 m.3 old ∙ append_assoc s.4 u.0 ((m.0, m.1, m.2, e) ∷ []),
+        s.9,
+        s.10,
+        s.11,
+        u.3,
+      )
   stands_value outer l (inside f (a_tag p w n) ts) t ms ms' y x bad i c e free is k v d g set s = let h : container.Tag w n ≡ container.Map i c = sym s.12.opens.1 ∙ is in cc
   stands_value outer l (inside f (in_chunks p a) ts) t ms ms' y x bad i c e free is k v d g set s = absurd free.1
 
@@ -285,8 +341,10 @@ module _ (order : List ℕ → List ℕ → Ordering) where
     where
       v : Verdict order bad t x
       v = verdict order t y x bad d g h
+
       unmarked : (f : Partial) → IsFree f → ((s : Size) (c : Option ℕ) → l.container ≡ container.Map s c → ⊥) → Stands order outer l f ms y → Stands order outer (after l bad) (put f t) ms' (y ++ x)
       unmarked f free never s = subst (λ ns. Stands order outer (after l bad) (put f t) ns (y ++ x)) (sym (plain never)) (stands_plain outer l f t ms y x bad free never k v s)
+
       by : (f : Partial) → IsFree f → Stands order outer l f ms y → Stands order outer (after l bad) (put f t) ms' (y ++ x)
       by (top ts) free s = unmarked (top ts) free (λ i c e. let h : container.Input ≡ container.Map i c = sym s.2 ∙ e in cc) s
       by (inside f (an_array p z n) ts) free s = unmarked (inside f (an_array p z n) ts) free (λ i c e. let h : container.Array z n ≡ container.Map i c = sym s.12.opens.1 ∙ e in cc) s
@@ -296,7 +354,7 @@ module _ (order : List ℕ → List ℕ → Ordering) where
         where
           go : (b : Bool) → l.has_key ≡ b → Stands order outer (after l bad) (put (inside f (a_map p z n) ts) t) ms' (y ++ x)
           go false e = subst (λ ns. Stands order outer (after l bad) (put (inside f (a_map p z n) ts) t) ns (y ++ x)) (sym (key z n s.12.opens.1 e))
-            (stands_key outer l (inside f (a_map p z n) ts) t ms y x bad z n (length y) (length (y ++ x)) free s.12.opens.1 e v d refl refl s)
+              (stands_key outer l (inside f (a_map p z n) ts) t ms y x bad z n (length y) (length (y ++ x)) free s.12.opens.1 e v d refl refl s)
           go true e = stands_value outer l (inside f (a_map p z n) ts) t ms ms' y x bad z n (length (y ++ x)) free s.12.opens.1 e v d refl (value z n s.12.opens.1 e) s
 
   pub stands_same : (outer outer' : List Level) (l l' : Level) (f : Partial) (ms ms' : List Mark) (y y' : List ℕ) → outer' ≡ outer → l' ≡ l → ms' ≡ ms → y' ≡ y → Stands order outer l f ms y → Stands order outer' l' f ms' y'
@@ -307,19 +365,34 @@ module _ (order : List ℕ → List ℕ → Ordering) where
 
   pub stands_open : (outer : List Level) (l m : Level) (f : Partial) (o : Opening) (ms : List Mark) (y h : List ℕ) → Opens m o → IsFront o h → m.start ≡ length y → m.content ≡ length (y ++ h) → m.pairs ≡ length ms → m.has_key ≡ false → m.count ≡ 0 → m.flawed ≡ false
       → Stands order outer l f ms y → Stands order (outer ++ l ∷ []) m (inside f o []) ms (y ++ h)
-  stands_open outer l m f o ms y h op fr a b c k n w s = (outer, l, y, h, ms, [], refl, refl, sym (append-nil ms), a, c, s, record {
-    front = h;
-    contents = [];
-    whole = sym (append-nil h);
-    opens = op;
-    begins = fr;
-    content = omega (arith, a, b, length-append y h);
-    sound = subst (λ z. IsSound z []) (sym w) ([], tt);
-    contains = nothing o;
-  })
+  stands_open outer l m f o ms y h op fr a b c k n w s = (
+    outer,
+    l,
+    y,
+    h,
+    ms,
+    [],
+    refl,
+    refl,
+    sym (append-nil ms),
+    a,
+    c,
+    s,
+    record {
+      front = h;
+      contents = [];
+      whole = sym (append-nil h);
+      opens = op;
+      begins = fr;
+      content = omega (arith, a, b, length-append y h);
+      sound = subst (λ z. IsSound z []) (sym w) ([], tt);
+      contains = nothing o;
+    },
+  )
     where
       empty : AreEncodedAs order [] []
       empty = ([], tt, tt, refl)
+
       nothing : (o : Opening) → Contains order m o [] [] []
       nothing (an_array p z i) = (refl, λ e. (empty, n))
       nothing (a_map p z i) = (k, [], tt, tt, refl)
@@ -353,14 +426,27 @@ module _ (order : List ℕ → List ℕ → Ordering) where
   stands_chunk outer l (inside f (a_map p z n) ts) t ms y x bad c s = absurd c
   stands_chunk outer l (inside f (a_tag p z n) ts) t ms y x bad c s = absurd c
   stands_chunk outer l (inside f (in_chunks p k) ts) t ms y x bad c s =
-      let h = s.12 in
-      (s.0, s.1, s.2, s.3 ++ x, s.4, s.5, s.6, ap (λ w. w ++ x) s.7 ∙ append_assoc s.2 s.3 x, s.8, s.9, s.10, s.11, record {
-        front = h.front;
-        contents = h.contents ++ x;
-        whole = ap (λ y. y ++ x) h.whole ∙ append_assoc h.front h.contents x;
-        opens = h.opens;
-        begins = h.begins;
-        content = h.content;
-        sound = sound_more l.flawed bad ts t h.sound (chunk_verdict k t c.0 c.1 c.2 x bad c.3 c.4);
-        contains = (h.contains.0, λ e. chunk_contents l.flawed bad ts k t c.0 c.1 c.2 h.contents x c.3 c.4 h.contains.1 e);
-      })
+      let h = s.12 in (
+        s.0,
+        s.1,
+        s.2,
+        s.3 ++ x,
+        s.4,
+        s.5,
+        s.6,
+        ap (λ w. w ++ x) s.7 ∙ append_assoc s.2 s.3 x,
+        s.8,
+        s.9,
+        s.10,
+        s.11,
+        record {
+          front = h.front;
+          contents = h.contents ++ x;
+          whole = ap (λ y. y ++ x) h.whole ∙ append_assoc h.front h.contents x;
+          opens = h.opens;
+          begins = h.begins;
+          content = h.content;
+          sound = sound_more l.flawed bad ts t h.sound (chunk_verdict k t c.0 c.1 c.2 x bad c.3 c.4);
+          contains = (h.contains.0, λ e. chunk_contents l.flawed bad ts k t c.0 c.1 c.2 h.contents x c.3 c.4 h.contains.1 e);
+        },
+      )

@@ -1,17 +1,16 @@
 -- A string that ends in what an encoder holds.
-use Rattle.std.proofs.Common.{◌≡◌, ℕ, ◌<◌, ◌^◌, inl, inr, List, [], ◌∷◌, ◌++◌, length, append_assoc, append-nil, refl, sym, ap, ◌∙◌, subst, true, false, true≢false, Bool, not, Ordering}
+use Rattle.std.proofs.Common.{◌≡◌, ℕ, ◌<◌, ◌^◌, inl, inr, List, ◌++◌, length, refl, sym, ap, ◌∙◌, subst, true, false, true≢false, Bool, not, Ordering}
 use Rattle.std.specs.Prelude.{◌↔◌, IsTrue}
 use Rattle.cborn_model.specs.declared.heads.Width.{Width}
 use Rattle.cborn_model.specs.declared.visitors.StringKind.{StringKind}
 use Rattle.cborn_model.specs.declared.visitors.StringKind.TheVariants.{OfBytes, OfText}
 use Rattle.cborn_model.specs.Bytes.{AreBytes}
-use Rattle.cborn_model.specs.Tree.{Tree, place}
+use Rattle.cborn_model.specs.Tree.{place}
 use Rattle.cborn_model.specs.Value.{bytes, text}
 use Rattle.cborn_model.specs.Partial.{Partial, top, inside, an_array, a_map, a_tag, in_chunks, string_tree, Proper, TakesItem, TakesString, IsFree}
-use Rattle.cborn_judge.specs.devices.Encoding.{MeansNothing, Mark, Coded, Stands, is_chunks, are_chunks}
+use Rattle.cborn_judge.specs.devices.Encoding.{Mark, Coded, Stands, is_chunks, are_chunks}
 use Rattle.cborn_judge.specs.devices.Encoders.{kept, IsContent, IsChunk, IsChunkContent, IsStringFront}
 use Rattle.cborn_judge.specs.declared.levels.Level.{Level}
-use Rattle.cborn_judge.specs.declared.levels.Container.TheVariants as container
 
 pub string_place : (p : ℕ) (k : StringKind) (w : Width) (x : List ℕ) → place (string_tree p k w x) ≡ p
 string_place p OfBytes w x = refl

@@ -1,5 +1,5 @@
 -- What the nodes of a sequence mean, or the first flaw of the first that means nothing, as a loop over them meets them.
-use Rattle.std.proofs.Common.{◌≡◌, ℕ, zero, suc, ◌+◌, ◌<◌, ◌≤◌, ◌⊎◌, inl, inr, List, [], ◌∷◌, ◌++◌, length, get_or, take, refl, sym, subst, arith, Result, Ok, Err}
+use Rattle.std.proofs.Common.{◌≡◌, ℕ, zero, suc, ◌+◌, ◌<◌, ◌≤◌, inl, inr, List, [], ◌∷◌, ◌++◌, length, get_or, take, refl, subst, arith, Result, Ok, Err}
 use Rattle.std.specs.List.{AllZip}
 use Rattle.std.specs.Prelude.{IfErr, IsErr}
 use Rattle.std.specs.Result.{IsErrAnd}
@@ -10,7 +10,7 @@ use Rattle.cborn_model.specs.Reasons.{flaw_rank}
 use Rattle.cborn_model.specs.Spelled.{spelled}
 use Rattle.cborn_model.specs.Tree.{Tree, trees}
 use Rattle.cborn_model.specs.Value.{Value}
-use Rattle.cborn_judge.specs.Flaws.{Flaw, FlawAt, IsRefusal, IsRefusalOfAll, Within, WithinAll}
+use Rattle.cborn_judge.specs.Flaws.{Flaw, FlawAt, IsRefusal, IsRefusalOfAll, WithinAll}
 use Rattle.cborn_judge.specs.shared.Judged.{FlawIn}
 use Rattle.cborn_model.specs.declared.faults.Invalid.{Invalid}
 use Rattle.cborn_model.specs.declared.faults.Invalid.TheVariants.{OutOfMemory, Refused}

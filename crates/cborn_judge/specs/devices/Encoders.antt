@@ -1,5 +1,5 @@
 -- A device of the proofs: what an encoder is, as that which it holds of a partial sequence. No definition cites it.
-use Rattle.std.specs.Prelude.{◌≡◌, ℕ, ◌<◌, ◌^◌, List, [], ◌∷◌, ◌++◌, length, Bool, true, false, Option, None, Some, IsUtf8, Vec, ⊤}
+use Rattle.std.specs.Prelude.{◌≡◌, ℕ, ◌<◌, ◌^◌, List, [], ◌∷◌, ◌++◌, length, Bool, true, false, Option, None, Some, IsUtf8, ⊤}
 use Rattle.std.specs.declared.cmp.Ordering.{Ordering}
 use Rattle.cborn_model.specs.declared.heads.Major.{Major}
 use Rattle.cborn_model.specs.declared.heads.Major.TheVariants.{ByteString, TextString, Array, Map, Tag}
@@ -10,7 +10,7 @@ use Rattle.cborn_model.specs.Bytes.{AreBytes, IsShortest, big_endian}
 use Rattle.cborn_model.specs.Meaning.{IsByteString}
 use Rattle.cborn_model.specs.Heads.{code, IsLeastHead}
 use Rattle.cborn_model.specs.Tree.{Tree, Tagged}
-use Rattle.cborn_model.specs.Partial.{Partial, top, inside, Opening, an_array, a_map, a_tag, in_chunks, Part, no_part, part, Ends, built, string_tree, Proper, TakesString}
+use Rattle.cborn_model.specs.Partial.{Partial, inside, Opening, an_array, a_map, a_tag, in_chunks, Part, no_part, part, Ends, built, string_tree, Proper, TakesString}
 use Rattle.cborn_det.specs.Det.{bignum_tag}
 use Rattle.cborn_judge.specs.Flaws.{FlawAt}
 use Rattle.cborn_judge.specs.shared.Checked.{LooseAt}

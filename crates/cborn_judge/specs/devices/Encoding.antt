@@ -4,20 +4,15 @@ use Rattle.std.proofs.Common.{not}
 use Rattle.std.specs.List.{AllZip, AllByRecursion}
 use Rattle.std.specs.declared.cmp.Ordering.{Ordering}
 use Rattle.std.specs.declared.cmp.Ordering.TheVariants.{Less}
-use Rattle.cborn_model.specs.declared.heads.Size.{Size}
-use Rattle.cborn_model.specs.declared.heads.Width.{Width}
-use Rattle.cborn_model.specs.declared.visitors.StringKind.{StringKind}
-use Rattle.cborn_model.specs.declared.visitors.StringKind.TheVariants.{OfBytes, OfText}
 use Rattle.cborn_model.specs.declared.faults.InvalidReason.{InvalidReason}
 use Rattle.cborn_model.specs.declared.faults.InvalidReason.TheVariants.{DuplicateKey}
 use Rattle.cborn_model.specs.declared.defects.Defect as defect
 use Rattle.cborn_model.specs.declared.defects.DefectReason.{DefectReason}
 use Rattle.cborn_model.specs.declared.defects.DefectReason.TheVariants.{KeyOrder, EndlessLength}
-use Rattle.cborn_model.specs.Bytes.{AreBytes}
 use Rattle.cborn_model.specs.Heads.{IsLeastHead}
 use Rattle.cborn_model.specs.Meaning.{Means, joined_chunks}
 use Rattle.cborn_model.specs.Tree.{Tree, Tagged, trees, entries, place}
-use Rattle.cborn_model.specs.Partial.{Partial, top, inside, Opening, an_array, a_map, a_tag, in_chunks, Part, no_part, part, paired, last_of, chunks_of, ended_size}
+use Rattle.cborn_model.specs.Partial.{Partial, top, inside, Opening, an_array, a_map, a_tag, in_chunks, paired, last_of, chunks_of, ended_size}
 use Rattle.cborn_model.specs.Value.{Value}
 use Rattle.cborn_model.specs.Valid.{IsProper}
 use Rattle.cborn_model.specs.Orders.{Rising}

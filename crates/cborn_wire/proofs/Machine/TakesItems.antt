@@ -14,7 +14,7 @@ use Rattle.cborn_model.specs.Partial.{Opening, an_array, a_map, a_tag, in_chunks
 use Rattle.cborn_model.specs.Tree.{Tree, Uint, Nint, Bytes, Text, ByteChunks, TextChunks, Items, Pairs, Tagged, Simple, Trees, no_item, more, Entries, no_entry, entry, trees, count, count_entries, depth, depth_all}
 use Rattle.cborn_model.specs.Spelled.{ending, string, spelled, spelled_all, Fits, FitsAll}
 use Rattle.cborn_model.specs.shared.Walks.{string_of}
-use Rattle.cborn_model.proofs.HandedOver.{strings}
+use Rattle.cborn_model.proofs.HandedOver.{strings, strings_are}
 use Rattle.cborn_model.proofs.Numbers.Simples.{simple_cases, simple_fits, least_direct, least_one}
 use Rattle.cborn_wire.specs.declared.faults.WireReason.{WireReason}
 use Rattle.cborn_wire.specs.declared.faults.WireReason.TheVariants.{BadSimple, UnexpectedBreak}
@@ -24,7 +24,6 @@ use Rattle.cborn_wire.specs.SlotFaults.{needs_item}
 use Rattle.cborn_wire.specs.HeadReading.{ArgumentFits}
 use Rattle.cborn_wire.specs.shared.InitialBytes.{Info, Now, Next, EndlessInformation, is_reserved, is_endless_head, is_always_bounded, is_other, is_container, is_bad_chunk, head_reason, info_for}
 use Rattle.cborn_wire.specs.shared.Machine.{append_trees, snoc, content_of, nothing, gathering, Live, Failed, is_full, finished, holding, gather, after_head, run}
-use Rattle.cborn_model.proofs.HandedOver.{strings_are}
 use Rattle.cborn_wire.proofs.Machine.Containers.{nodes_of, nodes_entries, nodes_end, nodes_count, nodes_fit, nodes_deep, strings_fitting, strings_flat, not_yet, closing, endless_closing, full_closing, built_spelled, list_from, opening_from, ends_from, built_from}
 use Rattle.cborn_wire.proofs.Machine.TakesHeads.{gathers, takes_head}
 use Rattle.cborn_wire.proofs.Spelled.TreeLists.{tree_list, trees-tree_list, tree_count}

@@ -49,6 +49,11 @@ pub record IsLeafOf (x : List ℕ) (h : GivenHead) (n : ℕ) : Type 0 where
   pub whole : n ≤ length x
 
 -- n bytes of the piece were read after the partial sequence f, and at most one more item of the input is whole
+abbrev pub TakesHead : ℕ → ℕ → Partial → List ℕ → (Partial → Part → Type 0) → List Level → Level → ℕ → Type 0
+TakesHead limit place f piece holds around l n =
+    (n ≤ length piece) × Stands holds around l 0 (place + n) (run limit (state place f no_part) (take n piece)) × AtMostOneMore (ready f) (run limit (state place f no_part) (take n piece))
+
+-- the same, whatever the limit
 abbrev pub TakesLeaves : ℕ → Partial → List ℕ → (Partial → Part → Type 0) → List Level → Level → ℕ → Type 0
 TakesLeaves place f piece holds around l n =
     (n ≤ length piece) × ((limit : ℕ) → Stands holds around l 0 (place + n) (run limit (state place f no_part) (take n piece)) × AtMostOneMore (ready f) (run limit (state place f no_part) (take n piece)))

@@ -1,15 +1,12 @@
-use Rattle.std.proofs.Common.{rules, arith, subst, sym, true, false, ap, ◌≡◌, ◌∙◌}
-use Rattle.std.specs.Str.{IsUtf8}
+use Rattle.std.proofs.Common.{rules, arith, subst, true, false}
 use Rattle.std.proofs.lemmas.Result.{IfOk-weaker}
 use Rattle.cborn_model.proofs.Listed.Trees.{depth_of_item, depth_of_pair}
-use Rattle.cborn_model.specs.Meaning.{joined_chunks}
 use Rattle.cborn_model.specs.Tree.{Tagged}
-use Rattle.cborn_model.specs.Value.{text}
 use Rattle.cborn_model.specs.ItemView.{item_value}
 use Rattle.cborn_judge.specs.devices.Building.{IsItemOf, IsPairOf, IsBignumItem}
 use Rattle.cborn_judge.proofs.Loops.Passing.{zip-take_more}
-use Rattle.cborn_judge.proofs.Meaning.Building.{array_built, map_built, tag_built}
-use Rattle.cborn_judge.proofs.Meaning.Meanings.{number_once, means_once, joined_text}
+use Rattle.cborn_judge.proofs.Meaning.Building.{array_built, map_built}
+use Rattle.cborn_judge.proofs.Meaning.Meanings.{number_once, means_once}
 use Rattle.cborn_judge.proofs.judgments.+built.Goals as goal
 
 pub array_of-item_of-requires : goal.array_of-item_of-requires

@@ -1,4 +1,4 @@
-use Rattle.std.proofs.Common.{rules, subst, None}
+use Rattle.std.proofs.Common.{subst}
 use Rattle.cborn_model.specs.Partial.{top}
 use Rattle.cborn_judge.specs.Flaws.{FlawAt}
 use Rattle.cborn_judge.specs.shared.Judged.{FindsFlaw}

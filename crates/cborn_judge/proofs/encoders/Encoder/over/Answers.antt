@@ -1,4 +1,3 @@
-use Rattle.std.proofs.Common.{rules}
 use Rattle.cborn_judge.proofs.encoders.Encoder.over.Goals as goal
 
 pub returns : goal.returns

@@ -1,4 +1,4 @@
-use Rattle.std.proofs.Common.{rules, ◌≡◌, ◌++◌, List, length, refl}
+use Rattle.std.proofs.Common.{◌++◌, refl}
 use Rattle.cborn_model.specs.Partial.{put}
 use Rattle.cborn_judge.specs.devices.Encoding.{after}
 use Rattle.cborn_judge.specs.devices.Marks.{marks_of}
@@ -10,5 +10,5 @@ returns c = record {
   held = λ order f t y x out chunk stands.
       let old = c.args.self.now in
       stands_same order old.outer.items old.outer.items (after old.innermost c.args.flawed) c.with-self.result (put f t) (marks_of old.pairs) (marks_of old.pairs) (y ++ x) old.out.items
-        refl c.with-self.ensures refl out (stands_chunk order old.outer.items old.innermost f t (marks_of old.pairs) y x c.args.flawed chunk stands);
+      refl c.with-self.ensures refl out (stands_chunk order old.outer.items old.innermost f t (marks_of old.pairs) y x c.args.flawed chunk stands);
 }

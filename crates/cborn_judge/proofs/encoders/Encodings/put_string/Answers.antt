@@ -1,5 +1,5 @@
-use Rattle.std.proofs.Common.{rules, ◌≡◌, ◌++◌, ◌<◌, ◌^◌, List, [], length, refl, ap, ◌∙◌, sym, subst, true, false, not, append_assoc, append-nil}
-use Rattle.cborn_model.specs.Partial.{string_tree, put}
+use Rattle.std.proofs.Common.{◌≡◌, ◌++◌, [], refl, ap, ◌∙◌, sym, subst, true, false, append_assoc, append-nil}
+use Rattle.cborn_model.specs.Partial.{string_tree}
 use Rattle.cborn_judge.specs.devices.Encoders.{kept, IsStringFront}
 use Rattle.cborn_judge.specs.devices.Encoding.{is_chunks}
 use Rattle.cborn_judge.specs.devices.Marks.{marks_of}

@@ -11,6 +11,12 @@ take_argument-requires-clause-open g c =
     let l = c.args.levels.now in
     here_room m.limit g.L.Levels.most (g.V.Visitor.holds c.args.visitor.now) (g.L.Levels.outer l) (g.L.Levels.inner l) m.left m.at m.head c.requires.here.0 c.requires.levels c.requires.here.1 c.requires.here.2
 
+pub take_leaves_or_container-requires-clause-room : goal.take_leaves_or_container-requires-clause-room
+take_leaves_or_container-requires-clause-room g c =
+    let m = c.args.self.now in
+    let l = c.args.levels.now in
+    here_room m.limit g.L.Levels.most (g.V.Visitor.holds c.args.visitor.now) (g.L.Levels.outer l) (g.L.Levels.inner l) m.left m.at m.head c.requires.here.0 c.requires.levels c.requires.here.1 c.requires.here.2
+
 pub take_head-requires-clause-open : goal.take_head-requires-clause-open
 take_head-requires-clause-open g c =
     let m = c.args.self.now in
@@ -40,10 +46,10 @@ returns-then-len-gt0-clause-goes g c = λ s here inside.
     let zero : m.left ≡ 0 = omega (arith, c.if-self-gt0.false) in
     let (f, held, keeps, is) = between_here (g.V.Visitor.holds c.args.visitor.now) (g.L.Levels.outer l) (g.L.Levels.inner l) m.left m.at m.head s c.in_default.is zero here in
     let n = c.in_ok-len.len in
-    let new = c.take_leaves.new in
+    let new = c.take_leaves_or_container.new in
     let holds = g.V.Visitor.holds new.visitor in
     let outer = g.L.Levels.outer new.levels in
     let inner = g.L.Levels.inner new.levels in
-    let (stands, more) = (c.in_ok-len.ensures.goes f held keeps).1 m.limit in
+    let (fits, stands, more) = c.in_ok-len.ensures.goes f held keeps (subst (OpenIn m.limit) is inside) c.if-len-gt0.true in
     subst (λ u. HereAt holds outer inner m.left (m.at + n) m.head (run m.limit u (take n c.args.piece.now)) × AtMostOneMore (ready_in u) (run m.limit u (take n c.args.piece.now))) (sym is)
     (subst (λ k. HereAt holds outer inner k (m.at + n) m.head (run m.limit (state m.at f no_part) (take n c.args.piece.now))) (sym zero) (stands_here holds outer inner 0 (m.at + n) m.head _ _ c.in_default.is refl stands), more)

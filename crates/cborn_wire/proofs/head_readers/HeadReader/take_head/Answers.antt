@@ -1,13 +1,11 @@
 use Rattle.std.proofs.Common.{refl, sym, ◌∙◌, subst, inl, ap}
 use Rattle.std.proofs.lemmas.Result.{err_from_is_err_and}
-use Rattle.cborn_model.specs.declared.heads.Major.TheVariants.{Other}
-use Rattle.cborn_model.specs.Heads.{EndlessArgument}
 use Rattle.cborn_model.specs.Partial.{no_part}
 use Rattle.cborn_wire.specs.HeadReading.{major_at, seen_argument}
 use Rattle.cborn_wire.specs.shared.Machine.{ready_in, AtMostOneMore}
 use Rattle.cborn_wire.specs.shared.Visiting.{ready, open_in, state}
 use Rattle.cborn_wire.proofs.HeadReading.HeadFronts.{short_front}
-use Rattle.cborn_wire.proofs.HeadReading.HeadSteps.{break_taken, first_refused, second_refused, head_fits, head_taken}
+use Rattle.cborn_wire.proofs.HeadReading.HeadSteps.{first_refused, second_refused, head_fits, head_taken}
 use Rattle.cborn_wire.proofs.Machine.OneMore.{one_more_head}
 use Rattle.cborn_wire.proofs.Visiting.Taking.{fails_on, short_taken, stands_here, first_next, short_next}
 use Rattle.cborn_wire.proofs.head_readers.HeadReader.take_head.Goals as goal
@@ -33,7 +31,7 @@ returns-in-Short-clause-goes g c = λ f held are inside.
 pub returns-in_err-self-in-Full-clause-goes : goal.returns-in_err-self-in-Full-clause-goes
 returns-in_err-self-in-Full-clause-goes g c = λ f held are inside.
     let takes = first_next f _ c.args.piece.now c.in-Full.head c.in-Full.len c.in-Full.ensures c.requires.some (sym c.in_default.is ∙ c.refusal.ensures f are inside) in
-    let p = err_from_is_err_and c.from_residual-in_err-self-in-Full.result c.from_residual-in_err-self-in-Full.ensures.1 in
+    let p = err_from_is_err_and c.from_residual.result c.from_residual.ensures.1 in
     let goes = head_taken c.args.self.now.limit c.args.self.now.at (ready f) (open_in f) c.args.piece.now c.in-Full.head c.in-Full.len c.in-Full.ensures (sym c.in_default.is ∙ c.refusal.ensures f are inside) in
     rw (p.1, p.2) (fails_on c.args.self.now.limit (state c.args.self.now.at f no_part) _ (ready f) c.in-Full.len c.args.piece.now _ goes (c.in_err-self-in-Full.ensures.goes f takes held are))
 
@@ -48,16 +46,3 @@ returns-in_ok-self-in-Full-clause-goes g c = λ f held are inside.
 
 pub returns-in_ok-self-in-Full-clause-some : goal.returns-in_ok-self-in-Full-clause-some
 returns-in_ok-self-in-Full-clause-some g c = (head_fits c.args.piece.now c.in-Full.head c.in-Full.len c.in-Full.ensures, refl, refl)
-
-pub returns-in_err-self-clause-goes : goal.returns-in_err-self-clause-goes
-returns-in_err-self-clause-goes g c = λ f held are inside.
-    let p = err_from_is_err_and c.from_residual.result c.from_residual.ensures.1 in
-    let goes = break_taken c.args.self.now.limit c.args.self.now.at (ready f) (open_in f) c.args.piece.now c.requires.some c.if-first.true in
-    rw (p.1, p.2) (fails_on c.args.self.now.limit (state c.args.self.now.at f no_part) _ (ready f) 1 c.args.piece.now _ goes (c.in_err-self.ensures.goes f held are))
-
-pub returns-then-first-clause-goes : goal.returns-then-first-clause-goes
-returns-then-first-clause-goes g c = λ f held are inside.
-    let goes = break_taken c.args.self.now.limit c.args.self.now.at (ready f) (open_in f) c.args.piece.now c.requires.some c.if-first.true in (
-      stands_here _ _ _ _ _ c.args.self.now.head _ _ c.requires.between goes (c.in_ok-self.ensures.goes f held are),
-      subst (AtMostOneMore (ready f)) (sym goes) (one_more_head (ready f) Other EndlessArgument (open_in f) _ _),
-    )
