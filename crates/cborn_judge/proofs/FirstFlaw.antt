@@ -2,5 +2,4 @@
 pub mod Steps
 pub mod Texts
 pub mod Walking
-pub mod Pairing
 pub mod Sequences

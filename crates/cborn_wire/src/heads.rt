@@ -83,24 +83,6 @@ pub enum HeadRead {
 pub fn read_head(bytes: &[u8]) -> HeadRead
     ensures { ReadsHead bytes.now result }
 {
-    read_head_by(false, bytes)
-}
-
-/// The head at the front of `bytes`, with the answers of [`read_head`]. Quicker where widths vary
-/// from head to head, as in an array of integers of mixed sizes, and slower elsewhere: the argument
-/// is shifted out of eight bytes, where `read_head` branches by its width.
-#[inline]
-pub fn read_mixed_head(bytes: &[u8]) -> HeadRead
-    ensures { ReadsHead bytes.now result }
-{
-    read_head_by(true, bytes)
-}
-
-/// `read_mixed_head` or `read_head`. `mixed` is a constant at each call.
-#[inline(always)]
-fn read_head_by(mixed: bool, bytes: &[u8]) -> HeadRead
-    ensures { ReadsHead bytes.now result }
-{
     let [first, rest @ ..] = bytes else {
         return HeadRead::Short;
     };
@@ -120,7 +102,7 @@ fn read_head_by(mixed: bool, bytes: &[u8]) -> HeadRead
         Major::Other => read_other(information, rest),
         _ => {
             let len = wide_len(information);
-            read_wide(mixed, major, wide_width(information), len, rest)
+            read_wide(major, wide_width(information), len, rest)
         }
     }
 }
@@ -135,11 +117,11 @@ fn head_of(major: Major, argument: Argument) -> Head
 
 /// Reads a head whose argument is the first `len` bytes of `rest`.
 #[inline(always)]
-fn read_wide(mixed: bool, major: Major, width: Width, len: usize, rest: &[u8]) -> HeadRead
+fn read_wide(major: Major, width: Width, len: usize, rest: &[u8]) -> HeadRead
     requires { len ≡ width_bytes width }
     ensures { (first : ℕ) → first / 32 ≡ code major → info_at (first % 32) ≡ Next width → reason_alone (first ∷ rest.now) ≡ None → ReadsHead (first ∷ rest.now) result }
 {
-    match argument_of(mixed, width, len, rest) {
+    match read_number(width, rest) {
         Some(n) => {
             let argument = Argument::Given(width, n);
             HeadRead::Full(head_of(major, argument), 1 + len)
@@ -168,7 +150,7 @@ fn read_simple(rest: &[u8]) -> HeadRead
 {
     match rest {
         [0..32, ..] => HeadRead::Bad(WireReason::BadSimple),
-        _ => read_wide(false, Major::Other, Width::One, 1, rest),
+        _ => read_wide(Major::Other, Width::One, 1, rest),
     }
 }
 
@@ -277,35 +259,6 @@ pub(crate) fn read_number(width: Width, bytes: &[u8]) -> Option<u64>
         Width::Four => Some(u64::from(u32::from_be_bytes(*bytes.first_chunk::<4>()?))),
         Width::Eight => Some(u64::from_be_bytes(*bytes.first_chunk::<8>()?)),
     }
-}
-
-/// The number that the first `len` bytes make, which are those of this width; `None` if there are
-/// fewer. With `mixed` it is shifted out of eight bytes, if there are eight.
-#[inline(always)]
-fn argument_of(mixed: bool, width: Width, len: usize, bytes: &[u8]) -> Option<u64>
-    requires { len ≡ width_bytes width }
-    ensures { MatchOption result (length bytes.now < width_bytes width) (λ n. (width_bytes width ≤ length bytes.now) × (n ≡ number width (take (width_bytes width) bytes.now))) }
-{
-    match bytes {
-        [a, b, c, d, e, f, g, h, ..] if mixed => {
-            let word = u64::from_be_bytes([*a, *b, *c, *d, *e, *f, *g, *h]);
-            Some(front_number(width, len, word))
-        }
-        _ => read_number(width, bytes),
-    }
-}
-
-/// The number that the first `len` of eight bytes make, `word` being that of all eight. A shift,
-/// since branches on the widths of integers can't be predicted.
-#[inline(always)]
-fn front_number(width: Width, len: usize, word: u64) -> u64
-    requires { len ≡ width_bytes width }
-    ensures { (a b c d e f g h : ℕ) → AreBytes (a ∷ b ∷ c ∷ d ∷ e ∷ f ∷ g ∷ h ∷ []) → word ≡ from_be_bytes w64 (a ∷ b ∷ c ∷ d ∷ e ∷ f ∷ g ∷ h ∷ []) → result ≡ number width (take (width_bytes width) (a ∷ b ∷ c ∷ d ∷ e ∷ f ∷ g ∷ h ∷ [])) }
-{
-    if len == 0 {
-        return 0;
-    }
-    word >> (64 - 8 * len)
 }
 
 /// The head of major type `major`, from 0 to 6, with the argument `n`, which must fit the width:

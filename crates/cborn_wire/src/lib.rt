@@ -50,7 +50,7 @@ pub use faults::{WireFault, WireReason};
 pub use feeders::Feeder;
 pub use first_items::{first_end, item_end};
 pub use head_readers::{HeadReader, Until};
-pub use heads::{Argument, Head, HeadRead, head_bytes, push_head, read_head, read_mixed_head};
+pub use heads::{Argument, Head, HeadRead, head_bytes, push_head, read_head};
 pub use levels::{GrownLevels, Level, LevelKind, Levels};
 pub use readers::{read_all, read_one};
 pub use scanning::{Nothing, scan};

@@ -91,10 +91,6 @@ module _ (order : List ℕ → List ℕ → Ordering) where
   odd_more [] t = refl
   odd_more (s ∷ ts) t = ap not (odd_more ts t)
 
-  -- how many bytes rows have
-  abbrev row_len : List Row → ℕ
-  row_len rs = length (joined (row_entries rs))
-
   key_more : (ts : List Tree) (t : Tree) (rs : List Row) (x : List ℕ) → is_odd ts ≡ false → AreRows order ts rs → Coded order t x → AreRows order (ts ++ t ∷ []) (rs ++ (place t, x, []) ∷ [])
   key_more [] t [] x e a c = (refl, c, refl)
   key_more [] t (r ∷ rs) x e a c = absurd a

@@ -7,16 +7,11 @@ use Rattle.std.specs.List.Sorted.{IsSortedBy}
 use Rattle.std.proofs.lemmas.List.Sorted.{IsPermutation-sym}
 use Rattle.std.proofs.lemmas.Map.Keys.{IsDistinct-IsPermutation, ge_from_not_lt}
 use Rattle.std.proofs.lemmas.Bool.{eqb-true, eq-eqb, cases_eq}
-use Rattle.cborn_judge.specs.Flaws.{IsRepeated, HasRepeat}
-use Rattle.cborn_judge.specs.shared.Repeats.{IsOneOf, PositionsRise, IsAgain, IsTied, AreKeys}
+use Rattle.cborn_judge.specs.Flaws.{IsRepeated}
+use Rattle.cborn_judge.specs.shared.Repeats.{IsOneOf, IsAgain, IsTied}
 use Rattle.cborn_model.proofs.SameItems.Rearranging.{All_moved, weaker, at_member}
-use Rattle.cborn_model.specs.shared.OrderLaws.{bytewise_order}
-use Rattle.cborn_det.proofs.Canon.{same_of_one, one_of_same}
-use Rattle.cborn_judge.proofs.Meaning.Meanings.{means_once}
-use Rattle.cborn_model.specs.Value.{Value, Same}
-use Rattle.cborn_model.specs.Valid.{IsProper}
-use Rattle.cborn_model.specs.Orders.{bytewise, IsKeyOrder}
-use Rattle.cborn_det.specs.Det.{Det}
+use Rattle.cborn_model.specs.Value.{Value}
+use Rattle.cborn_model.specs.Orders.{IsKeyOrder}
 use Rattle.cborn_model.specs.Tree.{Tree, Entries, no_entry, entry}
 use Rattle.cborn_model.specs.Meaning.{Means}
 
@@ -33,63 +28,7 @@ nothing_repeated k no_entry p h r = r
 nothing_repeated k (entry l v es) p h (inl r) = h r.1.0 r.1.2
 nothing_repeated k (entry l v es) p h (inr r) = nothing_repeated k es p h r
 
-module _ {X : Type 0} (bytes : X → List ℕ) (position place_of : X → ℕ) where
-  -- a key that means the same as k, among the keys
-  repeated_there : (k : Tree) (a : Value) (x : List ℕ) (es : Entries) (n : ℕ) (ks : List X) (p : ℕ) → IsProper a → Means k a → Det bytewise a x → AreKeys bytes position place_of es n ks → IsRepeated k es p
-      → (z : X) × IsOneOf z ks × (x ≡ bytes z) × (place_of z ≡ p)
-  repeated_there k a x no_entry n ks p g m d h r = absurd r
-  repeated_there k a x (entry l v es) n ks p g m d (inl (z, zs, e, i, j, b, q, o, f, t)) (inl r) =
-      let s = r.1 in
-      let same : Same a b = subst (λ c. Same c b) (means_once k s.0 a s.2 m) (subst (Same s.0) (means_once l s.1 b s.3 o) s.4) in
-      (z, subst (IsOneOf z) (sym e) (inl refl), one_of_same bytewise bytewise_order a b x (bytes z) g q same d f, j ∙ sym r.0)
-  repeated_there k a x (entry l v es) n ks p g m d (inl (z, zs, e, i, j, b, q, o, f, t)) (inr r) =
-      let u = repeated_there k a x es (suc n) zs p g m d t r in
-      (u.0, subst (IsOneOf u.0) (sym e) (inr u.1), u.2, u.3)
-  repeated_there k a x (entry l v es) n ks p g m d (inr h) (inl r) = absurd (h.0 r.1.1 r.1.3)
-  repeated_there k a x (entry l v es) n ks p g m d (inr h) (inr r) = repeated_there k a x es (suc n) ks p g m d h.1 r
-
-  there_repeated : (k : Tree) (a : Value) (x : List ℕ) (es : Entries) (n : ℕ) (ks : List X) (z : X) → IsProper a → Means k a → Det bytewise a x → AreKeys bytes position place_of es n ks → IsOneOf z ks → x ≡ bytes z → IsRepeated k es (place_of z)
-  there_repeated k a x no_entry n ks z g m d h i s = absurd (subst (IsOneOf z) h i)
-  there_repeated k a x (entry l v es) n ks z g m d (inl (y, ys, e, i, j, b, q, o, f, t)) w s = by (subst (IsOneOf z) e w) (λ c. there_repeated k a x es (suc n) ys z g m d t c s)
-    where
-      by : IsOneOf z (y ∷ ys) → (IsOneOf z ys → IsRepeated k es (place_of z)) → IsRepeated k (entry l v es) (place_of z)
-      by (inl c) rec = inl (ap place_of c ∙ j, (a, b, m, o, same_of_one bytewise a b x g q d (subst (Det bytewise b) (ap bytes (sym c) ∙ sym s) f)))
-      by (inr c) rec = inr (rec c)
-  there_repeated k a x (entry l v es) n ks z g m d (inr h) w s = inr (there_repeated k a x es (suc n) ks z g m d h.1 w s)
-
-  pub repeat_again : (es : Entries) (n : ℕ) (ks : List X) (p : ℕ) → AreKeys bytes position place_of es n ks → HasRepeat es p → (z : X) × IsAgain bytes ks z × (place_of z ≡ p)
-  repeat_again no_entry n ks p h r = absurd r
-  repeat_again (entry k v es) n ks p (inl (y, ys, e, i, j, b, q, o, f, t)) (inl r) =
-      let u = repeated_there k b (bytes y) es (suc n) ys p q o f t r in
-      (u.0, subst (λ l. IsAgain bytes l u.0) (sym e) (inl (u.1, u.2)), u.3)
-  repeat_again (entry k v es) n ks p (inl (y, ys, e, i, j, b, q, o, f, t)) (inr r) =
-      let u = repeat_again es (suc n) ys p t r in
-      (u.0, subst (λ l. IsAgain bytes l u.0) (sym e) (inr u.1), u.2)
-  repeat_again (entry k v es) n ks p (inr h) (inl r) = absurd (nothing_repeated k es p h.0 r)
-  repeat_again (entry k v es) n ks p (inr h) (inr r) = repeat_again es (suc n) ks p h.1 r
-
-  pub again_repeat : (es : Entries) (n : ℕ) (ks : List X) (z : X) → AreKeys bytes position place_of es n ks → IsAgain bytes ks z → HasRepeat es (place_of z)
-  again_repeat no_entry n ks z h r = absurd (subst (λ l. IsAgain bytes l z) h r)
-  again_repeat (entry k v es) n ks z (inl (y, ys, e, i, j, b, q, o, f, t)) r = by (subst (λ l. IsAgain bytes l z) e r) (λ c. again_repeat es (suc n) ys z t c)
-    where
-      by : IsAgain bytes (y ∷ ys) z → (IsAgain bytes ys z → HasRepeat es (place_of z)) → HasRepeat (entry k v es) (place_of z)
-      by (inl c) rec = inl (there_repeated k b (bytes y) es (suc n) ys z q o f t c.0 c.1)
-      by (inr c) rec = inr (rec c)
-  again_repeat (entry k v es) n ks z (inr h) r = inr (again_repeat es (suc n) ks z h.1 r)
-
-  pub keys_rise : (es : Entries) (n m : ℕ) (ks : List X) → m ≤ n → AreKeys bytes position place_of es n ks → PositionsRise bytes position m ks
-  keys_rise no_entry n m ks l h = subst (PositionsRise bytes position m) (sym h) tt
-  keys_rise (entry k v es) n m ks l (inl (y, ys, e, i, j, b, q, o, f, t)) =
-      subst (PositionsRise bytes position m) (sym e) ((omega arith), keys_rise es (suc n) (suc (position y)) ys (omega arith) t)
-  keys_rise (entry k v es) n m ks l (inr h) = keys_rise es (suc n) m ks (omega arith) h.1
-
 -- ---- after a sort
-
-module _ {X : Type 0} (bytes : X → List ℕ) (position : X → ℕ) where
-  above_all : (n : ℕ) (xs : List X) (z : X) → PositionsRise bytes position n xs → IsOneOf z xs → n ≤ position z
-  above_all n [] z h i = absurd i
-  above_all n (x ∷ xs) z h (inl e) = let f : position z ≡ position x = ap position e in omega arith
-  above_all n (x ∷ xs) z h (inr i) = let k = above_all (suc (position x)) xs z h.1 i in omega arith
 
 -- Of the keys only those count whose encodings pass the test.
 module _ {X : Type 0} (counts : List ℕ → Bool) (bytes : X → List ℕ) (position : X → ℕ) where
@@ -97,10 +36,6 @@ module _ {X : Type 0} (counts : List ℕ → Bool) (bytes : X → List ℕ) (pos
   abbrev pub LieBefore : List X → Type 0
   LieBefore [] = ⊤
   LieBefore (x ∷ xs) = ((z : X) → IsOneOf z xs → counts (bytes x) ≡ true → position x < position z) × LieBefore xs
-
-  pub lie_before : (n : ℕ) (xs : List X) → PositionsRise bytes position n xs → LieBefore xs
-  lie_before n [] h = tt
-  lie_before n (x ∷ xs) h = ((λ z i s. let k = above_all bytes position (suc (position x)) xs z h.1 i in omega arith), lie_before (suc (position x)) xs h.1)
 
 module _ {X : Type 0} (order : List ℕ → List ℕ → Ordering) (laws : IsKeyOrder order) (counts : List ℕ → Bool) (bytes : X → List ℕ) (position : X → ℕ) where
   -- z has the bytes of one at a lower position

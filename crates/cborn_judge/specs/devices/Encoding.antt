@@ -36,12 +36,6 @@ MeansNothing t = (v : Value) → Means t v → ⊥
 abbrev pub Row : Type 0
 Row = ℕ × List ℕ × List ℕ
 
-abbrev pub row_place : Row → ℕ
-row_place r = r.0
-
-abbrev pub row_key : Row → List ℕ
-row_key r = r.1
-
 abbrev pub row_entry : Row → Entry
 row_entry r = (r.1, r.2)
 

@@ -1,12 +1,11 @@
 -- A device of the proofs: the flaws of parts, each by itself, and the first that was found. No public contract cites it.
-use Rattle.std.specs.Prelude.{◌≡◌, ℕ, List, Option}
+use Rattle.std.specs.Prelude.{◌≡◌, ℕ, Option}
 use Rattle.cborn_model.specs.Tree.{Trees, Entries, Tree}
 use Rattle.cborn_model.specs.Earliest.{IsEarliest, Finds}
 use Rattle.cborn_model.specs.Reasons.{flaw_rank}
 use Rattle.cborn_model.specs.declared.faults.InvalidReason.{InvalidReason}
-use Rattle.cborn_model.specs.declared.faults.InvalidReason.TheVariants.{NotUtf8, DuplicateKey}
-use Rattle.cborn_model.specs.declared.nodes.Chunk.{Chunk}
-use Rattle.cborn_judge.specs.Flaws.{WithinAll, WithinEntries, HasRepeat, HasBadChunk, FlawAt}
+use Rattle.cborn_model.specs.declared.faults.InvalidReason.TheVariants.{DuplicateKey}
+use Rattle.cborn_judge.specs.Flaws.{WithinAll, WithinEntries, HasRepeat, FlawAt}
 use Rattle.cborn_judge.specs.declared.flaws.Flaw as flaw
 
 -- ---- what was found
@@ -29,7 +28,3 @@ FlawAmong es p r = (q : Tree) × WithinEntries q es × FlawAt q p r
 -- a key at this place is the same as an earlier one
 abbrev pub RepeatFlaw : Entries → ℕ → InvalidReason → Type 0
 RepeatFlaw es p r = (r ≡ DuplicateKey) × HasRepeat es p
-
--- the flaws of these chunks of a text string
-abbrev pub ChunkFlaw : List Chunk → ℕ → InvalidReason → Type 0
-ChunkFlaw cs p r = (r ≡ NotUtf8) × HasBadChunk cs p

@@ -2,7 +2,6 @@
 use Rattle.std.proofs.Common.{◌≡◌, refl, sym, ap, ◌∙◌, subst, ℕ, zero, suc, ◌+◌, ◌-◌, ◌*◌, ◌/◌, ◌%◌, ◌<◌, ◌≤◌, List, [], ◌∷◌, ◌++◌, length, take, drop, get_or, true, false, None, arith, length-append}
 use Rattle.std.proofs.lemmas.List.{take-append-drop, length-take-le, length-replicate}
 use Rattle.std.proofs.Math.ListN.{replicate}
-use Rattle.std.specs.Int.{w64, from_be_bytes}
 use Rattle.cborn_model.specs.Bytes.{AreBytes}
 use Rattle.cborn_model.specs.declared.heads.Width.{Width}
 use Rattle.cborn_model.specs.declared.heads.Width.TheVariants.{Direct, One, Two, Four, Eight}
@@ -152,21 +151,3 @@ short_front (b ∷ x) some f = go f.argument f.whole
     go (heads.Given Four n) e = let first : b ≡ 32 * code f.major + 26 = cc in (omega (arith, first), omega (arith, first))
     go (heads.Given Eight n) e = let first : b ≡ 32 * code f.major + 27 = cc in (omega (arith, first), omega (arith, first))
     go heads.EndlessArgument e = absurd (omega (arith, ap length e, length-append x f.missing, f.some))
-
--- what is said of the number of eight bytes, of the eight at the front of more
-pub number_first : (w : Width) (x : List ℕ) (n : ℕ) → 8 ≤ length x → AreBytes x
-    → ((a b c d e f g h : ℕ) → AreBytes (a ∷ b ∷ c ∷ d ∷ e ∷ f ∷ g ∷ h ∷ []) → from_be_bytes w64 x ≡ from_be_bytes w64 (a ∷ b ∷ c ∷ d ∷ e ∷ f ∷ g ∷ h ∷ []) → n ≡ number w (take (width_bytes w) (a ∷ b ∷ c ∷ d ∷ e ∷ f ∷ g ∷ h ∷ [])))
-    → (width_bytes w ≤ length x) × (n ≡ number w (take (width_bytes w) x))
-number_first w (a ∷ b ∷ c ∷ d ∷ e ∷ f ∷ g ∷ h ∷ x) n l are says = (wide w, go w (says a b c d e f g h (are.0, (are.1.0, (are.1.1.0, (are.1.1.1.0, (are.1.1.1.1.0, (are.1.1.1.1.1.0, (are.1.1.1.1.1.1.0, (are.1.1.1.1.1.1.1.0, tt)))))))) refl))
-  where
-    wide : (w : Width) → width_bytes w ≤ length (a ∷ b ∷ c ∷ d ∷ e ∷ f ∷ g ∷ h ∷ x)
-    wide Direct = omega arith
-    wide w = omega arith
-
-    go : (w : Width) → n ≡ number w (take (width_bytes w) (a ∷ b ∷ c ∷ d ∷ e ∷ f ∷ g ∷ h ∷ [])) → n ≡ number w (take (width_bytes w) (a ∷ b ∷ c ∷ d ∷ e ∷ f ∷ g ∷ h ∷ x))
-    go Direct e = e
-    go One e = e
-    go Two e = e
-    go Four e = e
-    go Eight e = e
-number_first w x n l are says = absurd (omega arith)

@@ -2,7 +2,7 @@ use Rattle.std.proofs.Common.{sym, ◌∙◌}
 use Rattle.std.proofs.lemmas.List.{take_rest}
 use Rattle.cborn_model.proofs.Bytes.{are_bytes}
 use Rattle.cborn_wire.proofs.HeadReading.HeadFronts.{no_head, direct_front, endless_front, wide_fronts}
-use Rattle.cborn_wire.proofs.heads.read_head_by.Goals as goal
+use Rattle.cborn_wire.proofs.heads.read_head.Goals as goal
 
 pub returns-in_default : goal.returns-in_default
 returns-in_default c = no_head c.args.bytes.now c.in_default.len_below
