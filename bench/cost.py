@@ -5,7 +5,7 @@
 
 Each shape, of bytes and of texts, is made at a quarter and at the whole of N MB (16). For each command: the peak memory,
 less 3 MB that the process itself has, as a multiple of input and output together; MB of input a second; and the status.
-Ends with status 1 where a multiple is above RATIO (2.5; more for one great map of tiny pairs, whose keys have to be sorted),
+Ends with status 1 where a multiple is above RATIO (2.5; more for what MORE names),
 where time grows by more than 1.6 times as much as the input, or where a run was ended. With --memory no time is judged.
 """
 import argparse
@@ -32,7 +32,7 @@ REFUSED_LATE = (
     "great pair out of order, bad text after",
     "text in chunks, bad one last",
 )
-# maps whose pairs are copied while they are arranged, where what is wrong with an input is looked for
+# maps whose pairs are copied while they are arranged, where an input is judged
 ARRANGED = (
     "map out of order, bad text after",
     "key is a map out of order",

@@ -41,7 +41,7 @@ pub(crate) fn big_integer(
 }
 
 /// The integer n, or -1 - n if it is `negative`, n being the big-endian number of `bytes`. Not
-/// inlined, so that what calls it by itself level by level takes little stack.
+/// inlined, so that the recursion over nodes takes little stack.
 #[inline(never)]
 fn integer_of(alloc: Global, negative: bool, bytes: &[u8]) -> Result<Item, AllocError>
     ensures { IfOk result (λ item. IsNumber negative (big_endian bytes.now) (item_value item)) }

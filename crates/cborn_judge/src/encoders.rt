@@ -96,8 +96,8 @@ impl Encodings {
         }
     }
 
-    /// Counts a node in the innermost container, which is whole now. Its encoding stands in the
-    /// buffer from `start` on; nothing stands there if it means nothing.
+    /// Counts a whole node in the innermost container. Its encoding stands in the buffer from `start`
+    /// on; nothing stands there if it means nothing.
     #[inline(always)]
     pub(crate) fn put(&mut self, place: u64, start: usize) -> Result<(), AllocError>
         ensures held { OnOk result ((order : List ℕ → List ℕ → Ordering) (f : Partial) (t : Tree) (y x : List ℕ) → IsFree f → tree.place t ≡ place → self.old.out.items ≡ y ++ x → start ≡ length y → Coded order t x → StandsAs order self.old f y → StandsIn order self.new (put f t)) }
@@ -195,7 +195,7 @@ impl Encodings {
         }
     }
 
-    /// Leaves the innermost container, and gives it; the input is left by nothing.
+    /// Leaves the innermost container, and gives it; the input stays.
     #[inline(always)]
     pub(crate) fn leave(&mut self) -> Level
         ensures left { (os : List Level) (l m : Level) → self.old.outer.items ≡ os ++ l ∷ [] → self.old.innermost ≡ m → (self.new.outer.items ≡ os) × (self.new.innermost ≡ l) × (result ≡ m) }
@@ -217,8 +217,8 @@ impl<O: KeyOrder> Encoder<O> {
         Encoder::over(alloc, Vec::new(alloc))
     }
 
-    /// A visitor that was handed nothing, with room for so many bytes of encodings. Bytes of a
-    /// sequence are seldom longer as encodings.
+    /// A visitor that was handed nothing, with room for so many bytes of encodings. An encoding
+    /// is seldom longer than what it was read from.
     ///
     /// # Errors
     /// `AllocError` if memory is refused.
@@ -244,8 +244,8 @@ impl<O: KeyOrder> Encoder<O> {
         }
     }
 
-    /// What the items are encoded as that it was handed, and the first defect of their spelling: that
-    /// at the lowest offset, and there that with the lowest number.
+    /// The encodings of the items that it was handed, and the first defect of their spelling: that at
+    /// the lowest offset, and there that with the lowest number.
     ///
     /// # Errors
     /// If an item means nothing, the first flaw of all: its offset in bytes from the start of the
@@ -413,8 +413,8 @@ fn text_flaw(place: u64, is_good: bool) -> Option<Flaw>
     Some(Flaw { place, reason })
 }
 
-/// Keeps the first of what was found so far and what was found next. As a rule nothing was, or what
-/// was is at a higher place.
+/// Keeps the first of what was found so far and what was found next. As a rule nothing was found
+/// next, or at a higher place.
 #[inline(always)]
 fn keep<F: Fault>(first: &mut Option<F>, next: Option<F>)
     ensures { IsEarliest F.key first.old next first.new }

@@ -243,14 +243,14 @@ fn end_bignum(
     Ok(Findings { flaw, defect })
 }
 
-/// Whether a bignum had leading zeros or fits 64 bits.
+/// What is wrong with a bignum, but for its head.
 #[derive(Clone, Copy)]
 struct Bignum {
     defect: Option<Defect>,
 }
 
-/// The bignum whose content is that of a tag which was left, and its bytes without leading zeros in
-/// `magnitude`; `None` if that is no byte string.
+/// The bignum in a tag that was left. Its bytes without leading zeros go to `magnitude`. `None` if
+/// the content is no byte string.
 fn bignum_of(
     level: Level,
     out: &[u8],

@@ -29,7 +29,7 @@ pub(crate) struct Level {
     pub(crate) content: usize,
     /// How many pairs are marked of the maps around it.
     pub(crate) pairs: usize,
-    /// How many nodes are whole in it, if each means something.
+    /// How many nodes are whole in it.
     pub(crate) count: u64,
     /// Whether a key came in it whose value is missing.
     pub(crate) has_key: bool,

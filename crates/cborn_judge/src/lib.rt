@@ -4,8 +4,8 @@
 //! Two questions are answered about items. *Do they mean something?* *Do they spell their
 //! deterministic encodings?* One visitor answers both, whatever the items are read from:
 //! [`Encoder`] takes them head by head, writes what they are encoded as, and keeps the first flaw
-//! and the first defect. `levels` and `pairs` are what it keeps of open containers, `ends` says how
-//! these end, and `spellings` has the defects of single heads. [`judge`] hands it a node, and builds
+//! and the first defect. `levels`, `pairs` and `marks` are what it keeps of open containers, `ends`
+//! says how these end, and `spellings` has the defects of single heads. [`judge`] hands it a node, and builds
 //! the item of one that means something (`judgments`, `strings`, `bignums`); [`first_defect`] tells
 //! the first defect of a node (`checks`). Flaws and defects, and which of two comes first, are those
 //! of `cborn_model`.

@@ -97,7 +97,8 @@ pub(crate) fn descent<O: KeyOrder, S: Spot>(spots: &[S], from: usize, out: &[u8]
 
 /// Arranges the pairs that are marked from the index `from` on, and lie in `out` from the offset
 /// `start` on, so that their keys rise. Gives the first key that is the same as an earlier one;
-/// then they stay as they are. What the marks say of them means nothing after it.
+/// then, and where a key has no encoding, nothing is promised of their order. What the marks say of
+/// them means nothing after it.
 pub(crate) fn arrange<O: KeyOrder, S: Spot>(
     alloc: Global,
     spots: &mut Vec<S>,

@@ -1,5 +1,4 @@
-//! The defects of heads, strings, bignums and keys. Passes that keep no node use those of one head,
-//! of one bignum and of one key.
+//! The defects of single heads, of bignums and of the order of keys.
 
 ghost use Rattle.std.specs.Prelude.{◌↔◌, IsTrue};
 ghost use Rattle.cborn_judge.specs.Departures.{FindsDefect, LongAt, LooseBytesAt, NotAboveAt};

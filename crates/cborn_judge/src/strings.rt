@@ -1,5 +1,5 @@
-//! What strings mean (RFC 8949 sections 3.1 and 3.2.3). None of this is inlined, so that what calls
-//! it by itself level by level takes little stack.
+//! What strings mean (RFC 8949 sections 3.1 and 3.2.3). What a node is built with isn't inlined, so
+//! that the recursion over nodes takes little stack.
 
 ghost use Rattle.std.specs.Prelude.{◌≡◌, IfOk, IsUtf8};
 ghost use Rattle.cborn_model.specs.ItemView.{item_value};

@@ -1,5 +1,5 @@
-//! Heads of containers that are whole at the front of a piece, and breaks: those that are found at once
-//! to be allowed.
+//! Heads of containers that are whole at the front of a piece, and breaks, where the initial byte
+//! alone shows that they are allowed.
 
 ghost use Rattle.std.specs.Prelude.{◌≡◌, ◌+◌, ◌/◌, ◌%◌, ◌^◌, ◌<◌, ◌≤◌, ℕ, [], length, nat_le, true, None, OnErr, IfOk, ◌⊎◌};
 ghost use Rattle.cborn_model.specs.Heads.{Given, EndlessArgument, WidthFits};

@@ -5,9 +5,10 @@
 //!
 //! - A [`HeadReader`] reads bytes that come in pieces, cut anywhere, and hands each head and each
 //!   string to a visitor (`cborn_model::Visitor`). It is the one loop over heads, but for `leaves`,
-//!   which takes items that hold no others one after another. What is open are its [`Levels`]
-//!   (`levels`), a stack in the place of recursion; `refusals` says where a head isn't allowed,
-//!   and `counting` what a head makes of the levels.
+//!   which takes items that hold no others one after another; `containers` takes other heads at once
+//!   where they are allowed. What is open are its [`Levels`] (`levels`), a stack in the place of
+//!   recursion; `refusals` says where a head isn't allowed, and `counting` what a head makes of the
+//!   levels.
 //! - A [`Feeder`] is fed an input in pieces, and gives items as they are completed, one after
 //!   another (`item_readers`). [`read_all`] feeds it an input that is in memory. A visitor builds
 //!   the nodes (`nodes`): it puts what is whole into the innermost open container (`open_nodes`).

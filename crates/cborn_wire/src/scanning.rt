@@ -96,7 +96,7 @@ pub fn scan(limit: Limit, bytes: &[u8]) -> Option<(u64, WireReason)>
     scan_with::<1027>(limit, bytes)
 }
 
-/// What [`scan`] gives, with room for `MOST` levels around the innermost.
+/// What [`scan`] gives, with room for `MOST` levels.
 #[inline(never)]
 fn scan_with<const MOST: usize>(limit: Limit, bytes: &[u8]) -> Option<(u64, WireReason)>
     requires levels { limit + 2 < MOST }

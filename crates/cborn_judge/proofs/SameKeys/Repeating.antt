@@ -1,4 +1,4 @@
--- Keys are the same exactly if their encodings are equal; so after a sort the repeats are those that tie with their neighbour.
+-- After a sort the repeated keys are those that tie with their neighbour.
 use Rattle.std.proofs.Common.{◌≡◌, ◌≢◌, ℕ, suc, ◌<◌, ◌≤◌, ◌⊎◌, inl, inr, List, [], ◌∷◌, refl, sym, ap, ◌∙◌, subst, arith, true, false, Bool, true≢false, add-one, IsPermutation, Ordering, Less, Equal, Greater, is_lt, nat_cmp, eqb}
 use Rattle.std.specs.Prelude.{⊤, ◌↔◌, ◌&&◌}
 use Rattle.std.specs.Ordering.{nat_cmp, ordering_then, ordering_reverse}
@@ -19,8 +19,6 @@ module _ {X : Type 0} (order : List ℕ → List ℕ → Ordering) (bytes : X �
   -- by the encoding, and at equal encodings by the position
   abbrev pub key_order : X → X → Ordering
   key_order x y = ordering_then (order (bytes x) (bytes y)) (nat_cmp (position x) (position y))
-
--- ---- the same keys have one encoding
 
 -- what means nothing is the same as no key
 pub nothing_repeated : (k : Tree) (es : Entries) (p : ℕ) → ((a : Value) → Means k a → ⊥) → IsRepeated k es p → ⊥

@@ -1,4 +1,4 @@
--- A device of the proofs: the marks that are kept of pairs, and what is read and found where they lie. No definition cites it.
+-- A device of the proofs: the marks that are kept of pairs, and what is read and found where they lie. Only devices cite it.
 use Rattle.std.specs.Prelude.{◌≡◌, ◌≢◌, ℕ, ◌-◌, ◌⊎◌, List, [], ◌∷◌, map, take, drop}
 use Rattle.std.specs.Ordering.{nat_cmp, ordering_then, is_lt}
 use Rattle.std.specs.List.Sorted.{IsSortedBy}

@@ -1,4 +1,4 @@
--- A device of the proofs: what the parts of the check answer. No public contract cites it.
+-- A device of the proofs: the defects of parts of a node. Of public contracts that of `Encoder` alone cites it.
 use Rattle.std.specs.Prelude.{◌≡◌, ℕ, ◌⊎◌, List, Option}
 use Rattle.std.specs.declared.cmp.Ordering.{Ordering}
 use Rattle.cborn_model.specs.Meaning.{IsByteString}

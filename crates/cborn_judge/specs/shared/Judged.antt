@@ -1,4 +1,4 @@
--- A device of the proofs: the flaws of parts, each by itself, and the first that was found. No public contract cites it.
+-- A device of the proofs: the flaws of parts, each by itself, and the first that was found. Of public contracts that of `Encoder` alone cites it.
 use Rattle.std.specs.Prelude.{◌≡◌, ℕ, Option}
 use Rattle.cborn_model.specs.Tree.{Trees, Entries, Tree}
 use Rattle.cborn_model.specs.Earliest.{IsEarliest, Finds}

@@ -1,4 +1,4 @@
--- Devices of the proofs on repeated keys: the keys that mean something, each with its encoding, its position and its place; and which of a list are repeats.
+-- Devices of the proofs on repeated keys: which of a list are repeats.
 use Rattle.std.specs.Prelude.{◌≡◌, ℕ, ◌⊎◌, List, [], ◌∷◌}
 
 abbrev pub IsOneOf : {X : Type 0} → X → List X → Type 0
