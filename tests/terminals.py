@@ -7,8 +7,8 @@ If the bytes of an input are all printable ASCII or white space, and are refused
 gets a hint. So it does where a file that can't be read or written is a folder.
 Each run is made a second time with a pipe in place of the terminal. The pipe must get no hint, and all else must be the
 same. So this catches a hint that a script gets, or that a person doesn't.
-Of runs with standard output on a terminal those that would write CBOR bytes there must write nothing, and say why. A pipe and
-a file must get these bytes.
+Of runs with both streams on a terminal those that write CBOR bytes there get a hint before them. A terminal, a pipe and a file must
+get the same bytes, with the same status.
 """
 import os
 import pathlib
@@ -20,7 +20,7 @@ import tempfile
 HEXADECIMAL = "hint: the input looks like hexadecimal, and was read as CBOR bytes: xxd -r -p makes bytes of it"
 NOTATION = "hint: the input is a text, and was read as CBOR bytes: normalise and show read diagnostic notation by --from notation, compare by --from-a and --from-b"
 FOLDER = "hint: . is a folder"
-BYTES = "error: the answer is bytes, and is not written to a terminal: use -o FILE, --to notation or a pipe"
+BYTES = "hint: the answer is bytes: -o FILE writes them to a file, and --to notation makes a text of them"
 FILES = {
     "digits": b"8301\n",
     "text": b"1\n",
@@ -115,7 +115,7 @@ CASES = (
 
 # the bytes of [1, 2] in more bytes than it needs, and in as few as it can be
 WIDE, TIGHT, SHOWN = bytes.fromhex("9802180102"), bytes.fromhex("820102"), b"[1, 2]\n"
-# arguments, standard input, what a pipe gets, and whether a terminal gets the same
+# arguments, standard input, what is written, and whether a terminal gets no hint
 OUTPUTS = (
     ("normalise", WIDE, TIGHT, False),
     ("normalise --to wire --order length-first --one", WIDE, TIGHT, False),
@@ -144,19 +144,17 @@ def piped(command, given, folder):
     return done.stdout, done.stderr, done.returncode
 
 
-def on_terminal(command, given, folder, name="stderr"):
-    """The same, with standard error or the other stream of this name on a terminal, which puts CR before each LF."""
+def on_terminal(command, given, folder, out=subprocess.PIPE):
+    """The same, with standard error on a terminal, which puts CR before each LF."""
     ours, theirs = pty.openpty()
-    streams = {"stdout": subprocess.PIPE, "stderr": subprocess.PIPE, name: theirs}
-    with subprocess.Popen(command, stdin=subprocess.PIPE, cwd=folder, **streams) as run:
+    with subprocess.Popen(command, stdin=subprocess.PIPE, stdout=out or theirs, stderr=theirs, cwd=folder) as run:
         os.close(theirs)
-        out, err = run.communicate(given)
+        out, _ = run.communicate(given)
     told = b""
     while piece := read_piece(ours):
         told += piece
     os.close(ours)
-    told = told.replace(b"\r\n", b"\n")
-    return (out, told, run.returncode) if name == "stderr" else (told, err, run.returncode)
+    return out, told.replace(b"\r\n", b"\n"), run.returncode
 
 
 def read_piece(terminal):
@@ -184,15 +182,15 @@ def wrong_runs(program, folder):
 
 
 def wrong_outputs(program, folder):
-    """A line for each run with standard output on a terminal that isn't as it should be."""
+    """A line for each run with both streams on a terminal, or with standard output alone, that isn't as it should be."""
     kept = pathlib.Path(folder, "kept")
     for words, given, answer, is_shown in OUTPUTS:
         command = [program, *words.split()]
         script, of_script = piped(command, given, folder), left_in(kept)
-        person, of_person = on_terminal(command, given, folder, "stdout"), left_in(kept)
+        person, of_person = on_terminal(command, given, folder, None), left_in(kept)
         if script != (answer, b"", 0) or of_script != KEPT.get(words):
             yield f"{words} of {given}: a pipe gets {script}, and the file {of_script}"
-        if person != ((answer, b"", 0) if is_shown else (b"", said([BYTES]), 3)) or of_person != KEPT.get(words):
+        if person != (None, (b"" if is_shown else said(["cborn: " + BYTES])) + answer, 0) or of_person != KEPT.get(words):
             yield f"{words} of {given}: a terminal gets {person}, and the file {of_person}"
 
 

@@ -496,18 +496,18 @@ class Program(unittest.TestCase):
             self.assertEqual((err, status), (b"", 0))
             self.assertIn(b"--depth", out)
 
-    def test_no_bytes_go_to_a_terminal(self):
-        told = b"error: the answer is bytes, and is not written to a terminal: use --to notation or a pipe\n"
-        for words, shown, err, status in (
-            (["normalise"], b"", told, 3),
-            (["show", "--to", "wire"], b"", told, 3),
-            (["normalise", "--to", "notation"], b"[1]\r\n", b"", 0),
-            (["show"], b"[1]\r\n", b"", 0),
-            (["check"], b"deterministic\r\n", b"", 0),
+    def test_bytes_for_a_terminal_have_a_hint(self):
+        hint = b"cborn: hint: the answer is bytes: --to notation makes a text of them\r\n"
+        for words, shown in (
+            (["normalise"], hint + b"\x81\x01"),
+            (["show", "--to", "wire"], hint + b"\x81\x01"),
+            (["normalise", "--to", "notation"], b"[1]\r\n"),
+            (["show"], b"[1]\r\n"),
+            (["check"], b"deterministic\r\n"),
         ):
             ours, theirs = pty.openpty()
             command = [sys.executable, "-m", "cborn", *words]
-            done = subprocess.run(command, input=b"\x81\x01", stdout=theirs, stderr=subprocess.PIPE)
+            done = subprocess.run(command, input=b"\x81\x01", stdout=theirs, stderr=theirs)
             os.close(theirs)
             out = b""
             # a read fails once all is read, since the other side is closed
@@ -515,7 +515,7 @@ class Program(unittest.TestCase):
                 while piece := os.read(ours, 4096):
                     out += piece
             os.close(ours)
-            self.assertEqual((out, done.stderr, done.returncode), (shown, err, status))
+            self.assertEqual((out, done.returncode), (shown, 0))
 
     def test_help_says_what_compare_does_not_explain(self):
         said = {command: " ".join(self.run_on(command, "--help")[0].decode().split()) for command in ("compare", "check")}

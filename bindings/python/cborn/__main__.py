@@ -34,7 +34,7 @@ Exit status:
   1  the inputs differ; the input isn't deterministic
   2  an input is refused: a line on standard error says at which offset, in
      bytes from the start, and why; nothing is written to standard output
-  3  the command line is wrong, or bytes would go to a terminal
+  3  the command line is wrong
   4  a file can't be opened, a read or a write failed, or out of memory
 """
 
@@ -254,8 +254,8 @@ def done(words: typing.Sequence[str]) -> int:
     if any("\udc80" <= c <= "\udcff" for word in words for c in word):
         raise Trouble("error: an argument is not UTF-8\n", USAGE)
     asked = parser().parse_args(words)
-    if getattr(asked, "to", None) == "wire" and os.isatty(1):
-        raise Trouble("error: the answer is bytes, and is not written to a terminal: use --to notation or a pipe\n", USAGE)
+    if getattr(asked, "to", None) == "wire" and os.isatty(1) and os.isatty(2):
+        print("cborn: hint: the answer is bytes: --to notation makes a text of them", file=sys.stderr)
     inputs: list[bytearray] = []
     try:
         output, status, defect = answered(asked, inputs)

@@ -30,7 +30,7 @@ Exit status:
   1  the inputs differ; the input isn't deterministic
   2  an input is refused: a line on standard error says at which offset, in
      bytes from the start, and why; nothing is written to standard output
-  3  the command line is wrong, or bytes would go to a terminal
+  3  the command line is wrong
   4  a file can't be opened, a read or a write failed, or out of memory
 
 Examples:
@@ -59,7 +59,7 @@ Exit status:
   0  done
   2  the input is refused: a line on standard error says at which offset, in
      bytes from its start, and why; nothing is written to standard output
-  3  the command line is wrong, or bytes would go to a terminal
+  3  the command line is wrong
   4  the file can't be opened, a read or a write failed, or out of memory
 
 Examples:
@@ -92,7 +92,7 @@ Exit status:
   0  done
   2  the input is refused: a line on standard error says at which offset, in
      bytes from its start, and why; nothing is written to standard output
-  3  the command line is wrong, or bytes would go to a terminal
+  3  the command line is wrong
   4  the file can't be opened, a read or a write failed, or out of memory
 
 Examples:

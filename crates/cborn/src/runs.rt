@@ -10,7 +10,7 @@ use crate::requests::{Action, Request, Task};
 use crate::several::check_files;
 use crate::statuses::{REFUSED, USAGE};
 use crate::systems::System;
-use crate::usage::{tell_bytes_at_terminal, tell_usage};
+use crate::usage::{hint_bytes, tell_usage};
 use cborn_engine::Counted;
 use std::alloc::Global;
 use std::io::{IsTerminal, Read, Write};
@@ -19,8 +19,7 @@ use std::rt::Files;
 /// Runs the program with the files of `rt`. Answers its exit status, from 0 to 4. The first of `words`
 /// is the program's name. Standard output is `out`. Where the command line is wrong or an input is
 /// refused, nothing is written to it, but for what `check` of several files says of the others. Where
-/// it is a terminal, CBOR bytes for it count as a wrong command line. Where `err` is a terminal, hints
-/// may go there.
+/// `err` is a terminal, hints may go there, such as that CBOR bytes go to a terminal.
 pub fn run<F: Files, I: Read + Drop, W: Write + IsTerminal, E: Write + IsTerminal + Drop>(
     rt: &F,
     alloc: Global,
@@ -46,9 +45,9 @@ pub fn run<F: Files, I: Read + Drop, W: Write + IsTerminal, E: Write + IsTermina
     };
     match read_request(alloc, words) {
         Ok(request) => {
-            if request.task.prints_bytes() && out.is_terminal() {
-                let mut err = err;
-                return tell_bytes_at_terminal(&mut err);
+            let mut err = err;
+            if request.task.prints_bytes() && out.is_terminal() && err.is_terminal() {
+                hint_bytes(&mut err);
             }
             run_request(&system, &request, input, out, err)
         }

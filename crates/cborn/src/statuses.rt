@@ -9,7 +9,7 @@ pub const DIFFERENT: u8 = 1;
 /// An input is refused.
 pub const REFUSED: u8 = 2;
 
-/// The command line is wrong, or CBOR bytes would go to a terminal.
+/// The command line is wrong.
 pub const USAGE: u8 = 3;
 
 /// A file can't be opened, a read or a write failed, or out of memory.

@@ -96,14 +96,11 @@ pub fn tell_words<E: Write>(err: &mut E, why: io::Error) -> u8
     FAILED
 }
 
-/// Prints that CBOR bytes aren't written to a terminal, and where they can go. Answers the exit status.
-/// A write that fails is ignored.
-pub fn tell_bytes_at_terminal<E: Write>(err: &mut E) -> u8
-    ensures { result ≡ USAGE }
-{
+/// Prints a hint that a terminal gets CBOR bytes, and where else they can go. A write that fails is
+/// ignored.
+pub fn hint_bytes<E: Write>(err: &mut E) {
     let _ = writeln!(
         err,
-        "error: the answer is bytes, and is not written to a terminal: use -o FILE, --to notation or a pipe"
+        "cborn: hint: the answer is bytes: -o FILE writes them to a file, and --to notation makes a text of them"
     );
-    USAGE
 }
