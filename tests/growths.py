@@ -35,13 +35,16 @@ FAILED, ABORTED = 101, -6
 STOPPED_AT = re.compile(rb"^test stopped at src/", re.MULTILINE)
 
 
+# how many runs a test's growths are shared among, since a test may have hundreds of thousands
+SHARES = os.cpu_count() or 1
+
 # the outcome of a run, how many bytes the request was for that was refused, and how many files had been opened
 Refused = collections.namedtuple("Refused", "outcome size opened")
 
 
-def refused_in_turn(run, *given):
-    """What came of a run with its first request for memory refused, then with its second, to its last."""
-    for nth in itertools.count(1):
+def refused_in_turn(run, *given, first=1, step=1):
+    """What came of a run with a request for memory refused: the first, then the one so many steps after it, to the last."""
+    for nth in itertools.count(first, step):
         outcome, told = run(*given, REFUSE_NTH=str(nth))
         if not told:
             return
@@ -117,20 +120,22 @@ def tests_of_passes(*given):
     return built_tests(passes_or_stops, *given)
 
 
-def names_of_tests(tests, words):
-    """The names of all built tests but those of fronts, or of each that has one of the words."""
+def shares_of_tests(tests, words):
+    """The shares of all built tests but those of fronts, or of each whose name has one of the words: its name, and which growth
+    is refused first."""
     told = subprocess.run([tests, "--list"], stdout=subprocess.PIPE, text=True, check=True).stdout
     names = re.findall(r"^(.*): test$", told, re.MULTILINE)
-    return [name for name in names if (any(word in name for word in words) if words else not name.startswith("fronts::"))]
+    those = [name for name in names if (any(word in name for word in words) if words else not name.startswith("fronts::"))]
+    return [(name, first) for name in those for first in range(1, SHARES + 1)]
 
 
-def built_tests(is_allowed, served, names):
-    """Each of these tests: its name, the outcomes of its runs, and which outcomes it may have."""
-    for name in names:
+def built_tests(is_allowed, served, shares):
+    """Each share of these tests: its name, the outcomes of its runs, and which outcomes it may have."""
+    for name, first in shares:
         ample = served.run([name])
         if ample.status == 0:
-            outcomes = refused_in_turn(served.told, [name])
-            yield name, [it.outcome for it in outcomes], is_allowed
+            outcomes = refused_in_turn(served.told, [name], first=first, step=SHARES)
+            yield f"{name}, one growth in {SHARES} from growth {first}", [it.outcome for it in outcomes], is_allowed
         else:
             yield f"{name}, with ample memory", [ample], lambda _: False
 
@@ -155,10 +160,11 @@ def main():
     find = TESTS.get(sys.argv[1], command_lines)
     program, *words = sys.argv[1:] if find is command_lines else sys.argv[2:]
     program = str(pathlib.Path(program).resolve())
-    those = listed(words) if find is command_lines else names_of_tests(program, words)
+    those = listed(words) if find is command_lines else shares_of_tests(program, words)
     with shared.library("serve.c", "refuse.c") as library:
         found = shared.over_processors(tried, those, find, library, program)
     growths, runs, wrong = found
+    runs = runs if find is command_lines else runs // SHARES
     return shared.status(growths, wrong, f"{growths} growths of {runs} runs refused in turn")
 
 
