@@ -1,10 +1,11 @@
 //! The visitor [`Encoder`], which encodes items, and finds their first flaw and their first defect.
 
-ghost use Rattle.std.specs.Prelude.{◌≡◌, ◌++◌, ◌∷◌, ◌↔◌, ℕ, List, [], length, Option, None, Some, true, false, IfOk, IfErr, OnOk, IsTrue};
+ghost use Rattle.std.specs.Prelude.{◌≡◌, ◌++◌, ◌∷◌, ◌↔◌, ◌≤◌, ℕ, List, [], length, take, drop, Option, None, Some, true, false, IfOk, IfErr, OnOk, IsTrue, IsUtf8};
 ghost use Rattle.cborn_model.specs.Tree as tree;
 ghost use Rattle.cborn_model.specs.Tree.{Tree, trees};
 ghost use Rattle.cborn_model.specs.Partial.{Partial, Opening, top, inside, in_chunks, put, no_part, IsFree, string_tree};
 ghost use Rattle.cborn_model.specs.Valid.{IsProper};
+ghost use Rattle.cborn_model.specs.shared.Runs.{puts, InArray, AtKey};
 ghost use Rattle.std.specs.declared.cmp.Ordering.{Ordering};
 ghost use Rattle.cborn_model.specs.Reasons.{flaw_rank};
 ghost use Rattle.cborn_model.specs.First.{IsFirst};
@@ -18,7 +19,7 @@ ghost use Rattle.cborn_model.specs.declared.faults.InvalidReason.TheVariants.{No
 ghost use Rattle.cborn_model.specs.declared.heads.Size.{Size};
 ghost use Rattle.cborn_judge.specs.declared.levels.Container.TheVariants as containers;
 ghost use Rattle.cborn_judge.specs.devices.Marks.{marks_of};
-ghost use Rattle.cborn_judge.specs.devices.Encoding.{is_chunks, Mark, Coded, AreEncodedAs, IsOpening, IsFront};
+ghost use Rattle.cborn_judge.specs.devices.Encoding.{is_chunks, Mark, Coded, IsEncodedAs, AreEncodedAs, IsOpening, IsFront};
 ghost use Rattle.cborn_judge.specs.devices.Encoders.{kept, IsHeld, StandsIn, StandsAs, IsChunk, BeginsAs, IsContent, IsEndedString, IsStringFront, kind_major};
 
 use crate::flaws::Flaw;
@@ -27,7 +28,7 @@ use crate::pairs::Pairs;
 use crate::spellings::head_defect;
 use cborn_det::{integer_major, put_head};
 use cborn_model::{
-    Defect, Fault, InvalidReason, KeyOrder, Major, Size, StringKind, Visitor, Width, earliest,
+    Defect, Fault, InvalidReason, KeyOrder, LeafPair, Major, Size, StringKind, Visitor, Width, earliest,
 };
 use std::alloc::{AllocError, Global};
 use std::marker::PhantomData;
@@ -104,7 +105,33 @@ impl Encodings {
     {
         let end = self.out.len();
         self.mark(place, start, end)?;
-        self.innermost = self.innermost.with(end <= start);
+        self.innermost.add(end <= start);
+        Ok(())
+    }
+
+    /// Counts whole items of an array, whose encodings are `spelled`, and writes these.
+    #[inline(always)]
+    fn put_items(&mut self, count: u64, spelled: &[u8]) -> Result<(), AllocError>
+        ensures held { OnOk result ((order : List ℕ → List ℕ → Ordering) (f : Partial) (ts : List Tree) → IsFree f → InArray f → length ts ≡ count → AreEncodedAs order ts spelled.now → StandsIn order self.old f → StandsIn order self.new (puts f ts)) }
+    {
+        self.out.extend_from_slice(spelled)?;
+        self.innermost.add_items(count);
+        Ok(())
+    }
+
+    /// Counts a whole key, which is at the offset `place`, and its value. Their encodings are
+    /// `spelled`, of which the first `key_len` bytes are those of the key. Writes these.
+    #[inline(always)]
+    fn put_pair(&mut self, place: u64, key_len: usize, spelled: &[u8]) -> Result<(), AllocError>
+        ensures held { OnOk result ((order : List ℕ → List ℕ → Ordering) (f : Partial) (k v : Tree) → IsFree f → AtKey f → tree.place k ≡ place → key_len ≤ length spelled.now → IsEncodedAs order k (take key_len spelled.now) → IsEncodedAs order v (drop key_len spelled.now) → StandsIn order self.old f → StandsIn order self.new (put (put f k) v)) }
+    {
+        let start = self.out.len();
+        self.out.extend_from_slice(spelled)?;
+        let end = self.out.len();
+        let middle = start.saturating_add(key_len);
+        self.pairs.push_pair(place, start, middle, end)?;
+        self.innermost.add(false);
+        self.innermost.add(false);
         Ok(())
     }
 
@@ -129,7 +156,7 @@ impl Encodings {
     pub(crate) fn put_chunk(&mut self, flawed: bool)
         ensures held { (order : List ℕ → List ℕ → Ordering) (f : Partial) (t : Tree) (y x : List ℕ) → self.old.out.items ≡ y ++ x → IsChunk f t flawed x → StandsAs order self.old f y → StandsIn order self.new (put f t) }
     {
-        self.innermost = self.innermost.with(flawed);
+        self.innermost.add(flawed);
     }
 
     /// Opens a container at the offset `place`. What stands in the buffer from `start` on is the
@@ -264,6 +291,44 @@ impl<O: KeyOrder> Encoder<O> {
         Ok(EncodedItems { bytes, defect })
     }
 
+    /// Writes what stands before the content of a string.
+    #[inline(always)]
+    fn begin_string(
+        &mut self,
+        place: u64,
+        kind: StringKind,
+        width: Width,
+        len: u64,
+    ) -> Result<OpenString, AllocError>
+        ensures { Unit {0} }
+    {
+        let start = self.encodings.out.len();
+        self.encodings.push_string_front(kind, len)?;
+        let content = self.encodings.out.len();
+        Ok(OpenString {
+            place,
+            kind,
+            width,
+            len,
+            start,
+            content,
+        })
+    }
+
+    /// Counts a string whose content was written.
+    #[inline(always)]
+    fn end_string(&mut self, string: OpenString, is_good: bool) -> Result<(), AllocError>
+        ensures { Unit {0} }
+    {
+        let place = string.place;
+        keep(&mut self.flaw, text_flaw(place, is_good));
+        keep(
+            &mut self.defect,
+            head_defect(place, string.width, string.len),
+        );
+        self.encodings.put_string(string, is_good)
+    }
+
     /// Opens a container at the offset `place`, whose encoding begins with the head of this major type
     /// and this argument; where the argument isn't known, with a byte in its place.
     fn open(
@@ -339,17 +404,8 @@ impl<O: KeyOrder> Visitor for Encoder<O> {
         width: Width,
         len: u64,
     ) -> Result<(), AllocError> {
-        let start = self.encodings.out.len();
-        self.encodings.push_string_front(kind, len)?;
-        let content = self.encodings.out.len();
-        self.string = Some(OpenString {
-            place,
-            kind,
-            width,
-            len,
-            start,
-            content,
-        });
+        let string = self.begin_string(place, kind, width, len)?;
+        self.string = Some(string);
         Ok(())
     }
 
@@ -364,14 +420,42 @@ impl<O: KeyOrder> Visitor for Encoder<O> {
         let Some(string) = self.string.take() else {
             return Ok(());
         };
-        let place = string.place;
         let is_good = self.encodings.is_good(string);
-        keep(&mut self.flaw, text_flaw(place, is_good));
-        keep(
-            &mut self.defect,
-            head_defect(place, string.width, string.len),
-        );
-        self.encodings.put_string(string, is_good)
+        self.end_string(string, is_good)
+    }
+
+    #[inline(always)]
+    fn string(
+        &mut self,
+        place: u64,
+        kind: StringKind,
+        width: Width,
+        bytes: &[u8],
+    ) -> Result<(), AllocError> {
+        let string = self.begin_string(place, kind, width, bytes.len() as u64)?;
+        self.encodings.out.extend_from_slice(bytes)?;
+        let is_good = is_content(kind, bytes);
+        self.end_string(string, is_good)
+    }
+
+    #[inline(always)]
+    fn takes_runs() -> bool {
+        true
+    }
+
+    #[inline(always)]
+    fn integers(&mut self, _place: u64, count: u64, spelled: &[u8]) -> Result<bool, AllocError> {
+        self.encodings.put_items(count, spelled)?;
+        Ok(true)
+    }
+
+    #[inline(always)]
+    fn pair(&mut self, place: u64, pair: LeafPair) -> Result<bool, AllocError> {
+        if !is_text(pair.key_text) || !is_text(pair.value_text) {
+            return Ok(false);
+        }
+        self.encodings.put_pair(place, pair.key_len, pair.spelled)?;
+        Ok(true)
     }
 }
 
@@ -451,13 +535,21 @@ pub(crate) fn written_from(start: usize, out: &[u8]) -> &[u8]
 }
 
 /// Whether a string of this kind may hold these bytes: a text has to be UTF-8 (RFC 8949 section
-/// 3.1). Most texts are short and ASCII, which is quicker to see.
+/// 3.1).
 #[inline]
 fn is_content(kind: StringKind, bytes: &[u8]) -> bool
     ensures { IsTrue result ↔ IsContent kind bytes.now }
 {
     match kind {
         StringKind::OfBytes => true,
-        StringKind::OfText => bytes.is_ascii() || simdutf8::is_utf8(bytes),
+        StringKind::OfText => is_text(bytes),
     }
+}
+
+/// Whether bytes are UTF-8. Most texts are short and ASCII, which is quicker to see.
+#[inline(always)]
+fn is_text(bytes: &[u8]) -> bool
+    ensures { IsTrue result ↔ IsUtf8 bytes.now }
+{
+    bytes.is_ascii() || simdutf8::is_utf8(bytes)
 }

@@ -1,7 +1,7 @@
 //! What is open while items are encoded.
 
 ghost use Rattle.std.specs.Prelude.{◌≡◌, false};
-ghost use Rattle.cborn_judge.specs.devices.Encoding.{after, is_chunks};
+ghost use Rattle.cborn_judge.specs.devices.Encoding.{after, after_items, is_chunks};
 
 use cborn_model::{Size, StringKind, Width};
 
@@ -61,17 +61,22 @@ impl Level {
         }
     }
 
-    /// The container with one more whole node, which means nothing if it is `flawed`.
+    /// Counts one more whole node, which means nothing if it is `flawed`.
     #[inline(always)]
-    pub(crate) fn with(self, flawed: bool) -> Level
-        ensures { result ≡ after self flawed }
+    pub(crate) fn add(&mut self, flawed: bool)
+        ensures { self.new ≡ after self.old flawed }
     {
-        Level {
-            count: self.count.saturating_add(1),
-            has_key: !self.has_key,
-            flawed: self.flawed || flawed,
-            ..self
-        }
+        self.count = self.count.saturating_add(1);
+        self.has_key = !self.has_key;
+        self.flawed = self.flawed || flawed;
+    }
+
+    /// Counts so many more whole items of an array, each of which means something.
+    #[inline(always)]
+    pub(crate) fn add_items(&mut self, count: u64)
+        ensures { self.new ≡ after_items self.old count }
+    {
+        self.count = self.count.saturating_add(count);
     }
 
     /// Whether it is a string of indefinite length.

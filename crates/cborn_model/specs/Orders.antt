@@ -4,6 +4,8 @@ use Rattle.std.specs.declared.cmp.Ordering.{Ordering}
 use Rattle.std.specs.declared.cmp.Ordering.TheVariants.{Less, Equal}
 use Rattle.std.specs.Ordering.{nat_cmp, ordering_then, ordering_reverse}
 use Rattle.std.specs.Cmp.Lexicographic.{slice_cmp}
+use Rattle.cborn_model.specs.declared.orders.KnownOrder.{KnownOrder}
+use Rattle.cborn_model.specs.declared.orders.KnownOrder.TheVariants as known
 
 -- the laws of an order of keys
 pub record IsKeyOrder (order : List ℕ → List ℕ → Ordering) : Type 0 where
@@ -19,6 +21,10 @@ bytewise = slice_cmp nat_cmp
 -- the shorter first, and those of equal length bytewise
 abbrev pub length_first : List ℕ → List ℕ → Ordering
 length_first a b = ordering_then (nat_cmp (length a) (length b)) (bytewise a b)
+
+abbrev pub order_of : KnownOrder → List ℕ → List ℕ → Ordering
+order_of known.Bytewise = bytewise
+order_of known.LengthFirst = length_first
 
 -- each key is below the next
 abbrev pub Rising : (List ℕ → List ℕ → Ordering) → List (List ℕ) → Type 0

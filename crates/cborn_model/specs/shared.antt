@@ -1,3 +1,4 @@
 pub mod TreeCode
 pub mod OrderLaws
 pub mod Walks
+pub mod Runs

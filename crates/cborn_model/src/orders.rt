@@ -2,12 +2,21 @@
 //! without values: generic code is compiled for each. A caller may add one, with a proof of its
 //! laws.
 
-ghost use Rattle.std.specs.Prelude.{◌≡◌, ℕ, List};
+ghost use Rattle.std.specs.Prelude.{◌≡◌, ℕ, List, IfSome};
 ghost use Rattle.std.proofs.Common.{Ordering};
-ghost use Rattle.cborn_model.specs.Orders.{IsKeyOrder, bytewise, length_first};
+ghost use Rattle.cborn_model.specs.Orders.{IsKeyOrder, bytewise, length_first, order_of};
 ghost use Rattle.cborn_model.specs.shared.OrderLaws.{bytewise_order, length_first_order};
 
 use std::cmp::Ordering;
+
+/// The orders of map keys of RFC 8949.
+#[derive(Clone, Copy)]
+pub enum KnownOrder {
+    /// That of [`Bytewise`].
+    Bytewise,
+    /// That of [`LengthFirst`].
+    LengthFirst,
+}
 
 /// An order of map keys by their encodings.
 pub trait KeyOrder {
@@ -17,6 +26,15 @@ pub trait KeyOrder {
     /// How the encoding `a` compares with the encoding `b`. Takes no memory.
     fn compare(a: &[u8], b: &[u8]) -> Ordering
         ensures { result ≡ order a.now b.now };
+
+    /// Which order of RFC 8949 it is; `None` if it is neither, or that isn't told. Keys are sorted
+    /// quicker by an order that is known. Takes no memory.
+    #[inline(always)]
+    fn known() -> Option<KnownOrder>
+        ensures { IfSome result (λ known. order ≡ order_of known) }
+    {
+        None
+    }
 
     /// Only equal encodings tie; swapping the arguments reverses the answer; less than is
     /// transitive.
@@ -33,6 +51,11 @@ impl KeyOrder for Bytewise {
         a.cmp(b)
     }
 
+    #[inline(always)]
+    fn known() -> Option<KnownOrder> {
+        Some(KnownOrder::Bytewise)
+    }
+
     ghost laws = { bytewise_order };
 }
 
@@ -44,6 +67,11 @@ impl KeyOrder for LengthFirst {
 
     fn compare(a: &[u8], b: &[u8]) -> Ordering {
         a.len().cmp(&b.len()).then(a.cmp(b))
+    }
+
+    #[inline(always)]
+    fn known() -> Option<KnownOrder> {
+        Some(KnownOrder::LengthFirst)
     }
 
     ghost laws = { length_first_order };

@@ -1,11 +1,12 @@
 //! The [`Visitor`], which is handed data items head by head, whatever they are read from.
 
-ghost use Rattle.std.specs.Prelude.{◌≡◌, ◌++◌, ℕ, List, [], length, OnOk, OnErr, IsTrue};
+ghost use Rattle.std.specs.Prelude.{◌≡◌, ◌++◌, ℕ, List, [], length, true, false, OnOk, OnErr, IfOk, IsTrue};
 ghost use Rattle.cborn_model.specs.declared.heads.Width.{Width as Wide};
 ghost use Rattle.cborn_model.specs.declared.visitors.StringKind.{StringKind as Kind};
 ghost use Rattle.cborn_model.specs.Heads.{WidthFits, is_simple_value};
 ghost use Rattle.cborn_model.specs.Tree.{Tree, Simple};
 ghost use Rattle.cborn_model.specs.Partial.{Opening, an_array, a_map, a_tag, in_chunks, Partial, inside, Part, no_part, part, put, built, integer_tree, string_tree, Proper, TakesString, IsFree, Ends, CountFits};
+ghost use Rattle.cborn_model.specs.shared.Runs.{AreShortIntegers, IsShortPair, puts, InArray, AtKey};
 
 use crate::heads::{Size, Width};
 use std::alloc::AllocError;
@@ -17,6 +18,20 @@ pub enum StringKind {
     OfBytes,
     /// A text string, of major type 3.
     OfText,
+}
+
+/// A key and its value. Each is an integer, a simple value of one byte or a whole string, with the
+/// shortest head.
+#[derive(Clone, Copy)]
+pub struct LeafPair<'a> {
+    /// The bytes that they spell, one after another.
+    pub spelled: &'a [u8],
+    /// How many of these are the key's.
+    pub key_len: usize,
+    /// The content of the key, if it is a text; else nothing.
+    pub key_text: &'a [u8],
+    /// The content of the value, if it is a text; else nothing.
+    pub value_text: &'a [u8],
 }
 
 /// Takes data items head by head, in the order in which they are read (RFC 8949 section 3), and
@@ -102,4 +117,51 @@ pub trait Visitor {
     fn close_string(&mut self) -> Result<(), AllocError>
         ensures held { OnOk result ((f : Partial) (p : ℕ) (k : Kind) (w : Wide) (n : ℕ) (x : List ℕ) → Proper f → TakesString f k → length x ≡ n → holds self.old f (part p k w n x) → holds self.new (put f (string_tree p k w x)) no_part) }
         ensures memory { OnErr result takes_memory };
+
+    /// Takes a whole string.
+    #[inline(always)]
+    fn string(
+        &mut self,
+        place: u64,
+        kind: StringKind,
+        width: Width,
+        bytes: &[u8],
+    ) -> Result<(), AllocError>
+        requires { WidthFits width (length bytes.now) }
+        ensures held { OnOk result ((f : Partial) → Proper f → TakesString f kind → holds self.old f no_part → holds self.new (put f (string_tree place kind width bytes.now)) no_part) }
+        ensures memory { OnErr result takes_memory }
+    {
+        self.open_string(place, kind, width, bytes.len() as u64)?;
+        self.part(bytes)?;
+        self.close_string()
+    }
+
+    /// Whether a source had better ask for [`Visitor::integers`] and [`Visitor::pair`]. The answer
+    /// changes nothing but the time.
+    #[inline(always)]
+    fn takes_runs() -> bool {
+        false
+    }
+
+    /// May take the next `count` items of an array at once, which are integers. `spelled` has their
+    /// heads, each the shortest, of which the first is at `place`. Gives whether it took them.
+    #[inline(always)]
+    fn integers(&mut self, place: u64, count: u64, spelled: &[u8]) -> Result<bool, AllocError>
+        ensures taken { IfOk result (λ taken. taken ≡ true → (f : Partial) (ts : List Tree) → IsFree f → InArray f → AreShortIntegers place spelled.now ts → length ts ≡ count → holds self.old f no_part → holds self.new (puts f ts) no_part) }
+        ensures left { IfOk result (λ taken. taken ≡ false → self.new ≡ self.old) }
+        ensures memory { OnErr result takes_memory }
+    {
+        Ok(false)
+    }
+
+    /// May take the next key of a map and its value at once. The key is at `place`. Gives whether it
+    /// took them.
+    #[inline(always)]
+    fn pair(&mut self, place: u64, pair: LeafPair) -> Result<bool, AllocError>
+        ensures taken { IfOk result (λ taken. taken ≡ true → (f : Partial) (k v : Tree) → IsFree f → AtKey f → IsShortPair place pair.entry k v → holds self.old f no_part → holds self.new (put (put f k) v) no_part) }
+        ensures left { IfOk result (λ taken. taken ≡ false → self.new ≡ self.old) }
+        ensures memory { OnErr result takes_memory }
+    {
+        Ok(false)
+    }
 }

@@ -28,16 +28,10 @@ pub fn visit_node<V: Visitor>(visitor: &mut V, node: &Node) -> Result<(), AllocE
         Form::Uint(width, n) => visitor.integer(place, false, *width, *n),
         Form::Nint(width, n) => visitor.integer(place, true, *width, *n),
         Form::Bytes(width, bytes) => {
-            visit_string(
-                visitor,
-                place,
-                StringKind::OfBytes,
-                *width,
-                bytes.as_slice(),
-            )
+            visitor.string(place, StringKind::OfBytes, *width, bytes.as_slice())
         }
         Form::Text(width, bytes) => {
-            visit_string(visitor, place, StringKind::OfText, *width, bytes.as_slice())
+            visitor.string(place, StringKind::OfText, *width, bytes.as_slice())
         }
         Form::ByteChunks(chunks) => visit_chunks(visitor, place, StringKind::OfBytes, chunks),
         Form::TextChunks(chunks) => visit_chunks(visitor, place, StringKind::OfText, chunks),
@@ -105,28 +99,6 @@ fn count_of(size: Size, len: usize) -> Option<u64>
     }
 }
 
-/// Hands a string of definite length to a visitor. Its head has this width and is at this offset in
-/// bytes from the start of the input.
-///
-/// # Errors
-/// `AllocError` if memory is refused to the visitor, of which nothing is known then.
-#[inline(always)]
-pub fn visit_string<V: Visitor>(
-    visitor: &mut V,
-    place: u64,
-    kind: StringKind,
-    width: Width,
-    bytes: &[u8],
-) -> Result<(), AllocError>
-    requires { WidthFits width (length bytes.now) }
-    ensures held { OnOk result ((f : Partial) → Proper f → TakesString f kind → V.holds visitor.old f no_part → V.holds visitor.new (put f (string_tree place kind width bytes.now)) no_part) }
-    ensures memory { OnErr result V.takes_memory }
-{
-    visitor.open_string(place, kind, width, bytes.len() as u64)?;
-    visitor.part(bytes)?;
-    visitor.close_string()
-}
-
 /// Hands a string of indefinite length to a visitor.
 fn visit_chunks<V: Visitor>(
     visitor: &mut V,
@@ -140,13 +112,7 @@ fn visit_chunks<V: Visitor>(
 {
     visitor.open_chunks(place, kind)?;
     for chunk in chunks {
-        visit_string(
-            visitor,
-            chunk.place,
-            kind,
-            chunk.width,
-            chunk.bytes.as_slice(),
-        )?;
+        visitor.string(chunk.place, kind, chunk.width, chunk.bytes.as_slice())?;
     }
     visitor.close()
 }

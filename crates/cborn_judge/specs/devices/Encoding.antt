@@ -128,6 +128,10 @@ is_odd (t ∷ ts) = not (is_odd ts)
 abbrev pub after : Level → Bool → Level
 after l bad = record l { count = min (l.count + 1) (2 ^ 64 - 1); has_key = not l.has_key; flawed = l.flawed || bad }
 
+-- the level of an array with so many more
+abbrev pub after_items : Level → ℕ → Level
+after_items l n = record l { count = min (l.count + n) (2 ^ 64 - 1) }
+
 abbrev pub are_chunks : Container → Bool
 are_chunks (container.Chunks k) = true
 are_chunks _ = false

@@ -6,13 +6,13 @@ use Rattle.cborn_model.proofs.Listed.Fitting.{chunk_fits_at}
 use Rattle.cborn_model.proofs.HandedOver.{chunk_over, chunks_over, on_ok}
 use Rattle.cborn_model.proofs.walks.visit_chunks.Goals as goal
 
-pub visit_string-requires : goal.visit_string-requires
-visit_string-requires g c = rw c.as_slice.ensures.same (chunk_fits_at c.args.chunks.now c.loop-chunk.chunk-index c.chunk-item.result (omega arith) c.chunk-item.is c.requires).0
+pub string-requires : goal.string-requires
+string-requires g c = rw c.as_slice.ensures.same (chunk_fits_at c.args.chunks.now c.loop-chunk.chunk-index c.chunk-item.result (omega arith) c.chunk-item.is c.requires).0
 
 pub loop-chunk-preserved : goal.loop-chunk-preserved
 loop-chunk-preserved g c = λ f free old.
-    chunk_over (λ h. g.V.Visitor.holds c.loop-chunk.visitor h no_part) (λ h. g.V.Visitor.holds c.visit_string.new.visitor h no_part) c.args.kind c.args.chunks.now c.loop-chunk.chunk-index c.chunk-item.result (omega arith) c.chunk-item.is
-    (rw c.as_slice.ensures.same at c.in_ok-visit_string.ensures.held) f c.args.place free (c.loop-chunk.invariant f free old)
+    chunk_over (λ h. g.V.Visitor.holds c.loop-chunk.visitor h no_part) (λ h. g.V.Visitor.holds c.string.new.self h no_part) c.args.kind c.args.chunks.now c.loop-chunk.chunk-index c.chunk-item.result (omega arith) c.chunk-item.is
+    (rw c.as_slice.ensures.same at c.in_ok-string.ensures.held) f c.args.place free (c.loop-chunk.invariant f free old)
 
 pub returns-clause-held : goal.returns-clause-held
 returns-clause-held g c = on_ok c.close.result (λ close f free old.
