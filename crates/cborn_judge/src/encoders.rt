@@ -28,7 +28,8 @@ use crate::pairs::Pairs;
 use crate::spellings::head_defect;
 use cborn_det::{integer_major, put_head};
 use cborn_model::{
-    Defect, Fault, InvalidReason, KeyOrder, LeafPair, Major, Size, StringKind, Visitor, Width, earliest,
+    Defect, Fault, InvalidReason, KeyOrder, LeafPair, Major, Size, StringKind, Visitor, Width,
+    earliest,
 };
 use std::alloc::{AllocError, Global};
 use std::marker::PhantomData;

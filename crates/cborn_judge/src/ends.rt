@@ -84,7 +84,7 @@ impl Encodings {
     {
         let len = self.pairs.len().saturating_sub(level.pairs) as u64;
         let own = size_defect(level.place, ended_size(size, count, len), len);
-        let Findings { flaw, defect } = self.arrange::<O>(alloc, level)?;
+        let Findings { flaw, defect } = self.arrange::<O>(level)?;
         let head = Head {
             major: Major::Map,
             count,
@@ -99,7 +99,7 @@ impl Encodings {
     /// Arranges the pairs of a map so that their keys rise. Finds the first key that is the same as
     /// an earlier one, and the first that isn't above the one before it. If keys are the same, or a
     /// node means nothing, the pairs needn't be arranged.
-    fn arrange<O: KeyOrder>(&mut self, alloc: Global, level: Level) -> Result<Findings, AllocError>
+    fn arrange<O: KeyOrder>(&mut self, level: Level) -> Result<Findings, AllocError>
         ensures repeat { IfOk result (λ found. (y : List ℕ) (rows : List Row) → level.content ≡ length y → self.old.out.items ≡ y ++ joined (row_entries rows) → AreMarked level.content rows (drop level.pairs (marks_of self.old.pairs)) → FindsFlaw (RowRepeat rows) found.flaw) }
         ensures descent { IfOk result (λ found. (y : List ℕ) (rows : List Row) → level.content ≡ length y → self.old.out.items ≡ y ++ joined (row_entries rows) → AreMarked level.content rows (drop level.pairs (marks_of self.old.pairs)) → AreFilled rows → FindsDefect (RowDescent O.order rows) found.defect) }
         ensures arranged { IfOk result (λ found. found.flaw ≡ None → (y : List ℕ) (rows : List Row) → level.content ≡ length y → self.old.out.items ≡ y ++ joined (row_entries rows) → AreMarked level.content rows (drop level.pairs (marks_of self.old.pairs)) → AreFilled rows → (x : List ℕ) × AreArranged O.order rows x × (self.new.out.items ≡ y ++ x)) }
@@ -115,7 +115,7 @@ impl Encodings {
         }
         let flaw = self
             .pairs
-            .arrange::<O>(alloc, level.pairs, level.content, &mut self.out)?;
+            .arrange::<O>(level.pairs, level.content, &mut self.spare, &mut self.out)?;
         Ok(Findings { flaw, defect })
     }
 }

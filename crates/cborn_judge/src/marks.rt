@@ -11,8 +11,8 @@ ghost use Rattle.cborn_judge.specs.devices.Marks.{mark_of, narrow_of, between, k
 
 use crate::flaws::Flaw;
 use crate::spellings::order_defect;
-use cborn_model::{Defect, InvalidReason, KeyOrder, earliest};
-use std::alloc::{AllocError, Global};
+use cborn_model::{Defect, InvalidReason, KeyOrder, KnownOrder, earliest};
+use std::alloc::AllocError;
 use std::cmp::Ordering;
 
 /// Where a key and its value lie in a buffer.
@@ -26,15 +26,34 @@ pub(crate) struct Mark {
     pub(crate) middle: usize,
     /// Where the value ends.
     pub(crate) end: usize,
+    /// The hint for the key, once the pairs are looked at.
+    pub(crate) hint: u64,
 }
 
-/// A mark whose numbers fit 32 bits, in half the room.
+impl Mark {
+    /// A mark without a hint.
+    #[inline(always)]
+    pub(crate) fn new(place: u64, start: usize, middle: usize, end: usize) -> Mark
+        ensures { mark_of result ≡ (place, start, middle, end) }
+    {
+        Mark {
+            place,
+            start,
+            middle,
+            end,
+            hint: 0,
+        }
+    }
+}
+
+/// A mark whose numbers fit 32 bits, in less room.
 #[derive(Clone, Copy)]
 pub(crate) struct NarrowMark {
     place: u32,
     start: u32,
     middle: u32,
     end: u32,
+    hint: u64,
 }
 
 /// A mark, in whatever room it is kept.
@@ -45,6 +64,12 @@ pub(crate) trait Spot: Copy {
     /// The mark.
     fn mark(self) -> Mark
         ensures { mark_of result ≡ seen self };
+
+    /// The hint for the key.
+    fn hint(self) -> u64;
+
+    /// Keeps the hint for the key.
+    fn set_hint(&mut self, hint: u64);
 }
 
 impl Spot for Mark {
@@ -53,6 +78,16 @@ impl Spot for Mark {
     #[inline(always)]
     fn mark(self) -> Mark {
         self
+    }
+
+    #[inline(always)]
+    fn hint(self) -> u64 {
+        self.hint
+    }
+
+    #[inline(always)]
+    fn set_hint(&mut self, hint: u64) {
+        self.hint = hint;
     }
 }
 
@@ -66,7 +101,18 @@ impl Spot for NarrowMark {
             start: self.start as usize,
             middle: self.middle as usize,
             end: self.end as usize,
+            hint: self.hint,
         }
+    }
+
+    #[inline(always)]
+    fn hint(self) -> u64 {
+        self.hint
+    }
+
+    #[inline(always)]
+    fn set_hint(&mut self, hint: u64) {
+        self.hint = hint;
     }
 }
 
@@ -82,17 +128,40 @@ impl NarrowMark {
             start: u32::try_from(mark.start).ok()?,
             middle: u32::try_from(mark.middle).ok()?,
             end: u32::try_from(mark.end).ok()?,
+            hint: mark.hint,
         })
+    }
+
+    /// Sets where the value ends, if that fits, and gives whether it does.
+    #[inline(always)]
+    pub(crate) fn set_end(&mut self, end: usize) -> bool
+        ensures set { result ≡ true → (p s m e : ℕ) → narrow_of self.old ≡ (p, s, m, e) → narrow_of self.new ≡ (p, s, m, end) }
+        ensures kept { result ≡ false → self.new ≡ self.old }
+    {
+        match u32::try_from(end) {
+            Ok(end) => {
+                self.end = end;
+                true
+            }
+            Err(_) => false,
+        }
     }
 }
 
 /// The first defect of the order of the pairs that are marked from the index `from` on, and lie in
 /// `out`. A key without an encoding is passed over.
-pub(crate) fn descent<O: KeyOrder, S: Spot>(spots: &[S], from: usize, out: &[u8]) -> Option<Defect>
+pub(crate) fn descent<O: KeyOrder, S: Spot>(
+    spots: &mut Vec<S>,
+    from: usize,
+    out: &[u8],
+) -> Option<Defect>
     ensures rising { result ≡ None → (y : List ℕ) (rows : List Row) → out.now ≡ y ++ joined (row_entries rows) → AreMarked (length y) rows (drop from (map S.seen spots.now)) → Rising O.order (filled_keys rows) }
     ensures found { (y : List ℕ) (rows : List Row) → out.now ≡ y ++ joined (row_entries rows) → AreMarked (length y) rows (drop from (map S.seen spots.now)) → AreFilled rows → FindsDefect (RowDescent O.order rows) result }
 {
-    first_fall::<O, S>(from_index(spots, from), out)
+    if from > spots.len() {
+        return None;
+    }
+    first_fall::<O, S>(&mut spots[from..], out)
 }
 
 /// Arranges the pairs that are marked from the index `from` on, and lie in `out` from the offset
@@ -100,10 +169,10 @@ pub(crate) fn descent<O: KeyOrder, S: Spot>(spots: &[S], from: usize, out: &[u8]
 /// then, and where a key has no encoding, nothing is promised of their order. What the marks say of
 /// them means nothing after it.
 pub(crate) fn arrange<O: KeyOrder, S: Spot>(
-    alloc: Global,
     spots: &mut Vec<S>,
     from: usize,
     start: usize,
+    spare: &mut Vec<u8>,
     out: &mut Vec<u8>,
 ) -> Result<Option<Flaw>, AllocError>
     ensures repeat { IfOk result (λ flaw. (y : List ℕ) (rows : List Row) → start ≡ length y → out.old.items ≡ y ++ joined (row_entries rows) → AreMarked start rows (drop from (map S.seen spots.old.items)) → FindsFlaw (RowRepeat rows) flaw) }
@@ -114,14 +183,14 @@ pub(crate) fn arrange<O: KeyOrder, S: Spot>(
     if from > spots.len() {
         return Ok(None);
     }
-    arrange_all::<O, S>(alloc, &mut spots[from..], start, out)
+    arrange_all::<O, S>(&mut spots[from..], start, spare, out)
 }
 
 /// Arranges the pairs that lie in `out` from `start` on.
 fn arrange_all<O: KeyOrder, S: Spot>(
-    alloc: Global,
     spots: &mut [S],
     start: usize,
+    spare: &mut Vec<u8>,
     out: &mut Vec<u8>,
 ) -> Result<Option<Flaw>, AllocError>
     ensures repeat { IfOk result (λ flaw. (y : List ℕ) (rows : List Row) → start ≡ length y → out.old.items ≡ y ++ joined (row_entries rows) → AreMarked start rows (map S.seen spots.old) → FindsFlaw (RowRepeat rows) flaw) }
@@ -130,7 +199,7 @@ fn arrange_all<O: KeyOrder, S: Spot>(
 {
     let flaw = sort_apart::<O, S>(spots, out);
     if flaw.is_none() {
-        set(alloc, spots, start, out)?;
+        set(spots, start, spare, out)?;
     }
     Ok(flaw)
 }
@@ -146,16 +215,22 @@ fn sort_apart<O: KeyOrder, S: Spot>(spots: &mut [S], out: &[u8]) -> Option<Flaw>
 }
 
 /// The first key that isn't above the one before it, of those that have an encoding.
-fn first_fall<O: KeyOrder, S: Spot>(spots: &[S], out: &[u8]) -> Option<Defect>
+fn first_fall<O: KeyOrder, S: Spot>(spots: &mut [S], out: &[u8]) -> Option<Defect>
     ensures { FindsDefect (FallsIn O.order out.now (map S.seen spots.now)) result }
 {
     let mut first: Option<Defect> = None;
     let mut before: &[u8] = &[];
-    for spot in spots {
+    let mut last = 0;
+    for spot in spots.iter_mut() {
         let mark = spot.mark();
         let key = key_in(out, mark);
-        first = earliest(first, fall::<O>(mark.place, before, key));
+        let hint = hint(O::known(), key);
+        spot.set_hint(hint);
+        if hint <= last {
+            first = earliest(first, fall::<O>(mark.place, before, key));
+        }
         before = last_of(before, key);
+        last = hint;
     }
     first
 }
@@ -183,11 +258,24 @@ fn sort<O: KeyOrder, S: Spot>(spots: &mut [S], out: &[u8])
     ensures moved { IsPermutation spots.old spots.new }
     ensures sorted { AreSorted O.order out.now (map S.seen spots.new) }
 {
-    spots.sort_unstable_by(|a, b| compare::<O>(out, a.mark(), b.mark()));
+    spots.sort_unstable_by(|a, b| compare::<O, S>(out, *a, *b));
+}
+
+/// How two marks compare: by the hints for their keys, where these differ.
+#[inline(always)]
+fn compare<O: KeyOrder, S: Spot>(out: &[u8], a: S, b: S) -> Ordering {
+    if a.hint() < b.hint() {
+        return Ordering::Less;
+    }
+    if a.hint() > b.hint() {
+        return Ordering::Greater;
+    }
+    compare_keys::<O>(out, a.mark(), b.mark())
 }
 
 /// How two marks compare: by their keys, and at equal keys by where they lie.
-fn compare<O: KeyOrder>(out: &[u8], a: Mark, b: Mark) -> Ordering
+#[inline(never)]
+fn compare_keys<O: KeyOrder>(out: &[u8], a: Mark, b: Mark) -> Ordering
     ensures { result ≡ mark_order O.order out.now (mark_of a) (mark_of b) }
 {
     match O::compare(key_in(out, a), key_in(out, b)) {
@@ -201,14 +289,22 @@ fn first_tie<S: Spot>(spots: &[S], out: &[u8]) -> Option<Flaw>
     ensures { FindsFlaw (TiesIn out.now (map S.seen spots.now)) result }
 {
     let mut first: Option<Flaw> = None;
-    let mut before: &[u8] = &[];
+    let mut before: Option<S> = None;
     for spot in spots {
-        let mark = spot.mark();
-        let key = key_in(out, mark);
-        first = earliest(first, tie(mark.place, before, key));
-        before = key;
+        let here = *spot;
+        if let Some(last) = before {
+            if last.hint() == here.hint() {
+                first = earliest(first, tied(last.mark(), here.mark(), out));
+            }
+        }
+        before = Some(here);
     }
     first
+}
+
+/// The flaw of a key, if it is the same as the one before it.
+fn tied(before: Mark, mark: Mark, out: &[u8]) -> Option<Flaw> {
+    tie(mark.place, key_in(out, before), key_in(out, mark))
 }
 
 /// The flaw of `key` at the offset `place`, if it is the same as the one before it, and not empty.
@@ -225,35 +321,31 @@ fn tie(place: u64, before: &[u8], key: &[u8]) -> Option<Flaw>
     Some(Flaw { place, reason })
 }
 
-/// Writes the pairs that `out` has from `start` on in the order of the marks: they are copied, and
-/// the copy is written over them.
+/// Writes the pairs that `out` has from `start` on in the order of the marks: they are copied to
+/// `spare`, and the copy is written over them.
 fn set<S: Spot>(
-    alloc: Global,
     spots: &[S],
     start: usize,
+    spare: &mut Vec<u8>,
     out: &mut Vec<u8>,
 ) -> Result<(), AllocError>
     ensures { OnOk result (out.new.items ≡ take start out.old.items ++ flat_map (pair_of out.old.items) (map S.seen spots.now)) }
 {
-    let copy = copied(alloc, spots, out.len().saturating_sub(start), out)?;
+    spare.clear();
+    spare.reserve(out.len().saturating_sub(start))?;
+    copy_pairs(spots, out, spare)?;
     out.truncate(start);
-    out.extend_from_slice(&copy)
+    out.extend_from_slice(spare)
 }
 
-/// A copy of pairs one after another, which have `len` bytes.
-fn copied<S: Spot>(
-    alloc: Global,
-    spots: &[S],
-    len: usize,
-    out: &[u8],
-) -> Result<Vec<u8>, AllocError>
-    ensures { IfOk result (λ copy. copy.items ≡ flat_map (pair_of out.now) (map S.seen spots.now)) }
+/// Copies pairs one after another to the end of `copy`.
+fn copy_pairs<S: Spot>(spots: &[S], out: &[u8], copy: &mut Vec<u8>) -> Result<(), AllocError>
+    ensures { OnOk result (copy.new.items ≡ copy.old.items ++ flat_map (pair_of out.now) (map S.seen spots.now)) }
 {
-    let mut copy = Vec::with_capacity(alloc, len)?;
     for spot in spots {
         copy.extend_from_slice(pair_in(out, spot.mark()))?;
     }
-    Ok(copy)
+    Ok(())
 }
 
 /// The key that is marked. Empty if it lies outside.
@@ -287,4 +379,49 @@ fn from_index<T>(items: &[T], from: usize) -> &[T]
     ensures { result.now ≡ drop from items.now }
 {
     items.get(from..).unwrap_or(&[])
+}
+
+/// The hint for a key in an order: keys rise as these do, where these differ. It is 0 where the
+/// order isn't known.
+#[inline(always)]
+fn hint(known: Option<KnownOrder>, key: &[u8]) -> u64 {
+    match known {
+        Some(KnownOrder::Bytewise) => front_number(key),
+        Some(KnownOrder::LengthFirst) => length_number(key),
+        None => 0,
+    }
+}
+
+/// The length of a key, up to 255, as the first byte of a number, and its first seven bytes as the
+/// others.
+#[inline(always)]
+fn length_number(key: &[u8]) -> u64 {
+    if key.len() >= 255 {
+        return 255 << 56;
+    }
+    ((key.len() as u64) << 56) | (front_number(key) >> 8)
+}
+
+/// The big-endian number of the first eight bytes of a key, as if zeros followed it.
+#[inline(always)]
+fn front_number(key: &[u8]) -> u64 {
+    match key {
+        [a, b, c, d, e, f, g, h, ..] => u64::from_be_bytes([*a, *b, *c, *d, *e, *f, *g, *h]),
+        [a, b, c, d, rest @ ..] => {
+            (u64::from(u32::from_be_bytes([*a, *b, *c, *d])) << 32)
+                | (u64::from(short_number(rest)) << 8)
+        }
+        _ => u64::from(short_number(key)) << 40,
+    }
+}
+
+/// The big-endian number of the first three bytes, as if zeros followed them.
+#[inline(always)]
+fn short_number(bytes: &[u8]) -> u32 {
+    match bytes {
+        [a, b, c, ..] => u32::from_be_bytes([0, *a, *b, *c]),
+        [a, b] => u32::from_be_bytes([0, *a, *b, 0]),
+        [a] => u32::from_be_bytes([0, *a, 0, 0]),
+        [] => 0,
+    }
 }

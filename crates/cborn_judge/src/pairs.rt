@@ -52,13 +52,7 @@ impl Pairs {
     pub(crate) fn push(&mut self, place: u64, start: usize, end: usize) -> Result<(), AllocError>
         ensures { OnOk result (marks_of self.new ≡ marks_of self.old ++ (place, start, end, end) ∷ []) }
     {
-        let middle = end;
-        self.add(Mark {
-            place,
-            start,
-            middle,
-            end,
-        })
+        self.push_pair(place, start, end, end)
     }
 
     /// Marks where the value of the last key ends.
@@ -66,10 +60,39 @@ impl Pairs {
     pub(crate) fn set_end(&mut self, end: usize) -> Result<(), AllocError>
         ensures { OnOk result ((ms : List Marked) (p s m e : ℕ) → marks_of self.old ≡ ms ++ (p, s, m, e) ∷ [] → marks_of self.new ≡ ms ++ (p, s, m, end) ∷ []) }
     {
+        if let Marks::Narrow(narrow) = &mut self.marks {
+            if let Some(last) = narrow.last_mut() {
+                if last.set_end(end) {
+                    return Ok(());
+                }
+            }
+        }
+        self.set_wide_end(end)
+    }
+
+    /// Marks where the value of the last key ends, whatever it is.
+    #[inline(never)]
+    fn set_wide_end(&mut self, end: usize) -> Result<(), AllocError>
+        ensures { OnOk result ((ms : List Marked) (p s m e : ℕ) → marks_of self.old ≡ ms ++ (p, s, m, e) ∷ [] → marks_of self.new ≡ ms ++ (p, s, m, end) ∷ []) }
+    {
         if let Some(mark) = self.pop() {
             self.add(Mark { end, ..mark })?;
         }
         Ok(())
+    }
+
+    /// Marks a key and its value.
+    #[inline(always)]
+    pub(crate) fn push_pair(
+        &mut self,
+        place: u64,
+        start: usize,
+        middle: usize,
+        end: usize,
+    ) -> Result<(), AllocError>
+        ensures { OnOk result (marks_of self.new ≡ marks_of self.old ++ (place, start, middle, end) ∷ []) }
+    {
+        self.add(Mark::new(place, start, middle, end))
     }
 
     /// Drops all pairs but the first `len`.
@@ -88,11 +111,11 @@ impl Pairs {
 
     /// The first defect of the order of the pairs that are marked from the index `from` on, and lie
     /// in `out`. A key without an encoding is passed over.
-    pub(crate) fn descent<O: KeyOrder>(&self, from: usize, out: &[u8]) -> Option<Defect>
+    pub(crate) fn descent<O: KeyOrder>(&mut self, from: usize, out: &[u8]) -> Option<Defect>
         ensures rising { result ≡ None → (y : List ℕ) (rows : List Row) → out.now ≡ y ++ joined (row_entries rows) → AreMarked (length y) rows (drop from (marks_of self.now)) → Rising O.order (filled_keys rows) }
         ensures found { (y : List ℕ) (rows : List Row) → out.now ≡ y ++ joined (row_entries rows) → AreMarked (length y) rows (drop from (marks_of self.now)) → AreFilled rows → FindsDefect (RowDescent O.order rows) result }
     {
-        match &self.marks {
+        match &mut self.marks {
             Marks::Narrow(narrow) => descent::<O, NarrowMark>(narrow, from, out),
             Marks::Wide(wide) => descent::<O, Mark>(wide, from, out),
         }
@@ -104,9 +127,9 @@ impl Pairs {
     /// of them means nothing after it.
     pub(crate) fn arrange<O: KeyOrder>(
         &mut self,
-        alloc: Global,
         from: usize,
         start: usize,
+        spare: &mut Vec<u8>,
         out: &mut Vec<u8>,
     ) -> Result<Option<Flaw>, AllocError>
         ensures repeat { IfOk result (λ flaw. (y : List ℕ) (rows : List Row) → start ≡ length y → out.old.items ≡ y ++ joined (row_entries rows) → AreMarked start rows (drop from (marks_of self.old)) → FindsFlaw (RowRepeat rows) flaw) }
@@ -115,8 +138,8 @@ impl Pairs {
         ensures before { take from (marks_of self.new) ≡ take from (marks_of self.old) }
     {
         match &mut self.marks {
-            Marks::Narrow(narrow) => arrange::<O, NarrowMark>(alloc, narrow, from, start, out),
-            Marks::Wide(wide) => arrange::<O, Mark>(alloc, wide, from, start, out),
+            Marks::Narrow(narrow) => arrange::<O, NarrowMark>(narrow, from, start, spare, out),
+            Marks::Wide(wide) => arrange::<O, Mark>(wide, from, start, spare, out),
         }
     }
 
@@ -129,7 +152,7 @@ impl Pairs {
             return self.add_wide(mark);
         };
         match &mut self.marks {
-            Marks::Narrow(narrow) => narrow.push(small)?,
+            Marks::Narrow(narrow) => narrow.extend_from_slice(&[small])?,
             Marks::Wide(wide) => wide.push(mark)?,
         }
         Ok(())
