@@ -131,6 +131,7 @@ struct Head {
 
 /// Ends what stands in the buffer from `start` on: nothing of it is left if it is flawed, else it
 /// gets its head, unless that is there.
+#[inline(always)]
 fn end_head(
     alloc: Global,
     head: Head,
@@ -153,6 +154,7 @@ fn end_head(
 }
 
 /// Ends an array.
+#[inline(always)]
 fn end_array(
     alloc: Global,
     level: Level,

@@ -21,6 +21,7 @@ pub fn head_defect(place: u64, width: Width, n: u64) -> Option<Defect>
 }
 
 /// The defect of the head at `place` of an array or a map of `n` entries.
+#[inline(always)]
 pub(crate) fn size_defect(place: u64, size: Size, n: u64) -> Option<Defect>
     ensures { FindsDefect (SizeAt place size n) result }
 {
