@@ -233,6 +233,20 @@ uint32_t cborn_explain(uint32_t from, uint64_t depth,
                        uint32_t number, uint64_t place,
                        char *out, size_t out_len, cborn_told *told);
 
+/* Writes where two inputs differ to the start of out: the lines that the program adds
+ * with compare --explain, in UTF-8 and without a zero at their end; docs/FORMATS.md says
+ * what is in them. If both hold the same items, the lines say where their encodings
+ * first differ; if they are equal byte for byte, there are none. from_a, from_b and depth
+ * are those of cborn_compare; order is the order in which maps are gone through.
+ * Returns CBORN_OK; CBORN_TOO_SMALL, with told->length the length that is needed;
+ * CBORN_BAD_ARGUMENT; or, if an input is refused, what cborn_compare returns, with
+ * told->place the offset of the fault. At all but CBORN_OK, out is unchanged. */
+uint32_t cborn_explain_comparison(uint32_t from_a, uint32_t from_b, uint32_t order,
+                                  uint64_t depth,
+                                  const uint8_t *first, size_t first_len,
+                                  const uint8_t *second, size_t second_len,
+                                  char *out, size_t out_len, cborn_told *told);
+
 #ifdef __cplusplus
 }
 #endif

@@ -517,11 +517,6 @@ class Program(unittest.TestCase):
             os.close(ours)
             self.assertEqual((out, done.returncode), (shown, 0))
 
-    def test_help_says_what_compare_does_not_explain(self):
-        said = {command: " ".join(self.run_on(command, "--help")[0].decode().split()) for command in ("compare", "check")}
-        self.assertIn("where two inputs differ is explained by the program of the archive alone", said["compare"])
-        self.assertIn("after a refusal or a defect", said["check"])
-
     def test_ctrl_c_ends_it_at_once(self):
         for words in (("-m", "cborn"), ("-c", "import cborn.__main__; cborn.__main__.run()")):
             program = subprocess.Popen([sys.executable, *words, "normalise"], stdin=subprocess.PIPE, stdout=subprocess.PIPE, stderr=subprocess.PIPE)
@@ -557,11 +552,13 @@ class Program(unittest.TestCase):
             loose, refused, text = names
             told = b"cborn: second: offset 2: float left out\n" + OF_FLOAT.encode()
             self.assertEqual(self.run_on("compare", "--explain", loose, refused), (b"", told, 2))
-            # where two inputs differ the library doesn't tell; the second looks like a text
+            # the second looks like a text
             out, err, status = self.run_on("compare", "--explain", loose, text)
-            self.assertEqual((out, err[:35], err.count(b"\n"), status), (b"different at item 0\n", b"  hint  the second input is a text,", 1, 1))
-            as_notation = self.run_on("compare", "--explain", "--from-b", "notation", loose, text)
-            self.assertEqual(as_notation, (b"different at item 0\n", b"", 1))
+            self.assertEqual((out, status), (b"different at item 0\n", 1))
+            self.assertEqual(err.splitlines()[-1][:35], b"  hint  the second input is a text,")
+            out, err, status = self.run_on("compare", "--explain", "--from-b", "notation", loose, text)
+            self.assertEqual((out, err.splitlines()[0], status), (b"different at item 0\n", b"  path  item 0", 1))
+            self.assertEqual(self.run_on("compare", "--explain", loose, loose), (b"same\n", b"", 0))
 
     def test_a_long_input(self):
         zeros = bytes(3 << 20)

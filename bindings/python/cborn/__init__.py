@@ -40,8 +40,7 @@ Each call raises TypeError for an input that is no buffer, or a value that is no
 ValueError for a number that no member has, or a depth that is too small or too large.
 
 `python -m cborn` is the program, with its commands `normalise`, `show`, `check` and `compare`; the wheel installs it as
-`cborn`, too. With --explain it says where and why an input is refused or isn't deterministic. Where two inputs of `compare`
-differ is explained by the program of the archive alone.
+`cborn`, too. With --explain it says where and why an input is refused or isn't deterministic, and where two inputs differ.
 """
 
 from __future__ import annotations

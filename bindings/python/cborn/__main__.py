@@ -1,7 +1,7 @@
 """The program cborn, for whoever has the wheel alone: its commands, options, lines and statuses, over this library.
 
-The wheel installs it as `cborn`, too. With --explain it says what the program says, but not where two inputs of `compare`
-differ, which the library doesn't report. Only with --explain it says that an input looks like a text.
+The wheel installs it as `cborn`, too. With --explain it says what the program says. Only with --explain it says that an input
+looks like a text.
 """
 
 from __future__ import annotations
@@ -16,6 +16,8 @@ import sys
 import typing
 
 import cborn
+
+from . import _cborn
 
 DONE, DIFFERENT, REFUSED, USAGE, FAILED = range(5)
 MOST = 2**30
@@ -84,10 +86,7 @@ def depth_of(word: str) -> int:
 
 
 EXPLAINS = "say on standard error where in the input, and why, after a refusal or a defect"
-EXPLAINS_REFUSALS = (
-    "say on standard error where in the input, and why, after a refusal; where two inputs differ is explained by the "
-    "program of the archive alone"
-)
+EXPLAINS_COMPARED = "say on standard error where in the inputs, and why, after a refusal or an answer"
 
 
 def with_options(
@@ -123,7 +122,7 @@ def parser() -> Parser:
     normalise = commands.add_parser("normalise", help="write the deterministic encoding of the input's items", **how)
     with_options(normalise, ["from"], "wire", has_order=True)
     compare = commands.add_parser("compare", help="tell whether two inputs hold the same items", **how)
-    with_options(compare, ["from-a", "from-b"], None, has_order=True, explains=EXPLAINS_REFUSALS)
+    with_options(compare, ["from-a", "from-b"], None, has_order=True, explains=EXPLAINS_COMPARED)
     check = commands.add_parser("check", help="tell whether the input is in the deterministic encoding", **how)
     with_options(check, [], None, has_order=True)
     for command in (show, normalise, check):
@@ -273,8 +272,11 @@ def said_after(asked: argparse.Namespace, inputs: list[bytearray], defect: cborn
     """What is said after an answer."""
     if defect is not None:
         return explained(functools.partial(defect._lines, inputs[0], asked.depth))
-    names = ["the first input", "the second input"] if len(inputs) == 2 else ["the input"]
-    return explained(lambda: "".join(map(hint, inputs, kinds_of(asked), names)))
+    if asked.command != "compare":
+        return explained(lambda: hint(inputs[0], kinds_of(asked)[0], "the input"))
+    names = ["the first input", "the second input"]
+    lines = explained(lambda: _cborn.explain_comparison(*inputs, *kinds_of(asked), ORDERS[asked.order], asked.depth))
+    return lines + explained(lambda: "".join(map(hint, inputs, kinds_of(asked), names)))
 
 
 def main(words: typing.Sequence[str]) -> int:

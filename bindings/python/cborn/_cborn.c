@@ -530,6 +530,35 @@ static PyObject *explain(PyObject *module, PyObject *const *given, Py_ssize_t co
     return out;
 }
 
+static uint32_t explain_comparison_into(const options *how, const input *from, uint8_t *out, size_t room, cborn_told *told)
+{
+    return cborn_explain_comparison(how->from, how->to, how->order, how->depth, from[0].bytes, from[0].length, from[1].bytes,
+                                    from[1].length, (char *)out, room, told);
+}
+
+/* explain_comparison(first, second, source_a, source_b, order, depth) -> str */
+static const signature of_explain_comparison = {
+    "explain_comparison", 6, 6, {"first", "second", "source_a", "source_b", "order", "depth"}};
+
+static PyObject *explain_comparison(PyObject *module, PyObject *const *given, Py_ssize_t count, PyObject *keywords)
+{
+    PyObject *of[MOST_ARGUMENTS];
+    options how = usual;
+    input from[2];
+    if (!are_bound(&of_explain_comparison, given, count, keywords, of) || !is_kind(module, of[2], "source_a", &how.from) ||
+        !is_kind(module, of[3], "source_b", &how.to) || !is_order(module, of[4], &how.order) || !is_depth(of[5], &how.depth) ||
+        !is_lent(of[0], "first", &from[0]))
+        return NULL;
+    if (!is_lent(of[1], "second", &from[1])) {
+        give_back(&from[0]);
+        return NULL;
+    }
+    PyObject *out = answered(module, explain_comparison_into, &how, from, 1, SMALL);
+    give_back(&from[1]);
+    give_back(&from[0]);
+    return out;
+}
+
 /* The bytes of an item: of a memoryview of bytes a part of it, else a copy. */
 static PyObject *part_of(PyObject *data, const input *from, uint64_t start, uint64_t end)
 {
@@ -601,6 +630,7 @@ static PyMethodDef methods[] = {
     PUBLIC(normalise), PUBLIC(show), PUBLIC(spell), PUBLIC(check), PUBLIC(is_deterministic), PUBLIC(compare), PUBLIC(same),
     {"begin", begin, METH_VARARGS, NULL},
     {"explain", (PyCFunction)(void (*)(void))explain, METH_FASTCALL | METH_KEYWORDS, NULL},
+    {"explain_comparison", (PyCFunction)(void (*)(void))explain_comparison, METH_FASTCALL | METH_KEYWORDS, NULL},
     {"item_at", (PyCFunction)(void (*)(void))item_at, METH_FASTCALL | METH_KEYWORDS, NULL},
     {"words", words, METH_O, NULL},
     {"version", version, METH_NOARGS, NULL},

@@ -1,10 +1,10 @@
 //! What `--explain` adds to a refusal, a defect or a difference.
 
 use cborn_edn::{EdnFault, ShowFault};
-use cborn_engine::{Count, CountFault, EngineFault, Kind, normalise_slice, show_slice};
+use cborn_engine::{CountFault, EngineFault, Kind};
 use cborn_explain::{
-    BytesReason, Compared, CountReason, NotationText, TextReason, explain_bytes,
-    explain_difference, explain_same, explain_text, hint_of,
+    BytesReason, CountReason, NotationText, TextReason, explain_bytes, explain_comparison,
+    explain_text, hint_of,
 };
 use cborn_lex::{LexFault, Profile};
 use cborn_model::{Defect, Invalid, InvalidReason, KeyOrder, Limit};
@@ -55,19 +55,14 @@ pub fn explain_defect(
 ///
 /// # Errors
 /// `AllocError` where memory is refused, or was for the bytes of an input.
-pub fn explain_comparison<O: KeyOrder>(
+pub fn explain_compared<O: KeyOrder>(
     alloc: Global,
     limit: Limit,
     kinds: (Kind, Kind),
     inputs: (Bytes<'_>, Bytes<'_>),
     are_same: bool,
 ) -> Result<String, AllocError> {
-    match compared_lines::<O>(alloc, limit, kinds, (inputs.0?, inputs.1?), are_same) {
-        Ok(text) => Ok(text),
-        Err(CountFault::Engine(EngineFault::OutOfMemory)) => Err(AllocError),
-        // a compared input isn't refused
-        Err(_) => Ok(String::new(alloc)),
-    }
+    explain_comparison::<O>(alloc, limit, kinds, (inputs.0?, inputs.1?), are_same)
 }
 
 /// A line that says that an input looks like a text or hexadecimal, though it was read as bytes. Empty
@@ -146,48 +141,4 @@ fn of_text(kind: Kind, reason: TextReason, place: u64) -> Reason {
         _ => Profile::One,
     };
     Reason::Text(profile, reason, place)
-}
-
-/// What [`explain_comparison`] gives of two inputs.
-///
-/// # Errors
-/// `OutOfMemory`, and the fault of an input that is refused.
-fn compared_lines<O: KeyOrder>(
-    alloc: Global,
-    limit: Limit,
-    kinds: (Kind, Kind),
-    (first, second): (&[u8], &[u8]),
-    are_same: bool,
-) -> Result<String, CountFault> {
-    let our_bytes = show_slice(alloc, limit, Count::Any, kinds.0, Kind::Wire, first)?;
-    let their_bytes = show_slice(alloc, limit, Count::Any, kinds.1, Kind::Wire, second)?;
-    let ours = compared(kinds.0, first, &our_bytes);
-    let theirs = compared(kinds.1, second, &their_bytes);
-    if are_same {
-        return Ok(explain_same(alloc, limit, ours, theirs)?);
-    }
-    let first = normalise_slice::<O>(alloc, limit, Count::Any, kinds.0, Kind::Wire, first)?;
-    let second = normalise_slice::<O>(alloc, limit, Count::Any, kinds.1, Kind::Wire, second)?;
-    let inputs = (ours, theirs);
-    Ok(explain_difference::<O>(alloc, limit, inputs, &first, &second)?)
-}
-
-/// An input that is compared, with the bytes that it spells.
-fn compared<'a>(kind: Kind, input: &'a [u8], spelled: &'a [u8]) -> Compared<'a> {
-    let profile = match kind {
-        Kind::Wire => return Compared {
-            spelled,
-            text: None,
-        },
-        Kind::Notation => Profile::One,
-        Kind::Notation2 => Profile::Two,
-    };
-    let text = NotationText {
-        profile,
-        text: input,
-    };
-    Compared {
-        spelled,
-        text: Some(text),
-    }
 }

@@ -1,7 +1,7 @@
 //! What standard error gets besides the line of a trouble: explanations, where they are asked for, and
 //! the hint that an input looks like a text. A person at a terminal gets the hint without asking.
 
-use crate::explanations::{explain_comparison, explain_defect, explain_fault, explain_kind};
+use crate::explanations::{explain_compared, explain_defect, explain_fault, explain_kind};
 use crate::inputs::{Kept, Notes};
 use crate::lines::{Answer, Trouble, status_of_fault};
 use crate::names::FileName;
@@ -216,7 +216,7 @@ impl<'a> Remarks<'a> {
     ) {
         if let (Notes::Whole(first), Notes::Whole(second)) = notes {
             let inputs = (first.bytes(), second.bytes());
-            let lines = explain_comparison::<O>(self.alloc, self.limit, kinds, inputs, are_same);
+            let lines = explain_compared::<O>(self.alloc, self.limit, kinds, inputs, are_same);
             self.add(lines);
         }
     }

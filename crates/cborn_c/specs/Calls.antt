@@ -192,3 +192,20 @@ abbrev pub ExplainCall : Option Kind → ℕ → ℕ → List ℕ → List ℕ �
 ExplainCall (Some k) limit number before after untold told code =
     (IsDepth limit → IsExplained k number → ExplainsInto before after told code) × ((IsDepth limit → ⊥) → IsBad before after untold told code) × ((IsExplained k number → ⊥) → IsBad before after untold told code)
 ExplainCall None limit number before after untold told code = IsBad before after untold told code
+
+-- some text says where two inputs differ, which hold items; or one of them is refused
+abbrev pub ComparisonTold : Result Bool CompareCountFault → List ℕ → List ℕ → CbornTold → ℕ → Type 0
+ComparisonTold (Ok same) before after told code = ExplainsInto before after told code
+ComparisonTold (Err why) before after told code = CompareFaultTold why told.place code × (told.length ≡ 0) × (after ≡ before)
+
+pub record ComparisonInto (k l : Kind) (limit : ℕ) (x y before after : List ℕ) (told : CbornTold) (code : ℕ) : Type 0 where
+  pub answer : Result Bool CompareCountFault
+  pub matched : Matched counts.Any k l limit x y answer
+  pub told : ComparisonTold answer before after told code
+
+abbrev pub ComparisonCall : Option Kind → Option Kind → Option KeyOrdering → ℕ → List ℕ → List ℕ → List ℕ → List ℕ → CbornTold → CbornTold → ℕ → Type 0
+ComparisonCall (Some k) (Some l) (Some order) limit x y before after untold told code =
+    (IsDepth limit → ComparisonInto k l limit x y before after told code) × ((IsDepth limit → ⊥) → IsBad before after untold told code)
+ComparisonCall (Some k) (Some l) None limit x y before after untold told code = IsBad before after untold told code
+ComparisonCall (Some k) None order limit x y before after untold told code = IsBad before after untold told code
+ComparisonCall None l order limit x y before after untold told code = IsBad before after untold told code

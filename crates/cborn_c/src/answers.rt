@@ -105,7 +105,7 @@ pub fn same_told(answer: Result<bool, CompareCountFault>, place: &mut u64) -> u3
 }
 
 /// Reports why two inputs weren't compared. Answers the number for C.
-fn compare_fault_told(why: CompareCountFault, place: &mut u64) -> u32
+pub fn compare_fault_told(why: CompareCountFault, place: &mut u64) -> u32
     ensures { CompareFaultTold why place.new result }
 {
     match why {

@@ -6,16 +6,18 @@ ghost use Rattle.cborn_engine.specs.declared.kinds.Kind.TheVariants as kinds;
 ghost use Rattle.cborn_engine.specs.Counts.{CountAnswer, NormalisedWhole, CheckedWhole};
 ghost use Rattle.cborn_c.specs.Answers.{Matched};
 ghost use Rattle.cborn_c.specs.Numbers.{numbered_kind, numbered_order, order_of};
-ghost use Rattle.cborn_c.specs.Calls.{NormaliseCall, ShowCall, CheckCall, SameCall};
+ghost use Rattle.cborn_c.specs.Calls.{NormaliseCall, ShowCall, CheckCall, SameCall, ComparisonCall};
 
-use crate::answers::{CbornTold, defect_told, put, same_told};
+use crate::answers::{CbornTold, compare_fault_told, defect_told, put, same_told};
+use crate::explanations::put_text;
 use crate::numbers::{BAD_ARGUMENT, KeyOrdering, kind_at, order_at};
 use cborn_engine::{
     CompareCountFault, Count, CountFault, Kind, check_slice, normalise_slice, same_items,
     show_slice,
 };
+use cborn_explain::explain_comparison;
 use cborn_model::{Bytewise, Defect, LengthFirst, Limit};
-use std::alloc::Global;
+use std::alloc::{AllocError, Global};
 use std::borrow::CowSlice;
 
 /// What `cborn_normalise` and `cborn_normalise_one` answer.
@@ -136,6 +138,48 @@ pub fn same(
     same_told(answer, place)
 }
 
+/// What `cborn_explain_comparison` answers.
+///
+/// # Errors
+/// Those of this call.
+pub fn comparison(
+    alloc: Global,
+    from_a: u32,
+    from_b: u32,
+    order: u32,
+    depth: u64,
+    first: &[u8],
+    second: &[u8],
+    out: &mut [u8],
+    told: &mut CbornTold,
+) -> u32
+    ensures { ComparisonCall (numbered_kind from_a) (numbered_kind from_b) (numbered_order order) depth first.now second.now out.old out.new told.old told.new result }
+{
+    let Some(from_a) = kind_at(from_a) else {
+        return BAD_ARGUMENT;
+    };
+    let Some(from_b) = kind_at(from_b) else {
+        return BAD_ARGUMENT;
+    };
+    let Some(order) = order_at(order) else {
+        return BAD_ARGUMENT;
+    };
+    let Some(limit) = Limit::new(depth) else {
+        return BAD_ARGUMENT;
+    };
+    let kinds = (from_a, from_b);
+    match matched(alloc, limit, Count::Any, from_a, first, from_b, second) {
+        Ok(same) => {
+            let answer = compared_lines(alloc, limit, order, kinds, (first, second), same);
+            put_text(answer, out, told)
+        }
+        Err(why) => {
+            told.length = 0;
+            compare_fault_told(why, &mut told.place)
+        }
+    }
+}
+
 /// The canonical form of the items of the input, with the keys of maps in this order.
 ///
 /// # Errors
@@ -200,4 +244,26 @@ fn matched(
     ensures { Matched count from_a from_b limit first.now second.now result }
 {
     same_items::<Bytewise>(alloc, limit, count, from_a, first, from_b, second)
+}
+
+/// Lines that say where two inputs differ that were compared, with the keys of maps in this order.
+///
+/// # Errors
+/// `AllocError` where memory is refused.
+fn compared_lines(
+    alloc: Global,
+    limit: Limit,
+    order: KeyOrdering,
+    kinds: (Kind, Kind),
+    inputs: (&[u8], &[u8]),
+    same: bool,
+) -> Result<String, AllocError> {
+    match order {
+        KeyOrdering::Bytewise => {
+            explain_comparison::<Bytewise>(alloc, limit, kinds, inputs, same)
+        }
+        KeyOrdering::LengthFirst => {
+            explain_comparison::<LengthFirst>(alloc, limit, kinds, inputs, same)
+        }
+    }
 }

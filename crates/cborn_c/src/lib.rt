@@ -17,10 +17,10 @@ mod words;
 ghost use Rattle.std.specs.Prelude.{◌≡◌, ◌≢◌, ◌≤◌, ◌+◌, ◌/◌, length};
 ghost use Rattle.cborn_engine.specs.declared.counts.Count.TheVariants as counts;
 ghost use Rattle.cborn_c.specs.Numbers.{numbered_kind, numbered_order};
-ghost use Rattle.cborn_c.specs.Calls.{NormaliseCall, ShowCall, CheckCall, CompareCall, SameCall, ItemEndCall, WordsCall, ExplainCall};
+ghost use Rattle.cborn_c.specs.Calls.{NormaliseCall, ShowCall, CheckCall, CompareCall, SameCall, ItemEndCall, WordsCall, ExplainCall, ComparisonCall};
 
 use answers::{CbornTold, difference_told, end_told};
-use calls::{check, normalise, same, show};
+use calls::{check, comparison, normalise, same, show};
 use cborn_engine::{Count, compare_slices};
 use cborn_model::{Bytewise, Limit};
 use cborn_wire::item_end;
@@ -363,6 +363,36 @@ pub extern "C" fn cborn_explain(
         return BAD_ARGUMENT;
     };
     put_text(answer, out, told)
+}
+
+/// Writes where two inputs differ to the start of `out`, in UTF-8: the lines that the program adds with
+/// `compare --explain`. Where the inputs hold the same items, they say where their encodings first
+/// differ; of inputs that are equal byte by byte there are none. `from_a`, `from_b` and `depth` are
+/// those of `cborn_compare`, and maps are gone through in the order of keys that `order` numbers.
+/// `told` gets the length of the lines in bytes, and 0 as the offset. Answers `OK`.
+///
+/// # Errors
+/// `TOO_SMALL` where the lines are longer than `out`; their length is reported. `BAD_ARGUMENT` where
+/// `from_a`, `from_b` or `order` numbers nothing or `depth` is no limit; `told` is then unchanged. Those
+/// of `cborn_compare` where an input is refused or memory is: `told` gets the offset of the fault, and 0
+/// as the length. At each of these `out` is unchanged.
+#[unsafe(no_mangle)]
+pub extern "C" fn cborn_explain_comparison(
+    alloc: Global,
+    from_a: u32,
+    from_b: u32,
+    order: u32,
+    depth: u64,
+    first: &[u8],
+    second: &[u8],
+    out: &mut [u8],
+    told: &mut CbornTold,
+) -> u32
+    ensures { ComparisonCall (numbered_kind from_a) (numbered_kind from_b) (numbered_order order) depth first.now second.now out.old out.new told.old told.new result }
+{
+    comparison(
+        alloc, from_a, from_b, order, depth, first, second, out, told,
+    )
 }
 
 /// The version of the library as one number: the major version times 65,536, the minor one times 256,

@@ -8,9 +8,9 @@
 //!
 //! Another call refused the input, and reported an offset and a reason. The calls here are given
 //! these and the input, and walk over it up to the offset: [`explain_bytes`] from head to head,
-//! [`explain_text`] from token to token. [`explain_difference`] says where two inputs hold other
-//! items, and [`explain_same`] where they encode the same items differently. [`hint_of`] says whether
-//! bytes look like a text, and [`Look`] does so of bytes that come in pieces.
+//! [`explain_text`] from token to token. [`explain_comparison`] says where two inputs hold other
+//! items, or encode the same ones differently. [`hint_of`] says whether bytes look like a text, and
+//! [`Look`] does so of bytes that come in pieces.
 //!
 //! A path leads from item to part up to an offset ([`path_to`]), or to where two inputs differ
 //! ([`find_difference`]). `specs/Paths.antt` defines where over the nodes that the bytes spell, and
@@ -19,8 +19,8 @@
 //! written safely, that each call ends, and that equal bytes give none. No clause says which words
 //! they have. docs/FORMATS.md has their form.
 //!
-//! - `notes`: the lines of one input; start here. `differences`: those of two that hold other items.
-//! - `same_items`: those of two that hold the same. `compared_parts`: where parts of the two are.
+//! - `notes`: the lines of one input; start here. `comparisons`: those of two. `differences`: of two that
+//!   hold other items. `same_items`: of two that hold the same. `compared_parts`: where parts of the two are.
 //! - `paths`: paths, and that to an offset. `first_differences`: where two inputs differ.
 //! - `byte_walks`: a walk over bytes to an offset. `part_places`: where the keys are on its way.
 //! - `byte_heads`: heads with their strings, and where an item ends.
@@ -38,6 +38,7 @@ mod byte_causes;
 mod byte_heads;
 mod byte_walks;
 mod compared_parts;
+mod comparisons;
 mod differences;
 mod first_differences;
 mod hints;
@@ -55,13 +56,11 @@ mod text_keys;
 mod text_spots;
 mod text_walks;
 
-pub use compared_parts::Compared;
-pub use differences::explain_difference;
+pub use comparisons::explain_comparison;
 pub use first_differences::{Difference, find_difference};
 pub use hints::{Digits, Hint, Look, hint_of};
 pub use notes::{explain_bytes, explain_text};
 pub use paths::{Path, Step, path_to};
 pub use quotes::Escaped;
 pub use reasons::{BytesReason, CountReason, TextReason};
-pub use same_items::explain_same;
 pub use text_walks::NotationText;

@@ -1,0 +1,75 @@
+//! What is said of two inputs that were compared.
+
+use crate::compared_parts::Compared;
+use crate::differences::explain_difference;
+use crate::same_items::explain_same;
+use crate::text_walks::NotationText;
+use cborn_engine::{Count, CountFault, EngineFault, Kind, normalise_slice, show_slice};
+use cborn_lex::Profile;
+use cborn_model::{KeyOrder, Limit};
+use std::alloc::{AllocError, Global};
+
+/// Lines that say where two inputs differ, of these formats, with the keys of maps in the order `O`: in
+/// their items, or where they are the same, in how these are encoded. Each input holds items, and
+/// another call compared them under this limit. Nothing is said of inputs that don't.
+///
+/// # Errors
+/// `AllocError` where memory is refused.
+pub fn explain_comparison<O: KeyOrder>(
+    alloc: Global,
+    limit: Limit,
+    kinds: (Kind, Kind),
+    inputs: (&[u8], &[u8]),
+    are_same: bool,
+) -> Result<String, AllocError> {
+    match compared_lines::<O>(alloc, limit, kinds, inputs, are_same) {
+        Ok(text) => Ok(text),
+        Err(CountFault::Engine(EngineFault::OutOfMemory)) => Err(AllocError),
+        // a compared input isn't refused
+        Err(_) => Ok(String::new(alloc)),
+    }
+}
+
+/// What [`explain_comparison`] gives of two inputs.
+///
+/// # Errors
+/// `OutOfMemory`, and the fault of an input that is refused.
+fn compared_lines<O: KeyOrder>(
+    alloc: Global,
+    limit: Limit,
+    kinds: (Kind, Kind),
+    (first, second): (&[u8], &[u8]),
+    are_same: bool,
+) -> Result<String, CountFault> {
+    let our_bytes = show_slice(alloc, limit, Count::Any, kinds.0, Kind::Wire, first)?;
+    let their_bytes = show_slice(alloc, limit, Count::Any, kinds.1, Kind::Wire, second)?;
+    let ours = compared(kinds.0, first, &our_bytes);
+    let theirs = compared(kinds.1, second, &their_bytes);
+    if are_same {
+        return Ok(explain_same(alloc, limit, ours, theirs)?);
+    }
+    let first = normalise_slice::<O>(alloc, limit, Count::Any, kinds.0, Kind::Wire, first)?;
+    let second = normalise_slice::<O>(alloc, limit, Count::Any, kinds.1, Kind::Wire, second)?;
+    let inputs = (ours, theirs);
+    Ok(explain_difference::<O>(alloc, limit, inputs, &first, &second)?)
+}
+
+/// An input that is compared, with the bytes that it spells.
+fn compared<'a>(kind: Kind, input: &'a [u8], spelled: &'a [u8]) -> Compared<'a> {
+    let profile = match kind {
+        Kind::Wire => return Compared {
+            spelled,
+            text: None,
+        },
+        Kind::Notation => Profile::One,
+        Kind::Notation2 => Profile::Two,
+    };
+    let text = NotationText {
+        profile,
+        text: input,
+    };
+    Compared {
+        spelled,
+        text: Some(text),
+    }
+}
