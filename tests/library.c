@@ -403,6 +403,10 @@ static void test_arguments(void)
         cborn_explain(3, 128, array, 1, 0x108, 1, out, SHORT, &told),
         cborn_explain(CBORN_WIRE, 1025, array, 1, 0x108, 1, out, SHORT, &told),
         cborn_explain(CBORN_WIRE, 128, array, 1, 0x208, 1, out, SHORT, &told),
+        cborn_explain_comparison(3, CBORN_WIRE, CBORN_BYTEWISE, 128, array, 1, array, 1, out, SHORT, &told),
+        cborn_explain_comparison(CBORN_WIRE, 3, CBORN_BYTEWISE, 128, array, 1, array, 1, out, SHORT, &told),
+        cborn_explain_comparison(CBORN_WIRE, CBORN_WIRE, 2, 128, array, 1, array, 1, out, SHORT, &told),
+        cborn_explain_comparison(CBORN_WIRE, CBORN_WIRE, CBORN_BYTEWISE, 0, array, 1, array, 1, out, SHORT, &told),
         cborn_item_end(128, array, 1, 2, &told.place),
         cborn_item_end(128, array, 1, UINT64_MAX, &told.place),
         cborn_item_end(0, array, 1, 0, &told.place),
@@ -416,6 +420,24 @@ static void test_arguments(void)
         fail("a place beyond the end isn't explained as the end", NULL, (long)code);
 }
 
+/* Where two inputs differ is explained, nothing is said of equal bytes, and a refused input is told with its offset. */
+static void test_comparisons(void)
+{
+    static const uint8_t one[] = {0x81, 0x01}, two[] = {0x81, 0x02};
+    static const char *path = "  path  item 0 [0]\n";
+    char out[SHORT];
+    cborn_told told = {99, 99};
+    uint32_t code = cborn_explain_comparison(0, 0, 0, 128, one, 2, two, 2, out, SHORT, &told);
+    if (code != CBORN_OK || told.place != 0 || told.length < strlen(path) || memcmp(out, path, strlen(path)) != 0)
+        fail("another difference is explained", NULL, (long)code);
+    code = cborn_explain_comparison(0, 0, 0, 128, one, 2, one, 2, out, SHORT, &told);
+    if (code != CBORN_OK || told.length != 0)
+        fail("equal bytes are explained", NULL, (long)code);
+    code = cborn_explain_comparison(0, 0, 0, 128, one, 2, two, 1, out, SHORT, &told);
+    if (code != CBORN_OF_SECOND + 0x108 || told.place != 1 || told.length != 0)
+        fail("a refused input is compared", NULL, (long)code);
+}
+
 int main(void)
 {
     char line[3 * NAME_SIZE], first[NAME_SIZE], second[NAME_SIZE];
@@ -423,6 +445,7 @@ int main(void)
     if (cborn_version() != CBORN_VERSION)
         fail("library and header have different versions", NULL, (long)cborn_version());
     test_arguments();
+    test_comparisons();
     while (fgets(line, sizeof line, stdin)) {
         call asked;
         uint8_t *out;
