@@ -1,7 +1,7 @@
 //! Where the pairs of a map lie in a buffer, what is wrong with their order, and how they are
 //! arranged.
 
-ghost use Rattle.std.specs.Prelude.{◌≡◌, ◌<◌, ◌^◌, ◌++◌, ℕ, List, length, map, take, drop, flat_map, None, IfOk, IfSome, OnOk, IsPermutation};
+ghost use Rattle.std.specs.Prelude.{◌≡◌, ◌<◌, ◌^◌, ◌++◌, ℕ, List, length, map, take, drop, flat_map, true, false, None, IfOk, IfSome, OnOk, IsPermutation};
 ghost use Rattle.cborn_model.specs.Orders.{Rising};
 ghost use Rattle.cborn_det.specs.Det.{joined};
 ghost use Rattle.cborn_judge.specs.Departures.{FindsDefect};

@@ -36,7 +36,7 @@ front_tells (suc n) (a ∷ k) [] h i m = absurd (omega arith)
 front_tells (suc n) (a ∷ k) (b ∷ l) h i m =
     elim (cases_lt a b) [
       | inl less ↦ less_then a b (bytewise k l) less
-      | inr no ↦ elim (cases_lt b a) [
+      | inr least ↦ elim (cases_lt b a) [
         | inl more ↦ absurd (let q = higher b a (256 ^ n) (front_of n l) (front_of n k) more (front_below n l i.1) in omega (arith, q, m))
         | inr as_much ↦
         let same : a ≡ b = omega arith in
@@ -58,13 +58,13 @@ length_tells : Tells length_first length_hint
 length_tells k l h i m =
     elim (cases_lt (length k) (length l)) [
       | inl less ↦ less_then (length k) (length l) (bytewise k l) less
-      | inr no ↦ elim (cases_lt (length k) 255) [
+      | inr least ↦ elim (cases_lt (length k) 255) [
         | inr long ↦ absurd (let e = long_hint k (omega arith) in elim (cases_lt (length l) 255) [ inl s ↦ (let f = short_hint l s in let r = rest_below l i in omega (arith, e, f, r, m)) | inr s ↦ (let f = long_hint l (omega arith) in omega (arith, e, f, m)) ])
         | inl short ↦
         let e = short_hint k short in
         let f = short_hint l (omega arith) in
         let r = rest_below l i in
-        let same : length k ≡ length l = omega (arith, no, e, f, r, m) in
+        let same : length k ≡ length l = omega (arith, least, e, f, r, m) in
         same_then (length k) (length l) (bytewise k l) same ∙ front_tells 8 k l h i (omega (arith, e, f, same, m))
       ]
     ]

@@ -1,5 +1,5 @@
 -- Pairs that are sorted by their keys: what ties is a repeat, and where nothing does the keys rise.
-use Rattle.std.proofs.Common.{◌≡◌, ℕ, ◌+◌, ◌≤◌, inl, inr, List, [], ◌∷◌, ◌++◌, length, map, take, refl, sym, ap, ◌∙◌, subst, arith, take_at, Option, None, Ordering, Less, Equal, Greater, true, false, true≢false, is_lt, IsPermutation, get_or}
+use Rattle.std.proofs.Common.{◌≡◌, ℕ, ◌+◌, ◌≤◌, inl, inr, List, [], ◌∷◌, ◌++◌, length, map, take, drop, refl, sym, ap, ◌∙◌, subst, arith, take_at, Option, None, Ordering, Less, Equal, Greater, true, false, true≢false, is_lt, IsPermutation, get_or}
 use Rattle.std.specs.Prelude.{◌↔◌, flat_map}
 use Rattle.std.specs.Ordering.{ordering_then, ordering_reverse, nat_cmp}
 use Rattle.std.specs.List.{AllByRecursion}
@@ -7,7 +7,7 @@ use Rattle.std.specs.List.Sorted.{IsSortedBy}
 use Rattle.std.specs.Cmp.{IsTotalOrder, IsStrictWeakOrder, nat_cmp_is}
 use Rattle.std.proofs.lemmas.Bool.{cases_lt}
 use Rattle.std.proofs.lemmas.Cmp.{on_total, then_total, nat_cmp_total}
-use Rattle.std.proofs.lemmas.List.{get_or-map, length-map, take-map, length-take-le}
+use Rattle.std.proofs.lemmas.List.{map-append, take-append-drop, get_or-map, length-map, take-map, length-take-le}
 use Rattle.std.proofs.lemmas.List.Elements.{All-from_recursion}
 use Rattle.std.proofs.lemmas.List.Sorted.{IsPermutation-map, IsPermutation-refl, ranks_by}
 use Rattle.cborn_model.specs.Bytes.{AreBytes}
@@ -150,11 +150,11 @@ module _ (order : List ℕ → List ℕ → Ordering) (laws : IsKeyOrder order) 
         let l = key_of b (mark y) in
         elim (cases_lt (hinted x) (hinted y)) [
           | inl less ↦ absurd (true≢false (ap (λ o. is_lt (ordering_then o (mark_order order b (mark x) (mark y)))) (nat_cmp_is (hinted x) (hinted y) Less less) ∙ h))
-          | inr no ↦ elim (cases_lt (hinted y) (hinted x)) [
+          | inr least ↦ elim (cases_lt (hinted y) (hinted x)) [
             | inl more ↦
             let above : order k l ≡ Greater = laws.turned l k ∙ ap ordering_reverse (tells l k (bytes_between b (mark y).1 (mark y).2 bytes) (bytes_between b (mark x).1 (mark x).2 bytes) (omega (arith, e, f, more))) in
             ap (λ o. is_lt (ordering_then o (nat_cmp (mark x).1 (mark y).1))) above
-            | inr as_much ↦ ap (λ o. is_lt (ordering_then o (mark_order order b (mark x) (mark y)))) (nat_cmp_is (hinted x) (hinted y) Equal (omega (arith, no, as_much))) ∙ h
+            | inr as_much ↦ ap (λ o. is_lt (ordering_then o (mark_order order b (mark x) (mark y)))) (nat_cmp_is (hinted x) (hinted y) Equal (omega (arith, least, as_much))) ∙ h
           ]
         ]
 
@@ -168,3 +168,8 @@ module _ (order : List ℕ → List ℕ → Ordering) (laws : IsKeyOrder order) 
 pub front_kept : {S : Type 0} (mark : S → Mark) (from : ℕ) (old rest new : List S) → from ≤ length old → new ≡ take from old ++ rest → take from (map mark new) ≡ take from (map mark old)
 front_kept mark from old rest new l e =
     take-map mark from new ∙ ap (map mark) (ap (take from) e ∙ take_at (take from old) rest from (length-take-le from old l)) ∙ sym (take-map mark from old)
+
+pub all_kept : {S : Type 0} (mark : S → Mark) (from n : ℕ) (old part new : List S) → map mark part ≡ map mark (take n (drop from old)) → new ≡ take from old ++ (part ++ drop n (drop from old)) → map mark new ≡ map mark old
+all_kept mark from n old part new k e =
+    ap (map mark) e ∙ map-append mark (take from old) (part ++ drop n (drop from old)) ∙ ap (λ z. map mark (take from old) ++ z) (map-append mark part (drop n (drop from old)) ∙ ap (λ z. z ++ map mark (drop n (drop from old))) k ∙ sym (map-append mark (take n (drop from old)) (drop n (drop from old))) ∙ ap (map mark) (take-append-drop n (drop from old)))
+    ∙ sym (map-append mark (take from old) (drop from old)) ∙ ap (map mark) (take-append-drop from old)

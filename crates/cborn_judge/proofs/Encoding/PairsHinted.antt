@@ -77,6 +77,11 @@ module _ {S : Type 0} (seen : S → Mark) (hinted : S → ℕ) (b : List ℕ) wh
 
   -- ---- keys that tie
 
-  key_before : Option S → List ℕ
+  abbrev pub key_before : Option S → List ℕ
   key_before None = []
   key_before (Some s) = key_of b (seen s)
+
+  -- what a loop has done that remembers the last mark and the first tie of the first i
+  pub record TiesPassed (hint : List ℕ → ℕ) (ss : List S) (i : ℕ) (before : Option S) (first : Option Flaw) : Type 0 where
+    pub last : IfSome before (λ s. hinted s ≡ hint (key_of b (seen s)))
+    pub met : IsMet IsTie last_key flaw_rank (λ f. f.place) (λ f. f.reason) DuplicateKey (all_keyed b (map seen (take i ss))) (key_before before) first
