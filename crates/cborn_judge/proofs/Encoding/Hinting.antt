@@ -71,6 +71,6 @@ length_tells k l h i m =
 
 -- the hint by an order that is known, and 0 by others
 pub hint_tells : (order : List ℕ → List ℕ → Ordering) (known : Option KnownOrder) → IfSome known (λ k. order ≡ order_of k) → Tells order (hint_of known)
-hint_tells order None e k l h i m = absurd (omega arith)
+hint_tells order None e = λ k l h i m. absurd (omega arith)
 hint_tells order (Some known.Bytewise) e = subst (λ z. Tells z (front_of 8)) (sym e) (front_tells 8)
 hint_tells order (Some known.LengthFirst) e = subst (λ z. Tells z length_hint) (sym e) length_tells
