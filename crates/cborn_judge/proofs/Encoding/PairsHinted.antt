@@ -59,12 +59,12 @@ module _ {S : Type 0} (seen : S → Mark) (hinted : S → ℕ) (b : List ℕ) wh
     no_fall : Tells order hint → (before key : List ℕ) (place : ℕ) → AreBytes before → AreBytes key → hint before < hint key → FindsDefect (FallAt order before key place) None
     no_fall tells before key place h i l p r f = f.1.3 (tells before key h i l)
 
-    pub falls_passed : Tells order hint → (old now : List S) (i : ℕ) (s t : S) (m : Mark) (before key next : List ℕ) (last after : ℕ) (first found : Option Defect)
-        → i < length now → s ≡ get_or now i s → m ≡ seen s → key ≡ key_of b m → AreBytes key → seen t ≡ seen s → hinted t ≡ hint key
+    pub falls_passed : Tells order hint → (old now : List S) (i : ℕ) (d t : S) (m : Mark) (before key next : List ℕ) (last after : ℕ) (first found : Option Defect)
+        → i < length now → m ≡ seen (get_or now i d) → key ≡ key_of b m → AreBytes key → seen t ≡ seen (get_or now i d) → hinted t ≡ hint key
         → FallsPassed old now i before last first → Looks before key last m.0 first found → Remembers before key last next after
         → FallsPassed old (set now i t) (i + 1) next after found
-    falls_passed tells old now i s t m before key next last after first found l e q k bs u h p look r = record {
-      kept = map-set_same seen now i t s (u ∙ ap seen e) ∙ p.kept;
+    falls_passed tells old now i d t m before key next last after first found l q k bs u h p look r = record {
+      kept = map-set_same seen now i t d u ∙ p.kept;
       hints = subst (AreHintedBy hinted seen hint b) (sym more) (all_more (λ x. hinted x ≡ hint (key_of b (seen x))) (take i now) t p.hints (h ∙ ap hint (k ∙ ap (key_of b) (q ∙ sym u))));
       last_hint = rest.1;
       bytes = subst AreBytes (sym rest.0) (filled_bytes before key p.bytes bs);
