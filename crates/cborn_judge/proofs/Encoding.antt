@@ -14,3 +14,4 @@ pub mod PairsMet
 pub mod PairsArranged
 pub mod Hinting
 pub mod PairsHinted
+pub mod LastPair
