@@ -158,7 +158,7 @@ impl NarrowMark {
 }
 
 /// The first defect of the order of the pairs that are marked from the index `from` on, and lie in
-/// `out`. A key without an encoding is passed over.
+/// `out`. A key without an encoding is passed over. The marks get hints.
 pub(crate) fn descent<O: KeyOrder, S: Spot>(
     spots: &mut Vec<S>,
     from: usize,
@@ -175,10 +175,10 @@ pub(crate) fn descent<O: KeyOrder, S: Spot>(
     first_fall::<O, S>(&mut spots[from..], out)
 }
 
-/// Arranges the pairs that are marked from the index `from` on, and lie in `out` from the offset
-/// `start` on, so that their keys rise. Gives the first key that is the same as an earlier one;
-/// then, and where a key has no encoding, nothing is promised of their order. What the marks say of
-/// them means nothing after it.
+/// Arranges the pairs that are marked with hints from the index `from` on, and lie in `out` from
+/// the offset `start` on, so that their keys rise. Gives the first key that is the same as an
+/// earlier one; then, and where a key has no encoding, nothing is promised of their order. What the
+/// marks say of them means nothing after it.
 pub(crate) fn arrange<O: KeyOrder, S: Spot>(
     spots: &mut Vec<S>,
     from: usize,
@@ -228,7 +228,9 @@ fn sort_apart<O: KeyOrder, S: Spot>(spots: &mut [S], out: &[u8]) -> Option<Flaw>
     first_tie(spots, out)
 }
 
-/// The first key that isn't above the one before it, of those that have an encoding.
+/// The first key that isn't above the one before it, of those that have an encoding. Each mark gets
+/// the hint for its key. A key with a higher hint than the one before it is above that, so its bytes
+/// aren't looked at.
 fn first_fall<O: KeyOrder, S: Spot>(spots: &mut [S], out: &[u8]) -> Option<Defect>
     ensures found { FindsDefect (FallsIn O.order out.now (map S.seen spots.old)) result }
     ensures hinted { AreHinted S.hinted S.seen O.order out.now spots.new }
@@ -299,7 +301,7 @@ fn compare_keys<O: KeyOrder>(out: &[u8], a: Mark, b: Mark) -> Ordering
     }
 }
 
-/// The first key that is the same as the one before it.
+/// The first key that is the same as the one before it. Keys with other hints aren't the same.
 fn first_tie<S: Spot>(spots: &[S], out: &[u8]) -> Option<Flaw>
     requires { (hint : List ℕ → ℕ) × AreHintedBy S.hinted S.seen hint out.now spots.now }
     ensures { FindsFlaw (TiesIn out.now (map S.seen spots.now)) result }

@@ -123,10 +123,10 @@ impl Pairs {
         }
     }
 
-    /// Arranges the pairs that are marked from the index `from` on with hints, and lie in `out` from
-    /// the offset `start` on, so that their keys rise. Gives the first key that is the same as an earlier one;
-    /// then, and where a key has no encoding, nothing is promised of their order. What the marks say
-    /// of them means nothing after it.
+    /// Arranges the pairs that are marked with hints from the index `from` on, and lie in `out` from
+    /// the offset `start` on, so that their keys rise. Gives the first key that is the same as an
+    /// earlier one; then, and where a key has no encoding, nothing is promised of their order. What
+    /// the marks say of them means nothing after it.
     pub(crate) fn arrange<O: KeyOrder>(
         &mut self,
         from: usize,
