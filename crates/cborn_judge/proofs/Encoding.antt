@@ -12,3 +12,6 @@ pub mod Fronts
 pub mod PairsRead
 pub mod PairsMet
 pub mod PairsArranged
+pub mod Hinting
+pub mod PairsHinted
+pub mod LastPair

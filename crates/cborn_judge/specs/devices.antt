@@ -1,4 +1,5 @@
 pub mod Building
 pub mod Encoding
+pub mod Hints
 pub mod Marks
 pub mod Encoders

@@ -22,6 +22,7 @@ mod checks;
 mod encoders;
 mod ends;
 mod flaws;
+mod hints;
 mod judgments;
 pub mod laws;
 mod levels;

@@ -1,17 +1,18 @@
 //! Where the pairs of a map lie in a buffer, what is wrong with their order, and how they are
 //! arranged.
 
-ghost use Rattle.std.specs.Prelude.{◌≡◌, ◌<◌, ◌^◌, ◌++◌, ℕ, List, length, map, take, drop, flat_map, None, IfOk, IfSome, OnOk, IsPermutation};
+ghost use Rattle.std.specs.Prelude.{◌≡◌, ◌<◌, ◌^◌, ◌++◌, ℕ, List, length, map, take, drop, flat_map, true, false, None, IfOk, IfSome, OnOk, IsPermutation};
 ghost use Rattle.cborn_model.specs.Orders.{Rising};
 ghost use Rattle.cborn_det.specs.Det.{joined};
 ghost use Rattle.cborn_judge.specs.Departures.{FindsDefect};
 ghost use Rattle.cborn_judge.specs.shared.Judged.{FindsFlaw};
 ghost use Rattle.cborn_judge.specs.devices.Encoding.{Row, row_entries, Mark as Marked, AreMarked, AreFilled, AreArranged, filled_keys, RowRepeat, RowDescent};
-ghost use Rattle.cborn_judge.specs.devices.Marks.{mark_of, narrow_of, between, key_of, pair_of, mark_order, last_filled, FallAt, TieAt, FallsIn, TiesIn, AreSorted};
+ghost use Rattle.cborn_judge.specs.devices.Marks.{mark_of, narrow_of, mark_hint, narrow_hint, between, key_of, pair_of, AreHintedBy, AreHinted, mark_order, hint_order, FallAt, TieAt, FallsIn, TiesIn, AreSorted};
 
 use crate::flaws::Flaw;
+use crate::hints::hint;
 use crate::spellings::order_defect;
-use cborn_model::{Defect, InvalidReason, KeyOrder, KnownOrder, earliest};
+use cborn_model::{Defect, InvalidReason, KeyOrder, earliest};
 use std::alloc::AllocError;
 use std::cmp::Ordering;
 
@@ -65,15 +66,22 @@ pub(crate) trait Spot: Copy {
     fn mark(self) -> Mark
         ensures { mark_of result ≡ seen self };
 
+    /// The hint for the key that it keeps.
+    ghost hinted: { Self → ℕ };
+
     /// The hint for the key.
-    fn hint(self) -> u64;
+    fn hint(self) -> u64
+        ensures { result ≡ hinted self };
 
     /// Keeps the hint for the key.
-    fn set_hint(&mut self, hint: u64);
+    fn set_hint(&mut self, hint: u64)
+        ensures set { hinted self.new ≡ hint }
+        ensures kept { seen self.new ≡ seen self.old };
 }
 
 impl Spot for Mark {
     ghost seen = { mark_of };
+    ghost hinted = { mark_hint };
 
     #[inline(always)]
     fn mark(self) -> Mark {
@@ -93,6 +101,7 @@ impl Spot for Mark {
 
 impl Spot for NarrowMark {
     ghost seen = { narrow_of };
+    ghost hinted = { narrow_hint };
 
     #[inline(always)]
     fn mark(self) -> Mark {
@@ -149,14 +158,16 @@ impl NarrowMark {
 }
 
 /// The first defect of the order of the pairs that are marked from the index `from` on, and lie in
-/// `out`. A key without an encoding is passed over.
+/// `out`. A key without an encoding is passed over. The marks get hints.
 pub(crate) fn descent<O: KeyOrder, S: Spot>(
     spots: &mut Vec<S>,
     from: usize,
     out: &[u8],
 ) -> Option<Defect>
-    ensures rising { result ≡ None → (y : List ℕ) (rows : List Row) → out.now ≡ y ++ joined (row_entries rows) → AreMarked (length y) rows (drop from (map S.seen spots.now)) → Rising O.order (filled_keys rows) }
-    ensures found { (y : List ℕ) (rows : List Row) → out.now ≡ y ++ joined (row_entries rows) → AreMarked (length y) rows (drop from (map S.seen spots.now)) → AreFilled rows → FindsDefect (RowDescent O.order rows) result }
+    ensures rising { result ≡ None → (y : List ℕ) (rows : List Row) → out.now ≡ y ++ joined (row_entries rows) → AreMarked (length y) rows (drop from (map S.seen spots.old.items)) → Rising O.order (filled_keys rows) }
+    ensures found { (y : List ℕ) (rows : List Row) → out.now ≡ y ++ joined (row_entries rows) → AreMarked (length y) rows (drop from (map S.seen spots.old.items)) → AreFilled rows → FindsDefect (RowDescent O.order rows) result }
+    ensures hinted { AreHinted S.hinted S.seen O.order out.now (drop from spots.new.items) }
+    ensures kept { map S.seen spots.new.items ≡ map S.seen spots.old.items }
 {
     if from > spots.len() {
         return None;
@@ -164,10 +175,10 @@ pub(crate) fn descent<O: KeyOrder, S: Spot>(
     first_fall::<O, S>(&mut spots[from..], out)
 }
 
-/// Arranges the pairs that are marked from the index `from` on, and lie in `out` from the offset
-/// `start` on, so that their keys rise. Gives the first key that is the same as an earlier one;
-/// then, and where a key has no encoding, nothing is promised of their order. What the marks say of
-/// them means nothing after it.
+/// Arranges the pairs that are marked with hints from the index `from` on, and lie in `out` from
+/// the offset `start` on, so that their keys rise. Gives the first key that is the same as an
+/// earlier one; then, and where a key has no encoding, nothing is promised of their order. What the
+/// marks say of them means nothing after it.
 pub(crate) fn arrange<O: KeyOrder, S: Spot>(
     spots: &mut Vec<S>,
     from: usize,
@@ -175,6 +186,7 @@ pub(crate) fn arrange<O: KeyOrder, S: Spot>(
     spare: &mut Vec<u8>,
     out: &mut Vec<u8>,
 ) -> Result<Option<Flaw>, AllocError>
+    requires { AreHinted S.hinted S.seen O.order out.old.items (drop from spots.old.items) }
     ensures repeat { IfOk result (λ flaw. (y : List ℕ) (rows : List Row) → start ≡ length y → out.old.items ≡ y ++ joined (row_entries rows) → AreMarked start rows (drop from (map S.seen spots.old.items)) → FindsFlaw (RowRepeat rows) flaw) }
     ensures arranged { IfOk result (λ flaw. flaw ≡ None → (y : List ℕ) (rows : List Row) → start ≡ length y → out.old.items ≡ y ++ joined (row_entries rows) → AreMarked start rows (drop from (map S.seen spots.old.items)) → AreFilled rows → (x : List ℕ) × AreArranged O.order rows x × (out.new.items ≡ y ++ x)) }
     ensures front { OnOk result ((y z : List ℕ) → start ≡ length y → out.old.items ≡ y ++ z → (x : List ℕ) × (out.new.items ≡ y ++ x)) }
@@ -193,6 +205,7 @@ fn arrange_all<O: KeyOrder, S: Spot>(
     spare: &mut Vec<u8>,
     out: &mut Vec<u8>,
 ) -> Result<Option<Flaw>, AllocError>
+    requires { AreHinted S.hinted S.seen O.order out.old.items spots.old }
     ensures repeat { IfOk result (λ flaw. (y : List ℕ) (rows : List Row) → start ≡ length y → out.old.items ≡ y ++ joined (row_entries rows) → AreMarked start rows (map S.seen spots.old) → FindsFlaw (RowRepeat rows) flaw) }
     ensures arranged { IfOk result (λ flaw. flaw ≡ None → (y : List ℕ) (rows : List Row) → start ≡ length y → out.old.items ≡ y ++ joined (row_entries rows) → AreMarked start rows (map S.seen spots.old) → AreFilled rows → (x : List ℕ) × AreArranged O.order rows x × (out.new.items ≡ y ++ x)) }
     ensures front { OnOk result ((y z : List ℕ) → start ≡ length y → out.old.items ≡ y ++ z → (x : List ℕ) × (out.new.items ≡ y ++ x)) }
@@ -207,6 +220,7 @@ fn arrange_all<O: KeyOrder, S: Spot>(
 /// Sorts marks by their keys, and gives the first key that is the same as an earlier one. If none
 /// is, and each key has an encoding, the keys rise then.
 fn sort_apart<O: KeyOrder, S: Spot>(spots: &mut [S], out: &[u8]) -> Option<Flaw>
+    requires { AreHinted S.hinted S.seen O.order out.now spots.old }
     ensures repeat { (y : List ℕ) (rows : List Row) → out.now ≡ y ++ joined (row_entries rows) → AreMarked (length y) rows (map S.seen spots.old) → FindsFlaw (RowRepeat rows) result }
     ensures arranged { result ≡ None → (y : List ℕ) (rows : List Row) → out.now ≡ y ++ joined (row_entries rows) → AreMarked (length y) rows (map S.seen spots.old) → AreFilled rows → AreArranged O.order rows (flat_map (pair_of out.now) (map S.seen spots.new)) }
 {
@@ -214,23 +228,30 @@ fn sort_apart<O: KeyOrder, S: Spot>(spots: &mut [S], out: &[u8]) -> Option<Flaw>
     first_tie(spots, out)
 }
 
-/// The first key that isn't above the one before it, of those that have an encoding.
+/// The first key that isn't above the one before it, of those that have an encoding. Each mark gets
+/// the hint for its key. A key with a higher hint than the one before it is above that, so its bytes
+/// aren't looked at.
 fn first_fall<O: KeyOrder, S: Spot>(spots: &mut [S], out: &[u8]) -> Option<Defect>
-    ensures { FindsDefect (FallsIn O.order out.now (map S.seen spots.now)) result }
+    ensures found { FindsDefect (FallsIn O.order out.now (map S.seen spots.old)) result }
+    ensures hinted { AreHinted S.hinted S.seen O.order out.now spots.new }
+    ensures kept { map S.seen spots.new ≡ map S.seen spots.old }
 {
+    let known = O::known();
     let mut first: Option<Defect> = None;
     let mut before: &[u8] = &[];
-    let mut last = 0;
+    let mut last = hint(known, before);
     for spot in spots.iter_mut() {
         let mark = spot.mark();
         let key = key_in(out, mark);
-        let hint = hint(O::known(), key);
+        let hint = hint(known, key);
         spot.set_hint(hint);
         if hint <= last {
             first = earliest(first, fall::<O>(mark.place, before, key));
         }
-        before = last_of(before, key);
-        last = hint;
+        if !key.is_empty() {
+            before = key;
+            last = hint;
+        }
     }
     first
 }
@@ -246,15 +267,9 @@ fn fall<O: KeyOrder>(place: u64, before: &[u8], key: &[u8]) -> Option<Defect>
     order_defect::<O>(place, before, key)
 }
 
-/// The last of two keys that has an encoding.
-fn last_of<'a>(before: &'a [u8], key: &'a [u8]) -> &'a [u8]
-    ensures { result.now ≡ last_filled before.now key.now }
-{
-    if key.is_empty() { before } else { key }
-}
-
 /// Sorts marks by their keys, and those of equal keys by where they lie.
 fn sort<O: KeyOrder, S: Spot>(spots: &mut [S], out: &[u8])
+    requires { AreHinted S.hinted S.seen O.order out.now spots.old }
     ensures moved { IsPermutation spots.old spots.new }
     ensures sorted { AreSorted O.order out.now (map S.seen spots.new) }
 {
@@ -263,7 +278,9 @@ fn sort<O: KeyOrder, S: Spot>(spots: &mut [S], out: &[u8])
 
 /// How two marks compare: by the hints for their keys, where these differ.
 #[inline(always)]
-fn compare<O: KeyOrder, S: Spot>(out: &[u8], a: S, b: S) -> Ordering {
+fn compare<O: KeyOrder, S: Spot>(out: &[u8], a: S, b: S) -> Ordering
+    ensures { result ≡ hint_order O.order out.now (S.hinted a, S.seen a) (S.hinted b, S.seen b) }
+{
     if a.hint() < b.hint() {
         return Ordering::Less;
     }
@@ -284,8 +301,9 @@ fn compare_keys<O: KeyOrder>(out: &[u8], a: Mark, b: Mark) -> Ordering
     }
 }
 
-/// The first key that is the same as the one before it.
+/// The first key that is the same as the one before it. Keys with other hints aren't the same.
 fn first_tie<S: Spot>(spots: &[S], out: &[u8]) -> Option<Flaw>
+    requires { (hint : List ℕ → ℕ) × AreHintedBy S.hinted S.seen hint out.now spots.now }
     ensures { FindsFlaw (TiesIn out.now (map S.seen spots.now)) result }
 {
     let mut first: Option<Flaw> = None;
@@ -303,7 +321,9 @@ fn first_tie<S: Spot>(spots: &[S], out: &[u8]) -> Option<Flaw>
 }
 
 /// The flaw of a key, if it is the same as the one before it.
-fn tied(before: Mark, mark: Mark, out: &[u8]) -> Option<Flaw> {
+fn tied(before: Mark, mark: Mark, out: &[u8]) -> Option<Flaw>
+    ensures { FindsFlaw (TieAt (key_of out.now (mark_of before)) (key_of out.now (mark_of mark)) mark.place) result }
+{
     tie(mark.place, key_in(out, before), key_in(out, mark))
 }
 
@@ -379,49 +399,4 @@ fn from_index<T>(items: &[T], from: usize) -> &[T]
     ensures { result.now ≡ drop from items.now }
 {
     items.get(from..).unwrap_or(&[])
-}
-
-/// The hint for a key in an order: keys rise as these do, where these differ. It is 0 where the
-/// order isn't known.
-#[inline(always)]
-fn hint(known: Option<KnownOrder>, key: &[u8]) -> u64 {
-    match known {
-        Some(KnownOrder::Bytewise) => front_number(key),
-        Some(KnownOrder::LengthFirst) => length_number(key),
-        None => 0,
-    }
-}
-
-/// The length of a key, up to 255, as the first byte of a number, and its first seven bytes as the
-/// others.
-#[inline(always)]
-fn length_number(key: &[u8]) -> u64 {
-    if key.len() >= 255 {
-        return 255 << 56;
-    }
-    ((key.len() as u64) << 56) | (front_number(key) >> 8)
-}
-
-/// The big-endian number of the first eight bytes of a key, as if zeros followed it.
-#[inline(always)]
-fn front_number(key: &[u8]) -> u64 {
-    match key {
-        [a, b, c, d, e, f, g, h, ..] => u64::from_be_bytes([*a, *b, *c, *d, *e, *f, *g, *h]),
-        [a, b, c, d, rest @ ..] => {
-            (u64::from(u32::from_be_bytes([*a, *b, *c, *d])) << 32)
-                | (u64::from(short_number(rest)) << 8)
-        }
-        _ => u64::from(short_number(key)) << 40,
-    }
-}
-
-/// The big-endian number of the first three bytes, as if zeros followed them.
-#[inline(always)]
-fn short_number(bytes: &[u8]) -> u32 {
-    match bytes {
-        [a, b, c, ..] => u32::from_be_bytes([0, *a, *b, *c]),
-        [a, b] => u32::from_be_bytes([0, *a, *b, 0]),
-        [a] => u32::from_be_bytes([0, *a, 0, 0]),
-        [] => 0,
-    }
 }

@@ -6,7 +6,7 @@ ghost use Rattle.cborn_det.specs.Det.{joined};
 ghost use Rattle.cborn_judge.specs.Departures.{FindsDefect};
 ghost use Rattle.cborn_judge.specs.shared.Judged.{FindsFlaw};
 ghost use Rattle.cborn_judge.specs.devices.Encoding.{Row, row_entries, Mark as Marked, AreMarked, AreFilled, AreArranged, filled_keys, RowRepeat, RowDescent};
-ghost use Rattle.cborn_judge.specs.devices.Marks.{mark_of, narrow_of, marks_of};
+ghost use Rattle.cborn_judge.specs.devices.Marks.{mark_of, narrow_of, marks_of, AreAllHinted};
 
 use crate::flaws::Flaw;
 use crate::marks::{Mark, NarrowMark, Spot, arrange, descent};
@@ -110,10 +110,12 @@ impl Pairs {
     }
 
     /// The first defect of the order of the pairs that are marked from the index `from` on, and lie
-    /// in `out`. A key without an encoding is passed over.
+    /// in `out`. A key without an encoding is passed over. The marks get hints.
     pub(crate) fn descent<O: KeyOrder>(&mut self, from: usize, out: &[u8]) -> Option<Defect>
-        ensures rising { result ≡ None → (y : List ℕ) (rows : List Row) → out.now ≡ y ++ joined (row_entries rows) → AreMarked (length y) rows (drop from (marks_of self.now)) → Rising O.order (filled_keys rows) }
-        ensures found { (y : List ℕ) (rows : List Row) → out.now ≡ y ++ joined (row_entries rows) → AreMarked (length y) rows (drop from (marks_of self.now)) → AreFilled rows → FindsDefect (RowDescent O.order rows) result }
+        ensures rising { result ≡ None → (y : List ℕ) (rows : List Row) → out.now ≡ y ++ joined (row_entries rows) → AreMarked (length y) rows (drop from (marks_of self.old)) → Rising O.order (filled_keys rows) }
+        ensures found { (y : List ℕ) (rows : List Row) → out.now ≡ y ++ joined (row_entries rows) → AreMarked (length y) rows (drop from (marks_of self.old)) → AreFilled rows → FindsDefect (RowDescent O.order rows) result }
+        ensures hinted { AreAllHinted O.order out.now from self.new.marks }
+        ensures kept { marks_of self.new ≡ marks_of self.old }
     {
         match &mut self.marks {
             Marks::Narrow(narrow) => descent::<O, NarrowMark>(narrow, from, out),
@@ -121,10 +123,10 @@ impl Pairs {
         }
     }
 
-    /// Arranges the pairs that are marked from the index `from` on, and lie in `out` from the offset
-    /// `start` on, so that their keys rise. Gives the first key that is the same as an earlier one;
-    /// then, and where a key has no encoding, nothing is promised of their order. What the marks say
-    /// of them means nothing after it.
+    /// Arranges the pairs that are marked with hints from the index `from` on, and lie in `out` from
+    /// the offset `start` on, so that their keys rise. Gives the first key that is the same as an
+    /// earlier one; then, and where a key has no encoding, nothing is promised of their order. What
+    /// the marks say of them means nothing after it.
     pub(crate) fn arrange<O: KeyOrder>(
         &mut self,
         from: usize,
@@ -132,6 +134,7 @@ impl Pairs {
         spare: &mut Vec<u8>,
         out: &mut Vec<u8>,
     ) -> Result<Option<Flaw>, AllocError>
+        requires { AreAllHinted O.order out.old.items from self.old.marks }
         ensures repeat { IfOk result (λ flaw. (y : List ℕ) (rows : List Row) → start ≡ length y → out.old.items ≡ y ++ joined (row_entries rows) → AreMarked start rows (drop from (marks_of self.old)) → FindsFlaw (RowRepeat rows) flaw) }
         ensures arranged { IfOk result (λ flaw. flaw ≡ None → (y : List ℕ) (rows : List Row) → start ≡ length y → out.old.items ≡ y ++ joined (row_entries rows) → AreMarked start rows (drop from (marks_of self.old)) → AreFilled rows → (x : List ℕ) × AreArranged O.order rows x × (out.new.items ≡ y ++ x)) }
         ensures front { OnOk result ((y z : List ℕ) → start ≡ length y → out.old.items ≡ y ++ z → (x : List ℕ) × (out.new.items ≡ y ++ x)) }

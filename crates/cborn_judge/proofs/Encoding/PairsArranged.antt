@@ -1,13 +1,16 @@
 -- Pairs that are sorted by their keys: what ties is a repeat, and where nothing does the keys rise.
-use Rattle.std.proofs.Common.{◌≡◌, ℕ, ◌+◌, ◌≤◌, inl, inr, List, [], ◌∷◌, ◌++◌, length, map, take, refl, sym, ap, ◌∙◌, subst, arith, take_at, Option, None, Ordering, Less, Equal, Greater, true, false, is_lt, IsPermutation, get_or}
+use Rattle.std.proofs.Common.{◌≡◌, ℕ, ◌+◌, ◌≤◌, inl, inr, List, [], ◌∷◌, ◌++◌, length, map, take, drop, refl, sym, ap, ◌∙◌, subst, arith, take_at, Option, None, Ordering, Less, Equal, Greater, true, false, true≢false, is_lt, IsPermutation, get_or}
 use Rattle.std.specs.Prelude.{◌↔◌, flat_map}
-use Rattle.std.specs.Ordering.{ordering_then, nat_cmp}
+use Rattle.std.specs.Ordering.{ordering_then, ordering_reverse, nat_cmp}
 use Rattle.std.specs.List.{AllByRecursion}
 use Rattle.std.specs.List.Sorted.{IsSortedBy}
-use Rattle.std.specs.Cmp.{IsTotalOrder, IsStrictWeakOrder}
+use Rattle.std.specs.Cmp.{IsTotalOrder, IsStrictWeakOrder, nat_cmp_is}
+use Rattle.std.proofs.lemmas.Bool.{cases_lt}
 use Rattle.std.proofs.lemmas.Cmp.{on_total, then_total, nat_cmp_total}
-use Rattle.std.proofs.lemmas.List.{get_or-map, length-map, take-map, length-take-le}
+use Rattle.std.proofs.lemmas.List.{map-append, take-append-drop, get_or-map, length-map, take-map, length-take-le}
+use Rattle.std.proofs.lemmas.List.Elements.{All-from_recursion}
 use Rattle.std.proofs.lemmas.List.Sorted.{IsPermutation-map, IsPermutation-refl, ranks_by}
+use Rattle.cborn_model.specs.Bytes.{AreBytes}
 use Rattle.cborn_model.specs.Orders.{Rising, IsKeyOrder}
 use Rattle.cborn_model.specs.Reasons.{flaw_rank}
 use Rattle.cborn_model.specs.declared.faults.InvalidReason.{InvalidReason}
@@ -19,11 +22,12 @@ use Rattle.cborn_det.specs.shared.Distinct.{HasDistinctKeys}
 use Rattle.cborn_det.proofs.Arranging.{total, rising_from_sorted}
 use Rattle.cborn_judge.specs.declared.flaws.Flaw as flaw
 use Rattle.cborn_judge.specs.shared.Judged.{FindsFlaw}
+use Rattle.cborn_judge.specs.devices.Hints.{Tells}
 use Rattle.cborn_judge.specs.devices.Encoding.{Row, row_entry, row_entries, Mark, AreMarked, AreFilled, AreArranged, IsSameKey, HasSameKeys, RowRepeat}
-use Rattle.cborn_judge.specs.devices.Marks.{key_of, pair_of, row_of, TiesIn, mark_order, AreSorted}
+use Rattle.cborn_judge.specs.devices.Marks.{key_of, pair_of, row_of, AreHintedBy, TiesIn, mark_order, hint_order, AreSorted}
 use Rattle.cborn_judge.specs.shared.Repeats.{IsAgain, IsTied}
 use Rattle.cborn_judge.proofs.SameKeys.Repeating.{LieBefore, again_tied, sorted_in_order}
-use Rattle.cborn_judge.proofs.Encoding.PairsRead.{is_filled, begin_of, marked_read, marked_rise, IsSplit, marked_split, all_split}
+use Rattle.cborn_judge.proofs.Encoding.PairsRead.{is_filled, begin_of, bytes_between, marked_read, marked_rise, IsSplit, marked_split, all_split}
 use Rattle.cborn_judge.proofs.Encoding.PairsMet.{ties_all, same_again}
 
 -- ---- no repeats
@@ -120,14 +124,17 @@ none_arranged order rows p b y a e = subst (λ z. (x : List ℕ) × AreArranged 
 
 -- ---- what the sort says
 
-module _ (order : List ℕ → List ℕ → Ordering) (laws : IsKeyOrder order) (b : List ℕ) {S : Type 0} (mark : S → Mark) where
+module _ (order : List ℕ → List ℕ → Ordering) (laws : IsKeyOrder order) (b : List ℕ) {S : Type 0} (hinted : S → ℕ) (mark : S → Mark) where
   mark_total : IsTotalOrder (mark_order order b)
   mark_total = then_total (on_total (key_of b) (total order laws)) (on_total begin_of nat_cmp_total)
 
-  pub mark_ranks : IsStrictWeakOrder (λ x y. is_lt (mark_order order b (mark x) (mark y)))
-  mark_ranks = ranks_by mark_total mark
+  hint_total : IsTotalOrder (hint_order order b)
+  hint_total = then_total (on_total (λ (x : ℕ × Mark). x.0) nat_cmp_total) (on_total (λ (x : ℕ × Mark). x.1) mark_total)
 
-  pub marks_sorted : (ss : List S) → IsSortedBy (λ x y. is_lt (mark_order order b (mark x) (mark y))) ss → AreSorted order b (map mark ss)
+  pub hint_ranks : IsStrictWeakOrder (λ x y. is_lt (hint_order order b (hinted x, mark x) (hinted y, mark y)))
+  hint_ranks = ranks_by hint_total (λ s. (hinted s, mark s))
+
+  marks_sorted : (ss : List S) → IsSortedBy (λ x y. is_lt (mark_order order b (mark x) (mark y))) ss → AreSorted order b (map mark ss)
   marks_sorted [] h k d l m = absurd (omega arith)
   marks_sorted (s ∷ ss) h k d l m =
       let long : length (map mark (s ∷ ss)) ≡ length (s ∷ ss) = length-map (s ∷ ss) mark in
@@ -135,8 +142,34 @@ module _ (order : List ℕ → List ℕ → Ordering) (laws : IsKeyOrder order) 
       let here : get_or (map mark (s ∷ ss)) k d ≡ mark (get_or (s ∷ ss) k s) = get_or-map mark (s ∷ ss) k s d (omega (arith, long, m)) in
       (λ i. is_lt (mark_order order b (next i) (here i))) ∙ h k s l (omega (arith, long, m))
 
+  module _ (hint : List ℕ → ℕ) (tells : Tells order hint) (bytes : AreBytes b) where
+    -- what isn't below another by its hint isn't by its key
+    not_below : (x y : S) → hinted x ≡ hint (key_of b (mark x)) → hinted y ≡ hint (key_of b (mark y)) → is_lt (hint_order order b (hinted x, mark x) (hinted y, mark y)) ≡ false → is_lt (mark_order order b (mark x) (mark y)) ≡ false
+    not_below x y e f h =
+        let k = key_of b (mark x) in
+        let l = key_of b (mark y) in
+        elim (cases_lt (hinted x) (hinted y)) [
+          | inl less ↦ absurd (true≢false (ap (λ o. is_lt (ordering_then o (mark_order order b (mark x) (mark y)))) (nat_cmp_is (hinted x) (hinted y) Less less) ∙ h))
+          | inr least ↦ elim (cases_lt (hinted y) (hinted x)) [
+            | inl more ↦
+            let above : order k l ≡ Greater = laws.turned l k ∙ ap ordering_reverse (tells l k (bytes_between b (mark y).1 (mark y).2 bytes) (bytes_between b (mark x).1 (mark x).2 bytes) (omega (arith, e, f, more))) in
+            ap (λ o. is_lt (ordering_then o (nat_cmp (mark x).1 (mark y).1))) above
+            | inr as_much ↦ ap (λ o. is_lt (ordering_then o (mark_order order b (mark x) (mark y)))) (nat_cmp_is (hinted x) (hinted y) Equal (omega (arith, least, as_much))) ∙ h
+          ]
+        ]
+
+    pub hints_sorted : (ss : List S) → AreHintedBy hinted mark hint b ss → IsSortedBy (λ x y. is_lt (hint_order order b (hinted x, mark x) (hinted y, mark y))) ss → AreSorted order b (map mark ss)
+    hints_sorted ss a h =
+        let all = All-from_recursion (λ s. hinted s ≡ hint (key_of b (mark s))) ss a in
+        marks_sorted ss (λ k d l m. not_below (get_or ss (k + 1) d) (get_or ss k d) (all (k + 1) d m) (all k d (omega (arith, m))) (h k d l m))
+
 -- ---- marks before them
 
 pub front_kept : {S : Type 0} (mark : S → Mark) (from : ℕ) (old rest new : List S) → from ≤ length old → new ≡ take from old ++ rest → take from (map mark new) ≡ take from (map mark old)
 front_kept mark from old rest new l e =
     take-map mark from new ∙ ap (map mark) (ap (take from) e ∙ take_at (take from old) rest from (length-take-le from old l)) ∙ sym (take-map mark from old)
+
+pub all_kept : {S : Type 0} (mark : S → Mark) (from n : ℕ) (old part new : List S) → map mark part ≡ map mark (take n (drop from old)) → new ≡ take from old ++ (part ++ drop n (drop from old)) → map mark new ≡ map mark old
+all_kept mark from n old part new k e =
+    ap (map mark) e ∙ map-append mark (take from old) (part ++ drop n (drop from old)) ∙ ap (λ z. map mark (take from old) ++ z) (map-append mark part (drop n (drop from old)) ∙ ap (λ z. z ++ map mark (drop n (drop from old))) k ∙ sym (map-append mark (take n (drop from old)) (drop n (drop from old))) ∙ ap (map mark) (take-append-drop n (drop from old)))
+    ∙ sym (map-append mark (take from old) (drop from old)) ∙ ap (map mark) (take-append-drop from old)

@@ -4,7 +4,9 @@ use Rattle.std.specs.Prelude.{◌==◌, flat_map}
 use Rattle.std.specs.List.{AllByRecursion}
 use Rattle.std.proofs.lemmas.Bool.{eqb-true}
 use Rattle.std.proofs.Math.Seq.{take-add}
-use Rattle.std.proofs.lemmas.List.{drop-drop}
+use Rattle.std.proofs.lemmas.List.{drop-drop, take-append-drop}
+use Rattle.cborn_model.specs.Bytes.{AreBytes}
+use Rattle.cborn_model.proofs.Bytes.{bytes-left, bytes-right}
 use Rattle.cborn_det.specs.Det.{joined}
 use Rattle.cborn_judge.specs.devices.Encoding.{Row, row_entries, Mark, AreMarked}
 use Rattle.cborn_judge.specs.devices.Marks.{between, key_of, pair_of, row_of}
@@ -97,3 +99,8 @@ all_split b (m ∷ ms) h = let rest = all_split b ms h.1 in λ i. h.0 i ++ rest 
 pub empty : (k : List ℕ) → length k == 0 ≡ true → k ≡ []
 empty [] e = refl
 empty (b ∷ bs) e = absurd (let f : length (b ∷ bs) ≡ 0 = eqb-true (length (b ∷ bs)) 0 e in omega arith)
+
+pub bytes_between : (b : List ℕ) (s e : ℕ) → AreBytes b → AreBytes (between s e b)
+bytes_between b s e h =
+    let after : AreBytes (drop s b) = bytes-right (take s b) (drop s b) (subst AreBytes (sym (take-append-drop s b)) h) in
+    bytes-left (take (e - s) (drop s b)) (drop (e - s) (drop s b)) (subst AreBytes (sym (take-append-drop (e - s) (drop s b))) after)

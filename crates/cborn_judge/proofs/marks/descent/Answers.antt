@@ -1,29 +1,50 @@
-use Rattle.std.proofs.Common.{◌≡◌, length, drop, map, None, refl, sym, ap, ◌∙◌, subst}
-use Rattle.std.proofs.lemmas.List.{drop-map}
+use Rattle.std.proofs.Common.{rules, ◌≡◌, ◌++◌, ◌-◌, List, ℕ, [], length, take, drop, map, None, refl, sym, ap, ◌∙◌, subst, arith}
+use Rattle.std.proofs.lemmas.List.{drop-map, drop_all, take_rest, with_items_is, places, length-map}
+use Rattle.cborn_model.specs.Orders.{Rising}
 use Rattle.cborn_model.specs.declared.defects.DefectReason.TheVariants.{KeyOrder}
 use Rattle.cborn_judge.specs.Departures.{FindsDefect}
-use Rattle.cborn_judge.specs.devices.Encoding.{RowDescent}
-use Rattle.cborn_judge.specs.devices.Marks.{FallsIn}
+use Rattle.cborn_judge.specs.devices.Encoding.{Mark, AreMarked, filled_keys, RowDescent}
+use Rattle.cborn_judge.specs.devices.Marks.{AreHintedBy, FallsIn}
 use Rattle.cborn_judge.proofs.FirstDefect.Departing.{alike}
 use Rattle.cborn_judge.proofs.Encoding.PairsRead.{marked_read}
 use Rattle.cborn_judge.proofs.Encoding.PairsMet.{none_falls, falls_met}
+use Rattle.cborn_judge.proofs.Encoding.PairsArranged.{none_marked, all_kept}
 use Rattle.cborn_judge.proofs.marks.descent.Goals as goal
+
+pub returns-then-from-len-clause-rising : goal.returns-then-from-len-clause-rising
+returns-then-from-len-clause-rising g c q y rows e a =
+    let ms : List Mark = map g.S.Spot.seen c.args.spots.now.items in
+    let none : drop c.args.from ms ≡ [] = drop_all c.args.from ms (omega (arith, length-map c.args.spots.now.items g.S.Spot.seen, c.len.ensures, c.if-from-len.true)) in
+    subst (λ z. Rising g.O.KeyOrder.order (filled_keys z)) (sym (none_marked rows (length y) (subst (AreMarked (length y) rows) none a))) tt
+
+pub returns-then-from-len-clause-hinted : goal.returns-then-from-len-clause-hinted
+returns-then-from-len-clause-hinted g c =
+    let none = drop_all c.args.from c.args.spots.now.items (omega (arith, c.len.ensures, c.if-from-len.true)) in
+    ((λ k. 0), (λ k l h i m. absurd (omega arith)), subst (AreHintedBy g.S.Spot.hinted g.S.Spot.seen (λ k. 0) c.args.out.now) (sym none) tt)
 
 pub returns-clause-rising : goal.returns-clause-rising
 returns-clause-rising g c none y rows e a =
     let order = g.O.KeyOrder.order in
-    let ms = drop c.args.from (map g.S.Spot.seen c.args.spots.now) in
-    let own : c.from_index.result.now ≡ drop c.args.from c.args.spots.now = c.from_index.ensures in
-    let marks : map g.S.Spot.seen c.from_index.result.now ≡ ms = ap (map g.S.Spot.seen) own ∙ sym (drop-map g.S.Spot.seen c.args.from c.args.spots.now) in
-    let found : FindsDefect (FallsIn order c.args.out.now ms) None = subst (λ z. FindsDefect (FallsIn order c.args.out.now z) None) marks (subst (FindsDefect (FallsIn order c.args.out.now (map g.S.Spot.seen c.from_index.result.now))) none c.first_fall.ensures) in
+    let xs = c.deref_mut.result.now in
+    let ms : List Mark = drop c.args.from (map g.S.Spot.seen c.args.spots.now.items) in
+    let own : map g.S.Spot.seen (take (length xs - c.args.from) (drop c.args.from xs)) ≡ ms = ap (map g.S.Spot.seen) (take_rest xs c.args.from ∙ ap (drop c.args.from) c.deref_mut.ensures.value) ∙ sym (drop-map g.S.Spot.seen c.args.from c.args.spots.now.items) in
+    let found : FindsDefect (FallsIn order c.args.out.now ms) None = subst (λ z. FindsDefect (FallsIn order c.args.out.now z) None) own (subst (FindsDefect (FallsIn order c.args.out.now (map g.S.Spot.seen (take (length xs - c.args.from) (drop c.args.from xs))))) none c.first_fall.ensures.found) in
     none_falls order c.args.out.now ms rows (marked_read c.args.out.now y rows ms (length y) refl e a) (λ p m. found p KeyOrder (refl, m))
 
 pub returns-clause-found : goal.returns-clause-found
 returns-clause-found g c y rows e a f =
     let order = g.O.KeyOrder.order in
-    let ms = drop c.args.from (map g.S.Spot.seen c.args.spots.now) in
-    let own : c.from_index.result.now ≡ drop c.args.from c.args.spots.now = c.from_index.ensures in
-    let marks : map g.S.Spot.seen c.from_index.result.now ≡ ms = ap (map g.S.Spot.seen) own ∙ sym (drop-map g.S.Spot.seen c.args.from c.args.spots.now) in
+    let xs = c.deref_mut.result.now in
+    let ms : List Mark = drop c.args.from (map g.S.Spot.seen c.args.spots.now.items) in
+    let own : map g.S.Spot.seen (take (length xs - c.args.from) (drop c.args.from xs)) ≡ ms = ap (map g.S.Spot.seen) (take_rest xs c.args.from ∙ ap (drop c.args.from) c.deref_mut.ensures.value) ∙ sym (drop-map g.S.Spot.seen c.args.from c.args.spots.now.items) in
     alike (FallsIn order c.args.out.now ms) (RowDescent order rows) c.first_fall.result
     (λ p r. let both = falls_met order c.args.out.now ms rows p (marked_read c.args.out.now y rows ms (length y) refl e a) f in ((λ h. (h.0, both.0 h.1)), (λ h. (h.0, both.1 h.1))))
-    (subst (λ z. FindsDefect (FallsIn order c.args.out.now z) c.first_fall.result) marks c.first_fall.ensures)
+    (subst (λ z. FindsDefect (FallsIn order c.args.out.now z) c.first_fall.result) own c.first_fall.ensures.found)
+
+pub returns-clause-kept : goal.returns-clause-kept
+returns-clause-kept g c =
+    let from = c.args.from in
+    let xs = c.deref_mut.result.now in
+    let rest = c.first_fall.new.spots ++ drop (length xs - from) (drop from xs) in
+    let back = with_items_is c.args.spots.now (take from xs ++ rest) (search (rules, places)) in
+    all_kept g.S.Spot.seen from (length xs - from) xs c.first_fall.new.spots _ c.first_fall.ensures.kept back ∙ ap (map g.S.Spot.seen) c.deref_mut.ensures.value

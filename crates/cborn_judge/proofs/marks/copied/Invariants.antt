@@ -1,7 +1,0 @@
-use Rattle.std.proofs.Common.{◌≡◌, ◌++◌, map, drop}
-use Rattle.std.specs.Prelude.{flat_map}
-use Rattle.cborn_judge.specs.devices.Marks.{pair_of}
-use Rattle.cborn_judge.proofs.marks.copied.Given as goal
-
-abbrev pub invariant-loop-spot : goal.invariant-loop-spot
-invariant-loop-spot g l = l.copy.items ++ flat_map (pair_of l.out) (map g.S.Spot.seen (drop l.spot-index l.spots)) ≡ flat_map (pair_of l.out) (map g.S.Spot.seen l.spots)

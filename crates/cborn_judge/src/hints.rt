@@ -1,0 +1,60 @@
+//! Numbers that tell how most keys compare without a look at their bytes.
+
+ghost use Rattle.std.specs.Prelude.{◌≡◌, ◌<◌, ◌^◌};
+ghost use Rattle.cborn_judge.specs.devices.Hints.{front_of, length_hint, hint_of};
+
+use cborn_model::KnownOrder;
+
+/// The hint for a key in an order: keys rise as these do, where these differ. It is 0 where the
+/// order isn't known.
+#[inline(always)]
+pub(crate) fn hint(known: Option<KnownOrder>, key: &[u8]) -> u64
+    ensures { result ≡ hint_of known key.now }
+{
+    match known {
+        Some(KnownOrder::Bytewise) => front_number(key),
+        Some(KnownOrder::LengthFirst) => length_number(key),
+        None => 0,
+    }
+}
+
+/// The length of a key, up to 255, as the first byte of a number, and its first seven bytes as the
+/// others.
+#[inline(always)]
+fn length_number(key: &[u8]) -> u64
+    ensures { result ≡ length_hint key.now }
+{
+    if key.len() >= 255 {
+        return 255 * 0x100_0000_0000_0000;
+    }
+    key.len() as u64 * 0x100_0000_0000_0000 + front_number(key) / 256
+}
+
+/// The big-endian number of the first eight bytes of a key, as if zeros followed it.
+#[inline(always)]
+fn front_number(key: &[u8]) -> u64
+    ensures { result ≡ front_of 8 key.now }
+{
+    match key {
+        [a, b, c, d, e, f, g, h, ..] => u64::from_be_bytes([*a, *b, *c, *d, *e, *f, *g, *h]),
+        [a, b, c, d, rest @ ..] => {
+            u64::from(u32::from_be_bytes([*a, *b, *c, *d])) * 0x1_0000_0000
+                + u64::from(short_number(rest)) * 256
+        }
+        _ => u64::from(short_number(key)) * 0x100_0000_0000,
+    }
+}
+
+/// The big-endian number of the first three bytes, as if zeros followed them.
+#[inline(always)]
+fn short_number(bytes: &[u8]) -> u32
+    ensures value { result ≡ front_of 3 bytes.now }
+    ensures below { result < 2 ^ 24 }
+{
+    match bytes {
+        [a, b, c, ..] => u32::from_be_bytes([0, *a, *b, *c]),
+        [a, b] => u32::from_be_bytes([0, *a, *b, 0]),
+        [a] => u32::from_be_bytes([0, *a, 0, 0]),
+        [] => 0,
+    }
+}
