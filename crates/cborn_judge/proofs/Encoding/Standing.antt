@@ -7,7 +7,7 @@ use Rattle.cborn_model.specs.declared.heads.Size.{Size}
 use Rattle.cborn_model.specs.declared.heads.Width.{Width}
 use Rattle.cborn_model.specs.Meaning.{Means, joined_chunks}
 use Rattle.cborn_model.specs.Tree.{Tree, place}
-use Rattle.cborn_model.specs.Partial.{Partial, top, inside, Opening, an_array, a_map, a_tag, in_chunks, put, last_key, string_tree, chunk_of, chunks_of, TakesItem, IsFree}
+use Rattle.cborn_model.specs.Partial.{Partial, top, inside, Opening, an_array, a_map, a_tag, in_chunks, put, last_key, string_tree, chunk_of, chunks_of, IsFree}
 use Rattle.cborn_model.specs.shared.Runs.{puts, InArray, AtKey}
 use Rattle.cborn_model.specs.Value.{Value, bytes, text}
 use Rattle.cborn_model.specs.Valid.{IsProper}
@@ -262,41 +262,25 @@ module _ (order : List ℕ → List ℕ → Ordering) where
   stands_more : (outer : List Level) (l m : Level) (f : Partial) (o : Opening) (ts us : List Tree) (ms ns own : List Mark) (y x : List ℕ) (s : Stands order outer l (inside f o ts) ms y) → m.start ≡ l.start → m.pairs ≡ l.pairs → ns ≡ s.4 ++ own → Within m o us own (s.3 ++ x) → Stands order outer m (inside f o us) ns (y ++ x)
   stands_more outer l m f o ts us ms ns own y x s a b e h = (s.0, s.1, s.2, s.3 ++ x, s.4, own, s.6, ap (λ w. w ++ x) s.7 ∙ append_assoc s.2 s.3 x, e, a ∙ s.9, b ∙ s.10, s.11, h)
 
-  stands_plain : (outer : List Level) (l : Level) (f : Partial) (t : Tree) (ms : List Mark) (y x : List ℕ) (bad : Bool) → TakesItem f → ((s : Size) (c : Option ℕ) → l.container ≡ container.Map s c → ⊥) → length (y ++ x) < 2 ^ 64
-      → Verdict order bad t x → Stands order outer l f ms y → Stands order outer (after l bad) (put f t) ms (y ++ x)
-  stands_plain outer l (top ts) t ms y x bad free never k v s =
-      (s.0, s.1, s.2, sound_more l.flawed bad ts t s.3 (is_verdict order t x bad v), λ e. contents_more order l.flawed bad ts t y x s.4 v e)
-  stands_plain outer l (inside f (an_array p z c) ts) t ms y x bad free never k v s =
-      stands_more outer l (after l bad) f (an_array p z c) ts (ts ++ t ∷ []) ms ms s.5 y x s refl refl s.8 (inner_array l p z c ts t s.5 s.3 x bad (own_short y x s.2 s.3 k s.7) v s.12)
-  stands_plain outer l (inside f (a_map p z c) ts) t ms y x bad free never k v s = absurd (never z c s.12.opens.1)
-  stands_plain outer l (inside f (a_tag p w n) ts) t ms y x bad free never k v s =
-      stands_more outer l (after l bad) f (a_tag p w n) ts (ts ++ t ∷ []) ms ms s.5 y x s refl refl s.8 (inner_tag l p w n ts t s.5 s.3 x bad v s.12)
-  stands_plain outer l (inside f (in_chunks p j) ts) t ms y x bad free never k v s = absurd free
-
-  stands_key : (outer : List Level) (l : Level) (f : Partial) (t : Tree) (ms : List Mark) (y x : List ℕ) (bad : Bool) (i : Size) (c : Option ℕ) (b e : ℕ) → TakesItem f → l.container ≡ container.Map i c → l.has_key ≡ false
-      → Verdict order bad t x → Coded order t x → b ≡ length y → e ≡ length (y ++ x) → Stands order outer l f ms y → Stands order outer (after l bad) (put f t) (ms ++ (place t, b, e, e) ∷ []) (y ++ x)
-  stands_key outer l (top ts) t ms y x bad i c b e free is k v d f g s = let h : container.Input ≡ container.Map i c = sym s.2 ∙ is in cc
-  stands_key outer l (inside f (an_array p z n) ts) t ms y x bad i c b e free is k v d j g s = let h : container.Array z n ≡ container.Map i c = sym s.12.opens.1 ∙ is in cc
-  stands_key outer l (inside f (a_map p z n) ts) t ms y x bad i c b e free is k v d j g s =
+  stands_key : (outer : List Level) (l : Level) (f : Partial) (p : ℕ) (z : Size) (c : Option ℕ) (ts : List Tree) (t : Tree) (ms ms' : List Mark) (y x : List ℕ) (bad : Bool) → l.has_key ≡ false → Verdict order bad t x → Coded order t x → ms' ≡ ms ++ (place t, length y, length (y ++ x), length (y ++ x)) ∷ []
+      → Stands order outer l (inside f (a_map p z c) ts) ms y → Stands order outer (after l bad) (inside f (a_map p z c) (ts ++ t ∷ [])) ms' (y ++ x)
+  stands_key outer l f p z c ts t ms ms' y x bad k v d new s =
+      let b = length y in
+      let e = length (y ++ x) in
       let m : Mark = (place t, b, e, e) in
-      stands_more outer l (after l bad) f (a_map p z n) ts (ts ++ t ∷ []) ms (ms ++ m ∷ []) (s.5 ++ m ∷ []) y x s refl refl (ap (λ ns. ns ++ m ∷ []) s.8 ∙ append_assoc s.4 s.5 (m ∷ []))
-      (inner_key l p z n ts t s.5 s.3 x bad b e v d k (omega (arith, j, s.9, ap length s.7, length-append s.2 s.3)) (omega (arith, g, j, length-append y x)) s.12)
-  stands_key outer l (inside f (a_tag p w n) ts) t ms y x bad i c b e free is k v d j g s = let h : container.Tag w n ≡ container.Map i c = sym s.12.opens.1 ∙ is in cc
-  stands_key outer l (inside f (in_chunks p a) ts) t ms y x bad i c b e free is k v d j g s = absurd free
+      stands_more outer l (after l bad) f (a_map p z c) ts (ts ++ t ∷ []) ms ms' (s.5 ++ m ∷ []) y x s refl refl (new ∙ ap (λ ns. ns ++ m ∷ []) s.8 ∙ append_assoc s.4 s.5 (m ∷ []))
+      (inner_key l p z c ts t s.5 s.3 x bad b e v d k (omega (arith, s.9, ap length s.7, length-append s.2 s.3)) (length-append y x) s.12)
 
-  stands_value : (outer : List Level) (l : Level) (f : Partial) (t : Tree) (ms ms' : List Mark) (y x : List ℕ) (bad : Bool) (i : Size) (c : Option ℕ) (e : ℕ) → TakesItem f → l.container ≡ container.Map i c → l.has_key ≡ true
-      → Verdict order bad t x → Coded order t x → e ≡ length (y ++ x) → ((ns : List Mark) (p s m n : ℕ) → ms ≡ ns ++ (p, s, m, n) ∷ [] → ms' ≡ ns ++ (p, s, m, e) ∷ [])
-      → Stands order outer l f ms y → Stands order outer (after l bad) (put f t) ms' (y ++ x)
-  stands_value outer l (top ts) t ms ms' y x bad i c e free is k v d g set s = let h : container.Input ≡ container.Map i c = sym s.2 ∙ is in cc
-  stands_value outer l (inside f (an_array p z n) ts) t ms ms' y x bad i c e free is k v d g set s = let h : container.Array z n ≡ container.Map i c = sym s.12.opens.1 ∙ is in cc
-  stands_value outer l (inside f (a_map p z n) ts) t ms ms' y x bad i c e free is k v d g set s =
-      let u = inner_value l p z n ts t s.5 s.3 x bad e v d k (omega (arith, g, s.9, ap length s.7, length-append s.2 s.3, length-append y x)) s.12 in
+  stands_value : (outer : List Level) (l : Level) (f : Partial) (p : ℕ) (z : Size) (c : Option ℕ) (ts : List Tree) (t : Tree) (ms ms' : List Mark) (y x : List ℕ) (bad : Bool) → l.has_key ≡ true → Verdict order bad t x → Coded order t x
+      → ((ns : List Mark) (p s m n : ℕ) → ms ≡ ns ++ (p, s, m, n) ∷ [] → ms' ≡ ns ++ (p, s, m, length (y ++ x)) ∷ [])
+      → Stands order outer l (inside f (a_map p z c) ts) ms y → Stands order outer (after l bad) (inside f (a_map p z c) (ts ++ t ∷ [])) ms' (y ++ x)
+  stands_value outer l f p z c ts t ms ms' y x bad k v d set s =
+      let e = length (y ++ x) in
+      let u = inner_value l p z c ts t s.5 s.3 x bad e v d k (omega (arith, s.9, ap length s.7, length-append s.2 s.3, length-append y x)) s.12 in
       let m = u.1 in
       let old : ms ≡ (s.4 ++ u.0) ++ (m.0, m.1, m.2, m.3) ∷ [] = s.8 ∙ ap (λ ns. s.4 ++ ns) u.2 ∙ sym (append_assoc s.4 u.0 (m ∷ [])) in
       let new : Mark = (m.0, m.1, m.2, e) in
-      stands_more outer l (after l bad) f (a_map p z n) ts (ts ++ t ∷ []) ms ms' (u.0 ++ new ∷ []) y x s refl refl (set (s.4 ++ u.0) m.0 m.1 m.2 m.3 old ∙ append_assoc s.4 u.0 (new ∷ [])) u.3
-  stands_value outer l (inside f (a_tag p w n) ts) t ms ms' y x bad i c e free is k v d g set s = let h : container.Tag w n ≡ container.Map i c = sym s.12.opens.1 ∙ is in cc
-  stands_value outer l (inside f (in_chunks p a) ts) t ms ms' y x bad i c e free is k v d g set s = absurd free
+      stands_more outer l (after l bad) f (a_map p z c) ts (ts ++ t ∷ []) ms ms' (u.0 ++ new ∷ []) y x s refl refl (set (s.4 ++ u.0) m.0 m.1 m.2 m.3 old ∙ append_assoc s.4 u.0 (new ∷ [])) u.3
 
   pub stands_put : (outer : List Level) (l : Level) (f : Partial) (t : Tree) (ms ms' : List Mark) (y x : List ℕ) (bad : Bool) → IsFree f → length (y ++ x) < 2 ^ 64 → Coded order t x
       → (bad ≡ true → length (y ++ x) ≤ length y) → (bad ≡ false → length y < length (y ++ x))
@@ -309,20 +293,22 @@ module _ (order : List ℕ → List ℕ → Ordering) where
       v : Verdict order bad t x
       v = verdict order t y x bad d g h
 
-      unmarked : (f : Partial) → IsFree f → ((s : Size) (c : Option ℕ) → l.container ≡ container.Map s c → ⊥) → Stands order outer l f ms y → Stands order outer (after l bad) (put f t) ms' (y ++ x)
-      unmarked f free never s = subst (λ ns. Stands order outer (after l bad) (put f t) ns (y ++ x)) (sym (plain never)) (stands_plain outer l f t ms y x bad free.1 never k v s)
-
       by : (f : Partial) → IsFree f → Stands order outer l f ms y → Stands order outer (after l bad) (put f t) ms' (y ++ x)
-      by (top ts) free s = unmarked (top ts) free (λ i c e. let h : container.Input ≡ container.Map i c = sym s.2 ∙ e in cc) s
-      by (inside f (an_array p z n) ts) free s = unmarked (inside f (an_array p z n) ts) free (λ i c e. let h : container.Array z n ≡ container.Map i c = sym s.12.opens.1 ∙ e in cc) s
-      by (inside f (a_tag p w n) ts) free s = unmarked (inside f (a_tag p w n) ts) free (λ i c e. let h : container.Tag w n ≡ container.Map i c = sym s.12.opens.1 ∙ e in cc) s
+      by (top ts) free s =
+          let never : (i : Size) (c : Option ℕ) → l.container ≡ container.Map i c → ⊥ = λ i c e. let h : container.Input ≡ container.Map i c = sym s.2 ∙ e in cc in
+          (s.0, plain never ∙ s.1, s.2, sound_more l.flawed bad ts t s.3 (is_verdict order t x bad v), λ e. contents_more order l.flawed bad ts t y x s.4 v e)
+      by (inside f (an_array p z n) ts) free s =
+          let never : (i : Size) (c : Option ℕ) → l.container ≡ container.Map i c → ⊥ = λ i c e. let h : container.Array z n ≡ container.Map i c = sym s.12.opens.1 ∙ e in cc in
+          stands_more outer l (after l bad) f (an_array p z n) ts (ts ++ t ∷ []) ms ms' s.5 y x s refl refl (plain never ∙ s.8) (inner_array l p z n ts t s.5 s.3 x bad (own_short y x s.2 s.3 k s.7) v s.12)
+      by (inside f (a_tag p w n) ts) free s =
+          let never : (i : Size) (c : Option ℕ) → l.container ≡ container.Map i c → ⊥ = λ i c e. let h : container.Tag w n ≡ container.Map i c = sym s.12.opens.1 ∙ e in cc in
+          stands_more outer l (after l bad) f (a_tag p w n) ts (ts ++ t ∷ []) ms ms' s.5 y x s refl refl (plain never ∙ s.8) (inner_tag l p w n ts t s.5 s.3 x bad v s.12)
       by (inside f (in_chunks p j) ts) free s = absurd free.1
       by (inside f (a_map p z n) ts) free s = go l.has_key refl
         where
           go : (b : Bool) → l.has_key ≡ b → Stands order outer (after l bad) (put (inside f (a_map p z n) ts) t) ms' (y ++ x)
-          go false e = subst (λ ns. Stands order outer (after l bad) (put (inside f (a_map p z n) ts) t) ns (y ++ x)) (sym (key z n s.12.opens.1 e))
-              (stands_key outer l (inside f (a_map p z n) ts) t ms y x bad z n (length y) (length (y ++ x)) tt s.12.opens.1 e v d refl refl s)
-          go true e = stands_value outer l (inside f (a_map p z n) ts) t ms ms' y x bad z n (length (y ++ x)) tt s.12.opens.1 e v d refl (value z n s.12.opens.1 e) s
+          go false e = stands_key outer l f p z n ts t ms ms' y x bad e v d (key z n s.12.opens.1 e) s
+          go true e = stands_value outer l f p z n ts t ms ms' y x bad e v d (value z n s.12.opens.1 e) s
 
   -- ---- more than one at once
 
@@ -340,8 +326,8 @@ module _ (order : List ℕ → List ℕ → Ordering) where
       let m : Mark = (place t, length y, n, n) in
       let o = length ((y ++ a) ++ b) in
       let has : l.has_key ≡ false = s.12.contains.0 ∙ even ts at in
-      let key = stands_key outer l (inside f (a_map p z c) ts) t ms y a false z c (length y) n tt s.12.opens.1 has e (inl e) refl refl s in
-      stands_value outer (after l false) (put (inside f (a_map p z c) ts) t) u (ms ++ m ∷ []) (ms ++ (place t, length y, n, o) ∷ []) (y ++ a) b false z c o tt s.12.opens.1 (ap not has) g (inl g) refl
+      let key = stands_key outer l f p z c ts t ms (ms ++ m ∷ []) y a false has e (inl e) refl s in
+      stands_value outer (after l false) f p z c (ts ++ t ∷ []) u (ms ++ m ∷ []) (ms ++ (place t, length y, n, o) ∷ []) (y ++ a) b false (ap not has) g (inl g)
       (λ ns q i j k last. let r = same_from_push ms ns m (q, i, j, k) last in (λ w. r.0 w ++ ((r.1 w).0, (r.1 w).1, (r.1 w).2, o) ∷ [])) key
   stands_pair outer l f t u ms y a b at e g s = absurd at
 
