@@ -10,6 +10,6 @@ returns g c = record {
       let s = c.args.string in (
         held order f y h x is ended,
         finds_string order f s.place s.kind s.width s.len x c.args.is_good e.flaw c.text_flaw.result c.keep.new.first e.defect c.head_defect.result c.keep-2.new.first ended.2 is
-        c.text_flaw.ensures c.head_defect.ensures c.keep.ensures c.keep-2.ensures finds,
+            c.text_flaw.ensures c.head_defect.ensures c.keep.ensures c.keep-2.ensures finds,
       )) c.put_string.ensures.held;
 }

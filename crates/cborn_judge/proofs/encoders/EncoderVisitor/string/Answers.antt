@@ -1,10 +1,11 @@
-use Rattle.std.proofs.Common.{rules, ◌≡◌, ◌++◌, [], length, refl, sym, ap, ◌∙◌, subst, append_assoc}
+use Rattle.std.proofs.Common.{◌≡◌, [], length, refl, sym, subst}
 use Rattle.std.specs.Prelude.{IsTrue, ◌↔◌}
 use Rattle.cborn_model.specs.Partial.{string_tree, put, no_part, TakesString}
 use Rattle.cborn_model.proofs.Bytes.{are_bytes}
 use Rattle.cborn_model.proofs.HandedOver.{on_ok}
 use Rattle.cborn_judge.specs.devices.Encoding.{Finds}
 use Rattle.cborn_judge.specs.devices.Encoders.{IsContent, IsHeld}
+use Rattle.cborn_judge.proofs.Encoding.Strings.{written_more}
 use Rattle.cborn_judge.proofs.encoders.EncoderVisitor.string.Goals as goal
 
 pub returns-clause-held : goal.returns-clause-held
@@ -26,13 +27,5 @@ returns-clause-held g c = on_ok c.end_string.result (λ held f proper takes old.
       proper,
       subst (TakesString f) (sym is.1) takes,
       long,
-      record {
-        out = c.in_ok-extend_from_slice.ensures.items ∙ ap (λ z. z ++ bytes) w.out ∙ append_assoc (y ++ h) [] bytes;
-        start = w.start;
-        content = w.content;
-        front = w.front;
-        bytes = are_bytes bytes c.type_inv.bytes;
-        short = w.short;
-        stands = w.stands;
-      },
+      written_more order begun.encodings _ s f y h [] bytes w c.in_ok-extend_from_slice.ensures.items refl w.stands (are_bytes bytes c.type_inv.bytes),
     ) finds)) c.end_string.ensures.held
