@@ -101,13 +101,13 @@ module _ (order : List ℕ → List ℕ → Ordering) where
   map_done ps es fs n old mid new l z p r h e =
       (h.0 ++ joined fs, (h.0, es, fs, subst (λ k. IsLeastHead 5 k h.0) (l ∙ sym (pair_count-pairs_of ps)) h.1, z, p, r, refl), e ∙ ap (λ z. z ++ joined fs) h.2 ∙ append_assoc old h.0 (joined fs))
 
-  -- one item more
-  pub seq_push : (vs : List Value) (v : Value) (x y : List ℕ) → DetSeq order vs x → Det order v y → DetSeq order (vs ++ v ∷ []) (x ++ y)
-  seq_push [] v x y d e = (y, [], e, refl, ap (λ z. z ++ y) d ∙ sym (append-nil y))
-  seq_push (u ∷ us) v x y d e = (d.0, d.1 ++ y, d.2, seq_push us v d.1 y d.3 e, ap (λ z. z ++ y) d.4 ∙ append_assoc d.0 d.1 y)
+  pub seq_append : (vs ws : List Value) (x y : List ℕ) → DetSeq order vs x → DetSeq order ws y → DetSeq order (vs ++ ws) (x ++ y)
+  seq_append [] ws x y d e = subst (DetSeq order ws) (ap (λ z. z ++ y) (sym d)) e
+  seq_append (v ∷ vs) ws x y d e = (d.0, d.1 ++ y, d.2, seq_append vs ws d.1 y d.3 e, ap (λ z. z ++ y) d.4 ∙ append_assoc d.0 d.1 y)
 
+  -- one item more
   items_more : (vs : List Value) (v : Value) (start old new : List ℕ) → Appends (DetSeq order vs) start old → Appends (Det order v) old new → Appends (DetSeq order (vs ++ v ∷ [])) start new
-  items_more vs v start old new s d = (s.0 ++ d.0, seq_push vs v s.0 d.0 s.1 d.1, d.2 ∙ ap (λ z. z ++ d.0) s.2 ∙ append_assoc start s.0 d.0)
+  items_more vs v start old new s d = (s.0 ++ d.0, seq_append vs (v ∷ []) s.0 d.0 s.1 (d.0, [], d.1, refl, sym (append-nil d.0)), d.2 ∙ ap (λ z. z ++ d.0) s.2 ∙ append_assoc start s.0 d.0)
 
   pub seq_step : (vs : List Value) (i : ℕ) (v : Value) (start old new : List ℕ) → i < length vs → v ≡ get_or vs i v → Appends (DetSeq order (take i vs)) start old → Appends (Det order v) old new → Appends (DetSeq order (take (i + 1) vs)) start new
   seq_step vs i v start old new l e s d =

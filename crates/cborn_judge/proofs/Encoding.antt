@@ -8,6 +8,7 @@ pub mod EndsTags
 pub mod EndsWell
 pub mod Strings
 pub mod Leaves
+pub mod ShortLeaves
 pub mod Fronts
 pub mod PairsRead
 pub mod PairsMet

@@ -1,6 +1,6 @@
 //! The visitor [`Encoder`], which encodes items, and finds their first flaw and their first defect.
 
-ghost use Rattle.std.specs.Prelude.{◌≡◌, ◌++◌, ◌∷◌, ◌↔◌, ◌≤◌, ℕ, List, [], length, take, drop, Option, None, Some, true, false, IfOk, IfErr, OnOk, IsTrue, IsUtf8};
+ghost use Rattle.std.specs.Prelude.{◌≡◌, ◌++◌, ◌∷◌, ◌↔◌, ℕ, List, [], length, take, drop, Option, None, Some, true, false, IfOk, IfErr, OnOk, IsTrue, IsUtf8};
 ghost use Rattle.cborn_model.specs.Tree as tree;
 ghost use Rattle.cborn_model.specs.Tree.{Tree, trees};
 ghost use Rattle.cborn_model.specs.Partial.{Partial, Opening, top, inside, in_chunks, put, no_part, IsFree, string_tree};
@@ -19,8 +19,8 @@ ghost use Rattle.cborn_model.specs.declared.faults.InvalidReason.TheVariants.{No
 ghost use Rattle.cborn_model.specs.declared.heads.Size.{Size};
 ghost use Rattle.cborn_judge.specs.declared.levels.Container.TheVariants as containers;
 ghost use Rattle.cborn_judge.specs.devices.Marks.{marks_of};
-ghost use Rattle.cborn_judge.specs.devices.Encoding.{is_chunks, Mark, Coded, IsEncodedAs, AreEncodedAs, IsOpening, IsFront};
-ghost use Rattle.cborn_judge.specs.devices.Encoders.{kept, IsHeld, StandsIn, StandsAs, IsChunk, BeginsAs, IsContent, IsEndedString, IsStringFront, kind_major};
+ghost use Rattle.cborn_judge.specs.devices.Encoding.{is_chunks, Mark, Coded, IsEncodedAs, AreEncodedAs, IsOpening, IsFront, Finds};
+ghost use Rattle.cborn_judge.specs.devices.Encoders.{kept, IsHeld, StandsIn, StandsAs, Written, IsChunk, BeginsAs, IsContent, IsEndedString, IsStringFront, kind_major};
 
 use crate::flaws::Flaw;
 use crate::levels::{Container, Level};
@@ -113,7 +113,7 @@ impl Encodings {
     /// Counts whole items of an array, whose encodings are `spelled`, and writes these.
     #[inline(always)]
     fn put_items(&mut self, count: u64, spelled: &[u8]) -> Result<(), AllocError>
-        ensures held { OnOk result ((order : List ℕ → List ℕ → Ordering) (f : Partial) (ts : List Tree) → IsFree f → InArray f → length ts ≡ count → AreEncodedAs order ts spelled.now → StandsIn order self.old f → StandsIn order self.new (puts f ts)) }
+        ensures held { OnOk result ((order : List ℕ → List ℕ → Ordering) (f : Partial) (ts : List Tree) → InArray f → length ts ≡ count → AreEncodedAs order ts spelled.now → StandsIn order self.old f → StandsIn order self.new (puts f ts)) }
     {
         self.out.extend_from_slice(spelled)?;
         self.innermost.add_items(count);
@@ -124,7 +124,7 @@ impl Encodings {
     /// `spelled`, of which the first `key_len` bytes are those of the key. Writes these.
     #[inline(always)]
     fn put_pair(&mut self, place: u64, key_len: usize, spelled: &[u8]) -> Result<(), AllocError>
-        ensures held { OnOk result ((order : List ℕ → List ℕ → Ordering) (f : Partial) (k v : Tree) → IsFree f → AtKey f → tree.place k ≡ place → key_len ≤ length spelled.now → IsEncodedAs order k (take key_len spelled.now) → IsEncodedAs order v (drop key_len spelled.now) → StandsIn order self.old f → StandsIn order self.new (put (put f k) v)) }
+        ensures held { OnOk result ((order : List ℕ → List ℕ → Ordering) (f : Partial) (k v : Tree) → AtKey f → tree.place k ≡ place → IsEncodedAs order k (take key_len spelled.now) → IsEncodedAs order v (drop key_len spelled.now) → StandsIn order self.old f → StandsIn order self.new (put (put f k) v)) }
     {
         let start = self.out.len();
         self.out.extend_from_slice(spelled)?;
@@ -292,7 +292,7 @@ impl<O: KeyOrder> Encoder<O> {
         Ok(EncodedItems { bytes, defect })
     }
 
-    /// Writes what stands before the content of a string.
+    /// Begins a string: writes what stands before its content.
     #[inline(always)]
     fn begin_string(
         &mut self,
@@ -301,7 +301,9 @@ impl<O: KeyOrder> Encoder<O> {
         width: Width,
         len: u64,
     ) -> Result<OpenString, AllocError>
-        ensures { Unit {0} }
+        ensures string { IfOk result (λ string. (string.place ≡ place) × (string.kind ≡ kind) × (string.width ≡ width) × (string.len ≡ len)) }
+        ensures written { IfOk result (λ string. (f : Partial) → StandsIn O.order self.old.encodings f → (h : List ℕ) × Written O.order self.new.encodings string f self.old.encodings.out.items h []) }
+        ensures rest { (self.new.flaw ≡ self.old.flaw) × (self.new.defect ≡ self.old.defect) }
     {
         let start = self.encodings.out.len();
         self.encodings.push_string_front(kind, len)?;
@@ -316,10 +318,10 @@ impl<O: KeyOrder> Encoder<O> {
         })
     }
 
-    /// Counts a string whose content was written.
+    /// Ends a string whose content was written: finds what is wrong with it, and counts it.
     #[inline(always)]
     fn end_string(&mut self, string: OpenString, is_good: bool) -> Result<(), AllocError>
-        ensures { Unit {0} }
+        ensures held { OnOk result ((f : Partial) (y h x : List ℕ) → IsTrue is_good ↔ IsContent string.kind x → IsEndedString O.order self.old.encodings string f y h x → Finds O.order f self.old.flaw self.old.defect → IsHeld O.order self.new (put f (string_tree string.place string.kind string.width x)) no_part) }
     {
         let place = string.place;
         keep(&mut self.flaw, text_flaw(place, is_good));

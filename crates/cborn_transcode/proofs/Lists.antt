@@ -1,5 +1,5 @@
 -- Items one after another, and arrays of them.
-use Rattle.std.proofs.Common.{◌≡◌, ℕ, suc, ◌+◌, List, [], ◌∷◌, ◌++◌, length, refl, sym, ap, ◌∙◌, subst, append_assoc, append-nil, Ordering}
+use Rattle.std.proofs.Common.{◌≡◌, ℕ, suc, ◌+◌, List, [], ◌∷◌, ◌++◌, length, refl, sym, ap, subst, append-nil, Ordering}
 use Rattle.std.specs.List.{AllZip}
 use Rattle.cborn_model.specs.declared.heads.Size.{Size}
 use Rattle.cborn_model.specs.Heads.{IsLeastHead}
@@ -8,17 +8,11 @@ use Rattle.cborn_model.specs.Tree.{Tree, Items, trees}
 use Rattle.cborn_model.specs.Value.{Value, array, values_of}
 use Rattle.cborn_model.proofs.Listed.Meanings.{all_mean}
 use Rattle.cborn_model.proofs.Listed.Values.{value_count-values_of}
-use Rattle.cborn_det.specs.Det.{DetSeq}
-use Rattle.cborn_det.proofs.Steps.{values_of_seq}
+use Rattle.cborn_det.proofs.Steps.{seq_append, values_of_seq}
+use Rattle.cborn_judge.proofs.Loops.Passing.{zip_append}
 use Rattle.cborn_wire.proofs.Parts.Nodes.{no_node, node_more, nodes_more, wellformed}
 use Rattle.cborn_transcode.specs.Transcoding.{IsEncodedAs, AreEncodedAs, ItemTranscoded, ItemsTranscoded, IsTranscoded}
 use Rattle.cborn_transcode.proofs.Encoding.{appends_both}
-
-mean_append : (ts us : List Tree) (vs ws : List Value) → AllZip Means ts vs → AllZip Means us ws → AllZip Means (ts ++ us) (vs ++ ws)
-mean_append [] us [] ws h k = k
-mean_append [] us (v ∷ vs) ws h k = absurd h
-mean_append (t ∷ ts) us [] ws h k = absurd h
-mean_append (t ∷ ts) us (v ∷ vs) ws h k = (h.0, mean_append ts us vs ws h.1 k)
 
 zip_count : (ts : List Tree) (vs : List Value) → AllZip Means ts vs → length ts ≡ length vs
 zip_count [] [] h = refl
@@ -27,12 +21,8 @@ zip_count (t ∷ ts) [] h = absurd h
 zip_count (t ∷ ts) (v ∷ vs) h = ap suc (zip_count ts vs h.1)
 
 module _ (order : List ℕ → List ℕ → Ordering) where
-  det_append : (vs ws : List Value) (x y : List ℕ) → DetSeq order vs x → DetSeq order ws y → DetSeq order (vs ++ ws) (x ++ y)
-  det_append [] ws x y d e = subst (DetSeq order ws) (ap (λ l. l ++ y) (sym d)) e
-  det_append (v ∷ vs) ws x y (a, b, h, t, is) e = (a, b ++ y, h, det_append vs ws b y t e, ap (λ l. l ++ y) is ∙ append_assoc a b y)
-
   pub both_encoded : (ts us : List Tree) (x y : List ℕ) → AreEncodedAs order ts x → AreEncodedAs order us y → AreEncodedAs order (ts ++ us) (x ++ y)
-  both_encoded ts us x y e f = (e.0 ++ f.0, mean_append ts us e.0 f.0 e.1 f.1, det_append e.0 f.0 x y e.2 f.2)
+  both_encoded ts us x y e f = (e.0 ++ f.0, zip_append Means ts e.0 us f.0 e.1 f.1, seq_append order e.0 f.0 x y e.2 f.2)
 
   pub more_encoded : (ts : List Tree) (t : Tree) (x y : List ℕ) → AreEncodedAs order ts x → IsEncodedAs order t y → AreEncodedAs order (ts ++ t ∷ []) (x ++ y)
   more_encoded ts t x y e f = both_encoded ts (t ∷ []) x y e (f.0 ∷ [], (f.1, tt), (y, [], f.2, refl, sym (append-nil y)))

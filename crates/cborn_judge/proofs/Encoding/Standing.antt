@@ -1,31 +1,34 @@
 -- One more whole node in what an encoder holds.
-use Rattle.std.proofs.Common.{◌≡◌, ℕ, ◌+◌, ◌-◌, ◌<◌, ◌≤◌, ◌^◌, inl, inr, List, [], ◌∷◌, ◌++◌, length, append_assoc, append-nil, length-append, refl, sym, ap, ◌∙◌, subst, arith, true, false, true≢false, Bool, not, Ordering, Option}
+use Rattle.std.proofs.Common.{◌≡◌, ℕ, ◌+◌, ◌-◌, ◌<◌, ◌≤◌, ◌^◌, inl, inr, List, [], ◌∷◌, ◌++◌, length, append_assoc, append-nil, length-append, refl, sym, ap, ◌∙◌, subst, arith, true, false, true≢false, Bool, not, Ordering, Option, None}
+use Rattle.std.proofs.lemmas.List.{same_from_push}
 use Rattle.std.specs.Prelude.{◌||◌, min}
 use Rattle.std.specs.List.{AllZip, AllByRecursion}
 use Rattle.cborn_model.specs.declared.heads.Size.{Size}
 use Rattle.cborn_model.specs.declared.heads.Width.{Width}
 use Rattle.cborn_model.specs.Meaning.{Means, joined_chunks}
 use Rattle.cborn_model.specs.Tree.{Tree, place}
-use Rattle.cborn_model.specs.Partial.{Partial, top, inside, Opening, an_array, a_map, a_tag, in_chunks, put, string_tree, chunk_of, chunks_of, IsFree}
+use Rattle.cborn_model.specs.Partial.{Partial, top, inside, Opening, an_array, a_map, a_tag, in_chunks, put, last_key, string_tree, chunk_of, chunks_of, IsFree}
+use Rattle.cborn_model.specs.shared.Runs.{puts, InArray, AtKey}
 use Rattle.cborn_model.specs.Value.{Value, bytes, text}
 use Rattle.cborn_model.specs.Valid.{IsProper}
 use Rattle.cborn_det.specs.Det.{DetSeq, joined}
-use Rattle.cborn_det.proofs.Steps.{seq_push}
+use Rattle.cborn_det.proofs.Steps.{seq_append}
 use Rattle.cborn_det.proofs.Written.{some_bytes}
-use Rattle.cborn_judge.specs.devices.Encoding.{MeansNothing, Row, Mark, row_entries, AreMarked, IsEncodedAs, Coded, AreEncodedAs, AreRows, IsSound, is_odd, after, Opens, IsFront, Contains, Inner, Stands}
+use Rattle.cborn_judge.specs.devices.Encoding.{MeansNothing, Row, Mark, row_entries, AreMarked, IsEncodedAs, Coded, AreEncodedAs, AreRows, IsSound, is_odd, after, after_items, Opens, IsFront, Contains, Inner, Stands}
 use Rattle.cborn_judge.specs.devices.Encoders.{IsChunk, IsChunkContent}
 use Rattle.cborn_model.specs.declared.visitors.StringKind.{StringKind}
 use Rattle.cborn_model.specs.declared.visitors.StringKind.TheVariants.{OfBytes, OfText}
 use Rattle.cborn_judge.specs.declared.levels.Level.{Level}
 use Rattle.cborn_judge.specs.declared.levels.Container.TheVariants as container
+use Rattle.cborn_judge.proofs.Loops.Passing.{zip_append}
 use Rattle.cborn_judge.proofs.FirstFlaw.Sequences.{mean_more}
 
 -- ---- whether the nodes mean something
 
-zip_front : (ts : List Tree) (t : Tree) (ws : List Value) → AllZip Means (ts ++ t ∷ []) ws → (vs : List Value) × AllZip Means ts vs
-zip_front [] t ws h = ([], tt)
-zip_front (s ∷ ts) t [] h = absurd h
-zip_front (s ∷ ts) t (w ∷ ws) h = let r = zip_front ts t ws h.1 in (w ∷ r.0, (h.0, r.1))
+zip_front : (ts us : List Tree) (ws : List Value) → AllZip Means (ts ++ us) ws → (vs : List Value) × AllZip Means ts vs
+zip_front [] us ws h = ([], tt)
+zip_front (t ∷ ts) us [] h = absurd h
+zip_front (t ∷ ts) us (w ∷ ws) h = let r = zip_front ts us ws h.1 in (w ∷ r.0, (h.0, r.1))
 
 zip_last : (ts : List Tree) (t : Tree) (ws : List Value) → AllZip Means (ts ++ t ∷ []) ws → (v : Value) × Means t v
 zip_last [] t [] h = absurd h
@@ -41,7 +44,12 @@ IsVerdict true t = MeansNothing t
 pub sound_more : (b bad : Bool) (ts : List Tree) (t : Tree) → IsSound b ts → IsVerdict bad t → IsSound (b || bad) (ts ++ t ∷ [])
 sound_more false false ts t s v = (s.0 ++ v.0 ∷ [], mean_more ts s.0 t v.0 s.1 v.1)
 sound_more false true ts t s v = λ ws h. let m = zip_last ts t ws h in v m.0 m.1
-sound_more true bad ts t s v = λ ws h. let r = zip_front ts t ws h in s r.0 r.1
+sound_more true bad ts t s v = λ ws h. let r = zip_front ts (t ∷ []) ws h in s r.0 r.1
+
+-- nodes that mean something
+sound_items : (b : Bool) (ts us : List Tree) (vs : List Value) → IsSound b ts → AllZip Means us vs → IsSound b (ts ++ us)
+sound_items false ts us vs s m = (s.0 ++ vs, zip_append Means ts s.0 us vs s.1 m)
+sound_items true ts us vs s m = λ ws h. let r = zip_front ts us ws h in s r.0 r.1
 
 module _ (order : List ℕ → List ℕ → Ordering) where
   -- the node has an encoding exactly if it isn't bad
@@ -62,12 +70,15 @@ module _ (order : List ℕ → List ℕ → Ordering) where
 
   -- ---- encodings one after another
 
-  proper_more : (vs : List Value) (v : Value) → AllByRecursion IsProper vs → IsProper v → AllByRecursion IsProper (vs ++ v ∷ [])
-  proper_more [] v a p = (p, tt)
-  proper_more (w ∷ vs) v a p = (a.0, proper_more vs v a.1 p)
+  proper_append : (vs ws : List Value) → AllByRecursion IsProper vs → AllByRecursion IsProper ws → AllByRecursion IsProper (vs ++ ws)
+  proper_append [] ws a b = b
+  proper_append (v ∷ vs) ws a b = (a.0, proper_append vs ws a.1 b)
+
+  encoded_append : (ts us : List Tree) (y x : List ℕ) → AreEncodedAs order ts y → AreEncodedAs order us x → AreEncodedAs order (ts ++ us) (y ++ x)
+  encoded_append ts us y x a b = (a.0 ++ b.0, zip_append Means ts a.0 us b.0 a.1 b.1, proper_append a.0 b.0 a.2 b.2, seq_append order a.0 b.0 y x a.3 b.3)
 
   pub encoded_more : (ts : List Tree) (t : Tree) (y x : List ℕ) → AreEncodedAs order ts y → IsEncodedAs order t x → AreEncodedAs order (ts ++ t ∷ []) (y ++ x)
-  encoded_more ts t y x a e = (a.0 ++ e.0 ∷ [], mean_more ts a.0 t e.0 a.1 e.1, proper_more a.0 e.0 a.2 e.2, seq_push order a.0 e.0 y x a.3 e.3)
+  encoded_more ts t y x a e = encoded_append ts (t ∷ []) y x a (e.0 ∷ [], (e.1, tt), (e.2, tt), (x, [], e.3, refl, sym (append-nil x)))
 
   as_long : (ts : List Tree) (vs : List Value) (x : List ℕ) → AllZip Means ts vs → DetSeq order vs x → length ts ≤ length x
   as_long [] vs x h d = omega arith
@@ -80,8 +91,11 @@ module _ (order : List ℕ → List ℕ → Ordering) where
   contents_more false true ts t y x a v e = cc
   contents_more true bad ts t y x a v e = cc
 
+  counted : (n : ℕ) (ts us : List Tree) (y : List ℕ) → n ≡ length ts → AreEncodedAs order (ts ++ us) y → length y < 2 ^ 64 → min (n + length us) (2 ^ 64 - 1) ≡ length (ts ++ us)
+  counted n ts us y e a l = omega (arith, e, as_long (ts ++ us) a.0 y a.1 a.3, l, length-append ts us)
+
   pub counted_more : (b bad : Bool) (n : ℕ) (ts : List Tree) (t : Tree) (y x : List ℕ) → (b ≡ false → AreEncodedAs order ts y × (n ≡ length ts)) → Verdict bad t x → length (y ++ x) < 2 ^ 64 → (b || bad) ≡ false → min (n + 1) (2 ^ 64 - 1) ≡ length (ts ++ t ∷ [])
-  counted_more false false n ts t y x a v l e = let c = a refl in omega (arith, c.1, as_long ts c.0.0 y c.0.1 c.0.3, some_bytes order v.0 x v.3, length-append y x, length-append ts (t ∷ []))
+  counted_more false false n ts t y x a v l e = let c = a refl in counted n ts (t ∷ []) (y ++ x) c.1 (encoded_more ts t y x c.0 v) l
   counted_more false true n ts t y x a v l e = cc
   counted_more true bad n ts t y x a v l e = cc
 
@@ -151,63 +165,74 @@ marked_value p (q ∷ qs) r (m ∷ ms) x e h f =
     let u = marked_value (p + length q.1 + length q.2) qs r ms x e h.1 o in
     (m ∷ u.0, u.1, ap (λ (l : List Mark). m ∷ l) u.2, (h.0, u.3))
 
+even : (ts : List Tree) → last_key ts ≡ None → is_odd ts ≡ false
+even [] e = refl
+even (k ∷ []) e = cc
+even (k ∷ v ∷ ts) e = ap (λ b. not (not b)) (even ts e)
+
+puts_inside : (f : Partial) (o : Opening) (ts us : List Tree) → puts (inside f o ts) us ≡ inside f o (ts ++ us)
+puts_inside f o ts [] = ap (inside f o) (sym (append-nil ts))
+puts_inside f o ts (u ∷ us) = puts_inside f o (ts ++ u ∷ []) us ∙ ap (inside f o) (append_assoc ts (u ∷ []) us)
+
+-- no more is in the innermost container than in the buffer
+own_short : (y x a z : List ℕ) → length (y ++ x) < 2 ^ 64 → y ≡ a ++ z → length (z ++ x) < 2 ^ 64
+own_short y x a z k e = omega (arith, k, length-append y x, ap length e, length-append a z, length-append z x)
+
 module _ (order : List ℕ → List ℕ → Ordering) where
   -- ---- one more node in a container
 
   abbrev Within : Level → Opening → List Tree → List Mark → List ℕ → Type 0
   Within = Inner order
 
-  inner_array : (l : Level) (p : ℕ) (s : Size) (c : Option ℕ) (ts : List Tree) (t : Tree) (ms : List Mark) (z x : List ℕ) (bad : Bool) → length (z ++ x) < 2 ^ 64 → Verdict order bad t x → Within l (an_array p s c) ts ms z → Within (after l bad) (an_array p s c) (ts ++ t ∷ []) ms (z ++ x)
-  inner_array l p s c ts t ms z x bad k v h = record {
+  -- what came to the contents stands after them
+  inner_more : (l m : Level) (o : Opening) (ts us : List Tree) (ms ns : List Mark) (z x : List ℕ) (h : Within l o ts ms z) → Opens m o → m.content ≡ m.start + length h.front → IsSound m.flawed us → Contains order m o us ns (h.contents ++ x) → Within m o us ns (z ++ x)
+  inner_more l m o ts us ms ns z x h opens content sound contains = record {
     front = h.front;
     contents = h.contents ++ x;
     whole = ap (λ y. y ++ x) h.whole ∙ append_assoc h.front h.contents x;
-    opens = h.opens;
+    opens = opens;
     begins = h.begins;
-    content = h.content;
-    sound = sound_more l.flawed bad ts t h.sound (is_verdict order t x bad v);
-    contains = (
-      h.contains.0,
-      λ e. (
-        contents_more order l.flawed bad ts t h.contents x (λ f. (h.contains.1 f).0) v e,
-        counted_more order l.flawed bad l.count ts t h.contents x h.contains.1 v (omega (arith, k, ap length h.whole, length-append h.front h.contents, length-append z x, length-append h.contents x)) e,
-      ),
-    );
+    content = content;
+    sound = sound;
+    contains = contains;
   }
 
+  contents_short : (l : Level) (o : Opening) (ts : List Tree) (ms : List Mark) (z x : List ℕ) (h : Within l o ts ms z) → length (z ++ x) < 2 ^ 64 → length (h.contents ++ x) < 2 ^ 64
+  contents_short l o ts ms z x h k = omega (arith, k, ap length h.whole, length-append h.front h.contents, length-append z x, length-append h.contents x)
+
+  inner_items : (l : Level) (p : ℕ) (s : Size) (c : Option ℕ) (ts us : List Tree) (ms : List Mark) (z x : List ℕ) → length (z ++ x) < 2 ^ 64 → AreEncodedAs order us x → Within l (an_array p s c) ts ms z → Within (after_items l (length us)) (an_array p s c) (ts ++ us) ms (z ++ x)
+  inner_items l p s c ts us ms z x k e h =
+      let all : l.flawed ≡ false → AreEncodedAs order (ts ++ us) (h.contents ++ x) = λ f. encoded_append order ts us h.contents x (h.contains.1 f).0 e in
+      inner_more l (after_items l (length us)) (an_array p s c) ts (ts ++ us) ms ms z x h h.opens h.content (sound_items l.flawed ts us e.0 h.sound e.1)
+      (h.contains.0, λ f. (all f, counted order l.count ts us (h.contents ++ x) (h.contains.1 f).1 (all f) (contents_short l (an_array p s c) ts ms z x h k)))
+
+  inner_array : (l : Level) (p : ℕ) (s : Size) (c : Option ℕ) (ts : List Tree) (t : Tree) (ms : List Mark) (z x : List ℕ) (bad : Bool) → length (z ++ x) < 2 ^ 64 → Verdict order bad t x → Within l (an_array p s c) ts ms z → Within (after l bad) (an_array p s c) (ts ++ t ∷ []) ms (z ++ x)
+  inner_array l p s c ts t ms z x bad k v h =
+      inner_more l (after l bad) (an_array p s c) ts (ts ++ t ∷ []) ms ms z x h h.opens h.content (sound_more l.flawed bad ts t h.sound (is_verdict order t x bad v)) (
+        h.contains.0,
+        λ e. (
+          contents_more order l.flawed bad ts t h.contents x (λ f. (h.contains.1 f).0) v e,
+          counted_more order l.flawed bad l.count ts t h.contents x h.contains.1 v (contents_short l (an_array p s c) ts ms z x h k) e,
+        ),
+      )
+
   inner_tag : (l : Level) (p : ℕ) (w : Width) (n : ℕ) (ts : List Tree) (t : Tree) (ms : List Mark) (z x : List ℕ) (bad : Bool) → Verdict order bad t x → Within l (a_tag p w n) ts ms z → Within (after l bad) (a_tag p w n) (ts ++ t ∷ []) ms (z ++ x)
-  inner_tag l p w n ts t ms z x bad v h = record {
-    front = h.front;
-    contents = h.contents ++ x;
-    whole = ap (λ y. y ++ x) h.whole ∙ append_assoc h.front h.contents x;
-    opens = h.opens;
-    begins = h.begins;
-    content = h.content;
-    sound = sound_more l.flawed bad ts t h.sound (is_verdict order t x bad v);
-    contains = (h.contains.0, λ e. contents_more order l.flawed bad ts t h.contents x h.contains.1 v e);
-  }
+  inner_tag l p w n ts t ms z x bad v h =
+      inner_more l (after l bad) (a_tag p w n) ts (ts ++ t ∷ []) ms ms z x h h.opens h.content (sound_more l.flawed bad ts t h.sound (is_verdict order t x bad v))
+      (h.contains.0, λ e. contents_more order l.flawed bad ts t h.contents x h.contains.1 v e)
 
   inner_key : (l : Level) (p : ℕ) (s : Size) (c : Option ℕ) (ts : List Tree) (t : Tree) (ms : List Mark) (z x : List ℕ) (bad : Bool) (b e : ℕ) → Verdict order bad t x → Coded order t x → l.has_key ≡ false → b ≡ l.start + length z → e ≡ b + length x
       → Within l (a_map p s c) ts ms z → Within (after l bad) (a_map p s c) (ts ++ t ∷ []) (ms ++ (place t, b, e, e) ∷ []) (z ++ x)
   inner_key l p s c ts t ms z x bad b e v d k f g h =
       let rs = h.contains.1 in
       let at : b ≡ l.content + length (joined (row_entries rs)) = omega (arith, f, h.content, ap length h.whole, length-append h.front h.contents, ap length h.contains.4) in
-      record {
-        front = h.front;
-        contents = h.contents ++ x;
-        whole = ap (λ y. y ++ x) h.whole ∙ append_assoc h.front h.contents x;
-        opens = h.opens;
-        begins = h.begins;
-        content = h.content;
-        sound = sound_more l.flawed bad ts t h.sound (is_verdict order t x bad v);
-        contains = (
-          ap not h.contains.0 ∙ sym (odd_more order ts t),
-          rs ++ (place t, x, []) ∷ [],
-          key_more order ts t rs x (sym h.contains.0 ∙ k) h.contains.2 d,
-          marked_key l.content rs ms (place t) x b e h.contains.3 at g,
-          ap (λ y. y ++ x) h.contains.4 ∙ sym (joined_row rs (place t, x, []) ∙ ap (λ y. joined (row_entries rs) ++ y) (append-nil x)),
-        );
-      }
+      inner_more l (after l bad) (a_map p s c) ts (ts ++ t ∷ []) ms (ms ++ (place t, b, e, e) ∷ []) z x h h.opens h.content (sound_more l.flawed bad ts t h.sound (is_verdict order t x bad v)) (
+        ap not h.contains.0 ∙ sym (odd_more order ts t),
+        rs ++ (place t, x, []) ∷ [],
+        key_more order ts t rs x (sym h.contains.0 ∙ k) h.contains.2 d,
+        marked_key l.content rs ms (place t) x b e h.contains.3 at g,
+        ap (λ y. y ++ x) h.contains.4 ∙ sym (joined_row rs (place t, x, []) ∙ ap (λ y. joined (row_entries rs) ++ y) (append-nil x)),
+      )
 
   inner_value : (l : Level) (p : ℕ) (s : Size) (c : Option ℕ) (ts : List Tree) (t : Tree) (ms : List Mark) (z x : List ℕ) (bad : Bool) (e : ℕ) → Verdict order bad t x → Coded order t x → l.has_key ≡ true → e ≡ l.start + length z + length x
       → Within l (a_map p s c) ts ms z → (ns : List Mark) × (m : Mark) × (ms ≡ ns ++ m ∷ []) × Within (after l bad) (a_map p s c) (ts ++ t ∷ []) (ns ++ (m.0, m.1, m.2, e) ∷ []) (z ++ x)
@@ -222,110 +247,40 @@ module _ (order : List ℕ → List ℕ → Ordering) where
         w.0,
         w.1,
         w.2,
-        record {
-          front = h.front;
-          contents = h.contents ++ x;
-          whole = ap (λ y. y ++ x) h.whole ∙ append_assoc h.front h.contents x;
-          opens = h.opens;
-          begins = h.begins;
-          content = h.content;
-          sound = sound_more l.flawed bad ts t h.sound (is_verdict order t x bad v);
-          contains = (
-            ap not h.contains.0 ∙ sym (odd_more order ts t),
-            u.0 ++ (r.0, r.1, x) ∷ [],
-            u.4,
-            w.3,
-            ap (λ y. y ++ x) old ∙ append_assoc (joined (row_entries u.0)) r.1 x ∙ sym (joined_row u.0 (r.0, r.1, x)),
-          );
-        },
+        inner_more l (after l bad) (a_map p s c) ts (ts ++ t ∷ []) ms (w.0 ++ (w.1.0, w.1.1, w.1.2, e) ∷ []) z x h h.opens h.content (sound_more l.flawed bad ts t h.sound (is_verdict order t x bad v)) (
+          ap not h.contains.0 ∙ sym (odd_more order ts t),
+          u.0 ++ (r.0, r.1, x) ∷ [],
+          u.4,
+          w.3,
+          ap (λ y. y ++ x) old ∙ append_assoc (joined (row_entries u.0)) r.1 x ∙ sym (joined_row u.0 (r.0, r.1, x)),
+        ),
       )
 
   -- ---- and in a partial sequence
 
-  stands_plain : (outer : List Level) (l : Level) (f : Partial) (t : Tree) (ms : List Mark) (y x : List ℕ) (bad : Bool) → IsFree f → ((s : Size) (c : Option ℕ) → l.container ≡ container.Map s c → ⊥) → length (y ++ x) < 2 ^ 64
-      → Verdict order bad t x → Stands order outer l f ms y → Stands order outer (after l bad) (put f t) ms (y ++ x)
-  stands_plain outer l (top ts) t ms y x bad free never k v s =
-      (s.0, s.1, s.2, sound_more l.flawed bad ts t s.3 (is_verdict order t x bad v), λ e. contents_more order l.flawed bad ts t y x s.4 v e)
-  stands_plain outer l (inside f (an_array p z c) ts) t ms y x bad free never k v s = (
-    s.0,
-    s.1,
-    s.2,
-    s.3 ++ x,
-    s.4,
-    s.5,
-    s.6,
-    ap (λ w. w ++ x) s.7 ∙ append_assoc s.2 s.3 x,
-    s.8,
-    s.9,
-    s.10,
-    s.11,
-    inner_array l p z c ts t s.5 s.3 x bad (omega (arith, k, length-append y x, ap length s.7, length-append s.2 s.3, length-append s.3 x)) v s.12,
-  )
-  stands_plain outer l (inside f (a_map p z c) ts) t ms y x bad free never k v s = absurd (never z c s.12.opens.1)
-  stands_plain outer l (inside f (a_tag p w n) ts) t ms y x bad free never k v s = (
-    s.0,
-    s.1,
-    s.2,
-    s.3 ++ x,
-    s.4,
-    s.5,
-    s.6,
-    ap (λ w. w ++ x) s.7 ∙ append_assoc s.2 s.3 x,
-    s.8,
-    s.9,
-    s.10,
-    s.11,
-    inner_tag l p w n ts t s.5 s.3 x bad v s.12,
-  )
-  stands_plain outer l (inside f (in_chunks p j) ts) t ms y x bad free never k v s = absurd free.1
+  -- only what is in the innermost container differs
+  stands_more : (outer : List Level) (l m : Level) (f : Partial) (o : Opening) (ts us : List Tree) (ms ns own : List Mark) (y x : List ℕ) (s : Stands order outer l (inside f o ts) ms y) → m.start ≡ l.start → m.pairs ≡ l.pairs → ns ≡ s.4 ++ own → Within m o us own (s.3 ++ x) → Stands order outer m (inside f o us) ns (y ++ x)
+  stands_more outer l m f o ts us ms ns own y x s a b e h = (s.0, s.1, s.2, s.3 ++ x, s.4, own, s.6, ap (λ w. w ++ x) s.7 ∙ append_assoc s.2 s.3 x, e, a ∙ s.9, b ∙ s.10, s.11, h)
 
-  stands_key : (outer : List Level) (l : Level) (f : Partial) (t : Tree) (ms : List Mark) (y x : List ℕ) (bad : Bool) (i : Size) (c : Option ℕ) (b e : ℕ) → IsFree f → l.container ≡ container.Map i c → l.has_key ≡ false
-      → Verdict order bad t x → Coded order t x → b ≡ length y → e ≡ length (y ++ x) → Stands order outer l f ms y → Stands order outer (after l bad) (put f t) (ms ++ (place t, b, e, e) ∷ []) (y ++ x)
-  stands_key outer l (top ts) t ms y x bad i c b e free is k v d f g s = let h : container.Input ≡ container.Map i c = sym s.2 ∙ is in cc
-  stands_key outer l (inside f (an_array p z n) ts) t ms y x bad i c b e free is k v d j g s = let h : container.Array z n ≡ container.Map i c = sym s.12.opens.1 ∙ is in cc
-  stands_key outer l (inside f (a_map p z n) ts) t ms y x bad i c b e free is k v d j g s = (
-    s.0,
-    s.1,
-    s.2,
-    s.3 ++ x,
-    s.4,
-    s.5 ++ (place t, b, e, e) ∷ [],
-    s.6,
-    ap (λ w. w ++ x) s.7 ∙ append_assoc s.2 s.3 x,
-    ap (λ ns. ns ++ (place t, b, e, e) ∷ []) s.8 ∙ append_assoc s.4 s.5 ((place t, b, e, e) ∷ []),
-    s.9,
-    s.10,
-    s.11,
-    inner_key l p z n ts t s.5 s.3 x bad b e v d k (omega (arith, j, s.9, ap length s.7, length-append s.2 s.3)) (omega (arith, g, j, length-append y x)) s.12,
-  )
-  stands_key outer l (inside f (a_tag p w n) ts) t ms y x bad i c b e free is k v d j g s = let h : container.Tag w n ≡ container.Map i c = sym s.12.opens.1 ∙ is in cc
-  stands_key outer l (inside f (in_chunks p a) ts) t ms y x bad i c b e free is k v d j g s = absurd free.1
+  stands_key : (outer : List Level) (l : Level) (f : Partial) (p : ℕ) (z : Size) (c : Option ℕ) (ts : List Tree) (t : Tree) (ms ms' : List Mark) (y x : List ℕ) (bad : Bool) → l.has_key ≡ false → Verdict order bad t x → Coded order t x → ms' ≡ ms ++ (place t, length y, length (y ++ x), length (y ++ x)) ∷ []
+      → Stands order outer l (inside f (a_map p z c) ts) ms y → Stands order outer (after l bad) (inside f (a_map p z c) (ts ++ t ∷ [])) ms' (y ++ x)
+  stands_key outer l f p z c ts t ms ms' y x bad k v d new s =
+      let b = length y in
+      let e = length (y ++ x) in
+      let m : Mark = (place t, b, e, e) in
+      stands_more outer l (after l bad) f (a_map p z c) ts (ts ++ t ∷ []) ms ms' (s.5 ++ m ∷ []) y x s refl refl (new ∙ ap (λ ns. ns ++ m ∷ []) s.8 ∙ append_assoc s.4 s.5 (m ∷ []))
+      (inner_key l p z c ts t s.5 s.3 x bad b e v d k (omega (arith, s.9, ap length s.7, length-append s.2 s.3)) (length-append y x) s.12)
 
-  stands_value : (outer : List Level) (l : Level) (f : Partial) (t : Tree) (ms ms' : List Mark) (y x : List ℕ) (bad : Bool) (i : Size) (c : Option ℕ) (e : ℕ) → IsFree f → l.container ≡ container.Map i c → l.has_key ≡ true
-      → Verdict order bad t x → Coded order t x → e ≡ length (y ++ x) → ((ns : List Mark) (p s m n : ℕ) → ms ≡ ns ++ (p, s, m, n) ∷ [] → ms' ≡ ns ++ (p, s, m, e) ∷ [])
-      → Stands order outer l f ms y → Stands order outer (after l bad) (put f t) ms' (y ++ x)
-  stands_value outer l (top ts) t ms ms' y x bad i c e free is k v d g set s = let h : container.Input ≡ container.Map i c = sym s.2 ∙ is in cc
-  stands_value outer l (inside f (an_array p z n) ts) t ms ms' y x bad i c e free is k v d g set s = let h : container.Array z n ≡ container.Map i c = sym s.12.opens.1 ∙ is in cc
-  stands_value outer l (inside f (a_map p z n) ts) t ms ms' y x bad i c e free is k v d g set s =
-      let u = inner_value l p z n ts t s.5 s.3 x bad e v d k (omega (arith, g, s.9, ap length s.7, length-append s.2 s.3, length-append y x)) s.12 in
+  stands_value : (outer : List Level) (l : Level) (f : Partial) (p : ℕ) (z : Size) (c : Option ℕ) (ts : List Tree) (t : Tree) (ms ms' : List Mark) (y x : List ℕ) (bad : Bool) → l.has_key ≡ true → Verdict order bad t x → Coded order t x
+      → ((ns : List Mark) (p s m n : ℕ) → ms ≡ ns ++ (p, s, m, n) ∷ [] → ms' ≡ ns ++ (p, s, m, length (y ++ x)) ∷ [])
+      → Stands order outer l (inside f (a_map p z c) ts) ms y → Stands order outer (after l bad) (inside f (a_map p z c) (ts ++ t ∷ [])) ms' (y ++ x)
+  stands_value outer l f p z c ts t ms ms' y x bad k v d set s =
+      let e = length (y ++ x) in
+      let u = inner_value l p z c ts t s.5 s.3 x bad e v d k (omega (arith, s.9, ap length s.7, length-append s.2 s.3, length-append y x)) s.12 in
       let m = u.1 in
-      let old : ms ≡ (s.4 ++ u.0) ++ (m.0, m.1, m.2, m.3) ∷ [] = s.8 ∙ ap (λ ns. s.4 ++ ns) u.2 ∙ sym (append_assoc s.4 u.0 (m ∷ [])) in (
-        s.0,
-        s.1,
-        s.2,
-        s.3 ++ x,
-        s.4,
-        u.0 ++ (m.0, m.1, m.2, e) ∷ [],
-        s.6,
-        ap (λ w. w ++ x) s.7 ∙ append_assoc s.2 s.3 x,
-        set (s.4 ++ u.0) m.0 m.1 m.2 m.3 old ∙ append_assoc s.4 u.0 ((m.0, m.1, m.2, e) ∷ []),
-        s.9,
-        s.10,
-        s.11,
-        u.3,
-      )
-  stands_value outer l (inside f (a_tag p w n) ts) t ms ms' y x bad i c e free is k v d g set s = let h : container.Tag w n ≡ container.Map i c = sym s.12.opens.1 ∙ is in cc
-  stands_value outer l (inside f (in_chunks p a) ts) t ms ms' y x bad i c e free is k v d g set s = absurd free.1
+      let old : ms ≡ (s.4 ++ u.0) ++ (m.0, m.1, m.2, m.3) ∷ [] = s.8 ∙ ap (λ ns. s.4 ++ ns) u.2 ∙ sym (append_assoc s.4 u.0 (m ∷ [])) in
+      let new : Mark = (m.0, m.1, m.2, e) in
+      stands_more outer l (after l bad) f (a_map p z c) ts (ts ++ t ∷ []) ms ms' (u.0 ++ new ∷ []) y x s refl refl (set (s.4 ++ u.0) m.0 m.1 m.2 m.3 old ∙ append_assoc s.4 u.0 (new ∷ [])) u.3
 
   pub stands_put : (outer : List Level) (l : Level) (f : Partial) (t : Tree) (ms ms' : List Mark) (y x : List ℕ) (bad : Bool) → IsFree f → length (y ++ x) < 2 ^ 64 → Coded order t x
       → (bad ≡ true → length (y ++ x) ≤ length y) → (bad ≡ false → length y < length (y ++ x))
@@ -338,20 +293,43 @@ module _ (order : List ℕ → List ℕ → Ordering) where
       v : Verdict order bad t x
       v = verdict order t y x bad d g h
 
-      unmarked : (f : Partial) → IsFree f → ((s : Size) (c : Option ℕ) → l.container ≡ container.Map s c → ⊥) → Stands order outer l f ms y → Stands order outer (after l bad) (put f t) ms' (y ++ x)
-      unmarked f free never s = subst (λ ns. Stands order outer (after l bad) (put f t) ns (y ++ x)) (sym (plain never)) (stands_plain outer l f t ms y x bad free never k v s)
-
       by : (f : Partial) → IsFree f → Stands order outer l f ms y → Stands order outer (after l bad) (put f t) ms' (y ++ x)
-      by (top ts) free s = unmarked (top ts) free (λ i c e. let h : container.Input ≡ container.Map i c = sym s.2 ∙ e in cc) s
-      by (inside f (an_array p z n) ts) free s = unmarked (inside f (an_array p z n) ts) free (λ i c e. let h : container.Array z n ≡ container.Map i c = sym s.12.opens.1 ∙ e in cc) s
-      by (inside f (a_tag p w n) ts) free s = unmarked (inside f (a_tag p w n) ts) free (λ i c e. let h : container.Tag w n ≡ container.Map i c = sym s.12.opens.1 ∙ e in cc) s
+      by (top ts) free s =
+          let never : (i : Size) (c : Option ℕ) → l.container ≡ container.Map i c → ⊥ = λ i c e. let h : container.Input ≡ container.Map i c = sym s.2 ∙ e in cc in
+          (s.0, plain never ∙ s.1, s.2, sound_more l.flawed bad ts t s.3 (is_verdict order t x bad v), λ e. contents_more order l.flawed bad ts t y x s.4 v e)
+      by (inside f (an_array p z n) ts) free s =
+          let never : (i : Size) (c : Option ℕ) → l.container ≡ container.Map i c → ⊥ = λ i c e. let h : container.Array z n ≡ container.Map i c = sym s.12.opens.1 ∙ e in cc in
+          stands_more outer l (after l bad) f (an_array p z n) ts (ts ++ t ∷ []) ms ms' s.5 y x s refl refl (plain never ∙ s.8) (inner_array l p z n ts t s.5 s.3 x bad (own_short y x s.2 s.3 k s.7) v s.12)
+      by (inside f (a_tag p w n) ts) free s =
+          let never : (i : Size) (c : Option ℕ) → l.container ≡ container.Map i c → ⊥ = λ i c e. let h : container.Tag w n ≡ container.Map i c = sym s.12.opens.1 ∙ e in cc in
+          stands_more outer l (after l bad) f (a_tag p w n) ts (ts ++ t ∷ []) ms ms' s.5 y x s refl refl (plain never ∙ s.8) (inner_tag l p w n ts t s.5 s.3 x bad v s.12)
       by (inside f (in_chunks p j) ts) free s = absurd free.1
       by (inside f (a_map p z n) ts) free s = go l.has_key refl
         where
           go : (b : Bool) → l.has_key ≡ b → Stands order outer (after l bad) (put (inside f (a_map p z n) ts) t) ms' (y ++ x)
-          go false e = subst (λ ns. Stands order outer (after l bad) (put (inside f (a_map p z n) ts) t) ns (y ++ x)) (sym (key z n s.12.opens.1 e))
-              (stands_key outer l (inside f (a_map p z n) ts) t ms y x bad z n (length y) (length (y ++ x)) free s.12.opens.1 e v d refl refl s)
-          go true e = stands_value outer l (inside f (a_map p z n) ts) t ms ms' y x bad z n (length (y ++ x)) free s.12.opens.1 e v d refl (value z n s.12.opens.1 e) s
+          go false e = stands_key outer l f p z n ts t ms ms' y x bad e v d (key z n s.12.opens.1 e) s
+          go true e = stands_value outer l f p z n ts t ms ms' y x bad e v d (value z n s.12.opens.1 e) s
+
+  -- ---- more than one at once
+
+  pub stands_items : (outer : List Level) (l : Level) (f : Partial) (ts : List Tree) (ms : List Mark) (y x : List ℕ) → InArray f → length (y ++ x) < 2 ^ 64 → AreEncodedAs order ts x → Stands order outer l f ms y → Stands order outer (after_items l (length ts)) (puts f ts) ms (y ++ x)
+  stands_items outer l (inside f (an_array p z c) us) ts ms y x at k e s =
+      subst (λ g. Stands order outer (after_items l (length ts)) g ms (y ++ x)) (sym (puts_inside f (an_array p z c) us ts))
+      (stands_more outer l (after_items l (length ts)) f (an_array p z c) us (us ++ ts) ms ms s.5 y x s refl refl s.8 (inner_items l p z c us ts s.5 s.3 x (own_short y x s.2 s.3 k s.7) e s.12))
+  stands_items outer l f ts ms y x at k e s = absurd at
+
+  -- a key, and then its value
+  pub stands_pair : (outer : List Level) (l : Level) (f : Partial) (t u : Tree) (ms : List Mark) (y a b : List ℕ) → AtKey f → IsEncodedAs order t a → IsEncodedAs order u b
+      → Stands order outer l f ms y → Stands order outer (after (after l false) false) (put (put f t) u) (ms ++ (place t, length y, length (y ++ a), length ((y ++ a) ++ b)) ∷ []) ((y ++ a) ++ b)
+  stands_pair outer l (inside f (a_map p z c) ts) t u ms y a b at e g s =
+      let n = length (y ++ a) in
+      let m : Mark = (place t, length y, n, n) in
+      let o = length ((y ++ a) ++ b) in
+      let has : l.has_key ≡ false = s.12.contains.0 ∙ even ts at in
+      let key = stands_key outer l f p z c ts t ms (ms ++ m ∷ []) y a false has e (inl e) refl s in
+      stands_value outer (after l false) f p z c (ts ++ t ∷ []) u (ms ++ m ∷ []) (ms ++ (place t, length y, n, o) ∷ []) (y ++ a) b false (ap not has) g (inl g)
+      (λ ns q i j k last. let r = same_from_push ms ns m (q, i, j, k) last in (λ w. r.0 w ++ ((r.1 w).0, (r.1 w).1, (r.1 w).2, o) ∷ [])) key
+  stands_pair outer l f t u ms y a b at e g s = absurd at
 
   pub stands_same : (outer outer' : List Level) (l l' : Level) (f : Partial) (ms ms' : List Mark) (y y' : List ℕ) → outer' ≡ outer → l' ≡ l → ms' ≡ ms → y' ≡ y → Stands order outer l f ms y → Stands order outer' l' f ms' y'
   stands_same outer outer' l l' f ms ms' y y' a b c d s =
@@ -422,27 +400,7 @@ module _ (order : List ℕ → List ℕ → Ordering) where
   stands_chunk outer l (inside f (a_map p z n) ts) t ms y x bad c s = absurd c
   stands_chunk outer l (inside f (a_tag p z n) ts) t ms y x bad c s = absurd c
   stands_chunk outer l (inside f (in_chunks p k) ts) t ms y x bad c s =
-      let h = s.12 in (
-        s.0,
-        s.1,
-        s.2,
-        s.3 ++ x,
-        s.4,
-        s.5,
-        s.6,
-        ap (λ w. w ++ x) s.7 ∙ append_assoc s.2 s.3 x,
-        s.8,
-        s.9,
-        s.10,
-        s.11,
-        record {
-          front = h.front;
-          contents = h.contents ++ x;
-          whole = ap (λ y. y ++ x) h.whole ∙ append_assoc h.front h.contents x;
-          opens = h.opens;
-          begins = h.begins;
-          content = h.content;
-          sound = sound_more l.flawed bad ts t h.sound (chunk_verdict k t c.0 c.1 c.2 x bad c.3 c.4);
-          contains = (h.contains.0, λ e. chunk_contents l.flawed bad ts k t c.0 c.1 c.2 h.contents x c.3 c.4 h.contains.1 e);
-        },
-      )
+      let h = s.12 in
+      stands_more outer l (after l bad) f (in_chunks p k) ts (ts ++ t ∷ []) ms ms s.5 y x s refl refl s.8
+      (inner_more l (after l bad) (in_chunks p k) ts (ts ++ t ∷ []) s.5 s.5 s.3 x h h.opens h.content (sound_more l.flawed bad ts t h.sound (chunk_verdict k t c.0 c.1 c.2 x bad c.3 c.4))
+      (h.contains.0, λ e. chunk_contents l.flawed bad ts k t c.0 c.1 c.2 h.contents x c.3 c.4 h.contains.1 e))

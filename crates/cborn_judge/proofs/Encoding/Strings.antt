@@ -1,15 +1,18 @@
 -- A string that ends in what an encoder holds.
-use Rattle.std.proofs.Common.{◌≡◌, ℕ, ◌<◌, ◌^◌, inl, inr, List, ◌++◌, length, refl, sym, ap, ◌∙◌, subst, true, false, true≢false, Bool, not, Ordering}
+use Rattle.std.proofs.Common.{◌≡◌, ℕ, ◌<◌, ◌^◌, inl, inr, List, ◌++◌, append_assoc, length, refl, sym, ap, ◌∙◌, subst, true, false, true≢false, Bool, not, Ordering}
 use Rattle.std.specs.Prelude.{◌↔◌, IsTrue}
 use Rattle.cborn_model.specs.declared.heads.Width.{Width}
 use Rattle.cborn_model.specs.declared.visitors.StringKind.{StringKind}
 use Rattle.cborn_model.specs.declared.visitors.StringKind.TheVariants.{OfBytes, OfText}
 use Rattle.cborn_model.specs.Bytes.{AreBytes}
+use Rattle.cborn_model.proofs.Bytes.{bytes-append}
 use Rattle.cborn_model.specs.Tree.{place}
 use Rattle.cborn_model.specs.Value.{bytes, text}
 use Rattle.cborn_model.specs.Partial.{Partial, top, inside, an_array, a_map, a_tag, in_chunks, string_tree, Proper, TakesItem, TakesString, IsFree}
-use Rattle.cborn_judge.specs.devices.Encoding.{Mark, Coded, Stands, is_chunks, are_chunks}
-use Rattle.cborn_judge.specs.devices.Encoders.{kept, IsContent, IsChunk, IsChunkContent, IsStringFront}
+use Rattle.cborn_judge.specs.devices.Encoding.{Mark, IsEncodedAs, Coded, Stands, is_chunks, are_chunks}
+use Rattle.cborn_judge.specs.devices.Encoders.{kept, IsContent, IsChunk, IsChunkContent, IsStringFront, StandsAs, Written}
+use Rattle.cborn_judge.specs.declared.encoders.Encodings.{Encodings}
+use Rattle.cborn_judge.specs.declared.encoders.OpenString.{OpenString}
 use Rattle.cborn_judge.specs.declared.levels.Level.{Level}
 
 pub string_place : (p : ℕ) (k : StringKind) (w : Width) (x : List ℕ) → place (string_tree p k w x) ≡ p
@@ -28,9 +31,24 @@ module _ (order : List ℕ → List ℕ → Ordering) where
   pub free_there : (outer : List Level) (l : Level) (f : Partial) (ms : List Mark) (y : List ℕ) → Stands order outer l f ms y → is_chunks l ≡ false → Proper f → IsFree f
   free_there outer l f ms y s e p = (p, no_chunks outer l f ms y s e)
 
+  -- with the next bytes of its content
+  pub written_more : (e n : Encodings) (s : OpenString) (f : Partial) (y h x b : List ℕ) → Written order e s f y h x → n.out.items ≡ e.out.items ++ b → n.innermost ≡ e.innermost → StandsAs order n f y → AreBytes b → Written order n s f y h (x ++ b)
+  written_more e n s f y h x b w out same stands are = record {
+    out = out ∙ ap (λ z. z ++ b) w.out ∙ append_assoc (y ++ h) x b;
+    start = w.start;
+    content = w.content;
+    front = subst (λ l. IsStringFront (is_chunks l) s.kind s.len h) (sym same) w.front;
+    bytes = bytes-append x b w.bytes are;
+    short = w.short;
+    stands = stands;
+  }
+
+  pub string_encoded : (p : ℕ) (k : StringKind) (w : Width) (n : ℕ) (h x : List ℕ) → IsStringFront false k n h → length x ≡ n → n < 2 ^ 64 → AreBytes x → IsContent k x → IsEncodedAs order (string_tree p k w x) (h ++ x)
+  string_encoded p OfBytes w n h x front len short are content = (bytes x, refl, (are, subst (λ m. m < 2 ^ 64) (sym len) short), (h, subst (λ m. IsStringFront false OfBytes m h) (sym len) front, refl))
+  string_encoded p OfText w n h x front len short are content = (text x, (content, refl), (content, subst (λ m. m < 2 ^ 64) (sym len) short), (h, subst (λ m. IsStringFront false OfText m h) (sym len) front, refl))
+
   pub string_coded : (p : ℕ) (k : StringKind) (w : Width) (n : ℕ) (h x : List ℕ) (good : Bool) → IsStringFront false k n h → length x ≡ n → n < 2 ^ 64 → AreBytes x → IsTrue good ↔ IsContent k x → Coded order (string_tree p k w x) (kept good (h ++ x))
-  string_coded p OfBytes w n h x true front len short are is = inl (bytes x, refl, (are, subst (λ m. m < 2 ^ 64) (sym len) short), (h, subst (λ m. IsStringFront false OfBytes m h) (sym len) front, refl))
-  string_coded p OfText w n h x true front len short are is = let u = is.0 refl in inl (text x, (u, refl), (u, subst (λ m. m < 2 ^ 64) (sym len) short), (h, subst (λ m. IsStringFront false OfText m h) (sym len) front, refl))
+  string_coded p k w n h x true front len short are is = inl (string_encoded p k w n h x front len short are (is.0 refl))
   string_coded p OfBytes w n h x false front len short are is = absurd (true≢false (sym (is.1 tt)))
   string_coded p OfText w n h x false front len short are is = inr (refl, λ v m. true≢false (sym (is.1 m.0)))
 

@@ -9,11 +9,14 @@ passed_one {A} xs i x l e = take_more xs i x l ∙ ap (λ (z : A). take i xs ++ 
 -- ---- with another list that the loop builds
 
 module _ {A B : Type 0} (R : A → B → Type 0) where
+  pub zip_append : (xs : List A) (ys : List B) (us : List A) (vs : List B) → AllZip R xs ys → AllZip R us vs → AllZip R (xs ++ us) (ys ++ vs)
+  zip_append [] [] us vs h k = k
+  zip_append [] (b ∷ ys) us vs h k = absurd h
+  zip_append (a ∷ xs) [] us vs h k = absurd h
+  zip_append (a ∷ xs) (b ∷ ys) us vs h k = (h.0, zip_append xs ys us vs h.1 k)
+
   pub zip_more : (xs : List A) (ys : List B) (x : A) (y : B) → AllZip R xs ys → R x y → AllZip R (xs ++ x ∷ []) (ys ++ y ∷ [])
-  zip_more [] [] x y h r = (r, tt)
-  zip_more [] (b ∷ ys) x y h r = absurd h
-  zip_more (a ∷ xs) [] x y h r = absurd h
-  zip_more (a ∷ xs) (b ∷ ys) x y h r = (h.0, zip_more xs ys x y h.1 r)
+  zip_more xs ys x y h r = zip_append xs ys (x ∷ []) (y ∷ []) h (r, tt)
 
   pub zip-take_more : (xs : List A) (i : ℕ) (x : A) (ys zs : List B) (y : B) → i < length xs → x ≡ get_or xs i x → AllZip R (take i xs) ys → R x y → zs ≡ ys ++ y ∷ [] → AllZip R (take (i + 1) xs) zs
   zip-take_more xs i x ys zs y l e h r z =

@@ -1,15 +1,13 @@
 use Rattle.std.proofs.Common.{◌≡◌, ◌++◌, length, ap, ◌∙◌, sym, subst, Some}
 use Rattle.std.specs.Prelude.{IsTrue, ◌↔◌}
-use Rattle.cborn_model.specs.Partial.{string_tree, put, TakesString}
+use Rattle.cborn_model.specs.Partial.{string_tree, put, no_part, TakesString}
 use Rattle.cborn_model.proofs.HandedOver.{on_ok}
-use Rattle.cborn_judge.specs.devices.Encoding.{Finds}
-use Rattle.cborn_judge.specs.devices.Encoders.{IsContent, StandsIn, Written}
-use Rattle.cborn_judge.proofs.Encoding.Leaves.{finds_string}
+use Rattle.cborn_judge.specs.devices.Encoders.{IsContent, IsHeld, Written}
 use Rattle.cborn_judge.specs.declared.encoders.OpenString.{OpenString}
 use Rattle.cborn_judge.proofs.encoders.EncoderVisitor.close_string.Goals as goal
 
 pub returns-clause-held : goal.returns-clause-held
-returns-clause-held g c = on_ok c.put_string.result (λ held f p k w n x proper takes len (s, y, h, is, a, b, d, e, old, finds).
+returns-clause-held g c = on_ok c.end_string.result (λ held f p k w n x proper takes len (s, y, h, is, a, b, d, e, old, finds).
     let order = g.O.KeyOrder.order in
     let v = c.args.self.now in
     let t = c.in-Some.string in
@@ -20,7 +18,5 @@ returns-clause-held g c = on_ok c.put_string.result (λ held f p k w n x proper 
     let long : length x ≡ t.len = len ∙ sym e ∙ ap (λ (z : OpenString). z.len) same in
     let written : Written order v.encodings t f y h x = subst (λ z. Written order v.encodings z f y h x) same old in
     let good : IsTrue c.is_good-is_good.result ↔ IsContent t.kind x = c.is_good-is_good.ensures (y ++ h) x written.out written.content in
-    let found = finds_string order f t.place t.kind t.width t.len x c.is_good-is_good.result v.flaw c.text_flaw.result c.keep.new.first v.defect c.head_defect.result c.keep-2.new.first long good
-    c.text_flaw.ensures c.head_defect.ensures c.keep.ensures c.keep-2.ensures finds in
-    subst (λ u. StandsIn order c.put_string.new.self (put f u) × Finds order (put f u) c.keep.new.first c.keep-2.new.first) (λ i. string_tree (at i) (kind i) (width i) x)
-    (held order f y h x good (proper, subst (TakesString f) (sym kind) takes, long, written), found)) c.put_string.ensures.held
+    subst (λ u. IsHeld order c.end_string.new.self (put f u) no_part) (λ i. string_tree (at i) (kind i) (width i) x)
+    (held f y h x good (proper, subst (TakesString f) (sym kind) takes, long, written) finds)) c.end_string.ensures.held

@@ -1,8 +1,8 @@
-use Rattle.std.proofs.Common.{rules, ◌≡◌, length, refl, subst}
+use Rattle.std.proofs.Common.{rules, ◌≡◌, inl, length, refl, subst}
 use Rattle.cborn_model.specs.Heads.{IsLeastHead}
 use Rattle.cborn_model.specs.Tree.{Simple}
 use Rattle.cborn_model.proofs.HandedOver.{on_ok}
-use Rattle.cborn_judge.proofs.Encoding.Leaves.{simple_coded, finds_simple}
+use Rattle.cborn_judge.proofs.Encoding.Leaves.{simple_encoded, finds_simple}
 use Rattle.cborn_judge.proofs.encoders.EncoderVisitor.simple.Goals as goal
 
 pub returns-clause-held : goal.returns-clause-held
@@ -13,4 +13,4 @@ returns-clause-held g c = on_ok c.put.result (λ held f free old.
     let h = c.in_ok-put_head.ensures.appended in
     let start : c.len-start.result ≡ length e.encodings.out.items = search rules in
     let head : IsLeastHead 7 a.n h.0 = subst (λ n. IsLeastHead 7 n h.0) c.from.ensures h.1 in
-    (held order f (Simple a.place a.n) e.encodings.out.items h.0 free refl h.2 start (simple_coded order a.place a.n h.0 c.requires head) old.0, finds_simple order f a.place a.n e.flaw e.defect old.1)) c.put.ensures.held
+    (held order f (Simple a.place a.n) e.encodings.out.items h.0 free refl h.2 start (inl (simple_encoded order a.place a.n h.0 c.requires head)) old.0, finds_simple order f a.place a.n e.flaw e.defect old.1)) c.put.ensures.held

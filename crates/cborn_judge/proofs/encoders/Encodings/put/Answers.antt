@@ -16,8 +16,8 @@ returns c = record {
       let bad = leb c.len-end.result c.args.start in
       let e = c.in_ok-mark.ensures in
       let kept = c.mark.ensures.kept in
-      stands_same order old.outer.items c.mark.new.self.outer.items (after old.innermost bad) c.with-self.result (put f t) (marks_of c.mark.new.self.pairs) (marks_of c.mark.new.self.pairs) (y ++ x) c.mark.new.self.out.items
-      (ap (λ v. v.items) kept.2) (c.with-self.ensures ∙ ap (λ l. after l bad) kept.1) refl (ap (λ v. v.items) kept.0 ∙ out)
+      stands_same order old.outer.items c.mark.new.self.outer.items (after old.innermost bad) c.add.new.self (put f t) (marks_of c.mark.new.self.pairs) (marks_of c.mark.new.self.pairs) (y ++ x) c.mark.new.self.out.items
+      (ap (λ v. v.items) kept.2) (c.add.ensures ∙ ap (λ l. after l bad) kept.1) refl (ap (λ v. v.items) kept.0 ∙ out)
       (stands_put order old.outer.items old.innermost f t (marks_of old.pairs) (marks_of c.mark.new.self.pairs) y x bad free (omega (arith, whole, short)) coded
       (λ b. omega (arith, leb-true c.len-end.result c.args.start b, whole, start)) (λ b. omega (arith, leb-false c.len-end.result c.args.start b, whole, start))
       e.plain

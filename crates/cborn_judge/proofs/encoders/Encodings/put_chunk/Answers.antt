@@ -9,6 +9,6 @@ pub returns : goal.returns
 returns c = record {
   held = λ order f t y x out chunk stands.
       let old = c.args.self.now in
-      stands_same order old.outer.items old.outer.items (after old.innermost c.args.flawed) c.with-self.result (put f t) (marks_of old.pairs) (marks_of old.pairs) (y ++ x) old.out.items
-      refl c.with-self.ensures refl out (stands_chunk order old.outer.items old.innermost f t (marks_of old.pairs) y x c.args.flawed chunk stands);
+      stands_same order old.outer.items old.outer.items (after old.innermost c.args.flawed) c.add.new.self (put f t) (marks_of old.pairs) (marks_of old.pairs) (y ++ x) old.out.items
+      refl c.add.ensures refl out (stands_chunk order old.outer.items old.innermost f t (marks_of old.pairs) y x c.args.flawed chunk stands);
 }
