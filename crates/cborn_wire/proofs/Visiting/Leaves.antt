@@ -79,7 +79,7 @@ string_free (inside f o ts) k h = tt
 
 -- a leaf is allowed wherever an item is
 
-plain_slot : (f : Partial) → TakesItem f → IsNoChunkSlot (slot (open_in f))
+pub plain_slot : (f : Partial) → TakesItem f → IsNoChunkSlot (slot (open_in f))
 plain_slot (top ts) h = tt
 plain_slot (inside f (in_chunks p k) ts) h = absurd h
 plain_slot (inside f (an_array p s None) ts) h = tt
@@ -97,7 +97,7 @@ no_chunk : (s : Slot) (m : Major) (i : Info) → IsNoChunkSlot s → is_bad_chun
 no_chunk (chunk k) m i h = absurd h
 no_chunk s m i h = refl
 
-leaf_free : (s : Slot) (full : Bool) (m : Major) (w : Width) (n : ℕ) → IsNoChunkSlot s → IsLeaf m w → head_reason s full m (info_for (heads.Given w n)) [] ≡ None
+pub leaf_free : (s : Slot) (full : Bool) (m : Major) (w : Width) (n : ℕ) → IsNoChunkSlot s → IsLeaf m w → head_reason s full m (info_for (heads.Given w n)) [] ≡ None
 leaf_free s full Unsigned w n h l = clear_given s full Unsigned w n (no_chunk s Unsigned (info_for (heads.Given w n)) h) refl refl
 leaf_free s full Negative w n h l = clear_given s full Negative w n (no_chunk s Negative (info_for (heads.Given w n)) h) refl refl
 leaf_free s full ByteString w n h l = clear_given s full ByteString w n (no_chunk s ByteString (info_for (heads.Given w n)) h) refl refl
