@@ -1,7 +1,7 @@
 -- What is read and made of leaves that are taken several at a time.
 use Rattle.std.proofs.Common.{◌≡◌, refl, sym, ap, ◌∙◌, subst, inl, ℕ, suc, ◌+◌, ◌-◌, ◌/◌, ◌^◌, ◌<◌, ◌≤◌, List, [], ◌∷◌, ◌++◌, length, take, drop, cond, leb, ltb, Option, Some, None, arith, append-nil, length-append}
 use Rattle.std.proofs.lemmas.Bool.{lt-leb, lt-ltb}
-use Rattle.std.proofs.lemmas.List.{drop-take, take-append-le, take_all, length-take-le}
+use Rattle.std.proofs.lemmas.List.{drop-take, take-append-drop, take-append-le, take_all, length-take-le}
 use Rattle.std.proofs.Math.Seq.{take-add}
 use Rattle.cborn_model.specs.Bytes.{AreBytes}
 use Rattle.cborn_model.specs.declared.heads.Width.{Width}
@@ -13,7 +13,7 @@ use Rattle.cborn_model.specs.Heads.{Given, head, WidthFits, least}
 use Rattle.cborn_model.specs.Tree.{Tree, Uint, Nint, Bytes, Text, ByteChunks, TextChunks, Items, Pairs, Tagged, Simple}
 use Rattle.cborn_model.specs.Partial.{an_array, a_map, a_tag, in_chunks, Partial, top, inside, no_part, put, paired, last_key, TakesItem}
 use Rattle.cborn_model.specs.shared.Runs.{IsInteger, IsShortLeaf, AreShortIntegers, IsShortPair, text_in, puts, InArray, AtKey}
-use Rattle.cborn_model.proofs.Bytes.{bytes-left, bytes-right}
+use Rattle.cborn_model.proofs.Bytes.{bytes-right}
 use Rattle.cborn_model.proofs.Numbers.Simples.{simple_value}
 use Rattle.cborn_wire.specs.declared.levels.Level.{Level}
 use Rattle.cborn_wire.specs.declared.levels.LevelKind.{LevelKind}
@@ -149,7 +149,7 @@ module _ (x : List ℕ) (g h : GivenHead) (n m : ℕ) (key : IsLeafOf x g n) (va
       let front : take n (take (n + m) x) ≡ take n x = ap (take n) (take-add n m x) ∙ take-append-le n (take n x) (take m (drop n x)) (omega (arith, length-take-le n x key.whole)) ∙ take_all n (take n x) (omega (arith, length-take-le n x key.whole)) in
       record {
         key = subst (λ z. IsShortLeaf p z (leaf_in p x g n)) (sym (ap (take pair.key_len) spells ∙ ap (λ k. take k (take (n + m) x)) len ∙ front)) (short_leaf p x g n are key short);
-        value = subst (λ k. IsShortLeaf (p + k) (drop k pair.spelled.now) (leaf_in (p + n) (drop n x) h m)) (sym len) (subst (λ z. IsShortLeaf (p + n) z (leaf_in (p + n) (drop n x) h m)) (sym (ap (drop n) spells ∙ drop-take n m x)) (short_leaf (p + n) (drop n x) h m (bytes-drop n x are) value less));
+        value = subst (λ k. IsShortLeaf (p + k) (drop k pair.spelled.now) (leaf_in (p + n) (drop n x) h m)) (sym len) (subst (λ z. IsShortLeaf (p + n) z (leaf_in (p + n) (drop n x) h m)) (sym (ap (drop n) spells ∙ drop-take n m x)) (short_leaf (p + n) (drop n x) h m (bytes-right (take n x) (drop n x) (subst AreBytes (sym (take-append-drop n x)) are)) value less));
         key_text = key_text;
         value_text = value_text;
       }
@@ -204,32 +204,50 @@ goes_on (Some n) k j room less =
     ap (λ i. cond (leb n i) None (Some (AnArray (Some n) i))) (ap (λ b. cond b (k + 1) k) (lt-ltb k (2 ^ 64 - 1) (omega (arith, room.0, less))))
     ∙ ap (λ b. cond b None (Some (AnArray (Some n) (k + 1)))) (lt-leb n (k + 1) (omega (arith, room.1, less)))
 
-pub integers_taken : (place end k : ℕ) (most : Option ℕ) (f : Partial) (around : List Level) (l : Level) (x : List ℕ) (t : Tree) (ts : List Tree) → end ≡ place + length x → l.kind ≡ AnArray most k → Keeps f around l → TakesItem f → InArray f → AreShortIntegers place x (t ∷ ts) → HasRoom most (k + length (t ∷ ts))
-    → AfterLeaves place end f (λ h. h ≡ puts f (t ∷ ts)) around (record l { kind = AnArray most (k + length ts) }) x
-integers_taken place end k most f around l x t [] e kind kept takes in_it (y, z, cut, is, short, none) room =
-    let all : x ≡ y = cut ∙ ap (λ r. y ++ r) none ∙ append-nil y in
-    record {
-      before = f;
-      last = t;
-      held = refl;
-      levels = subst (λ (j : LevelKind). Keeps f around (record l { kind = j })) (kind ∙ ap (AnArray most) (omega arith)) kept;
-      takes = takes;
-      same = refl;
-      is = λ limit. ap (run limit (state place f no_part)) all ∙ integer_read limit place f y t takes is short ∙ ap (λ j. finished j (ready f) (open_in f) t) (omega (arith, e, ap length all));
-    }
-integers_taken place end k most f around l x t (u ∷ ts) e kind kept takes in_it (y, z, cut, is, short, more) room =
-    let s = stays (place + length y) f t around l (AnArray most (k + 1)) kept.0 kept.1 (item_accepted f t takes) kept.2 (ap with_part kind ∙ goes_on most k (k + length (t ∷ u ∷ ts)) room (omega arith)) in
-    let r = integers_taken (place + length y) end (k + 1) most (put f t) around (with_kind l (AnArray most (k + 1))) z u ts (omega (arith, e, ap length cut, length-append y z)) refl s.0 (item_after f t takes) (array_after f t in_it) more (subst (HasRoom most) (omega arith) room) in
-    record {
-      before = r.before;
-      last = r.last;
-      held = r.held;
-      levels = subst (λ (j : ℕ). Keeps r.before around (record l { kind = AnArray most j })) (omega arith) r.levels;
-      takes = r.takes;
-      same = r.same ∙ array_same f t in_it;
-      is = λ limit.
-          ap (run limit (state place f no_part)) cut
-          ∙ run-append limit (state place f no_part) y z
-          ∙ ap (λ q. run limit q z) (integer_read limit place f y t takes is short ∙ s.1)
-          ∙ r.is limit;
-    }
+-- the first n bytes of some are integers
+module _ (holds : Partial → Type 0) (most : Option ℕ) (around : List Level) where
+  go : (place end k : ℕ) (f : Partial) (l : Level) (x : List ℕ) (t : Tree) (ts : List Tree) → end ≡ place + length x → l.kind ≡ AnArray most k → Keeps f around l → TakesItem f → InArray f → AreShortIntegers place x (t ∷ ts) → HasRoom most (k + length (t ∷ ts)) → holds (puts f (t ∷ ts))
+      → AfterLeaves place end f holds around (record l { kind = AnArray most (k + length ts) }) x
+  go place end k f l x t [] e kind kept takes in_it (y, z, cut, is, short, none) room held =
+      let all : x ≡ y = cut ∙ ap (λ r. y ++ r) none ∙ append-nil y in
+      record {
+        before = f;
+        last = t;
+        held = held;
+        levels = subst (λ (j : LevelKind). Keeps f around (record l { kind = j })) (kind ∙ ap (AnArray most) (omega arith)) kept;
+        takes = takes;
+        same = refl;
+        is = λ limit. ap (run limit (state place f no_part)) all ∙ integer_read limit place f y t takes is short ∙ ap (λ j. finished j (ready f) (open_in f) t) (omega (arith, e, ap length all));
+      }
+  go place end k f l x t (u ∷ ts) e kind kept takes in_it (y, z, cut, is, short, more) room held =
+      let s = stays (place + length y) f t around l (AnArray most (k + 1)) kept.0 kept.1 (item_accepted f t takes) kept.2 (ap with_part kind ∙ goes_on most k (k + length (t ∷ u ∷ ts)) room (omega arith)) in
+      let r = go (place + length y) end (k + 1) (put f t) (with_kind l (AnArray most (k + 1))) z u ts (omega (arith, e, ap length cut, length-append y z)) refl s.0 (item_after f t takes) (array_after f t in_it) more (subst (HasRoom most) (omega arith) room) held in
+      record {
+        before = r.before;
+        last = r.last;
+        held = r.held;
+        levels = subst (λ (j : ℕ). Keeps r.before around (record l { kind = AnArray most j })) (omega arith) r.levels;
+        takes = r.takes;
+        same = r.same ∙ array_same f t in_it;
+        is = λ limit.
+            ap (run limit (state place f no_part)) cut
+            ∙ run-append limit (state place f no_part) y z
+            ∙ ap (λ q. run limit q z) (integer_read limit place f y t takes is short ∙ s.1)
+            ∙ r.is limit;
+      }
+
+  pub integers_taken : (place n count k : ℕ) (f : Partial) (l : Level) (x : List ℕ) (ts : List Tree) → n ≤ length x → 0 < count → l.kind ≡ AnArray most k → Keeps f around l → TakesItem f → InArray f → AreShortIntegers place (take n x) ts → length ts ≡ count → HasRoom most (k + count) → holds (puts f ts)
+      → AfterLeaves place (place + n) f holds around (record l { kind = AnArray most (k + (count - 1)) }) (take n x)
+  integers_taken place n count k f l x [] whole some kind kept takes in_it are many room held = absurd (omega (arith, many, some))
+  integers_taken place n count k f l x (t ∷ ts) whole some kind kept takes in_it are many room held =
+      subst (λ (j : ℕ). AfterLeaves place (place + n) f holds around (record l { kind = AnArray most (k + j) }) (take n x)) (omega (arith, many))
+      (go place (place + n) k f l (take n x) t ts (omega (arith, length-take-le n x whole)) kind kept takes in_it are (subst (λ j. HasRoom most (k + j)) (sym many) room) held)
+
+pub integers_some : (place n : ℕ) (x : List ℕ) (ts : List Tree) → n ≤ length x → AreShortIntegers place (take n x) ts → 0 < length ts → 0 < n
+integers_some place n x [] whole are some = absurd (omega arith)
+integers_some place n x (t ∷ ts) whole (y, z, cut, is, short, more) some = omega (arith, length-take-le n x whole, ap length cut, length-append y z, long t y is short)
+  where
+    long : (t : Tree) (y : List ℕ) → IsInteger t → IsShortLeaf place y t → 0 < length y
+    long (Uint q w n) y is s = omega (arith, ap length s.spells)
+    long (Nint q w n) y is s = omega (arith, ap length s.spells)
+    long t y is s = absurd is
