@@ -1,5 +1,6 @@
 -- What is read and made of leaves that are taken several at a time.
 use Rattle.std.proofs.Common.{◌≡◌, refl, sym, ap, ◌∙◌, subst, inl, ℕ, suc, ◌+◌, ◌-◌, ◌/◌, ◌^◌, ◌<◌, ◌≤◌, List, [], ◌∷◌, ◌++◌, length, take, drop, cond, leb, ltb, Option, Some, None, arith, append-nil, length-append}
+use Rattle.std.specs.Option.{unwrap_or}
 use Rattle.std.proofs.lemmas.Bool.{lt-leb, lt-ltb}
 use Rattle.std.proofs.lemmas.List.{drop-take, take-append-drop, take-append-le, take_all, length-take-le}
 use Rattle.std.proofs.Math.Seq.{take-add}
@@ -197,6 +198,11 @@ integer_read limit p f y t takes is s = absurd is
 abbrev pub HasRoom : Option ℕ → ℕ → Type 0
 HasRoom None k = k < 2 ^ 64
 HasRoom (Some n) k = (k < 2 ^ 64) × (k ≤ n)
+
+-- the room that is left after these parts
+pub has_room : (most : Option ℕ) (all parts count : ℕ) → all ≡ unwrap_or most (2 ^ 64 - 1) → all < 2 ^ 64 → 0 < count → count ≤ all - parts → HasRoom most (parts + count)
+has_room None all parts count e fits some room = omega (arith, e, fits, some, room)
+has_room (Some n) all parts count e fits some room = (omega (arith, e, fits, some, room), omega (arith, e, fits, some, room))
 
 goes_on : (most : Option ℕ) (k j : ℕ) → HasRoom most j → k + 1 < j → with_part (AnArray most k) ≡ Some (AnArray most (k + 1))
 goes_on None k j room less = ap (λ n. Some (AnArray None n)) (ap (λ b. cond b (k + 1) k) (lt-ltb k (2 ^ 64 - 1) (omega (arith, room, less))))
