@@ -1,6 +1,6 @@
-use Rattle.std.proofs.Common.{◌++◌, ◌+◌, ◌-◌, ◌∙◌, sym, subst, arith, take, length-append}
+use Rattle.std.proofs.Common.{◌++◌, ◌+◌, ◌-◌, ◌∙◌, refl, sym, subst, arith, take, length-append}
 use Rattle.std.proofs.lemmas.List.{length-take-le}
-use Rattle.cborn_model.specs.Partial.{put}
+use Rattle.cborn_model.specs.Partial.{put, no_part}
 use Rattle.cborn_wire.specs.shared.Visiting.{ready, open_in, Stands}
 use Rattle.cborn_wire.specs.shared.Machine.{finished}
 use Rattle.cborn_wire.proofs.Visiting.Counting.{stays, keeps_set, with_kind, item_accepted}
@@ -16,7 +16,7 @@ returns-in_default-with_part-clause-goes g c = λ f held keeps.
     let n = c.in-Some.taken.len in
     let k = c.in-Some.taken.before_last in
     let l = c.loop-taken.levels in
-    let (more, whole, after) = c.in-Some.ensures in
+    let (more, whole, after) = (rw c.in-Some.is at c.in_ok-taken.ensures.taken) in
     let r = after h (g.L.Levels.outer l) (with_kind (g.L.Levels.inner l) c.loop-taken.kind) refl now kept takes in
     let set = c.set.new.self in
     let kept_set = keeps_set r.before (g.L.Levels.outer l) (g.L.Levels.outer set) (g.L.Levels.inner l) (g.L.Levels.inner set) k c.set.ensures.outer c.set.ensures.inner r.levels in
@@ -32,7 +32,7 @@ loop-taken-preserved g c =
     let n = c.in-Some.taken.len in
     let k = c.in-Some.taken.before_last in
     let l = c.loop-taken.levels in
-    let (more, whole, after) = c.in-Some.ensures in (
+    let (more, whole, after) = (rw c.in-Some.is at c.in_ok-taken.ensures.taken) in (
       y ++ take n rest,
       next_cut c.args.piece.now y rest cut n whole,
       omega (arith, at, length-append y (take n rest), length-take-le n rest whole),
@@ -52,5 +52,5 @@ returns-clause-goes g c = λ f held keeps.
     let (h, now, kept, takes, rd, is) = goes f held keeps in
     let l = c.loop-taken.levels in
     let set = c.set-2.new.self in
-    some_taken (g.V.Visitor.holds c.loop-taken.visitor) (g.L.Levels.outer set) (g.L.Levels.inner set) c.args.place f c.args.piece.now y c.loop-taken.rest.now cut c.loop-taken.at h at now
+    some_taken (g.V.Visitor.holds c.take_next.new.visitor) (g.L.Levels.outer set) (g.L.Levels.inner set) c.args.place f c.args.piece.now y c.loop-taken.rest.now cut c.loop-taken.at h at (subst (λ v. g.V.Visitor.holds v h no_part) (sym (rw c.in_default.is at c.in_ok-taken.ensures.taken)) now)
     (keeps_set h (g.L.Levels.outer l) (g.L.Levels.outer set) (g.L.Levels.inner l) (g.L.Levels.inner set) c.loop-taken.kind c.set-2.ensures.outer c.set-2.ensures.inner kept) rd is
