@@ -6,3 +6,4 @@ pub mod Feeding
 pub mod Parts
 pub mod FirstItem
 pub mod Visiting
+pub mod ShortIntegers

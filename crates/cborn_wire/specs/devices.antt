@@ -4,3 +4,4 @@ pub mod FeederView
 pub mod FeedingCode
 pub mod Counting
 pub mod Leaves
+pub mod ShortIntegers

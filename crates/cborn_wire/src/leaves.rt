@@ -6,14 +6,15 @@ ghost use Rattle.cborn_model.specs.Bytes.{AreBytes};
 ghost use Rattle.cborn_model.specs.Heads.{WidthFits};
 ghost use Rattle.cborn_model.specs.Partial.{Partial, no_part, put, IsFree};
 ghost use Rattle.cborn_wire.specs.HeadReading.{major_at};
-ghost use Rattle.cborn_wire.specs.devices.Leaves.{IsGiven, IsLeafOf, IsLeaf, content_len, leaf_tree, TakesLeaves};
+ghost use Rattle.cborn_wire.specs.devices.Leaves.{IsGiven, IsLeafOf, IsLeaf, content_len, leaf_tree, TakesRun, TakesLeaves};
 ghost use Rattle.cborn_wire.specs.shared.InitialBytes.{Next, info_at};
 ghost use Rattle.cborn_wire.specs.shared.Visiting.{Keeps};
 
 use crate::counting::finish;
 use crate::heads::{read_number, width_len};
 use crate::levels::{LevelKind, Levels};
-use cborn_model::{LeafPair, StringKind, Visitor, Width, shortest};
+use crate::runs::{Taken, take_run};
+use cborn_model::{StringKind, Visitor, Width};
 use std::alloc::AllocError;
 
 /// A head with an argument, at the front of some bytes.
@@ -75,7 +76,7 @@ fn wide_head(first: u8, width: Width, rest: &[u8]) -> Option<GivenHead>
 
 /// The head of the leaf that is whole at the front of `bytes`, and where the leaf ends.
 #[inline(always)]
-fn leaf_at(bytes: &[u8]) -> Option<(GivenHead, usize)>
+pub(crate) fn leaf_at(bytes: &[u8]) -> Option<(GivenHead, usize)>
     ensures { MatchOption result ⊤ (λ leaf. IsLeafOf bytes.now leaf.0 leaf.1) }
 {
     let head = given_head(bytes)?;
@@ -123,6 +124,31 @@ fn visit_leaf<V: Visitor>(
     visitor.string(place, kind, head.width, bytes)
 }
 
+/// Takes the leaf at the front of `bytes`, which is at the offset `place`; where the visitor takes
+/// them, a run of integers or a key and its value. `None`: there is no leaf.
+#[inline(always)]
+fn take_next<V: Visitor>(
+    visitor: &mut V,
+    kind: LevelKind,
+    place: u64,
+    bytes: &[u8],
+) -> Result<Option<Taken>, AllocError>
+    ensures taken { IfOk result (λ r. MatchOption r (visitor.new ≡ visitor.old) (λ t. TakesRun place bytes.now kind t.before_last (V.holds visitor.old) (V.holds visitor.new) t.len)) }
+    ensures memory { OnErr result V.takes_memory }
+{
+    let Some((head, end)) = leaf_at(bytes) else {
+        return Ok(None);
+    };
+    if let Some(taken) = take_run(visitor, kind, head, end, place, bytes)? {
+        return Ok(Some(taken));
+    }
+    visit_leaf(visitor, place, head, &bytes[head.len..end])?;
+    Ok(Some(Taken {
+        len: end,
+        before_last: kind,
+    }))
+}
+
 /// Takes the leaves at the front of `piece`, whose first byte is at the offset `place`: those that
 /// are whole in it, up to the last part of the innermost container. Gives their length in bytes.
 /// Between items of the input and in a string of indefinite length it takes none.
@@ -166,182 +192,4 @@ pub(crate) fn take_leaves<L: Levels, V: Visitor>(
     }
     levels.set(kind);
     Ok(piece.len() - rest.len())
-}
-
-/// What was taken of some bytes.
-#[derive(Clone, Copy)]
-struct Taken {
-    /// How many bytes.
-    len: usize,
-    /// The level as it was before the last leaf.
-    before_last: LevelKind,
-}
-
-/// Takes the leaf at the front of `bytes`, which is at the offset `place`; where the visitor takes
-/// them, a run of integers or a key and its value. `None`: there is no leaf.
-#[inline(always)]
-fn take_next<V: Visitor>(
-    visitor: &mut V,
-    kind: LevelKind,
-    place: u64,
-    bytes: &[u8],
-) -> Result<Option<Taken>, AllocError> {
-    let Some((head, end)) = leaf_at(bytes) else {
-        return Ok(None);
-    };
-    if V::takes_runs() {
-        match kind {
-            LevelKind::Array(most, parts) if head.first < 64 => {
-                if let Some(taken) = take_integers(visitor, most, parts, place, bytes)? {
-                    return Ok(Some(taken));
-                }
-            }
-            LevelKind::Map(most, parts) => {
-                if let Some(len) = take_pair(visitor, head, end, place, bytes)? {
-                    let before_last = LevelKind::MapValue(most, parts);
-                    return Ok(Some(Taken { len, before_last }));
-                }
-            }
-            _ => {}
-        }
-    }
-    visit_leaf(visitor, place, head, &bytes[head.len..end])?;
-    Ok(Some(Taken {
-        len: end,
-        before_last: kind,
-    }))
-}
-
-/// Takes integers of an array of `most` items, if that is known, of which `parts` are whole.
-#[inline(always)]
-fn take_integers<V: Visitor>(
-    visitor: &mut V,
-    most: Option<u64>,
-    parts: u64,
-    place: u64,
-    bytes: &[u8],
-) -> Result<Option<Taken>, AllocError> {
-    let room = most.unwrap_or(u64::MAX).saturating_sub(parts);
-    let run = integers_at(bytes, room);
-    if run.count < 2 || !visitor.integers(place, run.count, &bytes[..run.len])? {
-        return Ok(None);
-    }
-    let before_last = LevelKind::Array(most, parts + (run.count - 1));
-    let len = run.len;
-    Ok(Some(Taken { len, before_last }))
-}
-
-/// Takes the key at the front of `bytes`, which has this head and ends at `end`, and the value after
-/// it, where both are leaves with the shortest heads. Gives their length.
-#[inline(always)]
-fn take_pair<V: Visitor>(
-    visitor: &mut V,
-    key: GivenHead,
-    end: usize,
-    place: u64,
-    bytes: &[u8],
-) -> Result<Option<usize>, AllocError> {
-    let after = &bytes[end..];
-    let Some((value, value_end)) = leaf_at(after) else {
-        return Ok(None);
-    };
-    if !is_short(key) || !is_short(value) {
-        return Ok(None);
-    }
-    let len = end + value_end;
-    let pair = LeafPair {
-        spelled: &bytes[..len],
-        key_len: end,
-        key_text: text_in(key, &bytes[..end]),
-        value_text: text_in(value, &after[..value_end]),
-    };
-    if !visitor.pair(place, pair)? {
-        return Ok(None);
-    }
-    Ok(Some(len))
-}
-
-/// Whether a head is the shortest.
-#[inline(always)]
-fn is_short(head: GivenHead) -> bool {
-    match head.width {
-        Width::Direct => true,
-        width => width == shortest(head.argument),
-    }
-}
-
-/// The content of a leaf with this head, if it is a text; else nothing.
-#[inline(always)]
-fn text_in(head: GivenHead, spelled: &[u8]) -> &[u8] {
-    if head.first < 96 || head.first >= 128 {
-        return &[];
-    }
-    &spelled[head.len..]
-}
-
-/// Integers with the shortest heads at the front of some bytes.
-#[derive(Clone, Copy)]
-struct Integers {
-    count: u64,
-    len: usize,
-}
-
-/// The integers at the front of `bytes` whose heads are the shortest, as many as are seen at once,
-/// but at most `most`.
-fn integers_at(bytes: &[u8], most: u64) -> Integers {
-    let mut rest = bytes;
-    let mut count = 0;
-    while count < most {
-        let len = int_len(rest);
-        if len == 0 {
-            break;
-        }
-        rest = &rest[len..];
-        count += 1;
-    }
-    Integers {
-        count,
-        len: bytes.len() - rest.len(),
-    }
-}
-
-/// The length in bytes of the integer at the front of the bytes, if its head is the shortest (RFC 8949
-/// section 4.2.1) and the bytes are nine or more; else 0. No clause says when it is above 0: the item is
-/// then read in another way. Takes no memory.
-#[inline(always)]
-fn int_len(bytes: &[u8]) -> usize {
-    let [first, a, b, c, d, _, _, _, _, ..] = bytes else {
-        return 0;
-    };
-    let (len, least) = form(*first);
-    if top(*a, *b, *c, *d) < least {
-        return 0;
-    }
-    len
-}
-
-/// The big-endian number of the bytes after the first.
-#[inline(always)]
-fn top(a: u8, b: u8, c: u8, d: u8) -> u32 {
-    u32::from(a) * 16777216 + u32::from(b) * 65536 + u32::from(c) * 256 + u32::from(d)
-}
-
-/// The length of the integer with this initial byte, and the least number of the four bytes after
-/// it with which its head is the shortest. The length is 0 where no integer begins so.
-#[inline(always)]
-fn form(first: u8) -> (usize, u32) {
-    if first > 63 {
-        return (0, 0);
-    }
-    // The wide forms are next to one another by the low five bits, and are looked up rather than branched to.
-    // The least arguments 24, 256, 65536 and 2^32 as they are in the four bytes: 24 * 2^24, 256 * 2^16,
-    // 65536, and 1 in the upper four of eight.
-    match first % 32 {
-        0..=23 => (1, 0),
-        24 => (2, 402653184),
-        25 => (3, 16777216),
-        26 => (5, 65536),
-        27 => (9, 1),
-        _ => (0, 0),
-    }
 }

@@ -26,7 +26,7 @@ use Rattle.cborn_wire.specs.shared.InitialBytes.{Info, Now, Next, info_at, info_
 use Rattle.cborn_wire.specs.shared.Machine.{width_bytes, number, content_of, gathering, Live, content_at, after_head, finished, run, ready_in, AtMostOneMore}
 use Rattle.cborn_wire.specs.shared.Visiting.{ready, open_in, state, levels, slot_of, is_chunks, Keeps, Stands}
 use Rattle.cborn_wire.specs.devices.Counting.{IsNoChunkSlot}
-use Rattle.cborn_wire.specs.devices.Leaves.{IsGiven, IsLeafOf, IsLeaf, content_len, leaf_tree, TakesLeaves}
+use Rattle.cborn_wire.specs.devices.Leaves.{IsGiven, IsLeafOf, IsLeaf, content_len, leaf_tree, AfterLeaves, TakesLeaves}
 use Rattle.cborn_wire.proofs.HeadReading.HeadFronts.{direct_head, wide_head, wide_fronts}
 use Rattle.cborn_wire.proofs.HeadReading.HeadSteps.{head_some, head_taken}
 use Rattle.cborn_wire.proofs.Machine.TakesItems.{clear_given}
@@ -79,7 +79,7 @@ string_free (inside f o ts) k h = tt
 
 -- a leaf is allowed wherever an item is
 
-plain_slot : (f : Partial) → TakesItem f → IsNoChunkSlot (slot (open_in f))
+pub plain_slot : (f : Partial) → TakesItem f → IsNoChunkSlot (slot (open_in f))
 plain_slot (top ts) h = tt
 plain_slot (inside f (in_chunks p k) ts) h = absurd h
 plain_slot (inside f (an_array p s None) ts) h = tt
@@ -97,7 +97,7 @@ no_chunk : (s : Slot) (m : Major) (i : Info) → IsNoChunkSlot s → is_bad_chun
 no_chunk (chunk k) m i h = absurd h
 no_chunk s m i h = refl
 
-leaf_free : (s : Slot) (full : Bool) (m : Major) (w : Width) (n : ℕ) → IsNoChunkSlot s → IsLeaf m w → head_reason s full m (info_for (heads.Given w n)) [] ≡ None
+pub leaf_free : (s : Slot) (full : Bool) (m : Major) (w : Width) (n : ℕ) → IsNoChunkSlot s → IsLeaf m w → head_reason s full m (info_for (heads.Given w n)) [] ≡ None
 leaf_free s full Unsigned w n h l = clear_given s full Unsigned w n (no_chunk s Unsigned (info_for (heads.Given w n)) h) refl refl
 leaf_free s full Negative w n h l = clear_given s full Negative w n (no_chunk s Negative (info_for (heads.Given w n)) h) refl refl
 leaf_free s full ByteString w n h l = clear_given s full ByteString w n (no_chunk s ByteString (info_for (heads.Given w n)) h) refl refl
@@ -179,10 +179,10 @@ item_after (top ts) t h = tt
 item_after (inside f (in_chunks p k) ts) t h = absurd h
 item_after (inside f o ts) t h = tt
 
--- after more bytes and this leaf
-pub next_leaf : (limit place at : ℕ) (f h : Partial) (y x z : List ℕ) (g : GivenHead) (n : ℕ) → TakesItem h → IsLeafOf x g n → take n x ≡ take g.len x ++ z → run limit (state place f no_part) y ≡ state at h no_part
-    → run limit (state place f no_part) (y ++ take n x) ≡ finished (at + n) (ready h) (open_in h) (leaf_tree at (major_at (g.first / 32)) g.width g.argument z)
-next_leaf limit place at f h y x z g n takes leaf cut e = run-append limit (state place f no_part) y (take n x) ∙ ap (λ s. run limit s (take n x)) e ∙ leaf_read limit at h x z g n takes leaf cut
+-- after more bytes and these leaves
+pub next_leaves : (limit place : ℕ) {at end : ℕ} (f : Partial) {h : Partial} {holds : Partial → Type 0} {around : List Level} {l : Level} (y x : List ℕ) → (r : AfterLeaves at end h holds around l x) → run limit (state place f no_part) y ≡ state at h no_part
+    → run limit (state place f no_part) (y ++ x) ≡ finished end (ready r.before) (open_in r.before) r.last
+next_leaves limit place f y x r e = run-append limit (state place f no_part) y x ∙ ap (λ s. run limit s x) e ∙ r.is limit
 
 pub leaf_cut : (x : List ℕ) (g : GivenHead) (n : ℕ) → IsLeafOf x g n → take n x ≡ take g.len x ++ take (n - g.len) (drop g.len x)
 leaf_cut x g n leaf = ap (λ k. take k x) (omega (arith, leaf.len)) ∙ take-add g.len (n - g.len) x

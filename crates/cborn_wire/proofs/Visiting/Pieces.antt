@@ -21,6 +21,9 @@ use Rattle.cborn_wire.proofs.Visiting.Taking.{bytes-take, is_open, outer_count}
 pub front_taken : (piece y rest : List ℕ) → piece ≡ y ++ rest → take (length y) piece ≡ y
 front_taken piece y rest cut = ap (take (length y)) cut ∙ take-append-le (length y) y rest (omega arith) ∙ take_all (length y) y (omega arith)
 
+pub all_taken : (piece y rest : List ℕ) → piece ≡ y ++ rest → take (length piece - length rest) piece ≡ y
+all_taken piece y rest cut = ap (λ k. take k piece) (omega (arith, ap length cut, length-append y rest)) ∙ front_taken piece y rest cut
+
 -- Where nothing is open and nothing is partial, the input may end.
 
 same_open : {a b : ℕ} {us ts : Trees} {os qs : List OpenContainer} {p q : Unfinished} → Live a us os p ≡ Live b ts qs q → (os ≡ qs) × (p ≡ q)

@@ -1,17 +1,18 @@
 -- A device of the proofs: leaves that have one head, as the reader takes them. No definition cites it.
-use Rattle.std.specs.Prelude.{◌≡◌, ℕ, ◌+◌, ◌/◌, ◌≤◌, List, length, take, slice_index, ⊤}
+use Rattle.std.specs.Prelude.{◌≡◌, ℕ, ◌+◌, ◌/◌, ◌<◌, ◌≤◌, List, length, take, slice_index, ⊤}
 use Rattle.cborn_model.specs.declared.heads.Width.{Width}
 use Rattle.cborn_model.specs.declared.heads.Width.TheVariants.{Direct}
 use Rattle.cborn_model.specs.declared.heads.Major.{Major}
 use Rattle.cborn_model.specs.declared.heads.Major.TheVariants.{Unsigned, Negative, ByteString, TextString, Other}
 use Rattle.cborn_model.specs.Tree.{Tree, Uint, Nint, Bytes, Text, Simple}
-use Rattle.cborn_model.specs.Partial.{Partial, Part, no_part}
+use Rattle.cborn_model.specs.Partial.{Partial, Part, no_part, put, TakesItem}
 use Rattle.cborn_wire.specs.declared.heads.Argument.TheVariants.{Given}
 use Rattle.cborn_wire.specs.declared.levels.Level.{Level}
 use Rattle.cborn_wire.specs.declared.leaves.GivenHead.{GivenHead}
 use Rattle.cborn_wire.specs.HeadReading.{major_at, IsHeadOf}
-use Rattle.cborn_wire.specs.shared.Machine.{AtMostOneMore, run}
-use Rattle.cborn_wire.specs.shared.Visiting.{ready, state, Stands}
+use Rattle.cborn_wire.specs.declared.levels.LevelKind.{LevelKind}
+use Rattle.cborn_wire.specs.shared.Machine.{AtMostOneMore, finished, run}
+use Rattle.cborn_wire.specs.shared.Visiting.{ready, open_in, state, Keeps, Stands}
 
 -- this head is at the front of x, and of major type 7 only with a direct argument
 pub record IsGiven (x : List ℕ) (h : GivenHead) : Type 0 where
@@ -47,6 +48,21 @@ pub record IsLeafOf (x : List ℕ) (h : GivenHead) (n : ℕ) : Type 0 where
   pub leaf : IsLeaf (major_at (h.first / 32)) h.width
   pub len : n ≡ h.len + content_len (major_at (h.first / 32)) h.argument
   pub whole : n ≤ length x
+
+-- The bytes x, at the offsets from `place` to `end`, are leaves that follow the partial sequence f. After all of them but the last one, `before` is the partial sequence and these are its levels.
+pub record AfterLeaves (place end : ℕ) (f : Partial) (holds : Partial → Type 0) (around : List Level) (l : Level) (x : List ℕ) : Type 0 where
+  pub before : Partial
+  pub last : Tree
+  pub held : holds (put before last)
+  pub levels : Keeps before around l
+  pub takes : TakesItem before
+  pub same : ready before ≡ ready f
+  pub is : (limit : ℕ) → run limit (state place f no_part) x ≡ finished end (ready before) (open_in before) last
+
+-- The first n bytes of x are leaves at the offset `place`. The visitor takes them where the innermost level is `kind`, and before the last of them that is `last`.
+abbrev pub TakesRun : ℕ → List ℕ → LevelKind → LevelKind → (Partial → Part → Type 0) → (Partial → Part → Type 0) → ℕ → Type 0
+TakesRun place x kind last old new n =
+    (0 < n) × (n ≤ length x) × ((f : Partial) (around : List Level) (l : Level) → l.kind ≡ kind → old f no_part → Keeps f around l → TakesItem f → AfterLeaves place (place + n) f (λ h. new h no_part) around (record l { kind = last }) (take n x))
 
 -- n bytes of the piece were read after the partial sequence f, and at most one more item of the input is whole
 abbrev pub TakesHead : ℕ → ℕ → Partial → List ℕ → (Partial → Part → Type 0) → List Level → Level → ℕ → Type 0

@@ -1,0 +1,259 @@
+-- What is read and made of leaves that are taken several at a time.
+use Rattle.std.proofs.Common.{◌≡◌, refl, sym, ap, ◌∙◌, subst, inl, ℕ, suc, ◌+◌, ◌-◌, ◌/◌, ◌^◌, ◌<◌, ◌≤◌, List, [], ◌∷◌, ◌++◌, length, take, drop, cond, leb, ltb, Option, Some, None, arith, append-nil, length-append}
+use Rattle.std.specs.Option.{unwrap_or}
+use Rattle.std.proofs.lemmas.Bool.{lt-leb, lt-ltb}
+use Rattle.std.proofs.lemmas.List.{drop-take, take-append-drop, take-append-le, take_all, length-take-le}
+use Rattle.std.proofs.Math.Seq.{take-add}
+use Rattle.cborn_model.specs.Bytes.{AreBytes}
+use Rattle.cborn_model.specs.declared.heads.Width.{Width}
+use Rattle.cborn_model.specs.declared.heads.Width.TheVariants.{Direct, One, Two, Four, Eight}
+use Rattle.cborn_model.specs.declared.heads.Major.{Major}
+use Rattle.cborn_model.specs.declared.heads.Major.TheVariants.{Unsigned, Negative, ByteString, TextString, Array, Map, Tag, Other}
+use Rattle.cborn_model.specs.declared.visitors.LeafPair.{LeafPair}
+use Rattle.cborn_model.specs.Heads.{Given, head, WidthFits, least}
+use Rattle.cborn_model.specs.Tree.{Tree, Uint, Nint, Bytes, Text, ByteChunks, TextChunks, Items, Pairs, Tagged, Simple}
+use Rattle.cborn_model.specs.Partial.{an_array, a_map, a_tag, in_chunks, Partial, top, inside, no_part, put, paired, last_key, TakesItem}
+use Rattle.cborn_model.specs.shared.Runs.{IsInteger, IsShortLeaf, AreShortIntegers, IsShortPair, text_in, puts, InArray, AtKey}
+use Rattle.cborn_model.proofs.Bytes.{bytes-right}
+use Rattle.cborn_model.proofs.Numbers.Simples.{simple_value}
+use Rattle.cborn_wire.specs.declared.levels.Level.{Level}
+use Rattle.cborn_wire.specs.declared.levels.LevelKind.{LevelKind}
+use Rattle.cborn_wire.specs.declared.levels.LevelKind.TheVariants.{Sequence, Array as AnArray, Map as AMap, MapValue, Tag as ATag, Chunks}
+use Rattle.cborn_wire.specs.declared.leaves.GivenHead.{GivenHead}
+use Rattle.cborn_wire.specs.HeadReading.{major_at}
+use Rattle.cborn_wire.specs.Slots.{slot, open_depth}
+use Rattle.cborn_wire.specs.shared.Machine.{finished, run}
+use Rattle.cborn_wire.specs.shared.Visiting.{ready, open_in, state, at_most_highest, map_kind, levels, Keeps, with_part}
+use Rattle.cborn_wire.specs.devices.Leaves.{IsLeafOf, IsLeaf, content_len, leaf_tree, AfterLeaves}
+use Rattle.cborn_wire.proofs.HeadReading.HeadSteps.{head_front}
+use Rattle.cborn_wire.proofs.Machine.Running.{run-append}
+use Rattle.cborn_wire.proofs.Machine.TakesHeads.{takes_head}
+use Rattle.cborn_wire.proofs.Visiting.Counting.{last_same, with_kind, stays, item_accepted}
+use Rattle.cborn_wire.proofs.Visiting.Leaves.{plain_slot, leaf_free, leaf_read, leaf_cut, item_after}
+use Rattle.cborn_wire.proofs.Visiting.Taking.{bytes-take}
+
+-- the leaf with this head at the front of x, of which it takes n bytes
+abbrev pub leaf_in : ℕ → List ℕ → GivenHead → ℕ → Tree
+leaf_in p x h n = leaf_tree p (major_at (h.first / 32)) h.width h.argument (take (n - h.len) (drop h.len x))
+
+-- one leaf
+
+module _ (f : Partial) (around : List Level) (l : Level) (kept : Keeps f around l) (takes : TakesItem f) where
+  pub one_taken : (place : ℕ) (holds : Partial → Type 0) (x : List ℕ) (h : GivenHead) (n : ℕ) → IsLeafOf x h n → holds (put f (leaf_in place x h n)) → AfterLeaves place (place + n) f holds around l (take n x)
+  one_taken place holds x h n leaf held = record {
+    before = f;
+    last = leaf_in place x h n;
+    held = held;
+    levels = kept;
+    takes = takes;
+    same = refl;
+    is = λ limit. leaf_read limit place f x (take (n - h.len) (drop h.len x)) h n takes leaf (leaf_cut x h n leaf);
+  }
+
+-- where an array or a map is innermost
+
+map_not_array : (c d : Option ℕ) (n k : ℕ) (x : Option Tree) → map_kind c n x ≡ AnArray d k → ⊥
+map_not_array c d n k None e = cc
+map_not_array c d n k (Some t) e = cc
+
+map_key : (c d : Option ℕ) (n k : ℕ) (x : Option Tree) → map_kind c n x ≡ AMap d k → x ≡ None
+map_key c d n k None e = refl
+map_key c d n k (Some t) e = cc
+
+pub in_array : (f : Partial) (ls : List Level) (l : Level) (most : Option ℕ) (k : ℕ) → levels f ≡ ls ++ l ∷ [] → l.kind ≡ AnArray most k → InArray f
+in_array (top ts) ls l most k e is = absurd (clash (ap (λ (m : Level). m.kind) (last_same [] ls e).1 ∙ is))
+  where
+    clash : Sequence (at_most_highest (length ts)) ≡ AnArray most k → ⊥
+    clash e = cc
+in_array (inside f (an_array p s c) ts) ls l most k e is = tt
+in_array (inside f (a_map p s c) ts) ls l most k e is = absurd (map_not_array c most (at_most_highest (length (paired ts))) k (last_key ts) (ap (λ (m : Level). m.kind) (last_same (levels f) ls e).1 ∙ is))
+in_array (inside f (a_tag p w n) ts) ls l most k e is = absurd (clash (ap (λ (m : Level). m.kind) (last_same (levels f) ls e).1 ∙ is))
+  where
+    clash : ATag n ≡ AnArray most k → ⊥
+    clash e = cc
+in_array (inside f (in_chunks p j) ts) ls l most k e is = absurd (clash (ap (λ (m : Level). m.kind) (last_same (levels f) ls e).1 ∙ is))
+  where
+    clash : Chunks j (at_most_highest (length ts)) ≡ AnArray most k → ⊥
+    clash e = cc
+
+pub at_key : (f : Partial) (ls : List Level) (l : Level) (most : Option ℕ) (k : ℕ) → levels f ≡ ls ++ l ∷ [] → l.kind ≡ AMap most k → AtKey f
+at_key (top ts) ls l most k e is = absurd (clash (ap (λ (m : Level). m.kind) (last_same [] ls e).1 ∙ is))
+  where
+    clash : Sequence (at_most_highest (length ts)) ≡ AMap most k → ⊥
+    clash e = cc
+at_key (inside f (an_array p s c) ts) ls l most k e is = absurd (clash (ap (λ (m : Level). m.kind) (last_same (levels f) ls e).1 ∙ is))
+  where
+    clash : AnArray c (at_most_highest (length ts)) ≡ AMap most k → ⊥
+    clash e = cc
+at_key (inside f (a_map p s c) ts) ls l most k e is = map_key c most (at_most_highest (length (paired ts))) k (last_key ts) (ap (λ (m : Level). m.kind) (last_same (levels f) ls e).1 ∙ is)
+at_key (inside f (a_tag p w n) ts) ls l most k e is = absurd (clash (ap (λ (m : Level). m.kind) (last_same (levels f) ls e).1 ∙ is))
+  where
+    clash : ATag n ≡ AMap most k → ⊥
+    clash e = cc
+at_key (inside f (in_chunks p j) ts) ls l most k e is = absurd (clash (ap (λ (m : Level). m.kind) (last_same (levels f) ls e).1 ∙ is))
+  where
+    clash : Chunks j (at_most_highest (length ts)) ≡ AMap most k → ⊥
+    clash e = cc
+
+key_same : (f : Partial) (t : Tree) → AtKey f → ready (put f t) ≡ ready f
+key_same (inside f o ts) t h = refl
+key_same (top ts) t h = absurd h
+
+array_same : (f : Partial) (t : Tree) → InArray f → ready (put f t) ≡ ready f
+array_same (inside f o ts) t h = refl
+array_same (top ts) t h = absurd h
+
+array_after : (f : Partial) (t : Tree) → InArray f → InArray (put f t)
+array_after (inside f (an_array p s c) ts) t h = tt
+array_after (inside f (a_map p s c) ts) t h = absurd h
+array_after (inside f (a_tag p w n) ts) t h = absurd h
+array_after (inside f (in_chunks p j) ts) t h = absurd h
+array_after (top ts) t h = absurd h
+
+-- a key and its value
+
+short_as : (p : ℕ) (m : Major) (w : Width) (n : ℕ) (y z : List ℕ) → AreBytes y → IsLeaf m w → WidthFits w n → length y ≡ content_len m n → w ≡ least n → z ≡ head m (Given w n) ++ y → IsShortLeaf p z (leaf_tree p m w n y)
+short_as p Unsigned w n [] z are l fits e s c = record { placed = refl; fits = fits; short = s; spells = sym (c ∙ append-nil (head Unsigned (Given w n))) }
+short_as p Negative w n [] z are l fits e s c = record { placed = refl; fits = fits; short = s; spells = sym (c ∙ append-nil (head Negative (Given w n))) }
+short_as p Other Direct n [] z are l fits e s c = record { placed = refl; fits = simple_value n (inl fits); short = tt; spells = ap (λ v. head Other (Given v n)) (sym s) ∙ sym (c ∙ append-nil (head Other (Given Direct n))) }
+short_as p Unsigned w n (b ∷ y) z are l fits e s c = absurd (omega (arith, e))
+short_as p Negative w n (b ∷ y) z are l fits e s c = absurd (omega (arith, e))
+short_as p Other Direct n (b ∷ y) z are l fits e s c = absurd (omega (arith, e))
+short_as p Other One n y z are l fits e s c = cc
+short_as p Other Two n y z are l fits e s c = cc
+short_as p Other Four n y z are l fits e s c = cc
+short_as p Other Eight n y z are l fits e s c = cc
+short_as p ByteString w n y z are l fits e s c = record { placed = refl; fits = (subst (WidthFits w) (sym e) fits, are); short = s ∙ ap least (sym e); spells = ap (λ k. head ByteString (Given w k) ++ y) e ∙ sym c }
+short_as p TextString w n y z are l fits e s c = record { placed = refl; fits = (subst (WidthFits w) (sym e) fits, are); short = s ∙ ap least (sym e); spells = ap (λ k. head TextString (Given w k) ++ y) e ∙ sym c }
+short_as p Array w n y z are l fits e s c = absurd l
+short_as p Map w n y z are l fits e s c = absurd l
+short_as p Tag w n y z are l fits e s c = absurd l
+
+short_leaf : (p : ℕ) (x : List ℕ) (h : GivenHead) (n : ℕ) → AreBytes x → IsLeafOf x h n → h.width ≡ least h.argument → IsShortLeaf p (take n x) (leaf_in p x h n)
+short_leaf p x h n are leaf short =
+    let y = take (n - h.len) (drop h.len x) in
+    let cut = leaf_cut x h n leaf in
+    let len : length y ≡ content_len (major_at (h.first / 32)) h.argument = omega (arith, ap length cut, length-append (take h.len x) y, length-take-le n x leaf.whole, length-take-le h.len x (omega (arith, leaf.len, leaf.whole)), leaf.len) in
+    short_as p (major_at (h.first / 32)) h.width h.argument y (take n x) (bytes-right (take h.len x) y (subst AreBytes cut (bytes-take n x are))) leaf.leaf leaf.given.head.fits len short (cut ∙ ap (λ z. z ++ y) (head_front x _ h.len leaf.given.head))
+
+-- its content
+content_is : (x : List ℕ) (h : GivenHead) (n : ℕ) → IsLeafOf x h n → drop h.len (take n x) ≡ take (n - h.len) (drop h.len x)
+content_is x h n leaf = ap (λ k. drop h.len (take k x)) (omega (arith, leaf.len)) ∙ drop-take h.len (n - h.len) x
+
+pub text_is : (p : ℕ) (x text : List ℕ) (h : GivenHead) (n : ℕ) → IsLeafOf x h n → text ≡ text_in (leaf_tree p (major_at (h.first / 32)) h.width h.argument (drop h.len (take n x))) → text ≡ text_in (leaf_in p x h n)
+text_is p x text h n leaf e = e ∙ ap (λ y. text_in (leaf_tree p (major_at (h.first / 32)) h.width h.argument y)) (content_is x h n leaf)
+
+module _ (x : List ℕ) (g h : GivenHead) (n m : ℕ) (key : IsLeafOf x g n) (value : IsLeafOf (drop n x) h m) where
+  pub short_pair : (p : ℕ) (pair : LeafPair) → AreBytes x → g.width ≡ least g.argument → h.width ≡ least h.argument → pair.spelled.now ≡ take (n + m) x → pair.key_len ≡ n
+      → pair.key_text.now ≡ text_in (leaf_in p x g n) → pair.value_text.now ≡ text_in (leaf_in (p + n) (drop n x) h m) → IsShortPair p pair (leaf_in p x g n) (leaf_in (p + n) (drop n x) h m)
+  short_pair p pair are short less spells len key_text value_text =
+      let front : take n (take (n + m) x) ≡ take n x = ap (take n) (take-add n m x) ∙ take-append-le n (take n x) (take m (drop n x)) (omega (arith, length-take-le n x key.whole)) ∙ take_all n (take n x) (omega (arith, length-take-le n x key.whole)) in
+      record {
+        key = subst (λ z. IsShortLeaf p z (leaf_in p x g n)) (sym (ap (take pair.key_len) spells ∙ ap (λ k. take k (take (n + m) x)) len ∙ front)) (short_leaf p x g n are key short);
+        value = subst (λ k. IsShortLeaf (p + k) (drop k pair.spelled.now) (leaf_in (p + n) (drop n x) h m)) (sym len) (subst (λ z. IsShortLeaf (p + n) z (leaf_in (p + n) (drop n x) h m)) (sym (ap (drop n) spells ∙ drop-take n m x)) (short_leaf (p + n) (drop n x) h m (bytes-right (take n x) (drop n x) (subst AreBytes (sym (take-append-drop n x)) are)) value less));
+        key_text = key_text;
+        value_text = value_text;
+      }
+
+  pub pair_taken : (place : ℕ) (f : Partial) (holds : Partial → Type 0) (around : List Level) (l : Level) (most : Option ℕ) (parts : ℕ) → l.kind ≡ AMap most parts → Keeps f around l → TakesItem f → AtKey f → holds (put (put f (leaf_in place x g n)) (leaf_in (place + n) (drop n x) h m))
+      → AfterLeaves place (place + (n + m)) f holds around (record l { kind = MapValue most parts }) (take (n + m) x)
+  pair_taken place f holds around l most parts kind kept takes at held =
+      let k = leaf_in place x g n in
+      let v = leaf_in (place + n) (drop n x) h m in
+      let s = stays (place + n) f k around l (MapValue most parts) kept.0 kept.1 (item_accepted f k takes) kept.2 (ap with_part kind) in
+      let after : TakesItem (put f k) = item_after f k takes in
+      record {
+        before = put f k;
+        last = v;
+        held = held;
+        levels = s.0;
+        takes = after;
+        same = key_same f k at;
+        is = λ limit.
+            ap (run limit (state place f no_part)) (take-add n m x)
+            ∙ run-append limit (state place f no_part) (take n x) (take m (drop n x))
+            ∙ ap (λ q. run limit q (take m (drop n x))) (leaf_read limit place f x _ g n takes key (leaf_cut x g n key) ∙ s.1)
+            ∙ leaf_read limit (place + n) (put f k) (drop n x) _ h m after value (leaf_cut (drop n x) h m value)
+            ∙ ap (λ j. finished j (ready (put f k)) (open_in (put f k)) v) (omega arith);
+      }
+
+-- integers
+
+integer_read : (limit p : ℕ) (f : Partial) (y : List ℕ) (t : Tree) → TakesItem f → IsInteger t → IsShortLeaf p y t → run limit (state p f no_part) y ≡ finished (p + length y) (ready f) (open_in f) t
+integer_read limit p f y (Uint q w n) takes is s =
+    let x = head Unsigned (Given w n) in
+    ap (run limit (state p f no_part)) (sym s.spells ∙ sym (append-nil x))
+    ∙ takes_head limit p (ready f) (open_in f) Unsigned (Given w n) [] s.fits (leaf_free (slot (open_in f)) (leb limit (open_depth (open_in f))) Unsigned w n (plain_slot f takes) tt)
+    ∙ ap (λ k. finished k (ready f) (open_in f) (Uint p w n)) (ap (λ z. p + length z) s.spells)
+    ∙ ap (λ k. finished (p + length y) (ready f) (open_in f) (Uint k w n)) (sym s.placed)
+integer_read limit p f y (Nint q w n) takes is s =
+    let x = head Negative (Given w n) in
+    ap (run limit (state p f no_part)) (sym s.spells ∙ sym (append-nil x))
+    ∙ takes_head limit p (ready f) (open_in f) Negative (Given w n) [] s.fits (leaf_free (slot (open_in f)) (leb limit (open_depth (open_in f))) Negative w n (plain_slot f takes) tt)
+    ∙ ap (λ k. finished k (ready f) (open_in f) (Nint p w n)) (ap (λ z. p + length z) s.spells)
+    ∙ ap (λ k. finished (p + length y) (ready f) (open_in f) (Nint k w n)) (sym s.placed)
+integer_read limit p f y t takes is s = absurd is
+
+-- an array of this many items, if that is known, has room for so many
+abbrev pub HasRoom : Option ℕ → ℕ → Type 0
+HasRoom None k = k < 2 ^ 64
+HasRoom (Some n) k = (k < 2 ^ 64) × (k ≤ n)
+
+-- the room that is left after these parts
+pub has_room : (most : Option ℕ) (all parts count : ℕ) → all ≡ unwrap_or most (2 ^ 64 - 1) → all < 2 ^ 64 → 0 < count → count ≤ all - parts → HasRoom most (parts + count)
+has_room None all parts count e fits some room = omega (arith, e, fits, some, room)
+has_room (Some n) all parts count e fits some room = (omega (arith, e, fits, some, room), omega (arith, e, fits, some, room))
+
+goes_on : (most : Option ℕ) (k j : ℕ) → HasRoom most j → k + 1 < j → with_part (AnArray most k) ≡ Some (AnArray most (k + 1))
+goes_on None k j room less = ap (λ n. Some (AnArray None n)) (ap (λ b. cond b (k + 1) k) (lt-ltb k (2 ^ 64 - 1) (omega (arith, room, less))))
+goes_on (Some n) k j room less =
+    ap (λ i. cond (leb n i) None (Some (AnArray (Some n) i))) (ap (λ b. cond b (k + 1) k) (lt-ltb k (2 ^ 64 - 1) (omega (arith, room.0, less))))
+    ∙ ap (λ b. cond b None (Some (AnArray (Some n) (k + 1)))) (lt-leb n (k + 1) (omega (arith, room.1, less)))
+
+-- the first n bytes of some are integers
+module _ (holds : Partial → Type 0) (most : Option ℕ) (around : List Level) where
+  go : (place end k : ℕ) (f : Partial) (l : Level) (x : List ℕ) (t : Tree) (ts : List Tree) → end ≡ place + length x → l.kind ≡ AnArray most k → Keeps f around l → TakesItem f → InArray f → AreShortIntegers place x (t ∷ ts) → HasRoom most (k + length (t ∷ ts)) → holds (puts f (t ∷ ts))
+      → AfterLeaves place end f holds around (record l { kind = AnArray most (k + length ts) }) x
+  go place end k f l x t [] e kind kept takes in_it (y, z, cut, is, short, none) room held =
+      let all : x ≡ y = cut ∙ ap (λ r. y ++ r) none ∙ append-nil y in
+      record {
+        before = f;
+        last = t;
+        held = held;
+        levels = subst (λ (j : LevelKind). Keeps f around (record l { kind = j })) (kind ∙ ap (AnArray most) (omega arith)) kept;
+        takes = takes;
+        same = refl;
+        is = λ limit. ap (run limit (state place f no_part)) all ∙ integer_read limit place f y t takes is short ∙ ap (λ j. finished j (ready f) (open_in f) t) (omega (arith, e, ap length all));
+      }
+  go place end k f l x t (u ∷ ts) e kind kept takes in_it (y, z, cut, is, short, more) room held =
+      let s = stays (place + length y) f t around l (AnArray most (k + 1)) kept.0 kept.1 (item_accepted f t takes) kept.2 (ap with_part kind ∙ goes_on most k (k + length (t ∷ u ∷ ts)) room (omega arith)) in
+      let r = go (place + length y) end (k + 1) (put f t) (with_kind l (AnArray most (k + 1))) z u ts (omega (arith, e, ap length cut, length-append y z)) refl s.0 (item_after f t takes) (array_after f t in_it) more (subst (HasRoom most) (omega arith) room) held in
+      record {
+        before = r.before;
+        last = r.last;
+        held = r.held;
+        levels = subst (λ (j : ℕ). Keeps r.before around (record l { kind = AnArray most j })) (omega arith) r.levels;
+        takes = r.takes;
+        same = r.same ∙ array_same f t in_it;
+        is = λ limit.
+            ap (run limit (state place f no_part)) cut
+            ∙ run-append limit (state place f no_part) y z
+            ∙ ap (λ q. run limit q z) (integer_read limit place f y t takes is short ∙ s.1)
+            ∙ r.is limit;
+      }
+
+  pub integers_taken : (place n count k : ℕ) (f : Partial) (l : Level) (x : List ℕ) (ts : List Tree) → n ≤ length x → 0 < count → l.kind ≡ AnArray most k → Keeps f around l → TakesItem f → InArray f → AreShortIntegers place (take n x) ts → length ts ≡ count → HasRoom most (k + count) → holds (puts f ts)
+      → AfterLeaves place (place + n) f holds around (record l { kind = AnArray most (k + (count - 1)) }) (take n x)
+  integers_taken place n count k f l x [] whole some kind kept takes in_it are many room held = absurd (omega (arith, many, some))
+  integers_taken place n count k f l x (t ∷ ts) whole some kind kept takes in_it are many room held =
+      subst (λ (j : ℕ). AfterLeaves place (place + n) f holds around (record l { kind = AnArray most (k + j) }) (take n x)) (omega (arith, many))
+      (go place (place + n) k f l (take n x) t ts (omega (arith, length-take-le n x whole)) kind kept takes in_it are (subst (λ j. HasRoom most (k + j)) (sym many) room) held)
+
+pub integers_some : (place n : ℕ) (x : List ℕ) (ts : List Tree) → n ≤ length x → AreShortIntegers place (take n x) ts → 0 < length ts → 0 < n
+integers_some place n x [] whole are some = absurd (omega arith)
+integers_some place n x (t ∷ ts) whole (y, z, cut, is, short, more) some = omega (arith, length-take-le n x whole, ap length cut, length-append y z, long t y is short)
+  where
+    long : (t : Tree) (y : List ℕ) → IsInteger t → IsShortLeaf place y t → 0 < length y
+    long (Uint q w n) y is s = omega (arith, ap length s.spells)
+    long (Nint q w n) y is s = omega (arith, ap length s.spells)
+    long t y is s = absurd is

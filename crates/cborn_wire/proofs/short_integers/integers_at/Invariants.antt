@@ -1,0 +1,11 @@
+use Rattle.std.proofs.Common.{◌≡◌, ◌-◌, ◌≤◌, ◌++◌, ℕ, List, length}
+use Rattle.cborn_model.specs.Tree.{Tree}
+use Rattle.cborn_model.specs.shared.Runs.{AreShortIntegers}
+use Rattle.cborn_wire.proofs.short_integers.integers_at.Given as goal
+
+-- as many integers as were counted are at the front
+abbrev pub invariant-loop-count : goal.invariant-loop-count
+invariant-loop-count l = (y : List ℕ) × (l.bytes ≡ y ++ l.rest) × (l.count ≤ l.most) × ((place : ℕ) → (ts : List Tree) × AreShortIntegers place y ts × (length ts ≡ l.count))
+
+abbrev pub decreases-loop-count : goal.decreases-loop-count
+decreases-loop-count l = l.most - l.count

@@ -1,0 +1,137 @@
+//! Leaves that a visitor takes several at a time: integers of an array, and a key with its value.
+
+ghost use Rattle.std.specs.Prelude.{◌≡◌, ◌≤◌, ◌/◌, ℕ, Option, length, drop, true, OnErr, IfOk, MatchOption};
+ghost use Rattle.cborn_model.specs.Heads.{WidthFits, least};
+ghost use Rattle.cborn_model.specs.shared.Runs.{text_in as content_of_text};
+ghost use Rattle.cborn_wire.specs.HeadReading.{major_at};
+ghost use Rattle.cborn_wire.specs.declared.levels.LevelKind.TheVariants.{Array, Map, MapValue};
+ghost use Rattle.cborn_wire.specs.devices.Leaves.{IsLeafOf, leaf_tree, TakesRun};
+
+use crate::leaves::{GivenHead, leaf_at};
+use crate::levels::LevelKind;
+use crate::short_integers::integers_at;
+use cborn_model::{LeafPair, Visitor, Width, shortest};
+use std::alloc::AllocError;
+
+/// What was taken of some bytes.
+#[derive(Clone, Copy)]
+pub(crate) struct Taken {
+    /// How many bytes.
+    pub(crate) len: usize,
+    /// The level as it was before the last leaf.
+    pub(crate) before_last: LevelKind,
+}
+
+/// Takes a run of integers or a key and its value at the front of `bytes`, which is at the offset
+/// `place` and begins with a leaf that has this head and ends at `end`. `None`: the visitor takes
+/// nothing.
+#[inline(always)]
+pub(crate) fn take_run<V: Visitor>(
+    visitor: &mut V,
+    kind: LevelKind,
+    head: GivenHead,
+    end: usize,
+    place: u64,
+    bytes: &[u8],
+) -> Result<Option<Taken>, AllocError>
+    requires { IsLeafOf bytes.now head end }
+    ensures taken { IfOk result (λ r. MatchOption r (visitor.new ≡ visitor.old) (λ t. TakesRun place bytes.now kind t.before_last (V.holds visitor.old) (V.holds visitor.new) t.len)) }
+    ensures memory { OnErr result V.takes_memory }
+{
+    if !V::takes_runs() {
+        return Ok(None);
+    }
+    match kind {
+        LevelKind::Array(most, parts) if head.first < 64 => {
+            take_integers(visitor, most, parts, place, bytes)
+        }
+        LevelKind::Map(most, parts) => {
+            let Some(len) = take_pair(visitor, head, end, place, bytes)? else {
+                return Ok(None);
+            };
+            let before_last = LevelKind::MapValue(most, parts);
+            Ok(Some(Taken { len, before_last }))
+        }
+        _ => Ok(None),
+    }
+}
+
+/// Takes integers of an array of `most` items, if that is known, of which `parts` are whole.
+#[inline(always)]
+fn take_integers<V: Visitor>(
+    visitor: &mut V,
+    most: Option<u64>,
+    parts: u64,
+    place: u64,
+    bytes: &[u8],
+) -> Result<Option<Taken>, AllocError>
+    ensures taken { IfOk result (λ r. MatchOption r (visitor.new ≡ visitor.old) (λ t. TakesRun place bytes.now (Array most parts) t.before_last (V.holds visitor.old) (V.holds visitor.new) t.len)) }
+    ensures memory { OnErr result V.takes_memory }
+{
+    let room = most.unwrap_or(u64::MAX).saturating_sub(parts);
+    let run = integers_at(bytes, room);
+    if run.count < 2 || !visitor.integers(place, run.count, &bytes[..run.len])? {
+        return Ok(None);
+    }
+    let before_last = LevelKind::Array(most, parts + (run.count - 1));
+    let len = run.len;
+    Ok(Some(Taken { len, before_last }))
+}
+
+/// Takes the key at the front of `bytes`, which has this head and ends at `end`, and the value after
+/// it, where both are leaves with the shortest heads. Gives their length.
+#[inline(always)]
+fn take_pair<V: Visitor>(
+    visitor: &mut V,
+    key: GivenHead,
+    end: usize,
+    place: u64,
+    bytes: &[u8],
+) -> Result<Option<usize>, AllocError>
+    requires { IsLeafOf bytes.now key end }
+    ensures taken { IfOk result (λ r. MatchOption r (visitor.new ≡ visitor.old) (λ n. (most : Option ℕ) (parts : ℕ) → TakesRun place bytes.now (Map most parts) (MapValue most parts) (V.holds visitor.old) (V.holds visitor.new) n)) }
+    ensures memory { OnErr result V.takes_memory }
+{
+    let after = &bytes[end..];
+    let Some((value, value_end)) = leaf_at(after) else {
+        return Ok(None);
+    };
+    if !is_short(key) || !is_short(value) {
+        return Ok(None);
+    }
+    let len = end + value_end;
+    let pair = LeafPair {
+        spelled: &bytes[..len],
+        key_len: end,
+        key_text: text_in(key, &bytes[..end]),
+        value_text: text_in(value, &after[..value_end]),
+    };
+    if !visitor.pair(place, pair)? {
+        return Ok(None);
+    }
+    Ok(Some(len))
+}
+
+/// Whether a head is the shortest.
+#[inline(always)]
+fn is_short(head: GivenHead) -> bool
+    requires { WidthFits head.width head.argument }
+    ensures { result ≡ true → head.width ≡ least head.argument }
+{
+    match head.width {
+        Width::Direct => true,
+        width => width == shortest(head.argument),
+    }
+}
+
+/// The content of the leaf with this head that is spelled so, if it is a text; else nothing.
+#[inline(always)]
+fn text_in(head: GivenHead, spelled: &[u8]) -> &[u8]
+    requires { head.len ≤ length spelled.now }
+    ensures { (place : ℕ) → result.now ≡ content_of_text (leaf_tree place (major_at (head.first / 32)) head.width head.argument (drop head.len spelled.now)) }
+{
+    if head.first < 96 || head.first >= 128 {
+        return &[];
+    }
+    &spelled[head.len..]
+}
