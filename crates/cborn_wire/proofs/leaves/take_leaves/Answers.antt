@@ -1,4 +1,4 @@
-use Rattle.std.proofs.Common.{◌++◌, ◌+◌, ◌-◌, ◌∙◌, refl, sym, subst, arith, take, length-append}
+use Rattle.std.proofs.Common.{◌++◌, ◌+◌, ◌∙◌, refl, sym, subst, arith, take, length-append}
 use Rattle.std.proofs.lemmas.List.{length-take-le}
 use Rattle.cborn_model.specs.Partial.{put, no_part}
 use Rattle.cborn_wire.specs.shared.Visiting.{ready, open_in, Stands}

@@ -1,4 +1,4 @@
-use Rattle.std.proofs.Common.{sym, subst, MatchOption}
+use Rattle.std.proofs.Common.{sym, subst}
 use Rattle.cborn_wire.specs.declared.levels.LevelKind.{LevelKind}
 use Rattle.cborn_wire.specs.declared.levels.LevelKind.TheVariants.{MapValue}
 use Rattle.cborn_wire.specs.devices.Leaves.{TakesRun}

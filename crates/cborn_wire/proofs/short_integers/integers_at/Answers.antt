@@ -1,4 +1,4 @@
-use Rattle.std.proofs.Common.{◌≡◌, ◌+◌, ◌++◌, ◌<◌, ℕ, List, [], ◌∷◌, length, take, ap, subst, sym, ◌∙◌, arith, length-append}
+use Rattle.std.proofs.Common.{◌+◌, ◌++◌, ◌<◌, [], ◌∷◌, length, take, ap, subst, sym, ◌∙◌, arith, length-append}
 use Rattle.cborn_model.specs.shared.Runs.{AreShortIntegers}
 use Rattle.cborn_wire.proofs.ShortIntegers.{integers_more}
 use Rattle.cborn_wire.proofs.Visiting.Pieces.{next_cut, all_taken}
