@@ -1,4 +1,4 @@
-use Rattle.std.proofs.Common.{◌≡◌, ℕ, ◌∙◌, inl, inr, Some, refl, ap, sym, subst}
+use Rattle.std.proofs.Common.{ℕ, ◌∙◌, inl, inr, refl, sym, subst}
 use Rattle.cborn_model.specs.Earliest.{IsEarliest}
 use Rattle.cborn_model.specs.Reasons.{flaw_rank}
 use Rattle.cborn_judge.specs.shared.Judged.{FindsFlaw}
