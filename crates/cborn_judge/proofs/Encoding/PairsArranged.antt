@@ -152,8 +152,8 @@ module _ (order : List ℕ → List ℕ → Ordering) (laws : IsKeyOrder order) 
           | inl less ↦ absurd (true≢false (ap (λ o. is_lt (ordering_then o (mark_order order b (mark x) (mark y)))) (nat_cmp_is (hinted x) (hinted y) Less less) ∙ h))
           | inr least ↦ elim (cases_lt (hinted y) (hinted x)) [
             | inl more ↦
-            let above : order k l ≡ Greater = laws.turned l k ∙ ap ordering_reverse (tells l k (bytes_between b (mark y).1 (mark y).2 bytes) (bytes_between b (mark x).1 (mark x).2 bytes) (omega (arith, e, f, more))) in
-            ap (λ o. is_lt (ordering_then o (nat_cmp (mark x).1 (mark y).1))) above
+                let above : order k l ≡ Greater = laws.turned l k ∙ ap ordering_reverse (tells l k (bytes_between b (mark y).1 (mark y).2 bytes) (bytes_between b (mark x).1 (mark x).2 bytes) (omega (arith, e, f, more))) in
+                ap (λ o. is_lt (ordering_then o (nat_cmp (mark x).1 (mark y).1))) above
             | inr as_much ↦ ap (λ o. is_lt (ordering_then o (mark_order order b (mark x) (mark y)))) (nat_cmp_is (hinted x) (hinted y) Equal (omega (arith, least, as_much))) ∙ h
           ]
         ]
