@@ -81,6 +81,7 @@ pub(crate) trait Spot: Copy {
 
 impl Spot for Mark {
     ghost seen = { mark_of };
+
     ghost hinted = { mark_hint };
 
     #[inline(always)]
@@ -101,6 +102,7 @@ impl Spot for Mark {
 
 impl Spot for NarrowMark {
     ghost seen = { narrow_of };
+
     ghost hinted = { narrow_hint };
 
     #[inline(always)]

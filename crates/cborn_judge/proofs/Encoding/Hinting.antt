@@ -1,5 +1,5 @@
 -- Keys rise as their hints do, where these differ.
-use Rattle.std.proofs.Common.{◌≡◌, ℕ, zero, suc, ◌+◌, ◌*◌, ◌/◌, ◌<◌, ◌≤◌, ◌^◌, inl, inr, List, [], ◌∷◌, length, refl, sym, ap, ◌∙◌, subst, arith, pow-suc, lit<, mul-le-mul_right, Option, None, Some, Ordering, Less, Equal, Greater}
+use Rattle.std.proofs.Common.{◌≡◌, ℕ, zero, suc, ◌+◌, ◌*◌, ◌/◌, ◌<◌, ◌≤◌, ◌^◌, inl, inr, List, [], ◌∷◌, length, refl, sym, ap, ◌∙◌, subst, arith, pow-suc, mul-le-mul_right, Option, None, Some, Ordering, Less, Equal}
 use Rattle.std.specs.Prelude.{IfSome}
 use Rattle.std.specs.Cmp.{nat_cmp_is}
 use Rattle.std.specs.Ordering.{nat_cmp, ordering_then}
@@ -10,7 +10,7 @@ use Rattle.cborn_model.specs.declared.orders.KnownOrder.{KnownOrder}
 use Rattle.cborn_model.specs.declared.orders.KnownOrder.TheVariants as known
 use Rattle.cborn_judge.specs.devices.Hints.{front_of, length_hint, hint_of, Tells}
 
-pub front_below : (n : ℕ) (x : List ℕ) → AreBytes x → front_of n x < 256 ^ n
+front_below : (n : ℕ) (x : List ℕ) → AreBytes x → front_of n x < 256 ^ n
 front_below zero x h = omega arith
 front_below (suc n) [] h = let p = front_below n [] tt in let q : 0 < 256 ^ n = omega (arith, p) in rw (pow-suc) (omega (arith, q))
 front_below (suc n) (b ∷ x) h =
@@ -39,9 +39,9 @@ front_tells (suc n) (a ∷ k) (b ∷ l) h i m =
       | inr least ↦ elim (cases_lt b a) [
         | inl more ↦ absurd (let q = higher b a (256 ^ n) (front_of n l) (front_of n k) more (front_below n l i.1) in omega (arith, q, m))
         | inr as_much ↦
-        let same : a ≡ b = omega arith in
-        let high : a * 256 ^ n ≡ b * 256 ^ n = ap (λ z. z * 256 ^ n) same in
-        same_then a b (bytewise k l) same ∙ front_tells n k l h.1 i.1 (omega (arith, high, m))
+            let same : a ≡ b = omega arith in
+            let high : a * 256 ^ n ≡ b * 256 ^ n = ap (λ z. z * 256 ^ n) same in
+            same_then a b (bytewise k l) same ∙ front_tells n k l h.1 i.1 (omega (arith, high, m))
       ]
     ]
 
@@ -61,11 +61,11 @@ length_tells k l h i m =
       | inr least ↦ elim (cases_lt (length k) 255) [
         | inr long ↦ absurd (let e = long_hint k (omega arith) in elim (cases_lt (length l) 255) [ inl s ↦ (let f = short_hint l s in let r = rest_below l i in omega (arith, e, f, r, m)) | inr s ↦ (let f = long_hint l (omega arith) in omega (arith, e, f, m)) ])
         | inl short ↦
-        let e = short_hint k short in
-        let f = short_hint l (omega arith) in
-        let r = rest_below l i in
-        let same : length k ≡ length l = omega (arith, least, e, f, r, m) in
-        same_then (length k) (length l) (bytewise k l) same ∙ front_tells 8 k l h i (omega (arith, e, f, same, m))
+            let e = short_hint k short in
+            let f = short_hint l (omega arith) in
+            let r = rest_below l i in
+            let same : length k ≡ length l = omega (arith, least, e, f, r, m) in
+            same_then (length k) (length l) (bytewise k l) same ∙ front_tells 8 k l h i (omega (arith, e, f, same, m))
       ]
     ]
 

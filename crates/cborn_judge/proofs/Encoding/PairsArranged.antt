@@ -1,5 +1,5 @@
 -- Pairs that are sorted by their keys: what ties is a repeat, and where nothing does the keys rise.
-use Rattle.std.proofs.Common.{◌≡◌, ℕ, ◌+◌, ◌≤◌, inl, inr, List, [], ◌∷◌, ◌++◌, length, map, take, drop, refl, sym, ap, ◌∙◌, subst, arith, take_at, Option, None, Ordering, Less, Equal, Greater, true, false, true≢false, is_lt, IsPermutation, get_or}
+use Rattle.std.proofs.Common.{◌≡◌, ℕ, ◌+◌, ◌-◌, ◌≤◌, inl, inr, List, [], ◌∷◌, ◌++◌, length, map, take, drop, refl, sym, ap, ◌∙◌, subst, arith, take_at, Option, None, Ordering, Less, Equal, Greater, true, false, true≢false, is_lt, IsPermutation, get_or}
 use Rattle.std.specs.Prelude.{◌↔◌, flat_map}
 use Rattle.std.specs.Ordering.{ordering_then, ordering_reverse, nat_cmp}
 use Rattle.std.specs.List.{AllByRecursion}
@@ -7,7 +7,7 @@ use Rattle.std.specs.List.Sorted.{IsSortedBy}
 use Rattle.std.specs.Cmp.{IsTotalOrder, IsStrictWeakOrder, nat_cmp_is}
 use Rattle.std.proofs.lemmas.Bool.{cases_lt}
 use Rattle.std.proofs.lemmas.Cmp.{on_total, then_total, nat_cmp_total}
-use Rattle.std.proofs.lemmas.List.{map-append, take-append-drop, get_or-map, length-map, take-map, length-take-le}
+use Rattle.std.proofs.lemmas.List.{map-append, take-append-drop, take_rest, drop-map, drop_all, get_or-map, length-map, take-map, length-take-le}
 use Rattle.std.proofs.lemmas.List.Elements.{All-from_recursion}
 use Rattle.std.proofs.lemmas.List.Sorted.{IsPermutation-map, IsPermutation-refl, ranks_by}
 use Rattle.cborn_model.specs.Bytes.{AreBytes}
@@ -152,8 +152,8 @@ module _ (order : List ℕ → List ℕ → Ordering) (laws : IsKeyOrder order) 
           | inl less ↦ absurd (true≢false (ap (λ o. is_lt (ordering_then o (mark_order order b (mark x) (mark y)))) (nat_cmp_is (hinted x) (hinted y) Less less) ∙ h))
           | inr least ↦ elim (cases_lt (hinted y) (hinted x)) [
             | inl more ↦
-            let above : order k l ≡ Greater = laws.turned l k ∙ ap ordering_reverse (tells l k (bytes_between b (mark y).1 (mark y).2 bytes) (bytes_between b (mark x).1 (mark x).2 bytes) (omega (arith, e, f, more))) in
-            ap (λ o. is_lt (ordering_then o (nat_cmp (mark x).1 (mark y).1))) above
+                let above : order k l ≡ Greater = laws.turned l k ∙ ap ordering_reverse (tells l k (bytes_between b (mark y).1 (mark y).2 bytes) (bytes_between b (mark x).1 (mark x).2 bytes) (omega (arith, e, f, more))) in
+                ap (λ o. is_lt (ordering_then o (nat_cmp (mark x).1 (mark y).1))) above
             | inr as_much ↦ ap (λ o. is_lt (ordering_then o (mark_order order b (mark x) (mark y)))) (nat_cmp_is (hinted x) (hinted y) Equal (omega (arith, least, as_much))) ∙ h
           ]
         ]
@@ -163,13 +163,20 @@ module _ (order : List ℕ → List ℕ → Ordering) (laws : IsKeyOrder order) 
         let all = All-from_recursion (λ s. hinted s ≡ hint (key_of b (mark s))) ss a in
         marks_sorted ss (λ k d l m. not_below (get_or ss (k + 1) d) (get_or ss k d) (all (k + 1) d m) (all k d (omega (arith, m))) (h k d l m))
 
--- ---- marks before them
+-- ---- marks from an index on
 
-pub front_kept : {S : Type 0} (mark : S → Mark) (from : ℕ) (old rest new : List S) → from ≤ length old → new ≡ take from old ++ rest → take from (map mark new) ≡ take from (map mark old)
-front_kept mark from old rest new l e =
-    take-map mark from new ∙ ap (map mark) (ap (take from) e ∙ take_at (take from old) rest from (length-take-le from old l)) ∙ sym (take-map mark from old)
+module _ {S : Type 0} (mark : S → Mark) (from : ℕ) where
+  pub rest_marked : (old xs : List S) → xs ≡ old → map mark (take (length xs - from) (drop from xs)) ≡ drop from (map mark old)
+  rest_marked old xs e = ap (map mark) (take_rest xs from ∙ ap (drop from) e) ∙ sym (drop-map mark from old)
 
-pub all_kept : {S : Type 0} (mark : S → Mark) (from n : ℕ) (old part new : List S) → map mark part ≡ map mark (take n (drop from old)) → new ≡ take from old ++ (part ++ drop n (drop from old)) → map mark new ≡ map mark old
-all_kept mark from n old part new k e =
-    ap (map mark) e ∙ map-append mark (take from old) (part ++ drop n (drop from old)) ∙ ap (λ z. map mark (take from old) ++ z) (map-append mark part (drop n (drop from old)) ∙ ap (λ z. z ++ map mark (drop n (drop from old))) k ∙ sym (map-append mark (take n (drop from old)) (drop n (drop from old))) ∙ ap (map mark) (take-append-drop n (drop from old)))
-    ∙ sym (map-append mark (take from old) (drop from old)) ∙ ap (map mark) (take-append-drop from old)
+  pub none_left : (old : List S) → length old ≤ from → drop from (map mark old) ≡ []
+  none_left old l = drop_all from (map mark old) (omega (arith, length-map old mark, l))
+
+  pub front_kept : (old rest new : List S) → from ≤ length old → new ≡ take from old ++ rest → take from (map mark new) ≡ take from (map mark old)
+  front_kept old rest new l e =
+      take-map mark from new ∙ ap (map mark) (ap (take from) e ∙ take_at (take from old) rest from (length-take-le from old l)) ∙ sym (take-map mark from old)
+
+  pub all_kept : (n : ℕ) (old part new : List S) → map mark part ≡ map mark (take n (drop from old)) → new ≡ take from old ++ (part ++ drop n (drop from old)) → map mark new ≡ map mark old
+  all_kept n old part new k e =
+      ap (map mark) e ∙ map-append mark (take from old) (part ++ drop n (drop from old)) ∙ ap (λ z. map mark (take from old) ++ z) (map-append mark part (drop n (drop from old)) ∙ ap (λ z. z ++ map mark (drop n (drop from old))) k ∙ sym (map-append mark (take n (drop from old)) (drop n (drop from old))) ∙ ap (map mark) (take-append-drop n (drop from old)))
+      ∙ sym (map-append mark (take from old) (drop from old)) ∙ ap (map mark) (take-append-drop from old)

@@ -1,5 +1,5 @@
-use Rattle.std.proofs.Common.{rules, ◌≡◌, ◌++◌, ◌-◌, List, ℕ, [], length, take, drop, map, None, refl, sym, ap, ◌∙◌, subst, arith}
-use Rattle.std.proofs.lemmas.List.{drop-map, drop_all, take_rest, with_items_is, places, length-map}
+use Rattle.std.proofs.Common.{rules, ◌++◌, ◌-◌, List, length, take, drop, map, None, refl, sym, ap, ◌∙◌, subst, arith}
+use Rattle.std.proofs.lemmas.List.{drop_all, with_items_is, places}
 use Rattle.cborn_model.specs.Orders.{Rising}
 use Rattle.cborn_model.specs.declared.defects.DefectReason.TheVariants.{KeyOrder}
 use Rattle.cborn_judge.specs.Departures.{FindsDefect}
@@ -8,13 +8,12 @@ use Rattle.cborn_judge.specs.devices.Marks.{AreHintedBy, FallsIn}
 use Rattle.cborn_judge.proofs.FirstDefect.Departing.{alike}
 use Rattle.cborn_judge.proofs.Encoding.PairsRead.{marked_read}
 use Rattle.cborn_judge.proofs.Encoding.PairsMet.{none_falls, falls_met}
-use Rattle.cborn_judge.proofs.Encoding.PairsArranged.{none_marked, all_kept}
+use Rattle.cborn_judge.proofs.Encoding.PairsArranged.{none_marked, rest_marked, none_left, all_kept}
 use Rattle.cborn_judge.proofs.marks.descent.Goals as goal
 
 pub returns-then-from-len-clause-rising : goal.returns-then-from-len-clause-rising
 returns-then-from-len-clause-rising g c q y rows e a =
-    let ms : List Mark = map g.S.Spot.seen c.args.spots.now.items in
-    let none : drop c.args.from ms ≡ [] = drop_all c.args.from ms (omega (arith, length-map c.args.spots.now.items g.S.Spot.seen, c.len.ensures, c.if-from-len.true)) in
+    let none = none_left g.S.Spot.seen c.args.from c.args.spots.now.items (omega (arith, c.len.ensures, c.if-from-len.true)) in
     subst (λ z. Rising g.O.KeyOrder.order (filled_keys z)) (sym (none_marked rows (length y) (subst (AreMarked (length y) rows) none a))) tt
 
 pub returns-then-from-len-clause-hinted : goal.returns-then-from-len-clause-hinted
@@ -27,7 +26,7 @@ returns-clause-rising g c none y rows e a =
     let order = g.O.KeyOrder.order in
     let xs = c.deref_mut.result.now in
     let ms : List Mark = drop c.args.from (map g.S.Spot.seen c.args.spots.now.items) in
-    let own : map g.S.Spot.seen (take (length xs - c.args.from) (drop c.args.from xs)) ≡ ms = ap (map g.S.Spot.seen) (take_rest xs c.args.from ∙ ap (drop c.args.from) c.deref_mut.ensures.value) ∙ sym (drop-map g.S.Spot.seen c.args.from c.args.spots.now.items) in
+    let own = rest_marked g.S.Spot.seen c.args.from c.args.spots.now.items xs c.deref_mut.ensures.value in
     let found : FindsDefect (FallsIn order c.args.out.now ms) None = subst (λ z. FindsDefect (FallsIn order c.args.out.now z) None) own (subst (FindsDefect (FallsIn order c.args.out.now (map g.S.Spot.seen (take (length xs - c.args.from) (drop c.args.from xs))))) none c.first_fall.ensures.found) in
     none_falls order c.args.out.now ms rows (marked_read c.args.out.now y rows ms (length y) refl e a) (λ p m. found p KeyOrder (refl, m))
 
@@ -36,7 +35,7 @@ returns-clause-found g c y rows e a f =
     let order = g.O.KeyOrder.order in
     let xs = c.deref_mut.result.now in
     let ms : List Mark = drop c.args.from (map g.S.Spot.seen c.args.spots.now.items) in
-    let own : map g.S.Spot.seen (take (length xs - c.args.from) (drop c.args.from xs)) ≡ ms = ap (map g.S.Spot.seen) (take_rest xs c.args.from ∙ ap (drop c.args.from) c.deref_mut.ensures.value) ∙ sym (drop-map g.S.Spot.seen c.args.from c.args.spots.now.items) in
+    let own = rest_marked g.S.Spot.seen c.args.from c.args.spots.now.items xs c.deref_mut.ensures.value in
     alike (FallsIn order c.args.out.now ms) (RowDescent order rows) c.first_fall.result
     (λ p r. let both = falls_met order c.args.out.now ms rows p (marked_read c.args.out.now y rows ms (length y) refl e a) f in ((λ h. (h.0, both.0 h.1)), (λ h. (h.0, both.1 h.1))))
     (subst (λ z. FindsDefect (FallsIn order c.args.out.now z) c.first_fall.result) own c.first_fall.ensures.found)

@@ -1,4 +1,4 @@
-use Rattle.std.proofs.Common.{◌≡◌, ◌<◌, ◌∙◌, inl, inr, List, ℕ, length, take, ap, sym, subst, arith}
+use Rattle.std.proofs.Common.{◌<◌, ◌∙◌, inl, inr, ap, sym, subst, arith}
 use Rattle.std.proofs.lemmas.List.{take_all}
 use Rattle.cborn_model.proofs.Bytes.{are_bytes}
 use Rattle.cborn_model.specs.Bytes.{AreBytes}
@@ -33,7 +33,7 @@ loop-spot-preserved g c =
       | else-not-is_empty w ↦ inr (sym c.is_empty.ensures ∙ w.if-not-is_empty.false, ap (λ z. z.now) w.before-is, w.last-is)
     ] in
     falls_passed g.S.Spot.seen g.S.Spot.hinted b order hint (hint_tells order c.known-known.result c.known-known.ensures) c.args.spots.now c.loop-spot.spots c.loop-spot.spot-index c.spot-item.result c.set_hint.new.self m before key c.if-not-is_empty.before.now last c.if-not-is_empty.last c.loop-spot.first c.if-hint-last.first
-        (omega (arith, c.loop-spot-test.true, c.loop-spot.auto.spots)) c.mark-mark.ensures c.key_in-key.ensures bytes c.set_hint.ensures.kept (c.set_hint.ensures.set ∙ c.hint-hint.ensures) c.loop-spot.invariant look next
+    (omega (arith, c.loop-spot-test.true, c.loop-spot.auto.spots)) c.mark-mark.ensures c.key_in-key.ensures bytes c.set_hint.ensures.kept (c.set_hint.ensures.set ∙ c.hint-hint.ensures) c.loop-spot.invariant look next
 
 pub returns-clause-hinted : goal.returns-clause-hinted
 returns-clause-hinted g c =

@@ -1,4 +1,4 @@
-use Rattle.std.proofs.Common.{◌≡◌, ℕ, ◌∙◌, inl, inr, Some, refl, ap, sym, subst}
+use Rattle.std.proofs.Common.{ℕ, ◌∙◌, inl, inr, refl, sym, subst}
 use Rattle.cborn_model.specs.Earliest.{IsEarliest}
 use Rattle.cborn_model.specs.Reasons.{flaw_rank}
 use Rattle.cborn_judge.specs.shared.Judged.{FindsFlaw}
@@ -19,8 +19,8 @@ loop-spot-preserved g c =
     let look : LooksBack seen hinted b c.loop-spot.before here place first c.match-before.first =
     elim c.match-before.branch [
       | in-Some+then-hint w ↦
-      let tied : FindsFlaw (TieAt (key_of b (seen w.in-Some.last)) (key_of b (seen here)) place) w.tied.result = subst (λ (z : Mark × Mark). FindsFlaw (TieAt (key_of b z.0) (key_of b z.1) z.1.0) w.tied.result) (λ i. (w.mark.ensures i, w.mark-then-hint.ensures i)) w.tied.ensures in
-      subst (λ z. LooksBack seen hinted b z here place first c.match-before.first) (sym w.in-Some.is) (inr (w.tied.result, tied, subst (IsEarliest (λ f. (f.place, flaw_rank f.reason)) first w.tied.result) (sym w.first-is) w.earliest-first.ensures))
+          let tied : FindsFlaw (TieAt (key_of b (seen w.in-Some.last)) (key_of b (seen here)) place) w.tied.result = subst (λ (z : Mark × Mark). FindsFlaw (TieAt (key_of b z.0) (key_of b z.1) z.1.0) w.tied.result) (λ i. (w.mark.ensures i, w.mark-then-hint.ensures i)) w.tied.ensures in
+          subst (λ z. LooksBack seen hinted b z here place first c.match-before.first) (sym w.in-Some.is) (inr (w.tied.result, tied, subst (IsEarliest (λ f. (f.place, flaw_rank f.reason)) first w.tied.result) (sym w.first-is) w.earliest-first.ensures))
       | in-Some+else-hint w ↦ subst (λ z. LooksBack seen hinted b z here place first c.match-before.first) (sym w.in-Some.is) (inl ((λ e. w.if-hint.false (w.hint.ensures ∙ e ∙ sym w.hint-in-Some.ensures)), w.first-is))
       | in_default w ↦ none_back seen hinted b c.loop-spot.before here place first c.match-before.first w.in_default.not-Some w.first-is
     ] in
