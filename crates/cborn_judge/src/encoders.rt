@@ -3,8 +3,7 @@
 ghost use Rattle.std.specs.Prelude.{◌≡◌, ◌++◌, ◌∷◌, ◌↔◌, ℕ, List, [], length, take, drop, Option, None, Some, true, false, IfOk, IfErr, OnOk, IsTrue};
 ghost use Rattle.cborn_model.specs.Tree as tree;
 ghost use Rattle.cborn_model.specs.Tree.{Tree, trees};
-ghost use Rattle.cborn_model.specs.Partial.{Partial, Opening, top, inside, in_chunks, put, no_part, IsFree, string_tree};
-ghost use Rattle.cborn_model.specs.Valid.{IsProper};
+ghost use Rattle.cborn_model.specs.Partial.{Partial, Opening, top, inside, put, no_part, IsFree, string_tree};
 ghost use Rattle.cborn_model.specs.shared.Runs.{puts, InArray, AtKey};
 ghost use Rattle.std.specs.declared.cmp.Ordering.{Ordering};
 ghost use Rattle.cborn_model.specs.Reasons.{flaw_rank};
