@@ -1,35 +1,32 @@
 //! The visitor [`Encoder`], which encodes items, and finds their first flaw and their first defect.
 
-ghost use Rattle.std.specs.Prelude.{◌≡◌, ◌++◌, ◌∷◌, ◌↔◌, ℕ, List, [], length, take, drop, Option, None, Some, true, false, IfOk, IfErr, OnOk, IsTrue, IsUtf8};
+ghost use Rattle.std.specs.Prelude.{◌≡◌, ◌++◌, ◌∷◌, ◌↔◌, ℕ, List, [], length, take, drop, Option, None, Some, true, false, IfOk, IfErr, OnOk, IsTrue};
 ghost use Rattle.cborn_model.specs.Tree as tree;
 ghost use Rattle.cborn_model.specs.Tree.{Tree, trees};
-ghost use Rattle.cborn_model.specs.Partial.{Partial, Opening, top, inside, in_chunks, put, no_part, IsFree, string_tree};
-ghost use Rattle.cborn_model.specs.Valid.{IsProper};
+ghost use Rattle.cborn_model.specs.Partial.{Partial, Opening, top, inside, put, no_part, IsFree, string_tree};
 ghost use Rattle.cborn_model.specs.shared.Runs.{puts, InArray, AtKey};
 ghost use Rattle.std.specs.declared.cmp.Ordering.{Ordering};
 ghost use Rattle.cborn_model.specs.Reasons.{flaw_rank};
 ghost use Rattle.cborn_model.specs.First.{IsFirst};
-ghost use Rattle.cborn_model.specs.Earliest.{IsEarliest};
 ghost use Rattle.cborn_judge.specs.Departures.{FindsDefect};
 ghost use Rattle.cborn_judge.specs.shared.Checked.{DefectInAll};
-ghost use Rattle.cborn_judge.specs.shared.Judged.{FlawIn, FindsFlaw};
+ghost use Rattle.cborn_judge.specs.shared.Judged.{FlawIn};
 ghost use Rattle.cborn_model.specs.Heads.{code, IsLeastHead};
 ghost use Rattle.cborn_det.specs.Appending.{Appends};
-ghost use Rattle.cborn_model.specs.declared.faults.InvalidReason.TheVariants.{NotUtf8};
 ghost use Rattle.cborn_model.specs.declared.heads.Size.{Size};
 ghost use Rattle.cborn_judge.specs.declared.levels.Container.TheVariants as containers;
 ghost use Rattle.cborn_judge.specs.devices.Marks.{marks_of};
 ghost use Rattle.cborn_judge.specs.devices.Encoding.{is_chunks, Mark, Coded, IsEncodedAs, AreEncodedAs, IsOpening, IsFront, Finds};
 ghost use Rattle.cborn_judge.specs.devices.Encoders.{kept, IsHeld, StandsIn, StandsAs, Written, IsChunk, BeginsAs, IsContent, IsEndedString, IsStringFront, kind_major};
 
-use crate::flaws::Flaw;
+use crate::flaws::{Flaw, keep, text_flaw};
 use crate::levels::{Container, Level};
 use crate::pairs::Pairs;
 use crate::spellings::head_defect;
+use crate::strings::{is_content, is_text};
 use cborn_det::{integer_major, put_head};
 use cborn_model::{
-    Defect, Fault, InvalidReason, KeyOrder, LeafPair, Major, Size, StringKind, Visitor, Width,
-    earliest,
+    Defect, InvalidReason, KeyOrder, LeafPair, Major, Size, StringKind, Visitor, Width,
 };
 use std::alloc::{AllocError, Global};
 use std::marker::PhantomData;
@@ -488,44 +485,6 @@ fn push_front(major: Major, argument: Option<u64>, out: &mut Vec<u8>) -> Result<
     }
 }
 
-/// The flaw of a string at `place`, if it isn't good.
-#[inline(always)]
-fn text_flaw(place: u64, is_good: bool) -> Option<Flaw>
-    ensures { FindsFlaw (λ p r. (p ≡ place) × (r ≡ NotUtf8) × (is_good ≡ false)) result }
-{
-    if is_good {
-        return None;
-    }
-    let reason = InvalidReason::NotUtf8;
-    Some(Flaw { place, reason })
-}
-
-/// Keeps the first of what was found so far and what was found next. As a rule nothing was found
-/// next, or at a higher place.
-#[inline(always)]
-fn keep<F: Fault>(first: &mut Option<F>, next: Option<F>)
-    ensures { IsEarliest F.key first.old next first.new }
-{
-    let Some(fault) = next else {
-        return;
-    };
-    if let Some(so_far) = *first {
-        if so_far.place_and_number().0 < fault.place_and_number().0 {
-            return;
-        }
-    }
-    keep_earlier(first, fault);
-}
-
-/// What [`keep`] does where something was found that may come first.
-#[cold]
-#[inline(never)]
-fn keep_earlier<F: Fault>(first: &mut Option<F>, fault: F)
-    ensures { IsEarliest F.key first.old (Some fault) first.new }
-{
-    *first = earliest(*first, Some(fault));
-}
-
 /// What was written from the index `start` on.
 #[inline(always)]
 pub(crate) fn written_from(start: usize, out: &[u8]) -> &[u8]
@@ -535,24 +494,4 @@ pub(crate) fn written_from(start: usize, out: &[u8]) -> &[u8]
         return &[];
     }
     &out[start..]
-}
-
-/// Whether a string of this kind may hold these bytes: a text has to be UTF-8 (RFC 8949 section
-/// 3.1).
-#[inline]
-fn is_content(kind: StringKind, bytes: &[u8]) -> bool
-    ensures { IsTrue result ↔ IsContent kind bytes.now }
-{
-    match kind {
-        StringKind::OfBytes => true,
-        StringKind::OfText => is_text(bytes),
-    }
-}
-
-/// Whether bytes are UTF-8. Most texts are short and ASCII, which is quicker to see.
-#[inline(always)]
-fn is_text(bytes: &[u8]) -> bool
-    ensures { IsTrue result ↔ IsUtf8 bytes.now }
-{
-    bytes.is_ascii() || simdutf8::is_utf8(bytes)
 }

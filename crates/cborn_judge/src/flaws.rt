@@ -1,8 +1,12 @@
-//! The flaw of a node.
+//! The flaw of a node, and what is kept of the faults that are found.
 
+ghost use Rattle.std.specs.Prelude.{◌≡◌, false, Some};
 ghost use Rattle.cborn_model.specs.Reasons.{flaw_rank};
+ghost use Rattle.cborn_model.specs.Earliest.{IsEarliest};
+ghost use Rattle.cborn_model.specs.declared.faults.InvalidReason.TheVariants.{NotUtf8};
+ghost use Rattle.cborn_judge.specs.shared.Judged.{FindsFlaw};
 
-use cborn_model::{Fault, InvalidReason};
+use cborn_model::{Fault, InvalidReason, earliest};
 
 /// What is wrong, and at which offset.
 #[derive(Clone, Copy)]
@@ -17,4 +21,42 @@ impl Fault for Flaw {
     fn place_and_number(self) -> (u64, u8) {
         (self.place, self.reason).place_and_number()
     }
+}
+
+/// The flaw of a string at `place`, if it isn't good.
+#[inline(always)]
+pub(crate) fn text_flaw(place: u64, is_good: bool) -> Option<Flaw>
+    ensures { FindsFlaw (λ p r. (p ≡ place) × (r ≡ NotUtf8) × (is_good ≡ false)) result }
+{
+    if is_good {
+        return None;
+    }
+    let reason = InvalidReason::NotUtf8;
+    Some(Flaw { place, reason })
+}
+
+/// Keeps the first of what was found so far and what was found next. As a rule nothing was found
+/// next, or at a higher place.
+#[inline(always)]
+pub(crate) fn keep<F: Fault>(first: &mut Option<F>, next: Option<F>)
+    ensures { IsEarliest F.key first.old next first.new }
+{
+    let Some(fault) = next else {
+        return;
+    };
+    if let Some(so_far) = *first {
+        if so_far.place_and_number().0 < fault.place_and_number().0 {
+            return;
+        }
+    }
+    keep_earlier(first, fault);
+}
+
+/// What [`keep`] does where something was found that may come first.
+#[cold]
+#[inline(never)]
+fn keep_earlier<F: Fault>(first: &mut Option<F>, fault: F)
+    ensures { IsEarliest F.key first.old (Some fault) first.new }
+{
+    *first = earliest(*first, Some(fault));
 }

@@ -1,12 +1,13 @@
-//! What strings mean (RFC 8949 sections 3.1 and 3.2.3). What a node is built with isn't inlined, so
+//! What strings may hold and mean (RFC 8949 sections 3.1 and 3.2.3). What a node is built with isn't inlined, so
 //! that the recursion over nodes takes little stack.
 
-ghost use Rattle.std.specs.Prelude.{◌≡◌, IfOk, IsUtf8};
+ghost use Rattle.std.specs.Prelude.{◌≡◌, ◌↔◌, IfOk, IsTrue, IsUtf8};
 ghost use Rattle.cborn_model.specs.ItemView.{item_value};
 ghost use Rattle.cborn_model.specs.Meaning.{joined_chunks, ChunksAreText};
 ghost use Rattle.cborn_model.specs.Value as value;
+ghost use Rattle.cborn_judge.specs.devices.Encoders.{IsContent};
 
-use cborn_model::{ByteString, Chunk, Item};
+use cborn_model::{ByteString, Chunk, Item, StringKind};
 use std::alloc::{AllocError, Global};
 
 /// The bytes of the chunks, one after another.
@@ -62,4 +63,24 @@ pub(crate) fn text_of_chunks(alloc: Global, chunks: &[Chunk]) -> Result<Item, Al
         Ok(text) => Ok(Item::Text(text)),
         Err(error) => Ok(Item::Bytes(ByteString::new(error.into_bytes()))),
     }
+}
+
+/// Whether a string of this kind may hold these bytes: a text has to be UTF-8 (RFC 8949 section
+/// 3.1).
+#[inline]
+pub(crate) fn is_content(kind: StringKind, bytes: &[u8]) -> bool
+    ensures { IsTrue result ↔ IsContent kind bytes.now }
+{
+    match kind {
+        StringKind::OfBytes => true,
+        StringKind::OfText => is_text(bytes),
+    }
+}
+
+/// Whether bytes are UTF-8. Most texts are short and ASCII, which is quicker to see.
+#[inline(always)]
+pub(crate) fn is_text(bytes: &[u8]) -> bool
+    ensures { IsTrue result ↔ IsUtf8 bytes.now }
+{
+    bytes.is_ascii() || simdutf8::is_utf8(bytes)
 }
