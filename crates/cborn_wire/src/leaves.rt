@@ -74,19 +74,29 @@ fn wide_head(first: u8, width: Width, rest: &[u8]) -> Option<GivenHead>
     })
 }
 
-/// The head of the leaf that is whole at the front of `bytes`, and where the leaf ends.
+/// A leaf that is whole at the front of some bytes.
+#[derive(Clone, Copy)]
+pub(crate) struct Leaf {
+    pub(crate) head: GivenHead,
+    /// Where it ends.
+    pub(crate) end: usize,
+}
+
+/// The leaf that is whole at the front of `bytes`.
 #[inline(always)]
-pub(crate) fn leaf_at(bytes: &[u8]) -> Option<(GivenHead, usize)>
-    ensures { MatchOption result ⊤ (λ leaf. IsLeafOf bytes.now leaf.0 leaf.1) }
+pub(crate) fn leaf_at(bytes: &[u8]) -> Option<Leaf>
+    ensures { MatchOption result ⊤ (λ leaf. IsLeafOf bytes.now leaf.head leaf.end) }
 {
     let head = given_head(bytes)?;
     if head.first < 64 || head.first >= 224 {
-        return Some((head, head.len));
+        let end = head.len;
+        return Some(Leaf { head, end });
     }
     if head.first >= 128 || head.argument > (bytes.len() - head.len) as u64 {
         return None;
     }
-    Some((head, head.len + head.argument as usize))
+    let end = head.len + head.argument as usize;
+    Some(Leaf { head, end })
 }
 
 /// Whether a leaf may begin with this byte.
@@ -136,15 +146,15 @@ fn take_next<V: Visitor>(
     ensures taken { IfOk result (λ r. MatchOption r (visitor.new ≡ visitor.old) (λ t. TakesRun place bytes.now kind t.before_last (V.holds visitor.old) (V.holds visitor.new) t.len)) }
     ensures memory { OnErr result V.takes_memory }
 {
-    let Some((head, end)) = leaf_at(bytes) else {
+    let Some(leaf) = leaf_at(bytes) else {
         return Ok(None);
     };
-    if let Some(taken) = take_run(visitor, kind, head, end, place, bytes)? {
+    if let Some(taken) = take_run(visitor, kind, leaf, place, bytes)? {
         return Ok(Some(taken));
     }
-    visit_leaf(visitor, place, head, &bytes[head.len..end])?;
+    visit_leaf(visitor, place, leaf.head, &bytes[leaf.head.len..leaf.end])?;
     Ok(Some(Taken {
-        len: end,
+        len: leaf.end,
         before_last: kind,
     }))
 }

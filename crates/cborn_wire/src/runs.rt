@@ -7,7 +7,7 @@ ghost use Rattle.cborn_wire.specs.HeadReading.{major_at};
 ghost use Rattle.cborn_wire.specs.declared.levels.LevelKind.TheVariants.{Array, Map, MapValue};
 ghost use Rattle.cborn_wire.specs.devices.Leaves.{IsLeafOf, leaf_tree, TakesRun};
 
-use crate::leaves::{GivenHead, leaf_at};
+use crate::leaves::{GivenHead, Leaf, leaf_at};
 use crate::levels::LevelKind;
 use crate::short_integers::integers_at;
 use cborn_model::{LeafPair, Visitor, Width, shortest};
@@ -22,19 +22,17 @@ pub(crate) struct Taken {
     pub(crate) before_last: LevelKind,
 }
 
-/// Takes a run of integers or a key and its value at the front of `bytes`, which is at the offset
-/// `place` and begins with a leaf that has this head and ends at `end`. `None`: the visitor takes
-/// nothing.
+/// Takes a run of integers or a key and its value at the front of `bytes`, which begins with this leaf
+/// at the offset `place`. `None`: the visitor takes nothing.
 #[inline(always)]
 pub(crate) fn take_run<V: Visitor>(
     visitor: &mut V,
     kind: LevelKind,
-    head: GivenHead,
-    end: usize,
+    leaf: Leaf,
     place: u64,
     bytes: &[u8],
 ) -> Result<Option<Taken>, AllocError>
-    requires { IsLeafOf bytes.now head end }
+    requires { IsLeafOf bytes.now leaf.head leaf.end }
     ensures taken { IfOk result (λ r. MatchOption r (visitor.new ≡ visitor.old) (λ t. TakesRun place bytes.now kind t.before_last (V.holds visitor.old) (V.holds visitor.new) t.len)) }
     ensures memory { OnErr result V.takes_memory }
 {
@@ -42,11 +40,11 @@ pub(crate) fn take_run<V: Visitor>(
         return Ok(None);
     }
     match kind {
-        LevelKind::Array(most, parts) if head.first < 64 => {
+        LevelKind::Array(most, parts) if leaf.head.first < 64 => {
             take_integers(visitor, most, parts, place, bytes)
         }
         LevelKind::Map(most, parts) => {
-            let Some(len) = take_pair(visitor, head, end, place, bytes)? else {
+            let Some(len) = take_pair(visitor, leaf, place, bytes)? else {
                 return Ok(None);
             };
             let before_last = LevelKind::MapValue(most, parts);
@@ -78,33 +76,32 @@ fn take_integers<V: Visitor>(
     Ok(Some(Taken { len, before_last }))
 }
 
-/// Takes the key at the front of `bytes`, which has this head and ends at `end`, and the value after
-/// it, where both are leaves with the shortest heads. Gives their length.
+/// Takes the key at the front of `bytes`, which is this leaf, and the value after it, where both are
+/// leaves with the shortest heads. Gives their length.
 #[inline(always)]
 fn take_pair<V: Visitor>(
     visitor: &mut V,
-    key: GivenHead,
-    end: usize,
+    key: Leaf,
     place: u64,
     bytes: &[u8],
 ) -> Result<Option<usize>, AllocError>
-    requires { IsLeafOf bytes.now key end }
+    requires { IsLeafOf bytes.now key.head key.end }
     ensures taken { IfOk result (λ r. MatchOption r (visitor.new ≡ visitor.old) (λ n. (most : Option ℕ) (parts : ℕ) → TakesRun place bytes.now (Map most parts) (MapValue most parts) (V.holds visitor.old) (V.holds visitor.new) n)) }
     ensures memory { OnErr result V.takes_memory }
 {
-    let after = &bytes[end..];
-    let Some((value, value_end)) = leaf_at(after) else {
+    let after = &bytes[key.end..];
+    let Some(value) = leaf_at(after) else {
         return Ok(None);
     };
-    if !is_short(key) || !is_short(value) {
+    if !is_short(key.head) || !is_short(value.head) {
         return Ok(None);
     }
-    let len = end + value_end;
+    let len = key.end + value.end;
     let pair = LeafPair {
         spelled: &bytes[..len],
-        key_len: end,
-        key_text: text_in(key, &bytes[..end]),
-        value_text: text_in(value, &after[..value_end]),
+        key_len: key.end,
+        key_text: text_in(key.head, &bytes[..key.end]),
+        value_text: text_in(value.head, &after[..value.end]),
     };
     if !visitor.pair(place, pair)? {
         return Ok(None);

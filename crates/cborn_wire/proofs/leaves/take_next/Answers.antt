@@ -9,8 +9,8 @@ use Rattle.cborn_wire.proofs.leaves.take_next.Goals as goal
 pub returns-clause-taken : goal.returns-clause-taken
 returns-clause-taken g c =
     let x = c.args.bytes.now in
-    let h = c.in-Some.head in
-    let n = c.in-Some.end in
+    let h = c.in-Some.leaf.head in
+    let n = c.in-Some.leaf.end in
     let leaf = c.in-Some.ensures in
     let same : c.take_run.new.visitor ≡ c.args.visitor.now = rw c.in_default-2.is at c.in_ok-taken.ensures.taken in (
       leaf_some x h n leaf,

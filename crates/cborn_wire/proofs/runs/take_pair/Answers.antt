@@ -13,10 +13,10 @@ pub returns-clause-taken : goal.returns-clause-taken
 returns-clause-taken g c = λ most parts.
     let p = c.args.place in
     let x = c.args.bytes.now in
-    let k = c.args.key in
-    let n = c.args.end in
-    let v = c.in-Some.value in
-    let m = c.in-Some.value_end in
+    let k = c.args.key.head in
+    let n = c.args.key.end in
+    let v = c.in-Some.value.head in
+    let m = c.in-Some.value.end in
     let value : IsLeafOf (drop n x) v m = subst (λ y. IsLeafOf y v m) (take_rest x n) c.in-Some.ensures in (
       omega (arith, leaf_some x k n c.requires),
       omega (arith, c.requires.whole, value.whole, length-drop n x),
