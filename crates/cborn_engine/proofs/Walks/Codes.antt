@@ -1,5 +1,5 @@
 -- What nodes are encoded as.
-use Rattle.std.proofs.Common.{◌≡◌, ◌≢◌, ℕ, ◌+◌, ◌⊎◌, ◌<◌, ◌^◌, inl, inr, List, ◌++◌, length, Bool, true, false, refl, sym, ◌∙◌, subst, arith, Ordering}
+use Rattle.std.proofs.Common.{◌≡◌, ◌≢◌, ℕ, ◌⊎◌, ◌<◌, ◌^◌, inl, inr, List, ◌++◌, length, Bool, true, false, refl, sym, ◌∙◌, subst, arith, Ordering}
 use Rattle.cborn_model.specs.Bytes.{big_endian}
 use Rattle.cborn_model.specs.declared.heads.Major.{Major}
 use Rattle.cborn_model.specs.declared.heads.Width.{Width}

@@ -1,5 +1,5 @@
 -- Bytes that are walked over to their end are the deterministic encodings of items, and others aren't.
-use Rattle.std.proofs.Common.{◌≡◌, ℕ, ◌^◌, ◌<◌, List, [], ◌∷◌, ◌++◌, length, refl, sym, ap, ◌∙◌, subst, arith, append_assoc, append-nil, length-append, Ordering}
+use Rattle.std.proofs.Common.{◌≡◌, ℕ, ◌^◌, ◌<◌, List, [], ◌∷◌, ◌++◌, length, refl, sym, ap, ◌∙◌, subst, arith, append_assoc, length-append, Ordering}
 use Rattle.std.specs.List.{AllZip}
 use Rattle.cborn_model.specs.Meaning.{Means}
 use Rattle.cborn_model.specs.Spelled.{spelled, spelled_all, FitsAll, Wellformed}

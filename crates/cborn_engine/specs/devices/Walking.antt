@@ -1,5 +1,5 @@
 -- A device of the proofs: what is read in place, the shortest head at the front of an input, and items that are their own deterministic encodings. The front of the input then spells what is encoded. No public contract cites it.
-use Rattle.std.specs.Prelude.{◌≡◌, ◌≢◌, ℕ, ◌+◌, ◌*◌, ◌/◌, ◌%◌, ◌⊎◌, ◌<◌, List, ◌++◌, map, IsTrue, Option, None, Some, ⊤, IsUtf8}
+use Rattle.std.specs.Prelude.{◌≡◌, ◌≢◌, ℕ, ◌+◌, ◌*◌, ◌/◌, ◌%◌, ◌⊎◌, ◌<◌, List, ◌++◌, IsTrue, Option, None, Some, ⊤, IsUtf8}
 use Rattle.std.specs.declared.cmp.Ordering.TheVariants.{Less}
 use Rattle.std.specs.declared.cmp.Ordering.{Ordering}
 use Rattle.std.proofs.Common.{Bor}
@@ -10,7 +10,7 @@ use Rattle.cborn_model.specs.Spelled.{spelled, spelled_all}
 use Rattle.cborn_model.specs.Tree.{Tree, trees, entries}
 use Rattle.cborn_wire.specs.Parts.{StringRead, NodeRead, NodesRead, Pair}
 use Rattle.std.specs.List.{AllZip}
-use Rattle.cborn_model.specs.Value.{Value, integer, pairs_of}
+use Rattle.cborn_model.specs.Value.{Value, pairs_of}
 use Rattle.cborn_model.specs.Meaning.{Means, EntriesMean}
 use Rattle.cborn_det.specs.Det.{Det, DetSeq, DetPairs, Entry}
 use Rattle.cborn_wire.specs.declared.heads.Argument.{Argument}
