@@ -11,4 +11,6 @@ mod judge;
 #[cfg(test)]
 mod model;
 #[cfg(test)]
+mod orders;
+#[cfg(test)]
 mod wire;

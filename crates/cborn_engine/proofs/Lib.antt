@@ -4,3 +4,4 @@ pub mod Streams
 pub mod Answers
 pub mod Comparison
 pub mod CountAnswers
+pub mod Walks

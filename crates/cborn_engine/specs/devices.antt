@@ -5,3 +5,5 @@ pub mod Reading
 pub mod Counts
 pub mod TextBytes
 pub mod CuttingCode
+pub mod Walking
+pub mod Following

@@ -12,10 +12,10 @@ use crate::count_faults::of_any;
 use crate::counted_streams::check_stream;
 use crate::counts::Count;
 use crate::faults::EngineFault;
+use crate::fronts::is_deterministic;
 use crate::judgments::judge_bytes;
 use crate::sources::Source;
 use cborn_model::{Defect, KeyOrder, Limit};
-use cborn_transcode::deterministic_front;
 use std::alloc::Global;
 
 /// The first defect of the bytes of an input, if they aren't the deterministic encodings of the
@@ -54,7 +54,7 @@ pub fn check_input<O: KeyOrder>(
     ensures malformed { TellsFault kinds.Wire limit input.now result }
     ensures failures { (n : ℕ) → read_failures result n ≡ n }
 {
-    if deterministic_front::<O>(limit, input) == input.len() {
+    if is_deterministic::<O>(limit, input) {
         return Ok(None);
     }
     let encoded = judge_bytes::<O>(alloc, limit, input)?;

@@ -18,7 +18,7 @@ use crate::conversions::{show_all, written_as};
 use crate::count_faults::{CompareCountFault, CountFault};
 use crate::counts::{Count, expect};
 use crate::differences::difference;
-use crate::encodings::{encode_input, front_to_copy};
+use crate::encodings::{encode_input, is_own_encoding};
 use crate::inputs::MOST;
 use crate::kinds::Kind;
 use crate::outputs::write_answer;
@@ -156,15 +156,11 @@ fn read_counted<O: KeyOrder, R: Source>(
     ensures calls { R.asked reader.new ≤ R.asked reader.old + most_bytes + 1 }
 {
     let input = read_bytes(alloc, MOST, reader)?;
-    match front_to_copy::<O>(limit, kind, &input) {
-        None => {
-            expect(alloc, limit, count, kind, &input)?;
-            Ok(input)
-        }
-        Some(front) => {
-            let bytes = encode_input::<O>(alloc, limit, kind, front, &input)?;
-            expect(alloc, limit, count, kind, &input)?;
-            Ok(bytes)
-        }
+    if is_own_encoding::<O>(limit, kind, &input) {
+        expect(alloc, limit, count, kind, &input)?;
+        return Ok(input);
     }
+    let bytes = encode_input::<O>(alloc, limit, kind, &input)?;
+    expect(alloc, limit, count, kind, &input)?;
+    Ok(bytes)
 }

@@ -8,8 +8,8 @@ ghost use Rattle.cborn_engine.specs.Counts.{HoldsOne};
 ghost use Rattle.cborn_engine.specs.devices.Encoding.{IsEncoded};
 
 use crate::counts::Count;
+use crate::fronts::split_item;
 use cborn_model::{KeyOrder, Limit};
-use cborn_transcode::split_item;
 
 /// The difference of what two deterministic encodings hold. Where each holds one item, they aren't
 /// walked.

@@ -12,10 +12,12 @@
 //! canonical form) and `specs/Canonical.antt` (the headline). `Refusing` says why an input is
 //! refused; `Loading`, `Showing`, `Comparing` and `Checking` say what the other calls answer.
 //! [`laws`] has the headline in one place. In the code `texts` makes texts and bytes of what was
-//! read, `nodes` makes nodes and `inputs` hands them out. `encodings` encodes a whole input,
-//! `showings` writes it in another form, and `checks` looks whether it is deterministic, by passes
-//! that keep no tree (`cborn_transcode`, `cborn_edn`). Where these have no answer, `judgments` finds
-//! the first flaw or the first defect of bytes, and `refusals` why an input is refused.
+//! read, `nodes` makes nodes and `inputs` hands them out. `judgments` encodes bytes and finds their
+//! first flaw or defect, in one look that keeps no tree (`cborn_judge`). `encodings` encodes a whole
+//! input so, `showings` writes it in another form (`cborn_edn`), `checks` looks whether it is
+//! deterministic, and `refusals` says why an input is refused. `fronts` walks over bytes that are
+//! their own encodings, in place; `walked_leaves`, `walked_integers` and `walked_bignums` read the
+//! items without children for it.
 //! `conversions`, `comparisons` and `checks` have the calls over readers of any number of items,
 //! `counted_streams` those with a count, and `slices` those over inputs that are held whole;
 //! `differences` finds where two encodings differ.
@@ -36,6 +38,7 @@ mod counts;
 mod differences;
 mod encodings;
 mod faults;
+mod fronts;
 mod inputs;
 mod items;
 mod judgments;
@@ -51,6 +54,9 @@ mod slices;
 mod sources;
 mod stream_faults;
 mod texts;
+mod walked_bignums;
+mod walked_integers;
+mod walked_leaves;
 mod whole_inputs;
 
 pub use checks::check;

@@ -25,7 +25,7 @@ use crate::conversions::fixed_text;
 use crate::count_faults::{CompareCountFault, CountFault};
 use crate::counts::{Count, expect};
 use crate::differences::difference;
-use crate::encodings::{encode_input, front_to_copy};
+use crate::encodings::{encode_input, is_own_encoding};
 use crate::faults::EngineFault;
 use crate::inputs::MOST;
 use crate::kinds::Kind;
@@ -203,10 +203,10 @@ fn encode_slice<'a, O: KeyOrder>(
     if is_too_long(input) {
         return Err(EngineFault::TooLong);
     }
-    match front_to_copy::<O>(limit, kind, input) {
-        None => Ok(CowSlice::Borrowed(input)),
-        Some(front) => { Ok(CowSlice::Owned(encode_input::<O>(alloc, limit, kind, front, input)?)) }
+    if is_own_encoding::<O>(limit, kind, input) {
+        return Ok(CowSlice::Borrowed(input));
     }
+    Ok(CowSlice::Owned(encode_input::<O>(alloc, limit, kind, input)?))
 }
 
 /// The deterministic encodings of what an input holds, where that are as many items as it has to hold.

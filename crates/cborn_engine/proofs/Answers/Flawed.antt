@@ -62,10 +62,8 @@ spells_well p limit text bytes u s l =
     (trees t.twins, twins_well limit t f.0 f.1)
 
 -- bytes that are refused for a flaw have it
-pub known_flaw : (limit : ℕ) (now bytes : List ℕ) (why : EngineFault) (i : Invalid) (p : ℕ) (r : InvalidReason) → now ≡ bytes → ((most : ℕ) → length now ≤ most → IsRefused kind.Wire limit most now why) → why ≡ fault.Invalid i → i ≡ invalid.Refused p r → IsFlawed kind.Wire limit bytes p r
-known_flaw limit now bytes why i p r same refused e f =
-    let known : why ≡ fault.Invalid (invalid.Refused p r) = e ∙ ap fault.Invalid f in
-    subst (λ x. IsFlawed kind.Wire limit x p r) same (subst (λ w. IsRefused kind.Wire limit (length now) now w) known (refused (length now) (omega arith))).1
+pub known_flaw : (limit : ℕ) (bytes : List ℕ) (why : EngineFault) (i : Invalid) (p : ℕ) (r : InvalidReason) → IsRefused kind.Wire limit (length bytes) bytes why → why ≡ fault.Invalid i → i ≡ invalid.Refused p r → IsFlawed kind.Wire limit bytes p r
+known_flaw limit bytes why i p r refused e f = (subst (λ w. IsRefused kind.Wire limit (length bytes) bytes w) (e ∙ ap fault.Invalid f) refused).1
 
 -- where well-formed bytes are refused for no flaw, the text that spells them is refused for the same
 pub unflawed : (p : Profile) (limit : ℕ) (text bytes : List ℕ) (why : EngineFault) → IsWellformed limit bytes → IsRefused kind.Wire limit (length bytes) bytes why → ((i : Invalid) → why ≡ fault.Invalid i → ⊥) → length text ≤ most_bytes → IsRefused (kind_of p) limit most_bytes text why

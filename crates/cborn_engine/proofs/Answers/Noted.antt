@@ -13,7 +13,6 @@ use Rattle.cborn_edn.proofs.Short.Facts.{notated_fits}
 use Rattle.cborn_edn.proofs.RoundTrip.Unplaced.{same_meaning}
 use Rattle.cborn_edn.specs.ShownBytes.{IsShownText}
 use Rattle.cborn_edn.specs.Spelling.{IsSpelling}
-use Rattle.cborn_transcode.specs.Transcoding.{IsTranscoded}
 use Rattle.cborn_model.proofs.Listed.Meanings.{all_mean, zip_mean}
 use Rattle.cborn_engine.specs.declared.kinds.Kind.{Kind}
 use Rattle.cborn_engine.specs.declared.kinds.Kind.TheVariants as kind
@@ -29,12 +28,13 @@ spells profile.One limit text nodes h = h
 spells profile.Two limit text nodes h = h
 
 -- it holds what the bytes mean
-pub encoded : (p : Profile) (limit : ℕ) (text bytes : List ℕ) → IsUtf8 text → TextRead p limit text bytes → (order : List ℕ → List ℕ → Ordering) (answer : List ℕ) → IsTranscoded order limit bytes answer → length text ≤ most_bytes → IsEncoded order (kind_of p) limit text answer
+pub encoded : (p : Profile) (limit : ℕ) (text bytes : List ℕ) → IsUtf8 text → TextRead p limit text bytes → (order : List ℕ → List ℕ → Ordering) (answer : List ℕ) → IsEncoded order kind.Wire limit bytes answer → length text ≤ most_bytes → IsEncoded order (kind_of p) limit text answer
 encoded p limit text bytes u s order answer n l =
+    let own = n.held in
     let t = twins_read s in
     let fit = t.fit (notated_fits p limit text (trees s.nodes) (utf8_bytes text u) (omega (arith, l)) s.notated).0 in
-    let same = same_nodes (trees n.nodes) (trees t.twins) n.read.fit fit (n.read.spells ∙ sym t.spells) in
-    let meant = t.meaning (values_of n.items) (same_meaning (trees n.nodes) (trees t.twins) same (values_of n.items) (all_mean n.nodes n.items n.meant)) in
+    let same = same_nodes (trees own.nodes) (trees t.twins) own.spelled.fit fit (own.spelled.spells ∙ sym t.spells) in
+    let meant = t.meaning (values_of n.items) (same_meaning (trees own.nodes) (trees t.twins) same (values_of n.items) (all_mean own.nodes n.items own.meant)) in
     record {
       items = n.items;
       held = record { nodes = s.nodes; spelled = spells p limit text s.nodes (u, s.notated); meant = zip_mean s.nodes n.items meant };

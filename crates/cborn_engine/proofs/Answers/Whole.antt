@@ -4,11 +4,9 @@ use Rattle.std.specs.Io.KnownBytes.{IsAtEnd}
 use Rattle.std.specs.Prelude.{IfOk, IfErr}
 use Rattle.cborn_model.specs.Tree.{Tree, trees}
 use Rattle.cborn_model.specs.Orders.{IsKeyOrder}
-use Rattle.cborn_model.specs.Value.{Value}
 use Rattle.cborn_judge.specs.Defects.{SequenceDefect}
 use Rattle.cborn_judge.specs.Departures.{FindsDefect}
 use Rattle.cborn_model.specs.declared.defects.Defect.{Defect}
-use Rattle.cborn_transcode.specs.Transcoding.{IsTranscoded}
 use Rattle.cborn_engine.specs.declared.faults.EngineFault.{EngineFault}
 use Rattle.cborn_engine.specs.declared.faults.EngineFault.TheVariants as fault
 use Rattle.cborn_engine.specs.declared.kinds.Kind.{Kind}
@@ -71,18 +69,12 @@ loaded k limit most before after bytes now h e r good bad =
 
 -- ---- the bytes
 
-transcoded_held : (order : List ℕ → List ℕ → Ordering) (limit : ℕ) (input output : List ℕ) (n : IsTranscoded order limit input output) → Holds kind.Wire limit input n.items
-transcoded_held order limit input output n = record { nodes = n.nodes; spelled = n.read; meant = n.meant }
-
-pub transcoded : (order : List ℕ → List ℕ → Ordering) (limit : ℕ) (input output : List ℕ) → IsTranscoded order limit input output → IsEncoded order kind.Wire limit input output
-transcoded order limit input output n = record { items = n.items; held = transcoded_held order limit input output n; encoded = n.encoded }
-
 pub judged : (order : List ℕ → List ℕ → Ordering) (limit : ℕ) (input bytes : List ℕ) (d : Option Defect) → AreJudged order limit input bytes d → IsEncoded order kind.Wire limit input bytes
 judged order limit input bytes d j = record { items = j.items; held = record { nodes = j.nodes; spelled = j.read; meant = j.meant }; encoded = j.encoded }
 
 module _ (limit most : ℕ) (input : List ℕ) (within : length input ≤ most) where
-  pub deterministic : (order : List ℕ → List ℕ → Ordering) → IsTranscoded order limit input input → CheckAnswers order limit most input (Ok None)
-  deterministic order n = (within, record { items = n.items; held = transcoded_held order limit input input n; verdict = n.encoded })
+  pub deterministic : (order : List ℕ → List ℕ → Ordering) → IsEncoded order kind.Wire limit input input → CheckAnswers order limit most input (Ok None)
+  deterministic order n = (within, record { items = n.items; held = n.held; verdict = n.encoded })
 
   pub checked : (order : List ℕ → List ℕ → Ordering) → IsKeyOrder order → most ≤ most_bytes → (bytes : List ℕ) (d : Option Defect) → AreJudged order limit input bytes d → CheckAnswers order limit most input (Ok d)
   checked order laws bounded bytes d j = (within, record { items = j.items; held = held; verdict = verdict d j.found })

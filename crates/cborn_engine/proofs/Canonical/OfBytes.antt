@@ -1,5 +1,5 @@
 -- Bytes hold one list of items, and each encoding of them holds the same items.
-use Rattle.std.proofs.Common.{◌≡◌, ◌+◌, ◌≤◌, ◌↔◌, ℕ, max, List, [], ◌∷◌, ◌++◌, length, append-nil, refl, sym, ap, ◌∙◌, subst, arith, Ordering}
+use Rattle.std.proofs.Common.{◌≡◌, ◌≤◌, ◌↔◌, ℕ, max, List, [], ◌∷◌, ◌++◌, length, append-nil, refl, sym, ap, ◌∙◌, subst, arith, Ordering}
 use Rattle.std.specs.List.{AllZip}
 use Rattle.cborn_model.specs.Orders.{IsKeyOrder}
 use Rattle.cborn_model.specs.Tree.{Trees, no_item, more, trees, depth_all}
@@ -10,9 +10,11 @@ use Rattle.cborn_det.specs.Det.{DetSeq, DetValues}
 use Rattle.cborn_det.proofs.Canon.{seq_of_one, one_of_seq}
 use Rattle.cborn_det.proofs.Steps.{values_of_seq, seq_of_values}
 use Rattle.cborn_wire.proofs.Spelled.TreeLists.{tree_list, trees-tree_list}
-use Rattle.cborn_transcode.specs.Transcoding.{ItemsTranscoded}
+use Rattle.cborn_wire.specs.Parts.{NodesRead}
+use Rattle.cborn_wire.proofs.Parts.Nodes.{nodes_more, wellformed}
 use Rattle.cborn_model.proofs.Listed.Meanings.{all_mean, zip_mean}
-use Rattle.cborn_transcode.proofs.Lists.{all_append, normalised}
+use Rattle.cborn_engine.specs.devices.Walking.{AreEncodedAs}
+use Rattle.cborn_engine.proofs.Walks.Lists.{both_encoded}
 use Rattle.cborn_engine.specs.declared.kinds.Kind.{Kind}
 use Rattle.cborn_engine.specs.declared.kinds.Kind.TheVariants as kind
 use Rattle.cborn_engine.specs.Bytes.{BytesHold}
@@ -127,21 +129,19 @@ module _ (order : List ℕ → List ℕ → Ordering) where
 
   -- ---- one input after another
 
-  transcoded_items : (limit : ℕ) (x z old v : List ℕ) → (a : IsCanonical order kind.Wire kind.Wire limit x v) → ItemsTranscoded order limit (length a.held.nodes) (x ++ z) z old (old ++ v)
-  transcoded_items limit x z old v a = record {
+  as_read : (limit : ℕ) (x z v : List ℕ) → (a : IsCanonical order kind.Wire kind.Wire limit x v) → NodesRead (λ ts. AreEncodedAs order ts v) limit (length a.held.nodes) (x ++ z) z
+  as_read limit x z v a = record {
     nodes = a.held.nodes;
     read = ap (λ l. l ++ z) (sym a.held.spelled.spells);
     fits = a.held.spelled.fit;
     shallow = a.held.spelled.shallow;
-    holds = (v, (a.items, a.held.meant, a.written), refl);
+    holds = (a.items, a.held.meant, a.written);
     count = refl;
   }
 
   pub joined : (limit : ℕ) (x y v w : List ℕ) → IsCanonical order kind.Wire kind.Wire limit x v → IsCanonical order kind.Wire kind.Wire limit y w → IsCanonical order kind.Wire kind.Wire limit (x ++ y) (v ++ w)
   joined limit x y v w a b =
-      let n : ℕ = length a.held.nodes in
-      let m : ℕ = length b.held.nodes in
-      let last : ItemsTranscoded order limit m y [] v (v ++ w) = subst (λ (z : List ℕ). ItemsTranscoded order limit m z [] v (v ++ w)) (append-nil y) (transcoded_items limit y [] v w b) in
-      let all = all_append order [] (transcoded_items limit x y [] v a) m last in
-      let t = normalised order limit (n + m) (x ++ y) (v ++ w) all in
-      record { items = t.items; held = record { nodes = t.nodes; spelled = t.read; meant = t.meant }; written = t.encoded }
+      let first = as_read limit x y v a in
+      let last = subst (λ (z : List ℕ). NodesRead (λ ts. AreEncodedAs order ts w) limit (length b.held.nodes) z []) (append-nil y) (as_read limit y [] w b) in
+      let all : NodesRead (λ ts. AreEncodedAs order ts (v ++ w)) limit _ (x ++ y) [] = nodes_more first last (both_encoded order first.nodes last.nodes v w first.holds last.holds) in
+      record { items = all.holds.0; held = record { nodes = all.nodes; spelled = wellformed all refl; meant = all.holds.1 }; written = all.holds.2 }

@@ -1,6 +1,7 @@
 -- What is known of two deterministic encodings that are walked together.
-use Rattle.std.proofs.Common.{◌≡◌, ◌<◌, ◌+◌, ℕ, zero, suc, ◌⊎◌, inl, inr, List, [], ◌∷◌, ◌++◌, length, take, Option, None, Some, Ordering, refl, sym, ◌∙◌, ap, subst, arith, length-append}
+use Rattle.std.proofs.Common.{◌≡◌, ◌<◌, ◌+◌, ℕ, zero, suc, ◌⊎◌, inl, inr, List, [], ◌∷◌, ◌++◌, length, take, Option, None, Some, Ordering, sym, ◌∙◌, ap, subst, arith, length-append}
 use Rattle.std.specs.List.{AllZip, AllByRecursion}
+use Rattle.std.proofs.lemmas.List.{append_cancel_right}
 use Rattle.cborn_judge.proofs.Encoded.Tidying.{det_tidy}
 use Rattle.cborn_model.proofs.Lengths.{some_bytes}
 use Rattle.cborn_wire.specs.Parts.{NodeRead}
@@ -14,18 +15,15 @@ use Rattle.cborn_model.proofs.SameItems.Sameness.{same_chained}
 use Rattle.cborn_det.specs.Det.{Det, DetSeq}
 use Rattle.cborn_det.proofs.Reading.{reads}
 use Rattle.cborn_det.proofs.Canon.{same_of_one, one_of_same, seq_of_one, one_of_seq}
-use Rattle.cborn_transcode.specs.Transcoding.{ItemTranscoded}
 use Rattle.cborn_engine.specs.declared.kinds.Kind.TheVariants as kind
 use Rattle.cborn_engine.specs.Comparing.{Difference, AreCompared}
 use Rattle.cborn_engine.specs.Counts.{HoldsOne}
 use Rattle.cborn_engine.specs.devices.Encoding.{IsEncoded}
+use Rattle.cborn_engine.specs.devices.Walking.{ItemWalked}
+use Rattle.cborn_engine.proofs.Walks.Whole.{nothing}
 use Rattle.cborn_engine.specs.Holding.{Holds}
 use Rattle.cborn_engine.proofs.Held.Meant.{all_turned, holds_once}
 use Rattle.cborn_engine.proofs.Canonical.Proper.{sequence_proper}
-
-nothing : (x : List ℕ) → length x ≡ 0 → x ≡ []
-nothing [] e = refl
-nothing (c ∷ x) e = absurd (omega (arith, e))
 
 -- ---- where items differ
 
@@ -115,16 +113,12 @@ module _ (order : List ℕ → List ℕ → Ordering) (laws : IsKeyOrder order) 
       record { nodes = ts; read = record { spells = tidy.1 ∙ sym e; fit = w.fit.1; shallow = omega (arith, w.shallow) }; meant = m.1 }
 
   -- the first one is its own encoding
-  first_node : (limit : ℕ) (ts : List Tree) (vs : List Value) (left : List ℕ) → DetSeq order vs left → AllByRecursion IsProper vs → Wellformed limit (trees ts) left → AllZip Means ts vs → 0 < length left → (front : List ℕ) × (rest : List ℕ) × (left ≡ front ++ rest) × ItemTranscoded order limit left rest [] front
+  first_node : (limit : ℕ) (ts : List Tree) (vs : List Value) (left : List ℕ) → DetSeq order vs left → AllByRecursion IsProper vs → Wellformed limit (trees ts) left → AllZip Means ts vs → 0 < length left → (rest : List ℕ) × ItemWalked order limit left rest
   first_node limit ts [] left d p w m some = absurd (omega (arith, some, ap length d))
   first_node limit [] (v ∷ vs) left d p w m some = absurd m
   first_node limit (t ∷ ts) (v ∷ vs) left d p w m some =
-      let tidy = det_tidy order t v (spelled_all (trees ts)) d.0 d.1 w.fit.0 p.0 d.2 (w.spells ∙ d.4) in (
-        spelled t,
-        spelled_all (trees ts),
-        sym w.spells,
-        record { node = t; read = sym w.spells; fits = w.fit.0; shallow = omega (arith, w.shallow); holds = (spelled t, (v, m.0, subst (Det order v) (sym tidy.0) d.2), refl) },
-      )
+      let tidy = det_tidy order t v (spelled_all (trees ts)) d.0 d.1 w.fit.0 p.0 d.2 (w.spells ∙ d.4) in
+      (spelled_all (trees ts), record { node = t; read = sym w.spells; fits = w.fit.0; shallow = omega (arith, w.shallow); holds = (v, m.0, subst (Det order v) (sym tidy.0) d.2) })
 
   -- both begin with it
   further : (limit : ℕ) (vs ws : List Value) (left right x l r : List ℕ) (u : Value) → Ahead order vs ws left right → NodesAhead order limit vs left → Det order u x → left ≡ x ++ l → right ≡ x ++ r → (left ≡ [] → ⊥) → (right ≡ [] → ⊥) → Further order limit vs ws l r
@@ -219,8 +213,8 @@ module _ (order : List ℕ → List ℕ → Ordering) (laws : IsKeyOrder order) 
         }
 
     -- an encoding is at the front of what is left of ours
-    pub front_left : (left right : List ℕ) (k : ℕ) → SoFar order limit ours theirs left right k → 0 < length left → ((front rest : List ℕ) → left ≡ front ++ rest → ItemTranscoded order limit left rest [] front → ⊥) → ⊥
-    front_left left right k s some none = let f = first_node limit s.spelt.nodes s.vs left s.ahead.det s.ahead.proper s.spelt.read s.spelt.meant some in none f.0 f.1 f.2 f.3
+    pub front_left : (left right : List ℕ) (k : ℕ) → SoFar order limit ours theirs left right k → 0 < length left → ((rest : List ℕ) → ItemWalked order limit left rest → ⊥) → ⊥
+    front_left left right k s some none = let f = first_node limit s.spelt.nodes s.vs left s.ahead.det s.ahead.proper s.spelt.read s.spelt.meant some in none f.0 f.1
 
 -- ---- an encoding at the front
 
@@ -228,8 +222,8 @@ module _ (order : List ℕ → List ℕ → Ordering) (laws : IsKeyOrder order) 
 pub item_less : {P : Tree → Type 0} {room : ℕ} {input rest : List ℕ} → NodeRead P room input rest → length rest < length input
 item_less {rest = rest} x = omega (arith, ap length x.read, length-append (spelled x.node) rest, some_bytes x.node)
 
-pub encoding_taken : (order : List ℕ → List ℕ → Ordering) (limit : ℕ) (bytes rest x : List ℕ) → ItemTranscoded order limit bytes rest [] x → (v : Value) × Det order v x
-encoding_taken order limit bytes rest x t = (t.holds.1.0, subst (Det order t.holds.1.0) (sym t.holds.2) t.holds.1.2)
+pub encoding_taken : (order : List ℕ → List ℕ → Ordering) {room : ℕ} {bytes rest : List ℕ} (x : List ℕ) → bytes ≡ x ++ rest → ItemWalked order room bytes rest → (v : Value) × Det order v x
+encoding_taken order {rest = rest} x e i = (i.holds.0, subst (Det order i.holds.0) (append_cancel_right (spelled i.node) x rest (sym i.read ∙ e)) i.holds.2)
 
 -- ---- items that are the same as those that were compared
 

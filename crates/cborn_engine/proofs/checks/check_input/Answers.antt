@@ -1,29 +1,21 @@
-use Rattle.std.proofs.Common.{rules, ◌≡◌, ℕ, length, arith}
+use Rattle.std.proofs.Common.{arith}
 use Rattle.cborn_model.specs.Tree.{trees}
-use Rattle.cborn_transcode.proofs.Fronting.{whole_front}
 use Rattle.cborn_engine.specs.Checking.{CheckAnswers}
 use Rattle.cborn_engine.specs.Reading.{most_bytes}
 use Rattle.cborn_engine.specs.Whole.{TellsFault}
 use Rattle.cborn_engine.specs.declared.kinds.Kind.TheVariants as kind
 use Rattle.cborn_engine.proofs.Answers.KnownErrors.{known_error}
-use Rattle.cborn_engine.proofs.Answers.Malformed.{wellformed, handed}
+use Rattle.cborn_engine.proofs.Answers.Malformed.{wellformed, handed, held}
 use Rattle.cborn_engine.proofs.Answers.Whole.{checked, deterministic}
 use Rattle.cborn_engine.proofs.checks.check_input.Goals as goal
 
-pub returns-then-deterministic_front-input-clause-answers : goal.returns-then-deterministic_front-input-clause-answers
-returns-then-deterministic_front-input-clause-answers g c within =
-    let order = g.O.KeyOrder.order in
-    let front = c.deterministic_front in
-    let all : front.result ≡ length c.args.input.now = search rules in
-    deterministic c.args.limit most_bytes c.args.input.now within order (whole_front order c.args.limit front.result c.args.input.now all front.ensures.front.1)
+pub returns-then-is_deterministic-clause-answers : goal.returns-then-is_deterministic-clause-answers
+returns-then-is_deterministic-clause-answers g c within = deterministic c.args.limit most_bytes c.args.input.now within g.O.KeyOrder.order (c.is_deterministic.ensures.own c.if-is_deterministic.true)
 
-pub returns-then-deterministic_front-input-clause-malformed : goal.returns-then-deterministic_front-input-clause-malformed
-returns-then-deterministic_front-input-clause-malformed g c =
-    let order = g.O.KeyOrder.order in
-    let front = c.deterministic_front in
-    let all : front.result ≡ length c.args.input.now = search rules in
-    let whole = whole_front order c.args.limit front.result c.args.input.now all front.ensures.front.1 in
-    wellformed kind.Wire c.args.limit c.args.input.now (trees whole.nodes) _ (λ e. whole.read)
+pub returns-then-is_deterministic-clause-malformed : goal.returns-then-is_deterministic-clause-malformed
+returns-then-is_deterministic-clause-malformed g c =
+    let own = c.is_deterministic.ensures.own c.if-is_deterministic.true in
+    held kind.Wire c.args.limit c.args.input.now own.items _ own.held
 
 pub returns-in_err-encoded-clause-answers : goal.returns-in_err-encoded-clause-answers
 returns-in_err-encoded-clause-answers g c within =

@@ -1,0 +1,73 @@
+-- Items that are their own encodings.
+use Rattle.std.proofs.Common.{◌≡◌, ℕ, ◌+◌, List, [], ◌∷◌, ◌++◌, drop, refl, sym, ap, ◌∙◌, subst, append-nil, Ordering}
+use Rattle.std.specs.Prelude.{IsTrue}
+use Rattle.std.proofs.lemmas.List.Concat.{flat_map-append}
+use Rattle.cborn_model.specs.declared.heads.Width.{Width}
+use Rattle.cborn_model.specs.declared.heads.Major.{Major}
+use Rattle.cborn_model.specs.declared.heads.Major.TheVariants.{Unsigned, Negative, ByteString, TextString, Other}
+use Rattle.cborn_model.specs.Heads.{Given, head, WidthFits, least, is_simple_value}
+use Rattle.cborn_model.specs.Spelled.{spelled, spelled_all}
+use Rattle.cborn_model.specs.Tree.{Tree, trees}
+use Rattle.cborn_model.specs.Value.{bytes, text, simple}
+use Rattle.cborn_model.proofs.Listed.Trees.{spelled_all-trees}
+use Rattle.cborn_wire.specs.declared.heads.Head.{Head}
+use Rattle.cborn_wire.specs.declared.heads.Argument.{Argument}
+use Rattle.cborn_wire.specs.declared.heads.Argument.TheVariants as arguments
+use Rattle.cborn_wire.specs.HeadReading.{major_at, IsHeadOf, seen_argument, ArgumentFits}
+use Rattle.cborn_wire.proofs.Parts.Heads.{head_read}
+use Rattle.cborn_wire.proofs.Parts.Nodes.{uint_read, nint_read, simple_read, no_node, node_more}
+use Rattle.cborn_wire.proofs.Parts.Strings.{bytes_read, text_read}
+use Rattle.cborn_engine.specs.devices.Walking.{AreEncodedAs, IsIntegral, IsLeast, LeastHeadRead, ContentWalked, ItemWalked, ItemsWalked, WalkedAfter}
+use Rattle.cborn_engine.proofs.Walks.Codes.{least_string, uint_encoded, nint_encoded}
+use Rattle.cborn_engine.proofs.Walks.Lists.{more_encoded}
+
+-- ---- heads
+
+pub least_read : {x tail : List ℕ} {h : Head} {n k : ℕ} {w : Width} → tail ≡ drop n x → IsHeadOf x h n → h.argument ≡ arguments.Given w k → w ≡ least k → LeastHeadRead (major_at h.major) k x tail
+least_read {tail = tail} {h} {k = k} t i f l = record {
+  fits = subst (λ v. WidthFits v k) l (subst (λ (a : Argument). ArgumentFits (seen_argument a)) f i.fits);
+  read = head_read t i refl f ∙ ap (λ v. head (major_at h.major) (Given v k) ++ tail) l;
+}
+
+module _ (order : List ℕ → List ℕ → Ordering) {room : ℕ} where
+  pub walked_from : {x tail rest : List ℕ} {major k : Major} {n : ℕ} → LeastHeadRead major n x tail → major ≡ k → WalkedAfter order room k n tail rest → ItemWalked order room x rest
+  walked_from {tail = tail} {rest} {n = n} h e f = subst (λ (y : List ℕ). ItemWalked order room y rest) (sym (h.read ∙ ap (λ m. head m (Given (least n) n) ++ tail) e)) (f h.fits)
+
+  -- ---- items without children
+
+  pub uint_walked : (n : ℕ) (rest : List ℕ) → WalkedAfter order room Unsigned n rest rest
+  uint_walked n rest h = uint_read 0 (least n) n h (uint_encoded order (least n) n (head Unsigned (Given (least n) n)) h (h, refl))
+
+  pub nint_walked : (n : ℕ) (rest : List ℕ) → WalkedAfter order room Negative n rest rest
+  nint_walked n rest h = nint_read 0 (least n) n h (nint_encoded order (least n) n (head Negative (Given (least n) n)) h (h, refl))
+
+  pub bytes_walked : (n : ℕ) (input rest : List ℕ) → ContentWalked ByteString n input rest → WalkedAfter order room ByteString n input rest
+  bytes_walked n input rest s h = bytes_read 0 (least n) h s.1 (bytes s.0, refl, least_string ByteString n s.0 h s.1.len)
+
+  pub text_walked : (n : ℕ) (input rest : List ℕ) → ContentWalked TextString n input rest → WalkedAfter order room TextString n input rest
+  text_walked n input rest s h = text_read 0 (least n) h s.1 (text s.0, (s.2 refl, refl), least_string TextString n s.0 h s.1.len)
+
+  pub simple_walked : (n : ℕ) (rest : List ℕ) → IsTrue (is_simple_value n) → WalkedAfter order room Other n rest rest
+  simple_walked n rest s h = simple_read 0 (arguments.Given (least n) n) (n, refl, s) (simple n, refl, (s, (h, refl)))
+
+  -- an integer whose head was read
+  pub least_integer : {x : List ℕ} {h : Head} {n : ℕ} → IsHeadOf x h n → IsIntegral (major_at h.major) × IsLeast h.argument → ItemWalked order room x (drop n x)
+  least_integer {x} {h} {n} i (m, l) = go (major_at h.major) h.argument refl refl m l
+    where
+      go : (major : Major) (a : Argument) → major_at h.major ≡ major → h.argument ≡ a → IsIntegral major → IsLeast a → ItemWalked order room x (drop n x)
+      go Unsigned (arguments.Given w k) e f m l = walked_from (least_read refl i f l) e (uint_walked k (drop n x))
+      go Negative (arguments.Given w k) e f m l = walked_from (least_read refl i f l) e (nint_walked k (drop n x))
+      go _ (arguments.Given w k) e f m l = absurd m
+      go _ arguments.Endless e f m l = absurd l
+
+-- ---- items one after another
+
+module _ (order : List ℕ → List ℕ → Ordering) where
+  spelled_more : (ts : List Tree) (t : Tree) → spelled_all (trees (ts ++ t ∷ [])) ≡ spelled_all (trees ts) ++ spelled t
+  spelled_more ts t = spelled_all-trees (ts ++ t ∷ []) ∙ flat_map-append spelled ts (t ∷ []) ∙ (λ i. sym (spelled_all-trees ts) i ++ append-nil (spelled t) i)
+
+  pub items_none : (room : ℕ) (input : List ℕ) → ItemsWalked order room 0 input input
+  items_none room input = no_node ([], tt, refl)
+
+  pub items_more : {room n : ℕ} {input mid rest : List ℕ} → ItemsWalked order room n input mid → ItemWalked order room mid rest → ItemsWalked order room (n + 1) input rest
+  items_more s t = node_more s t (subst (AreEncodedAs order (s.nodes ++ t.node ∷ [])) (sym (spelled_more s.nodes t.node)) (more_encoded order s.nodes t.node (spelled_all (trees s.nodes)) (spelled t.node) s.holds t.holds))

@@ -1,0 +1,30 @@
+use Rattle.std.proofs.Common.{◌*◌, ◌+◌, ◌-◌}
+use Rattle.cborn_engine.specs.devices.Following.{ItemsLead, PairsLead}
+use Rattle.cborn_engine.proofs.fronts.+walked.Given as goal
+
+abbrev pub decreases-walk_item : goal.decreases-walk_item
+decreases-walk_item g l = 3 * l.room + 1
+
+abbrev pub decreases-walk_element : goal.decreases-walk_element
+decreases-walk_element g l = 3 * l.room + 2
+
+abbrev pub decreases-walk_array : goal.decreases-walk_array
+decreases-walk_array g l = 3 * l.room
+
+abbrev pub decreases-walk_map : goal.decreases-walk_map
+decreases-walk_map g l = 3 * l.room
+
+abbrev pub decreases-walk_tagged : goal.decreases-walk_tagged
+decreases-walk_tagged g l = 3 * l.room
+
+abbrev pub decreases-walk_array-items : goal.decreases-walk_array-items
+decreases-walk_array-items g l = l.left
+
+abbrev pub decreases-walk_map-pairs : goal.decreases-walk_map-pairs
+decreases-walk_map-pairs g l = l.left
+
+abbrev pub invariant-walk_array-items : goal.invariant-walk_array-items
+invariant-walk_array-items g l = ItemsLead g.O.KeyOrder.order (l.room - 1) l.n l.bytes l.left l.rest
+
+abbrev pub invariant-walk_map-pairs : goal.invariant-walk_map-pairs
+invariant-walk_map-pairs g l = PairsLead g.O.KeyOrder.order (l.room - 1) l.n l.bytes l.left l.before l.rest

@@ -1,3 +1,0 @@
-pub mod Transcoding
-pub mod shared
-pub mod devices
