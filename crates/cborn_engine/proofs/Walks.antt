@@ -4,7 +4,6 @@ pub mod Lists
 pub mod Maps
 pub mod Heads
 pub mod Items
-pub mod Integers
 pub mod Following
 pub mod Lacking
 pub mod Whole

@@ -10,9 +10,9 @@ ghost use Rattle.cborn_engine.specs.devices.Following.{IsLast, Walks, WalksAfter
 ghost use Rattle.cborn_engine.specs.devices.Walking.{IsFallen, ItemWalked};
 
 use crate::walked_bignums::walk_bignum;
-use crate::walked_integers::int_len;
 use crate::walked_leaves::{read_least, walk_leaf};
 use cborn_model::{KeyOrder, Limit, Major};
+use cborn_wire::int_len;
 
 /// Whether the bytes are the deterministic encodings of items, one after another, none deeper than
 /// `limit`, the keys of maps in the order `O` (RFC 8949 section 4.2).

@@ -1,13 +1,15 @@
 -- Items that are their own encodings.
-use Rattle.std.proofs.Common.{◌≡◌, ℕ, ◌+◌, List, [], ◌∷◌, ◌++◌, drop, refl, sym, ap, ◌∙◌, subst, append-nil, Ordering}
+use Rattle.std.proofs.Common.{◌≡◌, ℕ, ◌+◌, List, [], ◌∷◌, ◌++◌, take, drop, refl, sym, ap, ◌∙◌, subst, append-nil, Ordering}
 use Rattle.std.specs.Prelude.{IsTrue}
+use Rattle.std.proofs.lemmas.List.{take-append-drop}
 use Rattle.std.proofs.lemmas.List.Concat.{flat_map-append}
 use Rattle.cborn_model.specs.declared.heads.Width.{Width}
 use Rattle.cborn_model.specs.declared.heads.Major.{Major}
 use Rattle.cborn_model.specs.declared.heads.Major.TheVariants.{Unsigned, Negative, ByteString, TextString, Other}
 use Rattle.cborn_model.specs.Heads.{Given, head, WidthFits, least, is_simple_value}
-use Rattle.cborn_model.specs.Spelled.{spelled, spelled_all}
-use Rattle.cborn_model.specs.Tree.{Tree, trees}
+use Rattle.cborn_model.specs.Spelled.{spelled, spelled_all, Fits}
+use Rattle.cborn_model.specs.shared.Runs.{IsInteger, HasShortHead, IsShortLeaf}
+use Rattle.cborn_model.specs.Tree.{Tree, Uint, Nint, trees}
 use Rattle.cborn_model.specs.Value.{bytes, text, simple}
 use Rattle.cborn_model.proofs.Listed.Trees.{spelled_all-trees}
 use Rattle.cborn_wire.specs.declared.heads.Head.{Head}
@@ -17,7 +19,7 @@ use Rattle.cborn_wire.specs.HeadReading.{major_at, IsHeadOf, seen_argument, Argu
 use Rattle.cborn_wire.proofs.Parts.Heads.{head_read}
 use Rattle.cborn_wire.proofs.Parts.Nodes.{uint_read, nint_read, simple_read, no_node, node_more}
 use Rattle.cborn_wire.proofs.Parts.Strings.{bytes_read, text_read}
-use Rattle.cborn_engine.specs.devices.Walking.{AreEncodedAs, IsIntegral, IsLeast, LeastHeadRead, ContentWalked, ItemWalked, ItemsWalked, WalkedAfter}
+use Rattle.cborn_engine.specs.devices.Walking.{AreEncodedAs, LeastHeadRead, ContentWalked, ItemWalked, ItemsWalked, WalkedAfter}
 use Rattle.cborn_engine.proofs.Walks.Codes.{least_string, uint_encoded, nint_encoded}
 use Rattle.cborn_engine.proofs.Walks.Lists.{more_encoded}
 
@@ -50,15 +52,14 @@ module _ (order : List ℕ → List ℕ → Ordering) {room : ℕ} where
   pub simple_walked : (n : ℕ) (rest : List ℕ) → IsTrue (is_simple_value n) → WalkedAfter order room Other n rest rest
   simple_walked n rest s h = simple_read 0 (arguments.Given (least n) n) (n, refl, s) (simple n, refl, (s, (h, refl)))
 
-  -- an integer whose head was read
-  pub least_integer : {x : List ℕ} {h : Head} {n : ℕ} → IsHeadOf x h n → IsIntegral (major_at h.major) × IsLeast h.argument → ItemWalked order room x (drop n x)
-  least_integer {x} {h} {n} i (m, l) = go (major_at h.major) h.argument refl refl m l
+  -- an integer with the shortest head
+  pub integer_walked : {x : List ℕ} {n place : ℕ} (t : Tree) → IsInteger t → IsShortLeaf place (take n x) t → ItemWalked order room x (drop n x)
+  integer_walked {x} {n} t i s = subst (λ y. ItemWalked order room y (drop n x)) (ap (λ z. z ++ drop n x) s.spells ∙ take-append-drop n x) (from t i s.fits s.short)
     where
-      go : (major : Major) (a : Argument) → major_at h.major ≡ major → h.argument ≡ a → IsIntegral major → IsLeast a → ItemWalked order room x (drop n x)
-      go Unsigned (arguments.Given w k) e f m l = walked_from (least_read refl i f l) e (uint_walked k (drop n x))
-      go Negative (arguments.Given w k) e f m l = walked_from (least_read refl i f l) e (nint_walked k (drop n x))
-      go _ (arguments.Given w k) e f m l = absurd m
-      go _ arguments.Endless e f m l = absurd l
+      from : (t : Tree) → IsInteger t → Fits t → HasShortHead t → ItemWalked order room (spelled t ++ drop n x) (drop n x)
+      from (Uint p w k) i f h = subst (λ v. WidthFits v k → ItemWalked order room (head Unsigned (Given v k) ++ drop n x) (drop n x)) (sym h) (uint_walked k (drop n x)) f
+      from (Nint p w k) i f h = subst (λ v. WidthFits v k → ItemWalked order room (head Negative (Given v k) ++ drop n x) (drop n x)) (sym h) (nint_walked k (drop n x)) f
+      from _ i f h = absurd i
 
 -- ---- items one after another
 

@@ -1,5 +1,5 @@
 -- A device of the proofs: what is read in place, the shortest head at the front of an input, and items that are their own deterministic encodings. The front of the input then spells what is encoded. No public contract cites it.
-use Rattle.std.specs.Prelude.{◌≡◌, ◌≢◌, ℕ, ◌+◌, ◌*◌, ◌/◌, ◌%◌, ◌⊎◌, ◌<◌, List, ◌++◌, IsTrue, Option, None, Some, ⊤, IsUtf8}
+use Rattle.std.specs.Prelude.{◌≡◌, ◌≢◌, ℕ, ◌<◌, List, ◌++◌, IsTrue, Option, None, Some, ⊤, IsUtf8}
 use Rattle.std.specs.declared.cmp.Ordering.TheVariants.{Less}
 use Rattle.std.specs.declared.cmp.Ordering.{Ordering}
 use Rattle.std.proofs.Common.{Bor}
@@ -13,8 +13,6 @@ use Rattle.std.specs.List.{AllZip}
 use Rattle.cborn_model.specs.Value.{Value, pairs_of}
 use Rattle.cborn_model.specs.Meaning.{Means, EntriesMean}
 use Rattle.cborn_det.specs.Det.{Det, DetSeq, DetPairs, Entry}
-use Rattle.cborn_wire.specs.declared.heads.Argument.{Argument}
-use Rattle.cborn_wire.specs.declared.heads.Argument.TheVariants as arguments
 
 -- ---- what nodes are encoded as
 
@@ -34,37 +32,12 @@ ArePairsEncodedAs order ns es = (items : List (Value × Value)) × EntriesMean (
 abbrev pub IsContent : Major → List ℕ → Type 0
 IsContent major content = major ≡ TextString → IsUtf8 content
 
--- the major type of an integer
-abbrev pub IsIntegral : Major → Type 0
-IsIntegral Unsigned = Unit {0}
-IsIntegral Negative = Unit {0}
-IsIntegral _ = ⊥
-
--- the argument is in the first width that has room for it
-abbrev pub IsLeast : Argument → Type 0
-IsLeast (arguments.Given w n) = w ≡ least n
-IsLeast arguments.Endless = ⊥
-
 -- ---- what is read at the front
 
 -- the input begins with the shortest head of the major type with the argument n
 pub record LeastHeadRead (major : Major) (n : ℕ) (input rest : List ℕ) : Type 0 where
   pub fits : WidthFits (least n) n
   pub read : input ≡ head major (Given (least n) n) ++ rest
-
--- the number of four bytes, the highest first
-abbrev pub top_of : ℕ → ℕ → ℕ → ℕ → ℕ
-top_of a b c d = a * 16777216 + b * 65536 + c * 256 + d
-
--- an integer with this initial byte has a head of this length, which is the shortest if the four bytes after it make at least this number
-abbrev pub IsIntegerForm : ℕ → ℕ → ℕ → Type 0
-IsIntegerForm first len top =
-    (first / 32 < 2)
-    × (((first % 32 < 24) × (len ≡ 1))
-    ⊎ ((first % 32 ≡ 24) × (len ≡ 2) × (top ≡ 402653184))
-    ⊎ ((first % 32 ≡ 25) × (len ≡ 3) × (top ≡ 16777216))
-    ⊎ ((first % 32 ≡ 26) × (len ≡ 5) × (top ≡ 65536))
-    ⊎ ((first % 32 ≡ 27) × (len ≡ 9) × (top ≡ 1)))
 
 -- the content of a string of n bytes
 abbrev pub ContentWalked : Major → ℕ → List ℕ → List ℕ → Type 0

@@ -2,6 +2,7 @@ use Rattle.cborn_model.specs.declared.heads.Major.TheVariants.{Array, Map}
 use Rattle.std.proofs.Common.{◌≡◌, ◌-◌, ◌<◌, ◌^◌, ◌⊎◌, inl, inr, rules, refl, sym, drop, length, length-drop, None, subst, arith}
 use Rattle.cborn_engine.specs.devices.Following.{Walks, WalksAfter}
 use Rattle.cborn_engine.proofs.Walks.Following.{items_next, pairs_next, array_done, array_stops, map_done, map_stops_at_key, map_falls, map_stops_at_value, tagged_walks, bignum_walks, item_last}
+use Rattle.cborn_engine.proofs.Walks.Items.{integer_walked}
 use Rattle.cborn_engine.proofs.Walks.Lacking.{none_headed, leaf_walks, walks_from}
 use Rattle.cborn_engine.proofs.fronts.+walked.Goals as goal
 
@@ -19,7 +20,9 @@ pub walk_array-returns : goal.walk_array-returns
 walk_array-returns g t c = array_done g.O.KeyOrder.order (omega arith) c.args.n c.items.left c.args.bytes.now c.items.rest.now (omega (arith, c.items-test.false)) c.items.invariant
 
 pub walk_element-returns-then-len-gt0 : goal.walk_element-returns-then-len-gt0
-walk_element-returns-then-len-gt0 g t c = (drop c.int_len-len.result c.args.bytes.now, length-drop c.int_len-len.result c.args.bytes.now, c.int_len-len.ensures.walked c.if-len-gt0.true g.O.KeyOrder.order c.args.room)
+walk_element-returns-then-len-gt0 g t c =
+    let read = c.int_len-len.ensures.integer c.if-len-gt0.true 0 in
+    (drop c.int_len-len.result c.args.bytes.now, length-drop c.int_len-len.result c.args.bytes.now, integer_walked g.O.KeyOrder.order read.0 read.1 read.2)
 
 pub walk_item-returns-in_err-major : goal.walk_item-returns-in_err-major
 walk_item-returns-in_err-major g t c =
