@@ -9,7 +9,7 @@ ghost use Rattle.cborn_wire.specs.Faults.{Fault};
 use crate::levels::LevelTable;
 use crate::visits::visit_in;
 use crate::{WireFault, WireReason};
-use cborn_model::{LeafPair, Limit, Size, StringKind, Visitor, Width};
+use cborn_model::{Limit, Size, StringKind, Visitor, Width};
 use std::alloc::AllocError;
 
 /// The visitor that keeps nothing.
@@ -81,21 +81,6 @@ impl Visitor for Nothing {
 
     fn close_string(&mut self) -> Result<(), AllocError> {
         Ok(())
-    }
-
-    #[inline(always)]
-    fn takes_runs() -> bool {
-        true
-    }
-
-    #[inline(always)]
-    fn integers(&mut self, _place: u64, _count: u64, _spelled: &[u8]) -> Result<bool, AllocError> {
-        Ok(true)
-    }
-
-    #[inline(always)]
-    fn pair(&mut self, _place: u64, _pair: LeafPair) -> Result<bool, AllocError> {
-        Ok(true)
     }
 }
 
