@@ -235,12 +235,13 @@ uint32_t cborn_explain(uint32_t from, uint64_t depth,
 
 /* Writes where two inputs differ to the start of out: the lines that the program adds
  * with compare --explain, in UTF-8 and without a zero at their end; docs/FORMATS.md says
- * what is in them. If both hold the same items, the lines say where their encodings
- * first differ; if they are equal byte for byte, there are none. from_a, from_b and depth
- * are those of cborn_compare; order is the order in which maps are gone through.
+ * what is in them. If both inputs hold the same items, the lines say where their encodings
+ * first differ; if both spell the same bytes, there are none. from_a, from_b and depth
+ * are those of cborn_compare; order is the order of keys in which maps are gone through.
  * Returns CBORN_OK; CBORN_TOO_SMALL, with told->length the length that is needed;
- * CBORN_BAD_ARGUMENT; or, if an input is refused, what cborn_compare returns, with
- * told->place the offset of the fault. At all but CBORN_OK, out is unchanged. */
+ * CBORN_OUT_OF_MEMORY; CBORN_BAD_ARGUMENT; or, if an input is refused, what
+ * cborn_compare returns, with told->place the offset of the fault. At all but CBORN_OK,
+ * out is unchanged. */
 uint32_t cborn_explain_comparison(uint32_t from_a, uint32_t from_b, uint32_t order,
                                   uint64_t depth,
                                   const uint8_t *first, size_t first_len,

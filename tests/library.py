@@ -7,9 +7,10 @@ FOLDER has libcborn.a and python/cborn, the package. An answer of the library is
 compared with the table and with what the program prints. The number of a fault is compared with the program's words, by
 way of include/cborn.h, docs/FORMATS.md and the bindings. Each number has to occur. Nests of arrays, maps and tags under
 the least, the usual and the largest limit are tried, too. `python -m cborn` has to do the command lines of the tables as
-the program does, but reads one file, has no -o, and doesn't say where two inputs differ. The explanation of each input that is refused or isn't
-deterministic is what the program writes with --explain after its first line. Short inputs of bytes are cut into their items. library.c, which is compiled by $CC or cc,
-says what else is tested. Command lines that are no call (with files that fail, or for help) are counted.
+the program does, but reads one file and has no -o. The explanation of each input that is refused or isn't deterministic is
+what the program writes with --explain after its first line. Short inputs of bytes are cut into their items. library.c, which
+is compiled by $CC or cc, says what else is tested. Command lines that are no call (with files that fail, or for help) are
+counted.
 """
 import argparse
 import collections
@@ -394,11 +395,6 @@ class AsProgram:
     def differences(self, case):
         """What is wrong with what it does. Its help, and what it says of a wrong command line, are its own."""
         outcome = case.run(self.path)
-        if case.words[:1] == ["compare"] and "--explain" in case.words and case.status < 2:
-            # the library doesn't say where two inputs differ, in items or bytes, only what they look like
-            case = copy.copy(case)
-            said = b"".join(text for _, text in case.wanted["stderr"]).splitlines(keepends=True)
-            case.wanted = {**case.wanted, "stderr": [(False, b"".join(line for line in said if line.startswith(b"  hint ")))]}
         is_own = case.status == 3 or any(it in case.words for it in ("--help", "-h"))
         if not is_own:
             yield from case.differences(outcome)

@@ -50,8 +50,8 @@ pub fn explain_defect(
     explain_bytes(alloc, limit, input?, defect.place, reason)
 }
 
-/// Lines that say where two compared inputs differ, with the keys of maps in the order `O`: in their
-/// items, or where they are the same, in how these are encoded.
+/// Lines that say where two inputs differ: in their items, or, where they hold the same, as `are_same`
+/// says, in how these are encoded. Maps are gone through in the order of keys `O`.
 ///
 /// # Errors
 /// `AllocError` where memory is refused, or was for the bytes of an input.

@@ -193,7 +193,7 @@ ExplainCall (Some k) limit number before after untold told code =
     (IsDepth limit → IsExplained k number → ExplainsInto before after told code) × ((IsDepth limit → ⊥) → IsBad before after untold told code) × ((IsExplained k number → ⊥) → IsBad before after untold told code)
 ExplainCall None limit number before after untold told code = IsBad before after untold told code
 
--- some text says where two inputs differ, which hold items; or one of them is refused
+-- both inputs hold items, and some text says where they differ; or one of them is refused
 abbrev pub ComparisonTold : Result Bool CompareCountFault → List ℕ → List ℕ → CbornTold → ℕ → Type 0
 ComparisonTold (Ok same) before after told code = ExplainsInto before after told code
 ComparisonTold (Err why) before after told code = CompareFaultTold why told.place code × (told.length ≡ 0) × (after ≡ before)

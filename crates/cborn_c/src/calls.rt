@@ -1,5 +1,5 @@
 //! The calls on inputs that have to hold a given number of items. `lib.rt` exports each for any number
-//! and for exactly one.
+//! and for exactly one, but the explanation of a comparison for any number alone.
 ghost use Rattle.std.specs.Prelude.{◌≡◌, ◌≢◌, ◌≤◌, ◌+◌, ◌*◌, ◌/◌, length, IfOk};
 ghost use Rattle.std.specs.Cow.{cow_slice_items};
 ghost use Rattle.cborn_engine.specs.declared.kinds.Kind.TheVariants as kinds;
@@ -246,7 +246,8 @@ fn matched(
     same_items::<Bytewise>(alloc, limit, count, from_a, first, from_b, second)
 }
 
-/// Lines that say where two inputs differ that were compared, with the keys of maps in this order.
+/// Lines that say where two inputs differ. Maps are gone through in this order of keys. `same` says
+/// whether the inputs hold the same items.
 ///
 /// # Errors
 /// `AllocError` where memory is refused.

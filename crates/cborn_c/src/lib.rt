@@ -367,8 +367,8 @@ pub extern "C" fn cborn_explain(
 
 /// Writes where two inputs differ to the start of `out`, in UTF-8: the lines that the program adds with
 /// `compare --explain`. Where the inputs hold the same items, they say where their encodings first
-/// differ; of inputs that are equal byte by byte there are none. `from_a`, `from_b` and `depth` are
-/// those of `cborn_compare`, and maps are gone through in the order of keys that `order` numbers.
+/// differ; where both spell the same bytes there are none. `from_a`, `from_b` and `depth` are those of
+/// `cborn_compare`, and maps are gone through in the order of keys that `order` numbers.
 /// `told` gets the length of the lines in bytes, and 0 as the offset. Answers `OK`.
 ///
 /// # Errors

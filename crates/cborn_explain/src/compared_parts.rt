@@ -12,11 +12,11 @@ use std::alloc::{AllocError, Global};
 
 /// One of two inputs that are compared.
 #[derive(Clone, Copy)]
-pub struct Compared<'a> {
+pub(crate) struct Compared<'a> {
     /// The bytes that it is, or that its text spells.
-    pub spelled: &'a [u8],
+    pub(crate) spelled: &'a [u8],
     /// The text, where it is one.
-    pub text: Option<NotationText<'a>>,
+    pub(crate) text: Option<NotationText<'a>>,
 }
 
 /// A part of an input.

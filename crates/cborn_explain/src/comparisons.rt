@@ -9,9 +9,10 @@ use cborn_lex::Profile;
 use cborn_model::{KeyOrder, Limit};
 use std::alloc::{AllocError, Global};
 
-/// Lines that say where two inputs differ, of these formats, with the keys of maps in the order `O`: in
-/// their items, or where they are the same, in how these are encoded. Each input holds items, and
-/// another call compared them under this limit. Nothing is said of inputs that don't.
+/// Lines that say where two inputs differ: in their items, or, where they hold the same, in how these
+/// are encoded. Empty where both spell the same bytes, and where one of them is refused. `kinds` are
+/// their formats, and `O` is the order of keys in which maps are gone through. `are_same` is what
+/// another call answered that compared the items under this limit.
 ///
 /// # Errors
 /// `AllocError` where memory is refused.

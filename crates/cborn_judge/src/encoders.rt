@@ -53,7 +53,7 @@ pub(crate) struct Encodings {
     /// Those around it, the innermost of them last.
     pub(crate) outer: Vec<Level>,
     pub(crate) pairs: Pairs,
-    /// Room for the bytes of a bignum.
+    /// Room for the bytes of a bignum, or for pairs while they are arranged.
     pub(crate) spare: Vec<u8>,
 }
 

@@ -1,12 +1,12 @@
-//! Numbers that tell how most keys compare without a look at their bytes.
+//! Hints: numbers by which most keys are compared without a look at their bytes.
 
 ghost use Rattle.std.specs.Prelude.{◌≡◌, ◌<◌, ◌^◌};
 ghost use Rattle.cborn_judge.specs.devices.Hints.{front_of, length_hint, hint_of};
 
 use cborn_model::KnownOrder;
 
-/// The hint for a key in an order: keys rise as these do, where these differ. It is 0 where the
-/// order isn't known.
+/// The hint for a key in an order. Of two keys with different hints, the one with the lower hint comes
+/// first. It is 0 where the order isn't known.
 #[inline(always)]
 pub(crate) fn hint(known: Option<KnownOrder>, key: &[u8]) -> u64
     ensures { result ≡ hint_of known key.now }
@@ -18,8 +18,8 @@ pub(crate) fn hint(known: Option<KnownOrder>, key: &[u8]) -> u64
     }
 }
 
-/// The length of a key, up to 255, as the first byte of a number, and its first seven bytes as the
-/// others.
+/// The number whose first byte is the length of a key, and whose other seven are the key's first, as
+/// if zeros followed it. A key of 255 bytes or more has the number of the byte 255 and seven zeros.
 #[inline(always)]
 fn length_number(key: &[u8]) -> u64
     ensures { result ≡ length_hint key.now }

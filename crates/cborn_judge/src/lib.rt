@@ -4,11 +4,11 @@
 //! Two questions are answered about items. *Do they mean something?* *Do they spell their
 //! deterministic encodings?* One visitor answers both, whatever the items are read from:
 //! [`Encoder`] takes them head by head, writes what they are encoded as, and keeps the first flaw
-//! and the first defect. `levels`, `pairs` and `marks` are what it keeps of open containers, `ends`
-//! says how these end, and `spellings` has the defects of single heads. [`judge`] hands it a node, and builds
-//! the item of one that means something (`judgments`, `strings`, `bignums`); [`first_defect`] tells
-//! the first defect of a node (`checks`). Flaws and defects, and which of two comes first, are those
-//! of `cborn_model`.
+//! and the first defect. `levels`, `pairs` and `marks` are what it keeps of open containers, `hints`
+//! are numbers by which most keys are compared, `ends` says how containers end, and `spellings` has
+//! the defects of single heads. [`judge`] hands it a node, and builds the item of one that means
+//! something (`judgments`, `strings`, `bignums`); [`first_defect`] tells the first defect of a node
+//! (`checks`). Flaws and defects, and which of two comes first, are those of `cborn_model`.
 //!
 //! A reader of the definitions starts at `specs/Flaws.antt` (what is wrong with a node, and what
 //! comes first) and `specs/Defects.antt` (where a spelling departs from the deterministic

@@ -27,7 +27,7 @@ pub(crate) struct Mark {
     pub(crate) middle: usize,
     /// Where the value ends.
     pub(crate) end: usize,
-    /// The hint for the key, once the pairs are looked at.
+    /// The hint for the key; 0 until [`descent`] keeps it here.
     pub(crate) hint: u64,
 }
 
@@ -47,7 +47,7 @@ impl Mark {
     }
 }
 
-/// A mark whose numbers fit 32 bits, in less room.
+/// A mark whose offsets fit 32 bits, in less room.
 #[derive(Clone, Copy)]
 pub(crate) struct NarrowMark {
     place: u32,
@@ -128,7 +128,7 @@ impl Spot for NarrowMark {
 }
 
 impl NarrowMark {
-    /// This mark, narrow; `None` if a number of it doesn't fit 32 bits.
+    /// This mark, narrow; `None` if an offset in it doesn't fit 32 bits.
     #[inline(always)]
     pub(crate) fn of(mark: Mark) -> Option<NarrowMark>
         ensures narrow { IfSome result (λ narrow. narrow_of narrow ≡ mark_of mark) }
@@ -160,7 +160,7 @@ impl NarrowMark {
 }
 
 /// The first defect of the order of the pairs that are marked from the index `from` on, and lie in
-/// `out`. A key without an encoding is passed over. The marks get hints.
+/// `out`. A key without an encoding is passed over. Each of these marks gets the hint for its key.
 pub(crate) fn descent<O: KeyOrder, S: Spot>(
     spots: &mut Vec<S>,
     from: usize,
@@ -278,7 +278,7 @@ fn sort<O: KeyOrder, S: Spot>(spots: &mut [S], out: &[u8])
     spots.sort_unstable_by(|a, b| compare::<O, S>(out, *a, *b));
 }
 
-/// How two marks compare: by the hints for their keys, where these differ.
+/// How two marks compare: by the hints for their keys, and at equal hints as [`compare_keys`] says.
 #[inline(always)]
 fn compare<O: KeyOrder, S: Spot>(out: &[u8], a: S, b: S) -> Ordering
     ensures { result ≡ hint_order O.order out.now (S.hinted a, S.seen a) (S.hinted b, S.seen b) }
@@ -303,7 +303,8 @@ fn compare_keys<O: KeyOrder>(out: &[u8], a: Mark, b: Mark) -> Ordering
     }
 }
 
-/// The first key that is the same as the one before it. Keys with other hints aren't the same.
+/// The first key that is the same as the one before it. Keys with different hints aren't the same, so
+/// their bytes aren't looked at.
 fn first_tie<S: Spot>(spots: &[S], out: &[u8]) -> Option<Flaw>
     requires { (hint : List ℕ → ℕ) × AreHintedBy S.hinted S.seen hint out.now spots.now }
     ensures { FindsFlaw (TiesIn out.now (map S.seen spots.now)) result }
@@ -322,7 +323,7 @@ fn first_tie<S: Spot>(spots: &[S], out: &[u8]) -> Option<Flaw>
     first
 }
 
-/// The flaw of a key, if it is the same as the one before it.
+/// The flaw of the key of `mark`, if it is the same as that of the mark `before`.
 fn tied(before: Mark, mark: Mark, out: &[u8]) -> Option<Flaw>
     ensures { FindsFlaw (TieAt (key_of out.now (mark_of before)) (key_of out.now (mark_of mark)) mark.place) result }
 {

@@ -13,7 +13,7 @@ use crate::marks::{Mark, NarrowMark, Spot, arrange, descent};
 use cborn_model::{Defect, KeyOrder};
 use std::alloc::{AllocError, Global};
 
-/// Marks of pairs. They are narrow until one of them doesn't fit 32 bits.
+/// Marks of pairs. They are narrow until the offsets of one don't fit 32 bits.
 #[derive(Drop)]
 pub(crate) enum Marks {
     Narrow(Vec<NarrowMark>),
@@ -70,7 +70,7 @@ impl Pairs {
         self.set_wide_end(end)
     }
 
-    /// Marks where the value of the last key ends, whatever it is.
+    /// What [`Pairs::set_end`] does where marks are wide, or have to become so.
     #[inline(never)]
     fn set_wide_end(&mut self, end: usize) -> Result<(), AllocError>
         ensures { OnOk result ((ms : List Marked) (p s m e : ℕ) → marks_of self.old ≡ ms ++ (p, s, m, e) ∷ [] → marks_of self.new ≡ ms ++ (p, s, m, end) ∷ []) }
@@ -110,7 +110,8 @@ impl Pairs {
     }
 
     /// The first defect of the order of the pairs that are marked from the index `from` on, and lie
-    /// in `out`. A key without an encoding is passed over. The marks get hints.
+    /// in `out`. A key without an encoding is passed over. Each of these marks gets the hint for its
+    /// key.
     pub(crate) fn descent<O: KeyOrder>(&mut self, from: usize, out: &[u8]) -> Option<Defect>
         ensures rising { result ≡ None → (y : List ℕ) (rows : List Row) → out.now ≡ y ++ joined (row_entries rows) → AreMarked (length y) rows (drop from (marks_of self.old)) → Rising O.order (filled_keys rows) }
         ensures found { (y : List ℕ) (rows : List Row) → out.now ≡ y ++ joined (row_entries rows) → AreMarked (length y) rows (drop from (marks_of self.old)) → AreFilled rows → FindsDefect (RowDescent O.order rows) result }
@@ -161,7 +162,7 @@ impl Pairs {
         Ok(())
     }
 
-    /// Adds a mark that doesn't fit 32 bits. All are wide from then on.
+    /// Adds a mark whose offsets don't fit 32 bits. All are wide from then on.
     #[inline(never)]
     fn add_wide(&mut self, mark: Mark) -> Result<(), AllocError>
         ensures { OnOk result (marks_of self.new ≡ marks_of self.old ++ mark_of mark ∷ []) }

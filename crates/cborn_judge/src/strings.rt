@@ -1,5 +1,5 @@
-//! What strings may hold and mean (RFC 8949 sections 3.1 and 3.2.3). What a node is built with isn't inlined, so
-//! that the recursion over nodes takes little stack.
+//! What strings may hold and mean (RFC 8949 sections 3.1 and 3.2.3). What a node is built with isn't
+//! inlined, so that the recursion over nodes takes little stack.
 
 ghost use Rattle.std.specs.Prelude.{◌≡◌, ◌↔◌, IfOk, IsTrue, IsUtf8};
 ghost use Rattle.cborn_model.specs.ItemView.{item_value};

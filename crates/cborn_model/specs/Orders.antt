@@ -22,6 +22,7 @@ bytewise = slice_cmp nat_cmp
 abbrev pub length_first : List ℕ → List ℕ → Ordering
 length_first a b = ordering_then (nat_cmp (length a) (length b)) (bytewise a b)
 
+-- what each stands for
 abbrev pub order_of : KnownOrder → List ℕ → List ℕ → Ordering
 order_of known.Bytewise = bytewise
 order_of known.LengthFirst = length_first

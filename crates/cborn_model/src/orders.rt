@@ -9,7 +9,7 @@ ghost use Rattle.cborn_model.specs.shared.OrderLaws.{bytewise_order, length_firs
 
 use std::cmp::Ordering;
 
-/// The orders of map keys of RFC 8949.
+/// The two orders of map keys of RFC 8949 (sections 4.2.1 and 4.2.3).
 #[derive(Clone, Copy)]
 pub enum KnownOrder {
     /// That of [`Bytewise`].
@@ -27,8 +27,8 @@ pub trait KeyOrder {
     fn compare(a: &[u8], b: &[u8]) -> Ordering
         ensures { result ≡ order a.now b.now };
 
-    /// Which order of RFC 8949 it is; `None` if it is neither, or that isn't told. Keys are sorted
-    /// quicker by an order that is known. Takes no memory.
+    /// Which order of RFC 8949 this is. An order that is neither, or doesn't say, leaves it at `None`.
+    /// Keys are sorted more quickly by an order that is known. Takes no memory.
     #[inline(always)]
     fn known() -> Option<KnownOrder>
         ensures { IfSome result (λ known. order ≡ order_of known) }

@@ -20,23 +20,27 @@ pub enum StringKind {
     OfText,
 }
 
-/// A key and its value. Each is an integer, a simple value of one byte or a whole string, with the
-/// shortest head.
+/// A key and its value. Each is an integer, a simple value or a whole string of definite length, and
+/// has the shortest head.
 #[derive(Clone, Copy)]
 pub struct LeafPair<'a> {
     /// The bytes that they spell, one after another.
     pub spelled: &'a [u8],
     /// How many of these are the key's.
     pub key_len: usize,
-    /// The content of the key, if it is a text; else nothing.
+    /// The content of the key, if it is a text; else empty.
     pub key_text: &'a [u8],
-    /// The content of the value, if it is a text; else nothing.
+    /// The content of the value, if it is a text; else empty.
     pub value_text: &'a [u8],
 }
 
 /// Takes data items head by head, in the order in which they are read (RFC 8949 section 3), and
 /// makes of them what it is for. A source calls it for each head and for the content of each
 /// string. A `place` is the offset of a head in bytes from the start of the input.
+///
+/// A source may hand on a whole string in one call ([`Visitor::string`]), and so it may several
+/// integers of an array, or a key and its value, where [`Visitor::takes_runs`] says so. The visitor
+/// then holds what it would hold after calls for one at a time.
 ///
 /// What a visitor finds wrong it keeps for later: a method fails only if memory is refused. Then
 /// nothing is known of the visitor, and it is called no more.
@@ -118,7 +122,7 @@ pub trait Visitor {
         ensures held { OnOk result ((f : Partial) (p : ℕ) (k : Kind) (w : Wide) (n : ℕ) (x : List ℕ) → Proper f → TakesString f k → length x ≡ n → holds self.old f (part p k w n x) → holds self.new (put f (string_tree p k w x)) no_part) }
         ensures memory { OnErr result takes_memory };
 
-    /// Takes a whole string.
+    /// Takes a whole string of definite length.
     #[inline(always)]
     fn string(
         &mut self,
@@ -136,8 +140,8 @@ pub trait Visitor {
         self.close_string()
     }
 
-    /// Whether a source had better ask for [`Visitor::integers`] and [`Visitor::pair`]. The answer
-    /// changes nothing but the time.
+    /// Whether it may take several leaves at once, so that it is worth a source's while to look for
+    /// them and call [`Visitor::integers`] and [`Visitor::pair`]. Both may be called whatever this says.
     #[inline(always)]
     fn takes_runs() -> bool {
         false

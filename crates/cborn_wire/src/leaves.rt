@@ -134,8 +134,8 @@ fn visit_leaf<V: Visitor>(
     visitor.string(place, kind, head.width, bytes)
 }
 
-/// Takes the leaf at the front of `bytes`, which is at the offset `place`; where the visitor takes
-/// them, a run of integers or a key and its value. `None`: there is no leaf.
+/// Takes the leaf at the front of `bytes`, which is at the offset `place`, and with it the rest of a run
+/// of integers or the value of a key, if the visitor takes these at once. `None`: there is no leaf.
 #[inline(always)]
 fn take_next<V: Visitor>(
     visitor: &mut V,

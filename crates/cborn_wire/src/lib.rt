@@ -5,10 +5,10 @@
 //!
 //! - A [`HeadReader`] reads bytes that come in pieces, cut anywhere, and hands each head and each
 //!   string to a visitor (`cborn_model::Visitor`). It is the one loop over heads, but for `leaves`,
-//!   which takes items that hold no others one after another; `containers` takes other heads at once
-//!   where they are allowed. What is open are its [`Levels`] (`levels`), a stack in the place of
-//!   recursion; `refusals` says where a head isn't allowed, and `counting` what a head makes of the
-//!   levels.
+//!   which takes items that hold no others one after another, and several at once where the visitor
+//!   does so (`runs`); `containers` takes other heads at once where they are allowed. What is open are
+//!   its [`Levels`] (`levels`), a stack in the place of recursion; `refusals` says where a head isn't
+//!   allowed, and `counting` what a head makes of the levels.
 //! - A [`Feeder`] is fed an input in pieces, and gives items as they are completed, one after
 //!   another (`item_readers`). [`read_all`] feeds it an input that is in memory. A visitor builds
 //!   the nodes (`nodes`): it puts what is whole into the innermost open container (`open_nodes`).
@@ -16,8 +16,9 @@
 //!   with a visitor that keeps nothing. [`item_end`] says where the item at an offset ends,
 //!   likewise, and [`read_one`] reads it, with the visitor that builds nodes.
 //! - [`spell`] writes the bytes that a node spells.
-//! - `heads` reads and writes single heads. `walks` has what walks of other crates over bytes ask
-//!   at each step, and `specs/Parts.antt` what they read.
+//! - `heads` reads and writes single heads. [`int_len`] and [`integers_at`] tell integers with the
+//!   shortest heads by their first bytes (`short_integers`). `walks` has what walks of other crates
+//!   over bytes ask at each step, and `specs/Parts.antt` what they read.
 //!
 //! A reader of the definitions starts at `specs/Faults.antt`: where bytes are not well-formed, and
 //! why. `cborn_model` defines which nodes well-formed bytes spell. `specs/SlotFaults.antt` has the

@@ -23,7 +23,7 @@ pub(crate) struct Taken {
 }
 
 /// Takes a run of integers or a key and its value at the front of `bytes`, which begins with this leaf
-/// at the offset `place`. `None`: the visitor takes nothing.
+/// at the offset `place`. `None`: the visitor took nothing.
 #[inline(always)]
 pub(crate) fn take_run<V: Visitor>(
     visitor: &mut V,
@@ -54,7 +54,8 @@ pub(crate) fn take_run<V: Visitor>(
     }
 }
 
-/// Takes integers of an array of `most` items, if that is known, of which `parts` are whole.
+/// Takes integers of an array of `most` items, if that is known, of which `parts` are whole. `None`:
+/// the visitor took nothing, or there is only one, which is taken as any other leaf.
 #[inline(always)]
 fn take_integers<V: Visitor>(
     visitor: &mut V,
@@ -77,7 +78,7 @@ fn take_integers<V: Visitor>(
 }
 
 /// Takes the key at the front of `bytes`, which is this leaf, and the value after it, where both are
-/// leaves with the shortest heads. Gives their length.
+/// leaves with the shortest heads. Gives their length in bytes. `None`: the visitor took nothing.
 #[inline(always)]
 fn take_pair<V: Visitor>(
     visitor: &mut V,

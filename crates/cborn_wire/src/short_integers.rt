@@ -15,8 +15,9 @@ pub struct Integers {
     pub len: usize,
 }
 
-/// The integers at the front of `bytes` whose heads are the shortest (RFC 8949 section 4.2.1), as
-/// many as are seen at once, but at most `most`. Takes no memory.
+/// The integers at the front of `bytes` whose heads are the shortest (RFC 8949 section 4.2.1), but at
+/// most `most`. One that begins in the last eight bytes is left out, since [`int_len`] doesn't read
+/// it. Takes no memory.
 pub fn integers_at(bytes: &[u8], most: u64) -> Integers
     ensures len { result.len ≤ length bytes.now }
     ensures most { result.count ≤ most }
@@ -39,8 +40,8 @@ pub fn integers_at(bytes: &[u8], most: u64) -> Integers
 }
 
 /// The length in bytes of the integer at the front of the bytes, if its head is the shortest (RFC 8949
-/// section 4.2.1) and the bytes are nine or more; else 0. No clause says when it is above 0: the item is
-/// then read in another way. Takes no memory.
+/// section 4.2.1) and the bytes are nine or more; else 0. No clause says when it is above 0: an item of
+/// which it is 0 is read in another way. Takes no memory.
 #[inline(always)]
 pub fn int_len(bytes: &[u8]) -> usize
     ensures len { result ≤ length bytes.now }

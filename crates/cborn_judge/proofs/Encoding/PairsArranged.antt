@@ -143,7 +143,7 @@ module _ (order : List ℕ → List ℕ → Ordering) (laws : IsKeyOrder order) 
       (λ i. is_lt (mark_order order b (next i) (here i))) ∙ h k s l (omega (arith, long, m))
 
   module _ (hint : List ℕ → ℕ) (tells : Tells order hint) (bytes : AreBytes b) where
-    -- what isn't below another by its hint isn't by its key
+    -- a mark that isn't below another by their hints first isn't below it by their keys
     not_below : (x y : S) → hinted x ≡ hint (key_of b (mark x)) → hinted y ≡ hint (key_of b (mark y)) → is_lt (hint_order order b (hinted x, mark x) (hinted y, mark y)) ≡ false → is_lt (mark_order order b (mark x) (mark y)) ≡ false
     not_below x y e f h =
         let k = key_of b (mark x) in

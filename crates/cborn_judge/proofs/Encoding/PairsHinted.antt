@@ -1,4 +1,4 @@
--- What loops over marks find that look at the hints for the keys first.
+-- What is found by loops over marks that look at the hints for the keys first.
 use Rattle.std.proofs.Common.{◌≡◌, ℕ, ◌+◌, ◌<◌, ◌⊎◌, inl, inr, List, [], ◌∷◌, ◌++◌, length, get_or, set, map, take, refl, sym, ap, ◌∙◌, subst, arith, true, false, true≢false, Option, None, Some, Ordering}
 use Rattle.std.specs.Prelude.{◌==◌, IfSome}
 use Rattle.std.specs.List.{AllByRecursion}
@@ -40,7 +40,7 @@ module _ {S : Type 0} (seen : S → Mark) (hinted : S → ℕ) (b : List ℕ) wh
       pub bytes : AreBytes before
       pub met : IsMet (IsFall order) last_filled defect_rank (λ d. d.place) (λ d. d.reason) KeyOrder (all_keyed b (map seen (take i now))) before first
 
-    -- the next key isn't below the last by its hint, or it may fall
+    -- by its hint the next key is above the last, or both are compared
     abbrev pub Looks : List ℕ → List ℕ → ℕ → ℕ → Option Defect → Option Defect → Type 0
     Looks before key last place first next = ((last < hint key) × (next ≡ first)) ⊎ ((o : Option Defect) × FindsDefect (FallAt order before key place) o × IsEarliest (λ d. (d.place, defect_rank d.reason)) first o next)
 
@@ -103,7 +103,7 @@ module _ {S : Type 0} (seen : S → Mark) (hinted : S → ℕ) (b : List ℕ) wh
     pub last : (hint : List ℕ → ℕ) → AreHintedBy hinted seen hint b ss → IfSome before (λ s. hinted s ≡ hint (key_of b (seen s)))
     pub met : IsMet IsTie last_key flaw_rank (λ f. f.place) (λ f. f.reason) DuplicateKey (all_keyed b (map seen (take i ss))) (key_before before) first
 
-  -- the two have other hints, or may tie
+  -- the two have different hints, or may tie
   abbrev pub LooksBack : Option S → S → ℕ → Option Flaw → Option Flaw → Type 0
   LooksBack None s place first next = next ≡ first
   LooksBack (Some p) s place first next = ((hinted p ≡ hinted s → ⊥) × (next ≡ first)) ⊎ ((o : Option Flaw) × FindsFlaw (TieAt (key_of b (seen p)) (key_of b (seen s)) place) o × IsEarliest (λ f. (f.place, flaw_rank f.reason)) first o next)

@@ -128,7 +128,7 @@ is_odd (t ∷ ts) = not (is_odd ts)
 abbrev pub after : Level → Bool → Level
 after l bad = record l { count = min (l.count + 1) (2 ^ 64 - 1); has_key = not l.has_key; flawed = l.flawed || bad }
 
--- the level of an array with so many more
+-- the level of an array with so many more items
 abbrev pub after_items : Level → ℕ → Level
 after_items l n = record l { count = min (l.count + n) (2 ^ 64 - 1) }
 

@@ -54,14 +54,14 @@ row_of b m = (m.0, between m.1 m.2 b, between m.2 m.3 b)
 -- ---- hints that are kept
 
 module _ {S : Type 0} (hinted : S → ℕ) (seen : S → encoding.Mark) where
-  -- each has the hint for its key
+  -- each keeps the hint for its key
   abbrev pub AreHintedBy : (List ℕ → ℕ) → List ℕ → List S → Type 0
   AreHintedBy hint b = AllByRecursion (λ s. hinted s ≡ hint (key_of b (seen s)))
 
   abbrev pub AreHinted : (List ℕ → List ℕ → Ordering) → List ℕ → List S → Type 0
   AreHinted order b ss = (hint : List ℕ → ℕ) × Tells order hint × AreHintedBy hint b ss
 
--- those of the marks from an index on
+-- so it is of the marks from an index on
 abbrev pub AreAllHinted : (List ℕ → List ℕ → Ordering) → List ℕ → ℕ → Marks → Type 0
 AreAllHinted order b from (Narrow ms) = AreHinted narrow_hint narrow_of order b (drop from ms.items)
 AreAllHinted order b from (Wide ms) = AreHinted mark_hint mark_of order b (drop from ms.items)
@@ -123,6 +123,6 @@ mark_order order b x y = ordering_then (order (key_of b x) (key_of b y)) (nat_cm
 abbrev pub AreSorted : (List ℕ → List ℕ → Ordering) → List ℕ → List encoding.Mark → Type 0
 AreSorted order b = IsSortedBy (λ x y. is_lt (mark_order order b x y))
 
--- the same, but by the hints first
+-- marks with their hints: by the hints, and at equal hints as marks
 abbrev pub hint_order : (List ℕ → List ℕ → Ordering) → List ℕ → ℕ × encoding.Mark → ℕ × encoding.Mark → Ordering
 hint_order order b x y = ordering_then (nat_cmp x.0 y.0) (mark_order order b x.1 y.1)

@@ -37,14 +37,14 @@ abbrev pub AreShortIntegers : ℕ → List ℕ → List Tree → Type 0
 AreShortIntegers p x [] = x ≡ []
 AreShortIntegers p x (t ∷ ts) = (y : List ℕ) × (z : List ℕ) × (x ≡ y ++ z) × IsInteger t × IsShortLeaf p y t × AreShortIntegers (p + length y) z ts
 
--- a key at the offset p and its value
+-- the key at the offset p and its value, which the pair spells
 pub record IsShortPair (p : ℕ) (pair : LeafPair) (k v : Tree) : Type 0 where
   pub key : IsShortLeaf p (take pair.key_len pair.spelled.now) k
   pub value : IsShortLeaf (p + pair.key_len) (drop pair.key_len pair.spelled.now) v
   pub key_text : pair.key_text.now ≡ text_in k
   pub value_text : pair.value_text.now ≡ text_in v
 
--- more nodes are whole
+-- these nodes are whole, too
 abbrev pub puts : Partial → List Tree → Partial
 puts f [] = f
 puts f (t ∷ ts) = puts (put f t) ts

@@ -13,7 +13,7 @@ returns-clause-held g c = on_ok c.end_string.result (λ held f proper takes old.
     let order = g.O.KeyOrder.order in
     let e = c.args.self.now in
     let bytes = c.args.bytes.now in
-    let begun = c.begin_string.new.self in
+    let opened = c.begin_string.new.self in
     let s = c.in_ok-string.string in
     let is = c.in_ok-string.ensures.string in
     let rest = c.begin_string.ensures.rest in
@@ -21,11 +21,11 @@ returns-clause-held g c = on_ok c.end_string.result (λ held f proper takes old.
     let y = e.encodings.out.items in
     let long : length bytes ≡ s.len = sym is.3 in
     let good : IsTrue c.is_content-is_good.result ↔ IsContent s.kind bytes = subst (λ k. IsTrue c.is_content-is_good.result ↔ IsContent k bytes) (sym is.1) c.is_content-is_good.ensures in
-    let finds : Finds order f begun.flaw begun.defect = subst (λ a. Finds order f a begun.defect) (sym rest.0) (subst (λ d. Finds order f e.flaw d) (sym rest.1) old.1) in
+    let finds : Finds order f opened.flaw opened.defect = subst (λ a. Finds order f a opened.defect) (sym rest.0) (subst (λ d. Finds order f e.flaw d) (sym rest.1) old.1) in
     subst (λ u. IsHeld order c.end_string.new.self (put f u) no_part) (λ i. string_tree (is.0 i) (is.1 i) (is.2 i) bytes)
     (held f y h bytes good (
       proper,
       subst (TakesString f) (sym is.1) takes,
       long,
-      written_more order begun.encodings _ s f y h [] bytes w c.in_ok-extend_from_slice.ensures.items refl w.stands (are_bytes bytes c.type_inv.bytes),
+      written_more order opened.encodings _ s f y h [] bytes w c.in_ok-extend_from_slice.ensures.items refl w.stands (are_bytes bytes c.type_inv.bytes),
     ) finds)) c.end_string.ensures.held
