@@ -53,8 +53,8 @@ module _ (order : List ℕ → List ℕ → Ordering) {room : ℕ} where
   simple_walked n rest s h = simple_read 0 (arguments.Given (least n) n) (n, refl, s) (simple n, refl, (s, (h, refl)))
 
   -- an integer with the shortest head
-  pub integer_walked : {x : List ℕ} {n place : ℕ} (t : Tree) → IsInteger t → IsShortLeaf place (take n x) t → ItemWalked order room x (drop n x)
-  integer_walked {x} {n} t i s = subst (λ y. ItemWalked order room y (drop n x)) (ap (λ z. z ++ drop n x) s.spells ∙ take-append-drop n x) (from t i s.fits s.short)
+  pub integer_walked : (x : List ℕ) (n place : ℕ) (t : Tree) → IsInteger t → IsShortLeaf place (take n x) t → ItemWalked order room x (drop n x)
+  integer_walked x n place t i s = subst (λ y. ItemWalked order room y (drop n x)) (ap (λ z. z ++ drop n x) s.spells ∙ take-append-drop n x) (from t i s.fits s.short)
     where
       from : (t : Tree) → IsInteger t → Fits t → HasShortHead t → ItemWalked order room (spelled t ++ drop n x) (drop n x)
       from (Uint p w k) i f h = subst (λ v. WidthFits v k → ItemWalked order room (head Unsigned (Given v k) ++ drop n x) (drop n x)) (sym h) (uint_walked k (drop n x)) f

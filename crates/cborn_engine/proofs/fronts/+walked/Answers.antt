@@ -22,7 +22,7 @@ walk_array-returns g t c = array_done g.O.KeyOrder.order (omega arith) c.args.n 
 pub walk_element-returns-then-len-gt0 : goal.walk_element-returns-then-len-gt0
 walk_element-returns-then-len-gt0 g t c =
     let read = c.int_len-len.ensures.integer c.if-len-gt0.true 0 in
-    (drop c.int_len-len.result c.args.bytes.now, length-drop c.int_len-len.result c.args.bytes.now, integer_walked g.O.KeyOrder.order read.0 read.1 read.2)
+    (drop c.int_len-len.result c.args.bytes.now, length-drop c.int_len-len.result c.args.bytes.now, integer_walked g.O.KeyOrder.order c.args.bytes.now c.int_len-len.result 0 read.0 read.1 read.2)
 
 pub walk_item-returns-in_err-major : goal.walk_item-returns-in_err-major
 walk_item-returns-in_err-major g t c =
