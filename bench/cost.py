@@ -42,7 +42,8 @@ ARRANGED = (
 # what is known to take more than RATIO
 MORE = {
     **{(name, command): 3 for name in ARRANGED for command in ("normalise", "check", "to notation")},
-    **{(name, command): 6 for name in GREAT_MAPS for command in ("normalise", "check", "show", "to notation")},
+    **{(name, command): 6 for name in GREAT_MAPS for command in ("normalise", "show", "to notation")},
+    **{(name, "check"): 7.5 for name in GREAT_MAPS},
     **{(name, "show"): 5 for name in REFUSED_LATE},
 }
 COMMANDS = {

@@ -27,9 +27,9 @@ MOST = 2.5
 MOST_OF_MAPS = 6
 # what is known to hold more: lists of keys, and texts of inputs that turn out to be refused
 HELD = {
-    "map, first key again": 9,
-    "map, keys that fall": 9,
-    "count of 2^64-1 pairs": 14.5,
+    "map, first key again": 12,
+    "map, keys that fall": 12,
+    "count of 2^64-1 pairs": 21.5,
     "last byte is a break": 7.5,
     "last item is too deep": 4.5,
     "last text isn't UTF-8": 4.5,
@@ -57,8 +57,6 @@ WRITTEN = {
         "length of 2^64-1 bytes",
     )
 }
-# of a map whose pairs all stand as they are written nothing is copied: with an array as one of the values it is 1.7
-IN_PLACE = {("map of strings, keys that fall", "normalise"): 1.4}
 # what is its own answer is moved and not copied: so much is asked for in all, as a multiple of the input, to read it
 MOST_TO_READ = 2.5
 DETERMINISTIC = ("sequence of integers", "array of integers", "texts", "one text", "tags", "nests", "bignums", "map")
@@ -179,7 +177,7 @@ def excess(name, words, counts, given, size, status):
     if counts is None or status not in (0, 1, 2):
         yield f"{name}: {words}: status {status}, {counts}"
         return
-    most = IN_PLACE.get((name, words)) or WRITTEN.get((name, words)) or HELD.get(name, MOST_OF_MAPS if name.startswith("map") else MOST)
+    most = WRITTEN.get((name, words)) or HELD.get(name, MOST_OF_MAPS if name.startswith("map") else MOST)
     if counts.requests > REQUESTS.get(name, OWN_REQUESTS):
         yield f"{name}: {words}: {counts.requests} requests"
     if is_moved(name, words) and counts.asked > MOST_TO_READ * given + OWN:

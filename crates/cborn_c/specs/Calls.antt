@@ -201,7 +201,7 @@ ComparisonTold (Err why) before after told code = CompareFaultTold why told.plac
 pub record ComparisonInto (k l : Kind) (limit : ℕ) (x y before after : List ℕ) (told : CbornTold) (code : ℕ) : Type 0 where
   pub answer : Result Bool CompareCountFault
   pub matched : Matched counts.Any k l limit x y answer
-  pub told : ComparisonTold answer before after told code
+  pub reported : ComparisonTold answer before after told code
 
 abbrev pub ComparisonCall : Option Kind → Option Kind → Option KeyOrdering → ℕ → List ℕ → List ℕ → List ℕ → List ℕ → CbornTold → CbornTold → ℕ → Type 0
 ComparisonCall (Some k) (Some l) (Some order) limit x y before after untold told code =
