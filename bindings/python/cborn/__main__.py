@@ -275,8 +275,9 @@ def said_after(asked: argparse.Namespace, inputs: list[bytearray], defect: cborn
     if asked.command != "compare":
         return explained(lambda: hint(inputs[0], kinds_of(asked)[0], "the input"))
     names = ["the first input", "the second input"]
-    lines = explained(lambda: _cborn.explain_comparison(*inputs, *kinds_of(asked), ORDERS[asked.order], asked.depth))
-    return lines + explained(lambda: "".join(map(hint, inputs, kinds_of(asked), names)))
+    kinds, order = kinds_of(asked), ORDERS[asked.order]
+    lines = explained(lambda: _cborn.explain_comparison(inputs[0], inputs[1], kinds[0], kinds[1], order, asked.depth))
+    return lines + explained(lambda: "".join(map(hint, inputs, kinds, names)))
 
 
 def main(words: typing.Sequence[str]) -> int:
