@@ -424,7 +424,7 @@ static void test_arguments(void)
 static void test_comparisons(void)
 {
     static const uint8_t one[] = {0x81, 0x01}, two[] = {0x81, 0x02};
-    static const char *path = "  path  item 0 [0]\n";
+    static const char *path = "  path   item 0 [0]\n";
     char out[SHORT];
     cborn_told told = {99, 99};
     uint32_t code = cborn_explain_comparison(0, 0, 0, 128, one, 2, two, 2, out, SHORT, &told);

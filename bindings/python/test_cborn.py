@@ -557,7 +557,7 @@ class Program(unittest.TestCase):
             self.assertEqual((out, status), (b"different at item 0\n", 1))
             self.assertEqual(err.splitlines()[-1][:35], b"  hint  the second input is a text,")
             out, err, status = self.run_on("compare", "--explain", "--from-b", "notation", loose, text)
-            self.assertEqual((out, err.splitlines()[0], status), (b"different at item 0\n", b"  path  item 0", 1))
+            self.assertEqual((out, err.splitlines()[0], status), (b"different at item 0\n", b"  path   item 0", 1))
             self.assertEqual(self.run_on("compare", "--explain", loose, loose), (b"same\n", b"", 0))
 
     def test_a_long_input(self):
