@@ -12,11 +12,11 @@ use std::alloc::{AllocError, Global};
 
 /// One of two inputs that are compared.
 #[derive(Clone, Copy)]
-pub(crate) struct Compared<'a> {
+pub struct Compared<'a> {
     /// The bytes that it is, or that its text spells.
-    pub(crate) spelled: &'a [u8],
+    pub spelled: &'a [u8],
     /// The text, where it is one.
-    pub(crate) text: Option<NotationText<'a>>,
+    pub text: Option<NotationText<'a>>,
 }
 
 /// A part of an input.

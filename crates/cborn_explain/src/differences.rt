@@ -28,7 +28,7 @@ const REST: usize = 8;
 ///
 /// # Errors
 /// `AllocError` where memory is refused.
-pub(crate) fn explain_difference<'a, O: KeyOrder>(
+pub fn explain_difference<'a, O: KeyOrder>(
     alloc: Global,
     limit: Limit,
     inputs: (Compared<'a>, Compared<'a>),

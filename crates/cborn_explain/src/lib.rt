@@ -56,11 +56,14 @@ mod text_keys;
 mod text_spots;
 mod text_walks;
 
+pub use compared_parts::Compared;
 pub use comparisons::explain_comparison;
+pub use differences::explain_difference;
 pub use first_differences::{Difference, find_difference};
 pub use hints::{Digits, Hint, Look, hint_of};
 pub use notes::{explain_bytes, explain_text};
 pub use paths::{Path, Step, path_to};
 pub use quotes::Escaped;
 pub use reasons::{BytesReason, CountReason, TextReason};
+pub use same_items::explain_same;
 pub use text_walks::NotationText;

@@ -26,7 +26,7 @@ const ITEM: usize = 12;
 ///
 /// # Errors
 /// `AllocError` where memory is refused.
-pub(crate) fn explain_same(
+pub fn explain_same(
     alloc: Global,
     limit: Limit,
     first: Compared<'_>,
