@@ -3,7 +3,6 @@ PREFIX ?= /usr/local
 PROGRAM := crates/cborn/out/cborn
 # The crates that hold the libraries' tests: of the passes the calls answer nothing where memory is refused, and no fault.
 TESTS := cborn_bytes_tests cborn_texts_tests cborn_engine_tests
-PASSES := cborn_passes_tests
 
 # The stack, in KB, within which each command has to answer at 1,024 levels.
 STACK ?= 256
@@ -166,14 +165,14 @@ stack: build
 big: build
 	python3 tests/big.py $(PROGRAM) $(BIG)
 
-library-growths: $(TESTS:%=growths-of-%) $(PASSES:%=growths-of-%)
+library-growths: $(TESTS:%=growths-of-%)
 
 growths-of-%: built-tests
-	python3 tests/growths.py $(if $(filter $*,$(PASSES)),--passes,--tests) crates/$*/out/$*_tests
+	python3 tests/growths.py --tests crates/$*/out/$*_tests
 
 # rt ci builds them as well, and make test runs those
 built-tests: kit
-	for crate in $(TESTS) $(PASSES); do (cd crates/$$crate && rt test) || exit 1; done
+	for crate in $(TESTS); do (cd crates/$$crate && rt test) || exit 1; done
 
 .PHONY: bench-peers bench-growth bench-cost gate-cost
 

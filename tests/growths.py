@@ -6,15 +6,12 @@
                                     each test of a crate's built tests, crates/NAME/out/NAME_tests, or each
                                     whose name has one of the words; but for those of fronts, which make one call for
                                     thousands of inputs that other tests have as a whole
-    growths.py --passes TESTS [WORD..]
-                                    the tests of a crate of passes
 
 A command line has to answer as it does with enough memory, or with out of memory: status 4, nothing on standard output,
 and one line on standard error. An explanation may end with a line that says out of memory, after an unchanged first
 line. If the growth was for the path of a file that was to be opened, the line is that this file can't be read, and with -o
 it may be that the write failed. A test has to pass with enough memory. With a growth refused it has to pass too, or to fail by out of memory: by the error that a
-call answered, and not by an answer that differs. A quick pass over a text answers nothing in place of that error, so a
-test of passes may also stop where an answer is missing. refuse.c, which is compiled by $CC or cc, refuses, and serve.c
+call answered, and not by an answer that differs. refuse.c, which is compiled by $CC or cc, refuses, and serve.c
 begins the runs.
 """
 import collections
@@ -32,8 +29,6 @@ from run import Outcome, cases, listed
 WANT = re.compile(rb"AllocError|AllocFailed|OutOfMemory|[Oo]ut of memory")
 # a test that stops: by an error that it returns, or by a failed assertion, which names the answer
 FAILED, ABORTED = 101, -6
-STOPPED_AT = re.compile(rb"^test stopped at src/", re.MULTILINE)
-
 
 # how many runs a test's growths are shared among, since a test may have hundreds of thousands
 SHARES = os.cpu_count() or 1
@@ -108,16 +103,8 @@ def passes_or_wants(outcome):
     return outcome.status == 0 or (outcome.status in (FAILED, ABORTED) and WANT.search(outcome.stderr))
 
 
-def passes_or_stops(outcome):
-    return outcome.status in (0, FAILED) or (outcome.status == ABORTED and STOPPED_AT.search(outcome.stdout))
-
-
 def tests_of_libraries(*given):
     return built_tests(passes_or_wants, *given)
-
-
-def tests_of_passes(*given):
-    return built_tests(passes_or_stops, *given)
 
 
 def shares_of_tests(tests, words):
@@ -153,7 +140,7 @@ def tried(find, library, program, those):
     return growths, runs, wrong
 
 
-TESTS = {"--tests": tests_of_libraries, "--passes": tests_of_passes}
+TESTS = {"--tests": tests_of_libraries}
 
 
 def main():

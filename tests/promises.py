@@ -15,7 +15,7 @@ ROOT = Path(__file__).resolve().parent.parent
 PAGE = ROOT / "docs/PROMISES.md"
 # the order of the chapters: from the calls that a user makes down to what they stand on
 CRATES = """cborn_engine cborn_c cborn cborn_model cborn_wire cborn_det cborn_judge cborn_lex cborn_edn
-    cborn_descent cborn_text_places cborn_explain""".split()
+    cborn_explain""".split()
 # those whose list says what each function does; the lists of the crates below them go by module
 CALLED = {"cborn_engine", "cborn_c", "cborn"}
 # the file of each crate that names its modules

@@ -53,7 +53,7 @@ fn answer_usage<'a, W: Write, E: Write>(
     }
     let text = match text_of(alloc, why) {
         Ok(text) => text,
-        Err(_) => return Err(Trouble::Engine(CountFault::Engine(EngineFault::OutOfMemory))),
+        Err(refused) => return Err(Trouble::Engine(CountFault::from(refused))),
     };
     if why.use_stderr() {
         print_lines(err, &text);

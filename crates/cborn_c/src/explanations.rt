@@ -7,7 +7,7 @@ ghost use Rattle.cborn_c.specs.Numbers.{TellsOfBytes, text_number};
 
 use crate::answers::{CbornTold, put};
 use crate::words::{count_at, defect_at, edn_at, invalid_at, lex_at, of_first, wire_at};
-use cborn_engine::{CountFault, EngineFault, Kind};
+use cborn_engine::{CountFault, Kind};
 use cborn_explain::{BytesReason, NotationText, TextReason, explain_bytes, explain_text};
 use cborn_lex::Profile;
 use cborn_model::{InvalidReason, Limit};
@@ -104,7 +104,7 @@ pub fn put_text(answer: Result<String, AllocError>, out: &mut [u8], told: &mut C
 {
     let bytes = match answer {
         Ok(text) => Ok(CowSlice::Owned(text.into_bytes())),
-        Err(_) => Err(CountFault::Engine(EngineFault::OutOfMemory)),
+        Err(refused) => Err(CountFault::from(refused)),
     };
     put(bytes, out, told)
 }

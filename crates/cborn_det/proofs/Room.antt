@@ -1,7 +1,7 @@
 -- How much room encodings take: of each item less than four thirds of the bytes that spelled it.
-use Rattle.std.proofs.Common.{◌≡◌, ℕ, suc, ◌+◌, ◌*◌, ◌<◌, ◌≤◌, ◌^◌, inl, inr, List, [], ◌∷◌, ◌++◌, length, refl, sym, ap, ◌∙◌, subst, arith, true, false, Bool, cond, ltb, ltb-true, ltb-false, length-append, lit<, IsPermutation, Ordering}
+use Rattle.std.proofs.Common.{◌≡◌, ℕ, suc, ◌+◌, ◌*◌, ◌<◌, ◌≤◌, ◌^◌, inl, inr, List, [], ◌∷◌, ◌++◌, length, refl, sym, ap, ◌∙◌, subst, arith, true, false, Bool, ltb, ltb-true, ltb-false, length-append, lit<, IsPermutation, Ordering}
 use Rattle.std.specs.List.{AllZip, flat_map}
-use Rattle.std.proofs.lemmas.Bool.{cases_lt}
+use Rattle.std.proofs.lemmas.Bool.{cases_lt, cond_both}
 use Rattle.std.proofs.lemmas.List.Concat.{length-flat_map}
 use Rattle.std.proofs.lemmas.List.Sorted.{sum_by-IsPermutation}
 use Rattle.std.proofs.Math.Nat.{pow-le-pow_right}
@@ -24,16 +24,12 @@ use Rattle.cborn_det.specs.Det.{IsString, IsInteger, Det, DetValues, DetPairs, D
 
 -- ---- heads
 
-by_cond : (P : Width → Type 0) (b : Bool) (w v : Width) → (b ≡ true → P w) → (b ≡ false → P v) → P (cond b w v)
-by_cond P true w v f g = f refl
-by_cond P false w v f g = g refl
-
 -- what holds of each width for the numbers of which it is the least
 by_least : (P : Width → Type 0) (n : ℕ) → (n < 24 → P Direct) → (24 ≤ n → n < 256 → P One) → (256 ≤ n → n < 2 ^ 16 → P Two) → (2 ^ 16 ≤ n → n < 2 ^ 32 → P Four) → (2 ^ 32 ≤ n → P Eight) → P (least n)
 by_least P n direct one two four eight =
-    by_cond P (ltb n 24) _ _ (λ e. direct (ltb-true n 24 e)) (λ a. by_cond P (ltb n 256) _ _ (λ e. one (ltb-false n 24 a) (ltb-true n 256 e))
-    (λ b. by_cond P (ltb n (2 ^ 16)) _ _ (λ e. two (ltb-false n 256 b) (ltb-true n (2 ^ 16) e))
-    (λ c. by_cond P (ltb n (2 ^ 32)) Four Eight (λ e. four (ltb-false n (2 ^ 16) c) (ltb-true n (2 ^ 32) e)) (λ d. eight (ltb-false n (2 ^ 32) d)))))
+    cond_both (ltb n 24) _ _ P (λ e. direct (ltb-true n 24 e)) (λ a. cond_both (ltb n 256) _ _ P (λ e. one (ltb-false n 24 a) (ltb-true n 256 e))
+    (λ b. cond_both (ltb n (2 ^ 16)) _ _ P (λ e. two (ltb-false n 256 b) (ltb-true n (2 ^ 16) e))
+    (λ c. cond_both (ltb n (2 ^ 32)) Four Eight P (λ e. four (ltb-false n (2 ^ 16) c) (ltb-true n (2 ^ 32) e)) (λ d. eight (ltb-false n (2 ^ 32) d)))))
 
 -- how many bytes of an argument a width has
 bytes_in : Width → ℕ

@@ -1,5 +1,5 @@
 -- No encoding is empty.
-use Rattle.std.proofs.Common.{ℕ, ◌<◌, inl, inr, List, [], ◌∷◌, length, length-append, ap, arith, Bool, Ordering}
+use Rattle.std.proofs.Common.{ℕ, ◌<◌, inl, inr, List, length, length-append, ap, arith, Bool, Ordering}
 use Rattle.cborn_model.specs.Bytes.{big_endian}
 use Rattle.cborn_model.specs.Heads.{IsLeastHead}
 use Rattle.cborn_model.specs.Value.{Value, integer, bytes, text, array, dict, tagged, simple, value_count, pair_count}

@@ -1,10 +1,10 @@
 pub mod Grammar
 pub mod Meaning
 pub mod Reader
+pub mod HandedOver
 pub mod Shown
 pub mod Lexed
 pub mod RoundTrip
 pub mod Started
-pub mod Placed
 pub mod Short
 pub mod Notating

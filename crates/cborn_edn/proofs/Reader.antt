@@ -1,7 +1,7 @@
 -- The reader writes the bytes that a text spells, or answers why it has none.
--- What it keeps shows a state of the machine of tokens (`Showing`): an entry for each open bracket (`Opened`, `Counts`), the output (`Laying`, `Shifting`, `Written`, `Modest`), and the first meaning error (`NotedErrors`).
+-- What it keeps shows a state of the machine of tokens (`Showing`): an entry for each open bracket (`Opened`, `Counts`), the output (`Laying`, `Shifting`, `Modest`), and the first meaning error (`NotedErrors`).
 -- A token changes both alike: it opens a bracket or is a separator (`Turning`, `Inverted`), is written (`Put`), is a piece of a string (`Built`, `Joints`, `Utf8`), ends a string or a bracket (`Closed`, `Rows`, `Settling`), or is refused (`Stepping`, `Going`). The end of the text is in `Ending`.
--- Tokens that are found without the lexer are in `CommonTokens`, `Items`, `Blocks`, `NextPieces` and `Taking`, the bytes of long integers and heads in `Bignums` and `Cutting`, shortest heads in `ShortHeads`, and answers in `Results`.
+-- Tokens that are found without the lexer are in `CommonTokens`, `Items`, `Blocks`, `NextPieces` and `Taking`, the bytes of long integers and heads in `Bignums` and `Cutting`, and answers in `Results`.
 pub mod Opened
 pub mod NotedErrors
 pub mod Shifting
@@ -9,14 +9,12 @@ pub mod Laying
 pub mod Results
 pub mod Bignums
 pub mod Joints
-pub mod Written
 pub mod Showing
 pub mod Rows
 pub mod Closed
 pub mod Built
 pub mod Put
 pub mod Modest
-pub mod ShortHeads
 pub mod Inverted
 pub mod Turning
 pub mod CommonTokens

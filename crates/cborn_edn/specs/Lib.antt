@@ -7,6 +7,5 @@ pub mod ShownBytes
 pub mod Plain
 pub mod ReadingBack
 pub mod Starts
-pub mod Shortened
 pub mod shared
 pub mod devices

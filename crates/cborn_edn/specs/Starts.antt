@@ -1,4 +1,4 @@
--- The places of nodes and chunks, in the order of their heads: each node before what it contains.
+-- The places of the nodes and chunks of a text, in the order of their heads: each node before what it contains.
 use Rattle.std.specs.Prelude.{ℕ, ◌<◌, List, [], ◌∷◌, ◌++◌}
 use Rattle.std.specs.List.{AllByRecursion}
 use Rattle.cborn_model.specs.declared.nodes.Chunk.{Chunk}
@@ -7,28 +7,6 @@ use Rattle.cborn_model.specs.Tree.{Tree, Uint, Nint, Bytes, Text, ByteChunks, Te
 abbrev pub starts_of_chunks : List Chunk → List ℕ
 starts_of_chunks [] = []
 starts_of_chunks (c ∷ cs) = c.place ∷ starts_of_chunks cs
-
--- the places of the node and of all nodes and chunks in it
-abbrev mutual
-  pub starts : Tree → List ℕ
-  starts (Uint p w n) = p ∷ []
-  starts (Nint p w n) = p ∷ []
-  starts (Bytes p w b) = p ∷ []
-  starts (Text p w b) = p ∷ []
-  starts (ByteChunks p cs) = p ∷ starts_of_chunks cs
-  starts (TextChunks p cs) = p ∷ starts_of_chunks cs
-  starts (Items p s ts) = p ∷ starts_all ts
-  starts (Pairs p s es) = p ∷ starts_entries es
-  starts (Tagged p w n t) = p ∷ starts t
-  starts (Simple p n) = p ∷ []
-
-  pub starts_all : Trees → List ℕ
-  starts_all no_item = []
-  starts_all (more t ts) = starts t ++ starts_all ts
-
-  pub starts_entries : Entries → List ℕ
-  starts_entries no_entry = []
-  starts_entries (entry k v es) = starts k ++ (starts v ++ starts_entries es)
 
 abbrev pub unless_bytes : Tree → List ℕ → List ℕ
 unless_bytes (Bytes p w b) ps = []

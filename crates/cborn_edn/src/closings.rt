@@ -13,7 +13,6 @@ ghost use Rattle.cborn_edn.specs.devices.Kept.{joint};
 ghost use Rattle.cborn_edn.specs.devices.MeaningErrors.{Notes};
 ghost use Rattle.cborn_edn.specs.Says.{Str, joined, piece_errors, size_errors};
 ghost use Rattle.cborn_edn.specs.devices.Shows.{Same, Sized};
-ghost use Rattle.cborn_edn.specs.devices.Written.{heads_in, written_mark};
 
 use crate::MeaningError;
 use crate::heads::{set_head, set_shortest_head};
@@ -45,7 +44,7 @@ fn set_size(
     writer: &mut Writer,
 ) -> Result<(), AllocError>
     requires { bracket.start < length writer.old.out.items }
-    ensures added { OnOk result (Sized major (written_mark (heads_in writer.old.heads writer.old.around) bracket.mark) bracket.start count writer.old.out.items writer.new.out.items) }
+    ensures added { OnOk result (Sized major bracket.mark bracket.start count writer.old.out.items writer.new.out.items) }
     ensures noted { OnOk result (Notes writer.old.error writer.new.error (size_errors bracket.place bracket.mark count)) }
     ensures rest { OnOk result (Same writer.old writer.new) }
 {
@@ -65,19 +64,18 @@ fn set_marked_size(
     writer: &mut Writer,
 ) -> Result<(), AllocError>
     requires { bracket.start < length writer.old.out.items }
-    ensures added { OnOk result (Sized major (written_mark (heads_in writer.old.heads writer.old.around) bracket.mark) bracket.start count writer.old.out.items writer.new.out.items) }
+    ensures added { OnOk result (Sized major bracket.mark bracket.start count writer.old.out.items writer.new.out.items) }
     ensures noted { OnOk result (Notes writer.old.error writer.new.error (size_errors bracket.place bracket.mark count)) }
     ensures rest { OnOk result (Same writer.old writer.new) }
 {
     note_size(bracket, count, &mut writer.error);
-    let mark = writer.written(bracket.mark);
-    if is_endless(mark) {
+    if is_endless(bracket.mark) {
         writer.out.push(BREAK)?;
         return Ok(());
     }
     set_head(
         major,
-        width_for(mark, count),
+        width_for(bracket.mark, count),
         count,
         bracket.start,
         &mut writer.out,
@@ -117,8 +115,7 @@ fn shut(here: &mut Here, writer: &mut Writer) -> OpenBracket
 pub(crate) fn close_array(here: &mut Here, writer: &mut Writer) -> Result<(), AllocError>
     requires small { here.old.count < 2 ^ 63 }
     requires open { (st : Stack) × (s : Place) × (m : Indicator) × (c : Content) × Shows here.old writer.old writer.old.out.items (content_state (in_array st s m) c) }
-    ensures shows { OnOk result ((st : Stack) (s a : Place) (m : Indicator) (c : Content) → Leads here.old writer.old here.new writer.new (content_state (in_array st s m) c) (has st (array s m c a))) }
-    ensures heads { OnOk result (writer.new.heads ≡ writer.old.heads) }
+    ensures { OnOk result ((st : Stack) (s a : Place) (m : Indicator) (c : Content) → Leads here.old writer.old here.new writer.new (content_state (in_array st s m) c) (has st (array s m c a))) }
 {
     let count = all_entries(here);
     let bracket = shut(here, writer);
@@ -130,8 +127,7 @@ pub(crate) fn close_array(here: &mut Here, writer: &mut Writer) -> Result<(), Al
 pub(crate) fn close_map(here: &mut Here, writer: &mut Writer) -> Result<(), AllocError>
     requires small { here.old.count < 2 ^ 63 }
     requires open { (st : Stack) × (s : Place) × (m : Indicator) × (f : Fields) × Shows here.old writer.old writer.old.out.items (fields_state st s m f) }
-    ensures shows { OnOk result ((st : Stack) (s a : Place) (m : Indicator) (f : Fields) → Leads here.old writer.old here.new writer.new (fields_state st s m f) (has st (map s m f a))) }
-    ensures heads { OnOk result (writer.new.heads ≡ writer.old.heads) }
+    ensures { OnOk result ((st : Stack) (s a : Place) (m : Indicator) (f : Fields) → Leads here.old writer.old here.new writer.new (fields_state st s m f) (has st (map s m f a))) }
 {
     let count = all_entries(here);
     let bracket = shut(here, writer);
@@ -142,8 +138,7 @@ pub(crate) fn close_map(here: &mut Here, writer: &mut Writer) -> Result<(), Allo
 #[inline(always)]
 pub(crate) fn close_tag(here: &mut Here, writer: &mut Writer)
     requires { 0 < length writer.old.brackets }
-    ensures shows { (st : Stack) (s a : Place) (n : ℕ) (m : Indicator) (i : Item) → Leads here.old writer.old here.new writer.new (has (in_tag st s n m) i) (has st (tag s n m i a)) }
-    ensures heads { writer.new.heads ≡ writer.old.heads }
+    ensures { (st : Stack) (s a : Place) (n : ℕ) (m : Indicator) (i : Item) → Leads here.old writer.old here.new writer.new (has (in_tag st s n m) i) (has st (tag s n m i a)) }
 {
     shut(here, writer);
 }
@@ -153,8 +148,7 @@ pub(crate) fn close_tag(here: &mut Here, writer: &mut Writer)
 pub(crate) fn close_embedded(mark: Mark, place: usize, here: &mut Here, writer: &mut Writer)
     requires brackets { 0 < length writer.old.brackets }
     requires around { 0 < length writer.old.around }
-    ensures shows { (h : Home) (o : Option Joined) (s a : Place) (c : Content) → place ≡ a.start → Leads here.old writer.old here.new writer.new (content_state (in_embed h o s) c) (builds h (with_piece o (embedded s c a mark))) }
-    ensures heads { writer.new.heads ≡ writer.old.heads }
+    ensures { (h : Home) (o : Option Joined) (s a : Place) (c : Content) → place ≡ a.start → Leads here.old writer.old here.new writer.new (content_state (in_embed h o s) c) (builds h (with_piece o (embedded s c a mark))) }
 {
     let bracket = shut(here, writer);
     let Some(around) = writer.around.shut() else {

@@ -6,14 +6,15 @@ ghost use Rattle.cborn_lex.specs.declared.classes.Class.TheVariants.{ArrayClose,
 ghost use Rattle.cborn_edn.specs.devices.Syntax.{Span as Place, Item};
 ghost use Rattle.cborn_edn.specs.devices.Machine.{Stack, State, has};
 ghost use Rattle.cborn_edn.specs.devices.Shows.{Shows};
+ghost use Rattle.cborn_edn.specs.devices.Handed.{Reads};
 ghost use Rattle.cborn_edn.specs.devices.Steps as pure;
-ghost use Rattle.cborn_edn.specs.devices.Steps.{MayEnd, Taken};
+ghost use Rattle.cborn_edn.specs.devices.Steps.{MayEnd, Turned, Taken};
 
-use crate::closings::{
-    close_array, close_embedded, close_map, close_tag, colon, comma, comma_of_pairs,
-};
+use crate::closings::{close_embedded, colon, comma, comma_of_pairs};
+use crate::handing::{close_array, close_map, close_tag};
 use crate::states::{Chunks, Here, Level, Phase, Writer};
 use cborn_lex::Mark;
+use cborn_model::Visitor;
 use std::alloc::AllocError;
 
 /// Whether the innermost bracket is an array.
@@ -86,33 +87,39 @@ pub(crate) fn has_chunks(chunks: Option<Chunks>) -> bool
 
 /// Ends an array with a `]`, if one may end there.
 #[inline(always)]
-pub(crate) fn end_array(here: &mut Here, writer: &mut Writer) -> Result<bool, AllocError>
+pub(crate) fn end_array<V: Visitor>(
+    here: &mut Here,
+    writer: &mut Writer,
+    visitor: &mut V,
+) -> Result<bool, AllocError>
     requires few { here.old.count < 2 ^ 63 }
-    requires shows { (s : State) × MayEnd s × Shows here.old writer.old writer.old.out.items s }
-    ensures taken { IfOk result (λ ok. (s : State) (a : Place) → MayEnd s → Shows here.old writer.old writer.old.out.items s → Taken ok s ArrayClose a here.new writer.new) }
-    ensures kept { IfOk result (λ ok. ok ≡ false → (here.new ≡ here.old) × (writer.new ≡ writer.old)) }
-    ensures heads { OnOk result (writer.new.heads ≡ writer.old.heads) }
+    requires shows { (s : State) × MayEnd s × Reads (V.holds visitor.old) here.old writer.old writer.old.out.items s }
+    ensures taken { IfOk result (λ ok. (s : State) (a : Place) → MayEnd s → Reads (V.holds visitor.old) here.old writer.old writer.old.out.items s → Taken (V.holds visitor.new) ok s ArrayClose a here.new writer.new) }
+    ensures kept { IfOk result (λ ok. ok ≡ false → (here.new ≡ here.old) × (writer.new ≡ writer.old) × (visitor.new ≡ visitor.old)) }
 {
     if !is_array(here.level) {
         return Ok(false);
     }
-    close_array(here, writer)?;
+    close_array(here, writer, visitor)?;
     Ok(true)
 }
 
 /// Ends a map with a `}`, if one may end there.
 #[inline(always)]
-pub(crate) fn end_map(here: &mut Here, writer: &mut Writer) -> Result<bool, AllocError>
+pub(crate) fn end_map<V: Visitor>(
+    here: &mut Here,
+    writer: &mut Writer,
+    visitor: &mut V,
+) -> Result<bool, AllocError>
     requires few { here.old.count < 2 ^ 63 }
-    requires shows { (s : State) × MayEnd s × Shows here.old writer.old writer.old.out.items s }
-    ensures taken { IfOk result (λ ok. (s : State) (a : Place) → MayEnd s → Shows here.old writer.old writer.old.out.items s → Taken ok s MapClose a here.new writer.new) }
-    ensures kept { IfOk result (λ ok. ok ≡ false → (here.new ≡ here.old) × (writer.new ≡ writer.old)) }
-    ensures heads { OnOk result (writer.new.heads ≡ writer.old.heads) }
+    requires shows { (s : State) × MayEnd s × Reads (V.holds visitor.old) here.old writer.old writer.old.out.items s }
+    ensures taken { IfOk result (λ ok. (s : State) (a : Place) → MayEnd s → Reads (V.holds visitor.old) here.old writer.old writer.old.out.items s → Taken (V.holds visitor.new) ok s MapClose a here.new writer.new) }
+    ensures kept { IfOk result (λ ok. ok ≡ false → (here.new ≡ here.old) × (writer.new ≡ writer.old) × (visitor.new ≡ visitor.old)) }
 {
     if !ends_map(here.phase, here.level) {
         return Ok(false);
     }
-    close_map(here, writer)?;
+    close_map(here, writer, visitor)?;
     Ok(true)
 }
 
@@ -120,9 +127,8 @@ pub(crate) fn end_map(here: &mut Here, writer: &mut Writer) -> Result<bool, Allo
 #[inline(always)]
 pub(crate) fn end_embedded(mark: Mark, place: usize, here: &mut Here, writer: &mut Writer) -> bool
     requires { (s : State) × MayEnd s × Shows here.old writer.old writer.old.out.items s }
-    ensures taken { (s : State) (a : Place) → place ≡ a.start → MayEnd s → Shows here.old writer.old writer.old.out.items s → Taken result s (EmbedClose mark) a here.new writer.new }
+    ensures taken { (s : State) (a : Place) → place ≡ a.start → MayEnd s → Shows here.old writer.old writer.old.out.items s → Turned result s (EmbedClose mark) a here.new writer.new }
     ensures kept { result ≡ false → (here.new ≡ here.old) × (writer.new ≡ writer.old) }
-    ensures heads { writer.new.heads ≡ writer.old.heads }
 {
     if !is_embedded(here.level) {
         return false;
@@ -133,23 +139,26 @@ pub(crate) fn end_embedded(mark: Mark, place: usize, here: &mut Here, writer: &m
 
 /// Ends a tag with a `)` after an item, if one may end there.
 #[inline(always)]
-pub(crate) fn end_tag(here: &mut Here, writer: &mut Writer) -> bool
-    requires { (st : Stack) × (i : Item) × Shows here.old writer.old writer.old.out.items (has st i) }
-    ensures taken { (st : Stack) (i : Item) (a : Place) → Shows here.old writer.old writer.old.out.items (has st i) → Taken result (has st i) ParenClose a here.new writer.new }
-    ensures kept { result ≡ false → (here.new ≡ here.old) × (writer.new ≡ writer.old) }
-    ensures heads { writer.new.heads ≡ writer.old.heads }
+pub(crate) fn end_tag<V: Visitor>(
+    here: &mut Here,
+    writer: &mut Writer,
+    visitor: &mut V,
+) -> Result<bool, AllocError>
+    requires { (st : Stack) × (i : Item) × Reads (V.holds visitor.old) here.old writer.old writer.old.out.items (has st i) }
+    ensures taken { IfOk result (λ ok. (st : Stack) (i : Item) (a : Place) → Reads (V.holds visitor.old) here.old writer.old writer.old.out.items (has st i) → Taken (V.holds visitor.new) ok (has st i) ParenClose a here.new writer.new) }
+    ensures kept { IfOk result (λ ok. ok ≡ false → (here.new ≡ here.old) × (writer.new ≡ writer.old) × (visitor.new ≡ visitor.old)) }
 {
     if !is_tag(here.level) {
-        return false;
+        return Ok(false);
     }
-    close_tag(here, writer);
-    true
+    close_tag(here, writer, visitor)?;
+    Ok(true)
 }
 
 /// Takes a colon after an item, if the item is a key.
 #[inline(always)]
 pub(crate) fn end_key(here: &mut Here, writer: &Writer) -> bool
-    ensures taken { (st : Stack) (i : Item) (a : Place) → Shows here.old writer.now writer.now.out.items (has st i) → Taken result (has st i) Colon a here.new writer.now }
+    ensures taken { (st : Stack) (i : Item) (a : Place) → Shows here.old writer.now writer.now.out.items (has st i) → Turned result (has st i) Colon a here.new writer.now }
     ensures kept { result ≡ false → here.new ≡ here.old }
 {
     if !is_key(here.level) {
@@ -163,7 +172,7 @@ pub(crate) fn end_key(here: &mut Here, writer: &Writer) -> bool
 #[inline(always)]
 pub(crate) fn end_entry(here: &mut Here, writer: &Writer) -> bool
     requires { here.old.count < 2 ^ 63 }
-    ensures taken { (st : Stack) (i : Item) (a : Place) → Shows here.old writer.now writer.now.out.items (has st i) → Taken result (has st i) Comma a here.new writer.now }
+    ensures taken { (st : Stack) (i : Item) (a : Place) → Shows here.old writer.now writer.now.out.items (has st i) → Turned result (has st i) Comma a here.new writer.now }
     ensures kept { result ≡ false → here.new ≡ here.old }
 {
     if is_value(here.level) {

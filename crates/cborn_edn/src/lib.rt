@@ -8,11 +8,9 @@
 //! nodes   Items of Uint and Text: the string "ab", whose length takes two bytes
 //! ```
 //!
-//! [`read_text`] gives the bytes of a text, or why it has none. [`read_shortest`] gives them with
-//! each head in its shortest form, for a caller that needs only what the items mean.
-//! [`read_notation`] gives the nodes, each with its place in the text, and [`start_at`] the place
-//! of one node or chunk by its number. [`show`] writes nodes in the fixed notation, which has one
-//! text for each list of nodes.
+//! [`read_text`] gives the bytes of a text, or why it has none. [`visit_text`] hands the nodes to a
+//! visitor, head by head, each with its place in the text, and [`read_notation`] gives them.
+//! [`show`] writes nodes in the fixed notation, which has one text for each list of nodes.
 //!
 //! # Terms
 //!
@@ -41,7 +39,7 @@
 //! - `Says.antt`: the node and the meaning errors of one number, one tag, one simple value and one
 //!   string.
 //! - `Faults.antt`: why a text notates nothing.
-//! - `Spelling.antt` and `Shortened.antt`: the bytes that a text spells.
+//! - `Spelling.antt`: the bytes that a text spells.
 //! - `Starts.antt`: the places of nodes and chunks.
 //! - `Shown.antt`: the fixed notation. `Plain.antt`: the notation of a deterministic encoding.
 //! - `ReadingBack.antt`: what the laws of reading back need, as nodes without their places.
@@ -55,12 +53,15 @@
 //! its end. So where one begins, one byte is written in the place of its head, and its content
 //! after that byte. Where it ends, its head takes the place of the byte, and the content is moved
 //! if the head is longer. An array or a map of indefinite length has its head at once, and a break
-//! at its end. The heads inside of `<<..>>` are always as wide as their indicators ask for, since
-//! their bytes are the content of a string.
+//! at its end.
+//!
+//! An item is also handed to a visitor, head by head, as it is written. What is embedded in `<<..>>`
+//! isn't: it is the content of a string, which is handed over at the string's end.
 //!
 //! A meaning error doesn't stop the reader. It keeps the first one and writes on, and of a number
 //! that doesn't fit its place it writes the low bits. So it still finds a later syntax error, which
-//! is reported in place of the meaning error.
+//! is reported in place of the meaning error. But nothing is handed to the visitor any more, since
+//! the text notates nothing.
 //!
 //! Read the modules in this order:
 //!
@@ -70,23 +71,26 @@
 //! - `steps`: the grammar: what each token does in each phase. `openings`, `endings`, `closings`,
 //!   `strings` and `numbers` change what is kept and write the output. `meaning_errors` keeps the
 //!   first meaning error, and `refusals` reports syntax errors.
+//! - `handing` and `handed_strings`: what they write is handed to the visitor.
 //! - `heads`: a head is written at the end of a buffer, or in the place of a byte.
 //! - `white_space`, `marks`, `integers`, `words` and `texts`: frequent tokens are found in a text
 //!   without the lexer. `quick`, `quick_items` and `quick_ends` take them at once, and leave all
 //!   others to `tokens` and `steps`. They are for speed alone.
-//! - `readers`, `placing` and `starts`: the bytes become nodes, which get the places that `starts`
-//!   finds when it reads the text once more.
-//! - `showing`, `writing` and `bad_texts`: nodes become text, if each text string is UTF-8.
+//! - `readers`: a visitor builds nodes of what it is handed.
+//! - `notators`, `showing`, `shown_bytes` and `writing`: nodes become text, if each text string is
+//!   UTF-8.
 //!
 //! The proofs use a second form of the grammar: trees (`specs/devices/Syntax.antt`), and a machine
 //! that takes one token after another and builds a tree (`Machine.antt`). What the reader keeps
-//! shows a state of the machine (`Shows.antt`), and a token that the reader takes is a step of the
-//! machine. The law `short_form` says that the trees and the relation agree.
+//! shows a state of the machine (`Shows.antt`), as does what the visitor holds (`Handed.antt`), and a
+//! token that the reader takes is a step of the machine. The law `short_form` says that the trees and the relation agree.
 #![tactic(auto)]
 
 mod closings;
 mod endings;
 mod faults;
+mod handed_strings;
+mod handing;
 mod heads;
 mod integers;
 pub mod laws;
@@ -96,7 +100,6 @@ mod notators;
 mod numbers;
 mod openings;
 mod passes;
-mod placing;
 mod quick;
 mod quick_ends;
 mod quick_items;
@@ -104,7 +107,6 @@ mod readers;
 mod refusals;
 mod showing;
 mod shown_bytes;
-mod starts;
 mod states;
 mod steps;
 mod strings;
@@ -117,8 +119,7 @@ mod writing;
 pub use faults::{EdnFault, EdnReason, ShowFault};
 pub use meaning_errors::MeaningError;
 pub use notators::Notator;
-pub use passes::{read_shortest, read_text};
+pub use passes::{read_text, visit_text};
 pub use readers::read_notation;
 pub use showing::show;
 pub use shown_bytes::{Notated, show_bytes};
-pub use starts::start_at;

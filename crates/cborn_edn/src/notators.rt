@@ -137,7 +137,7 @@ pub struct Notator {
     lates: Vec<Late>,
     string: Option<OpenString>,
     /// The lowest place of a text that isn't UTF-8.
-    bad: Option<u64>,
+    pub(crate) bad: Option<u64>,
 }
 
 impl Notator {
@@ -168,6 +168,17 @@ impl Notator {
         if let Some(place) = self.bad {
             return Err(ShowFault::NotUtf8 { place });
         }
+        Ok(self.into_text()?)
+    }
+
+    /// What [`Notator::finish`] gives where each text is UTF-8.
+    ///
+    /// # Errors
+    /// `AllocError` if memory is refused.
+    pub(crate) fn into_text(self) -> Result<Vec<u8>, AllocError>
+        requires { self.bad ≡ None }
+        ensures { IfOk result (λ text. (ts : List Tree) → FitsAll (trees ts) → ⟦<Notator as Visitor>⟧.holds self (top ts) no_part → Shown (trees ts) text.items) }
+    {
         let mut out = self.out;
         push_ending(self.next, &mut out)?;
         Ok(out)

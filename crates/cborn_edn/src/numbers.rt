@@ -33,7 +33,7 @@ pub(crate) struct Numeral {
 }
 
 /// The lowest number that doesn't fit 64 bits.
-const OUTSIDE: u128 = 18446744073709551616;
+pub(crate) const OUTSIDE: u128 = 18446744073709551616;
 
 /// The width of a head with the argument `n`: the one that the indicator asks for, or the shortest.
 #[inline(always)]
@@ -48,7 +48,7 @@ pub(crate) fn width_for(mark: Mark, n: u64) -> Width
 
 /// The argument of the head of an integer: `n` for the integer `n`, and `n` for `-1-n`.
 #[inline(always)]
-fn argument_of(negative: bool, magnitude: u128) -> u128
+pub(crate) fn argument_of(negative: bool, magnitude: u128) -> u128
     ensures { result ≡ says.argument_of negative magnitude }
 {
     if negative && magnitude > 0 {
@@ -60,7 +60,7 @@ fn argument_of(negative: bool, magnitude: u128) -> u128
 
 /// Whether an integer is below zero, as -0 isn't.
 #[inline(always)]
-fn is_below(negative: bool, magnitude: u128) -> bool
+pub(crate) fn is_below(negative: bool, magnitude: u128) -> bool
     ensures { result ≡ says.is_below negative magnitude }
 {
     negative && magnitude > 0
@@ -137,7 +137,7 @@ fn push_bignum(below: bool, n: u128, out: &mut Vec<u8>) -> Result<(), AllocError
 }
 
 /// The tag number of an integer outside 64 bits: 3 below zero, else 2 (RFC 8949 section 3.4.3).
-fn bignum_tag(below: bool) -> u64
+pub(crate) fn bignum_tag(below: bool) -> u64
     ensures { result ≡ (if below then 3 else 2) }
 {
     if below { 3 } else { 2 }
@@ -240,7 +240,8 @@ pub(crate) fn put_number(
     writer: &mut Writer,
 ) -> Result<(), AllocError>
     ensures shows { OnOk result ((st : Stack) (a : Place) → place ≡ a.start → Leads here.old writer.old here.new writer.new (wants st) (has st (number a numeral.negative numeral.magnitude numeral.mark))) }
-    ensures heads { OnOk result (writer.new.heads ≡ writer.old.heads) }
+    ensures spelled { OnOk result ((p : ℕ) → writer.new.out.items ≡ writer.old.out.items ++ cut (spelled (says.number_node p numeral.negative numeral.magnitude numeral.mark))) }
+    ensures noted { OnOk result (Notes writer.old.error writer.new.error (says.number_errors place numeral.negative numeral.magnitude numeral.mark)) }
 {
     let Numeral {
         negative,
@@ -249,15 +250,13 @@ pub(crate) fn put_number(
     } = numeral;
     here.phase = Phase::Has;
     note_number(negative, magnitude, mark, place, &mut writer.error);
-    let mark = writer.written(mark);
     push_number(negative, magnitude, mark, &mut writer.out)
 }
 
 /// Writes the simple value `n` of a word, which is an item.
 #[inline(always)]
 pub(crate) fn put_word(n: u8, here: &mut Here, writer: &mut Writer) -> Result<(), AllocError>
-    ensures shows { OnOk result ((st : Stack) (a : Place) → Leads here.old writer.old here.new writer.new (wants st) (has st (word a n))) }
-    ensures heads { OnOk result (writer.new.heads ≡ writer.old.heads) }
+    ensures { OnOk result ((st : Stack) (a : Place) → Leads here.old writer.old here.new writer.new (wants st) (has st (word a n))) }
 {
     here.phase = Phase::Has;
     let n = n as u64;
@@ -273,7 +272,8 @@ pub(crate) fn put_simple(
     writer: &mut Writer,
 ) -> Result<(), AllocError>
     ensures shows { OnOk result ((st : Stack) (s a : Place) → place ≡ a.start → Leads here.old writer.old here.new writer.new (wants_number st s) (has_number st s a numeral.negative numeral.magnitude numeral.mark)) }
-    ensures heads { OnOk result (writer.new.heads ≡ writer.old.heads) }
+    ensures noted { OnOk result (Notes writer.old.error writer.new.error (says.simple_errors writer.old.simple place numeral.negative numeral.magnitude numeral.mark)) }
+    ensures opened { writer.new.simple ≡ writer.old.simple }
 {
     here.phase = Phase::HasNumber;
     push_simple(

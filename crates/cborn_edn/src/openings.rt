@@ -6,6 +6,8 @@ ghost use Rattle.cborn_edn.specs.devices.Machine.{Stack, in_row, in_key, in_tag,
 ghost use Rattle.cborn_edn.specs.devices.Machine.{at_home};
 ghost use Rattle.cborn_edn.specs.declared.states.Phase.TheVariants.{Wants};
 ghost use Rattle.cborn_edn.specs.devices.Laid.{place_of};
+ghost use Rattle.cborn_edn.specs.Says.{tag_errors};
+ghost use Rattle.cborn_edn.specs.devices.MeaningErrors.{Notes};
 ghost use Rattle.cborn_edn.specs.devices.Shows.{Shows, Leads};
 
 use crate::numbers::{note_tag, push_tag};
@@ -22,8 +24,7 @@ pub(crate) fn open_array(
     here: &mut Here,
     writer: &mut Writer,
 ) -> Result<(), AllocError>
-    ensures shows { OnOk result ((st : Stack) (a : Place) → place ≡ a.start → Leads here.old writer.old here.new writer.new (wants st) (wants (in_row (in_array st a mark) no_item))) }
-    ensures heads { OnOk result (writer.new.heads ≡ writer.old.heads) }
+    ensures { OnOk result ((st : Stack) (a : Place) → place ≡ a.start → Leads here.old writer.old here.new writer.new (wants st) (wants (in_row (in_array st a mark) no_item))) }
 {
     let start = writer.out.len();
     push_place(Major::Array, mark, &mut writer.out)?;
@@ -45,8 +46,7 @@ pub(crate) fn open_map(
     here: &mut Here,
     writer: &mut Writer,
 ) -> Result<(), AllocError>
-    ensures shows { OnOk result ((st : Stack) (a : Place) → place ≡ a.start → Leads here.old writer.old here.new writer.new (wants st) (wants (in_key st a mark no_pair))) }
-    ensures heads { OnOk result (writer.new.heads ≡ writer.old.heads) }
+    ensures { OnOk result ((st : Stack) (a : Place) → place ≡ a.start → Leads here.old writer.old here.new writer.new (wants st) (wants (in_key st a mark no_pair))) }
 {
     let start = writer.out.len();
     push_place(Major::Map, mark, &mut writer.out)?;
@@ -84,10 +84,9 @@ pub(crate) fn open_tag(
     writer: &mut Writer,
 ) -> Result<(), AllocError>
     ensures shows { OnOk result ((st : Stack) (a : Place) → place ≡ a.start → Leads here.old writer.old here.new writer.new (wants st) (wants (in_tag st a number mark))) }
-    ensures heads { OnOk result (writer.new.heads ≡ writer.old.heads) }
+    ensures noted { OnOk result (Notes writer.old.error writer.new.error (tag_errors place mark number)) }
 {
     note_tag(number, mark, place, &mut writer.error);
-    let mark = writer.written(mark);
     push_tag(number, mark, &mut writer.out)?;
     let bracket = OpenBracket {
         place: 0,
@@ -110,7 +109,6 @@ pub(crate) fn open_embedded(
 ) -> Result<(), AllocError>
     ensures begins { OnOk result ((h : Home) (a : Place) (base : List ℕ) → place ≡ a.start → start ≡ length base → writer.old.out.items ≡ base ++ (0 ∷ []) → Shows here.old writer.old base (at_home h None) → Shows here.new writer.new writer.new.out.items (wants (in_row (in_embed h None a) no_item))) }
     ensures goes_on { OnOk result ((h : Home) (ps : Joined) (a : Place) → place ≡ a.start → Shows here.old writer.old writer.old.out.items (builds h ps) → Shows here.new writer.new writer.new.out.items (wants (in_row (in_embed h (Some ps) a) no_item))) }
-    ensures heads { OnOk result (writer.new.heads ≡ writer.old.heads) }
 {
     let start = match writer.string {
         Some(string) => string.start,
@@ -135,23 +133,29 @@ pub(crate) fn open_embedded(
     open_bracket(Level::Embedded, bracket, here, writer)
 }
 
-/// Opens a string in chunks.
+/// Opens a string in chunks at `place`.
 #[inline(always)]
-pub(crate) fn open_chunks(here: &mut Here, writer: &mut Writer) -> Result<(), AllocError>
-    ensures shows { OnOk result ((st : Stack) (a : Place) → Leads here.old writer.old here.new writer.new (wants st) (wants_chunk st a no_string)) }
-    ensures heads { OnOk result (writer.new.heads ≡ writer.old.heads) }
+pub(crate) fn open_chunks(
+    place: usize,
+    here: &mut Here,
+    writer: &mut Writer,
+) -> Result<(), AllocError>
+    ensures { OnOk result ((st : Stack) (a : Place) → place ≡ a.start → Leads here.old writer.old here.new writer.new (wants st) (wants_chunk st a no_string)) }
 {
     let start = writer.out.len();
     writer.out.push(0)?;
-    writer.chunks = Some(Chunks { start, kind: None });
+    writer.chunks = Some(Chunks {
+        start,
+        place,
+        kind: None,
+    });
     here.phase = Phase::WantsChunk;
     Ok(())
 }
 
 /// Opens `simple(` at `place`.
 pub(crate) fn open_simple(place: usize, here: &mut Here, writer: &mut Writer)
-    ensures shows { (st : Stack) (a : Place) → place ≡ a.start → Leads here.old writer.old here.new writer.new (wants st) (wants_number st a) }
-    ensures heads { writer.new.heads ≡ writer.old.heads }
+    ensures { (st : Stack) (a : Place) → place ≡ a.start → Leads here.old writer.old here.new writer.new (wants st) (wants_number st a) }
 {
     writer.simple = place;
     here.phase = Phase::WantsNumber;

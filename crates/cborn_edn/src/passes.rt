@@ -1,10 +1,14 @@
 //! A whole text, read token by token: its bytes, or why it has none.
 
-ghost use Rattle.std.specs.Prelude.{◌≡◌, ◌≤◌, ◌<◌, ◌^◌, length, IfOk, IfErr, OnOk};
+ghost use Rattle.std.specs.Prelude.{◌≡◌, ◌≤◌, ◌<◌, ◌^◌, List, [], length, IfOk, IfErr, OnOk};
 ghost use Rattle.cborn_edn.specs.Faults.{IsNoNotation};
 ghost use Rattle.cborn_edn.specs.devices.Machine.{State, start};
-ghost use Rattle.cborn_edn.specs.Spelling.{IsSpelling, IsShortSpelling};
-ghost use Rattle.cborn_edn.specs.devices.Written.{IsSpellingAs};
+ghost use Rattle.cborn_model.specs.Tree.{Tree, trees};
+ghost use Rattle.cborn_model.specs.Spelled.{FitsAll};
+ghost use Rattle.cborn_model.specs.Partial.{top, no_part};
+ghost use Rattle.cborn_edn.specs.Grammar.{Notates};
+ghost use Rattle.cborn_edn.specs.Spelling.{IsSpelling};
+ghost use Rattle.cborn_edn.specs.devices.Handed.{Reads, IsSpelledTo};
 ghost use Rattle.cborn_edn.specs.devices.Reading as pure;
 ghost use Rattle.cborn_edn.specs.devices.Reading.{IsReading, Judged, Last, AtEnd};
 ghost use Rattle.cborn_edn.specs.devices.Modest.{AreModest};
@@ -13,16 +17,17 @@ ghost use Rattle.cborn_edn.specs.devices.Machine.{held};
 ghost use Rattle.cborn_edn.specs.devices.Shows.{Shows};
 
 use crate::endings::has_chunks;
+use crate::handed_strings::end_item;
 use crate::quick::take_common;
 use crate::quick_ends::take_empty_end;
 use crate::refusals::{first_fault, refused};
-use crate::states::{Arounds, Brackets, Chunks, Heads, Here, Level, Phase, Writer};
+use crate::states::{Arounds, Brackets, Chunks, Here, Level, Phase, Writer};
 use crate::steps::take;
-use crate::strings::end_item;
 use crate::tokens::{is_trailing_comma, reach_of, read_token};
 use crate::{EdnFault, EdnReason};
 use cborn_lex::Profile;
-use cborn_model::Limit;
+use cborn_model::{Limit, Visitor};
+use cborn_wire::Nothing;
 use std::alloc::{AllocError, Global};
 
 /// The bytes that the nodes spell which `text` notates in that profile of the notation, none of
@@ -42,56 +47,59 @@ pub fn read_text(
     ensures spelled { IfOk result (λ bytes. IsSpelling profile limit text.now bytes.items) }
     ensures refused { IfErr result (IsNoNotation profile limit text.now) }
 {
-    read_as(alloc, limit, profile, text, Heads::AsWritten)
+    read_to(alloc, limit, profile, text, &mut Nothing)
 }
 
-/// The bytes that the nodes spell which `text` notates in that profile of the notation, none of
-/// them deeper than `limit`, with each head in its shortest form (RFC 8949 sections 8 and 4.2.1,
-/// RFC 8610 appendix G). An indefinite length stays indefinite, and the content of a string stays
-/// what it is. The text is read once.
+/// Hands the nodes that `text` notates in that profile of the notation, none of them deeper than
+/// `limit`, to a visitor that was handed nothing (RFC 8949 section 8, RFC 8610 appendix G). The
+/// place of a node is the offset of its first token, and that of a chunk the offset of its first
+/// piece, in bytes from the start of the text. How many items an array has, or pairs a map, is
+/// known at its end. The text is read once.
 ///
 /// # Errors
-/// Those of [`read_text`](crate::read_text): a number still has to fit the width that its indicator
-/// asks for.
-pub fn read_shortest(
+/// Those of [`read_text`]. Then nothing is known of the visitor.
+pub fn visit_text<V: Visitor>(
     alloc: Global,
     limit: Limit,
     profile: Profile,
     text: &str,
-) -> Result<Vec<u8>, EdnFault>
-    ensures spelled { IfOk result (λ bytes. IsShortSpelling profile limit text.now bytes.items) }
+    visitor: &mut V,
+) -> Result<(), EdnFault>
+    requires { V.holds visitor.old (top []) no_part }
+    ensures nodes { OnOk result ((nodes : List Tree) × V.holds visitor.new (top nodes) no_part × Notates profile limit text.now (trees nodes) × FitsAll (trees nodes)) }
     ensures refused { IfErr result (IsNoNotation profile limit text.now) }
 {
-    read_as(alloc, limit, profile, text, Heads::Shortest)
+    read_to(alloc, limit, profile, text, visitor)?;
+    Ok(())
 }
 
-/// The bytes that the nodes of a text spell, with heads as `heads` says.
+/// The bytes that the nodes of a text spell, which are handed to a visitor that was handed nothing.
 ///
 /// # Errors
 /// Those of `read_text`.
-fn read_as(
+fn read_to<V: Visitor>(
     alloc: Global,
     limit: Limit,
     profile: Profile,
     text: &str,
-    heads: Heads,
+    visitor: &mut V,
 ) -> Result<Vec<u8>, EdnFault>
-    ensures spelled { IfOk result (λ bytes. IsSpellingAs heads profile limit text.now bytes.items) }
+    requires { V.holds visitor.old (top []) no_part }
+    ensures spelled { IfOk result (λ bytes. IsSpelledTo (V.holds visitor.new) profile limit text.now bytes.items) }
     ensures refused { IfErr result (IsNoNotation profile limit text.now) }
 {
-    let mut writer = Writer::new(alloc, text.len(), heads)?;
-    let here = read_tokens(alloc, limit, profile, text, &mut writer)?;
-    finish(limit, profile, text, here, writer)
+    // Most texts spell fewer bytes than half of theirs.
+    let mut writer = Writer::new(alloc, text.len() / 2)?;
+    let here = read_tokens(alloc, limit, profile, text, &mut writer, visitor)?;
+    finish(limit, profile, text, here, writer, visitor)
 }
 
 impl Writer {
     /// Nothing is written, with room for `room` bytes.
-    pub(crate) fn new(alloc: Global, room: usize, heads: Heads) -> Result<Writer, AllocError>
-        ensures shows { IfOk result (λ w. Shows Here.FIRST w w.out.items start) }
-        ensures heads { IfOk result (λ w. w.heads ≡ heads) }
+    pub(crate) fn new(alloc: Global, room: usize) -> Result<Writer, AllocError>
+        ensures { IfOk result (λ w. Shows Here.FIRST w w.out.items start) }
     {
         Ok(Writer {
-            heads,
             out: Vec::with_capacity(alloc, room)?,
             brackets: Brackets::new(alloc),
             around: Arounds::new(alloc),
@@ -104,24 +112,24 @@ impl Writer {
 }
 
 /// Reads all tokens of the text, and gives where the reader then is.
-fn read_tokens(
+fn read_tokens<V: Visitor>(
     alloc: Global,
     limit: Limit,
     profile: Profile,
     text: &str,
     writer: &mut Writer,
+    visitor: &mut V,
 ) -> Result<Here, EdnFault>
-    requires { Shows Here.FIRST writer.old writer.old.out.items start }
-    ensures read { IfOk result (λ here. IsReading profile limit text.now here writer.new) }
+    requires { Reads (V.holds visitor.old) Here.FIRST writer.old writer.old.out.items start }
+    ensures read { IfOk result (λ here. IsReading (V.holds visitor.new) profile limit text.now here writer.new) }
     ensures whole { IfOk result (λ here. here.at ≡ length text.now) }
     ensures refused { IfErr result (IsNoNotation profile limit text.now) }
-    ensures heads { OnOk result (writer.new.heads ≡ writer.old.heads) }
 {
     let mut here = Here::FIRST;
     'tokens: while here.at < text.len() {
-        if !take_common(limit, profile, text, &mut here, writer)? && here.at < text.len() {
+        if !take_common(limit, profile, text, &mut here, writer, visitor)? && here.at < text.len() {
             let mut next = here.same();
-            take_rare(alloc, limit, profile, text, &mut next, writer)?;
+            take_rare(alloc, limit, profile, text, &mut next, writer, visitor)?;
             here.become_next(next);
         }
     }
@@ -129,42 +137,42 @@ fn read_tokens(
 }
 
 /// Takes what is next in the text, where `take_common` takes nothing.
-fn take_rare(
+fn take_rare<V: Visitor>(
     alloc: Global,
     limit: Limit,
     profile: Profile,
     text: &str,
     here: &mut Here,
     writer: &mut Writer,
+    visitor: &mut V,
 ) -> Result<(), EdnFault>
-    requires reading { IsReading profile limit text.now here.old writer.old }
+    requires reading { IsReading (V.holds visitor.old) profile limit text.now here.old writer.old }
     requires more { here.old.at < length text.now }
-    ensures read { OnOk result (IsReading profile limit text.now here.new writer.new) }
+    ensures read { OnOk result (IsReading (V.holds visitor.new) profile limit text.now here.new writer.new) }
     ensures further { OnOk result (here.old.at < here.new.at) }
     ensures refused { IfErr result (IsNoNotation profile limit text.now) }
-    ensures heads { OnOk result (writer.new.heads ≡ writer.old.heads) }
 {
-    if take_empty_end(limit, profile, text, here, writer)? || here.at == text.len() {
+    if take_empty_end(limit, profile, text, here, writer, visitor)? || here.at == text.len() {
         return Ok(());
     }
-    step(alloc, limit, profile, text, here, writer)
+    step(alloc, limit, profile, text, here, writer, visitor)
 }
 
 /// Reads one token, or the white space up to the text's end.
-fn step(
+fn step<V: Visitor>(
     alloc: Global,
     limit: Limit,
     profile: Profile,
     text: &str,
     here: &mut Here,
     writer: &mut Writer,
+    visitor: &mut V,
 ) -> Result<(), EdnFault>
-    requires reading { IsReading profile limit text.now here.old writer.old }
+    requires reading { IsReading (V.holds visitor.old) profile limit text.now here.old writer.old }
     requires more { here.old.at < length text.now }
-    ensures read { OnOk result (IsReading profile limit text.now here.new writer.new) }
+    ensures read { OnOk result (IsReading (V.holds visitor.new) profile limit text.now here.new writer.new) }
     ensures further { OnOk result (here.old.at < here.new.at) }
     ensures refused { IfErr result (IsNoNotation profile limit text.now) }
-    ensures heads { OnOk result (writer.new.heads ≡ writer.old.heads) }
 {
     let start = bounded_len(&writer.out);
     let (at, phase) = (here.at, here.phase);
@@ -184,7 +192,7 @@ fn step(
     };
     let reach = reach_of(writer.brackets.count(), token.kind, number);
     let trailing = is_trailing_comma(profile, phase, token.kind);
-    let taken = take(token, number, start, here, writer)?;
+    let taken = take(token, number, start, here, writer, visitor)?;
     if let Some(reason) = judge(trailing, taken, reach, limit) {
         let fault = refused(token.start, reason);
         return Err(first_fault(alloc, profile, text, token.stop, fault));
@@ -222,23 +230,24 @@ pub(crate) fn bounded_len(out: &Vec<u8>) -> usize
 }
 
 /// The bytes at the text's end, or the first meaning error, or that the text has to go on.
-fn finish(
+fn finish<V: Visitor>(
     limit: Limit,
     profile: Profile,
     text: &str,
     here: Here,
     writer: Writer,
+    visitor: &mut V,
 ) -> Result<Vec<u8>, EdnFault>
-    requires reading { IsReading profile limit text.now here writer }
+    requires reading { IsReading (V.holds visitor.old) profile limit text.now here writer }
     requires whole { here.at ≡ length text.now }
-    ensures spelled { IfOk result (λ bytes. IsSpellingAs writer.heads profile limit text.now bytes.items) }
+    ensures spelled { IfOk result (λ bytes. IsSpelledTo (V.holds visitor.new) profile limit text.now bytes.items) }
     ensures refused { IfErr result (IsNoNotation profile limit text.now) }
 {
     if !may_end(here.phase, here.level, writer.chunks) {
         return Err(refused(text.len(), EdnReason::UnexpectedEnd));
     }
     let mut writer = writer;
-    end_last(here, &mut writer)?;
+    end_last(here, &mut writer, visitor)?;
     let Writer { out, error, .. } = writer;
     match error {
         Some(error) => Err(EdnFault::Refused {
@@ -262,14 +271,13 @@ fn may_end(phase: Phase, level: Option<Level>, chunks: Option<Chunks>) -> bool
 }
 
 /// Ends the last string, if the text ends with one.
-fn end_last(here: Here, writer: &mut Writer) -> Result<(), AllocError>
-    requires { (s : State) × (t : Input) × Last s t × Shows here writer.old writer.old.out.items s }
-    ensures shows { OnOk result ((s : State) (t : Input) → Last s t → AreModest (held s) → Shows here writer.old writer.old.out.items s → AtEnd t writer.new) }
-    ensures heads { OnOk result (writer.new.heads ≡ writer.old.heads) }
+fn end_last<V: Visitor>(here: Here, writer: &mut Writer, visitor: &mut V) -> Result<(), AllocError>
+    requires { (s : State) × (t : Input) × Last s t × Reads (V.holds visitor.old) here writer.old writer.old.out.items s }
+    ensures { OnOk result ((s : State) (t : Input) → Last s t → AreModest (held s) → Reads (V.holds visitor.old) here writer.old writer.old.out.items s → AtEnd (V.holds visitor.new) t writer.new) }
 {
     let mut here = here;
     if ends_string(here.phase) {
-        return end_item(&mut here, writer);
+        return end_item(&mut here, writer, visitor);
     }
     Ok(())
 }

@@ -4,12 +4,15 @@
 //! Each function answers whether it took something. If it took nothing, `tokens` and `steps` take
 //! what is there. All functions are in line, so that `here` is kept in registers.
 
-ghost use Rattle.std.specs.Prelude.{◌≡◌, ◌≤◌, ◌<◌, ◌⊎◌, true, length, slice_index, IfOk, OnOk};
+ghost use Rattle.std.specs.Prelude.{◌≡◌, ◌≤◌, ◌<◌, ◌⊎◌, [], true, length, slice_index, IfOk, OnOk};
+ghost use Rattle.cborn_lex.specs.declared.classes.Profile.{Profile as ProfileSpec};
+ghost use Rattle.cborn_lex.specs.Good.{TokensBetween};
 ghost use Rattle.cborn_edn.specs.declared.states.Phase.TheVariants as phases;
 ghost use Rattle.cborn_edn.specs.devices.Reading.{IsReading};
 
+use crate::handing::put_simple;
 use crate::integers::integer_at;
-use crate::numbers::{Numeral, close_simple, put_simple};
+use crate::numbers::{Numeral, close_simple};
 use crate::quick_ends::{take_after, take_after_pieces, take_array_end, take_map_end};
 use crate::quick_items::{
     take_array, take_chunked, take_embedded, take_integer, take_map, take_negative, take_text,
@@ -18,55 +21,55 @@ use crate::quick_items::{
 use crate::states::{Here, Phase, Writer};
 use crate::white_space::{begins_white_space, skip_white_space};
 use cborn_lex::Profile;
-use cborn_model::Limit;
+use cborn_model::{Limit, Visitor};
 use std::alloc::AllocError;
 
 /// Takes what is next in the text, if it is frequent.
 #[inline(always)]
-pub(crate) fn take_common(
+pub(crate) fn take_common<V: Visitor>(
     limit: Limit,
     profile: Profile,
     text: &str,
     here: &mut Here,
     writer: &mut Writer,
+    visitor: &mut V,
 ) -> Result<bool, AllocError>
-    requires reading { IsReading profile limit text.now here.old writer.old }
+    requires reading { IsReading (V.holds visitor.old) profile limit text.now here.old writer.old }
     requires inside { here.old.at < length text.now }
-    ensures read { OnOk result (IsReading profile limit text.now here.new writer.new) }
+    ensures read { OnOk result (IsReading (V.holds visitor.new) profile limit text.now here.new writer.new) }
     ensures on { OnOk result (here.old.at ≤ here.new.at) }
     ensures further { IfOk result (λ ok. ok ≡ true → here.old.at < here.new.at) }
-    ensures heads { OnOk result (writer.new.heads ≡ writer.old.heads) }
 {
     match here.phase {
-        Phase::Wants | Phase::WantsMore => take_item(limit, profile, text, here, writer),
-        Phase::Has => take_after(limit, profile, text, here, writer),
-        Phase::Builds => take_after_pieces(limit, profile, text, here, writer),
-        Phase::WantsNumber => take_simple_number(limit, profile, text, here, writer),
-        Phase::HasNumber => take_simple_end(limit, profile, text, here, writer),
+        Phase::Wants | Phase::WantsMore => take_item(limit, profile, text, here, writer, visitor),
+        Phase::Has => take_after(limit, profile, text, here, writer, visitor),
+        Phase::Builds => take_after_pieces(limit, profile, text, here, writer, visitor),
+        Phase::WantsNumber => take_simple_number(limit, profile, text, here, writer, visitor),
+        Phase::HasNumber => take_simple_end(limit, profile, text, here, writer, visitor),
         Phase::WantsChunk => Ok(false),
     }
 }
 
 /// Takes an item and what follows it, a bracket, or white space, where an item is wanted.
 #[inline(always)]
-fn take_item(
+fn take_item<V: Visitor>(
     limit: Limit,
     profile: Profile,
     text: &str,
     here: &mut Here,
     writer: &mut Writer,
+    visitor: &mut V,
 ) -> Result<bool, AllocError>
-    requires reading { IsReading profile limit text.now here.old writer.old }
+    requires reading { IsReading (V.holds visitor.old) profile limit text.now here.old writer.old }
     requires inside { here.old.at < length text.now }
     requires wanted { (here.old.phase ≡ phases.Wants) ⊎ (here.old.phase ≡ phases.WantsMore) }
-    ensures read { OnOk result (IsReading profile limit text.now here.new writer.new) }
+    ensures read { OnOk result (IsReading (V.holds visitor.new) profile limit text.now here.new writer.new) }
     ensures on { OnOk result (here.old.at ≤ here.new.at) }
     ensures further { IfOk result (λ ok. ok ≡ true → here.old.at < here.new.at) }
-    ensures heads { OnOk result (writer.new.heads ≡ writer.old.heads) }
 {
-    let taken = take_first(limit, profile, text, here, writer)?;
+    let taken = take_first(limit, profile, text, here, writer, visitor)?;
     if taken && has_item(here.phase) && here.at < text.len() {
-        take_after(limit, profile, text, here, writer)?;
+        take_after(limit, profile, text, here, writer, visitor)?;
     }
     Ok(taken)
 }
@@ -81,86 +84,86 @@ fn has_item(phase: Phase) -> bool
 
 /// Takes an item, a bracket, or white space, where an item is wanted.
 #[inline(always)]
-fn take_first(
+fn take_first<V: Visitor>(
     limit: Limit,
     profile: Profile,
     text: &str,
     here: &mut Here,
     writer: &mut Writer,
+    visitor: &mut V,
 ) -> Result<bool, AllocError>
-    requires reading { IsReading profile limit text.now here.old writer.old }
+    requires reading { IsReading (V.holds visitor.old) profile limit text.now here.old writer.old }
     requires inside { here.old.at < length text.now }
     requires wanted { (here.old.phase ≡ phases.Wants) ⊎ (here.old.phase ≡ phases.WantsMore) }
-    ensures read { OnOk result (IsReading profile limit text.now here.new writer.new) }
+    ensures read { OnOk result (IsReading (V.holds visitor.new) profile limit text.now here.new writer.new) }
     ensures on { OnOk result (here.old.at ≤ here.new.at) }
     ensures further { IfOk result (λ ok. ok ≡ true → here.old.at < here.new.at) }
-    ensures heads { OnOk result (writer.new.heads ≡ writer.old.heads) }
 {
     match text.as_bytes()[here.at] {
-        b'0'..=b'9' => take_integer(limit, profile, text, here, writer),
-        b'"' => take_text(limit, profile, text, here, writer),
-        b'-' => take_negative(limit, profile, text, here, writer),
-        b'[' => take_row(limit, profile, text, here, writer),
-        b'{' => take_pairs(limit, profile, text, here, writer),
-        b'f' | b'n' | b't' | b'u' => take_word(limit, profile, text, here, writer),
-        b'<' => take_embedded(limit, profile, text, here, writer),
-        b'(' => take_chunked(limit, profile, text, here, writer),
-        _ => take_white_space(limit, profile, text, here, writer),
+        b'0'..=b'9' => take_integer(limit, profile, text, here, writer, visitor),
+        b'"' => take_text(limit, profile, text, here, writer, visitor),
+        b'-' => take_negative(limit, profile, text, here, writer, visitor),
+        b'[' => take_row(limit, profile, text, here, writer, visitor),
+        b'{' => take_pairs(limit, profile, text, here, writer, visitor),
+        b'f' | b'n' | b't' | b'u' => take_word(limit, profile, text, here, writer, visitor),
+        b'<' => take_embedded(limit, profile, text, here, writer, visitor),
+        b'(' => take_chunked(limit, profile, text, here, writer, visitor),
+        _ => take_white_space(limit, profile, text, here, writer, visitor),
     }
 }
 
 /// Takes a `[`, and also the `]` if it follows directly.
 #[inline(always)]
-fn take_row(
+fn take_row<V: Visitor>(
     limit: Limit,
     profile: Profile,
     text: &str,
     here: &mut Here,
     writer: &mut Writer,
+    visitor: &mut V,
 ) -> Result<bool, AllocError>
-    requires reading { IsReading profile limit text.now here.old writer.old }
+    requires reading { IsReading (V.holds visitor.old) profile limit text.now here.old writer.old }
     requires inside { here.old.at < length text.now }
     requires wanted { (here.old.phase ≡ phases.Wants) ⊎ (here.old.phase ≡ phases.WantsMore) }
     requires bracket { slice_index text.now here.old.at ≡ 91 }
-    ensures read { OnOk result (IsReading profile limit text.now here.new writer.new) }
+    ensures read { OnOk result (IsReading (V.holds visitor.new) profile limit text.now here.new writer.new) }
     ensures on { OnOk result (here.old.at ≤ here.new.at) }
     ensures further { IfOk result (λ ok. ok ≡ true → here.old.at < here.new.at) }
-    ensures heads { OnOk result (writer.new.heads ≡ writer.old.heads) }
 {
     if !has_byte_at(b']', text.as_bytes(), here.at + 1) {
-        return take_array(limit, profile, text, here, writer);
+        return take_array(limit, profile, text, here, writer, visitor);
     }
-    let taken = take_array(limit, profile, text, here, writer)?;
+    let taken = take_array(limit, profile, text, here, writer, visitor)?;
     if taken && is_first(here.phase) && has_byte_at(b']', text.as_bytes(), here.at) {
-        take_array_end(limit, profile, text, here, writer)?;
+        take_array_end(limit, profile, text, here, writer, visitor)?;
     }
     Ok(taken)
 }
 
 /// Takes a `{`, and also the `}` if it follows directly.
 #[inline(always)]
-fn take_pairs(
+fn take_pairs<V: Visitor>(
     limit: Limit,
     profile: Profile,
     text: &str,
     here: &mut Here,
     writer: &mut Writer,
+    visitor: &mut V,
 ) -> Result<bool, AllocError>
-    requires reading { IsReading profile limit text.now here.old writer.old }
+    requires reading { IsReading (V.holds visitor.old) profile limit text.now here.old writer.old }
     requires inside { here.old.at < length text.now }
     requires wanted { (here.old.phase ≡ phases.Wants) ⊎ (here.old.phase ≡ phases.WantsMore) }
     requires bracket { slice_index text.now here.old.at ≡ 123 }
-    ensures read { OnOk result (IsReading profile limit text.now here.new writer.new) }
+    ensures read { OnOk result (IsReading (V.holds visitor.new) profile limit text.now here.new writer.new) }
     ensures on { OnOk result (here.old.at ≤ here.new.at) }
     ensures further { IfOk result (λ ok. ok ≡ true → here.old.at < here.new.at) }
-    ensures heads { OnOk result (writer.new.heads ≡ writer.old.heads) }
 {
     if !has_byte_at(b'}', text.as_bytes(), here.at + 1) {
-        return take_map(limit, profile, text, here, writer);
+        return take_map(limit, profile, text, here, writer, visitor);
     }
-    let taken = take_map(limit, profile, text, here, writer)?;
+    let taken = take_map(limit, profile, text, here, writer, visitor)?;
     if taken && is_first(here.phase) && has_byte_at(b'}', text.as_bytes(), here.at) {
-        take_map_end(limit, profile, text, here, writer)?;
+        take_map_end(limit, profile, text, here, writer, visitor)?;
     }
     Ok(taken)
 }
@@ -182,17 +185,13 @@ fn is_first(phase: Phase) -> bool
     matches!(phase, Phase::Wants)
 }
 
-/// Takes a space, if there is one.
+/// Passes over a space, if there is one.
 #[inline(always)]
-pub(crate) fn skip_space(
-    limit: Limit,
-    profile: Profile,
-    text: &str,
-    here: &mut Here,
-    writer: &Writer,
-)
-    requires { IsReading profile limit text.now here.old writer.now }
-    ensures read { IsReading profile limit text.now here.new writer.now }
+pub(crate) fn skip_space(text: &str, here: &mut Here)
+    requires { here.old.at ≤ length text.now }
+    ensures white { (profile : ProfileSpec) → TokensBetween profile text.now here.old.at here.new.at [] }
+    ensures within { here.new.at ≤ length text.now }
+    ensures rest { here.new ≡ record here.old { at = here.new.at } }
     ensures on { here.old.at ≤ here.new.at }
 {
     if has_byte_at(b' ', text.as_bytes(), here.at) {
@@ -202,19 +201,19 @@ pub(crate) fn skip_space(
 
 /// Takes white space, which comments are part of.
 #[inline(always)]
-pub(crate) fn take_white_space(
+pub(crate) fn take_white_space<V: Visitor>(
     limit: Limit,
     profile: Profile,
     text: &str,
     here: &mut Here,
     writer: &mut Writer,
+    visitor: &mut V,
 ) -> Result<bool, AllocError>
-    requires reading { IsReading profile limit text.now here.old writer.old }
+    requires reading { IsReading (V.holds visitor.old) profile limit text.now here.old writer.old }
     requires inside { here.old.at < length text.now }
-    ensures read { OnOk result (IsReading profile limit text.now here.new writer.new) }
+    ensures read { OnOk result (IsReading (V.holds visitor.new) profile limit text.now here.new writer.new) }
     ensures on { OnOk result (here.old.at ≤ here.new.at) }
     ensures further { IfOk result (λ ok. ok ≡ true → here.old.at < here.new.at) }
-    ensures heads { OnOk result (writer.new.heads ≡ writer.old.heads) }
 {
     let bytes = text.as_bytes();
     if !begins_white_space(bytes[here.at]) {
@@ -235,20 +234,20 @@ pub(crate) fn take_white_space(
 
 /// Takes the number in `simple(..)`.
 #[inline(always)]
-fn take_simple_number(
+fn take_simple_number<V: Visitor>(
     limit: Limit,
     profile: Profile,
     text: &str,
     here: &mut Here,
     writer: &mut Writer,
+    visitor: &mut V,
 ) -> Result<bool, AllocError>
-    requires reading { IsReading profile limit text.now here.old writer.old }
+    requires reading { IsReading (V.holds visitor.old) profile limit text.now here.old writer.old }
     requires inside { here.old.at < length text.now }
     requires number { here.old.phase ≡ phases.WantsNumber }
-    ensures read { OnOk result (IsReading profile limit text.now here.new writer.new) }
+    ensures read { OnOk result (IsReading (V.holds visitor.new) profile limit text.now here.new writer.new) }
     ensures on { OnOk result (here.old.at ≤ here.new.at) }
     ensures further { IfOk result (λ ok. ok ≡ true → here.old.at < here.new.at) }
-    ensures heads { OnOk result (writer.new.heads ≡ writer.old.heads) }
 {
     let Some(found) = integer_at(text.as_bytes(), here.at) else {
         return Ok(false);
@@ -264,27 +263,27 @@ fn take_simple_number(
         magnitude: found.number as u128,
         mark: found.mark,
     };
-    put_simple(numeral, here.at, here, writer)?;
+    put_simple(numeral, here.at, here, writer, visitor)?;
     here.at = found.stop;
     Ok(true)
 }
 
 /// Takes the `)` of `simple(..)`.
 #[inline(always)]
-fn take_simple_end(
+fn take_simple_end<V: Visitor>(
     limit: Limit,
     profile: Profile,
     text: &str,
     here: &mut Here,
     writer: &mut Writer,
+    visitor: &mut V,
 ) -> Result<bool, AllocError>
-    requires reading { IsReading profile limit text.now here.old writer.old }
+    requires reading { IsReading (V.holds visitor.old) profile limit text.now here.old writer.old }
     requires inside { here.old.at < length text.now }
     requires number { here.old.phase ≡ phases.HasNumber }
-    ensures read { OnOk result (IsReading profile limit text.now here.new writer.new) }
+    ensures read { OnOk result (IsReading (V.holds visitor.new) profile limit text.now here.new writer.new) }
     ensures on { OnOk result (here.old.at ≤ here.new.at) }
     ensures further { IfOk result (λ ok. ok ≡ true → here.old.at < here.new.at) }
-    ensures heads { OnOk result (writer.new.heads ≡ writer.old.heads) }
 {
     let bytes = text.as_bytes();
     if bytes[here.at] != b')' {

@@ -6,10 +6,10 @@ ghost use Rattle.cborn_edn.specs.Grammar.{Notates};
 ghost use Rattle.cborn_edn.specs.Faults.{IsNoNotation};
 
 use crate::EdnFault;
-use crate::passes::read_text;
-use crate::placing::placed;
+use crate::passes::visit_text;
 use cborn_lex::Profile;
 use cborn_model::{Limit, Spelled};
+use cborn_wire::Nodes;
 use std::alloc::Global;
 
 /// The nodes that `text` notates in that profile of the notation, none of them deeper than `limit`
@@ -17,7 +17,7 @@ use std::alloc::Global;
 /// and that of a chunk the offset of its first piece, in bytes from the start of the text.
 ///
 /// # Errors
-/// Those of [`read_text`](crate::read_text). A text that is refused costs no memory for nodes.
+/// Those of [`read_text`](crate::read_text).
 pub fn read_notation(
     alloc: Global,
     limit: Limit,
@@ -27,7 +27,8 @@ pub fn read_notation(
     ensures notates { IfOk result (λ items. Notates profile limit text.now (trees items.items)) }
     ensures refused { IfErr result (IsNoNotation profile limit text.now) }
 {
-    let bytes = read_text(alloc, limit, profile, text)?;
-    let items = placed(alloc, limit, profile, text, bytes)?;
-    Ok(items)
+    let _most = limit.get();
+    let mut nodes = Nodes::new(alloc);
+    visit_text(alloc, limit, profile, text, &mut nodes)?;
+    Ok(nodes.finish()?)
 }

@@ -3,9 +3,9 @@
 ghost use Rattle.std.specs.Prelude.{IfOk};
 ghost use Rattle.cborn_edn.specs.ShownBytes.{Notates};
 
-use crate::{Notator, ShowFault};
+use crate::Notator;
 use cborn_model::Limit;
-use cborn_wire::{WireFault, WireReason, visit};
+use cborn_wire::{VisitFault, WireReason, visit};
 use std::alloc::{AllocError, Global};
 
 /// The fixed notation of bytes, or why they have none. A `place` is an offset in bytes from their
@@ -32,14 +32,13 @@ pub fn show_bytes(alloc: Global, limit: Limit, bytes: &[u8]) -> Result<Notated, 
     let mut notator = Notator::new(alloc);
     match visit(alloc, limit, bytes, &mut notator) {
         Ok(()) => {}
-        Err(WireFault::Refused { place, reason }) => {
+        Err(VisitFault::Refused { place, reason }) => {
             return Ok(Notated::Malformed { place, reason });
         }
-        Err(WireFault::OutOfMemory) => return Err(AllocError),
+        Err(VisitFault::Memory(refused)) => return Err(refused),
     }
-    match notator.finish() {
-        Ok(text) => Ok(Notated::Text(text)),
-        Err(ShowFault::NotUtf8 { place }) => Ok(Notated::NotUtf8 { place }),
-        Err(ShowFault::OutOfMemory) => Err(AllocError),
+    if let Some(place) = notator.bad {
+        return Ok(Notated::NotUtf8 { place });
     }
+    Ok(Notated::Text(notator.into_text()?))
 }

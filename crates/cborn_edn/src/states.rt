@@ -135,10 +135,12 @@ pub(crate) struct Joint {
 }
 
 /// The chunks of a string that were read so far. The first gives the kind, and `start` is the
-/// offset in the output of the byte in the place of the string's head.
+/// offset in the output of the byte in the place of the string's head. `place` is the offset of the
+/// `(_` in the text.
 #[derive(Clone, Copy)]
 pub(crate) struct Chunks {
     pub(crate) start: usize,
+    pub(crate) place: usize,
     pub(crate) kind: Option<StringKind>,
 }
 
@@ -151,21 +153,10 @@ pub(crate) struct Around {
     pub(crate) error: Option<MeaningError>,
 }
 
-/// How heads are written outside of `<<..>>`. Inside they are the content of a string, and always
-/// as wide as their indicators ask for.
-#[derive(Clone, Copy, PartialEq, Eq)]
-pub(crate) enum Heads {
-    /// As wide as their indicators ask for, and else in their shortest form.
-    AsWritten,
-    /// In their shortest form.
-    Shortest,
-}
-
 /// What is written, and what is open. `string` is there while pieces of a string are read, and
 /// `chunks` while a string in chunks is read.
 #[derive(Drop)]
 pub(crate) struct Writer {
-    pub(crate) heads: Heads,
     pub(crate) out: Vec<u8>,
     pub(crate) brackets: Brackets,
     pub(crate) around: Arounds,
@@ -175,35 +166,6 @@ pub(crate) struct Writer {
     pub(crate) simple: usize,
     /// The first meaning error since the innermost `<<`.
     pub(crate) error: Option<MeaningError>,
-}
-
-impl Writer {
-    ghost use Rattle.std.specs.Prelude.{◌≡◌};
-    ghost use Rattle.cborn_edn.specs.devices.Written.{heads_in, written_mark};
-
-    /// The indicator that decides the width of a head: `mark`, or none where the shortest is
-    /// written.
-    #[inline(always)]
-    pub(crate) fn written(&self, mark: Mark) -> Mark
-        ensures { result ≡ written_mark (heads_in self.now.heads self.now.around) mark }
-    {
-        match mark {
-            Mark::Wide(_) => self.written_wide(mark),
-            _ => mark,
-        }
-    }
-
-    /// The indicator that decides the width of a head. Out of line, since few heads ask for a
-    /// width.
-    #[inline(never)]
-    fn written_wide(&self, mark: Mark) -> Mark
-        ensures { result ≡ written_mark (heads_in self.now.heads self.now.around) mark }
-    {
-        match (mark, self.heads) {
-            (Mark::Wide(_), Heads::Shortest) if self.around.is_empty() => Mark::Absent,
-            _ => mark,
-        }
-    }
 }
 
 /// The open brackets. In contracts they are a list with the innermost first.

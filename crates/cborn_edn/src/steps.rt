@@ -1,76 +1,80 @@
 //! The grammar: what each token does in each phase. Each function answers whether the grammar has
 //! such a token there.
 
-ghost use Rattle.std.specs.Prelude.{◌≡◌, ℕ, ◌<◌, ◌^◌, Bool, IfOk, OnOk};
+ghost use Rattle.std.specs.Prelude.{◌≡◌, ℕ, ◌<◌, ◌^◌, Bool, List, IfOk};
 ghost use Rattle.cborn_edn.specs.devices.Syntax.{Span as Place, Item, Pieces as Joined, StringsBefore, tokens_of_pieces};
 ghost use Rattle.cborn_edn.specs.devices.Machine.{Stack, Home, as_chunk, State, wants, has, builds, wants_chunk, wants_number, has_number};
 ghost use Rattle.cborn_lex.specs.declared.classes.Mark.{Mark as Indicator};
+ghost use Rattle.cborn_lex.specs.Kinds.{class_of};
 ghost use Rattle.cborn_edn.specs.devices.Modest.{AreModest};
 ghost use Rattle.cborn_edn.specs.devices.Shows.{Shows};
-ghost use Rattle.cborn_edn.specs.devices.Steps.{is_piece, IsReady, Takes, Turns, EndsAt};
+ghost use Rattle.cborn_edn.specs.devices.Handed.{Reads};
+ghost use Rattle.cborn_edn.specs.devices.Steps.{is_piece, IsReady, Takes, Turned, Turns, EndsAt};
 
 use crate::endings::{end_array, end_embedded, end_entry, end_key, end_map, end_tag, has_chunks};
-use crate::numbers::{Numeral, close_simple, put_number, put_simple, put_word};
-use crate::openings::{open_array, open_chunks, open_embedded, open_map, open_simple, open_tag};
+use crate::handed_strings::{end_chunk, end_chunks, end_item};
+use crate::handing::{open_array, open_map, open_tag, put_number, put_simple, put_word};
+use crate::numbers::{Numeral, close_simple};
+use crate::openings::{open_chunks, open_embedded, open_simple};
 use crate::states::{Here, Phase, Writer};
-use crate::strings::{StringToken, begin_string, end_chunk, end_chunks, end_item, join};
+use crate::strings::{StringToken, begin_string, join};
 use cborn_lex::{BareToken, Kind};
-use cborn_model::StringKind;
+use cborn_model::{StringKind, Visitor};
 use std::alloc::AllocError;
 
 /// Takes a token that was read. Its number is `number`, and the content of a string is in the
 /// output from the offset `start` on. Answers whether the grammar has such a token here. If not,
 /// `here` and `writer` are not to be used any more.
-pub(crate) fn take(
+pub(crate) fn take<V: Visitor>(
     token: BareToken,
     number: u128,
     start: usize,
     here: &mut Here,
     writer: &mut Writer,
+    visitor: &mut V,
 ) -> Result<bool, AllocError>
-    requires { (s : State) × IsReady token.kind number start here.old writer.old s }
-    ensures shows { IfOk result (λ ok. (s : State) → Takes token.kind number start token.start here.old writer.old here.new writer.new ok s) }
-    ensures heads { OnOk result (writer.new.heads ≡ writer.old.heads) }
+    requires { (s : State) × IsReady (V.holds visitor.old) token.kind number start here.old writer.old s }
+    ensures { IfOk result (λ ok. (s : State) → Takes (V.holds visitor.old) (V.holds visitor.new) token.kind number start token.start here.old writer.old here.new writer.new ok s) }
 {
     match here.phase {
-        Phase::Wants => begin(token, number, start, here, writer),
-        Phase::WantsMore => begin(token, number, start, here, writer),
-        Phase::Has => after(token, number, here, writer),
-        Phase::Builds => more(token, number, start, here, writer),
-        Phase::WantsChunk => begin_chunk(token, number, start, here, writer),
-        Phase::WantsNumber => begin_number(token, number, here, writer),
+        Phase::Wants => begin(token, number, start, here, writer, visitor),
+        Phase::WantsMore => begin(token, number, start, here, writer, visitor),
+        Phase::Has => after(token, number, here, writer, visitor),
+        Phase::Builds => more(token, number, start, here, writer, visitor),
+        Phase::WantsChunk => begin_chunk(token, number, start, here, writer, visitor),
+        Phase::WantsNumber => begin_number(token, number, here, writer, visitor),
         Phase::HasNumber => Ok(after_number(token, number, here, writer)),
     }
 }
 
 /// Takes a token where an item is wanted.
-fn begin(
+fn begin<V: Visitor>(
     token: BareToken,
     number: u128,
     start: usize,
     here: &mut Here,
     writer: &mut Writer,
+    visitor: &mut V,
 ) -> Result<bool, AllocError>
-    requires { (st : Stack) × IsReady token.kind number start here.old writer.old (wants st) }
-    ensures shows { IfOk result (λ ok. (st : Stack) → Takes token.kind number start token.start here.old writer.old here.new writer.new ok (wants st)) }
-    ensures heads { OnOk result (writer.new.heads ≡ writer.old.heads) }
+    requires { (st : Stack) × IsReady (V.holds visitor.old) token.kind number start here.old writer.old (wants st) }
+    ensures { IfOk result (λ ok. (st : Stack) → Takes (V.holds visitor.old) (V.holds visitor.new) token.kind number start token.start here.old writer.old here.new writer.new ok (wants st)) }
 {
     let place = token.start;
     match token.kind {
         Kind::ArrayOpen(mark) => {
-            open_array(mark, place, here, writer)?;
+            open_array(mark, place, here, writer, visitor)?;
             Ok(true)
         }
         Kind::MapOpen(mark) => {
-            open_map(mark, place, here, writer)?;
+            open_map(mark, place, here, writer, visitor)?;
             Ok(true)
         }
         Kind::TagOpen(mark) => {
-            open_tag(number, mark, place, here, writer)?;
+            open_tag(number, mark, place, here, writer, visitor)?;
             Ok(true)
         }
         Kind::ChunkOpen => {
-            open_chunks(here, writer)?;
+            open_chunks(place, here, writer)?;
             Ok(true)
         }
         Kind::SimpleOpen => {
@@ -83,11 +87,11 @@ fn begin(
                 magnitude: number,
                 mark,
             };
-            put_number(numeral, place, here, writer)?;
+            put_number(numeral, place, here, writer, visitor)?;
             Ok(true)
         }
         Kind::Word(n) => {
-            put_word(n, here, writer)?;
+            put_word(n, place, here, writer, visitor)?;
             Ok(true)
         }
         Kind::EmbedOpen => {
@@ -114,8 +118,8 @@ fn begin(
             begin_string(piece, start, here, writer);
             Ok(true)
         }
-        Kind::ArrayClose => end_array(here, writer),
-        Kind::MapClose => end_map(here, writer),
+        Kind::ArrayClose => end_array(here, writer, visitor),
+        Kind::MapClose => end_map(here, writer, visitor),
         Kind::EmbedClose(mark) => Ok(end_embedded(mark, place, here, writer)),
         Kind::ParenClose => Ok(false),
         Kind::Comma => Ok(false),
@@ -124,22 +128,22 @@ fn begin(
 }
 
 /// Takes a token after an item.
-fn after(
+fn after<V: Visitor>(
     token: BareToken,
     number: u128,
     here: &mut Here,
     writer: &mut Writer,
+    visitor: &mut V,
 ) -> Result<bool, AllocError>
     requires few { here.old.count < 2 ^ 63 }
-    requires shows { (st : Stack) × (i : Item) × Shows here.old writer.old writer.old.out.items (has st i) }
-    ensures shows { IfOk result (λ ok. (st : Stack) (i : Item) → Turns token.kind number token.start here.old writer.old here.new writer.new ok (has st i)) }
-    ensures heads { OnOk result (writer.new.heads ≡ writer.old.heads) }
+    requires shows { (st : Stack) × (i : Item) × Reads (V.holds visitor.old) here.old writer.old writer.old.out.items (has st i) }
+    ensures { IfOk result (λ ok. (st : Stack) (i : Item) → Turns (V.holds visitor.old) (V.holds visitor.new) token.kind number token.start here.old writer.old here.new writer.new ok (has st i)) }
 {
     match token.kind {
-        Kind::ArrayClose => end_array(here, writer),
-        Kind::MapClose => end_map(here, writer),
+        Kind::ArrayClose => end_array(here, writer, visitor),
+        Kind::MapClose => end_map(here, writer, visitor),
         Kind::EmbedClose(mark) => Ok(end_embedded(mark, token.start, here, writer)),
-        Kind::ParenClose => Ok(end_tag(here, writer)),
+        Kind::ParenClose => end_tag(here, writer, visitor),
         Kind::Colon => Ok(end_key(here, writer)),
         Kind::Comma => Ok(end_entry(here, writer)),
         _ => Ok(false),
@@ -147,19 +151,19 @@ fn after(
 }
 
 /// Takes a token after pieces of a string or of a chunk: another piece, or what ends them.
-fn more(
+fn more<V: Visitor>(
     token: BareToken,
     number: u128,
     start: usize,
     here: &mut Here,
     writer: &mut Writer,
+    visitor: &mut V,
 ) -> Result<bool, AllocError>
-    requires { (h : Home) × (ps : Joined) × IsReady token.kind number start here.old writer.old (builds h ps) }
-    ensures shows { IfOk result (λ ok. (h : Home) (ps : Joined) → Takes token.kind number start token.start here.old writer.old here.new writer.new ok (builds h ps)) }
-    ensures heads { OnOk result (writer.new.heads ≡ writer.old.heads) }
+    requires { (h : Home) × (ps : Joined) × IsReady (V.holds visitor.old) token.kind number start here.old writer.old (builds h ps) }
+    ensures { IfOk result (λ ok. (h : Home) (ps : Joined) → Takes (V.holds visitor.old) (V.holds visitor.new) token.kind number start token.start here.old writer.old here.new writer.new ok (builds h ps)) }
 {
     if !is_piece(token.kind) {
-        return after_pieces(token, number, here, writer);
+        return after_pieces(token, number, here, writer, visitor);
     }
     match token.kind {
         Kind::Text(mark) => {
@@ -190,43 +194,43 @@ pub(crate) fn is_piece(kind: Kind) -> bool
 }
 
 /// Ends the pieces of a string or of a chunk, and takes the token after them.
-fn after_pieces(
+fn after_pieces<V: Visitor>(
     token: BareToken,
     number: u128,
     here: &mut Here,
     writer: &mut Writer,
+    visitor: &mut V,
 ) -> Result<bool, AllocError>
     requires few { here.old.count < 2 ^ 63 }
-    requires shows { (h : Home) × (ps : Joined) × AreModest (tokens_of_pieces ps) × Shows here.old writer.old writer.old.out.items (builds h ps) }
-    ensures shows { IfOk result (λ ok. (h : Home) (ps : Joined) → AreModest (tokens_of_pieces ps) → EndsAt token.kind number token.start here.old writer.old here.new writer.new ok h ps) }
-    ensures heads { OnOk result (writer.new.heads ≡ writer.old.heads) }
+    requires shows { (h : Home) × (ps : Joined) × AreModest (tokens_of_pieces ps) × Reads (V.holds visitor.old) here.old writer.old writer.old.out.items (builds h ps) }
+    ensures { IfOk result (λ ok. (h : Home) (ps : Joined) → AreModest (tokens_of_pieces ps) → EndsAt (V.holds visitor.old) (V.holds visitor.new) token.kind number token.start here.old writer.old here.new writer.new ok h ps) }
 {
     if has_chunks(writer.chunks) {
-        return after_chunk(token, number, here, writer);
+        return after_chunk(token, number, here, writer, visitor);
     }
-    end_item(here, writer)?;
-    after(token, number, here, writer)
+    end_item(here, writer, visitor)?;
+    after(token, number, here, writer, visitor)
 }
 
 /// Ends a chunk, and takes the comma or the `)` after it.
-fn after_chunk(
+fn after_chunk<V: Visitor>(
     token: BareToken,
     number: u128,
     here: &mut Here,
     writer: &mut Writer,
+    visitor: &mut V,
 ) -> Result<bool, AllocError>
-    requires { (st : Stack) × (s : Place) × (b : StringsBefore) × (ps : Joined) × AreModest (tokens_of_pieces ps) × Shows here.old writer.old writer.old.out.items (builds (as_chunk st s b) ps) }
-    ensures shows { IfOk result (λ ok. (st : Stack) (s : Place) (b : StringsBefore) (ps : Joined) → AreModest (tokens_of_pieces ps) → EndsAt token.kind number token.start here.old writer.old here.new writer.new ok (as_chunk st s b) ps) }
-    ensures heads { OnOk result (writer.new.heads ≡ writer.old.heads) }
+    requires { (st : Stack) × (s : Place) × (b : StringsBefore) × (ps : Joined) × AreModest (tokens_of_pieces ps) × Reads (V.holds visitor.old) here.old writer.old writer.old.out.items (builds (as_chunk st s b) ps) }
+    ensures { IfOk result (λ ok. (st : Stack) (s : Place) (b : StringsBefore) (ps : Joined) → AreModest (tokens_of_pieces ps) → EndsAt (V.holds visitor.old) (V.holds visitor.new) token.kind number token.start here.old writer.old here.new writer.new ok (as_chunk st s b) ps) }
 {
     match token.kind {
         Kind::Comma => {
-            end_chunk(here, writer)?;
+            end_chunk(here, writer, visitor)?;
             Ok(true)
         }
         Kind::ParenClose => {
-            end_chunk(here, writer)?;
-            end_chunks(here, writer)?;
+            end_chunk(here, writer, visitor)?;
+            end_chunks(here, writer, visitor)?;
             Ok(true)
         }
         _ => Ok(false),
@@ -234,16 +238,16 @@ fn after_chunk(
 }
 
 /// Takes a token where a chunk is wanted.
-fn begin_chunk(
+fn begin_chunk<V: Visitor>(
     token: BareToken,
     number: u128,
     start: usize,
     here: &mut Here,
     writer: &mut Writer,
+    visitor: &mut V,
 ) -> Result<bool, AllocError>
-    requires { (st : Stack) × (s : Place) × (b : StringsBefore) × IsReady token.kind number start here.old writer.old (wants_chunk st s b) }
-    ensures shows { IfOk result (λ ok. (st : Stack) (s : Place) (b : StringsBefore) → Takes token.kind number start token.start here.old writer.old here.new writer.new ok (wants_chunk st s b)) }
-    ensures heads { OnOk result (writer.new.heads ≡ writer.old.heads) }
+    requires { (st : Stack) × (s : Place) × (b : StringsBefore) × IsReady (V.holds visitor.old) token.kind number start here.old writer.old (wants_chunk st s b) }
+    ensures { IfOk result (λ ok. (st : Stack) (s : Place) (b : StringsBefore) → Takes (V.holds visitor.old) (V.holds visitor.new) token.kind number start token.start here.old writer.old here.new writer.new ok (wants_chunk st s b)) }
 {
     let place = token.start;
     match token.kind {
@@ -276,14 +280,14 @@ fn begin_chunk(
 }
 
 /// Takes a token where the number of a simple value is wanted.
-fn begin_number(
+fn begin_number<V: Visitor>(
     token: BareToken,
     number: u128,
     here: &mut Here,
     writer: &mut Writer,
+    visitor: &mut V,
 ) -> Result<bool, AllocError>
-    ensures shows { IfOk result (λ ok. (st : Stack) (s : Place) → Turns token.kind number token.start here.old writer.old here.new writer.new ok (wants_number st s)) }
-    ensures heads { OnOk result (writer.new.heads ≡ writer.old.heads) }
+    ensures { IfOk result (λ ok. (st : Stack) (s : Place) → Turns (V.holds visitor.old) (V.holds visitor.new) token.kind number token.start here.old writer.old here.new writer.new ok (wants_number st s)) }
 {
     match token.kind {
         Kind::Number { negative, mark } => {
@@ -292,7 +296,7 @@ fn begin_number(
                 magnitude: number,
                 mark,
             };
-            put_simple(numeral, token.start, here, writer)?;
+            put_simple(numeral, token.start, here, writer, visitor)?;
             Ok(true)
         }
         _ => Ok(false),
@@ -301,7 +305,7 @@ fn begin_number(
 
 /// Takes a token after the number of a simple value.
 fn after_number(token: BareToken, number: u128, here: &mut Here, writer: &Writer) -> bool
-    ensures { (st : Stack) (s b : Place) (n : Bool) (v : ℕ) (m : Indicator) → Turns token.kind number token.start here.old writer.now here.new writer.now result (has_number st s b n v m) }
+    ensures { (st : Stack) (s b a : Place) (n : Bool) (v : ℕ) (m : Indicator) (x : List ℕ) → Shows here.old writer.now writer.now.out.items (has_number st s b n v m) → Turned result (has_number st s b n v m) (class_of token.kind number x) a here.new writer.now }
 {
     match token.kind {
         Kind::ParenClose => {

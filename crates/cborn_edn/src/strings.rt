@@ -1,9 +1,10 @@
 //! Strings piece by piece (RFC 8610 appendix G.4), and their chunks (RFC 8949 section 3.2.3).
 
-ghost use Rattle.std.specs.Prelude.{◌≡◌, ℕ, ◌<◌, ◌++◌, ◌∷◌, List, Bool, length, IsSome, None, OnOk, true, ◌&&◌};
+ghost use Rattle.std.specs.Prelude.{◌≡◌, ℕ, ◌<◌, ◌++◌, ◌∷◌, List, Bool, length, IsSome, Some, None, OnOk, true, ◌&&◌};
 ghost use Rattle.cborn_model.specs.Bytes.{AreBytes};
 ghost use Rattle.cborn_edn.specs.devices.Modest.{AreModest};
 ghost use Rattle.cborn_edn.specs.Says as says;
+ghost use Rattle.cborn_model.specs.declared.visitors.StringKind.{StringKind as Kind};
 ghost use Rattle.cborn_model.specs.declared.visitors.StringKind.TheVariants.{OfText};
 ghost use Rattle.cborn_edn.specs.devices.Syntax.{Span as Place, Pieces as Joined, Strings, StringsBefore, strings, string, chunked, also, piece, after_strings, tokens_of_pieces};
 ghost use Rattle.cborn_edn.specs.devices.Machine.{Stack, Home, as_item, as_chunk, has, builds, wants_chunk};
@@ -144,24 +145,23 @@ fn set_length(major: Major, mark: Mark, start: usize, out: &mut Vec<u8>) -> Resu
     set_head(major, width_for(mark, size), size, start, out)
 }
 
-/// Puts the head of a whole string, with the width of `mark`, in the place of its byte, and notes
-/// what is wrong with the string.
+/// Puts the head of a whole string in the place of its byte, and notes what is wrong with the
+/// string.
 fn close_string(
     string: Joint,
-    mark: Mark,
     out: &mut Vec<u8>,
     error: &mut Option<MeaningError>,
 ) -> Result<(), AllocError>
     requires { string.start < length out.old.items }
-    ensures added { OnOk result ((s : says.Str) (base : List ℕ) → string ≡ joint (length base) s → out.old.items ≡ cut (base ++ (0 ∷ s.bytes)) → out.new.items ≡ cut (base ++ spells.spelled (says.said_string (record s { mark = mark })))) }
+    ensures added { OnOk result ((s : says.Str) (base : List ℕ) → string ≡ joint (length base) s → out.old.items ≡ cut (base ++ (0 ∷ s.bytes)) → out.new.items ≡ cut (base ++ spells.spelled (says.said_string s))) }
     ensures noted { OnOk result ((s : says.Str) (base : List ℕ) → string ≡ joint (length base) s → out.old.items ≡ cut (base ++ (0 ∷ s.bytes)) → (s.known ≡ true → AreBytes s.bytes) → Notes error.old error.new (says.string_errors s.lone s)) }
 {
     note_string(string.lone, string, &out[string.start + 1..], error);
-    if string.lone && is_endless(mark) {
+    if string.lone && is_endless(string.mark) {
         out.truncate(string.start);
         return out.extend_from_slice(&[major_of(string.kind).endless_head(), BREAK]);
     }
-    set_length(major_of(string.kind), mark, string.start, out)
+    set_length(major_of(string.kind), string.mark, string.start, out)
 }
 
 /// Whether a piece of `size` bytes is `''` or `""`.
@@ -187,8 +187,7 @@ pub(crate) struct StringToken {
 #[inline(always)]
 pub(crate) fn begin_string(token: StringToken, start: usize, here: &mut Here, writer: &mut Writer)
     requires { start < length writer.old.out.items }
-    ensures shows { (h : Home) (a : Place) (x base : List ℕ) → token.place ≡ a.start → start ≡ length base → writer.old.out.items ≡ base ++ (0 ∷ x) → AreBytes x → (token.kind ≡ OfText → token.quoted ≡ true) → Shows here.old writer.old base (at_home h None) → Shows here.new writer.new writer.new.out.items (builds h (piece (piece_of token.kind a token.quoted x token.mark))) }
-    ensures heads { writer.new.heads ≡ writer.old.heads }
+    ensures { (h : Home) (a : Place) (x base : List ℕ) → token.place ≡ a.start → start ≡ length base → writer.old.out.items ≡ base ++ (0 ∷ x) → AreBytes x → (token.kind ≡ OfText → token.quoted ≡ true) → Shows here.old writer.old base (at_home h None) → Shows here.new writer.new writer.new.out.items (builds h (piece (piece_of token.kind a token.quoted x token.mark))) }
 {
     writer.string = Some(Joint {
         kind: token.kind,
@@ -205,8 +204,7 @@ pub(crate) fn begin_string(token: StringToken, start: usize, here: &mut Here, wr
 /// Adds a piece at `place` to a string. Its bytes are already in the output.
 pub(crate) fn join(kind: StringKind, place: usize, mark: Mark, writer: &mut Writer)
     requires { IsSome writer.old.string }
-    ensures shows { (here : AnyHere) (h : Home) (ps : Joined) (a : Place) (q : Bool) (x base : List ℕ) → place ≡ a.start → writer.old.out.items ≡ base ++ x → AreBytes x → Shows here writer.old base (builds h ps) → Shows here writer.new writer.new.out.items (builds h (also ps (piece_of kind a q x mark))) }
-    ensures heads { writer.new.heads ≡ writer.old.heads }
+    ensures { (here : AnyHere) (h : Home) (ps : Joined) (a : Place) (q : Bool) (x base : List ℕ) → place ≡ a.start → writer.old.out.items ≡ base ++ x → AreBytes x → Shows here writer.old base (builds h ps) → Shows here writer.new writer.new.out.items (builds h (also ps (piece_of kind a q x mark))) }
 {
     let Some(string) = writer.string else {
         unreachable!();
@@ -225,15 +223,15 @@ pub(crate) fn join(kind: StringKind, place: usize, mark: Mark, writer: &mut Writ
 pub(crate) fn end_item(here: &mut Here, writer: &mut Writer) -> Result<(), AllocError>
     requires { (st : Stack) × (ps : Joined) × Shows here.old writer.old writer.old.out.items (builds (as_item st) ps) }
     ensures shows { OnOk result ((st : Stack) (ps : Joined) → AreModest (tokens_of_pieces ps) → Leads here.old writer.old here.new writer.new (builds (as_item st) ps) (has st (string ps))) }
-    ensures heads { OnOk result (writer.new.heads ≡ writer.old.heads) }
+    ensures added { OnOk result ((s : says.Str) (base : List ℕ) → writer.old.string ≡ Some (joint (length base) s) → writer.old.out.items ≡ cut (base ++ (0 ∷ s.bytes)) → writer.new.out.items ≡ cut (base ++ spells.spelled (says.said_string s))) }
+    ensures noted { OnOk result ((s : says.Str) (base : List ℕ) → writer.old.string ≡ Some (joint (length base) s) → writer.old.out.items ≡ cut (base ++ (0 ∷ s.bytes)) → (s.known ≡ true → AreBytes s.bytes) → Notes writer.old.error writer.new.error (says.string_errors s.lone s)) }
 {
     let Some(joint) = writer.string else {
         unreachable!();
     };
     writer.string = None;
     here.phase = Phase::Has;
-    let mark = writer.written(joint.mark);
-    close_string(joint, mark, &mut writer.out, &mut writer.error)
+    close_string(joint, &mut writer.out, &mut writer.error)
 }
 
 /// Ends a string, which is then a chunk.
@@ -241,7 +239,8 @@ pub(crate) fn end_item(here: &mut Here, writer: &mut Writer) -> Result<(), Alloc
 pub(crate) fn end_chunk(here: &mut Here, writer: &mut Writer) -> Result<(), AllocError>
     requires { (st : Stack) × (s : Place) × (b : StringsBefore) × (ps : Joined) × Shows here.old writer.old writer.old.out.items (builds (as_chunk st s b) ps) }
     ensures shows { OnOk result ((st : Stack) (s a : Place) (b : StringsBefore) (ps : Joined) → AreModest (tokens_of_pieces ps) → Leads here.old writer.old here.new writer.new (builds (as_chunk st s b) ps) (wants_chunk st s (after_strings (strings b ps) a))) }
-    ensures heads { OnOk result (writer.new.heads ≡ writer.old.heads) }
+    ensures added { OnOk result ((kind : Kind) × ((s : says.Str) (base : List ℕ) → writer.old.string ≡ Some (joint (length base) s) → writer.old.out.items ≡ cut (base ++ (0 ∷ s.bytes)) → writer.new.out.items ≡ cut (base ++ spells.chunk_bytes (major_of kind) (says.chunk s)))) }
+    ensures noted { OnOk result ((kind : Kind) × ((s : says.Str) (base : List ℕ) → writer.old.string ≡ Some (joint (length base) s) → writer.old.out.items ≡ cut (base ++ (0 ∷ s.bytes)) → (s.known ≡ true → AreBytes s.bytes) → Notes writer.old.error writer.new.error (says.chunk_errors kind s))) }
 {
     let Some(joint) = writer.string else {
         unreachable!();
@@ -252,12 +251,11 @@ pub(crate) fn end_chunk(here: &mut Here, writer: &mut Writer) -> Result<(), Allo
     let kind = kind_or(chunks.kind, joint.kind);
     writer.string = None;
     writer.chunks = Some(Chunks {
-        start: chunks.start,
         kind: Some(kind),
+        ..chunks
     });
     here.phase = Phase::WantsChunk;
-    let mark = writer.written(joint.mark);
-    close_chunk(kind, joint, mark, &mut writer.out, &mut writer.error)
+    close_chunk(kind, joint, &mut writer.out, &mut writer.error)
 }
 
 /// The kind of the first chunk: `first`, or `next` if there was no chunk before.
@@ -271,17 +269,16 @@ fn kind_or(first: Option<StringKind>, next: StringKind) -> StringKind
     }
 }
 
-/// Puts the head of a chunk, with the width of `mark`, in the place of its byte, and notes what is
-/// wrong with the chunk. `kind` is that of the first chunk.
+/// Puts the head of a chunk in the place of its byte, and notes what is wrong with the chunk.
+/// `kind` is that of the first chunk.
 fn close_chunk(
     kind: StringKind,
     string: Joint,
-    mark: Mark,
     out: &mut Vec<u8>,
     error: &mut Option<MeaningError>,
 ) -> Result<(), AllocError>
     requires { string.start < length out.old.items }
-    ensures added { OnOk result ((s : says.Str) (base : List ℕ) → string ≡ joint (length base) s → out.old.items ≡ cut (base ++ (0 ∷ s.bytes)) → out.new.items ≡ cut (base ++ spells.chunk_bytes (major_of kind) (says.chunk (record s { mark = mark })))) }
+    ensures added { OnOk result ((s : says.Str) (base : List ℕ) → string ≡ joint (length base) s → out.old.items ≡ cut (base ++ (0 ∷ s.bytes)) → out.new.items ≡ cut (base ++ spells.chunk_bytes (major_of kind) (says.chunk s))) }
     ensures noted { OnOk result ((s : says.Str) (base : List ℕ) → string ≡ joint (length base) s → out.old.items ≡ cut (base ++ (0 ∷ s.bytes)) → (s.known ≡ true → AreBytes s.bytes) → Notes error.old error.new (says.chunk_errors kind s)) }
 {
     note_unless(
@@ -291,15 +288,14 @@ fn close_chunk(
         error,
     );
     note_string(false, string, &out[string.start + 1..], error);
-    set_length(major_of(kind), mark, string.start, out)
+    set_length(major_of(kind), string.mark, string.start, out)
 }
 
 /// Ends a string of one or more chunks, which is then an item.
 #[inline(always)]
 pub(crate) fn end_chunks(here: &mut Here, writer: &mut Writer) -> Result<(), AllocError>
     requires { (st : Stack) × (s : Place) × (a : Place) × (ss : Strings) × Shows here.old writer.old writer.old.out.items (wants_chunk st s (after_strings ss a)) }
-    ensures shows { OnOk result ((st : Stack) (s a e : Place) (ss : Strings) → Leads here.old writer.old here.new writer.new (wants_chunk st s (after_strings ss a)) (has st (chunked s ss e))) }
-    ensures heads { OnOk result (writer.new.heads ≡ writer.old.heads) }
+    ensures { OnOk result ((st : Stack) (s a e : Place) (ss : Strings) → Leads here.old writer.old here.new writer.new (wants_chunk st s (after_strings ss a)) (has st (chunked s ss e))) }
 {
     let Some(chunks) = writer.chunks else {
         unreachable!();

@@ -15,22 +15,29 @@ use cborn_det::put_head;
 use cborn_lex::{Profile, plain_run, push_letters};
 use cborn_model::Major;
 
+/// A text string that was read: the offset in the text after it and the white space that follows,
+/// and the length of its content in bytes.
+#[derive(Clone, Copy)]
+pub(crate) struct ShortText {
+    pub(crate) stop: usize,
+    pub(crate) len: usize,
+}
+
 /// Appends the text string whose opening double quote is at the offset `at` of `text`, with its
-/// shortest head, and gives the offset after the white space that follows the string. `None`, and
-/// nothing is changed, if the string has an indicator, if another piece may follow, or if memory
-/// was refused.
+/// shortest head. `None`, and nothing is changed, if the string has an indicator, if another piece
+/// may follow, or if memory was refused.
 #[inline(always)]
 pub(crate) fn push_text(
     profile: Profile,
     text: &[u8],
     at: usize,
     out: &mut Vec<u8>,
-) -> Option<usize>
+) -> Option<ShortText>
     requires inside { at < length text.now }
     requires quote { slice_index text.now at ≡ 34 }
-    ensures within { IfSome result (λ stop. stop ≤ length text.now) }
-    ensures taken { IfSome result (λ stop. (content : List ℕ) × (end : ℕ) × IsTokenAt profile text.now at end (classes.Text content marks.Absent) × (IsUtf8 text.now → IsUtf8 content) × TokensBetween profile text.now end stop [] × (out.new.items ≡ out.old.items ++ (head_bytes 3 (least (length content)) (length content) ++ content))) }
-    ensures ends { IfSome result (λ stop. NoPieceAt text.now stop) }
+    ensures within { IfSome result (λ r. r.stop ≤ length text.now) }
+    ensures taken { IfSome result (λ r. (content : List ℕ) × (end : ℕ) × (length content ≡ r.len) × IsTokenAt profile text.now at end (classes.Text content marks.Absent) × (IsUtf8 text.now → IsUtf8 content) × TokensBetween profile text.now end r.stop [] × (out.new.items ≡ out.old.items ++ (head_bytes 3 (least (length content)) (length content) ++ content))) }
+    ensures ends { IfSome result (λ r. NoPieceAt text.now r.stop) }
     ensures kept { IfNone result (out.new.items ≡ out.old.items) }
 {
     let tail = &text[at + 1..];
@@ -43,7 +50,7 @@ pub(crate) fn push_text(
     }
     let stop = end_of_string(profile, text, at + len + 2)?;
     push_plain(&tail[..len], out)?;
-    Some(stop)
+    Some(ShortText { stop, len })
 }
 
 /// Appends a text string with its shortest head.
@@ -64,31 +71,31 @@ fn push_plain(content: &[u8], out: &mut Vec<u8>) -> Option<()>
 /// Appends a text string that may have escapes, with its shortest head. `None`, and nothing is
 /// changed, where `push_text` gives `None`.
 #[inline(never)]
-fn push_escaped(profile: Profile, text: &[u8], at: usize, out: &mut Vec<u8>) -> Option<usize>
+fn push_escaped(profile: Profile, text: &[u8], at: usize, out: &mut Vec<u8>) -> Option<ShortText>
     requires inside { at < length text.now }
     requires quote { slice_index text.now at ≡ 34 }
-    ensures within { IfSome result (λ stop. stop ≤ length text.now) }
-    ensures taken { IfSome result (λ stop. (content : List ℕ) × (end : ℕ) × IsTokenAt profile text.now at end (classes.Text content marks.Absent) × (IsUtf8 text.now → IsUtf8 content) × TokensBetween profile text.now end stop [] × (out.new.items ≡ out.old.items ++ (head_bytes 3 (least (length content)) (length content) ++ content))) }
-    ensures ends { IfSome result (λ stop. NoPieceAt text.now stop) }
+    ensures within { IfSome result (λ r. r.stop ≤ length text.now) }
+    ensures taken { IfSome result (λ r. (content : List ℕ) × (end : ℕ) × (length content ≡ r.len) × IsTokenAt profile text.now at end (classes.Text content marks.Absent) × (IsUtf8 text.now → IsUtf8 content) × TokensBetween profile text.now end r.stop [] × (out.new.items ≡ out.old.items ++ (head_bytes 3 (least (length content)) (length content) ++ content))) }
+    ensures ends { IfSome result (λ r. NoPieceAt text.now r.stop) }
     ensures kept { IfNone result (out.new.items ≡ out.old.items) }
 {
     let start = out.len();
-    let stop = push_some(profile, text, at, out);
-    if stop.is_none() {
+    let found = push_some(profile, text, at, out);
+    if found.is_none() {
         out.truncate(start);
     }
-    stop
+    found
 }
 
 /// Appends a text string that may have escapes, with its shortest head. After `None` a part of the
 /// string may stay in `out`.
 #[inline(always)]
-fn push_some(profile: Profile, text: &[u8], at: usize, out: &mut Vec<u8>) -> Option<usize>
+fn push_some(profile: Profile, text: &[u8], at: usize, out: &mut Vec<u8>) -> Option<ShortText>
     requires inside { at < length text.now }
     requires quote { slice_index text.now at ≡ 34 }
-    ensures within { IfSome result (λ stop. stop ≤ length text.now) }
-    ensures taken { IfSome result (λ stop. (content : List ℕ) × (end : ℕ) × IsTokenAt profile text.now at end (classes.Text content marks.Absent) × (IsUtf8 text.now → IsUtf8 content) × TokensBetween profile text.now end stop [] × (out.new.items ≡ out.old.items ++ (head_bytes 3 (least (length content)) (length content) ++ content))) }
-    ensures ends { IfSome result (λ stop. NoPieceAt text.now stop) }
+    ensures within { IfSome result (λ r. r.stop ≤ length text.now) }
+    ensures taken { IfSome result (λ r. (content : List ℕ) × (end : ℕ) × (length content ≡ r.len) × IsTokenAt profile text.now at end (classes.Text content marks.Absent) × (IsUtf8 text.now → IsUtf8 content) × TokensBetween profile text.now end r.stop [] × (out.new.items ≡ out.old.items ++ (head_bytes 3 (least (length content)) (length content) ++ content))) }
+    ensures ends { IfSome result (λ r. NoPieceAt text.now r.stop) }
     ensures before { IfNone result (take (length out.old.items) out.new.items ≡ out.old.items) }
 {
     let tail = &text[at + 1..];
@@ -100,11 +107,11 @@ fn push_some(profile: Profile, text: &[u8], at: usize, out: &mut Vec<u8>) -> Opt
         return None;
     };
     let stop = end_of_string(profile, text, at + len + 2)?;
-    let size = out.len() - start - 1;
-    let Ok(()) = set_shortest_head(Major::TextString, size as u64, start, out) else {
+    let len = out.len() - start - 1;
+    let Ok(()) = set_shortest_head(Major::TextString, len as u64, start, out) else {
         return None;
     };
-    Some(stop)
+    Some(ShortText { stop, len })
 }
 
 /// The offset after the white space that follows a string, which ends at the offset `at`. `None` if

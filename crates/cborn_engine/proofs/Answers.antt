@@ -9,4 +9,4 @@ pub mod Noted
 pub mod Telling
 pub mod AtHand
 pub mod Malformed
-pub mod Flawed
+pub mod Spots

@@ -3,7 +3,7 @@ pub mod Encoding
 pub mod Malformed
 pub mod Reading
 pub mod Counts
-pub mod TextBytes
+pub mod Tops
 pub mod CuttingCode
 pub mod Walking
 pub mod Following

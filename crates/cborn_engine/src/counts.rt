@@ -1,8 +1,6 @@
 //! How many items an input has to hold, and whether one that spells nodes does.
-ghost use Rattle.std.specs.Prelude.{◌≡◌, ◌≢◌, ◌≤◌, ◌⊎◌, ℕ, List, length, drop, IfErr, IsUtf8, OnOk};
+ghost use Rattle.std.specs.Prelude.{◌≡◌, ◌≤◌, ◌⊎◌, List, length, IfErr, OnOk};
 ghost use Rattle.cborn_model.specs.Tree.{Tree};
-ghost use Rattle.cborn_wire.specs.Reading.{IsFirstItem};
-ghost use Rattle.cborn_edn.specs.Spelling.{IsShortSpelling};
 ghost use Rattle.cborn_engine.specs.declared.faults.EngineFault.TheVariants as fault;
 ghost use Rattle.cborn_engine.specs.declared.kinds.Kind.TheVariants as kinds;
 ghost use Rattle.cborn_engine.specs.declared.count_faults.CountFault.TheVariants as counted;
@@ -13,11 +11,11 @@ ghost use Rattle.cborn_engine.specs.Counts.{SpellsCount, SpellsOne, IsNotOne};
 ghost use Rattle.cborn_engine.specs.Reading.{most_bytes};
 
 use crate::count_faults::CountFault;
+use crate::first_two::FirstTwo;
 use crate::kinds::{Kind, profile_of};
-use crate::texts::{HeadWidths, bytes_of_text, text_of};
+use crate::texts::hand_text;
 use cborn_lex::Profile;
 use cborn_model::Limit;
-use cborn_text_places::place_in_text;
 use cborn_wire::first_end;
 use std::alloc::Global;
 
@@ -87,7 +85,7 @@ fn one_in_bytes(alloc: Global, limit: Limit, input: &[u8]) -> Result<(), CountFa
     Err(CountFault::MoreItems(end as u64))
 }
 
-/// What `expect_one` answers of a text: of the bytes that it spells.
+/// What `expect_one` answers of a text. It is read to its end.
 fn one_in_text(
     alloc: Global,
     limit: Limit,
@@ -99,42 +97,13 @@ fn one_in_text(
     ensures one { OnOk result (SpellsOne (kind_of profile) limit input.now) }
     ensures refused { IfErr result (λ why. (why ≡ counted.Engine fault.OutOfMemory) ⊎ IsNotOne (kind_of profile) limit input.now why) }
 {
-    let bytes = bytes_of_text(alloc, limit, profile, HeadWidths::Shortest, input)?;
-    let most = limit.get();
-    prove!(most <= 1024);
-    let Some(end) = first_end(alloc, &bytes)? else {
+    let mut items = FirstTwo::new(alloc);
+    hand_text(alloc, limit, profile, input, &mut items)?;
+    if items.first.is_none() {
         return Err(CountFault::NoItem(input.len() as u64));
-    };
-    if end == bytes.len() {
-        return Ok(());
     }
-    Err(second_in_text(alloc, limit, profile, input, bytes, end))
-}
-
-/// Where in a text that spells these bytes its second node starts. The first ends in the bytes at
-/// `end`.
-fn second_in_text(
-    alloc: Global,
-    limit: Limit,
-    profile: Profile,
-    input: &[u8],
-    bytes: Vec<u8>,
-    end: usize,
-) -> CountFault
-    requires short { length input.now ≤ most_bytes }
-    requires text { IsUtf8 input.now }
-    requires spelled { IsShortSpelling profile limit input.now bytes.items }
-    requires within { end ≤ length bytes.items }
-    requires more { end ≢ length bytes.items }
-    requires first { (t : Tree) × IsFirstItem 1024 0 t bytes.items (drop end bytes.items) }
-    ensures { (result ≡ counted.Engine fault.OutOfMemory) ⊎ IsNotOne (kind_of profile) limit input.now result }
-{
-    let Ok(text) = text_of(input) else {
-        unreachable!();
-    };
-    match place_in_text(alloc, profile, text, bytes, end as u64) {
-        Ok(Some(place)) => CountFault::MoreItems(place),
-        Ok(None) => unreachable!(),
-        Err(refused) => CountFault::from(refused),
+    match items.second {
+        None => Ok(()),
+        Some(place) => Err(CountFault::MoreItems(place)),
     }
 }

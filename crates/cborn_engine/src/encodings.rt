@@ -1,5 +1,5 @@
-//! Encoding what a whole input holds. Bytes are judged, and their encodings are written as they are
-//! read; no tree is kept. A text becomes bytes first, which are judged.
+//! Encoding what a whole input holds. The encodings are written as bytes or a text are read; no tree is
+//! kept.
 ghost use Rattle.std.specs.Prelude.{◌≡◌, ◌≤◌, ℕ, length, IsTrue};
 ghost use Rattle.cborn_engine.specs.declared.kinds.Kind.TheVariants as kinds;
 ghost use Rattle.cborn_engine.specs.devices.Encoding.{EncodeAnswers, IsEncoded, kind_of};
@@ -11,10 +11,10 @@ use crate::faults::EngineFault;
 use crate::fronts::is_deterministic;
 use crate::judgments::judge_bytes;
 use crate::kinds::{Kind, profile_of};
-use crate::refusals::flaw_of_text;
-use crate::texts::{HeadWidths, bytes_of_text};
+use crate::texts::hand_text;
+use cborn_judge::Encoder;
 use cborn_lex::Profile;
-use cborn_model::{KeyOrder, Limit};
+use cborn_model::{Invalid, KeyOrder, Limit};
 use std::alloc::Global;
 
 /// Whether the whole input is the deterministic encodings of what it holds, one after another. False of
@@ -60,8 +60,7 @@ fn encode_bytes<O: KeyOrder>(
     Ok(encoded.bytes)
 }
 
-/// What `encode_input` answers of a text: it is spelled, and these bytes are judged. Their flaw is one
-/// of the text.
+/// What `encode_input` answers of a text.
 fn encode_text<O: KeyOrder>(
     alloc: Global,
     limit: Limit,
@@ -72,12 +71,10 @@ fn encode_text<O: KeyOrder>(
     ensures answers { length input.now ≤ most_bytes → EncodeAnswers O.order (kind_of profile) limit most_bytes input.now result }
     ensures failures { (n : ℕ) → read_failures result n ≡ n }
 {
-    let bytes = bytes_of_text(alloc, limit, profile, HeadWidths::Shortest, input)?;
-    if is_deterministic::<O>(limit, &bytes) {
-        return Ok(bytes);
-    }
-    match judge_bytes::<O>(alloc, limit, &bytes) {
+    let mut encoder = Encoder::<O>::with_capacity(alloc, input.len() / 2)?;
+    hand_text(alloc, limit, profile, input, &mut encoder)?;
+    match encoder.finish() {
         Ok(encoded) => Ok(encoded.bytes),
-        Err(why) => Err(flaw_of_text(alloc, limit, profile, input, bytes, why)),
+        Err((place, reason)) => Err(EngineFault::Invalid(Invalid::Refused { place, reason })),
     }
 }

@@ -13,8 +13,8 @@ use crate::faults::EngineFault;
 use crate::refusals::fault_or_refusal;
 use cborn_judge::{EncodedItems, Encoder};
 use cborn_model::{Invalid, KeyOrder, Limit, Visitor};
-use cborn_wire::{WireFault, visit};
-use std::alloc::{AllocError, Global};
+use cborn_wire::{VisitFault, WireFault, visit};
+use std::alloc::Global;
 
 /// The deterministic encodings of the items that bytes hold, the keys of maps in the order `O`, and
 /// the first defect of the bytes, if they aren't these encodings (RFC 8949 section 4.2). Where memory
@@ -58,10 +58,10 @@ fn judge_with<O: KeyOrder>(
     let mut encoder = encoder;
     match visit(alloc, limit, input, &mut encoder) {
         Ok(()) => {}
-        Err(WireFault::Refused { place, reason }) => {
+        Err(VisitFault::Refused { place, reason }) => {
             return Err(EngineFault::Wire(WireFault::Refused { place, reason }));
         }
-        Err(WireFault::OutOfMemory) => return Err(fault_or_refusal(AllocError, limit, input)),
+        Err(VisitFault::Memory(refused)) => return Err(fault_or_refusal(refused, limit, input)),
     }
     match encoder.finish() {
         Ok(encoded) => Ok(encoded),

@@ -38,6 +38,7 @@ mod counts;
 mod differences;
 mod encodings;
 mod faults;
+mod first_two;
 mod fronts;
 mod inputs;
 mod items;

@@ -19,7 +19,7 @@ use crate::inputs::MOST;
 use crate::kinds::{Kind, profile_of};
 use crate::refusals::{fault_of_bytes, fault_or_refusal};
 use crate::sources::Source;
-use crate::texts::{HeadWidths, bytes_of_text};
+use crate::texts::bytes_of_text;
 use crate::whole_inputs::read_bytes;
 use cborn_edn::{Notated, ShowFault, show_bytes};
 use cborn_lex::Profile;
@@ -169,7 +169,7 @@ fn tell_text(
     ensures answers { length input.now ≤ most_bytes → TellAnswers (kind_of profile) out_kind limit most_bytes input.now result }
     ensures failures { (n : ℕ) → read_failures result n ≡ n }
 {
-    let bytes = bytes_of_text(alloc, limit, profile, HeadWidths::AsWritten, input)?;
+    let bytes = bytes_of_text(alloc, limit, profile, input)?;
     tell_spelling(alloc, limit, out_kind, bytes)
 }
 
@@ -185,7 +185,7 @@ fn tell_read_text(
     ensures answers { length input.items ≤ most_bytes → TellAnswers (kind_of profile) out_kind limit most_bytes input.items result }
     ensures failures { (n : ℕ) → read_failures result n ≡ n }
 {
-    let bytes = bytes_of_text(alloc, limit, profile, HeadWidths::AsWritten, &input)?;
+    let bytes = bytes_of_text(alloc, limit, profile, &input)?;
     drop(input);
     tell_spelling(alloc, limit, out_kind, bytes)
 }

@@ -1,16 +1,19 @@
 //! The text that the bytes of an input are.
-ghost use Rattle.std.specs.Prelude.{◌≡◌, ◌≤◌, ℕ, length, IfOk, IfErr, IsUtf8};
+ghost use Rattle.std.specs.Prelude.{◌≡◌, ◌≤◌, ℕ, List, [], length, IfOk, IfErr, OnOk, IsUtf8};
 ghost use Rattle.cborn_lex.specs.declared.classes.Profile.{Profile as ProfileSpec};
 ghost use Rattle.cborn_engine.specs.devices.Encoding.{kind_of};
-ghost use Rattle.cborn_engine.specs.devices.TextBytes.{IsSpellingWith};
+ghost use Rattle.cborn_model.specs.Partial.{top, no_part};
+ghost use Rattle.cborn_model.specs.Tree.{Tree, trees};
+ghost use Rattle.cborn_edn.specs.Grammar.{Notates};
+ghost use Rattle.cborn_edn.specs.Spelling.{IsSpelling};
 ghost use Rattle.cborn_engine.specs.Loading.{IsNoFlaw};
 ghost use Rattle.cborn_engine.specs.devices.Counting.{read_failures};
 ghost use Rattle.cborn_engine.specs.Refusing.{IsRefused};
 
 use crate::faults::EngineFault;
-use cborn_edn::{read_shortest, read_text};
+use cborn_edn::{read_text, visit_text};
 use cborn_lex::Profile;
-use cborn_model::Limit;
+use cborn_model::{Limit, Visitor};
 use simdutf8::compat::from_utf8;
 use std::alloc::Global;
 
@@ -30,16 +33,7 @@ pub fn text_of(bytes: &[u8]) -> Result<&str, EngineFault>
     }
 }
 
-/// How wide the heads are in the bytes of a text.
-#[derive(Clone, Copy)]
-pub enum HeadWidths {
-    /// As wide as the text asks for.
-    AsWritten,
-    /// In their shortest form, outside of `<<..>>`.
-    Shortest,
-}
-
-/// The bytes that the nodes spell which a text notates, with heads of these widths.
+/// The bytes that the nodes spell which a text notates.
 ///
 /// # Errors
 /// `TextInput` where the text isn't UTF-8, `Edn` with the fault of its tokens, of its syntax or of its
@@ -48,16 +42,33 @@ pub fn bytes_of_text(
     alloc: Global,
     limit: Limit,
     profile: Profile,
-    heads: HeadWidths,
     input: &[u8],
 ) -> Result<Vec<u8>, EngineFault>
-    ensures spelled { IfOk result (λ bytes. IsUtf8 input.now × IsSpellingWith heads profile limit input.now bytes.items) }
+    ensures spelled { IfOk result (λ bytes. IsUtf8 input.now × IsSpelling profile limit input.now bytes.items) }
     ensures refused { IfErr result (λ why. (most : ℕ) → length input.now ≤ most → IsRefused (kind_of profile) limit most input.now why × IsNoFlaw why) }
     ensures failures { (n : ℕ) → read_failures result n ≡ n }
 {
     let text = text_of(input)?;
-    match heads {
-        HeadWidths::AsWritten => Ok(read_text(alloc, limit, profile, text)?),
-        HeadWidths::Shortest => Ok(read_shortest(alloc, limit, profile, text)?),
-    }
+    Ok(read_text(alloc, limit, profile, text)?)
+}
+
+/// Hands the nodes that a text notates to a visitor that was handed nothing, with their places in the
+/// text.
+///
+/// # Errors
+/// Those of [`bytes_of_text`]. Then nothing is known of the visitor.
+pub fn hand_text<V: Visitor>(
+    alloc: Global,
+    limit: Limit,
+    profile: Profile,
+    input: &[u8],
+    visitor: &mut V,
+) -> Result<(), EngineFault>
+    requires { V.holds visitor.old (top []) no_part }
+    ensures nodes { OnOk result (IsUtf8 input.now × ((nodes : List Tree) × V.holds visitor.new (top nodes) no_part × Notates profile limit input.now (trees nodes))) }
+    ensures refused { IfErr result (λ why. (most : ℕ) → length input.now ≤ most → IsRefused (kind_of profile) limit most input.now why × IsNoFlaw why) }
+    ensures failures { (n : ℕ) → read_failures result n ≡ n }
+{
+    let text = text_of(input)?;
+    Ok(visit_text(alloc, limit, profile, text, visitor)?)
 }

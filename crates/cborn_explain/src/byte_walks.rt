@@ -1,14 +1,14 @@
 //! A walk over the first bytes of an input: what is open at their end, and where the parts of that
 //! begin.
 
-ghost use Rattle.std.specs.Prelude.{◌≡◌, ◌≤◌, ◌⊎◌, length, IfOk, OnOk, Err};
-ghost use Rattle.cborn_wire.specs.declared.faults.WireFault.TheVariants.{OutOfMemory};
+ghost use Rattle.std.specs.Prelude.{◌≡◌, ◌≤◌, ◌⊎◌, length, IfOk, OnOk, Err, alloc_error};
+ghost use Rattle.cborn_wire.specs.declared.faults.VisitFault.TheVariants.{Memory};
 ghost use Rattle.cborn_explain.specs.devices.Walks.{step_of, path_of, place_at, IsWalked};
 
 use crate::part_places::PartPlaces;
 use crate::paths::{Path, Step};
 use cborn_model::Limit;
-use cborn_wire::{GrownLevels, HeadReader, Level, LevelKind, Until, WireFault};
+use cborn_wire::{GrownLevels, HeadReader, Level, LevelKind, Until, VisitFault};
 use std::alloc::{AllocError, Global};
 
 /// A walk from head to head, between two of them.
@@ -99,11 +99,11 @@ impl Walk {
 }
 
 /// Fails if memory was refused to a reader.
-fn had_memory(read: Result<usize, WireFault>) -> Result<(), AllocError>
-    ensures { OnOk result (read ≡ Err OutOfMemory → ⊥) }
+fn had_memory(read: Result<usize, VisitFault>) -> Result<(), AllocError>
+    ensures { OnOk result (read ≡ Err (Memory alloc_error) → ⊥) }
 {
     match read {
-        Err(WireFault::OutOfMemory) => Err(AllocError),
+        Err(VisitFault::Memory(refused)) => Err(refused),
         _ => Ok(()),
     }
 }

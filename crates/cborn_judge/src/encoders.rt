@@ -3,7 +3,7 @@
 ghost use Rattle.std.specs.Prelude.{◌≡◌, ◌++◌, ◌∷◌, ◌↔◌, ℕ, List, [], length, take, drop, Option, None, Some, true, false, IfOk, IfErr, OnOk, IsTrue};
 ghost use Rattle.cborn_model.specs.Tree as tree;
 ghost use Rattle.cborn_model.specs.Tree.{Tree, trees};
-ghost use Rattle.cborn_model.specs.Partial.{Partial, Opening, top, inside, put, no_part, IsFree, string_tree};
+ghost use Rattle.cborn_model.specs.Partial.{Partial, Opening, top, inside, put, no_part, IsFree, Ends, built, string_tree};
 ghost use Rattle.cborn_model.specs.shared.Runs.{puts, InArray, AtKey};
 ghost use Rattle.std.specs.declared.cmp.Ordering.{Ordering};
 ghost use Rattle.cborn_model.specs.Reasons.{flaw_rank};
@@ -13,10 +13,8 @@ ghost use Rattle.cborn_judge.specs.shared.Checked.{DefectInAll};
 ghost use Rattle.cborn_judge.specs.shared.Judged.{FlawIn};
 ghost use Rattle.cborn_model.specs.Heads.{code, IsLeastHead};
 ghost use Rattle.cborn_det.specs.Appending.{Appends};
-ghost use Rattle.cborn_model.specs.declared.heads.Size.{Size};
-ghost use Rattle.cborn_judge.specs.declared.levels.Container.TheVariants as containers;
 ghost use Rattle.cborn_judge.specs.devices.Marks.{marks_of};
-ghost use Rattle.cborn_judge.specs.devices.Encoding.{is_chunks, Mark, Coded, IsEncodedAs, AreEncodedAs, IsOpening, IsFront, Finds};
+ghost use Rattle.cborn_judge.specs.devices.Encoding.{is_chunks, IsMarked, Coded, IsEncodedAs, AreEncodedAs, IsOpening, IsFront, Stands, Finds};
 ghost use Rattle.cborn_judge.specs.devices.Encoders.{kept, IsHeld, StandsIn, StandsAs, Written, IsChunk, BeginsAs, IsContent, IsEndedString, IsStringFront, kind_major};
 
 use crate::flaws::{Flaw, keep, text_flaw};
@@ -102,9 +100,9 @@ impl Encodings {
         ensures held { OnOk result ((order : List ℕ → List ℕ → Ordering) (f : Partial) (t : Tree) (y x : List ℕ) → IsFree f → tree.place t ≡ place → self.old.out.items ≡ y ++ x → start ≡ length y → Coded order t x → StandsAs order self.old f y → StandsIn order self.new (put f t)) }
     {
         let end = self.out.len();
-        self.mark(place, start, end)?;
+        let has_key = self.innermost.has_key();
         self.innermost.add(end <= start);
-        Ok(())
+        self.mark(has_key, place, start, end)
     }
 
     /// Counts whole items of an array, whose encodings are `spelled`, and writes these.
@@ -133,17 +131,21 @@ impl Encodings {
         Ok(())
     }
 
-    /// Marks the key or the value that stands in the buffer from `start` to `end`, if the innermost
-    /// container is a map.
+    /// Marks what stands in the buffer from `start` to `end`, if the innermost container is a map: the
+    /// value, if it `has_key`, else the key.
     #[inline(always)]
-    fn mark(&mut self, place: u64, start: usize, end: usize) -> Result<(), AllocError>
-        ensures plain { OnOk result (((s : Size) (c : Option ℕ) → self.old.innermost.container ≡ containers.Map s c → ⊥) → marks_of self.new.pairs ≡ marks_of self.old.pairs) }
-        ensures key { OnOk result ((s : Size) (c : Option ℕ) → self.old.innermost.container ≡ containers.Map s c → self.old.innermost.has_key ≡ false → marks_of self.new.pairs ≡ marks_of self.old.pairs ++ (place, start, end, end) ∷ []) }
-        ensures value { OnOk result ((s : Size) (c : Option ℕ) → self.old.innermost.container ≡ containers.Map s c → self.old.innermost.has_key ≡ true → (ms : List Mark) (p b m n : ℕ) → marks_of self.old.pairs ≡ ms ++ (p, b, m, n) ∷ [] → marks_of self.new.pairs ≡ ms ++ (p, b, m, end) ∷ []) }
+    fn mark(
+        &mut self,
+        has_key: bool,
+        place: u64,
+        start: usize,
+        end: usize,
+    ) -> Result<(), AllocError>
+        ensures marked { OnOk result (IsMarked self.old.innermost.container has_key (place, start, end, end) (marks_of self.old.pairs) (marks_of self.new.pairs)) }
         ensures kept { (self.new.out ≡ self.old.out) × (self.new.innermost ≡ self.old.innermost) × (self.new.outer ≡ self.old.outer) }
     {
         match self.innermost.container {
-            Container::Map { .. } if self.innermost.has_key => self.pairs.set_end(end),
+            Container::Map { .. } if has_key => self.pairs.set_end(end),
             Container::Map { .. } => self.pairs.push(place, start, end),
             _ => Ok(()),
         }
@@ -218,19 +220,6 @@ impl Encodings {
         if !is_kept {
             self.out.truncate(start);
         }
-    }
-
-    /// Leaves the innermost container, and gives it; the input stays.
-    #[inline(always)]
-    pub(crate) fn leave(&mut self) -> Level
-        ensures left { (os : List Level) (l m : Level) → self.old.outer.items ≡ os ++ l ∷ [] → self.old.innermost ≡ m → (self.new.outer.items ≡ os) × (self.new.innermost ≡ l) × (result ≡ m) }
-        ensures kept { (self.new.out ≡ self.old.out) × (self.new.pairs ≡ self.old.pairs) }
-    {
-        let level = self.innermost;
-        if let Some(around) = self.outer.pop() {
-            self.innermost = around;
-        }
-        level
     }
 }
 
@@ -365,6 +354,7 @@ impl<O: KeyOrder> Visitor for Encoder<O> {
         self.encodings.put(place, start)
     }
 
+    #[inline(always)]
     fn simple(&mut self, place: u64, n: u8) -> Result<(), AllocError> {
         let start = self.encodings.out.len();
         put_head(Major::Other, u64::from(n), &mut self.encodings.out)?;
@@ -389,11 +379,19 @@ impl<O: KeyOrder> Visitor for Encoder<O> {
     }
 
     fn close(&mut self) -> Result<(), AllocError> {
-        let level = self.encodings.leave();
-        let found = self.encodings.end::<O>(self.alloc, level)?;
-        keep(&mut self.flaw, found.flaw);
-        keep(&mut self.defect, found.defect);
-        self.encodings.put(level.place, level.start)
+        match self.encodings.innermost.container {
+            Container::Input => Ok(()),
+            Container::Array { size, count } if self.is_short(size, count) => {
+                self.end_array(size, count)
+            }
+            Container::Array { size, count } => self.close_array(size, count),
+            Container::Map { size, count } => self.close_map(size, count),
+            Container::Tag { width, number } if self.is_plain(width, number) => {
+                self.end_tag(width, number)
+            }
+            Container::Tag { width, number } => self.close_tag(width, number),
+            Container::Chunks(kind) => self.close_chunks(kind),
+        }
     }
 
     #[inline(always)]

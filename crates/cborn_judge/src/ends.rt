@@ -3,8 +3,10 @@
 
 ghost use Rattle.std.specs.Prelude.{◌≡◌, ◌++◌, ◌∷◌, ◌<◌, ℕ, List, [], length, take, drop, true, false, None, Some, IfOk, IfSome, OnOk};
 ghost use Rattle.std.specs.declared.cmp.Ordering.{Ordering};
-ghost use Rattle.cborn_model.specs.Partial.{Opening, an_array, a_map, a_tag, in_chunks};
+ghost use Rattle.cborn_model.specs.Partial.{Partial, Opening, an_array, a_map, a_tag, in_chunks, inside, put, no_part, IsFree, Ends, built};
 ghost use Rattle.cborn_model.specs.Heads.{code, IsLeastHead};
+ghost use Rattle.cborn_model.specs.Orders.{IsKeyOrder};
+ghost use Rattle.cborn_model.specs.Tree as tree;
 ghost use Rattle.cborn_model.specs.Tree.{Tree};
 ghost use Rattle.cborn_model.specs.Valid.{IsProper};
 ghost use Rattle.cborn_model.specs.Value as value;
@@ -13,18 +15,19 @@ ghost use Rattle.cborn_det.specs.Appending.{Replaces};
 ghost use Rattle.cborn_det.specs.Det.{Det, joined};
 ghost use Rattle.cborn_judge.specs.Departures.{FindsDefect};
 ghost use Rattle.cborn_judge.specs.shared.Judged.{FindsFlaw};
-ghost use Rattle.cborn_judge.specs.devices.Encoding.{Row, row_entries, Mark, AreMarked, AreFilled, AreArranged, RowRepeat, RowDescent, Opens, IsSound, AreEncodedAs};
+ghost use Rattle.cborn_judge.specs.devices.Encoding.{Row, row_entries, Mark, AreMarked, AreFilled, AreArranged, RowRepeat, RowDescent, IsSound, AreEncodedAs, Coded, Stands, Finds};
 ghost use Rattle.cborn_judge.specs.devices.Marks.{marks_of};
-ghost use Rattle.cborn_judge.specs.devices.Encoders.{EndsWell, EndsBignum, IsBignumFound};
+ghost use Rattle.cborn_judge.specs.devices.Encoders.{EndsWell, EndsBignum, Closes, HasEnded, KeysRise, IsBignumFound, StandsIn, IsHeld};
+ghost use Rattle.cborn_judge.specs.declared.levels.Container.TheVariants as container;
 
-use crate::encoders::{Encodings, major_of};
-use crate::flaws::Flaw;
+use crate::encoders::{Encoder, Encodings, major_of};
+use crate::flaws::{Flaw, keep};
 use crate::levels::{Container, Level};
-use crate::spellings::{head_defect, loose_defect, size_defect};
+use crate::spellings::{ended_defect, head_defect, loose_defect};
 use cborn_det::{push_integer, set_head};
 use cborn_model::{
     Defect, DefectReason, InvalidReason, KeyOrder, Major, Size, StringKind, Width, earliest,
-    ended_size, without_zeros,
+    shortest, without_zeros,
 };
 use std::alloc::{AllocError, Global};
 
@@ -36,41 +39,30 @@ pub(crate) struct Findings {
 }
 
 impl Encodings {
-    /// Ends a container that was left: what stands of it in the buffer becomes its encoding, or goes
-    /// if it means nothing.
-    pub(crate) fn end<O: KeyOrder>(
-        &mut self,
-        alloc: Global,
-        level: Level,
-    ) -> Result<Findings, AllocError>
-        ensures ended { IfOk result (λ found. (o : Opening) (ns own : List Mark) → marks_of self.old.pairs ≡ ns ++ own → level.pairs ≡ length ns → Opens level o → EndsWell O.order level o own self.old.out.items self.new.out.items found) }
-        ensures marks { IfOk result (λ found. marks_of self.new.pairs ≡ take level.pairs (marks_of self.old.pairs)) }
-        ensures kept { (self.new.outer ≡ self.old.outer) × (self.new.innermost ≡ self.old.innermost) }
+    /// Leaves the innermost container, whose encoding stands in the buffer, or nothing if it means
+    /// nothing, and counts it in the one around it.
+    #[inline(always)]
+    pub(crate) fn leave(&mut self) -> Result<(), AllocError>
+        ensures held { OnOk result ((order : List ℕ → List ℕ → Ordering) (f : Partial) (t : Tree) (os : List Level) (l : Level) (x c : List ℕ) → IsFree f → tree.place t ≡ self.old.innermost.place → self.old.outer.items ≡ os ++ l ∷ [] → self.old.out.items ≡ x ++ c → self.old.innermost.start ≡ length x → Coded order t c → Stands order os l f (marks_of self.old.pairs) x → StandsIn order self.new (put f t)) }
     {
-        let found = match level.container {
-            Container::Input => Findings {
-                flaw: None,
-                defect: None,
-            },
-            Container::Array { size, count } => end_array(
-                alloc,
-                level,
-                size,
-                count,
-                &mut self.out,
-            )?,
-            Container::Map { size, count } => self.end_map::<O>(alloc, level, size, count)?,
-            Container::Tag { width, number } => {
-                let spare = &mut self.spare;
-                end_tag(level, width, number, spare, &mut self.out)?
-            }
-            Container::Chunks(kind) => end_chunks(alloc, level, kind, &mut self.out)?,
-        };
-        self.pairs.truncate(level.pairs);
-        Ok(found)
+        let Level { place, start, .. } = self.innermost;
+        self.step_out();
+        self.put(place, start)
+    }
+
+    /// Makes the container around the innermost the innermost; the input stays.
+    #[inline(always)]
+    fn step_out(&mut self)
+        ensures left { (os : List Level) (l : Level) → self.old.outer.items ≡ os ++ l ∷ [] → (self.new.outer.items ≡ os) × (self.new.innermost ≡ l) }
+        ensures kept { (self.new.out ≡ self.old.out) × (self.new.pairs ≡ self.old.pairs) }
+    {
+        if let Some(around) = self.outer.pop() {
+            self.innermost = around;
+        }
     }
 
     /// Ends a map.
+    #[inline(always)]
     fn end_map<O: KeyOrder>(
         &mut self,
         alloc: Global,
@@ -83,13 +75,10 @@ impl Encodings {
         ensures kept { (self.new.outer ≡ self.old.outer) × (self.new.innermost ≡ self.old.innermost) }
     {
         let len = self.pairs.len().saturating_sub(level.pairs) as u64;
-        let own = size_defect(level.place, ended_size(size, count, len), len);
+        let own = ended_defect(level.place, size, count, len);
         let Findings { flaw, defect } = self.arrange::<O>(level)?;
-        let head = Head {
-            major: Major::Map,
-            count,
-            len,
-        };
+        let major = Major::Map;
+        let head = Head { major, count, len };
         let is_flawed = level.flawed || flaw.is_some();
         end_head(alloc, head, level.start, is_flawed, &mut self.out)?;
         let defect = earliest(own, defect);
@@ -108,15 +97,123 @@ impl Encodings {
         ensures kept { (self.new.outer ≡ self.old.outer) × (self.new.innermost ≡ self.old.innermost) }
     {
         let defect = self.pairs.descent::<O>(level.pairs, &self.out);
-        if defect.is_none() {
-            // The keys rise, so no two are the same.
-            let flaw = None;
-            return Ok(Findings { flaw, defect });
-        }
         let flaw = self
             .pairs
             .arrange::<O>(level.pairs, level.content, &mut self.spare, &mut self.out)?;
         Ok(Findings { flaw, defect })
+    }
+}
+
+impl<O: KeyOrder> Encoder<O> {
+    /// Ends an array that isn't short.
+    #[inline(never)]
+    pub(crate) fn close_array(&mut self, size: Size, count: Option<u64>) -> Result<(), AllocError>
+        requires { self.old.encodings.innermost.container ≡ container.Array size count }
+        ensures held { OnOk result (Closes O.order self.old self.new) }
+    {
+        self.end_array(size, count)
+    }
+
+    /// Ends a tag that isn't plain.
+    #[inline(never)]
+    pub(crate) fn close_tag(&mut self, width: Width, number: u64) -> Result<(), AllocError>
+        requires { self.old.encodings.innermost.container ≡ container.Tag width number }
+        ensures held { OnOk result (Closes O.order self.old self.new) }
+    {
+        self.end_tag(width, number)
+    }
+
+    /// Whether the innermost container, an array of this size and count, means something and has a head
+    /// of one byte.
+    #[inline(always)]
+    pub(crate) fn is_short(&self, size: Size, count: Option<u64>) -> bool {
+        let level = &self.encodings.innermost;
+        let len = count.unwrap_or(level.count);
+        !level.flawed && len < 24 && size == Size::Fixed(Width::Direct)
+    }
+
+    /// Whether the innermost container, a tag, adds no flaw and no defect and stands in the buffer as it is
+    /// encoded.
+    #[inline(always)]
+    pub(crate) fn is_plain(&self, width: Width, number: u64) -> bool {
+        !self.encodings.innermost.flawed && number != 2 && number != 3 && width == shortest(number)
+    }
+
+    /// Ends an array.
+    #[inline(always)]
+    pub(crate) fn end_array(&mut self, size: Size, count: Option<u64>) -> Result<(), AllocError>
+        requires { self.old.encodings.innermost.container ≡ container.Array size count }
+        ensures held { OnOk result (Closes O.order self.old self.new) }
+    {
+        let level = self.encodings.innermost;
+        let found = end_array(self.alloc, level, size, count, &mut self.encodings.out)?;
+        self.leave(found)
+    }
+
+    /// Ends a map.
+    #[inline(never)]
+    pub(crate) fn close_map(&mut self, size: Size, count: Option<u64>) -> Result<(), AllocError>
+        requires { self.old.encodings.innermost.container ≡ container.Map size count }
+        ensures held { OnOk result (Closes O.order self.old self.new) }
+    {
+        let level = self.encodings.innermost;
+        if level.flawed
+            || !self
+                .encodings
+                .pairs
+                .rise::<O>(level.pairs, &self.encodings.out)
+        {
+            return self.close_unsorted(size, count);
+        }
+        let len = self.encodings.pairs.len().saturating_sub(level.pairs) as u64;
+        let found = end_rising(self.alloc, level, size, count, len, &mut self.encodings.out)?;
+        self.encodings.pairs.truncate(level.pairs);
+        self.leave(found)
+    }
+
+    /// Ends a map that is flawed, or whose keys don't rise.
+    #[inline(never)]
+    fn close_unsorted(&mut self, size: Size, count: Option<u64>) -> Result<(), AllocError>
+        requires { self.old.encodings.innermost.container ≡ container.Map size count }
+        ensures held { OnOk result (Closes O.order self.old self.new) }
+    {
+        let level = self.encodings.innermost;
+        let found = self.encodings.end_map::<O>(self.alloc, level, size, count)?;
+        self.encodings.pairs.truncate(level.pairs);
+        self.leave(found)
+    }
+
+    /// Ends a tag.
+    #[inline(always)]
+    pub(crate) fn end_tag(&mut self, width: Width, number: u64) -> Result<(), AllocError>
+        requires { self.old.encodings.innermost.container ≡ container.Tag width number }
+        ensures held { OnOk result (Closes O.order self.old self.new) }
+    {
+        let level = self.encodings.innermost;
+        let spare = &mut self.encodings.spare;
+        let found = end_tag(level, width, number, spare, &mut self.encodings.out)?;
+        self.leave(found)
+    }
+
+    /// Ends a string of indefinite length.
+    #[inline(never)]
+    pub(crate) fn close_chunks(&mut self, kind: StringKind) -> Result<(), AllocError>
+        requires { self.old.encodings.innermost.container ≡ container.Chunks kind }
+        ensures held { OnOk result (Closes O.order self.old self.new) }
+    {
+        let level = self.encodings.innermost;
+        let found = end_chunks(self.alloc, level, kind, &mut self.encodings.out)?;
+        self.leave(found)
+    }
+
+    /// Leaves the innermost container, which has ended, and keeps what it adds to flaws and defects.
+    #[inline(always)]
+    fn leave(&mut self, found: Findings) -> Result<(), AllocError>
+        ensures held { OnOk result ((f : Partial) (o : Opening) (ts : List Tree) → IsFree f → Ends o ts → HasEnded O.order self.old.encodings f o ts found → Finds O.order (inside f o ts) self.old.flaw self.old.defect → IsHeld O.order self.new (put f (built o ts)) no_part) }
+    {
+        keep(&mut self.flaw, found.flaw);
+        keep(&mut self.defect, found.defect);
+        self.encodings.leave()
     }
 }
 
@@ -169,7 +266,28 @@ fn end_array(
     let head = Head { major, count, len };
     end_head(alloc, head, level.start, level.flawed, out)?;
     let flaw = None;
-    let defect = size_defect(level.place, ended_size(size, count, len), len);
+    let defect = ended_defect(level.place, size, count, len);
+    Ok(Findings { flaw, defect })
+}
+
+/// Ends a map of `len` pairs that means something, and whose keys rise.
+#[inline(always)]
+fn end_rising(
+    alloc: Global,
+    level: Level,
+    size: Size,
+    count: Option<u64>,
+    len: u64,
+    out: &mut Vec<u8>,
+) -> Result<Findings, AllocError>
+    requires { level.flawed ≡ false }
+    ensures { IfOk result (λ found. (order : List ℕ → List ℕ → Ordering) (own : List Mark) → IsKeyOrder order → len ≡ length own → KeysRise order level own out.old.items → EndsWell order level (a_map level.place size count) own out.old.items out.new.items found) }
+{
+    let major = Major::Map;
+    let head = Head { major, count, len };
+    end_head(alloc, head, level.start, false, out)?;
+    let flaw = None;
+    let defect = ended_defect(level.place, size, count, len);
     Ok(Findings { flaw, defect })
 }
 
@@ -195,6 +313,7 @@ fn end_chunks(
 }
 
 /// Ends a tag. `spare` is room for the bytes of a bignum.
+#[inline(always)]
 fn end_tag(
     level: Level,
     width: Width,
@@ -222,6 +341,7 @@ fn end_tag(
 
 /// Ends tag 2, or tag 3 if it is `negative`, over a byte string: the integer takes its place. Finds
 /// what is wrong with it but for its head.
+#[inline(never)]
 fn end_bignum(
     level: Level,
     negative: bool,

@@ -1,7 +1,7 @@
 //! What is open while items are encoded.
 
 ghost use Rattle.std.specs.Prelude.{◌≡◌, false};
-ghost use Rattle.cborn_judge.specs.devices.Encoding.{after, after_items, is_chunks};
+ghost use Rattle.cborn_judge.specs.devices.Encoding.{after, after_items, has_key, is_chunks};
 
 use cborn_model::{Size, StringKind, Width};
 
@@ -29,10 +29,8 @@ pub(crate) struct Level {
     pub(crate) content: usize,
     /// How many pairs are marked of the maps around it.
     pub(crate) pairs: usize,
-    /// How many nodes are whole in it.
+    /// How many nodes are whole in it, modulo 2^64.
     pub(crate) count: u64,
-    /// Whether a key came in it whose value is missing.
-    pub(crate) has_key: bool,
     /// Whether a node in it means nothing.
     pub(crate) flawed: bool,
 }
@@ -47,7 +45,7 @@ impl Level {
         content: usize,
         pairs: usize,
     ) -> Level
-        ensures { result ≡ record { container = container; place = place; start = start; content = content; pairs = pairs; count = 0; has_key = false; flawed = false } }
+        ensures { result ≡ record { container = container; place = place; start = start; content = content; pairs = pairs; count = 0; flawed = false } }
     {
         Level {
             container,
@@ -56,7 +54,6 @@ impl Level {
             content,
             pairs,
             count: 0,
-            has_key: false,
             flawed: false,
         }
     }
@@ -66,9 +63,10 @@ impl Level {
     pub(crate) fn add(&mut self, flawed: bool)
         ensures { self.new ≡ after self.old flawed }
     {
-        self.count = self.count.saturating_add(1);
-        self.has_key = !self.has_key;
-        self.flawed = self.flawed || flawed;
+        self.count = self.count.wrapping_add(1);
+        if flawed {
+            self.flawed = true;
+        }
     }
 
     /// Counts so many more whole items of an array, each of which means something.
@@ -76,7 +74,15 @@ impl Level {
     pub(crate) fn add_items(&mut self, count: u64)
         ensures { self.new ≡ after_items self.old count }
     {
-        self.count = self.count.saturating_add(count);
+        self.count = self.count.wrapping_add(count);
+    }
+
+    /// Whether a key came in it whose value is missing, if it is a map.
+    #[inline(always)]
+    pub(crate) fn has_key(&self) -> bool
+        ensures { result ≡ has_key self.now }
+    {
+        self.count % 2 == 1
     }
 
     /// Whether it is a string of indefinite length.

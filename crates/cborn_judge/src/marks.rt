@@ -128,18 +128,18 @@ impl Spot for NarrowMark {
 }
 
 impl NarrowMark {
-    /// This mark, narrow; `None` if an offset in it doesn't fit 32 bits.
+    /// The mark of these offsets; `None` if one of them doesn't fit 32 bits.
     #[inline(always)]
-    pub(crate) fn of(mark: Mark) -> Option<NarrowMark>
-        ensures narrow { IfSome result (λ narrow. narrow_of narrow ≡ mark_of mark) }
-        ensures wide { result ≡ None → mark.place < 2 ^ 32 → mark.start < 2 ^ 32 → mark.middle < 2 ^ 32 → mark.end < 2 ^ 32 → ⊥ }
+    pub(crate) fn of(place: u64, start: usize, middle: usize, end: usize) -> Option<NarrowMark>
+        ensures narrow { IfSome result (λ narrow. narrow_of narrow ≡ (place, start, middle, end)) }
+        ensures wide { result ≡ None → place < 2 ^ 32 → start < 2 ^ 32 → middle < 2 ^ 32 → end < 2 ^ 32 → ⊥ }
     {
         Some(NarrowMark {
-            place: u32::try_from(mark.place).ok()?,
-            start: u32::try_from(mark.start).ok()?,
-            middle: u32::try_from(mark.middle).ok()?,
-            end: u32::try_from(mark.end).ok()?,
-            hint: mark.hint,
+            place: u32::try_from(place).ok()?,
+            start: u32::try_from(start).ok()?,
+            middle: u32::try_from(middle).ok()?,
+            end: u32::try_from(end).ok()?,
+            hint: 0,
         })
     }
 
@@ -166,7 +166,6 @@ pub(crate) fn descent<O: KeyOrder, S: Spot>(
     from: usize,
     out: &[u8],
 ) -> Option<Defect>
-    ensures rising { result ≡ None → (y : List ℕ) (rows : List Row) → out.now ≡ y ++ joined (row_entries rows) → AreMarked (length y) rows (drop from (map S.seen spots.old.items)) → Rising O.order (filled_keys rows) }
     ensures found { (y : List ℕ) (rows : List Row) → out.now ≡ y ++ joined (row_entries rows) → AreMarked (length y) rows (drop from (map S.seen spots.old.items)) → AreFilled rows → FindsDefect (RowDescent O.order rows) result }
     ensures hinted { AreHinted S.hinted S.seen O.order out.now (drop from spots.new.items) }
     ensures kept { map S.seen spots.new.items ≡ map S.seen spots.old.items }
@@ -256,6 +255,41 @@ fn first_fall<O: KeyOrder, S: Spot>(spots: &mut [S], out: &[u8]) -> Option<Defec
         }
     }
     first
+}
+
+/// Whether the keys rise of the pairs that are marked from the index `from` on, and lie in `out`. A key
+/// without an encoding is passed over. A key with a higher hint than the one before it is above that.
+pub(crate) fn rise<O: KeyOrder, S: Spot>(spots: &[S], from: usize, out: &[u8]) -> bool
+    ensures rising { result ≡ true → (y : List ℕ) (rows : List Row) → out.now ≡ y ++ joined (row_entries rows) → AreMarked (length y) rows (drop from (map S.seen spots.now)) → Rising O.order (filled_keys rows) }
+    ensures none { result ≡ true → (y : List ℕ) (rows : List Row) → out.now ≡ y ++ joined (row_entries rows) → AreMarked (length y) rows (drop from (map S.seen spots.now)) → AreFilled rows → FindsDefect (RowDescent O.order rows) None }
+{
+    all_rise::<O, S>(from_index(spots, from), out)
+}
+
+/// Whether the keys of these marks rise. Fewer than two do.
+#[inline(always)]
+fn all_rise<O: KeyOrder, S: Spot>(spots: &[S], out: &[u8]) -> bool
+    ensures { result ≡ true → FindsDefect (FallsIn O.order out.now (map S.seen spots.now)) None }
+{
+    if spots.len() < 2 {
+        return true;
+    }
+    let known = O::known();
+    let mut before: &[u8] = &[];
+    let mut last = hint(known, before);
+    for spot in spots {
+        let mark = spot.mark();
+        let key = key_in(out, mark);
+        let hint = hint(known, key);
+        if hint <= last && fall::<O>(mark.place, before, key).is_some() {
+            return false;
+        }
+        if !key.is_empty() {
+            before = key;
+            last = hint;
+        }
+    }
+    true
 }
 
 /// The defect of `key` at the offset `place`, if it isn't above the one before it. Either is empty
@@ -376,7 +410,10 @@ fn copy_pairs<S: Spot>(spots: &[S], out: &[u8], copy: &mut Vec<u8>) -> Result<()
 fn key_in(out: &[u8], mark: Mark) -> &[u8]
     ensures { result.now ≡ key_of out.now (mark_of mark) }
 {
-    bytes_between(out, mark.start, mark.middle)
+    match out.get(mark.start..mark.middle) {
+        Some(key) => key,
+        None => bytes_between(out, mark.start, mark.middle),
+    }
 }
 
 /// The key and the value that are marked.

@@ -1,6 +1,6 @@
 //! The pairs of the maps that are open while items are encoded.
 
-ghost use Rattle.std.specs.Prelude.{◌≡◌, ◌++◌, ◌∷◌, ℕ, List, [], length, map, take, drop, None, IfOk, IfSome, OnOk};
+ghost use Rattle.std.specs.Prelude.{◌≡◌, ◌++◌, ◌∷◌, ℕ, List, [], length, map, take, drop, true, None, IfOk, IfSome, OnOk};
 ghost use Rattle.cborn_model.specs.Orders.{Rising};
 ghost use Rattle.cborn_det.specs.Det.{joined};
 ghost use Rattle.cborn_judge.specs.Departures.{FindsDefect};
@@ -9,7 +9,7 @@ ghost use Rattle.cborn_judge.specs.devices.Encoding.{Row, row_entries, Mark as M
 ghost use Rattle.cborn_judge.specs.devices.Marks.{mark_of, narrow_of, marks_of, AreAllHinted};
 
 use crate::flaws::Flaw;
-use crate::marks::{Mark, NarrowMark, Spot, arrange, descent};
+use crate::marks::{Mark, NarrowMark, Spot, arrange, descent, rise};
 use cborn_model::{Defect, KeyOrder};
 use std::alloc::{AllocError, Global};
 
@@ -81,9 +81,31 @@ impl Pairs {
         Ok(())
     }
 
-    /// Marks a key and its value.
-    #[inline(always)]
+    /// Marks a key and its value. The marks are narrow as a rule, and there is room for one more.
+    #[inline(never)]
     pub(crate) fn push_pair(
+        &mut self,
+        place: u64,
+        start: usize,
+        middle: usize,
+        end: usize,
+    ) -> Result<(), AllocError>
+        ensures { OnOk result (marks_of self.new ≡ marks_of self.old ++ (place, start, middle, end) ∷ []) }
+    {
+        if let Marks::Narrow(narrow) = &mut self.marks {
+            if narrow.len() != narrow.capacity() {
+                if let Some(mark) = NarrowMark::of(place, start, middle, end) {
+                    narrow.push(mark)?;
+                    return Ok(());
+                }
+            }
+        }
+        self.push_mark(place, start, middle, end)
+    }
+
+    /// What [`Pairs::push_pair`] does otherwise.
+    #[inline(never)]
+    fn push_mark(
         &mut self,
         place: u64,
         start: usize,
@@ -109,11 +131,22 @@ impl Pairs {
         }
     }
 
+    /// Whether the keys rise of the pairs that are marked from the index `from` on, and lie in `out`. A key
+    /// without an encoding is passed over.
+    pub(crate) fn rise<O: KeyOrder>(&self, from: usize, out: &[u8]) -> bool
+        ensures rising { result ≡ true → (y : List ℕ) (rows : List Row) → out.now ≡ y ++ joined (row_entries rows) → AreMarked (length y) rows (drop from (marks_of self.now)) → Rising O.order (filled_keys rows) }
+        ensures none { result ≡ true → (y : List ℕ) (rows : List Row) → out.now ≡ y ++ joined (row_entries rows) → AreMarked (length y) rows (drop from (marks_of self.now)) → AreFilled rows → FindsDefect (RowDescent O.order rows) None }
+    {
+        match &self.marks {
+            Marks::Narrow(narrow) => rise::<O, NarrowMark>(narrow, from, out),
+            Marks::Wide(wide) => rise::<O, Mark>(wide, from, out),
+        }
+    }
+
     /// The first defect of the order of the pairs that are marked from the index `from` on, and lie
     /// in `out`. A key without an encoding is passed over. Each of these marks gets the hint for its
     /// key.
     pub(crate) fn descent<O: KeyOrder>(&mut self, from: usize, out: &[u8]) -> Option<Defect>
-        ensures rising { result ≡ None → (y : List ℕ) (rows : List Row) → out.now ≡ y ++ joined (row_entries rows) → AreMarked (length y) rows (drop from (marks_of self.old)) → Rising O.order (filled_keys rows) }
         ensures found { (y : List ℕ) (rows : List Row) → out.now ≡ y ++ joined (row_entries rows) → AreMarked (length y) rows (drop from (marks_of self.old)) → AreFilled rows → FindsDefect (RowDescent O.order rows) result }
         ensures hinted { AreAllHinted O.order out.now from self.new.marks }
         ensures kept { marks_of self.new ≡ marks_of self.old }
@@ -148,11 +181,10 @@ impl Pairs {
     }
 
     /// Adds a mark.
-    #[inline(always)]
     fn add(&mut self, mark: Mark) -> Result<(), AllocError>
         ensures { OnOk result (marks_of self.new ≡ marks_of self.old ++ mark_of mark ∷ []) }
     {
-        let Some(small) = NarrowMark::of(mark) else {
+        let Some(small) = NarrowMark::of(mark.place, mark.start, mark.middle, mark.end) else {
             return self.add_wide(mark);
         };
         match &mut self.marks {

@@ -3,6 +3,7 @@
 ghost use Rattle.std.specs.Prelude.{◌↔◌, IsTrue};
 ghost use Rattle.cborn_judge.specs.Departures.{FindsDefect, LongAt, LooseBytesAt, NotAboveAt};
 ghost use Rattle.cborn_judge.specs.shared.Checked.{SizeAt};
+ghost use Rattle.cborn_model.specs.Partial.{ended_size};
 ghost use Rattle.cborn_judge.specs.Defects.{IsLoose};
 
 use cborn_model::{Defect, DefectReason, KeyOrder, Size, Width, shortest};
@@ -20,18 +21,21 @@ pub fn head_defect(place: u64, width: Width, n: u64) -> Option<Defect>
     Some(Defect { place, reason })
 }
 
-/// The defect of the head at `place` of an array or a map of `n` entries.
+/// The defect of the head at `place` of an array or a map that ends with `n` entries, and had this size
+/// and this count at its start.
 #[inline(always)]
-pub(crate) fn size_defect(place: u64, size: Size, n: u64) -> Option<Defect>
-    ensures { FindsDefect (SizeAt place size n) result }
+pub(crate) fn ended_defect(place: u64, size: Size, count: Option<u64>, n: u64) -> Option<Defect>
+    ensures { FindsDefect (SizeAt place (ended_size size count n) n) result }
 {
-    match size {
-        Size::Fixed(width) => head_defect(place, width, n),
-        Size::Endless => {
-            let reason = DefectReason::EndlessLength;
-            Some(Defect { place, reason })
-        }
+    let Size::Fixed(width) = size else {
+        let reason = DefectReason::EndlessLength;
+        return Some(Defect { place, reason });
+    };
+    if width == shortest(n) || count.is_none() && !width.holds(n) {
+        return None;
     }
+    let reason = DefectReason::LongHead;
+    Some(Defect { place, reason })
 }
 
 /// The defect of a bignum at the offset `place` with these bytes, if they begin with a zero or are

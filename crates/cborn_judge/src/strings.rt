@@ -82,5 +82,16 @@ pub(crate) fn is_content(kind: StringKind, bytes: &[u8]) -> bool
 pub(crate) fn is_text(bytes: &[u8]) -> bool
     ensures { IsTrue result ↔ IsUtf8 bytes.now }
 {
-    bytes.is_ascii() || simdutf8::is_utf8(bytes)
+    bytes.is_ascii() || is_wide_text(bytes)
+}
+
+/// Whether bytes, not all of them ASCII, are UTF-8. A few are seen quicker one by one.
+#[inline(never)]
+fn is_wide_text(bytes: &[u8]) -> bool
+    ensures { IsTrue result ↔ IsUtf8 bytes.now }
+{
+    if bytes.len() < 32 {
+        return std::str::from_utf8(bytes).is_ok();
+    }
+    simdutf8::is_utf8(bytes)
 }

@@ -22,7 +22,8 @@ use Rattle.cborn_lex.specs.Good as good
 use Rattle.cborn_lex.specs.Good.{IsMark, IsLiteral, IsNumeral, IsName, IsCoded, Takes}
 use Rattle.cborn_lex.specs.Bad as bad
 use Rattle.cborn_lex.specs.Bad.{is_quote, is_start, IsWord, is_float_word, IsPrefix, IsFloat, IsNoInteger, Fails}
-use Rattle.cborn_lex.proofs.GoodBack.{or_cases, never, starts_digit, first_digit, literal_is, value}
+use Rattle.cborn_lex.proofs.TwoParts.{digit_starts}
+use Rattle.cborn_lex.proofs.GoodBack.{or_cases, never, first_digit, literal_is, value}
 use Rattle.cborn_lex.proofs.GoodFronts.{judge, assoc, same_bytes}
 use Rattle.cborn_lex.proofs.BadNumbers.{float_is}
 use Rattle.cborn_lex.proofs.OneFront.Quotes.{quoted}
@@ -63,8 +64,8 @@ starts_other c e =
     let denied : (k : ℕ) → list_any (λ d. eqb k d) (codes "/#[]{}(),:<>\"'-") ≡ true → eqb c k ≡ false = λ k h. false_from_ne_true (eqb c k) (λ same. absurd (let t : true ≡ false = sym (subst (λ n. list_any (λ k. eqb n k) (codes "/#[]{}(),:<>\"'-") ≡ true) (sym (eqb-true c k same)) h) ∙ a.1 in cc)) in
     rw (b.0, denied 47 refl, denied 35 refl, denied 91 refl, denied 123 refl, denied 93 refl, denied 125 refl, denied 41 refl, denied 44 refl, denied 58 refl, denied 60 refl, denied 62 refl, denied 40 refl, denied 34 refl, denied 39 refl, denied 45 refl, u.0, l) refl
 
-digit_starts : (c : ℕ) → is_ascii_digit c ≡ true → start_of c ≡ digit
-digit_starts c e = let h = and_parts (nat_le 48 c) (nat_le c 57) e in starts_digit c (leb-true 48 c h.0) (leb-true c 57 h.1)
+ascii_digit_starts : (c : ℕ) → is_ascii_digit c ≡ true → start_of c ≡ digit
+ascii_digit_starts c e = let h = and_parts (nat_le 48 c) (nat_le c 57) e in digit_starts c (leb-true 48 c h.0) (leb-true c 57 h.1)
 
 -- Numbers.
 
@@ -376,7 +377,7 @@ module _ (p : Profile) where
         front = c ∷ y ++ (k.s ++ t.s);
         rest = t.z;
         whole = ap (λ l. c ∷ y ++ l) after ∙ sym (assoc (c ∷ y) (k.s ++ t.s) t.z ∙ ap (λ l. c ∷ y ++ l) (assoc k.s t.s t.z));
-        reads = subst (λ q. ReadsFrom q p c (y ++ (k.s ++ t.s)) t.z (Bad r)) (sym (digit_starts c b)) (
+        reads = subst (λ q. ReadsFrom q p c (y ++ (k.s ++ t.s)) t.z (Bad r)) (sym (ascii_digit_starts c b)) (
           t.tagged,
           y,
           k.s,

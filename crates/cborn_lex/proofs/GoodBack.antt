@@ -1,5 +1,5 @@
 -- What Good.antt takes as white space, a comment or a token reads as that by Forms.antt.
-use Rattle.std.proofs.Common.{◌≡◌, refl, sym, ap, ◌∙◌, subst, ℕ, zero, suc, ◌+◌, ◌-◌, ◌<◌, ◌≤◌, ◌^◌, List, [], ◌∷◌, ◌++◌, Bool, true, false, ◌&&◌, ◌||◌, cond, eqb, ltb, ◌⊎◌, inl, inr, Option, Some, None, Ok, append-nil, arith}
+use Rattle.std.proofs.Common.{◌≡◌, refl, sym, ap, ◌∙◌, subst, ℕ, ◌-◌, ◌<◌, ◌≤◌, ◌^◌, List, [], ◌∷◌, ◌++◌, Bool, true, false, ◌&&◌, ◌||◌, cond, eqb, ltb, ◌⊎◌, inl, inr, Option, Some, None, Ok, append-nil, arith}
 use Rattle.std.proofs.lemmas.Bool.{eqb-true, and_parts, or_parts, ltb-true, ltb-false, lt-ltb}
 use Rattle.std.specs.List.{list_all}
 use Rattle.std.specs.Char.{is_digit}
@@ -14,6 +14,7 @@ use Rattle.cborn_lex.specs.Numbers.{are_digits, number, within, has_prefix, inte
 use Rattle.cborn_lex.specs.Forms.{white, hash, digit, start_of, ReadsFrom, Reads}
 use Rattle.cborn_lex.specs.Good as good
 use Rattle.cborn_lex.specs.Good.{IsMark, IsLiteral, IsNumeral, IsName, IsCoded, Takes}
+use Rattle.cborn_lex.proofs.TwoParts.{digit_starts}
 
 abbrev pub front_of : Option Class → Front
 front_of None = WhiteSpace
@@ -51,22 +52,6 @@ in_ten c e = go (ltb c 48) (ltb c 58) (ltb c 65) (ltb c 91) (ltb c 97) (ltb c 12
     go false false false false true h e1 e2 e3 e4 e5 e6 k = never k
     go false false false false false true e1 e2 e3 e4 e5 e6 k = let low = ltb-false c 97 e5 in let small = ltb-true (c - 87) 10 k in absurd (omega (arith, low, small))
     go false false false false false false e1 e2 e3 e4 e5 e6 k = never k
-
-starts_at : (k : ℕ) → k < 10 → start_of (48 + k) ≡ digit
-starts_at zero h = refl
-starts_at (suc zero) h = refl
-starts_at (suc (suc zero)) h = refl
-starts_at (suc (suc (suc zero))) h = refl
-starts_at (suc (suc (suc (suc zero)))) h = refl
-starts_at (suc (suc (suc (suc (suc zero))))) h = refl
-starts_at (suc (suc (suc (suc (suc (suc zero)))))) h = refl
-starts_at (suc (suc (suc (suc (suc (suc (suc zero))))))) h = refl
-starts_at (suc (suc (suc (suc (suc (suc (suc (suc zero)))))))) h = refl
-starts_at (suc (suc (suc (suc (suc (suc (suc (suc (suc zero))))))))) h = refl
-starts_at (suc (suc (suc (suc (suc (suc (suc (suc (suc (suc k)))))))))) h = absurd (omega (arith, h))
-
-pub starts_digit : (c : ℕ) → 48 ≤ c → c ≤ 57 → start_of c ≡ digit
-starts_digit c low high = let same : 48 + (c - 48) ≡ c = omega (arith, low) in subst (λ d. start_of d ≡ digit) same (starts_at (c - 48) (omega (arith, low, high)))
 
 -- two characters at the front
 second : (b : ℕ) (x : List ℕ) → has_prefix (48 ∷ b ∷ []) x ≡ true → (y : List ℕ) × (x ≡ 48 ∷ b ∷ y)
@@ -123,7 +108,7 @@ prefixed b d x e = go (or_cases (has_prefix (48 ∷ b ∷ []) x) (has_prefix (48
 
 decimals : (x : List ℕ) → are_digits 10 x ≡ true → Begins x
 decimals [] d = never d
-decimals (c ∷ y) d = let h = in_ten c (and_parts (is_digit c 10) (list_all (λ n. is_digit n 10) y) d).0 in record { first = c; others = y; whole = refl; starts = starts_digit c h.0 h.1 }
+decimals (c ∷ y) d = let h = in_ten c (and_parts (is_digit c 10) (list_all (λ n. is_digit n 10) y) d).0 in record { first = c; others = y; whole = refl; starts = digit_starts c h.0 h.1 }
 
 pub first_digit : (x : List ℕ) (v : ℕ) → IsLiteral x v → Begins x
 first_digit x v (good.decimal y d z) = decimals y d

@@ -48,10 +48,6 @@ module _ (p : Profile) where
   no_tokens text (Refused n r) h = failed text n r h
   no_tokens text OutOfMemory h = tt
 
-  pub stop_at : (text : List ℕ) (e : LexFault) → HasNoTokens p text e → IsStopAt p text e
-  stop_at text (Refused n r) h = stopped text n r h
-  stop_at text OutOfMemory h = tt
-
   -- LAW: why there is no token from a place on
   pub no_token_from : (text : List ℕ) (n : ℕ) (e : LexFault) → IsStopFrom p text n e → HasNoTokenFrom p text n e
   no_token_from text n (Refused q r) h = (h.0, h.1, failed (drop n text) h.0 r h.2)
@@ -64,11 +60,6 @@ module _ (p : Profile) where
   pub begins_nothing : {y : List ℕ} → HasNoPiece p y → BeginsNothing p y
   begins_nothing h s z None e t = (h s z e).0 (read p t)
   begins_nothing h s z (Some k) e t = (h s z e).1 k (read p t)
-
-  -- LAW: the first token from a place on
-  pub token_from : (text : List ℕ) (n : ℕ) (o : Option Token) → IsNext p text n o → IsTokenFrom p text n o
-  token_from text n (Some t) h = covers h
-  token_from text n None h = covers h
 
   pub next_from : (text : List ℕ) (n : ℕ) {o q : Option Token} → o ≡ q → IsTokenFrom p text n o → IsNext p text n q
   next_from text n {o = o} {q = Some t} e h = through (subst (IsTokenFrom p text n) e h)

@@ -123,10 +123,6 @@ digit_start _ e = cc
 pub digit_starts : (c : ℕ) → 48 ≤ c → c ≤ 57 → start_of c ≡ digit
 digit_starts c h k = digit_start (start_of c) (passes_at (λ d. is_digit_start (start_of d)) 48 10 c refl h (omega (arith, k)))
 
-pub take_one : (x : List ℕ) → 0 < length x → take 1 x ≡ get_or x 0 0 ∷ []
-take_one [] h = absurd (omega (arith, h))
-take_one (c ∷ x) h = refl
-
 -- the same of a string, which may want memory
 pub quoted_from : {E : Type 0} (profile : Profile) (c d m : ℕ) (tail old new : List ℕ) (r : Result (FrontIn × ℕ) E) → c ≡ d → IfOk r (λ r. (r.1 ≤ length tail) × ((a : Front) × ReadsFrom (start_of d) profile d (take r.1 tail) (drop r.1 tail) a × ((n : ℕ) → FrontStandsFor r.0 n old new a)))
     → IfOk r (λ r. (r.1 ≤ length tail) × ((a : Front) × ReadsFrom (start_of c) profile c (take r.1 tail) (drop r.1 tail) a × FrontStandsFor r.0 m old new a))

@@ -54,24 +54,3 @@ module _ {X R : Type 0} (rank : R → ℕ) (place_of : X → ℕ) (reason_of : X
   none_both (Some x) None o e n = let f : Some x ≡ None = sym e ∙ n in cc
   none_both (Some x) (Some y) None e n = absurd e
   none_both (Some x) (Some y) (Some z) e n = cc
-
-  -- ---- what a loop knows that looks for the first of F, and builds something of which P holds where there is none
-
-  abbrev pub Settles : (ℕ → R → Type 0) → Type 0 → Option X → Type 0
-  Settles F P None = P
-  Settles F P (Some x) = First F x
-
-  pub settled_found : (F : ℕ → R → Type 0) (P : Type 0) (o : Option X) → (P → Found F None) → Settles F P o → Found F o
-  settled_found F P None n h = n h
-  settled_found F P (Some x) n h = h
-
-  -- the next one has no fault
-  pub settled_fine : (F G H : ℕ → R → Type 0) (P Q : Type 0) (o : Option X) → ((p : ℕ) (r : R) → Either F G p r ↔ H p r) → (P → Q) → Found G None → Settles F P o → Settles H Q o
-  settled_fine F G H P Q None e f n h = f h
-  settled_fine F G H P Q (Some x) e f n h = found_alike (Either F G) H (Some x) e (first_left F G x h n)
-
-  -- y is the first fault of the next one
-  pub settled_flawed : (F G H : ℕ → R → Type 0) (P Q : Type 0) (o g : Option X) (y : X) → ((p : ℕ) (r : R) → Either F G p r ↔ H p r) → (P → Found F None) → First G y → IsEarliest key_of o (Some y) g → Settles F P o → Settles H Q g
-  settled_flawed F G H P Q None g y e n k i h = subst (Settles H Q) (sym i) (found_alike (Either F G) H (Some y) e (first_right F G y (n h) k))
-  settled_flawed F G H P Q (Some x) None y e n k i h = absurd i
-  settled_flawed F G H P Q (Some x) (Some z) y e n k i h = found_alike (Either F G) H (Some z) e (earlier_of F G x y z h k i)

@@ -1,8 +1,8 @@
 -- How many bytes nodes spell.
-use Rattle.std.proofs.Common.{◌≤◌, length, arith}
+use Rattle.std.proofs.Common.{◌≤◌, List, [], ◌∷◌, length, length-append, arith}
 use Rattle.cborn_model.specs.declared.heads.Size.TheVariants.{Fixed, Endless}
-use Rattle.cborn_model.specs.Spelled.{spelled}
-use Rattle.cborn_model.specs.Tree.{Tree, Uint, Nint, Bytes, Text, ByteChunks, TextChunks, Items, Pairs, Tagged, Simple}
+use Rattle.cborn_model.specs.Spelled.{spelled, spelled_all}
+use Rattle.cborn_model.specs.Tree.{Tree, Uint, Nint, Bytes, Text, ByteChunks, TextChunks, Items, Pairs, Tagged, Simple, trees}
 
 pub some_bytes : (t : Tree) → 1 ≤ length (spelled t)
 some_bytes (Uint p w n) = omega arith
@@ -17,3 +17,7 @@ some_bytes (Pairs p (Fixed w) es) = omega arith
 some_bytes (Pairs p Endless es) = omega arith
 some_bytes (Tagged p w n t) = omega arith
 some_bytes (Simple p n) = omega arith
+
+pub no_more_nodes : (ts : List Tree) → length ts ≤ length (spelled_all (trees ts))
+no_more_nodes [] = omega arith
+no_more_nodes (t ∷ ts) = omega (arith, some_bytes t, no_more_nodes ts, length-append (spelled t) (spelled_all (trees ts)))

@@ -1,10 +1,11 @@
 -- The partial sequence that the visitor which builds nodes holds, as it changes.
-use Rattle.std.proofs.Common.{◌≡◌, refl, sym, ap, ◌∙◌, ℕ, List, [], ◌∷◌, ◌++◌, length, map, Option, Some, append-nil}
+use Rattle.std.proofs.Common.{◌≡◌, ◌≤◌, refl, sym, ap, ◌∙◌, ℕ, List, [], ◌∷◌, ◌++◌, length, map, Option, Some, append-nil, arith}
 use Rattle.std.specs.Option.{option_to_list}
 use Rattle.cborn_model.specs.declared.nodes.Chunk.{Chunk}
 use Rattle.cborn_model.specs.declared.heads.Size.{Size}
 use Rattle.cborn_model.specs.declared.visitors.StringKind.{StringKind}
-use Rattle.cborn_model.specs.Tree.{Tree, entries}
+use Rattle.cborn_model.specs.Tree.{Tree, trees, entries, depth_all}
+use Rattle.cborn_model.specs.Spelled.{FitsAll, IsSpelled}
 use Rattle.cborn_model.specs.Tree as tree
 use Rattle.cborn_model.specs.Partial.{a_map, in_chunks, Partial, top, inside, no_part, chunks_tree, ended_size}
 use Rattle.cborn_wire.specs.declared.open_nodes.OpenNode.{OpenNode}
@@ -38,3 +39,8 @@ opened old new k outer innermost same f g is (held, string) =
 -- what a list of containers is once the last is removed
 pub popped : (ks rest : List OpenNode) (last : OpenNode) → ks ≡ rest ++ last ∷ [] → around (top []) ks ≡ within (around (top []) rest) last
 popped ks rest last e = ap (around (top [])) e ∙ around_push (top []) rest last
+
+-- a node among nodes that fit their widths and aren't deep
+pub part_spelled : (xs ys : List Tree) (t : Tree) → FitsAll (trees (xs ++ t ∷ ys)) → depth_all (trees (xs ++ t ∷ ys)) ≤ 1024 → IsSpelled t
+part_spelled [] ys t fits low = (fits.0, omega (arith, low))
+part_spelled (x ∷ xs) ys t fits low = part_spelled xs ys t fits.1 (omega (arith, low))

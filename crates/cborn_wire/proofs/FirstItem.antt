@@ -1,5 +1,5 @@
 -- What a reader of heads that stops after one item says of the front of the bytes.
-use Rattle.std.proofs.Common.{◌≡◌, refl, sym, ap, ◌∙◌, subst, ℕ, ◌+◌, ◌<◌, ◌≤◌, List, [], ◌∷◌, ◌++◌, length, take, drop, length-drop, append-nil, Option, Some, None, Result, Ok, Err, inl, inr, arith}
+use Rattle.std.proofs.Common.{◌≡◌, refl, sym, ap, ◌∙◌, subst, ℕ, ◌+◌, ◌<◌, ◌≤◌, List, [], ◌∷◌, ◌++◌, length, take, drop, length-drop, append-nil, Option, Some, None, Ok, Err, inl, inr, arith}
 use Rattle.std.proofs.lemmas.List.{length-take-le, take-append-drop, take_all, drop-drop, nil_from_length}
 use Rattle.cborn_model.specs.Bytes.{AreBytes}
 use Rattle.cborn_model.specs.Tree.{Tree, no_item, trees, depth}
@@ -9,8 +9,9 @@ use Rattle.cborn_model.specs.Partial.{Partial, Part, top, no_part}
 use Rattle.cborn_model.proofs.Bytes.{bytes-right}
 use Rattle.cborn_wire.specs.Faults.{Fault}
 use Rattle.cborn_wire.specs.Reading.{EndsItem}
-use Rattle.cborn_wire.specs.declared.faults.WireFault.{WireFault}
-use Rattle.cborn_wire.specs.declared.faults.WireFault.TheVariants.{Refused, OutOfMemory}
+use Rattle.cborn_wire.specs.declared.faults.WireFault.TheVariants as wire
+use Rattle.cborn_wire.specs.declared.faults.VisitFault.{VisitFault}
+use Rattle.cborn_wire.specs.declared.faults.VisitFault.TheVariants.{Refused, Memory}
 use Rattle.cborn_wire.specs.declared.faults.WireReason.TheVariants.{Truncated}
 use Rattle.cborn_wire.specs.declared.levels.Level.{Level}
 use Rattle.cborn_wire.specs.declared.head_readers.HeadReader.{HeadReader}
@@ -22,14 +23,12 @@ use Rattle.cborn_wire.proofs.Spelled.FaultLaws.{fails_refused}
 use Rattle.cborn_wire.proofs.Visiting.Pieces.{may_end_here}
 use Rattle.cborn_wire.proofs.Visiting.Ending as ending
 
-pub ends_item : (P : Tree → Type 0) (limit p : ℕ) (x : List ℕ) (r : Result (Option ℕ) WireFault) → EndsHeld P limit x p r → EndsItem limit x p r
-ends_item P limit p x (Ok (Some end)) (some, within, t, held, first) = (some, within, t, first)
-ends_item P limit p x (Ok None) h = h
-ends_item P limit p x (Err (Refused q r)) h = h
-ends_item P limit p x (Err OutOfMemory) h = h
+pub ends_item : (P : Tree → Type 0) (limit p : ℕ) (x : List ℕ) (end : Option ℕ) → EndsHeld P limit x p (Ok end) → EndsItem limit x p (Ok end)
+ends_item P limit p x (Some end) (some, within, t, held, first) = (some, within, t, first)
+ends_item P limit p x None h = h
 
 -- Nothing is there.
-pub none_there : (limit p : ℕ) (x : List ℕ) → p ≡ length x → EndsItem limit x p (Err (Refused p Truncated))
+pub none_there : (limit p : ℕ) (x : List ℕ) → p ≡ length x → EndsItem limit x p (Err (wire.Refused p Truncated))
 none_there limit p x all =
     let none : drop p x ≡ [] = nil_from_length (drop p x) (omega (arith, length-drop p x, all)) in
     (0, omega arith, (λ t rest is. no_first limit p [] t rest refl (sym none ∙ is), inl (none, refl, refl)))
@@ -37,12 +36,12 @@ none_there limit p x all =
 -- the bytes from there on
 module _ (limit p : ℕ) (x y : List ℕ) (same : y ≡ drop p x) where
   -- A head isn't allowed, before any item is whole.
-  pub refused_first : (P : Tree → Type 0) (e : WireFault) → AreBytes x → ReadsItem limit p [] y (Err e) → EndsHeld P limit x p (Err e)
+  pub refused_first : (P : Tree → Type 0) (e : VisitFault) → AreBytes x → ReadsItem limit p [] y (Err e) → EndsHeld P limit x p (Err e)
   refused_first P (Refused q r) are h =
       let fails = subst (λ z. run limit (start p) z ≡ Failed no_item q r) same h in
       let (at, is, fault) = fails_refused limit p (drop p x) (bytes-right (take p x) (drop p x) (subst AreBytes (sym (take-append-drop p x)) are)) no_item q r fails in
       (at, is, (λ t rest. no_first limit p (drop p x) t rest (ap ready_in fails), inr (inl fault)))
-  refused_first P OutOfMemory are h = tt
+  refused_first P (Memory e) are h = tt
 
   module _ (holds : Partial → Part → Type 0) (outer : List Level) (l : Level) (m : HeadReader) (n : ℕ) (low : p ≤ length x) (within : n ≤ length y) (limited : m.limit ≡ limit)
       (fed : IsFed holds outer l m p (take n y)) (one : AtMostOneMore no_item (run m.limit (start p) (take n y))) where
@@ -68,7 +67,7 @@ module _ (limit p : ℕ) (x y : List ℕ) (same : y ≡ drop p x) where
         go (t ∷ u ∷ ts) held read placed (inr (at, v, h)) = cc
 
     -- The bytes end before an item is whole.
-    pub first_cut : n ≡ length y → (MayEnd outer m → ⊥) → EndsItem limit x p (Err (Refused (length x) Truncated))
+    pub first_cut : n ≡ length y → (MayEnd outer m → ⊥) → EndsItem limit x p (Err (wire.Refused (length x) Truncated))
     first_cut all cut = (
       length (drop p x),
       omega (arith, length-drop p x, low),

@@ -1,5 +1,6 @@
 pub mod Slots
 pub mod Faults
+pub mod Visits
 pub mod SlotFaults
 pub mod Places
 pub mod Feeding

@@ -1,13 +1,13 @@
 //! What a head makes of the levels, and of what a visitor holds.
 
-ghost use Rattle.std.specs.Prelude.{◌≡◌, ◌<◌, ℕ, List, [], length, true, OnErr, IfOk, Err, ◌⊎◌};
+ghost use Rattle.std.specs.Prelude.{◌≡◌, ◌<◌, ℕ, List, [], length, true, OnErr, IfOk, Err, ◌⊎◌, alloc_error};
 ghost use Rattle.cborn_model.specs.declared.heads.Width.{Width as Wide};
 ghost use Rattle.cborn_model.specs.declared.heads.Major.TheVariants as majors;
 ghost use Rattle.cborn_model.specs.declared.visitors.StringKind.{StringKind as Kind};
 ghost use Rattle.cborn_model.specs.Heads.{WidthFits};
 ghost use Rattle.cborn_model.specs.Partial.{an_array, a_map, a_tag, in_chunks, Partial, no_part, part, put, string_tree, TakesItem, TakesString};
 ghost use Rattle.cborn_model.specs.Tree.{Tree};
-ghost use Rattle.cborn_wire.specs.declared.faults.WireFault.TheVariants.{Refused, OutOfMemory};
+ghost use Rattle.cborn_wire.specs.declared.faults.VisitFault.TheVariants.{Refused, Memory};
 ghost use Rattle.cborn_wire.specs.declared.faults.WireReason.{WireReason as Reason};
 ghost use Rattle.cborn_wire.specs.Slots.{major_of};
 ghost use Rattle.cborn_wire.specs.HeadReading.{major_at, size_in, count_in, seen_argument, ArgumentFits};
@@ -15,7 +15,7 @@ ghost use Rattle.cborn_wire.specs.shared.Machine.{finished, holding, ended, cont
 ghost use Rattle.cborn_wire.specs.shared.Visiting.{may_end, ready, open_in, Keeps, Takes, Stands, Gives};
 
 use crate::levels::{Level, LevelKind, Levels, next_number};
-use crate::{Argument, Head, WireFault, WireReason};
+use crate::{Argument, Head, VisitFault, WireReason};
 use cborn_model::{Major, StringKind, Visitor, Width};
 use std::alloc::AllocError;
 
@@ -49,13 +49,13 @@ pub(crate) fn end<L: Levels, V: Visitor>(
     visitor: &mut V,
     end: u64,
     place: u64,
-) -> Result<u64, WireFault>
+) -> Result<u64, VisitFault>
     ensures goes { (f : Partial) → V.holds visitor.old f no_part → Keeps f (L.outer levels.old) (L.inner levels.old) → Gives (V.holds visitor.new) (L.outer levels.new) (L.inner levels.new) end (ready f) (ended end place (ready f) (open_in f)) result }
     ensures kept { (p : ℕ) (r : Reason) → result ≡ Err (Refused p r) → (p ≡ place) × (visitor.new ≡ visitor.old) × (levels.new ≡ levels.old) }
-    ensures memory { result ≡ Err OutOfMemory → V.takes_memory }
+    ensures memory { result ≡ Err (Memory alloc_error) → V.takes_memory }
 {
     if !levels.innermost().kind.may_end() {
-        return Err(WireFault::Refused {
+        return Err(VisitFault::Refused {
             place,
             reason: WireReason::UnexpectedBreak,
         });
@@ -229,11 +229,11 @@ fn take_simple<L: Levels, V: Visitor>(
     end: u64,
     place: u64,
     argument: Argument,
-) -> Result<u64, WireFault>
+) -> Result<u64, VisitFault>
     requires { ArgumentFits (seen_argument argument) }
     ensures goes { (f : Partial) → Takes f majors.Other (seen_argument argument) → V.holds visitor.old f no_part → Keeps f (L.outer levels.old) (L.inner levels.old) → Gives (V.holds visitor.new) (L.outer levels.new) (L.inner levels.new) end (ready f) (after_head end place (ready f) (open_in f) majors.Other (seen_argument argument)) result }
     ensures kept { (p : ℕ) (r : Reason) → result ≡ Err (Refused p r) → (p ≡ place) × (visitor.new ≡ visitor.old) × (levels.new ≡ levels.old) }
-    ensures memory { result ≡ Err OutOfMemory → V.takes_memory }
+    ensures memory { result ≡ Err (Memory alloc_error) → V.takes_memory }
 {
     match argument {
         Argument::Given(Width::Direct, n) => {
@@ -244,11 +244,11 @@ fn take_simple<L: Levels, V: Visitor>(
             visitor.simple(place, n as u8)?;
             Ok(finish(levels, visitor, end)?)
         }
-        Argument::Given(Width::One, _) => Err(WireFault::Refused {
+        Argument::Given(Width::One, _) => Err(VisitFault::Refused {
             place,
             reason: WireReason::BadSimple,
         }),
-        Argument::Given(_, _) => Err(WireFault::Refused {
+        Argument::Given(_, _) => Err(VisitFault::Refused {
             place,
             reason: WireReason::FloatLeftOut,
         }),
@@ -295,12 +295,12 @@ pub(crate) fn take_head<L: Levels, V: Visitor>(
     end: u64,
     place: u64,
     head: Head,
-) -> Result<u64, WireFault>
+) -> Result<u64, VisitFault>
     requires fits { ArgumentFits (seen_argument head.argument) }
     requires room { length (L.outer levels.old) < L.most }
     ensures goes { (f : Partial) → Takes f (major_at head.major) (seen_argument head.argument) → V.holds visitor.old f no_part → Keeps f (L.outer levels.old) (L.inner levels.old) → Gives (V.holds visitor.new) (L.outer levels.new) (L.inner levels.new) end (ready f) (after_head end place (ready f) (open_in f) (major_at head.major) (seen_argument head.argument)) result }
     ensures kept { (p : ℕ) (r : Reason) → result ≡ Err (Refused p r) → (p ≡ place) × (visitor.new ≡ visitor.old) × (levels.new ≡ levels.old) }
-    ensures memory { result ≡ Err OutOfMemory → V.takes_memory ⊎ L.takes_memory }
+    ensures memory { result ≡ Err (Memory alloc_error) → V.takes_memory ⊎ L.takes_memory }
 {
     match (head.major_type(), head.argument) {
         (Major::Unsigned, Argument::Given(width, n)) => {
@@ -325,7 +325,7 @@ pub(crate) fn take_head<L: Levels, V: Visitor>(
             Ok(open_tag(levels, visitor, place, width, n)?)
         }
         (Major::Other, argument) => take_simple(levels, visitor, end, place, argument),
-        (_, Argument::Endless) => Err(WireFault::Refused {
+        (_, Argument::Endless) => Err(VisitFault::Refused {
             place,
             reason: WireReason::EndlessNotAllowed,
         }),

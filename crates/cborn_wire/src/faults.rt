@@ -2,6 +2,7 @@
 
 ghost use Rattle.std.specs.Prelude.{◌≡◌};
 ghost use Rattle.cborn_wire.specs.declared.faults.WireFault.TheVariants.{OutOfMemory};
+ghost use Rattle.cborn_wire.specs.declared.faults.VisitFault.TheVariants.{Memory};
 
 use std::alloc::{AllocError, AllocFailed};
 use thiserror::Error;
@@ -48,6 +49,17 @@ pub enum WireFault {
     OutOfMemory,
 }
 
+/// Why the items of bytes could not be handed to a visitor.
+#[derive(Clone, Copy, PartialEq, Eq, Debug, Error)]
+pub enum VisitFault {
+    /// The bytes are not well-formed, as `WireFault::Refused` says.
+    #[error("offset {place}: {reason}")]
+    Refused { place: u64, reason: WireReason },
+    /// Memory was refused, to the visitor or for what is open.
+    #[error("out of memory")]
+    Memory(AllocError),
+}
+
 impl From<AllocError> for WireFault {
     ghost from_gives = { λ _ e. e ≡ OutOfMemory };
 
@@ -61,5 +73,26 @@ impl<T: Drop> From<AllocFailed<T>> for WireFault {
 
     fn from(_error: AllocFailed<T>) -> WireFault {
         WireFault::OutOfMemory
+    }
+}
+
+impl From<AllocError> for VisitFault {
+    ghost from_gives = { λ refused e. e ≡ Memory refused };
+
+    fn from(refused: AllocError) -> VisitFault {
+        VisitFault::Memory(refused)
+    }
+}
+
+impl From<VisitFault> for WireFault {
+    ghost use Rattle.cborn_wire.specs.Visits.{wire_fault};
+
+    ghost from_gives = { λ why e. e ≡ wire_fault why };
+
+    fn from(why: VisitFault) -> WireFault {
+        match why {
+            VisitFault::Refused { place, reason } => WireFault::Refused { place, reason },
+            VisitFault::Memory(refused) => WireFault::from(refused),
+        }
     }
 }

@@ -10,7 +10,7 @@ ghost use Rattle.cborn_wire.specs.devices.ItemReading.{EndsHeld};
 use crate::head_readers::{HeadReader, Until};
 use crate::levels::GrownLevels;
 use crate::scanning::Nothing;
-use crate::{WireFault, WireReason};
+use crate::{VisitFault, WireFault, WireReason};
 use cborn_model::{Limit, Visitor};
 use std::alloc::{AllocError, Global};
 
@@ -31,10 +31,10 @@ pub fn item_end(
     requires { start ≤ length bytes.now }
     ensures { EndsItem limit bytes.now start result }
 {
-    visit_item(alloc, limit, bytes, start, &mut Nothing)
+    Ok(visit_item(alloc, limit, bytes, start, &mut Nothing)?)
 }
 
-/// What [`item_end`] gives. A visitor that was handed nothing is handed the item.
+/// Where an item ends, as [`item_end`] says. A visitor that was handed nothing is handed the item.
 #[inline(always)]
 pub(crate) fn visit_item<V: Visitor>(
     alloc: Global,
@@ -42,7 +42,7 @@ pub(crate) fn visit_item<V: Visitor>(
     bytes: &[u8],
     start: usize,
     visitor: &mut V,
-) -> Result<Option<usize>, WireFault>
+) -> Result<Option<usize>, VisitFault>
     requires start { start ≤ length bytes.now }
     requires nothing { V.holds visitor.old (top []) no_part }
     ensures { EndsHeld (λ t. V.holds visitor.new (top (t ∷ [])) no_part) limit bytes.now start result }
@@ -54,7 +54,7 @@ pub(crate) fn visit_item<V: Visitor>(
     let mut levels = GrownLevels::new(alloc);
     match reader.read(&mut levels, visitor, &bytes[start..], Until::Item) {
         Ok(len) if reader.is_whole(&levels) => Ok(Some(start + len)),
-        Ok(_) => Err(WireFault::Refused {
+        Ok(_) => Err(VisitFault::Refused {
             place: bytes.len() as u64,
             reason: WireReason::Truncated,
         }),
@@ -72,9 +72,9 @@ pub fn first_end(alloc: Global, bytes: &[u8]) -> Result<Option<usize>, AllocErro
     ensures item { IfOk result (λ found. IfSome found (λ end. (end ≤ length bytes.now) × ((t : Tree) × IsFirstItem 1024 0 t bytes.now (drop end bytes.now)))) }
     ensures none { IfOk result (λ found. found ≡ None → (t : Tree) (rest : List ℕ) → bytes.now ≡ spelled t ++ rest → Fits t → depth t ≤ 1024 → ⊥) }
 {
-    match item_end(alloc, Limit::HIGHEST, bytes, 0) {
+    match visit_item(alloc, Limit::HIGHEST, bytes, 0, &mut Nothing) {
         Ok(end) => Ok(end),
-        Err(WireFault::Refused { .. }) => Ok(None),
-        Err(WireFault::OutOfMemory) => Err(AllocError),
+        Err(VisitFault::Refused { .. }) => Ok(None),
+        Err(VisitFault::Memory(refused)) => Err(refused),
     }
 }

@@ -1,11 +1,11 @@
 //! The [`HeadReader`], which reads heads from bytes that come in pieces.
 
-ghost use Rattle.std.specs.Prelude.{◌≡◌, ◌∷◌, ◌+◌, ◌/◌, ◌%◌, ◌++◌, ◌<◌, ◌≤◌, ◌^◌, ℕ, List, [], length, take, nat_le, true, false, None, MatchResult, IfOk, Err, ◌⊎◌};
+ghost use Rattle.std.specs.Prelude.{◌≡◌, ◌∷◌, ◌+◌, ◌/◌, ◌%◌, ◌++◌, ◌<◌, ◌≤◌, ◌^◌, ℕ, List, [], length, take, nat_le, true, false, None, MatchResult, IfOk, Err, ◌⊎◌, alloc_error};
 ghost use Rattle.cborn_model.specs.declared.heads.Width.{Width as Wide};
 ghost use Rattle.cborn_model.specs.declared.visitors.StringKind.{StringKind as Kind};
 ghost use Rattle.cborn_model.specs.Heads.{Given};
 ghost use Rattle.cborn_model.specs.Partial.{Partial, no_part, part, TakesString};
-ghost use Rattle.cborn_wire.specs.declared.faults.WireFault.TheVariants.{Refused, OutOfMemory};
+ghost use Rattle.cborn_wire.specs.declared.faults.VisitFault.TheVariants.{Refused, Memory};
 ghost use Rattle.cborn_wire.specs.declared.faults.WireReason.{WireReason as Reason};
 ghost use Rattle.cborn_wire.specs.Slots.{AreOpen, slot, open_depth};
 ghost use Rattle.cborn_wire.specs.HeadReading.{major_at};
@@ -17,7 +17,7 @@ use crate::containers::take_leaves_or_container;
 use crate::counting::{close_string, take_head};
 use crate::heads::{read_number, wide_width};
 use crate::levels::Levels;
-use crate::{Argument, Head, HeadRead, WireFault, WireReason, read_head};
+use crate::{Argument, Head, HeadRead, VisitFault, WireReason, read_head};
 use cborn_model::{Limit, Visitor, Width};
 
 /// The front of a head at the offset `place`: its initial byte, and the first `len` of `bytes`,
@@ -116,7 +116,7 @@ impl HeadReader {
     ///
     /// # Errors
     /// `Refused` if a head in the piece isn't allowed where it is, at its offset from the start of
-    /// the input; reader, levels and visitor are then before that head. `OutOfMemory` if memory is
+    /// the input; reader, levels and visitor are then before that head. `Memory` if memory is
     /// refused to levels or visitor; then nothing is known of the three.
     pub fn read<L: Levels, V: Visitor>(
         &mut self,
@@ -124,7 +124,7 @@ impl HeadReader {
         visitor: &mut V,
         piece: &[u8],
         until: Until,
-    ) -> Result<usize, WireFault>
+    ) -> Result<usize, VisitFault>
         requires fed { (base : ℕ) × (x : List ℕ) × IsFed (V.holds visitor.old) (L.outer levels.old) (L.inner levels.old) self.old base x }
         requires room { self.old.at + length piece.now < 2 ^ 64 }
         requires levels { self.old.limit + 1 < L.most }
@@ -136,7 +136,7 @@ impl HeadReader {
         ensures within { IfOk result (λ n. n ≤ length piece.now) }
         ensures limit { self.new.limit ≡ self.old.limit }
         ensures at { IfOk result (λ n. self.new.at ≡ self.old.at + n) }
-        ensures memory { result ≡ Err OutOfMemory → V.takes_memory ⊎ L.takes_memory }
+        ensures memory { result ≡ Err (Memory alloc_error) → V.takes_memory ⊎ L.takes_memory }
     {
         let mut rest = piece;
         while !rest.is_empty() {
@@ -158,7 +158,7 @@ impl HeadReader {
         levels: &mut L,
         visitor: &mut V,
         piece: &[u8],
-    ) -> Result<usize, WireFault>
+    ) -> Result<usize, VisitFault>
         requires here { (s : State) × Here (V.holds visitor.old) (L.outer levels.old) (L.inner levels.old) self.old s × OpenIn self.old.limit s }
         requires levels { self.old.limit + 1 < L.most }
         requires some { 0 < length piece.now }
@@ -166,7 +166,7 @@ impl HeadReader {
         ensures goes { (s : State) → Here (V.holds visitor.old) (L.outer levels.old) (L.inner levels.old) self.old s → OpenIn self.old.limit s → TakesPiece self.old.limit s piece.now (V.holds visitor.new) (L.outer levels.new) (L.inner levels.new) self.new.left self.old.at self.new.head result }
         ensures some { TakesSome (length piece.now) self.old self.new result }
         ensures kept { (p : ℕ) (r : Reason) → result ≡ Err (Refused p r) → (p ≡ next_head self.old) × (visitor.new ≡ visitor.old) × (levels.new ≡ levels.old) × (self.new ≡ self.old) }
-        ensures memory { result ≡ Err OutOfMemory → V.takes_memory ⊎ L.takes_memory }
+        ensures memory { result ≡ Err (Memory alloc_error) → V.takes_memory ⊎ L.takes_memory }
     {
         if let Some(head) = self.head {
             return self.take_argument(levels, visitor, head, piece);
@@ -188,7 +188,7 @@ impl HeadReader {
         levels: &mut L,
         visitor: &mut V,
         piece: &[u8],
-    ) -> Result<usize, WireFault>
+    ) -> Result<usize, VisitFault>
         requires some { 0 < length piece.now }
         requires room { self.old.at + length piece.now < 2 ^ 64 }
         requires between { self.old.head ≡ None }
@@ -197,12 +197,12 @@ impl HeadReader {
         ensures goes { (f : Partial) → V.holds visitor.old f no_part → Keeps f (L.outer levels.old) (L.inner levels.old) → AreOpen self.old.limit (open_in f) → TakesPiece self.old.limit (state self.old.at f no_part) piece.now (V.holds visitor.new) (L.outer levels.new) (L.inner levels.new) self.new.left self.old.at self.new.head result }
         ensures some { TakesSome (length piece.now) self.old self.new result }
         ensures kept { (p : ℕ) (r : Reason) → result ≡ Err (Refused p r) → (p ≡ self.old.at) × (visitor.new ≡ visitor.old) × (levels.new ≡ levels.old) × (self.new ≡ self.old) }
-        ensures memory { result ≡ Err OutOfMemory → V.takes_memory ⊎ L.takes_memory }
+        ensures memory { result ≡ Err (Memory alloc_error) → V.takes_memory ⊎ L.takes_memory }
     {
         let first = piece[0];
         let place = self.at;
         if let Some(reason) = refusal(levels, self.limit, first) {
-            return Err(WireFault::Refused { place, reason });
+            return Err(VisitFault::Refused { place, reason });
         }
         match read_head(piece) {
             HeadRead::Full(head, len) => {
@@ -219,7 +219,7 @@ impl HeadReader {
                 });
                 Ok(1)
             }
-            HeadRead::Bad(reason) => Err(WireFault::Refused { place, reason }),
+            HeadRead::Bad(reason) => Err(VisitFault::Refused { place, reason }),
         }
     }
 
@@ -231,7 +231,7 @@ impl HeadReader {
         visitor: &mut V,
         head: PartialHead,
         piece: &[u8],
-    ) -> Result<usize, WireFault>
+    ) -> Result<usize, VisitFault>
         requires short { IsShort head }
         requires some { 0 < length piece.now }
         requires room { self.old.at + length piece.now < 2 ^ 64 }
@@ -239,7 +239,7 @@ impl HeadReader {
         ensures goes { (f : Partial) → V.holds visitor.old f no_part → Keeps f (L.outer levels.old) (L.inner levels.old) → Takes f (major_at head.major) (Given head.width 0) → TakesPiece self.old.limit (Live self.old.at (ready f) (open_in f) (seen_head head)) piece.now (V.holds visitor.new) (L.outer levels.new) (L.inner levels.new) self.new.left self.old.at self.new.head result }
         ensures some { TakesSome (length piece.now) self.old self.new result }
         ensures kept { (p : ℕ) (r : Reason) → result ≡ Err (Refused p r) → (p ≡ head.place) × (visitor.new ≡ visitor.old) × (levels.new ≡ levels.old) × (self.new ≡ self.old) }
-        ensures memory { result ≡ Err OutOfMemory → V.takes_memory ⊎ L.takes_memory }
+        ensures memory { result ≡ Err (Memory alloc_error) → V.takes_memory ⊎ L.takes_memory }
     {
         let mut bytes = head.bytes;
         bytes[head.len] = piece[0];
@@ -263,7 +263,7 @@ impl HeadReader {
         levels: &mut L,
         visitor: &mut V,
         piece: &[u8],
-    ) -> Result<usize, WireFault>
+    ) -> Result<usize, VisitFault>
         requires some { 0 < length piece.now }
         requires room { self.old.at + length piece.now < 2 ^ 64 }
         requires between { self.old.head ≡ None }
@@ -271,7 +271,7 @@ impl HeadReader {
         ensures goes { (f : Partial) (p : ℕ) (k : Kind) (w : Wide) (n : ℕ) (x : List ℕ) → V.holds visitor.old f (part p k w n x) → Keeps f (L.outer levels.old) (L.inner levels.old) → TakesString f k → self.old.left + length x ≡ n → TakesPiece self.old.limit (state self.old.at f (part p k w n x)) piece.now (V.holds visitor.new) (L.outer levels.new) (L.inner levels.new) self.new.left self.old.at self.new.head result }
         ensures some { TakesSome (length piece.now) self.old self.new result }
         ensures kept { (p : ℕ) (r : Reason) → result ≡ Err (Refused p r) → (p ≡ next_head self.old) × (visitor.new ≡ visitor.old) × (levels.new ≡ levels.old) × (self.new ≡ self.old) }
-        ensures memory { result ≡ Err OutOfMemory → V.takes_memory ⊎ L.takes_memory }
+        ensures memory { result ≡ Err (Memory alloc_error) → V.takes_memory ⊎ L.takes_memory }
     {
         let taken = self.left.min(piece.len() as u64) as usize;
         visitor.part(&piece[..taken])?;

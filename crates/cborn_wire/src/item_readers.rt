@@ -6,7 +6,7 @@ ghost use Rattle.cborn_wire.specs.shared.Visiting.{open_in};
 ghost use Rattle.cborn_wire.specs.devices.OpenNodes.{seen_nodes};
 ghost use Rattle.cborn_wire.specs.devices.ItemReading.{pending, seen, IsMade, ReadsItem};
 
-use crate::WireFault;
+use crate::VisitFault;
 use crate::head_readers::{HeadReader, Until};
 use crate::levels::{GrownLevels, LevelKind, Levels};
 use crate::nodes::Nodes;
@@ -52,8 +52,8 @@ impl ItemReader {
     ///
     /// # Errors
     /// `Refused` if a head in the piece isn't allowed where it is, and no item is whole before it.
-    /// `OutOfMemory` if memory is refused. Then nothing is known of the reader but its limit.
-    pub(crate) fn read_item(&mut self, piece: &[u8]) -> Result<(usize, Option<Spelled>), WireFault>
+    /// `Memory` if memory is refused. Then nothing is known of the reader but its limit.
+    pub(crate) fn read_item(&mut self, piece: &[u8]) -> Result<(usize, Option<Spelled>), VisitFault>
         requires made { IsMade self.old }
         requires room { self.old.heads.at + length piece.now < 2 ^ 64 }
         ensures item { ReadsItem piece.now self.old self.new result }

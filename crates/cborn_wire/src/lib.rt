@@ -17,15 +17,15 @@
 //!   likewise, and [`read_one`] reads it, with the visitor that builds nodes.
 //! - [`spell`] writes the bytes that a node spells.
 //! - `heads` reads and writes single heads. [`int_len`] and [`integers_at`] tell integers with the
-//!   shortest heads by their first bytes (`short_integers`). `walks` has what walks of other crates
-//!   over bytes ask at each step, and `specs/Parts.antt` what they read.
+//!   shortest heads by their first bytes (`short_integers`). `specs/Parts.antt` has what a walk
+//!   over bytes reads at each step.
 //!
 //! A reader of the definitions starts at `specs/Faults.antt`: where bytes are not well-formed, and
 //! why. `cborn_model` defines which nodes well-formed bytes spell. `specs/SlotFaults.antt` has the
 //! faults again, as the reader finds them: by a table over what is open (`specs/Slots.antt`).
-//! `specs/Feeding.antt` is what contracts see of a feeder, and `specs/Reading.antt` is about one
-//! item. `specs/devices` and `specs/shared` serve the proofs. [`laws`] has what is proved of the
-//! definitions alone.
+//! `specs/Feeding.antt` is what contracts see of a feeder, `specs/Reading.antt` is about one item,
+//! and `specs/Visits.antt` has the fault of a visit as these give it. `specs/devices` and
+//! `specs/shared` serve the proofs. [`laws`] has what is proved of the definitions alone.
 #![tactic(auto)]
 
 mod containers;
@@ -48,17 +48,16 @@ mod scanning;
 mod short_integers;
 mod spelling;
 mod visits;
-mod walks;
 
-pub use faults::{WireFault, WireReason};
+pub use faults::{VisitFault, WireFault, WireReason};
 pub use feeders::Feeder;
 pub use first_items::{first_end, item_end};
 pub use head_readers::{HeadReader, Until};
 pub use heads::{Argument, Head, HeadRead, head_bytes, push_head, read_head};
 pub use levels::{GrownLevels, Level, LevelKind, Levels};
+pub use nodes::Nodes;
 pub use readers::{read_all, read_one};
 pub use scanning::{Nothing, scan};
 pub use short_integers::{Integers, int_len, integers_at};
 pub use spelling::{spell, spell_all};
 pub use visits::visit;
-pub use walks::{after_break, is_done, last};

@@ -1,12 +1,13 @@
 //! The visitor [`Nodes`], which builds nodes.
 
-ghost use Rattle.std.specs.Prelude.{◌≡◌, List, [], OnOk, IfSome, None};
-ghost use Rattle.cborn_model.specs.Tree.{Tree};
+ghost use Rattle.std.specs.Prelude.{◌≡◌, ◌≤◌, List, [], OnOk, IfOk, IfSome, None};
+ghost use Rattle.cborn_model.specs.Tree.{Tree, trees, depth_all};
+ghost use Rattle.cborn_model.specs.Spelled.{FitsAll};
 ghost use Rattle.cborn_model.specs.Partial.{Partial, top, whole, put, no_part};
 ghost use Rattle.cborn_wire.specs.devices.OpenNodes.{within, around, seen_nodes, IsHeld};
 
 use crate::open_nodes::{OpenHead, OpenNode};
-use cborn_model::{ByteString, Chunk, Form, Node, Size, StringKind, Visitor, Width};
+use cborn_model::{ByteString, Chunk, Form, Node, Size, Spelled, StringKind, Visitor, Width};
 use std::alloc::{AllocError, Global};
 
 /// A string of `len` bytes, and those of them that came.
@@ -21,7 +22,7 @@ pub(crate) struct OpenString {
 
 /// Builds the nodes of the items that a source hands it.
 #[derive(Drop)]
-pub(crate) struct Nodes {
+pub struct Nodes {
     pub(crate) alloc: Global,
     /// The innermost container; the input, if none is open.
     pub(crate) innermost: OpenNode,
@@ -33,7 +34,7 @@ pub(crate) struct Nodes {
 
 impl Nodes {
     /// A visitor that was handed nothing. Takes no memory.
-    pub(crate) fn new(alloc: Global) -> Nodes
+    pub fn new(alloc: Global) -> Nodes
         ensures { IsHeld result (top []) no_part }
     {
         Nodes {
@@ -58,6 +59,27 @@ impl Nodes {
         }
     }
 
+    /// The nodes that it was handed, of which none is open.
+    ///
+    /// # Errors
+    /// `AllocError` if memory is refused.
+    pub fn finish(self) -> Result<Vec<Spelled>, AllocError>
+        requires { (ts : List Tree) × ⟦<Nodes as Visitor>⟧.holds self (top ts) no_part × FitsAll (trees ts) × (depth_all (trees ts) ≤ 1024) }
+        ensures { IfOk result (λ items. (ts : List Tree) → ⟦<Nodes as Visitor>⟧.holds self (top ts) no_part → items.items ≡ ts) }
+    {
+        let Nodes {
+            alloc,
+            innermost,
+            ..
+        } = self;
+        let nodes = whole_nodes(alloc, innermost);
+        let mut items = Vec::with_capacity(alloc, nodes.len())?;
+        for node in nodes {
+            items.push(Spelled::new(node))?;
+        }
+        Ok(items)
+    }
+
     /// Opens a container in the innermost.
     fn open(&mut self, container: OpenNode) -> Result<(), AllocError>
         ensures { OnOk result ((f g : Partial) → g ≡ within f container → IsHeld self.old f no_part → IsHeld self.new g no_part) }
@@ -76,6 +98,16 @@ impl Nodes {
             Some(around) => around,
             None => OpenNode::Input(Vec::new(self.alloc)),
         }
+    }
+}
+
+/// The nodes of the input; none of another container.
+fn whole_nodes(alloc: Global, innermost: OpenNode) -> Vec<Node>
+    ensures { (f : Partial) (ts : List Tree) → within f innermost ≡ top ts → result.items ≡ ts }
+{
+    match innermost {
+        OpenNode::Input(nodes) => nodes,
+        _ => Vec::new(alloc),
     }
 }
 

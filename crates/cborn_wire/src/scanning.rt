@@ -8,7 +8,7 @@ ghost use Rattle.cborn_wire.specs.Faults.{Fault};
 
 use crate::levels::LevelTable;
 use crate::visits::visit_in;
-use crate::{WireFault, WireReason};
+use crate::{VisitFault, WireReason};
 use cborn_model::{Limit, Size, StringKind, Visitor, Width};
 use std::alloc::AllocError;
 
@@ -105,7 +105,7 @@ fn scan_with<const MOST: usize>(limit: Limit, bytes: &[u8]) -> Option<(u64, Wire
 {
     match visit_in(&mut LevelTable::<MOST>::new(), limit, bytes, &mut Nothing) {
         Ok(()) => None,
-        Err(WireFault::Refused { place, reason }) => Some((place, reason)),
-        Err(WireFault::OutOfMemory) => unreachable!(),
+        Err(VisitFault::Refused { place, reason }) => Some((place, reason)),
+        Err(VisitFault::Memory(_)) => unreachable!(),
     }
 }

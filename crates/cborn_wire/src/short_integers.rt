@@ -69,8 +69,7 @@ fn top(a: u8, b: u8, c: u8, d: u8) -> u32
 /// it with which its head is the shortest. The length is 0 where no integer begins so.
 #[inline(always)]
 fn form(first: u8) -> (usize, u32)
-    ensures len { result.0 ≤ 9 }
-    ensures form { 0 < result.0 → IsIntegerForm first result.0 result.1 }
+    ensures { 0 < result.0 → IsIntegerForm first result.0 result.1 }
 {
     if first > 63 {
         return (0, 0);

@@ -1,16 +1,16 @@
 //! Handing the items that bytes spell to a visitor.
 
-ghost use Rattle.std.specs.Prelude.{◌≡◌, ◌+◌, ◌<◌, ℕ, List, [], Err, OnOk, ◌⊎◌};
+ghost use Rattle.std.specs.Prelude.{◌≡◌, ◌+◌, ◌<◌, ℕ, List, [], Err, OnOk, ◌⊎◌, alloc_error};
 ghost use Rattle.cborn_model.specs.Tree.{Tree, trees};
 ghost use Rattle.cborn_model.specs.Spelled.{Wellformed};
 ghost use Rattle.cborn_model.specs.Placed.{PlacedAll};
 ghost use Rattle.cborn_model.specs.Partial.{top, no_part};
-ghost use Rattle.cborn_wire.specs.declared.faults.WireFault.TheVariants.{Refused, OutOfMemory};
+ghost use Rattle.cborn_wire.specs.declared.faults.VisitFault.TheVariants.{Refused, Memory};
 ghost use Rattle.cborn_wire.specs.declared.faults.WireReason.{WireReason as Reason};
 ghost use Rattle.cborn_wire.specs.Faults.{Fault};
 ghost use Rattle.cborn_wire.specs.shared.Visiting.{IsInput};
 
-use crate::{GrownLevels, HeadReader, Levels, Until, WireFault, WireReason};
+use crate::{GrownLevels, HeadReader, Levels, Until, VisitFault, WireReason};
 use cborn_model::{Limit, Visitor};
 use std::alloc::Global;
 
@@ -19,14 +19,14 @@ use std::alloc::Global;
 ///
 /// # Errors
 /// `Refused` if the bytes are no such sequence, with the one fault that they have (RFC 8949 section
-/// 3), at its offset in bytes from their start. `OutOfMemory` if memory is refused, to the visitor or
+/// 3), at its offset in bytes from their start. `Memory` if memory is refused, to the visitor or
 /// for what is open. After both nothing is known of the visitor.
 pub fn visit<V: Visitor>(
     alloc: Global,
     limit: Limit,
     bytes: &[u8],
     visitor: &mut V,
-) -> Result<(), WireFault>
+) -> Result<(), VisitFault>
     requires { V.holds visitor.old (top []) no_part }
     ensures items { OnOk result ((ts : List Tree) × V.holds visitor.new (top ts) no_part × Wellformed limit (trees ts) bytes.now × PlacedAll 0 (trees ts)) }
     ensures fault { (p : ℕ) (r : Reason) → result ≡ Err (Refused p r) → Fault limit bytes.now p r }
@@ -41,18 +41,18 @@ pub(crate) fn visit_in<L: Levels, V: Visitor>(
     limit: Limit,
     bytes: &[u8],
     visitor: &mut V,
-) -> Result<(), WireFault>
+) -> Result<(), VisitFault>
     requires most { limit + 1 < L.most }
     requires levels { IsInput (L.outer levels.old) (L.inner levels.old) }
     requires nothing { V.holds visitor.old (top []) no_part }
     ensures items { OnOk result ((ts : List Tree) × V.holds visitor.new (top ts) no_part × Wellformed limit (trees ts) bytes.now × PlacedAll 0 (trees ts)) }
     ensures fault { (p : ℕ) (r : Reason) → result ≡ Err (Refused p r) → Fault limit bytes.now p r }
-    ensures memory { result ≡ Err OutOfMemory → V.takes_memory ⊎ L.takes_memory }
+    ensures memory { result ≡ Err (Memory alloc_error) → V.takes_memory ⊎ L.takes_memory }
 {
     let mut reader = HeadReader::new(limit, 0);
     match reader.read(levels, visitor, bytes, Until::End) {
         Ok(_) if reader.is_whole(levels) => Ok(()),
-        Ok(_) => Err(WireFault::Refused {
+        Ok(_) => Err(VisitFault::Refused {
             place: bytes.len() as u64,
             reason: WireReason::Truncated,
         }),

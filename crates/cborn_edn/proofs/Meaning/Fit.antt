@@ -46,7 +46,7 @@ head_short m (Given Four n) = omega arith
 head_short m (Given Eight n) = omega arith
 head_short m EndlessArgument = omega arith
 
-argument_below : (n : Bool) (v : ℕ) → v < 2 ^ 128 → argument_of n v < 2 ^ 128
+pub argument_below : (n : Bool) (v : ℕ) → v < 2 ^ 128 → argument_of n v < 2 ^ 128
 argument_below true zero h = omega arith
 argument_below true (suc v) h = omega arith
 argument_below false v h = h

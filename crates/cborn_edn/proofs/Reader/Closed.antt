@@ -18,8 +18,6 @@ use Rattle.cborn_edn.proofs.Grammar.Machine.{Stack, in_array, in_embed, Home, wi
 use Rattle.cborn_edn.specs.devices.Said.{str, str_of, nodes_in, entries_in, faults_in, faults_of_fields, faults_of_pieces}
 use Rattle.cborn_edn.specs.declared.states.Here.{Here}
 use Rattle.cborn_edn.specs.declared.states.Writer.{Writer}
-use Rattle.cborn_edn.specs.declared.states.Heads.{Heads}
-use Rattle.cborn_edn.specs.declared.states.Heads.TheVariants.{AsWritten, Shortest}
 use Rattle.cborn_edn.specs.declared.states.OpenBracket.{OpenBracket}
 use Rattle.cborn_edn.specs.declared.states.Joint.{Joint}
 use Rattle.cborn_edn.specs.declared.states.Around.{Around}
@@ -27,13 +25,11 @@ use Rattle.cborn_edn.specs.declared.states.Phase.TheVariants.{Has, Builds}
 use Rattle.cborn_edn.specs.devices.MeaningErrors.{is_none, Notes}
 use Rattle.cborn_edn.specs.devices.Laid.{cut, place_of, bytes_before, laid_stack, laid_home}
 use Rattle.cborn_edn.specs.devices.Noted.{noted_stack, noted_home}
-use Rattle.cborn_edn.specs.devices.Kept.{stack_of, bracket, brackets_of, brackets_home, arounds_of, arounds_home, around, joint}
+use Rattle.cborn_edn.specs.devices.Kept.{stack_of, bracket, brackets_of, brackets_home, arounds_home, around, joint}
 use Rattle.cborn_edn.specs.devices.Shows.{Shows, content_state, fields_state, entries_at, Same, Sized}
 use Rattle.cborn_edn.proofs.Reader.Laying.{laid_more, laid_set}
 use Rattle.cborn_edn.proofs.Reader.NotedErrors.{none_noted, earlier_noted, none_first}
-use Rattle.cborn_edn.specs.devices.Written.{heads_in, heads_at, written_mark, nodes_as, entries_as}
-use Rattle.cborn_edn.proofs.Reader.Showing.{with_heads, brackets_same, arounds_same}
-use Rattle.cborn_edn.proofs.Reader.Written.{in_around, place_as, array_as, map_as, same_nodes}
+use Rattle.cborn_edn.proofs.Reader.Showing.{brackets_same, arounds_same}
 use Rattle.cborn_edn.proofs.Reader.Rows.{InContent, in_content, in_fields}
 
 -- three facts of a success give one more
@@ -58,13 +54,9 @@ size_end major Endless n base x old new f e h = laid_more (base ++ (place_of maj
 size_end major Absent n base x old new f e h = bad_endless (sym f)
 size_end major (Wide v) n base x old new f e h = bad_endless (sym f)
 
-absent_mark : (k : Heads) → written_mark k Absent ≡ Absent
-absent_mark AsWritten = refl
-absent_mark Shortest = refl
-
 -- without an indicator
-pub size_absent : (major : Major) (k : Heads) (m : Mark) (n start : ℕ) (old new : List ℕ) → m ≡ Absent → new ≡ take start old ++ (cut (head_bytes (code major) (least n) n) ++ drop (start + 1) old) → Sized major (written_mark k m) start n old new
-size_absent major k m n start old new e h = subst (λ v. Sized major v start n old new) (sym (ap (written_mark k) e ∙ absent_mark k)) (λ base x s g. size_head major Absent n start base x old new (least n) refl s g refl h)
+pub size_absent : (major : Major) (m : Mark) (n start : ℕ) (old new : List ℕ) → m ≡ Absent → new ≡ take start old ++ (cut (head_bytes (code major) (least n) n) ++ drop (start + 1) old) → Sized major m start n old new
+size_absent major m n start old new e h = subst (λ v. Sized major v start n old new) (sym e) (λ base x s g. size_head major Absent n start base x old new (least n) refl s g refl h)
 
 pub absent_noted : (p : ℕ) (m : Mark) (n : ℕ) (old : Option MeaningError) → m ≡ Absent → Notes old old (size_errors p m n)
 absent_noted p m n old e = subst (λ v. Notes old old (size_errors p v n)) (sym e) (none_noted old)
@@ -84,21 +76,18 @@ abbrev pub Shut : Here → Writer → Here → Writer → OpenBracket → Type 0
 Shut here w next mid f = (g : OpenBracket) (gs : List OpenBracket) → w.brackets ≡ g ∷ gs → (f ≡ g) × (mid ≡ record w { brackets = gs }) × (next ≡ record here { count = g.count; phase = Has; level = g.level })
 
 pub closed_array : (here next : Here) (w mid left : Writer) (f : OpenBracket) (n : ℕ) (st : Stack) (s a : Span) (m : Mark) (c : Content) → Shows here w w.out.items (content_state (in_array st s m) c) → Shut here w next mid f → n ≡ entries_at here.phase here.count → Same mid left
-    → Sized ArrayHead (written_mark (heads_in mid.heads mid.around) f.mark) f.start n mid.out.items left.out.items → Notes mid.error left.error (size_errors f.place f.mark n) → Shows next left left.out.items (has st (array s m c a))
+    → Sized ArrayHead f.mark f.start n mid.out.items left.out.items → Notes mid.error left.error (size_errors f.place f.mark n) → Shows next left left.out.items (has st (array s m c a))
 closed_array here next w mid left f n st s a m c e shut k same sized noted =
     let q = in_content here w w.out.items (in_array st s m) c e in
-    let h = heads_at w.heads st in
-    let base = laid_stack w.heads st in
-    let x = spelled_all (nodes_as h (nodes_in c)) in
+    let base = laid_stack st in
+    let x = spelled_all (nodes_in c) in
     let g = bracket st s.start (length base) m in
-    let t = shut g (brackets_of w.heads st) q.brackets in
+    let t = shut g (brackets_of st) q.brackets in
     let all : n ≡ count (nodes_in c) = k ∙ q.count in
-    let old : mid.out.items ≡ cut (base ++ (place_of ArrayHead (written_mark h m) ++ x)) = ap (λ (y : Writer). y.out.items) t.1 ∙ q.laid ∙ ap cut (append_assoc base (place_of ArrayHead m) x) ∙ ap (λ y. cut (base ++ (y ++ x))) (sym (place_as h ArrayHead m)) in
-    let around : mid.around ≡ arounds_of mid.heads st = ap (λ (y : Writer). y.around) t.1 ∙ q.around ∙ ap (λ (y : Heads). arounds_of y st) (sym (ap (λ (y : Writer). y.heads) t.1)) in
-    let mark : written_mark (heads_in mid.heads mid.around) f.mark ≡ written_mark h m = (λ i. written_mark (heads_in mid.heads (around i)) (t.0 i).mark) ∙ ap (λ x. written_mark x m) (in_around mid.heads st) ∙ ap (λ (y : Writer). written_mark (heads_at y.heads st) m) t.1 in
-    let set = subst (λ i. Sized ArrayHead (written_mark h m) (length base) i mid.out.items left.out.items) all (subst (λ i. Sized ArrayHead (written_mark h m) i n mid.out.items left.out.items) (ap (λ (y : OpenBracket). y.start) t.0) (subst (λ y. Sized ArrayHead y f.start n mid.out.items left.out.items) mark sized)) in
+    let old : mid.out.items ≡ cut (base ++ (place_of ArrayHead m ++ x)) = ap (λ (y : Writer). y.out.items) t.1 ∙ q.laid ∙ ap cut (append_assoc base (place_of ArrayHead m) x) in
+    let set = subst (λ i. Sized ArrayHead m (length base) i mid.out.items left.out.items) all (subst (λ (y : OpenBracket). Sized ArrayHead y.mark y.start n mid.out.items left.out.items) t.0 sized) in
     let note : Notes mid.error left.error (size_errors s.start m (count (nodes_in c))) = subst (λ i. Notes mid.error left.error (size_errors s.start m i)) all (subst (λ (y : OpenBracket). Notes mid.error left.error (size_errors y.place y.mark n)) t.0 noted) in
-    with_heads next left w.heads left.out.items (has st (array s m c a)) (same.heads ∙ ap (λ (y : Writer). y.heads) t.1) (record {
+    record {
       phase = ap (λ (y : Here). y.phase) t.2;
       level = ap (λ (y : Here). y.level) t.2;
       count = ap (λ (y : Here). y.count) t.2;
@@ -108,25 +97,22 @@ closed_array here next w mid left f n st s a m c e shut k same sized noted =
       chunks = same.chunks ∙ ap (λ (y : Writer). y.chunks) t.1 ∙ q.chunks;
       simple = tt;
       error = note (noted_stack st ++ faults_in c) (ap (λ (y : Writer). y.error) t.1 ∙ q.error) ∙ ap first_error (append_assoc (noted_stack st) (faults_in c) (size_errors s.start m (count (nodes_in c))));
-      out = set base x refl old ∙ ap (λ y. cut (base ++ y)) (sym (array_as h s.start m (nodes_in c)));
-    })
+      out = set base x refl old;
+    }
 
 pub closed_map : (here next : Here) (w mid left : Writer) (f : OpenBracket) (n : ℕ) (st : Stack) (s a : Span) (m : Mark) (c : Fields) → Shows here w w.out.items (fields_state st s m c) → Shut here w next mid f → n ≡ entries_at here.phase here.count → Same mid left
-    → Sized MapHead (written_mark (heads_in mid.heads mid.around) f.mark) f.start n mid.out.items left.out.items → Notes mid.error left.error (size_errors f.place f.mark n) → Shows next left left.out.items (has st (map s m c a))
+    → Sized MapHead f.mark f.start n mid.out.items left.out.items → Notes mid.error left.error (size_errors f.place f.mark n) → Shows next left left.out.items (has st (map s m c a))
 closed_map here next w mid left f n st s a m c e shut k same sized noted =
     let q = in_fields here w w.out.items st s m c e in
-    let h = heads_at w.heads st in
-    let base = laid_stack w.heads st in
-    let x = spelled_entries (entries_as h (entries_in c)) in
+    let base = laid_stack st in
+    let x = spelled_entries (entries_in c) in
     let g = bracket st s.start (length base) m in
-    let t = shut g (brackets_of w.heads st) q.brackets in
+    let t = shut g (brackets_of st) q.brackets in
     let all : n ≡ count_entries (entries_in c) = k ∙ q.count in
-    let old : mid.out.items ≡ cut (base ++ (place_of MapHead (written_mark h m) ++ x)) = ap (λ (y : Writer). y.out.items) t.1 ∙ q.laid ∙ ap (λ y. cut (base ++ (y ++ x))) (sym (place_as h MapHead m)) in
-    let around : mid.around ≡ arounds_of mid.heads st = ap (λ (y : Writer). y.around) t.1 ∙ q.around ∙ ap (λ (y : Heads). arounds_of y st) (sym (ap (λ (y : Writer). y.heads) t.1)) in
-    let mark : written_mark (heads_in mid.heads mid.around) f.mark ≡ written_mark h m = (λ i. written_mark (heads_in mid.heads (around i)) (t.0 i).mark) ∙ ap (λ x. written_mark x m) (in_around mid.heads st) ∙ ap (λ (y : Writer). written_mark (heads_at y.heads st) m) t.1 in
-    let set = subst (λ i. Sized MapHead (written_mark h m) (length base) i mid.out.items left.out.items) all (subst (λ i. Sized MapHead (written_mark h m) i n mid.out.items left.out.items) (ap (λ (y : OpenBracket). y.start) t.0) (subst (λ y. Sized MapHead y f.start n mid.out.items left.out.items) mark sized)) in
+    let old : mid.out.items ≡ cut (base ++ (place_of MapHead m ++ x)) = ap (λ (y : Writer). y.out.items) t.1 ∙ q.laid in
+    let set = subst (λ i. Sized MapHead m (length base) i mid.out.items left.out.items) all (subst (λ (y : OpenBracket). Sized MapHead y.mark y.start n mid.out.items left.out.items) t.0 sized) in
     let note : Notes mid.error left.error (size_errors s.start m (count_entries (entries_in c))) = subst (λ i. Notes mid.error left.error (size_errors s.start m i)) all (subst (λ (y : OpenBracket). Notes mid.error left.error (size_errors y.place y.mark n)) t.0 noted) in
-    with_heads next left w.heads left.out.items (has st (map s m c a)) (same.heads ∙ ap (λ (y : Writer). y.heads) t.1) (record {
+    record {
       phase = ap (λ (y : Here). y.phase) t.2;
       level = ap (λ (y : Here). y.level) t.2;
       count = ap (λ (y : Here). y.count) t.2;
@@ -136,8 +122,8 @@ closed_map here next w mid left f n st s a m c e shut k same sized noted =
       chunks = same.chunks ∙ ap (λ (y : Writer). y.chunks) t.1 ∙ q.chunks;
       simple = tt;
       error = note (noted_stack st ++ faults_of_fields c) (ap (λ (y : Writer). y.error) t.1 ∙ q.error) ∙ ap first_error (append_assoc (noted_stack st) (faults_of_fields c) (size_errors s.start m (count_entries (entries_in c))));
-      out = set base x refl old ∙ ap (λ y. cut (base ++ y)) (sym (map_as h s.start m (entries_in c)));
-    })
+      out = set base x refl old;
+    }
 
 one_head : {A : Type 0} (x y : A) (xs ys : List A) → x ∷ xs ≡ y ∷ ys → (x ≡ y) × (xs ≡ ys)
 one_head x y xs ys e = (cc, cc)
@@ -156,52 +142,49 @@ pub record Embeds (here next : Here) (w mid left : Writer) (f : OpenBracket) (x 
   pub chunks : left.chunks ≡ x.chunks
   pub string : left.string ≡ Some j
   pub out : left.out.items ≡ mid.out.items
-  pub heads : left.heads ≡ mid.heads
 
 module _ (here next last : Here) (w mid left : Writer) (f : OpenBracket) (x : Around) (j : Joint) (sure : Bool) (m : Mark) (place : ℕ) (k : Embeds here next w mid left f x j sure m place) (same : last ≡ record next { phase = Builds }) (h : Home) (s a : Span) (c : Content) (p : place ≡ a.start) where
   -- what is kept after the bracket and what was kept around it were taken off
   record Left (o : Option Pieces) : Type 0 where
-    opened : f ≡ bracket (stack_of h) s.start (length (laid_home w.heads h)) Absent
-    stood : x ≡ around w.heads h o
-    outer : left.around ≡ arounds_home w.heads h
+    opened : f ≡ bracket (stack_of h) s.start (length (laid_home h)) Absent
+    stood : x ≡ around h o
+    outer : left.around ≡ arounds_home h
     inner : mid.error ≡ first_error (faults_in c)
-    back : next ≡ record here { count = (bracket (stack_of h) s.start (length (laid_home w.heads h)) Absent).count; phase = Has; level = (bracket (stack_of h) s.start (length (laid_home w.heads h)) Absent).level }
-    brackets : left.brackets ≡ brackets_of w.heads (stack_of h)
-    heads : left.heads ≡ w.heads
-    laid : left.out.items ≡ cut (laid_home w.heads h ++ (0 ∷ bytes_before o) ++ spelled_all (nodes_in c))
+    back : next ≡ record here { count = (bracket (stack_of h) s.start (length (laid_home h)) Absent).count; phase = Has; level = (bracket (stack_of h) s.start (length (laid_home h)) Absent).level }
+    brackets : left.brackets ≡ brackets_of (stack_of h)
+    laid : left.out.items ≡ cut (laid_home h ++ (0 ∷ bytes_before o) ++ spelled_all (nodes_in c))
 
   what_left : (o : Option Pieces) → InContent here w w.out.items (in_embed h o s) c → Left o
   what_left o q =
-      let t = k.shut (bracket (stack_of h) s.start (length (laid_home w.heads h)) Absent) (brackets_home w.heads h) q.brackets in
-      let u = one_head x (around w.heads h o) left.around (arounds_home w.heads h) (sym k.popped ∙ ap (λ (y : Writer). y.around) t.1 ∙ q.around) in
+      let t = k.shut (bracket (stack_of h) s.start (length (laid_home h)) Absent) (brackets_home h) q.brackets in
+      let u = one_head x (around h o) left.around (arounds_home h) (sym k.popped ∙ ap (λ (y : Writer). y.around) t.1 ∙ q.around) in
       record {
         opened = t.0;
         stood = u.0;
         outer = u.1;
         inner = ap (λ (y : Writer). y.error) t.1 ∙ q.error;
         back = t.2;
-        brackets = k.brackets ∙ ap (λ (y : Writer). y.brackets) t.1 ∙ sym (brackets_same w.heads h);
-        heads = k.heads ∙ ap (λ (y : Writer). y.heads) t.1;
-        laid = k.out ∙ ap (λ (y : Writer). y.out.items) t.1 ∙ q.laid ∙ ap (λ y. cut (laid_home w.heads h ++ (0 ∷ bytes_before o) ++ spelled_all y)) (same_nodes (nodes_in c));
+        brackets = k.brackets ∙ ap (λ (y : Writer). y.brackets) t.1 ∙ sym (brackets_same h);
+        laid = k.out ∙ ap (λ (y : Writer). y.out.items) t.1 ∙ q.laid;
       }
 
   surely : (o : Option Pieces) → Left o → is_nil (faults_in c) ≡ sure
   surely o l = sym (none_first (faults_in c)) ∙ ap is_none (sym l.inner) ∙ sym k.known
 
   -- the parts that are the same with and without pieces before
-  shown : (ps : Pieces) (o : Option Pieces) → Left o → j ≡ joint (length (laid_home w.heads h)) (str ps) → left.error ≡ first_error (noted_home h ++ faults_of_pieces ps) → left.out.items ≡ cut (laid_home w.heads h ++ (0 ∷ (str ps).bytes)) → Shows last left left.out.items (builds h ps)
-  shown ps o l e n q = with_heads last left w.heads left.out.items (builds h ps) l.heads (record {
+  shown : (ps : Pieces) (o : Option Pieces) → Left o → j ≡ joint (length (laid_home h)) (str ps) → left.error ≡ first_error (noted_home h ++ faults_of_pieces ps) → left.out.items ≡ cut (laid_home h ++ (0 ∷ (str ps).bytes)) → Shows last left left.out.items (builds h ps)
+  shown ps o l e n q = record {
     phase = ap (λ (y : Here). y.phase) same;
     level = ap (λ (y : Here). y.level) same ∙ ap (λ (y : Here). y.level) l.back;
     count = ap (λ (y : Here). y.count) same ∙ ap (λ (y : Here). y.count) l.back;
     brackets = l.brackets;
-    around = l.outer ∙ sym (arounds_same w.heads h);
+    around = l.outer ∙ sym (arounds_same h);
     string = k.string ∙ ap Some e;
     chunks = k.chunks ∙ ap (λ (y : Around). y.chunks) l.stood;
     simple = tt;
     error = n;
     out = q;
-  })
+  }
 
   pub closed_first : Shows here w w.out.items (content_state (in_embed h None s) c) → Shows last left left.out.items (builds h (with_piece None (embedded s c a m)))
   closed_first e =
@@ -212,18 +195,18 @@ module _ (here next last : Here) (w mid left : Writer) (f : OpenBracket) (x : Ar
       shown (with_piece None (embedded s c a m)) None l
       (d.0 ∙ ap (λ i. joint i t) (ap (λ (y : OpenBracket). y.start) l.opened))
       (noted (noted_home h ++ []) (ap (λ (y : Around). y.error) l.stood) ∙ ap (λ y. first_error (y ++ faults_in c)) (append-nil (noted_home h)))
-      (l.laid ∙ ap cut (append_assoc (laid_home w.heads h) (0 ∷ []) (spelled_all (nodes_in c))))
+      (l.laid ∙ ap cut (append_assoc (laid_home h) (0 ∷ []) (spelled_all (nodes_in c))))
 
   pub closed_more : (ps : Pieces) → Shows here w w.out.items (content_state (in_embed h (Some ps) s) c) → Shows last left left.out.items (builds h (with_piece (Some ps) (embedded s c a m)))
   closed_more ps e =
       let l = what_left (Some ps) (in_content here w w.out.items (in_embed h (Some ps) s) c e) in
       let t = str_of (embedded s c a m) in
-      let d = k.joint.more (length (laid_home w.heads h)) (str ps) t (ap (λ (y : Around). y.string) l.stood) refl (sym (ap (λ (y : OpenBracket). y.place) l.opened)) (surely (Some ps) l) refl (sym p) in
+      let d = k.joint.more (length (laid_home h)) (str ps) t (ap (λ (y : Around). y.string) l.stood) refl (sym (ap (λ (y : OpenBracket). y.place) l.opened)) (surely (Some ps) l) refl (sym p) in
       let noted : Notes x.error (earlier x.error mid.error) (faults_in c) = earlier_noted x.error (earlier x.error mid.error) mid.error (faults_in c) l.inner refl in
       shown (with_piece (Some ps) (embedded s c a m)) (Some ps) l d.0
       (d.1 (noted_home h ++ faults_of_pieces ps ++ faults_in c) (noted (noted_home h ++ faults_of_pieces ps) (ap (λ (y : Around). y.error) l.stood))
       ∙ ap first_error (append_assoc (noted_home h ++ faults_of_pieces ps) (faults_in c) (piece_errors (str ps) t) ∙ append_assoc (noted_home h) (faults_of_pieces ps) (faults_in c ++ piece_errors (str ps) t)))
-      (l.laid ∙ ap cut (append_assoc (laid_home w.heads h) (0 ∷ (str ps).bytes) (spelled_all (nodes_in c))))
+      (l.laid ∙ ap cut (append_assoc (laid_home h) (0 ∷ (str ps).bytes) (spelled_all (nodes_in c))))
 
   pub closed_embed : (o : Option Pieces) → Shows here w w.out.items (content_state (in_embed h o s) c) → Shows last left left.out.items (builds h (with_piece o (embedded s c a m)))
   closed_embed None e = closed_first e

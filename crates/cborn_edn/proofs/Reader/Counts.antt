@@ -12,14 +12,11 @@ use Rattle.cborn_edn.proofs.Grammar.Machine.{Stack, in_row, in_key, in_value, in
 use Rattle.cborn_edn.proofs.Grammar.Held.{levels, levels_nest, levels_home, open_levels}
 use Rattle.cborn_edn.specs.devices.Said.{node, str, nodes_before, entries_before}
 use Rattle.cborn_edn.specs.declared.states.Here.{Here}
-use Rattle.cborn_edn.specs.declared.states.Heads.{Heads}
 use Rattle.cborn_edn.specs.declared.states.Writer.{Writer}
 use Rattle.cborn_edn.specs.devices.Laid.{place_of, chunks_laid, laid_stack, laid_nest, laid_home, laid}
 use Rattle.cborn_edn.specs.devices.Kept.{stack_of, stack_in, count_of, brackets_of, brackets_nest, brackets_home}
 use Rattle.cborn_edn.specs.devices.Shows.{Shows}
-use Rattle.cborn_edn.specs.devices.Written.{heads_at, heads_nest, node_as, nodes_as, entries_as}
 use Rattle.cborn_edn.proofs.Reader.Laying.{laid_length}
-use Rattle.cborn_edn.proofs.Reader.Written.{count_as, count_entries_as}
 
 sized_some : (k : Major) (s : Size) (n : ℕ) (x : List ℕ) → 0 < length (head k (argument s n) ++ x ++ ending s)
 sized_some k (Fixed w) n x = omega arith
@@ -45,68 +42,62 @@ pub few_entries : (es : Entries) → count_entries es ≤ length (spelled_entrie
 few_entries no_entry = omega arith
 few_entries (entry k v es) = omega (arith, few_entries es, some_bytes k, length-append (spelled k ++ spelled v) (spelled_entries es), length-append (spelled k) (spelled v))
 
-few_nodes : (k : Heads) (ts : Trees) → count ts ≤ length (spelled_all (nodes_as k ts))
-few_nodes k ts = omega (arith, few_items (nodes_as k ts), count_as k ts)
-
-few_pairs : (k : Heads) (es : Entries) → count_entries es ≤ length (spelled_entries (entries_as k es))
-few_pairs k es = omega (arith, few_entries (entries_as k es), count_entries_as k es)
-
-few_in : (k : Heads) (st : Stack) → count_of st ≤ length (laid_stack k st)
-few_in k (in_row n b) = omega (arith, few_nodes (heads_nest k n) (nodes_before b), length-append (laid_nest k n) (spelled_all (nodes_as (heads_nest k n) (nodes_before b))))
-few_in k (in_key st s m b) =
-    let e = spelled_entries (entries_as (heads_at k st) (entries_before b)) in
-    omega (arith, few_pairs (heads_at k st) (entries_before b), length-append (laid_stack k st) (place_of MapHead m ++ e), length-append (place_of MapHead m) e)
-few_in k (in_value st s m b i c) =
-    let e = spelled_entries (entries_as (heads_at k st) (entries_before b)) in
+few_in : (st : Stack) → count_of st ≤ length (laid_stack st)
+few_in (in_row n b) = omega (arith, few_items (nodes_before b), length-append (laid_nest n) (spelled_all (nodes_before b)))
+few_in (in_key st s m b) =
+    let e = spelled_entries (entries_before b) in
+    omega (arith, few_entries (entries_before b), length-append (laid_stack st) (place_of MapHead m ++ e), length-append (place_of MapHead m) e)
+few_in (in_value st s m b i c) =
+    let e = spelled_entries (entries_before b) in
     omega (
       arith,
-      few_pairs (heads_at k st) (entries_before b),
-      length-append (laid_stack k st ++ (place_of MapHead m ++ e)) (spelled (node_as (heads_at k st) (node i))),
-      length-append (laid_stack k st) (place_of MapHead m ++ e),
+      few_entries (entries_before b),
+      length-append (laid_stack st ++ (place_of MapHead m ++ e)) (spelled (node i)),
+      length-append (laid_stack st) (place_of MapHead m ++ e),
       length-append (place_of MapHead m) e,
     )
-few_in k (in_tag st s n m) = omega arith
+few_in (in_tag st s n m) = omega arith
 
-home_laid : (k : Heads) (h : Home) → length (laid_stack k (stack_of h)) ≤ length (laid_home k h)
-home_laid k (as_item st) = omega arith
-home_laid k (as_chunk st s b) = omega (arith, length-append (laid_stack k st) (0 ∷ chunks_laid (heads_at k st) b))
+home_laid : (h : Home) → length (laid_stack (stack_of h)) ≤ length (laid_home h)
+home_laid (as_item st) = omega arith
+home_laid (as_chunk st s b) = omega (arith, length-append (laid_stack st) (0 ∷ chunks_laid b))
 
-few_laid : (k : Heads) (s : State) → count_of (stack_in s) ≤ length (laid k s)
-few_laid k (wants st) = few_in k st
-few_laid k (has st i) = omega (arith, few_in k st, length-append (laid_stack k st) (spelled (node_as (heads_at k st) (node i))))
-few_laid k (builds h ps) = omega (arith, few_in k (stack_of h), home_laid k h, length-append (laid_home k h) (0 ∷ (str ps).bytes))
-few_laid k (wants_chunk st s b) = omega (arith, few_in k st, length-append (laid_stack k st) (0 ∷ chunks_laid (heads_at k st) b))
-few_laid k (wants_number st s) = few_in k st
-few_laid k (has_number st s b n v m) = omega (arith, few_in k st, length-append (laid_stack k st) (spelled (node_as (heads_at k st) (Simple s.start v))))
+few_laid : (s : State) → count_of (stack_in s) ≤ length (laid s)
+few_laid (wants st) = few_in st
+few_laid (has st i) = omega (arith, few_in st, length-append (laid_stack st) (spelled (node i)))
+few_laid (builds h ps) = omega (arith, few_in (stack_of h), home_laid h, length-append (laid_home h) (0 ∷ (str ps).bytes))
+few_laid (wants_chunk st s b) = omega (arith, few_in st, length-append (laid_stack st) (0 ∷ chunks_laid b))
+few_laid (wants_number st s) = few_in st
+few_laid (has_number st s b n v m) = omega (arith, few_in st, length-append (laid_stack st) (spelled (Simple s.start v)))
 
 pub shown_few : (here : Here) (w : Writer) (out : List ℕ) (s : State) → Shows here w out s → here.count ≤ length out
-shown_few here w out s e = omega (arith, e.count, few_laid w.heads s, laid_length (laid w.heads s) out e.out)
+shown_few here w out s e = omega (arith, e.count, few_laid s, laid_length (laid s) out e.out)
 
 mutual
-  stack_levels : (k : Heads) (st : Stack) → length (brackets_of k st) ≡ levels st
-  stack_levels k (in_row n b) = nest_levels k n
-  stack_levels k (in_key st s m b) = ap suc (stack_levels k st)
-  stack_levels k (in_value st s m b i c) = ap suc (stack_levels k st)
-  stack_levels k (in_tag st s n m) = ap suc (stack_levels k st)
+  stack_levels : (st : Stack) → length (brackets_of st) ≡ levels st
+  stack_levels (in_row n b) = nest_levels n
+  stack_levels (in_key st s m b) = ap suc (stack_levels st)
+  stack_levels (in_value st s m b i c) = ap suc (stack_levels st)
+  stack_levels (in_tag st s n m) = ap suc (stack_levels st)
 
-  nest_levels : (k : Heads) (n : Nest) → length (brackets_nest k n) ≡ levels_nest n
-  nest_levels k at_top = refl
-  nest_levels k (in_array st s m) = ap suc (stack_levels k st)
-  nest_levels k (in_embed h o s) = ap suc (home_levels k h)
+  nest_levels : (n : Nest) → length (brackets_nest n) ≡ levels_nest n
+  nest_levels at_top = refl
+  nest_levels (in_array st s m) = ap suc (stack_levels st)
+  nest_levels (in_embed h o s) = ap suc (home_levels h)
 
-  home_levels : (k : Heads) (h : Home) → length (brackets_home k h) ≡ levels_home h
-  home_levels k (as_item st) = stack_levels k st
-  home_levels k (as_chunk st s b) = stack_levels k st
+  home_levels : (h : Home) → length (brackets_home h) ≡ levels_home h
+  home_levels (as_item st) = stack_levels st
+  home_levels (as_chunk st s b) = stack_levels st
 
-home_brackets : (k : Heads) (h : Home) → length (brackets_of k (stack_of h)) ≡ levels_home h
-home_brackets k (as_item st) = stack_levels k st
-home_brackets k (as_chunk st s b) = stack_levels k st
+home_brackets : (h : Home) → length (brackets_of (stack_of h)) ≡ levels_home h
+home_brackets (as_item st) = stack_levels st
+home_brackets (as_chunk st s b) = stack_levels st
 
 -- there are as many open brackets as levels
-pub brackets_levels : (k : Heads) (s : State) → length (brackets_of k (stack_in s)) ≡ open_levels s
-brackets_levels k (wants st) = stack_levels k st
-brackets_levels k (has st i) = stack_levels k st
-brackets_levels k (builds h ps) = home_brackets k h
-brackets_levels k (wants_chunk st s b) = stack_levels k st
-brackets_levels k (wants_number st s) = stack_levels k st
-brackets_levels k (has_number st s b n v m) = stack_levels k st
+pub brackets_levels : (s : State) → length (brackets_of (stack_in s)) ≡ open_levels s
+brackets_levels (wants st) = stack_levels st
+brackets_levels (has st i) = stack_levels st
+brackets_levels (builds h ps) = home_brackets h
+brackets_levels (wants_chunk st s b) = stack_levels st
+brackets_levels (wants_number st s) = stack_levels st
+brackets_levels (has_number st s b n v m) = stack_levels st

@@ -1,6 +1,6 @@
 -- The end of a text: its bytes, or why it has none.
 use Rattle.std.proofs.Common.{◌≡◌, refl, sym, ap, ◌∙◌, subst, ℕ, List, [], length, Bool, true, false, Option, Some, None, inr}
-use Rattle.cborn_model.specs.Tree.{Trees}
+use Rattle.cborn_model.specs.Partial.{top, no_part}
 use Rattle.cborn_model.specs.Spelled.{spelled_all}
 use Rattle.cborn_lex.specs.Lex.{Lex}
 use Rattle.cborn_lex.specs.declared.classes.Profile.{Profile}
@@ -19,21 +19,18 @@ use Rattle.cborn_edn.proofs.Meaning.Earliest.{Tells, tells}
 use Rattle.cborn_edn.proofs.Meaning.NoError.{nil_is}
 use Rattle.cborn_edn.specs.devices.Said.{node, nodes_before, nodes_of_input, faults_of_input}
 use Rattle.cborn_edn.proofs.Short.SyntaxErrors.{refused, text_of}
-use Rattle.cborn_edn.specs.devices.Written.{IsSpellingAs, nodes_as}
-use Rattle.cborn_edn.proofs.Reader.Written.{same_nodes, short_nodes}
-use Rattle.cborn_edn.proofs.Reader.ShortHeads.{written_bytes}
 use Rattle.cborn_edn.specs.declared.states.Here.{Here}
 use Rattle.cborn_edn.specs.declared.states.Writer.{Writer}
-use Rattle.cborn_edn.specs.declared.states.Heads.{Heads}
-use Rattle.cborn_edn.specs.declared.states.Heads.TheVariants.{AsWritten, Shortest}
 use Rattle.cborn_edn.specs.devices.MeaningErrors.{is_none}
 use Rattle.cborn_edn.specs.devices.Laid.{cut}
 use Rattle.cborn_edn.specs.devices.Kept.{phase_of, stack_in, level_of, chunks_in}
-use Rattle.cborn_edn.specs.devices.Shows.{Shows}
-use Rattle.cborn_edn.specs.devices.Reading.{may_end, ends_string, Last, empty, item, pieces, AtEnd, Reached}
+use Rattle.cborn_edn.specs.devices.TreesCode.{listed_trees, trees-listed}
+use Rattle.cborn_edn.specs.devices.Handed.{Holds, Reads, IsSpelledTo}
+use Rattle.cborn_edn.proofs.HandedOver.Silent.{listed_snoc}
+use Rattle.cborn_edn.specs.devices.Reading.{may_end, ends_string, Last, empty, item, pieces, AtEnd, Reached, IsReading}
 use Rattle.cborn_edn.proofs.Reader.Laying.{cut_bytes}
 use Rattle.cborn_edn.proofs.Reader.NotedErrors.{none_first}
-use Rattle.cborn_edn.proofs.Reader.Rows.{written_snoc}
+use Rattle.cborn_edn.proofs.Reader.Rows.{spelled_snoc}
 use Rattle.cborn_edn.proofs.Meaning.Sound.{text_sound}
 
 -- whether the text may end
@@ -41,47 +38,51 @@ pub data Ends (s : State) (b : Bool) : Type 0 where
   some : (t : Input) → b ≡ true → finish s ≡ Some t → Last s t → Ends s b
   none : b ≡ false → finish s ≡ None → Ends s b
 
-pub ends : (k : Heads) (s : State) → Ends s (may_end (phase_of s) (level_of (stack_in s)) (chunks_in k s))
-ends k (wants (in_row at_top no_item)) = some nothing refl refl empty
-ends k (wants (in_row at_top (after_row r c))) = none refl refl
-ends k (has (in_row at_top b) i) = some (items (row b i)) refl refl (item b i)
-ends k (builds (as_item (in_row at_top b)) ps) = some (items (row b (string ps))) refl refl (pieces b ps)
-ends k (builds (as_chunk (in_row at_top b) s d) ps) = none refl refl
-ends k (wants (in_row (in_array st s m) no_item)) = none refl refl
-ends k (wants (in_row (in_array st s m) (after_row r c))) = none refl refl
-ends k (wants (in_row (in_embed h o s) no_item)) = none refl refl
-ends k (wants (in_row (in_embed h o s) (after_row r c))) = none refl refl
-ends k (wants (in_key st s m no_pair)) = none refl refl
-ends k (wants (in_key st s m (after_pairs q c))) = none refl refl
-ends k (wants (in_value st s m b i c)) = none refl refl
-ends k (wants (in_tag st s n m)) = none refl refl
-ends k (has (in_row (in_array st s m) b) i) = none refl refl
-ends k (builds (as_item (in_row (in_array st s m) b)) ps) = none refl refl
-ends k (builds (as_chunk (in_row (in_array st s m) b) z d) ps) = none refl refl
-ends k (has (in_row (in_embed h o s) b) i) = none refl refl
-ends k (builds (as_item (in_row (in_embed h o s) b)) ps) = none refl refl
-ends k (builds (as_chunk (in_row (in_embed h o s) b) z d) ps) = none refl refl
-ends k (has (in_key st s m b) i) = none refl refl
-ends k (builds (as_item (in_key st s m b)) ps) = none refl refl
-ends k (builds (as_chunk (in_key st s m b) z d) ps) = none refl refl
-ends k (has (in_value st s m b j c) i) = none refl refl
-ends k (builds (as_item (in_value st s m b i c)) ps) = none refl refl
-ends k (builds (as_chunk (in_value st s m b i c) z d) ps) = none refl refl
-ends k (has (in_tag st s n m) i) = none refl refl
-ends k (builds (as_item (in_tag st s n m)) ps) = none refl refl
-ends k (builds (as_chunk (in_tag st s n m) z d) ps) = none refl refl
-ends k (wants_chunk st s b) = none refl refl
-ends k (wants_number st s) = none refl refl
-ends k (has_number st s b n v m) = none refl refl
+pub ends : (s : State) → Ends s (may_end (phase_of s) (level_of (stack_in s)) (chunks_in s))
+ends (wants (in_row at_top no_item)) = some nothing refl refl empty
+ends (wants (in_row at_top (after_row r c))) = none refl refl
+ends (has (in_row at_top b) i) = some (items (row b i)) refl refl (item b i)
+ends (builds (as_item (in_row at_top b)) ps) = some (items (row b (string ps))) refl refl (pieces b ps)
+ends (builds (as_chunk (in_row at_top b) s d) ps) = none refl refl
+ends (wants (in_row (in_array st s m) no_item)) = none refl refl
+ends (wants (in_row (in_array st s m) (after_row r c))) = none refl refl
+ends (wants (in_row (in_embed h o s) no_item)) = none refl refl
+ends (wants (in_row (in_embed h o s) (after_row r c))) = none refl refl
+ends (wants (in_key st s m no_pair)) = none refl refl
+ends (wants (in_key st s m (after_pairs q c))) = none refl refl
+ends (wants (in_value st s m b i c)) = none refl refl
+ends (wants (in_tag st s n m)) = none refl refl
+ends (has (in_row (in_array st s m) b) i) = none refl refl
+ends (builds (as_item (in_row (in_array st s m) b)) ps) = none refl refl
+ends (builds (as_chunk (in_row (in_array st s m) b) z d) ps) = none refl refl
+ends (has (in_row (in_embed h o s) b) i) = none refl refl
+ends (builds (as_item (in_row (in_embed h o s) b)) ps) = none refl refl
+ends (builds (as_chunk (in_row (in_embed h o s) b) z d) ps) = none refl refl
+ends (has (in_key st s m b) i) = none refl refl
+ends (builds (as_item (in_key st s m b)) ps) = none refl refl
+ends (builds (as_chunk (in_key st s m b) z d) ps) = none refl refl
+ends (has (in_value st s m b j c) i) = none refl refl
+ends (builds (as_item (in_value st s m b i c)) ps) = none refl refl
+ends (builds (as_chunk (in_value st s m b i c) z d) ps) = none refl refl
+ends (has (in_tag st s n m) i) = none refl refl
+ends (builds (as_item (in_tag st s n m)) ps) = none refl refl
+ends (builds (as_chunk (in_tag st s n m) z d) ps) = none refl refl
+ends (wants_chunk st s b) = none refl refl
+ends (wants_number st s) = none refl refl
+ends (has_number st s b n v m) = none refl refl
 
 -- what is kept at the end
-pub item_end : (here : Here) (w : Writer) (b : RowBefore) (i : Item) → Shows here w w.out.items (has (in_row at_top b) i) → AtEnd (items (row b i)) w
-item_end here w b i e = record { laid = e.out ∙ ap cut (sym (written_snoc w.heads (nodes_before b) (node i))); error = e.error }
+pub item_end : {h : Holds} (here : Here) (w : Writer) (b : RowBefore) (i : Item) → Reads h here w w.out.items (has (in_row at_top b) i) → AtEnd h (items (row b i)) w
+item_end {h = h} here w b i e = record {
+  laid = e.shows.out ∙ ap cut (sym (spelled_snoc (nodes_before b) (node i)));
+  error = e.shows.error;
+  held = λ none. subst (λ ts. h (top ts) no_part) (sym (listed_snoc (nodes_before b) (node i))) (e.handed none);
+}
 
-pub bare_end : (here : Here) (w : Writer) (s : State) (t : Input) → Last s t → ends_string here.phase ≡ false → Shows here w w.out.items s → AtEnd t w
-bare_end here w s t empty n e = record { laid = e.out; error = e.error }
+pub bare_end : {h : Holds} (here : Here) (w : Writer) (s : State) (t : Input) → Last s t → ends_string here.phase ≡ false → Reads h here w w.out.items s → AtEnd h t w
+bare_end here w s t empty n e = record { laid = e.shows.out; error = e.shows.error; held = e.handed }
 bare_end here w s t (item b i) n e = item_end here w b i e
-bare_end here w s t (pieces b ps) n e = absurd (let bad : true ≡ false = ap ends_string (sym e.phase) ∙ n in cc)
+bare_end here w s t (pieces b ps) n e = absurd (let bad : true ≡ false = ap ends_string (sym e.shows.phase) ∙ n in cc)
 
 pub record Pieced (s : State) (t : Input) : Type 0 where
   pub b : RowBefore
@@ -93,11 +94,6 @@ pub string_end : (s : State) (t : Input) → Last s t → ends_string (phase_of 
 string_end s t empty n = absurd (let bad : false ≡ true = n in cc)
 string_end s t (item b i) n = absurd (let bad : false ≡ true = n in cc)
 string_end s t (pieces b ps) n = record { b = b; ps = ps; is = refl; tree = refl }
-
--- nodes that a text notates, and what they spell with their heads written so
-spelled_as : {p : Profile} {limit : ℕ} {text : List ℕ} (k : Heads) (ts : Trees) (bytes : List ℕ) → Notates p limit text ts → spelled_all (nodes_as k ts) ≡ bytes → IsSpellingAs k p limit text bytes
-spelled_as AsWritten ts bytes n e = record { nodes = ts; notated = n; spells = ap spelled_all (sym (same_nodes ts)) ∙ e }
-spelled_as Shortest ts bytes n e = record { nodes = ts; notated = n; spells = ap spelled_all (sym (short_nodes ts)) ∙ e }
 
 module _ (p : Profile) (limit : ℕ) (text : List ℕ) (s : State) (r : Reached p limit text (length text) s) where
   lex : Lex p text r.tokens
@@ -114,22 +110,28 @@ module _ (p : Profile) (limit : ℕ) (text : List ℕ) (s : State) (r : Reached 
   is_text : (t : Input) → finish s ≡ Some t → IsText p limit r.tokens (nodes_of_input t) (faults_of_input t)
   is_text t e = let m = met (Some t) e in text_of p limit r.tokens t m.0 m.1
 
-  pub meaning_refused : (t : Input) (w : Writer) (error : MeaningError) → finish s ≡ Some t → AtEnd t w → w.error ≡ Some error → IsNoNotation p limit text (Refused error.place error.reason)
-  meaning_refused t w error e k h =
-      inr (r.tokens, nodes_of_input t, faults_of_input t, has_tokens p text r.tokens lex, is_text t e, subst (Tells (faults_of_input t)) (sym k.error ∙ h) (tells (faults_of_input t)))
+  pub meaning_refused : {h : Holds} (t : Input) (w : Writer) (error : MeaningError) → finish s ≡ Some t → AtEnd h t w → w.error ≡ Some error → IsNoNotation p limit text (Refused error.place error.reason)
+  meaning_refused t w error e k is =
+      inr (r.tokens, nodes_of_input t, faults_of_input t, has_tokens p text r.tokens lex, is_text t e, subst (Tells (faults_of_input t)) (sym k.error ∙ is) (tells (faults_of_input t)))
 
-  pub spelled_text : (t : Input) (w : Writer) → finish s ≡ Some t → AtEnd t w → w.error ≡ None → IsSpellingAs w.heads p limit text w.out.items
-  spelled_text t w e k h =
-      let none : faults_of_input t ≡ [] = nil_is (faults_of_input t) (sym (none_first (faults_of_input t)) ∙ ap is_none (sym k.error ∙ h)) in
-      let is = subst (IsText p limit r.tokens (nodes_of_input t)) none (is_text t e) in
-      let are = written_bytes w.heads (nodes_of_input t) (text_sound is r.modest).bytes in
-      spelled_as w.heads (nodes_of_input t) w.out.items (r.tokens, has_tokens p text r.tokens lex, is) (sym (k.laid ∙ cut_bytes (spelled_all (nodes_as w.heads (nodes_of_input t))) are))
+  pub spelled_text : {h : Holds} (t : Input) (w : Writer) → finish s ≡ Some t → AtEnd h t w → w.error ≡ None → IsSpelledTo h p limit text w.out.items
+  spelled_text t w e k no_error =
+      let ts = nodes_of_input t in
+      let none : faults_of_input t ≡ [] = nil_is (faults_of_input t) (sym (none_first (faults_of_input t)) ∙ ap is_none (sym k.error ∙ no_error)) in
+      let is = subst (IsText p limit r.tokens ts) none (is_text t e) in
+      record {
+        nodes = listed_trees ts;
+        notated = subst (Notates p limit text) (sym (trees-listed ts)) (r.tokens, has_tokens p text r.tokens lex, is);
+        spells = ap spelled_all (trees-listed ts) ∙ sym (k.laid ∙ cut_bytes (spelled_all ts) (text_sound is r.modest).bytes);
+        held = k.held none;
+      }
 
-pub may_end_at : (k : Heads) (s : State) → may_end (phase_of s) (level_of (stack_in s)) (chunks_in k s) ≡ true → (t : Input) × (finish s ≡ Some t) × Last s t
-may_end_at k s e = elim (ends k s) [ some t b f l ↦ (t, f, l) | none b f ↦ absurd (let bad : false ≡ true = sym b ∙ e in cc) ]
+module _ {h : Holds} {p : Profile} {limit : ℕ} {text : List ℕ} (here : Here) (w : Writer) (r : IsReading h p limit text here w) where
+  same_end : may_end (phase_of r.state) (level_of (stack_in r.state)) (chunks_in r.state) ≡ may_end here.phase here.level w.chunks
+  same_end = let e = r.shows.shows in sym (λ i. may_end (e.phase i) (e.level i) (e.chunks i))
 
-pub no_end_at : (k : Heads) (s : State) → may_end (phase_of s) (level_of (stack_in s)) (chunks_in k s) ≡ false → finish s ≡ None
-no_end_at k s e = elim (ends k s) [ some t b f l ↦ absurd (let bad : true ≡ false = sym b ∙ e in cc) | none b f ↦ f ]
+  pub at_end_of : may_end here.phase here.level w.chunks ≡ true → (t : Input) × (finish r.state ≡ Some t) × Last r.state t
+  at_end_of e = elim (ends r.state) [ some t b f l ↦ (t, f, l) | none b f ↦ absurd (let bad : false ≡ true = sym b ∙ same_end ∙ e in cc) ]
 
-pub same_end : (here : Here) (w : Writer) (out : List ℕ) (s : State) → Shows here w out s → may_end (phase_of s) (level_of (stack_in s)) (chunks_in w.heads s) ≡ may_end here.phase here.level w.chunks
-same_end here w out s e = sym (λ i. may_end (e.phase i) (e.level i) (e.chunks i))
+  pub not_at_end : may_end here.phase here.level w.chunks ≡ false → finish r.state ≡ None
+  not_at_end e = elim (ends r.state) [ some t b f l ↦ absurd (let bad : true ≡ false = sym b ∙ same_end ∙ e in cc) | none b f ↦ f ]

@@ -95,7 +95,7 @@ no_chunks : (k : StringKind) (p : ℕ) → cut (spelled (chunked_node k p [])) �
 no_chunks OfBytes p = refl
 no_chunks OfText p = refl
 
-abbrev said_by : Bool → Str → List ℕ
+abbrev pub said_by : Bool → Str → List ℕ
 said_by b s = spelled (if b then chunked_node s.kind s.place [] else string_node s.kind s.place (width s.mark (length s.bytes)) s.bytes)
 
 pub endless_string : (j : Joint) (s : Str) (base old short new : List ℕ) (first : ℕ) (major : Major) → j ≡ joint (length base) s → old ≡ cut (base ++ (0 ∷ s.bytes)) → j.lone ≡ true → is_endless j.mark ≡ true → short ≡ take j.start old
@@ -111,7 +111,7 @@ endless_string j s base old short new first major e f l m t k h n =
     ∙ sym (cut-append base (spelled (chunked_node s.kind s.place [])))
     ∙ ap (λ b. cut (base ++ said_by b s)) (sym lone)
 
-definite : (k : StringKind) (p : ℕ) (w : Width) (x : List ℕ) → spelled (string_node k p w x) ≡ string (major_of k) w x
+pub definite : (k : StringKind) (p : ℕ) (w : Width) (x : List ℕ) → spelled (string_node k p w x) ≡ string (major_of k) w x
 definite OfBytes p w x = refl
 definite OfText p w x = refl
 

@@ -10,15 +10,12 @@ use Rattle.cborn_edn.specs.devices.Syntax.{Span, Item, row, RowBefore, no_item, 
 use Rattle.cborn_edn.proofs.Grammar.Machine.{Stack, in_row, in_key, in_value, Nest, at_top, in_array, in_embed, has, wants}
 use Rattle.cborn_edn.specs.declared.states.Here.{Here}
 use Rattle.cborn_edn.specs.declared.states.Writer.{Writer}
-use Rattle.cborn_edn.specs.declared.states.Heads.{Heads}
 use Rattle.cborn_edn.specs.declared.states.Phase.TheVariants.{WantsMore}
 use Rattle.cborn_edn.specs.declared.states.Level.TheVariants.{Key}
 use Rattle.cborn_edn.specs.devices.Laid.{cut, place_of, laid_stack, laid_nest}
 use Rattle.cborn_edn.specs.devices.Noted.{noted_stack, noted_nest}
 use Rattle.cborn_edn.specs.devices.Kept.{level_of, bracket, brackets_of, brackets_nest, arounds_of, arounds_nest}
 use Rattle.cborn_edn.specs.devices.Shows.{Shows, content_state, fields_state, entries_at}
-use Rattle.cborn_edn.specs.devices.Written.{heads_at, heads_nest, node_as, nodes_as, entries_as}
-use Rattle.cborn_edn.proofs.Reader.Written.{snoc_as, snoc_entry_as}
 
 count-snoc : (ts : Trees) (t : Tree) → count (snoc ts t) ≡ suc (count ts)
 count-snoc no_node t = refl
@@ -41,31 +38,27 @@ row_level at_top b d = refl
 row_level (in_array st s m) b d = refl
 row_level (in_embed h o s) b d = refl
 
--- the same, with their heads written so
-pub written_snoc : (k : Heads) (ts : Trees) (t : Tree) → spelled_all (nodes_as k (snoc ts t)) ≡ spelled_all (nodes_as k ts) ++ spelled (node_as k t)
-written_snoc k ts t = ap spelled_all (snoc_as k ts t) ∙ spelled_snoc (nodes_as k ts) (node_as k t)
+pub one_item : (x : List ℕ) (b : RowBefore) (i : Item) → x ++ spelled_all (nodes_before b) ++ spelled (node i) ≡ x ++ spelled_all (snoc (nodes_before b) (node i))
+one_item x b i = append_assoc x (spelled_all (nodes_before b)) (spelled (node i)) ∙ ap (λ y. x ++ y) (sym (spelled_snoc (nodes_before b) (node i)))
 
-pub one_item : (k : Heads) (x : List ℕ) (b : RowBefore) (i : Item) → x ++ spelled_all (nodes_as k (nodes_before b)) ++ spelled (node_as k (node i)) ≡ x ++ spelled_all (nodes_as k (snoc (nodes_before b) (node i)))
-one_item k x b i = append_assoc x (spelled_all (nodes_as k (nodes_before b))) (spelled (node_as k (node i))) ∙ ap (λ y. x ++ y) (sym (written_snoc k (nodes_before b) (node i)))
-
-pub one_pair : (h : Heads) (x p : List ℕ) (b : PairsBefore) (k v : Item)
-    → x ++ (p ++ spelled_entries (entries_as h (entries_before b))) ++ spelled (node_as h (node k)) ++ spelled (node_as h (node v)) ≡ x ++ (p ++ spelled_entries (entries_as h (snoc_entry (entries_before b) (node k) (node v))))
-one_pair h x p b k v =
-    let e = spelled_entries (entries_as h (entries_before b)) in
-    let s = spelled (node_as h (node k)) in
-    let t = spelled (node_as h (node v)) in
+pub one_pair : (x p : List ℕ) (b : PairsBefore) (k v : Item)
+    → x ++ (p ++ spelled_entries (entries_before b)) ++ spelled (node k) ++ spelled (node v) ≡ x ++ (p ++ spelled_entries (snoc_entry (entries_before b) (node k) (node v)))
+one_pair x p b k v =
+    let e = spelled_entries (entries_before b) in
+    let s = spelled (node k) in
+    let t = spelled (node v) in
     append_assoc (x ++ (p ++ e)) s t ∙ append_assoc x (p ++ e) (s ++ t) ∙ ap (λ y. x ++ y) (append_assoc p e (s ++ t))
-    ∙ ap (λ y. x ++ (p ++ y)) (sym (ap spelled_entries (snoc_entry_as h (entries_before b) (node k) (node v)) ∙ spelled_snoc_entry (entries_as h (entries_before b)) (node_as h (node k)) (node_as h (node v))))
+    ∙ ap (λ y. x ++ (p ++ y)) (sym (spelled_snoc_entry (entries_before b) (node k) (node v)))
 
 -- what is shown where a row ends
 pub record InContent (here : Here) (writer : Writer) (out : List ℕ) (n : Nest) (c : Content) : Type 0 where
   pub count : entries_at here.phase here.count ≡ count (nodes_in c)
-  pub brackets : writer.brackets ≡ brackets_nest writer.heads n
-  pub around : writer.around ≡ arounds_nest writer.heads n
+  pub brackets : writer.brackets ≡ brackets_nest n
+  pub around : writer.around ≡ arounds_nest n
   pub string : writer.string ≡ None
   pub chunks : writer.chunks ≡ None
   pub error : writer.error ≡ first_error (noted_nest n ++ faults_in c)
-  pub laid : out ≡ cut (laid_nest writer.heads n ++ spelled_all (nodes_as (heads_nest writer.heads n) (nodes_in c)))
+  pub laid : out ≡ cut (laid_nest n ++ spelled_all (nodes_in c))
 
 pub in_content : (here : Here) (writer : Writer) (out : List ℕ) (n : Nest) (c : Content) → Shows here writer out (content_state n c) → InContent here writer out n c
 in_content here writer out n (loose no_item) e = record { count = ap (λ x. entries_at x here.count) e.phase ∙ e.count; brackets = e.brackets; around = e.around; string = e.string; chunks = e.chunks; error = e.error; laid = e.out }
@@ -77,18 +70,18 @@ in_content here writer out n (tight (row b i)) e = record {
   string = e.string;
   chunks = e.chunks;
   error = e.error ∙ ap first_error (append_assoc (noted_nest n) (faults_before b) (faults i));
-  laid = e.out ∙ ap cut (one_item (heads_nest writer.heads n) (laid_nest writer.heads n) b i);
+  laid = e.out ∙ ap cut (one_item (laid_nest n) b i);
 }
 
 -- what is shown where a map ends
 pub record InFields (here : Here) (writer : Writer) (out : List ℕ) (st : Stack) (s : Span) (m : Mark) (f : Fields) : Type 0 where
   pub count : entries_at here.phase here.count ≡ count_entries (entries_in f)
-  pub brackets : writer.brackets ≡ bracket st s.start (length (laid_stack writer.heads st)) m ∷ brackets_of writer.heads st
-  pub around : writer.around ≡ arounds_of writer.heads st
+  pub brackets : writer.brackets ≡ bracket st s.start (length (laid_stack st)) m ∷ brackets_of st
+  pub around : writer.around ≡ arounds_of st
   pub string : writer.string ≡ None
   pub chunks : writer.chunks ≡ None
   pub error : writer.error ≡ first_error (noted_stack st ++ faults_of_fields f)
-  pub laid : out ≡ cut (laid_stack writer.heads st ++ (place_of Map m ++ spelled_entries (entries_as (heads_at writer.heads st) (entries_in f))))
+  pub laid : out ≡ cut (laid_stack st ++ (place_of Map m ++ spelled_entries (entries_in f)))
 
 pub in_fields : (here : Here) (writer : Writer) (out : List ℕ) (st : Stack) (s : Span) (m : Mark) (f : Fields) → Shows here writer out (fields_state st s m f) → InFields here writer out st s m f
 in_fields here writer out st s m (loose_fields no_pair) e = record { count = ap (λ x. entries_at x here.count) e.phase ∙ e.count; brackets = e.brackets; around = e.around; string = e.string; chunks = e.chunks; error = e.error; laid = e.out }
@@ -100,7 +93,7 @@ in_fields here writer out st s m (tight_fields (pairs b k c v)) e = record {
   string = e.string;
   chunks = e.chunks;
   error = e.error ∙ ap first_error (append_assoc (noted_stack st ++ faults_before_pairs b) (faults k) (faults v) ∙ append_assoc (noted_stack st) (faults_before_pairs b) (faults k ++ faults v));
-  laid = e.out ∙ ap cut (one_pair (heads_at writer.heads st) (laid_stack writer.heads st) (place_of Map m) b k v);
+  laid = e.out ∙ ap cut (one_pair (laid_stack st) (place_of Map m) b k v);
 }
 
 pub comma_shown : (here next : Here) (w : Writer) (out : List ℕ) (n : Nest) (b : RowBefore) (i : Item) (a : Span) → next.phase ≡ WantsMore → next.level ≡ here.level → next.count ≡ here.count + 1 → Shows here w out (has (in_row n b) i) → Shows next w out (wants (in_row n (after_row (row b i) a)))
@@ -114,7 +107,7 @@ comma_shown here next w out n b i a s l k e = record {
   chunks = e.chunks;
   simple = tt;
   error = e.error ∙ ap first_error (append_assoc (noted_nest n) (faults_before b) (faults i));
-  out = e.out ∙ ap cut (one_item (heads_nest w.heads n) (laid_nest w.heads n) b i);
+  out = e.out ∙ ap cut (one_item (laid_nest n) b i);
 }
 
 pub pair_comma_shown : (here next : Here) (w : Writer) (out : List ℕ) (st : Stack) (s c a : Span) (m : Mark) (b : PairsBefore) (k v : Item) → next.phase ≡ WantsMore → next.level ≡ Some Key → next.count ≡ here.count + 1 → Shows here w out (has (in_value st s m b k c) v) → Shows next w out (wants (in_key st s m (after_pairs (pairs b k c v) a)))
@@ -128,5 +121,5 @@ pair_comma_shown here next w out st s c a m b k v p l q e = record {
   chunks = e.chunks;
   simple = tt;
   error = e.error ∙ ap first_error (append_assoc (noted_stack st ++ faults_before_pairs b) (faults k) (faults v) ∙ append_assoc (noted_stack st) (faults_before_pairs b) (faults k ++ faults v));
-  out = e.out ∙ ap cut (one_pair (heads_at w.heads st) (laid_stack w.heads st) (place_of Map m) b k v);
+  out = e.out ∙ ap cut (one_pair (laid_stack st) (place_of Map m) b k v);
 }

@@ -1,11 +1,13 @@
 -- A string that no other piece follows is an item.
-use Rattle.std.proofs.Common.{◌≡◌, refl, sym, ap, ◌∙◌, subst, ℕ, List, [], ◌∷◌, ◌++◌, length, true, cond, leb, Option, Some, None, append-nil}
+use Rattle.std.proofs.Common.{◌≡◌, refl, sym, ap, ◌∙◌, subst, ℕ, List, [], ◌∷◌, ◌++◌, length, true, false, cond, leb, Option, Some, None, append-nil}
 use Rattle.std.proofs.lemmas.Str.{is_utf8-from_IsUtf8}
 use Rattle.std.specs.Str.{IsUtf8}
 use Rattle.cborn_model.specs.Bytes.{AreBytes}
 use Rattle.cborn_model.proofs.Bytes.{bytes-append}
 use Rattle.cborn_model.specs.declared.heads.Major.TheVariants.{TextString}
 use Rattle.cborn_model.specs.Heads.{head_bytes, least}
+use Rattle.cborn_model.specs.Tree.{Tree, Text as TextNode}
+use Rattle.cborn_model.specs.Partial.{Partial, put, no_part, IsFree}
 use Rattle.cborn_model.specs.Spelled.{spelled}
 use Rattle.cborn_lex.specs.declared.classes.Mark.TheVariants.{Absent}
 use Rattle.cborn_lex.specs.declared.classes.Profile.{Profile}
@@ -23,19 +25,18 @@ use Rattle.cborn_edn.specs.devices.Said.{node, faults}
 use Rattle.cborn_edn.specs.devices.Ahead.{NoPieceAt}
 use Rattle.cborn_edn.specs.declared.states.Here.{Here}
 use Rattle.cborn_edn.specs.declared.states.Writer.{Writer}
-use Rattle.cborn_edn.specs.declared.states.Heads.{Heads}
-use Rattle.cborn_edn.specs.declared.states.Heads.TheVariants.{AsWritten, Shortest}
 use Rattle.cborn_edn.specs.declared.states.Phase.TheVariants.{Has}
 use Rattle.cborn_edn.specs.devices.Laid.{laid_stack}
 use Rattle.cborn_edn.specs.devices.Noted.{noted_stack}
 use Rattle.cborn_edn.specs.devices.Shows.{Shows}
+use Rattle.cborn_edn.specs.devices.Handed.{Holds, front_of, Reads, hands}
+use Rattle.cborn_edn.proofs.Meaning.NoError.{no_left}
+use Rattle.cborn_edn.proofs.HandedOver.Outside.{handed, either, free}
 use Rattle.cborn_edn.specs.devices.Reading.{Reached}
 use Rattle.cborn_edn.proofs.Reader.Going.{after_token}
 use Rattle.cborn_edn.proofs.Reader.Laying.{laid_bytes}
 use Rattle.cborn_edn.proofs.Reader.Modest.{least_bytes}
 use Rattle.cborn_edn.proofs.Reader.NextPieces.{is_single, string_ends, next_single}
-use Rattle.cborn_edn.specs.devices.Written.{heads_at, node_as}
-use Rattle.cborn_edn.proofs.Reader.Showing.{with_heads}
 use Rattle.cborn_edn.proofs.Reader.Stepping.{SameButOut}
 
 checked_same : (p : Profile) (limit : ℕ) (s v : State) (t : Token) (o : Option State) → comma_at s t.class ≡ comma_at v t.class → checked p limit s t o ≡ checked p limit v t o
@@ -71,11 +72,12 @@ settled p limit source at st ps none r = record {
 abbrev pub text_item : Span → List ℕ → Item
 text_item a x = string (piece (text a x Absent))
 
-text_spelled : (k : Heads) (a : Span) (x : List ℕ) → spelled (node_as k (node (text_item a x))) ≡ head_bytes 3 (least (length x)) (length x) ++ x
-text_spelled AsWritten a [] = refl
-text_spelled AsWritten a (b ∷ x) = refl
-text_spelled Shortest a [] = refl
-text_spelled Shortest a (b ∷ x) = refl
+text_node : (a : Span) (x : List ℕ) → node (text_item a x) ≡ TextNode a.start (least (length x)) x
+text_node a [] = refl
+text_node a (b ∷ x) = refl
+
+text_spelled : (a : Span) (x : List ℕ) → spelled (node (text_item a x)) ≡ head_bytes 3 (least (length x)) (length x) ++ x
+text_spelled a x = ap spelled (text_node a x)
 
 text_faults : (a : Span) (x : List ℕ) → IsUtf8 x → faults (text_item a x) ≡ []
 text_faults a x u = ap (λ b. unless b a.start TextNotUtf8) (is_utf8-from_IsUtf8 x u)
@@ -85,9 +87,8 @@ pub text_shown : (here : Here) (w left : Writer) (st : Stack) (a : Span) (x : Li
     → Shows (record here { phase = Has }) left left.out.items (has st (text_item a x))
 text_shown here w left st a x are u same new e =
     let none = text_faults a x u in
-    let k = heads_at w.heads st in
-    let bytes : AreBytes (spelled (node_as k (node (text_item a x)))) = subst AreBytes (sym (text_spelled k a x)) (bytes-append (head_bytes 3 (least (length x)) (length x)) x (least_bytes TextString (length x)) are) in
-    with_heads (record here { phase = Has }) left w.heads left.out.items (has st (text_item a x)) same.heads (record {
+    let bytes : AreBytes (spelled (node (text_item a x))) = subst AreBytes (sym (text_spelled a x)) (bytes-append (head_bytes 3 (least (length x)) (length x)) x (least_bytes TextString (length x)) are) in
+    record {
       phase = refl;
       level = e.level;
       count = e.count;
@@ -97,5 +98,10 @@ text_shown here w left st a x are u same new e =
       chunks = same.chunks ∙ e.chunks;
       simple = tt;
       error = same.error ∙ e.error ∙ ap first_error (sym (append-nil (noted_stack st))) ∙ ap (λ y. first_error (noted_stack st ++ y)) (sym none);
-      out = laid_bytes (laid_stack w.heads st) (spelled (node_as k (node (text_item a x)))) w.out.items left.out.items e.out bytes (new ∙ ap (λ y. w.out.items ++ y) (sym (text_spelled k a x)));
-    })
+      out = laid_bytes (laid_stack st) (spelled (node (text_item a x))) w.out.items left.out.items e.out bytes (new ∙ ap (λ y. w.out.items ++ y) (sym (text_spelled a x)));
+    }
+
+-- LAW: what is read then, if the string was handed over where it is to be
+pub text_read : {V : Type 0} (holds : V → Holds) {old new : V} {here next : Here} {w left : Writer} {out more : List ℕ} (st : Stack) (a : Span) (x : List ℕ) → (hands left ≡ true → (f : Partial) → IsFree f → holds old f no_part → holds new (put f (TextNode a.start (least (length x)) x)) no_part) → (hands left ≡ false → new ≡ old)
+    → Reads (holds old) here w out (wants st) → Shows next left more (has st (text_item a x)) → Reads (holds new) next left more (has st (text_item a x))
+text_read holds {new = new} st a x over stays r e = either holds r e refl (λ all. handed r e refl all (no_left _ _) (λ q y. subst (λ (t : Tree). holds new (put (front_of st) t) no_part) (sym (text_node a x)) (over all (front_of st) (free st) y))) stays

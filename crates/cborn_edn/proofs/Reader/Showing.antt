@@ -15,7 +15,6 @@ use Rattle.cborn_edn.proofs.Grammar.Takes.{at_home}
 use Rattle.cborn_edn.specs.devices.Said.{str_of, faults_of_piece}
 use Rattle.cborn_edn.specs.declared.states.Here.{Here}
 use Rattle.cborn_edn.specs.declared.states.Writer.{Writer}
-use Rattle.cborn_edn.specs.declared.states.Heads.{Heads}
 use Rattle.cborn_edn.specs.declared.states.Joint.{Joint}
 use Rattle.cborn_edn.specs.devices.Laid.{cut, place_of, laid_stack, laid_home}
 use Rattle.cborn_edn.specs.devices.Noted.{noted_home}
@@ -25,10 +24,6 @@ use Rattle.cborn_edn.proofs.Reader.Laying.{laid_more}
 
 pub moved : (next n : Here) (left l : Writer) (u : State) → next ≡ n → left ≡ l → Shows n l l.out.items u → Shows next left left.out.items u
 moved next n left l u e f h = subst (λ (w : Writer). Shows next w w.out.items u) (sym f) (subst (λ (x : Here). Shows x l l.out.items u) (sym e) h)
-
--- what is shown, by a writer that writes heads as another does
-pub with_heads : (next : Here) (left : Writer) (k : Heads) (out : List ℕ) (u : State) → left.heads ≡ k → Shows next (record left { heads = k }) out u → Shows next left out u
-with_heads next left k out u e h = subst (λ (x : Heads). Shows next (record left { heads = x }) out u) (sym e) h
 
 cut_place : (k : Major) (m : Mark) → cut (place_of k m) ≡ place_of k m
 cut_place Unsigned Endless = refl
@@ -45,11 +40,11 @@ cut_place _ (Wide w) = refl
 laid_place : (k : Major) (m : Mark) (a old new : List ℕ) → old ≡ cut a → new ≡ old ++ place_of k m → new ≡ cut (a ++ place_of k m)
 laid_place k m a old new e f = laid_more a (place_of k m) old new e (f ∙ ap (λ x. old ++ x) (sym (cut_place k m)))
 
-pub out_array : (k : Heads) (st : Stack) (a : Span) (m : Mark) (old new : List ℕ) → old ≡ cut (laid_stack k st) → new ≡ old ++ place_of Array m → new ≡ cut (laid_stack k (in_row (in_array st a m) no_item))
-out_array k st a m old new e f = laid_place Array m (laid_stack k st) old new e f ∙ ap cut (sym (append-nil (laid_stack k st ++ place_of Array m)))
+pub out_array : (st : Stack) (a : Span) (m : Mark) (old new : List ℕ) → old ≡ cut (laid_stack st) → new ≡ old ++ place_of Array m → new ≡ cut (laid_stack (in_row (in_array st a m) no_item))
+out_array st a m old new e f = laid_place Array m (laid_stack st) old new e f ∙ ap cut (sym (append-nil (laid_stack st ++ place_of Array m)))
 
-pub out_map : (k : Heads) (st : Stack) (a : Span) (m : Mark) (old new : List ℕ) → old ≡ cut (laid_stack k st) → new ≡ old ++ place_of Map m → new ≡ cut (laid_stack k (in_key st a m no_pair))
-out_map k st a m old new e f = laid_place Map m (laid_stack k st) old new e f ∙ ap (λ x. cut (laid_stack k st ++ x)) (sym (append-nil (place_of Map m)))
+pub out_map : (st : Stack) (a : Span) (m : Mark) (old new : List ℕ) → old ≡ cut (laid_stack st) → new ≡ old ++ place_of Map m → new ≡ cut (laid_stack (in_key st a m no_pair))
+out_map st a m old new e f = laid_place Map m (laid_stack st) old new e f ∙ ap (λ x. cut (laid_stack st ++ x)) (sym (append-nil (place_of Map m)))
 
 -- nothing more is noted
 pub same_errors : (o : Option MeaningError) (l : List MeaningError) → o ≡ first_error l → o ≡ first_error (l ++ [])
@@ -59,24 +54,24 @@ same_errors o l e = e ∙ ap first_error (sym (append-nil l))
 pub record AtHome (here : Here) (writer : Writer) (h : Home) : Type 0 where
   pub level : here.level ≡ level_of (stack_of h)
   pub count : here.count ≡ count_of (stack_of h)
-  pub brackets : writer.brackets ≡ brackets_of writer.heads (stack_of h)
-  pub around : writer.around ≡ arounds_of writer.heads (stack_of h)
-  pub chunks : writer.chunks ≡ chunks_of writer.heads h
+  pub brackets : writer.brackets ≡ brackets_of (stack_of h)
+  pub around : writer.around ≡ arounds_of (stack_of h)
+  pub chunks : writer.chunks ≡ chunks_of h
 
-pub brackets_same : (k : Heads) (h : Home) → brackets_of k (stack_of h) ≡ brackets_home k h
-brackets_same k (as_item st) = refl
-brackets_same k (as_chunk st s b) = refl
+pub brackets_same : (h : Home) → brackets_of (stack_of h) ≡ brackets_home h
+brackets_same (as_item st) = refl
+brackets_same (as_chunk st s b) = refl
 
-pub arounds_same : (k : Heads) (h : Home) → arounds_of k (stack_of h) ≡ arounds_home k h
-arounds_same k (as_item st) = refl
-arounds_same k (as_chunk st s b) = refl
+pub arounds_same : (h : Home) → arounds_of (stack_of h) ≡ arounds_home h
+arounds_same (as_item st) = refl
+arounds_same (as_chunk st s b) = refl
 
 -- before the first piece of a string
 pub record Fresh (here : Here) (writer : Writer) (h : Home) (out : List ℕ) : Type 0 where
   pub home : AtHome here writer h
   pub string : writer.string ≡ None
   pub error : writer.error ≡ first_error (noted_home h)
-  pub laid : out ≡ cut (laid_home writer.heads h)
+  pub laid : out ≡ cut (laid_home h)
 
 pub fresh : (here : Here) (writer : Writer) (h : Home) (out : List ℕ) → Shows here writer out (at_home h None) → Fresh here writer h out
 fresh here writer (as_item st) out e = record { home = record { level = e.level; count = e.count; brackets = e.brackets; around = e.around; chunks = e.chunks }; string = e.string; error = e.error; laid = e.out }

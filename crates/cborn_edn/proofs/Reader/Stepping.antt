@@ -30,11 +30,11 @@ use Rattle.cborn_edn.specs.declared.states.Here.{Here}
 use Rattle.cborn_edn.specs.declared.states.Writer.{Writer}
 use Rattle.cborn_edn.specs.devices.Kept.{phase_of}
 use Rattle.cborn_edn.specs.devices.Shows.{Shows, IsOpenAt}
+use Rattle.cborn_edn.specs.devices.Handed.{Holds, Reads}
 use Rattle.cborn_edn.specs.devices.Steps.{appended, Ready, Taken, Takes}
 use Rattle.cborn_edn.specs.devices.Reading.{appended_at, WasRead, is_trailing_comma, IsReading, Judged}
 use Rattle.cborn_edn.proofs.Reader.Going.{goes_on, ends, unexpected, too_deep, never_taken, not_trailing, trailing}
 use Rattle.cborn_edn.proofs.Reader.Counts.{shown_few, brackets_levels}
-use Rattle.cborn_edn.proofs.Reader.Showing.{with_heads}
 
 recontent : (k : Kind) (n : ℕ) (x : List ℕ) → class_of k n x ≡ class_of k n (content_of (class_of k n x))
 recontent (kinds.Text m) n x = refl
@@ -61,7 +61,6 @@ appended_as (has_number st s b n v m) c = refl
 
 -- nothing but the output changes
 pub record SameButOut (w v : Writer) : Type 0 where
-  pub heads : v.heads ≡ w.heads
   pub brackets : v.brackets ≡ w.brackets
   pub around : v.around ≡ w.around
   pub string : v.string ≡ w.string
@@ -70,7 +69,7 @@ pub record SameButOut (w v : Writer) : Type 0 where
   pub error : v.error ≡ w.error
 
 pub same_shown : (here : Here) (w v : Writer) (out : List ℕ) (s : State) → SameButOut w v → Shows here w out s → Shows here v out s
-same_shown here w v out s k e = with_heads here v w.heads out s k.heads (record {
+same_shown here w v out s k e = record {
   phase = e.phase;
   level = e.level;
   count = e.count;
@@ -81,7 +80,16 @@ same_shown here w v out s k e = with_heads here v w.heads out s k.heads (record 
   simple = subst (λ n. IsOpenAt n s) (sym k.simple) e.simple;
   error = k.error ∙ e.error;
   out = e.out;
-})
+}
+
+pub same_read : {h : Holds} (here : Here) (w v : Writer) (out : List ℕ) (s : State) → SameButOut w v → Reads h here w out s → Reads h here v out s
+same_read here w v out s k e = record { shows = same_shown here w v out s k e.shows; handed = e.handed }
+
+-- where the reader is in the text is no part of what is shown
+pub read_at : {h : Holds} (next : Here) (left : Writer) (out : List ℕ) (u : State) (stop : ℕ) → Reads h next left out u → Reads h (record next { at = stop }) left out u
+read_at next left out u stop r =
+    let e = r.shows in
+    record { shows = record { phase = e.phase; level = e.level; count = e.count; brackets = e.brackets; around = e.around; string = e.string; chunks = e.chunks; simple = e.simple; error = e.error; out = e.out }; handed = r.handed }
 
 module _ (p : Profile) (text : List ℕ) (are : AreBytes text) (here : Here) (w : Writer) where
   -- a token that was read
@@ -111,85 +119,84 @@ module _ (p : Profile) (text : List ℕ) (are : AreBytes text) (here : Here) (w 
           }
 
   -- it is ready to be taken in the state that is shown
-  pub ready_at : (s : State) → Shows here w w.out.items s → AreModest (held s) → (n start : ℕ) (v : Writer) (t : BareToken) (k : ReadToken n v t) → SameButOut w v → start ≡ length w.out.items → start < 2 ^ 63
-      → Ready t.kind n start here v s w.out.items (class_of t.kind n k.content)
+  pub ready_at : {h : Holds} (s : State) → Reads h here w w.out.items s → AreModest (held s) → (n start : ℕ) (v : Writer) (t : BareToken) (k : ReadToken n v t) → SameButOut w v → start ≡ length w.out.items → start < 2 ^ 63
+      → Ready h t.kind n start here v s w.out.items (class_of t.kind n k.content)
   ready_at s shows modest n start v t k same from small = record {
     content = k.content;
     class = refl;
     plain = k.plain;
-    shows = same_shown here w v w.out.items s same shows;
-    written = k.written ∙ ap (λ st. w.out.items ++ appended_at st (class_of t.kind n k.content)) shows.phase ∙ ap (λ l. w.out.items ++ l) (appended_as s (class_of t.kind n k.content));
+    shows = same_read here w v w.out.items s same shows;
+    written = k.written ∙ ap (λ st. w.out.items ++ appended_at st (class_of t.kind n k.content)) shows.shows.phase ∙ ap (λ l. w.out.items ++ l) (appended_as s (class_of t.kind n k.content));
     from = from;
-    few = omega (arith, shown_few here w w.out.items s shows);
+    few = omega (arith, shown_few here w w.out.items s shows.shows);
     modest = modest;
+    token = k.modest.0;
   }
 
-module _ (p : Profile) (limit : ℕ) (text : List ℕ) (are : AreBytes text) (here : Here) (w : Writer) (r : IsReading p limit text here w) where
+module _ {h : Holds} (p : Profile) (limit : ℕ) (text : List ℕ) (are : AreBytes text) (here : Here) (w : Writer) (r : IsReading h p limit text here w) where
   -- with nothing left of the text
-  pub last_read : (o : Option BareToken) (n : ℕ) (v : Writer) → SameButOut w v → WasRead p text here.at here.phase o n w.out.items v.out.items → o ≡ None → IsReading p limit text (record here { at = length text }) v
+  pub last_read : (o : Option BareToken) (n : ℕ) (v : Writer) → SameButOut w v → WasRead p text here.at here.phase o n w.out.items v.out.items → o ≡ None → IsReading h p limit text (record here { at = length text }) v
   last_read o n v same read is = go (subst (λ (q : Option BareToken). WasRead p text here.at here.phase q n w.out.items v.out.items) is read)
     where
-      go : WasRead p text here.at here.phase None n w.out.items v.out.items → IsReading p limit text (record here { at = length text }) v
-      go h =
-          let e = same_shown here w v w.out.items r.state same r.shows in
-          record {
-            inside = omega arith;
-            state = r.state;
-            reached = ends p limit text here.at r.state r.reached (through p h.0);
-            shows = record { phase = e.phase; level = e.level; count = e.count; brackets = e.brackets; around = e.around; string = e.string; chunks = e.chunks; simple = e.simple; error = e.error; out = h.1 ∙ e.out };
-          }
+      go : WasRead p text here.at here.phase None n w.out.items v.out.items → IsReading h p limit text (record here { at = length text }) v
+      go f = record {
+        inside = omega arith;
+        state = r.state;
+        reached = ends p limit text here.at r.state r.reached (through p f.0);
+        shows = read_at here v v.out.items r.state (length text) (subst (λ l. Reads h here v l r.state) (sym f.1) (same_read here w v w.out.items r.state same r.shows));
+      }
 
-  module _ (n start : ℕ) (v : Writer) (t : BareToken) (k : ReadToken p text are here w n v t) (same : SameButOut w v) (from : start ≡ length w.out.items) (small : start < 2 ^ 63) where
+  module _ (n start : ℕ) (v : Writer) (t : BareToken) (i : ReadToken p text are here w n v t) (same : SameButOut w v) (from : start ≡ length w.out.items) (small : start < 2 ^ 63) where
     abbrev the_token : Token
-    the_token = record { start = t.start; stop = t.stop; class = class_of t.kind n k.content }
+    the_token = record { start = t.start; stop = t.stop; class = class_of t.kind n i.content }
 
-    pub ready : Ready t.kind n start here v r.state w.out.items (class_of t.kind n k.content)
-    ready = ready_at p text are here w r.state r.shows (subst AreModest (sym r.reached.held) r.reached.modest) n start v t k same from small
+    pub ready : Ready h t.kind n start here v r.state w.out.items (class_of t.kind n i.content)
+    ready = ready_at p text are here w r.state r.shows (subst AreModest (sym r.reached.held) r.reached.modest) n start v t i same from small
 
     pub further : here.at < t.stop
-    further = omega (arith, few p text here.at t.stop (the_token ∷ []) k.between)
+    further = omega (arith, few p text here.at t.stop (the_token ∷ []) i.between)
 
     pub stop_inside : t.stop ≤ length text
-    stop_inside = (inside p text here.at t.stop (the_token ∷ []) r.inside k.between).1
+    stop_inside = (inside p text here.at t.stop (the_token ∷ []) r.inside i.between).1
 
-    depth_is : (deep : ℕ) → ((x : List ℕ) → deep ≡ reach (length v.brackets) (class_of t.kind n x)) → deep ≡ reach (open_levels r.state) (class_of t.kind n k.content)
-    depth_is deep d = d k.content ∙ ap (λ l. reach l (class_of t.kind n k.content)) (ap length (same.brackets ∙ r.shows.brackets) ∙ brackets_levels w.heads r.state)
+    depth_is : (deep : ℕ) → ((x : List ℕ) → deep ≡ reach (length v.brackets) (class_of t.kind n x)) → deep ≡ reach (open_levels r.state) (class_of t.kind n i.content)
+    depth_is deep d = d i.content ∙ ap (λ l. reach l (class_of t.kind n i.content)) (ap length (same.brackets ∙ r.shows.shows.brackets) ∙ brackets_levels r.state)
 
-    module _ (next : Here) (left : Writer) (ok bad : Bool) (deep : ℕ) (taken : (s : State) → Takes t.kind n start t.start here v next left ok s) (b : bad ≡ is_trailing_comma p here.phase t.kind) (d : (x : List ℕ) → deep ≡ reach (length v.brackets) (class_of t.kind n x)) where
-      took : Taken ok r.state (class_of t.kind n k.content) (record { start = t.start; stop = t.stop }) next left
-      took = taken r.state w.out.items (class_of t.kind n k.content) (record { start = t.start; stop = t.stop }) refl ready
+    module _ (k : Holds) (next : Here) (left : Writer) (ok bad : Bool) (deep : ℕ) (taken : (s : State) → Takes h k t.kind n start t.start here v next left ok s) (b : bad ≡ is_trailing_comma p here.phase t.kind) (d : (x : List ℕ) → deep ≡ reach (length v.brackets) (class_of t.kind n x)) where
+      took : Taken k ok r.state (class_of t.kind n i.content) (record { start = t.start; stop = t.stop }) next left
+      took = taken r.state w.out.items (class_of t.kind n i.content) (record { start = t.start; stop = t.stop }) refl ready
 
       free : bad ≡ false → is_trailing_comma p (phase_of r.state) t.kind ≡ false
-      free e = ap (λ st. is_trailing_comma p st t.kind) (sym r.shows.phase) ∙ sym b ∙ e
+      free e = ap (λ st. is_trailing_comma p st t.kind) (sym r.shows.shows.phase) ∙ sym b ∙ e
 
       -- the reader goes on
-      pub went_on : Judged bad ok deep limit None → IsReading p limit text (record next { at = t.stop }) left
-      went_on (f, g, low) = go (subst (λ (q : Bool). Taken q r.state (class_of t.kind n k.content) (record { start = t.start; stop = t.stop }) next left) g took)
+      pub went_on : Judged bad ok deep limit None → IsReading k p limit text (record next { at = t.stop }) left
+      went_on (f, g, low) = go (subst (λ (q : Bool). Taken k q r.state (class_of t.kind n i.content) (record { start = t.start; stop = t.stop }) next left) g took)
         where
-          go : Taken true r.state (class_of t.kind n k.content) (record { start = t.start; stop = t.stop }) next left → IsReading p limit text (record next { at = t.stop }) left
+          go : Taken k true r.state (class_of t.kind n i.content) (record { start = t.start; stop = t.stop }) next left → IsReading k p limit text (record next { at = t.stop }) left
           go (u, is, e) = record {
             inside = stop_inside;
             state = u;
-            reached = goes_on p limit text here.at r.state r.reached t.stop the_token u k.between k.modest is (not_trailing p r.state t.kind n k.content (free f)) (omega (arith, depth_is deep d, low));
-            shows = record { phase = e.phase; level = e.level; count = e.count; brackets = e.brackets; around = e.around; string = e.string; chunks = e.chunks; simple = e.simple; error = e.error; out = e.out };
+            reached = goes_on p limit text here.at r.state r.reached t.stop the_token u i.between i.modest is (not_trailing p r.state t.kind n i.content (free f)) (omega (arith, depth_is deep d, low));
+            shows = read_at next left left.out.items u t.stop e;
           }
 
       -- the text is refused
       pub refusal : (why : EdnReason) (fault : EdnFault) → Judged bad ok deep limit (Some why)
           → ((more : List Token) × Between p text t.stop (length text) more × (fault ≡ Refused t.start why)) ⊎ ((stop : LexFault) × IsStopFrom p text t.stop stop × (fault ≡ lexical stop)) → IsNoNotation p limit text fault
-      refusal UnexpectedToken fault (inl e) h =
-          unexpected p limit text here.at r.state r.reached the_token fault k.between (trailing p limit r.state t.kind n t.start t.stop k.content (ap (λ st. is_trailing_comma p st t.kind) (sym r.shows.phase) ∙ sym b ∙ e)) h
-      refusal UnexpectedToken fault (inr e) h =
-          unexpected p limit text here.at r.state r.reached the_token fault k.between (never_taken p limit r.state the_token (subst (λ (q : Bool). Taken q r.state (class_of t.kind n k.content) (record { start = t.start; stop = t.stop }) next left) e took)) h
-      refusal TooDeep fault (f, g, far) h = go (subst (λ (q : Bool). Taken q r.state (class_of t.kind n k.content) (record { start = t.start; stop = t.stop }) next left) g took)
+      refusal UnexpectedToken fault (inl e) f =
+          unexpected p limit text here.at r.state r.reached the_token fault i.between (trailing p limit r.state t.kind n t.start t.stop i.content (ap (λ st. is_trailing_comma p st t.kind) (sym r.shows.shows.phase) ∙ sym b ∙ e)) f
+      refusal UnexpectedToken fault (inr e) f =
+          unexpected p limit text here.at r.state r.reached the_token fault i.between (never_taken p limit r.state the_token (subst (λ (q : Bool). Taken k q r.state (class_of t.kind n i.content) (record { start = t.start; stop = t.stop }) next left) e took)) f
+      refusal TooDeep fault (f, g, far) h = go (subst (λ (q : Bool). Taken k q r.state (class_of t.kind n i.content) (record { start = t.start; stop = t.stop }) next left) g took)
         where
-          go : Taken true r.state (class_of t.kind n k.content) (record { start = t.start; stop = t.stop }) next left → IsNoNotation p limit text fault
-          go (u, is, e) = too_deep p limit text here.at r.state r.reached the_token u fault k.between is (not_trailing p r.state t.kind n k.content (free f)) (omega (arith, depth_is deep d, far)) h
-      refusal UnexpectedEnd fault h k = absurd h
-      refusal IndicatorTooNarrow fault h k = absurd h
-      refusal IndicatorNotAllowed fault h k = absurd h
-      refusal MixedString fault h k = absurd h
-      refusal MixedChunks fault h k = absurd h
-      refusal TextNotUtf8 fault h k = absurd h
-      refusal BadSimple fault h k = absurd h
-      refusal TagTooLarge fault h k = absurd h
+          go : Taken k true r.state (class_of t.kind n i.content) (record { start = t.start; stop = t.stop }) next left → IsNoNotation p limit text fault
+          go (u, is, e) = too_deep p limit text here.at r.state r.reached the_token u fault i.between is (not_trailing p r.state t.kind n i.content (free f)) (omega (arith, depth_is deep d, far)) h
+      refusal UnexpectedEnd fault e f = absurd e
+      refusal IndicatorTooNarrow fault e f = absurd e
+      refusal IndicatorNotAllowed fault e f = absurd e
+      refusal MixedString fault e f = absurd e
+      refusal MixedChunks fault e f = absurd e
+      refusal TextNotUtf8 fault e f = absurd e
+      refusal BadSimple fault e f = absurd e
+      refusal TagTooLarge fault e f = absurd e

@@ -27,21 +27,24 @@ use Rattle.cborn_edn.specs.devices.Ahead.{IsTokenAt, NoPieceAt}
 use Rattle.cborn_edn.specs.declared.states.Here.{Here}
 use Rattle.cborn_edn.specs.declared.states.Writer.{Writer}
 use Rattle.cborn_edn.specs.declared.states.Phase.TheVariants as phases
-use Rattle.cborn_edn.specs.devices.Kept.{phase_of}
-use Rattle.cborn_edn.specs.devices.Modest.{AreModest}
+use Rattle.cborn_edn.specs.devices.Modest.{IsModest, AreModest}
 use Rattle.cborn_edn.specs.devices.Shows.{Shows}
+use Rattle.cborn_edn.specs.devices.Handed.{Holds, Reads}
 use Rattle.cborn_edn.specs.devices.Steps.{MayEnd, Taken, has_chunks}
 use Rattle.cborn_edn.specs.devices.Reading.{IsReading, Reached}
 use Rattle.cborn_edn.proofs.Reader.Counts.{shown_few, brackets_levels}
 use Rattle.cborn_edn.proofs.Reader.Going.{goes_on, skips, free_none, tight_free}
 use Rattle.cborn_edn.proofs.Reader.Modest.{modest_here, modest_right}
 use Rattle.cborn_edn.proofs.Reader.Settling.{settled, text_item, text_shown}
-use Rattle.cborn_edn.proofs.Reader.Stepping.{SameButOut}
+use Rattle.cborn_edn.proofs.Reader.Stepping.{SameButOut, read_at}
 use Rattle.cborn_edn.proofs.Reader.Turning.{is_has, is_wants, is_builds, is_wants_number, HasNumber, is_has_number, item_home, chunk_home}
 
 -- a token between two offsets of a text
 abbrev token_at : ℕ → ℕ → Class → Token
 token_at at stop c = record { start = at; stop = stop; class = c }
+
+abbrev span_at : ℕ → ℕ → Span
+span_at at stop = record { start = at; stop = stop }
 
 -- LAW: an integer of 64 bits needs no level of its own
 pub number_low : (l limit : ℕ) (n : Bool) (v : ℕ) (m : Mark) → v < 2 ^ 64 → l ≤ limit → reach l (Number n v m) ≤ limit
@@ -56,147 +59,137 @@ number_low l limit n v m small low = subst (λ b. l + (if b then 0 else 1) ≤ l
 pub beyond : (p : Profile) (text : List ℕ) (at stop : ℕ) (c : Class) → IsTokenAt p text at stop c → at < stop
 beyond p text at stop c h = omega (arith, few p text at stop (token_at at stop c ∷ []) (through p h))
 
-module _ (p : Profile) (limit : ℕ) (text : List ℕ) (here : Here) (w : Writer) (r : IsReading p limit text here w) where
+-- what is known of a token
+pub modest_at : (p : Profile) (text : List ℕ) (at stop : ℕ) (c : Class) → AreBytes text → IsTokenAt p text at stop c → IsModest c
+modest_at p text at stop c are tok = modest_here c (between_modest p text at stop (token_at at stop c ∷ []) are (through p tok)).0
+
+module _ {h : Holds} (p : Profile) (limit : ℕ) (text : List ℕ) (here : Here) (w : Writer) (r : IsReading h p limit text here w) where
   -- LAW: on with white space and comments
-  pub skipped : (stop : ℕ) → TokensBetween p text here.at stop [] → IsReading p limit text (record here { at = stop }) w
-  skipped stop white =
-      let e = r.shows in
-      record {
-        inside = (inside p text here.at stop [] r.inside (through p white)).1;
-        state = r.state;
-        reached = skips p limit text here.at r.state r.reached stop (through p white);
-        shows = record { phase = e.phase; level = e.level; count = e.count; brackets = e.brackets; around = e.around; string = e.string; chunks = e.chunks; simple = e.simple; error = e.error; out = e.out };
-      }
+  pub skipped : (stop : ℕ) → TokensBetween p text here.at stop [] → IsReading h p limit text (record here { at = stop }) w
+  skipped stop white = record {
+    inside = (inside p text here.at stop [] r.inside (through p white)).1;
+    state = r.state;
+    reached = skips p limit text here.at r.state r.reached stop (through p white);
+    shows = read_at here w w.out.items r.state stop r.shows;
+  }
+
+  pub skipped_to : (next : Here) → next ≡ record here { at = next.at } → TokensBetween p text here.at next.at [] → IsReading h p limit text next w
+  skipped_to next e white = subst (λ (x : Here). IsReading h p limit text x w) (sym e) (skipped next.at white)
 
   pub skipped_on : (stop : ℕ) → TokensBetween p text here.at stop [] → here.at ≤ stop
   skipped_on stop white = (inside p text here.at stop [] r.inside (through p white)).0
 
   -- the state that is shown, by an equal one
-  pub shown_as : (s : State) → s ≡ r.state → Shows here w w.out.items s
-  shown_as s e = subst (λ (v : State). Shows here w w.out.items v) (sym e) r.shows
+  pub shown_as : (s : State) → s ≡ r.state → Reads h here w w.out.items s
+  shown_as s e = subst (λ (v : State). Reads h here w w.out.items v) (sym e) r.shows
+
+  wanted : (here.phase ≡ phases.Wants) ⊎ (here.phase ≡ phases.WantsMore) → (st : Stack) × (wants st ≡ r.state)
+  wanted (inl q) = is_wants r.state (inl (sym r.shows.shows.phase ∙ q))
+  wanted (inr q) = is_wants r.state (inr (sym r.shows.shows.phase ∙ q))
 
   pub may_end : (here.phase ≡ phases.Has) ⊎ (here.phase ≡ phases.Wants) → MayEnd r.state
-  may_end (inl h) = go (is_has r.state (sym r.shows.phase ∙ h))
+  may_end (inl q) = go (is_has r.state (sym r.shows.shows.phase ∙ q))
     where
       go : (st : Stack) × (i : Item) × (has st i ≡ r.state) → MayEnd r.state
       go (st, i, e) = subst MayEnd e tt
-  may_end (inr h) = go (is_wants r.state (inl (sym r.shows.phase ∙ h)))
+  may_end (inr q) = go (is_wants r.state (inl (sym r.shows.shows.phase ∙ q)))
     where
       go : (st : Stack) × (wants st ≡ r.state) → MayEnd r.state
       go (st, e) = subst MayEnd e tt
 
-  pub has_item : here.phase ≡ phases.Has → (st : Stack) × (i : Item) × Shows here w w.out.items (has st i)
-  has_item h = go (is_has r.state (sym r.shows.phase ∙ h))
-    where
-      go : (st : Stack) × (i : Item) × (has st i ≡ r.state) → (st : Stack) × (i : Item) × Shows here w w.out.items (has st i)
-      go (st, i, e) = (st, i, shown_as (has st i) e)
-
   pub few_here : length w.out.items < 2 ^ 63 → here.count < 2 ^ 63
-  few_here small = omega (arith, small, shown_few here w w.out.items r.state r.shows)
+  few_here small = omega (arith, small, shown_few here w w.out.items r.state r.shows.shows)
 
-  module _ (are : AreBytes text) (c : Class) (stop : ℕ) (tok : IsTokenAt p text here.at stop c) (next : Here) (left : Writer) where
-    abbrev place : Span
-    place = record { start = here.at; stop = stop }
-
+  module _ {k : Holds} (are : AreBytes text) (c : Class) (stop : ℕ) (tok : IsTokenAt p text here.at stop c) (next : Here) (left : Writer) where
     -- LAW: on with a token
-    pub taken : (u : State) → step_by r.state c place ≡ Some u → Shows next left left.out.items u → forbids p (comma_at r.state c) ≡ false → reach (open_levels r.state) c ≤ limit → IsReading p limit text (record next { at = stop }) left
+    pub taken : (u : State) → step_by r.state c (span_at here.at stop) ≡ Some u → Reads k next left left.out.items u → forbids p (comma_at r.state c) ≡ false → reach (open_levels r.state) c ≤ limit → IsReading k p limit text (record next { at = stop }) left
     taken u is e free low =
         let between : Between p text here.at stop (token_at here.at stop c ∷ []) = through p tok in
-        let there = between_modest p text here.at stop (token_at here.at stop c ∷ []) are between in
-        let modest : AreModest (token_at here.at stop c ∷ []) = (modest_here c there.0, tt) in
+        let modest : AreModest (token_at here.at stop c ∷ []) = (modest_at p text here.at stop c are tok, tt) in
         record {
           inside = (inside p text here.at stop (token_at here.at stop c ∷ []) r.inside between).1;
           state = u;
           reached = goes_on p limit text here.at r.state r.reached stop (token_at here.at stop c) u between modest is free low;
-          shows = record { phase = e.phase; level = e.level; count = e.count; brackets = e.brackets; around = e.around; string = e.string; chunks = e.chunks; simple = e.simple; error = e.error; out = e.out };
+          shows = read_at next left left.out.items u stop e;
         }
 
     -- from the state that is shown
-    pub taken_from : (s u : State) → s ≡ r.state → step_by s c place ≡ Some u → Shows next left left.out.items u → forbids p (comma_at s c) ≡ false → reach (open_levels s) c ≤ limit → IsReading p limit text (record next { at = stop }) left
+    pub taken_from : (s u : State) → s ≡ r.state → step_by s c (span_at here.at stop) ≡ Some u → Reads k next left left.out.items u → forbids p (comma_at s c) ≡ false → reach (open_levels s) c ≤ limit → IsReading k p limit text (record next { at = stop }) left
     taken_from s u e is shows free low =
-        taken u (subst (λ (v : State). step_by v c place ≡ Some u) e is) shows (subst (λ (v : State). forbids p (comma_at v c) ≡ false) e free) (subst (λ (v : State). reach (open_levels v) c ≤ limit) e low)
+        taken u (subst (λ (v : State). step_by v c (span_at here.at stop) ≡ Some u) e is) shows (subst (λ (v : State). forbids p (comma_at v c) ≡ false) e free) (subst (λ (v : State). reach (open_levels v) c ≤ limit) e low)
 
     -- LAW: where an item is wanted
-    pub item_taken : (here.phase ≡ phases.Wants) ⊎ (here.phase ≡ phases.WantsMore) → (v : Stack → State) → ((st : Stack) → step_by (wants st) c place ≡ Some (v st)) → ((st : Stack) → Shows here w w.out.items (wants st) → Shows next left left.out.items (v st)) → ((st : Stack) → comma_in st c ≡ 0)
-        → reach (length w.brackets) c ≤ limit → IsReading p limit text (record next { at = stop }) left
-    item_taken q v is leads bare low = go (is_wants r.state (stood q))
+    pub item_taken : (here.phase ≡ phases.Wants) ⊎ (here.phase ≡ phases.WantsMore) → (v : Stack → State) → ((st : Stack) → step_by (wants st) c (span_at here.at stop) ≡ Some (v st)) → ((st : Stack) → Reads h here w w.out.items (wants st) → Reads k next left left.out.items (v st)) → ((st : Stack) → comma_in st c ≡ 0)
+        → reach (length w.brackets) c ≤ limit → IsReading k p limit text (record next { at = stop }) left
+    item_taken q v is leads bare low = go (wanted q)
       where
-        stood : (here.phase ≡ phases.Wants) ⊎ (here.phase ≡ phases.WantsMore) → (phase_of r.state ≡ phases.Wants) ⊎ (phase_of r.state ≡ phases.WantsMore)
-        stood (inl e) = inl (sym r.shows.phase ∙ e)
-        stood (inr e) = inr (sym r.shows.phase ∙ e)
-
-        go : (st : Stack) × (wants st ≡ r.state) → IsReading p limit text (record next { at = stop }) left
+        go : (st : Stack) × (wants st ≡ r.state) → IsReading k p limit text (record next { at = stop }) left
         go (st, e) =
-            let depth : length w.brackets ≡ open_levels (wants st) = ap length (shown_as (wants st) e).brackets ∙ brackets_levels w.heads (wants st) in
+            let depth : length w.brackets ≡ open_levels (wants st) = ap length (shown_as (wants st) e).shows.brackets ∙ brackets_levels (wants st) in
             taken_from (wants st) (v st) e (is st) (leads st (shown_as (wants st) e)) (ap (forbids p) (bare st) ∙ free_none p) (subst (λ l. reach l c ≤ limit) depth low)
 
     -- LAW: where an item is wanted, or was read last
-    pub end_taken : (ok : Bool) → ok ≡ true → MayEnd r.state → (MayEnd r.state → Shows here w w.out.items r.state → Taken ok r.state c place next left) → forbids p (comma_at r.state c) ≡ false → reach (open_levels r.state) c ≤ limit → IsReading p limit text (record next { at = stop }) left
-    end_taken ok e may f free low = go (subst (λ b. Taken b r.state c place next left) e (f may r.shows))
+    pub end_taken : (ok : Bool) → ok ≡ true → MayEnd r.state → (MayEnd r.state → Reads h here w w.out.items r.state → Taken k ok r.state c (span_at here.at stop) next left) → forbids p (comma_at r.state c) ≡ false → reach (open_levels r.state) c ≤ limit → IsReading k p limit text (record next { at = stop }) left
+    end_taken ok e may f free low = go (subst (λ b. Taken k b r.state c (span_at here.at stop) next left) e (f may r.shows))
       where
-        go : Taken true r.state c place next left → IsReading p limit text (record next { at = stop }) left
+        go : Taken k true r.state c (span_at here.at stop) next left → IsReading k p limit text (record next { at = stop }) left
         go (u, is, shows) = taken u is shows free low
 
     -- LAW: after an item
-    pub after_taken : here.phase ≡ phases.Has → (ok : Bool) → ok ≡ true → ((st : Stack) (i : Item) → Shows here w w.out.items (has st i) → Taken ok (has st i) c place next left) → ((l : ℕ) → reach l c ≤ limit) → IsReading p limit text (record next { at = stop }) left
-    after_taken h ok e f low = go (is_has r.state (sym r.shows.phase ∙ h))
+    pub after_taken : here.phase ≡ phases.Has → (ok : Bool) → ok ≡ true → ((st : Stack) (i : Item) → Reads h here w w.out.items (has st i) → Taken k ok (has st i) c (span_at here.at stop) next left) → ((l : ℕ) → reach l c ≤ limit) → IsReading k p limit text (record next { at = stop }) left
+    after_taken q ok e f low = go (is_has r.state (sym r.shows.shows.phase ∙ q))
       where
-        on : (st : Stack) (i : Item) → has st i ≡ r.state → Taken true (has st i) c place next left → IsReading p limit text (record next { at = stop }) left
-        on st i k (u, is, shows) = taken_from (has st i) u k is shows (free_none p) (low (open_levels (has st i)))
+        on : (st : Stack) (i : Item) → has st i ≡ r.state → Taken k true (has st i) c (span_at here.at stop) next left → IsReading k p limit text (record next { at = stop }) left
+        on st i same (u, is, shows) = taken_from (has st i) u same is shows (free_none p) (low (open_levels (has st i)))
 
-        go : (st : Stack) × (i : Item) × (has st i ≡ r.state) → IsReading p limit text (record next { at = stop }) left
-        go (st, i, k) = on st i k (subst (λ b. Taken b (has st i) c place next left) e (f st i (shown_as (has st i) k)))
+        go : (st : Stack) × (i : Item) × (has st i ≡ r.state) → IsReading k p limit text (record next { at = stop }) left
+        go (st, i, same) = on st i same (subst (λ b. Taken k b (has st i) c (span_at here.at stop) next left) e (f st i (shown_as (has st i) same)))
 
     -- LAW: where the number in `simple(..)` is wanted
-    pub number_taken : here.phase ≡ phases.WantsNumber → (v : Stack → Span → State) → ((st : Stack) (s : Span) → step_by (wants_number st s) c place ≡ Some (v st s)) → ((st : Stack) (s : Span) → Shows here w w.out.items (wants_number st s) → Shows next left left.out.items (v st s)) → reach (length w.brackets) c ≤ limit
-        → IsReading p limit text (record next { at = stop }) left
-    number_taken h v is leads low = go (is_wants_number r.state (sym r.shows.phase ∙ h))
+    pub number_taken : here.phase ≡ phases.WantsNumber → (v : Stack → Span → State) → ((st : Stack) (s : Span) → step_by (wants_number st s) c (span_at here.at stop) ≡ Some (v st s)) → ((st : Stack) (s : Span) → Reads h here w w.out.items (wants_number st s) → Reads k next left left.out.items (v st s)) → reach (length w.brackets) c ≤ limit
+        → IsReading k p limit text (record next { at = stop }) left
+    number_taken q v is leads low = go (is_wants_number r.state (sym r.shows.shows.phase ∙ q))
       where
-        go : (st : Stack) × (s : Span) × (wants_number st s ≡ r.state) → IsReading p limit text (record next { at = stop }) left
-        go (st, s, k) =
-            let depth : length w.brackets ≡ open_levels (wants_number st s) = ap length (shown_as (wants_number st s) k).brackets ∙ brackets_levels w.heads (wants_number st s) in
-            taken_from (wants_number st s) (v st s) k (is st s) (leads st s (shown_as (wants_number st s) k)) (free_none p) (subst (λ l. reach l c ≤ limit) depth low)
+        go : (st : Stack) × (s : Span) × (wants_number st s ≡ r.state) → IsReading k p limit text (record next { at = stop }) left
+        go (st, s, same) =
+            let depth : length w.brackets ≡ open_levels (wants_number st s) = ap length (shown_as (wants_number st s) same).shows.brackets ∙ brackets_levels (wants_number st s) in
+            taken_from (wants_number st s) (v st s) same (is st s) (leads st s (shown_as (wants_number st s) same)) (free_none p) (subst (λ l. reach l c ≤ limit) depth low)
 
 -- LAW: a text string and what follows it aren't empty
 pub text_beyond : (p : Profile) (limit : ℕ) (text x : List ℕ) (at end stop : ℕ) → IsTokenAt p text at end (Text x Absent) → TokensBetween p text end stop [] → at < stop
 text_beyond p limit text x at end stop tok white = omega (arith, beyond p text at end (Text x Absent) tok, few p text end stop [] (through p white))
 
-module _ (p : Profile) (limit : ℕ) (text : List ℕ) (here : Here) (w : Writer) (r : IsReading p limit text here w) where
+module _ {h : Holds} (p : Profile) (limit : ℕ) (text : List ℕ) (here : Here) (w : Writer) (r : IsReading h p limit text here w) where
   -- LAW: on with a text string in one piece
-  pub text_taken : (are : AreBytes text) {x : List ℕ} → IsUtf8 x → (end stop : ℕ) → IsTokenAt p text here.at end (Text x Absent) → TokensBetween p text end stop [] → NoPieceAt text stop → (left : Writer) → SameButOut w left → left.out.items ≡ w.out.items ++ (head_bytes 3 (least (length x)) (length x) ++ x)
-      → (here.phase ≡ phases.Wants) ⊎ (here.phase ≡ phases.WantsMore) → IsReading p limit text (record here { at = stop; phase = phases.Has }) left
-  text_taken are {x} u end stop tok white none left same new q = go (is_wants r.state (stood q))
+  pub text_taken : {k : Holds} (are : AreBytes text) {x : List ℕ} → IsUtf8 x → (end stop : ℕ) → IsTokenAt p text here.at end (Text x Absent) → TokensBetween p text end stop [] → NoPieceAt text stop → (left : Writer) → SameButOut w left → left.out.items ≡ w.out.items ++ (head_bytes 3 (least (length x)) (length x) ++ x)
+      → (here.phase ≡ phases.Wants) ⊎ (here.phase ≡ phases.WantsMore) → ((st : Stack) → let u = has st (text_item (span_at here.at end) x) in Reads h here w w.out.items (wants st) → Shows (record here { phase = phases.Has }) left left.out.items u → Reads k (record here { phase = phases.Has }) left left.out.items u)
+      → IsReading k p limit text (record here { at = stop; phase = phases.Has }) left
+  text_taken {k = k} are {x} u end stop tok white none left same new q hand = go (wanted p limit text here w r q)
     where
-      stood : (here.phase ≡ phases.Wants) ⊎ (here.phase ≡ phases.WantsMore) → (phase_of r.state ≡ phases.Wants) ⊎ (phase_of r.state ≡ phases.WantsMore)
-      stood (inl e) = inl (sym r.shows.phase ∙ e)
-      stood (inr e) = inr (sym r.shows.phase ∙ e)
-
       a : Span
-      a = record { start = here.at; stop = end }
+      a = span_at here.at end
 
       t : Token
       t = token_at here.at end (Text x Absent)
 
-      go : (st : Stack) × (wants st ≡ r.state) → IsReading p limit text (record here { at = stop; phase = phases.Has }) left
+      go : (st : Stack) × (wants st ≡ r.state) → IsReading k p limit text (record here { at = stop; phase = phases.Has }) left
       go (st, e) =
           let between : Between p text here.at end (t ∷ []) = through p tok in
-          let there = between_modest p text here.at end (t ∷ []) are between in
-          let modest : AreModest (t ∷ []) = (modest_here (Text x Absent) there.0, tt) in
+          let modest : AreModest (t ∷ []) = (modest_at p text here.at end (Text x Absent) are tok, tt) in
           let before = subst (λ (v : State). Reached p limit text here.at v) (sym e) r.reached in
-          let shown = subst (λ (v : State). Shows here w w.out.items v) (sym e) r.shows in
+          let was = subst (λ (v : State). Reads h here w w.out.items v) (sym e) r.shows in
           let string_read = goes_on p limit text here.at (wants st) before end t (builds (as_item st) (piece (piece_text a x Absent))) between modest refl (free_none p) (omega arith) in
           let after = skips p limit text end (builds (as_item st) (piece (piece_text a x Absent))) string_read stop (through p white) in
-          let k = text_shown here w left st a x modest.0 u same new shown in
           record {
             inside = omega (arith, (inside p text here.at end (t ∷ []) r.inside between).1, (inside p text end stop [] (inside p text here.at end (t ∷ []) r.inside between).1 (through p white)).1);
             state = has st (text_item a x);
             reached = settled p limit text stop st (piece (piece_text a x Absent)) none after;
-            shows = record { phase = k.phase; level = k.level; count = k.count; brackets = k.brackets; around = k.around; string = k.string; chunks = k.chunks; simple = k.simple; error = k.error; out = k.out };
+            shows = read_at (record here { phase = phases.Has }) left left.out.items (has st (text_item a x)) stop (hand st was (text_shown here w left st a x modest.0 u same new was.shows));
           }
 
   -- it is no bracket after a comma
   pub end_free : (k : Kind) (n : ℕ) (x : List ℕ) → (here.phase ≡ phases.Has) ⊎ (here.phase ≡ phases.Wants) → forbids p (comma_at r.state (class_of k n x)) ≡ false
-  end_free k n x q = tight_free p r.state k n x (λ e. not_more q (r.shows.phase ∙ e))
+  end_free k n x q = tight_free p r.state k n x (λ e. not_more q (r.shows.shows.phase ∙ e))
     where
       not_more : (here.phase ≡ phases.Has) ⊎ (here.phase ≡ phases.Wants) → here.phase ≡ phases.WantsMore → ⊥
       not_more (inl h) e = let bad : phases.Has ≡ phases.WantsMore = sym h ∙ e in cc
@@ -211,17 +204,16 @@ module _ (p : Profile) (limit : ℕ) (text : List ℕ) (here : Here) (w : Writer
     pub ps : Pieces
     pub is : builds (as_item st) ps ≡ r.state
     pub modest : AreModest (tokens_of_pieces ps)
-    pub shows : Shows here w w.out.items (builds (as_item st) ps)
+    pub shows : Reads h here w w.out.items (builds (as_item st) ps)
 
   pub pieced : here.phase ≡ phases.Builds → has_chunks w.chunks ≡ false → Pieced
-  pieced q none = go (is_builds r.state (sym r.shows.phase ∙ q))
+  pieced q none = go (is_builds r.state (sym r.shows.shows.phase ∙ q))
     where
-      go : (h : Home) × (ps : Pieces) × (builds h ps ≡ r.state) → Pieced
-      go (h, ps, e) =
-          let shown = subst (λ (v : State). Shows here w w.out.items v) (sym e) r.shows in
-          let k = item_home w.heads h (ap has_chunks (sym shown.chunks) ∙ none) in
+      go : (home : Home) × (ps : Pieces) × (builds home ps ≡ r.state) → Pieced
+      go (home, ps, e) =
+          let k = item_home home (ap has_chunks (sym (shown_as p limit text here w r (builds home ps) e).shows.chunks) ∙ none) in
           let is = ap (λ (x : Home). builds x ps) k.1 ∙ e in
-          record { st = k.0; ps = ps; is = is; modest = modest_of h ps e; shows = subst (λ (v : State). Shows here w w.out.items v) (sym is) r.shows }
+          record { st = k.0; ps = ps; is = is; modest = modest_of home ps e; shows = shown_as p limit text here w r (builds (as_item k.0) ps) is }
 
   -- pieces of a chunk
   pub record Chunked : Type 0 where
@@ -231,31 +223,30 @@ module _ (p : Profile) (limit : ℕ) (text : List ℕ) (here : Here) (w : Writer
     pub ps : Pieces
     pub is : builds (as_chunk st at b) ps ≡ r.state
     pub modest : AreModest (tokens_of_pieces ps)
-    pub shows : Shows here w w.out.items (builds (as_chunk st at b) ps)
+    pub shows : Reads h here w w.out.items (builds (as_chunk st at b) ps)
 
   pub chunked : here.phase ≡ phases.Builds → has_chunks w.chunks ≡ true → Chunked
-  chunked q some = go (is_builds r.state (sym r.shows.phase ∙ q))
+  chunked q some = go (is_builds r.state (sym r.shows.shows.phase ∙ q))
     where
-      go : (h : Home) × (ps : Pieces) × (builds h ps ≡ r.state) → Chunked
-      go (h, ps, e) =
-          let shown = subst (λ (v : State). Shows here w w.out.items v) (sym e) r.shows in
-          let k = chunk_home w.heads h (ap has_chunks (sym shown.chunks) ∙ some) in
+      go : (home : Home) × (ps : Pieces) × (builds home ps ≡ r.state) → Chunked
+      go (home, ps, e) =
+          let k = chunk_home home (ap has_chunks (sym (shown_as p limit text here w r (builds home ps) e).shows.chunks) ∙ some) in
           let is = ap (λ (x : Home). builds x ps) k.is ∙ e in
-          record { st = k.st; at = k.at; b = k.b; ps = ps; is = is; modest = modest_of h ps e; shows = subst (λ (v : State). Shows here w w.out.items v) (sym is) r.shows }
+          record { st = k.st; at = k.at; b = k.b; ps = ps; is = is; modest = modest_of home ps e; shows = shown_as p limit text here w r (builds (as_chunk k.st k.at k.b) ps) is }
 
   -- LAW: the pieces are whole
-  pub whole : (k : Pieced) → NoPieceAt text here.at → (next : Here) (left : Writer) → Shows next left left.out.items (has k.st (string k.ps)) → IsReading p limit text (record next { at = here.at }) left
-  whole k none next left e = record {
+  pub whole : {k : Holds} (i : Pieced) → NoPieceAt text here.at → (next : Here) (left : Writer) → Reads k next left left.out.items (has i.st (string i.ps)) → IsReading k p limit text (record next { at = here.at }) left
+  whole i none next left e = record {
     inside = r.inside;
-    state = has k.st (string k.ps);
-    reached = settled p limit text here.at k.st k.ps none (subst (λ (v : State). Reached p limit text here.at v) (sym k.is) r.reached);
-    shows = record { phase = e.phase; level = e.level; count = e.count; brackets = e.brackets; around = e.around; string = e.string; chunks = e.chunks; simple = e.simple; error = e.error; out = e.out };
+    state = has i.st (string i.ps);
+    reached = settled p limit text here.at i.st i.ps none (subst (λ (v : State). Reached p limit text here.at v) (sym i.is) r.reached);
+    shows = read_at next left left.out.items (has i.st (string i.ps)) here.at e;
   }
 
   -- LAW: on from a state with a token that is no bracket
-  pub turned : (are : AreBytes text) (c : Class) (stop : ℕ) → IsTokenAt p text here.at stop c → (next : Here) (left : Writer) (s u : State) → s ≡ r.state → step_by s c (record { start = here.at; stop = stop }) ≡ Some u → Shows next left left.out.items u → comma_at s c ≡ 0 → ((l : ℕ) → reach l c ≤ limit) → IsReading p limit text (record next { at = stop }) left
+  pub turned : {k : Holds} (are : AreBytes text) (c : Class) (stop : ℕ) → IsTokenAt p text here.at stop c → (next : Here) (left : Writer) (s u : State) → s ≡ r.state → step_by s c (record { start = here.at; stop = stop }) ≡ Some u → Reads k next left left.out.items u → comma_at s c ≡ 0 → ((l : ℕ) → reach l c ≤ limit) → IsReading k p limit text (record next { at = stop }) left
   turned are c stop tok next left s u e is shows bare low = taken_from p limit text here w r are c stop tok next left s u e is shows (ap (forbids p) bare ∙ free_none p) (low (open_levels s))
 
   -- the number of a simple value
   pub simple_number : here.phase ≡ phases.HasNumber → HasNumber r.state
-  simple_number q = is_has_number r.state (sym r.shows.phase ∙ q)
+  simple_number q = is_has_number r.state (sym r.shows.shows.phase ∙ q)

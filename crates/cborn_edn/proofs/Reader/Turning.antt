@@ -1,44 +1,93 @@
 -- What one token does, by its kind.
-use Rattle.std.proofs.Common.{◌≡◌, refl, sym, ap, ◌∙◌, subst, ℕ, ◌<◌, List, [], ◌++◌, length, Bool, true, false, append-nil, arith, ◌⊎◌, inl, inr}
+use Rattle.std.proofs.Common.{◌≡◌, refl, sym, ap, ◌∙◌, subst, ℕ, ◌<◌, List, [], ◌++◌, length, Bool, true, false, Option, Some, None, append-nil, arith, ◌⊎◌, inl, inr}
 use Rattle.cborn_lex.specs.declared.classes.Kind.{Kind}
 use Rattle.cborn_lex.specs.declared.classes.Kind.TheVariants as kinds
 use Rattle.cborn_lex.specs.declared.classes.Mark.{Mark}
 use Rattle.cborn_lex.specs.declared.classes.Class.{Class}
 use Rattle.cborn_lex.specs.Kinds.{class_of, content_of}
 use Rattle.cborn_lex.specs.declared.classes.Class.TheVariants as classes
+use Rattle.cborn_lex.specs.declared.classes.Class.TheVariants.{EmbedClose, Comma, Colon}
 use Rattle.cborn_model.specs.Bytes.{AreBytes}
 use Rattle.cborn_model.specs.declared.visitors.StringKind.TheVariants.{OfBytes, OfText}
-use Rattle.cborn_edn.specs.devices.Syntax.{Span, Item, Pieces, StringsBefore, string, no_item, after_row, no_pair, after_pairs}
-use Rattle.cborn_edn.proofs.Grammar.Machine.{Stack, in_row, in_key, in_value, in_tag, Home, as_item, as_chunk, State, wants, has, builds, wants_chunk, wants_number, has_number, step_by}
+use Rattle.cborn_edn.specs.devices.Syntax.{Span, Item, Pieces, StringsBefore, string, simple, embedded, row, no_item, after_row, Content, loose, tight, pairs, no_pair, after_pairs}
+use Rattle.cborn_edn.proofs.Grammar.Machine.{Stack, in_row, in_key, in_value, in_tag, at_top, in_array, in_embed, Home, as_item, as_chunk, State, wants, has, builds, wants_chunk, wants_number, has_number, with_piece, step_by}
 use Rattle.cborn_edn.specs.declared.states.Here.{Here}
 use Rattle.cborn_edn.specs.declared.states.Writer.{Writer}
-use Rattle.cborn_edn.specs.declared.states.Heads.{Heads}
 use Rattle.cborn_edn.specs.declared.states.Phase.TheVariants as phases
 use Rattle.cborn_edn.specs.declared.states.Phase.{Phase}
 use Rattle.cborn_edn.specs.devices.Kept.{wanting, phase_of, chunks_of}
-use Rattle.cborn_edn.specs.devices.Shows.{Shows}
-use Rattle.cborn_edn.specs.devices.Steps.{appended, starting, Ready, Taken, Takes, Turns, EndsPieces, has_chunks, is_piece}
+use Rattle.cborn_edn.specs.devices.Shows.{content_state}
+use Rattle.cborn_edn.specs.devices.Handed.{Holds, Handed, Reads}
+use Rattle.cborn_edn.specs.devices.Steps.{appended, starting, MayEnd, Ready, Turned, Taken, Takes, Turns, EndsPieces, has_chunks, is_piece}
+use Rattle.cborn_edn.proofs.HandedOver.Silent.{handed_comma, handed_pairs_comma, handed_colon, handed_close_simple, handed_open_embedded, handed_close_embedded}
 
 -- what is taken of the class is taken of an equal one
-pub taken_as : (ok : Bool) (s : State) (c k : Class) (a : Span) (next : Here) (left : Writer) → c ≡ k → Taken ok s k a next left → Taken ok s c a next left
-taken_as ok s c k a next left e h = subst (λ (x : Class). Taken ok s x a next left) (sym e) h
+pub taken_as : (h : Holds) (ok : Bool) (s : State) (c k : Class) (a : Span) (next : Here) (left : Writer) → c ≡ k → Taken h ok s k a next left → Taken h ok s c a next left
+taken_as h ok s c k a next left e t = subst (λ (x : Class). Taken h ok s x a next left) (sym e) t
 
-module _ (kind like : Kind) (number start place : ℕ) (here next : Here) (writer left : Writer) (ok : Bool) (s : State) (is : kind ≡ like) where
+module _ {h : Holds} (k : Holds) (kind like : Kind) (number start place : ℕ) (here next : Here) (writer left : Writer) (ok : Bool) (s : State) (is : kind ≡ like) where
   -- by what was appended
-  pub arm : ((x base : List ℕ) (a : Span) → place ≡ a.start → AreBytes x → start ≡ length base → writer.out.items ≡ base ++ appended s (class_of like number x) → Shows here writer base s → Taken ok s (class_of like number x) a next left) → Takes kind number start place here writer next left ok s
+  pub arm : ((x base : List ℕ) (a : Span) → place ≡ a.start → AreBytes x → start ≡ length base → writer.out.items ≡ base ++ appended s (class_of like number x) → Reads h here writer base s → Taken k ok s (class_of like number x) a next left) → Takes h k kind number start place here writer next left ok s
   arm f base c a p r =
-      let same : c ≡ class_of like number r.content = r.class ∙ ap (λ (k : Kind). class_of k number r.content) is in
-      taken_as ok s c (class_of like number r.content) a next left same (f r.content base a p r.plain r.from (r.written ∙ ap (λ (k : Class). base ++ appended s k) same) r.shows)
+      let same : c ≡ class_of like number r.content = r.class ∙ ap (λ (i : Kind). class_of i number r.content) is in
+      taken_as k ok s c (class_of like number r.content) a next left same (f r.content base a p r.plain r.from (r.written ∙ ap (λ (y : Class). base ++ appended s y) same) r.shows)
 
   -- where nothing was
-  pub appends_nothing : ((x : List ℕ) → appended s (class_of like number x) ≡ []) → ((x : List ℕ) (a : Span) → place ≡ a.start → Shows here writer writer.out.items s → Taken ok s (class_of like number x) a next left) → Takes kind number start place here writer next left ok s
-  appends_nothing none f = arm (λ x base a p are from e shows. f x a p (subst (λ l. Shows here writer l s) (sym (e ∙ ap (λ l. base ++ l) (none x) ∙ append-nil base)) shows))
+  pub appends_nothing : ((x : List ℕ) → appended s (class_of like number x) ≡ []) → ((x : List ℕ) (a : Span) → place ≡ a.start → Reads h here writer writer.out.items s → Taken k ok s (class_of like number x) a next left) → Takes h k kind number start place here writer next left ok s
+  appends_nothing none f = arm (λ x base a p are from e shows. f x a p (subst (λ l. Reads h here writer l s) (sym (e ∙ ap (λ l. base ++ l) (none x) ∙ append-nil base)) shows))
 
   -- of a token that appends nothing there
-  pub turn : ((x : List ℕ) (a : Span) → place ≡ a.start → Shows here writer writer.out.items s → Taken ok s (class_of like number x) a next left) → Turns kind number place here writer next left ok s
+  pub turn : ((x : List ℕ) (a : Span) → place ≡ a.start → Reads h here writer writer.out.items s → Taken k ok s (class_of like number x) a next left) → Turns h k kind number place here writer next left ok s
   turn f c x a p e shows =
-      let same : c ≡ class_of like number x = e ∙ ap (λ (k : Kind). class_of k number x) is in
-      taken_as ok s c (class_of like number x) a next left same (f x a p shows)
+      let same : c ≡ class_of like number x = e ∙ ap (λ (i : Kind). class_of i number x) is in
+      taken_as k ok s c (class_of like number x) a next left same (f x a p shows)
+
+-- The tokens after which the visitor holds what it held.
+
+abbrev StaysHanded : Holds → State → Class → Span → Type 0
+StaysHanded h s c a = (u : State) → step_by s c a ≡ Some u → Handed h s → Handed h u
+
+pub still_taken : (h : Holds) (ok : Bool) (s : State) (c : Class) (a : Span) (next : Here) (left : Writer) → StaysHanded h s c a → Handed h s → Turned ok s c a next left → Taken h ok s c a next left
+still_taken h true s c a next left f t (u, is, e) = (u, is, record { shows = e; handed = f u is t })
+still_taken h false s c a next left f t is = is
+
+led : (h : Holds) (v u : State) → Some v ≡ Some u → Handed h v → Handed h u
+led h v u is = let e : v ≡ u = cc in subst (Handed h) e
+
+none_led : {A : Type 0} (u : State) → None ≡ Some u → A
+none_led u is = absurd (let bad : None ≡ Some u = is in cc)
+
+pub colon_handed : (h : Holds) (st : Stack) (i : Item) (a : Span) → StaysHanded h (has st i) Colon a
+colon_handed h (in_key st s m b) i a u is t = led h (wants (in_value st s m b i a)) u is (handed_colon h st s m b i a t)
+colon_handed h (in_row at_top b) i a u is t = none_led u is
+colon_handed h (in_row (in_array st s m) b) i a u is t = none_led u is
+colon_handed h (in_row (in_embed home o s) b) i a u is t = none_led u is
+colon_handed h _ i a u is t = none_led u is
+
+pub comma_handed : (h : Holds) (st : Stack) (i : Item) (a : Span) → StaysHanded h (has st i) Comma a
+comma_handed h (in_row n b) i a u is t = led h (wants (in_row n (after_row (row b i) a))) u is (handed_comma h n b i a t)
+comma_handed h (in_value st s m b k c) i a u is t = led h (wants (in_key st s m (after_pairs (pairs b k c i) a))) u is (handed_pairs_comma h st s m b k c i a t)
+comma_handed h _ i a u is t = none_led u is
+
+embed_handed : (h : Holds) (home : Home) (o : Option Pieces) (s : Span) (c : Content) (m : Mark) (a : Span) (u : State) → Some (builds home (with_piece o (embedded s c a m))) ≡ Some u → Handed h (content_state (in_embed home o s) c) → Handed h u
+embed_handed h home o s c m a u is t = led h (builds home (with_piece o (embedded s c a m))) u is (handed_close_embedded h home o s c a m t)
+
+pub embedded_handed : (h : Holds) (s : State) (m : Mark) (a : Span) → MayEnd s → StaysHanded h s (EmbedClose m) a
+embedded_handed h (wants (in_row (in_embed home o s) b)) m a x u is t = embed_handed h home o s (loose b) m a u is t
+embedded_handed h (has (in_row (in_embed home o s) b) i) m a x u is t = embed_handed h home o s (tight (row b i)) m a u is t
+embedded_handed h (builds home ps) m a x u is t = absurd x
+embedded_handed h (wants_chunk st p b) m a x u is t = absurd x
+embedded_handed h (wants_number st p) m a x u is t = absurd x
+embedded_handed h (has_number st p b n v k) m a x u is t = absurd x
+embedded_handed h _ m a x u is t = none_led u is
+
+pub paren_handed : (h : Holds) (st : Stack) (s b : Span) (n : Bool) (v : ℕ) (m : Mark) (c : Class) (a : Span) → StaysHanded h (has_number st s b n v m) c a
+paren_handed h st s b n v m classes.ParenClose a u is t = led h (has st (simple s b n v m a)) u is (handed_close_simple h st s b n v m a t)
+paren_handed h st s b n v m _ a u is t = none_led u is
+
+pub open_piece_handed : (h : Holds) (home : Home) (ps : Pieces) (a : Span) → Handed h (builds home ps) → Handed h (wants (in_row (in_embed home (Some ps) a) no_item))
+open_piece_handed h (as_item st) ps a t = handed_open_embedded h (as_item st) (Some ps) a no_item t
+open_piece_handed h (as_chunk st s b) ps a t = handed_open_embedded h (as_chunk st s b) (Some ps) a no_item t
 
 -- the state, by the phase
 data Wanting (st : Stack) : Type 0 where
@@ -132,9 +181,9 @@ is_has_number (wants_chunk st s b) e = apart phases.WantsChunk phases.HasNumber 
 is_has_number (wants_number st s) e = apart phases.WantsNumber phases.HasNumber e (λ f. omega arith)
 
 -- a string that is no chunk
-pub item_home : (k : Heads) (h : Home) → has_chunks (chunks_of k h) ≡ false → (st : Stack) × (as_item st ≡ h)
-item_home k (as_item st) e = (st, refl)
-item_home k (as_chunk st s b) e = absurd (let bad : true ≡ false = e in cc)
+pub item_home : (h : Home) → has_chunks (chunks_of h) ≡ false → (st : Stack) × (as_item st ≡ h)
+item_home (as_item st) e = (st, refl)
+item_home (as_chunk st s b) e = absurd (let bad : true ≡ false = e in cc)
 
 pub record InChunk (h : Home) : Type 0 where
   pub st : Stack
@@ -142,16 +191,16 @@ pub record InChunk (h : Home) : Type 0 where
   pub b : StringsBefore
   pub is : as_chunk st at b ≡ h
 
-pub chunk_home : (k : Heads) (h : Home) → has_chunks (chunks_of k h) ≡ true → InChunk h
-chunk_home k (as_chunk st s b) e = record { st = st; at = s; b = b; is = refl }
-chunk_home k (as_item st) e = absurd (let bad : false ≡ true = e in cc)
+pub chunk_home : (h : Home) → has_chunks (chunks_of h) ≡ true → InChunk h
+chunk_home (as_chunk st s b) e = record { st = st; at = s; b = b; is = refl }
+chunk_home (as_item st) e = absurd (let bad : false ≡ true = e in cc)
 
 pub not_text : {A : Type 0} → OfBytes ≡ OfText → A
 not_text e = absurd (let bad : OfBytes ≡ OfText = e in cc)
 
-pub taken_same : (ok : Bool) (s t : State) (k : Class) (a : Span) (next : Here) (left : Writer) → step_by s k a ≡ step_by t k a → Taken ok t k a next left → Taken ok s k a next left
-taken_same true s t k a next left e h = (h.0, e ∙ h.1, h.2)
-taken_same false s t k a next left e h = e ∙ h
+pub taken_same : (h : Holds) (ok : Bool) (s t : State) (k : Class) (a : Span) (next : Here) (left : Writer) → step_by s k a ≡ step_by t k a → Taken h ok t k a next left → Taken h ok s k a next left
+taken_same h true s t k a next left e r = (r.0, e ∙ r.1, r.2)
+taken_same h false s t k a next left e r = e ∙ r
 
 -- pieces that are whole are an item
 pub ended_same : (st : Stack) (ps : Pieces) (k : Class) (a : Span) → EndsPieces k → step_by (builds (as_item st) ps) k a ≡ step_by (has st (string ps)) k a
@@ -178,6 +227,6 @@ no_starting (kinds.Bytes q m) n x e = absurd (let bad : true ≡ false = e in cc
 no_starting kinds.EmbedOpen n x e = absurd (let bad : true ≡ false = e in cc)
 no_starting _ n x e = refl
 
-pub shown_kind : (kind : Kind) (number start : ℕ) (here : Here) (writer : Writer) (h : Home) (ps : Pieces) (base : List ℕ) (c : Class) → is_piece kind ≡ false → Ready kind number start here writer (builds h ps) base c → Shows here writer writer.out.items (builds h ps)
-shown_kind kind number start here writer h ps base c none r =
-    subst (λ l. Shows here writer l (builds h ps)) (sym (r.written ∙ ap (λ (k : Class). base ++ content_of k) r.class ∙ ap (λ l. base ++ l) (no_content kind number r.content none) ∙ append-nil base)) r.shows
+pub shown_kind : {holds : Holds} (kind : Kind) (number start : ℕ) (here : Here) (writer : Writer) (h : Home) (ps : Pieces) (base : List ℕ) (c : Class) → is_piece kind ≡ false → Ready holds kind number start here writer (builds h ps) base c → Reads holds here writer writer.out.items (builds h ps)
+shown_kind {holds = holds} kind number start here writer h ps base c none r =
+    subst (λ l. Reads holds here writer l (builds h ps)) (sym (r.written ∙ ap (λ (k : Class). base ++ content_of k) r.class ∙ ap (λ l. base ++ l) (no_content kind number r.content none) ∙ append-nil base)) r.shows

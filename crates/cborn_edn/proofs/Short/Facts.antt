@@ -26,7 +26,7 @@ use Rattle.cborn_edn.specs.Grammar.{IsText, Notates}
 use Rattle.cborn_edn.specs.Faults.{HasSyntaxError, HasMeaningError}
 use Rattle.cborn_edn.proofs.Grammar.OneTree.{one_tree, both_profiles, not_both, answered}
 use Rattle.cborn_edn.proofs.Meaning.Earliest.{nothing_among, Tells, tells}
-use Rattle.cborn_edn.proofs.Meaning.Sound.{text_sound}
+use Rattle.cborn_edn.proofs.Meaning.Sound.{SoundAll, text_sound}
 use Rattle.cborn_edn.proofs.Reader.Modest.{all_modest}
 use Rattle.cborn_edn.proofs.RoundTrip.ReadBack.{shown_tokens}
 use Rattle.cborn_edn.proofs.RoundTrip.Retelling.{reads_same}
@@ -80,11 +80,15 @@ shown_only p limit nodes text says fits shown h =
     let e : says ≡ r.0 = one_notation p limit (depth_all nodes) text says r.0 h r.1 in
     (ap unplaced_all e ∙ r.2, ap spelled_all e ∙ r.3)
 
+-- LAW: the nodes of a text are within the limit, and fit their widths if they spell bytes that are few enough
+pub notated_sound : (profile : Profile) (limit : ℕ) (text : List ℕ) (nodes : Trees) → AreBytes text → (h : Notates profile limit text nodes) → SoundAll h.0 nodes limit
+notated_sound p limit text nodes are (x, taken, h) = text_sound h (all_modest x (text_light p text x are (lex_of p text x taken)).0)
+
 -- LAW: the nodes of a short text fit their widths and are within the limit
 pub notated_fits : (profile : Profile) (limit : ℕ) (text : List ℕ) (nodes : Trees) → AreBytes text → length text < 2 ^ 56 → Notates profile limit text nodes → FitsAll nodes × (depth_all nodes ≤ limit)
 notated_fits p limit text nodes are short (x, taken, h) =
     let light = text_light p text x are (lex_of p text x taken) in
-    let s = text_sound h (all_modest x light.0) in
+    let s = notated_sound p limit text nodes are (x, taken, h) in
     (s.fits (omega (arith, light.1, s.few)), s.low)
 
 -- LAW: a text that notates nodes isn't refused

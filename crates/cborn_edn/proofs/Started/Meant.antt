@@ -11,7 +11,7 @@ use Rattle.cborn_edn.specs.declared.meaning_errors.MeaningError.{MeaningError}
 use Rattle.cborn_model.specs.declared.visitors.StringKind.{StringKind}
 use Rattle.cborn_model.specs.declared.visitors.StringKind.TheVariants.{OfBytes, OfText}
 use Rattle.cborn_edn.specs.Says.{integer, string_node, chunked_node, width, is_endless, is_below, argument_of, is_small, bignum, number_node, Str, said_string, chunk}
-use Rattle.cborn_edn.specs.Starts.{starts_of_chunks, starts, unless_bytes, spots, spots_all, spots_entries}
+use Rattle.cborn_edn.specs.Starts.{starts_of_chunks, unless_bytes, spots, spots_all, spots_entries}
 use Rattle.cborn_edn.specs.Grammar.{token, IsItem, number, word, simple, tag, array, map, string, chunked, text_piece, byte_piece, embedded, ArePieces, piece, also, AreChunks, first, next, AreItems, last, before, IsContent, empty, tight, loose, ArePairs, last_pair, pair_before, IsFields, no_fields, tight_fields, loose_fields, IsText, nothing, items}
 
 -- places of some of the tokens, in their order
@@ -46,27 +46,22 @@ number_among a n v m = go (is_small n v)
     go true = small (is_below n v) (width m (argument_of n v))
     go false = inr ([], refl, refl)
 
--- a node at p alone
-pub record Alone (p : ℕ) (t : Tree) : Type 0 where
-  pub starts : starts t ≡ p ∷ []
-  pub spots : spots t ≡ p ∷ []
+string_alone : (k : StringKind) (p : ℕ) (w : Width) (x : List ℕ) → spots (string_node k p w x) ≡ p ∷ []
+string_alone OfBytes p w x = refl
+string_alone OfText p w x = refl
 
-string_alone : (k : StringKind) (p : ℕ) (w : Width) (x : List ℕ) → Alone p (string_node k p w x)
-string_alone OfBytes p w x = record { starts = refl; spots = refl }
-string_alone OfText p w x = record { starts = refl; spots = refl }
+empty_alone : (k : StringKind) (p : ℕ) → spots (chunked_node k p []) ≡ p ∷ []
+empty_alone OfBytes p = refl
+empty_alone OfText p = refl
 
-empty_alone : (k : StringKind) (p : ℕ) → Alone p (chunked_node k p [])
-empty_alone OfBytes p = record { starts = refl; spots = refl }
-empty_alone OfText p = record { starts = refl; spots = refl }
-
-pub said_alone : (s : Str) → Alone s.place (said_string s)
+said_alone : (s : Str) → spots (said_string s) ≡ s.place ∷ []
 said_alone s = go (s.lone && is_endless s.mark)
   where
-    go : (b : Bool) → Alone s.place (cond b (chunked_node s.kind s.place []) (string_node s.kind s.place (width s.mark (length s.bytes)) s.bytes))
+    go : (b : Bool) → spots (cond b (chunked_node s.kind s.place []) (string_node s.kind s.place (width s.mark (length s.bytes)) s.bytes)) ≡ s.place ∷ []
     go true = empty_alone s.kind s.place
     go false = string_alone s.kind s.place (width s.mark (length s.bytes)) s.bytes
 
-pub chunks_append : (cs : List Chunk) (c : Chunk) → starts_of_chunks (cs ++ (c ∷ [])) ≡ starts_of_chunks cs ++ (c.place ∷ [])
+chunks_append : (cs : List Chunk) (c : Chunk) → starts_of_chunks (cs ++ (c ∷ [])) ≡ starts_of_chunks cs ++ (c.place ∷ [])
 chunks_append [] c = refl
 chunks_append (d ∷ cs) c = ap (λ w. d.place ∷ w) (chunks_append cs c)
 
@@ -83,7 +78,7 @@ module _ {p : Profile} where
     item_among (tag {x = x} {t = t} a e i) = inr (_, refl, with_more _ x (token e ParenClose ∷ []) (bytes_aside t (spots t) x (item_among i)))
     item_among (array {x = x} a e c) = inr (_, refl, with_more _ x (token e ArrayClose ∷ []) (content_among c))
     item_among (map {x = x} a e f) = inr (_, refl, with_more _ x (token e MapClose ∷ []) (fields_among f))
-    item_among (string {x = x} {s = s} ps) = subst (λ w. Among w x) (sym (said_alone s).spots) (pieces_among ps)
+    item_among (string {x = x} {s = s} ps) = subst (λ w. Among w x) (sym (said_alone s)) (pieces_among ps)
     item_among (chunked {x = x} {k = k} {cs = cs} a e c) = chunked_among k (token a ChunkOpen) cs (x ++ token e ParenClose ∷ []) (with_more _ x (token e ParenClose ∷ []) (chunks_among c))
 
     pieces_among : {d : ℕ} {x : List Token} {s : Str} {l : List MeaningError} → ArePieces p d x s l → Among (s.place ∷ []) x

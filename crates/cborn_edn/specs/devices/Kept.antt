@@ -17,7 +17,6 @@ use Rattle.cborn_edn.specs.declared.states.OpenBracket.{OpenBracket}
 use Rattle.cborn_edn.specs.declared.states.Joint.{Joint}
 use Rattle.cborn_edn.specs.declared.states.Chunks.{Chunks}
 use Rattle.cborn_edn.specs.declared.states.Around.{Around}
-use Rattle.cborn_edn.specs.declared.states.Heads.{Heads}
 use Rattle.cborn_edn.specs.devices.Laid.{laid_stack, laid_home}
 use Rattle.cborn_edn.specs.devices.Noted.{noted_home, pieces_noted}
 
@@ -53,9 +52,9 @@ bracket st place start m = record { place = place; start = start; count = count_
 abbrev pub joint : ℕ → Str → Joint
 joint start s = record { kind = s.kind; start = start; place = s.place; mark = s.mark; mark_place = s.mark_place; lone = s.lone; known = s.known }
 
-abbrev pub string_at : Heads → Home → Option Pieces → Option Joint
-string_at k h None = None
-string_at k h (Some ps) = Some (joint (length (laid_home k h)) (str ps))
+abbrev pub string_at : Home → Option Pieces → Option Joint
+string_at h None = None
+string_at h (Some ps) = Some (joint (length (laid_home h)) (str ps))
 
 abbrev pub kind_before : StringsBefore → Option StringKind
 kind_before no_string = None
@@ -66,46 +65,46 @@ abbrev pub kind_or : Option StringKind → StringKind → StringKind
 kind_or None k = k
 kind_or (Some k) l = k
 
-abbrev pub chunks_of : Heads → Home → Option Chunks
-chunks_of k (as_item st) = None
-chunks_of k (as_chunk st s b) = Some (record { start = length (laid_stack k st); kind = kind_before b })
+abbrev pub chunks_of : Home → Option Chunks
+chunks_of (as_item st) = None
+chunks_of (as_chunk st s b) = Some (record { start = length (laid_stack st); place = s.start; kind = kind_before b })
 
-abbrev pub around : Heads → Home → Option Pieces → Around
-around k h o = record { string = string_at k h o; chunks = chunks_of k h; error = first_error (noted_home h ++ pieces_noted o) }
+abbrev pub around : Home → Option Pieces → Around
+around h o = record { string = string_at h o; chunks = chunks_of h; error = first_error (noted_home h ++ pieces_noted o) }
 
 -- the open brackets, the innermost first, each with what was kept around it
 abbrev mutual
-  pub brackets_of : Heads → Stack → List OpenBracket
-  brackets_of k (in_row n b) = brackets_nest k n
-  brackets_of k (in_key st s m b) = bracket st s.start (length (laid_stack k st)) m ∷ brackets_of k st
-  brackets_of k (in_value st s m b i c) = bracket st s.start (length (laid_stack k st)) m ∷ brackets_of k st
-  brackets_of k (in_tag st s n m) = bracket st 0 0 Absent ∷ brackets_of k st
+  pub brackets_of : Stack → List OpenBracket
+  brackets_of (in_row n b) = brackets_nest n
+  brackets_of (in_key st s m b) = bracket st s.start (length (laid_stack st)) m ∷ brackets_of st
+  brackets_of (in_value st s m b i c) = bracket st s.start (length (laid_stack st)) m ∷ brackets_of st
+  brackets_of (in_tag st s n m) = bracket st 0 0 Absent ∷ brackets_of st
 
-  pub brackets_nest : Heads → Nest → List OpenBracket
-  brackets_nest k at_top = []
-  brackets_nest k (in_array st s m) = bracket st s.start (length (laid_stack k st)) m ∷ brackets_of k st
-  brackets_nest k (in_embed h o s) = bracket (stack_of h) s.start (length (laid_home k h)) Absent ∷ brackets_home k h
+  pub brackets_nest : Nest → List OpenBracket
+  brackets_nest at_top = []
+  brackets_nest (in_array st s m) = bracket st s.start (length (laid_stack st)) m ∷ brackets_of st
+  brackets_nest (in_embed h o s) = bracket (stack_of h) s.start (length (laid_home h)) Absent ∷ brackets_home h
 
-  pub brackets_home : Heads → Home → List OpenBracket
-  brackets_home k (as_item st) = brackets_of k st
-  brackets_home k (as_chunk st s b) = brackets_of k st
+  pub brackets_home : Home → List OpenBracket
+  brackets_home (as_item st) = brackets_of st
+  brackets_home (as_chunk st s b) = brackets_of st
 
 -- what is kept around each open `<<`, the innermost first
 abbrev mutual
-  pub arounds_of : Heads → Stack → List Around
-  arounds_of k (in_row n b) = arounds_nest k n
-  arounds_of k (in_key st s m b) = arounds_of k st
-  arounds_of k (in_value st s m b i c) = arounds_of k st
-  arounds_of k (in_tag st s n m) = arounds_of k st
+  pub arounds_of : Stack → List Around
+  arounds_of (in_row n b) = arounds_nest n
+  arounds_of (in_key st s m b) = arounds_of st
+  arounds_of (in_value st s m b i c) = arounds_of st
+  arounds_of (in_tag st s n m) = arounds_of st
 
-  pub arounds_nest : Heads → Nest → List Around
-  arounds_nest k at_top = []
-  arounds_nest k (in_array st s m) = arounds_of k st
-  arounds_nest k (in_embed h o s) = around k h o ∷ arounds_home k h
+  pub arounds_nest : Nest → List Around
+  arounds_nest at_top = []
+  arounds_nest (in_array st s m) = arounds_of st
+  arounds_nest (in_embed h o s) = around h o ∷ arounds_home h
 
-  pub arounds_home : Heads → Home → List Around
-  arounds_home k (as_item st) = arounds_of k st
-  arounds_home k (as_chunk st s b) = arounds_of k st
+  pub arounds_home : Home → List Around
+  arounds_home (as_item st) = arounds_of st
+  arounds_home (as_chunk st s b) = arounds_of st
 
 abbrev pub phase_of : State → Phase
 phase_of (wants st) = wanting st
@@ -124,11 +123,11 @@ stack_in (wants_chunk st s b) = st
 stack_in (wants_number st s) = st
 stack_in (has_number st s b n v m) = st
 
-abbrev pub string_in : Heads → State → Option Joint
-string_in k (builds h ps) = string_at k h (Some ps)
-string_in k _ = None
+abbrev pub string_in : State → Option Joint
+string_in (builds h ps) = string_at h (Some ps)
+string_in _ = None
 
-abbrev pub chunks_in : Heads → State → Option Chunks
-chunks_in k (builds h ps) = chunks_of k h
-chunks_in k (wants_chunk st s b) = chunks_of k (as_chunk st s b)
-chunks_in k _ = None
+abbrev pub chunks_in : State → Option Chunks
+chunks_in (builds h ps) = chunks_of h
+chunks_in (wants_chunk st s b) = chunks_of (as_chunk st s b)
+chunks_in _ = None

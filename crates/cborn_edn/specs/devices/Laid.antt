@@ -14,8 +14,6 @@ use Rattle.cborn_edn.specs.Says.{width}
 use Rattle.cborn_edn.specs.devices.Syntax.{Pieces, StringsBefore, no_string, after_strings}
 use Rattle.cborn_edn.specs.devices.Machine.{Stack, in_row, in_key, in_value, in_tag, Nest, at_top, in_array, in_embed, Home, as_item, as_chunk, State, wants, has, builds, wants_chunk, wants_number, has_number}
 use Rattle.cborn_edn.specs.devices.Said.{node, str, kind_in, chunks, nodes_before, entries_before}
-use Rattle.cborn_edn.specs.declared.states.Heads.{Heads}
-use Rattle.cborn_edn.specs.devices.Written.{heads_at, heads_nest, written_mark, chunks_as, node_as, nodes_as, entries_as}
 
 -- each number cut to a byte
 abbrev pub cut : List ℕ → List ℕ
@@ -35,30 +33,30 @@ bytes_before None = []
 bytes_before (Some ps) = (str ps).bytes
 
 -- what chunks spell, without the head of their string
-abbrev pub chunks_laid : Heads → StringsBefore → List ℕ
-chunks_laid k no_string = []
-chunks_laid k (after_strings ss c) = flat_map (chunk_bytes (major_of (kind_in ss))) (chunks_as k (chunks ss))
+abbrev pub chunks_laid : StringsBefore → List ℕ
+chunks_laid no_string = []
+chunks_laid (after_strings ss c) = flat_map (chunk_bytes (major_of (kind_in ss))) (chunks ss)
 
 abbrev mutual
-  pub laid_stack : Heads → Stack → List ℕ
-  laid_stack k (in_row n b) = laid_nest k n ++ spelled_all (nodes_as (heads_nest k n) (nodes_before b))
-  laid_stack k (in_key st s m b) = laid_stack k st ++ (place_of Map m ++ spelled_entries (entries_as (heads_at k st) (entries_before b)))
-  laid_stack k (in_value st s m b i c) = laid_stack k st ++ (place_of Map m ++ spelled_entries (entries_as (heads_at k st) (entries_before b))) ++ spelled (node_as (heads_at k st) (node i))
-  laid_stack k (in_tag st s n m) = laid_stack k st ++ head Tag (Given (width (written_mark (heads_at k st) m) n) n)
+  pub laid_stack : Stack → List ℕ
+  laid_stack (in_row n b) = laid_nest n ++ spelled_all (nodes_before b)
+  laid_stack (in_key st s m b) = laid_stack st ++ (place_of Map m ++ spelled_entries (entries_before b))
+  laid_stack (in_value st s m b i c) = laid_stack st ++ (place_of Map m ++ spelled_entries (entries_before b)) ++ spelled (node i)
+  laid_stack (in_tag st s n m) = laid_stack st ++ head Tag (Given (width m n) n)
 
-  pub laid_nest : Heads → Nest → List ℕ
-  laid_nest k at_top = []
-  laid_nest k (in_array st s m) = laid_stack k st ++ place_of Array m
-  laid_nest k (in_embed h o s) = laid_home k h ++ (0 ∷ bytes_before o)
+  pub laid_nest : Nest → List ℕ
+  laid_nest at_top = []
+  laid_nest (in_array st s m) = laid_stack st ++ place_of Array m
+  laid_nest (in_embed h o s) = laid_home h ++ (0 ∷ bytes_before o)
 
-  pub laid_home : Heads → Home → List ℕ
-  laid_home k (as_item st) = laid_stack k st
-  laid_home k (as_chunk st s b) = laid_stack k st ++ (0 ∷ chunks_laid (heads_at k st) b)
+  pub laid_home : Home → List ℕ
+  laid_home (as_item st) = laid_stack st
+  laid_home (as_chunk st s b) = laid_stack st ++ (0 ∷ chunks_laid b)
 
-abbrev pub laid : Heads → State → List ℕ
-laid k (wants st) = laid_stack k st
-laid k (has st i) = laid_stack k st ++ spelled (node_as (heads_at k st) (node i))
-laid k (builds h ps) = laid_home k h ++ (0 ∷ (str ps).bytes)
-laid k (wants_chunk st s b) = laid_home k (as_chunk st s b)
-laid k (wants_number st s) = laid_stack k st
-laid k (has_number st s b n v m) = laid_stack k st ++ spelled (node_as (heads_at k st) (Simple s.start v))
+abbrev pub laid : State → List ℕ
+laid (wants st) = laid_stack st
+laid (has st i) = laid_stack st ++ spelled (node i)
+laid (builds h ps) = laid_home h ++ (0 ∷ (str ps).bytes)
+laid (wants_chunk st s b) = laid_home (as_chunk st s b)
+laid (wants_number st s) = laid_stack st
+laid (has_number st s b n v m) = laid_stack st ++ spelled (Simple s.start v)

@@ -12,6 +12,7 @@ use Rattle.cborn_lex.specs.declared.classes.Profile.TheVariants.{One}
 use Rattle.cborn_lex.specs.declared.classes.Token.{Token}
 use Rattle.cborn_edn.specs.devices.Modest.{AreModest}
 use Rattle.cborn_model.specs.Spelled.{spelled_all}
+use Rattle.cborn_model.specs.Partial.{top, no_part}
 use Rattle.cborn_edn.specs.devices.Syntax.{Item, Pieces, string, RowBefore, row, Input, nothing, items}
 use Rattle.cborn_edn.specs.devices.Machine.{first_error}
 use Rattle.cborn_edn.specs.devices.Said.{nodes_of_input, faults_of_input}
@@ -19,7 +20,6 @@ use Rattle.cborn_edn.specs.devices.Machine.{in_row, at_top, as_item, State, has,
 use Rattle.cborn_edn.specs.declared.states.Level.{Level}
 use Rattle.cborn_edn.specs.declared.states.Chunks.{Chunks}
 use Rattle.cborn_edn.specs.devices.Laid.{cut}
-use Rattle.cborn_edn.specs.devices.Written.{nodes_as}
 use Rattle.cborn_edn.specs.devices.Machine.{held}
 use Rattle.cborn_edn.specs.devices.Machine.{parse}
 use Rattle.cborn_edn.specs.declared.faults.EdnReason.{EdnReason}
@@ -29,7 +29,8 @@ use Rattle.cborn_edn.specs.declared.states.Phase.TheVariants.{Wants, WantsMore, 
 use Rattle.cborn_edn.specs.declared.states.Here.{Here}
 use Rattle.cborn_edn.specs.declared.states.Writer.{Writer}
 use Rattle.cborn_edn.specs.devices.Steps.{starting, is_piece, has_chunks}
-use Rattle.cborn_edn.specs.devices.Shows.{Shows}
+use Rattle.cborn_edn.specs.devices.TreesCode.{listed_trees}
+use Rattle.cborn_edn.specs.devices.Handed.{Holds, Reads}
 
 -- what is appended when a token is read, by the phase
 abbrev pub appended_at : Phase → Class → List ℕ
@@ -71,11 +72,11 @@ pub record Reached (profile : Profile) (limit : ℕ) (text : List ℕ) (at : ℕ
   pub stops : (end : ℕ) → parse profile limit end tokens start ≡ parse profile limit end [] s
 
 -- the reader is at an offset of the text, and what it keeps shows the state there
-pub record IsReading (profile : Profile) (limit : ℕ) (text : List ℕ) (here : Here) (writer : Writer) : Type 0 where
+pub record IsReading (h : Holds) (profile : Profile) (limit : ℕ) (text : List ℕ) (here : Here) (writer : Writer) : Type 0 where
   pub inside : here.at ≤ length text
   pub state : State
   pub reached : Reached profile limit text here.at state
-  pub shows : Shows here writer writer.out.items state
+  pub shows : Reads h here writer writer.out.items state
 
 -- why no text goes on with a token, if none does
 abbrev pub Judged : Bool → Bool → ℕ → ℕ → Option EdnReason → Type 0
@@ -102,6 +103,7 @@ pub data Last : State → Input → Type 0 where
   pieces : (b : RowBefore) (ps : Pieces) → Last (builds (as_item (in_row at_top b)) ps) (items (row b (string ps)))
 
 -- what is written at the end of a text with this tree
-pub record AtEnd (t : Input) (writer : Writer) : Type 0 where
-  pub laid : writer.out.items ≡ cut (spelled_all (nodes_as writer.heads (nodes_of_input t)))
+pub record AtEnd (h : Holds) (t : Input) (writer : Writer) : Type 0 where
+  pub laid : writer.out.items ≡ cut (spelled_all (nodes_of_input t))
   pub error : writer.error ≡ first_error (faults_of_input t)
+  pub held : faults_of_input t ≡ [] → h (top (listed_trees (nodes_of_input t))) no_part

@@ -28,13 +28,13 @@ pub record Shows (here : Here) (writer : Writer) (written : List ℕ) (s : State
   pub phase : here.phase ≡ phase_of s
   pub level : here.level ≡ level_of (stack_in s)
   pub count : here.count ≡ count_of (stack_in s)
-  pub brackets : writer.brackets ≡ brackets_of writer.heads (stack_in s)
-  pub around : writer.around ≡ arounds_of writer.heads (stack_in s)
-  pub string : writer.string ≡ string_in writer.heads s
-  pub chunks : writer.chunks ≡ chunks_in writer.heads s
+  pub brackets : writer.brackets ≡ brackets_of (stack_in s)
+  pub around : writer.around ≡ arounds_of (stack_in s)
+  pub string : writer.string ≡ string_in s
+  pub chunks : writer.chunks ≡ chunks_in s
   pub simple : IsOpenAt writer.simple s
   pub error : writer.error ≡ first_error (noted s)
-  pub out : written ≡ cut (laid writer.heads s)
+  pub out : written ≡ cut (laid s)
 
 -- if the state s was shown, the state u is shown now
 abbrev pub Leads : Here → Writer → Here → Writer → State → State → Type 0
@@ -62,7 +62,6 @@ entries_at _ n = n
 
 -- what is open stays, and only the output and the first meaning error may change
 pub record Same (writer left : Writer) : Type 0 where
-  pub heads : left.heads ≡ writer.heads
   pub brackets : left.brackets ≡ writer.brackets
   pub around : left.around ≡ writer.around
   pub string : left.string ≡ writer.string

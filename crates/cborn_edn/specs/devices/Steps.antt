@@ -6,7 +6,7 @@ use Rattle.cborn_lex.specs.declared.classes.Kind.TheVariants as kinds
 use Rattle.cborn_lex.specs.declared.classes.Class.{Class}
 use Rattle.cborn_lex.specs.declared.classes.Class.TheVariants.{EmbedOpen, Text, Bytes}
 use Rattle.cborn_lex.specs.Kinds.{class_of, content_of}
-use Rattle.cborn_edn.specs.devices.Modest.{AreModest}
+use Rattle.cborn_edn.specs.devices.Modest.{IsModest, AreModest}
 use Rattle.cborn_edn.specs.devices.Syntax.{Span, Pieces}
 use Rattle.cborn_edn.specs.devices.Machine.{Home, State, wants, has, builds, wants_chunk, step_by}
 use Rattle.cborn_edn.specs.devices.Machine.{held}
@@ -18,6 +18,7 @@ use Rattle.cborn_edn.specs.declared.states.Chunks.{Chunks}
 use Rattle.cborn_edn.specs.declared.states.Here.{Here}
 use Rattle.cborn_edn.specs.declared.states.Writer.{Writer}
 use Rattle.cborn_edn.specs.devices.Shows.{Shows}
+use Rattle.cborn_edn.specs.devices.Handed.{Holds, Reads}
 
 abbrev pub is_array : Option Level → Bool
 is_array (Some Array) = true
@@ -75,30 +76,37 @@ appended (builds h ps) c = content_of c
 appended _ c = []
 
 -- a token of this kind was read, and its content appended to base
-pub record Ready (kind : Kind) (number start : ℕ) (here : Here) (writer : Writer) (s : State) (base : List ℕ) (c : Class) : Type 0 where
+pub record Ready (h : Holds) (kind : Kind) (number start : ℕ) (here : Here) (writer : Writer) (s : State) (base : List ℕ) (c : Class) : Type 0 where
   pub content : List ℕ
   pub class : c ≡ class_of kind number content
   pub plain : AreBytes content
-  pub shows : Shows here writer base s
+  pub shows : Reads h here writer base s
   pub written : writer.out.items ≡ base ++ appended s c
   pub from : start ≡ length base
   pub few : here.count < 2 ^ 63
   pub modest : AreModest (held s)
+  pub token : IsModest c
 
-abbrev pub IsReady : Kind → ℕ → ℕ → Here → Writer → State → Type 0
-IsReady kind number start here writer s = (base : List ℕ) × ((c : Class) × Ready kind number start here writer s base c)
+abbrev pub IsReady : Holds → Kind → ℕ → ℕ → Here → Writer → State → Type 0
+IsReady h kind number start here writer s = (base : List ℕ) × ((c : Class) × Ready h kind number start here writer s base c)
 
 -- if ok is true, the machine goes on with the token; else it has no such token there
-abbrev pub Taken : Bool → State → Class → Span → Here → Writer → Type 0
-Taken true s c a here writer = (u : State) × (step_by s c a ≡ Some u) × Shows here writer writer.out.items u
-Taken false s c a here writer = step_by s c a ≡ None
+abbrev pub Turned : Bool → State → Class → Span → Here → Writer → Type 0
+Turned true s c a here writer = (u : State) × (step_by s c a ≡ Some u) × Shows here writer writer.out.items u
+Turned false s c a here writer = step_by s c a ≡ None
 
-abbrev pub Takes : Kind → ℕ → ℕ → ℕ → Here → Writer → Here → Writer → Bool → State → Type 0
-Takes kind number start place here writer next left ok s = (base : List ℕ) (c : Class) (a : Span) → place ≡ a.start → Ready kind number start here writer s base c → Taken ok s c a next left
+-- and the visitor was handed
+abbrev pub Taken : Holds → Bool → State → Class → Span → Here → Writer → Type 0
+Taken h true s c a here writer = (u : State) × (step_by s c a ≡ Some u) × Reads h here writer writer.out.items u
+Taken h false s c a here writer = step_by s c a ≡ None
+
+-- of a visitor that holds h before and k after
+abbrev pub Takes : Holds → Holds → Kind → ℕ → ℕ → ℕ → Here → Writer → Here → Writer → Bool → State → Type 0
+Takes h k kind number start place here writer next left ok s = (base : List ℕ) (c : Class) (a : Span) → place ≡ a.start → Ready h kind number start here writer s base c → Taken k ok s c a next left
 
 -- what taking a token that appends nothing does
-abbrev pub Turns : Kind → ℕ → ℕ → Here → Writer → Here → Writer → Bool → State → Type 0
-Turns kind number place here writer next left ok s = (c : Class) (x : List ℕ) (a : Span) → place ≡ a.start → c ≡ class_of kind number x → Shows here writer writer.out.items s → Taken ok s c a next left
+abbrev pub Turns : Holds → Holds → Kind → ℕ → ℕ → Here → Writer → Here → Writer → Bool → State → Type 0
+Turns h k kind number place here writer next left ok s = (c : Class) (x : List ℕ) (a : Span) → place ≡ a.start → c ≡ class_of kind number x → Reads h here writer writer.out.items s → Taken k ok s c a next left
 
 -- the token begins no piece of a string
 abbrev pub EndsPieces : Class → Type 0
@@ -107,8 +115,8 @@ EndsPieces (Bytes q x m) = ⊥
 EndsPieces EmbedOpen = ⊥
 EndsPieces _ = Unit {0}
 
-abbrev pub EndsAt : Kind → ℕ → ℕ → Here → Writer → Here → Writer → Bool → Home → Pieces → Type 0
-EndsAt kind number place here writer next left ok h ps = (c : Class) (x : List ℕ) (a : Span) → place ≡ a.start → c ≡ class_of kind number x → EndsPieces c → Shows here writer writer.out.items (builds h ps) → Taken ok (builds h ps) c a next left
+abbrev pub EndsAt : Holds → Holds → Kind → ℕ → ℕ → Here → Writer → Here → Writer → Bool → Home → Pieces → Type 0
+EndsAt h k kind number place here writer next left ok home ps = (c : Class) (x : List ℕ) (a : Span) → place ≡ a.start → c ≡ class_of kind number x → EndsPieces c → Reads h here writer writer.out.items (builds home ps) → Taken k ok (builds home ps) c a next left
 
 -- the token is a piece of a string, or begins one
 abbrev pub is_piece : Kind → Bool

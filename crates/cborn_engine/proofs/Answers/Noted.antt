@@ -1,19 +1,29 @@
 -- A text holds the items that its bytes mean, and is shown as its bytes are.
 use Rattle.std.proofs.Common.{◌≡◌, ◌≤◌, ◌⊎◌, inl, inr, ℕ, List, length, sym, subst, ◌∙◌, Ordering, arith}
-use Rattle.cborn_engine.proofs.Answers.Listed.{nodes_of, notated_of, spells_of, TextRead, twins_read}
+use Rattle.cborn_engine.proofs.Answers.Listed.{nodes_of, notated_of, spells_of}
 use Rattle.std.specs.Prelude.{IsUtf8}
 use Rattle.cborn_model.specs.Tree.{Tree, trees}
 use Rattle.cborn_model.specs.Spelled.{FitsAll}
-use Rattle.cborn_model.specs.Value.{values_of}
+use Rattle.cborn_model.specs.First.{IsFirst}
+use Rattle.cborn_model.specs.Reasons.{flaw_rank}
+use Rattle.cborn_model.specs.declared.faults.InvalidReason.{InvalidReason}
+use Rattle.cborn_model.specs.declared.faults.Invalid.TheVariants as invalid
+use Rattle.cborn_judge.specs.Flaws.{IsRefusalOfAll}
+use Rattle.cborn_judge.specs.shared.Judged.{FlawIn}
+use Rattle.cborn_judge.specs.devices.Encoding.{AreEncodedAs}
+use Rattle.cborn_judge.proofs.FirstFlaw.Sequences.{first_refusal}
+use Rattle.cborn_edn.specs.Grammar.{Notates}
+use Rattle.cborn_edn.proofs.Started.Rises.{spots_rise}
+use Rattle.cborn_engine.specs.declared.faults.EngineFault.TheVariants as fault
+use Rattle.cborn_engine.specs.Refusing.{IsRefused}
+use Rattle.cborn_engine.proofs.Answers.Spots.{rising_apart}
 use Rattle.cborn_lex.specs.declared.classes.Profile.{Profile}
 use Rattle.cborn_lex.specs.declared.classes.Profile.TheVariants as profile
 use Rattle.cborn_lex.proofs.WholeTexts.Weights.{utf8_bytes}
 use Rattle.cborn_edn.proofs.Shown.SameText.{same_notation}
 use Rattle.cborn_edn.proofs.Short.Facts.{notated_fits}
-use Rattle.cborn_edn.proofs.RoundTrip.Unplaced.{same_meaning}
 use Rattle.cborn_edn.specs.ShownBytes.{IsShownText}
 use Rattle.cborn_edn.specs.Spelling.{IsSpelling}
-use Rattle.cborn_model.proofs.Listed.Meanings.{all_mean, zip_mean}
 use Rattle.cborn_engine.specs.declared.kinds.Kind.{Kind}
 use Rattle.cborn_engine.specs.declared.kinds.Kind.TheVariants as kind
 use Rattle.cborn_engine.specs.devices.Encoding.{kind_of, IsEncoded}
@@ -27,21 +37,26 @@ pub spells : (p : Profile) (limit : ℕ) (text : List ℕ) (nodes : List Tree) �
 spells profile.One limit text nodes h = h
 spells profile.Two limit text nodes h = h
 
--- it holds what the bytes mean
-pub encoded : (p : Profile) (limit : ℕ) (text bytes : List ℕ) → IsUtf8 text → TextRead p limit text bytes → (order : List ℕ → List ℕ → Ordering) (answer : List ℕ) → IsEncoded order kind.Wire limit bytes answer → length text ≤ most_bytes → IsEncoded order (kind_of p) limit text answer
-encoded p limit text bytes u s order answer n l =
-    let own = n.held in
-    let t = twins_read s in
-    let fit = t.fit (notated_fits p limit text (trees s.nodes) (utf8_bytes text u) (omega (arith, l)) s.notated).0 in
-    let same = same_nodes (trees own.nodes) (trees t.twins) own.spelled.fit fit (own.spelled.spells ∙ sym t.spells) in
-    let meant = t.meaning (values_of n.items) (same_meaning (trees own.nodes) (trees t.twins) same (values_of n.items) (all_mean own.nodes n.items own.meant)) in
-    record {
-      items = n.items;
-      held = record { nodes = s.nodes; spelled = spells p limit text s.nodes (u, s.notated); meant = zip_mean s.nodes n.items meant };
-      encoded = n.encoded;
-    }
+-- it holds what its nodes mean
+pub encoded : (p : Profile) (limit : ℕ) (text : List ℕ) (nodes : List Tree) → IsUtf8 text → Notates p limit text (trees nodes) → (order : List ℕ → List ℕ → Ordering) (answer : List ℕ) → AreEncodedAs order nodes answer → IsEncoded order (kind_of p) limit text answer
+encoded p limit text nodes u n order answer e = record {
+  items = e.0;
+  held = record { nodes = nodes; spelled = spells p limit text nodes (u, n); meant = e.1 };
+  encoded = e.3;
+}
 
--- of a text whose heads are spelled as they are written
+-- its first flaw is that of the first node that means nothing
+pub flawed : (p : Profile) (limit : ℕ) (text : List ℕ) (nodes : List Tree) → IsUtf8 text → Notates p limit text (trees nodes) → (place : ℕ) (r : InvalidReason) → IsFirst flaw_rank (FlawIn (trees nodes)) place r → length text ≤ most_bytes → IsRefused (kind_of p) limit most_bytes text (fault.Invalid (invalid.Refused place r))
+flawed p limit text nodes u n place r f l = go p n
+  where
+    first : (q : Profile) → Notates q limit text (trees nodes) → IsRefusalOfAll nodes (invalid.Refused place r)
+    first q n = first_refusal nodes place r (rising_apart nodes (spots_rise q limit text (trees nodes) n)) f
+
+    go : (q : Profile) → Notates q limit text (trees nodes) → IsRefused (kind_of q) limit most_bytes text (fault.Invalid (invalid.Refused place r))
+    go profile.One n = (l, record { nodes = nodes; spelled = (u, n); flaw = first profile.One n })
+    go profile.Two n = (l, record { nodes = nodes; spelled = (u, n); flaw = first profile.Two n })
+
+-- of a text that spells these bytes
 module _ (p : Profile) (limit : ℕ) (text bytes : List ℕ) (u : IsUtf8 text) (s : IsSpelling p limit text bytes) where
   notated : Spells (kind_of p) limit text (nodes_of s)
   notated = spells p limit text (nodes_of s) (u, (notated_of s))

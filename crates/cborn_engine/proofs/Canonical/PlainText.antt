@@ -1,25 +1,19 @@
 -- Nodes that spell deterministic encodings have no indicator and no chunk in their fixed notation: it is their plain text.
-use Rattle.std.proofs.Common.{◌≡◌, refl, sym, ap, ◌∙◌, subst, ℕ, zero, suc, ◌+◌, ◌*◌, ◌<◌, ◌^◌, inl, inr, Bool, true, false, eqb, List, [], ◌∷◌, ◌++◌, length, codes, decimal, arith, Ordering, append-nil}
+use Rattle.std.proofs.Common.{◌≡◌, refl, sym, ap, ◌∙◌, subst, ℕ, suc, inl, inr, Bool, true, false, eqb, List, [], ◌∷◌, ◌++◌, length, codes, decimal, Ordering, append-nil}
 use Rattle.std.proofs.lemmas.Bool.{eq-eqb, cond-true}
 use Rattle.std.specs.List.{AllZip, flat_map}
-use Rattle.std.specs.Int.{byte_at, bytes_high_first}
-use Rattle.std.specs.Prelude.{IsTrue, ◌/◌, ◌%◌}
 use Rattle.std.proofs.lemmas.List.Sorted.{length_permutation}
-use Rattle.cborn_model.specs.declared.heads.Width.{Width}
-use Rattle.cborn_model.specs.declared.heads.Width.TheVariants.{Direct, One, Two, Four, Eight}
-use Rattle.cborn_model.specs.declared.heads.Major.{Major}
-use Rattle.cborn_model.specs.declared.heads.Major.TheVariants.{Unsigned, Negative, ByteString, TextString, Array, Map, Tag, Other}
-use Rattle.cborn_model.specs.declared.heads.Size.{Size}
-use Rattle.cborn_model.specs.declared.heads.Size.TheVariants.{Fixed, Endless}
-use Rattle.cborn_model.specs.declared.nodes.Chunk.{Chunk}
+use Rattle.cborn_model.specs.declared.heads.Major.TheVariants.{Array, Map}
+use Rattle.cborn_model.specs.declared.heads.Size.TheVariants.{Fixed}
 use Rattle.cborn_model.specs.Bytes.{AreBytes, big_endian}
-use Rattle.cborn_model.specs.Heads.{code, following, WidthFits, SizeFits, Given, EndlessArgument, head, argument, least, head_bytes, is_simple_value}
-use Rattle.cborn_model.specs.Tree.{Tree, Uint, Nint, Bytes, Text, ByteChunks, TextChunks, Items, Pairs, Tagged, Simple, Trees, no_item, more, trees, Entries, no_entry, entry, count, count_entries}
-use Rattle.cborn_model.specs.Spelled.{ending, string, chunk_bytes, spelled, spelled_all, spelled_entries, ChunksFit, Fits, FitsAll, FitsEntries}
+use Rattle.cborn_model.specs.Heads.{following, WidthFits, Given, head, least, head_bytes}
+use Rattle.cborn_model.specs.Tree.{Tree, Uint, Nint, Bytes, Text, Items, Pairs, Tagged, Simple, Trees, no_item, more, trees, Entries, no_entry, entry, count, count_entries}
+use Rattle.cborn_model.specs.Spelled.{spelled, spelled_all, spelled_entries, Fits, FitsAll, FitsEntries}
 use Rattle.cborn_model.specs.Value.{Value, Values, Couples, integer, bytes, text, array, dict, tagged, simple, no_values, value, no_pairs, pair, value_count, pair_count, listed}
-use Rattle.cborn_model.proofs.Bytes.{bytes-append, bytes-left, bytes-right}
-use Rattle.cborn_model.proofs.Numbers.Simples.{simple_fits}
+use Rattle.cborn_model.proofs.Bytes.{bytes-left, bytes-right}
 use Rattle.cborn_model.proofs.SameItems.Rearranging.{carried}
+use Rattle.cborn_model.proofs.Listed.Values.{length-listed}
+use Rattle.cborn_wire.proofs.Spelled.AllBytes.{spelled_all_bytes}
 use Rattle.cborn_det.specs.Det.{Entry, IsInteger, Det, DetValues, DetPairs, DetSeq, joined}
 use Rattle.cborn_lex.specs.declared.classes.Mark.TheVariants.{Absent, Wide}
 use Rattle.cborn_edn.specs.Shown.{escaped, mark_for, indicator, opened, joined_by, shown, item_texts, pair_texts, shown_lines}
@@ -29,83 +23,6 @@ use Rattle.cborn_edn.proofs.Shown.PlainText.{same_plain}
 use Rattle.cborn_engine.specs.Holding.{IsPlainText}
 use Rattle.cborn_engine.specs.devices.Encoding.{IsFixedText}
 use Rattle.cborn_engine.proofs.Held.SameNodes.{same_nodes}
-
--- What nodes spell are bytes.
-
-is_byte : (i n : ℕ) → byte_at i n < 256
-is_byte zero n = omega arith
-is_byte (suc i) n = mod_small (n / 256 ^ suc i)
-  where
-    mod_small : (m : ℕ) → m % 256 < 256
-    mod_small m = omega arith
-
-high_bytes : (k n : ℕ) → AreBytes (bytes_high_first k n)
-high_bytes zero n = tt
-high_bytes (suc k) n = (is_byte k n, high_bytes k n)
-
-small_code : (m : Major) → code m < 8
-small_code Unsigned = omega arith
-small_code Negative = omega arith
-small_code ByteString = omega arith
-small_code TextString = omega arith
-small_code Array = omega arith
-small_code Map = omega arith
-small_code Tag = omega arith
-small_code Other = omega arith
-
-head_is : (m : ℕ) (w : Width) (n : ℕ) → m < 8 → WidthFits w n → AreBytes (head_bytes m w n)
-head_is m Direct n l f = (omega (arith, l, f), tt)
-head_is m One n l f = (omega (arith, l), (f, tt))
-head_is m Two n l f = (omega (arith, l), high_bytes 2 n)
-head_is m Four n l f = (omega (arith, l), high_bytes 4 n)
-head_is m Eight n l f = (omega (arith, l), high_bytes 8 n)
-
-endless_is : (m : ℕ) → m < 8 → AreBytes ((32 * m + 31) ∷ [])
-endless_is m l = (omega (arith, l), tt)
-
-argument_is : (m : Major) (s : Size) (n : ℕ) → SizeFits s n → AreBytes (head m (argument s n))
-argument_is m (Fixed w) n f = head_is (code m) w n (small_code m) f
-argument_is m Endless n f = endless_is (code m) (small_code m)
-
-string_is : (m : Major) (w : Width) (b : List ℕ) → WidthFits w (length b) → AreBytes b → AreBytes (string m w b)
-string_is m w b f h = bytes-append (head m (Given w (length b))) b (head_is (code m) w (length b) (small_code m) f) h
-
-ending_is : (s : Size) → AreBytes (ending s)
-ending_is (Fixed w) = tt
-ending_is Endless = endless_is 7 (omega arith)
-
-chunks_are : (m : Major) (cs : List Chunk) → ChunksFit cs → AreBytes (flat_map (chunk_bytes m) cs)
-chunks_are m [] h = tt
-chunks_are m (c ∷ cs) h = bytes-append (chunk_bytes m c) (flat_map (chunk_bytes m) cs) (string_is m c.width c.bytes h.0.0 h.0.1) (chunks_are m cs h.1)
-
-long_is : (m : Major) (cs : List Chunk) → ChunksFit cs → AreBytes ((head m EndlessArgument ++ flat_map (chunk_bytes m) cs) ++ ending Endless)
-long_is m cs h = bytes-append (head m EndlessArgument ++ flat_map (chunk_bytes m) cs) (ending Endless) (bytes-append (head m EndlessArgument) (flat_map (chunk_bytes m) cs) (endless_is (code m) (small_code m)) (chunks_are m cs h)) (ending_is Endless)
-
-simple_is : (n : ℕ) → IsTrue (is_simple_value n) → AreBytes (head_bytes 7 (least n) n)
-simple_is n h = head_is 7 (least n) n (omega arith) (simple_fits n h)
-
-mutual
-  are_bytes : (t : Tree) → Fits t → AreBytes (spelled t)
-  are_bytes (Uint p w n) h = head_is 0 w n (omega arith) h
-  are_bytes (Nint p w n) h = head_is 1 w n (omega arith) h
-  are_bytes (Bytes p w b) h = string_is ByteString w b h.0 h.1
-  are_bytes (Text p w b) h = string_is TextString w b h.0 h.1
-  are_bytes (ByteChunks p cs) h = long_is ByteString cs h
-  are_bytes (TextChunks p cs) h = long_is TextString cs h
-  are_bytes (Items p s ts) h =
-      bytes-append (head Array (argument s (count ts)) ++ spelled_all ts) (ending s) (bytes-append (head Array (argument s (count ts))) (spelled_all ts) (argument_is Array s (count ts) h.0) (all_are_bytes ts h.1)) (ending_is s)
-  are_bytes (Pairs p s es) h =
-      bytes-append (head Map (argument s (count_entries es)) ++ spelled_entries es) (ending s) (bytes-append (head Map (argument s (count_entries es))) (spelled_entries es) (argument_is Map s (count_entries es) h.0) (entries_are_bytes es h.1)) (ending_is s)
-  are_bytes (Tagged p w n t) h = bytes-append (head Tag (Given w n)) (spelled t) (head_is 6 w n (omega arith) h.0) (are_bytes t h.1)
-  are_bytes (Simple p n) h = simple_is n h
-
-  pub all_are_bytes : (ts : Trees) → FitsAll ts → AreBytes (spelled_all ts)
-  all_are_bytes no_item h = tt
-  all_are_bytes (more t ts) h = bytes-append (spelled t) (spelled_all ts) (are_bytes t h.0) (all_are_bytes ts h.1)
-
-  entries_are_bytes : (es : Entries) → FitsEntries es → AreBytes (spelled_entries es)
-  entries_are_bytes no_entry h = tt
-  entries_are_bytes (entry k v es) h = bytes-append (spelled k ++ spelled v) (spelled_entries es) (bytes-append (spelled k) (spelled v) (are_bytes k h.0) (are_bytes v h.1)) (entries_are_bytes es h.2)
 
 -- Nodes in the shortest heads.
 
@@ -178,10 +95,6 @@ entries_of (r ∷ rs) (e ∷ es) h are =
       reported = λ i. (one.key.reported i ++ (codes ": " ++ one.val.reported i)) ∷ rest.reported i;
     }
 
-length-listed : (ps : Couples) → length (listed ps) ≡ pair_count ps
-length-listed no_pairs = refl
-length-listed (pair k v ps) = ap suc (length-listed ps)
-
 module _ (order : List ℕ → List ℕ → Ordering) where
   a_map : (ps : Couples) (x : List ℕ) → AreBytes x → Det order (dict ps) x → ((es : List Entry) → DetPairs order ps es → AllZip Backed (listed ps) es) → PlainNode x
   a_map ps x are d back =
@@ -251,7 +164,7 @@ module _ (order : List ℕ → List ℕ → Ordering) where
   -- LAW: nodes that spell deterministic encodings have plain text
   pub plain_is : (vs : List Value) (ts : Trees) → FitsAll ts → DetSeq order vs (spelled_all ts) → shown_lines ts ≡ plain_lines ts
   plain_is vs ts fit d =
-      let s = sequence vs (spelled_all ts) (all_are_bytes ts fit) d in
+      let s = sequence vs (spelled_all ts) (spelled_all_bytes ts fit) d in
       let same = same_nodes ts s.nodes fit s.fits (sym s.spells) in
       same_text ts s.nodes same ∙ lines s.nodes s.reported ∙ same_plain s.nodes ts (sym same)
 

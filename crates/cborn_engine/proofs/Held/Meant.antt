@@ -26,12 +26,6 @@ use Rattle.cborn_engine.proofs.Held.SameNodes.{same_nodes}
 notates_once : (p : Profile) (limit : ℕ) (input : List ℕ) (ns ms : List Tree) → IsNotation p limit input ns → IsNotation p limit input ms → ns ≡ ms
 notates_once p limit input ns ms h g = trees-injective ns ms (one_notation p limit limit input (trees ns) (trees ms) h.1 g.1)
 
--- an input spells one list of nodes in place
-pub spells_once : (k : Kind) (limit : ℕ) (input : List ℕ) (ns ms : List Tree) → SpellsInPlace k limit input ns → SpellsInPlace k limit input ms → ns ≡ ms
-spells_once kind.Wire limit input ns ms h g = trees-injective ns ms (one_placed_reading limit 0 (trees ns) (trees ms) input h.0 g.0 h.1 g.1)
-spells_once kind.Notation limit input ns ms h g = notates_once profile.One limit input ns ms h g
-spells_once kind.Notation2 limit input ns ms h g = notates_once profile.Two limit input ns ms h g
-
 all_mean_once : (ns : List Tree) (vs ws : List Value) → AllZip Means ns vs → AllZip Means ns ws → vs ≡ ws
 all_mean_once [] [] [] h g = cc
 all_mean_once [] [] (w ∷ ws) h g = absurd g

@@ -18,8 +18,9 @@ use Rattle.cborn_model.specs.Meaning.{Means, AllMean, EntriesMean}
 use Rattle.cborn_model.specs.Orders.{IsKeyOrder, Rising}
 use Rattle.cborn_model.proofs.SameItems.Rearranging.{carried, weaker}
 use Rattle.cborn_model.proofs.SameItems.Sameness.{same_turned, same_chained}
+use Rattle.cborn_model.proofs.Listed.Values.{length-listed}
 use Rattle.cborn_det.specs.Det.{Entry, IsInteger, Det, DetValues, DetPairs, DetSeq, joined, keys}
-use Rattle.cborn_det.proofs.Canon.{one_of_seq}
+use Rattle.cborn_det.proofs.Canon.{one_of_same}
 use Rattle.cborn_lex.proofs.WholeTexts.Weights.{utf8_bytes}
 
 -- the bytes spell a node at p that means the same as the item, valid, and is no deeper
@@ -162,17 +163,13 @@ module _ (order : List ℕ → List ℕ → Ordering) (laws : IsKeyOrder order) 
   below_all k [] h = tt
   below_all k (e ∷ es) h = (h.0, weaker (λ (g : Entry). order e.0 g.0 ≡ Less) (λ (g : Entry). order k g.0 ≡ Less) (λ g q. laws.along k e.0 g.0 h.0 q) es (below_all e.0 es h.1))
 
-  -- the same items have one encoding
-  one_of : (v w : Value) (x y : List ℕ) → IsProper v → IsProper w → Same v w → Det order v x → Det order w y → x ≡ y
-  one_of v w x y p q s d e = one_of_seq order laws (v ∷ []) (w ∷ []) x y (p, tt) (q, tt) (s, tt) (x, [], d, refl, sym (append-nil x)) (y, [], e, refl, sym (append-nil y))
-
   -- a key whose encoding is below the others' is new among them
   new_among : (deep : ℕ) (a r : Value) (k : List ℕ) (ps : Couples) (rs : List (Value × Value)) (es : List Entry) → IsProper r → Det order r k → Same a r → SamePairs ps rs → AllZip (Backed deep) rs es → AllByRecursion (λ (g : Entry). order k g.0 ≡ Less) es → IsNew a ps
   new_among deep a r k no_pairs rs es p d s t z l = tt
   new_among deep a r k (pair b w ps) [] es p d s t z l = absurd t
   new_among deep a r k (pair b w ps) (q ∷ rs) [] p d s t z l = absurd z
   new_among deep a r k (pair b w ps) (q ∷ rs) (e ∷ es) p d s t z l = (
-    λ u. let i : k ≡ e.0 = one_of r q.0 k e.0 p z.0.1 (same_chained r a q.0 (same_turned a r s) (same_chained a b q.0 u t.0)) d z.0.2 in
+    λ u. let i : k ≡ e.0 = one_of_same order laws r q.0 k e.0 p z.0.1 (same_chained r a q.0 (same_turned a r s) (same_chained a b q.0 u t.0)) d z.0.2 in
         let j : order k k ≡ Less = subst (λ (y : List ℕ). order k y ≡ Less) (sym i) l.0 in
         let m = laws.itself k in absurd cc,
     new_among deep a r k ps rs es p d s t.2 z.1 l.1,
@@ -187,10 +184,6 @@ module _ (order : List ℕ → List ℕ → Ordering) (laws : IsKeyOrder order) 
       rest : (es : List Entry) → Rising order (e.0 ∷ keys es) → Rising order (keys es)
       rest [] h = tt
       rest (f ∷ fs) h = h.1
-
-  length-listed : (ps : Couples) → length (listed ps) ≡ pair_count ps
-  length-listed no_pairs = refl
-  length-listed (pair k v ps) = ap suc (length-listed ps)
 
   map_back : (p : ℕ) (ps : Couples) (x : List ℕ) → pair_count ps < 2 ^ 64 → Det order (dict ps) x → ((es : List Entry) → DetPairs order ps es → AllZip (Backed (pairs_depth ps)) (listed ps) es) → ReadsBack p (dict ps) x
   map_back p ps x few d back =

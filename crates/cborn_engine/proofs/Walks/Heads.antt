@@ -21,6 +21,7 @@ use Rattle.cborn_wire.specs.shared.InitialBytes.{Info, Now, Next, info_at, head_
 use Rattle.cborn_wire.proofs.HeadReading.InitialBytes.{same_alone}
 use Rattle.cborn_wire.proofs.Machine.TakesHeads.{quotient, remainder, info_at-now}
 use Rattle.cborn_wire.proofs.Parts.Openings.{opening, contents, opens, one_argument}
+use Rattle.cborn_wire.proofs.HeadReading.HeadFronts.{now_free}
 
 abbrev pub width_of : Argument → Width → Width
 width_of (Given w n) v = w
@@ -39,16 +40,6 @@ free_front m i j y h e r =
     ∙ ap (λ k. head_reason element_or_end false m k y) e
     ∙ r
 
-now_free : (m : Major) (n : ℕ) (y : List ℕ) → head_reason element_or_end false m (Now n) y ≡ None
-now_free Unsigned n y = refl
-now_free Negative n y = refl
-now_free ByteString n y = refl
-now_free TextString n y = refl
-now_free Array n y = refl
-now_free Map n y = refl
-now_free Tag n y = refl
-now_free Other n y = refl
-
 next_free : (m : Major) (w : Width) (y : List ℕ) → (m ≡ Other → ⊥) → head_reason element_or_end false m (Next w) y ≡ None
 next_free Unsigned w y o = refl
 next_free Negative w y o = refl
@@ -60,7 +51,7 @@ next_free Tag w y o = refl
 next_free Other w y o = absurd (o refl)
 
 pub given_free : (m : Major) (w : Width) (n : ℕ) (y : List ℕ) → (m ≡ Other → ⊥) → WidthFits w n → reason_alone (head m (Given w n) ++ y) ≡ None
-given_free m Direct n y o f = free_front m n (Now n) y (omega arith) (info_at-now n f) (now_free m n y)
+given_free m Direct n y o f = free_front m n (Now n) y (omega arith) (info_at-now n f) (now_free y m n)
 given_free m One n y o f = free_front m 24 (Next One) (following One n ++ y) (omega arith) refl (next_free m One (following One n ++ y) o)
 given_free m Two n y o f = free_front m 25 (Next Two) (following Two n ++ y) (omega arith) refl (next_free m Two (following Two n ++ y) o)
 given_free m Four n y o f = free_front m 26 (Next Four) (following Four n ++ y) (omega arith) refl (next_free m Four (following Four n ++ y) o)

@@ -25,16 +25,7 @@ use Rattle.cborn_engine.proofs.Walks.Lists.{more_encoded}
 
 -- ---- heads
 
-pub least_read : {x tail : List ℕ} {h : Head} {n k : ℕ} {w : Width} → tail ≡ drop n x → IsHeadOf x h n → h.argument ≡ arguments.Given w k → w ≡ least k → LeastHeadRead (major_at h.major) k x tail
-least_read {tail = tail} {h} {k = k} t i f l = record {
-  fits = subst (λ v. WidthFits v k) l (subst (λ (a : Argument). ArgumentFits (seen_argument a)) f i.fits);
-  read = head_read t i refl f ∙ ap (λ v. head (major_at h.major) (Given v k) ++ tail) l;
-}
-
 module _ (order : List ℕ → List ℕ → Ordering) {room : ℕ} where
-  pub walked_from : {x tail rest : List ℕ} {major k : Major} {n : ℕ} → LeastHeadRead major n x tail → major ≡ k → WalkedAfter order room k n tail rest → ItemWalked order room x rest
-  walked_from {tail = tail} {rest} {n = n} h e f = subst (λ (y : List ℕ). ItemWalked order room y rest) (sym (h.read ∙ ap (λ m. head m (Given (least n) n) ++ tail) e)) (f h.fits)
-
   -- ---- items without children
 
   pub uint_walked : (n : ℕ) (rest : List ℕ) → WalkedAfter order room Unsigned n rest rest

@@ -3,9 +3,9 @@ use Rattle.std.proofs.Common.{◌≡◌, refl, sym, ap, ◌∙◌, subst, ℕ, z
 use Rattle.std.proofs.lemmas.Bool.{cases_lt, lt-ltb, le-ltb}
 use Rattle.std.proofs.lemmas.List.{length-take-le, take-append-drop, take-append-le, take_all, take_at}
 use Rattle.cborn_model.specs.Tree.{Tree, trees}
-use Rattle.cborn_model.specs.Spelled.{spelled, spelled_all}
+use Rattle.cborn_model.specs.Spelled.{spelled_all}
 use Rattle.cborn_model.specs.Partial.{Opening, an_array, a_map, a_tag, in_chunks, Partial, top, inside, paired, last_key}
-use Rattle.cborn_model.proofs.Lengths.{some_bytes}
+use Rattle.cborn_model.proofs.Lengths.{no_more_nodes}
 use Rattle.cborn_model.proofs.Listed.Trees.{count-trees}
 use Rattle.cborn_wire.specs.Slots.{opened, opening, beginning, beginnings}
 use Rattle.cborn_wire.specs.declared.levels.Level.{Level}
@@ -27,15 +27,11 @@ exact n m low short = go (cases_lt n (2 ^ 64 - 1))
     go (inl h) = ap (λ b. cond b n (2 ^ 64 - 1)) (lt-ltb n (2 ^ 64 - 1) h)
     go (inr h) = ap (λ b. cond b n (2 ^ 64 - 1)) (le-ltb n (2 ^ 64 - 1) h) ∙ omega (arith, h, low, short)
 
-count_below : (ts : List Tree) → length ts ≤ length (spelled_all (trees ts))
-count_below [] = omega arith
-count_below (t ∷ ts) = omega (arith, length-append (spelled t) (spelled_all (trees ts)), some_bytes t, count_below ts)
-
 step_same : (o : Opening) (ts : List Tree) → length (beginning (opened o ts)) < 2 ^ 64 → step_of (kind_in o ts) ≡ step_in (opened o ts)
 step_same o ts short = go o (omega (arith, short, length-append (opening o) (spelled_all (trees ts))))
   where
     all : (n : ℕ) → n ≤ length ts → length (spelled_all (trees ts)) < 2 ^ 64 → at_most_highest n ≡ n
-    all n low short = exact n _ (omega (arith, low, count_below ts)) short
+    all n low short = exact n _ (omega (arith, low, no_more_nodes ts)) short
 
     in_map : (c : Option ℕ) (n k : ℕ) (x : Option Tree) → n ≡ k → step_of (map_kind c n x) ≡ step_in_map k x
     in_map c n k None e = ap Key e
@@ -52,7 +48,7 @@ path_append [] l = refl
 path_append (m ∷ ls) l = ap (λ p. step_of m.kind ∷ p) (path_append ls l)
 
 pub path_is : (f : Partial) → length (front (ready f) (open_in f)) < 2 ^ 64 → path_of (levels f) ≡ steps (ready f) (open_in f)
-path_is (top ts) short = ap (λ n. Item n ∷ []) (exact (length ts) _ (omega (arith, count_below ts, length-append (spelled_all (trees ts)) [])) short ∙ sym (count-trees ts))
+path_is (top ts) short = ap (λ n. Item n ∷ []) (exact (length ts) _ (omega (arith, no_more_nodes ts, length-append (spelled_all (trees ts)) [])) short ∙ sym (count-trees ts))
 path_is (inside f o ts) short =
     let all = length-append (spelled_all (ready f)) (beginnings (open_in f) ++ beginning (opened o ts)) in
     let both = length-append (beginnings (open_in f)) (beginning (opened o ts)) in

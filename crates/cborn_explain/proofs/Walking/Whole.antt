@@ -1,5 +1,5 @@
 -- A walk is where the longest front that ends between two heads ends.
-use Rattle.std.proofs.Common.{◌≡◌, refl, sym, ap, ◌∙◌, subst, ℕ, ◌^◌, ◌<◌, ◌≤◌, List, [], ◌∷◌, ◌++◌, length, take, drop, Option, Some, None, Result, Ok, Err, IfOk, ◌⊎◌, inl, inr, arith, append-nil, length-append, zero-add}
+use Rattle.std.proofs.Common.{◌≡◌, refl, sym, ap, ◌∙◌, subst, ℕ, ◌^◌, ◌<◌, ◌≤◌, List, [], ◌∷◌, ◌++◌, length, take, drop, Option, Some, None, Result, Ok, Err, IfOk, alloc_error, ◌⊎◌, inl, inr, arith, append-nil, length-append, zero-add}
 use Rattle.std.proofs.lemmas.List.{length-take-le, take-append-drop, take-append-le, take_all, take_at}
 use Rattle.std.proofs.Math.Seq.{take-append_seam}
 use Rattle.cborn_model.specs.Bytes.{AreBytes}
@@ -7,8 +7,8 @@ use Rattle.cborn_model.proofs.Bytes.{bytes-left}
 use Rattle.cborn_model.specs.Tree.{Trees, depth_all}
 use Rattle.cborn_model.specs.Spelled.{FitsAll}
 use Rattle.cborn_model.specs.Partial.{Partial, Part, no_part, part}
-use Rattle.cborn_wire.specs.declared.faults.WireFault.{WireFault}
-use Rattle.cborn_wire.specs.declared.faults.WireFault.TheVariants.{Refused, OutOfMemory}
+use Rattle.cborn_wire.specs.declared.faults.VisitFault.{VisitFault}
+use Rattle.cborn_wire.specs.declared.faults.VisitFault.TheVariants.{Refused, Memory}
 use Rattle.cborn_wire.specs.declared.faults.WireReason.{WireReason}
 use Rattle.cborn_wire.specs.declared.head_readers.HeadReader.{HeadReader}
 use Rattle.cborn_wire.specs.declared.head_readers.PartialHead.{PartialHead}
@@ -118,7 +118,7 @@ module _ (x : List ℕ) (place : ℕ) (within : place ≤ length x) (bytes : Are
       let all : n ≡ p = omega (arith, s.fed_is, next, length-take-le n y low) in
       ap (λ k. place_in (run 1024 (start 0) (take k y))) all ∙ ap place_in before.1.is ∙ length-take-le p y before.0
 
-  pub read_to : (string : Option ℕ) (around : List Level) (l : Level) (m : HeadReader) (at : ℕ) (r : Result ℕ WireFault) → Reads (λ f c. IsAmid string c) around l m 0 [] y r → (r ≡ Err OutOfMemory → ⊥) → IfOk r (λ n. n ≡ length y) → m.limit ≡ 1024
+  pub read_to : (string : Option ℕ) (around : List Level) (l : Level) (m : HeadReader) (at : ℕ) (r : Result ℕ VisitFault) → Reads (λ f c. IsAmid string c) around l m 0 [] y r → (r ≡ Err (Memory alloc_error) → ⊥) → IfOk r (λ n. n ≡ length y) → m.limit ≡ 1024
       → (string ≡ None → at ≡ next_head m) → ((p : ℕ) → string ≡ Some p → at ≡ p) → IsWalked x place at (around ++ l ∷ [])
   read_to string around l m at r reads never end limited none some = go r reads never end
     where
@@ -128,13 +128,13 @@ module _ (x : List ℕ) (place : ℕ) (within : place ≤ length x) (bytes : Are
       over : (n : ℕ) → IsFed (λ f c. IsAmid string c) around l m 0 (take n y) → IsOver (take n y) at (around ++ l ∷ [])
       over n fed = read_over (take n y) fed.0 string around l m.left m.at at m.head (here n fed) none some
 
-      go : (r : Result ℕ WireFault) → Reads (λ f c. IsAmid string c) around l m 0 [] y r → (r ≡ Err OutOfMemory → ⊥) → IfOk r (λ n. n ≡ length y) → IsWalked x place at (around ++ l ∷ [])
+      go : (r : Result ℕ VisitFault) → Reads (λ f c. IsAmid string c) around l m 0 [] y r → (r ≡ Err (Memory alloc_error) → ⊥) → IfOk r (λ n. n ≡ length y) → IsWalked x place at (around ++ l ∷ [])
       go (Ok n) fed never all = walked n at _ (omega (arith, all)) (over n fed) (ap (λ z. place_in (run 1024 (start 0) z)) (sym (take_all n y (omega (arith, all)))) ∙ (over n fed).stands)
       go (Err (Refused p r)) h never all =
           let fails = subst (λ k. run k (start 0) y ≡ Failed (ready_in (run k (start 0) (take h.taken y))) p r) limited h.fails in
           walked h.taken at _ h.within (over h.taken h.fed)
           (ap place_in fails ∙ sym (stands_there (λ f c. IsAmid string c) around l m.left m.at h.taken m.head _ p r fails h.within h.fed.0 (here h.taken h.fed) h.next) ∙ (over h.taken h.fed).stands)
-      go (Err OutOfMemory) h never all = absurd (never refl)
+      go (Err (Memory e)) h never all = absurd (never refl)
 
 -- The path of a walk leads to the place,
 pub walk_leads : (x : List ℕ) (place at : ℕ) (ls : List Level) → length x < 2 ^ 64 → IsWalked x place at ls → LeadsTo x place (path_of ls)

@@ -5,16 +5,13 @@ use Rattle.std.proofs.lemmas.Slice.Zip.{AllZip-long}
 use Rattle.cborn_model.specs.declared.heads.Size.{Size}
 use Rattle.cborn_model.specs.Heads.{IsLeastHead}
 use Rattle.cborn_model.specs.Meaning.{Means}
-use Rattle.cborn_model.specs.Partial.{ended_size, IsAll}
+use Rattle.cborn_model.specs.Partial.{IsAll}
 use Rattle.cborn_model.specs.Tree.{Tree, Items, trees}
 use Rattle.cborn_model.specs.Value.{array, values_of, value_count}
 use Rattle.cborn_model.proofs.Listed.Meanings.{all_mean, each_means, are_proper}
 use Rattle.cborn_model.proofs.Listed.Values.{value_count-values_of}
 use Rattle.cborn_det.specs.Appending.{Replaces}
 use Rattle.cborn_det.proofs.Steps.{values_of_seq}
-use Rattle.cborn_model.specs.declared.defects.Defect as defect
-use Rattle.cborn_judge.specs.Departures.{FindsDefect}
-use Rattle.cborn_judge.specs.shared.Checked.{SizeAt}
 use Rattle.cborn_judge.specs.devices.Encoding.{IsHeadFront, Coded, AreEncodedAs, IsSound, MeansNothing}
 
 -- ---- heads
@@ -40,10 +37,6 @@ headed major n None start x front contents old new e s f l known set =
 pub all_counted : (count : Option ℕ) (k l n : ℕ) → l ≡ unwrap_or count k → IsAll count n → k ≡ n → l ≡ n
 all_counted (Some m) k l n is all e = is ∙ sym all
 all_counted None k l n is all e = is ∙ e
-
--- the defect of the head, whatever argument it has
-pub size_found : (p l n : ℕ) (s e : Size) (count : Option ℕ) (o : Option defect.Defect) → l ≡ n → e ≡ ended_size s count l → FindsDefect (SizeAt p e l) o → FindsDefect (SizeAt p (ended_size s count n) n) o
-size_found p l n s e count o same is h = subst (λ m. FindsDefect (SizeAt p (ended_size s count m) m) o) same (subst (λ f. FindsDefect (SizeAt p f l) o) is h)
 
 module _ (order : List ℕ → List ℕ → Ordering) where
   array_coded : (p n : ℕ) (s : Size) (ts : List Tree) (h x : List ℕ) → n < 2 ^ 64 → n ≡ length ts → IsLeastHead 4 n h → AreEncodedAs order ts x → Coded order (Items p s (trees ts)) (h ++ x)

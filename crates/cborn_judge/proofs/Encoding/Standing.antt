@@ -1,7 +1,8 @@
 -- One more whole node in what an encoder holds.
-use Rattle.std.proofs.Common.{◌≡◌, ℕ, ◌+◌, ◌-◌, ◌<◌, ◌≤◌, ◌^◌, inl, inr, List, [], ◌∷◌, ◌++◌, length, append_assoc, append-nil, length-append, refl, sym, ap, ◌∙◌, subst, arith, true, false, true≢false, Bool, not, Ordering, Option, None}
+use Rattle.std.proofs.Common.{◌≡◌, ℕ, ◌+◌, ◌<◌, ◌≤◌, ◌^◌, inl, inr, List, [], ◌∷◌, ◌++◌, length, append_assoc, append-nil, length-append, refl, sym, ap, ◌∙◌, subst, arith, true, false, true≢false, Bool, not, Ordering, Option, None}
+use Rattle.std.proofs.lemmas.Bool.{cases_lt}
 use Rattle.std.proofs.lemmas.List.{same_from_push}
-use Rattle.std.specs.Prelude.{◌||◌, min}
+use Rattle.std.specs.Prelude.{◌||◌, ◌%◌, ◌==◌}
 use Rattle.std.specs.List.{AllZip, AllByRecursion}
 use Rattle.cborn_model.specs.declared.heads.Size.{Size}
 use Rattle.cborn_model.specs.declared.heads.Width.{Width}
@@ -14,14 +15,22 @@ use Rattle.cborn_model.specs.Valid.{IsProper}
 use Rattle.cborn_det.specs.Det.{DetSeq, joined}
 use Rattle.cborn_det.proofs.Steps.{seq_append}
 use Rattle.cborn_det.proofs.Written.{some_bytes}
-use Rattle.cborn_judge.specs.devices.Encoding.{MeansNothing, Row, Mark, row_entries, AreMarked, IsEncodedAs, Coded, AreEncodedAs, AreRows, IsSound, is_odd, after, after_items, Opens, IsFront, Contains, Inner, Stands}
+use Rattle.cborn_judge.specs.devices.Encoding.{MeansNothing, Row, Mark, IsMarked, row_entries, AreMarked, IsEncodedAs, Coded, AreEncodedAs, AreRows, IsSound, is_odd, has_key, after, after_items, Opens, IsFront, Contains, Inner, Stands}
 use Rattle.cborn_judge.specs.devices.Encoders.{IsChunk, IsChunkContent}
 use Rattle.cborn_model.specs.declared.visitors.StringKind.{StringKind}
 use Rattle.cborn_model.specs.declared.visitors.StringKind.TheVariants.{OfBytes, OfText}
+use Rattle.cborn_judge.specs.declared.levels.Container.{Container}
 use Rattle.cborn_judge.specs.declared.levels.Level.{Level}
 use Rattle.cborn_judge.specs.declared.levels.Container.TheVariants as container
 use Rattle.cborn_judge.proofs.Loops.Passing.{zip_append}
 use Rattle.cborn_judge.proofs.FirstFlaw.Sequences.{mean_more}
+
+-- a count that is one higher is odd if it was even
+turned : (n : ℕ) → ((n + 1) % 2 ^ 64 % 2 == 1) ≡ not (n % 2 == 1)
+turned n = elim (cases_lt (n % 2) 1) [
+  | inl even ↦ ap (λ k. k == 1) (let e : (n + 1) % 2 ^ 64 % 2 ≡ 1 = omega arith in e) ∙ sym (ap (λ k. not (k == 1)) (let e : n % 2 ≡ 0 = omega arith in e))
+  | inr odd ↦ ap (λ k. k == 1) (let e : (n + 1) % 2 ^ 64 % 2 ≡ 0 = omega arith in e) ∙ sym (ap (λ k. not (k == 1)) (let e : n % 2 ≡ 1 = omega arith in e))
+]
 
 -- ---- whether the nodes mean something
 
@@ -91,10 +100,10 @@ module _ (order : List ℕ → List ℕ → Ordering) where
   contents_more false true ts t y x a v e = cc
   contents_more true bad ts t y x a v e = cc
 
-  counted : (n : ℕ) (ts us : List Tree) (y : List ℕ) → n ≡ length ts → AreEncodedAs order (ts ++ us) y → length y < 2 ^ 64 → min (n + length us) (2 ^ 64 - 1) ≡ length (ts ++ us)
+  counted : (n : ℕ) (ts us : List Tree) (y : List ℕ) → n ≡ length ts → AreEncodedAs order (ts ++ us) y → length y < 2 ^ 64 → (n + length us) % 2 ^ 64 ≡ length (ts ++ us)
   counted n ts us y e a l = omega (arith, e, as_long (ts ++ us) a.0 y a.1 a.3, l, length-append ts us)
 
-  pub counted_more : (b bad : Bool) (n : ℕ) (ts : List Tree) (t : Tree) (y x : List ℕ) → (b ≡ false → AreEncodedAs order ts y × (n ≡ length ts)) → Verdict bad t x → length (y ++ x) < 2 ^ 64 → (b || bad) ≡ false → min (n + 1) (2 ^ 64 - 1) ≡ length (ts ++ t ∷ [])
+  pub counted_more : (b bad : Bool) (n : ℕ) (ts : List Tree) (t : Tree) (y x : List ℕ) → (b ≡ false → AreEncodedAs order ts y × (n ≡ length ts)) → Verdict bad t x → length (y ++ x) < 2 ^ 64 → (b || bad) ≡ false → (n + 1) % 2 ^ 64 ≡ length (ts ++ t ∷ [])
   counted_more false false n ts t y x a v l e = let c = a refl in counted n ts (t ∷ []) (y ++ x) c.1 (encoded_more ts t y x c.0 v) l
   counted_more false true n ts t y x a v l e = cc
   counted_more true bad n ts t y x a v l e = cc
@@ -221,20 +230,20 @@ module _ (order : List ℕ → List ℕ → Ordering) where
       inner_more l (after l bad) (a_tag p w n) ts (ts ++ t ∷ []) ms ms z x h h.opens h.content (sound_more l.flawed bad ts t h.sound (is_verdict order t x bad v))
       (h.contains.0, λ e. contents_more order l.flawed bad ts t h.contents x h.contains.1 v e)
 
-  inner_key : (l : Level) (p : ℕ) (s : Size) (c : Option ℕ) (ts : List Tree) (t : Tree) (ms : List Mark) (z x : List ℕ) (bad : Bool) (b e : ℕ) → Verdict order bad t x → Coded order t x → l.has_key ≡ false → b ≡ l.start + length z → e ≡ b + length x
+  inner_key : (l : Level) (p : ℕ) (s : Size) (c : Option ℕ) (ts : List Tree) (t : Tree) (ms : List Mark) (z x : List ℕ) (bad : Bool) (b e : ℕ) → Verdict order bad t x → Coded order t x → has_key l ≡ false → b ≡ l.start + length z → e ≡ b + length x
       → Within l (a_map p s c) ts ms z → Within (after l bad) (a_map p s c) (ts ++ t ∷ []) (ms ++ (place t, b, e, e) ∷ []) (z ++ x)
   inner_key l p s c ts t ms z x bad b e v d k f g h =
       let rs = h.contains.1 in
       let at : b ≡ l.content + length (joined (row_entries rs)) = omega (arith, f, h.content, ap length h.whole, length-append h.front h.contents, ap length h.contains.4) in
       inner_more l (after l bad) (a_map p s c) ts (ts ++ t ∷ []) ms (ms ++ (place t, b, e, e) ∷ []) z x h h.opens h.content (sound_more l.flawed bad ts t h.sound (is_verdict order t x bad v)) (
-        ap not h.contains.0 ∙ sym (odd_more order ts t),
+        turned l.count ∙ ap not h.contains.0 ∙ sym (odd_more order ts t),
         rs ++ (place t, x, []) ∷ [],
         key_more order ts t rs x (sym h.contains.0 ∙ k) h.contains.2 d,
         marked_key l.content rs ms (place t) x b e h.contains.3 at g,
         ap (λ y. y ++ x) h.contains.4 ∙ sym (joined_row rs (place t, x, []) ∙ ap (λ y. joined (row_entries rs) ++ y) (append-nil x)),
       )
 
-  inner_value : (l : Level) (p : ℕ) (s : Size) (c : Option ℕ) (ts : List Tree) (t : Tree) (ms : List Mark) (z x : List ℕ) (bad : Bool) (e : ℕ) → Verdict order bad t x → Coded order t x → l.has_key ≡ true → e ≡ l.start + length z + length x
+  inner_value : (l : Level) (p : ℕ) (s : Size) (c : Option ℕ) (ts : List Tree) (t : Tree) (ms : List Mark) (z x : List ℕ) (bad : Bool) (e : ℕ) → Verdict order bad t x → Coded order t x → has_key l ≡ true → e ≡ l.start + length z + length x
       → Within l (a_map p s c) ts ms z → (ns : List Mark) × (m : Mark) × (ms ≡ ns ++ m ∷ []) × Within (after l bad) (a_map p s c) (ts ++ t ∷ []) (ns ++ (m.0, m.1, m.2, e) ∷ []) (z ++ x)
   inner_value l p s c ts t ms z x bad e v d k f h =
       let u = value_more order ts t h.contains.1 x (sym h.contains.0 ∙ k) h.contains.2 d in
@@ -248,7 +257,7 @@ module _ (order : List ℕ → List ℕ → Ordering) where
         w.1,
         w.2,
         inner_more l (after l bad) (a_map p s c) ts (ts ++ t ∷ []) ms (w.0 ++ (w.1.0, w.1.1, w.1.2, e) ∷ []) z x h h.opens h.content (sound_more l.flawed bad ts t h.sound (is_verdict order t x bad v)) (
-          ap not h.contains.0 ∙ sym (odd_more order ts t),
+          turned l.count ∙ ap not h.contains.0 ∙ sym (odd_more order ts t),
           u.0 ++ (r.0, r.1, x) ∷ [],
           u.4,
           w.3,
@@ -262,7 +271,7 @@ module _ (order : List ℕ → List ℕ → Ordering) where
   stands_more : (outer : List Level) (l m : Level) (f : Partial) (o : Opening) (ts us : List Tree) (ms ns own : List Mark) (y x : List ℕ) (s : Stands order outer l (inside f o ts) ms y) → m.start ≡ l.start → m.pairs ≡ l.pairs → ns ≡ s.4 ++ own → Within m o us own (s.3 ++ x) → Stands order outer m (inside f o us) ns (y ++ x)
   stands_more outer l m f o ts us ms ns own y x s a b e h = (s.0, s.1, s.2, s.3 ++ x, s.4, own, s.6, ap (λ w. w ++ x) s.7 ∙ append_assoc s.2 s.3 x, e, a ∙ s.9, b ∙ s.10, s.11, h)
 
-  stands_key : (outer : List Level) (l : Level) (f : Partial) (p : ℕ) (z : Size) (c : Option ℕ) (ts : List Tree) (t : Tree) (ms ms' : List Mark) (y x : List ℕ) (bad : Bool) → l.has_key ≡ false → Verdict order bad t x → Coded order t x → ms' ≡ ms ++ (place t, length y, length (y ++ x), length (y ++ x)) ∷ []
+  stands_key : (outer : List Level) (l : Level) (f : Partial) (p : ℕ) (z : Size) (c : Option ℕ) (ts : List Tree) (t : Tree) (ms ms' : List Mark) (y x : List ℕ) (bad : Bool) → has_key l ≡ false → Verdict order bad t x → Coded order t x → ms' ≡ ms ++ (place t, length y, length (y ++ x), length (y ++ x)) ∷ []
       → Stands order outer l (inside f (a_map p z c) ts) ms y → Stands order outer (after l bad) (inside f (a_map p z c) (ts ++ t ∷ [])) ms' (y ++ x)
   stands_key outer l f p z c ts t ms ms' y x bad k v d new s =
       let b = length y in
@@ -271,7 +280,7 @@ module _ (order : List ℕ → List ℕ → Ordering) where
       stands_more outer l (after l bad) f (a_map p z c) ts (ts ++ t ∷ []) ms ms' (s.5 ++ m ∷ []) y x s refl refl (new ∙ ap (λ ns. ns ++ m ∷ []) s.8 ∙ append_assoc s.4 s.5 (m ∷ []))
       (inner_key l p z c ts t s.5 s.3 x bad b e v d k (omega (arith, s.9, ap length s.7, length-append s.2 s.3)) (length-append y x) s.12)
 
-  stands_value : (outer : List Level) (l : Level) (f : Partial) (p : ℕ) (z : Size) (c : Option ℕ) (ts : List Tree) (t : Tree) (ms ms' : List Mark) (y x : List ℕ) (bad : Bool) → l.has_key ≡ true → Verdict order bad t x → Coded order t x
+  stands_value : (outer : List Level) (l : Level) (f : Partial) (p : ℕ) (z : Size) (c : Option ℕ) (ts : List Tree) (t : Tree) (ms ms' : List Mark) (y x : List ℕ) (bad : Bool) → has_key l ≡ true → Verdict order bad t x → Coded order t x
       → ((ns : List Mark) (p s m n : ℕ) → ms ≡ ns ++ (p, s, m, n) ∷ [] → ms' ≡ ns ++ (p, s, m, length (y ++ x)) ∷ [])
       → Stands order outer l (inside f (a_map p z c) ts) ms y → Stands order outer (after l bad) (inside f (a_map p z c) (ts ++ t ∷ [])) ms' (y ++ x)
   stands_value outer l f p z c ts t ms ms' y x bad k v d set s =
@@ -284,31 +293,34 @@ module _ (order : List ℕ → List ℕ → Ordering) where
 
   pub stands_put : (outer : List Level) (l : Level) (f : Partial) (t : Tree) (ms ms' : List Mark) (y x : List ℕ) (bad : Bool) → IsFree f → length (y ++ x) < 2 ^ 64 → Coded order t x
       → (bad ≡ true → length (y ++ x) ≤ length y) → (bad ≡ false → length y < length (y ++ x))
-      → (((s : Size) (c : Option ℕ) → l.container ≡ container.Map s c → ⊥) → ms' ≡ ms)
-      → ((s : Size) (c : Option ℕ) → l.container ≡ container.Map s c → l.has_key ≡ false → ms' ≡ ms ++ (place t, length y, length (y ++ x), length (y ++ x)) ∷ [])
-      → ((s : Size) (c : Option ℕ) → l.container ≡ container.Map s c → l.has_key ≡ true → (ns : List Mark) (p b m n : ℕ) → ms ≡ ns ++ (p, b, m, n) ∷ [] → ms' ≡ ns ++ (p, b, m, length (y ++ x)) ∷ [])
+      → IsMarked l.container (has_key l) (place t, length y, length (y ++ x), length (y ++ x)) ms ms'
       → Stands order outer l f ms y → Stands order outer (after l bad) (put f t) ms' (y ++ x)
-  stands_put outer l f t ms ms' y x bad free k d g h plain key value s = by f free s
+  stands_put outer l f t ms ms' y x bad free k d g h marked s = by f free s
     where
       v : Verdict order bad t x
       v = verdict order t y x bad d g h
 
+      m : Mark
+      m = (place t, length y, length (y ++ x), length (y ++ x))
+
+      at : (a : Container) → l.container ≡ a → IsMarked a (has_key l) m ms ms'
+      at a e = subst (λ b. IsMarked b (has_key l) m ms ms') e marked
+
       by : (f : Partial) → IsFree f → Stands order outer l f ms y → Stands order outer (after l bad) (put f t) ms' (y ++ x)
-      by (top ts) free s =
-          let never : (i : Size) (c : Option ℕ) → l.container ≡ container.Map i c → ⊥ = λ i c e. let h : container.Input ≡ container.Map i c = sym s.2 ∙ e in cc in
-          (s.0, plain never ∙ s.1, s.2, sound_more l.flawed bad ts t s.3 (is_verdict order t x bad v), λ e. contents_more order l.flawed bad ts t y x s.4 v e)
+      by (top ts) free s = (s.0, at container.Input s.2 ∙ s.1, s.2, sound_more l.flawed bad ts t s.3 (is_verdict order t x bad v), λ e. contents_more order l.flawed bad ts t y x s.4 v e)
       by (inside f (an_array p z n) ts) free s =
-          let never : (i : Size) (c : Option ℕ) → l.container ≡ container.Map i c → ⊥ = λ i c e. let h : container.Array z n ≡ container.Map i c = sym s.12.opens.1 ∙ e in cc in
-          stands_more outer l (after l bad) f (an_array p z n) ts (ts ++ t ∷ []) ms ms' s.5 y x s refl refl (plain never ∙ s.8) (inner_array l p z n ts t s.5 s.3 x bad (own_short y x s.2 s.3 k s.7) v s.12)
+          stands_more outer l (after l bad) f (an_array p z n) ts (ts ++ t ∷ []) ms ms' s.5 y x s refl refl (at (container.Array z n) s.12.opens.1 ∙ s.8) (inner_array l p z n ts t s.5 s.3 x bad (own_short y x s.2 s.3 k s.7) v s.12)
       by (inside f (a_tag p w n) ts) free s =
-          let never : (i : Size) (c : Option ℕ) → l.container ≡ container.Map i c → ⊥ = λ i c e. let h : container.Tag w n ≡ container.Map i c = sym s.12.opens.1 ∙ e in cc in
-          stands_more outer l (after l bad) f (a_tag p w n) ts (ts ++ t ∷ []) ms ms' s.5 y x s refl refl (plain never ∙ s.8) (inner_tag l p w n ts t s.5 s.3 x bad v s.12)
+          stands_more outer l (after l bad) f (a_tag p w n) ts (ts ++ t ∷ []) ms ms' s.5 y x s refl refl (at (container.Tag w n) s.12.opens.1 ∙ s.8) (inner_tag l p w n ts t s.5 s.3 x bad v s.12)
       by (inside f (in_chunks p j) ts) free s = absurd free.1
-      by (inside f (a_map p z n) ts) free s = go l.has_key refl
+      by (inside f (a_map p z n) ts) free s = go (has_key l) refl
         where
-          go : (b : Bool) → l.has_key ≡ b → Stands order outer (after l bad) (put (inside f (a_map p z n) ts) t) ms' (y ++ x)
-          go false e = stands_key outer l f p z n ts t ms ms' y x bad e v d (key z n s.12.opens.1 e) s
-          go true e = stands_value outer l f p z n ts t ms ms' y x bad e v d (value z n s.12.opens.1 e) s
+          here : (b : Bool) → has_key l ≡ b → IsMarked (container.Map z n) b m ms ms'
+          here b e = subst (λ k. IsMarked (container.Map z n) k m ms ms') e (at (container.Map z n) s.12.opens.1)
+
+          go : (b : Bool) → has_key l ≡ b → Stands order outer (after l bad) (put (inside f (a_map p z n) ts) t) ms' (y ++ x)
+          go false e = stands_key outer l f p z n ts t ms ms' y x bad e v d (here false e) s
+          go true e = stands_value outer l f p z n ts t ms ms' y x bad e v d (here true e) s
 
   -- ---- more than one at once
 
@@ -325,9 +337,9 @@ module _ (order : List ℕ → List ℕ → Ordering) where
       let n = length (y ++ a) in
       let m : Mark = (place t, length y, n, n) in
       let o = length ((y ++ a) ++ b) in
-      let has : l.has_key ≡ false = s.12.contains.0 ∙ even ts at in
+      let has : has_key l ≡ false = s.12.contains.0 ∙ even ts at in
       let key = stands_key outer l f p z c ts t ms (ms ++ m ∷ []) y a false has e (inl e) refl s in
-      stands_value outer (after l false) f p z c (ts ++ t ∷ []) u (ms ++ m ∷ []) (ms ++ (place t, length y, n, o) ∷ []) (y ++ a) b false (ap not has) g (inl g)
+      stands_value outer (after l false) f p z c (ts ++ t ∷ []) u (ms ++ m ∷ []) (ms ++ (place t, length y, n, o) ∷ []) (y ++ a) b false (turned l.count ∙ ap not has) g (inl g)
       (λ ns q i j k last. let r = same_from_push ms ns m (q, i, j, k) last in (λ w. r.0 w ++ ((r.1 w).0, (r.1 w).1, (r.1 w).2, o) ∷ [])) key
   stands_pair outer l f t u ms y a b at e g s = absurd at
 
@@ -337,9 +349,9 @@ module _ (order : List ℕ → List ℕ → Ordering) where
 
   -- ---- what opens
 
-  pub stands_open : (outer : List Level) (l m : Level) (f : Partial) (o : Opening) (ms : List Mark) (y h : List ℕ) → Opens m o → IsFront o h → m.start ≡ length y → m.content ≡ length (y ++ h) → m.pairs ≡ length ms → m.has_key ≡ false → m.count ≡ 0 → m.flawed ≡ false
+  pub stands_open : (outer : List Level) (l m : Level) (f : Partial) (o : Opening) (ms : List Mark) (y h : List ℕ) → Opens m o → IsFront o h → m.start ≡ length y → m.content ≡ length (y ++ h) → m.pairs ≡ length ms → m.count ≡ 0 → m.flawed ≡ false
       → Stands order outer l f ms y → Stands order (outer ++ l ∷ []) m (inside f o []) ms (y ++ h)
-  stands_open outer l m f o ms y h op fr a b c k n w s = (
+  stands_open outer l m f o ms y h op fr a b c n w s = (
     outer,
     l,
     y,
@@ -369,7 +381,7 @@ module _ (order : List ℕ → List ℕ → Ordering) where
 
       nothing : (o : Opening) → Contains order m o [] [] []
       nothing (an_array p z i) = (refl, λ e. (empty, n))
-      nothing (a_map p z i) = (k, [], tt, tt, refl)
+      nothing (a_map p z i) = (ap (λ k. k % 2 == 1) n, [], tt, tt, refl)
       nothing (a_tag p z i) = (refl, λ e. empty)
       nothing (in_chunks p i) = (refl, λ e. refl)
 

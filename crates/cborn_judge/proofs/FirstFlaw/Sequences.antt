@@ -52,14 +52,22 @@ no_sooner : (p q m n : ℕ) → q < p → NoLater (p, m) (q, n) → ⊥
 no_sooner p q m n l (inl h) = omega (arith, l, h)
 no_sooner p q m n l (inr h) = omega (arith, l, h.0)
 
+-- each flaw of a node is before those of the nodes after it
+abbrev pub AreApart : List Tree → Type 0
+AreApart [] = Unit {0}
+AreApart (t ∷ ts) = ((p q : ℕ) (r s : InvalidReason) → Flaw t p r → FlawIn (trees ts) q s → p < q) × AreApart ts
+
+pub placed_apart : (ts : List Tree) (a : ℕ) → PlacedAll a (trees ts) → AreApart ts
+placed_apart [] a h = tt
+placed_apart (t ∷ ts) a h = (λ p q r s f g. omega (arith, (flaw_within t a p r h.0 f).1, flaw_from ts (a + length (spelled t)) g.0 q s h.1 g.1 g.2), placed_apart ts (a + length (spelled t)) h.1)
+
 -- the first flaw of all is that of the first node that means nothing
-pub first_refusal : (ts : List Tree) (a p : ℕ) (r : InvalidReason) → PlacedAll a (trees ts) → IsFirst flaw_rank (FlawIn (trees ts)) p r → IsRefusalOfAll ts (Refused p r)
-first_refusal [] a p r h f = absurd f.is.1
-first_refusal (t ∷ ts) a p r h f = by f.is.0 f.is.1 f.is.2 (first_refusal ts (a + length (spelled t)) p r h.1)
+pub first_refusal : (ts : List Tree) (p : ℕ) (r : InvalidReason) → AreApart ts → IsFirst flaw_rank (FlawIn (trees ts)) p r → IsRefusalOfAll ts (Refused p r)
+first_refusal [] p r h f = absurd f.is.1
+first_refusal (t ∷ ts) p r h f = by f.is.0 f.is.1 f.is.2 (first_refusal ts p r h.1)
   where
     by : (q : Tree) → WithinAll q (trees (t ∷ ts)) → FlawAt q p r → (IsFirst flaw_rank (FlawIn (trees ts)) p r → IsRefusalOfAll ts (Refused p r)) → IsRefusalOfAll (t ∷ ts) (Refused p r)
     by q (inl w) g rest = inl (record { is = (q, w, g); first = λ s i k. f.first s i (k.0, inl k.1, k.2) })
     by q (inr w) g rest =
-        let sound : (s : ℕ) (i : InvalidReason) → Flaw t s i → ⊥ = λ s i k.
-        no_sooner p s (flaw_rank r) (flaw_rank i) (omega (arith, (flaw_within t a s i h.0 k).1, flaw_from ts (a + length (spelled t)) q p r h.1 w g)) (f.first s i (k.0, inl k.1, k.2)) in
+        let sound : (s : ℕ) (i : InvalidReason) → Flaw t s i → ⊥ = λ s i k. no_sooner p s (flaw_rank r) (flaw_rank i) (h.0 s p i r k (q, w, g)) (f.first s i (k.0, inl k.1, k.2)) in
         inr (meaning t sound, rest (record { is = (q, w, g); first = λ s i k. f.first s i (k.0, inr k.1, k.2) }))

@@ -1,5 +1,5 @@
 -- A device of the proofs: what an encoder holds of a partial sequence. Each node that is whole either means something, and then its encoding stands in the buffer, or means nothing. Of public contracts that of `Encoder` alone cites it.
-use Rattle.std.specs.Prelude.{◌≡◌, ◌≢◌, ℕ, ◌+◌, ◌-◌, ◌^◌, ◌⊎◌, ◌||◌, List, [], ◌∷◌, ◌++◌, map, length, Bool, true, false, Option, None, Some, IsPermutation, min, ⊤}
+use Rattle.std.specs.Prelude.{◌≡◌, ◌≢◌, ℕ, ◌+◌, ◌-◌, ◌<◌, ◌^◌, ◌⊎◌, ◌||◌, List, [], ◌∷◌, ◌++◌, map, length, Bool, true, false, Option, None, Some, IsPermutation, ◌%◌, ◌==◌, min, ⊤}
 use Rattle.std.proofs.Common.{not}
 use Rattle.std.specs.List.{AllZip, AllByRecursion}
 use Rattle.std.specs.declared.cmp.Ordering.{Ordering}
@@ -126,11 +126,15 @@ is_odd (t ∷ ts) = not (is_odd ts)
 
 -- the level with one more whole node
 abbrev pub after : Level → Bool → Level
-after l bad = record l { count = min (l.count + 1) (2 ^ 64 - 1); has_key = not l.has_key; flawed = l.flawed || bad }
+after l bad = record l { count = (l.count + 1) % 2 ^ 64; flawed = l.flawed || bad }
+
+-- a key came whose value is missing, if it is a map
+abbrev pub has_key : Level → Bool
+has_key l = l.count % 2 == 1
 
 -- the level of an array with so many more items
 abbrev pub after_items : Level → ℕ → Level
-after_items l n = record l { count = min (l.count + n) (2 ^ 64 - 1) }
+after_items l n = record l { count = (l.count + n) % 2 ^ 64 }
 
 abbrev pub are_chunks : Container → Bool
 are_chunks (container.Chunks k) = true
@@ -138,6 +142,12 @@ are_chunks _ = false
 
 abbrev pub is_chunks : Level → Bool
 is_chunks l = are_chunks l.container
+
+-- a key or, after one, a value was marked, if it is one of a map
+abbrev pub IsMarked : Container → Bool → Mark → List Mark → List Mark → Type 0
+IsMarked (container.Map s c) false m old new = new ≡ old ++ m ∷ []
+IsMarked (container.Map s c) true m old new = (ms : List Mark) (p b k n : ℕ) → old ≡ ms ++ (p, b, k, n) ∷ [] → new ≡ ms ++ (p, b, k, m.3) ∷ []
+IsMarked _ has_key m old new = new ≡ old
 
 -- what is open at this place
 abbrev pub IsOpening : Container → ℕ → Opening → Type 0
@@ -165,7 +175,7 @@ module _ (order : List ℕ → List ℕ → Ordering) where
   -- x are the contents of a container, and these the marks of its pairs
   abbrev pub Contains : Level → Opening → List Tree → List Mark → List ℕ → Type 0
   Contains l (an_array p s c) ts ms x = (ms ≡ []) × (l.flawed ≡ false → AreEncodedAs order ts x × (l.count ≡ length ts))
-  Contains l (a_map p s c) ts ms x = (l.has_key ≡ is_odd ts) × (rs : List Row) × AreRows order ts rs × AreMarked l.content rs ms × (x ≡ joined (row_entries rs))
+  Contains l (a_map p s c) ts ms x = (has_key l ≡ is_odd ts) × (rs : List Row) × AreRows order ts rs × AreMarked l.content rs ms × (x ≡ joined (row_entries rs))
   Contains l (a_tag p w n) ts ms x = (ms ≡ []) × (l.flawed ≡ false → AreEncodedAs order ts x)
   Contains l (in_chunks p k) ts ms x = (ms ≡ []) × (l.flawed ≡ false → x ≡ joined_chunks (chunks_of ts))
 

@@ -1,5 +1,5 @@
 -- The front of a text is one thing.
-use Rattle.std.proofs.Common.{◌≡◌, refl, sym, ap, ◌∙◌, subst, ℕ, List, [], ◌∷◌, ◌++◌, Bool, true, false, ◌&&◌, not, eqb, ◌⊎◌, inl, inr, Option, append_assoc, append-nil}
+use Rattle.std.proofs.Common.{◌≡◌, refl, sym, ap, ◌∙◌, subst, ℕ, List, [], ◌∷◌, ◌++◌, Bool, true, false, ◌&&◌, not, eqb, inl, inr, Option, append_assoc, append-nil}
 use Rattle.std.proofs.lemmas.Bool.{and_from, eqb-true, both_ways, true≢false}
 use Rattle.std.specs.List.{list_all}
 use Rattle.std.specs.Prelude.{bytes_eq, codes}
@@ -15,6 +15,7 @@ use Rattle.cborn_lex.specs.Numbers.{integer, number_front}
 use Rattle.cborn_lex.specs.Strings.{IsText, IsHex, IsBase64}
 use Rattle.cborn_lex.specs.Forms.{Through, Lacks, ContentGives, Closed, IsString, Prefix, hexadecimal, base64, unknown, prefix_of, IsPrefixed, IsAfterWord, ReadsWord, IsTag, ReadsNumber, double, simple, Start, white, slash, hash, less, greater, paren, letter, minus, digit, other, single, opening, start_of, paren_front, ReadsFrom, Reads}
 use Rattle.cborn_lex.proofs.OneFront.Runs.{rest, one_run, one_indicator, Closer, plain}
+use Rattle.cborn_lex.proofs.OneFront.Found.{UpTo}
 use Rattle.cborn_lex.proofs.OneFront.Quotes.{quoted}
 use Rattle.cborn_lex.proofs.Contents.Texts.{text_one}
 use Rattle.cborn_lex.proofs.Contents.Hexes.{hex_one}
@@ -29,10 +30,6 @@ tail c d x y e = (cc, cc)
 fixed : (s t r : List ℕ) (a b f : Front) → (s ≡ r) × (a ≡ f) → (t ≡ r) × (b ≡ f) → Same s t a b
 fixed s t r a b f h k = (h.0 ∙ sym k.0, h.1 ∙ sym k.1)
 
--- up to a character, or to the end
-abbrev IsUpTo : ℕ → Front → Front → List ℕ → List ℕ → Front → Type 0
-IsUpTo q f g s z a = ((body : List ℕ) × Through q body s × (a ≡ f)) ⊎ (Lacks q s z × (a ≡ g))
-
 through_text : (q : ℕ) (body s z : List ℕ) → Through q body s → s ++ z ≡ body ++ q ∷ z
 through_text q body s z h = ap (λ x. x ++ z) h.whole ∙ append_assoc body (q ∷ []) z
 
@@ -44,7 +41,7 @@ not_both q body s z t w h k e =
     let same = sym (all_text t w k.all) ∙ (sym e ∙ through_text q body s z h) in
     (plain q).apart body z h.none (ap (list_all (is_not q)) (sym same) ∙ k.none)
 
-up_to : (q : ℕ) (f g : Front) (s z t w : List ℕ) (a b : Front) → IsUpTo q f g s z a → IsUpTo q f g t w b → s ++ z ≡ t ++ w → Same s t a b
+up_to : (q : ℕ) (f g : Front) (s z t w : List ℕ) (a b : Front) → UpTo q f g s z a → UpTo q f g t w b → s ++ z ≡ t ++ w → Same s t a b
 up_to q f g s z t w a b (inl (body, h, i)) (inl (inside, k, j)) e =
     let same = (plain q).one body inside z w h.none k.none (sym (through_text q body s z h) ∙ (e ∙ through_text q inside t w k)) in
     (h.whole ∙ (ap (λ x. x ++ q ∷ []) same ∙ sym k.whole), i ∙ sym j)

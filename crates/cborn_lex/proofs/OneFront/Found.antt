@@ -33,7 +33,8 @@ pub record Started (P : List ℕ → List ℕ → Front → Type 0) (y : List �
 fixed : (y : List ℕ) (f : Front) → Started (λ s z a. (s ≡ []) × (a ≡ f)) y
 fixed y f = record { s = []; z = y; a = f; whole = refl; reads = (refl, refl) }
 
-abbrev UpTo : ℕ → Front → Front → List ℕ → List ℕ → Front → Type 0
+-- up to a character, or to the end
+abbrev pub UpTo : ℕ → Front → Front → List ℕ → List ℕ → Front → Type 0
 UpTo q f g s z a = ((body : List ℕ) × Through q body s × (a ≡ f)) ⊎ (Lacks q s z × (a ≡ g))
 
 up_to_from : (q : ℕ) (f g : Front) (y : List ℕ) → Found (list_all (is_not q)) q y ⊎ (list_all (is_not q) y ≡ true) → Started (UpTo q f g) y

@@ -3,21 +3,18 @@ use Rattle.std.proofs.Common.{◌≡◌, refl, sym, ap, ◌∙◌, ℕ, List, []
 use Rattle.std.proofs.lemmas.Bool.{cond-false, and_parts, and_from, eq-eqb, eqb-true, not-true, cases_Bool}
 use Rattle.cborn_lex.specs.Tokens.{is_not}
 use Rattle.cborn_lex.specs.Strings.{is_content, is_unclosed}
+use Rattle.cborn_lex.specs.devices.Scan.{after}
 use Rattle.cborn_lex.proofs.OneFront.Runs.{Found, Closer}
-
-abbrev onto : List ℕ → Option (List ℕ) → Option (List ℕ)
-onto s None = None
-onto s (Some t) = Some (s ++ t)
 
 abbrev content_at : ℕ → List ℕ → Option (List ℕ)
 content_at q [] = None
 content_at q (c ∷ []) = cond (eqb c q) (Some []) None
-content_at q (c ∷ d ∷ x) = cond (eqb c 92) (onto (c ∷ d ∷ []) (content_at q x)) (cond (eqb c q) (Some []) (onto (c ∷ []) (content_at q (d ∷ x))))
+content_at q (c ∷ d ∷ x) = cond (eqb c 92) (after (c ∷ d ∷ []) (content_at q x)) (cond (eqb c q) (Some []) (after (c ∷ []) (content_at q (d ∷ x))))
 
-plain_char : (q c : ℕ) (d : ℕ) (x : List ℕ) → eqb c 92 ≡ false → eqb c q ≡ false → content_at q (c ∷ d ∷ x) ≡ onto (c ∷ []) (content_at q (d ∷ x))
+plain_char : (q c : ℕ) (d : ℕ) (x : List ℕ) → eqb c 92 ≡ false → eqb c q ≡ false → content_at q (c ∷ d ∷ x) ≡ after (c ∷ []) (content_at q (d ∷ x))
 plain_char q c d x e h = rw (e, h) refl
 
-taken_char : (q c : ℕ) (d : ℕ) (x : List ℕ) → eqb c 92 ≡ true → content_at q (c ∷ d ∷ x) ≡ onto (c ∷ d ∷ []) (content_at q x)
+taken_char : (q c : ℕ) (d : ℕ) (x : List ℕ) → eqb c 92 ≡ true → content_at q (c ∷ d ∷ x) ≡ after (c ∷ d ∷ []) (content_at q x)
 taken_char q c d x e = rw e refl
 
 -- what the tests of a first character say
@@ -46,20 +43,20 @@ module _ (q : ℕ) (ne : eqb q 92 ≡ false) where
   content_is [] x h = at_quote x
   content_is (a ∷ []) x h =
       let hs = and_parts (not (eqb a 92)) (is_not q a) h in
-      plain_char q a q x (not-true _ hs.0) (not-true _ hs.1) ∙ ap (onto (a ∷ [])) (at_quote x)
+      plain_char q a q x (not-true _ hs.0) (not-true _ hs.1) ∙ ap (after (a ∷ [])) (at_quote x)
   content_is (a ∷ b ∷ c) x h = elim (cases_Bool (eqb a 92)) [
-    | inl e ↦ taken_char q a b (c ++ q ∷ x) e ∙ ap (onto (a ∷ b ∷ [])) (content_is c x (sym (content_taken q a b c e) ∙ h))
+    | inl e ↦ taken_char q a b (c ++ q ∷ x) e ∙ ap (after (a ∷ b ∷ [])) (content_is c x (sym (content_taken q a b c e) ∙ h))
     | inr e ↦ let hs = and_parts (is_not q a) (is_content q (b ∷ c)) (sym (content_plain q a b c e) ∙ h) in
-        plain_char q a b (c ++ q ∷ x) e (not-true _ hs.0) ∙ ap (onto (a ∷ [])) (content_is (b ∷ c) x hs.1)
+        plain_char q a b (c ++ q ∷ x) e (not-true _ hs.0) ∙ ap (after (a ∷ [])) (content_is (b ∷ c) x hs.1)
   ]
 
   unclosed_is : (y : List ℕ) → is_unclosed q y ≡ true → content_at q y ≡ None
   unclosed_is [] h = refl
   unclosed_is (a ∷ []) h = cond-false (eqb a q) _ _ (not-true _ h)
   unclosed_is (a ∷ b ∷ y) h = elim (cases_Bool (eqb a 92)) [
-    | inl e ↦ taken_char q a b y e ∙ ap (onto (a ∷ b ∷ [])) (unclosed_is y (sym (unclosed_taken q a b y e) ∙ h))
+    | inl e ↦ taken_char q a b y e ∙ ap (after (a ∷ b ∷ [])) (unclosed_is y (sym (unclosed_taken q a b y e) ∙ h))
     | inr e ↦ let hs = and_parts (is_not q a) (is_unclosed q (b ∷ y)) (sym (unclosed_plain q a b y e) ∙ h) in
-        plain_char q a b y e (not-true _ hs.0) ∙ ap (onto (a ∷ [])) (unclosed_is (b ∷ y) hs.1)
+        plain_char q a b y e (not-true _ hs.0) ∙ ap (after (a ∷ [])) (unclosed_is (b ∷ y) hs.1)
   ]
 
   at_front : (c : ℕ) (y : List ℕ) → eqb c q ≡ true → Found (is_content q) q (c ∷ y)

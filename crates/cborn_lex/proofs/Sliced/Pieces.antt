@@ -89,9 +89,3 @@ number_made negative tagged first x after more text n m k h =
     let more_is : more ≡ drop m (drop n x) = h.more_is ∙ ap (drop m) after_is in
     let text_is = h.text_is in
     rw (after_is, text_is) (made negative tagged first x n m k h.n_fits (rw after_is at h.m_fits) h.run (rw after_is at h.indicator) (h.tagged_is ∙ ap (λ y. not negative && begins (λ c. eqb c 40) y) more_is) h.k_is)
-
-pub text_of : (first n : ℕ) (whole tail : List ℕ) → first ≤ length whole → tail ≡ drop first whole → n ≤ length tail → take (first + n) whole ≡ take first whole ++ take n tail
-text_of first n whole tail h e k =
-    (front_is (first + n) whole (take first whole ++ take n tail) (drop n tail)
-    (sym (take-append-drop first whole) ∙ (ap (λ y. take first whole ++ y) (sym e ∙ sym (take-append-drop n tail)) ∙ sym (append_assoc (take first whole) (take n tail) (drop n tail))))
-    (omega (arith, length-append (take first whole) (take n tail), length-take-le first whole h, length-take-le n tail k))).0

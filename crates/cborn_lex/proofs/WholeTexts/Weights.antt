@@ -12,6 +12,7 @@ use Rattle.hex.proofs.HexLemmas.{decode_of-ok}
 use Rattle.base64.proofs.RoundTrip.{length-encode_symbols}
 use Rattle.base64.specs.Engines.{standard}
 use Rattle.cborn_model.specs.Bytes.{AreBytes}
+use Rattle.cborn_model.proofs.Bytes.{bytes-append}
 use Rattle.cborn_lex.specs.declared.classes.Profile.{Profile}
 use Rattle.cborn_lex.specs.declared.classes.Profile.TheVariants.{One, Two}
 use Rattle.cborn_lex.specs.declared.classes.Mark.{Mark}
@@ -81,10 +82,6 @@ pub as_test : (x : List ℕ) → AreBytes x → are_bytes x ≡ true
 as_test [] h = refl
 as_test (c ∷ x) h = and_from (is_byte c) (are_bytes x) (lt-ltb c 256 h.0) (as_test x h.1)
 
-joined : (x y : List ℕ) → AreBytes x → AreBytes y → AreBytes (x ++ y)
-joined [] y h k = k
-joined (c ∷ x) y h k = (h.0, joined x y h.1 k)
-
 split : (x y : List ℕ) → are_bytes (x ++ y) ≡ true → (are_bytes x ≡ true) × (are_bytes y ≡ true)
 split x y h = and_parts (are_bytes x) (are_bytes y) (sym (list_all-append is_byte x y) ∙ h)
 
@@ -107,7 +104,7 @@ characters [] h = tt
 characters (c ∷ cs) h =
     let hs = and_parts (scalar c) (all_scalars cs) h in
     let few : c < 2 ^ 21 = elim (scalar_cases c hs.0) [ inl low ↦ omega arith | inr high ↦ omega (arith, high.1) ] in
-    joined (encode_utf8 c) (encode_utf8_all cs) (encoded c few).0 (characters cs hs.1)
+    bytes-append (encode_utf8 c) (encode_utf8_all cs) (encoded c few).0 (characters cs hs.1)
 
 -- text is bytes
 pub utf8_bytes : (x : List ℕ) → IsUtf8 x → AreBytes x
@@ -151,7 +148,7 @@ letters_light q (l ∷ ls) h k =
     let ks = split (written l) (flat_map written ls) k in
     let a = letter_light q l hs.0 ks.0 in
     let b = letters_light q ls hs.1 ks.1 in
-    (joined (meant l) (flat_map meant ls) a.0 b.0, omega (arith, a.1, b.1, length-append (meant l) (flat_map meant ls), length-append (written l) (flat_map written ls)))
+    (bytes-append (meant l) (flat_map meant ls) a.0 b.0, omega (arith, a.1, b.1, length-append (meant l) (flat_map meant ls), length-append (written l) (flat_map written ls)))
 
 -- the bytes that a content stands for are at most three more than it has
 abbrev AreSpelled : (List ℕ → List ℕ → Type 0) → Type 0

@@ -2,7 +2,7 @@
 use Rattle.std.proofs.Common.{◌≡◌, ℕ, suc, ◌<◌, ◌≤◌, max, map, List, [], ◌∷◌, length, get_or, refl, ap}
 use Rattle.cborn_model.specs.declared.items.Item.{Item}
 use Rattle.cborn_model.specs.ItemView.{item_value, pair_value}
-use Rattle.cborn_model.specs.Value.{Value, values_of, pairs_of, listed, value_count, pair_count, height, height_all, height_pairs}
+use Rattle.cborn_model.specs.Value.{Value, Couples, no_pairs, pair, values_of, pairs_of, listed, value_count, pair_count, height, height_all, height_pairs}
 use Rattle.cborn_model.proofs.Listed.Trees.{no_greater}
 
 pub value_count-values_of : (vs : List Value) → value_count (values_of vs) ≡ length vs
@@ -12,6 +12,10 @@ value_count-values_of (v ∷ vs) = ap suc (value_count-values_of vs)
 pub pair_count-pairs_of : (ps : List (Value × Value)) → pair_count (pairs_of ps) ≡ length ps
 pair_count-pairs_of [] = refl
 pair_count-pairs_of (p ∷ ps) = ap suc (pair_count-pairs_of ps)
+
+pub length-listed : (ps : Couples) → length (listed ps) ≡ pair_count ps
+length-listed no_pairs = refl
+length-listed (pair k v ps) = ap suc (length-listed ps)
 
 pub listed-pairs_of : (ps : List (Value × Value)) → listed (pairs_of ps) ≡ ps
 listed-pairs_of [] = refl

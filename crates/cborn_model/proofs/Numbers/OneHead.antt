@@ -18,7 +18,7 @@ append_same (x ∷ a) (y ∷ b) r s l e =
     let first : a ≡ b = t.0 in
     (cc, t.1)
 
-low_bits_below : (w : Width) (n : ℕ) → WidthFits w n → information w n < 32
+pub low_bits_below : (w : Width) (n : ℕ) → WidthFits w n → information w n < 32
 low_bits_below Direct n p = omega arith
 low_bits_below _ n p = omega arith
 

@@ -4,14 +4,13 @@ use Rattle.std.proofs.lemmas.List.{nil_from_length}
 use Rattle.cborn_model.specs.Tree.{Tree, Trees, no_item, more, trees}
 use Rattle.cborn_model.specs.Spelled.{IsSpelled}
 use Rattle.cborn_model.specs.Partial.{Partial, top, inside, Part, no_part, part, put, whole}
-use Rattle.cborn_wire.specs.declared.faults.WireFault.{WireFault}
-use Rattle.cborn_wire.specs.declared.faults.WireFault.TheVariants.{Refused, OutOfMemory}
+use Rattle.cborn_wire.specs.declared.faults.VisitFault.{VisitFault}
+use Rattle.cborn_wire.specs.declared.faults.VisitFault.TheVariants.{Refused, Memory}
 use Rattle.cborn_wire.specs.declared.levels.LevelKind.TheVariants.{Sequence}
 use Rattle.cborn_wire.specs.declared.levels.Level.{Level}
 use Rattle.cborn_wire.specs.declared.levels.GrownLevels.{GrownLevels}
 use Rattle.cborn_wire.specs.declared.head_readers.PartialHead.{PartialHead}
 use Rattle.cborn_wire.specs.declared.head_readers.HeadReader.{HeadReader}
-use Rattle.cborn_wire.specs.declared.nodes.OpenString.{OpenString}
 use Rattle.cborn_wire.specs.declared.nodes.Nodes.{Nodes}
 use Rattle.cborn_wire.specs.declared.item_readers.ItemReader.{ItemReader}
 use Rattle.cborn_wire.specs.Slots.{OpenContainer}
@@ -41,11 +40,6 @@ here_held H K same around l left at (Some g) s (short, f, held, keeps, takes, is
 nothing_open : (f : Partial) → open_in f ≡ [] → f ≡ top (whole f)
 nothing_open (top ts) e = refl
 nothing_open (inside f o ts) e = cc
-
-no_head : (h : Option PartialHead) (s : Option OpenString) → pending h s ≡ nothing → (h ≡ None) × (seen_string s ≡ no_part)
-no_head None None e = (refl, refl)
-no_head None (Some s) e = cc
-no_head (Some h) s e = cc
 
 -- A reader that is at the offset `at`, and nothing is open.
 pub fresh_made : (r : ItemReader) (limit at : ℕ) → IsFresh limit at r.heads → IsInput r.levels.outer.items r.levels.inner → IsHeld r.nodes (top []) no_part → IsMade r × (seen [] r ≡ start at)
@@ -77,10 +71,10 @@ module _ (r : ItemReader) (made : IsMade r) where
       )
 
 -- Reading fails as the machine does.
-pub fails_item : (old : ItemReader) (made : IsMade old) (piece : List ℕ) (e : WireFault) → visiting.ReadsItem old.heads.limit made.base made.read piece (Err e) → FailsAs no_item (run old.heads.limit (seen [] old) piece) e
+pub fails_item : (old : ItemReader) (made : IsMade old) (piece : List ℕ) (e : VisitFault) → visiting.ReadsItem old.heads.limit made.base made.read piece (Err e) → FailsAs no_item (run old.heads.limit (seen [] old) piece) e
 fails_item old made piece (Refused p r) h =
     ap (λ u. run old.heads.limit u piece) (sym made.is) ∙ sym (run-append old.heads.limit (start made.base) made.read piece) ∙ h ∙ ap (λ ts. Failed ts p r) (ap ready_in made.is)
-fails_item old made piece OutOfMemory h = tt
+fails_item old made piece (Memory e) h = tt
 
 -- After these bytes heads, levels and nodes are what they are here.
 module _ (old : ItemReader) (made : IsMade old) (heads : HeadReader) (levels : GrownLevels) (nodes : Nodes) (y : List ℕ) (same : heads.limit ≡ old.heads.limit)

@@ -3,9 +3,10 @@ use Rattle.std.proofs.Common.{◌≡◌, sym, ap, ◌∙◌, ℕ, List, [], ◌+
 use Rattle.std.specs.Option.{option_to_list}
 use Rattle.std.proofs.lemmas.List.{length-take-le}
 use Rattle.cborn_model.specs.Tree.{Tree, no_item, trees}
-use Rattle.cborn_wire.specs.declared.faults.WireFault.{WireFault}
-use Rattle.cborn_wire.specs.declared.faults.WireFault.TheVariants.{Refused, OutOfMemory}
+use Rattle.cborn_wire.specs.declared.faults.VisitFault.{VisitFault}
+use Rattle.cborn_wire.specs.declared.faults.VisitFault.TheVariants.{Refused, Memory}
 use Rattle.cborn_wire.specs.declared.item_readers.ItemReader.{ItemReader}
+use Rattle.cborn_wire.specs.Visits.{wire_fault}
 use Rattle.cborn_wire.specs.shared.Machine.{Live, Failed, ready_in, run, Stops}
 use Rattle.cborn_wire.specs.shared.Visiting.{open_in, FailsAs}
 use Rattle.cborn_wire.specs.devices.OpenNodes.{seen_nodes}
@@ -27,17 +28,17 @@ module _ (r : ItemReader) (items : List Tree) (x : List ℕ) where
       from_none ∙ ap (with_front (trees items)) e
       ∙ ap (λ ts. Live new.heads.at ts (open_in (seen_nodes new.nodes)) (pending new.heads.head new.nodes.string)) (sym (trees-append items others))
 
-  fails_after : (e : WireFault) → FailsAs no_item (run r.heads.limit (seen [] r) x) e → FailsAs (trees items) (run r.heads.limit (seen items r) x) e
+  fails_after : (e : VisitFault) → FailsAs no_item (run r.heads.limit (seen [] r) x) e → FailsAs (trees items) (run r.heads.limit (seen items r) x) e
   fails_after (Refused p reason) h = from_none ∙ ap (with_front (trees items)) h ∙ ap (λ ts. Failed ts p reason) (append_trees-nil (trees items))
-  fails_after OutOfMemory h = tt
+  fails_after (Memory e) h = tt
 
 -- The front y of the piece was read, and the rest is to come.
 module _ (old : ItemReader) (before : List Tree) (now : ItemReader) (items : List Tree) (piece y rest : List ℕ) (cut : piece ≡ y ++ rest) (m : IsMoved old before now items y) where
-  pub then_stops : (e : WireFault) → FailsAs no_item (run now.heads.limit (seen [] now) rest) e → Stops old.heads.limit (seen before old) piece e (trees items)
+  pub then_stops : (e : VisitFault) → FailsAs no_item (run now.heads.limit (seen [] now) rest) e → Stops old.heads.limit (seen before old) piece (wire_fault e) (trees items)
   then_stops (Refused p r) h =
       ap (run old.heads.limit (seen before old)) cut ∙ run-append old.heads.limit (seen before old) y rest ∙ ap (λ u. run old.heads.limit u rest) m.goes
       ∙ ap (λ k. run k (seen items now) rest) (sym m.limit) ∙ fails_after now items rest (Refused p r) h
-  then_stops OutOfMemory h = (y, rest, cut, ap ready_in m.goes)
+  then_stops (Memory e) h = (y, rest, cut, ap ready_in m.goes)
 
   pub then_moved : (next : ItemReader) (n : ℕ) (item : Option Tree) (left : List Tree) → Took rest now next n item → next.heads.limit ≡ now.heads.limit → left ≡ items ++ option_to_list item
       → IsMoved old before next left (y ++ take n rest)

@@ -21,7 +21,7 @@ use Rattle.cborn_wire.proofs.Machine.TakesHeads.{info_at-now}
 use Rattle.cborn_wire.proofs.Machine.SoundRuns.{code_at, IsWide, InfoIs, info_is, again, wide_information}
 
 module _ (y : List ℕ) where
-  now_free : (m : Major) (n : ℕ) → head_reason element_or_end false m (Now n) y ≡ None
+  pub now_free : (m : Major) (n : ℕ) → head_reason element_or_end false m (Now n) y ≡ None
   now_free Unsigned n = refl
   now_free m n = refl
 

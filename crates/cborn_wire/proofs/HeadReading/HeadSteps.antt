@@ -1,7 +1,7 @@
 -- The machine takes what `read_head` reads.
 use Rattle.std.proofs.Common.{◌≡◌, refl, sym, ap, ◌∙◌, ℕ, suc, ◌+◌, ◌/◌, ◌%◌, ◌<◌, ◌≤◌, List, [], ◌∷◌, ◌++◌, length, take, get_or, Bool, true, false, ◌&&◌, cond, leb, Option, Some, None, arith, append-nil, length-append, add-one}
 use Rattle.std.proofs.Math.Bool.{and-false}
-use Rattle.std.proofs.lemmas.List.{take_all, take-append-le, length-take}
+use Rattle.std.proofs.lemmas.List.{take_all, take-append-le, length-take, take_more}
 use Rattle.cborn_model.specs.declared.heads.Width.{Width}
 use Rattle.cborn_model.specs.declared.heads.Width.TheVariants.{Direct}
 use Rattle.cborn_model.specs.declared.heads.Major.{Major}
@@ -21,10 +21,6 @@ use Rattle.cborn_wire.proofs.HeadReading.InitialBytes.{same_alone}
 use Rattle.cborn_wire.proofs.Machine.Pieces.{takes_whole_head, refuses_first, argument_done}
 use Rattle.cborn_wire.proofs.Machine.SoundSteps.{is_clear}
 use Rattle.cborn_wire.proofs.Machine.SomeEnd.{refused_run}
-
-take_one : (x : List ℕ) → 0 < length x → take 1 x ≡ get_or x 0 0 ∷ []
-take_one [] h = absurd (omega arith)
-take_one (b ∷ x) h = refl
 
 fills : (w : Width) → width_bytes w ≤ 8
 fills Direct = omega arith
@@ -50,7 +46,7 @@ module _ (limit at : ℕ) (ready : Trees) (os : List OpenContainer) where
   argument_ends p m w got all piece n some is short full value =
       let many : length all ≡ length got + 1 = ap length is ∙ length-append got (get_or piece 0 0 ∷ []) in
       let whole : take (width_bytes w) all ≡ all = take_all (width_bytes w) all (omega (arith, many, short)) in
-      ap (run limit (Live at ready os (gathering p (argument_of m w) (width_bytes w) got))) (take_one piece some)
+      ap (run limit (Live at ready os (gathering p (argument_of m w) (width_bytes w) got))) (take_more piece 0 0 some)
       ∙ argument_done limit at ready os p m w (width_bytes w) got (get_or piece 0 0) (omega (arith, many, full))
       ∙ ap (λ k. after_head k p ready os m (Given w (number w (got ++ get_or piece 0 0 ∷ [])))) (sym (add-one at))
       ∙ ap (λ k. after_head (at + 1) p ready os m (Given w k)) (sym (value ∙ ap (number w) (whole ∙ is)))
@@ -124,4 +120,4 @@ break_ended limit at rd (opened o ts ∷ os) =
     ∙ unless_needed (needs_item (slot_in (opened o ts))) rd at (finished (suc at) rd os (built o ts))
 
 pub break_taken : (limit at : ℕ) (rd : Trees) (os : List OpenContainer) (piece : List ℕ) → 0 < length piece → get_or piece 0 0 ≡ 255 → run limit (Live at rd os nothing) (take 1 piece) ≡ ended (at + 1) at rd os
-break_taken limit at rd os piece some e = ap (run limit (Live at rd os nothing)) (take_one piece some ∙ ap (λ b. b ∷ []) e) ∙ break_ended limit at rd os ∙ ap (λ k. ended k at rd os) (sym (add-one at))
+break_taken limit at rd os piece some e = ap (run limit (Live at rd os nothing)) (take_more piece 0 0 some ∙ ap (λ b. b ∷ []) e) ∙ break_ended limit at rd os ∙ ap (λ k. ended k at rd os) (sym (add-one at))

@@ -1,5 +1,6 @@
 -- A container and the nodes in it: when more may come, when it is whole, and what it is then.
-use Rattle.std.proofs.Common.{◌≡◌, refl, sym, ap, ◌∙◌, subst, ℕ, suc, ◌+◌, ◌/◌, ◌%◌, ◌<◌, ◌≤◌, List, [], ◌∷◌, ◌++◌, length, map, true, false, Option, Some, None, arith, append_assoc, append-nil, length-append, add-one}
+use Rattle.std.proofs.Common.{◌≡◌, refl, sym, ap, ◌∙◌, subst, ℕ, suc, ◌+◌, ◌/◌, ◌%◌, ◌<◌, ◌≤◌, List, [], ◌∷◌, ◌++◌, length, map, true, false, Option, Some, None, arith, append_assoc, append-nil, add-one}
+use Rattle.std.proofs.lemmas.List.{length_push}
 use Rattle.std.proofs.lemmas.Bool.{leb-true, leb-false, lt-leb}
 use Rattle.std.specs.List.{flat_map}
 use Rattle.cborn_model.specs.declared.heads.Size.{Size}
@@ -98,9 +99,6 @@ Belongs _ t = Unit {0}
 
 -- When it is whole.
 
-more_is : (ts : List Tree) (t : Tree) → length (ts ++ t ∷ []) ≡ length ts + 1
-more_is ts t = length-append ts (t ∷ [])
-
 pub not_full : (o : Opening) (ts : List Tree) (n : ℕ) → Goes o ts → n ≤ length ts → is_full o n ≡ false
 not_full (an_array p s (Some m)) ts n h up = lt-leb m n (omega (arith, h, up))
 not_full (a_map p s (Some m)) ts n h up = lt-leb m (n / 2) (omega (arith, h, up, pair_count ts))
@@ -120,14 +118,14 @@ goes_on (an_array p s (Some m)) ts t h is e = leb-false m (length (ts ++ t ∷ [
 goes_on (an_array p s None) ts t h is e = tt
 goes_on (a_map p s (Some m)) ts t h is e = omega (arith, leb-false m (length (ts ++ t ∷ []) / 2) e, pair_count (ts ++ t ∷ []))
 goes_on (a_map p s None) ts t h is e = tt
-goes_on (a_tag p w m) ts t h is e = absurd (omega (arith, leb-false 1 (length (ts ++ t ∷ [])) e, more_is ts t))
+goes_on (a_tag p w m) ts t h is e = absurd (omega (arith, leb-false 1 (length (ts ++ t ∷ [])) e, length_push ts t))
 goes_on (in_chunks p k) ts t h is e = strings_push k ts t h is
 
 pub goes_whole : (o : Opening) (ts : List Tree) (t : Tree) → Goes o ts → is_full o (length (ts ++ t ∷ [])) ≡ true → Ends o (ts ++ t ∷ [])
-goes_whole (an_array p s (Some m)) ts t h e = omega (arith, leb-true m (length (ts ++ t ∷ [])) e, h, more_is ts t)
+goes_whole (an_array p s (Some m)) ts t h e = omega (arith, leb-true m (length (ts ++ t ∷ [])) e, h, length_push ts t)
 goes_whole (a_map p s (Some m)) ts t h e =
     let all = leb-true m (length (ts ++ t ∷ []) / 2) e in
-    (omega (arith, all, h, more_is ts t, pair_count ts, pair_count (ts ++ t ∷ [])), no_key (ts ++ t ∷ []) (omega (arith, all, h, more_is ts t, pair_count ts)))
+    (omega (arith, all, h, length_push ts t, pair_count ts, pair_count (ts ++ t ∷ [])), no_key (ts ++ t ∷ []) (omega (arith, all, h, length_push ts t, pair_count ts)))
 goes_whole (a_tag p w m) ts t h e = (t, ap (λ us. us ++ t ∷ []) h)
 goes_whole o ts t h e = cc
 

@@ -1,7 +1,7 @@
 -- A whole run keeps what the machine has to what was read.
 use Rattle.std.proofs.Common.{◌≡◌, refl, sym, ap, ◌∙◌, subst, ℕ, zero, suc, ◌+◌, ◌*◌, ◌/◌, ◌%◌, ◌<◌, ◌≤◌, List, [], ◌∷◌, ◌++◌, length, get_or, Bool, true, false, cond, ◌&&◌, ltb, leb, eqb, Option, Some, None, arith, append_assoc, append-nil}
 use Rattle.std.proofs.lemmas.List.{length_push}
-use Rattle.std.proofs.lemmas.Bool.{leb-true, leb-false, ltb-true, eqb-true}
+use Rattle.std.proofs.lemmas.Bool.{cond_both, leb-true, leb-false, ltb-true, eqb-true}
 use Rattle.std.proofs.lemmas.Nat.{be_bytes_2, be_bytes_4, be_bytes_8}
 use Rattle.cborn_model.specs.Bytes.{AreBytes}
 use Rattle.cborn_model.specs.declared.heads.Width.{Width}
@@ -36,18 +36,14 @@ InfoIs i (Next w) = (i ≡ information w 0) × IsWide w
 InfoIs i Reserved = Unit {0}
 InfoIs i EndlessInformation = i ≡ 31
 
-chosen : (P : Info → Type 0) (b : Bool) (x y : Info) → (b ≡ true → P x) → (b ≡ false → P y) → P (cond b x y)
-chosen P true x y f g = f refl
-chosen P false x y f g = g refl
-
 pub info_is : (i : ℕ) → InfoIs i (info_at i)
 info_is i =
-    chosen (InfoIs i) (ltb i 24) (Now i) _ (λ e. (refl, ltb-true i 24 e)) (λ _.
-    chosen (InfoIs i) (eqb i 24) (Next One) _ (λ e. (eqb-true i 24 e, tt)) (λ _.
-    chosen (InfoIs i) (eqb i 25) (Next Two) _ (λ e. (eqb-true i 25 e, tt)) (λ _.
-    chosen (InfoIs i) (eqb i 26) (Next Four) _ (λ e. (eqb-true i 26 e, tt)) (λ _.
-    chosen (InfoIs i) (eqb i 27) (Next Eight) _ (λ e. (eqb-true i 27 e, tt)) (λ _.
-    chosen (InfoIs i) (eqb i 31) EndlessInformation Reserved (λ e. eqb-true i 31 e) (λ _. tt))))))
+    cond_both (ltb i 24) (Now i) _ (InfoIs i) (λ e. (refl, ltb-true i 24 e)) (λ _.
+    cond_both (eqb i 24) (Next One) _ (InfoIs i) (λ e. (eqb-true i 24 e, tt)) (λ _.
+    cond_both (eqb i 25) (Next Two) _ (InfoIs i) (λ e. (eqb-true i 25 e, tt)) (λ _.
+    cond_both (eqb i 26) (Next Four) _ (InfoIs i) (λ e. (eqb-true i 26 e, tt)) (λ _.
+    cond_both (eqb i 27) (Next Eight) _ (InfoIs i) (λ e. (eqb-true i 27 e, tt)) (λ _.
+    cond_both (eqb i 31) EndlessInformation Reserved (InfoIs i) (λ e. eqb-true i 31 e) (λ _. tt))))))
 
 small : (x : List ℕ) → AreBytes x → (i : ℕ) → get_or x i 0 < 256
 small [] h i = omega arith

@@ -1,5 +1,5 @@
 -- A head that was read at the front of bytes, and what is after it.
-use Rattle.std.proofs.Common.{◌≡◌, ℕ, List, ◌∷◌, ◌++◌, drop, sym, ap, ◌∙◌, subst, append_assoc, append-nil, drop_at}
+use Rattle.std.proofs.Common.{◌≡◌, ℕ, List, ◌∷◌, ◌++◌, drop, sym, ap, ◌∙◌, append_assoc, append-nil, drop_at}
 use Rattle.cborn_model.specs.declared.heads.Major.{Major}
 use Rattle.cborn_model.specs.declared.heads.Size.TheVariants.{Fixed, Endless}
 use Rattle.cborn_model.specs.declared.heads.Width.{Width}
@@ -7,7 +7,7 @@ use Rattle.cborn_model.specs.Heads.{Given, EndlessArgument, head}
 use Rattle.cborn_model.specs.Spelled.{ending}
 use Rattle.cborn_wire.specs.declared.heads.Argument.{Argument}
 use Rattle.cborn_wire.specs.declared.heads.Head.{Head}
-use Rattle.cborn_wire.specs.HeadReading.{major_at, IsHeadOf, seen_argument, ArgumentFits}
+use Rattle.cborn_wire.specs.HeadReading.{major_at, IsHeadOf, seen_argument}
 
 pub head_split : (x : List ℕ) (h : Head) (n : ℕ) → IsHeadOf x h n → x ≡ head (major_at h.major) (seen_argument h.argument) ++ drop n x
 head_split x h n i =
@@ -17,10 +17,6 @@ head_split x h n i =
 -- a head whose major type and argument are known
 pub head_read : {x tail : List ℕ} {h : Head} {n : ℕ} {m : Major} {a : Argument} → tail ≡ drop n x → IsHeadOf x h n → major_at h.major ≡ m → h.argument ≡ a → x ≡ head m (seen_argument a) ++ tail
 head_read {x} {tail} {h} {n} {m} {a} t i e f = head_split x h n i ∙ (λ j. head (e j) (seen_argument (f j)) ++ sym t j)
-
--- what holds of the head and the bytes after it
-pub read_from : (F : List ℕ → Type 0) {x tail : List ℕ} {h : Head} {n : ℕ} {m : Major} {a : Argument} → tail ≡ drop n x → IsHeadOf x h n → major_at h.major ≡ m → h.argument ≡ a → (ArgumentFits (seen_argument a) → F (head m (seen_argument a) ++ tail)) → F x
-read_from F t i e f done = subst F (sym (head_read t i e f)) (done (subst (λ (b : Argument). ArgumentFits (seen_argument b)) f i.fits))
 
 -- ---- contents after a head, and the end of them
 

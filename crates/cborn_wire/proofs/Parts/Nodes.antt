@@ -1,16 +1,16 @@
 -- Nodes that were read: leaves, nodes one after another, arrays and tags.
 use Rattle.std.proofs.Common.{◌≡◌, ℕ, ◌+◌, ◌-◌, ◌≤◌, List, [], ◌∷◌, ◌++◌, length, refl, sym, ap, ◌∙◌, subst, arith, append_assoc, append-nil, length-append}
 use Rattle.cborn_model.specs.declared.heads.Width.{Width}
-use Rattle.cborn_model.specs.declared.heads.Size.TheVariants.{Fixed, Endless}
+use Rattle.cborn_model.specs.declared.heads.Size.TheVariants.{Fixed}
 use Rattle.cborn_model.specs.declared.heads.Major.TheVariants.{Unsigned, Negative, Array, Tag, Other}
-use Rattle.cborn_model.specs.Heads.{Given, EndlessArgument, head, WidthFits}
+use Rattle.cborn_model.specs.Heads.{Given, head, WidthFits}
 use Rattle.cborn_model.specs.Spelled.{spelled, spelled_all, FitsAll, Wellformed}
 use Rattle.cborn_model.specs.Tree.{Tree, Uint, Nint, Items, Tagged, Simple, trees, depth_all, count}
 use Rattle.cborn_model.proofs.Listed.Trees.{count-trees}
 use Rattle.cborn_wire.specs.declared.heads.Argument.{Argument}
 use Rattle.cborn_wire.specs.HeadReading.{seen_argument}
 use Rattle.cborn_wire.specs.Parts.{IsSimpleArgument, NodeRead, NodesRead, Leaves}
-use Rattle.cborn_wire.proofs.Parts.Heads.{fixed_split, endless_split}
+use Rattle.cborn_wire.proofs.Parts.Heads.{fixed_split}
 use Rattle.cborn_wire.proofs.Spelled.TreeLists.{trees-append, spelled_all-append}
 
 -- ---- leaves
@@ -27,17 +27,9 @@ module _ {Q : Tree → Type 0} {room : ℕ} {rest : List ℕ} (place : ℕ) wher
 
 -- ---- one node
 
--- the same node, of which something else holds
-pub node_as : {P Q : Tree → Type 0} {room : ℕ} {input rest : List ℕ} (x : NodeRead P room input rest) → Q x.node → NodeRead Q room input rest
-node_as x q = record { node = x.node; read = x.read; fits = x.fits; shallow = x.shallow; holds = q }
-
 -- in more room
 pub node_within : {P : Tree → Type 0} {room space : ℕ} {input rest : List ℕ} → room ≤ space → NodeRead P room input rest → NodeRead P space input rest
 node_within l x = record { node = x.node; read = x.read; fits = x.fits; shallow = omega (arith, l, x.shallow); holds = x.holds }
-
--- what is left is no longer
-pub node_left : {P : Tree → Type 0} {room : ℕ} {input rest : List ℕ} → NodeRead P room input rest → length rest ≤ length input
-node_left {rest = rest} x = omega (arith, ap length x.read ∙ length-append (spelled x.node) rest)
 
 -- the bytes that are left are those after the node
 pub node_last : {P : Tree → Type 0} {room left : ℕ} {input rest : List ℕ} → Leaves (NodeRead P room input) left → ((front back : List ℕ) → input ≡ front ++ back → length back ≡ left → rest ≡ back) → NodeRead P room input rest
@@ -84,10 +76,6 @@ pub node_more : {P Q : List Tree → Type 0} {R : Tree → Type 0} {room n : ℕ
 unfolding one_node
 node_more x y q = nodes_more x (one_node {Q = λ _. Unit {0}} y tt) q
 
--- the same nodes, of which something else holds
-pub nodes_as : {P Q : List Tree → Type 0} {room n : ℕ} {input rest : List ℕ} (x : NodesRead P room n input rest) → Q x.nodes → NodesRead Q room n input rest
-nodes_as x q = record { nodes = x.nodes; read = x.read; fits = x.fits; shallow = x.shallow; holds = q; count = x.count }
-
 -- nodes that were read up to the end
 pub wellformed : {P : List Tree → Type 0} {room n : ℕ} {input rest : List ℕ} (x : NodesRead P room n input rest) → rest ≡ [] → Wellformed room (trees x.nodes) input
 wellformed x e = record { spells = sym (x.read ∙ ap (λ z. spelled_all (trees x.nodes) ++ z) e ∙ append-nil (spelled_all (trees x.nodes))); fit = x.fits; shallow = x.shallow }
@@ -99,9 +87,6 @@ module _ {P : List Tree → Type 0} {Q : Tree → Type 0} {room n : ℕ} (place 
   array_read {rest = rest} w r h s q =
       let c : count (trees s.nodes) ≡ n = count-trees s.nodes ∙ s.count in
       record { node = Items place (Fixed w) (trees s.nodes); read = fixed_split Array w (spelled_all (trees s.nodes)) rest c s.read; fits = (subst (WidthFits w) (sym c) h, s.fits); shallow = omega (arith, r, s.shallow); holds = q }
-
-  pub endless_array_read : {input after rest : List ℕ} → 1 ≤ room → after ≡ 255 ∷ rest → (s : NodesRead P (room - 1) n input after) → Q (Items place Endless (trees s.nodes)) → NodeRead Q room (head Array EndlessArgument ++ input) rest
-  endless_array_read r e s q = record { node = Items place Endless (trees s.nodes); read = endless_split Array (spelled_all (trees s.nodes)) s.read e; fits = (tt, s.fits); shallow = omega (arith, r, s.shallow); holds = q }
 
 pub tagged_read : {P Q : Tree → Type 0} {room : ℕ} {input rest : List ℕ} (place : ℕ) (w : Width) (n : ℕ) → 1 ≤ room → WidthFits w n → (x : NodeRead P (room - 1) input rest) → Q (Tagged place w n x.node) → NodeRead Q room (head Tag (Given w n) ++ input) rest
 tagged_read {rest = rest} place w n r h x q = record {

@@ -1,5 +1,5 @@
 -- What is spelled is bytes.
-use Rattle.std.proofs.Common.{subst, ℕ, ◌<◌, List, [], ◌∷◌, ◌++◌, length, arith}
+use Rattle.std.proofs.Common.{subst, ℕ, List, [], ◌∷◌, ◌++◌, length, arith}
 use Rattle.std.specs.List.{flat_map}
 use Rattle.cborn_model.specs.Bytes.{AreBytes}
 use Rattle.cborn_model.specs.declared.heads.Width.{Width}
@@ -9,18 +9,15 @@ use Rattle.cborn_model.specs.declared.heads.Size.TheVariants.{Fixed, Endless}
 use Rattle.cborn_model.specs.declared.nodes.Chunk.{Chunk}
 use Rattle.cborn_model.specs.declared.heads.Major.{Major}
 use Rattle.cborn_model.specs.declared.heads.Major.TheVariants.{Unsigned, Negative, ByteString, TextString, Array, Map, Tag, Other}
-use Rattle.cborn_model.specs.Heads.{WidthFits, information, following, least, Argument, Given, EndlessArgument, head, argument, SizeFits}
+use Rattle.cborn_model.specs.Heads.{WidthFits, following, least, Argument, Given, EndlessArgument, head, argument, SizeFits}
 use Rattle.cborn_model.specs.Tree.{Tree, Uint, Nint, Bytes, Text, ByteChunks, TextChunks, Items, Pairs, Tagged, Simple, Trees, no_item, more, Entries, no_entry, entry, count, count_entries}
 use Rattle.cborn_model.specs.Spelled.{ending, string, chunk_bytes, chunks, spelled, spelled_all, spelled_entries, ChunksFit, Fits, FitsAll, FitsEntries, Wellformed}
 use Rattle.cborn_wire.specs.HeadReading.{ArgumentFits}
+use Rattle.cborn_model.proofs.Numbers.OneHead.{low_bits_below}
 use Rattle.cborn_model.proofs.Numbers.Simples.{simple_fits}
 use Rattle.cborn_model.proofs.Bytes.{bytes-append}
 use Rattle.cborn_wire.proofs.HeadReading.HeadFronts.{code_small}
 use Rattle.cborn_wire.proofs.Machine.TakesItems.{size_fits}
-
-information_below : (w : Width) (n : ℕ) → WidthFits w n → information w n < 32
-information_below Direct n h = omega arith
-information_below w n h = omega arith
 
 following_bytes : (w : Width) (n : ℕ) → WidthFits w n → AreBytes (following w n)
 following_bytes Direct n h = tt
@@ -30,7 +27,7 @@ following_bytes Four n h = (omega arith, (omega arith, (omega arith, (omega arit
 following_bytes Eight n h = (omega arith, (omega arith, (omega arith, (omega arith, (omega arith, (omega arith, (omega arith, (omega arith, tt))))))))
 
 pub head_bytes : (m : Major) (a : Argument) → ArgumentFits a → AreBytes (head m a)
-head_bytes m (Given w n) h = (omega (arith, code_small m, information_below w n h), following_bytes w n h)
+head_bytes m (Given w n) h = (omega (arith, code_small m, low_bits_below w n h), following_bytes w n h)
 head_bytes m EndlessArgument h = (omega (arith, code_small m), tt)
 
 string_bytes : (m : Major) (w : Width) (b : List ℕ) → WidthFits w (length b) → AreBytes b → AreBytes (string m w b)

@@ -1,5 +1,6 @@
 -- What one more node or a break makes of a partial sequence: the levels that are kept, and the state.
 use Rattle.std.proofs.Common.{◌≡◌, refl, sym, ap, ◌∙◌, ℕ, ◌+◌, ◌-◌, ◌/◌, ◌^◌, ◌<◌, ◌≤◌, List, [], ◌∷◌, ◌++◌, length, Bool, true, false, not, cond, leb, ltb, Option, Some, None, arith, length-append}
+use Rattle.std.proofs.lemmas.List.{length_push}
 use Rattle.std.proofs.lemmas.Bool.{le-leb, lt-leb, ltb-true, ltb-false, lt-ltb, le-ltb}
 use Rattle.cborn_model.specs.declared.heads.Width.{Width}
 use Rattle.cborn_model.specs.declared.heads.Width.TheVariants.{Eight}
@@ -84,14 +85,11 @@ small w n h = omega arith
 abbrev Next : Opening → List Tree → Tree → Type 0
 Next o ts t = with_part (kind_in o ts) ≡ cond (is_full o (length (ts ++ t ∷ []))) None (Some (kind_in o (ts ++ t ∷ [])))
 
-more_is : (ts : List Tree) (t : Tree) → length (ts ++ t ∷ []) ≡ length ts + 1
-more_is ts t = length-append ts (t ∷ [])
-
 in_map : (p : ℕ) (s : Size) (c : Option ℕ) (ts : List Tree) (t : Tree) (x : Option Tree) → last_key ts ≡ x → Announces s c → IsMore c (length (paired ts)) → Next (a_map p s c) ts t
 in_map p s None ts t None e fits h = let k = key_next ts t e in rw (e, k.0, k.1) refl
 in_map p s (Some n) ts t None e fits h =
     let k = key_next ts t e in
-    rw (e, k.0, k.1, lt-leb n (length (ts ++ t ∷ []) / 2) (omega (arith, h, pair_count ts, even ts e, more_is ts t))) refl
+    rw (e, k.0, k.1, lt-leb n (length (ts ++ t ∷ []) / 2) (omega (arith, h, pair_count ts, even ts e, length_push ts t))) refl
 in_map p Endless None ts t (Some u) e fits h =
     let v = value_next ts t u e in
     let more : length (paired (ts ++ t ∷ [])) ≡ length (paired ts) + 1 = ap length v.0 ∙ length-append (paired ts) ((u, t) ∷ []) in
@@ -104,13 +102,13 @@ in_map p (Fixed w) None ts t (Some u) e fits h = absurd fits
 in_map p Endless (Some n) ts t (Some u) e fits h = absurd fits
 
 next : (o : Opening) (ts : List Tree) (t : Tree) → HeadFits o → Goes o ts → Next o ts t
-next (an_array p (Fixed w) (Some n)) ts t fits h = counted n (length ts) (length (ts ++ t ∷ [])) (Array (Some n)) (small w n fits) (more_is ts t)
-next (an_array p Endless None) ts t fits h = ap (λ k. Some (Array None k)) (next_highest (length ts) (length (ts ++ t ∷ [])) (more_is ts t))
+next (an_array p (Fixed w) (Some n)) ts t fits h = counted n (length ts) (length (ts ++ t ∷ [])) (Array (Some n)) (small w n fits) (length_push ts t)
+next (an_array p Endless None) ts t fits h = ap (λ k. Some (Array None k)) (next_highest (length ts) (length (ts ++ t ∷ [])) (length_push ts t))
 next (an_array p (Fixed w) None) ts t fits h = absurd fits
 next (an_array p Endless (Some n)) ts t fits h = absurd fits
 next (a_map p s c) ts t fits h = in_map p s c ts t (last_key ts) refl fits h
-next (a_tag p w n) ts t fits h = ap (λ b. cond b None (Some (kind_in (a_tag p w n) (ts ++ t ∷ [])))) (sym (le-leb 1 (length (ts ++ t ∷ [])) (omega (arith, more_is ts t))))
-next (in_chunks p k) ts t fits h = ap (λ n. Some (Chunks k n)) (next_highest (length ts) (length (ts ++ t ∷ [])) (more_is ts t))
+next (a_tag p w n) ts t fits h = ap (λ b. cond b None (Some (kind_in (a_tag p w n) (ts ++ t ∷ [])))) (sym (le-leb 1 (length (ts ++ t ∷ [])) (omega (arith, length_push ts t))))
+next (in_chunks p k) ts t fits h = ap (λ n. Some (Chunks k n)) (next_highest (length ts) (length (ts ++ t ∷ [])) (length_push ts t))
 
 pub some_level : (f : Partial) → levels f ≡ [] → ⊥
 some_level (top ts) e = cc
@@ -161,7 +159,7 @@ module _ (end : ℕ) where
   stays (top ts) u ls l r e proper accepts say w =
       let h = last_same [] ls e in
       let now = Sequence (at_most_highest (length (ts ++ u ∷ []))) in
-      let is : now ≡ r = ap Sequence (sym (next_highest (length ts) (length (ts ++ u ∷ [])) (more_is ts u))) ∙ some_same (ap (λ (m : Level). with_part m.kind) h.1 ∙ w) in
+      let is : now ≡ r = ap Sequence (sym (next_highest (length ts) (length (ts ++ u ∷ [])) (length_push ts u))) ∙ some_same (ap (λ (m : Level). with_part m.kind) h.1 ∙ w) in
       let level : record { place = 0; kind = now } ≡ with_kind l r = ap (λ (m : Level). with_kind m now) h.1 ∙ ap (with_kind l) is in
       ((ap (λ m. m ++ record { place = 0; kind = now } ∷ []) h.0 ∙ ap (λ k. ls ++ k ∷ []) level, tt, tt), ap (λ us. Live end us [] nothing) (sym (trees-push ts u)))
     where

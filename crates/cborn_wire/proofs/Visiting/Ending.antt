@@ -6,8 +6,8 @@ use Rattle.cborn_model.specs.Tree.{Tree, Trees, trees}
 use Rattle.cborn_model.specs.Spelled.{Wellformed}
 use Rattle.cborn_model.specs.Placed.{PlacedAll}
 use Rattle.cborn_model.specs.Partial.{Partial, top, inside, Part, no_part, part}
-use Rattle.cborn_wire.specs.declared.faults.WireFault.{WireFault}
-use Rattle.cborn_wire.specs.declared.faults.WireFault.TheVariants as faults
+use Rattle.cborn_wire.specs.declared.faults.VisitFault.{VisitFault}
+use Rattle.cborn_wire.specs.declared.faults.VisitFault.TheVariants as faults
 use Rattle.cborn_wire.specs.declared.faults.WireReason.{WireReason}
 use Rattle.cborn_wire.specs.declared.faults.WireReason.TheVariants.{Truncated}
 use Rattle.cborn_wire.specs.declared.levels.Level.{Level}
@@ -20,7 +20,6 @@ use Rattle.cborn_wire.specs.shared.Visiting.{ready, open_in, unfinished, Stands,
 use Rattle.cborn_wire.proofs.Spelled.SlotLaws.{goes_on}
 use Rattle.cborn_wire.proofs.Spelled.FaultLaws.{fails_refused}
 use Rattle.cborn_wire.proofs.Spelled.OneReading.{reads, ends_read}
-use Rattle.cborn_wire.proofs.Feeding.Outcomes.{refused_is}
 use Rattle.cborn_wire.proofs.Visiting.Taking.{outer_count}
 use Rattle.cborn_wire.proofs.Visiting.Pieces.{may_end_here}
 
@@ -71,12 +70,10 @@ module _ (holds : Partial → Part → Type 0) (outer : List Level) (l : Level) 
     pub whole_piece : MayEnd outer m → (ts : List Tree) × holds (top ts) no_part × Wellformed limit (trees ts) x × PlacedAll 0 (trees ts)
     whole_piece may = let (ts, held, read, placed, is) = whole holds outer l m 0 x fed may in (ts, held, subst (λ k. Wellformed k (trees ts) x) limited read, placed)
 
-    pub cut_piece : (MayEnd outer m → ⊥) → (e : WireFault) → e ≡ faults.Refused (length x) Truncated → (p : ℕ) (r : WireReason) → e ≡ faults.Refused p r → Fault limit x p r
-    cut_piece never e is p r said =
-        let same = refused_is (length x) p Truncated r (sym is ∙ said) in
-        rw (← same.0, ← same.1) (subst (λ k. Fault k x (length x) Truncated) limited (cut holds outer l m 0 x fed never))
+    pub cut_piece : (MayEnd outer m → ⊥) → Fault limit x (length x) Truncated
+    cut_piece never = subst (λ k. Fault k x (length x) Truncated) limited (cut holds outer l m 0 x fed never)
 
-  pub refused_piece : AreBytes x → (e : WireFault) → Reads holds outer l m 0 [] x (Err e) → (p : ℕ) (r : WireReason) → e ≡ faults.Refused p r → Fault limit x p r
+  pub refused_piece : AreBytes x → (e : VisitFault) → Reads holds outer l m 0 [] x (Err e) → (p : ℕ) (r : WireReason) → e ≡ faults.Refused p r → Fault limit x p r
   refused_piece are e h p r said =
       let (q, at, fault) = refused holds outer l m 0 [] x p r are (subst (λ f. Reads holds outer l m 0 [] x (Err f)) said h) in
       subst (λ k. Fault limit x k r) (omega (arith, at)) (subst (λ k. Fault k x q r) limited (inl fault))

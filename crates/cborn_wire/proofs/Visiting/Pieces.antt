@@ -5,8 +5,8 @@ use Rattle.cborn_model.specs.Bytes.{AreBytes}
 use Rattle.cborn_model.specs.Tree.{Trees}
 use Rattle.cborn_model.specs.Partial.{Partial, Part, no_part, part}
 use Rattle.cborn_model.proofs.Bytes.{bytes-append}
-use Rattle.cborn_wire.specs.declared.faults.WireFault.{WireFault}
-use Rattle.cborn_wire.specs.declared.faults.WireFault.TheVariants.{Refused, OutOfMemory}
+use Rattle.cborn_wire.specs.declared.faults.VisitFault.{VisitFault}
+use Rattle.cborn_wire.specs.declared.faults.VisitFault.TheVariants.{Refused, Memory}
 use Rattle.cborn_wire.specs.declared.faults.WireReason.{WireReason}
 use Rattle.cborn_wire.specs.declared.levels.Level.{Level}
 use Rattle.cborn_wire.specs.declared.head_readers.PartialHead.{PartialHead}
@@ -62,7 +62,7 @@ module _ {V L : Type 0} (holds : V → Partial → Part → Type 0) (outer : L �
   now = run m.limit (start base) (x ++ y)
 
   -- what a call that takes bytes gives here
-  abbrev Takes : V → L → HeadReader → Result ℕ WireFault → Type 0
+  abbrev Takes : V → L → HeadReader → Result ℕ VisitFault → Type 0
   Takes w j next r = (s : State) → Here (holds v) (outer k) (inner k) m s → OpenIn m.limit s → TakesPiece m.limit s rest (holds w) (outer j) (inner j) next.left m.at next.head r
 
   pub open_now : OpenIn m.limit now
@@ -102,7 +102,7 @@ module _ {V L : Type 0} (holds : V → Partial → Part → Type 0) (outer : L �
     all_state : run m.limit (start base) (x ++ piece) ≡ run m.limit now rest
     all_state = ap (λ l. run m.limit (start base) (x ++ l)) cut ∙ ap (run m.limit (start base)) (sym (append_assoc x y rest)) ∙ run-append m.limit (start base) (x ++ y) rest
 
-    pub next_refused : (w : V) (j : L) (next : HeadReader) (e : WireFault) → Takes w j next (Err e) → next.limit ≡ m.limit → ((p : ℕ) (r : WireReason) → ◌≡◌ {A = Result ℕ WireFault} (Err e) (Err (Refused p r)) → (p ≡ next_head m) × (w ≡ v) × (j ≡ k) × (next ≡ m))
+    pub next_refused : (w : V) (j : L) (next : HeadReader) (e : VisitFault) → Takes w j next (Err e) → next.limit ≡ m.limit → ((p : ℕ) (r : WireReason) → ◌≡◌ {A = Result ℕ VisitFault} (Err e) (Err (Refused p r)) → (p ≡ next_head m) × (w ≡ v) × (j ≡ k) × (next ≡ m))
         → Reads (holds w) (outer j) (inner j) next base x piece (Err e)
     next_refused w j next (Refused p r) takes same kept =
         let taken : take (length y) piece ≡ y = front_taken piece y rest cut in
@@ -114,8 +114,8 @@ module _ {V L : Type 0} (holds : V → Partial → Part → Type 0) (outer : L �
           fails = rw taken (all_state ∙ takes now fed.2 open_now);
           next = sym there;
         })
-    next_refused w j next OutOfMemory takes same kept = tt
+    next_refused w j next (Memory e) takes same kept = tt
 
-    pub next_item_refused : (w : V) (j : L) (next : HeadReader) (e : WireFault) → Takes w j next (Err e) → ready_in now ≡ ready_in (run m.limit (start base) x) → ReadsItem m.limit base x piece (Err e)
+    pub next_item_refused : (w : V) (j : L) (next : HeadReader) (e : VisitFault) → Takes w j next (Err e) → ready_in now ≡ ready_in (run m.limit (start base) x) → ReadsItem m.limit base x piece (Err e)
     next_item_refused w j next (Refused p r) takes none = all_state ∙ takes now fed.2 open_now ∙ ap (λ ts. Failed ts p r) none
-    next_item_refused w j next OutOfMemory takes none = tt
+    next_item_refused w j next (Memory e) takes none = tt

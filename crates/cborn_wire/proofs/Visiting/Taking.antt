@@ -10,8 +10,8 @@ use Rattle.cborn_model.specs.Heads.{Argument, Given, EndlessArgument}
 use Rattle.cborn_model.specs.Tree.{Tree, Trees}
 use Rattle.cborn_model.specs.Partial.{Opening, an_array, a_map, in_chunks, Partial, top, inside, Part, no_part, part, paired, last_key, string_tree, TakesItem, TakesString}
 use Rattle.cborn_model.proofs.Bytes.{bytes-left}
-use Rattle.cborn_wire.specs.declared.faults.WireFault.{WireFault}
-use Rattle.cborn_wire.specs.declared.faults.WireFault.TheVariants.{Refused, OutOfMemory}
+use Rattle.cborn_wire.specs.declared.faults.VisitFault.{VisitFault}
+use Rattle.cborn_wire.specs.declared.faults.VisitFault.TheVariants.{Refused, Memory}
 use Rattle.cborn_wire.specs.Slots.{StringKind, OfBytes, OfText, major_of, Slot, item, chunk, OpenContainer, opened, slot, slot_in, slot_in_map, open_depth, IsNoString, AreOpen}
 use Rattle.cborn_wire.specs.declared.heads.Head.{Head}
 use Rattle.cborn_wire.specs.declared.levels.Level.{Level}
@@ -184,10 +184,10 @@ short_taken limit at rd os (b ∷ y) w some info none =
     gathers m w h = ap (λ k. Live k rd os (gathering at (argument_of m w) (width_bytes w) [])) (sym (add-one at))
 
 -- what fails on a front of the piece fails on it
-pub fails_on : (limit : ℕ) (s u : State) (ts : Trees) (n : ℕ) (piece : List ℕ) (e : WireFault) → run limit s (take n piece) ≡ u → FailsAs ts u e → FailsAs ts (run limit s piece) e
+pub fails_on : (limit : ℕ) (s u : State) (ts : Trees) (n : ℕ) (piece : List ℕ) (e : VisitFault) → run limit s (take n piece) ≡ u → FailsAs ts u e → FailsAs ts (run limit s piece) e
 fails_on limit s u ts n piece (Refused p r) goes h =
     ap (run limit s) (sym (take-append-drop n piece)) ∙ run-append limit s (take n piece) (drop n piece) ∙ ap (λ v. run limit v (drop n piece)) (goes ∙ h) ∙ failed_run limit (drop n piece) ts p r
-fails_on limit s u ts n piece OutOfMemory goes h = tt
+fails_on limit s u ts n piece (Memory e) goes h = tt
 
 -- what some bytes make is within the limit
 module _ (limit base : ℕ) (x : List ℕ) (bytes : AreBytes x) where

@@ -1,8 +1,10 @@
 -- A device of the proofs: a reader of items, one after another, as a state of the machine. No definition cites it; the contracts of the crate's own functions do.
-use Rattle.std.specs.Prelude.{◌≡◌, ℕ, ◌+◌, ◌<◌, ◌≤◌, List, [], length, take, drop, Option, Some, None, Result, Ok, MatchResult}
+use Rattle.std.specs.Prelude.{◌≡◌, ℕ, ◌+◌, ◌<◌, ◌≤◌, List, [], length, take, drop, Option, Some, None, Result, Ok, Err, MatchResult}
 use Rattle.std.specs.Option.{option_to_list}
 use Rattle.cborn_model.specs.Tree.{Tree, no_item, trees}
 use Rattle.cborn_wire.specs.declared.faults.WireFault.{WireFault}
+use Rattle.cborn_wire.specs.declared.faults.VisitFault.{VisitFault}
+use Rattle.cborn_wire.specs.Visits.{wire_fault}
 use Rattle.cborn_wire.specs.Reading.{IsFirstItem, EndsItem}
 use Rattle.cborn_wire.specs.declared.head_readers.PartialHead.{PartialHead}
 use Rattle.cborn_wire.specs.declared.nodes.OpenString.{OpenString}
@@ -41,7 +43,7 @@ pub record Took (piece : List ℕ) (old new : ItemReader) (n : ℕ) (item : Opti
   pub goes : run old.heads.limit (seen [] old) (take n piece) ≡ seen (option_to_list item) new
   pub between : IsBetween item new
 
-abbrev pub ReadsItem : List ℕ → ItemReader → ItemReader → Result (ℕ × Option Tree) WireFault → Type 0
+abbrev pub ReadsItem : List ℕ → ItemReader → ItemReader → Result (ℕ × Option Tree) VisitFault → Type 0
 ReadsItem piece old new r = MatchResult r (λ t. Took piece old new t.0 t.1) (FailsAs no_item (run old.heads.limit (seen [] old) piece))
 
 -- What a reader and the whole items are after these bytes.
@@ -56,6 +58,7 @@ abbrev pub Runs : List ℕ → ItemReader → List Tree → ItemReader → List 
 Runs piece old before new now r = MatchResult r (λ _. IsMoved old before new now piece) (λ e. Stops old.heads.limit (seen before old) piece e (trees now))
 
 -- Where the item ends that starts at the offset p, as `EndsItem` says. P holds of the item.
-abbrev pub EndsHeld : (Tree → Type 0) → ℕ → List ℕ → ℕ → Result (Option ℕ) WireFault → Type 0
+abbrev pub EndsHeld : (Tree → Type 0) → ℕ → List ℕ → ℕ → Result (Option ℕ) VisitFault → Type 0
 EndsHeld P limit x p (Ok (Some end)) = (p < end) × (end ≤ length x) × (t : Tree) × P t × IsFirstItem limit p t (drop p x) (drop end x)
-EndsHeld P limit x p r = EndsItem limit x p r
+EndsHeld P limit x p (Ok None) = EndsItem limit x p (Ok None)
+EndsHeld P limit x p (Err e) = EndsItem limit x p (Err (wire_fault e))

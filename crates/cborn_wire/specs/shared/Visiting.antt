@@ -5,11 +5,9 @@ use Rattle.cborn_model.specs.declared.heads.Major.{Major}
 use Rattle.cborn_model.specs.declared.heads.Major.TheVariants.{ByteString, TextString, Other}
 use Rattle.cborn_model.specs.Heads.{Argument, Given, EndlessArgument}
 use Rattle.cborn_model.specs.Tree.{Tree, Trees, trees}
-use Rattle.cborn_model.specs.Spelled.{Wellformed}
-use Rattle.cborn_model.specs.Placed.{PlacedAll}
 use Rattle.cborn_model.specs.Partial.{Opening, an_array, a_map, a_tag, in_chunks, Partial, top, inside, Part, no_part, part, paired, last_key, TakesItem, TakesString, Proper}
-use Rattle.cborn_wire.specs.declared.faults.WireFault.{WireFault}
-use Rattle.cborn_wire.specs.declared.faults.WireFault.TheVariants.{Refused, OutOfMemory}
+use Rattle.cborn_wire.specs.declared.faults.VisitFault.{VisitFault}
+use Rattle.cborn_wire.specs.declared.faults.VisitFault.TheVariants.{Refused, Memory}
 use Rattle.cborn_wire.specs.declared.faults.WireReason.{WireReason}
 use Rattle.cborn_wire.specs.Slots.{OfBytes, OfText, Slot, item, element_or_end, chunk, OpenContainer, opened, HeadFits, AreOpen}
 use Rattle.cborn_wire.specs.HeadReading.{major_at}
@@ -133,12 +131,12 @@ pub record Stands (holds : Partial → Part → Type 0) (around : List Level) (l
   pub is : s ≡ state at partial amid
 
 -- the state s is this failure, after these whole nodes; or memory was refused
-abbrev pub FailsAs : Trees → State → WireFault → Type 0
+abbrev pub FailsAs : Trees → State → VisitFault → Type 0
 FailsAs ts s (Refused p r) = s ≡ Failed ts p r
-FailsAs ts s OutOfMemory = Unit {0}
+FailsAs ts s (Memory e) = Unit {0}
 
 -- A call gives the number of bytes of a string that are to come, or failed.
-abbrev pub Gives : (Partial → Part → Type 0) → List Level → Level → ℕ → Trees → State → Result ℕ WireFault → Type 0
+abbrev pub Gives : (Partial → Part → Type 0) → List Level → Level → ℕ → Trees → State → Result ℕ VisitFault → Type 0
 Gives holds around l at ts s r = MatchResult r (λ left. Stands holds around l left at s) (FailsAs ts s)
 
 -- the partial head in bytes of its argument so far
@@ -162,12 +160,12 @@ OpenIn limit (Live at ts os q) = AreOpen limit os
 OpenIn limit (Failed ts p r) = ⊥
 
 -- This many bytes of the piece are taken, and at most one more item is whole; or the call fails as the piece does.
-abbrev pub TakesPiece : ℕ → State → List ℕ → (Partial → Part → Type 0) → List Level → Level → ℕ → ℕ → Option PartialHead → Result ℕ WireFault → Type 0
+abbrev pub TakesPiece : ℕ → State → List ℕ → (Partial → Part → Type 0) → List Level → Level → ℕ → ℕ → Option PartialHead → Result ℕ VisitFault → Type 0
 TakesPiece limit s piece holds around l left at h result =
     MatchResult result (λ n. HereAt holds around l left (at + n) h (run limit s (take n piece)) × AtMostOneMore (ready_in s) (run limit s (take n piece))) (FailsAs (ready_in s) (run limit s piece))
 
 -- At least one byte is taken, and no more than there are; limit and offset stay.
-abbrev pub TakesSome : ℕ → HeadReader → HeadReader → Result ℕ WireFault → Type 0
+abbrev pub TakesSome : ℕ → HeadReader → HeadReader → Result ℕ VisitFault → Type 0
 TakesSome most old new r = IfOk r (λ n. (0 < n) × (n ≤ most)) × (new.limit ≡ old.limit) × (new.at ≡ old.at)
 
 -- nothing was read, and the first byte is at the offset `at`
@@ -181,14 +179,6 @@ MayEnd around m = (m.head ≡ None) × (m.left ≡ 0) × (around ≡ [])
 -- A reader that began at the offset `base` was handed the bytes x, and its visitor holds what they hold.
 abbrev pub IsFed : (Partial → Part → Type 0) → List Level → Level → HeadReader → ℕ → List ℕ → Type 0
 IsFed holds around l m base x = AreBytes x × (m.limit ≤ 1024) × Here holds around l m (run m.limit (start base) x)
-
--- The bytes x, the first of them at the offset `base`, are whole items, and the visitor holds the nodes that they spell.
-pub record Whole (holds : Partial → Part → Type 0) (limit base : ℕ) (x : List ℕ) (at : ℕ) : Type 0 where
-  pub nodes : List Tree
-  pub held : holds (top nodes) no_part
-  pub read : Wellformed limit (trees nodes) x
-  pub placed : PlacedAll base (trees nodes)
-  pub is : run limit (start base) x ≡ Live at (trees nodes) [] nothing
 
 -- the offset of the head that comes next, or of the one that is partial
 
@@ -208,13 +198,13 @@ pub record RefusesPiece (holds : Partial → Part → Type 0) (around : List Lev
   pub next : next_head m ≡ p
 
 -- After the bytes x this many bytes of the piece are read, or it is refused.
-abbrev pub Reads : (Partial → Part → Type 0) → List Level → Level → HeadReader → ℕ → List ℕ → List ℕ → Result ℕ WireFault → Type 0
+abbrev pub Reads : (Partial → Part → Type 0) → List Level → Level → HeadReader → ℕ → List ℕ → List ℕ → Result ℕ VisitFault → Type 0
 Reads holds around l m base x piece (Ok n) = IsFed holds around l m base (x ++ take n piece)
 Reads holds around l m base x piece (Err (Refused p r)) = RefusesPiece holds around l m base x piece p r
-Reads holds around l m base x piece (Err OutOfMemory) = Unit {0}
+Reads holds around l m base x piece (Err (Memory e)) = Unit {0}
 
 -- After the bytes x at most one more item is whole in what is read of the piece, and none before the fault of one that is refused.
-abbrev pub ReadsItem : ℕ → ℕ → List ℕ → List ℕ → Result ℕ WireFault → Type 0
+abbrev pub ReadsItem : ℕ → ℕ → List ℕ → List ℕ → Result ℕ VisitFault → Type 0
 ReadsItem limit base x piece (Ok n) = AtMostOneMore (ready_in (run limit (start base) x)) (run limit (start base) (x ++ take n piece))
 ReadsItem limit base x piece (Err (Refused p r)) = run limit (start base) (x ++ piece) ≡ Failed (ready_in (run limit (start base) x)) p r
-ReadsItem limit base x piece (Err OutOfMemory) = Unit {0}
+ReadsItem limit base x piece (Err (Memory e)) = Unit {0}

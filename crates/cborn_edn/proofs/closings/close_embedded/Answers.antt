@@ -5,8 +5,8 @@ use Rattle.cborn_edn.specs.devices.MeaningErrors.{Notes}
 use Rattle.cborn_edn.proofs.Reader.Closed.{closed_embed}
 use Rattle.cborn_edn.proofs.closings.close_embedded.Goals as goal
 
-pub returns-clause-shows : goal.returns-clause-shows
-returns-clause-shows c = λ h o s a k p e.
+pub returns : goal.returns
+returns c = λ h o s a k p e.
     closed_embed c.args.here.now c.shut-bracket.new.here _ c.args.writer.now c.shut-bracket.new.writer _ c.shut-bracket.result c.in-Some.around c.with_embedded-string.result c.is_none-known.result c.args.mark c.args.place
     (record {
       shut = c.shut-bracket.ensures.top;
@@ -20,5 +20,4 @@ returns-clause-shows c = λ h o s a k p e.
       chunks = refl;
       string = refl;
       out = refl;
-      heads = refl;
     }) refl h s a k p o e

@@ -14,4 +14,4 @@ pub returns-clause-taken : goal.returns-clause-taken
 returns-clause-taken c = λ s a p x e.
     let k = embed_at s x (ap is_embedded (sym e.level) ∙ sym c.is_embedded.ensures ∙ c.if-not-is_embedded.false) in
     let u = builds k.h (with_piece k.o (embedded k.at k.c a c.args.mark)) in
-    (u, subst (λ (t : State). step_by t (EmbedClose c.args.mark) a ≡ Some u) k.is (embed_step k.h k.o k.at a c.args.mark k.c), c.close_embedded.ensures.shows k.h k.o k.at a k.c p (subst (λ (t : State). Shows c.args.here.now c.args.writer.now c.args.writer.now.out.items t) (sym k.is) e))
+    (u, subst (λ (t : State). step_by t (EmbedClose c.args.mark) a ≡ Some u) k.is (embed_step k.h k.o k.at a c.args.mark k.c), c.close_embedded.ensures k.h k.o k.at a k.c p (subst (λ (t : State). Shows c.args.here.now c.args.writer.now c.args.writer.now.out.items t) (sym k.is) e))

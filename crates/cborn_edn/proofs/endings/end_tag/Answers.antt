@@ -3,15 +3,21 @@ use Rattle.cborn_lex.specs.declared.classes.Class.TheVariants.{ParenClose}
 use Rattle.cborn_edn.specs.devices.Syntax.{tag}
 use Rattle.cborn_edn.proofs.Grammar.Machine.{Stack, has, step_by}
 use Rattle.cborn_edn.specs.devices.Steps.{is_tag}
-use Rattle.cborn_edn.specs.devices.Shows.{Shows}
+use Rattle.cborn_edn.specs.devices.Handed.{Reads}
 use Rattle.cborn_edn.proofs.Reader.Inverted.{tag_at, no_tag}
 use Rattle.cborn_edn.proofs.endings.end_tag.Goals as goal
 
 pub returns-then-not-is_tag-clause-taken : goal.returns-then-not-is_tag-clause-taken
-returns-then-not-is_tag-clause-taken c = λ st i a e. no_tag st i a (ap is_tag (sym e.level) ∙ sym c.is_tag.ensures ∙ c.if-not-is_tag.true)
+returns-then-not-is_tag-clause-taken g c = λ st i a e. no_tag st i a (ap is_tag (sym e.shows.level) ∙ sym c.is_tag.ensures ∙ c.if-not-is_tag.true)
 
 pub returns-clause-taken : goal.returns-clause-taken
-returns-clause-taken c = λ st i a e.
-    let k = tag_at st (ap is_tag (sym e.level) ∙ sym c.is_tag.ensures ∙ c.if-not-is_tag.false) in
+returns-clause-taken g c = λ st i a e.
+    let k = tag_at st (ap is_tag (sym e.shows.level) ∙ sym c.is_tag.ensures ∙ c.if-not-is_tag.false) in
     let u = has k.around (tag k.at k.n k.m i a) in
-    (u, subst (λ (t : Stack). step_by (has t i) ParenClose a ≡ Some u) k.is refl, c.close_tag.ensures.shows k.around k.at a k.n k.m i (subst (λ (t : Stack). Shows c.args.here.now c.args.writer.now c.args.writer.now.out.items (has t i)) (sym k.is) e))
+    (u, subst (λ (t : Stack). step_by (has t i) ParenClose a ≡ Some u) k.is refl, c.in_ok-close_tag.ensures k.around k.at a k.n k.m i (subst (λ (t : Stack). Reads (g.V.Visitor.holds c.args.visitor.now) c.args.here.now c.args.writer.now c.args.writer.now.out.items (has t i)) (sym k.is) e))
+
+pub close_tag-requires : goal.close_tag-requires
+close_tag-requires g c =
+    let e = c.requires.2 in
+    let k = tag_at c.requires.0 (ap is_tag (sym e.shows.level) ∙ sym c.is_tag.ensures ∙ c.if-not-is_tag.false) in
+    (k.around, k.at, k.n, k.m, c.requires.1, subst (λ (t : Stack). Reads (g.V.Visitor.holds c.args.visitor.now) c.args.here.now c.args.writer.now c.args.writer.now.out.items (has t c.requires.1)) (sym k.is) e)

@@ -5,5 +5,5 @@ use Rattle.cborn_edn.proofs.Reader.Results.{on_ok}
 use Rattle.cborn_edn.proofs.Reader.Put.{word_shown}
 use Rattle.cborn_edn.proofs.numbers.put_word.Goals as goal
 
-pub returns-clause-shows : goal.returns-clause-shows
-returns-clause-shows c = on_ok c.push_head.result (λ added st a e. word_shown c.args.here.now c.args.writer.now _ st a c.args.n (record { heads = refl; brackets = refl; around = refl; string = refl; chunks = refl }) refl (added ∙ ap (λ w. c.args.writer.now.out.items ++ cut (head_bytes 7 w c.args.n)) c.shortest.ensures) e) c.push_head.ensures.added
+pub returns : goal.returns
+returns c = on_ok c.push_head.result (λ added st a e. word_shown c.args.here.now c.args.writer.now _ st a c.args.n (record { brackets = refl; around = refl; string = refl; chunks = refl }) refl (added ∙ ap (λ w. c.args.writer.now.out.items ++ cut (head_bytes 7 w c.args.n)) c.shortest.ensures) e) c.push_head.ensures.added

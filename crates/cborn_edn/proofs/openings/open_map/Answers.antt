@@ -6,16 +6,16 @@ use Rattle.cborn_edn.specs.devices.Laid.{laid_stack}
 use Rattle.cborn_edn.specs.devices.Noted.{noted_stack}
 use Rattle.cborn_edn.proofs.openings.open_map.Goals as goal
 
-pub returns-clause-shows : goal.returns-clause-shows
-returns-clause-shows c = let from : c.len-start.result ≡ length c.args.writer.now.out.items = search rules in both_ok c.open_bracket.result (λ f g st a p e. moved _ _ _ _ _ f g (record {
+pub returns : goal.returns
+returns c = let from : c.len-start.result ≡ length c.args.writer.now.out.items = search rules in both_ok c.open_bracket.result (λ f g st a p e. moved _ _ _ _ _ f g (record {
   phase = refl;
   level = refl;
   count = refl;
-  brackets = λ i. record { place = p i; start = (from ∙ laid_length (laid_stack c.args.writer.now.heads st) c.args.writer.now.out.items e.out) i; count = e.count i; level = e.level i; mark = c.args.mark } ∷ e.brackets i;
+  brackets = λ i. record { place = p i; start = (from ∙ laid_length (laid_stack st) c.args.writer.now.out.items e.out) i; count = e.count i; level = e.level i; mark = c.args.mark } ∷ e.brackets i;
   around = e.around;
   string = e.string;
   chunks = e.chunks;
   simple = tt;
   error = same_errors c.args.writer.now.error (noted_stack st) e.error;
-  out = out_map c.args.writer.now.heads st a c.args.mark c.args.writer.now.out.items c.push_place.new.out.items e.out c.in_ok-push_place.ensures;
+  out = out_map st a c.args.mark c.args.writer.now.out.items c.push_place.new.out.items e.out c.in_ok-push_place.ensures;
 })) c.open_bracket.ensures.here c.open_bracket.ensures.writer

@@ -1,8 +1,8 @@
 use Rattle.std.proofs.Common.{refl}
 use Rattle.cborn_edn.proofs.openings.open_simple.Goals as goal
 
-pub returns-clause-shows : goal.returns-clause-shows
-returns-clause-shows c = λ st a p e. record {
+pub returns : goal.returns
+returns c = λ st a p e. record {
   phase = refl;
   level = e.level;
   count = e.count;

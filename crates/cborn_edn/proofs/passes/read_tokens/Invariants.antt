@@ -1,9 +1,9 @@
-use Rattle.std.proofs.Common.{◌≡◌, ◌-◌, length}
+use Rattle.std.proofs.Common.{◌-◌, length}
 use Rattle.cborn_edn.specs.devices.Reading.{IsReading}
 use Rattle.cborn_edn.proofs.passes.read_tokens.Given as goal
 
 abbrev pub invariant-tokens : goal.invariant-tokens
-invariant-tokens l = IsReading l.fn.profile l.fn.limit l.fn.text l.here l.writer × (l.writer.heads ≡ l.fn.writer.heads)
+invariant-tokens g l = IsReading (g.V.Visitor.holds l.visitor) l.fn.profile l.fn.limit l.fn.text l.here l.writer
 
 abbrev pub decreases-tokens : goal.decreases-tokens
-decreases-tokens l = length l.fn.text - l.here.at
+decreases-tokens g l = length l.fn.text - l.here.at

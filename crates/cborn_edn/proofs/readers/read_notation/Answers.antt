@@ -1,7 +1,10 @@
-use Rattle.cborn_edn.specs.Faults.{IsNoNotation}
-use Rattle.cborn_edn.proofs.Reader.Results.{passed_on}
+use Rattle.std.proofs.Common.{arith}
+use Rattle.cborn_model.specs.Tree.{trees}
+use Rattle.cborn_lex.proofs.WholeTexts.Weights.{utf8_bytes}
+use Rattle.cborn_edn.proofs.Short.Facts.{notated_sound}
 use Rattle.cborn_edn.proofs.readers.read_notation.Goals as goal
 
-pub returns-in_err-bytes-clause-refused : goal.returns-in_err-bytes-clause-refused
-returns-in_err-bytes-clause-refused c =
-    passed_on c.from_residual.result c.in_err-bytes.field-0.0 (IsNoNotation c.args.profile c.args.limit c.args.text.now) c.in_err-bytes.ensures.refused c.from_residual.ensures
+pub finish-requires : goal.finish-requires
+finish-requires c =
+    let e = c.in_ok-visit_text.ensures.nodes in
+    (e.0, e.1, e.3, omega (arith, (notated_sound c.args.profile c.args.limit c.args.text.now (trees e.0) (utf8_bytes c.args.text.now c.utf8.text) e.2).low, c.get-most.ensures.value, c.get-most.ensures.most))

@@ -9,7 +9,7 @@ use Rattle.cborn_edn.proofs.Reader.Joints.{chunk_noted, content_cut}
 use Rattle.cborn_edn.proofs.strings.close_chunk.Goals as goal
 
 pub returns-clause-added : goal.returns-clause-added
-returns-clause-added c = on_ok c.set_length.result (λ h s base e f. h s.bytes base (ap (λ (x : Joint). x.start) e) f ∙ ap (λ k. cut (base ++ string k (width c.args.mark (length s.bytes)) s.bytes)) c.major_of.ensures) c.set_length.ensures
+returns-clause-added c = on_ok c.set_length.result (λ h s base e f. h s.bytes base (ap (λ (x : Joint). x.start) e) f ∙ (λ i. cut (base ++ string (c.major_of.ensures i) (width (e i).mark (length s.bytes)) s.bytes))) c.set_length.ensures
 
 pub returns-clause-noted : goal.returns-clause-noted
 returns-clause-noted c = always_ok c.set_length.result (λ s base e f known.

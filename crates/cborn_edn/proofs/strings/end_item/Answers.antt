@@ -2,9 +2,8 @@ use Rattle.std.proofs.Common.{refl}
 use Rattle.cborn_edn.proofs.Reader.Results.{both_ok}
 use Rattle.cborn_edn.proofs.Reader.Built.{item_shown}
 use Rattle.cborn_edn.proofs.Meaning.Sound.{pieces_bytes}
-use Rattle.cborn_edn.proofs.Reader.Put.{mark_here}
 use Rattle.cborn_edn.proofs.strings.end_item.Goals as goal
 
 pub returns-clause-shows : goal.returns-clause-shows
 returns-clause-shows c = both_ok c.close_string.result (λ added noted st ps modest e.
-    item_shown c.args.here.now c.args.writer.now _ st ps c.in-Some.joint c.written-mark.result c.in-Some.is (mark_here c.args.writer.now.heads c.args.writer.now.around st c.in-Some.joint.mark c.written-mark.result e.around c.written-mark.ensures) refl refl refl refl refl added noted (pieces_bytes ps modest) e) c.close_string.ensures.added c.close_string.ensures.noted
+    item_shown c.args.here.now c.args.writer.now _ st ps c.in-Some.joint c.in-Some.is refl refl refl refl added noted (pieces_bytes ps modest) e) c.close_string.ensures.added c.close_string.ensures.noted

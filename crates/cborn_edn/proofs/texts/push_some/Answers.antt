@@ -33,6 +33,7 @@ returns-clause-taken c =
     let small : n < 2 ^ 64 = omega arith in (
       t.bytes,
       at + len + 2,
+      omega (arith, size, first, ap length put, length-append old (0 ∷ []), ap length t.added, length-append one t.bytes),
       text_here c.args.profile text tail t.bytes at len c.requires.inside c.requires.quote is t.within t.quote t.inside t.is unmarked,
       utf8,
       c.in_ok-stop.ensures.white_space,

@@ -1,5 +1,5 @@
 use Rattle.std.proofs.Common.{◌≡◌, ◌<◌, ◌+◌, ◌-◌, ◌∙◌, sym, ap, subst, arith, length, take, drop, List, ℕ, eqb, false, get_or}
-use Rattle.std.proofs.lemmas.List.{take_rest, drop-drop}
+use Rattle.std.proofs.lemmas.List.{take_rest, drop-drop, length-take}
 use Rattle.cborn_lex.specs.Tokens.{begins}
 use Rattle.std.specs.Str.{IsUtf8}
 use Rattle.cborn_edn.proofs.Reader.Utf8.{slice_utf8}
@@ -19,4 +19,4 @@ returns-clause-taken c =
     let after : drop (at + len + 2) text ≡ drop (len + 1) tail = ap (λ n. drop n text) (sym place) ∙ sym (drop-drop (len + 1) (at + 1) text) ∙ ap (drop (len + 1)) (sym is) in
     let unmarked = subst (λ (y : List ℕ). begins (λ d. eqb d 95) y ≡ false) after c.in_ok-stop.ensures.no_mark in
     let utf8 : IsUtf8 text → IsUtf8 (take len tail) = λ u. subst (λ (y : List ℕ). IsUtf8 (take len y)) (sym is) (slice_utf8 text at len u c.requires.inside (omega (arith, c.requires.quote)) (subst (λ (y : List ℕ). len < length y) is near) (subst (λ (y : List ℕ). get_or y len 0 < 128) is (omega (arith, c.if-tail-len-ne34.false)))) in
-    (take len tail, at + len + 2, text_here c.args.profile text tail (take len tail) at len c.requires.inside c.requires.quote is near c.if-tail-len-ne34.false p.0 p.1 unmarked, utf8, c.in_ok-stop.ensures.white_space, c.in_ok-push_plain.ensures.added)
+    (take len tail, at + len + 2, omega (arith, near, length-take len tail), text_here c.args.profile text tail (take len tail) at len c.requires.inside c.requires.quote is near c.if-tail-len-ne34.false p.0 p.1 unmarked, utf8, c.in_ok-stop.ensures.white_space, c.in_ok-push_plain.ensures.added)

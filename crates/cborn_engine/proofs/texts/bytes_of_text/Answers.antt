@@ -5,7 +5,7 @@ use Rattle.cborn_engine.specs.Loading.{IsNoFlaw}
 use Rattle.cborn_engine.specs.Refusing.{IsRefused}
 use Rattle.cborn_engine.proofs.Answers.KnownErrors.{known_error}
 use Rattle.cborn_engine.proofs.Answers.Unreported.{untold}
-use Rattle.cborn_edn.specs.Spelling.{IsSpelling, IsShortSpelling}
+use Rattle.cborn_edn.specs.Spelling.{IsSpelling}
 use Rattle.cborn_engine.proofs.texts.bytes_of_text.Goals as goal
 
 pub returns-in_err-text-clause-refused : goal.returns-in_err-text-clause-refused
@@ -14,30 +14,16 @@ returns-in_err-text-clause-refused c =
     known_error (λ r. IfErr r (λ why. (most : ℕ) → length input ≤ most → IsRefused (kind_of c.args.profile) c.args.limit most input why × IsNoFlaw why)) _ _ c.from_residual.ensures.1
     (c.in_err-text.ensures.refused c.args.profile c.args.limit)
 
-pub returns-in_err-read_text-in-AsWritten-clause-refused : goal.returns-in_err-read_text-in-AsWritten-clause-refused
-returns-in_err-read_text-in-AsWritten-clause-refused c =
+pub returns-in_err-read_text-clause-refused : goal.returns-in_err-read_text-clause-refused
+returns-in_err-read_text-clause-refused c =
     let input = c.args.input.now in
     let text = c.in_ok-text in
-    let why = c.in_err-read_text-in-AsWritten in
-    known_error (λ r. IfErr r (λ why. (most : ℕ) → length input ≤ most → IsRefused (kind_of c.args.profile) c.args.limit most input why × IsNoFlaw why)) _ _ c.from_residual-in_err-read_text-in-AsWritten.ensures.1
+    let why = c.in_err-read_text in
+    known_error (λ r. IfErr r (λ why. (most : ℕ) → length input ≤ most → IsRefused (kind_of c.args.profile) c.args.limit most input why × IsNoFlaw why)) _ _ c.from_residual-in_err-read_text.ensures.1
     (λ most l. untold c.args.profile c.args.limit most input text.text.now why.field-0.0 text.ensures.text.0 text.ensures.text.1 why.ensures.refused l)
 
-pub returns-in_err-read_shortest-in-Shortest-clause-refused : goal.returns-in_err-read_shortest-in-Shortest-clause-refused
-returns-in_err-read_shortest-in-Shortest-clause-refused c =
-    let input = c.args.input.now in
+pub returns-clause-spelled : goal.returns-clause-spelled
+returns-clause-spelled c =
     let text = c.in_ok-text in
-    let why = c.in_err-read_shortest-in-Shortest in
-    known_error (λ r. IfErr r (λ why. (most : ℕ) → length input ≤ most → IsRefused (kind_of c.args.profile) c.args.limit most input why × IsNoFlaw why)) _ _ c.from_residual-in_err-read_shortest-in-Shortest.ensures.1
-    (λ most l. untold c.args.profile c.args.limit most input text.text.now why.field-0.0 text.ensures.text.0 text.ensures.text.1 why.ensures.refused l)
-
-pub returns-in_ok-read_text-in-AsWritten-clause-spelled : goal.returns-in_ok-read_text-in-AsWritten-clause-spelled
-returns-in_ok-read_text-in-AsWritten-clause-spelled c =
-    let text = c.in_ok-text in
-    let read = c.in_ok-read_text-in-AsWritten in
-    rw c.in-AsWritten.is (text.ensures.text.1, subst (λ (x : List ℕ). IsSpelling c.args.profile c.args.limit x read.field-0.items) text.ensures.text.0 read.ensures.spelled)
-
-pub returns-in_ok-read_shortest-in-Shortest-clause-spelled : goal.returns-in_ok-read_shortest-in-Shortest-clause-spelled
-returns-in_ok-read_shortest-in-Shortest-clause-spelled c =
-    let text = c.in_ok-text in
-    let read = c.in_ok-read_shortest-in-Shortest in
-    rw c.in-Shortest.is (text.ensures.text.1, subst (λ (x : List ℕ). IsShortSpelling c.args.profile c.args.limit x read.field-0.items) text.ensures.text.0 read.ensures.spelled)
+    let read = c.in_ok-read_text in
+    (text.ensures.text.1, subst (λ (x : List ℕ). IsSpelling c.args.profile c.args.limit x read.field-0.items) text.ensures.text.0 read.ensures.spelled)

@@ -1,6 +1,8 @@
-use Rattle.std.proofs.Common.{◌<◌, ◌^◌, ◌++◌, length, ap, ◌∙◌, arith}
+use Rattle.std.proofs.Common.{◌<◌, ◌^◌, ◌++◌, length, ap, ◌∙◌, subst, arith}
 use Rattle.cborn_model.specs.Partial.{ended_size}
-use Rattle.cborn_judge.proofs.Encoding.Ends.{array_ends, all_counted, size_found}
+use Rattle.cborn_judge.specs.Departures.{FindsDefect}
+use Rattle.cborn_judge.specs.shared.Checked.{SizeAt}
+use Rattle.cborn_judge.proofs.Encoding.Ends.{array_ends, all_counted}
 use Rattle.cborn_judge.proofs.ends.end_array.Goals as goal
 
 pub returns : goal.returns
@@ -16,5 +18,5 @@ returns c order ts x z ends is start inner =
       coded,
       new,
       (λ p r f. f),
-      λ sound none. size_found l.place n (length ts) c.args.size c.ended_size.result c.args.count c.size_defect-defect.result (all_counted c.args.count l.count n (length ts) c.unwrap_or-len.ensures ends (inner.contains.1 sound).1) c.ended_size.ensures c.size_defect-defect.ensures,
+      λ sound none. subst (λ m. FindsDefect (SizeAt l.place (ended_size c.args.size c.args.count m) m) c.ended_defect-defect.result) (all_counted c.args.count l.count n (length ts) c.unwrap_or-len.ensures ends (inner.contains.1 sound).1) c.ended_defect-defect.ensures,
     )

@@ -1,34 +1,18 @@
-use Rattle.std.proofs.Common.{rules, ◌++◌, ◌-◌, List, length, take, drop, map, None, refl, sym, ap, ◌∙◌, subst, arith}
+use Rattle.std.proofs.Common.{rules, ◌++◌, ◌-◌, List, length, take, drop, map, refl, sym, ap, ◌∙◌, subst, arith}
 use Rattle.std.proofs.lemmas.List.{drop_all, with_items_is, places}
-use Rattle.cborn_model.specs.Orders.{Rising}
-use Rattle.cborn_model.specs.declared.defects.DefectReason.TheVariants.{KeyOrder}
 use Rattle.cborn_judge.specs.Departures.{FindsDefect}
-use Rattle.cborn_judge.specs.devices.Encoding.{Mark, AreMarked, filled_keys, RowDescent}
+use Rattle.cborn_judge.specs.devices.Encoding.{Mark, RowDescent}
 use Rattle.cborn_judge.specs.devices.Marks.{AreHintedBy, FallsIn}
 use Rattle.cborn_judge.proofs.FirstDefect.Departing.{alike}
 use Rattle.cborn_judge.proofs.Encoding.PairsRead.{marked_read}
-use Rattle.cborn_judge.proofs.Encoding.PairsMet.{none_falls, falls_met}
-use Rattle.cborn_judge.proofs.Encoding.PairsArranged.{none_marked, rest_marked, none_left, all_kept}
+use Rattle.cborn_judge.proofs.Encoding.PairsMet.{falls_met}
+use Rattle.cborn_judge.proofs.Encoding.PairsArranged.{rest_marked, all_kept}
 use Rattle.cborn_judge.proofs.marks.descent.Goals as goal
-
-pub returns-then-from-len-clause-rising : goal.returns-then-from-len-clause-rising
-returns-then-from-len-clause-rising g c q y rows e a =
-    let none = none_left g.S.Spot.seen c.args.from c.args.spots.now.items (omega (arith, c.len.ensures, c.if-from-len.true)) in
-    subst (λ z. Rising g.O.KeyOrder.order (filled_keys z)) (sym (none_marked rows (length y) (subst (AreMarked (length y) rows) none a))) tt
 
 pub returns-then-from-len-clause-hinted : goal.returns-then-from-len-clause-hinted
 returns-then-from-len-clause-hinted g c =
     let none = drop_all c.args.from c.args.spots.now.items (omega (arith, c.len.ensures, c.if-from-len.true)) in
     ((λ k. 0), (λ k l h i m. absurd (omega arith)), subst (AreHintedBy g.S.Spot.hinted g.S.Spot.seen (λ k. 0) c.args.out.now) (sym none) tt)
-
-pub returns-clause-rising : goal.returns-clause-rising
-returns-clause-rising g c none y rows e a =
-    let order = g.O.KeyOrder.order in
-    let xs = c.deref_mut.result.now in
-    let ms : List Mark = drop c.args.from (map g.S.Spot.seen c.args.spots.now.items) in
-    let own = rest_marked g.S.Spot.seen c.args.from c.args.spots.now.items xs c.deref_mut.ensures.value in
-    let found : FindsDefect (FallsIn order c.args.out.now ms) None = subst (λ z. FindsDefect (FallsIn order c.args.out.now z) None) own (subst (FindsDefect (FallsIn order c.args.out.now (map g.S.Spot.seen (take (length xs - c.args.from) (drop c.args.from xs))))) none c.first_fall.ensures.found) in
-    none_falls order c.args.out.now ms rows (marked_read c.args.out.now y rows ms (length y) refl e a) (λ p m. found p KeyOrder (refl, m))
 
 pub returns-clause-found : goal.returns-clause-found
 returns-clause-found g c y rows e a f =

@@ -1,9 +1,10 @@
 use Rattle.std.proofs.Common.{refl, [], sym, subst, List, ℕ, take, drop, get_or, arith, rules, false}
+use Rattle.std.proofs.lemmas.List.{take_more}
 use Rattle.cborn_lex.specs.declared.classes.Kind.TheVariants as kinds
 use Rattle.cborn_lex.specs.declared.fronts.Front.TheVariants as fronts
 use Rattle.cborn_lex.specs.Forms.{Start, ReadsFrom, ReadsNumber}
 use Rattle.cborn_lex.specs.devices.View.{front_view}
-use Rattle.cborn_lex.proofs.TwoParts.{from_plain, nothing_appended, digit_starts, take_one, quoted_from}
+use Rattle.cborn_lex.proofs.TwoParts.{from_plain, nothing_appended, digit_starts, quoted_from}
 use Rattle.cborn_lex.proofs.fronts.front_by_character.Goals as goal
 
 pub returns-in-44 : goal.returns-in-44
@@ -56,7 +57,7 @@ returns-in-48-to-57 c =
     let first = get_or c.args.text.now 0 0 in
     let a = front_view c.number_from_digit.new.number [] c.number_from_digit.result.0 in
     let n = c.number_from_digit.result.1 in
-    let reads = subst (λ (f : List ℕ). ReadsNumber false f (take n c.rest_of-tail.result.now) (drop n c.rest_of-tail.result.now) a) (take_one c.args.text.now c.requires.some) c.number_from_digit.ensures.reads in rw (← c.rest_of-tail.ensures) (
+    let reads = subst (λ (f : List ℕ). ReadsNumber false f (take n c.rest_of-tail.result.now) (drop n c.rest_of-tail.result.now) a) (take_more c.args.text.now 0 0 c.requires.some) c.number_from_digit.ensures.reads in rw (← c.rest_of-tail.ensures) (
       c.number_from_digit.ensures.within,
       (
         a,

@@ -1,11 +1,8 @@
 use Rattle.std.proofs.Common.{Bool, ◌≡◌, ◌++◌, ◌+◌, ◌-◌, ◌<◌, length, take, drop, append_assoc, length-append, length-drop, sym, ap, ◌∙◌, subst}
 use Rattle.std.specs.Prelude.{◌||◌, is_some}
 use Rattle.cborn_model.specs.Heads.{IsLeastHead}
-use Rattle.cborn_model.specs.Partial.{ended_size}
 use Rattle.cborn_det.specs.Appending.{Replaces}
 use Rattle.cborn_det.specs.Det.{joined}
-use Rattle.cborn_judge.specs.Departures.{FindsDefect}
-use Rattle.cborn_judge.specs.shared.Checked.{SizeAt}
 use Rattle.cborn_judge.specs.devices.Encoding.{row_entries, AreMarked, IsSound}
 use Rattle.cborn_judge.specs.devices.Marks.{marks_of}
 use Rattle.cborn_judge.proofs.Encoding.MapsEnding.{ended, length_marked, flaw_found, defect_found}
@@ -35,7 +32,6 @@ returns-clause-ended g c = λ ts x z ends e start inner.
     let mid = c.arrange.new.self.out.items in
     let new = c.end_head.new.out.items in
     let head = c.in_ok-end_head.ensures in
-    let size : FindsDefect (SizeAt level.place (ended_size c.args.size c.args.count n) n) c.size_defect-own.result = subst (λ s. FindsDefect (SizeAt level.place s n) c.size_defect-own.result) c.ended_size.ensures c.size_defect-own.ensures in
     let left = ended order laws level.place c.args.size c.args.count ts rs ends inner.contains.2 level.flawed flaw x h mid new n inner.begins inner.sound repeat number
     (λ none filled. c.in_ok-flaw.ensures.arranged none (x ++ h) rs content lies marked filled) (c.in_ok-flaw.ensures.front (x ++ h) (joined (row_entries rs)) content lies)
     (λ i. head.flawed (is_flawed ∙ i) ∙ ap (λ k. take k mid) start) (λ i m e. head.known (is_flawed ∙ i) m e)
@@ -44,6 +40,6 @@ returns-clause-ended g c = λ ts x z ends e start inner.
       left.1,
       left.2,
       flaw_found order laws level.place c.args.size c.args.count ts rs ends inner.contains.2 flaw repeat,
-      λ sound none. defect_found order laws level.place c.args.size c.args.count ts rs ends inner.contains.2 n c.size_defect-own.result c.in_ok-flaw.field-0.defect c.earliest-defect.result number (subst (λ b. IsSound b ts) sound inner.sound) size
+      λ sound none. defect_found order laws level.place c.args.size c.args.count ts rs ends inner.contains.2 n c.ended_defect-own.result c.in_ok-flaw.field-0.defect c.earliest-defect.result number (subst (λ b. IsSound b ts) sound inner.sound) c.ended_defect-own.ensures
           (λ filled. c.in_ok-flaw.ensures.descent (x ++ h) rs content lies marked filled) c.earliest-defect.ensures,
     )

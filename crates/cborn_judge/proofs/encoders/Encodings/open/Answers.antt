@@ -12,8 +12,8 @@ returns c = record {
       let new = c.new-level.result in
       let is = c.new-level.ensures in
       let len : c.len.result ≡ length old.out.items = search rules in
-      let m : Level = record { container = c.args.container; place = c.args.place; start = c.args.start; content = c.len.result; pairs = c.len-2.result; count = 0; has_key = false; flawed = false } in
+      let m : Level = record { container = c.args.container; place = c.args.place; start = c.args.start; content = c.len.result; pairs = c.len-2.result; count = 0; flawed = false } in
       stands_same order (old.outer.items ++ old.innermost ∷ []) c.push.new.self.items m new (inside f o []) (marks_of old.pairs) (marks_of old.pairs) (y ++ h) old.out.items
       c.in_ok-push.ensures.items is refl out
-      (stands_open order old.outer.items old.innermost m f o (marks_of old.pairs) y h opens front start (len ∙ ap length out) c.len-2.ensures refl refl refl stands);
+      (stands_open order old.outer.items old.innermost m f o (marks_of old.pairs) y h opens front start (len ∙ ap length out) c.len-2.ensures refl refl stands);
 }

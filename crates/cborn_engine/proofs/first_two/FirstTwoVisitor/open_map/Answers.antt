@@ -1,0 +1,7 @@
+use Rattle.std.proofs.Common.{refl}
+use Rattle.cborn_model.specs.Partial.{a_map}
+use Rattle.cborn_model.proofs.HandedOver.{on_ok}
+use Rattle.cborn_engine.proofs.first_two.FirstTwoVisitor.open_map.Goals as goal
+
+pub returns-clause-held : goal.returns-clause-held
+returns-clause-held c = on_ok c.open.result (λ o f free h. o f (a_map c.args.place c.args._size c.args._count) refl h) c.open.ensures

@@ -1,0 +1,24 @@
+-- A device of the proofs: where the items of an input begin that are in no other. No definition cites it.
+use Rattle.std.specs.Prelude.{◌≡◌, ℕ, suc, List, [], ◌∷◌, ◌++◌, length, map, slice_get, ⊤}
+use Rattle.cborn_model.specs.Tree.{place}
+use Rattle.cborn_model.specs.Partial.{Partial, top, inside, Part, no_part, part}
+use Rattle.cborn_wire.specs.shared.Ground.{place_of}
+use Rattle.cborn_engine.specs.declared.first_two.FirstTwo.{FirstTwo}
+
+-- how many containers are open
+abbrev pub open_count : Partial → ℕ
+open_count (top ts) = 0
+open_count (inside f o ts) = suc (open_count f)
+
+abbrev pub tops : Partial → List ℕ
+tops (top ts) = map place ts
+tops (inside (top ts) o us) = map place ts ++ place_of o ∷ []
+tops (inside (inside f p ts) o us) = tops (inside f p ts)
+
+-- the string of which parts came begins there
+abbrev pub IsStringAt : ℕ → Part → Type 0
+IsStringAt p no_part = ⊤
+IsStringAt p (part q k w n x) = p ≡ q
+
+abbrev pub IsHeld : FirstTwo → Partial → Part → Type 0
+IsHeld v f c = (length v.around.items ≡ open_count f) × (v.first ≡ slice_get (tops f) 0) × (v.second ≡ slice_get (tops f) 1) × IsStringAt v.string c

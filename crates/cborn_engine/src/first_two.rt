@@ -1,0 +1,130 @@
+//! The visitor [`FirstTwo`], which keeps where the first two items of an input begin.
+
+ghost use Rattle.std.specs.Prelude.{◌≡◌, ◌++◌, ◌∷◌, ℕ, List, [], length, slice_get, OnOk};
+ghost use Rattle.cborn_model.specs.Partial.{Partial, Opening, top, inside, no_part};
+ghost use Rattle.cborn_wire.specs.shared.Ground.{place_of};
+ghost use Rattle.cborn_engine.specs.devices.Tops.{IsHeld};
+
+use cborn_model::{Size, StringKind, Visitor, Width};
+use std::alloc::{AllocError, Global};
+
+/// Keeps where the first two items begin that are in no other, as offsets in bytes from the start of
+/// the input.
+#[derive(Drop)]
+pub struct FirstTwo {
+    pub(crate) first: Option<u64>,
+    pub(crate) second: Option<u64>,
+    /// The offsets of the containers that are open.
+    pub(crate) around: Vec<u64>,
+    /// The offset of the string that comes in parts.
+    pub(crate) string: u64,
+}
+
+impl FirstTwo {
+    /// A visitor that was handed nothing. Takes no memory.
+    pub fn new(alloc: Global) -> FirstTwo
+        ensures { IsHeld result (top []) no_part }
+    {
+        FirstTwo {
+            first: None,
+            second: None,
+            around: Vec::new(alloc),
+            string: 0,
+        }
+    }
+
+    /// Keeps where an item begins, if it is in no other.
+    #[inline(always)]
+    fn begin(&mut self, place: u64)
+        ensures outside { (xs : List ℕ) → length self.old.around.items ≡ 0 → self.old.first ≡ slice_get xs 0 → self.old.second ≡ slice_get xs 1 → (self.new.first ≡ slice_get (xs ++ place ∷ []) 0) × (self.new.second ≡ slice_get (xs ++ place ∷ []) 1) }
+        ensures inside { (length self.old.around.items ≡ 0 → ⊥) → self.new ≡ self.old }
+        ensures rest { self.new ≡ record self.old { first = self.new.first; second = self.new.second } }
+    {
+        if !self.around.is_empty() {
+            return;
+        }
+        if self.first.is_none() {
+            self.first = Some(place);
+        } else if self.second.is_none() {
+            self.second = Some(place);
+        }
+    }
+
+    /// Keeps where a container begins.
+    #[inline(always)]
+    fn open(&mut self, place: u64) -> Result<(), AllocError>
+        ensures { OnOk result ((f : Partial) (o : Opening) → place_of o ≡ place → IsHeld self.old f no_part → IsHeld self.new (inside f o []) no_part) }
+    {
+        self.begin(place);
+        self.around.push(place)?;
+        Ok(())
+    }
+}
+
+impl Visitor for FirstTwo {
+    ghost holds = { IsHeld };
+
+    ghost takes_memory = { Unit {0} };
+
+    fn integer(
+        &mut self,
+        place: u64,
+        _negative: bool,
+        _width: Width,
+        _n: u64,
+    ) -> Result<(), AllocError> {
+        self.begin(place);
+        Ok(())
+    }
+
+    fn simple(&mut self, place: u64, _n: u8) -> Result<(), AllocError> {
+        self.begin(place);
+        Ok(())
+    }
+
+    fn open_array(
+        &mut self,
+        place: u64,
+        _size: Size,
+        _count: Option<u64>,
+    ) -> Result<(), AllocError> {
+        self.open(place)
+    }
+
+    fn open_map(&mut self, place: u64, _size: Size, _count: Option<u64>) -> Result<(), AllocError> {
+        self.open(place)
+    }
+
+    fn open_tag(&mut self, place: u64, _width: Width, _n: u64) -> Result<(), AllocError> {
+        self.open(place)
+    }
+
+    fn open_chunks(&mut self, place: u64, _kind: StringKind) -> Result<(), AllocError> {
+        self.open(place)
+    }
+
+    fn close(&mut self) -> Result<(), AllocError> {
+        self.around.pop();
+        Ok(())
+    }
+
+    fn open_string(
+        &mut self,
+        place: u64,
+        _kind: StringKind,
+        _width: Width,
+        _len: u64,
+    ) -> Result<(), AllocError> {
+        self.string = place;
+        Ok(())
+    }
+
+    fn part(&mut self, _bytes: &[u8]) -> Result<(), AllocError> {
+        Ok(())
+    }
+
+    fn close_string(&mut self) -> Result<(), AllocError> {
+        self.begin(self.string);
+        Ok(())
+    }
+}

@@ -1,0 +1,26 @@
+use Rattle.std.proofs.Common.{◌≤◌, ◌++◌, ◌∷◌, [], sym, ap, ◌∙◌, subst, append_assoc, append-nil, arith}
+use Rattle.std.proofs.lemmas.List.{nil_from_length}
+use Rattle.cborn_model.specs.Tree.{trees, depth_all}
+use Rattle.cborn_model.specs.Partial.{top}
+use Rattle.cborn_model.specs.Spelled.{FitsAll}
+use Rattle.cborn_wire.specs.devices.OpenNodes.{around}
+use Rattle.cborn_wire.proofs.Building.{part_spelled}
+use Rattle.cborn_wire.proofs.nodes.Nodes.finish.Goals as goal
+
+pub loop-node-init : goal.loop-node-init
+loop-node-init c = λ ts h. sym (ap (λ l. c.in_ok-items.items.items ++ l) (c.into_iter-node-iterator.ensures.into_iter_gives.0 ∙ c.whole_nodes-nodes.ensures (around (top []) c.args.self.outer.items) ts (sym h.0)) ∙ ap (λ l. l ++ ts) c.in_ok-items.ensures.items)
+
+pub new-requires : goal.new-requires
+new-requires c =
+    let (ts, held, fits, low) = c.requires in
+    let is = c.loop-node.invariant ts held ∙ ap (λ l. c.loop-node.items.items ++ l) c.in-Some.ensures.steps.0 in
+    part_spelled c.loop-node.items.items c.next.new.self.rest.items c.in-Some.node (subst (λ l. FitsAll (trees l)) is fits) (subst (λ l. depth_all (trees l) ≤ 1024) is low)
+
+pub loop-node-preserved : goal.loop-node-preserved
+loop-node-preserved c = λ ts h.
+    c.loop-node.invariant ts h ∙ ap (λ l. c.loop-node.items.items ++ l) c.in-Some.ensures.steps.0 ∙ ap (λ t. c.loop-node.items.items ++ t ∷ c.next.new.self.rest.items) (sym c.new.ensures)
+    ∙ sym (append_assoc c.loop-node.items.items (c.new.result ∷ []) c.next.new.self.rest.items) ∙ ap (λ l. l ++ c.next.new.self.rest.items) (sym c.in_ok-push.ensures.items)
+
+pub returns : goal.returns
+returns c = λ ts h.
+    sym (c.loop-node.invariant ts h ∙ ap (λ l. c.loop-node.items.items ++ l) (nil_from_length c.loop-node.node-iterator.rest.items (omega (arith, c.in-None.ensures.steps.0))) ∙ append-nil c.loop-node.items.items)

@@ -1,0 +1,9 @@
+use Rattle.std.proofs.Common.{◌≡◌, ◌++◌, List}
+use Rattle.cborn_model.specs.Tree.{Tree}
+use Rattle.cborn_model.specs.Partial.{top, no_part}
+use Rattle.cborn_wire.specs.devices.OpenNodes.{IsHeld}
+use Rattle.cborn_wire.proofs.nodes.Nodes.finish.Given as goal
+
+-- the nodes that were moved, and then those that weren't
+abbrev pub invariant-loop-node : goal.invariant-loop-node
+invariant-loop-node l = (ts : List Tree) → IsHeld l.fn.self (top ts) no_part → ts ≡ l.items.items ++ l.node-iterator.rest.items
