@@ -1,7 +1,7 @@
 # cborn: a proved deterministic normaliser for CBOR.
 PREFIX ?= /usr/local
 PROGRAM := crates/cborn/out/cborn
-# The crates that hold the libraries' tests: of the passes the calls answer nothing where memory is refused, and no fault.
+# The crates that hold the libraries' tests.
 TESTS := cborn_bytes_tests cborn_texts_tests cborn_engine_tests
 
 # The stack, in KB, within which each command has to answer at 1,024 levels.
