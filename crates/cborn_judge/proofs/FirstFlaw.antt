@@ -1,5 +1,4 @@
 -- The flaws of a node by those of its parts.
 pub mod Steps
-pub mod Texts
 pub mod Walking
 pub mod Sequences

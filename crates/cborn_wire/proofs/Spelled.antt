@@ -4,7 +4,6 @@ pub mod AllBytes
 pub mod ByteLists
 pub mod TreeLists
 pub mod AsPlaced
-pub mod Spellings
 pub mod OneReading
 pub mod SlotLaws
 pub mod Reasons

@@ -1,12 +1,9 @@
 -- What a walk over bytes reads at the front of its input (RFC 8949 section 3): a node, nodes or pairs one after another, chunks, the content of a string.
 -- P is what is found of them. Each crate that walks over bytes says its own there: the place, the meaning or the text of a node, and what was written of it.
 use Rattle.std.specs.Prelude.{◌≡◌, ℕ, ◌≤◌, List, ◌++◌, length}
-use Rattle.std.specs.List.{flat_map}
 use Rattle.cborn_model.specs.Bytes.{AreBytes}
-use Rattle.cborn_model.specs.declared.heads.Major.{Major}
-use Rattle.cborn_model.specs.declared.nodes.Chunk.{Chunk}
-use Rattle.cborn_model.specs.Heads.{WidthFits, least}
-use Rattle.cborn_model.specs.Spelled.{spelled, spelled_all, spelled_entries, Fits, FitsAll, FitsEntries, ChunksFit, chunk_bytes}
+use Rattle.cborn_model.specs.Heads.{least}
+use Rattle.cborn_model.specs.Spelled.{spelled, spelled_all, spelled_entries, Fits, FitsAll, FitsEntries}
 use Rattle.cborn_model.specs.Tree.{Tree, trees, entries, depth, depth_all, depth_entries, Simple}
 use Rattle.cborn_wire.specs.declared.heads.Argument.{Argument}
 use Rattle.cborn_wire.specs.declared.heads.Argument.TheVariants as arguments
@@ -25,20 +22,6 @@ pub record StringRead (n : ℕ) (input content rest : List ℕ) : Type 0 where
 abbrev pub IsSimpleArgument : Argument → Type 0
 IsSimpleArgument a = (n : ℕ) × (a ≡ arguments.Given (least n) n) × Fits (Simple 0 n)
 
--- a chunk of which P holds
-pub record ChunkRead (P : Chunk → Type 0) (major : Major) (input rest : List ℕ) : Type 0 where
-  pub chunk : Chunk
-  pub read : input ≡ chunk_bytes major chunk ++ rest
-  pub fits : WidthFits chunk.width (length chunk.bytes) × AreBytes chunk.bytes
-  pub holds : P chunk
-
--- chunks one after another, of which P holds
-pub record ChunksRead (P : List Chunk → Type 0) (major : Major) (input rest : List ℕ) : Type 0 where
-  pub chunks : List Chunk
-  pub read : input ≡ flat_map (chunk_bytes major) chunks ++ rest
-  pub fits : ChunksFit chunks
-  pub holds : P chunks
-
 -- a node no deeper than the room, of which P holds
 pub record NodeRead (P : Tree → Type 0) (room : ℕ) (input rest : List ℕ) : Type 0 where
   pub node : Tree
@@ -55,14 +38,6 @@ pub record NodesRead (P : List Tree → Type 0) (room n : ℕ) (input rest : Lis
   pub shallow : depth_all (trees nodes) ≤ room
   pub holds : P nodes
   pub count : length nodes ≡ n
-
--- a pair of which P holds
-pub record PairRead (P : Pair → Type 0) (room : ℕ) (input rest : List ℕ) : Type 0 where
-  pub pair : Pair
-  pub read : input ≡ (spelled pair.0 ++ spelled pair.1) ++ rest
-  pub fits : Fits pair.0 × Fits pair.1
-  pub shallow : (depth pair.0 ≤ room) × (depth pair.1 ≤ room)
-  pub holds : P pair
 
 -- n pairs one after another, of which P holds
 pub record PairsRead (P : List Pair → Type 0) (room n : ℕ) (input rest : List ℕ) : Type 0 where

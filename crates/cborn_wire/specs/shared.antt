@@ -1,5 +1,5 @@
 pub mod Machine
 pub mod InitialBytes
 pub mod Ground
-pub mod Contents
 pub mod Visiting
+pub mod Spelling

@@ -5,6 +5,7 @@ ghost use Rattle.std.specs.Prelude.{◌≡◌, ◌≤◌, ◌<◌, ◌++◌, ◌
 ghost use Rattle.std.specs.Int.{w64, from_be_bytes};
 ghost use Rattle.cborn_model.specs.Bytes.{AreBytes};
 ghost use Rattle.cborn_model.specs.Heads.{code, major_at, WidthFits, IsHead, head_bytes};
+ghost use Rattle.cborn_wire.specs.Slots.{major_of};
 ghost use Rattle.cborn_wire.specs.shared.InitialBytes.{Next, EndlessInformation, info_at, is_reserved, is_endless_head, is_always_bounded, is_break, is_other, is_float, is_container};
 ghost use Rattle.cborn_wire.specs.shared.Machine.{width_bytes, number};
 ghost use Rattle.cborn_wire.specs.HeadReading.{ReadsHead, reason_alone, seen_argument, size_in, count_in};
@@ -12,7 +13,7 @@ ghost use Rattle.cborn_model.specs.declared.heads.Width.{Width};
 ghost use Rattle.cborn_model.specs.declared.heads.Width.TheVariants.{One};
 
 use crate::WireReason;
-use cborn_model::{Major, Size, Width};
+use cborn_model::{Major, Size, StringKind, Width};
 use std::alloc::AllocError;
 
 /// What a head says besides its major type.
@@ -261,6 +262,17 @@ pub(crate) fn read_number(width: Width, bytes: &[u8]) -> Option<u64>
     }
 }
 
+/// The major type of strings of this kind (RFC 8949 section 3.1).
+#[inline(always)]
+pub(crate) fn major_of(kind: StringKind) -> Major
+    ensures { result ≡ major_of kind }
+{
+    match kind {
+        StringKind::OfBytes => Major::ByteString,
+        StringKind::OfText => Major::TextString,
+    }
+}
+
 /// The head of major type `major`, from 0 to 6, with the argument `n`, which must fit the width:
 /// its bytes come first in the array, and the number is their count (RFC 8949 section 3).
 pub fn head_bytes(major: u8, width: Width, n: u64) -> ([u8; 9], usize)
@@ -273,8 +285,9 @@ pub fn head_bytes(major: u8, width: Width, n: u64) -> ([u8; 9], usize)
 }
 
 /// The head of any major type.
-fn first_bytes(major: Major, width: Width, n: u64) -> ([u8; 9], usize)
+pub(crate) fn first_bytes(major: Major, width: Width, n: u64) -> ([u8; 9], usize)
     requires { WidthFits width n }
+    ensures some { 0 < result.1 }
     ensures len { result.1 ≤ 9 }
     ensures head { take result.1 result.0 ≡ head_bytes (code major) width n }
 {
@@ -306,11 +319,33 @@ fn first_bytes(major: Major, width: Width, n: u64) -> ([u8; 9], usize)
 ///
 /// # Errors
 /// `AllocError` if memory is refused; `out` is then unchanged.
+#[inline(always)]
 pub fn push_head(out: &mut Vec<u8>, major: Major, width: Width, n: u64) -> Result<(), AllocError>
     requires { WidthFits width n }
     ensures added { OnOk result (out.new.items ≡ out.old.items ++ head_bytes (code major) width n) }
     ensures kept { OnErr result (out.new.items ≡ out.old.items) }
 {
-    let (bytes, len) = first_bytes(major, width, n);
-    out.extend_from_slice(&bytes[..len])
+    if let Width::Direct = width {
+        out.push(major.initial_byte(n as u8))?;
+        return Ok(());
+    }
+    push_wide_head(out, major, width, n)
+}
+
+/// Appends a head. Out of line, since most heads are one byte. Each width has its own call, so that
+/// no length is known only as the program runs.
+#[inline(never)]
+fn push_wide_head(out: &mut Vec<u8>, major: Major, width: Width, n: u64) -> Result<(), AllocError>
+    requires { WidthFits width n }
+    ensures added { OnOk result (out.new.items ≡ out.old.items ++ head_bytes (code major) width n) }
+    ensures kept { OnErr result (out.new.items ≡ out.old.items) }
+{
+    let [a, b, c, d, e, f, g, h] = n.to_be_bytes();
+    match width {
+        Width::Direct => out.extend_from_slice(&[major.initial_byte(n as u8)]),
+        Width::One => out.extend_from_slice(&[major.initial_byte(24), h]),
+        Width::Two => out.extend_from_slice(&[major.initial_byte(25), g, h]),
+        Width::Four => out.extend_from_slice(&[major.initial_byte(26), e, f, g, h]),
+        Width::Eight => out.extend_from_slice(&[major.initial_byte(27), a, b, c, d, e, f, g, h]),
+    }
 }

@@ -15,7 +15,9 @@
 //! - [`scan`] says whether an input in memory is well-formed, or what its one fault is: the reader
 //!   with a visitor that keeps nothing. [`item_end`] says where the item at an offset ends,
 //!   likewise, and [`read_one`] reads it, with the visitor that builds nodes.
-//! - [`spell`] writes the bytes that a node spells.
+//! - A [`Speller`] is a visitor that writes the bytes which its items spell. The head of an array or a
+//!   map whose number is known at its end takes the place of one byte then (`placed_heads`).
+//!   [`spell`] and [`spell_all`] hand it nodes.
 //! - `heads` reads and writes single heads. [`int_len`] and [`integers_at`] tell integers with the
 //!   shortest heads by their first bytes (`short_integers`). `specs/Parts.antt` has what a walk
 //!   over bytes reads at each step.
@@ -41,11 +43,13 @@ mod leaves;
 mod levels;
 mod nodes;
 mod open_nodes;
+mod placed_heads;
 mod readers;
 mod refusals;
 mod runs;
 mod scanning;
 mod short_integers;
+mod spellers;
 mod spelling;
 mod visits;
 
@@ -59,5 +63,6 @@ pub use nodes::Nodes;
 pub use readers::{read_all, read_one};
 pub use scanning::{Nothing, scan};
 pub use short_integers::{Integers, int_len, integers_at};
+pub use spellers::Speller;
 pub use spelling::{spell, spell_all};
 pub use visits::visit;

@@ -1,13 +1,12 @@
 -- What is built of a node is what the node means, if it means something.
-use Rattle.std.proofs.Common.{◌≡◌, ◌≤◌, ℕ, ◌⊎◌, inl, inr, List, [], ◌∷◌, length, map, take, refl, sym, ap, ◌∙◌, subst}
+use Rattle.std.proofs.Common.{◌≡◌, ◌≤◌, ℕ, List, [], ◌∷◌, length, map, take, refl, sym, ap, ◌∙◌, subst}
 use Rattle.std.specs.List.{AllZip}
 use Rattle.std.proofs.lemmas.List.{take_all}
 use Rattle.cborn_model.specs.ItemView.{item_value, pair_value}
-use Rattle.cborn_model.specs.Meaning.{IsByteString, Means, AllMean, EntriesMean}
-use Rattle.cborn_model.specs.Tree.{Tree, Items, Pairs, Tagged, trees, entries}
-use Rattle.cborn_model.specs.Value.{Value, Values, Couples, array, dict, tagged, no_values, value, no_pairs, pair, values_of, pairs_of}
+use Rattle.cborn_model.specs.Meaning.{Means, AllMean, EntriesMean}
+use Rattle.cborn_model.specs.Tree.{Tree, Items, Pairs, trees, entries}
+use Rattle.cborn_model.specs.Value.{Value, Values, Couples, array, dict, no_values, value, no_pairs, pair, values_of, pairs_of}
 use Rattle.cborn_model.specs.declared.heads.Size.{Size}
-use Rattle.cborn_model.specs.declared.heads.Width.{Width}
 use Rattle.cborn_model.specs.declared.items.Item.{Item}
 use Rattle.cborn_judge.specs.devices.Building.{IsItemOf, IsPairOf}
 
@@ -35,9 +34,3 @@ array_built p s ns i items l v n h e m =
 pub map_built : (p : ℕ) (s : Size) (ns : List (Tree × Tree)) (i : ℕ) (pairs : List (Item × Item)) (l : List (Value × Value)) (v : Value) → length ns ≤ i → AllZip IsPairOf (take i ns) pairs → l ≡ map pair_value pairs → Means (Pairs p s (entries ns)) v → dict (pairs_of l) ≡ v
 map_built p s ns i pairs l v n h e m =
     ap (λ z. dict (pairs_of z)) e ∙ ap dict (couples_built ns pairs m.0 (subst (λ t. AllZip IsPairOf t pairs) (take_all i ns n) h) m.1) ∙ sym m.3
-
--- a tag that is no bignum
-pub tag_built : (p : ℕ) (w : Width) (n : ℕ) (t : Tree) (item : Item) (c v : Value) → ((n ≡ 2) ⊎ (n ≡ 3) → (b : List ℕ) → IsByteString t b → ⊥) → IsItemOf t item → c ≡ item_value item → Means (Tagged p w n t) v → tagged n c ≡ v
-tag_built p w n t item c v plain h e (inl m) = absurd (plain (inl m.0) m.1.0 m.1.1)
-tag_built p w n t item c v plain h e (inr (inl m)) = absurd (plain (inr m.0) m.1.0 m.1.1)
-tag_built p w n t item c v plain h e (inr (inr m)) = ap (tagged n) (e ∙ h m.2 m.3) ∙ sym m.4

@@ -92,9 +92,6 @@ no_flaw t v m p r f = let u = inner_means f.0 t v m f.1 in sound_node f.0 u.0 p 
 pub sound_all : (ts : Trees) (vs : Values) → AllMean ts vs → (q : Tree) → WithinAll q ts → (p : ℕ) (r : InvalidReason) → FlawAt q p r → ⊥
 sound_all ts vs m q i p r f = let u = inner_all q ts vs m i in sound_node q u.0 p r u.1 f
 
-pub sound_entries : (es : Entries) (ps : Couples) → EntriesMean es ps → (q : Tree) → WithinEntries q es → (p : ℕ) (r : InvalidReason) → FlawAt q p r → ⊥
-sound_entries es ps m q i p r f = let u = inner_entries q es ps m i in sound_node q u.0 p r u.1 f
-
 -- ---- what has no flaw means an item
 
 pub within_itself : (t : Tree) → Within t t

@@ -1,5 +1,5 @@
 -- A device of the proofs: what an encoder holds of a partial sequence. Each node that is whole either means something, and then its encoding stands in the buffer, or means nothing. Of public contracts that of `Encoder` alone cites it.
-use Rattle.std.specs.Prelude.{◌≡◌, ◌≢◌, ℕ, ◌+◌, ◌-◌, ◌<◌, ◌^◌, ◌⊎◌, ◌||◌, List, [], ◌∷◌, ◌++◌, map, length, Bool, true, false, Option, None, Some, IsPermutation, ◌%◌, ◌==◌, min, ⊤}
+use Rattle.std.specs.Prelude.{◌≡◌, ◌≢◌, ℕ, ◌+◌, ◌^◌, ◌⊎◌, ◌||◌, List, [], ◌∷◌, ◌++◌, map, length, Bool, true, false, Option, None, Some, IsPermutation, ◌%◌, ◌==◌, ⊤}
 use Rattle.std.proofs.Common.{not}
 use Rattle.std.specs.List.{AllZip, AllByRecursion}
 use Rattle.std.specs.declared.cmp.Ordering.{Ordering}

@@ -48,7 +48,7 @@ value_next [] t k e = cc
 value_next (l ∷ []) t k e = let same : l ≡ k = cc in (ap (λ l. (l, t) ∷ []) same, refl)
 value_next (l ∷ v ∷ ts) t k e = let h = value_next ts t k e in (ap (λ m. (l, v) ∷ m) h.0, h.1)
 
-pairs_spelled : (ts : List Tree) → last_key ts ≡ None → spelled_entries (entries (paired ts)) ≡ spelled_all (trees ts)
+pub pairs_spelled : (ts : List Tree) → last_key ts ≡ None → spelled_entries (entries (paired ts)) ≡ spelled_all (trees ts)
 pairs_spelled [] e = refl
 pairs_spelled (k ∷ []) e = cc
 pairs_spelled (k ∷ v ∷ ts) e = ap (λ x. spelled k ++ spelled v ++ x) (pairs_spelled ts e) ∙ append_assoc (spelled k) (spelled v) (spelled_all (trees ts))

@@ -1,9 +1,9 @@
 -- A head that was read at the front of bytes, and what is after it.
-use Rattle.std.proofs.Common.{◌≡◌, ℕ, List, ◌∷◌, ◌++◌, drop, sym, ap, ◌∙◌, append_assoc, append-nil, drop_at}
+use Rattle.std.proofs.Common.{◌≡◌, ℕ, List, ◌++◌, drop, sym, ap, ◌∙◌, append_assoc, append-nil, drop_at}
 use Rattle.cborn_model.specs.declared.heads.Major.{Major}
-use Rattle.cborn_model.specs.declared.heads.Size.TheVariants.{Fixed, Endless}
+use Rattle.cborn_model.specs.declared.heads.Size.TheVariants.{Fixed}
 use Rattle.cborn_model.specs.declared.heads.Width.{Width}
-use Rattle.cborn_model.specs.Heads.{Given, EndlessArgument, head}
+use Rattle.cborn_model.specs.Heads.{Given, head}
 use Rattle.cborn_model.specs.Spelled.{ending}
 use Rattle.cborn_wire.specs.declared.heads.Argument.{Argument}
 use Rattle.cborn_wire.specs.declared.heads.Head.{Head}
@@ -24,10 +24,3 @@ pub fixed_split : (m : Major) (w : Width) (body rest : List ℕ) {n count : ℕ}
 fixed_split m w body rest {count = count} c e =
     let front : List ℕ = head m (Given w count) in
     (λ i. head m (Given w (sym c i)) ++ e i) ∙ sym (append_assoc front body rest) ∙ ap (λ z. z ++ rest) (sym (append-nil (front ++ body)))
-
-pub endless_split : (m : Major) (body : List ℕ) {input after rest : List ℕ} → input ≡ body ++ after → after ≡ 255 ∷ rest → head m EndlessArgument ++ input ≡ ((head m EndlessArgument ++ body) ++ ending Endless) ++ rest
-endless_split m body {rest = rest} e f =
-    let front : List ℕ = head m EndlessArgument in
-    ap (λ z. front ++ z) (e ∙ ap (λ z. body ++ z) f) ∙ sym (append_assoc front body (255 ∷ rest)) ∙ sym (append_assoc (front ++ body) (ending Endless) rest)
-
--- ---- places

@@ -1,5 +1,12 @@
-use Rattle.cborn_wire.proofs.Spelled.Spellings.{all_spelled}
+use Rattle.std.proofs.Common.{[], ◌∷◌, ◌++◌, sym, ap, ◌∙◌, subst, take}
+use Rattle.std.proofs.lemmas.List.{take_more}
+use Rattle.cborn_model.specs.Partial.{top, no_part}
+use Rattle.cborn_wire.specs.shared.Spelling.{IsWritten}
 use Rattle.cborn_wire.proofs.spelling.spell_all.Goals as goal
 
-pub returns : goal.returns
-returns c = all_spelled c.args.items.now c.loop-item.item-index c.loop-item.out.items c.loop-item-test.false c.loop-item.invariant
+pub loop-item-preserved : goal.loop-item-preserved
+loop-item-preserved c =
+    let xs = c.args.items.now in
+    let i = c.loop-item.item-index in
+    subst (λ ts. IsWritten c.visit_node.new.visitor (top ts) no_part) (ap (λ t. take i xs ++ t ∷ []) (c.node.ensures.same ∙ c.item-item.is) ∙ sym (take_more xs i c.item-item.result c.loop-item-test.true))
+    (c.in_ok-visit_node.ensures.held (top (take i xs)) (tt, tt) c.loop-item.invariant)

@@ -1,0 +1,99 @@
+-- What the visitor which writes bytes holds, as nodes become whole and containers are opened and ended.
+use Rattle.std.proofs.Common.{◌≡◌, refl, sym, ap, ◌∙◌, subst, ℕ, ◌+◌, ◌*◌, ◌/◌, ◌%◌, ◌^◌, ◌<◌, List, [], ◌∷◌, ◌++◌, length, take, drop, Option, Some, None, arith, append_assoc, append-nil, length-append, take_at, drop_at}
+use Rattle.cborn_model.specs.declared.heads.Major.{Major}
+use Rattle.cborn_model.specs.declared.heads.Major.TheVariants.{Array, Map, Tag}
+use Rattle.cborn_model.specs.declared.heads.Size.{Size}
+use Rattle.cborn_model.specs.declared.heads.Size.TheVariants.{Fixed, Endless}
+use Rattle.cborn_model.specs.declared.heads.Width.{Width}
+use Rattle.cborn_model.specs.Heads.{code, Given, head, argument}
+use Rattle.cborn_model.specs.Tree.{Tree, trees}
+use Rattle.cborn_model.specs.Spelled.{ending, spelled, spelled_all}
+use Rattle.cborn_model.specs.Partial.{Opening, an_array, a_map, a_tag, in_chunks, Partial, top, inside, put, paired, built, ended_size, IsAll, Ends}
+use Rattle.cborn_model.proofs.Lengths.{no_more_nodes}
+use Rattle.cborn_model.proofs.Listed.Trees.{count-trees, count_entries-entries}
+use Rattle.cborn_wire.specs.Slots.{announced, opening, opened, beginning}
+use Rattle.cborn_wire.specs.declared.spellers.OpenSpelling.{OpenSpelling}
+use Rattle.cborn_wire.specs.declared.spellers.Speller.{Speller}
+use Rattle.cborn_wire.specs.shared.Spelling.{written, shape, sized_ending, ending_at, counted, innermost_of, outer_of, Stands, with_head, entries_in, IsEnded}
+use Rattle.cborn_wire.proofs.Machine.Containers.{pair_count, pairs_spelled, built_spelled}
+use Rattle.cborn_wire.proofs.Spelled.TreeLists.{trees-append, spelled_all-append}
+
+-- ---- one more node
+
+nodes_put : (ts : List Tree) (t : Tree) → spelled_all (trees (ts ++ t ∷ [])) ≡ spelled_all (trees ts) ++ spelled t
+nodes_put ts t = ap spelled_all (trees-append ts (t ∷ [])) ∙ spelled_all-append (trees ts) (trees (t ∷ [])) ∙ ap (λ l. spelled_all (trees ts) ++ l) (append-nil (spelled t))
+
+written_put : (f : Partial) (t : Tree) → written (put f t) ≡ written f ++ spelled t
+written_put (top ts) t = nodes_put ts t
+written_put (inside f o ts) t =
+    ap (λ l. written f ++ (opening o ++ l)) (nodes_put ts t)
+    ∙ ap (λ l. written f ++ l) (sym (append_assoc (opening o) (spelled_all (trees ts)) (spelled t)))
+    ∙ sym (append_assoc (written f) (beginning (opened o ts)) (spelled t))
+
+counted_push : (ts : List Tree) (t : Tree) → counted (length (ts ++ t ∷ [])) ≡ (counted (length ts) + 1) % 2 ^ 64
+counted_push ts t = omega (arith, length-append ts (t ∷ []))
+
+innermost_put : (f : Partial) (t : Tree) → innermost_of (put f t) ≡ record (innermost_of f) { nodes = ((innermost_of f).nodes + 1) % 2 ^ 64 }
+innermost_put (top ts) t = ap (λ n. record (innermost_of (top ts)) { nodes = n }) (counted_push ts t)
+innermost_put (inside f o ts) t = ap (λ n. record (innermost_of (inside f o ts)) { nodes = n }) (counted_push ts t)
+
+outer_put : (f : Partial) (t : Tree) → outer_of (put f t) ≡ outer_of f
+outer_put (top ts) t = refl
+outer_put (inside f o ts) t = refl
+
+-- a node whose bytes are written is counted
+pub node_counted : (old new : Speller) (f : Partial) (t : Tree) → new.out.items ≡ old.out.items → new.innermost ≡ record old.innermost { nodes = (old.innermost.nodes + 1) % 2 ^ 64 } → new.outer.items ≡ old.outer.items
+    → Stands old f (spelled t) → Stands new (put f t) []
+node_counted old new f t out inner outer s = (
+  out ∙ s.0 ∙ sym (written_put f t) ∙ sym (append-nil (written (put f t))),
+  inner ∙ ap (λ (u : OpenSpelling). record u { nodes = (u.nodes + 1) % 2 ^ 64 }) s.1 ∙ sym (innermost_put f t),
+  outer ∙ s.2 ∙ sym (outer_put f t),
+)
+
+-- ---- a container ends
+
+-- the head in the place of a byte
+head_placed : (m : Major) (w : Width) (n b : ℕ) (front body x y : List ℕ) → x ≡ front ++ (b ∷ body) → (length front < length x → y ≡ with_head m w n (length front) x)
+    → y ≡ front ++ (head m (argument (ended_size (Fixed w) None n) n) ++ body)
+head_placed m w n b front body x y is done =
+    let before : take (length front) x ≡ front = ap (take (length front)) is ∙ take_at front (b ∷ body) (length front) refl in
+    let all : x ≡ (front ++ b ∷ []) ++ body = is ∙ sym (append_assoc front (b ∷ []) body) in
+    let here : length (front ++ b ∷ []) ≡ length front + 1 = length-append front (b ∷ []) in
+    let after : drop (length front + 1) x ≡ body = ap (drop (length front + 1)) all ∙ drop_at (front ++ b ∷ []) body (length front + 1) here in
+    done (omega (arith, ap length is, length-append front (b ∷ body))) ∙ (λ i. before i ++ (head m (argument (ended_size (Fixed w) None n) n) ++ after i))
+
+-- an array or a map of n items or pairs
+sized_ended : (m : Major) (s : Size) (c : Option ℕ) (k n : ℕ) (front body x y : List ℕ) → entries_in m k ≡ n → IsAll c n → x ≡ front ++ (head m (announced s c) ++ body) → IsEnded (sized_ending m s c (length front)) k x y
+    → y ≡ front ++ (head m (argument (ended_size s c n) n) ++ body ++ ending (ended_size s c n))
+sized_ended m (Fixed w) None k n front body x y count all is done =
+    let start = head m (argument (ended_size (Fixed w) None n) n) in
+    head_placed m w n (32 * code m + 31) front body x y is (subst (λ j. length front < length x → y ≡ with_head m w j (length front) x) count done) ∙ ap (λ l. front ++ l) (sym (append-nil (start ++ body)))
+sized_ended m (Fixed w) (Some j) k n front body x y count all is done =
+    done ∙ is ∙ ap (λ i. front ++ (head m (Given w i) ++ body)) (sym all) ∙ ap (λ l. front ++ l) (sym (append-nil (head m (Given w n) ++ body)))
+sized_ended m Endless c k n front body x y count all is done =
+    done ∙ ap (λ l. l ++ ending Endless) is ∙ append_assoc front (head m (announced Endless c) ++ body) (ending Endless)
+
+-- Fewer nodes than 2^64 are whole in it, since each has a byte.
+all_counted : (ts : List Tree) (front start x : List ℕ) → length x < 2 ^ 64 → x ≡ front ++ (start ++ spelled_all (trees ts)) → counted (length ts) ≡ length ts
+all_counted ts front start x few is =
+    omega (arith, few, no_more_nodes ts, ap length is, length-append front (start ++ spelled_all (trees ts)), length-append start (spelled_all (trees ts)))
+
+-- what is written once a container has ended
+pub container_ended : (f : Partial) (o : Opening) (ts : List Tree) (x y : List ℕ) → Ends o ts → length x < 2 ^ 64 → x ≡ written (inside f o ts) → IsEnded (ending_at (shape o) (length (written f))) (counted (length ts)) x y → y ≡ written f ++ spelled (built o ts)
+container_ended f (an_array p s c) ts x y ends few is done =
+    rw (count-trees ts) (sized_ended Array s c (counted (length ts)) (length ts) (written f) (spelled_all (trees ts)) x y (all_counted ts (written f) (opening (an_array p s c)) x few is) ends is done)
+container_ended f (a_map p s c) ts x y ends few is done =
+    let many : counted (length ts) / 2 ≡ length (paired ts) = ap (λ n. n / 2) (all_counted ts (written f) (opening (a_map p s c)) x few is) ∙ sym (pair_count ts) in
+    rw (count_entries-entries (paired ts), pairs_spelled ts ends.1) (sized_ended Map s c (counted (length ts)) (length (paired ts)) (written f) (spelled_all (trees ts)) x y many ends.0 is done)
+container_ended f (a_tag p w n) ts x y (t, one) few is done =
+    subst (λ us. y ≡ written f ++ spelled (built (a_tag p w n) us)) (sym one)
+    (done ∙ is ∙ ap (λ us. written f ++ (head Tag (Given w n) ++ spelled_all (trees us))) one ∙ ap (λ l. written f ++ (head Tag (Given w n) ++ l)) (append-nil (spelled t)))
+container_ended f (in_chunks p k) ts x y ends few is done =
+    done ∙ ap (λ l. l ++ ending Endless) is ∙ append_assoc (written f) (beginning (opened (in_chunks p k) ts)) (ending Endless) ∙ ap (λ l. written f ++ l) (sym (built_spelled (in_chunks p k) ts tt ends))
+
+pub container_left : (old left : Speller) (f : Partial) (o : Opening) (ts : List Tree) (y : List ℕ) → Ends o ts → length old.out.items < 2 ^ 64 → left.out.items ≡ old.out.items → ((around : OpenSpelling) (outer : List OpenSpelling) → old.outer.items ≡ outer ++ around ∷ [] → (left.innermost ≡ around) × (left.outer.items ≡ outer))
+    → IsEnded old.innermost.ending old.innermost.nodes left.out.items y → Stands old (inside f o ts) [] → (y ≡ written f ++ spelled (built o ts)) × (left.innermost ≡ innermost_of f) × (left.outer.items ≡ outer_of f)
+container_left old left f o ts y ends few same leave done (out, innermost, outer) =
+    let around = leave (innermost_of f) (outer_of f) outer in
+    let owed : IsEnded (ending_at (shape o) (length (written f))) (counted (length ts)) old.out.items y = subst (λ (u : OpenSpelling). IsEnded u.ending u.nodes old.out.items y) innermost (subst (λ (x : List ℕ). IsEnded old.innermost.ending old.innermost.nodes x y) same done) in
+    (container_ended f o ts old.out.items y ends few (out ∙ append-nil (written (inside f o ts))) owed, around.0, around.1)
