@@ -45,10 +45,6 @@ MORE = {
     **{(name, command): 6 for name in GREAT_MAPS for command in ("normalise", "show", "to notation")},
     **{(name, "check"): 7.5 for name in GREAT_MAPS},
     **{(name, "show"): 5 for name in REFUSED_LATE},
-    # what a text spells is written beside what it is encoded as, with its heads as wide as it asks for
-    ("text, wide heads", "normalise"): 3,
-    ("text, wide heads", "profile 2"): 3,
-    ("text, wide heads", "compare"): 4,
 }
 COMMANDS = {
     "normalise": ["normalise"],

@@ -1,8 +1,8 @@
--- What the visitor was handed, as one token after another is taken.
-pub mod Outside
+-- What was handed over, as one token after another is taken.
+pub mod Handing
+pub mod Fits
 pub mod Silent
 pub mod Openings
 pub mod Closings
-pub mod Fits
-pub mod Numbers
 pub mod Strings
+pub mod Fitting

@@ -10,10 +10,10 @@ pub mod Said
 pub mod Parse
 pub mod Ahead
 pub mod Modest
-pub mod Laid
 pub mod Noted
 pub mod Kept
 pub mod Shows
+pub mod Events
 pub mod Handed
 pub mod Steps
 pub mod Reading

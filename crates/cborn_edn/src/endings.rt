@@ -10,8 +10,7 @@ ghost use Rattle.cborn_edn.specs.devices.Handed.{Reads};
 ghost use Rattle.cborn_edn.specs.devices.Steps as pure;
 ghost use Rattle.cborn_edn.specs.devices.Steps.{MayEnd, Turned, Taken};
 
-use crate::closings::{close_embedded, colon, comma, comma_of_pairs};
-use crate::handing::{close_array, close_map, close_tag};
+use crate::containers::{close_embedded, close_sized, close_tag, colon, comma, comma_of_pairs};
 use crate::states::{Chunks, Here, Level, Phase, Writer};
 use cborn_lex::Mark;
 use cborn_model::Visitor;
@@ -93,14 +92,14 @@ pub(crate) fn end_array<V: Visitor>(
     visitor: &mut V,
 ) -> Result<bool, AllocError>
     requires few { here.old.count < 2 ^ 63 }
-    requires shows { (s : State) × MayEnd s × Reads (V.holds visitor.old) here.old writer.old writer.old.out.items s }
-    ensures taken { IfOk result (λ ok. (s : State) (a : Place) → MayEnd s → Reads (V.holds visitor.old) here.old writer.old writer.old.out.items s → Taken (V.holds visitor.new) ok s ArrayClose a here.new writer.new) }
+    requires shows { (s : State) × MayEnd s × Reads (V.holds visitor.old) here.old writer.old writer.old.pieces.items s }
+    ensures taken { IfOk result (λ ok. (s : State) (a : Place) → MayEnd s → Reads (V.holds visitor.old) here.old writer.old writer.old.pieces.items s → Taken (V.holds visitor.new) ok s ArrayClose a here.new writer.new) }
     ensures kept { IfOk result (λ ok. ok ≡ false → (here.new ≡ here.old) × (writer.new ≡ writer.old) × (visitor.new ≡ visitor.old)) }
 {
     if !is_array(here.level) {
         return Ok(false);
     }
-    close_array(here, writer, visitor)?;
+    close_sized(here, writer, visitor)?;
     Ok(true)
 }
 
@@ -112,29 +111,35 @@ pub(crate) fn end_map<V: Visitor>(
     visitor: &mut V,
 ) -> Result<bool, AllocError>
     requires few { here.old.count < 2 ^ 63 }
-    requires shows { (s : State) × MayEnd s × Reads (V.holds visitor.old) here.old writer.old writer.old.out.items s }
-    ensures taken { IfOk result (λ ok. (s : State) (a : Place) → MayEnd s → Reads (V.holds visitor.old) here.old writer.old writer.old.out.items s → Taken (V.holds visitor.new) ok s MapClose a here.new writer.new) }
+    requires shows { (s : State) × MayEnd s × Reads (V.holds visitor.old) here.old writer.old writer.old.pieces.items s }
+    ensures taken { IfOk result (λ ok. (s : State) (a : Place) → MayEnd s → Reads (V.holds visitor.old) here.old writer.old writer.old.pieces.items s → Taken (V.holds visitor.new) ok s MapClose a here.new writer.new) }
     ensures kept { IfOk result (λ ok. ok ≡ false → (here.new ≡ here.old) × (writer.new ≡ writer.old) × (visitor.new ≡ visitor.old)) }
 {
     if !ends_map(here.phase, here.level) {
         return Ok(false);
     }
-    close_map(here, writer, visitor)?;
+    close_sized(here, writer, visitor)?;
     Ok(true)
 }
 
 /// Ends a `<<` with a `>>` at `place`, if one may end there.
 #[inline(always)]
-pub(crate) fn end_embedded(mark: Mark, place: usize, here: &mut Here, writer: &mut Writer) -> bool
-    requires { (s : State) × MayEnd s × Shows here.old writer.old writer.old.out.items s }
-    ensures taken { (s : State) (a : Place) → place ≡ a.start → MayEnd s → Shows here.old writer.old writer.old.out.items s → Turned result s (EmbedClose mark) a here.new writer.new }
-    ensures kept { result ≡ false → (here.new ≡ here.old) × (writer.new ≡ writer.old) }
+pub(crate) fn end_embedded<V: Visitor>(
+    mark: Mark,
+    place: usize,
+    here: &mut Here,
+    writer: &mut Writer,
+    visitor: &mut V,
+) -> Result<bool, AllocError>
+    requires { (s : State) × MayEnd s × Reads (V.holds visitor.old) here.old writer.old writer.old.pieces.items s }
+    ensures taken { IfOk result (λ ok. (s : State) (a : Place) → place ≡ a.start → MayEnd s → Reads (V.holds visitor.old) here.old writer.old writer.old.pieces.items s → Taken (V.holds visitor.new) ok s (EmbedClose mark) a here.new writer.new) }
+    ensures kept { IfOk result (λ ok. ok ≡ false → (here.new ≡ here.old) × (writer.new ≡ writer.old) × (visitor.new ≡ visitor.old)) }
 {
     if !is_embedded(here.level) {
-        return false;
+        return Ok(false);
     }
-    close_embedded(mark, place, here, writer);
-    true
+    close_embedded(mark, place, here, writer)?;
+    Ok(true)
 }
 
 /// Ends a tag with a `)` after an item, if one may end there.
@@ -144,8 +149,8 @@ pub(crate) fn end_tag<V: Visitor>(
     writer: &mut Writer,
     visitor: &mut V,
 ) -> Result<bool, AllocError>
-    requires { (st : Stack) × (i : Item) × Reads (V.holds visitor.old) here.old writer.old writer.old.out.items (has st i) }
-    ensures taken { IfOk result (λ ok. (st : Stack) (i : Item) (a : Place) → Reads (V.holds visitor.old) here.old writer.old writer.old.out.items (has st i) → Taken (V.holds visitor.new) ok (has st i) ParenClose a here.new writer.new) }
+    requires { (st : Stack) × (i : Item) × Reads (V.holds visitor.old) here.old writer.old writer.old.pieces.items (has st i) }
+    ensures taken { IfOk result (λ ok. (st : Stack) (i : Item) (a : Place) → Reads (V.holds visitor.old) here.old writer.old writer.old.pieces.items (has st i) → Taken (V.holds visitor.new) ok (has st i) ParenClose a here.new writer.new) }
     ensures kept { IfOk result (λ ok. ok ≡ false → (here.new ≡ here.old) × (writer.new ≡ writer.old) × (visitor.new ≡ visitor.old)) }
 {
     if !is_tag(here.level) {
@@ -158,7 +163,7 @@ pub(crate) fn end_tag<V: Visitor>(
 /// Takes a colon after an item, if the item is a key.
 #[inline(always)]
 pub(crate) fn end_key(here: &mut Here, writer: &Writer) -> bool
-    ensures taken { (st : Stack) (i : Item) (a : Place) → Shows here.old writer.now writer.now.out.items (has st i) → Turned result (has st i) Colon a here.new writer.now }
+    ensures taken { (st : Stack) (i : Item) (a : Place) → Shows here.old writer.now writer.now.pieces.items (has st i) → Turned result (has st i) Colon a here.new writer.now }
     ensures kept { result ≡ false → here.new ≡ here.old }
 {
     if !is_key(here.level) {
@@ -172,7 +177,7 @@ pub(crate) fn end_key(here: &mut Here, writer: &Writer) -> bool
 #[inline(always)]
 pub(crate) fn end_entry(here: &mut Here, writer: &Writer) -> bool
     requires { here.old.count < 2 ^ 63 }
-    ensures taken { (st : Stack) (i : Item) (a : Place) → Shows here.old writer.now writer.now.out.items (has st i) → Turned result (has st i) Comma a here.new writer.now }
+    ensures taken { (st : Stack) (i : Item) (a : Place) → Shows here.old writer.now writer.now.pieces.items (has st i) → Turned result (has st i) Comma a here.new writer.now }
     ensures kept { result ≡ false → here.new ≡ here.old }
 {
     if is_value(here.level) {

@@ -4,7 +4,7 @@
 //! ```text
 //! text    [1, "a" h'62'_1]
 //! tokens  [ 1 , "a" h'62'_1 ]     `cborn_lex` reads them, one at a time
-//! bytes   82 01 79 00 02 61 62    written while the tokens are read
+//! bytes   82 01 79 00 02 61 62    a visitor writes them
 //! nodes   Items of Uint and Text: the string "ab", whose length takes two bytes
 //! ```
 //!
@@ -49,30 +49,26 @@
 //!
 //! # The reader
 //!
-//! The head of an array, a map or a string depends on its count or length, which is known only at
-//! its end. So where one begins, one byte is written in the place of its head, and its content
-//! after that byte. Where it ends, its head takes the place of the byte, and the content is moved
-//! if the head is longer. An array or a map of indefinite length has its head at once, and a break
-//! at its end.
+//! What is read is handed to a visitor at once, as events: a head, a whole string, or the end of a
+//! container. No byte is written, but for the pieces of a string that is open. How many items an array
+//! has, or pairs a map, is known where it ends.
 //!
-//! An item is also handed to a visitor, head by head, as it is written. What is embedded in `<<..>>`
-//! isn't: it is the content of a string, which is handed over at the string's end.
+//! What is embedded in `<<..>>` is the content of a string. So it goes to a visitor of its own, which
+//! writes the bytes that it spells, and these are a piece of the string.
 //!
-//! A meaning error doesn't stop the reader. It keeps the first one and writes on, and of a number
-//! that doesn't fit its place it writes the low bits. So it still finds a later syntax error, which
-//! is reported in place of the meaning error. But nothing is handed to the visitor any more, since
-//! the text notates nothing.
+//! A meaning error doesn't stop the reader. It keeps the first one and reads on, but hands nothing over
+//! any more, since the text notates nothing. So it still finds a later syntax error, which is reported
+//! in place of the meaning error.
 //!
 //! Read the modules in this order:
 //!
 //! - `passes`: the loop over the tokens, and the answer at the end of the text.
-//! - `states`: what is kept: the phase, the open brackets, the string that is read, the output.
-//! - `tokens`: one token is read, and the content of a string is written to the output.
-//! - `steps`: the grammar: what each token does in each phase. `openings`, `endings`, `closings`,
-//!   `strings` and `numbers` change what is kept and write the output. `meaning_errors` keeps the
-//!   first meaning error, and `refusals` reports syntax errors.
-//! - `handing` and `handed_strings`: what they write is handed to the visitor.
-//! - `heads`: a head is written at the end of a buffer, or in the place of a byte.
+//! - `states`: what is kept: the phase, the open brackets, and the string that is read.
+//! - `events`: what a visitor is handed. `handing`: to whom it goes. `spellers`: what writes the bytes
+//!   that are embedded.
+//! - `steps`: the grammar: what each token does in each phase. `tokens` says how deep a token goes.
+//!   `endings`, `containers`, `strings` and `numbers` change what is kept, and hand over. `meaning_errors`
+//!   keeps the first meaning error, and `refusals` reports syntax errors.
 //! - `white_space`, `marks`, `integers`, `words` and `texts`: frequent tokens are found in a text
 //!   without the lexer. `quick`, `quick_items` and `quick_ends` take them at once, and leave all
 //!   others to `tokens` and `steps`. They are for speed alone.
@@ -82,23 +78,21 @@
 //!
 //! The proofs use a second form of the grammar: trees (`specs/devices/Syntax.antt`), and a machine
 //! that takes one token after another and builds a tree (`Machine.antt`). What the reader keeps
-//! shows a state of the machine (`Shows.antt`), as does what the visitor holds (`Handed.antt`), and a
+//! shows a state of the machine (`Shows.antt`), as does what was handed over (`Handed.antt`), and a
 //! token that the reader takes is a step of the machine. The law `short_form` says that the trees and the relation agree.
 #![tactic(auto)]
 
-mod closings;
+mod containers;
 mod endings;
+mod events;
 mod faults;
-mod handed_strings;
 mod handing;
-mod heads;
 mod integers;
 pub mod laws;
 mod marks;
 mod meaning_errors;
 mod notators;
 mod numbers;
-mod openings;
 mod passes;
 mod quick;
 mod quick_ends;
@@ -107,6 +101,7 @@ mod readers;
 mod refusals;
 mod showing;
 mod shown_bytes;
+mod spellers;
 mod states;
 mod steps;
 mod strings;

@@ -1,27 +1,25 @@
-//! Integers, tags and simple values: their heads, and what is wrong with their indicators.
+//! Integers, tags and simple values, and what is wrong with their indicators.
 
-ghost use Rattle.std.specs.Prelude.{◌≡◌, ◌++◌, ℕ, Bool, List, length, OnOk, if◌then◌else◌};
+ghost use Rattle.std.specs.Prelude.{◌≡◌, ◌<◌, ◌++◌, ◌∷◌, ℕ, Bool, List, OnOk};
+ghost use Rattle.std.specs.Int.Digits.{digits_of};
 ghost use Rattle.cborn_lex.specs.declared.classes.Mark.{Mark as Indicator};
 ghost use Rattle.cborn_edn.specs.devices.Syntax.{Span as Place, number, word, simple};
-ghost use Rattle.cborn_edn.specs.devices.Machine.{Stack, wants, has, wants_number, has_number};
+ghost use Rattle.cborn_edn.specs.devices.Machine.{Stack, State, wants, has, wants_number, has_number};
 ghost use Rattle.cborn_edn.specs.declared.states.Writer.{Writer as Writing};
-ghost use Rattle.cborn_edn.specs.devices.Shows.{Shows, Leads};
-ghost use Rattle.std.specs.Int.Digits.{digits_of};
-ghost use Rattle.cborn_model.specs.Heads.{code, least, Given, head, head_bytes};
-ghost use Rattle.cborn_model.specs.declared.heads.Major.TheVariants.{Tag, Other, ByteString as ByteHead};
-ghost use Rattle.cborn_model.specs.declared.heads.Width.TheVariants.{Direct};
-ghost use Rattle.cborn_model.specs.Tree.{Simple};
-ghost use Rattle.cborn_model.specs.Spelled.{spelled, string};
+ghost use Rattle.cborn_edn.specs.declared.events.Event.TheVariants.{Bignum};
+ghost use Rattle.cborn_edn.specs.devices.Shows.{Shows};
+ghost use Rattle.cborn_edn.specs.devices.Noted.{noted};
+ghost use Rattle.cborn_edn.specs.devices.Handed.{Hands, AllHanded, Reads};
 ghost use Rattle.cborn_edn.specs.Says as says;
-ghost use Rattle.cborn_edn.specs.devices.MeaningErrors.{Notes};
-ghost use Rattle.cborn_edn.specs.devices.Laid.{cut};
+ghost use Rattle.cborn_edn.specs.devices.MeaningErrors.{Notes, first_error};
 
-use crate::heads::{push_head, set_head};
-use crate::meaning_errors::{note, note_unless, note_width};
+use crate::events::Event;
+use crate::handing::hand;
+use crate::meaning_errors::{is_none, note, note_unless, note_width};
 use crate::states::{Here, Phase, Writer};
 use crate::{EdnReason, MeaningError};
 use cborn_lex::Mark;
-use cborn_model::{Major, Width, is_simple_value, shortest};
+use cborn_model::{Visitor, Width, is_simple_value, shortest};
 use std::alloc::AllocError;
 
 /// The number of a token: `magnitude`, or `-magnitude` if `negative`, with its indicator.
@@ -98,51 +96,6 @@ fn note_number(
     }
 }
 
-/// Appends an integer: `magnitude`, or `-magnitude`.
-#[inline(always)]
-fn push_number(
-    negative: bool,
-    magnitude: u128,
-    mark: Mark,
-    out: &mut Vec<u8>,
-) -> Result<(), AllocError>
-    ensures { OnOk result ((place : ℕ) → out.new.items ≡ out.old.items ++ cut (spelled (says.number_node place negative magnitude mark))) }
-{
-    let below = is_below(negative, magnitude);
-    let argument = argument_of(negative, magnitude);
-    if argument >= OUTSIDE {
-        return push_bignum(below, argument, out);
-    }
-    let n = argument as u64;
-    let major = if below {
-        Major::Negative
-    } else {
-        Major::Unsigned
-    };
-    push_head(major, width_for(mark, n), n, out)
-}
-
-/// Appends an integer outside 64 bits as a tag over the shortest bytes of its argument `n`.
-#[cold]
-#[inline(never)]
-fn push_bignum(below: bool, n: u128, out: &mut Vec<u8>) -> Result<(), AllocError>
-    ensures { OnOk result (out.new.items ≡ out.old.items ++ cut (head Tag (Given Direct (if below then 3 else 2)) ++ string ByteHead (least (length (digits_of 256 n))) (digits_of 256 n))) }
-{
-    push_head(Major::Tag, Width::Direct, bignum_tag(below), out)?;
-    let start = out.len();
-    out.push(0)?;
-    push_digits(n, out)?;
-    let len = (out.len() - start - 1) as u64;
-    set_head(Major::ByteString, shortest(len), len, start, out)
-}
-
-/// The tag number of an integer outside 64 bits: 3 below zero, else 2 (RFC 8949 section 3.4.3).
-pub(crate) fn bignum_tag(below: bool) -> u64
-    ensures { result ≡ (if below then 3 else 2) }
-{
-    if below { 3 } else { 2 }
-}
-
 /// Appends the bytes of `n`, the highest first, without leading zeros.
 fn push_digits(n: u128, out: &mut Vec<u8>) -> Result<(), AllocError>
     ensures { OnOk result (out.new.items ≡ out.old.items ++ digits_of 256 n) }
@@ -174,42 +127,11 @@ pub(crate) fn note_tag(number: u128, mark: Mark, place: usize, error: &mut Optio
     }
 }
 
-/// Appends the head of a tag. Of a number outside 64 bits the low bits are written.
-pub(crate) fn push_tag(number: u128, mark: Mark, out: &mut Vec<u8>) -> Result<(), AllocError>
-    ensures { OnOk result (out.new.items ≡ out.old.items ++ cut (head Tag (Given (says.width mark number) number))) }
+/// Notes what is wrong with the simple value of a number at `place`, whose `simple(` is at `opened`.
+fn note_simple(numeral: Numeral, opened: usize, place: usize, error: &mut Option<MeaningError>)
+    ensures { Notes error.old error.new (says.simple_errors opened place numeral.negative numeral.magnitude numeral.mark) }
 {
-    if number < OUTSIDE {
-        let n = number as u64;
-        return push_head(Major::Tag, width_for(mark, n), n, out);
-    }
-    let width = match mark {
-        Mark::Wide(width) => width,
-        _ => Width::Eight,
-    };
-    push_low(Major::Tag, width, number, out)
-}
-
-/// Appends a head whose argument is the low 64 bits of `n`.
-fn push_low(major: Major, width: Width, n: u128, out: &mut Vec<u8>) -> Result<(), AllocError>
-    ensures { OnOk result (out.new.items ≡ out.old.items ++ cut (head_bytes (code major) width n)) }
-{
-    push_head(major, width, (n % OUTSIDE) as u64, out)
-}
-
-/// Appends the simple value of a number at `place`, whose `simple(` is at `opened`, and notes what
-/// is wrong with both. If there is no such simple value, low bits of the number are written.
-pub(crate) fn push_simple(
-    numeral: Numeral,
-    opened: usize,
-    place: usize,
-    out: &mut Vec<u8>,
-    error: &mut Option<MeaningError>,
-) -> Result<(), AllocError>
-    ensures added { OnOk result (out.new.items ≡ out.old.items ++ cut (spelled (Simple opened numeral.magnitude))) }
-    ensures noted { OnOk result (Notes error.old error.new (says.simple_errors opened place numeral.negative numeral.magnitude numeral.mark)) }
-{
-    let magnitude = numeral.magnitude;
-    let good = is_simple(numeral.negative, magnitude);
+    let good = is_simple(numeral.negative, numeral.magnitude);
     note_unless(good, opened, EdnReason::BadSimple, error);
     note_unless(
         is_absent(numeral.mark),
@@ -217,11 +139,6 @@ pub(crate) fn push_simple(
         EdnReason::IndicatorNotAllowed,
         error,
     );
-    if magnitude < OUTSIDE {
-        let n = magnitude as u64;
-        return push_head(Major::Other, shortest(n), n, out);
-    }
-    push_low(Major::Other, Width::Eight, magnitude, out)
 }
 
 /// Whether there is a simple value with this number.
@@ -231,17 +148,16 @@ fn is_simple(negative: bool, magnitude: u128) -> bool
     !is_below(negative, magnitude) && magnitude < 256 && is_simple_value(magnitude as u64)
 }
 
-/// Writes an integer, which is an item.
+/// Takes an integer, which is an item.
 #[inline(always)]
-pub(crate) fn put_number(
+pub(crate) fn put_number<V: Visitor>(
     numeral: Numeral,
     place: usize,
     here: &mut Here,
     writer: &mut Writer,
+    visitor: &mut V,
 ) -> Result<(), AllocError>
-    ensures shows { OnOk result ((st : Stack) (a : Place) → place ≡ a.start → Leads here.old writer.old here.new writer.new (wants st) (has st (number a numeral.negative numeral.magnitude numeral.mark))) }
-    ensures spelled { OnOk result ((p : ℕ) → writer.new.out.items ≡ writer.old.out.items ++ cut (spelled (says.number_node p numeral.negative numeral.magnitude numeral.mark))) }
-    ensures noted { OnOk result (Notes writer.old.error writer.new.error (says.number_errors place numeral.negative numeral.magnitude numeral.mark)) }
+    ensures { OnOk result ((st : Stack) (a : Place) → place ≡ a.start → Reads (V.holds visitor.old) here.old writer.old writer.old.pieces.items (wants st) → Reads (V.holds visitor.new) here.new writer.new writer.new.pieces.items (has st (number a numeral.negative numeral.magnitude numeral.mark))) }
 {
     let Numeral {
         negative,
@@ -250,39 +166,89 @@ pub(crate) fn put_number(
     } = numeral;
     here.phase = Phase::Has;
     note_number(negative, magnitude, mark, place, &mut writer.error);
-    push_number(negative, magnitude, mark, &mut writer.out)
+    let negative = is_below(negative, magnitude);
+    let argument = argument_of(numeral.negative, magnitude);
+    if argument >= OUTSIDE {
+        return put_bignum(negative, argument, place, writer, visitor);
+    }
+    let n = argument as u64;
+    let width = width_for(mark, n);
+    let event = Event::Integer { negative, width, n };
+    let spellers = &mut writer.spellers;
+    hand(event, place, &[], writer.error, spellers, visitor)
 }
 
-/// Writes the simple value `n` of a word, which is an item.
+/// Hands over an integer outside 64 bits, whose argument is `n`.
+#[cold]
+#[inline(never)]
+fn put_bignum<V: Visitor>(
+    negative: bool,
+    n: u128,
+    place: usize,
+    writer: &mut Writer,
+    visitor: &mut V,
+) -> Result<(), AllocError>
+    ensures rest { OnOk result (writer.new ≡ record writer.old { pieces = writer.new.pieces; spellers = writer.new.spellers }) }
+    ensures pieces { OnOk result (writer.new.pieces.items ≡ writer.old.pieces.items) }
+    ensures handed { OnOk result ((s u : State) (ss : List State) → writer.old.error ≡ first_error (noted u) → Hands (Bignum negative) place (digits_of 256 n) s u → AllHanded (V.holds visitor.old) writer.old.spellers (s ∷ ss) → AllHanded (V.holds visitor.new) writer.new.spellers (u ∷ ss)) }
+{
+    let start = writer.pieces.len();
+    push_digits(n, &mut writer.pieces)?;
+    let content = &writer.pieces[start..];
+    let event = Event::Bignum { negative };
+    let spellers = &mut writer.spellers;
+    hand(event, place, content, writer.error, spellers, visitor)?;
+    writer.pieces.truncate(start);
+    Ok(())
+}
+
+/// Takes the simple value `n` of a word, which is an item.
 #[inline(always)]
-pub(crate) fn put_word(n: u8, here: &mut Here, writer: &mut Writer) -> Result<(), AllocError>
-    ensures { OnOk result ((st : Stack) (a : Place) → Leads here.old writer.old here.new writer.new (wants st) (has st (word a n))) }
+pub(crate) fn put_word<V: Visitor>(
+    n: u8,
+    place: usize,
+    here: &mut Here,
+    writer: &mut Writer,
+    visitor: &mut V,
+) -> Result<(), AllocError>
+    requires { n < 24 }
+    ensures { OnOk result ((st : Stack) (a : Place) → place ≡ a.start → Reads (V.holds visitor.old) here.old writer.old writer.old.pieces.items (wants st) → Reads (V.holds visitor.new) here.new writer.new writer.new.pieces.items (has st (word a n))) }
 {
     here.phase = Phase::Has;
-    let n = n as u64;
-    push_head(Major::Other, shortest(n), n, &mut writer.out)
+    let event = Event::Simple(n);
+    let spellers = &mut writer.spellers;
+    hand(event, place, &[], writer.error, spellers, visitor)
 }
 
-/// Writes the simple value of the number in `simple(..)`.
+/// Takes the number in `simple(..)`.
 #[inline(always)]
-pub(crate) fn put_simple(
+pub(crate) fn put_simple<V: Visitor>(
     numeral: Numeral,
     place: usize,
     here: &mut Here,
     writer: &mut Writer,
+    visitor: &mut V,
 ) -> Result<(), AllocError>
-    ensures shows { OnOk result ((st : Stack) (s a : Place) → place ≡ a.start → Leads here.old writer.old here.new writer.new (wants_number st s) (has_number st s a numeral.negative numeral.magnitude numeral.mark)) }
-    ensures noted { OnOk result (Notes writer.old.error writer.new.error (says.simple_errors writer.old.simple place numeral.negative numeral.magnitude numeral.mark)) }
-    ensures opened { writer.new.simple ≡ writer.old.simple }
+    ensures { OnOk result ((st : Stack) (s a : Place) → place ≡ a.start → Reads (V.holds visitor.old) here.old writer.old writer.old.pieces.items (wants_number st s) → Reads (V.holds visitor.new) here.new writer.new writer.new.pieces.items (has_number st s a numeral.negative numeral.magnitude numeral.mark)) }
 {
     here.phase = Phase::HasNumber;
-    push_simple(
-        numeral,
-        writer.simple,
-        place,
-        &mut writer.out,
-        &mut writer.error,
-    )
+    let opened = writer.simple;
+    note_simple(numeral, opened, place, &mut writer.error);
+    if !is_none(writer.error) {
+        return Ok(());
+    }
+    let event = Event::Simple(numeral.magnitude as u8);
+    let spellers = &mut writer.spellers;
+    hand(event, opened, &[], writer.error, spellers, visitor)
+}
+
+/// Opens `simple(` at `place`.
+pub(crate) fn open_simple(place: usize, here: &mut Here, writer: &mut Writer)
+    ensures shows { (st : Stack) (a : Place) → place ≡ a.start → Shows here.old writer.old writer.old.pieces.items (wants st) → Shows here.new writer.new writer.new.pieces.items (wants_number st a) }
+    ensures spellers { writer.new.spellers ≡ writer.old.spellers }
+{
+    writer.simple = place;
+    here.phase = Phase::WantsNumber;
 }
 
 /// Ends `simple(..)`, which is then an item.

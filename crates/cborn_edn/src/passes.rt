@@ -1,4 +1,4 @@
-//! A whole text, read token by token: its bytes, or why it has none.
+//! A whole text, read token by token: its nodes, handed to a visitor, or why it has none.
 
 ghost use Rattle.std.specs.Prelude.{◌≡◌, ◌≤◌, ◌<◌, ◌^◌, List, [], length, IfOk, IfErr, OnOk};
 ghost use Rattle.cborn_edn.specs.Faults.{IsNoNotation};
@@ -8,26 +8,25 @@ ghost use Rattle.cborn_model.specs.Spelled.{FitsAll};
 ghost use Rattle.cborn_model.specs.Partial.{top, no_part};
 ghost use Rattle.cborn_edn.specs.Grammar.{Notates};
 ghost use Rattle.cborn_edn.specs.Spelling.{IsSpelling};
-ghost use Rattle.cborn_edn.specs.devices.Handed.{Reads, IsSpelledTo};
+ghost use Rattle.cborn_edn.specs.devices.Handed.{Reads};
 ghost use Rattle.cborn_edn.specs.devices.Reading as pure;
 ghost use Rattle.cborn_edn.specs.devices.Reading.{IsReading, Judged, Last, AtEnd};
-ghost use Rattle.cborn_edn.specs.devices.Modest.{AreModest};
 ghost use Rattle.cborn_edn.specs.devices.Syntax.{Input};
-ghost use Rattle.cborn_edn.specs.devices.Machine.{held};
 ghost use Rattle.cborn_edn.specs.devices.Shows.{Shows};
 
 use crate::endings::has_chunks;
-use crate::handed_strings::end_item;
 use crate::quick::take_common;
 use crate::quick_ends::take_empty_end;
 use crate::refusals::{first_fault, refused};
+use crate::spellers::Spellers;
 use crate::states::{Arounds, Brackets, Chunks, Here, Level, Phase, Writer};
 use crate::steps::take;
-use crate::tokens::{is_trailing_comma, reach_of, read_token};
+use crate::strings::end_item;
+use crate::tokens::{is_trailing_comma, reach_of};
 use crate::{EdnFault, EdnReason};
-use cborn_lex::Profile;
+use cborn_lex::{Profile, next_token};
 use cborn_model::{Limit, Visitor};
-use cborn_wire::Nothing;
+use cborn_wire::Speller;
 use std::alloc::{AllocError, Global};
 
 /// The bytes that the nodes spell which `text` notates in that profile of the notation, none of
@@ -47,7 +46,10 @@ pub fn read_text(
     ensures spelled { IfOk result (λ bytes. IsSpelling profile limit text.now bytes.items) }
     ensures refused { IfErr result (IsNoNotation profile limit text.now) }
 {
-    read_to(alloc, limit, profile, text, &mut Nothing)
+    // Most texts spell fewer bytes than half of theirs.
+    let mut speller = Speller::with_room(alloc, text.len() / 2)?;
+    visit_text(alloc, limit, profile, text, &mut speller)?;
+    Ok(speller.finish())
 }
 
 /// Hands the nodes that `text` notates in that profile of the notation, none of them deeper than
@@ -58,6 +60,7 @@ pub fn read_text(
 ///
 /// # Errors
 /// Those of [`read_text`]. Then nothing is known of the visitor.
+#[tactic(auto, using(crate::proofs::Reader::Ending::first_reads))]
 pub fn visit_text<V: Visitor>(
     alloc: Global,
     limit: Limit,
@@ -69,45 +72,28 @@ pub fn visit_text<V: Visitor>(
     ensures nodes { OnOk result ((nodes : List Tree) × V.holds visitor.new (top nodes) no_part × Notates profile limit text.now (trees nodes) × FitsAll (trees nodes)) }
     ensures refused { IfErr result (IsNoNotation profile limit text.now) }
 {
-    read_to(alloc, limit, profile, text, visitor)?;
-    Ok(())
-}
-
-/// The bytes that the nodes of a text spell, which are handed to a visitor that was handed nothing.
-///
-/// # Errors
-/// Those of `read_text`.
-fn read_to<V: Visitor>(
-    alloc: Global,
-    limit: Limit,
-    profile: Profile,
-    text: &str,
-    visitor: &mut V,
-) -> Result<Vec<u8>, EdnFault>
-    requires { V.holds visitor.old (top []) no_part }
-    ensures spelled { IfOk result (λ bytes. IsSpelledTo (V.holds visitor.new) profile limit text.now bytes.items) }
-    ensures refused { IfErr result (IsNoNotation profile limit text.now) }
-{
-    // Most texts spell fewer bytes than half of theirs.
-    let mut writer = Writer::new(alloc, text.len() / 2)?;
+    let mut writer = Writer::new(alloc);
     let here = read_tokens(alloc, limit, profile, text, &mut writer, visitor)?;
     finish(limit, profile, text, here, writer, visitor)
 }
 
 impl Writer {
-    /// Nothing is written, with room for `room` bytes.
-    pub(crate) fn new(alloc: Global, room: usize) -> Result<Writer, AllocError>
-        ensures { IfOk result (λ w. Shows Here.FIRST w w.out.items start) }
+    /// Nothing is open.
+    pub(crate) fn new(alloc: Global) -> Writer
+        ensures shows { Shows Here.FIRST result result.pieces.items start }
+        ensures spellers { result.spellers ≡ [] }
     {
-        Ok(Writer {
-            out: Vec::with_capacity(alloc, room)?,
+        Writer {
+            pieces: Vec::new(alloc),
+            start: 0,
             brackets: Brackets::new(alloc),
             around: Arounds::new(alloc),
+            spellers: Spellers::new(alloc),
             string: None,
             chunks: None,
             simple: 0,
             error: None,
-        })
+        }
     }
 }
 
@@ -120,7 +106,7 @@ fn read_tokens<V: Visitor>(
     writer: &mut Writer,
     visitor: &mut V,
 ) -> Result<Here, EdnFault>
-    requires { Reads (V.holds visitor.old) Here.FIRST writer.old writer.old.out.items start }
+    requires { Reads (V.holds visitor.old) Here.FIRST writer.old writer.old.pieces.items start }
     ensures read { IfOk result (λ here. IsReading (V.holds visitor.new) profile limit text.now here writer.new) }
     ensures whole { IfOk result (λ here. here.at ≡ length text.now) }
     ensures refused { IfErr result (IsNoNotation profile limit text.now) }
@@ -174,25 +160,17 @@ fn step<V: Visitor>(
     ensures further { OnOk result (here.old.at < here.new.at) }
     ensures refused { IfErr result (IsNoNotation profile limit text.now) }
 {
-    let start = bounded_len(&writer.out);
+    let _len = bounded_len(text);
     let (at, phase) = (here.at, here.phase);
     let mut number: u128 = 0;
-    let found = read_token(
-        alloc,
-        profile,
-        text,
-        at,
-        phase,
-        &mut number,
-        &mut writer.out,
-    )?;
+    let found = next_token(alloc, profile, text, at, &mut number, &mut writer.pieces)?;
     let Some(token) = found else {
         here.at = text.len();
         return Ok(());
     };
     let reach = reach_of(writer.brackets.count(), token.kind, number);
     let trailing = is_trailing_comma(profile, phase, token.kind);
-    let taken = take(token, number, start, here, writer, visitor)?;
+    let taken = take(token, number, here, writer, visitor)?;
     if let Some(reason) = judge(trailing, taken, reach, limit) {
         let fault = refused(token.start, reason);
         return Err(first_fault(alloc, profile, text, token.stop, fault));
@@ -220,16 +198,16 @@ fn judge(trailing: bool, taken: bool, reach: u64, limit: Limit) -> Option<EdnRea
     None
 }
 
-/// How many bytes there are, which is below 2^63.
+/// The length of a text in bytes, which is below 2^63.
 #[inline(always)]
-pub(crate) fn bounded_len(out: &Vec<u8>) -> usize
-    ensures len { result ≡ length out.now.items }
+pub(crate) fn bounded_len(text: &str) -> usize
+    ensures len { result ≡ length text.now }
     ensures small { result < 2 ^ 63 }
 {
-    out.len()
+    text.len()
 }
 
-/// The bytes at the text's end, or the first meaning error, or that the text has to go on.
+/// Looks at the text's end whether there is a meaning error, or the text has to go on.
 fn finish<V: Visitor>(
     limit: Limit,
     profile: Profile,
@@ -237,10 +215,10 @@ fn finish<V: Visitor>(
     here: Here,
     writer: Writer,
     visitor: &mut V,
-) -> Result<Vec<u8>, EdnFault>
+) -> Result<(), EdnFault>
     requires reading { IsReading (V.holds visitor.old) profile limit text.now here writer }
     requires whole { here.at ≡ length text.now }
-    ensures spelled { IfOk result (λ bytes. IsSpelledTo (V.holds visitor.new) profile limit text.now bytes.items) }
+    ensures nodes { OnOk result ((nodes : List Tree) × V.holds visitor.new (top nodes) no_part × Notates profile limit text.now (trees nodes) × FitsAll (trees nodes)) }
     ensures refused { IfErr result (IsNoNotation profile limit text.now) }
 {
     if !may_end(here.phase, here.level, writer.chunks) {
@@ -248,13 +226,12 @@ fn finish<V: Visitor>(
     }
     let mut writer = writer;
     end_last(here, &mut writer, visitor)?;
-    let Writer { out, error, .. } = writer;
-    match error {
+    match writer.error {
         Some(error) => Err(EdnFault::Refused {
             place: error.place,
             reason: error.reason,
         }),
-        None => Ok(out),
+        None => Ok(()),
     }
 }
 
@@ -272,8 +249,8 @@ fn may_end(phase: Phase, level: Option<Level>, chunks: Option<Chunks>) -> bool
 
 /// Ends the last string, if the text ends with one.
 fn end_last<V: Visitor>(here: Here, writer: &mut Writer, visitor: &mut V) -> Result<(), AllocError>
-    requires { (s : State) × (t : Input) × Last s t × Reads (V.holds visitor.old) here writer.old writer.old.out.items s }
-    ensures { OnOk result ((s : State) (t : Input) → Last s t → AreModest (held s) → Reads (V.holds visitor.old) here writer.old writer.old.out.items s → AtEnd (V.holds visitor.new) t writer.new) }
+    requires { (s : State) × (t : Input) × Last s t × Reads (V.holds visitor.old) here writer.old writer.old.pieces.items s }
+    ensures { OnOk result ((s : State) (t : Input) → Last s t → Reads (V.holds visitor.old) here writer.old writer.old.pieces.items s → AtEnd (V.holds visitor.new) t writer.new) }
 {
     let mut here = here;
     if ends_string(here.phase) {

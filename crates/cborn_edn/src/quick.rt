@@ -10,9 +10,8 @@ ghost use Rattle.cborn_lex.specs.Good.{TokensBetween};
 ghost use Rattle.cborn_edn.specs.declared.states.Phase.TheVariants as phases;
 ghost use Rattle.cborn_edn.specs.devices.Reading.{IsReading};
 
-use crate::handing::put_simple;
 use crate::integers::integer_at;
-use crate::numbers::{Numeral, close_simple};
+use crate::numbers::{Numeral, close_simple, put_simple};
 use crate::quick_ends::{take_after, take_after_pieces, take_array_end, take_map_end};
 use crate::quick_items::{
     take_array, take_chunked, take_embedded, take_integer, take_map, take_negative, take_text,

@@ -7,11 +7,11 @@ ghost use Rattle.cborn_edn.specs.devices.Reading.{IsReading};
 ghost use Rattle.cborn_edn.specs.devices.Steps as pure;
 
 use crate::endings::{end_array, end_embedded, end_entry, end_key, end_map, end_tag, has_chunks};
-use crate::handed_strings::{end_chunk, end_chunks, end_item};
 use crate::marks::embed_end_at;
 use crate::passes::bounded_len;
 use crate::quick::{skip_space, take_white_space};
 use crate::states::{Here, Phase, Writer};
+use crate::strings::{end_chunk, end_chunks, end_item};
 use crate::texts::ends_string;
 use cborn_lex::Profile;
 use cborn_model::{Limit, Visitor};
@@ -63,7 +63,7 @@ fn take_comma<V: Visitor>(
     ensures on { OnOk result (here.old.at ≤ here.new.at) }
     ensures further { IfOk result (λ ok. ok ≡ true → here.old.at < here.new.at) }
 {
-    let _written = bounded_len(&writer.out);
+    let _len = bounded_len(text);
     let at = here.at;
     let taken = end_entry(here, writer);
     if taken {
@@ -118,7 +118,7 @@ pub(crate) fn take_array_end<V: Visitor>(
     ensures on { OnOk result (here.old.at ≤ here.new.at) }
     ensures further { IfOk result (λ ok. ok ≡ true → here.old.at < here.new.at) }
 {
-    let _written = bounded_len(&writer.out);
+    let _len = bounded_len(text);
     let at = here.at;
     let taken = end_array(here, writer, visitor)?;
     if taken {
@@ -145,7 +145,7 @@ pub(crate) fn take_map_end<V: Visitor>(
     ensures on { OnOk result (here.old.at ≤ here.new.at) }
     ensures further { IfOk result (λ ok. ok ≡ true → here.old.at < here.new.at) }
 {
-    let _written = bounded_len(&writer.out);
+    let _len = bounded_len(text);
     let at = here.at;
     let taken = end_map(here, writer, visitor)?;
     if taken {
@@ -226,7 +226,7 @@ fn take_embed_end<V: Visitor>(
     let Some((mark, stop)) = embed_end_at(text.as_bytes(), here.at) else {
         return Ok(false);
     };
-    let taken = end_embedded(mark, here.at, here, writer);
+    let taken = end_embedded(mark, here.at, here, writer, visitor)?;
     if taken {
         here.at = stop;
     }

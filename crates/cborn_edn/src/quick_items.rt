@@ -7,14 +7,13 @@ ghost use Rattle.cborn_edn.specs.devices.Ahead.{IsTokenAt};
 ghost use Rattle.cborn_edn.specs.declared.states.Phase.TheVariants as phases;
 ghost use Rattle.cborn_edn.specs.devices.Reading.{IsReading};
 
-use crate::handed_strings::hand_text;
-use crate::handing::{open_array, open_map, open_tag, put_number, put_word};
+use crate::containers::{open_array, open_embedded, open_map, open_tag};
 use crate::integers::{Integer, integer_at, negative_at};
 use crate::marks::{embeds_at, opening_at, opens_chunks_at};
-use crate::numbers::Numeral;
-use crate::openings::{open_chunks, open_embedded};
-use crate::states::{Here, Phase, Writer};
-use crate::texts::push_text;
+use crate::numbers::{Numeral, put_number, put_word};
+use crate::states::{Here, Writer};
+use crate::strings::{open_chunks, put_last_piece, put_text};
+use crate::texts::{plain_text_at, push_text};
 use crate::words::word_at;
 use cborn_lex::{Mark, Profile};
 use cborn_model::{Limit, Visitor};
@@ -161,12 +160,43 @@ pub(crate) fn take_text<V: Visitor>(
     ensures on { OnOk result (here.old.at ≤ here.new.at) }
     ensures further { IfOk result (λ ok. ok ≡ true → here.old.at < here.new.at) }
 {
-    let Some(found) = push_text(profile, text.as_bytes(), here.at, &mut writer.out) else {
+    let bytes = text.as_bytes();
+    let Some(found) = plain_text_at(profile, bytes, here.at) else {
+        return take_escaped(limit, profile, text, here, writer, visitor);
+    };
+    let content = &bytes[here.at + 1..here.at + 1 + found.len];
+    put_text(content, here, writer, visitor)?;
+    here.at = found.stop;
+    Ok(true)
+}
+
+/// Takes a text string of one piece without an indicator, which may have escapes, and the white space
+/// after it.
+#[inline(never)]
+fn take_escaped<V: Visitor>(
+    limit: Limit,
+    profile: Profile,
+    text: &str,
+    here: &mut Here,
+    writer: &mut Writer,
+    visitor: &mut V,
+) -> Result<bool, AllocError>
+    requires reading { IsReading (V.holds visitor.old) profile limit text.now here.old writer.old }
+    requires inside { here.old.at < length text.now }
+    requires wanted { (here.old.phase ≡ phases.Wants) ⊎ (here.old.phase ≡ phases.WantsMore) }
+    requires quote { slice_index text.now here.old.at ≡ 34 }
+    ensures read { OnOk result (IsReading (V.holds visitor.new) profile limit text.now here.new writer.new) }
+    ensures on { OnOk result (here.old.at ≤ here.new.at) }
+    ensures further { IfOk result (λ ok. ok ≡ true → here.old.at < here.new.at) }
+{
+    let start = writer.pieces.len();
+    let bytes = text.as_bytes();
+    let Some(stop) = push_text(profile, bytes, here.at, &mut writer.pieces)? else {
+        writer.pieces.truncate(start);
         return Ok(false);
     };
-    hand_text(here.at, found.len, writer, visitor)?;
-    here.at = found.stop;
-    here.phase = Phase::Has;
+    put_last_piece(start, here, writer, visitor)?;
+    here.at = stop;
     Ok(true)
 }
 
@@ -250,9 +280,7 @@ pub(crate) fn take_embedded<V: Visitor>(
         return Ok(false);
     }
     let at = here.at;
-    let start = writer.out.len();
-    writer.out.push(0)?;
-    open_embedded(start, at, here, writer)?;
+    open_embedded(at, here, writer)?;
     here.at = at + 2;
     Ok(true)
 }
@@ -279,7 +307,7 @@ pub(crate) fn take_chunked<V: Visitor>(
         return Ok(false);
     }
     let at = here.at;
-    open_chunks(at, here, writer)?;
+    open_chunks(at, here, writer);
     here.at = at + 2;
     Ok(true)
 }

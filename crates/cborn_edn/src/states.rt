@@ -1,7 +1,8 @@
-//! What the reader keeps: where it is in the text, what it has written, and an entry for each open
-//! bracket.
+//! What the reader keeps: where it is in the text, the pieces of the strings that are open, and an
+//! entry for each open bracket.
 
 use crate::MeaningError;
+use crate::spellers::Spellers;
 use cborn_lex::Mark;
 use cborn_model::{StringKind, push_doubling};
 use std::alloc::{AllocError, Global};
@@ -87,43 +88,21 @@ impl Here {
     }
 }
 
-/// An open bracket. `place` is its offset in the text, and `start` the offset in the output of the
-/// byte in the place of its head, or, for a `<<`, of the head of its string. Both are 0 for a tag,
-/// whose head is written at once. `count` and `level` are those of `Here` around it.
+/// An open bracket. `place` is its offset in the text, and 0 for a tag. `count` and `level` are those
+/// of `Here` around it.
 #[derive(Clone, Copy)]
 pub(crate) struct OpenBracket {
     pub(crate) place: usize,
-    pub(crate) start: usize,
     pub(crate) count: u64,
     pub(crate) level: Option<Level>,
     pub(crate) mark: Mark,
 }
 
-impl OpenBracket {
-    ghost use Rattle.std.specs.Prelude.{◌≡◌};
-
-    /// A copy, made field by field. Where a call needs it in memory, only this copy is there, and
-    /// the bracket itself stays in registers.
-    #[inline(always)]
-    pub(crate) fn same(&self) -> OpenBracket
-        ensures { result ≡ self.now }
-    {
-        OpenBracket {
-            place: self.place,
-            start: self.start,
-            count: self.count,
-            level: self.level,
-            mark: self.mark,
-        }
-    }
-}
-
 /// The pieces of a string that were read so far. The first gives `kind` and `place`, the last gives
-/// `mark`. Their bytes are those of the output after the byte at `start`.
+/// `mark`.
 #[derive(Clone, Copy)]
 pub(crate) struct Joint {
     pub(crate) kind: StringKind,
-    pub(crate) start: usize,
     pub(crate) place: usize,
     pub(crate) mark: Mark,
     /// The place of the token that has the indicator.
@@ -134,32 +113,37 @@ pub(crate) struct Joint {
     pub(crate) known: bool,
 }
 
-/// The chunks of a string that were read so far. The first gives the kind, and `start` is the
-/// offset in the output of the byte in the place of the string's head. `place` is the offset of the
-/// `(_` in the text.
+/// The chunks of a string that were read so far. The first gives the kind. `place` is the offset of
+/// the `(_` in the text.
 #[derive(Clone, Copy)]
 pub(crate) struct Chunks {
-    pub(crate) start: usize,
     pub(crate) place: usize,
     pub(crate) kind: Option<StringKind>,
 }
 
 /// What is kept around an open `<<`: the pieces of its string before it, the chunks of which that
-/// string is one, and the first meaning error before it.
+/// string is one, and the first meaning error before it. The bytes of that string begin at the
+/// offset `start` of the pieces.
 #[derive(Clone, Copy)]
 pub(crate) struct Around {
+    pub(crate) start: usize,
     pub(crate) string: Option<Joint>,
     pub(crate) chunks: Option<Chunks>,
     pub(crate) error: Option<MeaningError>,
 }
 
-/// What is written, and what is open. `string` is there while pieces of a string are read, and
-/// `chunks` while a string in chunks is read.
+/// What is open. `string` is there while pieces of a string are read, and `chunks` while a string in
+/// chunks is read.
 #[derive(Drop)]
 pub(crate) struct Writer {
-    pub(crate) out: Vec<u8>,
+    /// The bytes of the pieces of each string that is open, the outermost first.
+    pub(crate) pieces: Vec<u8>,
+    /// Where those of the innermost string begin, or would begin.
+    pub(crate) start: usize,
     pub(crate) brackets: Brackets,
     pub(crate) around: Arounds,
+    /// Spells the items in each open `<<`.
+    pub(crate) spellers: Spellers,
     pub(crate) string: Option<Joint>,
     pub(crate) chunks: Option<Chunks>,
     /// The place of the last `simple(`.
@@ -240,7 +224,6 @@ impl Model for Arounds {
 
 impl Arounds {
     ghost use Rattle.std.specs.Prelude.{◌≡◌, [], ◌∷◌, MatchOption, OnOk};
-    ghost use Rattle.cborn_edn.specs.Says.{is_nil};
 
     /// None are open.
     pub(crate) fn new(alloc: Global) -> Arounds
@@ -249,14 +232,6 @@ impl Arounds {
         Arounds {
             arounds: Vec::new(alloc),
         }
-    }
-
-    /// Whether none are open.
-    #[tactic(auto, using(crate::proofs::Reader::Opened::innermost))]
-    pub(crate) fn is_empty(&self) -> bool
-        ensures { result ≡ is_nil self.now }
-    {
-        self.arounds.is_empty()
     }
 
     /// Adds one, which is then the innermost.

@@ -1,41 +1,28 @@
 //! Strings piece by piece (RFC 8610 appendix G.4), and their chunks (RFC 8949 section 3.2.3).
 
-ghost use Rattle.std.specs.Prelude.{◌≡◌, ℕ, ◌<◌, ◌++◌, ◌∷◌, List, Bool, length, IsSome, Some, None, OnOk, true, ◌&&◌};
-ghost use Rattle.cborn_model.specs.Bytes.{AreBytes};
-ghost use Rattle.cborn_edn.specs.devices.Modest.{AreModest};
+ghost use Rattle.std.specs.Prelude.{◌≡◌, ℕ, ◌≤◌, ◌++◌, List, Bool, length, take, drop, IsSome, Some, None, OnOk, true, ◌&&◌};
 ghost use Rattle.cborn_edn.specs.Says as says;
 ghost use Rattle.cborn_model.specs.declared.visitors.StringKind.{StringKind as Kind};
 ghost use Rattle.cborn_model.specs.declared.visitors.StringKind.TheVariants.{OfText};
-ghost use Rattle.cborn_edn.specs.devices.Syntax.{Span as Place, Pieces as Joined, Strings, StringsBefore, strings, string, chunked, also, piece, after_strings, tokens_of_pieces};
-ghost use Rattle.cborn_edn.specs.devices.Machine.{Stack, Home, as_item, as_chunk, has, builds, wants_chunk};
-ghost use Rattle.cborn_edn.specs.devices.Machine.{at_home};
-ghost use Rattle.cborn_edn.specs.devices.Said.{str};
-ghost use Rattle.cborn_model.specs.Spelled as spells;
-ghost use Rattle.cborn_edn.specs.devices.Laid.{cut, major_of};
+ghost use Rattle.cborn_edn.specs.devices.Syntax.{Span as Place, Pieces as Joined, Strings, StringsBefore, strings, string, chunked, also, piece, text, no_string, after_strings};
+ghost use Rattle.cborn_edn.specs.devices.Machine.{Stack, Home, as_item, as_chunk, wants, has, builds, wants_chunk, at_home};
+ghost use Rattle.std.specs.Str.{IsUtf8};
+ghost use Rattle.cborn_lex.specs.declared.classes.Mark.TheVariants.{Absent};
 ghost use Rattle.cborn_edn.specs.devices.Kept.{joint, kind_or};
 ghost use Rattle.cborn_edn.specs.devices.MeaningErrors.{Notes};
 ghost use Rattle.cborn_edn.specs.declared.states.Here.{Here as AnyHere};
-ghost use Rattle.cborn_edn.specs.devices.Shows.{Shows, Leads, piece_of};
+ghost use Rattle.cborn_edn.specs.devices.Shows.{Shows, piece_of};
+ghost use Rattle.cborn_edn.specs.devices.Handed.{string_event, chunk_event, Reads};
 
-use crate::heads::set_head;
+use crate::events::Event;
+use crate::handing::hand;
 use crate::meaning_errors::{note_unless, note_width};
 use crate::numbers::{is_absent, width_for};
 use crate::states::{Chunks, Here, Joint, Phase, Writer};
 use crate::{EdnReason, MeaningError};
 use cborn_lex::Mark;
-use cborn_model::{BREAK, Major, StringKind};
+use cborn_model::{StringKind, Visitor, shortest};
 use std::alloc::AllocError;
-
-/// The major type of a string.
-#[inline(always)]
-fn major_of(kind: StringKind) -> Major
-    ensures { result ≡ major_of kind }
-{
-    match kind {
-        StringKind::OfBytes => Major::ByteString,
-        StringKind::OfText => Major::TextString,
-    }
-}
 
 /// Whether both are byte strings, or both text strings.
 #[inline(always)]
@@ -68,7 +55,7 @@ pub(crate) fn note_piece(
     place: usize,
     error: &mut Option<MeaningError>,
 )
-    ensures { (s t : says.Str) (start : ℕ) → string ≡ joint start s → kind ≡ t.kind → place ≡ t.place → Notes error.old error.new (says.piece_errors s t) }
+    ensures { (s t : says.Str) → string ≡ joint s → kind ≡ t.kind → place ≡ t.place → Notes error.old error.new (says.piece_errors s t) }
 {
     note_unless(
         is_absent(string.mark),
@@ -87,7 +74,7 @@ pub(crate) fn note_piece(
 /// Notes what is wrong with a whole string, whose bytes are `content`. `may_end` says whether its
 /// indicator may ask for an indefinite length without a chunk.
 fn note_string(may_end: bool, string: Joint, content: &[u8], error: &mut Option<MeaningError>)
-    ensures { (s : says.Str) (start : ℕ) → string ≡ joint start s → content.now ≡ cut s.bytes → (s.known ≡ true → AreBytes s.bytes) → Notes error.old error.new (says.string_errors may_end s) }
+    ensures { (s : says.Str) → string ≡ joint s → (s.known ≡ true → content.now ≡ s.bytes) → Notes error.old error.new (says.string_errors may_end s) }
 {
     note_mark(may_end, string, content.len() as u64, error);
     if string.known {
@@ -103,7 +90,7 @@ fn note_string(may_end: bool, string: Joint, content: &[u8], error: &mut Option<
 /// Notes what is wrong with the indicator of a whole string of `size` bytes. `may_end` says whether
 /// it may ask for an indefinite length.
 fn note_mark(may_end: bool, string: Joint, size: u64, error: &mut Option<MeaningError>)
-    ensures { (s : says.Str) (start : ℕ) → string ≡ joint start s → size ≡ length s.bytes → Notes error.old error.new (says.mark_errors may_end s) }
+    ensures { (s : says.Str) → string ≡ joint s → (s.known ≡ true → size ≡ length s.bytes) → Notes error.old error.new (says.mark_errors may_end s) }
 {
     if is_endless(string.mark) {
         note_unless(
@@ -135,35 +122,6 @@ fn is_good(kind: StringKind, content: &[u8]) -> bool
     }
 }
 
-/// Puts the head of a definite string in the place of the byte at `start`. Its content is all that
-/// follows that byte.
-fn set_length(major: Major, mark: Mark, start: usize, out: &mut Vec<u8>) -> Result<(), AllocError>
-    requires { start < length out.old.items }
-    ensures { OnOk result ((x base : List ℕ) → start ≡ length base → out.old.items ≡ cut (base ++ (0 ∷ x)) → out.new.items ≡ cut (base ++ spells.string major (says.width mark (length x)) x)) }
-{
-    let size = (out.len() - start - 1) as u64;
-    set_head(major, width_for(mark, size), size, start, out)
-}
-
-/// Puts the head of a whole string in the place of its byte, and notes what is wrong with the
-/// string.
-fn close_string(
-    string: Joint,
-    out: &mut Vec<u8>,
-    error: &mut Option<MeaningError>,
-) -> Result<(), AllocError>
-    requires { string.start < length out.old.items }
-    ensures added { OnOk result ((s : says.Str) (base : List ℕ) → string ≡ joint (length base) s → out.old.items ≡ cut (base ++ (0 ∷ s.bytes)) → out.new.items ≡ cut (base ++ spells.spelled (says.said_string s))) }
-    ensures noted { OnOk result ((s : says.Str) (base : List ℕ) → string ≡ joint (length base) s → out.old.items ≡ cut (base ++ (0 ∷ s.bytes)) → (s.known ≡ true → AreBytes s.bytes) → Notes error.old error.new (says.string_errors s.lone s)) }
-{
-    note_string(string.lone, string, &out[string.start + 1..], error);
-    if string.lone && is_endless(string.mark) {
-        out.truncate(string.start);
-        return out.extend_from_slice(&[major_of(string.kind).endless_head(), BREAK]);
-    }
-    set_length(major_of(string.kind), string.mark, string.start, out)
-}
-
 /// Whether a piece of `size` bytes is `''` or `""`.
 #[inline(always)]
 fn is_lone(quoted: bool, size: usize) -> bool
@@ -182,29 +140,29 @@ pub(crate) struct StringToken {
     pub(crate) mark: Mark,
 }
 
-/// Begins a string with the piece `token`, whose bytes are those of the output after the byte at
-/// `start`.
+/// Begins a string with the piece `token`, whose bytes are the last of the pieces.
 #[inline(always)]
-pub(crate) fn begin_string(token: StringToken, start: usize, here: &mut Here, writer: &mut Writer)
-    requires { start < length writer.old.out.items }
-    ensures { (h : Home) (a : Place) (x base : List ℕ) → token.place ≡ a.start → start ≡ length base → writer.old.out.items ≡ base ++ (0 ∷ x) → AreBytes x → (token.kind ≡ OfText → token.quoted ≡ true) → Shows here.old writer.old base (at_home h None) → Shows here.new writer.new writer.new.out.items (builds h (piece (piece_of token.kind a token.quoted x token.mark))) }
+pub(crate) fn begin_string(token: StringToken, here: &mut Here, writer: &mut Writer)
+    requires { writer.old.start ≤ length writer.old.pieces.items }
+    ensures shows { (h : Home) (a : Place) (x base : List ℕ) → token.place ≡ a.start → writer.old.pieces.items ≡ base ++ x → (token.kind ≡ OfText → token.quoted ≡ true) → Shows here.old writer.old base (at_home h None) → Shows here.new writer.new writer.new.pieces.items (builds h (piece (piece_of token.kind a token.quoted x token.mark))) }
+    ensures spellers { writer.new.spellers ≡ writer.old.spellers }
 {
     writer.string = Some(Joint {
         kind: token.kind,
-        start,
         place: token.place,
         mark: token.mark,
         mark_place: token.place,
-        lone: is_lone(token.quoted, writer.out.len() - start - 1),
+        lone: is_lone(token.quoted, writer.pieces.len() - writer.start),
         known: true,
     });
     here.phase = Phase::Builds;
 }
 
-/// Adds a piece at `place` to a string. Its bytes are already in the output.
+/// Adds a piece at `place` to a string. Its bytes are the last of the pieces.
 pub(crate) fn join(kind: StringKind, place: usize, mark: Mark, writer: &mut Writer)
     requires { IsSome writer.old.string }
-    ensures { (here : AnyHere) (h : Home) (ps : Joined) (a : Place) (q : Bool) (x base : List ℕ) → place ≡ a.start → writer.old.out.items ≡ base ++ x → AreBytes x → Shows here writer.old base (builds h ps) → Shows here writer.new writer.new.out.items (builds h (also ps (piece_of kind a q x mark))) }
+    ensures shows { (here : AnyHere) (h : Home) (ps : Joined) (a : Place) (q : Bool) (x base : List ℕ) → place ≡ a.start → writer.old.pieces.items ≡ base ++ x → Shows here writer.old base (builds h ps) → Shows here writer.new writer.new.pieces.items (builds h (also ps (piece_of kind a q x mark))) }
+    ensures spellers { writer.new.spellers ≡ writer.old.spellers }
 {
     let Some(string) = writer.string else {
         unreachable!();
@@ -219,28 +177,66 @@ pub(crate) fn join(kind: StringKind, place: usize, mark: Mark, writer: &mut Writ
 }
 
 /// Ends a string, which is then an item.
-#[inline(always)]
-pub(crate) fn end_item(here: &mut Here, writer: &mut Writer) -> Result<(), AllocError>
-    requires { (st : Stack) × (ps : Joined) × Shows here.old writer.old writer.old.out.items (builds (as_item st) ps) }
-    ensures shows { OnOk result ((st : Stack) (ps : Joined) → AreModest (tokens_of_pieces ps) → Leads here.old writer.old here.new writer.new (builds (as_item st) ps) (has st (string ps))) }
-    ensures added { OnOk result ((s : says.Str) (base : List ℕ) → writer.old.string ≡ Some (joint (length base) s) → writer.old.out.items ≡ cut (base ++ (0 ∷ s.bytes)) → writer.new.out.items ≡ cut (base ++ spells.spelled (says.said_string s))) }
-    ensures noted { OnOk result ((s : says.Str) (base : List ℕ) → writer.old.string ≡ Some (joint (length base) s) → writer.old.out.items ≡ cut (base ++ (0 ∷ s.bytes)) → (s.known ≡ true → AreBytes s.bytes) → Notes writer.old.error writer.new.error (says.string_errors s.lone s)) }
+pub(crate) fn end_item<V: Visitor>(
+    here: &mut Here,
+    writer: &mut Writer,
+    visitor: &mut V,
+) -> Result<(), AllocError>
+    requires { (st : Stack) × (ps : Joined) × Reads (V.holds visitor.old) here.old writer.old writer.old.pieces.items (builds (as_item st) ps) }
+    ensures { OnOk result ((st : Stack) (ps : Joined) → Reads (V.holds visitor.old) here.old writer.old writer.old.pieces.items (builds (as_item st) ps) → Reads (V.holds visitor.new) here.new writer.new writer.new.pieces.items (has st (string ps))) }
 {
     let Some(joint) = writer.string else {
         unreachable!();
     };
-    writer.string = None;
     here.phase = Phase::Has;
-    close_string(joint, &mut writer.out, &mut writer.error)
+    let content = &writer.pieces[writer.start..];
+    note_string(joint.lone, joint, content, &mut writer.error);
+    let event = string_event(joint, content.len());
+    let spellers = &mut writer.spellers;
+    hand(event, joint.place, content, writer.error, spellers, visitor)?;
+    drop_pieces(writer);
+    Ok(())
+}
+
+/// What is handed over of a whole string that is an item, with a content of `len` bytes.
+#[inline(always)]
+fn string_event(joint: Joint, len: usize) -> Event
+    ensures { result ≡ string_event joint len }
+{
+    if joint.lone && is_endless(joint.mark) {
+        return Event::NoChunks(joint.kind);
+    }
+    Event::String(joint.kind, width_for(joint.mark, len as u64))
+}
+
+/// Forgets the pieces of the innermost string, which has ended.
+#[inline(always)]
+fn drop_pieces(writer: &mut Writer)
+    ensures rest { writer.new ≡ record writer.old { pieces = writer.new.pieces; string = None } }
+    ensures pieces { writer.new.pieces.items ≡ take writer.old.start writer.old.pieces.items }
+{
+    writer.pieces.truncate(writer.start);
+    writer.string = None;
+}
+
+/// Opens a string in chunks at `place`.
+#[inline(always)]
+pub(crate) fn open_chunks(place: usize, here: &mut Here, writer: &mut Writer)
+    ensures shows { (st : Stack) (a : Place) → place ≡ a.start → Shows here.old writer.old writer.old.pieces.items (wants st) → Shows here.new writer.new writer.new.pieces.items (wants_chunk st a no_string) }
+    ensures spellers { writer.new.spellers ≡ writer.old.spellers }
+{
+    writer.chunks = Some(Chunks { place, kind: None });
+    here.phase = Phase::WantsChunk;
 }
 
 /// Ends a string, which is then a chunk.
-#[inline(always)]
-pub(crate) fn end_chunk(here: &mut Here, writer: &mut Writer) -> Result<(), AllocError>
-    requires { (st : Stack) × (s : Place) × (b : StringsBefore) × (ps : Joined) × Shows here.old writer.old writer.old.out.items (builds (as_chunk st s b) ps) }
-    ensures shows { OnOk result ((st : Stack) (s a : Place) (b : StringsBefore) (ps : Joined) → AreModest (tokens_of_pieces ps) → Leads here.old writer.old here.new writer.new (builds (as_chunk st s b) ps) (wants_chunk st s (after_strings (strings b ps) a))) }
-    ensures added { OnOk result ((kind : Kind) × ((s : says.Str) (base : List ℕ) → writer.old.string ≡ Some (joint (length base) s) → writer.old.out.items ≡ cut (base ++ (0 ∷ s.bytes)) → writer.new.out.items ≡ cut (base ++ spells.chunk_bytes (major_of kind) (says.chunk s)))) }
-    ensures noted { OnOk result ((kind : Kind) × ((s : says.Str) (base : List ℕ) → writer.old.string ≡ Some (joint (length base) s) → writer.old.out.items ≡ cut (base ++ (0 ∷ s.bytes)) → (s.known ≡ true → AreBytes s.bytes) → Notes writer.old.error writer.new.error (says.chunk_errors kind s))) }
+pub(crate) fn end_chunk<V: Visitor>(
+    here: &mut Here,
+    writer: &mut Writer,
+    visitor: &mut V,
+) -> Result<(), AllocError>
+    requires { (st : Stack) × (s : Place) × (b : StringsBefore) × (ps : Joined) × Reads (V.holds visitor.old) here.old writer.old writer.old.pieces.items (builds (as_chunk st s b) ps) }
+    ensures { OnOk result ((st : Stack) (s a : Place) (b : StringsBefore) (ps : Joined) → Reads (V.holds visitor.old) here.old writer.old writer.old.pieces.items (builds (as_chunk st s b) ps) → Reads (V.holds visitor.new) here.new writer.new writer.new.pieces.items (wants_chunk st s (after_strings (strings b ps) a))) }
 {
     let Some(joint) = writer.string else {
         unreachable!();
@@ -248,14 +244,32 @@ pub(crate) fn end_chunk(here: &mut Here, writer: &mut Writer) -> Result<(), Allo
     let Some(chunks) = writer.chunks else {
         unreachable!();
     };
+    here.phase = Phase::WantsChunk;
     let kind = kind_or(chunks.kind, joint.kind);
-    writer.string = None;
     writer.chunks = Some(Chunks {
         kind: Some(kind),
         ..chunks
     });
-    here.phase = Phase::WantsChunk;
-    close_chunk(kind, joint, &mut writer.out, &mut writer.error)
+    let content = &writer.pieces[writer.start..];
+    note_chunk(kind, joint, content, &mut writer.error);
+    let event = chunk_event(chunks, joint, content.len());
+    let spellers = &mut writer.spellers;
+    hand(event, joint.place, content, writer.error, spellers, visitor)?;
+    drop_pieces(writer);
+    Ok(())
+}
+
+/// What is handed over of a chunk with a content of `len` bytes: the head of the string too, if it is
+/// the first.
+#[inline(always)]
+fn chunk_event(chunks: Chunks, joint: Joint, len: usize) -> Event
+    ensures { result ≡ chunk_event chunks joint len }
+{
+    let width = width_for(joint.mark, len as u64);
+    match chunks.kind {
+        Some(_) => Event::String(joint.kind, width),
+        None => Event::FirstChunk(chunks.place, joint.kind, width),
+    }
 }
 
 /// The kind of the first chunk: `first`, or `next` if there was no chunk before.
@@ -269,17 +283,9 @@ fn kind_or(first: Option<StringKind>, next: StringKind) -> StringKind
     }
 }
 
-/// Puts the head of a chunk in the place of its byte, and notes what is wrong with the chunk.
-/// `kind` is that of the first chunk.
-fn close_chunk(
-    kind: StringKind,
-    string: Joint,
-    out: &mut Vec<u8>,
-    error: &mut Option<MeaningError>,
-) -> Result<(), AllocError>
-    requires { string.start < length out.old.items }
-    ensures added { OnOk result ((s : says.Str) (base : List ℕ) → string ≡ joint (length base) s → out.old.items ≡ cut (base ++ (0 ∷ s.bytes)) → out.new.items ≡ cut (base ++ spells.chunk_bytes (major_of kind) (says.chunk s))) }
-    ensures noted { OnOk result ((s : says.Str) (base : List ℕ) → string ≡ joint (length base) s → out.old.items ≡ cut (base ++ (0 ∷ s.bytes)) → (s.known ≡ true → AreBytes s.bytes) → Notes error.old error.new (says.chunk_errors kind s)) }
+/// Notes what is wrong with a chunk. `kind` is that of the first chunk.
+fn note_chunk(kind: StringKind, string: Joint, content: &[u8], error: &mut Option<MeaningError>)
+    ensures { (s : says.Str) → string ≡ joint s → (s.known ≡ true → content.now ≡ s.bytes) → Notes error.old error.new (says.chunk_errors kind s) }
 {
     note_unless(
         are_same(kind, string.kind),
@@ -287,25 +293,58 @@ fn close_chunk(
         EdnReason::MixedChunks,
         error,
     );
-    note_string(false, string, &out[string.start + 1..], error);
-    set_length(major_of(kind), string.mark, string.start, out)
+    note_string(false, string, content, error);
 }
 
 /// Ends a string of one or more chunks, which is then an item.
-#[inline(always)]
-pub(crate) fn end_chunks(here: &mut Here, writer: &mut Writer) -> Result<(), AllocError>
-    requires { (st : Stack) × (s : Place) × (a : Place) × (ss : Strings) × Shows here.old writer.old writer.old.out.items (wants_chunk st s (after_strings ss a)) }
-    ensures { OnOk result ((st : Stack) (s a e : Place) (ss : Strings) → Leads here.old writer.old here.new writer.new (wants_chunk st s (after_strings ss a)) (has st (chunked s ss e))) }
+pub(crate) fn end_chunks<V: Visitor>(
+    here: &mut Here,
+    writer: &mut Writer,
+    visitor: &mut V,
+) -> Result<(), AllocError>
+    ensures { OnOk result ((st : Stack) (s a e : Place) (ss : Strings) → Reads (V.holds visitor.old) here.old writer.old writer.old.pieces.items (wants_chunk st s (after_strings ss a)) → Reads (V.holds visitor.new) here.new writer.new writer.new.pieces.items (has st (chunked s ss e))) }
 {
-    let Some(chunks) = writer.chunks else {
-        unreachable!();
-    };
-    let Some(kind) = chunks.kind else {
-        unreachable!();
-    };
     writer.chunks = None;
     here.phase = Phase::Has;
-    writer.out[chunks.start] = major_of(kind).endless_head();
-    writer.out.push(BREAK)?;
+    let spellers = &mut writer.spellers;
+    hand(Event::Close, 0, &[], writer.error, spellers, visitor)
+}
+
+/// Takes a text string at the offset `here.at` with its shortest head, which is an item.
+#[inline(always)]
+pub(crate) fn put_text<V: Visitor>(
+    content: &[u8],
+    here: &mut Here,
+    writer: &mut Writer,
+    visitor: &mut V,
+) -> Result<(), AllocError>
+    ensures read { OnOk result ((st : Stack) (a : Place) → here.old.at ≡ a.start → IsUtf8 content.now → Reads (V.holds visitor.old) here.old writer.old writer.old.pieces.items (wants st) → Reads (V.holds visitor.new) here.new writer.new writer.new.pieces.items (has st (string (piece (text a content.now Absent))))) }
+    ensures at { OnOk result (here.new.at ≡ here.old.at) }
+{
+    here.phase = Phase::Has;
+    let event = Event::String(StringKind::OfText, shortest(content.len() as u64));
+    let spellers = &mut writer.spellers;
+    hand(event, here.at, content, writer.error, spellers, visitor)
+}
+
+/// Takes a text string as `put_text` does, whose content is the pieces from the offset `start` on, and
+/// forgets them.
+#[inline(always)]
+pub(crate) fn put_last_piece<V: Visitor>(
+    start: usize,
+    here: &mut Here,
+    writer: &mut Writer,
+    visitor: &mut V,
+) -> Result<(), AllocError>
+    requires { start ≤ length writer.old.pieces.items }
+    ensures read { OnOk result ((st : Stack) (a : Place) → here.old.at ≡ a.start → IsUtf8 (drop start writer.old.pieces.items) → Reads (V.holds visitor.old) here.old writer.old (take start writer.old.pieces.items) (wants st) → Reads (V.holds visitor.new) here.new writer.new writer.new.pieces.items (has st (string (piece (text a (drop start writer.old.pieces.items) Absent))))) }
+    ensures at { OnOk result (here.new.at ≡ here.old.at) }
+{
+    here.phase = Phase::Has;
+    let content = &writer.pieces[start..];
+    let event = Event::String(StringKind::OfText, shortest(content.len() as u64));
+    let spellers = &mut writer.spellers;
+    hand(event, here.at, content, writer.error, spellers, visitor)?;
+    writer.pieces.truncate(start);
     Ok(())
 }

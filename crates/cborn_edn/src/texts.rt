@@ -1,117 +1,69 @@
 //! Text strings in one piece (RFC 8949 section 8, RFC 8259 section 7).
 
-ghost use Rattle.std.specs.Prelude.{◌≡◌, ◌≤◌, ◌<◌, ◌+◌, ◌++◌, ◌==◌, ℕ, List, [], true, false, length, take, drop, slice_index, IfSome, IfNone};
+ghost use Rattle.std.specs.Prelude.{◌≡◌, ◌≤◌, ◌<◌, ◌+◌, ◌++◌, ◌==◌, ℕ, List, [], true, false, length, take, drop, slice_index, IfOk, IfSome, MatchOption};
 ghost use Rattle.std.specs.Str.{IsUtf8};
-ghost use Rattle.cborn_model.specs.Heads.{head_bytes, least};
 ghost use Rattle.cborn_lex.specs.declared.classes.Class.TheVariants as classes;
 ghost use Rattle.cborn_lex.specs.declared.classes.Mark.TheVariants as marks;
 ghost use Rattle.cborn_lex.specs.Tokens.{begins};
 ghost use Rattle.cborn_lex.specs.Good.{TokensBetween};
-ghost use Rattle.cborn_edn.specs.devices.Ahead.{IsTokenAt, ends_string, NoPieceAt};
+ghost use Rattle.cborn_edn.specs.devices.Ahead.{ends_string, NoPieceAt, IsTextAt};
 
-use crate::heads::set_shortest_head;
 use crate::white_space::skip_white_space;
-use cborn_det::put_head;
 use cborn_lex::{Profile, plain_run, push_letters};
-use cborn_model::Major;
+use std::alloc::AllocError;
 
-/// A text string that was read: the offset in the text after it and the white space that follows,
-/// and the length of its content in bytes.
+/// A text string that was found: the length of its content in bytes, and the offset in the text after
+/// it and the white space that follows.
 #[derive(Clone, Copy)]
-pub(crate) struct ShortText {
-    pub(crate) stop: usize,
+pub(crate) struct FoundText {
     pub(crate) len: usize,
+    pub(crate) stop: usize,
 }
 
-/// Appends the text string whose opening double quote is at the offset `at` of `text`, with its
-/// shortest head. `None`, and nothing is changed, if the string has an indicator, if another piece
-/// may follow, or if memory was refused.
+/// The text string without escapes whose opening double quote is at the offset `at` of `text`. `None`
+/// if there is none, if it has an indicator, or if another piece may follow.
+#[inline(always)]
+pub(crate) fn plain_text_at(profile: Profile, text: &[u8], at: usize) -> Option<FoundText>
+    requires inside { at < length text.now }
+    requires quote { slice_index text.now at ≡ 34 }
+    ensures within { IfSome result (λ r. at + 1 + r.len ≤ length text.now) }
+    ensures taken { IfSome result (λ r. IsTextAt profile text.now at r.stop (take r.len (drop (at + 1) text.now))) }
+{
+    let tail = &text[at + 1..];
+    let len = plain_run(b'"', tail);
+    if len == tail.len() || tail[len] != b'"' {
+        return None;
+    }
+    let stop = end_of_string(profile, text, at + len + 2)?;
+    Some(FoundText { len, stop })
+}
+
+/// Appends the content of the text string whose opening double quote is at the offset `at` of `text`,
+/// and gives the offset in the text after it and the white space that follows. `None` if there is
+/// none, if it has an indicator, or if another piece may follow. Then a part of it may stay in `out`.
+///
+/// # Errors
+/// `AllocError` if memory is refused.
 #[inline(always)]
 pub(crate) fn push_text(
     profile: Profile,
     text: &[u8],
     at: usize,
     out: &mut Vec<u8>,
-) -> Option<ShortText>
+) -> Result<Option<usize>, AllocError>
     requires inside { at < length text.now }
     requires quote { slice_index text.now at ≡ 34 }
-    ensures within { IfSome result (λ r. r.stop ≤ length text.now) }
-    ensures taken { IfSome result (λ r. (content : List ℕ) × (end : ℕ) × (length content ≡ r.len) × IsTokenAt profile text.now at end (classes.Text content marks.Absent) × (IsUtf8 text.now → IsUtf8 content) × TokensBetween profile text.now end r.stop [] × (out.new.items ≡ out.old.items ++ (head_bytes 3 (least (length content)) (length content) ++ content))) }
-    ensures ends { IfSome result (λ r. NoPieceAt text.now r.stop) }
-    ensures kept { IfNone result (out.new.items ≡ out.old.items) }
+    ensures taken { IfOk result (λ r. IfSome r (λ stop. (content : List ℕ) × (out.new.items ≡ out.old.items ++ content) × IsTextAt profile text.now at stop content)) }
+    ensures before { IfOk result (λ r. take (length out.old.items) out.new.items ≡ out.old.items) }
 {
     let tail = &text[at + 1..];
-    let len = plain_run(b'"', tail);
-    if len == tail.len() {
-        return None;
-    }
-    if tail[len] != b'"' {
-        return push_escaped(profile, text, at, out);
-    }
-    let stop = end_of_string(profile, text, at + len + 2)?;
-    push_plain(&tail[..len], out)?;
-    Some(ShortText { stop, len })
-}
-
-/// Appends a text string with its shortest head.
-#[inline(always)]
-fn push_plain(content: &[u8], out: &mut Vec<u8>) -> Option<()>
-    ensures added { IfSome result (λ u. out.new.items ≡ out.old.items ++ (head_bytes 3 (least (length content.now)) (length content.now) ++ content.now)) }
-    ensures kept { IfNone result (out.new.items ≡ out.old.items) }
-{
-    let start = out.len();
-    put_head(Major::TextString, content.len() as u64, out).ok()?;
-    if out.extend_from_slice(content).is_err() {
-        out.truncate(start);
-        return None;
-    }
-    Some(())
-}
-
-/// Appends a text string that may have escapes, with its shortest head. `None`, and nothing is
-/// changed, where `push_text` gives `None`.
-#[inline(never)]
-fn push_escaped(profile: Profile, text: &[u8], at: usize, out: &mut Vec<u8>) -> Option<ShortText>
-    requires inside { at < length text.now }
-    requires quote { slice_index text.now at ≡ 34 }
-    ensures within { IfSome result (λ r. r.stop ≤ length text.now) }
-    ensures taken { IfSome result (λ r. (content : List ℕ) × (end : ℕ) × (length content ≡ r.len) × IsTokenAt profile text.now at end (classes.Text content marks.Absent) × (IsUtf8 text.now → IsUtf8 content) × TokensBetween profile text.now end r.stop [] × (out.new.items ≡ out.old.items ++ (head_bytes 3 (least (length content)) (length content) ++ content))) }
-    ensures ends { IfSome result (λ r. NoPieceAt text.now r.stop) }
-    ensures kept { IfNone result (out.new.items ≡ out.old.items) }
-{
-    let start = out.len();
-    let found = push_some(profile, text, at, out);
-    if found.is_none() {
-        out.truncate(start);
-    }
-    found
-}
-
-/// Appends a text string that may have escapes, with its shortest head. After `None` a part of the
-/// string may stay in `out`.
-#[inline(always)]
-fn push_some(profile: Profile, text: &[u8], at: usize, out: &mut Vec<u8>) -> Option<ShortText>
-    requires inside { at < length text.now }
-    requires quote { slice_index text.now at ≡ 34 }
-    ensures within { IfSome result (λ r. r.stop ≤ length text.now) }
-    ensures taken { IfSome result (λ r. (content : List ℕ) × (end : ℕ) × (length content ≡ r.len) × IsTokenAt profile text.now at end (classes.Text content marks.Absent) × (IsUtf8 text.now → IsUtf8 content) × TokensBetween profile text.now end r.stop [] × (out.new.items ≡ out.old.items ++ (head_bytes 3 (least (length content)) (length content) ++ content))) }
-    ensures ends { IfSome result (λ r. NoPieceAt text.now r.stop) }
-    ensures before { IfNone result (take (length out.old.items) out.new.items ≡ out.old.items) }
-{
-    let tail = &text[at + 1..];
-    let start = out.len();
-    let Ok(()) = out.push(0) else {
-        return None;
+    let Some(len) = push_letters(b'"', tail, 0, out)? else {
+        return Ok(None);
     };
-    let Ok(Some(len)) = push_letters(b'"', tail, 0, out) else {
-        return None;
+    let Some(stop) = end_of_string(profile, text, at + len + 2) else {
+        return Ok(None);
     };
-    let stop = end_of_string(profile, text, at + len + 2)?;
-    let len = out.len() - start - 1;
-    let Ok(()) = set_shortest_head(Major::TextString, len as u64, start, out) else {
-        return None;
-    };
-    Some(ShortText { stop, len })
+    Ok(Some(stop))
 }
 
 /// The offset after the white space that follows a string, which ends at the offset `at`. `None` if

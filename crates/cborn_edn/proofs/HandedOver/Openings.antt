@@ -1,42 +1,56 @@
 -- Heads that are handed over, and leaves.
-use Rattle.std.proofs.Common.{◌≡◌, refl, ap, subst, ℕ, List, [], Bool, true, None}
+use Rattle.std.proofs.Common.{◌≡◌, refl, sym, ap, ◌∙◌, ℕ, ◌<◌, ◌^◌, [], Bool, true, false, cond, None}
+use Rattle.std.specs.Int.Digits.{digits_of}
 use Rattle.cborn_model.specs.declared.heads.Size.{Size}
 use Rattle.cborn_model.specs.declared.heads.Width.{Width}
-use Rattle.cborn_model.specs.Tree.{Simple}
-use Rattle.cborn_model.specs.Partial.{an_array, a_map, a_tag, Partial, inside, no_part, put, IsFree}
+use Rattle.cborn_model.specs.Tree.{Tree, Simple}
+use Rattle.cborn_model.specs.Partial.{an_array, a_map, a_tag, inside, put, integer_tree}
 use Rattle.cborn_lex.specs.declared.classes.Mark.{Mark}
-use Rattle.cborn_edn.specs.declared.states.Here.{Here}
-use Rattle.cborn_edn.specs.declared.states.Writer.{Writer}
-use Rattle.cborn_edn.specs.Says.{width, number_node}
+use Rattle.cborn_edn.specs.Says.{width, is_below, argument_of, is_small, integer, bignum, number_node}
+use Rattle.cborn_edn.specs.declared.events.Event.TheVariants.{Integer, Bignum, Simple as SimpleValue, Array, Map, Tag}
 use Rattle.cborn_edn.specs.devices.Syntax.{Span, number, word, no_item, no_pair}
-use Rattle.cborn_edn.specs.devices.Machine.{Stack, in_row, in_key, in_tag, in_array, State, wants, has, wants_number, has_number}
-use Rattle.cborn_edn.specs.devices.Noted.{noted}
-use Rattle.cborn_edn.specs.devices.Kept.{stack_in}
-use Rattle.cborn_edn.specs.devices.Shows.{Shows}
-use Rattle.cborn_edn.specs.devices.Handed.{Holds, shell, size_asked, front_of, front, Reads, hands}
-use Rattle.cborn_edn.proofs.Meaning.NoError.{no_left}
-use Rattle.cborn_edn.proofs.HandedOver.Outside.{handed, free}
+use Rattle.cborn_edn.specs.devices.Machine.{Stack, in_row, in_key, in_tag, in_array, wants, has, wants_number, has_number}
+use Rattle.cborn_edn.specs.devices.Noted.{noted_stack}
+use Rattle.cborn_edn.specs.devices.Events.{bignum_of}
+use Rattle.cborn_edn.specs.devices.Handed.{size_asked, front_of, Hands}
+use Rattle.cborn_edn.proofs.Meaning.NoError.{no_left, no_right, tag_small}
+use Rattle.cborn_edn.proofs.HandedOver.Handing.{free}
 
--- what was wanted is handed over
-stepped : {h k : Holds} {here next : Here} {w left : Writer} {out more : List ℕ} {s u : State} (st : Stack) → hands left ≡ true → (step : Partial → Partial) → Reads h here w out s → Shows next left more u → shell (stack_in s) ≡ shell (stack_in u) → front s ≡ front_of st → step (front_of st) ≡ front u
-    → (noted u ≡ [] → noted s ≡ []) → ((f : Partial) → IsFree f → h f no_part → k (step f) no_part) → Reads k next left more u
-stepped {h} {k} st all step r e same is fronts less go = handed r e same all less (λ q x. subst (λ (f : Partial). k f no_part) fronts (go (front_of st) (free st) (subst (λ (f : Partial). h f no_part) is x)))
+integer_is : (p : ℕ) (b : Bool) (w : Width) (n : ℕ) → integer_tree p b w n ≡ cond b (integer_tree p true w n) (integer_tree p false w n)
+integer_is p true w n = refl
+integer_is p false w n = refl
 
-module _ {h k : Holds} {here next : Here} {w left : Writer} {out more : List ℕ} {st : Stack} {a : Span} {place : ℕ} (all : hands left ≡ true) (p : place ≡ a.start) where
-  pub handed_array : {m : Mark} {size : Size} → size ≡ size_asked m → Reads h here w out (wants st) → Shows next left more (wants (in_row (in_array st a m) no_item)) → ((f : Partial) → IsFree f → h f no_part → k (inside f (an_array place size None) []) no_part) → Reads k next left more (wants (in_row (in_array st a m) no_item))
-  handed_array {m} {size} s r e = stepped st all (λ f. inside f (an_array place size None) []) r e refl refl (λ i. inside (front_of st) (an_array (p i) (s i) None) []) (no_left _ _)
+-- the node of an integer of 64 bits
+small_is : (p : ℕ) (n : Bool) (v : ℕ) (m : Mark) → is_small n v ≡ true → integer_tree p (is_below n v) (width m (argument_of n v)) (argument_of n v) ≡ number_node p n v m
+small_is p n v m e = integer_is p (is_below n v) (width m (argument_of n v)) (argument_of n v) ∙ sym (ap (λ b. cond b (integer p n v (width m (argument_of n v))) (bignum p n v)) e)
 
-  pub handed_map : {m : Mark} {size : Size} → size ≡ size_asked m → Reads h here w out (wants st) → Shows next left more (wants (in_key st a m no_pair)) → ((f : Partial) → IsFree f → h f no_part → k (inside f (a_map place size None) []) no_part) → Reads k next left more (wants (in_key st a m no_pair))
-  handed_map {m} {size} s r e = stepped st all (λ f. inside f (a_map place size None) []) r e refl refl (λ i. inside (front_of st) (a_map (p i) (s i) None) []) (no_left _ _)
+-- and of any other
+large_is : (p : ℕ) (n : Bool) (v : ℕ) (m : Mark) → is_small n v ≡ false → bignum p n v ≡ number_node p n v m
+large_is p n v m e = sym (ap (λ b. cond b (integer p n v (width m (argument_of n v))) (bignum p n v)) e)
 
-  pub handed_tag : {m : Mark} {wide : Width} {n : ℕ} → wide ≡ width m n → Reads h here w out (wants st) → Shows next left more (wants (in_tag st a n m)) → ((f : Partial) → IsFree f → h f no_part → k (inside f (a_tag place wide n) []) no_part) → Reads k next left more (wants (in_tag st a n m))
-  handed_tag {m} {wide} {n} s r e = stepped st all (λ f. inside f (a_tag place wide n) []) r e refl refl (λ i. inside (front_of st) (a_tag (p i) (s i) n) []) (no_left _ _)
+module _ (st : Stack) (a : Span) {place : ℕ} (p : place ≡ a.start) where
+  pub hands_array : (m : Mark) (size : Size) → size ≡ size_asked m → Hands (Array size) place [] (wants st) (wants (in_row (in_array st a m) no_item))
+  hands_array m size s q = (no_left _ _ q, free st, λ i. inside (front_of st) (an_array (p i) (s i) None) [])
 
-  pub handed_number : {n : Bool} {v : ℕ} {m : Mark} → Reads h here w out (wants st) → Shows next left more (has st (number a n v m)) → ((f : Partial) → IsFree f → h f no_part → k (put f (number_node place n v m)) no_part) → Reads k next left more (has st (number a n v m))
-  handed_number {n} {v} {m} r e = stepped st all (λ f. put f (number_node place n v m)) r e refl refl (ap (λ q. put (front_of st) (number_node q n v m)) p) (no_left _ _)
+  pub hands_map : (m : Mark) (size : Size) → size ≡ size_asked m → Hands (Map size) place [] (wants st) (wants (in_key st a m no_pair))
+  hands_map m size s q = (no_left _ _ q, free st, λ i. inside (front_of st) (a_map (p i) (s i) None) [])
 
-  pub handed_word : {n : ℕ} → Reads h here w out (wants st) → Shows next left more (has st (word a n)) → ((f : Partial) → IsFree f → h f no_part → k (put f (Simple place n)) no_part) → Reads k next left more (has st (word a n))
-  handed_word {n} r e = stepped st all (λ f. put f (Simple place n)) r e refl refl (ap (λ q. put (front_of st) (Simple q n)) p) (no_left _ _)
+  pub hands_tag : (m : Mark) (v n : ℕ) (wide : Width) → (v < 2 ^ 64 → n ≡ v) → wide ≡ width m n → Hands (Tag wide n) place [] (wants st) (wants (in_tag st a v m))
+  hands_tag m v n wide is w q =
+      let same : n ≡ v = is (tag_small a.start m v (no_right (noted_stack st) _ q)).0 in
+      (no_left _ _ q, free st, λ i. inside (front_of st) (a_tag (p i) ((w ∙ ap (width m) same) i) (same i)) [])
 
-  pub handed_simple : {b : Span} {n : Bool} {v : ℕ} {m : Mark} → Reads h here w out (wants_number st a) → Shows next left more (has_number st a b n v m) → ((f : Partial) → IsFree f → h f no_part → k (put f (Simple place v)) no_part) → Reads k next left more (has_number st a b n v m)
-  handed_simple {v = v} r e = stepped st all (λ f. put f (Simple place v)) r e refl refl (ap (λ q. put (front_of st) (Simple q v)) p) (no_left _ _)
+  pub hands_integer : (n : Bool) (v : ℕ) (m : Mark) (below : Bool) (wide : Width) (argument : ℕ) → is_small n v ≡ true → below ≡ is_below n v → argument ≡ argument_of n v → wide ≡ width m argument → Hands (Integer below wide argument) place [] (wants st) (has st (number a n v m))
+  hands_integer n v m below wide argument e b f w q = (no_left _ _ q, free st, (λ i. put (front_of st) (integer_tree (p i) (b i) ((w ∙ ap (width m) f) i) (f i))) ∙ ap (put (front_of st)) (small_is a.start n v m e))
+
+  pub hands_bignum : (n : Bool) (v : ℕ) (m : Mark) (below : Bool) (argument : ℕ) → is_small n v ≡ false → below ≡ is_below n v → argument ≡ argument_of n v → Hands (Bignum below) place (digits_of 256 argument) (wants st) (has st (number a n v m))
+  hands_bignum n v m below argument e b f q = (no_left _ _ q, free st, (λ i. put (front_of st) (bignum_at (p i) (b i) (f i))) ∙ ap (put (front_of st)) (large_is a.start n v m e))
+    where
+      bignum_at : ℕ → Bool → ℕ → Tree
+      bignum_at q b n = bignum_of q b (digits_of 256 n)
+
+  pub hands_word : (n : ℕ) → Hands (SimpleValue n) place [] (wants st) (has st (word a n))
+  hands_word n q = (no_left _ _ q, free st, ap (λ k. put (front_of st) (Simple k n)) p)
+
+  pub hands_simple : (b : Span) (n : Bool) (v : ℕ) (m : Mark) → Hands (SimpleValue v) place [] (wants_number st a) (has_number st a b n v m)
+  hands_simple b n v m q = (no_left _ _ q, free st, ap (λ k. put (front_of st) (Simple k v)) p)

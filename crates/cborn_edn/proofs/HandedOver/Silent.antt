@@ -1,17 +1,21 @@
 -- Tokens that hand nothing over.
 use Rattle.std.proofs.Common.{◌≡◌, refl, sym, ap, ◌∙◌, subst, ℕ, Bool, List, [], ◌∷◌, ◌++◌, Option, Some, None, append_assoc}
 use Rattle.cborn_model.specs.Tree.{Tree, Trees, no_item as no_node, more, Entries, no_entry, entry}
-use Rattle.cborn_model.specs.Partial.{a_map, Partial, inside, no_part, put}
+use Rattle.cborn_model.specs.Partial.{a_map, Partial, top, inside, no_part, put}
+use Rattle.cborn_wire.specs.shared.Spelling.{IsWritten}
+use Rattle.cborn_wire.specs.declared.spellers.Speller.{Speller}
 use Rattle.cborn_lex.specs.declared.classes.Mark.{Mark}
-use Rattle.cborn_edn.specs.devices.Syntax.{Span, Item, simple, Piece, embedded, Pieces, piece, also, no_string, row, RowBefore, after_row, Content, loose, tight, pairs, PairsBefore, after_pairs}
+use Rattle.cborn_edn.specs.devices.Syntax.{Span, Item, simple, Piece, embedded, Pieces, piece, also, no_string, row, RowBefore, no_item, after_row, Content, loose, tight, pairs, PairsBefore, after_pairs}
 use Rattle.cborn_edn.specs.devices.Machine.{Stack, in_row, in_key, in_value, Nest, at_top, in_array, in_embed, Home, as_item, as_chunk, State, wants, has, builds, wants_chunk, wants_number, has_number, at_home, with_piece}
 use Rattle.cborn_edn.specs.devices.Said.{node, faults_of_pieces, snoc, snoc_entry, nodes_before, entries_before}
 use Rattle.cborn_edn.specs.devices.Noted.{noted, noted_home}
-use Rattle.cborn_edn.specs.devices.Kept.{stack_in}
+use Rattle.cborn_edn.specs.devices.Kept.{stack_of, stack_in}
 use Rattle.cborn_edn.specs.devices.Shows.{content_state}
 use Rattle.cborn_edn.specs.devices.TreesCode.{listed_trees}
-use Rattle.cborn_edn.specs.devices.Handed.{Holds, listed_entries, or_else, shell, shell_home, size_asked, front_of, row_front, front, outside, Handed}
+use Rattle.cborn_edn.specs.devices.Events.{Holds, FitsSoFar}
+use Rattle.cborn_edn.specs.devices.Handed.{listed_entries, states_around, states_around_home, size_asked, front_of, row_front, front, Handed, AllHanded}
 use Rattle.cborn_edn.proofs.Meaning.NoError.{no_left}
+use Rattle.cborn_edn.proofs.HandedOver.Handing.{stays}
 
 pub listed_snoc : (ts : Trees) (t : Tree) → listed_trees (snoc ts t) ≡ listed_trees ts ++ (t ∷ [])
 listed_snoc no_node t = refl
@@ -21,13 +25,9 @@ pub listed_snoc_entry : (es : Entries) (k v : Tree) → listed_entries (snoc_ent
 listed_snoc_entry no_entry k v = refl
 listed_snoc_entry (entry l w es) k v = ap (λ x. l ∷ w ∷ x) (listed_snoc_entry es k v)
 
--- what is held stays so, if neither the front nor what is outside changes, and no meaning error goes
-pub handed_same : (h : Holds) (s u : State) → shell (stack_in s) ≡ shell (stack_in u) → front s ≡ front u → (noted u ≡ [] → noted s ≡ []) → Handed h s → Handed h u
-handed_same h s u e f n t = subst (λ (o : Option State). noted (or_else o u) ≡ [] → h (front (or_else o u)) no_part) e (go (shell (stack_in s)) t)
-  where
-    go : (o : Option State) → (noted (or_else o s) ≡ [] → h (front (or_else o s)) no_part) → noted (or_else o u) ≡ [] → h (front (or_else o u)) no_part
-    go None t q = subst (λ (x : Partial). h x no_part) f (t (n q))
-    go (Some v) t q = t q
+-- what is held stays so, if the front doesn't change and no meaning error goes
+pub handed_same : (h : Holds) (s u : State) → front s ≡ front u → (noted u ≡ [] → noted s ≡ []) → Handed h s → Handed h u
+handed_same h s u f n t q = let e = t (n q) in (subst (λ (x : Partial). h x no_part) f e.0, subst FitsSoFar f e.1)
 
 pub row_put : (n : Nest) (ts : List Tree) (t : Tree) → put (row_front n ts) t ≡ row_front n (ts ++ (t ∷ []))
 row_put at_top ts t = refl
@@ -35,53 +35,49 @@ row_put (in_array st s m) ts t = refl
 row_put (in_embed home o s) ts t = refl
 
 pub handed_comma : (h : Holds) (n : Nest) (b : RowBefore) (i : Item) (a : Span) → Handed h (has (in_row n b) i) → Handed h (wants (in_row n (after_row (row b i) a)))
-handed_comma h n b i a = handed_same h (has (in_row n b) i) (wants (in_row n (after_row (row b i) a))) refl
+handed_comma h n b i a = handed_same h (has (in_row n b) i) (wants (in_row n (after_row (row b i) a)))
     (row_put n (listed_trees (nodes_before b)) (node i) ∙ ap (row_front n) (sym (listed_snoc (nodes_before b) (node i))))
     (λ q. simp append_assoc q)
 
 pub handed_pairs_comma : (h : Holds) (st : Stack) (s : Span) (m : Mark) (b : PairsBefore) (k : Item) (c : Span) (v : Item) (a : Span) → Handed h (has (in_value st s m b k c) v) → Handed h (wants (in_key st s m (after_pairs (pairs b k c v) a)))
-handed_pairs_comma h st s m b k c v a = handed_same h (has (in_value st s m b k c) v) (wants (in_key st s m (after_pairs (pairs b k c v) a))) refl
+handed_pairs_comma h st s m b k c v a = handed_same h (has (in_value st s m b k c) v) (wants (in_key st s m (after_pairs (pairs b k c v) a)))
     (ap (inside (front_of st) (a_map s.start (size_asked m) None)) (sym (listed_snoc_entry (entries_before b) (node k) (node v))))
     (λ q. simp append_assoc q)
 
 pub handed_colon : (h : Holds) (st : Stack) (s : Span) (m : Mark) (b : PairsBefore) (k : Item) (a : Span) → Handed h (has (in_key st s m b) k) → Handed h (wants (in_value st s m b k a))
-handed_colon h st s m b k a = handed_same h (has (in_key st s m b) k) (wants (in_value st s m b k a)) refl refl (λ q. q)
+handed_colon h st s m b k a = handed_same h (has (in_key st s m b) k) (wants (in_value st s m b k a)) refl (λ q. q)
 
 pub handed_open_simple : (h : Holds) (st : Stack) (a : Span) → Handed h (wants st) → Handed h (wants_number st a)
-handed_open_simple h st a = handed_same h (wants st) (wants_number st a) refl refl (λ q. q)
+handed_open_simple h st a = handed_same h (wants st) (wants_number st a) refl (λ q. q)
 
 pub handed_close_simple : (h : Holds) (st : Stack) (s b : Span) (n : Bool) (v : ℕ) (m : Mark) (a : Span) → Handed h (has_number st s b n v m) → Handed h (has st (simple s b n v m a))
-handed_close_simple h st s b n v m a = handed_same h (has_number st s b n v m) (has st (simple s b n v m a)) refl refl (λ q. q)
+handed_close_simple h st s b n v m a = handed_same h (has_number st s b n v m) (has st (simple s b n v m a)) refl (λ q. q)
 
 pub handed_open_chunks : (h : Holds) (st : Stack) (a : Span) → Handed h (wants st) → Handed h (wants_chunk st a no_string)
-handed_open_chunks h st a = handed_same h (wants st) (wants_chunk st a no_string) refl refl (no_left _ _)
+handed_open_chunks h st a = handed_same h (wants st) (wants_chunk st a no_string) refl (no_left _ _)
 
 -- a string begins, with any piece
 pub handed_begin_string : (h : Holds) (home : Home) (p : Piece) → Handed h (at_home home None) → Handed h (builds home (piece p))
-handed_begin_string h (as_item st) p = handed_same h (wants st) (builds (as_item st) (piece p)) refl refl (no_left _ _)
-handed_begin_string h (as_chunk st s b) p = handed_same h (wants_chunk st s b) (builds (as_chunk st s b) (piece p)) refl refl (no_left _ _)
+handed_begin_string h (as_item st) p = handed_same h (wants st) (builds (as_item st) (piece p)) refl (no_left _ _)
+handed_begin_string h (as_chunk st s b) p = handed_same h (wants_chunk st s b) (builds (as_chunk st s b) (piece p)) refl (no_left _ _)
 
 pub handed_join : (h : Holds) (home : Home) (ps : Pieces) (p : Piece) → Handed h (builds home ps) → Handed h (builds home (also ps p))
-handed_join h home ps p = handed_same h (builds home ps) (builds home (also ps p)) refl refl (λ q. no_left _ _ (append_assoc (noted_home home) (faults_of_pieces ps) _ ∙ q))
+handed_join h home ps p = handed_same h (builds home ps) (builds home (also ps p)) refl (λ q. no_left _ _ (append_assoc (noted_home home) (faults_of_pieces ps) _ ∙ q))
 
-at_home_outside : (home : Home) (o : Option Pieces) → outside (at_home home o) ≡ or_else (shell_home home) (at_home home o)
-at_home_outside (as_item st) None = refl
-at_home_outside (as_item st) (Some ps) = refl
-at_home_outside (as_chunk st s b) None = refl
-at_home_outside (as_chunk st s b) (Some ps) = refl
+-- the first piece, or a later piece, is a `<<`, whose speller was handed nothing
+pub embed_opened : (h : Holds) (p : Speller) (ps : List Speller) (home : Home) (o : Option Pieces) (a : Span) → IsWritten p (top []) no_part → AllHanded h ps (at_home home o ∷ states_around (stack_in (at_home home o))) → AllHanded h (p ∷ ps) (wants (in_row (in_embed home o a) no_item) ∷ states_around (in_row (in_embed home o a) no_item))
+embed_opened h p ps (as_item st) None a new t = (λ q. (new, tt), t)
+embed_opened h p ps (as_item st) (Some xs) a new t = (λ q. (new, tt), t)
+embed_opened h p ps (as_chunk st s b) None a new t = (λ q. (new, tt), t)
+embed_opened h p ps (as_chunk st s b) (Some xs) a new t = (λ q. (new, tt), t)
 
-abbrev HandedAt : Holds → State → Type 0
-HandedAt h v = noted v ≡ [] → h (front v) no_part
+-- a `<<` ends, and its string goes on around it
+embed_left : (h : Holds) (ps : List Speller) (home : Home) (o : Option Pieces) (s : Span) (c : Content) (a : Span) (m : Mark) → AllHanded h ps (at_home home o ∷ states_around_home home) → AllHanded h ps (builds home (with_piece o (embedded s c a m)) ∷ states_around (stack_of home))
+embed_left h ps (as_item st) None s c a m t = stays h ps _ _ (states_around st) (λ k. handed_begin_string k (as_item st) (embedded s c a m)) t
+embed_left h ps (as_chunk st d b) None s c a m t = stays h ps _ _ (states_around st) (λ k. handed_begin_string k (as_chunk st d b) (embedded s c a m)) t
+embed_left h ps (as_item st) (Some xs) s c a m t = stays h ps _ _ (states_around st) (λ k. handed_join k (as_item st) xs (embedded s c a m)) t
+embed_left h ps (as_chunk st d b) (Some xs) s c a m t = stays h ps _ _ (states_around st) (λ k. handed_join k (as_chunk st d b) xs (embedded s c a m)) t
 
--- the first piece, or a later piece, is a `<<`
-pub handed_open_embedded : (h : Holds) (home : Home) (o : Option Pieces) (a : Span) (b : RowBefore) → Handed h (at_home home o) → Handed h (wants (in_row (in_embed home o a) b))
-handed_open_embedded h home o a b t = subst (HandedAt h) (at_home_outside home o) t
-
-handed_around : (h : Holds) (home : Home) (o : Option Pieces) (s : Span) (c : Content) → Handed h (content_state (in_embed home o s) c) → Handed h (at_home home o)
-handed_around h home o s (loose b) t = subst (HandedAt h) (sym (at_home_outside home o)) t
-handed_around h home o s (tight (row b i)) t = subst (HandedAt h) (sym (at_home_outside home o)) t
-
-pub handed_close_embedded : (h : Holds) (home : Home) (o : Option Pieces) (s : Span) (c : Content) (a : Span) (m : Mark) → Handed h (content_state (in_embed home o s) c) → Handed h (builds home (with_piece o (embedded s c a m)))
-handed_close_embedded h home None s c a m t = handed_begin_string h home (embedded s c a m) (handed_around h home None s c t)
-handed_close_embedded h (as_item st) (Some ps) s c a m t = handed_join h (as_item st) ps (embedded s c a m) (handed_around h (as_item st) (Some ps) s c t)
-handed_close_embedded h (as_chunk st d b) (Some ps) s c a m t = handed_join h (as_chunk st d b) ps (embedded s c a m) (handed_around h (as_chunk st d b) (Some ps) s c t)
+pub embed_closed : (h : Holds) (p : Speller) (ps : List Speller) (home : Home) (o : Option Pieces) (s : Span) (c : Content) (a : Span) (m : Mark) → AllHanded h (p ∷ ps) (content_state (in_embed home o s) c ∷ states_around (stack_in (content_state (in_embed home o s) c))) → AllHanded h ps (builds home (with_piece o (embedded s c a m)) ∷ states_around (stack_of home))
+embed_closed h p ps home o s (loose b) a m t = embed_left h ps home o s (loose b) a m t.1
+embed_closed h p ps home o s (tight (row b i)) a m t = embed_left h ps home o s (tight (row b i)) a m t.1

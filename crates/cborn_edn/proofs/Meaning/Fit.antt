@@ -12,11 +12,11 @@ use Rattle.cborn_model.specs.declared.heads.Width.TheVariants.{Direct, One, Two,
 use Rattle.cborn_model.specs.declared.heads.Size.{Size}
 use Rattle.cborn_model.specs.declared.heads.Size.TheVariants.{Fixed, Endless as EndlessSize}
 use Rattle.cborn_model.specs.declared.heads.Major.{Major}
-use Rattle.cborn_model.specs.declared.heads.Major.TheVariants.{Unsigned, Negative, ByteString, TextString, Tag as TagHead}
+use Rattle.cborn_model.specs.declared.heads.Major.TheVariants.{Unsigned, Negative, ByteString, TextString, Array, Map as MapHead, Tag as TagHead}
 use Rattle.cborn_model.specs.declared.nodes.Chunk.{Chunk}
 use Rattle.cborn_model.specs.Heads.{least, Argument, Given, EndlessArgument, head, argument, WidthFits, SizeFits}
-use Rattle.cborn_model.specs.Spelled.{ending, string, chunk_bytes, spelled, ChunksFit, Fits}
-use Rattle.cborn_model.specs.Tree.{Tree, Uint, Nint, Bytes as ByteNode, Tagged, depth}
+use Rattle.cborn_model.specs.Spelled.{ending, string, chunk_bytes, spelled, spelled_all, spelled_entries, ChunksFit, Fits}
+use Rattle.cborn_model.specs.Tree.{Tree, Uint, Nint, Bytes as ByteNode, Text, ByteChunks, TextChunks, Items, Pairs, Tagged, Simple, Trees, no_item, more, Entries, no_entry, entry, count, count_entries, depth}
 use Rattle.cborn_model.proofs.Numbers.OneHead.{least_holds}
 use Rattle.cborn_wire.proofs.Spelled.AllBytes.{head_bytes}
 use Rattle.cborn_lex.specs.declared.classes.Mark.{Mark}
@@ -34,6 +34,31 @@ pub record Sound (most : ℕ) (y : List ℕ) (Fit : Type 0) (deep limit : ℕ) :
   pub few : length y ≤ most
   pub fits : length y < 2 ^ 64 → Fit
   pub low : deep ≤ limit
+
+-- each node spells a byte, so that there are no more nodes than bytes
+sized_some : (k : Major) (s : Size) (n : ℕ) (x : List ℕ) → 0 < length (head k (argument s n) ++ x ++ ending s)
+sized_some k (Fixed w) n x = omega arith
+sized_some k EndlessSize n x = omega arith
+
+some_bytes : (t : Tree) → 0 < length (spelled t)
+some_bytes (Uint p w n) = omega arith
+some_bytes (Nint p w n) = omega arith
+some_bytes (ByteNode p w b) = omega arith
+some_bytes (Text p w b) = omega arith
+some_bytes (ByteChunks p cs) = omega arith
+some_bytes (TextChunks p cs) = omega arith
+some_bytes (Items p s ts) = sized_some Array s (count ts) (spelled_all ts)
+some_bytes (Pairs p s es) = sized_some MapHead s (count_entries es) (spelled_entries es)
+some_bytes (Tagged p w n t) = omega arith
+some_bytes (Simple p n) = omega arith
+
+pub few_items : (ts : Trees) → count ts ≤ length (spelled_all ts)
+few_items no_item = omega arith
+few_items (more t ts) = omega (arith, few_items ts, some_bytes t, length-append (spelled t) (spelled_all ts))
+
+pub few_entries : (es : Entries) → count_entries es ≤ length (spelled_entries es)
+few_entries no_entry = omega arith
+few_entries (entry k v es) = omega (arith, few_entries es, some_bytes k, length-append (spelled k ++ spelled v) (spelled_entries es), length-append (spelled k) (spelled v))
 
 abbrev pub SoundNode : ℕ → Tree → ℕ → Type 0
 SoundNode most t d = Sound most (spelled t) (Fits t) (depth t) d

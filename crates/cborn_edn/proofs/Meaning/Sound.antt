@@ -16,7 +16,6 @@ use Rattle.cborn_model.proofs.Numbers.Simples.{simple_value}
 use Rattle.cborn_lex.specs.declared.classes.Class.TheVariants.{ArrayClose, MapClose, ParenClose, Comma, Colon, EmbedClose}
 use Rattle.cborn_lex.specs.declared.classes.Token.{Token}
 use Rattle.cborn_lex.specs.declared.classes.Profile.{Profile}
-use Rattle.cborn_lex.specs.declared.classes.Profile.TheVariants.{Two}
 use Rattle.cborn_lex.proofs.WholeTexts.Weights.{weigh}
 use Rattle.cborn_edn.specs.declared.faults.EdnReason.TheVariants.{MixedChunks, BadSimple}
 use Rattle.cborn_edn.specs.declared.meaning_errors.MeaningError.{MeaningError}
@@ -24,13 +23,9 @@ use Rattle.cborn_model.specs.declared.visitors.StringKind.{StringKind}
 use Rattle.cborn_edn.specs.Says.{width, same_kind, is_below, tag_errors, is_simple, unless, Str, chunk, mark_errors, string_errors}
 use Rattle.cborn_edn.specs.Grammar.{token, IsItem, number, word, simple, tag, array, map, string, chunked, IsPiece, text_piece, byte_piece, embedded, ArePieces, piece, also, AreChunks, first, next, AreItems, last, before, IsContent, empty, tight, loose, ArePairs, last_pair, pair_before, IsFields, no_fields, tight_fields, loose_fields, IsText, nothing, items}
 use Rattle.cborn_edn.specs.devices.Modest.{AreModest}
-use Rattle.cborn_edn.specs.devices.Syntax.{Pieces, tokens_of_pieces, depth_of_pieces}
-use Rattle.cborn_edn.specs.devices.Said.{str}
 use Rattle.cborn_edn.proofs.Meaning.NoError.{no_left, no_right, nil_is, known_pieces, held, tag_small, width_fits}
-use Rattle.cborn_edn.proofs.Meaning.Fit.{Sound, SoundNode, SoundChunks, head_short, number_sound, string_sound, said_sound, chunked_sound, enclosed_sound, within, one_more}
-use Rattle.cborn_edn.proofs.Reader.Counts.{few_items, few_entries}
+use Rattle.cborn_edn.proofs.Meaning.Fit.{few_items, few_entries, Sound, SoundNode, SoundChunks, head_short, number_sound, string_sound, said_sound, chunked_sound, enclosed_sound, within, one_more}
 use Rattle.cborn_edn.proofs.Reader.Modest.{modest_left, modest_right, least_bytes, width_bytes}
-use Rattle.cborn_edn.proofs.Short.Derived.{derived_pieces}
 
 abbrev pub SoundAll : List Token → Trees → ℕ → Type 0
 SoundAll x ts d = Sound (64 * weigh x) (spelled_all ts) (FitsAll ts) (depth_all ts) d
@@ -175,7 +170,3 @@ module _ {p : Profile} where
   pub text_sound : {d : ℕ} {x : List Token} {ts : Trees} → IsText p d x ts [] → AreModest x → SoundAll x ts d
   text_sound nothing h = record { bytes = tt; few = omega arith; fits = λ k. tt; low = omega arith }
   text_sound (items is) h = items_sound is h refl
-
--- the content of a string in pieces
-pub pieces_bytes : (ps : Pieces) → AreModest (tokens_of_pieces ps) → (str ps).known ≡ true → AreBytes (str ps).bytes
-pieces_bytes ps h k = (pieces_sound (derived_pieces Two ps (depth_of_pieces ps) (omega arith) tt) h k).bytes

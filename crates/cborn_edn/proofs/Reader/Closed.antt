@@ -1,178 +1,198 @@
--- What is shown after a bracket that ends.
-use Rattle.std.proofs.Common.{◌≡◌, refl, sym, ap, ◌∙◌, subst, ℕ, ◌+◌, List, [], ◌∷◌, ◌++◌, length, take, drop, Bool, true, false, Option, Some, None, append-nil, append_assoc}
-use Rattle.std.specs.Prelude.{Result, Ok, Err, OnOk}
-use Rattle.cborn_model.specs.declared.heads.Width.{Width}
-use Rattle.cborn_model.specs.declared.heads.Major.{Major}
-use Rattle.cborn_model.specs.declared.heads.Major.TheVariants.{Array as ArrayHead, Map as MapHead}
-use Rattle.cborn_model.specs.Heads.{code, head_bytes, head, argument, least}
-use Rattle.cborn_model.specs.Tree.{count, count_entries}
-use Rattle.cborn_model.specs.Spelled.{ending, spelled_all, spelled_entries}
-use Rattle.cborn_lex.specs.declared.classes.Mark.{Mark}
-use Rattle.cborn_lex.specs.declared.classes.Mark.TheVariants.{Absent, Endless, Wide}
-use Rattle.cborn_edn.specs.declared.meaning_errors.MeaningError.{MeaningError}
+-- What is shown after a bracket that opens, and after one that ends.
+use Rattle.std.proofs.Common.{◌≡◌, refl, sym, ap, ◌∙◌, subst, ℕ, List, [], ◌∷◌, ◌++◌, length, Bool, true, false, Option, Some, None, append-nil, append_assoc}
+use Rattle.std.specs.Prelude.{if◌then◌else◌}
+use Rattle.cborn_model.specs.Tree.{Tree, trees, count, count_entries}
+use Rattle.cborn_model.specs.Spelled.{spelled_all}
+use Rattle.cborn_model.specs.Partial.{top, no_part}
 use Rattle.cborn_model.specs.declared.visitors.StringKind.TheVariants.{OfBytes}
-use Rattle.cborn_edn.specs.Says.{width, size, size_errors, width_errors, is_endless, is_nil, Str, joined, piece_errors}
-use Rattle.cborn_edn.specs.devices.MeaningErrors.{first_error, earlier}
-use Rattle.cborn_edn.specs.devices.Syntax.{Span, Content, Fields, Pieces, embedded, array, map}
-use Rattle.cborn_edn.proofs.Grammar.Machine.{Stack, in_array, in_embed, Home, with_piece, has, builds}
-use Rattle.cborn_edn.specs.devices.Said.{str, str_of, nodes_in, entries_in, faults_in, faults_of_fields, faults_of_pieces}
+use Rattle.cborn_wire.specs.shared.Spelling.{IsWritten}
+use Rattle.cborn_wire.specs.declared.spellers.Speller.{Speller}
+use Rattle.cborn_lex.specs.declared.classes.Mark.{Mark}
+use Rattle.cborn_lex.specs.declared.classes.Mark.TheVariants.{Absent}
+use Rattle.cborn_edn.specs.declared.meaning_errors.MeaningError.{MeaningError}
+use Rattle.cborn_edn.specs.Says.{is_nil, Str, joined, piece_errors, size_errors, tag_errors}
+use Rattle.cborn_edn.specs.devices.MeaningErrors.{first_error, earlier, is_none, Notes}
+use Rattle.cborn_edn.specs.devices.TreesCode.{listed_trees, trees-listed}
+use Rattle.cborn_edn.specs.devices.Syntax.{Span, Item, array, map, tag, embedded, Pieces, row, Content, loose, tight, pairs, Fields, loose_fields, tight_fields, no_item}
+use Rattle.cborn_edn.proofs.Grammar.Machine.{Stack, in_row, in_tag, Nest, in_array, in_embed, Home, State, wants, has, builds, with_piece}
+use Rattle.cborn_edn.proofs.Grammar.Takes.{at_home}
+use Rattle.cborn_edn.specs.devices.Said.{node, str, str_of, nodes_before, nodes_in, entries_in, faults, faults_in, faults_of_fields, faults_of_pieces}
+use Rattle.cborn_edn.specs.devices.Noted.{noted, noted_stack, noted_home}
+use Rattle.cborn_edn.specs.devices.Kept.{stack_of, stack_in, bracket, brackets_of, brackets_home, around, arounds_home, bytes_around_home, bytes_before, piece_bytes, pieces_bytes, joint}
+use Rattle.cborn_edn.specs.devices.Shows.{Shows, content_state, fields_state, entries_at}
+use Rattle.cborn_edn.specs.devices.Handed.{states_around, states_around_nest, Handed, IsSpelled}
 use Rattle.cborn_edn.specs.declared.states.Here.{Here}
 use Rattle.cborn_edn.specs.declared.states.Writer.{Writer}
 use Rattle.cborn_edn.specs.declared.states.OpenBracket.{OpenBracket}
-use Rattle.cborn_edn.specs.declared.states.Joint.{Joint}
 use Rattle.cborn_edn.specs.declared.states.Around.{Around}
-use Rattle.cborn_edn.specs.declared.states.Phase.TheVariants.{Has, Builds}
-use Rattle.cborn_edn.specs.devices.MeaningErrors.{is_none, Notes}
-use Rattle.cborn_edn.specs.devices.Laid.{cut, place_of, bytes_before, laid_stack, laid_home}
-use Rattle.cborn_edn.specs.devices.Noted.{noted_stack, noted_home}
-use Rattle.cborn_edn.specs.devices.Kept.{stack_of, bracket, brackets_of, brackets_home, arounds_home, around, joint}
-use Rattle.cborn_edn.specs.devices.Shows.{Shows, content_state, fields_state, entries_at, Same, Sized}
-use Rattle.cborn_edn.proofs.Reader.Laying.{laid_more, laid_set}
-use Rattle.cborn_edn.proofs.Reader.NotedErrors.{none_noted, earlier_noted, none_first}
-use Rattle.cborn_edn.proofs.Reader.Showing.{brackets_same, arounds_same}
+use Rattle.cborn_edn.specs.declared.states.Joint.{Joint}
+use Rattle.cborn_edn.specs.declared.states.Phase.TheVariants.{Has, Builds, Wants}
+use Rattle.cborn_edn.specs.declared.states.Level.TheVariants.{Embedded}
+use Rattle.cborn_edn.proofs.Meaning.NoError.{nil_is}
+use Rattle.cborn_edn.proofs.Reader.NotedErrors.{earlier_noted, none_first}
+use Rattle.cborn_edn.proofs.Reader.Showing.{brackets_same, arounds_same, bytes_same, standing}
 use Rattle.cborn_edn.proofs.Reader.Rows.{InContent, in_content, in_fields}
-
--- three facts of a success give one more
-pub three_ok : {A E : Type 0} (r : Result A E) {P Q R S : Type 0} → (P → Q → R → S) → OnOk r P → OnOk r Q → OnOk r R → OnOk r S
-three_ok (Ok a) f h k l = f h k l
-three_ok (Err e) f h k l = h
-
-bad_endless : {A : Type 0} → true ≡ false → A
-bad_endless e = absurd (let bad : true ≡ false = e in cc)
-
--- a head in the place of its byte
-pub size_head : (major : Major) (m : Mark) (n start : ℕ) (base x old new : List ℕ) (w : Width) → is_endless m ≡ false → start ≡ length base → old ≡ cut (base ++ (place_of major m ++ x)) → w ≡ width m n
-    → new ≡ take start old ++ (cut (head_bytes (code major) w n) ++ drop (start + 1) old) → new ≡ cut (base ++ (head major (argument (size m n) n) ++ x ++ ending (size m n)))
-size_head major Endless n start base x old new w f s e g h = bad_endless f
-size_head major Absent n start base x old new w f s e g h =
-    laid_set base x (head_bytes (code major) w n) old new 0 start s e h ∙ ap (λ v. cut (base ++ (head_bytes (code major) v n ++ x))) g ∙ ap (λ y. cut (base ++ y)) (sym (append-nil (head_bytes (code major) (width Absent n) n ++ x)))
-size_head major (Wide v) n start base x old new w f s e g h =
-    laid_set base x (head_bytes (code major) w n) old new 0 start s e h ∙ ap (λ v. cut (base ++ (head_bytes (code major) v n ++ x))) g ∙ ap (λ y. cut (base ++ y)) (sym (append-nil (head_bytes (code major) (width (Wide v) n) n ++ x)))
-
-pub size_end : (major : Major) (m : Mark) (n : ℕ) (base x old new : List ℕ) → is_endless m ≡ true → old ≡ cut (base ++ (place_of major m ++ x)) → new ≡ old ++ (255 ∷ []) → new ≡ cut (base ++ (head major (argument (size m n) n) ++ x ++ ending (size m n)))
-size_end major Endless n base x old new f e h = laid_more (base ++ (place_of major Endless ++ x)) (255 ∷ []) old new e h ∙ ap cut (append_assoc base (place_of major Endless ++ x) (255 ∷ []))
-size_end major Absent n base x old new f e h = bad_endless (sym f)
-size_end major (Wide v) n base x old new f e h = bad_endless (sym f)
-
--- without an indicator
-pub size_absent : (major : Major) (m : Mark) (n start : ℕ) (old new : List ℕ) → m ≡ Absent → new ≡ take start old ++ (cut (head_bytes (code major) (least n) n) ++ drop (start + 1) old) → Sized major m start n old new
-size_absent major m n start old new e h = subst (λ v. Sized major v start n old new) (sym e) (λ base x s g. size_head major Absent n start base x old new (least n) refl s g refl h)
-
-pub absent_noted : (p : ℕ) (m : Mark) (n : ℕ) (old : Option MeaningError) → m ≡ Absent → Notes old old (size_errors p m n)
-absent_noted p m n old e = subst (λ v. Notes old old (size_errors p v n)) (sym e) (none_noted old)
-
-pub size_noted : (p : ℕ) (m : Mark) (n : ℕ) (old new : Option MeaningError) → is_endless m ≡ false → Notes old new (width_errors p m n) → Notes old new (size_errors p m n)
-size_noted p Endless n old new f h = bad_endless f
-size_noted p Absent n old new f h = h
-size_noted p (Wide v) n old new f h = h
-
-pub end_noted : (p : ℕ) (m : Mark) (n : ℕ) (old : Option MeaningError) → is_endless m ≡ true → Notes old old [] → Notes old old (size_errors p m n)
-end_noted p Endless n old f h = h
-end_noted p Absent n old f h = bad_endless (sym f)
-end_noted p (Wide v) n old f h = bad_endless (sym f)
+use Rattle.cborn_edn.proofs.HandedOver.Silent.{listed_snoc}
 
 -- the innermost bracket is taken off
 abbrev pub Shut : Here → Writer → Here → Writer → OpenBracket → Type 0
 Shut here w next mid f = (g : OpenBracket) (gs : List OpenBracket) → w.brackets ≡ g ∷ gs → (f ≡ g) × (mid ≡ record w { brackets = gs }) × (next ≡ record here { count = g.count; phase = Has; level = g.level })
 
-pub closed_array : (here next : Here) (w mid left : Writer) (f : OpenBracket) (n : ℕ) (st : Stack) (s a : Span) (m : Mark) (c : Content) → Shows here w w.out.items (content_state (in_array st s m) c) → Shut here w next mid f → n ≡ entries_at here.phase here.count → Same mid left
-    → Sized ArrayHead f.mark f.start n mid.out.items left.out.items → Notes mid.error left.error (size_errors f.place f.mark n) → Shows next left left.out.items (has st (array s m c a))
-closed_array here next w mid left f n st s a m c e shut k same sized noted =
-    let q = in_content here w w.out.items (in_array st s m) c e in
-    let base = laid_stack st in
-    let x = spelled_all (nodes_in c) in
-    let g = bracket st s.start (length base) m in
-    let t = shut g (brackets_of st) q.brackets in
+-- the states around what ends
+pub content_states : (n : Nest) (c : Content) → states_around (stack_in (content_state n c)) ≡ states_around_nest n
+content_states n (loose b) = refl
+content_states n (tight (row b i)) = refl
+
+pub fields_states : (st : Stack) (s : Span) (m : Mark) (c : Fields) → states_around (stack_in (fields_state st s m c)) ≡ states_around st
+fields_states st s m (loose_fields b) = refl
+fields_states st s m (tight_fields (pairs b k d v)) = refl
+
+pub closed_array : (here next : Here) (w mid : Writer) (new : Option MeaningError) (ps : List Speller) (f : OpenBracket) (n : ℕ) (st : Stack) (s a : Span) (m : Mark) (c : Content) → Shows here w w.pieces.items (content_state (in_array st s m) c) → Shut here w next mid f → n ≡ entries_at here.phase here.count
+    → Notes mid.error new (size_errors f.place f.mark n) → Shows next (record mid { error = new; spellers = ps }) mid.pieces.items (has st (array s m c a))
+closed_array here next w mid new ps f n st s a m c e shut k noted =
+    let q = in_content here w w.pieces.items (in_array st s m) c e in
+    let t = shut (bracket st s.start m) (brackets_of st) q.brackets in
     let all : n ≡ count (nodes_in c) = k ∙ q.count in
-    let old : mid.out.items ≡ cut (base ++ (place_of ArrayHead m ++ x)) = ap (λ (y : Writer). y.out.items) t.1 ∙ q.laid ∙ ap cut (append_assoc base (place_of ArrayHead m) x) in
-    let set = subst (λ i. Sized ArrayHead m (length base) i mid.out.items left.out.items) all (subst (λ (y : OpenBracket). Sized ArrayHead y.mark y.start n mid.out.items left.out.items) t.0 sized) in
-    let note : Notes mid.error left.error (size_errors s.start m (count (nodes_in c))) = subst (λ i. Notes mid.error left.error (size_errors s.start m i)) all (subst (λ (y : OpenBracket). Notes mid.error left.error (size_errors y.place y.mark n)) t.0 noted) in
+    let note : Notes mid.error new (size_errors s.start m (count (nodes_in c))) = subst (λ i. Notes mid.error new (size_errors s.start m i)) all (subst (λ (y : OpenBracket). Notes mid.error new (size_errors y.place y.mark n)) t.0 noted) in
     record {
       phase = ap (λ (y : Here). y.phase) t.2;
       level = ap (λ (y : Here). y.level) t.2;
       count = ap (λ (y : Here). y.count) t.2;
-      brackets = same.brackets ∙ ap (λ (y : Writer). y.brackets) t.1;
-      around = same.around ∙ ap (λ (y : Writer). y.around) t.1 ∙ q.around;
-      string = same.string ∙ ap (λ (y : Writer). y.string) t.1 ∙ q.string;
-      chunks = same.chunks ∙ ap (λ (y : Writer). y.chunks) t.1 ∙ q.chunks;
+      brackets = ap (λ (y : Writer). y.brackets) t.1;
+      around = ap (λ (y : Writer). y.around) t.1 ∙ q.around;
+      string = ap (λ (y : Writer). y.string) t.1 ∙ q.string;
+      chunks = ap (λ (y : Writer). y.chunks) t.1 ∙ q.chunks;
       simple = tt;
       error = note (noted_stack st ++ faults_in c) (ap (λ (y : Writer). y.error) t.1 ∙ q.error) ∙ ap first_error (append_assoc (noted_stack st) (faults_in c) (size_errors s.start m (count (nodes_in c))));
-      out = set base x refl old;
+      start = ap (λ (y : Writer). y.start) t.1 ∙ q.start;
+      pieces = ap (λ (y : Writer). y.pieces.items) t.1 ∙ q.pieces;
     }
 
-pub closed_map : (here next : Here) (w mid left : Writer) (f : OpenBracket) (n : ℕ) (st : Stack) (s a : Span) (m : Mark) (c : Fields) → Shows here w w.out.items (fields_state st s m c) → Shut here w next mid f → n ≡ entries_at here.phase here.count → Same mid left
-    → Sized MapHead f.mark f.start n mid.out.items left.out.items → Notes mid.error left.error (size_errors f.place f.mark n) → Shows next left left.out.items (has st (map s m c a))
-closed_map here next w mid left f n st s a m c e shut k same sized noted =
-    let q = in_fields here w w.out.items st s m c e in
-    let base = laid_stack st in
-    let x = spelled_entries (entries_in c) in
-    let g = bracket st s.start (length base) m in
-    let t = shut g (brackets_of st) q.brackets in
+pub closed_map : (here next : Here) (w mid : Writer) (new : Option MeaningError) (ps : List Speller) (f : OpenBracket) (n : ℕ) (st : Stack) (s a : Span) (m : Mark) (c : Fields) → Shows here w w.pieces.items (fields_state st s m c) → Shut here w next mid f → n ≡ entries_at here.phase here.count
+    → Notes mid.error new (size_errors f.place f.mark n) → Shows next (record mid { error = new; spellers = ps }) mid.pieces.items (has st (map s m c a))
+closed_map here next w mid new ps f n st s a m c e shut k noted =
+    let q = in_fields here w w.pieces.items st s m c e in
+    let t = shut (bracket st s.start m) (brackets_of st) q.brackets in
     let all : n ≡ count_entries (entries_in c) = k ∙ q.count in
-    let old : mid.out.items ≡ cut (base ++ (place_of MapHead m ++ x)) = ap (λ (y : Writer). y.out.items) t.1 ∙ q.laid in
-    let set = subst (λ i. Sized MapHead m (length base) i mid.out.items left.out.items) all (subst (λ (y : OpenBracket). Sized MapHead y.mark y.start n mid.out.items left.out.items) t.0 sized) in
-    let note : Notes mid.error left.error (size_errors s.start m (count_entries (entries_in c))) = subst (λ i. Notes mid.error left.error (size_errors s.start m i)) all (subst (λ (y : OpenBracket). Notes mid.error left.error (size_errors y.place y.mark n)) t.0 noted) in
+    let note : Notes mid.error new (size_errors s.start m (count_entries (entries_in c))) = subst (λ i. Notes mid.error new (size_errors s.start m i)) all (subst (λ (y : OpenBracket). Notes mid.error new (size_errors y.place y.mark n)) t.0 noted) in
     record {
       phase = ap (λ (y : Here). y.phase) t.2;
       level = ap (λ (y : Here). y.level) t.2;
       count = ap (λ (y : Here). y.count) t.2;
-      brackets = same.brackets ∙ ap (λ (y : Writer). y.brackets) t.1;
-      around = same.around ∙ ap (λ (y : Writer). y.around) t.1 ∙ q.around;
-      string = same.string ∙ ap (λ (y : Writer). y.string) t.1 ∙ q.string;
-      chunks = same.chunks ∙ ap (λ (y : Writer). y.chunks) t.1 ∙ q.chunks;
+      brackets = ap (λ (y : Writer). y.brackets) t.1;
+      around = ap (λ (y : Writer). y.around) t.1 ∙ q.around;
+      string = ap (λ (y : Writer). y.string) t.1 ∙ q.string;
+      chunks = ap (λ (y : Writer). y.chunks) t.1 ∙ q.chunks;
       simple = tt;
       error = note (noted_stack st ++ faults_of_fields c) (ap (λ (y : Writer). y.error) t.1 ∙ q.error) ∙ ap first_error (append_assoc (noted_stack st) (faults_of_fields c) (size_errors s.start m (count_entries (entries_in c))));
-      out = set base x refl old;
+      start = ap (λ (y : Writer). y.start) t.1 ∙ q.start;
+      pieces = ap (λ (y : Writer). y.pieces.items) t.1 ∙ q.pieces;
     }
+
+pub closed_tag : (here next : Here) (w mid : Writer) (ps : List Speller) (f : OpenBracket) (st : Stack) (s a : Span) (n : ℕ) (m : Mark) (i : Item) → Shows here w w.pieces.items (has (in_tag st s n m) i) → Shut here w next mid f → Shows next (record mid { spellers = ps }) mid.pieces.items (has st (tag s n m i a))
+closed_tag here next w mid ps f st s a n m i e shut =
+    let t = shut (bracket st 0 Absent) (brackets_of st) e.brackets in
+    record {
+      phase = ap (λ (y : Here). y.phase) t.2;
+      level = ap (λ (y : Here). y.level) t.2;
+      count = ap (λ (y : Here). y.count) t.2;
+      brackets = ap (λ (y : Writer). y.brackets) t.1;
+      around = ap (λ (y : Writer). y.around) t.1 ∙ e.around;
+      string = ap (λ (y : Writer). y.string) t.1 ∙ e.string;
+      chunks = ap (λ (y : Writer). y.chunks) t.1 ∙ e.chunks;
+      simple = tt;
+      error = ap (λ (y : Writer). y.error) t.1 ∙ e.error ∙ ap first_error (append_assoc (noted_stack st) (tag_errors s.start m n) (faults i));
+      start = ap (λ (y : Writer). y.start) t.1 ∙ e.start;
+      pieces = ap (λ (y : Writer). y.pieces.items) t.1 ∙ e.pieces;
+    }
+
+-- a `<<` opens
+pub embed_kept : (here next : Here) (w left : Writer) (ps : List Speller) (h : Home) (o : Option Pieces) (a : Span) (place from : ℕ) (all : List Around) → place ≡ a.start → from ≡ length w.pieces.items → all ≡ record { start = w.start; string = w.string; chunks = w.chunks; error = w.error } ∷ w.around
+    → next ≡ record here { count = 0; phase = Wants; level = Some Embedded } → left ≡ record w { start = from; brackets = record { place = place; count = here.count; level = here.level; mark = Absent } ∷ w.brackets; around = all; spellers = ps; string = None; chunks = None; error = None }
+    → Shows here w w.pieces.items (at_home h o) → Shows next left left.pieces.items (wants (in_row (in_embed h o a) no_item))
+embed_kept here next w left ps h o a place from all p n k f l e =
+    let q = standing here w h o w.pieces.items e in
+    record {
+      phase = ap (λ (y : Here). y.phase) f;
+      level = ap (λ (y : Here). y.level) f;
+      count = ap (λ (y : Here). y.count) f;
+      brackets = ap (λ (y : Writer). y.brackets) l ∙ (λ i. record { place = p i; count = q.home.count i; level = q.home.level i; mark = Absent } ∷ (q.home.brackets ∙ brackets_same h) i);
+      around = ap (λ (y : Writer). y.around) l ∙ k ∙ (λ i. record { start = q.home.start i; string = q.string i; chunks = q.home.chunks i; error = q.error i } ∷ (q.home.around ∙ arounds_same h) i);
+      string = ap (λ (y : Writer). y.string) l;
+      chunks = ap (λ (y : Writer). y.chunks) l;
+      simple = tt;
+      error = ap (λ (y : Writer). y.error) l;
+      start = ap (λ (y : Writer). y.start) l ∙ n ∙ ap length q.pieces;
+      pieces = ap (λ (y : Writer). y.pieces.items) l ∙ q.pieces;
+    }
+
+-- what a speller wrote of a `<<` without a meaning error
+pub content_spelled : (p : Speller) (h : Home) (o : Option Pieces) (s : Span) (c : Content) → Handed (IsWritten p) (content_state (in_embed h o s) c) → faults_in c ≡ [] → IsWritten p (top (listed_trees (nodes_in c))) no_part
+content_spelled p h o s (loose b) t q = (t q).0
+content_spelled p h o s (tight (row b i)) t q = subst (λ (l : List Tree). IsWritten p (top l) no_part) (sym (listed_snoc (nodes_before b) (node i))) (t q).0
+
+-- it has none, if none was noted in it
+pub content_known : (here next : Here) (w mid : Writer) (f : OpenBracket) (h : Home) (o : Option Pieces) (s : Span) (c : Content) → Shut here w next mid f → Shows here w w.pieces.items (content_state (in_embed h o s) c) → is_none mid.error ≡ true → faults_in c ≡ []
+content_known here next w mid f h o s c shut e none =
+    let q = in_content here w w.pieces.items (in_embed h o s) c e in
+    let d = shut (bracket (stack_of h) s.start Absent) (brackets_home h) q.brackets in
+    nil_is (faults_in c) (sym (none_first (faults_in c)) ∙ ap is_none (sym (ap (λ (y : Writer). y.error) d.1 ∙ q.error)) ∙ none)
+
+pub spelled_innermost : (all : List Speller) (p : Speller) (ps : List Speller) (s : State) → all ≡ p ∷ ps → IsSpelled all s → Handed (IsWritten p) s
+spelled_innermost all p ps s e t = subst (λ (l : List Speller). IsSpelled l s) e t
 
 one_head : {A : Type 0} (x y : A) (xs ys : List A) → x ∷ xs ≡ y ∷ ys → (x ≡ y) × (xs ≡ ys)
 one_head x y xs ys e = (cc, cc)
 
 -- what a string with one more piece is, which is embedded
-pub record Rejoined (before : Option Joint) (f : OpenBracket) (known : Bool) (m : Mark) (place : ℕ) (old new : Option MeaningError) (j : Joint) : Type 0 where
-  pub alone : (t : Str) → before ≡ None → t.kind ≡ OfBytes → t.place ≡ f.place → t.lone ≡ false → t.known ≡ known → t.mark ≡ m → t.mark_place ≡ place → (j ≡ joint f.start t) × (new ≡ old)
-  pub more : (start : ℕ) (s t : Str) → before ≡ Some (joint start s) → t.kind ≡ OfBytes → t.place ≡ f.place → t.known ≡ known → t.mark ≡ m → t.mark_place ≡ place → (j ≡ joint start (joined s t)) × Notes old new (piece_errors s t)
+pub record Rejoined (before : Option Joint) (opened : ℕ) (known : Bool) (m : Mark) (place : ℕ) (old new : Option MeaningError) (j : Joint) : Type 0 where
+  pub alone : (t : Str) → before ≡ None → t.kind ≡ OfBytes → t.place ≡ opened → t.lone ≡ false → t.known ≡ known → t.mark ≡ m → t.mark_place ≡ place → (j ≡ joint t) × (new ≡ old)
+  pub more : (s t : Str) → before ≡ Some (joint s) → t.kind ≡ OfBytes → t.place ≡ opened → t.known ≡ known → t.mark ≡ m → t.mark_place ≡ place → (j ≡ joint (joined s t)) × Notes old new (piece_errors s t)
 
-pub record Embeds (here next : Here) (w mid left : Writer) (f : OpenBracket) (x : Around) (j : Joint) (sure : Bool) (m : Mark) (place : ℕ) : Type 0 where
+pub record Embeds (here next : Here) (w mid left : Writer) (f : OpenBracket) (x : Around) (j : Joint) (p : Speller) (sure : Bool) (m : Mark) (place : ℕ) : Type 0 where
   pub shut : Shut here w next mid f
   pub known : sure ≡ is_none mid.error
   pub popped : mid.around ≡ x ∷ left.around
-  pub joint : Rejoined x.string f sure m place (earlier x.error mid.error) left.error j
+  pub joint : Rejoined x.string f.place sure m place (earlier x.error mid.error) left.error j
   pub brackets : left.brackets ≡ mid.brackets
   pub chunks : left.chunks ≡ x.chunks
+  pub start : left.start ≡ x.start
   pub string : left.string ≡ Some j
-  pub out : left.out.items ≡ mid.out.items
+  pub pieces : (ts : List Tree) → (sure ≡ true → IsWritten p (top ts) no_part) → left.pieces.items ≡ mid.pieces.items ++ (if sure then spelled_all (trees ts) else [])
 
-module _ (here next last : Here) (w mid left : Writer) (f : OpenBracket) (x : Around) (j : Joint) (sure : Bool) (m : Mark) (place : ℕ) (k : Embeds here next w mid left f x j sure m place) (same : last ≡ record next { phase = Builds }) (h : Home) (s a : Span) (c : Content) (p : place ≡ a.start) where
+module _ (here next last : Here) (w mid left : Writer) (f : OpenBracket) (x : Around) (j : Joint) (p : Speller) (sure : Bool) (m : Mark) (place : ℕ) (k : Embeds here next w mid left f x j p sure m place) (same : last ≡ record next { phase = Builds }) (h : Home) (s a : Span) (c : Content) (from : place ≡ a.start) where
   -- what is kept after the bracket and what was kept around it were taken off
   record Left (o : Option Pieces) : Type 0 where
-    opened : f ≡ bracket (stack_of h) s.start (length (laid_home h)) Absent
+    opened : f ≡ bracket (stack_of h) s.start Absent
     stood : x ≡ around h o
     outer : left.around ≡ arounds_home h
     inner : mid.error ≡ first_error (faults_in c)
-    back : next ≡ record here { count = (bracket (stack_of h) s.start (length (laid_home h)) Absent).count; phase = Has; level = (bracket (stack_of h) s.start (length (laid_home h)) Absent).level }
+    back : next ≡ record here { count = (bracket (stack_of h) s.start Absent).count; phase = Has; level = (bracket (stack_of h) s.start Absent).level }
     brackets : left.brackets ≡ brackets_of (stack_of h)
-    laid : left.out.items ≡ cut (laid_home h ++ (0 ∷ bytes_before o) ++ spelled_all (nodes_in c))
+    sure_is : is_nil (faults_in c) ≡ sure
+    pieces : left.pieces.items ≡ (bytes_around_home h ++ bytes_before o) ++ piece_bytes (embedded s c a m)
 
-  what_left : (o : Option Pieces) → InContent here w w.out.items (in_embed h o s) c → Left o
-  what_left o q =
-      let t = k.shut (bracket (stack_of h) s.start (length (laid_home h)) Absent) (brackets_home h) q.brackets in
-      let u = one_head x (around h o) left.around (arounds_home h) (sym k.popped ∙ ap (λ (y : Writer). y.around) t.1 ∙ q.around) in
+  what_left : (o : Option Pieces) → Handed (IsWritten p) (content_state (in_embed h o s) c) → InContent here w w.pieces.items (in_embed h o s) c → Left o
+  what_left o t q =
+      let d = k.shut (bracket (stack_of h) s.start Absent) (brackets_home h) q.brackets in
+      let u = one_head x (around h o) left.around (arounds_home h) (sym k.popped ∙ ap (λ (y : Writer). y.around) d.1 ∙ q.around) in
+      let error : mid.error ≡ first_error (faults_in c) = ap (λ (y : Writer). y.error) d.1 ∙ q.error in
+      let known : is_nil (faults_in c) ≡ sure = sym (none_first (faults_in c)) ∙ ap is_none (sym error) ∙ sym k.known in
+      let nodes = nodes_in c in
       record {
-        opened = t.0;
+        opened = d.0;
         stood = u.0;
         outer = u.1;
-        inner = ap (λ (y : Writer). y.error) t.1 ∙ q.error;
-        back = t.2;
-        brackets = k.brackets ∙ ap (λ (y : Writer). y.brackets) t.1 ∙ sym (brackets_same h);
-        laid = k.out ∙ ap (λ (y : Writer). y.out.items) t.1 ∙ q.laid;
+        inner = error;
+        back = d.2;
+        brackets = k.brackets ∙ ap (λ (y : Writer). y.brackets) d.1 ∙ sym (brackets_same h);
+        sure_is = known;
+        pieces = k.pieces (listed_trees nodes) (λ e. content_spelled p h o s c t (nil_is (faults_in c) (known ∙ e)))
+            ∙ (λ i. (ap (λ (y : Writer). y.pieces.items) d.1 ∙ q.pieces) i ++ (if sym known i then spelled_all (trees-listed nodes i) else []));
       }
 
-  surely : (o : Option Pieces) → Left o → is_nil (faults_in c) ≡ sure
-  surely o l = sym (none_first (faults_in c)) ∙ ap is_none (sym l.inner) ∙ sym k.known
-
   -- the parts that are the same with and without pieces before
-  shown : (ps : Pieces) (o : Option Pieces) → Left o → j ≡ joint (length (laid_home h)) (str ps) → left.error ≡ first_error (noted_home h ++ faults_of_pieces ps) → left.out.items ≡ cut (laid_home h ++ (0 ∷ (str ps).bytes)) → Shows last left left.out.items (builds h ps)
+  shown : (ps : Pieces) (o : Option Pieces) → Left o → j ≡ joint (str ps) → left.error ≡ first_error (noted_home h ++ faults_of_pieces ps) → left.pieces.items ≡ bytes_around_home h ++ pieces_bytes ps → Shows last left left.pieces.items (builds h ps)
   shown ps o l e n q = record {
     phase = ap (λ (y : Here). y.phase) same;
     level = ap (λ (y : Here). y.level) same ∙ ap (λ (y : Here). y.level) l.back;
@@ -183,31 +203,31 @@ module _ (here next last : Here) (w mid left : Writer) (f : OpenBracket) (x : Ar
     chunks = k.chunks ∙ ap (λ (y : Around). y.chunks) l.stood;
     simple = tt;
     error = n;
-    out = q;
+    start = k.start ∙ ap (λ (y : Around). y.start) l.stood ∙ ap length (sym (bytes_same h));
+    pieces = q;
   }
 
-  pub closed_first : Shows here w w.out.items (content_state (in_embed h None s) c) → Shows last left left.out.items (builds h (with_piece None (embedded s c a m)))
-  closed_first e =
-      let l = what_left None (in_content here w w.out.items (in_embed h None s) c e) in
+  closed_first : Handed (IsWritten p) (content_state (in_embed h None s) c) → Shows here w w.pieces.items (content_state (in_embed h None s) c) → Shows last left left.pieces.items (builds h (with_piece None (embedded s c a m)))
+  closed_first z e =
+      let l = what_left None z (in_content here w w.pieces.items (in_embed h None s) c e) in
       let t = str_of (embedded s c a m) in
-      let d = k.joint.alone t (ap (λ (y : Around). y.string) l.stood) refl (sym (ap (λ (y : OpenBracket). y.place) l.opened)) refl (surely None l) refl (sym p) in
+      let d = k.joint.alone t (ap (λ (y : Around). y.string) l.stood) refl (sym (ap (λ (y : OpenBracket). y.place) l.opened)) refl l.sure_is refl (sym from) in
       let noted : Notes x.error left.error (faults_in c) = earlier_noted x.error left.error mid.error (faults_in c) l.inner d.1 in
-      shown (with_piece None (embedded s c a m)) None l
-      (d.0 ∙ ap (λ i. joint i t) (ap (λ (y : OpenBracket). y.start) l.opened))
+      shown (with_piece None (embedded s c a m)) None l d.0
       (noted (noted_home h ++ []) (ap (λ (y : Around). y.error) l.stood) ∙ ap (λ y. first_error (y ++ faults_in c)) (append-nil (noted_home h)))
-      (l.laid ∙ ap cut (append_assoc (laid_home h) (0 ∷ []) (spelled_all (nodes_in c))))
+      (l.pieces ∙ ap (λ y. y ++ piece_bytes (embedded s c a m)) (append-nil (bytes_around_home h)))
 
-  pub closed_more : (ps : Pieces) → Shows here w w.out.items (content_state (in_embed h (Some ps) s) c) → Shows last left left.out.items (builds h (with_piece (Some ps) (embedded s c a m)))
-  closed_more ps e =
-      let l = what_left (Some ps) (in_content here w w.out.items (in_embed h (Some ps) s) c e) in
+  closed_more : (ps : Pieces) → Handed (IsWritten p) (content_state (in_embed h (Some ps) s) c) → Shows here w w.pieces.items (content_state (in_embed h (Some ps) s) c) → Shows last left left.pieces.items (builds h (with_piece (Some ps) (embedded s c a m)))
+  closed_more ps z e =
+      let l = what_left (Some ps) z (in_content here w w.pieces.items (in_embed h (Some ps) s) c e) in
       let t = str_of (embedded s c a m) in
-      let d = k.joint.more (length (laid_home h)) (str ps) t (ap (λ (y : Around). y.string) l.stood) refl (sym (ap (λ (y : OpenBracket). y.place) l.opened)) (surely (Some ps) l) refl (sym p) in
+      let d = k.joint.more (str ps) t (ap (λ (y : Around). y.string) l.stood) refl (sym (ap (λ (y : OpenBracket). y.place) l.opened)) l.sure_is refl (sym from) in
       let noted : Notes x.error (earlier x.error mid.error) (faults_in c) = earlier_noted x.error (earlier x.error mid.error) mid.error (faults_in c) l.inner refl in
       shown (with_piece (Some ps) (embedded s c a m)) (Some ps) l d.0
       (d.1 (noted_home h ++ faults_of_pieces ps ++ faults_in c) (noted (noted_home h ++ faults_of_pieces ps) (ap (λ (y : Around). y.error) l.stood))
       ∙ ap first_error (append_assoc (noted_home h ++ faults_of_pieces ps) (faults_in c) (piece_errors (str ps) t) ∙ append_assoc (noted_home h) (faults_of_pieces ps) (faults_in c ++ piece_errors (str ps) t)))
-      (l.laid ∙ ap cut (append_assoc (laid_home h) (0 ∷ (str ps).bytes) (spelled_all (nodes_in c))))
+      (l.pieces ∙ append_assoc (bytes_around_home h) (pieces_bytes ps) (piece_bytes (embedded s c a m)))
 
-  pub closed_embed : (o : Option Pieces) → Shows here w w.out.items (content_state (in_embed h o s) c) → Shows last left left.out.items (builds h (with_piece o (embedded s c a m)))
-  closed_embed None e = closed_first e
-  closed_embed (Some ps) e = closed_more ps e
+  pub closed_embed : (o : Option Pieces) → Handed (IsWritten p) (content_state (in_embed h o s) c) → Shows here w w.pieces.items (content_state (in_embed h o s) c) → Shows last left left.pieces.items (builds h (with_piece o (embedded s c a m)))
+  closed_embed None z e = closed_first z e
+  closed_embed (Some ps) z e = closed_more ps z e

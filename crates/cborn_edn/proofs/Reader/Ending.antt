@@ -1,7 +1,9 @@
 -- The end of a text: its bytes, or why it has none.
-use Rattle.std.proofs.Common.{◌≡◌, refl, sym, ap, ◌∙◌, subst, ℕ, List, [], length, Bool, true, false, Option, Some, None, inr}
+use Rattle.std.proofs.Common.{◌≡◌, refl, sym, ap, ◌∙◌, subst, ℕ, List, [], ◌∷◌, length, Bool, true, false, Option, Some, None, inr}
 use Rattle.cborn_model.specs.Partial.{top, no_part}
-use Rattle.cborn_model.specs.Spelled.{spelled_all}
+use Rattle.cborn_model.specs.Tree.{Tree, trees}
+use Rattle.cborn_model.specs.Spelled.{FitsAll}
+use Rattle.cborn_wire.specs.declared.spellers.Speller.{Speller}
 use Rattle.cborn_lex.specs.Lex.{Lex}
 use Rattle.cborn_lex.specs.declared.classes.Profile.{Profile}
 use Rattle.cborn_lex.proofs.GoodTexts.{has_tokens}
@@ -22,16 +24,24 @@ use Rattle.cborn_edn.proofs.Short.SyntaxErrors.{refused, text_of}
 use Rattle.cborn_edn.specs.declared.states.Here.{Here}
 use Rattle.cborn_edn.specs.declared.states.Writer.{Writer}
 use Rattle.cborn_edn.specs.devices.MeaningErrors.{is_none}
-use Rattle.cborn_edn.specs.devices.Laid.{cut}
 use Rattle.cborn_edn.specs.devices.Kept.{phase_of, stack_in, level_of, chunks_in}
+use Rattle.cborn_edn.specs.devices.Shows.{Shows}
 use Rattle.cborn_edn.specs.devices.TreesCode.{listed_trees, trees-listed}
-use Rattle.cborn_edn.specs.devices.Handed.{Holds, Reads, IsSpelledTo}
+use Rattle.cborn_edn.specs.devices.Events.{Holds}
+use Rattle.cborn_edn.specs.devices.Handed.{Handed, AllHanded, Reads}
 use Rattle.cborn_edn.proofs.HandedOver.Silent.{listed_snoc}
 use Rattle.cborn_edn.specs.devices.Reading.{may_end, ends_string, Last, empty, item, pieces, AtEnd, Reached, IsReading}
-use Rattle.cborn_edn.proofs.Reader.Laying.{cut_bytes}
 use Rattle.cborn_edn.proofs.Reader.NotedErrors.{none_first}
-use Rattle.cborn_edn.proofs.Reader.Rows.{spelled_snoc}
-use Rattle.cborn_edn.proofs.Meaning.Sound.{text_sound}
+
+-- outside of each `<<` there are no spellers
+outside : (h : Holds) (ps : List Speller) (s : State) → AllHanded h ps (s ∷ []) → Handed h s
+outside h [] s t = t
+outside h (p ∷ []) s t = absurd t.1
+outside h (p ∷ q ∷ ps) s t = absurd t.1
+
+-- before the first token
+pub first_reads : {h : Holds} (here : Here) (w : Writer) → w.spellers ≡ [] → h (top []) no_part → Shows here w w.pieces.items start → Reads h here w w.pieces.items start
+first_reads {h = h} here w none new e = record { shows = e; handed = subst (λ ps. AllHanded h ps (start ∷ [])) (sym none) (λ q. (new, tt)) }
 
 -- whether the text may end
 pub data Ends (s : State) (b : Bool) : Type 0 where
@@ -72,15 +82,14 @@ ends (wants_number st s) = none refl refl
 ends (has_number st s b n v m) = none refl refl
 
 -- what is kept at the end
-pub item_end : {h : Holds} (here : Here) (w : Writer) (b : RowBefore) (i : Item) → Reads h here w w.out.items (has (in_row at_top b) i) → AtEnd h (items (row b i)) w
+pub item_end : {h : Holds} (here : Here) (w : Writer) (b : RowBefore) (i : Item) → Reads h here w w.pieces.items (has (in_row at_top b) i) → AtEnd h (items (row b i)) w
 item_end {h = h} here w b i e = record {
-  laid = e.shows.out ∙ ap cut (sym (spelled_snoc (nodes_before b) (node i)));
   error = e.shows.error;
-  held = λ none. subst (λ ts. h (top ts) no_part) (sym (listed_snoc (nodes_before b) (node i))) (e.handed none);
+  held = λ none. subst (λ ts. h (top ts) no_part × FitsAll (trees ts)) (sym (listed_snoc (nodes_before b) (node i))) (outside h w.spellers (has (in_row at_top b) i) e.handed none);
 }
 
-pub bare_end : {h : Holds} (here : Here) (w : Writer) (s : State) (t : Input) → Last s t → ends_string here.phase ≡ false → Reads h here w w.out.items s → AtEnd h t w
-bare_end here w s t empty n e = record { laid = e.shows.out; error = e.shows.error; held = e.handed }
+pub bare_end : {h : Holds} (here : Here) (w : Writer) (s : State) (t : Input) → Last s t → ends_string here.phase ≡ false → Reads h here w w.pieces.items s → AtEnd h t w
+bare_end {h = h} here w s t empty n e = record { error = e.shows.error; held = outside h w.spellers start e.handed }
 bare_end here w s t (item b i) n e = item_end here w b i e
 bare_end here w s t (pieces b ps) n e = absurd (let bad : true ≡ false = ap ends_string (sym e.shows.phase) ∙ n in cc)
 
@@ -114,17 +123,12 @@ module _ (p : Profile) (limit : ℕ) (text : List ℕ) (s : State) (r : Reached 
   meaning_refused t w error e k is =
       inr (r.tokens, nodes_of_input t, faults_of_input t, has_tokens p text r.tokens lex, is_text t e, subst (Tells (faults_of_input t)) (sym k.error ∙ is) (tells (faults_of_input t)))
 
-  pub spelled_text : {h : Holds} (t : Input) (w : Writer) → finish s ≡ Some t → AtEnd h t w → w.error ≡ None → IsSpelledTo h p limit text w.out.items
-  spelled_text t w e k no_error =
+  pub held_text : {h : Holds} (t : Input) (w : Writer) → finish s ≡ Some t → AtEnd h t w → w.error ≡ None → (nodes : List Tree) × h (top nodes) no_part × Notates p limit text (trees nodes) × FitsAll (trees nodes)
+  held_text t w e k no_error =
       let ts = nodes_of_input t in
       let none : faults_of_input t ≡ [] = nil_is (faults_of_input t) (sym (none_first (faults_of_input t)) ∙ ap is_none (sym k.error ∙ no_error)) in
       let is = subst (IsText p limit r.tokens ts) none (is_text t e) in
-      record {
-        nodes = listed_trees ts;
-        notated = subst (Notates p limit text) (sym (trees-listed ts)) (r.tokens, has_tokens p text r.tokens lex, is);
-        spells = ap spelled_all (trees-listed ts) ∙ sym (k.laid ∙ cut_bytes (spelled_all ts) (text_sound is r.modest).bytes);
-        held = k.held none;
-      }
+      (listed_trees ts, (k.held none).0, subst (Notates p limit text) (sym (trees-listed ts)) (r.tokens, has_tokens p text r.tokens lex, is), (k.held none).1)
 
 module _ {h : Holds} {p : Profile} {limit : ℕ} {text : List ℕ} (here : Here) (w : Writer) (r : IsReading h p limit text here w) where
   same_end : may_end (phase_of r.state) (level_of (stack_in r.state)) (chunks_in r.state) ≡ may_end here.phase here.level w.chunks

@@ -1,11 +1,16 @@
 -- Which state is shown, by the phase and the level.
-use Rattle.std.proofs.Common.{◌≡◌, refl, sym, ℕ, true, false, Option, Some, None}
+use Rattle.std.proofs.Common.{◌≡◌, refl, sym, ap, ◌∙◌, subst, ℕ, ◌<◌, List, length, Bool, true, false, Option, Some, None, arith}
 use Rattle.cborn_lex.specs.declared.classes.Mark.{Mark}
 use Rattle.cborn_lex.specs.declared.classes.Class.TheVariants.{ArrayClose, MapClose, EmbedClose, ParenClose, Comma, Colon}
 use Rattle.cborn_edn.specs.devices.Syntax.{Span, Item, Pieces, row, RowBefore, no_item, after_row, Content, loose, tight, pairs, PairsBefore, no_pair, after_pairs, Fields, loose_fields, tight_fields, array, map, embedded}
 use Rattle.cborn_edn.proofs.Grammar.Machine.{Stack, in_row, in_key, in_value, in_tag, Nest, at_top, in_array, in_embed, Home, State, wants, has, builds, wants_chunk, wants_number, has_number, with_piece, step_by}
-use Rattle.cborn_edn.specs.devices.Kept.{level_of, stack_in, phase_of}
-use Rattle.cborn_edn.specs.devices.Shows.{content_state, fields_state}
+use Rattle.cborn_edn.specs.declared.states.Level.{Level}
+use Rattle.cborn_edn.specs.declared.states.Phase.{Phase}
+use Rattle.cborn_edn.specs.declared.states.Phase.TheVariants.{Has}
+use Rattle.cborn_edn.specs.declared.states.Here.{Here}
+use Rattle.cborn_edn.specs.declared.states.Writer.{Writer}
+use Rattle.cborn_edn.specs.devices.Kept.{level_of, stack_in, phase_of, brackets_of}
+use Rattle.cborn_edn.specs.devices.Shows.{Shows, content_state, fields_state}
 use Rattle.cborn_edn.specs.devices.Steps.{is_array, is_embedded, is_key, is_value, is_tag, is_row, ends_map, MayEnd}
 
 never : {A : Type 0} → false ≡ true → A
@@ -191,3 +196,21 @@ no_comma (in_row (in_array st s m) b) i a e f = never (sym f)
 no_comma (in_row (in_embed h o s) b) i a e f = never (sym f)
 no_comma (in_value st p m b k c) i a e f = never (sym e)
 no_comma _ i a e f = refl
+
+-- a bracket of a known kind is open
+brackets_open : (st : Stack) → (level_of st ≡ None → ⊥) → 0 < length (brackets_of st)
+brackets_open (in_row at_top b) n = absurd (n refl)
+brackets_open (in_row (in_array st s m) b) n = omega arith
+brackets_open (in_row (in_embed h o s) b) n = omega arith
+brackets_open (in_key st s m b) n = omega arith
+brackets_open (in_value st s m b k c) n = omega arith
+brackets_open (in_tag st s v m) n = omega arith
+
+pub is_open : (f : Option Level → Bool) (here : Here) (w : Writer) (out : List ℕ) (s : State) → f None ≡ false → f here.level ≡ true → Shows here w out s → 0 < length w.brackets
+is_open f here w out s none some e =
+    let some_level : level_of (stack_in s) ≡ None → ⊥ = λ q. never (sym none ∙ ap f (sym q) ∙ ap f (sym e.level) ∙ some) in
+    subst (λ l. 0 < length l) (sym e.brackets) (brackets_open (stack_in s) some_level)
+
+pub ends_none : (p : Phase) → ends_map p None ≡ false
+ends_none Has = refl
+ends_none _ = refl

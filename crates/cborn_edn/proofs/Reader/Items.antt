@@ -1,7 +1,7 @@
 -- Tokens of numbers, strings and brackets from what was found at a place of a text.
 use Rattle.std.proofs.Common.{◌≡◌, refl, sym, ap, ◌∙◌, subst, ℕ, ◌+◌, ◌<◌, ◌≤◌, List, [], ◌∷◌, ◌++◌, length, take, drop, get_or, Bool, true, false, not, eqb, Some, Ok, arith, append_assoc, length-append, append-nil}
 use Rattle.std.proofs.lemmas.Bool.{ne_eqb, eqb-true, false≢true}
-use Rattle.std.proofs.lemmas.List.{take-append-drop, length-take-le}
+use Rattle.std.proofs.lemmas.List.{take-append-drop, length-take-le, drop-drop}
 use Rattle.cborn_lex.specs.declared.classes.Profile.{Profile}
 use Rattle.cborn_lex.specs.declared.classes.Mark.{Mark}
 use Rattle.cborn_lex.specs.declared.classes.Mark.TheVariants.{Absent}
@@ -10,14 +10,16 @@ use Rattle.cborn_lex.specs.declared.classes.Class.TheVariants.{Number, TagOpen, 
 use Rattle.cborn_lex.specs.Tokens.{begins, is_numeral, is_word, mark_of}
 use Rattle.cborn_lex.specs.Numbers.{integer, signed}
 use Rattle.std.specs.List.{list_all}
+use Rattle.std.specs.Str.{IsUtf8}
 use Rattle.cborn_lex.specs.Strings.{is_content, IsText}
 use Rattle.cborn_lex.specs.devices.Letters.{is_plain, LettersSoFar}
 use Rattle.cborn_lex.proofs.Runs.{none_yet, run_more, letters_end}
 use Rattle.cborn_lex.specs.Forms.{IsRun, IsIndicator}
 use Rattle.cborn_lex.specs.Good as good
-use Rattle.cborn_lex.specs.Good.{IsMark, IsNumeral, Takes}
+use Rattle.cborn_lex.specs.Good.{IsMark, IsNumeral, Takes, TokensBetween}
 use Rattle.cborn_lex.proofs.GoodFronts.{judge}
-use Rattle.cborn_edn.specs.devices.Ahead.{IsTokenAt}
+use Rattle.cborn_edn.specs.devices.Ahead.{IsTokenAt, NoPieceAt, IsTextAt}
+use Rattle.cborn_edn.proofs.Reader.Utf8.{slice_utf8, text_utf8}
 use Rattle.cborn_edn.proofs.Reader.CommonTokens.{begins_here, token_here, ended}
 
 numeral : (negative : Bool) (x mark z : List ℕ) (n : ℕ) (m : Mark) → integer negative x ≡ Ok n → IsRun is_numeral x (mark ++ z) → IsMark mark z m → IsNumeral x mark z n m
@@ -97,7 +99,7 @@ chunks_here profile text at h e f g =
     token_here profile text (40 ∷ 95 ∷ []) (drop (at + 2) text) at (at + 2) ChunkOpen all refl (good.chunk_open (drop (at + 2) text) bare)
 
 -- a text string without an indicator, whose content of len characters stands for these bytes
-pub text_here : (profile : Profile) (text tail bytes : List ℕ) (at len : ℕ) → at < length text → get_or text at 0 ≡ 34 → tail ≡ drop (at + 1) text → len < length tail → get_or tail len 0 ≡ 34 → is_content 34 (take len tail) ≡ true → IsText 34 (take len tail) bytes → begins (λ c. eqb c 95) (drop (len + 1) tail) ≡ false → IsTokenAt profile text at (at + len + 2) (Text bytes Absent)
+text_here : (profile : Profile) (text tail bytes : List ℕ) (at len : ℕ) → at < length text → get_or text at 0 ≡ 34 → tail ≡ drop (at + 1) text → len < length tail → get_or tail len 0 ≡ 34 → is_content 34 (take len tail) ≡ true → IsText 34 (take len tail) bytes → begins (λ c. eqb c 95) (drop (len + 1) tail) ≡ false → IsTokenAt profile text at (at + len + 2) (Text bytes Absent)
 text_here profile text tail bytes at len h e t l q i is b =
     let s = ended text tail at len 34 34 h e t l q in
     token_here profile text (34 ∷ take len tail ++ 34 ∷ []) (drop (len + 1) tail) at (at + len + 2) (Text bytes Absent) s.whole s.size (good.text (take len tail) bytes [] (drop (len + 1) tail) Absent i is (b, refl))
@@ -109,3 +111,18 @@ plain_here tail len h e p =
     let zero : 0 + len ≡ len = omega arith in
     let t = letters_end 34 tail [] (take len tail) len h e (subst (λ (n : ℕ). LettersSoFar 34 tail n [] (take len tail)) zero s) in
     (t.inside, subst (λ (b : List ℕ). IsText 34 (take len tail) b) (sym t.added) t.is)
+
+-- LAW: what is at a text string that no other piece follows
+pub text_at : (profile : Profile) (text tail bytes : List ℕ) (at len stop : ℕ) → at < length text → get_or text at 0 ≡ 34 → tail ≡ drop (at + 1) text → len < length tail → get_or tail len 0 ≡ 34 → is_content 34 (take len tail) ≡ true → IsText 34 (take len tail) bytes
+    → begins (λ c. eqb c 95) (drop (at + len + 2) text) ≡ false → TokensBetween profile text (at + len + 2) stop [] → NoPieceAt text stop → stop ≤ length text → IsTextAt profile text at stop bytes
+text_at profile text tail bytes at len stop h e t l q i is b white none inside =
+    let place : at + 1 + (len + 1) ≡ at + len + 2 = omega arith in
+    let after : drop (at + len + 2) text ≡ drop (len + 1) tail = ap (λ n. drop n text) (sym place) ∙ sym (drop-drop (len + 1) (at + 1) text) ∙ ap (drop (len + 1)) (sym t) in
+    record {
+      stop = at + len + 2;
+      token = text_here profile text tail bytes at len h e t l q i is (subst (λ (y : List ℕ). begins (λ c. eqb c 95) y ≡ false) after b);
+      utf8 = λ u. text_utf8 34 (take len tail) bytes is (subst (λ (y : List ℕ). IsUtf8 (take len y)) (sym t) (slice_utf8 text at len u h (omega (arith, e)) (subst (λ (y : List ℕ). len < length y) t l) (subst (λ (y : List ℕ). get_or y len 0 < 128) t (omega (arith, q)))));
+      white_space = white;
+      ends = none;
+      inside = inside;
+    }

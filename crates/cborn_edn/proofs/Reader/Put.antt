@@ -1,61 +1,34 @@
 -- What is shown after a number, a word or the number of a simple value.
-use Rattle.std.proofs.Common.{◌≡◌, refl, ap, ◌∙◌, ℕ, ◌++◌, Bool}
-use Rattle.cborn_model.specs.Spelled.{spelled}
-use Rattle.cborn_model.specs.Tree.{Simple}
+use Rattle.std.proofs.Common.{◌≡◌, refl, ap, ◌∙◌, ℕ, List, ◌++◌, length, Bool, Option}
 use Rattle.cborn_lex.specs.declared.classes.Mark.{Mark}
-use Rattle.cborn_edn.specs.Says.{number_node, number_errors, simple_errors}
+use Rattle.cborn_edn.specs.Says.{simple_errors}
+use Rattle.cborn_edn.specs.declared.meaning_errors.MeaningError.{MeaningError}
 use Rattle.cborn_edn.specs.devices.MeaningErrors.{first_error, Notes}
-use Rattle.cborn_edn.specs.devices.Syntax.{Span, number, word}
-use Rattle.cborn_edn.proofs.Grammar.Machine.{Stack, wants, has, wants_number, has_number}
+use Rattle.cborn_edn.specs.devices.Syntax.{Span}
+use Rattle.cborn_edn.proofs.Grammar.Machine.{Stack, State}
 use Rattle.cborn_edn.specs.declared.states.Here.{Here}
 use Rattle.cborn_edn.specs.declared.states.Writer.{Writer}
-use Rattle.cborn_edn.specs.declared.states.Phase.TheVariants.{Has, HasNumber}
-use Rattle.cborn_edn.specs.devices.Laid.{cut, laid_stack}
-use Rattle.cborn_edn.specs.devices.Noted.{noted_stack}
-use Rattle.cborn_edn.specs.devices.Shows.{Shows, Same}
-use Rattle.cborn_edn.proofs.Reader.Laying.{laid_more}
-use Rattle.cborn_edn.proofs.Reader.Showing.{same_errors}
+use Rattle.cborn_edn.specs.devices.Noted.{noted, noted_stack}
+use Rattle.cborn_edn.specs.devices.Kept.{phase_of, stack_in, level_of, count_of, brackets_of, arounds_of, bytes_around, string_in, chunks_in, bytes_open}
+use Rattle.cborn_edn.specs.devices.Shows.{Shows, IsOpenAt}
 
-pub number_shown : (here : Here) (w left : Writer) (st : Stack) (a : Span) (place : ℕ) (n : Bool) (x : ℕ) (m : Mark) → place ≡ a.start → Same w left
-    → ((p : ℕ) → left.out.items ≡ w.out.items ++ cut (spelled (number_node p n x m))) → Notes w.error left.error (number_errors place n x m) → Shows here w w.out.items (wants st) → Shows (record here { phase = Has }) left left.out.items (has st (number a n x m))
-number_shown here w left st a place n x m p same added noted e = record {
+-- a leaf was taken, which changes neither what is open nor the pieces
+pub leaf_shown : {here : Here} {w left : Writer} {written more : List ℕ} (s u : State) (new : Option MeaningError) → left ≡ record w { pieces = left.pieces; spellers = left.spellers; error = new } → more ≡ written → stack_in s ≡ stack_in u → string_in s ≡ string_in u → chunks_in s ≡ chunks_in u → bytes_open s ≡ bytes_open u
+    → IsOpenAt left.simple u → new ≡ first_error (noted u) → Shows here w written s → Shows (record here { phase = phase_of u }) left more u
+leaf_shown s u new same kept stack string chunks bytes simple noted e = record {
   phase = refl;
-  level = e.level;
-  count = e.count;
-  brackets = same.brackets ∙ e.brackets;
-  around = same.around ∙ e.around;
-  string = same.string ∙ e.string;
-  chunks = same.chunks ∙ e.chunks;
-  simple = tt;
-  error = noted (noted_stack st) e.error ∙ ap (λ q. first_error (noted_stack st ++ number_errors q n x m)) p;
-  out = laid_more (laid_stack st) (spelled (number_node a.start n x m)) w.out.items left.out.items e.out (added a.start);
+  level = e.level ∙ ap level_of stack;
+  count = e.count ∙ ap count_of stack;
+  brackets = ap (λ (x : Writer). x.brackets) same ∙ e.brackets ∙ ap brackets_of stack;
+  around = ap (λ (x : Writer). x.around) same ∙ e.around ∙ ap arounds_of stack;
+  string = ap (λ (x : Writer). x.string) same ∙ e.string ∙ string;
+  chunks = ap (λ (x : Writer). x.chunks) same ∙ e.chunks ∙ chunks;
+  simple = simple;
+  error = ap (λ (x : Writer). x.error) same ∙ noted;
+  start = ap (λ (x : Writer). x.start) same ∙ e.start ∙ ap (λ x. length (bytes_around x)) stack;
+  pieces = kept ∙ e.pieces ∙ bytes;
 }
 
-pub word_shown : (here : Here) (w left : Writer) (st : Stack) (a : Span) (x : ℕ) → Same w left → left.error ≡ w.error → left.out.items ≡ w.out.items ++ cut (spelled (Simple a.start x)) → Shows here w w.out.items (wants st) → Shows (record here { phase = Has }) left left.out.items (has st (word a x))
-word_shown here w left st a x same error added e = record {
-  phase = refl;
-  level = e.level;
-  count = e.count;
-  brackets = same.brackets ∙ e.brackets;
-  around = same.around ∙ e.around;
-  string = same.string ∙ e.string;
-  chunks = same.chunks ∙ e.chunks;
-  simple = tt;
-  error = same_errors left.error (noted_stack st) (error ∙ e.error);
-  out = laid_more (laid_stack st) (spelled (Simple a.start x)) w.out.items left.out.items e.out added;
-}
-
-pub simple_shown : (here : Here) (w left : Writer) (st : Stack) (s a : Span) (place : ℕ) (n : Bool) (x : ℕ) (m : Mark) → place ≡ a.start → Same w left → left.out.items ≡ w.out.items ++ cut (spelled (Simple w.simple x)) → Notes w.error left.error (simple_errors w.simple place n x m)
-    → Shows here w w.out.items (wants_number st s) → Shows (record here { phase = HasNumber }) left left.out.items (has_number st s a n x m)
-simple_shown here w left st s a place n x m p same added noted e = record {
-  phase = refl;
-  level = e.level;
-  count = e.count;
-  brackets = same.brackets ∙ e.brackets;
-  around = same.around ∙ e.around;
-  string = same.string ∙ e.string;
-  chunks = same.chunks ∙ e.chunks;
-  simple = tt;
-  error = noted (noted_stack st) e.error ∙ ap (λ q. first_error (noted_stack st ++ simple_errors q place n x m)) e.simple ∙ ap (λ q. first_error (noted_stack st ++ simple_errors s.start q n x m)) p;
-  out = laid_more (laid_stack st) (spelled (Simple w.simple x)) w.out.items left.out.items e.out added;
-}
+-- the meaning errors of a simple value
+pub simple_noted : (old new : Option MeaningError) (st : Stack) (s a : Span) (opened place : ℕ) (n : Bool) (x : ℕ) (m : Mark) → opened ≡ s.start → place ≡ a.start → old ≡ first_error (noted_stack st) → Notes old new (simple_errors opened place n x m) → new ≡ first_error (noted_stack st ++ simple_errors s.start a.start n x m)
+simple_noted old new st s a opened place n x m o p e noted = noted (noted_stack st) e ∙ (λ i. first_error (noted_stack st ++ simple_errors (o i) (p i) n x m))

@@ -1,8 +1,6 @@
 -- What is shown before the bracket that ends a row or a map.
-use Rattle.std.proofs.Common.{◌≡◌, refl, sym, ap, ◌∙◌, ℕ, suc, ◌+◌, List, ◌∷◌, ◌++◌, length, Some, None, append-nil, append_assoc, arith}
+use Rattle.std.proofs.Common.{◌≡◌, refl, ap, ◌∙◌, ℕ, suc, ◌+◌, ◌<◌, ◌^◌, List, ◌∷◌, ◌++◌, length, Some, None, append_assoc, arith}
 use Rattle.cborn_model.specs.Tree.{Tree, Trees, no_item as no_node, more, Entries, no_entry, entry, count, count_entries}
-use Rattle.cborn_model.specs.Spelled.{spelled, spelled_all, spelled_entries}
-use Rattle.cborn_model.specs.declared.heads.Major.TheVariants.{Map}
 use Rattle.cborn_lex.specs.declared.classes.Mark.{Mark}
 use Rattle.cborn_edn.specs.devices.MeaningErrors.{first_error}
 use Rattle.cborn_edn.specs.devices.Said.{snoc, snoc_entry, node, nodes_before, nodes_in, entries_before, entries_in, faults, faults_before, faults_in, faults_before_pairs, faults_of_fields}
@@ -10,94 +8,82 @@ use Rattle.cborn_edn.specs.devices.Syntax.{Span, Item, row, RowBefore, no_item, 
 use Rattle.cborn_edn.proofs.Grammar.Machine.{Stack, in_row, in_key, in_value, Nest, at_top, in_array, in_embed, has, wants}
 use Rattle.cborn_edn.specs.declared.states.Here.{Here}
 use Rattle.cborn_edn.specs.declared.states.Writer.{Writer}
-use Rattle.cborn_edn.specs.declared.states.Phase.TheVariants.{WantsMore}
+use Rattle.cborn_edn.specs.declared.states.Phase.{Phase}
+use Rattle.cborn_edn.specs.declared.states.Phase.TheVariants.{Has, WantsMore}
 use Rattle.cborn_edn.specs.declared.states.Level.TheVariants.{Key}
-use Rattle.cborn_edn.specs.devices.Laid.{cut, place_of, laid_stack, laid_nest}
 use Rattle.cborn_edn.specs.devices.Noted.{noted_stack, noted_nest}
-use Rattle.cborn_edn.specs.devices.Kept.{level_of, bracket, brackets_of, brackets_nest, arounds_of, arounds_nest}
+use Rattle.cborn_edn.specs.devices.Kept.{level_of, bracket, brackets_of, brackets_nest, arounds_of, arounds_nest, bytes_around, bytes_around_nest}
 use Rattle.cborn_edn.specs.devices.Shows.{Shows, content_state, fields_state, entries_at}
 
-count-snoc : (ts : Trees) (t : Tree) → count (snoc ts t) ≡ suc (count ts)
+pub count-snoc : (ts : Trees) (t : Tree) → count (snoc ts t) ≡ suc (count ts)
 count-snoc no_node t = refl
 count-snoc (more u ts) t = ap suc (count-snoc ts t)
 
-count-snoc_entry : (es : Entries) (k v : Tree) → count_entries (snoc_entry es k v) ≡ suc (count_entries es)
+pub count-snoc_entry : (es : Entries) (k v : Tree) → count_entries (snoc_entry es k v) ≡ suc (count_entries es)
 count-snoc_entry no_entry k v = refl
 count-snoc_entry (entry l w es) k v = ap suc (count-snoc_entry es k v)
-
-pub spelled_snoc : (ts : Trees) (t : Tree) → spelled_all (snoc ts t) ≡ spelled_all ts ++ spelled t
-spelled_snoc no_node t = append-nil (spelled t)
-spelled_snoc (more u ts) t = ap (λ x. spelled u ++ x) (spelled_snoc ts t) ∙ sym (append_assoc (spelled u) (spelled_all ts) (spelled t))
-
-pub spelled_snoc_entry : (es : Entries) (k v : Tree) → spelled_entries (snoc_entry es k v) ≡ spelled_entries es ++ (spelled k ++ spelled v)
-spelled_snoc_entry no_entry k v = append-nil (spelled k ++ spelled v)
-spelled_snoc_entry (entry l w es) k v = ap (λ x. spelled l ++ spelled w ++ x) (spelled_snoc_entry es k v) ∙ sym (append_assoc (spelled l ++ spelled w) (spelled_entries es) (spelled k ++ spelled v))
 
 pub row_level : (n : Nest) (b d : RowBefore) → level_of (in_row n b) ≡ level_of (in_row n d)
 row_level at_top b d = refl
 row_level (in_array st s m) b d = refl
 row_level (in_embed h o s) b d = refl
 
-pub one_item : (x : List ℕ) (b : RowBefore) (i : Item) → x ++ spelled_all (nodes_before b) ++ spelled (node i) ≡ x ++ spelled_all (snoc (nodes_before b) (node i))
-one_item x b i = append_assoc x (spelled_all (nodes_before b)) (spelled (node i)) ∙ ap (λ y. x ++ y) (sym (spelled_snoc (nodes_before b) (node i)))
-
-pub one_pair : (x p : List ℕ) (b : PairsBefore) (k v : Item)
-    → x ++ (p ++ spelled_entries (entries_before b)) ++ spelled (node k) ++ spelled (node v) ≡ x ++ (p ++ spelled_entries (snoc_entry (entries_before b) (node k) (node v)))
-one_pair x p b k v =
-    let e = spelled_entries (entries_before b) in
-    let s = spelled (node k) in
-    let t = spelled (node v) in
-    append_assoc (x ++ (p ++ e)) s t ∙ append_assoc x (p ++ e) (s ++ t) ∙ ap (λ y. x ++ y) (append_assoc p e (s ++ t))
-    ∙ ap (λ y. x ++ (p ++ y)) (sym (spelled_snoc_entry (entries_before b) (node k) (node v)))
+pub entries_few : (p : Phase) (n : ℕ) → n < 2 ^ 63 → entries_at p n < 2 ^ 64
+entries_few Has n h = omega (arith, h)
+entries_few _ n h = omega (arith, h)
 
 -- what is shown where a row ends
-pub record InContent (here : Here) (writer : Writer) (out : List ℕ) (n : Nest) (c : Content) : Type 0 where
+pub record InContent (here : Here) (writer : Writer) (written : List ℕ) (n : Nest) (c : Content) : Type 0 where
   pub count : entries_at here.phase here.count ≡ count (nodes_in c)
   pub brackets : writer.brackets ≡ brackets_nest n
   pub around : writer.around ≡ arounds_nest n
   pub string : writer.string ≡ None
   pub chunks : writer.chunks ≡ None
   pub error : writer.error ≡ first_error (noted_nest n ++ faults_in c)
-  pub laid : out ≡ cut (laid_nest n ++ spelled_all (nodes_in c))
+  pub start : writer.start ≡ length (bytes_around_nest n)
+  pub pieces : written ≡ bytes_around_nest n
 
-pub in_content : (here : Here) (writer : Writer) (out : List ℕ) (n : Nest) (c : Content) → Shows here writer out (content_state n c) → InContent here writer out n c
-in_content here writer out n (loose no_item) e = record { count = ap (λ x. entries_at x here.count) e.phase ∙ e.count; brackets = e.brackets; around = e.around; string = e.string; chunks = e.chunks; error = e.error; laid = e.out }
-in_content here writer out n (loose (after_row r a)) e = record { count = ap (λ x. entries_at x here.count) e.phase ∙ e.count; brackets = e.brackets; around = e.around; string = e.string; chunks = e.chunks; error = e.error; laid = e.out }
-in_content here writer out n (tight (row b i)) e = record {
+pub in_content : (here : Here) (writer : Writer) (written : List ℕ) (n : Nest) (c : Content) → Shows here writer written (content_state n c) → InContent here writer written n c
+in_content here writer written n (loose no_item) e = record { count = ap (λ x. entries_at x here.count) e.phase ∙ e.count; brackets = e.brackets; around = e.around; string = e.string; chunks = e.chunks; error = e.error; start = e.start; pieces = e.pieces }
+in_content here writer written n (loose (after_row r a)) e = record { count = ap (λ x. entries_at x here.count) e.phase ∙ e.count; brackets = e.brackets; around = e.around; string = e.string; chunks = e.chunks; error = e.error; start = e.start; pieces = e.pieces }
+in_content here writer written n (tight (row b i)) e = record {
   count = ap (λ x. entries_at x here.count) e.phase ∙ omega (arith, e.count, count-snoc (nodes_before b) (node i));
   brackets = e.brackets;
   around = e.around;
   string = e.string;
   chunks = e.chunks;
   error = e.error ∙ ap first_error (append_assoc (noted_nest n) (faults_before b) (faults i));
-  laid = e.out ∙ ap cut (one_item (laid_nest n) b i);
+  start = e.start;
+  pieces = e.pieces;
 }
 
 -- what is shown where a map ends
-pub record InFields (here : Here) (writer : Writer) (out : List ℕ) (st : Stack) (s : Span) (m : Mark) (f : Fields) : Type 0 where
+pub record InFields (here : Here) (writer : Writer) (written : List ℕ) (st : Stack) (s : Span) (m : Mark) (f : Fields) : Type 0 where
   pub count : entries_at here.phase here.count ≡ count_entries (entries_in f)
-  pub brackets : writer.brackets ≡ bracket st s.start (length (laid_stack st)) m ∷ brackets_of st
+  pub brackets : writer.brackets ≡ bracket st s.start m ∷ brackets_of st
   pub around : writer.around ≡ arounds_of st
   pub string : writer.string ≡ None
   pub chunks : writer.chunks ≡ None
   pub error : writer.error ≡ first_error (noted_stack st ++ faults_of_fields f)
-  pub laid : out ≡ cut (laid_stack st ++ (place_of Map m ++ spelled_entries (entries_in f)))
+  pub start : writer.start ≡ length (bytes_around st)
+  pub pieces : written ≡ bytes_around st
 
-pub in_fields : (here : Here) (writer : Writer) (out : List ℕ) (st : Stack) (s : Span) (m : Mark) (f : Fields) → Shows here writer out (fields_state st s m f) → InFields here writer out st s m f
-in_fields here writer out st s m (loose_fields no_pair) e = record { count = ap (λ x. entries_at x here.count) e.phase ∙ e.count; brackets = e.brackets; around = e.around; string = e.string; chunks = e.chunks; error = e.error; laid = e.out }
-in_fields here writer out st s m (loose_fields (after_pairs ps a)) e = record { count = ap (λ x. entries_at x here.count) e.phase ∙ e.count; brackets = e.brackets; around = e.around; string = e.string; chunks = e.chunks; error = e.error; laid = e.out }
-in_fields here writer out st s m (tight_fields (pairs b k c v)) e = record {
+pub in_fields : (here : Here) (writer : Writer) (written : List ℕ) (st : Stack) (s : Span) (m : Mark) (f : Fields) → Shows here writer written (fields_state st s m f) → InFields here writer written st s m f
+in_fields here writer written st s m (loose_fields no_pair) e = record { count = ap (λ x. entries_at x here.count) e.phase ∙ e.count; brackets = e.brackets; around = e.around; string = e.string; chunks = e.chunks; error = e.error; start = e.start; pieces = e.pieces }
+in_fields here writer written st s m (loose_fields (after_pairs ps a)) e = record { count = ap (λ x. entries_at x here.count) e.phase ∙ e.count; brackets = e.brackets; around = e.around; string = e.string; chunks = e.chunks; error = e.error; start = e.start; pieces = e.pieces }
+in_fields here writer written st s m (tight_fields (pairs b k c v)) e = record {
   count = ap (λ x. entries_at x here.count) e.phase ∙ omega (arith, e.count, count-snoc_entry (entries_before b) (node k) (node v));
   brackets = e.brackets;
   around = e.around;
   string = e.string;
   chunks = e.chunks;
   error = e.error ∙ ap first_error (append_assoc (noted_stack st ++ faults_before_pairs b) (faults k) (faults v) ∙ append_assoc (noted_stack st) (faults_before_pairs b) (faults k ++ faults v));
-  laid = e.out ∙ ap cut (one_pair (laid_stack st) (place_of Map m) b k v);
+  start = e.start;
+  pieces = e.pieces;
 }
 
-pub comma_shown : (here next : Here) (w : Writer) (out : List ℕ) (n : Nest) (b : RowBefore) (i : Item) (a : Span) → next.phase ≡ WantsMore → next.level ≡ here.level → next.count ≡ here.count + 1 → Shows here w out (has (in_row n b) i) → Shows next w out (wants (in_row n (after_row (row b i) a)))
-comma_shown here next w out n b i a s l k e = record {
+pub comma_shown : (here next : Here) (w : Writer) (written : List ℕ) (n : Nest) (b : RowBefore) (i : Item) (a : Span) → next.phase ≡ WantsMore → next.level ≡ here.level → next.count ≡ here.count + 1 → Shows here w written (has (in_row n b) i) → Shows next w written (wants (in_row n (after_row (row b i) a)))
+comma_shown here next w written n b i a s l k e = record {
   phase = s;
   level = l ∙ e.level ∙ row_level n b (after_row (row b i) a);
   count = omega (arith, k, e.count, count-snoc (nodes_before b) (node i));
@@ -107,11 +93,12 @@ comma_shown here next w out n b i a s l k e = record {
   chunks = e.chunks;
   simple = tt;
   error = e.error ∙ ap first_error (append_assoc (noted_nest n) (faults_before b) (faults i));
-  out = e.out ∙ ap cut (one_item (laid_nest n) b i);
+  start = e.start;
+  pieces = e.pieces;
 }
 
-pub pair_comma_shown : (here next : Here) (w : Writer) (out : List ℕ) (st : Stack) (s c a : Span) (m : Mark) (b : PairsBefore) (k v : Item) → next.phase ≡ WantsMore → next.level ≡ Some Key → next.count ≡ here.count + 1 → Shows here w out (has (in_value st s m b k c) v) → Shows next w out (wants (in_key st s m (after_pairs (pairs b k c v) a)))
-pair_comma_shown here next w out st s c a m b k v p l q e = record {
+pub pair_comma_shown : (here next : Here) (w : Writer) (written : List ℕ) (st : Stack) (s c a : Span) (m : Mark) (b : PairsBefore) (k v : Item) → next.phase ≡ WantsMore → next.level ≡ Some Key → next.count ≡ here.count + 1 → Shows here w written (has (in_value st s m b k c) v) → Shows next w written (wants (in_key st s m (after_pairs (pairs b k c v) a)))
+pair_comma_shown here next w written st s c a m b k v p l q e = record {
   phase = p;
   level = l;
   count = omega (arith, q, e.count, count-snoc_entry (entries_before b) (node k) (node v));
@@ -121,5 +108,6 @@ pair_comma_shown here next w out st s c a m b k v p l q e = record {
   chunks = e.chunks;
   simple = tt;
   error = e.error ∙ ap first_error (append_assoc (noted_stack st ++ faults_before_pairs b) (faults k) (faults v) ∙ append_assoc (noted_stack st) (faults_before_pairs b) (faults k ++ faults v));
-  out = e.out ∙ ap cut (one_pair (laid_stack st) (place_of Map m) b k v);
+  start = e.start;
+  pieces = e.pieces;
 }

@@ -1,93 +1,103 @@
 -- What one token does, by its kind.
-use Rattle.std.proofs.Common.{◌≡◌, refl, sym, ap, ◌∙◌, subst, ℕ, ◌<◌, List, [], ◌++◌, length, Bool, true, false, Option, Some, None, append-nil, arith, ◌⊎◌, inl, inr}
+use Rattle.std.proofs.Common.{◌≡◌, refl, sym, ap, ◌∙◌, subst, ℕ, ◌<◌, ◌≤◌, List, [], ◌∷◌, ◌++◌, length, Bool, true, false, Option, Some, None, append-nil, arith, ◌⊎◌, inl, inr}
+use Rattle.std.proofs.lemmas.List.{length-append}
 use Rattle.cborn_lex.specs.declared.classes.Kind.{Kind}
 use Rattle.cborn_lex.specs.declared.classes.Kind.TheVariants as kinds
 use Rattle.cborn_lex.specs.declared.classes.Mark.{Mark}
 use Rattle.cborn_lex.specs.declared.classes.Class.{Class}
 use Rattle.cborn_lex.specs.Kinds.{class_of, content_of}
 use Rattle.cborn_lex.specs.declared.classes.Class.TheVariants as classes
-use Rattle.cborn_lex.specs.declared.classes.Class.TheVariants.{EmbedClose, Comma, Colon}
-use Rattle.cborn_model.specs.Bytes.{AreBytes}
+use Rattle.cborn_lex.specs.declared.classes.Class.TheVariants.{Comma, Colon}
+use Rattle.cborn_model.specs.Partial.{top, no_part}
 use Rattle.cborn_model.specs.declared.visitors.StringKind.TheVariants.{OfBytes, OfText}
-use Rattle.cborn_edn.specs.devices.Syntax.{Span, Item, Pieces, StringsBefore, string, simple, embedded, row, no_item, after_row, Content, loose, tight, pairs, no_pair, after_pairs}
-use Rattle.cborn_edn.proofs.Grammar.Machine.{Stack, in_row, in_key, in_value, in_tag, at_top, in_array, in_embed, Home, as_item, as_chunk, State, wants, has, builds, wants_chunk, wants_number, has_number, with_piece, step_by}
+use Rattle.cborn_wire.specs.shared.Spelling.{IsWritten}
+use Rattle.cborn_wire.specs.declared.spellers.Speller.{Speller}
+use Rattle.cborn_edn.specs.devices.Syntax.{Span, Item, Pieces, StringsBefore, string, simple, row, no_item, after_row, Content, loose, tight, pairs, no_pair, after_pairs}
+use Rattle.cborn_edn.proofs.Grammar.Machine.{Stack, in_row, in_key, in_value, in_tag, at_top, in_array, in_embed, Home, as_item, as_chunk, State, wants, has, builds, wants_chunk, wants_number, has_number, step_by}
+use Rattle.cborn_edn.specs.devices.Machine.{at_home}
 use Rattle.cborn_edn.specs.declared.states.Here.{Here}
 use Rattle.cborn_edn.specs.declared.states.Writer.{Writer}
 use Rattle.cborn_edn.specs.declared.states.Phase.TheVariants as phases
 use Rattle.cborn_edn.specs.declared.states.Phase.{Phase}
-use Rattle.cborn_edn.specs.devices.Kept.{wanting, phase_of, chunks_of}
-use Rattle.cborn_edn.specs.devices.Shows.{content_state}
-use Rattle.cborn_edn.specs.devices.Handed.{Holds, Handed, Reads}
-use Rattle.cborn_edn.specs.devices.Steps.{appended, starting, MayEnd, Ready, Turned, Taken, Takes, Turns, EndsPieces, has_chunks, is_piece}
-use Rattle.cborn_edn.proofs.HandedOver.Silent.{handed_comma, handed_pairs_comma, handed_colon, handed_close_simple, handed_open_embedded, handed_close_embedded}
+use Rattle.cborn_edn.specs.devices.Kept.{wanting, phase_of, stack_in, chunks_of, bytes_around, bytes_open}
+use Rattle.cborn_edn.specs.devices.Shows.{Shows, content_state}
+use Rattle.cborn_edn.specs.devices.Events.{Holds}
+use Rattle.cborn_edn.specs.devices.Handed.{states_around, states_around_nest, states_around_home, Handed, AllHanded, IsSpelled, Reads}
+use Rattle.cborn_edn.specs.devices.Steps.{Ready, Turned, Taken, Takes, Turns, EndsPieces, has_chunks, is_piece, takes_no_piece}
+use Rattle.cborn_edn.proofs.HandedOver.Handing.{stays}
+use Rattle.cborn_edn.proofs.HandedOver.Silent.{handed_comma, handed_pairs_comma, handed_colon, handed_close_simple, embed_opened}
 
 -- what is taken of the class is taken of an equal one
 pub taken_as : (h : Holds) (ok : Bool) (s : State) (c k : Class) (a : Span) (next : Here) (left : Writer) → c ≡ k → Taken h ok s k a next left → Taken h ok s c a next left
 taken_as h ok s c k a next left e t = subst (λ (x : Class). Taken h ok s x a next left) (sym e) t
 
-module _ {h : Holds} (k : Holds) (kind like : Kind) (number start place : ℕ) (here next : Here) (writer left : Writer) (ok : Bool) (s : State) (is : kind ≡ like) where
+module _ {h : Holds} (k : Holds) (kind like : Kind) (number place : ℕ) (here next : Here) (writer left : Writer) (ok : Bool) (s : State) (is : kind ≡ like) where
   -- by what was appended
-  pub arm : ((x base : List ℕ) (a : Span) → place ≡ a.start → AreBytes x → start ≡ length base → writer.out.items ≡ base ++ appended s (class_of like number x) → Reads h here writer base s → Taken k ok s (class_of like number x) a next left) → Takes h k kind number start place here writer next left ok s
+  pub arm : ((x base : List ℕ) (a : Span) → place ≡ a.start → writer.pieces.items ≡ base ++ content_of (class_of like number x) → Reads h here writer base s → Taken k ok s (class_of like number x) a next left) → Takes h k kind number place here writer next left ok s
   arm f base c a p r =
-      let same : c ≡ class_of like number r.content = r.class ∙ ap (λ (i : Kind). class_of i number r.content) is in
-      taken_as k ok s c (class_of like number r.content) a next left same (f r.content base a p r.plain r.from (r.written ∙ ap (λ (y : Class). base ++ appended s y) same) r.shows)
+      let same : c ≡ class_of like number r.stands.content = r.stands.class ∙ ap (λ (i : Kind). class_of i number r.stands.content) is in
+      taken_as k ok s c (class_of like number r.stands.content) a next left same (f r.stands.content base a p (r.stands.written ∙ ap (λ (y : Class). base ++ content_of y) same) r.shows)
 
   -- where nothing was
-  pub appends_nothing : ((x : List ℕ) → appended s (class_of like number x) ≡ []) → ((x : List ℕ) (a : Span) → place ≡ a.start → Reads h here writer writer.out.items s → Taken k ok s (class_of like number x) a next left) → Takes h k kind number start place here writer next left ok s
-  appends_nothing none f = arm (λ x base a p are from e shows. f x a p (subst (λ l. Reads h here writer l s) (sym (e ∙ ap (λ l. base ++ l) (none x) ∙ append-nil base)) shows))
+  pub appends_nothing : ((x : List ℕ) → content_of (class_of like number x) ≡ []) → ((x : List ℕ) (a : Span) → place ≡ a.start → Reads h here writer writer.pieces.items s → Taken k ok s (class_of like number x) a next left) → Takes h k kind number place here writer next left ok s
+  appends_nothing none f = arm (λ x base a p e shows. f x a p (subst (λ l. Reads h here writer l s) (sym (e ∙ ap (λ l. base ++ l) (none x) ∙ append-nil base)) shows))
 
   -- of a token that appends nothing there
-  pub turn : ((x : List ℕ) (a : Span) → place ≡ a.start → Reads h here writer writer.out.items s → Taken k ok s (class_of like number x) a next left) → Turns h k kind number place here writer next left ok s
+  pub turn : ((x : List ℕ) (a : Span) → place ≡ a.start → Reads h here writer writer.pieces.items s → Taken k ok s (class_of like number x) a next left) → Turns h k kind number place here writer next left ok s
   turn f c x a p e shows =
       let same : c ≡ class_of like number x = e ∙ ap (λ (i : Kind). class_of i number x) is in
       taken_as k ok s c (class_of like number x) a next left same (f x a p shows)
 
--- The tokens after which the visitor holds what it held.
+-- The tokens that hand nothing over.
 
 abbrev StaysHanded : Holds → State → Class → Span → Type 0
-StaysHanded h s c a = (u : State) → step_by s c a ≡ Some u → Handed h s → Handed h u
+StaysHanded h s c a = (ps : List Speller) (u : State) → step_by s c a ≡ Some u → AllHanded h ps (s ∷ states_around (stack_in s)) → AllHanded h ps (u ∷ states_around (stack_in u))
 
-pub still_taken : (h : Holds) (ok : Bool) (s : State) (c : Class) (a : Span) (next : Here) (left : Writer) → StaysHanded h s c a → Handed h s → Turned ok s c a next left → Taken h ok s c a next left
-still_taken h true s c a next left f t (u, is, e) = (u, is, record { shows = e; handed = f u is t })
+pub still_taken : (h : Holds) (ok : Bool) (s : State) (c : Class) (a : Span) (next : Here) (left : Writer) → StaysHanded h s c a → AllHanded h left.spellers (s ∷ states_around (stack_in s)) → Turned ok s c a next left → Taken h ok s c a next left
+still_taken h true s c a next left f t (u, is, e) = (u, is, record { shows = e; handed = f left.spellers u is t })
 still_taken h false s c a next left f t is = is
 
-led : (h : Holds) (v u : State) → Some v ≡ Some u → Handed h v → Handed h u
-led h v u is = let e : v ≡ u = cc in subst (Handed h) e
+led : (h : Holds) (ps : List Speller) (v u : State) → Some v ≡ Some u → AllHanded h ps (v ∷ states_around (stack_in v)) → AllHanded h ps (u ∷ states_around (stack_in u))
+led h ps v u is = let e : v ≡ u = cc in subst (λ (w : State). AllHanded h ps (w ∷ states_around (stack_in w))) e
 
 none_led : {A : Type 0} (u : State) → None ≡ Some u → A
 none_led u is = absurd (let bad : None ≡ Some u = is in cc)
 
 pub colon_handed : (h : Holds) (st : Stack) (i : Item) (a : Span) → StaysHanded h (has st i) Colon a
-colon_handed h (in_key st s m b) i a u is t = led h (wants (in_value st s m b i a)) u is (handed_colon h st s m b i a t)
-colon_handed h (in_row at_top b) i a u is t = none_led u is
-colon_handed h (in_row (in_array st s m) b) i a u is t = none_led u is
-colon_handed h (in_row (in_embed home o s) b) i a u is t = none_led u is
-colon_handed h _ i a u is t = none_led u is
+colon_handed h (in_key st s m b) i a ps u is t = led h ps (wants (in_value st s m b i a)) u is (stays h ps (has (in_key st s m b) i) (wants (in_value st s m b i a)) (states_around st) (λ k. handed_colon k st s m b i a) t)
+colon_handed h (in_row at_top b) i a ps u is t = none_led u is
+colon_handed h (in_row (in_array st s m) b) i a ps u is t = none_led u is
+colon_handed h (in_row (in_embed home o s) b) i a ps u is t = none_led u is
+colon_handed h _ i a ps u is t = none_led u is
 
 pub comma_handed : (h : Holds) (st : Stack) (i : Item) (a : Span) → StaysHanded h (has st i) Comma a
-comma_handed h (in_row n b) i a u is t = led h (wants (in_row n (after_row (row b i) a))) u is (handed_comma h n b i a t)
-comma_handed h (in_value st s m b k c) i a u is t = led h (wants (in_key st s m (after_pairs (pairs b k c i) a))) u is (handed_pairs_comma h st s m b k c i a t)
-comma_handed h _ i a u is t = none_led u is
-
-embed_handed : (h : Holds) (home : Home) (o : Option Pieces) (s : Span) (c : Content) (m : Mark) (a : Span) (u : State) → Some (builds home (with_piece o (embedded s c a m))) ≡ Some u → Handed h (content_state (in_embed home o s) c) → Handed h u
-embed_handed h home o s c m a u is t = led h (builds home (with_piece o (embedded s c a m))) u is (handed_close_embedded h home o s c a m t)
-
-pub embedded_handed : (h : Holds) (s : State) (m : Mark) (a : Span) → MayEnd s → StaysHanded h s (EmbedClose m) a
-embedded_handed h (wants (in_row (in_embed home o s) b)) m a x u is t = embed_handed h home o s (loose b) m a u is t
-embedded_handed h (has (in_row (in_embed home o s) b) i) m a x u is t = embed_handed h home o s (tight (row b i)) m a u is t
-embedded_handed h (builds home ps) m a x u is t = absurd x
-embedded_handed h (wants_chunk st p b) m a x u is t = absurd x
-embedded_handed h (wants_number st p) m a x u is t = absurd x
-embedded_handed h (has_number st p b n v k) m a x u is t = absurd x
-embedded_handed h _ m a x u is t = none_led u is
+comma_handed h (in_row n b) i a ps u is t = led h ps (wants (in_row n (after_row (row b i) a))) u is (stays h ps (has (in_row n b) i) (wants (in_row n (after_row (row b i) a))) (states_around_nest n) (λ k. handed_comma k n b i a) t)
+comma_handed h (in_value st s m b k c) i a ps u is t = led h ps (wants (in_key st s m (after_pairs (pairs b k c i) a))) u is (stays h ps (has (in_value st s m b k c) i) (wants (in_key st s m (after_pairs (pairs b k c i) a))) (states_around st) (λ q. handed_pairs_comma q st s m b k c i a) t)
+comma_handed h _ i a ps u is t = none_led u is
 
 pub paren_handed : (h : Holds) (st : Stack) (s b : Span) (n : Bool) (v : ℕ) (m : Mark) (c : Class) (a : Span) → StaysHanded h (has_number st s b n v m) c a
-paren_handed h st s b n v m classes.ParenClose a u is t = led h (has st (simple s b n v m a)) u is (handed_close_simple h st s b n v m a t)
-paren_handed h st s b n v m _ a u is t = none_led u is
+paren_handed h st s b n v m classes.ParenClose a ps u is t = led h ps (has st (simple s b n v m a)) u is (stays h ps (has_number st s b n v m) (has st (simple s b n v m a)) (states_around st) (λ k. handed_close_simple k st s b n v m a) t)
+paren_handed h st s b n v m _ a ps u is t = none_led u is
 
-pub open_piece_handed : (h : Holds) (home : Home) (ps : Pieces) (a : Span) → Handed h (builds home ps) → Handed h (wants (in_row (in_embed home (Some ps) a) no_item))
-open_piece_handed h (as_item st) ps a t = handed_open_embedded h (as_item st) (Some ps) a no_item t
-open_piece_handed h (as_chunk st s b) ps a t = handed_open_embedded h (as_chunk st s b) (Some ps) a no_item t
+-- what was handed over in a `<<`, to its speller
+pub spelled_in : (h : Holds) (ps : List Speller) (s v : State) (ss : List State) → AllHanded h ps (s ∷ v ∷ ss) → IsSpelled ps s
+spelled_in h [] s v ss t = absurd t
+spelled_in h (p ∷ ps) s v ss t = t.0
+
+pub content_spelled : (h : Holds) (ps : List Speller) (home : Home) (o : Option Pieces) (s : Span) (c : Content) → let u = content_state (in_embed home o s) c in AllHanded h ps (u ∷ states_around (stack_in u)) → IsSpelled ps u
+content_spelled h ps home o s (loose b) t = spelled_in h ps (wants (in_row (in_embed home o s) b)) (at_home home o) (states_around_home home) t
+content_spelled h ps home o s (tight (row b i)) t = spelled_in h ps (has (in_row (in_embed home o s) b) i) (at_home home o) (states_around_home home) t
+
+-- a `<<` opens
+pub embed_taken : (h : Holds) (p : Speller) (was left : Writer) (here next : Here) (home : Home) (o : Option Pieces) (a : Span) → left.spellers ≡ p ∷ was.spellers → IsWritten p (top []) no_part → Reads h here was was.pieces.items (at_home home o) → Shows next left left.pieces.items (wants (in_row (in_embed home o a) no_item)) → Reads h next left left.pieces.items (wants (in_row (in_embed home o a) no_item))
+embed_taken h p was left here next home o a e new r shows = record {
+  shows = shows;
+  handed = subst (λ ps. AllHanded h ps (wants (in_row (in_embed home o a) no_item) ∷ states_around (in_row (in_embed home o a) no_item))) (sym e) (embed_opened h p was.spellers home o a new r.handed);
+}
+
+-- the visitor holds what it held
+pub same_handed : (h : Holds) (was left : Writer) (s u : State) (ss : List State) → left.spellers ≡ was.spellers → ((k : Holds) → Handed k s → Handed k u) → AllHanded h was.spellers (s ∷ ss) → AllHanded h left.spellers (u ∷ ss)
+same_handed h was left s u ss e f t = subst (λ ps. AllHanded h ps (u ∷ ss)) (sym e) (stays h was.spellers s u ss f t)
 
 -- the state, by the phase
 data Wanting (st : Stack) : Type 0 where
@@ -221,12 +231,51 @@ no_content (kinds.Text m) n x e = absurd (let bad : true ≡ false = e in cc)
 no_content (kinds.Bytes q m) n x e = absurd (let bad : true ≡ false = e in cc)
 no_content _ n x e = refl
 
-pub no_starting : (kind : Kind) (n : ℕ) (x : List ℕ) → is_piece kind ≡ false → starting (class_of kind n x) ≡ []
-no_starting (kinds.Text m) n x e = absurd (let bad : true ≡ false = e in cc)
-no_starting (kinds.Bytes q m) n x e = absurd (let bad : true ≡ false = e in cc)
-no_starting kinds.EmbedOpen n x e = absurd (let bad : true ≡ false = e in cc)
-no_starting _ n x e = refl
+-- a token that is no piece appends nothing
+pub shown_kind : {holds : Holds} (kind : Kind) (number : ℕ) (here : Here) (writer : Writer) (s : State) (base : List ℕ) (c : Class) → is_piece kind ≡ false → Ready holds kind number here writer s base c → Reads holds here writer writer.pieces.items s
+shown_kind {holds = holds} kind number here writer s base c none r =
+    subst (λ l. Reads holds here writer l s) (sym (r.stands.written ∙ ap (λ (k : Class). base ++ content_of k) r.stands.class ∙ ap (λ l. base ++ l) (no_content kind number r.stands.content none) ∙ append-nil base)) r.shows
 
-pub shown_kind : {holds : Holds} (kind : Kind) (number start : ℕ) (here : Here) (writer : Writer) (h : Home) (ps : Pieces) (base : List ℕ) (c : Class) → is_piece kind ≡ false → Ready holds kind number start here writer (builds h ps) base c → Reads holds here writer writer.out.items (builds h ps)
-shown_kind {holds = holds} kind number start here writer h ps base c none r =
-    subst (λ l. Reads holds here writer l (builds h ps)) (sym (r.written ∙ ap (λ (k : Class). base ++ content_of k) r.class ∙ ap (λ l. base ++ l) (no_content kind number r.content none) ∙ append-nil base)) r.shows
+-- the bytes of the innermost string begin in what was read
+pub start_inside : {h : Holds} (kind : Kind) (number : ℕ) (here : Here) (writer : Writer) (s : State) (base : List ℕ) (c : Class) → bytes_open s ≡ bytes_around (stack_in s) → Ready h kind number here writer s base c → writer.start ≤ length writer.pieces.items
+start_inside kind number here writer s base c e r = omega (arith, r.shows.shows.start, ap length (r.shows.shows.pieces ∙ e), ap length r.stands.written, length-append base (content_of c))
+
+pub open_home : {h : Holds} {here : Here} {w : Writer} {out : List ℕ} (home : Home) (ps : Pieces) → Reads h here w out (builds home ps) → Reads h here w out (at_home home (Some ps))
+open_home (as_item st) ps e = e
+open_home (as_chunk st s b) ps e = e
+
+-- where no piece is allowed, the machine takes none
+no_after : (st : Stack) (i : Item) (kind : Kind) (n : ℕ) (x : List ℕ) (a : Span) → is_piece kind ≡ true → step_by (has st i) (class_of kind n x) a ≡ None
+no_after (in_row at_top b) i (kinds.Text m) n x a e = refl
+no_after (in_row at_top b) i (kinds.Bytes q m) n x a e = refl
+no_after (in_row at_top b) i kinds.EmbedOpen n x a e = refl
+no_after (in_row (in_array st s m) b) i (kinds.Text k) n x a e = refl
+no_after (in_row (in_array st s m) b) i (kinds.Bytes q k) n x a e = refl
+no_after (in_row (in_array st s m) b) i kinds.EmbedOpen n x a e = refl
+no_after (in_row (in_embed h o s) b) i (kinds.Text m) n x a e = refl
+no_after (in_row (in_embed h o s) b) i (kinds.Bytes q m) n x a e = refl
+no_after (in_row (in_embed h o s) b) i kinds.EmbedOpen n x a e = refl
+no_after (in_key st s m b) i (kinds.Text k) n x a e = refl
+no_after (in_key st s m b) i (kinds.Bytes q k) n x a e = refl
+no_after (in_key st s m b) i kinds.EmbedOpen n x a e = refl
+no_after (in_value st s m b k c) i (kinds.Text l) n x a e = refl
+no_after (in_value st s m b k c) i (kinds.Bytes q l) n x a e = refl
+no_after (in_value st s m b k c) i kinds.EmbedOpen n x a e = refl
+no_after (in_tag st s v m) i (kinds.Text k) n x a e = refl
+no_after (in_tag st s v m) i (kinds.Bytes q k) n x a e = refl
+no_after (in_tag st s v m) i kinds.EmbedOpen n x a e = refl
+no_after st i _ n x a e = absurd (let bad : false ≡ true = e in cc)
+
+pub no_piece_taken : (s : State) (kind : Kind) (n : ℕ) (x : List ℕ) (a : Span) → takes_no_piece (phase_of s) ≡ true → is_piece kind ≡ true → step_by s (class_of kind n x) a ≡ None
+no_piece_taken (wants st) kind n x a f e = elim (wanted st) [ first q ↦ absurd (let bad : false ≡ true = sym (ap takes_no_piece q) ∙ f in cc) | again q ↦ absurd (let bad : false ≡ true = sym (ap takes_no_piece q) ∙ f in cc) ]
+no_piece_taken (builds h ps) kind n x a f e = absurd (let bad : false ≡ true = f in cc)
+no_piece_taken (wants_chunk st s b) kind n x a f e = absurd (let bad : false ≡ true = f in cc)
+no_piece_taken (has st i) kind n x a f e = no_after st i kind n x a e
+no_piece_taken (wants_number st s) (kinds.Text m) n x a f e = refl
+no_piece_taken (wants_number st s) (kinds.Bytes q m) n x a f e = refl
+no_piece_taken (wants_number st s) kinds.EmbedOpen n x a f e = refl
+no_piece_taken (wants_number st s) _ n x a f e = absurd (let bad : false ≡ true = e in cc)
+no_piece_taken (has_number st s b i v k) (kinds.Text m) n x a f e = refl
+no_piece_taken (has_number st s b i v k) (kinds.Bytes q m) n x a f e = refl
+no_piece_taken (has_number st s b i v k) kinds.EmbedOpen n x a f e = refl
+no_piece_taken (has_number st s b i v k) _ n x a f e = absurd (let bad : false ≡ true = e in cc)

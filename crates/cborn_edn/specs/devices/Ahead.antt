@@ -1,8 +1,11 @@
 -- A device of the proofs: what a text has at an offset. No definition cites it.
-use Rattle.std.specs.Prelude.{◌≡◌, ℕ, ◌<◌, Bool, true, List, [], ◌∷◌, ◌==◌, codes, length, slice_index, ◌⊎◌}
+use Rattle.std.specs.Prelude.{◌≡◌, ℕ, ◌<◌, ◌≤◌, Bool, true, List, [], ◌∷◌, ◌==◌, codes, length, slice_index, ◌⊎◌}
 use Rattle.std.specs.List.{list_any}
 use Rattle.cborn_lex.specs.declared.classes.Profile.{Profile}
+use Rattle.std.specs.Str.{IsUtf8}
 use Rattle.cborn_lex.specs.declared.classes.Class.{Class}
+use Rattle.cborn_lex.specs.declared.classes.Class.TheVariants.{Text}
+use Rattle.cborn_lex.specs.declared.classes.Mark.TheVariants.{Absent}
 use Rattle.cborn_lex.specs.Good.{TokensBetween}
 
 -- there is a token of this class from the offset n up to m
@@ -16,3 +19,12 @@ ends_string c = list_any (λ d. c == d) (codes ",]}:)")
 -- the text ends at the offset n, or goes on with a character that no piece of a string begins with
 abbrev pub NoPieceAt : List ℕ → ℕ → Type 0
 NoPieceAt text n = (n ≡ length text) ⊎ ((n < length text) × (ends_string (slice_index text n) ≡ true))
+
+-- At the offset n there is a text string with this content and no indicator. Then there is white space up to the offset m, and no piece of the string follows.
+pub record IsTextAt (profile : Profile) (text : List ℕ) (n m : ℕ) (content : List ℕ) : Type 0 where
+  pub stop : ℕ
+  pub token : IsTokenAt profile text n stop (Text content Absent)
+  pub utf8 : IsUtf8 text → IsUtf8 content
+  pub white_space : TokensBetween profile text stop m []
+  pub ends : NoPieceAt text m
+  pub inside : m ≤ length text

@@ -1,19 +1,16 @@
--- A device of the proofs: what the visitor was handed at a state of the machine of tokens. It is handed what is outside of `<<..>>`. No definition cites it.
-use Rattle.std.specs.Prelude.{◌≡◌, ℕ, List, [], ◌∷◌, ◌++◌, length, map, Bool, ◌&&◌, Option, Some, None, if◌then◌else◌}
+-- A device of the proofs: what was handed over at a state of the machine of tokens. The visitor is handed what is outside of `<<..>>`. No definition cites it.
+use Rattle.std.specs.Prelude.{◌≡◌, ℕ, List, [], ◌∷◌, ◌++◌, map, ◌&&◌, Some, None, if◌then◌else◌}
 use Rattle.cborn_model.specs.declared.heads.Width.TheVariants.{Direct}
 use Rattle.cborn_model.specs.declared.heads.Size.{Size}
 use Rattle.cborn_model.specs.declared.heads.Size.TheVariants.{Fixed, Endless as EndlessSize}
-use Rattle.cborn_model.specs.Heads.{least}
-use Rattle.cborn_model.specs.Tree.{Tree, Bytes, Tagged, Simple, Entries, no_entry, entry, trees}
-use Rattle.cborn_model.specs.Spelled.{spelled_all}
-use Rattle.cborn_model.specs.Partial.{Opening, an_array, a_map, a_tag, in_chunks, Partial, top, inside, Part, no_part, put, built, IsFree, Ends}
+use Rattle.cborn_model.specs.Tree.{Tree, Simple, Entries, no_entry, entry}
+use Rattle.cborn_model.specs.Partial.{an_array, a_map, a_tag, in_chunks, Partial, top, inside, no_part, put}
 use Rattle.cborn_model.specs.shared.Walks.{string_of}
-use Rattle.cborn_lex.specs.declared.classes.Profile.{Profile}
+use Rattle.cborn_wire.specs.shared.Spelling.{IsWritten}
+use Rattle.cborn_wire.specs.declared.spellers.Speller.{Speller}
 use Rattle.cborn_lex.specs.declared.classes.Mark.{Mark}
 use Rattle.cborn_lex.specs.declared.classes.Mark.TheVariants.{Absent, Endless, Wide}
-use Rattle.cborn_edn.specs.Grammar.{Notates}
-use Rattle.cborn_edn.specs.Says.{width, is_nil, is_endless, chunked_node, string_node}
-use Rattle.cborn_edn.specs.devices.MeaningErrors.{is_none}
+use Rattle.cborn_edn.specs.Says.{width, is_endless}
 use Rattle.cborn_edn.specs.devices.TreesCode.{listed_trees}
 use Rattle.cborn_edn.specs.devices.Syntax.{StringsBefore, no_string, after_strings}
 use Rattle.cborn_edn.specs.devices.Machine.{Stack, in_row, in_key, in_value, in_tag, Nest, at_top, in_array, in_embed, Home, as_item, as_chunk, State, wants, has, builds, wants_chunk, wants_number, has_number, at_home}
@@ -21,13 +18,13 @@ use Rattle.cborn_edn.specs.devices.Said.{node, kind_in, chunks, nodes_before, en
 use Rattle.cborn_edn.specs.devices.Noted.{noted}
 use Rattle.cborn_edn.specs.devices.Kept.{stack_in}
 use Rattle.cborn_edn.specs.devices.Shows.{Shows}
-use Rattle.cborn_edn.specs.declared.states.Here.{Here}
+use Rattle.cborn_edn.specs.devices.Events.{Holds, FitsSoFar, Comes, after}
+use Rattle.cborn_edn.specs.declared.events.Event.{Event}
+use Rattle.cborn_edn.specs.declared.events.Event.TheVariants.{String, FirstChunk, NoChunks}
 use Rattle.cborn_edn.specs.declared.states.Joint.{Joint}
+use Rattle.cborn_edn.specs.declared.states.Chunks.{Chunks}
+use Rattle.cborn_edn.specs.declared.states.Here.{Here}
 use Rattle.cborn_edn.specs.declared.states.Writer.{Writer}
-
--- what a visitor holds
-abbrev pub Holds : Type 1
-Holds = Partial → Part → Type 0
 
 -- keys and values in turn
 abbrev pub listed_entries : Entries → List Tree
@@ -40,30 +37,22 @@ size_asked Absent = Fixed Direct
 size_asked Endless = EndlessSize
 size_asked (Wide w) = Fixed w
 
--- The state before the outermost open `<<`, if one is open.
-
-abbrev pub or_else : Option State → State → State
-or_else None s = s
-or_else (Some u) s = u
-
+-- the states before each open `<<`, the innermost first
 abbrev mutual
-  pub shell : Stack → Option State
-  shell (in_row n b) = shell_nest n
-  shell (in_key st s m b) = shell st
-  shell (in_value st s m b k c) = shell st
-  shell (in_tag st s n m) = shell st
+  pub states_around : Stack → List State
+  states_around (in_row n b) = states_around_nest n
+  states_around (in_key st s m b) = states_around st
+  states_around (in_value st s m b k c) = states_around st
+  states_around (in_tag st s n m) = states_around st
 
-  pub shell_nest : Nest → Option State
-  shell_nest at_top = None
-  shell_nest (in_array st s m) = shell st
-  shell_nest (in_embed h o s) = Some (or_else (shell_home h) (at_home h o))
+  pub states_around_nest : Nest → List State
+  states_around_nest at_top = []
+  states_around_nest (in_array st s m) = states_around st
+  states_around_nest (in_embed h o s) = at_home h o ∷ states_around_home h
 
-  pub shell_home : Home → Option State
-  shell_home (as_item st) = shell st
-  shell_home (as_chunk st s b) = shell st
-
-abbrev pub outside : State → State
-outside s = or_else (shell (stack_in s)) s
+  pub states_around_home : Home → List State
+  states_around_home (as_item st) = states_around st
+  states_around_home (as_chunk st s b) = states_around st
 
 -- The partial sequence at a state, since the innermost open `<<`.
 
@@ -95,34 +84,34 @@ front (wants_chunk st s b) = home_front (as_chunk st s b)
 front (wants_number st s) = front_of st
 front (has_number st s b n v m) = put (front_of st) (Simple s.start v)
 
--- If there is no meaning error outside of `<<..>>`, the visitor holds what is whole there.
+-- if there is no meaning error since the innermost open `<<`, a visitor holds what is whole, and it fits
 abbrev pub Handed : Holds → State → Type 0
-Handed h s = noted (outside s) ≡ [] → h (front (outside s)) no_part
+Handed h s = noted s ≡ [] → h (front s) no_part × FitsSoFar (front s)
 
--- What the reader keeps shows the state s, and so does what the visitor holds. The output is an argument of its own, since a string is appended before it is taken.
+-- what was handed over at a state, and at the states around it: to the spellers of the open `<<`, and to the visitor outside of them
+abbrev pub AllHanded : Holds → List Speller → List State → Type 0
+AllHanded h [] (s ∷ []) = Handed h s
+AllHanded h (p ∷ ps) (s ∷ ss) = Handed (IsWritten p) s × AllHanded h ps ss
+AllHanded h _ _ = ⊥
+
+-- what was handed over since the innermost open `<<`, to its speller
+abbrev pub IsSpelled : List Speller → State → Type 0
+IsSpelled [] s = ⊥
+IsSpelled (p ∷ ps) s = Handed (IsWritten p) s
+
+-- What the reader keeps shows the state s, and so does what was handed over.
 pub record Reads (h : Holds) (here : Here) (writer : Writer) (written : List ℕ) (s : State) : Type 0 where
   pub shows : Shows here writer written s
-  pub handed : Handed h s
+  pub handed : AllHanded h writer.spellers (s ∷ states_around (stack_in s))
 
--- the visitor is handed what was written last: no `<<` is open, and there is no meaning error
-abbrev pub hands : Writer → Bool
-hands w = is_nil w.around && is_none w.error
+-- if there is no meaning error at u, there is none at s, and the event leads from what is whole there to what is whole at u
+abbrev pub Hands : Event → ℕ → List ℕ → State → State → Type 0
+Hands event p x s u = noted u ≡ [] → (noted s ≡ []) × Comes event (front s) × (after event p x (front s) ≡ front u)
 
--- if a visitor held this before, and the innermost container may end, that has ended now
-abbrev pub Closes : Holds → Holds → Type 0
-Closes h k = (f : Partial) (o : Opening) (ts : List Tree) → IsFree f → Ends o ts → h (inside f o ts) no_part → k (put f (built o ts)) no_part
+-- the event of a whole string that is an item, with a content of n bytes
+abbrev pub string_event : Joint → ℕ → Event
+string_event j n = if j.lone && is_endless j.mark then NoChunks j.kind else String j.kind (width j.mark n)
 
--- the string whose pieces were read, with this content
-abbrev pub joint_node : Joint → List ℕ → Tree
-joint_node j x = if j.lone && is_endless j.mark then chunked_node j.kind j.place [] else string_node j.kind j.place (width j.mark (length x)) x
-
--- a tag over a byte string, as an integer outside 64 bits is one
-abbrev pub bignum_of : ℕ → Bool → List ℕ → Tree
-bignum_of p below x = Tagged p Direct (if below then 3 else 2) (Bytes p (least (length x)) x)
-
--- the bytes are those of a text's nodes, which a visitor holds
-pub record IsSpelledTo (h : Holds) (profile : Profile) (limit : ℕ) (text bytes : List ℕ) : Type 0 where
-  pub nodes : List Tree
-  pub notated : Notates profile limit text (trees nodes)
-  pub spells : spelled_all (trees nodes) ≡ bytes
-  pub held : h (top nodes) no_part
+-- the event of a chunk, which may be the first
+abbrev pub chunk_event : Chunks → Joint → ℕ → Event
+chunk_event c j n = elim c.kind [ None ↦ FirstChunk c.place j.kind (width j.mark n) | Some k ↦ String j.kind (width j.mark n) ]

@@ -1,17 +1,14 @@
 -- A device of the proofs: a text that is read up to some place. No definition cites it.
 use Rattle.std.specs.Prelude.{◌≡◌, ◌⊎◌, ℕ, ◌<◌, ◌≤◌, List, [], ◌∷◌, ◌++◌, length, Bool, true, false, not, Option, Some, None}
-use Rattle.cborn_lex.specs.Good.{TokensBetween}
 use Rattle.cborn_lex.specs.Lex.{Between}
-use Rattle.cborn_lex.specs.Kinds.{class_of, content_of}
-use Rattle.cborn_lex.specs.declared.classes.BareToken.{BareToken}
 use Rattle.cborn_lex.specs.declared.classes.Kind.{Kind}
 use Rattle.cborn_lex.specs.declared.classes.Kind.TheVariants as kinds
-use Rattle.cborn_lex.specs.declared.classes.Class.{Class}
 use Rattle.cborn_lex.specs.declared.classes.Profile.{Profile}
 use Rattle.cborn_lex.specs.declared.classes.Profile.TheVariants.{One}
 use Rattle.cborn_lex.specs.declared.classes.Token.{Token}
 use Rattle.cborn_edn.specs.devices.Modest.{AreModest}
-use Rattle.cborn_model.specs.Spelled.{spelled_all}
+use Rattle.cborn_model.specs.Tree.{trees}
+use Rattle.cborn_model.specs.Spelled.{FitsAll}
 use Rattle.cborn_model.specs.Partial.{top, no_part}
 use Rattle.cborn_edn.specs.devices.Syntax.{Item, Pieces, string, RowBefore, row, Input, nothing, items}
 use Rattle.cborn_edn.specs.devices.Machine.{first_error}
@@ -19,37 +16,18 @@ use Rattle.cborn_edn.specs.devices.Said.{nodes_of_input, faults_of_input}
 use Rattle.cborn_edn.specs.devices.Machine.{in_row, at_top, as_item, State, has, builds, start}
 use Rattle.cborn_edn.specs.declared.states.Level.{Level}
 use Rattle.cborn_edn.specs.declared.states.Chunks.{Chunks}
-use Rattle.cborn_edn.specs.devices.Laid.{cut}
 use Rattle.cborn_edn.specs.devices.Machine.{held}
 use Rattle.cborn_edn.specs.devices.Machine.{parse}
 use Rattle.cborn_edn.specs.declared.faults.EdnReason.{EdnReason}
 use Rattle.cborn_edn.specs.declared.faults.EdnReason.TheVariants.{UnexpectedToken, TooDeep}
 use Rattle.cborn_edn.specs.declared.states.Phase.{Phase}
-use Rattle.cborn_edn.specs.declared.states.Phase.TheVariants.{Wants, WantsMore, Has, Builds, WantsChunk, WantsNumber, HasNumber}
+use Rattle.cborn_edn.specs.declared.states.Phase.TheVariants.{Wants, WantsMore, Has, Builds}
 use Rattle.cborn_edn.specs.declared.states.Here.{Here}
 use Rattle.cborn_edn.specs.declared.states.Writer.{Writer}
-use Rattle.cborn_edn.specs.devices.Steps.{starting, is_piece, has_chunks}
+use Rattle.cborn_edn.specs.devices.Steps.{has_chunks}
 use Rattle.cborn_edn.specs.devices.TreesCode.{listed_trees}
-use Rattle.cborn_edn.specs.devices.Handed.{Holds, Reads}
-
--- what is appended when a token is read, by the phase
-abbrev pub appended_at : Phase → Class → List ℕ
-appended_at Wants c = starting c
-appended_at WantsMore c = starting c
-appended_at WantsChunk c = starting c
-appended_at Builds c = content_of c
-appended_at Has c = []
-appended_at WantsNumber c = []
-appended_at HasNumber c = []
-
--- the next token was read in this phase, or none is left
-abbrev pub WasRead : Profile → List ℕ → ℕ → Phase → Option BareToken → ℕ → List ℕ → List ℕ → Type 0
-WasRead profile text at phase (Some t) number old new = (c : Class) × (x : List ℕ) × TokensBetween profile text at t.stop (record { start = t.start; stop = t.stop; class = c } ∷ []) × (c ≡ class_of t.kind number x) × (new ≡ old ++ appended_at phase c)
-WasRead profile text at phase None number old new = TokensBetween profile text at (length text) [] × (new ≡ old)
-
-abbrev pub begins_string : Option BareToken → Bool
-begins_string (Some t) = is_piece t.kind
-begins_string None = false
+use Rattle.cborn_edn.specs.devices.Events.{Holds}
+use Rattle.cborn_edn.specs.devices.Handed.{Reads}
 
 abbrev pub is_closing : Kind → Bool
 is_closing kinds.ArrayClose = true
@@ -76,7 +54,7 @@ pub record IsReading (h : Holds) (profile : Profile) (limit : ℕ) (text : List 
   pub inside : here.at ≤ length text
   pub state : State
   pub reached : Reached profile limit text here.at state
-  pub shows : Reads h here writer writer.out.items state
+  pub shows : Reads h here writer writer.pieces.items state
 
 -- why no text goes on with a token, if none does
 abbrev pub Judged : Bool → Bool → ℕ → ℕ → Option EdnReason → Type 0
@@ -102,8 +80,7 @@ pub data Last : State → Input → Type 0 where
   item : (b : RowBefore) (i : Item) → Last (has (in_row at_top b) i) (items (row b i))
   pieces : (b : RowBefore) (ps : Pieces) → Last (builds (as_item (in_row at_top b)) ps) (items (row b (string ps)))
 
--- what is written at the end of a text with this tree
+-- what is kept and held at the end of a text with this tree
 pub record AtEnd (h : Holds) (t : Input) (writer : Writer) : Type 0 where
-  pub laid : writer.out.items ≡ cut (spelled_all (nodes_of_input t))
   pub error : writer.error ≡ first_error (faults_of_input t)
-  pub held : faults_of_input t ≡ [] → h (top (listed_trees (nodes_of_input t))) no_part
+  pub held : faults_of_input t ≡ [] → h (top (listed_trees (nodes_of_input t))) no_part × FitsAll (trees (listed_trees (nodes_of_input t)))

@@ -1,8 +1,5 @@
 -- A device of the proofs: what the reader keeps shows a state of the machine of tokens. No definition cites it.
-use Rattle.std.specs.Prelude.{◌≡◌, ℕ, ◌+◌, List, ◌++◌, length, Bool}
-use Rattle.cborn_model.specs.declared.heads.Major.{Major}
-use Rattle.cborn_model.specs.Heads.{head, argument}
-use Rattle.cborn_model.specs.Spelled.{ending}
+use Rattle.std.specs.Prelude.{◌≡◌, ℕ, ◌+◌, List, length, Bool}
 use Rattle.cborn_lex.specs.declared.classes.Mark.{Mark}
 use Rattle.cborn_model.specs.declared.visitors.StringKind.{StringKind}
 use Rattle.cborn_model.specs.declared.visitors.StringKind.TheVariants.{OfBytes, OfText}
@@ -13,17 +10,15 @@ use Rattle.cborn_edn.specs.declared.states.Phase.{Phase}
 use Rattle.cborn_edn.specs.declared.states.Phase.TheVariants.{Has}
 use Rattle.cborn_edn.specs.declared.states.Here.{Here}
 use Rattle.cborn_edn.specs.declared.states.Writer.{Writer}
-use Rattle.cborn_edn.specs.Says.{size}
-use Rattle.cborn_edn.specs.devices.Laid.{cut, place_of, laid}
 use Rattle.cborn_edn.specs.devices.Noted.{noted}
-use Rattle.cborn_edn.specs.devices.Kept.{phase_of, stack_in, level_of, count_of, brackets_of, arounds_of, string_in, chunks_in}
+use Rattle.cborn_edn.specs.devices.Kept.{phase_of, stack_in, level_of, count_of, brackets_of, arounds_of, bytes_around, string_in, chunks_in, bytes_open}
 
 -- the place of `simple(`
 abbrev pub IsOpenAt : ℕ → State → Type 0
 IsOpenAt place (wants_number st s) = place ≡ s.start
 IsOpenAt place _ = Unit {0}
 
--- What the reader keeps shows the state s. The output is an argument of its own, since a string is appended before it is taken.
+-- What the reader keeps shows the state s. The pieces are an argument of their own, since one is appended before it is taken.
 pub record Shows (here : Here) (writer : Writer) (written : List ℕ) (s : State) : Type 0 where
   pub phase : here.phase ≡ phase_of s
   pub level : here.level ≡ level_of (stack_in s)
@@ -34,11 +29,8 @@ pub record Shows (here : Here) (writer : Writer) (written : List ℕ) (s : State
   pub chunks : writer.chunks ≡ chunks_in s
   pub simple : IsOpenAt writer.simple s
   pub error : writer.error ≡ first_error (noted s)
-  pub out : written ≡ cut (laid s)
-
--- if the state s was shown, the state u is shown now
-abbrev pub Leads : Here → Writer → Here → Writer → State → State → Type 0
-Leads here writer next left s u = Shows here writer writer.out.items s → Shows next left left.out.items u
+  pub start : writer.start ≡ length (bytes_around (stack_in s))
+  pub pieces : written ≡ bytes_open s
 
 -- a text, or bytes, as a piece of a string
 abbrev pub piece_of : StringKind → Span → Bool → List ℕ → Mark → Piece
@@ -59,14 +51,3 @@ fields_state st s m (tight_fields (pairs b k c v)) = has (in_value st s m b k c)
 abbrev pub entries_at : Phase → ℕ → ℕ
 entries_at Has n = n + 1
 entries_at _ n = n
-
--- what is open stays, and only the output and the first meaning error may change
-pub record Same (writer left : Writer) : Type 0 where
-  pub brackets : left.brackets ≡ writer.brackets
-  pub around : left.around ≡ writer.around
-  pub string : left.string ≡ writer.string
-  pub chunks : left.chunks ≡ writer.chunks
-
--- the output after the head of n items or pairs with this indicator took the place of the byte at start
-abbrev pub Sized : Major → Mark → ℕ → ℕ → List ℕ → List ℕ → Type 0
-Sized major m start n old new = (base x : List ℕ) → start ≡ length base → old ≡ cut (base ++ (place_of major m ++ x)) → new ≡ cut (base ++ (head major (argument (size m n) n) ++ x ++ ending (size m n)))

@@ -1,24 +1,23 @@
 -- A device of the proofs: one token that the reader takes as the machine of tokens does. No definition cites it.
-use Rattle.std.specs.Prelude.{◌≡◌, ℕ, ◌^◌, ◌<◌, List, [], ◌∷◌, ◌++◌, length, Bool, true, false, Option, Some, None}
-use Rattle.cborn_model.specs.Bytes.{AreBytes}
+use Rattle.std.specs.Prelude.{◌≡◌, ℕ, ◌^◌, ◌<◌, List, Bool, true, false, Option, Some, None}
 use Rattle.cborn_lex.specs.declared.classes.Kind.{Kind}
 use Rattle.cborn_lex.specs.declared.classes.Kind.TheVariants as kinds
 use Rattle.cborn_lex.specs.declared.classes.Class.{Class}
 use Rattle.cborn_lex.specs.declared.classes.Class.TheVariants.{EmbedOpen, Text, Bytes}
-use Rattle.cborn_lex.specs.Kinds.{class_of, content_of}
-use Rattle.cborn_edn.specs.devices.Modest.{IsModest, AreModest}
+use Rattle.cborn_lex.specs.Kinds.{class_of, StandsFor}
+use Rattle.cborn_edn.specs.devices.Modest.{IsModest}
 use Rattle.cborn_edn.specs.devices.Syntax.{Span, Pieces}
-use Rattle.cborn_edn.specs.devices.Machine.{Home, State, wants, has, builds, wants_chunk, step_by}
-use Rattle.cborn_edn.specs.devices.Machine.{held}
+use Rattle.cborn_edn.specs.devices.Machine.{Home, State, wants, has, builds, step_by}
 use Rattle.cborn_edn.specs.declared.states.Level.{Level}
 use Rattle.cborn_edn.specs.declared.states.Level.TheVariants.{Array, Embedded, Key, Value, Tag}
 use Rattle.cborn_edn.specs.declared.states.Phase.{Phase}
-use Rattle.cborn_edn.specs.declared.states.Phase.TheVariants.{Has}
+use Rattle.cborn_edn.specs.declared.states.Phase.TheVariants.{Has, WantsNumber, HasNumber}
 use Rattle.cborn_edn.specs.declared.states.Chunks.{Chunks}
 use Rattle.cborn_edn.specs.declared.states.Here.{Here}
 use Rattle.cborn_edn.specs.declared.states.Writer.{Writer}
 use Rattle.cborn_edn.specs.devices.Shows.{Shows}
-use Rattle.cborn_edn.specs.devices.Handed.{Holds, Reads}
+use Rattle.cborn_edn.specs.devices.Events.{Holds}
+use Rattle.cborn_edn.specs.devices.Handed.{Reads}
 
 abbrev pub is_array : Option Level → Bool
 is_array (Some Array) = true
@@ -61,52 +60,33 @@ MayEnd (wants st) = Unit {0}
 MayEnd (has st i) = Unit {0}
 MayEnd _ = ⊥
 
--- what is appended where a string may begin: a byte in the place of its head, and its content
-abbrev pub starting : Class → List ℕ
-starting (Text x m) = 0 ∷ x
-starting (Bytes q x m) = 0 ∷ x
-starting EmbedOpen = 0 ∷ []
-starting _ = []
-
--- what is appended when a token is read
-abbrev pub appended : State → Class → List ℕ
-appended (wants st) c = starting c
-appended (wants_chunk st s b) c = starting c
-appended (builds h ps) c = content_of c
-appended _ c = []
-
--- a token of this kind was read, and its content appended to base
-pub record Ready (h : Holds) (kind : Kind) (number start : ℕ) (here : Here) (writer : Writer) (s : State) (base : List ℕ) (c : Class) : Type 0 where
-  pub content : List ℕ
-  pub class : c ≡ class_of kind number content
-  pub plain : AreBytes content
+-- a token of this kind was read, and its content appended to the pieces
+pub record Ready (h : Holds) (kind : Kind) (number : ℕ) (here : Here) (writer : Writer) (s : State) (base : List ℕ) (c : Class) : Type 0 where
+  pub stands : StandsFor kind number base writer.pieces.items c
   pub shows : Reads h here writer base s
-  pub written : writer.out.items ≡ base ++ appended s c
-  pub from : start ≡ length base
   pub few : here.count < 2 ^ 63
-  pub modest : AreModest (held s)
   pub token : IsModest c
 
-abbrev pub IsReady : Holds → Kind → ℕ → ℕ → Here → Writer → State → Type 0
-IsReady h kind number start here writer s = (base : List ℕ) × ((c : Class) × Ready h kind number start here writer s base c)
+abbrev pub IsReady : Holds → Kind → ℕ → Here → Writer → State → Type 0
+IsReady h kind number here writer s = (base : List ℕ) × ((c : Class) × Ready h kind number here writer s base c)
 
 -- if ok is true, the machine goes on with the token; else it has no such token there
 abbrev pub Turned : Bool → State → Class → Span → Here → Writer → Type 0
-Turned true s c a here writer = (u : State) × (step_by s c a ≡ Some u) × Shows here writer writer.out.items u
+Turned true s c a here writer = (u : State) × (step_by s c a ≡ Some u) × Shows here writer writer.pieces.items u
 Turned false s c a here writer = step_by s c a ≡ None
 
 -- and the visitor was handed
 abbrev pub Taken : Holds → Bool → State → Class → Span → Here → Writer → Type 0
-Taken h true s c a here writer = (u : State) × (step_by s c a ≡ Some u) × Reads h here writer writer.out.items u
+Taken h true s c a here writer = (u : State) × (step_by s c a ≡ Some u) × Reads h here writer writer.pieces.items u
 Taken h false s c a here writer = step_by s c a ≡ None
 
 -- of a visitor that holds h before and k after
-abbrev pub Takes : Holds → Holds → Kind → ℕ → ℕ → ℕ → Here → Writer → Here → Writer → Bool → State → Type 0
-Takes h k kind number start place here writer next left ok s = (base : List ℕ) (c : Class) (a : Span) → place ≡ a.start → Ready h kind number start here writer s base c → Taken k ok s c a next left
+abbrev pub Takes : Holds → Holds → Kind → ℕ → ℕ → Here → Writer → Here → Writer → Bool → State → Type 0
+Takes h k kind number place here writer next left ok s = (base : List ℕ) (c : Class) (a : Span) → place ≡ a.start → Ready h kind number here writer s base c → Taken k ok s c a next left
 
 -- what taking a token that appends nothing does
 abbrev pub Turns : Holds → Holds → Kind → ℕ → ℕ → Here → Writer → Here → Writer → Bool → State → Type 0
-Turns h k kind number place here writer next left ok s = (c : Class) (x : List ℕ) (a : Span) → place ≡ a.start → c ≡ class_of kind number x → Reads h here writer writer.out.items s → Taken k ok s c a next left
+Turns h k kind number place here writer next left ok s = (c : Class) (x : List ℕ) (a : Span) → place ≡ a.start → c ≡ class_of kind number x → Reads h here writer writer.pieces.items s → Taken k ok s c a next left
 
 -- the token begins no piece of a string
 abbrev pub EndsPieces : Class → Type 0
@@ -116,7 +96,7 @@ EndsPieces EmbedOpen = ⊥
 EndsPieces _ = Unit {0}
 
 abbrev pub EndsAt : Holds → Holds → Kind → ℕ → ℕ → Here → Writer → Here → Writer → Bool → Home → Pieces → Type 0
-EndsAt h k kind number place here writer next left ok home ps = (c : Class) (x : List ℕ) (a : Span) → place ≡ a.start → c ≡ class_of kind number x → EndsPieces c → Reads h here writer writer.out.items (builds home ps) → Taken k ok (builds home ps) c a next left
+EndsAt h k kind number place here writer next left ok home ps = (c : Class) (x : List ℕ) (a : Span) → place ≡ a.start → c ≡ class_of kind number x → EndsPieces c → Reads h here writer writer.pieces.items (builds home ps) → Taken k ok (builds home ps) c a next left
 
 -- the token is a piece of a string, or begins one
 abbrev pub is_piece : Kind → Bool
@@ -124,3 +104,10 @@ is_piece (kinds.Text m) = true
 is_piece (kinds.Bytes q m) = true
 is_piece kinds.EmbedOpen = true
 is_piece _ = false
+
+-- no piece is allowed in this phase
+abbrev pub takes_no_piece : Phase → Bool
+takes_no_piece Has = true
+takes_no_piece WantsNumber = true
+takes_no_piece HasNumber = true
+takes_no_piece _ = false

@@ -1,18 +1,14 @@
-use Rattle.std.proofs.Common.{◌≡◌, sym, ap, ◌∙◌, subst, Some}
+use Rattle.std.proofs.Common.{◌≡◌, refl, sym, ap, ◌∙◌, subst, Some}
 use Rattle.cborn_lex.specs.declared.classes.Class.TheVariants.{ArrayClose}
 use Rattle.cborn_edn.specs.devices.Syntax.{array}
 use Rattle.cborn_edn.proofs.Grammar.Machine.{State, has, step_by}
 use Rattle.cborn_edn.specs.devices.Steps.{is_array}
 use Rattle.cborn_edn.specs.devices.Handed.{Reads}
-use Rattle.cborn_edn.proofs.Reader.Inverted.{array_at, array_step, no_array}
+use Rattle.cborn_edn.proofs.Reader.Inverted.{array_at, array_step, no_array, is_open}
 use Rattle.cborn_edn.proofs.endings.end_array.Goals as goal
 
-pub close_array-requires-clause-open : goal.close_array-requires-clause-open
-close_array-requires-clause-open g c =
-    let s = c.requires.shows.0 in
-    let e = c.requires.shows.2 in
-    let k = array_at s c.requires.shows.1 (ap is_array (sym e.shows.level) ∙ sym c.is_array.ensures ∙ c.if-not-is_array.false) in
-    (k.st, k.at, k.m, k.c, subst (λ (t : State). Reads (g.V.Visitor.holds c.args.visitor.now) c.args.here.now c.args.writer.now c.args.writer.now.out.items t) (sym k.is) e)
+pub close_sized-requires-clause-open : goal.close_sized-requires-clause-open
+close_sized-requires-clause-open g c = is_open is_array c.args.here.now c.args.writer.now c.args.writer.now.pieces.items c.requires.shows.0 refl (sym c.is_array.ensures ∙ c.if-not-is_array.false) c.requires.shows.2.shows
 
 pub returns-then-not-is_array-clause-taken : goal.returns-then-not-is_array-clause-taken
 returns-then-not-is_array-clause-taken g c = λ s a x e. no_array s a x (ap is_array (sym e.shows.level) ∙ sym c.is_array.ensures ∙ c.if-not-is_array.true)
@@ -20,4 +16,4 @@ returns-then-not-is_array-clause-taken g c = λ s a x e. no_array s a x (ap is_a
 pub returns-clause-taken : goal.returns-clause-taken
 returns-clause-taken g c = λ s a x e.
     let k = array_at s x (ap is_array (sym e.shows.level) ∙ sym c.is_array.ensures ∙ c.if-not-is_array.false) in
-    (has k.st (array k.at k.m k.c a), subst (λ (t : State). step_by t ArrayClose a ≡ Some (has k.st (array k.at k.m k.c a))) k.is (array_step k.st k.at a k.m k.c), c.in_ok-close_array.ensures k.st k.at a k.m k.c (subst (λ (t : State). Reads (g.V.Visitor.holds c.args.visitor.now) c.args.here.now c.args.writer.now c.args.writer.now.out.items t) (sym k.is) e))
+    (has k.st (array k.at k.m k.c a), subst (λ (t : State). step_by t ArrayClose a ≡ Some (has k.st (array k.at k.m k.c a))) k.is (array_step k.st k.at a k.m k.c), c.in_ok-close_sized.ensures.array k.st k.at a k.m k.c (subst (λ (t : State). Reads (g.V.Visitor.holds c.args.visitor.now) c.args.here.now c.args.writer.now c.args.writer.now.pieces.items t) (sym k.is) e))

@@ -11,7 +11,7 @@ pub returns-then-is_value-clause-taken : goal.returns-then-is_value-clause-taken
 returns-then-is_value-clause-taken c = λ st i a e.
     let k = value_at st (ap is_value (sym e.level) ∙ sym c.is_value.ensures ∙ c.if-is_value.true) in
     let u = wants (in_key k.around k.at k.m (after_pairs (pairs k.b k.k k.colon i) a)) in
-    (u, subst (λ (t : Stack). step_by (has t i) Comma a ≡ Some u) k.is refl, c.comma_of_pairs.ensures c.args.writer.now c.args.writer.now.out.items k.around k.at k.colon a k.m k.b k.k i (subst (λ (t : Stack). Shows c.args.here.now c.args.writer.now c.args.writer.now.out.items (has t i)) (sym k.is) e))
+    (u, subst (λ (t : Stack). step_by (has t i) Comma a ≡ Some u) k.is refl, c.comma_of_pairs.ensures c.args.writer.now c.args.writer.now.pieces.items k.around k.at k.colon a k.m k.b k.k i (subst (λ (t : Stack). Shows c.args.here.now c.args.writer.now c.args.writer.now.pieces.items (has t i)) (sym k.is) e))
 
 pub returns-then-not-is_row-clause-taken : goal.returns-then-not-is_row-clause-taken
 returns-then-not-is_row-clause-taken c = λ st i a e. no_comma st i a (ap is_value (sym e.level) ∙ sym c.is_value.ensures ∙ c.if-is_value.false) (ap is_row (sym e.level) ∙ sym c.is_row.ensures ∙ c.if-not-is_row.true)
@@ -20,4 +20,4 @@ pub returns-clause-taken : goal.returns-clause-taken
 returns-clause-taken c = λ st i a e.
     let k = row_at st (ap is_row (sym e.level) ∙ sym c.is_row.ensures ∙ c.if-not-is_row.false) in
     let u = wants (in_row k.n (after_row (row k.b i) a)) in
-    (u, subst (λ (t : Stack). step_by (has t i) Comma a ≡ Some u) k.is refl, c.comma.ensures c.args.writer.now c.args.writer.now.out.items k.n k.b i a (subst (λ (t : Stack). Shows c.args.here.now c.args.writer.now c.args.writer.now.out.items (has t i)) (sym k.is) e))
+    (u, subst (λ (t : Stack). step_by (has t i) Comma a ≡ Some u) k.is refl, c.comma.ensures c.args.writer.now c.args.writer.now.pieces.items k.n k.b i a (subst (λ (t : Stack). Shows c.args.here.now c.args.writer.now c.args.writer.now.pieces.items (has t i)) (sym k.is) e))

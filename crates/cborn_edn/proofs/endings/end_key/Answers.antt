@@ -13,4 +13,4 @@ pub returns-clause-taken : goal.returns-clause-taken
 returns-clause-taken c = λ st i a e.
     let k = key_at st (ap is_key (sym e.level) ∙ sym c.is_key.ensures ∙ c.if-not-is_key.false) in
     let u = wants (in_value k.around k.at k.m k.b i a) in
-    (u, subst (λ (t : Stack). step_by (has t i) Colon a ≡ Some u) k.is refl, c.colon.ensures c.args.writer.now c.args.writer.now.out.items k.around k.at a k.m k.b i (subst (λ (t : Stack). Shows c.args.here.now c.args.writer.now c.args.writer.now.out.items (has t i)) (sym k.is) e))
+    (u, subst (λ (t : Stack). step_by (has t i) Colon a ≡ Some u) k.is refl, c.colon.ensures c.args.writer.now c.args.writer.now.pieces.items k.around k.at a k.m k.b i (subst (λ (t : Stack). Shows c.args.here.now c.args.writer.now c.args.writer.now.pieces.items (has t i)) (sym k.is) e))

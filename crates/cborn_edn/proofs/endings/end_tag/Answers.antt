@@ -4,7 +4,7 @@ use Rattle.cborn_edn.specs.devices.Syntax.{tag}
 use Rattle.cborn_edn.proofs.Grammar.Machine.{Stack, has, step_by}
 use Rattle.cborn_edn.specs.devices.Steps.{is_tag}
 use Rattle.cborn_edn.specs.devices.Handed.{Reads}
-use Rattle.cborn_edn.proofs.Reader.Inverted.{tag_at, no_tag}
+use Rattle.cborn_edn.proofs.Reader.Inverted.{tag_at, no_tag, is_open}
 use Rattle.cborn_edn.proofs.endings.end_tag.Goals as goal
 
 pub returns-then-not-is_tag-clause-taken : goal.returns-then-not-is_tag-clause-taken
@@ -14,10 +14,7 @@ pub returns-clause-taken : goal.returns-clause-taken
 returns-clause-taken g c = λ st i a e.
     let k = tag_at st (ap is_tag (sym e.shows.level) ∙ sym c.is_tag.ensures ∙ c.if-not-is_tag.false) in
     let u = has k.around (tag k.at k.n k.m i a) in
-    (u, subst (λ (t : Stack). step_by (has t i) ParenClose a ≡ Some u) k.is refl, c.in_ok-close_tag.ensures k.around k.at a k.n k.m i (subst (λ (t : Stack). Reads (g.V.Visitor.holds c.args.visitor.now) c.args.here.now c.args.writer.now c.args.writer.now.out.items (has t i)) (sym k.is) e))
+    (u, subst (λ (t : Stack). step_by (has t i) ParenClose a ≡ Some u) k.is refl, c.in_ok-close_tag.ensures k.around k.at a k.n k.m i (subst (λ (t : Stack). Reads (g.V.Visitor.holds c.args.visitor.now) c.args.here.now c.args.writer.now c.args.writer.now.pieces.items (has t i)) (sym k.is) e))
 
 pub close_tag-requires : goal.close_tag-requires
-close_tag-requires g c =
-    let e = c.requires.2 in
-    let k = tag_at c.requires.0 (ap is_tag (sym e.shows.level) ∙ sym c.is_tag.ensures ∙ c.if-not-is_tag.false) in
-    (k.around, k.at, k.n, k.m, c.requires.1, subst (λ (t : Stack). Reads (g.V.Visitor.holds c.args.visitor.now) c.args.here.now c.args.writer.now c.args.writer.now.out.items (has t c.requires.1)) (sym k.is) e)
+close_tag-requires g c = is_open is_tag c.args.here.now c.args.writer.now c.args.writer.now.pieces.items (has c.requires.0 c.requires.1) refl (sym c.is_tag.ensures ∙ c.if-not-is_tag.false) c.requires.2.shows

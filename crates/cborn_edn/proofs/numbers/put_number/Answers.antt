@@ -1,7 +1,38 @@
-use Rattle.std.proofs.Common.{refl}
-use Rattle.cborn_edn.proofs.Reader.Results.{on_ok}
-use Rattle.cborn_edn.proofs.Reader.Put.{number_shown}
+use Rattle.std.proofs.Common.{◌≡◌, refl, ap, ◌∙◌, ◌++◌, ◌^◌, true, false, arith}
+use Rattle.std.proofs.lemmas.Bool.{lt-ltb, le-ltb}
+use Rattle.cborn_edn.specs.Says.{is_small, argument_of, number_errors}
+use Rattle.cborn_edn.specs.devices.MeaningErrors.{first_error}
+use Rattle.cborn_edn.specs.devices.Syntax.{number}
+use Rattle.cborn_edn.specs.devices.Noted.{noted_stack}
+use Rattle.cborn_edn.specs.devices.Handed.{states_around}
+use Rattle.cborn_edn.proofs.Grammar.Machine.{wants, has}
+use Rattle.cborn_edn.proofs.HandedOver.Fits.{number_fits}
+use Rattle.cborn_edn.proofs.HandedOver.Openings.{hands_integer, hands_bignum}
+use Rattle.cborn_edn.proofs.Reader.Put.{leaf_shown}
+use Rattle.cborn_edn.proofs.Reader.Results.{on_ok, all_ok}
 use Rattle.cborn_edn.proofs.numbers.put_number.Goals as goal
 
-pub returns-clause-shows : goal.returns-clause-shows
-returns-clause-shows c = on_ok c.push_number.result (λ added st a p e. number_shown c.args.here.now c.args.writer.now _ st a c.args.place c.args.numeral.negative c.args.numeral.magnitude c.args.numeral.mark p (record { brackets = refl; around = refl; string = refl; chunks = refl }) added c.note_number.ensures e) c.push_number.ensures
+pub returns-then-argument-ge-OUTSIDE : goal.returns-then-argument-ge-OUTSIDE
+returns-then-argument-ge-OUTSIDE g c =
+    let n = c.args.numeral in
+    let large : is_small n.negative n.magnitude ≡ false = le-ltb (argument_of n.negative n.magnitude) (2 ^ 64) (omega (arith, c.if-argument-ge-OUTSIDE.true, c.argument_of-argument.ensures)) in
+    all_ok c.put_bignum.result (λ same kept hand st a p r.
+    let u = has st (number a n.negative n.magnitude n.mark) in
+    let noted = c.note_number.ensures (noted_stack st) r.shows.error ∙ ap (λ q. first_error (noted_stack st ++ number_errors q n.negative n.magnitude n.mark)) p in
+    record { shows = leaf_shown (wants st) u c.note_number.new.error same kept refl refl refl refl tt noted r.shows; handed = hand (wants st) u (states_around st) noted (hands_bignum st a p n.negative n.magnitude n.mark c.is_below-negative.result c.argument_of-argument.result large c.is_below-negative.ensures c.argument_of-argument.ensures) r.handed })
+    c.put_bignum.ensures.rest c.put_bignum.ensures.pieces c.put_bignum.ensures.handed
+
+pub hand-requires : goal.hand-requires
+hand-requires g c = λ none.
+    let n = c.args.numeral in
+    let small : is_small n.negative n.magnitude ≡ true = lt-ltb (argument_of n.negative n.magnitude) (2 ^ 64) (omega (arith, c.if-argument-ge-OUTSIDE.false, c.argument_of-argument.ensures)) in
+    rw (c.width_for-width.ensures, c.argument_of-argument.ensures) (number_fits c.args.writer.now.error c.note_number.new.error none c.args.place n.negative n.magnitude n.mark small c.note_number.ensures)
+
+pub returns : goal.returns
+returns g c =
+    let n = c.args.numeral in
+    let small : is_small n.negative n.magnitude ≡ true = lt-ltb (argument_of n.negative n.magnitude) (2 ^ 64) (omega (arith, c.if-argument-ge-OUTSIDE.false, c.argument_of-argument.ensures)) in
+    on_ok c.hand.result (λ hand st a p r.
+    let u = has st (number a n.negative n.magnitude n.mark) in
+    let noted = c.note_number.ensures (noted_stack st) r.shows.error ∙ ap (λ q. first_error (noted_stack st ++ number_errors q n.negative n.magnitude n.mark)) p in
+    record { shows = leaf_shown (wants st) u c.note_number.new.error refl refl refl refl refl refl tt noted r.shows; handed = hand (wants st) u (states_around st) noted (hands_integer st a p n.negative n.magnitude n.mark c.is_below-negative.result c.width_for-width.result c.argument_of-argument.result small c.is_below-negative.ensures c.argument_of-argument.ensures c.width_for-width.ensures) r.handed }) c.hand.ensures

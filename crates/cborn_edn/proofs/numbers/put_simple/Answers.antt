@@ -1,7 +1,43 @@
-use Rattle.std.proofs.Common.{refl}
-use Rattle.cborn_edn.proofs.Reader.Results.{both_ok}
-use Rattle.cborn_edn.proofs.Reader.Put.{simple_shown}
+use Rattle.std.proofs.Common.{◌≡◌, refl, sym, ap, ◌∙◌, true, false, arith}
+use Rattle.cborn_edn.specs.devices.MeaningErrors.{first_error, is_none}
+use Rattle.cborn_edn.specs.devices.Handed.{states_around}
+use Rattle.cborn_edn.proofs.Grammar.Machine.{wants_number, has_number}
+use Rattle.cborn_edn.proofs.HandedOver.Fits.{simple_fits}
+use Rattle.cborn_edn.proofs.HandedOver.Handing.{silenced}
+use Rattle.cborn_edn.proofs.HandedOver.Openings.{hands_simple}
+use Rattle.cborn_edn.proofs.Reader.Put.{leaf_shown, simple_noted}
+use Rattle.cborn_edn.proofs.Reader.Results.{on_ok}
 use Rattle.cborn_edn.proofs.numbers.put_simple.Goals as goal
 
-pub returns-clause-shows : goal.returns-clause-shows
-returns-clause-shows c = both_ok c.push_simple.result (λ added noted st s a p e. simple_shown c.args.here.now c.args.writer.now _ st s a c.args.place c.args.numeral.negative c.args.numeral.magnitude c.args.numeral.mark p (record { brackets = refl; around = refl; string = refl; chunks = refl }) added noted e) c.push_simple.ensures.added c.push_simple.ensures.noted
+pub returns-then-not-is_none : goal.returns-then-not-is_none
+returns-then-not-is_none g c = λ st s a p r.
+    let n = c.args.numeral in
+    let w = c.args.writer.now in
+    let u = has_number st s a n.negative n.magnitude n.mark in
+    let noted = simple_noted w.error c.note_simple.new.error st s a w.simple c.args.place n.negative n.magnitude n.mark r.shows.simple p r.shows.error c.note_simple.ensures in
+    record {
+      shows = leaf_shown (wants_number st s) u c.note_simple.new.error refl refl refl refl refl refl tt noted r.shows;
+      handed = silenced (g.V.Visitor.holds c.args.visitor.now) w.spellers (wants_number st s) u (states_around st) (λ q. let bad : is_none c.note_simple.new.error ≡ true = ap is_none (noted ∙ ap first_error q) in absurd (let worse : false ≡ true = c.if-not-is_none.ensures ∙ bad in cc)) r.handed;
+    }
+
+pub overflow_cast-event : goal.overflow_cast-event
+overflow_cast-event g c =
+    let n = c.args.numeral in
+    let fits = simple_fits c.args.writer.now.error c.note_simple.new.error (sym c.if-not-is_none.ensures) c.args.writer.now.simple c.args.place n.negative n.magnitude n.mark c.note_simple.ensures in
+    omega (arith, fits.1)
+
+pub hand-requires : goal.hand-requires
+hand-requires g c = λ none.
+    let n = c.args.numeral in
+    (simple_fits c.args.writer.now.error c.note_simple.new.error none c.args.writer.now.simple c.args.place n.negative n.magnitude n.mark c.note_simple.ensures).0
+
+pub returns : goal.returns
+returns g c = on_ok c.hand.result (λ hand st s a p r.
+    let n = c.args.numeral in
+    let w = c.args.writer.now in
+    let u = has_number st s a n.negative n.magnitude n.mark in
+    let noted = simple_noted w.error c.note_simple.new.error st s a w.simple c.args.place n.negative n.magnitude n.mark r.shows.simple p r.shows.error c.note_simple.ensures in
+    record {
+      shows = leaf_shown (wants_number st s) u c.note_simple.new.error refl refl refl refl refl refl tt noted r.shows;
+      handed = hand (wants_number st s) u (states_around st) noted (hands_simple st s r.shows.simple a n.negative n.magnitude n.mark) r.handed;
+    }) c.hand.ensures

@@ -1,9 +1,16 @@
-use Rattle.std.proofs.Common.{refl, ap, ◌∙◌, ◌++◌}
-use Rattle.cborn_model.specs.Heads.{head_bytes}
-use Rattle.cborn_edn.specs.devices.Laid.{cut}
+use Rattle.std.proofs.Common.{refl}
+use Rattle.cborn_edn.specs.devices.Syntax.{word}
+use Rattle.cborn_edn.specs.devices.Noted.{noted_stack}
+use Rattle.cborn_edn.specs.devices.Handed.{states_around}
+use Rattle.cborn_edn.proofs.Grammar.Machine.{wants, has}
+use Rattle.cborn_edn.proofs.HandedOver.Openings.{hands_word}
+use Rattle.cborn_edn.proofs.Reader.Put.{leaf_shown}
 use Rattle.cborn_edn.proofs.Reader.Results.{on_ok}
-use Rattle.cborn_edn.proofs.Reader.Put.{word_shown}
+use Rattle.cborn_edn.proofs.Reader.Showing.{same_errors}
 use Rattle.cborn_edn.proofs.numbers.put_word.Goals as goal
 
 pub returns : goal.returns
-returns c = on_ok c.push_head.result (λ added st a e. word_shown c.args.here.now c.args.writer.now _ st a c.args.n (record { brackets = refl; around = refl; string = refl; chunks = refl }) refl (added ∙ ap (λ w. c.args.writer.now.out.items ++ cut (head_bytes 7 w c.args.n)) c.shortest.ensures) e) c.push_head.ensures.added
+returns g c = on_ok c.hand.result (λ hand st a p r.
+    let u = has st (word a c.args.n) in
+    let noted = same_errors c.args.writer.now.error (noted_stack st) r.shows.error in
+    record { shows = leaf_shown (wants st) u c.args.writer.now.error refl refl refl refl refl refl tt noted r.shows; handed = hand (wants st) u (states_around st) noted (hands_word st a p c.args.n) r.handed }) c.hand.ensures

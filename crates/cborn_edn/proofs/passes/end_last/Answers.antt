@@ -1,12 +1,9 @@
 use Rattle.std.proofs.Common.{sym, ap, ◌∙◌, subst}
-use Rattle.cborn_edn.specs.devices.Modest.{AreModest}
-use Rattle.cborn_edn.specs.devices.Syntax.{Input, string, tokens_of_pieces}
-use Rattle.cborn_edn.proofs.Grammar.Machine.{in_row, at_top, as_item, State}
-use Rattle.cborn_edn.proofs.Grammar.Held.{held, held_home}
+use Rattle.cborn_edn.specs.devices.Syntax.{Input, string}
+use Rattle.cborn_edn.proofs.Grammar.Machine.{in_row, at_top, State}
 use Rattle.cborn_edn.specs.devices.Handed.{Reads}
 use Rattle.cborn_edn.specs.devices.Reading.{ends_string, AtEnd}
 use Rattle.cborn_edn.proofs.Reader.Results.{on_ok}
-use Rattle.cborn_edn.proofs.Reader.Modest.{modest_right}
 use Rattle.cborn_edn.proofs.Reader.Ending.{string_end, item_end, bare_end}
 use Rattle.cborn_edn.proofs.passes.end_last.Goals as goal
 
@@ -14,14 +11,14 @@ pub end_item-requires : goal.end_item-requires
 end_item-requires g c =
     let e = c.requires.3 in
     let k = string_end c.requires.0 c.requires.1 c.requires.2 (ap ends_string (sym e.shows.phase) ∙ sym c.ends_string.ensures ∙ c.if-ends_string.true) in
-    (in_row at_top k.b, k.ps, subst (λ (u : State). Reads (g.V.Visitor.holds c.args.visitor.now) c.args.here c.args.writer.now c.args.writer.now.out.items u) (sym k.is) e)
+    (in_row at_top k.b, k.ps, subst (λ (u : State). Reads (g.V.Visitor.holds c.args.visitor.now) c.args.here c.args.writer.now c.args.writer.now.pieces.items u) (sym k.is) e)
 
 pub returns-then-ends_string : goal.returns-then-ends_string
-returns-then-ends_string g c = on_ok c.end_item.result (λ h s t last m e.
+returns-then-ends_string g c = on_ok c.end_item.result (λ h s t last e.
     let k = string_end s t last (ap ends_string (sym e.shows.phase) ∙ sym c.ends_string.ensures ∙ c.if-ends_string.true) in
     subst (λ (u : Input). AtEnd (g.V.Visitor.holds c.end_item.new.visitor) u c.end_item.new.writer) k.tree
     (item_end c.end_item.new.here c.end_item.new.writer k.b (string k.ps)
-    (h (in_row at_top k.b) k.ps (modest_right (held_home (as_item (in_row at_top k.b))) (tokens_of_pieces k.ps) (subst (λ (u : State). AreModest (held u)) (sym k.is) m)) (subst (λ (u : State). Reads (g.V.Visitor.holds c.args.visitor.now) c.args.here c.args.writer.now c.args.writer.now.out.items u) (sym k.is) e)))) c.end_item.ensures
+    (h (in_row at_top k.b) k.ps (subst (λ (u : State). Reads (g.V.Visitor.holds c.args.visitor.now) c.args.here c.args.writer.now c.args.writer.now.pieces.items u) (sym k.is) e)))) c.end_item.ensures
 
 pub returns : goal.returns
-returns g c = λ s t last m e. bare_end c.args.here c.args.writer.now s t last (sym c.ends_string.ensures ∙ c.if-ends_string.false) e
+returns g c = λ s t last e. bare_end c.args.here c.args.writer.now s t last (sym c.ends_string.ensures ∙ c.if-ends_string.false) e

@@ -1,8 +1,7 @@
 use Rattle.std.proofs.Common.{sym, ◌∙◌, subst}
-use Rattle.cborn_edn.specs.devices.Modest.{AreModest}
 use Rattle.cborn_edn.specs.Faults.{IsNoNotation}
 use Rattle.cborn_edn.specs.devices.Reading.{Reached}
-use Rattle.cborn_edn.proofs.Reader.Ending.{at_end_of, not_at_end, cut_short, meaning_refused, spelled_text}
+use Rattle.cborn_edn.proofs.Reader.Ending.{at_end_of, not_at_end, cut_short, meaning_refused, held_text}
 use Rattle.cborn_edn.proofs.passes.finish.Goals as goal
 
 pub end_last-requires : goal.end_last-requires
@@ -17,9 +16,9 @@ returns-then-not-may_end-clause-refused g c =
 pub returns-in-Some-clause-refused : goal.returns-in-Some-clause-refused
 returns-in-Some-clause-refused g c =
     let k = at_end_of c.args.here c.args.writer c.requires.reading (sym c.may_end.ensures ∙ c.if-not-may_end.false) in
-    meaning_refused c.args.profile c.args.limit c.args.text.now c.requires.reading.state (subst (λ n. Reached c.args.profile c.args.limit c.args.text.now n c.requires.reading.state) c.requires.whole c.requires.reading.reached) k.0 c.end_last.new.writer c.in-Some.error k.1 (c.in_ok-end_last.ensures c.requires.reading.state k.0 k.2 (subst AreModest (sym c.requires.reading.reached.held) c.requires.reading.reached.modest) c.requires.reading.shows) c.in-Some.is
+    meaning_refused c.args.profile c.args.limit c.args.text.now c.requires.reading.state (subst (λ n. Reached c.args.profile c.args.limit c.args.text.now n c.requires.reading.state) c.requires.whole c.requires.reading.reached) k.0 c.end_last.new.writer c.in-Some.error k.1 (c.in_ok-end_last.ensures c.requires.reading.state k.0 k.2 c.requires.reading.shows) c.in-Some.is
 
-pub returns-clause-spelled : goal.returns-clause-spelled
-returns-clause-spelled g c =
+pub returns-clause-nodes : goal.returns-clause-nodes
+returns-clause-nodes g c =
     let k = at_end_of c.args.here c.args.writer c.requires.reading (sym c.may_end.ensures ∙ c.if-not-may_end.false) in
-    spelled_text c.args.profile c.args.limit c.args.text.now c.requires.reading.state (subst (λ n. Reached c.args.profile c.args.limit c.args.text.now n c.requires.reading.state) c.requires.whole c.requires.reading.reached) k.0 c.end_last.new.writer k.1 (c.in_ok-end_last.ensures c.requires.reading.state k.0 k.2 (subst AreModest (sym c.requires.reading.reached.held) c.requires.reading.reached.modest) c.requires.reading.shows) c.in-None.is
+    held_text c.args.profile c.args.limit c.args.text.now c.requires.reading.state (subst (λ n. Reached c.args.profile c.args.limit c.args.text.now n c.requires.reading.state) c.requires.whole c.requires.reading.reached) k.0 c.end_last.new.writer k.1 (c.in_ok-end_last.ensures c.requires.reading.state k.0 k.2 c.requires.reading.shows) c.in-None.is

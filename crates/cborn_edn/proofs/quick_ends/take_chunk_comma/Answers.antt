@@ -17,4 +17,4 @@ pub returns-clause-read : goal.returns-clause-read
 returns-clause-read g c =
     let a : Span = record { start = c.args.here.now.at; stop = c.args.here.now.at + 1 } in
     let k = chunked c.args.profile c.args.limit c.args.text.now c.args.here.now c.args.writer.now c.requires.reading c.requires.builds c.requires.chunk in
-    turned c.args.profile c.args.limit c.args.text.now c.args.here.now c.args.writer.now c.requires.reading (utf8_bytes c.args.text.now c.utf8.text) Comma (c.args.here.now.at + 1) (single_here c.args.profile c.args.text.now c.args.here.now.at 44 Comma c.requires.inside c.requires.comma (λ z. good.comma z)) c.end_chunk.new.here c.end_chunk.new.writer (builds (as_chunk k.st k.at k.b) k.ps) (wants_chunk k.st k.at (after_strings (strings k.b k.ps) a)) k.is refl (c.in_ok-end_chunk.ensures k.st k.at a k.b k.ps k.modest k.shows) refl (λ l. omega arith)
+    turned c.args.profile c.args.limit c.args.text.now c.args.here.now c.args.writer.now c.requires.reading (utf8_bytes c.args.text.now c.utf8.text) Comma (c.args.here.now.at + 1) (single_here c.args.profile c.args.text.now c.args.here.now.at 44 Comma c.requires.inside c.requires.comma (λ z. good.comma z)) c.end_chunk.new.here c.end_chunk.new.writer (builds (as_chunk k.st k.at k.b) k.ps) (wants_chunk k.st k.at (after_strings (strings k.b k.ps) a)) k.is refl (c.in_ok-end_chunk.ensures k.st k.at a k.b k.ps k.shows) refl (λ l. omega arith)

@@ -13,14 +13,8 @@ end_chunk-requires g c =
     let k = chunked c.args.profile c.args.limit c.args.text.now c.args.here.now c.args.writer.now c.requires.reading c.requires.builds c.requires.chunk in
     (k.st, k.at, k.b, k.ps, k.shows)
 
-pub end_chunks-requires : goal.end_chunks-requires
-end_chunks-requires g c =
-    let a : Span = record { start = c.args.here.now.at; stop = c.args.here.now.at + 1 } in
-    let k = chunked c.args.profile c.args.limit c.args.text.now c.args.here.now c.args.writer.now c.requires.reading c.requires.builds c.requires.chunk in
-    (k.st, k.at, a, strings k.b k.ps, c.in_ok-end_chunk.ensures k.st k.at a k.b k.ps k.modest k.shows)
-
 pub returns-clause-read : goal.returns-clause-read
 returns-clause-read g c =
     let a : Span = record { start = c.args.here.now.at; stop = c.args.here.now.at + 1 } in
     let k = chunked c.args.profile c.args.limit c.args.text.now c.args.here.now c.args.writer.now c.requires.reading c.requires.builds c.requires.chunk in
-    turned c.args.profile c.args.limit c.args.text.now c.args.here.now c.args.writer.now c.requires.reading (utf8_bytes c.args.text.now c.utf8.text) ParenClose (c.args.here.now.at + 1) (single_here c.args.profile c.args.text.now c.args.here.now.at 41 ParenClose c.requires.inside c.requires.paren (λ z. good.paren_close z)) c.end_chunks.new.here c.end_chunks.new.writer (builds (as_chunk k.st k.at k.b) k.ps) (has k.st (chunked_item k.at (strings k.b k.ps) a)) k.is refl (c.in_ok-end_chunks.ensures k.st k.at a a (strings k.b k.ps) (c.in_ok-end_chunk.ensures k.st k.at a k.b k.ps k.modest k.shows)) refl (λ l. omega arith)
+    turned c.args.profile c.args.limit c.args.text.now c.args.here.now c.args.writer.now c.requires.reading (utf8_bytes c.args.text.now c.utf8.text) ParenClose (c.args.here.now.at + 1) (single_here c.args.profile c.args.text.now c.args.here.now.at 41 ParenClose c.requires.inside c.requires.paren (λ z. good.paren_close z)) c.end_chunks.new.here c.end_chunks.new.writer (builds (as_chunk k.st k.at k.b) k.ps) (has k.st (chunked_item k.at (strings k.b k.ps) a)) k.is refl (c.in_ok-end_chunks.ensures k.st k.at a a (strings k.b k.ps) (c.in_ok-end_chunk.ensures k.st k.at a k.b k.ps k.shows)) refl (λ l. omega arith)

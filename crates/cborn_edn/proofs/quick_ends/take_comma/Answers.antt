@@ -10,7 +10,7 @@ use Rattle.cborn_edn.proofs.Reader.Taking.{skipped_to, after_taken, few_here}
 use Rattle.cborn_edn.proofs.quick_ends.take_comma.Goals as goal
 
 pub end_entry-taken-requires : goal.end_entry-taken-requires
-end_entry-taken-requires g c = few_here c.args.profile c.args.limit c.args.text.now c.args.here.now c.args.writer.now c.requires.reading (subst (λ n. n < 2 ^ 63) c.bounded_len-written.ensures.len c.bounded_len-written.ensures.small)
+end_entry-taken-requires g c = few_here c.args.profile c.args.limit c.args.text.now c.args.here.now c.args.writer.now c.requires.reading (subst (λ n. n < 2 ^ 63) c.bounded_len-len.ensures.len c.bounded_len-len.ensures.small)
 
 pub skip_space-requires : goal.skip_space-requires
 skip_space-requires g c = omega (arith, c.requires.inside)

@@ -9,7 +9,7 @@ use Rattle.cborn_edn.proofs.Reader.Taking.{end_taken, end_free, may_end, few_her
 use Rattle.cborn_edn.proofs.quick_ends.take_map_end.Goals as goal
 
 pub end_map-requires-clause-few : goal.end_map-requires-clause-few
-end_map-requires-clause-few g c = few_here c.args.profile c.args.limit c.args.text.now c.args.here.now c.args.writer.now c.requires.reading (subst (λ n. n < 2 ^ 63) c.bounded_len-written.ensures.len c.bounded_len-written.ensures.small)
+end_map-requires-clause-few g c = few_here c.args.profile c.args.limit c.args.text.now c.args.here.now c.args.writer.now c.requires.reading (subst (λ n. n < 2 ^ 63) c.bounded_len-len.ensures.len c.bounded_len-len.ensures.small)
 
 pub end_map-requires-clause-shows : goal.end_map-requires-clause-shows
 end_map-requires-clause-shows g c = (c.requires.reading.state, may_end c.args.profile c.args.limit c.args.text.now c.args.here.now c.args.writer.now c.requires.reading c.requires.ends, c.requires.reading.shows)

@@ -6,5 +6,5 @@ use Rattle.cborn_edn.proofs.steps.begin_number.Goals as goal
 
 pub returns-in_ok-put_simple-in-Number : goal.returns-in_ok-put_simple-in-Number
 returns-in_ok-put_simple-in-Number g c = λ st s.
-    turn _ c.args.token.kind (kinds.Number c.in-Number.negative c.in-Number.mark) c.args.number 0 c.args.token.start c.args.here.now c.put_simple.new.here c.args.writer.now c.put_simple.new.writer true (wants_number st s) c.in-Number.is
+    turn _ c.args.token.kind (kinds.Number c.in-Number.negative c.in-Number.mark) c.args.number c.args.token.start c.args.here.now c.put_simple.new.here c.args.writer.now c.put_simple.new.writer true (wants_number st s) c.in-Number.is
     (λ x a p e. (has_number st s a c.in-Number.negative c.args.number c.in-Number.mark, refl, c.in_ok-put_simple-in-Number.ensures st s a p e))

@@ -1,8 +1,11 @@
-use Rattle.std.proofs.Common.{refl, ap, ◌∙◌, ◌+◌, ◌*◌}
-use Rattle.cborn_model.specs.Heads.{code}
+use Rattle.cborn_edn.specs.devices.Syntax.{chunked, after_strings}
+use Rattle.cborn_edn.specs.devices.Handed.{states_around}
+use Rattle.cborn_edn.proofs.Grammar.Machine.{has, wants_chunk}
+use Rattle.cborn_edn.proofs.HandedOver.Strings.{hands_chunks_end}
 use Rattle.cborn_edn.proofs.Reader.Built.{chunks_shown}
+use Rattle.cborn_edn.proofs.Reader.Results.{on_ok}
 use Rattle.cborn_edn.proofs.strings.end_chunks.Goals as goal
 
 pub returns : goal.returns
-returns c = λ st s a e ss h.
-    chunks_shown c.args.here.now c.args.writer.now _ st s a e ss c.in-Some.chunks c.in-Some-kind.kind c.endless_head.result _ c.in-Some.is c.in-Some-kind.is (c.endless_head.ensures ∙ ap (λ x. 32 * code x + 31) c.major_of.ensures) refl refl refl refl refl refl c.in_ok-push.ensures.items h
+returns g c = on_ok c.hand.result (λ hand st s a e ss r.
+    record { shows = chunks_shown c.args.here.now c.args.writer.now st s a e ss c.hand.new.spellers r.shows; handed = hand (wants_chunk st s (after_strings ss a)) (has st (chunked s ss e)) (states_around st) r.shows.error (hands_chunks_end st s a e ss) r.handed }) c.hand.ensures

@@ -1,9 +1,36 @@
-use Rattle.std.proofs.Common.{refl}
-use Rattle.cborn_edn.proofs.Reader.Results.{both_ok}
-use Rattle.cborn_edn.proofs.Reader.Built.{item_shown}
-use Rattle.cborn_edn.proofs.Meaning.Sound.{pieces_bytes}
+use Rattle.std.proofs.Common.{sym, ◌∙◌, subst, List, ℕ, ◌-◌, length, take, drop, arith}
+use Rattle.cborn_edn.specs.declared.events.Event.{Event}
+use Rattle.cborn_edn.specs.devices.Syntax.{string}
+use Rattle.cborn_edn.specs.devices.Noted.{noted}
+use Rattle.cborn_edn.specs.devices.Events.{Fits}
+use Rattle.cborn_edn.specs.devices.Handed.{states_around, Hands}
+use Rattle.cborn_edn.proofs.Grammar.Machine.{as_item, has, builds}
+use Rattle.cborn_edn.specs.devices.Said.{str}
+use Rattle.cborn_edn.proofs.HandedOver.Fits.{none_shown}
+use Rattle.cborn_edn.proofs.HandedOver.Strings.{string_fits, hands_string}
+use Rattle.cborn_edn.proofs.Reader.Built.{joint_shown, content_shown, item_noted, item_read}
+use Rattle.cborn_edn.proofs.Reader.Showing.{known_bytes}
 use Rattle.cborn_edn.proofs.strings.end_item.Goals as goal
 
-pub returns-clause-shows : goal.returns-clause-shows
-returns-clause-shows c = both_ok c.close_string.result (λ added noted st ps modest e.
-    item_shown c.args.here.now c.args.writer.now _ st ps c.in-Some.joint c.in-Some.is refl refl refl refl added noted (pieces_bytes ps modest) e) c.close_string.ensures.added c.close_string.ensures.noted
+pub hand-requires : goal.hand-requires
+hand-requires g c = λ none.
+    let w = c.args.writer.now in
+    let st = c.requires.0 in
+    let ps = c.requires.1 in
+    let shows = c.requires.2.shows in
+    let x : List ℕ = take (length c.deref.result.now - w.start) (drop w.start c.deref.result.now) in
+    let is = joint_shown shows c.in-Some.joint c.in-Some.is in
+    let same = content_shown shows c.deref.result.now c.deref.ensures.value in
+    let error = item_noted st ps c.in-Some.joint w.error c.note_string.new.error is (c.note_string.ensures (str ps) is (λ k. same ∙ known_bytes ps k)) shows.error in
+    subst (λ (e : Event). Fits e x) (sym c.string_event-event.ensures) (string_fits ps is same st (none_shown c.note_string.new.error (noted (has st (string ps))) none error) (omega arith))
+
+pub returns : goal.returns
+returns g c = λ st ps r.
+    let w = c.args.writer.now in
+    let u = has st (string ps) in
+    let x : List ℕ = take (length c.deref.result.now - w.start) (drop w.start c.deref.result.now) in
+    let is = joint_shown r.shows c.in-Some.joint c.in-Some.is in
+    let same = content_shown r.shows c.deref.result.now c.deref.ensures.value in
+    let error = item_noted st ps c.in-Some.joint w.error c.note_string.new.error is (c.note_string.ensures (str ps) is (λ k. same ∙ known_bytes ps k)) r.shows.error in
+    let hands = subst (λ (e : Event). Hands e c.in-Some.joint.place x (builds (as_item st) ps) u) (sym c.string_event-event.ensures) (hands_string ps is same st) in
+    item_read (g.V.Visitor.holds c.hand.new.visitor) c.args.here.now w c.drop_pieces.new.writer st ps c.hand.new.spellers c.note_string.new.error c.drop_pieces.ensures.rest c.drop_pieces.ensures.pieces error r.shows (c.in_ok-hand.ensures (builds (as_item st) ps) u (states_around st) error hands r.handed)

@@ -1,0 +1,78 @@
+-- What is whole after an event fits its heads.
+use Rattle.std.proofs.Common.{◌≡◌, refl, sym, subst, ℕ, ◌<◌, ◌^◌, List, [], ◌∷◌, ◌++◌, length, Bool, true, false, Some, None, arith}
+use Rattle.std.specs.Prelude.{if◌then◌else◌}
+use Rattle.cborn_model.specs.Bytes.{AreBytes}
+use Rattle.cborn_model.specs.declared.heads.Width.{Width}
+use Rattle.cborn_model.specs.declared.heads.Size.TheVariants.{Fixed, Endless}
+use Rattle.cborn_model.specs.declared.visitors.StringKind.{StringKind}
+use Rattle.cborn_model.specs.declared.visitors.StringKind.TheVariants.{OfBytes, OfText}
+use Rattle.cborn_model.specs.Heads.{WidthFits, holds, least}
+use Rattle.cborn_model.specs.Tree.{Tree, Uint, Nint, Bytes, Text, Simple, trees, entries}
+use Rattle.cborn_model.specs.Spelled.{Fits, FitsAll, FitsEntries, ChunksFit}
+use Rattle.cborn_model.specs.Partial.{Opening, an_array, a_map, a_tag, in_chunks, Partial, top, inside, put, paired, last_of, chunks_of, chunks_tree, built, AreStrings, Ends}
+use Rattle.cborn_model.proofs.Numbers.OneHead.{least_holds}
+use Rattle.cborn_model.proofs.Listed.Trees.{count-trees, count_entries-entries}
+use Rattle.cborn_edn.specs.declared.events.Event.{Event}
+use Rattle.cborn_edn.specs.declared.events.Event.TheVariants.{Integer, Bignum, Simple as SimpleValue, Array, Map, Tag, String, FirstChunk, NoChunks, Close}
+use Rattle.cborn_edn.specs.devices.Events.{Fits as EventFits, OpeningFits, FitsSoFar, AreFew, Comes, after}
+use Rattle.cborn_edn.proofs.Meaning.NoError.{holds_is}
+
+fits_more : (ts : List Tree) (t : Tree) → FitsAll (trees ts) → Fits t → FitsAll (trees (ts ++ (t ∷ [])))
+fits_more [] t h k = (k, tt)
+fits_more (u ∷ ts) t h k = (h.0, fits_more ts t h.1 k)
+
+fits_put : (f : Partial) (t : Tree) → FitsSoFar f → Fits t → FitsSoFar (put f t)
+fits_put (top ts) t h k = fits_more ts t h k
+fits_put (inside f o ts) t h k = (h.0, h.1, fits_more ts t h.2 k)
+
+ended_fits : (w : Width) (k : ℕ) → k < 2 ^ 64 → WidthFits (if holds w k then w else least k) k
+ended_fits w k few = go (holds w k) (λ e. holds_is w k e)
+  where
+    go : (b : Bool) → (b ≡ true → WidthFits w k) → WidthFits (if b then w else least k) k
+    go true h = h refl
+    go false h = least_holds k few
+
+paired_fit : (ts : List Tree) → FitsAll (trees ts) → FitsEntries (entries (paired ts))
+paired_fit [] h = tt
+paired_fit (k ∷ []) h = tt
+paired_fit (k ∷ v ∷ ts) h = (h.0, h.1.0, paired_fit ts h.1.1)
+
+chunks_fit : (k : StringKind) (ts : List Tree) → AreStrings k ts → FitsAll (trees ts) → ChunksFit (chunks_of ts)
+chunks_fit k [] s h = tt
+chunks_fit OfBytes (Bytes p w x ∷ ts) s h = (h.0, chunks_fit OfBytes ts s.1 h.1)
+chunks_fit OfText (Text p w x ∷ ts) s h = (h.0, chunks_fit OfText ts s.1 h.1)
+chunks_fit OfBytes (_ ∷ ts) s h = absurd s.0
+chunks_fit OfText (_ ∷ ts) s h = absurd s.0
+
+chunked_fits : (p : ℕ) (k : StringKind) (ts : List Tree) → AreStrings k ts → FitsAll (trees ts) → Fits (chunks_tree p k (chunks_of ts))
+chunked_fits p OfBytes ts s h = chunks_fit OfBytes ts s h
+chunked_fits p OfText ts s h = chunks_fit OfText ts s h
+
+built_fits : (o : Opening) (ts : List Tree) → Ends o ts → AreFew o ts → OpeningFits o → FitsAll (trees ts) → Fits (built o ts)
+built_fits (an_array p (Fixed w) None) ts e few h k = (subst (λ n. WidthFits (if holds w (length ts) then w else least (length ts)) n) (sym (count-trees ts)) (ended_fits w (length ts) few), k)
+built_fits (an_array p Endless None) ts e few h k = (tt, k)
+built_fits (an_array p s (Some n)) ts e few h k = absurd h
+built_fits (a_map p (Fixed w) None) ts e few h k = (subst (λ n. WidthFits (if holds w (length (paired ts)) then w else least (length (paired ts))) n) (sym (count_entries-entries (paired ts))) (ended_fits w (length (paired ts)) few), paired_fit ts k)
+built_fits (a_map p Endless None) ts e few h k = (tt, paired_fit ts k)
+built_fits (a_map p s (Some n)) ts e few h k = absurd h
+built_fits (a_tag p w n) ts (t, e) few h k = (h, subst (λ l. Fits (last_of l)) (sym e) (subst (λ l. FitsAll (trees l)) e k).0)
+built_fits (in_chunks p k) ts e few h all = chunked_fits p k ts e all
+
+-- LAW: what is whole after an event fits
+pub fits_after : (event : Event) (p : ℕ) (x : List ℕ) (f : Partial) → EventFits event x → AreBytes x → length x < 2 ^ 64 → Comes event f → FitsSoFar f → FitsSoFar (after event p x f)
+fits_after (Integer false w n) p x f fit are short c h = fits_put f (Uint p w n) h fit
+fits_after (Integer true w n) p x f fit are short c h = fits_put f (Nint p w n) h fit
+fits_after (Bignum false) p x f fit are short c h = fits_put f _ h (omega arith, (least_holds (length x) short, are))
+fits_after (Bignum true) p x f fit are short c h = fits_put f _ h (omega arith, (least_holds (length x) short, are))
+fits_after (SimpleValue n) p x f fit are short c h = fits_put f (Simple p n) h fit
+fits_after (Array s) p x f fit are short c h = (h, tt, tt)
+fits_after (Map s) p x f fit are short c h = (h, tt, tt)
+fits_after (Tag w n) p x f fit are short c h = (h, fit, tt)
+fits_after (String OfBytes w) p x f fit are short c h = fits_put f (Bytes p w x) h (fit, are)
+fits_after (String OfText w) p x f fit are short c h = fits_put f (Text p w x) h (fit, are)
+fits_after (FirstChunk q OfBytes w) p x f fit are short c h = (h, tt, ((fit, are), tt))
+fits_after (FirstChunk q OfText w) p x f fit are short c h = (h, tt, ((fit, are), tt))
+fits_after (NoChunks OfBytes) p x f fit are short c h = fits_put f (chunks_tree p OfBytes []) h tt
+fits_after (NoChunks OfText) p x f fit are short c h = fits_put f (chunks_tree p OfText []) h tt
+fits_after Close p x (top ts) fit are short c h = absurd c
+fits_after Close p x (inside f o ts) fit are short c h = fits_put f (built o ts) h.0 (built_fits o ts c.1 c.2 h.1 h.2)

@@ -1,0 +1,41 @@
+use Rattle.std.proofs.Common.{refl, sym, ap, ◌∙◌, subst, ◌∷◌, ◌++◌}
+use Rattle.cborn_model.specs.Heads.{WidthFits}
+use Rattle.cborn_lex.specs.declared.classes.Mark.TheVariants.{Absent}
+use Rattle.cborn_edn.specs.Says.{width, tag_errors}
+use Rattle.cborn_edn.specs.devices.MeaningErrors.{first_error}
+use Rattle.cborn_edn.specs.devices.Machine.{in_tag, wants}
+use Rattle.cborn_edn.specs.devices.Noted.{noted_stack}
+use Rattle.cborn_edn.specs.devices.Handed.{states_around}
+use Rattle.cborn_edn.proofs.Reader.Results.{both_ok}
+use Rattle.cborn_edn.proofs.Reader.Showing.{moved_read}
+use Rattle.cborn_edn.proofs.HandedOver.Fits.{tag_fits}
+use Rattle.cborn_edn.proofs.HandedOver.Openings.{hands_tag}
+use Rattle.cborn_edn.proofs.containers.open_tag.Goals as goal
+
+pub hand-requires : goal.hand-requires
+hand-requires g c = λ none.
+    let fits = tag_fits c.args.writer.now.error c.note_tag.new.error none c.args.place c.args.mark c.args.number c.note_tag.ensures in
+    let same = c.low_bits-n.ensures fits.0 in
+    subst (λ w. WidthFits w c.low_bits-n.result) (sym c.width_for.ensures) (subst (λ n. WidthFits (width c.args.mark n) n) (sym same) fits.1)
+
+pub returns : goal.returns
+returns g c = both_ok c.open_bracket.result (λ f l st a p r.
+    let e = r.shows in
+    let error = c.note_tag.ensures (noted_stack st) e.error ∙ ap (λ q. first_error (noted_stack st ++ tag_errors q c.args.mark c.args.number)) p in
+    let u = wants (in_tag st a c.args.number c.args.mark) in
+    moved_read (g.V.Visitor.holds c.hand.new.visitor) c.open_bracket.new.here _ c.open_bracket.new.writer _ u f l (record {
+      shows = record {
+        phase = refl;
+        level = refl;
+        count = refl;
+        brackets = λ i. record { place = 0; count = e.count i; level = e.level i; mark = Absent } ∷ e.brackets i;
+        around = e.around;
+        string = e.string;
+        chunks = e.chunks;
+        simple = tt;
+        error = error;
+        start = e.start;
+        pieces = e.pieces;
+      };
+      handed = c.in_ok-hand.ensures (wants st) u (states_around st) error (hands_tag st a p c.args.mark c.args.number c.low_bits-n.result c.width_for.result c.low_bits-n.ensures c.width_for.ensures) r.handed;
+    })) c.open_bracket.ensures.here c.open_bracket.ensures.writer

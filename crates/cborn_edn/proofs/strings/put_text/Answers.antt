@@ -1,0 +1,14 @@
+use Rattle.std.proofs.Common.{refl}
+use Rattle.cborn_edn.specs.devices.Handed.{states_around}
+use Rattle.cborn_edn.proofs.Grammar.Machine.{wants, has}
+use Rattle.cborn_edn.proofs.HandedOver.Strings.{hands_text}
+use Rattle.cborn_edn.proofs.Reader.Put.{leaf_shown}
+use Rattle.cborn_edn.proofs.Reader.Results.{on_ok}
+use Rattle.cborn_edn.proofs.Reader.Settling.{text_item, text_noted}
+use Rattle.cborn_edn.proofs.strings.put_text.Goals as goal
+
+pub returns-clause-read : goal.returns-clause-read
+returns-clause-read g c = on_ok c.hand.result (λ hand st a p utf8 r.
+    let u = has st (text_item a c.args.content.now) in
+    let error = text_noted c.args.writer.now.error st a c.args.content.now utf8 r.shows.error in
+    record { shows = leaf_shown (wants st) u c.args.writer.now.error refl refl refl refl refl refl tt error r.shows; handed = hand (wants st) u (states_around st) error (hands_text st a c.args.content.now c.args.here.now.at c.shortest.result p c.shortest.ensures) r.handed }) c.hand.ensures

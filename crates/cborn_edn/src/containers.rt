@@ -1,0 +1,375 @@
+//! Brackets that open and end, and commas and colons between items.
+
+ghost use Rattle.std.specs.Prelude.{◌≡◌, ℕ, ◌<◌, ◌^◌, [], ◌∷◌, ◌++◌, List, length, Option, Some, None, OnOk, true, false, ◌&&◌, if◌then◌else◌};
+ghost use Rattle.cborn_model.specs.Tree.{Tree, trees};
+ghost use Rattle.cborn_model.specs.Spelled.{spelled_all};
+ghost use Rattle.cborn_lex.specs.declared.classes.Mark.{Mark as Indicator};
+ghost use Rattle.cborn_edn.specs.devices.Syntax.{Span as Place, Item, Content, Fields, Pieces as Joined, no_item, no_pair, array, map, tag, embedded, row, RowBefore, after_row, pairs, PairsBefore, after_pairs};
+ghost use Rattle.cborn_edn.specs.devices.Machine.{Stack, Nest, in_row, in_key, in_value, in_tag, in_array, in_embed, Home, State, with_piece, wants, has, builds, at_home};
+ghost use Rattle.cborn_edn.specs.devices.Noted.{noted};
+ghost use Rattle.cborn_edn.specs.devices.Shows.{Shows, content_state, fields_state, entries_at};
+ghost use Rattle.cborn_edn.specs.devices.Handed as pure;
+ghost use Rattle.cborn_edn.specs.devices.Handed.{IsSpelled, Reads};
+ghost use Rattle.cborn_wire.specs.declared.spellers.Speller.{Speller as OneSpeller};
+ghost use Rattle.cborn_model.specs.Partial.{top, no_part};
+ghost use Rattle.cborn_edn.specs.declared.states.OpenBracket.{OpenBracket as Opened};
+ghost use Rattle.cborn_edn.specs.declared.states.Writer.{Writer as Writing};
+ghost use Rattle.cborn_edn.specs.declared.states.Phase.TheVariants.{Has, Wants};
+ghost use Rattle.cborn_edn.specs.devices.Kept.{joint};
+ghost use Rattle.cborn_edn.specs.devices.MeaningErrors.{Notes};
+ghost use Rattle.cborn_edn.specs.Says.{Str, joined, piece_errors, size_errors};
+ghost use Rattle.cborn_model.specs.declared.visitors.StringKind.TheVariants.{OfBytes};
+
+use crate::MeaningError;
+use crate::events::Event;
+use crate::handing::hand;
+use crate::meaning_errors::{earlier, is_none, note_width};
+use crate::numbers::{OUTSIDE, note_tag, width_for};
+use crate::states::{Around, Here, Joint, Level, OpenBracket, Phase, Writer};
+use crate::strings::{is_endless, note_piece};
+use cborn_lex::Mark;
+use cborn_model::{Size, StringKind, Visitor, Width};
+use cborn_wire::Speller;
+use std::alloc::AllocError;
+
+/// The size of an array or a map with this indicator, whose number of items or pairs isn't known yet.
+#[inline(always)]
+fn size_asked(mark: Mark) -> Size
+    ensures { result ≡ pure.size_asked mark }
+{
+    match mark {
+        Mark::Absent => Size::Fixed(Width::Direct),
+        Mark::Endless => Size::Endless,
+        Mark::Wide(width) => Size::Fixed(width),
+    }
+}
+
+/// Opens an array at `place`.
+#[inline(always)]
+pub(crate) fn open_array<V: Visitor>(
+    mark: Mark,
+    place: usize,
+    here: &mut Here,
+    writer: &mut Writer,
+    visitor: &mut V,
+) -> Result<(), AllocError>
+    ensures { OnOk result ((st : Stack) (a : Place) → place ≡ a.start → Reads (V.holds visitor.old) here.old writer.old writer.old.pieces.items (wants st) → Reads (V.holds visitor.new) here.new writer.new writer.new.pieces.items (wants (in_row (in_array st a mark) no_item))) }
+{
+    let event = Event::Array(size_asked(mark));
+    hand(
+        event,
+        place,
+        &[],
+        writer.error,
+        &mut writer.spellers,
+        visitor,
+    )?;
+    open_bracket(Level::Array, mark, place, here, writer)
+}
+
+/// Opens a map at `place`.
+#[inline(always)]
+pub(crate) fn open_map<V: Visitor>(
+    mark: Mark,
+    place: usize,
+    here: &mut Here,
+    writer: &mut Writer,
+    visitor: &mut V,
+) -> Result<(), AllocError>
+    ensures { OnOk result ((st : Stack) (a : Place) → place ≡ a.start → Reads (V.holds visitor.old) here.old writer.old writer.old.pieces.items (wants st) → Reads (V.holds visitor.new) here.new writer.new writer.new.pieces.items (wants (in_key st a mark no_pair))) }
+{
+    let event = Event::Map(size_asked(mark));
+    hand(
+        event,
+        place,
+        &[],
+        writer.error,
+        &mut writer.spellers,
+        visitor,
+    )?;
+    open_bracket(Level::Key, mark, place, here, writer)
+}
+
+/// Opens a tag at `place`, whose content is wanted.
+#[inline(always)]
+pub(crate) fn open_tag<V: Visitor>(
+    number: u128,
+    mark: Mark,
+    place: usize,
+    here: &mut Here,
+    writer: &mut Writer,
+    visitor: &mut V,
+) -> Result<(), AllocError>
+    ensures { OnOk result ((st : Stack) (a : Place) → place ≡ a.start → Reads (V.holds visitor.old) here.old writer.old writer.old.pieces.items (wants st) → Reads (V.holds visitor.new) here.new writer.new writer.new.pieces.items (wants (in_tag st a number mark))) }
+{
+    note_tag(number, mark, place, &mut writer.error);
+    let n = low_bits(number);
+    let event = Event::Tag(width_for(mark, n), n);
+    hand(
+        event,
+        place,
+        &[],
+        writer.error,
+        &mut writer.spellers,
+        visitor,
+    )?;
+    open_bracket(Level::Tag, Mark::Absent, 0, here, writer)
+}
+
+/// The number in 64 bits, if it is below 2^64.
+#[inline(always)]
+fn low_bits(number: u128) -> u64
+    ensures { number < 2 ^ 64 → result ≡ number }
+{
+    (number % OUTSIDE) as u64
+}
+
+/// Opens a `<<` at `place`, as the first piece of a string or a later one.
+pub(crate) fn open_embedded(
+    place: usize,
+    here: &mut Here,
+    writer: &mut Writer,
+) -> Result<(), AllocError>
+    ensures shows { OnOk result ((h : Home) (o : Option Joined) (a : Place) → place ≡ a.start → Shows here.old writer.old writer.old.pieces.items (at_home h o) → Shows here.new writer.new writer.new.pieces.items (wants (in_row (in_embed h o a) no_item))) }
+    ensures spellers { OnOk result ((p : OneSpeller) × (writer.new.spellers ≡ p ∷ writer.old.spellers) × ⟦<Speller as Visitor>⟧.holds p (top []) no_part) }
+{
+    let around = Around {
+        start: writer.start,
+        string: writer.string,
+        chunks: writer.chunks,
+        error: writer.error,
+    };
+    writer.around.open(around)?;
+    writer.spellers.open()?;
+    writer.start = writer.pieces.len();
+    writer.string = None;
+    writer.chunks = None;
+    writer.error = None;
+    open_bracket(Level::Embedded, Mark::Absent, place, here, writer)
+}
+
+/// Opens a bracket, in which an item is wanted.
+#[inline(always)]
+fn open_bracket(
+    level: Level,
+    mark: Mark,
+    place: usize,
+    here: &mut Here,
+    writer: &mut Writer,
+) -> Result<(), AllocError>
+    ensures here { OnOk result (here.new ≡ record { at = here.old.at; count = 0; phase = Wants; level = Some level }) }
+    ensures writer { OnOk result (writer.new ≡ record writer.old { brackets = record { place = place; count = here.old.count; level = here.old.level; mark = mark } ∷ writer.old.brackets }) }
+{
+    let bracket = OpenBracket {
+        place,
+        count: here.count,
+        level: here.level,
+        mark,
+    };
+    writer.brackets.open(bracket)?;
+    here.count = 0;
+    here.phase = Phase::Wants;
+    here.level = Some(level);
+    Ok(())
+}
+
+/// How many items or pairs the innermost bracket has, where it ends.
+#[inline(always)]
+fn all_entries(here: &Here) -> u64
+    requires { here.now.count < 2 ^ 63 }
+    ensures { result ≡ entries_at here.now.phase here.now.count }
+{
+    match here.phase {
+        Phase::Has => here.count + 1,
+        _ => here.count,
+    }
+}
+
+/// Takes off the innermost bracket, which is then an item, and gives it.
+#[inline(always)]
+fn shut(here: &mut Here, writer: &mut Writer) -> OpenBracket
+    requires { 0 < length writer.old.brackets }
+    ensures rest { writer.new ≡ record writer.old { brackets = writer.new.brackets } }
+    ensures top { (f : Opened) (fs : List Opened) → writer.old.brackets ≡ f ∷ fs → (result ≡ f) × (writer.new ≡ record writer.old { brackets = fs }) × (here.new ≡ record here.old { count = f.count; phase = Has; level = f.level }) }
+{
+    let Some(bracket) = writer.brackets.shut() else {
+        unreachable!();
+    };
+    here.count = bracket.count;
+    here.phase = Phase::Has;
+    here.level = bracket.level;
+    bracket
+}
+
+/// Notes what is wrong with the indicator of an array or a map of `count` items or pairs.
+#[inline(always)]
+fn note_size(bracket: OpenBracket, count: u64, error: &mut Option<MeaningError>)
+    ensures { Notes error.old error.new (size_errors bracket.place bracket.mark count) }
+{
+    if !is_endless(bracket.mark) {
+        note_width(bracket.mark, count, bracket.place, error);
+    }
+}
+
+/// Ends an array or a map.
+#[inline(always)]
+pub(crate) fn close_sized<V: Visitor>(
+    here: &mut Here,
+    writer: &mut Writer,
+    visitor: &mut V,
+) -> Result<(), AllocError>
+    requires small { here.old.count < 2 ^ 63 }
+    requires open { 0 < length writer.old.brackets }
+    ensures array { OnOk result ((st : Stack) (s a : Place) (m : Indicator) (c : Content) → Reads (V.holds visitor.old) here.old writer.old writer.old.pieces.items (content_state (in_array st s m) c) → Reads (V.holds visitor.new) here.new writer.new writer.new.pieces.items (has st (array s m c a))) }
+    ensures map { OnOk result ((st : Stack) (s a : Place) (m : Indicator) (f : Fields) → Reads (V.holds visitor.old) here.old writer.old writer.old.pieces.items (fields_state st s m f) → Reads (V.holds visitor.new) here.new writer.new writer.new.pieces.items (has st (map s m f a))) }
+{
+    let count = all_entries(here);
+    let bracket = shut(here, writer);
+    note_size(bracket, count, &mut writer.error);
+    hand(
+        Event::Close,
+        0,
+        &[],
+        writer.error,
+        &mut writer.spellers,
+        visitor,
+    )
+}
+
+/// Ends a tag.
+#[inline(always)]
+pub(crate) fn close_tag<V: Visitor>(
+    here: &mut Here,
+    writer: &mut Writer,
+    visitor: &mut V,
+) -> Result<(), AllocError>
+    requires { 0 < length writer.old.brackets }
+    ensures { OnOk result ((st : Stack) (s a : Place) (n : ℕ) (m : Indicator) (i : Item) → Reads (V.holds visitor.old) here.old writer.old writer.old.pieces.items (has (in_tag st s n m) i) → Reads (V.holds visitor.new) here.new writer.new writer.new.pieces.items (has st (tag s n m i a))) }
+{
+    shut(here, writer);
+    hand(
+        Event::Close,
+        0,
+        &[],
+        writer.error,
+        &mut writer.spellers,
+        visitor,
+    )
+}
+
+/// Ends a `<<` with a `>>` at `place`: it is then a piece of a string.
+pub(crate) fn close_embedded(
+    mark: Mark,
+    place: usize,
+    here: &mut Here,
+    writer: &mut Writer,
+) -> Result<(), AllocError>
+    requires { (h : Home) × (o : Option Joined) × (s : Place) × (c : Content) × Shows here.old writer.old writer.old.pieces.items (content_state (in_embed h o s) c) × IsSpelled writer.old.spellers (content_state (in_embed h o s) c) }
+    ensures shows { OnOk result ((h : Home) (o : Option Joined) (s a : Place) (c : Content) → place ≡ a.start → Shows here.old writer.old writer.old.pieces.items (content_state (in_embed h o s) c) → IsSpelled writer.old.spellers (content_state (in_embed h o s) c) → Shows here.new writer.new writer.new.pieces.items (builds h (with_piece o (embedded s c a mark)))) }
+    ensures spellers { OnOk result ((p : OneSpeller) × (writer.old.spellers ≡ p ∷ writer.new.spellers)) }
+{
+    let bracket = shut(here, writer);
+    let Some(around) = writer.around.shut() else {
+        unreachable!();
+    };
+    let Some(speller) = writer.spellers.shut() else {
+        unreachable!();
+    };
+    let known = is_none(writer.error);
+    push_spelled(known, speller, &mut writer.pieces)?;
+    writer.error = earlier(around.error, writer.error);
+    let error = &mut writer.error;
+    let string = with_embedded(around.string, bracket.place, known, mark, place, error);
+    writer.start = around.start;
+    writer.chunks = around.chunks;
+    writer.string = Some(string);
+    here.phase = Phase::Builds;
+    Ok(())
+}
+
+/// Appends the bytes of what is embedded, if it is known.
+#[inline(always)]
+fn push_spelled(known: bool, speller: Speller, pieces: &mut Vec<u8>) -> Result<(), AllocError>
+    requires { known ≡ true → (ts : List Tree) × ⟦<Speller as Visitor>⟧.holds speller (top ts) no_part }
+    ensures { OnOk result ((ts : List Tree) → (known ≡ true → ⟦<Speller as Visitor>⟧.holds speller (top ts) no_part) → pieces.new.items ≡ pieces.old.items ++ (if known then spelled_all (trees ts) else [])) }
+{
+    if known {
+        pieces.extend_from_slice(&speller.finish())?;
+    }
+    Ok(())
+}
+
+/// The string of the pieces `before` and of one more, which is embedded: its `<<` is at `opened`, and
+/// its `>>` at `place`. `known` says that it has no meaning error. Notes what is wrong with the
+/// piece.
+#[inline(always)]
+fn with_embedded(
+    before: Option<Joint>,
+    opened: usize,
+    known: bool,
+    mark: Mark,
+    place: usize,
+    error: &mut Option<MeaningError>,
+) -> Joint
+    ensures alone { (t : Str) → before ≡ None → t.kind ≡ OfBytes → t.place ≡ opened → t.lone ≡ false → t.known ≡ known → t.mark ≡ mark → t.mark_place ≡ place → (result ≡ joint t) × (error.new ≡ error.old) }
+    ensures more { (s t : Str) → before ≡ Some (joint s) → t.kind ≡ OfBytes → t.place ≡ opened → t.known ≡ known → t.mark ≡ mark → t.mark_place ≡ place → (result ≡ joint (joined s t)) × Notes error.old error.new (piece_errors s t) }
+{
+    match before {
+        Some(string) => {
+            note_piece(string, StringKind::OfBytes, opened, error);
+            Joint {
+                mark,
+                mark_place: place,
+                lone: false,
+                known: are_both(string.known, known),
+                ..string
+            }
+        }
+        None => Joint {
+            kind: StringKind::OfBytes,
+            place: opened,
+            mark,
+            mark_place: place,
+            lone: false,
+            known,
+        },
+    }
+}
+
+/// Whether both hold.
+#[inline(always)]
+fn are_both(one: bool, other: bool) -> bool
+    ensures { result ≡ (one && other) }
+{
+    one && other
+}
+
+/// Takes a comma after an item of an array, of a `<<` or of the whole text.
+#[inline(always)]
+pub(crate) fn comma(here: &mut Here)
+    requires { here.old.count < 2 ^ 63 }
+    ensures { (w : Writing) (out : List ℕ) (n : Nest) (b : RowBefore) (i : Item) (a : Place) → Shows here.old w out (has (in_row n b) i) → Shows here.new w out (wants (in_row n (after_row (row b i) a))) }
+{
+    here.count += 1;
+    here.phase = Phase::WantsMore;
+}
+
+/// Takes a comma after a pair of a map.
+#[inline(always)]
+pub(crate) fn comma_of_pairs(here: &mut Here)
+    requires { here.old.count < 2 ^ 63 }
+    ensures { (w : Writing) (out : List ℕ) (st : Stack) (s c a : Place) (m : Indicator) (b : PairsBefore) (k v : Item) → Shows here.old w out (has (in_value st s m b k c) v) → Shows here.new w out (wants (in_key st s m (after_pairs (pairs b k c v) a))) }
+{
+    here.count += 1;
+    here.phase = Phase::WantsMore;
+    here.level = Some(Level::Key);
+}
+
+/// Takes a colon after a key.
+#[inline(always)]
+pub(crate) fn colon(here: &mut Here)
+    ensures { (w : Writing) (out : List ℕ) (st : Stack) (s c : Place) (m : Indicator) (b : PairsBefore) (k : Item) → Shows here.old w out (has (in_key st s m b) k) → Shows here.new w out (wants (in_value st s m b k c)) }
+{
+    here.phase = Phase::Wants;
+    here.level = Some(Level::Value);
+}
