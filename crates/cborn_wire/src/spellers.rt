@@ -114,7 +114,7 @@ impl Speller {
         Speller::of(alloc, Vec::new(alloc))
     }
 
-    /// The same, with room for `room` bytes.
+    /// A visitor that was handed nothing, with memory for the first `room` bytes that it writes.
     ///
     /// # Errors
     /// `AllocError` if memory is refused.
