@@ -1,34 +1,35 @@
 //! A head in the place of one byte (RFC 8949 section 3).
 
 ghost use Rattle.std.specs.Prelude.{◌≡◌, ◌<◌, ◌≤◌, ◌+◌, ◌++◌, length, take, drop, OnOk};
-ghost use Rattle.cborn_model.specs.Heads.{code, WidthFits, head_bytes};
+ghost use Rattle.cborn_wire.specs.shared.Spelling.{with_head};
 
 use crate::heads::first_bytes;
-use cborn_model::{Major, Width};
+use cborn_model::{Major, Width, shortest};
 use std::alloc::AllocError;
 
 /// How many bytes are moved at once.
 const BLOCK: usize = 256;
 
-/// Puts the head of the major type with the argument `n` in the place of the byte at the offset
-/// `start`. What follows that byte is moved if the head is longer.
+/// Puts the head of the major type with the argument `n`, of at least this width, in the place of the
+/// byte at the offset `start`. What follows that byte is moved if the head is longer.
 #[inline(always)]
 pub(crate) fn set_head(
     out: &mut Vec<u8>,
     major: Major,
-    width: Width,
+    least: Width,
     n: u64,
     start: usize,
 ) -> Result<(), AllocError>
-    requires fits { WidthFits width n }
-    requires inside { start < length out.old.items }
-    ensures { OnOk result (out.new.items ≡ take start out.old.items ++ (head_bytes (code major) width n ++ drop (start + 1) out.old.items)) }
+    requires { start < length out.old.items }
+    ensures { OnOk result (out.new.items ≡ with_head major least n start out.old.items) }
 {
-    if let Width::Direct = width {
-        write_at(start, &[major.initial_byte(n as u8)], out);
-        return Ok(());
+    if n < 24 {
+        if let Width::Direct = least {
+            out[start] = major.initial_byte(n as u8);
+            return Ok(());
+        }
     }
-    set_wide_head(out, major, width, n, start)
+    set_wide_head(out, major, least, n, start)
 }
 
 /// Puts a head in the place of a byte, and moves what follows that byte. Out of line, since most
@@ -37,14 +38,14 @@ pub(crate) fn set_head(
 fn set_wide_head(
     out: &mut Vec<u8>,
     major: Major,
-    width: Width,
+    least: Width,
     n: u64,
     start: usize,
 ) -> Result<(), AllocError>
-    requires fits { WidthFits width n }
-    requires inside { start < length out.old.items }
-    ensures { OnOk result (out.new.items ≡ take start out.old.items ++ (head_bytes (code major) width n ++ drop (start + 1) out.old.items)) }
+    requires { start < length out.old.items }
+    ensures { OnOk result (out.new.items ≡ with_head major least n start out.old.items) }
 {
+    let width = if least.holds(n) { least } else { shortest(n) };
     let (bytes, len) = first_bytes(major, width, n);
     make_room(start + 1, len - 1, out)?;
     write_at(start, &bytes[..len], out);
