@@ -272,11 +272,12 @@ pub(crate) fn close_embedded(
     let Some(around) = writer.around.shut() else {
         unreachable!();
     };
-    let Some(speller) = writer.spellers.shut() else {
+    let Some(speller) = writer.spellers.innermost() else {
         unreachable!();
     };
     let known = is_none(writer.error);
     push_spelled(known, speller, &mut writer.pieces)?;
+    writer.spellers.shut();
     writer.error = earlier(around.error, writer.error);
     let error = &mut writer.error;
     let string = with_embedded(around.string, bracket.place, known, mark, place, error);
@@ -289,12 +290,12 @@ pub(crate) fn close_embedded(
 
 /// Appends the bytes of what is embedded, if it is known.
 #[inline(always)]
-fn push_spelled(known: bool, speller: Speller, pieces: &mut Vec<u8>) -> Result<(), AllocError>
-    requires { known ≡ true → (ts : List Tree) × ⟦<Speller as Visitor>⟧.holds speller (top ts) no_part }
-    ensures { OnOk result ((ts : List Tree) → (known ≡ true → ⟦<Speller as Visitor>⟧.holds speller (top ts) no_part) → pieces.new.items ≡ pieces.old.items ++ (if known then spelled_all (trees ts) else [])) }
+fn push_spelled(known: bool, speller: &Speller, pieces: &mut Vec<u8>) -> Result<(), AllocError>
+    requires { known ≡ true → (ts : List Tree) × ⟦<Speller as Visitor>⟧.holds speller.now (top ts) no_part }
+    ensures { OnOk result ((ts : List Tree) → (known ≡ true → ⟦<Speller as Visitor>⟧.holds speller.now (top ts) no_part) → pieces.new.items ≡ pieces.old.items ++ (if known then spelled_all (trees ts) else [])) }
 {
     if known {
-        pieces.extend_from_slice(&speller.finish())?;
+        pieces.extend_from_slice(speller.written())?;
     }
     Ok(())
 }
