@@ -37,28 +37,6 @@ pub(crate) enum Event {
     Close,
 }
 
-impl Event {
-    /// A copy, made field by field, so that an event which is handed to a visitor in line takes no
-    /// memory.
-    #[inline(always)]
-    pub(crate) fn same(self) -> Event
-        ensures { result ≡ self }
-    {
-        match self {
-            Event::Integer { negative, width, n } => Event::Integer { negative, width, n },
-            Event::Bignum { negative } => Event::Bignum { negative },
-            Event::Simple(n) => Event::Simple(n),
-            Event::Array(size) => Event::Array(size),
-            Event::Map(size) => Event::Map(size),
-            Event::Tag(width, n) => Event::Tag(width, n),
-            Event::String(kind, width) => Event::String(kind, width),
-            Event::FirstChunk(place, kind, width) => Event::FirstChunk(place, kind, width),
-            Event::NoChunks(kind) => Event::NoChunks(kind),
-            Event::Close => Event::Close,
-        }
-    }
-}
-
 /// Hands an event at `place` to a visitor.
 #[inline(always)]
 pub(crate) fn hand_to<V: Visitor>(

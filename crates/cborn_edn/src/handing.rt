@@ -51,5 +51,6 @@ fn hand_inside(
     requires { Fits event content.now }
     ensures { OnOk result (InnermostFollows event place content.now spellers.old spellers.new) }
 {
-    spellers.hand(event.same(), place, content)
+    let copy = event;
+    spellers.hand(copy, place, content)
 }
