@@ -56,14 +56,8 @@ pub(crate) fn open_array<V: Visitor>(
     ensures { OnOk result ((st : Stack) (a : Place) → place ≡ a.start → Reads (V.holds visitor.old) here.old writer.old writer.old.pieces.items (wants st) → Reads (V.holds visitor.new) here.new writer.new writer.new.pieces.items (wants (in_row (in_array st a mark) no_item))) }
 {
     let event = Event::Array(size_asked(mark));
-    hand(
-        event,
-        place,
-        &[],
-        writer.error,
-        &mut writer.spellers,
-        visitor,
-    )?;
+    let spellers = &mut writer.spellers;
+    hand(event, place, &[], writer.error, spellers, visitor)?;
     open_bracket(Level::Array, mark, place, here, writer)
 }
 
@@ -79,14 +73,8 @@ pub(crate) fn open_map<V: Visitor>(
     ensures { OnOk result ((st : Stack) (a : Place) → place ≡ a.start → Reads (V.holds visitor.old) here.old writer.old writer.old.pieces.items (wants st) → Reads (V.holds visitor.new) here.new writer.new writer.new.pieces.items (wants (in_key st a mark no_pair))) }
 {
     let event = Event::Map(size_asked(mark));
-    hand(
-        event,
-        place,
-        &[],
-        writer.error,
-        &mut writer.spellers,
-        visitor,
-    )?;
+    let spellers = &mut writer.spellers;
+    hand(event, place, &[], writer.error, spellers, visitor)?;
     open_bracket(Level::Key, mark, place, here, writer)
 }
 
@@ -105,14 +93,8 @@ pub(crate) fn open_tag<V: Visitor>(
     note_tag(number, mark, place, &mut writer.error);
     let n = low_bits(number);
     let event = Event::Tag(width_for(mark, n), n);
-    hand(
-        event,
-        place,
-        &[],
-        writer.error,
-        &mut writer.spellers,
-        visitor,
-    )?;
+    let spellers = &mut writer.spellers;
+    hand(event, place, &[], writer.error, spellers, visitor)?;
     open_bracket(Level::Tag, Mark::Absent, 0, here, writer)
 }
 
@@ -226,14 +208,8 @@ pub(crate) fn close_sized<V: Visitor>(
     let count = all_entries(here);
     let bracket = shut(here, writer);
     note_size(bracket, count, &mut writer.error);
-    hand(
-        Event::Close,
-        0,
-        &[],
-        writer.error,
-        &mut writer.spellers,
-        visitor,
-    )
+    let spellers = &mut writer.spellers;
+    hand(Event::Close, 0, &[], writer.error, spellers, visitor)
 }
 
 /// Ends a tag.
@@ -247,14 +223,8 @@ pub(crate) fn close_tag<V: Visitor>(
     ensures { OnOk result ((st : Stack) (s a : Place) (n : ℕ) (m : Indicator) (i : Item) → Reads (V.holds visitor.old) here.old writer.old writer.old.pieces.items (has (in_tag st s n m) i) → Reads (V.holds visitor.new) here.new writer.new writer.new.pieces.items (has st (tag s n m i a))) }
 {
     shut(here, writer);
-    hand(
-        Event::Close,
-        0,
-        &[],
-        writer.error,
-        &mut writer.spellers,
-        visitor,
-    )
+    let spellers = &mut writer.spellers;
+    hand(Event::Close, 0, &[], writer.error, spellers, visitor)
 }
 
 /// Ends a `<<` with a `>>` at `place`: it is then a piece of a string.
@@ -272,11 +242,12 @@ pub(crate) fn close_embedded(
     let Some(around) = writer.around.shut() else {
         unreachable!();
     };
-    let Some(speller) = writer.spellers.shut() else {
+    let Some(speller) = writer.spellers.innermost() else {
         unreachable!();
     };
     let known = is_none(writer.error);
     push_spelled(known, speller, &mut writer.pieces)?;
+    writer.spellers.shut();
     writer.error = earlier(around.error, writer.error);
     let error = &mut writer.error;
     let string = with_embedded(around.string, bracket.place, known, mark, place, error);
@@ -289,12 +260,12 @@ pub(crate) fn close_embedded(
 
 /// Appends the bytes of what is embedded, if it is known.
 #[inline(always)]
-fn push_spelled(known: bool, speller: Speller, pieces: &mut Vec<u8>) -> Result<(), AllocError>
-    requires { known ≡ true → (ts : List Tree) × ⟦<Speller as Visitor>⟧.holds speller (top ts) no_part }
-    ensures { OnOk result ((ts : List Tree) → (known ≡ true → ⟦<Speller as Visitor>⟧.holds speller (top ts) no_part) → pieces.new.items ≡ pieces.old.items ++ (if known then spelled_all (trees ts) else [])) }
+fn push_spelled(known: bool, speller: &Speller, pieces: &mut Vec<u8>) -> Result<(), AllocError>
+    requires { known ≡ true → (ts : List Tree) × ⟦<Speller as Visitor>⟧.holds speller.now (top ts) no_part }
+    ensures { OnOk result ((ts : List Tree) → (known ≡ true → ⟦<Speller as Visitor>⟧.holds speller.now (top ts) no_part) → pieces.new.items ≡ pieces.old.items ++ (if known then spelled_all (trees ts) else [])) }
 {
     if known {
-        pieces.extend_from_slice(&speller.finish())?;
+        pieces.extend_from_slice(speller.written())?;
     }
     Ok(())
 }

@@ -8,7 +8,7 @@ ghost use Rattle.cborn_edn.specs.devices.MeaningErrors.{first_error, is_none};
 ghost use Rattle.cborn_edn.specs.devices.Machine.{State};
 ghost use Rattle.cborn_edn.specs.devices.Noted.{noted};
 ghost use Rattle.cborn_edn.specs.devices.Events.{Fits};
-ghost use Rattle.cborn_edn.specs.devices.Handed.{Hands, AllHanded};
+ghost use Rattle.cborn_edn.specs.devices.Handed.{Hands, AllHanded, InnermostFollows};
 
 use crate::MeaningError;
 use crate::events::{Event, hand_to};
@@ -36,5 +36,21 @@ pub(crate) fn hand<V: Visitor>(
     if spellers.is_empty() {
         return hand_to(event, place, content, visitor);
     }
-    spellers.hand(event, place, content)
+    hand_inside(event, place, content, spellers)
+}
+
+/// Hands an event to the innermost speller. A copy of the event is made here, so that no memory is
+/// written for one that goes to the visitor.
+#[inline(always)]
+fn hand_inside(
+    event: Event,
+    place: usize,
+    content: &[u8],
+    spellers: &mut Spellers,
+) -> Result<(), AllocError>
+    requires { Fits event content.now }
+    ensures { OnOk result (InnermostFollows event place content.now spellers.old spellers.new) }
+{
+    let copy = event;
+    spellers.hand(copy, place, content)
 }

@@ -1,10 +1,11 @@
 //! What spells the items in each open `<<`.
 
-ghost use Rattle.std.specs.Prelude.{◌≡◌, true, false, [], ◌∷◌, List, MatchOption, IfOk, OnOk};
+ghost use Rattle.std.specs.Prelude.{◌≡◌, ◌<◌, ◌≤◌, [], ◌∷◌, List, length, take, MatchOption, OnOk};
 ghost use Rattle.cborn_model.specs.Partial.{top, no_part};
 ghost use Rattle.cborn_wire.specs.declared.spellers.Speller.{Speller as OneSpeller};
 ghost use Rattle.cborn_edn.specs.Says.{is_nil};
-ghost use Rattle.cborn_edn.specs.devices.Events.{Fits, Follows};
+ghost use Rattle.cborn_edn.specs.devices.Events.{Fits};
+ghost use Rattle.cborn_edn.specs.devices.Handed.{InnermostFollows};
 
 use crate::events::{Event, hand_to};
 use cborn_model::Visitor;
@@ -12,21 +13,30 @@ use cborn_wire::Speller;
 use std::alloc::{AllocError, Global};
 use std::marker::Model;
 
+/// The most that a speller whose `<<` has ended keeps to be used again: so many bytes, and so many
+/// containers open in one another.
+const KEPT: usize = 256;
+
 /// The spellers of the open `<<`. In contracts they are a list with the innermost first.
 #[derive(Drop)]
 pub(crate) struct Spellers {
     alloc: Global,
+    /// Those of the open `<<`, the outermost first, and then some that are used again.
     spellers: Vec<Speller>,
+    /// How many `<<` are open.
+    depth: usize,
 }
 
 impl Model for Spellers {
-    ghost use Rattle.std.specs.Prelude.{List};
+    ghost use Rattle.std.specs.Prelude.{List, take, length, ◌≤◌};
     ghost use Rattle.cborn_wire.specs.declared.spellers.Speller.{Speller as OneSpeller};
     ghost use mathlib.Core.List as lists;
 
     ghost Value = { List OneSpeller };
 
-    ghost view = { λ l. lists.reverse l.spellers.items };
+    ghost view = { λ l. lists.reverse (take l.depth l.spellers.items) };
+
+    ghost invariant = { λ l. l.depth ≤ length l.spellers.items };
 }
 
 impl Spellers {
@@ -37,40 +47,49 @@ impl Spellers {
         Spellers {
             alloc,
             spellers: Vec::new(alloc),
+            depth: 0,
         }
     }
 
     /// Whether none are open.
-    #[tactic(auto, using(crate::proofs::Reader::Opened::innermost))]
     #[inline(always)]
     pub(crate) fn is_empty(&self) -> bool
         ensures { result ≡ is_nil self.now }
     {
-        self.spellers.is_empty()
+        self.depth == 0
     }
 
     /// Adds one, which is then the innermost and was handed nothing.
     pub(crate) fn open(&mut self) -> Result<(), AllocError>
         ensures { OnOk result ((p : OneSpeller) × (self.new ≡ p ∷ self.old) × ⟦<Speller as Visitor>⟧.holds p (top []) no_part) }
     {
-        let speller = Speller::new(self.alloc);
-        self.put(speller)
-    }
-
-    /// Takes off the innermost, if there is one, and gives it.
-    pub(crate) fn shut(&mut self) -> Option<Speller>
-        ensures { MatchOption result (self.old ≡ []) (λ p. self.old ≡ p ∷ self.new) }
-    {
-        self.spellers.pop()
-    }
-
-    /// Adds one, which is then the innermost.
-    #[tactic(auto, using(crate::proofs::Reader::Opened::innermost))]
-    fn put(&mut self, speller: Speller) -> Result<(), AllocError>
-        ensures { OnOk result (self.new ≡ speller ∷ self.old) }
-    {
-        self.spellers.push(speller)?;
+        make_room(self.alloc, self.depth, &mut self.spellers)?;
+        self.spellers[self.depth].clear();
+        self.depth += 1;
         Ok(())
+    }
+
+    /// The innermost, if there is one.
+    pub(crate) fn innermost(&self) -> Option<&Speller>
+        ensures { MatchOption result (self.now ≡ []) (λ p. (ps : List OneSpeller) × (self.now ≡ p.now ∷ ps)) }
+    {
+        if self.depth == 0 {
+            return None;
+        }
+        Some(&self.spellers[self.depth - 1])
+    }
+
+    /// Takes off the innermost, if there is one. It is used again unless it takes much memory.
+    pub(crate) fn shut(&mut self)
+        ensures { (p : OneSpeller) (ps : List OneSpeller) → self.old ≡ p ∷ ps → self.new ≡ ps }
+    {
+        if self.depth == 0 {
+            return;
+        }
+        self.depth -= 1;
+        if self.spellers[self.depth].capacity() > KEPT {
+            self.spellers.truncate(self.depth);
+        }
     }
 
     /// Hands an event to the innermost, if there is one.
@@ -82,12 +101,24 @@ impl Spellers {
         content: &[u8],
     ) -> Result<(), AllocError>
         requires { Fits event content.now }
-        ensures { OnOk result ((p : OneSpeller) (ps : List OneSpeller) → self.old ≡ p ∷ ps → (q : OneSpeller) × (self.new ≡ q ∷ ps) × Follows event place content.now (⟦<Speller as Visitor>⟧.holds p) (⟦<Speller as Visitor>⟧.holds q)) }
+        ensures { OnOk result (InnermostFollows event place content.now self.old self.new) }
     {
-        let Some(mut innermost) = self.shut() else {
+        if self.depth == 0 {
             return Ok(());
-        };
-        hand_to(event, place, content, &mut innermost)?;
-        self.put(innermost)
+        }
+        hand_to(event, place, content, &mut self.spellers[self.depth - 1])
     }
+}
+
+/// Adds a speller to those of which `depth` are in use, if that is all of them.
+fn make_room(alloc: Global, depth: usize, spellers: &mut Vec<Speller>) -> Result<(), AllocError>
+    requires { depth ≤ length spellers.old.items }
+    ensures kept { take depth spellers.new.items ≡ take depth spellers.old.items }
+    ensures least { depth ≤ length spellers.new.items }
+    ensures room { OnOk result (depth < length spellers.new.items) }
+{
+    if depth == spellers.len() {
+        spellers.push(Speller::new(alloc))?;
+    }
+    Ok(())
 }

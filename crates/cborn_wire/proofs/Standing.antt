@@ -1,5 +1,7 @@
 -- What the visitor which writes bytes holds, as nodes become whole and containers are opened and ended.
-use Rattle.std.proofs.Common.{◌≡◌, refl, sym, ap, ◌∙◌, subst, ℕ, ◌+◌, ◌*◌, ◌/◌, ◌%◌, ◌^◌, ◌<◌, List, [], ◌∷◌, ◌++◌, length, take, drop, Option, Some, None, arith, append_assoc, append-nil, length-append, take_at, drop_at}
+use Rattle.std.proofs.Common.{◌≡◌, refl, sym, ap, ◌∙◌, subst, ℕ, ◌+◌, ◌*◌, ◌/◌, ◌%◌, ◌^◌, ◌<◌, List, [], ◌∷◌, ◌++◌, length, take, drop, Option, Some, None, arith, append_assoc, append-nil, length-append, take_at, drop_at, ◌-◌, get_or, set}
+use Rattle.std.proofs.Math.Seq.{get_or-append_seam}
+use Rattle.std.proofs.lemmas.List.{set_at}
 use Rattle.cborn_model.specs.declared.heads.Major.{Major}
 use Rattle.cborn_model.specs.declared.heads.Major.TheVariants.{Array, Map, Tag}
 use Rattle.cborn_model.specs.declared.heads.Size.{Size}
@@ -14,7 +16,7 @@ use Rattle.cborn_model.proofs.Listed.Trees.{count-trees, count_entries-entries}
 use Rattle.cborn_wire.specs.Slots.{announced, opening, opened, beginning}
 use Rattle.cborn_wire.specs.declared.spellers.OpenSpelling.{OpenSpelling}
 use Rattle.cborn_wire.specs.declared.spellers.Speller.{Speller}
-use Rattle.cborn_wire.specs.shared.Spelling.{written, shape, sized_ending, ending_at, counted, innermost_of, outer_of, Stands, with_head, entries_in, IsEnded}
+use Rattle.cborn_wire.specs.shared.Spelling.{written, shape, sized_ending, ending_of, counted, container, containers_of, Stands, with_head, entries_in, IsEnded}
 use Rattle.cborn_wire.proofs.Machine.Containers.{pair_count, pairs_spelled, built_spelled}
 use Rattle.cborn_wire.proofs.Spelled.TreeLists.{trees-append, spelled_all-append}
 
@@ -33,22 +35,25 @@ written_put (inside f o ts) t =
 counted_push : (ts : List Tree) (t : Tree) → counted (length (ts ++ t ∷ [])) ≡ (counted (length ts) + 1) % 2 ^ 64
 counted_push ts t = omega (arith, length-append ts (t ∷ []))
 
-innermost_put : (f : Partial) (t : Tree) → innermost_of (put f t) ≡ record (innermost_of f) { nodes = ((innermost_of f).nodes + 1) % 2 ^ 64 }
-innermost_put (top ts) t = ap (λ n. record (innermost_of (top ts)) { nodes = n }) (counted_push ts t)
-innermost_put (inside f o ts) t = ap (λ n. record (innermost_of (inside f o ts)) { nodes = n }) (counted_push ts t)
+abbrev pub one_more : OpenSpelling → OpenSpelling
+one_more c = record c { nodes = (c.nodes + 1) % 2 ^ 64 }
 
-outer_put : (f : Partial) (t : Tree) → outer_of (put f t) ≡ outer_of f
-outer_put (top ts) t = refl
-outer_put (inside f o ts) t = refl
+-- the last of n containers is counted up
+pub last_counted : (xs outer : List OpenSpelling) (c last : OpenSpelling) (n : ℕ) → n ≡ length xs → last ≡ get_or xs (n - 1) last → xs ≡ outer ++ c ∷ [] → set xs (n - 1) (one_more last) ≡ outer ++ one_more c ∷ []
+last_counted xs outer c last n len at is =
+    let place : length outer ≡ n - 1 = omega (arith, len, ap length is, length-append outer (c ∷ [])) in
+    let same : last ≡ c = at ∙ ap (λ l. get_or l (n - 1) last) is ∙ ap (λ i. get_or (outer ++ c ∷ []) i last) (sym place) ∙ get_or-append_seam outer c [] last in
+    ap (λ l. set l (n - 1) (one_more last)) is ∙ set_at outer c [] (one_more last) (n - 1) place ∙ ap (λ u. outer ++ one_more u ∷ []) same
 
--- a node whose bytes are written is counted
-pub node_counted : (old new : Speller) (f : Partial) (t : Tree) → new.out.items ≡ old.out.items → new.innermost ≡ record old.innermost { nodes = (old.innermost.nodes + 1) % 2 ^ 64 } → new.outer.items ≡ old.outer.items
-    → Stands old f (spelled t) → Stands new (put f t) []
-node_counted old new f t out inner outer s = (
-  out ∙ s.0 ∙ sym (written_put f t) ∙ sym (append-nil (written (put f t))),
-  inner ∙ ap (λ (u : OpenSpelling). record u { nodes = (u.nodes + 1) % 2 ^ 64 }) s.1 ∙ sym (innermost_put f t),
-  outer ∙ s.2 ∙ sym (outer_put f t),
-)
+-- a node whose bytes are written is counted, so that the open containers become u
+pub node_counted : (s : Speller) (u : List OpenSpelling) (f : Partial) (t : Tree)
+    → ((outer : List OpenSpelling) (c : OpenSpelling) → s.containers.items ≡ outer ++ c ∷ [] → u ≡ outer ++ one_more c ∷ [])
+    → (s.containers.items ≡ [] → u ≡ []) → Stands s f (spelled t) → (s.out.items ≡ written (put f t) ++ []) × (u ≡ containers_of (put f t))
+node_counted s u f t one none (out, containers) = (out ∙ sym (written_put f t) ∙ sym (append-nil (written (put f t))), more f containers)
+  where
+    more : (f : Partial) → s.containers.items ≡ containers_of f → u ≡ containers_of (put f t)
+    more (top ts) e = none e
+    more (inside f o ts) e = one (containers_of f) (container f o (counted (length ts))) e ∙ ap (λ n. containers_of f ++ container f o n ∷ []) (sym (counted_push ts t))
 
 -- ---- a container ends
 
@@ -63,7 +68,7 @@ head_placed m w n b front body x y is done =
     done (omega (arith, ap length is, length-append front (b ∷ body))) ∙ (λ i. before i ++ (head m (argument (ended_size (Fixed w) None n) n) ++ after i))
 
 -- an array or a map of n items or pairs
-sized_ended : (m : Major) (s : Size) (c : Option ℕ) (k n : ℕ) (front body x y : List ℕ) → entries_in m k ≡ n → IsAll c n → x ≡ front ++ (head m (announced s c) ++ body) → IsEnded (sized_ending m s c (length front)) k x y
+sized_ended : (m : Major) (s : Size) (c : Option ℕ) (k n : ℕ) (front body x y : List ℕ) → entries_in m k ≡ n → IsAll c n → x ≡ front ++ (head m (announced s c) ++ body) → IsEnded (sized_ending m s c) k (length front) x y
     → y ≡ front ++ (head m (argument (ended_size s c n) n) ++ body ++ ending (ended_size s c n))
 sized_ended m (Fixed w) None k n front body x y count all is done =
     let start = head m (argument (ended_size (Fixed w) None n) n) in
@@ -79,7 +84,7 @@ all_counted ts front start x few is =
     omega (arith, few, no_more_nodes ts, ap length is, length-append front (start ++ spelled_all (trees ts)), length-append start (spelled_all (trees ts)))
 
 -- what is written once a container has ended
-pub container_ended : (f : Partial) (o : Opening) (ts : List Tree) (x y : List ℕ) → Ends o ts → length x < 2 ^ 64 → x ≡ written (inside f o ts) → IsEnded (ending_at (shape o) (length (written f))) (counted (length ts)) x y → y ≡ written f ++ spelled (built o ts)
+pub container_ended : (f : Partial) (o : Opening) (ts : List Tree) (x y : List ℕ) → Ends o ts → length x < 2 ^ 64 → x ≡ written (inside f o ts) → IsEnded (ending_of (shape o)) (counted (length ts)) (length (written f)) x y → y ≡ written f ++ spelled (built o ts)
 container_ended f (an_array p s c) ts x y ends few is done =
     rw (count-trees ts) (sized_ended Array s c (counted (length ts)) (length ts) (written f) (spelled_all (trees ts)) x y (all_counted ts (written f) (opening (an_array p s c)) x few is) ends is done)
 container_ended f (a_map p s c) ts x y ends few is done =
@@ -91,9 +96,15 @@ container_ended f (a_tag p w n) ts x y (t, one) few is done =
 container_ended f (in_chunks p k) ts x y ends few is done =
     done ∙ ap (λ l. l ++ ending Endless) is ∙ append_assoc (written f) (beginning (opened (in_chunks p k) ts)) (ending Endless) ∙ ap (λ l. written f ++ l) (sym (built_spelled (in_chunks p k) ts tt ends))
 
-pub container_left : (old left : Speller) (f : Partial) (o : Opening) (ts : List Tree) (y : List ℕ) → Ends o ts → length old.out.items < 2 ^ 64 → left.out.items ≡ old.out.items → ((around : OpenSpelling) (outer : List OpenSpelling) → old.outer.items ≡ outer ++ around ∷ [] → (left.innermost ≡ around) × (left.outer.items ≡ outer))
-    → IsEnded old.innermost.ending old.innermost.nodes left.out.items y → Stands old (inside f o ts) [] → (y ≡ written f ++ spelled (built o ts)) × (left.innermost ≡ innermost_of f) × (left.outer.items ≡ outer_of f)
-container_left old left f o ts y ends few same leave done (out, innermost, outer) =
-    let around = leave (innermost_of f) (outer_of f) outer in
-    let owed : IsEnded (ending_at (shape o) (length (written f))) (counted (length ts)) old.out.items y = subst (λ (u : OpenSpelling). IsEnded u.ending u.nodes old.out.items y) innermost (subst (λ (x : List ℕ). IsEnded old.innermost.ending old.innermost.nodes x y) same done) in
-    (container_ended f o ts old.out.items y ends few (out ∙ append-nil (written (inside f o ts))) owed, around.0, around.1)
+some_same : {A : Type 0} {a b : A} → Some a ≡ Some b → a ≡ b
+some_same {A} {a} e = ap (λ (o : Option A). elim o [ Some c ↦ c | None ↦ a ]) e
+
+pub container_left : (old left : Speller) (given : Option OpenSpelling) (ended : OpenSpelling) (f : Partial) (o : Opening) (ts : List Tree) (y : List ℕ) → Ends o ts → length old.out.items < 2 ^ 64 → left.out.items ≡ old.out.items → given ≡ Some ended
+    → ((c : OpenSpelling) (outer : List OpenSpelling) → old.containers.items ≡ outer ++ c ∷ [] → (given ≡ Some c) × (left.containers.items ≡ outer))
+    → IsEnded ended.ending ended.nodes ended.start left.out.items y → Stands old (inside f o ts) [] → (y ≡ written f ++ spelled (built o ts)) × (left.containers.items ≡ containers_of f)
+container_left old left given ended f o ts y ends few same some leave done (out, containers) =
+    let c = container f o (counted (length ts)) in
+    let outer = leave c (containers_of f) containers in
+    let is : ended ≡ c = some_same (sym some ∙ outer.0) in
+    let owed : IsEnded c.ending c.nodes c.start old.out.items y = subst (λ (u : OpenSpelling). IsEnded u.ending u.nodes u.start old.out.items y) is (subst (λ (x : List ℕ). IsEnded ended.ending ended.nodes ended.start x y) same done) in
+    (container_ended f o ts old.out.items y ends few (out ∙ append-nil (written (inside f o ts))) owed, outer.1)

@@ -13,7 +13,7 @@ ghost use Rattle.cborn_model.specs.declared.heads.Width.{Width};
 ghost use Rattle.cborn_model.specs.declared.heads.Width.TheVariants.{One};
 
 use crate::WireReason;
-use cborn_model::{Major, Size, StringKind, Width};
+use cborn_model::{Major, Size, StringKind, Width, push_doubling};
 use std::alloc::AllocError;
 
 /// What a head says besides its major type.
@@ -326,10 +326,22 @@ pub fn push_head(out: &mut Vec<u8>, major: Major, width: Width, n: u64) -> Resul
     ensures kept { OnErr result (out.new.items ≡ out.old.items) }
 {
     if let Width::Direct = width {
-        out.push(major.initial_byte(n as u8))?;
-        return Ok(());
+        return push(out, major.initial_byte(n as u8));
     }
     push_wide_head(out, major, width, n)
+}
+
+/// Appends `one`, in line where there is room for it.
+#[inline(always)]
+pub(crate) fn push<T: Drop>(list: &mut Vec<T>, one: T) -> Result<(), AllocError>
+    ensures added { OnOk result (list.new.items ≡ list.old.items ++ one ∷ []) }
+    ensures kept { OnErr result (list.new.items ≡ list.old.items) }
+{
+    if list.len() < list.capacity() {
+        list.push_reserved(one);
+        return Ok(());
+    }
+    push_doubling(list, one)
 }
 
 /// Appends a head. Out of line, since most heads are one byte. Each width has its own call, so that

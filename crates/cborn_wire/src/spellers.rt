@@ -1,14 +1,14 @@
 //! The visitor [`Speller`], which writes the bytes that items spell.
 
-ghost use Rattle.std.specs.Prelude.{◌≡◌, ◌<◌, ◌+◌, ◌++◌, [], ◌∷◌, List, ℕ, length, OnOk, IfOk};
+ghost use Rattle.std.specs.Prelude.{◌≡◌, ◌≤◌, ◌++◌, [], ◌∷◌, List, Some, OnOk, IfOk, vec_capacity};
 ghost use Rattle.cborn_model.specs.Heads.{code, WidthFits, head_bytes};
 ghost use Rattle.cborn_model.specs.Tree.{Tree, trees};
 ghost use Rattle.cborn_model.specs.Spelled.{spelled, spelled_all};
 ghost use Rattle.cborn_model.specs.Partial.{Opening, Partial, top, inside, put, no_part, CountFits};
-ghost use Rattle.cborn_wire.specs.shared.Spelling.{shape, ending_at, entries_in, Stands, IsWritten, with_head, IsEnded};
-ghost use Rattle.cborn_wire.specs.declared.spellers.OpenSpelling.{OpenSpelling as Around};
+ghost use Rattle.cborn_wire.specs.shared.Spelling.{shape, ending_of, entries_in, Stands, IsWritten, IsEnded};
+ghost use Rattle.cborn_wire.specs.declared.spellers.OpenSpelling.{OpenSpelling as Container};
 
-use crate::heads::{major_of, push_head};
+use crate::heads::{major_of, push, push_head};
 use crate::placed_heads::set_head;
 use cborn_model::{BREAK, Major, Size, StringKind, Visitor, Width, shortest};
 use std::alloc::{AllocError, Global};
@@ -20,33 +20,35 @@ pub(crate) enum Ending {
     Nothing,
     /// The break.
     Break,
-    /// The head of an array or a map, of at least this width, in the place of the byte at this
-    /// offset.
-    Later(Major, Width, usize),
+    /// The head of an array or a map, of at least this width, in the place of the byte where it
+    /// starts.
+    Later(Major, Width),
 }
 
-/// The input, or an open container in it.
+/// An open container.
 #[derive(Clone, Copy)]
 pub(crate) struct OpenSpelling {
-    ending: Ending,
+    /// Where its head is, or the byte in its place: an offset in the bytes that are written.
+    start: usize,
     /// How many nodes are whole in it.
     nodes: u64,
+    ending: Ending,
 }
 
 impl OpenSpelling {
     /// Writes what is owed at its end.
     #[inline(always)]
     fn end(self, out: &mut Vec<u8>) -> Result<(), AllocError>
-        ensures { OnOk result (IsEnded self.ending self.nodes out.old.items out.new.items) }
+        ensures { OnOk result (IsEnded self.ending self.nodes self.start out.old.items out.new.items) }
     {
         match self.ending {
             Ending::Nothing => Ok(()),
-            Ending::Break => {
-                out.push(BREAK)?;
-                Ok(())
-            }
-            Ending::Later(major, width, start) => {
-                set_size(out, major, width, entries_in(major, self.nodes), start)
+            Ending::Break => push(out, BREAK),
+            Ending::Later(major, width) => {
+                if self.start >= out.len() {
+                    return Ok(());
+                }
+                set_head(out, major, width, entries_in(major, self.nodes), self.start)
             }
         }
     }
@@ -63,36 +65,16 @@ fn entries_in(major: Major, nodes: u64) -> u64
     }
 }
 
-/// What is to be written at the end of a container that says its size so, the head of which is at
-/// the offset `start`.
+/// What is to be written at the end of a container that says its size so.
 #[inline(always)]
-fn ending_at(major: Major, size: Size, count: Option<u64>, start: usize) -> Ending
-    ensures { result ≡ ending_at (major, size, count) start }
+fn ending_of(major: Major, size: Size, count: Option<u64>) -> Ending
+    ensures { result ≡ ending_of (major, size, count) }
 {
     match (size, count) {
-        (Size::Fixed(width), None) => Ending::Later(major, width, start),
+        (Size::Fixed(width), None) => Ending::Later(major, width),
         (Size::Fixed(_), Some(_)) => Ending::Nothing,
         (Size::Endless, _) => Ending::Break,
     }
-}
-
-/// Puts the head of `n` items or pairs, of at least this width, in the place of the byte at the
-/// offset `start`, if there is one.
-#[inline(always)]
-fn set_size(
-    out: &mut Vec<u8>,
-    major: Major,
-    width: Width,
-    n: u64,
-    start: usize,
-) -> Result<(), AllocError>
-    ensures { OnOk result (start < length out.old.items → out.new.items ≡ with_head major width n start out.old.items) }
-{
-    if start >= out.len() {
-        return Ok(());
-    }
-    let width = if width.holds(n) { width } else { shortest(n) };
-    set_head(out, major, width, n, start)
 }
 
 /// Writes the bytes that the items spell which a source hands it (RFC 8949 sections 3.1 to 3.4),
@@ -100,10 +82,8 @@ fn set_size(
 #[derive(Drop)]
 pub struct Speller {
     out: Vec<u8>,
-    /// The innermost container; the input, if none is open.
-    innermost: OpenSpelling,
-    /// Those around it, the innermost of them last.
-    outer: Vec<OpenSpelling>,
+    /// The open containers, the innermost of them last.
+    containers: Vec<OpenSpelling>,
 }
 
 impl Speller {
@@ -131,12 +111,31 @@ impl Speller {
     {
         Speller {
             out,
-            innermost: OpenSpelling {
-                ending: Ending::Nothing,
-                nodes: 0,
-            },
-            outer: Vec::new(alloc),
+            containers: Vec::new(alloc),
         }
+    }
+
+    /// Becomes a visitor that was handed nothing. Keeps its memory.
+    pub fn clear(&mut self)
+        ensures { ⟦<Speller as Visitor>⟧.holds self.new (top []) no_part }
+    {
+        self.out.clear();
+        self.containers.clear();
+    }
+
+    /// How many bytes, or containers open in one another, it has memory for, whichever is more.
+    pub fn capacity(&self) -> usize
+        ensures { vec_capacity self.now.out ≤ result }
+    {
+        self.out.capacity().max(self.containers.capacity())
+    }
+
+    /// The bytes that the items spell which it was handed, of which none is open.
+    pub fn written(&self) -> &[u8]
+        requires { (ts : List Tree) × ⟦<Speller as Visitor>⟧.holds self.now (top ts) no_part }
+        ensures { (ts : List Tree) → ⟦<Speller as Visitor>⟧.holds self.now (top ts) no_part → result.now ≡ spelled_all (trees ts) }
+    {
+        &self.out
     }
 
     /// The bytes that the items spell which it was handed, of which none is open.
@@ -148,13 +147,15 @@ impl Speller {
         out
     }
 
-    /// Counts a node in the innermost container, whose bytes are written.
+    /// Counts a node whose bytes are written, in the innermost container.
     #[inline(always)]
     fn count(&mut self)
         ensures { (f : Partial) (t : Tree) → Stands self.old f (spelled t) → Stands self.new (put f t) [] }
     {
-        // Each node has a byte, so fewer than 2^64 are in it.
-        self.innermost.nodes = self.innermost.nodes.wrapping_add(1);
+        if let Some(innermost) = self.containers.last_mut() {
+            // Each node has a byte, so fewer than 2^64 are in it.
+            innermost.nodes = innermost.nodes.wrapping_add(1);
+        }
     }
 
     /// Writes a node that is one head.
@@ -175,26 +176,25 @@ impl Speller {
         requires { CountFits size count }
         ensures { OnOk result ((f : Partial) (o : Opening) → shape o ≡ (major, size, count) → Stands self.old f [] → Stands self.new (inside f o []) []) }
     {
-        let ending = ending_at(major, size, count, self.out.len());
+        let opened = OpenSpelling {
+            start: self.out.len(),
+            nodes: 0,
+            ending: ending_of(major, size, count),
+        };
         match (size, count) {
             (Size::Fixed(width), Some(n)) => push_head(&mut self.out, major, width, n)?,
-            _ => self.out.push(major.endless_head())?,
+            _ => push(&mut self.out, major.endless_head())?,
         }
-        let innermost = OpenSpelling { ending, nodes: 0 };
-        let around = std::mem::replace(&mut self.innermost, innermost);
-        self.outer.push(around)?;
-        Ok(())
+        push(&mut self.containers, opened)
     }
 
-    /// Leaves the innermost container, if there is one, for that around it.
+    /// Leaves the innermost container, if there is one, and gives it.
     #[inline(always)]
-    fn leave(&mut self)
-        ensures around { (around : Around) (outer : List Around) → self.old.outer.items ≡ outer ++ around ∷ [] → (self.new.innermost ≡ around) × (self.new.outer.items ≡ outer) }
+    fn leave(&mut self) -> Option<OpenSpelling>
+        ensures innermost { (c : Container) (outer : List Container) → self.old.containers.items ≡ outer ++ c ∷ [] → (result ≡ Some c) × (self.new.containers.items ≡ outer) }
         ensures out { self.new.out ≡ self.old.out }
     {
-        if let Some(around) = self.outer.pop() {
-            self.innermost = around;
-        }
+        self.containers.pop()
     }
 }
 
@@ -258,10 +258,10 @@ impl Visitor for Speller {
 
     #[inline(always)]
     fn close(&mut self) -> Result<(), AllocError> {
-        let ended = self.innermost;
-        self.leave();
-        ended.end(&mut self.out)?;
-        self.count();
+        if let Some(ended) = self.leave() {
+            ended.end(&mut self.out)?;
+            self.count();
+        }
         Ok(())
     }
 
@@ -283,20 +283,6 @@ impl Visitor for Speller {
 
     #[inline(always)]
     fn close_string(&mut self) -> Result<(), AllocError> {
-        self.count();
-        Ok(())
-    }
-
-    #[inline(always)]
-    fn string(
-        &mut self,
-        _place: u64,
-        kind: StringKind,
-        width: Width,
-        bytes: &[u8],
-    ) -> Result<(), AllocError> {
-        push_head(&mut self.out, major_of(kind), width, bytes.len() as u64)?;
-        self.out.extend_from_slice(bytes)?;
         self.count();
         Ok(())
     }

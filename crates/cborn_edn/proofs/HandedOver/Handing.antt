@@ -11,7 +11,7 @@ use Rattle.cborn_edn.specs.devices.Machine.{Stack, in_row, in_key, in_value, in_
 use Rattle.cborn_edn.specs.devices.Said.{nodes_before}
 use Rattle.cborn_edn.specs.devices.Noted.{noted}
 use Rattle.cborn_edn.specs.devices.TreesCode.{listed_trees}
-use Rattle.cborn_edn.specs.devices.Handed.{front_of, row_front, front, Handed, AllHanded, Hands}
+use Rattle.cborn_edn.specs.devices.Handed.{front_of, row_front, front, Handed, AllHanded, Hands, InnermostFollows}
 use Rattle.cborn_edn.proofs.HandedOver.Fitting.{fits_after}
 
 -- what is true of each visitor is true of the innermost
@@ -44,13 +44,12 @@ outside h k event place x s u [] (v ∷ ss) e may f hands t = t
 outside h k event place x s u (p ∷ ps) ss e may f hands t = absurd (let bad : false ≡ true = e in cc)
 
 -- inside of one
-pub inside : (h : Holds) (event : Event) (place : ℕ) (x : List ℕ) (s u : State) (ps qs : List Speller) (ss : List State) → is_nil ps ≡ false → MayCome event x → ((p : Speller) (rest : List Speller) → ps ≡ p ∷ rest → (q : Speller) × (qs ≡ q ∷ rest) × Follows event place x (IsWritten p) (IsWritten q)) → Hands event place x s u → AllHanded h ps (s ∷ ss) → AllHanded h qs (u ∷ ss)
+pub inside : (h : Holds) (event : Event) (place : ℕ) (x : List ℕ) (s u : State) (ps qs : List Speller) (ss : List State) → is_nil ps ≡ false → MayCome event x → InnermostFollows event place x ps qs → Hands event place x s u → AllHanded h ps (s ∷ ss) → AllHanded h qs (u ∷ ss)
 inside h event place x s u [] qs ss e may step hands t = absurd (let bad : true ≡ false = e in cc)
 inside h event place x s u (p ∷ ps) qs ss e may step hands t = let d = step p ps refl in subst (λ (l : List Speller). AllHanded h l (u ∷ ss)) (sym d.1) (followed (IsWritten p) (IsWritten d.0) event place x s u may d.2 hands t.0, t.1)
 
 -- the innermost took an event, and the others stay
-pub taken : (event : Event) (place : ℕ) (x : List ℕ) (one other : Speller) (all rest new : List Speller) → all ≡ one ∷ rest → new ≡ other ∷ rest → Follows event place x (IsWritten one) (IsWritten other)
-    → (p : Speller) (ps : List Speller) → all ≡ p ∷ ps → (q : Speller) × (new ≡ q ∷ ps) × Follows event place x (IsWritten p) (IsWritten q)
+pub taken : (event : Event) (place : ℕ) (x : List ℕ) (one other : Speller) (all rest new : List Speller) → all ≡ one ∷ rest → new ≡ other ∷ rest → Follows event place x (IsWritten one) (IsWritten other) → InnermostFollows event place x all new
 taken event place x one other all rest new e f step p ps g =
     let same : one ∷ rest ≡ p ∷ ps = sym e ∙ g in
     let first : one ≡ p = cc in

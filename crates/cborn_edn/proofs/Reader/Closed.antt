@@ -1,7 +1,7 @@
 -- What is shown after a bracket that opens, and after one that ends.
 use Rattle.std.proofs.Common.{◌≡◌, refl, sym, ap, ◌∙◌, subst, ℕ, List, [], ◌∷◌, ◌++◌, length, Bool, true, false, Option, Some, None, append-nil, append_assoc}
 use Rattle.std.specs.Prelude.{if◌then◌else◌}
-use Rattle.cborn_model.specs.Tree.{Tree, trees, count, count_entries}
+use Rattle.cborn_model.specs.Tree.{Tree, trees}
 use Rattle.cborn_model.specs.Spelled.{spelled_all}
 use Rattle.cborn_model.specs.Partial.{top, no_part}
 use Rattle.cborn_model.specs.declared.visitors.StringKind.TheVariants.{OfBytes}
@@ -10,15 +10,15 @@ use Rattle.cborn_wire.specs.declared.spellers.Speller.{Speller}
 use Rattle.cborn_lex.specs.declared.classes.Mark.{Mark}
 use Rattle.cborn_lex.specs.declared.classes.Mark.TheVariants.{Absent}
 use Rattle.cborn_edn.specs.declared.meaning_errors.MeaningError.{MeaningError}
-use Rattle.cborn_edn.specs.Says.{is_nil, Str, joined, piece_errors, size_errors, tag_errors}
+use Rattle.cborn_edn.specs.Says.{is_nil, Str, joined, piece_errors, size_errors}
 use Rattle.cborn_edn.specs.devices.MeaningErrors.{first_error, earlier, is_none, Notes}
 use Rattle.cborn_edn.specs.devices.TreesCode.{listed_trees, trees-listed}
-use Rattle.cborn_edn.specs.devices.Syntax.{Span, Item, array, map, tag, embedded, Pieces, row, Content, loose, tight, pairs, Fields, loose_fields, tight_fields, no_item}
-use Rattle.cborn_edn.proofs.Grammar.Machine.{Stack, in_row, in_tag, Nest, in_array, in_embed, Home, State, wants, has, builds, with_piece}
+use Rattle.cborn_edn.specs.devices.Syntax.{Span, Item, embedded, Pieces, row, Content, loose, tight, pairs, Fields, loose_fields, tight_fields, no_item}
+use Rattle.cborn_edn.proofs.Grammar.Machine.{Stack, in_row, Nest, in_embed, Home, State, wants, has, builds, with_piece}
 use Rattle.cborn_edn.proofs.Grammar.Takes.{at_home}
-use Rattle.cborn_edn.specs.devices.Said.{node, str, str_of, nodes_before, nodes_in, entries_in, faults, faults_in, faults_of_fields, faults_of_pieces}
+use Rattle.cborn_edn.specs.devices.Said.{node, str, str_of, nodes_before, nodes_in, faults, faults_in, faults_of_pieces}
 use Rattle.cborn_edn.specs.devices.Noted.{noted, noted_stack, noted_home}
-use Rattle.cborn_edn.specs.devices.Kept.{stack_of, stack_in, bracket, brackets_of, brackets_home, around, arounds_home, bytes_around_home, bytes_before, piece_bytes, pieces_bytes, joint}
+use Rattle.cborn_edn.specs.devices.Kept.{stack_of, stack_in, bracket, brackets_of, brackets_home, around, arounds_of, arounds_home, bytes_around, bytes_around_home, bytes_before, piece_bytes, pieces_bytes, joint}
 use Rattle.cborn_edn.specs.devices.Shows.{Shows, content_state, fields_state, entries_at}
 use Rattle.cborn_edn.specs.devices.Handed.{states_around, states_around_nest, Handed, IsSpelled}
 use Rattle.cborn_edn.specs.declared.states.Here.{Here}
@@ -31,7 +31,7 @@ use Rattle.cborn_edn.specs.declared.states.Level.TheVariants.{Embedded}
 use Rattle.cborn_edn.proofs.Meaning.NoError.{nil_is}
 use Rattle.cborn_edn.proofs.Reader.NotedErrors.{earlier_noted, none_first}
 use Rattle.cborn_edn.proofs.Reader.Showing.{brackets_same, arounds_same, bytes_same, standing}
-use Rattle.cborn_edn.proofs.Reader.Rows.{InContent, in_content, in_fields}
+use Rattle.cborn_edn.proofs.Reader.Rows.{AtEnd, InContent, in_content}
 use Rattle.cborn_edn.proofs.HandedOver.Silent.{listed_snoc}
 
 -- the innermost bracket is taken off
@@ -47,13 +47,11 @@ pub fields_states : (st : Stack) (s : Span) (m : Mark) (c : Fields) → states_a
 fields_states st s m (loose_fields b) = refl
 fields_states st s m (tight_fields (pairs b k d v)) = refl
 
-pub closed_array : (here next : Here) (w mid : Writer) (new : Option MeaningError) (ps : List Speller) (f : OpenBracket) (n : ℕ) (st : Stack) (s a : Span) (m : Mark) (c : Content) → Shows here w w.pieces.items (content_state (in_array st s m) c) → Shut here w next mid f → n ≡ entries_at here.phase here.count
-    → Notes mid.error new (size_errors f.place f.mark n) → Shows next (record mid { error = new; spellers = ps }) mid.pieces.items (has st (array s m c a))
-closed_array here next w mid new ps f n st s a m c e shut k noted =
-    let q = in_content here w w.pieces.items (in_array st s m) c e in
-    let t = shut (bracket st s.start m) (brackets_of st) q.brackets in
-    let all : n ≡ count (nodes_in c) = k ∙ q.count in
-    let note : Notes mid.error new (size_errors s.start m (count (nodes_in c))) = subst (λ i. Notes mid.error new (size_errors s.start m i)) all (subst (λ (y : OpenBracket). Notes mid.error new (size_errors y.place y.mark n)) t.0 noted) in
+-- a bracket ends, and the item i is whole
+pub closed : (here next : Here) (w mid : Writer) (new : Option MeaningError) (ps : List Speller) (f : OpenBracket) (st : Stack) (p k : ℕ) (m : Mark) (es : List MeaningError) (i : Item) → AtEnd here w w.pieces.items k (bracket st p m ∷ brackets_of st) (arounds_of st) es (bytes_around st) → Shut here w next mid f
+    → new ≡ first_error (noted_stack st ++ faults i) → Shows next (record mid { error = new; spellers = ps }) mid.pieces.items (has st i)
+closed here next w mid new ps f st p k m es i q shut error =
+    let t = shut (bracket st p m) (brackets_of st) q.brackets in
     record {
       phase = ap (λ (y : Here). y.phase) t.2;
       level = ap (λ (y : Here). y.level) t.2;
@@ -63,48 +61,19 @@ closed_array here next w mid new ps f n st s a m c e shut k noted =
       string = ap (λ (y : Writer). y.string) t.1 ∙ q.string;
       chunks = ap (λ (y : Writer). y.chunks) t.1 ∙ q.chunks;
       simple = tt;
-      error = note (noted_stack st ++ faults_in c) (ap (λ (y : Writer). y.error) t.1 ∙ q.error) ∙ ap first_error (append_assoc (noted_stack st) (faults_in c) (size_errors s.start m (count (nodes_in c))));
+      error = error;
       start = ap (λ (y : Writer). y.start) t.1 ∙ q.start;
       pieces = ap (λ (y : Writer). y.pieces.items) t.1 ∙ q.pieces;
     }
 
-pub closed_map : (here next : Here) (w mid : Writer) (new : Option MeaningError) (ps : List Speller) (f : OpenBracket) (n : ℕ) (st : Stack) (s a : Span) (m : Mark) (c : Fields) → Shows here w w.pieces.items (fields_state st s m c) → Shut here w next mid f → n ≡ entries_at here.phase here.count
-    → Notes mid.error new (size_errors f.place f.mark n) → Shows next (record mid { error = new; spellers = ps }) mid.pieces.items (has st (map s m c a))
-closed_map here next w mid new ps f n st s a m c e shut k noted =
-    let q = in_fields here w w.pieces.items st s m c e in
-    let t = shut (bracket st s.start m) (brackets_of st) q.brackets in
-    let all : n ≡ count_entries (entries_in c) = k ∙ q.count in
-    let note : Notes mid.error new (size_errors s.start m (count_entries (entries_in c))) = subst (λ i. Notes mid.error new (size_errors s.start m i)) all (subst (λ (y : OpenBracket). Notes mid.error new (size_errors y.place y.mark n)) t.0 noted) in
-    record {
-      phase = ap (λ (y : Here). y.phase) t.2;
-      level = ap (λ (y : Here). y.level) t.2;
-      count = ap (λ (y : Here). y.count) t.2;
-      brackets = ap (λ (y : Writer). y.brackets) t.1;
-      around = ap (λ (y : Writer). y.around) t.1 ∙ q.around;
-      string = ap (λ (y : Writer). y.string) t.1 ∙ q.string;
-      chunks = ap (λ (y : Writer). y.chunks) t.1 ∙ q.chunks;
-      simple = tt;
-      error = note (noted_stack st ++ faults_of_fields c) (ap (λ (y : Writer). y.error) t.1 ∙ q.error) ∙ ap first_error (append_assoc (noted_stack st) (faults_of_fields c) (size_errors s.start m (count_entries (entries_in c))));
-      start = ap (λ (y : Writer). y.start) t.1 ∙ q.start;
-      pieces = ap (λ (y : Writer). y.pieces.items) t.1 ∙ q.pieces;
-    }
-
-pub closed_tag : (here next : Here) (w mid : Writer) (ps : List Speller) (f : OpenBracket) (st : Stack) (s a : Span) (n : ℕ) (m : Mark) (i : Item) → Shows here w w.pieces.items (has (in_tag st s n m) i) → Shut here w next mid f → Shows next (record mid { spellers = ps }) mid.pieces.items (has st (tag s n m i a))
-closed_tag here next w mid ps f st s a n m i e shut =
-    let t = shut (bracket st 0 Absent) (brackets_of st) e.brackets in
-    record {
-      phase = ap (λ (y : Here). y.phase) t.2;
-      level = ap (λ (y : Here). y.level) t.2;
-      count = ap (λ (y : Here). y.count) t.2;
-      brackets = ap (λ (y : Writer). y.brackets) t.1;
-      around = ap (λ (y : Writer). y.around) t.1 ∙ e.around;
-      string = ap (λ (y : Writer). y.string) t.1 ∙ e.string;
-      chunks = ap (λ (y : Writer). y.chunks) t.1 ∙ e.chunks;
-      simple = tt;
-      error = ap (λ (y : Writer). y.error) t.1 ∙ e.error ∙ ap first_error (append_assoc (noted_stack st) (tag_errors s.start m n) (faults i));
-      start = ap (λ (y : Writer). y.start) t.1 ∙ e.start;
-      pieces = ap (λ (y : Writer). y.pieces.items) t.1 ∙ e.pieces;
-    }
+-- an array or a map ends, and what is wrong with its indicator is noted
+pub closed_sized : (here next : Here) (w mid : Writer) (new : Option MeaningError) (ps : List Speller) (f : OpenBracket) (n : ℕ) (st : Stack) (p k : ℕ) (m : Mark) (es : List MeaningError) (i : Item) → AtEnd here w w.pieces.items k (bracket st p m ∷ brackets_of st) (arounds_of st) (noted_stack st ++ es) (bytes_around st)
+    → Shut here w next mid f → n ≡ entries_at here.phase here.count → Notes mid.error new (size_errors f.place f.mark n) → faults i ≡ es ++ size_errors p m k → Shows next (record mid { error = new; spellers = ps }) mid.pieces.items (has st i)
+closed_sized here next w mid new ps f n st p k m es i q shut many noted is =
+    let t = shut (bracket st p m) (brackets_of st) q.brackets in
+    let note : Notes mid.error new (size_errors p m k) = subst (λ j. Notes mid.error new (size_errors p m j)) (many ∙ q.count) (subst (λ (y : OpenBracket). Notes mid.error new (size_errors y.place y.mark n)) t.0 noted) in
+    closed here next w mid new ps f st p k m (noted_stack st ++ es) i q shut
+    (note (noted_stack st ++ es) (ap (λ (y : Writer). y.error) t.1 ∙ q.error) ∙ ap first_error (append_assoc (noted_stack st) es (size_errors p m k)) ∙ ap (λ l. first_error (noted_stack st ++ l)) (sym is))
 
 -- a `<<` opens
 pub embed_kept : (here next : Here) (w left : Writer) (ps : List Speller) (h : Home) (o : Option Pieces) (a : Span) (place from : ℕ) (all : List Around) → place ≡ a.start → from ≡ length w.pieces.items → all ≡ record { start = w.start; string = w.string; chunks = w.chunks; error = w.error } ∷ w.around

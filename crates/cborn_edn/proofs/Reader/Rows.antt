@@ -6,7 +6,10 @@ use Rattle.cborn_edn.specs.devices.MeaningErrors.{first_error}
 use Rattle.cborn_edn.specs.devices.Said.{snoc, snoc_entry, node, nodes_before, nodes_in, entries_before, entries_in, faults, faults_before, faults_in, faults_before_pairs, faults_of_fields}
 use Rattle.cborn_edn.specs.devices.Syntax.{Span, Item, row, RowBefore, no_item, after_row, Content, loose, tight, pairs, PairsBefore, no_pair, after_pairs, Fields, loose_fields, tight_fields}
 use Rattle.cborn_edn.proofs.Grammar.Machine.{Stack, in_row, in_key, in_value, Nest, at_top, in_array, in_embed, has, wants}
+use Rattle.cborn_edn.specs.declared.meaning_errors.MeaningError.{MeaningError}
+use Rattle.cborn_edn.specs.declared.states.Around.{Around}
 use Rattle.cborn_edn.specs.declared.states.Here.{Here}
+use Rattle.cborn_edn.specs.declared.states.OpenBracket.{OpenBracket}
 use Rattle.cborn_edn.specs.declared.states.Writer.{Writer}
 use Rattle.cborn_edn.specs.declared.states.Phase.{Phase}
 use Rattle.cborn_edn.specs.declared.states.Phase.TheVariants.{Has, WantsMore}
@@ -32,16 +35,22 @@ pub entries_few : (p : Phase) (n : ℕ) → n < 2 ^ 63 → entries_at p n < 2 ^ 
 entries_few Has n h = omega (arith, h)
 entries_few _ n h = omega (arith, h)
 
--- what is shown where a row ends
-pub record InContent (here : Here) (writer : Writer) (written : List ℕ) (n : Nest) (c : Content) : Type 0 where
-  pub count : entries_at here.phase here.count ≡ count (nodes_in c)
-  pub brackets : writer.brackets ≡ brackets_nest n
-  pub around : writer.around ≡ arounds_nest n
+-- what is shown where a row or a map of k items or pairs ends
+pub record AtEnd (here : Here) (writer : Writer) (written : List ℕ) (k : ℕ) (brackets_then : List OpenBracket) (around_then : List Around) (es : List MeaningError) (x : List ℕ) : Type 0 where
+  pub count : entries_at here.phase here.count ≡ k
+  pub brackets : writer.brackets ≡ brackets_then
+  pub around : writer.around ≡ around_then
   pub string : writer.string ≡ None
   pub chunks : writer.chunks ≡ None
-  pub error : writer.error ≡ first_error (noted_nest n ++ faults_in c)
-  pub start : writer.start ≡ length (bytes_around_nest n)
-  pub pieces : written ≡ bytes_around_nest n
+  pub error : writer.error ≡ first_error es
+  pub start : writer.start ≡ length x
+  pub pieces : written ≡ x
+
+abbrev pub InContent : Here → Writer → List ℕ → Nest → Content → Type 0
+InContent here writer written n c = AtEnd here writer written (count (nodes_in c)) (brackets_nest n) (arounds_nest n) (noted_nest n ++ faults_in c) (bytes_around_nest n)
+
+abbrev pub InFields : Here → Writer → List ℕ → Stack → Span → Mark → Fields → Type 0
+InFields here writer written st s m f = AtEnd here writer written (count_entries (entries_in f)) (bracket st s.start m ∷ brackets_of st) (arounds_of st) (noted_stack st ++ faults_of_fields f) (bytes_around st)
 
 pub in_content : (here : Here) (writer : Writer) (written : List ℕ) (n : Nest) (c : Content) → Shows here writer written (content_state n c) → InContent here writer written n c
 in_content here writer written n (loose no_item) e = record { count = ap (λ x. entries_at x here.count) e.phase ∙ e.count; brackets = e.brackets; around = e.around; string = e.string; chunks = e.chunks; error = e.error; start = e.start; pieces = e.pieces }
@@ -56,17 +65,6 @@ in_content here writer written n (tight (row b i)) e = record {
   start = e.start;
   pieces = e.pieces;
 }
-
--- what is shown where a map ends
-pub record InFields (here : Here) (writer : Writer) (written : List ℕ) (st : Stack) (s : Span) (m : Mark) (f : Fields) : Type 0 where
-  pub count : entries_at here.phase here.count ≡ count_entries (entries_in f)
-  pub brackets : writer.brackets ≡ bracket st s.start m ∷ brackets_of st
-  pub around : writer.around ≡ arounds_of st
-  pub string : writer.string ≡ None
-  pub chunks : writer.chunks ≡ None
-  pub error : writer.error ≡ first_error (noted_stack st ++ faults_of_fields f)
-  pub start : writer.start ≡ length (bytes_around st)
-  pub pieces : written ≡ bytes_around st
 
 pub in_fields : (here : Here) (writer : Writer) (written : List ℕ) (st : Stack) (s : Span) (m : Mark) (f : Fields) → Shows here writer written (fields_state st s m f) → InFields here writer written st s m f
 in_fields here writer written st s m (loose_fields no_pair) e = record { count = ap (λ x. entries_at x here.count) e.phase ∙ e.count; brackets = e.brackets; around = e.around; string = e.string; chunks = e.chunks; error = e.error; start = e.start; pieces = e.pieces }

@@ -18,7 +18,7 @@ use Rattle.cborn_edn.specs.devices.Said.{node, kind_in, chunks, nodes_before, en
 use Rattle.cborn_edn.specs.devices.Noted.{noted}
 use Rattle.cborn_edn.specs.devices.Kept.{stack_in}
 use Rattle.cborn_edn.specs.devices.Shows.{Shows}
-use Rattle.cborn_edn.specs.devices.Events.{Holds, FitsSoFar, Comes, after}
+use Rattle.cborn_edn.specs.devices.Events.{Holds, FitsSoFar, Comes, after, Follows}
 use Rattle.cborn_edn.specs.declared.events.Event.{Event}
 use Rattle.cborn_edn.specs.declared.events.Event.TheVariants.{String, FirstChunk, NoChunks}
 use Rattle.cborn_edn.specs.declared.states.Joint.{Joint}
@@ -107,6 +107,10 @@ pub record Reads (h : Holds) (here : Here) (writer : Writer) (written : List ℕ
 -- if there is no meaning error at u, there is none at s, and the event leads from what is whole there to what is whole at u
 abbrev pub Hands : Event → ℕ → List ℕ → State → State → Type 0
 Hands event p x s u = noted u ≡ [] → (noted s ≡ []) × Comes event (front s) × (after event p x (front s) ≡ front u)
+
+-- the innermost speller takes an event, and those around it stay
+abbrev pub InnermostFollows : Event → ℕ → List ℕ → List Speller → List Speller → Type 0
+InnermostFollows event place x old new = (p : Speller) (ps : List Speller) → old ≡ p ∷ ps → (q : Speller) × (new ≡ q ∷ ps) × Follows event place x (IsWritten p) (IsWritten q)
 
 -- the event of a whole string that is an item, with a content of n bytes
 abbrev pub string_event : Joint → ℕ → Event

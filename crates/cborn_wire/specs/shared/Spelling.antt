@@ -29,31 +29,31 @@ shape (a_map q s c) = (Map, s, c)
 shape (a_tag q w n) = (Tag, Fixed w, Some n)
 shape (in_chunks q k) = (major_of k, Endless, None)
 
--- what is to be written at its end, if its head, or the byte in its place, is at the offset p
-abbrev pub sized_ending : Major → Size → Option ℕ → ℕ → Ending
-sized_ending m (Fixed w) None p = Later m w p
-sized_ending m (Fixed w) (Some n) p = Nothing
-sized_ending m Endless c p = Break
+-- what is to be written at its end
+abbrev pub sized_ending : Major → Size → Option ℕ → Ending
+sized_ending m (Fixed w) None = Later m w
+sized_ending m (Fixed w) (Some n) = Nothing
+sized_ending m Endless c = Break
 
-abbrev pub ending_at : Major × Size × Option ℕ → ℕ → Ending
-ending_at h p = sized_ending h.0 h.1 h.2 p
+abbrev pub ending_of : Major × Size × Option ℕ → Ending
+ending_of h = sized_ending h.0 h.1 h.2
 
 -- a number as it is counted in 64 bits
 abbrev pub counted : ℕ → ℕ
 counted n = n % 2 ^ 64
 
-abbrev pub innermost_of : Partial → OpenSpelling
-innermost_of (top ts) = record { ending = Nothing; nodes = counted (length ts) }
-innermost_of (inside f o ts) = record { ending = ending_at (shape o) (length (written f)); nodes = counted (length ts) }
+-- a container inside f, in which k nodes are whole
+abbrev pub container : Partial → Opening → ℕ → OpenSpelling
+container f o k = record { start = length (written f); nodes = k; ending = ending_of (shape o) }
 
--- those around the innermost, the outermost first
-abbrev pub outer_of : Partial → List OpenSpelling
-outer_of (top ts) = []
-outer_of (inside f o ts) = outer_of f ++ innermost_of f ∷ []
+-- the open containers, the outermost first
+abbrev pub containers_of : Partial → List OpenSpelling
+containers_of (top ts) = []
+containers_of (inside f o ts) = containers_of f ++ container f o (counted (length ts)) ∷ []
 
 -- the partial sequence is f, and the bytes x are written after it
 abbrev pub Stands : Speller → Partial → List ℕ → Type 0
-Stands s f x = (s.out.items ≡ written f ++ x) × (s.innermost ≡ innermost_of f) × (s.outer.items ≡ outer_of f)
+Stands s f x = (s.out.items ≡ written f ++ x) × (s.containers.items ≡ containers_of f)
 
 abbrev pub IsWritten : Speller → Partial → Part → Type 0
 IsWritten s f c = Stands s f (partial_bytes (unfinished c))
@@ -67,8 +67,8 @@ abbrev pub entries_in : Major → ℕ → ℕ
 entries_in Map k = k / 2
 entries_in m k = k
 
--- y is x with what is owed at the end of a container of k nodes
-abbrev pub IsEnded : Ending → ℕ → List ℕ → List ℕ → Type 0
-IsEnded Nothing k x y = y ≡ x
-IsEnded Break k x y = y ≡ x ++ ending Endless
-IsEnded (Later m w p) k x y = p < length x → y ≡ with_head m w (entries_in m k) p x
+-- y is x with what is owed at the end of a container of k nodes, whose head is at the offset p
+abbrev pub IsEnded : Ending → ℕ → ℕ → List ℕ → List ℕ → Type 0
+IsEnded Nothing k p x y = y ≡ x
+IsEnded Break k p x y = y ≡ x ++ ending Endless
+IsEnded (Later m w) k p x y = p < length x → y ≡ with_head m w (entries_in m k) p x

@@ -1,18 +1,28 @@
-use Rattle.std.proofs.Common.{refl, ap}
+use Rattle.std.proofs.Common.{refl, ap, ◌∙◌, ◌∷◌, append_assoc}
 use Rattle.cborn_edn.specs.declared.states.Writer.{Writer}
+use Rattle.cborn_lex.specs.declared.classes.Mark.TheVariants.{Absent}
+use Rattle.cborn_edn.specs.Says.{tag_errors}
+use Rattle.cborn_edn.specs.devices.MeaningErrors.{first_error}
+use Rattle.cborn_edn.specs.devices.Kept.{bracket, brackets_of, arounds_of, bytes_around}
+use Rattle.cborn_edn.specs.devices.Noted.{noted, noted_stack}
+use Rattle.cborn_edn.specs.devices.Said.{faults}
 use Rattle.cborn_edn.specs.devices.Syntax.{tag}
 use Rattle.cborn_edn.specs.devices.Machine.{in_tag, has}
 use Rattle.cborn_edn.specs.devices.Handed.{states_around}
 use Rattle.cborn_edn.proofs.Reader.Results.{on_ok}
 use Rattle.cborn_edn.proofs.Reader.Showing.{same_around}
-use Rattle.cborn_edn.proofs.Reader.Closed.{closed_tag}
+use Rattle.cborn_edn.proofs.Reader.Closed.{closed}
+use Rattle.cborn_edn.proofs.Reader.Rows.{AtEnd}
 use Rattle.cborn_edn.proofs.HandedOver.Closings.{hands_tag_end}
 use Rattle.cborn_edn.proofs.containers.close_tag.Goals as goal
 
 pub returns : goal.returns
 returns g c = on_ok c.hand.result (λ step st s a n m i r.
     let from = has (in_tag st s n m) i in
-    let e = closed_tag c.args.here.now c.shut.new.here c.args.writer.now c.shut.new.writer c.hand.new.spellers c.shut.result st s a n m i r.shows c.shut.ensures.top in
+    let v = r.shows in
+    let q : AtEnd c.args.here.now c.args.writer.now c.args.writer.now.pieces.items _ (bracket st 0 Absent ∷ brackets_of st) (arounds_of st) (noted from) (bytes_around st) = record { count = refl; brackets = v.brackets; around = v.around; string = v.string; chunks = v.chunks; error = v.error; start = v.start; pieces = v.pieces } in
+    let error = ap (λ (y : Writer). y.error) c.shut.ensures.rest ∙ v.error ∙ ap first_error (append_assoc (noted_stack st) (tag_errors s.start m n) (faults i)) in
+    let e = closed c.args.here.now c.shut.new.here c.args.writer.now c.shut.new.writer c.shut.new.writer.error c.hand.new.spellers c.shut.result st 0 _ Absent (noted from) (tag s n m i a) q c.shut.ensures.top error in
     record {
       shows = e;
       handed = step from (has st (tag s n m i a)) (states_around st) e.error (hands_tag_end st s a n m i) (same_around (g.V.Visitor.holds c.args.visitor.now) c.args.writer.now.spellers c.shut.new.writer.spellers from (states_around st) (states_around st) (ap (λ (y : Writer). y.spellers) c.shut.ensures.rest) refl r.handed);

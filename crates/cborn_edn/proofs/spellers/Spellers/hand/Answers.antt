@@ -1,6 +1,16 @@
+use Rattle.std.proofs.Common.{◌∙◌, sym, ◌-◌, ◌+◌, ◌≡◌, ◌<◌, arith, take, length}
+use mathlib.Core.List.{reverse}
+use Rattle.cborn_edn.proofs.Reader.Opened.{reverse-at, reverse-set}
 use Rattle.cborn_edn.proofs.Reader.Results.{on_ok}
 use Rattle.cborn_edn.proofs.HandedOver.Handing.{taken}
 use Rattle.cborn_edn.proofs.spellers.Spellers.hand.Goals as goal
 
 pub returns : goal.returns
-returns c = on_ok c.put.result (λ put p ps e. taken c.args.event c.args.place c.args.content.now c.in-Some.innermost c.hand_to.new.visitor c.args.self.now c.shut.new.self c.put.new.self c.in-Some.ensures put c.in_ok-hand_to.ensures p ps e) c.put.ensures
+returns c =
+    let xs = c.self.inside.spellers.items in
+    let n = c.self.inside.depth in
+    let p = c.index_mut.result.now in
+    let q = c.hand_to.new.visitor in
+    let is : n ≡ n - 1 + 1 = omega (arith, c.if-self-eq0.false) in
+    let few : n - 1 < length xs = omega (arith, c.if-self-eq0.false, c.self.invariant) in
+    on_ok c.hand_to.result (taken c.args.event c.args.place c.args.content.now p q c.args.self.now (reverse (take (n - 1) xs)) _ (sym c.self.view_is ∙ reverse-at xs (n - 1) n p is few c.index_mut.ensures.value) (reverse-set xs (n - 1) n q is few)) c.hand_to.ensures

@@ -1,5 +1,11 @@
-use Rattle.cborn_edn.proofs.Reader.Results.{on_ok}
+use Rattle.std.proofs.Common.{◌∙◌, ap, ◌∷◌, ◌+◌, refl, List}
+use mathlib.Core.List.{reverse}
+use Rattle.cborn_wire.specs.declared.spellers.Speller.{Speller}
+use Rattle.cborn_edn.proofs.Reader.Opened.{reverse-set}
 use Rattle.cborn_edn.proofs.spellers.Spellers.open.Goals as goal
 
 pub returns : goal.returns
-returns c = on_ok c.put.result (λ put. (c.new-speller.result, put, c.new-speller.ensures)) c.put.ensures
+returns c =
+    let n = c.self.inside.depth in
+    let p = c.clear.new.self in
+    (p, reverse-set c.make_room.new.spellers.items n (n + 1) p refl c.in_ok-make_room.ensures.room ∙ ap (λ (l : List Speller). p ∷ reverse l) c.in_ok-make_room.ensures.kept ∙ ap (λ (l : List Speller). p ∷ l) c.self.view_is, c.clear.ensures)
