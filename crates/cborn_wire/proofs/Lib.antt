@@ -2,6 +2,7 @@ pub mod Machine
 pub mod Spelled
 pub mod HeadReading
 pub mod Building
+pub mod Shifting
 pub mod Standing
 pub mod Feeding
 pub mod Parts

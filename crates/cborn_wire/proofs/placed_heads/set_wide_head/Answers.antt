@@ -1,15 +1,19 @@
-use Rattle.std.proofs.Common.{◌≡◌, ◌+◌, ◌++◌, subst, List, ℕ, take, drop, arith}
-use Rattle.std.specs.Prelude.{None, OnOk}
+use Rattle.std.proofs.Common.{rules, ◌≡◌, ◌+◌, ◌++◌, ◌≤◌, subst, List, ℕ, take, drop, length, arith}
+use Rattle.std.proofs.lemmas.List.{length-take-le}
 use Rattle.std.proofs.lemmas.Grind.{common_steps}
 use Rattle.cborn_model.specs.declared.heads.Size.TheVariants.{Fixed}
 use Rattle.cborn_model.specs.Heads.{head, argument}
 use Rattle.cborn_model.specs.Partial.{ended_size}
+use Rattle.std.specs.Prelude.{None}
+use Rattle.cborn_wire.proofs.Shifting.{placed}
 use Rattle.cborn_wire.proofs.placed_heads.set_wide_head.Goals as goal
 
 pub returns : goal.returns
 returns c =
     let old = c.args.out.now.items in
     let start = c.args.start in
-    let first = c.first_bytes-len.result in
-    let is : take first.1 first.0 ≡ head c.args.major (argument (ended_size (Fixed c.args.least) None c.args.n) c.args.n) = grind (arith, common_steps) in
-    subst (λ (x : List ℕ). OnOk c.set_bytes.result (c.set_bytes.new.out.items ≡ take start old ++ (x ++ drop (start + 1) old))) is c.set_bytes.ensures
+    let first = c.first_bytes-len in
+    let fits : first.result.1 ≤ length first.result.0 = search rules in
+    let is : take first.result.1 first.result.0 ≡ head c.args.major (argument (ended_size (Fixed c.args.least) None c.args.n) c.args.n) = grind (arith, common_steps) in
+    subst (λ (x : List ℕ). c.write_at.new.out.items ≡ take start old ++ (x ++ drop (start + 1) old)) is
+    (placed old c.make_room.new.out.items c.write_at.new.out.items (take first.result.1 first.result.0) start first.result.1 first.ensures.some (length-take-le first.result.1 first.result.0 fits) c.in_ok-make_room.ensures.before c.in_ok-make_room.ensures.after c.write_at.ensures)
