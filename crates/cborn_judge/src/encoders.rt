@@ -409,14 +409,13 @@ impl<O: KeyOrder> Visitor for Encoder<O> {
     }
 
     fn close(&mut self) -> Result<(), AllocError> {
-        let Level {
-            container,
-            count: items,
-            ..
-        } = self.encodings.innermost;
-        match container {
-            Container::Array { size, count } if items < 24 => self.end_array(size, count),
-            Container::Map { size, count } if self.is_tiny() => self.end_rising(size, count),
+        let level = self.encodings.innermost;
+        match level.container {
+            Container::Array { size, count } if level.count < 24 => self.end_array(size, count),
+            Container::Map { size, count }
+                if self.encodings.pairs.count_from(level.pairs) < 2 && !level.flawed => {
+                self.end_rising(size, count)
+            }
             Container::Tag { width, number } if number != 2 && number != 3 => {
                 self.end_tag(width, number)
             }

@@ -118,16 +118,6 @@ impl<O: KeyOrder> Encoder<O> {
         }
     }
 
-    /// Whether the innermost container, a map, means something and has at most one pair.
-    #[inline(always)]
-    pub(crate) fn is_tiny(&self) -> bool
-        ensures sound { result ≡ true → self.now.encodings.innermost.flawed ≡ false }
-        ensures few { result ≡ true → length (drop self.now.encodings.innermost.pairs (marks_of self.now.encodings.pairs)) < 2 }
-    {
-        let level = &self.encodings.innermost;
-        self.encodings.pairs.count_from(level.pairs) < 2 && !level.flawed
-    }
-
     /// Ends an array.
     #[inline(always)]
     pub(crate) fn end_array(&mut self, size: Size, count: Option<u64>) -> Result<(), AllocError>
@@ -271,12 +261,14 @@ fn end_array(
     ensures { IfOk result (λ found. (order : List ℕ → List ℕ → Ordering) → EndsWell order level (an_array level.place size count) [] out.old.items out.new.items found) }
 {
     let len = level.count;
-    let major = Major::Array;
-    let head = Head { major, count, len };
+    let head = Head {
+        major: Major::Array,
+        count,
+        len,
+    };
     end_head(alloc, head, level.start, level.flawed, out)?;
-    let flaw = None;
     let defect = ended_defect(level.place, size, count, len);
-    Ok(Findings { flaw, defect })
+    Ok(Findings { flaw: None, defect })
 }
 
 /// Ends a map of `len` pairs that means something, and whose keys rise.
