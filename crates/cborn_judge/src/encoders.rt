@@ -146,7 +146,7 @@ impl Encodings {
     {
         match self.innermost.container {
             Container::Map { .. } if has_key => self.pairs.set_end(end),
-            Container::Map { .. } => self.pairs.push(place, start, end),
+            Container::Map { .. } => self.pairs.push_pair(place, start, end, end),
             _ => Ok(()),
         }
     }

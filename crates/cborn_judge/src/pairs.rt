@@ -55,14 +55,6 @@ impl Pairs {
         self.len().saturating_sub(from) as u64
     }
 
-    /// Marks a key, whose value is missing.
-    #[inline(always)]
-    pub(crate) fn push(&mut self, place: u64, start: usize, end: usize) -> Result<(), AllocError>
-        ensures { OnOk result (marks_of self.new ≡ marks_of self.old ++ (place, start, end, end) ∷ []) }
-    {
-        self.push_pair(place, start, end, end)
-    }
-
     /// Marks where the value of the last key ends.
     #[inline(always)]
     pub(crate) fn set_end(&mut self, end: usize) -> Result<(), AllocError>
@@ -89,7 +81,8 @@ impl Pairs {
         Ok(())
     }
 
-    /// Marks a key and its value. The marks are narrow as a rule, and there is room for one more.
+    /// Marks a key and its value, which is empty while it is missing. The marks are narrow as a rule, and
+    /// there is room for one more.
     #[inline(never)]
     pub(crate) fn push_pair(
         &mut self,
