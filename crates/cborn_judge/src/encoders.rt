@@ -329,6 +329,7 @@ impl<O: KeyOrder> Encoder<O> {
         if self.encodings.outer.len() != self.encodings.outer.capacity() {
             return self.add(container, place, major, argument);
         }
+        // a copy, so that the short way needs the container nowhere in memory
         let opened = container;
         self.open_slowly(opened, place, major, argument)
     }
