@@ -18,21 +18,22 @@ pub fn put_head(major: Major, n: u64, out: &mut Vec<u8>) -> Result<(), AllocErro
     ensures appended { OnOk result (Appends (IsLeastHead (code major) n) out.old.items out.new.items) }
     ensures kept { OnErr result (out.new.items ≡ out.old.items) }
 {
-    if n < 24 {
+    if n < 24 && out.len() != out.capacity() {
         out.push(major.initial_byte(n as u8))?;
         return Ok(());
     }
-    put_wide_head(major, n, out)
+    put_long_head(major, n, out)
 }
 
-/// Appends the shortest head with an argument that doesn't fit the initial byte.
+/// What [`put_head`] does where the argument doesn't fit the initial byte, or memory has to grow.
 #[inline(never)]
-fn put_wide_head(major: Major, n: u64, out: &mut Vec<u8>) -> Result<(), AllocError>
-    requires { 24 ≤ n }
+fn put_long_head(major: Major, n: u64, out: &mut Vec<u8>) -> Result<(), AllocError>
     ensures appended { OnOk result (Appends (IsLeastHead (code major) n) out.old.items out.new.items) }
     ensures kept { OnErr result (out.new.items ≡ out.old.items) }
 {
-    if n < 256 {
+    if n < 24 {
+        out.extend_from_slice(&[major.initial_byte(n as u8)])
+    } else if n < 256 {
         out.extend_from_slice(&[major.initial_byte(24), n as u8])
     } else if n < 65536 {
         push_two(major.initial_byte(25), n as u16, out)

@@ -14,7 +14,7 @@ ghost use Rattle.cborn_judge.specs.shared.Judged.{FlawIn};
 ghost use Rattle.cborn_model.specs.Heads.{code, IsLeastHead};
 ghost use Rattle.cborn_det.specs.Appending.{Appends};
 ghost use Rattle.cborn_judge.specs.devices.Marks.{marks_of};
-ghost use Rattle.cborn_judge.specs.devices.Encoding.{is_chunks, IsMarked, Coded, IsEncodedAs, AreEncodedAs, IsOpening, IsFront, Stands, Finds};
+ghost use Rattle.cborn_judge.specs.devices.Encoding.{opened, is_chunks, IsMarked, Coded, IsEncodedAs, AreEncodedAs, IsOpening, IsFront, Stands, Finds};
 ghost use Rattle.cborn_judge.specs.devices.Encoders.{kept, IsHeld, StandsIn, StandsAs, Written, IsChunk, BeginsAs, IsContent, IsEndedString, IsStringFront, kind_major};
 
 use crate::flaws::{Flaw, keep, text_flaw};
@@ -86,7 +86,7 @@ impl Encodings {
     {
         Encodings {
             out,
-            innermost: Level::new(Container::Input, 0, 0, 0, 0),
+            innermost: Level::new(Container::Input, 0, 0, 0),
             outer: Vec::new(alloc),
             pairs: Pairs::new(alloc),
             spare: Vec::new(alloc),
@@ -146,7 +146,7 @@ impl Encodings {
     {
         match self.innermost.container {
             Container::Map { .. } if has_key => self.pairs.set_end(end),
-            Container::Map { .. } => self.pairs.push(place, start, end),
+            Container::Map { .. } => self.pairs.push_pair(place, start, end, end),
             _ => Ok(()),
         }
     }
@@ -159,18 +159,13 @@ impl Encodings {
         self.innermost.add(flawed);
     }
 
-    /// Opens a container at the offset `place`. What stands in the buffer from `start` on is the
-    /// front of its encoding.
+    /// Opens a container at the offset `place`, whose encoding will begin where the buffer ends.
     #[inline(always)]
-    pub(crate) fn open(
-        &mut self,
-        container: Container,
-        place: u64,
-        start: usize,
-    ) -> Result<(), AllocError>
-        ensures held { OnOk result ((order : List ℕ → List ℕ → Ordering) (f : Partial) (o : Opening) (y h : List ℕ) → self.old.out.items ≡ y ++ h → start ≡ length y → IsOpening container place o → IsFront o h → StandsAs order self.old f y → StandsIn order self.new (inside f o [])) }
+    fn push_level(&mut self, container: Container, place: u64) -> Result<(), AllocError>
+        ensures pushed { OnOk result ((self.new.outer.items ≡ self.old.outer.items ++ self.old.innermost ∷ []) × (self.new.innermost ≡ opened container place (length self.old.out.items) (length (marks_of self.old.pairs)))) }
+        ensures kept { (self.new.out ≡ self.old.out) × (self.new.pairs ≡ self.old.pairs) }
     {
-        let level = Level::new(container, place, start, self.out.len(), self.pairs.len());
+        let level = Level::new(container, place, self.out.len(), self.pairs.len());
         self.outer.push(self.innermost)?;
         self.innermost = level;
         Ok(())
@@ -319,7 +314,9 @@ impl<O: KeyOrder> Encoder<O> {
     }
 
     /// Opens a container at the offset `place`, whose encoding begins with the head of this major type
-    /// and this argument; where the argument isn't known, with a byte in its place.
+    /// and this argument; where the argument isn't known, with a byte in its place. As a rule there is
+    /// room for its level.
+    #[inline(always)]
     fn open(
         &mut self,
         container: Container,
@@ -329,9 +326,43 @@ impl<O: KeyOrder> Encoder<O> {
     ) -> Result<(), AllocError>
         ensures held { OnOk result ((f : Partial) (o : Opening) → BeginsAs container place major argument o → IsHeld O.order self.old f no_part → IsHeld O.order self.new (inside f o []) no_part) }
     {
-        let start = self.encodings.out.len();
-        push_front(major, argument, &mut self.encodings.out)?;
-        self.encodings.open(container, place, start)
+        if self.encodings.outer.len() != self.encodings.outer.capacity() {
+            return self.add(container, place, major, argument);
+        }
+        // a copy, so that the short way needs the container nowhere in memory
+        let opened = container;
+        self.open_slowly(opened, place, major, argument)
+    }
+
+    /// What [`Encoder::open`] does where memory has to grow.
+    #[inline(never)]
+    fn open_slowly(
+        &mut self,
+        container: Container,
+        place: u64,
+        major: Major,
+        argument: Option<u64>,
+    ) -> Result<(), AllocError>
+        ensures held { OnOk result ((f : Partial) (o : Opening) → BeginsAs container place major argument o → IsHeld O.order self.old f no_part → IsHeld O.order self.new (inside f o []) no_part) }
+    {
+        self.add(container, place, major, argument)
+    }
+
+    /// What [`Encoder::open`] does.
+    #[inline(always)]
+    fn add(
+        &mut self,
+        container: Container,
+        place: u64,
+        major: Major,
+        argument: Option<u64>,
+    ) -> Result<(), AllocError>
+        ensures held { OnOk result ((f : Partial) (o : Opening) → BeginsAs container place major argument o → IsHeld O.order self.old f no_part → IsHeld O.order self.new (inside f o []) no_part) }
+    {
+        self.encodings.push_level(container, place)?;
+        put_head(major, argument.unwrap_or(0), &mut self.encodings.out)?;
+        self.encodings.innermost.content = self.encodings.out.len();
+        Ok(())
     }
 }
 
@@ -379,18 +410,17 @@ impl<O: KeyOrder> Visitor for Encoder<O> {
     }
 
     fn close(&mut self) -> Result<(), AllocError> {
-        match self.encodings.innermost.container {
-            Container::Input => Ok(()),
-            Container::Array { size, count } if self.is_short(size, count) => {
-                self.end_array(size, count)
+        let level = self.encodings.innermost;
+        match level.container {
+            Container::Array { size, count } if level.count < 24 => self.end_array(size, count),
+            Container::Map { size, count }
+                if self.encodings.pairs.count_from(level.pairs) < 2 && !level.flawed => {
+                self.end_rising(size, count)
             }
-            Container::Array { size, count } => self.close_array(size, count),
-            Container::Map { size, count } => self.close_map(size, count),
-            Container::Tag { width, number } if self.is_plain(width, number) => {
+            Container::Tag { width, number } if number != 2 && number != 3 => {
                 self.end_tag(width, number)
             }
-            Container::Tag { width, number } => self.close_tag(width, number),
-            Container::Chunks(kind) => self.close_chunks(kind),
+            _ => self.close_slowly(),
         }
     }
 
@@ -464,22 +494,6 @@ pub(crate) fn major_of(kind: StringKind) -> Major
     match kind {
         StringKind::OfBytes => Major::ByteString,
         StringKind::OfText => Major::TextString,
-    }
-}
-
-/// Writes the front of a container: its head with this argument, or a byte in its place where the
-/// argument isn't known.
-#[inline(always)]
-fn push_front(major: Major, argument: Option<u64>, out: &mut Vec<u8>) -> Result<(), AllocError>
-    ensures known { OnOk result ((n : ℕ) → argument ≡ Some n → Appends (IsLeastHead (code major) n) out.old.items out.new.items) }
-    ensures unknown { OnOk result (argument ≡ None → Appends (λ h. length h ≡ 1) out.old.items out.new.items) }
-{
-    match argument {
-        Some(n) => put_head(major, n, out),
-        None => {
-            out.push(0)?;
-            Ok(())
-        }
     }
 }
 

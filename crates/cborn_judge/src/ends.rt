@@ -1,7 +1,7 @@
 //! How containers end while items are encoded: what they are encoded as, and what is wrong with
 //! them.
 
-ghost use Rattle.std.specs.Prelude.{◌≡◌, ◌++◌, ◌∷◌, ◌<◌, ℕ, List, [], length, take, drop, true, false, None, Some, IfOk, IfSome, OnOk};
+ghost use Rattle.std.specs.Prelude.{◌≡◌, ◌++◌, ◌∷◌, ◌<◌, ℕ, List, [], length, take, drop, true, false, Option, None, Some, IfOk, IfSome, OnOk};
 ghost use Rattle.std.specs.declared.cmp.Ordering.{Ordering};
 ghost use Rattle.cborn_model.specs.Partial.{Partial, Opening, an_array, a_map, a_tag, in_chunks, inside, put, no_part, IsFree, Ends, built};
 ghost use Rattle.cborn_model.specs.Heads.{code, IsLeastHead};
@@ -14,20 +14,20 @@ ghost use Rattle.cborn_model.specs.Value.{Value};
 ghost use Rattle.cborn_det.specs.Appending.{Replaces};
 ghost use Rattle.cborn_det.specs.Det.{Det, joined};
 ghost use Rattle.cborn_judge.specs.Departures.{FindsDefect};
-ghost use Rattle.cborn_judge.specs.shared.Judged.{FindsFlaw};
+ghost use Rattle.cborn_judge.specs.shared.Judged.{FindsFlaw, IsEarliestFlaw};
 ghost use Rattle.cborn_judge.specs.devices.Encoding.{Row, row_entries, Mark, AreMarked, AreFilled, AreArranged, RowRepeat, RowDescent, IsSound, AreEncodedAs, Coded, Stands, Finds};
 ghost use Rattle.cborn_judge.specs.devices.Marks.{marks_of};
 ghost use Rattle.cborn_judge.specs.devices.Encoders.{EndsWell, EndsBignum, Closes, HasEnded, KeysRise, IsBignumFound, StandsIn, IsHeld};
 ghost use Rattle.cborn_judge.specs.declared.levels.Container.TheVariants as container;
 
 use crate::encoders::{Encoder, Encodings, major_of};
-use crate::flaws::{Flaw, keep};
+use crate::flaws::{Flaw, keep, keep_earlier, may_precede};
 use crate::levels::{Container, Level};
 use crate::spellings::{ended_defect, head_defect, loose_defect};
 use cborn_det::{push_integer, set_head};
 use cborn_model::{
     Defect, DefectReason, InvalidReason, KeyOrder, Major, Size, StringKind, Width, earliest,
-    shortest, without_zeros,
+    without_zeros,
 };
 use std::alloc::{AllocError, Global};
 
@@ -39,11 +39,10 @@ pub(crate) struct Findings {
 }
 
 impl Encodings {
-    /// Leaves the innermost container, whose encoding stands in the buffer, or nothing if it means
-    /// nothing, and counts it in the one around it.
+    /// Leaves the innermost container, which has ended, and counts it in the one around it.
     #[inline(always)]
     pub(crate) fn leave(&mut self) -> Result<(), AllocError>
-        ensures held { OnOk result ((order : List ℕ → List ℕ → Ordering) (f : Partial) (t : Tree) (os : List Level) (l : Level) (x c : List ℕ) → IsFree f → tree.place t ≡ self.old.innermost.place → self.old.outer.items ≡ os ++ l ∷ [] → self.old.out.items ≡ x ++ c → self.old.innermost.start ≡ length x → Coded order t c → Stands order os l f (marks_of self.old.pairs) x → StandsIn order self.new (put f t)) }
+        ensures held { OnOk result ((order : List ℕ → List ℕ → Ordering) (f : Partial) (o : Opening) (ts : List Tree) (found : Findings) → IsFree f → HasEnded order self.old f o ts found → StandsIn order self.new (put f (built o ts))) }
     {
         let Level { place, start, .. } = self.innermost;
         self.step_out();
@@ -74,7 +73,7 @@ impl Encodings {
         ensures marks { IfOk result (λ found. take level.pairs (marks_of self.new.pairs) ≡ take level.pairs (marks_of self.old.pairs)) }
         ensures kept { (self.new.outer ≡ self.old.outer) × (self.new.innermost ≡ self.old.innermost) }
     {
-        let len = self.pairs.len().saturating_sub(level.pairs) as u64;
+        let len = self.pairs.count_from(level.pairs);
         let own = ended_defect(level.place, size, count, len);
         let Findings { flaw, defect } = self.arrange::<O>(level)?;
         let major = Major::Map;
@@ -105,38 +104,18 @@ impl Encodings {
 }
 
 impl<O: KeyOrder> Encoder<O> {
-    /// Ends an array that isn't short.
+    /// Ends the innermost container, whatever it is.
     #[inline(never)]
-    pub(crate) fn close_array(&mut self, size: Size, count: Option<u64>) -> Result<(), AllocError>
-        requires { self.old.encodings.innermost.container ≡ container.Array size count }
+    pub(crate) fn close_slowly(&mut self) -> Result<(), AllocError>
         ensures held { OnOk result (Closes O.order self.old self.new) }
     {
-        self.end_array(size, count)
-    }
-
-    /// Ends a tag that isn't plain.
-    #[inline(never)]
-    pub(crate) fn close_tag(&mut self, width: Width, number: u64) -> Result<(), AllocError>
-        requires { self.old.encodings.innermost.container ≡ container.Tag width number }
-        ensures held { OnOk result (Closes O.order self.old self.new) }
-    {
-        self.end_tag(width, number)
-    }
-
-    /// Whether the innermost container, an array of this size and count, means something and has a head
-    /// of one byte.
-    #[inline(always)]
-    pub(crate) fn is_short(&self, size: Size, count: Option<u64>) -> bool {
-        let level = &self.encodings.innermost;
-        let len = count.unwrap_or(level.count);
-        !level.flawed && len < 24 && size == Size::Fixed(Width::Direct)
-    }
-
-    /// Whether the innermost container, a tag, adds no flaw and no defect and stands in the buffer as it is
-    /// encoded.
-    #[inline(always)]
-    pub(crate) fn is_plain(&self, width: Width, number: u64) -> bool {
-        !self.encodings.innermost.flawed && number != 2 && number != 3 && width == shortest(number)
+        match self.encodings.innermost.container {
+            Container::Input => Ok(()),
+            Container::Array { size, count } => self.end_array(size, count),
+            Container::Map { size, count } => self.end_map(size, count),
+            Container::Tag { width, number } => self.end_tag(width, number),
+            Container::Chunks(kind) => self.end_chunks(kind),
+        }
     }
 
     /// Ends an array.
@@ -151,29 +130,36 @@ impl<O: KeyOrder> Encoder<O> {
     }
 
     /// Ends a map.
-    #[inline(never)]
-    pub(crate) fn close_map(&mut self, size: Size, count: Option<u64>) -> Result<(), AllocError>
+    #[inline(always)]
+    fn end_map(&mut self, size: Size, count: Option<u64>) -> Result<(), AllocError>
         requires { self.old.encodings.innermost.container ≡ container.Map size count }
         ensures held { OnOk result (Closes O.order self.old self.new) }
     {
-        let level = self.encodings.innermost;
-        if level.flawed
-            || !self
-                .encodings
-                .pairs
-                .rise::<O>(level.pairs, &self.encodings.out)
-        {
-            return self.close_unsorted(size, count);
+        let Level { flawed, pairs, .. } = self.encodings.innermost;
+        if !flawed && self.encodings.pairs.rise::<O>(pairs, &self.encodings.out) {
+            return self.end_rising(size, count);
         }
-        let len = self.encodings.pairs.len().saturating_sub(level.pairs) as u64;
-        let found = end_rising(self.alloc, level, size, count, len, &mut self.encodings.out)?;
+        self.end_unsorted(size, count)
+    }
+
+    /// Ends a map that means something, and whose keys rise.
+    #[inline(always)]
+    pub(crate) fn end_rising(&mut self, size: Size, count: Option<u64>) -> Result<(), AllocError>
+        requires map { self.old.encodings.innermost.container ≡ container.Map size count }
+        requires sound { self.old.encodings.innermost.flawed ≡ false }
+        requires rising { KeysRise O.order self.old.encodings.innermost (drop self.old.encodings.innermost.pairs (marks_of self.old.encodings.pairs)) self.old.encodings.out.items }
+        ensures held { OnOk result (Closes O.order self.old self.new) }
+    {
+        let level = self.encodings.innermost;
+        let len = self.encodings.pairs.count_from(level.pairs);
         self.encodings.pairs.truncate(level.pairs);
+        let found = end_rising(self.alloc, level, size, count, len, &mut self.encodings.out)?;
         self.leave(found)
     }
 
     /// Ends a map that is flawed, or whose keys don't rise.
     #[inline(never)]
-    fn close_unsorted(&mut self, size: Size, count: Option<u64>) -> Result<(), AllocError>
+    fn end_unsorted(&mut self, size: Size, count: Option<u64>) -> Result<(), AllocError>
         requires { self.old.encodings.innermost.container ≡ container.Map size count }
         ensures held { OnOk result (Closes O.order self.old self.new) }
     {
@@ -197,7 +183,7 @@ impl<O: KeyOrder> Encoder<O> {
 
     /// Ends a string of indefinite length.
     #[inline(never)]
-    pub(crate) fn close_chunks(&mut self, kind: StringKind) -> Result<(), AllocError>
+    fn end_chunks(&mut self, kind: StringKind) -> Result<(), AllocError>
         requires { self.old.encodings.innermost.container ≡ container.Chunks kind }
         ensures held { OnOk result (Closes O.order self.old self.new) }
     {
@@ -206,13 +192,26 @@ impl<O: KeyOrder> Encoder<O> {
         self.leave(found)
     }
 
-    /// Leaves the innermost container, which has ended, and keeps what it adds to flaws and defects.
+    /// Leaves the innermost container, which has ended, and keeps what it adds to flaws and defects. As a
+    /// rule that is nothing, or comes after what was found so far.
     #[inline(always)]
     fn leave(&mut self, found: Findings) -> Result<(), AllocError>
         ensures held { OnOk result ((f : Partial) (o : Opening) (ts : List Tree) → IsFree f → Ends o ts → HasEnded O.order self.old.encodings f o ts found → Finds O.order (inside f o ts) self.old.flaw self.old.defect → IsHeld O.order self.new (put f (built o ts)) no_part) }
     {
         keep(&mut self.flaw, found.flaw);
-        keep(&mut self.defect, found.defect);
+        match found.defect {
+            Some(defect) if may_precede(self.defect, defect) => self.leave_loose(defect),
+            _ => self.encodings.leave(),
+        }
+    }
+
+    /// What [`Encoder::leave`] does, once a flaw is kept, where a defect is.
+    #[cold]
+    #[inline(never)]
+    fn leave_loose(&mut self, defect: Defect) -> Result<(), AllocError>
+        ensures held { OnOk result ((f : Partial) (o : Opening) (ts : List Tree) (flaw : Option Flaw) (found : Findings) → IsFree f → Ends o ts → found.defect ≡ Some defect → IsEarliestFlaw flaw found.flaw self.old.flaw → HasEnded O.order self.old.encodings f o ts found → Finds O.order (inside f o ts) flaw self.old.defect → IsHeld O.order self.new (put f (built o ts)) no_part) }
+    {
+        keep_earlier(&mut self.defect, defect);
         self.encodings.leave()
     }
 }
@@ -261,13 +260,15 @@ fn end_array(
 ) -> Result<Findings, AllocError>
     ensures { IfOk result (λ found. (order : List ℕ → List ℕ → Ordering) → EndsWell order level (an_array level.place size count) [] out.old.items out.new.items found) }
 {
-    let len = count.unwrap_or(level.count);
-    let major = Major::Array;
-    let head = Head { major, count, len };
+    let len = level.count;
+    let head = Head {
+        major: Major::Array,
+        count,
+        len,
+    };
     end_head(alloc, head, level.start, level.flawed, out)?;
-    let flaw = None;
     let defect = ended_defect(level.place, size, count, len);
-    Ok(Findings { flaw, defect })
+    Ok(Findings { flaw: None, defect })
 }
 
 /// Ends a map of `len` pairs that means something, and whose keys rise.

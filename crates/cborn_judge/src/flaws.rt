@@ -35,8 +35,7 @@ pub(crate) fn text_flaw(place: u64, is_good: bool) -> Option<Flaw>
     Some(Flaw { place, reason })
 }
 
-/// Keeps the first of what was found so far and what was found next. As a rule nothing was found
-/// next, or at a higher place.
+/// Keeps the first of what was found so far and what was found next.
 #[inline(always)]
 pub(crate) fn keep<F: Fault>(first: &mut Option<F>, next: Option<F>)
     ensures { IsEarliest F.key first.old next first.new }
@@ -44,18 +43,26 @@ pub(crate) fn keep<F: Fault>(first: &mut Option<F>, next: Option<F>)
     let Some(fault) = next else {
         return;
     };
-    if let Some(so_far) = *first {
-        if so_far.place_and_number().0 < fault.place_and_number().0 {
-            return;
-        }
+    if may_precede(*first, fault) {
+        keep_earlier(first, fault);
     }
-    keep_earlier(first, fault);
+}
+
+/// Whether `fault` may come before what was found so far. As a rule it is at a higher place.
+#[inline(always)]
+pub(crate) fn may_precede<F: Fault>(first: Option<F>, fault: F) -> bool
+    ensures { result ≡ false → IsEarliest F.key first (Some fault) first }
+{
+    match first {
+        Some(so_far) => so_far.place_and_number().0 >= fault.place_and_number().0,
+        None => true,
+    }
 }
 
 /// What [`keep`] does where something was found that may come first.
 #[cold]
 #[inline(never)]
-fn keep_earlier<F: Fault>(first: &mut Option<F>, fault: F)
+pub(crate) fn keep_earlier<F: Fault>(first: &mut Option<F>, fault: F)
     ensures { IsEarliest F.key first.old (Some fault) first.new }
 {
     *first = earliest(*first, Some(fault));

@@ -1,7 +1,7 @@
 //! What is open while items are encoded.
 
-ghost use Rattle.std.specs.Prelude.{◌≡◌, false};
-ghost use Rattle.cborn_judge.specs.devices.Encoding.{after, after_items, has_key, is_chunks};
+ghost use Rattle.std.specs.Prelude.{◌≡◌};
+ghost use Rattle.cborn_judge.specs.devices.Encoding.{opened, after, after_items, has_key, is_chunks};
 
 use cborn_model::{Size, StringKind, Width};
 
@@ -36,22 +36,16 @@ pub(crate) struct Level {
 }
 
 impl Level {
-    /// A container in which nothing is whole yet.
+    /// A container in which nothing stands yet.
     #[inline(always)]
-    pub(crate) fn new(
-        container: Container,
-        place: u64,
-        start: usize,
-        content: usize,
-        pairs: usize,
-    ) -> Level
-        ensures { result ≡ record { container = container; place = place; start = start; content = content; pairs = pairs; count = 0; flawed = false } }
+    pub(crate) fn new(container: Container, place: u64, start: usize, pairs: usize) -> Level
+        ensures { result ≡ opened container place start pairs }
     {
         Level {
             container,
             place,
             start,
-            content,
+            content: start,
             pairs,
             count: 0,
             flawed: false,

@@ -400,7 +400,8 @@ fn copy_pairs<S: Spot>(spots: &[S], out: &[u8], copy: &mut Vec<u8>) -> Result<()
     ensures { OnOk result (copy.new.items ≡ copy.old.items ++ flat_map (pair_of out.now) (map S.seen spots.now)) }
 {
     for spot in spots {
-        copy.extend_from_slice(pair_in(out, spot.mark()))?;
+        let mark = spot.mark();
+        copy.extend_from_slice(bytes_between(out, mark.start, mark.end))?;
     }
     Ok(())
 }
@@ -414,14 +415,6 @@ fn key_in(out: &[u8], mark: Mark) -> &[u8]
         Some(key) => key,
         None => bytes_between(out, mark.start, mark.middle),
     }
-}
-
-/// The key and the value that are marked.
-#[inline(always)]
-fn pair_in(out: &[u8], mark: Mark) -> &[u8]
-    ensures { result.now ≡ pair_of out.now (mark_of mark) }
-{
-    bytes_between(out, mark.start, mark.end)
 }
 
 /// The bytes from one offset to another, as far as there are any.

@@ -47,12 +47,12 @@ impl Pairs {
         }
     }
 
-    /// Marks a key, whose value is missing.
+    /// How many pairs are marked from the index `from` on.
     #[inline(always)]
-    pub(crate) fn push(&mut self, place: u64, start: usize, end: usize) -> Result<(), AllocError>
-        ensures { OnOk result (marks_of self.new ≡ marks_of self.old ++ (place, start, end, end) ∷ []) }
+    pub(crate) fn count_from(&self, from: usize) -> u64
+        ensures { result ≡ length (drop from (marks_of self.now)) }
     {
-        self.push_pair(place, start, end, end)
+        self.len().saturating_sub(from) as u64
     }
 
     /// Marks where the value of the last key ends.
@@ -81,7 +81,8 @@ impl Pairs {
         Ok(())
     }
 
-    /// Marks a key and its value. The marks are narrow as a rule, and there is room for one more.
+    /// Marks a key and its value, which is empty while it is missing. The marks are narrow as a rule, and
+    /// there is room for one more.
     #[inline(never)]
     pub(crate) fn push_pair(
         &mut self,
@@ -118,13 +119,10 @@ impl Pairs {
     }
 
     /// Drops all pairs but the first `len`.
+    #[inline(always)]
     pub(crate) fn truncate(&mut self, len: usize)
         ensures { marks_of self.new ≡ take len (marks_of self.old) }
     {
-        if len == 0 {
-            self.clear();
-            return;
-        }
         match &mut self.marks {
             Marks::Narrow(narrow) => narrow.truncate(len),
             Marks::Wide(wide) => wide.truncate(len),
@@ -218,16 +216,6 @@ impl Pairs {
         match &mut self.marks {
             Marks::Narrow(narrow) => Some(narrow.pop()?.mark()),
             Marks::Wide(wide) => wide.pop(),
-        }
-    }
-
-    /// Drops all pairs. Marks are narrow again from then on.
-    fn clear(&mut self)
-        ensures { marks_of self.new ≡ [] }
-    {
-        match &mut self.marks {
-            Marks::Narrow(narrow) => narrow.clear(),
-            Marks::Wide(_) => self.marks = Marks::Narrow(Vec::new(self.alloc)),
         }
     }
 }

@@ -1,6 +1,5 @@
 -- How containers end: what the nodes in them mean, the head in the place of a front, and arrays.
 use Rattle.std.proofs.Common.{◌≡◌, ℕ, ◌+◌, ◌<◌, ◌^◌, inl, inr, List, [], ◌++◌, length, take, drop, refl, sym, ap, ◌∙◌, subst, arith, true, false, Bool, Option, None, Some, append_assoc, append-nil, length-append, drop_at, take_at, Ordering}
-use Rattle.std.specs.Option.{unwrap_or}
 use Rattle.std.proofs.lemmas.Slice.Zip.{AllZip-long}
 use Rattle.cborn_model.specs.declared.heads.Size.{Size}
 use Rattle.cborn_model.specs.Heads.{IsLeastHead}
@@ -33,11 +32,6 @@ headed major n None start x front contents old new e s f l known set =
 
 -- ---- arrays
 
--- the argument of the head is that which was announced, or how many came
-pub all_counted : (count : Option ℕ) (k l n : ℕ) → l ≡ unwrap_or count k → IsAll count n → k ≡ n → l ≡ n
-all_counted (Some m) k l n is all e = is ∙ sym all
-all_counted None k l n is all e = is ∙ e
-
 module _ (order : List ℕ → List ℕ → Ordering) where
   array_coded : (p n : ℕ) (s : Size) (ts : List Tree) (h x : List ℕ) → n < 2 ^ 64 → n ≡ length ts → IsLeastHead 4 n h → AreEncodedAs order ts x → Coded order (Items p s (trees ts)) (h ++ x)
   array_coded p n s ts h x fits e l (vs, m, proper, d) =
@@ -48,15 +42,14 @@ module _ (order : List ℕ → List ℕ → Ordering) where
   array_nothing p s ts h v m = let (ws, k) = each_means ts m.0 m.1 in h ws k
 
   -- what an array leaves in the buffer
-  pub array_ends : (flawed : Bool) (p n k start : ℕ) (count : Option ℕ) (s : Size) (ts : List Tree) (x front contents old new : List ℕ) → n < 2 ^ 64 → n ≡ unwrap_or count k → IsAll count (length ts)
-      → old ≡ x ++ (front ++ contents) → start ≡ length x → IsHeadFront 4 count front → IsSound flawed ts → (flawed ≡ false → AreEncodedAs order ts contents × (k ≡ length ts))
+  pub array_ends : (flawed : Bool) (p n start : ℕ) (count : Option ℕ) (s : Size) (ts : List Tree) (x front contents old new : List ℕ) → n < 2 ^ 64 → IsAll count (length ts)
+      → old ≡ x ++ (front ++ contents) → start ≡ length x → IsHeadFront 4 count front → IsSound flawed ts → (flawed ≡ false → AreEncodedAs order ts contents × (n ≡ length ts))
       → (flawed ≡ true → new ≡ take start old)
       → (flawed ≡ false → (m : ℕ) → count ≡ Some m → new ≡ old) → (flawed ≡ false → count ≡ None → start < length old → Replaces (IsLeastHead 4 n) start old new)
       → (c : List ℕ) × Coded order (Items p s (trees ts)) c × (new ≡ x ++ c)
-  array_ends true p n k start count s ts x front contents old new fits is all e b f sound good flawed known set =
+  array_ends true p n start count s ts x front contents old new fits all e b f sound good flawed known set =
       ([], inr (refl, array_nothing p s ts sound), cut start x (front ++ contents) old new e b (flawed refl))
-  array_ends false p n k start count s ts x front contents old new fits is all e b f sound good flawed known set =
+  array_ends false p n start count s ts x front contents old new fits all e b f sound good flawed known set =
       let (coded, many) = good refl in
-      let same : n ≡ length ts = all_counted count k n (length ts) is all many in
-      let (h, least, whole) = headed 4 n count start x front contents old new e b f (subst (IsAll count) (sym same) all) (known refl) (set refl) in
-      (h ++ contents, array_coded p n s ts h contents fits same least coded, whole)
+      let (h, least, whole) = headed 4 n count start x front contents old new e b f (subst (IsAll count) (sym many) all) (known refl) (set refl) in
+      (h ++ contents, array_coded p n s ts h contents fits many least coded, whole)

@@ -1,8 +1,7 @@
 -- What a container of each kind that ends well is, by what it opens.
 use Rattle.std.proofs.Common.{◌≡◌, ℕ, List, [], ◌++◌, length, drop, drop_at, append-nil, sym, ap, ◌∙◌, subst, Bool, true, false, true≢false, Option, Ordering}
 use Rattle.cborn_model.specs.declared.heads.Size.{Size}
-use Rattle.cborn_model.specs.declared.heads.Width.{Width}
-use Rattle.cborn_model.specs.declared.visitors.StringKind.{StringKind}
+use Rattle.cborn_model.specs.declared.visitors.StringKind.TheVariants.{OfBytes}
 use Rattle.cborn_model.specs.Partial.{Partial, inside, Ends, Opening, an_array, a_map, a_tag, in_chunks}
 use Rattle.cborn_model.specs.Tree.{Tree}
 use Rattle.cborn_judge.specs.devices.Encoding.{Mark, Opens, IsSound, Inner, Stands}
@@ -14,57 +13,25 @@ use Rattle.cborn_judge.specs.declared.ends.Findings.{Findings}
 use Rattle.cborn_judge.specs.declared.levels.Container.TheVariants as container
 use Rattle.cborn_judge.specs.declared.levels.Level.{Level}
 
--- the input ends with nothing
-pub opens_nothing : (l : Level) (o : Opening) → l.container ≡ container.Input → Opens l o → ⊥
-opens_nothing l (an_array p s c) e (q, i) = cc
-opens_nothing l (a_map p s c) e (q, i) = cc
-opens_nothing l (a_tag p w n) e (q, i) = cc
-opens_nothing l (in_chunks p k) e (q, i) = cc
+-- what is open where a level stands; the input, which opens nothing, is as good as another
+abbrev pub opening_of : Container → ℕ → Opening
+opening_of (container.Array s c) p = an_array p s c
+opening_of (container.Map s c) p = a_map p s c
+opening_of (container.Tag w n) p = a_tag p w n
+opening_of (container.Chunks k) p = in_chunks p k
+opening_of container.Input p = in_chunks p OfBytes
 
-opens_array : (l : Level) (o : Opening) (s : Size) (c : Option ℕ) → l.container ≡ container.Array s c → Opens l o → an_array l.place s c ≡ o
-opens_array l (an_array p t d) s c e (q, i) = cc
-opens_array l (a_map p t d) s c e (q, i) = cc
-opens_array l (a_tag p w n) s c e (q, i) = cc
-opens_array l (in_chunks p k) s c e (q, i) = cc
-
-opens_map : (l : Level) (o : Opening) (s : Size) (c : Option ℕ) → l.container ≡ container.Map s c → Opens l o → a_map l.place s c ≡ o
-opens_map l (an_array p t d) s c e (q, i) = cc
-opens_map l (a_map p t d) s c e (q, i) = cc
-opens_map l (a_tag p w n) s c e (q, i) = cc
-opens_map l (in_chunks p k) s c e (q, i) = cc
-
-opens_tag : (l : Level) (o : Opening) (w : Width) (n : ℕ) → l.container ≡ container.Tag w n → Opens l o → a_tag l.place w n ≡ o
-opens_tag l (an_array p t d) w n e (q, i) = cc
-opens_tag l (a_map p t d) w n e (q, i) = cc
-opens_tag l (a_tag p v m) w n e (q, i) = cc
-opens_tag l (in_chunks p k) w n e (q, i) = cc
-
-opens_chunks : (l : Level) (o : Opening) (k : StringKind) → l.container ≡ container.Chunks k → Opens l o → in_chunks l.place k ≡ o
-opens_chunks l (an_array p t d) k e (q, i) = cc
-opens_chunks l (a_map p t d) k e (q, i) = cc
-opens_chunks l (a_tag p v m) k e (q, i) = cc
-opens_chunks l (in_chunks p j) k e (q, i) = cc
+opened_as : (l : Level) (o : Opening) (a : Container) → l.container ≡ a → Opens l o → opening_of a l.place ≡ o
+opened_as l (an_array p s c) a e (q, i) = λ j. opening_of ((sym e ∙ i) j) (q j)
+opened_as l (a_map p s c) a e (q, i) = λ j. opening_of ((sym e ∙ i) j) (q j)
+opened_as l (a_tag p w n) a e (q, i) = λ j. opening_of ((sym e ∙ i) j) (q j)
+opened_as l (in_chunks p k) a e (q, i) = λ j. opening_of ((sym e ∙ i) j) (q j)
 
 module _ (order : List ℕ → List ℕ → Ordering) (l : Level) (o : Opening) (own : List Mark) (old new : List ℕ) (found : Findings) where
-  pub array_well : (s : Size) (c : Option ℕ) → l.container ≡ container.Array s c → Opens l o → EndsWell order l (an_array l.place s c) [] old new found → EndsWell order l o own old new found
-  array_well s c e opens h =
-      subst (λ p. EndsWell order l p own old new found) (opens_array l o s c e opens)
-      (λ ts x z ends is start inner. h ts x z ends is start (subst (λ ms. Inner order l (an_array l.place s c) ts ms z) inner.contains.0 inner))
-
-  pub tag_well : (w : Width) (n : ℕ) → l.container ≡ container.Tag w n → Opens l o → EndsWell order l (a_tag l.place w n) [] old new found → EndsWell order l o own old new found
-  tag_well w n e opens h =
-      subst (λ p. EndsWell order l p own old new found) (opens_tag l o w n e opens)
-      (λ ts x z ends is start inner. h ts x z ends is start (subst (λ ms. Inner order l (a_tag l.place w n) ts ms z) inner.contains.0 inner))
-
-  pub chunks_well : (k : StringKind) → l.container ≡ container.Chunks k → Opens l o → EndsWell order l (in_chunks l.place k) [] old new found → EndsWell order l o own old new found
-  chunks_well k e opens h =
-      subst (λ p. EndsWell order l p own old new found) (opens_chunks l o k e opens)
-      (λ ts x z ends is start inner. h ts x z ends is start (subst (λ ms. Inner order l (in_chunks l.place k) ts ms z) inner.contains.0 inner))
-
   pub map_well : (s : Size) (c : Option ℕ) (all ns : List Mark) → all ≡ ns ++ own → l.pairs ≡ length ns → l.container ≡ container.Map s c → Opens l o → EndsWell order l (a_map l.place s c) (drop l.pairs all) old new found → EndsWell order l o own old new found
   map_well s c all ns marks pairs e opens h =
       let mine : drop l.pairs all ≡ own = ap (drop l.pairs) marks ∙ drop_at ns own l.pairs (sym pairs) in
-      subst (λ p. EndsWell order l p own old new found) (opens_map l o s c e opens) (subst (λ ms. EndsWell order l (a_map l.place s c) ms old new found) mine h)
+      subst (λ p. EndsWell order l p own old new found) (opened_as l o (container.Map s c) e opens) (subst (λ ms. EndsWell order l (a_map l.place s c) ms old new found) mine h)
 
 -- ---- what has ended
 
@@ -101,8 +68,13 @@ has_ended order e k f o ts found ends s outer same ended =
     }
 
 -- of one that is no map
-pub unmarked_ended : (order : List ℕ → List ℕ → Ordering) (e k : Encodings) (f : Partial) (o : Opening) (ts : List Tree) (found : Findings) → is_map e.innermost.container ≡ false → Ends o ts → StandsIn order e (inside f o ts) → k.outer.items ≡ e.outer.items → k.innermost ≡ e.innermost → marks_of k.pairs ≡ marks_of e.pairs
-    → ((own : List Mark) → Opens e.innermost o → EndsWell order e.innermost o own e.out.items k.out.items found) → HasEnded order k f o ts found
-unmarked_ended order e k f o ts found no_map ends s outer same marks ended =
+pub unmarked_ended : (order : List ℕ → List ℕ → Ordering) (e k : Encodings) (f : Partial) (o : Opening) (ts : List Tree) (found : Findings) (a : Container) → e.innermost.container ≡ a → is_map a ≡ false → Ends o ts → StandsIn order e (inside f o ts) → k.outer.items ≡ e.outer.items → k.innermost ≡ e.innermost → marks_of k.pairs ≡ marks_of e.pairs
+    → EndsWell order e.innermost (opening_of a e.innermost.place) [] e.out.items k.out.items found → HasEnded order k f o ts found
+unmarked_ended order e k f o ts found a is no_map ends s outer same marks ended =
     has_ended order e k f o ts found ends s outer same
-    (λ ns own z is pairs inner. (ended own inner.opens, marks ∙ is ∙ ap (λ ms. ns ++ ms) (unmarked order e.innermost o ts own z no_map inner) ∙ append-nil ns))
+    (λ ns own z old pairs inner.
+    let l = e.innermost in
+    let none : own ≡ [] = unmarked order l o ts own z (ap is_map is ∙ no_map) inner in (
+      subst (λ ms. EndsWell order l o ms e.out.items k.out.items found) (sym none) (subst (λ p. EndsWell order l p [] e.out.items k.out.items found) (opened_as l o a is inner.opens) ended),
+      marks ∙ old ∙ ap (λ ms. ns ++ ms) none ∙ append-nil ns,
+    ))

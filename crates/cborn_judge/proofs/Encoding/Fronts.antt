@@ -1,23 +1,30 @@
 -- What an encoder writes where a container opens.
-use Rattle.std.proofs.Common.{◌≡◌, ℕ, List, ◌++◌, length, subst, sym, Option, None, Some}
+use Rattle.std.proofs.Common.{◌≡◌, ℕ, List, ◌++◌, length, refl, subst, sym, ap, Option, None, Some}
 use Rattle.cborn_model.specs.declared.heads.Major.{Major}
+use Rattle.std.specs.Option.{unwrap_or}
+use Rattle.cborn_model.specs.declared.heads.Major.TheVariants.{Array, Map, Tag}
 use Rattle.cborn_model.specs.Heads.{code, IsLeastHead}
 use Rattle.cborn_model.specs.Partial.{Opening, an_array, a_map, a_tag, in_chunks, built}
 use Rattle.cborn_model.specs.declared.visitors.StringKind.TheVariants.{OfBytes, OfText}
 use Rattle.cborn_model.specs.Tree.{Tree, place}
 use Rattle.cborn_det.specs.Appending.{Appends}
-use Rattle.cborn_judge.specs.devices.Encoding.{IsOpening, IsFront}
+use Rattle.cborn_judge.specs.devices.Encoding.{IsOpening, IsFront, IsHeadFront}
 use Rattle.cborn_judge.specs.devices.Encoders.{BeginsAs}
 use Rattle.cborn_judge.specs.declared.levels.Container.{Container}
 
-pub front_there : (a : Container) (q : ℕ) (major : Major) (argument : Option ℕ) (o : Opening) (old new : List ℕ) → BeginsAs a q major argument o → ((n : ℕ) → argument ≡ Some n → Appends (IsLeastHead (code major) n) old new)
-    → (argument ≡ None → Appends (λ h. length h ≡ 1) old new) → (h : List ℕ) × IsFront o h × IsOpening a q o × (new ≡ old ++ h)
-front_there a q major argument (an_array p s (Some n)) old new b known unknown = let h = known n b.2 in (h.0, subst (λ m. IsLeastHead (code m) n h.0) b.1 h.1, b.0, h.2)
-front_there a q major argument (an_array p s None) old new b known unknown = let h = unknown b.2 in (h.0, h.1, b.0, h.2)
-front_there a q major argument (a_map p s (Some n)) old new b known unknown = let h = known n b.2 in (h.0, subst (λ m. IsLeastHead (code m) n h.0) b.1 h.1, b.0, h.2)
-front_there a q major argument (a_map p s None) old new b known unknown = let h = unknown b.2 in (h.0, h.1, b.0, h.2)
-front_there a q major argument (a_tag p w n) old new b known unknown = let h = known n b.2 in (h.0, subst (λ m. IsLeastHead (code m) n h.0) b.1 h.1, b.0, h.2)
-front_there a q major argument (in_chunks p k) old new b known unknown = let h = unknown b.1 in (h.0, h.1, b.0, h.2)
+head_front : (m : ℕ) (c : Option ℕ) (h : List ℕ) → IsLeastHead m (unwrap_or c 0) h → IsHeadFront m c h
+head_front m (Some n) h least = least
+head_front m None h least = ap length least.1
+
+module _ (a : Container) (q : ℕ) (major : Major) (argument : Option ℕ) where
+  same : (m : Major) (c : Option ℕ) (h : List ℕ) → major ≡ m → argument ≡ c → IsLeastHead (code major) (unwrap_or argument 0) h → IsLeastHead (code m) (unwrap_or c 0) h
+  same m c h i j = subst (λ x. x) (λ k. IsLeastHead (code (i k)) (unwrap_or (j k) 0) h)
+
+  pub front_there : (o : Opening) (old new : List ℕ) → BeginsAs a q major argument o → Appends (IsLeastHead (code major) (unwrap_or argument 0)) old new → (h : List ℕ) × IsFront o h × IsOpening a q o × (new ≡ old ++ h)
+  front_there (an_array p s c) old new b (h, least, e) = (h, head_front 4 c h (same Array c h b.1 b.2 least), b.0, e)
+  front_there (a_map p s c) old new b (h, least, e) = (h, head_front 5 c h (same Map c h b.1 b.2 least), b.0, e)
+  front_there (a_tag p w n) old new b (h, least, e) = (h, same Tag (Some n) h b.1 b.2 least, b.0, e)
+  front_there (in_chunks p k) old new b (h, least, e) = (h, head_front (code major) None h (same major None h refl b.1 least), b.0, e)
 
 pub built_place : (a : Container) (q : ℕ) (o : Opening) (ts : List Tree) → IsOpening a q o → place (built o ts) ≡ q
 built_place a q (an_array p s c) ts i = sym i.0

@@ -1,5 +1,5 @@
 -- Integers, simple values and strings in what an encoder holds.
-use Rattle.std.proofs.Common.{◌≡◌, ℕ, ◌<◌, ◌^◌, inl, List, length, refl, sym, ◌∙◌, subst, true, false, true≢false, Bool, Ordering, Option, None, Some}
+use Rattle.std.proofs.Common.{◌≡◌, ℕ, ◌<◌, ◌^◌, inl, List, length, refl, sym, ◌∙◌, subst, true, false, true≢false, Bool, Ordering, Option, None}
 use Rattle.std.specs.Prelude.{◌↔◌, IsTrue, IsUtf8}
 use Rattle.cborn_model.specs.declared.heads.Width.{Width}
 use Rattle.cborn_model.specs.declared.visitors.StringKind.{StringKind}
@@ -12,7 +12,7 @@ use Rattle.cborn_model.specs.Tree.{Tree, Text, Simple, place}
 use Rattle.cborn_model.specs.Meaning.{IsNumber}
 use Rattle.cborn_model.specs.Value.{integer, simple}
 use Rattle.cborn_model.specs.Partial.{Partial, put, integer_tree, string_tree}
-use Rattle.cborn_model.specs.Reasons.{flaw_rank}
+use Rattle.cborn_model.specs.Reasons.{defect_rank, flaw_rank}
 use Rattle.cborn_model.proofs.Found.{found_alike}
 use Rattle.cborn_model.proofs.Numbers.SomeMagnitude.{magnitude_of}
 use Rattle.cborn_det.specs.Det.{major_of}
@@ -25,16 +25,9 @@ use Rattle.cborn_judge.specs.declared.flaws.Flaw as flaw
 use Rattle.cborn_judge.specs.devices.Encoding.{IsEncodedAs, Finds}
 use Rattle.cborn_judge.specs.devices.Encoders.{IsContent}
 use Rattle.cborn_judge.proofs.Encoding.Finding.{finds_put}
+use Rattle.cborn_judge.proofs.Encoding.PairsHinted.{none_first}
 use Rattle.cborn_judge.proofs.FirstDefect.Departing.{uint_found, nint_found, bytes_found, text_found}
 use Rattle.cborn_judge.proofs.Meaning.Meanings.{holds_below, number_valid}
-
-same_flaw : (a : Option flaw.Flaw) → IsEarliestFlaw a None a
-same_flaw None = refl
-same_flaw (Some f) = refl
-
-same_defect : (d : Option defect.Defect) → IsEarliestDefect d None d
-same_defect None = refl
-same_defect (Some f) = refl
 
 pub integer_place : (p : ℕ) (s : Bool) (w : Width) (n : ℕ) → place (integer_tree p s w n) ≡ p
 integer_place p false w n = refl
@@ -62,7 +55,7 @@ module _ (order : List ℕ → List ℕ → Ordering) where
   integer_defect p true w n o h = nint_found order p w n o h
 
   pub finds_integer : (f : Partial) (p : ℕ) (s : Bool) (w : Width) (n : ℕ) (a : Option flaw.Flaw) (d e i : Option defect.Defect) → FindsDefect (LongAt p w n) e → IsEarliestDefect d e i → Finds order f a d → Finds order (put f (integer_tree p s w n)) a i
-  finds_integer f p s w n a d e i h k g = finds_put order f (integer_tree p s w n) a None a d e i (sound_integer p s w n) (integer_defect p s w n e h) (same_flaw a) k g
+  finds_integer f p s w n a d e i h k g = finds_put order f (integer_tree p s w n) a None a d e i (sound_integer p s w n) (integer_defect p s w n e h) (none_first (λ f. (f.place, flaw_rank f.reason)) a) k g
 
   pub simple_encoded : (p n : ℕ) (x : List ℕ) → IsTrue (is_simple_value n) → IsLeastHead 7 n x → IsEncodedAs order (Simple p n) x
   simple_encoded p n x is h = (simple n, refl, is, (is, h))
@@ -75,7 +68,7 @@ module _ (order : List ℕ → List ℕ → Ordering) where
 
   -- a node with which nothing is wrong
   pub finds_fine : (f : Partial) (t : Tree) (a : Option flaw.Flaw) (d : Option defect.Defect) → FindsFlaw (Flaw t) None → FindsDefect (DefectIn order t) None → Finds order f a d → Finds order (put f t) a d
-  finds_fine f t a d none sound g = finds_put order f t a None a d None d none sound (same_flaw a) (same_defect d) g
+  finds_fine f t a d none sound g = finds_put order f t a None a d None d none sound (none_first (λ f. (f.place, flaw_rank f.reason)) a) (none_first (λ e. (e.place, defect_rank e.reason)) d) g
 
   pub finds_simple : (f : Partial) (p n : ℕ) (a : Option flaw.Flaw) (d : Option defect.Defect) → Finds order f a d → Finds order (put f (Simple p n)) a d
   finds_simple f p n a d g = finds_fine f (Simple p n) a d (sound_simple p n) (simple_defect p n) g

@@ -124,6 +124,10 @@ is_odd (t ∷ ts) = not (is_odd ts)
 
 -- ---- containers
 
+-- the level of a container in which nothing stands yet
+abbrev pub opened : Container → ℕ → ℕ → ℕ → Level
+opened a place start pairs = record { container = a; place = place; start = start; content = start; pairs = pairs; count = 0; flawed = false }
+
 -- the level with one more whole node
 abbrev pub after : Level → Bool → Level
 after l bad = record l { count = (l.count + 1) % 2 ^ 64; flawed = l.flawed || bad }

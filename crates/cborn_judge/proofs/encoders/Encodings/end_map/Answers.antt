@@ -1,4 +1,4 @@
-use Rattle.std.proofs.Common.{Bool, ◌≡◌, ◌++◌, ◌+◌, ◌-◌, ◌<◌, length, take, drop, append_assoc, length-append, length-drop, sym, ap, ◌∙◌, subst}
+use Rattle.std.proofs.Common.{Bool, ◌≡◌, ◌++◌, ◌+◌, ◌<◌, length, take, drop, append_assoc, length-append, sym, ap, ◌∙◌, subst}
 use Rattle.std.specs.Prelude.{◌||◌, is_some}
 use Rattle.cborn_model.specs.Heads.{IsLeastHead}
 use Rattle.cborn_det.specs.Appending.{Replaces}
@@ -25,9 +25,9 @@ returns-clause-ended g c = λ ts x z ends e start inner.
       | else-level w ↦ w.is_flawed-is ∙ w.is_some-is_flawed.ensures ∙ sym (ap (λ (b : Bool). b || is_some flaw) w.if-level.false)
     ] in
     let marks = marks_of c.args.self.now.pairs in
-    let n = c.saturating_sub-len.result in
+    let n = c.count_from-len.result in
     let marked : AreMarked level.content rs (drop level.pairs marks) = inner.contains.3 in
-    let number : n ≡ length rs = c.saturating_sub-len.ensures ∙ ap (λ k. k - level.pairs) c.len.ensures ∙ sym (length-drop level.pairs marks) ∙ length_marked level.content rs (drop level.pairs marks) marked in
+    let number : n ≡ length rs = c.count_from-len.ensures ∙ length_marked level.content rs (drop level.pairs marks) marked in
     let repeat = c.in_ok-flaw.ensures.repeat (x ++ h) rs content lies marked in
     let mid = c.arrange.new.self.out.items in
     let new = c.end_head.new.out.items in

@@ -3,7 +3,7 @@ use Rattle.std.proofs.Math.Seq.{take-append_seam}
 use Rattle.cborn_model.proofs.HandedOver.{on_ok}
 use Rattle.cborn_judge.specs.devices.Marks.{marks_of}
 use Rattle.cborn_judge.proofs.Encoding.EndsWell.{map_well, has_ended}
-use Rattle.cborn_judge.proofs.encoders.Encoder.close_unsorted.Goals as goal
+use Rattle.cborn_judge.proofs.encoders.Encoder.end_unsorted.Goals as goal
 
 pub returns : goal.returns
 returns g c = record {
