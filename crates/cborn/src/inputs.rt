@@ -20,6 +20,7 @@ pub struct LateFile<'r, 'p, F: Files> {
     file: Option<F::File>,
     is_missing: bool,
     failed: u64,
+    asked: u64,
 }
 
 impl<'r, 'p, F: Files> LateFile<'r, 'p, F> {
@@ -31,6 +32,7 @@ impl<'r, 'p, F: Files> LateFile<'r, 'p, F> {
             file: None,
             is_missing: false,
             failed: 0,
+            asked: 0,
         }
     }
 
@@ -44,7 +46,7 @@ impl<'r, 'p, F: Files> LateFile<'r, 'p, F> {
     /// # Errors
     /// Why it can't be opened, at the first call; `NotFound` at each later one.
     fn opened(&mut self) -> io::Result<F::File>
-        ensures { self.new.failed ≡ self.old.failed }
+        ensures { (self.new.failed ≡ self.old.failed) × (self.new.asked ≡ self.old.asked) }
     {
         if self.is_missing {
             return Err(io::Error::from(ErrorKind::NotFound));
@@ -63,7 +65,10 @@ impl<F: Files> Source for LateFile<'_, '_, F> {
 
     ghost failed = { λ l. l.failed };
 
+    ghost asked = { λ l. l.asked };
+
     fn read_some(&mut self, buf: &mut [u8]) -> io::Result<usize> {
+        self.asked = self.asked.saturating_add(1);
         let result = match self.opened() {
             Ok(mut file) => {
                 let result = file.read(buf);

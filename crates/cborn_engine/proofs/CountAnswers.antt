@@ -4,4 +4,4 @@ pub mod Answered
 pub mod Compared
 pub mod Refused
 pub mod Any
-pub mod Normalised
+pub mod Streamed

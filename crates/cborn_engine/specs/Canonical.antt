@@ -1,7 +1,6 @@
 -- What normalising an input answers.
-use Rattle.std.specs.Prelude.{◌≡◌, ◌↔◌, ℕ, ◌≤◌, List, [], length, Option, Result, Ok, Err}
+use Rattle.std.specs.Prelude.{◌≡◌, ◌↔◌, ℕ, ◌≤◌, List, length, Option, Result, Ok, Err}
 use Rattle.std.specs.declared.cmp.Ordering.{Ordering}
-use Rattle.std.specs.Io.KnownBytes.{Consumes, Appends}
 use Rattle.std.specs.List.{AllZip, AllByRecursion}
 use Rattle.cborn_model.specs.Valid.{IsProper}
 use Rattle.cborn_model.specs.Value.{Value, Same}
@@ -9,8 +8,8 @@ use Rattle.cborn_engine.specs.declared.faults.EngineFault.{EngineFault}
 use Rattle.cborn_engine.specs.declared.faults.EngineFault.TheVariants as fault
 use Rattle.cborn_engine.specs.declared.kinds.Kind.{Kind}
 use Rattle.cborn_engine.specs.Holding.{Holds, Canon}
-use Rattle.cborn_engine.specs.Refusing.{IsRefused, IsRead}
-use Rattle.cborn_engine.specs.Writing.{IsFront}
+use Rattle.cborn_engine.specs.Refusing.{IsRefused}
+use Rattle.cborn_engine.specs.Streams.{IsSent, Writes}
 
 -- the input holds items, and the output is their canonical form
 pub record IsCanonical (order : List ℕ → List ℕ → Ordering) (k out : Kind) (limit : ℕ) (input output : List ℕ) : Type 0 where
@@ -31,18 +30,15 @@ pub record IsNormalForm (order : List ℕ → List ℕ → Ordering) (k out : Ki
   -- the output is its own canonical form, and has no other
   pub again : (w : List ℕ) → IsCanonical order out out limit output w ↔ (w ≡ output)
 
--- the whole answer went out; or the writer failed, and a front of it went out; or the input is refused, and nothing went out
-abbrev pub NormaliseAnswers : (List ℕ → List ℕ → Ordering) → Kind → Kind → ℕ → ℕ → List ℕ → List ℕ → Result Unit EngineFault → Type 0
-NormaliseAnswers order k out limit most input output (Ok u) = (length input ≤ most) × IsCanonical order k out limit input output
-NormaliseAnswers order k out limit most input output (Err fault.WriteFault) =
-    (length input ≤ most) × ((whole : List ℕ) × IsCanonical order k out limit input whole × IsFront output whole)
-NormaliseAnswers order k out limit most input output (Err why) = IsRefused k limit most input why × (output ≡ [])
+-- the canonical form of what the input holds, or why there is none
+abbrev pub FormAnswers : (List ℕ → List ℕ → Ordering) → Kind → Kind → ℕ → ℕ → List ℕ → Result (List ℕ) EngineFault → Type 0
+FormAnswers order k out limit most input (Ok form) = (length input ≤ most) × IsCanonical order k out limit input form
+FormAnswers order k out limit most input (Err why) = IsRefused k limit most input why
 
--- some input was taken from the reader and some output given to the writer, and this is answered for them
-pub record Normalises (order : List ℕ → List ℕ → Ordering) (k out : Kind) (limit most : ℕ) (before after sent sent_after : Option (List ℕ)) (result : Result Unit EngineFault) : Type 0 where
-  pub input : List ℕ
-  pub output : List ℕ
-  pub taken : Consumes before after input
-  pub given : Appends sent sent_after output
-  pub answer : NormaliseAnswers order k out limit most input output result
-  pub to_end : IsRead result after
+-- what went out of it
+abbrev pub NormaliseAnswers : (List ℕ → List ℕ → Ordering) → Kind → Kind → ℕ → ℕ → List ℕ → List ℕ → Result Unit EngineFault → Type 0
+NormaliseAnswers order k out limit most input = IsSent fault.WriteFault (FormAnswers order k out limit most input)
+
+-- some input was taken from the reader, and this went out
+abbrev pub Normalises : (List ℕ → List ℕ → Ordering) → Kind → Kind → ℕ → ℕ → Option (List ℕ) → Option (List ℕ) → Option (List ℕ) → Option (List ℕ) → Result Unit EngineFault → Type 0
+Normalises order k out limit most = Writes (λ why. why) (FormAnswers order k out limit most)

@@ -1,7 +1,6 @@
 -- What the check for the deterministic encoding answers.
 use Rattle.std.specs.Prelude.{ℕ, ◌≤◌, List, length, Option, None, Some, Result, Ok, Err}
 use Rattle.std.specs.declared.cmp.Ordering.{Ordering}
-use Rattle.std.specs.Io.KnownBytes.{Consumes}
 use Rattle.cborn_model.specs.Tree.{trees}
 use Rattle.cborn_model.specs.Placed.{PlacedAll}
 use Rattle.cborn_model.specs.Value.{Value}
@@ -10,7 +9,8 @@ use Rattle.cborn_judge.specs.Defects.{IsFirstOfSequence}
 use Rattle.cborn_engine.specs.declared.faults.EngineFault.{EngineFault}
 use Rattle.cborn_engine.specs.declared.kinds.Kind.TheVariants as kind
 use Rattle.cborn_engine.specs.Holding.{Holds, Canon}
-use Rattle.cborn_engine.specs.Refusing.{IsRefused, IsRead}
+use Rattle.cborn_engine.specs.Refusing.{IsRefused}
+use Rattle.cborn_engine.specs.Streams.{Reads}
 
 -- the input holds these items
 module _ (order : List ℕ → List ℕ → Ordering) (limit : ℕ) (input : List ℕ) (items : List Value) (held : Holds kind.Wire limit input items) where
@@ -29,8 +29,5 @@ CheckAnswers order limit most input (Ok defect) = (length input ≤ most) × IsC
 CheckAnswers order limit most input (Err why) = IsRefused kind.Wire limit most input why
 
 -- some input was taken from the reader, and this is answered for it
-pub record Checks (order : List ℕ → List ℕ → Ordering) (limit most : ℕ) (before after : Option (List ℕ)) (result : Result (Option Defect) EngineFault) : Type 0 where
-  pub input : List ℕ
-  pub taken : Consumes before after input
-  pub answer : CheckAnswers order limit most input result
-  pub to_end : IsRead result after
+abbrev pub Checks : (List ℕ → List ℕ → Ordering) → ℕ → ℕ → Option (List ℕ) → Option (List ℕ) → Result (Option Defect) EngineFault → Type 0
+Checks order limit most = Reads (λ why. why) (CheckAnswers order limit most)

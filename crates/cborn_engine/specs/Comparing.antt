@@ -8,7 +8,8 @@ use Rattle.cborn_engine.specs.declared.faults.CompareFault.TheVariants as compar
 use Rattle.cborn_engine.specs.declared.faults.EngineFault.TheVariants as fault
 use Rattle.cborn_engine.specs.declared.kinds.Kind.{Kind}
 use Rattle.cborn_engine.specs.Holding.{Holds}
-use Rattle.cborn_engine.specs.Refusing.{IsRefused, IsRead}
+use Rattle.cborn_engine.specs.Refusing.{IsRefused}
+use Rattle.cborn_engine.specs.Streams.{IsRead}
 
 -- The items are the same, one by one; or as many as the index are, and those with one more aren't: at the index items differ, or only one sequence has one.
 abbrev pub Difference : List Value → List Value → Option ℕ → Type 0
@@ -34,17 +35,13 @@ CompareAnswers k l limit most x y (Err compared.OutOfMemory) = (length x ≤ mos
 -- the readers were read to their ends before this was answered
 abbrev pub AreRead : Result (Option ℕ) CompareFault → Option (List ℕ) → Option (List ℕ) → Type 0
 AreRead (Ok answer) rest rest2 = IsAtEnd rest × IsAtEnd rest2
-AreRead (Err (compared.First why)) rest rest2 = IsRead {A = Option ℕ} (Err why) rest
-AreRead (Err (compared.Second why)) rest rest2 = IsAtEnd rest × IsRead {A = Option ℕ} (Err why) rest2
+AreRead (Err (compared.First why)) rest rest2 = IsRead {A = Option ℕ} (λ w. w) (Err why) rest
+AreRead (Err (compared.Second why)) rest rest2 = IsAtEnd rest × IsRead {A = Option ℕ} (λ w. w) (Err why) rest2
 AreRead (Err compared.OutOfMemory) rest rest2 = ⊤
 
 -- an input that holds items was taken from the reader, to its end
-pub record IsHeldWhole (k : Kind) (limit : ℕ) (before after : Option (List ℕ)) : Type 0 where
-  pub input : List ℕ
-  pub items : List Value
-  pub taken : Consumes before after input
-  pub held : Holds k limit input items
-  pub at_end : IsAtEnd after
+abbrev pub IsHeldWhole : Kind → ℕ → Option (List ℕ) → Option (List ℕ) → Type 0
+IsHeldWhole k limit before after = (input : List ℕ) × Consumes before after input × ((items : List Value) × Holds k limit input items) × IsAtEnd after
 
 -- an input was taken from each reader, and this is answered for them
 pub record Compares (k l : Kind) (limit most : ℕ) (before after before2 after2 : Option (List ℕ)) (result : Result (Option ℕ) CompareFault) : Type 0 where

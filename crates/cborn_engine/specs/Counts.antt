@@ -4,7 +4,7 @@ use Rattle.std.specs.Global.{Global}
 use Rattle.std.specs.Cow.{cow_slice_items}
 use Rattle.std.specs.declared.borrow.CowSlice.{CowSlice}
 use Rattle.std.specs.declared.cmp.Ordering.{Ordering}
-use Rattle.std.specs.Io.KnownBytes.{IsAtEnd, Consumes, Appends}
+use Rattle.std.specs.Io.KnownBytes.{IsAtEnd, Consumes}
 use Rattle.cborn_model.specs.Tree.{Tree, place}
 use Rattle.cborn_model.specs.Value.{Value}
 use Rattle.cborn_model.specs.declared.defects.Defect.{Defect}
@@ -20,13 +20,14 @@ use Rattle.cborn_engine.specs.declared.faults.EngineFault.{EngineFault}
 use Rattle.cborn_engine.specs.declared.faults.EngineFault.TheVariants as fault
 use Rattle.cborn_engine.specs.declared.kinds.Kind.{Kind}
 use Rattle.cborn_engine.specs.declared.kinds.Kind.TheVariants as kind
-use Rattle.cborn_engine.specs.Canonical.{IsCanonical, NormaliseAnswers}
+use Rattle.cborn_engine.specs.Canonical.{IsCanonical, FormAnswers}
 use Rattle.cborn_engine.specs.Checking.{IsChecked, CheckAnswers}
 use Rattle.cborn_engine.specs.Comparing.{AreCompared}
 use Rattle.cborn_engine.specs.Holding.{Spells, SpellsInPlace, Holds}
 use Rattle.cborn_engine.specs.Reading.{most_bytes}
-use Rattle.cborn_engine.specs.Refusing.{IsRefused, IsRead}
+use Rattle.cborn_engine.specs.Refusing.{IsRefused}
 use Rattle.cborn_engine.specs.Showing.{IsShown, ShowAnswers}
+use Rattle.cborn_engine.specs.Streams.{IsRead, Reads, Writes}
 use Rattle.cborn_engine.specs.Whole.{IsRefusedWhole, IsUnshownWhole}
 
 -- ---- how many items an input holds
@@ -132,40 +133,15 @@ AreRefusedWhole count k l limit x y compared.OutOfMemory = IsRefusedWhole k limi
 
 -- ---- of an input that is read
 
--- The reader was read to its end before this was answered.
-abbrev pub IsReadForCount : {A : Type 0} → Result A CountFault → Option (List ℕ) → Type 0
-IsReadForCount {A} (Err (counted.Engine why)) rest = IsRead {A = A} (Err why) rest
-IsReadForCount _ rest = IsAtEnd rest
+-- what is answered for any number of items, and what went out of it, unless the input holds another number
+abbrev pub NormalisesCount : Count → (List ℕ → List ℕ → Ordering) → Kind → Kind → ℕ → ℕ → Option (List ℕ) → Option (List ℕ) → Option (List ℕ) → Option (List ℕ) → Result Unit CountFault → Type 0
+NormalisesCount count order k out limit most = Writes counted.Engine (λ input. CountAnswer count k limit input (FormAnswers order k out limit most input))
 
--- What is answered and given to a writer, where Answers says what is answered for any number of items, and Whole what is the whole answer then. Of an input that holds another number nothing goes out.
-abbrev pub CountSent : Count → Kind → ℕ → List ℕ → List ℕ → (List ℕ → Type 0) → (Result Unit EngineFault → Type 0) → Result Unit CountFault → Type 0
-CountSent count k limit input output Whole Answers (Ok u) = Answers (Ok u) × SpellsCount count k limit input
-CountSent count k limit input output Whole Answers (Err (counted.Engine fault.WriteFault)) = Answers (Err fault.WriteFault) × SpellsCount count k limit input
-CountSent count k limit input output Whole Answers (Err (counted.Engine why)) = Answers (Err why)
-CountSent count k limit input output Whole Answers (Err why) = ((whole : List ℕ) × Whole whole) × IsMiscount count k limit input why × (output ≡ [])
+abbrev pub ShowsCount : Count → Kind → Kind → ℕ → ℕ → Option (List ℕ) → Option (List ℕ) → Option (List ℕ) → Option (List ℕ) → Result Unit CountFault → Type 0
+ShowsCount count k out limit most = Writes counted.Engine (λ input. CountAnswer count k limit input (ShowAnswers k out limit most input))
 
--- some input was taken from the reader and some output given to the writer, and this is answered for them
-pub record NormalisesCount (count : Count) (order : List ℕ → List ℕ → Ordering) (k out : Kind) (limit most : ℕ) (before after sent sent_after : Option (List ℕ)) (result : Result Unit CountFault) : Type 0 where
-  pub input : List ℕ
-  pub output : List ℕ
-  pub taken : Consumes before after input
-  pub given : Appends sent sent_after output
-  pub answer : CountSent count k limit input output (λ whole. (length input ≤ most) × IsCanonical order k out limit input whole) (NormaliseAnswers order k out limit most input output) result
-  pub to_end : IsReadForCount result after
-
-pub record ShowsCount (count : Count) (k out : Kind) (limit most : ℕ) (before after sent sent_after : Option (List ℕ)) (result : Result Unit CountFault) : Type 0 where
-  pub input : List ℕ
-  pub output : List ℕ
-  pub taken : Consumes before after input
-  pub given : Appends sent sent_after output
-  pub answer : CountSent count k limit input output (λ whole. (length input ≤ most) × IsShown k out limit input whole) (ShowAnswers k out limit most input output) result
-  pub to_end : IsReadForCount result after
-
-pub record ChecksCount (count : Count) (order : List ℕ → List ℕ → Ordering) (limit most : ℕ) (before after : Option (List ℕ)) (result : Result (Option Defect) CountFault) : Type 0 where
-  pub input : List ℕ
-  pub taken : Consumes before after input
-  pub answer : CountAnswer count kind.Wire limit input (CheckAnswers order limit most input) result
-  pub to_end : IsReadForCount result after
+abbrev pub ChecksCount : Count → (List ℕ → List ℕ → Ordering) → ℕ → ℕ → Option (List ℕ) → Option (List ℕ) → Result (Option Defect) CountFault → Type 0
+ChecksCount count order limit most = Reads counted.Engine (λ input. CountAnswer count kind.Wire limit input (CheckAnswers order limit most input))
 
 -- The first is refused before a byte of the second is read.
 abbrev pub CompareCountAnswers : Count → Kind → Kind → ℕ → List ℕ → List ℕ → Result (Option ℕ) CompareCountFault → Type 0
@@ -177,8 +153,8 @@ CompareCountAnswers count k l limit x y (Err compared.OutOfMemory) = (length x �
 -- the readers were read to their ends before this was answered
 abbrev pub AreReadForCount : Result (Option ℕ) CompareCountFault → Option (List ℕ) → Option (List ℕ) → Type 0
 AreReadForCount (Ok answer) rest rest2 = IsAtEnd rest × IsAtEnd rest2
-AreReadForCount (Err (compared.First why)) rest rest2 = IsReadForCount {A = Option ℕ} (Err why) rest
-AreReadForCount (Err (compared.Second why)) rest rest2 = IsAtEnd rest × IsReadForCount {A = Option ℕ} (Err why) rest2
+AreReadForCount (Err (compared.First why)) rest rest2 = IsRead {A = Option ℕ} counted.Engine (Err why) rest
+AreReadForCount (Err (compared.Second why)) rest rest2 = IsAtEnd rest × IsRead {A = Option ℕ} counted.Engine (Err why) rest2
 AreReadForCount (Err compared.OutOfMemory) rest rest2 = ⊤
 
 -- an input was taken from each reader, and this is answered for them

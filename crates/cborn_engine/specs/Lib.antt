@@ -6,6 +6,7 @@ pub mod Faults
 pub mod Reading
 pub mod Bytes
 pub mod Holding
+pub mod Streams
 pub mod Refusing
 pub mod Loading
 pub mod Canonical

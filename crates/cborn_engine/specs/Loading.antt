@@ -1,13 +1,13 @@
 -- What loading an input answers.
 use Rattle.std.specs.Prelude.{ℕ, ◌≤◌, List, length, Option, Result, Ok, Err, Vec, ⊤}
 use Rattle.std.specs.Global.{Global}
-use Rattle.std.specs.Io.KnownBytes.{Consumes}
 use Rattle.cborn_model.specs.Tree.{Tree}
 use Rattle.cborn_engine.specs.declared.faults.EngineFault.{EngineFault}
 use Rattle.cborn_engine.specs.declared.faults.EngineFault.TheVariants as fault
 use Rattle.cborn_engine.specs.declared.kinds.Kind.{Kind}
 use Rattle.cborn_engine.specs.Holding.{SpellsInPlace}
-use Rattle.cborn_engine.specs.Refusing.{IsRefused, IsRead}
+use Rattle.cborn_engine.specs.Refusing.{IsRefused}
+use Rattle.cborn_engine.specs.Streams.{Reads}
 
 -- a load refuses no node for what it means
 abbrev pub IsNoFlaw : EngineFault → Type 0
@@ -20,8 +20,5 @@ LoadAnswers k limit most input (Ok nodes) = (length input ≤ most) × SpellsInP
 LoadAnswers k limit most input (Err why) = IsRefused k limit most input why × IsNoFlaw why
 
 -- some input was taken from the reader, and this is answered for it
-pub record Loads (k : Kind) (limit most : ℕ) (before after : Option (List ℕ)) (result : Result (Vec Tree Global) EngineFault) : Type 0 where
-  pub input : List ℕ
-  pub taken : Consumes before after input
-  pub answer : LoadAnswers k limit most input result
-  pub to_end : IsRead result after
+abbrev pub Loads : Kind → ℕ → ℕ → Option (List ℕ) → Option (List ℕ) → Result (Vec Tree Global) EngineFault → Type 0
+Loads k limit most = Reads (λ why. why) (LoadAnswers k limit most)

@@ -1,7 +1,6 @@
 -- Why an input is refused.
-use Rattle.std.specs.Prelude.{◌≡◌, ℕ, ◌+◌, ◌≤◌, List, length, Option, Result, Err, ⊤, IsUtf8}
+use Rattle.std.specs.Prelude.{◌≡◌, ℕ, ◌+◌, ◌≤◌, List, length, ⊤, IsUtf8}
 use Rattle.std.specs.Str.{IsValidUpTo}
-use Rattle.std.specs.Io.KnownBytes.{IsAtEnd}
 use Rattle.cborn_model.specs.Tree.{Tree}
 use Rattle.cborn_wire.specs.declared.faults.WireFault.TheVariants as wire
 use Rattle.cborn_wire.specs.Faults.{Fault}
@@ -42,13 +41,6 @@ IsRefused kind.Notation2 limit most input (fault.Edn why) = (length input ≤ mo
 IsRefused kind.Wire limit most input (fault.TextInput p) = ⊥
 IsRefused k limit most input (fault.TextInput p) = (length input ≤ most) × (IsUtf8 input → ⊥) × IsValidUpTo input p
 IsRefused k limit most input _ = ⊥
-
--- the reader was read to its end before this was answered
-abbrev pub IsRead : {A : Type 0} → Result A EngineFault → Option (List ℕ) → Type 0
-IsRead (Err fault.TooLong) rest = ⊤
-IsRead (Err fault.ReadFault) rest = ⊤
-IsRead (Err fault.OutOfMemory) rest = ⊤
-IsRead _ rest = IsAtEnd rest
 
 -- no fault of the input
 abbrev pub IsNoRefusal : EngineFault → Type 0

@@ -1,7 +1,5 @@
 -- What showing an input answers.
-use Rattle.std.specs.Prelude.{◌≡◌, ℕ, ◌≤◌, List, [], length, Option, Result, Ok, Err, Vec}
-use Rattle.std.specs.Global.{Global}
-use Rattle.std.specs.Io.KnownBytes.{Consumes, Appends}
+use Rattle.std.specs.Prelude.{◌≡◌, ℕ, ◌≤◌, List, length, Option, Result, Ok, Err}
 use Rattle.cborn_model.specs.Tree.{Tree, trees}
 use Rattle.cborn_model.specs.Spelled.{spelled_all}
 use Rattle.cborn_edn.specs.declared.faults.ShowFault.{ShowFault}
@@ -13,8 +11,8 @@ use Rattle.cborn_engine.specs.declared.kinds.Kind.{Kind}
 use Rattle.cborn_engine.specs.declared.kinds.Kind.TheVariants as kind
 use Rattle.cborn_engine.specs.Holding.{Spells, SpellsInPlace}
 use Rattle.cborn_engine.specs.Loading.{IsNoFlaw}
-use Rattle.cborn_engine.specs.Refusing.{IsRefused, IsRead}
-use Rattle.cborn_engine.specs.Writing.{IsFront}
+use Rattle.cborn_engine.specs.Refusing.{IsRefused}
+use Rattle.cborn_engine.specs.Streams.{Writes}
 
 -- the nodes as they are spelled, or their fixed notation
 abbrev pub IsSpelledAs : Kind → List Tree → List ℕ → Type 0
@@ -51,24 +49,11 @@ pub record SpellSameBytes (k out : Kind) (limit : ℕ) (input output : List ℕ)
   pub written : IsShown out kind.Wire limit output bytes
 
 -- what writing this input in another form answers: the output, or why there is none
-abbrev pub TellAnswers : Kind → Kind → ℕ → ℕ → List ℕ → Result (Vec ℕ Global) EngineFault → Type 0
-TellAnswers k out limit most input (Ok bytes) = (length input ≤ most) × IsShown k out limit input bytes.items
-TellAnswers k out limit most input (Err (fault.Show why)) = (length input ≤ most) × IsUnshowable k out limit input why
-TellAnswers k out limit most input (Err why) = IsRefused k limit most input why × IsNoFlaw why
+abbrev pub ShowAnswers : Kind → Kind → ℕ → ℕ → List ℕ → Result (List ℕ) EngineFault → Type 0
+ShowAnswers k out limit most input (Ok output) = (length input ≤ most) × IsShown k out limit input output
+ShowAnswers k out limit most input (Err (fault.Show why)) = (length input ≤ most) × IsUnshowable k out limit input why
+ShowAnswers k out limit most input (Err why) = IsRefused k limit most input why × IsNoFlaw why
 
--- the whole answer went out; or the writer failed, and a front of it went out; or the input is refused, or its nodes have no notation, and nothing went out
-abbrev pub ShowAnswers : Kind → Kind → ℕ → ℕ → List ℕ → List ℕ → Result Unit EngineFault → Type 0
-ShowAnswers k out limit most input output (Ok u) = (length input ≤ most) × IsShown k out limit input output
-ShowAnswers k out limit most input output (Err fault.WriteFault) =
-    (length input ≤ most) × ((whole : List ℕ) × IsShown k out limit input whole × IsFront output whole)
-ShowAnswers k out limit most input output (Err (fault.Show why)) = (length input ≤ most) × IsUnshowable k out limit input why × (output ≡ [])
-ShowAnswers k out limit most input output (Err why) = IsRefused k limit most input why × IsNoFlaw why × (output ≡ [])
-
--- some input was taken from the reader and some output given to the writer, and this is answered for them
-pub record Shows (k out : Kind) (limit most : ℕ) (before after sent sent_after : Option (List ℕ)) (result : Result Unit EngineFault) : Type 0 where
-  pub input : List ℕ
-  pub output : List ℕ
-  pub taken : Consumes before after input
-  pub given : Appends sent sent_after output
-  pub answer : ShowAnswers k out limit most input output result
-  pub to_end : IsRead result after
+-- some input was taken from the reader, and this went out
+abbrev pub Shows : Kind → Kind → ℕ → ℕ → Option (List ℕ) → Option (List ℕ) → Option (List ℕ) → Option (List ℕ) → Result Unit EngineFault → Type 0
+Shows k out limit most = Writes (λ why. why) (ShowAnswers k out limit most)

@@ -30,6 +30,3 @@ IsUnshownWhole k out limit most input why = IsRefusedWhole k limit most input wh
 -- Bytes that aren't well-formed are refused for their one fault, whatever memory there is, as a call names it.
 abbrev pub TellsFaultAs : {A E : Type 0} → (EngineFault → E) → Kind → ℕ → List ℕ → Result A E → Type 0
 TellsFaultAs name k limit input result = (p : ℕ) (r : WireReason) → k ≡ kind.Wire → Fault limit input p r → result ≡ Err (name (fault.Wire (wire.Refused p r)))
-
-abbrev pub TellsFault : {A : Type 0} → Kind → ℕ → List ℕ → Result A EngineFault → Type 0
-TellsFault k limit input result = TellsFaultAs (λ why. why) k limit input result

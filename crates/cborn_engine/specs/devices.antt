@@ -1,7 +1,6 @@
 pub mod Counting
 pub mod Encoding
 pub mod Malformed
-pub mod Reading
 pub mod Counts
 pub mod Tops
 pub mod CuttingCode

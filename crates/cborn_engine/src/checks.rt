@@ -1,12 +1,10 @@
 //! Whether bytes are deterministic.
-ghost use Rattle.std.specs.Prelude.{◌≡◌, ◌≤◌, ◌+◌, ℕ, length};
-ghost use Rattle.cborn_engine.specs.declared.kinds.Kind.TheVariants as kinds;
-ghost use Rattle.cborn_engine.specs.Whole.{TellsFault};
+ghost use Rattle.std.specs.Prelude.{◌≤◌, ◌+◌, length};
 ghost use Rattle.cborn_engine.specs.declared.faults.EngineFault.TheVariants as fault;
 ghost use Rattle.cborn_engine.specs.Failures.{CountsFault};
-ghost use Rattle.cborn_engine.specs.Checking.{Checks, CheckAnswers};
+ghost use Rattle.cborn_engine.specs.Checking.{Checks};
 ghost use Rattle.cborn_engine.specs.Reading.{most_bytes};
-ghost use Rattle.cborn_engine.specs.devices.Counting.{read_failures};
+ghost use Rattle.cborn_engine.specs.Counts.{CheckedWhole};
 
 use crate::count_faults::of_any;
 use crate::counted_streams::check_stream;
@@ -26,7 +24,7 @@ use std::alloc::Global;
 /// `ReadFault`, `TooLong`, `Wire` and `OutOfMemory`, as `load_within` gives them for bytes, and
 /// `Invalid`: the first flaw of the first item that isn't valid, at its offset in bytes from the
 /// start of the input. A defect is reported only of bytes whose items are all valid.
-#[tactic(auto, using(crate::proofs::CountAnswers::Any::any_checked, crate::proofs::CountAnswers::Any::any_counts))]
+#[tactic(auto, using(crate::proofs::CountAnswers::Any::any_counts))]
 pub fn check<O: KeyOrder, R: Source>(
     alloc: Global,
     limit: Limit,
@@ -50,9 +48,7 @@ pub fn check_input<O: KeyOrder>(
     limit: Limit,
     input: &[u8],
 ) -> Result<Option<Defect>, EngineFault>
-    ensures answers { length input.now ≤ most_bytes → CheckAnswers O.order limit most_bytes input.now result }
-    ensures malformed { TellsFault kinds.Wire limit input.now result }
-    ensures failures { (n : ℕ) → read_failures result n ≡ n }
+    ensures { length input.now ≤ most_bytes → CheckedWhole O.order limit input.now result }
 {
     if is_deterministic::<O>(limit, input) {
         return Ok(None);

@@ -1,29 +1,21 @@
 //! From a reader to a writer.
 ghost use Rattle.std.specs.Prelude.{◌≡◌, ◌≢◌, ◌≤◌, ◌+◌, ℕ, List, IfOk, IfErr, OnOk};
 ghost use Rattle.std.specs.Io.KnownBytes.{Consumes, Appends};
-ghost use Rattle.cborn_model.specs.Value.{Value};
 ghost use Rattle.cborn_engine.specs.declared.faults.EngineFault.TheVariants as fault;
-ghost use Rattle.cborn_engine.specs.declared.kinds.Kind.TheVariants as kinds;
 ghost use Rattle.cborn_engine.specs.Canonical.{Normalises, IsNormalForm};
 ghost use Rattle.cborn_engine.specs.Reading.{most_bytes};
-ghost use Rattle.cborn_engine.specs.Holding.{Holds};
-ghost use Rattle.cborn_engine.specs.devices.Encoding.{IsFixedText};
-ghost use Rattle.cborn_engine.specs.devices.Encoding.{IsWrittenAs};
 ghost use Rattle.cborn_engine.specs.Showing.{Shows, SpellSameBytes};
 ghost use Rattle.cborn_engine.specs.Failures.{CountsFault};
 
 use crate::count_faults::of_any;
-use crate::counted_streams::normalise_stream;
+use crate::counted_streams::{normalise_stream, show_stream};
 use crate::counts::Count;
 use crate::faults::EngineFault;
 use crate::kinds::Kind;
-use crate::outputs::write_answer;
-use crate::showings::read_shown;
 use crate::sinks::Sink;
 use crate::sources::Source;
-use cborn_edn::{Notated, show_bytes};
 use cborn_model::{KeyOrder, Limit};
-use std::alloc::{AllocError, Global};
+use std::alloc::Global;
 
 /// Writes the canonical form of the items that the input holds: their deterministic encodings one
 /// after another, the keys of maps in the order `O` (RFC 8949 section 4.2), or the fixed notation
@@ -34,7 +26,7 @@ use std::alloc::{AllocError, Global};
 /// Those of `load_within`, and `Invalid`: the first flaw of the first item that isn't valid, at its
 /// offset in bytes from the start of the input. At these the writer is as it was. `WriteFault`
 /// where the writer failed; then a front of the answer went out.
-#[tactic(auto, using(crate::proofs::CountAnswers::Any::any_normalised, crate::proofs::CountAnswers::Any::any_counts, crate::proofs::CountAnswers::Any::any_ok, crate::proofs::CountAnswers::Any::any_kept))]
+#[tactic(auto, using(crate::proofs::CountAnswers::Any::any_counts, crate::proofs::CountAnswers::Any::any_ok, crate::proofs::CountAnswers::Any::any_kept))]
 pub fn normalise<O: KeyOrder, R: Source, W: Sink>(
     alloc: Global,
     limit: Limit,
@@ -63,7 +55,7 @@ pub fn normalise<O: KeyOrder, R: Source, W: Sink>(
 /// Those of `load_within`, and `Show` where the output is notation and a text string in it isn't
 /// UTF-8, at the lowest place of one. At these the writer is as it was. `WriteFault` where the
 /// writer failed; then a front of the answer went out.
-#[tactic(auto, using(crate::proofs::Streams::Counted::read_counted, crate::proofs::Streams::Counted::write_counted))]
+#[tactic(auto, using(crate::proofs::CountAnswers::Any::any_counts, crate::proofs::CountAnswers::Any::any_ok, crate::proofs::CountAnswers::Any::any_kept))]
 pub fn show_all<R: Source, W: Sink>(
     alloc: Global,
     limit: Limit,
@@ -80,38 +72,6 @@ pub fn show_all<R: Source, W: Sink>(
     ensures flushed { OnOk result (W.unflushed writer.new ≡ 0) }
     ensures calls { R.asked reader.new ≤ R.asked reader.old + most_bytes + 1 }
 {
-    let answer = read_shown(alloc, limit, in_kind, out_kind, reader)?;
-    Ok(write_answer(writer, &answer)?)
-}
-
-/// Bytes that hold items, as an output of this kind: themselves, or their fixed notation.
-pub fn written_as(
-    alloc: Global,
-    limit: Limit,
-    kind: Kind,
-    bytes: Vec<u8>,
-) -> Result<Vec<u8>, AllocError>
-    requires { (items : List Value) × Holds kinds.Wire limit bytes.items items }
-    ensures { IfOk result (λ answer. IsWrittenAs kind bytes.items answer.items) }
-{
-    match kind {
-        Kind::Wire => Ok(bytes),
-        Kind::Notation | Kind::Notation2 => fixed_text(alloc, limit, &bytes),
-    }
-}
-
-/// Bytes that hold items, in notation. They have one: such bytes are
-/// well-formed, and their text strings are UTF-8.
-///
-/// # Errors
-/// Where a growth of the text was refused.
-pub fn fixed_text(alloc: Global, limit: Limit, bytes: &[u8]) -> Result<Vec<u8>, AllocError>
-    requires { (items : List Value) × Holds kinds.Wire limit bytes.now items }
-    ensures { IfOk result (λ text. IsFixedText bytes.now text.items) }
-{
-    match show_bytes(alloc, limit, bytes)? {
-        Notated::Text(text) => Ok(text),
-        Notated::Malformed { .. } => unreachable!(),
-        Notated::NotUtf8 { .. } => unreachable!(),
-    }
+    let count = Count::Any;
+    of_any(show_stream(alloc, limit, count, in_kind, out_kind, reader, writer))
 }

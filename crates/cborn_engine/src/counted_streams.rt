@@ -1,5 +1,5 @@
-//! The calls over readers and writers of inputs that have to hold a given number of items. One that has to
-//! hold one item is kept until its items are counted.
+//! The calls over readers and writers. Each reads a whole input, makes the call over what is held, and
+//! sends the answer.
 ghost use Rattle.std.specs.Prelude.{◌≡◌, ◌≢◌, ◌≤◌, ◌⊎◌, ◌+◌, ℕ, List, Err, IfErr, OnOk};
 ghost use Rattle.std.specs.Io.KnownBytes.{Consumes, Appends};
 ghost use Rattle.cborn_engine.specs.declared.faults.EngineFault.TheVariants as fault;
@@ -8,26 +8,26 @@ ghost use Rattle.cborn_engine.specs.declared.count_faults.CountFault.TheVariants
 ghost use Rattle.cborn_engine.specs.declared.count_faults.CompareCountFault.TheVariants as compared;
 ghost use Rattle.cborn_engine.specs.Canonical.{IsNormalForm};
 ghost use Rattle.cborn_engine.specs.Comparing.{IsHeldWhole};
-ghost use Rattle.cborn_engine.specs.devices.Counts.{ReadsCount, count_failures};
+ghost use Rattle.cborn_engine.specs.devices.Counts.{ReadsCount, bytes_of};
 ghost use Rattle.cborn_engine.specs.Counts.{NormalisesCount, ShowsCount, ChecksCount, ComparesCount};
 ghost use Rattle.cborn_engine.specs.Reading.{most_bytes};
 ghost use Rattle.cborn_engine.specs.Showing.{SpellSameBytes};
+ghost use Rattle.cborn_engine.specs.Streams.{IsSent};
 ghost use Rattle.cborn_engine.specs.Failures.{CountsFault};
 
-use crate::conversions::{show_all, written_as};
 use crate::count_faults::{CompareCountFault, CountFault};
-use crate::counts::{Count, expect};
+use crate::counts::Count;
 use crate::differences::difference;
-use crate::encodings::{encode_input, is_own_encoding};
 use crate::inputs::MOST;
 use crate::kinds::Kind;
 use crate::outputs::write_answer;
 use crate::sinks::Sink;
-use crate::slices::{check_slice, show_slice};
+use crate::slices::{check_slice, encode_counted, normalise_slice, show_slice};
 use crate::sources::Source;
 use crate::whole_inputs::read_bytes;
 use cborn_model::{Defect, KeyOrder, Limit};
 use std::alloc::Global;
+use std::borrow::CowSlice;
 
 /// Writes the canonical form of the items that the input holds, as `normalise` does.
 ///
@@ -51,9 +51,9 @@ pub fn normalise_stream<O: KeyOrder, R: Source, W: Sink>(
     ensures flushed { OnOk result (W.unflushed writer.new ≡ 0) }
     ensures calls { R.asked reader.new ≤ R.asked reader.old + most_bytes + 1 }
 {
-    let bytes = read_counted::<O, R>(alloc, limit, count, in_kind, reader)?;
-    let answer = written_as(alloc, limit, out_kind, bytes)?;
-    Ok(write_answer(writer, &answer)?)
+    let input = read_bytes(alloc, MOST, reader)?;
+    let answer = normalise_slice::<O>(alloc, limit, count, in_kind, out_kind, &input);
+    send(answer, writer)
 }
 
 /// Writes the items of the input as they are spelled, as `show_all` does.
@@ -78,11 +78,23 @@ pub fn show_stream<R: Source, W: Sink>(
     ensures flushed { OnOk result (W.unflushed writer.new ≡ 0) }
     ensures calls { R.asked reader.new ≤ R.asked reader.old + most_bytes + 1 }
 {
-    if count == Count::Any {
-        return Ok(show_all::<R, W>(alloc, limit, in_kind, out_kind, reader, writer)?);
-    }
     let input = read_bytes(alloc, MOST, reader)?;
-    let answer = show_slice(alloc, limit, count, in_kind, out_kind, &input)?;
+    let answer = show_slice(alloc, limit, count, in_kind, out_kind, &input);
+    send(answer, writer)
+}
+
+/// Writes an answer, or hands on why there is none; then the writer is as it was.
+fn send<W: Sink>(
+    answer: Result<CowSlice<'_, u8, Global>, CountFault>,
+    writer: &mut W,
+) -> Result<(), CountFault>
+    requires { answer ≢ Err (counted.Engine fault.WriteFault) }
+    ensures sent { (output : List ℕ) × Appends (W.contents writer.old) (W.contents writer.new) output × IsSent (counted.Engine fault.WriteFault) (λ a. a ≡ bytes_of answer.entry) output result }
+    ensures failures { CountsFault (counted.Engine fault.WriteFault) result (W.failed writer.old) (W.failed writer.new) }
+    ensures untouched { IfErr result (λ why. why ≢ counted.Engine fault.WriteFault → writer.new ≡ writer.old) }
+    ensures flushed { OnOk result (W.unflushed writer.new ≡ 0) }
+{
+    let answer = answer?;
     Ok(write_answer(writer, &answer)?)
 }
 
@@ -152,15 +164,12 @@ fn read_counted<O: KeyOrder, R: Source>(
     reader: &mut R,
 ) -> Result<Vec<u8>, CountFault>
     ensures reads { ReadsCount count O.order kind limit (R.remaining reader.old) (R.remaining reader.new) result }
-    ensures failures { R.failed reader.new ≡ count_failures result (R.failed reader.old) }
+    ensures failures { CountsFault (counted.Engine fault.ReadFault) result (R.failed reader.old) (R.failed reader.new) }
     ensures calls { R.asked reader.new ≤ R.asked reader.old + most_bytes + 1 }
 {
     let input = read_bytes(alloc, MOST, reader)?;
-    if is_own_encoding::<O>(limit, kind, &input) {
-        expect(alloc, limit, count, kind, &input)?;
-        return Ok(input);
+    match encode_counted::<O>(alloc, limit, count, kind, &input)? {
+        None => Ok(input),
+        Some(encodings) => Ok(encodings),
     }
-    let bytes = encode_input::<O>(alloc, limit, kind, &input)?;
-    expect(alloc, limit, count, kind, &input)?;
-    Ok(bytes)
 }

@@ -1,11 +1,10 @@
 //! Encoding what a whole input holds. The encodings are written as bytes or a text are read; no tree is
 //! kept.
-ghost use Rattle.std.specs.Prelude.{◌≡◌, ◌≤◌, ℕ, length, IsTrue};
+ghost use Rattle.std.specs.Prelude.{◌≤◌, length, IfOk, IfErr, IsTrue};
 ghost use Rattle.cborn_engine.specs.declared.kinds.Kind.TheVariants as kinds;
-ghost use Rattle.cborn_engine.specs.devices.Encoding.{EncodeAnswers, IsEncoded, kind_of};
+ghost use Rattle.cborn_engine.specs.devices.Encoding.{IsEncoded, kind_of};
 ghost use Rattle.cborn_engine.specs.Reading.{most_bytes};
-ghost use Rattle.cborn_engine.specs.devices.Counting.{read_failures};
-ghost use Rattle.cborn_engine.specs.Whole.{TellsFault};
+ghost use Rattle.cborn_engine.specs.devices.Malformed.{IsRefusedHeld};
 
 use crate::faults::EngineFault;
 use crate::fronts::is_deterministic;
@@ -36,9 +35,8 @@ pub fn encode_input<O: KeyOrder>(
     input: &[u8],
 ) -> Result<Vec<u8>, EngineFault>
     requires { length input.now ≤ most_bytes }
-    ensures answers { length input.now ≤ most_bytes → EncodeAnswers O.order kind limit most_bytes input.now result }
-    ensures malformed { length input.now ≤ most_bytes → TellsFault kind limit input.now result }
-    ensures failures { (n : ℕ) → read_failures result n ≡ n }
+    ensures encoded { IfOk result (λ bytes. IsEncoded O.order kind limit input.now bytes.items) }
+    ensures refused { IfErr result (IsRefusedHeld kind limit input.now) }
 {
     match profile_of(kind) {
         None => encode_bytes::<O>(alloc, limit, input),
@@ -52,9 +50,8 @@ fn encode_bytes<O: KeyOrder>(
     limit: Limit,
     input: &[u8],
 ) -> Result<Vec<u8>, EngineFault>
-    ensures answers { length input.now ≤ most_bytes → EncodeAnswers O.order kinds.Wire limit most_bytes input.now result }
-    ensures malformed { TellsFault kinds.Wire limit input.now result }
-    ensures failures { (n : ℕ) → read_failures result n ≡ n }
+    ensures encoded { IfOk result (λ bytes. IsEncoded O.order kinds.Wire limit input.now bytes.items) }
+    ensures refused { IfErr result (IsRefusedHeld kinds.Wire limit input.now) }
 {
     let encoded = judge_bytes::<O>(alloc, limit, input)?;
     Ok(encoded.bytes)
@@ -68,8 +65,8 @@ fn encode_text<O: KeyOrder>(
     input: &[u8],
 ) -> Result<Vec<u8>, EngineFault>
     requires { length input.now ≤ most_bytes }
-    ensures answers { length input.now ≤ most_bytes → EncodeAnswers O.order (kind_of profile) limit most_bytes input.now result }
-    ensures failures { (n : ℕ) → read_failures result n ≡ n }
+    ensures encoded { IfOk result (λ bytes. IsEncoded O.order (kind_of profile) limit input.now bytes.items) }
+    ensures refused { IfErr result (IsRefusedHeld (kind_of profile) limit input.now) }
 {
     let mut encoder = Encoder::<O>::with_capacity(alloc, input.len() / 2)?;
     hand_text(alloc, limit, profile, input, &mut encoder)?;

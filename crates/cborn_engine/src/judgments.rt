@@ -1,13 +1,11 @@
 //! Judging bytes: what the items that they hold are encoded as, and where they first depart from
 //! that, or why they hold none. One look finds it all, and keeps no tree.
 
-ghost use Rattle.std.specs.Prelude.{◌≡◌, ◌≤◌, ℕ, [], length, IfOk, IfErr};
+ghost use Rattle.std.specs.Prelude.{[], IfOk, IfErr};
 ghost use Rattle.cborn_model.specs.Partial.{top, no_part};
 ghost use Rattle.cborn_engine.specs.declared.kinds.Kind.TheVariants as kinds;
-ghost use Rattle.cborn_engine.specs.devices.Counting.{read_failures};
 ghost use Rattle.cborn_engine.specs.devices.Encoding.{AreJudged};
-ghost use Rattle.cborn_engine.specs.Refusing.{IsRefused};
-ghost use Rattle.cborn_engine.specs.Whole.{TellsFault};
+ghost use Rattle.cborn_engine.specs.devices.Malformed.{IsRefusedHeld};
 
 use crate::faults::EngineFault;
 use crate::refusals::fault_or_refusal;
@@ -29,9 +27,7 @@ pub fn judge_bytes<O: KeyOrder>(
     input: &[u8],
 ) -> Result<EncodedItems, EngineFault>
     ensures judged { IfOk result (λ found. AreJudged O.order limit input.now found.bytes.items found.defect) }
-    ensures refused { IfErr result (λ why. (most : ℕ) → length input.now ≤ most → IsRefused kinds.Wire limit most input.now why) }
-    ensures malformed { TellsFault kinds.Wire limit input.now result }
-    ensures failures { (n : ℕ) → read_failures result n ≡ n }
+    ensures refused { IfErr result (IsRefusedHeld kinds.Wire limit input.now) }
 {
     // An encoding is longer than what it was read from only where an indefinite length, which takes
     // two bytes, becomes the head of 256 entries or more.
@@ -51,9 +47,7 @@ fn judge_with<O: KeyOrder>(
 ) -> Result<EncodedItems, EngineFault>
     requires { ⟦<Encoder<O> as Visitor>⟧.holds encoder (top []) no_part }
     ensures judged { IfOk result (λ found. AreJudged O.order limit input.now found.bytes.items found.defect) }
-    ensures refused { IfErr result (λ why. (most : ℕ) → length input.now ≤ most → IsRefused kinds.Wire limit most input.now why) }
-    ensures malformed { TellsFault kinds.Wire limit input.now result }
-    ensures failures { (n : ℕ) → read_failures result n ≡ n }
+    ensures refused { IfErr result (IsRefusedHeld kinds.Wire limit input.now) }
 {
     let mut encoder = encoder;
     match visit(alloc, limit, input, &mut encoder) {

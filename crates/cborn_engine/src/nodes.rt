@@ -3,8 +3,7 @@ ghost use Rattle.std.specs.Prelude.{◌≡◌, ◌≤◌, ℕ, length, IfOk, IfE
 ghost use Rattle.cborn_engine.specs.devices.Encoding.{kind_of};
 ghost use Rattle.cborn_engine.specs.Holding.{SpellsInPlace};
 ghost use Rattle.cborn_engine.specs.Loading.{IsNoFlaw};
-ghost use Rattle.cborn_engine.specs.devices.Counting.{read_failures};
-ghost use Rattle.cborn_engine.specs.Refusing.{IsRefused};
+ghost use Rattle.cborn_engine.specs.devices.Malformed.{IsRefusedHeld};
 
 use crate::faults::EngineFault;
 use crate::texts::text_of;
@@ -24,8 +23,7 @@ pub fn notated_nodes(
     input: &[u8],
 ) -> Result<Vec<Spelled>, EngineFault>
     ensures spelled { IfOk result (λ nodes. SpellsInPlace (kind_of profile) limit input.now nodes.items) }
-    ensures refused { IfErr result (λ why. (most : ℕ) → length input.now ≤ most → IsRefused (kind_of profile) limit most input.now why × IsNoFlaw why) }
-    ensures failures { (n : ℕ) → read_failures result n ≡ n }
+    ensures refused { IfErr result (λ why. IsRefusedHeld (kind_of profile) limit input.now why × IsNoFlaw why) }
 {
     let text = text_of(input)?;
     Ok(read_notation(alloc, limit, profile, text)?)

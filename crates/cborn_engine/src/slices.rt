@@ -13,15 +13,14 @@ ghost use Rattle.cborn_engine.specs.Bytes.{BytesHold};
 ghost use Rattle.cborn_engine.specs.Canonical.{IsCanonical, IsNormalForm};
 ghost use Rattle.cborn_engine.specs.Comparing.{AreCompared};
 ghost use Rattle.cborn_engine.specs.Counts.{CountAnswer, NormalisedWhole, ShownWhole, CheckedWhole, IsTaken, AreRefusedWhole, of_the_first};
-ghost use Rattle.cborn_engine.specs.devices.Counts.{EncodedWhole};
-ghost use Rattle.cborn_engine.specs.devices.Encoding.{IsEncoded, IsWrittenAs};
+ghost use Rattle.cborn_engine.specs.devices.Counts.{EncodedWhole, own_or};
+ghost use Rattle.cborn_engine.specs.devices.Encoding.{IsEncoded, IsFixedText, IsWrittenAs};
 ghost use Rattle.cborn_engine.specs.Holding.{Holds, HoldSameItems};
 ghost use Rattle.cborn_engine.specs.Showing.{SpellSameBytes};
 ghost use Rattle.cborn_engine.specs.Whole.{TellsFaultAs};
 ghost use Rattle.cborn_engine.specs.Reading.{most_bytes};
 
 use crate::checks::check_input;
-use crate::conversions::fixed_text;
 use crate::count_faults::{CompareCountFault, CountFault};
 use crate::counts::{Count, expect};
 use crate::differences::difference;
@@ -30,6 +29,7 @@ use crate::faults::EngineFault;
 use crate::inputs::MOST;
 use crate::kinds::Kind;
 use crate::showings::{is_own_spelling, show_input};
+use cborn_edn::{Notated, show_bytes};
 use cborn_model::{Defect, KeyOrder, Limit};
 use std::alloc::{AllocError, Global};
 use std::borrow::CowSlice;
@@ -57,8 +57,8 @@ pub fn normalise_slice<'a, O: KeyOrder>(
     ensures room { IfOk result (λ output. in_kind ≡ kinds.Wire → out_kind ≡ kinds.Wire → 3 * length (cow_slice_items output) ≤ 4 * length input.now) }
     ensures malformed { length input.now ≤ most_bytes → TellsFaultAs counted.Engine in_kind limit input.now result }
 {
-    let bytes = encode_slice::<O>(alloc, limit, in_kind, input)?;
-    let answer = written_as(alloc, limit, out_kind, bytes)?;
+    let encodings = encode_slice::<O>(alloc, limit, in_kind, input)?;
+    let answer = written_as(alloc, limit, out_kind, lent(input, encodings))?;
     expect(alloc, limit, count, in_kind, input)?;
     Ok(answer)
 }
@@ -191,37 +191,47 @@ fn is_too_long(input: &[u8]) -> bool
     input.len() as u64 > MOST
 }
 
-/// The deterministic encodings of what an input holds, one after another.
-fn encode_slice<'a, O: KeyOrder>(
+/// The deterministic encodings of what an input holds, one after another. `None`: they are the input.
+fn encode_slice<O: KeyOrder>(
     alloc: Global,
     limit: Limit,
     kind: Kind,
-    input: &'a [u8],
-) -> Result<CowSlice<'a, u8, Global>, EngineFault>
+    input: &[u8],
+) -> Result<Option<Vec<u8>>, EngineFault>
     ensures { EncodedWhole O.order kind limit input.now result }
 {
     if is_too_long(input) {
         return Err(EngineFault::TooLong);
     }
     if is_own_encoding::<O>(limit, kind, input) {
-        return Ok(CowSlice::Borrowed(input));
+        return Ok(None);
     }
-    Ok(CowSlice::Owned(encode_input::<O>(alloc, limit, kind, input)?))
+    Ok(Some(encode_input::<O>(alloc, limit, kind, input)?))
 }
 
-/// The deterministic encodings of what an input holds, where that are as many items as it has to hold.
-fn encode_counted<'a, O: KeyOrder>(
+/// What `encode_slice` answers, where the input holds as many items as it has to hold.
+pub fn encode_counted<O: KeyOrder>(
     alloc: Global,
     limit: Limit,
     count: Count,
     kind: Kind,
-    input: &'a [u8],
-) -> Result<CowSlice<'a, u8, Global>, CountFault>
+    input: &[u8],
+) -> Result<Option<Vec<u8>>, CountFault>
     ensures { CountAnswer count kind limit input.now (EncodedWhole O.order kind limit input.now) result }
 {
-    let bytes = encode_slice::<O>(alloc, limit, kind, input)?;
+    let encodings = encode_slice::<O>(alloc, limit, kind, input)?;
     expect(alloc, limit, count, kind, input)?;
-    Ok(bytes)
+    Ok(encodings)
+}
+
+/// Encodings, or the input, where they are that.
+fn lent<'a>(input: &'a [u8], encodings: Option<Vec<u8>>) -> CowSlice<'a, u8, Global>
+    ensures { cow_slice_items result ≡ own_or input.now encodings }
+{
+    match encodings {
+        None => CowSlice::Borrowed(input),
+        Some(bytes) => CowSlice::Owned(bytes),
+    }
 }
 
 /// The deterministic encodings of what two inputs hold, those of each one after another.
@@ -239,11 +249,11 @@ fn encode_both<'a, 'b, O: KeyOrder>(
     ensures refused { IfErr result (AreRefusedWhole count kind_a kind_b limit first.now second.now) }
 {
     let ours = match encode_counted::<O>(alloc, limit, count, kind_a, first) {
-        Ok(bytes) => bytes,
+        Ok(encodings) => lent(first, encodings),
         Err(why) => return Err(CompareCountFault::of_first(why)),
     };
     let theirs = match encode_counted::<O>(alloc, limit, count, kind_b, second) {
-        Ok(bytes) => bytes,
+        Ok(encodings) => lent(second, encodings),
         Err(why) => return Err(CompareCountFault::of_second(why)),
     };
     Ok((ours, theirs))
@@ -264,5 +274,21 @@ fn written_as<'a>(
         Kind::Notation | Kind::Notation2 => {
             Ok(CowSlice::Owned(fixed_text(alloc, limit, &bytes)?))
         }
+    }
+}
+
+/// Bytes that hold items, in notation. They have one: such bytes are well-formed, and their text strings
+/// are UTF-8.
+///
+/// # Errors
+/// Where a growth of the text was refused.
+fn fixed_text(alloc: Global, limit: Limit, bytes: &[u8]) -> Result<Vec<u8>, AllocError>
+    requires { (items : List Value) × Holds kinds.Wire limit bytes.now items }
+    ensures { IfOk result (λ text. IsFixedText bytes.now text.items) }
+{
+    match show_bytes(alloc, limit, bytes)? {
+        Notated::Text(text) => Ok(text),
+        Notated::Malformed { .. } => unreachable!(),
+        Notated::NotUtf8 { .. } => unreachable!(),
     }
 }

@@ -7,8 +7,7 @@ ghost use Rattle.cborn_model.specs.Tree.{Tree, trees};
 ghost use Rattle.cborn_edn.specs.Grammar.{Notates};
 ghost use Rattle.cborn_edn.specs.Spelling.{IsSpelling};
 ghost use Rattle.cborn_engine.specs.Loading.{IsNoFlaw};
-ghost use Rattle.cborn_engine.specs.devices.Counting.{read_failures};
-ghost use Rattle.cborn_engine.specs.Refusing.{IsRefused};
+ghost use Rattle.cborn_engine.specs.devices.Malformed.{IsRefusedHeld};
 
 use crate::faults::EngineFault;
 use cborn_edn::{read_text, visit_text};
@@ -23,9 +22,8 @@ use std::alloc::Global;
 /// `TextInput` where they aren't UTF-8, with the length of their longest front that is.
 pub fn text_of(bytes: &[u8]) -> Result<&str, EngineFault>
     ensures text { IfOk result (λ text. (text.now ≡ bytes.now) × IsUtf8 bytes.now) }
-    ensures refused { IfErr result (λ why. (profile : ProfileSpec) (limit most : ℕ) → length bytes.now ≤ most → IsRefused (kind_of profile) limit most bytes.now why × IsNoFlaw why) }
+    ensures refused { IfErr result (λ why. (profile : ProfileSpec) (limit : ℕ) → IsRefusedHeld (kind_of profile) limit bytes.now why × IsNoFlaw why) }
     ensures none { IfErr result (λ _. IsUtf8 bytes.now → ⊥) }
-    ensures failures { (n : ℕ) → read_failures result n ≡ n }
 {
     match from_utf8(bytes) {
         Ok(text) => Ok(text),
@@ -45,8 +43,7 @@ pub fn bytes_of_text(
     input: &[u8],
 ) -> Result<Vec<u8>, EngineFault>
     ensures spelled { IfOk result (λ bytes. IsUtf8 input.now × IsSpelling profile limit input.now bytes.items) }
-    ensures refused { IfErr result (λ why. (most : ℕ) → length input.now ≤ most → IsRefused (kind_of profile) limit most input.now why × IsNoFlaw why) }
-    ensures failures { (n : ℕ) → read_failures result n ≡ n }
+    ensures refused { IfErr result (λ why. IsRefusedHeld (kind_of profile) limit input.now why × IsNoFlaw why) }
 {
     let text = text_of(input)?;
     Ok(read_text(alloc, limit, profile, text)?)
@@ -66,8 +63,7 @@ pub fn hand_text<V: Visitor>(
 ) -> Result<(), EngineFault>
     requires { V.holds visitor.old (top []) no_part }
     ensures nodes { OnOk result (IsUtf8 input.now × ((nodes : List Tree) × V.holds visitor.new (top nodes) no_part × Notates profile limit input.now (trees nodes))) }
-    ensures refused { IfErr result (λ why. (most : ℕ) → length input.now ≤ most → IsRefused (kind_of profile) limit most input.now why × IsNoFlaw why) }
-    ensures failures { (n : ℕ) → read_failures result n ≡ n }
+    ensures refused { IfErr result (λ why. IsRefusedHeld (kind_of profile) limit input.now why × IsNoFlaw why) }
 {
     let text = text_of(input)?;
     Ok(visit_text(alloc, limit, profile, text, visitor)?)

@@ -1,9 +1,6 @@
 -- What `?` answers, and what an output is that isn't bytes.
 use Rattle.std.proofs.Common.{◌≡◌, Result, Ok, Err, refl, subst, sym, ap}
 use Rattle.std.specs.Result.{IsErrAnd}
-use Rattle.cborn_engine.specs.declared.stream_faults.OutputFault.{OutputFault}
-use Rattle.cborn_engine.specs.Faults.{of_output}
-use Rattle.cborn_engine.specs.declared.faults.EngineFault.{EngineFault}
 use Rattle.cborn_engine.specs.declared.kinds.Kind.{Kind}
 use Rattle.cborn_engine.specs.declared.kinds.Kind.TheVariants as kind
 
@@ -11,11 +8,6 @@ use Rattle.cborn_engine.specs.declared.kinds.Kind.TheVariants as kind
 pub known_error : {A E : Type 0} (P : Result A E → Type 0) (why : E) (r : Result A E) → IsErrAnd r (λ e. e ≡ why) → P (Err why) → P r
 known_error P why (Ok a) h p = absurd h
 known_error P why (Err e) h p = subst P (sym (ap Err h)) p
-
--- what a call answers that ends with this write
-abbrev pub answer_of : Result Unit OutputFault → Result Unit EngineFault
-answer_of (Ok u) = Ok u
-answer_of (Err why) = Err (of_output why)
 
 -- notation of one of the two kinds
 pub notation : (out : Kind) → (out ≡ kind.Wire → ⊥) → (P : Kind → Type 0) → P kind.Notation → P kind.Notation2 → P out

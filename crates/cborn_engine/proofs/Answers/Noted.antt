@@ -15,7 +15,8 @@ use Rattle.cborn_judge.proofs.FirstFlaw.Sequences.{first_refusal}
 use Rattle.cborn_edn.specs.Grammar.{Notates}
 use Rattle.cborn_edn.proofs.Started.Rises.{spots_rise}
 use Rattle.cborn_engine.specs.declared.faults.EngineFault.TheVariants as fault
-use Rattle.cborn_engine.specs.Refusing.{IsRefused}
+use Rattle.cborn_engine.specs.devices.Malformed.{IsRefusedHeld}
+use Rattle.cborn_engine.specs.Whole.{IsRefusedWhole}
 use Rattle.cborn_engine.proofs.Answers.Spots.{rising_apart}
 use Rattle.cborn_lex.specs.declared.classes.Profile.{Profile}
 use Rattle.cborn_lex.specs.declared.classes.Profile.TheVariants as profile
@@ -46,13 +47,13 @@ encoded p limit text nodes u n order answer e = record {
 }
 
 -- its first flaw is that of the first node that means nothing
-pub flawed : (p : Profile) (limit : ℕ) (text : List ℕ) (nodes : List Tree) → IsUtf8 text → Notates p limit text (trees nodes) → (place : ℕ) (r : InvalidReason) → IsFirst flaw_rank (FlawIn (trees nodes)) place r → length text ≤ most_bytes → IsRefused (kind_of p) limit most_bytes text (fault.Invalid (invalid.Refused place r))
-flawed p limit text nodes u n place r f l = go p n
+pub flawed : (p : Profile) (limit : ℕ) (text : List ℕ) (nodes : List Tree) → IsUtf8 text → Notates p limit text (trees nodes) → (place : ℕ) (r : InvalidReason) → IsFirst flaw_rank (FlawIn (trees nodes)) place r → IsRefusedHeld (kind_of p) limit text (fault.Invalid (invalid.Refused place r))
+flawed p limit text nodes u n place r f most l = go p n
   where
     first : (q : Profile) → Notates q limit text (trees nodes) → IsRefusalOfAll nodes (invalid.Refused place r)
     first q n = first_refusal nodes place r (rising_apart nodes (spots_rise q limit text (trees nodes) n)) f
 
-    go : (q : Profile) → Notates q limit text (trees nodes) → IsRefused (kind_of q) limit most_bytes text (fault.Invalid (invalid.Refused place r))
+    go : (q : Profile) → Notates q limit text (trees nodes) → IsRefusedWhole (kind_of q) limit most text (fault.Invalid (invalid.Refused place r))
     go profile.One n = (l, record { nodes = nodes; spelled = (u, n); flaw = first profile.One n })
     go profile.Two n = (l, record { nodes = nodes; spelled = (u, n); flaw = first profile.Two n })
 

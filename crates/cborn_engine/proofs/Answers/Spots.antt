@@ -1,6 +1,5 @@
 -- The flaws of what a text notates: each is at a spot, and spots rise, so that the first flaw of all is that of the first node that means nothing.
 use Rattle.std.proofs.Common.{◌≡◌, ℕ, ◌<◌, inl, inr, List, [], ◌∷◌, ◌++◌, refl, sym, subst}
-use Rattle.std.specs.List.{AllByRecursion}
 use Rattle.cborn_model.specs.declared.nodes.Chunk.{Chunk}
 use Rattle.cborn_model.specs.Tree.{Tree, Uint, Nint, Bytes, Text, ByteChunks, TextChunks, Items, Pairs, Tagged, Simple, Trees, no_item, more, Entries, no_entry, entry, place, trees}
 use Rattle.cborn_model.proofs.SameItems.Rearranging.{IsIn, at_member}

@@ -1,5 +1,5 @@
 -- Why a text that is held whole is refused.
-use Rattle.std.proofs.Common.{◌≡◌, ◌≤◌, ℕ, List, length, subst}
+use Rattle.std.proofs.Common.{◌≡◌, ℕ, List, subst}
 use Rattle.std.specs.Prelude.{IsUtf8}
 use Rattle.cborn_lex.specs.declared.classes.Profile.{Profile}
 use Rattle.cborn_lex.specs.declared.classes.Profile.TheVariants as profile
@@ -9,17 +9,18 @@ use Rattle.cborn_edn.specs.declared.faults.EdnFault.TheVariants as edn
 use Rattle.cborn_edn.specs.Faults.{IsNoNotation}
 use Rattle.cborn_engine.specs.Faults.{of_edn}
 use Rattle.cborn_engine.specs.Loading.{IsNoFlaw}
-use Rattle.cborn_engine.specs.Refusing.{IsRefused}
+use Rattle.cborn_engine.specs.devices.Malformed.{IsRefusedHeld}
+use Rattle.cborn_engine.proofs.Answers.Malformed.{no_fault}
 use Rattle.cborn_engine.specs.devices.Encoding.{kind_of}
 
 -- it has no tokens, no tree or no meaning
-pub untold : (p : Profile) (limit most : ℕ) (input text : List ℕ) (why : EdnFault) → text ≡ input → IsUtf8 input → IsNoNotation p limit text why → length input ≤ most → IsRefused (kind_of p) limit most input (of_edn why) × IsNoFlaw (of_edn why)
-untold p limit most input text why e u r l = go p why (subst (λ (x : List ℕ). IsNoNotation p limit x why) e r)
+pub untold : (p : Profile) (limit : ℕ) (input text : List ℕ) (why : EdnFault) → text ≡ input → IsUtf8 input → IsNoNotation p limit text why → IsRefusedHeld (kind_of p) limit input (of_edn why) × IsNoFlaw (of_edn why)
+untold p limit input text why e u r = go p why (subst (λ (x : List ℕ). IsNoNotation p limit x why) e r)
   where
-    go : (p : Profile) (why : EdnFault) → IsNoNotation p limit input why → IsRefused (kind_of p) limit most input (of_edn why) × IsNoFlaw (of_edn why)
-    go profile.One (edn.Lex (lex.Refused q s)) k = ((l, (u, k)), tt)
-    go profile.Two (edn.Lex (lex.Refused q s)) k = ((l, (u, k)), tt)
-    go profile.One (edn.Refused q s) k = ((l, (u, k)), tt)
-    go profile.Two (edn.Refused q s) k = ((l, (u, k)), tt)
-    go p (edn.Lex lex.OutOfMemory) k = (l, tt)
-    go p edn.OutOfMemory k = (l, tt)
+    go : (p : Profile) (why : EdnFault) → IsNoNotation p limit input why → IsRefusedHeld (kind_of p) limit input (of_edn why) × IsNoFlaw (of_edn why)
+    go profile.One (edn.Lex (lex.Refused q s)) k = ((λ most l. (l, (u, k))), tt)
+    go profile.Two (edn.Lex (lex.Refused q s)) k = ((λ most l. (l, (u, k))), tt)
+    go profile.One (edn.Refused q s) k = ((λ most l. (l, (u, k))), tt)
+    go profile.Two (edn.Refused q s) k = ((λ most l. (l, (u, k))), tt)
+    go p (edn.Lex lex.OutOfMemory) k = ((λ most l. (l, no_fault p limit input)), tt)
+    go p edn.OutOfMemory k = ((λ most l. (l, no_fault p limit input)), tt)

@@ -1,6 +1,5 @@
 -- What is answered for an input that was read to its end, and of bytes that are held whole.
-use Rattle.std.proofs.Common.{◌≡◌, ◌≤◌, ℕ, List, length, sym, ◌∙◌, subst, Option, None, Some, Result, Ok, Err, Vec, Global, Ordering, arith}
-use Rattle.std.specs.Io.KnownBytes.{IsAtEnd}
+use Rattle.std.proofs.Common.{◌≡◌, ◌≤◌, ◌⊎◌, inl, inr, refl, ℕ, List, length, sym, ◌∙◌, subst, Option, None, Some, Result, Ok, Err, Vec, Global, Ordering, arith}
 use Rattle.std.specs.Prelude.{IfOk, IfErr}
 use Rattle.cborn_model.specs.Tree.{Tree, trees}
 use Rattle.cborn_model.specs.Orders.{IsKeyOrder}
@@ -12,60 +11,65 @@ use Rattle.cborn_engine.specs.declared.faults.EngineFault.TheVariants as fault
 use Rattle.cborn_engine.specs.declared.kinds.Kind.{Kind}
 use Rattle.cborn_engine.specs.declared.kinds.Kind.TheVariants as kind
 use Rattle.cborn_engine.specs.Holding.{Holds, SpellsInPlace}
-use Rattle.cborn_engine.specs.Loading.{IsNoFlaw, LoadAnswers, Loads}
-use Rattle.cborn_engine.specs.Refusing.{IsRefused, IsRead}
+use Rattle.cborn_engine.specs.Loading.{IsNoFlaw, LoadAnswers}
+use Rattle.cborn_engine.specs.Refusing.{IsRefused}
 use Rattle.cborn_engine.specs.declared.stream_faults.InputFault.{InputFault}
 use Rattle.cborn_engine.specs.declared.stream_faults.InputFault.TheVariants as input
 use Rattle.cborn_engine.specs.Collecting.{Collects, CollectAnswers}
 use Rattle.cborn_engine.specs.Faults.{of_input}
-use Rattle.cborn_engine.specs.devices.Reading.{Reads}
+use Rattle.cborn_engine.specs.Streams.{IsRead, Reads}
+use Rattle.cborn_engine.specs.Whole.{IsRefusedWhole}
+use Rattle.cborn_engine.specs.devices.Counting.{read_failures}
+use Rattle.cborn_engine.specs.devices.Malformed.{IsRefusedHeld}
 use Rattle.cborn_engine.specs.devices.Encoding.{IsEncoded, AreJudged}
 use Rattle.cborn_engine.specs.Checking.{CheckAnswers, Verdict}
 use Rattle.cborn_engine.specs.Reading.{most_bytes}
 use Rattle.cborn_engine.proofs.Answers.Checked.{with_defect, without_defect}
 
-pub ended : (A : Type 0) (why : EngineFault) (rest : Option (List ℕ)) → IsAtEnd rest → IsRead {A = A} (Err why) rest
-ended A fault.TooLong rest h = tt
-ended A fault.ReadFault rest h = tt
-ended A fault.OutOfMemory rest h = tt
-ended A _ rest h = h
-
 -- ---- what was read
 
 -- the reader stopped
-stopped : (A : Type 0) (k : Kind) (limit most : ℕ) (x : List ℕ) (after : Option (List ℕ)) (why : InputFault) → CollectAnswers most x after (Err why) → (IsRefused k limit most x (of_input why) × IsNoFlaw (of_input why)) × IsRead {A = A} (Err (of_input why)) after
-stopped A k limit most x after input.TooLong h = ((h, tt), tt)
-stopped A k limit most x after input.ReadFault h = ((h, tt), tt)
-stopped A k limit most x after input.OutOfMemory h = ((h, tt), tt)
+stopped : (k : Kind) (limit most : ℕ) (x : List ℕ) (after : Option (List ℕ)) (why : InputFault) → CollectAnswers most x after (Err why) → IsRefused k limit most x (of_input why) × IsNoFlaw (of_input why)
+stopped k limit most x after input.TooLong h = (h, tt)
+stopped k limit most x after input.ReadFault h = (h, tt)
+stopped k limit most x after input.OutOfMemory h = (h, tt)
 
-module _ {A : Type 0} (Answers : List ℕ → Result A EngineFault → Type 0) (most : ℕ) (before after : Option (List ℕ)) where
-  pub unread : (k : Kind) (limit : ℕ) (why : InputFault) → ((x : List ℕ) → IsRefused k limit most x (of_input why) × IsNoFlaw (of_input why) → Answers x (Err (of_input why))) → Collects most before after (Err why) → Reads Answers before after (Err (of_input why))
-  unread k limit why f h = let r = stopped A k limit most h.input after why h.answer in record { input = h.input; taken = h.taken; answer = f h.input r.0; to_end = r.1 }
+module _ {A E : Type 0} (name : EngineFault → E) (Answers : List ℕ → Result A E → Type 0) (most : ℕ) (before after : Option (List ℕ)) where
+  pub unread : (k : Kind) (limit : ℕ) (why : InputFault) → ((x : List ℕ) → IsRefused k limit most x (of_input why) × IsNoFlaw (of_input why) → Answers x (Err (name (of_input why)))) → Collects most before after (Err why) → Reads name Answers before after (Err (name (of_input why)))
+  unread k limit why f h = record { input = h.input; taken = h.taken; answer = f h.input (stopped k limit most h.input after why h.answer); to_end = inr (ended why) }
+    where
+      ended : (why : InputFault) → (name (of_input why) ≡ name fault.ReadFault) ⊎ (name (of_input why) ≡ name fault.TooLong) ⊎ (name (of_input why) ≡ name fault.OutOfMemory)
+      ended input.ReadFault = inl refl
+      ended input.TooLong = inr (inl refl)
+      ended input.OutOfMemory = inr (inr refl)
 
   -- it was read to its end
-  pub read_whole : (bytes : Vec ℕ Global) (now : List ℕ) → Collects most before after (Ok bytes) → now ≡ bytes.items → (r : Result A EngineFault) → (length now ≤ most → Answers now r) → Reads Answers before after r
+  pub read_whole : (bytes : Vec ℕ Global) (now : List ℕ) → Collects most before after (Ok bytes) → now ≡ bytes.items → (r : Result A E) → (length now ≤ most → Answers now r) → Reads name Answers before after r
   read_whole bytes now h e r f =
       let same : now ≡ h.input = e ∙ h.answer.0 in
       let within : length now ≤ most = subst (λ (x : List ℕ). length x ≤ most) (sym same) h.answer.1 in
       record { input = h.input; taken = h.taken; answer = subst (λ (x : List ℕ). Answers x r) same (f within); to_end = at_end r }
     where
-      at_end : (r : Result A EngineFault) → IsRead r after
+      at_end : (r : Result A E) → IsRead name r after
       at_end (Ok a) = h.answer.2
-      at_end (Err why) = ended A why after h.answer.2
+      at_end (Err why) = inl h.answer.2
 
-pub not_loaded : (k : Kind) (limit most : ℕ) (before after : Option (List ℕ)) (why : InputFault) → Collects most before after (Err why) → Loads k limit most before after (Err (of_input why))
-not_loaded k limit most before after why h =
-    let r = stopped (Vec Tree Global) k limit most h.input after why h.answer in record { input = h.input; taken = h.taken; answer = r.0; to_end = r.1 }
+-- what is held is refused as what is read
+pub read_refused : (k : Kind) (limit most : ℕ) (x : List ℕ) (why : EngineFault) → length x ≤ most → IsRefusedWhole k limit most x why → IsRefused k limit most x why
+read_refused k limit most x fault.TooLong l h = absurd (omega (arith, l, h))
+read_refused k limit most x fault.ReadFault l h = absurd h
+read_refused k limit most x fault.OutOfMemory l h = h.0
+read_refused k limit most x _ l h = h
 
-pub loaded : (k : Kind) (limit most : ℕ) (before after : Option (List ℕ)) (bytes : Vec ℕ Global) (now : List ℕ) → Collects most before after (Ok bytes) → now ≡ bytes.items → (r : Result (Vec Tree Global) EngineFault)
-    → IfOk r (λ nodes. SpellsInPlace k limit now nodes.items) → IfErr r (λ why. (most : ℕ) → length now ≤ most → IsRefused k limit most now why × IsNoFlaw why) → Loads k limit most before after r
-loaded k limit most before after bytes now h e r good bad =
-    let w = read_whole (LoadAnswers k limit most) most before after bytes now h e r (λ l. answer r good bad l) in
-    record { input = w.input; taken = w.taken; answer = w.answer; to_end = w.to_end }
-  where
-    answer : (r : Result (Vec Tree Global) EngineFault) → IfOk r (λ nodes. SpellsInPlace k limit now nodes.items) → IfErr r (λ why. (most : ℕ) → length now ≤ most → IsRefused k limit most now why × IsNoFlaw why) → length now ≤ most → LoadAnswers k limit most now r
-    answer (Ok nodes) good bad l = (l, good)
-    answer (Err why) good bad l = bad most l
+pub loaded : (k : Kind) (limit most : ℕ) (now : List ℕ) (r : Result (Vec Tree Global) EngineFault) → IfOk r (λ nodes. SpellsInPlace k limit now nodes.items) → IfErr r (λ why. IsRefusedHeld k limit now why × IsNoFlaw why) → length now ≤ most → LoadAnswers k limit most now r
+loaded k limit most now (Ok nodes) good bad l = (l, good)
+loaded k limit most now (Err why) good bad l = (read_refused k limit most now why l (bad.0 most l), bad.1)
+
+-- and no reader fails
+pub still : {A : Type 0} (k : Kind) (limit : ℕ) (now : List ℕ) (n : ℕ) (r : Result A EngineFault) → IfErr r (λ why. IsRefusedHeld k limit now why × IsNoFlaw why) → read_failures r n ≡ n
+still k limit now n (Ok a) h = refl
+still k limit now n (Err fault.ReadFault) h = absurd (h.0 (length now) (omega arith))
+still k limit now n (Err _) h = refl
 
 -- ---- the bytes
 

@@ -15,7 +15,6 @@ use Rattle.cborn_engine.specs.Holding.{Spells, Holds, Canon}
 use Rattle.cborn_engine.specs.devices.Encoding.{IsWrittenAs, IsEncoded}
 use Rattle.cborn_engine.specs.Canonical.{IsCanonical}
 use Rattle.cborn_engine.specs.Reading.{most_bytes}
-use Rattle.cborn_engine.proofs.Held.BadTexts.{held_text}
 use Rattle.cborn_engine.proofs.Held.Notated.{fits}
 use Rattle.cborn_engine.proofs.Canonical.Proper.{sequence_proper, sequence_shallow}
 use Rattle.cborn_engine.proofs.Held.Meant.{holds_once, all_same, all_turned, AreSound}
@@ -149,15 +148,3 @@ own_bytes order laws k limit input bytes short e =
       };
       same = back.same;
     }
-
--- what was encoded has an output of each kind
-pub some_form : (order : List ℕ → List ℕ → Ordering) (laws : IsKeyOrder order) (k out : Kind) (limit : ℕ) (input bytes : List ℕ) → length input ≤ most_bytes → IsEncoded order k limit input bytes → (w : List ℕ) × IsCanonical order k out limit input w
-some_form order laws k out limit input bytes short e =
-    let own = (own_bytes order laws k limit input bytes short e).own in
-    let w = some_output out own.items own.held in
-    (w.0, record { items = e.items; held = e.held; written = canon_of order out e.items bytes w.0 e.encoded w.1 })
-  where
-    some_output : (out : Kind) (vs : List Value) → Holds kind.Wire limit bytes vs → (w : List ℕ) × IsWrittenAs out bytes w
-    some_output kind.Wire vs h = (bytes, refl)
-    some_output kind.Notation vs h = held_text limit bytes vs h
-    some_output kind.Notation2 vs h = held_text limit bytes vs h

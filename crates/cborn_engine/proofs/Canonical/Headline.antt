@@ -1,5 +1,5 @@
 -- What follows where the outputs are canonical forms.
-use Rattle.std.proofs.Common.{◌≡◌, ◌≤◌, ◌↔◌, ℕ, List, [], ◌++◌, length, Err, sym, subst, ap, Ordering}
+use Rattle.std.proofs.Common.{◌≡◌, ◌≤◌, ◌↔◌, inl, inr, ℕ, List, ◌++◌, length, Err, sym, subst, ap, Ordering}
 use Rattle.std.specs.List.{AllZip}
 use Rattle.cborn_model.specs.Orders.{IsKeyOrder}
 use Rattle.cborn_model.specs.Value.{Value, Same}
@@ -7,7 +7,7 @@ use Rattle.cborn_engine.specs.declared.faults.EngineFault.{EngineFault}
 use Rattle.cborn_engine.specs.declared.faults.EngineFault.TheVariants as fault
 use Rattle.cborn_engine.specs.declared.kinds.Kind.{Kind}
 use Rattle.cborn_engine.specs.Holding.{Canon, HoldSameItems}
-use Rattle.cborn_engine.specs.Refusing.{IsRefused, IsNoRefusal, IsTrouble}
+use Rattle.cborn_engine.specs.Refusing.{IsNoRefusal, IsTrouble}
 use Rattle.cborn_engine.specs.Writing.{IsFront}
 use Rattle.cborn_engine.specs.Canonical.{IsCanonical, NormaliseAnswers}
 use Rattle.cborn_engine.specs.Reading.{most_bytes}
@@ -41,17 +41,12 @@ module _ (order : List ℕ → List ℕ → Ordering) (laws : IsKeyOrder order) 
 
   -- an output is refused only in trouble, and a front of it goes out
   pub refused_again : (k out : Kind) (limit most : ℕ) (x v w : List ℕ) (why : EngineFault) → length x ≤ most_bytes → length v ≤ most → IsCanonical order k out limit x v → NormaliseAnswers order out out limit most v w (Err why) → IsTrouble why × IsFront w v
-  refused_again k out limit most x v w why short room a = go why
+  refused_again k out limit most x v w why short room a (inl (e, (whole, f, front))) = (subst IsTrouble (sym e) tt, subst (IsFront w) (again order laws k out limit x v short a whole f.1) front)
+  refused_again k out limit most x v w why short room a (inr (r, e)) =
+      let back = reads_back order laws k out limit x v short a in
+      (trouble why (input_read out limit most v back.0 why room back.1 r), (v, ap (λ (u : List ℕ). u ++ v) e))
     where
-      nothing : w ≡ [] → IsFront w v
-      nothing e = (v, ap (λ (u : List ℕ). u ++ v) e)
-
-      unrefused : (why : EngineFault) → IsRefused out limit most v why → IsNoRefusal why
-      unrefused why r = let back = reads_back order laws k out limit x v short a in input_read out limit most v back.0 why room back.1 r
-
-      go : (why : EngineFault) → NormaliseAnswers order out out limit most v w (Err why) → IsTrouble why × IsFront w v
-      go fault.ReadFault b = (tt, nothing b.1)
-      go fault.OutOfMemory b = (tt, nothing b.1)
-      go fault.WriteFault b = (tt, subst (IsFront w) (again order laws k out limit x v short a b.1.0 b.1.1) b.1.2)
-      go (fault.Show f) b = absurd b.0
-      go why b = absurd (unrefused why b.0)
+      trouble : (why : EngineFault) → IsNoRefusal why → IsTrouble why
+      trouble fault.ReadFault n = tt
+      trouble fault.OutOfMemory n = tt
+      trouble _ n = absurd n

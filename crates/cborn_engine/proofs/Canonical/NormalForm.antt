@@ -1,7 +1,9 @@
 -- What an answer is worth: all that the headline says of it, at once.
-use Rattle.std.proofs.Common.{◌≤◌, ℕ, List, length, sym, subst, Ordering, Option, Ok}
+use Rattle.std.proofs.Common.{◌≤◌, ℕ, List, length, sym, subst, Ordering, Option, Result, Ok, Err}
+use Rattle.std.specs.Prelude.{OnOk}
 use Rattle.std.specs.Io.KnownBytes.{Consumes, Appends}
 use Rattle.cborn_model.specs.Orders.{IsKeyOrder}
+use Rattle.cborn_engine.specs.declared.count_faults.CountFault.{CountFault}
 use Rattle.cborn_engine.specs.declared.counts.Count.{Count}
 use Rattle.cborn_engine.specs.declared.kinds.Kind.{Kind}
 use Rattle.cborn_engine.specs.Holding.{Canon}
@@ -24,6 +26,7 @@ module _ (order : List ℕ → List ℕ → Ordering) (laws : IsKeyOrder order) 
         again = λ v. (λ b. again order laws k out limit x w short a v b, λ e. subst (IsCanonical order out out limit w) (sym e) (own_form order laws k out limit x w short a));
       }
 
-  -- likewise where the input has to hold a given number of items
-  pub counted_form : (count : Count) (before after sent sent_after : Option (List ℕ)) (u : Unit) → NormalisesCount count order k out limit most_bytes before after sent sent_after (Ok u) → (input : List ℕ) × (output : List ℕ) × Consumes before after input × Appends sent sent_after output × IsNormalForm order k out limit input output
-  counted_form count before after sent sent_after u h = (h.input, h.output, h.taken, h.given, normal_form h.input h.output h.answer.0.0 h.answer.0.1)
+  -- of what was read and written
+  pub written : (count : Count) (before after sent sent_after : Option (List ℕ)) (r : Result Unit CountFault) → NormalisesCount count order k out limit most_bytes before after sent sent_after r → OnOk r ((input : List ℕ) × (output : List ℕ) × Consumes before after input × Appends sent sent_after output × IsNormalForm order k out limit input output)
+  written count before after sent sent_after (Ok u) h = (h.read.input, h.output, h.read.taken, h.given, normal_form h.read.input h.output h.read.answer.0.0 h.read.answer.0.1)
+  written count before after sent sent_after (Err why) h = tt

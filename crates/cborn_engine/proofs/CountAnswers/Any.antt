@@ -1,7 +1,6 @@
 -- Where any number of items will do, the calls that may count answer what those answer that don't.
 use Rattle.std.specs.Prelude.{OnOk, IfErr}
-use Rattle.std.proofs.Common.{◌≡◌, ◌≢◌, refl, subst, ℕ, List, Option, Result, Ok, Err, Ordering}
-use Rattle.cborn_model.specs.declared.defects.Defect.{Defect}
+use Rattle.std.proofs.Common.{◌≡◌, ◌≢◌, refl, subst, inl, inr, ℕ, List, Option, Result, Ok, Err}
 use Rattle.cborn_engine.specs.declared.count_faults.CountFault.{CountFault}
 use Rattle.cborn_engine.specs.declared.count_faults.CountFault.TheVariants as counted
 use Rattle.cborn_engine.specs.declared.count_faults.CompareCountFault.{CompareCountFault}
@@ -12,12 +11,11 @@ use Rattle.cborn_engine.specs.declared.faults.CompareFault.TheVariants as engine
 use Rattle.cborn_engine.specs.declared.faults.EngineFault.{EngineFault}
 use Rattle.cborn_engine.specs.declared.faults.EngineFault.TheVariants as fault
 use Rattle.cborn_engine.specs.declared.kinds.Kind.{Kind}
-use Rattle.cborn_engine.specs.Canonical.{Normalises}
-use Rattle.cborn_engine.specs.Checking.{Checks}
 use Rattle.cborn_engine.specs.Comparing.{Compares}
-use Rattle.cborn_engine.specs.Counts.{NormalisesCount, ChecksCount, ComparesCount, counted_of, compare_counted_of}
+use Rattle.cborn_engine.specs.Counts.{CountAnswer, ComparesCount, counted_of, compare_counted_of}
 use Rattle.cborn_engine.specs.Failures.{CountsFault}
 use Rattle.cborn_engine.specs.Reading.{most_bytes}
+use Rattle.cborn_engine.specs.Streams.{IsRead, IsSent, Reads, Writes}
 
 pub any_counts : {A : Type 0} (why : EngineFault) (s : Result A CountFault) (r : Result A EngineFault) (n m : ℕ) → s ≡ counted_of r → CountsFault (counted.Engine why) s n m → CountsFault why r n m
 any_counts why s (Ok a) n m e h = (λ p. absurd cc, λ p. h.1 (λ q. cc))
@@ -25,32 +23,49 @@ any_counts why s (Err w) n m e h = (λ p. h.0 cc, λ p. h.1 (λ q. p cc))
 
 -- ---- of one input
 
-module _ (order : List ℕ → List ℕ → Ordering) (limit : ℕ) (before after : Option (List ℕ)) where
-  pub checked_any : (s : Result (Option Defect) CountFault) → ChecksCount counts.Any order limit most_bytes before after s → (r : Result (Option Defect) EngineFault) × (s ≡ counted_of r)
-  checked_any (Ok d) h = (Ok d, refl)
-  checked_any (Err (counted.Engine why)) h = (Err why, refl)
-  checked_any (Err _) h = absurd (let e = h.answer.1.0 in cc)
+read_any : {A : Type 0} (r : Result A EngineFault) (rest : Option (List ℕ)) → IsRead counted.Engine (counted_of r) rest → IsRead (λ why. why) r rest
+read_any (Ok a) rest h = h
+read_any (Err why) rest (inl h) = inl h
+read_any (Err why) rest (inr (inl e)) = inr (inl cc)
+read_any (Err why) rest (inr (inr (inl e))) = inr (inr (inl cc))
+read_any (Err why) rest (inr (inr (inr e))) = inr (inr (inr cc))
 
-  pub any_checked : (s : Result (Option Defect) CountFault) (r : Result (Option Defect) EngineFault) → s ≡ counted_of r → ChecksCount counts.Any order limit most_bytes before after s → Checks order limit most_bytes before after r
-  any_checked s r e h = go r (subst (ChecksCount counts.Any order limit most_bytes before after) e h)
-    where
-      go : (r : Result (Option Defect) EngineFault) → ChecksCount counts.Any order limit most_bytes before after (counted_of r) → Checks order limit most_bytes before after r
-      go (Ok d) h = record { input = h.input; taken = h.taken; answer = h.answer.0; to_end = h.to_end }
-      go (Err why) h = record { input = h.input; taken = h.taken; answer = h.answer; to_end = h.to_end }
+module _ (k : Kind) (limit : ℕ) (before after : Option (List ℕ)) where
+  module _ {A : Type 0} (Answers : List ℕ → Result A EngineFault → Type 0) where
+    abbrev pub Counting : List ℕ → Result A CountFault → Type 0
+    Counting x = CountAnswer counts.Any k limit x (Answers x)
 
-module _ (order : List ℕ → List ℕ → Ordering) (k out : Kind) (limit : ℕ) (before after sent sent_after : Option (List ℕ)) where
-  pub normalised_any : (s : Result Unit CountFault) → NormalisesCount counts.Any order k out limit most_bytes before after sent sent_after s → (r : Result Unit EngineFault) × (s ≡ counted_of r)
-  normalised_any (Ok u) h = (Ok u, refl)
-  normalised_any (Err (counted.Engine why)) h = (Err why, refl)
-  normalised_any (Err _) h = absurd (let e = h.answer.1.0 in cc)
+    pub any_of : (s : Result A CountFault) → Reads counted.Engine Counting before after s → (r : Result A EngineFault) × (s ≡ counted_of r)
+    any_of (Ok a) h = (Ok a, refl)
+    any_of (Err (counted.Engine why)) h = (Err why, refl)
+    any_of (Err _) h = absurd (let e = h.answer.1.0 in cc)
 
-  pub any_normalised : (s : Result Unit CountFault) (r : Result Unit EngineFault) → s ≡ counted_of r → NormalisesCount counts.Any order k out limit most_bytes before after sent sent_after s → Normalises order k out limit most_bytes before after sent sent_after r
-  any_normalised s r e h = go r (subst (NormalisesCount counts.Any order k out limit most_bytes before after sent sent_after) e h)
-    where
-      go : (r : Result Unit EngineFault) → NormalisesCount counts.Any order k out limit most_bytes before after sent sent_after (counted_of r) → Normalises order k out limit most_bytes before after sent sent_after r
-      go (Ok u) h = record { input = h.input; output = h.output; taken = h.taken; given = h.given; answer = h.answer.0; to_end = h.to_end }
-      go (Err fault.WriteFault) h = record { input = h.input; output = h.output; taken = h.taken; given = h.given; answer = h.answer.0; to_end = h.to_end }
-      go (Err _) h = record { input = h.input; output = h.output; taken = h.taken; given = h.given; answer = h.answer; to_end = h.to_end }
+    pub any_answered : (s : Result A CountFault) (r : Result A EngineFault) → s ≡ counted_of r → Reads counted.Engine Counting before after s → Reads (λ why. why) Answers before after r
+    any_answered s r e h = let g = subst (Reads counted.Engine Counting before after) e h in record { input = g.input; taken = g.taken; answer = plain g.input r g.answer; to_end = read_any r after g.to_end }
+      where
+        plain : (x : List ℕ) (r : Result A EngineFault) → Counting x (counted_of r) → Answers x r
+        plain x (Ok a) h = h.0
+        plain x (Err why) h = h
+
+  module _ (sent sent_after : Option (List ℕ)) (Answers : List ℕ → Result (List ℕ) EngineFault → Type 0) where
+    abbrev pub Sending : Result Unit CountFault → Type 0
+    Sending = Writes counted.Engine (λ x. CountAnswer counts.Any k limit x (Answers x)) before after sent sent_after
+
+    pub any_sent : (s : Result Unit CountFault) → Sending s → (r : Result Unit EngineFault) × (s ≡ counted_of r)
+    any_sent (Ok u) h = (Ok u, refl)
+    any_sent (Err (counted.Engine why)) h = (Err why, refl)
+    any_sent (Err (counted.NoItem p)) h = elim h.read.answer [ inl a ↦ absurd (let e = a.0 in cc) | inr a ↦ absurd (let e = a.0.1.0 in cc) ]
+    any_sent (Err (counted.MoreItems p)) h = elim h.read.answer [ inl a ↦ absurd (let e = a.0 in cc) | inr a ↦ absurd (let e = a.0.1.0 in cc) ]
+
+    pub any_written : (s : Result Unit CountFault) (r : Result Unit EngineFault) → s ≡ counted_of r → Sending s → Writes (λ why. why) Answers before after sent sent_after r
+    any_written s r e h =
+        let g = subst Sending e h in
+        record { output = g.output; given = g.given; read = record { input = g.read.input; taken = g.read.taken; answer = plain g.read.input g.output r g.read.answer; to_end = read_any r after g.read.to_end } }
+      where
+        plain : (x output : List ℕ) (r : Result Unit EngineFault) → IsSent (counted.Engine fault.WriteFault) (CountAnswer counts.Any k limit x (Answers x)) output (counted_of r) → IsSent fault.WriteFault (Answers x) output r
+        plain x output (Ok u) h = h.0
+        plain x output (Err why) (inl (e, (whole, a, front))) = inl (cc, (whole, a.0, front))
+        plain x output (Err why) (inr h) = inr h
 
 -- what is promised where there is an answer, and where there is none
 pub any_ok : {A : Type 0} (P : Type 0) (s : Result A CountFault) (r : Result A EngineFault) → s ≡ counted_of r → OnOk s P → OnOk r P
@@ -75,6 +90,13 @@ module _ (k l : Kind) (limit : ℕ) (before after before2 after2 : Option (List 
   any_compared w why e h = go why (subst (λ (v : CompareCountFault). ComparesCount counts.Any k l limit before after before2 after2 (Err v)) e h)
     where
       go : (why : CompareFault) → ComparesCount counts.Any k l limit before after before2 after2 (Err (compare_counted_of why)) → Compares k l limit most_bytes before after before2 after2 (Err why)
-      go (engine.First why) h = record { first = h.first; second = h.second; taken = h.taken; taken2 = h.taken2; answer = (h.answer.0.0, (λ p. h.answer.0.1 p), h.answer.1); to_end = h.to_end }
-      go (engine.Second why) h = record { first = h.first; second = h.second; taken = h.taken; taken2 = h.taken2; answer = (h.answer.0.short, (h.answer.0.items, h.answer.0.held), h.answer.1.0, (λ p. h.answer.1.1 p)); to_end = h.to_end }
+      go (engine.First why) h = record { first = h.first; second = h.second; taken = h.taken; taken2 = h.taken2; answer = (h.answer.0.0, (λ p. h.answer.0.1 p), h.answer.1); to_end = read_any {A = Option ℕ} (Err why) after h.to_end }
+      go (engine.Second why) h = record {
+        first = h.first;
+        second = h.second;
+        taken = h.taken;
+        taken2 = h.taken2;
+        answer = (h.answer.0.short, (h.answer.0.items, h.answer.0.held), h.answer.1.0, (λ p. h.answer.1.1 p));
+        to_end = (h.to_end.0, read_any {A = Option ℕ} (Err why) after2 h.to_end.1);
+      }
       go engine.OutOfMemory h = record { first = h.first; second = h.second; taken = h.taken; taken2 = h.taken2; answer = h.answer; to_end = h.to_end }

@@ -1,63 +1,25 @@
 -- What is answered where two inputs are read, each of which has to hold a given number of items.
-use Rattle.std.proofs.Common.{◌≡◌, refl, sym, ap, ◌∙◌, subst, ◌⊎◌, ℕ, ◌≤◌, List, [], length, Option, Result, Ok, Err, Vec, Global, Ordering, inl, inr, arith}
+use Rattle.std.proofs.Common.{◌≡◌, refl, ℕ, ◌≤◌, List, [], Option, Ok, Err, Vec, Global, Ordering, arith}
 use Rattle.cborn_model.specs.Orders.{IsKeyOrder}
-use Rattle.cborn_engine.specs.declared.stream_faults.InputFault.{InputFault}
-use Rattle.cborn_engine.specs.declared.stream_faults.InputFault.TheVariants as input
-use Rattle.cborn_engine.specs.Collecting.{Collects, CollectAnswers}
 use Rattle.cborn_engine.specs.declared.faults.EngineFault.TheVariants as fault
 use Rattle.cborn_engine.specs.declared.count_faults.CountFault.{CountFault}
 use Rattle.cborn_engine.specs.declared.counts.Count.{Count}
-use Rattle.cborn_engine.specs.declared.counts.Count.TheVariants as counts
 use Rattle.cborn_engine.specs.declared.count_faults.CountFault.TheVariants as counted
 use Rattle.cborn_engine.specs.declared.kinds.Kind.{Kind}
 use Rattle.cborn_engine.specs.declared.kinds.Kind.TheVariants as kind
-use Rattle.cborn_engine.specs.Faults.{of_input}
-use Rattle.cborn_engine.specs.Counts.{IsNotOne, IsTaken, CountAnswer, CompareCountAnswers, of_first_counted, of_second_counted, ComparesCount, AreReadForCount, IsReadForCount}
+use Rattle.cborn_engine.specs.Counts.{IsTaken, CountAnswer, CompareCountAnswers, of_first_counted, of_second_counted, ComparesCount, AreReadForCount}
 use Rattle.cborn_engine.specs.Comparing.{AreCompared, IsHeldWhole}
 use Rattle.cborn_engine.specs.devices.Encoding.{EncodeAnswers}
-use Rattle.cborn_engine.specs.devices.Counts.{ReadsCount, count_failures_at}
+use Rattle.cborn_engine.specs.devices.Counts.{ReadsCount}
 use Rattle.cborn_engine.specs.Reading.{most_bytes}
-use Rattle.cborn_engine.proofs.Answers.Whole.{ended}
+use Rattle.cborn_engine.specs.Streams.{IsRead}
 use Rattle.cborn_engine.proofs.Answers.Unanswered.{nothing_read}
 use Rattle.cborn_engine.proofs.Comparison.Compared.{bytes_compared}
 use Rattle.cborn_engine.proofs.CountAnswers.Answered.{taken}
 
--- ---- one input
-
-module _ (count : Count) (order : List ℕ → List ℕ → Ordering) (k : Kind) (limit : ℕ) (before after : Option (List ℕ)) where
-  pub unread_counted : (why : InputFault) → Collects most_bytes before after (Err why) → ReadsCount count order k limit before after (Err (counted.Engine (of_input why)))
-  unread_counted why h = record { input = h.input; taken = h.taken; answer = answer why h.answer; to_end = at_end why }
-    where
-      answer : (why : InputFault) → CollectAnswers most_bytes h.input after (Err why) → CountAnswer count k limit h.input (EncodeAnswers order k limit most_bytes h.input) (Err (counted.Engine (of_input why)))
-      answer input.TooLong a = a
-      answer input.ReadFault a = a
-      answer input.OutOfMemory a = a
-
-      at_end : (why : InputFault) → IsReadForCount {A = Vec ℕ Global} (Err (counted.Engine (of_input why))) after
-      at_end input.TooLong = tt
-      at_end input.ReadFault = tt
-      at_end input.OutOfMemory = tt
-
-  pub read_counted : (bytes : Vec ℕ Global) (now : List ℕ) → Collects most_bytes before after (Ok bytes) → now ≡ bytes.items → (r : Result (Vec ℕ Global) CountFault) → (length now ≤ most_bytes → CountAnswer count k limit now (EncodeAnswers order k limit most_bytes now) r) → ReadsCount count order k limit before after r
-  read_counted bytes now h e r f =
-      let same : now ≡ h.input = e ∙ h.answer.0 in
-      let within : length now ≤ most_bytes = subst (λ (x : List ℕ). length x ≤ most_bytes) (sym same) h.answer.1 in
-      record { input = h.input; taken = h.taken; answer = subst (λ (x : List ℕ). CountAnswer count k limit x (EncodeAnswers order k limit most_bytes x) r) same (f within); to_end = at_end r }
-    where
-      at_end : (r : Result (Vec ℕ Global) CountFault) → IsReadForCount r after
-      at_end (Ok a) = h.answer.2
-      at_end (Err (counted.Engine w)) = ended (Vec ℕ Global) w after h.answer.2
-      at_end (Err _) = h.answer.2
-
 -- it was read to its end and holds items
 pub held_whole : (count : Count) (order : List ℕ → List ℕ → Ordering) (k : Kind) (limit : ℕ) (before after : Option (List ℕ)) (bytes : Vec ℕ Global) → ReadsCount count order k limit before after (Ok bytes) → IsHeldWhole k limit before after
-held_whole count order k limit before after bytes h = record { input = h.input; items = h.answer.0.1.items; taken = h.taken; held = h.answer.0.1.held; at_end = h.to_end }
-
--- a count of items is no failed read
-pub count_quiet : (count : Count) (k : Kind) (limit : ℕ) (x : List ℕ) (why : CountFault) (n : ℕ) → (count ≡ counts.One) × ((why ≡ counted.Engine fault.OutOfMemory) ⊎ IsNotOne k limit x why) → count_failures_at why n ≡ n
-count_quiet count k limit x why n (o, inl e) = ap (λ (w : CountFault). count_failures_at w n) e
-count_quiet count k limit x (counted.Engine w) n (o, inr h) = absurd h
-count_quiet count k limit x _ n (o, inr h) = refl
+held_whole count order k limit before after bytes h = (h.input, h.taken, (h.answer.0.1.items, h.answer.0.1.held), h.to_end)
 
 -- ---- two inputs
 
@@ -70,7 +32,7 @@ module _ (count : Count) (order : List ℕ → List ℕ → Ordering) (laws : Is
       answer (counted.Engine _) a = ((a, λ p. absurd cc), refl)
       answer _ a = ((a.0.1.0, (a.0.1.1.items, a.0.1.1.held), a.1), refl)
 
-      at_end : (why : CountFault) → IsReadForCount {A = Vec ℕ Global} (Err why) after → AreReadForCount (Err (of_first_counted why)) after before2
+      at_end : (why : CountFault) → IsRead {A = Vec ℕ Global} counted.Engine (Err why) after → AreReadForCount (Err (of_first_counted why)) after before2
       at_end (counted.Engine fault.OutOfMemory) e = tt
       at_end _ e = e
 
@@ -85,7 +47,7 @@ module _ (count : Count) (order : List ℕ → List ℕ → Ordering) (laws : Is
       answer (counted.Engine _) a = (taken_first bytes g, (a, λ p. absurd cc))
       answer _ a = (taken_first bytes g, (a.0.1.0, (a.0.1.1.items, a.0.1.1.held), a.1))
 
-      at_end : (why : CountFault) → IsReadForCount {A = Vec ℕ Global} (Err why) after2 → AreReadForCount (Err (of_second_counted why)) after after2
+      at_end : (why : CountFault) → IsRead {A = Vec ℕ Global} counted.Engine (Err why) after2 → AreReadForCount (Err (of_second_counted why)) after after2
       at_end (counted.Engine fault.OutOfMemory) e = tt
       at_end _ e = (g.to_end, e)
 

@@ -4,7 +4,7 @@ use Rattle.std.proofs.lemmas.List.{length-drop}
 use Rattle.std.specs.Prelude.{Some, None, true, false, map, slice_get}
 use Rattle.std.specs.Option.{is_some}
 use Rattle.cborn_model.specs.Tree.{Tree, Uint, Nint, Bytes, Text, ByteChunks, TextChunks, Items, Pairs, Tagged, Simple, Trees, no_item, more, trees, place, depth}
-use Rattle.cborn_model.specs.Placed.{Placed, PlacedAll}
+use Rattle.cborn_model.specs.Placed.{Placed}
 use Rattle.cborn_model.specs.Spelled.{spelled, spelled_all, Fits, Wellformed}
 use Rattle.cborn_wire.specs.Places.{all_from}
 use Rattle.cborn_wire.specs.Reading.{IsFirstItem}

@@ -8,14 +8,11 @@ use Rattle.cborn_model.specs.Value.{Value, values_of}
 use Rattle.cborn_model.specs.Tree.{trees, Tree, Uint, Nint, Bytes, Text, ByteChunks, TextChunks, Items, Pairs, Tagged, Simple, Trees, no_item, more, Entries, no_entry, entry}
 use Rattle.cborn_judge.specs.Flaws.{Within, WithinAll, WithinEntries, HasBadChunk, FlawAt}
 use Rattle.cborn_model.specs.declared.faults.InvalidReason.TheVariants.{NotUtf8}
-use Rattle.cborn_edn.specs.Shown.{shown_lines, IsBadText, IsBadAmong, IsBadInPairs, IsBadChunk, AreShowable}
+use Rattle.cborn_edn.specs.Shown.{IsBadText, IsBadAmong, IsBadInPairs, IsBadChunk, AreShowable}
 use Rattle.cborn_judge.proofs.Meaning.Judging.{sound_all}
 use Rattle.cborn_model.proofs.Listed.Meanings.{all_mean}
 use Rattle.cborn_model.specs.Spelled.{Wellformed}
 use Rattle.cborn_edn.specs.ShownBytes.{IsUnshown}
-use Rattle.cborn_edn.proofs.Shown.Characters.{lines_text}
-use Rattle.cborn_edn.proofs.Shown.Lowests.{each_showable}
-use Rattle.cborn_engine.specs.devices.Encoding.{IsFixedText}
 use Rattle.cborn_edn.proofs.Shown.SameText.{same_showable}
 use Rattle.cborn_engine.proofs.Held.SameNodes.{same_nodes}
 use Rattle.cborn_engine.specs.declared.kinds.Kind.TheVariants as kind
@@ -66,6 +63,3 @@ module _ (limit : ℕ) (x : List ℕ) (items : List Value) (h : Holds kind.Wire 
   -- bytes that hold items have a notation
   pub held_shows : (p : ℕ) → IsUnshown limit x p → ⊥
   held_shows p = good_shows limit limit x (trees h.nodes) p h.spelled showable
-
-  pub held_text : (text : List ℕ) × IsFixedText x text
-  held_text = (shown_lines (trees h.nodes), record { nodes = h.nodes; fit = h.spelled.fit; spelled = h.spelled.spells; shown = (lines_text (trees h.nodes) h.spelled.fit (each_showable (trees h.nodes) showable), refl) })

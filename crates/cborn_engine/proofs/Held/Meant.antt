@@ -8,7 +8,6 @@ use Rattle.cborn_model.specs.Valid.{IsProper}
 use Rattle.cborn_model.specs.Meaning.{Means}
 use Rattle.cborn_model.proofs.Listed.Trees.{trees-injective}
 use Rattle.cborn_model.proofs.SameItems.Sameness.{same_itself, same_turned}
-use Rattle.cborn_wire.proofs.Spelled.OneReading.{one_placed_reading}
 use Rattle.cborn_lex.specs.declared.classes.Profile.{Profile}
 use Rattle.cborn_lex.specs.declared.classes.Profile.TheVariants as profile
 use Rattle.cborn_edn.specs.ReadingBack.{unplaced_all}

@@ -1,11 +1,13 @@
 -- What is shown of an input spells the bytes that the input spells.
-use Rattle.std.proofs.Common.{◌≤◌, ℕ, List, length, refl, Option, Ok}
+use Rattle.std.proofs.Common.{◌≤◌, ℕ, List, length, refl, Option, Result, Ok, Err}
+use Rattle.std.specs.Prelude.{OnOk}
 use Rattle.std.specs.Io.KnownBytes.{Consumes, Appends}
 use Rattle.cborn_model.specs.Tree.{trees}
 use Rattle.cborn_model.specs.Spelled.{Wellformed, spelled_all}
+use Rattle.cborn_engine.specs.declared.count_faults.CountFault.{CountFault}
 use Rattle.cborn_engine.specs.declared.counts.Count.{Count}
 use Rattle.cborn_engine.specs.declared.kinds.Kind.{Kind}
-use Rattle.cborn_engine.specs.Showing.{IsShown, Shows, SpellSameBytes}
+use Rattle.cborn_engine.specs.Showing.{IsShown, SpellSameBytes}
 use Rattle.cborn_engine.specs.Counts.{ShowsCount}
 use Rattle.cborn_engine.specs.Reading.{most_bytes}
 use Rattle.cborn_engine.proofs.Canonical.Canonicity.{spelled_fits}
@@ -24,9 +26,6 @@ module _ (k out : Kind) (limit : ℕ) where
       }
 
   -- of what was read and written
-  pub written_bytes : (before after sent sent_after : Option (List ℕ)) (u : Unit) → Shows k out limit most_bytes before after sent sent_after (Ok u) → (input : List ℕ) × (output : List ℕ) × Consumes before after input × Appends sent sent_after output × SpellSameBytes k out limit input output
-  written_bytes before after sent sent_after u h = (h.input, h.output, h.taken, h.given, same_bytes h.input h.output h.answer.0 h.answer.1)
-
-  -- likewise where the input has to hold a given number of items
-  pub counted_written : (count : Count) (before after sent sent_after : Option (List ℕ)) (u : Unit) → ShowsCount count k out limit most_bytes before after sent sent_after (Ok u) → (input : List ℕ) × (output : List ℕ) × Consumes before after input × Appends sent sent_after output × SpellSameBytes k out limit input output
-  counted_written count before after sent sent_after u h = (h.input, h.output, h.taken, h.given, same_bytes h.input h.output h.answer.0.0 h.answer.0.1)
+  pub written : (count : Count) (before after sent sent_after : Option (List ℕ)) (r : Result Unit CountFault) → ShowsCount count k out limit most_bytes before after sent sent_after r → OnOk r ((input : List ℕ) × (output : List ℕ) × Consumes before after input × Appends sent sent_after output × SpellSameBytes k out limit input output)
+  written count before after sent sent_after (Ok u) h = (h.read.input, h.output, h.read.taken, h.given, same_bytes h.read.input h.output h.read.answer.0.0 h.read.answer.0.1)
+  written count before after sent sent_after (Err why) h = tt

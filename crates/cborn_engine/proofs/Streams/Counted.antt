@@ -2,15 +2,10 @@
 use Rattle.std.proofs.Common.{◌≡◌, ℕ, Result, Ok, Err, refl}
 use Rattle.cborn_engine.specs.declared.faults.EngineFault.{EngineFault}
 use Rattle.cborn_engine.specs.declared.faults.EngineFault.TheVariants as fault
-use Rattle.cborn_engine.specs.devices.Counting.{read_failures, write_failures}
+use Rattle.cborn_engine.specs.devices.Counting.{read_failures}
 use Rattle.cborn_engine.specs.Failures.{CountsFault}
 
 pub read_counted : {A : Type 0} (r : Result A EngineFault) (n m : ℕ) → m ≡ read_failures r n → CountsFault fault.ReadFault r n m
 read_counted (Ok a) n m e = (λ p. absurd cc, λ p. e)
 read_counted (Err fault.ReadFault) n m e = (λ p. e, λ p. absurd (p refl))
 read_counted (Err _) n m e = (λ p. absurd cc, λ p. e)
-
-pub write_counted : {A : Type 0} (r : Result A EngineFault) (n m : ℕ) → m ≡ write_failures r n → CountsFault fault.WriteFault r n m
-write_counted (Ok a) n m e = (λ p. absurd cc, λ p. e)
-write_counted (Err fault.WriteFault) n m e = (λ p. e, λ p. absurd (p refl))
-write_counted (Err _) n m e = (λ p. absurd cc, λ p. e)

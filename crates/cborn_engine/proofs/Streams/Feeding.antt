@@ -1,5 +1,5 @@
 -- What is known in the loop that feeds the pieces of an input.
-use Rattle.std.proofs.Common.{◌≡◌, ◌≤◌, ◌+◌, ℕ, List, [], ◌++◌, length, take, Bool, true, false, Option, None, Some, Result, Ok, Err, Vec, Global, inl, append-nil, refl, sym, ◌∙◌, ap, subst, arith, length-append}
+use Rattle.std.proofs.Common.{◌≡◌, ◌≤◌, ◌+◌, ℕ, List, [], ◌++◌, length, take, Bool, true, false, Option, None, Some, Result, Ok, Err, Vec, Global, inl, inr, append-nil, refl, sym, ◌∙◌, ap, subst, arith, length-append}
 use Rattle.std.specs.Prelude.{⊤}
 use Rattle.std.specs.Result.{is_err}
 use Rattle.std.specs.Io.KnownBytes.{Consumes}
@@ -56,10 +56,10 @@ at_first limit most a = record {
 pub halted : (limit most left : ℕ) (a b c : Option (List ℕ)) (refused : Bool) (f : Feeding) (buf : List ℕ) (why : InputFault) → SoFar limit most left a b refused f → PieceAnswers b c left buf (Err why) → Loads kind.Wire limit most a c (Err (of_input why))
 halted limit most left a b c refused f buf input.TooLong s p =
     let n : length (s.input ++ p.0) ≡ most + 1 = omega (arith, length-append s.input p.0, p.2, s.count) in
-    record { input = s.input ++ p.0; taken = Consumes-trans a b c s.input p.0 s.taken p.1; answer = (n, tt); to_end = tt }
+    record { input = s.input ++ p.0; taken = Consumes-trans a b c s.input p.0 s.taken p.1; answer = (n, tt); to_end = inr (inr (inl refl)) }
 halted limit most left a b c refused f buf input.ReadFault s p =
     let n : length s.input ≤ most = omega (arith, s.count) in
-    record { input = s.input; taken = Consumes-kept a b c s.input s.taken p; answer = (n, tt); to_end = tt }
+    record { input = s.input; taken = Consumes-kept a b c s.input s.taken p; answer = (n, tt); to_end = inr (inl refl) }
 halted limit most left a b c refused f buf input.OutOfMemory s p = absurd p
 
 pub stays : (limit : ℕ) (x y : List ℕ) (why : WireFault) → StaysRefused limit x why → StaysRefused limit (x ++ y) why
@@ -146,8 +146,8 @@ module _ (limit most left : ℕ) (a b c : Option (List ℕ)) (refused : Bool) (f
       taken = taken_all a b c s.input buf n s.taken p.2 e
 
       reported : (w : WireFault) → StaysRefused limit s.input w → Loads kind.Wire limit most a c (Err (of_wire w))
-      reported (wire.Refused q r) k = record { input = s.input; taken = taken; answer = ((within, inl k), tt); to_end = p.3 e }
-      reported wire.OutOfMemory k = record { input = s.input; taken = taken; answer = (within, tt); to_end = tt }
+      reported (wire.Refused q r) k = record { input = s.input; taken = taken; answer = ((within, inl k), tt); to_end = inl (p.3 e) }
+      reported wire.OutOfMemory k = record { input = s.input; taken = taken; answer = (within, tt); to_end = inr (inr (inr refl)) }
 
       go : (refused : Bool) → IsFedSoFar limit s.input refused f → Loads kind.Wire limit most a c (Err (of_wire why))
       go true k = subst (λ (w : WireFault). Loads kind.Wire limit most a c (Err (of_wire w))) (sym (again k.0 k.1)) (reported k.0 k.2)
@@ -155,5 +155,5 @@ module _ (limit most left : ℕ) (a b c : Option (List ℕ)) (refused : Bool) (f
           let i = cut k.3 in
           let j : Fault limit s.input (length s.input) Truncated = subst (λ (x : List ℕ). Fault limit x (length x) Truncated) k.1 (subst (λ (m : ℕ). Fault m f.held (length f.held) Truncated) k.0 i.1) in
           let l : Fault limit s.input f.fed Truncated = subst (λ (m : ℕ). Fault limit s.input m Truncated) (sym k.2) j in
-          let h : Loads kind.Wire limit most a c (Err (of_wire (wire.Refused f.fed Truncated))) = record { input = s.input; taken = taken; answer = ((within, l), tt); to_end = p.3 e } in
+          let h : Loads kind.Wire limit most a c (Err (of_wire (wire.Refused f.fed Truncated))) = record { input = s.input; taken = taken; answer = ((within, l), tt); to_end = inl (p.3 e) } in
           subst (λ (w : WireFault). Loads kind.Wire limit most a c (Err (of_wire w))) (sym i.0) h

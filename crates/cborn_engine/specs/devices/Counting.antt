@@ -12,12 +12,3 @@ read_failures_at _ n = n
 abbrev pub read_failures : {A : Type 0} → Result A EngineFault → ℕ → ℕ
 read_failures (Ok a) n = n
 read_failures (Err why) n = read_failures_at why n
-
-abbrev pub write_failures_at : EngineFault → ℕ → ℕ
-write_failures_at fault.WriteFault n = one_more n
-write_failures_at _ n = n
-
--- the writer's count: one more exactly at `WriteFault`
-abbrev pub write_failures : {A : Type 0} → Result A EngineFault → ℕ → ℕ
-write_failures (Ok a) n = n
-write_failures (Err why) n = write_failures_at why n

@@ -1,35 +1,43 @@
-use Rattle.std.proofs.Common.{Ok, Err, sym, ◌∙◌, ◌≤◌, length, subst, List, ℕ}
-use Rattle.cborn_engine.specs.devices.Counts.{ReadsCount}
-use Rattle.cborn_engine.specs.devices.Encoding.{EncodeAnswers, IsEncoded}
+use Rattle.std.proofs.Common.{Ok, Err, None, Some, subst}
+use Rattle.cborn_engine.specs.declared.count_faults.CountFault.TheVariants as counted
+use Rattle.cborn_engine.specs.Counts.{CountAnswer}
+use Rattle.cborn_engine.specs.devices.Counts.{EncodedWhole, ReadsCount}
+use Rattle.cborn_engine.specs.devices.Encoding.{EncodeAnswers}
 use Rattle.cborn_engine.specs.Reading.{most_bytes}
 use Rattle.cborn_engine.proofs.Answers.KnownErrors.{known_error}
-use Rattle.cborn_engine.proofs.CountAnswers.Answered.{kept_counted}
-use Rattle.cborn_engine.proofs.CountAnswers.Compared.{unread_counted, read_counted}
+use Rattle.cborn_engine.proofs.Answers.Whole.{unread, read_whole}
+use Rattle.cborn_engine.proofs.CountAnswers.Streamed.{not_encoded, read_encoded}
 use Rattle.cborn_engine.proofs.counted_streams.read_counted.Goals as goal
 
 pub returns-in_err-input-clause-reads : goal.returns-in_err-input-clause-reads
 returns-in_err-input-clause-reads g c =
-    known_error (ReadsCount c.args.count g.O.KeyOrder.order c.args.kind c.args.limit _ _) _ _ c.from_residual.ensures.1
-    (unread_counted c.args.count g.O.KeyOrder.order c.args.kind c.args.limit _ _ c.in_err-input.field-0.0 c.in_err-input.ensures.collects)
+    let k = c.args.kind in
+    known_error (ReadsCount c.args.count g.O.KeyOrder.order k c.args.limit _ _) _ _ c.from_residual.ensures.1
+    (unread counted.Engine (λ x. CountAnswer c.args.count k c.args.limit x (EncodeAnswers g.O.KeyOrder.order k c.args.limit most_bytes x)) most_bytes _ (g.R.Source.remaining c.read_bytes.new.reader) k c.args.limit c.in_err-input.field-0.0 (λ x r. r.0) c.in_err-input.ensures.collects)
 
-pub returns-in_err-expect-clause-reads : goal.returns-in_err-expect-clause-reads
-returns-in_err-expect-clause-reads g c =
+pub returns-in_err-encode_counted-clause-reads : goal.returns-in_err-encode_counted-clause-reads
+returns-in_err-encode_counted-clause-reads g c =
+    let k = c.args.kind in
+    let x = c.deref.result.now in
     let order = g.O.KeyOrder.order in
-    let input = c.in_ok-input.input in
-    let now = c.deref-then-is_own_encoding.result.now in
-    let is = c.deref-then-is_own_encoding.ensures.value in
-    let own : IsEncoded order c.args.kind c.args.limit input.items input.items = subst (λ (x : List ℕ). IsEncoded order c.args.kind c.args.limit x x) c.deref.ensures.value (c.is_own_encoding.ensures c.if-is_own_encoding.true) in
-    let here : IsEncoded order c.args.kind c.args.limit now input.items = subst (λ (x : List ℕ). IsEncoded order c.args.kind c.args.limit x input.items) (sym is) own in
-    known_error (ReadsCount c.args.count order c.args.kind c.args.limit _ _) _ _ c.from_residual-in_err-expect.ensures.1
-    (read_counted c.args.count order c.args.kind c.args.limit _ _ input now c.in_ok-input.ensures.collects is (Err c.in_err-expect.field-0.0)
-    (λ l. kept_counted c.args.count c.args.kind c.args.limit now (EncodeAnswers order c.args.kind c.args.limit most_bytes now) input c.in_err-expect.field-0.0 (l, here) l c.in_err-expect.ensures.refused))
+    let why = c.in_err-encode_counted in
+    known_error (ReadsCount c.args.count order k c.args.limit _ _) _ _ c.from_residual-in_err-encode_counted.ensures.1
+    (read_whole counted.Engine (λ x. CountAnswer c.args.count k c.args.limit x (EncodeAnswers order k c.args.limit most_bytes x)) most_bytes _ (g.R.Source.remaining c.read_bytes.new.reader) c.in_ok-input.input x c.in_ok-input.ensures.collects c.deref.ensures.value (Err why.field-0.0)
+    (λ l. not_encoded c.args.count k c.args.limit x l order c.in_ok-input.input c.deref.ensures.value why.field-0.0 why.ensures))
 
-pub returns-in_err-expect-2-clause-reads : goal.returns-in_err-expect-2-clause-reads
-returns-in_err-expect-2-clause-reads g c =
+pub returns-in-None-clause-reads : goal.returns-in-None-clause-reads
+returns-in-None-clause-reads g c =
+    let k = c.args.kind in
+    let x = c.deref.result.now in
     let order = g.O.KeyOrder.order in
-    let now = c.deref-3.result.now in
-    let same = c.deref-2.ensures.value ∙ sym c.deref-3.ensures.value in
-    known_error (ReadsCount c.args.count order c.args.kind c.args.limit _ _) _ _ c.from_residual-in_err-expect-2.ensures.1
-    (read_counted c.args.count order c.args.kind c.args.limit _ _ c.in_ok-input.input now c.in_ok-input.ensures.collects c.deref-3.ensures.value (Err c.in_err-expect-2.field-0.0)
-    (λ l. kept_counted c.args.count c.args.kind c.args.limit now (EncodeAnswers order c.args.kind c.args.limit most_bytes now) c.in_ok-bytes.bytes c.in_err-expect-2.field-0.0
-    (subst (λ (x : List ℕ). length x ≤ most_bytes → EncodeAnswers order c.args.kind c.args.limit most_bytes x (Ok c.in_ok-bytes.bytes)) same c.in_ok-bytes.ensures.answers l) l c.in_err-expect-2.ensures.refused))
+    read_whole counted.Engine (λ x. CountAnswer c.args.count k c.args.limit x (EncodeAnswers order k c.args.limit most_bytes x)) most_bytes _ (g.R.Source.remaining c.read_bytes.new.reader) c.in_ok-input.input x c.in_ok-input.ensures.collects c.deref.ensures.value (Ok c.in_ok-input.input)
+    (λ l. read_encoded c.args.count k c.args.limit x l order c.in_ok-input.input c.deref.ensures.value None (subst (λ o. CountAnswer c.args.count k c.args.limit x (EncodedWhole order k c.args.limit x) (Ok o)) c.in-None.is c.in_ok-encode_counted.ensures))
+
+pub returns-in-Some-clause-reads : goal.returns-in-Some-clause-reads
+returns-in-Some-clause-reads g c =
+    let k = c.args.kind in
+    let x = c.deref.result.now in
+    let order = g.O.KeyOrder.order in
+    let found = c.in-Some.encodings in
+    read_whole counted.Engine (λ x. CountAnswer c.args.count k c.args.limit x (EncodeAnswers order k c.args.limit most_bytes x)) most_bytes _ (g.R.Source.remaining c.read_bytes.new.reader) c.in_ok-input.input x c.in_ok-input.ensures.collects c.deref.ensures.value (Ok found)
+    (λ l. read_encoded c.args.count k c.args.limit x l order c.in_ok-input.input c.deref.ensures.value (Some found) (subst (λ o. CountAnswer c.args.count k c.args.limit x (EncodedWhole order k c.args.limit x) (Ok o)) c.in-Some.is c.in_ok-encode_counted.ensures))

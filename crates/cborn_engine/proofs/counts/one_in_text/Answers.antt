@@ -16,7 +16,7 @@ returns-in_err-hand_text-clause-refused c =
     let k = kind_of c.args.profile in
     let why = c.in_err-hand_text in
     let nodes = c.requires.spelled in
-    let e = refused_memory k c.args.limit most_bytes c.args.input.now nodes.0 why.field-0.0 c.requires.short nodes.1 (why.ensures.refused most_bytes c.requires.short) (why.ensures.failures 0) in
+    let e = refused_memory k c.args.limit most_bytes c.args.input.now nodes.0 why.field-0.0 c.requires.short nodes.1 (why.ensures.refused.0 most_bytes c.requires.short) why.ensures.refused.1 in
     known_error (λ r. IfErr r (λ w. (w ≡ counted.Engine fault.OutOfMemory) ⊎ IsNotOne k c.args.limit c.args.input.now w)) _ _ c.from_residual.ensures.1 (inl (ap counted.Engine e))
 
 pub returns-then-is_none-clause-refused : goal.returns-then-is_none-clause-refused

@@ -1,25 +1,23 @@
+use Rattle.std.specs.Prelude.{IfOk, IfErr}
 use Rattle.std.proofs.Common.{◌≡◌, rules, subst, sym}
 use Rattle.cborn_engine.specs.declared.kinds.Kind.{Kind}
 use Rattle.cborn_engine.specs.declared.kinds.Kind.TheVariants as kind
-use Rattle.cborn_engine.specs.devices.Encoding.{EncodeAnswers}
-use Rattle.cborn_engine.specs.Reading.{most_bytes}
-use Rattle.cborn_engine.specs.Whole.{TellsFault}
-use Rattle.cborn_engine.proofs.Answers.Malformed.{of_text}
+use Rattle.cborn_engine.specs.devices.Encoding.{IsEncoded}
+use Rattle.cborn_engine.specs.devices.Malformed.{IsRefusedHeld}
 use Rattle.cborn_engine.proofs.encodings.encode_input.Goals as goal
 
-pub returns-in-None-clause-answers : goal.returns-in-None-clause-answers
-returns-in-None-clause-answers g c within =
+pub returns-in-None-clause-encoded : goal.returns-in-None-clause-encoded
+returns-in-None-clause-encoded g c =
     let wire : c.args.kind ≡ kind.Wire = search rules in
-    subst (λ (k : Kind). EncodeAnswers g.O.KeyOrder.order k c.args.limit most_bytes c.args.input.now c.encode_bytes.result) (sym wire) (c.encode_bytes.ensures.answers within)
+    subst (λ (k : Kind). IfOk c.encode_bytes.result (λ bytes. IsEncoded g.O.KeyOrder.order k c.args.limit c.args.input.now bytes.items)) (sym wire) c.encode_bytes.ensures.encoded
 
-pub returns-in-None-clause-malformed : goal.returns-in-None-clause-malformed
-returns-in-None-clause-malformed g c within =
+pub returns-in-None-clause-refused : goal.returns-in-None-clause-refused
+returns-in-None-clause-refused g c =
     let wire : c.args.kind ≡ kind.Wire = search rules in
-    subst (λ (k : Kind). TellsFault k c.args.limit c.args.input.now c.encode_bytes.result) (sym wire) c.encode_bytes.ensures.malformed
+    subst (λ (k : Kind). IfErr c.encode_bytes.result (IsRefusedHeld k c.args.limit c.args.input.now)) (sym wire) c.encode_bytes.ensures.refused
 
-pub returns-in-Some-clause-answers : goal.returns-in-Some-clause-answers
-returns-in-Some-clause-answers g c within =
-    subst (λ (k : Kind). EncodeAnswers g.O.KeyOrder.order k c.args.limit most_bytes c.args.input.now c.encode_text.result) (sym c.in-Some.ensures) (c.encode_text.ensures.answers within)
+pub returns-in-Some-clause-encoded : goal.returns-in-Some-clause-encoded
+returns-in-Some-clause-encoded g c = subst (λ (k : Kind). IfOk c.encode_text.result (λ bytes. IsEncoded g.O.KeyOrder.order k c.args.limit c.args.input.now bytes.items)) (sym c.in-Some.ensures) c.encode_text.ensures.encoded
 
-pub returns-in-Some-clause-malformed : goal.returns-in-Some-clause-malformed
-returns-in-Some-clause-malformed g c within = of_text c.args.kind c.in-Some.profile c.args.limit c.args.input.now c.encode_text.result c.in-Some.ensures
+pub returns-in-Some-clause-refused : goal.returns-in-Some-clause-refused
+returns-in-Some-clause-refused g c = subst (λ (k : Kind). IfErr c.encode_text.result (IsRefusedHeld k c.args.limit c.args.input.now)) (sym c.in-Some.ensures) c.encode_text.ensures.refused

@@ -1,14 +1,24 @@
+use Rattle.std.proofs.Common.{sym, ◌∙◌}
 use Rattle.cborn_engine.specs.devices.Encoding.{kind_of}
-use Rattle.cborn_engine.specs.Loading.{Loads}
+use Rattle.cborn_engine.specs.Loading.{LoadAnswers, Loads}
 use Rattle.cborn_engine.proofs.Answers.KnownErrors.{known_error}
-use Rattle.cborn_engine.proofs.Answers.Whole.{not_loaded, loaded}
+use Rattle.cborn_engine.proofs.Answers.Whole.{loaded, read_whole, still, unread}
 use Rattle.cborn_engine.proofs.inputs.load_text.Goals as goal
 
 pub returns-in_err-input-clause-loads : goal.returns-in_err-input-clause-loads
 returns-in_err-input-clause-loads g c =
-    known_error (Loads (kind_of c.args.profile) c.args.limit c.args.most _ _) _ _ c.from_residual.ensures.1
-    (not_loaded (kind_of c.args.profile) c.args.limit c.args.most _ (g.R.Source.remaining c.read_bytes.new.reader) c.in_err-input.field-0.0 c.in_err-input.ensures.collects)
+    let k = kind_of c.args.profile in
+    known_error (Loads k c.args.limit c.args.most _ _) _ _ c.from_residual.ensures.1
+    (unread (λ why. why) (LoadAnswers k c.args.limit c.args.most) c.args.most _ (g.R.Source.remaining c.read_bytes.new.reader) k c.args.limit c.in_err-input.field-0.0 (λ x r. r) c.in_err-input.ensures.collects)
 
 pub returns-clause-loads : goal.returns-clause-loads
 returns-clause-loads g c =
-    loaded (kind_of c.args.profile) c.args.limit c.args.most _ (g.R.Source.remaining c.read_bytes.new.reader) c.in_ok-input.input c.deref.result.now c.in_ok-input.ensures.collects c.deref.ensures.value c.notated_nodes.result c.notated_nodes.ensures.spelled c.notated_nodes.ensures.refused
+    let k = kind_of c.args.profile in
+    let r = c.notated_nodes in
+    read_whole (λ why. why) (LoadAnswers k c.args.limit c.args.most) c.args.most _ (g.R.Source.remaining c.read_bytes.new.reader) c.in_ok-input.input c.deref.result.now c.in_ok-input.ensures.collects c.deref.ensures.value r.result
+    (loaded k c.args.limit c.args.most c.deref.result.now r.result r.ensures.spelled r.ensures.refused)
+
+pub returns-clause-failures : goal.returns-clause-failures
+returns-clause-failures g c =
+    let r = c.notated_nodes in
+    c.in_ok-input.ensures.failures ∙ sym (still (kind_of c.args.profile) c.args.limit c.deref.result.now _ r.result r.ensures.refused)

@@ -1,19 +1,17 @@
 use Rattle.std.proofs.Common.{ap, Err}
-use Rattle.cborn_model.specs.Tree.{trees}
 use Rattle.cborn_judge.proofs.FirstFlaw.Sequences.{first_refusal, placed_apart}
-use Rattle.cborn_engine.specs.declared.kinds.Kind.TheVariants as kind
 use Rattle.cborn_engine.proofs.Answers.Checked.{found_in_sequence}
-use Rattle.cborn_engine.proofs.Answers.Malformed.{refused, refusal_reported, wellformed}
+use Rattle.cborn_engine.proofs.Answers.Malformed.{refusal_refused}
 use Rattle.cborn_engine.proofs.judgments.judge_with.Goals as goal
 
-pub returns-in-Err-Refused-clause-malformed : goal.returns-in-Err-Refused-clause-malformed
-returns-in-Err-Refused-clause-malformed g c =
+pub returns-in-Err-Refused-clause-refused : goal.returns-in-Err-Refused-clause-refused
+returns-in-Err-Refused-clause-refused g c =
     let place = c.in-Err-Refused.place in
     let reason = c.in-Err-Refused.reason in
-    refused kind.Wire c.args.limit c.args.input.now place reason (c.in-Err-Refused.ensures.fault place reason (ap Err c.in-Err-Refused.field-0-is))
+    λ most l. (l, c.in-Err-Refused.ensures.fault place reason (ap Err c.in-Err-Refused.field-0-is))
 
-pub returns-in-Err-Memory-clause-malformed : goal.returns-in-Err-Memory-clause-malformed
-returns-in-Err-Memory-clause-malformed g c = refusal_reported c.args.limit c.args.input.now c.fault_or_refusal.result c.fault_or_refusal.ensures
+pub returns-in-Err-Memory-clause-refused : goal.returns-in-Err-Memory-clause-refused
+returns-in-Err-Memory-clause-refused g c = (refusal_refused c.args.limit c.args.input.now c.fault_or_refusal.result c.fault_or_refusal.ensures).0
 
 pub returns-in-Ok-finish-clause-judged : goal.returns-in-Ok-finish-clause-judged
 returns-in-Ok-finish-clause-judged g c =
@@ -30,13 +28,7 @@ returns-in-Ok-finish-clause-judged g c =
       found = found_in_sequence order w.0 e.0 c.in-Ok-finish.encoded.defect e.1 (c.in-Ok-finish.ensures.defect w.0 w.1);
     }
 
-pub returns-in-Ok-finish-clause-malformed : goal.returns-in-Ok-finish-clause-malformed
-returns-in-Ok-finish-clause-malformed g c = let w = c.in-Ok.ensures.items in wellformed kind.Wire c.args.limit c.args.input.now (trees w.0) _ (λ e. w.2)
-
 pub returns-in-Err-clause-refused : goal.returns-in-Err-clause-refused
 returns-in-Err-clause-refused g c most within =
     let w = c.in-Ok.ensures.items in
     (within, record { nodes = w.0; spelled = (w.2, w.3); flaw = first_refusal w.0 c.in-Err.place c.in-Err.reason (placed_apart w.0 0 w.3) (c.in-Err.ensures.flawed w.0 w.1) })
-
-pub returns-in-Err-clause-malformed : goal.returns-in-Err-clause-malformed
-returns-in-Err-clause-malformed g c = let w = c.in-Ok.ensures.items in wellformed kind.Wire c.args.limit c.args.input.now (trees w.0) _ (λ e. w.2)

@@ -1,8 +1,7 @@
-use Rattle.std.proofs.Common.{◌≤◌, ℕ, length}
 use Rattle.std.specs.Prelude.{IfErr}
 use Rattle.cborn_engine.specs.devices.Encoding.{kind_of}
 use Rattle.cborn_engine.specs.Loading.{IsNoFlaw}
-use Rattle.cborn_engine.specs.Refusing.{IsRefused}
+use Rattle.cborn_engine.specs.devices.Malformed.{IsRefusedHeld}
 use Rattle.cborn_engine.proofs.Answers.KnownErrors.{known_error}
 use Rattle.cborn_engine.proofs.Answers.Unreported.{untold}
 use Rattle.cborn_engine.proofs.nodes.notated_nodes.Goals as goal
@@ -10,11 +9,11 @@ use Rattle.cborn_engine.proofs.nodes.notated_nodes.Goals as goal
 pub returns-in_err-read_notation-clause-refused : goal.returns-in_err-read_notation-clause-refused
 returns-in_err-read_notation-clause-refused c =
     let input = c.args.input.now in
-    known_error (λ r. IfErr r (λ why. (most : ℕ) → length input ≤ most → IsRefused (kind_of c.args.profile) c.args.limit most input why × IsNoFlaw why)) _ _ c.from_residual-in_err-read_notation.ensures.1
-    (λ most l. untold c.args.profile c.args.limit most input c.in_ok-text.text.now c.in_err-read_notation.field-0.0 c.in_ok-text.ensures.text.0 c.in_ok-text.ensures.text.1 c.in_err-read_notation.ensures.refused l)
+    known_error (λ r. IfErr r (λ why. IsRefusedHeld (kind_of c.args.profile) c.args.limit input why × IsNoFlaw why)) _ _ c.from_residual-in_err-read_notation.ensures.1
+    (untold c.args.profile c.args.limit input c.in_ok-text.text.now c.in_err-read_notation.field-0.0 c.in_ok-text.ensures.text.0 c.in_ok-text.ensures.text.1 c.in_err-read_notation.ensures.refused)
 
 pub returns-in_err-text-clause-refused : goal.returns-in_err-text-clause-refused
 returns-in_err-text-clause-refused c =
     let input = c.args.input.now in
-    known_error (λ r. IfErr r (λ why. (most : ℕ) → length input ≤ most → IsRefused (kind_of c.args.profile) c.args.limit most input why × IsNoFlaw why)) _ _ c.from_residual.ensures.1
+    known_error (λ r. IfErr r (λ why. IsRefusedHeld (kind_of c.args.profile) c.args.limit input why × IsNoFlaw why)) _ _ c.from_residual.ensures.1
     (c.in_err-text.ensures.refused c.args.profile c.args.limit)

@@ -1,17 +1,47 @@
-use Rattle.cborn_engine.specs.Reading.{most_bytes}
+use Rattle.std.specs.Prelude.{IfErr}
+use Rattle.std.proofs.Common.{List, ℕ, subst}
+use Rattle.cborn_edn.specs.ShownBytes.{IsShownText, IsUnshown, Notates}
+use Rattle.cborn_wire.specs.Faults.{Fault}
 use Rattle.cborn_engine.specs.devices.Encoding.{kind_of}
-use Rattle.cborn_engine.specs.Showing.{TellAnswers}
+use Rattle.cborn_engine.specs.devices.Malformed.{IsUnshownHeld}
 use Rattle.cborn_engine.proofs.Answers.KnownErrors.{known_error}
+use Rattle.cborn_engine.proofs.Answers.Malformed.{no_fault, no_reading}
+use Rattle.cborn_engine.proofs.Answers.Noted.{as_bytes, as_text, never_wire}
 use Rattle.cborn_engine.proofs.Answers.Telling.{refused}
+use Rattle.cborn_engine.proofs.Held.NotatedTexts.{spelled_shows, spelled_read}
 use Rattle.cborn_engine.proofs.showings.tell_text.Goals as goal
 
-pub returns-in_err-bytes-clause-answers : goal.returns-in_err-bytes-clause-answers
-returns-in_err-bytes-clause-answers c within =
-    known_error (TellAnswers (kind_of c.args.profile) c.args.out_kind c.args.limit most_bytes c.args.input.now) _ _ c.from_residual.ensures.1
-    (refused (kind_of c.args.profile) c.args.out_kind c.args.limit most_bytes c.args.input.now c.in_err-bytes.field-0.0 (c.in_err-bytes.ensures.refused most_bytes within))
+pub returns-in_err-bytes-clause-unshown : goal.returns-in_err-bytes-clause-unshown
+returns-in_err-bytes-clause-unshown c =
+    let k = kind_of c.args.profile in
+    known_error (λ r. IfErr r (IsUnshownHeld k c.args.out_kind c.args.limit c.args.input.now)) _ _ c.from_residual.ensures.1
+    (refused k c.args.out_kind c.args.limit c.args.input.now c.in_err-bytes.field-0.0 c.in_err-bytes.ensures.refused)
 
-pub tell_spelling-requires : goal.tell_spelling-requires
-tell_spelling-requires c = (c.args.profile, c.args.input.now, c.requires, c.in_ok-bytes.ensures.spelled.0, c.in_ok-bytes.ensures.spelled.1)
+pub returns-in-Wire-clause-shown : goal.returns-in-Wire-clause-shown
+returns-in-Wire-clause-shown c = let b = c.in_ok-bytes in as_bytes c.args.profile c.args.limit c.args.input.now b.bytes.items b.ensures.spelled.0 b.ensures.spelled.1 c.args.out_kind c.in-Wire.is
 
-pub returns-clause-answers : goal.returns-clause-answers
-returns-clause-answers c within = c.tell_spelling.ensures.answers c.args.profile c.args.input.now within c.in_ok-bytes.ensures.spelled.0 c.in_ok-bytes.ensures.spelled.1
+pub returns-in_err-answer-in-Notation-clause-unshown : goal.returns-in_err-answer-in-Notation-clause-unshown
+returns-in_err-answer-in-Notation-clause-unshown c =
+    known_error (λ r. IfErr r (IsUnshownHeld (kind_of c.args.profile) c.args.out_kind c.args.limit c.args.input.now)) _ _ c.from_residual-in_err-answer-in-Notation.ensures.1
+    (λ most l. ((l, no_fault c.args.profile c.args.limit c.args.input.now), tt))
+
+pub returns-in-Text-clause-shown : goal.returns-in-Text-clause-shown
+returns-in-Text-clause-shown c =
+    let b = c.in_ok-bytes in
+    let answer = c.in-Text.answer.items in
+    let shown : IsShownText c.args.limit c.deref.result.now answer = subst (Notates c.args.limit c.deref.result.now) c.in-Text.is c.in_ok-answer-in-Notation.ensures in
+    as_text c.args.profile c.args.limit c.args.input.now b.bytes.items b.ensures.spelled.0 b.ensures.spelled.1 c.args.out_kind (never_wire c.args.out_kind c.in-Notation.is) answer
+    (subst (λ (x : List ℕ). IsShownText c.args.limit x answer) c.deref.ensures.value shown) c.requires
+
+pub unreachable-requires : goal.unreachable-requires
+unreachable-requires c =
+    let b = c.in_ok-bytes in
+    let fault = subst (Notates c.args.limit c.deref.result.now) c.in-Malformed.is c.in_ok-answer-in-Notation.ensures in
+    no_reading c.args.limit b.bytes.items (c.in-Malformed.place, c.in-Malformed.reason, subst (λ (x : List ℕ). Fault c.args.limit x c.in-Malformed.place c.in-Malformed.reason) c.deref.ensures.value fault)
+    (spelled_read c.args.profile c.args.limit c.args.input.now b.bytes.items c.requires b.ensures.spelled.0 b.ensures.spelled.1)
+
+pub unreachable-requires-in-NotUtf8 : goal.unreachable-requires-in-NotUtf8
+unreachable-requires-in-NotUtf8 c =
+    let b = c.in_ok-bytes in
+    let unshown = subst (Notates c.args.limit c.deref.result.now) c.in-NotUtf8.is c.in_ok-answer-in-Notation.ensures in
+    spelled_shows c.args.profile c.args.limit c.args.input.now b.bytes.items c.requires b.ensures.spelled.0 b.ensures.spelled.1 c.in-NotUtf8.place (subst (λ (x : List ℕ). IsUnshown c.args.limit x c.in-NotUtf8.place) c.deref.ensures.value unshown)

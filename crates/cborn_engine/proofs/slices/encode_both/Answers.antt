@@ -1,6 +1,7 @@
 use Rattle.std.proofs.Common.{sym, subst}
 use Rattle.cborn_engine.specs.declared.count_faults.CompareCountFault.{CompareCountFault}
 use Rattle.cborn_engine.specs.Counts.{AreRefusedWhole}
+use Rattle.cborn_engine.proofs.Answers.AtHand.{encoded}
 use Rattle.cborn_engine.proofs.CountAnswers.Answered.{taken, first_refused, second_refused}
 use Rattle.cborn_engine.proofs.slices.encode_both.Goals as goal
 
@@ -22,4 +23,10 @@ returns-clause-taken g c =
     (taken c.args.count c.args.kind_a c.args.limit c.args.first.now a.0.1.items a.0.0 a.0.1.held a.1, taken c.args.count c.args.kind_b c.args.limit c.args.second.now b.0.1.items b.0.0 b.0.1.held b.1)
 
 pub returns-clause-encoded : goal.returns-clause-encoded
-returns-clause-encoded g c = (c.in-Ok.ensures.0.1, c.in-Ok-encode_counted.ensures.0.1)
+returns-clause-encoded g c =
+    let m = c.in-Ok in
+    let n = c.in-Ok-encode_counted in
+    let order = g.O.KeyOrder.order in (
+      encoded order c.args.kind_a c.args.limit c.args.first.now m.encodings c.lent-ours.result m.ensures.0.1 c.lent-ours.ensures,
+      encoded order c.args.kind_b c.args.limit c.args.second.now n.encodings c.lent-theirs.result n.ensures.0.1 c.lent-theirs.ensures,
+    )

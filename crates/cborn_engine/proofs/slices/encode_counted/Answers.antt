@@ -5,18 +5,18 @@ use Rattle.cborn_engine.proofs.Answers.Malformed.{unfaulted}
 use Rattle.cborn_engine.proofs.CountAnswers.Answered.{kept_counted}
 use Rattle.cborn_engine.proofs.slices.encode_counted.Goals as goal
 
-pub returns-in_err-bytes : goal.returns-in_err-bytes
-returns-in_err-bytes g c = known_error (λ r. CountAnswer c.args.count c.args.kind c.args.limit c.args.input.now (EncodedWhole g.O.KeyOrder.order c.args.kind c.args.limit c.args.input.now) r) _ _ c.from_residual.ensures.1 c.in_err-bytes.ensures
+pub returns-in_err-encodings : goal.returns-in_err-encodings
+returns-in_err-encodings g c = known_error (λ r. CountAnswer c.args.count c.args.kind c.args.limit c.args.input.now (EncodedWhole g.O.KeyOrder.order c.args.kind c.args.limit c.args.input.now) r) _ _ c.from_residual.ensures.1 c.in_err-encodings.ensures
 
 pub expect-requires : goal.expect-requires
-expect-requires g c = let e = c.in_ok-bytes.ensures in record { short = e.0; spelled = (e.1.held.nodes, e.1.held.spelled) }
+expect-requires g c = let e = c.in_ok-encodings.ensures in record { short = e.0; spelled = (e.1.held.nodes, e.1.held.spelled) }
 
 pub returns-in_err-expect : goal.returns-in_err-expect
 returns-in_err-expect g c =
-    let e = c.in_ok-bytes.ensures in
+    let e = c.in_ok-encodings.ensures in
     let Whole = EncodedWhole g.O.KeyOrder.order c.args.kind c.args.limit c.args.input.now in
     known_error (λ r. CountAnswer c.args.count c.args.kind c.args.limit c.args.input.now Whole r) _ _ c.from_residual-in_err-expect.ensures.1
-    (kept_counted c.args.count c.args.kind c.args.limit c.args.input.now Whole c.in_ok-bytes.bytes c.in_err-expect.field-0.0 e (e.0, unfaulted c.args.kind c.args.limit c.args.input.now e.1.held.nodes e.1.held.spelled) c.in_err-expect.ensures.refused)
+    (kept_counted c.args.count c.args.kind c.args.limit c.args.input.now Whole c.in_ok-encodings.encodings c.in_err-expect.field-0.0 e (e.0, unfaulted c.args.kind c.args.limit c.args.input.now e.1.held.nodes e.1.held.spelled) c.in_err-expect.ensures.refused)
 
 pub returns : goal.returns
-returns g c = (c.in_ok-bytes.ensures, c.in_ok-expect.ensures.counted)
+returns g c = (c.in_ok-encodings.ensures, c.in_ok-expect.ensures.counted)

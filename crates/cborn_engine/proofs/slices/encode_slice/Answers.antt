@@ -1,18 +1,16 @@
 use Rattle.cborn_engine.specs.devices.Counts.{EncodedWhole}
 use Rattle.cborn_engine.specs.Reading.{most_bytes}
-use Rattle.cborn_engine.proofs.Answers.AtHand.{short, not_encoded}
+use Rattle.cborn_engine.proofs.Answers.AtHand.{short}
 use Rattle.cborn_engine.proofs.Answers.KnownErrors.{known_error}
 use Rattle.cborn_engine.proofs.slices.encode_slice.Goals as goal
 
 pub returns-in_err-encode_input : goal.returns-in_err-encode_input
 returns-in_err-encode_input g c =
     let l = short most_bytes c.args.input.now c.is_too_long.result c.is_too_long.ensures c.if-is_too_long.false in
-    let e = c.in_err-encode_input in
-    known_error (λ r. EncodedWhole g.O.KeyOrder.order c.args.kind c.args.limit c.args.input.now r) _ _ c.from_residual.ensures.1
-    (not_encoded c.args.limit most_bytes c.args.input.now l g.O.KeyOrder.order c.args.kind e.field-0.0 e.ensures.answers e.ensures.failures (e.ensures.malformed l))
+    known_error (λ r. EncodedWhole g.O.KeyOrder.order c.args.kind c.args.limit c.args.input.now r) _ _ c.from_residual.ensures.1 (c.in_err-encode_input.ensures.refused most_bytes l)
 
 pub returns-then-is_own_encoding : goal.returns-then-is_own_encoding
 returns-then-is_own_encoding g c = (short most_bytes c.args.input.now c.is_too_long.result c.is_too_long.ensures c.if-is_too_long.false, c.is_own_encoding.ensures c.if-is_own_encoding.true)
 
 pub returns : goal.returns
-returns g c = c.in_ok-encode_input.ensures.answers (short most_bytes c.args.input.now c.is_too_long.result c.is_too_long.ensures c.if-is_too_long.false)
+returns g c = (short most_bytes c.args.input.now c.is_too_long.result c.is_too_long.ensures c.if-is_too_long.false, c.in_ok-encode_input.ensures.encoded)

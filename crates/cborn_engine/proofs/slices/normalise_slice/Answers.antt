@@ -1,6 +1,6 @@
 use Rattle.std.specs.Cow.{cow_slice_items}
 use Rattle.cborn_engine.specs.Counts.{CountAnswer, NormalisedWhole}
-use Rattle.cborn_engine.proofs.Answers.AtHand.{held, room}
+use Rattle.cborn_engine.proofs.Answers.AtHand.{encoded, held, room}
 use Rattle.cborn_engine.proofs.Answers.KnownErrors.{known_error}
 use Rattle.cborn_engine.proofs.Answers.Malformed.{unfaulted}
 use Rattle.cborn_engine.proofs.Canonical.Canonicity.{canon_of}
@@ -11,21 +11,21 @@ use Rattle.cborn_engine.proofs.slices.normalise_slice.Goals as goal
 
 pub written_as-requires : goal.written_as-requires
 written_as-requires g c =
-    let e = c.in_ok-bytes.ensures in held g.O.KeyOrder.order g.met.O.KeyOrder.laws c.args.in_kind c.args.limit c.args.input.now (cow_slice_items c.in_ok-bytes.bytes) e.0 e.1
+    held g.O.KeyOrder.order g.met.O.KeyOrder.laws c.args.in_kind c.args.limit c.args.input.now (cow_slice_items c.lent.result) c.in_ok-encodings.ensures.0 (encoded g.O.KeyOrder.order c.args.in_kind c.args.limit c.args.input.now c.in_ok-encodings.encodings c.lent.result c.in_ok-encodings.ensures.1 c.lent.ensures)
 
 pub expect-requires : goal.expect-requires
-expect-requires g c = let e = c.in_ok-bytes.ensures in record { short = e.0; spelled = (e.1.held.nodes, e.1.held.spelled) }
+expect-requires g c = let e = c.in_ok-encodings.ensures in record { short = e.0; spelled = (e.1.held.nodes, e.1.held.spelled) }
 
-pub returns-in_err-bytes-clause-normalised : goal.returns-in_err-bytes-clause-normalised
-returns-in_err-bytes-clause-normalised g c =
-    known_error (λ r. CountAnswer c.args.count c.args.in_kind c.args.limit c.args.input.now (NormalisedWhole g.O.KeyOrder.order c.args.in_kind c.args.out_kind c.args.limit c.args.input.now) r) _ _ c.from_residual.ensures.1 c.in_err-bytes.ensures
+pub returns-in_err-encodings-clause-normalised : goal.returns-in_err-encodings-clause-normalised
+returns-in_err-encodings-clause-normalised g c =
+    known_error (λ r. CountAnswer c.args.count c.args.in_kind c.args.limit c.args.input.now (NormalisedWhole g.O.KeyOrder.order c.args.in_kind c.args.out_kind c.args.limit c.args.input.now) r) _ _ c.from_residual.ensures.1 c.in_err-encodings.ensures
 
-pub returns-in_err-bytes-clause-malformed : goal.returns-in_err-bytes-clause-malformed
-returns-in_err-bytes-clause-malformed g c l = normalised_reported c.args.count c.args.in_kind c.args.out_kind c.args.limit c.args.input.now l g.O.KeyOrder.order _ (returns-in_err-bytes-clause-normalised g c)
+pub returns-in_err-encodings-clause-malformed : goal.returns-in_err-encodings-clause-malformed
+returns-in_err-encodings-clause-malformed g c l = normalised_reported c.args.count c.args.in_kind c.args.out_kind c.args.limit c.args.input.now l g.O.KeyOrder.order _ (returns-in_err-encodings-clause-normalised g c)
 
 pub returns-in_err-answer-clause-normalised : goal.returns-in_err-answer-clause-normalised
 returns-in_err-answer-clause-normalised g c =
-    let e = c.in_ok-bytes.ensures in
+    let e = c.in_ok-encodings.ensures in
     known_error (λ r. CountAnswer c.args.count c.args.in_kind c.args.limit c.args.input.now (NormalisedWhole g.O.KeyOrder.order c.args.in_kind c.args.out_kind c.args.limit c.args.input.now) r) _ _ c.from_residual-in_err-answer.ensures.1
     (e.0, unfaulted c.args.in_kind c.args.limit c.args.input.now e.1.held.nodes e.1.held.spelled)
 
@@ -35,21 +35,23 @@ returns-in_err-answer-clause-malformed g c l = normalised_reported c.args.count 
 pub returns-in_err-expect-clause-normalised : goal.returns-in_err-expect-clause-normalised
 returns-in_err-expect-clause-normalised g c =
     let order = g.O.KeyOrder.order in
-    let e = c.in_ok-bytes.ensures in
+    let e = c.in_ok-encodings.ensures in
+    let lent = encoded g.O.KeyOrder.order c.args.in_kind c.args.limit c.args.input.now c.in_ok-encodings.encodings c.lent.result e.1 c.lent.ensures in
     let Whole = NormalisedWhole order c.args.in_kind c.args.out_kind c.args.limit c.args.input.now in
-    let written = canon_of order c.args.out_kind e.1.items (cow_slice_items c.in_ok-bytes.bytes) (cow_slice_items c.in_ok-answer.answer) e.1.encoded c.in_ok-answer.ensures in
+    let written = canon_of order c.args.out_kind lent.items (cow_slice_items c.lent.result) (cow_slice_items c.in_ok-answer.answer) lent.encoded c.in_ok-answer.ensures in
     known_error (λ r. CountAnswer c.args.count c.args.in_kind c.args.limit c.args.input.now Whole r) _ _ c.from_residual-in_err-expect.ensures.1
     (kept_counted c.args.count c.args.in_kind c.args.limit c.args.input.now Whole c.in_ok-answer.answer c.in_err-expect.field-0.0
-    (e.0, record { items = e.1.items; held = e.1.held; written = written }) (e.0, unfaulted c.args.in_kind c.args.limit c.args.input.now e.1.held.nodes e.1.held.spelled) c.in_err-expect.ensures.refused)
+    (e.0, record { items = lent.items; held = lent.held; written = written }) (e.0, unfaulted c.args.in_kind c.args.limit c.args.input.now e.1.held.nodes e.1.held.spelled) c.in_err-expect.ensures.refused)
 
 pub returns-in_err-expect-clause-malformed : goal.returns-in_err-expect-clause-malformed
 returns-in_err-expect-clause-malformed g c l = normalised_reported c.args.count c.args.in_kind c.args.out_kind c.args.limit c.args.input.now l g.O.KeyOrder.order _ (returns-in_err-expect-clause-normalised g c)
 
 pub returns-clause-normalised : goal.returns-clause-normalised
 returns-clause-normalised g c =
-    let e = c.in_ok-bytes.ensures in
-    let written = canon_of g.O.KeyOrder.order c.args.out_kind e.1.items (cow_slice_items c.in_ok-bytes.bytes) (cow_slice_items c.in_ok-answer.answer) e.1.encoded c.in_ok-answer.ensures in
-    ((e.0, record { items = e.1.items; held = e.1.held; written = written }), c.in_ok-expect.ensures.counted)
+    let e = c.in_ok-encodings.ensures in
+    let lent = encoded g.O.KeyOrder.order c.args.in_kind c.args.limit c.args.input.now c.in_ok-encodings.encodings c.lent.result e.1 c.lent.ensures in
+    let written = canon_of g.O.KeyOrder.order c.args.out_kind lent.items (cow_slice_items c.lent.result) (cow_slice_items c.in_ok-answer.answer) lent.encoded c.in_ok-answer.ensures in
+    ((e.0, record { items = lent.items; held = lent.held; written = written }), c.in_ok-expect.ensures.counted)
 
 pub returns-clause-malformed : goal.returns-clause-malformed
 returns-clause-malformed g c l = normalised_reported c.args.count c.args.in_kind c.args.out_kind c.args.limit c.args.input.now l g.O.KeyOrder.order _ (returns-clause-normalised g c)
@@ -61,8 +63,8 @@ returns-clause-headline g c =
 
 pub returns-clause-bytes : goal.returns-clause-bytes
 returns-clause-bytes g c =
-    encoded_bytes g.O.KeyOrder.order c.args.in_kind c.args.out_kind c.args.limit c.args.input.now (cow_slice_items c.in_ok-bytes.bytes) (cow_slice_items c.in_ok-answer.answer) c.in_ok-bytes.ensures.1 c.in_ok-answer.ensures
+    encoded_bytes g.O.KeyOrder.order c.args.in_kind c.args.out_kind c.args.limit c.args.input.now (cow_slice_items c.lent.result) (cow_slice_items c.in_ok-answer.answer) (encoded g.O.KeyOrder.order c.args.in_kind c.args.limit c.args.input.now c.in_ok-encodings.encodings c.lent.result c.in_ok-encodings.ensures.1 c.lent.ensures) c.in_ok-answer.ensures
 
 pub returns-clause-room : goal.returns-clause-room
 returns-clause-room g c =
-    room g.O.KeyOrder.order c.args.in_kind c.args.out_kind c.args.limit c.args.input.now (cow_slice_items c.in_ok-bytes.bytes) (cow_slice_items c.in_ok-answer.answer) c.in_ok-bytes.ensures.1 c.in_ok-answer.ensures
+    room g.O.KeyOrder.order c.args.in_kind c.args.out_kind c.args.limit c.args.input.now (cow_slice_items c.lent.result) (cow_slice_items c.in_ok-answer.answer) (encoded g.O.KeyOrder.order c.args.in_kind c.args.limit c.args.input.now c.in_ok-encodings.encodings c.lent.result c.in_ok-encodings.ensures.1 c.lent.ensures) c.in_ok-answer.ensures

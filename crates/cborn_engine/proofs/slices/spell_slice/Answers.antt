@@ -1,9 +1,9 @@
+use Rattle.std.proofs.Common.{subst}
 use Rattle.cborn_engine.specs.Counts.{ShownWhole}
 use Rattle.cborn_engine.specs.Reading.{most_bytes}
-use Rattle.cborn_engine.proofs.Answers.AtHand.{short, not_shown}
+use Rattle.cborn_engine.proofs.Answers.AtHand.{short}
 use Rattle.cborn_engine.proofs.Answers.KnownErrors.{known_error}
-use Rattle.cborn_engine.proofs.Answers.Malformed.{handed, no_reading}
-use Rattle.cborn_engine.specs.Whole.{TellsFault}
+use Rattle.cborn_engine.proofs.Answers.Malformed.{no_reading}
 use Rattle.cborn_engine.proofs.slices.spell_slice.Goals as goal
 
 pub show_input-requires-clause-malformed : goal.show_input-requires-clause-malformed
@@ -12,20 +12,17 @@ show_input-requires-clause-malformed c e f = no_reading c.args.limit c.args.inpu
 pub returns-in_err-show_input-clause-shown : goal.returns-in_err-show_input-clause-shown
 returns-in_err-show_input-clause-shown c =
     let l = short most_bytes c.args.input.now c.is_too_long.result c.is_too_long.ensures c.if-is_too_long.false in
-    let e = c.in_err-show_input in
-    known_error (λ r. ShownWhole c.args.in_kind c.args.out_kind c.args.limit c.args.input.now r) _ _ c.from_residual.ensures.1
-    (not_shown c.args.limit most_bytes c.args.input.now l c.args.in_kind c.args.out_kind e.field-0.0 e.ensures.answers e.ensures.failures (e.ensures.malformed l))
+    known_error (λ r. ShownWhole c.args.in_kind c.args.out_kind c.args.limit c.args.input.now r) _ _ c.from_residual.ensures.1 (c.in_err-show_input.ensures.unshown most_bytes l)
 
 pub returns-in_err-show_input-clause-unfailing : goal.returns-in_err-show_input-clause-unfailing
 returns-in_err-show_input-clause-unfailing c e f h =
     let l = short most_bytes c.args.input.now c.is_too_long.result c.is_too_long.ensures c.if-is_too_long.false in
     let found = c.is_own_spelling.ensures.malformed c.if-is_own_spelling.false e f in
-    let fault = known_error (λ r. TellsFault c.args.in_kind c.args.limit c.args.input.now r) _ _ c.from_residual.ensures.1 (handed c.args.in_kind c.args.limit c.args.input.now c.in_err-show_input.field-0.0 (c.in_err-show_input.ensures.malformed l)) in
-    let clash = fault found.0 found.1 e found.2 in
-    cc
+    let refused = subst (λ r. ShownWhole c.args.in_kind c.args.out_kind c.args.limit c.args.input.now r) h (returns-in_err-show_input-clause-shown c) in
+    refused.0.1.none found.0 found.1 e found.2
 
 pub returns-then-is_own_spelling-clause-shown : goal.returns-then-is_own_spelling-clause-shown
 returns-then-is_own_spelling-clause-shown c = (short most_bytes c.args.input.now c.is_too_long.result c.is_too_long.ensures c.if-is_too_long.false, c.is_own_spelling.ensures.own c.if-is_own_spelling.true)
 
 pub returns-clause-shown : goal.returns-clause-shown
-returns-clause-shown c = c.in_ok-show_input.ensures.answers (short most_bytes c.args.input.now c.is_too_long.result c.is_too_long.ensures c.if-is_too_long.false)
+returns-clause-shown c = (short most_bytes c.args.input.now c.is_too_long.result c.is_too_long.ensures c.if-is_too_long.false, c.in_ok-show_input.ensures.shown)

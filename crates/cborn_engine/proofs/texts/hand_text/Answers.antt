@@ -1,10 +1,10 @@
-use Rattle.std.proofs.Common.{◌≤◌, ℕ, List, length, subst}
+use Rattle.std.proofs.Common.{ℕ, List, subst}
 use Rattle.std.specs.Prelude.{IfErr}
 use Rattle.cborn_model.specs.Tree.{trees}
 use Rattle.cborn_edn.specs.Grammar.{Notates}
 use Rattle.cborn_engine.specs.devices.Encoding.{kind_of}
 use Rattle.cborn_engine.specs.Loading.{IsNoFlaw}
-use Rattle.cborn_engine.specs.Refusing.{IsRefused}
+use Rattle.cborn_engine.specs.devices.Malformed.{IsRefusedHeld}
 use Rattle.cborn_engine.proofs.Answers.KnownErrors.{known_error}
 use Rattle.cborn_engine.proofs.Answers.Unreported.{untold}
 use Rattle.cborn_engine.proofs.texts.hand_text.Goals as goal
@@ -12,7 +12,7 @@ use Rattle.cborn_engine.proofs.texts.hand_text.Goals as goal
 pub returns-in_err-text-clause-refused : goal.returns-in_err-text-clause-refused
 returns-in_err-text-clause-refused g c =
     let input = c.args.input.now in
-    known_error (λ r. IfErr r (λ why. (most : ℕ) → length input ≤ most → IsRefused (kind_of c.args.profile) c.args.limit most input why × IsNoFlaw why)) _ _ c.from_residual.ensures.1
+    known_error (λ r. IfErr r (λ why. IsRefusedHeld (kind_of c.args.profile) c.args.limit input why × IsNoFlaw why)) _ _ c.from_residual.ensures.1
     (c.in_err-text.ensures.refused c.args.profile c.args.limit)
 
 pub returns-in_err-visit_text-clause-refused : goal.returns-in_err-visit_text-clause-refused
@@ -20,8 +20,8 @@ returns-in_err-visit_text-clause-refused g c =
     let input = c.args.input.now in
     let text = c.in_ok-text in
     let why = c.in_err-visit_text in
-    known_error (λ r. IfErr r (λ why. (most : ℕ) → length input ≤ most → IsRefused (kind_of c.args.profile) c.args.limit most input why × IsNoFlaw why)) _ _ c.from_residual-in_err-visit_text.ensures.1
-    (λ most l. untold c.args.profile c.args.limit most input text.text.now why.field-0.0 text.ensures.text.0 text.ensures.text.1 why.ensures.refused l)
+    known_error (λ r. IfErr r (λ why. IsRefusedHeld (kind_of c.args.profile) c.args.limit input why × IsNoFlaw why)) _ _ c.from_residual-in_err-visit_text.ensures.1
+    (untold c.args.profile c.args.limit input text.text.now why.field-0.0 text.ensures.text.0 text.ensures.text.1 why.ensures.refused)
 
 pub returns-clause-nodes : goal.returns-clause-nodes
 returns-clause-nodes g c =
