@@ -9,6 +9,7 @@ use crate::names::FileName;
 use crate::statuses::{DIFFERENT, DONE, FAILED, REFUSED};
 use cborn_engine::{CompareCountFault, CountFault, Counted, EngineFault};
 use cborn_model::Defect;
+use itoa::Buffer;
 use std::alloc::Global;
 use std::fmt::{Display, Formatter};
 use std::io::Write;
@@ -80,9 +81,16 @@ impl Display for Answer {
     fn fmt<W: fmt::Write>(&self, f: &mut Formatter<W>) -> fmt::Result {
         match self {
             Answer::Same => write!(f, "same"),
-            Answer::DifferentAt(index) => write!(f, "different at item {index}"),
+            Answer::DifferentAt(index) => {
+                let mut digits = Buffer::new();
+                write!(f, "different at item {}", digits.format(*index))
+            }
             Answer::Deterministic => write!(f, "deterministic"),
-            Answer::Defective(defect) => write!(f, "{defect}"),
+            Answer::Defective(defect) => {
+                let mut digits = Buffer::new();
+                let place = digits.format(defect.place);
+                write!(f, "offset {place}: {}", defect.reason)
+            }
         }
     }
 }
