@@ -84,6 +84,10 @@ pub fn show_stream<R: Source, W: Sink>(
 }
 
 /// Writes an answer, or hands on why there is none; then the writer is as it was.
+///
+/// # Errors
+/// The fault that is handed on, or `WriteFault` where the writer failed; then a front of the answer went
+/// out.
 fn send<W: Sink>(
     answer: Result<CowSlice<'_, u8, Global>, CountFault>,
     writer: &mut W,

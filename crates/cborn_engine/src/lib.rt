@@ -6,7 +6,8 @@
 //! failures; [`Counted`] makes them of the readers and writers of std. `whole_inputs` reads all of
 //! an input, `pieces` the next piece of one that isn't kept, and `outputs` writes a whole answer and
 //! flushes it. `specs/Failures.antt` says how the counts go on, `specs/Collecting.antt` and
-//! `specs/Writing.antt` what was taken from a reader and given to a writer.
+//! `specs/Writing.antt` what was taken from a reader and given to a writer, and `specs/Streams.antt`
+//! what both do around the answer of a call over what is held.
 //!
 //! A reader of the definitions starts at `specs/Holding.antt` (what an input holds, and its
 //! canonical form) and `specs/Canonical.antt` (the headline). `Refusing` says why an input is
