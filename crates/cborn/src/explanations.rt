@@ -6,8 +6,9 @@ use cborn_explain::{
     BytesReason, CountReason, NotationText, TextReason, explain_bytes, explain_comparison,
     explain_text, hint_of,
 };
+use cborn_judge::{Defect, Invalid, InvalidReason};
 use cborn_lex::{LexFault, Profile};
-use cborn_model::{Defect, Invalid, InvalidReason, KeyOrder, Limit};
+use cborn_model::{KeyOrder, Limit};
 use cborn_wire::WireFault;
 use std::alloc::{AllocError, Global};
 

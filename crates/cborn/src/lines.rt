@@ -8,7 +8,7 @@ ghost use Rattle.cborn.specs.declared.lines.Trouble.TheVariants as trouble;
 use crate::names::FileName;
 use crate::statuses::{DIFFERENT, DONE, FAILED, REFUSED};
 use cborn_engine::{CompareCountFault, CountFault, Counted, EngineFault};
-use cborn_model::Defect;
+use cborn_judge::Defect;
 use itoa::Buffer;
 use std::alloc::Global;
 use std::fmt::{Display, Formatter};

@@ -2,8 +2,8 @@
 //! answer out of memory. One input has each form of a node. Which answer is right is a clause.
 
 use cborn_det::encode_all;
-use cborn_judge::{judge, judge_all};
-use cborn_model::{Bytewise, Invalid, InvalidReason, Limit};
+use cborn_judge::{Invalid, InvalidReason, judge, judge_all};
+use cborn_model::{Bytewise, Limit};
 use cborn_wire::read_all;
 use std::test::Fail;
 

@@ -2,8 +2,8 @@
 ghost use Rattle.std.specs.Prelude.{◌≡◌};
 ghost use Rattle.cborn_bytes_tests.specs.devices.Backwards.{backwards, backwards_order};
 
-use cborn_judge::Encoder;
-use cborn_model::{InvalidReason, KeyOrder, Limit};
+use cborn_judge::{Encoder, InvalidReason};
+use cborn_model::{KeyOrder, Limit};
 use cborn_wire::visit;
 use std::alloc::{AllocError, Global};
 use std::cmp::Ordering;

@@ -12,11 +12,11 @@ use Rattle.cborn_edn.specs.declared.faults.EdnReason.{EdnReason}
 use Rattle.cborn_edn.specs.declared.faults.EdnReason.TheVariants as edn
 use Rattle.cborn_edn.specs.declared.faults.EdnFault.TheVariants as edn_fault
 use Rattle.cborn_edn.specs.declared.faults.ShowFault.TheVariants as unshown
-use Rattle.cborn_model.specs.declared.faults.InvalidReason.{InvalidReason}
-use Rattle.cborn_model.specs.declared.faults.InvalidReason.TheVariants as invalid
-use Rattle.cborn_model.specs.declared.faults.Invalid.TheVariants as invalid_fault
-use Rattle.cborn_model.specs.declared.defects.DefectReason.{DefectReason}
-use Rattle.cborn_model.specs.declared.defects.DefectReason.TheVariants as defect
+use Rattle.cborn_judge.specs.declared.faults.InvalidReason.{InvalidReason}
+use Rattle.cborn_judge.specs.declared.faults.InvalidReason.TheVariants as invalid
+use Rattle.cborn_judge.specs.declared.faults.Invalid.TheVariants as invalid_fault
+use Rattle.cborn_judge.specs.declared.defects.DefectReason.{DefectReason}
+use Rattle.cborn_judge.specs.declared.defects.DefectReason.TheVariants as defect
 use Rattle.cborn_explain.specs.declared.reasons.CountReason.{CountReason}
 use Rattle.cborn_explain.specs.declared.reasons.CountReason.TheVariants as counts
 use Rattle.cborn_explain.specs.declared.reasons.BytesReason.{BytesReason}

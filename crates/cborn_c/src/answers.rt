@@ -7,7 +7,7 @@ use crate::numbers::{
     place_of_counted,
 };
 use cborn_engine::{CompareCountFault, CountFault, EngineFault};
-use cborn_model::Defect;
+use cborn_judge::Defect;
 use cborn_wire::WireFault;
 use std::alloc::Global;
 use std::borrow::CowSlice;

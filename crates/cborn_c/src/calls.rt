@@ -16,7 +16,8 @@ use cborn_engine::{
     show_slice,
 };
 use cborn_explain::explain_comparison;
-use cborn_model::{Bytewise, Defect, LengthFirst, Limit};
+use cborn_judge::Defect;
+use cborn_model::{Bytewise, LengthFirst, Limit};
 use std::alloc::{AllocError, Global};
 use std::borrow::CowSlice;
 

@@ -9,8 +9,9 @@ use crate::answers::{CbornTold, put};
 use crate::words::{count_at, defect_at, edn_at, invalid_at, lex_at, of_first, wire_at};
 use cborn_engine::{CountFault, Kind};
 use cborn_explain::{BytesReason, NotationText, TextReason, explain_bytes, explain_text};
+use cborn_judge::InvalidReason;
 use cborn_lex::Profile;
-use cborn_model::{InvalidReason, Limit};
+use cborn_model::Limit;
 use std::alloc::{AllocError, Global};
 use std::borrow::CowSlice;
 

@@ -5,8 +5,8 @@ ghost use Rattle.cborn_c.specs.Numbers.{numbered_kind, numbered_order, wire_numb
 
 use cborn_edn::{EdnFault, EdnReason, ShowFault};
 use cborn_engine::{CountFault, EngineFault, Kind};
+use cborn_judge::{DefectReason, Invalid, InvalidReason};
 use cborn_lex::{LexFault, LexReason};
-use cborn_model::{DefectReason, Invalid, InvalidReason};
 use cborn_wire::{WireFault, WireReason};
 
 /// The answer was written, the inputs hold the same items, or the input is deterministic.

@@ -10,8 +10,8 @@ use arrayvec::ArrayString;
 use cborn_edn::{EdnFault, EdnReason, ShowFault};
 use cborn_engine::{CountFault, EngineFault};
 use cborn_explain::CountReason;
+use cborn_judge::{DefectReason, Invalid, InvalidReason};
 use cborn_lex::{LexFault, LexReason};
-use cborn_model::{DefectReason, Invalid, InvalidReason};
 use cborn_wire::{WireFault, WireReason};
 use std::fmt::{Display, Write};
 

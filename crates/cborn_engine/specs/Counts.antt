@@ -7,7 +7,7 @@ use Rattle.std.specs.declared.cmp.Ordering.{Ordering}
 use Rattle.std.specs.Io.KnownBytes.{IsAtEnd, Consumes}
 use Rattle.cborn_model.specs.Tree.{Tree, place}
 use Rattle.cborn_model.specs.Value.{Value}
-use Rattle.cborn_model.specs.declared.defects.Defect.{Defect}
+use Rattle.cborn_judge.specs.declared.defects.Defect.{Defect}
 use Rattle.cborn_engine.specs.declared.count_faults.CompareCountFault.{CompareCountFault}
 use Rattle.cborn_engine.specs.declared.count_faults.CompareCountFault.TheVariants as compared
 use Rattle.cborn_engine.specs.declared.count_faults.CountFault.{CountFault}

@@ -6,8 +6,8 @@ use Rattle.cborn_edn.specs.declared.faults.EdnFault.{EdnFault}
 use Rattle.cborn_edn.specs.declared.faults.EdnFault.TheVariants as edn
 use Rattle.cborn_edn.specs.declared.faults.ShowFault.{ShowFault}
 use Rattle.cborn_edn.specs.declared.faults.ShowFault.TheVariants as unshown
-use Rattle.cborn_model.specs.declared.faults.Invalid.{Invalid}
-use Rattle.cborn_model.specs.declared.faults.Invalid.TheVariants as invalid
+use Rattle.cborn_judge.specs.declared.faults.Invalid.{Invalid}
+use Rattle.cborn_judge.specs.declared.faults.Invalid.TheVariants as invalid
 use Rattle.cborn_engine.specs.declared.stream_faults.InputFault.{InputFault}
 use Rattle.cborn_engine.specs.declared.stream_faults.InputFault.TheVariants as input
 use Rattle.cborn_engine.specs.declared.stream_faults.OutputFault.{OutputFault}

@@ -13,7 +13,8 @@ use crate::faults::EngineFault;
 use crate::fronts::is_deterministic;
 use crate::judgments::judge_bytes;
 use crate::sources::Source;
-use cborn_model::{Defect, KeyOrder, Limit};
+use cborn_judge::Defect;
+use cborn_model::{KeyOrder, Limit};
 use std::alloc::Global;
 
 /// The first defect of the bytes of an input, if they aren't the deterministic encodings of the

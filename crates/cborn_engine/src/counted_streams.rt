@@ -25,7 +25,8 @@ use crate::sinks::Sink;
 use crate::slices::{check_slice, encode_counted, normalise_slice, show_slice};
 use crate::sources::Source;
 use crate::whole_inputs::read_bytes;
-use cborn_model::{Defect, KeyOrder, Limit};
+use cborn_judge::Defect;
+use cborn_model::{KeyOrder, Limit};
 use std::alloc::Global;
 use std::borrow::CowSlice;
 

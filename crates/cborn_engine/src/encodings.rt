@@ -11,9 +11,9 @@ use crate::fronts::is_deterministic;
 use crate::judgments::judge_bytes;
 use crate::kinds::{Kind, profile_of};
 use crate::texts::hand_text;
-use cborn_judge::Encoder;
+use cborn_judge::{Encoder, Invalid};
 use cborn_lex::Profile;
-use cborn_model::{Invalid, KeyOrder, Limit};
+use cborn_model::{KeyOrder, Limit};
 use std::alloc::Global;
 
 /// Whether the whole input is the deterministic encodings of what it holds, one after another. False of

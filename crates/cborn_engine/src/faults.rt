@@ -5,8 +5,8 @@ ghost use Rattle.cborn_engine.specs.declared.faults.EngineFault.{EngineFault};
 
 use crate::stream_faults::{InputFault, OutputFault};
 use cborn_edn::{EdnFault, ShowFault};
+use cborn_judge::Invalid;
 use cborn_lex::LexFault;
-use cborn_model::Invalid;
 use cborn_wire::WireFault;
 use std::alloc::AllocError;
 use thiserror::Error;

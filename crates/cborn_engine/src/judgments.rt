@@ -9,8 +9,8 @@ ghost use Rattle.cborn_engine.specs.devices.Malformed.{IsRefusedHeld};
 
 use crate::faults::EngineFault;
 use crate::refusals::fault_or_refusal;
-use cborn_judge::{EncodedItems, Encoder};
-use cborn_model::{Invalid, KeyOrder, Limit, Visitor};
+use cborn_judge::{EncodedItems, Encoder, Invalid};
+use cborn_model::{KeyOrder, Limit, Visitor};
 use cborn_wire::{VisitFault, WireFault, visit};
 use std::alloc::Global;
 

@@ -30,7 +30,8 @@ use crate::inputs::MOST;
 use crate::kinds::Kind;
 use crate::showings::{is_own_spelling, show_input};
 use cborn_edn::{Notated, show_bytes};
-use cborn_model::{Defect, KeyOrder, Limit};
+use cborn_judge::Defect;
+use cborn_model::{KeyOrder, Limit};
 use std::alloc::{AllocError, Global};
 use std::borrow::CowSlice;
 

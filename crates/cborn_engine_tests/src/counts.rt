@@ -6,7 +6,8 @@ use cborn_engine::{
     CompareCountFault, Count, CountFault, Kind, check_slice, check_stream, compare_slices,
     compare_streams, normalise_slice, normalise_stream, same_items, show_slice, show_stream,
 };
-use cborn_model::{Bytewise, Defect, DefectReason, Limit};
+use cborn_judge::{Defect, DefectReason};
+use cborn_model::{Bytewise, Limit};
 use std::alloc::Global;
 use std::process::Abort;
 use std::test::Fail;

@@ -9,7 +9,8 @@ use crate::order_causes::push_rule;
 use crate::quotes::{push_hex, push_item, slice_of, valid_front};
 use crate::reasons::BytesReason;
 use cborn_det::encode;
-use cborn_model::{Bytewise, DefectReason, InvalidReason, Limit, Major, shortest};
+use cborn_judge::{DefectReason, InvalidReason};
+use cborn_model::{Bytewise, Limit, Major, shortest};
 use cborn_wire::{Argument, Head, HeadRead, Level, LevelKind, WireReason, head_bytes, read_head};
 use std::alloc::{AllocError, Global};
 

@@ -3,9 +3,9 @@
 
 use cborn_det::encode;
 use cborn_edn::{EdnFault, ShowFault, read_notation, show};
-use cborn_judge::judge;
+use cborn_judge::{Invalid, judge};
 use cborn_lex::{LexFault, Profile};
-use cborn_model::{Bytewise, Invalid, Limit, Spelled, Valid};
+use cborn_model::{Bytewise, Limit, Spelled, Valid};
 use cborn_wire::{WireFault, read_one};
 use std::alloc::{AllocError, Global};
 

@@ -1,8 +1,8 @@
 //! Reasons, as other calls report them.
 
 use cborn_edn::EdnReason;
+use cborn_judge::{DefectReason, InvalidReason};
 use cborn_lex::LexReason;
-use cborn_model::{DefectReason, InvalidReason};
 use cborn_wire::WireReason;
 
 /// Why bytes are refused, or aren't deterministic.

@@ -7,8 +7,9 @@ use crate::text_keys::{earlier_key, key_at};
 use crate::text_spots::indicator_at;
 use crate::text_walks::{Bracket, LastToken, NotationText, TextWalk};
 use cborn_edn::EdnReason;
+use cborn_judge::InvalidReason;
 use cborn_lex::{LexReason, Profile, are_hex, hex_code, is_low};
-use cborn_model::{InvalidReason, Limit};
+use cborn_model::Limit;
 use std::alloc::{AllocError, Global};
 
 /// How many characters of a word, a number or a key are written.

@@ -1,3 +1,4 @@
+pub mod Reasons
 pub mod Meaning
 pub mod Loops
 pub mod FirstFlaw

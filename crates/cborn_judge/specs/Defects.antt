@@ -13,11 +13,11 @@ use Rattle.cborn_model.specs.declared.heads.Size.TheVariants.{Fixed, Endless}
 use Rattle.cborn_model.specs.Tree.{Tree, Uint, Nint, Bytes, Text, ByteChunks, TextChunks, Items, Pairs, Tagged, Simple, Trees, Entries, no_entry, entry, count, count_entries, place}
 use Rattle.cborn_model.specs.Meaning.{IsByteString, Means, AllMean}
 use Rattle.cborn_model.specs.First.{IsFirst}
-use Rattle.cborn_model.specs.Reasons.{defect_rank}
+use Rattle.cborn_judge.specs.Reasons.{defect_rank}
 use Rattle.cborn_model.specs.Spelled.{spelled}
-use Rattle.cborn_model.specs.declared.defects.Defect as defect
-use Rattle.cborn_model.specs.declared.defects.DefectReason.{DefectReason}
-use Rattle.cborn_model.specs.declared.defects.DefectReason.TheVariants.{LongHead, EndlessLength, LooseBignum, KeyOrder}
+use Rattle.cborn_judge.specs.declared.defects.Defect as defect
+use Rattle.cborn_judge.specs.declared.defects.DefectReason.{DefectReason}
+use Rattle.cborn_judge.specs.declared.defects.DefectReason.TheVariants.{LongHead, EndlessLength, LooseBignum, KeyOrder}
 
 -- an argument's head that is not the shortest
 abbrev pub IsLong : Width → ℕ → Type 0

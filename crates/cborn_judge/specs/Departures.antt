@@ -4,11 +4,11 @@ use Rattle.std.specs.declared.cmp.Ordering.{Ordering}
 use Rattle.std.specs.declared.cmp.Ordering.TheVariants.{Less}
 use Rattle.cborn_model.specs.declared.heads.Width.{Width}
 use Rattle.cborn_judge.specs.Defects.{IsLong, IsLoose}
-use Rattle.cborn_model.specs.Reasons.{defect_rank}
+use Rattle.cborn_judge.specs.Reasons.{defect_rank}
 use Rattle.cborn_model.specs.Earliest.{Finds}
-use Rattle.cborn_model.specs.declared.defects.Defect as defect
-use Rattle.cborn_model.specs.declared.defects.DefectReason.{DefectReason}
-use Rattle.cborn_model.specs.declared.defects.DefectReason.TheVariants.{LongHead, LooseBignum, KeyOrder}
+use Rattle.cborn_judge.specs.declared.defects.Defect as defect
+use Rattle.cborn_judge.specs.declared.defects.DefectReason.{DefectReason}
+use Rattle.cborn_judge.specs.declared.defects.DefectReason.TheVariants.{LongHead, LooseBignum, KeyOrder}
 
 abbrev pub FindsDefect : (ℕ → DefectReason → Type 0) → Option defect.Defect → Type 0
 FindsDefect = Finds defect_rank (λ d. d.place) (λ d. d.reason)

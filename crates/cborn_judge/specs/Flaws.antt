@@ -4,11 +4,11 @@ use Rattle.cborn_model.specs.Value.{Value, Same}
 use Rattle.cborn_model.specs.declared.nodes.Chunk.{Chunk}
 use Rattle.cborn_model.specs.Tree.{Tree, Uint, Nint, Text, TextChunks, Items, Pairs, Tagged, Trees, no_item, more, Entries, no_entry, entry, place}
 use Rattle.cborn_model.specs.First.{IsFirst}
-use Rattle.cborn_model.specs.Reasons.{flaw_rank}
-use Rattle.cborn_model.specs.declared.faults.InvalidReason.{InvalidReason}
-use Rattle.cborn_model.specs.declared.faults.InvalidReason.TheVariants.{NotUtf8, BadBignum, DuplicateKey}
-use Rattle.cborn_model.specs.declared.faults.Invalid.{Invalid}
-use Rattle.cborn_model.specs.declared.faults.Invalid.TheVariants.{Refused, OutOfMemory}
+use Rattle.cborn_judge.specs.Reasons.{flaw_rank}
+use Rattle.cborn_judge.specs.declared.faults.InvalidReason.{InvalidReason}
+use Rattle.cborn_judge.specs.declared.faults.InvalidReason.TheVariants.{NotUtf8, BadBignum, DuplicateKey}
+use Rattle.cborn_judge.specs.declared.faults.Invalid.{Invalid}
+use Rattle.cborn_judge.specs.declared.faults.Invalid.TheVariants.{Refused, OutOfMemory}
 use Rattle.cborn_model.specs.Meaning.{IsByteString, Means}
 
 -- q is this node, or inside it

@@ -4,8 +4,10 @@ ghost use Rattle.std.specs.Prelude.{◌≡◌, ◌↔◌, IfOk, IfErr, None};
 ghost use Rattle.cborn_judge.specs.Defects.{IsCheck, IsDeterministic};
 ghost use Rattle.cborn_judge.specs.Flaws.{IsRefusal};
 
+use crate::defects::Defect;
+use crate::faults::Invalid;
 use crate::judgments::encode;
-use cborn_model::{Defect, Invalid, KeyOrder, Spelled};
+use cborn_model::{KeyOrder, Spelled};
 use std::alloc::Global;
 
 /// The first defect of the node: where its spelling first departs from the deterministic encoding

@@ -6,7 +6,7 @@ ghost use Rattle.cborn_model.specs.Tree.{Tree, trees};
 ghost use Rattle.cborn_model.specs.Partial.{Partial, Opening, top, inside, put, no_part, IsFree, Ends, built, string_tree};
 ghost use Rattle.cborn_model.specs.shared.Runs.{puts, InArray, AtKey};
 ghost use Rattle.std.specs.declared.cmp.Ordering.{Ordering};
-ghost use Rattle.cborn_model.specs.Reasons.{flaw_rank};
+ghost use Rattle.cborn_judge.specs.Reasons.{flaw_rank};
 ghost use Rattle.cborn_model.specs.First.{IsFirst};
 ghost use Rattle.cborn_judge.specs.Departures.{FindsDefect};
 ghost use Rattle.cborn_judge.specs.shared.Checked.{DefectInAll};
@@ -17,15 +17,15 @@ ghost use Rattle.cborn_judge.specs.devices.Marks.{marks_of};
 ghost use Rattle.cborn_judge.specs.devices.Encoding.{opened, is_chunks, IsMarked, Coded, IsEncodedAs, AreEncodedAs, IsOpening, IsFront, Stands, Finds};
 ghost use Rattle.cborn_judge.specs.devices.Encoders.{kept, IsHeld, StandsIn, StandsAs, Written, IsChunk, BeginsAs, IsContent, IsEndedString, IsStringFront, kind_major};
 
+use crate::defects::Defect;
+use crate::faults::InvalidReason;
 use crate::flaws::{Flaw, keep, text_flaw};
 use crate::levels::{Container, Level};
 use crate::pairs::Pairs;
 use crate::spellings::head_defect;
 use crate::strings::{is_content, is_text};
 use cborn_det::{integer_major, put_head};
-use cborn_model::{
-    Defect, InvalidReason, KeyOrder, LeafPair, Major, Size, StringKind, Visitor, Width,
-};
+use cborn_model::{KeyOrder, LeafPair, Major, Size, StringKind, Visitor, Width};
 use std::alloc::{AllocError, Global};
 use std::marker::PhantomData;
 

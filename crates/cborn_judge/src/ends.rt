@@ -20,15 +20,14 @@ ghost use Rattle.cborn_judge.specs.devices.Marks.{marks_of};
 ghost use Rattle.cborn_judge.specs.devices.Encoders.{EndsWell, EndsBignum, Closes, HasEnded, KeysRise, IsBignumFound, StandsIn, IsHeld};
 ghost use Rattle.cborn_judge.specs.declared.levels.Container.TheVariants as container;
 
+use crate::defects::{Defect, DefectReason};
 use crate::encoders::{Encoder, Encodings, major_of};
+use crate::faults::InvalidReason;
 use crate::flaws::{Flaw, keep, keep_earlier, may_precede};
 use crate::levels::{Container, Level};
 use crate::spellings::{ended_defect, head_defect, loose_defect};
 use cborn_det::{push_integer, set_head};
-use cborn_model::{
-    Defect, DefectReason, InvalidReason, KeyOrder, Major, Size, StringKind, Width, earliest,
-    without_zeros,
-};
+use cborn_model::{KeyOrder, Major, Size, StringKind, Width, earliest, without_zeros};
 use std::alloc::{AllocError, Global};
 
 /// What a container adds to the flaws and the defects when it ends.

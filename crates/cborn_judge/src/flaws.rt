@@ -1,12 +1,13 @@
 //! The flaw of a node, and what is kept of the faults that are found.
 
 ghost use Rattle.std.specs.Prelude.{◌≡◌, false, Some};
-ghost use Rattle.cborn_model.specs.Reasons.{flaw_rank};
+ghost use Rattle.cborn_judge.specs.Reasons.{flaw_rank};
 ghost use Rattle.cborn_model.specs.Earliest.{IsEarliest};
-ghost use Rattle.cborn_model.specs.declared.faults.InvalidReason.TheVariants.{NotUtf8};
+ghost use Rattle.cborn_judge.specs.declared.faults.InvalidReason.TheVariants.{NotUtf8};
 ghost use Rattle.cborn_judge.specs.shared.Judged.{FindsFlaw};
 
-use cborn_model::{Fault, InvalidReason, earliest};
+use crate::faults::InvalidReason;
+use cborn_model::{Fault, earliest};
 
 /// What is wrong, and at which offset.
 #[derive(Clone, Copy)]
@@ -19,7 +20,7 @@ impl Fault for Flaw {
     ghost key = { λ f. (f.place, flaw_rank f.reason) };
 
     fn place_and_number(self) -> (u64, u8) {
-        (self.place, self.reason).place_and_number()
+        (self.place, self.reason.number())
     }
 }
 

@@ -16,10 +16,10 @@ ghost use Rattle.cborn_judge.specs.devices.Encoding.{IsEncodedAs};
 
 use crate::bignums::{big_integer, small_integer};
 use crate::encoders::{EncodedItems, Encoder};
+use crate::faults::Invalid;
 use crate::strings::{bytes_of, bytes_of_chunks, text_of, text_of_chunks};
 use cborn_model::{
-    Bytewise, Form, Invalid, Item, ItemBox, ItemList, KeyOrder, Node, PairList, Spelled, Valid,
-    visit_node,
+    Bytewise, Form, Item, ItemBox, ItemList, KeyOrder, Node, PairList, Spelled, Valid, visit_node,
 };
 use std::alloc::{AllocError, Global};
 

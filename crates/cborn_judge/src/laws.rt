@@ -8,8 +8,8 @@ ghost use Rattle.cborn_model.specs.Tree.{Tree, Trees, depth};
 ghost use Rattle.cborn_model.specs.Valid.{IsProper, AreProper, value_depth};
 ghost use Rattle.cborn_model.specs.Value.{Value, Values};
 ghost use Rattle.cborn_det.specs.Det.{Det, DetValues};
-ghost use Rattle.cborn_model.specs.declared.defects.DefectReason as departs;
-ghost use Rattle.cborn_model.specs.declared.faults.InvalidReason as invalid;
+ghost use Rattle.cborn_judge.specs.declared.defects.DefectReason as departs;
+ghost use Rattle.cborn_judge.specs.declared.faults.InvalidReason as invalid;
 ghost use Rattle.cborn_judge.specs.Defects.{Defect, IsFirstDefect, SequenceDefect, IsFirstOfSequence};
 ghost use Rattle.cborn_judge.specs.Flaws.{Flaw, IsFirstFlaw, IsWord, Within};
 

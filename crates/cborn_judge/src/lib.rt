@@ -8,19 +8,22 @@
 //! are numbers by which most keys are compared, `ends` says how containers end, and `spellings` has
 //! the defects of single heads. [`judge`] hands it a node, and builds the item of one that means
 //! something (`judgments`, `strings`, `bignums`); [`first_defect`] tells the first defect of a node
-//! (`checks`). Flaws and defects, and which of two comes first, are those of `cborn_model`.
+//! (`checks`). A flaw is an [`InvalidReason`] at a place (`faults`), and a defect a [`DefectReason`]
+//! at one (`defects`).
 //!
 //! A reader of the definitions starts at `specs/Flaws.antt` (what is wrong with a node, and what
 //! comes first) and `specs/Defects.antt` (where a spelling departs from the deterministic
-//! encoding); `cborn_model` defines what a node means. Devices of the proofs are in
-//! `specs/devices/`. [`laws`] has what is proved of the definitions: no flaw means an item, and no
-//! defect the deterministic encoding.
+//! encoding), with `specs/Reasons.antt` for the numbers; `cborn_model` defines what a node means.
+//! Devices of the proofs are in `specs/devices/`. [`laws`] has what is proved of the definitions: no
+//! flaw means an item, and no defect the deterministic encoding.
 #![tactic(auto)]
 
 mod bignums;
 mod checks;
+mod defects;
 mod encoders;
 mod ends;
+mod faults;
 mod flaws;
 mod hints;
 mod judgments;
@@ -31,8 +34,10 @@ mod pairs;
 mod spellings;
 mod strings;
 
-pub use cborn_model::{Defect, DefectReason, Fault, Invalid, InvalidReason, earlier, earliest};
+pub use cborn_model::{Fault, earlier, earliest};
 pub use checks::first_defect;
+pub use defects::{Defect, DefectReason};
 pub use encoders::{EncodedItems, Encoder};
+pub use faults::{Invalid, InvalidReason};
 pub use judgments::{judge, judge_all};
 pub use spellings::{head_defect, loose_defect, order_defect};

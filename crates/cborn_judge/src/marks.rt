@@ -9,10 +9,12 @@ ghost use Rattle.cborn_judge.specs.shared.Judged.{FindsFlaw};
 ghost use Rattle.cborn_judge.specs.devices.Encoding.{Row, row_entries, Mark as Marked, AreMarked, AreFilled, AreArranged, filled_keys, RowRepeat, RowDescent};
 ghost use Rattle.cborn_judge.specs.devices.Marks.{mark_of, narrow_of, mark_hint, narrow_hint, between, key_of, pair_of, AreHintedBy, AreHinted, mark_order, hint_order, FallAt, TieAt, FallsIn, TiesIn, AreSorted};
 
+use crate::defects::Defect;
+use crate::faults::InvalidReason;
 use crate::flaws::Flaw;
 use crate::hints::hint;
 use crate::spellings::order_defect;
-use cborn_model::{Defect, InvalidReason, KeyOrder, earliest};
+use cborn_model::{KeyOrder, earliest};
 use std::alloc::AllocError;
 use std::cmp::Ordering;
 

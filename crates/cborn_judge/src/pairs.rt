@@ -8,9 +8,10 @@ ghost use Rattle.cborn_judge.specs.shared.Judged.{FindsFlaw};
 ghost use Rattle.cborn_judge.specs.devices.Encoding.{Row, row_entries, Mark as Marked, AreMarked, AreFilled, AreArranged, filled_keys, RowRepeat, RowDescent};
 ghost use Rattle.cborn_judge.specs.devices.Marks.{mark_of, narrow_of, marks_of, AreAllHinted};
 
+use crate::defects::Defect;
 use crate::flaws::Flaw;
 use crate::marks::{Mark, NarrowMark, Spot, arrange, descent, rise};
-use cborn_model::{Defect, KeyOrder};
+use cborn_model::KeyOrder;
 use std::alloc::{AllocError, Global};
 
 /// Marks of pairs. They are narrow until the offsets of one don't fit 32 bits.

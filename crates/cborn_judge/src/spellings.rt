@@ -6,7 +6,8 @@ ghost use Rattle.cborn_judge.specs.shared.Checked.{SizeAt};
 ghost use Rattle.cborn_model.specs.Partial.{ended_size};
 ghost use Rattle.cborn_judge.specs.Defects.{IsLoose};
 
-use cborn_model::{Defect, DefectReason, KeyOrder, Size, Width, shortest};
+use crate::defects::{Defect, DefectReason};
+use cborn_model::{KeyOrder, Size, Width, shortest};
 
 /// The defect of a head at the offset `place` with the argument `n`, if it is not the shortest (RFC
 /// 8949 section 4.2.1).

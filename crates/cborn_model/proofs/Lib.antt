@@ -4,6 +4,5 @@ pub mod SameItems
 pub mod Listed
 pub mod Firsts
 pub mod Found
-pub mod Reasons
 pub mod Lengths
 pub mod HandedOver

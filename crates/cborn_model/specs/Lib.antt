@@ -12,6 +12,5 @@ pub mod Meaning
 pub mod Orders
 pub mod First
 pub mod Earliest
-pub mod Reasons
 pub mod shared
 pub mod devices

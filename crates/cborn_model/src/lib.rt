@@ -22,21 +22,17 @@
 //! The crate has two halves. *Spelled*: [`fits`] says whether a node spells any bytes, and a
 //! [`Spelled`] is one that does, at most 1,024 deep. *Meant*: [`is_valid`] says whether an item is
 //! valid, a [`Valid`] is one that is, and [`same`] says whether two of these are the same.
-//! [`Limit`] is the nesting depth that a caller allows, and [`KeyOrder`] an order of map keys. A node
-//! may have a flaw, so that it means nothing ([`InvalidReason`]), or a [`Defect`], so that it doesn't
-//! spell the deterministic encoding of what it means; [`earlier`] says which comes first.
+//! [`Limit`] is the nesting depth that a caller allows, [`KeyOrder`] an order of map keys, and
+//! [`Fault`] what is wrong at an offset; [`earlier`] says which of two comes first.
 //!
 //! The definitions are in `specs/`, apart from the code: `Bytes` and `Heads`; `Tree` (the pure
 //! node), `Spelled` (its bytes, and when it fits) and `Placed`; `Value` (the pure item, and
-//! `Same`), `Valid` and `Meaning` (which item a node means); `Orders`; `Reasons` (the numbers of
-//! the reasons of flaws and defects), and `First` and `Earliest` (the first of several faults).
-//! Devices of the proofs are in `specs/devices/`. [`laws`] has what is proved of the definitions
-//! alone.
+//! `Same`), `Valid` and `Meaning` (which item a node means); `Orders`; `First` and `Earliest` (the
+//! first of several faults). Devices of the proofs are in `specs/devices/`. [`laws`] has what is
+//! proved of the definitions alone.
 #![tactic(auto)]
 
 mod comparisons;
-mod defects;
-mod faults;
 mod growth;
 mod heads;
 mod items;
@@ -53,8 +49,6 @@ mod visitors;
 mod walks;
 
 pub use comparisons::same;
-pub use defects::{Defect, DefectReason};
-pub use faults::{Invalid, InvalidReason};
 pub use growth::push_doubling;
 pub use heads::{BREAK, Major, Size, Width, ended_size, is_simple_value, shortest};
 pub use items::{Item, ItemBox, ItemList, PairList};

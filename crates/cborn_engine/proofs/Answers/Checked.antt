@@ -8,8 +8,8 @@ use Rattle.cborn_model.specs.Placed.{PlacedAll}
 use Rattle.cborn_model.specs.Value.{Value, values_of}
 use Rattle.cborn_det.specs.Det.{DetValues}
 use Rattle.cborn_det.proofs.Steps.{seq_of_values, values_of_seq}
-use Rattle.cborn_model.specs.declared.defects.Defect.{Defect as Found}
-use Rattle.cborn_model.specs.declared.defects.DefectReason.{DefectReason}
+use Rattle.cborn_judge.specs.declared.defects.Defect.{Defect as Found}
+use Rattle.cborn_judge.specs.declared.defects.DefectReason.{DefectReason}
 use Rattle.cborn_judge.specs.Defects.{IsFirstOfSequence, SequenceDefect}
 use Rattle.cborn_judge.specs.Departures.{FindsDefect}
 use Rattle.cborn_judge.specs.shared.Checked.{DefectInAll}

@@ -5,9 +5,9 @@ use Rattle.std.specs.Prelude.{IsUtf8}
 use Rattle.cborn_model.specs.Tree.{Tree, trees}
 use Rattle.cborn_model.specs.Spelled.{FitsAll}
 use Rattle.cborn_model.specs.First.{IsFirst}
-use Rattle.cborn_model.specs.Reasons.{flaw_rank}
-use Rattle.cborn_model.specs.declared.faults.InvalidReason.{InvalidReason}
-use Rattle.cborn_model.specs.declared.faults.Invalid.TheVariants as invalid
+use Rattle.cborn_judge.specs.Reasons.{flaw_rank}
+use Rattle.cborn_judge.specs.declared.faults.InvalidReason.{InvalidReason}
+use Rattle.cborn_judge.specs.declared.faults.Invalid.TheVariants as invalid
 use Rattle.cborn_judge.specs.Flaws.{IsRefusalOfAll}
 use Rattle.cborn_judge.specs.shared.Judged.{FlawIn}
 use Rattle.cborn_judge.specs.devices.Encoding.{AreEncodedAs}

@@ -5,7 +5,7 @@ use Rattle.cborn_model.specs.Tree.{Tree, Uint, Nint, Bytes, Text, ByteChunks, Te
 use Rattle.cborn_model.proofs.SameItems.Rearranging.{IsIn, at_member}
 use Rattle.cborn_edn.specs.Starts.{starts_of_chunks, unless_bytes, spots, spots_all, spots_entries, IsRising}
 use Rattle.cborn_judge.specs.Flaws.{Within, WithinAll, WithinEntries, IsRepeated, HasRepeat, HasBadChunk, FlawAt, Flaw}
-use Rattle.cborn_model.specs.declared.faults.InvalidReason.{InvalidReason}
+use Rattle.cborn_judge.specs.declared.faults.InvalidReason.{InvalidReason}
 use Rattle.cborn_judge.proofs.FirstFlaw.Sequences.{AreApart}
 
 in_left : (p : ℕ) (xs ys : List ℕ) → IsIn p xs → IsIn p (xs ++ ys)

@@ -5,7 +5,7 @@ use Rattle.cborn_model.specs.Tree.{Tree, trees}
 use Rattle.cborn_model.specs.Orders.{IsKeyOrder}
 use Rattle.cborn_judge.specs.Defects.{SequenceDefect}
 use Rattle.cborn_judge.specs.Departures.{FindsDefect}
-use Rattle.cborn_model.specs.declared.defects.Defect.{Defect}
+use Rattle.cborn_judge.specs.declared.defects.Defect.{Defect}
 use Rattle.cborn_engine.specs.declared.faults.EngineFault.{EngineFault}
 use Rattle.cborn_engine.specs.declared.faults.EngineFault.TheVariants as fault
 use Rattle.cborn_engine.specs.declared.kinds.Kind.{Kind}

@@ -3,7 +3,7 @@ use Rattle.std.proofs.Common.{◌≡◌, ◌≢◌, refl, sym, ap, subst, ◌≤
 use Rattle.std.specs.Io.KnownBytes.{Appends}
 use Rattle.std.specs.Cow.{cow_slice_items}
 use Rattle.std.specs.declared.borrow.CowSlice.{CowSlice}
-use Rattle.cborn_model.specs.declared.defects.Defect.{Defect}
+use Rattle.cborn_judge.specs.declared.defects.Defect.{Defect}
 use Rattle.cborn_engine.specs.declared.stream_faults.InputFault.{InputFault}
 use Rattle.cborn_engine.specs.declared.stream_faults.InputFault.TheVariants as input
 use Rattle.cborn_engine.specs.declared.count_faults.CountFault.{CountFault}

@@ -7,7 +7,7 @@ use Rattle.cborn_model.specs.declared.nodes.Chunk.{Chunk}
 use Rattle.cborn_model.specs.Value.{Value, values_of}
 use Rattle.cborn_model.specs.Tree.{trees, Tree, Uint, Nint, Bytes, Text, ByteChunks, TextChunks, Items, Pairs, Tagged, Simple, Trees, no_item, more, Entries, no_entry, entry}
 use Rattle.cborn_judge.specs.Flaws.{Within, WithinAll, WithinEntries, HasBadChunk, FlawAt}
-use Rattle.cborn_model.specs.declared.faults.InvalidReason.TheVariants.{NotUtf8}
+use Rattle.cborn_judge.specs.declared.faults.InvalidReason.TheVariants.{NotUtf8}
 use Rattle.cborn_edn.specs.Shown.{IsBadText, IsBadAmong, IsBadInPairs, IsBadChunk, AreShowable}
 use Rattle.cborn_judge.proofs.Meaning.Judging.{sound_all}
 use Rattle.cborn_model.proofs.Listed.Meanings.{all_mean}

@@ -6,7 +6,7 @@ use Rattle.std.specs.declared.cmp.Ordering.{Ordering}
 use Rattle.cborn_model.specs.Meaning.{Means}
 use Rattle.cborn_model.specs.Placed.{PlacedAll}
 use Rattle.cborn_model.specs.Value.{Value}
-use Rattle.cborn_model.specs.declared.defects.Defect.{Defect}
+use Rattle.cborn_judge.specs.declared.defects.Defect.{Defect}
 use Rattle.cborn_det.specs.Det.{DetSeq}
 use Rattle.cborn_judge.specs.Defects.{SequenceDefect}
 use Rattle.cborn_judge.specs.Departures.{FindsDefect}

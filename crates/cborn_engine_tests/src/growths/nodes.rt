@@ -2,8 +2,8 @@
 use super::super::memory::Bytes;
 use cborn_det::{encode, encode_all, equal_bytes};
 use cborn_engine::{EngineFault, Kind, load_within};
-use cborn_judge::{first_defect, judge_all};
-use cborn_model::{Bytewise, Defect, DefectReason, Limit};
+use cborn_judge::{Defect, DefectReason, first_defect, judge_all};
+use cborn_model::{Bytewise, Limit};
 use cborn_wire::{Feeder, WireFault, read_all, read_one, spell_all};
 use std::alloc::Global;
 use std::process::Abort;

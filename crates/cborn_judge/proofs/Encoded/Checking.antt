@@ -2,8 +2,8 @@
 use Rattle.std.proofs.Common.{◌≡◌, ◌≢◌, ℕ, ◌⊎◌, inl, inr, List, [], ◌∷◌, length, refl, sym, ap, ◌∙◌, subst, Ordering, Less, Equal, Greater}
 use Rattle.cborn_judge.specs.Flaws.{Within, WithinAll, WithinEntries}
 use Rattle.cborn_judge.specs.Defects.{IsLong, SizeDefect, NotAbove, Descends, HasDescent, DefectAt, Defect, SequenceDefect}
-use Rattle.cborn_model.specs.declared.defects.DefectReason.{DefectReason}
-use Rattle.cborn_model.specs.declared.defects.DefectReason.TheVariants.{LongHead, EndlessLength, LooseBignum, KeyOrder}
+use Rattle.cborn_judge.specs.declared.defects.DefectReason.{DefectReason}
+use Rattle.cborn_judge.specs.declared.defects.DefectReason.TheVariants.{LongHead, EndlessLength, LooseBignum, KeyOrder}
 use Rattle.cborn_judge.proofs.Encoded.Tidy.{spelled_pairs, SizeIsTidy, IsTidy, AllTidy, EntriesTidy}
 use Rattle.cborn_det.proofs.Canon.{one_of_same}
 use Rattle.cborn_model.proofs.SameItems.Sameness.{same_itself}

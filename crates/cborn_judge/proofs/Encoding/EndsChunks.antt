@@ -3,7 +3,7 @@ use Rattle.std.proofs.Common.{◌≡◌, ℕ, ◌+◌, ◌-◌, ◌<◌, ◌^◌
 use Rattle.std.specs.List.{AllZip}
 use Rattle.cborn_model.specs.declared.visitors.StringKind.{StringKind}
 use Rattle.cborn_model.specs.declared.visitors.StringKind.TheVariants.{OfBytes, OfText}
-use Rattle.cborn_model.specs.declared.defects.DefectReason.TheVariants.{EndlessLength}
+use Rattle.cborn_judge.specs.declared.defects.DefectReason.TheVariants.{EndlessLength}
 use Rattle.cborn_model.specs.Bytes.{AreBytes}
 use Rattle.cborn_model.specs.Heads.{code, IsLeastHead}
 use Rattle.cborn_model.specs.Meaning.{joined_chunks, ChunksAreText, Means}

@@ -4,8 +4,8 @@ use Rattle.std.specs.List.{slice_range}
 use Rattle.std.specs.Option.{MatchOption, unwrap_or}
 use Rattle.std.proofs.lemmas.List.{take_all}
 use Rattle.cborn_model.specs.declared.heads.Width.{Width}
-use Rattle.cborn_model.specs.declared.defects.Defect as defect
-use Rattle.cborn_model.specs.declared.faults.InvalidReason.TheVariants.{BadBignum}
+use Rattle.cborn_judge.specs.declared.defects.Defect as defect
+use Rattle.cborn_judge.specs.declared.faults.InvalidReason.TheVariants.{BadBignum}
 use Rattle.cborn_model.specs.Bytes.{AreBytes, IsShortest, big_endian}
 use Rattle.cborn_model.specs.Heads.{IsLeastHead}
 use Rattle.cborn_model.specs.Meaning.{IsByteString, Means}

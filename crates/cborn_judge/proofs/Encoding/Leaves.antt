@@ -4,15 +4,15 @@ use Rattle.std.specs.Prelude.{◌↔◌, IsTrue, IsUtf8}
 use Rattle.cborn_model.specs.declared.heads.Width.{Width}
 use Rattle.cborn_model.specs.declared.visitors.StringKind.{StringKind}
 use Rattle.cborn_model.specs.declared.visitors.StringKind.TheVariants.{OfBytes, OfText}
-use Rattle.cborn_model.specs.declared.faults.InvalidReason.{InvalidReason}
-use Rattle.cborn_model.specs.declared.faults.InvalidReason.TheVariants.{NotUtf8}
-use Rattle.cborn_model.specs.declared.defects.Defect as defect
+use Rattle.cborn_judge.specs.declared.faults.InvalidReason.{InvalidReason}
+use Rattle.cborn_judge.specs.declared.faults.InvalidReason.TheVariants.{NotUtf8}
+use Rattle.cborn_judge.specs.declared.defects.Defect as defect
 use Rattle.cborn_model.specs.Heads.{WidthFits, IsLeastHead, is_simple_value}
 use Rattle.cborn_model.specs.Tree.{Tree, Text, Simple, place}
 use Rattle.cborn_model.specs.Meaning.{IsNumber}
 use Rattle.cborn_model.specs.Value.{integer, simple}
 use Rattle.cborn_model.specs.Partial.{Partial, put, integer_tree, string_tree}
-use Rattle.cborn_model.specs.Reasons.{defect_rank, flaw_rank}
+use Rattle.cborn_judge.specs.Reasons.{defect_rank, flaw_rank}
 use Rattle.cborn_model.proofs.Found.{found_alike}
 use Rattle.cborn_model.proofs.Numbers.SomeMagnitude.{magnitude_of}
 use Rattle.cborn_det.specs.Det.{major_of}

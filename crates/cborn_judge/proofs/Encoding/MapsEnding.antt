@@ -6,17 +6,17 @@ use Rattle.std.proofs.lemmas.Slice.Zip.{AllZip-long}
 use Rattle.cborn_model.specs.Heads.{IsLeastHead}
 use Rattle.cborn_model.specs.Orders.{IsKeyOrder}
 use Rattle.cborn_model.specs.Partial.{a_map, Ends, IsAll, paired, ended_size, built}
-use Rattle.cborn_model.specs.Reasons.{flaw_rank}
+use Rattle.cborn_judge.specs.Reasons.{flaw_rank}
 use Rattle.cborn_model.specs.Tree.{Tree, entries}
 use Rattle.cborn_model.specs.declared.heads.Size.{Size}
-use Rattle.cborn_model.specs.declared.defects.Defect as defect
+use Rattle.cborn_judge.specs.declared.defects.Defect as defect
 use Rattle.cborn_model.proofs.Found.{found_alike}
 use Rattle.cborn_det.specs.Appending.{Replaces}
 use Rattle.cborn_judge.specs.Departures.{FindsDefect}
 use Rattle.cborn_judge.specs.shared.Checked.{IsEarliestDefect, DescentAt, SizeAt}
 use Rattle.cborn_judge.specs.shared.Judged.{FindsFlaw, RepeatFlaw}
 use Rattle.cborn_judge.specs.declared.flaws.Flaw as flaw
-use Rattle.cborn_model.specs.declared.faults.InvalidReason.TheVariants.{DuplicateKey}
+use Rattle.cborn_judge.specs.declared.faults.InvalidReason.TheVariants.{DuplicateKey}
 use Rattle.cborn_judge.specs.Flaws.{HasRepeat}
 use Rattle.cborn_judge.specs.devices.Encoding.{MeansNothing, Row, Mark, AreMarked, RowRepeat, AreFilled, RowDescent, AreArranged, Coded, AreRows, IsSound, IsFront, IsHeadFront, OwnFlaw, OwnDefect}
 use Rattle.cborn_judge.specs.devices.Encoders.{KeysRise}

@@ -11,8 +11,8 @@ use Rattle.cborn_model.specs.Tree.{Tree, Pairs, entries, place}
 use Rattle.cborn_model.specs.Valid.{IsProper, HasProperPairs}
 use Rattle.cborn_model.specs.Value.{Value, Couples, dict, no_pairs, pair, pair_count, Same}
 use Rattle.cborn_model.specs.declared.heads.Size.{Size}
-use Rattle.cborn_model.specs.declared.defects.DefectReason.{DefectReason}
-use Rattle.cborn_model.specs.declared.faults.InvalidReason.{InvalidReason}
+use Rattle.cborn_judge.specs.declared.defects.DefectReason.{DefectReason}
+use Rattle.cborn_judge.specs.declared.faults.InvalidReason.{InvalidReason}
 use Rattle.cborn_model.proofs.Listed.Trees.{count_entries-entries}
 use Rattle.cborn_det.specs.Det.{Det, DetPairs, keys, joined}
 use Rattle.cborn_det.proofs.Canon.{same_of_one, one_of_same}

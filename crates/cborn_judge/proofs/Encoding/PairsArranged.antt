@@ -12,9 +12,9 @@ use Rattle.std.proofs.lemmas.List.Elements.{All-from_recursion}
 use Rattle.std.proofs.lemmas.List.Sorted.{IsPermutation-map, IsPermutation-refl, ranks_by}
 use Rattle.cborn_model.specs.Bytes.{AreBytes}
 use Rattle.cborn_model.specs.Orders.{Rising, IsKeyOrder}
-use Rattle.cborn_model.specs.Reasons.{flaw_rank}
-use Rattle.cborn_model.specs.declared.faults.InvalidReason.{InvalidReason}
-use Rattle.cborn_model.specs.declared.faults.InvalidReason.TheVariants.{DuplicateKey}
+use Rattle.cborn_judge.specs.Reasons.{flaw_rank}
+use Rattle.cborn_judge.specs.declared.faults.InvalidReason.{InvalidReason}
+use Rattle.cborn_judge.specs.declared.faults.InvalidReason.TheVariants.{DuplicateKey}
 use Rattle.cborn_model.proofs.Found.{found_alike}
 use Rattle.cborn_model.proofs.SameItems.Rearranging.{All_moved}
 use Rattle.cborn_det.specs.Det.{Entry, joined, keys}

@@ -7,10 +7,10 @@ use Rattle.std.proofs.lemmas.List.Elements.{All-from_recursion}
 use Rattle.std.proofs.Math.Seq.{map-set_same}
 use Rattle.cborn_model.specs.Bytes.{AreBytes}
 use Rattle.cborn_model.specs.Earliest.{IsEarliest}
-use Rattle.cborn_model.specs.Reasons.{defect_rank, flaw_rank}
-use Rattle.cborn_model.specs.declared.defects.Defect.{Defect}
-use Rattle.cborn_model.specs.declared.defects.DefectReason.TheVariants.{KeyOrder}
-use Rattle.cborn_model.specs.declared.faults.InvalidReason.TheVariants.{DuplicateKey}
+use Rattle.cborn_judge.specs.Reasons.{defect_rank, flaw_rank}
+use Rattle.cborn_judge.specs.declared.defects.Defect.{Defect}
+use Rattle.cborn_judge.specs.declared.defects.DefectReason.TheVariants.{KeyOrder}
+use Rattle.cborn_judge.specs.declared.faults.InvalidReason.TheVariants.{DuplicateKey}
 use Rattle.cborn_judge.specs.Departures.{FindsDefect}
 use Rattle.cborn_judge.specs.declared.flaws.Flaw.{Flaw}
 use Rattle.cborn_judge.specs.shared.Judged.{FindsFlaw}

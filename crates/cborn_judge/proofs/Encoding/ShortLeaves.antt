@@ -6,7 +6,7 @@ use Rattle.cborn_model.specs.Bytes.{AreBytes}
 use Rattle.cborn_model.specs.declared.heads.Width.{Width}
 use Rattle.cborn_model.specs.declared.visitors.StringKind.{StringKind}
 use Rattle.cborn_model.specs.declared.visitors.StringKind.TheVariants.{OfBytes, OfText}
-use Rattle.cborn_model.specs.declared.defects.Defect as defect
+use Rattle.cborn_judge.specs.declared.defects.Defect as defect
 use Rattle.cborn_model.specs.Heads.{WidthFits, code, head_bytes, least, IsLeastHead}
 use Rattle.cborn_model.specs.Tree.{Tree, Uint, Nint, Bytes, Text, Simple}
 use Rattle.cborn_model.specs.Partial.{Partial, put, integer_tree, string_tree}

@@ -4,11 +4,11 @@ use Rattle.std.specs.Prelude.{◌↔◌}
 use Rattle.cborn_model.specs.First.{IsFirst}
 use Rattle.cborn_model.specs.Meaning.{Means}
 use Rattle.cborn_model.specs.Orders.{IsKeyOrder}
-use Rattle.cborn_model.specs.Reasons.{flaw_rank}
+use Rattle.cborn_judge.specs.Reasons.{flaw_rank}
 use Rattle.cborn_model.specs.Spelled.{spelled, Fits}
 use Rattle.cborn_model.specs.Tree.{Tree, trees}
 use Rattle.cborn_model.specs.Valid.{IsProper}
-use Rattle.cborn_model.specs.declared.faults.InvalidReason.{InvalidReason}
+use Rattle.cborn_judge.specs.declared.faults.InvalidReason.{InvalidReason}
 use Rattle.cborn_model.specs.Value.{Value}
 use Rattle.cborn_det.specs.Det.{Det}
 use Rattle.cborn_judge.specs.Departures.{FindsDefect}
@@ -16,7 +16,7 @@ use Rattle.cborn_judge.specs.shared.Checked.{DefectIn, DefectInAll}
 use Rattle.cborn_judge.specs.shared.Judged.{FlawIn}
 use Rattle.cborn_judge.specs.Flaws.{IsFirstFlaw}
 use Rattle.cborn_judge.specs.Defects.{Defect, IsCheck, IsDeterministic}
-use Rattle.cborn_model.specs.declared.defects.Defect as defect
+use Rattle.cborn_judge.specs.declared.defects.Defect as defect
 use Rattle.cborn_judge.proofs.Encoded.Checking.{check_sound, check_whole}
 use Rattle.cborn_judge.proofs.FirstDefect.Departing.{alike}
 use Rattle.cborn_judge.proofs.Meaning.Meanings.{means_once}

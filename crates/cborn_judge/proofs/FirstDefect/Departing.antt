@@ -7,10 +7,10 @@ use Rattle.cborn_model.specs.declared.heads.Width.{Width}
 use Rattle.cborn_judge.specs.Departures.{FindsDefect, LongAt, LooseBytesAt}
 use Rattle.cborn_judge.specs.shared.Checked.{IsEarliestDefect, LooseAt, DefectIn}
 use Rattle.cborn_judge.specs.Defects.{IsLoose, DefectAt}
-use Rattle.cborn_model.specs.Reasons.{defect_rank}
+use Rattle.cborn_judge.specs.Reasons.{defect_rank}
 use Rattle.cborn_judge.specs.Flaws.{Within}
-use Rattle.cborn_model.specs.declared.defects.Defect as defect
-use Rattle.cborn_model.specs.declared.defects.DefectReason.{DefectReason}
+use Rattle.cborn_judge.specs.declared.defects.Defect as defect
+use Rattle.cborn_judge.specs.declared.defects.DefectReason.{DefectReason}
 use Rattle.cborn_judge.proofs.Meaning.Meanings.{string_once}
 use Rattle.cborn_model.proofs.Found as firsts
 use Rattle.cborn_model.proofs.Found.{Either}

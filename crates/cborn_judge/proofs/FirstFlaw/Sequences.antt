@@ -6,15 +6,15 @@ use Rattle.std.specs.Result.{IsErrAnd}
 use Rattle.cborn_model.specs.First.{IsFirst, NoLater}
 use Rattle.cborn_model.specs.Meaning.{Means}
 use Rattle.cborn_model.specs.Placed.{PlacedAll}
-use Rattle.cborn_model.specs.Reasons.{flaw_rank}
+use Rattle.cborn_judge.specs.Reasons.{flaw_rank}
 use Rattle.cborn_model.specs.Spelled.{spelled}
 use Rattle.cborn_model.specs.Tree.{Tree, trees}
 use Rattle.cborn_model.specs.Value.{Value}
 use Rattle.cborn_judge.specs.Flaws.{Flaw, FlawAt, IsRefusal, IsRefusalOfAll, WithinAll}
 use Rattle.cborn_judge.specs.shared.Judged.{FlawIn}
-use Rattle.cborn_model.specs.declared.faults.Invalid.{Invalid}
-use Rattle.cborn_model.specs.declared.faults.Invalid.TheVariants.{OutOfMemory, Refused}
-use Rattle.cborn_model.specs.declared.faults.InvalidReason.{InvalidReason}
+use Rattle.cborn_judge.specs.declared.faults.Invalid.{Invalid}
+use Rattle.cborn_judge.specs.declared.faults.Invalid.TheVariants.{OutOfMemory, Refused}
+use Rattle.cborn_judge.specs.declared.faults.InvalidReason.{InvalidReason}
 use Rattle.cborn_judge.proofs.Loops.Passing.{zip_more}
 use Rattle.cborn_judge.proofs.Meaning.Judging.{meaning}
 use Rattle.cborn_judge.proofs.Meaning.Placing.{flaw_within}

@@ -5,10 +5,10 @@ use Rattle.std.specs.List.{AllByRecursion}
 use Rattle.std.specs.List.Sorted.{IsSortedBy}
 use Rattle.std.specs.declared.cmp.Ordering.{Ordering}
 use Rattle.std.specs.declared.cmp.Ordering.TheVariants.{Less}
-use Rattle.cborn_model.specs.declared.defects.DefectReason.{DefectReason}
-use Rattle.cborn_model.specs.declared.defects.DefectReason.TheVariants.{KeyOrder}
-use Rattle.cborn_model.specs.declared.faults.InvalidReason.{InvalidReason}
-use Rattle.cborn_model.specs.declared.faults.InvalidReason.TheVariants.{DuplicateKey}
+use Rattle.cborn_judge.specs.declared.defects.DefectReason.{DefectReason}
+use Rattle.cborn_judge.specs.declared.defects.DefectReason.TheVariants.{KeyOrder}
+use Rattle.cborn_judge.specs.declared.faults.InvalidReason.{InvalidReason}
+use Rattle.cborn_judge.specs.declared.faults.InvalidReason.TheVariants.{DuplicateKey}
 use Rattle.cborn_judge.specs.devices.Hints.{Tells}
 use Rattle.cborn_judge.specs.devices.Encoding as encoding
 use Rattle.cborn_judge.specs.devices.Encoding.{Row}

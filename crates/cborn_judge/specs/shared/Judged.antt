@@ -2,9 +2,9 @@
 use Rattle.std.specs.Prelude.{◌≡◌, ℕ, Option}
 use Rattle.cborn_model.specs.Tree.{Trees, Entries, Tree}
 use Rattle.cborn_model.specs.Earliest.{IsEarliest, Finds}
-use Rattle.cborn_model.specs.Reasons.{flaw_rank}
-use Rattle.cborn_model.specs.declared.faults.InvalidReason.{InvalidReason}
-use Rattle.cborn_model.specs.declared.faults.InvalidReason.TheVariants.{DuplicateKey}
+use Rattle.cborn_judge.specs.Reasons.{flaw_rank}
+use Rattle.cborn_judge.specs.declared.faults.InvalidReason.{InvalidReason}
+use Rattle.cborn_judge.specs.declared.faults.InvalidReason.TheVariants.{DuplicateKey}
 use Rattle.cborn_judge.specs.Flaws.{WithinAll, WithinEntries, HasRepeat, FlawAt}
 use Rattle.cborn_judge.specs.declared.flaws.Flaw as flaw
 

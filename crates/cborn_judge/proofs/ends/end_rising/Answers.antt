@@ -1,6 +1,6 @@
 use Rattle.std.proofs.Common.{◌≡◌, ◌++◌, ◌+◌, ◌<◌, length, append_assoc, length-append, refl, sym, ap, ◌∙◌, subst, false, true≢false, None}
 use Rattle.cborn_model.specs.Heads.{IsLeastHead}
-use Rattle.cborn_model.specs.Reasons.{defect_rank}
+use Rattle.cborn_judge.specs.Reasons.{defect_rank}
 use Rattle.cborn_det.specs.Appending.{Replaces}
 use Rattle.cborn_det.specs.Det.{joined}
 use Rattle.cborn_judge.specs.devices.Encoding.{row_entries, IsSound}

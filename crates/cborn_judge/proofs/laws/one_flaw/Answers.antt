@@ -1,8 +1,8 @@
 use Rattle.cborn_model.proofs.Firsts.{first_once}
 use Rattle.cborn_judge.specs.Flaws.{Flaw}
-use Rattle.cborn_model.specs.Reasons.{flaw_rank}
+use Rattle.cborn_judge.specs.Reasons.{flaw_rank}
 use Rattle.cborn_judge.proofs.Meaning.Placing.{flaw_within}
-use Rattle.cborn_model.proofs.Reasons.{flaw_rank_once}
+use Rattle.cborn_judge.proofs.Reasons.{flaw_rank_once}
 use Rattle.cborn_judge.proofs.laws.one_flaw.Goals as goal
 
 pub returns-clause-one : goal.returns-clause-one

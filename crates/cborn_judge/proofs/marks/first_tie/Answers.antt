@@ -1,6 +1,6 @@
 use Rattle.std.proofs.Common.{ℕ, ◌∙◌, inl, inr, refl, sym, subst}
 use Rattle.cborn_model.specs.Earliest.{IsEarliest}
-use Rattle.cborn_model.specs.Reasons.{flaw_rank}
+use Rattle.cborn_judge.specs.Reasons.{flaw_rank}
 use Rattle.cborn_judge.specs.shared.Judged.{FindsFlaw}
 use Rattle.cborn_judge.specs.devices.Encoding.{Mark}
 use Rattle.cborn_judge.specs.devices.Marks.{key_of, TieAt}

@@ -1,6 +1,6 @@
 use Rattle.std.proofs.Common.{◌≡◌, List, drop, map, None, refl, sym, ap, ◌∙◌, subst}
 use Rattle.std.proofs.lemmas.List.{drop-map}
-use Rattle.cborn_model.specs.declared.defects.DefectReason.TheVariants.{KeyOrder}
+use Rattle.cborn_judge.specs.declared.defects.DefectReason.TheVariants.{KeyOrder}
 use Rattle.cborn_judge.specs.Departures.{FindsDefect}
 use Rattle.cborn_judge.specs.devices.Encoding.{Mark}
 use Rattle.cborn_judge.specs.devices.Marks.{FallsIn}

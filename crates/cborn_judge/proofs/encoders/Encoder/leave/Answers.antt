@@ -1,7 +1,7 @@
 use Rattle.cborn_model.proofs.HandedOver.{on_ok}
 use Rattle.cborn_judge.proofs.Encoding.Finding.{finds_close}
 use Rattle.std.proofs.Common.{sym, subst}
-use Rattle.cborn_model.specs.Reasons.{defect_rank}
+use Rattle.cborn_judge.specs.Reasons.{defect_rank}
 use Rattle.cborn_judge.specs.shared.Checked.{IsEarliestDefect}
 use Rattle.cborn_judge.proofs.Encoding.PairsHinted.{none_first}
 use Rattle.cborn_judge.proofs.encoders.Encoder.leave.Goals as goal

@@ -1,9 +1,9 @@
 //! Defects: where a spelling departs from the deterministic encoding (RFC 8949 section 4.2).
 
 ghost use Rattle.std.specs.Prelude.{◌≡◌};
-ghost use Rattle.cborn_model.specs.Reasons.{defect_rank};
+ghost use Rattle.cborn_judge.specs.Reasons.{defect_rank};
 
-use crate::precedence::Fault;
+use cborn_model::Fault;
 use thiserror::Error;
 
 /// How the spelling of an item departs from its deterministic encoding. The reasons are numbered

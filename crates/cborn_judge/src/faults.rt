@@ -1,10 +1,9 @@
 //! Flaws: why a node means no item (RFC 8949 sections 3.1, 3.4.3 and 5.6).
 
 ghost use Rattle.std.specs.Prelude.{◌≡◌};
-ghost use Rattle.cborn_model.specs.Reasons.{flaw_rank};
-ghost use Rattle.cborn_model.specs.declared.faults.Invalid.TheVariants.{OutOfMemory};
+ghost use Rattle.cborn_judge.specs.Reasons.{flaw_rank};
+ghost use Rattle.cborn_judge.specs.declared.faults.Invalid.TheVariants.{OutOfMemory};
 
-use crate::precedence::Fault;
 use std::alloc::{AllocError, AllocFailed};
 use thiserror::Error;
 
@@ -53,7 +52,7 @@ impl<T: Drop> From<AllocFailed<T>> for Invalid {
 
 impl InvalidReason {
     /// The number of the reason, from 1.
-    fn number(self) -> u8
+    pub(crate) fn number(self) -> u8
         ensures { result ≡ flaw_rank self }
     {
         match self {
@@ -61,13 +60,5 @@ impl InvalidReason {
             InvalidReason::BadBignum => 2,
             InvalidReason::DuplicateKey => 3,
         }
-    }
-}
-
-impl Fault for (u64, InvalidReason) {
-    ghost key = { λ f. (f.0, flaw_rank f.1) };
-
-    fn place_and_number(self) -> (u64, u8) {
-        (self.0, self.1.number())
     }
 }
