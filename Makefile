@@ -2,7 +2,6 @@
 PREFIX ?= /usr/local
 PROGRAM := crates/cborn/out/cborn
 # The crates that hold the libraries' tests.
-TESTS := cborn_bytes_tests cborn_texts_tests cborn_engine_tests
 
 # The stack, in KB, within which each command has to answer at 1,024 levels.
 STACK ?= 256
@@ -165,14 +164,12 @@ stack: build
 big: build
 	python3 tests/big.py $(PROGRAM) $(BIG)
 
-library-growths: $(TESTS:%=growths-of-%)
-
-growths-of-%: built-tests
-	python3 tests/growths.py --tests crates/$*/out/$*_tests
+library-growths: built-tests
+	python3 tests/growths.py --tests crates/cborn_tests/out/cborn_tests_tests
 
 # rt ci builds them as well, and make test runs those
 built-tests: kit
-	for crate in $(TESTS); do (cd crates/$$crate && rt test) || exit 1; done
+	cd crates/cborn_tests && rt test
 
 .PHONY: bench-peers bench-growth bench-cost gate-cost
 

@@ -2,7 +2,7 @@
 """Fails where the source makes up an "out of memory": an `OutOfMemory` or `AllocError` that is written by hand.
 
 It may be written in a `From`, and in the arm of a `match` whose pattern is one already. Each other place stands in
-tests/made-up.txt with its reason; a place there that is gone has to be struck out. Tests (cborn_*_tests) aren't read.
+tests/made-up.txt with its reason; a place there that is gone has to be struck out. Tests (cborn_tests) aren't read.
 """
 import collections
 import pathlib

@@ -2,7 +2,7 @@
 """Give each front of each worked input to the built program, and compare what it answers with fronts.vectors.
 
     vectors.py PROGRAM [FILE..]
-    vectors.py --inputs     writes the inputs into a module of crates/cborn_engine_tests, which loads each front of each
+    vectors.py --inputs     writes the inputs into a module of crates/cborn_tests, which loads each front of each
     vectors.py --check      fails where that module isn't what --inputs writes
 
 Each front is an input of `show --to wire`, of `normalise`, of `compare` on both sides, and, if it is of bytes, of
@@ -122,7 +122,7 @@ def inputs_as_module(path):
 def main():
     here = pathlib.Path(__file__).resolve().parent
     if sys.argv[1] in ("--inputs", "--check"):
-        module = here.parent / "crates/cborn_engine_tests/src/fronts/inputs.rt"
+        module = here.parent / "crates/cborn_tests/src/fronts/inputs.rt"
         text = "\n".join(inputs_as_module(here / "fronts.vectors")).rstrip() + "\n"
         if sys.argv[1] == "--inputs":
             module.write_text(text, encoding="utf-8")

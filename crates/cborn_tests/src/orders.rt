@@ -1,6 +1,6 @@
 //! An order of keys of a caller's own: the bytewise order reversed.
 ghost use Rattle.std.specs.Prelude.{◌≡◌};
-ghost use Rattle.cborn_bytes_tests.specs.devices.Backwards.{backwards, backwards_order};
+ghost use Rattle.cborn_tests.specs.devices.Backwards.{backwards, backwards_order};
 
 use cborn_judge::{Encoder, InvalidReason};
 use cborn_model::{KeyOrder, Limit};
