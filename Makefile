@@ -1,7 +1,6 @@
 # cborn: a proved deterministic normaliser for CBOR.
 PREFIX ?= /usr/local
 PROGRAM := crates/cborn/out/cborn
-# The crates that hold the libraries' tests.
 
 # The stack, in KB, within which each command has to answer at 1,024 levels.
 STACK ?= 256
