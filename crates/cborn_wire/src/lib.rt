@@ -60,6 +60,7 @@ pub use head_readers::{HeadReader, Until};
 pub use heads::{Argument, Head, HeadRead, head_bytes, push_head, read_head};
 pub use levels::{GrownLevels, Level, LevelKind, Levels};
 pub use nodes::Nodes;
+pub use placed_heads::set_head;
 pub use readers::{read_all, read_one};
 pub use scanning::{Nothing, scan};
 pub use short_integers::{Integers, int_len, integers_at};

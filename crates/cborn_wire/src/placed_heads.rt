@@ -1,6 +1,6 @@
 //! A head in the place of one byte (RFC 8949 section 3).
 
-ghost use Rattle.std.specs.Prelude.{◌≡◌, ◌<◌, ◌≤◌, ◌+◌, ◌++◌, length, take, drop, OnOk};
+ghost use Rattle.std.specs.Prelude.{◌≡◌, ◌<◌, ◌≤◌, ◌+◌, ◌++◌, length, take, drop, OnOk, OnErr};
 ghost use Rattle.cborn_wire.specs.shared.Spelling.{with_head};
 
 use crate::heads::first_bytes;
@@ -12,8 +12,11 @@ const BLOCK: usize = 256;
 
 /// Puts the head of the major type with the argument `n`, of at least this width, in the place of the
 /// byte at the offset `start`. What follows that byte is moved if the head is longer.
+///
+/// # Errors
+/// `AllocError` if memory is refused; `out` is then unchanged.
 #[inline(always)]
-pub(crate) fn set_head(
+pub fn set_head(
     out: &mut Vec<u8>,
     major: Major,
     least: Width,
@@ -21,7 +24,8 @@ pub(crate) fn set_head(
     start: usize,
 ) -> Result<(), AllocError>
     requires { start < length out.old.items }
-    ensures { OnOk result (out.new.items ≡ with_head major least n start out.old.items) }
+    ensures placed { OnOk result (out.new.items ≡ with_head major least n start out.old.items) }
+    ensures kept { OnErr result (out.new.items ≡ out.old.items) }
 {
     if n < 24 {
         if let Width::Direct = least {
@@ -43,7 +47,8 @@ fn set_wide_head(
     start: usize,
 ) -> Result<(), AllocError>
     requires { start < length out.old.items }
-    ensures { OnOk result (out.new.items ≡ with_head major least n start out.old.items) }
+    ensures placed { OnOk result (out.new.items ≡ with_head major least n start out.old.items) }
+    ensures kept { OnErr result (out.new.items ≡ out.old.items) }
 {
     let width = if least.holds(n) { least } else { shortest(n) };
     let (bytes, len) = first_bytes(major, width, n);
@@ -69,6 +74,7 @@ fn make_room(from: usize, more: usize, out: &mut Vec<u8>) -> Result<(), AllocErr
     ensures len { OnOk result (length out.new.items ≡ length out.old.items + more) }
     ensures before { OnOk result (take from out.new.items ≡ take from out.old.items) }
     ensures after { OnOk result (drop (from + more) out.new.items ≡ drop from out.old.items) }
+    ensures kept { OnErr result (out.new.items ≡ out.old.items) }
 {
     let mut end = out.len();
     out.extend_from_slice(&[0; 8][..more])?;

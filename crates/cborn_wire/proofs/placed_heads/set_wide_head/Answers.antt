@@ -8,8 +8,8 @@ use Rattle.std.specs.Prelude.{None}
 use Rattle.cborn_wire.proofs.Shifting.{placed}
 use Rattle.cborn_wire.proofs.placed_heads.set_wide_head.Goals as goal
 
-pub returns : goal.returns
-returns c =
+pub returns-clause-placed : goal.returns-clause-placed
+returns-clause-placed c =
     let old = c.args.out.now.items in
     let start = c.args.start in
     let first = c.first_bytes-len in
