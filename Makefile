@@ -8,7 +8,7 @@ STACK ?= 256
 # The size in MB of the inputs whose cost in memory is tested.
 COST ?= 8
 
-.PHONY: help try build test check-quick wrong-bodies wrong-bodies-alone layout tables vectors ample explanations growths failures counts cost instructions inlined left-out believed stack big library-growths built-tests bench install clean
+.PHONY: help try build test check-quick wrong-bodies wrong-bodies-alone layout tables vectors explanations growths failures cost instructions left-out believed stack big library-growths built-tests bench install clean
 
 help:
 	@echo 'make try        build the program from its source, before any proof and not optimised, and run it: ARGS="check FILE", or seven bytes'
@@ -17,21 +17,17 @@ help:
 	@echo 'make check-quick   while you change something: proves what changed, then make layout, tables and believed'
 	@echo 'make wrong-bodies   the must-fail edits that rt ci does not try, many in one check: the prover refuses each'
 	@echo 'make wrong-bodies-alone   rt ci with those edits too, each by itself: hours; CRATES="cborn_lex .." tries them of some crates'
-	@echo 'make try-tests  make try on its seven bytes, on files, on standard input and on a wrong option: one build, of a minute'
 	@echo 'make layout     whether each file of the crates is in the layout of rt fmt, cites what it may, makes up no out of memory, has no'
 	@echo '                new function of many arguments and keeps to the glossary, docs/PROMISES.md and the table of worked inputs are'
 	@echo '                what the sources say, and the documents are short and their links lead somewhere'
 	@echo 'make tables     the built program on the tables of tests/ and at a terminal, the examples of the documents, completion-tests and release-tests'
 	@echo 'make vectors    the built program on each front of each worked input'
-	@echo 'make ample      the built program on some 4,000 inputs, bytes and texts, made and given: it never says out of memory'
 	@echo 'make explanations   the built program on random and mutated inputs with --explain: the paths that it tells are followed'
 	@echo 'make growths    the built program on those tables, each growth refused in turn'
 	@echo 'make failures   the built program on those tables, with trouble at each opening, read and write, and at each call that puts a file in place, in turn'
-	@echo 'make counts     how often and for how much the built program asks for memory on inputs of 1 MB: no more than its bounds'
 	@echo 'make cost       the bounds of make bench-cost on memory, on inputs of COST MB (COST is $(COST)), without the times'
 	@echo 'make instructions   how many instructions the built program takes on small inputs of each kind: no more than tests/instructions.txt'
 	@echo '                allows; it needs valgrind'
-	@echo 'make inlined    which functions that are marked #[inline(always)] are functions of the built program by themselves'
 	@echo 'make left-out   what make test leaves out here, for want of its tools'
 	@echo 'make believed   the lines of definitions that a reader has to believe, and that the documents say so'
 	@echo 'make stack      the least stack that each command needs at 1,024 levels: no more than STACK KB (STACK is $(STACK))'
@@ -63,10 +59,6 @@ help:
 try:
 	@python3 tests/try.py $(ARGS)
 
-.PHONY: try-tests
-try-tests: kit
-	python3 tests/tried.py
-
 # what needs the kit says so if it is missing
 .PHONY: kit
 kit:
@@ -78,7 +70,7 @@ build: kit
 
 # What follows the gate: side by side, over the program and the tests that were built once before, while the library is proved
 # and built. First what keeps one processor busy for long, then what takes them all, the longest first.
-AFTER := wrong-bodies library-tests dist-tests try-tests failures growths library-growths instructions vectors cost ample tables believed layout stack counts explanations
+AFTER := wrong-bodies library-tests dist-tests failures growths library-growths instructions vectors cost tables believed layout stack explanations
 
 test:
 	rt ci
@@ -128,9 +120,6 @@ growths: build
 failures: build
 	python3 tests/failures.py $(PROGRAM)
 
-counts: build
-	python3 tests/counts.py $(PROGRAM)
-
 cost: build
 	python3 bench/cost.py $(PROGRAM) --mb $(COST) --memory
 
@@ -138,17 +127,11 @@ instructions: build
 	python3 tests/instructions.py $(PROGRAM)
 
 # no part of make test: where make instructions finds a rise, this says which function it is
-inlined: build
-	python3 tests/inlined.py $(PROGRAM)
-
 left-out:
 	@python3 tests/tools.py
 
 vectors: build
 	python3 tests/vectors.py $(PROGRAM)
-
-ample: build
-	python3 tests/ample.py $(PROGRAM)
 
 explanations: build
 	python3 tests/explain.py $(PROGRAM)
