@@ -69,7 +69,6 @@ pub struct EncodedItems {
 /// flaw, and the first defect.
 #[derive(Drop)]
 pub struct Encoder<O> {
-    pub(crate) alloc: Global,
     pub(crate) encodings: Encodings,
     /// The string that comes in parts.
     pub(crate) string: Option<OpenString>,
@@ -244,7 +243,6 @@ impl<O: KeyOrder> Encoder<O> {
         ensures { ⟦<Encoder<O> as Visitor>⟧.holds result (top []) no_part }
     {
         Encoder {
-            alloc,
             encodings: Encodings::new(alloc, out),
             string: None,
             flaw: None,

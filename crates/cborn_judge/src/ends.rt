@@ -28,7 +28,7 @@ use crate::levels::{Container, Level};
 use crate::spellings::{ended_defect, head_defect, loose_defect};
 use cborn_det::{push_integer, set_head};
 use cborn_model::{KeyOrder, Major, Size, StringKind, Width, earliest, without_zeros};
-use std::alloc::{AllocError, Global};
+use std::alloc::AllocError;
 
 /// What a container adds to the flaws and the defects when it ends.
 #[derive(Clone, Copy)]
@@ -63,7 +63,6 @@ impl Encodings {
     #[inline(always)]
     fn end_map<O: KeyOrder>(
         &mut self,
-        alloc: Global,
         level: Level,
         size: Size,
         count: Option<u64>,
@@ -78,7 +77,7 @@ impl Encodings {
         let major = Major::Map;
         let head = Head { major, count, len };
         let is_flawed = level.flawed || flaw.is_some();
-        end_head(alloc, head, level.start, is_flawed, &mut self.out)?;
+        end_head(head, level.start, is_flawed, &mut self.out)?;
         let defect = earliest(own, defect);
         Ok(Findings { flaw, defect })
     }
@@ -124,7 +123,7 @@ impl<O: KeyOrder> Encoder<O> {
         ensures held { OnOk result (Closes O.order self.old self.new) }
     {
         let level = self.encodings.innermost;
-        let found = end_array(self.alloc, level, size, count, &mut self.encodings.out)?;
+        let found = end_array(level, size, count, &mut self.encodings.out)?;
         self.leave(found)
     }
 
@@ -152,7 +151,7 @@ impl<O: KeyOrder> Encoder<O> {
         let level = self.encodings.innermost;
         let len = self.encodings.pairs.count_from(level.pairs);
         self.encodings.pairs.truncate(level.pairs);
-        let found = end_rising(self.alloc, level, size, count, len, &mut self.encodings.out)?;
+        let found = end_rising(level, size, count, len, &mut self.encodings.out)?;
         self.leave(found)
     }
 
@@ -163,7 +162,7 @@ impl<O: KeyOrder> Encoder<O> {
         ensures held { OnOk result (Closes O.order self.old self.new) }
     {
         let level = self.encodings.innermost;
-        let found = self.encodings.end_map::<O>(self.alloc, level, size, count)?;
+        let found = self.encodings.end_map::<O>(level, size, count)?;
         self.encodings.pairs.truncate(level.pairs);
         self.leave(found)
     }
@@ -187,7 +186,7 @@ impl<O: KeyOrder> Encoder<O> {
         ensures held { OnOk result (Closes O.order self.old self.new) }
     {
         let level = self.encodings.innermost;
-        let found = end_chunks(self.alloc, level, kind, &mut self.encodings.out)?;
+        let found = end_chunks(level, kind, &mut self.encodings.out)?;
         self.leave(found)
     }
 
@@ -227,13 +226,7 @@ struct Head {
 /// Ends what stands in the buffer from `start` on: nothing of it is left if it is flawed, else it
 /// gets its head, unless that is there.
 #[inline(always)]
-fn end_head(
-    alloc: Global,
-    head: Head,
-    start: usize,
-    is_flawed: bool,
-    out: &mut Vec<u8>,
-) -> Result<(), AllocError>
+fn end_head(head: Head, start: usize, is_flawed: bool, out: &mut Vec<u8>) -> Result<(), AllocError>
     ensures flawed { OnOk result (is_flawed ≡ true → out.new.items ≡ take start out.old.items) }
     ensures known { OnOk result (is_flawed ≡ false → (n : ℕ) → head.count ≡ Some n → out.new.items ≡ out.old.items) }
     ensures set { OnOk result (is_flawed ≡ false → head.count ≡ None → start < length out.old.items → Replaces (IsLeastHead (code head.major) head.len) start out.old.items out.new.items) }
@@ -243,7 +236,7 @@ fn end_head(
         return Ok(());
     }
     if head.count.is_none() && start < out.len() {
-        set_head(alloc, head.major, head.len, start, out)?;
+        set_head(head.major, head.len, start, out)?;
     }
     Ok(())
 }
@@ -251,7 +244,6 @@ fn end_head(
 /// Ends an array.
 #[inline(always)]
 fn end_array(
-    alloc: Global,
     level: Level,
     size: Size,
     count: Option<u64>,
@@ -265,7 +257,7 @@ fn end_array(
         count,
         len,
     };
-    end_head(alloc, head, level.start, level.flawed, out)?;
+    end_head(head, level.start, level.flawed, out)?;
     let defect = ended_defect(level.place, size, count, len);
     Ok(Findings { flaw: None, defect })
 }
@@ -273,7 +265,6 @@ fn end_array(
 /// Ends a map of `len` pairs that means something, and whose keys rise.
 #[inline(always)]
 fn end_rising(
-    alloc: Global,
     level: Level,
     size: Size,
     count: Option<u64>,
@@ -285,26 +276,21 @@ fn end_rising(
 {
     let major = Major::Map;
     let head = Head { major, count, len };
-    end_head(alloc, head, level.start, false, out)?;
+    end_head(head, level.start, false, out)?;
     let flaw = None;
     let defect = ended_defect(level.place, size, count, len);
     Ok(Findings { flaw, defect })
 }
 
 /// Ends a string of indefinite length.
-fn end_chunks(
-    alloc: Global,
-    level: Level,
-    kind: StringKind,
-    out: &mut Vec<u8>,
-) -> Result<Findings, AllocError>
+fn end_chunks(level: Level, kind: StringKind, out: &mut Vec<u8>) -> Result<Findings, AllocError>
     ensures { IfOk result (λ found. (order : List ℕ → List ℕ → Ordering) → EndsWell order level (in_chunks level.place kind) [] out.old.items out.new.items found) }
 {
     let len = out.len().saturating_sub(level.content) as u64;
     let major = major_of(kind);
     let count = None;
     let head = Head { major, count, len };
-    end_head(alloc, head, level.start, level.flawed, out)?;
+    end_head(head, level.start, level.flawed, out)?;
     let flaw = None;
     let place = level.place;
     let reason = DefectReason::EndlessLength;
