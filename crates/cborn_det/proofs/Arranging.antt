@@ -1,14 +1,10 @@
 -- What a sort of entries by an order of keys gives.
-use Rattle.std.proofs.Common.{◌≡◌, ℕ, suc, List, [], ◌∷◌, map, refl, sym, ap, ◌∙◌, arith, false, Bool, true≢false, add-one, IsPermutation, Ordering, Less, Equal, Greater, is_lt, is_eq}
-use Rattle.std.specs.Ordering.{ordering_reverse}
+use Rattle.cborn_det.proofs.Common.{◌≡◌, ℕ, suc, List, [], ◌∷◌, map, refl, sym, ap, ◌∙◌, arith, false, Bool, true≢false, add-one, IsPermutation, Ordering, Less, Equal, Greater, is_lt, is_eq, ordering_reverse, IsKeyOrder, Rising, Entry, keys, HasDistinctKeys}
 use Rattle.std.specs.Cmp.{IsTotalOrder}
 use Rattle.std.specs.List.{IsDistinct}
 use Rattle.std.specs.List.Sorted.{IsSortedBy}
 use Rattle.std.proofs.lemmas.Map.Keys.{IsDistinct-IsPermutation}
 use Rattle.cborn_model.proofs.SameItems.Rearranging.{weaker}
-use Rattle.cborn_model.specs.Orders.{IsKeyOrder, Rising}
-use Rattle.cborn_det.specs.Det.{Entry, keys}
-use Rattle.cborn_det.specs.shared.Distinct.{HasDistinctKeys}
 
 module _ (order : List ℕ → List ℕ → Ordering) (laws : IsKeyOrder order) where
   pub total : IsTotalOrder order

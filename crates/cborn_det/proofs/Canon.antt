@@ -1,24 +1,12 @@
 -- Of valid items, two have one encoding exactly if they are the same, and each has one.
-use Rattle.std.proofs.Common.{◌↔◌, ◌≡◌, ◌≢◌, ℕ, suc, ◌+◌, ◌*◌, ◌<◌, ◌^◌, ◌⊎◌, inl, inr, List, [], ◌∷◌, ◌++◌, length, refl, sym, ap, ◌∙◌, subst, arith, true, false, Bool, append-nil, IsPermutation, Ordering}
-use Rattle.std.specs.Prelude.{⊤}
-use Rattle.std.specs.List.{AllByRecursion, AllZip}
-use Rattle.std.proofs.lemmas.List.Sorted.{length_permutation, IsPermutation-sym, IsPermutation-trans}
-use Rattle.std.proofs.lemmas.Bool.{cases_lt}
+use Rattle.cborn_det.proofs.Common.{◌↔◌, ◌≡◌, ◌≢◌, ℕ, suc, ◌+◌, ◌*◌, ◌<◌, ◌^◌, ◌⊎◌, inl, inr, List, [], ◌∷◌, ◌++◌, length, refl, sym, ap, ◌∙◌, subst, arith, true, false, Bool, append-nil, IsPermutation, Ordering, ⊤, AllByRecursion, AllZip, length_permutation, IsPermutation-sym, IsPermutation-trans, cases_lt, Value, Values, Couples, integer, bytes, text, array, dict, tagged, simple, no_values, value, no_pairs, pair, listed, value_count, pair_count, pairs_of, number, Same, SameValues, SamePairs, big_endian, IsProper, AreProper, HasProperPairs, IsNew, HasNewKeys, Width, information, following, IsHead, least, IsLeastHead, IsString, IsInteger, Det, DetValues, DetPairs, DetSeq, DetMap, Entry, joined, major_of, bignum_tag, HasDistinctKeys, IsKeyOrder}
 use Rattle.cborn_model.proofs.Numbers.OneHead.{one_head, least_holds}
 use Rattle.cborn_model.proofs.Numbers.Simples.{simple_below}
 use Rattle.cborn_model.proofs.SameItems.Rearranging.{All_moved, carried, carried_left}
 use Rattle.cborn_det.proofs.Rising.{one_arrangement, arranged}
 use Rattle.cborn_det.proofs.Reading.{small, reads, EntryReads, pairs_read, arranged_reads}
 use Rattle.cborn_model.proofs.Numbers.OneMagnitude.{one_magnitude, one_number}
-use Rattle.cborn_model.specs.Value.{Value, Values, Couples, integer, bytes, text, array, dict, tagged, simple, no_values, value, no_pairs, pair, listed, value_count, pair_count, pairs_of, number, Same, SameValues, SamePairs}
 use Rattle.cborn_model.proofs.Listed.Values.{listed-pairs_of}
-use Rattle.cborn_model.specs.Bytes.{big_endian}
-use Rattle.cborn_model.specs.Valid.{IsProper, AreProper, HasProperPairs, IsNew, HasNewKeys}
-use Rattle.cborn_model.specs.declared.heads.Width.{Width}
-use Rattle.cborn_model.specs.Heads.{information, following, IsHead, least, IsLeastHead}
-use Rattle.cborn_det.specs.Det.{IsString, IsInteger, Det, DetValues, DetPairs, DetSeq, DetMap, Entry, joined, major_of, bignum_tag}
-use Rattle.cborn_det.specs.shared.Distinct.{HasDistinctKeys}
-use Rattle.cborn_model.specs.Orders.{IsKeyOrder}
 
 -- the heads that an item may begin with
 abbrev Leads : Value → ℕ → ℕ → Type 0

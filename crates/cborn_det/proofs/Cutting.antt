@@ -1,12 +1,6 @@
 -- Entries that lie one after another in a buffer: what is read of them, and whether their keys rise.
-use Rattle.std.proofs.Common.{◌≡◌, ℕ, ◌+◌, ◌<◌, ◌≤◌, List, [], ◌∷◌, ◌++◌, length, map, take, drop, get_or, refl, sym, ap, ◌∙◌, subst, arith, append_assoc, take_at, drop_at, length-append, length-drop, Bor, Ordering, Less, Equal, Greater, is_lt, true, append-nil}
-use Rattle.std.proofs.lemmas.List.{drop_more, drop_all, map-append}
+use Rattle.cborn_det.proofs.Common.{◌≡◌, ℕ, ◌+◌, ◌<◌, ◌≤◌, List, [], ◌∷◌, ◌++◌, length, map, take, drop, get_or, refl, sym, ap, ◌∙◌, subst, arith, append_assoc, take_at, drop_at, length-append, length-drop, Bor, Ordering, Less, Equal, Greater, is_lt, true, append-nil, drop_more, drop_all, map-append, Option, None, Some, Rising, Entry, keys, joined, IsWritten, lengths_of, EndsIn, Below}
 use Rattle.cborn_model.proofs.Numbers.OneHead.{append_same}
-use Rattle.std.specs.Prelude.{Option, None, Some}
-use Rattle.cborn_model.specs.Orders.{Rising}
-use Rattle.cborn_det.specs.Det.{Entry, keys, joined}
-use Rattle.cborn_det.specs.devices.Writing.{IsWritten, lengths_of}
-use Rattle.cborn_det.specs.shared.KeyBefore.{EndsIn, Below}
 
 -- what was written says which entries there are
 pub one_written : (es fs : List Entry) (cs : List (ℕ × ℕ)) (b : List ℕ) → IsWritten es cs b → IsWritten fs cs b → es ≡ fs

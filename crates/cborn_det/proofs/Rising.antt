@@ -1,11 +1,5 @@
 -- Lists of entries whose keys rise.
-use Rattle.std.proofs.Common.{◌≡◌, ℕ, inl, inr, List, [], ◌∷◌, map, refl, sym, ap, ◌∙◌, subst, IsPermutation, Ordering, Less, Equal, Greater}
-use Rattle.std.specs.List.{AllByRecursion}
-use Rattle.std.proofs.lemmas.List.Sorted.{IsPermutation-refl, IsPermutation-sym, IsPermutation-trans, IsPermutation-map, IsPermutation-cons, IsPermutation-middle}
-use Rattle.std.specs.Ordering.{ordering_reverse}
-use Rattle.cborn_model.specs.Orders.{IsKeyOrder, Rising}
-use Rattle.cborn_det.specs.Det.{Entry, keys}
-use Rattle.cborn_det.specs.shared.Distinct.{HasDistinctKeys}
+use Rattle.cborn_det.proofs.Common.{◌≡◌, ℕ, inl, inr, List, [], ◌∷◌, map, refl, sym, ap, ◌∙◌, subst, IsPermutation, Ordering, Less, Equal, Greater, AllByRecursion, IsPermutation-refl, IsPermutation-sym, IsPermutation-trans, IsPermutation-map, IsPermutation-cons, IsPermutation-middle, ordering_reverse, IsKeyOrder, Rising, Entry, keys, HasDistinctKeys}
 use Rattle.cborn_model.proofs.SameItems.Rearranging.{All_moved, weaker, both, at_member, IsIn, AreIn, are_in_moved}
 
 abbrev bare : List ℕ → Entry

@@ -1,19 +1,7 @@
 -- The steps of the encoder, over plain values.
-use Rattle.std.proofs.Common.{◌≡◌, ℕ, ◌+◌, ◌-◌, ◌<◌, List, [], ◌∷◌, ◌++◌, length, map, take, drop, get_or, refl, sym, ap, ◌∙◌, subst, arith, append_assoc, append-nil, length-append, drop_at, take_at, ◌≤◌, Ordering, IsPermutation}
-use Rattle.std.specs.Prelude.{Result, Ok, Err, IsErr, MatchResult}
-use Rattle.std.specs.List.{AllByRecursion}
-use Rattle.std.proofs.lemmas.List.{take_more, map-append, take-append-drop}
-use Rattle.std.proofs.lemmas.List.Elements.{All-from_recursion}
+use Rattle.cborn_det.proofs.Common.{◌≡◌, ℕ, ◌+◌, ◌-◌, ◌<◌, List, [], ◌∷◌, ◌++◌, length, map, take, drop, get_or, refl, sym, ap, ◌∙◌, subst, arith, append_assoc, append-nil, length-append, drop_at, take_at, ◌≤◌, Ordering, IsPermutation, Result, Ok, Err, IsErr, MatchResult, AllByRecursion, take_more, map-append, take-append-drop, All-from_recursion, item_value, pair_value, Value, array, dict, values_of, pairs_of, IsProper, AreProper, HasProperPairs, IsLeastHead, Rising, Det, DetValues, DetPairs, DetSeq, Entry, joined, keys, Appends, AppendsPair, BeginsWith, IsWritten, lengths_of}
 use Rattle.cborn_model.specs.declared.items.Item.{Item}
-use Rattle.cborn_model.specs.ItemView.{item_value, pair_value}
-use Rattle.cborn_model.specs.Value.{Value, array, dict, values_of, pairs_of}
-use Rattle.cborn_model.specs.Valid.{IsProper, AreProper, HasProperPairs}
-use Rattle.cborn_model.specs.Heads.{IsLeastHead}
-use Rattle.cborn_model.specs.Orders.{Rising}
 use Rattle.cborn_model.proofs.Listed.Values.{value_count-values_of, pair_count-pairs_of}
-use Rattle.cborn_det.specs.Det.{Det, DetValues, DetPairs, DetSeq, Entry, joined, keys}
-use Rattle.cborn_det.specs.Appending.{Appends}
-use Rattle.cborn_det.specs.devices.Writing.{AppendsPair, BeginsWith, IsWritten, lengths_of}
 
 -- ---- what is valid of all is valid of each
 

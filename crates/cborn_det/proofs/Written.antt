@@ -1,9 +1,5 @@
 -- No encoding is empty.
-use Rattle.std.proofs.Common.{ℕ, ◌<◌, inl, inr, List, length, length-append, ap, arith, Bool, Ordering}
-use Rattle.cborn_model.specs.Bytes.{big_endian}
-use Rattle.cborn_model.specs.Heads.{IsLeastHead}
-use Rattle.cborn_model.specs.Value.{Value, integer, bytes, text, array, dict, tagged, simple, value_count, pair_count}
-use Rattle.cborn_det.specs.Det.{Det, IsString, IsInteger, joined, major_of, bignum_tag}
+use Rattle.cborn_det.proofs.Common.{ℕ, ◌<◌, inl, inr, List, length, length-append, ap, arith, Bool, Ordering, big_endian, IsLeastHead, Value, integer, bytes, text, array, dict, tagged, simple, value_count, pair_count, Det, IsString, IsInteger, joined, major_of, bignum_tag}
 
 some_head : (major n : ℕ) (h : List ℕ) → IsLeastHead major n h → 0 < length h
 some_head major n h l = omega (arith, ap length l.1)

@@ -1,27 +1,8 @@
 -- What fails for a reason by Bad.antt reads as bad for it by Forms.antt.
-use Rattle.std.proofs.Common.{◌≡◌, refl, sym, ap, ◌∙◌, subst, ℕ, ◌<◌, ◌≤◌, ◌^◌, List, [], ◌∷◌, ◌++◌, Bool, true, false, ◌&&◌, ◌||◌, cond, eqb, ltb, ◌⊎◌, inl, inr, Some, None, Result, Ok, Err, append-nil, arith}
-use Rattle.std.proofs.lemmas.Bool.{eqb-true, and_parts, or_parts, or_from, false_from_ne_true, leb-true, ltb-true}
-use Rattle.std.proofs.lemmas.List.{append_cancel_right}
-use Rattle.std.specs.List.{list_all, list_any}
-use Rattle.std.specs.Char.{is_ascii_digit, is_ascii_alphabetic, is_ascii_alphanumeric}
-use Rattle.std.specs.Int.{is_in_range}
-use Rattle.std.specs.Prelude.{bytes_eq, codes, nat_le}
-use Rattle.cborn_lex.specs.declared.classes.Profile.{Profile}
+use Rattle.cborn_lex.proofs.Common.{◌≡◌, refl, sym, ap, ◌∙◌, subst, ℕ, ◌<◌, ◌≤◌, ◌^◌, List, [], ◌∷◌, ◌++◌, Bool, true, false, ◌&&◌, ◌||◌, cond, eqb, ltb, ◌⊎◌, inl, inr, Some, None, Result, Ok, Err, append-nil, arith, eqb-true, and_parts, or_parts, or_from, false_from_ne_true, leb-true, ltb-true, append_cancel_right, list_all, list_any, is_ascii_digit, is_ascii_alphabetic, is_ascii_alphanumeric, is_in_range, bytes_eq, codes, nat_le, Profile, Mark, Absent, Endless, Wide, LexReason, UnexpectedCharacter, UnclosedString, BadEscape, BadHex, BadBase64, UnknownPrefix, BadIndicator, BadNumber, NumberTooLarge, FloatLeftOut, Class, ArrayOpen, MapOpen, EmbedClose, Text, Bytes, Bad, is_white, is_word, is_numeral, is_not, begins, mark_of, marked, within, integer, number_front, word_front, is_content, is_unclosed, IsText, IsRun, IsIndicator, unknown, prefix_of, IsPrefixed, hash, digit, letter, other, start_of, ReadsFrom, Reads, IsMark, IsLiteral, IsNumeral, IsName, IsCoded, Takes, is_quote, is_start, IsWord, is_float_word, IsPrefix, IsFloat, IsNoInteger, Fails}
 use Rattle.cborn_model.specs.declared.heads.Width.TheVariants as width
-use Rattle.cborn_lex.specs.declared.classes.Mark.{Mark}
-use Rattle.cborn_lex.specs.declared.classes.Mark.TheVariants.{Absent, Endless, Wide}
-use Rattle.cborn_lex.specs.declared.faults.LexReason.{LexReason}
-use Rattle.cborn_lex.specs.declared.faults.LexReason.TheVariants.{UnexpectedCharacter, UnclosedString, BadEscape, BadHex, BadBase64, UnknownPrefix, BadIndicator, BadNumber, NumberTooLarge, FloatLeftOut}
-use Rattle.cborn_lex.specs.declared.classes.Class.{Class}
-use Rattle.cborn_lex.specs.declared.classes.Class.TheVariants.{ArrayOpen, MapOpen, EmbedClose, Text, Bytes}
-use Rattle.cborn_lex.specs.Tokens.{Bad, is_white, is_word, is_numeral, is_not, begins, mark_of, marked}
-use Rattle.cborn_lex.specs.Numbers.{within, integer, number_front, word_front}
-use Rattle.cborn_lex.specs.Strings.{is_content, is_unclosed, IsText}
-use Rattle.cborn_lex.specs.Forms.{IsRun, IsIndicator, unknown, prefix_of, IsPrefixed, hash, digit, letter, other, start_of, ReadsFrom, Reads}
 use Rattle.cborn_lex.specs.Good as good
-use Rattle.cborn_lex.specs.Good.{IsMark, IsLiteral, IsNumeral, IsName, IsCoded, Takes}
 use Rattle.cborn_lex.specs.Bad as bad
-use Rattle.cborn_lex.specs.Bad.{is_quote, is_start, IsWord, is_float_word, IsPrefix, IsFloat, IsNoInteger, Fails}
 use Rattle.cborn_lex.proofs.TwoParts.{digit_starts}
 use Rattle.cborn_lex.proofs.GoodBack.{or_cases, never, first_digit, literal_is, value}
 use Rattle.cborn_lex.proofs.GoodFronts.{judge, assoc, same_bytes}

@@ -1,14 +1,7 @@
 -- A number that is a float is read as one.
-use Rattle.std.proofs.Common.{◌≡◌, refl, sym, subst, ℕ, ◌^◌, List, [], ◌∷◌, Bool, true, false, ◌||◌, not, cond, eqb, ltb, ⊎_elim, Ok, Err}
-use Rattle.std.proofs.lemmas.Bool.{eqb-true, and_parts, and_left, and_right, not-true}
-use Rattle.std.specs.List.{list_all, list_any}
-use Rattle.std.specs.Char.{is_digit}
-use Rattle.std.specs.Prelude.{bytes_eq, codes, drop, take}
-use Rattle.cborn_lex.specs.declared.faults.LexReason.TheVariants.{BadNumber, NumberTooLarge, FloatLeftOut}
-use Rattle.cborn_lex.specs.Tokens.{begins}
-use Rattle.cborn_lex.specs.Numbers.{are_digits, within, has_prefix, has_any, integer}
+use Rattle.cborn_lex.proofs.Common.{◌≡◌, refl, sym, subst, ℕ, ◌^◌, List, [], ◌∷◌, Bool, true, false, ◌||◌, not, cond, eqb, ltb, ⊎_elim, Ok, Err, eqb-true, and_parts, and_left, and_right, not-true, list_all, list_any, is_digit, bytes_eq, codes, BadNumber, NumberTooLarge, FloatLeftOut, begins, are_digits, within, has_prefix, has_any, integer, is_based, IsFloat}
+use Rattle.std.specs.Prelude.{drop, take}
 use Rattle.cborn_lex.specs.Bad as bad
-use Rattle.cborn_lex.specs.Bad.{is_based, IsFloat}
 use Rattle.cborn_lex.proofs.GoodBack.{or_cases, never}
 
 pub no_within : (v : ℕ) → within v ≡ Err BadNumber → ⊥

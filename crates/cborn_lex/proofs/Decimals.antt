@@ -1,19 +1,6 @@
 -- Decimal integers at the front of a text.
-use Rattle.std.proofs.Common.{◌≡◌, refl, sym, ap, ◌∙◌, subst, ℕ, zero, suc, ◌+◌, ◌-◌, ◌*◌, ◌<◌, ◌≤◌, ◌^◌, List, [], ◌∷◌, ◌++◌, length, take, drop, get_or, Bool, true, false, ◌||◌, ◌⊎◌, not, eqb, Ok, inl, inr, arith, append_assoc}
-use Rattle.std.proofs.Math.Nat.{pow-suc}
-use Rattle.std.proofs.lemmas.Bool.{and_parts, and_from, cond-true, cond-false, lt-ltb, ltb-true, eqb-true, cases_Bool, cases_lt, false≢true}
-use Rattle.std.proofs.lemmas.List.{take_more, drop_more, take-append-drop}
-use Rattle.std.proofs.lemmas.List.Folds.{list_all-append}
-use Rattle.std.proofs.lemmas.Str.{digit_value_digit}
+use Rattle.cborn_lex.proofs.Common.{◌≡◌, refl, sym, ap, ◌∙◌, subst, ℕ, zero, suc, ◌+◌, ◌-◌, ◌*◌, ◌<◌, ◌≤◌, ◌^◌, List, [], ◌∷◌, ◌++◌, length, take, drop, get_or, Bool, true, false, ◌||◌, ◌⊎◌, not, eqb, Ok, inl, inr, arith, append_assoc, pow-suc, and_parts, and_from, cond-true, cond-false, lt-ltb, ltb-true, eqb-true, cases_Bool, cases_lt, false≢true, take_more, drop_more, take-append-drop, list_all-append, digit_value_digit, list_all, is_digit, digit_value, codes, bytes_eq, is_numeral, begins, number, within, integer, has_prefix, are_digits, BeginsDecimal, Front, mark_of, number_front, IsRun, IsNumber, ReadsNumber}
 use Rattle.std.proofs.lemmas.Str.Parse.{digit_from_value}
-use Rattle.std.specs.List.{list_all}
-use Rattle.std.specs.Char.{is_digit, digit_value}
-use Rattle.std.specs.Prelude.{codes, bytes_eq}
-use Rattle.cborn_lex.specs.Tokens.{is_numeral, begins}
-use Rattle.cborn_lex.specs.Numbers.{number, within, integer, has_prefix, are_digits, BeginsDecimal}
-use Rattle.cborn_lex.specs.Tokens.{Front, mark_of}
-use Rattle.cborn_lex.specs.Numbers.{number_front}
-use Rattle.cborn_lex.specs.Forms.{IsRun, IsNumber, ReadsNumber}
 use Rattle.cborn_lex.proofs.TwoParts.{passes, passes_at}
 
 number-append : (b n : ℕ) (xs ys : List ℕ) → number b n (xs ++ ys) ≡ number b (number b n xs) ys

@@ -1,19 +1,7 @@
 -- What Good.antt takes as white space, a comment or a token reads as that by Forms.antt.
-use Rattle.std.proofs.Common.{◌≡◌, refl, sym, ap, ◌∙◌, subst, ℕ, ◌-◌, ◌<◌, ◌≤◌, ◌^◌, List, [], ◌∷◌, ◌++◌, Bool, true, false, ◌&&◌, ◌||◌, cond, eqb, ltb, ◌⊎◌, inl, inr, Option, Some, None, Ok, append-nil, arith}
-use Rattle.std.proofs.lemmas.Bool.{eqb-true, and_parts, or_parts, ltb-true, ltb-false, lt-ltb}
-use Rattle.std.specs.List.{list_all}
-use Rattle.std.specs.Char.{is_digit}
-use Rattle.std.specs.Prelude.{codes, drop}
-use Rattle.cborn_lex.specs.declared.classes.Profile.{Profile}
-use Rattle.cborn_lex.specs.declared.classes.Profile.TheVariants.{Two}
-use Rattle.cborn_lex.specs.declared.classes.Mark.{Mark}
-use Rattle.cborn_lex.specs.declared.classes.Class.{Class}
-use Rattle.cborn_lex.specs.declared.classes.Class.TheVariants.{ArrayOpen, MapOpen, EmbedClose, Text, Bytes, TagOpen, Word}
-use Rattle.cborn_lex.specs.Tokens.{Front, WhiteSpace, Read, is_white, is_word, is_numeral, is_not, begins, mark_of, marked}
-use Rattle.cborn_lex.specs.Numbers.{are_digits, number, within, has_prefix, integer, signed, number_front}
-use Rattle.cborn_lex.specs.Forms.{white, hash, digit, start_of, ReadsFrom, Reads}
+use Rattle.cborn_lex.proofs.Common.{◌≡◌, refl, sym, ap, ◌∙◌, subst, ℕ, ◌-◌, ◌<◌, ◌≤◌, ◌^◌, List, [], ◌∷◌, ◌++◌, Bool, true, false, ◌&&◌, ◌||◌, cond, eqb, ltb, ◌⊎◌, inl, inr, Option, Some, None, Ok, append-nil, arith, eqb-true, and_parts, or_parts, ltb-true, ltb-false, lt-ltb, list_all, is_digit, codes, Profile, Two, Mark, Class, ArrayOpen, MapOpen, EmbedClose, Text, Bytes, TagOpen, Word, Front, WhiteSpace, Read, is_white, is_word, is_numeral, is_not, begins, mark_of, marked, are_digits, number, within, has_prefix, integer, signed, number_front, white, hash, digit, start_of, ReadsFrom, Reads, IsMark, IsLiteral, IsNumeral, IsName, IsCoded, Takes}
+use Rattle.std.specs.Prelude.{drop}
 use Rattle.cborn_lex.specs.Good as good
-use Rattle.cborn_lex.specs.Good.{IsMark, IsLiteral, IsNumeral, IsName, IsCoded, Takes}
 use Rattle.cborn_lex.proofs.TwoParts.{digit_starts}
 
 abbrev pub front_of : Option Class → Front

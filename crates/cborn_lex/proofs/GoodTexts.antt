@@ -1,17 +1,8 @@
 -- The definitions of Good.antt and Bad.antt agree with those of Lex.antt on the tokens between two places of a text, and on its lexical fault.
-use Rattle.std.proofs.Common.{◌≡◌, subst, ℕ, List, ◌++◌, Option, Some, None}
+use Rattle.cborn_lex.proofs.Common.{◌≡◌, subst, ℕ, List, ◌++◌, Option, Some, None, Profile, Token, LexFault, Refused, OutOfMemory, LexReason, WhiteSpace, Read, Bad, Covers, HasTokens, IsTokenFrom, BeginsNothing, FailsAt, HasNoTokens, HasNoTokenFrom, Through, Lex, Stop, HasNoPiece, IsStopAt, IsStopFrom, IsNext}
 use Rattle.std.specs.Prelude.{drop}
-use Rattle.cborn_lex.specs.declared.classes.Profile.{Profile}
-use Rattle.cborn_lex.specs.declared.classes.Token.{Token}
-use Rattle.cborn_lex.specs.declared.faults.LexFault.{LexFault}
-use Rattle.cborn_lex.specs.declared.faults.LexFault.TheVariants.{Refused, OutOfMemory}
-use Rattle.cborn_lex.specs.declared.faults.LexReason.{LexReason}
-use Rattle.cborn_lex.specs.Tokens.{WhiteSpace, Read, Bad}
 use Rattle.cborn_lex.specs.Good as good
-use Rattle.cborn_lex.specs.Good.{Covers, HasTokens, IsTokenFrom}
-use Rattle.cborn_lex.specs.Bad.{BeginsNothing, FailsAt, HasNoTokens, HasNoTokenFrom}
 use Rattle.cborn_lex.specs.Lex as lex
-use Rattle.cborn_lex.specs.Lex.{Through, Lex, Stop, HasNoPiece, IsStopAt, IsStopFrom, IsNext}
 use Rattle.cborn_lex.proofs.GoodFronts.{taken}
 use Rattle.cborn_lex.proofs.GoodBack.{read}
 use Rattle.cborn_lex.proofs.BadBack.{fails}

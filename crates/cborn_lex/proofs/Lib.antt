@@ -1,3 +1,4 @@
+pub mod Common
 pub mod OneFront
 pub mod Contents
 pub mod Sliced

@@ -1,21 +1,11 @@
 -- Letters between quotes: runs of plain ones, and escapes.
-use Rattle.std.proofs.Common.{◌≡◌, refl, sym, ap, ap₂, ◌∙◌, subst, ℕ, zero, suc, ◌+◌, ◌-◌, ◌*◌, ◌/◌, ◌<◌, ◌≤◌, ◌^◌, ◌%◌, List, [], ◌∷◌, ◌++◌, length, take, drop, get_or, map, replicate, Bool, true, false, ◌&&◌, ◌||◌, not, cond, eqb, leb, ltb, ◌⊎◌, inl, inr, Option, Some, None, arith, append-nil, append_assoc, encode_utf8}
-use Rattle.std.proofs.lemmas.Bool.{and_parts, and_from, or_cases, eq-eqb, eqb-true, ne_eqb, cond-true, cond-false, not-true, false≢true, lt-ltb, le-leb, cases_lt}
+use Rattle.cborn_lex.proofs.Common.{◌≡◌, refl, sym, ap, ap₂, ◌∙◌, subst, ℕ, zero, suc, ◌+◌, ◌-◌, ◌*◌, ◌/◌, ◌<◌, ◌≤◌, ◌^◌, ◌%◌, List, [], ◌∷◌, ◌++◌, length, take, drop, get_or, map, replicate, Bool, true, false, ◌&&◌, ◌||◌, not, cond, eqb, leb, ltb, ◌⊎◌, inl, inr, Option, Some, None, arith, append-nil, append_assoc, and_parts, and_from, or_cases, eq-eqb, eqb-true, ne_eqb, cond-true, cond-false, not-true, false≢true, lt-ltb, le-leb, cases_lt, take-take, length-take, length-map, drop_more, take-append-drop, length-append, length-drop, drop-map, drop-drop, take_rest, zero-div, list_all-append, take-add, take-append-add, take-nil, list_all, flat_map, prefix_len, is_digit, zip2, mask_l, top, is_content, is_unclosed, is_escape, escape_code, four, are_hex, code, is_high, is_low, Letter, raw, escaped, unit, pair, written, meant, is_letter, is_plain, is_special, LettersSoFar, LettersTaken, NoText, is_raw, escape_of, code_at, low_code, paired, unit_from}
+use Rattle.std.proofs.Common.{encode_utf8}
 use Rattle.std.proofs.lemmas.Bool.Decides.{leb_tells}
 use Rattle.std.proofs.lemmas.List.Sums.{prefix_len-le-length}
-use Rattle.std.proofs.lemmas.List.{take-take, length-take, length-map, drop_more, take-append-drop, length-append, length-drop, drop-map, drop-drop, take_rest}
 use Rattle.std.proofs.lemmas.Nat.{shr-shr, shr_high}
-use Rattle.std.proofs.Math.Nat.{zero-div}
-use Rattle.std.proofs.lemmas.List.Folds.{list_all-append}
 use Rattle.std.proofs.lemmas.List.Concat.{flat_map-append}
 use Rattle.std.proofs.lemmas.Simd.{zip2_splat, zip2_of_maps, map-map, mask_l-mod, first_set_mask_l, length-chunk, run_in_chunk_stops}
-use Rattle.std.proofs.Math.Seq.{take-add, take-append-add, take-nil}
-use Rattle.std.specs.List.{list_all, flat_map, prefix_len}
-use Rattle.std.specs.Char.{is_digit}
-use Rattle.std.specs.Simd.Lanes.{zip2, mask_l, top}
-use Rattle.cborn_lex.specs.Strings.{is_content, is_unclosed, is_escape, escape_code, four, are_hex, code, is_high, is_low}
-use Rattle.cborn_lex.specs.devices.Letters.{Letter, raw, escaped, unit, pair, written, meant, is_letter, is_plain, is_special, LettersSoFar, LettersTaken, NoText}
-use Rattle.cborn_lex.specs.devices.Scan.{is_raw, escape_of, code_at, low_code, paired, unit_from}
 use Rattle.cborn_lex.proofs.Contents.Lettered.{is_text}
 use Rattle.cborn_lex.proofs.Contents.Ends.{content_then, unclosed_then}
 use Rattle.cborn_lex.proofs.Contents.Texts.{LetterAt, NoLetters}

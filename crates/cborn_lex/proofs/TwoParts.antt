@@ -1,22 +1,10 @@
 -- Fronts in two parts: a kind, and the number or the content that goes with it.
-use Rattle.std.proofs.Common.{◌≡◌, ◌&&◌, refl, sym, ap, ◌∙◌, subst, ℕ, zero, suc, ◌<◌, ◌≤◌, List, [], ◌∷◌, ◌++◌, append-nil, length, take, drop, get_or, Bool, true, false, eqb, inl, inr, Option, Some, None, Result, Ok, Err, IfOk, arith, ◌+◌}
-use Rattle.std.proofs.lemmas.Bool.{false≢true, eq-eqb, and_right, and_parts, cases_lt, cond-true, cond-false}
-use Rattle.std.proofs.lemmas.List.{take_all, drop_all}
-use Rattle.cborn_lex.specs.declared.classes.Mark.{Mark}
+use Rattle.cborn_lex.proofs.Common.{◌≡◌, ◌&&◌, refl, sym, ap, ◌∙◌, subst, ℕ, zero, suc, ◌<◌, ◌≤◌, List, [], ◌∷◌, ◌++◌, append-nil, length, take, drop, get_or, Bool, true, false, eqb, inl, inr, Option, Some, None, Result, Ok, Err, IfOk, arith, ◌+◌, false≢true, eq-eqb, and_right, and_parts, cases_lt, cond-true, cond-false, take_all, drop_all, Mark, Class, bytes_eq, codes, LexReason, UnclosedString, Front, Read, Bad, marked, mark_of, is_word, Profile, IsIndicator, IsString, Start, digit, start_of, ReadsFrom, Prefix, hexadecimal, base64, unknown, prefix_of, IsPrefixed, ReadsWord, class_of, content_of, StandsFor, front_view, FrontStandsFor}
 use Rattle.cborn_lex.specs.declared.classes.Kind.{Kind}
 use Rattle.cborn_lex.specs.declared.classes.Kind.TheVariants as kinds
-use Rattle.cborn_lex.specs.declared.classes.Class.{Class}
 use Rattle.cborn_lex.specs.declared.fronts.Front.{Front as FrontIn}
 use Rattle.cborn_lex.specs.declared.fronts.Front.TheVariants as fronts
-use Rattle.std.specs.Prelude.{bytes_eq, codes}
-use Rattle.cborn_lex.specs.declared.faults.LexReason.{LexReason}
-use Rattle.cborn_lex.specs.declared.faults.LexReason.TheVariants.{UnclosedString}
-use Rattle.cborn_lex.specs.Tokens.{Front, Read, Bad, marked, mark_of, is_word}
-use Rattle.cborn_lex.specs.declared.classes.Profile.{Profile}
 use Rattle.cborn_lex.specs.declared.classes.Class.TheVariants as classes
-use Rattle.cborn_lex.specs.Forms.{IsIndicator, IsString, Start, digit, start_of, ReadsFrom, Prefix, hexadecimal, base64, unknown, prefix_of, IsPrefixed, ReadsWord}
-use Rattle.cborn_lex.specs.Kinds.{class_of, content_of, StandsFor}
-use Rattle.cborn_lex.specs.devices.View.{front_view, FrontStandsFor}
 
 nothing_in : (k : Kind) (n : ℕ) → content_of (class_of k n []) ≡ []
 nothing_in (kinds.ArrayOpen m) n = refl

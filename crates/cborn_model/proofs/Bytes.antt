@@ -1,6 +1,6 @@
 -- Bytes one after another are bytes.
-use Rattle.std.proofs.Common.{ℕ, suc, List, [], ◌∷◌, ◌++◌, get_or, Fits, w8, arith}
-use Rattle.cborn_model.specs.Bytes.{AreBytes}
+use Rattle.cborn_model.proofs.Common.{ℕ, suc, List, [], ◌∷◌, ◌++◌, get_or, w8, arith, AreBytes}
+use Rattle.std.proofs.Common.{Fits}
 
 pub bytes-append : (x y : List ℕ) → AreBytes x → AreBytes y → AreBytes (x ++ y)
 bytes-append [] y h k = k

@@ -1,6 +1,5 @@
 -- What comes no later than what, and the first of the faults of two kinds.
-use Rattle.std.proofs.Common.{◌≡◌, ℕ, ◌⊎◌, inl, inr, refl, ◌∙◌, arith}
-use Rattle.cborn_model.specs.First.{NoLater, IsFirst}
+use Rattle.cborn_model.proofs.Common.{◌≡◌, ℕ, ◌⊎◌, inl, inr, refl, ◌∙◌, arith, NoLater, IsFirst}
 
 pub no_later_on : (a b c : ℕ × ℕ) → NoLater a b → NoLater b c → NoLater a c
 no_later_on a b c (inl h) (inl k) = inl (omega arith)

@@ -1,21 +1,11 @@
 -- What a walk over nodes hands to a visitor.
-use Rattle.std.proofs.Common.{◌≡◌, refl, sym, ap, ◌∙◌, subst, ℕ, suc, ◌+◌, ◌<◌, List, [], ◌∷◌, ◌++◌, length, map, get_or, take, Option, Some, None, Result, Ok, Err, OnOk, arith, append-nil}
-use Rattle.std.proofs.lemmas.List.{take_more, length-take, map-append}
-use Rattle.std.specs.Option.{option_to_list}
-use Rattle.cborn_model.specs.Heads.{SizeFits}
-use Rattle.cborn_model.specs.Spelled.{Fits, FitsAll, FitsEntries}
+use Rattle.cborn_model.proofs.Common.{◌≡◌, refl, sym, ap, ◌∙◌, subst, ℕ, suc, ◌+◌, ◌<◌, List, [], ◌∷◌, ◌++◌, length, map, get_or, take, Option, Some, None, Result, Ok, Err, OnOk, arith, append-nil, take_more, length-take, map-append, option_to_list, SizeFits, Fits, FitsAll, FitsEntries, Chunk, Size, Fixed, Endless, Tree, Bytes, Text, Items, Pairs, trees, entries, depth, depth_all, depth_entries, Partial, Opening, a_map, in_chunks, inside, put, paired, last_key, chunk_of, chunks_of, chunks_tree, built, IsMore, IsAll, IsString, AreStrings, Ends, IsFree, Proper, TakesString, flat, string_of, count_of}
 use Rattle.cborn_model.specs.View.{tree_of}
 use Rattle.cborn_model.specs.declared.nodes.Form.{Form}
 use Rattle.cborn_model.specs.declared.nodes.Form.TheVariants as forms
 use Rattle.cborn_model.proofs.Listed.Trees.{count-trees, count_entries-entries}
-use Rattle.cborn_model.specs.declared.nodes.Chunk.{Chunk}
-use Rattle.cborn_model.specs.declared.heads.Size.{Size}
-use Rattle.cborn_model.specs.declared.heads.Size.TheVariants.{Fixed, Endless}
 use Rattle.cborn_model.specs.declared.visitors.StringKind.{StringKind}
 use Rattle.cborn_model.specs.declared.visitors.StringKind.TheVariants.{OfBytes, OfText}
-use Rattle.cborn_model.specs.Tree.{Tree, Bytes, Text, Items, Pairs, trees, entries, depth, depth_all, depth_entries}
-use Rattle.cborn_model.specs.Partial.{Partial, Opening, a_map, in_chunks, inside, put, paired, last_key, chunk_of, chunks_of, chunks_tree, built, IsMore, IsAll, IsString, AreStrings, Ends, IsFree, Proper, TakesString}
-use Rattle.cborn_model.specs.shared.Walks.{flat, string_of, count_of}
 
 -- fewer than all are there
 pub is_more : (c : Option ℕ) (n k : ℕ) → IsAll c n → k < n → IsMore c k

@@ -1,8 +1,5 @@
 -- How many bytes nodes spell.
-use Rattle.std.proofs.Common.{◌≤◌, List, [], ◌∷◌, length, length-append, arith}
-use Rattle.cborn_model.specs.declared.heads.Size.TheVariants.{Fixed, Endless}
-use Rattle.cborn_model.specs.Spelled.{spelled, spelled_all}
-use Rattle.cborn_model.specs.Tree.{Tree, Uint, Nint, Bytes, Text, ByteChunks, TextChunks, Items, Pairs, Tagged, Simple, trees}
+use Rattle.cborn_model.proofs.Common.{◌≤◌, List, [], ◌∷◌, length, length-append, arith, Fixed, Endless, spelled, spelled_all, Tree, Uint, Nint, Bytes, Text, ByteChunks, TextChunks, Items, Pairs, Tagged, Simple, trees}
 
 pub some_bytes : (t : Tree) → 1 ≤ length (spelled t)
 some_bytes (Uint p w n) = omega arith

@@ -1,18 +1,10 @@
 -- The partial sequence that the visitor which builds nodes holds, as it changes.
-use Rattle.std.proofs.Common.{◌≡◌, ◌≤◌, refl, sym, ap, ◌∙◌, ℕ, List, [], ◌∷◌, ◌++◌, length, map, Option, Some, append-nil, arith}
-use Rattle.std.specs.Option.{option_to_list}
-use Rattle.cborn_model.specs.declared.nodes.Chunk.{Chunk}
-use Rattle.cborn_model.specs.declared.heads.Size.{Size}
+use Rattle.cborn_wire.proofs.Common.{◌≡◌, ◌≤◌, refl, sym, ap, ◌∙◌, ℕ, List, [], ◌∷◌, ◌++◌, length, map, Option, Some, append-nil, arith, option_to_list, Chunk, Size, Tree, trees, entries, depth_all, FitsAll, IsSpelled, a_map, in_chunks, Partial, top, inside, no_part, chunks_tree, ended_size, Nodes, flat, string_of, within, around, seen_string, IsHeld}
 use Rattle.cborn_model.specs.declared.visitors.StringKind.{StringKind}
-use Rattle.cborn_model.specs.Tree.{Tree, trees, entries, depth_all}
-use Rattle.cborn_model.specs.Spelled.{FitsAll, IsSpelled}
 use Rattle.cborn_model.specs.Tree as tree
-use Rattle.cborn_model.specs.Partial.{a_map, in_chunks, Partial, top, inside, no_part, chunks_tree, ended_size}
 use Rattle.cborn_wire.specs.declared.open_nodes.OpenNode.{OpenNode}
-use Rattle.cborn_wire.specs.declared.nodes.Nodes.{Nodes}
-use Rattle.cborn_model.specs.shared.Walks.{flat, string_of}
 use Rattle.cborn_model.proofs.HandedOver.{flat_push, paired_with, strings}
-use Rattle.cborn_wire.specs.devices.OpenNodes.{within, around, seen_string, IsHeld, ended}
+use Rattle.cborn_wire.specs.devices.OpenNodes.{ended}
 
 pub pair_push : (es : List (Tree × Tree)) (k t : Tree) → flat (es ++ (k, t) ∷ []) ++ [] ≡ (flat es ++ k ∷ []) ++ t ∷ []
 pair_push es k t = append-nil (flat (es ++ (k, t) ∷ [])) ∙ sym (flat_push es (k, t))

@@ -1,23 +1,9 @@
 -- What a reader of heads that stops after one item says of the front of the bytes.
-use Rattle.std.proofs.Common.{◌≡◌, refl, sym, ap, ◌∙◌, subst, ℕ, ◌+◌, ◌<◌, ◌≤◌, List, [], ◌∷◌, ◌++◌, length, take, drop, length-drop, append-nil, Option, Some, None, Ok, Err, inl, inr, arith}
-use Rattle.std.proofs.lemmas.List.{length-take-le, take-append-drop, take_all, drop-drop, nil_from_length}
-use Rattle.cborn_model.specs.Bytes.{AreBytes}
-use Rattle.cborn_model.specs.Tree.{Tree, no_item, trees, depth}
-use Rattle.cborn_model.specs.Spelled.{spelled, Fits, Wellformed}
-use Rattle.cborn_model.specs.Placed.{PlacedAll}
-use Rattle.cborn_model.specs.Partial.{Partial, Part, top, no_part}
+use Rattle.cborn_wire.proofs.Common.{◌≡◌, refl, sym, ap, ◌∙◌, subst, ℕ, ◌+◌, ◌<◌, ◌≤◌, List, [], ◌∷◌, ◌++◌, length, take, drop, append-nil, Option, Some, None, Ok, Err, inl, inr, arith, length-take-le, take-append-drop, take_all, drop-drop, nil_from_length, AreBytes, Tree, no_item, trees, depth, spelled, Fits, Wellformed, PlacedAll, Partial, Part, top, no_part, Fault, VisitFault, Refused, Memory, Truncated, Level, HeadReader, EndsHeld, nothing, Live, Failed, ready_in, start, run, AtMostOneMore, MayEnd, IsFed, ReadsItem}
+use Rattle.std.proofs.Common.{length-drop}
 use Rattle.cborn_model.proofs.Bytes.{bytes-right}
-use Rattle.cborn_wire.specs.Faults.{Fault}
 use Rattle.cborn_wire.specs.Reading.{EndsItem}
 use Rattle.cborn_wire.specs.declared.faults.WireFault.TheVariants as wire
-use Rattle.cborn_wire.specs.declared.faults.VisitFault.{VisitFault}
-use Rattle.cborn_wire.specs.declared.faults.VisitFault.TheVariants.{Refused, Memory}
-use Rattle.cborn_wire.specs.declared.faults.WireReason.TheVariants.{Truncated}
-use Rattle.cborn_wire.specs.declared.levels.Level.{Level}
-use Rattle.cborn_wire.specs.declared.head_readers.HeadReader.{HeadReader}
-use Rattle.cborn_wire.specs.devices.ItemReading.{EndsHeld}
-use Rattle.cborn_wire.specs.shared.Machine.{nothing, Live, Failed, ready_in, start, run, AtMostOneMore}
-use Rattle.cborn_wire.specs.shared.Visiting.{MayEnd, IsFed, ReadsItem}
 use Rattle.cborn_wire.proofs.Feeding.Completing.{no_first}
 use Rattle.cborn_wire.proofs.Spelled.FaultLaws.{fails_refused}
 use Rattle.cborn_wire.proofs.Visiting.Pieces.{may_end_here}

@@ -1,22 +1,8 @@
 -- Integers that are told apart by the form of their initial bytes.
-use Rattle.std.proofs.Common.{◌≡◌, ℕ, zero, suc, ◌+◌, ◌*◌, ◌/◌, ◌%◌, ◌<◌, ◌≤◌, inl, inr, List, [], ◌∷◌, ◌++◌, length, take, drop, get_or, refl, sym, ap, ◌∙◌, subst, arith, append_assoc, append-nil, length-append}
-use Rattle.std.proofs.lemmas.List.{length-drop}
-use Rattle.std.proofs.lemmas.Bool.{lt-ltb, le-ltb}
-use Rattle.cborn_model.specs.declared.heads.Width.{Width}
-use Rattle.cborn_model.specs.declared.heads.Width.TheVariants.{Direct, One, Two, Four, Eight}
-use Rattle.cborn_model.specs.Bytes.{AreBytes}
-use Rattle.cborn_model.specs.declared.heads.Major.TheVariants.{Other}
-use Rattle.cborn_model.specs.Heads.{code, least}
-use Rattle.cborn_model.specs.Tree.{Tree, Uint, Nint}
-use Rattle.cborn_model.specs.shared.Runs.{IsInteger, IsShortLeaf, AreShortIntegers}
+use Rattle.cborn_wire.proofs.Common.{◌≡◌, ℕ, zero, suc, ◌+◌, ◌*◌, ◌/◌, ◌%◌, ◌<◌, ◌≤◌, inl, inr, List, [], ◌∷◌, ◌++◌, length, take, drop, get_or, refl, sym, ap, ◌∙◌, subst, arith, append_assoc, append-nil, length-append, length-drop, lt-ltb, le-ltb, Width, Direct, One, Two, Four, Eight, AreBytes, Other, code, least, Tree, Uint, Nint, IsInteger, IsShortLeaf, AreShortIntegers, Head, Full, major_at, IsHeadOf, Next, info_at, width_bytes, number}
 use Rattle.cborn_model.proofs.Numbers.Majors.{code_at}
 use Rattle.cborn_model.proofs.Numbers.Simples.{least_direct, least_one}
-use Rattle.cborn_wire.specs.declared.heads.Head.{Head}
-use Rattle.cborn_wire.specs.declared.heads.HeadRead.TheVariants.{Full}
 use Rattle.cborn_wire.specs.declared.heads.Argument.TheVariants as arguments
-use Rattle.cborn_wire.specs.HeadReading.{major_at, IsHeadOf}
-use Rattle.cborn_wire.specs.shared.InitialBytes.{Next, info_at}
-use Rattle.cborn_wire.specs.shared.Machine.{width_bytes, number}
 use Rattle.cborn_wire.specs.devices.ShortIntegers.{IsIntegerForm, top_of}
 use Rattle.cborn_wire.proofs.HeadReading.HeadFronts.{direct_front, wide_fronts, wide_head}
 use Rattle.cborn_wire.proofs.HeadReading.HeadSteps.{head_front}

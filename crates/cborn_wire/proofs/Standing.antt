@@ -1,22 +1,9 @@
 -- What the visitor which writes bytes holds, as nodes become whole and containers are opened and ended.
-use Rattle.std.proofs.Common.{◌≡◌, refl, sym, ap, ◌∙◌, subst, ℕ, ◌+◌, ◌*◌, ◌/◌, ◌%◌, ◌^◌, ◌<◌, List, [], ◌∷◌, ◌++◌, length, take, drop, Option, Some, None, arith, append_assoc, append-nil, length-append, take_at, drop_at, ◌-◌, get_or, set}
-use Rattle.std.proofs.Math.Seq.{get_or-append_seam}
-use Rattle.std.proofs.lemmas.List.{set_at}
-use Rattle.cborn_model.specs.declared.heads.Major.{Major}
-use Rattle.cborn_model.specs.declared.heads.Major.TheVariants.{Array, Map, Tag}
-use Rattle.cborn_model.specs.declared.heads.Size.{Size}
-use Rattle.cborn_model.specs.declared.heads.Size.TheVariants.{Fixed, Endless}
-use Rattle.cborn_model.specs.declared.heads.Width.{Width}
-use Rattle.cborn_model.specs.Heads.{code, Given, head, argument}
-use Rattle.cborn_model.specs.Tree.{Tree, trees}
-use Rattle.cborn_model.specs.Spelled.{ending, spelled, spelled_all}
-use Rattle.cborn_model.specs.Partial.{Opening, an_array, a_map, a_tag, in_chunks, Partial, top, inside, put, paired, built, ended_size, IsAll, Ends}
+use Rattle.cborn_wire.proofs.Common.{◌≡◌, refl, sym, ap, ◌∙◌, subst, ℕ, ◌+◌, ◌*◌, ◌/◌, ◌%◌, ◌^◌, ◌<◌, List, [], ◌∷◌, ◌++◌, length, take, drop, Option, Some, None, arith, append_assoc, append-nil, length-append, take_at, drop_at, ◌-◌, get_or, set, get_or-append_seam, set_at, Major, Array, Map, Tag, Size, Fixed, Endless, Width, code, Given, head, argument, Tree, trees, ending, spelled, spelled_all, Opening, an_array, a_map, a_tag, in_chunks, Partial, top, inside, put, paired, built, ended_size, IsAll, Ends, announced, opening, opened, beginning, OpenSpelling, written, shape, sized_ending, ending_of, counted, container, containers_of, with_head, entries_in, IsEnded}
 use Rattle.cborn_model.proofs.Lengths.{no_more_nodes}
 use Rattle.cborn_model.proofs.Listed.Trees.{count-trees, count_entries-entries}
-use Rattle.cborn_wire.specs.Slots.{announced, opening, opened, beginning}
-use Rattle.cborn_wire.specs.declared.spellers.OpenSpelling.{OpenSpelling}
 use Rattle.cborn_wire.specs.declared.spellers.Speller.{Speller}
-use Rattle.cborn_wire.specs.shared.Spelling.{written, shape, sized_ending, ending_of, counted, container, containers_of, Stands, with_head, entries_in, IsEnded}
+use Rattle.cborn_wire.specs.shared.Spelling.{Stands}
 use Rattle.cborn_wire.proofs.Machine.Containers.{pair_count, pairs_spelled, built_spelled}
 use Rattle.cborn_wire.proofs.Spelled.TreeLists.{trees-append, spelled_all-append}
 

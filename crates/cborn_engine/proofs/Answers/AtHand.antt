@@ -1,19 +1,8 @@
 -- What is answered for an input that is held whole.
-use Rattle.std.proofs.Common.{◌≡◌, ◌*◌, ◌<◌, ◌≤◌, ◌↔◌, ℕ, List, length, IsTrue, Bool, true, false, not, subst, sym, ap, arith, inl, inr, Option, None, Some, Vec, Global, Ordering}
-use Rattle.std.specs.Cow.{cow_slice_items}
-use Rattle.std.specs.declared.borrow.CowSlice.{CowSlice}
-use Rattle.std.specs.Prelude.{MatchOption}
-use Rattle.std.specs.Option.{is_some}
-use Rattle.std.proofs.lemmas.Bool.{cases_lt}
-use Rattle.cborn_model.specs.Orders.{IsKeyOrder}
-use Rattle.cborn_model.specs.Value.{Value}
+use Rattle.cborn_engine.proofs.Common.{◌≡◌, ◌*◌, ◌<◌, ◌≤◌, ◌↔◌, ℕ, List, length, Bool, true, false, not, subst, sym, ap, arith, inl, inr, Option, None, Some, Vec, Global, Ordering, cow_slice_items, CowSlice, MatchOption, is_some, cases_lt, IsKeyOrder, Value, Kind, own_or, IsEncoded, IsWrittenAs, Holds, most_bytes}
+use Rattle.std.proofs.Common.{IsTrue}
 use Rattle.cborn_det.proofs.Room.{sequence_room}
-use Rattle.cborn_engine.specs.declared.kinds.Kind.{Kind}
 use Rattle.cborn_engine.specs.declared.kinds.Kind.TheVariants as kind
-use Rattle.cborn_engine.specs.devices.Counts.{own_or}
-use Rattle.cborn_engine.specs.devices.Encoding.{IsEncoded, IsWrittenAs}
-use Rattle.cborn_engine.specs.Holding.{Holds}
-use Rattle.cborn_engine.specs.Reading.{most_bytes}
 use Rattle.cborn_engine.proofs.Canonical.Canonicity.{own_bytes}
 
 -- ---- its length

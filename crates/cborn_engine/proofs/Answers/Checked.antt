@@ -1,24 +1,13 @@
 -- The first defect of the nodes of an input is the verdict on the input.
-use Rattle.std.proofs.Common.{◌<◌, ◌^◌, ℕ, List, length, Option, None, Some, Ordering, sym, subst}
-use Rattle.std.specs.List.{AllZip}
-use Rattle.cborn_model.specs.Meaning.{Means}
-use Rattle.cborn_model.specs.Tree.{Tree, trees}
-use Rattle.cborn_model.specs.Orders.{IsKeyOrder}
-use Rattle.cborn_model.specs.Placed.{PlacedAll}
-use Rattle.cborn_model.specs.Value.{Value, values_of}
-use Rattle.cborn_det.specs.Det.{DetValues}
+use Rattle.cborn_engine.proofs.Common.{◌<◌, ◌^◌, ℕ, List, length, Option, None, Some, Ordering, sym, subst, AllZip, Means, Tree, trees, IsKeyOrder, PlacedAll, Value, values_of, DetValues, IsFirstOfSequence, SequenceDefect, FindsDefect, Holds, Verdict}
 use Rattle.cborn_det.proofs.Steps.{seq_of_values, values_of_seq}
 use Rattle.cborn_judge.specs.declared.defects.Defect.{Defect as Found}
 use Rattle.cborn_judge.specs.declared.defects.DefectReason.{DefectReason}
-use Rattle.cborn_judge.specs.Defects.{IsFirstOfSequence, SequenceDefect}
-use Rattle.cborn_judge.specs.Departures.{FindsDefect}
 use Rattle.cborn_judge.specs.shared.Checked.{DefectInAll}
 use Rattle.cborn_judge.proofs.Encoded.Checking.{check_sequence_sound, check_sequence_whole}
 use Rattle.cborn_judge.proofs.FirstDefect.Departing.{alike}
 use Rattle.cborn_model.proofs.Listed.Meanings.{all_mean, are_proper}
 use Rattle.cborn_engine.specs.declared.kinds.Kind.TheVariants as kind
-use Rattle.cborn_engine.specs.Holding.{Holds}
-use Rattle.cborn_engine.specs.Checking.{Verdict}
 use Rattle.cborn_engine.proofs.Held.Meant.{held_is_sound, AreSound}
 
 module _ (order : List ℕ → List ℕ → Ordering) where

@@ -1,7 +1,5 @@
 -- What `?` answers, and what an output is that isn't bytes.
-use Rattle.std.proofs.Common.{◌≡◌, Result, Ok, Err, refl, subst, sym, ap}
-use Rattle.std.specs.Result.{IsErrAnd}
-use Rattle.cborn_engine.specs.declared.kinds.Kind.{Kind}
+use Rattle.cborn_engine.proofs.Common.{◌≡◌, Result, Ok, Err, refl, subst, sym, ap, IsErrAnd, Kind}
 use Rattle.cborn_engine.specs.declared.kinds.Kind.TheVariants as kind
 
 -- an error that is known

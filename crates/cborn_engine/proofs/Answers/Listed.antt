@@ -1,11 +1,6 @@
 -- A text whose bytes were read notates nodes. Here they are a list.
-use Rattle.std.proofs.Common.{◌≡◌, ◌∙◌, ℕ, List, sym, ap, subst}
-use Rattle.cborn_model.specs.Tree.{Tree, trees}
-use Rattle.cborn_model.specs.Spelled.{spelled_all}
-use Rattle.cborn_lex.specs.declared.classes.Profile.{Profile}
-use Rattle.cborn_edn.specs.Grammar.{Notates}
+use Rattle.cborn_engine.proofs.Common.{◌≡◌, ◌∙◌, ℕ, List, sym, ap, subst, Tree, trees, spelled_all, Profile, Notates, IsSpelling}
 use Rattle.cborn_wire.proofs.Spelled.TreeLists.{tree_list, trees-tree_list}
-use Rattle.cborn_edn.specs.Spelling.{IsSpelling}
 
 abbrev pub nodes_of : {p : Profile} {limit : ℕ} {text bytes : List ℕ} → IsSpelling p limit text bytes → List Tree
 nodes_of s = tree_list s.nodes

@@ -1,20 +1,9 @@
 -- Bytes that aren't well-formed are refused for their one fault.
-use Rattle.std.proofs.Common.{◌≡◌, ◌⊎◌, inl, inr, ℕ, List, sym, subst}
-use Rattle.cborn_model.specs.Tree.{Tree, trees}
-use Rattle.cborn_wire.specs.declared.faults.WireReason.{WireReason}
-use Rattle.cborn_wire.specs.Faults.{Fault, IsWellformed}
+use Rattle.cborn_engine.proofs.Common.{◌≡◌, ◌⊎◌, inl, inr, ℕ, List, sym, subst, Tree, trees, WireReason, Fault, IsWellformed, Profile, EngineFault, Kind, kind_of, IsRefusedHeld, IsWireFault, IsNoFlaw, Spells, HasNoFault}
 use Rattle.cborn_wire.proofs.Spelled.FaultLaws.{not_both}
-use Rattle.cborn_lex.specs.declared.classes.Profile.{Profile}
 use Rattle.cborn_lex.specs.declared.classes.Profile.TheVariants as profile
-use Rattle.cborn_engine.specs.declared.faults.EngineFault.{EngineFault}
 use Rattle.cborn_engine.specs.declared.faults.EngineFault.TheVariants as fault
-use Rattle.cborn_engine.specs.declared.kinds.Kind.{Kind}
 use Rattle.cborn_engine.specs.declared.kinds.Kind.TheVariants as kind
-use Rattle.cborn_engine.specs.devices.Encoding.{kind_of}
-use Rattle.cborn_engine.specs.devices.Malformed.{IsRefusedHeld, IsWireFault}
-use Rattle.cborn_engine.specs.Loading.{IsNoFlaw}
-use Rattle.cborn_engine.specs.Holding.{Spells}
-use Rattle.cborn_engine.specs.Whole.{HasNoFault}
 
 -- bytes with a fault aren't well-formed
 pub no_reading : (limit : ℕ) (input : List ℕ) → (p : ℕ) × (r : WireReason) × Fault limit input p r → IsWellformed limit input → ⊥

@@ -1,36 +1,20 @@
 -- A text holds the items that its bytes mean, and is shown as its bytes are.
-use Rattle.std.proofs.Common.{◌≡◌, ◌≤◌, ◌⊎◌, inl, inr, ℕ, List, length, sym, subst, ◌∙◌, Ordering, arith}
+use Rattle.cborn_engine.proofs.Common.{◌≡◌, ◌≤◌, ◌⊎◌, inl, inr, ℕ, List, length, sym, subst, ◌∙◌, Ordering, arith, IsUtf8, Tree, trees, FitsAll, InvalidReason, IsRefusalOfAll, Notates, IsRefusedHeld, IsRefusedWhole, Profile, IsShownText, IsSpelling, Kind, kind_of, IsEncoded, IsNotation, Spells, IsShown, IsSpelledAs, most_bytes}
 use Rattle.cborn_engine.proofs.Answers.Listed.{nodes_of, notated_of, spells_of}
-use Rattle.std.specs.Prelude.{IsUtf8}
-use Rattle.cborn_model.specs.Tree.{Tree, trees}
-use Rattle.cborn_model.specs.Spelled.{FitsAll}
 use Rattle.cborn_model.specs.First.{IsFirst}
 use Rattle.cborn_judge.specs.Reasons.{flaw_rank}
-use Rattle.cborn_judge.specs.declared.faults.InvalidReason.{InvalidReason}
 use Rattle.cborn_judge.specs.declared.faults.Invalid.TheVariants as invalid
-use Rattle.cborn_judge.specs.Flaws.{IsRefusalOfAll}
 use Rattle.cborn_judge.specs.shared.Judged.{FlawIn}
 use Rattle.cborn_judge.specs.devices.Encoding.{AreEncodedAs}
 use Rattle.cborn_judge.proofs.FirstFlaw.Sequences.{first_refusal}
-use Rattle.cborn_edn.specs.Grammar.{Notates}
 use Rattle.cborn_edn.proofs.Started.Rises.{spots_rise}
 use Rattle.cborn_engine.specs.declared.faults.EngineFault.TheVariants as fault
-use Rattle.cborn_engine.specs.devices.Malformed.{IsRefusedHeld}
-use Rattle.cborn_engine.specs.Whole.{IsRefusedWhole}
 use Rattle.cborn_engine.proofs.Answers.Spots.{rising_apart}
-use Rattle.cborn_lex.specs.declared.classes.Profile.{Profile}
 use Rattle.cborn_lex.specs.declared.classes.Profile.TheVariants as profile
 use Rattle.cborn_lex.proofs.WholeTexts.Weights.{utf8_bytes}
 use Rattle.cborn_edn.proofs.Shown.SameText.{same_notation}
 use Rattle.cborn_edn.proofs.Short.Facts.{notated_fits}
-use Rattle.cborn_edn.specs.ShownBytes.{IsShownText}
-use Rattle.cborn_edn.specs.Spelling.{IsSpelling}
-use Rattle.cborn_engine.specs.declared.kinds.Kind.{Kind}
 use Rattle.cborn_engine.specs.declared.kinds.Kind.TheVariants as kind
-use Rattle.cborn_engine.specs.devices.Encoding.{kind_of, IsEncoded}
-use Rattle.cborn_engine.specs.Holding.{IsNotation, Spells}
-use Rattle.cborn_engine.specs.Showing.{IsShown, IsSpelledAs}
-use Rattle.cborn_engine.specs.Reading.{most_bytes}
 use Rattle.cborn_engine.proofs.Held.SameNodes.{same_nodes}
 use Rattle.cborn_engine.proofs.Answers.KnownErrors.{notation}
 

@@ -1,11 +1,7 @@
 -- The flaws of what a text notates: each is at a spot, and spots rise, so that the first flaw of all is that of the first node that means nothing.
-use Rattle.std.proofs.Common.{◌≡◌, ℕ, ◌<◌, inl, inr, List, [], ◌∷◌, ◌++◌, refl, sym, subst}
-use Rattle.cborn_model.specs.declared.nodes.Chunk.{Chunk}
-use Rattle.cborn_model.specs.Tree.{Tree, Uint, Nint, Bytes, Text, ByteChunks, TextChunks, Items, Pairs, Tagged, Simple, Trees, no_item, more, Entries, no_entry, entry, place, trees}
+use Rattle.cborn_engine.proofs.Common.{◌≡◌, ℕ, ◌<◌, inl, inr, List, [], ◌∷◌, ◌++◌, refl, sym, subst, Chunk, Tree, Uint, Nint, Bytes, Text, ByteChunks, TextChunks, Items, Pairs, Tagged, Simple, Trees, no_item, more, Entries, no_entry, entry, place, trees, Within, WithinAll, WithinEntries, IsRepeated, HasRepeat, HasBadChunk, FlawAt, Flaw, InvalidReason}
 use Rattle.cborn_model.proofs.SameItems.Rearranging.{IsIn, at_member}
 use Rattle.cborn_edn.specs.Starts.{starts_of_chunks, unless_bytes, spots, spots_all, spots_entries, IsRising}
-use Rattle.cborn_judge.specs.Flaws.{Within, WithinAll, WithinEntries, IsRepeated, HasRepeat, HasBadChunk, FlawAt, Flaw}
-use Rattle.cborn_judge.specs.declared.faults.InvalidReason.{InvalidReason}
 use Rattle.cborn_judge.proofs.FirstFlaw.Sequences.{AreApart}
 
 in_left : (p : ℕ) (xs ys : List ℕ) → IsIn p xs → IsIn p (xs ++ ys)

@@ -1,19 +1,8 @@
 -- What is answered where an input is written in another form.
-use Rattle.std.proofs.Common.{◌≡◌, ℕ, List, sym, ap, ◌∙◌, subst}
-use Rattle.cborn_model.specs.Tree.{Trees, trees}
-use Rattle.cborn_model.specs.Spelled.{Wellformed, spelled_all}
-use Rattle.cborn_model.specs.Placed.{PlacedAll}
+use Rattle.cborn_engine.proofs.Common.{◌≡◌, ℕ, List, sym, ap, ◌∙◌, subst, Trees, trees, Wellformed, spelled_all, PlacedAll, IsShownText, EngineFault, Kind, IsFixedText, IsNoFlaw, IsRefusedHeld, IsUnshownHeld, IsRefusedWhole, IsUnshownWhole, IsShown}
 use Rattle.cborn_wire.proofs.Spelled.TreeLists.{tree_list, trees-tree_list}
-use Rattle.cborn_edn.specs.ShownBytes.{IsShownText}
-use Rattle.cborn_engine.specs.declared.faults.EngineFault.{EngineFault}
 use Rattle.cborn_engine.specs.declared.faults.EngineFault.TheVariants as fault
-use Rattle.cborn_engine.specs.declared.kinds.Kind.{Kind}
 use Rattle.cborn_engine.specs.declared.kinds.Kind.TheVariants as kind
-use Rattle.cborn_engine.specs.devices.Encoding.{IsFixedText}
-use Rattle.cborn_engine.specs.Loading.{IsNoFlaw}
-use Rattle.cborn_engine.specs.devices.Malformed.{IsRefusedHeld, IsUnshownHeld}
-use Rattle.cborn_engine.specs.Whole.{IsRefusedWhole, IsUnshownWhole}
-use Rattle.cborn_engine.specs.Showing.{IsShown}
 
 -- a refusal is answered as it is
 pub refused : (k out : Kind) (limit : ℕ) (input : List ℕ) (why : EngineFault) → IsRefusedHeld k limit input why × IsNoFlaw why → IsUnshownHeld k out limit input why

@@ -1,6 +1,5 @@
 -- Nothing was written, or read.
-use Rattle.std.proofs.Common.{ℕ, List, [], append-nil, refl, sym, Option, Some, None}
-use Rattle.std.specs.Io.KnownBytes.{Appends, Consumes}
+use Rattle.cborn_engine.proofs.Common.{ℕ, List, [], append-nil, refl, sym, Option, Some, None, Appends, Consumes}
 
 pub nothing_written : (s : Option (List ℕ)) → Appends s s []
 nothing_written None = tt

@@ -1,17 +1,9 @@
 -- Why a text that is held whole is refused.
-use Rattle.std.proofs.Common.{◌≡◌, ℕ, List, subst}
-use Rattle.std.specs.Prelude.{IsUtf8}
-use Rattle.cborn_lex.specs.declared.classes.Profile.{Profile}
+use Rattle.cborn_engine.proofs.Common.{◌≡◌, ℕ, List, subst, IsUtf8, Profile, EdnFault, IsNoNotation, of_edn, IsNoFlaw, IsRefusedHeld, kind_of}
 use Rattle.cborn_lex.specs.declared.classes.Profile.TheVariants as profile
 use Rattle.cborn_lex.specs.declared.faults.LexFault.TheVariants as lex
-use Rattle.cborn_edn.specs.declared.faults.EdnFault.{EdnFault}
 use Rattle.cborn_edn.specs.declared.faults.EdnFault.TheVariants as edn
-use Rattle.cborn_edn.specs.Faults.{IsNoNotation}
-use Rattle.cborn_engine.specs.Faults.{of_edn}
-use Rattle.cborn_engine.specs.Loading.{IsNoFlaw}
-use Rattle.cborn_engine.specs.devices.Malformed.{IsRefusedHeld}
 use Rattle.cborn_engine.proofs.Answers.Malformed.{no_fault}
-use Rattle.cborn_engine.specs.devices.Encoding.{kind_of}
 
 -- it has no tokens, no tree or no meaning
 pub untold : (p : Profile) (limit : ℕ) (input text : List ℕ) (why : EdnFault) → text ≡ input → IsUtf8 input → IsNoNotation p limit text why → IsRefusedHeld (kind_of p) limit input (of_edn why) × IsNoFlaw (of_edn why)

@@ -1,29 +1,8 @@
 -- What is answered for an input that was read to its end, and of bytes that are held whole.
-use Rattle.std.proofs.Common.{◌≡◌, ◌≤◌, ◌⊎◌, inl, inr, refl, ℕ, List, length, sym, ◌∙◌, subst, Option, None, Some, Result, Ok, Err, Vec, Global, Ordering, arith}
-use Rattle.std.specs.Prelude.{IfOk, IfErr}
-use Rattle.cborn_model.specs.Tree.{Tree, trees}
-use Rattle.cborn_model.specs.Orders.{IsKeyOrder}
-use Rattle.cborn_judge.specs.Defects.{SequenceDefect}
-use Rattle.cborn_judge.specs.Departures.{FindsDefect}
-use Rattle.cborn_judge.specs.declared.defects.Defect.{Defect}
-use Rattle.cborn_engine.specs.declared.faults.EngineFault.{EngineFault}
+use Rattle.cborn_engine.proofs.Common.{◌≡◌, ◌≤◌, ◌⊎◌, inl, inr, refl, ℕ, List, length, sym, ◌∙◌, subst, Option, None, Some, Result, Ok, Err, Vec, Global, Ordering, arith, IfOk, IfErr, Tree, trees, IsKeyOrder, SequenceDefect, FindsDefect, Defect, EngineFault, Kind, Holds, SpellsInPlace, IsNoFlaw, LoadAnswers, IsRefused, InputFault, Collects, CollectAnswers, of_input, IsRead, Reads, IsRefusedWhole, read_failures, IsRefusedHeld, IsEncoded, AreJudged, CheckAnswers, Verdict, most_bytes}
 use Rattle.cborn_engine.specs.declared.faults.EngineFault.TheVariants as fault
-use Rattle.cborn_engine.specs.declared.kinds.Kind.{Kind}
 use Rattle.cborn_engine.specs.declared.kinds.Kind.TheVariants as kind
-use Rattle.cborn_engine.specs.Holding.{Holds, SpellsInPlace}
-use Rattle.cborn_engine.specs.Loading.{IsNoFlaw, LoadAnswers}
-use Rattle.cborn_engine.specs.Refusing.{IsRefused}
-use Rattle.cborn_engine.specs.declared.stream_faults.InputFault.{InputFault}
 use Rattle.cborn_engine.specs.declared.stream_faults.InputFault.TheVariants as input
-use Rattle.cborn_engine.specs.Collecting.{Collects, CollectAnswers}
-use Rattle.cborn_engine.specs.Faults.{of_input}
-use Rattle.cborn_engine.specs.Streams.{IsRead, Reads}
-use Rattle.cborn_engine.specs.Whole.{IsRefusedWhole}
-use Rattle.cborn_engine.specs.devices.Counting.{read_failures}
-use Rattle.cborn_engine.specs.devices.Malformed.{IsRefusedHeld}
-use Rattle.cborn_engine.specs.devices.Encoding.{IsEncoded, AreJudged}
-use Rattle.cborn_engine.specs.Checking.{CheckAnswers, Verdict}
-use Rattle.cborn_engine.specs.Reading.{most_bytes}
 use Rattle.cborn_engine.proofs.Answers.Checked.{with_defect, without_defect}
 
 -- ---- what was read

@@ -1,20 +1,8 @@
 -- What is encoded of what an input holds is canonical.
-use Rattle.std.proofs.Common.{◌≡◌, ◌≤◌, ◌↔◌, ℕ, List, length, refl, sym, ◌∙◌, subst, Ordering}
-use Rattle.std.specs.List.{AllZip, AllByRecursion}
-use Rattle.cborn_model.specs.Value.{Value, Same}
-use Rattle.cborn_model.specs.Tree.{Tree, trees, depth_all}
-use Rattle.cborn_model.specs.Spelled.{Wellformed, FitsAll}
-use Rattle.cborn_model.specs.Valid.{IsProper}
-use Rattle.cborn_model.specs.Orders.{IsKeyOrder}
-use Rattle.cborn_det.specs.Det.{DetSeq}
+use Rattle.cborn_engine.proofs.Common.{◌≡◌, ◌≤◌, ◌↔◌, ℕ, List, length, refl, sym, ◌∙◌, subst, Ordering, AllZip, AllByRecursion, Value, Same, Tree, trees, depth_all, Wellformed, FitsAll, IsProper, IsKeyOrder, DetSeq, Kind, Spells, Holds, Canon, IsWrittenAs, IsEncoded, IsCanonical, most_bytes}
 use Rattle.cborn_det.proofs.Canon.{seq_of_one, one_of_seq, seq_exists}
 use Rattle.cborn_lex.specs.declared.classes.Profile.TheVariants as profile
-use Rattle.cborn_engine.specs.declared.kinds.Kind.{Kind}
 use Rattle.cborn_engine.specs.declared.kinds.Kind.TheVariants as kind
-use Rattle.cborn_engine.specs.Holding.{Spells, Holds, Canon}
-use Rattle.cborn_engine.specs.devices.Encoding.{IsWrittenAs, IsEncoded}
-use Rattle.cborn_engine.specs.Canonical.{IsCanonical}
-use Rattle.cborn_engine.specs.Reading.{most_bytes}
 use Rattle.cborn_engine.proofs.Held.Notated.{fits}
 use Rattle.cborn_engine.proofs.Canonical.Proper.{sequence_proper, sequence_shallow}
 use Rattle.cborn_engine.proofs.Held.Meant.{holds_once, all_same, all_turned, AreSound}

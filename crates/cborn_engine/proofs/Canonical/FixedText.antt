@@ -1,21 +1,10 @@
 -- Bytes have one text in the fixed notation, and it reads back as what the bytes hold.
-use Rattle.std.proofs.Common.{◌≡◌, ◌≤◌, ℕ, List, sym, ◌∙◌, subst, arith}
-use Rattle.std.specs.List.{AllZip}
-use Rattle.cborn_model.specs.Tree.{Tree, Trees, trees, depth_all}
-use Rattle.cborn_model.specs.Spelled.{spelled_all, FitsAll}
-use Rattle.cborn_model.specs.Value.{Value, values_of}
-use Rattle.cborn_model.specs.Meaning.{Means, AllMean}
-use Rattle.cborn_lex.specs.declared.classes.Profile.{Profile}
+use Rattle.cborn_engine.proofs.Common.{◌≡◌, ◌≤◌, ℕ, List, sym, ◌∙◌, subst, arith, AllZip, Tree, Trees, trees, depth_all, spelled_all, FitsAll, Value, values_of, Means, AllMean, Profile, Notates, unplaced_all, listed_trees, trees-listed, IsNotation, IsFixedText}
 use Rattle.cborn_lex.specs.declared.classes.Profile.TheVariants as profile
-use Rattle.cborn_edn.specs.Grammar.{Notates}
-use Rattle.cborn_edn.specs.ReadingBack.{unplaced_all}
-use Rattle.cborn_edn.specs.devices.TreesCode.{listed_trees, trees-listed}
 use Rattle.cborn_edn.proofs.Short.Facts.{shown_back, shown_only}
 use Rattle.cborn_edn.proofs.Shown.SameText.{same_text}
 use Rattle.cborn_edn.proofs.RoundTrip.Unplaced.{same_depth, same_meaning}
 use Rattle.cborn_model.proofs.Listed.Meanings.{all_mean, zip_mean}
-use Rattle.cborn_engine.specs.Holding.{IsNotation}
-use Rattle.cborn_engine.specs.devices.Encoding.{IsFixedText}
 use Rattle.cborn_engine.proofs.Held.SameNodes.{same_nodes}
 
 -- bytes have one text

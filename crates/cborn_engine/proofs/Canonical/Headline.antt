@@ -1,16 +1,6 @@
 -- What follows where the outputs are canonical forms.
-use Rattle.std.proofs.Common.{◌≡◌, ◌≤◌, ◌↔◌, inl, inr, ℕ, List, ◌++◌, length, Err, sym, subst, ap, Ordering}
-use Rattle.std.specs.List.{AllZip}
-use Rattle.cborn_model.specs.Orders.{IsKeyOrder}
-use Rattle.cborn_model.specs.Value.{Value, Same}
-use Rattle.cborn_engine.specs.declared.faults.EngineFault.{EngineFault}
+use Rattle.cborn_engine.proofs.Common.{◌≡◌, ◌≤◌, ◌↔◌, inl, inr, ℕ, List, ◌++◌, length, Err, sym, subst, ap, Ordering, AllZip, IsKeyOrder, Value, Same, EngineFault, Kind, Canon, HoldSameItems, IsNoRefusal, IsTrouble, IsFront, IsCanonical, NormaliseAnswers, most_bytes}
 use Rattle.cborn_engine.specs.declared.faults.EngineFault.TheVariants as fault
-use Rattle.cborn_engine.specs.declared.kinds.Kind.{Kind}
-use Rattle.cborn_engine.specs.Holding.{Canon, HoldSameItems}
-use Rattle.cborn_engine.specs.Refusing.{IsNoRefusal, IsTrouble}
-use Rattle.cborn_engine.specs.Writing.{IsFront}
-use Rattle.cborn_engine.specs.Canonical.{IsCanonical, NormaliseAnswers}
-use Rattle.cborn_engine.specs.Reading.{most_bytes}
 use Rattle.cborn_engine.proofs.Canonical.Canonicity.{valid, reads_back, alone, one_for_same, again}
 use Rattle.cborn_engine.proofs.Held.Known.{input_read}
 use Rattle.cborn_engine.proofs.Held.Meant.{holds_once, all_turned}

@@ -1,15 +1,5 @@
 -- What an answer is worth: all that the headline says of it, at once.
-use Rattle.std.proofs.Common.{◌≤◌, ℕ, List, length, sym, subst, Ordering, Option, Result, Ok, Err}
-use Rattle.std.specs.Prelude.{OnOk}
-use Rattle.std.specs.Io.KnownBytes.{Consumes, Appends}
-use Rattle.cborn_model.specs.Orders.{IsKeyOrder}
-use Rattle.cborn_engine.specs.declared.count_faults.CountFault.{CountFault}
-use Rattle.cborn_engine.specs.declared.counts.Count.{Count}
-use Rattle.cborn_engine.specs.declared.kinds.Kind.{Kind}
-use Rattle.cborn_engine.specs.Holding.{Canon}
-use Rattle.cborn_engine.specs.Canonical.{IsCanonical, IsNormalForm}
-use Rattle.cborn_engine.specs.Counts.{NormalisesCount}
-use Rattle.cborn_engine.specs.Reading.{most_bytes}
+use Rattle.cborn_engine.proofs.Common.{◌≤◌, ℕ, List, length, sym, subst, Ordering, Option, Result, Ok, Err, OnOk, Consumes, Appends, IsKeyOrder, CountFault, Count, Kind, Canon, IsCanonical, IsNormalForm, NormalisesCount, most_bytes}
 use Rattle.cborn_engine.proofs.Canonical.Canonicity.{reads_back, alone, one_for_same, own_form, again}
 use Rattle.cborn_engine.proofs.Held.Meant.{all_turned}
 

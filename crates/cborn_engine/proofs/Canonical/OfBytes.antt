@@ -1,26 +1,13 @@
 -- Bytes hold one list of items, and each encoding of them holds the same items.
-use Rattle.std.proofs.Common.{◌≡◌, ◌≤◌, ◌↔◌, ℕ, max, List, [], ◌∷◌, ◌++◌, length, append-nil, refl, sym, ap, ◌∙◌, subst, arith, Ordering}
-use Rattle.std.specs.List.{AllZip}
-use Rattle.cborn_model.specs.Orders.{IsKeyOrder}
-use Rattle.cborn_model.specs.Tree.{Trees, no_item, more, trees, depth_all}
-use Rattle.cborn_model.specs.Spelled.{Wellformed, FitsAll, spelled_all}
-use Rattle.cborn_model.specs.Value.{Value, Values, no_values, value, values_of, Same, SameValues}
-use Rattle.cborn_model.specs.Meaning.{Means, AllMean}
-use Rattle.cborn_det.specs.Det.{DetSeq, DetValues}
+use Rattle.cborn_engine.proofs.Common.{◌≡◌, ◌≤◌, ◌↔◌, ℕ, max, List, [], ◌∷◌, ◌++◌, length, append-nil, refl, sym, ap, ◌∙◌, subst, arith, Ordering, AllZip, IsKeyOrder, Trees, no_item, more, trees, depth_all, Wellformed, FitsAll, spelled_all, Value, Values, no_values, value, values_of, Same, SameValues, Means, AllMean, DetSeq, DetValues, NodesRead, AreEncodedAs, Kind, IsCanonical, Holds, IsEncoded, IsWrittenAs}
 use Rattle.cborn_det.proofs.Canon.{seq_of_one, one_of_seq}
 use Rattle.cborn_det.proofs.Steps.{values_of_seq, seq_of_values}
 use Rattle.cborn_wire.proofs.Spelled.TreeLists.{tree_list, trees-tree_list}
-use Rattle.cborn_wire.specs.Parts.{NodesRead}
 use Rattle.cborn_wire.proofs.Parts.Nodes.{nodes_more, wellformed}
 use Rattle.cborn_model.proofs.Listed.Meanings.{all_mean, zip_mean}
-use Rattle.cborn_engine.specs.devices.Walking.{AreEncodedAs}
 use Rattle.cborn_engine.proofs.Walks.Lists.{both_encoded}
-use Rattle.cborn_engine.specs.declared.kinds.Kind.{Kind}
 use Rattle.cborn_engine.specs.declared.kinds.Kind.TheVariants as kind
 use Rattle.cborn_engine.specs.Bytes.{BytesHold}
-use Rattle.cborn_engine.specs.Canonical.{IsCanonical}
-use Rattle.cborn_engine.specs.Holding.{Holds}
-use Rattle.cborn_engine.specs.devices.Encoding.{IsEncoded, IsWrittenAs}
 use Rattle.cborn_engine.proofs.Canonical.Canonicity.{same_encoded}
 use Rattle.cborn_engine.proofs.Canonical.Proper.{sequence_proper, sequence_shallow}
 use Rattle.cborn_engine.proofs.Held.Meant.{AreSound, holds_once, all_turned}

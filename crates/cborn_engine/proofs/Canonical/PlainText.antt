@@ -1,27 +1,13 @@
 -- Nodes that spell deterministic encodings have no indicator and no chunk in their fixed notation: it is their plain text.
-use Rattle.std.proofs.Common.{◌≡◌, refl, sym, ap, ◌∙◌, subst, ℕ, suc, inl, inr, Bool, true, false, eqb, List, [], ◌∷◌, ◌++◌, length, codes, decimal, Ordering, append-nil}
-use Rattle.std.proofs.lemmas.Bool.{eq-eqb, cond-true}
-use Rattle.std.specs.List.{AllZip, flat_map}
-use Rattle.std.proofs.lemmas.List.Sorted.{length_permutation}
-use Rattle.cborn_model.specs.declared.heads.Major.TheVariants.{Array, Map}
-use Rattle.cborn_model.specs.declared.heads.Size.TheVariants.{Fixed}
-use Rattle.cborn_model.specs.Bytes.{AreBytes, big_endian}
-use Rattle.cborn_model.specs.Heads.{following, WidthFits, Given, head, least, head_bytes}
-use Rattle.cborn_model.specs.Tree.{Tree, Uint, Nint, Bytes, Text, Items, Pairs, Tagged, Simple, Trees, no_item, more, trees, Entries, no_entry, entry, count, count_entries}
-use Rattle.cborn_model.specs.Spelled.{spelled, spelled_all, spelled_entries, Fits, FitsAll, FitsEntries}
-use Rattle.cborn_model.specs.Value.{Value, Values, Couples, integer, bytes, text, array, dict, tagged, simple, no_values, value, no_pairs, pair, value_count, pair_count, listed}
+use Rattle.cborn_engine.proofs.Common.{◌≡◌, refl, sym, ap, ◌∙◌, subst, ℕ, suc, inl, inr, Bool, true, false, eqb, List, [], ◌∷◌, ◌++◌, length, codes, decimal, Ordering, append-nil, eq-eqb, cond-true, AllZip, flat_map, length_permutation, Array, Map, Fixed, AreBytes, big_endian, following, WidthFits, Given, head, least, head_bytes, Tree, Uint, Nint, Bytes, Text, Items, Pairs, Tagged, Simple, Trees, no_item, more, trees, Entries, no_entry, entry, count, count_entries, spelled, spelled_all, spelled_entries, Fits, FitsAll, FitsEntries, Value, Values, Couples, integer, bytes, text, array, dict, tagged, simple, no_values, value, no_pairs, pair, value_count, pair_count, listed, Entry, IsInteger, Det, DetValues, DetPairs, DetSeq, joined, escaped, mark_for, indicator, opened, joined_by, shown, item_texts, pair_texts, shown_lines, IsPlainText, IsFixedText}
 use Rattle.cborn_model.proofs.Bytes.{bytes-left, bytes-right}
 use Rattle.cborn_model.proofs.SameItems.Rearranging.{carried}
 use Rattle.cborn_model.proofs.Listed.Values.{length-listed}
 use Rattle.cborn_wire.proofs.Spelled.AllBytes.{spelled_all_bytes}
-use Rattle.cborn_det.specs.Det.{Entry, IsInteger, Det, DetValues, DetPairs, DetSeq, joined}
 use Rattle.cborn_lex.specs.declared.classes.Mark.TheVariants.{Absent, Wide}
-use Rattle.cborn_edn.specs.Shown.{escaped, mark_for, indicator, opened, joined_by, shown, item_texts, pair_texts, shown_lines}
 use Rattle.cborn_edn.specs.Plain.{plain, plain_items, plain_pairs, plain_lines}
 use Rattle.cborn_edn.proofs.Shown.SameText.{same_text}
 use Rattle.cborn_edn.proofs.Shown.PlainText.{same_plain}
-use Rattle.cborn_engine.specs.Holding.{IsPlainText}
-use Rattle.cborn_engine.specs.devices.Encoding.{IsFixedText}
 use Rattle.cborn_engine.proofs.Held.SameNodes.{same_nodes}
 
 -- Nodes in the shortest heads.

@@ -1,14 +1,5 @@
 -- What nodes mean is valid if it has an encoding, since its heads give the lengths of its parts.
-use Rattle.std.proofs.Common.{◌≤◌, ◌<◌, ◌^◌, ℕ, inl, inr, Bool, true, false, List, [], ◌∷◌, length, refl, sym, subst, arith, Ordering}
-use Rattle.std.specs.List.{AllZip, AllByRecursion}
-use Rattle.cborn_model.specs.Bytes.{big_endian, IsShortest}
-use Rattle.cborn_model.specs.Heads.{WidthFits, least}
-use Rattle.cborn_model.specs.Tree.{Tree, Uint, Nint, Bytes, Text, ByteChunks, TextChunks, Items, Pairs, Tagged, Simple, Trees, no_item, more, Entries, no_entry, entry, trees, depth_all}
-use Rattle.cborn_model.specs.Spelled.{Fits, FitsAll, FitsEntries}
-use Rattle.cborn_model.specs.Value.{Value, Values, Couples, bytes, text, array, dict, tagged, no_values, value, no_pairs, pair, value_count, pair_count}
-use Rattle.cborn_model.specs.Valid.{IsProper, AreProper, HasProperPairs}
-use Rattle.cborn_model.specs.Meaning.{joined_chunks, IsNumber, Means, AllMean, EntriesMean}
-use Rattle.cborn_det.specs.Det.{Entry, IsInteger, Det, DetValues, DetPairs, DetSeq}
+use Rattle.cborn_engine.proofs.Common.{◌≤◌, ◌<◌, ◌^◌, ℕ, inl, inr, Bool, true, false, List, [], ◌∷◌, length, refl, sym, subst, arith, Ordering, AllZip, AllByRecursion, big_endian, IsShortest, WidthFits, least, Tree, Uint, Nint, Bytes, Text, ByteChunks, TextChunks, Items, Pairs, Tagged, Simple, Trees, no_item, more, Entries, no_entry, entry, trees, depth_all, Fits, FitsAll, FitsEntries, Value, Values, Couples, bytes, text, array, dict, tagged, no_values, value, no_pairs, pair, value_count, pair_count, IsProper, AreProper, HasProperPairs, joined_chunks, IsNumber, Means, AllMean, EntriesMean, Entry, IsInteger, Det, DetValues, DetPairs, DetSeq}
 use Rattle.cborn_judge.proofs.Meaning.Meanings.{holds_below, shortest_below, joined_bytes, joined_text, meaning_shallow}
 use Rattle.cborn_engine.proofs.Held.ReadsBack.{AreShallow}
 

@@ -1,27 +1,12 @@
 -- What is known of two deterministic encodings that are walked together.
-use Rattle.std.proofs.Common.{◌≡◌, ◌<◌, ◌+◌, ℕ, zero, suc, ◌⊎◌, inl, inr, List, [], ◌∷◌, ◌++◌, length, take, Option, None, Some, Ordering, sym, ◌∙◌, ap, subst, arith, length-append}
-use Rattle.std.specs.List.{AllZip, AllByRecursion}
-use Rattle.std.proofs.lemmas.List.{append_cancel_right}
+use Rattle.cborn_engine.proofs.Common.{◌≡◌, ◌<◌, ◌+◌, ℕ, zero, suc, ◌⊎◌, inl, inr, List, [], ◌∷◌, ◌++◌, length, take, Option, None, Some, Ordering, sym, ◌∙◌, ap, subst, arith, length-append, AllZip, AllByRecursion, append_cancel_right, NodeRead, Means, IsKeyOrder, spelled, spelled_all, Wellformed, Tree, trees, IsProper, Value, Same, Det, DetSeq, Difference, AreCompared, HoldsOne, IsEncoded, ItemWalked, Holds}
 use Rattle.cborn_judge.proofs.Encoded.Tidying.{det_tidy}
 use Rattle.cborn_model.proofs.Lengths.{some_bytes}
-use Rattle.cborn_wire.specs.Parts.{NodeRead}
-use Rattle.cborn_model.specs.Meaning.{Means}
-use Rattle.cborn_model.specs.Orders.{IsKeyOrder}
-use Rattle.cborn_model.specs.Spelled.{spelled, spelled_all, Wellformed}
-use Rattle.cborn_model.specs.Tree.{Tree, trees}
-use Rattle.cborn_model.specs.Valid.{IsProper}
-use Rattle.cborn_model.specs.Value.{Value, Same}
 use Rattle.cborn_model.proofs.SameItems.Sameness.{same_chained}
-use Rattle.cborn_det.specs.Det.{Det, DetSeq}
 use Rattle.cborn_det.proofs.Reading.{reads}
 use Rattle.cborn_det.proofs.Canon.{same_of_one, one_of_same, seq_of_one, one_of_seq}
 use Rattle.cborn_engine.specs.declared.kinds.Kind.TheVariants as kind
-use Rattle.cborn_engine.specs.Comparing.{Difference, AreCompared}
-use Rattle.cborn_engine.specs.Counts.{HoldsOne}
-use Rattle.cborn_engine.specs.devices.Encoding.{IsEncoded}
-use Rattle.cborn_engine.specs.devices.Walking.{ItemWalked}
 use Rattle.cborn_engine.proofs.Walks.Whole.{nothing}
-use Rattle.cborn_engine.specs.Holding.{Holds}
 use Rattle.cborn_engine.proofs.Held.Meant.{all_turned, holds_once}
 use Rattle.cborn_engine.proofs.Canonical.Proper.{sequence_proper}
 

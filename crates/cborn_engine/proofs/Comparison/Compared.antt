@@ -1,16 +1,7 @@
 -- What is answered where two inputs were encoded.
-use Rattle.std.proofs.Common.{◌≡◌, ◌≤◌, ◌↔◌, ℕ, Bool, true, false, IsTrue, Decides, refl, List, [], ◌∷◌, length, sym, ◌∙◌, subst, Option, Ordering}
-use Rattle.std.specs.List.{AllZip}
-use Rattle.cborn_model.specs.Orders.{IsKeyOrder}
-use Rattle.cborn_model.specs.Value.{Value, Same}
-use Rattle.cborn_engine.specs.declared.kinds.Kind.{Kind}
+use Rattle.cborn_engine.proofs.Common.{◌≡◌, ◌≤◌, ◌↔◌, ℕ, Bool, true, false, Decides, refl, List, [], ◌∷◌, length, sym, ◌∙◌, subst, Option, Ordering, AllZip, IsKeyOrder, Value, Same, Kind, AreCompared, HoldsOne, IsEncoded, IsCanonical, Holds, HoldSameItems, most_bytes}
+use Rattle.std.proofs.Common.{IsTrue}
 use Rattle.cborn_engine.specs.declared.kinds.Kind.TheVariants as kind
-use Rattle.cborn_engine.specs.Comparing.{AreCompared}
-use Rattle.cborn_engine.specs.Counts.{HoldsOne}
-use Rattle.cborn_engine.specs.devices.Encoding.{IsEncoded}
-use Rattle.cborn_engine.specs.Canonical.{IsCanonical}
-use Rattle.cborn_engine.specs.Holding.{Holds, HoldSameItems}
-use Rattle.cborn_engine.specs.Reading.{most_bytes}
 use Rattle.cborn_engine.proofs.Comparison.Apart.{difference_too}
 use Rattle.cborn_engine.proofs.Canonical.Canonicity.{own_bytes}
 use Rattle.cborn_engine.proofs.Canonical.Headline.{alike}

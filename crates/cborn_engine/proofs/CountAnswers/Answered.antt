@@ -1,32 +1,13 @@
 -- What is answered for an input that is held and has to hold a given number of items.
-use Rattle.std.proofs.Common.{◌≡◌, refl, sym, ap, subst, ◌⊎◌, ℕ, ◌≤◌, List, [], ◌∷◌, length, Option, Result, Ok, Err, Global, Ordering, inl, inr, arith}
-use Rattle.std.specs.declared.borrow.CowSlice.{CowSlice}
-use Rattle.std.specs.List.{AllZip}
-use Rattle.cborn_model.specs.Tree.{Tree, trees}
-use Rattle.cborn_model.specs.Value.{Value}
-use Rattle.cborn_model.specs.Meaning.{Means}
-use Rattle.cborn_edn.specs.ReadingBack.{unplaced_all}
-use Rattle.cborn_judge.specs.declared.defects.Defect.{Defect}
+use Rattle.cborn_engine.proofs.Common.{◌≡◌, refl, sym, ap, subst, ◌⊎◌, ℕ, ◌≤◌, List, [], ◌∷◌, length, Option, Result, Ok, Err, Global, Ordering, inl, inr, arith, CowSlice, AllZip, Tree, trees, Value, Means, unplaced_all, Defect, WireReason, Fault, CompareCountFault, Count, EngineFault, CountFault, Kind, Holds, Spells, SpellsInPlace, SpellsOne, SpellsCount, HoldsOne, IsTaken, IsNotOne, CountAnswer, NormalisedWhole, ShownWhole, CheckedWhole, AreRefusedWhole, of_the_first, of_first_counted, of_second_counted, EncodedWhole, most_bytes, IsRefusedWhole, TellsFaultAs}
 use Rattle.cborn_judge.specs.declared.faults.Invalid.TheVariants as invalid
 use Rattle.cborn_wire.specs.declared.faults.WireFault.TheVariants as wire
-use Rattle.cborn_wire.specs.declared.faults.WireReason.{WireReason}
-use Rattle.cborn_wire.specs.Faults.{Fault}
 use Rattle.cborn_wire.proofs.Spelled.FaultLaws.{not_both, one_fault}
-use Rattle.cborn_engine.specs.declared.count_faults.CompareCountFault.{CompareCountFault}
 use Rattle.cborn_engine.specs.declared.count_faults.CompareCountFault.TheVariants as compared
-use Rattle.cborn_engine.specs.declared.counts.Count.{Count}
 use Rattle.cborn_engine.specs.declared.counts.Count.TheVariants as counts
-use Rattle.cborn_engine.specs.declared.faults.EngineFault.{EngineFault}
 use Rattle.cborn_engine.specs.declared.faults.EngineFault.TheVariants as fault
-use Rattle.cborn_engine.specs.declared.count_faults.CountFault.{CountFault}
 use Rattle.cborn_engine.specs.declared.count_faults.CountFault.TheVariants as counted
-use Rattle.cborn_engine.specs.declared.kinds.Kind.{Kind}
 use Rattle.cborn_engine.specs.declared.kinds.Kind.TheVariants as kind
-use Rattle.cborn_engine.specs.Holding.{Holds, Spells, SpellsInPlace}
-use Rattle.cborn_engine.specs.Counts.{SpellsOne, SpellsCount, HoldsOne, IsTaken, IsNotOne, CountAnswer, NormalisedWhole, ShownWhole, CheckedWhole, AreRefusedWhole, of_the_first, of_first_counted, of_second_counted}
-use Rattle.cborn_engine.specs.devices.Counts.{EncodedWhole}
-use Rattle.cborn_engine.specs.Reading.{most_bytes}
-use Rattle.cborn_engine.specs.Whole.{IsRefusedWhole, TellsFaultAs}
 use Rattle.cborn_engine.proofs.Answers.Malformed.{unfaulted}
 use Rattle.cborn_engine.proofs.Held.Meant.{unplaced_once}
 

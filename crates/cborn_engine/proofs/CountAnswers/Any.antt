@@ -1,21 +1,11 @@
 -- Where any number of items will do, the calls that may count answer what those answer that don't.
-use Rattle.std.specs.Prelude.{OnOk, IfErr}
-use Rattle.std.proofs.Common.{◌≡◌, ◌≢◌, refl, subst, inl, inr, ℕ, List, Option, Result, Ok, Err}
-use Rattle.cborn_engine.specs.declared.count_faults.CountFault.{CountFault}
+use Rattle.cborn_engine.proofs.Common.{OnOk, IfErr, ◌≡◌, ◌≢◌, refl, subst, inl, inr, ℕ, List, Option, Result, Ok, Err, CountFault, CompareCountFault, EngineFault, Kind, Compares, CountAnswer, ComparesCount, counted_of, compare_counted_of, CountsFault, most_bytes, IsRead, IsSent, Reads, Writes}
 use Rattle.cborn_engine.specs.declared.count_faults.CountFault.TheVariants as counted
-use Rattle.cborn_engine.specs.declared.count_faults.CompareCountFault.{CompareCountFault}
 use Rattle.cborn_engine.specs.declared.count_faults.CompareCountFault.TheVariants as compared
 use Rattle.cborn_engine.specs.declared.counts.Count.TheVariants as counts
 use Rattle.cborn_engine.specs.declared.faults.CompareFault.{CompareFault}
 use Rattle.cborn_engine.specs.declared.faults.CompareFault.TheVariants as engine
-use Rattle.cborn_engine.specs.declared.faults.EngineFault.{EngineFault}
 use Rattle.cborn_engine.specs.declared.faults.EngineFault.TheVariants as fault
-use Rattle.cborn_engine.specs.declared.kinds.Kind.{Kind}
-use Rattle.cborn_engine.specs.Comparing.{Compares}
-use Rattle.cborn_engine.specs.Counts.{CountAnswer, ComparesCount, counted_of, compare_counted_of}
-use Rattle.cborn_engine.specs.Failures.{CountsFault}
-use Rattle.cborn_engine.specs.Reading.{most_bytes}
-use Rattle.cborn_engine.specs.Streams.{IsRead, IsSent, Reads, Writes}
 
 pub any_counts : {A : Type 0} (why : EngineFault) (s : Result A CountFault) (r : Result A EngineFault) (n m : ℕ) → s ≡ counted_of r → CountsFault (counted.Engine why) s n m → CountsFault why r n m
 any_counts why s (Ok a) n m e h = (λ p. absurd cc, λ p. h.1 (λ q. cc))

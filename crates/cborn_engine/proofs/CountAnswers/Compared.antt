@@ -1,18 +1,8 @@
 -- What is answered where two inputs are read, each of which has to hold a given number of items.
-use Rattle.std.proofs.Common.{◌≡◌, refl, ℕ, ◌≤◌, List, [], Option, Ok, Err, Vec, Global, Ordering, arith}
-use Rattle.cborn_model.specs.Orders.{IsKeyOrder}
+use Rattle.cborn_engine.proofs.Common.{◌≡◌, refl, ℕ, ◌≤◌, List, [], Option, Ok, Err, Vec, Global, Ordering, arith, IsKeyOrder, CountFault, Count, Kind, IsTaken, CountAnswer, CompareCountAnswers, of_first_counted, of_second_counted, ComparesCount, AreReadForCount, AreCompared, IsHeldWhole, EncodeAnswers, ReadsCount, most_bytes, IsRead}
 use Rattle.cborn_engine.specs.declared.faults.EngineFault.TheVariants as fault
-use Rattle.cborn_engine.specs.declared.count_faults.CountFault.{CountFault}
-use Rattle.cborn_engine.specs.declared.counts.Count.{Count}
 use Rattle.cborn_engine.specs.declared.count_faults.CountFault.TheVariants as counted
-use Rattle.cborn_engine.specs.declared.kinds.Kind.{Kind}
 use Rattle.cborn_engine.specs.declared.kinds.Kind.TheVariants as kind
-use Rattle.cborn_engine.specs.Counts.{IsTaken, CountAnswer, CompareCountAnswers, of_first_counted, of_second_counted, ComparesCount, AreReadForCount}
-use Rattle.cborn_engine.specs.Comparing.{AreCompared, IsHeldWhole}
-use Rattle.cborn_engine.specs.devices.Encoding.{EncodeAnswers}
-use Rattle.cborn_engine.specs.devices.Counts.{ReadsCount}
-use Rattle.cborn_engine.specs.Reading.{most_bytes}
-use Rattle.cborn_engine.specs.Streams.{IsRead}
 use Rattle.cborn_engine.proofs.Answers.Unanswered.{nothing_read}
 use Rattle.cborn_engine.proofs.Comparison.Compared.{bytes_compared}
 use Rattle.cborn_engine.proofs.CountAnswers.Answered.{taken}

@@ -1,13 +1,6 @@
 -- A text that spells nodes is refused only where memory was.
-use Rattle.std.proofs.Common.{◌≡◌, ◌≤◌, ℕ, List, length, refl}
-use Rattle.cborn_model.specs.Tree.{Tree}
-use Rattle.cborn_engine.specs.declared.faults.EngineFault.{EngineFault}
+use Rattle.cborn_engine.proofs.Common.{◌≡◌, ◌≤◌, ℕ, List, length, refl, Tree, EngineFault, Kind, Spells, IsNoFlaw, IsNoRefusal, IsRefusedWhole}
 use Rattle.cborn_engine.specs.declared.faults.EngineFault.TheVariants as fault
-use Rattle.cborn_engine.specs.declared.kinds.Kind.{Kind}
-use Rattle.cborn_engine.specs.Holding.{Spells}
-use Rattle.cborn_engine.specs.Loading.{IsNoFlaw}
-use Rattle.cborn_engine.specs.Refusing.{IsNoRefusal}
-use Rattle.cborn_engine.specs.Whole.{IsRefusedWhole}
 use Rattle.cborn_engine.proofs.Answers.Whole.{read_refused}
 use Rattle.cborn_engine.proofs.Held.Known.{nodes_loaded}
 

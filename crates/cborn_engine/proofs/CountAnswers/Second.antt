@@ -1,23 +1,14 @@
 -- Where the second item of an input starts: where the first ends.
-use Rattle.std.proofs.Common.{◌≡◌, ◌≢◌, refl, sym, ap, ◌∙◌, subst, ℕ, ◌+◌, ◌≤◌, List, [], ◌∷◌, ◌++◌, length, drop, arith, length-append}
+use Rattle.cborn_engine.proofs.Common.{◌≡◌, ◌≢◌, refl, sym, ap, ◌∙◌, subst, ℕ, ◌+◌, ◌≤◌, List, [], ◌∷◌, ◌++◌, length, drop, arith, length-append, map, slice_get, is_some, Tree, Uint, Nint, Bytes, Text, ByteChunks, TextChunks, Items, Pairs, Tagged, Simple, Trees, no_item, more, trees, place, depth, Placed, spelled, spelled_all, Fits, Wellformed, all_from, Profile, kind_of, IsNotation, Spells, SpellsInPlace, SpellsOne, SecondStarts}
 use Rattle.std.proofs.lemmas.List.{length-drop}
-use Rattle.std.specs.Prelude.{Some, None, true, false, map, slice_get}
-use Rattle.std.specs.Option.{is_some}
-use Rattle.cborn_model.specs.Tree.{Tree, Uint, Nint, Bytes, Text, ByteChunks, TextChunks, Items, Pairs, Tagged, Simple, Trees, no_item, more, trees, place, depth}
-use Rattle.cborn_model.specs.Placed.{Placed}
-use Rattle.cborn_model.specs.Spelled.{spelled, spelled_all, Fits, Wellformed}
-use Rattle.cborn_wire.specs.Places.{all_from}
+use Rattle.std.specs.Prelude.{Some, None, true, false}
 use Rattle.cborn_wire.specs.Reading.{IsFirstItem}
 use Rattle.cborn_wire.proofs.Spelled.OneReading.{listed_reading}
 use Rattle.cborn_wire.proofs.Spelled.TreeLists.{tree_list}
 use Rattle.cborn_model.proofs.Lengths.{some_bytes}
 use Rattle.cborn_wire.proofs.Parts.Openings.{one_front}
-use Rattle.cborn_lex.specs.declared.classes.Profile.{Profile}
 use Rattle.cborn_lex.specs.declared.classes.Profile.TheVariants as profile
 use Rattle.cborn_engine.specs.declared.kinds.Kind.TheVariants as kind
-use Rattle.cborn_engine.specs.devices.Encoding.{kind_of}
-use Rattle.cborn_engine.specs.Holding.{IsNotation, Spells, SpellsInPlace}
-use Rattle.cborn_engine.specs.Counts.{SpellsOne, SecondStarts}
 
 -- ---- bytes
 

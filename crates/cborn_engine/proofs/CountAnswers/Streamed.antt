@@ -1,33 +1,9 @@
 -- What is answered where an input is read, and the answer of the call over what is held is sent.
-use Rattle.std.proofs.Common.{◌≡◌, ◌≢◌, refl, sym, ap, subst, ◌≤◌, ℕ, List, [], length, Option, None, Some, Result, Ok, Err, Vec, Global, Ordering, inl, inr}
-use Rattle.std.specs.Io.KnownBytes.{Appends}
-use Rattle.std.specs.Cow.{cow_slice_items}
-use Rattle.std.specs.declared.borrow.CowSlice.{CowSlice}
-use Rattle.cborn_judge.specs.declared.defects.Defect.{Defect}
-use Rattle.cborn_engine.specs.declared.stream_faults.InputFault.{InputFault}
+use Rattle.cborn_engine.proofs.Common.{◌≡◌, ◌≢◌, refl, sym, ap, subst, ◌≤◌, ℕ, List, [], length, Option, None, Some, Result, Ok, Err, Vec, Global, Ordering, inl, inr, Appends, cow_slice_items, CowSlice, Defect, InputFault, CountFault, Count, EngineFault, Kind, FormAnswers, CheckAnswers, Collects, CountAnswer, NormalisedWhole, ShownWhole, CheckedWhole, unwrap_or, EncodedWhole, bytes_of, EncodeAnswers, IsEncoded, CountsFault, failures_after_read, of_input, IsNoFlaw, most_bytes, IsRefused, ShowAnswers, IsSent, Writes, IsRefusedWhole, IsUnshownWhole}
 use Rattle.cborn_engine.specs.declared.stream_faults.InputFault.TheVariants as input
-use Rattle.cborn_engine.specs.declared.count_faults.CountFault.{CountFault}
 use Rattle.cborn_engine.specs.declared.count_faults.CountFault.TheVariants as counted
-use Rattle.cborn_engine.specs.declared.counts.Count.{Count}
-use Rattle.cborn_engine.specs.declared.faults.EngineFault.{EngineFault}
 use Rattle.cborn_engine.specs.declared.faults.EngineFault.TheVariants as fault
-use Rattle.cborn_engine.specs.declared.kinds.Kind.{Kind}
 use Rattle.cborn_engine.specs.declared.kinds.Kind.TheVariants as kind
-use Rattle.cborn_engine.specs.Canonical.{FormAnswers}
-use Rattle.cborn_engine.specs.Checking.{CheckAnswers}
-use Rattle.cborn_engine.specs.Collecting.{Collects}
-use Rattle.cborn_engine.specs.Counts.{CountAnswer, NormalisedWhole, ShownWhole, CheckedWhole}
-use Rattle.std.specs.Option.{unwrap_or}
-use Rattle.cborn_engine.specs.devices.Counts.{EncodedWhole, bytes_of}
-use Rattle.cborn_engine.specs.devices.Encoding.{EncodeAnswers, IsEncoded}
-use Rattle.cborn_engine.specs.Failures.{CountsFault, failures_after_read}
-use Rattle.cborn_engine.specs.Faults.{of_input}
-use Rattle.cborn_engine.specs.Loading.{IsNoFlaw}
-use Rattle.cborn_engine.specs.Reading.{most_bytes}
-use Rattle.cborn_engine.specs.Refusing.{IsRefused}
-use Rattle.cborn_engine.specs.Showing.{ShowAnswers}
-use Rattle.cborn_engine.specs.Streams.{IsSent, Writes}
-use Rattle.cborn_engine.specs.Whole.{IsRefusedWhole, IsUnshownWhole}
 use Rattle.cborn_engine.proofs.Answers.Unanswered.{nothing_written}
 use Rattle.cborn_engine.proofs.Answers.Whole.{unread, read_whole, read_refused}
 use Rattle.cborn_engine.proofs.CountAnswers.Answered.{same_engine}

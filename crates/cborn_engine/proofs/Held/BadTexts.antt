@@ -1,22 +1,11 @@
 -- What holds items has a notation: a text that isn't UTF-8 is a flaw.
-use Rattle.std.proofs.Common.{◌≡◌, ℕ, inl, inr, List, [], ◌∷◌, false, refl, sym, ◌∙◌}
-use Rattle.std.specs.Prelude.{IsUtf8}
-use Rattle.std.specs.Str.{is_utf8}
-use Rattle.std.proofs.lemmas.Str.{is_utf8-from_IsUtf8}
-use Rattle.cborn_model.specs.declared.nodes.Chunk.{Chunk}
-use Rattle.cborn_model.specs.Value.{Value, values_of}
-use Rattle.cborn_model.specs.Tree.{trees, Tree, Uint, Nint, Bytes, Text, ByteChunks, TextChunks, Items, Pairs, Tagged, Simple, Trees, no_item, more, Entries, no_entry, entry}
-use Rattle.cborn_judge.specs.Flaws.{Within, WithinAll, WithinEntries, HasBadChunk, FlawAt}
+use Rattle.cborn_engine.proofs.Common.{◌≡◌, ℕ, inl, inr, List, [], ◌∷◌, false, refl, sym, ◌∙◌, IsUtf8, is_utf8, is_utf8-from_IsUtf8, Chunk, Value, values_of, trees, Tree, Uint, Nint, Bytes, Text, ByteChunks, TextChunks, Items, Pairs, Tagged, Simple, Trees, no_item, more, Entries, no_entry, entry, Within, WithinAll, WithinEntries, HasBadChunk, FlawAt, IsBadText, IsBadAmong, IsBadInPairs, IsBadChunk, AreShowable, Wellformed, IsUnshown, Holds}
 use Rattle.cborn_judge.specs.declared.faults.InvalidReason.TheVariants.{NotUtf8}
-use Rattle.cborn_edn.specs.Shown.{IsBadText, IsBadAmong, IsBadInPairs, IsBadChunk, AreShowable}
 use Rattle.cborn_judge.proofs.Meaning.Judging.{sound_all}
 use Rattle.cborn_model.proofs.Listed.Meanings.{all_mean}
-use Rattle.cborn_model.specs.Spelled.{Wellformed}
-use Rattle.cborn_edn.specs.ShownBytes.{IsUnshown}
 use Rattle.cborn_edn.proofs.Shown.SameText.{same_showable}
 use Rattle.cborn_engine.proofs.Held.SameNodes.{same_nodes}
 use Rattle.cborn_engine.specs.declared.kinds.Kind.TheVariants as kind
-use Rattle.cborn_engine.specs.Holding.{Holds}
 
 no_utf8 : (b : List ℕ) → is_utf8 b ≡ false → IsUtf8 b → ⊥
 no_utf8 b e u = let t = is_utf8-from_IsUtf8 b u in cc

@@ -1,30 +1,15 @@
 -- Inputs that are known.
-use Rattle.std.proofs.Common.{◌≡◌, ◌≤◌, ℕ, List, [], ◌∷◌, ◌++◌, length, inl, inr, Option, None, Some, Err, append-nil, sym, ◌∙◌, ap, arith}
-use Rattle.std.specs.Io.KnownBytes.{Consumes, IsAtEnd}
-use Rattle.std.specs.List.{AllZip}
-use Rattle.cborn_model.specs.Tree.{Tree, trees}
-use Rattle.cborn_model.specs.Value.{Value}
-use Rattle.cborn_model.specs.Meaning.{Means}
-use Rattle.cborn_wire.specs.declared.faults.WireFault.{WireFault}
+use Rattle.cborn_engine.proofs.Common.{◌≡◌, ◌≤◌, ℕ, List, [], ◌∷◌, ◌++◌, length, inl, inr, Option, None, Some, Err, append-nil, sym, ◌∙◌, ap, arith, Consumes, IsAtEnd, AllZip, Tree, trees, Value, Means, WireFault, Profile, EdnFault, InvalidReason, IsRefusalOfAll, EngineFault, Kind, IsNotation, Spells, Holds, IsNotationFault, IsRefused, IsNoRefusal, LoadAnswers, IsNoFlaw}
 use Rattle.cborn_wire.specs.declared.faults.WireFault.TheVariants as wire
 use Rattle.cborn_wire.proofs.Spelled.FaultLaws.{larger_limit, not_both}
-use Rattle.cborn_lex.specs.declared.classes.Profile.{Profile}
 use Rattle.cborn_lex.specs.declared.classes.Profile.TheVariants as profile
 use Rattle.cborn_lex.specs.declared.faults.LexFault.TheVariants as lex
-use Rattle.cborn_edn.specs.declared.faults.EdnFault.{EdnFault}
 use Rattle.cborn_edn.specs.declared.faults.EdnFault.TheVariants as edn
 use Rattle.cborn_edn.proofs.Short.Facts.{larger}
-use Rattle.cborn_judge.specs.declared.faults.InvalidReason.{InvalidReason}
 use Rattle.cborn_judge.specs.declared.faults.Invalid.TheVariants as invalid
-use Rattle.cborn_judge.specs.Flaws.{IsRefusalOfAll}
 use Rattle.cborn_judge.proofs.Meaning.Judging.{no_flaw}
-use Rattle.cborn_engine.specs.declared.faults.EngineFault.{EngineFault}
 use Rattle.cborn_engine.specs.declared.faults.EngineFault.TheVariants as fault
-use Rattle.cborn_engine.specs.declared.kinds.Kind.{Kind}
 use Rattle.cborn_engine.specs.declared.kinds.Kind.TheVariants as kind
-use Rattle.cborn_engine.specs.Holding.{IsNotation, Spells, Holds}
-use Rattle.cborn_engine.specs.Refusing.{IsNotationFault, IsRefused, IsNoRefusal}
-use Rattle.cborn_engine.specs.Loading.{LoadAnswers, IsNoFlaw}
 use Rattle.cborn_engine.proofs.Held.Meant.{in_place, means_too}
 use Rattle.cborn_engine.proofs.Held.Notated.{no_stop, no_syntax_error, no_error}
 

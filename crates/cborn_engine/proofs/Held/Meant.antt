@@ -1,23 +1,13 @@
 -- An input holds one list of items, and these are valid and no deeper than the limit.
-use Rattle.std.proofs.Common.{◌≡◌, ◌≤◌, ◌<◌, ◌^◌, ℕ, List, [], ◌∷◌, length, sym, ap, ◌∙◌, subst, arith}
-use Rattle.std.specs.List.{AllZip, AllByRecursion}
-use Rattle.cborn_model.specs.Tree.{Tree, trees, depth_all}
-use Rattle.cborn_model.specs.Spelled.{spelled_all, spelled, FitsAll}
-use Rattle.cborn_model.specs.Value.{Value, values_of, Same}
-use Rattle.cborn_model.specs.Valid.{IsProper}
-use Rattle.cborn_model.specs.Meaning.{Means}
+use Rattle.cborn_engine.proofs.Common.{◌≡◌, ◌≤◌, ◌<◌, ◌^◌, ℕ, List, [], ◌∷◌, length, sym, ap, ◌∙◌, subst, arith, AllZip, AllByRecursion, Tree, trees, depth_all, spelled_all, spelled, FitsAll, Value, values_of, Same, IsProper, Means, Profile, unplaced_all, Kind, Spells, SpellsInPlace, Holds, IsNotation}
 use Rattle.cborn_model.proofs.Listed.Trees.{trees-injective}
 use Rattle.cborn_model.proofs.SameItems.Sameness.{same_itself, same_turned}
-use Rattle.cborn_lex.specs.declared.classes.Profile.{Profile}
 use Rattle.cborn_lex.specs.declared.classes.Profile.TheVariants as profile
-use Rattle.cborn_edn.specs.ReadingBack.{unplaced_all}
 use Rattle.cborn_edn.proofs.Short.Facts.{one_notation}
 use Rattle.cborn_edn.proofs.RoundTrip.Unplaced.{same_meaning}
 use Rattle.cborn_model.proofs.Listed.Meanings.{all_mean, zip_mean}
 use Rattle.cborn_judge.proofs.Meaning.Meanings.{means_once, meaning_valid, meaning_shallow, left, right}
-use Rattle.cborn_engine.specs.declared.kinds.Kind.{Kind}
 use Rattle.cborn_engine.specs.declared.kinds.Kind.TheVariants as kind
-use Rattle.cborn_engine.specs.Holding.{Spells, SpellsInPlace, Holds, IsNotation}
 use Rattle.cborn_engine.proofs.Held.ReadsBack.{AreShallow}
 use Rattle.cborn_engine.proofs.Held.SameNodes.{same_nodes}
 

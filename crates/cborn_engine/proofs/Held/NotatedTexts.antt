@@ -1,29 +1,18 @@
 -- The text strings of what is notated are UTF-8, so its bytes have a notation.
-use Rattle.std.proofs.Common.{◌≡◌, ◌≤◌, ℕ, List, [], ◌∷◌, ◌++◌, Bool, true, false, ◌&&◌, length, refl, arith, if◌then◌else◌}
+use Rattle.cborn_engine.proofs.Common.{◌≡◌, ◌≤◌, ℕ, List, [], ◌∷◌, ◌++◌, Bool, true, false, ◌&&◌, length, refl, arith, if◌then◌else◌, IsUtf8, is_utf8, Width, Chunk, Tree, Trees, Entries, trees, Profile, EdnReason, IsItem, IsPiece, ArePieces, AreChunks, AreItems, IsContent, ArePairs, IsFields, IsText, number, word, tag, chunked, text_piece, byte_piece, embedded, piece, also, first, next, last, before, empty, tight, loose, last_pair, pair_before, no_fields, tight_fields, loose_fields, nothing, items, IsSpelling, IsUnshown, IsWellformed, most_bytes}
 use Rattle.cborn_engine.proofs.Answers.Listed.{nodes_of, notated_of, spells_of}
-use Rattle.std.specs.Prelude.{IsUtf8}
-use Rattle.std.specs.Str.{is_utf8}
-use Rattle.cborn_model.specs.declared.heads.Width.{Width}
-use Rattle.cborn_model.specs.declared.nodes.Chunk.{Chunk}
-use Rattle.cborn_model.specs.Tree.{Tree, Trees, Entries, trees}
 use Rattle.cborn_lex.specs.declared.classes.Mark.{Mark}
 use Rattle.cborn_lex.specs.declared.classes.Token.{Token}
-use Rattle.cborn_lex.specs.declared.classes.Profile.{Profile}
 use Rattle.cborn_lex.proofs.WholeTexts.Weights.{utf8_bytes}
 use Rattle.cborn_model.specs.declared.visitors.StringKind.{StringKind}
 use Rattle.cborn_model.specs.declared.visitors.StringKind.TheVariants.{OfBytes, OfText}
-use Rattle.cborn_edn.specs.declared.faults.EdnReason.{EdnReason}
 use Rattle.cborn_edn.specs.declared.faults.EdnReason.TheVariants.{MixedChunks, TextNotUtf8}
 use Rattle.cborn_edn.specs.Says.{unless, mark_errors, string_errors, is_good, same_kind, is_endless, is_small, is_below, argument_of, integer, bignum, width, is_nil, number_node, string_node, chunked_node, said_string, chunk, Str}
-use Rattle.cborn_edn.specs.Grammar.{IsItem, IsPiece, ArePieces, AreChunks, AreItems, IsContent, ArePairs, IsFields, IsText, number, word, simple, tag, array, map, string, chunked, text_piece, byte_piece, embedded, piece, also, first, next, last, before, empty, tight, loose, last_pair, pair_before, no_fields, tight_fields, loose_fields, nothing, items}
+use Rattle.cborn_edn.specs.Grammar.{simple, array, map, string}
 use Rattle.cborn_edn.specs.shared.Texts.{AreTexts, IsShowable, EachShowable, ArePairsShowable}
 use Rattle.cborn_edn.proofs.Shown.Lowests.{are_showable}
 use Rattle.cborn_edn.proofs.Short.Facts.{notated_fits}
-use Rattle.cborn_edn.specs.Spelling.{IsSpelling}
-use Rattle.cborn_edn.specs.ShownBytes.{IsUnshown}
-use Rattle.cborn_wire.specs.Faults.{IsWellformed}
 use Rattle.cborn_engine.proofs.Held.BadTexts.{good_shows}
-use Rattle.cborn_engine.specs.Reading.{most_bytes}
 
 -- of two lists that are empty together, each is
 nothing_in : {A : Type 0} (a b : List A) → a ++ b ≡ [] → (a ≡ []) × (b ≡ [])

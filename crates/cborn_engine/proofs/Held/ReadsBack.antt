@@ -1,25 +1,9 @@
 -- What is written deterministically reads back as the same items, no deeper than they are.
-use Rattle.std.proofs.Common.{◌≡◌, ◌≤◌, ◌<◌, ℕ, suc, ◌+◌, ◌^◌, inl, inr, Bool, true, false, ltb, List, [], ◌∷◌, ◌++◌, length, refl, sym, ap, ◌∙◌, subst, arith, Ordering, append-nil}
+use Rattle.cborn_engine.proofs.Common.{◌≡◌, ◌≤◌, ◌<◌, ℕ, suc, ◌+◌, ◌^◌, inl, inr, Bool, true, false, ltb, List, [], ◌∷◌, ◌++◌, length, refl, sym, ap, ◌∙◌, subst, arith, Ordering, append-nil, AllZip, AllByRecursion, le-ltb, IsTrue, length_permutation, Fixed, big_endian, Array, Map, Tag, WidthFits, Given, head, least, IsLeastHead, is_simple_value, Tree, Uint, Nint, Bytes, Text, Items, Pairs, Tagged, Simple, Trees, no_item, more, trees, Entries, no_entry, entry, count, count_entries, depth, depth_all, depth_entries, spelled, spelled_all, spelled_entries, Fits, FitsAll, FitsEntries, Placed, PlacedAll, PlacedEntries, Value, Values, Couples, integer, bytes, text, array, dict, tagged, simple, no_values, value, no_pairs, pair, value_count, pair_count, listed, Same, SameValues, SamePairs, IsProper, AreProper, HasProperPairs, HasNewKeys, IsNew, value_depth, values_depth, pairs_depth, Means, AllMean, EntriesMean, IsKeyOrder, Rising, Entry, IsInteger, Det, DetValues, DetPairs, DetSeq, joined, keys}
 use Rattle.std.specs.declared.cmp.Ordering.TheVariants.{Less}
-use Rattle.std.specs.List.{AllZip, AllByRecursion}
-use Rattle.std.proofs.lemmas.Bool.{le-ltb}
-use Rattle.std.specs.Prelude.{IsTrue}
-use Rattle.std.proofs.lemmas.List.Sorted.{length_permutation}
-use Rattle.cborn_model.specs.declared.heads.Size.TheVariants.{Fixed}
-use Rattle.cborn_model.specs.Bytes.{big_endian}
-use Rattle.cborn_model.specs.declared.heads.Major.TheVariants.{Array, Map, Tag}
-use Rattle.cborn_model.specs.Heads.{WidthFits, Given, head, least, IsLeastHead, is_simple_value}
-use Rattle.cborn_model.specs.Tree.{Tree, Uint, Nint, Bytes, Text, Items, Pairs, Tagged, Simple, Trees, no_item, more, trees, Entries, no_entry, entry, count, count_entries, depth, depth_all, depth_entries}
-use Rattle.cborn_model.specs.Spelled.{spelled, spelled_all, spelled_entries, Fits, FitsAll, FitsEntries}
-use Rattle.cborn_model.specs.Placed.{Placed, PlacedAll, PlacedEntries}
-use Rattle.cborn_model.specs.Value.{Value, Values, Couples, integer, bytes, text, array, dict, tagged, simple, no_values, value, no_pairs, pair, value_count, pair_count, listed, Same, SameValues, SamePairs}
-use Rattle.cborn_model.specs.Valid.{IsProper, AreProper, HasProperPairs, HasNewKeys, IsNew, value_depth, values_depth, pairs_depth}
-use Rattle.cborn_model.specs.Meaning.{Means, AllMean, EntriesMean}
-use Rattle.cborn_model.specs.Orders.{IsKeyOrder, Rising}
 use Rattle.cborn_model.proofs.SameItems.Rearranging.{carried, weaker}
 use Rattle.cborn_model.proofs.SameItems.Sameness.{same_turned, same_chained}
 use Rattle.cborn_model.proofs.Listed.Values.{length-listed}
-use Rattle.cborn_det.specs.Det.{Entry, IsInteger, Det, DetValues, DetPairs, DetSeq, joined, keys}
 use Rattle.cborn_det.proofs.Canon.{one_of_same}
 use Rattle.cborn_lex.proofs.WholeTexts.Weights.{utf8_bytes}
 

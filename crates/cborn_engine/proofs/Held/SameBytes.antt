@@ -1,15 +1,5 @@
 -- What is shown of an input spells the bytes that the input spells.
-use Rattle.std.proofs.Common.{◌≤◌, ℕ, List, length, refl, Option, Result, Ok, Err}
-use Rattle.std.specs.Prelude.{OnOk}
-use Rattle.std.specs.Io.KnownBytes.{Consumes, Appends}
-use Rattle.cborn_model.specs.Tree.{trees}
-use Rattle.cborn_model.specs.Spelled.{Wellformed, spelled_all}
-use Rattle.cborn_engine.specs.declared.count_faults.CountFault.{CountFault}
-use Rattle.cborn_engine.specs.declared.counts.Count.{Count}
-use Rattle.cborn_engine.specs.declared.kinds.Kind.{Kind}
-use Rattle.cborn_engine.specs.Showing.{IsShown, SpellSameBytes}
-use Rattle.cborn_engine.specs.Counts.{ShowsCount}
-use Rattle.cborn_engine.specs.Reading.{most_bytes}
+use Rattle.cborn_engine.proofs.Common.{◌≤◌, ℕ, List, length, refl, Option, Result, Ok, Err, OnOk, Consumes, Appends, trees, Wellformed, spelled_all, CountFault, Count, Kind, IsShown, SpellSameBytes, ShowsCount, most_bytes}
 use Rattle.cborn_engine.proofs.Canonical.Canonicity.{spelled_fits}
 use Rattle.cborn_engine.proofs.Held.ShownBack.{shown_as_bytes}
 

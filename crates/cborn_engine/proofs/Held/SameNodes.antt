@@ -1,14 +1,6 @@
 -- Nodes that spell the same bytes are the same but for their places.
-use Rattle.std.proofs.Common.{◌≡◌, refl, sym, ap, ◌∙◌, ℕ, suc, ◌+◌, List, [], ◌∷◌, length}
-use Rattle.cborn_model.specs.declared.nodes.Chunk.{Chunk}
-use Rattle.cborn_model.specs.declared.heads.Major.{Major}
-use Rattle.cborn_model.specs.declared.heads.Major.TheVariants.{ByteString, TextString, Array, Map, Tag}
-use Rattle.cborn_model.specs.Heads.{Given, head, argument}
-use Rattle.cborn_model.specs.Tree.{Tree, Uint, Nint, Bytes, Text, ByteChunks, TextChunks, Items, Pairs, Tagged, Simple, Trees, no_item, more, Entries, no_entry, entry, count, count_entries}
-use Rattle.cborn_model.specs.Spelled.{chunk_bytes, spelled, spelled_all, FitsAll}
-use Rattle.cborn_wire.specs.Places.{chunks_from, placed_from, all_from, entries_from}
+use Rattle.cborn_engine.proofs.Common.{◌≡◌, refl, sym, ap, ◌∙◌, ℕ, suc, ◌+◌, List, [], ◌∷◌, length, Chunk, Major, ByteString, TextString, Array, Map, Tag, Given, head, argument, Tree, Uint, Nint, Bytes, Text, ByteChunks, TextChunks, Items, Pairs, Tagged, Simple, Trees, no_item, more, Entries, no_entry, entry, count, count_entries, chunk_bytes, spelled, spelled_all, FitsAll, chunks_from, placed_from, all_from, entries_from, unplaced_chunks, unplaced, unplaced_all, unplaced_entries}
 use Rattle.cborn_wire.proofs.Spelled.OneReading.{one_spelling}
-use Rattle.cborn_edn.specs.ReadingBack.{unplaced_chunks, unplaced, unplaced_all, unplaced_entries}
 
 -- Nodes that are placed anew are what they were, places aside.
 

@@ -1,20 +1,10 @@
 -- What is shown of an input is one text, and is itself shown as the bytes that it was shown of.
-use Rattle.std.proofs.Common.{◌≡◌, ℕ, List, sym, ap, ◌∙◌, subst}
-use Rattle.cborn_model.specs.Tree.{Tree, trees}
-use Rattle.cborn_model.specs.Spelled.{spelled_all}
-use Rattle.cborn_lex.specs.declared.classes.Profile.{Profile}
+use Rattle.cborn_engine.proofs.Common.{◌≡◌, ℕ, List, sym, ap, ◌∙◌, subst, Tree, trees, spelled_all, Profile, Notates, Shown, unplaced_all, listed_trees, trees-listed, Kind, IsNotation, Spells, IsShown, IsSpelledAs}
 use Rattle.cborn_lex.specs.declared.classes.Profile.TheVariants as profile
-use Rattle.cborn_edn.specs.Grammar.{Notates}
-use Rattle.cborn_edn.specs.Shown.{Shown}
-use Rattle.cborn_edn.specs.ReadingBack.{unplaced_all}
-use Rattle.cborn_edn.specs.devices.TreesCode.{listed_trees, trees-listed}
 use Rattle.cborn_edn.proofs.Short.Facts.{shown_back}
 use Rattle.cborn_edn.proofs.RoundTrip.Unplaced.{same_bytes}
 use Rattle.cborn_edn.proofs.Shown.SameText.{same_text}
-use Rattle.cborn_engine.specs.declared.kinds.Kind.{Kind}
 use Rattle.cborn_engine.specs.declared.kinds.Kind.TheVariants as kind
-use Rattle.cborn_engine.specs.Holding.{IsNotation, Spells}
-use Rattle.cborn_engine.specs.Showing.{IsShown, IsSpelledAs}
 use Rattle.cborn_engine.proofs.Held.Meant.{unplaced_once}
 
 -- a text that was shown of bytes notates nodes that spell them

@@ -1,12 +1,6 @@
 -- A loop that collects pieces, each after those before it.
-use Rattle.std.proofs.Common.{◌≡◌, ◌≤◌, ◌+◌, ◌-◌, ℕ, List, ◌++◌, length, take, drop, Option, Ok, Err, sym, subst, arith, length-append}
-use Rattle.std.specs.Io.KnownBytes.{Consumes}
-use Rattle.std.proofs.KnownBytes.{Consumes-trans, Consumes-kept}
-use Rattle.std.proofs.lemmas.List.{length-take-le}
-use Rattle.std.proofs.Math.Seq.{take-add}
-use Rattle.cborn_engine.specs.declared.stream_faults.InputFault.{InputFault}
+use Rattle.cborn_engine.proofs.Common.{◌≡◌, ◌≤◌, ◌+◌, ◌-◌, ℕ, List, ◌++◌, length, take, drop, Option, Ok, Err, sym, subst, arith, length-append, Consumes, Consumes-trans, Consumes-kept, length-take-le, take-add, InputFault, PieceAnswers, Collects}
 use Rattle.cborn_engine.specs.declared.stream_faults.InputFault.TheVariants as fault
-use Rattle.cborn_engine.specs.Collecting.{PieceAnswers, Collects}
 
 -- the first bytes of a buffer are what was read
 pub record Filled (most filled : ℕ) (before after : Option (List ℕ)) (x : List ℕ) : Type 0 where

@@ -1,9 +1,6 @@
 -- What follows from an answer for a count of failures.
-use Rattle.std.proofs.Common.{◌≡◌, ℕ, Result, Ok, Err, refl}
-use Rattle.cborn_engine.specs.declared.faults.EngineFault.{EngineFault}
+use Rattle.cborn_engine.proofs.Common.{◌≡◌, ℕ, Result, Ok, Err, refl, EngineFault, read_failures, CountsFault}
 use Rattle.cborn_engine.specs.declared.faults.EngineFault.TheVariants as fault
-use Rattle.cborn_engine.specs.devices.Counting.{read_failures}
-use Rattle.cborn_engine.specs.Failures.{CountsFault}
 
 pub read_counted : {A : Type 0} (r : Result A EngineFault) (n m : ℕ) → m ≡ read_failures r n → CountsFault fault.ReadFault r n m
 read_counted (Ok a) n m e = (λ p. absurd cc, λ p. e)

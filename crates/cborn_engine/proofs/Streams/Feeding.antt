@@ -1,25 +1,11 @@
 -- What is known in the loop that feeds the pieces of an input.
-use Rattle.std.proofs.Common.{◌≡◌, ◌≤◌, ◌+◌, ℕ, List, [], ◌++◌, length, take, Bool, true, false, Option, None, Some, Result, Ok, Err, Vec, Global, inl, inr, append-nil, refl, sym, ◌∙◌, ap, subst, arith, length-append}
-use Rattle.std.specs.Prelude.{⊤}
-use Rattle.std.specs.Result.{is_err}
-use Rattle.std.specs.Io.KnownBytes.{Consumes}
-use Rattle.std.proofs.KnownBytes.{Consumes-trans, Consumes-kept}
-use Rattle.std.proofs.lemmas.List.{length-take-le}
-use Rattle.cborn_model.specs.Tree.{Tree, trees}
-use Rattle.cborn_model.specs.Spelled.{Wellformed}
-use Rattle.cborn_model.specs.Placed.{PlacedAll}
-use Rattle.cborn_wire.specs.declared.faults.WireFault.{WireFault}
+use Rattle.cborn_engine.proofs.Common.{◌≡◌, ◌≤◌, ◌+◌, ℕ, List, [], ◌++◌, length, take, Bool, true, false, Option, None, Some, Result, Ok, Err, Vec, Global, inl, inr, append-nil, refl, sym, ◌∙◌, ap, subst, arith, length-append, ⊤, is_err, Consumes, Consumes-trans, Consumes-kept, length-take-le, Tree, trees, Wellformed, PlacedAll, WireFault, Refused, Fault, of_input, of_wire, Loads, InputFault, PieceAnswers}
 use Rattle.cborn_wire.specs.declared.faults.WireFault.TheVariants as wire
-use Rattle.cborn_wire.specs.Faults.{Refused, Fault}
 use Rattle.cborn_wire.specs.declared.faults.WireReason.TheVariants.{Truncated}
 use Rattle.cborn_wire.specs.Feeding.{Feeding, IsFed, Feeds, fresh}
 use Rattle.cborn_wire.proofs.Spelled.FaultLaws.{refused_stays}
 use Rattle.cborn_engine.specs.declared.kinds.Kind.TheVariants as kind
-use Rattle.cborn_engine.specs.Faults.{of_input, of_wire}
-use Rattle.cborn_engine.specs.Loading.{Loads}
-use Rattle.cborn_engine.specs.declared.stream_faults.InputFault.{InputFault}
 use Rattle.cborn_engine.specs.declared.stream_faults.InputFault.TheVariants as input
-use Rattle.cborn_engine.specs.Collecting.{PieceAnswers}
 
 abbrev pub StaysRefused : ℕ → List ℕ → WireFault → Type 0
 StaysRefused limit x (wire.Refused p r) = Refused limit x p r

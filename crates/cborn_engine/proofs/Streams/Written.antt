@@ -1,11 +1,5 @@
 -- What a loop over a writer knows.
-use Rattle.std.proofs.Common.{◌≡◌, ◌≢◌, ℕ, zero, suc, ◌+◌, ◌-◌, ◌<◌, List, length, take, drop, Option, Ok, Err, refl, sym, ◌∙◌, ap, subst, length-drop}
-use Rattle.std.specs.Io.KnownBytes.{Appends}
-use Rattle.std.proofs.KnownBytes.{Appends-trans}
-use Rattle.std.proofs.lemmas.List.{take-append-drop, take_rest}
-use Rattle.std.proofs.Math.Seq.{take-add, drop-cons}
-use Rattle.cborn_engine.specs.Writing.{Sends}
-use Rattle.cborn_engine.specs.Failures.{failures_after_write, one_more}
+use Rattle.cborn_engine.proofs.Common.{◌≡◌, ◌≢◌, ℕ, zero, suc, ◌+◌, ◌-◌, ◌<◌, List, length, take, drop, Option, Ok, Err, refl, sym, ◌∙◌, ap, subst, length-drop, Appends, Appends-trans, take-append-drop, take_rest, take-add, drop-cons, Sends, failures_after_write, one_more}
 use Rattle.cborn_engine.specs.declared.stream_faults.OutputFault.TheVariants.{WriteFault}
 
 -- a write that takes some bytes is no failure

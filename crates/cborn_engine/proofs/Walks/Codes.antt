@@ -1,17 +1,7 @@
 -- What nodes are encoded as.
-use Rattle.std.proofs.Common.{◌≡◌, ◌≢◌, ℕ, ◌⊎◌, ◌<◌, ◌^◌, inl, inr, List, ◌++◌, length, Bool, true, false, refl, sym, ◌∙◌, subst, arith, Ordering}
-use Rattle.cborn_model.specs.Bytes.{big_endian}
-use Rattle.cborn_model.specs.declared.heads.Major.{Major}
-use Rattle.cborn_model.specs.declared.heads.Width.{Width}
-use Rattle.cborn_model.specs.Heads.{code, head_bytes, least, WidthFits, IsLeastHead}
-use Rattle.cborn_model.specs.Meaning.{Means, IsBignum}
-use Rattle.cborn_model.specs.Spelled.{string}
-use Rattle.cborn_model.specs.Tree.{Tree, Uint, Nint, Tagged}
-use Rattle.cborn_model.specs.Value.{integer, tagged}
+use Rattle.cborn_engine.proofs.Common.{◌≡◌, ◌≢◌, ℕ, ◌⊎◌, ◌<◌, ◌^◌, inl, inr, List, ◌++◌, length, Bool, true, false, refl, sym, ◌∙◌, subst, arith, Ordering, big_endian, Major, Width, code, head_bytes, least, WidthFits, IsLeastHead, Means, IsBignum, string, Tree, Uint, Nint, Tagged, integer, tagged, IsInteger, IsString, IsEncodedAs}
 use Rattle.cborn_model.proofs.Numbers.SomeMagnitude.{magnitude_of}
-use Rattle.cborn_det.specs.Det.{IsInteger, IsString}
 use Rattle.cborn_det.proofs.Room.{holds_below}
-use Rattle.cborn_engine.specs.devices.Walking.{IsEncodedAs}
 
 -- ---- heads and strings
 

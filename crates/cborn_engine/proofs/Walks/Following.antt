@@ -1,35 +1,18 @@
 -- Arrays, maps and tags that are their own encodings: what follows the head, and nothing else does.
-use Rattle.std.proofs.Common.{◌≡◌, ◌≢◌, ℕ, zero, suc, ◌-◌, ◌<◌, ◌≤◌, ◌⊎◌, inl, inr, List, [], ◌∷◌, ◌++◌, length, take, drop, Option, None, Some, Bor, Bool, true, false, refl, sym, ap, ◌∙◌, subst, arith, append_assoc, append-nil, length-append, Ordering, Less}
-use Rattle.std.specs.Prelude.{◌↔◌, MatchOption, ⊤}
-use Rattle.std.proofs.lemmas.Bool.{cases_lt}
-use Rattle.std.proofs.lemmas.List.{append_cancel_right}
-use Rattle.cborn_model.specs.declared.heads.Major.{Major}
-use Rattle.cborn_model.specs.declared.heads.Major.TheVariants.{ByteString, Array, Map, Tag}
-use Rattle.cborn_model.specs.declared.heads.Size.TheVariants.{Fixed, Endless}
-use Rattle.cborn_model.specs.Bytes.{AreBytes, IsShortest}
-use Rattle.cborn_model.specs.Heads.{Given, head, WidthFits, least, IsLeastHead}
-use Rattle.cborn_model.specs.Meaning.{IsByteString, Means, AllMean, EntriesMean}
-use Rattle.cborn_model.specs.Orders.{IsKeyOrder, Rising}
-use Rattle.cborn_model.specs.Spelled.{spelled, spelled_all, spelled_entries, string, Fits, FitsAll, FitsEntries}
-use Rattle.cborn_model.specs.Tree.{Tree, Bytes, ByteChunks, Items, Pairs, Tagged, Trees, no_item, more, Entries, no_entry, entry, trees, entries, count, count_entries, depth, depth_all, depth_entries}
-use Rattle.cborn_model.specs.Value.{Value, Values, Couples, no_values, value, no_pairs, pair}
+use Rattle.cborn_engine.proofs.Common.{◌≡◌, ◌≢◌, ℕ, zero, suc, ◌-◌, ◌<◌, ◌≤◌, ◌⊎◌, inl, inr, List, [], ◌∷◌, ◌++◌, length, take, drop, Option, None, Some, Bor, Bool, true, false, refl, sym, ap, ◌∙◌, subst, arith, append_assoc, append-nil, length-append, Ordering, Less, MatchOption, ⊤, cases_lt, append_cancel_right, Major, ByteString, Array, Map, Tag, Fixed, Endless, AreBytes, IsShortest, Given, head, WidthFits, least, IsLeastHead, IsByteString, Means, AllMean, EntriesMean, IsKeyOrder, Rising, spelled, spelled_all, spelled_entries, string, Fits, FitsAll, FitsEntries, Tree, Bytes, ByteChunks, Items, Pairs, Tagged, Trees, no_item, more, Entries, no_entry, entry, trees, entries, count, count_entries, depth, depth_all, depth_entries, Value, Values, Couples, no_values, value, no_pairs, pair, bignum_tag, Entry, joined, keys, IsLoose, Pair, Leaves, StringRead, PairsRead, IsEncodedAs, ArePairsEncodedAs, LeastHeadRead, IsDeterministic, AreDeterministic, IsFallen, ItemWalked, ItemsWalked, WalkedAfter, IsLast, IsLongMagnitude, BignumWalked, ItemsFollow, PairsFollow, ItemsLead, PairsLead, Walks, WalksAfter}
+use Rattle.std.specs.Prelude.{◌↔◌}
 use Rattle.cborn_model.proofs.Listed.Trees.{count-trees, count_entries-entries}
 use Rattle.cborn_model.proofs.Bytes.{bytes-right}
 use Rattle.cborn_model.proofs.Numbers.OneHead.{append_same}
 use Rattle.cborn_model.proofs.Numbers.OneMagnitude.{large}
-use Rattle.cborn_det.specs.Det.{bignum_tag, Entry, joined, keys}
 use Rattle.cborn_det.specs.shared.KeyBefore.{Below}
-use Rattle.cborn_judge.specs.Defects.{IsLoose}
 use Rattle.cborn_judge.proofs.Encoded.Tidy.{spelled_pairs, IsTidy, AllTidy, EntriesTidy}
 use Rattle.cborn_judge.proofs.Encoded.Tidying.{tidy_det, det_tidy}
 use Rattle.cborn_judge.proofs.Meaning.Meanings.{Short, left, right, meaning_valid}
-use Rattle.cborn_wire.specs.Parts.{Pair, Leaves, StringRead, PairsRead}
 use Rattle.cborn_wire.proofs.Parts.Nodes.{node_within, node_last, array_read, tagged_read}
 use Rattle.cborn_wire.proofs.Parts.Pairs.{no_pair, map_read}
 use Rattle.cborn_wire.proofs.Parts.Strings.{string_front, bytes_read}
 use Rattle.cborn_wire.proofs.Parts.Openings.{opened, one_front}
-use Rattle.cborn_engine.specs.devices.Walking.{IsEncodedAs, ArePairsEncodedAs, LeastHeadRead, IsDeterministic, AreDeterministic, IsFallen, ItemWalked, ItemsWalked, WalkedAfter}
-use Rattle.cborn_engine.specs.devices.Following.{IsLast, IsLongMagnitude, BignumWalked, ItemsFollow, PairsFollow, ItemsLead, PairsLead, Walks, WalksAfter}
 use Rattle.cborn_engine.proofs.Walks.Codes.{least_head, least_string, bignum_encoded, tagged_encoded}
 use Rattle.cborn_engine.proofs.Walks.Lists.{array_encoded}
 use Rattle.cborn_engine.proofs.Walks.Maps.{map_encoded}

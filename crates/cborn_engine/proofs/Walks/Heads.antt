@@ -1,21 +1,12 @@
 -- Of a node at the front of bytes its head is read: what is no whole head begins no node.
-use Rattle.std.proofs.Common.{◌≡◌, ℕ, ◌+◌, ◌*◌, ◌%◌, ◌<◌, ◌≤◌, ◌⊎◌, inl, inr, List, [], ◌∷◌, ◌++◌, length, refl, sym, ap, ◌∙◌, subst, arith, append_assoc, append-nil, length-append, false, Some, None, Option}
-use Rattle.std.proofs.lemmas.Bool.{le-ltb}
-use Rattle.cborn_model.specs.declared.heads.Major.{Major}
-use Rattle.cborn_model.specs.declared.heads.Major.TheVariants.{Unsigned, Negative, ByteString, TextString, Array, Map, Tag, Other}
-use Rattle.cborn_model.specs.declared.heads.Width.{Width}
+use Rattle.cborn_engine.proofs.Common.{◌≡◌, ℕ, ◌+◌, ◌*◌, ◌%◌, ◌<◌, ◌≤◌, ◌⊎◌, inl, inr, List, [], ◌∷◌, ◌++◌, length, refl, sym, ap, ◌∙◌, subst, arith, append_assoc, append-nil, length-append, false, Some, None, Option, le-ltb, Major, Unsigned, Negative, ByteString, TextString, Array, Map, Tag, Other, Width, Given, EndlessArgument, head, following, code, least, WidthFits, spelled, Tree, WireReason, major_at, seen_argument, reason_alone, IsHeadOf, ArgumentFits, ReadsHead, HasNoLeastHead}
 use Rattle.cborn_model.specs.declared.heads.Width.TheVariants.{Direct, One, Two, Four, Eight}
-use Rattle.cborn_model.specs.Heads.{Argument, Given, EndlessArgument, head, following, code, least, WidthFits}
-use Rattle.cborn_model.specs.Spelled.{spelled}
-use Rattle.cborn_model.specs.Tree.{Tree}
+use Rattle.cborn_model.specs.Heads.{Argument}
 use Rattle.cborn_model.proofs.Numbers.Majors.{major_at-code}
 use Rattle.cborn_model.proofs.Numbers.Simples.{simple_cases, least_direct, least_one}
-use Rattle.cborn_wire.specs.declared.faults.WireReason.{WireReason}
 use Rattle.cborn_wire.specs.declared.heads.Head.{Head}
 use Rattle.cborn_wire.specs.declared.heads.HeadRead.{HeadRead}
 use Rattle.cborn_wire.specs.declared.heads.HeadRead.TheVariants.{Full, Short, Bad}
-use Rattle.cborn_wire.specs.HeadReading.{major_at, seen_argument, reason_alone, IsHeadOf, ArgumentFits, ReadsHead}
-use Rattle.cborn_engine.specs.devices.Walking.{HasNoLeastHead}
 use Rattle.cborn_wire.specs.Slots.{element_or_end}
 use Rattle.cborn_wire.specs.shared.InitialBytes.{Info, Now, Next, info_at, head_reason}
 use Rattle.cborn_wire.proofs.HeadReading.InitialBytes.{same_alone}

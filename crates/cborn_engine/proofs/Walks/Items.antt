@@ -1,19 +1,11 @@
 -- Items that are their own encodings.
-use Rattle.std.proofs.Common.{◌≡◌, ℕ, ◌+◌, List, [], ◌∷◌, ◌++◌, take, drop, refl, sym, ap, ◌∙◌, subst, append-nil, Ordering}
-use Rattle.std.specs.Prelude.{IsTrue}
-use Rattle.std.proofs.lemmas.List.{take-append-drop}
+use Rattle.cborn_engine.proofs.Common.{◌≡◌, ℕ, ◌+◌, List, [], ◌∷◌, ◌++◌, take, drop, refl, sym, ap, ◌∙◌, subst, append-nil, Ordering, IsTrue, take-append-drop, Unsigned, Negative, ByteString, TextString, Other, Given, head, WidthFits, least, is_simple_value, spelled, spelled_all, Fits, Tree, Uint, Nint, trees, bytes, text, simple, AreEncodedAs, ContentWalked, ItemWalked, ItemsWalked, WalkedAfter}
 use Rattle.std.proofs.lemmas.List.Concat.{flat_map-append}
-use Rattle.cborn_model.specs.declared.heads.Major.TheVariants.{Unsigned, Negative, ByteString, TextString, Other}
-use Rattle.cborn_model.specs.Heads.{Given, head, WidthFits, least, is_simple_value}
-use Rattle.cborn_model.specs.Spelled.{spelled, spelled_all, Fits}
 use Rattle.cborn_model.specs.shared.Runs.{IsInteger, HasShortHead, IsShortLeaf}
-use Rattle.cborn_model.specs.Tree.{Tree, Uint, Nint, trees}
-use Rattle.cborn_model.specs.Value.{bytes, text, simple}
 use Rattle.cborn_model.proofs.Listed.Trees.{spelled_all-trees}
 use Rattle.cborn_wire.specs.declared.heads.Argument.TheVariants as arguments
 use Rattle.cborn_wire.proofs.Parts.Nodes.{uint_read, nint_read, simple_read, no_node, node_more}
 use Rattle.cborn_wire.proofs.Parts.Strings.{bytes_read, text_read}
-use Rattle.cborn_engine.specs.devices.Walking.{AreEncodedAs, ContentWalked, ItemWalked, ItemsWalked, WalkedAfter}
 use Rattle.cborn_engine.proofs.Walks.Codes.{least_string, uint_encoded, nint_encoded}
 use Rattle.cborn_engine.proofs.Walks.Lists.{more_encoded}
 

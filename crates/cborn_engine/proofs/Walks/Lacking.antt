@@ -1,22 +1,8 @@
 -- Where a walk finds no item that is its own encoding, there is none.
-use Rattle.std.proofs.Common.{◌≡◌, ◌≢◌, ℕ, ◌<◌, List, ◌++◌, length, Option, None, Some, refl, sym, ap, ◌∙◌, subst, append_assoc, Ordering}
-use Rattle.std.specs.Prelude.{IsTrue, IfSome}
-use Rattle.cborn_model.specs.declared.heads.Major.{Major}
-use Rattle.cborn_model.specs.declared.heads.Major.TheVariants.{ByteString, TextString, Array, Map, Tag, Other}
-use Rattle.cborn_model.specs.declared.heads.Size.TheVariants.{Fixed, Endless}
-use Rattle.cborn_model.specs.Bytes.{IsShortest}
-use Rattle.cborn_model.specs.Heads.{Given, head, least, is_simple_value}
-use Rattle.cborn_model.specs.Meaning.{Means}
-use Rattle.cborn_model.specs.Spelled.{spelled, Fits}
-use Rattle.cborn_model.specs.Tree.{Tree, Uint, Nint, Bytes, Text, ByteChunks, TextChunks, Items, Pairs, Tagged, Simple, count, count_entries}
-use Rattle.cborn_model.specs.Value.{Value}
+use Rattle.cborn_engine.proofs.Common.{◌≡◌, ◌≢◌, ℕ, ◌<◌, List, ◌++◌, length, Option, None, Some, refl, sym, ap, ◌∙◌, subst, append_assoc, Ordering, IsTrue, IfSome, Major, ByteString, TextString, Array, Map, Tag, Other, Fixed, Endless, IsShortest, Given, head, least, is_simple_value, Means, spelled, Fits, Tree, Uint, Nint, Bytes, Text, ByteChunks, TextChunks, Items, Pairs, Tagged, Simple, count, count_entries, Value, Leaves, ArgumentFits, HasNoLeaf, HasNoLeastHead, LeastHeadRead, NoContent, WalkedAfter, BignumWalked, Walks, WalksAfter}
 use Rattle.cborn_judge.proofs.Encoded.Tidy.{IsTidy}
 use Rattle.cborn_judge.proofs.Meaning.Meanings.{Short}
-use Rattle.cborn_wire.specs.Parts.{Leaves}
-use Rattle.cborn_wire.specs.HeadReading.{ArgumentFits}
 use Rattle.cborn_wire.proofs.Parts.Openings.{opening, contents, opened, opening_fits}
-use Rattle.cborn_engine.specs.devices.Walking.{HasNoLeaf, HasNoLeastHead, LeastHeadRead, NoContent, WalkedAfter}
-use Rattle.cborn_engine.specs.devices.Following.{BignumWalked, Walks, WalksAfter}
 use Rattle.cborn_engine.proofs.Walks.Following.{own_tidy}
 use Rattle.cborn_engine.proofs.Walks.Heads.{number_of, split}
 

@@ -1,16 +1,9 @@
 -- Items one after another, and arrays of them.
-use Rattle.std.proofs.Common.{◌≡◌, ℕ, suc, List, [], ◌∷◌, ◌++◌, length, refl, sym, ap, subst, append-nil, Ordering}
-use Rattle.std.specs.List.{AllZip}
-use Rattle.cborn_model.specs.declared.heads.Size.{Size}
-use Rattle.cborn_model.specs.Heads.{IsLeastHead}
-use Rattle.cborn_model.specs.Meaning.{Means}
-use Rattle.cborn_model.specs.Tree.{Tree, Items, trees}
-use Rattle.cborn_model.specs.Value.{Value, array, values_of}
+use Rattle.cborn_engine.proofs.Common.{◌≡◌, ℕ, suc, List, [], ◌∷◌, ◌++◌, length, refl, sym, ap, subst, append-nil, Ordering, AllZip, Size, IsLeastHead, Means, Tree, Items, trees, Value, array, values_of, IsEncodedAs, AreEncodedAs}
 use Rattle.cborn_model.proofs.Listed.Meanings.{all_mean}
 use Rattle.cborn_model.proofs.Listed.Values.{value_count-values_of}
 use Rattle.cborn_det.proofs.Steps.{seq_append, values_of_seq}
 use Rattle.cborn_judge.proofs.Loops.Passing.{zip_append}
-use Rattle.cborn_engine.specs.devices.Walking.{IsEncodedAs, AreEncodedAs}
 
 zip_count : (ts : List Tree) (vs : List Value) → AllZip Means ts vs → length ts ≡ length vs
 zip_count [] [] h = refl

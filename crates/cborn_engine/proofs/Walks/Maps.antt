@@ -1,22 +1,10 @@
 -- Maps whose keys rise.
-use Rattle.std.proofs.Common.{◌≡◌, ℕ, List, [], ◌∷◌, ◌++◌, length, refl, sym, ap, ◌∙◌, subst, Ordering, Less, Equal}
-use Rattle.std.specs.List.{AllByRecursion}
-use Rattle.std.proofs.lemmas.List.Sorted.{IsPermutation-refl}
-use Rattle.cborn_model.specs.declared.heads.Size.{Size}
-use Rattle.cborn_model.specs.Heads.{IsLeastHead}
-use Rattle.cborn_model.specs.Tree.{Pairs, entries}
-use Rattle.cborn_model.specs.Spelled.{spelled_entries, FitsEntries}
-use Rattle.cborn_model.specs.Value.{Value, Couples, no_pairs, pair, pairs_of, dict}
-use Rattle.cborn_model.specs.Valid.{IsProper, HasProperPairs, IsNew, HasNewKeys}
-use Rattle.cborn_model.specs.Orders.{IsKeyOrder, Rising}
+use Rattle.cborn_engine.proofs.Common.{◌≡◌, ℕ, List, [], ◌∷◌, ◌++◌, length, refl, sym, ap, ◌∙◌, subst, Ordering, Less, Equal, AllByRecursion, IsPermutation-refl, Size, IsLeastHead, Pairs, entries, spelled_entries, FitsEntries, Value, Couples, no_pairs, pair, pairs_of, dict, IsProper, HasProperPairs, IsNew, HasNewKeys, IsKeyOrder, Rising, Pair, Det, DetPairs, Entry, joined, keys, IsEncodedAs, ArePairsEncodedAs}
 use Rattle.cborn_model.proofs.Listed.Trees.{count_entries-entries}
-use Rattle.cborn_wire.specs.Parts.{Pair}
 use Rattle.cborn_judge.proofs.Meaning.Meanings.{Short, entries_valid}
-use Rattle.cborn_det.specs.Det.{Det, DetPairs, Entry, joined, keys}
 use Rattle.cborn_det.proofs.Canon.{one_of_same}
 use Rattle.cborn_det.proofs.Room.{counted_pairs}
 use Rattle.cborn_det.proofs.Rising.{rises_after, rising_tail}
-use Rattle.cborn_engine.specs.devices.Walking.{IsEncodedAs, ArePairsEncodedAs}
 
 module _ (order : List ℕ → List ℕ → Ordering) (laws : IsKeyOrder order) where
   unlike : (x y : List ℕ) → order x y ≡ Less → x ≡ y → ⊥

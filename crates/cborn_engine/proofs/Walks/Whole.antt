@@ -1,20 +1,11 @@
 -- Bytes that are walked over to their end are the deterministic encodings of items, and others aren't.
-use Rattle.std.proofs.Common.{◌≡◌, ℕ, ◌^◌, ◌<◌, List, [], ◌∷◌, ◌++◌, length, refl, sym, ap, ◌∙◌, subst, arith, append_assoc, length-append, Ordering}
-use Rattle.std.specs.List.{AllZip}
-use Rattle.cborn_model.specs.Meaning.{Means}
-use Rattle.cborn_model.specs.Spelled.{spelled, spelled_all, FitsAll, Wellformed}
-use Rattle.cborn_model.specs.Tree.{Tree, trees}
-use Rattle.cborn_model.specs.Valid.{AreProper}
-use Rattle.cborn_model.specs.Value.{Value, values_of}
+use Rattle.cborn_engine.proofs.Common.{◌≡◌, ℕ, ◌^◌, ◌<◌, List, [], ◌∷◌, ◌++◌, length, refl, sym, ap, ◌∙◌, subst, arith, append_assoc, length-append, Ordering, AllZip, Means, spelled, spelled_all, FitsAll, Wellformed, Tree, trees, AreProper, Value, values_of, Det, DetSeq, IsEncoded, ItemWalked, ItemsWalked}
 use Rattle.cborn_model.proofs.Listed.Meanings.{all_mean}
-use Rattle.cborn_det.specs.Det.{Det, DetSeq}
 use Rattle.cborn_judge.proofs.Encoded.Tidying.{det_tidy}
 use Rattle.cborn_judge.proofs.Meaning.Meanings.{all_valid}
 use Rattle.cborn_wire.proofs.Parts.Nodes.{wellformed}
 use Rattle.cborn_wire.proofs.Parts.Openings.{one_front}
 use Rattle.cborn_engine.specs.declared.kinds.Kind.TheVariants as kind
-use Rattle.cborn_engine.specs.devices.Encoding.{IsEncoded}
-use Rattle.cborn_engine.specs.devices.Walking.{ItemWalked, ItemsWalked}
 
 pub nothing : (x : List ℕ) → length x ≡ 0 → x ≡ []
 nothing [] e = refl

@@ -1,14 +1,7 @@
 -- Where two inputs first differ, the same path leads in both.
-use Rattle.std.proofs.Common.{◌≡◌, sym, ap, ◌∙◌, subst, ℕ, zero, suc, ◌+◌, ◌^◌, ◌<◌, ◌≤◌, List, [], ◌∷◌, ◌++◌, length, take, drop, get_or, ◌⊎◌, inl, inr, arith, length-append}
-use Rattle.std.proofs.lemmas.Bool.{cases_lt}
-use Rattle.std.proofs.lemmas.List.{length-take-le, take-append-drop, take_all, take_more}
-use Rattle.std.proofs.Math.Seq.{take-append_seam}
-use Rattle.cborn_wire.specs.declared.levels.Level.{Level}
-use Rattle.cborn_explain.specs.declared.paths.Step.{Step}
-use Rattle.cborn_explain.specs.devices.Walks.{path_of, place_at, IsWalked}
+use Rattle.cborn_explain.proofs.Common.{◌≡◌, sym, ap, ◌∙◌, subst, ℕ, zero, suc, ◌+◌, ◌^◌, ◌<◌, ◌≤◌, List, [], ◌∷◌, ◌++◌, length, take, drop, get_or, ◌⊎◌, inl, inr, arith, length-append, cases_lt, length-take-le, take-append-drop, take_all, take_more, take-append_seam, Level, Step, path_of, place_at, IsWalked, EndsAt, LeadsTo, DifferFirstAt, up_to_key, LeadsToDifference}
 use Rattle.cborn_explain.proofs.Walking.Levels.{some_path, front_ends}
 use Rattle.cborn_explain.proofs.Walking.Whole.{near, walk_leads}
-use Rattle.cborn_explain.specs.Paths.{EndsAt, LeadsTo, DifferFirstAt, up_to_key, LeadsToDifference}
 
 -- shorter fronts of what is the same are the same
 pub nearer : (k n : ℕ) (x y : List ℕ) → k ≤ n → n ≤ length x → n ≤ length y → take n x ≡ take n y → take k x ≡ take k y

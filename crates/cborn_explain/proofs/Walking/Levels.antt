@@ -1,22 +1,11 @@
 -- The path into the levels of a walk is that into what is open, and its fronts lead to where the levels begin.
-use Rattle.std.proofs.Common.{◌≡◌, refl, sym, ap, ◌∙◌, subst, ℕ, zero, suc, ◌+◌, ◌-◌, ◌^◌, ◌<◌, ◌≤◌, List, [], ◌∷◌, ◌++◌, length, take, drop, get_or, cond, Option, Some, None, ◌⊎◌, inl, inr, arith, append_assoc, length-append}
-use Rattle.std.proofs.lemmas.Bool.{cases_lt, lt-ltb, le-ltb}
-use Rattle.std.proofs.lemmas.List.{length-take-le, take-append-drop, take-append-le, take_all, take_at}
-use Rattle.cborn_model.specs.Tree.{Tree, trees}
-use Rattle.cborn_model.specs.Spelled.{spelled_all}
-use Rattle.cborn_model.specs.Partial.{Opening, an_array, a_map, a_tag, in_chunks, Partial, top, inside, paired, last_key}
+use Rattle.cborn_explain.proofs.Common.{◌≡◌, refl, sym, ap, ◌∙◌, subst, ℕ, zero, suc, ◌+◌, ◌-◌, ◌^◌, ◌<◌, ◌≤◌, List, [], ◌∷◌, ◌++◌, length, take, drop, get_or, cond, Option, Some, None, ◌⊎◌, inl, inr, arith, append_assoc, length-append, cases_lt, lt-ltb, le-ltb, length-take-le, take-append-drop, take-append-le, take_all, take_at, Tree, trees, spelled_all, Opening, an_array, a_map, a_tag, in_chunks, Partial, top, inside, paired, last_key, opened, opening, beginning, beginnings, Level, front, ready, open_in, at_most_highest, map_kind, kind_in, levels, step_in_map, step_in, steps, EndsAt, step_of, path_of, place_at, Opened}
 use Rattle.cborn_model.proofs.Lengths.{no_more_nodes}
 use Rattle.cborn_model.proofs.Listed.Trees.{count-trees}
-use Rattle.cborn_wire.specs.Slots.{opened, opening, beginning, beginnings}
-use Rattle.cborn_wire.specs.declared.levels.Level.{Level}
 use Rattle.cborn_wire.specs.shared.Ground.{place_of}
-use Rattle.cborn_wire.specs.shared.Machine.{front}
-use Rattle.cborn_wire.specs.shared.Visiting.{ready, open_in, at_most_highest, map_kind, kind_in, levels}
 use Rattle.cborn_wire.proofs.Machine.Containers.{pair_count}
 use Rattle.cborn_wire.proofs.Machine.SoundItems.{ground_less}
 use Rattle.cborn_explain.specs.declared.paths.Step.TheVariants.{Item, Element, Key, Value, Chunk as AChunk}
-use Rattle.cborn_explain.specs.Paths.{step_in_map, step_in, steps, EndsAt}
-use Rattle.cborn_explain.specs.devices.Walks.{step_of, path_of, place_at, Opened}
 
 -- A list of nodes isn't longer than the bytes that spell it, so its length is exact in bytes that are in memory.
 

@@ -1,18 +1,12 @@
 -- The head that comes next, or is partial, is never before one that came.
-use Rattle.std.proofs.Common.{ℕ, suc, ◌/◌, ◌%◌, ◌≤◌, List, [], ◌∷◌, ◌++◌, length, Bool, true, false, cond, leb, ltb, Option, Some, None, arith}
+use Rattle.cborn_explain.proofs.Common.{ℕ, suc, ◌/◌, ◌%◌, ◌≤◌, List, [], ◌∷◌, ◌++◌, length, Bool, true, false, cond, leb, ltb, Option, Some, None, arith, Opening, an_array, a_map, built, Tree, Trees, WireReason, OpenContainer, opened, slot, slot_in, open_depth, Goal, argument_of, content_of, nothing, gathering, State, Live, Failed, is_full, finished, holding, ended, after_head, gather, begin_head, unless, at_slot, number, step, run, place_in}
 use Rattle.cborn_model.specs.declared.heads.Width.TheVariants.{Direct, One}
 use Rattle.cborn_model.specs.declared.heads.Major.{Major}
 use Rattle.cborn_model.specs.declared.heads.Major.TheVariants.{Unsigned, Negative, ByteString, TextString, Array, Map, Tag, Other}
 use Rattle.cborn_model.specs.Heads.{Argument, Given, EndlessArgument}
-use Rattle.cborn_model.specs.Partial.{Opening, an_array, a_map, built}
-use Rattle.cborn_model.specs.Tree.{Tree, Trees}
-use Rattle.cborn_wire.specs.declared.faults.WireReason.{WireReason}
-use Rattle.cborn_wire.specs.Slots.{OpenContainer, opened, slot, slot_in, open_depth}
 use Rattle.cborn_wire.specs.SlotFaults.{needs_item}
 use Rattle.cborn_wire.specs.HeadReading.{major_at, size_in, count_in}
 use Rattle.cborn_wire.specs.shared.InitialBytes.{Info, Now, Next, Reserved, EndlessInformation, info_at, head_reason}
-use Rattle.cborn_wire.specs.shared.Machine.{Goal, argument_of, content_of, nothing, gathering, State, Live, Failed, is_full, finished, holding, ended, after_head, gather, begin_head, unless, at_slot, number, step, run}
-use Rattle.cborn_explain.specs.devices.Walks.{place_in}
 
 -- the state is at p or after it
 abbrev Rises : ℕ → State → Type 0

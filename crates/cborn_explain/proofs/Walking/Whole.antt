@@ -1,28 +1,15 @@
 -- A walk is where the longest front that ends between two heads ends.
-use Rattle.std.proofs.Common.{◌≡◌, refl, sym, ap, ◌∙◌, subst, ℕ, ◌^◌, ◌<◌, ◌≤◌, List, [], ◌∷◌, ◌++◌, length, take, drop, Option, Some, None, Result, Ok, Err, IfOk, alloc_error, ◌⊎◌, inl, inr, arith, append-nil, length-append, zero-add}
-use Rattle.std.proofs.lemmas.List.{length-take-le, take-append-drop, take-append-le, take_all, take_at}
-use Rattle.std.proofs.Math.Seq.{take-append_seam}
+use Rattle.cborn_explain.proofs.Common.{◌≡◌, refl, sym, ap, ◌∙◌, subst, ℕ, ◌^◌, ◌<◌, ◌≤◌, List, [], ◌∷◌, ◌++◌, length, take, drop, Option, Some, None, Result, Ok, Err, IfOk, alloc_error, ◌⊎◌, inl, inr, arith, append-nil, length-append, zero-add, length-take-le, take-append-drop, take-append-le, take_all, take_at, take-append_seam, Trees, depth_all, FitsAll, Partial, Part, no_part, part, WireReason, Level, OpenContainer, slot, open_depth, AreOpen, argument_of, content_of, Unfinished, nothing, gathering, Live, Failed, ready_in, start, front, partial_bytes, run, ready, open_in, unfinished, levels, seen_head, HereAt, IsFed, Reads, head_at, next_head, Step, EndsAt, LeadsTo, path_of, IsAmid, place_in, IsOver, IsWalked}
 use Rattle.cborn_model.specs.Bytes.{AreBytes}
 use Rattle.cborn_model.proofs.Bytes.{bytes-left}
-use Rattle.cborn_model.specs.Tree.{Trees, depth_all}
-use Rattle.cborn_model.specs.Spelled.{FitsAll}
-use Rattle.cborn_model.specs.Partial.{Partial, Part, no_part, part}
 use Rattle.cborn_wire.specs.declared.faults.VisitFault.{VisitFault}
 use Rattle.cborn_wire.specs.declared.faults.VisitFault.TheVariants.{Refused, Memory}
-use Rattle.cborn_wire.specs.declared.faults.WireReason.{WireReason}
 use Rattle.cborn_wire.specs.declared.head_readers.HeadReader.{HeadReader}
 use Rattle.cborn_wire.specs.declared.head_readers.PartialHead.{PartialHead}
-use Rattle.cborn_wire.specs.declared.levels.Level.{Level}
-use Rattle.cborn_wire.specs.Slots.{OpenContainer, slot, open_depth, AreOpen}
-use Rattle.cborn_wire.specs.shared.Machine.{argument_of, content_of, Unfinished, nothing, gathering, Live, Failed, ready_in, start, front, partial_bytes, run}
-use Rattle.cborn_wire.specs.shared.Visiting.{ready, open_in, unfinished, levels, seen_head, HereAt, IsFed, Reads, head_at, next_head}
 use Rattle.cborn_wire.proofs.Machine.Running.{run-append}
 use Rattle.cborn_wire.proofs.Machine.SoundItems.{SoundLive, SoundFailed, Sound}
 use Rattle.cborn_wire.proofs.Machine.SoundRuns.{sound}
 use Rattle.cborn_wire.proofs.Spelled.SlotLaws.{opened}
-use Rattle.cborn_explain.specs.declared.paths.Step.{Step}
-use Rattle.cborn_explain.specs.Paths.{EndsAt, LeadsTo}
-use Rattle.cborn_explain.specs.devices.Walks.{path_of, IsAmid, place_in, IsOver, IsWalked}
 use Rattle.cborn_explain.proofs.Walking.Places.{place_rises}
 use Rattle.cborn_explain.proofs.Walking.Levels.{opened_ends}
 

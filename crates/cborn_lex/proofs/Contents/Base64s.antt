@@ -1,15 +1,7 @@
 -- A content of b64'..' stands for some bytes or for none.
-use Rattle.std.proofs.Common.{◌≡◌, refl, ap, ◌∙◌, ℕ, zero, suc, ◌-◌, ◌%◌, List, [], ◌∷◌, ◌++◌, map, replicate, length, Bool, true, not, cond, eqb, ◌⊎◌, inl, inr, Result, Ok, Err}
-use Rattle.std.proofs.lemmas.Bool.{cond_both, and_parts, and_from, lt-ltb}
-use Rattle.std.proofs.lemmas.List.Folds.{list_all-append}
-use Rattle.std.specs.List.{list_any, filter}
-use Rattle.base64.specs.GeneralPurpose.{IsBytes, IsStrict, decode_of}
-use Rattle.base64.specs.Engines.{standard}
-use Rattle.base64.specs.declared.decode.DecodeError.{DecodeError}
+use Rattle.cborn_lex.proofs.Common.{◌≡◌, refl, ap, ◌∙◌, ℕ, zero, suc, ◌-◌, ◌%◌, List, [], ◌∷◌, ◌++◌, map, replicate, length, Bool, true, not, cond, eqb, ◌⊎◌, inl, inr, Result, Ok, Err, cond_both, and_parts, and_from, lt-ltb, list_all-append, list_any, filter, IsBytes, IsStrict, decode_of, standard, DecodeError, is_white, to_standard, filled, base64_text, IsBase64}
 use Rattle.base64.proofs.EngineFacts.{decode_of-encode_of, decode_of_strict}
-use Rattle.cborn_lex.specs.Tokens.{is_white}
 use Rattle.cborn_lex.proofs.Contents.Decoded.{is_byte, are_bytes, bytes_at, decoded_are_bytes}
-use Rattle.cborn_lex.specs.Strings.{to_standard, filled, base64_text, IsBase64}
 
 pub bytes_from : (x : List ℕ) → IsBytes x → are_bytes x ≡ true
 bytes_from [] h = refl

@@ -1,15 +1,9 @@
 -- A content of h'..' stands for some bytes or for none.
-use Rattle.std.proofs.Common.{◌≡◌, refl, sym, ap, ◌∙◌, subst, ℕ, ◌+◌, ◌<◌, ◌≤◌, List, [], ◌∷◌, ◌++◌, length, drop, get_or, Bool, true, false, not, cond, eqb, ◌⊎◌, inl, inr, Option, Some, None, Result, Ok, Err, append_assoc}
-use Rattle.std.proofs.lemmas.List.{drop_more, drop_all}
-use Rattle.std.proofs.lemmas.Bool.{cond-true, cond-false, and_parts, and_from, eq-eqb, eqb-true, not-true, or_cases}
-use Rattle.std.specs.List.{list_all}
-use Rattle.std.specs.Char.{is_digit}
+use Rattle.cborn_lex.proofs.Common.{◌≡◌, refl, sym, ap, ◌∙◌, subst, ℕ, ◌+◌, ◌<◌, ◌≤◌, List, [], ◌∷◌, ◌++◌, length, drop, get_or, Bool, true, false, not, cond, eqb, ◌⊎◌, inl, inr, Option, Some, None, Result, Ok, Err, append_assoc, drop_more, drop_all, cond-true, cond-false, and_parts, and_from, eq-eqb, eqb-true, not-true, or_cases, list_all, is_digit, is_not, is_white, onto, strip, after, HasDigits, nothing, space, comment, IsHex}
 use Rattle.hex.specs.Hex.{decode_of}
 use Rattle.hex.specs.declared.error.FromHexError.{FromHexError}
 use Rattle.hex.specs.declared.error.FromHexError.TheVariants.{OutOfMemory}
-use Rattle.cborn_lex.specs.Tokens.{is_not, is_white}
-use Rattle.cborn_lex.specs.devices.Scan.{onto, strip, after}
-use Rattle.cborn_lex.specs.Strings.{HasDigits, nothing, digit, space, comment, IsHex}
+use Rattle.cborn_lex.specs.Strings.{digit}
 
 at_char : (c k : ℕ) → is_digit k 16 ≡ false → eqb c k ≡ true → is_digit c 16 ≡ false
 at_char c k h e = ap (λ d. is_digit d 16) (eqb-true c k e) ∙ h

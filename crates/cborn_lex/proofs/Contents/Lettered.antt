@@ -1,10 +1,6 @@
 -- What a content stands for is what its letters mean.
-use Rattle.std.proofs.Common.{◌≡◌, refl, sym, ap, subst, ℕ, List, [], ◌∷◌, ◌++◌, true}
-use Rattle.std.proofs.lemmas.Bool.{and_parts, and_from}
-use Rattle.std.specs.List.{list_all, flat_map}
+use Rattle.cborn_lex.proofs.Common.{◌≡◌, refl, sym, ap, subst, ℕ, List, [], ◌∷◌, ◌++◌, true, and_parts, and_from, list_all, flat_map, IsText, Letter, raw, escaped, unit, pair, written, meant, is_letter, HasLetters}
 use Rattle.cborn_lex.specs.Strings as text
-use Rattle.cborn_lex.specs.Strings.{IsText}
-use Rattle.cborn_lex.specs.devices.Letters.{Letter, raw, escaped, unit, pair, written, meant, is_letter, HasLetters}
 
 letter_more : (q : ℕ) (l : Letter) (x y : List ℕ) → is_letter q l ≡ true → HasLetters q x y → HasLetters q (written l ++ x) (meant l ++ y)
 letter_more q l x y h t = record { letters = l ∷ t.letters; allowed = and_from _ _ h t.allowed; whole = ap (λ z. written l ++ z) t.whole; value = ap (λ z. meant l ++ z) t.value }

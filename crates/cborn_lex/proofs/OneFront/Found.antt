@@ -1,20 +1,6 @@
 -- Each text that isn't empty begins with something.
-use Rattle.std.proofs.Common.{◌≡◌, refl, sym, ap, ◌∙◌, subst, ℕ, List, [], ◌∷◌, ◌++◌, Bool, true, false, ◌&&◌, eqb, ◌⊎◌, inl, inr, Option, append_assoc, append-nil}
-use Rattle.std.proofs.lemmas.Bool.{and_parts, eqb-true}
-use Rattle.std.proofs.lemmas.List.Folds.{list_all-append}
-use Rattle.std.specs.List.{list_all}
-use Rattle.std.specs.Prelude.{bytes_eq, codes}
-use Rattle.cborn_lex.specs.declared.classes.Profile.{Profile}
-use Rattle.cborn_lex.specs.declared.classes.Profile.TheVariants.{One, Two}
-use Rattle.cborn_lex.specs.declared.classes.Mark.{Mark}
-use Rattle.cborn_lex.specs.declared.faults.LexReason.{LexReason}
-use Rattle.cborn_lex.specs.declared.faults.LexReason.TheVariants.{UnclosedString, UnexpectedCharacter, BadEscape, BadHex, BadBase64}
-use Rattle.cborn_lex.specs.declared.classes.Class.{Class}
-use Rattle.cborn_lex.specs.declared.classes.Class.TheVariants.{EmbedClose, EmbedOpen, SimpleOpen, Text, Bytes}
-use Rattle.cborn_lex.specs.Tokens.{Front, Read, Bad, is_word, is_numeral, is_not, mark_of, marked}
-use Rattle.cborn_lex.specs.Numbers.{integer, number_front, word_front}
-use Rattle.cborn_lex.specs.Strings.{IsText, IsHex, IsBase64}
-use Rattle.cborn_lex.specs.Forms.{IsRun, IsIndicator, Through, Lacks, ContentGives, IsString, Prefix, hexadecimal, base64, unknown, prefix_of, IsPrefixed, IsAfterWord, ReadsWord, IsTag, ReadsNumber, double, simple, Start, white, slash, hash, less, greater, paren, letter, minus, digit, other, single, opening, start_of, paren_front, ReadsFrom, Reads}
+use Rattle.cborn_lex.proofs.Common.{◌≡◌, refl, sym, ap, ◌∙◌, subst, ℕ, List, [], ◌∷◌, ◌++◌, Bool, true, false, ◌&&◌, eqb, ◌⊎◌, inl, inr, Option, append_assoc, append-nil, and_parts, eqb-true, list_all-append, list_all, bytes_eq, codes, Profile, One, Two, Mark, LexReason, UnclosedString, UnexpectedCharacter, BadEscape, BadHex, BadBase64, Class, EmbedClose, EmbedOpen, SimpleOpen, Text, Bytes, Front, Read, Bad, is_word, is_numeral, is_not, mark_of, marked, integer, number_front, word_front, IsText, IsHex, IsBase64, IsRun, IsIndicator, Lacks, ContentGives, IsString, Prefix, hexadecimal, base64, unknown, prefix_of, IsPrefixed, IsAfterWord, ReadsWord, IsTag, ReadsNumber, double, simple, Start, white, slash, hash, less, greater, paren, letter, minus, digit, other, single, opening, start_of, paren_front, ReadsFrom, Reads}
+use Rattle.cborn_lex.specs.Forms.{Through}
 use Rattle.cborn_lex.proofs.OneFront.Runs.{cut, marks, Found, plain}
 use Rattle.cborn_lex.proofs.OneFront.Quotes.{quoted}
 use Rattle.cborn_lex.proofs.Contents.Texts.{text_cases}

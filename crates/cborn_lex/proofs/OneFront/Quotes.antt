@@ -1,9 +1,5 @@
 -- Where a quoted string ends.
-use Rattle.std.proofs.Common.{◌≡◌, refl, sym, ap, ◌∙◌, ℕ, List, [], ◌∷◌, ◌++◌, true, false, ◌&&◌, not, cond, eqb, ◌⊎◌, inl, inr, Option, Some, None}
-use Rattle.std.proofs.lemmas.Bool.{cond-false, and_parts, and_from, eq-eqb, eqb-true, not-true, cases_Bool}
-use Rattle.cborn_lex.specs.Tokens.{is_not}
-use Rattle.cborn_lex.specs.Strings.{is_content, is_unclosed}
-use Rattle.cborn_lex.specs.devices.Scan.{after}
+use Rattle.cborn_lex.proofs.Common.{◌≡◌, refl, sym, ap, ◌∙◌, ℕ, List, [], ◌∷◌, ◌++◌, true, false, ◌&&◌, not, cond, eqb, ◌⊎◌, inl, inr, Option, Some, None, cond-false, and_parts, and_from, eq-eqb, eqb-true, not-true, cases_Bool, is_not, is_content, is_unclosed, after}
 use Rattle.cborn_lex.proofs.OneFront.Runs.{Found, Closer}
 
 abbrev content_at : ℕ → List ℕ → Option (List ℕ)

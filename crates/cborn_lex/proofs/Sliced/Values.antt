@@ -1,11 +1,5 @@
 -- The number that digits spell.
-use Rattle.std.proofs.Common.{◌≡◌, sym, ap, ◌∙◌, ℕ, ◌+◌, ◌*◌, ◌^◌, ◌<◌, ◌≤◌, List, [], ◌∷◌, length, drop, get_or, Ok, Err, arith}
-use Rattle.std.proofs.Math.Nat.{mul-le-mul_left}
-use Rattle.std.proofs.lemmas.Bool.{cond-true, cond-false, lt-ltb, le-ltb}
-use Rattle.std.proofs.lemmas.List.{drop_more, drop_all}
-use Rattle.std.specs.Char.{digit_value}
-use Rattle.cborn_lex.specs.declared.faults.LexReason.TheVariants.{NumberTooLarge}
-use Rattle.cborn_lex.specs.Numbers.{number, within}
+use Rattle.cborn_lex.proofs.Common.{◌≡◌, sym, ap, ◌∙◌, ℕ, ◌+◌, ◌*◌, ◌^◌, ◌<◌, ◌≤◌, List, [], ◌∷◌, length, drop, get_or, Ok, Err, arith, mul-le-mul_left, cond-true, cond-false, lt-ltb, le-ltb, drop_more, drop_all, digit_value, NumberTooLarge, number, within}
 
 number_grows : (base n : ℕ) (ds : List ℕ) → 1 ≤ base → n ≤ number base n ds
 number_grows base n [] h = omega arith

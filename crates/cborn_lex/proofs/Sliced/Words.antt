@@ -1,14 +1,5 @@
 -- A word and what follows it, and a string after its quote, as slices.
-use Rattle.std.proofs.Common.{◌≡◌, refl, sym, ap, ◌∙◌, subst, ℕ, ◌+◌, ◌<◌, ◌≤◌, List, [], ◌∷◌, ◌++◌, length, take, drop, get_or, Bool, true, eqb, arith, append_assoc, add-one, inl, inr}
-use Rattle.std.proofs.Common.{Option}
-use Rattle.std.proofs.lemmas.List.{take-append-drop, length-append, length-take-le, length-drop, drop_more}
-use Rattle.cborn_lex.specs.declared.classes.Mark.{Mark}
-use Rattle.cborn_lex.specs.declared.faults.LexReason.{LexReason}
-use Rattle.cborn_lex.specs.declared.classes.Class.{Class}
-use Rattle.cborn_lex.specs.Tokens.{Front, is_word, begins, Bad, mark_of, marked}
-use Rattle.cborn_lex.specs.Forms.{IsRun, IsIndicator, IsAfterWord, ReadsWord, IsPrefixed, prefix_of, Closed, IsString}
-use Rattle.std.proofs.lemmas.Bool.{eqb-true}
-use Rattle.cborn_lex.specs.declared.classes.Class.TheVariants.{EmbedClose}
+use Rattle.cborn_lex.proofs.Common.{◌≡◌, refl, sym, ap, ◌∙◌, subst, ℕ, ◌+◌, ◌<◌, ◌≤◌, List, [], ◌∷◌, ◌++◌, length, take, drop, get_or, Bool, true, eqb, arith, append_assoc, add-one, inl, inr, Option, take-append-drop, length-append, length-take-le, length-drop, drop_more, Mark, LexReason, Class, Front, is_word, begins, Bad, mark_of, marked, IsRun, IsIndicator, IsAfterWord, ReadsWord, IsPrefixed, prefix_of, Closed, IsString, eqb-true, EmbedClose}
 use Rattle.cborn_lex.proofs.Sliced.Pieces.{front_is}
 
 pub word_text : (text tail : List ℕ) (n : ℕ) → 0 < length text → tail ≡ drop 1 text → take (n + 1) text ≡ get_or text 0 0 ∷ take n tail

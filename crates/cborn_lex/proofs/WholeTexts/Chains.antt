@@ -1,17 +1,7 @@
 -- The laws of whole texts.
-use Rattle.std.proofs.Common.{◌≡◌, refl, sym, ap, ◌∙◌, subst, ℕ, zero, suc, ◌<◌, List, [], ◌∷◌, ◌++◌, length, true, ◌⊎◌, inl, inr, append_assoc, append-nil, arith, length-append}
-use Rattle.std.proofs.lemmas.Bool.{and_parts}
-use Rattle.std.proofs.lemmas.List.Folds.{list_all-append}
-use Rattle.cborn_lex.specs.declared.classes.Profile.{Profile}
-use Rattle.cborn_lex.specs.declared.classes.Profile.TheVariants.{One, Two}
-use Rattle.cborn_lex.specs.declared.faults.LexReason.{LexReason}
-use Rattle.cborn_lex.specs.declared.classes.Token.{Token}
-use Rattle.cborn_lex.specs.Tokens.{Front, WhiteSpace, Read, Bad}
-use Rattle.cborn_lex.specs.Forms.{Start, hash, start_of, ReadsFrom, Reads}
-use Rattle.cborn_lex.specs.Lex.{Lex, HasNoPiece, Stop, SpansRise}
-use Rattle.cborn_lex.specs.devices.Pieces.{Lexeme, white_space, token, slice, front_of, spelled, AreRead, tokens, BeginsNoPiece}
+use Rattle.cborn_lex.proofs.Common.{◌≡◌, refl, sym, ap, ◌∙◌, subst, ℕ, zero, suc, ◌<◌, List, [], ◌∷◌, ◌++◌, length, true, ◌⊎◌, inl, inr, append_assoc, append-nil, arith, and_parts, list_all-append, Profile, One, Two, LexReason, Token, Front, WhiteSpace, Read, Bad, Start, hash, start_of, ReadsFrom, Reads, Lex, HasNoPiece, Stop, SpansRise, Lexeme, white_space, token, slice, front_of, spelled, AreRead, tokens, BeginsNoPiece, drop, ◌≤◌, ◌+◌}
+use Rattle.std.proofs.Common.{length-append}
 use Rattle.cborn_lex.proofs.WholeTexts.Parts.{lex_parted, parted_lex, stop_parted, parted_stop, has_no_piece}
-use Rattle.std.proofs.Common.{drop, ◌≤◌, ◌+◌}
 use Rattle.cborn_lex.proofs.Sliced.Pieces.{front_is}
 use Rattle.cborn_lex.proofs.OneFront.Runs.{rest}
 use Rattle.cborn_lex.proofs.OneFront.Alone.{one_front}

@@ -1,13 +1,7 @@
 -- A text read from its front on, and as a list of its pieces.
-use Rattle.std.proofs.Common.{◌≡◌, refl, sym, ap, ◌∙◌, subst, ℕ, ◌+◌, List, [], ◌∷◌, ◌++◌, length, append_assoc, append-nil, arith, length-append}
-use Rattle.cborn_lex.specs.declared.classes.Profile.{Profile}
-use Rattle.cborn_lex.specs.declared.classes.Token.{Token}
-use Rattle.cborn_lex.specs.declared.faults.LexReason.{LexReason}
-use Rattle.cborn_lex.specs.Tokens.{WhiteSpace, Read}
-use Rattle.cborn_lex.specs.Forms.{Reads}
+use Rattle.cborn_lex.proofs.Common.{◌≡◌, refl, sym, ap, ◌∙◌, subst, ℕ, ◌+◌, List, [], ◌∷◌, ◌++◌, length, append_assoc, append-nil, arith, Profile, Token, LexReason, WhiteSpace, Read, Reads, Through, Lex, Stop, HasNoPiece, Lexeme, white_space, token, spelled, AreRead, tokens, Parted, BeginsNoPiece, LexParted, StopParted}
+use Rattle.std.proofs.Common.{length-append}
 use Rattle.cborn_lex.specs.Lex as text
-use Rattle.cborn_lex.specs.Lex.{Through, Lex, Stop, HasNoPiece}
-use Rattle.cborn_lex.specs.devices.Pieces.{Lexeme, white_space, token, spelled, AreRead, tokens, Parted, BeginsNoPiece, LexParted, StopParted}
 
 pub parted : (profile : Profile) {n m : ℕ} {x y : List ℕ} {ts : List Token} → Through profile n x ts m y → Parted profile n x ts m y
 parted profile (text.here n x) = record { pieces = []; read = tt; whole = refl; place = omega arith; placed = refl }

@@ -1,17 +1,7 @@
 -- A scan from piece to piece.
-use Rattle.std.proofs.Common.{◌≡◌, refl, sym, ap, ◌∙◌, subst, ℕ, ◌+◌, ◌<◌, ◌≤◌, List, [], ◌∷◌, ◌++◌, length, take, drop, get_or, arith, add-one}
-use Rattle.std.proofs.lemmas.List.{take-append-drop, length-append, length-take-le, drop_all, drop-drop, get_or-drop}
-use Rattle.std.proofs.Common.{length-drop, true}
-use Rattle.std.proofs.lemmas.Bool.{cond-true}
-use Rattle.cborn_lex.specs.declared.classes.Profile.{Profile}
-use Rattle.cborn_lex.specs.declared.faults.LexReason.{LexReason}
-use Rattle.cborn_lex.specs.declared.faults.LexFault.{LexFault}
-use Rattle.cborn_lex.specs.declared.faults.LexFault.TheVariants.{Refused, OutOfMemory}
-use Rattle.cborn_lex.specs.declared.classes.Class.{Class}
-use Rattle.cborn_lex.specs.declared.classes.Token.{Token}
-use Rattle.cborn_lex.specs.Tokens.{Front, WhiteSpace, Read, Bad, is_white}
-use Rattle.cborn_lex.specs.Forms.{Start, white, start_of, ReadsFrom, Reads}
-use Rattle.cborn_lex.specs.Lex.{Through, here, white_space, token, Lex, Stop, Between, IsStopAt, IsStopFrom}
+use Rattle.cborn_lex.proofs.Common.{◌≡◌, refl, sym, ap, ◌∙◌, subst, ℕ, ◌+◌, ◌<◌, ◌≤◌, List, [], ◌∷◌, ◌++◌, length, take, drop, get_or, arith, add-one, take-append-drop, length-append, length-take-le, drop_all, drop-drop, get_or-drop, true, cond-true, Profile, LexReason, LexFault, Refused, OutOfMemory, Class, Token, Front, WhiteSpace, Read, Bad, is_white, Start, white, start_of, ReadsFrom, Reads, Through, here, Lex, Stop, Between, IsStopAt, IsStopFrom}
+use Rattle.std.proofs.Common.{length-drop}
+use Rattle.cborn_lex.specs.Lex.{white_space, token}
 use Rattle.cborn_lex.proofs.WholeTexts.Chains.{some_long}
 
 pub first_reads : (profile : Profile) (text tail : List ℕ) (n : ℕ) (a : Front) → 0 < length text → tail ≡ drop 1 text → n ≤ length tail → ReadsFrom (start_of (get_or text 0 0)) profile (get_or text 0 0) (take n tail) (drop n tail) a

@@ -1,7 +1,5 @@
 -- Marks as they are written, for crates that write the notation. A device of the proofs; no definition cites it.
-use Rattle.cborn_model.specs.declared.heads.Width.TheVariants.{Direct}
-use Rattle.cborn_lex.specs.declared.classes.Mark.{Mark}
-use Rattle.cborn_lex.specs.declared.classes.Mark.TheVariants.{Wide}
+use Rattle.cborn_lex.proofs.Common.{Direct, Mark, Wide}
 
 -- a mark that an indicator can be
 abbrev pub IsMark : Mark → Type 0

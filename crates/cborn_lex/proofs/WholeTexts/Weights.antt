@@ -1,34 +1,13 @@
 -- What a token weighs: one, and the bytes of its content. The tokens of a text weigh no more than four times its length.
-use Rattle.std.proofs.Common.{◌≡◌, refl, sym, ap, ◌∙◌, subst, ℕ, suc, ◌+◌, ◌-◌, ◌*◌, ◌%◌, ◌^◌, ◌<◌, ◌≤◌, List, [], ◌∷◌, ◌++◌, length, take, drop, map, replicate, Bool, true, false, ◌&&◌, not, cond, ltb, eqb, inl, inr, Option, Some, None, Result, Ok, Err, arith}
-use Rattle.std.proofs.lemmas.List.{length-append, length-map, length-replicate, take-append-drop}
-use Rattle.std.proofs.lemmas.Bool.{cond_both, and_parts, and_from, lt-ltb, ltb-true}
-use Rattle.std.proofs.lemmas.List.Folds.{list_all-append}
-use Rattle.std.specs.List.{list_all, list_any, flat_map, filter}
-use Rattle.std.specs.Prelude.{encode_utf8, encode_utf8_all}
-use Rattle.std.specs.Char.{is_digit, digit_value}
+use Rattle.cborn_lex.proofs.Common.{◌≡◌, refl, sym, ap, ◌∙◌, subst, ℕ, suc, ◌+◌, ◌-◌, ◌*◌, ◌%◌, ◌^◌, ◌<◌, ◌≤◌, List, [], ◌∷◌, ◌++◌, length, take, drop, map, replicate, Bool, true, false, ◌&&◌, not, cond, ltb, eqb, inl, inr, Option, Some, None, Result, Ok, Err, arith, length-append, length-map, length-replicate, take-append-drop, cond_both, and_parts, and_from, lt-ltb, ltb-true, list_all-append, list_all, list_any, flat_map, filter, encode_utf8, encode_utf8_all, is_digit, digit_value, standard, Profile, One, Two, Mark, Class, ArrayOpen, MapOpen, ArrayClose, MapClose, ParenClose, Comma, Colon, EmbedClose, ChunkOpen, Number, TagOpen, Word, Text, Bytes, Token, LexReason, NumberTooLarge, Front, WhiteSpace, Read, Bad, mark_of, marked, is_white, is_not, integer, within, signed, number_front, word_front, escape_code, are_hex, code, is_high, is_low, IsText, HasDigits, nothing, space, comment, IsHex, to_standard, filled, IsBase64, is_content, is_unclosed, Letter, raw, escaped, unit, pair, written, meant, is_letter, IsString, Prefix, hexadecimal, base64, unknown, prefix_of, IsPrefixed, IsAfterWord, ReadsNumber, double, simple, Start, white, slash, hash, less, greater, paren, letter, minus, digit, other, single, opening, start_of, paren_front, ReadsFrom, Reads, Lex, Between, Lexeme, white_space, token, spelled, AreRead, tokens}
 use Rattle.std.specs.Str.{IsUtf8, all_scalars}
 use lib.Utf8.{encode, scalar, scalar_cases}
 use Rattle.hex.proofs.HexLemmas.{decode_of-ok}
 use Rattle.base64.proofs.RoundTrip.{length-encode_symbols}
-use Rattle.base64.specs.Engines.{standard}
 use Rattle.cborn_model.specs.Bytes.{AreBytes}
 use Rattle.cborn_model.proofs.Bytes.{bytes-append}
-use Rattle.cborn_lex.specs.declared.classes.Profile.{Profile}
-use Rattle.cborn_lex.specs.declared.classes.Profile.TheVariants.{One, Two}
-use Rattle.cborn_lex.specs.declared.classes.Mark.{Mark}
-use Rattle.cborn_lex.specs.declared.classes.Class.{Class}
-use Rattle.cborn_lex.specs.declared.classes.Class.TheVariants.{ArrayOpen, MapOpen, ArrayClose, MapClose, ParenClose, Comma, Colon, EmbedClose, ChunkOpen, Number, TagOpen, Word, Text, Bytes}
-use Rattle.cborn_lex.specs.declared.classes.Token.{Token}
-use Rattle.cborn_lex.specs.declared.faults.LexReason.{LexReason}
-use Rattle.cborn_lex.specs.declared.faults.LexReason.TheVariants.{NumberTooLarge}
-use Rattle.cborn_lex.specs.Tokens.{Front, WhiteSpace, Read, Bad, mark_of, marked, is_white, is_not}
-use Rattle.cborn_lex.specs.Numbers.{integer, within, signed, number_front, word_front}
-use Rattle.cborn_lex.specs.Strings.{escape_code, are_hex, code, is_high, is_low, IsText, HasDigits, nothing, digit as one_digit, space, comment, IsHex, to_standard, filled, IsBase64, is_content, is_unclosed}
+use Rattle.cborn_lex.specs.Strings.{digit as one_digit}
 use Rattle.cborn_lex.proofs.Contents.Lettered.{has_letters}
-use Rattle.cborn_lex.specs.devices.Letters.{Letter, raw, escaped, unit, pair, written, meant, is_letter}
-use Rattle.cborn_lex.specs.Forms.{IsString, Prefix, hexadecimal, base64, unknown, prefix_of, IsPrefixed, IsAfterWord, ReadsNumber, double, simple, Start, white, slash, hash, less, greater, paren, letter, minus, digit, other, single, opening, start_of, paren_front, ReadsFrom, Reads}
-use Rattle.cborn_lex.specs.Lex.{Lex, Between}
-use Rattle.cborn_lex.specs.devices.Pieces.{Lexeme, white_space, token, spelled, AreRead, tokens}
 use Rattle.cborn_lex.proofs.WholeTexts.Parts.{parted, lex_parted}
 use Rattle.cborn_lex.proofs.Contents.Decoded.{is_byte, are_bytes}
 use Rattle.cborn_lex.proofs.Contents.Base64s.{bytes_from}

@@ -1,6 +1,5 @@
 -- What a test that was passed or failed decides.
-use Rattle.std.proofs.Common.{◌≡◌, Bool, true, false, IsTrue, ◌↔◌, refl, sym, ◌∙◌, Option, Some, None, MatchOption}
-use Rattle.std.specs.Option.{is_some}
+use Rattle.cborn_model.proofs.Common.{◌≡◌, Bool, true, false, IsTrue, ◌↔◌, refl, sym, ◌∙◌, Option, Some, None, MatchOption, is_some}
 
 pub true_is_not_false : true ≡ false → ⊥
 true_is_not_false e = cc

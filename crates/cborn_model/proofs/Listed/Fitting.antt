@@ -1,12 +1,6 @@
 -- When nodes fit, in std's words: each of them does.
-use Rattle.std.proofs.Common.{ℕ, zero, suc, ◌≡◌, ◌<◌, List, [], ◌∷◌, length, get_or, arith, true, false, Bool, IsTrue, ◌↔◌, sym, subst, ◌∙◌}
-use Rattle.cborn_model.specs.declared.nodes.Chunk.{Chunk}
-use Rattle.cborn_model.specs.Tree.{Tree, Items, Pairs, trees, entries}
-use Rattle.cborn_model.specs.declared.heads.Size.{Size}
+use Rattle.cborn_model.proofs.Common.{ℕ, zero, suc, ◌≡◌, ◌<◌, List, [], ◌∷◌, length, get_or, arith, true, false, Bool, IsTrue, ◌↔◌, sym, subst, ◌∙◌, Chunk, Tree, Items, Pairs, trees, entries, Size, WidthFits, SizeFits, AreBytes, Fits, FitsAll, FitsEntries, ChunksFit}
 use Rattle.cborn_model.proofs.Listed.Trees.{count-trees, count_entries-entries}
-use Rattle.cborn_model.specs.Heads.{WidthFits, SizeFits}
-use Rattle.cborn_model.specs.Bytes.{AreBytes}
-use Rattle.cborn_model.specs.Spelled.{Fits, FitsAll, FitsEntries, ChunksFit}
 
 abbrev pub PairFits : Tree × Tree → Type 0
 PairFits p = Fits p.0 × Fits p.1

@@ -1,10 +1,6 @@
 -- What the nodes of a sequence mean, in std's words.
-use Rattle.std.proofs.Common.{List, [], ◌∷◌}
-use Rattle.std.specs.List.{AllZip, AllByRecursion}
+use Rattle.cborn_model.proofs.Common.{List, [], ◌∷◌, AllZip, AllByRecursion, Tree, trees, IsProper, AreProper, Value, Values, no_values, value, values_of}
 use Rattle.cborn_model.specs.Meaning.{Means, AllMean}
-use Rattle.cborn_model.specs.Tree.{Tree, trees}
-use Rattle.cborn_model.specs.Valid.{IsProper, AreProper}
-use Rattle.cborn_model.specs.Value.{Value, Values, no_values, value, values_of}
 
 -- what nodes mean one by one they mean in order
 pub all_mean : (ts : List Tree) (vs : List Value) → AllZip Means ts vs → AllMean (trees ts) (values_of vs)

@@ -1,10 +1,6 @@
 -- The definitions over nodes, in std's words: nodes one after another, their number, and how deep they are.
-use Rattle.std.proofs.Common.{◌≡◌, ℕ, ◌+◌, ◌<◌, ◌≤◌, max, List, [], ◌∷◌, ◌++◌, length, take, get_or, refl, sym, ap, ◌∙◌, subst, arith}
-use Rattle.std.specs.List.{flat_map}
-use Rattle.std.proofs.lemmas.List.{take_more}
+use Rattle.cborn_model.proofs.Common.{◌≡◌, ℕ, ◌+◌, ◌<◌, ◌≤◌, max, List, [], ◌∷◌, ◌++◌, length, take, get_or, refl, sym, ap, ◌∙◌, subst, arith, flat_map, take_more, Tree, trees, entries, count, count_entries, depth, depth_all, depth_entries, spelled, spelled_all, spelled_entries}
 use Rattle.std.proofs.lemmas.List.Recursion.{max_push, max_bounds}
-use Rattle.cborn_model.specs.Tree.{Tree, trees, entries, count, count_entries, depth, depth_all, depth_entries}
-use Rattle.cborn_model.specs.Spelled.{spelled, spelled_all, spelled_entries}
 
 abbrev pub spelled_pair : Tree × Tree → List ℕ
 spelled_pair p = spelled p.0 ++ spelled p.1

@@ -1,8 +1,7 @@
 -- Major types and their numbers.
-use Rattle.std.proofs.Common.{◌≡◌, refl, ℕ, zero, suc, ◌<◌, arith}
+use Rattle.cborn_model.proofs.Common.{◌≡◌, refl, ℕ, zero, suc, ◌<◌, arith, code, major_at}
 use Rattle.cborn_model.specs.declared.heads.Major.{Major}
 use Rattle.cborn_model.specs.declared.heads.Major.TheVariants.{Unsigned, Negative, ByteString, TextString, Array, Map, Tag, Other}
-use Rattle.cborn_model.specs.Heads.{code, major_at}
 
 pub code_at : (q : ℕ) → q < 8 → code (major_at q) ≡ q
 code_at zero h = refl

@@ -1,10 +1,5 @@
 -- A number has one magnitude without leading zeros.
-use Rattle.std.proofs.Common.{◌≡◌, ℕ, suc, ◌+◌, ◌*◌, ◌<◌, ◌≤◌, ◌^◌, inl, inr, List, [], ◌∷◌, length, refl, sym, ap, subst, arith, true, false, Bool, pow-suc, lit<, ◌↔◌, IsTrue, drop, get_or, mul-le-mul_right}
-use Rattle.std.proofs.lemmas.Bool.{cases_lt}
-use Rattle.std.proofs.lemmas.List.{drop_more}
-use Rattle.std.proofs.Math.Nat.{pow-le-pow_right}
-use Rattle.cborn_model.specs.Bytes.{big_endian, AreBytes, IsShortest}
-use Rattle.cborn_model.specs.Value.{number}
+use Rattle.cborn_model.proofs.Common.{◌≡◌, ℕ, suc, ◌+◌, ◌*◌, ◌<◌, ◌≤◌, ◌^◌, inl, inr, List, [], ◌∷◌, length, refl, sym, ap, subst, arith, true, false, Bool, pow-suc, lit<, ◌↔◌, IsTrue, drop, get_or, mul-le-mul_right, cases_lt, drop_more, pow-le-pow_right, big_endian, AreBytes, IsShortest, number}
 
 -- the high part of a number decides
 high_decides : (a b p r s : ℕ) → a < b → r < p → a * p + r ≡ b * p + s → ⊥

@@ -1,9 +1,6 @@
 -- Simple values, by cases, and their heads.
-use Rattle.std.proofs.Common.{◌≡◌, refl, ℕ, ◌<◌, ◌≤◌, ◌⊎◌, inl, inr, arith, ltb, leb}
+use Rattle.cborn_model.proofs.Common.{◌≡◌, refl, ℕ, ◌<◌, ◌≤◌, ◌⊎◌, inl, inr, arith, ltb, leb, lt-ltb, le-ltb, le-leb, ltb-true, leb-true, and_parts, or_cases, Direct, One, WidthFits, least, is_simple_value}
 use Rattle.std.specs.Prelude.{IsTrue}
-use Rattle.std.proofs.lemmas.Bool.{lt-ltb, le-ltb, le-leb, ltb-true, leb-true, and_parts, or_cases}
-use Rattle.cborn_model.specs.declared.heads.Width.TheVariants.{Direct, One}
-use Rattle.cborn_model.specs.Heads.{WidthFits, least, is_simple_value}
 use Rattle.cborn_model.proofs.Numbers.OneHead.{least_holds}
 
 -- the two ranges, as the test has them

@@ -1,10 +1,7 @@
 -- Each number has a magnitude without leading zeros.
-use Rattle.std.proofs.Common.{◌≡◌, ℕ, suc, ◌+◌, ◌*◌, ◌<◌, ◌^◌, inl, inr, List, [], ◌∷◌, length, get_or, ap, sym, subst, arith, pow-suc, lit<, ◌≤◌, drop, length-drop, mul-le-mul_right}
-use Rattle.std.proofs.Math.Nat.{pow-le-pow_right}
-use Rattle.std.proofs.lemmas.Bool.{cases_lt}
+use Rattle.cborn_model.proofs.Common.{◌≡◌, ℕ, suc, ◌+◌, ◌*◌, ◌<◌, ◌^◌, inl, inr, List, [], ◌∷◌, length, get_or, ap, sym, subst, arith, pow-suc, lit<, ◌≤◌, drop, length-drop, mul-le-mul_right, pow-le-pow_right, cases_lt, big_endian, AreBytes, IsShortest}
 use Rattle.std.specs.Int.Digits.{number_from_digits_after, digits_of}
 use Rattle.std.proofs.lemmas.Int.Digits.{all_below_base_digits_of, first_digits_of, number_digits_of}
-use Rattle.cborn_model.specs.Bytes.{big_endian, AreBytes, IsShortest}
 
 -- Horner's sum and the sum of powers are one number.
 horner : (a : ℕ) (ds : List ℕ) → number_from_digits_after 256 a ds ≡ a * 256 ^ length ds + big_endian ds

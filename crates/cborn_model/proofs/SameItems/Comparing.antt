@@ -1,12 +1,5 @@
 -- Items of a slice, one by one: what is proper, and what is the same.
-use Rattle.std.proofs.Common.{◌≡◌, ℕ, zero, suc, ◌+◌, ◌<◌, List, [], ◌∷◌, ◌++◌, map, length, get_or, refl, sym, ap, subst, ◌∙◌, arith, inl, inr}
-use Rattle.cborn_model.specs.declared.items.Item.{Item}
-use Rattle.cborn_model.specs.ItemView.{item_value, pair_value}
-use Rattle.cborn_model.specs.Value.{Value, dict, listed, values_of, pairs_of, Same, SameValues}
-use Rattle.cborn_model.specs.Valid.{IsNew, HasNewKeys, IsProper, AreProper, HasProperPairs}
-use Rattle.cborn_model.specs.devices.Pairs.{HasPair, Gives}
-use Rattle.std.proofs.lemmas.Bool.{cases_lt}
-use Rattle.std.proofs.lemmas.List.{length-map, get_or_default, map-append}
+use Rattle.cborn_model.proofs.Common.{◌≡◌, ℕ, zero, suc, ◌+◌, ◌<◌, List, [], ◌∷◌, ◌++◌, map, length, get_or, refl, sym, ap, subst, ◌∙◌, arith, inl, inr, Item, item_value, pair_value, Value, dict, listed, values_of, pairs_of, Same, SameValues, IsNew, HasNewKeys, IsProper, AreProper, HasProperPairs, HasPair, Gives, cases_lt, length-map, get_or_default, map-append}
 use Rattle.cborn_model.proofs.Listed.Values.{pair_count-pairs_of, listed-pairs_of}
 use Rattle.cborn_model.proofs.SameItems.Matching.{given_after, given_before, new_in_both, AllHave, matched, all_have, same_count}
 

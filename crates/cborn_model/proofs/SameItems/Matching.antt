@@ -1,11 +1,7 @@
 -- Maps whose keys are distinct are the same exactly if they have as many pairs, and each pair of the one is among those of the other.
-use Rattle.std.proofs.Common.{◌≡◌, suc, inl, inr, List, [], ◌∷◌, ◌++◌, length, refl, sym, ap, subst, ◌∙◌, arith, IsPermutation, length-append}
-use Rattle.std.proofs.lemmas.List.Sorted.{IsPermutation-refl, IsPermutation-sym, IsPermutation-trans, IsPermutation-cons, IsPermutation-middle, length_permutation}
+use Rattle.cborn_model.proofs.Common.{◌≡◌, suc, inl, inr, List, [], ◌∷◌, ◌++◌, length, refl, sym, ap, subst, ◌∙◌, arith, IsPermutation, length-append, IsPermutation-refl, IsPermutation-sym, IsPermutation-trans, IsPermutation-cons, IsPermutation-middle, length_permutation, Value, Couples, no_pairs, pair, listed, dict, pairs_of, pair_count, Same, SamePairs, IsNew, HasNewKeys, HasPair, Gives}
 use Rattle.cborn_model.proofs.SameItems.Rearranging.{IsIn, AreIn, are_in_moved}
 use Rattle.cborn_model.proofs.SameItems.Sameness.{same_turned, same_chained}
-use Rattle.cborn_model.specs.Value.{Value, Couples, no_pairs, pair, listed, dict, pairs_of, pair_count, Same, SamePairs}
-use Rattle.cborn_model.specs.Valid.{IsNew, HasNewKeys}
-use Rattle.cborn_model.specs.devices.Pairs.{HasPair, Gives}
 
 -- each pair of the one is among the others
 abbrev pub AllHave : Couples → List (Value × Value) → Type 0

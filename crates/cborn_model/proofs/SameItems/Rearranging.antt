@@ -1,13 +1,9 @@
 -- Rearrangements of lists, and what is carried through them.
-use Rattle.std.proofs.Common.{◌≡◌, ℕ, ◌⊎◌, inl, inr, List, [], ◌∷◌, map, set, get_or, refl, sym, ap, ◌∙◌, subst, IsPermutation}
-use Rattle.std.specs.List.{AllZip, AllByRecursion}
-use Rattle.std.proofs.lemmas.List.Sorted.{IsPermutation-sym, IsPermutation-map, All-permutation}
+use Rattle.cborn_model.proofs.Common.{◌≡◌, ℕ, ◌⊎◌, inl, inr, List, [], ◌∷◌, map, set, get_or, refl, sym, ap, ◌∙◌, subst, IsPermutation, AllZip, AllByRecursion, IsPermutation-sym, IsPermutation-map, All-permutation, length-map, swap}
 use Rattle.std.proofs.lemmas.List.Elements.{All-from_recursion, recursion_from_All}
-use Rattle.std.proofs.lemmas.List.{length-map}
 use Rattle.std.proofs.Math.Seq.{map-set}
 use Rattle.std.proofs.Math.ListN.{get_or-map}
 use Rattle.std.specs.List.Sorted.{apply_swaps, SwapsInRange}
-use Rattle.std.specs.List.{swap}
 
 module _ {X Y : Type 0} (f : X → Y) where
   map-swap : (xs : List X) (i j : ℕ) → map f (swap xs i j) ≡ swap (map f xs) i j

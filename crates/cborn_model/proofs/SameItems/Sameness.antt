@@ -1,9 +1,6 @@
 -- To be the same is an equivalence.
-use Rattle.std.proofs.Common.{List, [], ◌∷◌, refl, sym, ◌∙◌}
-use Rattle.std.specs.List.{AllZip}
-use Rattle.std.proofs.lemmas.List.Sorted.{IsPermutation-refl, IsPermutation-sym, IsPermutation-trans}
+use Rattle.cborn_model.proofs.Common.{List, [], ◌∷◌, refl, sym, ◌∙◌, AllZip, IsPermutation-refl, IsPermutation-sym, IsPermutation-trans, Value, Values, Couples, integer, bytes, text, array, dict, tagged, simple, no_values, value, no_pairs, pair, listed, Same, SameValues, SamePairs}
 use Rattle.cborn_model.proofs.SameItems.Rearranging.{carried_left}
-use Rattle.cborn_model.specs.Value.{Value, Values, Couples, integer, bytes, text, array, dict, tagged, simple, no_values, value, no_pairs, pair, listed, Same, SameValues, SamePairs}
 
 mutual
   pub same_itself : (a : Value) → Same a a

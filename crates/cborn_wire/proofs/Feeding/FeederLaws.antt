@@ -1,19 +1,9 @@
 -- The bytes that a reader that is fed by pieces holds follow from what it keeps, and its answers follow from them.
-use Rattle.std.proofs.Common.{◌≡◌, refl, sym, ap, ◌∙◌, subst, ℕ, ◌+◌, ◌≤◌, List, [], ◌++◌, length, Option, Some, None, Err, inr, arith, append_assoc, length-append}
-use Rattle.std.specs.Option.{option_to_list}
-use Rattle.cborn_model.specs.Bytes.{AreBytes}
-use Rattle.cborn_model.specs.Tree.{Tree, Trees, no_item, more, trees, depth}
-use Rattle.cborn_model.specs.Spelled.{spelled, Fits, Wellformed}
-use Rattle.cborn_model.specs.Placed.{Placed, PlacedAll}
+use Rattle.cborn_wire.proofs.Common.{◌≡◌, refl, sym, ap, ◌∙◌, subst, ℕ, ◌+◌, ◌≤◌, List, [], ◌++◌, length, Option, Some, None, Err, inr, arith, append_assoc, length-append, option_to_list, AreBytes, Tree, Trees, no_item, more, trees, depth, spelled, Fits, Wellformed, Placed, PlacedAll, WireFault, WireReason, Truncated, OpenContainer, IsWellformed, Fault, AreComplete, Feeding, Accepts, Refuses, RunsShort, Feeds, append_trees, Unfinished, nothing, State, Live, Failed, start, IsLive, ready_in, held, run, IsReached, Stops}
 use Rattle.cborn_model.proofs.Bytes.{bytes-append, bytes-right}
-use Rattle.cborn_wire.specs.declared.faults.WireFault.{WireFault}
 use Rattle.cborn_wire.specs.declared.faults.WireFault.TheVariants as faults
-use Rattle.cborn_wire.specs.declared.faults.WireReason.{WireReason}
-use Rattle.cborn_wire.specs.declared.faults.WireReason.TheVariants.{Truncated}
-use Rattle.cborn_wire.specs.Slots.{OpenContainer}
-use Rattle.cborn_wire.specs.Faults.{IsWellformed, Refused, Fault}
-use Rattle.cborn_wire.specs.Feeding.{AreComplete, Feeding, IsFed, Accepts, Refuses, RunsShort, Feeds}
-use Rattle.cborn_wire.specs.shared.Machine.{append_trees, Unfinished, nothing, State, Live, Failed, start, IsLive, ready_in, held, run, IsReached, Stops}
+use Rattle.cborn_wire.specs.Faults.{Refused}
+use Rattle.cborn_wire.specs.Feeding.{IsFed}
 use Rattle.cborn_wire.proofs.Machine.Running.{run-append}
 use Rattle.cborn_wire.proofs.Machine.WholeFront.{with_front}
 use Rattle.cborn_wire.proofs.Spelled.OneReading.{reads, ends_read, after_first}

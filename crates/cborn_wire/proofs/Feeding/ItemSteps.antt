@@ -1,24 +1,8 @@
 -- What a reader of items takes of a piece, as steps of the machine.
-use Rattle.std.proofs.Common.{◌≡◌, refl, sym, ap, ◌∙◌, subst, ℕ, List, [], ◌∷◌, ◌++◌, length, Option, Some, None, Err, inl, inr, arith}
-use Rattle.std.proofs.lemmas.List.{nil_from_length}
-use Rattle.cborn_model.specs.Tree.{Tree, Trees, no_item, more, trees}
-use Rattle.cborn_model.specs.Spelled.{IsSpelled}
-use Rattle.cborn_model.specs.Partial.{Partial, top, inside, Part, no_part, part, put, whole}
-use Rattle.cborn_wire.specs.declared.faults.VisitFault.{VisitFault}
-use Rattle.cborn_wire.specs.declared.faults.VisitFault.TheVariants.{Refused, Memory}
-use Rattle.cborn_wire.specs.declared.levels.LevelKind.TheVariants.{Sequence}
-use Rattle.cborn_wire.specs.declared.levels.Level.{Level}
+use Rattle.cborn_wire.proofs.Common.{◌≡◌, refl, sym, ap, ◌∙◌, subst, ℕ, List, [], ◌∷◌, ◌++◌, length, Option, Some, None, Err, inl, inr, arith, nil_from_length, Tree, Trees, no_item, more, trees, IsSpelled, Partial, top, inside, Part, no_part, part, put, whole, VisitFault, Refused, Memory, Sequence, Level, PartialHead, HeadReader, Nodes, ItemReader, OpenContainer, Unfinished, nothing, State, Live, Failed, ready_in, start, run, AtMostOneMore, ready, open_in, unfinished, state, seen_head, Keeps, IsFresh, IsInput, Missing, Stands, HereAt, MayEnd, IsFed, FailsAs, seen_string, seen_nodes, IsHeld, pending, seen, IsMade}
 use Rattle.cborn_wire.specs.declared.levels.GrownLevels.{GrownLevels}
-use Rattle.cborn_wire.specs.declared.head_readers.PartialHead.{PartialHead}
-use Rattle.cborn_wire.specs.declared.head_readers.HeadReader.{HeadReader}
-use Rattle.cborn_wire.specs.declared.nodes.Nodes.{Nodes}
-use Rattle.cborn_wire.specs.declared.item_readers.ItemReader.{ItemReader}
-use Rattle.cborn_wire.specs.Slots.{OpenContainer}
-use Rattle.cborn_wire.specs.shared.Machine.{Unfinished, nothing, State, Live, Failed, ready_in, start, run, AtMostOneMore}
 use Rattle.cborn_wire.specs.shared.Visiting as visiting
-use Rattle.cborn_wire.specs.shared.Visiting.{levels as levels_of, ready, open_in, unfinished, state, seen_head, Keeps, IsFresh, IsInput, Missing, Stands, HereAt, MayEnd, IsFed, FailsAs}
-use Rattle.cborn_wire.specs.devices.OpenNodes.{seen_string, seen_nodes, IsHeld}
-use Rattle.cborn_wire.specs.devices.ItemReading.{pending, seen, IsMade}
+use Rattle.cborn_wire.specs.shared.Visiting.{levels as levels_of}
 use Rattle.cborn_wire.proofs.Machine.Running.{run-append}
 use Rattle.cborn_wire.proofs.Machine.Reached.{reached_item}
 use Rattle.cborn_wire.proofs.Visiting.Taking.{outer_count}

@@ -1,8 +1,6 @@
 -- What an answer says of the fault in it.
-use Rattle.std.proofs.Common.{◌≡◌, sym, ◌∙◌, ℕ, Result, Ok, Err, OnErr, IsErrAnd}
-use Rattle.cborn_wire.specs.declared.faults.WireFault.{WireFault}
+use Rattle.cborn_wire.proofs.Common.{◌≡◌, sym, ◌∙◌, ℕ, Result, Ok, Err, OnErr, IsErrAnd, WireFault, WireReason}
 use Rattle.cborn_wire.specs.declared.faults.WireFault.TheVariants as faults
-use Rattle.cborn_wire.specs.declared.faults.WireReason.{WireReason}
 
 pub refused_is : (p q : ℕ) (r s : WireReason) → faults.Refused p r ≡ faults.Refused q s → (p ≡ q) × (r ≡ s)
 refused_is p q r s e = (cc, cc)

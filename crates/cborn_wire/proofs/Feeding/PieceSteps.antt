@@ -1,16 +1,6 @@
 -- A piece is read item by item, as steps of the machine.
-use Rattle.std.proofs.Common.{◌≡◌, sym, ap, ◌∙◌, ℕ, List, [], ◌++◌, take, Option, arith, length-append}
-use Rattle.std.specs.Option.{option_to_list}
-use Rattle.std.proofs.lemmas.List.{length-take-le}
-use Rattle.cborn_model.specs.Tree.{Tree, no_item, trees}
-use Rattle.cborn_wire.specs.declared.faults.VisitFault.{VisitFault}
-use Rattle.cborn_wire.specs.declared.faults.VisitFault.TheVariants.{Refused, Memory}
-use Rattle.cborn_wire.specs.declared.item_readers.ItemReader.{ItemReader}
+use Rattle.cborn_wire.proofs.Common.{◌≡◌, sym, ap, ◌∙◌, ℕ, List, [], ◌++◌, take, Option, arith, length-append, option_to_list, length-take-le, Tree, no_item, trees, VisitFault, Refused, Memory, ItemReader, Live, Failed, ready_in, run, Stops, open_in, FailsAs, seen_nodes, pending, seen, Took, IsMoved}
 use Rattle.cborn_wire.specs.Visits.{wire_fault}
-use Rattle.cborn_wire.specs.shared.Machine.{Live, Failed, ready_in, run, Stops}
-use Rattle.cborn_wire.specs.shared.Visiting.{open_in, FailsAs}
-use Rattle.cborn_wire.specs.devices.OpenNodes.{seen_nodes}
-use Rattle.cborn_wire.specs.devices.ItemReading.{pending, seen, Took, IsMoved}
 use Rattle.cborn_wire.proofs.Machine.Running.{run-append}
 use Rattle.cborn_wire.proofs.Machine.TakesItems.{append_trees-nil}
 use Rattle.cborn_wire.proofs.Machine.WholeFront.{with_front, front_run}

@@ -1,11 +1,6 @@
 -- A reader that gives its whole input to a feeder reads it, or gives its fault.
-use Rattle.std.proofs.Common.{◌≡◌, sym, ap, ◌∙◌, subst, ℕ, List, length, inl, arith, zero-add, None, Result, Err, OnErr}
-use Rattle.cborn_wire.specs.declared.faults.WireFault.{WireFault}
+use Rattle.cborn_wire.proofs.Common.{◌≡◌, sym, ap, ◌∙◌, subst, ℕ, List, length, inl, arith, zero-add, None, Result, Err, OnErr, WireFault, WireReason, Truncated, Fault, Feeding, fresh, Accepts, Refuses, Feeds}
 use Rattle.cborn_wire.specs.declared.faults.WireFault.TheVariants as faults
-use Rattle.cborn_wire.specs.declared.faults.WireReason.{WireReason}
-use Rattle.cborn_wire.specs.declared.faults.WireReason.TheVariants.{Truncated}
-use Rattle.cborn_wire.specs.Faults.{Fault}
-use Rattle.cborn_wire.specs.Feeding.{Feeding, fresh, Accepts, Refuses, Feeds}
 use Rattle.cborn_wire.proofs.Feeding.Outcomes.{refused_is, err_is, on_err}
 
 pub all_refused : (limit : ℕ) (x : List ℕ) (g : Feeding) (p : ℕ) (r : WireReason) → Refuses x (fresh limit) g p r → Fault limit x p r

@@ -1,21 +1,10 @@
 -- What `read_head` answers, at each kind of initial byte.
-use Rattle.std.proofs.Common.{◌≡◌, refl, sym, ap, ◌∙◌, subst, ℕ, zero, suc, ◌+◌, ◌-◌, ◌*◌, ◌/◌, ◌%◌, ◌<◌, ◌≤◌, List, [], ◌∷◌, ◌++◌, length, take, drop, get_or, true, false, None, arith, length-append}
-use Rattle.std.proofs.lemmas.List.{take-append-drop, length-take-le, length-replicate}
+use Rattle.cborn_wire.proofs.Common.{◌≡◌, refl, sym, ap, ◌∙◌, subst, ℕ, zero, suc, ◌+◌, ◌-◌, ◌*◌, ◌/◌, ◌%◌, ◌<◌, ◌≤◌, List, [], ◌∷◌, ◌++◌, length, take, drop, get_or, true, false, None, arith, length-append, take-append-drop, length-take-le, length-replicate, AreBytes, Width, Direct, One, Two, Four, Eight, Major, Unsigned, Negative, Tag, Other, code, information, following, major_at, reason_alone, IsHeadOf, IsFrontOfHead, ReadsHead, element_or_end, Info, Now, Next, EndlessInformation, info_at, is_endless_head, is_always_bounded, is_other, head_reason, width_bytes, number}
 use Rattle.std.proofs.Math.ListN.{replicate}
-use Rattle.cborn_model.specs.Bytes.{AreBytes}
-use Rattle.cborn_model.specs.declared.heads.Width.{Width}
-use Rattle.cborn_model.specs.declared.heads.Width.TheVariants.{Direct, One, Two, Four, Eight}
-use Rattle.cborn_model.specs.declared.heads.Major.{Major}
-use Rattle.cborn_model.specs.declared.heads.Major.TheVariants.{Unsigned, Negative, Tag, Other}
-use Rattle.cborn_model.specs.Heads.{code, information, following}
 use Rattle.cborn_model.specs.Heads as heads
 use Rattle.cborn_model.proofs.Bytes.{bytes-append, bytes-left}
 use Rattle.cborn_wire.specs.declared.heads.Argument.TheVariants.{Given, Endless}
 use Rattle.cborn_wire.specs.declared.heads.HeadRead.{HeadRead}
-use Rattle.cborn_wire.specs.HeadReading.{major_at, reason_alone, IsHeadOf, IsFrontOfHead, ReadsHead}
-use Rattle.cborn_wire.specs.Slots.{element_or_end}
-use Rattle.cborn_wire.specs.shared.InitialBytes.{Info, Now, Next, EndlessInformation, info_at, is_endless_head, is_always_bounded, is_other, head_reason}
-use Rattle.cborn_wire.specs.shared.Machine.{width_bytes, number}
 use Rattle.cborn_wire.proofs.HeadReading.InitialBytes.{same_alone}
 use Rattle.cborn_wire.proofs.Machine.TakesHeads.{info_at-now}
 use Rattle.cborn_wire.proofs.Machine.SoundRuns.{code_at, IsWide, InfoIs, info_is, again, wide_information}

@@ -1,22 +1,7 @@
 -- The machine takes what `read_head` reads.
-use Rattle.std.proofs.Common.{◌≡◌, refl, sym, ap, ◌∙◌, ℕ, suc, ◌+◌, ◌/◌, ◌%◌, ◌<◌, ◌≤◌, List, [], ◌∷◌, ◌++◌, length, take, get_or, Bool, true, false, ◌&&◌, cond, leb, Option, Some, None, arith, append-nil, length-append, add-one}
+use Rattle.cborn_wire.proofs.Common.{◌≡◌, refl, sym, ap, ◌∙◌, ℕ, suc, ◌+◌, ◌/◌, ◌%◌, ◌<◌, ◌≤◌, List, [], ◌∷◌, ◌++◌, length, take, get_or, Bool, true, false, ◌&&◌, cond, leb, Option, Some, None, arith, append-nil, length-append, add-one, take_all, take-append-le, length-take, take_more, Width, Direct, Major, Other, Argument, Given, EndlessArgument, head, Trees, WireReason, BadSimple, TooDeep, UnexpectedBreak, Head, major_at, seen_argument, reason_alone, IsHeadOf, built, Slot, item, element_or_end, key_or_end, chunk, OpenContainer, opened, slot, slot_in, open_depth, needs_item, begins_low, Info, EndlessInformation, info_at, is_break, is_other, is_one, is_container, head_reason, width_bytes, number, argument_of, nothing, gathering, State, Live, Failed, finished, ended, after_head, unless, at_slot, run}
 use Rattle.std.proofs.Math.Bool.{and-false}
-use Rattle.std.proofs.lemmas.List.{take_all, take-append-le, length-take, take_more}
-use Rattle.cborn_model.specs.declared.heads.Width.{Width}
-use Rattle.cborn_model.specs.declared.heads.Width.TheVariants.{Direct}
-use Rattle.cborn_model.specs.declared.heads.Major.{Major}
-use Rattle.cborn_model.specs.declared.heads.Major.TheVariants.{Other}
-use Rattle.cborn_model.specs.Heads.{Argument, Given, EndlessArgument, head}
-use Rattle.cborn_model.specs.Tree.{Trees}
-use Rattle.cborn_wire.specs.declared.faults.WireReason.{WireReason}
-use Rattle.cborn_wire.specs.declared.faults.WireReason.TheVariants.{BadSimple, TooDeep, UnexpectedBreak}
-use Rattle.cborn_wire.specs.declared.heads.Head.{Head}
-use Rattle.cborn_wire.specs.HeadReading.{major_at, seen_argument, reason_alone, IsHeadOf}
-use Rattle.cborn_model.specs.Partial.{built}
-use Rattle.cborn_wire.specs.Slots.{Slot, item, value as a_value, element_or_end, key_or_end, chunk, OpenContainer, opened, slot, slot_in, open_depth}
-use Rattle.cborn_wire.specs.SlotFaults.{needs_item, begins_low}
-use Rattle.cborn_wire.specs.shared.InitialBytes.{Info, EndlessInformation, info_at, is_break, is_other, is_one, is_container, head_reason}
-use Rattle.cborn_wire.specs.shared.Machine.{width_bytes, number, argument_of, nothing, gathering, State, Live, Failed, finished, ended, after_head, unless, at_slot, run}
+use Rattle.cborn_wire.specs.Slots.{value as a_value}
 use Rattle.cborn_wire.proofs.HeadReading.InitialBytes.{same_alone}
 use Rattle.cborn_wire.proofs.Machine.Pieces.{takes_whole_head, refuses_first, argument_done}
 use Rattle.cborn_wire.proofs.Machine.SoundSteps.{is_clear}

@@ -1,16 +1,5 @@
 -- Where an item becomes complete nothing is left open, so a reader of one item may stop there.
-use Rattle.std.proofs.Common.{refl, ℕ, List, [], ◌∷◌, ◌++◌, length, Bool, true, false, cond, ltb, leb, inl, inr}
-use Rattle.cborn_model.specs.declared.heads.Width.{Width}
-use Rattle.cborn_model.specs.declared.heads.Width.TheVariants.{Direct, One}
-use Rattle.cborn_model.specs.declared.heads.Major.{Major}
-use Rattle.cborn_model.specs.declared.heads.Major.TheVariants.{Unsigned, Negative, ByteString, TextString, Array, Map, Tag, Other}
-use Rattle.cborn_model.specs.Heads.{Argument, Given, EndlessArgument}
-use Rattle.cborn_model.specs.Partial.{Opening, an_array, a_map, built, string_tree}
-use Rattle.cborn_model.specs.Tree.{Tree, Trees}
-use Rattle.cborn_wire.specs.Slots.{StringKind, OfBytes, OfText, OpenContainer, opened, slot_in}
-use Rattle.cborn_wire.specs.SlotFaults.{needs_item}
-use Rattle.cborn_wire.specs.HeadReading.{size_in, count_in}
-use Rattle.cborn_wire.specs.shared.Machine.{State, is_full, finished, holding, content_at, ended, after_head, AtMostOneMore}
+use Rattle.cborn_wire.proofs.Common.{refl, ℕ, List, [], ◌∷◌, ◌++◌, length, Bool, true, false, cond, ltb, leb, inl, inr, Width, Direct, One, Major, Unsigned, Negative, ByteString, TextString, Array, Map, Tag, Other, Argument, Given, EndlessArgument, Opening, an_array, a_map, built, string_tree, Tree, Trees, StringKind, OfBytes, OfText, OpenContainer, opened, slot_in, needs_item, size_in, count_in, State, is_full, finished, holding, content_at, ended, after_head, AtMostOneMore}
 
 one_more_if : (ready : Trees) (c : Bool) {s u : State} → AtMostOneMore ready s → AtMostOneMore ready u → AtMostOneMore ready (cond c s u)
 one_more_if ready true h k = h

@@ -1,18 +1,6 @@
 -- A piece may be taken by heads and by slices, and not byte by byte.
-use Rattle.std.proofs.Common.{◌≡◌, refl, sym, ap, ◌∙◌, ℕ, suc, ◌+◌, ◌*◌, ◌/◌, ◌%◌, ◌<◌, ◌≤◌, List, [], ◌∷◌, ◌++◌, length, cond, leb, Some, None, arith, append-nil, length-append}
-use Rattle.std.proofs.lemmas.Bool.{lt-leb, le-leb}
-use Rattle.cborn_model.specs.declared.heads.Width.{Width}
-use Rattle.cborn_model.specs.declared.heads.Width.TheVariants.{Direct, One, Two, Four, Eight}
-use Rattle.cborn_model.specs.declared.heads.Major.{Major}
-use Rattle.cborn_model.specs.Heads.{Argument, Given, EndlessArgument, code, following, head}
-use Rattle.cborn_model.specs.Partial.{string_tree}
-use Rattle.cborn_model.specs.Tree.{Trees}
-use Rattle.cborn_wire.specs.declared.faults.WireReason.{WireReason}
-use Rattle.cborn_wire.specs.Slots.{StringKind, OpenContainer, slot, open_depth}
-use Rattle.cborn_wire.specs.shared.InitialBytes.{info_at, head_reason, info_for}
-use Rattle.cborn_wire.specs.shared.Machine.{number, argument_of, content_of, nothing, gathering, Live, Failed, finished, after_head, gathered, gather, begin_head, unless, step, run}
+use Rattle.cborn_wire.proofs.Common.{◌≡◌, refl, sym, ap, ◌∙◌, ℕ, suc, ◌+◌, ◌*◌, ◌/◌, ◌%◌, ◌<◌, ◌≤◌, List, [], ◌∷◌, ◌++◌, length, cond, leb, Some, None, arith, append-nil, length-append, lt-leb, le-leb, Width, Direct, One, Two, Four, Eight, Major, Argument, Given, EndlessArgument, code, following, head, string_tree, Trees, WireReason, StringKind, OpenContainer, slot, open_depth, info_at, head_reason, info_for, number, argument_of, content_of, nothing, gathering, Live, Failed, finished, after_head, gathered, gather, begin_head, unless, step, run, major_at, ArgumentFits}
 use Rattle.cborn_wire.proofs.Machine.Running.{failed_run}
-use Rattle.cborn_wire.specs.HeadReading.{major_at, ArgumentFits}
 use Rattle.cborn_wire.proofs.Machine.TakesHeads.{gathers, takes_head, quotient, remainder, major_at-code, info_at-now}
 
 -- the initial byte of a head, and what its information is

@@ -1,12 +1,6 @@
 -- What is known of a state that some bytes make.
-use Rattle.std.proofs.Common.{◌≡◌, refl, sym, ap, ◌∙◌, subst, ℕ, ◌+◌, ◌≤◌, List, [], ◌∷◌, ◌++◌, length, arith}
-use Rattle.cborn_model.specs.Bytes.{AreBytes}
-use Rattle.cborn_model.specs.Partial.{in_chunks}
-use Rattle.cborn_model.specs.Tree.{Tree, Trees, no_item, more, depth, depth_all}
-use Rattle.cborn_model.specs.Spelled.{Fits, FitsAll}
+use Rattle.cborn_wire.proofs.Common.{◌≡◌, refl, sym, ap, ◌∙◌, subst, ℕ, ◌+◌, ◌≤◌, List, [], ◌∷◌, ◌++◌, length, arith, AreBytes, in_chunks, Tree, Trees, no_item, more, depth, depth_all, Fits, FitsAll, OpenContainer, opened, open_depth, IsNoString, AreOpen, snoc, Unfinished, State, Live, Failed, start, IsLive, held, run, IsReached}
 use Rattle.cborn_model.proofs.Bytes.{bytes-append}
-use Rattle.cborn_wire.specs.Slots.{OpenContainer, opened, open_depth, IsNoString, AreOpen}
-use Rattle.cborn_wire.specs.shared.Machine.{snoc, Unfinished, State, Live, Failed, start, IsLive, held, run, IsReached}
 use Rattle.cborn_wire.proofs.Machine.Running.{run-append}
 use Rattle.cborn_wire.proofs.Machine.SoundItems.{SoundLive, Sound}
 use Rattle.cborn_wire.proofs.Machine.SoundRuns.{sound}

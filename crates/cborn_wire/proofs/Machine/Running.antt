@@ -1,8 +1,5 @@
 -- A run over one list after another, and the run of what failed.
-use Rattle.std.proofs.Common.{◌≡◌, refl, ℕ, List, [], ◌∷◌, ◌++◌}
-use Rattle.cborn_model.specs.Tree.{Trees}
-use Rattle.cborn_wire.specs.declared.faults.WireReason.{WireReason}
-use Rattle.cborn_wire.specs.shared.Machine.{State, Failed, step, run}
+use Rattle.cborn_wire.proofs.Common.{◌≡◌, refl, ℕ, List, [], ◌∷◌, ◌++◌, Trees, WireReason, State, Failed, step, run}
 
 pub run-append : (limit : ℕ) (s : State) (x y : List ℕ) → run limit s (x ++ y) ≡ run limit (run limit s x) y
 run-append limit s [] y = refl

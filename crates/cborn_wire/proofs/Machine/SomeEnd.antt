@@ -1,29 +1,11 @@
 -- What is refused, and what can go on.
-use Rattle.std.proofs.Common.{◌≡◌, refl, sym, ap, ◌∙◌, subst, ℕ, zero, suc, ◌+◌, ◌-◌, ◌*◌, ◌/◌, ◌%◌, ◌<◌, ◌≤◌, List, [], ◌∷◌, ◌++◌, length, Bool, true, false, ◌&&◌, cond, ltb, leb, Option, Some, None, arith, length-append, add-one, add-zero}
-use Rattle.std.proofs.lemmas.Bool.{lt-leb, le-leb, le-ltb}
-use Rattle.cborn_model.specs.Bytes.{AreBytes}
-use Rattle.cborn_model.specs.declared.heads.Width.{Width}
-use Rattle.cborn_model.specs.declared.heads.Width.TheVariants.{Direct, One, Two, Four, Eight}
-use Rattle.cborn_model.specs.declared.heads.Size.TheVariants.{Fixed}
-use Rattle.cborn_model.specs.declared.heads.Major.{Major}
-use Rattle.cborn_model.specs.declared.heads.Major.TheVariants.{Unsigned, Negative, ByteString, TextString, Array, Map, Tag, Other}
-use Rattle.cborn_model.specs.Heads.{Given}
-use Rattle.cborn_model.specs.Partial.{Opening, an_array, a_map, a_tag, in_chunks, last_key, built, string_tree}
-use Rattle.cborn_model.specs.Tree.{Tree, Uint, Simple, Trees}
-use Rattle.cborn_wire.specs.declared.faults.WireReason.{WireReason}
-use Rattle.cborn_wire.specs.declared.faults.WireReason.TheVariants.{BadSimple}
-use Rattle.cborn_wire.specs.Slots.{StringKind, OfBytes, OfText, Slot, OpenContainer, opened, slot, slot_in, slot_in_map, open_depth, AreOpen}
-use Rattle.cborn_wire.specs.SlotFaults.{needs_item, begins_low}
-use Rattle.cborn_wire.specs.HeadReading.{major_at}
-use Rattle.cborn_wire.specs.shared.InitialBytes.{Info, Now, Next, info_at, is_other, is_one, is_bad_chunk, head_reason, front_reason, info_for}
-use Rattle.cborn_wire.specs.shared.Machine.{snoc, width_bytes, number, Goal, argument_of, content_of, Unfinished, nothing, gathering, State, Live, Failed, is_full, finished, holding, gather, begin_head, after_head, unless, step, run}
+use Rattle.cborn_wire.proofs.Common.{◌≡◌, refl, sym, ap, ◌∙◌, subst, ℕ, zero, suc, ◌+◌, ◌-◌, ◌*◌, ◌/◌, ◌%◌, ◌<◌, ◌≤◌, List, [], ◌∷◌, ◌++◌, length, Bool, true, false, ◌&&◌, cond, ltb, leb, Option, Some, None, arith, length-append, add-one, add-zero, lt-leb, le-leb, le-ltb, AreBytes, Width, Direct, One, Two, Four, Eight, Fixed, Major, Unsigned, Negative, ByteString, TextString, Array, Map, Tag, Other, Given, Opening, an_array, a_map, a_tag, in_chunks, last_key, built, string_tree, Tree, Uint, Simple, Trees, WireReason, BadSimple, StringKind, OfBytes, OfText, Slot, OpenContainer, opened, slot, slot_in, slot_in_map, open_depth, AreOpen, needs_item, begins_low, major_at, Info, Now, Next, info_at, is_other, is_one, is_bad_chunk, head_reason, front_reason, info_for, snoc, width_bytes, number, Goal, argument_of, content_of, Unfinished, nothing, gathering, State, Live, Failed, is_full, finished, holding, gather, begin_head, after_head, unless, step, run, get_or_at}
 use Rattle.cborn_wire.proofs.Machine.Running.{failed_run}
 use Rattle.cborn_wire.proofs.Machine.Containers.{value_next, not_full}
 use Rattle.cborn_wire.proofs.Machine.TakesItems.{takes_break}
 use Rattle.cborn_wire.proofs.Machine.SoundItems.{SoundLive}
 use Rattle.cborn_wire.proofs.Machine.SoundSteps.{Clear, is_clear}
 use Rattle.cborn_wire.proofs.Machine.SoundRuns.{reason_stays, wide, wide_info}
-use Rattle.std.proofs.lemmas.List.{get_or_at}
 
 pub some_is : (q r : WireReason) → Some q ≡ Some r → q ≡ r
 some_is q r e = cc

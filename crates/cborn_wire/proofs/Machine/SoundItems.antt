@@ -1,16 +1,5 @@
 -- What the machine has is what was read.
-use Rattle.std.proofs.Common.{◌≡◌, refl, sym, ap, ◌∙◌, subst, ℕ, ◌+◌, ◌<◌, ◌≤◌, List, [], ◌∷◌, ◌++◌, length, Bool, true, false, cond, leb, Some, None, arith, append_assoc, append-nil, length-append, add-zero, max}
-use Rattle.cborn_model.specs.Bytes.{AreBytes}
-use Rattle.cborn_model.specs.Heads.{Given, WidthFits}
-use Rattle.cborn_model.specs.Partial.{Opening, in_chunks, built, Goes, Ends}
-use Rattle.cborn_model.specs.Tree.{Tree, Trees, no_item, more, trees, depth, depth_all}
-use Rattle.cborn_model.specs.Spelled.{spelled, spelled_all, Fits, FitsAll}
-use Rattle.cborn_model.specs.Placed.{Placed, PlacedAll}
-use Rattle.cborn_wire.specs.declared.faults.WireReason.{WireReason}
-use Rattle.cborn_wire.specs.Slots.{major_of, OpenContainer, opened, opening, beginnings, slot, added_depth, open_depth, HeadFits, IsNoString, MayBegin}
-use Rattle.cborn_wire.specs.shared.InitialBytes.{Next, is_bad_chunk, head_reason, front_reason, info_for}
-use Rattle.cborn_wire.specs.shared.Ground.{IsPlacedOpen, Ground}
-use Rattle.cborn_wire.specs.shared.Machine.{front, partial_bytes, snoc, width_bytes, argument_of, content_of, Unfinished, nothing, gathering, State, Live, Failed, is_full, finished, holding}
+use Rattle.cborn_wire.proofs.Common.{◌≡◌, refl, sym, ap, ◌∙◌, subst, ℕ, ◌+◌, ◌<◌, ◌≤◌, List, [], ◌∷◌, ◌++◌, length, Bool, true, false, cond, leb, Some, None, arith, append_assoc, append-nil, length-append, add-zero, max, AreBytes, Given, WidthFits, Opening, in_chunks, built, Goes, Ends, Tree, Trees, no_item, more, trees, depth, depth_all, spelled, spelled_all, Fits, FitsAll, Placed, PlacedAll, WireReason, major_of, OpenContainer, opened, opening, beginnings, slot, added_depth, open_depth, HeadFits, IsNoString, MayBegin, Next, is_bad_chunk, head_reason, front_reason, info_for, IsPlacedOpen, Ground, front, partial_bytes, snoc, width_bytes, argument_of, content_of, Unfinished, nothing, gathering, State, Live, Failed, is_full, finished, holding}
 use Rattle.cborn_wire.proofs.Spelled.TreeLists.{trees-push}
 use Rattle.cborn_wire.proofs.Machine.Containers.{Belongs, closing, full_closing, goes_on, goes_whole, built_spelled, built_fits, built_deep, built_placed}
 

@@ -1,26 +1,8 @@
 -- A whole run keeps what the machine has to what was read.
-use Rattle.std.proofs.Common.{◌≡◌, refl, sym, ap, ◌∙◌, subst, ℕ, zero, suc, ◌+◌, ◌*◌, ◌/◌, ◌%◌, ◌<◌, ◌≤◌, List, [], ◌∷◌, ◌++◌, length, get_or, Bool, true, false, cond, ◌&&◌, ltb, leb, eqb, Option, Some, None, arith, append_assoc, append-nil}
-use Rattle.std.proofs.lemmas.List.{length_push}
-use Rattle.std.proofs.lemmas.Bool.{cond_both, leb-true, leb-false, ltb-true, eqb-true}
-use Rattle.std.proofs.lemmas.Nat.{be_bytes_2, be_bytes_4, be_bytes_8}
-use Rattle.cborn_model.specs.Bytes.{AreBytes}
-use Rattle.cborn_model.specs.declared.heads.Width.{Width}
-use Rattle.cborn_model.specs.declared.heads.Width.TheVariants.{Direct, One, Two, Four, Eight}
-use Rattle.cborn_model.specs.declared.heads.Major.{Major}
-use Rattle.cborn_model.specs.declared.heads.Major.TheVariants.{Other}
-use Rattle.cborn_model.specs.Heads.{Given, EndlessArgument, code, information, following, head, WidthFits}
-use Rattle.cborn_model.specs.Tree.{Trees}
+use Rattle.cborn_wire.proofs.Common.{◌≡◌, refl, sym, ap, ◌∙◌, subst, ℕ, zero, suc, ◌+◌, ◌*◌, ◌/◌, ◌%◌, ◌<◌, ◌≤◌, List, [], ◌∷◌, ◌++◌, length, get_or, Bool, true, false, cond, ◌&&◌, ltb, leb, eqb, Option, Some, None, arith, append_assoc, append-nil, length_push, cond_both, leb-true, leb-false, ltb-true, eqb-true, be_bytes_2, be_bytes_4, be_bytes_8, AreBytes, Width, Direct, One, Two, Four, Eight, Major, Other, Given, EndlessArgument, code, information, following, head, WidthFits, Trees, WireReason, BadSimple, TooDeep, major_of, Slot, OpenContainer, slot, open_depth, needs_item, begins_low, Info, Now, Next, Reserved, EndlessInformation, info_at, is_bad_chunk, head_reason, front_reason, is_reserved, is_endless_head, is_always_bounded, is_break, is_other, is_float, is_one, is_container, info_for, major_at, start, width_bytes, number, argument_of, content_of, nothing, gathering, State, Live, Failed, gather, begin_head, after_head, at_slot, unless, step, run, front, Ground}
 use Rattle.cborn_model.proofs.Bytes.{bytes-append}
 pub use Rattle.cborn_model.proofs.Numbers.Majors.{code_at}
-use Rattle.cborn_wire.specs.declared.faults.WireReason.{WireReason}
-use Rattle.cborn_wire.specs.declared.faults.WireReason.TheVariants.{BadSimple, TooDeep}
-use Rattle.cborn_wire.specs.Slots.{major_of, Slot, OpenContainer, slot, open_depth}
-use Rattle.cborn_wire.specs.SlotFaults.{needs_item, begins_low}
-use Rattle.cborn_wire.specs.shared.InitialBytes.{Info, Now, Next, Reserved, EndlessInformation, info_at, is_bad_chunk, head_reason, front_reason, is_reserved, is_endless_head, is_always_bounded, is_break, is_other, is_float, is_one, is_container, info_for}
-use Rattle.cborn_wire.specs.HeadReading.{major_at}
-use Rattle.cborn_wire.specs.shared.Machine.{start, width_bytes, number, argument_of, content_of, nothing, gathering, State, Live, Failed, gather, begin_head, after_head, at_slot, unless, step, run, front}
 use Rattle.cborn_wire.proofs.Machine.SoundItems.{SoundLive, Sound}
-use Rattle.cborn_wire.specs.shared.Ground.{Ground}
 use Rattle.cborn_wire.proofs.Machine.SoundSteps.{Clear, is_clear, sound_head, sound_content}
 
 pub initial : (b : ℕ) → b < 256 → b ≡ 32 * code (major_at (b / 32)) + b % 32

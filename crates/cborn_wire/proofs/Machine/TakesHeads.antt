@@ -1,17 +1,6 @@
 -- The machine takes a head.
-use Rattle.std.proofs.Common.{◌≡◌, refl, sym, ap, ◌∙◌, ℕ, suc, ◌+◌, ◌*◌, ◌/◌, ◌%◌, ◌<◌, ◌≤◌, List, [], ◌∷◌, ◌++◌, length, cond, leb, None, arith, append_assoc, append-nil, length-append, add-one, add-zero}
-use Rattle.std.proofs.lemmas.Bool.{lt-leb, le-leb, lt-ltb}
-use Rattle.std.proofs.lemmas.Nat.{from_be_bytes-to_be_bytes_2, from_be_bytes-to_be_bytes_4, from_be_bytes-to_be_bytes_8}
-use Rattle.cborn_model.specs.declared.heads.Width.{Width}
-use Rattle.cborn_model.specs.declared.heads.Width.TheVariants.{Direct, One, Two, Four, Eight}
-use Rattle.cborn_model.specs.declared.heads.Major.{Major}
-use Rattle.cborn_model.specs.Heads.{Argument, Given, EndlessArgument, code, following, head}
-use Rattle.cborn_model.specs.Tree.{Trees}
+use Rattle.cborn_wire.proofs.Common.{◌≡◌, refl, sym, ap, ◌∙◌, ℕ, suc, ◌+◌, ◌*◌, ◌/◌, ◌%◌, ◌<◌, ◌≤◌, List, [], ◌∷◌, ◌++◌, length, cond, leb, None, arith, append_assoc, append-nil, length-append, add-one, add-zero, lt-leb, le-leb, lt-ltb, from_be_bytes-to_be_bytes_2, from_be_bytes-to_be_bytes_4, from_be_bytes-to_be_bytes_8, Width, Direct, One, Two, Four, Eight, Major, Argument, Given, EndlessArgument, code, following, head, Trees, major_at, ArgumentFits, OpenContainer, slot, open_depth, Info, Now, Next, EndlessInformation, info_at, info_for, head_reason, width_bytes, number, Goal, argument_of, nothing, gathering, Live, gather, gathered, begin_head, after_head, at_slot, unless, step, run}
 pub use Rattle.cborn_model.proofs.Numbers.Majors.{major_at-code}
-use Rattle.cborn_wire.specs.HeadReading.{major_at, ArgumentFits}
-use Rattle.cborn_wire.specs.Slots.{OpenContainer, slot, open_depth}
-use Rattle.cborn_wire.specs.shared.InitialBytes.{Info, Now, Next, EndlessInformation, info_at, info_for, head_reason}
-use Rattle.cborn_wire.specs.shared.Machine.{width_bytes, number, Goal, argument_of, nothing, gathering, Live, gather, gathered, begin_head, after_head, at_slot, unless, step, run}
 
 pub quotient : (c i : ℕ) → i < 32 → (32 * c + i) / 32 ≡ c
 quotient c i h = omega arith

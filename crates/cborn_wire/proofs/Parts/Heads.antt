@@ -1,13 +1,6 @@
 -- A head that was read at the front of bytes, and what is after it.
-use Rattle.std.proofs.Common.{◌≡◌, ℕ, List, ◌++◌, drop, sym, ap, ◌∙◌, append_assoc, append-nil, drop_at}
-use Rattle.cborn_model.specs.declared.heads.Major.{Major}
-use Rattle.cborn_model.specs.declared.heads.Size.TheVariants.{Fixed}
-use Rattle.cborn_model.specs.declared.heads.Width.{Width}
-use Rattle.cborn_model.specs.Heads.{Given, head}
-use Rattle.cborn_model.specs.Spelled.{ending}
+use Rattle.cborn_wire.proofs.Common.{◌≡◌, ℕ, List, ◌++◌, drop, sym, ap, ◌∙◌, append_assoc, append-nil, drop_at, Major, Fixed, Width, Given, head, ending, Head, major_at, IsHeadOf, seen_argument}
 use Rattle.cborn_wire.specs.declared.heads.Argument.{Argument}
-use Rattle.cborn_wire.specs.declared.heads.Head.{Head}
-use Rattle.cborn_wire.specs.HeadReading.{major_at, IsHeadOf, seen_argument}
 
 pub head_split : (x : List ℕ) (h : Head) (n : ℕ) → IsHeadOf x h n → x ≡ head (major_at h.major) (seen_argument h.argument) ++ drop n x
 head_split x h n i =

@@ -1,15 +1,7 @@
 -- Nodes that were read: leaves, nodes one after another, arrays and tags.
-use Rattle.std.proofs.Common.{◌≡◌, ℕ, ◌+◌, ◌-◌, ◌≤◌, List, [], ◌∷◌, ◌++◌, length, refl, sym, ap, ◌∙◌, subst, arith, append_assoc, append-nil, length-append}
-use Rattle.cborn_model.specs.declared.heads.Width.{Width}
-use Rattle.cborn_model.specs.declared.heads.Size.TheVariants.{Fixed}
-use Rattle.cborn_model.specs.declared.heads.Major.TheVariants.{Unsigned, Negative, Array, Tag, Other}
-use Rattle.cborn_model.specs.Heads.{Given, head, WidthFits}
-use Rattle.cborn_model.specs.Spelled.{spelled, spelled_all, FitsAll, Wellformed}
-use Rattle.cborn_model.specs.Tree.{Tree, Uint, Nint, Items, Tagged, Simple, trees, depth_all, count}
+use Rattle.cborn_wire.proofs.Common.{◌≡◌, ℕ, ◌+◌, ◌-◌, ◌≤◌, List, [], ◌∷◌, ◌++◌, length, refl, sym, ap, ◌∙◌, subst, arith, append_assoc, append-nil, length-append, Width, Fixed, Unsigned, Negative, Array, Tag, Other, Given, head, WidthFits, spelled, spelled_all, FitsAll, Wellformed, Tree, Uint, Nint, Items, Tagged, Simple, trees, depth_all, count, seen_argument, IsSimpleArgument, NodeRead, NodesRead, Leaves}
 use Rattle.cborn_model.proofs.Listed.Trees.{count-trees}
 use Rattle.cborn_wire.specs.declared.heads.Argument.{Argument}
-use Rattle.cborn_wire.specs.HeadReading.{seen_argument}
-use Rattle.cborn_wire.specs.Parts.{IsSimpleArgument, NodeRead, NodesRead, Leaves}
 use Rattle.cborn_wire.proofs.Parts.Heads.{fixed_split}
 use Rattle.cborn_wire.proofs.Spelled.TreeLists.{trees-append, spelled_all-append}
 

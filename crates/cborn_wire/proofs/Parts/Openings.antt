@@ -1,18 +1,9 @@
 -- The head with which a node's bytes begin, and of two nodes at the front of the same bytes.
-use Rattle.std.proofs.Common.{◌≡◌, ℕ, ◌+◌, ◌*◌, ◌<◌, ◌⊎◌, inl, inr, List, [], ◌∷◌, ◌++◌, length, refl, sym, ap, ◌∙◌, subst, arith, append_assoc, append-nil, get_or}
-use Rattle.std.specs.List.{flat_map}
-use Rattle.cborn_model.specs.declared.heads.Major.{Major}
-use Rattle.cborn_model.specs.declared.heads.Major.TheVariants.{Unsigned, Negative, ByteString, TextString, Array, Map, Tag, Other}
-use Rattle.cborn_model.specs.declared.heads.Size.TheVariants.{Fixed, Endless}
-use Rattle.cborn_model.specs.declared.heads.Width.{Width}
-use Rattle.cborn_model.specs.declared.heads.Width.TheVariants.{Direct, One, Two, Four, Eight}
-use Rattle.cborn_model.specs.Heads.{Argument, Given, EndlessArgument, head, argument, code, major_at, information, least, WidthFits}
-use Rattle.cborn_model.specs.Spelled.{spelled, spelled_all, spelled_entries, Fits, chunk_bytes, ending}
-use Rattle.cborn_model.specs.Tree.{Tree, Uint, Nint, Bytes, Text, ByteChunks, TextChunks, Items, Pairs, Tagged, Simple, count, count_entries}
+use Rattle.cborn_wire.proofs.Common.{◌≡◌, ℕ, ◌+◌, ◌*◌, ◌<◌, ◌⊎◌, inl, inr, List, [], ◌∷◌, ◌++◌, length, refl, sym, ap, ◌∙◌, subst, arith, append_assoc, append-nil, get_or, flat_map, Major, Unsigned, Negative, ByteString, TextString, Array, Map, Tag, Other, Fixed, Endless, Width, Direct, One, Two, Four, Eight, Argument, Given, EndlessArgument, head, argument, code, information, least, WidthFits, spelled, spelled_all, spelled_entries, Fits, chunk_bytes, ending, Tree, Uint, Nint, Bytes, Text, ByteChunks, TextChunks, Items, Pairs, Tagged, Simple, count, count_entries, ArgumentFits}
+use Rattle.cborn_model.specs.Heads.{major_at}
 use Rattle.cborn_model.proofs.Numbers.Majors.{major_at-code}
 use Rattle.cborn_model.proofs.Numbers.OneHead.{append_same, one_head}
 use Rattle.cborn_model.proofs.Numbers.Simples.{simple_fits}
-use Rattle.cborn_wire.specs.HeadReading.{ArgumentFits}
 use Rattle.cborn_wire.proofs.Spelled.OneReading.{no_item_begins}
 
 -- ---- heads

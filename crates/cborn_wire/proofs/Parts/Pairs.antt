@@ -1,13 +1,6 @@
 -- Pairs that were read, and maps of them.
-use Rattle.std.proofs.Common.{◌≡◌, ℕ, ◌-◌, ◌≤◌, List, [], ◌++◌, refl, sym, ◌∙◌, subst, arith}
-use Rattle.cborn_model.specs.declared.heads.Width.{Width}
-use Rattle.cborn_model.specs.declared.heads.Size.TheVariants.{Fixed}
-use Rattle.cborn_model.specs.declared.heads.Major.TheVariants.{Map}
-use Rattle.cborn_model.specs.Heads.{Given, head, WidthFits}
-use Rattle.cborn_model.specs.Spelled.{spelled_entries}
-use Rattle.cborn_model.specs.Tree.{Tree, Pairs, entries, count_entries}
+use Rattle.cborn_wire.proofs.Common.{◌≡◌, ℕ, ◌-◌, ◌≤◌, List, [], ◌++◌, refl, sym, ◌∙◌, subst, arith, Width, Fixed, Map, Given, head, WidthFits, spelled_entries, Tree, Pairs, entries, count_entries, Pair, NodeRead, PairsRead}
 use Rattle.cborn_model.proofs.Listed.Trees.{count_entries-entries}
-use Rattle.cborn_wire.specs.Parts.{Pair, NodeRead, PairsRead}
 use Rattle.cborn_wire.proofs.Parts.Heads.{fixed_split}
 
 pub no_pair : {P : List Pair → Type 0} {room : ℕ} {input : List ℕ} → P [] → PairsRead P room 0 input input

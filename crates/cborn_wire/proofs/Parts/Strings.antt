@@ -1,15 +1,6 @@
 -- Strings that were read, and strings in chunks.
-use Rattle.std.proofs.Common.{◌≡◌, ℕ, ◌≤◌, List, ◌++◌, length, take, drop, sym, ◌∙◌, subst, arith, append_assoc}
-use Rattle.std.proofs.lemmas.List.{length-take-le, take-append-drop}
-use Rattle.cborn_model.specs.Bytes.{AreBytes}
-use Rattle.cborn_model.specs.declared.heads.Width.{Width}
-use Rattle.cborn_model.specs.declared.heads.Major.{Major}
-use Rattle.cborn_model.specs.declared.heads.Major.TheVariants.{ByteString, TextString}
-use Rattle.cborn_model.specs.Heads.{Given, head, WidthFits}
-use Rattle.cborn_model.specs.Spelled.{string}
-use Rattle.cborn_model.specs.Tree.{Tree, Bytes, Text}
+use Rattle.cborn_wire.proofs.Common.{◌≡◌, ℕ, ◌≤◌, List, ◌++◌, length, take, drop, sym, ◌∙◌, subst, arith, append_assoc, length-take-le, take-append-drop, AreBytes, Width, Major, ByteString, TextString, Given, head, WidthFits, string, Tree, Bytes, Text, StringRead, NodeRead}
 use Rattle.cborn_model.proofs.Bytes.{bytes-left}
-use Rattle.cborn_wire.specs.Parts.{StringRead, NodeRead}
 
 -- ---- strings
 

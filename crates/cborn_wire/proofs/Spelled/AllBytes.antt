@@ -1,18 +1,5 @@
 -- What is spelled is bytes.
-use Rattle.std.proofs.Common.{subst, ℕ, List, [], ◌∷◌, ◌++◌, length, arith}
-use Rattle.std.specs.List.{flat_map}
-use Rattle.cborn_model.specs.Bytes.{AreBytes}
-use Rattle.cborn_model.specs.declared.heads.Width.{Width}
-use Rattle.cborn_model.specs.declared.heads.Width.TheVariants.{Direct, One, Two, Four, Eight}
-use Rattle.cborn_model.specs.declared.heads.Size.{Size}
-use Rattle.cborn_model.specs.declared.heads.Size.TheVariants.{Fixed, Endless}
-use Rattle.cborn_model.specs.declared.nodes.Chunk.{Chunk}
-use Rattle.cborn_model.specs.declared.heads.Major.{Major}
-use Rattle.cborn_model.specs.declared.heads.Major.TheVariants.{Unsigned, Negative, ByteString, TextString, Array, Map, Tag, Other}
-use Rattle.cborn_model.specs.Heads.{WidthFits, following, least, Argument, Given, EndlessArgument, head, argument, SizeFits}
-use Rattle.cborn_model.specs.Tree.{Tree, Uint, Nint, Bytes, Text, ByteChunks, TextChunks, Items, Pairs, Tagged, Simple, Trees, no_item, more, Entries, no_entry, entry, count, count_entries}
-use Rattle.cborn_model.specs.Spelled.{ending, string, chunk_bytes, chunks, spelled, spelled_all, spelled_entries, ChunksFit, Fits, FitsAll, FitsEntries, Wellformed}
-use Rattle.cborn_wire.specs.HeadReading.{ArgumentFits}
+use Rattle.cborn_wire.proofs.Common.{subst, ℕ, List, [], ◌∷◌, ◌++◌, length, arith, flat_map, AreBytes, Width, Direct, One, Two, Four, Eight, Size, Fixed, Endless, Chunk, Major, Unsigned, Negative, ByteString, TextString, Array, Map, Tag, Other, WidthFits, following, least, Argument, Given, EndlessArgument, head, argument, SizeFits, Tree, Uint, Nint, Bytes, Text, ByteChunks, TextChunks, Items, Pairs, Tagged, Simple, Trees, no_item, more, Entries, no_entry, entry, count, count_entries, ending, string, chunk_bytes, chunks, spelled, spelled_all, spelled_entries, ChunksFit, Fits, FitsAll, FitsEntries, Wellformed, ArgumentFits}
 use Rattle.cborn_model.proofs.Numbers.OneHead.{low_bits_below}
 use Rattle.cborn_model.proofs.Numbers.Simples.{simple_fits}
 use Rattle.cborn_model.proofs.Bytes.{bytes-append}

@@ -1,13 +1,5 @@
 -- Nodes that are at their offsets stay as they are.
-use Rattle.std.proofs.Common.{◌≡◌, refl, sym, ap, ◌∙◌, ℕ, suc, ◌+◌, List, [], ◌∷◌, length}
-use Rattle.cborn_model.specs.declared.nodes.Chunk.{Chunk}
-use Rattle.cborn_model.specs.declared.heads.Major.{Major}
-use Rattle.cborn_model.specs.declared.heads.Major.TheVariants.{ByteString, TextString, Array, Map, Tag}
-use Rattle.cborn_model.specs.Heads.{Given, head, argument}
-use Rattle.cborn_model.specs.Tree.{Tree, Uint, Nint, Bytes, Text, ByteChunks, TextChunks, Items, Pairs, Tagged, Simple, Trees, no_item, more, Entries, no_entry, entry, count, count_entries}
-use Rattle.cborn_model.specs.Spelled.{chunk_bytes, spelled}
-use Rattle.cborn_model.specs.Placed.{ChunksPlaced, Placed, PlacedAll, PlacedEntries}
-use Rattle.cborn_wire.specs.Places.{chunks_from, placed_from, all_from, entries_from}
+use Rattle.cborn_wire.proofs.Common.{◌≡◌, refl, sym, ap, ◌∙◌, ℕ, suc, ◌+◌, List, [], ◌∷◌, length, Chunk, Major, ByteString, TextString, Array, Map, Tag, Given, head, argument, Tree, Uint, Nint, Bytes, Text, ByteChunks, TextChunks, Items, Pairs, Tagged, Simple, Trees, no_item, more, Entries, no_entry, entry, count, count_entries, chunk_bytes, spelled, ChunksPlaced, Placed, PlacedAll, PlacedEntries, chunks_from, placed_from, all_from, entries_from}
 
 same_chunks : (m : Major) (cs : List Chunk) (p : ℕ) → ChunksPlaced m p cs → chunks_from m p cs ≡ cs
 same_chunks m [] p h = refl

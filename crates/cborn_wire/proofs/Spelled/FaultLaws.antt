@@ -1,16 +1,7 @@
 -- The laws of faults.
-use Rattle.std.proofs.Common.{◌≡◌, refl, sym, ap, ◌∙◌, subst, ℕ, ◌+◌, ◌/◌, ◌%◌, ◌<◌, ◌≤◌, List, [], ◌∷◌, ◌++◌, length, take, Bool, true, false, cond, eqb, ◌⊎◌, inl, inr, arith, append_assoc, length-append}
-use Rattle.std.proofs.lemmas.Bool.{cases_order}
-use Rattle.cborn_model.specs.Bytes.{AreBytes}
-use Rattle.cborn_model.specs.Tree.{Trees}
-use Rattle.cborn_model.specs.Spelled.{Wellformed}
+use Rattle.cborn_wire.proofs.Common.{◌≡◌, refl, sym, ap, ◌∙◌, subst, ℕ, ◌+◌, ◌/◌, ◌%◌, ◌<◌, ◌≤◌, List, [], ◌∷◌, ◌++◌, length, take, Bool, true, false, cond, eqb, ◌⊎◌, inl, inr, arith, append_assoc, length-append, cases_order, AreBytes, Trees, Wellformed, WireReason, Truncated, OpenContainer, IsWellformed, GoesOn, IsReason, Fault, SlotRefused, Unfinished, nothing, gathering, State, Live, Failed, run, start}
 use Rattle.cborn_model.proofs.Bytes.{bytes-left}
-use Rattle.cborn_wire.specs.declared.faults.WireReason.{WireReason}
-use Rattle.cborn_wire.specs.declared.faults.WireReason.TheVariants.{Truncated}
-use Rattle.cborn_wire.specs.Slots.{OpenContainer}
-use Rattle.cborn_wire.specs.Faults.{IsWellformed, GoesOn, IsReason, Refused, Fault}
-use Rattle.cborn_wire.specs.SlotFaults.{SlotRefused}
-use Rattle.cborn_wire.specs.shared.Machine.{Unfinished, nothing, gathering, State, Live, Failed, run, start}
+use Rattle.cborn_wire.specs.Faults.{Refused}
 use Rattle.cborn_wire.proofs.Spelled.AllBytes.{well_bytes}
 use Rattle.cborn_wire.proofs.Spelled.ByteLists.{same_place}
 use Rattle.cborn_wire.proofs.Spelled.OneReading.{reads}

@@ -1,18 +1,7 @@
 -- Which bytes go on: the state of the machine where a head begins, and which heads are allowed there.
-use Rattle.std.proofs.Common.{◌≡◌, refl, sym, ap, ◌∙◌, subst, ℕ, suc, ◌+◌, ◌/◌, ◌%◌, ◌<◌, List, [], ◌∷◌, ◌++◌, length, take, drop, Bool, true, false, cond, leb, eqb, Option, Some, None, inl, inr, arith, append_assoc, append-nil}
-use Rattle.std.proofs.lemmas.Bool.{eqb-true}
-use Rattle.std.proofs.lemmas.List.{take-append-drop}
-use Rattle.cborn_model.specs.Bytes.{AreBytes}
-use Rattle.cborn_model.specs.Tree.{Trees}
-use Rattle.cborn_model.specs.declared.heads.Width.TheVariants.{One}
-use Rattle.cborn_model.specs.declared.heads.Major.TheVariants.{Unsigned, Other}
+use Rattle.cborn_wire.proofs.Common.{◌≡◌, refl, sym, ap, ◌∙◌, subst, ℕ, suc, ◌+◌, ◌/◌, ◌%◌, ◌<◌, List, [], ◌∷◌, ◌++◌, length, take, drop, Bool, true, false, cond, leb, eqb, Option, Some, None, inl, inr, arith, append_assoc, append-nil, eqb-true, take-append-drop, AreBytes, Trees, One, Unsigned, Other, WireReason, StringKind, OfBytes, OfText, Slot, item, value, element_or_end, key_or_end, chunk, OpenContainer, slot, open_depth, Open, IsWellformed, GoesOn, BeginsHead, judged, IsReason, reason_at, SlotRefused, Now, Next, is_bad_chunk, head_reason, argument_of, nothing, gathering, State, Live, Failed, step, start, run, unless}
 use Rattle.cborn_model.proofs.Bytes.{bytes-append, bytes-left, bytes-right}
-use Rattle.cborn_wire.specs.declared.faults.WireReason.{WireReason}
-use Rattle.cborn_wire.specs.Slots.{StringKind, OfBytes, OfText, Slot, item, value, element_or_end, key_or_end, chunk, OpenContainer, slot, open_depth, Open}
-use Rattle.cborn_wire.specs.Faults.{IsWellformed, GoesOn, BeginsHead, judged, IsReason, Refused}
-use Rattle.cborn_wire.specs.SlotFaults.{reason_at, SlotRefused}
-use Rattle.cborn_wire.specs.shared.InitialBytes.{Now, Next, is_bad_chunk, head_reason}
-use Rattle.cborn_wire.specs.shared.Machine.{argument_of, nothing, gathering, State, Live, Failed, step, start, run, unless}
+use Rattle.cborn_wire.specs.Faults.{Refused}
 use Rattle.cborn_wire.proofs.Machine.Running.{run-append}
 use Rattle.cborn_wire.proofs.Machine.SomeEnd.{Closable, takes_part, takes_integer}
 use Rattle.cborn_wire.proofs.Machine.SoundItems.{SoundLive, Sound}

@@ -1,12 +1,5 @@
 -- A list of bytes has one reading at most, and no item begins another.
-use Rattle.std.proofs.Common.{◌≡◌, refl, sym, ap, ◌∙◌, subst, ℕ, ◌+◌, ◌≤◌, List, [], ◌++◌, length, max, arith, append_assoc, append-nil, length-append, add-zero}
-use Rattle.std.proofs.lemmas.List.{append_cancel_left}
-use Rattle.cborn_model.specs.Bytes.{AreBytes}
-use Rattle.cborn_model.specs.Tree.{Tree, Trees, trees, no_item, more, depth, depth_all}
-use Rattle.cborn_model.specs.Spelled.{spelled, spelled_all, Fits, FitsAll, Wellformed}
-use Rattle.cborn_model.specs.Placed.{Placed, PlacedAll}
-use Rattle.cborn_wire.specs.Places.{placed_from, all_from}
-use Rattle.cborn_wire.specs.shared.Machine.{append_trees, snoc, nothing, State, Live, Failed, start, ready_in, front, run}
+use Rattle.cborn_wire.proofs.Common.{◌≡◌, refl, sym, ap, ◌∙◌, subst, ℕ, ◌+◌, ◌≤◌, List, [], ◌++◌, length, max, arith, append_assoc, append-nil, length-append, add-zero, append_cancel_left, AreBytes, Tree, Trees, trees, no_item, more, depth, depth_all, spelled, spelled_all, Fits, FitsAll, Wellformed, Placed, PlacedAll, placed_from, all_from, append_trees, snoc, nothing, State, Live, Failed, start, ready_in, front, run}
 use Rattle.cborn_wire.proofs.Machine.Running.{run-append}
 use Rattle.cborn_wire.proofs.Machine.TakesItems.{takes, append_trees-nil, append_trees-snoc}
 use Rattle.cborn_wire.proofs.Spelled.AsPlaced.{same-from, same_all-from}

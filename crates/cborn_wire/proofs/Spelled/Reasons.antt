@@ -1,13 +1,7 @@
 -- The table of faults by slots gives the reason of `Faults`.
-use Rattle.std.proofs.Common.{◌≡◌, refl, sym, ◌∙◌, subst, ℕ, ◌/◌, ◌%◌, ◌<◌, List, [], ◌∷◌, take, Bool, true, false, cond, not, ◌&&◌, ◌||◌, leb, eqb, Option, Some, None, arith}
-use Rattle.std.proofs.lemmas.Bool.{leb-true, eqb-true, le-leb, lt-leb, and_parts, agree_below_at}
-use Rattle.cborn_model.specs.Heads.{code}
-use Rattle.cborn_wire.specs.declared.faults.WireReason.{WireReason}
-use Rattle.cborn_wire.specs.declared.faults.WireReason.TheVariants.{ReservedInfo, EndlessNotAllowed, BadChunk, UnexpectedBreak, FloatLeftOut, BadSimple, TooDeep, Truncated}
-use Rattle.cborn_wire.specs.Slots.{StringKind, OfBytes, OfText, major_of, Slot, item, value, element_or_end, key_or_end, chunk}
-use Rattle.cborn_wire.specs.Faults.{judged, reason_of}
+use Rattle.cborn_wire.proofs.Common.{◌≡◌, refl, sym, ◌∙◌, subst, ℕ, ◌/◌, ◌%◌, ◌<◌, List, [], ◌∷◌, take, Bool, true, false, cond, not, ◌&&◌, ◌||◌, leb, eqb, Option, Some, None, arith, leb-true, eqb-true, le-leb, lt-leb, and_parts, agree_below_at, code, WireReason, ReservedInfo, EndlessNotAllowed, BadChunk, UnexpectedBreak, FloatLeftOut, BadSimple, TooDeep, Truncated, StringKind, OfBytes, OfText, major_of, Slot, item, value, element_or_end, key_or_end, chunk, judged, needs_item, begins_low, reason_at}
+use Rattle.cborn_wire.specs.Faults.{reason_of}
 use Rattle.cborn_wire.specs.SlotFaults as table
-use Rattle.cborn_wire.specs.SlotFaults.{needs_item, begins_low, reason_at}
 use Rattle.cborn_wire.proofs.Machine.SomeEnd.{some_is}
 
 abbrev pub is_chunk : Slot → Bool

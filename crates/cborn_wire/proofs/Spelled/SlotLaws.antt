@@ -1,16 +1,6 @@
 -- The state of the machine at a slot, and what it fails for there.
-use Rattle.std.proofs.Common.{◌≡◌, refl, sym, ap, ◌∙◌, subst, ℕ, ◌+◌, List, [], ◌++◌, length, Some, arith, append-nil, length-append}
-use Rattle.cborn_model.specs.Bytes.{AreBytes}
-use Rattle.cborn_model.specs.Tree.{Trees, no_item}
-use Rattle.cborn_model.specs.Spelled.{spelled_all}
+use Rattle.cborn_wire.proofs.Common.{◌≡◌, refl, sym, ap, ◌∙◌, subst, ℕ, ◌+◌, List, [], ◌++◌, length, Some, arith, append-nil, length-append, AreBytes, Trees, no_item, spelled_all, WireReason, Slot, OpenContainer, beginnings, slot, open_depth, Open, IsWellformed, GoesOn, SlotRefused, front_reason, all_from, Unfinished, nothing, State, Live, Failed, IsLive, run, start, front}
 use Rattle.cborn_model.proofs.Bytes.{bytes-append}
-use Rattle.cborn_wire.specs.declared.faults.WireReason.{WireReason}
-use Rattle.cborn_wire.specs.Slots.{Slot, OpenContainer, beginnings, slot, open_depth, Open}
-use Rattle.cborn_wire.specs.Faults.{IsWellformed, GoesOn}
-use Rattle.cborn_wire.specs.SlotFaults.{SlotRefused}
-use Rattle.cborn_wire.specs.shared.InitialBytes.{front_reason}
-use Rattle.cborn_wire.specs.Places.{all_from}
-use Rattle.cborn_wire.specs.shared.Machine.{Unfinished, nothing, State, Live, Failed, IsLive, run, start, front}
 use Rattle.cborn_wire.proofs.HeadReading.InitialBytes.{same_reason}
 use Rattle.cborn_wire.proofs.Machine.Running.{run-append, failed_run}
 use Rattle.cborn_wire.proofs.Spelled.OneReading.{reads, takes_sequence, ends_read}

@@ -1,18 +1,6 @@
 -- What is made of the head of an array, a map or a tag.
-use Rattle.std.proofs.Common.{◌≡◌, refl, sym, ap, subst, ℕ, zero, suc, ◌+◌, ◌/◌, ◌%◌, ◌≤◌, ◌<◌, List, [], ◌∷◌, length, get_or, leb, false, None, Result, Ok, Err, IfOk, arith}
-use Rattle.cborn_model.specs.declared.heads.Major.{Major}
-use Rattle.cborn_model.specs.declared.heads.Major.TheVariants.{Array, Map, Tag, Other}
-use Rattle.cborn_model.specs.Heads.{Argument, EndlessArgument}
-use Rattle.cborn_model.specs.Partial.{Partial, Part, no_part}
-use Rattle.cborn_wire.specs.declared.levels.Level.{Level}
+use Rattle.cborn_wire.proofs.Common.{◌≡◌, refl, sym, ap, subst, ℕ, zero, suc, ◌+◌, ◌/◌, ◌%◌, ◌≤◌, ◌<◌, List, [], ◌∷◌, length, get_or, leb, false, None, Result, Ok, Err, IfOk, arith, Major, Array, Map, Tag, Other, Argument, EndlessArgument, Partial, Part, no_part, Level, Head, slot, open_depth, major_at, seen_argument, IsHeadOf, TakesHead, info_at, is_always_bounded, head_reason, AtMostOneMore, after_head, ended, ready, open_in, Keeps, Takes, Stands}
 use Rattle.cborn_wire.specs.declared.heads.Argument.TheVariants.{Endless}
-use Rattle.cborn_wire.specs.declared.heads.Head.{Head}
-use Rattle.cborn_wire.specs.Slots.{slot, open_depth}
-use Rattle.cborn_wire.specs.HeadReading.{major_at, seen_argument, IsHeadOf}
-use Rattle.cborn_wire.specs.devices.Leaves.{TakesHead}
-use Rattle.cborn_wire.specs.shared.InitialBytes.{info_at, is_always_bounded, head_reason}
-use Rattle.cborn_wire.specs.shared.Machine.{AtMostOneMore, after_head, ended}
-use Rattle.cborn_wire.specs.shared.Visiting.{ready, open_in, Keeps, Takes, Stands}
 use Rattle.cborn_wire.proofs.HeadReading.HeadFronts.{endless_head}
 use Rattle.cborn_wire.proofs.HeadReading.HeadSteps.{break_taken, head_fits, head_taken}
 use Rattle.cborn_wire.proofs.Machine.OneMore.{one_more_head}

@@ -1,23 +1,6 @@
 -- What one more node or a break makes of a partial sequence: the levels that are kept, and the state.
-use Rattle.std.proofs.Common.{◌≡◌, refl, sym, ap, ◌∙◌, ℕ, ◌+◌, ◌-◌, ◌/◌, ◌^◌, ◌<◌, ◌≤◌, List, [], ◌∷◌, ◌++◌, length, Bool, true, false, not, cond, leb, ltb, Option, Some, None, arith, length-append}
-use Rattle.std.proofs.lemmas.List.{length_push}
-use Rattle.std.proofs.lemmas.Bool.{le-leb, lt-leb, ltb-true, ltb-false, lt-ltb, le-ltb}
-use Rattle.cborn_model.specs.declared.heads.Width.{Width}
-use Rattle.cborn_model.specs.declared.heads.Width.TheVariants.{Eight}
-use Rattle.cborn_model.specs.declared.heads.Size.{Size}
-use Rattle.cborn_model.specs.declared.heads.Size.TheVariants.{Fixed, Endless}
-use Rattle.cborn_model.specs.Heads.{WidthFits}
-use Rattle.cborn_model.specs.Tree.{Tree}
-use Rattle.cborn_model.specs.Partial.{Opening, an_array, a_map, a_tag, in_chunks, Partial, top, inside, no_part, put, paired, last_key, built, string_tree, IsMore, Goes, Ends, TakesItem, TakesString, Proper, IsFree}
-use Rattle.cborn_wire.specs.declared.faults.WireReason.TheVariants.{UnexpectedBreak}
-use Rattle.cborn_wire.specs.Slots.{StringKind, OfBytes, OfText, opened, slot_in, slot_in_map, Announces, HeadFits}
-use Rattle.cborn_wire.specs.SlotFaults.{needs_item}
-use Rattle.cborn_wire.specs.shared.Ground.{place_of}
-use Rattle.cborn_wire.specs.shared.Machine.{nothing, is_full, Live, Failed, finished, ended}
-use Rattle.cborn_wire.specs.declared.levels.LevelKind.{LevelKind}
-use Rattle.cborn_wire.specs.declared.levels.LevelKind.TheVariants.{Sequence, Array, Map, Chunks}
-use Rattle.cborn_wire.specs.declared.levels.Level.{Level}
-use Rattle.cborn_wire.specs.shared.Visiting.{ready, open_in, state, AreFromBytes, next_number, at_most_highest, map_kind, kind_in, levels, Keeps, with_part, may_end}
+use Rattle.cborn_wire.proofs.Common.{◌≡◌, refl, sym, ap, ◌∙◌, ℕ, ◌+◌, ◌-◌, ◌/◌, ◌^◌, ◌<◌, ◌≤◌, List, [], ◌∷◌, ◌++◌, length, Bool, true, false, not, cond, leb, ltb, Option, Some, None, arith, length-append, length_push, le-leb, lt-leb, ltb-true, ltb-false, lt-ltb, le-ltb, Width, Eight, Size, Fixed, Endless, WidthFits, Tree, Opening, an_array, a_map, a_tag, in_chunks, Partial, top, inside, no_part, put, paired, last_key, built, string_tree, IsMore, Goes, Ends, TakesItem, TakesString, Proper, IsFree, UnexpectedBreak, StringKind, OfBytes, OfText, opened, slot_in, slot_in_map, Announces, HeadFits, needs_item, place_of, nothing, is_full, Live, Failed, finished, ended, LevelKind, Sequence, Chunks, Level, ready, open_in, state, AreFromBytes, next_number, at_most_highest, map_kind, kind_in, levels, Keeps, with_part, may_end}
+use Rattle.cborn_wire.specs.declared.levels.LevelKind.TheVariants.{Array, Map}
 use Rattle.cborn_wire.proofs.Machine.Containers.{pair_count, even, key_next, value_next, goes_on, goes_whole, break_ends}
 use Rattle.cborn_wire.proofs.Machine.SoundItems.{Accepts}
 use Rattle.cborn_wire.proofs.Spelled.TreeLists.{trees-push}

@@ -1,22 +1,7 @@
 -- What a reader is before the first byte, at the end of the input, and at a head that isn't allowed.
-use Rattle.std.proofs.Common.{◌≡◌, refl, sym, ap, ◌∙◌, subst, ℕ, ◌+◌, List, [], ◌∷◌, ◌++◌, length, take, Option, Some, None, Err, inl, inr, arith}
-use Rattle.std.proofs.lemmas.List.{take_all}
-use Rattle.cborn_model.specs.Bytes.{AreBytes}
-use Rattle.cborn_model.specs.Tree.{Tree, Trees, trees}
-use Rattle.cborn_model.specs.Spelled.{Wellformed}
-use Rattle.cborn_model.specs.Placed.{PlacedAll}
-use Rattle.cborn_model.specs.Partial.{Partial, top, inside, Part, no_part, part}
-use Rattle.cborn_wire.specs.declared.faults.VisitFault.{VisitFault}
+use Rattle.cborn_wire.proofs.Common.{◌≡◌, refl, sym, ap, ◌∙◌, subst, ℕ, ◌+◌, List, [], ◌∷◌, ◌++◌, length, take, Option, Some, None, Err, inl, inr, arith, take_all, AreBytes, Tree, Trees, trees, Wellformed, PlacedAll, Partial, top, inside, Part, no_part, part, VisitFault, WireReason, Truncated, Level, PartialHead, HeadReader, IsWellformed, Fault, OpenContainer, Unfinished, nothing, State, Live, start, run, ready, open_in, unfinished, Stands, seen_head, HereAt, IsFresh, IsInput, IsFed, MayEnd, levels, Missing, Reads, RefusesPiece}
 use Rattle.cborn_wire.specs.declared.faults.VisitFault.TheVariants as faults
-use Rattle.cborn_wire.specs.declared.faults.WireReason.{WireReason}
-use Rattle.cborn_wire.specs.declared.faults.WireReason.TheVariants.{Truncated}
-use Rattle.cborn_wire.specs.declared.levels.Level.{Level}
-use Rattle.cborn_wire.specs.declared.head_readers.PartialHead.{PartialHead}
-use Rattle.cborn_wire.specs.declared.head_readers.HeadReader.{HeadReader}
-use Rattle.cborn_wire.specs.Faults.{IsWellformed, Fault, Refused}
-use Rattle.cborn_wire.specs.Slots.{OpenContainer}
-use Rattle.cborn_wire.specs.shared.Machine.{Unfinished, nothing, State, Live, start, run}
-use Rattle.cborn_wire.specs.shared.Visiting.{ready, open_in, unfinished, Stands, seen_head, HereAt, IsFresh, IsInput, IsFed, MayEnd, levels, Missing, Reads, RefusesPiece}
+use Rattle.cborn_wire.specs.Faults.{Refused}
 use Rattle.cborn_wire.proofs.Spelled.SlotLaws.{goes_on}
 use Rattle.cborn_wire.proofs.Spelled.FaultLaws.{fails_refused}
 use Rattle.cborn_wire.proofs.Spelled.OneReading.{reads, ends_read}

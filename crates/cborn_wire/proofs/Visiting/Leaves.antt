@@ -1,32 +1,10 @@
 -- What is read and made of a leaf.
-use Rattle.std.proofs.Common.{◌≡◌, refl, sym, ap, ◌∙◌, subst, inl, ℕ, zero, suc, ◌+◌, ◌-◌, ◌/◌, ◌%◌, ◌<◌, ◌≤◌, List, [], ◌∷◌, ◌++◌, length, take, drop, get_or, Bool, false, cond, leb, Option, Some, None, arith, length-append}
-use Rattle.std.proofs.lemmas.Bool.{lt-leb}
-use Rattle.std.proofs.lemmas.List.{length-take-le}
-use Rattle.std.proofs.Math.Seq.{take-add}
-use Rattle.cborn_model.specs.Bytes.{AreBytes}
-use Rattle.cborn_model.specs.declared.heads.Width.{Width}
-use Rattle.cborn_model.specs.declared.heads.Width.TheVariants.{Direct, One, Two, Four, Eight}
-use Rattle.cborn_model.specs.declared.heads.Major.{Major}
-use Rattle.cborn_model.specs.declared.heads.Major.TheVariants.{Unsigned, Negative, ByteString, TextString, Array, Map, Tag, Other}
+use Rattle.cborn_wire.proofs.Common.{◌≡◌, refl, sym, ap, ◌∙◌, subst, inl, ℕ, zero, suc, ◌+◌, ◌-◌, ◌/◌, ◌%◌, ◌<◌, ◌≤◌, List, [], ◌∷◌, ◌++◌, length, take, drop, get_or, Bool, false, cond, leb, Option, Some, None, arith, length-append, lt-leb, length-take-le, take-add, AreBytes, Width, Direct, One, Two, Four, Eight, Major, Unsigned, Negative, ByteString, TextString, Array, Map, Tag, Other, code, WidthFits, Tree, Trees, Uint, Nint, Simple, an_array, a_map, a_tag, in_chunks, Partial, top, inside, Part, no_part, put, last_key, TakesItem, TakesString, string_tree, Full, GivenHead, Level, LevelKind, Sequence, MapValue, Chunks, major_at, IsHeadOf, Slot, chunk, OpenContainer, slot, slot_in_map, open_depth, Info, Now, Next, info_at, info_for, is_bad_chunk, head_reason, width_bytes, number, content_of, gathering, Live, content_at, after_head, finished, run, ready_in, AtMostOneMore, ready, open_in, state, levels, slot_of, is_chunks, Keeps, Stands, IsNoChunkSlot, IsGiven, IsLeafOf, IsLeaf, content_len, leaf_tree, AfterLeaves, TakesLeaves}
 use Rattle.cborn_model.specs.Heads as heads
-use Rattle.cborn_model.specs.Heads.{code, WidthFits}
-use Rattle.cborn_model.specs.Tree.{Tree, Trees, Uint, Nint, Simple}
-use Rattle.cborn_model.specs.Partial.{an_array, a_map, a_tag, in_chunks, Partial, top, inside, Part, no_part, put, last_key, TakesItem, TakesString, string_tree}
 use Rattle.cborn_model.specs.declared.visitors.StringKind.{StringKind}
 use Rattle.cborn_model.specs.declared.visitors.StringKind.TheVariants.{OfBytes, OfText}
 use Rattle.cborn_wire.specs.declared.heads.Argument.TheVariants.{Given}
-use Rattle.cborn_wire.specs.declared.heads.HeadRead.TheVariants.{Full}
-use Rattle.cborn_wire.specs.declared.leaves.GivenHead.{GivenHead}
-use Rattle.cborn_wire.specs.declared.levels.Level.{Level}
-use Rattle.cborn_wire.specs.declared.levels.LevelKind.{LevelKind}
-use Rattle.cborn_wire.specs.declared.levels.LevelKind.TheVariants.{Sequence, Array as AnArray, Map as AMap, MapValue, Tag as ATag, Chunks}
-use Rattle.cborn_wire.specs.HeadReading.{major_at, IsHeadOf}
-use Rattle.cborn_wire.specs.Slots.{Slot, chunk, OpenContainer, slot, slot_in_map, open_depth}
-use Rattle.cborn_wire.specs.shared.InitialBytes.{Info, Now, Next, info_at, info_for, is_bad_chunk, head_reason}
-use Rattle.cborn_wire.specs.shared.Machine.{width_bytes, number, content_of, gathering, Live, content_at, after_head, finished, run, ready_in, AtMostOneMore}
-use Rattle.cborn_wire.specs.shared.Visiting.{ready, open_in, state, levels, slot_of, is_chunks, Keeps, Stands}
-use Rattle.cborn_wire.specs.devices.Counting.{IsNoChunkSlot}
-use Rattle.cborn_wire.specs.devices.Leaves.{IsGiven, IsLeafOf, IsLeaf, content_len, leaf_tree, AfterLeaves, TakesLeaves}
+use Rattle.cborn_wire.specs.declared.levels.LevelKind.TheVariants.{Array as AnArray, Map as AMap, Tag as ATag}
 use Rattle.cborn_wire.proofs.HeadReading.HeadFronts.{direct_head, wide_head, wide_fronts}
 use Rattle.cborn_wire.proofs.HeadReading.HeadSteps.{head_some, head_taken}
 use Rattle.cborn_wire.proofs.Machine.TakesItems.{clear_given}

@@ -1,19 +1,6 @@
 -- A piece is read by its fronts.
-use Rattle.std.proofs.Common.{◌≡◌, refl, sym, ap, ◌∙◌, subst, ℕ, ◌+◌, ◌-◌, ◌≤◌, List, [], ◌++◌, length, take, drop, Option, Some, None, Result, Ok, Err, inl, inr, arith, append_assoc, length-append}
-use Rattle.std.proofs.lemmas.List.{take-append-drop, take_all, take_rest, take-append-le, nil_from_length}
-use Rattle.cborn_model.specs.Bytes.{AreBytes}
-use Rattle.cborn_model.specs.Tree.{Trees}
-use Rattle.cborn_model.specs.Partial.{Partial, Part, no_part, part}
+use Rattle.cborn_wire.proofs.Common.{◌≡◌, refl, sym, ap, ◌∙◌, subst, ℕ, ◌+◌, ◌-◌, ◌≤◌, List, [], ◌++◌, length, take, drop, Option, Some, None, Result, Ok, Err, inl, inr, arith, append_assoc, length-append, take-append-drop, take_all, take_rest, take-append-le, nil_from_length, AreBytes, Trees, Partial, Part, no_part, part, VisitFault, Refused, Memory, WireReason, Level, PartialHead, HeadReader, OpenContainer, Unfinished, nothing, State, Live, Failed, ready_in, start, run, AtMostOneMore, unfinished, seen_head, Missing, Stands, HereAt, Here, OpenIn, TakesPiece, IsFed, MayEnd, Reads, ReadsItem, next_head}
 use Rattle.cborn_model.proofs.Bytes.{bytes-append}
-use Rattle.cborn_wire.specs.declared.faults.VisitFault.{VisitFault}
-use Rattle.cborn_wire.specs.declared.faults.VisitFault.TheVariants.{Refused, Memory}
-use Rattle.cborn_wire.specs.declared.faults.WireReason.{WireReason}
-use Rattle.cborn_wire.specs.declared.levels.Level.{Level}
-use Rattle.cborn_wire.specs.declared.head_readers.PartialHead.{PartialHead}
-use Rattle.cborn_wire.specs.declared.head_readers.HeadReader.{HeadReader}
-use Rattle.cborn_wire.specs.Slots.{OpenContainer}
-use Rattle.cborn_wire.specs.shared.Machine.{Unfinished, nothing, State, Live, Failed, ready_in, start, run, AtMostOneMore}
-use Rattle.cborn_wire.specs.shared.Visiting.{unfinished, seen_head, Missing, Stands, HereAt, Here, OpenIn, TakesPiece, IsFed, MayEnd, Reads, ReadsItem, next_head}
 use Rattle.cborn_wire.proofs.Machine.Running.{run-append}
 use Rattle.cborn_wire.proofs.Visiting.Taking.{bytes-take, is_open, outer_count}
 

@@ -1,30 +1,9 @@
 -- What is read and made of leaves that are taken several at a time.
-use Rattle.std.proofs.Common.{◌≡◌, refl, sym, ap, ◌∙◌, subst, inl, ℕ, ◌+◌, ◌-◌, ◌/◌, ◌^◌, ◌<◌, ◌≤◌, List, [], ◌∷◌, ◌++◌, length, take, drop, cond, leb, Option, Some, None, arith, append-nil, length-append}
-use Rattle.std.specs.Option.{unwrap_or}
-use Rattle.std.proofs.lemmas.Bool.{lt-leb, lt-ltb}
-use Rattle.std.proofs.lemmas.List.{drop-take, take-append-drop, take-append-le, take_all, length-take-le}
-use Rattle.std.proofs.Math.Seq.{take-add}
-use Rattle.cborn_model.specs.Bytes.{AreBytes}
-use Rattle.cborn_model.specs.declared.heads.Width.{Width}
-use Rattle.cborn_model.specs.declared.heads.Width.TheVariants.{Direct, One, Two, Four, Eight}
-use Rattle.cborn_model.specs.declared.heads.Major.{Major}
-use Rattle.cborn_model.specs.declared.heads.Major.TheVariants.{Unsigned, Negative, ByteString, TextString, Array, Map, Tag, Other}
+use Rattle.cborn_wire.proofs.Common.{◌≡◌, refl, sym, ap, ◌∙◌, subst, inl, ℕ, ◌+◌, ◌-◌, ◌/◌, ◌^◌, ◌<◌, ◌≤◌, List, [], ◌∷◌, ◌++◌, length, take, drop, cond, leb, Option, Some, None, arith, append-nil, length-append, unwrap_or, lt-leb, lt-ltb, drop-take, take-append-drop, take-append-le, take_all, length-take-le, take-add, AreBytes, Width, Direct, One, Two, Four, Eight, Major, Unsigned, Negative, ByteString, TextString, Array, Map, Tag, Other, Given, head, WidthFits, least, Tree, Uint, Nint, an_array, a_map, a_tag, in_chunks, Partial, top, inside, no_part, put, paired, last_key, TakesItem, IsInteger, IsShortLeaf, AreShortIntegers, IsShortPair, text_in, puts, InArray, AtKey, Level, LevelKind, Sequence, MapValue, Chunks, GivenHead, major_at, slot, open_depth, finished, run, ready, open_in, state, at_most_highest, map_kind, levels, Keeps, with_part, IsLeafOf, IsLeaf, content_len, leaf_tree, AfterLeaves}
 use Rattle.cborn_model.specs.declared.visitors.LeafPair.{LeafPair}
-use Rattle.cborn_model.specs.Heads.{Given, head, WidthFits, least}
-use Rattle.cborn_model.specs.Tree.{Tree, Uint, Nint}
-use Rattle.cborn_model.specs.Partial.{an_array, a_map, a_tag, in_chunks, Partial, top, inside, no_part, put, paired, last_key, TakesItem}
-use Rattle.cborn_model.specs.shared.Runs.{IsInteger, IsShortLeaf, AreShortIntegers, IsShortPair, text_in, puts, InArray, AtKey}
 use Rattle.cborn_model.proofs.Bytes.{bytes-right}
 use Rattle.cborn_model.proofs.Numbers.Simples.{simple_value}
-use Rattle.cborn_wire.specs.declared.levels.Level.{Level}
-use Rattle.cborn_wire.specs.declared.levels.LevelKind.{LevelKind}
-use Rattle.cborn_wire.specs.declared.levels.LevelKind.TheVariants.{Sequence, Array as AnArray, Map as AMap, MapValue, Tag as ATag, Chunks}
-use Rattle.cborn_wire.specs.declared.leaves.GivenHead.{GivenHead}
-use Rattle.cborn_wire.specs.HeadReading.{major_at}
-use Rattle.cborn_wire.specs.Slots.{slot, open_depth}
-use Rattle.cborn_wire.specs.shared.Machine.{finished, run}
-use Rattle.cborn_wire.specs.shared.Visiting.{ready, open_in, state, at_most_highest, map_kind, levels, Keeps, with_part}
-use Rattle.cborn_wire.specs.devices.Leaves.{IsLeafOf, IsLeaf, content_len, leaf_tree, AfterLeaves}
+use Rattle.cborn_wire.specs.declared.levels.LevelKind.TheVariants.{Array as AnArray, Map as AMap, Tag as ATag}
 use Rattle.cborn_wire.proofs.HeadReading.HeadSteps.{head_front}
 use Rattle.cborn_wire.proofs.Machine.Running.{run-append}
 use Rattle.cborn_wire.proofs.Machine.TakesHeads.{takes_head}

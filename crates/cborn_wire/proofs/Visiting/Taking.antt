@@ -1,27 +1,6 @@
 -- What is taken off the front of a piece.
-use Rattle.std.proofs.Common.{◌≡◌, refl, sym, ap, ◌∙◌, subst, ℕ, ◌+◌, ◌/◌, ◌%◌, ◌<◌, ◌≤◌, List, [], ◌∷◌, ◌++◌, length, take, drop, get_or, Bool, false, leb, Option, Some, None, arith, length-append, add-one}
-use Rattle.std.proofs.lemmas.List.{take-append-drop, length-take-le}
-use Rattle.cborn_model.specs.Bytes.{AreBytes}
-use Rattle.cborn_model.specs.declared.heads.Width.{Width}
-use Rattle.cborn_model.specs.declared.heads.Width.TheVariants.{Direct}
-use Rattle.cborn_model.specs.declared.heads.Major.{Major}
-use Rattle.cborn_model.specs.declared.heads.Major.TheVariants.{Unsigned, ByteString, TextString, Other}
-use Rattle.cborn_model.specs.Heads.{Argument, Given, EndlessArgument}
-use Rattle.cborn_model.specs.Tree.{Tree, Trees}
-use Rattle.cborn_model.specs.Partial.{Opening, an_array, a_map, in_chunks, Partial, top, inside, Part, no_part, part, paired, last_key, string_tree, TakesItem, TakesString}
+use Rattle.cborn_wire.proofs.Common.{◌≡◌, refl, sym, ap, ◌∙◌, subst, ℕ, ◌+◌, ◌/◌, ◌%◌, ◌<◌, ◌≤◌, List, [], ◌∷◌, ◌++◌, length, take, drop, get_or, Bool, false, leb, Option, Some, None, arith, length-append, add-one, take-append-drop, length-take-le, AreBytes, Width, Direct, Major, Unsigned, ByteString, TextString, Other, Argument, Given, EndlessArgument, Tree, Trees, Opening, an_array, a_map, in_chunks, Partial, top, inside, Part, no_part, part, paired, last_key, string_tree, TakesItem, TakesString, VisitFault, Refused, Memory, StringKind, OfBytes, OfText, major_of, Slot, item, chunk, OpenContainer, opened, slot, slot_in, slot_in_map, open_depth, IsNoString, AreOpen, Head, Level, PartialHead, major_at, seen_argument, IsHeadOf, Info, Next, info_at, info_for, is_of_kind, is_break, is_bad_chunk, head_reason, plain, place_of, width_bytes, argument_of, content_of, nothing, gathering, State, Live, start, begin_head, unless, finished, run, ready, open_in, state, at_most_highest, map_kind, kind_in, levels, Keeps, Takes, slot_of, Missing, Stands, FailsAs, HereAt, OpenIn}
 use Rattle.cborn_model.proofs.Bytes.{bytes-left}
-use Rattle.cborn_wire.specs.declared.faults.VisitFault.{VisitFault}
-use Rattle.cborn_wire.specs.declared.faults.VisitFault.TheVariants.{Refused, Memory}
-use Rattle.cborn_wire.specs.Slots.{StringKind, OfBytes, OfText, major_of, Slot, item, chunk, OpenContainer, opened, slot, slot_in, slot_in_map, open_depth, IsNoString, AreOpen}
-use Rattle.cborn_wire.specs.declared.heads.Head.{Head}
-use Rattle.cborn_wire.specs.declared.levels.Level.{Level}
-use Rattle.cborn_wire.specs.declared.head_readers.PartialHead.{PartialHead}
-use Rattle.cborn_wire.specs.HeadReading.{major_at, seen_argument, IsHeadOf}
-use Rattle.cborn_wire.specs.shared.InitialBytes.{Info, Next, info_at, info_for, is_of_kind, is_break, is_bad_chunk, head_reason}
-use Rattle.cborn_wire.specs.devices.Counting.{plain}
-use Rattle.cborn_wire.specs.shared.Ground.{place_of}
-use Rattle.cborn_wire.specs.shared.Machine.{width_bytes, argument_of, content_of, nothing, gathering, State, Live, start, begin_head, unless, finished, run}
-use Rattle.cborn_wire.specs.shared.Visiting.{ready, open_in, state, at_most_highest, map_kind, kind_in, levels, Keeps, Takes, slot_of, Missing, Stands, FailsAs, HereAt, OpenIn}
 use Rattle.cborn_wire.proofs.Machine.Reached.{depth_is_length}
 use Rattle.cborn_wire.proofs.Machine.TakesItems.{given_endless}
 use Rattle.cborn_wire.proofs.Machine.Pieces.{major_of_head, info_of_head, content_more, content_done}

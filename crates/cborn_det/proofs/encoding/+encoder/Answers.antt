@@ -1,11 +1,5 @@
-use Rattle.std.proofs.Common.{append_assoc, rules, ◌≡◌, List, ◌++◌, map, ◌-◌, length, subst, sym, ap, ◌∙◌}
-use Rattle.std.proofs.lemmas.List.{length-map}
-use Rattle.cborn_model.specs.ItemView.{item_value, pair_value}
-use Rattle.cborn_model.specs.Value.{Value, values_of, pairs_of, array}
+use Rattle.cborn_det.proofs.Common.{append_assoc, rules, ◌≡◌, List, ◌++◌, map, ◌-◌, length, subst, sym, ap, ◌∙◌, length-map, item_value, pair_value, Value, values_of, pairs_of, array, Appends, Det, joined}
 use Rattle.cborn_model.proofs.Listed.Values.{height_of_item, height_of_pair}
-use Rattle.cborn_det.specs.Appending.{Appends}
-use Rattle.cborn_det.specs.Det.{Det}
-use Rattle.cborn_det.specs.Det.{joined}
 use Rattle.cborn_det.proofs.Canon.{distinct_keys}
 use Rattle.cborn_det.proofs.Steps.{on_err, begins_more, items_done, items_step, pairs_step, laid, pair_done, map_done, proper_item, proper_pair}
 use Rattle.cborn_det.proofs.encoding.+encoder.Goals as goal

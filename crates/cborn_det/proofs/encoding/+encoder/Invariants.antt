@@ -1,9 +1,5 @@
-use Rattle.std.proofs.Common.{◌+◌, ◌*◌, map, take}
-use Rattle.cborn_model.specs.ItemView.{item_value, pair_value}
-use Rattle.cborn_model.specs.Value.{values_of, pairs_of, height, height_all, height_pairs}
+use Rattle.cborn_det.proofs.Common.{◌+◌, ◌*◌, map, take, item_value, pair_value, values_of, pairs_of, height, height_all, height_pairs, DetSeq, Appends}
 use Rattle.cborn_model.proofs.Listed.Values.{pair_height}
-use Rattle.cborn_det.specs.Det.{DetSeq}
-use Rattle.cborn_det.specs.Appending.{Appends}
 use Rattle.cborn_det.proofs.Steps.{AppendsPairs}
 use Rattle.cborn_det.proofs.encoding.+encoder.Given as goal
 

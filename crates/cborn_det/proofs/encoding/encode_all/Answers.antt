@@ -1,6 +1,4 @@
-use Rattle.std.proofs.Common.{◌+◌, subst, sym, take, [], refl}
-use Rattle.cborn_det.specs.Appending.{Appends}
-use Rattle.cborn_det.specs.Det.{Det, DetSeq}
+use Rattle.cborn_det.proofs.Common.{◌+◌, subst, sym, take, [], refl, Appends, Det, DetSeq}
 use Rattle.cborn_det.proofs.Steps.{seq_step}
 use Rattle.cborn_det.proofs.encoding.encode_all.Goals as goal
 

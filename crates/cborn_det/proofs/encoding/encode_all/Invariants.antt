@@ -1,5 +1,4 @@
-use Rattle.std.proofs.Common.{take}
-use Rattle.cborn_det.specs.Det.{DetSeq}
+use Rattle.cborn_det.proofs.Common.{take, DetSeq}
 use Rattle.cborn_det.proofs.encoding.encode_all.Given as goal
 
 -- the items so far

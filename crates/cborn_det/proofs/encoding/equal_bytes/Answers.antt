@@ -1,7 +1,6 @@
-use Rattle.std.proofs.Common.{◌≡◌, Bool, true, false, IsTrue, ◌↔◌, Decides, sym, refl, ◌∙◌, subst}
+use Rattle.cborn_det.proofs.Common.{◌≡◌, Bool, true, false, IsTrue, ◌↔◌, Decides, sym, refl, ◌∙◌, subst, Det}
 use Rattle.std.proofs.lemmas.Bool.Decides.{Decides-eqb}
 use Rattle.std.proofs.lemmas.Slice.Eq.{slice_eq-Decides}
-use Rattle.cborn_det.specs.Det.{Det}
 use Rattle.cborn_det.proofs.Canon.{same_of_one, one_of_same}
 use Rattle.cborn_model.proofs.SameItems.Sameness.{same_itself}
 use Rattle.cborn_det.proofs.encoding.equal_bytes.Goals as goal

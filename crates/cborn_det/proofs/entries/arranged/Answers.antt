@@ -1,7 +1,4 @@
-use Rattle.std.proofs.Common.{◌≡◌, List, subst, rules, IsPermutation}
-use Rattle.cborn_det.specs.devices.Writing.{entries_of}
-use Rattle.cborn_det.specs.shared.Distinct.{HasDistinctKeys}
-use Rattle.cborn_det.specs.Det.{Entry}
+use Rattle.cborn_det.proofs.Common.{◌≡◌, List, subst, rules, IsPermutation, entries_of, HasDistinctKeys, Entry}
 use Rattle.cborn_det.proofs.Cutting.{one_written}
 use Rattle.cborn_det.proofs.entries.arranged.Goals as goal
 

@@ -1,6 +1,4 @@
-use Rattle.std.proofs.Common.{rules, ◌≡◌, List, ℕ, arith, ◌++◌, ◌∷◌, [], ap, ◌∙◌, sym, subst, Bor}
-use Rattle.std.proofs.lemmas.List.{map-append}
-use Rattle.cborn_det.specs.devices.Writing.{entries_of, IsWritten}
+use Rattle.cborn_det.proofs.Common.{rules, ◌≡◌, List, ℕ, arith, ◌++◌, ◌∷◌, [], ap, ◌∙◌, sym, subst, Bor, map-append, entries_of, IsWritten}
 use Rattle.cborn_det.proofs.Cutting.{cut_fits, cut_more}
 use Rattle.cborn_det.proofs.entries.entries_in.Goals as goal
 

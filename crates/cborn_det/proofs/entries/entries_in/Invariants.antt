@@ -1,6 +1,4 @@
-use Rattle.std.proofs.Common.{◌++◌, drop, List}
-use Rattle.cborn_det.specs.Det.{Entry}
-use Rattle.cborn_det.specs.devices.Writing.{IsWritten, entries_of}
+use Rattle.cborn_det.proofs.Common.{◌++◌, drop, List, Entry, IsWritten, entries_of}
 use Rattle.cborn_det.proofs.entries.entries_in.Given as goal
 
 -- the entries so far, and those of what is left

@@ -1,6 +1,4 @@
-use Rattle.std.proofs.Common.{◌≡◌, ◌++◌, drop}
-use Rattle.cborn_det.specs.Det.{joined}
-use Rattle.cborn_det.specs.devices.Writing.{entries_of}
+use Rattle.cborn_det.proofs.Common.{◌≡◌, ◌++◌, drop, joined, entries_of}
 use Rattle.cborn_det.proofs.entries.push_entries.Given as goal
 
 abbrev pub invariant-loop-key : goal.invariant-loop-key

@@ -1,8 +1,5 @@
-use Rattle.std.proofs.Common.{rules, List, ℕ, arith, ◌++◌, ◌∷◌, [], ◌∙◌, sym, refl}
+use Rattle.cborn_det.proofs.Common.{rules, List, ℕ, arith, ◌++◌, ◌∷◌, [], ◌∙◌, sym, refl, Below, map-append, Entry, keys}
 use Rattle.cborn_det.proofs.Cutting.{cut_fits, cut_more, below_last, below_none, rise_more, all_rise}
-use Rattle.cborn_det.specs.shared.KeyBefore.{Below}
-use Rattle.std.proofs.lemmas.List.{map-append}
-use Rattle.cborn_det.specs.Det.{Entry, keys}
 use Rattle.cborn_det.proofs.entries.rise.Goals.{in-Some+else-not-is_lt, in_default}
 use Rattle.cborn_det.proofs.entries.rise.Goals as goal
 

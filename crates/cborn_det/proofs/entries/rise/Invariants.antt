@@ -1,8 +1,4 @@
-use Rattle.std.proofs.Common.{◌++◌, drop, List}
-use Rattle.cborn_model.specs.Orders.{Rising}
-use Rattle.cborn_det.specs.Det.{Entry, keys}
-use Rattle.cborn_det.specs.devices.Writing.{IsWritten}
-use Rattle.cborn_det.specs.shared.KeyBefore.{EndsIn}
+use Rattle.cborn_det.proofs.Common.{◌++◌, drop, List, Rising, Entry, keys, IsWritten, EndsIn}
 use Rattle.cborn_det.proofs.entries.rise.Given as goal
 
 -- the entries so far, whose keys rise, and those of what is left

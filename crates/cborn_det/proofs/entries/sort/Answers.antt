@@ -1,6 +1,4 @@
-use Rattle.std.proofs.Common.{ℕ, List, Bor, is_lt, ap, rules}
-use Rattle.std.proofs.lemmas.List.Sorted.{IsPermutation-map, ranks_by, answers_always}
-use Rattle.cborn_det.specs.Det.{Entry}
+use Rattle.cborn_det.proofs.Common.{ℕ, List, Bor, is_lt, ap, rules, IsPermutation-map, ranks_by, answers_always, Entry}
 use Rattle.cborn_det.proofs.Arranging.{total, rising_from_sorted}
 use Rattle.cborn_det.proofs.entries.sort.Goals as goal
 

@@ -1,5 +1,4 @@
-use Rattle.std.proofs.Common.{subst, sym}
-use Rattle.cborn_det.specs.Det.{Det}
+use Rattle.cborn_det.proofs.Common.{subst, sym, Det}
 use Rattle.cborn_det.proofs.Canon.{same_of_one, one_of_same}
 use Rattle.cborn_det.proofs.laws.one_encoding.Goals as goal
 

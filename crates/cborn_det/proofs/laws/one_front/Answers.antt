@@ -1,4 +1,4 @@
-use Rattle.std.proofs.Common.{[], ◌∙◌, sym, append-nil}
+use Rattle.cborn_det.proofs.Common.{[], ◌∙◌, sym, append-nil}
 use Rattle.cborn_det.proofs.Reading.{reads}
 use Rattle.cborn_det.proofs.laws.one_front.Goals as goal
 

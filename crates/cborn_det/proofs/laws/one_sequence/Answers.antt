@@ -1,7 +1,4 @@
-use Rattle.std.proofs.Common.{subst, sym}
-use Rattle.std.proofs.lemmas.List.Elements.{recursion_from_All}
-use Rattle.cborn_model.specs.Valid.{IsProper}
-use Rattle.cborn_det.specs.Det.{DetSeq}
+use Rattle.cborn_det.proofs.Common.{subst, sym, recursion_from_All, IsProper, DetSeq}
 use Rattle.cborn_det.proofs.Canon.{seq_of_one, one_of_seq}
 use Rattle.cborn_det.proofs.laws.one_sequence.Goals as goal
 

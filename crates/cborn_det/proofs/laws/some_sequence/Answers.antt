@@ -1,5 +1,4 @@
-use Rattle.std.proofs.lemmas.List.Elements.{recursion_from_All}
-use Rattle.cborn_model.specs.Valid.{IsProper}
+use Rattle.cborn_det.proofs.Common.{recursion_from_All, IsProper}
 use Rattle.cborn_det.proofs.Canon.{seq_exists}
 use Rattle.cborn_det.proofs.laws.some_sequence.Goals as goal
 

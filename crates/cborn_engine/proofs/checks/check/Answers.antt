@@ -1,6 +1,5 @@
 use Rattle.cborn_engine.specs.declared.kinds.Kind.TheVariants as kind
-use Rattle.cborn_engine.specs.Checking.{CheckAnswers}
-use Rattle.cborn_engine.specs.Reading.{most_bytes}
+use Rattle.cborn_engine.proofs.Common.{CheckAnswers, most_bytes}
 use Rattle.cborn_engine.proofs.CountAnswers.Any.{any_of, any_answered}
 use Rattle.cborn_engine.proofs.checks.check.Goals as goal
 

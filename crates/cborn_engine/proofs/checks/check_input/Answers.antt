@@ -1,6 +1,4 @@
-use Rattle.std.proofs.Common.{arith}
-use Rattle.cborn_engine.specs.Counts.{CheckedWhole}
-use Rattle.cborn_engine.specs.Reading.{most_bytes}
+use Rattle.cborn_engine.proofs.Common.{arith, CheckedWhole, most_bytes}
 use Rattle.cborn_engine.proofs.Answers.KnownErrors.{known_error}
 use Rattle.cborn_engine.proofs.Answers.Whole.{checked, deterministic}
 use Rattle.cborn_engine.proofs.checks.check_input.Goals as goal

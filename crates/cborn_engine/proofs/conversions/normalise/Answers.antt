@@ -1,5 +1,4 @@
-use Rattle.cborn_engine.specs.Canonical.{FormAnswers}
-use Rattle.cborn_engine.specs.Reading.{most_bytes}
+use Rattle.cborn_engine.proofs.Common.{FormAnswers, most_bytes}
 use Rattle.cborn_engine.proofs.CountAnswers.Any.{any_sent, any_written}
 use Rattle.cborn_engine.proofs.conversions.normalise.Goals as goal
 

@@ -1,5 +1,4 @@
-use Rattle.cborn_engine.specs.Showing.{ShowAnswers}
-use Rattle.cborn_engine.specs.Reading.{most_bytes}
+use Rattle.cborn_engine.proofs.Common.{ShowAnswers, most_bytes}
 use Rattle.cborn_engine.proofs.CountAnswers.Any.{any_sent, any_written}
 use Rattle.cborn_engine.proofs.conversions.show_all.Goals as goal
 

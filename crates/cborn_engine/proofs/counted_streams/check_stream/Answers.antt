@@ -1,10 +1,7 @@
-use Rattle.cborn_engine.specs.Failures.{CountsFault}
+use Rattle.cborn_engine.proofs.Common.{CountsFault, CheckAnswers, CountAnswer, ChecksCount, CheckedWhole, most_bytes}
 use Rattle.cborn_engine.specs.declared.faults.EngineFault.TheVariants as fault
 use Rattle.cborn_engine.specs.declared.count_faults.CountFault.TheVariants as counted
 use Rattle.cborn_engine.specs.declared.kinds.Kind.TheVariants as kind
-use Rattle.cborn_engine.specs.Checking.{CheckAnswers}
-use Rattle.cborn_engine.specs.Counts.{CountAnswer, ChecksCount, CheckedWhole}
-use Rattle.cborn_engine.specs.Reading.{most_bytes}
 use Rattle.cborn_engine.proofs.Answers.KnownErrors.{known_error}
 use Rattle.cborn_engine.proofs.Answers.Whole.{unread, read_whole}
 use Rattle.cborn_engine.proofs.CountAnswers.Streamed.{read_checked, input_counted, refused_quiet, quiet, quiet_counted}

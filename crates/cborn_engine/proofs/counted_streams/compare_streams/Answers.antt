@@ -1,6 +1,4 @@
-use Rattle.std.proofs.Common.{inr, sym, subst, Err}
-use Rattle.cborn_engine.specs.declared.count_faults.CompareCountFault.{CompareCountFault}
-use Rattle.cborn_engine.specs.Counts.{ComparesCount}
+use Rattle.cborn_engine.proofs.Common.{inr, sym, subst, Err, CompareCountFault, ComparesCount}
 use Rattle.cborn_engine.proofs.Comparison.Compared.{its_own, single}
 use Rattle.cborn_engine.proofs.CountAnswers.Answered.{holds_one}
 use Rattle.cborn_engine.proofs.CountAnswers.Compared.{first_not_read, second_not_read, both_read, held_whole}

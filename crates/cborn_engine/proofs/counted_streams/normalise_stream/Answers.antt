@@ -1,10 +1,6 @@
 use Rattle.cborn_engine.specs.declared.count_faults.CountFault.TheVariants as counted
 use Rattle.cborn_engine.specs.declared.faults.EngineFault.TheVariants as fault
-use Rattle.cborn_engine.specs.Canonical.{FormAnswers}
-use Rattle.cborn_engine.specs.Counts.{CountAnswer, NormalisedWhole, NormalisesCount}
-use Rattle.cborn_engine.specs.devices.Counts.{bytes_of}
-use Rattle.cborn_engine.specs.Failures.{CountsFault}
-use Rattle.cborn_engine.specs.Reading.{most_bytes}
+use Rattle.cborn_engine.proofs.Common.{FormAnswers, CountAnswer, NormalisedWhole, NormalisesCount, bytes_of, CountsFault, most_bytes}
 use Rattle.cborn_engine.proofs.Answers.KnownErrors.{known_error}
 use Rattle.cborn_engine.proofs.Canonical.NormalForm.{written}
 use Rattle.cborn_engine.proofs.CountAnswers.Streamed.{unread_sent, read_sent, read_form, refused_quiet, quiet, sent_quiet, quiet_counted, input_counted, input_kept}

@@ -1,9 +1,5 @@
-use Rattle.std.proofs.Common.{Ok, Err, None, Some, subst}
+use Rattle.cborn_engine.proofs.Common.{Ok, Err, None, Some, subst, CountAnswer, EncodedWhole, ReadsCount, EncodeAnswers, most_bytes}
 use Rattle.cborn_engine.specs.declared.count_faults.CountFault.TheVariants as counted
-use Rattle.cborn_engine.specs.Counts.{CountAnswer}
-use Rattle.cborn_engine.specs.devices.Counts.{EncodedWhole, ReadsCount}
-use Rattle.cborn_engine.specs.devices.Encoding.{EncodeAnswers}
-use Rattle.cborn_engine.specs.Reading.{most_bytes}
 use Rattle.cborn_engine.proofs.Answers.KnownErrors.{known_error}
 use Rattle.cborn_engine.proofs.Answers.Whole.{unread, read_whole}
 use Rattle.cborn_engine.proofs.CountAnswers.Streamed.{not_encoded, read_encoded}

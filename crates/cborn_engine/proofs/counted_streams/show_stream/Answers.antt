@@ -1,10 +1,6 @@
 use Rattle.cborn_engine.specs.declared.count_faults.CountFault.TheVariants as counted
 use Rattle.cborn_engine.specs.declared.faults.EngineFault.TheVariants as fault
-use Rattle.cborn_engine.specs.Showing.{ShowAnswers}
-use Rattle.cborn_engine.specs.Counts.{CountAnswer, ShownWhole, ShowsCount}
-use Rattle.cborn_engine.specs.devices.Counts.{bytes_of}
-use Rattle.cborn_engine.specs.Failures.{CountsFault}
-use Rattle.cborn_engine.specs.Reading.{most_bytes}
+use Rattle.cborn_engine.proofs.Common.{ShowAnswers, CountAnswer, ShownWhole, ShowsCount, bytes_of, CountsFault, most_bytes}
 use Rattle.cborn_engine.proofs.Answers.KnownErrors.{known_error}
 use Rattle.cborn_engine.proofs.Held.SameBytes.{written}
 use Rattle.cborn_engine.proofs.CountAnswers.Streamed.{unread_sent, read_sent, read_shown, show_refused, unshown_quiet, quiet, sent_quiet, quiet_counted, input_counted, input_kept}

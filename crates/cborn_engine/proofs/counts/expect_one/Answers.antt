@@ -1,11 +1,8 @@
-use Rattle.std.proofs.Common.{◌≡◌, rules, sym, subst}
-use Rattle.std.specs.Prelude.{OnOk, IfErr, ◌⊎◌}
+use Rattle.cborn_engine.proofs.Common.{◌≡◌, rules, sym, subst, OnOk, IfErr, Kind, Spells, SpellsOne, IsNotOne}
+use Rattle.std.specs.Prelude.{◌⊎◌}
 use Rattle.cborn_engine.specs.declared.faults.EngineFault.TheVariants as fault
 use Rattle.cborn_engine.specs.declared.count_faults.CountFault.TheVariants as counted
-use Rattle.cborn_engine.specs.declared.kinds.Kind.{Kind}
 use Rattle.cborn_engine.specs.declared.kinds.Kind.TheVariants as kind
-use Rattle.cborn_engine.specs.Holding.{Spells}
-use Rattle.cborn_engine.specs.Counts.{SpellsOne, IsNotOne}
 use Rattle.cborn_engine.proofs.counts.expect_one.Goals as goal
 
 pub one_in_bytes-requires : goal.one_in_bytes-requires

@@ -1,5 +1,4 @@
-use Rattle.std.proofs.Common.{◌≤◌, inr, refl, arith}
-use Rattle.cborn_model.specs.Tree.{trees}
+use Rattle.cborn_engine.proofs.Common.{◌≤◌, inr, refl, arith, trees}
 use Rattle.cborn_engine.proofs.CountAnswers.Second.{none_first, none_in_bytes, one_in_bytes, second_in_bytes}
 use Rattle.cborn_engine.proofs.counts.one_in_bytes.Goals as goal
 

@@ -1,11 +1,7 @@
-use Rattle.std.specs.Prelude.{IfErr, ◌⊎◌}
-use Rattle.std.specs.Option.{is_some}
-use Rattle.std.proofs.Common.{◌≡◌, inl, inr, refl, sym, ap, ◌∙◌}
+use Rattle.cborn_engine.proofs.Common.{IfErr, is_some, ◌≡◌, inl, inr, refl, sym, ap, ◌∙◌, kind_of, IsNotOne, most_bytes}
+use Rattle.std.specs.Prelude.{◌⊎◌}
 use Rattle.cborn_engine.specs.declared.faults.EngineFault.TheVariants as fault
 use Rattle.cborn_engine.specs.declared.count_faults.CountFault.TheVariants as counted
-use Rattle.cborn_engine.specs.devices.Encoding.{kind_of}
-use Rattle.cborn_engine.specs.Counts.{IsNotOne}
-use Rattle.cborn_engine.specs.Reading.{most_bytes}
 use Rattle.cborn_engine.proofs.Answers.KnownErrors.{known_error}
 use Rattle.cborn_engine.proofs.CountAnswers.Refused.{refused_memory}
 use Rattle.cborn_engine.proofs.CountAnswers.Second.{none_in_text, one_in_text, second_in_text}

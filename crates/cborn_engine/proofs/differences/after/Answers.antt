@@ -1,5 +1,4 @@
-use Rattle.std.proofs.lemmas.Bool.Decides.{Decides-eqb}
-use Rattle.std.proofs.lemmas.Slice.Eq.{strip_prefix_is}
+use Rattle.cborn_engine.proofs.Common.{Decides-eqb, strip_prefix_is}
 use Rattle.cborn_engine.proofs.differences.after.Goals as goal
 
 pub returns : goal.returns

@@ -1,4 +1,4 @@
-use Rattle.std.proofs.Common.{◌≡◌, rules}
+use Rattle.cborn_engine.proofs.Common.{◌≡◌, rules}
 use Rattle.cborn_engine.specs.declared.counts.Count.TheVariants as counts
 use Rattle.cborn_engine.proofs.Comparison.Apart.{equal, alone_apart}
 use Rattle.cborn_engine.proofs.differences.difference.Goals as goal

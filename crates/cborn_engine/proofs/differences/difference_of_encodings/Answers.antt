@@ -1,5 +1,4 @@
-use Rattle.std.proofs.Common.{◌≡◌, ◌<◌, ℕ, List, None, length, rules, subst, arith}
-use Rattle.cborn_engine.specs.devices.Walking.{ItemWalked}
+use Rattle.cborn_engine.proofs.Common.{◌≡◌, ◌<◌, ℕ, List, None, length, rules, subst, arith, ItemWalked}
 use Rattle.cborn_engine.proofs.Comparison.Apart.{at_first, ours_ended, theirs_ended, apart_here, passed, front_left, encoding_taken, item_less}
 use Rattle.cborn_engine.proofs.differences.difference_of_encodings.Goals as goal
 

@@ -1,4 +1,4 @@
-use Rattle.std.proofs.Common.{◌+◌, ◌≤◌, length}
+use Rattle.cborn_engine.proofs.Common.{◌+◌, ◌≤◌, length}
 use Rattle.cborn_engine.proofs.Comparison.Apart.{SoFar}
 use Rattle.cborn_engine.proofs.differences.difference_of_encodings.Given as goal
 

@@ -1,6 +1,5 @@
-use Rattle.std.specs.Prelude.{IfErr}
+use Rattle.cborn_engine.proofs.Common.{IfErr, IsRefusedHeld}
 use Rattle.cborn_engine.specs.declared.kinds.Kind.TheVariants as kind
-use Rattle.cborn_engine.specs.devices.Malformed.{IsRefusedHeld}
 use Rattle.cborn_engine.proofs.Answers.KnownErrors.{known_error}
 use Rattle.cborn_engine.proofs.Answers.Whole.{judged}
 use Rattle.cborn_engine.proofs.encodings.encode_bytes.Goals as goal

@@ -1,9 +1,5 @@
-use Rattle.std.specs.Prelude.{IfOk, IfErr}
-use Rattle.std.proofs.Common.{◌≡◌, rules, subst, sym}
-use Rattle.cborn_engine.specs.declared.kinds.Kind.{Kind}
+use Rattle.cborn_engine.proofs.Common.{IfOk, IfErr, ◌≡◌, rules, subst, sym, Kind, IsEncoded, IsRefusedHeld}
 use Rattle.cborn_engine.specs.declared.kinds.Kind.TheVariants as kind
-use Rattle.cborn_engine.specs.devices.Encoding.{IsEncoded}
-use Rattle.cborn_engine.specs.devices.Malformed.{IsRefusedHeld}
 use Rattle.cborn_engine.proofs.encodings.encode_input.Goals as goal
 
 pub returns-in-None-clause-encoded : goal.returns-in-None-clause-encoded

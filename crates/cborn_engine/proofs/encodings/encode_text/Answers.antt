@@ -1,6 +1,4 @@
-use Rattle.std.specs.Prelude.{IfErr}
-use Rattle.cborn_engine.specs.devices.Encoding.{kind_of}
-use Rattle.cborn_engine.specs.devices.Malformed.{IsRefusedHeld}
+use Rattle.cborn_engine.proofs.Common.{IfErr, kind_of, IsRefusedHeld}
 use Rattle.cborn_engine.proofs.Answers.KnownErrors.{known_error}
 use Rattle.cborn_engine.proofs.Answers.Malformed.{no_fault}
 use Rattle.cborn_engine.proofs.Answers.Noted.{encoded, flawed}

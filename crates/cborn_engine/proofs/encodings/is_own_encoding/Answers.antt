@@ -1,7 +1,5 @@
-use Rattle.std.proofs.Common.{rules, ◌≡◌, sym, subst}
-use Rattle.cborn_engine.specs.declared.kinds.Kind.{Kind}
+use Rattle.cborn_engine.proofs.Common.{rules, ◌≡◌, sym, subst, Kind, IsEncoded}
 use Rattle.cborn_engine.specs.declared.kinds.Kind.TheVariants as kind
-use Rattle.cborn_engine.specs.devices.Encoding.{IsEncoded}
 use Rattle.cborn_engine.proofs.encodings.is_own_encoding.Goals as goal
 
 pub returns-then-eq : goal.returns-then-eq

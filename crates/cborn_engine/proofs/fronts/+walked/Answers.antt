@@ -1,6 +1,4 @@
-use Rattle.cborn_model.specs.declared.heads.Major.TheVariants.{Array, Map}
-use Rattle.std.proofs.Common.{◌≡◌, ◌-◌, ◌<◌, ◌^◌, ◌⊎◌, inl, inr, rules, refl, sym, drop, length, length-drop, None, subst, arith}
-use Rattle.cborn_engine.specs.devices.Following.{Walks, WalksAfter}
+use Rattle.cborn_engine.proofs.Common.{Array, Map, ◌≡◌, ◌-◌, ◌<◌, ◌^◌, ◌⊎◌, inl, inr, rules, refl, sym, drop, length, length-drop, None, subst, arith, Walks, WalksAfter}
 use Rattle.cborn_engine.proofs.Walks.Following.{items_next, pairs_next, array_done, array_stops, map_done, map_stops_at_key, map_falls, map_stops_at_value, tagged_walks, bignum_walks, item_last}
 use Rattle.cborn_engine.proofs.Walks.Items.{integer_walked}
 use Rattle.cborn_engine.proofs.Walks.Lacking.{none_headed, leaf_walks, walks_from}

@@ -1,5 +1,4 @@
-use Rattle.std.proofs.Common.{◌*◌, ◌+◌, ◌-◌}
-use Rattle.cborn_engine.specs.devices.Following.{ItemsLead, PairsLead}
+use Rattle.cborn_engine.proofs.Common.{◌*◌, ◌+◌, ◌-◌, ItemsLead, PairsLead}
 use Rattle.cborn_engine.proofs.fronts.+walked.Given as goal
 
 abbrev pub decreases-walk_item : goal.decreases-walk_item

@@ -1,6 +1,5 @@
-use Rattle.std.proofs.Common.{rules, ◌≡◌, ◌+◌, ◌^◌, ◌<◌, ℕ, None, length, subst, arith}
+use Rattle.cborn_engine.proofs.Common.{rules, ◌≡◌, ◌+◌, ◌^◌, ◌<◌, ℕ, None, length, subst, arith, IsEncoded}
 use Rattle.cborn_engine.specs.declared.kinds.Kind.TheVariants as kind
-use Rattle.cborn_engine.specs.devices.Encoding.{IsEncoded}
 use Rattle.cborn_engine.proofs.Walks.Items.{items_none, items_more}
 use Rattle.cborn_engine.proofs.Walks.Whole.{walked_whole, walked_apart}
 use Rattle.cborn_engine.proofs.fronts.is_deterministic.Goals as goal

@@ -1,5 +1,4 @@
-use Rattle.std.proofs.Common.{ℕ, length}
-use Rattle.cborn_engine.specs.devices.Walking.{ItemsWalked}
+use Rattle.cborn_engine.proofs.Common.{ℕ, length, ItemsWalked}
 use Rattle.cborn_engine.proofs.fronts.is_deterministic.Given as goal
 
 abbrev pub decreases-items : goal.decreases-items

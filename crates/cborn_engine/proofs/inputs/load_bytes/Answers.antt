@@ -1,7 +1,6 @@
-use Rattle.std.proofs.Common.{◌≡◌, ◌+◌, ◌-◌, refl, arith}
+use Rattle.cborn_engine.proofs.Common.{◌≡◌, ◌+◌, ◌-◌, refl, arith, Loads}
 use Rattle.cborn_wire.proofs.Feeding.Outcomes.{err_is}
 use Rattle.cborn_engine.specs.declared.kinds.Kind.TheVariants as kind
-use Rattle.cborn_engine.specs.Loading.{Loads}
 use Rattle.cborn_engine.proofs.Streams.Feeding.{at_first, halted, read_on, fed_on, ended_badly}
 use Rattle.cborn_engine.proofs.Answers.KnownErrors.{known_error}
 use Rattle.cborn_engine.proofs.inputs.load_bytes.Goals as goal

@@ -1,4 +1,4 @@
-use Rattle.std.proofs.Common.{◌≡◌, ◌≤◌, ◌+◌}
+use Rattle.cborn_engine.proofs.Common.{◌≡◌, ◌≤◌, ◌+◌}
 use Rattle.cborn_engine.proofs.Streams.Feeding.{SoFar}
 use Rattle.cborn_engine.proofs.inputs.load_bytes.Given as goal
 

@@ -1,6 +1,4 @@
-use Rattle.std.proofs.Common.{sym, ◌∙◌}
-use Rattle.cborn_engine.specs.devices.Encoding.{kind_of}
-use Rattle.cborn_engine.specs.Loading.{LoadAnswers, Loads}
+use Rattle.cborn_engine.proofs.Common.{sym, ◌∙◌, kind_of, LoadAnswers, Loads}
 use Rattle.cborn_engine.proofs.Answers.KnownErrors.{known_error}
 use Rattle.cborn_engine.proofs.Answers.Whole.{loaded, read_whole, still, unread}
 use Rattle.cborn_engine.proofs.inputs.load_text.Goals as goal

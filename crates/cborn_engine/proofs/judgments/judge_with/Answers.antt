@@ -1,4 +1,4 @@
-use Rattle.std.proofs.Common.{ap, Err}
+use Rattle.cborn_engine.proofs.Common.{ap, Err}
 use Rattle.cborn_judge.proofs.FirstFlaw.Sequences.{first_refusal, placed_apart}
 use Rattle.cborn_engine.proofs.Answers.Checked.{found_in_sequence}
 use Rattle.cborn_engine.proofs.Answers.Malformed.{refusal_refused}

@@ -1,4 +1,4 @@
-use Rattle.std.proofs.Common.{◌∙◌, sym}
+use Rattle.cborn_engine.proofs.Common.{◌∙◌, sym}
 use Rattle.cborn_engine.proofs.Canonical.PlainText.{plain_is}
 use Rattle.cborn_engine.proofs.laws.canonical_text.Goals as goal
 

@@ -1,8 +1,5 @@
-use Rattle.std.proofs.Common.{inl, inr, subst, Err}
-use Rattle.std.specs.Cow.{cow_slice_items}
-use Rattle.cborn_engine.specs.declared.count_faults.CountFault.{CountFault}
+use Rattle.cborn_engine.proofs.Common.{inl, inr, subst, Err, cow_slice_items, CountFault, CountAnswer, NormalisedWhole}
 use Rattle.cborn_engine.specs.declared.counts.Count.TheVariants as counts
-use Rattle.cborn_engine.specs.Counts.{CountAnswer, NormalisedWhole}
 use Rattle.cborn_engine.proofs.Canonical.Headline.{alike, same_held}
 use Rattle.cborn_engine.proofs.CountAnswers.Answered.{engine_of}
 use Rattle.cborn_engine.proofs.laws.two_calls.Goals as goal

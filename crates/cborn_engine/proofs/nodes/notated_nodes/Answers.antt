@@ -1,7 +1,4 @@
-use Rattle.std.specs.Prelude.{IfErr}
-use Rattle.cborn_engine.specs.devices.Encoding.{kind_of}
-use Rattle.cborn_engine.specs.Loading.{IsNoFlaw}
-use Rattle.cborn_engine.specs.devices.Malformed.{IsRefusedHeld}
+use Rattle.cborn_engine.proofs.Common.{IfErr, kind_of, IsNoFlaw, IsRefusedHeld}
 use Rattle.cborn_engine.proofs.Answers.KnownErrors.{known_error}
 use Rattle.cborn_engine.proofs.Answers.Unreported.{untold}
 use Rattle.cborn_engine.proofs.nodes.notated_nodes.Goals as goal

@@ -1,6 +1,4 @@
-use Rattle.std.proofs.Common.{◌+◌, ◌∙◌, arith, ap}
-use Rattle.cborn_engine.specs.Failures.{one_more}
-use Rattle.std.proofs.KnownBytes.{Appends-kept}
+use Rattle.cborn_engine.proofs.Common.{◌+◌, ◌∙◌, arith, ap, one_more, Appends-kept}
 use Rattle.cborn_engine.proofs.Streams.Written.{rest_after, no_failure, no_progress, sent_on, front_out, length-rest_after}
 use Rattle.cborn_engine.proofs.outputs.write_answer.Goals as goal
 

@@ -1,5 +1,4 @@
-use Rattle.std.proofs.Common.{◌≡◌, ◌≤◌, ◌-◌, length, take}
-use Rattle.std.specs.Io.KnownBytes.{Appends}
+use Rattle.cborn_engine.proofs.Common.{◌≡◌, ◌≤◌, ◌-◌, length, take, Appends}
 use Rattle.cborn_engine.proofs.outputs.write_answer.Given as goal
 
 abbrev pub invariant-loop-sent : goal.invariant-loop-sent

@@ -1,4 +1,4 @@
-use Rattle.std.proofs.Common.{refl}
+use Rattle.cborn_engine.proofs.Common.{refl}
 use Rattle.cborn_engine.proofs.refusals.fault_of_bytes.Goals as goal
 
 pub returns : goal.returns

@@ -1,4 +1,4 @@
-use Rattle.std.proofs.Common.{inl, inr, refl}
+use Rattle.cborn_engine.proofs.Common.{inl, inr, refl}
 use Rattle.cborn_engine.proofs.refusals.fault_or_refusal.Goals as goal
 
 pub returns-in-Some : goal.returns-in-Some

@@ -1,11 +1,5 @@
-use Rattle.std.proofs.Common.{◌≡◌, rules, sym, subst}
-use Rattle.cborn_model.specs.Placed.{PlacedAll}
-use Rattle.cborn_model.specs.Spelled.{Wellformed}
-use Rattle.cborn_model.specs.Tree.{Trees}
-use Rattle.cborn_wire.specs.Faults.{Fault}
-use Rattle.cborn_engine.specs.declared.kinds.Kind.{Kind}
+use Rattle.cborn_engine.proofs.Common.{◌≡◌, rules, sym, subst, PlacedAll, Wellformed, Trees, Fault, Kind, IsShown}
 use Rattle.cborn_engine.specs.declared.kinds.Kind.TheVariants as kind
-use Rattle.cborn_engine.specs.Showing.{IsShown}
 use Rattle.cborn_engine.proofs.Answers.AtHand.{none_found, some_found}
 use Rattle.cborn_engine.proofs.Answers.Telling.{own_spelling}
 use Rattle.cborn_engine.proofs.showings.is_own_spelling.Goals as goal

@@ -1,10 +1,9 @@
-use Rattle.std.proofs.Common.{refl, subst}
-use Rattle.cborn_edn.specs.ShownBytes.{IsShownText, IsUnshown, Notates}
+use Rattle.cborn_engine.proofs.Common.{refl, subst, IsShownText, IsUnshown, IsSpelledAs, IsUnshownAs}
+use Rattle.cborn_edn.specs.ShownBytes.{Notates}
 use Rattle.cborn_edn.specs.declared.faults.ShowFault.TheVariants as unshown
 use Rattle.cborn_wire.specs.declared.faults.WireFault.TheVariants as wire
 use Rattle.cborn_engine.specs.declared.faults.EngineFault.TheVariants as fault
 use Rattle.cborn_engine.specs.declared.kinds.Kind.TheVariants as kind
-use Rattle.cborn_engine.specs.Showing.{IsSpelledAs, IsUnshownAs}
 use Rattle.cborn_engine.proofs.Answers.Malformed.{wire_refused, refusal_refused}
 use Rattle.cborn_engine.proofs.Answers.Telling.{refused}
 use Rattle.cborn_engine.proofs.Answers.KnownErrors.{notation}

@@ -1,9 +1,5 @@
-use Rattle.std.specs.Prelude.{IfOk, IfErr}
-use Rattle.std.proofs.Common.{◌≡◌, rules, subst, sym}
-use Rattle.cborn_engine.specs.declared.kinds.Kind.{Kind}
+use Rattle.cborn_engine.proofs.Common.{IfOk, IfErr, ◌≡◌, rules, subst, sym, Kind, IsUnshownHeld, IsShown}
 use Rattle.cborn_engine.specs.declared.kinds.Kind.TheVariants as kind
-use Rattle.cborn_engine.specs.devices.Malformed.{IsUnshownHeld}
-use Rattle.cborn_engine.specs.Showing.{IsShown}
 use Rattle.cborn_engine.proofs.showings.show_input.Goals as goal
 
 pub returns-in-None-clause-shown : goal.returns-in-None-clause-shown

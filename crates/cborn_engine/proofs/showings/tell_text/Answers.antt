@@ -1,9 +1,5 @@
-use Rattle.std.specs.Prelude.{IfErr}
-use Rattle.std.proofs.Common.{List, ℕ, subst}
-use Rattle.cborn_edn.specs.ShownBytes.{IsShownText, IsUnshown, Notates}
-use Rattle.cborn_wire.specs.Faults.{Fault}
-use Rattle.cborn_engine.specs.devices.Encoding.{kind_of}
-use Rattle.cborn_engine.specs.devices.Malformed.{IsUnshownHeld}
+use Rattle.cborn_engine.proofs.Common.{IfErr, List, ℕ, subst, IsShownText, IsUnshown, Fault, kind_of, IsUnshownHeld}
+use Rattle.cborn_edn.specs.ShownBytes.{Notates}
 use Rattle.cborn_engine.proofs.Answers.KnownErrors.{known_error}
 use Rattle.cborn_engine.proofs.Answers.Malformed.{no_fault, no_reading}
 use Rattle.cborn_engine.proofs.Answers.Noted.{as_bytes, as_text, never_wire}

@@ -1,6 +1,5 @@
 use Rattle.cborn_engine.specs.declared.kinds.Kind.TheVariants as kind
-use Rattle.cborn_engine.specs.Counts.{CountAnswer, CheckedWhole}
-use Rattle.cborn_engine.specs.Reading.{most_bytes}
+use Rattle.cborn_engine.proofs.Common.{CountAnswer, CheckedWhole, most_bytes}
 use Rattle.cborn_engine.proofs.Answers.AtHand.{short}
 use Rattle.cborn_engine.proofs.Answers.KnownErrors.{known_error}
 use Rattle.cborn_engine.proofs.Answers.Malformed.{unfaulted}

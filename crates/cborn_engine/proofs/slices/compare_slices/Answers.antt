@@ -1,6 +1,4 @@
-use Rattle.std.specs.Cow.{cow_slice_items}
-use Rattle.cborn_engine.specs.Counts.{of_the_first}
-use Rattle.cborn_engine.specs.Whole.{TellsFaultAs}
+use Rattle.cborn_engine.proofs.Common.{cow_slice_items, of_the_first, TellsFaultAs}
 use Rattle.cborn_engine.proofs.Answers.KnownErrors.{known_error}
 use Rattle.cborn_engine.proofs.Comparison.Compared.{its_own, single, bytes_compared}
 use Rattle.cborn_engine.proofs.CountAnswers.Answered.{compared_reported, taken_reported}

@@ -1,6 +1,4 @@
-use Rattle.std.proofs.Common.{sym, subst}
-use Rattle.cborn_engine.specs.declared.count_faults.CompareCountFault.{CompareCountFault}
-use Rattle.cborn_engine.specs.Counts.{AreRefusedWhole}
+use Rattle.cborn_engine.proofs.Common.{sym, subst, CompareCountFault, AreRefusedWhole}
 use Rattle.cborn_engine.proofs.Answers.AtHand.{encoded}
 use Rattle.cborn_engine.proofs.CountAnswers.Answered.{taken, first_refused, second_refused}
 use Rattle.cborn_engine.proofs.slices.encode_both.Goals as goal

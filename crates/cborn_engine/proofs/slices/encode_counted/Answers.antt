@@ -1,5 +1,4 @@
-use Rattle.cborn_engine.specs.Counts.{CountAnswer}
-use Rattle.cborn_engine.specs.devices.Counts.{EncodedWhole}
+use Rattle.cborn_engine.proofs.Common.{CountAnswer, EncodedWhole}
 use Rattle.cborn_engine.proofs.Answers.KnownErrors.{known_error}
 use Rattle.cborn_engine.proofs.Answers.Malformed.{unfaulted}
 use Rattle.cborn_engine.proofs.CountAnswers.Answered.{kept_counted}

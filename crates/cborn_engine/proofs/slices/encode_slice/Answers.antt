@@ -1,5 +1,4 @@
-use Rattle.cborn_engine.specs.devices.Counts.{EncodedWhole}
-use Rattle.cborn_engine.specs.Reading.{most_bytes}
+use Rattle.cborn_engine.proofs.Common.{EncodedWhole, most_bytes}
 use Rattle.cborn_engine.proofs.Answers.AtHand.{short}
 use Rattle.cborn_engine.proofs.Answers.KnownErrors.{known_error}
 use Rattle.cborn_engine.proofs.slices.encode_slice.Goals as goal

@@ -1,5 +1,4 @@
-use Rattle.std.proofs.Common.{subst}
-use Rattle.cborn_model.specs.Tree.{trees}
+use Rattle.cborn_engine.proofs.Common.{subst, trees}
 use Rattle.cborn_edn.specs.ShownBytes.{Notates}
 use Rattle.cborn_engine.proofs.Answers.Malformed.{no_reading}
 use Rattle.cborn_engine.proofs.Answers.Telling.{as_fixed}

@@ -1,5 +1,4 @@
-use Rattle.std.specs.Cow.{cow_slice_items}
-use Rattle.cborn_engine.specs.Counts.{CountAnswer, NormalisedWhole}
+use Rattle.cborn_engine.proofs.Common.{cow_slice_items, CountAnswer, NormalisedWhole}
 use Rattle.cborn_engine.proofs.Answers.AtHand.{encoded, held, room}
 use Rattle.cborn_engine.proofs.Answers.KnownErrors.{known_error}
 use Rattle.cborn_engine.proofs.Answers.Malformed.{unfaulted}

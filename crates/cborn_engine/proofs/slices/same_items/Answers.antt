@@ -1,8 +1,4 @@
-use Rattle.std.proofs.lemmas.Bool.Decides.{Decides-eqb}
-use Rattle.std.proofs.lemmas.Slice.Eq.{slice_eq-Decides}
-use Rattle.std.specs.Cow.{cow_slice_items}
-use Rattle.cborn_engine.specs.Counts.{of_the_first}
-use Rattle.cborn_engine.specs.Whole.{TellsFaultAs}
+use Rattle.cborn_engine.proofs.Common.{Decides-eqb, slice_eq-Decides, cow_slice_items, of_the_first, TellsFaultAs}
 use Rattle.cborn_engine.proofs.Answers.KnownErrors.{known_error}
 use Rattle.cborn_engine.proofs.Comparison.Compared.{same_encodings, same_forms}
 use Rattle.cborn_engine.proofs.CountAnswers.Answered.{compared_reported, taken_reported}

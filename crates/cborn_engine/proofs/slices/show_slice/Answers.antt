@@ -1,9 +1,8 @@
-use Rattle.std.proofs.Common.{◌≡◌, ◌≢◌, sym, ap, ◌∙◌, Err}
+use Rattle.cborn_engine.proofs.Common.{◌≡◌, ◌≢◌, sym, ap, ◌∙◌, Err, CountAnswer, ShownWhole}
 use Rattle.cborn_engine.specs.declared.count_faults.CountFault.TheVariants as counted
 use Rattle.cborn_engine.specs.declared.counts.Count.TheVariants as counts
 use Rattle.cborn_engine.specs.declared.faults.EngineFault.TheVariants as fault
 use Rattle.cborn_engine.specs.declared.kinds.Kind.TheVariants as kind
-use Rattle.cborn_engine.specs.Counts.{CountAnswer, ShownWhole}
 use Rattle.cborn_engine.proofs.Answers.KnownErrors.{known_error}
 use Rattle.cborn_engine.proofs.Answers.Malformed.{unfaulted}
 use Rattle.cborn_engine.proofs.CountAnswers.Answered.{kept_counted, shown_reported, same_engine}

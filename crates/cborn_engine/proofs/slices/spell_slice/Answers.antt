@@ -1,6 +1,4 @@
-use Rattle.std.proofs.Common.{subst}
-use Rattle.cborn_engine.specs.Counts.{ShownWhole}
-use Rattle.cborn_engine.specs.Reading.{most_bytes}
+use Rattle.cborn_engine.proofs.Common.{subst, ShownWhole, most_bytes}
 use Rattle.cborn_engine.proofs.Answers.AtHand.{short}
 use Rattle.cborn_engine.proofs.Answers.KnownErrors.{known_error}
 use Rattle.cborn_engine.proofs.Answers.Malformed.{no_reading}

@@ -1,11 +1,6 @@
-use Rattle.std.proofs.Common.{ℕ, List, subst}
-use Rattle.std.specs.Prelude.{IfErr}
-use Rattle.cborn_engine.specs.devices.Encoding.{kind_of}
-use Rattle.cborn_engine.specs.Loading.{IsNoFlaw}
-use Rattle.cborn_engine.specs.devices.Malformed.{IsRefusedHeld}
+use Rattle.cborn_engine.proofs.Common.{ℕ, List, subst, IfErr, kind_of, IsNoFlaw, IsRefusedHeld, IsSpelling}
 use Rattle.cborn_engine.proofs.Answers.KnownErrors.{known_error}
 use Rattle.cborn_engine.proofs.Answers.Unreported.{untold}
-use Rattle.cborn_edn.specs.Spelling.{IsSpelling}
 use Rattle.cborn_engine.proofs.texts.bytes_of_text.Goals as goal
 
 pub returns-in_err-text-clause-refused : goal.returns-in_err-text-clause-refused

@@ -1,10 +1,4 @@
-use Rattle.std.proofs.Common.{ℕ, List, subst}
-use Rattle.std.specs.Prelude.{IfErr}
-use Rattle.cborn_model.specs.Tree.{trees}
-use Rattle.cborn_edn.specs.Grammar.{Notates}
-use Rattle.cborn_engine.specs.devices.Encoding.{kind_of}
-use Rattle.cborn_engine.specs.Loading.{IsNoFlaw}
-use Rattle.cborn_engine.specs.devices.Malformed.{IsRefusedHeld}
+use Rattle.cborn_engine.proofs.Common.{ℕ, List, subst, IfErr, trees, Notates, kind_of, IsNoFlaw, IsRefusedHeld}
 use Rattle.cborn_engine.proofs.Answers.KnownErrors.{known_error}
 use Rattle.cborn_engine.proofs.Answers.Unreported.{untold}
 use Rattle.cborn_engine.proofs.texts.hand_text.Goals as goal

@@ -1,9 +1,5 @@
-use Rattle.std.proofs.Common.{rules, ◌≡◌, ℕ, List, Option, None, sym, subst, arith, refl}
-use Rattle.std.specs.Prelude.{MatchOption}
+use Rattle.cborn_engine.proofs.Common.{rules, ◌≡◌, ℕ, List, Option, None, sym, subst, arith, refl, MatchOption, ByteString, Leaves, BignumWalked}
 use Rattle.cborn_model.proofs.Bytes.{are_bytes}
-use Rattle.cborn_model.specs.declared.heads.Major.TheVariants.{ByteString}
-use Rattle.cborn_wire.specs.Parts.{Leaves}
-use Rattle.cborn_engine.specs.devices.Following.{BignumWalked}
 use Rattle.cborn_engine.proofs.Walks.Following.{bignum_found}
 use Rattle.cborn_engine.proofs.Walks.Lacking.{none_long}
 use Rattle.cborn_engine.proofs.walked_bignums.walk_bignum.Goals as goal

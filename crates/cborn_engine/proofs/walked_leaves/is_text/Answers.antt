@@ -1,4 +1,4 @@
-use Rattle.std.proofs.lemmas.Str.{IsUtf8-from_ascii}
+use Rattle.cborn_engine.proofs.Common.{IsUtf8-from_ascii}
 use Rattle.cborn_engine.proofs.walked_leaves.is_text.Goals as goal
 
 pub returns-then-is_ascii : goal.returns-then-is_ascii

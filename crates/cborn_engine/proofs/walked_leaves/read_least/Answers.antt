@@ -1,8 +1,5 @@
-use Rattle.std.proofs.Common.{◌≡◌, ◌≢◌, ◌-◌, ◌++◌, ◌∙◌, ap, sym, subst, take, drop, rules, length}
-use Rattle.std.proofs.lemmas.List.{take_rest}
-use Rattle.cborn_model.specs.Heads.{Given, EndlessArgument, head, least, WidthFits}
+use Rattle.cborn_engine.proofs.Common.{◌≡◌, ◌≢◌, ◌-◌, ◌++◌, ◌∙◌, ap, sym, subst, take, drop, rules, length, take_rest, Given, EndlessArgument, head, least, WidthFits, ArgumentFits, seen_argument}
 use Rattle.cborn_wire.specs.declared.heads.Argument.{Argument}
-use Rattle.cborn_wire.specs.HeadReading.{ArgumentFits, seen_argument}
 use Rattle.cborn_wire.proofs.Parts.Heads.{head_read}
 use Rattle.cborn_engine.proofs.Walks.Heads.{number_of, width_of, no_least, other_least}
 use Rattle.cborn_engine.proofs.walked_leaves.read_least.Goals as goal

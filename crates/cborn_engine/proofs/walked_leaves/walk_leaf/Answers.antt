@@ -1,7 +1,4 @@
-use Rattle.std.proofs.Common.{true, false, ◌≡◌, List, ℕ, Ordering, refl, sym, subst, ◌∙◌}
-use Rattle.cborn_model.specs.declared.heads.Major.{Major}
-use Rattle.cborn_model.specs.declared.heads.Major.TheVariants.{Unsigned, Negative, ByteString, TextString, Other}
-use Rattle.cborn_engine.specs.devices.Walking.{HasNoLeaf, WalkedAfter}
+use Rattle.cborn_engine.proofs.Common.{true, false, ◌≡◌, List, ℕ, Ordering, refl, sym, subst, ◌∙◌, Major, Unsigned, Negative, ByteString, TextString, Other, HasNoLeaf, WalkedAfter}
 use Rattle.std.proofs.lemmas.Option.{IfSome_then}
 use Rattle.cborn_engine.proofs.Walks.Items.{uint_walked, nint_walked, bytes_walked, text_walked, simple_walked}
 use Rattle.cborn_engine.proofs.walked_leaves.walk_leaf.Goals as goal

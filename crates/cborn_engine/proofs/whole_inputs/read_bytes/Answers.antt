@@ -1,5 +1,4 @@
-use Rattle.std.proofs.Common.{◌≤◌, ◌+◌, length, drop, arith, length-drop}
-use Rattle.cborn_engine.specs.Collecting.{Collects}
+use Rattle.cborn_engine.proofs.Common.{◌≤◌, ◌+◌, length, drop, arith, length-drop, Collects}
 use Rattle.cborn_engine.proofs.Streams.Collecting.{kept, stopped, more}
 use Rattle.cborn_engine.proofs.Answers.KnownErrors.{known_error}
 use Rattle.cborn_engine.proofs.whole_inputs.read_bytes.Goals as goal

@@ -1,4 +1,4 @@
-use Rattle.std.proofs.Common.{◌≡◌, ◌≤◌, ◌+◌, ◌-◌}
+use Rattle.cborn_engine.proofs.Common.{◌≡◌, ◌≤◌, ◌+◌, ◌-◌}
 use Rattle.cborn_engine.proofs.Streams.Collecting.{Filled}
 use Rattle.cborn_engine.proofs.whole_inputs.read_bytes.Given as goal
 

@@ -1,7 +1,4 @@
-use Rattle.std.proofs.Common.{◌≡◌, sym, ap, ◌∙◌, ℕ, ◌+◌, ◌-◌, ◌≤◌, List, ◌++◌, length, take, drop, arith, length-append}
-use Rattle.std.proofs.lemmas.List.{length-drop, take_all}
-use Rattle.cborn_model.specs.Tree.{Tree}
-use Rattle.cborn_model.specs.Spelled.{spelled, Fits}
+use Rattle.cborn_explain.proofs.Common.{◌≡◌, sym, ap, ◌∙◌, ℕ, ◌+◌, ◌-◌, ◌≤◌, List, ◌++◌, length, take, drop, arith, length-append, length-drop, take_all, Tree, spelled, Fits}
 use Rattle.cborn_wire.specs.Reading.{IsFirstItem}
 use Rattle.cborn_wire.proofs.Parts.Openings.{one_front}
 use Rattle.cborn_explain.proofs.byte_heads.end_of_item.Goals as goal

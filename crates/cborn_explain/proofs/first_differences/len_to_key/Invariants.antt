@@ -1,5 +1,4 @@
-use Rattle.std.proofs.Common.{◌≡◌, ◌++◌, take, drop}
-use Rattle.cborn_explain.specs.Paths.{up_to_key}
+use Rattle.cborn_explain.proofs.Common.{◌≡◌, ◌++◌, take, drop, up_to_key}
 use Rattle.cborn_explain.proofs.first_differences.len_to_key.Given as goal
 
 abbrev pub invariant-loop-i : goal.invariant-loop-i

@@ -1,6 +1,4 @@
-use Rattle.std.proofs.Common.{◌≡◌, sym, ap, ◌∙◌, subst, length, take, arith}
-use Rattle.cborn_explain.specs.Paths.{DifferFirstAt, up_to_key, LeadsToDifference}
-use Rattle.cborn_explain.specs.devices.Walks.{path_of}
+use Rattle.cborn_explain.proofs.Common.{◌≡◌, sym, ap, ◌∙◌, subst, length, take, arith, DifferFirstAt, up_to_key, LeadsToDifference, path_of}
 use Rattle.cborn_explain.proofs.Walking.Differences.{differ_first, difference_led}
 use Rattle.cborn_explain.proofs.first_differences.walk_to_difference.Goals.{else-common-first-via-then-common-first+else-common-second, else-common-first-via-else-common-first}
 use Rattle.cborn_explain.proofs.first_differences.walk_to_difference.Goals as goal

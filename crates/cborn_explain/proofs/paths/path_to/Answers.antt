@@ -1,6 +1,5 @@
-use Rattle.std.proofs.Common.{sym, subst, arith}
+use Rattle.cborn_explain.proofs.Common.{sym, subst, arith, LeadsTo}
 use Rattle.std.proofs.lemmas.Result.{IfOk-weaker}
-use Rattle.cborn_explain.specs.Paths.{LeadsTo}
 use Rattle.cborn_explain.proofs.Walking.Whole.{walk_leads, leads_beyond}
 use Rattle.cborn_explain.proofs.paths.path_to.Goals as goal
 

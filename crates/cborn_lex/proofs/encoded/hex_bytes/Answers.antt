@@ -1,4 +1,4 @@
-use Rattle.std.proofs.Common.{rules, ◌≡◌, sym, ap, ◌∙◌, ◌⊎◌, Err, subst}
+use Rattle.cborn_lex.proofs.Common.{rules, ◌≡◌, sym, ap, ◌∙◌, ◌⊎◌, Err, subst}
 use Rattle.hex.specs.Hex.{decode_of}
 use Rattle.hex.specs.declared.error.FromHexError.TheVariants.{OutOfMemory}
 use Rattle.cborn_lex.proofs.Contents.Hexes.{hex_ok, not_hex, hex_no_digits}

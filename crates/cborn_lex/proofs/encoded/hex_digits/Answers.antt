@@ -1,7 +1,4 @@
-use Rattle.std.proofs.Common.{◌≡◌, refl, sym, ap, ◌∙◌, ◌+◌, [], subst, false, true, not, eqb, get_or, drop, nat_lt, append-nil, Some}
-use Rattle.std.proofs.lemmas.Bool.{lt-ltb, le-ltb, cond-false, ne_eqb}
-use Rattle.std.proofs.lemmas.List.{drop_more}
-use Rattle.cborn_lex.specs.devices.Scan.{strip, after}
+use Rattle.cborn_lex.proofs.Common.{◌≡◌, refl, sym, ap, ◌∙◌, ◌+◌, [], subst, false, true, not, eqb, get_or, drop, nat_lt, append-nil, Some, lt-ltb, le-ltb, cond-false, ne_eqb, drop_more, strip, after}
 use Rattle.cborn_lex.proofs.Contents.Hexes.{after_none, at_inside, at_digit, at_space, at_open, at_end, moved}
 use Rattle.cborn_lex.proofs.encoded.hex_digits.Goals as goal
 use Rattle.cborn_lex.proofs.encoded.hex_digits.Goals.{then-inside, else-inside+then-digit_of-lt16+in_ok-push, else-inside+else-digit_of-lt16+then-c-eq47, else-inside+else-digit_of-lt16+else-c-eq47+else-not-is_white, then-inside-2, else-inside-2}

@@ -1,5 +1,4 @@
-use Rattle.std.proofs.Common.{◌≡◌, false, drop}
-use Rattle.cborn_lex.specs.devices.Scan.{strip, after}
+use Rattle.cborn_lex.proofs.Common.{◌≡◌, false, drop, strip, after}
 use Rattle.cborn_lex.proofs.encoded.hex_digits.Given as goal
 
 abbrev pub invariant-loop-c : goal.invariant-loop-c

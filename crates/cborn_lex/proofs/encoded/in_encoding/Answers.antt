@@ -1,9 +1,4 @@
-use Rattle.std.proofs.Common.{refl, sym, false, arith, ap, ◌∙◌, ◌++◌}
-use Rattle.std.specs.List.{list_all}
-use Rattle.cborn_lex.specs.declared.faults.LexReason.TheVariants.{UnclosedString}
-use Rattle.cborn_lex.specs.declared.classes.Class.TheVariants.{Bytes}
-use Rattle.cborn_lex.specs.Tokens.{is_not, Bad, marked}
-use Rattle.cborn_lex.specs.devices.Scan.{IsEncoded, refusal}
+use Rattle.cborn_lex.proofs.Common.{refl, sym, false, arith, ap, ◌∙◌, ◌++◌, list_all, UnclosedString, Bytes, is_not, Bad, marked, IsEncoded, refusal}
 use Rattle.cborn_lex.proofs.Sliced.Words.{string_ok, string_bad}
 use Rattle.cborn_lex.proofs.TwoParts.{string_appended, unclosed_made}
 use Rattle.cborn_lex.proofs.encoded.in_encoding.Goals as goal

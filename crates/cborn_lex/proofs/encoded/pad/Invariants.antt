@@ -1,4 +1,4 @@
-use Rattle.std.proofs.Common.{◌≡◌, ◌++◌, replicate}
+use Rattle.cborn_lex.proofs.Common.{◌≡◌, ◌++◌, replicate}
 use Rattle.cborn_lex.proofs.encoded.pad.Given as goal
 
 abbrev pub invariant-loop-k : goal.invariant-loop-k

@@ -1,7 +1,4 @@
-use Rattle.std.proofs.Common.{◌≡◌, ◌++◌, map, not, drop}
-use Rattle.std.specs.List.{filter}
-use Rattle.cborn_lex.specs.Tokens.{is_white}
-use Rattle.cborn_lex.specs.Strings.{to_standard}
+use Rattle.cborn_lex.proofs.Common.{◌≡◌, ◌++◌, map, not, drop, filter, is_white, to_standard}
 use Rattle.cborn_lex.proofs.encoded.without_white.Given as goal
 
 abbrev pub invariant-loop-c : goal.invariant-loop-c

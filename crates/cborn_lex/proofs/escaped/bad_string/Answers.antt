@@ -1,7 +1,4 @@
-use Rattle.std.proofs.Common.{refl, take}
-use Rattle.cborn_lex.specs.declared.faults.LexReason.TheVariants.{BadEscape}
-use Rattle.cborn_lex.specs.Tokens.{Bad}
-use Rattle.cborn_lex.specs.Strings.{is_content, is_unclosed, IsText}
+use Rattle.cborn_lex.proofs.Common.{refl, take, BadEscape, Bad, is_content, is_unclosed, IsText}
 use Rattle.cborn_lex.proofs.Sliced.Words.{string_bad}
 use Rattle.cborn_lex.proofs.escaped.bad_string.Goals as goal
 

@@ -1,5 +1,4 @@
-use Rattle.std.proofs.Common.{◌≡◌, true, take, length, ◌-◌}
-use Rattle.cborn_lex.specs.Strings.{is_content}
+use Rattle.cborn_lex.proofs.Common.{◌≡◌, true, take, length, ◌-◌, is_content}
 use Rattle.cborn_lex.proofs.escaped.content_end.Given as goal
 
 abbrev pub invariant-loop-at : goal.invariant-loop-at

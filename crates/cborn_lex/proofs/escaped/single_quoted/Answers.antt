@@ -1,8 +1,4 @@
-use Rattle.std.proofs.Common.{refl, true, take}
-use Rattle.cborn_lex.specs.declared.faults.LexReason.TheVariants.{BadEscape}
-use Rattle.cborn_lex.specs.declared.classes.Class.TheVariants.{Bytes}
-use Rattle.cborn_lex.specs.Tokens.{Bad, marked}
-use Rattle.cborn_lex.specs.Strings.{is_content, is_unclosed, IsText}
+use Rattle.cborn_lex.proofs.Common.{refl, true, take, BadEscape, Bytes, Bad, marked, is_content, is_unclosed, IsText}
 use Rattle.cborn_lex.proofs.Sliced.Words.{string_ok}
 use Rattle.cborn_lex.proofs.Runs.{none_yet}
 use Rattle.cborn_lex.proofs.TwoParts.{string_appended}

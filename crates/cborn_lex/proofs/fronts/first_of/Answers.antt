@@ -1,4 +1,4 @@
-use Rattle.std.proofs.Common.{refl, drop}
+use Rattle.cborn_lex.proofs.Common.{refl, drop}
 use Rattle.cborn_lex.proofs.WholeTexts.Progress.{first_reads}
 use Rattle.cborn_lex.proofs.fronts.first_of.Goals as goal
 

@@ -1,9 +1,6 @@
-use Rattle.std.proofs.Common.{refl, [], sym, subst, List, ℕ, take, drop, get_or, arith, rules, false}
-use Rattle.std.proofs.lemmas.List.{take_more}
+use Rattle.cborn_lex.proofs.Common.{refl, [], sym, subst, List, ℕ, take, drop, get_or, arith, rules, false, take_more, Start, ReadsFrom, ReadsNumber, front_view}
 use Rattle.cborn_lex.specs.declared.classes.Kind.TheVariants as kinds
 use Rattle.cborn_lex.specs.declared.fronts.Front.TheVariants as fronts
-use Rattle.cborn_lex.specs.Forms.{Start, ReadsFrom, ReadsNumber}
-use Rattle.cborn_lex.specs.devices.View.{front_view}
 use Rattle.cborn_lex.proofs.TwoParts.{from_plain, nothing_appended, digit_starts, quoted_from}
 use Rattle.cborn_lex.proofs.fronts.front_by_character.Goals as goal
 

@@ -1,5 +1,4 @@
-use Rattle.std.proofs.Common.{inl, sym, ◌∙◌, []}
-use Rattle.cborn_lex.specs.devices.View.{front_view}
+use Rattle.cborn_lex.proofs.Common.{inl, sym, ◌∙◌, [], front_view}
 use Rattle.cborn_lex.proofs.Sliced.Words.{close_made}
 use Rattle.cborn_lex.proofs.fronts.greater.Goals as goal
 

@@ -1,6 +1,4 @@
-use Rattle.std.proofs.Common.{sym, ap, ◌∙◌, arith, ◌+◌, ◌-◌, ◌*◌, ◌<◌, ◌≡◌, ◌⊎◌, inl, inr, true, false, length, get_or}
-use Rattle.std.proofs.lemmas.Bool.{false≢true, eq-eqb, eqb-true, ltb-true}
-use Rattle.cborn_lex.specs.Tokens.{is_numeral}
+use Rattle.cborn_lex.proofs.Common.{sym, ap, ◌∙◌, arith, ◌+◌, ◌-◌, ◌*◌, ◌<◌, ◌≡◌, ◌⊎◌, inl, inr, true, false, length, get_or, false≢true, eq-eqb, eqb-true, ltb-true, is_numeral}
 use Rattle.cborn_lex.proofs.Decimals.{digit_more, digit_numeral, below_more, fits_more, decimal_value, decimal_run, no_decimal}
 use Rattle.cborn_lex.proofs.integers.decimal_at.Goals as goal
 use Rattle.cborn_lex.proofs.integers.decimal_at.Goals.{then-len-eq0-via-then-len-eq0, then-len-eq0-via-else-len-eq0+then-tail-eq48, else-len-tail-via-then-len-tail+else-is_numeral, else-len-tail-via-else-len-tail, then-len-gt1, else-len-gt1}

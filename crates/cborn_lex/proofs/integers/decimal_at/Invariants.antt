@@ -1,7 +1,4 @@
-use Rattle.std.proofs.Common.{◌≡◌, ◌≤◌, ◌<◌, ◌^◌, ◌-◌, true, take, length}
-use Rattle.std.specs.List.{list_all}
-use Rattle.std.specs.Char.{is_digit}
-use Rattle.cborn_lex.specs.Numbers.{number}
+use Rattle.cborn_lex.proofs.Common.{◌≡◌, ◌≤◌, ◌<◌, ◌^◌, ◌-◌, true, take, length, list_all, is_digit, number}
 use Rattle.cborn_lex.proofs.integers.decimal_at.Given as goal
 
 abbrev pub invariant-digits : goal.invariant-digits

@@ -1,8 +1,4 @@
-use Rattle.std.proofs.Common.{◌≡◌, sym, ◌∙◌, subst, refl, [], take, drop}
-use Rattle.cborn_lex.specs.Tokens.{Front, mark_of}
-use Rattle.cborn_lex.specs.Numbers.{integer, number_front}
-use Rattle.cborn_lex.specs.Forms.{ReadsNumber}
-use Rattle.cborn_lex.specs.devices.View.{front_view}
+use Rattle.cborn_lex.proofs.Common.{◌≡◌, sym, ◌∙◌, subst, refl, [], take, drop, Front, mark_of, integer, number_front, ReadsNumber, front_view}
 use Rattle.cborn_lex.proofs.Sliced.Pieces.{number_made}
 use Rattle.cborn_lex.proofs.integers.number_at.Goals as goal
 

@@ -1,5 +1,4 @@
-use Rattle.std.proofs.Common.{[]}
-use Rattle.cborn_lex.specs.devices.View.{front_view}
+use Rattle.cborn_lex.proofs.Common.{[], front_view}
 use Rattle.cborn_lex.proofs.Decimals.{digit_first}
 use Rattle.cborn_lex.proofs.integers.number_from_digit.Goals as goal
 

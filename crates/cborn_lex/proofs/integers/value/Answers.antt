@@ -1,4 +1,4 @@
-use Rattle.std.proofs.Common.{arith}
+use Rattle.cborn_lex.proofs.Common.{arith}
 use Rattle.cborn_lex.proofs.Sliced.Values.{too_large, all_read}
 use Rattle.cborn_lex.proofs.integers.value.Goals as goal
 

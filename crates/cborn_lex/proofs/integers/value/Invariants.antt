@@ -1,5 +1,4 @@
-use Rattle.std.proofs.Common.{◌≡◌, ◌<◌, ◌^◌, drop}
-use Rattle.cborn_lex.specs.Numbers.{number}
+use Rattle.cborn_lex.proofs.Common.{◌≡◌, ◌<◌, ◌^◌, drop, number}
 use Rattle.cborn_lex.proofs.integers.value.Given as goal
 
 abbrev pub invariant-loop-d : goal.invariant-loop-d

@@ -1,7 +1,4 @@
-use Rattle.std.proofs.Common.{sym, ◌∙◌, refl, subst, arith}
-use Rattle.cborn_lex.specs.Tokens.{Front}
-use Rattle.cborn_lex.specs.Numbers.{word_front}
-use Rattle.cborn_lex.specs.devices.View.{FrontStandsFor}
+use Rattle.cborn_lex.proofs.Common.{sym, ◌∙◌, refl, subst, arith, Front, word_front, FrontStandsFor}
 use Rattle.cborn_lex.proofs.TwoParts.{nothing_appended}
 use Rattle.cborn_lex.proofs.Sliced.Words.{prefix_made}
 use Rattle.cborn_lex.proofs.keywords.after_word.Goals as goal

@@ -1,8 +1,4 @@
-use Rattle.std.proofs.Common.{refl, sym, ◌∙◌, ap, subst, arith, []}
-use Rattle.std.specs.Prelude.{bytes_eq}
-use Rattle.cborn_lex.specs.declared.faults.LexReason.TheVariants.{UnknownPrefix}
-use Rattle.cborn_lex.specs.Tokens.{Bad}
-use Rattle.cborn_lex.specs.Forms.{Prefix, hexadecimal, base64, IsPrefixed}
+use Rattle.cborn_lex.proofs.Common.{refl, sym, ◌∙◌, ap, subst, arith, [], bytes_eq, UnknownPrefix, Bad, Prefix, hexadecimal, base64, IsPrefixed}
 use Rattle.cborn_lex.proofs.TwoParts.{prefix_known, prefix_hex, prefix_base64, prefix_none}
 use Rattle.cborn_lex.proofs.keywords.prefixed.Goals as goal
 

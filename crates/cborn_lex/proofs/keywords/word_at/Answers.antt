@@ -1,8 +1,6 @@
-use Rattle.std.proofs.Common.{get_or, ◌∙◌, refl, arith}
+use Rattle.cborn_lex.proofs.Common.{get_or, ◌∙◌, refl, arith, SimpleOpen, Read}
 use Rattle.cborn_lex.specs.declared.classes.Kind.TheVariants as kinds
-use Rattle.cborn_lex.specs.declared.classes.Class.TheVariants.{SimpleOpen}
 use Rattle.cborn_lex.specs.declared.fronts.Front.TheVariants as fronts
-use Rattle.cborn_lex.specs.Tokens.{Read}
 use Rattle.cborn_lex.proofs.TwoParts.{simple_word, nothing_appended}
 use Rattle.cborn_lex.proofs.Sliced.Words.{word_made, word_text}
 use Rattle.cborn_lex.proofs.keywords.word_at.Goals as goal

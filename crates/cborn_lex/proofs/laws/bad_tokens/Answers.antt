@@ -1,4 +1,4 @@
-use Rattle.cborn_lex.specs.Tokens.{Bad}
+use Rattle.cborn_lex.proofs.Common.{Bad}
 use Rattle.cborn_lex.proofs.GoodFronts.{taken}
 use Rattle.cborn_lex.proofs.BadBack.{fails}
 use Rattle.cborn_lex.proofs.GoodTexts.{failed, stopped}

@@ -1,4 +1,4 @@
-use Rattle.cborn_lex.specs.declared.classes.Profile.TheVariants.{One, Two}
+use Rattle.cborn_lex.proofs.Common.{One, Two}
 use Rattle.cborn_lex.proofs.WholeTexts.Chains as chains
 use Rattle.cborn_lex.proofs.GoodTexts.{has_tokens, lexed}
 use Rattle.cborn_lex.proofs.laws.both_profiles.Goals as goal

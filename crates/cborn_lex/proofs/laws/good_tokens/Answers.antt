@@ -1,4 +1,4 @@
-use Rattle.cborn_lex.specs.Tokens.{WhiteSpace, Read}
+use Rattle.cborn_lex.proofs.Common.{WhiteSpace, Read}
 use Rattle.cborn_lex.proofs.GoodFronts.{taken}
 use Rattle.cborn_lex.proofs.GoodBack.{read}
 use Rattle.cborn_lex.proofs.GoodTexts.{has_tokens, lexed}

@@ -1,4 +1,4 @@
-use Rattle.std.proofs.Common.{inl, inr, ⊎_elim}
+use Rattle.cborn_lex.proofs.Common.{inl, inr, ⊎_elim}
 use Rattle.cborn_lex.proofs.Contents.Base64s.{bytes_from}
 use Rattle.cborn_lex.proofs.WholeTexts.Chains.{some_answer, not_both, one_list, one_stop}
 use Rattle.cborn_lex.proofs.GoodTexts.{has_tokens, lexed, failed, stopped}

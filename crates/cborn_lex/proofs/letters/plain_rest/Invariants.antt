@@ -1,6 +1,4 @@
-use Rattle.std.proofs.Common.{◌≡◌, ◌≤◌, ◌-◌, true, length, take}
-use Rattle.std.specs.List.{list_all}
-use Rattle.cborn_lex.specs.devices.Letters.{is_plain}
+use Rattle.cborn_lex.proofs.Common.{◌≡◌, ◌≤◌, ◌-◌, true, length, take, list_all, is_plain}
 use Rattle.cborn_lex.proofs.letters.plain_rest.Given as goal
 
 abbrev pub invariant-letters : goal.invariant-letters

@@ -1,4 +1,4 @@
-use Rattle.std.proofs.Common.{arith}
+use Rattle.cborn_lex.proofs.Common.{arith}
 use Rattle.cborn_lex.proofs.Runs.{more_plain}
 use Rattle.cborn_lex.proofs.letters.plain_run.Goals as goal
 

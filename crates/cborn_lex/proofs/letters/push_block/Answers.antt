@@ -1,4 +1,4 @@
-use Rattle.std.proofs.Common.{refl, take, rules}
+use Rattle.cborn_lex.proofs.Common.{refl, take, rules}
 use Rattle.cborn_lex.proofs.Runs.{block_cut}
 use Rattle.cborn_lex.proofs.letters.push_block.Goals as goal
 

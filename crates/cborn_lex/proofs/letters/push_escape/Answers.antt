@@ -1,4 +1,4 @@
-use Rattle.std.proofs.Common.{arith, refl, ◌+◌, ◌<◌, length}
+use Rattle.cborn_lex.proofs.Common.{arith, refl, ◌+◌, ◌<◌, length}
 use Rattle.cborn_lex.proofs.Runs.{unit_escape, escape_within}
 use Rattle.cborn_lex.proofs.letters.push_escape.Goals as goal
 

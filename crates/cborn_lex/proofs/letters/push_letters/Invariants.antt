@@ -1,5 +1,4 @@
-use Rattle.std.proofs.Common.{◌≡◌, ◌≤◌, ◌-◌, List, ℕ, length, take}
-use Rattle.cborn_lex.specs.devices.Letters.{LettersSoFar}
+use Rattle.cborn_lex.proofs.Common.{◌≡◌, ◌≤◌, ◌-◌, List, ℕ, length, take, LettersSoFar}
 use Rattle.cborn_lex.proofs.letters.push_letters.Given as goal
 
 abbrev pub invariant-letters : goal.invariant-letters

@@ -1,7 +1,4 @@
-use Rattle.std.proofs.Common.{◌≡◌, ◌<◌, ◌≤◌, ◌+◌, ◌-◌, ℕ, List, length, take, drop, map, subst, sym, arith}
-use Rattle.std.proofs.Math.Seq.{take-length}
-use Rattle.std.specs.Simd.Lanes.{mask_l}
-use Rattle.cborn_lex.specs.devices.Letters.{is_special, LettersSoFar}
+use Rattle.cborn_lex.proofs.Common.{◌≡◌, ◌<◌, ◌≤◌, ◌+◌, ◌-◌, ℕ, List, length, take, drop, map, subst, sym, arith, take-length, mask_l, is_special, LettersSoFar}
 use Rattle.cborn_lex.proofs.Runs.{short_run, short_run_more, left_more, escape_more, still}
 use Rattle.cborn_lex.proofs.letters.push_short_runs.Goals as goal
 use lib.Count.{count_trailing_zeros}

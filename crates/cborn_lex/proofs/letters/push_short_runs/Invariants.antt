@@ -1,6 +1,4 @@
-use Rattle.std.proofs.Common.{◌≡◌, ◌≤◌, ◌+◌, ◌-◌, List, ℕ, length, take, drop, map}
-use Rattle.std.specs.Simd.Lanes.{mask_l}
-use Rattle.cborn_lex.specs.devices.Letters.{is_special, LettersSoFar}
+use Rattle.cborn_lex.proofs.Common.{◌≡◌, ◌≤◌, ◌+◌, ◌-◌, List, ℕ, length, take, drop, map, mask_l, is_special, LettersSoFar}
 use Rattle.cborn_lex.proofs.letters.push_short_runs.Given as goal
 
 abbrev pub invariant-escapes : goal.invariant-escapes

@@ -1,4 +1,4 @@
-use Rattle.std.proofs.Common.{arith}
+use Rattle.cborn_lex.proofs.Common.{arith}
 use Rattle.cborn_lex.proofs.Runs.{none_found, first_found, first_stops}
 use Rattle.cborn_lex.proofs.letters.run_of_block.Goals as goal
 

@@ -1,4 +1,4 @@
-use Rattle.std.proofs.Common.{arith}
+use Rattle.cborn_lex.proofs.Common.{arith}
 use Rattle.cborn_lex.proofs.Runs.{marked_lanes}
 use Rattle.cborn_lex.proofs.letters.special_letters_of_64.Goals as goal
 

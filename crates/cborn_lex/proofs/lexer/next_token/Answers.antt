@@ -1,7 +1,4 @@
-use Rattle.std.proofs.Common.{refl, sym, subst, ◌∙◌, ◌≤◌, length, List, ℕ}
-use Rattle.cborn_lex.specs.Kinds.{StandsFor}
-use Rattle.cborn_lex.specs.Tokens.{WhiteSpace, Read, Bad}
-use Rattle.cborn_lex.specs.declared.faults.LexFault.TheVariants.{Refused}
+use Rattle.cborn_lex.proofs.Common.{refl, sym, subst, ◌∙◌, ◌≤◌, length, List, ℕ, StandsFor, WhiteSpace, Read, Bad, Refused}
 use Rattle.cborn_lex.proofs.GoodTexts.{covers, no_token_from}
 use Rattle.cborn_lex.proofs.WholeTexts.Progress.{nothing, after_white, after_blank, then_token, then_end, then_stop, reads_at}
 use Rattle.cborn_lex.proofs.lexer.next_token.Goals as goal

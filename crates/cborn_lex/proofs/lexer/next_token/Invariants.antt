@@ -1,5 +1,4 @@
-use Rattle.std.proofs.Common.{◌≡◌, ◌-◌, length, []}
-use Rattle.cborn_lex.specs.Lex.{Between}
+use Rattle.cborn_lex.proofs.Common.{◌≡◌, ◌-◌, length, [], Between}
 use Rattle.cborn_lex.proofs.lexer.next_token.Given as goal
 
 abbrev pub invariant-loop-place : goal.invariant-loop-place

@@ -1,6 +1,4 @@
-use Rattle.std.proofs.Common.{subst, sym, ◌∙◌, ◌∷◌, []}
-use Rattle.cborn_lex.specs.declared.classes.Class.{Class}
-use Rattle.cborn_lex.specs.Good.{TokensBetween}
+use Rattle.cborn_lex.proofs.Common.{subst, sym, ◌∙◌, ◌∷◌, [], Class, TokensBetween}
 use Rattle.cborn_lex.proofs.TwoParts.{same_class}
 use Rattle.cborn_lex.proofs.lexer.token_from.Goals as goal
 

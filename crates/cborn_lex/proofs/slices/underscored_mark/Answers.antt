@@ -1,4 +1,4 @@
-use Rattle.std.proofs.Common.{sym, ◌∙◌, arith}
+use Rattle.cborn_lex.proofs.Common.{sym, ◌∙◌, arith}
 use Rattle.cborn_lex.proofs.TwoParts.{long_mark}
 use Rattle.cborn_lex.proofs.slices.underscored_mark.Goals as goal
 

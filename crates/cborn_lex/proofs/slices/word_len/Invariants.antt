@@ -1,6 +1,4 @@
-use Rattle.std.proofs.Common.{◌≡◌, true, take}
-use Rattle.std.specs.List.{list_all}
-use Rattle.cborn_lex.specs.Tokens.{is_word}
+use Rattle.cborn_lex.proofs.Common.{◌≡◌, true, take, list_all, is_word}
 use Rattle.cborn_lex.proofs.slices.word_len.Given as goal
 
 abbrev pub invariant-loop-i : goal.invariant-loop-i

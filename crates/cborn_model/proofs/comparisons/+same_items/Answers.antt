@@ -1,8 +1,7 @@
-use Rattle.std.proofs.Common.{arith}
+use Rattle.cborn_model.proofs.Common.{arith, item_value}
 use Rattle.cborn_model.proofs.Listed.Deciding.{either_way, granted, refuted, passed, failed}
 use Rattle.cborn_model.proofs.Listed.Values.{height_of_item, height_of_pair}
 use Rattle.cborn_model.proofs.SameItems.Comparing.{proper_item, proper_pair, proper_parts, same_by_item, same_item, same_length, all_have_by_pair, has_at, new_by_pair, gives_at, pairs, one_more_had, given_last, given_first, new_to_all, same_size, had, maps_match}
-use Rattle.cborn_model.specs.ItemView.{item_value}
 use Rattle.cborn_model.proofs.SameItems.Sameness.{same_itself}
 use Rattle.cborn_model.proofs.SameItems.Matching.{not_new, given_has, given_only}
 use Rattle.cborn_model.proofs.comparisons.+same_items.Goals as goal

@@ -1,8 +1,4 @@
-use Rattle.std.proofs.Common.{ℕ, ◌<◌, ◌+◌, ◌*◌, max, map, get_or}
-use Rattle.cborn_model.specs.declared.items.Item.{Item}
-use Rattle.cborn_model.specs.ItemView.{item_value, pair_value}
-use Rattle.cborn_model.specs.devices.Pairs.{HasPair}
-use Rattle.cborn_model.specs.Value.{Same, values_of, pairs_of, height, height_all, height_pairs}
+use Rattle.cborn_model.proofs.Common.{ℕ, ◌<◌, ◌+◌, ◌*◌, max, map, get_or, Item, item_value, pair_value, HasPair, Same, values_of, pairs_of, height, height_all, height_pairs}
 use Rattle.cborn_model.proofs.comparisons.+same_items.Given as goal
 
 abbrev pub invariant-same_arrays-loop-i : goal.invariant-same_arrays-loop-i

@@ -1,5 +1,4 @@
-use Rattle.std.proofs.Common.{◌≡◌, length}
-use Rattle.cborn_model.specs.Bytes.{big_endian}
+use Rattle.cborn_model.proofs.Common.{◌≡◌, length, big_endian}
 use Rattle.cborn_model.proofs.magnitudes.without_zeros.Given as goal
 
 abbrev pub invariant-loop-rest : goal.invariant-loop-rest

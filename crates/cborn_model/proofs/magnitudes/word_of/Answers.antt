@@ -1,4 +1,4 @@
-use Rattle.std.proofs.Common.{arith}
+use Rattle.cborn_model.proofs.Common.{arith}
 use Rattle.cborn_model.proofs.Numbers.OneMagnitude.{read_more}
 use Rattle.cborn_model.proofs.Numbers.SomeMagnitude.{number_above}
 use Rattle.cborn_model.proofs.magnitudes.word_of.Goals as goal

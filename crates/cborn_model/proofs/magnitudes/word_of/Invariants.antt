@@ -1,5 +1,4 @@
-use Rattle.std.proofs.Common.{◌≡◌, ◌+◌, ◌*◌, ◌^◌, drop, length}
-use Rattle.cborn_model.specs.Bytes.{big_endian}
+use Rattle.cborn_model.proofs.Common.{◌≡◌, ◌+◌, ◌*◌, ◌^◌, drop, length, big_endian}
 use Rattle.cborn_model.proofs.magnitudes.word_of.Given as goal
 
 abbrev pub invariant-loop-byte : goal.invariant-loop-byte

@@ -1,4 +1,4 @@
-use Rattle.std.proofs.Common.{arith}
+use Rattle.cborn_model.proofs.Common.{arith}
 use Rattle.cborn_model.proofs.Listed.Trees.{depth-take_more, pair_depth-take_more, depth_of_item, depth_of_pair}
 use Rattle.cborn_model.proofs.spellings.+depth.Goals as goal
 

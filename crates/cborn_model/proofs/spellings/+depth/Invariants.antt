@@ -1,5 +1,4 @@
-use Rattle.std.proofs.Common.{◌≡◌, ◌+◌, ◌-◌, ◌*◌, ◌^◌, min, take}
-use Rattle.cborn_model.specs.Tree.{trees, entries, depth, depth_all, depth_entries}
+use Rattle.cborn_model.proofs.Common.{◌≡◌, ◌+◌, ◌-◌, ◌*◌, ◌^◌, min, take, trees, entries, depth, depth_all, depth_entries}
 use Rattle.cborn_model.proofs.spellings.+depth.Given as goal
 
 abbrev pub invariant-items_depth-loop-item : goal.invariant-items_depth-loop-item

@@ -1,4 +1,4 @@
-use Rattle.std.proofs.Common.{rules, arith}
+use Rattle.cborn_model.proofs.Common.{rules, arith}
 use Rattle.cborn_model.proofs.Listed.Deciding.{granted, refuted, passed, failed}
 use Rattle.cborn_model.proofs.Listed.Fitting.{items_and_size, entries_and_size, items_without_size, entries_without_size, all_fit, fits_at, PairFits, pairs_fit, pair_fits_at}
 use Rattle.cborn_model.proofs.Listed.Trees.{depth_of_item, depth_of_pair}

@@ -1,6 +1,4 @@
-use Rattle.std.proofs.Common.{◌+◌, ◌*◌}
-use Rattle.cborn_model.specs.Tree.{trees, entries, depth, depth_all, depth_entries}
-use Rattle.cborn_model.specs.Spelled.{Fits}
+use Rattle.cborn_model.proofs.Common.{◌+◌, ◌*◌, trees, entries, depth, depth_all, depth_entries, Fits}
 use Rattle.cborn_model.proofs.Listed.Fitting.{Front, PairFits}
 use Rattle.cborn_model.proofs.spellings.+has_room.Given as goal
 

@@ -1,4 +1,4 @@
-use Rattle.std.proofs.Common.{arith}
+use Rattle.cborn_model.proofs.Common.{arith}
 use Rattle.cborn_model.proofs.Listed.Deciding.{granted, refuted, failed}
 use Rattle.cborn_model.proofs.Listed.Fitting.{chunks_fit, chunk_fits_at}
 use Rattle.cborn_model.proofs.spellings.chunks_fit.Goals as goal

@@ -1,6 +1,4 @@
-use Rattle.std.proofs.Common.{arith}
-use Rattle.cborn_model.specs.Valid.{IsProper}
-use Rattle.cborn_model.specs.ItemView.{item_value}
+use Rattle.cborn_model.proofs.Common.{arith, IsProper, item_value}
 use Rattle.cborn_model.proofs.Listed.Deciding.{granted, refuted, passed, failed}
 use Rattle.cborn_model.proofs.Listed.Values.{height_of_item, height_of_pair}
 use Rattle.cborn_model.proofs.SameItems.Comparing.{proper_item, proper_pair}

@@ -1,7 +1,4 @@
-use Rattle.std.proofs.Common.{ℕ, ◌<◌, ◌+◌, ◌*◌, map, get_or}
-use Rattle.cborn_model.specs.declared.items.Item.{Item}
-use Rattle.cborn_model.specs.ItemView.{item_value, pair_value}
-use Rattle.cborn_model.specs.Value.{values_of, pairs_of, height, height_all, height_pairs}
+use Rattle.cborn_model.proofs.Common.{ℕ, ◌<◌, ◌+◌, ◌*◌, map, get_or, Item, item_value, pair_value, values_of, pairs_of, height, height_all, height_pairs}
 use Rattle.cborn_model.proofs.SameItems.Comparing.{IsProperItem, IsProperPair}
 use Rattle.cborn_model.proofs.validity.+is_proper.Given as goal
 

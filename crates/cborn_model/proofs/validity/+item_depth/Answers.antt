@@ -1,4 +1,4 @@
-use Rattle.std.proofs.Common.{arith}
+use Rattle.cborn_model.proofs.Common.{arith}
 use Rattle.cborn_model.proofs.Listed.Values.{height_of_item, height_of_pair}
 use Rattle.cborn_model.proofs.Listed.Validating.{value_depth-take_more, pair_value_depth-take_more}
 use Rattle.cborn_model.proofs.validity.+item_depth.Goals as goal

@@ -1,7 +1,4 @@
-use Rattle.std.proofs.Common.{◌≡◌, ◌+◌, ◌-◌, ◌*◌, ◌^◌, min, map, take}
-use Rattle.cborn_model.specs.ItemView.{item_value, pair_value}
-use Rattle.cborn_model.specs.Value.{values_of, pairs_of, height, height_all, height_pairs}
-use Rattle.cborn_model.specs.Valid.{values_depth, pairs_depth}
+use Rattle.cborn_model.proofs.Common.{◌≡◌, ◌+◌, ◌-◌, ◌*◌, ◌^◌, min, map, take, item_value, pair_value, values_of, pairs_of, height, height_all, height_pairs, values_depth, pairs_depth}
 use Rattle.cborn_model.proofs.validity.+item_depth.Given as goal
 
 abbrev pub invariant-items_depth-loop-item : goal.invariant-items_depth-loop-item

@@ -1,6 +1,5 @@
-use Rattle.std.proofs.Common.{arith, sym, ◌∙◌}
+use Rattle.cborn_model.proofs.Common.{arith, sym, ◌∙◌, item_value}
 use Rattle.cborn_model.proofs.Listed.Deciding.{refuted, there}
-use Rattle.cborn_model.specs.ItemView.{item_value}
 use Rattle.cborn_model.proofs.Listed.Validating.{given_after_head}
 use Rattle.cborn_model.proofs.validity.has_new_keys.Goals as goal
 

@@ -1,7 +1,4 @@
-use Rattle.std.proofs.Common.{◌↔◌, map, length}
-use Rattle.cborn_model.specs.ItemView.{pair_value}
-use Rattle.cborn_model.specs.Value.{pairs_of}
-use Rattle.cborn_model.specs.Valid.{HasNewKeys, HasProperPairs}
+use Rattle.cborn_model.proofs.Common.{◌↔◌, map, length, pair_value, pairs_of, HasNewKeys, HasProperPairs}
 use Rattle.cborn_model.proofs.validity.has_new_keys.Given as goal
 
 abbrev pub invariant-loop-rest : goal.invariant-loop-rest

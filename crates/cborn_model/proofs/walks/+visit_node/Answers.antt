@@ -1,7 +1,4 @@
-use Rattle.std.proofs.Common.{arith, subst, length}
-use Rattle.std.proofs.lemmas.List.{take_all}
-use Rattle.cborn_model.specs.Partial.{inside, a_map, no_part}
-use Rattle.cborn_model.specs.shared.Walks.{flat, count_of}
+use Rattle.cborn_model.proofs.Common.{arith, subst, length, take_all, inside, a_map, no_part, flat, count_of}
 use Rattle.cborn_model.proofs.HandedOver.{pair_over, pairs_over, on_ok, array_fits, map_fits}
 use Rattle.cborn_model.proofs.Listed.Trees.{depth_of_item, depth_of_pair}
 use Rattle.cborn_model.proofs.Listed.Fitting.{fits_at, pair_fits_at}

@@ -1,7 +1,4 @@
-use Rattle.std.proofs.Common.{◌+◌, ◌*◌, length, take}
-use Rattle.cborn_model.specs.Tree.{trees, entries, depth, depth_all, depth_entries}
-use Rattle.cborn_model.specs.Partial.{Partial, inside, an_array, a_map, no_part, IsFree}
-use Rattle.cborn_model.specs.shared.Walks.{flat, count_of}
+use Rattle.cborn_model.proofs.Common.{◌+◌, ◌*◌, length, take, trees, entries, depth, depth_all, depth_entries, Partial, inside, an_array, a_map, no_part, IsFree, flat, count_of}
 use Rattle.cborn_model.proofs.walks.+visit_node.Given as goal
 
 abbrev pub invariant-visit_array-loop-item : goal.invariant-visit_array-loop-item

@@ -1,7 +1,4 @@
-use Rattle.std.proofs.Common.{arith, subst, map}
-use Rattle.std.proofs.lemmas.List.{take_all}
-use Rattle.cborn_model.specs.Partial.{inside, in_chunks, no_part}
-use Rattle.cborn_model.specs.shared.Walks.{string_of}
+use Rattle.cborn_model.proofs.Common.{arith, subst, map, take_all, inside, in_chunks, no_part, string_of}
 use Rattle.cborn_model.proofs.Listed.Fitting.{chunk_fits_at}
 use Rattle.cborn_model.proofs.HandedOver.{chunk_over, chunks_over, on_ok}
 use Rattle.cborn_model.proofs.walks.visit_chunks.Goals as goal

@@ -1,6 +1,4 @@
-use Rattle.std.proofs.Common.{map, take}
-use Rattle.cborn_model.specs.Partial.{Partial, inside, in_chunks, no_part, IsFree}
-use Rattle.cborn_model.specs.shared.Walks.{string_of}
+use Rattle.cborn_model.proofs.Common.{map, take, Partial, inside, in_chunks, no_part, IsFree, string_of}
 use Rattle.cborn_model.proofs.walks.visit_chunks.Given as goal
 
 abbrev pub invariant-loop-chunk : goal.invariant-loop-chunk

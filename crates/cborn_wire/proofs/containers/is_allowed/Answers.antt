@@ -1,9 +1,4 @@
-use Rattle.std.proofs.Common.{◌≡◌, ◌/◌, ◌%◌, refl, sym, ap, ◌∙◌, leb, length, false, [], arith}
-use Rattle.std.proofs.lemmas.Bool.{lt-leb, not-true}
-use Rattle.cborn_wire.specs.declared.levels.Level.{Level}
-use Rattle.cborn_wire.specs.HeadReading.{major_at}
-use Rattle.cborn_wire.specs.shared.InitialBytes.{info_at, head_reason}
-use Rattle.cborn_wire.specs.shared.Visiting.{slot_of, is_chunks}
+use Rattle.cborn_wire.proofs.Common.{◌≡◌, ◌/◌, ◌%◌, refl, sym, ap, ◌∙◌, leb, length, false, [], arith, lt-leb, not-true, Level, major_at, info_at, head_reason, slot_of, is_chunks}
 use Rattle.cborn_wire.proofs.Visiting.Leaves.{plain_kind}
 use Rattle.cborn_wire.proofs.Visiting.Taking.{reason_same}
 use Rattle.cborn_wire.proofs.containers.is_allowed.Goals as goal

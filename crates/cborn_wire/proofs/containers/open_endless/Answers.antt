@@ -1,5 +1,4 @@
-use Rattle.std.proofs.Common.{◌+◌, subst, arith}
-use Rattle.cborn_model.specs.Heads.{EndlessArgument}
+use Rattle.cborn_wire.proofs.Common.{◌+◌, subst, arith, EndlessArgument}
 use Rattle.cborn_wire.proofs.Visiting.Containers.{Opens, array_major, map_major}
 use Rattle.cborn_wire.proofs.containers.open_endless.Goals as goal
 

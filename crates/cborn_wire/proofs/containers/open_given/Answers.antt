@@ -1,5 +1,4 @@
-use Rattle.std.proofs.Common.{◌+◌, subst, arith}
-use Rattle.cborn_model.specs.Heads.{Given}
+use Rattle.cborn_wire.proofs.Common.{◌+◌, subst, arith, Given}
 use Rattle.cborn_wire.proofs.Visiting.Containers.{Opens, array_major, map_major, tag_major}
 use Rattle.cborn_wire.proofs.containers.open_given.Goals as goal
 

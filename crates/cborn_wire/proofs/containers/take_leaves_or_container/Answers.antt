@@ -1,6 +1,4 @@
-use Rattle.std.proofs.Common.{sym, subst, arith}
-use Rattle.cborn_model.specs.Partial.{no_part}
-use Rattle.cborn_wire.specs.shared.Visiting.{Keeps}
+use Rattle.cborn_wire.proofs.Common.{sym, subst, arith, no_part, Keeps}
 use Rattle.cborn_wire.proofs.containers.take_leaves_or_container.Goals as goal
 
 pub take_container-requires-clause-room : goal.take_container-requires-clause-room

@@ -1,9 +1,5 @@
-use Rattle.std.proofs.Common.{refl, sym, ap, ◌∙◌, ◌≡◌, ℕ}
+use Rattle.cborn_wire.proofs.Common.{refl, sym, ap, ◌∙◌, ◌≡◌, ℕ, no_part, put, string_tree, Level, Chunks, next_number, with_part}
 use Rattle.cborn_model.specs.declared.visitors.StringKind.{StringKind}
-use Rattle.cborn_model.specs.Partial.{no_part, put, string_tree}
-use Rattle.cborn_wire.specs.declared.levels.Level.{Level}
-use Rattle.cborn_wire.specs.declared.levels.LevelKind.TheVariants.{Chunks}
-use Rattle.cborn_wire.specs.shared.Visiting.{next_number, with_part}
 use Rattle.cborn_wire.proofs.Visiting.Counting.{stays, string_accepted, item_free, keeps_set}
 use Rattle.cborn_wire.proofs.counting.close_string.Goals as goal
 

@@ -1,6 +1,4 @@
-use Rattle.std.proofs.Common.{sym, ap, ◌∙◌}
-use Rattle.cborn_wire.specs.declared.levels.Level.{Level}
-use Rattle.cborn_wire.specs.shared.Visiting.{may_end}
+use Rattle.cborn_wire.proofs.Common.{sym, ap, ◌∙◌, Level, may_end}
 use Rattle.cborn_wire.proofs.Visiting.Counting.{breaks_not}
 use Rattle.cborn_wire.proofs.counting.end.Goals as goal
 

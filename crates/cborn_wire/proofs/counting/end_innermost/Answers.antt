@@ -1,6 +1,4 @@
-use Rattle.std.proofs.Common.{refl, sym, ◌∙◌, subst, IfOk}
-use Rattle.cborn_model.specs.Partial.{no_part, built}
-use Rattle.cborn_wire.specs.shared.Visiting.{Stands}
+use Rattle.cborn_wire.proofs.Common.{refl, sym, ◌∙◌, subst, IfOk, no_part, built, Stands}
 use Rattle.cborn_wire.proofs.Visiting.Counting.{breaks, some_level}
 use Rattle.cborn_wire.proofs.counting.end_innermost.Goals as goal
 

@@ -1,7 +1,4 @@
-use Rattle.std.proofs.Common.{refl, sym, ap, ◌∙◌, subst}
-use Rattle.cborn_model.specs.Partial.{put, no_part}
-use Rattle.cborn_wire.specs.declared.levels.Level.{Level}
-use Rattle.cborn_wire.specs.shared.Visiting.{with_part}
+use Rattle.cborn_wire.proofs.Common.{refl, sym, ap, ◌∙◌, subst, put, no_part, Level, with_part}
 use Rattle.cborn_wire.proofs.Visiting.Counting.{stays, closes, keeps_set, item_accepted}
 use Rattle.cborn_wire.proofs.counting.finish.Goals as goal
 

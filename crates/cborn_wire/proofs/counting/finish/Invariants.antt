@@ -1,8 +1,4 @@
-use Rattle.std.proofs.Common.{◌≡◌, length}
-use Rattle.cborn_model.specs.Tree.{Tree}
-use Rattle.cborn_model.specs.Partial.{Partial, no_part, put, TakesItem}
-use Rattle.cborn_wire.specs.shared.Machine.{finished}
-use Rattle.cborn_wire.specs.shared.Visiting.{ready, open_in, Keeps}
+use Rattle.cborn_wire.proofs.Common.{◌≡◌, length, Tree, Partial, no_part, put, TakesItem, finished, ready, open_in, Keeps}
 use Rattle.cborn_wire.proofs.counting.finish.Given as goal
 
 -- the item that is to be counted now makes the state that the first one makes

@@ -1,6 +1,4 @@
-use Rattle.std.proofs.Common.{rules, ◌≡◌, ◌++◌, take, append-nil}
-use Rattle.std.specs.Option.{option_to_list}
-use Rattle.std.proofs.lemmas.Result.{err_from_is_err_and}
+use Rattle.cborn_wire.proofs.Common.{rules, ◌≡◌, ◌++◌, take, append-nil, option_to_list, err_from_is_err_and}
 use Rattle.cborn_wire.proofs.Feeding.PieceSteps.{then_stops, then_moved}
 use Rattle.cborn_wire.proofs.Visiting.Pieces.{next_cut}
 use Rattle.cborn_wire.proofs.feeders.read_piece.Goals as goal

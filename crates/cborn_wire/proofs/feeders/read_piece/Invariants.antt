@@ -1,5 +1,4 @@
-use Rattle.std.proofs.Common.{◌≡◌, ℕ, List, ◌++◌, length}
-use Rattle.cborn_wire.specs.devices.ItemReading.{IsMoved}
+use Rattle.cborn_wire.proofs.Common.{◌≡◌, ℕ, List, ◌++◌, length, IsMoved}
 use Rattle.cborn_wire.proofs.feeders.read_piece.Given as goal
 
 abbrev pub invariant-loop-rest : goal.invariant-loop-rest

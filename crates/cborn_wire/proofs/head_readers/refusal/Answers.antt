@@ -1,8 +1,4 @@
-use Rattle.std.proofs.Common.{◌/◌, ◌%◌, ap, ◌∙◌, leb, []}
-use Rattle.cborn_wire.specs.declared.levels.Level.{Level}
-use Rattle.cborn_wire.specs.HeadReading.{major_at}
-use Rattle.cborn_wire.specs.shared.InitialBytes.{info_at, head_reason}
-use Rattle.cborn_wire.specs.shared.Visiting.{slot_of}
+use Rattle.cborn_wire.proofs.Common.{◌/◌, ◌%◌, ap, ◌∙◌, leb, [], Level, major_at, info_at, head_reason, slot_of}
 use Rattle.cborn_wire.proofs.Visiting.Taking.{reason_same}
 use Rattle.cborn_wire.proofs.head_readers.refusal.Goals as goal
 

@@ -1,7 +1,5 @@
-use Rattle.std.proofs.Common.{sym, ap, ◌∙◌}
-use Rattle.cborn_model.specs.Heads.{code}
+use Rattle.cborn_wire.proofs.Common.{sym, ap, ◌∙◌, code, is_always_bounded}
 use Rattle.cborn_model.proofs.Numbers.Majors.{major_at-code}
-use Rattle.cborn_wire.specs.shared.InitialBytes.{is_always_bounded}
 use Rattle.cborn_wire.proofs.HeadReading.HeadFronts.{code_small, endless_head}
 use Rattle.cborn_wire.proofs.heads.read_endless.Goals as goal
 

@@ -1,5 +1,4 @@
-use Rattle.std.proofs.Common.{sym, ◌∙◌}
-use Rattle.std.proofs.lemmas.List.{take_rest}
+use Rattle.cborn_wire.proofs.Common.{sym, ◌∙◌, take_rest}
 use Rattle.cborn_model.proofs.Bytes.{are_bytes}
 use Rattle.cborn_wire.proofs.HeadReading.HeadFronts.{no_head, direct_front, endless_front, wide_fronts}
 use Rattle.cborn_wire.proofs.heads.read_head.Goals as goal

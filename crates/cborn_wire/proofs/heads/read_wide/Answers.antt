@@ -1,4 +1,4 @@
-use Rattle.cborn_model.specs.Heads.{code}
+use Rattle.cborn_wire.proofs.Common.{code}
 use Rattle.cborn_model.proofs.Bytes.{are_bytes}
 use Rattle.cborn_wire.proofs.HeadReading.HeadFronts.{code_small, wide_head, wide_front}
 use Rattle.cborn_wire.proofs.heads.read_wide.Goals as goal

@@ -1,8 +1,4 @@
-use Rattle.std.proofs.Common.{◌++◌, ◌+◌, ◌∙◌, refl, sym, subst, arith, take, length-append}
-use Rattle.std.proofs.lemmas.List.{length-take-le}
-use Rattle.cborn_model.specs.Partial.{put, no_part}
-use Rattle.cborn_wire.specs.shared.Visiting.{ready, open_in, Stands}
-use Rattle.cborn_wire.specs.shared.Machine.{finished}
+use Rattle.cborn_wire.proofs.Common.{◌++◌, ◌+◌, ◌∙◌, refl, sym, subst, arith, take, length-append, length-take-le, put, no_part, ready, open_in, Stands, finished}
 use Rattle.cborn_wire.proofs.Visiting.Counting.{stays, keeps_set, with_kind, item_accepted}
 use Rattle.cborn_wire.proofs.Visiting.Leaves.{item_after, ready_same, next_leaves, last_taken, some_taken}
 use Rattle.cborn_wire.proofs.Visiting.Pieces.{next_cut}

@@ -1,7 +1,4 @@
-use Rattle.std.proofs.Common.{◌≡◌, ◌+◌, ◌++◌, ◌<◌, ℕ, List, length}
-use Rattle.cborn_model.specs.Partial.{Partial, no_part, TakesItem}
-use Rattle.cborn_wire.specs.shared.Machine.{run}
-use Rattle.cborn_wire.specs.shared.Visiting.{ready, state, Keeps}
+use Rattle.cborn_wire.proofs.Common.{◌≡◌, ◌+◌, ◌++◌, ◌<◌, ℕ, List, length, Partial, no_part, TakesItem, run, ready, state, Keeps}
 use Rattle.cborn_wire.proofs.Visiting.Counting.{with_kind}
 use Rattle.cborn_wire.proofs.leaves.take_leaves.Given as goal
 

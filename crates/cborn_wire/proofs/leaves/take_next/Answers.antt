@@ -1,7 +1,4 @@
-use Rattle.std.proofs.Common.{◌≡◌, sym, subst}
-use Rattle.cborn_model.specs.Partial.{no_part}
-use Rattle.cborn_wire.specs.declared.levels.LevelKind.{LevelKind}
-use Rattle.cborn_wire.specs.shared.Visiting.{Keeps}
+use Rattle.cborn_wire.proofs.Common.{◌≡◌, sym, subst, no_part, LevelKind, Keeps}
 use Rattle.cborn_wire.proofs.Visiting.Leaves.{leaf_some}
 use Rattle.cborn_wire.proofs.Visiting.Runs.{one_taken}
 use Rattle.cborn_wire.proofs.leaves.take_next.Goals as goal

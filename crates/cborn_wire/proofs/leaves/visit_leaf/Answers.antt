@@ -1,6 +1,4 @@
-use Rattle.std.proofs.Common.{subst, ap, ◌∙◌, ◌/◌, arith}
-use Rattle.std.proofs.lemmas.Result.{on_ok_weaker}
-use Rattle.cborn_model.specs.Partial.{no_part, put, string_tree}
+use Rattle.cborn_wire.proofs.Common.{subst, ap, ◌∙◌, ◌/◌, arith, on_ok_weaker, no_part, put, string_tree}
 use Rattle.cborn_wire.proofs.Visiting.Leaves.{bytes_are, text_is, string_free}
 use Rattle.cborn_wire.proofs.leaves.visit_leaf.Goals as goal
 use Rattle.cborn_wire.proofs.leaves.visit_leaf.Goals.{then-head-lt96, else-head-lt96}

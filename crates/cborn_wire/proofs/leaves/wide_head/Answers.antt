@@ -1,6 +1,4 @@
-use Rattle.std.proofs.Common.{◌≡◌, ◌+◌, ◌%◌, ◌<◌, sym, subst}
-use Rattle.cborn_wire.specs.shared.InitialBytes.{Next, info_at}
-use Rattle.cborn_wire.specs.devices.Leaves.{IsGiven}
+use Rattle.cborn_wire.proofs.Common.{◌≡◌, ◌+◌, ◌%◌, ◌<◌, sym, subst, Next, info_at, IsGiven}
 use Rattle.cborn_wire.proofs.Visiting.Leaves.{given_wide}
 use Rattle.cborn_wire.proofs.leaves.wide_head.Goals as goal
 

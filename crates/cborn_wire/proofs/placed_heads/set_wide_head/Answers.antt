@@ -1,9 +1,5 @@
-use Rattle.std.proofs.Common.{rules, ◌≡◌, ◌+◌, ◌++◌, ◌≤◌, subst, List, ℕ, take, drop, length, arith}
-use Rattle.std.proofs.lemmas.List.{length-take-le}
+use Rattle.cborn_wire.proofs.Common.{rules, ◌≡◌, ◌+◌, ◌++◌, ◌≤◌, subst, List, ℕ, take, drop, length, arith, length-take-le, Fixed, head, argument, ended_size}
 use Rattle.std.proofs.lemmas.Grind.{common_steps}
-use Rattle.cborn_model.specs.declared.heads.Size.TheVariants.{Fixed}
-use Rattle.cborn_model.specs.Heads.{head, argument}
-use Rattle.cborn_model.specs.Partial.{ended_size}
 use Rattle.std.specs.Prelude.{None}
 use Rattle.cborn_wire.proofs.Shifting.{placed}
 use Rattle.cborn_wire.proofs.placed_heads.set_wide_head.Goals as goal

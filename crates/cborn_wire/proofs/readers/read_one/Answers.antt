@@ -1,5 +1,5 @@
 use Rattle.cborn_wire.specs.declared.faults.WireFault.TheVariants.{Refused}
-use Rattle.cborn_wire.specs.declared.faults.WireReason.TheVariants.{Truncated}
+use Rattle.cborn_wire.proofs.Common.{Truncated}
 use Rattle.cborn_wire.proofs.Feeding.Outcomes.{refused_is, err_is}
 use Rattle.cborn_wire.proofs.FirstItem.{none_there}
 use Rattle.cborn_wire.proofs.readers.read_one.Goals as goal

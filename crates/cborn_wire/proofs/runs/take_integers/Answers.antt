@@ -1,5 +1,4 @@
-use Rattle.std.proofs.Common.{◌+◌, ◌<◌, ◌≤◌, length, subst, arith}
-use Rattle.cborn_model.specs.Partial.{no_part}
+use Rattle.cborn_wire.proofs.Common.{◌+◌, ◌<◌, ◌≤◌, length, subst, arith, no_part}
 use Rattle.cborn_wire.proofs.Visiting.Runs.{HasRoom, has_room, in_array, integers_taken, integers_some}
 use Rattle.cborn_wire.proofs.runs.take_integers.Goals as goal
 

@@ -1,10 +1,5 @@
-use Rattle.std.proofs.Common.{◌≡◌, ◌+◌, ◌/◌, take, drop, refl, subst, arith}
-use Rattle.std.proofs.lemmas.List.{length-drop, take_rest}
-use Rattle.cborn_model.specs.Partial.{no_part}
-use Rattle.cborn_model.specs.shared.Runs.{text_in}
+use Rattle.cborn_wire.proofs.Common.{◌≡◌, ◌+◌, ◌/◌, take, drop, refl, subst, arith, length-drop, take_rest, no_part, text_in, major_at, IsLeafOf, leaf_tree}
 use Rattle.cborn_model.proofs.Bytes.{are_bytes}
-use Rattle.cborn_wire.specs.HeadReading.{major_at}
-use Rattle.cborn_wire.specs.devices.Leaves.{IsLeafOf, leaf_tree}
 use Rattle.cborn_wire.proofs.Visiting.Leaves.{leaf_some}
 use Rattle.cborn_wire.proofs.Visiting.Runs.{leaf_in, text_is, at_key, short_pair, pair_taken}
 use Rattle.cborn_wire.proofs.runs.take_pair.Goals as goal

@@ -1,7 +1,4 @@
-use Rattle.std.proofs.Common.{sym, subst}
-use Rattle.cborn_wire.specs.declared.levels.LevelKind.{LevelKind}
-use Rattle.cborn_wire.specs.declared.levels.LevelKind.TheVariants.{MapValue}
-use Rattle.cborn_wire.specs.devices.Leaves.{TakesRun}
+use Rattle.cborn_wire.proofs.Common.{sym, subst, LevelKind, MapValue, TakesRun}
 use Rattle.cborn_wire.proofs.runs.take_run.Goals as goal
 
 pub returns-in-Some-clause-taken : goal.returns-in-Some-clause-taken

@@ -1,5 +1,4 @@
-use Rattle.std.proofs.Common.{◌+◌, ◌++◌, ◌<◌, [], ◌∷◌, length, take, ap, subst, sym, ◌∙◌, arith, length-append}
-use Rattle.cborn_model.specs.shared.Runs.{AreShortIntegers}
+use Rattle.cborn_wire.proofs.Common.{◌+◌, ◌++◌, ◌<◌, [], ◌∷◌, length, take, ap, subst, sym, ◌∙◌, arith, length-append, AreShortIntegers}
 use Rattle.cborn_wire.proofs.ShortIntegers.{integers_more}
 use Rattle.cborn_wire.proofs.Visiting.Pieces.{next_cut, all_taken}
 use Rattle.cborn_wire.proofs.short_integers.integers_at.Goals as goal

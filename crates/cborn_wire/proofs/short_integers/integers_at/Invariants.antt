@@ -1,6 +1,4 @@
-use Rattle.std.proofs.Common.{◌≡◌, ◌-◌, ◌≤◌, ◌++◌, ℕ, List, length}
-use Rattle.cborn_model.specs.Tree.{Tree}
-use Rattle.cborn_model.specs.shared.Runs.{AreShortIntegers}
+use Rattle.cborn_wire.proofs.Common.{◌≡◌, ◌-◌, ◌≤◌, ◌++◌, ℕ, List, length, Tree, AreShortIntegers}
 use Rattle.cborn_wire.proofs.short_integers.integers_at.Given as goal
 
 -- as many integers as were counted are at the front

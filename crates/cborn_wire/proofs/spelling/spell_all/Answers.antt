@@ -1,7 +1,4 @@
-use Rattle.std.proofs.Common.{[], ◌∷◌, ◌++◌, sym, ap, ◌∙◌, subst, take}
-use Rattle.std.proofs.lemmas.List.{take_more}
-use Rattle.cborn_model.specs.Partial.{top, no_part}
-use Rattle.cborn_wire.specs.shared.Spelling.{IsWritten}
+use Rattle.cborn_wire.proofs.Common.{[], ◌∷◌, ◌++◌, sym, ap, ◌∙◌, subst, take, take_more, top, no_part, IsWritten}
 use Rattle.cborn_wire.proofs.spelling.spell_all.Goals as goal
 
 pub loop-item-preserved : goal.loop-item-preserved

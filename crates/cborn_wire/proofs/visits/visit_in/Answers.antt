@@ -1,5 +1,4 @@
-use Rattle.std.proofs.Common.{◌≡◌, refl, ◌∙◌, [], length}
-use Rattle.cborn_wire.specs.declared.faults.WireReason.TheVariants.{Truncated}
+use Rattle.cborn_wire.proofs.Common.{◌≡◌, refl, ◌∙◌, [], length, Truncated}
 use Rattle.cborn_model.proofs.Bytes.{are_bytes}
 use Rattle.cborn_wire.proofs.Visiting.Ending.{fresh_fed, whole_piece, cut_piece, refused_piece}
 use Rattle.cborn_wire.proofs.visits.visit_in.Goals as goal

@@ -1,5 +1,4 @@
-use Rattle.std.proofs.Common.{◌≡◌, take}
-use Rattle.cborn_explain.specs.devices.Walks.{path_of}
+use Rattle.cborn_explain.proofs.Common.{◌≡◌, take, path_of}
 use Rattle.cborn_explain.proofs.byte_walks.Walk.path.Given as goal
 
 abbrev pub invariant-loop-level : goal.invariant-loop-level

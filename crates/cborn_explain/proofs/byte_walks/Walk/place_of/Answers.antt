@@ -1,7 +1,4 @@
-use Rattle.std.proofs.Common.{◌<◌, length, sym, ap, ◌∙◌}
-use Rattle.std.proofs.lemmas.Bool.{ltb-true}
-use Rattle.cborn_wire.specs.declared.levels.Level.{Level}
-use Rattle.cborn_explain.specs.devices.Walks.{place_at}
+use Rattle.cborn_explain.proofs.Common.{◌<◌, length, sym, ap, ◌∙◌, ltb-true, Level, place_at}
 use Rattle.cborn_explain.proofs.Walking.Levels.{place_there, place_beyond}
 use Rattle.cborn_explain.proofs.byte_walks.Walk.place_of.Goals as goal
 

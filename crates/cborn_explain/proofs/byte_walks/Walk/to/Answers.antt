@@ -1,7 +1,6 @@
-use Rattle.std.proofs.Common.{refl, sym, ◌∙◌, subst, []}
+use Rattle.cborn_explain.proofs.Common.{refl, sym, ◌∙◌, subst, [], IsAmid, IsWalked}
 use Rattle.cborn_model.proofs.Bytes.{are_bytes}
 use Rattle.cborn_wire.proofs.Visiting.Ending.{fresh_fed}
-use Rattle.cborn_explain.specs.devices.Walks.{IsAmid, IsWalked}
 use Rattle.cborn_explain.proofs.Walking.Whole.{read_to}
 use Rattle.cborn_explain.proofs.byte_walks.Walk.to.Goals as goal
 

@@ -1,9 +1,4 @@
-use Rattle.std.proofs.Common.{sym, subst, Some, Err, arith}
-use Rattle.cborn_wire.specs.Feeding.{Feeding, Feeds}
-use Rattle.cborn_wire.specs.shared.Machine.{held, IsReached}
-use Rattle.cborn_wire.specs.shared.Visiting.{open_in}
-use Rattle.cborn_wire.specs.devices.OpenNodes.{seen_nodes}
-use Rattle.cborn_wire.specs.devices.ItemReading.{pending, seen}
+use Rattle.cborn_wire.proofs.Common.{sym, subst, Some, Err, arith, Feeding, Feeds, held, IsReached, open_in, seen_nodes, pending, seen}
 use Rattle.cborn_wire.proofs.Machine.Reached.{reached_more}
 use Rattle.cborn_model.proofs.Bytes.{are_bytes}
 use Rattle.cborn_wire.proofs.Feeding.FeederLaws.{accepts, fails}

@@ -1,13 +1,5 @@
-use Rattle.std.proofs.Common.{sym, ap, ◌∙◌, subst, length, Err}
-use Rattle.cborn_model.specs.Tree.{trees}
-use Rattle.cborn_model.specs.Spelled.{Wellformed}
+use Rattle.cborn_wire.proofs.Common.{sym, ap, ◌∙◌, subst, length, Err, trees, Wellformed, Truncated, Fault, Feeding, open_in, seen_nodes, pending}
 use Rattle.cborn_wire.specs.declared.faults.WireFault.TheVariants.{Refused}
-use Rattle.cborn_wire.specs.declared.faults.WireReason.TheVariants.{Truncated}
-use Rattle.cborn_wire.specs.Faults.{Fault}
-use Rattle.cborn_wire.specs.Feeding.{Feeding}
-use Rattle.cborn_wire.specs.shared.Visiting.{open_in}
-use Rattle.cborn_wire.specs.devices.OpenNodes.{seen_nodes}
-use Rattle.cborn_wire.specs.devices.ItemReading.{pending}
 use Rattle.cborn_wire.proofs.Feeding.FeederLaws.{feeds_cut, whole}
 use Rattle.cborn_wire.proofs.feeders.Feeder.finish.Goals as goal
 

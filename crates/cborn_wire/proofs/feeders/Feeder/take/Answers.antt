@@ -1,8 +1,4 @@
-use Rattle.std.proofs.Common.{sym, ap, ◌∙◌}
-use Rattle.cborn_wire.specs.Feeding.{Feeding}
-use Rattle.cborn_wire.specs.shared.Visiting.{open_in}
-use Rattle.cborn_wire.specs.devices.OpenNodes.{seen_nodes}
-use Rattle.cborn_wire.specs.devices.ItemReading.{pending}
+use Rattle.cborn_wire.proofs.Common.{sym, ap, ◌∙◌, Feeding, open_in, seen_nodes, pending}
 use Rattle.cborn_wire.proofs.Feeding.FeederLaws.{taken, is_fed}
 use Rattle.cborn_wire.proofs.feeders.Feeder.take.Goals as goal
 

@@ -1,10 +1,5 @@
-use Rattle.std.proofs.Common.{Err, ◌++◌, ◌∙◌, refl, subst, take, arith, length-append}
-use Rattle.std.proofs.lemmas.List.{length-take-le}
-use Rattle.std.proofs.lemmas.Result.{err_from_is_err_and}
-use Rattle.cborn_model.specs.Bytes.{AreBytes}
+use Rattle.cborn_wire.proofs.Common.{Err, ◌++◌, ◌∙◌, refl, subst, take, arith, length-append, length-take-le, err_from_is_err_and, AreBytes, run, start, ReadsItem}
 use Rattle.cborn_model.proofs.Bytes.{bytes-right, are_bytes}
-use Rattle.cborn_wire.specs.shared.Machine.{run, start}
-use Rattle.cborn_wire.specs.shared.Visiting.{ReadsItem}
 use Rattle.cborn_wire.proofs.Visiting.Pieces.{next_cut, next_taken, open_now, next_fed, next_item, next_refused, next_item_refused, none_more}
 use Rattle.cborn_wire.proofs.head_readers.HeadReader.read.Goals as goal
 use Rattle.cborn_wire.proofs.head_readers.HeadReader.read.Goals.{else-is_item-via-then-is_item+else-is_whole, else-is_item-via-else-is_item}

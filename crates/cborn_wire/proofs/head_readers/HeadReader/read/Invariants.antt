@@ -1,7 +1,5 @@
-use Rattle.std.proofs.Common.{◌≡◌, ◌+◌, ◌++◌, ℕ, List, length}
+use Rattle.cborn_wire.proofs.Common.{◌≡◌, ◌+◌, ◌++◌, ℕ, List, length, ready_in, start, run, IsFed}
 use Rattle.cborn_wire.specs.declared.head_readers.Until.TheVariants.{Item}
-use Rattle.cborn_wire.specs.shared.Machine.{ready_in, start, run}
-use Rattle.cborn_wire.specs.shared.Visiting.{IsFed}
 use Rattle.cborn_wire.proofs.head_readers.HeadReader.read.Given as goal
 
 -- A front of the piece was read. Up to an item, no item is whole in it.

@@ -1,7 +1,4 @@
-use Rattle.std.proofs.Common.{◌≡◌, ◌+◌, ◌∙◌, refl, sym, ap, subst, take, arith}
-use Rattle.cborn_model.specs.Partial.{no_part}
-use Rattle.cborn_wire.specs.shared.Machine.{ready_in, run, AtMostOneMore}
-use Rattle.cborn_wire.specs.shared.Visiting.{state, head_at, Keeps, HereAt, OpenIn, TakesPiece}
+use Rattle.cborn_wire.proofs.Common.{◌≡◌, ◌+◌, ◌∙◌, refl, sym, ap, subst, take, arith, no_part, ready_in, run, AtMostOneMore, state, head_at, Keeps, HereAt, OpenIn, TakesPiece}
 use Rattle.cborn_wire.proofs.Visiting.Taking.{between_here, here_room, stands_here}
 use Rattle.cborn_wire.proofs.head_readers.HeadReader.take.Goals as goal
 

@@ -1,11 +1,4 @@
-use Rattle.std.proofs.Common.{rules, sym, subst, ◌≡◌, ◌+◌, ◌++◌, ◌∷◌, [], length, take, get_or, arith}
-use Rattle.std.proofs.lemmas.List.{take_more_set}
-use Rattle.std.proofs.lemmas.Result.{err_from_is_err_and}
-use Rattle.std.specs.Prelude.{slice_set}
-use Rattle.cborn_model.specs.Heads.{Given}
-use Rattle.cborn_wire.specs.HeadReading.{major_at}
-use Rattle.cborn_wire.specs.shared.Machine.{Live, AtMostOneMore}
-use Rattle.cborn_wire.specs.shared.Visiting.{ready, open_in, seen_head, Stands}
+use Rattle.cborn_wire.proofs.Common.{rules, sym, subst, ◌≡◌, ◌+◌, ◌++◌, ◌∷◌, [], length, take, get_or, arith, take_more_set, err_from_is_err_and, slice_set, Given, major_at, Live, AtMostOneMore, ready, open_in, seen_head, Stands}
 use Rattle.cborn_wire.proofs.HeadReading.HeadSteps.{argument_room, argument_ends}
 use Rattle.cborn_wire.proofs.Machine.OneMore.{one_more_head}
 use Rattle.cborn_wire.proofs.Visiting.Taking.{fails_on, any_argument}

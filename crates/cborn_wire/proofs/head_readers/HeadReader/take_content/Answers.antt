@@ -1,8 +1,4 @@
-use Rattle.std.proofs.Common.{◌≡◌, ◌+◌, ◌++◌, ◌≤◌, refl, sym, ap, subst, inl, length, take, arith, length-append}
-use Rattle.std.proofs.lemmas.List.{length-take-le}
-use Rattle.cborn_model.specs.Partial.{part}
-use Rattle.cborn_wire.specs.shared.Machine.{ready_in, AtMostOneMore}
-use Rattle.cborn_wire.specs.shared.Visiting.{ready, open_in}
+use Rattle.cborn_wire.proofs.Common.{◌≡◌, ◌+◌, ◌++◌, ◌≤◌, refl, sym, ap, subst, inl, length, take, arith, length-append, length-take-le, part, ready_in, AtMostOneMore, ready, open_in}
 use Rattle.cborn_wire.proofs.Machine.OneMore.{one_more_finished}
 use Rattle.cborn_wire.proofs.Visiting.Taking.{stands_here, content_ends, content_stays}
 use Rattle.cborn_wire.proofs.head_readers.HeadReader.take_content.Goals as goal

@@ -1,9 +1,4 @@
-use Rattle.std.proofs.Common.{refl, sym, ◌∙◌, subst, inl, ap}
-use Rattle.std.proofs.lemmas.Result.{err_from_is_err_and}
-use Rattle.cborn_model.specs.Partial.{no_part}
-use Rattle.cborn_wire.specs.HeadReading.{major_at, seen_argument}
-use Rattle.cborn_wire.specs.shared.Machine.{ready_in, AtMostOneMore}
-use Rattle.cborn_wire.specs.shared.Visiting.{ready, open_in, state}
+use Rattle.cborn_wire.proofs.Common.{refl, sym, ◌∙◌, subst, inl, ap, err_from_is_err_and, no_part, major_at, seen_argument, ready_in, AtMostOneMore, ready, open_in, state}
 use Rattle.cborn_wire.proofs.HeadReading.HeadFronts.{short_front}
 use Rattle.cborn_wire.proofs.HeadReading.HeadSteps.{first_refused, second_refused, head_fits, head_taken}
 use Rattle.cborn_wire.proofs.Machine.OneMore.{one_more_head}

@@ -1,5 +1,4 @@
-use Rattle.std.proofs.Common.{refl, take}
-use Rattle.std.proofs.lemmas.Result.{err_from_is_err_and}
+use Rattle.cborn_wire.proofs.Common.{refl, take, err_from_is_err_and}
 use Rattle.cborn_wire.proofs.Feeding.ItemSteps.{fails_item, no_item_whole, item_whole}
 use Rattle.cborn_wire.proofs.item_readers.ItemReader.read_item.Goals as goal
 

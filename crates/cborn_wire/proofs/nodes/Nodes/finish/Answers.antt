@@ -1,9 +1,4 @@
-use Rattle.std.proofs.Common.{◌≤◌, ◌++◌, ◌∷◌, [], sym, ap, ◌∙◌, subst, append_assoc, append-nil, arith}
-use Rattle.std.proofs.lemmas.List.{nil_from_length}
-use Rattle.cborn_model.specs.Tree.{trees, depth_all}
-use Rattle.cborn_model.specs.Partial.{top}
-use Rattle.cborn_model.specs.Spelled.{FitsAll}
-use Rattle.cborn_wire.specs.devices.OpenNodes.{around}
+use Rattle.cborn_wire.proofs.Common.{◌≤◌, ◌++◌, ◌∷◌, [], sym, ap, ◌∙◌, subst, append_assoc, append-nil, arith, nil_from_length, trees, depth_all, top, FitsAll, around}
 use Rattle.cborn_wire.proofs.Building.{part_spelled}
 use Rattle.cborn_wire.proofs.nodes.Nodes.finish.Goals as goal
 

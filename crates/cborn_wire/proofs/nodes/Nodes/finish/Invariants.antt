@@ -1,7 +1,4 @@
-use Rattle.std.proofs.Common.{◌≡◌, ◌++◌, List}
-use Rattle.cborn_model.specs.Tree.{Tree}
-use Rattle.cborn_model.specs.Partial.{top, no_part}
-use Rattle.cborn_wire.specs.devices.OpenNodes.{IsHeld}
+use Rattle.cborn_wire.proofs.Common.{◌≡◌, ◌++◌, List, Tree, top, no_part, IsHeld}
 use Rattle.cborn_wire.proofs.nodes.Nodes.finish.Given as goal
 
 -- the nodes that were moved, and then those that weren't

@@ -1,6 +1,4 @@
-use Rattle.std.proofs.Common.{List, ap, arith, set, [], ◌∷◌, ◌-◌, length-append, length, vec_len}
-use Rattle.std.proofs.lemmas.Bool.{false≢true}
-use Rattle.cborn_wire.specs.declared.spellers.OpenSpelling.{OpenSpelling}
+use Rattle.cborn_wire.proofs.Common.{List, ap, arith, set, [], ◌∷◌, ◌-◌, length-append, length, vec_len, false≢true, OpenSpelling}
 use Rattle.cborn_wire.proofs.Standing.{one_more, node_counted, last_counted}
 use Rattle.cborn_wire.proofs.spellers.Speller.count.Goals as goal
 

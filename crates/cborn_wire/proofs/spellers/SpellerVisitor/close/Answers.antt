@@ -1,5 +1,4 @@
-use Rattle.std.proofs.Common.{ap, arith}
-use Rattle.cborn_model.specs.Partial.{built}
+use Rattle.cborn_wire.proofs.Common.{ap, arith, built}
 use Rattle.cborn_wire.proofs.Standing.{container_left}
 use Rattle.cborn_wire.proofs.spellers.SpellerVisitor.close.Goals as goal
 

@@ -1,9 +1,4 @@
-use Rattle.std.proofs.Common.{◌≡◌, sym, ap, ℕ, Option, None}
-use Rattle.cborn_model.specs.declared.heads.Major.{Major}
-use Rattle.cborn_model.specs.declared.heads.Size.{Size}
-use Rattle.cborn_model.specs.declared.heads.Size.TheVariants.{Endless}
-use Rattle.cborn_model.specs.Partial.{in_chunks}
-use Rattle.cborn_wire.specs.shared.Spelling.{shape}
+use Rattle.cborn_wire.proofs.Common.{◌≡◌, sym, ap, ℕ, Option, None, Major, Size, Endless, in_chunks, shape}
 use Rattle.cborn_wire.proofs.spellers.SpellerVisitor.open_chunks.Goals as goal
 
 pub returns-clause-held : goal.returns-clause-held

@@ -1,0 +1,57 @@
+-- The names that the proofs of this crate use, each from where it is defined.
+pub use Rattle.std.proofs.Common.{Bool, Err, IfOk, IsErrAnd, List, None, Ok, OnErr, Option, Result, Some, [], add-one, add-zero, ap, append-nil, append_assoc, arith, cond, drop, drop_at, eqb, false, get_or, inl, inr, leb, length, length-append, ltb, map, max, not, refl, rules, set, subst, suc, sym, take, take_at, true, vec_len, zero, zero-add, ℕ, ◌%◌, ◌&&◌, ◌*◌, ◌++◌, ◌+◌, ◌-◌, ◌/◌, ◌<◌, ◌^◌, ◌||◌, ◌∙◌, ◌∷◌, ◌≡◌, ◌≤◌, ◌⊎◌}
+pub use Rattle.std.proofs.Math.Seq.{get_or-append_seam, take-add}
+pub use Rattle.std.proofs.lemmas.Bool.{agree_below_at, and_parts, cases_order, cond_both, eqb-true, false≢true, le-leb, le-ltb, leb-false, leb-true, lt-leb, lt-ltb, ltb-false, ltb-true, ne_eqb, not-true}
+pub use Rattle.std.proofs.lemmas.List.{append_cancel_left, drop-drop, drop-take, get_or_at, length-drop, length-replicate, length-take, length-take-le, length_push, nil_from_length, set_at, take-append-drop, take-append-le, take-take, take_all, take_more, take_more_set, take_rest}
+pub use Rattle.std.proofs.lemmas.Nat.{be_bytes_2, be_bytes_4, be_bytes_8, from_be_bytes-to_be_bytes_2, from_be_bytes-to_be_bytes_4, from_be_bytes-to_be_bytes_8}
+pub use Rattle.std.proofs.lemmas.Result.{err_from_is_err_and, on_ok_weaker}
+pub use Rattle.std.specs.List.{flat_map}
+pub use Rattle.std.specs.Option.{option_to_list, unwrap_or}
+pub use Rattle.std.specs.Prelude.{IsTrue, slice_set}
+pub use Rattle.cborn_model.specs.Bytes.{AreBytes}
+pub use Rattle.cborn_model.specs.Heads.{Argument, EndlessArgument, Given, SizeFits, WidthFits, argument, code, following, head, information, is_simple_value, least}
+pub use Rattle.cborn_model.specs.Partial.{AreStrings, Ends, Goes, IsAll, IsFree, IsMore, IsString, Opening, Part, Partial, Proper, TakesItem, TakesString, a_map, a_tag, an_array, built, chunks_of, chunks_tree, ended_size, in_chunks, inside, last_key, no_part, paired, part, put, string_tree, top, whole}
+pub use Rattle.cborn_model.specs.Placed.{ChunksPlaced, Placed, PlacedAll, PlacedEntries}
+pub use Rattle.cborn_model.specs.Spelled.{ChunksFit, Fits, FitsAll, FitsEntries, IsSpelled, Wellformed, chunk_bytes, chunks, ending, spelled, spelled_all, spelled_entries, string}
+pub use Rattle.cborn_model.specs.Tree.{ByteChunks, Bytes, Entries, Items, Nint, Pairs, Simple, Tagged, Text, TextChunks, Tree, Trees, Uint, count, count_entries, depth, depth_all, depth_entries, entries, entry, more, no_entry, no_item, trees}
+pub use Rattle.cborn_model.specs.declared.heads.Major.{Major}
+pub use Rattle.cborn_model.specs.declared.heads.Major.TheVariants.{Array, ByteString, Map, Negative, Other, Tag, TextString, Unsigned}
+pub use Rattle.cborn_model.specs.declared.heads.Size.{Size}
+pub use Rattle.cborn_model.specs.declared.heads.Size.TheVariants.{Endless, Fixed}
+pub use Rattle.cborn_model.specs.declared.heads.Width.{Width}
+pub use Rattle.cborn_model.specs.declared.heads.Width.TheVariants.{Direct, Eight, Four, One, Two}
+pub use Rattle.cborn_model.specs.declared.nodes.Chunk.{Chunk}
+pub use Rattle.cborn_model.specs.shared.Runs.{AreShortIntegers, AtKey, InArray, IsInteger, IsShortLeaf, IsShortPair, puts, text_in}
+pub use Rattle.cborn_model.specs.shared.Walks.{flat, string_of}
+pub use Rattle.cborn_wire.specs.Faults.{BeginsHead, Fault, GoesOn, IsReason, IsWellformed, judged}
+pub use Rattle.cborn_wire.specs.Feeding.{Accepts, AreComplete, Feeding, Feeds, Refuses, RunsShort, fresh}
+pub use Rattle.cborn_wire.specs.HeadReading.{ArgumentFits, IsFrontOfHead, IsHeadOf, ReadsHead, count_in, major_at, reason_alone, seen_argument, size_in}
+pub use Rattle.cborn_wire.specs.Parts.{IsSimpleArgument, Leaves, NodeRead, NodesRead, Pair, PairsRead, StringRead}
+pub use Rattle.cborn_wire.specs.Places.{all_from, chunks_from, entries_from, placed_from}
+pub use Rattle.cborn_wire.specs.SlotFaults.{SlotRefused, begins_low, needs_item, reason_at, reason_of}
+pub use Rattle.cborn_wire.specs.Slots.{Announces, AreOpen, HeadFits, IsNoString, MayBegin, OfBytes, OfText, Open, OpenContainer, Slot, StringKind, added_depth, announced, beginning, beginnings, chunk, element_or_end, item, key_or_end, major_of, open_depth, opened, opening, slot, slot_in, slot_in_map, value}
+pub use Rattle.cborn_wire.specs.declared.faults.VisitFault.{VisitFault}
+pub use Rattle.cborn_wire.specs.declared.faults.VisitFault.TheVariants.{Memory, Refused}
+pub use Rattle.cborn_wire.specs.declared.faults.WireFault.{WireFault}
+pub use Rattle.cborn_wire.specs.declared.faults.WireReason.{WireReason}
+pub use Rattle.cborn_wire.specs.declared.faults.WireReason.TheVariants.{BadChunk, BadSimple, EndlessNotAllowed, FloatLeftOut, ReservedInfo, TooDeep, Truncated, UnexpectedBreak}
+pub use Rattle.cborn_wire.specs.declared.head_readers.HeadReader.{HeadReader}
+pub use Rattle.cborn_wire.specs.declared.head_readers.PartialHead.{PartialHead}
+pub use Rattle.cborn_wire.specs.declared.heads.Head.{Head}
+pub use Rattle.cborn_wire.specs.declared.heads.HeadRead.TheVariants.{Full}
+pub use Rattle.cborn_wire.specs.declared.item_readers.ItemReader.{ItemReader}
+pub use Rattle.cborn_wire.specs.declared.leaves.GivenHead.{GivenHead}
+pub use Rattle.cborn_wire.specs.declared.levels.Level.{Level}
+pub use Rattle.cborn_wire.specs.declared.levels.LevelKind.{LevelKind}
+pub use Rattle.cborn_wire.specs.declared.levels.LevelKind.TheVariants.{Chunks, MapValue, Sequence}
+pub use Rattle.cborn_wire.specs.declared.nodes.Nodes.{Nodes}
+pub use Rattle.cborn_wire.specs.declared.spellers.OpenSpelling.{OpenSpelling}
+pub use Rattle.cborn_wire.specs.devices.Counting.{IsNoChunkSlot, plain}
+pub use Rattle.cborn_wire.specs.devices.ItemReading.{EndsHeld, IsMade, IsMoved, Took, pending, seen}
+pub use Rattle.cborn_wire.specs.devices.Leaves.{AfterLeaves, IsGiven, IsLeaf, IsLeafOf, TakesHead, TakesLeaves, TakesRun, content_len, leaf_tree}
+pub use Rattle.cborn_wire.specs.devices.OpenNodes.{IsHeld, around, seen_nodes, seen_string, within}
+pub use Rattle.cborn_wire.specs.shared.Ground.{Ground, IsPlacedOpen, place_of}
+pub use Rattle.cborn_wire.specs.shared.InitialBytes.{EndlessInformation, Info, Next, Now, Reserved, front_reason, head_reason, info_at, info_for, is_always_bounded, is_bad_chunk, is_break, is_container, is_endless_head, is_float, is_of_kind, is_one, is_other, is_reserved}
+pub use Rattle.cborn_wire.specs.shared.Machine.{AtMostOneMore, Failed, Goal, IsLive, IsReached, Live, State, Stops, Unfinished, after_head, append_trees, argument_of, at_slot, begin_head, content_at, content_of, ended, finished, front, gather, gathered, gathering, held, holding, is_full, nothing, number, partial_bytes, ready_in, run, snoc, start, step, unless, width_bytes}
+pub use Rattle.cborn_wire.specs.shared.Spelling.{IsEnded, IsWritten, container, containers_of, counted, ending_of, entries_in, shape, sized_ending, with_head, written}
+pub use Rattle.cborn_wire.specs.shared.Visiting.{AreFromBytes, FailsAs, Here, HereAt, IsFed, IsFresh, IsInput, Keeps, MayEnd, Missing, OpenIn, Reads, ReadsItem, RefusesPiece, Stands, Takes, TakesPiece, at_most_highest, head_at, is_chunks, kind_in, levels, map_kind, may_end, next_head, next_number, open_in, ready, seen_head, slot_of, state, unfinished, with_part}
