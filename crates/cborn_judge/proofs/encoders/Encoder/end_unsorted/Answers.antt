@@ -14,7 +14,7 @@ returns g c = record {
       let kept = c.end_map.ensures.kept in
       held f o ts free ends
       (has_ended order e _ f o ts _ ends old.0 (ap (λ v. v.items) kept.0) kept.1 (λ ns own z marks pairs inner. (
-        map_well order l o own e.out.items c.end_map.new.self.out.items c.in_ok-found.found c.args.size c.args.count (marks_of e.pairs) ns marks pairs c.requires inner.opens c.in_ok-found.ensures.ended,
+        map_well order l o own e.out.items c.end_map.new.self.out.items c.in_ok-found.found c.args.size c.args.count (marks_of e.pairs) ns marks pairs c.requires.map inner.opens c.in_ok-found.ensures.ended,
         c.truncate.ensures ∙ c.in_ok-found.ensures.marks ∙ ap (take l.pairs) marks ∙ ap (λ n. take n (ns ++ own)) pairs ∙ take-append_seam ns own,
       ))) old.1) c.leave.ensures.held;
 }
