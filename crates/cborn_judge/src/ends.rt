@@ -16,7 +16,7 @@ ghost use Rattle.cborn_det.specs.Det.{Det};
 ghost use Rattle.cborn_judge.specs.Departures.{FindsDefect};
 ghost use Rattle.cborn_judge.specs.shared.Judged.{FindsFlaw, IsEarliestFlaw};
 ghost use Rattle.cborn_judge.specs.devices.Encoding.{Mark, FindsDescent, IsSound, AreEncodedAs, Coded, Stands, Finds};
-ghost use Rattle.cborn_judge.specs.devices.Marks.{marks_of};
+ghost use Rattle.cborn_judge.specs.devices.Marks.{marks_of, AreAllHinted};
 ghost use Rattle.cborn_judge.specs.devices.Encoders.{EndsWell, EndsBignum, Closes, HasEnded, IsBignumFound, StandsIn, IsHeld};
 ghost use Rattle.cborn_judge.specs.declared.levels.Container.TheVariants as container;
 
@@ -69,7 +69,8 @@ impl Encodings {
         count: Option<u64>,
         descent: Option<Defect>,
     ) -> Result<Findings, AllocError>
-        requires { FindsDescent O.order level.content (drop level.pairs (marks_of self.old.pairs)) self.old.out.items descent }
+        requires hinted { AreAllHinted O.order self.old.out.items level.pairs self.old.pairs.marks }
+        requires descent { FindsDescent O.order level.content (drop level.pairs (marks_of self.old.pairs)) self.old.out.items descent }
         ensures ended { IfOk result (λ found. EndsWell O.order level (a_map level.place size count) (drop level.pairs (marks_of self.old.pairs)) self.old.out.items self.new.out.items found) }
         ensures marks { IfOk result (λ found. take level.pairs (marks_of self.new.pairs) ≡ take level.pairs (marks_of self.old.pairs)) }
         ensures kept { (self.new.outer ≡ self.old.outer) × (self.new.innermost ≡ self.old.innermost) }
@@ -155,6 +156,7 @@ impl<O: KeyOrder> Encoder<O> {
         descent: Option<Defect>,
     ) -> Result<(), AllocError>
         requires map { self.old.encodings.innermost.container ≡ container.Map size count }
+        requires hinted { AreAllHinted O.order self.old.encodings.out.items self.old.encodings.innermost.pairs self.old.encodings.pairs.marks }
         requires descent { FindsDescent O.order self.old.encodings.innermost.content (drop self.old.encodings.innermost.pairs (marks_of self.old.encodings.pairs)) self.old.encodings.out.items descent }
         ensures held { OnOk result (Closes O.order self.old self.new) }
     {

@@ -6,7 +6,7 @@ ghost use Rattle.cborn_det.specs.Det.{joined};
 ghost use Rattle.cborn_judge.specs.Departures.{FindsDefect};
 ghost use Rattle.cborn_judge.specs.shared.Judged.{FindsFlaw};
 ghost use Rattle.cborn_judge.specs.devices.Encoding.{Row, row_entries, Mark as Marked, AreMarked, AreFilled, AreArranged, RowRepeat, FindsDescent};
-ghost use Rattle.cborn_judge.specs.devices.Marks.{mark_of, narrow_of, between, key_of, pair_of, mark_order, FallAt, TieAt, FallsIn, TiesIn, AreSorted};
+ghost use Rattle.cborn_judge.specs.devices.Marks.{mark_of, narrow_of, mark_hint, narrow_hint, between, key_of, pair_of, AreHigher, AreHinted, mark_order, FallAt, TieAt, FallsIn, TiesIn, AreSorted};
 
 use crate::defects::Defect;
 use crate::faults::InvalidReason;
@@ -67,16 +67,23 @@ pub(crate) trait Spot: Copy {
     fn mark(self) -> Mark
         ensures { mark_of result ≡ seen self };
 
+    /// The hint that it keeps, as contracts see it.
+    ghost hinted: { Self → ℕ };
+
     /// The hint that it keeps.
-    fn hint(self) -> u64;
+    fn hint(self) -> u64
+        ensures { result ≡ hinted self };
 
     /// Keeps a hint.
     fn set_hint(&mut self, hint: u64)
-        ensures { seen self.new ≡ seen self.old };
+        ensures set { hinted self.new ≡ hint }
+        ensures kept { seen self.new ≡ seen self.old };
 }
 
 impl Spot for Mark {
     ghost seen = { mark_of };
+
+    ghost hinted = { mark_hint };
 
     #[inline(always)]
     fn mark(self) -> Mark {
@@ -96,6 +103,8 @@ impl Spot for Mark {
 
 impl Spot for NarrowMark {
     ghost seen = { narrow_of };
+
+    ghost hinted = { narrow_hint };
 
     #[inline(always)]
     fn mark(self) -> Mark {
@@ -160,6 +169,7 @@ pub(crate) fn descent<O: KeyOrder, S: Spot>(
     out: &[u8],
 ) -> Option<Defect>
     ensures found { (start : ℕ) → FindsDescent O.order start (drop from (map S.seen spots.old.items)) out.now result }
+    ensures hinted { AreHinted S.hinted S.seen O.order out.now (drop from spots.new.items) }
     ensures kept { map S.seen spots.new.items ≡ map S.seen spots.old.items }
 {
     if from > spots.len() {
@@ -179,6 +189,7 @@ pub(crate) fn arrange<O: KeyOrder, S: Spot>(
     spare: &mut Vec<u8>,
     out: &mut Vec<u8>,
 ) -> Result<Option<Flaw>, AllocError>
+    requires { AreHinted S.hinted S.seen O.order out.old.items (drop from spots.old.items) }
     ensures repeat { IfOk result (λ flaw. (y : List ℕ) (rows : List Row) → start ≡ length y → out.old.items ≡ y ++ joined (row_entries rows) → AreMarked start rows (drop from (map S.seen spots.old.items)) → FindsFlaw (RowRepeat rows) flaw) }
     ensures arranged { IfOk result (λ flaw. flaw ≡ None → (y : List ℕ) (rows : List Row) → start ≡ length y → out.old.items ≡ y ++ joined (row_entries rows) → AreMarked start rows (drop from (map S.seen spots.old.items)) → AreFilled rows → (x : List ℕ) × AreArranged O.order rows x × (out.new.items ≡ y ++ x)) }
     ensures front { OnOk result ((y z : List ℕ) → start ≡ length y → out.old.items ≡ y ++ z → (x : List ℕ) × (out.new.items ≡ y ++ x)) }
@@ -197,6 +208,7 @@ fn arrange_all<O: KeyOrder, S: Spot>(
     spare: &mut Vec<u8>,
     out: &mut Vec<u8>,
 ) -> Result<Option<Flaw>, AllocError>
+    requires { AreHinted S.hinted S.seen O.order out.old.items spots.old }
     ensures repeat { IfOk result (λ flaw. (y : List ℕ) (rows : List Row) → start ≡ length y → out.old.items ≡ y ++ joined (row_entries rows) → AreMarked start rows (map S.seen spots.old) → FindsFlaw (RowRepeat rows) flaw) }
     ensures arranged { IfOk result (λ flaw. flaw ≡ None → (y : List ℕ) (rows : List Row) → start ≡ length y → out.old.items ≡ y ++ joined (row_entries rows) → AreMarked start rows (map S.seen spots.old) → AreFilled rows → (x : List ℕ) × AreArranged O.order rows x × (out.new.items ≡ y ++ x)) }
     ensures front { OnOk result ((y z : List ℕ) → start ≡ length y → out.old.items ≡ y ++ z → (x : List ℕ) × (out.new.items ≡ y ++ x)) }
@@ -209,13 +221,17 @@ fn arrange_all<O: KeyOrder, S: Spot>(
 }
 
 /// Sorts marks by their keys, and gives the first key that is the same as an earlier one. If none
-/// is, and each key has an encoding, the keys rise then. The marks keep hints for their keys, by
-/// which they are sorted so that no key is the same as another as a rule.
+/// is, and each key has an encoding, the keys rise then. They are sorted by the hints that the marks
+/// keep; keys with equal hints, by other hints. As a rule that is all, and else by the keys alone.
 fn sort_apart<O: KeyOrder, S: Spot>(spots: &mut [S], out: &[u8]) -> Option<Flaw>
-    ensures repeat { (y : List ℕ) (rows : List Row) → out.now ≡ y ++ joined (row_entries rows) → AreMarked (length y) rows (map S.seen spots.old) → FindsFlaw (RowRepeat rows) result }
-    ensures arranged { result ≡ None → (y : List ℕ) (rows : List Row) → out.now ≡ y ++ joined (row_entries rows) → AreMarked (length y) rows (map S.seen spots.old) → AreFilled rows → AreArranged O.order rows (flat_map (pair_of out.now) (map S.seen spots.new)) }
+    requires { AreHinted S.hinted S.seen O.order out.now spots.old }
+    ensures { (y : List ℕ) (rows : List Row) → out.now ≡ y ++ joined (row_entries rows) → AreMarked (length y) rows (map S.seen spots.old) → FindsFlaw (RowRepeat rows) result × (result ≡ None → AreFilled rows → AreArranged O.order rows (flat_map (pair_of out.now) (map S.seen spots.new))) }
 {
-    sort_by_hints::<O, S>(spots, out);
+    spots.sort_unstable_by_key(|spot| spot.hint());
+    if hints_rise(spots) {
+        return None;
+    }
+    sort_runs::<O, S>(spots, out);
     if first_fall::<O, S>(spots, out).is_none() {
         return None;
     }
@@ -223,13 +239,12 @@ fn sort_apart<O: KeyOrder, S: Spot>(spots: &mut [S], out: &[u8]) -> Option<Flaw>
     first_tie(spots, out)
 }
 
-/// Sorts marks by the hints that they keep, and those with equal hints by their keys. If the hints
-/// are those for the keys, these rise then, unless two are the same.
-fn sort_by_hints<O: KeyOrder, S: Spot>(spots: &mut [S], out: &[u8])
-    ensures { IsPermutation (map S.seen spots.old) (map S.seen spots.new) }
+/// Whether each hint that these marks keep is higher than the one before it.
+#[inline(always)]
+fn hints_rise<S: Spot>(spots: &[S]) -> bool
+    ensures { result ≡ true → AreHigher S.hinted 0 spots.now }
 {
-    spots.sort_unstable_by_key(|spot| spot.hint());
-    sort_runs::<O, S>(spots, out);
+    spots.is_sorted_by(|a, b| a.hint() < b.hint())
 }
 
 /// Sorts marks with equal hints, where these follow one another, by their keys.
@@ -291,6 +306,7 @@ fn hint_after<O: KeyOrder, S: Spot>(common: usize, spots: &mut [S], out: &[u8])
 /// aren't looked at.
 fn first_fall<O: KeyOrder, S: Spot>(spots: &mut [S], out: &[u8]) -> Option<Defect>
     ensures found { FindsDefect (FallsIn O.order out.now (map S.seen spots.old)) result }
+    ensures hinted { AreHinted S.hinted S.seen O.order out.now spots.new }
     ensures kept { map S.seen spots.new ≡ map S.seen spots.old }
 {
     let known = O::known();

@@ -4,7 +4,7 @@ ghost use Rattle.std.specs.Prelude.{◌≡◌, ◌++◌, ◌∷◌, ℕ, List, [
 ghost use Rattle.cborn_det.specs.Det.{joined};
 ghost use Rattle.cborn_judge.specs.shared.Judged.{FindsFlaw};
 ghost use Rattle.cborn_judge.specs.devices.Encoding.{Row, row_entries, Mark as Marked, AreMarked, AreFilled, AreArranged, RowRepeat, FindsDescent};
-ghost use Rattle.cborn_judge.specs.devices.Marks.{mark_of, narrow_of, marks_of};
+ghost use Rattle.cborn_judge.specs.devices.Marks.{mark_of, narrow_of, marks_of, AreAllHinted};
 
 use crate::defects::Defect;
 use crate::flaws::Flaw;
@@ -133,6 +133,7 @@ impl Pairs {
     /// these marks gets the hint for its key.
     pub(crate) fn descent<O: KeyOrder>(&mut self, from: usize, out: &[u8]) -> Option<Defect>
         ensures found { (start : ℕ) → FindsDescent O.order start (drop from (marks_of self.old)) out.now result }
+        ensures hinted { AreAllHinted O.order out.now from self.new.marks }
         ensures kept { marks_of self.new ≡ marks_of self.old }
     {
         match &mut self.marks {
@@ -152,6 +153,7 @@ impl Pairs {
         spare: &mut Vec<u8>,
         out: &mut Vec<u8>,
     ) -> Result<Option<Flaw>, AllocError>
+        requires { AreAllHinted O.order out.old.items from self.old.marks }
         ensures repeat { IfOk result (λ flaw. (y : List ℕ) (rows : List Row) → start ≡ length y → out.old.items ≡ y ++ joined (row_entries rows) → AreMarked start rows (drop from (marks_of self.old)) → FindsFlaw (RowRepeat rows) flaw) }
         ensures arranged { IfOk result (λ flaw. flaw ≡ None → (y : List ℕ) (rows : List Row) → start ≡ length y → out.old.items ≡ y ++ joined (row_entries rows) → AreMarked start rows (drop from (marks_of self.old)) → AreFilled rows → (x : List ℕ) × AreArranged O.order rows x × (out.new.items ≡ y ++ x)) }
         ensures front { OnOk result ((y z : List ℕ) → start ≡ length y → out.old.items ≡ y ++ z → (x : List ℕ) × (out.new.items ≡ y ++ x)) }

@@ -1,6 +1,7 @@
 -- A device of the proofs: the marks that are kept of pairs, and what is read and found where they lie. Only devices cite it.
-use Rattle.std.specs.Prelude.{◌≡◌, ◌≢◌, ℕ, ◌-◌, ◌⊎◌, List, [], ◌∷◌, map, take, drop}
+use Rattle.std.specs.Prelude.{◌≡◌, ◌≢◌, ℕ, ◌+◌, ◌-◌, ◌≤◌, ◌⊎◌, ⊤, List, [], ◌∷◌, map, take, drop}
 use Rattle.std.specs.Ordering.{nat_cmp, ordering_then, is_lt}
+use Rattle.std.specs.List.{AllByRecursion}
 use Rattle.std.specs.List.Sorted.{IsSortedBy}
 use Rattle.std.specs.declared.cmp.Ordering.{Ordering}
 use Rattle.std.specs.declared.cmp.Ordering.TheVariants.{Less}
@@ -8,6 +9,7 @@ use Rattle.cborn_judge.specs.declared.defects.DefectReason.{DefectReason}
 use Rattle.cborn_judge.specs.declared.defects.DefectReason.TheVariants.{KeyOrder}
 use Rattle.cborn_judge.specs.declared.faults.InvalidReason.{InvalidReason}
 use Rattle.cborn_judge.specs.declared.faults.InvalidReason.TheVariants.{DuplicateKey}
+use Rattle.cborn_judge.specs.devices.Hints.{Tells}
 use Rattle.cborn_judge.specs.devices.Encoding as encoding
 use Rattle.cborn_judge.specs.devices.Encoding.{Row}
 use Rattle.cborn_judge.specs.declared.marks.Mark.{Mark}
@@ -29,6 +31,12 @@ all_marks (Wide ms) = map mark_of ms.items
 abbrev pub marks_of : Pairs → List encoding.Mark
 marks_of p = all_marks p.marks
 
+abbrev pub mark_hint : Mark → ℕ
+mark_hint m = m.hint
+
+abbrev pub narrow_hint : NarrowMark → ℕ
+narrow_hint m = m.hint
+
 -- ---- what lies where the marks say
 
 abbrev pub between : ℕ → ℕ → List ℕ → List ℕ
@@ -42,6 +50,27 @@ pair_of b m = between m.1 m.3 b
 
 abbrev pub row_of : List ℕ → encoding.Mark → Row
 row_of b m = (m.0, between m.1 m.2 b, between m.2 m.3 b)
+
+-- ---- hints that are kept
+
+module _ {S : Type 0} (hinted : S → ℕ) where
+  -- each is higher than the one before it, and the first at least n
+  abbrev pub AreHigher : ℕ → List S → Type 0
+  AreHigher n [] = ⊤
+  AreHigher n (s ∷ ss) = (n ≤ hinted s) × AreHigher (hinted s + 1) ss
+
+  module _ (seen : S → encoding.Mark) where
+    -- each is the hint for the key
+    abbrev pub AreHintedBy : (List ℕ → ℕ) → List ℕ → List S → Type 0
+    AreHintedBy hint b = AllByRecursion (λ s. hinted s ≡ hint (key_of b (seen s)))
+
+    abbrev pub AreHinted : (List ℕ → List ℕ → Ordering) → List ℕ → List S → Type 0
+    AreHinted order b ss = (hint : List ℕ → ℕ) × Tells order hint × AreHintedBy hint b ss
+
+-- so it is of the marks from an index on
+abbrev pub AreAllHinted : (List ℕ → List ℕ → Ordering) → List ℕ → ℕ → Marks → Type 0
+AreAllHinted order b from (Narrow ms) = AreHinted narrow_hint narrow_of order b (drop from ms.items)
+AreAllHinted order b from (Wide ms) = AreHinted mark_hint mark_of order b (drop from ms.items)
 
 -- ---- what is found where keys follow one another
 

@@ -1,8 +1,8 @@
 use Rattle.std.proofs.Common.{rules, ◌++◌, ◌-◌, ℕ, List, [], length, take, drop, map, None, sym, ap, ◌∙◌, subst, arith}
-use Rattle.std.proofs.lemmas.List.{with_items_is, places}
+use Rattle.std.proofs.lemmas.List.{drop_all, with_items_is, places}
 use Rattle.cborn_judge.specs.Departures.{FindsDefect}
 use Rattle.cborn_judge.specs.devices.Encoding.{Mark, FindsDescent}
-use Rattle.cborn_judge.specs.devices.Marks.{FallsIn}
+use Rattle.cborn_judge.specs.devices.Marks.{FallsIn, AreHintedBy}
 use Rattle.cborn_judge.proofs.Encoding.PairsMet.{descent_found}
 use Rattle.cborn_judge.proofs.Encoding.PairsArranged.{rest_marked, none_left, all_kept}
 use Rattle.cborn_judge.proofs.marks.descent.Goals as goal
@@ -12,6 +12,11 @@ returns-then-from-len-clause-found g c start =
     let order = g.O.KeyOrder.order in
     let none = none_left g.S.Spot.seen c.args.from c.args.spots.now.items (omega (arith, c.len.ensures, c.if-from-len.true)) in
     subst (λ (ms : List Mark). FindsDescent order start ms c.args.out.now None) (sym none) (descent_found order c.args.out.now [] None start (λ p r f. f.1))
+
+pub returns-then-from-len-clause-hinted : goal.returns-then-from-len-clause-hinted
+returns-then-from-len-clause-hinted g c =
+    let none = drop_all c.args.from c.args.spots.now.items (omega (arith, c.len.ensures, c.if-from-len.true)) in
+    ((λ k. 0), (λ k l h i m. absurd (omega arith)), subst (AreHintedBy g.S.Spot.hinted g.S.Spot.seen (λ k. 0) c.args.out.now) (sym none) tt)
 
 pub returns-clause-found : goal.returns-clause-found
 returns-clause-found g c start =

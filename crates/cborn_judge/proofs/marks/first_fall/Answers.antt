@@ -1,10 +1,11 @@
 use Rattle.std.proofs.Common.{◌<◌, ◌∙◌, inl, inr, ap, sym, subst, arith}
+use Rattle.std.proofs.lemmas.List.{take_all}
 use Rattle.cborn_model.proofs.Bytes.{are_bytes}
 use Rattle.cborn_model.specs.Bytes.{AreBytes}
 use Rattle.cborn_model.specs.Earliest.{IsEarliest}
 use Rattle.cborn_judge.specs.Reasons.{defect_rank}
 use Rattle.cborn_judge.specs.devices.Hints.{hint_of}
-use Rattle.cborn_judge.specs.devices.Marks.{mark_of}
+use Rattle.cborn_judge.specs.devices.Marks.{mark_of, AreHintedBy}
 use Rattle.cborn_judge.proofs.Encoding.Hinting.{hint_tells}
 use Rattle.cborn_judge.proofs.Encoding.PairsRead.{bytes_between}
 use Rattle.cborn_judge.proofs.Encoding.PairsHinted.{Looks, Remembers, falls_passed}
@@ -21,15 +22,21 @@ loop-spot-preserved g c =
     let before = c.loop-spot.before.now in
     let last = c.loop-spot.last in
     let bytes : AreBytes key = subst AreBytes (sym c.key_in-key.ensures) (bytes_between b m.1 m.2 (are_bytes b c.type_inv.out)) in
-    let look : Looks g.S.Spot.seen b order hint before key last m.0 c.loop-spot.first c.if-hint-last.first =
+    let look : Looks g.S.Spot.seen g.S.Spot.hinted b order hint before key last m.0 c.loop-spot.first c.if-hint-last.first =
     elim c.if-hint-last.branch [
       | then-hint-last w ↦ inr (w.fall.result, w.fall.ensures, subst (λ o. IsEarliest (λ d. (d.place, defect_rank d.reason)) c.loop-spot.first w.fall.result o) (sym w.first-is) w.earliest-first.ensures)
       | else-hint-last w ↦ inl (subst (λ n. last < n) c.hint-hint.ensures (omega (arith, w.if-hint-last.false)), w.first-is)
     ] in
-    let next : Remembers g.S.Spot.seen b order hint before key last c.if-not-is_empty.before.now c.if-not-is_empty.last =
+    let next : Remembers g.S.Spot.seen g.S.Spot.hinted b order hint before key last c.if-not-is_empty.before.now c.if-not-is_empty.last =
     elim c.if-not-is_empty.branch [
       | then-not-is_empty w ↦ inl (sym c.is_empty.ensures ∙ w.if-not-is_empty.true, ap (λ z. z.now) w.before-is, w.last-is ∙ c.hint-hint.ensures)
       | else-not-is_empty w ↦ inr (sym c.is_empty.ensures ∙ w.if-not-is_empty.false, ap (λ z. z.now) w.before-is, w.last-is)
     ] in
-    falls_passed g.S.Spot.seen b order hint (hint_tells order c.known-known.result c.known-known.ensures) c.args.spots.now c.loop-spot.spots c.loop-spot.spot-index c.spot-item.result c.set_hint.new.self m before key c.if-not-is_empty.before.now last c.if-not-is_empty.last c.loop-spot.first c.if-hint-last.first
-    (omega (arith, c.loop-spot-test.true, c.loop-spot.auto.spots)) c.mark-mark.ensures c.key_in-key.ensures bytes c.set_hint.ensures c.loop-spot.invariant look next
+    falls_passed g.S.Spot.seen g.S.Spot.hinted b order hint (hint_tells order c.known-known.result c.known-known.ensures) c.args.spots.now c.loop-spot.spots c.loop-spot.spot-index c.spot-item.result c.set_hint.new.self m before key c.if-not-is_empty.before.now last c.if-not-is_empty.last c.loop-spot.first c.if-hint-last.first
+    (omega (arith, c.loop-spot-test.true, c.loop-spot.auto.spots)) c.mark-mark.ensures c.key_in-key.ensures bytes c.set_hint.ensures.kept (c.set_hint.ensures.set ∙ c.hint-hint.ensures) c.loop-spot.invariant look next
+
+pub returns-clause-hinted : goal.returns-clause-hinted
+returns-clause-hinted g c =
+    let hint = hint_of c.known-known.result in
+    let all = take_all c.loop-spot.spot-index c.loop-spot.spots (omega (arith, c.loop-spot-test.false)) in
+    (hint, hint_tells g.O.KeyOrder.order c.known-known.result c.known-known.ensures, subst (AreHintedBy g.S.Spot.hinted g.S.Spot.seen hint c.args.out.now) all c.loop-spot.invariant.hints)

@@ -5,7 +5,7 @@ use Rattle.cborn_judge.specs.declared.defects.Defect.{Defect}
 use Rattle.cborn_judge.specs.declared.encoders.Encodings.{Encodings}
 use Rattle.cborn_judge.specs.declared.pairs.Pairs.{Pairs}
 use Rattle.cborn_judge.specs.devices.Encoding.{Mark, FindsDescent, Stands}
-use Rattle.cborn_judge.specs.devices.Marks.{marks_of}
+use Rattle.cborn_judge.specs.devices.Marks.{marks_of, AreAllHinted}
 use Rattle.cborn_judge.proofs.Encoding.PairsMet.{none_of}
 use Rattle.cborn_judge.proofs.encoders.Encoder.end_map.Goals as goal
 
@@ -29,6 +29,11 @@ pub returns-then-is_none : goal.returns-then-is_none
 returns-then-is_none g c = record {
   held = on_ok c.end_rising.result (λ held f o ts free ends old. held f o ts free ends (still g.O.KeyOrder.order c.args.self.now.encodings c.descent-descent.new.self c.descent-descent.ensures.kept (inside f o ts) old.0, old.1)) c.end_rising.ensures.held;
 }
+
+pub end_unsorted-requires-clause-hinted : goal.end_unsorted-requires-clause-hinted
+end_unsorted-requires-clause-hinted g c =
+    let e = c.args.self.now.encodings in
+    subst (λ (b : List ℕ). AreAllHinted g.O.KeyOrder.order b e.innermost.pairs c.descent-descent.new.self.marks) c.deref.ensures.value c.descent-descent.ensures.hinted
 
 pub end_unsorted-requires-clause-descent : goal.end_unsorted-requires-clause-descent
 end_unsorted-requires-clause-descent g c =

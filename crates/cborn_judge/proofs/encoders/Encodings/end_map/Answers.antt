@@ -41,5 +41,5 @@ returns-clause-ended g c = λ ts x z ends e start inner.
       left.2,
       flaw_found order laws level.place c.args.size c.args.count ts rs ends inner.contains.2 flaw repeat,
       λ sound none. defect_found order laws level.place c.args.size c.args.count ts rs ends inner.contains.2 n c.ended_defect-own.result c.args.descent c.earliest-defect.result number (subst (λ b. IsSound b ts) sound inner.sound) c.ended_defect-own.ensures
-          (c.requires (x ++ h) rs content lies marked).1 c.earliest-defect.ensures,
+          (c.requires.descent (x ++ h) rs content lies marked).1 c.earliest-defect.ensures,
     )
