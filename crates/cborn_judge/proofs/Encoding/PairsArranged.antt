@@ -1,16 +1,13 @@
 -- Pairs that are sorted by their keys: what ties is a repeat, and where nothing does the keys rise.
-use Rattle.std.proofs.Common.{◌≡◌, ◌≢◌, ℕ, ◌+◌, ◌-◌, ◌≤◌, inl, inr, List, [], ◌∷◌, ◌++◌, length, map, take, drop, refl, sym, ap, ◌∙◌, subst, arith, take_at, Option, None, Ordering, Less, Equal, Greater, true, false, true≢false, is_lt, IsPermutation, get_or}
+use Rattle.std.proofs.Common.{◌≡◌, ◌≢◌, ℕ, ◌+◌, ◌-◌, ◌≤◌, inl, inr, List, [], ◌∷◌, ◌++◌, length, map, take, drop, refl, sym, ap, ◌∙◌, subst, arith, take_at, Option, None, Ordering, Less, Equal, Greater, true, false, is_lt, IsPermutation, get_or}
 use Rattle.std.specs.Prelude.{◌↔◌, flat_map}
-use Rattle.std.specs.Ordering.{ordering_then, ordering_reverse, nat_cmp}
+use Rattle.std.specs.Ordering.{ordering_then, nat_cmp}
 use Rattle.std.specs.List.{AllByRecursion}
 use Rattle.std.specs.List.Sorted.{IsSortedBy}
-use Rattle.std.specs.Cmp.{IsTotalOrder, IsStrictWeakOrder, nat_cmp_is}
-use Rattle.std.proofs.lemmas.Bool.{cases_lt}
+use Rattle.std.specs.Cmp.{IsStrictWeakOrder}
 use Rattle.std.proofs.lemmas.Cmp.{on_total, then_total, nat_cmp_total}
 use Rattle.std.proofs.lemmas.List.{map-append, take-append-drop, take_rest, drop-map, drop_all, get_or-map, length-map, take-map, length-take-le}
-use Rattle.std.proofs.lemmas.List.Elements.{All-from_recursion}
 use Rattle.std.proofs.lemmas.List.Sorted.{IsPermutation-map, IsPermutation-refl, IsPermutation-append_left, IsPermutation-append_right, ranks_by}
-use Rattle.cborn_model.specs.Bytes.{AreBytes}
 use Rattle.cborn_model.specs.Orders.{Rising, IsKeyOrder}
 use Rattle.cborn_judge.specs.Reasons.{flaw_rank}
 use Rattle.cborn_judge.specs.declared.faults.InvalidReason.{InvalidReason}
@@ -28,7 +25,7 @@ use Rattle.cborn_judge.specs.devices.Encoding.{Row, row_entry, row_entries, Mark
 use Rattle.cborn_judge.specs.devices.Marks.{key_of, pair_of, row_of, FallsIn, TiesIn, mark_order, AreSorted}
 use Rattle.cborn_judge.specs.shared.Repeats.{IsAgain, IsTied}
 use Rattle.cborn_judge.proofs.SameKeys.Repeating.{LieBefore, again_tied, sorted_in_order, again_earlier, either_again, one_of_moved}
-use Rattle.cborn_judge.proofs.Encoding.PairsRead.{is_filled, begin_of, bytes_between, marked_read, marked_rise, IsSplit, marked_split, all_split}
+use Rattle.cborn_judge.proofs.Encoding.PairsRead.{is_filled, begin_of, marked_read, marked_rise, IsSplit, marked_split, all_split}
 use Rattle.cborn_judge.proofs.Encoding.PairsMet.{ties_all, same_again, none_falls}
 use Rattle.cborn_judge.proofs.Encoding.MapsRows.{keys-filled, rising_new}
 

@@ -125,6 +125,10 @@ module _ (order : List ℕ → List ℕ → Ordering) where
         (s : OpenString) × (y : List ℕ) × (h : List ℕ) × (e.string ≡ Some s) × (s.place ≡ p) × (s.kind ≡ k) × (s.width ≡ w) × (s.len ≡ n)
         × Written e.encodings s f y h x × Finds order f e.flaw e.defect
 
+    -- a container was opened at this place, whose encoding begins with the head of this major type and argument
+    abbrev pub OpensAs : Container → ℕ → Major → Option ℕ → Encoder O → Encoder O → Type 0
+    OpensAs a place major argument e k = (f : Partial) (o : Opening) → BeginsAs a place major argument o → IsHeld e f no_part → IsHeld k (inside f o []) no_part
+
     -- the innermost container was ended
     abbrev pub Closes : Encoder O → Encoder O → Type 0
     Closes e k = (f : Partial) (o : Opening) (ts : List Tree) → IsFree f → Ends o ts → IsHeld e (inside f o ts) no_part → IsHeld k (put f (built o ts)) no_part
