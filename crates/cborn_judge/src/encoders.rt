@@ -351,6 +351,7 @@ impl<O: KeyOrder> Visitor for Encoder<O> {
                 if self.encodings.pairs.count_from(level.pairs) < 2 && !level.flawed => {
                 self.end_rising(size, count)
             }
+            Container::Map { size, count } => self.end_map(size, count),
             Container::Tag { width, number } if number != 2 && number != 3 => {
                 self.end_tag(width, number)
             }

@@ -115,8 +115,8 @@ impl<O: KeyOrder> Encoder<O> {
     }
 
     /// Ends a map.
-    #[inline(always)]
-    fn end_map(&mut self, size: Size, count: Option<u64>) -> Result<(), AllocError>
+    #[inline(never)]
+    pub(crate) fn end_map(&mut self, size: Size, count: Option<u64>) -> Result<(), AllocError>
         requires { self.old.encodings.innermost.container ≡ container.Map size count }
         ensures held { OnOk result (Closes O.order self.old self.new) }
     {

@@ -61,12 +61,6 @@ fn short_number(bytes: &[u8]) -> u32
 
 /// The front that two keys have in common.
 pub(crate) fn common_front<'a>(a: &'a [u8], b: &[u8]) -> &'a [u8] {
-    let mut len: usize = 0;
-    for (x, y) in a.iter().zip(b) {
-        if *x != *y {
-            break;
-        }
-        len = len.saturating_add(1);
-    }
+    let len = a.iter().zip(b).take_while(|(x, y)| *x == *y).count();
     a.get(..len).unwrap_or(a)
 }

@@ -1,8 +1,6 @@
 -- Pairs that are sorted by their keys: what ties is a repeat, and where nothing does the keys rise.
-use Rattle.std.proofs.Common.{◌≡◌, ◌≢◌, ℕ, ◌+◌, ◌-◌, ◌≤◌, inl, inr, List, [], ◌∷◌, ◌++◌, length, map, take, drop, refl, sym, ap, ◌∙◌, subst, arith, take_at, Option, None, Ordering, Less, Equal, Greater, true, false, is_lt, IsPermutation, get_or}
+use Rattle.std.proofs.Common.{◌≡◌, ◌≢◌, ℕ, ◌+◌, ◌-◌, ◌≤◌, inl, inr, List, [], ◌∷◌, ◌++◌, length, map, take, drop, refl, sym, ap, ◌∙◌, subst, arith, take_at, Option, None, Ordering, true, is_lt, IsPermutation, get_or}
 use Rattle.std.specs.Prelude.{◌↔◌, flat_map}
-use Rattle.std.specs.Ordering.{ordering_then, nat_cmp}
-use Rattle.std.specs.List.{AllByRecursion}
 use Rattle.std.specs.List.Sorted.{IsSortedBy}
 use Rattle.std.specs.Cmp.{IsStrictWeakOrder}
 use Rattle.std.proofs.lemmas.Cmp.{on_total, then_total, nat_cmp_total}
@@ -14,33 +12,19 @@ use Rattle.cborn_judge.specs.declared.faults.InvalidReason.{InvalidReason}
 use Rattle.cborn_judge.specs.declared.faults.InvalidReason.TheVariants.{DuplicateKey}
 use Rattle.cborn_model.proofs.Found.{found_alike}
 use Rattle.cborn_model.proofs.SameItems.Rearranging.{All_moved}
-use Rattle.cborn_det.specs.Det.{Entry, joined, keys}
-use Rattle.cborn_det.specs.shared.Distinct.{HasDistinctKeys}
-use Rattle.cborn_det.proofs.Arranging.{total, rising_from_sorted}
+use Rattle.cborn_det.specs.Det.{joined, keys}
+use Rattle.cborn_det.proofs.Arranging.{total}
 use Rattle.cborn_judge.specs.Departures.{FindsDefect}
 use Rattle.cborn_judge.specs.declared.defects.DefectReason.TheVariants.{KeyOrder}
 use Rattle.cborn_judge.specs.declared.flaws.Flaw as flaw
 use Rattle.cborn_judge.specs.shared.Judged.{FindsFlaw}
-use Rattle.cborn_judge.specs.devices.Encoding.{Row, row_entry, row_entries, Mark, AreMarked, AreFilled, AreArranged, filled_keys, IsSameKey, HasSameKeys, RowRepeat}
+use Rattle.cborn_judge.specs.devices.Encoding.{Row, row_entry, row_entries, Mark, AreMarked, AreFilled, AreArranged, filled_keys, HasSameKeys, RowRepeat}
 use Rattle.cborn_judge.specs.devices.Marks.{key_of, pair_of, row_of, FallsIn, TiesIn, mark_order, AreSorted}
 use Rattle.cborn_judge.specs.shared.Repeats.{IsAgain, IsTied}
-use Rattle.cborn_judge.proofs.SameKeys.Repeating.{LieBefore, again_tied, sorted_in_order, again_earlier, either_again, one_of_moved}
-use Rattle.cborn_judge.proofs.Encoding.PairsRead.{is_filled, begin_of, marked_read, marked_rise, IsSplit, marked_split, all_split}
+use Rattle.cborn_judge.proofs.SameKeys.Repeating.{LieBefore, InOrder, again_tied, sorted_in_order, again_earlier, either_again, one_of_moved}
+use Rattle.cborn_judge.proofs.Encoding.PairsRead.{is_filled, filled, begin_of, marked_read, marked_rise, IsSplit, marked_split, all_split}
 use Rattle.cborn_judge.proofs.Encoding.PairsMet.{ties_all, same_again, none_falls}
 use Rattle.cborn_judge.proofs.Encoding.MapsRows.{keys-filled, rising_new}
-
--- ---- no repeats
-
-abbrev HasNoRepeat : List Row → Type 0
-HasNoRepeat rows = (p : ℕ) → HasSameKeys rows p → ⊥
-
-apart_from : (k : List ℕ) (rows : List Row) → ((p : ℕ) → IsSameKey k rows p → ⊥) → AllByRecursion (λ (g : Entry). k ≡ g.0 → ⊥) (row_entries rows)
-apart_from k [] h = tt
-apart_from k (r ∷ rows) h = ((λ e. h r.0 (inl (refl, sym e))), apart_from k rows (λ p i. h p (inr i)))
-
-distinct : (rows : List Row) → AreFilled rows → HasNoRepeat rows → HasDistinctKeys (row_entries rows)
-distinct [] f h = tt
-distinct (r ∷ rows) f h = (apart_from r.1 rows (λ p i. h p (inl (f.0.0, i))), distinct rows f.1 (λ p i. h p (inr i)))
 
 -- ---- after the sort
 
@@ -50,6 +34,10 @@ module _ (order : List ℕ → List ℕ → Ordering) (laws : IsKeyOrder order) 
     pub stand : b ≡ y ++ joined (row_entries rows)
     pub marked : AreMarked (length y) rows ms
     pub moved : IsPermutation ms ys
+
+  -- the repeats are found, or the keys rise
+  abbrev IsApart : Option flaw.Flaw → Type 0
+  IsApart o = FindsFlaw (RowRepeat rows) o × (o ≡ None → AreFilled rows → AreArranged order rows (flat_map (pair_of b) ys))
 
   module _ (r : AreRearranged) where
     read : map (row_of b) ms ≡ rows
@@ -64,17 +52,23 @@ module _ (order : List ℕ → List ℕ → Ordering) (laws : IsKeyOrder order) 
     moved_rows : IsPermutation rows now
     moved_rows = subst (λ z. IsPermutation z now) read (IsPermutation-map (row_of b) ms ys r.moved)
 
+    filled_now : AreFilled rows → AreFilled now
+    filled_now = All_moved (λ (v : Row). (v.1 ≢ []) × (v.2 ≢ [])) rows now moved_rows
+
     in_place : Rising order (keys (row_entries now)) → AreArranged order rows (flat_map (pair_of b) ys)
     in_place h = (row_entries now, IsPermutation-map row_entry rows now moved_rows, h, all_split b ys (All_moved (IsSplit b) ms ys r.moved (marked_split b rows ms (length y) r.marked)))
 
     -- ---- where they are sorted
 
     module _ (sorted : AreSorted order b ys) where
-      pub repeats_found : (o : Option flaw.Flaw) → FindsFlaw (TiesIn b ys) o → FindsFlaw (RowRepeat rows) o
+      in_order : InOrder order laws is_filled (key_of b) begin_of ys
+      in_order = sorted_in_order order laws is_filled (key_of b) begin_of ms ys rise r.moved sorted
+
+      repeats_found : (o : Option flaw.Flaw) → FindsFlaw (TiesIn b ys) o → FindsFlaw (RowRepeat rows) o
       repeats_found o h = found_alike flaw_rank (λ f. f.place) (λ f. f.reason) (TiesIn b ys) (RowRepeat rows) o (λ p s. (to p s, from p s)) h
         where
           both : (z : Mark) → is_filled (key_of b z) ≡ true → IsAgain (key_of b) ms z ↔ IsTied (key_of b) ys z
-          both z f = again_tied order laws is_filled (key_of b) begin_of ms ys z f rise r.moved (sorted_in_order order laws is_filled (key_of b) begin_of ms ys rise r.moved sorted)
+          both z f = again_tied order laws is_filled (key_of b) begin_of ms ys z f rise r.moved in_order
 
           to : (p : ℕ) (s : InvalidReason) → TiesIn b ys p s → RowRepeat rows p s
           to p s (e, t) = let u = (ties_all b ys p).0 t in (e, subst (λ z. HasSameKeys z p) read ((same_again b ms p).1 (u.0, u.1, u.2, (both u.0 u.1).1 u.3)))
@@ -82,26 +76,16 @@ module _ (order : List ℕ → List ℕ → Ordering) (laws : IsKeyOrder order) 
           from : (p : ℕ) (s : InvalidReason) → RowRepeat rows p s → TiesIn b ys p s
           from p s (e, t) = let u = (same_again b ms p).0 (subst (λ z. HasSameKeys z p) (sym read) t) in (e, (ties_all b ys p).1 (u.0, u.1, u.2, (both u.0 u.1).0 u.3))
 
-      not_then : (o q : Ordering) → is_lt (ordering_then o q) ≡ false → is_lt o ≡ false
-      not_then Less q h = h
-      not_then Equal q h = refl
-      not_then Greater q h = refl
+      rise_untied : (zs : List Mark) → InOrder order laws is_filled (key_of b) begin_of zs → ((z : Mark) → is_filled (key_of b z) ≡ true → IsTied (key_of b) zs z → ⊥) → AreFilled (map (row_of b) zs) → Rising order (keys (row_entries (map (row_of b) zs)))
+      rise_untied [] o n f = tt
+      rise_untied (x ∷ []) o n f = tt
+      rise_untied (x ∷ z ∷ zs) o n f = (elim o.0 [ inl l ↦ l | inr l ↦ absurd (n z (filled (key_of b z) f.1.0.0) (inl (refl, l.0))) ], rise_untied (z ∷ zs) o.1 (λ v g t. n v g (inr t)) f.1)
 
-      pub arranged : FindsFlaw (TiesIn b ys) None → AreFilled rows → AreArranged order rows (flat_map (pair_of b) ys)
-      arranged h f = in_place (subst (λ z. Rising order (keys z)) (sym (entries_at ys)) (rising_from_sorted order laws entry_at ms ys apart (IsPermutation-map entry_at ms ys r.moved) by_key))
-        where
-          entry_at : Mark → Entry
-          entry_at m = row_entry (row_of b m)
-
-          entries_at : (l : List Mark) → row_entries (map (row_of b) l) ≡ map entry_at l
-          entries_at [] = refl
-          entries_at (m ∷ l) = ap (λ z. entry_at m ∷ z) (entries_at l)
-
-          apart : HasDistinctKeys (map entry_at ms)
-          apart = subst HasDistinctKeys (ap row_entries (sym read) ∙ entries_at ms) (distinct rows f (λ p t. repeats_found None h p DuplicateKey (refl, t)))
-
-          by_key : IsSortedBy (λ u v. is_lt (order (entry_at u).0 (entry_at v).0)) ys
-          by_key k d l m = not_then (order (key_of b (get_or ys (k + 1) d)) (key_of b (get_or ys k d))) (nat_cmp (get_or ys (k + 1) d).1 (get_or ys k d).1) (sorted k d l m)
+      pub sorted_apart : (o : Option flaw.Flaw) → FindsFlaw (TiesIn b ys) o → IsApart o
+      sorted_apart o h = (
+        repeats_found o h,
+        λ none f. in_place (rise_untied ys in_order (λ z g t. subst (FindsFlaw (TiesIn b ys)) none h z.0 DuplicateKey (refl, (ties_all b ys z.0).1 (z, g, refl, t))) (filled_now f)),
+      )
 
     -- ---- where no key is found that isn't above the one before it
 
@@ -109,7 +93,7 @@ module _ (order : List ℕ → List ℕ → Ordering) (laws : IsKeyOrder order) 
       rising : Rising order (filled_keys now)
       rising = none_falls order b ys now refl (λ p m. found p KeyOrder (refl, m))
 
-      pub none_repeated : FindsFlaw (RowRepeat rows) None
+      none_repeated : FindsFlaw (RowRepeat rows) None
       none_repeated p s (e, t) =
           let (z, f, q, again) = (same_again b ms p).0 (subst (λ v. HasSameKeys v p) (sym read) t) in
           let (w, i, j, same, below) = again_earlier order laws is_filled (key_of b) begin_of ms z f rise again in
@@ -120,8 +104,8 @@ module _ (order : List ℕ → List ℕ → Ordering) (laws : IsKeyOrder order) 
             | inr a ↦ new w (ap is_filled same ∙ f) a
           ]
 
-      pub risen : AreFilled rows → AreArranged order rows (flat_map (pair_of b) ys)
-      risen f = in_place (subst (Rising order) (keys-filled now (All_moved (λ (v : Row). (v.1 ≢ []) × (v.2 ≢ [])) rows now moved_rows f)) rising)
+      pub risen : IsApart None
+      risen = (none_repeated, λ none f. in_place (subst (Rising order) (keys-filled now (filled_now f)) rising))
 
 -- ---- no marks
 

@@ -27,17 +27,16 @@ all_more P (y ∷ xs) x h p = (h.0, all_more P xs x h.1 p)
 
 module _ {S : Type 0} (seen : S → Mark) (hinted : S → ℕ) (b : List ℕ) where
   module _ (order : List ℕ → List ℕ → Ordering) (hint : List ℕ → ℕ) where
-    -- what a loop has found that remembers the last of the first i keys that has an encoding, its hint, and the first fall
-    pub record FallsMet (ss : List S) (i : ℕ) (before : List ℕ) (last : ℕ) (first : Option Defect) : Type 0 where
-      pub last_hint : last ≡ hint before
-      pub bytes : AreBytes before
-      pub met : IsMet (IsFall order) last_filled defect_rank (λ d. d.place) (λ d. d.reason) KeyOrder (all_keyed b (map seen (take i ss))) before first
+    abbrev FallsMet : List S → List ℕ → Option Defect → Type 0
+    FallsMet ss = IsMet (IsFall order) last_filled defect_rank (λ d. d.place) (λ d. d.reason) KeyOrder (all_keyed b (map seen ss))
 
-    -- and one that writes hints to them
+    -- what a loop has done that writes hints, and remembers the last of the first i keys that has an encoding, its hint, and the first fall
     pub record FallsPassed (old now : List S) (i : ℕ) (before : List ℕ) (last : ℕ) (first : Option Defect) : Type 0 where
       pub kept : map seen now ≡ map seen old
       pub hints : AreHintedBy hinted seen hint b (take i now)
-      pub falls : FallsMet now i before last first
+      pub last_hint : last ≡ hint before
+      pub bytes : AreBytes before
+      pub met : FallsMet (take i now) before first
 
     -- by its hint the next key is above the last, or both are compared
     abbrev pub Looks : List ℕ → List ℕ → ℕ → ℕ → Option Defect → Option Defect → Type 0
@@ -62,27 +61,6 @@ module _ {S : Type 0} (seen : S → Mark) (hinted : S → ℕ) (b : List ℕ) wh
     filled_bytes c [] x y = x
     filled_bytes c (d ∷ ds) x y = y
 
-    falls_more : Tells order hint → (ss : List S) (i : ℕ) (s : S) (m : Mark) (before key next : List ℕ) (last after : ℕ) (first found : Option Defect)
-        → i < length ss → s ≡ get_or ss i s → m ≡ seen s → key ≡ key_of b m → AreBytes key → FallsMet ss i before last first → Looks before key last m.0 first found → Remembers before key last next after → FallsMet ss (i + 1) next after found
-    falls_more tells ss i s m before key next last after first found l e q k bs p look r = record {
-      last_hint = rest.1;
-      bytes = subst AreBytes (sym rest.0) (filled_bytes before key p.bytes bs);
-      met = subst (λ z. IsMet (IsFall order) last_filled defect_rank (λ d. d.place) (λ d. d.reason) KeyOrder (all_keyed b (map seen (take (i + 1) ss))) z found) (sym rest.0) met;
-    }
-      where
-        rest : (next ≡ last_filled before key) × (after ≡ hint next)
-        rest = remembers before key last next after p.last_hint r
-
-        step : (o : Option Defect) → FindsDefect (FallAt order before key m.0) o → IsEarliest (λ d. (d.place, defect_rank d.reason)) first o found
-            → IsMet (IsFall order) last_filled defect_rank (λ d. d.place) (λ d. d.reason) KeyOrder (all_keyed b (map seen (take (i + 1) ss))) (last_filled before key) found
-        step o f g = met-take_more (IsFall order) last_filled defect_rank (λ d. d.place) (λ d. d.reason) KeyOrder seen b ss i s m before key first o found l e q k p.met f g
-
-        met : IsMet (IsFall order) last_filled defect_rank (λ d. d.place) (λ d. d.reason) KeyOrder (all_keyed b (map seen (take (i + 1) ss))) (last_filled before key) found
-        met = elim look [
-          | inl skip ↦ step None (no_fall tells before key m.0 p.bytes bs (omega (arith, skip.0, p.last_hint))) (subst (IsEarliest (λ d. (d.place, defect_rank d.reason)) first None) (sym skip.1) (none_first (λ d. (d.place, defect_rank d.reason)) first))
-          | inr o ↦ step o.0 o.1 o.2
-        ]
-
     pub falls_passed : Tells order hint → (old now : List S) (i : ℕ) (d t : S) (m : Mark) (before key next : List ℕ) (last after : ℕ) (first found : Option Defect)
         → i < length now → m ≡ seen (get_or now i d) → key ≡ key_of b m → AreBytes key → seen t ≡ seen (get_or now i d) → hinted t ≡ hint key
         → FallsPassed old now i before last first → Looks before key last m.0 first found → Remembers before key last next after
@@ -90,9 +68,21 @@ module _ {S : Type 0} (seen : S → Mark) (hinted : S → ℕ) (b : List ℕ) wh
     falls_passed tells old now i d t m before key next last after first found l q k bs u h p look r = record {
       kept = map-set_same seen now i t d u ∙ p.kept;
       hints = subst (AreHintedBy hinted seen hint b) (sym (take_more_set now i t l)) (all_more (λ x. hinted x ≡ hint (key_of b (seen x))) (take i now) t p.hints (h ∙ ap hint (k ∙ ap (key_of b) (q ∙ sym u))));
-      falls = falls_more tells (set now i t) i t m before key next last after first found (omega (arith, l, length-set now i t)) (sym (get_or-set_same now i t t l)) (q ∙ sym u) k bs
-          (record { last_hint = p.falls.last_hint; bytes = p.falls.bytes; met = subst (λ z. IsMet (IsFall order) last_filled defect_rank (λ d. d.place) (λ d. d.reason) KeyOrder (all_keyed b (map seen z)) before first) (sym (take-set now i t)) p.falls.met }) look r;
+      last_hint = rest.1;
+      bytes = subst AreBytes (sym rest.0) (filled_bytes before key p.bytes bs);
+      met = subst (λ z. FallsMet (take (i + 1) (set now i t)) z found) (sym rest.0) (elim look [
+        | inl skip ↦ step None (no_fall tells before key m.0 p.bytes bs (omega (arith, skip.0, p.last_hint))) (subst (IsEarliest (λ d. (d.place, defect_rank d.reason)) first None) (sym skip.1) (none_first (λ d. (d.place, defect_rank d.reason)) first))
+        | inr o ↦ step o.0 o.1 o.2
+      ]);
     }
+      where
+        rest : (next ≡ last_filled before key) × (after ≡ hint next)
+        rest = remembers before key last next after p.last_hint r
+
+        step : (o : Option Defect) → FindsDefect (FallAt order before key m.0) o → IsEarliest (λ d. (d.place, defect_rank d.reason)) first o found → FallsMet (take (i + 1) (set now i t)) (last_filled before key) found
+        step o f g =
+            met-take_more (IsFall order) last_filled defect_rank (λ d. d.place) (λ d. d.reason) KeyOrder seen b (set now i t) i t m before key first o found
+            (omega (arith, l, length-set now i t)) (sym (get_or-set_same now i t t l)) (q ∙ sym u) k (subst (λ z. FallsMet z before first) (sym (take-set now i t)) p.met) f g
 
     -- ---- hints that rise
 
