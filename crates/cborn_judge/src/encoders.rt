@@ -1,9 +1,9 @@
 //! The visitor [`Encoder`], which encodes items, and finds their first flaw and their first defect.
 
-ghost use Rattle.std.specs.Prelude.{◌≡◌, ◌++◌, ◌∷◌, ◌↔◌, ℕ, List, [], length, take, drop, Option, None, Some, true, false, IfOk, IfErr, OnOk, IsTrue};
+ghost use Rattle.std.specs.Prelude.{◌≡◌, ◌++◌, ◌↔◌, ℕ, List, [], length, take, drop, Option, None, Some, true, false, IfOk, IfErr, OnOk, IsTrue};
 ghost use Rattle.cborn_model.specs.Tree as tree;
 ghost use Rattle.cborn_model.specs.Tree.{Tree, trees};
-ghost use Rattle.cborn_model.specs.Partial.{Partial, Opening, top, inside, put, no_part, IsFree, Ends, built, string_tree};
+ghost use Rattle.cborn_model.specs.Partial.{Partial, top, put, no_part, IsFree, Ends, string_tree};
 ghost use Rattle.cborn_model.specs.shared.Runs.{puts, InArray, AtKey};
 ghost use Rattle.std.specs.declared.cmp.Ordering.{Ordering};
 ghost use Rattle.cborn_judge.specs.Reasons.{flaw_rank};
@@ -11,11 +11,9 @@ ghost use Rattle.cborn_model.specs.First.{IsFirst};
 ghost use Rattle.cborn_judge.specs.Departures.{FindsDefect};
 ghost use Rattle.cborn_judge.specs.shared.Checked.{DefectInAll};
 ghost use Rattle.cborn_judge.specs.shared.Judged.{FlawIn};
-ghost use Rattle.cborn_model.specs.Heads.{code, IsLeastHead};
-ghost use Rattle.cborn_det.specs.Appending.{Appends};
 ghost use Rattle.cborn_judge.specs.devices.Marks.{marks_of};
-ghost use Rattle.cborn_judge.specs.devices.Encoding.{opened, is_chunks, IsMarked, Coded, IsEncodedAs, AreEncodedAs, IsOpening, IsFront, Stands, Finds};
-ghost use Rattle.cborn_judge.specs.devices.Encoders.{kept, IsHeld, StandsIn, StandsAs, Written, IsChunk, BeginsAs, IsContent, IsEndedString, IsStringFront, kind_major};
+ghost use Rattle.cborn_judge.specs.devices.Encoding.{is_chunks, IsMarked, Coded, IsEncodedAs, AreEncodedAs, Finds};
+ghost use Rattle.cborn_judge.specs.devices.Encoders.{kept, IsHeld, StandsIn, StandsAs, Written, IsChunk, IsContent, IsEndedString, IsStringFront, kind_major};
 
 use crate::defects::Defect;
 use crate::faults::InvalidReason;
@@ -158,18 +156,6 @@ impl Encodings {
         self.innermost.add(flawed);
     }
 
-    /// Opens a container at the offset `place`, whose encoding will begin where the buffer ends.
-    #[inline(always)]
-    fn push_level(&mut self, container: Container, place: u64) -> Result<(), AllocError>
-        ensures pushed { OnOk result ((self.new.outer.items ≡ self.old.outer.items ++ self.old.innermost ∷ []) × (self.new.innermost ≡ opened container place (length self.old.out.items) (length (marks_of self.old.pairs)))) }
-        ensures kept { (self.new.out ≡ self.old.out) × (self.new.pairs ≡ self.old.pairs) }
-    {
-        let level = Level::new(container, place, self.out.len(), self.pairs.len());
-        self.outer.push(self.innermost)?;
-        self.innermost = level;
-        Ok(())
-    }
-
     /// Writes what stands before the content of a string: its head, unless it is one of a string of
     /// indefinite length.
     #[inline(always)]
@@ -310,58 +296,6 @@ impl<O: KeyOrder> Encoder<O> {
         );
         self.encodings.put_string(string, is_good)
     }
-
-    /// Opens a container at the offset `place`, whose encoding begins with the head of this major type
-    /// and this argument; where the argument isn't known, with a byte in its place. As a rule there is
-    /// room for its level.
-    #[inline(always)]
-    fn open(
-        &mut self,
-        container: Container,
-        place: u64,
-        major: Major,
-        argument: Option<u64>,
-    ) -> Result<(), AllocError>
-        ensures held { OnOk result ((f : Partial) (o : Opening) → BeginsAs container place major argument o → IsHeld O.order self.old f no_part → IsHeld O.order self.new (inside f o []) no_part) }
-    {
-        if self.encodings.outer.len() != self.encodings.outer.capacity() {
-            return self.add(container, place, major, argument);
-        }
-        // a copy, so that the short way needs the container nowhere in memory
-        let opened = container;
-        self.open_slowly(opened, place, major, argument)
-    }
-
-    /// What [`Encoder::open`] does where memory has to grow.
-    #[inline(never)]
-    fn open_slowly(
-        &mut self,
-        container: Container,
-        place: u64,
-        major: Major,
-        argument: Option<u64>,
-    ) -> Result<(), AllocError>
-        ensures held { OnOk result ((f : Partial) (o : Opening) → BeginsAs container place major argument o → IsHeld O.order self.old f no_part → IsHeld O.order self.new (inside f o []) no_part) }
-    {
-        self.add(container, place, major, argument)
-    }
-
-    /// What [`Encoder::open`] does.
-    #[inline(always)]
-    fn add(
-        &mut self,
-        container: Container,
-        place: u64,
-        major: Major,
-        argument: Option<u64>,
-    ) -> Result<(), AllocError>
-        ensures held { OnOk result ((f : Partial) (o : Opening) → BeginsAs container place major argument o → IsHeld O.order self.old f no_part → IsHeld O.order self.new (inside f o []) no_part) }
-    {
-        self.encodings.push_level(container, place)?;
-        put_head(major, argument.unwrap_or(0), &mut self.encodings.out)?;
-        self.encodings.innermost.content = self.encodings.out.len();
-        Ok(())
-    }
 }
 
 impl<O: KeyOrder> Visitor for Encoder<O> {
@@ -415,6 +349,7 @@ impl<O: KeyOrder> Visitor for Encoder<O> {
                 if self.encodings.pairs.count_from(level.pairs) < 2 && !level.flawed => {
                 self.end_rising(size, count)
             }
+            Container::Map { size, count } => self.end_map(size, count),
             Container::Tag { width, number } if number != 2 && number != 3 => {
                 self.end_tag(width, number)
             }

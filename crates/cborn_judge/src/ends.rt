@@ -12,12 +12,11 @@ ghost use Rattle.cborn_model.specs.Valid.{IsProper};
 ghost use Rattle.cborn_model.specs.Value as value;
 ghost use Rattle.cborn_model.specs.Value.{Value};
 ghost use Rattle.cborn_det.specs.Appending.{Replaces};
-ghost use Rattle.cborn_det.specs.Det.{Det, joined};
-ghost use Rattle.cborn_judge.specs.Departures.{FindsDefect};
-ghost use Rattle.cborn_judge.specs.shared.Judged.{FindsFlaw, IsEarliestFlaw};
-ghost use Rattle.cborn_judge.specs.devices.Encoding.{Row, row_entries, Mark, AreMarked, AreFilled, AreArranged, RowRepeat, RowDescent, IsSound, AreEncodedAs, Coded, Stands, Finds};
-ghost use Rattle.cborn_judge.specs.devices.Marks.{marks_of};
-ghost use Rattle.cborn_judge.specs.devices.Encoders.{EndsWell, EndsBignum, Closes, HasEnded, KeysRise, IsBignumFound, StandsIn, IsHeld};
+ghost use Rattle.cborn_det.specs.Det.{Det};
+ghost use Rattle.cborn_judge.specs.shared.Judged.{IsEarliestFlaw};
+ghost use Rattle.cborn_judge.specs.devices.Encoding.{Mark, FindsDescent, IsSound, AreEncodedAs, Finds};
+ghost use Rattle.cborn_judge.specs.devices.Marks.{marks_of, AreAllHinted};
+ghost use Rattle.cborn_judge.specs.devices.Encoders.{EndsWell, EndsBignum, Closes, HasEnded, IsBignumFound, StandsIn, IsHeld};
 ghost use Rattle.cborn_judge.specs.declared.levels.Container.TheVariants as container;
 
 use crate::defects::{Defect, DefectReason};
@@ -59,44 +58,31 @@ impl Encodings {
         }
     }
 
-    /// Ends a map.
+    /// Ends a map. `descent` is the first defect of the order of its keys.
     #[inline(always)]
     fn end_map<O: KeyOrder>(
         &mut self,
         level: Level,
         size: Size,
         count: Option<u64>,
+        descent: Option<Defect>,
     ) -> Result<Findings, AllocError>
+        requires hinted { AreAllHinted O.order self.old.out.items level.pairs self.old.pairs.marks }
+        requires descent { FindsDescent O.order level.content (drop level.pairs (marks_of self.old.pairs)) self.old.out.items descent }
         ensures ended { IfOk result (λ found. EndsWell O.order level (a_map level.place size count) (drop level.pairs (marks_of self.old.pairs)) self.old.out.items self.new.out.items found) }
         ensures marks { IfOk result (λ found. take level.pairs (marks_of self.new.pairs) ≡ take level.pairs (marks_of self.old.pairs)) }
         ensures kept { (self.new.outer ≡ self.old.outer) × (self.new.innermost ≡ self.old.innermost) }
     {
         let len = self.pairs.count_from(level.pairs);
         let own = ended_defect(level.place, size, count, len);
-        let Findings { flaw, defect } = self.arrange::<O>(level)?;
+        let flaw = self
+            .pairs
+            .arrange::<O>(level.pairs, level.content, &mut self.spare, &mut self.out)?;
         let major = Major::Map;
         let head = Head { major, count, len };
         let is_flawed = level.flawed || flaw.is_some();
         end_head(head, level.start, is_flawed, &mut self.out)?;
-        let defect = earliest(own, defect);
-        Ok(Findings { flaw, defect })
-    }
-
-    /// Arranges the pairs of a map so that their keys rise. Finds the first key that is the same as
-    /// an earlier one, and the first that isn't above the one before it. If keys are the same, or a
-    /// node means nothing, the pairs needn't be arranged.
-    fn arrange<O: KeyOrder>(&mut self, level: Level) -> Result<Findings, AllocError>
-        ensures repeat { IfOk result (λ found. (y : List ℕ) (rows : List Row) → level.content ≡ length y → self.old.out.items ≡ y ++ joined (row_entries rows) → AreMarked level.content rows (drop level.pairs (marks_of self.old.pairs)) → FindsFlaw (RowRepeat rows) found.flaw) }
-        ensures descent { IfOk result (λ found. (y : List ℕ) (rows : List Row) → level.content ≡ length y → self.old.out.items ≡ y ++ joined (row_entries rows) → AreMarked level.content rows (drop level.pairs (marks_of self.old.pairs)) → AreFilled rows → FindsDefect (RowDescent O.order rows) found.defect) }
-        ensures arranged { IfOk result (λ found. found.flaw ≡ None → (y : List ℕ) (rows : List Row) → level.content ≡ length y → self.old.out.items ≡ y ++ joined (row_entries rows) → AreMarked level.content rows (drop level.pairs (marks_of self.old.pairs)) → AreFilled rows → (x : List ℕ) × AreArranged O.order rows x × (self.new.out.items ≡ y ++ x)) }
-        ensures front { IfOk result (λ found. (y z : List ℕ) → level.content ≡ length y → self.old.out.items ≡ y ++ z → (x : List ℕ) × (self.new.out.items ≡ y ++ x)) }
-        ensures before { IfOk result (λ found. take level.pairs (marks_of self.new.pairs) ≡ take level.pairs (marks_of self.old.pairs)) }
-        ensures kept { (self.new.outer ≡ self.old.outer) × (self.new.innermost ≡ self.old.innermost) }
-    {
-        let defect = self.pairs.descent::<O>(level.pairs, &self.out);
-        let flaw = self
-            .pairs
-            .arrange::<O>(level.pairs, level.content, &mut self.spare, &mut self.out)?;
+        let defect = earliest(own, descent);
         Ok(Findings { flaw, defect })
     }
 }
@@ -128,16 +114,20 @@ impl<O: KeyOrder> Encoder<O> {
     }
 
     /// Ends a map.
-    #[inline(always)]
-    fn end_map(&mut self, size: Size, count: Option<u64>) -> Result<(), AllocError>
+    #[inline(never)]
+    pub(crate) fn end_map(&mut self, size: Size, count: Option<u64>) -> Result<(), AllocError>
         requires { self.old.encodings.innermost.container ≡ container.Map size count }
         ensures held { OnOk result (Closes O.order self.old self.new) }
     {
         let Level { flawed, pairs, .. } = self.encodings.innermost;
-        if !flawed && self.encodings.pairs.rise::<O>(pairs, &self.encodings.out) {
+        let descent = self
+            .encodings
+            .pairs
+            .descent::<O>(pairs, &self.encodings.out);
+        if !flawed && descent.is_none() {
             return self.end_rising(size, count);
         }
-        self.end_unsorted(size, count)
+        self.end_unsorted(size, count, descent)
     }
 
     /// Ends a map that means something, and whose keys rise.
@@ -145,7 +135,7 @@ impl<O: KeyOrder> Encoder<O> {
     pub(crate) fn end_rising(&mut self, size: Size, count: Option<u64>) -> Result<(), AllocError>
         requires map { self.old.encodings.innermost.container ≡ container.Map size count }
         requires sound { self.old.encodings.innermost.flawed ≡ false }
-        requires rising { KeysRise O.order self.old.encodings.innermost (drop self.old.encodings.innermost.pairs (marks_of self.old.encodings.pairs)) self.old.encodings.out.items }
+        requires rising { FindsDescent O.order self.old.encodings.innermost.content (drop self.old.encodings.innermost.pairs (marks_of self.old.encodings.pairs)) self.old.encodings.out.items None }
         ensures held { OnOk result (Closes O.order self.old self.new) }
     {
         let level = self.encodings.innermost;
@@ -155,14 +145,21 @@ impl<O: KeyOrder> Encoder<O> {
         self.leave(found)
     }
 
-    /// Ends a map that is flawed, or whose keys don't rise.
+    /// Ends a map that is flawed, or whose keys don't rise. `descent` is the first defect of their order.
     #[inline(never)]
-    fn end_unsorted(&mut self, size: Size, count: Option<u64>) -> Result<(), AllocError>
-        requires { self.old.encodings.innermost.container ≡ container.Map size count }
+    fn end_unsorted(
+        &mut self,
+        size: Size,
+        count: Option<u64>,
+        descent: Option<Defect>,
+    ) -> Result<(), AllocError>
+        requires map { self.old.encodings.innermost.container ≡ container.Map size count }
+        requires hinted { AreAllHinted O.order self.old.encodings.out.items self.old.encodings.innermost.pairs self.old.encodings.pairs.marks }
+        requires descent { FindsDescent O.order self.old.encodings.innermost.content (drop self.old.encodings.innermost.pairs (marks_of self.old.encodings.pairs)) self.old.encodings.out.items descent }
         ensures held { OnOk result (Closes O.order self.old self.new) }
     {
         let level = self.encodings.innermost;
-        let found = self.encodings.end_map::<O>(level, size, count)?;
+        let found = self.encodings.end_map::<O>(level, size, count, descent)?;
         self.encodings.pairs.truncate(level.pairs);
         self.leave(found)
     }
@@ -272,7 +269,7 @@ fn end_rising(
     out: &mut Vec<u8>,
 ) -> Result<Findings, AllocError>
     requires { level.flawed ≡ false }
-    ensures { IfOk result (λ found. (order : List ℕ → List ℕ → Ordering) (own : List Mark) → IsKeyOrder order → len ≡ length own → KeysRise order level own out.old.items → EndsWell order level (a_map level.place size count) own out.old.items out.new.items found) }
+    ensures { IfOk result (λ found. (order : List ℕ → List ℕ → Ordering) (own : List Mark) → IsKeyOrder order → len ≡ length own → FindsDescent order level.content own out.old.items None → EndsWell order level (a_map level.place size count) own out.old.items out.new.items found) }
 {
     let major = Major::Map;
     let head = Head { major, count, len };

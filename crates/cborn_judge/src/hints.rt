@@ -58,3 +58,9 @@ fn short_number(bytes: &[u8]) -> u32
         [] => 0,
     }
 }
+
+/// The front that two keys have in common.
+pub(crate) fn common_front<'a>(a: &'a [u8], b: &[u8]) -> &'a [u8] {
+    let len = a.iter().zip(b).take_while(|(x, y)| *x == *y).count();
+    a.get(..len).unwrap_or(a)
+}

@@ -2,17 +2,16 @@
 //! arranged.
 
 ghost use Rattle.std.specs.Prelude.{◌≡◌, ◌<◌, ◌^◌, ◌++◌, ℕ, List, length, map, take, drop, flat_map, true, false, None, IfOk, IfSome, OnOk, IsPermutation};
-ghost use Rattle.cborn_model.specs.Orders.{Rising};
 ghost use Rattle.cborn_det.specs.Det.{joined};
 ghost use Rattle.cborn_judge.specs.Departures.{FindsDefect};
 ghost use Rattle.cborn_judge.specs.shared.Judged.{FindsFlaw};
-ghost use Rattle.cborn_judge.specs.devices.Encoding.{Row, row_entries, Mark as Marked, AreMarked, AreFilled, AreArranged, filled_keys, RowRepeat, RowDescent};
-ghost use Rattle.cborn_judge.specs.devices.Marks.{mark_of, narrow_of, mark_hint, narrow_hint, between, key_of, pair_of, AreHintedBy, AreHinted, mark_order, hint_order, FallAt, TieAt, FallsIn, TiesIn, AreSorted};
+ghost use Rattle.cborn_judge.specs.devices.Encoding.{Row, row_entries, Mark as Marked, AreMarked, AreFilled, AreArranged, RowRepeat, FindsDescent};
+ghost use Rattle.cborn_judge.specs.devices.Marks.{mark_of, narrow_of, mark_hint, narrow_hint, between, key_of, pair_of, AreHigher, AreHinted, mark_order, FallAt, TieAt, FallsIn, TiesIn, AreSorted};
 
 use crate::defects::Defect;
 use crate::faults::InvalidReason;
 use crate::flaws::Flaw;
-use crate::hints::hint;
+use crate::hints::{common_front, hint};
 use crate::spellings::order_defect;
 use cborn_model::{KeyOrder, earliest};
 use std::alloc::AllocError;
@@ -29,7 +28,7 @@ pub(crate) struct Mark {
     pub(crate) middle: usize,
     /// Where the value ends.
     pub(crate) end: usize,
-    /// The hint for the key; 0 until [`descent`] keeps it here.
+    /// The hint for the key; 0 until [`descent`] keeps it here. It is only for the sort.
     pub(crate) hint: u64,
 }
 
@@ -68,14 +67,14 @@ pub(crate) trait Spot: Copy {
     fn mark(self) -> Mark
         ensures { mark_of result ≡ seen self };
 
-    /// The hint for the key that it keeps.
+    /// The hint that it keeps, as contracts see it.
     ghost hinted: { Self → ℕ };
 
-    /// The hint for the key.
+    /// The hint that it keeps.
     fn hint(self) -> u64
         ensures { result ≡ hinted self };
 
-    /// Keeps the hint for the key.
+    /// Keeps a hint.
     fn set_hint(&mut self, hint: u64)
         ensures set { hinted self.new ≡ hint }
         ensures kept { seen self.new ≡ seen self.old };
@@ -162,13 +161,14 @@ impl NarrowMark {
 }
 
 /// The first defect of the order of the pairs that are marked from the index `from` on, and lie in
-/// `out`. A key without an encoding is passed over. Each of these marks gets the hint for its key.
+/// `out`; if there is none, their keys rise. A key without an encoding is passed over. Each of these
+/// marks gets the hint for its key.
 pub(crate) fn descent<O: KeyOrder, S: Spot>(
     spots: &mut Vec<S>,
     from: usize,
     out: &[u8],
 ) -> Option<Defect>
-    ensures found { (y : List ℕ) (rows : List Row) → out.now ≡ y ++ joined (row_entries rows) → AreMarked (length y) rows (drop from (map S.seen spots.old.items)) → AreFilled rows → FindsDefect (RowDescent O.order rows) result }
+    ensures found { (start : ℕ) → FindsDescent O.order start (drop from (map S.seen spots.old.items)) out.now result }
     ensures hinted { AreHinted S.hinted S.seen O.order out.now (drop from spots.new.items) }
     ensures kept { map S.seen spots.new.items ≡ map S.seen spots.old.items }
 {
@@ -178,7 +178,7 @@ pub(crate) fn descent<O: KeyOrder, S: Spot>(
     first_fall::<O, S>(&mut spots[from..], out)
 }
 
-/// Arranges the pairs that are marked with hints from the index `from` on, and lie in `out` from
+/// Arranges the pairs that are marked from the index `from` on, and lie in `out` from
 /// the offset `start` on, so that their keys rise. Gives the first key that is the same as an
 /// earlier one; then, and where a key has no encoding, nothing is promised of their order. What the
 /// marks say of them means nothing after it.
@@ -221,14 +221,84 @@ fn arrange_all<O: KeyOrder, S: Spot>(
 }
 
 /// Sorts marks by their keys, and gives the first key that is the same as an earlier one. If none
-/// is, and each key has an encoding, the keys rise then.
+/// is, and each key has an encoding, the keys rise then. They are sorted by the hints that the marks
+/// keep; keys with equal hints, by other hints. As a rule that is all, and else by the keys alone.
 fn sort_apart<O: KeyOrder, S: Spot>(spots: &mut [S], out: &[u8]) -> Option<Flaw>
     requires { AreHinted S.hinted S.seen O.order out.now spots.old }
-    ensures repeat { (y : List ℕ) (rows : List Row) → out.now ≡ y ++ joined (row_entries rows) → AreMarked (length y) rows (map S.seen spots.old) → FindsFlaw (RowRepeat rows) result }
-    ensures arranged { result ≡ None → (y : List ℕ) (rows : List Row) → out.now ≡ y ++ joined (row_entries rows) → AreMarked (length y) rows (map S.seen spots.old) → AreFilled rows → AreArranged O.order rows (flat_map (pair_of out.now) (map S.seen spots.new)) }
+    ensures { (y : List ℕ) (rows : List Row) → out.now ≡ y ++ joined (row_entries rows) → AreMarked (length y) rows (map S.seen spots.old) → FindsFlaw (RowRepeat rows) result × (result ≡ None → AreFilled rows → AreArranged O.order rows (flat_map (pair_of out.now) (map S.seen spots.new))) }
 {
+    spots.sort_unstable_by_key(|spot| spot.hint());
+    if hints_rise(spots) {
+        return None;
+    }
+    sort_runs::<O, S>(spots, out);
+    if first_fall::<O, S>(spots, out).is_none() {
+        return None;
+    }
     sort::<O, S>(spots, out);
     first_tie(spots, out)
+}
+
+/// Whether each hint that these marks keep is higher than the one before it.
+#[inline(always)]
+fn hints_rise<S: Spot>(spots: &[S]) -> bool
+    ensures { result ≡ true → AreHigher S.hinted 0 spots.now }
+{
+    spots.is_sorted_by(|a, b| a.hint() < b.hint())
+}
+
+/// Sorts marks with equal hints, where these follow one another, by their keys.
+fn sort_runs<O: KeyOrder, S: Spot>(spots: &mut [S], out: &[u8])
+    ensures { IsPermutation (map S.seen spots.old) (map S.seen spots.new) }
+{
+    let mut start = 0;
+    for last in 0..spots.len() {
+        let end = last + 1;
+        if end < spots.len() && spots[end].hint() == spots[last].hint() {
+            continue;
+        }
+        if start < last {
+            sort_run::<O, S>(&mut spots[start..end], out);
+        }
+        start = end;
+    }
+}
+
+/// Sorts marks by their keys: by the hints for what comes after the front that all these keys have in
+/// common, and at equal hints by the keys.
+#[inline(never)]
+fn sort_run<O: KeyOrder, S: Spot>(spots: &mut [S], out: &[u8])
+    ensures { IsPermutation (map S.seen spots.old) (map S.seen spots.new) }
+{
+    let common = common_len(spots, out);
+    hint_after::<O, S>(common, spots, out);
+    spots.sort_unstable_by(|a, b| compare::<O, S>(out, *a, *b));
+}
+
+/// How many bytes at their front all keys of these marks have in common.
+fn common_len<S: Spot>(spots: &[S], out: &[u8]) -> usize {
+    let mut common: &[u8] = match spots.first() {
+        Some(spot) => key_in(out, spot.mark()),
+        None => &[],
+    };
+    for spot in spots {
+        let key = key_in(out, spot.mark());
+        if !key.starts_with(common) {
+            common = common_front(common, key);
+        }
+    }
+    common.len()
+}
+
+/// Each mark gets the hint for what comes after the first `common` bytes of its key.
+fn hint_after<O: KeyOrder, S: Spot>(common: usize, spots: &mut [S], out: &[u8])
+    ensures { map S.seen spots.new ≡ map S.seen spots.old }
+{
+    let known = O::known();
+    for spot in spots.iter_mut() {
+        let key = key_in(out, spot.mark());
+        spot.set_hint(hint(known, from_index(key, common)));
+    }
 }
 
 /// The first key that isn't above the one before it, of those that have an encoding. Each mark gets
@@ -259,41 +329,6 @@ fn first_fall<O: KeyOrder, S: Spot>(spots: &mut [S], out: &[u8]) -> Option<Defec
     first
 }
 
-/// Whether the keys rise of the pairs that are marked from the index `from` on, and lie in `out`. A key
-/// without an encoding is passed over. A key with a higher hint than the one before it is above that.
-pub(crate) fn rise<O: KeyOrder, S: Spot>(spots: &[S], from: usize, out: &[u8]) -> bool
-    ensures rising { result ≡ true → (y : List ℕ) (rows : List Row) → out.now ≡ y ++ joined (row_entries rows) → AreMarked (length y) rows (drop from (map S.seen spots.now)) → Rising O.order (filled_keys rows) }
-    ensures none { result ≡ true → (y : List ℕ) (rows : List Row) → out.now ≡ y ++ joined (row_entries rows) → AreMarked (length y) rows (drop from (map S.seen spots.now)) → AreFilled rows → FindsDefect (RowDescent O.order rows) None }
-{
-    all_rise::<O, S>(from_index(spots, from), out)
-}
-
-/// Whether the keys of these marks rise. Fewer than two do.
-#[inline(always)]
-fn all_rise<O: KeyOrder, S: Spot>(spots: &[S], out: &[u8]) -> bool
-    ensures { result ≡ true → FindsDefect (FallsIn O.order out.now (map S.seen spots.now)) None }
-{
-    if spots.len() < 2 {
-        return true;
-    }
-    let known = O::known();
-    let mut before: &[u8] = &[];
-    let mut last = hint(known, before);
-    for spot in spots {
-        let mark = spot.mark();
-        let key = key_in(out, mark);
-        let hint = hint(known, key);
-        if hint <= last && fall::<O>(mark.place, before, key).is_some() {
-            return false;
-        }
-        if !key.is_empty() {
-            before = key;
-            last = hint;
-        }
-    }
-    true
-}
-
 /// The defect of `key` at the offset `place`, if it isn't above the one before it. Either is empty
 /// if there is none.
 fn fall<O: KeyOrder>(place: u64, before: &[u8], key: &[u8]) -> Option<Defect>
@@ -307,25 +342,19 @@ fn fall<O: KeyOrder>(place: u64, before: &[u8], key: &[u8]) -> Option<Defect>
 
 /// Sorts marks by their keys, and those of equal keys by where they lie.
 fn sort<O: KeyOrder, S: Spot>(spots: &mut [S], out: &[u8])
-    requires { AreHinted S.hinted S.seen O.order out.now spots.old }
     ensures moved { IsPermutation spots.old spots.new }
     ensures sorted { AreSorted O.order out.now (map S.seen spots.new) }
 {
-    spots.sort_unstable_by(|a, b| compare::<O, S>(out, *a, *b));
+    spots.sort_unstable_by(|a, b| compare_keys::<O>(out, a.mark(), b.mark()));
 }
 
-/// How two marks compare: by the hints for their keys, and at equal hints as [`compare_keys`] says.
+/// How two marks compare: by the hints that they keep, and at equal hints as [`compare_keys`] says.
 #[inline(always)]
-fn compare<O: KeyOrder, S: Spot>(out: &[u8], a: S, b: S) -> Ordering
-    ensures { result ≡ hint_order O.order out.now (S.hinted a, S.seen a) (S.hinted b, S.seen b) }
-{
-    if a.hint() < b.hint() {
-        return Ordering::Less;
+fn compare<O: KeyOrder, S: Spot>(out: &[u8], a: S, b: S) -> Ordering {
+    match a.hint().cmp(&b.hint()) {
+        Ordering::Equal => compare_keys::<O>(out, a.mark(), b.mark()),
+        unequal => unequal,
     }
-    if a.hint() > b.hint() {
-        return Ordering::Greater;
-    }
-    compare_keys::<O>(out, a.mark(), b.mark())
 }
 
 /// How two marks compare: by their keys, and at equal keys by where they lie.
@@ -339,31 +368,19 @@ fn compare_keys<O: KeyOrder>(out: &[u8], a: Mark, b: Mark) -> Ordering
     }
 }
 
-/// The first key that is the same as the one before it. Keys with different hints aren't the same, so
-/// their bytes aren't looked at.
+/// The first key that is the same as the one before it, and not empty.
 fn first_tie<S: Spot>(spots: &[S], out: &[u8]) -> Option<Flaw>
-    requires { (hint : List ℕ → ℕ) × AreHintedBy S.hinted S.seen hint out.now spots.now }
     ensures { FindsFlaw (TiesIn out.now (map S.seen spots.now)) result }
 {
     let mut first: Option<Flaw> = None;
-    let mut before: Option<S> = None;
+    let mut before: &[u8] = &[];
     for spot in spots {
-        let here = *spot;
-        if let Some(last) = before {
-            if last.hint() == here.hint() {
-                first = earliest(first, tied(last.mark(), here.mark(), out));
-            }
-        }
-        before = Some(here);
+        let mark = spot.mark();
+        let key = key_in(out, mark);
+        first = earliest(first, tie(mark.place, before, key));
+        before = key;
     }
     first
-}
-
-/// The flaw of the key of `mark`, if it is the same as that of the mark `before`.
-fn tied(before: Mark, mark: Mark, out: &[u8]) -> Option<Flaw>
-    ensures { FindsFlaw (TieAt (key_of out.now (mark_of before)) (key_of out.now (mark_of mark)) mark.place) result }
-{
-    tie(mark.place, key_in(out, before), key_in(out, mark))
 }
 
 /// The flaw of `key` at the offset `place`, if it is the same as the one before it, and not empty.

@@ -1,16 +1,14 @@
 //! The pairs of the maps that are open while items are encoded.
 
-ghost use Rattle.std.specs.Prelude.{◌≡◌, ◌++◌, ◌∷◌, ℕ, List, [], length, map, take, drop, true, None, IfOk, IfSome, OnOk};
-ghost use Rattle.cborn_model.specs.Orders.{Rising};
+ghost use Rattle.std.specs.Prelude.{◌≡◌, ◌++◌, ◌∷◌, ℕ, List, [], length, map, take, drop, None, IfOk, IfSome, OnOk};
 ghost use Rattle.cborn_det.specs.Det.{joined};
-ghost use Rattle.cborn_judge.specs.Departures.{FindsDefect};
 ghost use Rattle.cborn_judge.specs.shared.Judged.{FindsFlaw};
-ghost use Rattle.cborn_judge.specs.devices.Encoding.{Row, row_entries, Mark as Marked, AreMarked, AreFilled, AreArranged, filled_keys, RowRepeat, RowDescent};
+ghost use Rattle.cborn_judge.specs.devices.Encoding.{Row, row_entries, Mark as Marked, AreMarked, AreFilled, AreArranged, RowRepeat, FindsDescent};
 ghost use Rattle.cborn_judge.specs.devices.Marks.{mark_of, narrow_of, marks_of, AreAllHinted};
 
 use crate::defects::Defect;
 use crate::flaws::Flaw;
-use crate::marks::{Mark, NarrowMark, Spot, arrange, descent, rise};
+use crate::marks::{Mark, NarrowMark, Spot, arrange, descent};
 use cborn_model::KeyOrder;
 use std::alloc::{AllocError, Global};
 
@@ -130,23 +128,11 @@ impl Pairs {
         }
     }
 
-    /// Whether the keys rise of the pairs that are marked from the index `from` on, and lie in `out`. A key
-    /// without an encoding is passed over.
-    pub(crate) fn rise<O: KeyOrder>(&self, from: usize, out: &[u8]) -> bool
-        ensures rising { result ≡ true → (y : List ℕ) (rows : List Row) → out.now ≡ y ++ joined (row_entries rows) → AreMarked (length y) rows (drop from (marks_of self.now)) → Rising O.order (filled_keys rows) }
-        ensures none { result ≡ true → (y : List ℕ) (rows : List Row) → out.now ≡ y ++ joined (row_entries rows) → AreMarked (length y) rows (drop from (marks_of self.now)) → AreFilled rows → FindsDefect (RowDescent O.order rows) None }
-    {
-        match &self.marks {
-            Marks::Narrow(narrow) => rise::<O, NarrowMark>(narrow, from, out),
-            Marks::Wide(wide) => rise::<O, Mark>(wide, from, out),
-        }
-    }
-
     /// The first defect of the order of the pairs that are marked from the index `from` on, and lie
-    /// in `out`. A key without an encoding is passed over. Each of these marks gets the hint for its
-    /// key.
+    /// in `out`; if there is none, their keys rise. A key without an encoding is passed over. Each of
+    /// these marks gets the hint for its key.
     pub(crate) fn descent<O: KeyOrder>(&mut self, from: usize, out: &[u8]) -> Option<Defect>
-        ensures found { (y : List ℕ) (rows : List Row) → out.now ≡ y ++ joined (row_entries rows) → AreMarked (length y) rows (drop from (marks_of self.old)) → AreFilled rows → FindsDefect (RowDescent O.order rows) result }
+        ensures found { (start : ℕ) → FindsDescent O.order start (drop from (marks_of self.old)) out.now result }
         ensures hinted { AreAllHinted O.order out.now from self.new.marks }
         ensures kept { marks_of self.new ≡ marks_of self.old }
     {
@@ -156,7 +142,7 @@ impl Pairs {
         }
     }
 
-    /// Arranges the pairs that are marked with hints from the index `from` on, and lie in `out` from
+    /// Arranges the pairs that are marked from the index `from` on, and lie in `out` from
     /// the offset `start` on, so that their keys rise. Gives the first key that is the same as an
     /// earlier one; then, and where a key has no encoding, nothing is promised of their order. What
     /// the marks say of them means nothing after it.

@@ -1,5 +1,5 @@
 -- What a container of each kind that ends well is, by what it opens.
-use Rattle.std.proofs.Common.{◌≡◌, ℕ, List, [], ◌++◌, length, drop, drop_at, append-nil, sym, ap, ◌∙◌, subst, Bool, true, false, true≢false, Option, Ordering}
+use Rattle.std.proofs.Common.{◌≡◌, ℕ, List, [], ◌++◌, length, take, drop, take_at, drop_at, append-nil, sym, ap, ◌∙◌, subst, Bool, true, false, true≢false, Option, Ordering}
 use Rattle.cborn_model.specs.declared.heads.Size.{Size}
 use Rattle.cborn_model.specs.declared.visitors.StringKind.TheVariants.{OfBytes}
 use Rattle.cborn_model.specs.Partial.{Partial, inside, Ends, Opening, an_array, a_map, a_tag, in_chunks}
@@ -27,12 +27,6 @@ opened_as l (a_map p s c) a e (q, i) = λ j. opening_of ((sym e ∙ i) j) (q j)
 opened_as l (a_tag p w n) a e (q, i) = λ j. opening_of ((sym e ∙ i) j) (q j)
 opened_as l (in_chunks p k) a e (q, i) = λ j. opening_of ((sym e ∙ i) j) (q j)
 
-module _ (order : List ℕ → List ℕ → Ordering) (l : Level) (o : Opening) (own : List Mark) (old new : List ℕ) (found : Findings) where
-  pub map_well : (s : Size) (c : Option ℕ) (all ns : List Mark) → all ≡ ns ++ own → l.pairs ≡ length ns → l.container ≡ container.Map s c → Opens l o → EndsWell order l (a_map l.place s c) (drop l.pairs all) old new found → EndsWell order l o own old new found
-  map_well s c all ns marks pairs e opens h =
-      let mine : drop l.pairs all ≡ own = ap (drop l.pairs) marks ∙ drop_at ns own l.pairs (sym pairs) in
-      subst (λ p. EndsWell order l p own old new found) (opened_as l o (container.Map s c) e opens) (subst (λ ms. EndsWell order l (a_map l.place s c) ms old new found) mine h)
-
 -- ---- what has ended
 
 abbrev pub is_map : Container → Bool
@@ -40,13 +34,13 @@ is_map (container.Map s c) = true
 is_map _ = false
 
 -- a container that is no map has no marks
-pub unmarked : (order : List ℕ → List ℕ → Ordering) (l : Level) (o : Opening) (ts : List Tree) (ms : List Mark) (z : List ℕ) → is_map l.container ≡ false → Inner order l o ts ms z → ms ≡ []
+unmarked : (order : List ℕ → List ℕ → Ordering) (l : Level) (o : Opening) (ts : List Tree) (ms : List Mark) (z : List ℕ) → is_map l.container ≡ false → Inner order l o ts ms z → ms ≡ []
 unmarked order l (an_array p s c) ts ms z e h = h.contains.0
 unmarked order l (a_map p s c) ts ms z e h = absurd (true≢false (sym (ap is_map h.opens.1) ∙ e))
 unmarked order l (a_tag p w n) ts ms z e h = h.contains.0
 unmarked order l (in_chunks p k) ts ms z e h = h.contains.0
 
-pub has_ended : (order : List ℕ → List ℕ → Ordering) (e k : Encodings) (f : Partial) (o : Opening) (ts : List Tree) (found : Findings) → Ends o ts → StandsIn order e (inside f o ts) → k.outer.items ≡ e.outer.items → k.innermost ≡ e.innermost
+has_ended : (order : List ℕ → List ℕ → Ordering) (e k : Encodings) (f : Partial) (o : Opening) (ts : List Tree) (found : Findings) → Ends o ts → StandsIn order e (inside f o ts) → k.outer.items ≡ e.outer.items → k.innermost ≡ e.innermost
     → ((ns own : List Mark) (z : List ℕ) → marks_of e.pairs ≡ ns ++ own → e.innermost.pairs ≡ length ns → Inner order e.innermost o ts own z → EndsWell order e.innermost o own e.out.items k.out.items found × (marks_of k.pairs ≡ ns)) → HasEnded order k f o ts found
 has_ended order e k f o ts found ends s outer same ended =
     let (well, rest) = ended s.4 s.5 s.3 s.8 s.10 s.12 in
@@ -77,4 +71,16 @@ unmarked_ended order e k f o ts found a is no_map ends s outer same marks ended 
     let none : own ≡ [] = unmarked order l o ts own z (ap is_map is ∙ no_map) inner in (
       subst (λ ms. EndsWell order l o ms e.out.items k.out.items found) (sym none) (subst (λ p. EndsWell order l p [] e.out.items k.out.items found) (opened_as l o a is inner.opens) ended),
       marks ∙ old ∙ ap (λ ms. ns ++ ms) none ∙ append-nil ns,
+    ))
+
+-- of a map
+pub map_ended : (order : List ℕ → List ℕ → Ordering) (e k : Encodings) (f : Partial) (o : Opening) (ts : List Tree) (found : Findings) (s : Size) (c : Option ℕ) → e.innermost.container ≡ container.Map s c → Ends o ts → StandsIn order e (inside f o ts) → k.outer.items ≡ e.outer.items → k.innermost ≡ e.innermost → marks_of k.pairs ≡ take e.innermost.pairs (marks_of e.pairs)
+    → EndsWell order e.innermost (a_map e.innermost.place s c) (drop e.innermost.pairs (marks_of e.pairs)) e.out.items k.out.items found → HasEnded order k f o ts found
+map_ended order e k f o ts found s c is ends h outer same marks ended =
+    has_ended order e k f o ts found ends h outer same
+    (λ ns own z old pairs inner.
+    let l = e.innermost in
+    let mine : drop l.pairs (marks_of e.pairs) ≡ own = ap (drop l.pairs) old ∙ drop_at ns own l.pairs (sym pairs) in (
+      subst (λ ms. EndsWell order l o ms e.out.items k.out.items found) mine (subst (λ p. EndsWell order l p (drop l.pairs (marks_of e.pairs)) e.out.items k.out.items found) (opened_as l o (container.Map s c) is inner.opens) ended),
+      marks ∙ ap (take l.pairs) old ∙ take_at ns own l.pairs (sym pairs),
     ))

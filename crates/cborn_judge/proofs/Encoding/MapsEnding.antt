@@ -18,9 +18,7 @@ use Rattle.cborn_judge.specs.shared.Judged.{FindsFlaw, RepeatFlaw}
 use Rattle.cborn_judge.specs.declared.flaws.Flaw as flaw
 use Rattle.cborn_judge.specs.declared.faults.InvalidReason.TheVariants.{DuplicateKey}
 use Rattle.cborn_judge.specs.Flaws.{HasRepeat}
-use Rattle.cborn_judge.specs.devices.Encoding.{MeansNothing, Row, Mark, AreMarked, RowRepeat, AreFilled, RowDescent, AreArranged, Coded, AreRows, IsSound, IsFront, IsHeadFront, OwnFlaw, OwnDefect}
-use Rattle.cborn_judge.specs.devices.Encoders.{KeysRise}
-use Rattle.cborn_judge.specs.declared.levels.Level.{Level}
+use Rattle.cborn_judge.specs.devices.Encoding.{MeansNothing, Row, Mark, AreMarked, RowRepeat, AreFilled, RowDescent, FindsDescent, AreArranged, Coded, AreRows, IsSound, IsFront, IsHeadFront, OwnFlaw, OwnDefect}
 use Rattle.cborn_judge.proofs.FirstDefect.Departing.{both_found, alike}
 use Rattle.cborn_judge.proofs.Encoding.Ends.{cut, headed}
 use Rattle.cborn_judge.proofs.Encoding.MapsRows.{IsRow, sound_paired, paired_sound, paired_rows, written, map_encoded, repeat_nothing, repeats, descents}
@@ -32,11 +30,11 @@ length_marked p (r ∷ rs) [] h = absurd h
 length_marked p (r ∷ rs) (m ∷ ms) h = ap suc (length_marked (p + length r.1 + length r.2) rs ms h.1)
 
 -- fewer than two keys rise
-pub few_rise : (order : List ℕ → List ℕ → Ordering) (l : Level) (own : List Mark) (y : List ℕ) → length own < 2 → KeysRise order l own y
-few_rise order l own y few x [] at lies marked = (tt, λ f p r d. d.1)
-few_rise order l own y few x ((q, [], v) ∷ []) at lies marked = (tt, λ f p r d. d.1)
-few_rise order l own y few x ((q, b ∷ bs, v) ∷ []) at lies marked = (tt, λ f p r d. d.1)
-few_rise order l own y few x (r ∷ s ∷ rs) at lies marked = absurd (omega (arith, length_marked l.content (r ∷ s ∷ rs) own marked))
+pub few_rise : (order : List ℕ → List ℕ → Ordering) (p : ℕ) (own : List Mark) (y : List ℕ) → length own < 2 → FindsDescent order p own y None
+few_rise order p own y few x [] at lies marked = ((λ e. tt), (λ f q r d. d.1))
+few_rise order p own y few x ((q, [], v) ∷ []) at lies marked = ((λ e. tt), (λ f n r d. d.1))
+few_rise order p own y few x ((q, b ∷ bs, v) ∷ []) at lies marked = ((λ e. tt), (λ f n r d. d.1))
+few_rise order p own y few x (r ∷ s ∷ rs) at lies marked = absurd (omega (arith, length_marked p (r ∷ s ∷ rs) own marked))
 
 module _ (order : List ℕ → List ℕ → Ordering) (laws : IsKeyOrder order) (p : ℕ) (s : Size) (c : Option ℕ) (ts : List Tree) (rs : List Row) (ends : Ends (a_map p s c) ts) (rows : AreRows order ts rs) where
   here : AllZip (IsRow order) (paired ts) rs

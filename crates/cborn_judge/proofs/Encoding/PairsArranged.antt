@@ -1,114 +1,111 @@
 -- Pairs that are sorted by their keys: what ties is a repeat, and where nothing does the keys rise.
-use Rattle.std.proofs.Common.{◌≡◌, ℕ, ◌+◌, ◌-◌, ◌≤◌, inl, inr, List, [], ◌∷◌, ◌++◌, length, map, take, drop, refl, sym, ap, ◌∙◌, subst, arith, take_at, Option, None, Ordering, Less, Equal, Greater, true, false, true≢false, is_lt, IsPermutation, get_or}
+use Rattle.std.proofs.Common.{◌≡◌, ◌≢◌, ℕ, ◌+◌, ◌-◌, ◌≤◌, inl, inr, List, [], ◌∷◌, ◌++◌, length, map, take, drop, refl, sym, ap, ◌∙◌, subst, arith, take_at, Option, None, Ordering, true, is_lt, IsPermutation, get_or}
 use Rattle.std.specs.Prelude.{◌↔◌, flat_map}
-use Rattle.std.specs.Ordering.{ordering_then, ordering_reverse, nat_cmp}
-use Rattle.std.specs.List.{AllByRecursion}
 use Rattle.std.specs.List.Sorted.{IsSortedBy}
-use Rattle.std.specs.Cmp.{IsTotalOrder, IsStrictWeakOrder, nat_cmp_is}
-use Rattle.std.proofs.lemmas.Bool.{cases_lt}
+use Rattle.std.specs.Cmp.{IsStrictWeakOrder}
 use Rattle.std.proofs.lemmas.Cmp.{on_total, then_total, nat_cmp_total}
 use Rattle.std.proofs.lemmas.List.{map-append, take-append-drop, take_rest, drop-map, drop_all, get_or-map, length-map, take-map, length-take-le}
-use Rattle.std.proofs.lemmas.List.Elements.{All-from_recursion}
-use Rattle.std.proofs.lemmas.List.Sorted.{IsPermutation-map, IsPermutation-refl, ranks_by}
-use Rattle.cborn_model.specs.Bytes.{AreBytes}
+use Rattle.std.proofs.lemmas.List.Sorted.{IsPermutation-map, IsPermutation-refl, IsPermutation-append_left, IsPermutation-append_right, ranks_by}
 use Rattle.cborn_model.specs.Orders.{Rising, IsKeyOrder}
 use Rattle.cborn_judge.specs.Reasons.{flaw_rank}
 use Rattle.cborn_judge.specs.declared.faults.InvalidReason.{InvalidReason}
 use Rattle.cborn_judge.specs.declared.faults.InvalidReason.TheVariants.{DuplicateKey}
 use Rattle.cborn_model.proofs.Found.{found_alike}
 use Rattle.cborn_model.proofs.SameItems.Rearranging.{All_moved}
-use Rattle.cborn_det.specs.Det.{Entry, joined, keys}
-use Rattle.cborn_det.specs.shared.Distinct.{HasDistinctKeys}
-use Rattle.cborn_det.proofs.Arranging.{total, rising_from_sorted}
+use Rattle.cborn_det.specs.Det.{joined, keys}
+use Rattle.cborn_det.proofs.Arranging.{total}
+use Rattle.cborn_judge.specs.Departures.{FindsDefect}
+use Rattle.cborn_judge.specs.declared.defects.DefectReason.TheVariants.{KeyOrder}
 use Rattle.cborn_judge.specs.declared.flaws.Flaw as flaw
 use Rattle.cborn_judge.specs.shared.Judged.{FindsFlaw}
-use Rattle.cborn_judge.specs.devices.Hints.{Tells}
-use Rattle.cborn_judge.specs.devices.Encoding.{Row, row_entry, row_entries, Mark, AreMarked, AreFilled, AreArranged, IsSameKey, HasSameKeys, RowRepeat}
-use Rattle.cborn_judge.specs.devices.Marks.{key_of, pair_of, row_of, AreHintedBy, TiesIn, mark_order, hint_order, AreSorted}
+use Rattle.cborn_judge.specs.devices.Encoding.{Row, row_entry, row_entries, Mark, AreMarked, AreFilled, AreArranged, filled_keys, HasSameKeys, RowRepeat}
+use Rattle.cborn_judge.specs.devices.Marks.{key_of, pair_of, row_of, FallsIn, TiesIn, mark_order, AreSorted}
 use Rattle.cborn_judge.specs.shared.Repeats.{IsAgain, IsTied}
-use Rattle.cborn_judge.proofs.SameKeys.Repeating.{LieBefore, again_tied, sorted_in_order}
-use Rattle.cborn_judge.proofs.Encoding.PairsRead.{is_filled, begin_of, bytes_between, marked_read, marked_rise, IsSplit, marked_split, all_split}
-use Rattle.cborn_judge.proofs.Encoding.PairsMet.{ties_all, same_again}
-
--- ---- no repeats
-
-abbrev HasNoRepeat : List Row → Type 0
-HasNoRepeat rows = (p : ℕ) → HasSameKeys rows p → ⊥
-
-apart_from : (k : List ℕ) (rows : List Row) → ((p : ℕ) → IsSameKey k rows p → ⊥) → AllByRecursion (λ (g : Entry). k ≡ g.0 → ⊥) (row_entries rows)
-apart_from k [] h = tt
-apart_from k (r ∷ rows) h = ((λ e. h r.0 (inl (refl, sym e))), apart_from k rows (λ p i. h p (inr i)))
-
-distinct : (rows : List Row) → AreFilled rows → HasNoRepeat rows → HasDistinctKeys (row_entries rows)
-distinct [] f h = tt
-distinct (r ∷ rows) f h = (apart_from r.1 rows (λ p i. h p (inl (f.0.0, i))), distinct rows f.1 (λ p i. h p (inr i)))
+use Rattle.cborn_judge.proofs.SameKeys.Repeating.{LieBefore, InOrder, again_tied, sorted_in_order, again_earlier, either_again, one_of_moved}
+use Rattle.cborn_judge.proofs.Encoding.PairsRead.{is_filled, filled, begin_of, marked_read, marked_rise, IsSplit, marked_split, all_split}
+use Rattle.cborn_judge.proofs.Encoding.PairsMet.{ties_all, same_again, none_falls}
+use Rattle.cborn_judge.proofs.Encoding.MapsRows.{keys-filled, rising_new}
 
 -- ---- after the sort
 
 module _ (order : List ℕ → List ℕ → Ordering) (laws : IsKeyOrder order) (b y : List ℕ) (rows : List Row) (ms ys : List Mark) where
-  -- rows that stand in a buffer after a front, and their marks, once as they lie and once sorted
+  -- rows that stand in a buffer after a front, and their marks, as they lie and rearranged
   pub record AreRearranged : Type 0 where
     pub stand : b ≡ y ++ joined (row_entries rows)
     pub marked : AreMarked (length y) rows ms
     pub moved : IsPermutation ms ys
-    pub sorted : AreSorted order b ys
 
-  rows_read : AreRearranged → map (row_of b) ms ≡ rows
-  rows_read r = marked_read b y rows ms (length y) refl r.stand r.marked
+  -- the repeats are found, or the keys rise
+  abbrev IsApart : Option flaw.Flaw → Type 0
+  IsApart o = FindsFlaw (RowRepeat rows) o × (o ≡ None → AreFilled rows → AreArranged order rows (flat_map (pair_of b) ys))
 
-  pub repeats_found : AreRearranged → (o : Option flaw.Flaw) → FindsFlaw (TiesIn b ys) o → FindsFlaw (RowRepeat rows) o
-  repeats_found r o h = found_alike flaw_rank (λ f. f.place) (λ f. f.reason) (TiesIn b ys) (RowRepeat rows) o (λ p s. (to p s, from p s)) h
-    where
-      read : map (row_of b) ms ≡ rows
-      read = rows_read r
+  module _ (r : AreRearranged) where
+    read : map (row_of b) ms ≡ rows
+    read = marked_read b y rows ms (length y) refl r.stand r.marked
 
-      rise : LieBefore is_filled (key_of b) begin_of ms
-      rise = marked_rise b rows ms (length y) read r.marked
+    rise : LieBefore is_filled (key_of b) begin_of ms
+    rise = marked_rise b rows ms (length y) read r.marked
 
-      both : (z : Mark) → is_filled (key_of b z) ≡ true → IsAgain (key_of b) ms z ↔ IsTied (key_of b) ys z
-      both z f = again_tied order laws is_filled (key_of b) begin_of ms ys z f rise r.moved (sorted_in_order order laws is_filled (key_of b) begin_of ms ys rise r.moved r.sorted)
+    abbrev now : List Row
+    now = map (row_of b) ys
 
-      to : (p : ℕ) (s : InvalidReason) → TiesIn b ys p s → RowRepeat rows p s
-      to p s (e, t) = let u = (ties_all b ys p).0 t in (e, subst (λ z. HasSameKeys z p) read ((same_again b ms p).1 (u.0, u.1, u.2, (both u.0 u.1).1 u.3)))
+    moved_rows : IsPermutation rows now
+    moved_rows = subst (λ z. IsPermutation z now) read (IsPermutation-map (row_of b) ms ys r.moved)
 
-      from : (p : ℕ) (s : InvalidReason) → RowRepeat rows p s → TiesIn b ys p s
-      from p s (e, t) = let u = (same_again b ms p).0 (subst (λ z. HasSameKeys z p) (sym read) t) in (e, (ties_all b ys p).1 (u.0, u.1, u.2, (both u.0 u.1).0 u.3))
+    filled_now : AreFilled rows → AreFilled now
+    filled_now = All_moved (λ (v : Row). (v.1 ≢ []) × (v.2 ≢ [])) rows now moved_rows
 
-  not_then : (o q : Ordering) → is_lt (ordering_then o q) ≡ false → is_lt o ≡ false
-  not_then Less q h = h
-  not_then Equal q h = refl
-  not_then Greater q h = refl
+    in_place : Rising order (keys (row_entries now)) → AreArranged order rows (flat_map (pair_of b) ys)
+    in_place h = (row_entries now, IsPermutation-map row_entry rows now moved_rows, h, all_split b ys (All_moved (IsSplit b) ms ys r.moved (marked_split b rows ms (length y) r.marked)))
 
-  pub arranged : AreRearranged → FindsFlaw (TiesIn b ys) None → AreFilled rows → AreArranged order rows (flat_map (pair_of b) ys)
-  arranged r h f = (fs, moved, rises, all_split b ys (All_moved (IsSplit b) ms ys r.moved (marked_split b rows ms (length y) r.marked)))
-    where
-      read : map (row_of b) ms ≡ rows
-      read = rows_read r
+    -- ---- where they are sorted
 
-      entry_at : Mark → Entry
-      entry_at m = row_entry (row_of b m)
+    module _ (sorted : AreSorted order b ys) where
+      in_order : InOrder order laws is_filled (key_of b) begin_of ys
+      in_order = sorted_in_order order laws is_filled (key_of b) begin_of ms ys rise r.moved sorted
 
-      fs : List Entry
-      fs = row_entries (map (row_of b) ys)
+      repeats_found : (o : Option flaw.Flaw) → FindsFlaw (TiesIn b ys) o → FindsFlaw (RowRepeat rows) o
+      repeats_found o h = found_alike flaw_rank (λ f. f.place) (λ f. f.reason) (TiesIn b ys) (RowRepeat rows) o (λ p s. (to p s, from p s)) h
+        where
+          both : (z : Mark) → is_filled (key_of b z) ≡ true → IsAgain (key_of b) ms z ↔ IsTied (key_of b) ys z
+          both z f = again_tied order laws is_filled (key_of b) begin_of ms ys z f rise r.moved in_order
 
-      entries_at : (l : List Mark) → row_entries (map (row_of b) l) ≡ map entry_at l
-      entries_at [] = refl
-      entries_at (m ∷ l) = ap (λ z. entry_at m ∷ z) (entries_at l)
+          to : (p : ℕ) (s : InvalidReason) → TiesIn b ys p s → RowRepeat rows p s
+          to p s (e, t) = let u = (ties_all b ys p).0 t in (e, subst (λ z. HasSameKeys z p) read ((same_again b ms p).1 (u.0, u.1, u.2, (both u.0 u.1).1 u.3)))
 
-      moved : IsPermutation (row_entries rows) fs
-      moved = subst (λ z. IsPermutation (row_entries z) fs) read (IsPermutation-map row_entry (map (row_of b) ms) (map (row_of b) ys) (IsPermutation-map (row_of b) ms ys r.moved))
+          from : (p : ℕ) (s : InvalidReason) → RowRepeat rows p s → TiesIn b ys p s
+          from p s (e, t) = let u = (same_again b ms p).0 (subst (λ z. HasSameKeys z p) (sym read) t) in (e, (ties_all b ys p).1 (u.0, u.1, u.2, (both u.0 u.1).0 u.3))
 
-      none : HasNoRepeat rows
-      none p t = repeats_found r None h p DuplicateKey (refl, t)
+      rise_untied : (zs : List Mark) → InOrder order laws is_filled (key_of b) begin_of zs → ((z : Mark) → is_filled (key_of b z) ≡ true → IsTied (key_of b) zs z → ⊥) → AreFilled (map (row_of b) zs) → Rising order (keys (row_entries (map (row_of b) zs)))
+      rise_untied [] o n f = tt
+      rise_untied (x ∷ []) o n f = tt
+      rise_untied (x ∷ z ∷ zs) o n f = (elim o.0 [ inl l ↦ l | inr l ↦ absurd (n z (filled (key_of b z) f.1.0.0) (inl (refl, l.0))) ], rise_untied (z ∷ zs) o.1 (λ v g t. n v g (inr t)) f.1)
 
-      apart : HasDistinctKeys (map entry_at ms)
-      apart = subst HasDistinctKeys (ap row_entries (sym read) ∙ entries_at ms) (distinct rows f none)
+      pub sorted_apart : (o : Option flaw.Flaw) → FindsFlaw (TiesIn b ys) o → IsApart o
+      sorted_apart o h = (
+        repeats_found o h,
+        λ none f. in_place (rise_untied ys in_order (λ z g t. subst (FindsFlaw (TiesIn b ys)) none h z.0 DuplicateKey (refl, (ties_all b ys z.0).1 (z, g, refl, t))) (filled_now f)),
+      )
 
-      by_key : IsSortedBy (λ u v. is_lt (order (entry_at u).0 (entry_at v).0)) ys
-      by_key k d l m = not_then (order (key_of b (get_or ys (k + 1) d)) (key_of b (get_or ys k d))) (nat_cmp (get_or ys (k + 1) d).1 (get_or ys k d).1) (r.sorted k d l m)
+    -- ---- where no key is found that isn't above the one before it
 
-      rises : Rising order (keys fs)
-      rises = subst (λ z. Rising order (keys z)) (sym (entries_at ys)) (rising_from_sorted order laws entry_at ms ys apart (IsPermutation-map entry_at ms ys r.moved) by_key)
+    module _ (found : FindsDefect (FallsIn order b ys) None) where
+      rising : Rising order (filled_keys now)
+      rising = none_falls order b ys now refl (λ p m. found p KeyOrder (refl, m))
+
+      none_repeated : FindsFlaw (RowRepeat rows) None
+      none_repeated p s (e, t) =
+          let (z, f, q, again) = (same_again b ms p).0 (subst (λ v. HasSameKeys v p) (sym read) t) in
+          let (w, i, j, same, below) = again_earlier order laws is_filled (key_of b) begin_of ms z f rise again in
+          let two : w ≡ z → ⊥ = λ k. let at : begin_of w ≡ begin_of z = ap begin_of k in omega (arith, below, at) in
+          let new : (v : Mark) → is_filled (key_of b v) ≡ true → IsAgain (key_of b) ys v → ⊥ = λ v g a. rising_new order laws now v.0 rising ((same_again b ys v.0).1 (v, g, refl, a)) in
+          elim (either_again (key_of b) ys w z (one_of_moved order laws is_filled (key_of b) begin_of ms ys w r.moved i) (one_of_moved order laws is_filled (key_of b) begin_of ms ys z r.moved j) same two) [
+            | inl a ↦ new z f a
+            | inr a ↦ new w (ap is_filled same ∙ f) a
+          ]
+
+      pub risen : IsApart None
+      risen = (none_repeated, λ none f. in_place (subst (Rising order) (keys-filled now (filled_now f)) rising))
 
 -- ---- no marks
 
@@ -124,44 +121,17 @@ none_arranged order rows p b y a e = subst (λ z. (x : List ℕ) × AreArranged 
 
 -- ---- what the sort says
 
-module _ (order : List ℕ → List ℕ → Ordering) (laws : IsKeyOrder order) (b : List ℕ) {S : Type 0} (hinted : S → ℕ) (mark : S → Mark) where
-  mark_total : IsTotalOrder (mark_order order b)
-  mark_total = then_total (on_total (key_of b) (total order laws)) (on_total begin_of nat_cmp_total)
+module _ (order : List ℕ → List ℕ → Ordering) (laws : IsKeyOrder order) (b : List ℕ) {S : Type 0} (mark : S → Mark) where
+  pub mark_ranks : IsStrictWeakOrder (λ x y. is_lt (mark_order order b (mark x) (mark y)))
+  mark_ranks = ranks_by (then_total (on_total (key_of b) (total order laws)) (on_total begin_of nat_cmp_total)) mark
 
-  hint_total : IsTotalOrder (hint_order order b)
-  hint_total = then_total (on_total (λ (x : ℕ × Mark). x.0) nat_cmp_total) (on_total (λ (x : ℕ × Mark). x.1) mark_total)
-
-  pub hint_ranks : IsStrictWeakOrder (λ x y. is_lt (hint_order order b (hinted x, mark x) (hinted y, mark y)))
-  hint_ranks = ranks_by hint_total (λ s. (hinted s, mark s))
-
-  marks_sorted : (ss : List S) → IsSortedBy (λ x y. is_lt (mark_order order b (mark x) (mark y))) ss → AreSorted order b (map mark ss)
+  pub marks_sorted : (ss : List S) → IsSortedBy (λ x y. is_lt (mark_order order b (mark x) (mark y))) ss → AreSorted order b (map mark ss)
   marks_sorted [] h k d l m = absurd (omega arith)
   marks_sorted (s ∷ ss) h k d l m =
       let long : length (map mark (s ∷ ss)) ≡ length (s ∷ ss) = length-map (s ∷ ss) mark in
       let next : get_or (map mark (s ∷ ss)) (k + 1) d ≡ mark (get_or (s ∷ ss) (k + 1) s) = get_or-map mark (s ∷ ss) (k + 1) s d (omega (arith, long, m)) in
       let here : get_or (map mark (s ∷ ss)) k d ≡ mark (get_or (s ∷ ss) k s) = get_or-map mark (s ∷ ss) k s d (omega (arith, long, m)) in
       (λ i. is_lt (mark_order order b (next i) (here i))) ∙ h k s l (omega (arith, long, m))
-
-  module _ (hint : List ℕ → ℕ) (tells : Tells order hint) (bytes : AreBytes b) where
-    -- a mark that isn't below another by their hints first isn't below it by their keys
-    not_below : (x y : S) → hinted x ≡ hint (key_of b (mark x)) → hinted y ≡ hint (key_of b (mark y)) → is_lt (hint_order order b (hinted x, mark x) (hinted y, mark y)) ≡ false → is_lt (mark_order order b (mark x) (mark y)) ≡ false
-    not_below x y e f h =
-        let k = key_of b (mark x) in
-        let l = key_of b (mark y) in
-        elim (cases_lt (hinted x) (hinted y)) [
-          | inl less ↦ absurd (true≢false (ap (λ o. is_lt (ordering_then o (mark_order order b (mark x) (mark y)))) (nat_cmp_is (hinted x) (hinted y) Less less) ∙ h))
-          | inr least ↦ elim (cases_lt (hinted y) (hinted x)) [
-            | inl more ↦
-                let above : order k l ≡ Greater = laws.turned l k ∙ ap ordering_reverse (tells l k (bytes_between b (mark y).1 (mark y).2 bytes) (bytes_between b (mark x).1 (mark x).2 bytes) (omega (arith, e, f, more))) in
-                ap (λ o. is_lt (ordering_then o (nat_cmp (mark x).1 (mark y).1))) above
-            | inr as_much ↦ ap (λ o. is_lt (ordering_then o (mark_order order b (mark x) (mark y)))) (nat_cmp_is (hinted x) (hinted y) Equal (omega (arith, least, as_much))) ∙ h
-          ]
-        ]
-
-    pub hints_sorted : (ss : List S) → AreHintedBy hinted mark hint b ss → IsSortedBy (λ x y. is_lt (hint_order order b (hinted x, mark x) (hinted y, mark y))) ss → AreSorted order b (map mark ss)
-    hints_sorted ss a h =
-        let all = All-from_recursion (λ s. hinted s ≡ hint (key_of b (mark s))) ss a in
-        marks_sorted ss (λ k d l m. not_below (get_or ss (k + 1) d) (get_or ss k d) (all (k + 1) d m) (all k d (omega (arith, m))) (h k d l m))
 
 -- ---- marks from an index on
 
@@ -180,3 +150,11 @@ module _ {S : Type 0} (mark : S → Mark) (from : ℕ) where
   all_kept n old part new k e =
       ap (map mark) e ∙ map-append mark (take from old) (part ++ drop n (drop from old)) ∙ ap (λ z. map mark (take from old) ++ z) (map-append mark part (drop n (drop from old)) ∙ ap (λ z. z ++ map mark (drop n (drop from old))) k ∙ sym (map-append mark (take n (drop from old)) (drop n (drop from old))) ∙ ap (map mark) (take-append-drop n (drop from old)))
       ∙ sym (map-append mark (take from old) (drop from old)) ∙ ap (map mark) (take-append-drop from old)
+
+  pub part_moved : (n : ℕ) (old part new : List S) → IsPermutation (map mark (take n (drop from old))) (map mark part) → new ≡ take from old ++ (part ++ drop n (drop from old)) → IsPermutation (map mark old) (map mark new)
+  part_moved n old part new p e =
+      let parts : (x : List S) → map mark (take from old ++ (x ++ drop n (drop from old))) ≡ map mark (take from old) ++ (map mark x ++ map mark (drop n (drop from old))) = λ x. map-append mark (take from old) (x ++ drop n (drop from old)) ∙ ap (λ z. map mark (take from old) ++ z) (map-append mark x (drop n (drop from old))) in
+      let whole : take from old ++ (take n (drop from old) ++ drop n (drop from old)) ≡ old = ap (λ z. take from old ++ z) (take-append-drop n (drop from old)) ∙ take-append-drop from old in
+      let was = sym (parts (take n (drop from old))) ∙ ap (map mark) whole in
+      let is = sym (ap (map mark) e ∙ parts part) in
+      subst (λ z. IsPermutation z (map mark new)) was (subst (IsPermutation _) is (IsPermutation-append_right (map mark (take from old)) _ _ (IsPermutation-append_left (map mark (drop n (drop from old))) _ _ p)))

@@ -1,23 +1,20 @@
--- What is found by loops over marks that look at the hints for the keys first.
-use Rattle.std.proofs.Common.{◌≡◌, ℕ, ◌+◌, ◌<◌, ◌⊎◌, inl, inr, List, [], ◌∷◌, ◌++◌, length, get_or, set, map, take, refl, sym, ap, ◌∙◌, subst, arith, true, false, true≢false, Option, None, Some, Ordering}
-use Rattle.std.specs.Prelude.{◌==◌, IfSome}
+-- What is found by a loop over marks that looks at the hints for the keys first.
+use Rattle.std.proofs.Common.{◌≡◌, ℕ, suc, ◌+◌, ◌<◌, ◌≤◌, ◌⊎◌, inl, inr, List, [], ◌∷◌, ◌++◌, length, get_or, set, nat_lt, add-one, map, take, refl, sym, ap, ◌∙◌, subst, arith, true, false, true≢false, Option, None, Some, Ordering}
+use Rattle.std.specs.Prelude.{◌==◌}
 use Rattle.std.specs.List.{AllByRecursion}
 use Rattle.std.proofs.lemmas.List.{take-set, take_more_set, get_or-set_same, length-set}
-use Rattle.std.proofs.lemmas.List.Elements.{All-from_recursion}
+use Rattle.std.proofs.lemmas.Bool.{ltb-true}
 use Rattle.std.proofs.Math.Seq.{map-set_same}
 use Rattle.cborn_model.specs.Bytes.{AreBytes}
 use Rattle.cborn_model.specs.Earliest.{IsEarliest}
-use Rattle.cborn_judge.specs.Reasons.{defect_rank, flaw_rank}
+use Rattle.cborn_judge.specs.Reasons.{defect_rank}
 use Rattle.cborn_judge.specs.declared.defects.Defect.{Defect}
 use Rattle.cborn_judge.specs.declared.defects.DefectReason.TheVariants.{KeyOrder}
-use Rattle.cborn_judge.specs.declared.faults.InvalidReason.TheVariants.{DuplicateKey}
 use Rattle.cborn_judge.specs.Departures.{FindsDefect}
-use Rattle.cborn_judge.specs.declared.flaws.Flaw.{Flaw}
-use Rattle.cborn_judge.specs.shared.Judged.{FindsFlaw}
 use Rattle.cborn_judge.specs.devices.Hints.{Tells}
 use Rattle.cborn_judge.specs.devices.Encoding.{Mark}
-use Rattle.cborn_judge.specs.devices.Marks.{key_of, all_keyed, IsFall, last_filled, IsTie, last_key, FallAt, TieAt, AreHintedBy}
-use Rattle.cborn_judge.proofs.Encoding.PairsRead.{empty}
+use Rattle.cborn_judge.specs.devices.Marks.{key_of, all_keyed, IsFall, last_filled, FallAt, FallsIn, Met, AreHigher, AreHintedBy}
+use Rattle.cborn_judge.proofs.Encoding.PairsRead.{empty, bytes_between}
 use Rattle.cborn_judge.proofs.Encoding.PairsMet.{IsMet, met-take_more}
 
 pub none_first : {X : Type 0} (key : X → ℕ × ℕ) (o : Option X) → IsEarliest key o None o
@@ -29,20 +26,17 @@ all_more P [] x h p = (p, tt)
 all_more P (y ∷ xs) x h p = (h.0, all_more P xs x h.1 p)
 
 module _ {S : Type 0} (seen : S → Mark) (hinted : S → ℕ) (b : List ℕ) where
-  -- ---- keys that fall
-
   module _ (order : List ℕ → List ℕ → Ordering) (hint : List ℕ → ℕ) where
-    -- what a loop has found that remembers the last of the first i keys that has an encoding, its hint, and the first fall
-    pub record FallsMet (ss : List S) (i : ℕ) (before : List ℕ) (last : ℕ) (first : Option Defect) : Type 0 where
-      pub last_hint : last ≡ hint before
-      pub bytes : AreBytes before
-      pub met : IsMet (IsFall order) last_filled defect_rank (λ d. d.place) (λ d. d.reason) KeyOrder (all_keyed b (map seen (take i ss))) before first
+    abbrev FallsMet : List S → List ℕ → Option Defect → Type 0
+    FallsMet ss = IsMet (IsFall order) last_filled defect_rank (λ d. d.place) (λ d. d.reason) KeyOrder (all_keyed b (map seen ss))
 
-    -- and one that gives them their hints
+    -- what a loop has done that writes hints, and remembers the last of the first i keys that has an encoding, its hint, and the first fall
     pub record FallsPassed (old now : List S) (i : ℕ) (before : List ℕ) (last : ℕ) (first : Option Defect) : Type 0 where
       pub kept : map seen now ≡ map seen old
       pub hints : AreHintedBy hinted seen hint b (take i now)
-      pub falls : FallsMet now i before last first
+      pub last_hint : last ≡ hint before
+      pub bytes : AreBytes before
+      pub met : FallsMet (take i now) before first
 
     -- by its hint the next key is above the last, or both are compared
     abbrev pub Looks : List ℕ → List ℕ → ℕ → ℕ → Option Defect → Option Defect → Type 0
@@ -63,30 +57,9 @@ module _ {S : Type 0} (seen : S → Mark) (hinted : S → ℕ) (b : List ℕ) wh
     no_fall : Tells order hint → (before key : List ℕ) (place : ℕ) → AreBytes before → AreBytes key → hint before < hint key → FindsDefect (FallAt order before key place) None
     no_fall tells before key place h i l p r f = f.1.3 (tells before key h i l)
 
-    pub falls_more : Tells order hint → (ss : List S) (i : ℕ) (s : S) (m : Mark) (before key next : List ℕ) (last after : ℕ) (first found : Option Defect)
-        → i < length ss → s ≡ get_or ss i s → m ≡ seen s → key ≡ key_of b m → AreBytes key → FallsMet ss i before last first → Looks before key last m.0 first found → Remembers before key last next after → FallsMet ss (i + 1) next after found
-    falls_more tells ss i s m before key next last after first found l e q k bs p look r = record {
-      last_hint = rest.1;
-      bytes = subst AreBytes (sym rest.0) (filled_bytes before key p.bytes bs);
-      met = subst (λ z. IsMet (IsFall order) last_filled defect_rank (λ d. d.place) (λ d. d.reason) KeyOrder (all_keyed b (map seen (take (i + 1) ss))) z found) (sym rest.0) met;
-    }
-      where
-        rest : (next ≡ last_filled before key) × (after ≡ hint next)
-        rest = remembers before key last next after p.last_hint r
-
-        filled_bytes : (c d : List ℕ) → AreBytes c → AreBytes d → AreBytes (last_filled c d)
-        filled_bytes c [] x y = x
-        filled_bytes c (d ∷ ds) x y = y
-
-        step : (o : Option Defect) → FindsDefect (FallAt order before key m.0) o → IsEarliest (λ d. (d.place, defect_rank d.reason)) first o found
-            → IsMet (IsFall order) last_filled defect_rank (λ d. d.place) (λ d. d.reason) KeyOrder (all_keyed b (map seen (take (i + 1) ss))) (last_filled before key) found
-        step o f g = met-take_more (IsFall order) last_filled defect_rank (λ d. d.place) (λ d. d.reason) KeyOrder seen b ss i s m before key first o found l e q k p.met f g
-
-        met : IsMet (IsFall order) last_filled defect_rank (λ d. d.place) (λ d. d.reason) KeyOrder (all_keyed b (map seen (take (i + 1) ss))) (last_filled before key) found
-        met = elim look [
-          | inl skip ↦ step None (no_fall tells before key m.0 p.bytes bs (omega (arith, skip.0, p.last_hint))) (subst (IsEarliest (λ d. (d.place, defect_rank d.reason)) first None) (sym skip.1) (none_first (λ d. (d.place, defect_rank d.reason)) first))
-          | inr o ↦ step o.0 o.1 o.2
-        ]
+    filled_bytes : (c d : List ℕ) → AreBytes c → AreBytes d → AreBytes (last_filled c d)
+    filled_bytes c [] x y = x
+    filled_bytes c (d ∷ ds) x y = y
 
     pub falls_passed : Tells order hint → (old now : List S) (i : ℕ) (d t : S) (m : Mark) (before key next : List ℕ) (last after : ℕ) (first found : Option Defect)
         → i < length now → m ≡ seen (get_or now i d) → key ≡ key_of b m → AreBytes key → seen t ≡ seen (get_or now i d) → hinted t ≡ hint key
@@ -95,45 +68,49 @@ module _ {S : Type 0} (seen : S → Mark) (hinted : S → ℕ) (b : List ℕ) wh
     falls_passed tells old now i d t m before key next last after first found l q k bs u h p look r = record {
       kept = map-set_same seen now i t d u ∙ p.kept;
       hints = subst (AreHintedBy hinted seen hint b) (sym (take_more_set now i t l)) (all_more (λ x. hinted x ≡ hint (key_of b (seen x))) (take i now) t p.hints (h ∙ ap hint (k ∙ ap (key_of b) (q ∙ sym u))));
-      falls = falls_more tells (set now i t) i t m before key next last after first found (omega (arith, l, length-set now i t)) (sym (get_or-set_same now i t t l)) (q ∙ sym u) k bs
-          (record { last_hint = p.falls.last_hint; bytes = p.falls.bytes; met = subst (λ z. IsMet (IsFall order) last_filled defect_rank (λ d. d.place) (λ d. d.reason) KeyOrder (all_keyed b (map seen z)) before first) (sym (take-set now i t)) p.falls.met }) look r;
+      last_hint = rest.1;
+      bytes = subst AreBytes (sym rest.0) (filled_bytes before key p.bytes bs);
+      met = subst (λ z. FallsMet (take (i + 1) (set now i t)) z found) (sym rest.0) (elim look [
+        | inl skip ↦ step None (no_fall tells before key m.0 p.bytes bs (omega (arith, skip.0, p.last_hint))) (subst (IsEarliest (λ d. (d.place, defect_rank d.reason)) first None) (sym skip.1) (none_first (λ d. (d.place, defect_rank d.reason)) first))
+        | inr o ↦ step o.0 o.1 o.2
+      ]);
     }
+      where
+        rest : (next ≡ last_filled before key) × (after ≡ hint next)
+        rest = remembers before key last next after p.last_hint r
 
-  -- ---- keys that tie
+        step : (o : Option Defect) → FindsDefect (FallAt order before key m.0) o → IsEarliest (λ d. (d.place, defect_rank d.reason)) first o found → FallsMet (take (i + 1) (set now i t)) (last_filled before key) found
+        step o f g =
+            met-take_more (IsFall order) last_filled defect_rank (λ d. d.place) (λ d. d.reason) KeyOrder seen b (set now i t) i t m before key first o found
+            (omega (arith, l, length-set now i t)) (sym (get_or-set_same now i t t l)) (q ∙ sym u) k (subst (λ z. FallsMet z before first) (sym (take-set now i t)) p.met) f g
 
-  abbrev pub key_before : Option S → List ℕ
-  key_before None = []
-  key_before (Some s) = key_of b (seen s)
+    -- ---- hints that rise
 
-  -- what a loop has done that remembers the last mark and the first tie of the first i
-  pub record TiesPassed (ss : List S) (i : ℕ) (before : Option S) (first : Option Flaw) : Type 0 where
-    pub last : (hint : List ℕ → ℕ) → AreHintedBy hinted seen hint b ss → IfSome before (λ s. hinted s ≡ hint (key_of b (seen s)))
-    pub met : IsMet IsTie last_key flaw_rank (λ f. f.place) (λ f. f.reason) DuplicateKey (all_keyed b (map seen (take i ss))) (key_before before) first
+    below_next : (k l : List ℕ) (n h : ℕ) → (k ≡ []) ⊎ (hint k < n) → n ≤ h → h ≡ hint l → (last_filled k l ≡ []) ⊎ (hint (last_filled k l) < h + 1)
+    below_next k [] n h (inl e) m q = inl e
+    below_next k [] n h (inr l) m q = inr (omega (arith, l, m))
+    below_next k (c ∷ cs) n h low m q = inr (omega (arith, q))
 
-  -- the two have different hints, or may tie
-  abbrev pub LooksBack : Option S → S → ℕ → Option Flaw → Option Flaw → Type 0
-  LooksBack None s place first next = next ≡ first
-  LooksBack (Some p) s place first next = ((hinted p ≡ hinted s → ⊥) × (next ≡ first)) ⊎ ((o : Option Flaw) × FindsFlaw (TieAt (key_of b (seen p)) (key_of b (seen s)) place) o × IsEarliest (λ f. (f.place, flaw_rank f.reason)) first o next)
+    none_met : Tells order hint → AreBytes b → (k : List ℕ) (n : ℕ) (ss : List S) (p : ℕ) → AreBytes k → (k ≡ []) ⊎ (hint k < n) → AreHintedBy hinted seen hint b ss → AreHigher hinted n ss → Met (IsFall order) last_filled k (all_keyed b (map seen ss)) p → ⊥
+    none_met tells bytes k n [] p bk low a h m = m
+    none_met tells bytes k n (s ∷ ss) p bk low a h (inl f) =
+        let key = key_of b (seen s) in
+        elim low [
+          | inl e ↦ f.0 e
+          | inr l ↦ f.3 (tells k key bk (bytes_between b (seen s).1 (seen s).2 bytes) (omega (arith, l, h.0, a.0)))
+        ]
+    none_met tells bytes k n (s ∷ ss) p bk low a h (inr m) =
+        let key = key_of b (seen s) in
+        none_met tells bytes (last_filled k key) (hinted s + 1) ss p (filled_bytes k key bk (bytes_between b (seen s).1 (seen s).2 bytes)) (below_next k key n (hinted s) low h.0 a.0) a.1 h.1 m
 
-  pub none_back : (before : Option S) (s : S) (place : ℕ) (first next : Option Flaw) → ((p : S) → before ≡ Some p → ⊥) → next ≡ first → LooksBack before s place first next
-  none_back None s place first next h e = e
-  none_back (Some p) s place first next h e = absurd (h p refl)
+    pub risen_hints : Tells order hint → AreBytes b → (ss : List S) → AreHintedBy hinted seen hint b ss → AreHigher hinted 0 ss → FindsDefect (FallsIn order b (map seen ss)) None
+    risen_hints tells bytes ss a h p r f = none_met tells bytes [] 0 ss p tt (inl refl) a h f.1
 
-  found_back : (hint : List ℕ → ℕ) (before : Option S) (s : S) (place : ℕ) (first next : Option Flaw) → IfSome before (λ p. hinted p ≡ hint (key_of b (seen p))) → hinted s ≡ hint (key_of b (seen s)) → LooksBack before s place first next
-      → (o : Option Flaw) × FindsFlaw (TieAt (key_before before) (key_of b (seen s)) place) o × IsEarliest (λ f. (f.place, flaw_rank f.reason)) first o next
-  found_back hint None s place first next h i e = (None, (λ p r t. t.1.0 (sym t.1.1)), subst (IsEarliest (λ f. (f.place, flaw_rank f.reason)) first None) (sym e) (none_first (λ f. (f.place, flaw_rank f.reason)) first))
-  found_back hint (Some q) s place first next h i (inl e) = (None, (λ p r t. e.0 (h ∙ ap hint t.1.1 ∙ sym i)), subst (IsEarliest (λ f. (f.place, flaw_rank f.reason)) first None) (sym e.1) (none_first (λ f. (f.place, flaw_rank f.reason)) first))
-  found_back hint (Some q) s place first next h i (inr o) = o
-
-  pub ties_passed : (hint : List ℕ → ℕ) → (ss : List S) → AreHintedBy hinted seen hint b ss → (i : ℕ) (s : S) (before : Option S) (place : ℕ) (first found : Option Flaw) → i < length ss → s ≡ get_or ss i s → place ≡ (seen s).0
-      → TiesPassed ss i before first → LooksBack before s place first found → TiesPassed ss (i + 1) (Some s) found
-  ties_passed hint ss a i s before place first found l e q p look = record {
-    last = λ g z. own g z;
-    met = met-take_more IsTie last_key flaw_rank (λ f. f.place) (λ f. f.reason) DuplicateKey seen b ss i s (seen s) (key_before before) (key_of b (seen s)) first back.0 found l e refl refl p.met (subst (λ n. FindsFlaw (TieAt (key_before before) (key_of b (seen s)) n) back.0) q back.1) back.2;
-  }
-    where
-      own : (g : List ℕ → ℕ) → AreHintedBy hinted seen g b ss → hinted s ≡ g (key_of b (seen s))
-      own g z = subst (λ x. hinted x ≡ g (key_of b (seen x))) (sym e) (All-from_recursion (λ x. hinted x ≡ g (key_of b (seen x))) ss z i s l)
-
-      back : (o : Option Flaw) × FindsFlaw (TieAt (key_before before) (key_of b (seen s)) place) o × IsEarliest (λ f. (f.place, flaw_rank f.reason)) first o found
-      back = found_back hint before s place first found (p.last hint a) (own hint a) look
+-- each is higher than the one before it, as `is_sorted_by` says it
+pub higher_from : {S : Type 0} (hinted : S → ℕ) (n : ℕ) (ss : List S) → ((d : S) → 0 < length ss → n ≤ hinted (get_or ss 0 d)) → ((k : ℕ) (d : S) → k + 1 < length ss → true ≡ nat_lt (hinted (get_or ss k d)) (hinted (get_or ss (k + 1) d))) → AreHigher hinted n ss
+higher_from hinted n [] l a = tt
+higher_from hinted n (s ∷ []) l a = (l s (omega arith), tt)
+higher_from hinted n (s ∷ t ∷ ss) l a = (
+  l s (omega arith),
+  higher_from hinted (hinted s + 1) (t ∷ ss) (λ d e. let m : hinted s < hinted t = ltb-true (hinted s) (hinted t) (sym (a 0 s (omega arith))) in omega (arith, m)) (λ k d e. rw add-one (rw add-one at (a (suc k) d (omega (arith, e))))),
+)

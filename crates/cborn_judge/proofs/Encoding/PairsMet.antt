@@ -1,15 +1,23 @@
 -- What a loop over keys that follow one another finds.
-use Rattle.std.proofs.Common.{◌≡◌, ℕ, ◌+◌, ◌<◌, ◌⊎◌, inl, inr, List, [], ◌∷◌, ◌++◌, length, get_or, map, take, refl, sym, ap, ◌∙◌, subst, true, Option, Ordering, Less, Equal, Greater}
-use Rattle.std.specs.Prelude.{◌↔◌}
+use Rattle.std.proofs.Common.{◌≡◌, ℕ, ◌+◌, ◌<◌, ◌⊎◌, inl, inr, List, [], ◌∷◌, ◌++◌, length, get_or, map, take, refl, sym, ap, ◌∙◌, subst, true, false, true≢false, Option, None, Some, Ordering, Less, Equal, Greater}
+use Rattle.std.specs.Prelude.{◌↔◌, is_some}
 use Rattle.std.proofs.lemmas.List.{map-append}
 use Rattle.cborn_model.specs.Orders.{Rising}
 use Rattle.cborn_model.specs.Earliest.{IsEarliest, Finds}
 use Rattle.cborn_model.proofs.Found.{Either, found_both, found_alike}
-use Rattle.cborn_judge.specs.devices.Encoding.{Row, Mark, AreFilled, IsSameKey, HasSameKeys, filled_keys, Falls, HasFall}
-use Rattle.cborn_judge.specs.devices.Marks.{key_of, row_of, Keyed, keyed, all_keyed, Met, remembered, IsFall, last_filled, IsTie, last_key}
+use Rattle.cborn_judge.specs.Departures.{FindsDefect}
+use Rattle.cborn_judge.specs.declared.defects.Defect.{Defect}
+use Rattle.cborn_judge.specs.declared.defects.DefectReason.TheVariants.{KeyOrder}
+use Rattle.cborn_judge.specs.devices.Encoding.{Row, Mark, AreFilled, IsSameKey, HasSameKeys, filled_keys, Falls, HasFall, RowDescent, FindsDescent}
+use Rattle.cborn_judge.specs.devices.Marks.{key_of, row_of, Keyed, keyed, all_keyed, Met, remembered, IsFall, last_filled, FallsIn, IsTie, last_key}
 use Rattle.cborn_judge.specs.shared.Repeats.{IsOneOf, IsAgain, IsTied}
 use Rattle.cborn_judge.proofs.Loops.Passing.{passed_one}
-use Rattle.cborn_judge.proofs.Encoding.PairsRead.{is_filled, filled, not_empty}
+use Rattle.cborn_judge.proofs.FirstDefect.Departing.{alike}
+use Rattle.cborn_judge.proofs.Encoding.PairsRead.{is_filled, filled, not_empty, marked_read}
+
+pub none_of : {X : Type 0} (o : Option X) → is_some o ≡ false → o ≡ None
+none_of None e = refl
+none_of (Some x) e = absurd (true≢false e)
 
 -- ---- one key more
 
@@ -114,8 +122,15 @@ module _ (order : List ℕ → List ℕ → Ordering) where
         (λ h. inr (rest.1 h)),
       )
 
-  pub falls_met : (b : List ℕ) (ms : List Mark) (rows : List Row) (p : ℕ) → map (row_of b) ms ≡ rows → AreFilled rows → Met (IsFall order) last_filled [] (all_keyed b ms) p ↔ HasFall order rows p
+  falls_met : (b : List ℕ) (ms : List Mark) (rows : List Row) (p : ℕ) → map (row_of b) ms ≡ rows → AreFilled rows → Met (IsFall order) last_filled [] (all_keyed b ms) p ↔ HasFall order rows p
   falls_met b ms rows p e f = subst (λ z. Met (IsFall order) last_filled [] z p ↔ HasFall order rows p) (sym (keyed_rows b ms ∙ ap (map row_keyed) e)) (falls_all rows p f)
+
+  pub descent_found : (b : List ℕ) (ms : List Mark) (o : Option Defect) (p : ℕ) → FindsDefect (FallsIn order b ms) o → FindsDescent order p ms b o
+  descent_found b ms o p h y rows at lies marked =
+      let read = marked_read b y rows ms p at lies marked in (
+        (λ none. none_falls b ms rows read (λ q m. subst (FindsDefect (FallsIn order b ms)) none h q KeyOrder (refl, m))),
+        (λ filled. alike (FallsIn order b ms) (RowDescent order rows) o (λ q r. let both = falls_met b ms rows q read filled in ((λ f. (f.0, both.0 f.1)), (λ f. (f.0, both.1 f.1)))) h),
+      )
 
 -- ---- keys that tie
 

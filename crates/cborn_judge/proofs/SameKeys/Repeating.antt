@@ -26,6 +26,14 @@ nothing_repeated k no_entry p h r = r
 nothing_repeated k (entry l v es) p h (inl r) = h r.1.0 r.1.2
 nothing_repeated k (entry l v es) p h (inr r) = nothing_repeated k es p h r
 
+-- of two that have the same bytes one comes after the other
+pub either_again : {X : Type 0} (bytes : X → List ℕ) (xs : List X) (w z : X) → IsOneOf w xs → IsOneOf z xs → bytes w ≡ bytes z → (w ≡ z → ⊥) → IsAgain bytes xs z ⊎ IsAgain bytes xs w
+either_again bytes [] w z i j e n = absurd i
+either_again bytes (x ∷ xs) w z (inl i) (inl j) e n = absurd (n (i ∙ sym j))
+either_again bytes (x ∷ xs) w z (inl i) (inr j) e n = inl (inl (j, ap bytes (sym i) ∙ e))
+either_again bytes (x ∷ xs) w z (inr i) (inl j) e n = inr (inl (i, ap bytes (sym j) ∙ sym e))
+either_again bytes (x ∷ xs) w z (inr i) (inr j) e n = elim (either_again bytes xs w z i j e n) [ inl a ↦ inl (inr a) | inr a ↦ inr (inr a) ]
+
 -- ---- after a sort
 
 -- Of the keys only those count whose encodings pass the test.
@@ -40,7 +48,7 @@ module _ {X : Type 0} (order : List ℕ → List ℕ → Ordering) (laws : IsKey
   abbrev HasEarlier : List X → X → Type 0
   HasEarlier xs z = (w : X) × IsOneOf w xs × IsOneOf z xs × (bytes w ≡ bytes z) × (position w < position z)
 
-  again_earlier : (xs : List X) (z : X) → counts (bytes z) ≡ true → LieBefore counts bytes position xs → IsAgain bytes xs z → HasEarlier xs z
+  pub again_earlier : (xs : List X) (z : X) → counts (bytes z) ≡ true → LieBefore counts bytes position xs → IsAgain bytes xs z → HasEarlier xs z
   again_earlier [] z s h r = absurd r
   again_earlier (x ∷ xs) z s h (inl r) = (x, inl refl, inr r.0, r.1, h.0 z r.0 (ap counts r.1 ∙ s))
   again_earlier (x ∷ xs) z s h (inr r) = let u = again_earlier xs z s h.1 r in (u.0, inr u.1, inr u.2, u.3, u.4)
@@ -118,7 +126,7 @@ module _ {X : Type 0} (order : List ℕ → List ℕ → Ordering) (laws : IsKey
       ]
   earlier_tied (x ∷ y ∷ ys) w z s o (inr i) (inr j) e l = inr (earlier_tied (y ∷ ys) w z s o.1 i j e l)
 
-  one_of_moved : (xs ys : List X) (z : X) → IsPermutation xs ys → IsOneOf z xs → IsOneOf z ys
+  pub one_of_moved : (xs ys : List X) (z : X) → IsPermutation xs ys → IsOneOf z xs → IsOneOf z ys
   one_of_moved xs ys z p i = at_member (λ x. IsOneOf x ys) z xs i (All_moved (λ x. IsOneOf x ys) ys xs (IsPermutation-sym xs ys p) (all_in ys))
     where
       all_in : (l : List X) → AllByRecursion (λ x. IsOneOf x l) l

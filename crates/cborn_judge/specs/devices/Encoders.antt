@@ -11,13 +11,12 @@ use Rattle.cborn_model.specs.Meaning.{IsByteString}
 use Rattle.cborn_model.specs.Heads.{code, IsLeastHead}
 use Rattle.cborn_model.specs.Tree.{Tree, Tagged}
 use Rattle.cborn_model.specs.Partial.{Partial, inside, Opening, an_array, a_map, a_tag, in_chunks, Part, no_part, part, put, IsFree, Ends, built, string_tree, Proper, TakesString}
-use Rattle.cborn_model.specs.Orders.{Rising}
-use Rattle.cborn_det.specs.Det.{bignum_tag, joined}
+use Rattle.cborn_det.specs.Det.{bignum_tag}
 use Rattle.cborn_judge.specs.Flaws.{FlawAt}
 use Rattle.cborn_judge.specs.shared.Checked.{LooseAt}
 use Rattle.cborn_judge.specs.Departures.{FindsDefect, LooseBytesAt}
 use Rattle.cborn_judge.specs.shared.Judged.{FindsFlaw}
-use Rattle.cborn_judge.specs.devices.Encoding.{Row, Mark, row_entries, AreMarked, AreFilled, filled_keys, RowDescent, Coded, AreEncodedAs, IsSound, Opens, Inner, Stands, Finds, OwnFlaw, OwnDefect, IsOpening, is_chunks}
+use Rattle.cborn_judge.specs.devices.Encoding.{Mark, Coded, AreEncodedAs, IsSound, Opens, Inner, Stands, Finds, OwnFlaw, OwnDefect, IsOpening, is_chunks}
 use Rattle.cborn_judge.specs.devices.Marks.{marks_of}
 use Rattle.cborn_judge.specs.declared.levels.Container.{Container}
 use Rattle.cborn_judge.specs.declared.levels.Level.{Level}
@@ -96,10 +95,6 @@ module _ (order : List ℕ → List ℕ → Ordering) where
       (ts : List Tree) (x z : List ℕ) → Ends o ts → old ≡ x ++ z → l.start ≡ length x → Inner order l o ts ms z
       → (c : List ℕ) × Coded order (built o ts) c × (new ≡ x ++ c) × FindsFlaw (OwnFlaw o ts) found.flaw × (l.flawed ≡ false → found.flaw ≡ None → FindsDefect (OwnDefect order o ts) found.defect)
 
-  -- the keys of a map rise whose pairs have these marks
-  abbrev pub KeysRise : Level → List Mark → List ℕ → Type 0
-  KeysRise l own y = (x : List ℕ) (rows : List Row) → l.content ≡ length x → y ≡ x ++ joined (row_entries rows) → AreMarked l.content rows own → Rising order (filled_keys rows) × (AreFilled rows → FindsDefect (RowDescent order rows) None)
-
   -- the innermost container has ended, and adds this to flaws and defects: its encoding stands in the buffer after that of what is around it
   pub record HasEnded (e : Encodings) (f : Partial) (o : Opening) (ts : List Tree) (found : Findings) : Type 0 where
     pub outer : List Level
@@ -129,6 +124,10 @@ module _ (order : List ℕ → List ℕ → Ordering) where
     IsHeld e f (part p k w n x) =
         (s : OpenString) × (y : List ℕ) × (h : List ℕ) × (e.string ≡ Some s) × (s.place ≡ p) × (s.kind ≡ k) × (s.width ≡ w) × (s.len ≡ n)
         × Written e.encodings s f y h x × Finds order f e.flaw e.defect
+
+    -- a container was opened at this place, whose encoding begins with the head of this major type and argument
+    abbrev pub OpensAs : Container → ℕ → Major → Option ℕ → Encoder O → Encoder O → Type 0
+    OpensAs a place major argument e k = (f : Partial) (o : Opening) → BeginsAs a place major argument o → IsHeld e f no_part → IsHeld k (inside f o []) no_part
 
     -- the innermost container was ended
     abbrev pub Closes : Encoder O → Encoder O → Type 0

@@ -87,6 +87,10 @@ module _ (order : List ℕ → List ℕ → Ordering) where
   abbrev pub RowDescent : List Row → ℕ → DefectReason → Type 0
   RowDescent rs p r = (r ≡ KeyOrder) × HasFall rs p
 
+  -- in a buffer in which rows lie from p on, which have these marks, their descent was found; without one their keys rise
+  abbrev pub FindsDescent : ℕ → List Mark → List ℕ → Option defect.Defect → Type 0
+  FindsDescent p ms b o = (y : List ℕ) (rs : List Row) → p ≡ length y → b ≡ y ++ joined (row_entries rs) → AreMarked p rs ms → (o ≡ None → Rising order (filled_keys rs)) × (AreFilled rs → FindsDefect (RowDescent rs) o)
+
   -- the rows' pairs so arranged that their keys rise
   abbrev pub AreArranged : List Row → List ℕ → Type 0
   AreArranged rs x = (fs : List Entry) × IsPermutation (row_entries rs) fs × Rising order (keys fs) × (x ≡ joined fs)

@@ -1,4 +1,4 @@
--- A device of the proofs: the hint for a key in an order that is known. Only devices cite it.
+-- A device of the proofs: the hint for a key in an order that is known.
 use Rattle.std.specs.Prelude.{◌≡◌, ℕ, zero, suc, ◌+◌, ◌*◌, ◌/◌, ◌^◌, ◌<◌, List, [], ◌∷◌, length, Option, None, Some, if◌then◌else◌, nat_lt}
 use Rattle.std.specs.declared.cmp.Ordering.{Ordering}
 use Rattle.std.specs.declared.cmp.Ordering.TheVariants.{Less}

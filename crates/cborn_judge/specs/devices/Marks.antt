@@ -1,5 +1,5 @@
 -- A device of the proofs: the marks that are kept of pairs, and what is read and found where they lie. Only devices cite it.
-use Rattle.std.specs.Prelude.{◌≡◌, ◌≢◌, ℕ, ◌-◌, ◌⊎◌, List, [], ◌∷◌, map, take, drop}
+use Rattle.std.specs.Prelude.{◌≡◌, ◌≢◌, ℕ, ◌+◌, ◌-◌, ◌≤◌, ◌⊎◌, ⊤, List, [], ◌∷◌, map, take, drop}
 use Rattle.std.specs.Ordering.{nat_cmp, ordering_then, is_lt}
 use Rattle.std.specs.List.{AllByRecursion}
 use Rattle.std.specs.List.Sorted.{IsSortedBy}
@@ -53,13 +53,19 @@ row_of b m = (m.0, between m.1 m.2 b, between m.2 m.3 b)
 
 -- ---- hints that are kept
 
-module _ {S : Type 0} (hinted : S → ℕ) (seen : S → encoding.Mark) where
-  -- each keeps the hint for its key
-  abbrev pub AreHintedBy : (List ℕ → ℕ) → List ℕ → List S → Type 0
-  AreHintedBy hint b = AllByRecursion (λ s. hinted s ≡ hint (key_of b (seen s)))
+module _ {S : Type 0} (hinted : S → ℕ) where
+  -- each is higher than the one before it, and the first at least n
+  abbrev pub AreHigher : ℕ → List S → Type 0
+  AreHigher n [] = ⊤
+  AreHigher n (s ∷ ss) = (n ≤ hinted s) × AreHigher (hinted s + 1) ss
 
-  abbrev pub AreHinted : (List ℕ → List ℕ → Ordering) → List ℕ → List S → Type 0
-  AreHinted order b ss = (hint : List ℕ → ℕ) × Tells order hint × AreHintedBy hint b ss
+  module _ (seen : S → encoding.Mark) where
+    -- each is the hint for the key
+    abbrev pub AreHintedBy : (List ℕ → ℕ) → List ℕ → List S → Type 0
+    AreHintedBy hint b = AllByRecursion (λ s. hinted s ≡ hint (key_of b (seen s)))
+
+    abbrev pub AreHinted : (List ℕ → List ℕ → Ordering) → List ℕ → List S → Type 0
+    AreHinted order b ss = (hint : List ℕ → ℕ) × Tells order hint × AreHintedBy hint b ss
 
 -- so it is of the marks from an index on
 abbrev pub AreAllHinted : (List ℕ → List ℕ → Ordering) → List ℕ → ℕ → Marks → Type 0
@@ -122,7 +128,3 @@ mark_order order b x y = ordering_then (order (key_of b x) (key_of b y)) (nat_cm
 
 abbrev pub AreSorted : (List ℕ → List ℕ → Ordering) → List ℕ → List encoding.Mark → Type 0
 AreSorted order b = IsSortedBy (λ x y. is_lt (mark_order order b x y))
-
--- marks with their hints: by the hints, and at equal hints as marks
-abbrev pub hint_order : (List ℕ → List ℕ → Ordering) → List ℕ → ℕ × encoding.Mark → ℕ × encoding.Mark → Ordering
-hint_order order b x y = ordering_then (nat_cmp x.0 y.0) (mark_order order b x.1 y.1)

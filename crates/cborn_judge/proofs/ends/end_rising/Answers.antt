@@ -24,7 +24,8 @@ returns c order own laws long rises ts x z ends is start inner =
     let lies : old ≡ (x ++ h) ++ joined (row_entries rs) = is ∙ ap (λ w. x ++ w) (inner.whole ∙ ap (λ w. h ++ w) inner.contains.4) ∙ sym (append_assoc x h (joined (row_entries rs))) in
     let content : l.content ≡ length (x ++ h) = inner.content ∙ ap (λ i. i + length h) start ∙ sym (length-append x h) in
     let sound = subst (λ b. IsSound b ts) c.requires inner.sound in
-    let (rising, none) = rises (x ++ h) rs content lies inner.contains.3 in
+    let found = rises (x ++ h) rs content lies inner.contains.3 in
+    let rising = found.0 refl in
     let number : n ≡ length rs = long ∙ length_marked l.content rs own inner.contains.3 in
     let defect = c.ended_defect-defect.result in
     let (code, coded, whole) =
@@ -34,5 +35,5 @@ returns c order own laws long rises ts x z ends is start inner =
       coded,
       whole,
       flaw_found order laws l.place s k ts rs ends rows None (λ q r t. rising_new order laws rs q rising t.1),
-      λ b e. defect_found order laws l.place s k ts rs ends rows n defect None defect number sound c.ended_defect-defect.ensures none (none_first (λ d. (d.place, defect_rank d.reason)) defect),
+      λ b e. defect_found order laws l.place s k ts rs ends rows n defect None defect number sound c.ended_defect-defect.ensures found.1 (none_first (λ d. (d.place, defect_rank d.reason)) defect),
     )

@@ -1,13 +1,17 @@
-use Rattle.std.proofs.Common.{rules, ◌++◌, ◌-◌, List, length, take, drop, map, refl, sym, ap, ◌∙◌, subst, arith}
+use Rattle.std.proofs.Common.{rules, ◌++◌, ◌-◌, List, [], length, take, drop, map, None, sym, ap, ◌∙◌, subst, arith}
 use Rattle.std.proofs.lemmas.List.{drop_all, with_items_is, places}
 use Rattle.cborn_judge.specs.Departures.{FindsDefect}
-use Rattle.cborn_judge.specs.devices.Encoding.{Mark, RowDescent}
-use Rattle.cborn_judge.specs.devices.Marks.{AreHintedBy, FallsIn}
-use Rattle.cborn_judge.proofs.FirstDefect.Departing.{alike}
-use Rattle.cborn_judge.proofs.Encoding.PairsRead.{marked_read}
-use Rattle.cborn_judge.proofs.Encoding.PairsMet.{falls_met}
-use Rattle.cborn_judge.proofs.Encoding.PairsArranged.{rest_marked, all_kept}
+use Rattle.cborn_judge.specs.devices.Encoding.{Mark, FindsDescent}
+use Rattle.cborn_judge.specs.devices.Marks.{FallsIn, AreHintedBy}
+use Rattle.cborn_judge.proofs.Encoding.PairsMet.{descent_found}
+use Rattle.cborn_judge.proofs.Encoding.PairsArranged.{rest_marked, none_left, all_kept}
 use Rattle.cborn_judge.proofs.marks.descent.Goals as goal
+
+pub returns-then-from-len-clause-found : goal.returns-then-from-len-clause-found
+returns-then-from-len-clause-found g c start =
+    let order = g.O.KeyOrder.order in
+    let none = none_left g.S.Spot.seen c.args.from c.args.spots.now.items (omega (arith, c.len.ensures, c.if-from-len.true)) in
+    subst (λ (ms : List Mark). FindsDescent order start ms c.args.out.now None) (sym none) (descent_found order c.args.out.now [] None start (λ p r f. f.1))
 
 pub returns-then-from-len-clause-hinted : goal.returns-then-from-len-clause-hinted
 returns-then-from-len-clause-hinted g c =
@@ -15,14 +19,12 @@ returns-then-from-len-clause-hinted g c =
     ((λ k. 0), (λ k l h i m. absurd (omega arith)), subst (AreHintedBy g.S.Spot.hinted g.S.Spot.seen (λ k. 0) c.args.out.now) (sym none) tt)
 
 pub returns-clause-found : goal.returns-clause-found
-returns-clause-found g c y rows e a f =
+returns-clause-found g c start =
     let order = g.O.KeyOrder.order in
-    let xs = c.deref_mut.result.now in
-    let ms : List Mark = drop c.args.from (map g.S.Spot.seen c.args.spots.now.items) in
-    let own = rest_marked g.S.Spot.seen c.args.from c.args.spots.now.items xs c.deref_mut.ensures.value in
-    alike (FallsIn order c.args.out.now ms) (RowDescent order rows) c.first_fall.result
-    (λ p r. let both = falls_met order c.args.out.now ms rows p (marked_read c.args.out.now y rows ms (length y) refl e a) f in ((λ h. (h.0, both.0 h.1)), (λ h. (h.0, both.1 h.1))))
-    (subst (λ z. FindsDefect (FallsIn order c.args.out.now z) c.first_fall.result) own c.first_fall.ensures.found)
+    let b = c.args.out.now in
+    let o = c.first_fall.result in
+    let own = rest_marked g.S.Spot.seen c.args.from c.args.spots.now.items c.deref_mut.result.now c.deref_mut.ensures.value in
+    descent_found order b _ o start (subst (λ (ms : List Mark). FindsDefect (FallsIn order b ms) o) own c.first_fall.ensures.found)
 
 pub returns-clause-kept : goal.returns-clause-kept
 returns-clause-kept g c =

@@ -1,23 +1,40 @@
-use Rattle.std.proofs.Common.{◌≡◌, map, subst}
-use Rattle.std.proofs.lemmas.List.Sorted.{IsPermutation-map}
+use Rattle.std.proofs.Common.{◌≡◌, List, map, not, sym, ap, ◌∙◌, subst, IsPermutation}
+use Rattle.std.specs.Prelude.{flat_map}
+use Rattle.std.proofs.lemmas.List.Sorted.{IsPermutation-map, IsPermutation-trans}
+use Rattle.cborn_model.proofs.Bytes.{are_bytes}
 use Rattle.cborn_model.proofs.SameItems.Rearranging.{All_moved}
-use Rattle.cborn_judge.specs.shared.Judged.{FindsFlaw}
-use Rattle.cborn_judge.specs.devices.Marks.{key_of, TiesIn}
-use Rattle.cborn_judge.proofs.Encoding.PairsArranged.{repeats_found, arranged}
+use Rattle.cborn_judge.specs.Departures.{FindsDefect}
+use Rattle.cborn_judge.specs.devices.Encoding.{Mark, AreArranged}
+use Rattle.cborn_judge.specs.devices.Marks.{key_of, pair_of, FallsIn}
+use Rattle.cborn_judge.proofs.Encoding.PairsHinted.{risen_hints}
+use Rattle.cborn_judge.proofs.Encoding.PairsMet.{none_of}
+use Rattle.cborn_judge.proofs.Encoding.PairsArranged.{sorted_apart, risen}
 use Rattle.cborn_judge.proofs.marks.sort_apart.Goals as goal
 
-pub first_tie-requires : goal.first_tie-requires
-first_tie-requires g c = (c.requires.0, All_moved (λ s. g.S.Spot.hinted s ≡ c.requires.0 (key_of c.args.out.now (g.S.Spot.seen s))) c.args.spots.now c.sort.new.spots c.sort.ensures.moved c.requires.2)
+pub returns-then-hints_rise : goal.returns-then-hints_rise
+returns-then-hints_rise g c y rows e a =
+    let order = g.O.KeyOrder.order in
+    let seen = g.S.Spot.seen in
+    let hinted = g.S.Spot.hinted in
+    let b = c.args.out.now in
+    let by = c.sort_unstable_by_key.ensures.permutation in
+    let all = All_moved (λ s. hinted s ≡ c.requires.0 (key_of b (seen s))) c.args.spots.now c.sort_unstable_by_key.new.self by c.requires.2 in
+    let found = risen_hints seen hinted b order c.requires.0 c.requires.1 (are_bytes b c.type_inv.out) c.sort_unstable_by_key.new.self all (c.hints_rise.ensures c.if-hints_rise.true) in
+    risen order g.met.O.KeyOrder.laws b y rows _ _ (record { stand = e; marked = a; moved = IsPermutation-map seen _ _ by }) found
 
-pub returns-clause-repeat : goal.returns-clause-repeat
-returns-clause-repeat g c y rows e a =
-    let ms = map g.S.Spot.seen c.args.spots.now in
-    let ys = map g.S.Spot.seen c.sort.new.spots in
-    repeats_found g.O.KeyOrder.order g.met.O.KeyOrder.laws c.args.out.now y rows ms ys (record { stand = e; marked = a; moved = IsPermutation-map g.S.Spot.seen _ _ c.sort.ensures.moved; sorted = c.sort.ensures.sorted }) c.first_tie.result c.first_tie.ensures
+pub returns-then-is_none : goal.returns-then-is_none
+returns-then-is_none g c y rows e a =
+    let order = g.O.KeyOrder.order in
+    let seen = g.S.Spot.seen in
+    let b = c.args.out.now in
+    let moved = IsPermutation-trans _ _ _ (IsPermutation-map seen _ _ c.sort_unstable_by_key.ensures.permutation) c.sort_runs.ensures in
+    let found = subst (FindsDefect (FallsIn order b (map seen c.sort_runs.new.spots))) (none_of c.first_fall.result (c.is_none.ensures ∙ ap not c.if-is_none.true)) c.first_fall.ensures.found in
+    let (none, filled) = risen order g.met.O.KeyOrder.laws b y rows _ _ (record { stand = e; marked = a; moved = moved }) found in
+    (none, λ n f. subst (λ (zs : List Mark). AreArranged order rows (flat_map (pair_of b) zs)) (sym c.first_fall.ensures.kept) (filled n f))
 
-pub returns-clause-arranged : goal.returns-clause-arranged
-returns-clause-arranged g c none y rows e a f =
-    let ms = map g.S.Spot.seen c.args.spots.now in
-    let ys = map g.S.Spot.seen c.sort.new.spots in
-    arranged g.O.KeyOrder.order g.met.O.KeyOrder.laws c.args.out.now y rows ms ys (record { stand = e; marked = a; moved = IsPermutation-map g.S.Spot.seen _ _ c.sort.ensures.moved; sorted = c.sort.ensures.sorted })
-    (subst (FindsFlaw (TiesIn c.args.out.now ys)) none c.first_tie.ensures) f
+pub returns : goal.returns
+returns g c y rows e a =
+    let seen = g.S.Spot.seen in
+    let last = subst (λ (zs : List Mark). IsPermutation zs (map seen c.sort.new.spots)) c.first_fall.ensures.kept (IsPermutation-map seen _ _ c.sort.ensures.moved) in
+    let moved = IsPermutation-trans _ _ _ (IsPermutation-trans _ _ _ (IsPermutation-map seen _ _ c.sort_unstable_by_key.ensures.permutation) c.sort_runs.ensures) last in
+    sorted_apart g.O.KeyOrder.order g.met.O.KeyOrder.laws c.args.out.now y rows _ _ (record { stand = e; marked = a; moved = moved }) c.sort.ensures.sorted c.first_tie.result c.first_tie.ensures

@@ -14,7 +14,7 @@ returns-clause-ended g c = λ ts x z ends e start inner.
     let order = g.O.KeyOrder.order in
     let laws = g.met.O.KeyOrder.laws in
     let level = c.args.level in
-    let flaw = c.in_ok-flaw.field-0.flaw in
+    let flaw = c.in_ok-flaw.flaw in
     let h = inner.front in
     let rs = inner.contains.1 in
     let lies : c.args.self.now.out.items ≡ (x ++ h) ++ joined (row_entries rs) = e ∙ ap (λ w. x ++ w) (inner.whole ∙ ap (λ w. h ++ w) inner.contains.4) ∙ sym (append_assoc x h (joined (row_entries rs))) in
@@ -29,7 +29,7 @@ returns-clause-ended g c = λ ts x z ends e start inner.
     let marked : AreMarked level.content rs (drop level.pairs marks) = inner.contains.3 in
     let number : n ≡ length rs = c.count_from-len.ensures ∙ length_marked level.content rs (drop level.pairs marks) marked in
     let repeat = c.in_ok-flaw.ensures.repeat (x ++ h) rs content lies marked in
-    let mid = c.arrange.new.self.out.items in
+    let mid = c.arrange.new.out.items in
     let new = c.end_head.new.out.items in
     let head = c.in_ok-end_head.ensures in
     let left = ended order laws level.place c.args.size c.args.count ts rs ends inner.contains.2 level.flawed flaw x h mid new n inner.begins inner.sound repeat number
@@ -40,6 +40,6 @@ returns-clause-ended g c = λ ts x z ends e start inner.
       left.1,
       left.2,
       flaw_found order laws level.place c.args.size c.args.count ts rs ends inner.contains.2 flaw repeat,
-      λ sound none. defect_found order laws level.place c.args.size c.args.count ts rs ends inner.contains.2 n c.ended_defect-own.result c.in_ok-flaw.field-0.defect c.earliest-defect.result number (subst (λ b. IsSound b ts) sound inner.sound) c.ended_defect-own.ensures
-          (λ filled. c.in_ok-flaw.ensures.descent (x ++ h) rs content lies marked filled) c.earliest-defect.ensures,
+      λ sound none. defect_found order laws level.place c.args.size c.args.count ts rs ends inner.contains.2 n c.ended_defect-own.result c.args.descent c.earliest-defect.result number (subst (λ b. IsSound b ts) sound inner.sound) c.ended_defect-own.ensures
+          (c.requires.descent (x ++ h) rs content lies marked).1 c.earliest-defect.ensures,
     )

@@ -7,7 +7,7 @@ use Rattle.cborn_judge.specs.devices.Marks.{marks_of}
 use Rattle.cborn_judge.proofs.Encoding.Finding.{finds_open}
 use Rattle.cborn_judge.proofs.Encoding.Fronts.{front_there}
 use Rattle.cborn_judge.proofs.Encoding.Standing.{stands_open, stands_same}
-use Rattle.cborn_judge.proofs.encoders.Encoder.add.Goals as goal
+use Rattle.cborn_judge.proofs.encoders.Encoder.open_level.Goals as goal
 
 pub returns : goal.returns
 returns g c = record {

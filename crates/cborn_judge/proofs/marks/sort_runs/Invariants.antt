@@ -1,0 +1,5 @@
+use Rattle.std.proofs.Common.{◌≤◌, map, IsPermutation}
+use Rattle.cborn_judge.proofs.marks.sort_runs.Given as goal
+
+abbrev pub invariant-loop-last : goal.invariant-loop-last
+invariant-loop-last g l = (l.start ≤ l.last) × IsPermutation (map g.S.Spot.seen l.initial.spots) (map g.S.Spot.seen l.spots)
