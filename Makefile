@@ -8,18 +8,17 @@ STACK ?= 256
 # The size in MB of the inputs whose cost in memory is tested.
 COST ?= 8
 
-.PHONY: help try build test check-quick wrong-bodies wrong-bodies-alone layout tables vectors explanations growths failures cost instructions left-out believed stack big library-growths built-tests bench install clean
+.PHONY: help try build test check-quick layout tables vectors explanations growths failures cost instructions left-out believed stack big library-growths built-tests bench install clean
 
 help:
 	@echo 'make try        build the program from its source, before any proof and not optimised, and run it: ARGS="check FILE", or seven bytes'
 	@echo 'make build      prove every crate and build the program, $(PROGRAM)'
 	@echo 'make test       the merge gate from nothing, then side by side make $(AFTER), and which of it was left out'
 	@echo 'make check-quick   while you change something: proves what changed, then make layout, tables and believed'
-	@echo 'make wrong-bodies   the must-fail edits that rt ci does not try, many in one check: the prover refuses each'
-	@echo 'make wrong-bodies-alone   rt ci with those edits too, each by itself: hours; CRATES="cborn_lex .." tries them of some crates'
 	@echo 'make layout     whether each file of the crates is in the layout of rt fmt, cites what it may, makes up no out of memory, has no'
 	@echo '                new function of many arguments and keeps to the glossary, docs/PROMISES.md and the table of worked inputs are'
-	@echo '                what the sources say, and the documents are short and their links lead somewhere'
+	@echo '                what the sources say, each public function of a library has its must-fail edit, and the documents are short'
+	@echo '                and their links lead somewhere'
 	@echo 'make tables     the built program on the tables of tests/ and at a terminal, the examples of the documents, completion-tests and release-tests'
 	@echo 'make vectors    the built program on each front of each worked input'
 	@echo 'make explanations   the built program on random and mutated inputs with --explain: the paths that it tells are followed'
@@ -70,7 +69,7 @@ build: kit
 
 # What follows the gate: side by side, over the program and the tests that were built once before, while the library is proved
 # and built. First what keeps one processor busy for long, then what takes them all, the longest first.
-AFTER := wrong-bodies library-tests dist-tests failures growths library-growths instructions vectors cost tables believed layout stack explanations
+AFTER := library-tests dist-tests failures growths library-growths instructions vectors cost tables believed layout stack explanations
 
 test:
 	rt ci
@@ -84,24 +83,12 @@ check-quick:
 	rt all check
 	$(MAKE) layout tables believed
 
-wrong-bodies: build
-	python3 tests/must_fail.py --together
-
-# no part of make test, since it takes hours: rt ci on a copy of the files as they stand, with all edits where it looks for them
-wrong-bodies-alone: kit
-	copy=$$(mktemp -d) && trap 'rm -rf "$$copy"' EXIT && chmod 755 "$$copy" || exit 1; \
-	git ls-files -z --cached --others --exclude-standard | tar -c --null -T - | tar -x -C "$$copy" || exit 1; \
-	for crate in $(or $(CRATES),$(notdir $(wildcard crates/*))); do \
-	    edits="$$copy/crates/$$crate/must-fail"; \
-	    test ! -d "$$edits-together" || { mkdir -p "$$edits" && mv "$$edits-together"/*.edit "$$edits"; } || exit 1; \
-	done; \
-	cd "$$copy" && rt ci $(CRATES)
-
 layout:
 	@find crates -name out -prune -o \( -name '*.rt' -o -name '*.antt' \) -print0 | xargs -0 '$(dir $(shell rt doc))bin/rattle' fmt --check
 	python3 tests/citations.py
 	python3 tests/vectors.py --check
 	python3 tests/promises.py --check
+	python3 tests/edits.py
 	python3 tests/made_up.py
 	python3 tests/arguments.py
 	python3 tests/glossary.py
