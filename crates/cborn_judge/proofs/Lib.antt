@@ -1,3 +1,4 @@
+pub mod Common
 pub mod Reasons
 pub mod Meaning
 pub mod Loops

@@ -1,10 +1,5 @@
 -- No two reasons have one number.
-use Rattle.std.proofs.Common.{◌≡◌, refl, arith}
-use Rattle.cborn_judge.specs.Reasons.{flaw_rank, defect_rank}
-use Rattle.cborn_judge.specs.declared.faults.InvalidReason.{InvalidReason}
-use Rattle.cborn_judge.specs.declared.faults.InvalidReason.TheVariants.{NotUtf8, BadBignum, DuplicateKey}
-use Rattle.cborn_judge.specs.declared.defects.DefectReason.{DefectReason}
-use Rattle.cborn_judge.specs.declared.defects.DefectReason.TheVariants.{LongHead, EndlessLength, LooseBignum, KeyOrder}
+use Rattle.cborn_judge.proofs.Common.{◌≡◌, refl, arith, flaw_rank, defect_rank, InvalidReason, NotUtf8, BadBignum, DuplicateKey, DefectReason, LongHead, EndlessLength, LooseBignum, KeyOrder}
 
 pub flaw_rank_once : (r s : InvalidReason) → flaw_rank r ≡ flaw_rank s → r ≡ s
 flaw_rank_once NotUtf8 NotUtf8 e = refl

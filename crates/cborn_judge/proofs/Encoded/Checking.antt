@@ -1,9 +1,5 @@
 -- A node that means an item has no defect exactly if it spells the item's encoding.
-use Rattle.std.proofs.Common.{◌≡◌, ◌≢◌, ℕ, ◌⊎◌, inl, inr, List, [], ◌∷◌, length, refl, sym, ap, ◌∙◌, subst, Ordering, Less, Equal, Greater}
-use Rattle.cborn_judge.specs.Flaws.{Within, WithinAll, WithinEntries}
-use Rattle.cborn_judge.specs.Defects.{IsLong, SizeDefect, NotAbove, Descends, HasDescent, DefectAt, Defect, SequenceDefect}
-use Rattle.cborn_judge.specs.declared.defects.DefectReason.{DefectReason}
-use Rattle.cborn_judge.specs.declared.defects.DefectReason.TheVariants.{LongHead, EndlessLength, LooseBignum, KeyOrder}
+use Rattle.cborn_judge.proofs.Common.{◌≡◌, ◌≢◌, ℕ, ◌⊎◌, inl, inr, List, [], ◌∷◌, length, refl, sym, ap, ◌∙◌, subst, Ordering, Less, Equal, Greater, Within, WithinAll, WithinEntries, IsLong, SizeDefect, NotAbove, Descends, HasDescent, DefectAt, Defect, SequenceDefect, DefectReason, LongHead, EndlessLength, LooseBignum, KeyOrder, Value, Values, Couples, no_values, value, no_pairs, pair, IsProper, AreProper, Width, Direct, One, Two, Four, Eight, least, Det, DetValues, keys, IsKeyOrder, Rising, Size, Tree, Uint, Nint, Bytes, Text, ByteChunks, TextChunks, Items, Pairs, Tagged, Simple, Trees, no_item, more, Entries, no_entry, entry, count, count_entries, place, Fixed, Endless, spelled, spelled_all, Fits, FitsAll, FitsEntries, Means, AllMean, EntriesMean}
 use Rattle.cborn_judge.proofs.Encoded.Tidy.{spelled_pairs, SizeIsTidy, IsTidy, AllTidy, EntriesTidy}
 use Rattle.cborn_det.proofs.Canon.{one_of_same}
 use Rattle.cborn_model.proofs.SameItems.Sameness.{same_itself}
@@ -11,18 +7,6 @@ use Rattle.cborn_det.proofs.Room.{counted}
 use Rattle.cborn_judge.proofs.Encoded.Tidying.{tidy_proper}
 use Rattle.cborn_judge.proofs.Meaning.Judging.{inner_means, within_itself}
 use Rattle.cborn_judge.proofs.Encoded.Tidying.{tidy_det, det_tidy, all_det, all_tidy}
-use Rattle.cborn_model.specs.Value.{Value, Values, Couples, no_values, value, no_pairs, pair}
-use Rattle.cborn_model.specs.Valid.{IsProper, AreProper}
-use Rattle.cborn_model.specs.declared.heads.Width.{Width}
-use Rattle.cborn_model.specs.declared.heads.Width.TheVariants.{Direct, One, Two, Four, Eight}
-use Rattle.cborn_model.specs.Heads.{least}
-use Rattle.cborn_det.specs.Det.{Det, DetValues, keys}
-use Rattle.cborn_model.specs.Orders.{IsKeyOrder, Rising}
-use Rattle.cborn_model.specs.declared.heads.Size.{Size}
-use Rattle.cborn_model.specs.Tree.{Tree, Uint, Nint, Bytes, Text, ByteChunks, TextChunks, Items, Pairs, Tagged, Simple, Trees, no_item, more, Entries, no_entry, entry, count, count_entries, place}
-use Rattle.cborn_model.specs.declared.heads.Size.TheVariants.{Fixed, Endless}
-use Rattle.cborn_model.specs.Spelled.{spelled, spelled_all, Fits, FitsAll, FitsEntries}
-use Rattle.cborn_model.specs.Meaning.{Means, AllMean, EntriesMean}
 
 same_or_not : (v w : Width) → (v ≡ w) ⊎ (v ≢ w)
 same_or_not Direct Direct = inl refl

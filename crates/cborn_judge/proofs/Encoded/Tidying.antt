@@ -1,9 +1,5 @@
 -- A tidy node spells the encoding of what it means, and what spells an encoding is tidy.
-use Rattle.std.proofs.Common.{◌≡◌, ◌≢◌, ℕ, suc, ◌+◌, ◌*◌, ◌<◌, ◌≤◌, ◌^◌, ◌⊎◌, inl, inr, List, [], ◌∷◌, ◌++◌, length, refl, sym, ap, ◌∙◌, subst, arith, true, false, Bool, append_assoc, append-nil, Ordering}
-use Rattle.std.specs.List.{AllByRecursion}
-use Rattle.std.proofs.lemmas.Bool.{cases_lt}
-use Rattle.std.proofs.lemmas.List.Sorted.{length_permutation, IsPermutation-refl}
-use Rattle.cborn_judge.specs.Defects.{IsLoose}
+use Rattle.cborn_judge.proofs.Common.{◌≡◌, ◌≢◌, ℕ, suc, ◌+◌, ◌*◌, ◌<◌, ◌≤◌, ◌^◌, ◌⊎◌, inl, inr, List, [], ◌∷◌, ◌++◌, length, refl, sym, ap, ◌∙◌, subst, arith, true, false, Bool, append_assoc, append-nil, Ordering, AllByRecursion, cases_lt, length_permutation, IsPermutation-refl, IsLoose, Value, Values, Couples, integer, bytes, text, array, dict, tagged, simple, no_values, value, no_pairs, pair, value_count, pair_count, big_endian, AreBytes, IsShortest, IsProper, AreProper, HasProperPairs, Width, Direct, One, Two, Four, Eight, Major, Unsigned, Negative, ByteString, TextString, Array, Map, Tag, Other, WidthFits, information, following, least, IsHead, IsLeastHead, Given, EndlessArgument, code, head, IsString, IsInteger, Det, DetValues, DetPairs, Entry, keys, joined, major_of, bignum_tag, Rising, Chunk, Tree, Uint, Nint, Bytes, Text, ByteChunks, TextChunks, Items, Pairs, Tagged, Simple, Trees, no_item, more, Entries, no_entry, entry, count, count_entries, Size, Fixed, Endless, SizeFits, ending, chunks, spelled, spelled_all, spelled_entries, Fits, FitsAll, FitsEntries, IsNumber, IsByteString, IsBignum, Means, AllMean, EntriesMean}
 use Rattle.cborn_judge.proofs.Encoded.Tidy.{spelled_pairs, SizeIsTidy, IsTidy, AllTidy, EntriesTidy}
 use Rattle.cborn_model.proofs.Numbers.OneHead.{one_head, append_same}
 use Rattle.cborn_model.proofs.Numbers.Simples.{simple_fits}
@@ -13,23 +9,6 @@ use Rattle.cborn_det.proofs.Reading.{small}
 use Rattle.cborn_model.proofs.Numbers.OneMagnitude.{one_magnitude, large, fits_in, below_power}
 use Rattle.cborn_judge.proofs.Meaning.Meanings.{holds_below, number_valid}
 use Rattle.cborn_det.proofs.Room.{no_more, counted, counted_pairs}
-use Rattle.cborn_model.specs.Value.{Value, Values, Couples, integer, bytes, text, array, dict, tagged, simple, no_values, value, no_pairs, pair, value_count, pair_count}
-use Rattle.cborn_model.specs.Bytes.{big_endian, AreBytes, IsShortest}
-use Rattle.cborn_model.specs.Valid.{IsProper, AreProper, HasProperPairs}
-use Rattle.cborn_model.specs.declared.heads.Width.{Width}
-use Rattle.cborn_model.specs.declared.heads.Width.TheVariants.{Direct, One, Two, Four, Eight}
-use Rattle.cborn_model.specs.declared.heads.Major.{Major}
-use Rattle.cborn_model.specs.declared.heads.Major.TheVariants.{Unsigned, Negative, ByteString, TextString, Array, Map, Tag, Other}
-use Rattle.cborn_model.specs.Heads.{WidthFits, information, following, least, IsHead, IsLeastHead, Given, EndlessArgument, code, head}
-use Rattle.cborn_det.specs.Det.{IsString, IsInteger, Det, DetValues, DetPairs, Entry, keys, joined, major_of, bignum_tag}
-use Rattle.cborn_model.specs.Orders.{Rising}
-use Rattle.cborn_model.specs.declared.nodes.Chunk.{Chunk}
-use Rattle.cborn_model.specs.Tree.{Tree, Uint, Nint, Bytes, Text, ByteChunks, TextChunks, Items, Pairs, Tagged, Simple, Trees, no_item, more, Entries, no_entry, entry, count, count_entries}
-use Rattle.cborn_model.specs.declared.heads.Size.{Size}
-use Rattle.cborn_model.specs.declared.heads.Size.TheVariants.{Fixed, Endless}
-use Rattle.cborn_model.specs.Heads.{SizeFits}
-use Rattle.cborn_model.specs.Spelled.{ending, chunks, spelled, spelled_all, spelled_entries, Fits, FitsAll, FitsEntries}
-use Rattle.cborn_model.specs.Meaning.{IsNumber, IsByteString, IsBignum, Means, AllMean, EntriesMean}
 
 pub joined_spelled : (es : Entries) → spelled_entries es ≡ joined (spelled_pairs es)
 joined_spelled no_entry = refl

@@ -1,17 +1,8 @@
 -- How containers end: what the nodes in them mean, the head in the place of a front, and arrays.
-use Rattle.std.proofs.Common.{◌≡◌, ℕ, ◌+◌, ◌<◌, ◌^◌, inl, inr, List, [], ◌++◌, length, take, drop, refl, sym, ap, ◌∙◌, subst, arith, true, false, Bool, Option, None, Some, append_assoc, append-nil, length-append, drop_at, take_at, Ordering}
-use Rattle.std.proofs.lemmas.Slice.Zip.{AllZip-long}
-use Rattle.cborn_model.specs.declared.heads.Size.{Size}
-use Rattle.cborn_model.specs.Heads.{IsLeastHead}
-use Rattle.cborn_model.specs.Meaning.{Means}
-use Rattle.cborn_model.specs.Partial.{IsAll}
-use Rattle.cborn_model.specs.Tree.{Tree, Items, trees}
-use Rattle.cborn_model.specs.Value.{array, values_of, value_count}
+use Rattle.cborn_judge.proofs.Common.{◌≡◌, ℕ, ◌+◌, ◌<◌, ◌^◌, inl, inr, List, [], ◌++◌, length, take, drop, refl, sym, ap, ◌∙◌, subst, arith, true, false, Bool, Option, None, Some, append_assoc, append-nil, length-append, drop_at, take_at, Ordering, AllZip-long, Size, IsLeastHead, Means, IsAll, Tree, Items, trees, array, values_of, value_count, Replaces, IsHeadFront, Coded, AreEncodedAs, IsSound, MeansNothing}
 use Rattle.cborn_model.proofs.Listed.Meanings.{all_mean, each_means, are_proper}
 use Rattle.cborn_model.proofs.Listed.Values.{value_count-values_of}
-use Rattle.cborn_det.specs.Appending.{Replaces}
 use Rattle.cborn_det.proofs.Steps.{values_of_seq}
-use Rattle.cborn_judge.specs.devices.Encoding.{IsHeadFront, Coded, AreEncodedAs, IsSound, MeansNothing}
 
 -- ---- heads
 

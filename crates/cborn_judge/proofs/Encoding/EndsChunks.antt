@@ -1,20 +1,6 @@
 -- How strings of indefinite length end.
-use Rattle.std.proofs.Common.{◌≡◌, ℕ, ◌+◌, ◌-◌, ◌<◌, ◌^◌, inl, inr, List, [], ◌∷◌, ◌++◌, length, take, refl, sym, ap, subst, arith, true, false, Bool, None, Some, length-append, Ordering}
-use Rattle.std.specs.List.{AllZip}
-use Rattle.cborn_model.specs.declared.visitors.StringKind.{StringKind}
-use Rattle.cborn_model.specs.declared.visitors.StringKind.TheVariants.{OfBytes, OfText}
-use Rattle.cborn_judge.specs.declared.defects.DefectReason.TheVariants.{EndlessLength}
-use Rattle.cborn_model.specs.Bytes.{AreBytes}
-use Rattle.cborn_model.specs.Heads.{code, IsLeastHead}
-use Rattle.cborn_model.specs.Meaning.{joined_chunks, ChunksAreText, Means}
-use Rattle.cborn_model.specs.Partial.{AreStrings, chunks_of, chunks_tree}
-use Rattle.cborn_model.specs.Tree.{Tree, Bytes, Text}
-use Rattle.cborn_model.specs.Value.{Value, bytes, text}
+use Rattle.cborn_judge.proofs.Common.{◌≡◌, ℕ, ◌+◌, ◌-◌, ◌<◌, ◌^◌, inl, inr, List, [], ◌∷◌, ◌++◌, length, take, refl, sym, ap, subst, arith, true, false, Bool, None, Some, length-append, Ordering, AllZip, StringKind, OfBytes, OfText, EndlessLength, AreBytes, code, IsLeastHead, joined_chunks, ChunksAreText, Means, AreStrings, chunks_of, chunks_tree, Tree, Bytes, Text, Value, bytes, text, Replaces, FindsDefect, Coded, IsSound, MeansNothing, kind_major}
 use Rattle.cborn_model.proofs.Bytes.{bytes-right}
-use Rattle.cborn_det.specs.Appending.{Replaces}
-use Rattle.cborn_judge.specs.Departures.{FindsDefect}
-use Rattle.cborn_judge.specs.devices.Encoding.{Coded, IsSound, MeansNothing}
-use Rattle.cborn_judge.specs.devices.Encoders.{kind_major}
 use Rattle.cborn_judge.proofs.Encoding.Ends.{cut, headed}
 use Rattle.cborn_judge.proofs.Meaning.Meanings.{joined_text}
 

@@ -1,24 +1,6 @@
 -- How tags end, and bignums among them.
-use Rattle.std.proofs.Common.{◌≡◌, ◌≢◌, ℕ, ◌+◌, ◌<◌, ◌^◌, ◌⊎◌, inl, inr, List, [], ◌∷◌, ◌++◌, ◌-◌, ◌≤◌, Bor, length, length-append, take, drop, drop_at, refl, sym, ap, ◌∙◌, subst, arith, eqb, true, false, Bool, Option, None, Some, append-nil, Ordering}
-use Rattle.std.specs.List.{slice_range}
-use Rattle.std.specs.Option.{MatchOption, unwrap_or}
-use Rattle.std.proofs.lemmas.List.{take_all}
-use Rattle.cborn_model.specs.declared.heads.Width.{Width}
+use Rattle.cborn_judge.proofs.Common.{◌≡◌, ◌≢◌, ℕ, ◌+◌, ◌<◌, ◌^◌, ◌⊎◌, inl, inr, List, [], ◌∷◌, ◌++◌, ◌-◌, ◌≤◌, Bor, length, length-append, take, drop, drop_at, refl, sym, ap, ◌∙◌, subst, arith, eqb, true, false, Bool, Option, None, Some, append-nil, Ordering, slice_range, MatchOption, unwrap_or, take_all, Width, BadBignum, AreBytes, IsShortest, big_endian, IsLeastHead, IsByteString, Means, last_of, Tree, Tagged, IsProper, Value, integer, bytes, tagged, Det, IsInteger, bignum_tag, FindsDefect, LongAt, FlawAt, LooseAt, FindsFlaw, Coded, IsEncodedAs, AreEncodedAs, IsSound, MeansNothing}
 use Rattle.cborn_judge.specs.declared.defects.Defect as defect
-use Rattle.cborn_judge.specs.declared.faults.InvalidReason.TheVariants.{BadBignum}
-use Rattle.cborn_model.specs.Bytes.{AreBytes, IsShortest, big_endian}
-use Rattle.cborn_model.specs.Heads.{IsLeastHead}
-use Rattle.cborn_model.specs.Meaning.{IsByteString, Means}
-use Rattle.cborn_model.specs.Partial.{last_of}
-use Rattle.cborn_model.specs.Tree.{Tree, Tagged}
-use Rattle.cborn_model.specs.Valid.{IsProper}
-use Rattle.cborn_model.specs.Value.{Value, integer, bytes, tagged}
-use Rattle.cborn_det.specs.Det.{Det, IsInteger, bignum_tag}
-use Rattle.cborn_judge.specs.Departures.{FindsDefect, LongAt}
-use Rattle.cborn_judge.specs.Flaws.{FlawAt}
-use Rattle.cborn_judge.specs.shared.Checked.{LooseAt}
-use Rattle.cborn_judge.specs.shared.Judged.{FindsFlaw}
-use Rattle.cborn_judge.specs.devices.Encoding.{Coded, IsEncodedAs, AreEncodedAs, IsSound, MeansNothing}
 use Rattle.cborn_judge.proofs.FirstDefect.Departing.{alike}
 use Rattle.cborn_det.proofs.Canon.{tags}
 use Rattle.cborn_model.proofs.Found.{Either}

@@ -1,17 +1,7 @@
 -- What a container of each kind that ends well is, by what it opens.
-use Rattle.std.proofs.Common.{◌≡◌, ℕ, List, [], ◌++◌, length, take, drop, take_at, drop_at, append-nil, sym, ap, ◌∙◌, subst, Bool, true, false, true≢false, Option, Ordering}
-use Rattle.cborn_model.specs.declared.heads.Size.{Size}
-use Rattle.cborn_model.specs.declared.visitors.StringKind.TheVariants.{OfBytes}
-use Rattle.cborn_model.specs.Partial.{Partial, inside, Ends, Opening, an_array, a_map, a_tag, in_chunks}
-use Rattle.cborn_model.specs.Tree.{Tree}
-use Rattle.cborn_judge.specs.devices.Encoding.{Mark, Opens, IsSound, Inner, Stands}
-use Rattle.cborn_judge.specs.devices.Marks.{marks_of}
-use Rattle.cborn_judge.specs.devices.Encoders.{StandsIn, EndsWell, HasEnded}
-use Rattle.cborn_judge.specs.declared.encoders.Encodings.{Encodings}
-use Rattle.cborn_judge.specs.declared.levels.Container.{Container}
+use Rattle.cborn_judge.proofs.Common.{◌≡◌, ℕ, List, [], ◌++◌, length, take, drop, take_at, drop_at, append-nil, sym, ap, ◌∙◌, subst, Bool, true, false, true≢false, Option, Ordering, Size, OfBytes, Partial, inside, Ends, Opening, an_array, a_map, a_tag, in_chunks, Tree, Mark, Opens, IsSound, Inner, Stands, marks_of, StandsIn, EndsWell, HasEnded, Encodings, Container, Level}
 use Rattle.cborn_judge.specs.declared.ends.Findings.{Findings}
 use Rattle.cborn_judge.specs.declared.levels.Container.TheVariants as container
-use Rattle.cborn_judge.specs.declared.levels.Level.{Level}
 
 -- what is open where a level stands; the input, which opens nothing, is as good as another
 abbrev pub opening_of : Container → ℕ → Opening

@@ -1,16 +1,5 @@
 -- What an encoder writes where a container opens.
-use Rattle.std.proofs.Common.{◌≡◌, ℕ, List, ◌++◌, length, refl, subst, sym, ap, Option, None, Some}
-use Rattle.cborn_model.specs.declared.heads.Major.{Major}
-use Rattle.std.specs.Option.{unwrap_or}
-use Rattle.cborn_model.specs.declared.heads.Major.TheVariants.{Array, Map, Tag}
-use Rattle.cborn_model.specs.Heads.{code, IsLeastHead}
-use Rattle.cborn_model.specs.Partial.{Opening, an_array, a_map, a_tag, in_chunks, built}
-use Rattle.cborn_model.specs.declared.visitors.StringKind.TheVariants.{OfBytes, OfText}
-use Rattle.cborn_model.specs.Tree.{Tree, place}
-use Rattle.cborn_det.specs.Appending.{Appends}
-use Rattle.cborn_judge.specs.devices.Encoding.{IsOpening, IsFront, IsHeadFront}
-use Rattle.cborn_judge.specs.devices.Encoders.{BeginsAs}
-use Rattle.cborn_judge.specs.declared.levels.Container.{Container}
+use Rattle.cborn_judge.proofs.Common.{◌≡◌, ℕ, List, ◌++◌, length, refl, subst, sym, ap, Option, None, Some, Major, unwrap_or, Array, Map, Tag, code, IsLeastHead, Opening, an_array, a_map, a_tag, in_chunks, built, OfBytes, OfText, Tree, place, Appends, IsOpening, IsFront, IsHeadFront, BeginsAs, Container}
 
 head_front : (m : ℕ) (c : Option ℕ) (h : List ℕ) → IsLeastHead m (unwrap_or c 0) h → IsHeadFront m c h
 head_front m (Some n) h least = least

@@ -1,14 +1,8 @@
 -- Keys rise as their hints do, where these differ.
-use Rattle.std.proofs.Common.{◌≡◌, ℕ, zero, suc, ◌+◌, ◌*◌, ◌/◌, ◌<◌, ◌≤◌, ◌^◌, inl, inr, List, [], ◌∷◌, length, refl, sym, ap, ◌∙◌, subst, arith, pow-suc, mul-le-mul_right, Option, None, Some, Ordering, Less, Equal}
-use Rattle.std.specs.Prelude.{IfSome}
-use Rattle.std.specs.Cmp.{nat_cmp_is}
-use Rattle.std.specs.Ordering.{nat_cmp, ordering_then}
-use Rattle.std.proofs.lemmas.Bool.{cases_lt, lt-ltb, le-ltb}
-use Rattle.cborn_model.specs.Bytes.{AreBytes}
-use Rattle.cborn_model.specs.Orders.{bytewise, length_first, order_of}
+use Rattle.cborn_judge.proofs.Common.{◌≡◌, ℕ, zero, suc, ◌+◌, ◌*◌, ◌/◌, ◌<◌, ◌≤◌, ◌^◌, inl, inr, List, [], ◌∷◌, length, refl, sym, ap, ◌∙◌, subst, arith, pow-suc, mul-le-mul_right, Option, None, Some, Ordering, Less, Equal, IfSome, nat_cmp_is, nat_cmp, ordering_then, cases_lt, le-ltb, AreBytes, bytewise, length_first, order_of, front_of, length_hint, hint_of, Tells}
+use Rattle.std.proofs.lemmas.Bool.{lt-ltb}
 use Rattle.cborn_model.specs.declared.orders.KnownOrder.{KnownOrder}
 use Rattle.cborn_model.specs.declared.orders.KnownOrder.TheVariants as known
-use Rattle.cborn_judge.specs.devices.Hints.{front_of, length_hint, hint_of, Tells}
 
 front_below : (n : ℕ) (x : List ℕ) → AreBytes x → front_of n x < 256 ^ n
 front_below zero x h = omega arith

@@ -1,7 +1,5 @@
 -- The mark of the last pair is read and written.
-use Rattle.std.proofs.Common.{◌≡◌, ℕ, ◌-◌, List, [], ◌∷◌, ◌++◌, length, get_or, set, map, sym, ap, ◌∙◌, arith, length-append}
-use Rattle.std.proofs.lemmas.List.{get_or-map, length-map, map-set, set_at}
-use Rattle.std.proofs.Math.Seq.{get_or-append_seam}
+use Rattle.cborn_judge.proofs.Common.{◌≡◌, ℕ, ◌-◌, List, [], ◌∷◌, ◌++◌, length, get_or, set, map, sym, ap, ◌∙◌, arith, length-append, get_or-map, length-map, map-set, set_at, get_or-append_seam}
 
 module _ {X Y : Type 0} (f : X → Y) (xs : List X) (n : ℕ) (ms : List Y) (y : Y) (long : n ≡ length xs) (e : map f xs ≡ ms ++ y ∷ []) where
   here : length ms ≡ n - 1

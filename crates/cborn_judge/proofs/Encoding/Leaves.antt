@@ -1,29 +1,9 @@
 -- Integers, simple values and strings in what an encoder holds.
-use Rattle.std.proofs.Common.{◌≡◌, ℕ, ◌<◌, ◌^◌, inl, List, length, refl, sym, ◌∙◌, subst, true, false, true≢false, Bool, Ordering, Option, None}
-use Rattle.std.specs.Prelude.{◌↔◌, IsTrue, IsUtf8}
-use Rattle.cborn_model.specs.declared.heads.Width.{Width}
-use Rattle.cborn_model.specs.declared.visitors.StringKind.{StringKind}
-use Rattle.cborn_model.specs.declared.visitors.StringKind.TheVariants.{OfBytes, OfText}
-use Rattle.cborn_judge.specs.declared.faults.InvalidReason.{InvalidReason}
-use Rattle.cborn_judge.specs.declared.faults.InvalidReason.TheVariants.{NotUtf8}
+use Rattle.cborn_judge.proofs.Common.{◌≡◌, ℕ, ◌<◌, ◌^◌, inl, List, length, refl, sym, ◌∙◌, subst, true, false, true≢false, Bool, Ordering, Option, None, ◌↔◌, IsTrue, IsUtf8, Width, StringKind, OfBytes, OfText, InvalidReason, NotUtf8, WidthFits, IsLeastHead, is_simple_value, Tree, Text, Simple, place, IsNumber, integer, simple, Partial, put, integer_tree, string_tree, defect_rank, flaw_rank, major_of, FlawAt, Flaw, DefectAt, FindsDefect, LongAt, DefectIn, IsEarliestDefect, FindsFlaw, IsEarliestFlaw, IsEncodedAs, Finds, IsContent}
 use Rattle.cborn_judge.specs.declared.defects.Defect as defect
-use Rattle.cborn_model.specs.Heads.{WidthFits, IsLeastHead, is_simple_value}
-use Rattle.cborn_model.specs.Tree.{Tree, Text, Simple, place}
-use Rattle.cborn_model.specs.Meaning.{IsNumber}
-use Rattle.cborn_model.specs.Value.{integer, simple}
-use Rattle.cborn_model.specs.Partial.{Partial, put, integer_tree, string_tree}
-use Rattle.cborn_judge.specs.Reasons.{defect_rank, flaw_rank}
 use Rattle.cborn_model.proofs.Found.{found_alike}
 use Rattle.cborn_model.proofs.Numbers.SomeMagnitude.{magnitude_of}
-use Rattle.cborn_det.specs.Det.{major_of}
-use Rattle.cborn_judge.specs.Flaws.{FlawAt, Flaw}
-use Rattle.cborn_judge.specs.Defects.{DefectAt}
-use Rattle.cborn_judge.specs.Departures.{FindsDefect, LongAt}
-use Rattle.cborn_judge.specs.shared.Checked.{DefectIn, IsEarliestDefect}
-use Rattle.cborn_judge.specs.shared.Judged.{FindsFlaw, IsEarliestFlaw}
 use Rattle.cborn_judge.specs.declared.flaws.Flaw as flaw
-use Rattle.cborn_judge.specs.devices.Encoding.{IsEncodedAs, Finds}
-use Rattle.cborn_judge.specs.devices.Encoders.{IsContent}
 use Rattle.cborn_judge.proofs.Encoding.Finding.{finds_put}
 use Rattle.cborn_judge.proofs.Encoding.PairsHinted.{none_first}
 use Rattle.cborn_judge.proofs.FirstDefect.Departing.{uint_found, nint_found, bytes_found, text_found}

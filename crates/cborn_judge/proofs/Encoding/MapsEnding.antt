@@ -1,24 +1,8 @@
 -- What stands in the buffer when a map has ended, and what was found.
-use Rattle.std.proofs.Common.{◌≡◌, ℕ, suc, ◌+◌, ◌<◌, inl, inr, List, [], ◌∷◌, ◌++◌, length, take, append_assoc, refl, sym, ap, ◌∙◌, subst, arith, Bool, true, false, Option, None, Some, Ordering}
-use Rattle.std.specs.Prelude.{◌||◌, is_some}
-use Rattle.std.specs.List.{AllZip}
-use Rattle.std.proofs.lemmas.Slice.Zip.{AllZip-long}
-use Rattle.cborn_model.specs.Heads.{IsLeastHead}
-use Rattle.cborn_model.specs.Orders.{IsKeyOrder}
-use Rattle.cborn_model.specs.Partial.{a_map, Ends, IsAll, paired, ended_size, built}
-use Rattle.cborn_judge.specs.Reasons.{flaw_rank}
-use Rattle.cborn_model.specs.Tree.{Tree, entries}
-use Rattle.cborn_model.specs.declared.heads.Size.{Size}
+use Rattle.cborn_judge.proofs.Common.{◌≡◌, ℕ, suc, ◌+◌, ◌<◌, inl, inr, List, [], ◌∷◌, ◌++◌, length, take, append_assoc, refl, sym, ap, ◌∙◌, subst, arith, Bool, true, false, Option, None, Some, Ordering, ◌||◌, is_some, AllZip, AllZip-long, IsLeastHead, IsKeyOrder, a_map, Ends, IsAll, paired, ended_size, built, flaw_rank, Tree, entries, Size, Replaces, FindsDefect, IsEarliestDefect, DescentAt, SizeAt, FindsFlaw, RepeatFlaw, DuplicateKey, HasRepeat, MeansNothing, Row, Mark, AreMarked, RowRepeat, AreFilled, RowDescent, FindsDescent, AreArranged, Coded, AreRows, IsSound, IsFront, IsHeadFront, OwnFlaw, OwnDefect}
 use Rattle.cborn_judge.specs.declared.defects.Defect as defect
 use Rattle.cborn_model.proofs.Found.{found_alike}
-use Rattle.cborn_det.specs.Appending.{Replaces}
-use Rattle.cborn_judge.specs.Departures.{FindsDefect}
-use Rattle.cborn_judge.specs.shared.Checked.{IsEarliestDefect, DescentAt, SizeAt}
-use Rattle.cborn_judge.specs.shared.Judged.{FindsFlaw, RepeatFlaw}
 use Rattle.cborn_judge.specs.declared.flaws.Flaw as flaw
-use Rattle.cborn_judge.specs.declared.faults.InvalidReason.TheVariants.{DuplicateKey}
-use Rattle.cborn_judge.specs.Flaws.{HasRepeat}
-use Rattle.cborn_judge.specs.devices.Encoding.{MeansNothing, Row, Mark, AreMarked, RowRepeat, AreFilled, RowDescent, FindsDescent, AreArranged, Coded, AreRows, IsSound, IsFront, IsHeadFront, OwnFlaw, OwnDefect}
 use Rattle.cborn_judge.proofs.FirstDefect.Departing.{both_found, alike}
 use Rattle.cborn_judge.proofs.Encoding.Ends.{cut, headed}
 use Rattle.cborn_judge.proofs.Encoding.MapsRows.{IsRow, sound_paired, paired_sound, paired_rows, written, map_encoded, repeat_nothing, repeats, descents}

@@ -1,28 +1,10 @@
 -- The rows of a map and the pairs of its nodes: which keys are the same, which isn't above the one before it, and what the map is encoded as.
-use Rattle.std.proofs.Common.{◌≡◌, ◌≢◌, ℕ, inl, inr, List, [], ◌∷◌, ◌++◌, length, refl, sym, ap, ◌∙◌, subst, arith, None, Ordering, Less, Equal}
-use Rattle.std.specs.Prelude.{◌↔◌}
-use Rattle.std.specs.List.{AllZip}
-use Rattle.std.proofs.lemmas.List.Sorted.{IsPermutation-refl}
-use Rattle.cborn_model.specs.Heads.{least, IsLeastHead}
-use Rattle.cborn_model.specs.Meaning.{Means, EntriesMean}
-use Rattle.cborn_model.specs.Orders.{IsKeyOrder, Rising}
-use Rattle.cborn_model.specs.Partial.{paired, last_key}
-use Rattle.cborn_model.specs.Tree.{Tree, Pairs, entries, place}
-use Rattle.cborn_model.specs.Valid.{IsProper, HasProperPairs}
-use Rattle.cborn_model.specs.Value.{Value, Couples, dict, no_pairs, pair, pair_count, Same}
-use Rattle.cborn_model.specs.declared.heads.Size.{Size}
-use Rattle.cborn_judge.specs.declared.defects.DefectReason.{DefectReason}
-use Rattle.cborn_judge.specs.declared.faults.InvalidReason.{InvalidReason}
+use Rattle.cborn_judge.proofs.Common.{◌≡◌, ◌≢◌, ℕ, inl, inr, List, [], ◌∷◌, ◌++◌, length, refl, sym, ap, ◌∙◌, subst, arith, None, Ordering, Less, Equal, ◌↔◌, AllZip, IsPermutation-refl, least, IsLeastHead, Means, EntriesMean, IsKeyOrder, Rising, paired, Tree, Pairs, entries, place, IsProper, HasProperPairs, Value, Couples, dict, no_pairs, pair, pair_count, Same, Size, DefectReason, InvalidReason, Det, DetPairs, keys, joined, IsRepeated, HasRepeat, Descends, HasDescent, DescentAt, RepeatFlaw, MeansNothing, Row, row_entries, IsSameKey, HasSameKeys, RowRepeat, AreFilled, filled_keys, Falls, HasFall, RowDescent, AreArranged, IsEncodedAs, Coded, AreRows}
+use Rattle.cborn_model.specs.Partial.{last_key}
 use Rattle.cborn_model.proofs.Listed.Trees.{count_entries-entries}
-use Rattle.cborn_det.specs.Det.{Det, DetPairs, keys, joined}
 use Rattle.cborn_det.proofs.Canon.{same_of_one, one_of_same}
 use Rattle.cborn_det.proofs.Room.{holds_below, counted_pairs}
 use Rattle.cborn_det.proofs.Written.{some_bytes}
-use Rattle.cborn_judge.specs.Flaws.{IsRepeated, HasRepeat}
-use Rattle.cborn_judge.specs.Defects.{Descends, HasDescent}
-use Rattle.cborn_judge.specs.shared.Checked.{DescentAt}
-use Rattle.cborn_judge.specs.shared.Judged.{RepeatFlaw}
-use Rattle.cborn_judge.specs.devices.Encoding.{MeansNothing, Row, row_entries, IsSameKey, HasSameKeys, RowRepeat, AreFilled, filled_keys, Falls, HasFall, RowDescent, AreArranged, IsEncodedAs, Coded, AreRows}
 use Rattle.cborn_judge.proofs.FirstDefect.Descending.{above_by_code}
 use Rattle.cborn_judge.proofs.Meaning.Judging.{no_repeat, new_keys}
 use Rattle.cborn_judge.proofs.Meaning.Meanings.{means_once}

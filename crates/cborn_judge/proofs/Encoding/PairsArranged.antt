@@ -1,26 +1,10 @@
 -- Pairs that are sorted by their keys: what ties is a repeat, and where nothing does the keys rise.
-use Rattle.std.proofs.Common.{◌≡◌, ◌≢◌, ℕ, ◌+◌, ◌-◌, ◌≤◌, inl, inr, List, [], ◌∷◌, ◌++◌, length, map, take, drop, refl, sym, ap, ◌∙◌, subst, arith, take_at, Option, None, Ordering, true, is_lt, IsPermutation, get_or}
-use Rattle.std.specs.Prelude.{◌↔◌, flat_map}
-use Rattle.std.specs.List.Sorted.{IsSortedBy}
-use Rattle.std.specs.Cmp.{IsStrictWeakOrder}
+use Rattle.cborn_judge.proofs.Common.{◌≡◌, ◌≢◌, ℕ, ◌+◌, ◌-◌, ◌≤◌, inl, inr, List, [], ◌∷◌, ◌++◌, length, map, take, drop, refl, sym, ap, ◌∙◌, subst, arith, take_at, Option, None, Ordering, true, is_lt, IsPermutation, get_or, ◌↔◌, flat_map, IsSortedBy, IsStrictWeakOrder, map-append, take-append-drop, take_rest, drop-map, drop_all, get_or-map, length-map, take-map, length-take-le, IsPermutation-map, IsPermutation-refl, IsPermutation-append_left, IsPermutation-append_right, ranks_by, Rising, IsKeyOrder, flaw_rank, InvalidReason, DuplicateKey, joined, keys, FindsDefect, KeyOrder, FindsFlaw, Row, row_entry, row_entries, Mark, AreMarked, AreFilled, AreArranged, filled_keys, HasSameKeys, RowRepeat, key_of, pair_of, row_of, FallsIn, TiesIn, mark_order, AreSorted, IsAgain, IsTied}
 use Rattle.std.proofs.lemmas.Cmp.{on_total, then_total, nat_cmp_total}
-use Rattle.std.proofs.lemmas.List.{map-append, take-append-drop, take_rest, drop-map, drop_all, get_or-map, length-map, take-map, length-take-le}
-use Rattle.std.proofs.lemmas.List.Sorted.{IsPermutation-map, IsPermutation-refl, IsPermutation-append_left, IsPermutation-append_right, ranks_by}
-use Rattle.cborn_model.specs.Orders.{Rising, IsKeyOrder}
-use Rattle.cborn_judge.specs.Reasons.{flaw_rank}
-use Rattle.cborn_judge.specs.declared.faults.InvalidReason.{InvalidReason}
-use Rattle.cborn_judge.specs.declared.faults.InvalidReason.TheVariants.{DuplicateKey}
 use Rattle.cborn_model.proofs.Found.{found_alike}
 use Rattle.cborn_model.proofs.SameItems.Rearranging.{All_moved}
-use Rattle.cborn_det.specs.Det.{joined, keys}
 use Rattle.cborn_det.proofs.Arranging.{total}
-use Rattle.cborn_judge.specs.Departures.{FindsDefect}
-use Rattle.cborn_judge.specs.declared.defects.DefectReason.TheVariants.{KeyOrder}
 use Rattle.cborn_judge.specs.declared.flaws.Flaw as flaw
-use Rattle.cborn_judge.specs.shared.Judged.{FindsFlaw}
-use Rattle.cborn_judge.specs.devices.Encoding.{Row, row_entry, row_entries, Mark, AreMarked, AreFilled, AreArranged, filled_keys, HasSameKeys, RowRepeat}
-use Rattle.cborn_judge.specs.devices.Marks.{key_of, pair_of, row_of, FallsIn, TiesIn, mark_order, AreSorted}
-use Rattle.cborn_judge.specs.shared.Repeats.{IsAgain, IsTied}
 use Rattle.cborn_judge.proofs.SameKeys.Repeating.{LieBefore, InOrder, again_tied, sorted_in_order, again_earlier, either_again, one_of_moved}
 use Rattle.cborn_judge.proofs.Encoding.PairsRead.{is_filled, filled, begin_of, marked_read, marked_rise, IsSplit, marked_split, all_split}
 use Rattle.cborn_judge.proofs.Encoding.PairsMet.{ties_all, same_again, none_falls}

@@ -1,19 +1,6 @@
 -- What is found by a loop over marks that looks at the hints for the keys first.
-use Rattle.std.proofs.Common.{◌≡◌, ℕ, suc, ◌+◌, ◌<◌, ◌≤◌, ◌⊎◌, inl, inr, List, [], ◌∷◌, ◌++◌, length, get_or, set, nat_lt, add-one, map, take, refl, sym, ap, ◌∙◌, subst, arith, true, false, true≢false, Option, None, Some, Ordering}
-use Rattle.std.specs.Prelude.{◌==◌}
-use Rattle.std.specs.List.{AllByRecursion}
-use Rattle.std.proofs.lemmas.List.{take-set, take_more_set, get_or-set_same, length-set}
-use Rattle.std.proofs.lemmas.Bool.{ltb-true}
-use Rattle.std.proofs.Math.Seq.{map-set_same}
-use Rattle.cborn_model.specs.Bytes.{AreBytes}
-use Rattle.cborn_model.specs.Earliest.{IsEarliest}
-use Rattle.cborn_judge.specs.Reasons.{defect_rank}
+use Rattle.cborn_judge.proofs.Common.{◌≡◌, ℕ, suc, ◌+◌, ◌<◌, ◌≤◌, ◌⊎◌, inl, inr, List, [], ◌∷◌, ◌++◌, length, get_or, set, nat_lt, add-one, map, take, refl, sym, ap, ◌∙◌, subst, arith, true, false, true≢false, Option, None, Some, Ordering, ◌==◌, AllByRecursion, take-set, take_more_set, get_or-set_same, length-set, ltb-true, map-set_same, AreBytes, IsEarliest, defect_rank, KeyOrder, FindsDefect, Tells, Mark, key_of, all_keyed, IsFall, last_filled, FallAt, FallsIn, Met, AreHigher, AreHintedBy}
 use Rattle.cborn_judge.specs.declared.defects.Defect.{Defect}
-use Rattle.cborn_judge.specs.declared.defects.DefectReason.TheVariants.{KeyOrder}
-use Rattle.cborn_judge.specs.Departures.{FindsDefect}
-use Rattle.cborn_judge.specs.devices.Hints.{Tells}
-use Rattle.cborn_judge.specs.devices.Encoding.{Mark}
-use Rattle.cborn_judge.specs.devices.Marks.{key_of, all_keyed, IsFall, last_filled, FallAt, FallsIn, Met, AreHigher, AreHintedBy}
 use Rattle.cborn_judge.proofs.Encoding.PairsRead.{empty, bytes_between}
 use Rattle.cborn_judge.proofs.Encoding.PairsMet.{IsMet, met-take_more}
 

@@ -1,16 +1,8 @@
 -- What a loop over keys that follow one another finds.
-use Rattle.std.proofs.Common.{◌≡◌, ℕ, ◌+◌, ◌<◌, ◌⊎◌, inl, inr, List, [], ◌∷◌, ◌++◌, length, get_or, map, take, refl, sym, ap, ◌∙◌, subst, true, false, true≢false, Option, None, Some, Ordering, Less, Equal, Greater}
-use Rattle.std.specs.Prelude.{◌↔◌, is_some}
-use Rattle.std.proofs.lemmas.List.{map-append}
-use Rattle.cborn_model.specs.Orders.{Rising}
-use Rattle.cborn_model.specs.Earliest.{IsEarliest, Finds}
+use Rattle.cborn_judge.proofs.Common.{◌≡◌, ℕ, ◌+◌, ◌<◌, ◌⊎◌, inl, inr, List, [], ◌∷◌, ◌++◌, length, get_or, map, take, refl, sym, ap, ◌∙◌, subst, true, false, true≢false, Option, None, Some, Ordering, Less, Equal, Greater, ◌↔◌, is_some, map-append, Rising, IsEarliest, FindsDefect, KeyOrder, Row, Mark, AreFilled, IsSameKey, HasSameKeys, filled_keys, Falls, HasFall, RowDescent, FindsDescent, key_of, row_of, Keyed, keyed, all_keyed, Met, remembered, IsFall, last_filled, FallsIn, IsTie, last_key, IsOneOf, IsAgain, IsTied}
+use Rattle.cborn_model.specs.Earliest.{Finds}
 use Rattle.cborn_model.proofs.Found.{Either, found_both, found_alike}
-use Rattle.cborn_judge.specs.Departures.{FindsDefect}
 use Rattle.cborn_judge.specs.declared.defects.Defect.{Defect}
-use Rattle.cborn_judge.specs.declared.defects.DefectReason.TheVariants.{KeyOrder}
-use Rattle.cborn_judge.specs.devices.Encoding.{Row, Mark, AreFilled, IsSameKey, HasSameKeys, filled_keys, Falls, HasFall, RowDescent, FindsDescent}
-use Rattle.cborn_judge.specs.devices.Marks.{key_of, row_of, Keyed, keyed, all_keyed, Met, remembered, IsFall, last_filled, FallsIn, IsTie, last_key}
-use Rattle.cborn_judge.specs.shared.Repeats.{IsOneOf, IsAgain, IsTied}
 use Rattle.cborn_judge.proofs.Loops.Passing.{passed_one}
 use Rattle.cborn_judge.proofs.FirstDefect.Departing.{alike}
 use Rattle.cborn_judge.proofs.Encoding.PairsRead.{is_filled, filled, not_empty, marked_read}

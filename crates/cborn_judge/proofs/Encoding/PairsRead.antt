@@ -1,16 +1,6 @@
 -- Pairs that lie in a buffer are read where their marks say.
-use Rattle.std.proofs.Common.{◌≡◌, ℕ, ◌+◌, ◌-◌, ◌<◌, ◌≤◌, inl, inr, List, [], ◌∷◌, ◌++◌, length, map, take, drop, refl, sym, ap, ◌∙◌, subst, arith, append_assoc, take_at, drop_at, length-append, Bool, true, false, true≢false}
-use Rattle.std.specs.Prelude.{◌==◌, flat_map}
-use Rattle.std.specs.List.{AllByRecursion}
-use Rattle.std.proofs.lemmas.Bool.{eqb-true}
-use Rattle.std.proofs.Math.Seq.{take-add}
-use Rattle.std.proofs.lemmas.List.{drop-drop, take-append-drop}
-use Rattle.cborn_model.specs.Bytes.{AreBytes}
+use Rattle.cborn_judge.proofs.Common.{◌≡◌, ℕ, ◌+◌, ◌-◌, ◌<◌, ◌≤◌, inl, inr, List, [], ◌∷◌, ◌++◌, length, map, take, drop, refl, sym, ap, ◌∙◌, subst, arith, append_assoc, take_at, drop_at, length-append, Bool, true, false, true≢false, ◌==◌, flat_map, AllByRecursion, eqb-true, take-add, drop-drop, take-append-drop, AreBytes, joined, Row, row_entries, Mark, AreMarked, between, key_of, pair_of, row_of, IsOneOf}
 use Rattle.cborn_model.proofs.Bytes.{bytes-left, bytes-right}
-use Rattle.cborn_det.specs.Det.{joined}
-use Rattle.cborn_judge.specs.devices.Encoding.{Row, row_entries, Mark, AreMarked}
-use Rattle.cborn_judge.specs.devices.Marks.{between, key_of, pair_of, row_of}
-use Rattle.cborn_judge.specs.shared.Repeats.{IsOneOf}
 use Rattle.cborn_judge.proofs.SameKeys.Repeating.{LieBefore}
 
 pub marked_read : (b y : List ℕ) (rows : List Row) (ms : List Mark) (p : ℕ) → p ≡ length y → b ≡ y ++ joined (row_entries rows) → AreMarked p rows ms → map (row_of b) ms ≡ rows

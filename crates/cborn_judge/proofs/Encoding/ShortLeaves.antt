@@ -1,25 +1,9 @@
 -- Leaves with the shortest heads: their encodings are the bytes as spelled, and nothing is wrong with them but a text that isn't UTF-8.
-use Rattle.std.proofs.Common.{◌≡◌, ℕ, ◌+◌, List, [], ◌∷◌, ◌++◌, length, refl, sym, ap, ◌∙◌, subst, true≢false, Bool, true, false, Ordering, Option, None}
-use Rattle.std.specs.Prelude.{IsUtf8}
-use Rattle.std.proofs.lemmas.Str.{IsUtf8-nil}
-use Rattle.cborn_model.specs.Bytes.{AreBytes}
-use Rattle.cborn_model.specs.declared.heads.Width.{Width}
-use Rattle.cborn_model.specs.declared.visitors.StringKind.{StringKind}
-use Rattle.cborn_model.specs.declared.visitors.StringKind.TheVariants.{OfBytes, OfText}
+use Rattle.cborn_judge.proofs.Common.{◌≡◌, ℕ, ◌+◌, List, [], ◌∷◌, ◌++◌, length, refl, sym, ap, ◌∙◌, subst, true≢false, Bool, true, false, Ordering, Option, None, IsUtf8, IsUtf8-nil, AreBytes, Width, StringKind, OfBytes, OfText, WidthFits, code, head_bytes, least, IsLeastHead, Tree, Uint, Nint, Bytes, Text, Simple, Partial, put, integer_tree, string_tree, IsShortLeaf, AreShortIntegers, text_in, puts, major_of, Flaw, FindsDefect, DefectIn, FindsFlaw, IsEncodedAs, AreEncodedAs, Finds, IsContent, kind_major}
 use Rattle.cborn_judge.specs.declared.defects.Defect as defect
-use Rattle.cborn_model.specs.Heads.{WidthFits, code, head_bytes, least, IsLeastHead}
-use Rattle.cborn_model.specs.Tree.{Tree, Uint, Nint, Bytes, Text, Simple}
-use Rattle.cborn_model.specs.Partial.{Partial, put, integer_tree, string_tree}
-use Rattle.cborn_model.specs.shared.Runs.{IsInteger, IsShortLeaf, AreShortIntegers, text_in, puts}
+use Rattle.cborn_model.specs.shared.Runs.{IsInteger}
 use Rattle.cborn_model.proofs.Numbers.Simples.{simple_fits}
-use Rattle.cborn_det.specs.Det.{major_of}
-use Rattle.cborn_judge.specs.Flaws.{Flaw}
-use Rattle.cborn_judge.specs.Departures.{FindsDefect}
-use Rattle.cborn_judge.specs.shared.Checked.{DefectIn}
-use Rattle.cborn_judge.specs.shared.Judged.{FindsFlaw}
 use Rattle.cborn_judge.specs.declared.flaws.Flaw as flaw
-use Rattle.cborn_judge.specs.devices.Encoding.{IsEncodedAs, AreEncodedAs, Finds}
-use Rattle.cborn_judge.specs.devices.Encoders.{IsContent, kind_major}
 use Rattle.cborn_judge.proofs.Encoding.Leaves.{integer_encoded, sound_integer, integer_defect, simple_encoded, sound_simple, simple_defect, string_flaw, string_defect, finds_fine}
 use Rattle.cborn_judge.proofs.Encoding.Strings.{string_encoded}
 use Rattle.cborn_judge.proofs.Meaning.Meanings.{holds_below}

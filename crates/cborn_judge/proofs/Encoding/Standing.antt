@@ -1,26 +1,8 @@
 -- One more whole node in what an encoder holds.
-use Rattle.std.proofs.Common.{◌≡◌, ℕ, ◌+◌, ◌<◌, ◌≤◌, ◌^◌, inl, inr, List, [], ◌∷◌, ◌++◌, length, append_assoc, append-nil, length-append, refl, sym, ap, ◌∙◌, subst, arith, true, false, true≢false, Bool, not, Ordering, Option, None}
-use Rattle.std.proofs.lemmas.Bool.{cases_lt}
-use Rattle.std.proofs.lemmas.List.{same_from_push}
-use Rattle.std.specs.Prelude.{◌||◌, ◌%◌, ◌==◌}
-use Rattle.std.specs.List.{AllZip, AllByRecursion}
-use Rattle.cborn_model.specs.declared.heads.Size.{Size}
-use Rattle.cborn_model.specs.declared.heads.Width.{Width}
-use Rattle.cborn_model.specs.Meaning.{Means, joined_chunks}
-use Rattle.cborn_model.specs.Tree.{Tree, place}
-use Rattle.cborn_model.specs.Partial.{Partial, top, inside, Opening, an_array, a_map, a_tag, in_chunks, put, last_key, string_tree, chunk_of, chunks_of, IsFree}
-use Rattle.cborn_model.specs.shared.Runs.{puts, InArray, AtKey}
-use Rattle.cborn_model.specs.Value.{Value, bytes, text}
-use Rattle.cborn_model.specs.Valid.{IsProper}
-use Rattle.cborn_det.specs.Det.{DetSeq, joined}
+use Rattle.cborn_judge.proofs.Common.{◌≡◌, ℕ, ◌+◌, ◌<◌, ◌≤◌, ◌^◌, inl, inr, List, [], ◌∷◌, ◌++◌, length, append_assoc, append-nil, length-append, refl, sym, ap, ◌∙◌, subst, arith, true, false, true≢false, Bool, not, Ordering, Option, None, cases_lt, same_from_push, ◌||◌, ◌%◌, ◌==◌, AllZip, AllByRecursion, Size, Width, Means, joined_chunks, Tree, place, Partial, top, inside, Opening, an_array, a_map, a_tag, in_chunks, put, string_tree, chunk_of, chunks_of, IsFree, puts, InArray, AtKey, Value, bytes, text, IsProper, DetSeq, joined, MeansNothing, Row, Mark, IsMarked, row_entries, AreMarked, IsEncodedAs, Coded, AreEncodedAs, AreRows, IsSound, is_odd, has_key, after, after_items, Opens, IsFront, Contains, Inner, Stands, IsChunk, IsChunkContent, StringKind, OfBytes, OfText, Container, Level}
+use Rattle.cborn_model.specs.Partial.{last_key}
 use Rattle.cborn_det.proofs.Steps.{seq_append}
 use Rattle.cborn_det.proofs.Written.{some_bytes}
-use Rattle.cborn_judge.specs.devices.Encoding.{MeansNothing, Row, Mark, IsMarked, row_entries, AreMarked, IsEncodedAs, Coded, AreEncodedAs, AreRows, IsSound, is_odd, has_key, after, after_items, Opens, IsFront, Contains, Inner, Stands}
-use Rattle.cborn_judge.specs.devices.Encoders.{IsChunk, IsChunkContent}
-use Rattle.cborn_model.specs.declared.visitors.StringKind.{StringKind}
-use Rattle.cborn_model.specs.declared.visitors.StringKind.TheVariants.{OfBytes, OfText}
-use Rattle.cborn_judge.specs.declared.levels.Container.{Container}
-use Rattle.cborn_judge.specs.declared.levels.Level.{Level}
 use Rattle.cborn_judge.specs.declared.levels.Container.TheVariants as container
 use Rattle.cborn_judge.proofs.Loops.Passing.{zip_append}
 use Rattle.cborn_judge.proofs.FirstFlaw.Sequences.{mean_more}

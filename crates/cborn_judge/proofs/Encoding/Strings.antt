@@ -1,19 +1,6 @@
 -- A string that ends in what an encoder holds.
-use Rattle.std.proofs.Common.{◌≡◌, ℕ, ◌<◌, ◌^◌, inl, inr, List, ◌++◌, append_assoc, length, refl, sym, ap, ◌∙◌, subst, true, false, true≢false, Bool, not, Ordering}
-use Rattle.std.specs.Prelude.{◌↔◌, IsTrue}
-use Rattle.cborn_model.specs.declared.heads.Width.{Width}
-use Rattle.cborn_model.specs.declared.visitors.StringKind.{StringKind}
-use Rattle.cborn_model.specs.declared.visitors.StringKind.TheVariants.{OfBytes, OfText}
-use Rattle.cborn_model.specs.Bytes.{AreBytes}
+use Rattle.cborn_judge.proofs.Common.{◌≡◌, ℕ, ◌<◌, ◌^◌, inl, inr, List, ◌++◌, append_assoc, length, refl, sym, ap, ◌∙◌, subst, true, false, true≢false, Bool, not, Ordering, ◌↔◌, IsTrue, Width, StringKind, OfBytes, OfText, AreBytes, place, bytes, text, Partial, top, inside, an_array, a_map, a_tag, in_chunks, string_tree, Proper, TakesItem, TakesString, IsFree, Mark, IsEncodedAs, Coded, Stands, is_chunks, are_chunks, kept, IsContent, IsChunk, IsChunkContent, IsStringFront, StandsAs, Written, Encodings, OpenString, Level}
 use Rattle.cborn_model.proofs.Bytes.{bytes-append}
-use Rattle.cborn_model.specs.Tree.{place}
-use Rattle.cborn_model.specs.Value.{bytes, text}
-use Rattle.cborn_model.specs.Partial.{Partial, top, inside, an_array, a_map, a_tag, in_chunks, string_tree, Proper, TakesItem, TakesString, IsFree}
-use Rattle.cborn_judge.specs.devices.Encoding.{Mark, IsEncodedAs, Coded, Stands, is_chunks, are_chunks}
-use Rattle.cborn_judge.specs.devices.Encoders.{kept, IsContent, IsChunk, IsChunkContent, IsStringFront, StandsAs, Written}
-use Rattle.cborn_judge.specs.declared.encoders.Encodings.{Encodings}
-use Rattle.cborn_judge.specs.declared.encoders.OpenString.{OpenString}
-use Rattle.cborn_judge.specs.declared.levels.Level.{Level}
 
 pub string_place : (p : ℕ) (k : StringKind) (w : Width) (x : List ℕ) → place (string_tree p k w x) ≡ p
 string_place p OfBytes w x = refl

@@ -1,21 +1,5 @@
 -- From what an encoder finds of a node alone to what the check says of it.
-use Rattle.std.proofs.Common.{◌≡◌, ℕ, inl, inr, List, [], ◌∷◌, refl, subst, Option, None, Some, Ordering}
-use Rattle.std.specs.Prelude.{◌↔◌}
-use Rattle.cborn_model.specs.First.{IsFirst}
-use Rattle.cborn_model.specs.Meaning.{Means}
-use Rattle.cborn_model.specs.Orders.{IsKeyOrder}
-use Rattle.cborn_judge.specs.Reasons.{flaw_rank}
-use Rattle.cborn_model.specs.Spelled.{spelled, Fits}
-use Rattle.cborn_model.specs.Tree.{Tree, trees}
-use Rattle.cborn_model.specs.Valid.{IsProper}
-use Rattle.cborn_judge.specs.declared.faults.InvalidReason.{InvalidReason}
-use Rattle.cborn_model.specs.Value.{Value}
-use Rattle.cborn_det.specs.Det.{Det}
-use Rattle.cborn_judge.specs.Departures.{FindsDefect}
-use Rattle.cborn_judge.specs.shared.Checked.{DefectIn, DefectInAll}
-use Rattle.cborn_judge.specs.shared.Judged.{FlawIn}
-use Rattle.cborn_judge.specs.Flaws.{IsFirstFlaw}
-use Rattle.cborn_judge.specs.Defects.{Defect, IsCheck, IsDeterministic}
+use Rattle.cborn_judge.proofs.Common.{◌≡◌, ℕ, inl, inr, List, [], ◌∷◌, refl, subst, Option, None, Some, Ordering, ◌↔◌, IsFirst, Means, IsKeyOrder, flaw_rank, spelled, Fits, Tree, trees, IsProper, InvalidReason, Value, Det, FindsDefect, DefectIn, DefectInAll, FlawIn, IsFirstFlaw, Defect, IsCheck, IsDeterministic}
 use Rattle.cborn_judge.specs.declared.defects.Defect as defect
 use Rattle.cborn_judge.proofs.Encoded.Checking.{check_sound, check_whole}
 use Rattle.cborn_judge.proofs.FirstDefect.Departing.{alike}

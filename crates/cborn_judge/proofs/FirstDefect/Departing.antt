@@ -1,16 +1,6 @@
 -- The first defect of a node without children, and of a bignum.
-use Rattle.std.proofs.Common.{◌≡◌, ℕ, ◌⊎◌, List, length, refl, sym, subst, Option, Ordering}
-use Rattle.std.specs.Prelude.{◌↔◌}
-use Rattle.cborn_model.specs.Meaning.{IsByteString}
-use Rattle.cborn_model.specs.Tree.{Tree, Uint, Nint, Bytes, Text}
-use Rattle.cborn_model.specs.declared.heads.Width.{Width}
-use Rattle.cborn_judge.specs.Departures.{FindsDefect, LongAt, LooseBytesAt}
-use Rattle.cborn_judge.specs.shared.Checked.{IsEarliestDefect, LooseAt, DefectIn}
-use Rattle.cborn_judge.specs.Defects.{IsLoose, DefectAt}
-use Rattle.cborn_judge.specs.Reasons.{defect_rank}
-use Rattle.cborn_judge.specs.Flaws.{Within}
+use Rattle.cborn_judge.proofs.Common.{◌≡◌, ℕ, ◌⊎◌, List, length, refl, sym, subst, Option, Ordering, ◌↔◌, IsByteString, Tree, Uint, Nint, Bytes, Text, Width, FindsDefect, LongAt, LooseBytesAt, IsEarliestDefect, LooseAt, DefectIn, IsLoose, DefectAt, defect_rank, Within, DefectReason}
 use Rattle.cborn_judge.specs.declared.defects.Defect as defect
-use Rattle.cborn_judge.specs.declared.defects.DefectReason.{DefectReason}
 use Rattle.cborn_judge.proofs.Meaning.Meanings.{string_once}
 use Rattle.cborn_model.proofs.Found as firsts
 use Rattle.cborn_model.proofs.Found.{Either}

@@ -1,16 +1,7 @@
 -- Whether one key is above another, by their encodings.
-use Rattle.std.proofs.Common.{◌≡◌, ◌≢◌, ℕ, List, sym, ◌∙◌, subst, Ordering, Less}
-use Rattle.std.specs.Prelude.{◌↔◌}
+use Rattle.cborn_judge.proofs.Common.{◌≡◌, ◌≢◌, ℕ, List, sym, ◌∙◌, subst, Ordering, Less, ◌↔◌, Means, IsKeyOrder, Tree, IsProper, Value, Det, NotAbove, IsEncodedAs}
 use Rattle.cborn_model.proofs.SameItems.Sameness.{same_itself}
-use Rattle.cborn_model.specs.Meaning.{Means}
-use Rattle.cborn_model.specs.Orders.{IsKeyOrder}
-use Rattle.cborn_model.specs.Tree.{Tree}
-use Rattle.cborn_model.specs.Valid.{IsProper}
-use Rattle.cborn_model.specs.Value.{Value}
-use Rattle.cborn_det.specs.Det.{Det}
 use Rattle.cborn_det.proofs.Canon.{one_of_same}
-use Rattle.cborn_judge.specs.Defects.{NotAbove}
-use Rattle.cborn_judge.specs.devices.Encoding.{IsEncodedAs}
 use Rattle.cborn_judge.proofs.Meaning.Meanings.{means_once}
 
 module _ (order : List ℕ → List ℕ → Ordering) (laws : IsKeyOrder order) where

@@ -1,20 +1,8 @@
 -- What the nodes of a sequence mean, or the first flaw of the first that means nothing, as a loop over them meets them.
-use Rattle.std.proofs.Common.{◌≡◌, ℕ, zero, suc, ◌+◌, ◌<◌, ◌≤◌, inl, inr, List, [], ◌∷◌, ◌++◌, length, get_or, take, refl, subst, arith, Result, Ok, Err}
-use Rattle.std.specs.List.{AllZip}
-use Rattle.std.specs.Prelude.{IfErr, IsErr}
+use Rattle.cborn_judge.proofs.Common.{◌≡◌, ℕ, zero, suc, ◌+◌, ◌<◌, ◌≤◌, inl, inr, List, [], ◌∷◌, ◌++◌, length, get_or, take, refl, subst, arith, Result, Ok, Err, AllZip, IfErr, IsErr, IsFirst, NoLater, Means, PlacedAll, flaw_rank, spelled, Tree, trees, Value, Flaw, FlawAt, IsRefusal, IsRefusalOfAll, WithinAll, FlawIn, InvalidReason}
 use Rattle.std.specs.Result.{IsErrAnd}
-use Rattle.cborn_model.specs.First.{IsFirst, NoLater}
-use Rattle.cborn_model.specs.Meaning.{Means}
-use Rattle.cborn_model.specs.Placed.{PlacedAll}
-use Rattle.cborn_judge.specs.Reasons.{flaw_rank}
-use Rattle.cborn_model.specs.Spelled.{spelled}
-use Rattle.cborn_model.specs.Tree.{Tree, trees}
-use Rattle.cborn_model.specs.Value.{Value}
-use Rattle.cborn_judge.specs.Flaws.{Flaw, FlawAt, IsRefusal, IsRefusalOfAll, WithinAll}
-use Rattle.cborn_judge.specs.shared.Judged.{FlawIn}
 use Rattle.cborn_judge.specs.declared.faults.Invalid.{Invalid}
 use Rattle.cborn_judge.specs.declared.faults.Invalid.TheVariants.{OutOfMemory, Refused}
-use Rattle.cborn_judge.specs.declared.faults.InvalidReason.{InvalidReason}
 use Rattle.cborn_judge.proofs.Loops.Passing.{zip_more}
 use Rattle.cborn_judge.proofs.Meaning.Judging.{meaning}
 use Rattle.cborn_judge.proofs.Meaning.Placing.{flaw_within}

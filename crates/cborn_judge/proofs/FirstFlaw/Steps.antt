@@ -1,13 +1,5 @@
 -- The flaws of a node, one level at a time.
-use Rattle.std.proofs.Common.{◌≡◌, ℕ, ◌⊎◌, inl, inr, refl, subst}
-use Rattle.std.specs.Prelude.{◌↔◌}
-use Rattle.cborn_judge.specs.Flaws.{Within, HasRepeat, FlawAt, Flaw}
-use Rattle.cborn_judge.specs.declared.faults.InvalidReason.{InvalidReason}
-use Rattle.cborn_judge.specs.declared.faults.InvalidReason.TheVariants.{DuplicateKey}
-use Rattle.cborn_judge.specs.shared.Judged.{FlawIn, FlawAmong}
-use Rattle.cborn_model.specs.declared.heads.Size.{Size}
-use Rattle.cborn_model.specs.Tree.{Tree, Items, Pairs, Tagged, Trees, Entries}
-use Rattle.cborn_model.specs.declared.heads.Width.{Width}
+use Rattle.cborn_judge.proofs.Common.{◌≡◌, ℕ, ◌⊎◌, inl, inr, refl, subst, ◌↔◌, Within, HasRepeat, FlawAt, Flaw, InvalidReason, DuplicateKey, FlawIn, FlawAmong, Size, Tree, Items, Pairs, Tagged, Trees, Entries, Width}
 
 -- ---- flaws, level by level
 

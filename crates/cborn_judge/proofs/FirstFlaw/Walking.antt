@@ -1,7 +1,5 @@
 -- What is within one more node.
-use Rattle.std.proofs.Common.{◌⊎◌, inl, inr, List, [], ◌∷◌, ◌++◌}
-use Rattle.cborn_model.specs.Tree.{Tree, trees}
-use Rattle.cborn_judge.specs.Flaws.{Within, WithinAll}
+use Rattle.cborn_judge.proofs.Common.{◌⊎◌, inl, inr, List, [], ◌∷◌, ◌++◌, Tree, trees, Within, WithinAll}
 
 pub after : (xs : List Tree) (x : Tree) (q : Tree) → WithinAll q (trees (xs ++ x ∷ [])) → WithinAll q (trees xs) ⊎ Within q x
 after [] x q (inl h) = inr h

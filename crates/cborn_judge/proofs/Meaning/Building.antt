@@ -1,14 +1,6 @@
 -- What is built of a node is what the node means, if it means something.
-use Rattle.std.proofs.Common.{◌≡◌, ◌≤◌, ℕ, List, [], ◌∷◌, length, map, take, refl, sym, ap, ◌∙◌, subst}
-use Rattle.std.specs.List.{AllZip}
-use Rattle.std.proofs.lemmas.List.{take_all}
-use Rattle.cborn_model.specs.ItemView.{item_value, pair_value}
-use Rattle.cborn_model.specs.Meaning.{Means, AllMean, EntriesMean}
-use Rattle.cborn_model.specs.Tree.{Tree, Items, Pairs, trees, entries}
-use Rattle.cborn_model.specs.Value.{Value, Values, Couples, array, dict, no_values, value, no_pairs, pair, values_of, pairs_of}
-use Rattle.cborn_model.specs.declared.heads.Size.{Size}
+use Rattle.cborn_judge.proofs.Common.{◌≡◌, ◌≤◌, ℕ, List, [], ◌∷◌, length, map, take, refl, sym, ap, ◌∙◌, subst, AllZip, take_all, item_value, pair_value, Means, AllMean, EntriesMean, Tree, Items, Pairs, trees, entries, Value, Values, Couples, array, dict, no_values, value, no_pairs, pair, values_of, pairs_of, Size, IsItemOf, IsPairOf}
 use Rattle.cborn_model.specs.declared.items.Item.{Item}
-use Rattle.cborn_judge.specs.devices.Building.{IsItemOf, IsPairOf}
 
 values_built : (ns : List Tree) (items : List Item) (vs : Values) → AllZip IsItemOf ns items → AllMean (trees ns) vs → values_of (map item_value items) ≡ vs
 values_built [] [] no_values h m = refl

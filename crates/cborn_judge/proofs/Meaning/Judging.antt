@@ -1,21 +1,8 @@
 -- A node has no flaw exactly if it means an item.
-use Rattle.std.proofs.Common.{◌≡◌, ◌≢◌, ℕ, ◌⊎◌, inl, inr, List, [], ◌∷◌, refl, sym, subst, true, false, Bool}
-use Rattle.std.specs.Prelude.{IsUtf8}
+use Rattle.cborn_judge.proofs.Common.{◌≡◌, ◌≢◌, ℕ, ◌⊎◌, inl, inr, List, [], ◌∷◌, refl, sym, subst, true, false, Bool, IsUtf8, IsUtf8-from_is_utf8, is_utf8-from_IsUtf8, cases_eq, Within, WithinAll, WithinEntries, IsRepeated, HasRepeat, HasBadChunk, FlawAt, Flaw, InvalidReason, NotUtf8, BadBignum, DuplicateKey, Value, Values, Couples, integer, bytes, text, array, dict, tagged, simple, no_values, value, no_pairs, pair, Same, big_endian, IsNew, HasNewKeys, Width, Chunk, Tree, Uint, Nint, Bytes, Text, ByteChunks, TextChunks, Items, Pairs, Tagged, Simple, Trees, no_item, more, Entries, no_entry, entry, place, joined_chunks, IsNumber, IsByteString, ChunksAreText, Means, AllMean, EntriesMean}
 use Rattle.std.specs.Str.{is_utf8}
-use Rattle.std.proofs.lemmas.Str.{IsUtf8-from_is_utf8, is_utf8-from_IsUtf8}
-use Rattle.std.proofs.lemmas.Bool.{cases_eq}
-use Rattle.cborn_judge.specs.Flaws.{Within, WithinAll, WithinEntries, IsRepeated, HasRepeat, HasBadChunk, FlawAt, Flaw}
-use Rattle.cborn_judge.specs.declared.faults.InvalidReason.{InvalidReason}
-use Rattle.cborn_judge.specs.declared.faults.InvalidReason.TheVariants.{NotUtf8, BadBignum, DuplicateKey}
 use Rattle.cborn_judge.proofs.Meaning.Meanings.{means_once}
 use Rattle.cborn_model.proofs.Numbers.SomeMagnitude.{magnitude_of}
-use Rattle.cborn_model.specs.Value.{Value, Values, Couples, integer, bytes, text, array, dict, tagged, simple, no_values, value, no_pairs, pair, Same}
-use Rattle.cborn_model.specs.Bytes.{big_endian}
-use Rattle.cborn_model.specs.Valid.{IsNew, HasNewKeys}
-use Rattle.cborn_model.specs.declared.heads.Width.{Width}
-use Rattle.cborn_model.specs.declared.nodes.Chunk.{Chunk}
-use Rattle.cborn_model.specs.Tree.{Tree, Uint, Nint, Bytes, Text, ByteChunks, TextChunks, Items, Pairs, Tagged, Simple, Trees, no_item, more, Entries, no_entry, entry, place}
-use Rattle.cborn_model.specs.Meaning.{joined_chunks, IsNumber, IsByteString, ChunksAreText, Means, AllMean, EntriesMean}
 
 -- ---- what means an item has no flaw
 

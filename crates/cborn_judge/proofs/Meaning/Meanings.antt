@@ -1,24 +1,10 @@
 -- A node means at most one item, which is valid, and no deeper than the node.
-use Rattle.std.proofs.Common.{◌≡◌, ℕ, suc, ◌<◌, ◌≤◌, ◌^◌, inl, inr, List, [], ◌∷◌, ◌++◌, length, refl, sym, ap, ◌∙◌, subst, arith, true, false, Bool, length-append, cond, lt-ltb, ltb}
-use Rattle.std.specs.Prelude.{IsUtf8}
+use Rattle.cborn_judge.proofs.Common.{◌≡◌, ℕ, suc, ◌<◌, ◌≤◌, ◌^◌, inl, inr, List, [], ◌∷◌, ◌++◌, length, refl, sym, ap, ◌∙◌, subst, arith, true, false, Bool, length-append, cond, lt-ltb, ltb, IsUtf8, cases_lt, IsUtf8-append, IsUtf8-nil, Value, Values, Couples, integer, bytes, text, array, dict, tagged, simple, no_values, value, no_pairs, pair, big_endian, AreBytes, IsShortest, IsProper, AreProper, HasProperPairs, value_depth, values_depth, pairs_depth, ByteString, TextString, Array, Map, Tag, Given, EndlessArgument, head, argument, Chunk, Tree, Uint, Nint, Bytes, Text, ByteChunks, TextChunks, Items, Pairs, Tagged, Simple, Trees, no_item, more, Entries, no_entry, entry, count, count_entries, depth, depth_all, depth_entries, Endless, ending, chunk_bytes, spelled, spelled_all, spelled_entries, Fits, FitsAll, FitsEntries, Within, WithinAll, WithinEntries, IsWord, joined_chunks, IsNumber, IsByteString, IsBignum, ChunksAreText, Means, AllMean, EntriesMean}
 use Rattle.std.specs.List.{flat_map}
-use Rattle.std.proofs.lemmas.Bool.{cases_lt}
-use Rattle.std.proofs.lemmas.Str.{IsUtf8-append, IsUtf8-nil}
 use Rattle.cborn_model.proofs.Lengths.{some_bytes}
 use Rattle.cborn_model.proofs.Numbers.OneMagnitude.{one_magnitude, large}
-use Rattle.cborn_model.specs.Value.{Value, Values, Couples, integer, bytes, text, array, dict, tagged, simple, no_values, value, no_pairs, pair}
-use Rattle.cborn_model.specs.Bytes.{big_endian, AreBytes, IsShortest}
-use Rattle.cborn_model.specs.Valid.{IsProper, AreProper, HasProperPairs, value_depth, values_depth, pairs_depth}
-use Rattle.cborn_model.specs.declared.heads.Major.TheVariants.{ByteString, TextString, Array, Map, Tag}
-use Rattle.cborn_model.specs.Heads.{Given, EndlessArgument, head, argument}
-use Rattle.cborn_model.specs.declared.nodes.Chunk.{Chunk}
-use Rattle.cborn_model.specs.Tree.{Tree, Uint, Nint, Bytes, Text, ByteChunks, TextChunks, Items, Pairs, Tagged, Simple, Trees, no_item, more, Entries, no_entry, entry, count, count_entries, depth, depth_all, depth_entries}
-use Rattle.cborn_model.specs.declared.heads.Size.TheVariants.{Endless}
-use Rattle.cborn_model.specs.Spelled.{ending, chunk_bytes, spelled, spelled_all, spelled_entries, Fits, FitsAll, FitsEntries}
-use Rattle.cborn_judge.specs.Flaws.{Within, WithinAll, WithinEntries, IsWord}
 use Rattle.cborn_det.proofs.Room.{length_of_chunks, no_more, counted, counted_pairs}
 pub use Rattle.cborn_det.proofs.Room.{holds_below, joined_bytes}
-use Rattle.cborn_model.specs.Meaning.{joined_chunks, IsNumber, IsByteString, IsBignum, ChunksAreText, Means, AllMean, EntriesMean}
 
 -- ---- at most one
 

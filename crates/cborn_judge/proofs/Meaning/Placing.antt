@@ -1,20 +1,7 @@
 -- The places in a placed node rise in the written order, within the bytes that it spells.
-use Rattle.std.proofs.Common.{◌≡◌, ℕ, suc, ◌+◌, ◌<◌, ◌≤◌, inl, inr, List, [], ◌∷◌, ◌++◌, length, map, refl, sym, subst, arith, length-append, Ordering}
+use Rattle.cborn_judge.proofs.Common.{◌≡◌, ℕ, suc, ◌+◌, ◌<◌, ◌≤◌, inl, inr, List, [], ◌∷◌, ◌++◌, length, map, refl, sym, subst, arith, length-append, Ordering, Within, WithinAll, WithinEntries, IsRepeated, HasRepeat, HasBadChunk, FlawAt, Flaw, InvalidReason, HasLongChunk, ChunksDefect, Descends, HasDescent, DefectAt, Defect, DefectReason, Chunk, Tree, Uint, Nint, Bytes, Text, ByteChunks, TextChunks, Items, Pairs, Tagged, Simple, Trees, no_item, more, Entries, no_entry, entry, count, count_entries, place, Major, ByteString, TextString, Map, Tag, Array, Given, EndlessArgument, head, argument, Size, Fixed, Endless, ending, chunks, chunk_bytes, spelled, spelled_all, spelled_entries, ChunksPlaced, Placed, PlacedAll, PlacedEntries}
 use Rattle.std.specs.List.{flat_map}
-use Rattle.cborn_judge.specs.Flaws.{Within, WithinAll, WithinEntries, IsRepeated, HasRepeat, HasBadChunk, FlawAt, Flaw}
-use Rattle.cborn_judge.specs.declared.faults.InvalidReason.{InvalidReason}
-use Rattle.cborn_judge.specs.Defects.{HasLongChunk, ChunksDefect, Descends, HasDescent, DefectAt, Defect}
-use Rattle.cborn_judge.specs.declared.defects.DefectReason.{DefectReason}
 use Rattle.cborn_model.proofs.SameItems.Rearranging.{IsIn}
-use Rattle.cborn_model.specs.declared.nodes.Chunk.{Chunk}
-use Rattle.cborn_model.specs.Tree.{Tree, Uint, Nint, Bytes, Text, ByteChunks, TextChunks, Items, Pairs, Tagged, Simple, Trees, no_item, more, Entries, no_entry, entry, count, count_entries, place}
-use Rattle.cborn_model.specs.declared.heads.Major.{Major}
-use Rattle.cborn_model.specs.declared.heads.Major.TheVariants.{ByteString, TextString, Map, Tag, Array}
-use Rattle.cborn_model.specs.Heads.{Given, EndlessArgument, head, argument}
-use Rattle.cborn_model.specs.declared.heads.Size.{Size}
-use Rattle.cborn_model.specs.declared.heads.Size.TheVariants.{Fixed, Endless}
-use Rattle.cborn_model.specs.Spelled.{ending, chunks, chunk_bytes, spelled, spelled_all, spelled_entries}
-use Rattle.cborn_model.specs.Placed.{ChunksPlaced, Placed, PlacedAll, PlacedEntries}
 
 -- ---- the places of all heads, in the written order
 

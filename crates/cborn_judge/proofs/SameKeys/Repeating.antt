@@ -1,19 +1,9 @@
 -- After a sort the repeated keys are those that tie with their neighbour.
-use Rattle.std.proofs.Common.{◌≡◌, ◌≢◌, ℕ, suc, ◌<◌, ◌≤◌, ◌⊎◌, inl, inr, List, [], ◌∷◌, refl, sym, ap, ◌∙◌, subst, arith, true, false, Bool, true≢false, add-one, IsPermutation, Ordering, Less, Equal, Greater, is_lt, nat_cmp, eqb}
-use Rattle.std.specs.Prelude.{⊤, ◌↔◌, ◌&&◌}
-use Rattle.std.specs.Ordering.{nat_cmp, ordering_then, ordering_reverse}
-use Rattle.std.specs.List.{AllByRecursion, IsDistinct}
-use Rattle.std.specs.List.Sorted.{IsSortedBy}
-use Rattle.std.proofs.lemmas.List.Sorted.{IsPermutation-sym}
+use Rattle.cborn_judge.proofs.Common.{◌≡◌, ◌≢◌, ℕ, suc, ◌<◌, ◌≤◌, ◌⊎◌, inl, inr, List, [], ◌∷◌, refl, sym, ap, ◌∙◌, subst, arith, true, false, Bool, true≢false, add-one, IsPermutation, Ordering, Less, Equal, Greater, is_lt, eqb, ⊤, ◌↔◌, ◌&&◌, nat_cmp, ordering_then, ordering_reverse, AllByRecursion, IsSortedBy, IsPermutation-sym, eqb-true, eq-eqb, cases_eq, IsRepeated, IsOneOf, IsAgain, IsTied, Value, IsKeyOrder, Tree, Entries, no_entry, entry, Means}
+use Rattle.std.proofs.Common.{nat_cmp}
+use Rattle.std.specs.List.{IsDistinct}
 use Rattle.std.proofs.lemmas.Map.Keys.{IsDistinct-IsPermutation, ge_from_not_lt}
-use Rattle.std.proofs.lemmas.Bool.{eqb-true, eq-eqb, cases_eq}
-use Rattle.cborn_judge.specs.Flaws.{IsRepeated}
-use Rattle.cborn_judge.specs.shared.Repeats.{IsOneOf, IsAgain, IsTied}
 use Rattle.cborn_model.proofs.SameItems.Rearranging.{All_moved, weaker, at_member}
-use Rattle.cborn_model.specs.Value.{Value}
-use Rattle.cborn_model.specs.Orders.{IsKeyOrder}
-use Rattle.cborn_model.specs.Tree.{Tree, Entries, no_entry, entry}
-use Rattle.cborn_model.specs.Meaning.{Means}
 
 module _ {X : Type 0} (order : List ℕ → List ℕ → Ordering) (bytes : X → List ℕ) (position : X → ℕ) where
   -- by the encoding, and at equal encodings by the position

@@ -1,8 +1,4 @@
-use Rattle.std.proofs.Common.{◌≡◌, ◌∷◌, ◌++◌, [], refl, ap, ◌∙◌, subst, sym, arith}
-use Rattle.cborn_model.specs.Bytes.{AreBytes, IsShortest, big_endian}
-use Rattle.cborn_model.specs.Value.{bytes}
-use Rattle.cborn_det.specs.Det.{Det}
-use Rattle.cborn_judge.specs.devices.Encoding.{IsSound}
+use Rattle.cborn_judge.proofs.Common.{◌≡◌, ◌∷◌, ◌++◌, [], refl, ap, ◌∙◌, subst, sym, arith, AreBytes, IsShortest, big_endian, bytes, Det, IsSound}
 use Rattle.cborn_judge.proofs.Encoding.EndsTags.{no_string, rest_read, code_string, code_no_string}
 use Rattle.cborn_judge.proofs.ends.bignum_of.Goals as goal
 

@@ -1,7 +1,4 @@
-use Rattle.std.proofs.Common.{◌<◌, ◌^◌, ◌++◌, length, ap, ◌∙◌, subst, arith}
-use Rattle.cborn_model.specs.Partial.{ended_size}
-use Rattle.cborn_judge.specs.Departures.{FindsDefect}
-use Rattle.cborn_judge.specs.shared.Checked.{SizeAt}
+use Rattle.cborn_judge.proofs.Common.{◌<◌, ◌^◌, ◌++◌, length, ap, ◌∙◌, subst, arith, ended_size, FindsDefect, SizeAt}
 use Rattle.cborn_judge.proofs.Encoding.Ends.{array_ends}
 use Rattle.cborn_judge.proofs.ends.end_array.Goals as goal
 

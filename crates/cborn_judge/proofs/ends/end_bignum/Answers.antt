@@ -1,6 +1,4 @@
-use Rattle.std.proofs.Common.{◌++◌, [], inr, append_assoc, append-nil, refl, ap, ◌∙◌, subst}
-use Rattle.cborn_det.specs.Det.{IsInteger, bignum_tag}
-use Rattle.cborn_judge.specs.devices.Encoders.{IsBignumFound}
+use Rattle.cborn_judge.proofs.Common.{◌++◌, [], inr, append_assoc, append-nil, refl, ap, ◌∙◌, subst, IsInteger, bignum_tag, IsBignumFound}
 use Rattle.cborn_det.proofs.Canon.{tags}
 use Rattle.cborn_judge.proofs.Encoding.Ends.{cut}
 use Rattle.cborn_judge.proofs.Encoding.EndsTags.{bad_found, bignum_nothing, bignum_coded}

@@ -1,7 +1,5 @@
-use Rattle.std.proofs.Common.{◌≡◌, ◌<◌, ◌++◌, refl, length, ap, ◌∙◌, subst, arith}
+use Rattle.cborn_judge.proofs.Common.{◌≡◌, ◌<◌, ◌++◌, refl, length, ap, ◌∙◌, subst, arith, code, IsLeastHead, Replaces}
 use Rattle.std.proofs.lemmas.List.Elements.{recursion_from_All}
-use Rattle.cborn_model.specs.Heads.{code, IsLeastHead}
-use Rattle.cborn_det.specs.Appending.{Replaces}
 use Rattle.cborn_judge.proofs.Encoding.EndsChunks.{contents_length, chunks_end, endless_found}
 use Rattle.cborn_judge.proofs.ends.end_chunks.Goals as goal
 

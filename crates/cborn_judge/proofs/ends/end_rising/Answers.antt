@@ -1,9 +1,4 @@
-use Rattle.std.proofs.Common.{◌≡◌, ◌++◌, ◌+◌, ◌<◌, length, append_assoc, length-append, refl, sym, ap, ◌∙◌, subst, false, true≢false, None}
-use Rattle.cborn_model.specs.Heads.{IsLeastHead}
-use Rattle.cborn_judge.specs.Reasons.{defect_rank}
-use Rattle.cborn_det.specs.Appending.{Replaces}
-use Rattle.cborn_det.specs.Det.{joined}
-use Rattle.cborn_judge.specs.devices.Encoding.{row_entries, IsSound}
+use Rattle.cborn_judge.proofs.Common.{◌≡◌, ◌++◌, ◌+◌, ◌<◌, length, append_assoc, length-append, refl, sym, ap, ◌∙◌, subst, false, true≢false, None, IsLeastHead, defect_rank, Replaces, joined, row_entries, IsSound}
 use Rattle.cborn_judge.proofs.Encoding.MapsEnding.{ended, length_marked, flaw_found, defect_found}
 use Rattle.cborn_judge.proofs.Encoding.MapsRows.{rising_new, as_they_stand}
 use Rattle.cborn_judge.proofs.Encoding.PairsHinted.{none_first}

@@ -1,11 +1,4 @@
-use Rattle.std.proofs.Common.{◌≡◌, ◌⊎◌, inl, inr, ◌++◌, [], ◌∷◌, true, refl, sym, ap, ◌∙◌, subst, arith, append_assoc, length-append}
-use Rattle.cborn_model.specs.Partial.{last_of}
-use Rattle.cborn_model.specs.Tree.{Tagged}
-use Rattle.cborn_judge.specs.Departures.{FindsDefect, LongAt}
-use Rattle.cborn_judge.specs.Flaws.{FlawAt}
-use Rattle.cborn_judge.specs.shared.Checked.{LooseAt}
-use Rattle.cborn_judge.specs.shared.Judged.{FindsFlaw}
-use Rattle.cborn_judge.specs.devices.Encoding.{Coded, IsSound, AreEncodedAs}
+use Rattle.cborn_judge.proofs.Common.{◌≡◌, ◌⊎◌, inl, inr, ◌++◌, [], ◌∷◌, true, refl, sym, ap, ◌∙◌, subst, arith, append_assoc, length-append, last_of, Tagged, FindsDefect, LongAt, FlawAt, LooseAt, FindsFlaw, Coded, IsSound, AreEncodedAs}
 use Rattle.cborn_judge.proofs.Encoding.Ends.{cut}
 use Rattle.cborn_judge.proofs.Encoding.EndsTags.{number_of_bignum, only, tag_nothing, tag_flawless, tag_long, tag_coded}
 use Rattle.cborn_judge.proofs.FirstDefect.Departing.{both_found}

@@ -1,9 +1,6 @@
-use Rattle.std.proofs.Common.{rules, arith, subst, true, false}
+use Rattle.cborn_judge.proofs.Common.{rules, arith, subst, true, false, Tagged, item_value, IsItemOf, IsPairOf, IsBignumItem}
 use Rattle.std.proofs.lemmas.Result.{IfOk-weaker}
 use Rattle.cborn_model.proofs.Listed.Trees.{depth_of_item, depth_of_pair}
-use Rattle.cborn_model.specs.Tree.{Tagged}
-use Rattle.cborn_model.specs.ItemView.{item_value}
-use Rattle.cborn_judge.specs.devices.Building.{IsItemOf, IsPairOf, IsBignumItem}
 use Rattle.cborn_judge.proofs.Loops.Passing.{zip-take_more}
 use Rattle.cborn_judge.proofs.Meaning.Building.{array_built, map_built}
 use Rattle.cborn_judge.proofs.Meaning.Meanings.{number_once, means_once}

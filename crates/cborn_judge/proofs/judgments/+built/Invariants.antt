@@ -1,7 +1,4 @@
-use Rattle.std.proofs.Common.{◌+◌, ◌*◌, take}
-use Rattle.std.specs.List.{AllZip}
-use Rattle.cborn_model.specs.Tree.{trees, entries, depth, depth_all, depth_entries}
-use Rattle.cborn_judge.specs.devices.Building.{IsItemOf, IsPairOf}
+use Rattle.cborn_judge.proofs.Common.{◌+◌, ◌*◌, take, AllZip, trees, entries, depth, depth_all, depth_entries, IsItemOf, IsPairOf}
 use Rattle.cborn_judge.proofs.judgments.+built.Given as goal
 
 abbrev pub decreases-item_of : goal.decreases-item_of

@@ -1,6 +1,4 @@
-use Rattle.std.proofs.Common.{[], ◌∷◌, subst}
-use Rattle.cborn_model.specs.Partial.{top, no_part}
-use Rattle.cborn_judge.specs.devices.Encoders.{IsHeld}
+use Rattle.cborn_judge.proofs.Common.{[], ◌∷◌, subst, top, no_part, IsHeld}
 use Rattle.cborn_judge.proofs.FirstDefect.Concluding.{alone, flawed_alone}
 use Rattle.cborn_judge.proofs.Encoding.EndsTags.{one_encoded}
 use Rattle.cborn_judge.proofs.judgments.encode.Goals as goal

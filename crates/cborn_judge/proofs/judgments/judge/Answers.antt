@@ -1,8 +1,4 @@
-use Rattle.std.proofs.Common.{arith, subst, sym, ◌∙◌, ◌≤◌, ◌≡◌}
-use Rattle.cborn_model.specs.ItemView.{item_value}
-use Rattle.cborn_model.specs.Meaning.{Means}
-use Rattle.cborn_model.specs.Tree.{depth}
-use Rattle.cborn_model.specs.Valid.{IsValid}
+use Rattle.cborn_judge.proofs.Common.{arith, subst, sym, ◌∙◌, ◌≤◌, ◌≡◌, item_value, Means, depth, IsValid}
 use Rattle.cborn_judge.proofs.Meaning.Meanings.{meaning_shallow}
 use Rattle.cborn_judge.proofs.judgments.judge.Goals as goal
 

@@ -1,8 +1,6 @@
-use Rattle.std.proofs.Common.{rules, arith, subst, sym}
-use Rattle.cborn_model.specs.Meaning.{Means}
+use Rattle.cborn_judge.proofs.Common.{rules, arith, subst, sym, Means, IsRefusalOfAll}
 use Rattle.cborn_judge.proofs.FirstFlaw.Sequences.{refused_at, refused_memory, passed_on}
 use Rattle.cborn_judge.proofs.Loops.Passing.{zip-take_more}
-use Rattle.cborn_judge.specs.Flaws.{IsRefusalOfAll}
 use Rattle.cborn_judge.proofs.judgments.judge_all.Goals as goal
 
 pub returns-in_err-item-clause-refused : goal.returns-in_err-item-clause-refused

@@ -1,6 +1,4 @@
-use Rattle.std.proofs.Common.{take}
-use Rattle.std.specs.List.{AllZip}
-use Rattle.cborn_model.specs.Meaning.{Means}
+use Rattle.cborn_judge.proofs.Common.{take, AllZip, Means}
 use Rattle.cborn_judge.proofs.judgments.judge_all.Given as goal
 
 abbrev pub invariant-loop-node : goal.invariant-loop-node

@@ -1,9 +1,4 @@
-use Rattle.std.proofs.Common.{rules, ◌≡◌, ◌++◌, ◌-◌, List, ℕ, length, take, drop, None, ap, ◌∙◌, subst, arith}
-use Rattle.std.specs.Prelude.{IfOk}
-use Rattle.std.proofs.lemmas.List.{with_items_is, places}
-use Rattle.cborn_det.specs.Det.{joined}
-use Rattle.cborn_judge.specs.shared.Judged.{FindsFlaw}
-use Rattle.cborn_judge.specs.devices.Encoding.{Row, row_entries, Mark, AreMarked, AreFilled, AreArranged, RowRepeat}
+use Rattle.cborn_judge.proofs.Common.{rules, ◌≡◌, ◌++◌, ◌-◌, List, ℕ, length, take, drop, None, ap, ◌∙◌, subst, arith, IfOk, with_items_is, places, joined, FindsFlaw, Row, row_entries, Mark, AreMarked, AreFilled, AreArranged, RowRepeat}
 use Rattle.cborn_judge.proofs.Encoding.PairsArranged.{none_repeats, none_arranged, rest_marked, none_left, front_kept}
 use Rattle.cborn_judge.proofs.marks.arrange.Goals as goal
 

@@ -1,6 +1,4 @@
-use Rattle.std.proofs.Common.{◌≡◌, ◌++◌, map, drop}
-use Rattle.std.specs.Prelude.{flat_map}
-use Rattle.cborn_judge.specs.devices.Marks.{pair_of}
+use Rattle.cborn_judge.proofs.Common.{◌≡◌, ◌++◌, map, drop, flat_map, pair_of}
 use Rattle.cborn_judge.proofs.marks.copy_pairs.Given as goal
 
 abbrev pub invariant-loop-spot : goal.invariant-loop-spot

@@ -1,8 +1,4 @@
-use Rattle.std.proofs.Common.{rules, ◌++◌, ◌-◌, List, [], length, take, drop, map, None, sym, ap, ◌∙◌, subst, arith}
-use Rattle.std.proofs.lemmas.List.{drop_all, with_items_is, places}
-use Rattle.cborn_judge.specs.Departures.{FindsDefect}
-use Rattle.cborn_judge.specs.devices.Encoding.{Mark, FindsDescent}
-use Rattle.cborn_judge.specs.devices.Marks.{FallsIn, AreHintedBy}
+use Rattle.cborn_judge.proofs.Common.{rules, ◌++◌, ◌-◌, List, [], length, take, drop, map, None, sym, ap, ◌∙◌, subst, arith, drop_all, with_items_is, places, FindsDefect, Mark, FindsDescent, FallsIn, AreHintedBy}
 use Rattle.cborn_judge.proofs.Encoding.PairsMet.{descent_found}
 use Rattle.cborn_judge.proofs.Encoding.PairsArranged.{rest_marked, none_left, all_kept}
 use Rattle.cborn_judge.proofs.marks.descent.Goals as goal

@@ -1,11 +1,5 @@
-use Rattle.std.proofs.Common.{◌<◌, ◌∙◌, inl, inr, ap, sym, subst, arith}
-use Rattle.std.proofs.lemmas.List.{take_all}
+use Rattle.cborn_judge.proofs.Common.{◌<◌, ◌∙◌, inl, inr, ap, sym, subst, arith, take_all, AreBytes, IsEarliest, defect_rank, hint_of, mark_of, AreHintedBy}
 use Rattle.cborn_model.proofs.Bytes.{are_bytes}
-use Rattle.cborn_model.specs.Bytes.{AreBytes}
-use Rattle.cborn_model.specs.Earliest.{IsEarliest}
-use Rattle.cborn_judge.specs.Reasons.{defect_rank}
-use Rattle.cborn_judge.specs.devices.Hints.{hint_of}
-use Rattle.cborn_judge.specs.devices.Marks.{mark_of, AreHintedBy}
 use Rattle.cborn_judge.proofs.Encoding.Hinting.{hint_tells}
 use Rattle.cborn_judge.proofs.Encoding.PairsRead.{bytes_between}
 use Rattle.cborn_judge.proofs.Encoding.PairsHinted.{Looks, Remembers, falls_passed}

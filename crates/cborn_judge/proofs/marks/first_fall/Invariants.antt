@@ -1,4 +1,4 @@
-use Rattle.cborn_judge.specs.devices.Hints.{hint_of}
+use Rattle.cborn_judge.proofs.Common.{hint_of}
 use Rattle.cborn_judge.proofs.Encoding.PairsHinted.{FallsPassed}
 use Rattle.cborn_judge.proofs.marks.first_fall.Given as goal
 

@@ -1,6 +1,4 @@
-use Rattle.cborn_judge.specs.Reasons.{flaw_rank}
-use Rattle.cborn_judge.specs.declared.faults.InvalidReason.TheVariants.{DuplicateKey}
-use Rattle.cborn_judge.specs.devices.Marks.{mark_of, IsTie, last_key}
+use Rattle.cborn_judge.proofs.Common.{flaw_rank, DuplicateKey, mark_of, IsTie, last_key}
 use Rattle.cborn_judge.proofs.Encoding.PairsMet.{met-take_more}
 use Rattle.cborn_judge.proofs.marks.first_tie.Goals as goal
 

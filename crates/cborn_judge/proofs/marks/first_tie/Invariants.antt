@@ -1,7 +1,4 @@
-use Rattle.std.proofs.Common.{map, take}
-use Rattle.cborn_judge.specs.Reasons.{flaw_rank}
-use Rattle.cborn_judge.specs.declared.faults.InvalidReason.TheVariants.{DuplicateKey}
-use Rattle.cborn_judge.specs.devices.Marks.{all_keyed, IsTie, last_key}
+use Rattle.cborn_judge.proofs.Common.{map, take, flaw_rank, DuplicateKey, all_keyed, IsTie, last_key}
 use Rattle.cborn_judge.proofs.Encoding.PairsMet.{IsMet}
 use Rattle.cborn_judge.proofs.marks.first_tie.Given as goal
 

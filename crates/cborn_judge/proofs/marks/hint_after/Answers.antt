@@ -1,5 +1,4 @@
-use Rattle.std.proofs.Common.{◌∙◌}
-use Rattle.std.proofs.Math.Seq.{map-set_same}
+use Rattle.cborn_judge.proofs.Common.{◌∙◌, map-set_same}
 use Rattle.cborn_judge.proofs.marks.hint_after.Goals as goal
 
 pub loop-spot-preserved : goal.loop-spot-preserved

@@ -1,4 +1,4 @@
-use Rattle.std.proofs.Common.{◌≡◌, map}
+use Rattle.cborn_judge.proofs.Common.{◌≡◌, map}
 use Rattle.cborn_judge.proofs.marks.hint_after.Given as goal
 
 abbrev pub invariant-loop-spot : goal.invariant-loop-spot

@@ -1,6 +1,4 @@
-use Rattle.std.proofs.Common.{◌≡◌, nat_lt, subst, rules, arith}
-use Rattle.std.specs.List.{IsAllAdjacentAnswer}
-use Rattle.std.proofs.lemmas.Fn.{always_returns_same}
+use Rattle.cborn_judge.proofs.Common.{◌≡◌, nat_lt, subst, rules, arith, IsAllAdjacentAnswer, always_returns_same}
 use Rattle.cborn_judge.proofs.Encoding.PairsHinted.{higher_from}
 use Rattle.cborn_judge.proofs.marks.hints_rise.Goals as goal
 

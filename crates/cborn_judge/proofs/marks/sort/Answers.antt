@@ -1,6 +1,4 @@
-use Rattle.std.proofs.Common.{ap, is_lt, rules}
-use Rattle.std.proofs.lemmas.Fn.{always_returns_same}
-use Rattle.cborn_judge.specs.devices.Marks.{mark_order}
+use Rattle.cborn_judge.proofs.Common.{ap, is_lt, rules, always_returns_same, mark_order}
 use Rattle.cborn_judge.proofs.Encoding.PairsArranged.{mark_ranks, marks_sorted}
 use Rattle.cborn_judge.proofs.marks.sort.Goals as goal
 

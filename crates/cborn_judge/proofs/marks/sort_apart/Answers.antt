@@ -1,11 +1,6 @@
-use Rattle.std.proofs.Common.{◌≡◌, List, map, not, sym, ap, ◌∙◌, subst, IsPermutation}
-use Rattle.std.specs.Prelude.{flat_map}
-use Rattle.std.proofs.lemmas.List.Sorted.{IsPermutation-map, IsPermutation-trans}
+use Rattle.cborn_judge.proofs.Common.{◌≡◌, List, map, not, sym, ap, ◌∙◌, subst, IsPermutation, flat_map, IsPermutation-map, IsPermutation-trans, FindsDefect, Mark, AreArranged, key_of, pair_of, FallsIn}
 use Rattle.cborn_model.proofs.Bytes.{are_bytes}
 use Rattle.cborn_model.proofs.SameItems.Rearranging.{All_moved}
-use Rattle.cborn_judge.specs.Departures.{FindsDefect}
-use Rattle.cborn_judge.specs.devices.Encoding.{Mark, AreArranged}
-use Rattle.cborn_judge.specs.devices.Marks.{key_of, pair_of, FallsIn}
 use Rattle.cborn_judge.proofs.Encoding.PairsHinted.{risen_hints}
 use Rattle.cborn_judge.proofs.Encoding.PairsMet.{none_of}
 use Rattle.cborn_judge.proofs.Encoding.PairsArranged.{sorted_apart, risen}

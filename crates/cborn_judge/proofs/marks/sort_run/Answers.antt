@@ -1,5 +1,4 @@
-use Rattle.std.proofs.Common.{map, IsPermutation, subst}
-use Rattle.std.proofs.lemmas.List.Sorted.{IsPermutation-map}
+use Rattle.cborn_judge.proofs.Common.{map, IsPermutation, subst, IsPermutation-map}
 use Rattle.cborn_judge.proofs.marks.sort_run.Goals as goal
 
 pub returns : goal.returns

@@ -1,5 +1,4 @@
-use Rattle.std.proofs.Common.{◌+◌, ◌-◌, map, IsPermutation, sym, subst, arith}
-use Rattle.std.proofs.lemmas.List.Sorted.{IsPermutation-trans}
+use Rattle.cborn_judge.proofs.Common.{◌+◌, ◌-◌, map, IsPermutation, sym, subst, arith, IsPermutation-trans}
 use Rattle.cborn_judge.proofs.Encoding.PairsArranged.{part_moved}
 use Rattle.cborn_judge.proofs.marks.sort_runs.Goals as goal
 use Rattle.cborn_judge.proofs.marks.sort_runs.Goals.{then-start-last, else-start-last}

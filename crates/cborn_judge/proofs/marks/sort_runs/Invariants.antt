@@ -1,4 +1,4 @@
-use Rattle.std.proofs.Common.{◌≤◌, map, IsPermutation}
+use Rattle.cborn_judge.proofs.Common.{◌≤◌, map, IsPermutation}
 use Rattle.cborn_judge.proofs.marks.sort_runs.Given as goal
 
 abbrev pub invariant-loop-last : goal.invariant-loop-last

@@ -1,8 +1,5 @@
-use Rattle.std.proofs.Common.{ℕ, List, inr, length, refl, sym, ap, ◌∙◌, true≢false, arith}
-use Rattle.std.specs.Prelude.{◌==◌}
-use Rattle.std.proofs.lemmas.Bool.{not-true, not-false}
+use Rattle.cborn_judge.proofs.Common.{ℕ, List, inr, length, refl, sym, ap, ◌∙◌, true≢false, arith, ◌==◌, not-true, not-false, flaw_rank}
 use Rattle.std.proofs.lemmas.Slice.Eq.{bytes_eq-Decides}
-use Rattle.cborn_judge.specs.Reasons.{flaw_rank}
 use Rattle.cborn_judge.proofs.Encoding.PairsRead.{empty}
 use Rattle.cborn_judge.proofs.marks.tie.Goals as goal
 

@@ -1,5 +1,4 @@
-use Rattle.std.proofs.Common.{◌≡◌, map, take}
-use Rattle.cborn_judge.specs.devices.Marks.{mark_of, narrow_of}
+use Rattle.cborn_judge.proofs.Common.{◌≡◌, map, take, mark_of, narrow_of}
 use Rattle.cborn_judge.proofs.pairs.widened.Given as goal
 
 abbrev pub invariant-loop-mark : goal.invariant-loop-mark

@@ -1,4 +1,4 @@
-use Rattle.std.proofs.lemmas.Str.{IsUtf8-from_ascii}
+use Rattle.cborn_judge.proofs.Common.{IsUtf8-from_ascii}
 use Rattle.cborn_judge.proofs.strings.is_text.Goals as goal
 
 pub returns-then-is_ascii : goal.returns-then-is_ascii

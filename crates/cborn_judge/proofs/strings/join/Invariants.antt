@@ -1,5 +1,4 @@
-use Rattle.std.proofs.Common.{◌≡◌, take}
-use Rattle.cborn_model.specs.Meaning.{joined_chunks}
+use Rattle.cborn_judge.proofs.Common.{◌≡◌, take, joined_chunks}
 use Rattle.cborn_judge.proofs.strings.join.Given as goal
 
 abbrev pub invariant-loop-chunk : goal.invariant-loop-chunk

@@ -1,4 +1,4 @@
-use Rattle.std.proofs.Common.{sym, subst}
+use Rattle.cborn_judge.proofs.Common.{sym, subst}
 use Rattle.std.specs.Str.{IsUtf8}
 use Rattle.cborn_judge.proofs.Meaning.Meanings.{joined_text}
 use Rattle.cborn_judge.proofs.strings.text_of_chunks.Goals as goal

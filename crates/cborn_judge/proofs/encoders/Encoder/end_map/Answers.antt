@@ -1,11 +1,7 @@
-use Rattle.std.proofs.Common.{◌≡◌, ℕ, List, drop, sym, ap, ◌∙◌, subst, not, Option, Ordering}
-use Rattle.cborn_model.specs.Partial.{Partial, inside}
+use Rattle.cborn_judge.proofs.Common.{◌≡◌, ℕ, List, drop, sym, ap, ◌∙◌, subst, not, Option, Ordering, Partial, inside, Encodings, Mark, FindsDescent, Stands, marks_of, AreAllHinted}
 use Rattle.cborn_model.proofs.HandedOver.{on_ok}
 use Rattle.cborn_judge.specs.declared.defects.Defect.{Defect}
-use Rattle.cborn_judge.specs.declared.encoders.Encodings.{Encodings}
 use Rattle.cborn_judge.specs.declared.pairs.Pairs.{Pairs}
-use Rattle.cborn_judge.specs.devices.Encoding.{Mark, FindsDescent, Stands}
-use Rattle.cborn_judge.specs.devices.Marks.{marks_of, AreAllHinted}
 use Rattle.cborn_judge.proofs.Encoding.PairsMet.{none_of}
 use Rattle.cborn_judge.proofs.encoders.Encoder.end_map.Goals as goal
 

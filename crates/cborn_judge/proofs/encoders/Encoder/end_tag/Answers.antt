@@ -1,4 +1,4 @@
-use Rattle.std.proofs.Common.{refl}
+use Rattle.cborn_judge.proofs.Common.{refl}
 use Rattle.cborn_model.proofs.HandedOver.{on_ok}
 use Rattle.cborn_judge.proofs.Encoding.EndsWell.{unmarked_ended}
 use Rattle.cborn_judge.proofs.encoders.Encoder.end_tag.Goals as goal

@@ -1,8 +1,4 @@
-use Rattle.std.proofs.Common.{subst}
-use Rattle.cborn_model.specs.Partial.{top}
-use Rattle.cborn_judge.specs.Flaws.{FlawAt}
-use Rattle.cborn_judge.specs.shared.Judged.{FindsFlaw}
-use Rattle.cborn_judge.specs.devices.Encoding.{Amid}
+use Rattle.cborn_judge.proofs.Common.{subst, top, FlawAt, FindsFlaw, Amid}
 use Rattle.cborn_judge.proofs.Encoding.Finding.{sound}
 use Rattle.cborn_judge.proofs.encoders.Encoder.finish.Goals as goal
 

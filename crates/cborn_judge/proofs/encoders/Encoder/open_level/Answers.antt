@@ -1,9 +1,4 @@
-use Rattle.std.proofs.Common.{rules, ◌≡◌, ◌++◌, ◌∷◌, [], length, refl, ap, ◌∙◌, false, subst}
-use Rattle.cborn_model.specs.Partial.{inside}
-use Rattle.cborn_model.specs.Heads.{code, IsLeastHead}
-use Rattle.cborn_det.specs.Appending.{Appends}
-use Rattle.cborn_judge.specs.declared.levels.Level.{Level}
-use Rattle.cborn_judge.specs.devices.Marks.{marks_of}
+use Rattle.cborn_judge.proofs.Common.{rules, ◌≡◌, ◌++◌, ◌∷◌, [], length, refl, ap, ◌∙◌, false, subst, inside, code, IsLeastHead, Appends, Level, marks_of}
 use Rattle.cborn_judge.proofs.Encoding.Finding.{finds_open}
 use Rattle.cborn_judge.proofs.Encoding.Fronts.{front_there}
 use Rattle.cborn_judge.proofs.Encoding.Standing.{stands_open, stands_same}

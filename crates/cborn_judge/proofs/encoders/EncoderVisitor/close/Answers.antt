@@ -1,5 +1,4 @@
-use Rattle.std.proofs.Common.{arith, drop}
-use Rattle.cborn_judge.specs.devices.Marks.{marks_of}
+use Rattle.cborn_judge.proofs.Common.{arith, drop, marks_of}
 use Rattle.cborn_judge.proofs.Encoding.MapsEnding.{few_rise}
 use Rattle.cborn_judge.proofs.encoders.EncoderVisitor.close.Goals as goal
 

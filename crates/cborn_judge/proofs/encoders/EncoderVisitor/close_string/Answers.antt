@@ -1,9 +1,5 @@
-use Rattle.std.proofs.Common.{◌≡◌, ◌++◌, length, ap, ◌∙◌, sym, subst, Some}
-use Rattle.std.specs.Prelude.{IsTrue, ◌↔◌}
-use Rattle.cborn_model.specs.Partial.{string_tree, put, no_part, TakesString}
+use Rattle.cborn_judge.proofs.Common.{◌≡◌, ◌++◌, length, ap, ◌∙◌, sym, subst, Some, IsTrue, ◌↔◌, string_tree, put, no_part, TakesString, IsContent, IsHeld, Written, OpenString}
 use Rattle.cborn_model.proofs.HandedOver.{on_ok}
-use Rattle.cborn_judge.specs.devices.Encoders.{IsContent, IsHeld, Written}
-use Rattle.cborn_judge.specs.declared.encoders.OpenString.{OpenString}
 use Rattle.cborn_judge.proofs.encoders.EncoderVisitor.close_string.Goals as goal
 
 pub returns-clause-held : goal.returns-clause-held

@@ -1,6 +1,4 @@
-use Rattle.std.proofs.Common.{rules, ◌≡◌, inl, length, subst}
-use Rattle.cborn_model.specs.Heads.{IsLeastHead}
-use Rattle.cborn_model.specs.Partial.{integer_tree}
+use Rattle.cborn_judge.proofs.Common.{rules, ◌≡◌, inl, length, subst, IsLeastHead, integer_tree}
 use Rattle.cborn_model.proofs.HandedOver.{on_ok}
 use Rattle.cborn_judge.proofs.Encoding.Leaves.{integer_encoded, integer_place, finds_integer}
 use Rattle.cborn_judge.proofs.encoders.EncoderVisitor.integer.Goals as goal

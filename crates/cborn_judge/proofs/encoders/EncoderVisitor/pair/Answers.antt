@@ -1,6 +1,4 @@
-use Rattle.std.proofs.Common.{rules, ◌+◌, take, drop, subst}
-use Rattle.std.specs.Prelude.{IsTrue, IsUtf8}
-use Rattle.cborn_model.specs.Partial.{put}
+use Rattle.cborn_judge.proofs.Common.{rules, ◌+◌, take, drop, subst, IsTrue, IsUtf8, put}
 use Rattle.cborn_judge.proofs.Encoding.Leaves.{finds_fine}
 use Rattle.cborn_judge.proofs.Encoding.ShortLeaves.{short_leaf}
 use Rattle.cborn_judge.proofs.encoders.EncoderVisitor.pair.Goals as goal

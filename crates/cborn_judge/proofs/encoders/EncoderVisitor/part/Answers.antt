@@ -1,4 +1,4 @@
-use Rattle.std.proofs.Common.{refl}
+use Rattle.cborn_judge.proofs.Common.{refl}
 use Rattle.cborn_model.proofs.Bytes.{are_bytes}
 use Rattle.cborn_judge.proofs.Encoding.Strings.{written_more}
 use Rattle.cborn_judge.proofs.encoders.EncoderVisitor.part.Goals as goal

@@ -1,6 +1,4 @@
-use Rattle.std.proofs.Common.{rules, ◌≡◌, inl, length, refl, subst}
-use Rattle.cborn_model.specs.Heads.{IsLeastHead}
-use Rattle.cborn_model.specs.Tree.{Simple}
+use Rattle.cborn_judge.proofs.Common.{rules, ◌≡◌, inl, length, refl, subst, IsLeastHead, Simple}
 use Rattle.cborn_model.proofs.HandedOver.{on_ok}
 use Rattle.cborn_judge.proofs.Encoding.Leaves.{simple_encoded, finds_simple}
 use Rattle.cborn_judge.proofs.encoders.EncoderVisitor.simple.Goals as goal

@@ -1,10 +1,6 @@
-use Rattle.std.proofs.Common.{◌≡◌, [], length, refl, sym, subst}
-use Rattle.std.specs.Prelude.{IsTrue, ◌↔◌}
-use Rattle.cborn_model.specs.Partial.{string_tree, put, no_part, TakesString}
+use Rattle.cborn_judge.proofs.Common.{◌≡◌, [], length, refl, sym, subst, IsTrue, ◌↔◌, string_tree, put, no_part, TakesString, Finds, IsContent, IsHeld}
 use Rattle.cborn_model.proofs.Bytes.{are_bytes}
 use Rattle.cborn_model.proofs.HandedOver.{on_ok}
-use Rattle.cborn_judge.specs.devices.Encoding.{Finds}
-use Rattle.cborn_judge.specs.devices.Encoders.{IsContent, IsHeld}
 use Rattle.cborn_judge.proofs.Encoding.Strings.{written_more}
 use Rattle.cborn_judge.proofs.encoders.EncoderVisitor.string.Goals as goal
 

@@ -1,10 +1,4 @@
-use Rattle.std.proofs.Common.{Bool, ◌≡◌, ◌++◌, ◌+◌, ◌<◌, length, take, drop, append_assoc, length-append, sym, ap, ◌∙◌, subst}
-use Rattle.std.specs.Prelude.{◌||◌, is_some}
-use Rattle.cborn_model.specs.Heads.{IsLeastHead}
-use Rattle.cborn_det.specs.Appending.{Replaces}
-use Rattle.cborn_det.specs.Det.{joined}
-use Rattle.cborn_judge.specs.devices.Encoding.{row_entries, AreMarked, IsSound}
-use Rattle.cborn_judge.specs.devices.Marks.{marks_of}
+use Rattle.cborn_judge.proofs.Common.{Bool, ◌≡◌, ◌++◌, ◌+◌, ◌<◌, length, take, drop, append_assoc, length-append, sym, ap, ◌∙◌, subst, ◌||◌, is_some, IsLeastHead, Replaces, joined, row_entries, AreMarked, IsSound, marks_of}
 use Rattle.cborn_judge.proofs.Encoding.MapsEnding.{ended, length_marked, flaw_found, defect_found}
 use Rattle.cborn_judge.proofs.encoders.Encodings.end_map.Goals as goal
 use Rattle.cborn_judge.proofs.encoders.Encodings.end_map.Goals.{then-level, else-level}

@@ -1,7 +1,5 @@
-use Rattle.std.proofs.Common.{ap, refl, ◌∙◌}
-use Rattle.cborn_model.specs.Partial.{built}
+use Rattle.cborn_judge.proofs.Common.{ap, refl, ◌∙◌, built, marks_of}
 use Rattle.cborn_model.proofs.HandedOver.{on_ok}
-use Rattle.cborn_judge.specs.devices.Marks.{marks_of}
 use Rattle.cborn_judge.proofs.Encoding.Fronts.{built_place}
 use Rattle.cborn_judge.proofs.Encoding.Standing.{stands_same}
 use Rattle.cborn_judge.proofs.encoders.Encodings.leave.Goals as goal

@@ -1,10 +1,5 @@
-use Rattle.std.proofs.Common.{rules, Bool, ◌≡◌, ◌<◌, ◌^◌, ◌++◌, length, ap, refl, sym, ◌∙◌, subst, arith, leb}
-use Rattle.std.proofs.lemmas.Bool.{leb-true, leb-false}
-use Rattle.cborn_model.specs.Partial.{put}
+use Rattle.cborn_judge.proofs.Common.{rules, Bool, ◌≡◌, ◌<◌, ◌^◌, ◌++◌, length, ap, refl, sym, ◌∙◌, subst, arith, leb, leb-true, leb-false, put, Mark, after, has_key, IsMarked, Container, marks_of}
 use Rattle.cborn_model.proofs.HandedOver.{on_ok}
-use Rattle.cborn_judge.specs.devices.Encoding.{Mark, after, has_key, IsMarked}
-use Rattle.cborn_judge.specs.declared.levels.Container.{Container}
-use Rattle.cborn_judge.specs.devices.Marks.{marks_of}
 use Rattle.cborn_judge.proofs.Encoding.Standing.{stands_put, stands_same}
 use Rattle.cborn_judge.proofs.encoders.Encodings.put.Goals as goal
 

@@ -1,7 +1,4 @@
-use Rattle.std.proofs.Common.{◌++◌, refl}
-use Rattle.cborn_model.specs.Partial.{put}
-use Rattle.cborn_judge.specs.devices.Encoding.{after}
-use Rattle.cborn_judge.specs.devices.Marks.{marks_of}
+use Rattle.cborn_judge.proofs.Common.{◌++◌, refl, put, after, marks_of}
 use Rattle.cborn_judge.proofs.Encoding.Standing.{stands_chunk, stands_same}
 use Rattle.cborn_judge.proofs.encoders.Encodings.put_chunk.Goals as goal
 

@@ -1,7 +1,4 @@
-use Rattle.std.proofs.Common.{rules, ◌<◌, ◌^◌, ◌++◌, length, ap, refl, sym, ◌∙◌, subst}
-use Rattle.cborn_model.specs.shared.Runs.{puts}
-use Rattle.cborn_judge.specs.devices.Encoding.{after_items}
-use Rattle.cborn_judge.specs.devices.Marks.{marks_of}
+use Rattle.cborn_judge.proofs.Common.{rules, ◌<◌, ◌^◌, ◌++◌, length, ap, refl, sym, ◌∙◌, subst, puts, after_items, marks_of}
 use Rattle.cborn_judge.proofs.Encoding.Standing.{stands_items, stands_same}
 use Rattle.cborn_judge.proofs.encoders.Encodings.put_items.Goals as goal
 

@@ -1,10 +1,5 @@
-use Rattle.std.proofs.Common.{rules, ◌≡◌, ◌<◌, ◌^◌, ◌++◌, ◌∷◌, [], length, take, drop, false, ap, refl, sym, ◌∙◌, append_assoc, length-append, length-drop, arith}
-use Rattle.std.proofs.lemmas.List.{take-append-drop}
-use Rattle.cborn_model.specs.Partial.{put}
-use Rattle.cborn_model.specs.Tree.{place}
+use Rattle.cborn_judge.proofs.Common.{rules, ◌≡◌, ◌<◌, ◌^◌, ◌++◌, ◌∷◌, [], length, take, drop, false, ap, refl, sym, ◌∙◌, append_assoc, length-append, length-drop, arith, take-append-drop, put, place, after, marks_of}
 use Rattle.cborn_det.proofs.Written.{some_bytes}
-use Rattle.cborn_judge.specs.devices.Encoding.{after}
-use Rattle.cborn_judge.specs.devices.Marks.{marks_of}
 use Rattle.cborn_judge.proofs.Encoding.Standing.{stands_pair, stands_same}
 use Rattle.cborn_judge.proofs.encoders.Encodings.put_pair.Goals as goal
 

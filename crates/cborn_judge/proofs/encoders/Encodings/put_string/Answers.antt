@@ -1,8 +1,4 @@
-use Rattle.std.proofs.Common.{◌≡◌, ◌++◌, [], refl, ap, ◌∙◌, sym, subst, true, false, append_assoc, append-nil}
-use Rattle.cborn_model.specs.Partial.{string_tree}
-use Rattle.cborn_judge.specs.devices.Encoders.{kept, IsStringFront}
-use Rattle.cborn_judge.specs.devices.Encoding.{is_chunks}
-use Rattle.cborn_judge.specs.devices.Marks.{marks_of}
+use Rattle.cborn_judge.proofs.Common.{◌≡◌, ◌++◌, [], refl, ap, ◌∙◌, sym, subst, true, false, append_assoc, append-nil, string_tree, kept, IsStringFront, is_chunks, marks_of}
 use Rattle.cborn_judge.proofs.Encoding.Strings.{free_there, string_coded, chunk_there, string_place}
 use Rattle.cborn_judge.proofs.Encoding.Standing.{stands_same}
 use Rattle.cborn_model.proofs.HandedOver.{on_ok}

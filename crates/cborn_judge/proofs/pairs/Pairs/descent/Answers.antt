@@ -1,6 +1,4 @@
-use Rattle.std.proofs.Common.{ℕ, List, drop, sym, ap, subst}
-use Rattle.cborn_judge.specs.devices.Encoding.{Mark, FindsDescent}
-use Rattle.cborn_judge.specs.devices.Marks.{all_marks}
+use Rattle.cborn_judge.proofs.Common.{ℕ, List, drop, sym, ap, subst, Mark, FindsDescent, all_marks}
 use Rattle.cborn_judge.proofs.pairs.Pairs.descent.Goals as goal
 
 pub returns-in-Narrow-clause-found : goal.returns-in-Narrow-clause-found

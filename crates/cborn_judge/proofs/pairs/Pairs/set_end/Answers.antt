@@ -1,7 +1,4 @@
-use Rattle.std.proofs.Common.{◌≡◌, ◌++◌, ◌∷◌, ◌-◌, ℕ, List, [], OnOk, sym, ap, ◌∙◌, subst}
-use Rattle.std.proofs.Math.Seq.{map-set_same}
-use Rattle.cborn_judge.specs.devices.Encoding.{Mark}
-use Rattle.cborn_judge.specs.devices.Marks.{narrow_of, marks_of, all_marks}
+use Rattle.cborn_judge.proofs.Common.{◌≡◌, ◌++◌, ◌∷◌, ◌-◌, ℕ, List, [], OnOk, sym, ap, ◌∙◌, subst, map-set_same, Mark, narrow_of, marks_of, all_marks}
 use Rattle.cborn_judge.proofs.Encoding.LastPair.{last_read, last_written}
 use Rattle.cborn_judge.proofs.pairs.Pairs.set_end.Goals as goal
 use Rattle.cborn_judge.proofs.pairs.Pairs.set_end.Goals.{in-Narrow+in-Some+else-set_end, in-Narrow+in_default-last_mut, in_default}

@@ -1,6 +1,4 @@
-use Rattle.std.proofs.Common.{map, take, sym, ap, ◌∙◌}
-use Rattle.std.proofs.lemmas.List.{take-map}
-use Rattle.cborn_judge.specs.devices.Marks.{mark_of, narrow_of, all_marks}
+use Rattle.cborn_judge.proofs.Common.{map, take, sym, ap, ◌∙◌, take-map, mark_of, narrow_of, all_marks}
 use Rattle.cborn_judge.proofs.pairs.Pairs.truncate.Goals as goal
 
 pub returns-in-Narrow : goal.returns-in-Narrow
