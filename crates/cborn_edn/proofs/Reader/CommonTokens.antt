@@ -14,7 +14,12 @@ use Rattle.cborn_lex.specs.Good as good
 use Rattle.cborn_lex.specs.Good.{Takes, Covers, TokensBetween}
 use Rattle.cborn_lex.proofs.GoodTexts.{covers, through}
 use Rattle.cborn_lex.proofs.WholeTexts.Progress.{joins}
-use Rattle.cborn_edn.specs.devices.Ahead.{IsTokenAt}
+use Rattle.cborn_lex.specs.Kinds.{class_of}
+use Rattle.cborn_lex.specs.declared.classes.BareToken.{BareToken}
+use Rattle.cborn_lex.specs.declared.classes.Kind.{Kind}
+use Rattle.cborn_edn.specs.devices.Ahead.{IsTokenAt, IsEndAt}
+use Rattle.cborn_edn.specs.devices.Levels.{reach}
+use Rattle.cborn_edn.specs.devices.Steps.{EndsPieces}
 
 -- LAW: the tokens between three places
 pub join : (profile : Profile) (text : List ℕ) (l m n : ℕ) (ts us : List Token) → TokensBetween profile text l m ts → TokensBetween profile text m n us → TokensBetween profile text l n (ts ++ us)
@@ -49,6 +54,9 @@ begins_here text at c h e = drop_more text at 0 h ∙ ap (λ d. d ∷ drop (at +
 -- LAW: a token of one character
 pub single_here : (profile : Profile) (text : List ℕ) (at c : ℕ) (k : Class) → at < length text → get_or text at 0 ≡ c → ((z : List ℕ) → Takes profile (c ∷ []) z (Some k)) → IsTokenAt profile text at (at + 1) k
 single_here profile text at c k h e t = token_here profile text (c ∷ []) (drop (at + 1) text) at (at + 1) k (begins_here text at c h e) refl (t (drop (at + 1) text))
+
+pub end_here : {text : List ℕ} {at : ℕ} {t : BareToken} (c : ℕ) (kind : Kind) → t ≡ record { start = at; stop = at + 1; kind = kind } → at < length text → get_or text at 0 ≡ c → ((profile : Profile) (z : List ℕ) → Takes profile (c ∷ []) z (Some (class_of kind 0 []))) → ((l : ℕ) → reach l (class_of kind 0 []) ≡ 0) → EndsPieces (class_of kind 0 []) → IsEndAt text at t
+end_here {text = text} {at = at} c kind is h e takes flat ends = subst (λ (t : BareToken). IsEndAt text at t) (sym is) (record { start = refl; token = λ profile. single_here profile text at c (class_of kind 0 []) h e (takes profile); flat = flat; ends = ends })
 
 -- White space and comments.
 

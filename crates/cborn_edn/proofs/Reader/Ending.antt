@@ -30,7 +30,7 @@ use Rattle.cborn_edn.specs.devices.TreesCode.{listed_trees, trees-listed}
 use Rattle.cborn_edn.specs.devices.Events.{Holds}
 use Rattle.cborn_edn.specs.devices.Handed.{Handed, AllHanded, Reads}
 use Rattle.cborn_edn.proofs.HandedOver.Silent.{listed_snoc}
-use Rattle.cborn_edn.specs.devices.Reading.{may_end, ends_string, Last, empty, item, pieces, AtEnd, Reached, IsReading}
+use Rattle.cborn_edn.specs.devices.Reading.{may_end, ends_string, Last, empty, item, pieces, AtEnd, Reached, IsReadTo}
 use Rattle.cborn_edn.proofs.Reader.NotedErrors.{none_first}
 
 -- outside of each `<<` there are no spellers
@@ -130,7 +130,7 @@ module _ (p : Profile) (limit : ℕ) (text : List ℕ) (s : State) (r : Reached 
       let is = subst (IsText p limit r.tokens ts) none (is_text t e) in
       (listed_trees ts, (k.held none).0, subst (Notates p limit text) (sym (trees-listed ts)) (r.tokens, has_tokens p text r.tokens lex, is), (k.held none).1)
 
-module _ {h : Holds} {p : Profile} {limit : ℕ} {text : List ℕ} (here : Here) (w : Writer) (r : IsReading h p limit text here w) where
+module _ {h : Holds} {p : Profile} {limit : ℕ} {text : List ℕ} (here : Here) (w : Writer) (r : IsReadTo h p limit text here w) where
   same_end : may_end (phase_of r.state) (level_of (stack_in r.state)) (chunks_in r.state) ≡ may_end here.phase here.level w.chunks
   same_end = let e = r.shows.shows in sym (λ i. may_end (e.phase i) (e.level i) (e.chunks i))
 
