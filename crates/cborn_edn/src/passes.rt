@@ -115,9 +115,7 @@ fn read_tokens<V: Visitor>(
 {
     let mut here = Here::FIRST;
     'tokens: while here.at < source.text.len() {
-        let at = here.at;
-        take_common(source, &mut here, writer, visitor)?;
-        if here.at == at {
+        if !take_common(source, &mut here, writer, visitor)? && here.at < source.text.len() {
             let mut next = here.same();
             take_rare(alloc, source, &mut next, writer, visitor)?;
             here.become_next(next);
@@ -140,9 +138,7 @@ fn take_rare<V: Visitor>(
     ensures further { OnOk result (here.old.at < here.new.at) }
     ensures refused { IfErr result (IsNoNotation source.entry.profile source.entry.limit source.entry.text.now) }
 {
-    let at = here.at;
-    take_end(source, here, writer, visitor)?;
-    if here.at > at {
+    if take_end(source, here, writer, visitor)? || here.at == source.text.len() {
         return Ok(());
     }
     step(alloc, source, here, writer, visitor)

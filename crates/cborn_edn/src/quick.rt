@@ -1,10 +1,10 @@
 //! Frequent tokens, taken without the lexer: an item with the comma or colon after it, one other
 //! token, or white space.
 //!
-//! Each function goes on after what it took. Where it takes nothing, it leaves the offset as it was,
-//! and `steps` take what is there. All functions are in line, so that `here` is kept in registers.
+//! Each function answers whether it took something. If it took nothing, `tokens` and `steps` take
+//! what is there. All functions are in line, so that `here` is kept in registers.
 
-ghost use Rattle.std.specs.Prelude.{◌≡◌, ◌≤◌, ◌<◌, [], true, length, slice_index, OnOk, if◌then◌else◌};
+ghost use Rattle.std.specs.Prelude.{◌≡◌, ◌≤◌, ◌<◌, [], true, length, slice_index, IfOk, if◌then◌else◌};
 ghost use Rattle.cborn_lex.specs.declared.classes.Profile.{Profile};
 ghost use Rattle.cborn_lex.specs.Good.{TokensBetween};
 ghost use Rattle.cborn_edn.specs.declared.states.Phase.TheVariants as phases;
@@ -23,7 +23,6 @@ use crate::texts::{ends_string, plain_text_at, push_text};
 use crate::tokens::token_after;
 use crate::white_space::{begins_white_space, skip_white_space};
 use crate::words::word_at;
-use cborn_lex::Kind;
 use cborn_model::Visitor;
 use std::alloc::AllocError;
 
@@ -34,9 +33,9 @@ pub(crate) fn take_common<V: Visitor>(
     here: &mut Here,
     writer: &mut Writer,
     visitor: &mut V,
-) -> Result<(), AllocError>
+) -> Result<bool, AllocError>
     requires { IsInside (V.holds visitor.old) source here.old writer.old }
-    ensures { OnOk result (Goes (V.holds visitor.new) source.entry here.old here.new writer.new) }
+    ensures { IfOk result (Goes (V.holds visitor.new) source.entry here.old here.new writer.new) }
 {
     match here.phase {
         Phase::Wants | Phase::WantsMore => take_item(source, here, writer, visitor),
@@ -44,7 +43,7 @@ pub(crate) fn take_common<V: Visitor>(
         Phase::Builds => take_after_pieces(source, here, writer, visitor),
         Phase::WantsNumber => take_simple_number(source, here, writer, visitor),
         Phase::HasNumber => take_simple_end(source, here, writer, visitor),
-        Phase::WantsChunk => Ok(()),
+        Phase::WantsChunk => Ok(false),
     }
 }
 
@@ -55,16 +54,16 @@ fn take_item<V: Visitor>(
     here: &mut Here,
     writer: &mut Writer,
     visitor: &mut V,
-) -> Result<(), AllocError>
+) -> Result<bool, AllocError>
     requires inside { IsInside (V.holds visitor.old) source here.old writer.old }
     requires wanted { IsWanted here.old.phase }
-    ensures { OnOk result (Goes (V.holds visitor.new) source.entry here.old here.new writer.new) }
+    ensures { IfOk result (Goes (V.holds visitor.new) source.entry here.old here.new writer.new) }
 {
-    take_first(source, here, writer, visitor)?;
-    if has_item(here.phase) && here.at < source.text.len() {
+    let taken = take_first(source, here, writer, visitor)?;
+    if taken && has_item(here.phase) && here.at < source.text.len() {
         take_after(source, here, writer, visitor)?;
     }
-    Ok(())
+    Ok(taken)
 }
 
 /// Whether an item was read last.
@@ -83,10 +82,10 @@ fn take_first<V: Visitor>(
     here: &mut Here,
     writer: &mut Writer,
     visitor: &mut V,
-) -> Result<(), AllocError>
+) -> Result<bool, AllocError>
     requires inside { IsInside (V.holds visitor.old) source here.old writer.old }
     requires wanted { IsWanted here.old.phase }
-    ensures { OnOk result (Goes (V.holds visitor.new) source.entry here.old here.new writer.new) }
+    ensures { IfOk result (Goes (V.holds visitor.new) source.entry here.old here.new writer.new) }
 {
     match source.text.as_bytes()[here.at] {
         b'0'..=b'9' => take_integer(source, here, writer, visitor),
@@ -107,26 +106,26 @@ fn take_integer<V: Visitor>(
     here: &mut Here,
     writer: &mut Writer,
     visitor: &mut V,
-) -> Result<(), AllocError>
+) -> Result<bool, AllocError>
     requires inside { IsInside (V.holds visitor.old) source here.old writer.old }
     requires wanted { IsWanted here.old.phase }
-    ensures { OnOk result (Goes (V.holds visitor.new) source.entry here.old here.new writer.new) }
+    ensures { IfOk result (Goes (V.holds visitor.new) source.entry here.old here.new writer.new) }
 {
     let at = here.at;
     let Some(found) = integer_at(source.text.as_bytes(), at) else {
-        return Ok(());
+        return Ok(false);
     };
     let magnitude = found.number as u128;
     if found.is_tag {
         if writer.brackets.count() >= source.limit {
-            return Ok(());
+            return Ok(false);
         }
         open_tag(magnitude, found.mark, at, here, writer, visitor)?;
         here.at = found.stop;
-        return Ok(());
+        return Ok(true);
     }
     if writer.brackets.count() > source.limit {
-        return Ok(());
+        return Ok(false);
     }
     let numeral = Numeral {
         negative: found.negative,
@@ -135,7 +134,7 @@ fn take_integer<V: Visitor>(
     };
     put_number(numeral, at, here, writer, visitor)?;
     here.at = found.stop;
-    Ok(())
+    Ok(true)
 }
 
 /// Takes the word of a simple value.
@@ -145,16 +144,17 @@ fn take_word<V: Visitor>(
     here: &mut Here,
     writer: &mut Writer,
     visitor: &mut V,
-) -> Result<(), AllocError>
+) -> Result<bool, AllocError>
     requires inside { IsInside (V.holds visitor.old) source here.old writer.old }
     requires wanted { IsWanted here.old.phase }
-    ensures { OnOk result (Goes (V.holds visitor.new) source.entry here.old here.new writer.new) }
+    ensures { IfOk result (Goes (V.holds visitor.new) source.entry here.old here.new writer.new) }
 {
-    if let Some((n, stop)) = word_at(source.text.as_bytes(), here.at) {
-        put_word(n, here.at, here, writer, visitor)?;
-        here.at = stop;
-    }
-    Ok(())
+    let Some((n, stop)) = word_at(source.text.as_bytes(), here.at) else {
+        return Ok(false);
+    };
+    put_word(n, here.at, here, writer, visitor)?;
+    here.at = stop;
+    Ok(true)
 }
 
 /// Takes a text string of one piece without an indicator, and the white space after it.
@@ -164,11 +164,11 @@ fn take_text<V: Visitor>(
     here: &mut Here,
     writer: &mut Writer,
     visitor: &mut V,
-) -> Result<(), AllocError>
+) -> Result<bool, AllocError>
     requires inside { IsInside (V.holds visitor.old) source here.old writer.old }
     requires wanted { IsWanted here.old.phase }
     requires quote { slice_index source.text.now here.old.at ≡ 34 }
-    ensures { OnOk result (Goes (V.holds visitor.new) source.entry here.old here.new writer.new) }
+    ensures { IfOk result (Goes (V.holds visitor.new) source.entry here.old here.new writer.new) }
 {
     let bytes = source.text.as_bytes();
     let Some(found) = plain_text_at(source.profile, bytes, here.at) else {
@@ -177,7 +177,7 @@ fn take_text<V: Visitor>(
     let content = &bytes[here.at + 1..here.at + 1 + found.len];
     put_text(content, here, writer, visitor)?;
     here.at = found.stop;
-    Ok(())
+    Ok(true)
 }
 
 /// Takes a text string of one piece without an indicator, which may have escapes, and the white space
@@ -188,21 +188,21 @@ fn take_escaped<V: Visitor>(
     here: &mut Here,
     writer: &mut Writer,
     visitor: &mut V,
-) -> Result<(), AllocError>
+) -> Result<bool, AllocError>
     requires inside { IsInside (V.holds visitor.old) source here.old writer.old }
     requires wanted { IsWanted here.old.phase }
     requires quote { slice_index source.text.now here.old.at ≡ 34 }
-    ensures { OnOk result (Goes (V.holds visitor.new) source.entry here.old here.new writer.new) }
+    ensures { IfOk result (Goes (V.holds visitor.new) source.entry here.old here.new writer.new) }
 {
     let start = writer.pieces.len();
     let bytes = source.text.as_bytes();
     let Some(stop) = push_text(source.profile, bytes, here.at, &mut writer.pieces)? else {
         writer.pieces.truncate(start);
-        return Ok(());
+        return Ok(false);
     };
     put_last_piece(start, here, writer, visitor)?;
     here.at = stop;
-    Ok(())
+    Ok(true)
 }
 
 /// Takes a `[`, or a `{` if `is_map`, and its indicator, and also the bracket that ends it if that
@@ -214,27 +214,29 @@ fn take_opening<V: Visitor>(
     here: &mut Here,
     writer: &mut Writer,
     visitor: &mut V,
-) -> Result<(), AllocError>
+) -> Result<bool, AllocError>
     requires inside { IsInside (V.holds visitor.old) source here.old writer.old }
     requires wanted { IsWanted here.old.phase }
     requires bracket { slice_index source.text.now here.old.at ≡ (if is_map then 123 else 91) }
-    ensures { OnOk result (Goes (V.holds visitor.new) source.entry here.old here.new writer.new) }
+    ensures { IfOk result (Goes (V.holds visitor.new) source.entry here.old here.new writer.new) }
 {
     let at = here.at;
     let Some((mark, stop)) = opening_at(source.text.as_bytes(), at) else {
-        return Ok(());
+        return Ok(false);
     };
     if writer.brackets.count() >= source.limit {
-        return Ok(());
+        return Ok(false);
     }
     if is_map {
         open_map(mark, at, here, writer, visitor)?;
         here.at = stop;
-        return take_end(source, here, writer, visitor);
+        take_end(source, here, writer, visitor)?;
+        return Ok(true);
     }
     open_array(mark, at, here, writer, visitor)?;
     here.at = stop;
-    take_end(source, here, writer, visitor)
+    take_end(source, here, writer, visitor)?;
+    Ok(true)
 }
 
 /// Takes a `(_`, if a space follows it, or a `<<`, which begins the first piece of a string.
@@ -244,10 +246,10 @@ fn take_string_opening<V: Visitor>(
     here: &mut Here,
     writer: &mut Writer,
     visitor: &mut V,
-) -> Result<(), AllocError>
+) -> Result<bool, AllocError>
     requires inside { IsInside (V.holds visitor.old) source here.old writer.old }
     requires wanted { IsWanted here.old.phase }
-    ensures { OnOk result (Goes (V.holds visitor.new) source.entry here.old here.new writer.new) }
+    ensures { IfOk result (Goes (V.holds visitor.new) source.entry here.old here.new writer.new) }
 {
     let at = here.at;
     let bytes = source.text.as_bytes();
@@ -256,17 +258,19 @@ fn take_string_opening<V: Visitor>(
             if opens_chunks_at(bytes, at) {
                 open_chunks(at, here, writer);
                 here.at = at + 2;
+                return Ok(true);
             }
-            Ok(())
+            Ok(false)
         }
         b'<' => {
             if embeds_at(bytes, at) && writer.brackets.count() < source.limit {
                 open_embedded(at, here, writer)?;
                 here.at = at + 2;
+                return Ok(true);
             }
-            Ok(())
+            Ok(false)
         }
-        _ => Ok(()),
+        _ => Ok(false),
     }
 }
 
@@ -285,13 +289,13 @@ pub(crate) fn take_end<V: Visitor>(
     here: &mut Here,
     writer: &mut Writer,
     visitor: &mut V,
-) -> Result<(), AllocError>
+) -> Result<bool, AllocError>
     requires { IsReading (V.holds visitor.old) source here.old writer.old }
-    ensures { OnOk result (Goes (V.holds visitor.new) source.entry here.old here.new writer.new) }
+    ensures { IfOk result (Goes (V.holds visitor.new) source.entry here.old here.new writer.new) }
 {
     let at = here.at;
     if !is_first(here.phase) || at >= source.text.len() {
-        return Ok(());
+        return Ok(false);
     }
     match source.text.as_bytes()[at] {
         b']' => {
@@ -299,20 +303,20 @@ pub(crate) fn take_end<V: Visitor>(
             if is_array {
                 here.at = at + 1;
             }
-            Ok(())
+            Ok(is_array)
         }
         b'}' => {
             let is_map = end_map(here, writer, visitor)?;
             if is_map {
                 here.at = at + 1;
             }
-            Ok(())
+            Ok(is_map)
         }
-        _ => Ok(()),
+        _ => Ok(false),
     }
 }
 
-/// Takes what follows an item: a comma or a colon and a space after it, a bracket that ends, or white
+/// Takes what follows an item: a comma, a colon or a bracket that ends, and a space after it, or white
 /// space.
 #[inline(always)]
 fn take_after<V: Visitor>(
@@ -320,10 +324,10 @@ fn take_after<V: Visitor>(
     here: &mut Here,
     writer: &mut Writer,
     visitor: &mut V,
-) -> Result<(), AllocError>
+) -> Result<bool, AllocError>
     requires inside { IsInside (V.holds visitor.old) source here.old writer.old }
     requires has { here.old.phase ≡ phases.Has }
-    ensures { OnOk result (Goes (V.holds visitor.new) source.entry here.old here.new writer.new) }
+    ensures { IfOk result (Goes (V.holds visitor.new) source.entry here.old here.new writer.new) }
 {
     let Some(token) = token_after(source.text.as_bytes(), here.at) else {
         return take_white_space(source, here, writer, visitor);
@@ -331,17 +335,9 @@ fn take_after<V: Visitor>(
     let taken = after(token, 0, here, writer, visitor)?;
     if taken {
         here.at = token.stop;
-        if is_separator(token.kind) {
-            skip_space(source.text, here);
-        }
+        skip_space(source.text, here);
     }
-    Ok(())
-}
-
-/// Whether a token is a comma or a colon.
-#[inline(always)]
-fn is_separator(kind: Kind) -> bool {
-    matches!(kind, Kind::Comma | Kind::Colon)
+    Ok(taken)
 }
 
 /// Takes what follows the pieces of a string, if it begins no other piece, and ends the string.
@@ -351,13 +347,13 @@ fn take_after_pieces<V: Visitor>(
     here: &mut Here,
     writer: &mut Writer,
     visitor: &mut V,
-) -> Result<(), AllocError>
+) -> Result<bool, AllocError>
     requires inside { IsInside (V.holds visitor.old) source here.old writer.old }
     requires builds { here.old.phase ≡ phases.Builds }
-    ensures { OnOk result (Goes (V.holds visitor.new) source.entry here.old here.new writer.new) }
+    ensures { IfOk result (Goes (V.holds visitor.new) source.entry here.old here.new writer.new) }
 {
     if !ends_string(source.text.as_bytes()[here.at]) {
-        return Ok(());
+        return Ok(false);
     }
     if has_chunks(writer.chunks) {
         return take_after_chunk(source, here, writer, visitor);
@@ -375,19 +371,20 @@ fn take_after_chunk<V: Visitor>(
     here: &mut Here,
     writer: &mut Writer,
     visitor: &mut V,
-) -> Result<(), AllocError>
+) -> Result<bool, AllocError>
     requires inside { IsInside (V.holds visitor.old) source here.old writer.old }
     requires builds { here.old.phase ≡ phases.Builds }
     requires chunk { pure.has_chunks writer.old.chunks ≡ true }
-    ensures { OnOk result (Goes (V.holds visitor.new) source.entry here.old here.new writer.new) }
+    ensures { IfOk result (Goes (V.holds visitor.new) source.entry here.old here.new writer.new) }
 {
-    if let Some(token) = token_after(source.text.as_bytes(), here.at) {
-        let taken = after_chunk(token, 0, here, writer, visitor)?;
-        if taken {
-            here.at = token.stop;
-        }
+    let Some(token) = token_after(source.text.as_bytes(), here.at) else {
+        return Ok(false);
+    };
+    let taken = after_chunk(token, 0, here, writer, visitor)?;
+    if taken {
+        here.at = token.stop;
     }
-    Ok(())
+    Ok(taken)
 }
 
 /// Takes the number in `simple(..)`.
@@ -397,19 +394,19 @@ fn take_simple_number<V: Visitor>(
     here: &mut Here,
     writer: &mut Writer,
     visitor: &mut V,
-) -> Result<(), AllocError>
+) -> Result<bool, AllocError>
     requires inside { IsInside (V.holds visitor.old) source here.old writer.old }
     requires number { here.old.phase ≡ phases.WantsNumber }
-    ensures { OnOk result (Goes (V.holds visitor.new) source.entry here.old here.new writer.new) }
+    ensures { IfOk result (Goes (V.holds visitor.new) source.entry here.old here.new writer.new) }
 {
     let Some(found) = integer_at(source.text.as_bytes(), here.at) else {
-        return Ok(());
+        return Ok(false);
     };
     if found.is_tag {
-        return Ok(());
+        return Ok(false);
     }
     if writer.brackets.count() > source.limit {
-        return Ok(());
+        return Ok(false);
     }
     let numeral = Numeral {
         negative: found.negative,
@@ -418,7 +415,7 @@ fn take_simple_number<V: Visitor>(
     };
     put_simple(numeral, here.at, here, writer, visitor)?;
     here.at = found.stop;
-    Ok(())
+    Ok(true)
 }
 
 /// Takes the `)` of `simple(..)`.
@@ -428,17 +425,18 @@ fn take_simple_end<V: Visitor>(
     here: &mut Here,
     writer: &mut Writer,
     visitor: &mut V,
-) -> Result<(), AllocError>
+) -> Result<bool, AllocError>
     requires inside { IsInside (V.holds visitor.old) source here.old writer.old }
     requires number { here.old.phase ≡ phases.HasNumber }
-    ensures { OnOk result (Goes (V.holds visitor.new) source.entry here.old here.new writer.new) }
+    ensures { IfOk result (Goes (V.holds visitor.new) source.entry here.old here.new writer.new) }
 {
     let at = here.at;
-    if source.text.as_bytes()[at] == b')' {
-        close_simple(here);
-        here.at = at + 1;
+    if source.text.as_bytes()[at] != b')' {
+        return Ok(false);
     }
-    Ok(())
+    close_simple(here);
+    here.at = at + 1;
+    Ok(true)
 }
 
 /// Passes over a space, if there is one.
@@ -462,21 +460,25 @@ fn take_white_space<V: Visitor>(
     here: &mut Here,
     writer: &mut Writer,
     visitor: &mut V,
-) -> Result<(), AllocError>
+) -> Result<bool, AllocError>
     requires { IsInside (V.holds visitor.old) source here.old writer.old }
-    ensures { OnOk result (Goes (V.holds visitor.new) source.entry here.old here.new writer.new) }
+    ensures { IfOk result (Goes (V.holds visitor.new) source.entry here.old here.new writer.new) }
 {
     let bytes = source.text.as_bytes();
     if !begins_white_space(bytes[here.at]) {
-        return Ok(());
+        return Ok(false);
     }
     let next = here.at + 1;
     if bytes[here.at] == b' ' && next < bytes.len() && !begins_white_space(bytes[next]) {
         here.at = next;
-        return Ok(());
+        return Ok(true);
     }
-    if let Some(stop) = skip_white_space(source.profile, bytes, here.at) {
-        here.at = stop;
+    let Some(stop) = skip_white_space(source.profile, bytes, here.at) else {
+        return Ok(false);
+    };
+    if stop == here.at {
+        return Ok(false);
     }
-    Ok(())
+    here.at = stop;
+    Ok(true)
 }

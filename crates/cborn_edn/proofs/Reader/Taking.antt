@@ -59,6 +59,10 @@ number_low l limit n v m small low = subst (λ b. l + (if b then 0 else 1) ≤ l
 pub beyond : (p : Profile) (text : List ℕ) (at stop : ℕ) (c : Class) → IsTokenAt p text at stop c → at < stop
 beyond p text at stop c h = omega (arith, few p text at stop (token_at at stop c ∷ []) (through p h))
 
+-- on, and something was taken
+pub went : {A : Type 0} {m n : ℕ} {ok : Bool} → A × (m < n) → A × (m ≤ n) × (ok ≡ true → m < n)
+went (a, further) = (a, omega (arith, further), λ e. further)
+
 -- what is known of a token
 pub modest_at : (p : Profile) (text : List ℕ) (at stop : ℕ) (c : Class) → AreBytes text → IsTokenAt p text at stop c → IsModest c
 modest_at p text at stop c are tok = modest_here c (between_modest p text at stop (token_at at stop c ∷ []) are (through p tok)).0
@@ -138,68 +142,67 @@ module _ {h : Holds} {p : Profile} {limit : ℕ} {text : List ℕ} {here : Here}
 
   module _ {k : Holds} {x : List ℕ} (same : x ≡ text) (c : Class) (stop : ℕ) (found : (q : Profile) → IsTokenAt q x here.at stop c) (next : Here) (left : Writer) where
     -- LAW: on with a token
-    taken : (u : State) → step_by r.state c (span_at here.at stop) ≡ Some u → Reads k next left left.pieces.items u → forbids p (comma_at r.state c) ≡ false → reach (open_levels r.state) c ≤ limit → IsReadTo k p limit text (record next { at = stop }) left × (here.at ≤ stop)
+    taken : (u : State) → step_by r.state c (span_at here.at stop) ≡ Some u → Reads k next left left.pieces.items u → forbids p (comma_at r.state c) ≡ false → reach (open_levels r.state) c ≤ limit → IsReadTo k p limit text (record next { at = stop }) left × (here.at < stop)
     taken u is e free low =
         let between : Between p text here.at stop (token_at here.at stop c ∷ []) = through p (token_found same c stop found) in
         let modest : AreModest (token_at here.at stop c ∷ []) = (modest_found same c stop found, tt) in
-        let within = inside p text here.at stop (token_at here.at stop c ∷ []) r.inside between in
-        (record { utf8 = r.utf8; small = r.small; inside = within.1; state = u; reached = goes_on p limit text here.at r.state r.reached stop (token_at here.at stop c) u between modest is free low; shows = read_at next left left.pieces.items u stop e }, within.0)
+        (record { utf8 = r.utf8; small = r.small; inside = (inside p text here.at stop (token_at here.at stop c ∷ []) r.inside between).1; state = u; reached = goes_on p limit text here.at r.state r.reached stop (token_at here.at stop c) u between modest is free low; shows = read_at next left left.pieces.items u stop e }, beyond_found same c stop found)
 
     -- from the state that is shown
-    pub taken_from : (s u : State) → s ≡ r.state → step_by s c (span_at here.at stop) ≡ Some u → Reads k next left left.pieces.items u → forbids p (comma_at s c) ≡ false → reach (open_levels s) c ≤ limit → IsReadTo k p limit text (record next { at = stop }) left × (here.at ≤ stop)
+    pub taken_from : (s u : State) → s ≡ r.state → step_by s c (span_at here.at stop) ≡ Some u → Reads k next left left.pieces.items u → forbids p (comma_at s c) ≡ false → reach (open_levels s) c ≤ limit → IsReadTo k p limit text (record next { at = stop }) left × (here.at < stop)
     taken_from s u e is shows free low =
         taken u (subst (λ (v : State). step_by v c (span_at here.at stop) ≡ Some u) e is) shows (subst (λ (v : State). forbids p (comma_at v c) ≡ false) e free) (subst (λ (v : State). reach (open_levels v) c ≤ limit) e low)
 
     -- LAW: where an item is wanted
     pub item_taken : IsWanted here.phase → (v : Stack → State) → ((st : Stack) → step_by (wants st) c (span_at here.at stop) ≡ Some (v st)) → ((st : Stack) → Reads h here w w.pieces.items (wants st) → Reads k next left left.pieces.items (v st)) → ((st : Stack) → comma_in st c ≡ 0)
-        → reach (length w.brackets) c ≤ limit → IsReadTo k p limit text (record next { at = stop }) left × (here.at ≤ stop)
+        → reach (length w.brackets) c ≤ limit → IsReadTo k p limit text (record next { at = stop }) left × (here.at < stop)
     item_taken q v is leads bare low = go (wanted q)
       where
-        go : (st : Stack) × (wants st ≡ r.state) → IsReadTo k p limit text (record next { at = stop }) left × (here.at ≤ stop)
+        go : (st : Stack) × (wants st ≡ r.state) → IsReadTo k p limit text (record next { at = stop }) left × (here.at < stop)
         go (st, e) =
             let depth : length w.brackets ≡ open_levels (wants st) = ap length (shown_as (wants st) e).shows.brackets ∙ brackets_levels (wants st) in
             taken_from (wants st) (v st) e (is st) (leads st (shown_as (wants st) e)) (ap (forbids p) (bare st) ∙ free_none p) (subst (λ l. reach l c ≤ limit) depth low)
 
     -- LAW: where an item is wanted, but not after a comma
-    pub end_taken : (kind : Kind) → c ≡ class_of kind 0 [] → (ok : Bool) → ok ≡ true → here.phase ≡ phases.Wants → (MayEnd r.state → Reads h here w w.pieces.items r.state → Taken k ok r.state c (span_at here.at stop) next left) → reach (open_levels r.state) c ≤ limit → IsReadTo k p limit text (record next { at = stop }) left × (here.at ≤ stop)
+    pub end_taken : (kind : Kind) → c ≡ class_of kind 0 [] → (ok : Bool) → ok ≡ true → here.phase ≡ phases.Wants → (MayEnd r.state → Reads h here w w.pieces.items r.state → Taken k ok r.state c (span_at here.at stop) next left) → reach (open_levels r.state) c ≤ limit → IsReadTo k p limit text (record next { at = stop }) left × (here.at < stop)
     end_taken kind is ok e q f low = go (subst (λ b. Taken k b r.state c (span_at here.at stop) next left) e (f (may_end q) r.shows))
       where
         free : forbids p (comma_at r.state c) ≡ false
         free = ap (λ (y : Class). forbids p (comma_at r.state y)) is ∙ tight_free p r.state kind 0 [] (λ e. let bad : phases.Wants ≡ phases.WantsMore = sym q ∙ r.shows.shows.phase ∙ e in cc)
 
-        go : Taken k true r.state c (span_at here.at stop) next left → IsReadTo k p limit text (record next { at = stop }) left × (here.at ≤ stop)
+        go : Taken k true r.state c (span_at here.at stop) next left → IsReadTo k p limit text (record next { at = stop }) left × (here.at < stop)
         go (u, is, shows) = taken u is shows free low
 
     -- LAW: after an item
-    pub after_taken : here.phase ≡ phases.Has → (ok : Bool) → ok ≡ true → ((st : Stack) (i : Item) → Reads h here w w.pieces.items (has st i) → Taken k ok (has st i) c (span_at here.at stop) next left) → ((l : ℕ) → reach l c ≤ limit) → IsReadTo k p limit text (record next { at = stop }) left × (here.at ≤ stop)
+    pub after_taken : here.phase ≡ phases.Has → (ok : Bool) → ok ≡ true → ((st : Stack) (i : Item) → Reads h here w w.pieces.items (has st i) → Taken k ok (has st i) c (span_at here.at stop) next left) → ((l : ℕ) → reach l c ≤ limit) → IsReadTo k p limit text (record next { at = stop }) left × (here.at < stop)
     after_taken q ok e f low = go (is_has r.state (sym r.shows.shows.phase ∙ q))
       where
-        on : (st : Stack) (i : Item) → has st i ≡ r.state → Taken k true (has st i) c (span_at here.at stop) next left → IsReadTo k p limit text (record next { at = stop }) left × (here.at ≤ stop)
+        on : (st : Stack) (i : Item) → has st i ≡ r.state → Taken k true (has st i) c (span_at here.at stop) next left → IsReadTo k p limit text (record next { at = stop }) left × (here.at < stop)
         on st i same (u, is, shows) = taken_from (has st i) u same is shows (free_none p) (low (open_levels (has st i)))
 
-        go : (st : Stack) × (i : Item) × (has st i ≡ r.state) → IsReadTo k p limit text (record next { at = stop }) left × (here.at ≤ stop)
+        go : (st : Stack) × (i : Item) × (has st i ≡ r.state) → IsReadTo k p limit text (record next { at = stop }) left × (here.at < stop)
         go (st, i, same) = on st i same (subst (λ b. Taken k b (has st i) c (span_at here.at stop) next left) e (f st i (shown_as (has st i) same)))
 
     -- LAW: after a chunk
-    pub chunk_taken : here.phase ≡ phases.Builds → has_chunks w.chunks ≡ true → (ok : Bool) → ok ≡ true → ((i : Chunked) → Taken k ok (builds (as_chunk i.st i.at i.b) i.ps) c (span_at here.at stop) next left) → ((l : ℕ) → reach l c ≤ limit) → IsReadTo k p limit text (record next { at = stop }) left × (here.at ≤ stop)
+    pub chunk_taken : here.phase ≡ phases.Builds → has_chunks w.chunks ≡ true → (ok : Bool) → ok ≡ true → ((i : Chunked) → Taken k ok (builds (as_chunk i.st i.at i.b) i.ps) c (span_at here.at stop) next left) → ((l : ℕ) → reach l c ≤ limit) → IsReadTo k p limit text (record next { at = stop }) left × (here.at < stop)
     chunk_taken q some ok e f low = go (chunked q some) (subst (λ b. Taken k b (builds (as_chunk (chunked q some).st (chunked q some).at (chunked q some).b) (chunked q some).ps) c (span_at here.at stop) next left) e (f (chunked q some)))
       where
-        go : (i : Chunked) → Taken k true (builds (as_chunk i.st i.at i.b) i.ps) c (span_at here.at stop) next left → IsReadTo k p limit text (record next { at = stop }) left × (here.at ≤ stop)
+        go : (i : Chunked) → Taken k true (builds (as_chunk i.st i.at i.b) i.ps) c (span_at here.at stop) next left → IsReadTo k p limit text (record next { at = stop }) left × (here.at < stop)
         go i (u, is, shows) = taken_from (builds (as_chunk i.st i.at i.b) i.ps) u i.is is shows (free_none p) (low (open_levels (builds (as_chunk i.st i.at i.b) i.ps)))
 
     -- LAW: where the number in `simple(..)` is wanted
     pub number_taken : here.phase ≡ phases.WantsNumber → (v : Stack → Span → State) → ((st : Stack) (s : Span) → step_by (wants_number st s) c (span_at here.at stop) ≡ Some (v st s)) → ((st : Stack) (s : Span) → Reads h here w w.pieces.items (wants_number st s) → Reads k next left left.pieces.items (v st s)) → reach (length w.brackets) c ≤ limit
-        → IsReadTo k p limit text (record next { at = stop }) left × (here.at ≤ stop)
+        → IsReadTo k p limit text (record next { at = stop }) left × (here.at < stop)
     number_taken q v is leads low = go (is_wants_number r.state (sym r.shows.shows.phase ∙ q))
       where
-        go : (st : Stack) × (s : Span) × (wants_number st s ≡ r.state) → IsReadTo k p limit text (record next { at = stop }) left × (here.at ≤ stop)
+        go : (st : Stack) × (s : Span) × (wants_number st s ≡ r.state) → IsReadTo k p limit text (record next { at = stop }) left × (here.at < stop)
         go (st, s, same) =
             let depth : length w.brackets ≡ open_levels (wants_number st s) = ap length (shown_as (wants_number st s) same).shows.brackets ∙ brackets_levels (wants_number st s) in
             taken_from (wants_number st s) (v st s) same (is st s) (leads st s (shown_as (wants_number st s) same)) (free_none p) (subst (λ l. reach l c ≤ limit) depth low)
 
   -- LAW: on with a text string in one piece
   pub text_taken : {k : Holds} {y x : List ℕ} → y ≡ text → (stop : ℕ) (t : IsTextAt p y here.at stop x) (next : Here) (left : Writer) → IsWanted here.phase
-      → ((st : Stack) → IsUtf8 x → Reads h here w w.pieces.items (wants st) → Reads k next left left.pieces.items (has st (string (piece (piece_text (span_at here.at t.stop) x Absent))))) → IsReadTo k p limit text (record next { at = stop }) left × (here.at ≤ stop)
+      → ((st : Stack) → IsUtf8 x → Reads h here w w.pieces.items (wants st) → Reads k next left left.pieces.items (has st (string (piece (piece_text (span_at here.at t.stop) x Absent))))) → IsReadTo k p limit text (record next { at = stop }) left × (here.at < stop)
   text_taken {k = k} {y = y} {x = x} same stop found next left q reads = go (wanted q)
     where
       end : ℕ
@@ -214,7 +217,7 @@ module _ {h : Holds} {p : Profile} {limit : ℕ} {text : List ℕ} {here : Here}
       t : Token
       t = token_at here.at end (Text x Absent)
 
-      go : (st : Stack) × (wants st ≡ r.state) → IsReadTo k p limit text (record next { at = stop }) left × (here.at ≤ stop)
+      go : (st : Stack) × (wants st ≡ r.state) → IsReadTo k p limit text (record next { at = stop }) left × (here.at < stop)
       go (st, e) =
           let tok : IsTokenAt p text here.at end (Text x Absent) = subst (λ (z : List ℕ). IsTokenAt p z here.at end (Text x Absent)) same found.token in
           let white : TokensBetween p text end stop [] = subst (λ (z : List ℕ). TokensBetween p z end stop []) same found.white_space in
@@ -233,7 +236,7 @@ module _ {h : Holds} {p : Profile} {limit : ℕ} {text : List ℕ} {here : Here}
               reached = settled p limit text stop st ps none (skips p limit text end (builds (as_item st) ps) string_read stop (through p white));
               shows = read_at next left left.pieces.items (has st (string ps)) stop (reads st (here_found.utf8 r.utf8) (shown_as (wants st) e));
             },
-            omega (arith, first.0, rest.0),
+            omega (arith, beyond p text here.at end (Text x Absent) tok, rest.0),
           )
 
   -- LAW: the pieces are whole

@@ -67,9 +67,9 @@ IsReading h source here writer = IsReadTo h source.profile source.limit source.t
 abbrev pub IsInside : Holds → Source → Here → Writer → Type 0
 IsInside h source here writer = IsReading h source here writer × (here.at < length source.text.now)
 
--- the reader went on, or stayed where it was
-abbrev pub Goes : Holds → Source → Here → Here → Writer → Type 0
-Goes h source was here writer = IsReading h source here writer × (was.at ≤ here.at)
+-- the reader went on if ok is true; else it may have stayed where it was
+abbrev pub Goes : Holds → Source → Here → Here → Writer → Bool → Type 0
+Goes h source was here writer ok = IsReading h source here writer × (was.at ≤ here.at) × (ok ≡ true → was.at < here.at)
 
 -- an item is wanted
 abbrev pub IsWanted : Phase → Type 0

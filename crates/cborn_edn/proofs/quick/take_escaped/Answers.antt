@@ -7,7 +7,7 @@ use Rattle.cborn_edn.specs.devices.Handed.{Reads}
 use Rattle.cborn_edn.specs.devices.Syntax.{Span, string, piece, text}
 use Rattle.cborn_edn.proofs.Grammar.Machine.{wants, has}
 use Rattle.cborn_edn.proofs.Reader.Stepping.{same_read}
-use Rattle.cborn_edn.proofs.Reader.Taking.{text_taken}
+use Rattle.cborn_edn.proofs.Reader.Taking.{went, text_taken}
 use Rattle.cborn_edn.proofs.quick.take_escaped.Goals as goal
 
 pub returns : goal.returns
@@ -21,6 +21,6 @@ returns g c =
     let from : c.len-start.result ≡ length w.pieces.items = search rules in
     let old : take c.len-start.result mid.pieces.items ≡ w.pieces.items = (λ i. take (from i) (found.1 i)) ∙ take-append_seam w.pieces.items x in
     let content : drop c.len-start.result mid.pieces.items ≡ x = (λ i. drop (from i) (found.1 i)) ∙ drop-append_seam w.pieces.items x in
-    text_taken c.requires.inside.0 c.as_bytes-bytes.ensures.value c.in-Some.stop found.2 c.put_last_piece.new.here c.put_last_piece.new.writer c.requires.wanted
+    went (text_taken c.requires.inside.0 c.as_bytes-bytes.ensures.value c.in-Some.stop found.2 c.put_last_piece.new.here c.put_last_piece.new.writer c.requires.wanted
     (λ st utf8 r. subst (λ (y : List ℕ). Reads (g.V.Visitor.holds c.put_last_piece.new.visitor) c.put_last_piece.new.here c.put_last_piece.new.writer c.put_last_piece.new.writer.pieces.items (has st (string (piece (text a y Absent))))) content
-    (c.in_ok-put_last_piece.ensures.read st a refl (subst IsUtf8 (sym content) utf8) (subst (λ (y : List ℕ). Reads (g.V.Visitor.holds c.args.visitor.now) here mid y (wants st)) (sym old) (same_read here w mid w.pieces.items (wants st) r))))
+    (c.in_ok-put_last_piece.ensures.read st a refl (subst IsUtf8 (sym content) utf8) (subst (λ (y : List ℕ). Reads (g.V.Visitor.holds c.args.visitor.now) here mid y (wants st)) (sym old) (same_read here w mid w.pieces.items (wants st) r)))))

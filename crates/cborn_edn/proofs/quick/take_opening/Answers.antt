@@ -2,7 +2,6 @@ use Rattle.std.proofs.Common.{◌≡◌, refl, ap, ◌∙◌, ℕ, List, Bool, a
 use Rattle.cborn_lex.specs.declared.classes.Class.TheVariants.{ArrayOpen, MapOpen}
 use Rattle.cborn_edn.specs.devices.Syntax.{Span, no_item, no_pair}
 use Rattle.cborn_edn.proofs.Grammar.Machine.{wants, in_row, in_array, in_key}
-use Rattle.cborn_edn.proofs.Reader.Results.{on_ok}
 use Rattle.cborn_edn.proofs.Reader.Taking.{item_taken, beyond_found}
 use Rattle.cborn_edn.proofs.quick.take_opening.Goals as goal
 
@@ -15,7 +14,9 @@ take_end-requires g c =
 pub returns-then-is_map : goal.returns-then-is_map
 returns-then-is_map g c =
     let brace = ap (λ (x : List ℕ). slice_index x c.args.here.now.at) c.as_bytes.ensures.value ∙ c.requires.bracket ∙ ap (λ (b : Bool). if b then 123 else 91) c.if-is_map.true in
-    on_ok c.take_end.result (λ e. (e.0, omega (arith, e.1, beyond_found c.requires.inside.0 c.as_bytes.ensures.value (MapOpen c.in-Some.mark) c.in-Some.stop (λ profile. c.in-Some.ensures.map profile brace)))) c.take_end.ensures
+    let beyond = beyond_found c.requires.inside.0 c.as_bytes.ensures.value (MapOpen c.in-Some.mark) c.in-Some.stop (λ profile. c.in-Some.ensures.map profile brace) in
+    let e = c.in_ok-take_end.ensures in
+    (e.0, omega (arith, e.1, beyond), λ q. omega (arith, e.1, beyond))
 
 pub take_end-requires-2 : goal.take_end-requires-2
 take_end-requires-2 g c =
@@ -26,4 +27,6 @@ take_end-requires-2 g c =
 pub returns : goal.returns
 returns g c =
     let bracket = ap (λ (x : List ℕ). slice_index x c.args.here.now.at) c.as_bytes.ensures.value ∙ c.requires.bracket ∙ ap (λ (b : Bool). if b then 123 else 91) c.if-is_map.false in
-    on_ok c.take_end-2.result (λ e. (e.0, omega (arith, e.1, beyond_found c.requires.inside.0 c.as_bytes.ensures.value (ArrayOpen c.in-Some.mark) c.in-Some.stop (λ profile. c.in-Some.ensures.array profile bracket)))) c.take_end-2.ensures
+    let beyond = beyond_found c.requires.inside.0 c.as_bytes.ensures.value (ArrayOpen c.in-Some.mark) c.in-Some.stop (λ profile. c.in-Some.ensures.array profile bracket) in
+    let e = c.in_ok-take_end-2.ensures in
+    (e.0, omega (arith, e.1, beyond), λ q. omega (arith, e.1, beyond))

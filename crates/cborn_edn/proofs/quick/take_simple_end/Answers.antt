@@ -8,11 +8,11 @@ use Rattle.cborn_edn.proofs.HandedOver.Handing.{stays}
 use Rattle.cborn_edn.proofs.HandedOver.Silent.{handed_close_simple}
 use Rattle.cborn_edn.proofs.Reader.CommonTokens.{single_here}
 use Rattle.cborn_edn.proofs.Reader.Going.{free_none}
-use Rattle.cborn_edn.proofs.Reader.Taking.{taken_from, simple_number, shown_as}
+use Rattle.cborn_edn.proofs.Reader.Taking.{went, taken_from, simple_number, shown_as}
 use Rattle.cborn_edn.proofs.quick.take_simple_end.Goals as goal
 
-pub returns-then-as_bytes-at-eq41 : goal.returns-then-as_bytes-at-eq41
-returns-then-as_bytes-at-eq41 g c =
+pub returns : goal.returns
+returns g c =
     let r = c.requires.inside.0 in
     let at = c.args.here.now.at in
     let w = c.args.writer.now in
@@ -20,6 +20,6 @@ returns-then-as_bytes-at-eq41 g c =
     let k = simple_number r c.requires.number in
     let was = has_number k.st k.at k.b k.n k.v k.m in
     let e = shown_as r was k.is in
-    let paren : slice_index c.args.source.text.now at ≡ 41 = ap (λ (x : List ℕ). slice_index x at) (sym c.as_bytes.ensures.value) ∙ c.if-as_bytes-at-eq41.true in
-    taken_from r refl ParenClose (at + 1) (λ profile. single_here profile c.args.source.text.now at 41 ParenClose c.requires.inside.1 paren (λ z. good.paren_close z)) c.close_simple.new.here w was (has k.st (simple k.at k.b k.n k.v k.m a)) k.is refl
-    (record { shows = c.close_simple.ensures w w.pieces.items k.st k.at k.b a k.n k.v k.m e.shows; handed = stays (g.V.Visitor.holds c.args.visitor.now) w.spellers was (has k.st (simple k.at k.b k.n k.v k.m a)) (states_around k.st) (λ q. handed_close_simple q k.st k.at k.b k.n k.v k.m a) e.handed }) (free_none c.args.source.profile) (omega arith)
+    let paren : slice_index c.args.source.text.now at ≡ 41 = ap (λ (x : List ℕ). slice_index x at) (sym c.as_bytes.ensures.value) ∙ c.if-as_bytes-at-ne41.false in
+    went (taken_from r refl ParenClose (at + 1) (λ profile. single_here profile c.args.source.text.now at 41 ParenClose c.requires.inside.1 paren (λ z. good.paren_close z)) c.close_simple.new.here w was (has k.st (simple k.at k.b k.n k.v k.m a)) k.is refl
+    (record { shows = c.close_simple.ensures w w.pieces.items k.st k.at k.b a k.n k.v k.m e.shows; handed = stays (g.V.Visitor.holds c.args.visitor.now) w.spellers was (has k.st (simple k.at k.b k.n k.v k.m a)) (states_around k.st) (λ q. handed_close_simple q k.st k.at k.b k.n k.v k.m a) e.handed }) (free_none c.args.source.profile) (omega arith))

@@ -3,12 +3,12 @@ use Rattle.cborn_lex.specs.declared.classes.Class.TheVariants.{Number, TagOpen}
 use Rattle.cborn_edn.specs.devices.Ahead.{IsTokenAt}
 use Rattle.cborn_edn.specs.devices.Syntax.{Span}
 use Rattle.cborn_edn.proofs.Grammar.Machine.{has_number}
-use Rattle.cborn_edn.proofs.Reader.Taking.{number_taken, number_low}
+use Rattle.cborn_edn.proofs.Reader.Taking.{went, number_taken, number_low}
 use Rattle.cborn_edn.proofs.quick.take_simple_number.Goals as goal
 
 pub returns : goal.returns
 returns g c =
     let i = c.in-Some.found in
     let a : Span = record { start = c.args.here.now.at; stop = i.stop } in
-    number_taken c.requires.inside.0 c.as_bytes.ensures.value (Number i.negative i.number i.mark) i.stop (λ profile. subst (λ (b : Bool). IsTokenAt profile c.as_bytes.result.now c.args.here.now.at i.stop (if b then TagOpen i.number i.mark else Number i.negative i.number i.mark)) c.if-found.false (c.in-Some.ensures profile))
-    c.put_simple.new.here c.put_simple.new.writer c.requires.number (λ st s. has_number st s a i.negative i.number i.mark) (λ st s. refl) (λ st s. c.in_ok-put_simple.ensures st s a refl) (number_low _ c.args.source.limit i.negative i.number i.mark (omega arith) (omega arith))
+    went (number_taken c.requires.inside.0 c.as_bytes.ensures.value (Number i.negative i.number i.mark) i.stop (λ profile. subst (λ (b : Bool). IsTokenAt profile c.as_bytes.result.now c.args.here.now.at i.stop (if b then TagOpen i.number i.mark else Number i.negative i.number i.mark)) c.if-found.false (c.in-Some.ensures profile))
+    c.put_simple.new.here c.put_simple.new.writer c.requires.number (λ st s. has_number st s a i.negative i.number i.mark) (λ st s. refl) (λ st s. c.in_ok-put_simple.ensures st s a refl) (number_low _ c.args.source.limit i.negative i.number i.mark (omega arith) (omega arith)))

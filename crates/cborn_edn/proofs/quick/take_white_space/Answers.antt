@@ -1,4 +1,4 @@
-use Rattle.std.proofs.Common.{sym, ap, ◌∙◌, subst, ℕ, List, [], ◌+◌, get_or}
+use Rattle.std.proofs.Common.{sym, ap, ◌∙◌, subst, ℕ, List, [], ◌+◌, get_or, arith}
 use Rattle.cborn_lex.specs.Good.{TokensBetween}
 use Rattle.cborn_lex.specs.Tokens.{is_white}
 use Rattle.cborn_edn.proofs.Reader.CommonTokens.{white_here}
@@ -8,7 +8,10 @@ use Rattle.cborn_edn.proofs.quick.take_white_space.Goals as goal
 pub returns-then-not-begins_white_space-2 : goal.returns-then-not-begins_white_space-2
 returns-then-not-begins_white_space-2 g c =
     let at = c.args.here.now.at in
-    skipped c.requires.0 (at + 1) (white_here c.args.source.profile c.args.source.text.now at c.requires.1 (ap (λ (x : List ℕ). is_white (get_or x at 0)) (sym c.as_bytes-bytes.ensures.value) ∙ ap is_white c.if-bytes-here-eq32.true))
+    let s = skipped c.requires.0 (at + 1) (white_here c.args.source.profile c.args.source.text.now at c.requires.1 (ap (λ (x : List ℕ). is_white (get_or x at 0)) (sym c.as_bytes-bytes.ensures.value) ∙ ap is_white c.if-bytes-here-eq32.true)) in
+    (s.0, s.1, λ e. omega arith)
 
-pub returns-in-Some : goal.returns-in-Some
-returns-in-Some g c = skipped c.requires.0 c.in-Some.stop (subst (λ (x : List ℕ). TokensBetween c.args.source.profile x c.args.here.now.at c.in-Some.stop []) c.as_bytes-bytes.ensures.value c.in-Some.ensures.white_space)
+pub returns : goal.returns
+returns g c =
+    let s = skipped c.requires.0 c.in-Some.stop (subst (λ (x : List ℕ). TokensBetween c.args.source.profile x c.args.here.now.at c.in-Some.stop []) c.as_bytes-bytes.ensures.value c.in-Some.ensures.white_space) in
+    (s.0, s.1, λ e. omega (arith, s.1))
