@@ -1,3 +1,4 @@
+pub mod Common
 pub mod Grammar
 pub mod Meaning
 pub mod Reader

@@ -95,8 +95,6 @@ mod notators;
 mod numbers;
 mod passes;
 mod quick;
-mod quick_ends;
-mod quick_items;
 mod readers;
 mod refusals;
 mod showing;

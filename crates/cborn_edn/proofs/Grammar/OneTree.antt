@@ -1,22 +1,13 @@
 -- Tokens have at most one tree. Within the limit they have a tree or one syntax error, never both. A larger limit and profile 2 accept all that the others do.
-use Rattle.std.proofs.Common.{◌≡◌, refl, ap, ◌∙◌, sym, subst, ℕ, suc, ◌+◌, ◌≤◌, List, [], ◌∷◌, ◌++◌, Option, Some, None, append_assoc, append-nil, arith, ◌<◌, zero, ◌⊎◌, inl, inr}
-use Rattle.std.specs.Prelude.{max}
-use Rattle.cborn_lex.specs.declared.classes.Token.{Token}
-use Rattle.cborn_lex.specs.declared.classes.Profile.{Profile}
+use Rattle.cborn_edn.proofs.Common.{◌≡◌, refl, ap, ◌∙◌, sym, subst, ℕ, suc, ◌+◌, ◌≤◌, List, [], ◌∷◌, ◌++◌, Option, Some, None, append_assoc, append-nil, arith, ◌<◌, zero, ◌⊎◌, inl, inr, max, Token, Profile, token, span, Item, number, word, simple, string, row, no_item, Input, items, tokens_of_input, depth, depth_of_input, commas, commas_of_input, AllowsCount, EdnReason, UnexpectedToken, UnexpectedEnd, TooDeep, Parse, HasTree, GoesOn, GoesOnAtAnyDepth, StopsAt, IsSyntaxError, reach, same_Some}
 use Rattle.cborn_lex.specs.declared.classes.Profile.TheVariants.{One as ProfileOne, Two as ProfileTwo}
-use Rattle.cborn_edn.specs.devices.Syntax.{token, span, Item, number, word, simple, string, row, no_item, Input, nothing, items, tokens_of_input, depth, depth_of_input}
-use Rattle.cborn_edn.specs.devices.Commas.{commas, commas_of_input, AllowsCount}
+use Rattle.cborn_edn.specs.devices.Syntax.{nothing}
 use Rattle.cborn_edn.proofs.Grammar.Machine.{Stack, in_row, at_top, as_item, State, wants, has, builds, start, step, run, run-append, run-none}
-use Rattle.cborn_edn.specs.declared.faults.EdnReason.{EdnReason}
-use Rattle.cborn_edn.specs.declared.faults.EdnReason.TheVariants.{UnexpectedToken, UnexpectedEnd, TooDeep}
-use Rattle.cborn_edn.specs.devices.Parse.{Parse, HasTree, GoesOn, GoesOnAtAnyDepth, StopsAt, IsSyntaxError}
 use Rattle.cborn_edn.proofs.Grammar.Takes.{landed, then, whole, takes_input, finish, finish-whole}
-use Rattle.cborn_edn.specs.devices.Levels.{reach}
 use Rattle.cborn_edn.proofs.Grammar.Held.{held, open_levels, deep_stack, deep, commas_stack, commas_held, levels, comma_at, After, Grows}
 use Rattle.cborn_edn.proofs.Grammar.Grows.{grows}
 use Rattle.cborn_edn.proofs.Grammar.Closes.{closes}
 use Rattle.cborn_edn.proofs.Grammar.Trailing.{parse_of, allowed_count}
-use Rattle.std.proofs.lemmas.Option.{same_Some}
 
 -- what the tokens lead to
 abbrev pub Leads : List Token → State → Type 0

@@ -1,17 +1,8 @@
 -- The machine with its tests of the profile and the limit is a parser: it answers the tree, or the syntax error.
-use Rattle.std.proofs.Common.{◌≡◌, refl, ap, ◌∙◌, sym, subst, ℕ, suc, ◌+◌, ◌≤◌, List, [], ◌∷◌, ◌++◌, Bool, true, false, Option, Some, None, append_assoc, append-nil, leb, cond, arith, ◌<◌, zero}
-use Rattle.std.specs.Prelude.{max}
-use Rattle.std.proofs.lemmas.Bool.{leb-true, leb-false}
-use Rattle.cborn_lex.specs.declared.classes.Token.{Token}
-use Rattle.cborn_lex.specs.declared.classes.Profile.{Profile}
+use Rattle.cborn_edn.proofs.Common.{◌≡◌, refl, ap, ◌∙◌, sym, subst, ℕ, suc, ◌+◌, ◌≤◌, List, [], ◌∷◌, ◌++◌, Bool, true, false, Option, Some, None, append_assoc, append-nil, leb, cond, arith, ◌<◌, zero, max, leb-true, leb-false, Token, Profile, AllowsCount, token, span, Input, depth_of_input, UnexpectedToken, TooDeep, Parse, GoesOn, IsSyntaxError, reach}
 use Rattle.cborn_lex.specs.declared.classes.Profile.TheVariants.{One as ProfileOne, Two as ProfileTwo}
-use Rattle.cborn_edn.specs.devices.Commas.{AllowsCount}
-use Rattle.cborn_edn.specs.devices.Syntax.{token, span, Input, depth_of_input}
 use Rattle.cborn_edn.proofs.Grammar.Machine.{State, start, step}
-use Rattle.cborn_edn.specs.declared.faults.EdnReason.TheVariants.{UnexpectedToken, TooDeep}
-use Rattle.cborn_edn.specs.devices.Parse.{Parse, GoesOn, IsSyntaxError}
 use Rattle.cborn_edn.proofs.Grammar.Takes.{finish}
-use Rattle.cborn_edn.specs.devices.Levels.{reach}
 use Rattle.cborn_edn.proofs.Grammar.Held.{held, open_levels, deep, commas_held, comma_at, After, Grows}
 use Rattle.cborn_edn.proofs.Grammar.Grows.{grows}
 use Rattle.cborn_edn.proofs.Grammar.Trailing.{parse_of}

@@ -1,26 +1,8 @@
 -- Containers that end.
-use Rattle.std.proofs.Common.{◌≡◌, refl, sym, ap, ◌∙◌, subst, ℕ, ◌<◌, ◌^◌, List, [], ◌∷◌, ◌++◌, length, Bool, true, false, ltb, cond, None, append_assoc}
-use Rattle.std.specs.Prelude.{if◌then◌else◌}
-use Rattle.cborn_model.specs.declared.heads.Width.{Width}
-use Rattle.cborn_model.specs.declared.heads.Width.TheVariants.{Direct}
-use Rattle.cborn_model.specs.declared.heads.Size.TheVariants.{Fixed}
-use Rattle.cborn_model.specs.Heads.{holds, least}
-use Rattle.cborn_model.specs.Tree.{Tree, Items, Pairs, Trees, Entries, no_entry, entry, entries, count, count_entries}
-use Rattle.cborn_model.specs.Partial.{Opening, an_array, a_map, a_tag, Partial, inside, put, paired, last_key, built, ended_size, IsFree, Ends}
+use Rattle.cborn_edn.proofs.Common.{◌≡◌, refl, sym, ap, ◌∙◌, subst, ℕ, ◌<◌, ◌^◌, List, [], ◌∷◌, ◌++◌, length, Bool, true, false, ltb, cond, None, append_assoc, if◌then◌else◌, Width, Direct, Fixed, holds, least, Tree, Items, Pairs, Trees, Entries, no_entry, entry, entries, count, count_entries, Opening, an_array, a_map, a_tag, Partial, inside, put, paired, last_key, built, ended_size, IsFree, Ends, Mark, Absent, Endless, Wide, IndicatorTooNarrow, Close, width, size, size_errors, listed_trees, trees-listed, Span, Item, tag, array, row, Content, loose, tight, pairs, Fields, loose_fields, tight_fields, Stack, in_tag, in_array, State, has, node, nodes_before, nodes_in, entries_before, entries_in, faults, faults_before, faults_in, faults_before_pairs, faults_of_fields, noted, noted_stack, content_state, fields_state, AreFew, Comes, listed_entries, size_asked, front_of, front, Hands}
 use Rattle.cborn_model.proofs.Listed.Trees.{count-trees, count_entries-entries}
-use Rattle.cborn_lex.specs.declared.classes.Mark.{Mark}
-use Rattle.cborn_lex.specs.declared.classes.Mark.TheVariants.{Absent, Endless, Wide}
-use Rattle.cborn_edn.specs.declared.faults.EdnReason.TheVariants.{IndicatorTooNarrow}
-use Rattle.cborn_edn.specs.declared.events.Event.TheVariants.{Close}
-use Rattle.cborn_edn.specs.Says.{width, size, size_errors}
-use Rattle.cborn_edn.specs.devices.TreesCode.{listed_trees, trees-listed}
-use Rattle.cborn_edn.specs.devices.Syntax.{Span, Item, tag, array, map, row, Content, loose, tight, pairs, Fields, loose_fields, tight_fields}
-use Rattle.cborn_edn.specs.devices.Machine.{Stack, in_tag, in_array, State, has}
-use Rattle.cborn_edn.specs.devices.Said.{node, nodes_before, nodes_in, entries_before, entries_in, faults, faults_before, faults_in, faults_before_pairs, faults_of_fields}
-use Rattle.cborn_edn.specs.devices.Noted.{noted, noted_stack}
-use Rattle.cborn_edn.specs.devices.Shows.{content_state, fields_state}
-use Rattle.cborn_edn.specs.devices.Events.{AreFew, Comes, after}
-use Rattle.cborn_edn.specs.devices.Handed.{listed_entries, size_asked, front_of, front, Hands}
+use Rattle.cborn_edn.specs.devices.Syntax.{map}
+use Rattle.cborn_edn.specs.devices.Events.{after}
 use Rattle.cborn_edn.proofs.Meaning.NoError.{no_left, no_right, held}
 use Rattle.cborn_edn.proofs.HandedOver.Handing.{free}
 use Rattle.cborn_edn.proofs.HandedOver.Silent.{listed_snoc, listed_snoc_entry}

@@ -1,20 +1,11 @@
 -- What is whole after an event fits its heads.
-use Rattle.std.proofs.Common.{◌≡◌, refl, sym, subst, ℕ, ◌<◌, ◌^◌, List, [], ◌∷◌, ◌++◌, length, Bool, true, false, Some, None, arith}
-use Rattle.std.specs.Prelude.{if◌then◌else◌}
-use Rattle.cborn_model.specs.Bytes.{AreBytes}
-use Rattle.cborn_model.specs.declared.heads.Width.{Width}
-use Rattle.cborn_model.specs.declared.heads.Size.TheVariants.{Fixed, Endless}
-use Rattle.cborn_model.specs.declared.visitors.StringKind.{StringKind}
-use Rattle.cborn_model.specs.declared.visitors.StringKind.TheVariants.{OfBytes, OfText}
-use Rattle.cborn_model.specs.Heads.{WidthFits, holds, least}
-use Rattle.cborn_model.specs.Tree.{Tree, Uint, Nint, Bytes, Text, Simple, trees, entries}
-use Rattle.cborn_model.specs.Spelled.{Fits, FitsAll, FitsEntries, ChunksFit}
-use Rattle.cborn_model.specs.Partial.{Opening, an_array, a_map, a_tag, in_chunks, Partial, top, inside, put, paired, last_of, chunks_of, chunks_tree, built, AreStrings, Ends}
+use Rattle.cborn_edn.proofs.Common.{◌≡◌, refl, sym, subst, ℕ, ◌<◌, ◌^◌, List, [], ◌∷◌, ◌++◌, length, Bool, true, false, Some, None, arith, if◌then◌else◌, AreBytes, Width, Fixed, StringKind, OfBytes, OfText, WidthFits, holds, least, Tree, Uint, Nint, Simple, trees, entries, Fits, FitsAll, FitsEntries, ChunksFit, Opening, an_array, a_map, a_tag, in_chunks, Partial, top, inside, put, paired, last_of, chunks_of, chunks_tree, built, AreStrings, Ends, Event, Integer, Bignum, Map, Tag, String, NoChunks, Close, OpeningFits, FitsSoFar, AreFew, Comes}
+use Rattle.cborn_model.specs.declared.heads.Size.TheVariants.{Endless}
+use Rattle.cborn_model.specs.Tree.{Bytes, Text}
 use Rattle.cborn_model.proofs.Numbers.OneHead.{least_holds}
 use Rattle.cborn_model.proofs.Listed.Trees.{count-trees, count_entries-entries}
-use Rattle.cborn_edn.specs.declared.events.Event.{Event}
-use Rattle.cborn_edn.specs.declared.events.Event.TheVariants.{Integer, Bignum, Simple as SimpleValue, Array, Map, Tag, String, FirstChunk, NoChunks, Close}
-use Rattle.cborn_edn.specs.devices.Events.{Fits as EventFits, OpeningFits, FitsSoFar, AreFew, Comes, after}
+use Rattle.cborn_edn.specs.declared.events.Event.TheVariants.{Simple as SimpleValue, Array, FirstChunk}
+use Rattle.cborn_edn.specs.devices.Events.{Fits as EventFits, after}
 use Rattle.cborn_edn.proofs.Meaning.NoError.{holds_is}
 
 fits_more : (ts : List Tree) (t : Tree) → FitsAll (trees ts) → Fits t → FitsAll (trees (ts ++ (t ∷ [])))

@@ -1,17 +1,6 @@
 -- One event is handed over: to the innermost speller, or to the visitor.
-use Rattle.std.proofs.Common.{◌≡◌, refl, sym, ap, ◌∙◌, subst, ℕ, List, [], ◌∷◌, true, false, ◌<◌, ◌^◌, length}
-use Rattle.cborn_model.specs.Bytes.{AreBytes}
-use Rattle.cborn_model.specs.Partial.{Partial, no_part, IsFree}
-use Rattle.cborn_wire.specs.shared.Spelling.{IsWritten}
-use Rattle.cborn_wire.specs.declared.spellers.Speller.{Speller}
-use Rattle.cborn_edn.specs.Says.{is_nil}
-use Rattle.cborn_edn.specs.declared.events.Event.{Event}
-use Rattle.cborn_edn.specs.devices.Events.{Holds, Fits, FitsSoFar, Follows}
-use Rattle.cborn_edn.specs.devices.Machine.{Stack, in_row, in_key, in_value, in_tag, Nest, at_top, in_array, in_embed, State}
-use Rattle.cborn_edn.specs.devices.Said.{nodes_before}
-use Rattle.cborn_edn.specs.devices.Noted.{noted}
-use Rattle.cborn_edn.specs.devices.TreesCode.{listed_trees}
-use Rattle.cborn_edn.specs.devices.Handed.{front_of, row_front, front, Handed, AllHanded, Hands, InnermostFollows}
+use Rattle.cborn_edn.proofs.Common.{◌≡◌, refl, sym, ap, ◌∙◌, subst, ℕ, List, [], ◌∷◌, true, false, ◌<◌, ◌^◌, length, AreBytes, Partial, no_part, IsFree, IsWritten, Speller, is_nil, Event, Holds, FitsSoFar, Follows, Stack, in_row, in_key, in_value, in_tag, Nest, at_top, in_array, in_embed, State, nodes_before, noted, listed_trees, front_of, row_front, front, Handed, AllHanded, Hands, InnermostFollows}
+use Rattle.cborn_edn.specs.devices.Events.{Fits}
 use Rattle.cborn_edn.proofs.HandedOver.Fitting.{fits_after}
 
 -- what is true of each visitor is true of the innermost

@@ -1,18 +1,6 @@
 -- Heads that are handed over, and leaves.
-use Rattle.std.proofs.Common.{◌≡◌, refl, sym, ap, ◌∙◌, ℕ, ◌<◌, ◌^◌, [], Bool, true, false, cond, None}
-use Rattle.std.specs.Int.Digits.{digits_of}
-use Rattle.cborn_model.specs.declared.heads.Size.{Size}
-use Rattle.cborn_model.specs.declared.heads.Width.{Width}
-use Rattle.cborn_model.specs.Tree.{Tree, Simple}
-use Rattle.cborn_model.specs.Partial.{an_array, a_map, a_tag, inside, put, integer_tree}
-use Rattle.cborn_lex.specs.declared.classes.Mark.{Mark}
-use Rattle.cborn_edn.specs.Says.{width, is_below, argument_of, is_small, integer, bignum, number_node}
-use Rattle.cborn_edn.specs.declared.events.Event.TheVariants.{Integer, Bignum, Simple as SimpleValue, Array, Map, Tag}
-use Rattle.cborn_edn.specs.devices.Syntax.{Span, number, word, no_item, no_pair}
-use Rattle.cborn_edn.specs.devices.Machine.{Stack, in_row, in_key, in_tag, in_array, wants, has, wants_number, has_number}
-use Rattle.cborn_edn.specs.devices.Noted.{noted_stack}
-use Rattle.cborn_edn.specs.devices.Events.{bignum_of}
-use Rattle.cborn_edn.specs.devices.Handed.{size_asked, front_of, Hands}
+use Rattle.cborn_edn.proofs.Common.{◌≡◌, refl, sym, ap, ◌∙◌, ℕ, ◌<◌, ◌^◌, [], Bool, true, false, cond, None, digits_of, Size, Width, Tree, Simple, an_array, a_map, a_tag, inside, put, integer_tree, Mark, width, is_below, argument_of, is_small, integer, bignum, number_node, Integer, Bignum, Map, Tag, Span, number, word, no_item, no_pair, Stack, in_row, in_key, in_tag, in_array, wants, has, wants_number, has_number, noted_stack, bignum_of, size_asked, front_of, Hands}
+use Rattle.cborn_edn.specs.declared.events.Event.TheVariants.{Simple as SimpleValue, Array}
 use Rattle.cborn_edn.proofs.Meaning.NoError.{no_left, no_right, tag_small}
 use Rattle.cborn_edn.proofs.HandedOver.Handing.{free}
 

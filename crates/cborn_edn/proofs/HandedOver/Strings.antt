@@ -1,28 +1,9 @@
 -- Strings that end, and their chunks.
-use Rattle.std.proofs.Common.{◌≡◌, refl, sym, ap, ◌∙◌, subst, ℕ, ◌^◌, ◌<◌, List, [], ◌∷◌, ◌++◌, length, map, Bool, true, false, ◌&&◌, arith, append_assoc}
-use Rattle.std.specs.Prelude.{if◌then◌else◌}
-use Rattle.std.proofs.lemmas.List.{map-append}
-use Rattle.cborn_model.specs.declared.heads.Width.{Width}
-use Rattle.cborn_model.specs.declared.nodes.Chunk.{Chunk}
-use Rattle.cborn_model.specs.declared.visitors.StringKind.{StringKind}
-use Rattle.cborn_model.specs.declared.visitors.StringKind.TheVariants.{OfBytes, OfText}
-use Rattle.cborn_model.specs.Heads.{WidthFits, least}
-use Rattle.cborn_model.specs.Partial.{Partial, top, inside, an_array, a_map, a_tag, in_chunks, put, IsFree, TakesString, string_tree, chunks_tree}
+use Rattle.cborn_edn.proofs.Common.{◌≡◌, refl, sym, ap, ◌∙◌, subst, ℕ, ◌^◌, ◌<◌, List, [], ◌∷◌, ◌++◌, length, map, Bool, true, false, ◌&&◌, arith, append_assoc, if◌then◌else◌, map-append, Width, Chunk, StringKind, OfBytes, OfText, WidthFits, least, Partial, top, inside, an_array, a_map, a_tag, in_chunks, put, IsFree, TakesString, string_tree, chunks_tree, MixedChunks, Event, String, NoChunks, Close, Joint, width, is_endless, same_kind, Str, said_string, chunk, chunked_node, string_node, mark_errors, chunk_errors, Span, Pieces, string, chunked, Strings, strings, StringsBefore, no_string, after_strings, depth_of_pieces, Stack, as_item, as_chunk, wants, has, builds, wants_chunk, str, kind_in, chunks, faults_of_pieces, faults_of_strings, noted, noted_stack, pieces_bytes, joint, kind_before, Comes, front_of, Hands, string_event, chunk_event}
 use Rattle.cborn_model.specs.shared.Walks.{string_of}
 use Rattle.cborn_model.proofs.HandedOver.{strings as strings_held}
 use Rattle.cborn_lex.specs.declared.classes.Profile.TheVariants.{Two}
-use Rattle.cborn_edn.specs.declared.faults.EdnReason.TheVariants.{MixedChunks}
-use Rattle.cborn_edn.specs.declared.events.Event.{Event}
-use Rattle.cborn_edn.specs.declared.events.Event.TheVariants.{String, NoChunks, Close}
-use Rattle.cborn_edn.specs.declared.states.Joint.{Joint}
-use Rattle.cborn_edn.specs.Says.{width, is_endless, same_kind, Str, said_string, chunk, chunked_node, string_node, mark_errors, chunk_errors}
-use Rattle.cborn_edn.specs.devices.Syntax.{Span, Pieces, string, chunked, Strings, strings, StringsBefore, no_string, after_strings, depth_of_pieces}
-use Rattle.cborn_edn.specs.devices.Machine.{Stack, as_item, as_chunk, wants, has, builds, wants_chunk}
-use Rattle.cborn_edn.specs.devices.Said.{str, kind_in, chunks, faults_of_pieces, faults_of_strings}
-use Rattle.cborn_edn.specs.devices.Noted.{noted, noted_stack}
-use Rattle.cborn_edn.specs.devices.Kept.{pieces_bytes, joint, kind_before}
-use Rattle.cborn_edn.specs.devices.Events.{Fits, Comes, after}
-use Rattle.cborn_edn.specs.devices.Handed.{front_of, Hands, string_event, chunk_event}
+use Rattle.cborn_edn.specs.devices.Events.{Fits, after}
 use Rattle.cborn_edn.proofs.Short.Derived.{derived_pieces}
 use Rattle.cborn_edn.proofs.Meaning.NoError.{no_left, no_right, held, known_pieces, mark_fits}
 use Rattle.cborn_edn.proofs.Reader.Showing.{known_bytes}

@@ -1,17 +1,11 @@
 -- A part of a text, read as pieces one after another, and the tokens of it.
-use Rattle.std.proofs.Common.{◌≡◌, refl, sym, ap, ◌∙◌, subst, ℕ, ◌+◌, List, [], ◌∷◌, ◌++◌, length, append_assoc, append-nil, map as list_map}
-use Rattle.cborn_lex.specs.declared.classes.Profile.{Profile}
+use Rattle.cborn_edn.proofs.Common.{◌≡◌, refl, sym, ap, ◌∙◌, subst, ℕ, ◌+◌, List, [], ◌∷◌, ◌++◌, length, append_assoc, append-nil, Profile, Class, Token, WhiteSpace, Read, Lex, token, nowhere, unplaced_token}
+use Rattle.std.proofs.Common.{map as list_map}
 use Rattle.cborn_lex.specs.declared.classes.Profile.TheVariants.{One as ProfileOne, Two as ProfileTwo}
-use Rattle.cborn_lex.specs.declared.classes.Class.{Class}
-use Rattle.cborn_lex.specs.declared.classes.Token.{Token}
-use Rattle.cborn_lex.specs.Tokens.{WhiteSpace, Read}
 use Rattle.cborn_lex.specs.Forms.{Reads}
-use Rattle.cborn_lex.specs.Lex.{Lex}
 use Rattle.cborn_lex.specs.devices.Pieces.{Lexeme, white_space, token as lexed, slice, front_of, spelled, AreRead, tokens}
 use Rattle.cborn_lex.proofs.WholeTexts.Parts.{parted_lex}
 use Rattle.cborn_lex.proofs.WholeTexts.Chains.{both_profiles}
-use Rattle.cborn_edn.specs.devices.Syntax.{token}
-use Rattle.cborn_edn.specs.ReadingBack.{nowhere, unplaced_token}
 
 -- the tokens among pieces, without their places
 abbrev pub unplaced_tokens : List Lexeme → List Token

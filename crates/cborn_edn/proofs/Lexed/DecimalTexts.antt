@@ -1,25 +1,11 @@
 -- Numbers and tags of the fixed notation, as pieces.
-use Rattle.std.proofs.Common.{◌≡◌, refl, sym, ap, ◌∙◌, subst, ℕ, suc, ◌+◌, ◌*◌, ◌^◌, ◌<◌, ◌%◌, List, [], ◌∷◌, ◌++◌, length, get_or, Bool, true, false, ◌||◌, not, eqb, inl, inr, Ok, Some, decimal, append-nil, arith, length-append}
-use Rattle.std.proofs.lemmas.Bool.{and_from, and_right, cond-true, cond-false, lt-ltb, ne_eqb, cases_lt}
+use Rattle.cborn_edn.proofs.Common.{◌≡◌, refl, sym, ap, ◌∙◌, subst, ℕ, suc, ◌+◌, ◌*◌, ◌^◌, ◌<◌, ◌%◌, List, [], ◌∷◌, ◌++◌, length, get_or, Bool, true, false, ◌||◌, not, eqb, inl, inr, Ok, Some, decimal, append-nil, arith, and_from, and_right, cond-true, cond-false, lt-ltb, ne_eqb, cases_lt, decimal_digit, decimal_is_IsNumeral_wide, decimal_by_steps_wide, codes, list_all, is_digit, digit_value, Mark, Absent, Wide, Class, Number, TagOpen, Read, begins, is_numeral, are_digits, within, has_prefix, number_front, signed, Start, digit, start_of, ReadsFrom, ReadsNumber, Direct, token, nowhere, indicator}
+use Rattle.std.proofs.Common.{length-append}
 use Rattle.std.proofs.Math.ListN.{get_or-append}
-use Rattle.std.proofs.lemmas.Fmt.{decimal_digit, decimal_is_IsNumeral_wide, decimal_by_steps_wide}
 use Rattle.std.proofs.lemmas.Str.Parse.{digit_from_value}
-use Rattle.std.specs.Prelude.{codes}
-use Rattle.std.specs.List.{list_all}
-use Rattle.std.specs.Char.{is_digit, digit_value}
 use Rattle.std.specs.Str.Parse.{AllDigits, digits_value_after}
 use Rattle.cborn_lex.specs.declared.classes.Profile.TheVariants.{One as ProfileOne}
-use Rattle.cborn_lex.specs.declared.classes.Mark.{Mark}
-use Rattle.cborn_lex.specs.declared.classes.Mark.TheVariants.{Absent, Wide}
-use Rattle.cborn_lex.specs.declared.classes.Class.{Class}
-use Rattle.cborn_lex.specs.declared.classes.Class.TheVariants.{Number, TagOpen}
-use Rattle.cborn_lex.specs.Tokens.{Read, begins, is_numeral}
-use Rattle.cborn_lex.specs.Numbers.{are_digits, number, within, has_prefix, integer, number_front, signed}
-use Rattle.cborn_lex.specs.Forms.{Start, digit, start_of, ReadsFrom, ReadsNumber}
-use Rattle.cborn_model.specs.declared.heads.Width.TheVariants.{Direct}
-use Rattle.cborn_edn.specs.devices.Syntax.{token}
-use Rattle.cborn_edn.specs.ReadingBack.{nowhere}
-use Rattle.cborn_edn.specs.Shown.{indicator}
+use Rattle.cborn_lex.specs.Numbers.{number, integer}
 use Rattle.cborn_edn.proofs.Lexed.Tables.{passes, passes-at}
 use Rattle.cborn_edn.proofs.Lexed.Chained.{Chained, one_token}
 use Rattle.cborn_lex.proofs.WholeTexts.Spelling.{IsMark}

@@ -1,19 +1,8 @@
 -- Byte strings of the fixed notation, as pieces.
-use Rattle.std.proofs.Common.{◌≡◌, refl, sym, ap, ℕ, zero, suc, ◌/◌, ◌%◌, ◌<◌, List, [], ◌∷◌, ◌++◌, slice_index, Bool, true, false, ◌&&◌, inl, arith}
-use Rattle.std.proofs.lemmas.Bool.{and_parts, and_from}
-use Rattle.std.specs.Prelude.{codes}
-use Rattle.std.specs.List.{list_all}
-use Rattle.std.specs.Char.{is_digit}
-use Rattle.hex.specs.Hex.{encode_lower, encode_with, lower_digits, IsBytes}
+use Rattle.cborn_edn.proofs.Common.{◌≡◌, refl, sym, ap, ℕ, zero, suc, ◌/◌, ◌%◌, ◌<◌, List, [], ◌∷◌, ◌++◌, slice_index, Bool, true, false, ◌&&◌, inl, arith, and_parts, and_from, codes, list_all, is_digit, encode_lower, lower_digits, IsBytes, AreBytes, Mark, Bytes, is_not, marked, HasDigits, IsHex, token, nowhere, indicator}
+use Rattle.hex.specs.Hex.{encode_with}
 use Rattle.hex.proofs.HexLemmas.{decode_of-encode_lower}
-use Rattle.cborn_model.specs.Bytes.{AreBytes}
-use Rattle.cborn_lex.specs.declared.classes.Mark.{Mark}
-use Rattle.cborn_lex.specs.declared.classes.Class.TheVariants.{Bytes}
-use Rattle.cborn_lex.specs.Tokens.{is_not, marked}
-use Rattle.cborn_lex.specs.Strings.{HasDigits, nothing, digit, IsHex}
-use Rattle.cborn_edn.specs.devices.Syntax.{token}
-use Rattle.cborn_edn.specs.ReadingBack.{nowhere}
-use Rattle.cborn_edn.specs.Shown.{indicator}
+use Rattle.cborn_lex.specs.Strings.{nothing, digit}
 use Rattle.cborn_edn.proofs.Lexed.Tables.{passes-at}
 use Rattle.cborn_edn.proofs.Lexed.Chained.{Chained, one_token}
 use Rattle.cborn_lex.proofs.WholeTexts.Spelling.{IsMark}

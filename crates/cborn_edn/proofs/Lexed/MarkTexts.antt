@@ -1,23 +1,9 @@
 -- Indicators, brackets and separators of the fixed notation, as pieces.
-use Rattle.std.proofs.Common.{◌≡◌, refl, sym, ap, subst, ℕ, List, [], ◌∷◌, ◌++◌, length, Bool, true, false, eqb, ◌==◌, cond, Some}
-use Rattle.std.specs.Prelude.{codes}
-use Rattle.std.proofs.lemmas.Bool.{lt-ltb, cond-true}
-use Rattle.cborn_model.specs.declared.heads.Width.{Width}
-use Rattle.cborn_model.specs.declared.heads.Width.TheVariants.{Direct, One, Two, Four, Eight}
-use Rattle.cborn_model.specs.declared.heads.Size.{Size}
-use Rattle.cborn_model.specs.declared.heads.Size.TheVariants.{Fixed, Endless as EndlessMark}
-use Rattle.cborn_model.specs.Heads.{following, least, WidthFits, SizeFits}
+use Rattle.cborn_edn.proofs.Common.{◌≡◌, refl, sym, ap, subst, ℕ, List, [], ◌∷◌, ◌++◌, length, Bool, true, false, eqb, ◌==◌, cond, Some, codes, lt-ltb, cond-true, Width, Direct, One, Two, Four, Eight, Size, Fixed, following, least, WidthFits, SizeFits, Mark, Absent, Endless, Wide, Class, ArrayOpen, MapOpen, ArrayClose, MapClose, ParenClose, Comma, Colon, ChunkOpen, Read, begins, is_word, is_numeral, mark_of, marked, IsIndicator, token, nowhere, mark_for, mark_for_size, indicator, opened}
+use Rattle.cborn_model.specs.declared.heads.Size.TheVariants.{Endless as EndlessMark}
 use Rattle.cborn_lex.specs.declared.classes.Profile.TheVariants.{One as ProfileOne}
-use Rattle.cborn_lex.specs.declared.classes.Mark.{Mark}
-use Rattle.cborn_lex.specs.declared.classes.Mark.TheVariants.{Absent, Endless, Wide}
-use Rattle.cborn_lex.specs.declared.classes.Class.{Class}
-use Rattle.cborn_lex.specs.declared.classes.Class.TheVariants.{ArrayOpen, MapOpen, ArrayClose, MapClose, ParenClose, Comma, Colon, ChunkOpen}
-use Rattle.cborn_lex.specs.Tokens.{Read, begins, is_word, is_numeral, mark_of, marked}
-use Rattle.cborn_lex.specs.Forms.{IsIndicator, Reads}
+use Rattle.cborn_lex.specs.Forms.{Reads}
 use Rattle.cborn_lex.proofs.WholeTexts.Spelling.{IsMark}
-use Rattle.cborn_edn.specs.devices.Syntax.{token}
-use Rattle.cborn_edn.specs.ReadingBack.{nowhere}
-use Rattle.cborn_edn.specs.Shown.{mark_for, mark_for_size, indicator, opened}
 use Rattle.cborn_edn.proofs.Lexed.Chained.{Chained, one_token, one_white_space, both}
 
 -- what follows an item neither continues its last token nor gives it an indicator

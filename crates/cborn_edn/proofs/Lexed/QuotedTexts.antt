@@ -1,22 +1,12 @@
 -- Text strings of the fixed notation, as pieces.
-use Rattle.std.proofs.Common.{◌≡◌, refl, sym, ap, ◌∙◌, ℕ, ◌/◌, ◌%◌, ◌<◌, List, [], ◌∷◌, ◌++◌, slice_index, map as list_map, Bool, true, ◌&&◌, eqb, ltb, cond, inl, arith}
-use Rattle.std.proofs.lemmas.Bool.{and_parts, and_from}
+use Rattle.cborn_edn.proofs.Common.{◌≡◌, refl, sym, ap, ◌∙◌, ℕ, ◌/◌, ◌%◌, ◌<◌, List, [], ◌∷◌, ◌++◌, slice_index, Bool, true, ◌&&◌, eqb, ltb, cond, inl, arith, and_parts, and_from, codes, bytes_eq, list_all, flat_map, lower_digits, AreBytes, Mark, Endless, Bytes, Text, marked, is_content, Letter, raw, unit, written, is_letter, meant, token, nowhere, indicator, escaped}
+use Rattle.std.proofs.Common.{map as list_map}
 use Rattle.std.proofs.lemmas.Slice.Eq.{bytes_eq-Decides}
-use Rattle.std.specs.Prelude.{codes, bytes_eq}
-use Rattle.std.specs.List.{list_all, flat_map}
-use Rattle.hex.specs.Hex.{encode_with, lower_digits}
-use Rattle.cborn_model.specs.Bytes.{AreBytes}
-use Rattle.cborn_lex.specs.declared.classes.Mark.{Mark}
-use Rattle.cborn_lex.specs.declared.classes.Mark.TheVariants.{Endless}
-use Rattle.cborn_lex.specs.declared.classes.Class.TheVariants.{Bytes, Text}
-use Rattle.cborn_lex.specs.Tokens.{marked}
-use Rattle.cborn_lex.specs.Strings.{is_content, IsText, nothing}
-use Rattle.cborn_lex.specs.devices.Letters.{Letter, raw, escaped as after_slash, unit, written, is_letter, meant}
+use Rattle.hex.specs.Hex.{encode_with}
+use Rattle.cborn_lex.specs.Strings.{IsText, nothing}
+use Rattle.cborn_lex.specs.devices.Letters.{escaped as after_slash}
 use Rattle.cborn_lex.proofs.Contents.Lettered as lettered
 use Rattle.cborn_lex.proofs.Contents.Ends.{content_then}
-use Rattle.cborn_edn.specs.devices.Syntax.{token}
-use Rattle.cborn_edn.specs.ReadingBack.{nowhere}
-use Rattle.cborn_edn.specs.Shown.{indicator, escaped}
 use Rattle.cborn_edn.proofs.Lexed.Tables.{passes, passes-at}
 use Rattle.cborn_edn.proofs.Lexed.Chained.{Chained, one_token}
 use Rattle.cborn_lex.proofs.WholeTexts.Spelling.{IsMark}

@@ -1,6 +1,5 @@
 -- Tests of each number of a range, which compute.
-use Rattle.std.proofs.Common.{◌≡◌, ℕ, zero, suc, ◌+◌, ◌<◌, ◌≤◌, Bool, true, ◌&&◌, inl, inr, arith}
-use Rattle.std.proofs.lemmas.Bool.{and_parts, cases_lt}
+use Rattle.cborn_edn.proofs.Common.{◌≡◌, ℕ, zero, suc, ◌+◌, ◌<◌, ◌≤◌, Bool, true, ◌&&◌, inl, inr, arith, and_parts, cases_lt}
 
 -- each of n numbers from lo on passes
 abbrev pub passes : (ℕ → Bool) → ℕ → ℕ → Bool

@@ -1,13 +1,5 @@
 -- Simple values of the fixed notation, as pieces.
-use Rattle.std.proofs.Common.{◌≡◌, refl, sym, ◌∙◌, subst, ℕ, ◌<◌, ◌≤◌, List, [], ◌∷◌, ◌++◌, Bool, true, false, eqb, cond, inl, inr, decimal, append-nil, arith}
-use Rattle.std.proofs.lemmas.Bool.{cond-true, cond-false, lt-ltb, le-ltb, eqb-true, eqb-false, cases_Bool, cases_lt}
-use Rattle.std.specs.Prelude.{codes}
-use Rattle.cborn_lex.specs.declared.classes.Mark.TheVariants.{Absent}
-use Rattle.cborn_lex.specs.declared.classes.Class.TheVariants.{Number, Word, SimpleOpen, ParenClose}
-use Rattle.cborn_lex.specs.Tokens.{begins}
-use Rattle.cborn_edn.specs.devices.Syntax.{Item, simple, token, tokens_of}
-use Rattle.cborn_edn.specs.ReadingBack.{nowhere, simple_item}
-use Rattle.cborn_edn.specs.Shown.{shown_simple}
+use Rattle.cborn_edn.proofs.Common.{◌≡◌, refl, sym, ◌∙◌, subst, ℕ, ◌<◌, ◌≤◌, List, [], ◌∷◌, ◌++◌, Bool, true, false, eqb, cond, inl, inr, decimal, append-nil, arith, cond-true, cond-false, lt-ltb, le-ltb, eqb-true, eqb-false, cases_Bool, cases_lt, codes, Absent, Number, Word, SimpleOpen, ParenClose, begins, Item, simple, token, tokens_of, nowhere, simple_item, shown_simple}
 use Rattle.cborn_edn.proofs.Lexed.Chained.{Chained, one_token, both}
 use Rattle.cborn_edn.proofs.Lexed.MarkTexts.{Closes, paren_closes, paren_close}
 use Rattle.cborn_edn.proofs.Lexed.DecimalTexts.{number_text}

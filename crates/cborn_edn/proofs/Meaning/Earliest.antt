@@ -1,13 +1,7 @@
 -- The first of several meaning errors: there is one where there is any, and it is the first of the first ones of two parts.
-use Rattle.std.proofs.Common.{◌≡◌, refl, sym, ap, subst, ◌∙◌, ℕ, ◌+◌, ◌*◌, ◌<◌, ◌≤◌, List, [], ◌∷◌, ◌++◌, Bool, true, false, ◌&&◌, ◌||◌, cond, leb, ltb, eqb, Option, Some, None, arith}
-use Rattle.std.proofs.lemmas.Bool.{leb-true, leb-false, le-leb, lt-leb, ltb-true, ltb-false, eqb-true, eqb-false}
+use Rattle.cborn_edn.proofs.Common.{◌≡◌, refl, sym, ap, subst, ◌∙◌, ℕ, ◌+◌, ◌*◌, ◌<◌, ◌≤◌, List, [], ◌∷◌, ◌++◌, Bool, true, false, ◌&&◌, ◌||◌, cond, leb, ltb, eqb, Option, Some, None, arith, leb-true, leb-false, le-leb, lt-leb, ltb-true, ltb-false, eqb-true, eqb-false, EdnReason, UnexpectedToken, MeaningError, number_of, IsAmong, earlier, first_error}
 use Rattle.cborn_model.specs.First.{NoLater, IsFirst}
 use Rattle.cborn_model.proofs.Firsts.{no_later_on, first_alone, first_left, first_right}
-use Rattle.cborn_edn.specs.declared.faults.EdnReason.{EdnReason}
-use Rattle.cborn_edn.specs.declared.faults.EdnReason.TheVariants.{UnexpectedToken}
-use Rattle.cborn_edn.specs.declared.meaning_errors.MeaningError.{MeaningError}
-use Rattle.cborn_edn.specs.Faults.{number_of, IsAmong}
-use Rattle.cborn_edn.specs.devices.MeaningErrors.{earlier, first_error}
 
 low_number : (r : EdnReason) → number_of r < 64
 low_number UnexpectedToken = omega arith

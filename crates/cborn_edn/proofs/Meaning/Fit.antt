@@ -1,30 +1,13 @@
 -- What one number, one string, its chunks, an array and a map spell without a meaning error: bytes, not many of them, which fit their widths if they are fewer than 2^64.
-use Rattle.std.proofs.Common.{◌≡◌, refl, ℕ, zero, suc, ◌+◌, ◌^◌, ◌<◌, ◌≤◌, List, [], ◌∷◌, ◌++◌, length, Bool, true, false, ◌&&◌, cond, arith}
-use Rattle.std.specs.Prelude.{if◌then◌else◌}
-use Rattle.std.specs.List.{flat_map}
-use Rattle.std.specs.Int.Digits.{digits_of}
-use Rattle.std.proofs.lemmas.Bool.{ltb-true}
-use Rattle.std.proofs.lemmas.List.{length-append}
-use Rattle.std.proofs.lemmas.Int.Digits.{length-digits_of-le, all_below_base_digits_of}
-use Rattle.cborn_model.specs.Bytes.{AreBytes}
+use Rattle.cborn_edn.proofs.Common.{◌≡◌, refl, ℕ, zero, suc, ◌+◌, ◌^◌, ◌<◌, ◌≤◌, List, [], ◌∷◌, ◌++◌, length, Bool, true, false, ◌&&◌, cond, arith, if◌then◌else◌, flat_map, digits_of, ltb-true, length-append, length-digits_of-le, all_below_base_digits_of, AreBytes, Direct, One, Two, Four, Eight, Size, Fixed, Major, Unsigned, Negative, ByteString, TextString, Array, Chunk, least, Argument, Given, EndlessArgument, head, argument, WidthFits, SizeFits, chunk_bytes, spelled, spelled_all, spelled_entries, ChunksFit, Fits, Tree, Uint, Nint, ByteChunks, TextChunks, Items, Pairs, Tagged, Simple, Trees, more, Entries, no_entry, entry, count, count_entries, Mark, Absent, Endless, Wide, IndicatorNotAllowed, StringKind, OfBytes, OfText, width, size, is_absent, unless, width_errors, size_errors, is_below, argument_of, is_small, integer, bignum, number_node, number_errors, is_endless, Str, chunked_node, string_node, said_string, mark_errors, string_errors}
 use Rattle.cborn_model.proofs.Bytes.{bytes-append}
-use Rattle.cborn_model.specs.declared.heads.Width.TheVariants.{Direct, One, Two, Four, Eight}
-use Rattle.cborn_model.specs.declared.heads.Size.{Size}
-use Rattle.cborn_model.specs.declared.heads.Size.TheVariants.{Fixed, Endless as EndlessSize}
-use Rattle.cborn_model.specs.declared.heads.Major.{Major}
-use Rattle.cborn_model.specs.declared.heads.Major.TheVariants.{Unsigned, Negative, ByteString, TextString, Array, Map as MapHead, Tag as TagHead}
-use Rattle.cborn_model.specs.declared.nodes.Chunk.{Chunk}
-use Rattle.cborn_model.specs.Heads.{least, Argument, Given, EndlessArgument, head, argument, WidthFits, SizeFits}
-use Rattle.cborn_model.specs.Spelled.{ending, string, chunk_bytes, spelled, spelled_all, spelled_entries, ChunksFit, Fits}
-use Rattle.cborn_model.specs.Tree.{Tree, Uint, Nint, Bytes as ByteNode, Text, ByteChunks, TextChunks, Items, Pairs, Tagged, Simple, Trees, no_item, more, Entries, no_entry, entry, count, count_entries, depth}
+use Rattle.cborn_model.specs.declared.heads.Size.TheVariants.{Endless as EndlessSize}
+use Rattle.cborn_model.specs.declared.heads.Major.TheVariants.{Map as MapHead, Tag as TagHead}
+use Rattle.cborn_model.specs.Spelled.{ending, string}
+use Rattle.cborn_model.specs.Tree.{Bytes as ByteNode, Text, no_item, depth}
 use Rattle.cborn_model.proofs.Numbers.OneHead.{least_holds}
 use Rattle.cborn_wire.proofs.Spelled.AllBytes.{head_bytes}
-use Rattle.cborn_lex.specs.declared.classes.Mark.{Mark}
-use Rattle.cborn_lex.specs.declared.classes.Mark.TheVariants.{Absent, Endless, Wide}
-use Rattle.cborn_edn.specs.declared.faults.EdnReason.TheVariants.{IndicatorNotAllowed}
-use Rattle.cborn_model.specs.declared.visitors.StringKind.{StringKind}
-use Rattle.cborn_model.specs.declared.visitors.StringKind.TheVariants.{OfBytes, OfText}
-use Rattle.cborn_edn.specs.Says.{width, size, is_absent, unless, width_errors, size_errors, is_below, argument_of, is_small, depth_of_number, integer, bignum, number_node, number_errors, is_endless, Str, chunked_node, string_node, said_string, mark_errors, string_errors}
+use Rattle.cborn_edn.specs.Says.{depth_of_number}
 use Rattle.cborn_edn.proofs.Meaning.NoError.{no_left, width_fits, size_fits, mark_fits}
 use Rattle.cborn_edn.proofs.Reader.Modest.{least_bytes, width_bytes}
 

@@ -1,20 +1,7 @@
 -- What is known where there is no meaning error: an argument, a count or a length below 2^64 fits its width.
-use Rattle.std.proofs.Common.{◌≡◌, refl, ap, ℕ, ◌^◌, ◌<◌, List, [], ◌∷◌, ◌++◌, length, Bool, true, false, ltb, cond}
-use Rattle.std.specs.Prelude.{if◌then◌else◌}
-use Rattle.std.proofs.lemmas.Bool.{ltb-true, and_from}
-use Rattle.cborn_model.specs.declared.heads.Width.{Width}
-use Rattle.cborn_model.specs.declared.heads.Width.TheVariants.{Direct, One, Two, Four, Eight}
-use Rattle.cborn_model.specs.Heads.{holds, WidthFits, SizeFits}
+use Rattle.cborn_edn.proofs.Common.{◌≡◌, refl, ap, ℕ, ◌^◌, ◌<◌, List, [], ◌∷◌, ◌++◌, length, Bool, true, false, ltb, cond, if◌then◌else◌, ltb-true, and_from, Width, Direct, One, Two, Four, Eight, holds, WidthFits, SizeFits, Mark, Absent, Endless, Wide, Token, Profile, MeaningError, EdnReason, IndicatorTooNarrow, IndicatorNotAllowed, TagTooLarge, width, size, unless, width_errors, size_errors, tag_errors, Str, is_endless, is_nil, mark_errors, IsPiece, text_piece, byte_piece, ArePieces}
 use Rattle.cborn_model.proofs.Numbers.OneHead.{least_holds}
-use Rattle.cborn_lex.specs.declared.classes.Mark.{Mark}
-use Rattle.cborn_lex.specs.declared.classes.Mark.TheVariants.{Absent, Endless, Wide}
-use Rattle.cborn_lex.specs.declared.classes.Token.{Token}
-use Rattle.cborn_lex.specs.declared.classes.Profile.{Profile}
-use Rattle.cborn_edn.specs.declared.meaning_errors.MeaningError.{MeaningError}
-use Rattle.cborn_edn.specs.declared.faults.EdnReason.{EdnReason}
-use Rattle.cborn_edn.specs.declared.faults.EdnReason.TheVariants.{IndicatorTooNarrow, IndicatorNotAllowed, TagTooLarge}
-use Rattle.cborn_edn.specs.Says.{width, size, unless, width_errors, size_errors, tag_errors, Str, is_endless, is_nil, mark_errors}
-use Rattle.cborn_edn.specs.Grammar.{IsPiece, text_piece, byte_piece, embedded, ArePieces, piece, also}
+use Rattle.cborn_edn.specs.Grammar.{embedded, piece, also}
 
 pub no_left : {A : Type 0} (x y : List A) → x ++ y ≡ [] → x ≡ []
 no_left [] y e = refl

@@ -1,11 +1,6 @@
 -- One token as it is read.
-use Rattle.std.proofs.Common.{◌≡◌, subst, ℕ, List, [], ◌∷◌, length, Option, Some, None}
-use Rattle.cborn_lex.specs.Lex.{Between}
+use Rattle.cborn_edn.proofs.Common.{◌≡◌, subst, ℕ, List, [], ◌∷◌, length, Option, Some, None, Between, IsNextBareToken, BareToken, Class, Profile}
 use Rattle.cborn_lex.proofs.GoodTexts.{through}
-use Rattle.cborn_lex.specs.Kinds.{IsNextBareToken}
-use Rattle.cborn_lex.specs.declared.classes.BareToken.{BareToken}
-use Rattle.cborn_lex.specs.declared.classes.Class.{Class}
-use Rattle.cborn_lex.specs.declared.classes.Profile.{Profile}
 
 pub next_of : (p : Profile) (text : List ℕ) (at : ℕ) (o : Option BareToken) (n : ℕ) (old new : List ℕ) (t : BareToken) → o ≡ Some t → IsNextBareToken p text at o n old new → (c : Class) × Between p text at t.stop (record { start = t.start; stop = t.stop; class = c } ∷ [])
 next_of p text at o n old new t e h = go (subst (λ (q : Option BareToken). IsNextBareToken p text at q n old new) e h)

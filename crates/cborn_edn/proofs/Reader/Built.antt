@@ -1,30 +1,7 @@
 -- What is shown while a string is built, and after it.
-use Rattle.std.proofs.Common.{◌≡◌, refl, sym, ap, ◌∙◌, subst, ℕ, ◌-◌, List, ◌∷◌, ◌++◌, length, take, drop, Bool, true, false, ◌&&◌, Option, Some, None, append-nil, append_assoc, arith}
-use Rattle.std.proofs.Math.Seq.{take-append_seam, drop-append_seam}
-use Rattle.std.proofs.lemmas.List.{length-append, take_rest}
-use Rattle.std.proofs.lemmas.Option.{same_Some}
-use Rattle.cborn_wire.specs.declared.spellers.Speller.{Speller}
-use Rattle.cborn_lex.specs.declared.classes.Mark.{Mark}
-use Rattle.cborn_edn.specs.declared.meaning_errors.MeaningError.{MeaningError}
-use Rattle.cborn_model.specs.declared.visitors.StringKind.{StringKind}
-use Rattle.cborn_model.specs.declared.visitors.StringKind.TheVariants.{OfBytes, OfText}
-use Rattle.cborn_edn.specs.Says.{Str, is_nil, same_kind, unless, string_errors, chunk_errors, piece_errors}
-use Rattle.cborn_edn.specs.declared.faults.EdnReason.TheVariants.{MixedChunks}
-use Rattle.cborn_edn.specs.devices.MeaningErrors.{first_error, Notes}
-use Rattle.cborn_edn.specs.devices.Syntax.{Span, Pieces, piece, also, Strings, strings, StringsBefore, no_string, after_strings, string, chunked}
+use Rattle.cborn_edn.proofs.Common.{◌≡◌, refl, sym, ap, ◌∙◌, subst, ℕ, ◌-◌, List, ◌∷◌, ◌++◌, length, take, drop, Bool, true, false, ◌&&◌, Option, Some, None, append-nil, append_assoc, arith, take-append_seam, drop-append_seam, length-append, take_rest, same_Some, Speller, Mark, MeaningError, StringKind, OfBytes, OfText, Str, is_nil, same_kind, unless, string_errors, chunk_errors, piece_errors, MixedChunks, first_error, Notes, Span, Pieces, piece, also, Strings, strings, StringsBefore, no_string, after_strings, string, chunked, str, str_of, kind_in, faults_of_pieces, faults_of_strings, Here, Writer, Joint, Chunks, Has, Builds, WantsChunk, noted, strings_noted, noted_stack, noted_home, stack_of, bytes_around, bytes_around_home, pieces_bytes, joint, kind_before, kind_or, Shows, piece_of, Holds, states_around, AllHanded, Reads}
 use Rattle.cborn_edn.proofs.Grammar.Machine.{Stack, Home, as_item, as_chunk, has, builds, wants_chunk}
 use Rattle.cborn_edn.proofs.Grammar.Takes.{at_home}
-use Rattle.cborn_edn.specs.devices.Said.{str, str_of, kind_in, faults_of_pieces, faults_of_strings}
-use Rattle.cborn_edn.specs.declared.states.Here.{Here}
-use Rattle.cborn_edn.specs.declared.states.Writer.{Writer}
-use Rattle.cborn_edn.specs.declared.states.Joint.{Joint}
-use Rattle.cborn_edn.specs.declared.states.Chunks.{Chunks}
-use Rattle.cborn_edn.specs.declared.states.Phase.TheVariants.{Has, Builds, WantsChunk}
-use Rattle.cborn_edn.specs.devices.Noted.{noted, strings_noted, noted_stack, noted_home}
-use Rattle.cborn_edn.specs.devices.Kept.{stack_of, bytes_around, bytes_around_home, pieces_bytes, joint, kind_before, kind_or}
-use Rattle.cborn_edn.specs.devices.Shows.{Shows, piece_of}
-use Rattle.cborn_edn.specs.devices.Events.{Holds}
-use Rattle.cborn_edn.specs.devices.Handed.{states_around, AllHanded, Reads}
 use Rattle.cborn_edn.proofs.Reader.Joints.{known_joint}
 use Rattle.cborn_edn.proofs.Reader.Showing.{fresh, first_joint, bytes_same, piece_bytes_of, piece_faults}
 

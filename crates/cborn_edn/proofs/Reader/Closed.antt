@@ -1,32 +1,7 @@
 -- What is shown after a bracket that opens, and after one that ends.
-use Rattle.std.proofs.Common.{◌≡◌, refl, sym, ap, ◌∙◌, subst, ℕ, List, [], ◌∷◌, ◌++◌, length, Bool, true, false, Option, Some, None, append-nil, append_assoc}
-use Rattle.std.specs.Prelude.{if◌then◌else◌}
-use Rattle.cborn_model.specs.Tree.{Tree, trees}
-use Rattle.cborn_model.specs.Spelled.{spelled_all}
-use Rattle.cborn_model.specs.Partial.{top, no_part}
-use Rattle.cborn_model.specs.declared.visitors.StringKind.TheVariants.{OfBytes}
-use Rattle.cborn_wire.specs.shared.Spelling.{IsWritten}
-use Rattle.cborn_wire.specs.declared.spellers.Speller.{Speller}
-use Rattle.cborn_lex.specs.declared.classes.Mark.{Mark}
-use Rattle.cborn_lex.specs.declared.classes.Mark.TheVariants.{Absent}
-use Rattle.cborn_edn.specs.declared.meaning_errors.MeaningError.{MeaningError}
-use Rattle.cborn_edn.specs.Says.{is_nil, Str, joined, piece_errors, size_errors}
-use Rattle.cborn_edn.specs.devices.MeaningErrors.{first_error, earlier, is_none, Notes}
-use Rattle.cborn_edn.specs.devices.TreesCode.{listed_trees, trees-listed}
-use Rattle.cborn_edn.specs.devices.Syntax.{Span, Item, embedded, Pieces, row, Content, loose, tight, pairs, Fields, loose_fields, tight_fields, no_item}
+use Rattle.cborn_edn.proofs.Common.{◌≡◌, refl, sym, ap, ◌∙◌, subst, ℕ, List, [], ◌∷◌, ◌++◌, length, Bool, true, false, Option, Some, None, append-nil, append_assoc, if◌then◌else◌, Tree, trees, spelled_all, top, no_part, OfBytes, IsWritten, Speller, Mark, Absent, MeaningError, is_nil, Str, joined, piece_errors, size_errors, first_error, earlier, is_none, Notes, listed_trees, trees-listed, Span, Item, embedded, Pieces, row, Content, loose, tight, pairs, Fields, loose_fields, tight_fields, no_item, node, str, str_of, nodes_before, nodes_in, faults, faults_in, faults_of_pieces, noted, noted_stack, noted_home, stack_of, stack_in, bracket, brackets_of, brackets_home, around, arounds_of, arounds_home, bytes_around, bytes_around_home, bytes_before, piece_bytes, pieces_bytes, joint, Shows, content_state, fields_state, entries_at, states_around, states_around_nest, Handed, IsSpelled, Here, Writer, OpenBracket, Around, Joint, Has, Builds, Wants}
 use Rattle.cborn_edn.proofs.Grammar.Machine.{Stack, in_row, Nest, in_embed, Home, State, wants, has, builds, with_piece}
 use Rattle.cborn_edn.proofs.Grammar.Takes.{at_home}
-use Rattle.cborn_edn.specs.devices.Said.{node, str, str_of, nodes_before, nodes_in, faults, faults_in, faults_of_pieces}
-use Rattle.cborn_edn.specs.devices.Noted.{noted, noted_stack, noted_home}
-use Rattle.cborn_edn.specs.devices.Kept.{stack_of, stack_in, bracket, brackets_of, brackets_home, around, arounds_of, arounds_home, bytes_around, bytes_around_home, bytes_before, piece_bytes, pieces_bytes, joint}
-use Rattle.cborn_edn.specs.devices.Shows.{Shows, content_state, fields_state, entries_at}
-use Rattle.cborn_edn.specs.devices.Handed.{states_around, states_around_nest, Handed, IsSpelled}
-use Rattle.cborn_edn.specs.declared.states.Here.{Here}
-use Rattle.cborn_edn.specs.declared.states.Writer.{Writer}
-use Rattle.cborn_edn.specs.declared.states.OpenBracket.{OpenBracket}
-use Rattle.cborn_edn.specs.declared.states.Around.{Around}
-use Rattle.cborn_edn.specs.declared.states.Joint.{Joint}
-use Rattle.cborn_edn.specs.declared.states.Phase.TheVariants.{Has, Builds, Wants}
 use Rattle.cborn_edn.specs.declared.states.Level.TheVariants.{Embedded}
 use Rattle.cborn_edn.proofs.Meaning.NoError.{nil_is}
 use Rattle.cborn_edn.proofs.Reader.NotedErrors.{earlier_noted, none_first}

@@ -1,19 +1,8 @@
 -- How many items or pairs a bracket has, and how many brackets are open.
-use Rattle.std.proofs.Common.{◌≡◌, refl, ap, ℕ, suc, ◌≤◌, List, ◌++◌, [], ◌∷◌, length, arith}
-use Rattle.std.proofs.lemmas.List.{length-append}
-use Rattle.cborn_model.specs.Tree.{count, count_entries}
-use Rattle.cborn_lex.specs.declared.classes.Class.TheVariants.{Comma, MapOpen, Colon, ChunkOpen, SimpleOpen, Number}
-use Rattle.cborn_lex.specs.declared.classes.Profile.{Profile}
+use Rattle.cborn_edn.proofs.Common.{◌≡◌, refl, ap, ℕ, suc, ◌≤◌, List, ◌++◌, [], ◌∷◌, length, arith, length-append, count, count_entries, Comma, MapOpen, Colon, ChunkOpen, SimpleOpen, Number, Profile, token, row, RowBefore, no_item, after_row, pairs, PairsBefore, no_pair, after_pairs, tokens_of, tokens_of_pieces, tokens_of_row, tokens_of_row_before, tokens_of_pairs, tokens_of_pairs_before, tokens_of_strings_before, node, nodes_before, entries_before, Here, Writer, stack_of, stack_in, count_of, brackets_of, brackets_nest, brackets_home, Shows, Reached}
 use Rattle.cborn_lex.proofs.WholeTexts.Progress.{few}
-use Rattle.cborn_edn.specs.devices.Syntax.{token, row, RowBefore, no_item, after_row, pairs, PairsBefore, no_pair, after_pairs, tokens_of, tokens_of_pieces, tokens_of_row, tokens_of_row_before, tokens_of_pairs, tokens_of_pairs_before, tokens_of_strings_before}
 use Rattle.cborn_edn.proofs.Grammar.Machine.{Stack, in_row, in_key, in_value, in_tag, Nest, at_top, in_array, in_embed, Home, as_item, as_chunk, State, wants, has, builds, wants_chunk, wants_number, has_number}
 use Rattle.cborn_edn.proofs.Grammar.Held.{held_stack, held_nest, held_home, held, levels, levels_nest, levels_home, open_levels}
-use Rattle.cborn_edn.specs.devices.Said.{node, nodes_before, entries_before}
-use Rattle.cborn_edn.specs.declared.states.Here.{Here}
-use Rattle.cborn_edn.specs.declared.states.Writer.{Writer}
-use Rattle.cborn_edn.specs.devices.Kept.{stack_of, stack_in, count_of, brackets_of, brackets_nest, brackets_home}
-use Rattle.cborn_edn.specs.devices.Shows.{Shows}
-use Rattle.cborn_edn.specs.devices.Reading.{Reached}
 use Rattle.cborn_edn.proofs.Reader.Rows.{count-snoc, count-snoc_entry}
 
 few_before : (b : RowBefore) → count (nodes_before b) ≤ length (tokens_of_row_before b)

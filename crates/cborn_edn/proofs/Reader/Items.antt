@@ -1,24 +1,12 @@
 -- Tokens of numbers, strings and brackets from what was found at a place of a text.
-use Rattle.std.proofs.Common.{◌≡◌, refl, sym, ap, ◌∙◌, subst, ℕ, ◌+◌, ◌<◌, ◌≤◌, List, [], ◌∷◌, ◌++◌, length, take, drop, get_or, Bool, true, false, not, eqb, Some, Ok, arith, append_assoc, length-append, append-nil}
-use Rattle.std.proofs.lemmas.Bool.{ne_eqb, eqb-true, false≢true}
-use Rattle.std.proofs.lemmas.List.{take-append-drop, length-take-le, drop-drop}
-use Rattle.cborn_lex.specs.declared.classes.Profile.{Profile}
-use Rattle.cborn_lex.specs.declared.classes.Mark.{Mark}
-use Rattle.cborn_lex.specs.declared.classes.Mark.TheVariants.{Absent}
-use Rattle.cborn_lex.specs.declared.classes.Class.{Class}
-use Rattle.cborn_lex.specs.declared.classes.Class.TheVariants.{Number, TagOpen, Text, EmbedClose, ChunkOpen}
-use Rattle.cborn_lex.specs.Tokens.{begins, is_numeral, is_word, mark_of}
-use Rattle.cborn_lex.specs.Numbers.{integer, signed}
-use Rattle.std.specs.List.{list_all}
-use Rattle.std.specs.Str.{IsUtf8}
-use Rattle.cborn_lex.specs.Strings.{is_content, IsText}
-use Rattle.cborn_lex.specs.devices.Letters.{is_plain, LettersSoFar}
+use Rattle.cborn_edn.proofs.Common.{◌≡◌, refl, sym, ap, ◌∙◌, subst, ℕ, ◌+◌, ◌<◌, ◌≤◌, List, [], ◌∷◌, ◌++◌, length, take, drop, get_or, Bool, true, false, not, eqb, Some, Ok, arith, append_assoc, append-nil, ne_eqb, eqb-true, false≢true, take-append-drop, length-take-le, drop-drop, Profile, Mark, Absent, Class, Number, TagOpen, Text, EmbedClose, ChunkOpen, begins, is_numeral, is_word, mark_of, signed, list_all, IsUtf8, is_content, is_plain, LettersSoFar, IsRun, IsIndicator, IsMark, IsNumeral, TokensBetween, IsTokenAt, NoPieceAt, IsTextAt}
+use Rattle.std.proofs.Common.{length-append}
+use Rattle.cborn_lex.specs.Numbers.{integer}
+use Rattle.cborn_lex.specs.Strings.{IsText}
 use Rattle.cborn_lex.proofs.Runs.{none_yet, run_more, letters_end}
-use Rattle.cborn_lex.specs.Forms.{IsRun, IsIndicator}
 use Rattle.cborn_lex.specs.Good as good
-use Rattle.cborn_lex.specs.Good.{IsMark, IsNumeral, Takes, TokensBetween}
+use Rattle.cborn_lex.specs.Good.{Takes}
 use Rattle.cborn_lex.proofs.GoodFronts.{judge}
-use Rattle.cborn_edn.specs.devices.Ahead.{IsTokenAt, NoPieceAt, IsTextAt}
 use Rattle.cborn_edn.proofs.Reader.Utf8.{slice_utf8, text_utf8}
 use Rattle.cborn_edn.proofs.Reader.CommonTokens.{begins_here, token_here, ended}
 

@@ -1,14 +1,5 @@
 -- The meaning errors of a string, and of its pieces.
-use Rattle.std.proofs.Common.{◌≡◌, refl, sym, ap, ◌∙◌, subst, ℕ, List, [], ◌++◌, length, Bool, true, false, ◌&&◌, Option}
-use Rattle.std.specs.Prelude.{if◌then◌else◌}
-use Rattle.cborn_lex.specs.declared.classes.Mark.{Mark}
-use Rattle.cborn_model.specs.declared.visitors.StringKind.{StringKind}
-use Rattle.cborn_edn.specs.declared.meaning_errors.MeaningError.{MeaningError}
-use Rattle.cborn_edn.specs.declared.faults.EdnReason.TheVariants.{IndicatorNotAllowed, TextNotUtf8, MixedString, MixedChunks}
-use Rattle.cborn_edn.specs.Says.{unless, width_errors, is_absent, is_endless, is_good, may_join, same_kind, Str, joined, piece_errors, mark_errors, string_errors, chunk_errors}
-use Rattle.cborn_edn.specs.declared.states.Joint.{Joint}
-use Rattle.cborn_edn.specs.devices.MeaningErrors.{Notes}
-use Rattle.cborn_edn.specs.devices.Kept.{joint}
+use Rattle.cborn_edn.proofs.Common.{◌≡◌, refl, sym, ap, ◌∙◌, subst, ℕ, List, [], ◌++◌, length, Bool, true, false, ◌&&◌, Option, if◌then◌else◌, Mark, StringKind, MeaningError, IndicatorNotAllowed, TextNotUtf8, MixedString, MixedChunks, unless, width_errors, is_absent, is_endless, is_good, may_join, same_kind, Str, joined, piece_errors, mark_errors, string_errors, chunk_errors, Joint, Notes, joint}
 use Rattle.cborn_edn.proofs.Reader.NotedErrors.{none_noted, both_noted}
 
 abbrev marked : Bool → Bool → Str → List MeaningError → List MeaningError

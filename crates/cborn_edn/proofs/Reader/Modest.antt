@@ -1,22 +1,9 @@
 -- Tokens as a text has them, and heads that are bytes.
-use Rattle.std.proofs.Common.{◌≡◌, refl, sym, subst, ℕ, ◌+◌, ◌*◌, ◌^◌, ◌<◌, ◌≤◌, List, [], ◌∷◌, ◌++◌, Bool, true, false, ltb, arith}
-use Rattle.std.proofs.lemmas.Bool.{ltb-true, ltb-false, le-ltb}
-use Rattle.cborn_model.specs.Bytes.{AreBytes}
-use Rattle.cborn_model.specs.declared.heads.Width.TheVariants.{Eight}
-use Rattle.cborn_model.specs.declared.heads.Major.{Major}
-use Rattle.cborn_model.specs.declared.heads.Major.TheVariants.{Unsigned, Negative, ByteString, TextString, Array, Map as MapHead, Tag as TagHead, Other}
-use Rattle.cborn_model.specs.Heads.{code, holds, least, Given, head}
+use Rattle.cborn_edn.proofs.Common.{◌≡◌, refl, sym, subst, ℕ, ◌+◌, ◌*◌, ◌^◌, ◌<◌, ◌≤◌, List, [], ◌∷◌, ◌++◌, Bool, true, false, ltb, arith, ltb-true, ltb-false, le-ltb, AreBytes, Eight, Major, Unsigned, Negative, ByteString, TextString, Array, Other, code, holds, least, Given, head, Mark, Absent, Endless, Wide, Token, Class, Number, Word, Text, Bytes, IsModest, AreModest, IndicatorTooNarrow, width, width_errors}
+use Rattle.cborn_model.specs.declared.heads.Major.TheVariants.{Map as MapHead, Tag as TagHead}
 use Rattle.cborn_model.proofs.Numbers.OneHead.{least_holds}
 use Rattle.cborn_wire.proofs.Spelled.AllBytes.{head_bytes}
-use Rattle.cborn_lex.specs.declared.classes.Mark.{Mark}
-use Rattle.cborn_lex.specs.declared.classes.Mark.TheVariants.{Absent, Endless, Wide}
-use Rattle.cborn_lex.specs.declared.classes.Token.{Token}
-use Rattle.cborn_lex.specs.declared.classes.Class.{Class}
-use Rattle.cborn_lex.specs.declared.classes.Class.TheVariants.{Number, Word, Text, Bytes}
 use Rattle.cborn_lex.proofs.WholeTexts.Weights.{IsModest as IsModestThere, AreModest as AreModestThere}
-use Rattle.cborn_edn.specs.devices.Modest.{IsModest, AreModest}
-use Rattle.cborn_edn.specs.declared.faults.EdnReason.TheVariants.{IndicatorTooNarrow}
-use Rattle.cborn_edn.specs.Says.{width, width_errors}
 use Rattle.cborn_edn.proofs.Meaning.NoError.{held, holds_is}
 
 -- what is known of the tokens between two places of a text

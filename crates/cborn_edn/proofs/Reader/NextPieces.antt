@@ -1,19 +1,9 @@
 -- The token after a string that is known to end.
-use Rattle.std.proofs.Common.{◌≡◌, refl, sym, ap, ◌∙◌, subst, ℕ, ◌+◌, List, [], ◌∷◌, length, drop, get_or, Bool, true, false, eqb, inl, inr, arith}
-use Rattle.std.proofs.lemmas.Bool.{eqb-true, or_cases}
-use Rattle.std.proofs.lemmas.List.{drop_all}
-use Rattle.cborn_lex.specs.declared.classes.Profile.{Profile}
-use Rattle.cborn_lex.specs.declared.classes.Class.{Class}
-use Rattle.cborn_lex.specs.declared.classes.Class.TheVariants.{ArrayClose, MapClose, ParenClose, Comma, Colon}
-use Rattle.cborn_lex.specs.declared.classes.Token.{Token}
-use Rattle.cborn_lex.specs.Tokens.{WhiteSpace, Read}
-use Rattle.cborn_lex.specs.Forms.{Start, single, start_of, ReadsFrom, Reads}
+use Rattle.cborn_edn.proofs.Common.{◌≡◌, refl, sym, ap, ◌∙◌, subst, ℕ, ◌+◌, List, [], ◌∷◌, length, drop, get_or, Bool, true, false, eqb, inl, inr, arith, eqb-true, or_cases, drop_all, Profile, Class, ArrayClose, MapClose, ParenClose, Comma, Colon, Token, WhiteSpace, Read, Start, single, start_of, ReadsFrom, Through, Between, Span, Pieces, string, ends_string, NoPieceAt}
+use Rattle.cborn_lex.specs.Forms.{Reads}
 use Rattle.cborn_lex.specs.Lex as lex
-use Rattle.cborn_lex.specs.Lex.{Through, Between}
 use Rattle.cborn_lex.proofs.OneFront.Alone.{one_front}
-use Rattle.cborn_edn.specs.devices.Syntax.{Span, Pieces, string}
 use Rattle.cborn_edn.proofs.Grammar.Machine.{Stack, as_item, builds, has, step_by}
-use Rattle.cborn_edn.specs.devices.Ahead.{ends_string, NoPieceAt}
 use Rattle.cborn_edn.proofs.Reader.CommonTokens.{begins_here}
 
 -- a token that ends a bracket, or separates items

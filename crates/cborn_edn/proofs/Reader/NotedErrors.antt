@@ -1,10 +1,6 @@
 -- Meaning errors, noted one after another.
-use Rattle.std.proofs.Common.{◌≡◌, refl, sym, ap, ◌∙◌, List, [], ◌∷◌, ◌++◌, false, Option, Some, None, append-nil, append_assoc}
-use Rattle.cborn_edn.specs.declared.meaning_errors.MeaningError.{MeaningError}
-use Rattle.cborn_edn.specs.Says.{is_nil}
-use Rattle.cborn_edn.specs.devices.MeaningErrors.{first_error, earlier}
+use Rattle.cborn_edn.proofs.Common.{◌≡◌, refl, sym, ap, ◌∙◌, List, [], ◌∷◌, ◌++◌, false, Option, Some, None, append-nil, append_assoc, MeaningError, is_nil, first_error, earlier, is_none, Notes}
 use Rattle.cborn_edn.proofs.Meaning.Earliest.{first-append}
-use Rattle.cborn_edn.specs.devices.MeaningErrors.{is_none, Notes}
 
 -- nothing is noted
 pub none_noted : (old : Option MeaningError) → Notes old old []

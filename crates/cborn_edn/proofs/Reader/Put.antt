@@ -1,16 +1,6 @@
 -- What is shown after a number, a word or the number of a simple value.
-use Rattle.std.proofs.Common.{◌≡◌, refl, ap, ◌∙◌, ℕ, List, ◌++◌, length, Bool, Option}
-use Rattle.cborn_lex.specs.declared.classes.Mark.{Mark}
-use Rattle.cborn_edn.specs.Says.{simple_errors}
-use Rattle.cborn_edn.specs.declared.meaning_errors.MeaningError.{MeaningError}
-use Rattle.cborn_edn.specs.devices.MeaningErrors.{first_error, Notes}
-use Rattle.cborn_edn.specs.devices.Syntax.{Span}
+use Rattle.cborn_edn.proofs.Common.{◌≡◌, refl, ap, ◌∙◌, ℕ, List, ◌++◌, length, Bool, Option, Mark, simple_errors, MeaningError, first_error, Notes, Span, Here, Writer, noted, noted_stack, phase_of, stack_in, level_of, count_of, brackets_of, arounds_of, bytes_around, string_in, chunks_in, bytes_open, Shows, IsOpenAt}
 use Rattle.cborn_edn.proofs.Grammar.Machine.{Stack, State}
-use Rattle.cborn_edn.specs.declared.states.Here.{Here}
-use Rattle.cborn_edn.specs.declared.states.Writer.{Writer}
-use Rattle.cborn_edn.specs.devices.Noted.{noted, noted_stack}
-use Rattle.cborn_edn.specs.devices.Kept.{phase_of, stack_in, level_of, count_of, brackets_of, arounds_of, bytes_around, string_in, chunks_in, bytes_open}
-use Rattle.cborn_edn.specs.devices.Shows.{Shows, IsOpenAt}
 
 -- a leaf was taken, which changes neither what is open nor the pieces
 pub leaf_shown : {here : Here} {w left : Writer} {written more : List ℕ} (s u : State) (new : Option MeaningError) → left ≡ record w { pieces = left.pieces; spellers = left.spellers; error = new } → more ≡ written → stack_in s ≡ stack_in u → string_in s ≡ string_in u → chunks_in s ≡ chunks_in u → bytes_open s ≡ bytes_open u

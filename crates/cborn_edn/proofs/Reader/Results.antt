@@ -1,6 +1,6 @@
 -- What holds of an answer in case of success, and of a fault that is passed on.
-use Rattle.std.proofs.Common.{sym, subst}
-use Rattle.std.specs.Prelude.{◌≡◌, Result, Ok, Err, IfOk, IfErr, OnOk}
+use Rattle.cborn_edn.proofs.Common.{sym, subst, IfOk}
+use Rattle.std.specs.Prelude.{◌≡◌, Result, Ok, Err, IfErr, OnOk}
 use Rattle.std.specs.Result.{IsErr, IsErrAnd}
 
 pub on_ok : {A E : Type 0} (r : Result A E) {P Q : Type 0} → (P → Q) → OnOk r P → OnOk r Q

@@ -1,22 +1,8 @@
 -- What is shown before the bracket that ends a row or a map.
-use Rattle.std.proofs.Common.{◌≡◌, refl, ap, ◌∙◌, ℕ, suc, ◌+◌, ◌<◌, ◌^◌, List, ◌∷◌, ◌++◌, length, Some, None, append_assoc, arith}
-use Rattle.cborn_model.specs.Tree.{Tree, Trees, no_item as no_node, more, Entries, no_entry, entry, count, count_entries}
-use Rattle.cborn_lex.specs.declared.classes.Mark.{Mark}
-use Rattle.cborn_edn.specs.devices.MeaningErrors.{first_error}
-use Rattle.cborn_edn.specs.devices.Said.{snoc, snoc_entry, node, nodes_before, nodes_in, entries_before, entries_in, faults, faults_before, faults_in, faults_before_pairs, faults_of_fields}
-use Rattle.cborn_edn.specs.devices.Syntax.{Span, Item, row, RowBefore, no_item, after_row, Content, loose, tight, pairs, PairsBefore, no_pair, after_pairs, Fields, loose_fields, tight_fields}
+use Rattle.cborn_edn.proofs.Common.{◌≡◌, refl, ap, ◌∙◌, ℕ, suc, ◌+◌, ◌<◌, ◌^◌, List, ◌∷◌, ◌++◌, length, Some, None, append_assoc, arith, Tree, Trees, more, Entries, no_entry, entry, count, count_entries, Mark, first_error, snoc, snoc_entry, node, nodes_before, nodes_in, entries_before, entries_in, faults, faults_before, faults_in, faults_before_pairs, faults_of_fields, Span, Item, row, RowBefore, no_item, after_row, Content, loose, tight, pairs, PairsBefore, no_pair, after_pairs, Fields, loose_fields, tight_fields, MeaningError, Around, Here, OpenBracket, Writer, Phase, Has, WantsMore, noted_stack, noted_nest, level_of, bracket, brackets_of, brackets_nest, arounds_of, arounds_nest, bytes_around, bytes_around_nest, Shows, content_state, fields_state, entries_at}
+use Rattle.cborn_model.specs.Tree.{no_item as no_node}
 use Rattle.cborn_edn.proofs.Grammar.Machine.{Stack, in_row, in_key, in_value, Nest, at_top, in_array, in_embed, has, wants}
-use Rattle.cborn_edn.specs.declared.meaning_errors.MeaningError.{MeaningError}
-use Rattle.cborn_edn.specs.declared.states.Around.{Around}
-use Rattle.cborn_edn.specs.declared.states.Here.{Here}
-use Rattle.cborn_edn.specs.declared.states.OpenBracket.{OpenBracket}
-use Rattle.cborn_edn.specs.declared.states.Writer.{Writer}
-use Rattle.cborn_edn.specs.declared.states.Phase.{Phase}
-use Rattle.cborn_edn.specs.declared.states.Phase.TheVariants.{Has, WantsMore}
 use Rattle.cborn_edn.specs.declared.states.Level.TheVariants.{Key}
-use Rattle.cborn_edn.specs.devices.Noted.{noted_stack, noted_nest}
-use Rattle.cborn_edn.specs.devices.Kept.{level_of, bracket, brackets_of, brackets_nest, arounds_of, arounds_nest, bytes_around, bytes_around_nest}
-use Rattle.cborn_edn.specs.devices.Shows.{Shows, content_state, fields_state, entries_at}
 
 pub count-snoc : (ts : Trees) (t : Tree) → count (snoc ts t) ≡ suc (count ts)
 count-snoc no_node t = refl

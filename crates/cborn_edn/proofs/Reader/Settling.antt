@@ -1,26 +1,10 @@
 -- A string that no other piece follows is an item.
-use Rattle.std.proofs.Common.{◌≡◌, refl, sym, ap, ◌∙◌, ℕ, List, [], ◌∷◌, ◌++◌, length, true, cond, leb, Option, Some, None}
-use Rattle.std.proofs.lemmas.Str.{is_utf8-from_IsUtf8}
-use Rattle.std.specs.Str.{IsUtf8}
-use Rattle.cborn_model.specs.Heads.{least}
+use Rattle.cborn_edn.proofs.Common.{◌≡◌, refl, sym, ap, ◌∙◌, ℕ, List, [], ◌∷◌, ◌++◌, length, true, cond, leb, Option, Some, None, is_utf8-from_IsUtf8, IsUtf8, least, Absent, Profile, Token, MeaningError, unless, TextNotUtf8, first_error, reach, Span, span, Item, Pieces, piece, text, string, node, faults, NoPieceAt, noted_stack, Reached}
 use Rattle.cborn_model.specs.Tree.{Text as TextNode}
-use Rattle.cborn_lex.specs.declared.classes.Mark.TheVariants.{Absent}
-use Rattle.cborn_lex.specs.declared.classes.Profile.{Profile}
-use Rattle.cborn_lex.specs.declared.classes.Token.{Token}
-use Rattle.cborn_edn.specs.declared.meaning_errors.MeaningError.{MeaningError}
-use Rattle.cborn_edn.specs.Says.{unless}
-use Rattle.cborn_edn.specs.declared.faults.EdnReason.TheVariants.{TextNotUtf8}
-use Rattle.cborn_edn.specs.devices.MeaningErrors.{first_error}
-use Rattle.cborn_edn.specs.devices.Levels.{reach}
-use Rattle.cborn_edn.specs.devices.Syntax.{Span, span, Item, Pieces, piece, text, string}
 use Rattle.cborn_edn.proofs.Grammar.Machine.{Stack, in_row, in_key, in_value, in_tag, at_top, in_array, in_embed, as_item, State, has, builds, step}
 use Rattle.cborn_edn.proofs.Grammar.Held.{levels, comma_at}
 use Rattle.cborn_edn.proofs.Grammar.Takes.{finish}
 use Rattle.cborn_edn.proofs.Grammar.Parser.{at_end, checked, forbids, parse}
-use Rattle.cborn_edn.specs.devices.Said.{node, faults}
-use Rattle.cborn_edn.specs.devices.Ahead.{NoPieceAt}
-use Rattle.cborn_edn.specs.devices.Noted.{noted_stack}
-use Rattle.cborn_edn.specs.devices.Reading.{Reached}
 use Rattle.cborn_edn.proofs.Reader.Going.{after_token}
 use Rattle.cborn_edn.proofs.Reader.NextPieces.{is_single, string_ends, next_single}
 use Rattle.cborn_edn.proofs.Reader.Showing.{same_errors}

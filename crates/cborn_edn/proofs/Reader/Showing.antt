@@ -1,26 +1,8 @@
 -- What is shown, moved from one state of the machine to the next.
-use Rattle.std.proofs.Common.{◌≡◌, refl, sym, ap, ◌∙◌, subst, ℕ, List, [], ◌∷◌, ◌++◌, length, Bool, true, false, ◌&&◌, Option, Some, None, append-nil}
-use Rattle.std.specs.Prelude.{if◌then◌else◌}
-use Rattle.cborn_model.specs.Spelled.{spelled_all}
-use Rattle.cborn_lex.specs.declared.classes.Mark.{Mark}
-use Rattle.cborn_edn.specs.declared.meaning_errors.MeaningError.{MeaningError}
-use Rattle.cborn_model.specs.declared.visitors.StringKind.{StringKind}
-use Rattle.cborn_model.specs.declared.visitors.StringKind.TheVariants.{OfBytes, OfText}
-use Rattle.cborn_edn.specs.Says.{is_nil}
-use Rattle.cborn_edn.specs.devices.MeaningErrors.{first_error}
-use Rattle.cborn_edn.specs.devices.Syntax.{Span, Piece, text, bytes, embedded, Pieces, piece, also}
+use Rattle.cborn_edn.proofs.Common.{◌≡◌, refl, sym, ap, ◌∙◌, subst, ℕ, List, [], ◌∷◌, ◌++◌, length, Bool, true, false, ◌&&◌, Option, Some, None, append-nil, if◌then◌else◌, spelled_all, Mark, MeaningError, StringKind, OfBytes, OfText, is_nil, first_error, Span, Piece, text, bytes, embedded, Pieces, piece, also, str_of, str, nodes_in, faults_of_piece, Here, Writer, Joint, Speller, Holds, AllHanded, Reads, noted_stack, noted_home, pieces_noted, stack_of, level_of, count_of, brackets_of, brackets_home, arounds_of, arounds_home, bytes_around, bytes_around_home, piece_bytes, pieces_bytes, bytes_before, string_at, joint, Shows, piece_of}
 use Rattle.cborn_edn.proofs.Grammar.Machine.{Home, as_item, as_chunk, State}
 use Rattle.cborn_edn.proofs.Grammar.Takes.{at_home}
-use Rattle.cborn_edn.specs.devices.Said.{str_of, str, nodes_in, faults_of_piece}
-use Rattle.cborn_edn.specs.declared.states.Here.{Here}
-use Rattle.cborn_edn.specs.declared.states.Writer.{Writer}
-use Rattle.cborn_edn.specs.declared.states.Joint.{Joint}
-use Rattle.cborn_wire.specs.declared.spellers.Speller.{Speller}
-use Rattle.cborn_edn.specs.devices.Events.{Holds}
-use Rattle.cborn_edn.specs.devices.Handed.{AllHanded, Reads}
-use Rattle.cborn_edn.specs.devices.Noted.{noted_stack, noted_home, pieces_noted}
-use Rattle.cborn_edn.specs.devices.Kept.{stack_of, level_of, count_of, brackets_of, brackets_home, arounds_of, arounds_home, bytes_around, bytes_around_home, piece_bytes, pieces_bytes, bytes_before, string_at, chunks_of, joint}
-use Rattle.cborn_edn.specs.devices.Shows.{Shows, piece_of}
+use Rattle.cborn_edn.specs.devices.Kept.{chunks_of}
 
 pub moved : (next n : Here) (left l : Writer) (u : State) → next ≡ n → left ≡ l → Shows n l l.pieces.items u → Shows next left left.pieces.items u
 moved next n left l u e f h = subst (λ (w : Writer). Shows next w w.pieces.items u) (sym f) (subst (λ (x : Here). Shows x l l.pieces.items u) (sym e) h)

@@ -1,29 +1,10 @@
 -- What one token does, by its kind.
-use Rattle.std.proofs.Common.{◌≡◌, refl, sym, ap, ◌∙◌, subst, ℕ, ◌<◌, ◌≤◌, List, [], ◌∷◌, ◌++◌, length, Bool, true, false, Option, Some, None, append-nil, arith, ◌⊎◌, inl, inr}
-use Rattle.std.proofs.lemmas.List.{length-append}
-use Rattle.cborn_lex.specs.declared.classes.Kind.{Kind}
+use Rattle.cborn_edn.proofs.Common.{◌≡◌, refl, sym, ap, ◌∙◌, subst, ℕ, ◌<◌, ◌≤◌, List, [], ◌∷◌, ◌++◌, length, Bool, true, false, Option, Some, None, append-nil, arith, ◌⊎◌, inl, inr, length-append, Kind, Mark, Class, class_of, content_of, Comma, Colon, top, no_part, OfBytes, OfText, IsWritten, Speller, Span, Item, Pieces, StringsBefore, string, simple, row, no_item, after_row, Content, loose, tight, pairs, no_pair, after_pairs, at_home, Here, Writer, Phase, wanting, phase_of, stack_in, bytes_around, bytes_open, Shows, content_state, Holds, states_around, states_around_nest, states_around_home, Handed, AllHanded, IsSpelled, Reads, Ready, Turned, Taken, Takes, Turns, EndsPieces, has_chunks, is_piece, takes_no_piece}
 use Rattle.cborn_lex.specs.declared.classes.Kind.TheVariants as kinds
-use Rattle.cborn_lex.specs.declared.classes.Mark.{Mark}
-use Rattle.cborn_lex.specs.declared.classes.Class.{Class}
-use Rattle.cborn_lex.specs.Kinds.{class_of, content_of}
 use Rattle.cborn_lex.specs.declared.classes.Class.TheVariants as classes
-use Rattle.cborn_lex.specs.declared.classes.Class.TheVariants.{Comma, Colon}
-use Rattle.cborn_model.specs.Partial.{top, no_part}
-use Rattle.cborn_model.specs.declared.visitors.StringKind.TheVariants.{OfBytes, OfText}
-use Rattle.cborn_wire.specs.shared.Spelling.{IsWritten}
-use Rattle.cborn_wire.specs.declared.spellers.Speller.{Speller}
-use Rattle.cborn_edn.specs.devices.Syntax.{Span, Item, Pieces, StringsBefore, string, simple, row, no_item, after_row, Content, loose, tight, pairs, no_pair, after_pairs}
 use Rattle.cborn_edn.proofs.Grammar.Machine.{Stack, in_row, in_key, in_value, in_tag, at_top, in_array, in_embed, Home, as_item, as_chunk, State, wants, has, builds, wants_chunk, wants_number, has_number, step_by}
-use Rattle.cborn_edn.specs.devices.Machine.{at_home}
-use Rattle.cborn_edn.specs.declared.states.Here.{Here}
-use Rattle.cborn_edn.specs.declared.states.Writer.{Writer}
 use Rattle.cborn_edn.specs.declared.states.Phase.TheVariants as phases
-use Rattle.cborn_edn.specs.declared.states.Phase.{Phase}
-use Rattle.cborn_edn.specs.devices.Kept.{wanting, phase_of, stack_in, chunks_of, bytes_around, bytes_open}
-use Rattle.cborn_edn.specs.devices.Shows.{Shows, content_state}
-use Rattle.cborn_edn.specs.devices.Events.{Holds}
-use Rattle.cborn_edn.specs.devices.Handed.{states_around, states_around_nest, states_around_home, Handed, AllHanded, IsSpelled, Reads}
-use Rattle.cborn_edn.specs.devices.Steps.{Ready, Turned, Taken, Takes, Turns, EndsPieces, has_chunks, is_piece, takes_no_piece}
+use Rattle.cborn_edn.specs.devices.Kept.{chunks_of}
 use Rattle.cborn_edn.proofs.HandedOver.Handing.{stays}
 use Rattle.cborn_edn.proofs.HandedOver.Silent.{handed_comma, handed_pairs_comma, handed_colon, handed_close_simple, embed_opened}
 

@@ -1,13 +1,8 @@
 -- What the content of a string stands for is UTF-8 if the text is.
-use Rattle.std.proofs.Common.{◌≡◌, refl, sym, ap, ◌∙◌, subst, ℕ, zero, suc, ◌+◌, ◌<◌, ◌≤◌, ◌^◌, List, [], ◌∷◌, ◌++◌, length, take, drop, get_or, Bool, true, false, ◌&&◌, ◌||◌, cond, ltb, leb, eqb, inl, inr, arith, length-append}
-use Rattle.std.proofs.lemmas.Bool.{and_parts, and_from, or_parts, or_from, cases_lt, cond_both, cond-true, cond-false, ltb-true, lt-ltb, le-ltb, le-leb, ne_eqb, false≢true, not-true}
-use Rattle.std.proofs.lemmas.Str.{IsUtf8-nil, IsUtf8-append, IsUtf8-encode, IsUtf8-from_ascii, IsUtf8-take, IsUtf8-drop, IsCharBoundary-after_ascii, IsCharBoundary-before_ascii}
-use Rattle.std.specs.Prelude.{encode_utf8_all, codes}
-use Rattle.std.specs.List.{list_all, list_any, flat_map}
-use Rattle.std.specs.Char.{is_digit, digit_value}
-use Rattle.std.specs.Str.{IsUtf8}
-use Rattle.cborn_lex.specs.Strings.{IsText, is_escape, escape_code, are_hex, code, is_high, is_low, paired}
-use Rattle.cborn_lex.specs.devices.Letters.{Letter, raw, escaped, unit, pair, written, meant, is_letter}
+use Rattle.cborn_edn.proofs.Common.{◌≡◌, refl, sym, ap, ◌∙◌, subst, ℕ, zero, suc, ◌+◌, ◌<◌, ◌≤◌, ◌^◌, List, [], ◌∷◌, ◌++◌, length, take, drop, get_or, Bool, true, false, ◌&&◌, ◌||◌, cond, ltb, leb, eqb, inl, inr, arith, and_parts, and_from, or_parts, or_from, cases_lt, cond_both, cond-true, cond-false, ltb-true, lt-ltb, le-ltb, le-leb, ne_eqb, false≢true, not-true, IsUtf8-nil, IsUtf8-append, IsUtf8-encode, IsUtf8-from_ascii, IsUtf8-take, IsUtf8-drop, IsCharBoundary-after_ascii, IsCharBoundary-before_ascii, encode_utf8_all, codes, list_all, list_any, flat_map, is_digit, digit_value, IsUtf8, is_escape, escape_code, are_hex, is_high, is_low, Letter, raw, unit, written, meant, is_letter}
+use Rattle.std.proofs.Common.{length-append}
+use Rattle.cborn_lex.specs.Strings.{IsText, code, paired}
+use Rattle.cborn_lex.specs.devices.Letters.{escaped, pair}
 use Rattle.cborn_lex.proofs.Contents.Lettered.{has_letters}
 use lib.Utf8.{encode, scalar, scalars}
 

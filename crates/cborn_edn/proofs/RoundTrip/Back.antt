@@ -1,14 +1,6 @@
 -- What doesn't depend on places: how many nodes there are, and the bytes that they spell. A width that an argument fits is below 2^64.
-use Rattle.std.proofs.Common.{◌≡◌, refl, ap, ◌∙◌, ℕ, suc, ◌^◌, ◌<◌, List, [], ◌∷◌, ◌++◌, arith}
-use Rattle.std.specs.List.{flat_map}
-use Rattle.cborn_model.specs.declared.heads.Width.{Width}
-use Rattle.cborn_model.specs.declared.heads.Width.TheVariants.{Direct, One, Two, Four, Eight}
-use Rattle.cborn_model.specs.declared.heads.Major.TheVariants.{ByteString, TextString}
-use Rattle.cborn_model.specs.declared.nodes.Chunk.{Chunk}
-use Rattle.cborn_model.specs.Heads.{WidthFits}
-use Rattle.cborn_model.specs.Spelled.{spelled, spelled_all, spelled_entries, chunk_bytes}
-use Rattle.cborn_model.specs.Tree.{Tree, ByteChunks, TextChunks, Items, Pairs as PairNode, Tagged, Trees, no_item as no_node, more, Entries, no_entry, entry, count, count_entries}
-use Rattle.cborn_edn.specs.ReadingBack.{unplaced_chunks, unplaced, unplaced_all, unplaced_entries}
+use Rattle.cborn_edn.proofs.Common.{◌≡◌, refl, ap, ◌∙◌, ℕ, suc, ◌^◌, ◌<◌, List, [], ◌∷◌, ◌++◌, arith, flat_map, Width, Direct, One, Two, Four, Eight, ByteString, TextString, Chunk, WidthFits, spelled, spelled_all, spelled_entries, chunk_bytes, Tree, ByteChunks, TextChunks, Items, Tagged, Trees, more, Entries, no_entry, entry, count, count_entries, unplaced_chunks, unplaced, unplaced_all, unplaced_entries}
+use Rattle.cborn_model.specs.Tree.{Pairs as PairNode, no_item as no_node}
 
 pub below : (w : Width) (n : ℕ) → WidthFits w n → n < 2 ^ 64
 below Direct n h = omega arith

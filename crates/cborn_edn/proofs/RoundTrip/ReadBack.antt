@@ -1,13 +1,6 @@
 -- What was shown has the tokens of the fixed notation.
-use Rattle.std.proofs.Common.{◌≡◌, sym, subst, ℕ, List, [], map as list_map}
-use Rattle.cborn_model.specs.Tree.{Trees}
-use Rattle.cborn_model.specs.Spelled.{FitsAll}
-use Rattle.cborn_lex.specs.declared.classes.Profile.{Profile}
-use Rattle.cborn_lex.specs.declared.classes.Token.{Token}
-use Rattle.cborn_lex.specs.Lex.{Lex}
-use Rattle.cborn_edn.specs.devices.Syntax.{tokens_of_input}
-use Rattle.cborn_edn.specs.ReadingBack.{unplaced_token, notated_input}
-use Rattle.cborn_edn.specs.Shown.{Shown, shown_lines}
+use Rattle.cborn_edn.proofs.Common.{◌≡◌, sym, subst, ℕ, List, [], Trees, FitsAll, Profile, Token, Lex, tokens_of_input, unplaced_token, notated_input, Shown, shown_lines}
+use Rattle.std.proofs.Common.{map as list_map}
 use Rattle.cborn_edn.proofs.Lexed.Chained.{HasBare, whole_text}
 use Rattle.cborn_edn.proofs.Lexed.NodeTexts.{lines_text}
 

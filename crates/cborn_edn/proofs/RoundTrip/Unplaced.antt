@@ -1,15 +1,10 @@
 -- What doesn't depend on the places of nodes.
-use Rattle.std.proofs.Common.{◌≡◌, refl, sym, ap, ◌∙◌, subst, ℕ, suc, List, [], ◌∷◌, length, true, false, ◌⊎◌}
-use Rattle.std.specs.Prelude.{◌≢◌, max, IsUtf8}
-use Rattle.cborn_model.specs.declared.nodes.Chunk.{Chunk}
-use Rattle.cborn_model.specs.Tree.{Tree, ByteChunks, TextChunks, Items, Pairs, Tagged, Trees, no_item, more, Entries, no_entry, entry, depth, depth_all, depth_entries}
-use Rattle.cborn_model.specs.Heads.{WidthFits, SizeFits}
-use Rattle.cborn_model.specs.Bytes.{AreBytes, big_endian}
-use Rattle.cborn_model.specs.Spelled.{ChunksFit, Fits, FitsAll, FitsEntries, spelled_all}
+use Rattle.cborn_edn.proofs.Common.{◌≡◌, refl, sym, ap, ◌∙◌, subst, ℕ, suc, List, [], ◌∷◌, length, true, false, ◌⊎◌, ◌≢◌, max, Chunk, Tree, ByteChunks, TextChunks, Items, Pairs, Tagged, Trees, more, Entries, no_entry, entry, depth_all, depth_entries, WidthFits, SizeFits, AreBytes, big_endian, ChunksFit, Fits, FitsAll, FitsEntries, spelled_all, unplaced_chunks, unplaced, unplaced_all, unplaced_entries}
+use Rattle.std.specs.Prelude.{IsUtf8}
+use Rattle.cborn_model.specs.Tree.{no_item, depth}
 use Rattle.cborn_model.specs.Value.{Value, Values, Couples, bytes, text, array, dict, tagged, no_values, value, no_pairs, pair}
 use Rattle.cborn_model.specs.Valid.{HasNewKeys}
 use Rattle.cborn_model.specs.Meaning.{joined_chunks, IsNumber, IsByteString, ChunksAreText, Means, AllMean, EntriesMean}
-use Rattle.cborn_edn.specs.ReadingBack.{unplaced_chunks, unplaced, unplaced_all, unplaced_entries}
 use Rattle.cborn_edn.proofs.RoundTrip.Back.{count-unplaced, count-unplaced_entries, flat-unplaced, spelled_all-unplaced}
 
 -- Each is an equation of what is said with places and without.

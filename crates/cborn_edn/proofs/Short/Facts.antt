@@ -1,29 +1,12 @@
 -- What is known of the trees holds of the relation: a text notates one list of nodes, the same within larger limits and in profile 2, and is then not refused; what was shown reads back.
-use Rattle.std.proofs.Common.{◌≡◌, refl, sym, ap, ◌∙◌, subst, ℕ, ◌^◌, ◌<◌, ◌≤◌, List, [], length, Option, Some, None, ◌⊎◌, inl, inr, arith}
-use Rattle.std.specs.Str.{IsUtf8}
-use Rattle.cborn_model.specs.Bytes.{AreBytes}
-use Rattle.cborn_model.specs.Tree.{Trees, depth_all}
-use Rattle.cborn_model.specs.Spelled.{FitsAll, spelled_all}
+use Rattle.cborn_edn.proofs.Common.{◌≡◌, refl, sym, ap, ◌∙◌, subst, ℕ, ◌^◌, ◌<◌, ◌≤◌, List, [], length, Option, Some, None, ◌⊎◌, inl, inr, arith, IsUtf8, AreBytes, Trees, depth_all, FitsAll, spelled_all, Token, Profile, HasTokens, Lex, Stop, EdnReason, MeaningError, first_error, depth_of_input, Parse, unplaced_all, Shown, IsText, Notates, HasSyntaxError, HasMeaningError, nodes_of_input, faults_of_input, Parsed}
 use Rattle.cborn_lex.specs.Bad.{FailsAt}
-use Rattle.cborn_lex.specs.declared.classes.Token.{Token}
-use Rattle.cborn_lex.specs.declared.classes.Profile.{Profile}
 use Rattle.cborn_lex.specs.declared.classes.Profile.TheVariants.{One as ProfileOne, Two as ProfileTwo}
 use Rattle.cborn_lex.specs.declared.faults.LexReason.{LexReason}
-use Rattle.cborn_lex.specs.Good.{HasTokens}
-use Rattle.cborn_lex.specs.Lex.{Lex, Stop}
 use Rattle.cborn_lex.proofs.WholeTexts.Chains.{one_list, both_profiles as both_lexed, not_both as not_stopped, some_answer}
 use Rattle.cborn_lex.proofs.WholeTexts.Weights.{as_test, text_light}
 use Rattle.cborn_lex.proofs.GoodTexts.{has_tokens, lexed as lex_of, failed, stopped}
-use Rattle.cborn_edn.specs.declared.faults.EdnReason.{EdnReason}
-use Rattle.cborn_edn.specs.declared.meaning_errors.MeaningError.{MeaningError}
-use Rattle.cborn_edn.specs.devices.MeaningErrors.{first_error}
-use Rattle.cborn_edn.specs.devices.Syntax.{depth_of_input}
 use Rattle.cborn_edn.specs.devices.Parse as tree
-use Rattle.cborn_edn.specs.devices.Parse.{Parse}
-use Rattle.cborn_edn.specs.ReadingBack.{unplaced_all}
-use Rattle.cborn_edn.specs.Shown.{Shown}
-use Rattle.cborn_edn.specs.Grammar.{IsText, Notates}
-use Rattle.cborn_edn.specs.Faults.{HasSyntaxError, HasMeaningError}
 use Rattle.cborn_edn.proofs.Grammar.OneTree.{one_tree, both_profiles, not_both, answered}
 use Rattle.cborn_edn.proofs.Meaning.Earliest.{nothing_among, Tells, tells}
 use Rattle.cborn_edn.proofs.Meaning.Sound.{SoundAll, text_sound}
@@ -32,7 +15,6 @@ use Rattle.cborn_edn.proofs.RoundTrip.ReadBack.{shown_tokens}
 use Rattle.cborn_edn.proofs.RoundTrip.Retelling.{reads_same}
 use Rattle.cborn_edn.proofs.RoundTrip.Unplaced.{same_bytes}
 use Rattle.cborn_edn.proofs.Shown.Readable.{lines_show}
-use Rattle.cborn_edn.specs.devices.Said.{nodes_of_input, faults_of_input, Parsed}
 use Rattle.cborn_edn.proofs.Short.SyntaxErrors.{text_of, parsed, said_by, tree_had, syntax_error, tree_syntax_error}
 
 -- two texts of the relation with the same tokens have one tree

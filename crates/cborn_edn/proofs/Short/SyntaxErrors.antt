@@ -1,21 +1,9 @@
 -- Tokens are a text of the relation exactly if they are those of a tree, with what it says. They have a tree, go on, and have a syntax error in both or in neither.
-use Rattle.std.proofs.Common.{subst, ℕ, ◌≤◌, List, [], ◌∷◌, ◌++◌, length, inl}
-use Rattle.cborn_model.specs.Tree.{Trees}
-use Rattle.cborn_lex.specs.declared.classes.Token.{Token}
-use Rattle.cborn_lex.specs.declared.classes.Profile.{Profile}
-use Rattle.cborn_lex.specs.Lex.{Lex}
+use Rattle.cborn_edn.proofs.Common.{subst, ℕ, ◌≤◌, List, [], ◌∷◌, ◌++◌, length, inl, Trees, Token, Profile, Lex, EdnReason, UnexpectedToken, UnexpectedEnd, TooDeep, IndicatorTooNarrow, IndicatorNotAllowed, MixedString, MixedChunks, TextNotUtf8, BadSimple, TagTooLarge, MeaningError, Input, depth_of_input, Parse, IsText, IsNoNotation, Refused, nodes_of_input, faults_of_input, Parsed}
 use Rattle.cborn_lex.proofs.GoodTexts.{has_tokens}
-use Rattle.cborn_edn.specs.declared.faults.EdnReason.{EdnReason}
-use Rattle.cborn_edn.specs.declared.faults.EdnReason.TheVariants.{UnexpectedToken, UnexpectedEnd, TooDeep, IndicatorTooNarrow, IndicatorNotAllowed, MixedString, MixedChunks, TextNotUtf8, BadSimple, TagTooLarge}
-use Rattle.cborn_edn.specs.declared.meaning_errors.MeaningError.{MeaningError}
-use Rattle.cborn_edn.specs.devices.Syntax.{Input, depth_of_input}
 use Rattle.cborn_edn.specs.devices.Parse as tree
-use Rattle.cborn_edn.specs.devices.Parse.{Parse}
-use Rattle.cborn_edn.specs.Grammar.{IsText}
-use Rattle.cborn_edn.specs.Faults.{HasTree, GoesOn, StopsAt, IsSyntaxError, IsNoNotation}
-use Rattle.cborn_edn.specs.declared.faults.EdnFault.TheVariants.{Refused}
+use Rattle.cborn_edn.specs.Faults.{HasTree, GoesOn, StopsAt, IsSyntaxError}
 use Rattle.cborn_edn.proofs.Grammar.Trailing.{parse_of, allowed_count}
-use Rattle.cborn_edn.specs.devices.Said.{nodes_of_input, faults_of_input, Parsed}
 use Rattle.cborn_edn.proofs.Short.Derived.{derived_input}
 use Rattle.cborn_edn.proofs.Short.Rebuilt.{rebuilt_input}
 

@@ -1,9 +1,5 @@
 -- Text with its escapes, run by run.
-use Rattle.std.proofs.Common.{◌≡◌, sym, ap, ◌∙◌, ℕ, ◌+◌, ◌-◌, ◌<◌, ◌≤◌, List, [], ◌∷◌, ◌++◌, length, take, drop, get_or, false, append_assoc, append-nil, arith}
-use Rattle.std.specs.List.{flat_map}
-use Rattle.std.proofs.lemmas.List.{take_more, get_or-drop, length-drop}
-use Rattle.std.proofs.lemmas.Grind.{flat_map-append}
-use Rattle.cborn_edn.specs.Shown.{escaped}
+use Rattle.cborn_edn.proofs.Common.{◌≡◌, sym, ap, ◌∙◌, ℕ, ◌+◌, ◌-◌, ◌<◌, ◌≤◌, List, [], ◌∷◌, ◌++◌, length, take, drop, get_or, false, append_assoc, append-nil, arith, flat_map, take_more, get_or-drop, length-drop, flat_map-append, escaped}
 use Rattle.cborn_edn.specs.devices.Escaping.{is_escaped}
 
 pub plain : (b : ℕ) → is_escaped b ≡ false → escaped b ≡ b ∷ []

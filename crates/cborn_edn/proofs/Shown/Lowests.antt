@@ -1,11 +1,6 @@
 -- Texts of nodes that are UTF-8: as the definition says it, and node by node.
-use Rattle.std.proofs.Common.{◌≡◌, refl, sym, ◌∙◌, ℕ, List, [], ◌∷◌, Bool, true, false, inl, inr}
-use Rattle.std.proofs.lemmas.Str.{IsUtf8-from_is_utf8, is_utf8-from_IsUtf8}
-use Rattle.std.specs.Str.{is_utf8, IsUtf8}
-use Rattle.cborn_model.specs.declared.nodes.Chunk.{Chunk}
-use Rattle.cborn_model.specs.Tree.{Tree, Text as TextNode, TextChunks, Items, Pairs as PairNode, Tagged, Trees, no_item as no_node, more, Entries, no_entry, entry}
-use Rattle.cborn_edn.specs.Shown.{IsBadChunk, IsBadText, IsBadAmong, IsBadInPairs, AreShowable}
-use Rattle.cborn_edn.specs.shared.Texts.{AreTexts, IsShowable, EachShowable, ArePairsShowable}
+use Rattle.cborn_edn.proofs.Common.{◌≡◌, refl, sym, ◌∙◌, ℕ, List, [], ◌∷◌, Bool, true, false, inl, inr, IsUtf8-from_is_utf8, is_utf8-from_IsUtf8, is_utf8, IsUtf8, Chunk, Tree, TextChunks, Items, Tagged, Trees, more, Entries, no_entry, entry, IsBadChunk, IsBadText, IsBadAmong, IsBadInPairs, AreShowable, AreTexts, IsShowable, EachShowable, ArePairsShowable}
+use Rattle.cborn_model.specs.Tree.{Text as TextNode, Pairs as PairNode, no_item as no_node}
 
 good : (x : List ℕ) → (is_utf8 x ≡ false → ⊥) → is_utf8 x ≡ true
 good x h = go (is_utf8 x) refl

@@ -1,9 +1,8 @@
 -- The plain text of nodes doesn't depend on their places.
-use Rattle.std.proofs.Common.{◌≡◌, refl, sym, ap, ◌∙◌, ◌∷◌, ◌++◌, codes, decimal}
-use Rattle.cborn_model.specs.Tree.{Tree, Items, Pairs, Tagged, Trees, no_item, more, Entries, no_entry, entry}
-use Rattle.cborn_edn.specs.Shown.{joined_by}
+use Rattle.cborn_edn.proofs.Common.{◌≡◌, refl, sym, ap, ◌∙◌, ◌∷◌, ◌++◌, decimal, Tree, Items, Pairs, Tagged, Trees, more, Entries, no_entry, entry, joined_by, unplaced, unplaced_all, unplaced_entries}
+use Rattle.std.proofs.Common.{codes}
+use Rattle.cborn_model.specs.Tree.{no_item}
 use Rattle.cborn_edn.specs.Plain.{plain, plain_items, plain_pairs, plain_lines}
-use Rattle.cborn_edn.specs.ReadingBack.{unplaced, unplaced_all, unplaced_entries}
 
 mutual
   same_node : (t : Tree) → plain (unplaced t) ≡ plain t

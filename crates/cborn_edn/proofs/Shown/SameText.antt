@@ -1,14 +1,8 @@
 -- The text of nodes doesn't depend on their places.
-use Rattle.std.proofs.Common.{◌≡◌, refl, sym, ap, ◌∙◌, subst, ℕ, List, [], ◌∷◌, ◌++◌, map, codes, decimal, true}
-use Rattle.std.specs.Str.{is_utf8}
-use Rattle.cborn_model.specs.declared.nodes.Chunk.{Chunk}
-use Rattle.cborn_model.specs.Tree.{Tree, ByteChunks, TextChunks, Items, Pairs, Tagged, Trees, no_item, more, Entries, no_entry, entry}
-use Rattle.cborn_model.specs.declared.visitors.StringKind.{StringKind}
-use Rattle.cborn_model.specs.declared.visitors.StringKind.TheVariants.{OfBytes, OfText}
-use Rattle.cborn_edn.specs.shared.Texts.{AreTexts, IsShowable, EachShowable, ArePairsShowable}
+use Rattle.cborn_edn.proofs.Common.{◌≡◌, refl, sym, ap, ◌∙◌, subst, ℕ, List, [], ◌∷◌, ◌++◌, map, decimal, true, is_utf8, Chunk, Tree, ByteChunks, TextChunks, Items, Pairs, Tagged, Trees, more, Entries, no_entry, entry, StringKind, OfBytes, OfText, AreTexts, IsShowable, EachShowable, ArePairsShowable, Shown, AreShowable, mark_for, mark_for_size, indicator, opened, shown_chunk, joined_by, shown_chunks, shown, item_texts, pair_texts, shown_lines, unplaced_chunks, unplaced, unplaced_all, unplaced_entries}
+use Rattle.std.proofs.Common.{codes}
+use Rattle.cborn_model.specs.Tree.{no_item}
 use Rattle.cborn_edn.proofs.Shown.Lowests.{each_showable, are_showable}
-use Rattle.cborn_edn.specs.Shown.{Shown, AreShowable, mark_for, mark_for_size, indicator, opened, shown_chunk, joined_by, shown_chunks, shown, item_texts, pair_texts, shown_lines}
-use Rattle.cborn_edn.specs.ReadingBack.{unplaced_chunks, unplaced, unplaced_all, unplaced_entries}
 use Rattle.cborn_edn.proofs.RoundTrip.Back.{count-unplaced, count-unplaced_entries}
 
 each_chunk : (k : StringKind) (cs : List Chunk) → map (shown_chunk k) (unplaced_chunks cs) ≡ map (shown_chunk k) cs

@@ -1,14 +1,7 @@
 -- The spots of what a text notates rise.
-use Rattle.std.proofs.Common.{sym, subst, ℕ, ◌<◌, ◌≤◌, List, [], ◌∷◌, length, inl, inr, arith}
-use Rattle.std.specs.List.{AllByRecursion}
-use Rattle.cborn_model.specs.Tree.{Trees}
-use Rattle.cborn_lex.specs.declared.classes.Profile.{Profile}
-use Rattle.cborn_lex.specs.declared.classes.Token.{Token}
-use Rattle.cborn_lex.specs.Lex.{SpansRise}
+use Rattle.cborn_edn.proofs.Common.{sym, subst, ℕ, ◌<◌, ◌≤◌, List, [], ◌∷◌, length, inl, inr, arith, AllByRecursion, Trees, Profile, Token, SpansRise, Notates, IsRising, spots_all}
 use Rattle.cborn_lex.proofs.GoodTexts.{lexed}
 use Rattle.cborn_lex.proofs.WholeTexts.Chains.{spans_rise}
-use Rattle.cborn_edn.specs.Grammar.{Notates}
-use Rattle.cborn_edn.specs.Starts.{IsRising, spots_all}
 use Rattle.cborn_edn.proofs.Started.Meant.{Among, text_among}
 
 abbrev AreFrom : ℕ → List ℕ → Type 0

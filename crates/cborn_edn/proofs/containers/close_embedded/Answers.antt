@@ -1,13 +1,4 @@
-use Rattle.std.proofs.Common.{refl, sym, ap, ◌∙◌, subst, Option, List, ◌∷◌}
-use Rattle.cborn_wire.specs.declared.spellers.Speller.{Speller}
-use Rattle.cborn_edn.specs.Says.{piece_errors}
-use Rattle.cborn_edn.specs.declared.meaning_errors.MeaningError.{MeaningError}
-use Rattle.cborn_edn.specs.declared.states.Writer.{Writer}
-use Rattle.cborn_edn.specs.devices.MeaningErrors.{Notes}
-use Rattle.cborn_edn.specs.devices.TreesCode.{listed_trees}
-use Rattle.cborn_edn.specs.devices.Said.{nodes_in}
-use Rattle.cborn_edn.specs.devices.Shows.{content_state}
-use Rattle.cborn_edn.specs.devices.Machine.{in_embed}
+use Rattle.cborn_edn.proofs.Common.{refl, sym, ap, ◌∙◌, subst, Option, List, ◌∷◌, Speller, piece_errors, MeaningError, Writer, Notes, listed_trees, nodes_in, content_state, in_embed}
 use Rattle.cborn_edn.proofs.Reader.Closed.{closed_embed, content_known, content_spelled, spelled_innermost}
 use Rattle.cborn_edn.proofs.containers.close_embedded.Goals as goal
 

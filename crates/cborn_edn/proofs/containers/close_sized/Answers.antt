@@ -1,12 +1,5 @@
-use Rattle.std.proofs.Common.{ap, refl, subst, ◌<◌, ◌^◌}
-use Rattle.cborn_model.specs.Tree.{count, count_entries}
-use Rattle.cborn_edn.specs.declared.states.Writer.{Writer}
-use Rattle.cborn_edn.specs.devices.Said.{nodes_in, entries_in, faults_in, faults_of_fields}
-use Rattle.cborn_edn.specs.devices.Syntax.{array, map}
-use Rattle.cborn_edn.specs.devices.Machine.{in_array, has}
-use Rattle.cborn_edn.specs.devices.Kept.{stack_in}
-use Rattle.cborn_edn.specs.devices.Shows.{content_state, fields_state}
-use Rattle.cborn_edn.specs.devices.Handed.{states_around}
+use Rattle.cborn_edn.proofs.Common.{ap, refl, subst, ◌<◌, ◌^◌, count, count_entries, Writer, nodes_in, entries_in, faults_in, faults_of_fields, array, in_array, has, stack_in, content_state, fields_state, states_around}
+use Rattle.cborn_edn.specs.devices.Syntax.{map}
 use Rattle.cborn_edn.proofs.Reader.Results.{on_ok}
 use Rattle.cborn_edn.proofs.Reader.Rows.{entries_few, in_content, in_fields}
 use Rattle.cborn_edn.proofs.Reader.Showing.{same_around}

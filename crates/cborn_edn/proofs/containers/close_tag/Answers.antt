@@ -1,14 +1,4 @@
-use Rattle.std.proofs.Common.{refl, ap, ◌∙◌, ◌∷◌, append_assoc}
-use Rattle.cborn_edn.specs.declared.states.Writer.{Writer}
-use Rattle.cborn_lex.specs.declared.classes.Mark.TheVariants.{Absent}
-use Rattle.cborn_edn.specs.Says.{tag_errors}
-use Rattle.cborn_edn.specs.devices.MeaningErrors.{first_error}
-use Rattle.cborn_edn.specs.devices.Kept.{bracket, brackets_of, arounds_of, bytes_around}
-use Rattle.cborn_edn.specs.devices.Noted.{noted, noted_stack}
-use Rattle.cborn_edn.specs.devices.Said.{faults}
-use Rattle.cborn_edn.specs.devices.Syntax.{tag}
-use Rattle.cborn_edn.specs.devices.Machine.{in_tag, has}
-use Rattle.cborn_edn.specs.devices.Handed.{states_around}
+use Rattle.cborn_edn.proofs.Common.{refl, ap, ◌∙◌, ◌∷◌, append_assoc, Writer, Absent, tag_errors, first_error, bracket, brackets_of, arounds_of, bytes_around, noted, noted_stack, faults, tag, in_tag, has, states_around}
 use Rattle.cborn_edn.proofs.Reader.Results.{on_ok}
 use Rattle.cborn_edn.proofs.Reader.Showing.{same_around}
 use Rattle.cborn_edn.proofs.Reader.Closed.{closed}

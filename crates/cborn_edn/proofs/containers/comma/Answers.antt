@@ -1,4 +1,4 @@
-use Rattle.std.proofs.Common.{refl}
+use Rattle.cborn_edn.proofs.Common.{refl}
 use Rattle.cborn_edn.proofs.Reader.Rows.{comma_shown}
 use Rattle.cborn_edn.proofs.containers.comma.Goals as goal
 

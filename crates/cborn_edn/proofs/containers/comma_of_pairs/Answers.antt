@@ -1,4 +1,4 @@
-use Rattle.std.proofs.Common.{refl}
+use Rattle.cborn_edn.proofs.Common.{refl}
 use Rattle.cborn_edn.proofs.Reader.Rows.{pair_comma_shown}
 use Rattle.cborn_edn.proofs.containers.comma_of_pairs.Goals as goal
 

@@ -1,5 +1,4 @@
-use Rattle.std.proofs.Common.{rules, ◌≡◌, ap, ◌∙◌, length}
-use Rattle.cborn_edn.specs.declared.states.Writer.{Writer}
+use Rattle.cborn_edn.proofs.Common.{rules, ◌≡◌, ap, ◌∙◌, length, Writer}
 use Rattle.cborn_edn.proofs.Reader.Results.{on_ok, both_ok}
 use Rattle.cborn_edn.proofs.Reader.Closed.{embed_kept}
 use Rattle.cborn_edn.proofs.containers.open_embedded.Goals as goal

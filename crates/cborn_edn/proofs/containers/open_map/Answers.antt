@@ -1,8 +1,4 @@
-use Rattle.std.proofs.Common.{refl, ◌∷◌}
-use Rattle.cborn_edn.specs.devices.Syntax.{no_pair}
-use Rattle.cborn_edn.specs.devices.Machine.{in_key, wants}
-use Rattle.cborn_edn.specs.devices.Noted.{noted_stack}
-use Rattle.cborn_edn.specs.devices.Handed.{states_around}
+use Rattle.cborn_edn.proofs.Common.{refl, ◌∷◌, no_pair, in_key, wants, noted_stack, states_around}
 use Rattle.cborn_edn.proofs.Reader.Results.{both_ok}
 use Rattle.cborn_edn.proofs.Reader.Showing.{moved_read, same_errors}
 use Rattle.cborn_edn.proofs.HandedOver.Openings.{hands_map}

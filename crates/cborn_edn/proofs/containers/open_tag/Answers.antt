@@ -1,11 +1,4 @@
-use Rattle.std.proofs.Common.{refl, sym, ap, ◌∙◌, subst, ◌∷◌, ◌++◌}
-use Rattle.cborn_model.specs.Heads.{WidthFits}
-use Rattle.cborn_lex.specs.declared.classes.Mark.TheVariants.{Absent}
-use Rattle.cborn_edn.specs.Says.{width, tag_errors}
-use Rattle.cborn_edn.specs.devices.MeaningErrors.{first_error}
-use Rattle.cborn_edn.specs.devices.Machine.{in_tag, wants}
-use Rattle.cborn_edn.specs.devices.Noted.{noted_stack}
-use Rattle.cborn_edn.specs.devices.Handed.{states_around}
+use Rattle.cborn_edn.proofs.Common.{refl, sym, ap, ◌∙◌, subst, ◌∷◌, ◌++◌, WidthFits, Absent, width, tag_errors, first_error, in_tag, wants, noted_stack, states_around}
 use Rattle.cborn_edn.proofs.Reader.Results.{both_ok}
 use Rattle.cborn_edn.proofs.Reader.Showing.{moved_read}
 use Rattle.cborn_edn.proofs.HandedOver.Fits.{tag_fits}

@@ -1,9 +1,5 @@
-use Rattle.std.proofs.Common.{◌≡◌, refl, sym, ap, ◌∙◌, subst, Some}
-use Rattle.cborn_lex.specs.declared.classes.Class.TheVariants.{ArrayClose}
-use Rattle.cborn_edn.specs.devices.Syntax.{array}
+use Rattle.cborn_edn.proofs.Common.{◌≡◌, refl, sym, ap, ◌∙◌, subst, Some, ArrayClose, array, is_array, Reads}
 use Rattle.cborn_edn.proofs.Grammar.Machine.{State, has, step_by}
-use Rattle.cborn_edn.specs.devices.Steps.{is_array}
-use Rattle.cborn_edn.specs.devices.Handed.{Reads}
 use Rattle.cborn_edn.proofs.Reader.Inverted.{array_at, array_step, no_array, is_open}
 use Rattle.cborn_edn.proofs.endings.end_array.Goals as goal
 

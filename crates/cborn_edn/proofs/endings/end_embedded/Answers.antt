@@ -1,11 +1,5 @@
-use Rattle.std.proofs.Common.{◌≡◌, sym, ap, ◌∙◌, subst, ◌∷◌, Some}
-use Rattle.cborn_lex.specs.declared.classes.Class.TheVariants.{EmbedClose}
-use Rattle.cborn_edn.specs.devices.Syntax.{embedded}
+use Rattle.cborn_edn.proofs.Common.{◌≡◌, sym, ap, ◌∙◌, subst, ◌∷◌, Some, EmbedClose, embedded, is_embedded, stack_in, content_state, states_around, AllHanded, Reads}
 use Rattle.cborn_edn.proofs.Grammar.Machine.{State, in_embed, builds, with_piece, step_by}
-use Rattle.cborn_edn.specs.devices.Steps.{is_embedded}
-use Rattle.cborn_edn.specs.devices.Kept.{stack_in}
-use Rattle.cborn_edn.specs.devices.Shows.{content_state}
-use Rattle.cborn_edn.specs.devices.Handed.{states_around, AllHanded, Reads}
 use Rattle.cborn_edn.proofs.HandedOver.Silent.{embed_closed}
 use Rattle.cborn_edn.proofs.Reader.Inverted.{embed_at, embed_step, no_embed}
 use Rattle.cborn_edn.proofs.Reader.Turning.{content_spelled}

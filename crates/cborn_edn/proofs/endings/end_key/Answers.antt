@@ -1,8 +1,5 @@
-use Rattle.std.proofs.Common.{◌≡◌, refl, sym, ap, ◌∙◌, subst, Some}
-use Rattle.cborn_lex.specs.declared.classes.Class.TheVariants.{Colon}
+use Rattle.cborn_edn.proofs.Common.{◌≡◌, refl, sym, ap, ◌∙◌, subst, Some, Colon, is_key, Shows}
 use Rattle.cborn_edn.proofs.Grammar.Machine.{Stack, in_value, wants, has, step_by}
-use Rattle.cborn_edn.specs.devices.Steps.{is_key}
-use Rattle.cborn_edn.specs.devices.Shows.{Shows}
 use Rattle.cborn_edn.proofs.Reader.Inverted.{key_at, no_key}
 use Rattle.cborn_edn.proofs.endings.end_key.Goals as goal
 

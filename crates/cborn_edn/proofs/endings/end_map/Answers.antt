@@ -1,10 +1,6 @@
-use Rattle.std.proofs.Common.{◌≡◌, sym, ap, ◌∙◌, subst, Some}
-use Rattle.cborn_lex.specs.declared.classes.Class.TheVariants.{MapClose}
+use Rattle.cborn_edn.proofs.Common.{◌≡◌, sym, ap, ◌∙◌, subst, Some, MapClose, ends_map, phase_of, Reads}
 use Rattle.cborn_edn.specs.devices.Syntax.{map}
 use Rattle.cborn_edn.proofs.Grammar.Machine.{State, has, step_by}
-use Rattle.cborn_edn.specs.devices.Steps.{ends_map}
-use Rattle.cborn_edn.specs.devices.Kept.{phase_of}
-use Rattle.cborn_edn.specs.devices.Handed.{Reads}
 use Rattle.cborn_edn.proofs.Reader.Inverted.{map_at, map_step, no_map, is_open, ends_none}
 use Rattle.cborn_edn.proofs.endings.end_map.Goals as goal
 

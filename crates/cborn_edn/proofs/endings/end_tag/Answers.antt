@@ -1,9 +1,5 @@
-use Rattle.std.proofs.Common.{◌≡◌, refl, sym, ap, ◌∙◌, subst, Some}
-use Rattle.cborn_lex.specs.declared.classes.Class.TheVariants.{ParenClose}
-use Rattle.cborn_edn.specs.devices.Syntax.{tag}
+use Rattle.cborn_edn.proofs.Common.{◌≡◌, refl, sym, ap, ◌∙◌, subst, Some, ParenClose, tag, is_tag, Reads}
 use Rattle.cborn_edn.proofs.Grammar.Machine.{Stack, has, step_by}
-use Rattle.cborn_edn.specs.devices.Steps.{is_tag}
-use Rattle.cborn_edn.specs.devices.Handed.{Reads}
 use Rattle.cborn_edn.proofs.Reader.Inverted.{tag_at, no_tag, is_open}
 use Rattle.cborn_edn.proofs.endings.end_tag.Goals as goal
 

@@ -1,6 +1,5 @@
-use Rattle.std.proofs.Common.{◌≡◌, sym, ap, ◌∙◌, true, false, arith}
+use Rattle.cborn_edn.proofs.Common.{◌≡◌, sym, ap, ◌∙◌, true, false, arith, first_error, is_none}
 use Rattle.cborn_model.proofs.Bytes.{are_bytes}
-use Rattle.cborn_edn.specs.devices.MeaningErrors.{first_error, is_none}
 use Rattle.cborn_edn.proofs.Reader.Results.{on_ok}
 use Rattle.cborn_edn.proofs.HandedOver.Handing.{silenced, outside, inside}
 use Rattle.cborn_edn.proofs.handing.hand.Goals as goal

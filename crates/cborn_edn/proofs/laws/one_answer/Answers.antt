@@ -1,4 +1,4 @@
-use Rattle.std.proofs.Common.{inl, inr, ⊎_elim}
+use Rattle.cborn_edn.proofs.Common.{inl, inr, ⊎_elim}
 use Rattle.cborn_edn.proofs.Grammar.OneTree.{answered, not_both, not_two}
 use Rattle.cborn_edn.proofs.Short.SyntaxErrors.{has_tree, tree_had, syntax_error, tree_syntax_error}
 use Rattle.cborn_edn.proofs.laws.one_answer.Goals as goal

@@ -1,5 +1,4 @@
-use Rattle.std.proofs.Common.{◌+◌, ◌∙◌, sym, arith}
-use Rattle.std.proofs.lemmas.List.{take_rest}
+use Rattle.cborn_edn.proofs.Common.{◌+◌, ◌∙◌, sym, arith, take_rest}
 use Rattle.cborn_edn.proofs.Reader.Items.{embed_end_here}
 use Rattle.cborn_edn.proofs.marks.embed_end_at.Goals as goal
 

@@ -1,6 +1,4 @@
-use Rattle.std.proofs.Common.{◌≡◌, ◌∙◌, ◌+◌, ◌∷◌, [], refl, ap, arith, drop}
-use Rattle.std.proofs.lemmas.Bool.{eqb-true}
-use Rattle.cborn_lex.specs.declared.classes.Class.TheVariants.{EmbedOpen}
+use Rattle.cborn_edn.proofs.Common.{◌≡◌, ◌∙◌, ◌+◌, ◌∷◌, [], refl, ap, arith, drop, eqb-true, EmbedOpen}
 use Rattle.cborn_lex.specs.Good as good
 use Rattle.cborn_edn.proofs.Reader.CommonTokens.{begins_here, token_here}
 use Rattle.cborn_edn.proofs.marks.embeds_at.Goals as goal

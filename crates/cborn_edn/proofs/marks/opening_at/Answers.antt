@@ -1,6 +1,4 @@
-use Rattle.std.proofs.Common.{◌+◌, ◌∙◌, sym}
-use Rattle.std.proofs.lemmas.List.{take_rest}
-use Rattle.cborn_lex.specs.declared.classes.Class.TheVariants.{ArrayOpen, MapOpen}
+use Rattle.cborn_edn.proofs.Common.{◌+◌, ◌∙◌, sym, take_rest, ArrayOpen, MapOpen}
 use Rattle.cborn_lex.specs.Good as good
 use Rattle.cborn_edn.proofs.Reader.Items.{opening_here}
 use Rattle.cborn_edn.proofs.marks.opening_at.Goals as goal

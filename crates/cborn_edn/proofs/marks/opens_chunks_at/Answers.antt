@@ -1,5 +1,4 @@
-use Rattle.std.proofs.Common.{arith}
-use Rattle.std.proofs.lemmas.Bool.{eqb-true}
+use Rattle.cborn_edn.proofs.Common.{arith, eqb-true}
 use Rattle.cborn_edn.proofs.Reader.Items.{chunks_here}
 use Rattle.cborn_edn.proofs.marks.opens_chunks_at.Goals as goal
 

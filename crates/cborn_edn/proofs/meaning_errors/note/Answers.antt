@@ -1,4 +1,4 @@
-use Rattle.std.proofs.Common.{refl, Some, [], ◌∷◌}
+use Rattle.cborn_edn.proofs.Common.{refl, Some, [], ◌∷◌}
 use Rattle.cborn_edn.proofs.Reader.NotedErrors.{earlier_noted}
 use Rattle.cborn_edn.proofs.meaning_errors.note.Goals as goal
 

@@ -1,4 +1,4 @@
-use Rattle.std.proofs.lemmas.Str.{IsUtf8-from_ascii}
+use Rattle.cborn_edn.proofs.Common.{IsUtf8-from_ascii}
 use Rattle.cborn_edn.proofs.Shown.Lowests.{utf8_is}
 use Rattle.cborn_edn.proofs.notators.is_showable.Goals as goal
 

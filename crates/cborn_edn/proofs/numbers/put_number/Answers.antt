@@ -1,10 +1,4 @@
-use Rattle.std.proofs.Common.{◌≡◌, refl, ap, ◌∙◌, ◌++◌, ◌^◌, true, false, arith}
-use Rattle.std.proofs.lemmas.Bool.{lt-ltb, le-ltb}
-use Rattle.cborn_edn.specs.Says.{is_small, argument_of, number_errors}
-use Rattle.cborn_edn.specs.devices.MeaningErrors.{first_error}
-use Rattle.cborn_edn.specs.devices.Syntax.{number}
-use Rattle.cborn_edn.specs.devices.Noted.{noted_stack}
-use Rattle.cborn_edn.specs.devices.Handed.{states_around}
+use Rattle.cborn_edn.proofs.Common.{◌≡◌, refl, ap, ◌∙◌, ◌++◌, ◌^◌, true, false, arith, lt-ltb, le-ltb, is_small, argument_of, number_errors, first_error, number, noted_stack, states_around}
 use Rattle.cborn_edn.proofs.Grammar.Machine.{wants, has}
 use Rattle.cborn_edn.proofs.HandedOver.Fits.{number_fits}
 use Rattle.cborn_edn.proofs.HandedOver.Openings.{hands_integer, hands_bignum}

@@ -1,6 +1,4 @@
-use Rattle.std.proofs.Common.{◌≡◌, refl, sym, ap, ◌∙◌, true, false, arith}
-use Rattle.cborn_edn.specs.devices.MeaningErrors.{first_error, is_none}
-use Rattle.cborn_edn.specs.devices.Handed.{states_around}
+use Rattle.cborn_edn.proofs.Common.{◌≡◌, refl, sym, ap, ◌∙◌, true, false, arith, first_error, is_none, states_around}
 use Rattle.cborn_edn.proofs.Grammar.Machine.{wants_number, has_number}
 use Rattle.cborn_edn.proofs.HandedOver.Fits.{simple_fits}
 use Rattle.cborn_edn.proofs.HandedOver.Handing.{silenced}

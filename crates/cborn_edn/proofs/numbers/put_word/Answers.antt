@@ -1,7 +1,4 @@
-use Rattle.std.proofs.Common.{refl}
-use Rattle.cborn_edn.specs.devices.Syntax.{word}
-use Rattle.cborn_edn.specs.devices.Noted.{noted_stack}
-use Rattle.cborn_edn.specs.devices.Handed.{states_around}
+use Rattle.cborn_edn.proofs.Common.{refl, word, noted_stack, states_around}
 use Rattle.cborn_edn.proofs.Grammar.Machine.{wants, has}
 use Rattle.cborn_edn.proofs.HandedOver.Openings.{hands_word}
 use Rattle.cborn_edn.proofs.Reader.Put.{leaf_shown}

@@ -1,8 +1,6 @@
-use Rattle.std.proofs.Common.{sym, ap, ◌∙◌, subst}
-use Rattle.cborn_edn.specs.devices.Syntax.{Input, string}
+use Rattle.cborn_edn.proofs.Common.{sym, ap, ◌∙◌, subst, Input, string, Reads, AtEnd}
 use Rattle.cborn_edn.proofs.Grammar.Machine.{in_row, at_top, State}
-use Rattle.cborn_edn.specs.devices.Handed.{Reads}
-use Rattle.cborn_edn.specs.devices.Reading.{ends_string, AtEnd}
+use Rattle.cborn_edn.specs.devices.Reading.{ends_string}
 use Rattle.cborn_edn.proofs.Reader.Results.{on_ok}
 use Rattle.cborn_edn.proofs.Reader.Ending.{string_end, item_end, bare_end}
 use Rattle.cborn_edn.proofs.passes.end_last.Goals as goal

@@ -1,5 +1,4 @@
-use Rattle.std.proofs.Common.{sym}
-use Rattle.cborn_model.specs.Tree.{trees}
+use Rattle.cborn_edn.proofs.Common.{sym, trees}
 use Rattle.cborn_edn.proofs.passes.read_text.Goals as goal
 
 pub finish-requires : goal.finish-requires

@@ -1,5 +1,4 @@
-use Rattle.std.proofs.Common.{List, ◌∷◌, [], ◌++◌, inl, inr, refl, arith}
-use Rattle.cborn_lex.specs.declared.classes.Token.{Token}
+use Rattle.cborn_edn.proofs.Common.{List, ◌∷◌, [], ◌++◌, inl, inr, refl, arith, Token}
 use Rattle.cborn_lex.proofs.GoodTexts.{stop_from}
 use Rattle.cborn_lex.proofs.WholeTexts.Progress.{nothing, joins, inside, few, stops}
 use Rattle.cborn_edn.proofs.Reader.BareTokens.{next_of, last_of}

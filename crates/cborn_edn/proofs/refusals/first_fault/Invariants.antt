@@ -1,6 +1,4 @@
-use Rattle.std.proofs.Common.{◌≤◌, ◌-◌, List, length}
-use Rattle.cborn_lex.specs.Lex.{Between}
-use Rattle.cborn_lex.specs.declared.classes.Token.{Token}
+use Rattle.cborn_edn.proofs.Common.{◌≤◌, ◌-◌, List, length, Between, Token}
 use Rattle.cborn_edn.proofs.refusals.first_fault.Given as goal
 
 abbrev pub invariant-tokens : goal.invariant-tokens

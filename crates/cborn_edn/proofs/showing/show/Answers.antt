@@ -1,8 +1,4 @@
-use Rattle.std.proofs.Common.{◌++◌, ◌∷◌, [], sym, ap, ◌∙◌, subst, take, arith}
-use Rattle.std.specs.Str.{IsUtf8}
-use Rattle.std.proofs.lemmas.List.{take_more, take_all}
-use Rattle.cborn_model.specs.Partial.{top, no_part}
-use Rattle.cborn_edn.specs.devices.Notating.{IsHeld}
+use Rattle.cborn_edn.proofs.Common.{◌++◌, ◌∷◌, [], sym, ap, ◌∙◌, subst, take, arith, IsUtf8, take_more, take_all, top, no_part, IsHeld}
 use Rattle.cborn_edn.proofs.Notating.{error_is}
 use Rattle.cborn_edn.proofs.Shown.Characters.{fits_more, fits_whole}
 use Rattle.cborn_edn.proofs.showing.show.Goals as goal

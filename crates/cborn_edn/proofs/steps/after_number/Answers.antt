@@ -1,7 +1,4 @@
-use Rattle.std.proofs.Common.{◌≡◌, refl, sym, subst, Some}
-use Rattle.cborn_lex.specs.declared.classes.Kind.{Kind}
-use Rattle.cborn_lex.specs.Kinds.{class_of}
-use Rattle.cborn_edn.specs.devices.Syntax.{simple}
+use Rattle.cborn_edn.proofs.Common.{◌≡◌, refl, sym, subst, Some, Kind, class_of, simple}
 use Rattle.cborn_edn.proofs.Grammar.Machine.{has, has_number, step_by}
 use Rattle.cborn_edn.proofs.steps.after_number.Goals as goal
 

@@ -1,9 +1,6 @@
-use Rattle.std.proofs.Common.{sym, ap, ◌∙◌, subst}
-use Rattle.cborn_edn.specs.devices.Syntax.{string}
+use Rattle.cborn_edn.proofs.Common.{sym, ap, ◌∙◌, subst, string, Reads, Taken, has_chunks}
 use Rattle.cborn_edn.proofs.Grammar.Machine.{Home, builds, as_item, has}
 use Rattle.cborn_edn.proofs.Reader.Results.{if_ok}
-use Rattle.cborn_edn.specs.devices.Handed.{Reads}
-use Rattle.cborn_edn.specs.devices.Steps.{Taken, has_chunks}
 use Rattle.cborn_edn.proofs.Reader.Turning.{item_home, chunk_home, taken_same, ended_same}
 use Rattle.cborn_edn.proofs.steps.after_pieces.Goals as goal
 
@@ -24,7 +21,7 @@ returns g c = if_ok c.after.result _ _ (λ ok t h ps k x a p e none shows.
     let i = item_home h (ap has_chunks (sym shows.shows.chunks) ∙ sym c.has_chunks.ensures ∙ c.if-has_chunks.false) in
     let was = subst (λ (y : Home). Reads (g.V.Visitor.holds c.args.visitor.now) c.args.here.now c.args.writer.now c.args.writer.now.pieces.items (builds y ps)) (sym i.1) shows in
     subst (λ (y : Home). Taken (g.V.Visitor.holds c.after.new.visitor) ok (builds y ps) k a c.after.new.here c.after.new.writer) i.1
-    (taken_same (g.V.Visitor.holds c.after.new.visitor) ok (builds (as_item i.0) ps) (has i.0 (string ps)) k a c.after.new.here c.after.new.writer (ended_same i.0 ps k a none) (t i.0 (string ps) k x a p e (c.in_ok-end_item.ensures i.0 ps was)))) c.after.ensures
+    (taken_same (g.V.Visitor.holds c.after.new.visitor) ok (builds (as_item i.0) ps) (has i.0 (string ps)) k a c.after.new.here c.after.new.writer (ended_same i.0 ps k a none) (t i.0 (string ps) k x a p e (c.in_ok-end_item.ensures i.0 ps was)))) c.after.ensures.taken
 
 pub after_chunk-requires : goal.after_chunk-requires
 after_chunk-requires g c =

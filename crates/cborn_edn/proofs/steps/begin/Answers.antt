@@ -1,11 +1,5 @@
-use Rattle.std.proofs.Common.{refl, ap, ◌∙◌, subst, true, None}
-use Rattle.cborn_lex.specs.Kinds.{class_of}
-use Rattle.cborn_lex.specs.declared.classes.Kind.{Kind}
-use Rattle.cborn_edn.specs.devices.Modest.{IsModest}
-use Rattle.cborn_edn.specs.devices.Steps.{is_piece}
+use Rattle.cborn_edn.proofs.Common.{refl, ap, ◌∙◌, subst, true, None, class_of, Kind, IsModest, is_piece, number, word, text, bytes, piece, no_item, no_pair, no_string, states_around}
 use Rattle.cborn_lex.specs.declared.classes.Kind.TheVariants as kinds
-use Rattle.cborn_edn.specs.devices.Syntax.{number, word, text, bytes, piece, no_item, no_pair, no_string}
-use Rattle.cborn_edn.specs.devices.Handed.{states_around}
 use Rattle.cborn_edn.proofs.Grammar.Machine.{in_row, in_key, in_tag, in_array, in_embed, as_item, wants, has, builds, wants_chunk, wants_number}
 use Rattle.cborn_edn.proofs.Reader.Results.{if_ok}
 use Rattle.cborn_edn.proofs.Reader.Turning.{arm, appends_nothing, not_text, embed_taken, same_handed, shown_kind, start_inside}

@@ -1,7 +1,5 @@
-use Rattle.std.proofs.Common.{refl, true, None}
+use Rattle.cborn_edn.proofs.Common.{refl, true, None, text, bytes, piece, no_item, states_around}
 use Rattle.cborn_lex.specs.declared.classes.Kind.TheVariants as kinds
-use Rattle.cborn_edn.specs.devices.Syntax.{text, bytes, piece, no_item}
-use Rattle.cborn_edn.specs.devices.Handed.{states_around}
 use Rattle.cborn_edn.proofs.Grammar.Machine.{in_row, in_embed, as_chunk, wants, builds, wants_chunk}
 use Rattle.cborn_edn.proofs.Reader.Turning.{arm, appends_nothing, not_text, embed_taken, same_handed, start_inside}
 use Rattle.cborn_edn.proofs.HandedOver.Silent.{handed_begin_string}

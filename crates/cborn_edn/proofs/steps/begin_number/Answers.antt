@@ -1,4 +1,4 @@
-use Rattle.std.proofs.Common.{refl, true}
+use Rattle.cborn_edn.proofs.Common.{refl, true}
 use Rattle.cborn_lex.specs.declared.classes.Kind.TheVariants as kinds
 use Rattle.cborn_edn.proofs.Grammar.Machine.{wants_number, has_number}
 use Rattle.cborn_edn.proofs.Reader.Turning.{turn}

@@ -1,13 +1,8 @@
-use Rattle.std.proofs.Common.{refl, sym, ◌∙◌, subst, true, Some}
-use Rattle.std.specs.Prelude.{IsSome}
+use Rattle.cborn_edn.proofs.Common.{refl, sym, ◌∙◌, subst, true, Some, IsSome, text, bytes, also, no_item, stack_of, states_around, EndsPieces}
 use Rattle.cborn_lex.specs.declared.classes.Kind.TheVariants as kinds
-use Rattle.cborn_edn.specs.devices.Syntax.{text, bytes, also, no_item}
-use Rattle.cborn_edn.specs.devices.Kept.{stack_of}
-use Rattle.cborn_edn.specs.devices.Handed.{states_around}
 use Rattle.cborn_edn.proofs.Grammar.Machine.{in_row, in_embed, wants, builds}
 use Rattle.cborn_edn.proofs.Reader.Turning.{arm, appends_nothing, no_piece, shown_kind, open_home, embed_taken, same_handed}
 use Rattle.cborn_edn.proofs.Reader.Results.{if_ok}
-use Rattle.cborn_edn.specs.devices.Steps.{EndsPieces}
 use Rattle.cborn_edn.proofs.HandedOver.Silent.{handed_join}
 use Rattle.cborn_edn.proofs.steps.more.Goals as goal
 

@@ -1,9 +1,6 @@
-use Rattle.std.proofs.Common.{◌≡◌, sym, ap, ◌∙◌, subst, true, false, None, inl, inr}
-use Rattle.cborn_lex.specs.Kinds.{class_of}
-use Rattle.cborn_lex.specs.declared.classes.Class.{Class}
+use Rattle.cborn_edn.proofs.Common.{◌≡◌, sym, ap, ◌∙◌, subst, true, false, None, inl, inr, class_of, Class, is_piece, takes_no_piece, Takes, Taken, Ready, IsReady}
 use Rattle.cborn_edn.proofs.Grammar.Machine.{State, has, wants_number, has_number, step_by}
 use Rattle.cborn_edn.proofs.Reader.Results.{if_ok}
-use Rattle.cborn_edn.specs.devices.Steps.{is_piece, takes_no_piece, Takes, Taken, Ready, IsReady}
 use Rattle.cborn_edn.proofs.Reader.Turning.{is_has, is_wants, is_builds, is_wants_chunk, is_wants_number, is_has_number, taken_as, still_taken, paren_handed, shown_kind, no_piece_taken}
 use Rattle.cborn_edn.proofs.steps.take.Goals.{else-takes_no_piece-via-then-takes_no_piece+else-is_piece, else-takes_no_piece-via-else-takes_no_piece}
 use Rattle.cborn_edn.proofs.steps.take.Goals as goal
@@ -75,7 +72,7 @@ returns-in-Has g c =
     if_ok c.after.result _ _ (λ ok t s base k a p r.
     let i = is_has s (sym r.shows.shows.phase ∙ c.in-Has.is) in
     let was = subst (λ (u : State). Ready (g.V.Visitor.holds c.args.visitor.now) c.args.token.kind c.args.number c.args.here.now c.args.writer.now u base k) (sym i.2) r in
-    subst (λ (u : State). Taken (g.V.Visitor.holds c.after.new.visitor) ok u k a c.after.new.here c.after.new.writer) i.2 (t i.0 i.1 k r.stands.content a p r.stands.class (shown_kind c.args.token.kind c.args.number c.args.here.now c.args.writer.now (has i.0 i.1) base k none was))) c.after.ensures
+    subst (λ (u : State). Taken (g.V.Visitor.holds c.after.new.visitor) ok u k a c.after.new.here c.after.new.writer) i.2 (t i.0 i.1 k r.stands.content a p r.stands.class (shown_kind c.args.token.kind c.args.number c.args.here.now c.args.writer.now (has i.0 i.1) base k none was))) c.after.ensures.taken
 
 pub returns-in-WantsNumber : goal.returns-in-WantsNumber
 returns-in-WantsNumber g c =

@@ -1,4 +1,4 @@
-use Rattle.std.proofs.Common.{◌≡◌, length, rules, arith}
+use Rattle.cborn_edn.proofs.Common.{◌≡◌, length, rules, arith}
 use Rattle.cborn_edn.proofs.Reader.Built.{starting_shown}
 use Rattle.cborn_edn.proofs.strings.begin_string.Goals as goal
 

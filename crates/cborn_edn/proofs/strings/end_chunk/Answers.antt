@@ -1,12 +1,6 @@
-use Rattle.std.proofs.Common.{sym, ap, ◌∙◌, subst, List, ℕ, ◌-◌, length, take, drop, arith}
-use Rattle.cborn_edn.specs.declared.events.Event.{Event}
-use Rattle.cborn_edn.specs.declared.states.Chunks.{Chunks}
-use Rattle.cborn_edn.specs.devices.Syntax.{strings, after_strings}
-use Rattle.cborn_edn.specs.devices.Noted.{noted}
+use Rattle.cborn_edn.proofs.Common.{sym, ap, ◌∙◌, subst, List, ℕ, ◌-◌, length, take, drop, arith, Event, Chunks, strings, after_strings, noted, states_around, chunk_event, Hands, str}
 use Rattle.cborn_edn.specs.devices.Events.{Fits}
-use Rattle.cborn_edn.specs.devices.Handed.{states_around, chunk_event, Hands}
 use Rattle.cborn_edn.proofs.Grammar.Machine.{as_chunk, builds, wants_chunk}
-use Rattle.cborn_edn.specs.devices.Said.{str}
 use Rattle.cborn_edn.proofs.HandedOver.Fits.{none_shown}
 use Rattle.cborn_edn.proofs.HandedOver.Strings.{chunk_fits, hands_chunk}
 use Rattle.cborn_edn.proofs.Reader.Built.{joint_shown, content_shown, chunks_open, kind_shown, chunk_noted, chunk_read}

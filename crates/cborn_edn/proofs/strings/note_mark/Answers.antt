@@ -1,4 +1,4 @@
-use Rattle.std.proofs.Common.{sym, ◌∙◌}
+use Rattle.cborn_edn.proofs.Common.{sym, ◌∙◌}
 use Rattle.cborn_edn.proofs.Reader.Joints.{mark_endless, mark_wide, mark_unknown}
 use Rattle.cborn_edn.proofs.strings.note_mark.Goals as goal
 

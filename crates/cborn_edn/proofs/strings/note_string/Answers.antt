@@ -1,4 +1,4 @@
-use Rattle.std.proofs.Common.{ap, length}
+use Rattle.cborn_edn.proofs.Common.{ap, length}
 use Rattle.cborn_edn.proofs.Reader.Joints.{string_noted, string_unknown}
 use Rattle.cborn_edn.proofs.strings.note_string.Goals as goal
 

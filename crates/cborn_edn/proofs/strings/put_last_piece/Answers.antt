@@ -1,9 +1,4 @@
-use Rattle.std.proofs.Common.{◌≡◌, refl, sym, ap, ◌∙◌, subst, List, ℕ, ◌-◌, length, take, drop}
-use Rattle.std.proofs.lemmas.List.{take_rest}
-use Rattle.cborn_model.specs.Heads.{least}
-use Rattle.cborn_model.specs.declared.visitors.StringKind.TheVariants.{OfText}
-use Rattle.cborn_edn.specs.declared.events.Event.TheVariants.{String}
-use Rattle.cborn_edn.specs.devices.Handed.{states_around, Hands}
+use Rattle.cborn_edn.proofs.Common.{◌≡◌, refl, sym, ap, ◌∙◌, subst, List, ℕ, ◌-◌, length, take, drop, take_rest, least, OfText, String, states_around, Hands}
 use Rattle.cborn_edn.proofs.Grammar.Machine.{wants, has}
 use Rattle.cborn_edn.proofs.HandedOver.Strings.{hands_text}
 use Rattle.cborn_edn.proofs.Reader.Put.{leaf_shown}

@@ -1,5 +1,4 @@
-use Rattle.std.proofs.Common.{refl}
-use Rattle.cborn_edn.specs.devices.Handed.{states_around}
+use Rattle.cborn_edn.proofs.Common.{refl, states_around}
 use Rattle.cborn_edn.proofs.Grammar.Machine.{wants, has}
 use Rattle.cborn_edn.proofs.HandedOver.Strings.{hands_text}
 use Rattle.cborn_edn.proofs.Reader.Put.{leaf_shown}

@@ -1,6 +1,4 @@
-use Rattle.std.proofs.Common.{◌≡◌, ◌<◌, ◌+◌, ◌-◌, subst, arith, length, take, drop, List, ℕ}
-use Rattle.std.proofs.lemmas.List.{take_rest}
-use Rattle.cborn_edn.specs.devices.Ahead.{IsTextAt}
+use Rattle.cborn_edn.proofs.Common.{◌≡◌, ◌<◌, ◌+◌, ◌-◌, subst, arith, length, take, drop, List, ℕ, take_rest, IsTextAt}
 use Rattle.cborn_edn.proofs.Reader.Items.{plain_here, text_at}
 use Rattle.cborn_edn.proofs.texts.plain_text_at.Goals as goal
 

@@ -1,4 +1,4 @@
-use Rattle.std.proofs.Common.{ℕ, cond, eqb, arith}
+use Rattle.cborn_edn.proofs.Common.{ℕ, cond, eqb, arith}
 use Rattle.cborn_edn.proofs.Reader.Blocks.{marked, top_if}
 use Rattle.cborn_edn.proofs.white_space.bits_of.Goals as goal
 

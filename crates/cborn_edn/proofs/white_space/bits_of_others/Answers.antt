@@ -1,5 +1,4 @@
-use Rattle.std.proofs.Common.{ℕ, cond, eqb, not, arith}
-use Rattle.cborn_lex.specs.Tokens.{is_not}
+use Rattle.cborn_edn.proofs.Common.{ℕ, cond, eqb, not, arith, is_not}
 use Rattle.cborn_edn.proofs.Reader.Blocks.{marked, top_if}
 use Rattle.cborn_edn.proofs.white_space.bits_of_others.Goals as goal
 

@@ -1,7 +1,4 @@
-use Rattle.std.proofs.Common.{[], ◌+◌, length, sym, subst}
-use Rattle.std.proofs.lemmas.List.{take_rest}
-use Rattle.cborn_lex.specs.declared.classes.Profile.{Profile}
-use Rattle.cborn_lex.specs.Good.{TokensBetween}
+use Rattle.cborn_edn.proofs.Common.{[], ◌+◌, length, sym, subst, take_rest, Profile, TokensBetween}
 use Rattle.cborn_edn.proofs.Reader.CommonTokens.{line_here, last_line_here}
 use Rattle.cborn_edn.proofs.white_space.line_end.Goals as goal
 

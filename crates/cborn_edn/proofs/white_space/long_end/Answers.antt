@@ -1,5 +1,4 @@
-use Rattle.std.proofs.Common.{◌+◌, ◌-◌, length, take, drop, arith}
-use Rattle.std.proofs.lemmas.List.{take_rest}
+use Rattle.cborn_edn.proofs.Common.{◌+◌, ◌-◌, length, take, drop, arith, take_rest}
 use Rattle.cborn_edn.proofs.Reader.CommonTokens.{comment_here, plain_comment}
 use Rattle.cborn_edn.proofs.white_space.long_end.Goals as goal
 

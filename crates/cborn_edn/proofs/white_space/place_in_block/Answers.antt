@@ -1,5 +1,4 @@
-use Rattle.std.proofs.Common.{ℕ, eqb, arith}
-use Rattle.std.proofs.lemmas.Bool.{eqb-true}
+use Rattle.cborn_edn.proofs.Common.{ℕ, eqb, arith, eqb-true}
 use Rattle.cborn_edn.proofs.Reader.Blocks.{none_found, first_found, first_marked}
 use Rattle.cborn_edn.proofs.white_space.place_in_block.Goals as goal
 

@@ -1,5 +1,4 @@
-use Rattle.std.proofs.Common.{◌≤◌, ◌-◌, [], length}
-use Rattle.cborn_lex.specs.Good.{TokensBetween}
+use Rattle.cborn_edn.proofs.Common.{◌≤◌, ◌-◌, [], length, TokensBetween}
 use Rattle.cborn_edn.proofs.white_space.skip_white_space.Given as goal
 
 abbrev pub invariant-white_space : goal.invariant-white_space

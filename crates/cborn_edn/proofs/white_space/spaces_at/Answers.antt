@@ -1,5 +1,4 @@
-use Rattle.std.proofs.Common.{arith}
-use Rattle.cborn_lex.specs.Tokens.{is_not}
+use Rattle.cborn_edn.proofs.Common.{arith, is_not}
 use Rattle.cborn_edn.proofs.Reader.Blocks.{none_found, first_found, spaces_here}
 use Rattle.cborn_edn.proofs.white_space.spaces_at.Goals as goal
 

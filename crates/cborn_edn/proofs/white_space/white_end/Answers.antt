@@ -1,4 +1,4 @@
-use Rattle.std.proofs.Common.{◌+◌, []}
+use Rattle.cborn_edn.proofs.Common.{◌+◌, []}
 use Rattle.cborn_edn.proofs.Reader.CommonTokens.{join, white_here}
 use Rattle.cborn_edn.proofs.white_space.white_end.Goals as goal
 

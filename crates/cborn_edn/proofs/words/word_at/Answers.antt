@@ -1,6 +1,5 @@
-use Rattle.std.proofs.Common.{◌≡◌, ◌∙◌, ◌+◌, ◌-◌, ◌++◌, sym, ap, length, length-append, length-drop, drop, arith}
-use Rattle.std.proofs.lemmas.List.{take_rest}
-use Rattle.cborn_lex.specs.declared.classes.Class.TheVariants.{Word}
+use Rattle.cborn_edn.proofs.Common.{◌≡◌, ◌∙◌, ◌+◌, ◌-◌, ◌++◌, sym, ap, length, drop, arith, take_rest, Word}
+use Rattle.std.proofs.Common.{length-append, length-drop}
 use Rattle.cborn_lex.specs.Good as good
 use Rattle.cborn_edn.proofs.Reader.CommonTokens.{token_here}
 use Rattle.cborn_edn.proofs.words.word_at.Goals as goal

@@ -1,6 +1,4 @@
-use Rattle.std.proofs.Common.{◌≡◌, ◌++◌, sym, subst, arith}
-use Rattle.std.proofs.lemmas.List.{take_rest, length-take}
-use Rattle.hex.specs.Hex.{encode_lower}
+use Rattle.cborn_edn.proofs.Common.{◌≡◌, ◌++◌, sym, subst, arith, take_rest, length-take, encode_lower}
 use Rattle.cborn_edn.proofs.Notating.{hex_on}
 use Rattle.cborn_edn.proofs.writing.push_hex.Goals as goal
 

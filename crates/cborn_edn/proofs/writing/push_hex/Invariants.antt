@@ -1,5 +1,4 @@
-use Rattle.std.proofs.Common.{◌≡◌, ◌++◌, length}
-use Rattle.hex.specs.Hex.{encode_lower}
+use Rattle.cborn_edn.proofs.Common.{◌≡◌, ◌++◌, length, encode_lower}
 use Rattle.cborn_edn.proofs.writing.push_hex.Given as goal
 
 abbrev pub invariant-loop-rest : goal.invariant-loop-rest

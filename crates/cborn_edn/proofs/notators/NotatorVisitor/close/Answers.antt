@@ -1,6 +1,4 @@
-use Rattle.std.proofs.Common.{ap, ◌∙◌, sym, subst}
-use Rattle.cborn_edn.specs.declared.notators.Notator.{Notator}
-use Rattle.cborn_edn.specs.devices.Notating.{IsEnded}
+use Rattle.cborn_edn.proofs.Common.{ap, ◌∙◌, sym, subst, Notator, IsEnded}
 use Rattle.cborn_edn.proofs.Notating.{noted, end_held}
 use Rattle.cborn_edn.proofs.notators.NotatorVisitor.close.Goals.{then-is_none+in_ok-end, else-is_none}
 use Rattle.cborn_edn.proofs.notators.NotatorVisitor.close.Goals as goal

@@ -1,5 +1,4 @@
-use Rattle.std.proofs.Common.{sym, ap, ◌∙◌}
-use Rattle.cborn_edn.specs.devices.Notating.{after}
+use Rattle.cborn_edn.proofs.Common.{sym, ap, ◌∙◌, after}
 use Rattle.cborn_edn.proofs.Notating.{string_held}
 use Rattle.cborn_edn.proofs.notators.NotatorVisitor.close_string.Goals.{in-Some+in_ok-end_string, in_default}
 use Rattle.cborn_edn.proofs.notators.NotatorVisitor.close_string.Goals as goal

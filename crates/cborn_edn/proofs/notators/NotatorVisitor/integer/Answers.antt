@@ -1,7 +1,4 @@
-use Rattle.std.proofs.Common.{sym, ap, ◌∙◌, ◌++◌, subst}
-use Rattle.cborn_model.specs.Partial.{integer_tree}
-use Rattle.cborn_edn.specs.Shown.{shown}
-use Rattle.cborn_edn.specs.devices.Notating.{after, IsCounted}
+use Rattle.cborn_edn.proofs.Common.{sym, ap, ◌∙◌, ◌++◌, subst, integer_tree, shown, after, IsCounted}
 use Rattle.cborn_edn.proofs.Notating.{noted, put_held, good_integer}
 use Rattle.cborn_edn.proofs.notators.NotatorVisitor.integer.Goals.{then-is_none+in_ok-begin+in_ok-push_integer, else-is_none}
 use Rattle.cborn_edn.proofs.notators.NotatorVisitor.integer.Goals as goal

@@ -1,4 +1,4 @@
-use Rattle.std.proofs.Common.{refl, arith}
+use Rattle.cborn_edn.proofs.Common.{refl, arith}
 use Rattle.cborn_edn.proofs.Notating.{string_open}
 use Rattle.cborn_edn.proofs.notators.NotatorVisitor.open_string.Goals as goal
 

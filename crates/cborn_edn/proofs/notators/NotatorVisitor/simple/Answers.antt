@@ -1,7 +1,4 @@
-use Rattle.std.proofs.Common.{sym, ap, ◌∙◌, ◌++◌, subst}
-use Rattle.cborn_model.specs.Tree.{Simple}
-use Rattle.cborn_edn.specs.Shown.{shown}
-use Rattle.cborn_edn.specs.devices.Notating.{after, IsCounted}
+use Rattle.cborn_edn.proofs.Common.{sym, ap, ◌∙◌, ◌++◌, subst, Simple, shown, after, IsCounted}
 use Rattle.cborn_edn.proofs.Notating.{noted, put_held}
 use Rattle.cborn_edn.proofs.notators.NotatorVisitor.simple.Goals.{then-is_none+in_ok-begin+in_ok-push_simple, else-is_none}
 use Rattle.cborn_edn.proofs.notators.NotatorVisitor.simple.Goals as goal

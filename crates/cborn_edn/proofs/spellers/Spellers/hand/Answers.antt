@@ -1,4 +1,4 @@
-use Rattle.std.proofs.Common.{◌∙◌, sym, ◌-◌, ◌+◌, ◌≡◌, ◌<◌, arith, take, length}
+use Rattle.cborn_edn.proofs.Common.{◌∙◌, sym, ◌-◌, ◌+◌, ◌≡◌, ◌<◌, arith, take, length}
 use mathlib.Core.List.{reverse}
 use Rattle.cborn_edn.proofs.Reader.Opened.{reverse-at, reverse-set}
 use Rattle.cborn_edn.proofs.Reader.Results.{on_ok}

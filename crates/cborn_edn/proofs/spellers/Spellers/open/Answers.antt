@@ -1,6 +1,5 @@
-use Rattle.std.proofs.Common.{◌∙◌, ap, ◌∷◌, ◌+◌, refl, List}
+use Rattle.cborn_edn.proofs.Common.{◌∙◌, ap, ◌∷◌, ◌+◌, refl, List, Speller}
 use mathlib.Core.List.{reverse}
-use Rattle.cborn_wire.specs.declared.spellers.Speller.{Speller}
 use Rattle.cborn_edn.proofs.Reader.Opened.{reverse-set}
 use Rattle.cborn_edn.proofs.spellers.Spellers.open.Goals as goal
 

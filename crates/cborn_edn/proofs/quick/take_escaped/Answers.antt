@@ -1,0 +1,20 @@
+use Rattle.cborn_edn.proofs.Common.{◌≡◌, refl, sym, ◌∙◌, subst, List, ℕ, length, take, drop, rules, take-append_seam, drop-append_seam, IsUtf8, Absent, Writer, Reads, Span, string, piece, text}
+use Rattle.cborn_edn.proofs.Grammar.Machine.{wants, has}
+use Rattle.cborn_edn.proofs.Reader.Stepping.{same_read}
+use Rattle.cborn_edn.proofs.Reader.Taking.{went, text_taken}
+use Rattle.cborn_edn.proofs.quick.take_escaped.Goals as goal
+
+pub returns : goal.returns
+returns g c =
+    let w = c.args.writer.now in
+    let here = c.args.here.now in
+    let found = rw c.in-Some.is at c.in_ok-stop.ensures.taken in
+    let x = found.0 in
+    let a : Span = record { start = here.at; stop = found.2.stop } in
+    let mid : Writer = record w { pieces = c.push_text.new.out } in
+    let from : c.len-start.result ≡ length w.pieces.items = search rules in
+    let old : take c.len-start.result mid.pieces.items ≡ w.pieces.items = (λ i. take (from i) (found.1 i)) ∙ take-append_seam w.pieces.items x in
+    let content : drop c.len-start.result mid.pieces.items ≡ x = (λ i. drop (from i) (found.1 i)) ∙ drop-append_seam w.pieces.items x in
+    went (text_taken c.requires.inside.0 c.as_bytes-bytes.ensures.value c.in-Some.stop found.2 c.put_last_piece.new.here c.put_last_piece.new.writer c.requires.wanted
+    (λ st utf8 r. subst (λ (y : List ℕ). Reads (g.V.Visitor.holds c.put_last_piece.new.visitor) c.put_last_piece.new.here c.put_last_piece.new.writer c.put_last_piece.new.writer.pieces.items (has st (string (piece (text a y Absent))))) content
+    (c.in_ok-put_last_piece.ensures.read st a refl (subst IsUtf8 (sym content) utf8) (subst (λ (y : List ℕ). Reads (g.V.Visitor.holds c.args.visitor.now) here mid y (wants st)) (sym old) (same_read here w mid w.pieces.items (wants st) r)))))
