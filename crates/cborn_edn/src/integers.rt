@@ -1,16 +1,17 @@
 //! Decimal integers and the numbers of tags (RFC 8949 section 8).
 
-ghost use Rattle.std.specs.Prelude.{◌≡◌, ◌≤◌, ◌<◌, ◌==◌, length, slice_index, IfSome};
+ghost use Rattle.std.specs.Prelude.{◌≡◌, ◌≤◌, ◌<◌, true, false, ◌==◌, length, slice_index, IfSome, if◌then◌else◌};
 ghost use Rattle.cborn_lex.specs.declared.classes.Profile.{Profile};
+ghost use Rattle.cborn_lex.specs.declared.classes.Class.TheVariants as classes;
+ghost use Rattle.cborn_lex.specs.declared.classes.Mark.TheVariants as marks;
 ghost use Rattle.cborn_lex.specs.Tokens.{begins};
-ghost use Rattle.cborn_edn.specs.devices.Ahead.{class_in, IsTokenAt};
+ghost use Rattle.cborn_edn.specs.devices.Ahead.{IsTokenAt};
 
 use cborn_lex::{Mark, decimal_at, mark_at};
 
-/// An integer, or the number of a tag.
+/// An integer that isn't below zero, or the number of a tag.
 #[derive(Clone, Copy)]
 pub(crate) struct Integer {
-    pub negative: bool,
     pub number: u64,
     pub mark: Mark,
     /// Whether it is the number of a tag. The `(` that follows it is then part of the token.
@@ -19,24 +20,13 @@ pub(crate) struct Integer {
     pub stop: usize,
 }
 
-/// The integer, or the number of a tag, at the offset `at` of `text`. `None` if it isn't decimal, has
-/// more than 19 digits or a bad indicator, or if it is below zero and has an indicator.
+/// The integer without a minus, or the number of a tag, at the offset `at` of `text`. `None` if it
+/// isn't decimal, has more than 19 digits or has a bad indicator.
 #[inline(always)]
 pub(crate) fn integer_at(text: &[u8], at: usize) -> Option<Integer>
-    requires { at < length text.now }
-    ensures { IfSome result (λ r. (profile : Profile) → IsTokenAt profile text.now at r.stop (class_in r)) }
-{
-    if text[at] == b'-' {
-        return negative_at(text, at);
-    }
-    unsigned_at(text, at)
-}
-
-/// The integer without a minus, or the number of a tag, at the offset `at` of `text`.
-#[inline(always)]
-fn unsigned_at(text: &[u8], at: usize) -> Option<Integer>
     requires { at ≤ length text.now }
-    ensures { IfSome result (λ r. (profile : Profile) → IsTokenAt profile text.now at r.stop (class_in r)) }
+    ensures within { IfSome result (λ r. r.stop ≤ length text.now) }
+    ensures token { IfSome result (λ r. (profile : Profile) → IsTokenAt profile text.now at r.stop (if r.is_tag then classes.TagOpen r.number r.mark else classes.Number false r.number r.mark)) }
 {
     let tail = &text[at..];
     let (number, len) = decimal_at(tail)?;
@@ -50,7 +40,6 @@ fn unsigned_at(text: &[u8], at: usize) -> Option<Integer>
         at + len + size
     };
     Some(Integer {
-        negative: false,
         number,
         mark,
         is_tag,
@@ -58,25 +47,23 @@ fn unsigned_at(text: &[u8], at: usize) -> Option<Integer>
     })
 }
 
-/// The integer below zero whose minus is at the offset `at` of `text`.
+/// The integer below zero whose minus is at the offset `at` of `text`: how far it is below zero,
+/// and the offset after it. `None` if it isn't decimal, has more than 19 digits or has an
+/// indicator.
 #[inline(always)]
-fn negative_at(text: &[u8], at: usize) -> Option<Integer>
+pub(crate) fn negative_at(text: &[u8], at: usize) -> Option<(u64, usize)>
     requires inside { at < length text.now }
     requires minus { slice_index text.now at ≡ 45 }
-    ensures { IfSome result (λ r. (profile : Profile) → IsTokenAt profile text.now at r.stop (class_in r)) }
+    ensures within { IfSome result (λ r. r.1 ≤ length text.now) }
+    ensures below { IfSome result (λ r. 0 < r.0) }
+    ensures token { IfSome result (λ r. (profile : Profile) → IsTokenAt profile text.now at r.1 (classes.Number true r.0 marks.Absent)) }
 {
     let tail = &text[at + 1..];
-    let (number, len) = decimal_at(tail)?;
-    if number == 0 || begins_with(b'_', &tail[len..]) {
+    let (n, len) = decimal_at(tail)?;
+    if n == 0 || begins_with(b'_', &tail[len..]) {
         return None;
     }
-    Some(Integer {
-        negative: true,
-        number,
-        mark: Mark::Absent,
-        is_tag: false,
-        stop: at + 1 + len,
-    })
+    Some((n, at + 1 + len))
 }
 
 /// Whether `x` begins with the character `c`.

@@ -13,7 +13,7 @@ ghost use Rattle.cborn_edn.specs.devices.Steps as pure;
 
 use crate::containers::{open_array, open_embedded, open_map, open_tag};
 use crate::endings::{end_array, end_map, has_chunks};
-use crate::integers::integer_at;
+use crate::integers::{integer_at, negative_at};
 use crate::marks::{embeds_at, opening_at, opens_chunks_at};
 use crate::numbers::{Numeral, close_simple, put_number, put_simple, put_word};
 use crate::states::{Here, Phase, Source, Writer};
@@ -23,6 +23,7 @@ use crate::texts::{ends_string, plain_text_at, push_text};
 use crate::tokens::token_after;
 use crate::white_space::{begins_white_space, skip_white_space};
 use crate::words::word_at;
+use cborn_lex::Mark;
 use cborn_model::Visitor;
 use std::alloc::AllocError;
 
@@ -47,7 +48,8 @@ pub(crate) fn take_common<V: Visitor>(
     }
 }
 
-/// Takes an item and what follows it, a bracket, or white space, where an item is wanted.
+/// Takes an item and what follows it, a bracket that opens, and also the one that ends it if that
+/// follows directly, or white space, where an item is wanted.
 #[inline(always)]
 fn take_item<V: Visitor>(
     source: Source,
@@ -60,10 +62,15 @@ fn take_item<V: Visitor>(
     ensures { IfOk result (Goes (V.holds visitor.new) source.entry here.old here.new writer.new) }
 {
     let taken = take_first(source, here, writer, visitor)?;
-    if taken && has_item(here.phase) && here.at < source.text.len() {
-        take_after(source, here, writer, visitor)?;
+    if !taken || here.at >= source.text.len() {
+        return Ok(taken);
     }
-    Ok(taken)
+    if has_item(here.phase) {
+        take_after(source, here, writer, visitor)?;
+        return Ok(true);
+    }
+    take_end(source, here, writer, visitor)?;
+    Ok(true)
 }
 
 /// Whether an item was read last.
@@ -74,8 +81,7 @@ fn has_item(phase: Phase) -> bool
     matches!(phase, Phase::Has)
 }
 
-/// Takes an item, a bracket, or white space, where an item is wanted. An integer has an arm of its own
-/// after a minus, so that in each it is known whether it has one.
+/// Takes an item, a bracket that opens, or white space, where an item is wanted.
 #[inline(always)]
 fn take_first<V: Visitor>(
     source: Source,
@@ -89,7 +95,7 @@ fn take_first<V: Visitor>(
 {
     match source.text.as_bytes()[here.at] {
         b'0'..=b'9' => take_integer(source, here, writer, visitor),
-        b'-' => take_integer(source, here, writer, visitor),
+        b'-' => take_negative(source, here, writer, visitor),
         b'"' => take_text(source, here, writer, visitor),
         b'[' => take_opening(false, source, here, writer, visitor),
         b'{' => take_opening(true, source, here, writer, visitor),
@@ -99,7 +105,7 @@ fn take_first<V: Visitor>(
     }
 }
 
-/// Takes an integer, or the number of a tag and its `(`.
+/// Takes an integer without a minus, or the number of a tag and its `(`.
 #[inline(always)]
 fn take_integer<V: Visitor>(
     source: Source,
@@ -128,12 +134,42 @@ fn take_integer<V: Visitor>(
         return Ok(false);
     }
     let numeral = Numeral {
-        negative: found.negative,
+        negative: false,
         magnitude,
         mark: found.mark,
     };
     put_number(numeral, at, here, writer, visitor)?;
     here.at = found.stop;
+    Ok(true)
+}
+
+/// Takes an integer below zero.
+#[inline(always)]
+fn take_negative<V: Visitor>(
+    source: Source,
+    here: &mut Here,
+    writer: &mut Writer,
+    visitor: &mut V,
+) -> Result<bool, AllocError>
+    requires inside { IsInside (V.holds visitor.old) source here.old writer.old }
+    requires wanted { IsWanted here.old.phase }
+    requires minus { slice_index source.text.now here.old.at ≡ 45 }
+    ensures { IfOk result (Goes (V.holds visitor.new) source.entry here.old here.new writer.new) }
+{
+    let at = here.at;
+    let Some((n, stop)) = negative_at(source.text.as_bytes(), at) else {
+        return Ok(false);
+    };
+    if writer.brackets.count() > source.limit {
+        return Ok(false);
+    }
+    let numeral = Numeral {
+        negative: true,
+        magnitude: n as u128,
+        mark: Mark::Absent,
+    };
+    put_number(numeral, at, here, writer, visitor)?;
+    here.at = stop;
     Ok(true)
 }
 
@@ -205,8 +241,7 @@ fn take_escaped<V: Visitor>(
     Ok(true)
 }
 
-/// Takes a `[`, or a `{` if `is_map`, and its indicator, and also the bracket that ends it if that
-/// follows directly.
+/// Takes a `[`, or a `{` if `is_map`, and its indicator.
 #[inline(always)]
 fn take_opening<V: Visitor>(
     is_map: bool,
@@ -230,12 +265,10 @@ fn take_opening<V: Visitor>(
     if is_map {
         open_map(mark, at, here, writer, visitor)?;
         here.at = stop;
-        take_end(source, here, writer, visitor)?;
         return Ok(true);
     }
     open_array(mark, at, here, writer, visitor)?;
     here.at = stop;
-    take_end(source, here, writer, visitor)?;
     Ok(true)
 }
 
@@ -409,7 +442,7 @@ fn take_simple_number<V: Visitor>(
         return Ok(false);
     }
     let numeral = Numeral {
-        negative: found.negative,
+        negative: false,
         magnitude: found.number as u128,
         mark: found.mark,
     };

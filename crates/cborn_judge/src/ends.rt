@@ -58,21 +58,21 @@ impl Encodings {
         }
     }
 
-    /// Ends a map. `descent` is the first defect of the order of its keys.
+    /// Ends the innermost container, a map. `descent` is the first defect of the order of its keys.
     #[inline(always)]
     fn end_map<O: KeyOrder>(
         &mut self,
-        level: Level,
         size: Size,
         count: Option<u64>,
         descent: Option<Defect>,
     ) -> Result<Findings, AllocError>
-        requires hinted { AreAllHinted O.order self.old.out.items level.pairs self.old.pairs.marks }
-        requires descent { FindsDescent O.order level.content (drop level.pairs (marks_of self.old.pairs)) self.old.out.items descent }
-        ensures ended { IfOk result (λ found. EndsWell O.order level (a_map level.place size count) (drop level.pairs (marks_of self.old.pairs)) self.old.out.items self.new.out.items found) }
-        ensures marks { IfOk result (λ found. take level.pairs (marks_of self.new.pairs) ≡ take level.pairs (marks_of self.old.pairs)) }
+        requires hinted { AreAllHinted O.order self.old.out.items self.old.innermost.pairs self.old.pairs.marks }
+        requires descent { FindsDescent O.order self.old.innermost.content (drop self.old.innermost.pairs (marks_of self.old.pairs)) self.old.out.items descent }
+        ensures ended { IfOk result (λ found. EndsWell O.order self.old.innermost (a_map self.old.innermost.place size count) (drop self.old.innermost.pairs (marks_of self.old.pairs)) self.old.out.items self.new.out.items found) }
+        ensures marks { IfOk result (λ found. take self.old.innermost.pairs (marks_of self.new.pairs) ≡ take self.old.innermost.pairs (marks_of self.old.pairs)) }
         ensures kept { (self.new.outer ≡ self.old.outer) × (self.new.innermost ≡ self.old.innermost) }
     {
+        let level = self.innermost;
         let len = self.pairs.count_from(level.pairs);
         let own = ended_defect(level.place, size, count, len);
         let flaw = self
@@ -158,9 +158,10 @@ impl<O: KeyOrder> Encoder<O> {
         requires descent { FindsDescent O.order self.old.encodings.innermost.content (drop self.old.encodings.innermost.pairs (marks_of self.old.encodings.pairs)) self.old.encodings.out.items descent }
         ensures held { OnOk result (Closes O.order self.old self.new) }
     {
-        let level = self.encodings.innermost;
-        let found = self.encodings.end_map::<O>(level, size, count, descent)?;
-        self.encodings.pairs.truncate(level.pairs);
+        let Level { pairs, .. } = self.encodings.innermost;
+        let alloc = self.alloc;
+        let found = self.encodings.end_map::<O>(alloc, size, count, descent)?;
+        self.encodings.pairs.truncate(pairs);
         self.leave(found)
     }
 

@@ -6,7 +6,7 @@ ghost use Rattle.cborn_det.specs.Det.{joined};
 ghost use Rattle.cborn_judge.specs.Departures.{FindsDefect};
 ghost use Rattle.cborn_judge.specs.shared.Judged.{FindsFlaw};
 ghost use Rattle.cborn_judge.specs.devices.Encoding.{Row, row_entries, Mark as Marked, AreMarked, AreFilled, AreArranged, RowRepeat, FindsDescent};
-ghost use Rattle.cborn_judge.specs.devices.Marks.{mark_of, narrow_of, mark_hint, narrow_hint, between, key_of, pair_of, AreHigher, AreHinted, mark_order, FallAt, TieAt, FallsIn, TiesIn, AreSorted};
+ghost use Rattle.cborn_judge.specs.devices.Marks.{mark_of, narrow_of, mark_hint, narrow_hint, between, key_of, pair_of, AreHinted, mark_order, FallAt, TieAt, FallsIn, TiesIn, AreSorted};
 
 use crate::defects::Defect;
 use crate::faults::InvalidReason;
@@ -178,10 +178,10 @@ pub(crate) fn descent<O: KeyOrder, S: Spot>(
     first_fall::<O, S>(&mut spots[from..], out)
 }
 
-/// Arranges the pairs that are marked from the index `from` on, and lie in `out` from
-/// the offset `start` on, so that their keys rise. Gives the first key that is the same as an
-/// earlier one; then, and where a key has no encoding, nothing is promised of their order. What the
-/// marks say of them means nothing after it.
+/// Arranges the pairs that are marked from the index `from` on, and lie in `out` from the offset
+/// `start` on, so that their keys rise. Gives the first key that is the same as an earlier one; then,
+/// and where a key has no encoding, nothing is promised of their order. What the marks say of them
+/// means nothing after it.
 pub(crate) fn arrange<O: KeyOrder, S: Spot>(
     spots: &mut Vec<S>,
     from: usize,
@@ -221,14 +221,14 @@ fn arrange_all<O: KeyOrder, S: Spot>(
 }
 
 /// Sorts marks by their keys, and gives the first key that is the same as an earlier one. If none
-/// is, and each key has an encoding, the keys rise then. They are sorted by the hints that the marks
-/// keep; keys with equal hints, by other hints. As a rule that is all, and else by the keys alone.
+/// is, and each key has an encoding, the keys rise then. The marks are sorted by the hints that they
+/// keep, and those with equal hints by others. If the keys don't rise then, their bytes alone decide.
 fn sort_apart<O: KeyOrder, S: Spot>(spots: &mut [S], out: &[u8]) -> Option<Flaw>
     requires { AreHinted S.hinted S.seen O.order out.now spots.old }
     ensures { (y : List ℕ) (rows : List Row) → out.now ≡ y ++ joined (row_entries rows) → AreMarked (length y) rows (map S.seen spots.old) → FindsFlaw (RowRepeat rows) result × (result ≡ None → AreFilled rows → AreArranged O.order rows (flat_map (pair_of out.now) (map S.seen spots.new))) }
 {
     spots.sort_unstable_by_key(|spot| spot.hint());
-    if hints_rise(spots) {
+    if spots.is_sorted_by(|a, b| a.hint() < b.hint()) {
         return None;
     }
     sort_runs::<O, S>(spots, out);
@@ -239,15 +239,7 @@ fn sort_apart<O: KeyOrder, S: Spot>(spots: &mut [S], out: &[u8]) -> Option<Flaw>
     first_tie(spots, out)
 }
 
-/// Whether each hint that these marks keep is higher than the one before it.
-#[inline(always)]
-fn hints_rise<S: Spot>(spots: &[S]) -> bool
-    ensures { result ≡ true → AreHigher S.hinted 0 spots.now }
-{
-    spots.is_sorted_by(|a, b| a.hint() < b.hint())
-}
-
-/// Sorts marks with equal hints, where these follow one another, by their keys.
+/// Sorts marks that follow one another with equal hints by their keys.
 fn sort_runs<O: KeyOrder, S: Spot>(spots: &mut [S], out: &[u8])
     ensures { IsPermutation (map S.seen spots.old) (map S.seen spots.new) }
 {
@@ -264,15 +256,18 @@ fn sort_runs<O: KeyOrder, S: Spot>(spots: &mut [S], out: &[u8])
     }
 }
 
-/// Sorts marks by their keys: by the hints for what comes after the front that all these keys have in
-/// common, and at equal hints by the keys.
+/// Sorts marks by the hints for what comes after the front that all their keys have in common, and
+/// those with equal hints by their keys.
 #[inline(never)]
 fn sort_run<O: KeyOrder, S: Spot>(spots: &mut [S], out: &[u8])
     ensures { IsPermutation (map S.seen spots.old) (map S.seen spots.new) }
 {
     let common = common_len(spots, out);
     hint_after::<O, S>(common, spots, out);
-    spots.sort_unstable_by(|a, b| compare::<O, S>(out, *a, *b));
+    spots.sort_unstable_by(|a, b| match a.hint().cmp(&b.hint()) {
+        Ordering::Equal => compare_keys::<O>(out, a.mark(), b.mark()),
+        unequal => unequal,
+    });
 }
 
 /// How many bytes at their front all keys of these marks have in common.
@@ -346,15 +341,6 @@ fn sort<O: KeyOrder, S: Spot>(spots: &mut [S], out: &[u8])
     ensures sorted { AreSorted O.order out.now (map S.seen spots.new) }
 {
     spots.sort_unstable_by(|a, b| compare_keys::<O>(out, a.mark(), b.mark()));
-}
-
-/// How two marks compare: by the hints that they keep, and at equal hints as [`compare_keys`] says.
-#[inline(always)]
-fn compare<O: KeyOrder, S: Spot>(out: &[u8], a: S, b: S) -> Ordering {
-    match a.hint().cmp(&b.hint()) {
-        Ordering::Equal => compare_keys::<O>(out, a.mark(), b.mark()),
-        unequal => unequal,
-    }
 }
 
 /// How two marks compare: by their keys, and at equal keys by where they lie.

@@ -24,16 +24,9 @@ sized_some k (Fixed w) n x = omega arith
 sized_some k EndlessSize n x = omega arith
 
 some_bytes : (t : Tree) → 0 < length (spelled t)
-some_bytes (Uint p w n) = omega arith
-some_bytes (Nint p w n) = omega arith
-some_bytes (ByteNode p w b) = omega arith
-some_bytes (Text p w b) = omega arith
-some_bytes (ByteChunks p cs) = omega arith
-some_bytes (TextChunks p cs) = omega arith
 some_bytes (Items p s ts) = sized_some Array s (count ts) (spelled_all ts)
 some_bytes (Pairs p s es) = sized_some MapHead s (count_entries es) (spelled_entries es)
-some_bytes (Tagged p w n t) = omega arith
-some_bytes (Simple p n) = omega arith
+some_bytes _ = omega arith
 
 pub few_items : (ts : Trees) → count ts ≤ length (spelled_all ts)
 few_items no_item = omega arith
@@ -48,11 +41,7 @@ SoundNode most t d = Sound most (spelled t) (Fits t) (depth t) d
 
 pub head_short : (m : Major) (a : Argument) → length (head m a) ≤ 9
 head_short m (Given Direct n) = omega arith
-head_short m (Given One n) = omega arith
-head_short m (Given Two n) = omega arith
-head_short m (Given Four n) = omega arith
-head_short m (Given Eight n) = omega arith
-head_short m EndlessArgument = omega arith
+head_short m _ = omega arith
 
 pub argument_below : (n : Bool) (v : ℕ) → v < 2 ^ 128 → argument_of n v < 2 ^ 128
 argument_below true zero h = omega arith

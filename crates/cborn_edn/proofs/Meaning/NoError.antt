@@ -22,10 +22,7 @@ held false p r e = absurd (let bad : record { place = p; reason = r } ∷ [] ≡
 
 pub holds_is : (w : Width) (n : ℕ) → holds w n ≡ true → WidthFits w n
 holds_is Direct n e = ltb-true _ _ e
-holds_is One n e = ltb-true _ _ e
-holds_is Two n e = ltb-true _ _ e
-holds_is Four n e = ltb-true _ _ e
-holds_is Eight n e = ltb-true _ _ e
+holds_is _ n e = ltb-true _ _ e
 
 pub width_fits : (p : ℕ) (m : Mark) (n : ℕ) → n < 2 ^ 64 → width_errors p m n ≡ [] → WidthFits (width m n) n
 width_fits p Absent n h e = least_holds n h

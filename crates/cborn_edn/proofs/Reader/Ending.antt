@@ -40,26 +40,7 @@ ends (wants (in_row (in_embed h o s) no_item)) = none refl refl
 ends (wants (in_row (in_embed h o s) (after_row r c))) = none refl refl
 ends (wants (in_key st s m no_pair)) = none refl refl
 ends (wants (in_key st s m (after_pairs q c))) = none refl refl
-ends (wants (in_value st s m b i c)) = none refl refl
-ends (wants (in_tag st s n m)) = none refl refl
-ends (has (in_row (in_array st s m) b) i) = none refl refl
-ends (builds (as_item (in_row (in_array st s m) b)) ps) = none refl refl
-ends (builds (as_chunk (in_row (in_array st s m) b) z d) ps) = none refl refl
-ends (has (in_row (in_embed h o s) b) i) = none refl refl
-ends (builds (as_item (in_row (in_embed h o s) b)) ps) = none refl refl
-ends (builds (as_chunk (in_row (in_embed h o s) b) z d) ps) = none refl refl
-ends (has (in_key st s m b) i) = none refl refl
-ends (builds (as_item (in_key st s m b)) ps) = none refl refl
-ends (builds (as_chunk (in_key st s m b) z d) ps) = none refl refl
-ends (has (in_value st s m b j c) i) = none refl refl
-ends (builds (as_item (in_value st s m b i c)) ps) = none refl refl
-ends (builds (as_chunk (in_value st s m b i c) z d) ps) = none refl refl
-ends (has (in_tag st s n m) i) = none refl refl
-ends (builds (as_item (in_tag st s n m)) ps) = none refl refl
-ends (builds (as_chunk (in_tag st s n m) z d) ps) = none refl refl
-ends (wants_chunk st s b) = none refl refl
-ends (wants_number st s) = none refl refl
-ends (has_number st s b n v m) = none refl refl
+ends _ = none refl refl
 
 -- what is kept at the end
 pub item_end : {h : Holds} (here : Here) (w : Writer) (b : RowBefore) (i : Item) → Reads h here w w.pieces.items (has (in_row at_top b) i) → AtEnd h (items (row b i)) w

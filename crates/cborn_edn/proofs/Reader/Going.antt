@@ -1,5 +1,5 @@
 -- A text that is read up to some place: on with one more token, or why not.
-use Rattle.cborn_edn.proofs.Common.{◌≡◌, refl, sym, ap, ◌∙◌, subst, ℕ, ◌+◌, ◌<◌, ◌≤◌, List, [], ◌∷◌, ◌++◌, length, Bool, true, false, cond, leb, Option, Some, None, append_assoc, append-nil, ◌⊎◌, inl, inr, max, le-leb, lt-leb, Between, IsStopAt, IsStopFrom, class_of, Kind, Class, Profile, Token, LexFault, AreModest, EdnReason, UnexpectedToken, TooDeep, EdnFault, Refused, Span, span, token, no_item, after_row, no_pair, after_pairs, IsNoNotation, lexical, reach, Phase, Wants, WantsMore, phase_of, is_trailing_comma, Reached}
+use Rattle.cborn_edn.proofs.Common.{◌≡◌, refl, sym, ap, ◌∙◌, subst, ℕ, ◌+◌, ◌<◌, ◌≤◌, List, [], ◌∷◌, ◌++◌, length, Bool, true, false, cond, leb, Option, Some, None, append_assoc, append-nil, ◌⊎◌, inl, inr, arith, max, le-leb, lt-leb, Between, IsStopAt, IsStopFrom, class_of, Kind, Class, Profile, Token, LexFault, AreModest, EdnReason, UnexpectedToken, TooDeep, EdnFault, Refused, Span, span, token, no_item, after_row, no_pair, after_pairs, IsNoNotation, lexical, reach, Phase, Wants, WantsMore, phase_of, is_trailing_comma, Reached}
 use Rattle.cborn_lex.specs.declared.classes.Kind.TheVariants as kinds
 use Rattle.cborn_lex.specs.declared.classes.Profile.TheVariants.{One, Two}
 use Rattle.cborn_lex.specs.declared.faults.LexFault.TheVariants.{Refused as LexRefused, OutOfMemory as LexOutOfMemory}
@@ -13,6 +13,7 @@ use Rattle.cborn_edn.proofs.Short.SyntaxErrors.{refused}
 use Rattle.cborn_edn.specs.declared.states.Phase.TheVariants as phases
 use Rattle.cborn_edn.specs.devices.Reading.{is_closing}
 use Rattle.cborn_edn.proofs.Reader.Modest.{modest_both}
+use Rattle.cborn_edn.proofs.Reader.Turning.{apart}
 
 pub begins : (profile : Profile) (limit : ℕ) (text : List ℕ) → Reached profile limit text 0 start
 begins profile limit text = record { tokens = []; between = nothing profile text 0; modest = tt; held = refl; runs = λ t stop b more end. refl; stops = λ end. refl }
@@ -116,16 +117,8 @@ two_free c = refl
 pub tight_free : (p : Profile) (s : State) (k : Kind) (n : ℕ) (x : List ℕ) → (phase_of s ≡ WantsMore → ⊥) → forbids p (comma_at s (class_of k n x)) ≡ false
 tight_free p (wants (in_row m (after_row r c))) k n x e = absurd (e refl)
 tight_free p (wants (in_key st s m (after_pairs ps c))) k n x e = absurd (e refl)
-tight_free p (wants (in_row m no_item)) kinds.ArrayClose n x e = free_none p
-tight_free p (wants (in_row m no_item)) (kinds.EmbedClose q) n x e = free_none p
-tight_free p (wants (in_row m no_item)) _ n x e = free_none p
-tight_free p (wants (in_key st s m no_pair)) kinds.ArrayClose n x e = free_none p
-tight_free p (wants (in_key st s m no_pair)) _ n x e = free_none p
-tight_free p (wants (in_value st s m b i c)) kinds.ArrayClose n x e = free_none p
-tight_free p (wants (in_value st s m b i c)) _ n x e = free_none p
-tight_free p (wants (in_tag st s v m)) kinds.ArrayClose n x e = free_none p
-tight_free p (wants (in_tag st s v m)) _ n x e = free_none p
-tight_free p _ k n x e = free_none p
+tight_free p _ kinds.ArrayClose n x e = free_none p
+tight_free p _ _ n x e = free_none p
 
 -- the token is no bracket that ends after a comma
 pub not_trailing : (p : Profile) (s : State) (k : Kind) (n : ℕ) (x : List ℕ) → is_trailing_comma p (phase_of s) k ≡ false → forbids p (comma_at s (class_of k n x)) ≡ false
@@ -134,12 +127,7 @@ not_trailing One s k n x e = go (phase_of s) refl e
   where
     go : (st : Phase) → phase_of s ≡ st → is_trailing_comma One st k ≡ false → forbids One (comma_at s (class_of k n x)) ≡ false
     go WantsMore f g = open_free One s k n x g
-    go Wants f g = tight_free One s k n x (λ h. absurd (let bad : Wants ≡ WantsMore = sym f ∙ h in cc))
-    go phases.Has f g = tight_free One s k n x (λ h. absurd (let bad : phases.Has ≡ WantsMore = sym f ∙ h in cc))
-    go phases.Builds f g = tight_free One s k n x (λ h. absurd (let bad : phases.Builds ≡ WantsMore = sym f ∙ h in cc))
-    go phases.WantsChunk f g = tight_free One s k n x (λ h. absurd (let bad : phases.WantsChunk ≡ WantsMore = sym f ∙ h in cc))
-    go phases.WantsNumber f g = tight_free One s k n x (λ h. absurd (let bad : phases.WantsNumber ≡ WantsMore = sym f ∙ h in cc))
-    go phases.HasNumber f g = tight_free One s k n x (λ h. absurd (let bad : phases.HasNumber ≡ WantsMore = sym f ∙ h in cc))
+    go _ f g = tight_free One s k n x (λ h. apart _ _ (sym f ∙ h) (λ q. omega arith))
 
 forbidden : (limit : ℕ) (s : State) (t : Token) (o : Option State) → forbids One (comma_at s t.class) ≡ true → checked One limit s t o ≡ None
 forbidden limit s t None e = refl
@@ -164,15 +152,7 @@ trailing One limit s k n start stop x e = go (phase_of s) refl e
     more (wants (in_key st p m (after_pairs ps z))) kinds.ArrayClose f g = refl
     more (wants (in_key st p m (after_pairs ps z))) (kinds.EmbedClose q) f g = refl
     more (wants (in_key st p m (after_pairs ps z))) _ f g = clash (sym g)
-    more (wants (in_row m no_item)) k f g = absurd (let bad : Wants ≡ WantsMore = f in cc)
-    more (wants (in_key st p m no_pair)) k f g = absurd (let bad : Wants ≡ WantsMore = f in cc)
-    more (wants (in_value st p m b i c)) k f g = absurd (let bad : Wants ≡ WantsMore = f in cc)
-    more (wants (in_tag st p v m)) k f g = absurd (let bad : Wants ≡ WantsMore = f in cc)
-    more (has st i) k f g = absurd (let bad : phases.Has ≡ WantsMore = f in cc)
-    more (builds h ps) k f g = absurd (let bad : phases.Builds ≡ WantsMore = f in cc)
-    more (wants_chunk st p b) k f g = absurd (let bad : phases.WantsChunk ≡ WantsMore = f in cc)
-    more (wants_number st p) k f g = absurd (let bad : phases.WantsNumber ≡ WantsMore = f in cc)
-    more (has_number st p b i v m) k f g = absurd (let bad : phases.HasNumber ≡ WantsMore = f in cc)
+    more _ k f g = apart _ _ f (λ q. omega arith)
 
     go : (st : Phase) → phase_of s ≡ st → is_trailing_comma One st k ≡ true → checked One limit s (t k) (step s (t k)) ≡ None
     go WantsMore f g = more s k f g

@@ -59,8 +59,6 @@ map_at (wants (in_row (in_array st s m) (after_row r c))) x e = never e
 map_at (wants (in_row (in_embed h o s) no_item)) x e = never e
 map_at (wants (in_row (in_embed h o s) (after_row r c))) x e = never e
 map_at (has (in_row at_top b) i) x e = never e
-map_at (has (in_row (in_array st s m) b) i) x e = never e
-map_at (has (in_row (in_embed h o s) b) i) x e = never e
 map_at _ x e = never e
 
 pub map_step : (st : Stack) (p a : Span) (m : Mark) (f : Fields) → step_by (fields_state st p m f) MapClose a ≡ Some (has st (map p m f a))
@@ -76,11 +74,7 @@ no_map (wants (in_key st p m no_pair)) a x e = never (sym e)
 no_map (wants (in_key st p m (after_pairs ps c))) a x e = never (sym e)
 no_map (has (in_value st p m b k c) v) a x e = never (sym e)
 no_map (wants (in_row at_top b)) a x e = refl
-no_map (wants (in_row (in_array st s m) b)) a x e = refl
-no_map (wants (in_row (in_embed h o s) b)) a x e = refl
 no_map (has (in_row at_top b) i) a x e = refl
-no_map (has (in_row (in_array st s m) b) i) a x e = refl
-no_map (has (in_row (in_embed h o s) b) i) a x e = refl
 no_map _ a x e = refl
 
 -- a `<<` that may end
@@ -124,15 +118,11 @@ pub record Tagging (st : Stack) : Type 0 where
 pub tag_at : (st : Stack) → is_tag (level_of st) ≡ true → Tagging st
 tag_at (in_tag st p n m) e = record { around = st; at = p; n = n; m = m; is = refl }
 tag_at (in_row at_top b) e = never e
-tag_at (in_row (in_array st s m) b) e = never e
-tag_at (in_row (in_embed h o s) b) e = never e
 tag_at _ e = never e
 
 pub no_tag : (st : Stack) (i : Item) (a : Span) → is_tag (level_of st) ≡ false → step_by (has st i) ParenClose a ≡ None
 no_tag (in_tag st p n m) i a e = never (sym e)
 no_tag (in_row at_top b) i a e = refl
-no_tag (in_row (in_array st s m) b) i a e = refl
-no_tag (in_row (in_embed h o s) b) i a e = refl
 no_tag _ i a e = refl
 
 pub record Keyed (st : Stack) : Type 0 where
@@ -145,15 +135,11 @@ pub record Keyed (st : Stack) : Type 0 where
 pub key_at : (st : Stack) → is_key (level_of st) ≡ true → Keyed st
 key_at (in_key st p m b) e = record { around = st; at = p; m = m; b = b; is = refl }
 key_at (in_row at_top b) e = never e
-key_at (in_row (in_array st s m) b) e = never e
-key_at (in_row (in_embed h o s) b) e = never e
 key_at _ e = never e
 
 pub no_key : (st : Stack) (i : Item) (a : Span) → is_key (level_of st) ≡ false → step_by (has st i) Colon a ≡ None
 no_key (in_key st p m b) i a e = never (sym e)
 no_key (in_row at_top b) i a e = refl
-no_key (in_row (in_array st s m) b) i a e = refl
-no_key (in_row (in_embed h o s) b) i a e = refl
 no_key _ i a e = refl
 
 pub record Valued (st : Stack) : Type 0 where
@@ -168,8 +154,6 @@ pub record Valued (st : Stack) : Type 0 where
 pub value_at : (st : Stack) → is_value (level_of st) ≡ true → Valued st
 value_at (in_value st p m b k c) e = record { around = st; at = p; m = m; b = b; k = k; colon = c; is = refl }
 value_at (in_row at_top b) e = never e
-value_at (in_row (in_array st s m) b) e = never e
-value_at (in_row (in_embed h o s) b) e = never e
 value_at _ e = never e
 
 pub record Rowed (st : Stack) : Type 0 where
@@ -191,11 +175,7 @@ no_comma _ i a e f = refl
 -- a bracket of a known kind is open
 brackets_open : (st : Stack) → (level_of st ≡ None → ⊥) → 0 < length (brackets_of st)
 brackets_open (in_row at_top b) n = absurd (n refl)
-brackets_open (in_row (in_array st s m) b) n = omega arith
-brackets_open (in_row (in_embed h o s) b) n = omega arith
-brackets_open (in_key st s m b) n = omega arith
-brackets_open (in_value st s m b k c) n = omega arith
-brackets_open (in_tag st s v m) n = omega arith
+brackets_open _ n = omega arith
 
 pub is_open : (f : Option Level → Bool) (here : Here) (w : Writer) (out : List ℕ) (s : State) → f None ≡ false → f here.level ≡ true → Shows here w out s → 0 < length w.brackets
 is_open f here w out s none some e =

@@ -46,13 +46,7 @@ least_bytes k n = go (ltb n (2 ^ 64)) refl
       where
         first : (k : Major) → 32 * code k + 27 < 256
         first Unsigned = omega arith
-        first Negative = omega arith
-        first ByteString = omega arith
-        first TextString = omega arith
-        first Array = omega arith
-        first MapHead = omega arith
-        first TagHead = omega arith
-        first Other = omega arith
+        first _ = omega arith
 
     go : (b : Bool) → ltb n (2 ^ 64) ≡ b → AreBytes (head k (Given (least n) n))
     go true e = head_bytes k (Given (least n) n) (least_holds n (ltb-true _ _ e))

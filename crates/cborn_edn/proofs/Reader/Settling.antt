@@ -15,11 +15,7 @@ checked_same p limit s v t (Some u) e = ap (λ n. cond (forbids p n) None (Some 
 
 finish_same : (st : Stack) (ps : Pieces) → finish (builds (as_item st) ps) ≡ finish (has st (string ps))
 finish_same (in_row at_top b) ps = refl
-finish_same (in_row (in_array st s m) b) ps = refl
-finish_same (in_row (in_embed h o s) b) ps = refl
-finish_same (in_key st s m b) ps = refl
-finish_same (in_value st s m b k c) ps = refl
-finish_same (in_tag st s n m) ps = refl
+finish_same _ ps = refl
 
 parse_same : (p : Profile) (limit : ℕ) (st : Stack) (ps : Pieces) (t : Token) → is_single t.class ≡ true → (more : List Token) (end : ℕ) → parse p limit end (t ∷ more) (builds (as_item st) ps) ≡ parse p limit end (t ∷ more) (has st (string ps))
 parse_same p limit st ps t e more end =

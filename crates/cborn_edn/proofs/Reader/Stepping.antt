@@ -113,11 +113,4 @@ module _ {h : Holds} (p : Profile) (limit : ℕ) (text : List ℕ) (are : AreByt
         where
           go : Taken k true r.state (class_of t.kind n i.content) (record { start = t.start; stop = t.stop }) next left → IsNoNotation p limit text fault
           go (u, is, e) = too_deep p limit text here.at r.state r.reached the_token u fault i.between is (not_trailing p r.state t.kind n i.content (free f)) (omega (arith, depth_is deep d, far)) h
-      refusal UnexpectedEnd fault e f = absurd e
-      refusal IndicatorTooNarrow fault e f = absurd e
-      refusal IndicatorNotAllowed fault e f = absurd e
-      refusal MixedString fault e f = absurd e
-      refusal MixedChunks fault e f = absurd e
-      refusal TextNotUtf8 fault e f = absurd e
-      refusal BadSimple fault e f = absurd e
-      refusal TagTooLarge fault e f = absurd e
+      refusal _ fault e f = absurd e

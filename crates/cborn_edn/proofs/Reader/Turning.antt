@@ -47,8 +47,6 @@ none_led u is = absurd (let bad : None ≡ Some u = is in cc)
 pub colon_handed : (h : Holds) (st : Stack) (i : Item) (a : Span) → StaysHanded h (has st i) Colon a
 colon_handed h (in_key st s m b) i a ps u is t = led h ps (wants (in_value st s m b i a)) u is (stays h ps (has (in_key st s m b) i) (wants (in_value st s m b i a)) (states_around st) (λ k. handed_colon k st s m b i a) t)
 colon_handed h (in_row at_top b) i a ps u is t = none_led u is
-colon_handed h (in_row (in_array st s m) b) i a ps u is t = none_led u is
-colon_handed h (in_row (in_embed home o s) b) i a ps u is t = none_led u is
 colon_handed h _ i a ps u is t = none_led u is
 
 pub comma_handed : (h : Holds) (st : Stack) (i : Item) (a : Span) → StaysHanded h (has st i) Comma a
@@ -103,7 +101,7 @@ number phases.WantsChunk = 4
 number phases.WantsNumber = 5
 number phases.HasNumber = 6
 
-apart : {A : Type 0} (x y : Phase) → x ≡ y → (number x ≡ number y → ⊥) → A
+pub apart : {A : Type 0} (x y : Phase) → x ≡ y → (number x ≡ number y → ⊥) → A
 apart x y e f = absurd (f (ap number e))
 
 not_wanted : {A : Type 0} (st : Stack) (x : Phase) → wanting st ≡ x → 1 < number x → A
@@ -112,47 +110,27 @@ not_wanted st x e h = elim (wanted st) [ first f ↦ absurd (let k : number x �
 pub is_has : (s : State) → phase_of s ≡ phases.Has → (st : Stack) × (i : Item) × (has st i ≡ s)
 is_has (has st i) e = (st, i, refl)
 is_has (wants st) e = not_wanted st phases.Has e (omega arith)
-is_has (builds h ps) e = apart phases.Builds phases.Has e (λ f. omega arith)
-is_has (wants_chunk st s b) e = apart phases.WantsChunk phases.Has e (λ f. omega arith)
-is_has (wants_number st s) e = apart phases.WantsNumber phases.Has e (λ f. omega arith)
-is_has (has_number st s b n v m) e = apart phases.HasNumber phases.Has e (λ f. omega arith)
+is_has _ e = apart _ _ e (λ f. omega arith)
 
 pub is_wants : (s : State) → (phase_of s ≡ phases.Wants) ⊎ (phase_of s ≡ phases.WantsMore) → (st : Stack) × (wants st ≡ s)
 is_wants (wants st) e = (st, refl)
-is_wants (has st i) (inl e) = apart phases.Has phases.Wants e (λ f. omega arith)
-is_wants (has st i) (inr e) = apart phases.Has phases.WantsMore e (λ f. omega arith)
-is_wants (builds h ps) (inl e) = apart phases.Builds phases.Wants e (λ f. omega arith)
-is_wants (builds h ps) (inr e) = apart phases.Builds phases.WantsMore e (λ f. omega arith)
-is_wants (wants_chunk st s b) (inl e) = apart phases.WantsChunk phases.Wants e (λ f. omega arith)
-is_wants (wants_chunk st s b) (inr e) = apart phases.WantsChunk phases.WantsMore e (λ f. omega arith)
-is_wants (wants_number st s) (inl e) = apart phases.WantsNumber phases.Wants e (λ f. omega arith)
-is_wants (wants_number st s) (inr e) = apart phases.WantsNumber phases.WantsMore e (λ f. omega arith)
-is_wants (has_number st s b n v m) (inl e) = apart phases.HasNumber phases.Wants e (λ f. omega arith)
-is_wants (has_number st s b n v m) (inr e) = apart phases.HasNumber phases.WantsMore e (λ f. omega arith)
+is_wants _ (inl e) = apart _ _ e (λ f. omega arith)
+is_wants _ (inr e) = apart _ _ e (λ f. omega arith)
 
 pub is_builds : (s : State) → phase_of s ≡ phases.Builds → (h : Home) × (ps : Pieces) × (builds h ps ≡ s)
 is_builds (builds h ps) e = (h, ps, refl)
 is_builds (wants st) e = not_wanted st phases.Builds e (omega arith)
-is_builds (has st i) e = apart phases.Has phases.Builds e (λ f. omega arith)
-is_builds (wants_chunk st s b) e = apart phases.WantsChunk phases.Builds e (λ f. omega arith)
-is_builds (wants_number st s) e = apart phases.WantsNumber phases.Builds e (λ f. omega arith)
-is_builds (has_number st s b n v m) e = apart phases.HasNumber phases.Builds e (λ f. omega arith)
+is_builds _ e = apart _ _ e (λ f. omega arith)
 
 pub is_wants_chunk : (s : State) → phase_of s ≡ phases.WantsChunk → (st : Stack) × (p : Span) × (b : StringsBefore) × (wants_chunk st p b ≡ s)
 is_wants_chunk (wants_chunk st p b) e = (st, p, b, refl)
 is_wants_chunk (wants st) e = not_wanted st phases.WantsChunk e (omega arith)
-is_wants_chunk (has st i) e = apart phases.Has phases.WantsChunk e (λ f. omega arith)
-is_wants_chunk (builds h ps) e = apart phases.Builds phases.WantsChunk e (λ f. omega arith)
-is_wants_chunk (wants_number st s) e = apart phases.WantsNumber phases.WantsChunk e (λ f. omega arith)
-is_wants_chunk (has_number st s b n v m) e = apart phases.HasNumber phases.WantsChunk e (λ f. omega arith)
+is_wants_chunk _ e = apart _ _ e (λ f. omega arith)
 
 pub is_wants_number : (s : State) → phase_of s ≡ phases.WantsNumber → (st : Stack) × (p : Span) × (wants_number st p ≡ s)
 is_wants_number (wants_number st p) e = (st, p, refl)
 is_wants_number (wants st) e = not_wanted st phases.WantsNumber e (omega arith)
-is_wants_number (has st i) e = apart phases.Has phases.WantsNumber e (λ f. omega arith)
-is_wants_number (builds h ps) e = apart phases.Builds phases.WantsNumber e (λ f. omega arith)
-is_wants_number (wants_chunk st s b) e = apart phases.WantsChunk phases.WantsNumber e (λ f. omega arith)
-is_wants_number (has_number st s b n v m) e = apart phases.HasNumber phases.WantsNumber e (λ f. omega arith)
+is_wants_number _ e = apart _ _ e (λ f. omega arith)
 
 pub record HasNumber (s : State) : Type 0 where
   pub st : Stack
@@ -166,10 +144,7 @@ pub record HasNumber (s : State) : Type 0 where
 pub is_has_number : (s : State) → phase_of s ≡ phases.HasNumber → HasNumber s
 is_has_number (has_number st p b n v m) e = record { st = st; at = p; b = b; n = n; v = v; m = m; is = refl }
 is_has_number (wants st) e = not_wanted st phases.HasNumber e (omega arith)
-is_has_number (has st i) e = apart phases.Has phases.HasNumber e (λ f. omega arith)
-is_has_number (builds h ps) e = apart phases.Builds phases.HasNumber e (λ f. omega arith)
-is_has_number (wants_chunk st s b) e = apart phases.WantsChunk phases.HasNumber e (λ f. omega arith)
-is_has_number (wants_number st s) e = apart phases.WantsNumber phases.HasNumber e (λ f. omega arith)
+is_has_number _ e = apart _ _ e (λ f. omega arith)
 
 -- a string that is no chunk
 pub item_home : (h : Home) → has_chunks (chunks_of h) ≡ false → (st : Stack) × (as_item st ≡ h)
@@ -230,21 +205,9 @@ no_after : (st : Stack) (i : Item) (kind : Kind) (n : ℕ) (x : List ℕ) (a : S
 no_after (in_row at_top b) i (kinds.Text m) n x a e = refl
 no_after (in_row at_top b) i (kinds.Bytes q m) n x a e = refl
 no_after (in_row at_top b) i kinds.EmbedOpen n x a e = refl
-no_after (in_row (in_array st s m) b) i (kinds.Text k) n x a e = refl
-no_after (in_row (in_array st s m) b) i (kinds.Bytes q k) n x a e = refl
-no_after (in_row (in_array st s m) b) i kinds.EmbedOpen n x a e = refl
-no_after (in_row (in_embed h o s) b) i (kinds.Text m) n x a e = refl
-no_after (in_row (in_embed h o s) b) i (kinds.Bytes q m) n x a e = refl
-no_after (in_row (in_embed h o s) b) i kinds.EmbedOpen n x a e = refl
-no_after (in_key st s m b) i (kinds.Text k) n x a e = refl
-no_after (in_key st s m b) i (kinds.Bytes q k) n x a e = refl
-no_after (in_key st s m b) i kinds.EmbedOpen n x a e = refl
-no_after (in_value st s m b k c) i (kinds.Text l) n x a e = refl
-no_after (in_value st s m b k c) i (kinds.Bytes q l) n x a e = refl
-no_after (in_value st s m b k c) i kinds.EmbedOpen n x a e = refl
-no_after (in_tag st s v m) i (kinds.Text k) n x a e = refl
-no_after (in_tag st s v m) i (kinds.Bytes q k) n x a e = refl
-no_after (in_tag st s v m) i kinds.EmbedOpen n x a e = refl
+no_after _ i (kinds.Text m) n x a e = refl
+no_after _ i (kinds.Bytes q m) n x a e = refl
+no_after _ i kinds.EmbedOpen n x a e = refl
 no_after st i _ n x a e = absurd (let bad : false ≡ true = e in cc)
 
 pub no_piece_taken : (s : State) (kind : Kind) (n : ℕ) (x : List ℕ) (a : Span) → takes_no_piece (phase_of s) ≡ true → is_piece kind ≡ true → step_by s (class_of kind n x) a ≡ None
@@ -252,11 +215,7 @@ no_piece_taken (wants st) kind n x a f e = elim (wanted st) [ first q ↦ absurd
 no_piece_taken (builds h ps) kind n x a f e = absurd (let bad : false ≡ true = f in cc)
 no_piece_taken (wants_chunk st s b) kind n x a f e = absurd (let bad : false ≡ true = f in cc)
 no_piece_taken (has st i) kind n x a f e = no_after st i kind n x a e
-no_piece_taken (wants_number st s) (kinds.Text m) n x a f e = refl
-no_piece_taken (wants_number st s) (kinds.Bytes q m) n x a f e = refl
-no_piece_taken (wants_number st s) kinds.EmbedOpen n x a f e = refl
-no_piece_taken (wants_number st s) _ n x a f e = absurd (let bad : false ≡ true = e in cc)
-no_piece_taken (has_number st s b i v k) (kinds.Text m) n x a f e = refl
-no_piece_taken (has_number st s b i v k) (kinds.Bytes q m) n x a f e = refl
-no_piece_taken (has_number st s b i v k) kinds.EmbedOpen n x a f e = refl
-no_piece_taken (has_number st s b i v k) _ n x a f e = absurd (let bad : false ≡ true = e in cc)
+no_piece_taken _ (kinds.Text m) n x a f e = refl
+no_piece_taken _ (kinds.Bytes q m) n x a f e = refl
+no_piece_taken _ kinds.EmbedOpen n x a f e = refl
+no_piece_taken _ _ n x a f e = absurd (let bad : false ≡ true = e in cc)

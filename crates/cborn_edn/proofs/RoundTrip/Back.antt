@@ -3,11 +3,8 @@ use Rattle.cborn_edn.proofs.Common.{◌≡◌, refl, ap, ◌∙◌, ℕ, suc, �
 use Rattle.cborn_model.specs.Tree.{Pairs as PairNode, no_item as no_node}
 
 pub below : (w : Width) (n : ℕ) → WidthFits w n → n < 2 ^ 64
-below Direct n h = omega arith
-below One n h = omega arith
-below Two n h = omega arith
-below Four n h = omega arith
 below Eight n h = h
+below _ n h = omega arith
 
 pub count-unplaced : (ts : Trees) → count (unplaced_all ts) ≡ count ts
 count-unplaced no_node = refl

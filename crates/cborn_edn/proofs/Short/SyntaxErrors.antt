@@ -43,26 +43,14 @@ pub syntax_error : (p : Profile) (limit end : ℕ) (x : List Token) (q : ℕ) (r
 syntax_error p limit end x q UnexpectedEnd (e, h, k) = (e, goes_on p limit x h, λ t. k (tree_had p limit x t))
 syntax_error p limit end x q UnexpectedToken (f, t, s, e, k) = (f, t, stops p limit x f t s, e, λ (d, g). k (d, went_on p d (f ++ t ∷ []) g))
 syntax_error p limit end x q TooDeep (f, t, s, e, (d, g)) = (f, t, stops p limit x f t s, e, (d, goes_on p d (f ++ t ∷ []) g))
-syntax_error p limit end x q IndicatorTooNarrow h = h
-syntax_error p limit end x q IndicatorNotAllowed h = h
-syntax_error p limit end x q MixedString h = h
-syntax_error p limit end x q MixedChunks h = h
-syntax_error p limit end x q TextNotUtf8 h = h
-syntax_error p limit end x q BadSimple h = h
-syntax_error p limit end x q TagTooLarge h = h
+syntax_error p limit end x q _ h = h
 
 -- LAW: a syntax error by the relation is one by the trees
 pub tree_syntax_error : (p : Profile) (limit end : ℕ) (x : List Token) (q : ℕ) (r : EdnReason) → IsSyntaxError p limit end x q r → tree.IsSyntaxError p limit end x q r
 tree_syntax_error p limit end x q UnexpectedEnd (e, h, k) = (e, went_on p limit x h, λ t. k (has_tree p limit x t))
 tree_syntax_error p limit end x q UnexpectedToken (f, t, s, e, k) = (f, t, stopped p limit x f t s, e, λ (d, g). k (d, goes_on p d (f ++ t ∷ []) g))
 tree_syntax_error p limit end x q TooDeep (f, t, s, e, (d, g)) = (f, t, stopped p limit x f t s, e, (d, went_on p d (f ++ t ∷ []) g))
-tree_syntax_error p limit end x q IndicatorTooNarrow h = h
-tree_syntax_error p limit end x q IndicatorNotAllowed h = h
-tree_syntax_error p limit end x q MixedString h = h
-tree_syntax_error p limit end x q MixedChunks h = h
-tree_syntax_error p limit end x q TextNotUtf8 h = h
-tree_syntax_error p limit end x q BadSimple h = h
-tree_syntax_error p limit end x q TagTooLarge h = h
+tree_syntax_error p limit end x q _ h = h
 
 -- LAW: and so why a text notates nothing
 pub refused : (p : Profile) (limit : ℕ) (text : List ℕ) (x : List Token) (q : ℕ) (r : EdnReason) → Lex p text x → tree.IsSyntaxError p limit (length text) x q r → IsNoNotation p limit text (Refused q r)

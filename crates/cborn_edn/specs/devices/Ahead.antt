@@ -1,13 +1,12 @@
 -- A device of the proofs: what a text has at an offset. No definition cites it.
-use Rattle.std.specs.Prelude.{if◌then◌else◌, ◌≡◌, ℕ, ◌<◌, ◌≤◌, Bool, true, List, [], ◌∷◌, ◌==◌, codes, length, slice_index, ◌⊎◌}
+use Rattle.std.specs.Prelude.{◌≡◌, ℕ, ◌<◌, ◌≤◌, Bool, true, List, [], ◌∷◌, ◌==◌, codes, length, slice_index, ◌⊎◌}
 use Rattle.std.specs.List.{list_any}
 use Rattle.cborn_lex.specs.declared.classes.Profile.{Profile}
 use Rattle.std.specs.Str.{IsUtf8}
 use Rattle.cborn_lex.specs.declared.classes.Class.{Class}
-use Rattle.cborn_lex.specs.declared.classes.Class.TheVariants.{Text, TagOpen, Number}
+use Rattle.cborn_lex.specs.declared.classes.Class.TheVariants.{Text}
 use Rattle.cborn_lex.specs.declared.classes.BareToken.{BareToken}
 use Rattle.cborn_lex.specs.Kinds.{class_of}
-use Rattle.cborn_edn.specs.declared.integers.Integer.{Integer}
 use Rattle.cborn_edn.specs.devices.Levels.{reach}
 use Rattle.cborn_edn.specs.devices.Steps.{EndsPieces}
 use Rattle.cborn_lex.specs.declared.classes.Mark.TheVariants.{Absent}
@@ -16,10 +15,6 @@ use Rattle.cborn_lex.specs.Good.{TokensBetween}
 -- there is a token of this class from the offset n up to m
 abbrev pub IsTokenAt : Profile → List ℕ → ℕ → ℕ → Class → Type 0
 IsTokenAt profile text n m k = TokensBetween profile text n m (record { start = n; stop = m; class = k } ∷ [])
-
--- the class of an integer, or of the number of a tag
-abbrev pub class_in : Integer → Class
-class_in i = if i.is_tag then TagOpen i.number i.mark else Number i.negative i.number i.mark
 
 -- At the offset n there is this token, which nothing is nested in. It has no number and no content.
 pub record IsEndAt (text : List ℕ) (n : ℕ) (t : BareToken) : Type 0 where

@@ -1,20 +1,23 @@
-use Rattle.cborn_judge.proofs.Common.{◌≡◌, List, map, not, sym, ap, ◌∙◌, subst, IsPermutation, flat_map, IsPermutation-map, IsPermutation-trans, FindsDefect, Mark, AreArranged, key_of, pair_of, FallsIn}
+use Rattle.cborn_judge.proofs.Common.{◌≡◌, List, map, nat_lt, not, sym, ap, ◌∙◌, subst, IsPermutation, rules, arith, flat_map, IsAllAdjacentAnswer, always_returns_same, IsPermutation-map, IsPermutation-trans, FindsDefect, Mark, AreArranged, key_of, pair_of, FallsIn}
 use Rattle.cborn_model.proofs.Bytes.{are_bytes}
 use Rattle.cborn_model.proofs.SameItems.Rearranging.{All_moved}
-use Rattle.cborn_judge.proofs.Encoding.PairsHinted.{risen_hints}
+use Rattle.cborn_judge.proofs.Encoding.PairsHinted.{risen_hints, higher_from}
 use Rattle.cborn_judge.proofs.Encoding.PairsMet.{none_of}
 use Rattle.cborn_judge.proofs.Encoding.PairsArranged.{sorted_apart, risen}
 use Rattle.cborn_judge.proofs.marks.sort_apart.Goals as goal
 
-pub returns-then-hints_rise : goal.returns-then-hints_rise
-returns-then-hints_rise g c y rows e a =
+pub returns-then-is_sorted_by : goal.returns-then-is_sorted_by
+returns-then-is_sorted_by g c y rows e a =
     let order = g.O.KeyOrder.order in
     let seen = g.S.Spot.seen in
     let hinted = g.S.Spot.hinted in
     let b = c.args.out.now in
     let by = c.sort_unstable_by_key.ensures.permutation in
-    let all = All_moved (λ s. hinted s ≡ c.requires.0 (key_of b (seen s))) c.args.spots.now c.sort_unstable_by_key.new.self by c.requires.2 in
-    let found = risen_hints seen hinted b order c.requires.0 c.requires.1 (are_bytes b c.type_inv.out) c.sort_unstable_by_key.new.self all (c.hints_rise.ensures c.if-hints_rise.true) in
+    let ss = c.sort_unstable_by_key.new.self in
+    let answer = c.is_sorted_by.ensures.cases (λ x y. nat_lt (hinted x) (hinted y)) (always_returns_same _ _ _ (λ a r f' called. (search rules, search rules))) in
+    let higher = higher_from hinted 0 ss (λ d l. omega arith) (subst (IsAllAdjacentAnswer (λ x y v. v ≡ nat_lt (hinted x) (hinted y)) ss) c.if-is_sorted_by.true answer) in
+    let all = All_moved (λ s. hinted s ≡ c.requires.0 (key_of b (seen s))) c.args.spots.now ss by c.requires.2 in
+    let found = risen_hints seen hinted b order c.requires.0 c.requires.1 (are_bytes b c.type_inv.out) ss all higher in
     risen order g.met.O.KeyOrder.laws b y rows _ _ (record { stand = e; marked = a; moved = IsPermutation-map seen _ _ by }) found
 
 pub returns-then-is_none : goal.returns-then-is_none

@@ -7,7 +7,7 @@ pub returns-clause-ended : goal.returns-clause-ended
 returns-clause-ended g c = λ ts x z ends e start inner.
     let order = g.O.KeyOrder.order in
     let laws = g.met.O.KeyOrder.laws in
-    let level = c.args.level in
+    let level = c.args.self.now.innermost in
     let flaw = c.in_ok-flaw.flaw in
     let h = inner.front in
     let rs = inner.contains.1 in

@@ -1,9 +1,9 @@
 use Rattle.cborn_edn.proofs.Common.{◌≡◌, ◌+◌, ◌∙◌, sym, subst, eqb, List, ℕ, Bool, true, false, take_rest, if◌then◌else◌, Number, TagOpen, begins, IsTokenAt}
 use Rattle.cborn_edn.proofs.Reader.Items.{number_here, tag_here}
-use Rattle.cborn_edn.proofs.integers.unsigned_at.Goals as goal
+use Rattle.cborn_edn.proofs.integers.integer_at.Goals as goal
 
-pub returns-then-is_tag : goal.returns-then-is_tag
-returns-then-is_tag c profile =
+pub returns-then-is_tag-clause-token : goal.returns-then-is_tag-clause-token
+returns-then-is_tag-clause-token c profile =
     let n = c.in_ok-number in
     let found = c.mark_at-found in
     let mark = c.in_ok-mark.mark in
@@ -12,8 +12,8 @@ returns-then-is_tag c profile =
     subst (λ (b : Bool). IsTokenAt profile text c.args.at (c.args.at + n.len + found.result.1 + 1) (if b then TagOpen n.number mark else Number false n.number mark)) (sym c.if-is_tag.true)
     (tag_here profile text _ _ c.args.at n.len found.result.1 n.number mark (take_rest text c.args.at) (take_rest _ n.len) n.ensures.within found.ensures.within (n.ensures.value false) n.ensures.run found.ensures.run (sym found.ensures.mark ∙ c.in_ok-mark.was) paren)
 
-pub returns-else-is_tag : goal.returns-else-is_tag
-returns-else-is_tag c profile =
+pub returns-else-is_tag-clause-token : goal.returns-else-is_tag-clause-token
+returns-else-is_tag-clause-token c profile =
     let n = c.in_ok-number in
     let found = c.mark_at-found in
     let mark = c.in_ok-mark.mark in
