@@ -159,8 +159,7 @@ impl<O: KeyOrder> Encoder<O> {
         ensures held { OnOk result (Closes O.order self.old self.new) }
     {
         let Level { pairs, .. } = self.encodings.innermost;
-        let alloc = self.alloc;
-        let found = self.encodings.end_map::<O>(alloc, size, count, descent)?;
+        let found = self.encodings.end_map::<O>(size, count, descent)?;
         self.encodings.pairs.truncate(pairs);
         self.leave(found)
     }

@@ -416,10 +416,7 @@ fn copy_pairs<S: Spot>(spots: &[S], out: &[u8], copy: &mut Vec<u8>) -> Result<()
 fn key_in(out: &[u8], mark: Mark) -> &[u8]
     ensures { result.now ≡ key_of out.now (mark_of mark) }
 {
-    match out.get(mark.start..mark.middle) {
-        Some(key) => key,
-        None => bytes_between(out, mark.start, mark.middle),
-    }
+    bytes_between(out, mark.start, mark.middle)
 }
 
 /// The bytes from one offset to another, as far as there are any.
@@ -427,6 +424,9 @@ fn key_in(out: &[u8], mark: Mark) -> &[u8]
 fn bytes_between(bytes: &[u8], start: usize, end: usize) -> &[u8]
     ensures { result.now ≡ between start end bytes.now }
 {
+    if let Some(all) = bytes.get(start..end) {
+        return all;
+    }
     let rest = from_index(bytes, start);
     rest.get(..end.saturating_sub(start)).unwrap_or(rest)
 }
