@@ -70,7 +70,7 @@ pub use Rattle.cborn_edn.specs.declared.states.OpenBracket.{OpenBracket}
 pub use Rattle.cborn_edn.specs.declared.states.Phase.{Phase}
 pub use Rattle.cborn_edn.specs.declared.states.Phase.TheVariants.{Builds, Has, Wants, WantsChunk, WantsMore}
 pub use Rattle.cborn_edn.specs.declared.states.Writer.{Writer}
-pub use Rattle.cborn_edn.specs.devices.Ahead.{IsEndAt, IsTextAt, IsTokenAt, NoPieceAt, ends_string}
+pub use Rattle.cborn_edn.specs.devices.Ahead.{IsTextAt, IsTokenAt, NoPieceAt, ends_string}
 pub use Rattle.cborn_edn.specs.devices.Commas.{AllowsCount, commas, commas_of_content, commas_of_fields, commas_of_input, commas_of_pairs, commas_of_pairs_before, commas_of_piece, commas_of_pieces, commas_of_row, commas_of_row_before, commas_of_strings, commas_of_strings_before}
 pub use Rattle.cborn_edn.specs.devices.Events.{AreFew, Comes, FitsSoFar, Follows, Holds, OpeningFits, bignum_of}
 pub use Rattle.cborn_edn.specs.devices.Handed.{AllHanded, Handed, Hands, InnermostFollows, IsSpelled, Reads, chunk_event, front, front_of, listed_entries, row_front, size_asked, states_around, states_around_home, states_around_nest, string_event}
@@ -83,7 +83,7 @@ pub use Rattle.cborn_edn.specs.devices.Modest.{AreModest, IsModest}
 pub use Rattle.cborn_edn.specs.devices.Notating.{IsBadIn, IsCounted, IsEnded, IsHeld, IsLowest, after, beginning, content, count_one, ending, is_counted, late_in, late_size, lates, lowest_with, next_after, next_around, next_in, one_more, quote, separator, string_end, tally}
 pub use Rattle.cborn_edn.specs.devices.Noted.{noted, noted_home, noted_nest, noted_stack, pieces_noted, strings_noted}
 pub use Rattle.cborn_edn.specs.devices.Parse.{Allows, GoesOn, GoesOnAtAnyDepth, HasTree, IsSyntaxError, Parse, StopsAt, is_closing}
-pub use Rattle.cborn_edn.specs.devices.Reading.{AtEnd, IsReadTo, IsReading, IsWanted, Judged, Last, Reached, is_trailing_comma, item, may_end, pieces}
+pub use Rattle.cborn_edn.specs.devices.Reading.{AtEnd, IsReading, Judged, Last, Reached, is_trailing_comma, item, may_end, pieces}
 pub use Rattle.cborn_edn.specs.devices.Said.{Parsed, chunks, entries_before, entries_in, faults, faults_before, faults_before_pairs, faults_in, faults_of_fields, faults_of_input, faults_of_pairs, faults_of_piece, faults_of_pieces, faults_of_row, faults_of_strings, kind_in, node, nodes, nodes_before, nodes_in, nodes_of_input, snoc, snoc_entry, str, str_of}
 pub use Rattle.cborn_edn.specs.devices.Shows.{IsOpenAt, Shows, content_state, entries_at, fields_state, piece_of}
 pub use Rattle.cborn_edn.specs.devices.Steps.{EndsPieces, IsReady, MayEnd, Ready, Taken, Takes, Turned, Turns, ends_map, has_chunks, is_array, is_embedded, is_key, is_piece, is_row, is_tag, is_value, takes_no_piece}

@@ -70,8 +70,8 @@
 //!   `endings`, `containers`, `strings` and `numbers` change what is kept, and hand over. `meaning_errors`
 //!   keeps the first meaning error, and `refusals` reports syntax errors.
 //! - `white_space`, `marks`, `integers`, `words` and `texts`: frequent tokens are found in a text
-//!   without the lexer. `quick` takes them at once, and leaves all others to `tokens` and `steps`.
-//!   It is for speed alone.
+//!   without the lexer. `quick`, `quick_items` and `quick_ends` take them at once, and leave all
+//!   others to `tokens` and `steps`. They are for speed alone.
 //! - `readers`: a visitor builds nodes of what it is handed.
 //! - `notators`, `showing`, `shown_bytes` and `writing`: nodes become text, if each text string is
 //!   UTF-8.
@@ -95,6 +95,8 @@ mod notators;
 mod numbers;
 mod passes;
 mod quick;
+mod quick_ends;
+mod quick_items;
 mod readers;
 mod refusals;
 mod showing;

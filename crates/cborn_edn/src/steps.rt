@@ -1,7 +1,7 @@
 //! The grammar: what each token does in each phase. Each function answers whether the grammar has
 //! such a token there.
 
-ghost use Rattle.std.specs.Prelude.{◌≡◌, ℕ, ◌<◌, ◌^◌, Bool, false, List, IfOk};
+ghost use Rattle.std.specs.Prelude.{◌≡◌, ℕ, ◌<◌, ◌^◌, Bool, List, IfOk};
 ghost use Rattle.cborn_edn.specs.devices.Syntax.{Span as Place, Item, Pieces as Joined, StringsBefore};
 ghost use Rattle.cborn_edn.specs.devices.Machine.{Stack, Home, as_chunk, State, wants, has, builds, wants_chunk, wants_number, has_number};
 ghost use Rattle.cborn_lex.specs.declared.classes.Mark.{Mark as Indicator};
@@ -135,8 +135,7 @@ fn begin<V: Visitor>(
 }
 
 /// Takes a token after an item.
-#[inline(always)]
-pub(crate) fn after<V: Visitor>(
+fn after<V: Visitor>(
     token: BareToken,
     number: u128,
     here: &mut Here,
@@ -145,8 +144,7 @@ pub(crate) fn after<V: Visitor>(
 ) -> Result<bool, AllocError>
     requires few { here.old.count < 2 ^ 63 }
     requires shows { (st : Stack) × (i : Item) × Reads (V.holds visitor.old) here.old writer.old writer.old.pieces.items (has st i) }
-    ensures taken { IfOk result (λ ok. (st : Stack) (i : Item) → Turns (V.holds visitor.old) (V.holds visitor.new) token.kind number token.start here.old writer.old here.new writer.new ok (has st i)) }
-    ensures kept { IfOk result (λ ok. ok ≡ false → (here.new ≡ here.old) × (writer.new ≡ writer.old) × (visitor.new ≡ visitor.old)) }
+    ensures { IfOk result (λ ok. (st : Stack) (i : Item) → Turns (V.holds visitor.old) (V.holds visitor.new) token.kind number token.start here.old writer.old here.new writer.new ok (has st i)) }
 {
     match token.kind {
         Kind::ArrayClose => end_array(here, writer, visitor),
@@ -221,8 +219,7 @@ fn after_pieces<V: Visitor>(
 }
 
 /// Ends a chunk, and takes the comma or the `)` after it.
-#[inline(always)]
-pub(crate) fn after_chunk<V: Visitor>(
+fn after_chunk<V: Visitor>(
     token: BareToken,
     number: u128,
     here: &mut Here,
@@ -230,8 +227,7 @@ pub(crate) fn after_chunk<V: Visitor>(
     visitor: &mut V,
 ) -> Result<bool, AllocError>
     requires { (st : Stack) × (s : Place) × (b : StringsBefore) × (ps : Joined) × Reads (V.holds visitor.old) here.old writer.old writer.old.pieces.items (builds (as_chunk st s b) ps) }
-    ensures taken { IfOk result (λ ok. (st : Stack) (s : Place) (b : StringsBefore) (ps : Joined) → EndsAt (V.holds visitor.old) (V.holds visitor.new) token.kind number token.start here.old writer.old here.new writer.new ok (as_chunk st s b) ps) }
-    ensures kept { IfOk result (λ ok. ok ≡ false → (here.new ≡ here.old) × (writer.new ≡ writer.old) × (visitor.new ≡ visitor.old)) }
+    ensures { IfOk result (λ ok. (st : Stack) (s : Place) (b : StringsBefore) (ps : Joined) → EndsAt (V.holds visitor.old) (V.holds visitor.new) token.kind number token.start here.old writer.old here.new writer.new ok (as_chunk st s b) ps) }
 {
     match token.kind {
         Kind::Comma => {

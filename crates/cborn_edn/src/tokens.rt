@@ -1,51 +1,13 @@
 //! What the next token of a text is, and how deep it goes.
 
-ghost use Rattle.std.specs.Prelude.{◌≡◌, ◌<◌, ◌+◌, ◌^◌, ℕ, List, length, IfSome};
+ghost use Rattle.std.specs.Prelude.{◌≡◌, ◌<◌, ◌^◌, ℕ, List};
 ghost use Rattle.cborn_lex.specs.Kinds.{class_of};
 ghost use Rattle.cborn_edn.specs.devices.Machine.{reach};
-ghost use Rattle.cborn_edn.specs.devices.Ahead.{IsEndAt};
 ghost use Rattle.cborn_edn.specs.devices.Reading as pure;
 
-use crate::marks::embed_end_at;
 use crate::numbers::is_small;
 use crate::states::Phase;
-use cborn_lex::{BareToken, Kind, Profile};
-
-/// The token at the offset `at` of `text` that may follow an item: a comma, a colon or a bracket that
-/// ends. `None` if there is another, or if an underscore follows a `>>` that begins no indicator.
-#[inline(always)]
-pub(crate) fn token_after(text: &[u8], at: usize) -> Option<BareToken>
-    requires { at < length text.now }
-    ensures { IfSome result (IsEndAt text.now at) }
-{
-    match text[at] {
-        b',' => Some(single(Kind::Comma, at)),
-        b':' => Some(single(Kind::Colon, at)),
-        b']' => Some(single(Kind::ArrayClose, at)),
-        b'}' => Some(single(Kind::MapClose, at)),
-        b')' => Some(single(Kind::ParenClose, at)),
-        b'>' => {
-            let (mark, stop) = embed_end_at(text, at)?;
-            let kind = Kind::EmbedClose(mark);
-            let start = at;
-            Some(BareToken { start, stop, kind })
-        }
-        _ => None,
-    }
-}
-
-/// A token of one character at the offset `at`.
-#[inline(always)]
-fn single(kind: Kind, at: usize) -> BareToken
-    requires { at < usize.MAX }
-    ensures { result ≡ record { start = at; stop = at + 1; kind = kind } }
-{
-    BareToken {
-        start: at,
-        stop: at + 1,
-        kind,
-    }
-}
+use cborn_lex::{Kind, Profile};
 
 /// Whether a token is a bracket that ends after a comma, which profile 1 doesn't allow.
 #[inline(always)]

@@ -1,5 +1,5 @@
 -- Tokens, white space and comments, from the characters at an offset of a text.
-use Rattle.cborn_edn.proofs.Common.{◌≡◌, refl, sym, ap, ◌∙◌, subst, ℕ, ◌+◌, ◌<◌, List, [], ◌∷◌, ◌++◌, length, take, drop, get_or, true, Some, None, arith, append_assoc, append-nil, drop-append_seam, drop-drop, drop_more, take-append-drop, length-take-le, list_all, and_parts, and_from, Profile, Class, Token, is_white, is_not, is_plain, Covers, TokensBetween, class_of, BareToken, Kind, IsTokenAt, IsEndAt, reach, EndsPieces}
+use Rattle.cborn_edn.proofs.Common.{◌≡◌, refl, sym, ap, ◌∙◌, subst, ℕ, ◌+◌, ◌<◌, List, [], ◌∷◌, ◌++◌, length, take, drop, get_or, true, Some, None, arith, append_assoc, append-nil, drop-append_seam, drop-drop, drop_more, take-append-drop, length-take-le, list_all, and_parts, and_from, Profile, Class, Token, is_white, is_not, is_plain, Covers, TokensBetween, IsTokenAt}
 use Rattle.std.proofs.Common.{length-append, length-drop}
 use Rattle.cborn_lex.specs.declared.classes.Profile.TheVariants.{Two}
 use Rattle.cborn_lex.specs.Good as good
@@ -40,9 +40,6 @@ begins_here text at c h e = drop_more text at 0 h ∙ ap (λ d. d ∷ drop (at +
 -- LAW: a token of one character
 pub single_here : (profile : Profile) (text : List ℕ) (at c : ℕ) (k : Class) → at < length text → get_or text at 0 ≡ c → ((z : List ℕ) → Takes profile (c ∷ []) z (Some k)) → IsTokenAt profile text at (at + 1) k
 single_here profile text at c k h e t = token_here profile text (c ∷ []) (drop (at + 1) text) at (at + 1) k (begins_here text at c h e) refl (t (drop (at + 1) text))
-
-pub end_here : {text : List ℕ} {at : ℕ} {t : BareToken} (c : ℕ) (kind : Kind) → t ≡ record { start = at; stop = at + 1; kind = kind } → at < length text → get_or text at 0 ≡ c → ((profile : Profile) (z : List ℕ) → Takes profile (c ∷ []) z (Some (class_of kind 0 []))) → ((l : ℕ) → reach l (class_of kind 0 []) ≡ 0) → EndsPieces (class_of kind 0 []) → IsEndAt text at t
-end_here {text = text} {at = at} c kind is h e takes flat ends = subst (λ (t : BareToken). IsEndAt text at t) (sym is) (record { start = refl; token = λ profile. single_here profile text at c (class_of kind 0 []) h e (takes profile); flat = flat; ends = ends })
 
 -- White space and comments.
 

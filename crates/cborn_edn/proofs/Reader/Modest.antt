@@ -1,6 +1,5 @@
 -- Tokens as a text has them, and heads that are bytes.
-use Rattle.cborn_edn.proofs.Common.{◌≡◌, refl, sym, subst, ℕ, ◌+◌, ◌*◌, ◌^◌, ◌<◌, ◌≤◌, List, [], ◌∷◌, ◌++◌, Bool, true, false, ltb, arith, ltb-true, ltb-false, le-ltb, AreBytes, Eight, Major, Unsigned, Negative, ByteString, TextString, Array, Other, code, holds, least, Given, head, Mark, Absent, Endless, Wide, Token, Class, Number, Word, Text, Bytes, IsModest, AreModest, IndicatorTooNarrow, width, width_errors}
-use Rattle.cborn_model.specs.declared.heads.Major.TheVariants.{Map as MapHead, Tag as TagHead}
+use Rattle.cborn_edn.proofs.Common.{◌≡◌, refl, sym, subst, ℕ, ◌+◌, ◌*◌, ◌^◌, ◌<◌, ◌≤◌, List, [], ◌∷◌, ◌++◌, Bool, true, false, ltb, arith, ltb-true, ltb-false, le-ltb, AreBytes, Eight, Major, Unsigned, code, holds, least, Given, head, Mark, Absent, Endless, Wide, Token, Class, Number, Word, Text, Bytes, IsModest, AreModest, IndicatorTooNarrow, width, width_errors}
 use Rattle.cborn_model.proofs.Numbers.OneHead.{least_holds}
 use Rattle.cborn_wire.proofs.Spelled.AllBytes.{head_bytes}
 use Rattle.cborn_lex.proofs.WholeTexts.Weights.{IsModest as IsModestThere, AreModest as AreModestThere}

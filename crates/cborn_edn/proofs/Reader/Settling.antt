@@ -1,7 +1,7 @@
 -- A string that no other piece follows is an item.
 use Rattle.cborn_edn.proofs.Common.{◌≡◌, refl, sym, ap, ◌∙◌, ℕ, List, [], ◌∷◌, ◌++◌, length, true, cond, leb, Option, Some, None, is_utf8-from_IsUtf8, IsUtf8, least, Absent, Profile, Token, MeaningError, unless, TextNotUtf8, first_error, reach, Span, span, Item, Pieces, piece, text, string, node, faults, NoPieceAt, noted_stack, Reached}
 use Rattle.cborn_model.specs.Tree.{Text as TextNode}
-use Rattle.cborn_edn.proofs.Grammar.Machine.{Stack, in_row, in_key, in_value, in_tag, at_top, in_array, in_embed, as_item, State, has, builds, step}
+use Rattle.cborn_edn.proofs.Grammar.Machine.{Stack, in_row, at_top, as_item, State, has, builds, step}
 use Rattle.cborn_edn.proofs.Grammar.Held.{levels, comma_at}
 use Rattle.cborn_edn.proofs.Grammar.Takes.{finish}
 use Rattle.cborn_edn.proofs.Grammar.Parser.{at_end, checked, forbids, parse}

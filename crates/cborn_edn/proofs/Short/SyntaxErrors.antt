@@ -1,5 +1,5 @@
 -- Tokens are a text of the relation exactly if they are those of a tree, with what it says. They have a tree, go on, and have a syntax error in both or in neither.
-use Rattle.cborn_edn.proofs.Common.{subst, ℕ, ◌≤◌, List, [], ◌∷◌, ◌++◌, length, inl, Trees, Token, Profile, Lex, EdnReason, UnexpectedToken, UnexpectedEnd, TooDeep, IndicatorTooNarrow, IndicatorNotAllowed, MixedString, MixedChunks, TextNotUtf8, BadSimple, TagTooLarge, MeaningError, Input, depth_of_input, Parse, IsText, IsNoNotation, Refused, nodes_of_input, faults_of_input, Parsed}
+use Rattle.cborn_edn.proofs.Common.{subst, ℕ, ◌≤◌, List, [], ◌∷◌, ◌++◌, length, inl, Trees, Token, Profile, Lex, EdnReason, UnexpectedToken, UnexpectedEnd, TooDeep, MeaningError, Input, depth_of_input, Parse, IsText, IsNoNotation, Refused, nodes_of_input, faults_of_input, Parsed}
 use Rattle.cborn_lex.proofs.GoodTexts.{has_tokens}
 use Rattle.cborn_edn.specs.devices.Parse as tree
 use Rattle.cborn_edn.specs.Faults.{HasTree, GoesOn, StopsAt, IsSyntaxError}

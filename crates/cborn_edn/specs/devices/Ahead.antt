@@ -5,23 +5,12 @@ use Rattle.cborn_lex.specs.declared.classes.Profile.{Profile}
 use Rattle.std.specs.Str.{IsUtf8}
 use Rattle.cborn_lex.specs.declared.classes.Class.{Class}
 use Rattle.cborn_lex.specs.declared.classes.Class.TheVariants.{Text}
-use Rattle.cborn_lex.specs.declared.classes.BareToken.{BareToken}
-use Rattle.cborn_lex.specs.Kinds.{class_of}
-use Rattle.cborn_edn.specs.devices.Levels.{reach}
-use Rattle.cborn_edn.specs.devices.Steps.{EndsPieces}
 use Rattle.cborn_lex.specs.declared.classes.Mark.TheVariants.{Absent}
 use Rattle.cborn_lex.specs.Good.{TokensBetween}
 
 -- there is a token of this class from the offset n up to m
 abbrev pub IsTokenAt : Profile → List ℕ → ℕ → ℕ → Class → Type 0
 IsTokenAt profile text n m k = TokensBetween profile text n m (record { start = n; stop = m; class = k } ∷ [])
-
--- At the offset n there is this token, which nothing is nested in. It has no number and no content.
-pub record IsEndAt (text : List ℕ) (n : ℕ) (t : BareToken) : Type 0 where
-  pub start : t.start ≡ n
-  pub token : (profile : Profile) → IsTokenAt profile text n t.stop (class_of t.kind 0 [])
-  pub flat : (l : ℕ) → reach l (class_of t.kind 0 []) ≡ 0
-  pub ends : EndsPieces (class_of t.kind 0 [])
 
 -- this character ends a string that it follows, since it begins no other piece
 abbrev pub ends_string : ℕ → Bool

@@ -21,7 +21,7 @@ returns g c = if_ok c.after.result _ _ (λ ok t h ps k x a p e none shows.
     let i = item_home h (ap has_chunks (sym shows.shows.chunks) ∙ sym c.has_chunks.ensures ∙ c.if-has_chunks.false) in
     let was = subst (λ (y : Home). Reads (g.V.Visitor.holds c.args.visitor.now) c.args.here.now c.args.writer.now c.args.writer.now.pieces.items (builds y ps)) (sym i.1) shows in
     subst (λ (y : Home). Taken (g.V.Visitor.holds c.after.new.visitor) ok (builds y ps) k a c.after.new.here c.after.new.writer) i.1
-    (taken_same (g.V.Visitor.holds c.after.new.visitor) ok (builds (as_item i.0) ps) (has i.0 (string ps)) k a c.after.new.here c.after.new.writer (ended_same i.0 ps k a none) (t i.0 (string ps) k x a p e (c.in_ok-end_item.ensures i.0 ps was)))) c.after.ensures.taken
+    (taken_same (g.V.Visitor.holds c.after.new.visitor) ok (builds (as_item i.0) ps) (has i.0 (string ps)) k a c.after.new.here c.after.new.writer (ended_same i.0 ps k a none) (t i.0 (string ps) k x a p e (c.in_ok-end_item.ensures i.0 ps was)))) c.after.ensures
 
 pub after_chunk-requires : goal.after_chunk-requires
 after_chunk-requires g c =

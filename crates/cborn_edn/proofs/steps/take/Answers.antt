@@ -72,7 +72,7 @@ returns-in-Has g c =
     if_ok c.after.result _ _ (λ ok t s base k a p r.
     let i = is_has s (sym r.shows.shows.phase ∙ c.in-Has.is) in
     let was = subst (λ (u : State). Ready (g.V.Visitor.holds c.args.visitor.now) c.args.token.kind c.args.number c.args.here.now c.args.writer.now u base k) (sym i.2) r in
-    subst (λ (u : State). Taken (g.V.Visitor.holds c.after.new.visitor) ok u k a c.after.new.here c.after.new.writer) i.2 (t i.0 i.1 k r.stands.content a p r.stands.class (shown_kind c.args.token.kind c.args.number c.args.here.now c.args.writer.now (has i.0 i.1) base k none was))) c.after.ensures.taken
+    subst (λ (u : State). Taken (g.V.Visitor.holds c.after.new.visitor) ok u k a c.after.new.here c.after.new.writer) i.2 (t i.0 i.1 k r.stands.content a p r.stands.class (shown_kind c.args.token.kind c.args.number c.args.here.now c.args.writer.now (has i.0 i.1) base k none was))) c.after.ensures
 
 pub returns-in-WantsNumber : goal.returns-in-WantsNumber
 returns-in-WantsNumber g c =
