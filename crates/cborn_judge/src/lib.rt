@@ -5,11 +5,11 @@
 //! deterministic encodings?* One visitor answers both, whatever the items are read from:
 //! [`Encoder`] takes them head by head, writes what they are encoded as, and keeps the first flaw
 //! and the first defect. `levels`, `pairs` and `marks` are what it keeps of open containers, `hints`
-//! are numbers by which most keys are compared, `openings` and `ends` say how containers open and end, and `spellings` has
-//! the defects of single heads. [`judge`] hands it a node, and builds the item of one that means
-//! something (`judgments`, `strings`, `bignums`); [`first_defect`] tells the first defect of a node
-//! (`checks`). A flaw is an [`InvalidReason`] at a place (`faults`), and a defect a [`DefectReason`]
-//! at one (`defects`).
+//! are numbers by which most keys are sorted, `openings` and `ends` say how containers open and end,
+//! and `spellings` has the defects of single heads. [`judge`] hands it a node, and builds the item of
+//! one that means something (`judgments`, `strings`, `bignums`); [`first_defect`] tells the first
+//! defect of a node (`checks`). A flaw is an [`InvalidReason`] at a place (`faults`), and a defect a
+//! [`DefectReason`] at one (`defects`).
 //!
 //! A reader of the definitions starts at `specs/Flaws.antt` (what is wrong with a node, and what
 //! comes first) and `specs/Defects.antt` (where a spelling departs from the deterministic
