@@ -50,7 +50,6 @@ pub use Rattle.cborn_model.specs.declared.heads.Width.{Width}
 pub use Rattle.cborn_model.specs.declared.nodes.Chunk.{Chunk}
 pub use Rattle.cborn_wire.specs.Faults.{Fault, IsWellformed, Refused}
 pub use Rattle.cborn_wire.specs.HeadReading.{ArgumentFits, IsHeadOf, ReadsHead, major_at, reason_alone, seen_argument}
-pub use Rattle.cborn_wire.specs.Parts.{Leaves, NodeRead, NodesRead, Pair, PairsRead, StringRead}
 pub use Rattle.cborn_wire.specs.Places.{all_from, chunks_from, entries_from, placed_from}
 pub use Rattle.cborn_wire.specs.declared.faults.WireFault.{WireFault}
 pub use Rattle.cborn_wire.specs.declared.faults.WireReason.{WireReason}
@@ -78,6 +77,5 @@ pub use Rattle.cborn_engine.specs.declared.stream_faults.InputFault.{InputFault}
 pub use Rattle.cborn_engine.specs.devices.Counting.{read_failures}
 pub use Rattle.cborn_engine.specs.devices.Counts.{EncodedWhole, ReadsCount, bytes_of, own_or}
 pub use Rattle.cborn_engine.specs.devices.Encoding.{AreJudged, EncodeAnswers, IsEncoded, IsFixedText, IsWrittenAs, kind_of}
-pub use Rattle.cborn_engine.specs.devices.Following.{BignumWalked, IsLast, IsLongMagnitude, ItemsFollow, ItemsLead, PairsFollow, PairsLead, Walks, WalksAfter}
 pub use Rattle.cborn_engine.specs.devices.Malformed.{IsRefusedHeld, IsUnshownHeld, IsWireFault}
-pub use Rattle.cborn_engine.specs.devices.Walking.{AreDeterministic, AreEncodedAs, ArePairsEncodedAs, ContentWalked, HasNoLeaf, HasNoLeastHead, IsDeterministic, IsEncodedAs, IsFallen, ItemWalked, ItemsWalked, LeastHeadRead, NoContent, WalkedAfter}
+pub use Rattle.cborn_engine.specs.devices.Walking.{ContentRead, IsLast, IsOwn, ItemsWalked, Leaves, LeastHeadRead, MagnitudeRead, PairsWalked, Walked, Walks, WalksAfter}

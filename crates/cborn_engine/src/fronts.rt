@@ -1,50 +1,34 @@
 //! Bytes that are their own deterministic encodings (RFC 8949 section 4.2), walked over in place:
 //! nothing is written, and nothing is kept but the key before.
 
-ghost use Rattle.std.specs.Prelude.{◌≡◌, ◌≤◌, ◌++◌, ℕ, List, None, length, false, IsTrue, IfSome};
+ghost use Rattle.std.specs.Prelude.{◌≡◌, ◌≤◌, ◌++◌, IsTrue, length};
 ghost use Rattle.cborn_model.specs.declared.heads.Major.TheVariants.{Array, Map, Tag};
 ghost use Rattle.cborn_det.specs.shared.KeyBefore.{Below};
 ghost use Rattle.cborn_engine.specs.declared.kinds.Kind.TheVariants as kinds;
 ghost use Rattle.cborn_engine.specs.devices.Encoding.{IsEncoded};
-ghost use Rattle.cborn_engine.specs.devices.Following.{IsLast, Walks, WalksAfter};
-ghost use Rattle.cborn_engine.specs.devices.Walking.{IsFallen, ItemWalked};
+ghost use Rattle.cborn_engine.specs.devices.Walking.{IsLast, Walks, WalksAfter};
 
-use crate::walked_bignums::walk_bignum;
-use crate::walked_leaves::{read_least, walk_leaf};
+use crate::walked_leaves::{read_least, walk_leaf, walk_magnitude};
 use cborn_model::{KeyOrder, Limit, Major};
 use cborn_wire::int_len;
 
-/// Whether the bytes are the deterministic encodings of items, one after another, none deeper than
-/// `limit`, the keys of maps in the order `O` (RFC 8949 section 4.2).
+/// Whether the bytes are seen to be the deterministic encodings of items, one after another, none
+/// deeper than `limit`, the keys of maps in the order `O` (RFC 8949 section 4.2). It is a quick way:
+/// no clause says when it is true.
 ///
 /// The bytes are walked over once, in place, up to the first item that isn't. No memory is taken.
 pub fn is_deterministic<O: KeyOrder>(limit: Limit, bytes: &[u8]) -> bool
-    ensures own { IsTrue result → IsEncoded O.order kinds.Wire limit bytes.now bytes.now }
-    ensures all { IsEncoded O.order kinds.Wire limit bytes.now bytes.now → IsTrue result }
+    ensures { IsTrue result → IsEncoded O.order kinds.Wire limit bytes.now bytes.now }
 {
     let room = limit.get();
     let mut rest = bytes;
     'items: while !rest.is_empty() {
-        let Some((_, after)) = split_item::<O>(room, rest) else {
+        let Some(after) = walk_item::<O>(room, rest) else {
             return false;
         };
-        rest = after;
+        rest = last(rest, after);
     }
     true
-}
-
-/// The item at the front of the bytes, which is its own deterministic encoding, no deeper than
-/// `room`, the keys of maps in the order `O` (RFC 8949 section 4.2); and what follows it, which
-/// isn't looked at. None: no such encoding is there. No memory is taken.
-#[inline(always)]
-pub fn split_item<O: KeyOrder>(room: u64, bytes: &[u8]) -> Option<(&[u8], &[u8])>
-    requires { room ≤ 1024 }
-    ensures parts { IfSome result (λ r. bytes.now ≡ r.0.now ++ r.1.now) }
-    ensures item { IfSome result (λ r. ItemWalked O.order room bytes.now r.1.now) }
-    ensures none { result ≡ None → (rest : List ℕ) → ItemWalked O.order room bytes.now rest → ⊥ }
-{
-    let after = walk_item::<O>(room, bytes)?;
-    Some(split_before(bytes, after))
 }
 
 /// How many bytes follow the item at the front, which is its own encoding, no deeper than `room`. None:
@@ -133,7 +117,7 @@ fn walk_tagged<O: KeyOrder>(room: u64, n: u64, bytes: &[u8]) -> Option<usize>
         return None;
     }
     if n == 2 || n == 3 {
-        return walk_bignum(bytes);
+        return walk_magnitude(bytes);
     }
     walk_item::<O>(room - 1, bytes)
 }
@@ -161,8 +145,7 @@ fn split_before(bytes: &[u8], len: usize) -> (&[u8], &[u8])
 /// none is before it. Takes no memory.
 #[inline(always)]
 fn rises_above<O: KeyOrder>(before: Option<&[u8]>, key: &[u8]) -> bool
-    ensures rises { IsTrue result → Below O.order before.entry key.now }
-    ensures falls { result ≡ false → IsFallen O.order before.entry key.now }
+    ensures { IsTrue result → Below O.order before.entry key.now }
 {
     match before {
         Some(before) => O::compare(before, key).is_lt(),

@@ -56,7 +56,6 @@ mod slices;
 mod sources;
 mod stream_faults;
 mod texts;
-mod walked_bignums;
 mod walked_leaves;
 mod whole_inputs;
 

@@ -1,11 +1,11 @@
 //! Heads and items without children, read in place: nothing is written.
 
-ghost use Rattle.std.specs.Prelude.{◌≡◌, ◌⊎◌, ◌↔◌, ℕ, List, None, IsTrue, IsUtf8, IfSome};
+ghost use Rattle.std.specs.Prelude.{◌≡◌, ◌⊎◌, ℕ, List, IfSome};
 ghost use Rattle.std.specs.declared.cmp.Ordering.{Ordering};
 ghost use Rattle.cborn_model.specs.declared.heads.Major.TheVariants.{ByteString, TextString};
-ghost use Rattle.cborn_wire.specs.Parts.{Leaves};
-ghost use Rattle.cborn_engine.specs.devices.Walking.{HasNoLeaf, HasNoLeastHead, LeastHeadRead, ContentWalked, NoContent, WalkedAfter};
+ghost use Rattle.cborn_engine.specs.devices.Walking.{LeastHeadRead, ContentRead, MagnitudeRead, Leaves, WalksAfter};
 
+use cborn_judge::{is_loose, is_text};
 use cborn_model::{Major, is_simple_value, shortest};
 use cborn_wire::{Argument, HeadRead, read_head};
 
@@ -13,9 +13,8 @@ use cborn_wire::{Argument, HeadRead, read_head};
 /// that argument (RFC 8949 section 4.2.1), and what follows it. None where no such head is there. Takes
 /// no memory.
 #[inline(always)]
-pub fn read_least(bytes: &[u8]) -> Option<(Major, u64, &[u8])>
-    ensures read { IfSome result (λ r. LeastHeadRead r.0 r.1 bytes.now r.2.now) }
-    ensures none { result ≡ None → HasNoLeastHead bytes.now }
+pub(crate) fn read_least(bytes: &[u8]) -> Option<(Major, u64, &[u8])>
+    ensures { IfSome result (λ r. LeastHeadRead r.0 r.1 bytes.now r.2.now) }
 {
     let HeadRead::Full(head, len) = read_head(bytes) else {
         return None;
@@ -32,11 +31,9 @@ pub fn read_least(bytes: &[u8]) -> Option<(Major, u64, &[u8])>
 /// How many bytes follow the item without children of which the shortest head was read, of this major
 /// type with the argument `n`: `bytes` is what follows that head. The item is its own deterministic
 /// encoding (RFC 8949 section 4.2). None where no such item is there, and for an array, a map or a tag.
-/// Takes no memory.
 #[inline(always)]
-pub fn walk_leaf(major: Major, n: u64, bytes: &[u8]) -> Option<usize>
-    ensures walked { IfSome result (λ left. (order : List ℕ → List ℕ → Ordering) (room : ℕ) → Leaves (WalkedAfter order room major n bytes.now) left) }
-    ensures none { result ≡ None → HasNoLeaf major n bytes.now }
+pub(crate) fn walk_leaf(major: Major, n: u64, bytes: &[u8]) -> Option<usize>
+    ensures { (order : List ℕ → List ℕ → Ordering) (room : ℕ) → WalksAfter order room major n bytes.now result }
 {
     match major {
         Major::Unsigned => Some(bytes.len()),
@@ -58,8 +55,7 @@ pub fn walk_leaf(major: Major, n: u64, bytes: &[u8]) -> Option<usize>
 #[inline(always)]
 fn walk_content(major: Major, n: u64, bytes: &[u8]) -> Option<usize>
     requires { (major ≡ ByteString) ⊎ (major ≡ TextString) }
-    ensures walked { IfSome result (Leaves (ContentWalked major n bytes.now)) }
-    ensures none { result ≡ None → NoContent major n bytes.now }
+    ensures { IfSome result (Leaves (ContentRead major n bytes.now)) }
 {
     if n > bytes.len() as u64 {
         return None;
@@ -71,10 +67,19 @@ fn walk_content(major: Major, n: u64, bytes: &[u8]) -> Option<usize>
     Some(rest.len())
 }
 
-/// Whether the bytes are UTF-8.
-#[inline]
-fn is_text(bytes: &[u8]) -> bool
-    ensures { IsTrue result ↔ IsUtf8 bytes.now }
+/// How many bytes follow the byte string of a bignum, which has the shortest head, and whose integer
+/// has no shorter encoding (RFC 8949 section 3.4.3). None where no such byte string is there.
+#[inline(never)]
+pub(crate) fn walk_magnitude(bytes: &[u8]) -> Option<usize>
+    ensures { IfSome result (Leaves (MagnitudeRead bytes.now)) }
 {
-    bytes.is_ascii() || simdutf8::is_utf8(bytes)
+    let (major, n, rest) = read_least(bytes)?;
+    if major != Major::ByteString || n > rest.len() as u64 {
+        return None;
+    }
+    let (content, after) = rest.split_at(n as usize);
+    if is_loose(content) {
+        return None;
+    }
+    Some(after.len())
 }

@@ -1,3 +1,4 @@
 pub mod Checked
 pub mod Judged
 pub mod Repeats
+pub mod Tidy

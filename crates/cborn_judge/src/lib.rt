@@ -41,4 +41,5 @@ pub use defects::{Defect, DefectReason};
 pub use encoders::{EncodedItems, Encoder};
 pub use faults::{Invalid, InvalidReason};
 pub use judgments::{judge, judge_all};
-pub use spellings::{head_defect, loose_defect, order_defect};
+pub use spellings::{head_defect, is_loose, loose_defect, order_defect};
+pub use strings::is_text;

@@ -52,9 +52,10 @@ pub fn loose_defect(place: u64, bytes: &[u8]) -> Option<Defect>
     None
 }
 
-/// Whether these bytes begin with 0 or are at most eight.
+/// Whether the bytes of a bignum begin with 0 or are at most eight: then its integer has a shorter
+/// encoding (RFC 8949 section 3.4.3).
 #[inline]
-fn is_loose(bytes: &[u8]) -> bool
+pub fn is_loose(bytes: &[u8]) -> bool
     ensures { IsTrue result ↔ IsLoose bytes.now }
 {
     bytes.len() <= 8 || bytes[0] == 0

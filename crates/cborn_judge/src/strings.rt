@@ -79,7 +79,7 @@ pub(crate) fn is_content(kind: StringKind, bytes: &[u8]) -> bool
 
 /// Whether bytes are UTF-8. Most texts are short and ASCII, which is quicker to see.
 #[inline(always)]
-pub(crate) fn is_text(bytes: &[u8]) -> bool
+pub fn is_text(bytes: &[u8]) -> bool
     ensures { IsTrue result ↔ IsUtf8 bytes.now }
 {
     bytes.is_ascii() || is_wide_text(bytes)

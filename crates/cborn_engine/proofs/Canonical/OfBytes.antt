@@ -1,17 +1,26 @@
 -- Bytes hold one list of items, and each encoding of them holds the same items.
-use Rattle.cborn_engine.proofs.Common.{◌≡◌, ◌≤◌, ◌↔◌, ℕ, max, List, [], ◌∷◌, ◌++◌, length, append-nil, refl, sym, ap, ◌∙◌, subst, arith, Ordering, AllZip, IsKeyOrder, Trees, no_item, more, trees, depth_all, Wellformed, FitsAll, spelled_all, Value, Values, no_values, value, values_of, Same, SameValues, Means, AllMean, DetSeq, DetValues, NodesRead, AreEncodedAs, Kind, IsCanonical, Holds, IsEncoded, IsWrittenAs}
+use Rattle.cborn_engine.proofs.Common.{◌≡◌, ◌≤◌, ◌↔◌, ℕ, max, List, [], ◌∷◌, ◌++◌, length, append-nil, refl, sym, ap, ◌∙◌, subst, arith, Ordering, AllZip, IsKeyOrder, Tree, Trees, no_item, more, trees, depth_all, Wellformed, FitsAll, spelled_all, Value, Values, no_values, value, values_of, Same, SameValues, Means, AllMean, DetSeq, DetValues, Kind, IsCanonical, Holds, IsEncoded, IsWrittenAs}
 use Rattle.cborn_det.proofs.Canon.{seq_of_one, one_of_seq}
-use Rattle.cborn_det.proofs.Steps.{values_of_seq, seq_of_values}
-use Rattle.cborn_wire.proofs.Spelled.TreeLists.{tree_list, trees-tree_list}
-use Rattle.cborn_wire.proofs.Parts.Nodes.{nodes_more, wellformed}
+use Rattle.cborn_det.proofs.Steps.{values_of_seq, seq_of_values, seq_append}
+use Rattle.cborn_wire.proofs.Spelled.TreeLists.{tree_list, trees-tree_list, trees-append, spelled_all-append}
 use Rattle.cborn_model.proofs.Listed.Meanings.{all_mean, zip_mean}
-use Rattle.cborn_engine.proofs.Walks.Lists.{both_encoded}
+use Rattle.cborn_judge.proofs.Loops.Passing.{zip_append}
 use Rattle.cborn_engine.specs.declared.kinds.Kind.TheVariants as kind
 use Rattle.cborn_engine.specs.Bytes.{BytesHold}
 use Rattle.cborn_engine.proofs.Canonical.Canonicity.{same_encoded}
 use Rattle.cborn_engine.proofs.Canonical.Proper.{sequence_proper, sequence_shallow}
 use Rattle.cborn_engine.proofs.Held.Meant.{AreSound, holds_once, all_turned}
 use Rattle.cborn_engine.proofs.Held.ReadsBack.{sequence_back}
+
+-- ---- nodes after others
+
+fits_append : (ts us : List Tree) → FitsAll (trees ts) → FitsAll (trees us) → FitsAll (trees (ts ++ us))
+fits_append [] us f g = g
+fits_append (t ∷ ts) us f g = (f.0, fits_append ts us f.1 g)
+
+depth_append : (ts us : List Tree) (d : ℕ) → depth_all (trees ts) ≤ d → depth_all (trees us) ≤ d → depth_all (trees (ts ++ us)) ≤ d
+depth_append [] us d f g = g
+depth_append (t ∷ ts) us d f g = omega (arith, depth_append ts us d (omega (arith, f)) g, f)
 
 -- ---- lists, as the contents of an array
 
@@ -116,19 +125,22 @@ module _ (order : List ℕ → List ℕ → Ordering) where
 
   -- ---- one input after another
 
-  as_read : (limit : ℕ) (x z v : List ℕ) → (a : IsCanonical order kind.Wire kind.Wire limit x v) → NodesRead (λ ts. AreEncodedAs order ts v) limit (length a.held.nodes) (x ++ z) z
-  as_read limit x z v a = record {
-    nodes = a.held.nodes;
-    read = ap (λ l. l ++ z) (sym a.held.spelled.spells);
-    fits = a.held.spelled.fit;
-    shallow = a.held.spelled.shallow;
-    holds = (a.items, a.held.meant, a.written);
-    count = refl;
-  }
-
   pub joined : (limit : ℕ) (x y v w : List ℕ) → IsCanonical order kind.Wire kind.Wire limit x v → IsCanonical order kind.Wire kind.Wire limit y w → IsCanonical order kind.Wire kind.Wire limit (x ++ y) (v ++ w)
   joined limit x y v w a b =
-      let first = as_read limit x y v a in
-      let last = subst (λ (z : List ℕ). NodesRead (λ ts. AreEncodedAs order ts w) limit (length b.held.nodes) z []) (append-nil y) (as_read limit y [] w b) in
-      let all : NodesRead (λ ts. AreEncodedAs order ts (v ++ w)) limit _ (x ++ y) [] = nodes_more first last (both_encoded order first.nodes last.nodes v w first.holds last.holds) in
-      record { items = all.holds.0; held = record { nodes = all.nodes; spelled = wellformed all refl; meant = all.holds.1 }; written = all.holds.2 }
+      let ts = a.held.nodes in
+      let us = b.held.nodes in
+      let first = a.held.spelled in
+      let last = b.held.spelled in
+      record {
+        items = a.items ++ b.items;
+        held = record {
+          nodes = ts ++ us;
+          spelled = record {
+            spells = ap spelled_all (trees-append ts us) ∙ spelled_all-append (trees ts) (trees us) ∙ (λ i. first.spells i ++ last.spells i);
+            fit = fits_append ts us first.fit last.fit;
+            shallow = depth_append ts us limit first.shallow last.shallow;
+          };
+          meant = zip_append Means ts a.items us b.items a.held.meant b.held.meant;
+        };
+        written = seq_append order a.items b.items v w a.written b.written;
+      }

@@ -1,51 +1,140 @@
--- Items that are their own encodings.
-use Rattle.cborn_engine.proofs.Common.{◌≡◌, ℕ, ◌+◌, List, [], ◌∷◌, ◌++◌, take, drop, refl, sym, ap, ◌∙◌, subst, append-nil, Ordering, IsTrue, take-append-drop, Unsigned, Negative, ByteString, TextString, Other, Given, head, WidthFits, least, is_simple_value, spelled, spelled_all, Fits, Tree, Uint, Nint, trees, bytes, text, simple, AreEncodedAs, ContentWalked, ItemWalked, ItemsWalked, WalkedAfter}
-use Rattle.std.proofs.lemmas.List.Concat.{flat_map-append}
+-- Items that are spelled as their deterministic encodings, and sequences, arrays and tags of them.
+use Rattle.cborn_engine.proofs.Common.{◌≡◌, ◌≢◌, ℕ, ◌+◌, ◌-◌, ◌≤◌, ◌⊎◌, inl, inr, Bool, true, false, List, [], ◌∷◌, ◌++◌, length, take, drop, Option, Some, refl, sym, ap, ◌∙◌, subst, arith, append_assoc, append-nil, length-append, take-append-drop, Ordering, AllZip, AllByRecursion, IsTrue, Major, Unsigned, Negative, ByteString, TextString, Array, Tag, Other, Fixed, Width, AreBytes, big_endian, Given, head, WidthFits, least, is_simple_value, IsBignum, Means, AllMean, spelled, spelled_all, string, Fits, FitsAll, Wellformed, Tree, Uint, Nint, Bytes, Text, Items, Tagged, Simple, trees, integer_tree, count, depth_all, Value, Values, integer, bytes, text, array, tagged, simple, no_values, value, DetSeq, IsLoose, AllTidy, IsEncoded, IsLast, LeastHeadRead, ContentRead, MagnitudeRead, Leaves, IsOwn, Walked, ItemsWalked, Walks, WalksAfter}
+use Rattle.cborn_model.proofs.Listed.Trees.{count-trees}
+use Rattle.cborn_model.proofs.Numbers.OneHead.{append_same}
+use Rattle.cborn_model.proofs.Numbers.SomeMagnitude.{magnitude_of}
 use Rattle.cborn_model.specs.shared.Runs.{IsInteger, HasShortHead, IsShortLeaf}
-use Rattle.cborn_model.proofs.Listed.Trees.{spelled_all-trees}
-use Rattle.cborn_wire.specs.declared.heads.Argument.TheVariants as arguments
-use Rattle.cborn_wire.proofs.Parts.Nodes.{uint_read, nint_read, simple_read, no_node, node_more}
-use Rattle.cborn_wire.proofs.Parts.Strings.{bytes_read, text_read}
-use Rattle.cborn_engine.proofs.Walks.Codes.{least_string, uint_encoded, nint_encoded}
-use Rattle.cborn_engine.proofs.Walks.Lists.{more_encoded}
+use Rattle.cborn_judge.proofs.Encoded.Tidying.{tidy_det, not_loose}
+use Rattle.cborn_judge.proofs.Encoding.PairsHinted.{all_more}
+use Rattle.cborn_wire.proofs.Parts.Heads.{fixed_split}
+use Rattle.cborn_wire.proofs.Standing.{nodes_put}
+use Rattle.cborn_engine.specs.declared.kinds.Kind.TheVariants as kind
 
--- ---- heads
+pub nothing : (x : List ℕ) → length x ≡ 0 → x ≡ []
+nothing [] e = refl
+nothing (c ∷ x) e = absurd (omega (arith, e))
+
+-- the end of the input that has this length
+same_end : (front x back rest : List ℕ) → front ++ x ≡ back ++ rest → length x ≡ length rest → x ≡ rest
+same_end front x back rest e l = (append_same front back x rest (omega (arith, l, ap length e, length-append front x, length-append back rest)) e).1
+
+-- a string that is read, as it is spelled
+framed : (m : Major) {n : ℕ} {input rest : List ℕ} (c : ContentRead m n input rest) → head m (Given (least n) n) ++ input ≡ string m (least (length c.content)) c.content ++ rest
+framed m {rest = rest} c =
+    let front : List ℕ = head m (Given (least (length c.content)) (length c.content)) in
+    (λ i. head m (Given (least (sym c.len i)) (sym c.len i)) ++ c.read i) ∙ sym (append_assoc front c.content rest)
 
 module _ (order : List ℕ → List ℕ → Ordering) {room : ℕ} where
   -- ---- items without children
 
-  pub uint_walked : (n : ℕ) (rest : List ℕ) → WalkedAfter order room Unsigned n rest rest
-  uint_walked n rest h = uint_read 0 (least n) n h (uint_encoded order (least n) n (head Unsigned (Given (least n) n)) h (h, refl))
+  number_own : (negative : Bool) (p : ℕ) (w : Width) (n : ℕ) → WidthFits w n → w ≡ least n → IsOwn order room (integer_tree p negative w n)
+  number_own false p w n h s = let m = magnitude_of n in record { fits = h; shallow = omega arith; tidy = s; value = integer false m.0; means = (m.0, m.1, m.2, m.3, refl) }
+  number_own true p w n h s = let m = magnitude_of n in record { fits = h; shallow = omega arith; tidy = s; value = integer true m.0; means = (m.0, m.1, m.2, m.3, refl) }
 
-  pub nint_walked : (n : ℕ) (rest : List ℕ) → WalkedAfter order room Negative n rest rest
-  nint_walked n rest h = nint_read 0 (least n) n h (nint_encoded order (least n) n (head Negative (Given (least n) n)) h (h, refl))
+  pub uint_walked : (n : ℕ) (rest : List ℕ) → WalksAfter order room Unsigned n rest (Some (length rest))
+  uint_walked n rest h = (rest, refl, Uint 0 (least n) n, refl, number_own false 0 (least n) n h refl)
 
-  pub bytes_walked : (n : ℕ) (input rest : List ℕ) → ContentWalked ByteString n input rest → WalkedAfter order room ByteString n input rest
-  bytes_walked n input rest s h = bytes_read 0 (least n) h s.1 (bytes s.0, refl, least_string ByteString n s.0 h s.1.len)
+  pub nint_walked : (n : ℕ) (rest : List ℕ) → WalksAfter order room Negative n rest (Some (length rest))
+  nint_walked n rest h = (rest, refl, Nint 0 (least n) n, refl, number_own true 0 (least n) n h refl)
 
-  pub text_walked : (n : ℕ) (input rest : List ℕ) → ContentWalked TextString n input rest → WalkedAfter order room TextString n input rest
-  text_walked n input rest s h = text_read 0 (least n) h s.1 (text s.0, (s.2 refl, refl), least_string TextString n s.0 h s.1.len)
+  bytes_own : {n : ℕ} {input rest : List ℕ} (c : ContentRead ByteString n input rest) → WidthFits (least n) n → IsOwn order room (Bytes 0 (least (length c.content)) c.content)
+  bytes_own c h = record { fits = (subst (λ k. WidthFits (least k) k) (sym c.len) h, c.bytes); shallow = omega arith; tidy = refl; value = bytes c.content; means = refl }
 
-  pub simple_walked : (n : ℕ) (rest : List ℕ) → IsTrue (is_simple_value n) → WalkedAfter order room Other n rest rest
-  simple_walked n rest s h = simple_read 0 (arguments.Given (least n) n) (n, refl, s) (simple n, refl, (s, (h, refl)))
+  text_own : {n : ℕ} {input rest : List ℕ} (c : ContentRead TextString n input rest) → WidthFits (least n) n → IsOwn order room (Text 0 (least (length c.content)) c.content)
+  text_own c h = record { fits = (subst (λ k. WidthFits (least k) k) (sym c.len) h, c.bytes); shallow = omega arith; tidy = refl; value = text c.content; means = (c.text refl, refl) }
+
+  pub bytes_walked : (n left : ℕ) (input : List ℕ) → Leaves (ContentRead ByteString n input) left → WalksAfter order room ByteString n input (Some left)
+  bytes_walked n left input (rest, e, c) h = (rest, e, Bytes 0 (least (length c.content)) c.content, framed ByteString c, bytes_own c h)
+
+  pub text_walked : (n left : ℕ) (input : List ℕ) → Leaves (ContentRead TextString n input) left → WalksAfter order room TextString n input (Some left)
+  text_walked n left input (rest, e, c) h = (rest, e, Text 0 (least (length c.content)) c.content, framed TextString c, text_own c h)
+
+  pub simple_walked : (n : ℕ) (rest : List ℕ) → IsTrue (is_simple_value n) → WalksAfter order room Other n rest (Some (length rest))
+  simple_walked n rest s h = (rest, refl, Simple 0 n, refl, record { fits = s; shallow = omega arith; tidy = tt; value = simple n; means = refl })
 
   -- an integer with the shortest head
-  pub integer_walked : (x : List ℕ) (n place : ℕ) (t : Tree) → IsInteger t → IsShortLeaf place (take n x) t → ItemWalked order room x (drop n x)
-  integer_walked x n place t i s = subst (λ y. ItemWalked order room y (drop n x)) (ap (λ z. z ++ drop n x) s.spells ∙ take-append-drop n x) (from t i s.fits s.short)
+  pub integer_walked : (x : List ℕ) (n place : ℕ) (t : Tree) → IsInteger t → IsShortLeaf place (take n x) t → Walked order room x (drop n x)
+  integer_walked x n place t i s = (t, sym (ap (λ z. z ++ drop n x) s.spells ∙ take-append-drop n x), from t i s.fits s.short)
     where
-      from : (t : Tree) → IsInteger t → Fits t → HasShortHead t → ItemWalked order room (spelled t ++ drop n x) (drop n x)
-      from (Uint p w k) i f h = subst (λ v. WidthFits v k → ItemWalked order room (head Unsigned (Given v k) ++ drop n x) (drop n x)) (sym h) (uint_walked k (drop n x)) f
-      from (Nint p w k) i f h = subst (λ v. WidthFits v k → ItemWalked order room (head Negative (Given v k) ++ drop n x) (drop n x)) (sym h) (nint_walked k (drop n x)) f
+      from : (t : Tree) → IsInteger t → Fits t → HasShortHead t → IsOwn order room t
+      from (Uint p w k) i f h = number_own false p w k f h
+      from (Nint p w k) i f h = number_own true p w k f h
       from _ i f h = absurd i
 
--- ---- items one after another
+  pub item_last : {input x : List ℕ} {left : ℕ} → Leaves (Walked order room input) left → IsLast input left x → Walked order room input x
+  item_last {x = x} (rest, l, t, e, o) (front, f, m) = (t, e ∙ ap (λ z. spelled t ++ z) (same_end (spelled t) rest front x (sym e ∙ f) (l ∙ sym m)), o)
 
-module _ (order : List ℕ → List ℕ → Ordering) where
-  spelled_more : (ts : List Tree) (t : Tree) → spelled_all (trees (ts ++ t ∷ [])) ≡ spelled_all (trees ts) ++ spelled t
-  spelled_more ts t = spelled_all-trees (ts ++ t ∷ []) ∙ flat_map-append spelled ts (t ∷ []) ∙ (λ i. sym (spelled_all-trees ts) i ++ append-nil (spelled t) i)
+  -- ---- items one after another
 
-  pub items_none : (room : ℕ) (input : List ℕ) → ItemsWalked order room 0 input input
-  items_none room input = no_node ([], tt, refl)
+  pub items_none : (input : List ℕ) → ItemsWalked order room 0 input input
+  items_none input = record { nodes = []; read = refl; own = tt; count = refl }
 
-  pub items_more : {room n : ℕ} {input mid rest : List ℕ} → ItemsWalked order room n input mid → ItemWalked order room mid rest → ItemsWalked order room (n + 1) input rest
-  items_more s t = node_more s t (subst (AreEncodedAs order (s.nodes ++ t.node ∷ [])) (sym (spelled_more s.nodes t.node)) (more_encoded order s.nodes t.node (spelled_all (trees s.nodes)) (spelled t.node) s.holds t.holds))
+  pub items_more : {n : ℕ} {input mid rest : List ℕ} → ItemsWalked order room n input mid → Walked order room mid rest → ItemsWalked order room (n + 1) input rest
+  items_more {rest = rest} s (t, e, o) =
+      let front : List ℕ = spelled_all (trees s.nodes) in
+      record {
+        nodes = s.nodes ++ t ∷ [];
+        read = s.read ∙ ap (λ z. front ++ z) e ∙ sym (append_assoc front (spelled t) rest) ∙ ap (λ z. z ++ rest) (sym (nodes_put s.nodes t));
+        own = all_more (IsOwn order room) s.nodes t s.own o;
+        count = length-append s.nodes (t ∷ []) ∙ ap (λ k. k + 1) s.count;
+      }
+
+  record AllOwn (ts : List Tree) : Type 0 where
+    fits : FitsAll (trees ts)
+    shallow : depth_all (trees ts) ≤ room
+    tidy : AllTidy order (trees ts)
+    values : Values
+    mean : AllMean (trees ts) values
+
+  all_own : (ts : List Tree) → AllByRecursion (IsOwn order room) ts → AllOwn ts
+  all_own [] h = record { fits = tt; shallow = omega arith; tidy = tt; values = no_values; mean = tt }
+  all_own (t ∷ ts) (o, h) =
+      let r = all_own ts h in
+      record { fits = (o.fits, r.fits); shallow = omega (arith, o.shallow, r.shallow); tidy = (o.tidy, r.tidy); values = value o.value r.values; mean = (o.means, r.mean) }
+
+  own_encoded : (ts : List Tree) → AllByRecursion (IsOwn order room) ts → (vs : List Value) × AllZip Means ts vs × DetSeq order vs (spelled_all (trees ts))
+  own_encoded [] h = ([], tt, refl)
+  own_encoded (t ∷ ts) (o, h) =
+      let r = own_encoded ts h in
+      (o.value ∷ r.0, (o.means, r.1), (spelled t, spelled_all (trees ts), tidy_det order t o.value o.fits o.means o.tidy, r.2, refl))
+
+  -- bytes that are walked over to their end
+  pub walked_whole : {n : ℕ} {input rest : List ℕ} → ItemsWalked order room n input rest → length rest ≡ 0 → IsEncoded order kind.Wire room input input
+  walked_whole {input = input} {rest} s ended =
+      let front : List ℕ = spelled_all (trees s.nodes) in
+      let spells : front ≡ input = sym (s.read ∙ ap (λ z. front ++ z) (nothing rest ended) ∙ append-nil front) in
+      let a = all_own s.nodes s.own in
+      let e = own_encoded s.nodes s.own in
+      record { items = e.0; held = record { nodes = s.nodes; spelled = record { spells = spells; fit = a.fits; shallow = a.shallow }; meant = e.1 }; encoded = subst (DetSeq order e.0) spells e.2 }
+
+module _ (order : List ℕ → List ℕ → Ordering) {room : ℕ} (some : 1 ≤ room) (n : ℕ) where
+  -- ---- after the head of an array or a tag
+
+  pub array_walked : {input rest : List ℕ} → ItemsWalked order (room - 1) n input rest → WalksAfter order room Array n input (Some (length rest))
+  array_walked {rest = rest} s h =
+      let ts = trees s.nodes in
+      let c : count ts ≡ n = count-trees s.nodes ∙ s.count in
+      let a = all_own order s.nodes s.own in
+      (rest, refl, Items 0 (Fixed (least n)) ts, fixed_split Array (least n) (spelled_all ts) rest c s.read,
+      record { fits = (subst (WidthFits (least n)) (sym c) h, a.fits); shallow = omega (arith, some, a.shallow); tidy = (ap least (sym c), a.tidy); value = array a.values; means = (a.values, a.mean, refl) })
+
+  -- the content of a tag
+  tag_split : {input rest : List ℕ} (t : Tree) → input ≡ spelled t ++ rest → head Tag (Given (least n) n) ++ input ≡ spelled (Tagged 0 (least n) n t) ++ rest
+  tag_split {rest = rest} t e = let front : List ℕ = head Tag (Given (least n) n) in ap (λ z. front ++ z) e ∙ sym (append_assoc front (spelled t) rest)
+
+  pub tagged_walked : (input : List ℕ) (o : Option ℕ) → n ≢ 2 → n ≢ 3 → Walks order (room - 1) input o → WalksAfter order room Tag n input o
+  tagged_walked input None two three w h = tt
+  tagged_walked input (Some left) two three (rest, l, t, e, o) h =
+      (rest, l, Tagged 0 (least n) n t, tag_split t e,
+      record { fits = (h, o.fits); shallow = omega (arith, some, o.shallow); tidy = (refl, o.tidy, λ b tag i l. absurd (elim tag [ inl z ↦ two z | inr z ↦ three z ])); value = tagged n o.value; means = inr (inr (two, three, o.value, o.means, refl)) })
+
+  pub bignum_walked : (input : List ℕ) (o : Option ℕ) → (n ≡ 2) ⊎ (n ≡ 3) → IfSome o (Leaves (MagnitudeRead input)) → WalksAfter order room Tag n input o
+  bignum_walked input None tag w h = tt
+  bignum_walked input (Some left) tag (rest, l, m) h =
+      let b : List ℕ = m.goes.content in
+      let t : Tree = Bytes 0 (least (length b)) b in
+      let o = bytes_own order {room} m.goes m.begins.fits in
+      let number : (negative : Bool) → IsBignum negative t (integer negative b) = λ negative. (b, refl, b, m.goes.bytes, (not_loose b m.tight).shortest, refl, refl) in
+      let meant : (v : Value) × Means (Tagged 0 (least n) n t) v = elim tag [ inl e ↦ (integer false b, inl (e, number false)) | inr e ↦ (integer true b, inr (inl (e, number true))) ] in
+      (rest, l, Tagged 0 (least n) n t, tag_split t (m.begins.read ∙ framed ByteString m.goes),
+      record { fits = (h, o.fits); shallow = omega (arith, some); tidy = (refl, refl, λ c tag i l. m.tight (subst IsLoose i l)); value = meant.0; means = meant.1 })

@@ -1,6 +1,6 @@
 -- A node that means an item has no defect exactly if it spells the item's encoding.
 use Rattle.cborn_judge.proofs.Common.{◌≡◌, ◌≢◌, ℕ, ◌⊎◌, inl, inr, List, [], ◌∷◌, length, refl, sym, ap, ◌∙◌, subst, Ordering, Less, Equal, Greater, Within, WithinAll, WithinEntries, IsLong, SizeDefect, NotAbove, Descends, HasDescent, DefectAt, Defect, SequenceDefect, DefectReason, LongHead, EndlessLength, LooseBignum, KeyOrder, Value, Values, Couples, no_values, value, no_pairs, pair, IsProper, AreProper, Width, Direct, One, Two, Four, Eight, least, Det, DetValues, keys, IsKeyOrder, Rising, Size, Tree, Uint, Nint, Bytes, Text, ByteChunks, TextChunks, Items, Pairs, Tagged, Simple, Trees, no_item, more, Entries, no_entry, entry, count, count_entries, place, Fixed, Endless, spelled, spelled_all, Fits, FitsAll, FitsEntries, Means, AllMean, EntriesMean}
-use Rattle.cborn_judge.proofs.Encoded.Tidy.{spelled_pairs, SizeIsTidy, IsTidy, AllTidy, EntriesTidy}
+use Rattle.cborn_judge.specs.shared.Tidy.{spelled_pairs, SizeIsTidy, IsTidy, AllTidy, EntriesTidy}
 use Rattle.cborn_det.proofs.Canon.{one_of_same}
 use Rattle.cborn_model.proofs.SameItems.Sameness.{same_itself}
 use Rattle.cborn_det.proofs.Room.{counted}

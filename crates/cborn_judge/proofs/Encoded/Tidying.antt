@@ -1,6 +1,6 @@
 -- A tidy node spells the encoding of what it means, and what spells an encoding is tidy.
 use Rattle.cborn_judge.proofs.Common.{◌≡◌, ◌≢◌, ℕ, suc, ◌+◌, ◌*◌, ◌<◌, ◌≤◌, ◌^◌, ◌⊎◌, inl, inr, List, [], ◌∷◌, ◌++◌, length, refl, sym, ap, ◌∙◌, subst, arith, true, false, Bool, append_assoc, append-nil, Ordering, AllByRecursion, cases_lt, length_permutation, IsPermutation-refl, IsLoose, Value, Values, Couples, integer, bytes, text, array, dict, tagged, simple, no_values, value, no_pairs, pair, value_count, pair_count, big_endian, AreBytes, IsShortest, IsProper, AreProper, HasProperPairs, Width, Direct, One, Two, Four, Eight, Major, Unsigned, Negative, ByteString, TextString, Array, Map, Tag, Other, WidthFits, information, following, least, IsHead, IsLeastHead, Given, EndlessArgument, code, head, IsString, IsInteger, Det, DetValues, DetPairs, Entry, keys, joined, major_of, bignum_tag, Rising, Chunk, Tree, Uint, Nint, Bytes, Text, ByteChunks, TextChunks, Items, Pairs, Tagged, Simple, Trees, no_item, more, Entries, no_entry, entry, count, count_entries, Size, Fixed, Endless, SizeFits, ending, chunks, spelled, spelled_all, spelled_entries, Fits, FitsAll, FitsEntries, IsNumber, IsByteString, IsBignum, Means, AllMean, EntriesMean}
-use Rattle.cborn_judge.proofs.Encoded.Tidy.{spelled_pairs, SizeIsTidy, IsTidy, AllTidy, EntriesTidy}
+use Rattle.cborn_judge.specs.shared.Tidy.{spelled_pairs, SizeIsTidy, IsTidy, AllTidy, EntriesTidy}
 use Rattle.cborn_model.proofs.Numbers.OneHead.{one_head, append_same}
 use Rattle.cborn_model.proofs.Numbers.Simples.{simple_fits}
 use Rattle.cborn_model.proofs.SameItems.Rearranging.{All_moved}
@@ -22,11 +22,11 @@ is_least_head m w n k h e i =
     subst (λ z. IsHead (code m) (least z) z (head m (Given w n))) (sym i) a
 
 -- what isn't loose is a magnitude above 64 bits
-record Wide (b : List ℕ) : Type 0 where
-  shortest : IsShortest b
-  large : 2 ^ 64 ≤ big_endian b
+pub record Wide (b : List ℕ) : Type 0 where
+  pub shortest : IsShortest b
+  pub large : 2 ^ 64 ≤ big_endian b
 
-not_loose : (b : List ℕ) → (IsLoose b → ⊥) → Wide b
+pub not_loose : (b : List ℕ) → (IsLoose b → ⊥) → Wide b
 not_loose [] h = absurd (h tt)
 not_loose (c ∷ bs) h =
     let s : 0 < c = elim (cases_lt 0 c) [ inl k ↦ k | inr k ↦ absurd (h (inl (omega arith))) ] in
@@ -88,7 +88,7 @@ module _ (order : List ℕ → List ℕ → Ordering) where
     all_det (more t ts) no_values f h d = absurd h
     all_det (more t ts) (value v vs) f h d = (spelled t, spelled_all ts, tidy_det t v f.0 h.0 d.0, all_det ts vs f.1 h.1 d.1, refl)
 
-    entries_det : (es : Entries) (ps : Couples) → FitsEntries es → EntriesMean es ps → EntriesTidy order es → DetPairs order ps (spelled_pairs es)
+    pub entries_det : (es : Entries) (ps : Couples) → FitsEntries es → EntriesMean es ps → EntriesTidy order es → DetPairs order ps (spelled_pairs es)
     entries_det no_entry no_pairs f h d = tt
     entries_det no_entry (pair a b ps) f h d = absurd h
     entries_det (entry k v es) no_pairs f h d = absurd h
@@ -357,7 +357,7 @@ mutual
   all_proper order (more t ts) no_values f y h = absurd h
   all_proper order (more t ts) (value v vs) f y h = (tidy_proper order t v f.0 y.0 h.0, all_proper order ts vs f.1 y.1 h.1)
 
-  entries_proper : (order : List ℕ → List ℕ → Ordering) (es : Entries) (ps : Couples) → FitsEntries es → EntriesTidy order es → EntriesMean es ps → HasProperPairs ps
+  pub entries_proper : (order : List ℕ → List ℕ → Ordering) (es : Entries) (ps : Couples) → FitsEntries es → EntriesTidy order es → EntriesMean es ps → HasProperPairs ps
   entries_proper order no_entry no_pairs f y h = tt
   entries_proper order no_entry (pair a b ps) f y h = absurd h
   entries_proper order (entry k v es) no_pairs f y h = absurd h

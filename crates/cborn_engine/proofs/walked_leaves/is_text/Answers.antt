@@ -1,5 +1,0 @@
-use Rattle.cborn_engine.proofs.Common.{IsUtf8-from_ascii}
-use Rattle.cborn_engine.proofs.walked_leaves.is_text.Goals as goal
-
-pub returns-then-is_ascii : goal.returns-then-is_ascii
-returns-then-is_ascii c = ((λ h. IsUtf8-from_ascii c.args.bytes.now c.if-is_ascii.ensures.cases), (λ h. c.if-is_ascii.true))
