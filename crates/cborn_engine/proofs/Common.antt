@@ -29,6 +29,7 @@ pub use Rattle.cborn_edn.specs.devices.TreesCode.{listed_trees, trees-listed}
 pub use Rattle.cborn_judge.specs.Defects.{IsFirstOfSequence, IsLoose, SequenceDefect}
 pub use Rattle.cborn_judge.specs.Departures.{FindsDefect}
 pub use Rattle.cborn_judge.specs.Flaws.{Flaw, FlawAt, HasBadChunk, HasRepeat, IsRefusalOfAll, IsRepeated, Within, WithinAll, WithinEntries}
+pub use Rattle.cborn_judge.specs.shared.Tidy.{AllTidy, EntriesTidy, spelled_pairs}
 pub use Rattle.cborn_judge.specs.declared.defects.Defect.{Defect}
 pub use Rattle.cborn_judge.specs.declared.faults.InvalidReason.{InvalidReason}
 pub use Rattle.cborn_lex.specs.declared.classes.Profile.{Profile}
@@ -36,7 +37,7 @@ pub use Rattle.cborn_model.specs.Bytes.{AreBytes, IsShortest, big_endian}
 pub use Rattle.cborn_model.specs.Heads.{EndlessArgument, Given, IsLeastHead, WidthFits, argument, code, following, head, head_bytes, is_simple_value, least}
 pub use Rattle.cborn_model.specs.Meaning.{AllMean, EntriesMean, IsBignum, IsByteString, IsNumber, Means, joined_chunks}
 pub use Rattle.cborn_model.specs.Orders.{IsKeyOrder, Rising}
-pub use Rattle.cborn_model.specs.Partial.{a_map, a_tag, an_array, in_chunks}
+pub use Rattle.cborn_model.specs.Partial.{a_map, a_tag, an_array, in_chunks, integer_tree}
 pub use Rattle.cborn_model.specs.Placed.{Placed, PlacedAll, PlacedEntries}
 pub use Rattle.cborn_model.specs.Spelled.{Fits, FitsAll, FitsEntries, Wellformed, chunk_bytes, spelled, spelled_all, spelled_entries, string}
 pub use Rattle.cborn_model.specs.Tree.{ByteChunks, Bytes, Entries, Items, Nint, Pairs, Simple, Tagged, Text, TextChunks, Tree, Trees, Uint, count, count_entries, depth, depth_all, depth_entries, entries, entry, more, no_entry, no_item, place, trees}

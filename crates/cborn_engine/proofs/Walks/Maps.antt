@@ -25,7 +25,7 @@ keys_put : (ps : List (Tree × Tree)) (p : Tree × Tree) → keys (spelled_pairs
 keys_put [] p = refl
 keys_put (q ∷ ps) p = ap (λ l. spelled q.0 ∷ l) (keys_put ps p)
 
-module _ (order : List ℕ → List ℕ → Ordering) {room : ℕ} where
+module _ (order : List ℕ → List ℕ → Ordering) (room : ℕ) where
   pub pairs_none : (input : List ℕ) → PairsWalked order room None 0 input input
   pairs_none input = record { pairs = []; read = refl; own = tt; count = refl; rising = tt; last = refl }
 
@@ -72,11 +72,11 @@ module _ (order : List ℕ → List ℕ → Ordering) (laws : IsKeyOrder order) 
   new_keys (pair k v ps) [] q h r = absurd h
   new_keys (pair k v ps) (e ∷ es) q h r = (new_key k e.0 ps es q.0 h.0 q.2 h.2 (rises_after order laws e es r), new_keys ps es q.2 h.2 (rising_tail order laws e es r))
 
-  pub map_walked : {room : ℕ} {before : Option (Bor (List ℕ))} (n : ℕ) {input rest : List ℕ} → 1 ≤ room → PairsWalked order (room - 1) before n input rest → WalksAfter order room Map n input (Some (length rest))
-  map_walked n {rest = rest} some s h =
+  pub map_walked : {room : ℕ} {before : Option (Bor (List ℕ))} (n : ℕ) {k : ℕ} {input rest : List ℕ} → 1 ≤ room → PairsWalked order (room - 1) before k input rest → k ≡ n → WalksAfter order room Map n input (Some (length rest))
+  map_walked {room} n {rest = rest} some s all h =
       let es = entries s.pairs in
-      let c : count_entries es ≡ n = count_entries-entries s.pairs ∙ s.count in
-      let a = all_own order s.pairs s.own in
+      let c : count_entries es ≡ n = count_entries-entries s.pairs ∙ s.count ∙ all in
+      let a = all_own order (room - 1) s.pairs s.own in
       let new = new_keys a.values (spelled_pairs es) (entries_proper order es a.values a.fits a.tidy a.mean) (entries_det order es a.values a.fits a.mean a.tidy) s.rising in
-      (rest, refl, Pairs 0 (Fixed (least n)) es, fixed_split Map (least n) (spelled_entries es) rest c s.read,
-      record { fits = (subst (WidthFits (least n)) (sym c) h, a.fits); shallow = omega (arith, some, a.shallow); tidy = (ap least (sym c), a.tidy, s.rising); value = dict a.values; means = (a.values, a.mean, new, refl) })
+      (rest, refl, (Pairs 0 (Fixed (least n)) es, fixed_split Map (least n) (spelled_entries es) rest c s.read,
+      record { fits = (subst (WidthFits (least n)) (sym c) h, a.fits); shallow = omega (arith, some, a.shallow); tidy = (ap least (sym c), a.tidy, s.rising); value = dict a.values; means = (a.values, a.mean, new, refl) }))
