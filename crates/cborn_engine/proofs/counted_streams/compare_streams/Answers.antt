@@ -41,4 +41,4 @@ difference-requires g c =
 pub returns-clause-compares : goal.returns-clause-compares
 returns-clause-compares g c =
     both_read c.args.count g.O.KeyOrder.order g.met.O.KeyOrder.laws c.args.kind_a c.args.kind_b c.args.limit (g.R.Source.remaining c.args.first.now) (g.R.Source.remaining c.read_counted.new.reader) (g.Q.Source.remaining c.args.second.now) (g.Q.Source.remaining c.read_counted-2.new.reader)
-    c.in-Ok.bytes c.in-Ok-read_counted.bytes c.deref.result.now c.deref-2.result.now c.difference.result c.in-Ok.ensures.reads c.in-Ok-read_counted.ensures.reads c.deref.ensures.value c.deref-2.ensures.value c.difference.ensures
+    c.in-Ok.bytes c.in-Ok-read_counted.bytes c.deref.result.now c.deref-2.result.now c.in_ok-difference.field-0 c.in-Ok.ensures.reads c.in-Ok-read_counted.ensures.reads c.deref.ensures.value c.deref-2.ensures.value c.in_ok-difference.ensures

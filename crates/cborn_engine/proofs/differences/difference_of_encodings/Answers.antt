@@ -1,39 +1,30 @@
-use Rattle.cborn_engine.proofs.Common.{◌≡◌, ◌<◌, ℕ, List, None, length, rules, subst, arith, ItemWalked}
-use Rattle.cborn_engine.proofs.Comparison.Apart.{at_first, ours_ended, theirs_ended, apart_here, passed, front_left, encoding_taken, item_less}
+use Rattle.std.proofs.lemmas.Grind.{common_steps}
+use Rattle.cborn_engine.proofs.Common.{◌≤◌, arith, None, Some, Decides-eqb, strip_prefix_is}
+use Rattle.cborn_engine.proofs.Comparison.Apart.{at_first, passed, none_of_both, apart_here}
 use Rattle.cborn_engine.proofs.differences.difference_of_encodings.Goals as goal
 
 pub items-init : goal.items-init
-items-init g c = (at_first g.O.KeyOrder.order g.met.O.KeyOrder.laws c.args.limit c.args.ours.now c.args.theirs.now c.requires.ours c.requires.theirs c.requires.apart, omega arith)
+items-init g c = (at_first g.O.KeyOrder.order c.args.limit c.requires.ours c.requires.theirs c.requires.apart, omega arith)
 
 pub returns : goal.returns
-returns g c = ours_ended g.O.KeyOrder.order g.met.O.KeyOrder.laws c.args.limit c.args.ours.now c.args.theirs.now c.items.left.now c.items.right.now c.items.index c.items.invariant.0 (search rules)
+returns g c =
+    let low : c.args.limit ≤ 1024 = omega arith in
+    let none = c.in_ok-end.ensures.none c.in_default.is in
+    apart_here g.O.KeyOrder.order c.args.limit g.met.O.KeyOrder.laws low c.items.invariant.0 (λ t l r e f. none t l e)
 
-pub returns-then-is_empty : goal.returns-then-is_empty
-returns-then-is_empty g c = theirs_ended g.O.KeyOrder.order g.met.O.KeyOrder.laws c.args.limit c.args.ours.now c.args.theirs.now c.items.left.now c.items.right.now c.items.index c.items.invariant.0 (search rules)
-
-pub unreachable-requires : goal.unreachable-requires
-unreachable-requires g c =
-    let some : 0 < length c.items.left.now = search rules in
-    let none : c.split_item.result ≡ None = search rules in
-    front_left g.O.KeyOrder.order g.met.O.KeyOrder.laws c.args.limit c.args.ours.now c.args.theirs.now c.items.left.now c.items.right.now c.items.index c.items.invariant.0 some
-    (subst (λ (l : ℕ). (rest : List ℕ) → ItemWalked g.O.KeyOrder.order l c.items.left.now rest → ⊥) c.get.ensures.value (c.split_item.ensures.none none))
-
-pub returns-in-None : goal.returns-in-None
-returns-in-None g c =
-    let item = c.in-Some.item.now in
-    let rest = c.in-Some.rest.now in
-    apart_here g.O.KeyOrder.order g.met.O.KeyOrder.laws c.args.limit c.args.ours.now c.args.theirs.now c.items.left.now c.items.right.now item rest c.items.index c.items.invariant.0
-    (encoding_taken g.O.KeyOrder.order item c.in-Some.ensures.parts c.in-Some.ensures.item) c.in-Some.ensures.parts c.in-None.ensures
+pub returns-in_default-strip_prefix : goal.returns-in_default-strip_prefix
+returns-in_default-strip_prefix g c =
+    let low : c.args.limit ≤ 1024 = omega arith in
+    let at = rw c.in-Some.is at c.in_ok-end.ensures.item in
+    let never = rw c.split_at.ensures.front at (strip_prefix_is Decides-eqb c.items.right.now c.split_at.result.0.now None c.in_default-strip_prefix.ensures.cases) in
+    apart_here g.O.KeyOrder.order c.args.limit g.met.O.KeyOrder.laws low c.items.invariant.0 (none_of_both c.items.left.now c.items.right.now c.in-Some.end at.1 never)
 
 pub items-preserved : goal.items-preserved
 items-preserved g c =
-    let item = c.in-Some.item.now in
-    let rest = c.in-Some.rest.now in
-    let less : length rest < length c.items.left.now = item_less c.in-Some.ensures.item in (
-      passed g.O.KeyOrder.order g.met.O.KeyOrder.laws c.args.limit c.args.ours.now c.args.theirs.now c.items.left.now c.items.right.now item rest c.in-Some-after.remaining.now c.items.index c.items.invariant.0
-          (encoding_taken g.O.KeyOrder.order item c.in-Some.ensures.parts c.in-Some.ensures.item) c.in-Some.ensures.parts c.in-Some-after.ensures (search rules) (search rules),
-      omega (arith, c.items.invariant.1, less),
+    let after = c.in-Some-strip_prefix.after in
+    let at = rw c.in-Some.is at c.in_ok-end.ensures.item in
+    let begins = rw c.split_at.ensures.front at (strip_prefix_is Decides-eqb c.items.right.now c.split_at.result.0.now (Some after) c.in-Some-strip_prefix.ensures.cases) in
+    rw c.split_at.ensures.back (
+      passed g.O.KeyOrder.order c.args.limit after.now c.in-Some.end c.items.invariant.0 at.1 begins,
+      grind (arith, common_steps),
     )
-
-pub items-smaller : goal.items-smaller
-items-smaller g c = item_less c.in-Some.ensures.item
