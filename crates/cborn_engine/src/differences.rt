@@ -1,55 +1,32 @@
 //! Where two sequences differ whose deterministic encodings are held. The encodings are walked side
 //! by side in place, item by item.
-ghost use Rattle.std.specs.Prelude.{◌≡◌, ◌≢◌, Some, IfOk};
-ghost use Rattle.cborn_engine.specs.declared.counts.Count.TheVariants as counts;
+ghost use Rattle.std.specs.Prelude.{IfOk};
 ghost use Rattle.cborn_engine.specs.declared.kinds.Kind.TheVariants as kinds;
 ghost use Rattle.cborn_engine.specs.Comparing.{AreCompared};
-ghost use Rattle.cborn_engine.specs.Counts.{HoldsOne};
 ghost use Rattle.cborn_engine.specs.devices.Encoding.{IsEncoded};
 
-use crate::counts::Count;
 use cborn_model::{KeyOrder, Limit};
 use cborn_wire::first_end;
 use std::alloc::{AllocError, Global};
 
-/// The difference of what two deterministic encodings hold. Where each holds one item, they aren't
-/// walked.
+/// The difference of what two deterministic encodings hold: none, or the index of the first item at
+/// which they differ.
 ///
 /// # Errors
 /// `AllocError` where memory for the open levels of an item is refused.
 pub fn difference<O: KeyOrder>(
     alloc: Global,
     limit: Limit,
-    count: Count,
     ours: &[u8],
     theirs: &[u8],
 ) -> Result<Option<u64>, AllocError>
     requires ours { IsEncoded O.order kinds.Wire limit ours.now ours.now }
     requires theirs { IsEncoded O.order kinds.Wire limit theirs.now theirs.now }
-    requires single { count ≡ counts.One → HoldsOne kinds.Wire limit ours.now × HoldsOne kinds.Wire limit theirs.now }
     ensures { IfOk result (AreCompared kinds.Wire kinds.Wire limit ours.now theirs.now) }
 {
     if ours == theirs {
         return Ok(None);
     }
-    match count {
-        Count::Any => Ok(Some(difference_of_encodings::<O>(alloc, limit, ours, theirs)?)),
-        Count::One => Ok(Some(0)),
-    }
-}
-
-/// The index of the first item at which two encodings differ, which aren't equal.
-fn difference_of_encodings<O: KeyOrder>(
-    alloc: Global,
-    limit: Limit,
-    ours: &[u8],
-    theirs: &[u8],
-) -> Result<u64, AllocError>
-    requires ours { IsEncoded O.order kinds.Wire limit ours.now ours.now }
-    requires theirs { IsEncoded O.order kinds.Wire limit theirs.now theirs.now }
-    requires apart { ours.now ≢ theirs.now }
-    ensures { IfOk result (λ index. AreCompared kinds.Wire kinds.Wire limit ours.now theirs.now (Some index)) }
-{
     let most = limit.get();
     prove!(most <= 1024);
     let mut left = ours;
@@ -58,11 +35,11 @@ fn difference_of_encodings<O: KeyOrder>(
     'items: while let Some(end) = first_end(alloc, left)? {
         let (item, rest) = left.split_at(end);
         let Some(after) = right.strip_prefix(item) else {
-            return Ok(index);
+            return Ok(Some(index));
         };
         left = rest;
         right = after;
         index += 1;
     }
-    Ok(index)
+    Ok(Some(index))
 }

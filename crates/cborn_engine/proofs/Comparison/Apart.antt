@@ -1,14 +1,14 @@
 -- What is known of two deterministic encodings that are walked together.
-use Rattle.cborn_engine.proofs.Common.{◌≡◌, ◌<◌, ◌≤◌, ◌+◌, ℕ, zero, suc, List, [], ◌∷◌, ◌++◌, length, drop, take, Option, None, Some, Ordering, sym, ◌∙◌, ap, subst, arith, length-append, AllZip, AllByRecursion, append_cancel_right, take-append-drop, Means, IsKeyOrder, spelled, spelled_all, Fits, Wellformed, depth, Tree, trees, IsProper, Value, Same, Det, DetSeq, Difference, AreCompared, HoldsOne, IsEncoded, Holds}
+use Rattle.cborn_engine.proofs.Common.{◌≡◌, ◌≤◌, ◌+◌, ℕ, zero, suc, List, [], ◌∷◌, ◌++◌, length, drop, take, Option, None, Some, Ordering, sym, ◌∙◌, ap, subst, arith, length-append, AllZip, AllByRecursion, append_cancel_right, take-append-drop, Means, IsKeyOrder, spelled, spelled_all, Fits, Wellformed, depth, Tree, trees, IsProper, Value, Same, Det, DetSeq, Difference, AreCompared, IsEncoded, Holds}
 use Rattle.cborn_wire.proofs.Parts.Openings.{one_front}
 use Rattle.cborn_judge.proofs.Encoded.Tidying.{det_tidy}
 use Rattle.cborn_model.proofs.Lengths.{some_bytes}
 use Rattle.cborn_model.proofs.SameItems.Sameness.{same_chained}
-use Rattle.cborn_det.proofs.Canon.{same_of_one, one_of_same, seq_of_one, one_of_seq}
+use Rattle.cborn_det.proofs.Canon.{same_of_one, one_of_same, seq_of_one}
 use Rattle.cborn_engine.specs.declared.kinds.Kind.TheVariants as kind
 use Rattle.cborn_engine.proofs.Canonical.Proper.{sequence_proper}
 use Rattle.cborn_engine.proofs.CountAnswers.Second.{Ends}
-use Rattle.cborn_engine.proofs.Held.Meant.{all_turned, holds_once}
+use Rattle.cborn_engine.proofs.Held.Meant.{all_turned}
 
 -- ---- the first item of some bytes
 
@@ -116,13 +116,6 @@ module _ (order : List ℕ → List ℕ → Ordering) (limit : ℕ) where
 
     pub equal : {ours theirs : List ℕ} → Encoded ours → Encoded theirs → ours ≡ theirs → Compared ours theirs None
     equal {ours} {theirs} h k e = compared h k (seq_of_one order laws h.items k.items ours (proper ours h) (proper theirs k) h.encoded (subst (DetSeq order k.items) (sym e) k.encoded))
-
-    -- where each holds one item, that is another
-    pub alone_apart : {ours theirs : List ℕ} → Encoded ours → Encoded theirs → HoldsOne kind.Wire limit ours → HoldsOne kind.Wire limit theirs → (ours ≡ theirs → ⊥) → Compared ours theirs (Some 0)
-    alone_apart {ours} {theirs} h k (v, f) (w, g) never =
-        let a = holds_once kind.Wire limit ours h.items (v ∷ []) h.held f in
-        let b = holds_once kind.Wire limit theirs k.items (w ∷ []) k.held g in
-        compared h k (tt, λ s. never (one_of_seq order laws h.items k.items ours theirs (proper ours h) (proper theirs k) (rw (a, b) (rw (a, b) at s)) h.encoded k.encoded))
 
 -- ---- items that are the same as those that were compared
 
