@@ -105,6 +105,14 @@ pub fn of_any<A>(answer: Result<A, CountFault>) -> Result<A, EngineFault>
     }
 }
 
+impl From<AllocError> for CompareCountFault {
+    ghost from_gives = { λ _ e. e ≡ CompareCountFault.OutOfMemory };
+
+    fn from(_why: AllocError) -> Self {
+        CompareCountFault::OutOfMemory
+    }
+}
+
 impl CompareCountFault {
     /// The fault of two inputs that may hold any number of items each.
     pub fn of_any(self) -> CompareFault

@@ -153,7 +153,7 @@ pub fn compare_streams<O: KeyOrder, R: Source, Q: Source>(
         Ok(bytes) => bytes,
         Err(why) => return Err(CompareCountFault::of_second(why)),
     };
-    Ok(difference::<O>(limit, count, &ours, &theirs))
+    Ok(difference::<O>(alloc, limit, &ours, &theirs)?)
 }
 
 /// The deterministic encodings of what the whole input holds, where that are as many items as it has

@@ -1,70 +1,45 @@
 //! Where two sequences differ whose deterministic encodings are held. The encodings are walked side
 //! by side in place, item by item.
-ghost use Rattle.std.specs.Prelude.{◌≡◌, ◌≢◌, ◌++◌, ℕ, List, Some, MatchOption};
-ghost use Rattle.cborn_engine.specs.declared.counts.Count.TheVariants as counts;
+ghost use Rattle.std.specs.Prelude.{IfOk};
 ghost use Rattle.cborn_engine.specs.declared.kinds.Kind.TheVariants as kinds;
 ghost use Rattle.cborn_engine.specs.Comparing.{AreCompared};
-ghost use Rattle.cborn_engine.specs.Counts.{HoldsOne};
 ghost use Rattle.cborn_engine.specs.devices.Encoding.{IsEncoded};
 
-use crate::counts::Count;
-use crate::fronts::split_item;
 use cborn_model::{KeyOrder, Limit};
+use cborn_wire::first_end;
+use std::alloc::{AllocError, Global};
 
-/// The difference of what two deterministic encodings hold. Where each holds one item, they aren't
-/// walked.
+/// The difference of what two deterministic encodings hold: none, or the index of the first item at
+/// which they differ.
+///
+/// # Errors
+/// `AllocError` where memory for the open levels of an item is refused.
 pub fn difference<O: KeyOrder>(
+    alloc: Global,
     limit: Limit,
-    count: Count,
     ours: &[u8],
     theirs: &[u8],
-) -> Option<u64>
+) -> Result<Option<u64>, AllocError>
     requires ours { IsEncoded O.order kinds.Wire limit ours.now ours.now }
     requires theirs { IsEncoded O.order kinds.Wire limit theirs.now theirs.now }
-    requires single { count ≡ counts.One → HoldsOne kinds.Wire limit ours.now × HoldsOne kinds.Wire limit theirs.now }
-    ensures { AreCompared kinds.Wire kinds.Wire limit ours.now theirs.now result }
+    ensures { IfOk result (AreCompared kinds.Wire kinds.Wire limit ours.now theirs.now) }
 {
     if ours == theirs {
-        return None;
+        return Ok(None);
     }
-    match count {
-        Count::Any => Some(difference_of_encodings::<O>(limit, ours, theirs)),
-        Count::One => Some(0),
-    }
-}
-
-/// The index of the first item at which two encodings differ, which aren't equal.
-fn difference_of_encodings<O: KeyOrder>(limit: Limit, ours: &[u8], theirs: &[u8]) -> u64
-    requires ours { IsEncoded O.order kinds.Wire limit ours.now ours.now }
-    requires theirs { IsEncoded O.order kinds.Wire limit theirs.now theirs.now }
-    requires apart { ours.now ≢ theirs.now }
-    ensures { AreCompared kinds.Wire kinds.Wire limit ours.now theirs.now (Some result) }
-{
+    let most = limit.get();
+    prove!(most <= 1024);
     let mut left = ours;
     let mut right = theirs;
     let mut index = 0;
-    'items: while !left.is_empty() {
-        if right.is_empty() {
-            return index;
-        }
-        let Some((item, rest)) = split_item::<O>(limit.get(), left) else {
-            unreachable!();
+    'items: while let Some(end) = first_end(alloc, left)? {
+        let (item, rest) = left.split_at(end);
+        let Some(after) = right.strip_prefix(item) else {
+            return Ok(Some(index));
         };
-        match after(item, right) {
-            Some(remaining) => {
-                left = rest;
-                right = remaining;
-            }
-            None => return index,
-        }
+        left = rest;
+        right = after;
         index += 1;
     }
-    index
-}
-
-/// What follows `front` in bytes that begin with it.
-fn after<'a>(front: &[u8], bytes: &'a [u8]) -> Option<&'a [u8]>
-    ensures { MatchOption result ((rest : List ℕ) → bytes.now ≢ front.now ++ rest) (λ rest. bytes.now ≡ front.now ++ rest.now) }
-{
-    bytes.strip_prefix(front)
+    Ok(Some(index))
 }

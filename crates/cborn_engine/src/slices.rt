@@ -136,7 +136,7 @@ pub fn compare_slices<O: KeyOrder>(
     ensures malformed { length first.now ≤ most_bytes → TellsFaultAs of_the_first kind_a limit first.now result }
 {
     let (ours, theirs) = encode_both::<O>(alloc, limit, count, kind_a, first, kind_b, second)?;
-    Ok(difference::<O>(limit, count, &ours, &theirs))
+    Ok(difference::<O>(alloc, limit, &ours, &theirs)?)
 }
 
 /// Whether two inputs hold the same items. They do exactly if their canonical forms are equal. What

@@ -1,5 +1,5 @@
 -- What is answered where two inputs were encoded.
-use Rattle.cborn_engine.proofs.Common.{◌≡◌, ◌≤◌, ◌↔◌, ℕ, Bool, true, false, Decides, refl, List, [], ◌∷◌, length, sym, ◌∙◌, subst, Option, Ordering, AllZip, IsKeyOrder, Value, Same, Kind, AreCompared, HoldsOne, IsEncoded, IsCanonical, Holds, HoldSameItems, most_bytes}
+use Rattle.cborn_engine.proofs.Common.{◌≡◌, ◌≤◌, ◌↔◌, ℕ, Bool, true, false, Decides, refl, List, length, sym, ◌∙◌, subst, Option, Ordering, AllZip, IsKeyOrder, Value, Same, Kind, AreCompared, IsEncoded, IsCanonical, Holds, HoldSameItems, most_bytes}
 use Rattle.std.proofs.Common.{IsTrue}
 use Rattle.cborn_engine.specs.declared.kinds.Kind.TheVariants as kind
 use Rattle.cborn_engine.proofs.Comparison.Apart.{difference_too}
@@ -11,24 +11,9 @@ pub from_decides : (b : Bool) (P : Type 0) → Decides b P → IsTrue b ↔ P
 from_decides true P d = (λ _. d.0 refl, λ _. refl)
 from_decides false P d = (λ h. d.0 h, λ p. d.1 p)
 
-alone : (us vs : List Value) (v : Value) → AllZip Same us vs → vs ≡ v ∷ [] → (u : Value) × (us ≡ u ∷ [])
-alone [] [] v s e = absurd cc
-alone [] (w ∷ ws) v s e = absurd s
-alone (u ∷ us) [] v s e = absurd s
-alone (u ∷ []) (w ∷ ws) v s e = (u, refl)
-alone (u ∷ t ∷ us) (w ∷ []) v s e = absurd s.1
-alone (u ∷ t ∷ us) (w ∷ x ∷ ws) v s e = absurd cc
-
 module _ (order : List ℕ → List ℕ → Ordering) (laws : IsKeyOrder order) where
   pub its_own : (k : Kind) (limit : ℕ) (input bytes x : List ℕ) → length input ≤ most_bytes → IsEncoded order k limit input bytes → x ≡ bytes → IsEncoded order kind.Wire limit x x
   its_own k limit input bytes x short e f = subst (λ (y : List ℕ). IsEncoded order kind.Wire limit y y) (sym f) (own_bytes order laws k limit input bytes short e).own
-
-  -- the encoding of one item holds one
-  pub single : (k : Kind) (limit : ℕ) (input bytes x : List ℕ) → length input ≤ most_bytes → IsEncoded order k limit input bytes → HoldsOne k limit input → x ≡ bytes → HoldsOne kind.Wire limit x
-  single k limit input bytes x short e (v, h) f =
-      let o = own_bytes order laws k limit input bytes short e in
-      let one = alone o.own.items e.items v o.same (holds_once k limit input e.items (v ∷ []) e.held h) in
-      (one.0, subst (λ (y : List ℕ). Holds kind.Wire limit y (one.0 ∷ [])) (sym f) (subst (Holds kind.Wire limit bytes) one.1 o.own.held))
 
   -- inputs differ where their encodings do
   pub bytes_compared : (k l : Kind) (limit : ℕ) (first second ours theirs x y : List ℕ) (answer : Option ℕ) → length first ≤ most_bytes → length second ≤ most_bytes

@@ -76,7 +76,7 @@ pub taken_reported : {A : Type 0} (count : Count) (k : Kind) (limit : ℕ) (x : 
 taken_reported count k limit x result t p r e f = absurd (unfaulted_by t.held.nodes t.held.spelled p r e f)
 
 -- items of one node are one
-pub holds_one : (k : Kind) (limit : ℕ) (x : List ℕ) (vs : List Value) → Holds k limit x vs → SpellsOne k limit x → HoldsOne k limit x
+holds_one : (k : Kind) (limit : ℕ) (x : List ℕ) (vs : List Value) → Holds k limit x vs → SpellsOne k limit x → HoldsOne k limit x
 holds_one k limit x vs h (t, s) =
     let v = go h.nodes vs h.meant (unplaced_once k limit x h.nodes (t ∷ []) h.spelled s) in
     (v.0, subst (Holds k limit x) v.1 h)

@@ -1,6 +1,7 @@
 -- An input holds one list of items, and these are valid and no deeper than the limit.
 use Rattle.cborn_engine.proofs.Common.{◌≡◌, ◌≤◌, ◌<◌, ◌^◌, ℕ, List, [], ◌∷◌, length, sym, ap, ◌∙◌, subst, arith, AllZip, AllByRecursion, Tree, trees, depth_all, spelled_all, spelled, FitsAll, Value, values_of, Same, IsProper, Means, Profile, unplaced_all, Kind, Spells, SpellsInPlace, Holds, IsNotation}
 use Rattle.cborn_model.proofs.Listed.Trees.{trees-injective}
+use Rattle.cborn_model.proofs.SameItems.Rearranging.{turned_zip}
 use Rattle.cborn_model.proofs.SameItems.Sameness.{same_itself, same_turned}
 use Rattle.cborn_lex.specs.declared.classes.Profile.TheVariants as profile
 use Rattle.cborn_edn.proofs.Short.Facts.{one_notation}
@@ -71,7 +72,4 @@ all_same [] = tt
 all_same (v ∷ vs) = (same_itself v, all_same vs)
 
 pub all_turned : (vs ws : List Value) → AllZip Same vs ws → AllZip Same ws vs
-all_turned [] [] h = tt
-all_turned [] (w ∷ ws) h = h
-all_turned (v ∷ vs) [] h = h
-all_turned (v ∷ vs) (w ∷ ws) h = (same_turned v w h.0, all_turned vs ws h.1)
+all_turned = turned_zip Same Same same_turned

@@ -1,9 +1,9 @@
 use Rattle.cborn_engine.proofs.Common.{◌+◌, ◌≤◌, length}
 use Rattle.cborn_engine.proofs.Comparison.Apart.{SoFar}
-use Rattle.cborn_engine.proofs.differences.difference_of_encodings.Given as goal
+use Rattle.cborn_engine.proofs.differences.difference.Given as goal
 
 abbrev pub decreases-items : goal.decreases-items
 decreases-items g l = length l.left
 
 abbrev pub invariant-items : goal.invariant-items
-invariant-items g l = SoFar g.O.KeyOrder.order l.fn.limit l.ours l.theirs l.left l.right l.index × (l.index + length l.left ≤ length l.ours)
+invariant-items g l = SoFar g.O.KeyOrder.order l.fn.limit l.fn.ours l.fn.theirs l.left l.right l.index × (l.index + length l.left ≤ length l.fn.ours)
