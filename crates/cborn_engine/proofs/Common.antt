@@ -1,5 +1,5 @@
 -- The names that the proofs of this crate use, each from where it is defined.
-pub use Rattle.std.proofs.Common.{Bool, Bor, Decides, Equal, Err, Global, Less, List, None, Ok, Option, Ordering, Result, Some, Vec, [], ap, append-nil, append_assoc, arith, codes, decimal, drop, eqb, false, if◌then◌else◌, inl, inr, length, length-append, length-drop, ltb, max, not, refl, rules, subst, suc, sym, take, true, zero, ℕ, ◌%◌, ◌&&◌, ◌*◌, ◌++◌, ◌+◌, ◌-◌, ◌<◌, ◌^◌, ◌↔◌, ◌∙◌, ◌∷◌, ◌≡◌, ◌≢◌, ◌≤◌, ◌⊎◌}
+pub use Rattle.std.proofs.Common.{Bool, Bor, Decides, Equal, Err, Global, Less, List, None, Ok, Option, Ordering, Result, Some, Vec, [], ap, append-nil, append_assoc, arith, codes, decimal, drop, drop_at, eqb, false, if◌then◌else◌, inl, inr, length, length-append, length-drop, ltb, max, not, refl, rules, subst, suc, sym, take, true, zero, ℕ, ◌%◌, ◌&&◌, ◌*◌, ◌++◌, ◌+◌, ◌-◌, ◌<◌, ◌^◌, ◌↔◌, ◌∙◌, ◌∷◌, ◌≡◌, ◌≢◌, ◌≤◌, ◌⊎◌}
 pub use Rattle.std.proofs.KnownBytes.{Appends-kept, Appends-trans, Consumes-kept, Consumes-trans}
 pub use Rattle.std.proofs.Math.Seq.{drop-cons, take-add}
 pub use Rattle.std.proofs.lemmas.Bool.{cases_lt, cond-true, eq-eqb, le-ltb}
@@ -39,7 +39,7 @@ pub use Rattle.cborn_model.specs.Meaning.{AllMean, EntriesMean, IsBignum, IsByte
 pub use Rattle.cborn_model.specs.Orders.{IsKeyOrder, Rising}
 pub use Rattle.cborn_model.specs.Partial.{a_map, a_tag, an_array, in_chunks, integer_tree}
 pub use Rattle.cborn_model.specs.Placed.{Placed, PlacedAll, PlacedEntries}
-pub use Rattle.cborn_model.specs.Spelled.{Fits, FitsAll, FitsEntries, Wellformed, chunk_bytes, spelled, spelled_all, spelled_entries, string}
+pub use Rattle.cborn_model.specs.Spelled.{Fits, FitsAll, FitsEntries, Wellformed, chunk_bytes, ending, spelled, spelled_all, spelled_entries, string}
 pub use Rattle.cborn_model.specs.Tree.{ByteChunks, Bytes, Entries, Items, Nint, Pairs, Simple, Tagged, Text, TextChunks, Tree, Trees, Uint, count, count_entries, depth, depth_all, depth_entries, entries, entry, more, no_entry, no_item, place, trees}
 pub use Rattle.cborn_model.specs.Valid.{AreProper, HasNewKeys, HasProperPairs, IsNew, IsProper, pairs_depth, value_depth, values_depth}
 pub use Rattle.cborn_model.specs.Value.{Couples, Same, SamePairs, SameValues, Value, Values, array, bytes, dict, integer, listed, no_pairs, no_values, pair, pair_count, pairs_of, simple, tagged, text, value, value_count, values_of}

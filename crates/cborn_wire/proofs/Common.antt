@@ -26,7 +26,6 @@ pub use Rattle.cborn_model.specs.shared.Walks.{flat, string_of}
 pub use Rattle.cborn_wire.specs.Faults.{BeginsHead, Fault, GoesOn, IsReason, IsWellformed, judged}
 pub use Rattle.cborn_wire.specs.Feeding.{Accepts, AreComplete, Feeding, Feeds, Refuses, RunsShort, fresh}
 pub use Rattle.cborn_wire.specs.HeadReading.{ArgumentFits, IsFrontOfHead, IsHeadOf, ReadsHead, count_in, major_at, reason_alone, seen_argument, size_in}
-pub use Rattle.cborn_wire.specs.Parts.{IsSimpleArgument, Leaves, NodeRead, NodesRead, Pair, PairsRead, StringRead}
 pub use Rattle.cborn_wire.specs.Places.{all_from, chunks_from, entries_from, placed_from}
 pub use Rattle.cborn_wire.specs.SlotFaults.{SlotRefused, begins_low, needs_item, reason_at, reason_of}
 pub use Rattle.cborn_wire.specs.Slots.{Announces, AreOpen, HeadFits, IsNoString, MayBegin, OfBytes, OfText, Open, OpenContainer, Slot, StringKind, added_depth, announced, beginning, beginnings, chunk, element_or_end, item, key_or_end, major_of, open_depth, opened, opening, slot, slot_in, slot_in_map, value}

@@ -6,7 +6,6 @@ pub mod Building
 pub mod Shifting
 pub mod Standing
 pub mod Feeding
-pub mod Parts
 pub mod FirstItem
 pub mod Visiting
 pub mod ShortIntegers

@@ -5,7 +5,6 @@ pub mod SlotFaults
 pub mod Places
 pub mod Feeding
 pub mod Reading
-pub mod Parts
 pub mod HeadReading
 pub mod shared
 pub mod devices

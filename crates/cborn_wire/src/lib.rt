@@ -19,8 +19,7 @@
 //!   map whose number is known at its end takes the place of one byte then (`placed_heads`).
 //!   [`spell`] and [`spell_all`] hand it nodes.
 //! - `heads` reads and writes single heads. [`int_len`] and [`integers_at`] tell integers with the
-//!   shortest heads by their first bytes (`short_integers`). `specs/Parts.antt` has what a walk
-//!   over bytes reads at each step.
+//!   shortest heads by their first bytes (`short_integers`).
 //!
 //! A reader of the definitions starts at `specs/Faults.antt`: where bytes are not well-formed, and
 //! why. `cborn_model` defines which nodes well-formed bytes spell. `specs/SlotFaults.antt` has the

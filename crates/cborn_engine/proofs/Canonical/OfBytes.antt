@@ -1,5 +1,5 @@
 -- Bytes hold one list of items, and each encoding of them holds the same items.
-use Rattle.cborn_engine.proofs.Common.{◌≡◌, ◌≤◌, ◌↔◌, ℕ, max, List, [], ◌∷◌, ◌++◌, length, append-nil, refl, sym, ap, ◌∙◌, subst, arith, Ordering, AllZip, IsKeyOrder, Tree, Trees, no_item, more, trees, depth_all, Wellformed, FitsAll, spelled_all, Value, Values, no_values, value, values_of, Same, SameValues, Means, AllMean, DetSeq, DetValues, Kind, IsCanonical, Holds, IsEncoded, IsWrittenAs}
+use Rattle.cborn_engine.proofs.Common.{◌≡◌, ◌≤◌, ◌↔◌, ℕ, max, List, [], ◌∷◌, ◌++◌, refl, sym, ap, ◌∙◌, subst, arith, Ordering, AllZip, IsKeyOrder, Tree, Trees, no_item, more, trees, depth_all, Wellformed, FitsAll, spelled_all, Value, Values, no_values, value, values_of, Same, SameValues, Means, AllMean, DetSeq, DetValues, Kind, IsCanonical, Holds, IsEncoded, IsWrittenAs}
 use Rattle.cborn_det.proofs.Canon.{seq_of_one, one_of_seq}
 use Rattle.cborn_det.proofs.Steps.{values_of_seq, seq_of_values, seq_append}
 use Rattle.cborn_wire.proofs.Spelled.TreeLists.{tree_list, trees-tree_list, trees-append, spelled_all-append}

@@ -1,6 +1,6 @@
 -- What is known of two deterministic encodings that are walked together.
 use Rattle.cborn_engine.proofs.Common.{◌≡◌, ◌≤◌, ◌+◌, ℕ, zero, suc, List, [], ◌∷◌, ◌++◌, length, drop, take, Option, None, Some, Ordering, sym, ◌∙◌, ap, subst, arith, length-append, AllZip, AllByRecursion, append_cancel_right, take-append-drop, Means, IsKeyOrder, spelled, spelled_all, Fits, Wellformed, depth, Tree, trees, IsProper, Value, Same, Det, DetSeq, Difference, AreCompared, IsEncoded, Holds}
-use Rattle.cborn_wire.proofs.Parts.Openings.{one_front}
+use Rattle.cborn_wire.proofs.Spelled.OneReading.{one_front}
 use Rattle.cborn_judge.proofs.Encoded.Tidying.{det_tidy}
 use Rattle.cborn_model.proofs.Lengths.{some_bytes}
 use Rattle.cborn_model.proofs.SameItems.Sameness.{same_chained}

@@ -6,7 +6,7 @@ use Rattle.cborn_wire.specs.Reading.{IsFirstItem}
 use Rattle.cborn_wire.proofs.Spelled.OneReading.{listed_reading}
 use Rattle.cborn_wire.proofs.Spelled.TreeLists.{tree_list}
 use Rattle.cborn_model.proofs.Lengths.{some_bytes}
-use Rattle.cborn_wire.proofs.Parts.Openings.{one_front}
+use Rattle.cborn_wire.proofs.Spelled.OneReading.{one_front}
 use Rattle.cborn_lex.specs.declared.classes.Profile.TheVariants as profile
 use Rattle.cborn_engine.specs.declared.kinds.Kind.TheVariants as kind
 

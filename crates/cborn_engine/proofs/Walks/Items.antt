@@ -1,5 +1,5 @@
 -- Items that are spelled as their deterministic encodings, and sequences, arrays and tags of them.
-use Rattle.cborn_engine.proofs.Common.{◌≡◌, ◌≢◌, ℕ, ◌+◌, ◌-◌, ◌≤◌, ◌⊎◌, inl, inr, Bool, true, false, List, [], ◌∷◌, ◌++◌, length, take, drop, Option, None, Some, refl, sym, ap, ◌∙◌, subst, arith, append_assoc, append-nil, length-append, length-take-le, take-append-drop, Ordering, AllZip, AllByRecursion, IsTrue, IfSome, Major, Unsigned, Negative, ByteString, TextString, Array, Tag, Other, Fixed, Width, AreBytes, big_endian, Given, head, WidthFits, least, is_simple_value, IsBignum, Means, AllMean, spelled, spelled_all, string, Fits, FitsAll, Wellformed, Tree, Uint, Nint, Bytes, Text, Items, Tagged, Simple, trees, integer_tree, count, depth_all, Value, Values, integer, bytes, text, array, tagged, simple, no_values, value, DetSeq, IsLoose, AllTidy, IsEncoded, IsLast, LeastHeadRead, ContentRead, MagnitudeRead, Leaves, IsOwn, Walked, ItemsWalked, Walks, WalksAfter}
+use Rattle.cborn_engine.proofs.Common.{◌≡◌, ◌≢◌, ℕ, ◌+◌, ◌-◌, ◌≤◌, ◌⊎◌, inl, inr, Bool, true, false, List, [], ◌∷◌, ◌++◌, length, take, drop, Option, None, Some, refl, sym, ap, ◌∙◌, subst, arith, append_assoc, append-nil, length-append, length-take-le, take-append-drop, Ordering, AllZip, AllByRecursion, IsTrue, IfSome, Major, Unsigned, Negative, ByteString, TextString, Array, Tag, Other, Fixed, Width, AreBytes, Given, head, WidthFits, least, is_simple_value, IsBignum, Means, AllMean, spelled, spelled_all, string, Fits, FitsAll, Tree, Uint, Nint, Bytes, Text, Items, Tagged, Simple, trees, integer_tree, count, depth_all, Value, Values, integer, bytes, text, array, tagged, simple, no_values, value, DetSeq, IsLoose, AllTidy, IsEncoded, IsLast, LeastHeadRead, ContentRead, MagnitudeRead, Leaves, IsOwn, Walked, ItemsWalked, Walks, WalksAfter, drop_at, ending, major_at, IsHeadOf, seen_argument}
 use Rattle.cborn_model.proofs.Bytes.{bytes-left, bytes-right}
 use Rattle.cborn_model.proofs.Listed.Trees.{count-trees}
 use Rattle.cborn_model.proofs.Numbers.OneHead.{append_same}
@@ -7,7 +7,8 @@ use Rattle.cborn_model.proofs.Numbers.SomeMagnitude.{magnitude_of}
 use Rattle.cborn_model.specs.shared.Runs.{IsInteger, HasShortHead, IsShortLeaf}
 use Rattle.cborn_judge.proofs.Encoded.Tidying.{tidy_det, not_loose}
 use Rattle.cborn_judge.proofs.Encoding.PairsHinted.{all_more}
-use Rattle.cborn_wire.proofs.Parts.Heads.{fixed_split}
+use Rattle.cborn_wire.specs.declared.heads.Argument.{Argument}
+use Rattle.cborn_wire.specs.declared.heads.Head.{Head}
 use Rattle.cborn_wire.proofs.Standing.{nodes_put}
 use Rattle.cborn_engine.specs.declared.kinds.Kind.TheVariants as kind
 
@@ -18,6 +19,21 @@ nothing (c ∷ x) e = absurd (omega (arith, e))
 -- the end of the input that has this length
 same_end : (front x back rest : List ℕ) → front ++ x ≡ back ++ rest → length x ≡ length rest → x ≡ rest
 same_end front x back rest e l = (append_same front back x rest (omega (arith, l, ap length e, length-append front x, length-append back rest)) e).1
+
+-- ---- heads
+
+-- a head that was read, and what follows it
+pub head_read : {x tail : List ℕ} {h : Head} {n : ℕ} {m : Major} {a : Argument} → tail ≡ drop n x → IsHeadOf x h n → major_at h.major ≡ m → h.argument ≡ a → x ≡ head m (seen_argument a) ++ tail
+head_read {x} {tail} {h} {n} t i e f =
+    let front : List ℕ = head (major_at h.major) (seen_argument h.argument) in
+    let split : x ≡ front ++ drop n x = i.whole ∙ ap (λ l. front ++ l) (sym (ap (drop n) i.whole ∙ drop_at front i.rest n (sym i.len))) in
+    split ∙ (λ j. head (e j) (seen_argument (f j)) ++ sym t j)
+
+-- the head of an array or a map, and its contents
+pub fixed_split : (m : Major) (w : Width) (body rest : List ℕ) {n count : ℕ} {input : List ℕ} → count ≡ n → input ≡ body ++ rest → head m (Given w n) ++ input ≡ ((head m (Given w count) ++ body) ++ ending (Fixed w)) ++ rest
+fixed_split m w body rest {count = count} c e =
+    let front : List ℕ = head m (Given w count) in
+    (λ i. head m (Given w (sym c i)) ++ e i) ∙ sym (append_assoc front body rest) ∙ ap (λ z. z ++ rest) (sym (append-nil (front ++ body)))
 
 -- the string after a head that was read
 pub magnitude_read : {x tail content rest : List ℕ} {major : Major} {n : ℕ} → LeastHeadRead major n x tail → major ≡ ByteString → content ≡ take n tail → rest ≡ drop n tail → n ≤ length tail → AreBytes x → (IsLoose content → ⊥) → MagnitudeRead x rest

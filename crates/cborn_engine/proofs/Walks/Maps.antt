@@ -1,13 +1,13 @@
 -- Maps that are spelled as their deterministic encodings: pairs one after another, whose keys rise.
-use Rattle.cborn_engine.proofs.Common.{◌≡◌, ℕ, ◌+◌, ◌-◌, ◌≤◌, List, [], ◌∷◌, ◌++◌, length, Option, None, Some, Bor, refl, sym, ap, ◌∙◌, subst, arith, append_assoc, append-nil, length-append, append_cancel_right, Ordering, Less, Equal, AllByRecursion, Map, Fixed, Given, head, WidthFits, least, EntriesMean, IsKeyOrder, Rising, spelled, spelled_entries, FitsEntries, Tree, Pairs, entries, count_entries, depth_entries, Value, Couples, no_pairs, pair, dict, IsProper, HasProperPairs, IsNew, HasNewKeys, Det, DetPairs, Entry, keys, EntriesTidy, spelled_pairs, IsOwn, Walked, PairsWalked, WalksAfter}
+use Rattle.cborn_engine.proofs.Common.{◌≡◌, ℕ, ◌+◌, ◌-◌, ◌≤◌, List, [], ◌∷◌, ◌++◌, length, Option, None, Some, Bor, refl, sym, ap, ◌∙◌, subst, arith, append_assoc, append-nil, length-append, append_cancel_right, Ordering, Less, Equal, AllByRecursion, Map, Fixed, WidthFits, least, EntriesMean, IsKeyOrder, Rising, spelled, spelled_entries, FitsEntries, Tree, Pairs, entries, count_entries, depth_entries, Value, Couples, no_pairs, pair, dict, IsProper, HasProperPairs, IsNew, HasNewKeys, Det, DetPairs, Entry, keys, EntriesTidy, spelled_pairs, IsOwn, Walked, PairsWalked, WalksAfter}
 use Rattle.cborn_model.proofs.Listed.Trees.{count_entries-entries}
 use Rattle.cborn_det.proofs.Canon.{one_of_same}
 use Rattle.cborn_det.proofs.Cutting.{rise_more}
 use Rattle.cborn_det.proofs.Rising.{rises_after, rising_tail}
-use Rattle.cborn_det.specs.shared.KeyBefore.{Below, EndsIn}
+use Rattle.cborn_det.specs.shared.KeyBefore.{Below}
 use Rattle.cborn_judge.proofs.Encoded.Tidying.{entries_det, entries_proper}
 use Rattle.cborn_judge.proofs.Encoding.PairsHinted.{all_more}
-use Rattle.cborn_wire.proofs.Parts.Heads.{fixed_split}
+use Rattle.cborn_engine.proofs.Walks.Items.{fixed_split}
 
 -- ---- one more pair
 

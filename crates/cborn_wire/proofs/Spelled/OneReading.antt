@@ -1,5 +1,6 @@
 -- A list of bytes has one reading at most, and no item begins another.
-use Rattle.cborn_wire.proofs.Common.{◌≡◌, refl, sym, ap, ◌∙◌, subst, ℕ, ◌+◌, ◌≤◌, List, [], ◌++◌, length, max, arith, append_assoc, append-nil, length-append, add-zero, append_cancel_left, AreBytes, Tree, Trees, trees, no_item, more, depth, depth_all, spelled, spelled_all, Fits, FitsAll, Wellformed, Placed, PlacedAll, placed_from, all_from, append_trees, snoc, nothing, State, Live, Failed, start, ready_in, front, run}
+use Rattle.cborn_wire.proofs.Common.{◌≡◌, refl, sym, ap, ◌∙◌, subst, ℕ, ◌+◌, ◌≤◌, List, [], ◌++◌, length, max, arith, append_assoc, append-nil, length-append, add-zero, append_cancel_left, AreBytes, Tree, Trees, trees, no_item, more, depth, depth_all, spelled, spelled_all, Fits, FitsAll, Wellformed, Placed, PlacedAll, placed_from, all_from, append_trees, snoc, nothing, State, Live, Failed, start, ready_in, front, run, inl, inr, ◌⊎◌, ◌∷◌}
+use Rattle.cborn_model.proofs.Numbers.OneHead.{append_same}
 use Rattle.cborn_wire.proofs.Machine.Running.{run-append}
 use Rattle.cborn_wire.proofs.Machine.TakesItems.{takes, append_trees-nil, append_trees-snoc}
 use Rattle.cborn_wire.proofs.Spelled.AsPlaced.{same-from, same_all-from}
@@ -113,3 +114,26 @@ pub longest : (limit p : ℕ) (ts : Trees) (x y : List ℕ) → Wellformed limit
 longest limit p ts x y h =
     let s = run limit (start (p + length x)) y in
     (ready_in s, ap ready_in (run-append limit (start p) x y ∙ ap (λ u. run limit u y) (reads limit p ts x h ∙ ap (λ l. Live (p + length x) l [] nothing) (sym (append_trees-nil (all_from p ts)))) ∙ front_run (all_from p ts) limit y (start (p + length x))) ∙ ready_front (all_from p ts) s)
+
+-- ---- of two nodes at the front of the same bytes
+
+goes_on : (a b x y : List ℕ) → a ++ x ≡ b ++ y → ((z : List ℕ) × (a ++ z ≡ b)) ⊎ ((z : List ℕ) × (b ++ z ≡ a))
+goes_on [] b x y e = inl (b, refl)
+goes_on (h ∷ a) [] x y e = inr (h ∷ a, refl)
+goes_on (h ∷ a) (k ∷ b) x y e =
+    let below : a ++ x ≡ b ++ y = cc in
+    let here : h ≡ k = cc in
+    elim (goes_on a b x y below) [
+      | inl r ↦ inl (r.0, (λ i. here i ∷ r.1 i))
+      | inr r ↦ inr (r.0, (λ i. sym here i ∷ r.1 i))
+    ]
+
+shorter : (t u : Tree) (z : List ℕ) → Fits t → Fits u → spelled t ++ z ≡ spelled u → spelled t ≡ spelled u
+shorter t u z f g e =
+    let nil : z ≡ [] = (no_item_begins t u z f g e).0 in
+    sym (append-nil (spelled t)) ∙ ap (λ w. spelled t ++ w) (sym nil) ∙ e
+
+pub one_front : (t u : Tree) (x y : List ℕ) → Fits t → Fits u → spelled t ++ x ≡ spelled u ++ y → (spelled t ≡ spelled u) × (x ≡ y)
+one_front t u x y f g e =
+    let same : spelled t ≡ spelled u = elim (goes_on (spelled t) (spelled u) x y e) [ inl r ↦ shorter t u r.0 f g r.1 | inr r ↦ sym (shorter u t r.0 g f r.1) ] in
+    (same, (append_same (spelled t) (spelled u) x y (ap length same) e).1)

@@ -1,6 +1,6 @@
 use Rattle.cborn_engine.proofs.Common.{◌≡◌, ◌-◌, ◌++◌, ◌∙◌, ap, sym, subst, take, drop, rules, length, take_rest, Given, head, least, WidthFits, ArgumentFits, seen_argument}
 use Rattle.cborn_wire.specs.declared.heads.Argument.{Argument}
-use Rattle.cborn_wire.proofs.Parts.Heads.{head_read}
+use Rattle.cborn_engine.proofs.Walks.Items.{head_read}
 use Rattle.cborn_engine.proofs.walked_leaves.read_least.Goals as goal
 
 pub returns : goal.returns

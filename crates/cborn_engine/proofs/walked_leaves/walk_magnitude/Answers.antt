@@ -1,5 +1,5 @@
-use Rattle.cborn_engine.proofs.Common.{rules, ◌≡◌, List, ℕ, length, take, refl, sym, ◌∙◌, subst, arith, length-take-le, take-append-drop, Major, ByteString, LeastHeadRead}
-use Rattle.cborn_model.proofs.Bytes.{are_bytes, bytes-left, bytes-right}
+use Rattle.cborn_engine.proofs.Common.{rules, ◌≡◌, refl, arith, ByteString}
+use Rattle.cborn_model.proofs.Bytes.{are_bytes}
 use Rattle.cborn_engine.proofs.Walks.Items.{magnitude_read}
 use Rattle.cborn_engine.proofs.walked_leaves.walk_magnitude.Goals as goal
 
