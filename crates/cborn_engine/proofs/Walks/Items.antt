@@ -151,9 +151,15 @@ module _ (order : List ℕ → List ℕ → Ordering) {room : ℕ} (some : 1 ≤
   array_walked {rest = rest} s all h =
       let ts = trees s.nodes in
       let c : count ts ≡ n = count-trees s.nodes ∙ s.count ∙ all in
-      let a = all_own order (room - 1) s.nodes s.own in
-      (rest, refl, (Items 0 (Fixed (least n)) ts, fixed_split Array (least n) (spelled_all ts) rest c s.read,
-      record { fits = (subst (WidthFits (least n)) (sym c) h, a.fits); shallow = omega (arith, some, a.shallow); tidy = (ap least (sym c), a.tidy); value = array a.values; means = (a.values, a.mean, refl) }))
+      let a = all_own order (room - 1) s.nodes s.own in (
+        rest,
+        refl,
+        (
+          Items 0 (Fixed (least n)) ts,
+          fixed_split Array (least n) (spelled_all ts) rest c s.read,
+          record { fits = (subst (WidthFits (least n)) (sym c) h, a.fits); shallow = omega (arith, some, a.shallow); tidy = (ap least (sym c), a.tidy); value = array a.values; means = (a.values, a.mean, refl) },
+        ),
+      )
 
   -- the content of a tag
   tag_split : (input rest : List ℕ) (t : Tree) → input ≡ spelled t ++ rest → head Tag (Given (least n) n) ++ input ≡ spelled (Tagged 0 (least n) n t) ++ rest
@@ -161,9 +167,15 @@ module _ (order : List ℕ → List ℕ → Ordering) {room : ℕ} (some : 1 ≤
 
   pub tagged_walked : (input : List ℕ) (o : Option ℕ) → n ≢ 2 → n ≢ 3 → Walks order (room - 1) input o → WalksAfter order room Tag n input o
   tagged_walked input None two three w h = tt
-  tagged_walked input (Some left) two three (rest, l, (t, e, o)) h =
-      (rest, l, (Tagged 0 (least n) n t, tag_split input rest t e,
-      record { fits = (h, o.fits); shallow = omega (arith, some, o.shallow); tidy = (refl, o.tidy, λ b tag i l. absurd (elim tag [ inl z ↦ two z | inr z ↦ three z ])); value = tagged n o.value; means = inr (inr (two, three, o.value, o.means, refl)) }))
+  tagged_walked input (Some left) two three (rest, l, (t, e, o)) h = (
+    rest,
+    l,
+    (
+      Tagged 0 (least n) n t,
+      tag_split input rest t e,
+      record { fits = (h, o.fits); shallow = omega (arith, some, o.shallow); tidy = (refl, o.tidy, λ b tag i l. absurd (elim tag [ inl z ↦ two z | inr z ↦ three z ])); value = tagged n o.value; means = inr (inr (two, three, o.value, o.means, refl)) },
+    ),
+  )
 
   pub bignum_walked : (input : List ℕ) (o : Option ℕ) → (n ≡ 2) ⊎ (n ≡ 3) → IfSome o (Leaves (MagnitudeRead input)) → WalksAfter order room Tag n input o
   bignum_walked input None tag w h = tt
@@ -172,6 +184,12 @@ module _ (order : List ℕ → List ℕ → Ordering) {room : ℕ} (some : 1 ≤
       let t : Tree = Bytes 0 (least (length b)) b in
       let o = bytes_own order room m.goes m.begins.fits in
       let number : (negative : Bool) → IsBignum negative t (integer negative b) = λ negative. (b, refl, (b, m.goes.bytes, (not_loose b m.tight).shortest, refl, refl)) in
-      let meant : (v : Value) × Means (Tagged 0 (least n) n t) v = elim tag [ inl e ↦ (integer false b, inl (e, number false)) | inr e ↦ (integer true b, inr (inl (e, number true))) ] in
-      (rest, l, (Tagged 0 (least n) n t, tag_split input rest t (m.begins.read ∙ framed ByteString m.goes),
-      record { fits = (h, o.fits); shallow = omega (arith, some); tidy = (refl, refl, λ c tag i l. m.tight (subst IsLoose i l)); value = meant.0; means = meant.1 }))
+      let meant : (v : Value) × Means (Tagged 0 (least n) n t) v = elim tag [ inl e ↦ (integer false b, inl (e, number false)) | inr e ↦ (integer true b, inr (inl (e, number true))) ] in (
+        rest,
+        l,
+        (
+          Tagged 0 (least n) n t,
+          tag_split input rest t (m.begins.read ∙ framed ByteString m.goes),
+          record { fits = (h, o.fits); shallow = omega (arith, some); tidy = (refl, refl, λ c tag i l. m.tight (subst IsLoose i l)); value = meant.0; means = meant.1 },
+        ),
+      )

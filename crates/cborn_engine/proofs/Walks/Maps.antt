@@ -77,6 +77,12 @@ module _ (order : List ℕ → List ℕ → Ordering) (laws : IsKeyOrder order) 
       let es = entries s.pairs in
       let c : count_entries es ≡ n = count_entries-entries s.pairs ∙ s.count ∙ all in
       let a = all_own order (room - 1) s.pairs s.own in
-      let new = new_keys a.values (spelled_pairs es) (entries_proper order es a.values a.fits a.tidy a.mean) (entries_det order es a.values a.fits a.mean a.tidy) s.rising in
-      (rest, refl, (Pairs 0 (Fixed (least n)) es, fixed_split Map (least n) (spelled_entries es) rest c s.read,
-      record { fits = (subst (WidthFits (least n)) (sym c) h, a.fits); shallow = omega (arith, some, a.shallow); tidy = (ap least (sym c), a.tidy, s.rising); value = dict a.values; means = (a.values, a.mean, new, refl) }))
+      let new = new_keys a.values (spelled_pairs es) (entries_proper order es a.values a.fits a.tidy a.mean) (entries_det order es a.values a.fits a.mean a.tidy) s.rising in (
+        rest,
+        refl,
+        (
+          Pairs 0 (Fixed (least n)) es,
+          fixed_split Map (least n) (spelled_entries es) rest c s.read,
+          record { fits = (subst (WidthFits (least n)) (sym c) h, a.fits); shallow = omega (arith, some, a.shallow); tidy = (ap least (sym c), a.tidy, s.rising); value = dict a.values; means = (a.values, a.mean, new, refl) },
+        ),
+      )
