@@ -1,5 +1,5 @@
--- Entries that lie one after another in a buffer: what is read of them, and whether their keys rise.
-use Rattle.cborn_det.proofs.Common.{◌≡◌, ℕ, ◌+◌, ◌<◌, ◌≤◌, List, [], ◌∷◌, ◌++◌, length, map, take, drop, get_or, refl, sym, ap, ◌∙◌, subst, arith, append_assoc, take_at, drop_at, length-append, length-drop, Bor, Ordering, Less, Equal, Greater, is_lt, true, append-nil, drop_more, drop_all, map-append, Option, None, Some, Rising, Entry, keys, joined, IsWritten, lengths_of, EndsIn, Below}
+-- Entries that lie one after another in a buffer: what is read of them.
+use Rattle.cborn_det.proofs.Common.{◌≡◌, ℕ, ◌+◌, ◌<◌, ◌≤◌, List, [], ◌∷◌, ◌++◌, length, map, take, drop, get_or, refl, sym, ap, ◌∙◌, subst, arith, append_assoc, take_at, drop_at, length-append, length-drop, drop_more, Entry, joined, IsWritten, lengths_of}
 use Rattle.cborn_model.proofs.Numbers.OneHead.{append_same}
 
 -- what was written says which entries there are
@@ -42,31 +42,3 @@ cut_more es front lengths i b all k v rest l w a p q r =
     let others : rest ≡ joined t.1 = r ∙ ap (drop (get_or lengths i (0, 0)).1) after ∙ drop_at t.0.1 (joined t.1) (get_or lengths i (0, 0)).1 (sym t.4) in
     let same : front ++ es ≡ (front ++ (k, v) ∷ []) ++ t.1 = ap (λ z. front ++ z) t.2 ∙ (λ j. front ++ ((sym key j, sym val j) ∷ t.1)) ∙ sym (append_assoc front ((k, v) ∷ []) t.1) in
     (t.1, (t.5, others), subst (λ z. IsWritten z lengths all) same a)
-
--- one more key, above the last
-pub rising_push : (order : List ℕ → List ℕ → Ordering) (js : List (List ℕ)) (k l : List ℕ) → Rising order (js ++ k ∷ []) → order k l ≡ Less → Rising order ((js ++ k ∷ []) ++ l ∷ [])
-rising_push order [] k l r h = (h, tt)
-rising_push order (i ∷ []) k l r h = (r.0, (h, tt))
-rising_push order (i ∷ j ∷ js) k l r h = (r.0, rising_push order (j ∷ js) k l r.1 h)
-
-pub is_less : (o : Ordering) → is_lt o ≡ true → o ≡ Less
-is_less Less h = refl
-is_less Equal h = cc
-is_less Greater h = cc
-
-pub below_last : (order : List ℕ → List ℕ → Ordering) (before : Option (Bor (List ℕ))) (b : Bor (List ℕ)) (k : List ℕ) (o : Ordering) → before ≡ Some b → o ≡ order b.now k → is_lt o ≡ true → Below order before k
-below_last order before b k o e f h = subst (λ z. Below order z k) (sym e) (sym f ∙ is_less o h)
-
-pub below_none : (order : List ℕ → List ℕ → Ordering) (before : Option (Bor (List ℕ))) (k : List ℕ) → before ≡ None → Below order before k
-below_none order before k e = subst (λ z. Below order z k) (sym e) tt
-
-pub rise_more : (order : List ℕ → List ℕ → Ordering) (before : Option (Bor (List ℕ))) (front : List Entry) (e : Entry) → Rising order (keys front) → EndsIn before (keys front) → Below order before e.0 → Rising order (keys (front ++ e ∷ []))
-rise_more order None front e r n b = subst (Rising order) (ap (λ z. z ++ e.0 ∷ []) (sym n) ∙ sym (map-append (λ (z : Entry). z.0) front (e ∷ []))) tt
-rise_more order (Some k) front e r n b =
-    subst (Rising order) (ap (λ z. z ++ e.0 ∷ []) (sym n.1) ∙ sym (map-append (λ (z : Entry). z.0) front (e ∷ []))) (rising_push order n.0 k.now e.0 (subst (Rising order) n.1 r) b)
-
--- where nothing is left, the entries so far are all
-pub all_rise : (order : List ℕ → List ℕ → Ordering) (es front fs : List Entry) (lengths : List (ℕ × ℕ)) (i : ℕ) (b rest : List ℕ) → length lengths ≤ i → IsWritten es (drop i lengths) rest → IsWritten (front ++ es) lengths b → Rising order (keys front) → IsWritten fs lengths b → Rising order (keys fs)
-all_rise order [] front fs lengths i b rest l w a r f =
-    subst (λ z. Rising order (keys z)) (sym (append-nil front) ∙ one_written (front ++ []) fs lengths b a f) r
-all_rise order (e ∷ es) front fs lengths i b rest l w a r f = cc (sym (drop_all i lengths l) ∙ w.0)

@@ -1,7 +1,7 @@
 //! Arranging the entries of a map in a buffer, in which they follow one another. An entry is the
 //! bytes of a key and of its value.
 
-ghost use Rattle.std.specs.Prelude.{◌≡◌, List, ◌++◌, IfOk, OnOk, IsPermutation, IsTrue, ◌≤◌, length, take, drop};
+ghost use Rattle.std.specs.Prelude.{◌≡◌, List, ◌++◌, IfOk, OnOk, IsPermutation, ◌≤◌, length, take, drop};
 ghost use Rattle.cborn_model.specs.Orders.{Rising};
 ghost use Rattle.cborn_det.specs.devices.Writing.{BeginsWith, IsWritten, entries_of};
 ghost use Rattle.cborn_det.specs.shared.Distinct.{HasDistinctKeys};
@@ -11,7 +11,7 @@ use cborn_model::KeyOrder;
 use std::alloc::{AllocError, Global};
 
 /// Arranges the entries that `out` has from the offset `start` on, so that their keys rise.
-/// `lengths` are those of each key and value in bytes. Moves nothing if the keys rise already.
+/// `lengths` are those of each key and value in bytes.
 pub(crate) fn arrange<O: KeyOrder>(
     alloc: Global,
     lengths: &[(usize, usize)],
@@ -23,33 +23,9 @@ pub(crate) fn arrange<O: KeyOrder>(
     ensures arranged { OnOk result ((es : List Entry) → IsWritten es lengths.now (drop start out.old.items) → (fs : List Entry) × IsPermutation es fs × Rising O.order (keys fs) × (out.new.items ≡ take start out.old.items ++ joined fs)) }
     ensures before { BeginsWith (take start out.old.items) out.new.items }
 {
-    if !rise::<O>(lengths, &out[start..]) {
-        let arranged = arranged::<O>(alloc, lengths, &out[start..])?;
-        out.truncate(start);
-        out.extend_from_slice(&arranged)?;
-    }
-    Ok(())
-}
-
-/// Whether the keys of the entries in `written` rise. `lengths` are those of each key and value.
-fn rise<O: KeyOrder>(lengths: &[(usize, usize)], written: &[u8]) -> bool
-    requires { (es : List Entry) × IsWritten es lengths.now written.now }
-    ensures { IsTrue result → (es : List Entry) → IsWritten es lengths.now written.now → Rising O.order (keys es) }
-{
-    let mut rest = written;
-    let mut before: Option<&[u8]> = None;
-    for (key_len, value_len) in lengths {
-        let (key, after) = rest.split_at(*key_len);
-        let (_, after) = after.split_at(*value_len);
-        if let Some(before) = before {
-            if !O::compare(before, key).is_lt() {
-                return false;
-            }
-        }
-        before = Some(key);
-        rest = after;
-    }
-    true
+    let arranged = arranged::<O>(alloc, lengths, &out[start..])?;
+    out.truncate(start);
+    out.extend_from_slice(&arranged)
 }
 
 /// The bytes of the entries in `written`, arranged so that the keys rise.

@@ -1,13 +1,13 @@
 -- The names that the proofs of this crate use, each from where it is defined.
-pub use Rattle.std.proofs.Common.{Bool, Bor, Decides, Equal, Err, Global, Less, List, None, Ok, Option, Ordering, Result, Some, Vec, [], ap, append-nil, append_assoc, arith, codes, decimal, drop, drop_at, eqb, false, if◌then◌else◌, inl, inr, length, length-append, length-drop, ltb, max, not, refl, rules, subst, suc, sym, take, true, zero, ℕ, ◌%◌, ◌&&◌, ◌*◌, ◌++◌, ◌+◌, ◌-◌, ◌<◌, ◌^◌, ◌↔◌, ◌∙◌, ◌∷◌, ◌≡◌, ◌≢◌, ◌≤◌, ◌⊎◌}
+pub use Rattle.std.proofs.Common.{Bool, Bor, Decides, Equal, Err, Global, Less, List, None, Ok, Option, Ordering, Result, Some, Vec, [], ap, append-nil, append_assoc, arith, codes, decimal, drop, drop_at, eqb, false, if◌then◌else◌, inl, inr, length, length-append, length-drop, ltb, max, not, refl, rules, subst, suc, sym, take, true, zero, ℕ, ◌&&◌, ◌*◌, ◌++◌, ◌+◌, ◌-◌, ◌<◌, ◌^◌, ◌↔◌, ◌∙◌, ◌∷◌, ◌≡◌, ◌≢◌, ◌≤◌, ◌⊎◌}
 pub use Rattle.std.proofs.KnownBytes.{Appends-kept, Appends-trans, Consumes-kept, Consumes-trans}
 pub use Rattle.std.proofs.Math.Seq.{drop-cons, take-add}
 pub use Rattle.std.proofs.lemmas.Bool.{cases_lt, cond-true, eq-eqb, le-ltb}
 pub use Rattle.std.proofs.lemmas.Bool.Decides.{Decides-eqb}
 pub use Rattle.std.proofs.lemmas.List.{append_cancel_right, length-take-le, take-append-drop, take_rest}
-pub use Rattle.std.proofs.lemmas.List.Sorted.{IsPermutation-refl, length_permutation}
+pub use Rattle.std.proofs.lemmas.List.Sorted.{length_permutation}
 pub use Rattle.std.proofs.lemmas.Slice.Eq.{slice_eq-Decides, strip_prefix_is}
-pub use Rattle.std.proofs.lemmas.Str.{IsUtf8-from_ascii, is_utf8-from_IsUtf8}
+pub use Rattle.std.proofs.lemmas.Str.{is_utf8-from_IsUtf8}
 pub use Rattle.std.specs.Cow.{cow_slice_items}
 pub use Rattle.std.specs.Io.KnownBytes.{Appends, Consumes, IsAtEnd}
 pub use Rattle.std.specs.List.{AllByRecursion, AllZip, flat_map}
@@ -16,7 +16,7 @@ pub use Rattle.std.specs.Prelude.{IfErr, IfOk, IfSome, IsTrue, IsUtf8, MatchOpti
 pub use Rattle.std.specs.Result.{IsErrAnd, is_err}
 pub use Rattle.std.specs.Str.{is_utf8}
 pub use Rattle.std.specs.declared.borrow.CowSlice.{CowSlice}
-pub use Rattle.cborn_det.specs.Det.{Det, DetPairs, DetSeq, DetValues, Entry, IsInteger, IsString, bignum_tag, joined, keys}
+pub use Rattle.cborn_det.specs.Det.{Det, DetPairs, DetSeq, DetValues, Entry, IsInteger, joined, keys}
 pub use Rattle.cborn_edn.specs.Faults.{HasMeaningError, HasSyntaxError, IsNoNotation}
 pub use Rattle.cborn_edn.specs.Grammar.{AreChunks, AreItems, ArePairs, ArePieces, IsContent, IsFields, IsItem, IsPiece, IsText, Notates, also, before, byte_piece, chunked, embedded, empty, first, items, last, last_pair, loose, loose_fields, next, no_fields, nothing, number, pair_before, piece, tag, text_piece, tight, tight_fields, word}
 pub use Rattle.cborn_edn.specs.ReadingBack.{unplaced, unplaced_all, unplaced_chunks, unplaced_entries}
@@ -34,23 +34,22 @@ pub use Rattle.cborn_judge.specs.declared.defects.Defect.{Defect}
 pub use Rattle.cborn_judge.specs.declared.faults.InvalidReason.{InvalidReason}
 pub use Rattle.cborn_lex.specs.declared.classes.Profile.{Profile}
 pub use Rattle.cborn_model.specs.Bytes.{AreBytes, IsShortest, big_endian}
-pub use Rattle.cborn_model.specs.Heads.{EndlessArgument, Given, IsLeastHead, WidthFits, argument, code, following, head, head_bytes, is_simple_value, least}
-pub use Rattle.cborn_model.specs.Meaning.{AllMean, EntriesMean, IsBignum, IsByteString, IsNumber, Means, joined_chunks}
+pub use Rattle.cborn_model.specs.Heads.{Given, IsLeastHead, WidthFits, argument, following, head, head_bytes, is_simple_value, least}
+pub use Rattle.cborn_model.specs.Meaning.{AllMean, EntriesMean, IsBignum, IsNumber, Means, joined_chunks}
 pub use Rattle.cborn_model.specs.Orders.{IsKeyOrder, Rising}
 pub use Rattle.cborn_model.specs.Partial.{a_map, a_tag, an_array, in_chunks, integer_tree}
 pub use Rattle.cborn_model.specs.Placed.{Placed, PlacedAll, PlacedEntries}
 pub use Rattle.cborn_model.specs.Spelled.{Fits, FitsAll, FitsEntries, Wellformed, chunk_bytes, ending, spelled, spelled_all, spelled_entries, string}
 pub use Rattle.cborn_model.specs.Tree.{ByteChunks, Bytes, Entries, Items, Nint, Pairs, Simple, Tagged, Text, TextChunks, Tree, Trees, Uint, count, count_entries, depth, depth_all, depth_entries, entries, entry, more, no_entry, no_item, place, trees}
 pub use Rattle.cborn_model.specs.Valid.{AreProper, HasNewKeys, HasProperPairs, IsNew, IsProper, pairs_depth, value_depth, values_depth}
-pub use Rattle.cborn_model.specs.Value.{Couples, Same, SamePairs, SameValues, Value, Values, array, bytes, dict, integer, listed, no_pairs, no_values, pair, pair_count, pairs_of, simple, tagged, text, value, value_count, values_of}
+pub use Rattle.cborn_model.specs.Value.{Couples, Same, SamePairs, SameValues, Value, Values, array, bytes, dict, integer, listed, no_pairs, no_values, pair, pair_count, simple, tagged, text, value, value_count, values_of}
 pub use Rattle.cborn_model.specs.declared.heads.Major.{Major}
 pub use Rattle.cborn_model.specs.declared.heads.Major.TheVariants.{Array, ByteString, Map, Negative, Other, Tag, TextString, Unsigned}
-pub use Rattle.cborn_model.specs.declared.heads.Size.{Size}
-pub use Rattle.cborn_model.specs.declared.heads.Size.TheVariants.{Endless, Fixed}
+pub use Rattle.cborn_model.specs.declared.heads.Size.TheVariants.{Fixed}
 pub use Rattle.cborn_model.specs.declared.heads.Width.{Width}
 pub use Rattle.cborn_model.specs.declared.nodes.Chunk.{Chunk}
 pub use Rattle.cborn_wire.specs.Faults.{Fault, IsWellformed, Refused}
-pub use Rattle.cborn_wire.specs.HeadReading.{ArgumentFits, IsHeadOf, ReadsHead, major_at, reason_alone, seen_argument}
+pub use Rattle.cborn_wire.specs.HeadReading.{ArgumentFits, IsHeadOf, major_at, seen_argument}
 pub use Rattle.cborn_wire.specs.Places.{all_from, chunks_from, entries_from, placed_from}
 pub use Rattle.cborn_wire.specs.declared.faults.WireFault.{WireFault}
 pub use Rattle.cborn_wire.specs.declared.faults.WireReason.{WireReason}

@@ -2,8 +2,7 @@
 use Rattle.cborn_engine.proofs.Common.{◌≡◌, ℕ, ◌+◌, ◌-◌, ◌≤◌, List, [], ◌∷◌, ◌++◌, length, Option, None, Some, Bor, refl, sym, ap, ◌∙◌, subst, arith, append_assoc, append-nil, length-append, append_cancel_right, Ordering, Less, Equal, AllByRecursion, Map, Fixed, WidthFits, least, EntriesMean, IsKeyOrder, Rising, spelled, spelled_entries, FitsEntries, Tree, Pairs, entries, count_entries, depth_entries, Value, Couples, no_pairs, pair, dict, IsProper, HasProperPairs, IsNew, HasNewKeys, Det, DetPairs, Entry, keys, EntriesTidy, spelled_pairs, IsOwn, Walked, PairsWalked, WalksAfter}
 use Rattle.cborn_model.proofs.Listed.Trees.{count_entries-entries}
 use Rattle.cborn_det.proofs.Canon.{one_of_same}
-use Rattle.cborn_det.proofs.Cutting.{rise_more}
-use Rattle.cborn_det.proofs.Rising.{rises_after, rising_tail}
+use Rattle.cborn_det.proofs.Rising.{rise_more, rises_after, rising_tail}
 use Rattle.cborn_det.specs.shared.KeyBefore.{Below}
 use Rattle.cborn_judge.proofs.Encoded.Tidying.{entries_det, entries_proper}
 use Rattle.cborn_judge.proofs.Encoding.PairsHinted.{all_more}
@@ -26,9 +25,6 @@ keys_put [] p = refl
 keys_put (q ∷ ps) p = ap (λ l. spelled q.0 ∷ l) (keys_put ps p)
 
 module _ (order : List ℕ → List ℕ → Ordering) (room : ℕ) where
-  pub pairs_none : (input : List ℕ) → PairsWalked order room None 0 input input
-  pairs_none input = record { pairs = []; read = refl; own = tt; count = refl; rising = tt; last = refl }
-
   pub pairs_more : {before : Option (Bor (List ℕ))} (key : Bor (List ℕ)) {n : ℕ} {input half mid rest : List ℕ} → PairsWalked order room before n input half → half ≡ key.now ++ mid → Walked order room half mid → Walked order room mid rest → Below order before key.now → PairsWalked order room (Some key) (n + 1) input rest
   pairs_more {before} key {mid = mid} {rest} s cut (k, e, o) (v, g, p) above =
       let same : spelled k ≡ key.now = append_cancel_right (spelled k) key.now mid (sym e ∙ cut) in

@@ -3,6 +3,3 @@ use Rattle.cborn_det.proofs.entries.arrange.Goals as goal
 
 pub returns-in_err-arranged-clause-before : goal.returns-in_err-arranged-clause-before
 returns-in_err-arranged-clause-before g c = begins_take c.args.start c.args.out.now.items
-
-pub returns-else-not-rise-clause-before : goal.returns-else-not-rise-clause-before
-returns-else-not-rise-clause-before g c = begins_take c.args.start c.args.out.now.items
