@@ -17,8 +17,7 @@
 //! first flaw or defect, in one look that keeps no tree (`cborn_judge`). `encodings` encodes a whole
 //! input so, `showings` writes it in another form (`cborn_edn`), `checks` looks whether it is
 //! deterministic, and `refusals` says why an input is refused. `fronts` walks over bytes that are
-//! their own encodings, in place; `walked_leaves` and `walked_bignums` read the items without children
-//! for it.
+//! their own encodings, in place; `walked_leaves` reads the items without children for it.
 //! `conversions`, `comparisons` and `checks` have the calls over readers of any number of items,
 //! `counted_streams` those with a count, and `slices` those over inputs that are held whole;
 //! `differences` finds where two encodings differ.
