@@ -83,7 +83,7 @@ pub use Rattle.cborn_edn.specs.devices.Modest.{AreModest, IsModest}
 pub use Rattle.cborn_edn.specs.devices.Notating.{IsBadIn, IsCounted, IsEnded, IsHeld, IsLowest, after, beginning, content, count_one, ending, is_counted, late_in, late_size, lates, lowest_with, next_after, next_around, next_in, one_more, quote, separator, string_end, tally}
 pub use Rattle.cborn_edn.specs.devices.Noted.{noted, noted_home, noted_nest, noted_stack, pieces_noted, strings_noted}
 pub use Rattle.cborn_edn.specs.devices.Parse.{Allows, GoesOn, GoesOnAtAnyDepth, HasTree, IsSyntaxError, Parse, StopsAt, is_closing}
-pub use Rattle.cborn_edn.specs.devices.Reading.{AtEnd, IsReading, Judged, Last, Reached, is_trailing_comma, item, may_end, pieces}
+pub use Rattle.cborn_edn.specs.devices.Reading.{AtEnd, IsReadTo, IsReading, Judged, Last, Reached, is_trailing_comma, item, may_end, pieces}
 pub use Rattle.cborn_edn.specs.devices.Said.{Parsed, chunks, entries_before, entries_in, faults, faults_before, faults_before_pairs, faults_in, faults_of_fields, faults_of_input, faults_of_pairs, faults_of_piece, faults_of_pieces, faults_of_row, faults_of_strings, kind_in, node, nodes, nodes_before, nodes_in, nodes_of_input, snoc, snoc_entry, str, str_of}
 pub use Rattle.cborn_edn.specs.devices.Shows.{IsOpenAt, Shows, content_state, entries_at, fields_state, piece_of}
 pub use Rattle.cborn_edn.specs.devices.Steps.{EndsPieces, IsReady, MayEnd, Ready, Taken, Takes, Turned, Turns, ends_map, has_chunks, is_array, is_embedded, is_key, is_piece, is_row, is_tag, is_value, takes_no_piece}

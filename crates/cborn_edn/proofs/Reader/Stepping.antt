@@ -1,5 +1,5 @@
 -- One token that is read: the reader goes on, or refuses the text.
-use Rattle.cborn_edn.proofs.Common.{◌≡◌, refl, sym, ap, ◌∙◌, subst, ℕ, ◌^◌, ◌<◌, ◌≤◌, List, [], ◌∷◌, ◌++◌, length, Bool, true, false, Option, Some, None, arith, ◌⊎◌, inl, inr, AreBytes, Between, IsStopFrom, class_of, content_of, IsNextBareToken, BareToken, Class, Profile, Token, LexFault, AreModest, EdnReason, UnexpectedToken, TooDeep, EdnFault, Refused, IsNoNotation, lexical, reach, Here, Writer, phase_of, Shows, Holds, Reads, Ready, Taken, Takes, is_trailing_comma, IsReading, Judged}
+use Rattle.cborn_edn.proofs.Common.{◌≡◌, refl, sym, ap, ◌∙◌, subst, ℕ, ◌^◌, ◌<◌, ◌≤◌, List, [], ◌∷◌, ◌++◌, length, Bool, true, false, Option, Some, None, arith, ◌⊎◌, inl, inr, AreBytes, Between, IsStopFrom, class_of, content_of, IsNextBareToken, BareToken, Class, Profile, Token, LexFault, AreModest, EdnReason, UnexpectedToken, TooDeep, EdnFault, Refused, IsNoNotation, lexical, reach, Here, Writer, phase_of, Shows, Holds, Reads, Ready, Taken, Takes, is_trailing_comma, IsReadTo, Judged}
 use Rattle.cborn_lex.proofs.GoodTexts.{through}
 use Rattle.cborn_lex.proofs.WholeTexts.Progress.{inside, few}
 use Rattle.cborn_lex.proofs.WholeTexts.Weights.{between_modest}
@@ -44,13 +44,15 @@ module _ (p : Profile) (text : List ℕ) (are : AreBytes text) (here : Here) (w 
             written = s.written ∙ ap (λ (k : Class). w.pieces.items ++ content_of k) s.class;
           }
 
-module _ {h : Holds} (p : Profile) (limit : ℕ) (text : List ℕ) (are : AreBytes text) (here : Here) (w : Writer) (r : IsReading h p limit text here w) where
+module _ {h : Holds} (p : Profile) (limit : ℕ) (text : List ℕ) (are : AreBytes text) (here : Here) (w : Writer) (r : IsReadTo h p limit text here w) where
   -- with nothing left of the text
-  pub last_read : (o : Option BareToken) (n : ℕ) (v : Writer) → IsNextBareToken p text here.at o n w.pieces.items v.pieces.items → o ≡ None → IsReading h p limit text (record here { at = length text }) (record w { pieces = v.pieces })
+  pub last_read : (o : Option BareToken) (n : ℕ) (v : Writer) → IsNextBareToken p text here.at o n w.pieces.items v.pieces.items → o ≡ None → IsReadTo h p limit text (record here { at = length text }) (record w { pieces = v.pieces })
   last_read o n v read is = go (subst (λ (q : Option BareToken). IsNextBareToken p text here.at q n w.pieces.items v.pieces.items) is read)
     where
-      go : IsNextBareToken p text here.at None n w.pieces.items v.pieces.items → IsReading h p limit text (record here { at = length text }) (record w { pieces = v.pieces })
+      go : IsNextBareToken p text here.at None n w.pieces.items v.pieces.items → IsReadTo h p limit text (record here { at = length text }) (record w { pieces = v.pieces })
       go f = record {
+        utf8 = r.utf8;
+        small = r.small;
         inside = omega arith;
         state = r.state;
         reached = ends p limit text here.at r.state r.reached (through p f.0);
@@ -87,11 +89,13 @@ module _ {h : Holds} (p : Profile) (limit : ℕ) (text : List ℕ) (are : AreByt
       free e = ap (λ st. is_trailing_comma p st t.kind) (sym r.shows.shows.phase) ∙ sym b ∙ e
 
       -- the reader goes on
-      pub went_on : Judged bad ok deep limit None → IsReading k p limit text (record next { at = t.stop }) left
+      pub went_on : Judged bad ok deep limit None → IsReadTo k p limit text (record next { at = t.stop }) left
       went_on (f, g, low) = go (subst (λ (q : Bool). Taken k q r.state (class_of t.kind n i.content) (record { start = t.start; stop = t.stop }) next left) g took)
         where
-          go : Taken k true r.state (class_of t.kind n i.content) (record { start = t.start; stop = t.stop }) next left → IsReading k p limit text (record next { at = t.stop }) left
+          go : Taken k true r.state (class_of t.kind n i.content) (record { start = t.start; stop = t.stop }) next left → IsReadTo k p limit text (record next { at = t.stop }) left
           go (u, is, e) = record {
+            utf8 = r.utf8;
+            small = r.small;
             inside = stop_inside;
             state = u;
             reached = goes_on p limit text here.at r.state r.reached t.stop the_token u i.between i.modest is (not_trailing p r.state t.kind n i.content (free f)) (omega (arith, depth_is deep d, low));
