@@ -12,7 +12,7 @@ pub use Rattle.std.proofs.lemmas.Str.Ascii.{IsAscii-cons, IsAscii-nil}
 pub use Rattle.std.specs.Char.{IsScalar, digit_value, is_digit}
 pub use Rattle.std.specs.Int.Digits.{digits_of}
 pub use Rattle.std.specs.List.{AllByRecursion, flat_map, list_all, list_any, prefix_len}
-pub use Rattle.std.specs.Prelude.{IfOk, IsSome, IsTrue, bytes_eq, codes, encode_utf8, encode_utf8_all, if◌then◌else◌, max, ◌≢◌}
+pub use Rattle.std.specs.Prelude.{IfOk, IsTrue, bytes_eq, codes, encode_utf8, encode_utf8_all, if◌then◌else◌, max, ◌≢◌}
 pub use Rattle.std.specs.Str.{IsAscii, IsUtf8, all_scalars, is_utf8}
 pub use Rattle.cborn_lex.specs.Forms.{IsIndicator, IsRun, ReadsFrom, ReadsNumber, Start, digit, single, start_of}
 pub use Rattle.cborn_lex.specs.Good.{Covers, HasTokens, IsMark, IsNumeral, TokensBetween, is_false, is_null, is_true, is_undefined}
