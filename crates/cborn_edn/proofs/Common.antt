@@ -31,6 +31,7 @@ pub use Rattle.cborn_lex.specs.declared.classes.Profile.{Profile}
 pub use Rattle.cborn_lex.specs.declared.classes.Token.{Token}
 pub use Rattle.cborn_lex.specs.declared.faults.LexFault.{LexFault}
 pub use Rattle.cborn_lex.specs.devices.Letters.{Letter, LettersSoFar, is_letter, is_plain, meant, raw, unit, written}
+pub use Rattle.cborn_lex.specs.shared.Modest.{AreModest, IsModest}
 pub use Rattle.cborn_model.specs.Bytes.{AreBytes, big_endian}
 pub use Rattle.cborn_model.specs.Heads.{Argument, EndlessArgument, Given, SizeFits, WidthFits, argument, code, following, head, holds, is_simple_value, least}
 pub use Rattle.cborn_model.specs.Partial.{AreStrings, Ends, IsFree, Opening, Partial, TakesString, a_map, a_tag, an_array, built, chunks_of, chunks_tree, ended_size, in_chunks, inside, integer_tree, last_key, last_of, no_part, paired, part, put, string_tree, top}
@@ -79,7 +80,6 @@ pub use Rattle.cborn_edn.specs.devices.Levels.{reach}
 pub use Rattle.cborn_edn.specs.devices.Lexical.{lexical}
 pub use Rattle.cborn_edn.specs.devices.Machine.{Home, Nest, Stack, State, as_chunk, as_item, at_home, at_top, builds, has, has_number, in_array, in_embed, in_key, in_row, in_tag, in_value, wants, wants_chunk, wants_number, with_piece}
 pub use Rattle.cborn_edn.specs.devices.MeaningErrors.{Notes, earlier, first_error, is_none}
-pub use Rattle.cborn_edn.specs.devices.Modest.{AreModest, IsModest}
 pub use Rattle.cborn_edn.specs.devices.Notating.{IsBadIn, IsCounted, IsEnded, IsHeld, IsLowest, after, beginning, content, count_one, ending, is_counted, late_in, late_size, lates, lowest_with, next_after, next_around, next_in, one_more, quote, separator, string_end, tally}
 pub use Rattle.cborn_edn.specs.devices.Noted.{noted, noted_home, noted_nest, noted_stack, pieces_noted, strings_noted}
 pub use Rattle.cborn_edn.specs.devices.Parse.{Allows, GoesOn, GoesOnAtAnyDepth, HasTree, IsSyntaxError, Parse, StopsAt, is_closing}

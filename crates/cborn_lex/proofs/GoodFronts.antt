@@ -1,5 +1,5 @@
 -- What reads by Forms.antt as white space, a comment or a token is taken as that by Good.antt, and what reads as bad fails for that reason by Bad.antt.
-use Rattle.cborn_lex.proofs.Common.{◌≡◌, refl, sym, ap, ◌∙◌, subst, ℕ, ◌<◌, ◌^◌, List, [], ◌∷◌, ◌++◌, Bool, true, false, ◌&&◌, ◌||◌, not, cond, eqb, ltb, inl, inr, Option, Some, None, Result, Ok, Err, append-nil, append_assoc, eqb-true, and_parts, and_from, or_parts, or_from, ltb-true, ltb-false, list_all, list_any, is_ascii_digit, is_ascii_alphabetic, is_ascii_alphanumeric, is_in_range, bytes_eq, codes, Profile, One, Two, Eight, Mark, Wide, LexReason, UnexpectedCharacter, UnclosedString, UnclosedComment, BadEscape, BadHex, BadBase64, UnknownPrefix, BadIndicator, BadNumber, NumberTooLarge, FloatLeftOut, Class, ArrayOpen, MapOpen, EmbedClose, ArrayClose, MapClose, ParenClose, Comma, Colon, EmbedOpen, ChunkOpen, SimpleOpen, Text, Bytes, TagOpen, Word, Front, WhiteSpace, Read, Bad, is_white, is_word, is_numeral, is_not, begins, mark_of, marked, are_digits, number, within, has_prefix, has_any, integer, signed, number_front, word_front, is_content, is_unclosed, IsText, IsHex, IsBase64, IsRun, IsIndicator, IsString, hexadecimal, base64, unknown, prefix_of, IsPrefixed, IsAfterWord, IsTag, Start, white, slash, hash, less, greater, paren, double, simple, letter, minus, digit, other, single, opening, ReadsFrom, Reads, IsMark, IsLiteral, IsNumeral, IsName, IsCoded, Takes, is_start, IsWord, is_float_word, IsPrefix, is_based, IsFloat, IsNoInteger, Fails}
+use Rattle.cborn_lex.proofs.Common.{◌≡◌, refl, sym, ap, ◌∙◌, subst, ℕ, ◌<◌, ◌^◌, List, [], ◌∷◌, ◌++◌, Bool, true, false, ◌&&◌, ◌||◌, not, cond, eqb, ltb, inl, inr, Option, Some, None, Result, Ok, Err, append-nil, append_assoc, eqb-true, and_parts, and_from, or_parts, or_from, ltb-true, ltb-false, list_all, list_any, is_ascii_digit, is_ascii_alphabetic, is_ascii_alphanumeric, is_in_range, bytes_eq, codes, Profile, One, Two, Eight, Mark, Wide, LexReason, UnexpectedCharacter, UnclosedString, UnclosedComment, BadEscape, BadHex, BadBase64, UnknownPrefix, BadIndicator, BadNumber, NumberTooLarge, FloatLeftOut, Class, ArrayOpen, MapOpen, EmbedClose, ArrayClose, MapClose, ParenClose, Comma, Colon, EmbedOpen, ChunkOpen, SimpleOpen, Text, Bytes, TagOpen, Word, Front, WhiteSpace, Read, Bad, is_white, is_word, is_numeral, is_not, begins, mark_of, marked, are_digits, number, within, has_prefix, has_any, integer, signed, number_front, word_front, is_content, is_unclosed, IsText, IsHex, IsBase64, IsRun, IsIndicator, IsString, hexadecimal, base64, unknown, prefix_of, IsPrefixed, IsAfterWord, IsTag, Start, white, slash, hash, less, greater, paren, double, simple, letter, minus, digit, other, single, opening, ReadsFrom, Reads, IsMark, IsLiteral, IsNumeral, IsName, IsCoded, Takes, is_start, IsWord, IsPrefix, IsNoInteger, Fails}
 use Rattle.std.specs.Prelude.{drop}
 use Rattle.cborn_lex.specs.Good as good
 use Rattle.cborn_lex.specs.Bad as bad
@@ -179,19 +179,15 @@ judge n x r e =
         → Judged n x r
     go true true hp o od b bd d w f g e1 e2 eh e3 e4 e5 e6 e7 e8 ef eg k = subst (Judged n x) k (valued n x (number 16 0 (drop 2 x)) (good.hexadecimal x e1 e2))
     go true false true o od b bd d w f g e1 e2 eh e3 e4 e5 e6 e7 e8 ef eg k = subst (Judged n x) k (bad.float (bad.hexadecimal (one_of (has_prefix (codes "0x") x) (has_prefix (codes "0X") x) true e1) eh))
-    go true false false o od b bd d w f g e1 e2 eh e3 e4 e5 e6 e7 e8 ef eg k = wrong k
     go false h hp true true b bd d w f g e1 e2 eh e3 e4 e5 e6 e7 e8 ef eg k = subst (Judged n x) k (valued n x (number 8 0 (drop 2 x)) (good.octal x e3 e4))
-    go false h hp true false b bd d w f g e1 e2 eh e3 e4 e5 e6 e7 e8 ef eg k = wrong k
     go false h hp false od true true d w f g e1 e2 eh e3 e4 e5 e6 e7 e8 ef eg k = subst (Judged n x) k (valued n x (number 2 0 (drop 2 x)) (good.binary x e5 e6))
-    go false h hp false od true false d w f g e1 e2 eh e3 e4 e5 e6 e7 e8 ef eg k = wrong k
     go false h hp false od false bd true true f g e1 e2 eh e3 e4 e5 e6 e7 e8 ef eg k = subst (Judged n x) k (valued n x (number 10 0 x) (good.decimal x e7 e8))
-    go false h hp false od false bd true false f g e1 e2 eh e3 e4 e5 e6 e7 e8 ef eg k = wrong k
     go false h hp false od false bd false w true g e1 e2 eh e3 e4 e5 e6 e7 e8 ef eg k =
         let both = and_parts (begins is_ascii_digit x) (has_any (codes ".eE") x) ef in
         let none = no_base (has_prefix (codes "0x") x) (has_prefix (codes "0X") x) (has_prefix (codes "0o") x) (has_prefix (codes "0O") x) (has_prefix (codes "0b") x) (has_prefix (codes "0B") x) e1 e3 e5 in
         subst (Judged n x) k (bad.float (bad.decimal both.0 none both.1))
     go false h hp false od false bd false w false true e1 e2 eh e3 e4 e5 e6 e7 e8 ef eg k = let both = and_parts n (has_prefix (codes "Infinity") x) eg in subst (Judged n x) k (bad.float (bad.infinite both.0 both.1))
-    go false h hp false od false bd false w false false e1 e2 eh e3 e4 e5 e6 e7 e8 ef eg k = wrong k
+    go _ _ _ _ _ _ _ _ _ _ _ e1 e2 eh e3 e4 e5 e6 e7 e8 ef eg k = wrong k
 
 around : (x y t z : List ℕ) → x ++ (y ++ (t ++ z)) ≡ (x ++ (y ++ t)) ++ z
 around x y t z = sym (assoc x (y ++ t) z ∙ ap (λ l. x ++ l) (assoc y t z))

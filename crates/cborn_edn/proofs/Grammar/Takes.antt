@@ -53,19 +53,19 @@ class_at (close_embed m) = EmbedClose m
 abbrev pub then : List Token → State → Option State
 then ts s = run ts (Some s)
 
-text_piece : (h : Home) (b : Option Pieces) (a : Span) (x : List ℕ) (m : Mark) (y : List Token) → then (token a (Text x m) ∷ y) (at_home h b) ≡ then y (builds h (with_piece b (text a x m)))
+pub text_piece : (h : Home) (b : Option Pieces) (a : Span) (x : List ℕ) (m : Mark) (y : List Token) → then (token a (Text x m) ∷ y) (at_home h b) ≡ then y (builds h (with_piece b (text a x m)))
 text_piece (as_item st) None a x m y = refl
 text_piece (as_chunk st s b) None a x m y = refl
 text_piece (as_item st) (Some ps) a x m y = refl
 text_piece (as_chunk st s b) (Some ps) a x m y = refl
 
-bytes_piece : (h : Home) (b : Option Pieces) (a : Span) (q : Bool) (x : List ℕ) (m : Mark) (y : List Token) → then (token a (Bytes q x m) ∷ y) (at_home h b) ≡ then y (builds h (with_piece b (bytes a q x m)))
+pub bytes_piece : (h : Home) (b : Option Pieces) (a : Span) (q : Bool) (x : List ℕ) (m : Mark) (y : List Token) → then (token a (Bytes q x m) ∷ y) (at_home h b) ≡ then y (builds h (with_piece b (bytes a q x m)))
 bytes_piece (as_item st) None a q x m y = refl
 bytes_piece (as_chunk st s b) None a q x m y = refl
 bytes_piece (as_item st) (Some ps) a q x m y = refl
 bytes_piece (as_chunk st s b) (Some ps) a q x m y = refl
 
-embed_opens : (h : Home) (b : Option Pieces) (a : Span) (y : List Token) → then (token a EmbedOpen ∷ y) (at_home h b) ≡ then y (wants (in_row (in_embed h b a) no_item))
+pub embed_opens : (h : Home) (b : Option Pieces) (a : Span) (y : List Token) → then (token a EmbedOpen ∷ y) (at_home h b) ≡ then y (wants (in_row (in_embed h b a) no_item))
 embed_opens (as_item st) None a y = refl
 embed_opens (as_chunk st s b) None a y = refl
 embed_opens (as_item st) (Some ps) a y = refl

@@ -59,9 +59,5 @@ home_brackets (as_chunk st s b) = stack_levels st
 
 -- there are as many open brackets as levels
 pub brackets_levels : (s : State) → length (brackets_of (stack_in s)) ≡ open_levels s
-brackets_levels (wants st) = stack_levels st
-brackets_levels (has st i) = stack_levels st
 brackets_levels (builds h ps) = home_brackets h
-brackets_levels (wants_chunk st s b) = stack_levels st
-brackets_levels (wants_number st s) = stack_levels st
-brackets_levels (has_number st s b n v m) = stack_levels st
+brackets_levels _ = stack_levels _

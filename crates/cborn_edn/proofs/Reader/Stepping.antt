@@ -3,7 +3,6 @@ use Rattle.cborn_edn.proofs.Common.{◌≡◌, refl, sym, ap, ◌∙◌, subst, 
 use Rattle.cborn_lex.proofs.GoodTexts.{through}
 use Rattle.cborn_lex.proofs.WholeTexts.Progress.{inside, few}
 use Rattle.cborn_lex.proofs.WholeTexts.Weights.{between_modest}
-use Rattle.cborn_edn.proofs.Reader.Modest.{modest_here}
 use Rattle.cborn_edn.proofs.Grammar.Machine.{State}
 use Rattle.cborn_edn.proofs.Grammar.Held.{open_levels}
 use Rattle.cborn_edn.proofs.Reader.Going.{goes_on, ends, unexpected, too_deep, never_taken, not_trailing, trailing}
@@ -40,7 +39,7 @@ module _ (p : Profile) (text : List ℕ) (are : AreBytes text) (here : Here) (w 
           record {
             content = s.content;
             between = here-is;
-            modest = (modest_here (class_of t.kind n s.content) there.0, tt);
+            modest = (there.0, tt);
             written = s.written ∙ ap (λ (k : Class). w.pieces.items ++ content_of k) s.class;
           }
 

@@ -11,7 +11,6 @@ use Rattle.cborn_edn.proofs.Grammar.Parser.{forbids}
 use Rattle.cborn_edn.specs.declared.states.Phase.TheVariants as phases
 use Rattle.cborn_edn.proofs.Reader.Counts.{shown_few, brackets_levels}
 use Rattle.cborn_edn.proofs.Reader.Going.{goes_on, skips, free_none, tight_free}
-use Rattle.cborn_edn.proofs.Reader.Modest.{modest_here}
 use Rattle.cborn_edn.proofs.Reader.Settling.{settled}
 use Rattle.cborn_edn.proofs.Reader.Stepping.{read_at}
 use Rattle.cborn_edn.proofs.Reader.Turning.{is_has, is_wants, is_builds, is_wants_number, HasNumber, is_has_number, item_home, chunk_home}
@@ -42,7 +41,7 @@ went (a, further) = (a, omega (arith, further), λ e. further)
 
 -- what is known of a token
 pub modest_at : (p : Profile) (text : List ℕ) (at stop : ℕ) (c : Class) → AreBytes text → IsTokenAt p text at stop c → IsModest c
-modest_at p text at stop c are tok = modest_here c (between_modest p text at stop (token_at at stop c ∷ []) are (through p tok)).0
+modest_at p text at stop c are tok = (between_modest p text at stop (token_at at stop c ∷ []) are (through p tok)).0
 
 module _ {h : Holds} {p : Profile} {limit : ℕ} {text : List ℕ} {here : Here} {w : Writer} (r : IsReadTo h p limit text here w) where
   -- LAW: on with white space and comments

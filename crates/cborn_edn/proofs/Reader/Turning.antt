@@ -1,8 +1,8 @@
 -- What one token does, by its kind.
-use Rattle.cborn_edn.proofs.Common.{◌≡◌, refl, sym, ap, ◌∙◌, subst, ℕ, ◌<◌, ◌≤◌, List, [], ◌∷◌, ◌++◌, length, Bool, true, false, Option, Some, None, append-nil, arith, ◌⊎◌, inl, inr, length-append, Kind, Mark, Class, class_of, content_of, Comma, Colon, top, no_part, OfBytes, OfText, IsWritten, Speller, Span, Item, Pieces, text, bytes, StringsBefore, string, simple, row, no_item, after_row, Content, loose, tight, pairs, no_pair, after_pairs, at_home, Here, Writer, Phase, wanting, phase_of, bytes_around_home, bytes_before, stack_in, Shows, content_state, Holds, states_around, states_around_nest, states_around_home, Handed, AllHanded, IsSpelled, Reads, Ready, Turned, Taken, Takes, Turns, EndsPieces, has_chunks, is_piece, takes_no_piece}
+use Rattle.cborn_edn.proofs.Common.{◌≡◌, refl, sym, ap, ◌∙◌, subst, ℕ, ◌<◌, ◌≤◌, List, [], ◌∷◌, ◌++◌, length, Bool, true, false, Option, Some, None, append-nil, arith, ◌⊎◌, inl, inr, length-append, Kind, Mark, Class, class_of, content_of, Comma, Colon, top, no_part, OfBytes, OfText, IsWritten, Speller, Span, Item, Pieces, StringsBefore, string, simple, row, no_item, after_row, Content, loose, tight, pairs, after_pairs, at_home, Here, Writer, Phase, wanting, phase_of, bytes_around_home, bytes_before, stack_in, Shows, content_state, Holds, states_around, states_around_nest, states_around_home, Handed, AllHanded, IsSpelled, Reads, Ready, Turned, Taken, Takes, Turns, EndsPieces, has_chunks, is_piece, takes_no_piece}
 use Rattle.cborn_lex.specs.declared.classes.Kind.TheVariants as kinds
 use Rattle.cborn_lex.specs.declared.classes.Class.TheVariants as classes
-use Rattle.cborn_edn.proofs.Grammar.Machine.{Stack, in_row, in_key, in_value, in_tag, at_top, in_embed, Home, as_item, as_chunk, State, wants, has, builds, wants_chunk, wants_number, has_number, with_piece, step_by}
+use Rattle.cborn_edn.proofs.Grammar.Machine.{Stack, in_row, in_key, in_value, at_top, in_embed, Home, as_item, as_chunk, State, wants, has, builds, wants_chunk, wants_number, has_number, step_by}
 use Rattle.cborn_edn.specs.declared.states.Phase.TheVariants as phases
 use Rattle.cborn_edn.specs.devices.Kept.{chunks_of}
 use Rattle.cborn_edn.proofs.HandedOver.Handing.{stays}
@@ -85,12 +85,9 @@ data Wanting (st : Stack) : Type 0 where
   again : wanting st ≡ phases.WantsMore → Wanting st
 
 wanted : (st : Stack) → Wanting st
-wanted (in_row n no_item) = first refl
 wanted (in_row n (after_row r c)) = again refl
-wanted (in_key st s m no_pair) = first refl
 wanted (in_key st s m (after_pairs ps c)) = again refl
-wanted (in_value st s m b k c) = first refl
-wanted (in_tag st s n m) = first refl
+wanted _ = first refl
 
 -- the numbers of the phases, of which no two are the same
 abbrev number : Phase → ℕ
@@ -213,25 +210,6 @@ pub adding : {h : Holds} (kind : Kind) (number place : ℕ) (here next : Here) (
 adding {h = h} kind number place here next writer left s none f base c a p r =
     let d = adds s (ap takes_no_piece (sym r.shows.shows.phase) ∙ none) in
     subst (λ (u : State). Takes h h kind number place here writer next left true u) d.is (f d.home d.before) base c a p r
-
--- what the machine then does
-pub adds_text : (home : Home) (o : Option Pieces) (x : List ℕ) (m : Mark) (a : Span) → step_by (at_home home o) (classes.Text x m) a ≡ Some (builds home (with_piece o (text a x m)))
-adds_text (as_item st) None x m a = refl
-adds_text (as_item st) (Some ps) x m a = refl
-adds_text (as_chunk st s b) None x m a = refl
-adds_text (as_chunk st s b) (Some ps) x m a = refl
-
-pub adds_bytes : (home : Home) (o : Option Pieces) (q : Bool) (x : List ℕ) (m : Mark) (a : Span) → step_by (at_home home o) (classes.Bytes q x m) a ≡ Some (builds home (with_piece o (bytes a q x m)))
-adds_bytes (as_item st) None q x m a = refl
-adds_bytes (as_item st) (Some ps) q x m a = refl
-adds_bytes (as_chunk st s b) None q x m a = refl
-adds_bytes (as_chunk st s b) (Some ps) q x m a = refl
-
-pub adds_embedded : (home : Home) (o : Option Pieces) (a : Span) → step_by (at_home home o) classes.EmbedOpen a ≡ Some (wants (in_row (in_embed home o a) no_item))
-adds_embedded (as_item st) None a = refl
-adds_embedded (as_item st) (Some ps) a = refl
-adds_embedded (as_chunk st s b) None a = refl
-adds_embedded (as_chunk st s b) (Some ps) a = refl
 
 -- the bytes of the innermost string begin in what was read
 pub start_inside : {h : Holds} (kind : Kind) (number : ℕ) (here : Here) (writer : Writer) (s : State) (base : List ℕ) (c : Class) → takes_no_piece here.phase ≡ false → Ready h kind number here writer s base c → writer.start ≤ length writer.pieces.items

@@ -5,7 +5,7 @@ use Rattle.hex.proofs.HexLemmas.{IsAscii-encode_with}
 use Rattle.cborn_model.specs.Tree.{Bytes as ByteNode, Text as TextNode, Pairs as PairNode, no_item as no_node}
 use Rattle.cborn_model.proofs.Numbers.Simples.{simple_below}
 use Rattle.cborn_edn.proofs.RoundTrip.Back.{below}
-use Rattle.cborn_edn.proofs.Lexed.Tables.{passes, passes-at}
+use Rattle.cborn_lex.proofs.TwoParts.{passes, passes_at}
 
 -- Text with its escapes.
 
@@ -23,7 +23,7 @@ each_low = refl
 
 pub escape_low : (b : ℕ) → b < 128 → (is_low (escaped b) ≡ true) × (0 < length (escaped b))
 escape_low b h =
-    let e = and_parts (ltb 0 (length (escaped b))) (is_low (escaped b)) (passes-at (λ b. ltb 0 (length (escaped b)) && is_low (escaped b)) 0 128 b each_low (omega arith) (omega arith)) in
+    let e = and_parts (ltb 0 (length (escaped b))) (is_low (escaped b)) (passes_at (λ b. ltb 0 (length (escaped b)) && is_low (escaped b)) 0 128 b each_low (omega arith) (omega arith)) in
     (e.1, ltb-true 0 (length (escaped b)) e.0)
 
 pub escaped_low : (b : ℕ) → b < 128 → IsAscii (escaped b) × (0 < length (escaped b))

@@ -5,7 +5,7 @@ use Rattle.cborn_lex.specs.declared.classes.Kind.TheVariants as kinds
 use Rattle.cborn_lex.specs.declared.classes.Class.{Class}
 use Rattle.cborn_lex.specs.declared.classes.Class.TheVariants.{EmbedOpen, Text, Bytes}
 use Rattle.cborn_lex.specs.Kinds.{class_of, StandsFor}
-use Rattle.cborn_edn.specs.devices.Modest.{IsModest}
+use Rattle.cborn_lex.specs.shared.Modest.{IsModest}
 use Rattle.cborn_edn.specs.devices.Syntax.{Span, Pieces}
 use Rattle.cborn_edn.specs.devices.Machine.{Home, State, wants, has, builds, step_by}
 use Rattle.cborn_edn.specs.declared.states.Level.{Level}
