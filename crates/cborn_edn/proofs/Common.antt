@@ -32,11 +32,12 @@ pub use Rattle.cborn_lex.specs.declared.classes.Token.{Token}
 pub use Rattle.cborn_lex.specs.declared.faults.LexFault.{LexFault}
 pub use Rattle.cborn_lex.specs.devices.Letters.{Letter, LettersSoFar, is_letter, is_plain, meant, raw, unit, written}
 pub use Rattle.cborn_lex.specs.shared.Modest.{AreModest, IsModest}
+pub use Rattle.cborn_lex.specs.declared.classes.Profile.TheVariants.{One as ProfileOne, Two as ProfileTwo}
 pub use Rattle.cborn_model.specs.Bytes.{AreBytes, big_endian}
 pub use Rattle.cborn_model.specs.Heads.{Argument, EndlessArgument, Given, SizeFits, WidthFits, argument, code, following, head, holds, is_simple_value, least}
 pub use Rattle.cborn_model.specs.Partial.{AreStrings, Ends, IsFree, Opening, Partial, TakesString, a_map, a_tag, an_array, built, chunks_of, chunks_tree, ended_size, in_chunks, inside, integer_tree, last_key, last_of, no_part, paired, part, put, string_tree, top}
 pub use Rattle.cborn_model.specs.Spelled.{ChunksFit, Fits, FitsAll, FitsEntries, chunk_bytes, spelled, spelled_all, spelled_entries}
-pub use Rattle.cborn_model.specs.Tree.{ByteChunks, Entries, Items, Nint, Pairs, Simple, Tagged, TextChunks, Tree, Trees, Uint, count, count_entries, depth_all, depth_entries, entries, entry, more, no_entry, trees}
+pub use Rattle.cborn_model.specs.Tree.{ByteChunks, Entries, Items, Nint, Pairs, Simple, Tagged, TextChunks, Tree, Trees, Uint, count, count_entries, depth_all, depth_entries, entries, entry, more, no_entry, trees, Bytes as ByteNode, Text as TextNode, no_item as no_node}
 pub use Rattle.cborn_model.specs.declared.heads.Major.{Major}
 pub use Rattle.cborn_model.specs.declared.heads.Major.TheVariants.{Array, ByteString, Negative, Other, TextString, Unsigned}
 pub use Rattle.cborn_model.specs.declared.heads.Size.{Size}
@@ -78,7 +79,7 @@ pub use Rattle.cborn_edn.specs.devices.Handed.{AllHanded, Handed, Hands, Innermo
 pub use Rattle.cborn_edn.specs.devices.Kept.{around, arounds_home, arounds_nest, arounds_of, bracket, brackets_home, brackets_nest, brackets_of, bytes_around, bytes_around_home, bytes_around_nest, bytes_before, bytes_open, chunks_in, count_of, joint, kind_before, kind_or, level_of, phase_of, piece_bytes, pieces_bytes, stack_in, stack_of, string_at, string_in, wanting}
 pub use Rattle.cborn_edn.specs.devices.Levels.{reach}
 pub use Rattle.cborn_edn.specs.devices.Lexical.{lexical}
-pub use Rattle.cborn_edn.specs.devices.Machine.{Home, Nest, Stack, State, as_chunk, as_item, at_home, at_top, builds, has, has_number, in_array, in_embed, in_key, in_row, in_tag, in_value, wants, wants_chunk, wants_number, with_piece}
+pub use Rattle.cborn_edn.specs.devices.Machine.{Answer, Home, Nest, Stack, State, after_number, after_string, as_chunk, as_item, at_end, at_home, at_top, begin, begin_chunk, begin_number, builds, checked, comma_at, comma_in, ends, ends_loose, finish, forbids, has, has_number, held, held_home, held_nest, held_stack, in_array, in_embed, in_key, in_row, in_tag, in_value, levels, levels_home, levels_nest, more_string, open_levels, parse, run, start, step, step_by, wants, wants_chunk, wants_number, with_piece}
 pub use Rattle.cborn_edn.specs.devices.MeaningErrors.{Notes, earlier, first_error, is_none}
 pub use Rattle.cborn_edn.specs.devices.Notating.{IsBadIn, IsCounted, IsEnded, IsHeld, IsLowest, after, beginning, content, count_one, ending, is_counted, late_in, late_size, lates, lowest_with, next_after, next_around, next_in, one_more, quote, separator, string_end, tally}
 pub use Rattle.cborn_edn.specs.devices.Noted.{noted, noted_home, noted_nest, noted_stack, pieces_noted, strings_noted}

@@ -1,9 +1,8 @@
 -- The token after a string that is known to end.
-use Rattle.cborn_edn.proofs.Common.{◌≡◌, refl, sym, ap, ◌∙◌, subst, ℕ, ◌+◌, List, [], ◌∷◌, length, drop, get_or, true, false, eqb, inl, inr, arith, eqb-true, or_cases, drop_all, Profile, Class, ArrayClose, MapClose, ParenClose, Comma, Colon, Token, WhiteSpace, Read, Start, single, start_of, ReadsFrom, Through, Between, ends_string, NoPieceAt}
+use Rattle.cborn_edn.proofs.Common.{◌≡◌, refl, sym, ap, ◌∙◌, subst, ℕ, ◌+◌, List, [], ◌∷◌, length, drop, get_or, true, false, eqb, inl, inr, arith, eqb-true, or_cases, drop_all, Profile, Class, ArrayClose, MapClose, ParenClose, Comma, Colon, Token, WhiteSpace, Read, Start, single, start_of, ReadsFrom, Through, Between, ends_string, NoPieceAt, EndsPieces}
 use Rattle.cborn_lex.specs.Forms.{Reads}
 use Rattle.cborn_lex.specs.Lex as lex
 use Rattle.cborn_lex.proofs.OneFront.Alone.{one_front}
-use Rattle.cborn_edn.specs.devices.Steps.{EndsPieces}
 use Rattle.cborn_edn.proofs.Reader.CommonTokens.{begins_here}
 
 clash : {A : Type 0} → false ≡ true → A

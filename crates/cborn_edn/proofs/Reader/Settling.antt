@@ -1,14 +1,8 @@
 -- A string that no other piece follows is an item.
-use Rattle.cborn_edn.proofs.Common.{◌≡◌, refl, sym, ap, ◌∙◌, ℕ, List, [], ◌∷◌, ◌++◌, length, cond, leb, Option, Some, None, is_utf8-from_IsUtf8, IsUtf8, least, Absent, Profile, Token, MeaningError, unless, TextNotUtf8, first_error, reach, Span, span, Item, Pieces, piece, text, string, node, faults, NoPieceAt, noted_stack, Reached}
-use Rattle.cborn_model.specs.Tree.{Text as TextNode}
-use Rattle.cborn_edn.proofs.Grammar.Machine.{Stack, in_row, at_top, as_item, State, has, builds, step}
-use Rattle.cborn_edn.proofs.Grammar.Held.{levels, comma_at}
-use Rattle.cborn_edn.proofs.Grammar.Takes.{finish}
-use Rattle.cborn_edn.proofs.Grammar.Parser.{at_end, checked, forbids, parse}
+use Rattle.cborn_edn.proofs.Common.{◌≡◌, refl, sym, ap, ◌∙◌, ℕ, List, [], ◌∷◌, ◌++◌, length, cond, leb, Option, Some, None, is_utf8-from_IsUtf8, IsUtf8, least, Absent, Profile, Token, MeaningError, unless, TextNotUtf8, first_error, reach, Span, span, Item, Pieces, piece, text, string, node, faults, NoPieceAt, noted_stack, Reached, TextNode, Stack, in_row, at_top, as_item, State, has, builds, step, levels, comma_at, finish, at_end, checked, forbids, parse, EndsPieces}
 use Rattle.cborn_edn.proofs.Reader.Going.{after_token}
 use Rattle.cborn_edn.proofs.Reader.NextPieces.{next_ends}
 use Rattle.cborn_edn.proofs.Reader.Turning.{ended_same}
-use Rattle.cborn_edn.specs.devices.Steps.{EndsPieces}
 use Rattle.cborn_edn.proofs.Reader.Showing.{same_errors}
 
 checked_same : (p : Profile) (limit : ℕ) (s v : State) (t : Token) (o : Option State) → comma_at s t.class ≡ comma_at v t.class → checked p limit s t o ≡ checked p limit v t o

@@ -1,10 +1,8 @@
 -- One token that is read: the reader goes on, or refuses the text.
-use Rattle.cborn_edn.proofs.Common.{◌≡◌, refl, sym, ap, ◌∙◌, subst, ℕ, ◌^◌, ◌<◌, ◌≤◌, List, [], ◌∷◌, ◌++◌, length, Bool, true, false, Option, Some, None, arith, ◌⊎◌, inl, inr, AreBytes, Between, IsStopFrom, class_of, content_of, IsNextBareToken, BareToken, Class, Profile, Token, LexFault, AreModest, EdnReason, UnexpectedToken, TooDeep, EdnFault, Refused, IsNoNotation, lexical, reach, Here, Writer, phase_of, Shows, Holds, Reads, Ready, Taken, Takes, is_trailing_comma, IsReadTo, Judged}
+use Rattle.cborn_edn.proofs.Common.{◌≡◌, refl, sym, ap, ◌∙◌, subst, ℕ, ◌^◌, ◌<◌, ◌≤◌, List, [], ◌∷◌, ◌++◌, length, Bool, true, false, Option, Some, None, arith, ◌⊎◌, inl, inr, AreBytes, Between, IsStopFrom, class_of, content_of, IsNextBareToken, BareToken, Class, Profile, Token, LexFault, AreModest, EdnReason, UnexpectedToken, TooDeep, EdnFault, Refused, IsNoNotation, lexical, reach, Here, Writer, phase_of, Shows, Holds, Reads, Ready, Taken, Takes, is_trailing_comma, IsReadTo, Judged, State, open_levels}
 use Rattle.cborn_lex.proofs.GoodTexts.{through}
 use Rattle.cborn_lex.proofs.WholeTexts.Progress.{inside, few}
 use Rattle.cborn_lex.proofs.WholeTexts.Weights.{between_modest}
-use Rattle.cborn_edn.proofs.Grammar.Machine.{State}
-use Rattle.cborn_edn.proofs.Grammar.Held.{open_levels}
 use Rattle.cborn_edn.proofs.Reader.Going.{goes_on, ends, unexpected, too_deep, never_taken, not_trailing, trailing}
 use Rattle.cborn_edn.proofs.Reader.Counts.{shown_few, brackets_levels}
 

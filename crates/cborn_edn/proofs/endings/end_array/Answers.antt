@@ -1,5 +1,4 @@
-use Rattle.cborn_edn.proofs.Common.{◌≡◌, refl, sym, ap, ◌∙◌, subst, Some, ArrayClose, array, is_array, Reads}
-use Rattle.cborn_edn.proofs.Grammar.Machine.{State, has, step_by}
+use Rattle.cborn_edn.proofs.Common.{◌≡◌, refl, sym, ap, ◌∙◌, subst, Some, ArrayClose, array, is_array, Reads, State, has, step_by}
 use Rattle.cborn_edn.proofs.Reader.Inverted.{ending, array_at, array_step, no_array, is_open}
 use Rattle.cborn_edn.proofs.endings.end_array.Goals as goal
 

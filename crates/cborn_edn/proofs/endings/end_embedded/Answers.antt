@@ -1,5 +1,4 @@
-use Rattle.cborn_edn.proofs.Common.{◌≡◌, sym, ap, ◌∙◌, subst, ◌∷◌, Some, EmbedClose, embedded, is_embedded, stack_in, content_state, states_around, AllHanded, Reads}
-use Rattle.cborn_edn.proofs.Grammar.Machine.{State, in_embed, builds, with_piece, step_by}
+use Rattle.cborn_edn.proofs.Common.{◌≡◌, sym, ap, ◌∙◌, subst, ◌∷◌, Some, EmbedClose, embedded, is_embedded, stack_in, content_state, states_around, AllHanded, Reads, State, in_embed, builds, with_piece, step_by}
 use Rattle.cborn_edn.proofs.HandedOver.Silent.{embed_closed}
 use Rattle.cborn_edn.proofs.Reader.Inverted.{ending, embed_at, embed_step, no_embed}
 use Rattle.cborn_edn.proofs.Reader.Turning.{content_spelled}

@@ -1,5 +1,4 @@
-use Rattle.cborn_edn.proofs.Common.{◌≡◌, refl, sym, ap, ◌∙◌, subst, Some, Comma, row, after_row, pairs, after_pairs, is_value, is_row, Shows}
-use Rattle.cborn_edn.proofs.Grammar.Machine.{Stack, in_row, in_key, wants, has, step_by}
+use Rattle.cborn_edn.proofs.Common.{◌≡◌, refl, sym, ap, ◌∙◌, subst, Some, Comma, row, after_row, pairs, after_pairs, is_value, is_row, Shows, Stack, in_row, in_key, wants, has, step_by}
 use Rattle.cborn_edn.proofs.Reader.Inverted.{value_at, row_at, no_comma}
 use Rattle.cborn_edn.proofs.endings.end_entry.Goals as goal
 

@@ -1,5 +1,4 @@
-use Rattle.cborn_edn.proofs.Common.{◌≡◌, refl, sym, ap, ◌∙◌, subst, Some, Colon, is_key, Shows}
-use Rattle.cborn_edn.proofs.Grammar.Machine.{Stack, in_value, wants, has, step_by}
+use Rattle.cborn_edn.proofs.Common.{◌≡◌, refl, sym, ap, ◌∙◌, subst, Some, Colon, is_key, Shows, Stack, in_value, wants, has, step_by}
 use Rattle.cborn_edn.proofs.Reader.Inverted.{key_at, no_key}
 use Rattle.cborn_edn.proofs.endings.end_key.Goals as goal
 

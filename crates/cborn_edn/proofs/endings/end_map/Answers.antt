@@ -1,6 +1,5 @@
-use Rattle.cborn_edn.proofs.Common.{◌≡◌, sym, ap, ◌∙◌, subst, Some, MapClose, ends_map, phase_of, Reads}
+use Rattle.cborn_edn.proofs.Common.{◌≡◌, sym, ap, ◌∙◌, subst, Some, MapClose, ends_map, phase_of, Reads, State, has, step_by}
 use Rattle.cborn_edn.specs.devices.Syntax.{map}
-use Rattle.cborn_edn.proofs.Grammar.Machine.{State, has, step_by}
 use Rattle.cborn_edn.proofs.Reader.Inverted.{ending, map_at, map_step, no_map, is_open, ends_none}
 use Rattle.cborn_edn.proofs.endings.end_map.Goals as goal
 

@@ -1,5 +1,4 @@
-use Rattle.cborn_edn.proofs.Common.{◌≡◌, refl, sym, ap, ◌∙◌, subst, Some, ParenClose, tag, is_tag, Reads}
-use Rattle.cborn_edn.proofs.Grammar.Machine.{Stack, has, step_by}
+use Rattle.cborn_edn.proofs.Common.{◌≡◌, refl, sym, ap, ◌∙◌, subst, Some, ParenClose, tag, is_tag, Reads, Stack, has, step_by}
 use Rattle.cborn_edn.proofs.Reader.Inverted.{tag_at, no_tag, is_open}
 use Rattle.cborn_edn.proofs.endings.end_tag.Goals as goal
 

@@ -1,6 +1,5 @@
-use Rattle.cborn_edn.proofs.Common.{subst, arith, ◌^◌, ◌<◌}
+use Rattle.cborn_edn.proofs.Common.{subst, arith, ◌^◌, ◌<◌, start}
 use Rattle.cborn_edn.specs.declared.states.TheConstants as constants
-use Rattle.cborn_edn.proofs.Grammar.Machine.{start}
 use Rattle.cborn_edn.proofs.Reader.Ending.{first_reads}
 use Rattle.cborn_edn.proofs.Reader.Going.{begins}
 use Rattle.cborn_edn.proofs.passes.visit_text.Goals as goal

@@ -1,6 +1,5 @@
-use Rattle.cborn_edn.proofs.Common.{refl, sym, ap, ◌∙◌, ℕ, List, arith, ◌+◌, ◌≡◌, slice_index, ParenClose, Span, simple, states_around}
+use Rattle.cborn_edn.proofs.Common.{refl, sym, ap, ◌∙◌, ℕ, List, arith, ◌+◌, ◌≡◌, slice_index, ParenClose, Span, simple, states_around, has, has_number}
 use Rattle.cborn_lex.specs.Good as good
-use Rattle.cborn_edn.proofs.Grammar.Machine.{has, has_number}
 use Rattle.cborn_edn.proofs.Reader.CommonTokens.{single_here}
 use Rattle.cborn_edn.proofs.HandedOver.Handing.{stays}
 use Rattle.cborn_edn.proofs.HandedOver.Silent.{handed_close_simple}

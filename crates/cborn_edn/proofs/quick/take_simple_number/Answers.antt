@@ -1,6 +1,4 @@
-use Rattle.cborn_edn.proofs.Common.{refl, arith, false, subst, Bool, Number, TagOpen, Span, IsTokenAt}
-use Rattle.std.proofs.Common.{if◌then◌else◌}
-use Rattle.cborn_edn.proofs.Grammar.Machine.{has_number}
+use Rattle.cborn_edn.proofs.Common.{refl, arith, false, subst, Bool, Number, TagOpen, Span, IsTokenAt, if◌then◌else◌, has_number}
 use Rattle.cborn_edn.proofs.Reader.Taking.{went, number_taken, number_low}
 use Rattle.cborn_edn.proofs.quick.take_simple_number.Goals as goal
 

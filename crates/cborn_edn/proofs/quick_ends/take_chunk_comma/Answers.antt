@@ -1,6 +1,5 @@
-use Rattle.cborn_edn.proofs.Common.{refl, arith, ◌+◌, Comma, Span, strings, after_strings}
+use Rattle.cborn_edn.proofs.Common.{refl, arith, ◌+◌, Comma, Span, strings, after_strings, as_chunk, builds, wants_chunk}
 use Rattle.cborn_lex.specs.Good as good
-use Rattle.cborn_edn.proofs.Grammar.Machine.{as_chunk, builds, wants_chunk}
 use Rattle.cborn_edn.proofs.Reader.CommonTokens.{single_here}
 use Rattle.cborn_edn.proofs.Reader.Going.{free_none}
 use Rattle.cborn_edn.proofs.Reader.Taking.{went, chunked, taken_from}

@@ -1,7 +1,5 @@
-use Rattle.cborn_edn.proofs.Common.{refl, arith, ◌+◌, ParenClose, Span, strings}
+use Rattle.cborn_edn.proofs.Common.{refl, arith, ◌+◌, ParenClose, Span, strings, chunked as chunked_item, as_chunk, builds, has}
 use Rattle.cborn_lex.specs.Good as good
-use Rattle.cborn_edn.specs.devices.Syntax.{chunked as chunked_item}
-use Rattle.cborn_edn.proofs.Grammar.Machine.{as_chunk, builds, has}
 use Rattle.cborn_edn.proofs.Reader.CommonTokens.{single_here}
 use Rattle.cborn_edn.proofs.Reader.Going.{free_none}
 use Rattle.cborn_edn.proofs.Reader.Taking.{went, chunked, taken_from}

@@ -1,6 +1,5 @@
-use Rattle.cborn_edn.proofs.Common.{refl, arith, ◌+◌, Comma, Span}
+use Rattle.cborn_edn.proofs.Common.{refl, arith, ◌+◌, Comma, Span, has}
 use Rattle.cborn_lex.specs.Good as good
-use Rattle.cborn_edn.proofs.Grammar.Machine.{has}
 use Rattle.cborn_edn.proofs.Reader.CommonTokens.{single_here}
 use Rattle.cborn_edn.proofs.Reader.Turning.{still_taken, comma_handed}
 use Rattle.cborn_edn.proofs.Reader.Taking.{skipped_to, after_taken, few_here}

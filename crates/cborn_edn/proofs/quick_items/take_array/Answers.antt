@@ -1,5 +1,4 @@
-use Rattle.cborn_edn.proofs.Common.{refl, arith, List, ℕ, ap, ◌∙◌, slice_index, ArrayOpen, Span, no_item}
-use Rattle.cborn_edn.proofs.Grammar.Machine.{wants, in_row, in_array}
+use Rattle.cborn_edn.proofs.Common.{refl, arith, List, ℕ, ap, ◌∙◌, slice_index, ArrayOpen, Span, no_item, wants, in_row, in_array}
 use Rattle.cborn_edn.proofs.Reader.Taking.{went, item_taken}
 use Rattle.cborn_edn.proofs.quick_items.take_array.Goals as goal
 

@@ -1,5 +1,4 @@
-use Rattle.cborn_edn.proofs.Common.{refl, arith, ◌+◌, ChunkOpen, Span, no_string, states_around}
-use Rattle.cborn_edn.proofs.Grammar.Machine.{wants, wants_chunk}
+use Rattle.cborn_edn.proofs.Common.{refl, arith, ◌+◌, ChunkOpen, Span, no_string, states_around, wants, wants_chunk}
 use Rattle.cborn_edn.proofs.Reader.Turning.{same_handed}
 use Rattle.cborn_edn.proofs.HandedOver.Silent.{handed_open_chunks}
 use Rattle.cborn_edn.proofs.Reader.Taking.{went, item_taken}

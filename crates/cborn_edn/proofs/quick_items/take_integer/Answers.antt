@@ -1,6 +1,4 @@
-use Rattle.cborn_edn.proofs.Common.{refl, arith, false, subst, Bool, List, ℕ, Number, TagOpen, IsTokenAt, Span, number}
-use Rattle.std.proofs.Common.{if◌then◌else◌}
-use Rattle.cborn_edn.proofs.Grammar.Machine.{has}
+use Rattle.cborn_edn.proofs.Common.{refl, arith, false, subst, Bool, List, ℕ, Number, TagOpen, IsTokenAt, Span, number, if◌then◌else◌, has}
 use Rattle.cborn_edn.proofs.Reader.Taking.{went, item_taken, number_low}
 use Rattle.cborn_edn.proofs.quick_items.take_integer.Goals as goal
 

@@ -1,5 +1,4 @@
-use Rattle.cborn_edn.proofs.Common.{refl, arith, List, ℕ, ap, ◌∙◌, slice_index, MapOpen, Span, no_pair}
-use Rattle.cborn_edn.proofs.Grammar.Machine.{wants, in_key}
+use Rattle.cborn_edn.proofs.Common.{refl, arith, List, ℕ, ap, ◌∙◌, slice_index, MapOpen, Span, no_pair, wants, in_key}
 use Rattle.cborn_edn.proofs.Reader.Taking.{went, item_taken}
 use Rattle.cborn_edn.proofs.quick_items.take_map.Goals as goal
 

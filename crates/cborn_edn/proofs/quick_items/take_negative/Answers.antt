@@ -1,5 +1,4 @@
-use Rattle.cborn_edn.proofs.Common.{refl, arith, true, Number, Absent, Span, number}
-use Rattle.cborn_edn.proofs.Grammar.Machine.{has}
+use Rattle.cborn_edn.proofs.Common.{refl, arith, true, Number, Absent, Span, number, has}
 use Rattle.cborn_edn.proofs.Reader.Taking.{went, item_taken, number_low}
 use Rattle.cborn_edn.proofs.quick_items.take_negative.Goals as goal
 

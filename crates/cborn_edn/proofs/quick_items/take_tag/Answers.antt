@@ -1,5 +1,4 @@
-use Rattle.cborn_edn.proofs.Common.{refl, arith, TagOpen, Span}
-use Rattle.cborn_edn.proofs.Grammar.Machine.{wants, in_tag}
+use Rattle.cborn_edn.proofs.Common.{refl, arith, TagOpen, Span, wants, in_tag}
 use Rattle.cborn_edn.proofs.Reader.Taking.{went, item_taken}
 use Rattle.cborn_edn.proofs.quick_items.take_tag.Goals as goal
 

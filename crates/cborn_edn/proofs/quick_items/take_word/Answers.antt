@@ -1,5 +1,4 @@
-use Rattle.cborn_edn.proofs.Common.{refl, arith, Word, Span, word}
-use Rattle.cborn_edn.proofs.Grammar.Machine.{has}
+use Rattle.cborn_edn.proofs.Common.{refl, arith, Word, Span, word, has}
 use Rattle.cborn_edn.proofs.Reader.Taking.{went, modest_found, item_taken}
 use Rattle.cborn_edn.proofs.quick_items.take_word.Goals as goal
 

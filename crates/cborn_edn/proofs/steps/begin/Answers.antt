@@ -1,6 +1,5 @@
-use Rattle.cborn_edn.proofs.Common.{refl, ap, ◌∙◌, subst, true, class_of, Kind, IsModest, is_piece, number, word, no_item, no_pair, no_string, states_around}
+use Rattle.cborn_edn.proofs.Common.{refl, ap, ◌∙◌, subst, true, class_of, Kind, IsModest, is_piece, number, word, no_item, no_pair, no_string, states_around, in_row, in_key, in_tag, in_array, wants, has, wants_chunk, wants_number}
 use Rattle.cborn_lex.specs.declared.classes.Kind.TheVariants as kinds
-use Rattle.cborn_edn.proofs.Grammar.Machine.{in_row, in_key, in_tag, in_array, wants, has, wants_chunk, wants_number}
 use Rattle.cborn_edn.proofs.Reader.Results.{if_ok}
 use Rattle.cborn_edn.proofs.Reader.Turning.{turn, same_handed, shown_kind}
 use Rattle.cborn_edn.proofs.HandedOver.Silent.{handed_open_chunks, handed_open_simple}

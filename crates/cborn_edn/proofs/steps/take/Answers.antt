@@ -1,5 +1,4 @@
-use Rattle.cborn_edn.proofs.Common.{sym, ◌∙◌, subst, inl, inr, class_of, IsReady, EndsPieces}
-use Rattle.cborn_edn.proofs.Grammar.Machine.{State, wants, has, builds, wants_number, has_number}
+use Rattle.cborn_edn.proofs.Common.{sym, ◌∙◌, subst, inl, inr, class_of, IsReady, EndsPieces, State, wants, has, builds, wants_number, has_number}
 use Rattle.cborn_edn.proofs.Reader.Results.{if_ok}
 use Rattle.cborn_edn.proofs.Reader.Turning.{is_has, is_wants, is_builds, is_wants_number, is_has_number, taken_as, still_taken, paren_handed, shown_kind, bare_taken, no_piece, no_chunk}
 use Rattle.cborn_edn.proofs.steps.take.Goals as goal

@@ -1,7 +1,6 @@
-use Rattle.cborn_edn.proofs.Common.{[], ◌≡◌, refl, sym, ap, ◌∙◌, subst, true, None, Class, text, bytes, no_item, takes_no_piece}
+use Rattle.cborn_edn.proofs.Common.{[], ◌≡◌, refl, sym, ap, ◌∙◌, subst, true, None, Class, text, bytes, no_item, takes_no_piece, in_row, in_embed, wants, builds, with_piece, step_by, at_home}
 use Rattle.cborn_lex.specs.declared.classes.Kind.TheVariants as kinds
-use Rattle.cborn_edn.proofs.Grammar.Machine.{in_row, in_embed, wants, builds, with_piece, step_by}
-use Rattle.cborn_edn.proofs.Grammar.Takes.{at_home, text_piece, bytes_piece, embed_opens}
+use Rattle.cborn_edn.proofs.Grammar.Takes.{text_piece, bytes_piece, embed_opens}
 use Rattle.cborn_edn.proofs.Reader.Turning.{arm, appends_nothing, adding, not_text, embed_taken, start_inside, no_piece_taken}
 use Rattle.cborn_edn.proofs.HandedOver.Silent.{piece_handed}
 use Rattle.cborn_edn.proofs.steps.take_piece.Goals as goal
