@@ -1,5 +1,5 @@
 -- What is shown while a string is built, and after it.
-use Rattle.cborn_edn.proofs.Common.{◌≡◌, refl, sym, ap, ◌∙◌, subst, ℕ, ◌-◌, List, ◌∷◌, ◌++◌, length, take, drop, Bool, true, false, ◌&&◌, Option, Some, None, append-nil, append_assoc, arith, take-append_seam, drop-append_seam, length-append, take_rest, same_Some, Speller, Mark, MeaningError, StringKind, OfBytes, OfText, Str, is_nil, same_kind, unless, string_errors, chunk_errors, piece_errors, MixedChunks, first_error, Notes, Span, Piece, Pieces, Strings, strings, StringsBefore, no_string, after_strings, string, chunked, str, str_of, kind_in, faults_of_pieces, faults_of_strings, Here, Writer, Joint, Chunks, Has, Builds, WantsChunk, noted, strings_noted, noted_stack, noted_home, stack_of, bytes_around, bytes_around_home, bytes_before, piece_bytes, pieces_bytes, joint, kind_before, kind_or, Shows, piece_of, Holds, states_around, AllHanded, Reads, Stack, Home, as_item, as_chunk, has, builds, wants_chunk, with_piece, at_home}
+use Rattle.cborn_edn.proofs.Common.{◌≡◌, refl, sym, ap, ◌∙◌, subst, ℕ, ◌-◌, List, ◌∷◌, ◌++◌, length, take, drop, Bool, true, false, ◌&&◌, Option, Some, None, append-nil, append_assoc, arith, take-append_seam, drop-append_seam, length-append, take_rest, same_Some, Speller, Mark, MeaningError, StringKind, OfBytes, OfText, Str, is_nil, same_kind, unless, string_errors, chunk_errors, piece_errors, MixedChunks, first_error, Notes, Span, Piece, Pieces, Strings, strings, StringsBefore, no_string, after_strings, string, chunked, str, str_of, kind_in, faults_of_pieces, faults_of_strings, Here, Writer, Joint, Chunks, Has, Builds, WantsChunk, noted, strings_noted, noted_stack, noted_home, stack_of, bytes_around, bytes_around_home, bytes_before, piece_bytes, pieces_bytes, joint, kind_before, kind_or, Shows, piece_of, Holds, states_around, AllHanded, Reads, Stack, Home, as_item, as_chunk, has, builds, wants_chunk, with_piece, at_home, State, stack_in, string_in, chunks_in, bytes_open, IsOpenAt, level_of, count_of, brackets_of, arounds_of, phase_of}
 use Rattle.cborn_edn.proofs.Reader.Joints.{known_joint}
 use Rattle.cborn_edn.proofs.Reader.Showing.{Standing, standing, first_joint, bytes_same, piece_str}
 
@@ -87,24 +87,29 @@ module _ {here : Here} {w : Writer} {h : Home} {ps : Pieces} (e : Shows here w w
 pub item_noted : (st : Stack) (ps : Pieces) (j : Joint) (old new : Option MeaningError) → j ≡ joint (str ps) → Notes old new (string_errors j.lone (str ps)) → old ≡ first_error (noted (builds (as_item st) ps)) → new ≡ first_error (noted (has st (string ps)))
 item_noted st ps j old new is notes e = subst (λ (y : Joint). Notes old new (string_errors y.lone (str ps))) is notes (noted_stack st ++ faults_of_pieces ps) e ∙ ap first_error (append_assoc (noted_stack st) (faults_of_pieces ps) (string_errors (str ps).lone (str ps)))
 
-pub item_read : (h : Holds) (here : Here) (w left : Writer) (st : Stack) (ps : Pieces) (spellers : List Speller) (new : Option MeaningError) → left ≡ record w { pieces = left.pieces; spellers = spellers; string = None; error = new } → left.pieces.items ≡ take w.start w.pieces.items
-    → let u = has st (string ps) in new ≡ first_error (noted u) → Shows here w w.pieces.items (builds (as_item st) ps) → AllHanded h spellers (u ∷ states_around st) → Reads h (record here { phase = Has }) left left.pieces.items u
-item_read h here w left st ps spellers new same kept noted e handed = record {
+-- a string ended, and its pieces were dropped
+ended_read : (h : Holds) (here : Here) (w left : Writer) (home : Home) (ps : Pieces) (u : State) (spellers : List Speller) (cs : Option Chunks) (new : Option MeaningError) → left ≡ record w { pieces = left.pieces; spellers = spellers; string = None; chunks = cs; error = new } → left.pieces.items ≡ take w.start w.pieces.items
+    → stack_of home ≡ stack_in u → None ≡ string_in u → cs ≡ chunks_in u → bytes_around (stack_of home) ≡ bytes_open u → IsOpenAt left.simple u → new ≡ first_error (noted u) → Shows here w w.pieces.items (builds home ps) → AllHanded h spellers (u ∷ states_around (stack_in u)) → Reads h (record here { phase = phase_of u }) left left.pieces.items u
+ended_read h here w left home ps u spellers cs new same kept stack no_joint same_chunks same_bytes simple notes e handed = record {
   shows = record {
     phase = refl;
-    level = e.level;
-    count = e.count;
-    brackets = ap (λ (x : Writer). x.brackets) same ∙ e.brackets;
-    around = ap (λ (x : Writer). x.around) same ∙ e.around;
-    string = ap (λ (x : Writer). x.string) same;
-    chunks = ap (λ (x : Writer). x.chunks) same ∙ e.chunks;
-    simple = tt;
-    error = ap (λ (x : Writer). x.error) same ∙ noted;
-    start = ap (λ (x : Writer). x.start) same ∙ e.start;
-    pieces = kept ∙ around_shown e;
+    level = e.level ∙ ap level_of stack;
+    count = e.count ∙ ap count_of stack;
+    brackets = ap (λ (x : Writer). x.brackets) same ∙ e.brackets ∙ ap brackets_of stack;
+    around = ap (λ (x : Writer). x.around) same ∙ e.around ∙ ap arounds_of stack;
+    string = ap (λ (x : Writer). x.string) same ∙ no_joint;
+    chunks = ap (λ (x : Writer). x.chunks) same ∙ same_chunks;
+    simple = simple;
+    error = ap (λ (x : Writer). x.error) same ∙ notes;
+    start = ap (λ (x : Writer). x.start) same ∙ e.start ∙ ap (λ x. length (bytes_around x)) stack;
+    pieces = kept ∙ around_shown e ∙ same_bytes;
   };
-  handed = subst (λ (x : Writer). AllHanded h x.spellers (has st (string ps) ∷ states_around st)) (sym same) handed;
+  handed = subst (λ (x : Writer). AllHanded h x.spellers (u ∷ states_around (stack_in u))) (sym same) handed;
 }
+
+pub item_read : (h : Holds) (here : Here) (w left : Writer) (st : Stack) (ps : Pieces) (spellers : List Speller) (new : Option MeaningError) → left ≡ record w { pieces = left.pieces; spellers = spellers; string = None; error = new } → left.pieces.items ≡ take w.start w.pieces.items
+    → let u = has st (string ps) in new ≡ first_error (noted u) → Shows here w w.pieces.items (builds (as_item st) ps) → AllHanded h spellers (u ∷ states_around st) → Reads h (record here { phase = Has }) left left.pieces.items u
+item_read h here w left st ps spellers new same kept notes e handed = ended_read h here w left (as_item st) ps (has st (string ps)) spellers w.chunks new same kept refl refl e.chunks refl tt notes e handed
 
 -- the chunks before it, and their kind with it
 pub chunks_open : {here : Here} {w : Writer} (st : Stack) (s : Span) (b : StringsBefore) (ps : Pieces) → Shows here w w.pieces.items (builds (as_chunk st s b) ps) → (cs : Chunks) → w.chunks ≡ Some cs → cs ≡ record { place = s.start; kind = kind_before b }
@@ -118,22 +123,8 @@ chunk_noted st s a b ps k old new kind notes e = notes (noted_stack st ++ string
 
 pub chunk_read : (h : Holds) (here : Here) (w left : Writer) (st : Stack) (s a : Span) (b : StringsBefore) (ps : Pieces) (spellers : List Speller) (place : ℕ) (k : StringKind) (new : Option MeaningError) → left ≡ record w { pieces = left.pieces; spellers = spellers; string = None; chunks = Some (record { place = place; kind = Some k }); error = new } → left.pieces.items ≡ take w.start w.pieces.items
     → let u = wants_chunk st s (after_strings (strings b ps) a) in place ≡ s.start → k ≡ kind_in (strings b ps) → new ≡ first_error (noted u) → Shows here w w.pieces.items (builds (as_chunk st s b) ps) → AllHanded h spellers (u ∷ states_around st) → Reads h (record here { phase = WantsChunk }) left left.pieces.items u
-chunk_read h here w left st s a b ps spellers place k new same kept at kind noted e handed = record {
-  shows = record {
-    phase = refl;
-    level = e.level;
-    count = e.count;
-    brackets = ap (λ (x : Writer). x.brackets) same ∙ e.brackets;
-    around = ap (λ (x : Writer). x.around) same ∙ e.around;
-    string = ap (λ (x : Writer). x.string) same;
-    chunks = ap (λ (x : Writer). x.chunks) same ∙ (λ i. Some (record { place = at i; kind = Some (kind i) }));
-    simple = tt;
-    error = ap (λ (x : Writer). x.error) same ∙ noted;
-    start = ap (λ (x : Writer). x.start) same ∙ e.start;
-    pieces = kept ∙ around_shown e;
-  };
-  handed = subst (λ (x : Writer). AllHanded h x.spellers (wants_chunk st s (after_strings (strings b ps) a) ∷ states_around st)) (sym same) handed;
-}
+chunk_read h here w left st s a b ps spellers place k new same kept at kind notes e handed =
+    ended_read h here w left (as_chunk st s b) ps (wants_chunk st s (after_strings (strings b ps) a)) spellers (Some (record { place = place; kind = Some k })) new same kept refl refl (λ i. Some (record { place = at i; kind = Some (kind i) })) refl tt notes e handed
 
 pub chunks_shown : (here : Here) (w : Writer) (st : Stack) (s a e : Span) (ss : Strings) (spellers : List Speller) → Shows here w w.pieces.items (wants_chunk st s (after_strings ss a)) → Shows (record here { phase = Has }) (record w { spellers = spellers; chunks = None }) w.pieces.items (has st (chunked s ss e))
 chunks_shown here w st s a e ss spellers shows = record { phase = refl; level = shows.level; count = shows.count; brackets = shows.brackets; around = shows.around; string = shows.string; chunks = refl; simple = tt; error = shows.error; start = shows.start; pieces = shows.pieces }

@@ -57,14 +57,8 @@ module _ {h : Holds} {p : Profile} {limit : ℕ} {text : List ℕ} {here : Here}
   wanted (inr q) = is_wants r.state (inr (sym r.shows.shows.phase ∙ q))
 
   pub may_end : (here.phase ≡ phases.Has) ⊎ (here.phase ≡ phases.Wants) → MayEnd r.state
-  may_end (inl q) = go (is_has r.state (sym r.shows.shows.phase ∙ q))
-    where
-      go : (st : Stack) × (i : Item) × (has st i ≡ r.state) → MayEnd r.state
-      go (st, i, e) = subst MayEnd e tt
-  may_end (inr q) = go (is_wants r.state (inl (sym r.shows.shows.phase ∙ q)))
-    where
-      go : (st : Stack) × (wants st ≡ r.state) → MayEnd r.state
-      go (st, e) = subst MayEnd e tt
+  may_end (inl q) = subst MayEnd (is_has r.state (sym r.shows.shows.phase ∙ q)).2 tt
+  may_end (inr q) = subst MayEnd (is_wants r.state (inl (sym r.shows.shows.phase ∙ q))).1 tt
 
   pub few_here : here.count < 2 ^ 63
   few_here = omega (arith, r.small, r.inside, shown_few p limit text here w w.pieces.items r.state r.reached r.shows.shows)
@@ -86,13 +80,11 @@ module _ {h : Holds} {p : Profile} {limit : ℕ} {text : List ℕ} {here : Here}
     pub shows : Reads h here w w.pieces.items (builds (as_item st) ps)
 
   pub pieced : here.phase ≡ phases.Builds → has_chunks w.chunks ≡ false → Pieced
-  pieced q none = go (is_builds r.state (sym r.shows.shows.phase ∙ q))
-    where
-      go : (home : Home) × (ps : Pieces) × (builds home ps ≡ r.state) → Pieced
-      go (home, ps, e) =
-          let k = item_home home (ap has_chunks (sym (shown_as (builds home ps) e).shows.chunks) ∙ none) in
-          let is = ap (λ (x : Home). builds x ps) k.1 ∙ e in
-          record { st = k.0; ps = ps; is = is; shows = shown_as (builds (as_item k.0) ps) is }
+  pieced q none =
+      let b = is_builds r.state (sym r.shows.shows.phase ∙ q) in
+      let k = item_home b.0 (ap has_chunks (sym (shown_as (builds b.0 b.1) b.2).shows.chunks) ∙ none) in
+      let is = ap (λ (x : Home). builds x b.1) k.1 ∙ b.2 in
+      record { st = k.0; ps = b.1; is = is; shows = shown_as (builds (as_item k.0) b.1) is }
 
   -- pieces of a chunk
   pub record Chunked : Type 0 where
@@ -104,13 +96,11 @@ module _ {h : Holds} {p : Profile} {limit : ℕ} {text : List ℕ} {here : Here}
     pub shows : Reads h here w w.pieces.items (builds (as_chunk st at b) ps)
 
   pub chunked : here.phase ≡ phases.Builds → has_chunks w.chunks ≡ true → Chunked
-  chunked q some = go (is_builds r.state (sym r.shows.shows.phase ∙ q))
-    where
-      go : (home : Home) × (ps : Pieces) × (builds home ps ≡ r.state) → Chunked
-      go (home, ps, e) =
-          let k = chunk_home home (ap has_chunks (sym (shown_as (builds home ps) e).shows.chunks) ∙ some) in
-          let is = ap (λ (x : Home). builds x ps) k.is ∙ e in
-          record { st = k.st; at = k.at; b = k.b; ps = ps; is = is; shows = shown_as (builds (as_chunk k.st k.at k.b) ps) is }
+  chunked q some =
+      let b = is_builds r.state (sym r.shows.shows.phase ∙ q) in
+      let k = chunk_home b.0 (ap has_chunks (sym (shown_as (builds b.0 b.1) b.2).shows.chunks) ∙ some) in
+      let is = ap (λ (x : Home). builds x b.1) k.is ∙ b.2 in
+      record { st = k.st; at = k.at; b = k.b; ps = b.1; is = is; shows = shown_as (builds (as_chunk k.st k.at k.b) b.1) is }
 
   module _ {k : Holds} {x : List ℕ} (same : x ≡ text) (c : Class) (stop : ℕ) (found : (q : Profile) → IsTokenAt q x here.at stop c) (next : Here) (left : Writer) where
     -- LAW: on with a token
@@ -128,16 +118,14 @@ module _ {h : Holds} {p : Profile} {limit : ℕ} {text : List ℕ} {here : Here}
     -- LAW: where an item is wanted
     pub item_taken : (here.phase ≡ phases.Wants) ⊎ (here.phase ≡ phases.WantsMore) → (v : Stack → State) → ((st : Stack) → step_by (wants st) c (span_at here.at stop) ≡ Some (v st)) → ((st : Stack) → Reads h here w w.pieces.items (wants st) → Reads k next left left.pieces.items (v st)) → ((st : Stack) → comma_in st c ≡ 0)
         → reach (length w.brackets) c ≤ limit → IsReadTo k p limit text (record next { at = stop }) left × (here.at < stop)
-    item_taken q v is leads bare low = go (wanted q)
-      where
-        go : (st : Stack) × (wants st ≡ r.state) → IsReadTo k p limit text (record next { at = stop }) left × (here.at < stop)
-        go (st, e) =
-            let depth : length w.brackets ≡ open_levels (wants st) = ap length (shown_as (wants st) e).shows.brackets ∙ brackets_levels (wants st) in
-            taken_from (wants st) (v st) e (is st) (leads st (shown_as (wants st) e)) (ap (forbids p) (bare st) ∙ free_none p) (subst (λ l. reach l c ≤ limit) depth low)
+    item_taken q v is leads bare low =
+        let i = wanted q in
+        let e = shown_as (wants i.0) i.1 in
+        taken_from (wants i.0) (v i.0) i.1 (is i.0) (leads i.0 e) (ap (forbids p) (bare i.0) ∙ free_none p) (subst (λ l. reach l c ≤ limit) (ap length e.shows.brackets ∙ brackets_levels (wants i.0)) low)
 
     -- LAW: where an item is wanted, or was read last
     pub end_taken : (kind : Kind) → c ≡ class_of kind 0 [] → (ok : Bool) → ok ≡ true → (here.phase ≡ phases.Has) ⊎ (here.phase ≡ phases.Wants) → (MayEnd r.state → Reads h here w w.pieces.items r.state → Taken k ok r.state c (span_at here.at stop) next left) → reach (open_levels r.state) c ≤ limit → IsReadTo k p limit text (record next { at = stop }) left × (here.at < stop)
-    end_taken kind is ok e q f low = go (subst (λ b. Taken k b r.state c (span_at here.at stop) next left) e (f (may_end q) r.shows))
+    end_taken kind is ok e q f low = let t = subst (λ b. Taken k b r.state c (span_at here.at stop) next left) e (f (may_end q) r.shows) in taken t.0 t.1 t.2 free low
       where
         not_more : (here.phase ≡ phases.Has) ⊎ (here.phase ≡ phases.Wants) → here.phase ≡ phases.WantsMore → ⊥
         not_more (inl h) e = let bad : phases.Has ≡ phases.WantsMore = sym h ∙ e in cc
@@ -146,67 +134,46 @@ module _ {h : Holds} {p : Profile} {limit : ℕ} {text : List ℕ} {here : Here}
         free : forbids p (comma_at r.state c) ≡ false
         free = ap (λ (y : Class). forbids p (comma_at r.state y)) is ∙ tight_free p r.state kind 0 [] (λ e. not_more q (r.shows.shows.phase ∙ e))
 
-        go : Taken k true r.state c (span_at here.at stop) next left → IsReadTo k p limit text (record next { at = stop }) left × (here.at < stop)
-        go (u, is, shows) = taken u is shows free low
-
     -- LAW: after an item
     pub after_taken : here.phase ≡ phases.Has → (ok : Bool) → ok ≡ true → ((st : Stack) (i : Item) → Reads h here w w.pieces.items (has st i) → Taken k ok (has st i) c (span_at here.at stop) next left) → ((l : ℕ) → reach l c ≤ limit) → IsReadTo k p limit text (record next { at = stop }) left × (here.at < stop)
-    after_taken q ok e f low = go (is_has r.state (sym r.shows.shows.phase ∙ q))
-      where
-        on : (st : Stack) (i : Item) → has st i ≡ r.state → Taken k true (has st i) c (span_at here.at stop) next left → IsReadTo k p limit text (record next { at = stop }) left × (here.at < stop)
-        on st i same (u, is, shows) = taken_from (has st i) u same is shows (free_none p) (low (open_levels (has st i)))
-
-        go : (st : Stack) × (i : Item) × (has st i ≡ r.state) → IsReadTo k p limit text (record next { at = stop }) left × (here.at < stop)
-        go (st, i, same) = on st i same (subst (λ b. Taken k b (has st i) c (span_at here.at stop) next left) e (f st i (shown_as (has st i) same)))
+    after_taken q ok e f low =
+        let i = is_has r.state (sym r.shows.shows.phase ∙ q) in
+        let t = subst (λ b. Taken k b (has i.0 i.1) c (span_at here.at stop) next left) e (f i.0 i.1 (shown_as (has i.0 i.1) i.2)) in
+        taken_from (has i.0 i.1) t.0 i.2 t.1 t.2 (free_none p) (low (open_levels (has i.0 i.1)))
 
     -- LAW: where the number in `simple(..)` is wanted
     pub number_taken : here.phase ≡ phases.WantsNumber → (v : Stack → Span → State) → ((st : Stack) (s : Span) → step_by (wants_number st s) c (span_at here.at stop) ≡ Some (v st s)) → ((st : Stack) (s : Span) → Reads h here w w.pieces.items (wants_number st s) → Reads k next left left.pieces.items (v st s)) → reach (length w.brackets) c ≤ limit
         → IsReadTo k p limit text (record next { at = stop }) left × (here.at < stop)
-    number_taken q v is leads low = go (is_wants_number r.state (sym r.shows.shows.phase ∙ q))
-      where
-        go : (st : Stack) × (s : Span) × (wants_number st s ≡ r.state) → IsReadTo k p limit text (record next { at = stop }) left × (here.at < stop)
-        go (st, s, same) =
-            let depth : length w.brackets ≡ open_levels (wants_number st s) = ap length (shown_as (wants_number st s) same).shows.brackets ∙ brackets_levels (wants_number st s) in
-            taken_from (wants_number st s) (v st s) same (is st s) (leads st s (shown_as (wants_number st s) same)) (free_none p) (subst (λ l. reach l c ≤ limit) depth low)
+    number_taken q v is leads low =
+        let i = is_wants_number r.state (sym r.shows.shows.phase ∙ q) in
+        let e = shown_as (wants_number i.0 i.1) i.2 in
+        taken_from (wants_number i.0 i.1) (v i.0 i.1) i.2 (is i.0 i.1) (leads i.0 i.1 e) (free_none p) (subst (λ l. reach l c ≤ limit) (ap length e.shows.brackets ∙ brackets_levels (wants_number i.0 i.1)) low)
 
   -- LAW: on with a text string in one piece
   pub text_taken : {k : Holds} {y x : List ℕ} → y ≡ text → (stop : ℕ) (t : IsTextAt p y here.at stop x) (next : Here) (left : Writer) → (here.phase ≡ phases.Wants) ⊎ (here.phase ≡ phases.WantsMore)
       → ((st : Stack) → IsUtf8 x → Reads h here w w.pieces.items (wants st) → Reads k next left left.pieces.items (has st (string (piece (piece_text (span_at here.at t.stop) x Absent))))) → IsReadTo k p limit text (record next { at = stop }) left × (here.at < stop)
-  text_taken {k = k} {y = y} {x = x} same stop found next left q reads = go (wanted q)
-    where
-      end : ℕ
-      end = found.stop
-
-      here_found : IsTextAt p text here.at stop x
-      here_found = subst (λ (z : List ℕ). IsTextAt p z here.at stop x) same found
-
-      ps : Pieces
-      ps = piece (piece_text (span_at here.at end) x Absent)
-
-      t : Token
-      t = token_at here.at end (Text x Absent)
-
-      go : (st : Stack) × (wants st ≡ r.state) → IsReadTo k p limit text (record next { at = stop }) left × (here.at < stop)
-      go (st, e) =
-          let tok : IsTokenAt p text here.at end (Text x Absent) = subst (λ (z : List ℕ). IsTokenAt p z here.at end (Text x Absent)) same found.token in
-          let white : TokensBetween p text end stop [] = subst (λ (z : List ℕ). TokensBetween p z end stop []) same found.white_space in
-          let none : NoPieceAt text stop = subst (λ (z : List ℕ). NoPieceAt z stop) same found.ends in
-          let between : Between p text here.at end (t ∷ []) = through p tok in
-          let modest : AreModest (t ∷ []) = (modest_at p text here.at end (Text x Absent) (utf8_bytes text r.utf8) tok, tt) in
-          let before = subst (λ (v : State). Reached p limit text here.at v) (sym e) r.reached in
-          let string_read = goes_on p limit text here.at (wants st) before end t (builds (as_item st) ps) between modest refl (free_none p) (omega arith) in
-          let first = inside p text here.at end (t ∷ []) r.inside between in
-          let rest = inside p text end stop [] first.1 (through p white) in (
-            record {
-              utf8 = r.utf8;
-              small = r.small;
-              inside = rest.1;
-              state = has st (string ps);
-              reached = settled p limit text stop st ps none (skips p limit text end (builds (as_item st) ps) string_read stop (through p white));
-              shows = read_at next left left.pieces.items (has st (string ps)) stop (reads st (here_found.utf8 r.utf8) (shown_as (wants st) e));
-            },
-            omega (arith, beyond p text here.at end (Text x Absent) tok, rest.0),
-          )
+  text_taken {k = k} {x = x} same stop found next left q reads =
+      let i = wanted q in
+      let st = i.0 in
+      let t = subst (λ (z : List ℕ). IsTextAt p z here.at stop x) same found in
+      let ps = piece (piece_text (span_at here.at t.stop) x Absent) in
+      let token = token_at here.at t.stop (Text x Absent) in
+      let between : Between p text here.at t.stop (token ∷ []) = through p t.token in
+      let modest : AreModest (token ∷ []) = (modest_at p text here.at t.stop (Text x Absent) (utf8_bytes text r.utf8) t.token, tt) in
+      let before = subst (λ (v : State). Reached p limit text here.at v) (sym i.1) r.reached in
+      let string_read = goes_on p limit text here.at (wants st) before t.stop token (builds (as_item st) ps) between modest refl (free_none p) (omega arith) in
+      let first = inside p text here.at t.stop (token ∷ []) r.inside between in
+      let rest = inside p text t.stop stop [] first.1 (through p t.white_space) in (
+        record {
+          utf8 = r.utf8;
+          small = r.small;
+          inside = rest.1;
+          state = has st (string ps);
+          reached = settled p limit text stop st ps t.ends (skips p limit text t.stop (builds (as_item st) ps) string_read stop (through p t.white_space));
+          shows = read_at next left left.pieces.items (has st (string ps)) stop (reads st (t.utf8 r.utf8) (shown_as (wants st) i.1));
+        },
+        omega (arith, beyond p text here.at t.stop (Text x Absent) t.token, rest.0),
+      )
 
   -- LAW: the pieces are whole
   pub whole : {k : Holds} (i : Pieced) → NoPieceAt text here.at → (next : Here) (left : Writer) → Reads k next left left.pieces.items (has i.st (string i.ps)) → IsReadTo k p limit text (record next { at = here.at }) left
