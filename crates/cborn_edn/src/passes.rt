@@ -138,7 +138,7 @@ fn take_rare<V: Visitor>(
     ensures further { OnOk result (here.old.at < here.new.at) }
     ensures refused { IfErr result (IsNoNotation source.entry.profile source.entry.limit source.entry.text.now) }
 {
-    if take_empty_end(source, here, writer, visitor)? || here.at == source.text.len() {
+    if take_empty_end(Source { ..source }, here, writer, visitor)? || here.at == source.text.len() {
         return Ok(());
     }
     step(alloc, source, here, writer, visitor)

@@ -132,7 +132,7 @@ pub(crate) fn take_text<V: Visitor>(
 {
     let bytes = source.text.as_bytes();
     let Some(found) = plain_text_at(source.profile, bytes, here.at) else {
-        return take_escaped(source, here, writer, visitor);
+        return take_escaped(Source { ..source }, here, writer, visitor);
     };
     let content = &bytes[here.at + 1..here.at + 1 + found.len];
     put_text(content, here, writer, visitor)?;

@@ -40,7 +40,9 @@ pub(crate) enum Phase {
     HasNumber,
 }
 
-/// A text, the profile of the notation that it is read in, and how many brackets may be open in it.
+/// A text, the profile of the notation that it is read in, and how many brackets may be open in it. A
+/// function that isn't in line is given a copy made field by field, `Source { ..source }`: given the
+/// whole, the fields would have to stay in memory.
 #[derive(Clone, Copy)]
 pub(crate) struct Source<'a> {
     pub(crate) limit: u64,
