@@ -1,7 +1,8 @@
 -- Which state is shown, by the phase and the level.
-use Rattle.cborn_edn.proofs.Common.{◌≡◌, refl, sym, ap, ◌∙◌, subst, ℕ, ◌<◌, List, length, Bool, true, false, Option, Some, None, arith, Mark, ArrayClose, MapClose, EmbedClose, ParenClose, Comma, Colon, Span, Item, Pieces, row, RowBefore, no_item, after_row, Content, loose, tight, pairs, PairsBefore, no_pair, after_pairs, Fields, loose_fields, tight_fields, array, embedded, Phase, Has, Here, Writer, level_of, stack_in, phase_of, brackets_of, Shows, content_state, fields_state, is_array, is_embedded, is_key, is_value, is_tag, is_row, ends_map, MayEnd, Stack, in_row, in_key, in_value, in_tag, Nest, at_top, in_array, in_embed, Home, State, wants, has, builds, with_piece, step_by}
+use Rattle.cborn_edn.proofs.Common.{◌≡◌, refl, sym, ap, ◌∙◌, subst, ℕ, ◌<◌, List, length, Bool, true, false, Option, Some, None, arith, Mark, ArrayClose, MapClose, EmbedClose, ParenClose, Comma, Colon, Span, Item, Pieces, row, RowBefore, no_item, after_row, Content, loose, tight, pairs, PairsBefore, no_pair, after_pairs, Fields, loose_fields, tight_fields, array, embedded, Phase, Has, Here, Writer, level_of, stack_in, phase_of, brackets_of, Shows, content_state, fields_state, is_in, is_row, ends_map, MayEnd, Stack, in_row, in_key, in_value, in_tag, Nest, at_top, in_array, in_embed, Home, State, wants, has, builds, with_piece, step_by}
 use Rattle.cborn_edn.specs.devices.Syntax.{map}
 use Rattle.cborn_edn.specs.declared.states.Level.{Level}
+use Rattle.cborn_edn.specs.declared.states.Level.TheVariants as levels
 
 never : {A : Type 0} → false ≡ true → A
 never e = absurd (let bad : false ≡ true = e in cc)
@@ -24,7 +25,7 @@ pub record Array (s : State) : Type 0 where
   pub c : Content
   pub is : content_state (in_array st at m) c ≡ s
 
-pub array_at : (s : State) → Ending s → is_array (level_of (stack_in s)) ≡ true → Array s
+pub array_at : (s : State) → Ending s → is_in levels.Array (level_of (stack_in s)) ≡ true → Array s
 array_at u (wanted (in_row (in_array st p m) b)) e = record { st = st; at = p; m = m; c = loose b; is = refl }
 array_at u (whole (in_row (in_array st p m) b) i) e = record { st = st; at = p; m = m; c = tight (row b i); is = refl }
 array_at u _ e = never e
@@ -33,7 +34,7 @@ pub array_step : (st : Stack) (p a : Span) (m : Mark) (c : Content) → step_by 
 array_step st p a m (loose b) = refl
 array_step st p a m (tight (row b i)) = refl
 
-pub no_array : (s : State) (a : Span) → Ending s → is_array (level_of (stack_in s)) ≡ false → step_by s ArrayClose a ≡ None
+pub no_array : (s : State) (a : Span) → Ending s → is_in levels.Array (level_of (stack_in s)) ≡ false → step_by s ArrayClose a ≡ None
 no_array u a (wanted (in_row (in_array st p m) b)) e = never (sym e)
 no_array u a (whole (in_row (in_array st p m) b) i) e = never (sym e)
 no_array u a _ e = refl
@@ -78,7 +79,7 @@ pub record Embed (s : State) : Type 0 where
   pub c : Content
   pub is : content_state (in_embed h o at) c ≡ s
 
-pub embed_at : (s : State) → Ending s → is_embedded (level_of (stack_in s)) ≡ true → Embed s
+pub embed_at : (s : State) → Ending s → is_in levels.Embedded (level_of (stack_in s)) ≡ true → Embed s
 embed_at u (wanted (in_row (in_embed h o p) b)) e = record { h = h; o = o; at = p; c = loose b; is = refl }
 embed_at u (whole (in_row (in_embed h o p) b) i) e = record { h = h; o = o; at = p; c = tight (row b i); is = refl }
 embed_at u _ e = never e
@@ -87,7 +88,7 @@ pub embed_step : (h : Home) (o : Option Pieces) (p a : Span) (m : Mark) (c : Con
 embed_step h o p a m (loose b) = refl
 embed_step h o p a m (tight (row b i)) = refl
 
-pub no_embed : (s : State) (m : Mark) (a : Span) → Ending s → is_embedded (level_of (stack_in s)) ≡ false → step_by s (EmbedClose m) a ≡ None
+pub no_embed : (s : State) (m : Mark) (a : Span) → Ending s → is_in levels.Embedded (level_of (stack_in s)) ≡ false → step_by s (EmbedClose m) a ≡ None
 no_embed u m a (wanted (in_row (in_embed h o p) b)) e = never (sym e)
 no_embed u m a (whole (in_row (in_embed h o p) b) i) e = never (sym e)
 no_embed u m a _ e = refl
@@ -100,12 +101,12 @@ pub record Tagging (st : Stack) : Type 0 where
   pub m : Mark
   pub is : in_tag around at n m ≡ st
 
-pub tag_at : (st : Stack) → is_tag (level_of st) ≡ true → Tagging st
+pub tag_at : (st : Stack) → is_in levels.Tag (level_of st) ≡ true → Tagging st
 tag_at (in_tag st p n m) e = record { around = st; at = p; n = n; m = m; is = refl }
 tag_at (in_row at_top b) e = never e
 tag_at _ e = never e
 
-pub no_tag : (st : Stack) (i : Item) (a : Span) → is_tag (level_of st) ≡ false → step_by (has st i) ParenClose a ≡ None
+pub no_tag : (st : Stack) (i : Item) (a : Span) → is_in levels.Tag (level_of st) ≡ false → step_by (has st i) ParenClose a ≡ None
 no_tag (in_tag st p n m) i a e = never (sym e)
 no_tag (in_row at_top b) i a e = refl
 no_tag _ i a e = refl
@@ -117,12 +118,12 @@ pub record Keyed (st : Stack) : Type 0 where
   pub b : PairsBefore
   pub is : in_key around at m b ≡ st
 
-pub key_at : (st : Stack) → is_key (level_of st) ≡ true → Keyed st
+pub key_at : (st : Stack) → is_in levels.Key (level_of st) ≡ true → Keyed st
 key_at (in_key st p m b) e = record { around = st; at = p; m = m; b = b; is = refl }
 key_at (in_row at_top b) e = never e
 key_at _ e = never e
 
-pub no_key : (st : Stack) (i : Item) (a : Span) → is_key (level_of st) ≡ false → step_by (has st i) Colon a ≡ None
+pub no_key : (st : Stack) (i : Item) (a : Span) → is_in levels.Key (level_of st) ≡ false → step_by (has st i) Colon a ≡ None
 no_key (in_key st p m b) i a e = never (sym e)
 no_key (in_row at_top b) i a e = refl
 no_key _ i a e = refl
@@ -136,7 +137,7 @@ pub record Valued (st : Stack) : Type 0 where
   pub colon : Span
   pub is : in_value around at m b k colon ≡ st
 
-pub value_at : (st : Stack) → is_value (level_of st) ≡ true → Valued st
+pub value_at : (st : Stack) → is_in levels.Value (level_of st) ≡ true → Valued st
 value_at (in_value st p m b k c) e = record { around = st; at = p; m = m; b = b; k = k; colon = c; is = refl }
 value_at (in_row at_top b) e = never e
 value_at _ e = never e
@@ -150,7 +151,7 @@ pub row_at : (st : Stack) → is_row (level_of st) ≡ true → Rowed st
 row_at (in_row n b) e = record { n = n; b = b; is = refl }
 row_at _ e = never e
 
-pub no_comma : (st : Stack) (i : Item) (a : Span) → is_value (level_of st) ≡ false → is_row (level_of st) ≡ false → step_by (has st i) Comma a ≡ None
+pub no_comma : (st : Stack) (i : Item) (a : Span) → is_in levels.Value (level_of st) ≡ false → is_row (level_of st) ≡ false → step_by (has st i) Comma a ≡ None
 no_comma (in_row at_top b) i a e f = never (sym f)
 no_comma (in_row (in_array st s m) b) i a e f = never (sym f)
 no_comma (in_row (in_embed h o s) b) i a e f = never (sym f)
