@@ -61,20 +61,8 @@ an_opening_a p c s z a e h = put p c 91 s s z a (marked ArrayOpen (mark_of s)) (
 an_opening_m : Case (opening MapOpen) (λ c. eqb c 123)
 an_opening_m p c s z a e h = put p c 123 s s z a (marked MapOpen (mark_of s)) (eqb-true c 123 e) refl h.1 (marks p MapOpen (123 ∷ []) s z h.0 (λ m i. good.map_open s z m i) (good.map_open (codes "_3") [] (Wide Eight) three))
 
-single_93 : Case (single ArrayClose) (λ c. eqb c 93)
-single_93 p c s z a e h = put p c 93 s [] z a (Read ArrayClose) (eqb-true c 93 e) h.0 h.1 (good.array_close z)
-
-single_125 : Case (single MapClose) (λ c. eqb c 125)
-single_125 p c s z a e h = put p c 125 s [] z a (Read MapClose) (eqb-true c 125 e) h.0 h.1 (good.map_close z)
-
-single_41 : Case (single ParenClose) (λ c. eqb c 41)
-single_41 p c s z a e h = put p c 41 s [] z a (Read ParenClose) (eqb-true c 41 e) h.0 h.1 (good.paren_close z)
-
-single_44 : Case (single Comma) (λ c. eqb c 44)
-single_44 p c s z a e h = put p c 44 s [] z a (Read Comma) (eqb-true c 44 e) h.0 h.1 (good.comma z)
-
-single_58 : Case (single Colon) (λ c. eqb c 58)
-single_58 p c s z a e h = put p c 58 s [] z a (Read Colon) (eqb-true c 58 e) h.0 h.1 (good.colon z)
+a_single : (k : Class) (d : ℕ) → ((p : Profile) (z : List ℕ) → Takes p (d ∷ []) z (Some k)) → Case (single k) (λ c. eqb c d)
+a_single k d t p c s z a e h = put p c d s [] z a (Read k) (eqb-true c d e) h.0 h.1 (t p z)
 
 a_less : Case less (λ c. eqb c 60)
 a_less p c s z a e (inl (f, g)) = put p c 60 s (60 ∷ []) z a (Read EmbedOpen) (eqb-true c 60 e) f g (good.embed_open z)
@@ -331,11 +319,11 @@ taken p (c ∷ s) z a h = go (is_white c) (eqb c 47) (eqb c 35) (eqb c 91) (eqb 
     go false false true b3 b4 b5 b6 b7 b8 b9 b10 b11 b12 b13 b14 b15 b16 b17 e0 e1 e2 e3 e4 e5 e6 e7 e8 e9 e10 e11 e12 e13 e14 e15 e16 e17 h = a_hash p c s z a e2 h
     go false false false true b4 b5 b6 b7 b8 b9 b10 b11 b12 b13 b14 b15 b16 b17 e0 e1 e2 e3 e4 e5 e6 e7 e8 e9 e10 e11 e12 e13 e14 e15 e16 e17 h = an_opening_a p c s z a e3 h
     go false false false false true b5 b6 b7 b8 b9 b10 b11 b12 b13 b14 b15 b16 b17 e0 e1 e2 e3 e4 e5 e6 e7 e8 e9 e10 e11 e12 e13 e14 e15 e16 e17 h = an_opening_m p c s z a e4 h
-    go false false false false false true b6 b7 b8 b9 b10 b11 b12 b13 b14 b15 b16 b17 e0 e1 e2 e3 e4 e5 e6 e7 e8 e9 e10 e11 e12 e13 e14 e15 e16 e17 h = single_93 p c s z a e5 h
-    go false false false false false false true b7 b8 b9 b10 b11 b12 b13 b14 b15 b16 b17 e0 e1 e2 e3 e4 e5 e6 e7 e8 e9 e10 e11 e12 e13 e14 e15 e16 e17 h = single_125 p c s z a e6 h
-    go false false false false false false false true b8 b9 b10 b11 b12 b13 b14 b15 b16 b17 e0 e1 e2 e3 e4 e5 e6 e7 e8 e9 e10 e11 e12 e13 e14 e15 e16 e17 h = single_41 p c s z a e7 h
-    go false false false false false false false false true b9 b10 b11 b12 b13 b14 b15 b16 b17 e0 e1 e2 e3 e4 e5 e6 e7 e8 e9 e10 e11 e12 e13 e14 e15 e16 e17 h = single_44 p c s z a e8 h
-    go false false false false false false false false false true b10 b11 b12 b13 b14 b15 b16 b17 e0 e1 e2 e3 e4 e5 e6 e7 e8 e9 e10 e11 e12 e13 e14 e15 e16 e17 h = single_58 p c s z a e9 h
+    go false false false false false true b6 b7 b8 b9 b10 b11 b12 b13 b14 b15 b16 b17 e0 e1 e2 e3 e4 e5 e6 e7 e8 e9 e10 e11 e12 e13 e14 e15 e16 e17 h = a_single ArrayClose 93 (λ q y. good.array_close y) p c s z a e5 h
+    go false false false false false false true b7 b8 b9 b10 b11 b12 b13 b14 b15 b16 b17 e0 e1 e2 e3 e4 e5 e6 e7 e8 e9 e10 e11 e12 e13 e14 e15 e16 e17 h = a_single MapClose 125 (λ q y. good.map_close y) p c s z a e6 h
+    go false false false false false false false true b8 b9 b10 b11 b12 b13 b14 b15 b16 b17 e0 e1 e2 e3 e4 e5 e6 e7 e8 e9 e10 e11 e12 e13 e14 e15 e16 e17 h = a_single ParenClose 41 (λ q y. good.paren_close y) p c s z a e7 h
+    go false false false false false false false false true b9 b10 b11 b12 b13 b14 b15 b16 b17 e0 e1 e2 e3 e4 e5 e6 e7 e8 e9 e10 e11 e12 e13 e14 e15 e16 e17 h = a_single Comma 44 (λ q y. good.comma y) p c s z a e8 h
+    go false false false false false false false false false true b10 b11 b12 b13 b14 b15 b16 b17 e0 e1 e2 e3 e4 e5 e6 e7 e8 e9 e10 e11 e12 e13 e14 e15 e16 e17 h = a_single Colon 58 (λ q y. good.colon y) p c s z a e9 h
     go false false false false false false false false false false true b11 b12 b13 b14 b15 b16 b17 e0 e1 e2 e3 e4 e5 e6 e7 e8 e9 e10 e11 e12 e13 e14 e15 e16 e17 h = a_less p c s z a e10 h
     go false false false false false false false false false false false true b12 b13 b14 b15 b16 b17 e0 e1 e2 e3 e4 e5 e6 e7 e8 e9 e10 e11 e12 e13 e14 e15 e16 e17 h = a_greater p c s z a e11 h
     go false false false false false false false false false false false false true b13 b14 b15 b16 b17 e0 e1 e2 e3 e4 e5 e6 e7 e8 e9 e10 e11 e12 e13 e14 e15 e16 e17 h = a_paren p c s z a e12 h

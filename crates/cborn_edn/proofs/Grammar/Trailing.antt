@@ -106,14 +106,14 @@ none_closes [] y at t b e = go (is_closing t.class) (omega (arith, e))
     go false f = refl
 none_closes (s ∷ x) y at t b e = none_closes x y at t (is_comma s.class) (omega (arith, e))
 
+light : (k : Bool) → both k false ≡ 0
+light true = refl
+light false = refl
+
 -- after a token that is a comma, or not
 weightless : (b : Bool) (c d : Class) → (c ≡ Comma → is_closing d ≡ false) → weight (is_comma c) d ≡ 0
 weightless b Comma d h = rw (h refl) refl
 weightless b c d h = light (is_closing d)
-  where
-    light : (k : Bool) → both k false ≡ 0
-    light true = refl
-    light false = refl
 
 -- if no closing bracket follows a comma, the tokens have none
 none_counted : (t : Token) (l : List Token) → Allows ProfileOne (t ∷ l) → trailing (is_comma t.class) l ≡ 0
@@ -125,16 +125,9 @@ none_counted t (u ∷ l) h =
       none_counted u l (λ x y at v e. h (t ∷ x) y at v (ap (λ z. t ∷ z) e)),
     )
 
-first_light : (c : Class) → weight false c ≡ 0
-first_light c = go (is_closing c)
-  where
-    go : (k : Bool) → both k false ≡ 0
-    go true = refl
-    go false = refl
-
 none_in : (l : List Token) → Allows ProfileOne l → trailing false l ≡ 0
 none_in [] h = refl
-none_in (t ∷ l) h = omega (arith, first_light t.class, none_counted t l h)
+none_in (t ∷ l) h = omega (arith, light (is_closing t.class), none_counted t l h)
 
 -- a parse, by what the tree counts
 pub parse_of : (p : Profile) (ts : List Token) (t : Input) → tokens_of_input t ≡ ts → AllowsCount p (commas_of_input t) → Parse p ts t
