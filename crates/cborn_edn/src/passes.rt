@@ -157,11 +157,7 @@ fn step<V: Visitor>(
     ensures further { OnOk result (here.old.at < here.new.at) }
     ensures refused { IfErr result (IsNoNotation source.entry.profile source.entry.limit source.entry.text.now) }
 {
-    let Source {
-        limit,
-        profile,
-        text,
-    } = source;
+    let (profile, text) = (source.profile, source.text);
     let (at, phase) = (here.at, here.phase);
     let mut number: u128 = 0;
     let found = next_token(alloc, profile, text, at, &mut number, &mut writer.pieces)?;
@@ -172,7 +168,7 @@ fn step<V: Visitor>(
     let reach = reach_of(writer.brackets.count(), token.kind, number);
     let trailing = is_trailing_comma(profile, phase, token.kind);
     let taken = take(token, number, here, writer, visitor)?;
-    if let Some(reason) = judge(trailing, taken, reach, limit) {
+    if let Some(reason) = judge(trailing, taken, reach, source.limit) {
         let fault = refused(token.start, reason);
         return Err(first_fault(alloc, profile, text, token.stop, fault));
     }

@@ -56,18 +56,10 @@ pub(crate) fn note_piece(
 )
     ensures { (s t : says.Str) → string ≡ joint s → kind ≡ t.kind → place ≡ t.place → Notes error.old error.new (says.piece_errors s t) }
 {
-    note_unless(
-        is_absent(string.mark),
-        string.mark_place,
-        EdnReason::IndicatorNotAllowed,
-        error,
-    );
-    note_unless(
-        may_join(string.kind, kind),
-        place,
-        EdnReason::MixedString,
-        error,
-    );
+    let reason = EdnReason::IndicatorNotAllowed;
+    note_unless(is_absent(string.mark), string.mark_place, reason, error);
+    let reason = EdnReason::MixedString;
+    note_unless(may_join(string.kind, kind), place, reason, error);
 }
 
 /// Notes what is wrong with a whole string, whose bytes are `content`. `may_end` says whether its
@@ -77,12 +69,8 @@ fn note_string(may_end: bool, string: Joint, content: &[u8], error: &mut Option<
 {
     note_mark(may_end, string, content.len() as u64, error);
     if string.known {
-        note_unless(
-            is_good(string.kind, content),
-            string.place,
-            EdnReason::TextNotUtf8,
-            error,
-        );
+        let reason = EdnReason::TextNotUtf8;
+        note_unless(is_good(string.kind, content), string.place, reason, error);
     }
 }
 
@@ -92,12 +80,8 @@ fn note_mark(may_end: bool, string: Joint, size: u64, error: &mut Option<Meaning
     ensures { (s : says.Str) → string ≡ joint s → (s.known ≡ true → size ≡ length s.bytes) → Notes error.old error.new (says.mark_errors may_end s) }
 {
     if is_endless(string.mark) {
-        note_unless(
-            may_end,
-            string.mark_place,
-            EdnReason::IndicatorNotAllowed,
-            error,
-        );
+        let reason = EdnReason::IndicatorNotAllowed;
+        note_unless(may_end, string.mark_place, reason, error);
     } else if string.known {
         note_width(string.mark, size, string.mark_place, error);
     }
@@ -278,12 +262,8 @@ fn kind_or(first: Option<StringKind>, next: StringKind) -> StringKind
 fn note_chunk(kind: StringKind, string: Joint, content: &[u8], error: &mut Option<MeaningError>)
     ensures { (s : says.Str) → string ≡ joint s → (s.known ≡ true → content.now ≡ s.bytes) → Notes error.old error.new (says.chunk_errors kind s) }
 {
-    note_unless(
-        are_same(kind, string.kind),
-        string.place,
-        EdnReason::MixedChunks,
-        error,
-    );
+    let reason = EdnReason::MixedChunks;
+    note_unless(are_same(kind, string.kind), string.place, reason, error);
     note_string(false, string, content, error);
 }
 
