@@ -12,7 +12,7 @@ pub use Rattle.std.proofs.lemmas.Str.Ascii.{IsAscii-cons, IsAscii-nil}
 pub use Rattle.std.specs.Char.{IsScalar, digit_value, is_digit}
 pub use Rattle.std.specs.Int.Digits.{digits_of}
 pub use Rattle.std.specs.List.{AllByRecursion, flat_map, list_all, list_any, prefix_len}
-pub use Rattle.std.specs.Prelude.{IfOk, IsSome, IsTrue, bytes_eq, codes, encode_utf8, encode_utf8_all, if◌then◌else◌, max, ◌≢◌}
+pub use Rattle.std.specs.Prelude.{IfOk, IsTrue, bytes_eq, codes, encode_utf8, encode_utf8_all, if◌then◌else◌, max, ◌≢◌}
 pub use Rattle.std.specs.Str.{IsAscii, IsUtf8, all_scalars, is_utf8}
 pub use Rattle.cborn_lex.specs.Forms.{IsIndicator, IsRun, ReadsFrom, ReadsNumber, Start, digit, single, start_of}
 pub use Rattle.cborn_lex.specs.Good.{Covers, HasTokens, IsMark, IsNumeral, TokensBetween, is_false, is_null, is_true, is_undefined}
@@ -31,11 +31,13 @@ pub use Rattle.cborn_lex.specs.declared.classes.Profile.{Profile}
 pub use Rattle.cborn_lex.specs.declared.classes.Token.{Token}
 pub use Rattle.cborn_lex.specs.declared.faults.LexFault.{LexFault}
 pub use Rattle.cborn_lex.specs.devices.Letters.{Letter, LettersSoFar, is_letter, is_plain, meant, raw, unit, written}
+pub use Rattle.cborn_lex.specs.shared.Modest.{AreModest, IsModest}
+pub use Rattle.cborn_lex.specs.declared.classes.Profile.TheVariants.{One as ProfileOne, Two as ProfileTwo}
 pub use Rattle.cborn_model.specs.Bytes.{AreBytes, big_endian}
 pub use Rattle.cborn_model.specs.Heads.{Argument, EndlessArgument, Given, SizeFits, WidthFits, argument, code, following, head, holds, is_simple_value, least}
 pub use Rattle.cborn_model.specs.Partial.{AreStrings, Ends, IsFree, Opening, Partial, TakesString, a_map, a_tag, an_array, built, chunks_of, chunks_tree, ended_size, in_chunks, inside, integer_tree, last_key, last_of, no_part, paired, part, put, string_tree, top}
 pub use Rattle.cborn_model.specs.Spelled.{ChunksFit, Fits, FitsAll, FitsEntries, chunk_bytes, spelled, spelled_all, spelled_entries}
-pub use Rattle.cborn_model.specs.Tree.{ByteChunks, Entries, Items, Nint, Pairs, Simple, Tagged, TextChunks, Tree, Trees, Uint, count, count_entries, depth_all, depth_entries, entries, entry, more, no_entry, trees}
+pub use Rattle.cborn_model.specs.Tree.{ByteChunks, Entries, Items, Nint, Pairs, Simple, Tagged, TextChunks, Tree, Trees, Uint, count, count_entries, depth_all, depth_entries, entries, entry, more, no_entry, trees, Bytes as ByteNode, Text as TextNode, no_item as no_node}
 pub use Rattle.cborn_model.specs.declared.heads.Major.{Major}
 pub use Rattle.cborn_model.specs.declared.heads.Major.TheVariants.{Array, ByteString, Negative, Other, TextString, Unsigned}
 pub use Rattle.cborn_model.specs.declared.heads.Size.{Size}
@@ -77,16 +79,15 @@ pub use Rattle.cborn_edn.specs.devices.Handed.{AllHanded, Handed, Hands, Innermo
 pub use Rattle.cborn_edn.specs.devices.Kept.{around, arounds_home, arounds_nest, arounds_of, bracket, brackets_home, brackets_nest, brackets_of, bytes_around, bytes_around_home, bytes_around_nest, bytes_before, bytes_open, chunks_in, count_of, joint, kind_before, kind_or, level_of, phase_of, piece_bytes, pieces_bytes, stack_in, stack_of, string_at, string_in, wanting}
 pub use Rattle.cborn_edn.specs.devices.Levels.{reach}
 pub use Rattle.cborn_edn.specs.devices.Lexical.{lexical}
-pub use Rattle.cborn_edn.specs.devices.Machine.{Home, Nest, Stack, State, as_chunk, as_item, at_home, at_top, builds, has, has_number, in_array, in_embed, in_key, in_row, in_tag, in_value, wants, wants_chunk, wants_number, with_piece}
+pub use Rattle.cborn_edn.specs.devices.Machine.{Answer, Home, Nest, Stack, State, after_number, after_string, as_chunk, as_item, at_end, at_home, at_top, begin, begin_chunk, begin_number, builds, checked, comma_at, comma_in, ends, ends_loose, finish, forbids, has, has_number, held, held_home, held_nest, held_stack, in_array, in_embed, in_key, in_row, in_tag, in_value, levels, levels_home, levels_nest, more_string, open_levels, parse, run, start, step, step_by, wants, wants_chunk, wants_number, with_piece}
 pub use Rattle.cborn_edn.specs.devices.MeaningErrors.{Notes, earlier, first_error, is_none}
-pub use Rattle.cborn_edn.specs.devices.Modest.{AreModest, IsModest}
 pub use Rattle.cborn_edn.specs.devices.Notating.{IsBadIn, IsCounted, IsEnded, IsHeld, IsLowest, after, beginning, content, count_one, ending, is_counted, late_in, late_size, lates, lowest_with, next_after, next_around, next_in, one_more, quote, separator, string_end, tally}
 pub use Rattle.cborn_edn.specs.devices.Noted.{noted, noted_home, noted_nest, noted_stack, pieces_noted, strings_noted}
 pub use Rattle.cborn_edn.specs.devices.Parse.{Allows, GoesOn, GoesOnAtAnyDepth, HasTree, IsSyntaxError, Parse, StopsAt, is_closing}
-pub use Rattle.cborn_edn.specs.devices.Reading.{AtEnd, IsReading, Judged, Last, Reached, is_trailing_comma, item, may_end, pieces}
+pub use Rattle.cborn_edn.specs.devices.Reading.{AtEnd, IsReadTo, IsReading, Judged, Last, Reached, is_trailing_comma, item, may_end, pieces}
 pub use Rattle.cborn_edn.specs.devices.Said.{Parsed, chunks, entries_before, entries_in, faults, faults_before, faults_before_pairs, faults_in, faults_of_fields, faults_of_input, faults_of_pairs, faults_of_piece, faults_of_pieces, faults_of_row, faults_of_strings, kind_in, node, nodes, nodes_before, nodes_in, nodes_of_input, snoc, snoc_entry, str, str_of}
 pub use Rattle.cborn_edn.specs.devices.Shows.{IsOpenAt, Shows, content_state, entries_at, fields_state, piece_of}
-pub use Rattle.cborn_edn.specs.devices.Steps.{EndsPieces, IsReady, MayEnd, Ready, Taken, Takes, Turned, Turns, ends_map, has_chunks, is_array, is_embedded, is_key, is_piece, is_row, is_tag, is_value, takes_no_piece}
+pub use Rattle.cborn_edn.specs.devices.Steps.{EndsPieces, IsReady, MayEnd, Ready, Taken, Takes, Turned, Turns, ends_map, has_chunks, is_in, is_piece, is_row, takes_no_piece}
 pub use Rattle.cborn_edn.specs.devices.Syntax.{Content, Fields, Input, Item, PairsBefore, Piece, Pieces, Row, RowBefore, Span, Strings, StringsBefore, after_pairs, after_row, after_strings, also, array, bytes, chunked, depth, depth_of_content, depth_of_fields, depth_of_input, depth_of_number, depth_of_pairs, depth_of_pairs_before, depth_of_piece, depth_of_pieces, depth_of_row, depth_of_row_before, depth_of_strings, depth_of_strings_before, embedded, items, loose, loose_fields, no_item, no_pair, no_string, number, pairs, piece, row, simple, span, string, strings, tag, text, tight, tight_fields, token, tokens_of, tokens_of_content, tokens_of_fields, tokens_of_input, tokens_of_pairs, tokens_of_pairs_before, tokens_of_piece, tokens_of_pieces, tokens_of_row, tokens_of_row_before, tokens_of_strings, tokens_of_strings_before, word}
 pub use Rattle.cborn_edn.specs.devices.TreesCode.{listed_trees, trees-listed}
 pub use Rattle.cborn_edn.specs.shared.Between.{others}

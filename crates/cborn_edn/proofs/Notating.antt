@@ -1,10 +1,8 @@
 -- The text of a partial sequence, as heads and strings come.
-use Rattle.cborn_edn.proofs.Common.{◌≡◌, refl, sym, ap, ◌∙◌, subst, ℕ, ◌+◌, ◌-◌, ◌^◌, ◌≤◌, List, [], ◌∷◌, ◌++◌, length, map, take, drop, min, decimal, append_assoc, append-nil, Option, Some, None, Bool, true, false, not, is_some, ◌⊎◌, inl, inr, slice_index, ◌/◌, ◌%◌, Result, Ok, Err, OnOk, IfErr, IsErrAnd, arith, le-ltb, ltb-true, ltb-false, eq-eqb, IsUtf8, flat_map-append, drop-append_seam, take-append-drop, encode_lower, lower_digits, Fixed, Width, Direct, One, Two, Four, Eight, holds, least, StringKind, OfBytes, OfText, Tree, trees, entries, FitsAll, Partial, top, inside, Opening, an_array, a_map, a_tag, in_chunks, no_part, part, put, built, paired, last_key, chunks_of, string_tree, integer_tree, AreStrings, Ends, IsFree, ended_size, Notator, Absent, Wide, is_good, others, shown, shown_chunk, shown_string, shown_lines, item_texts, pair_texts, joined_by, indicator, mark_for, mark_for_size, opened, Shown, IsBadText, IsBadAmong, IsBadInPairs, IsBadChunk, LowestBadText, after, separator, ending, next_after, beginning, next_in, next_around, late_size, is_counted, one_more, IsCounted, IsEnded, count_one, tally, late_in, lates, IsBadIn, IsLowest, lowest_with, quote, content, string_end, IsHeld}
-use Rattle.std.proofs.Common.{codes, if◌then◌else◌}
+use Rattle.cborn_edn.proofs.Common.{◌≡◌, refl, sym, ap, ◌∙◌, subst, ℕ, ◌+◌, ◌-◌, ◌^◌, ◌≤◌, List, [], ◌∷◌, ◌++◌, length, map, take, drop, min, decimal, append_assoc, append-nil, Option, Some, None, Bool, true, false, not, is_some, ◌⊎◌, inl, inr, slice_index, ◌/◌, ◌%◌, Result, Ok, Err, OnOk, IfErr, IsErrAnd, arith, le-ltb, ltb-true, ltb-false, eq-eqb, IsUtf8, flat_map-append, drop-append_seam, take-append-drop, encode_lower, lower_digits, Fixed, Width, Direct, One, Two, Four, Eight, holds, least, StringKind, OfBytes, OfText, Tree, trees, entries, FitsAll, Partial, top, inside, Opening, an_array, a_map, a_tag, in_chunks, no_part, part, put, built, paired, last_key, chunks_of, string_tree, integer_tree, AreStrings, Ends, IsFree, ended_size, Notator, Absent, Wide, is_good, others, shown, shown_chunk, shown_string, shown_lines, item_texts, pair_texts, joined_by, indicator, mark_for, mark_for_size, opened, Shown, IsBadText, IsBadAmong, IsBadInPairs, IsBadChunk, LowestBadText, after, separator, ending, next_after, beginning, next_in, next_around, late_size, is_counted, one_more, IsCounted, IsEnded, count_one, tally, late_in, lates, IsBadIn, IsLowest, lowest_with, quote, content, string_end, IsHeld, codes, if◌then◌else◌, ByteNode as Bytes, TextNode as Text}
 use Rattle.std.proofs.Math.Dec.{ltb}
 use Rattle.hex.specs.Hex.{encode_with}
 use Rattle.cborn_model.specs.declared.heads.Size.TheVariants.{Endless}
-use Rattle.cborn_model.specs.Tree.{Bytes, Text}
 use Rattle.cborn_model.proofs.Listed.Trees.{count-trees, count_entries-entries}
 use Rattle.cborn_wire.proofs.Visiting.Counting.{last_same}
 use Rattle.cborn_edn.specs.declared.notators.Next.{Next}
@@ -109,27 +107,22 @@ pairs_joined [] e = (refl, refl)
 pairs_joined (k ∷ []) e = absurd (let d : Some k ≡ None = e in cc)
 pairs_joined (k ∷ v ∷ ts) e = let h = after_pairs ts e in (ap (λ l. shown k ++ (codes ": " ++ (shown v ++ l))) h.0 ∙ pair_text k v (others (codes ", ") (pair_texts (entries (paired ts)))), ap ending h.1)
 
-after_bytes : (ts : List Tree) → AreStrings OfBytes ts → (following Chunk ts ≡ others (codes ", ") (map (shown_chunk OfBytes) (chunks_of ts))) × (next_after Chunk ts ≡ Chunk)
-after_bytes [] h = (refl, refl)
-after_bytes (Bytes p w x ∷ ts) h = let g = after_bytes ts h.1 in (ap (λ l. codes ", " ++ (shown_string OfBytes w x ++ l)) g.0, g.1)
-after_bytes (_ ∷ ts) h = absurd h.0
-
-after_texts : (ts : List Tree) → AreStrings OfText ts → (following Chunk ts ≡ others (codes ", ") (map (shown_chunk OfText) (chunks_of ts))) × (next_after Chunk ts ≡ Chunk)
-after_texts [] h = (refl, refl)
-after_texts (Text p w x ∷ ts) h = let g = after_texts ts h.1 in (ap (λ l. codes ", " ++ (shown_string OfText w x ++ l)) g.0, g.1)
-after_texts (_ ∷ ts) h = absurd h.0
+after_chunks : (k : StringKind) (ts : List Tree) → AreStrings k ts → (following Chunk ts ≡ others (codes ", ") (map (shown_chunk k) (chunks_of ts))) × (next_after Chunk ts ≡ Chunk)
+after_chunks k [] h = (refl, refl)
+after_chunks OfBytes (Bytes p w x ∷ ts) h = let g = after_chunks OfBytes ts h.1 in (ap (λ l. codes ", " ++ (shown_string OfBytes w x ++ l)) g.0, g.1)
+after_chunks OfText (Text p w x ∷ ts) h = let g = after_chunks OfText ts h.1 in (ap (λ l. codes ", " ++ (shown_string OfText w x ++ l)) g.0, g.1)
+after_chunks _ (_ ∷ ts) h = absurd h.0
 
 chunks_joined : (k : StringKind) (p : ℕ) (ts : List Tree) → AreStrings k ts → following (FirstChunk k) ts ++ ending (next_after (FirstChunk k) ts) ≡ shown (built (in_chunks p k) ts)
 chunks_joined OfBytes p [] h = refl
 chunks_joined OfText p [] h = refl
 chunks_joined OfBytes p (Bytes q w x ∷ ts) h =
-    let g = after_bytes ts h.1 in
+    let g = after_chunks OfBytes ts h.1 in
     (λ i. (codes "(_ " ++ (shown_string OfBytes w x ++ g.0 i)) ++ ending (g.1 i)) ∙ ap (λ l. codes "(_ " ++ l) (simp append_assoc)
 chunks_joined OfText p (Text q w x ∷ ts) h =
-    let g = after_texts ts h.1 in
+    let g = after_chunks OfText ts h.1 in
     (λ i. (codes "(_ " ++ (shown_string OfText w x ++ g.0 i)) ++ ending (g.1 i)) ∙ ap (λ l. codes "(_ " ++ l) (simp append_assoc)
-chunks_joined OfBytes p (_ ∷ ts) h = absurd h.0
-chunks_joined OfText p (_ ∷ ts) h = absurd h.0
+chunks_joined _ p (_ ∷ ts) h = absurd h.0
 
 bracketed : (a b x y z : List ℕ) → y ≡ x → z ≡ b → (a ++ y) ++ z ≡ a ++ (x ++ b)
 bracketed a b x y z e f = ap (λ l. (a ++ l) ++ z) e ∙ append_assoc a x z ∙ ap (λ l. a ++ (x ++ l)) f

@@ -9,7 +9,6 @@ pub mod Machine
 pub mod Said
 pub mod Parse
 pub mod Ahead
-pub mod Modest
 pub mod Noted
 pub mod Kept
 pub mod Shows

@@ -16,44 +16,17 @@ use cborn_lex::Mark;
 use cborn_model::Visitor;
 use std::alloc::AllocError;
 
-/// Whether the innermost bracket is an array.
+/// Whether the innermost bracket is of this kind.
 #[inline(always)]
-fn is_array(level: Option<Level>) -> bool
-    ensures { result ≡ pure.is_array level }
+fn is_in(kind: Level, level: Option<Level>) -> bool
+    ensures { result ≡ pure.is_in kind level }
 {
-    matches!(level, Some(Level::Array))
-}
-
-/// Whether the innermost bracket is a `<<`.
-#[inline(always)]
-fn is_embedded(level: Option<Level>) -> bool
-    ensures { result ≡ pure.is_embedded level }
-{
-    matches!(level, Some(Level::Embedded))
-}
-
-/// Whether the innermost bracket is a map, before the colon of a pair.
-#[inline(always)]
-fn is_key(level: Option<Level>) -> bool
-    ensures { result ≡ pure.is_key level }
-{
-    matches!(level, Some(Level::Key))
-}
-
-/// Whether the innermost bracket is a map, after the colon of a pair.
-#[inline(always)]
-fn is_value(level: Option<Level>) -> bool
-    ensures { result ≡ pure.is_value level }
-{
-    matches!(level, Some(Level::Value))
-}
-
-/// Whether the innermost bracket is a tag.
-#[inline(always)]
-fn is_tag(level: Option<Level>) -> bool
-    ensures { result ≡ pure.is_tag level }
-{
-    matches!(level, Some(Level::Tag))
+    match (kind, level) {
+        (Level::Array, Some(Level::Array)) | (Level::Embedded, Some(Level::Embedded)) => true,
+        (Level::Key, Some(Level::Key)) | (Level::Value, Some(Level::Value)) => true,
+        (Level::Tag, Some(Level::Tag)) => true,
+        _ => false,
+    }
 }
 
 /// Whether commas separate items there: in an array, in a `<<`, or where no bracket is open.
@@ -71,8 +44,8 @@ fn ends_map(phase: Phase, level: Option<Level>) -> bool
     ensures { result ≡ pure.ends_map phase level }
 {
     match phase {
-        Phase::Has => is_value(level),
-        _ => is_key(level),
+        Phase::Has => is_in(Level::Value, level),
+        _ => is_in(Level::Key, level),
     }
 }
 
@@ -96,7 +69,7 @@ pub(crate) fn end_array<V: Visitor>(
     ensures taken { IfOk result (λ ok. (s : State) (a : Place) → MayEnd s → Reads (V.holds visitor.old) here.old writer.old writer.old.pieces.items s → Taken (V.holds visitor.new) ok s ArrayClose a here.new writer.new) }
     ensures kept { IfOk result (λ ok. ok ≡ false → (here.new ≡ here.old) × (writer.new ≡ writer.old) × (visitor.new ≡ visitor.old)) }
 {
-    if !is_array(here.level) {
+    if !is_in(Level::Array, here.level) {
         return Ok(false);
     }
     close_sized(here, writer, visitor)?;
@@ -135,7 +108,7 @@ pub(crate) fn end_embedded<V: Visitor>(
     ensures taken { IfOk result (λ ok. (s : State) (a : Place) → place ≡ a.start → MayEnd s → Reads (V.holds visitor.old) here.old writer.old writer.old.pieces.items s → Taken (V.holds visitor.new) ok s (EmbedClose mark) a here.new writer.new) }
     ensures kept { IfOk result (λ ok. ok ≡ false → (here.new ≡ here.old) × (writer.new ≡ writer.old) × (visitor.new ≡ visitor.old)) }
 {
-    if !is_embedded(here.level) {
+    if !is_in(Level::Embedded, here.level) {
         return Ok(false);
     }
     close_embedded(mark, place, here, writer)?;
@@ -153,7 +126,7 @@ pub(crate) fn end_tag<V: Visitor>(
     ensures taken { IfOk result (λ ok. (st : Stack) (i : Item) (a : Place) → Reads (V.holds visitor.old) here.old writer.old writer.old.pieces.items (has st i) → Taken (V.holds visitor.new) ok (has st i) ParenClose a here.new writer.new) }
     ensures kept { IfOk result (λ ok. ok ≡ false → (here.new ≡ here.old) × (writer.new ≡ writer.old) × (visitor.new ≡ visitor.old)) }
 {
-    if !is_tag(here.level) {
+    if !is_in(Level::Tag, here.level) {
         return Ok(false);
     }
     close_tag(here, writer, visitor)?;
@@ -166,7 +139,7 @@ pub(crate) fn end_key(here: &mut Here, writer: &Writer) -> bool
     ensures taken { (st : Stack) (i : Item) (a : Place) → Shows here.old writer.now writer.now.pieces.items (has st i) → Turned result (has st i) Colon a here.new writer.now }
     ensures kept { result ≡ false → here.new ≡ here.old }
 {
-    if !is_key(here.level) {
+    if !is_in(Level::Key, here.level) {
         return false;
     }
     colon(here);
@@ -180,7 +153,7 @@ pub(crate) fn end_entry(here: &mut Here, writer: &Writer) -> bool
     ensures taken { (st : Stack) (i : Item) (a : Place) → Shows here.old writer.now writer.now.pieces.items (has st i) → Turned result (has st i) Comma a here.new writer.now }
     ensures kept { result ≡ false → here.new ≡ here.old }
 {
-    if is_value(here.level) {
+    if is_in(Level::Value, here.level) {
         comma_of_pairs(here);
         return true;
     }

@@ -85,12 +85,8 @@ fn note_number(
 {
     let argument = argument_of(negative, magnitude);
     if argument >= OUTSIDE {
-        note_unless(
-            is_absent(mark),
-            place,
-            EdnReason::IndicatorNotAllowed,
-            error,
-        );
+        let reason = EdnReason::IndicatorNotAllowed;
+        note_unless(is_absent(mark), place, reason, error);
     } else {
         note_width(mark, argument as u64, place, error);
     }
@@ -133,12 +129,8 @@ fn note_simple(numeral: Numeral, opened: usize, place: usize, error: &mut Option
 {
     let good = is_simple(numeral.negative, numeral.magnitude);
     note_unless(good, opened, EdnReason::BadSimple, error);
-    note_unless(
-        is_absent(numeral.mark),
-        place,
-        EdnReason::IndicatorNotAllowed,
-        error,
-    );
+    let reason = EdnReason::IndicatorNotAllowed;
+    note_unless(is_absent(numeral.mark), place, reason, error);
 }
 
 /// Whether there is a simple value with this number.

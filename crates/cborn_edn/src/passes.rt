@@ -10,7 +10,7 @@ ghost use Rattle.cborn_edn.specs.Grammar.{Notates};
 ghost use Rattle.cborn_edn.specs.Spelling.{IsSpelling};
 ghost use Rattle.cborn_edn.specs.devices.Handed.{Reads};
 ghost use Rattle.cborn_edn.specs.devices.Reading as pure;
-ghost use Rattle.cborn_edn.specs.devices.Reading.{IsReading, Judged, Last, AtEnd};
+ghost use Rattle.cborn_edn.specs.devices.Reading.{IsReading, IsInside, Judged, Last, AtEnd};
 ghost use Rattle.cborn_edn.specs.devices.Syntax.{Input};
 ghost use Rattle.cborn_edn.specs.devices.Shows.{Shows};
 
@@ -19,7 +19,7 @@ use crate::quick::take_common;
 use crate::quick_ends::take_empty_end;
 use crate::refusals::{first_fault, refused};
 use crate::spellers::Spellers;
-use crate::states::{Arounds, Brackets, Chunks, Here, Level, Phase, Writer};
+use crate::states::{Arounds, Brackets, Chunks, Here, Level, Phase, Source, Writer};
 use crate::steps::take;
 use crate::strings::end_item;
 use crate::tokens::{is_trailing_comma, reach_of};
@@ -60,7 +60,6 @@ pub fn read_text(
 ///
 /// # Errors
 /// Those of [`read_text`]. Then nothing is known of the visitor.
-#[tactic(auto, using(crate::proofs::Reader::Ending::first_reads))]
 pub fn visit_text<V: Visitor>(
     alloc: Global,
     limit: Limit,
@@ -72,9 +71,15 @@ pub fn visit_text<V: Visitor>(
     ensures nodes { OnOk result ((nodes : List Tree) × V.holds visitor.new (top nodes) no_part × Notates profile limit text.now (trees nodes) × FitsAll (trees nodes)) }
     ensures refused { IfErr result (IsNoNotation profile limit text.now) }
 {
+    let _len = bounded_len(text);
+    let source = Source {
+        limit: limit.get(),
+        profile,
+        text,
+    };
     let mut writer = Writer::new(alloc);
-    let here = read_tokens(alloc, limit, profile, text, &mut writer, visitor)?;
-    finish(limit, profile, text, here, writer, visitor)
+    let here = read_tokens(alloc, source, &mut writer, visitor)?;
+    finish(source, here, writer, visitor)
 }
 
 impl Writer {
@@ -100,22 +105,20 @@ impl Writer {
 /// Reads all tokens of the text, and gives where the reader then is.
 fn read_tokens<V: Visitor>(
     alloc: Global,
-    limit: Limit,
-    profile: Profile,
-    text: &str,
+    source: Source,
     writer: &mut Writer,
     visitor: &mut V,
 ) -> Result<Here, EdnFault>
-    requires { Reads (V.holds visitor.old) Here.FIRST writer.old writer.old.pieces.items start }
-    ensures read { IfOk result (λ here. IsReading (V.holds visitor.new) profile limit text.now here writer.new) }
-    ensures whole { IfOk result (λ here. here.at ≡ length text.now) }
-    ensures refused { IfErr result (IsNoNotation profile limit text.now) }
+    requires { IsReading (V.holds visitor.old) source Here.FIRST writer.old }
+    ensures read { IfOk result (λ here. IsReading (V.holds visitor.new) source.entry here writer.new) }
+    ensures whole { IfOk result (λ here. here.at ≡ length source.entry.text.now) }
+    ensures refused { IfErr result (IsNoNotation source.entry.profile source.entry.limit source.entry.text.now) }
 {
     let mut here = Here::FIRST;
-    'tokens: while here.at < text.len() {
-        if !take_common(limit, profile, text, &mut here, writer, visitor)? && here.at < text.len() {
+    'tokens: while here.at < source.text.len() {
+        if !take_common(source, &mut here, writer, visitor)? && here.at < source.text.len() {
             let mut next = here.same();
-            take_rare(alloc, limit, profile, text, &mut next, writer, visitor)?;
+            take_rare(alloc, source, &mut next, writer, visitor)?;
             here.become_next(next);
         }
     }
@@ -125,42 +128,36 @@ fn read_tokens<V: Visitor>(
 /// Takes what is next in the text, where `take_common` takes nothing.
 fn take_rare<V: Visitor>(
     alloc: Global,
-    limit: Limit,
-    profile: Profile,
-    text: &str,
+    source: Source,
     here: &mut Here,
     writer: &mut Writer,
     visitor: &mut V,
 ) -> Result<(), EdnFault>
-    requires reading { IsReading (V.holds visitor.old) profile limit text.now here.old writer.old }
-    requires more { here.old.at < length text.now }
-    ensures read { OnOk result (IsReading (V.holds visitor.new) profile limit text.now here.new writer.new) }
+    requires { IsInside (V.holds visitor.old) source here.old writer.old }
+    ensures read { OnOk result (IsReading (V.holds visitor.new) source.entry here.new writer.new) }
     ensures further { OnOk result (here.old.at < here.new.at) }
-    ensures refused { IfErr result (IsNoNotation profile limit text.now) }
+    ensures refused { IfErr result (IsNoNotation source.entry.profile source.entry.limit source.entry.text.now) }
 {
-    if take_empty_end(limit, profile, text, here, writer, visitor)? || here.at == text.len() {
+    if take_empty_end(Source { ..source }, here, writer, visitor)? || here.at == source.text.len() {
         return Ok(());
     }
-    step(alloc, limit, profile, text, here, writer, visitor)
+    step(alloc, source, here, writer, visitor)
 }
 
 /// Reads one token, or the white space up to the text's end.
 fn step<V: Visitor>(
     alloc: Global,
-    limit: Limit,
-    profile: Profile,
-    text: &str,
+    source: Source,
     here: &mut Here,
     writer: &mut Writer,
     visitor: &mut V,
 ) -> Result<(), EdnFault>
-    requires reading { IsReading (V.holds visitor.old) profile limit text.now here.old writer.old }
-    requires more { here.old.at < length text.now }
-    ensures read { OnOk result (IsReading (V.holds visitor.new) profile limit text.now here.new writer.new) }
+    requires { IsInside (V.holds visitor.old) source here.old writer.old }
+    ensures read { OnOk result (IsReading (V.holds visitor.new) source.entry here.new writer.new) }
     ensures further { OnOk result (here.old.at < here.new.at) }
-    ensures refused { IfErr result (IsNoNotation profile limit text.now) }
+    ensures refused { IfErr result (IsNoNotation source.entry.profile source.entry.limit source.entry.text.now) }
 {
-    let _len = bounded_len(text);
+    let (profile, text) = (source.profile, source.text);
     let (at, phase) = (here.at, here.phase);
     let mut number: u128 = 0;
     let found = next_token(alloc, profile, text, at, &mut number, &mut writer.pieces)?;
@@ -171,7 +168,7 @@ fn step<V: Visitor>(
     let reach = reach_of(writer.brackets.count(), token.kind, number);
     let trailing = is_trailing_comma(profile, phase, token.kind);
     let taken = take(token, number, here, writer, visitor)?;
-    if let Some(reason) = judge(trailing, taken, reach, limit) {
+    if let Some(reason) = judge(trailing, taken, reach, source.limit) {
         let fault = refused(token.start, reason);
         return Err(first_fault(alloc, profile, text, token.stop, fault));
     }
@@ -183,7 +180,7 @@ fn step<V: Visitor>(
 /// that it ends a bracket after a comma in profile 1, `taken` that the grammar has such a token
 /// there, and `reach` how deep it goes.
 #[inline(always)]
-fn judge(trailing: bool, taken: bool, reach: u64, limit: Limit) -> Option<EdnReason>
+fn judge(trailing: bool, taken: bool, reach: u64, limit: u64) -> Option<EdnReason>
     ensures { Judged trailing taken reach limit result }
 {
     if trailing {
@@ -192,7 +189,7 @@ fn judge(trailing: bool, taken: bool, reach: u64, limit: Limit) -> Option<EdnRea
     if !taken {
         return Some(EdnReason::UnexpectedToken);
     }
-    if reach > limit.get() {
+    if reach > limit {
         return Some(EdnReason::TooDeep);
     }
     None
@@ -200,7 +197,7 @@ fn judge(trailing: bool, taken: bool, reach: u64, limit: Limit) -> Option<EdnRea
 
 /// The length of a text in bytes, which is below 2^63.
 #[inline(always)]
-pub(crate) fn bounded_len(text: &str) -> usize
+fn bounded_len(text: &str) -> usize
     ensures len { result ≡ length text.now }
     ensures small { result < 2 ^ 63 }
 {
@@ -209,20 +206,18 @@ pub(crate) fn bounded_len(text: &str) -> usize
 
 /// Looks at the text's end whether there is a meaning error, or the text has to go on.
 fn finish<V: Visitor>(
-    limit: Limit,
-    profile: Profile,
-    text: &str,
+    source: Source,
     here: Here,
     writer: Writer,
     visitor: &mut V,
 ) -> Result<(), EdnFault>
-    requires reading { IsReading (V.holds visitor.old) profile limit text.now here writer }
-    requires whole { here.at ≡ length text.now }
-    ensures nodes { OnOk result ((nodes : List Tree) × V.holds visitor.new (top nodes) no_part × Notates profile limit text.now (trees nodes) × FitsAll (trees nodes)) }
-    ensures refused { IfErr result (IsNoNotation profile limit text.now) }
+    requires reading { IsReading (V.holds visitor.old) source here writer }
+    requires whole { here.at ≡ length source.text.now }
+    ensures nodes { OnOk result ((nodes : List Tree) × V.holds visitor.new (top nodes) no_part × Notates source.entry.profile source.entry.limit source.entry.text.now (trees nodes) × FitsAll (trees nodes)) }
+    ensures refused { IfErr result (IsNoNotation source.entry.profile source.entry.limit source.entry.text.now) }
 {
     if !may_end(here.phase, here.level, writer.chunks) {
-        return Err(refused(text.len(), EdnReason::UnexpectedEnd));
+        return Err(refused(source.text.len(), EdnReason::UnexpectedEnd));
     }
     let mut writer = writer;
     end_last(here, &mut writer, visitor)?;

@@ -4,11 +4,11 @@
 //! Each function answers whether it took something. If it took nothing, `tokens` and `steps` take
 //! what is there. All functions are in line, so that `here` is kept in registers.
 
-ghost use Rattle.std.specs.Prelude.{◌≡◌, ◌≤◌, ◌<◌, ◌⊎◌, [], true, length, slice_index, IfOk, OnOk};
-ghost use Rattle.cborn_lex.specs.declared.classes.Profile.{Profile as ProfileSpec};
+ghost use Rattle.std.specs.Prelude.{◌≡◌, ◌≤◌, ◌<◌, [], true, length, slice_index, IfOk};
+ghost use Rattle.cborn_lex.specs.declared.classes.Profile.{Profile};
 ghost use Rattle.cborn_lex.specs.Good.{TokensBetween};
 ghost use Rattle.cborn_edn.specs.declared.states.Phase.TheVariants as phases;
-ghost use Rattle.cborn_edn.specs.devices.Reading.{IsReading};
+ghost use Rattle.cborn_edn.specs.devices.Reading.{IsInside, IsWanting, Goes};
 
 use crate::integers::integer_at;
 use crate::numbers::{Numeral, close_simple, put_simple};
@@ -17,34 +17,28 @@ use crate::quick_items::{
     take_array, take_chunked, take_embedded, take_integer, take_map, take_negative, take_text,
     take_word,
 };
-use crate::states::{Here, Phase, Writer};
+use crate::states::{Here, Phase, Source, Writer};
 use crate::white_space::{begins_white_space, skip_white_space};
-use cborn_lex::Profile;
-use cborn_model::{Limit, Visitor};
+use cborn_model::Visitor;
 use std::alloc::AllocError;
 
 /// Takes what is next in the text, if it is frequent.
 #[inline(always)]
 pub(crate) fn take_common<V: Visitor>(
-    limit: Limit,
-    profile: Profile,
-    text: &str,
+    source: Source,
     here: &mut Here,
     writer: &mut Writer,
     visitor: &mut V,
 ) -> Result<bool, AllocError>
-    requires reading { IsReading (V.holds visitor.old) profile limit text.now here.old writer.old }
-    requires inside { here.old.at < length text.now }
-    ensures read { OnOk result (IsReading (V.holds visitor.new) profile limit text.now here.new writer.new) }
-    ensures on { OnOk result (here.old.at ≤ here.new.at) }
-    ensures further { IfOk result (λ ok. ok ≡ true → here.old.at < here.new.at) }
+    requires { IsInside (V.holds visitor.old) source here.old writer.old }
+    ensures { IfOk result (Goes (V.holds visitor.new) source.entry here.old here.new writer.new) }
 {
     match here.phase {
-        Phase::Wants | Phase::WantsMore => take_item(limit, profile, text, here, writer, visitor),
-        Phase::Has => take_after(limit, profile, text, here, writer, visitor),
-        Phase::Builds => take_after_pieces(limit, profile, text, here, writer, visitor),
-        Phase::WantsNumber => take_simple_number(limit, profile, text, here, writer, visitor),
-        Phase::HasNumber => take_simple_end(limit, profile, text, here, writer, visitor),
+        Phase::Wants | Phase::WantsMore => take_item(source, here, writer, visitor),
+        Phase::Has => take_after(source, here, writer, visitor),
+        Phase::Builds => take_after_pieces(source, here, writer, visitor),
+        Phase::WantsNumber => take_simple_number(source, here, writer, visitor),
+        Phase::HasNumber => take_simple_end(source, here, writer, visitor),
         Phase::WantsChunk => Ok(false),
     }
 }
@@ -52,23 +46,17 @@ pub(crate) fn take_common<V: Visitor>(
 /// Takes an item and what follows it, a bracket, or white space, where an item is wanted.
 #[inline(always)]
 fn take_item<V: Visitor>(
-    limit: Limit,
-    profile: Profile,
-    text: &str,
+    source: Source,
     here: &mut Here,
     writer: &mut Writer,
     visitor: &mut V,
 ) -> Result<bool, AllocError>
-    requires reading { IsReading (V.holds visitor.old) profile limit text.now here.old writer.old }
-    requires inside { here.old.at < length text.now }
-    requires wanted { (here.old.phase ≡ phases.Wants) ⊎ (here.old.phase ≡ phases.WantsMore) }
-    ensures read { OnOk result (IsReading (V.holds visitor.new) profile limit text.now here.new writer.new) }
-    ensures on { OnOk result (here.old.at ≤ here.new.at) }
-    ensures further { IfOk result (λ ok. ok ≡ true → here.old.at < here.new.at) }
+    requires { IsWanting (V.holds visitor.old) source here.old writer.old }
+    ensures { IfOk result (Goes (V.holds visitor.new) source.entry here.old here.new writer.new) }
 {
-    let taken = take_first(limit, profile, text, here, writer, visitor)?;
-    if taken && has_item(here.phase) && here.at < text.len() {
-        take_after(limit, profile, text, here, writer, visitor)?;
+    let taken = take_first(source, here, writer, visitor)?;
+    if taken && has_item(here.phase) && here.at < source.text.len() {
+        take_after(source, here, writer, visitor)?;
     }
     Ok(taken)
 }
@@ -84,57 +72,45 @@ fn has_item(phase: Phase) -> bool
 /// Takes an item, a bracket, or white space, where an item is wanted.
 #[inline(always)]
 fn take_first<V: Visitor>(
-    limit: Limit,
-    profile: Profile,
-    text: &str,
+    source: Source,
     here: &mut Here,
     writer: &mut Writer,
     visitor: &mut V,
 ) -> Result<bool, AllocError>
-    requires reading { IsReading (V.holds visitor.old) profile limit text.now here.old writer.old }
-    requires inside { here.old.at < length text.now }
-    requires wanted { (here.old.phase ≡ phases.Wants) ⊎ (here.old.phase ≡ phases.WantsMore) }
-    ensures read { OnOk result (IsReading (V.holds visitor.new) profile limit text.now here.new writer.new) }
-    ensures on { OnOk result (here.old.at ≤ here.new.at) }
-    ensures further { IfOk result (λ ok. ok ≡ true → here.old.at < here.new.at) }
+    requires { IsWanting (V.holds visitor.old) source here.old writer.old }
+    ensures { IfOk result (Goes (V.holds visitor.new) source.entry here.old here.new writer.new) }
 {
-    match text.as_bytes()[here.at] {
-        b'0'..=b'9' => take_integer(limit, profile, text, here, writer, visitor),
-        b'"' => take_text(limit, profile, text, here, writer, visitor),
-        b'-' => take_negative(limit, profile, text, here, writer, visitor),
-        b'[' => take_row(limit, profile, text, here, writer, visitor),
-        b'{' => take_pairs(limit, profile, text, here, writer, visitor),
-        b'f' | b'n' | b't' | b'u' => take_word(limit, profile, text, here, writer, visitor),
-        b'<' => take_embedded(limit, profile, text, here, writer, visitor),
-        b'(' => take_chunked(limit, profile, text, here, writer, visitor),
-        _ => take_white_space(limit, profile, text, here, writer, visitor),
+    match source.text.as_bytes()[here.at] {
+        b'0'..=b'9' => take_integer(source, here, writer, visitor),
+        b'"' => take_text(source, here, writer, visitor),
+        b'-' => take_negative(source, here, writer, visitor),
+        b'[' => take_row(source, here, writer, visitor),
+        b'{' => take_pairs(source, here, writer, visitor),
+        b'f' | b'n' | b't' | b'u' => take_word(source, here, writer, visitor),
+        b'<' => take_embedded(source, here, writer, visitor),
+        b'(' => take_chunked(source, here, writer, visitor),
+        _ => take_white_space(source, here, writer, visitor),
     }
 }
 
 /// Takes a `[`, and also the `]` if it follows directly.
 #[inline(always)]
 fn take_row<V: Visitor>(
-    limit: Limit,
-    profile: Profile,
-    text: &str,
+    source: Source,
     here: &mut Here,
     writer: &mut Writer,
     visitor: &mut V,
 ) -> Result<bool, AllocError>
-    requires reading { IsReading (V.holds visitor.old) profile limit text.now here.old writer.old }
-    requires inside { here.old.at < length text.now }
-    requires wanted { (here.old.phase ≡ phases.Wants) ⊎ (here.old.phase ≡ phases.WantsMore) }
-    requires bracket { slice_index text.now here.old.at ≡ 91 }
-    ensures read { OnOk result (IsReading (V.holds visitor.new) profile limit text.now here.new writer.new) }
-    ensures on { OnOk result (here.old.at ≤ here.new.at) }
-    ensures further { IfOk result (λ ok. ok ≡ true → here.old.at < here.new.at) }
+    requires wanting { IsWanting (V.holds visitor.old) source here.old writer.old }
+    requires bracket { slice_index source.text.now here.old.at ≡ 91 }
+    ensures { IfOk result (Goes (V.holds visitor.new) source.entry here.old here.new writer.new) }
 {
-    if !has_byte_at(b']', text.as_bytes(), here.at + 1) {
-        return take_array(limit, profile, text, here, writer, visitor);
+    if !has_byte_at(b']', source.text.as_bytes(), here.at + 1) {
+        return take_array(source, here, writer, visitor);
     }
-    let taken = take_array(limit, profile, text, here, writer, visitor)?;
-    if taken && is_first(here.phase) && has_byte_at(b']', text.as_bytes(), here.at) {
-        take_array_end(limit, profile, text, here, writer, visitor)?;
+    let taken = take_array(source, here, writer, visitor)?;
+    if taken && is_first(here.phase) && has_byte_at(b']', source.text.as_bytes(), here.at) {
+        take_array_end(source, here, writer, visitor)?;
     }
     Ok(taken)
 }
@@ -142,27 +118,21 @@ fn take_row<V: Visitor>(
 /// Takes a `{`, and also the `}` if it follows directly.
 #[inline(always)]
 fn take_pairs<V: Visitor>(
-    limit: Limit,
-    profile: Profile,
-    text: &str,
+    source: Source,
     here: &mut Here,
     writer: &mut Writer,
     visitor: &mut V,
 ) -> Result<bool, AllocError>
-    requires reading { IsReading (V.holds visitor.old) profile limit text.now here.old writer.old }
-    requires inside { here.old.at < length text.now }
-    requires wanted { (here.old.phase ≡ phases.Wants) ⊎ (here.old.phase ≡ phases.WantsMore) }
-    requires bracket { slice_index text.now here.old.at ≡ 123 }
-    ensures read { OnOk result (IsReading (V.holds visitor.new) profile limit text.now here.new writer.new) }
-    ensures on { OnOk result (here.old.at ≤ here.new.at) }
-    ensures further { IfOk result (λ ok. ok ≡ true → here.old.at < here.new.at) }
+    requires wanting { IsWanting (V.holds visitor.old) source here.old writer.old }
+    requires bracket { slice_index source.text.now here.old.at ≡ 123 }
+    ensures { IfOk result (Goes (V.holds visitor.new) source.entry here.old here.new writer.new) }
 {
-    if !has_byte_at(b'}', text.as_bytes(), here.at + 1) {
-        return take_map(limit, profile, text, here, writer, visitor);
+    if !has_byte_at(b'}', source.text.as_bytes(), here.at + 1) {
+        return take_map(source, here, writer, visitor);
     }
-    let taken = take_map(limit, profile, text, here, writer, visitor)?;
-    if taken && is_first(here.phase) && has_byte_at(b'}', text.as_bytes(), here.at) {
-        take_map_end(limit, profile, text, here, writer, visitor)?;
+    let taken = take_map(source, here, writer, visitor)?;
+    if taken && is_first(here.phase) && has_byte_at(b'}', source.text.as_bytes(), here.at) {
+        take_map_end(source, here, writer, visitor)?;
     }
     Ok(taken)
 }
@@ -188,7 +158,7 @@ fn is_first(phase: Phase) -> bool
 #[inline(always)]
 pub(crate) fn skip_space(text: &str, here: &mut Here)
     requires { here.old.at ≤ length text.now }
-    ensures white { (profile : ProfileSpec) → TokensBetween profile text.now here.old.at here.new.at [] }
+    ensures white { (profile : Profile) → TokensBetween profile text.now here.old.at here.new.at [] }
     ensures within { here.new.at ≤ length text.now }
     ensures rest { here.new ≡ record here.old { at = here.new.at } }
     ensures on { here.old.at ≤ here.new.at }
@@ -201,20 +171,15 @@ pub(crate) fn skip_space(text: &str, here: &mut Here)
 /// Takes white space, which comments are part of.
 #[inline(always)]
 pub(crate) fn take_white_space<V: Visitor>(
-    limit: Limit,
-    profile: Profile,
-    text: &str,
+    source: Source,
     here: &mut Here,
     writer: &mut Writer,
     visitor: &mut V,
 ) -> Result<bool, AllocError>
-    requires reading { IsReading (V.holds visitor.old) profile limit text.now here.old writer.old }
-    requires inside { here.old.at < length text.now }
-    ensures read { OnOk result (IsReading (V.holds visitor.new) profile limit text.now here.new writer.new) }
-    ensures on { OnOk result (here.old.at ≤ here.new.at) }
-    ensures further { IfOk result (λ ok. ok ≡ true → here.old.at < here.new.at) }
+    requires { IsInside (V.holds visitor.old) source here.old writer.old }
+    ensures { IfOk result (Goes (V.holds visitor.new) source.entry here.old here.new writer.new) }
 {
-    let bytes = text.as_bytes();
+    let bytes = source.text.as_bytes();
     if !begins_white_space(bytes[here.at]) {
         return Ok(false);
     }
@@ -223,7 +188,7 @@ pub(crate) fn take_white_space<V: Visitor>(
         here.at = next;
         return Ok(true);
     }
-    let Some(stop) = skip_white_space(profile, bytes, here.at) else {
+    let Some(stop) = skip_white_space(source.profile, bytes, here.at) else {
         return Ok(false);
     };
     let taken = stop > here.at;
@@ -234,27 +199,22 @@ pub(crate) fn take_white_space<V: Visitor>(
 /// Takes the number in `simple(..)`.
 #[inline(always)]
 fn take_simple_number<V: Visitor>(
-    limit: Limit,
-    profile: Profile,
-    text: &str,
+    source: Source,
     here: &mut Here,
     writer: &mut Writer,
     visitor: &mut V,
 ) -> Result<bool, AllocError>
-    requires reading { IsReading (V.holds visitor.old) profile limit text.now here.old writer.old }
-    requires inside { here.old.at < length text.now }
+    requires inside { IsInside (V.holds visitor.old) source here.old writer.old }
     requires number { here.old.phase ≡ phases.WantsNumber }
-    ensures read { OnOk result (IsReading (V.holds visitor.new) profile limit text.now here.new writer.new) }
-    ensures on { OnOk result (here.old.at ≤ here.new.at) }
-    ensures further { IfOk result (λ ok. ok ≡ true → here.old.at < here.new.at) }
+    ensures { IfOk result (Goes (V.holds visitor.new) source.entry here.old here.new writer.new) }
 {
-    let Some(found) = integer_at(text.as_bytes(), here.at) else {
+    let Some(found) = integer_at(source.text.as_bytes(), here.at) else {
         return Ok(false);
     };
     if found.is_tag {
         return Ok(false);
     }
-    if writer.brackets.count() > limit.get() {
+    if writer.brackets.count() > source.limit {
         return Ok(false);
     }
     let numeral = Numeral {
@@ -270,21 +230,16 @@ fn take_simple_number<V: Visitor>(
 /// Takes the `)` of `simple(..)`.
 #[inline(always)]
 fn take_simple_end<V: Visitor>(
-    limit: Limit,
-    profile: Profile,
-    text: &str,
+    source: Source,
     here: &mut Here,
     writer: &mut Writer,
     visitor: &mut V,
 ) -> Result<bool, AllocError>
-    requires reading { IsReading (V.holds visitor.old) profile limit text.now here.old writer.old }
-    requires inside { here.old.at < length text.now }
+    requires inside { IsInside (V.holds visitor.old) source here.old writer.old }
     requires number { here.old.phase ≡ phases.HasNumber }
-    ensures read { OnOk result (IsReading (V.holds visitor.new) profile limit text.now here.new writer.new) }
-    ensures on { OnOk result (here.old.at ≤ here.new.at) }
-    ensures further { IfOk result (λ ok. ok ≡ true → here.old.at < here.new.at) }
+    ensures { IfOk result (Goes (V.holds visitor.new) source.entry here.old here.new writer.new) }
 {
-    let bytes = text.as_bytes();
+    let bytes = source.text.as_bytes();
     if bytes[here.at] != b')' {
         return Ok(false);
     }

@@ -1,48 +1,42 @@
 //! Frequent items, and brackets that open, taken without the lexer where an item is wanted. Each
 //! function answers whether it took something.
 
-ghost use Rattle.std.specs.Prelude.{◌≡◌, ◌≤◌, ◌<◌, ◌⊎◌, true, length, slice_index, IfOk, OnOk};
+ghost use Rattle.std.specs.Prelude.{◌≡◌, slice_index, IfOk};
 ghost use Rattle.cborn_lex.specs.declared.classes.Class.TheVariants as classes;
+ghost use Rattle.cborn_lex.specs.declared.classes.Profile.{Profile};
 ghost use Rattle.cborn_edn.specs.devices.Ahead.{IsTokenAt};
-ghost use Rattle.cborn_edn.specs.declared.states.Phase.TheVariants as phases;
-ghost use Rattle.cborn_edn.specs.devices.Reading.{IsReading};
+ghost use Rattle.cborn_edn.specs.devices.Reading.{IsWanting, Goes};
 
 use crate::containers::{open_array, open_embedded, open_map, open_tag};
 use crate::integers::{Integer, integer_at, negative_at};
 use crate::marks::{embeds_at, opening_at, opens_chunks_at};
 use crate::numbers::{Numeral, put_number, put_word};
-use crate::states::{Here, Writer};
+use crate::states::{Here, Source, Writer};
 use crate::strings::{open_chunks, put_last_piece, put_text};
 use crate::texts::{plain_text_at, push_text};
 use crate::words::word_at;
-use cborn_lex::{Mark, Profile};
-use cborn_model::{Limit, Visitor};
+use cborn_lex::Mark;
+use cborn_model::Visitor;
 use std::alloc::AllocError;
 
 /// Takes an integer without a minus, or the number of a tag and its `(`.
 #[inline(always)]
 pub(crate) fn take_integer<V: Visitor>(
-    limit: Limit,
-    profile: Profile,
-    text: &str,
+    source: Source,
     here: &mut Here,
     writer: &mut Writer,
     visitor: &mut V,
 ) -> Result<bool, AllocError>
-    requires reading { IsReading (V.holds visitor.old) profile limit text.now here.old writer.old }
-    requires inside { here.old.at < length text.now }
-    requires wanted { (here.old.phase ≡ phases.Wants) ⊎ (here.old.phase ≡ phases.WantsMore) }
-    ensures read { OnOk result (IsReading (V.holds visitor.new) profile limit text.now here.new writer.new) }
-    ensures on { OnOk result (here.old.at ≤ here.new.at) }
-    ensures further { IfOk result (λ ok. ok ≡ true → here.old.at < here.new.at) }
+    requires { IsWanting (V.holds visitor.old) source here.old writer.old }
+    ensures { IfOk result (Goes (V.holds visitor.new) source.entry here.old here.new writer.new) }
 {
-    let Some(found) = integer_at(text.as_bytes(), here.at) else {
+    let Some(found) = integer_at(source.text.as_bytes(), here.at) else {
         return Ok(false);
     };
     if found.is_tag {
-        return take_tag(found, limit, profile, text, here, writer, visitor);
+        return take_tag(found, source, here, writer, visitor);
     }
-    if writer.brackets.count() > limit.get() {
+    if writer.brackets.count() > source.limit {
         return Ok(false);
     }
     let numeral = Numeral {
@@ -59,22 +53,16 @@ pub(crate) fn take_integer<V: Visitor>(
 #[inline(always)]
 fn take_tag<V: Visitor>(
     found: Integer,
-    limit: Limit,
-    profile: Profile,
-    text: &str,
+    source: Source,
     here: &mut Here,
     writer: &mut Writer,
     visitor: &mut V,
 ) -> Result<bool, AllocError>
-    requires reading { IsReading (V.holds visitor.old) profile limit text.now here.old writer.old }
-    requires inside { here.old.at < length text.now }
-    requires wanted { (here.old.phase ≡ phases.Wants) ⊎ (here.old.phase ≡ phases.WantsMore) }
-    requires token { IsTokenAt profile text.now here.old.at found.stop (classes.TagOpen found.number found.mark) }
-    ensures read { OnOk result (IsReading (V.holds visitor.new) profile limit text.now here.new writer.new) }
-    ensures on { OnOk result (here.old.at ≤ here.new.at) }
-    ensures further { IfOk result (λ ok. ok ≡ true → here.old.at < here.new.at) }
+    requires wanting { IsWanting (V.holds visitor.old) source here.old writer.old }
+    requires token { (profile : Profile) → IsTokenAt profile source.text.now here.old.at found.stop (classes.TagOpen found.number found.mark) }
+    ensures { IfOk result (Goes (V.holds visitor.new) source.entry here.old here.new writer.new) }
 {
-    if writer.brackets.count() >= limit.get() {
+    if writer.brackets.count() >= source.limit {
         return Ok(false);
     }
     let n = found.number as u128;
@@ -86,25 +74,19 @@ fn take_tag<V: Visitor>(
 /// Takes an integer below zero.
 #[inline(always)]
 pub(crate) fn take_negative<V: Visitor>(
-    limit: Limit,
-    profile: Profile,
-    text: &str,
+    source: Source,
     here: &mut Here,
     writer: &mut Writer,
     visitor: &mut V,
 ) -> Result<bool, AllocError>
-    requires reading { IsReading (V.holds visitor.old) profile limit text.now here.old writer.old }
-    requires inside { here.old.at < length text.now }
-    requires wanted { (here.old.phase ≡ phases.Wants) ⊎ (here.old.phase ≡ phases.WantsMore) }
-    requires minus { slice_index text.now here.old.at ≡ 45 }
-    ensures read { OnOk result (IsReading (V.holds visitor.new) profile limit text.now here.new writer.new) }
-    ensures on { OnOk result (here.old.at ≤ here.new.at) }
-    ensures further { IfOk result (λ ok. ok ≡ true → here.old.at < here.new.at) }
+    requires wanting { IsWanting (V.holds visitor.old) source here.old writer.old }
+    requires minus { slice_index source.text.now here.old.at ≡ 45 }
+    ensures { IfOk result (Goes (V.holds visitor.new) source.entry here.old here.new writer.new) }
 {
-    let Some((n, stop)) = negative_at(text.as_bytes(), here.at) else {
+    let Some((n, stop)) = negative_at(source.text.as_bytes(), here.at) else {
         return Ok(false);
     };
-    if writer.brackets.count() > limit.get() {
+    if writer.brackets.count() > source.limit {
         return Ok(false);
     }
     let numeral = Numeral {
@@ -120,21 +102,15 @@ pub(crate) fn take_negative<V: Visitor>(
 /// Takes the word of a simple value.
 #[inline(always)]
 pub(crate) fn take_word<V: Visitor>(
-    limit: Limit,
-    profile: Profile,
-    text: &str,
+    source: Source,
     here: &mut Here,
     writer: &mut Writer,
     visitor: &mut V,
 ) -> Result<bool, AllocError>
-    requires reading { IsReading (V.holds visitor.old) profile limit text.now here.old writer.old }
-    requires inside { here.old.at < length text.now }
-    requires wanted { (here.old.phase ≡ phases.Wants) ⊎ (here.old.phase ≡ phases.WantsMore) }
-    ensures read { OnOk result (IsReading (V.holds visitor.new) profile limit text.now here.new writer.new) }
-    ensures on { OnOk result (here.old.at ≤ here.new.at) }
-    ensures further { IfOk result (λ ok. ok ≡ true → here.old.at < here.new.at) }
+    requires { IsWanting (V.holds visitor.old) source here.old writer.old }
+    ensures { IfOk result (Goes (V.holds visitor.new) source.entry here.old here.new writer.new) }
 {
-    let Some((n, stop)) = word_at(text.as_bytes(), here.at) else {
+    let Some((n, stop)) = word_at(source.text.as_bytes(), here.at) else {
         return Ok(false);
     };
     put_word(n, here.at, here, writer, visitor)?;
@@ -145,24 +121,18 @@ pub(crate) fn take_word<V: Visitor>(
 /// Takes a text string of one piece without an indicator, and the white space after it.
 #[inline(always)]
 pub(crate) fn take_text<V: Visitor>(
-    limit: Limit,
-    profile: Profile,
-    text: &str,
+    source: Source,
     here: &mut Here,
     writer: &mut Writer,
     visitor: &mut V,
 ) -> Result<bool, AllocError>
-    requires reading { IsReading (V.holds visitor.old) profile limit text.now here.old writer.old }
-    requires inside { here.old.at < length text.now }
-    requires wanted { (here.old.phase ≡ phases.Wants) ⊎ (here.old.phase ≡ phases.WantsMore) }
-    requires quote { slice_index text.now here.old.at ≡ 34 }
-    ensures read { OnOk result (IsReading (V.holds visitor.new) profile limit text.now here.new writer.new) }
-    ensures on { OnOk result (here.old.at ≤ here.new.at) }
-    ensures further { IfOk result (λ ok. ok ≡ true → here.old.at < here.new.at) }
+    requires wanting { IsWanting (V.holds visitor.old) source here.old writer.old }
+    requires quote { slice_index source.text.now here.old.at ≡ 34 }
+    ensures { IfOk result (Goes (V.holds visitor.new) source.entry here.old here.new writer.new) }
 {
-    let bytes = text.as_bytes();
-    let Some(found) = plain_text_at(profile, bytes, here.at) else {
-        return take_escaped(limit, profile, text, here, writer, visitor);
+    let bytes = source.text.as_bytes();
+    let Some(found) = plain_text_at(source.profile, bytes, here.at) else {
+        return take_escaped(Source { ..source }, here, writer, visitor);
     };
     let content = &bytes[here.at + 1..here.at + 1 + found.len];
     put_text(content, here, writer, visitor)?;
@@ -174,24 +144,18 @@ pub(crate) fn take_text<V: Visitor>(
 /// after it.
 #[inline(never)]
 fn take_escaped<V: Visitor>(
-    limit: Limit,
-    profile: Profile,
-    text: &str,
+    source: Source,
     here: &mut Here,
     writer: &mut Writer,
     visitor: &mut V,
 ) -> Result<bool, AllocError>
-    requires reading { IsReading (V.holds visitor.old) profile limit text.now here.old writer.old }
-    requires inside { here.old.at < length text.now }
-    requires wanted { (here.old.phase ≡ phases.Wants) ⊎ (here.old.phase ≡ phases.WantsMore) }
-    requires quote { slice_index text.now here.old.at ≡ 34 }
-    ensures read { OnOk result (IsReading (V.holds visitor.new) profile limit text.now here.new writer.new) }
-    ensures on { OnOk result (here.old.at ≤ here.new.at) }
-    ensures further { IfOk result (λ ok. ok ≡ true → here.old.at < here.new.at) }
+    requires wanting { IsWanting (V.holds visitor.old) source here.old writer.old }
+    requires quote { slice_index source.text.now here.old.at ≡ 34 }
+    ensures { IfOk result (Goes (V.holds visitor.new) source.entry here.old here.new writer.new) }
 {
     let start = writer.pieces.len();
-    let bytes = text.as_bytes();
-    let Some(stop) = push_text(profile, bytes, here.at, &mut writer.pieces)? else {
+    let bytes = source.text.as_bytes();
+    let Some(stop) = push_text(source.profile, bytes, here.at, &mut writer.pieces)? else {
         writer.pieces.truncate(start);
         return Ok(false);
     };
@@ -203,25 +167,19 @@ fn take_escaped<V: Visitor>(
 /// Takes a `[` and its indicator.
 #[inline(always)]
 pub(crate) fn take_array<V: Visitor>(
-    limit: Limit,
-    profile: Profile,
-    text: &str,
+    source: Source,
     here: &mut Here,
     writer: &mut Writer,
     visitor: &mut V,
 ) -> Result<bool, AllocError>
-    requires reading { IsReading (V.holds visitor.old) profile limit text.now here.old writer.old }
-    requires inside { here.old.at < length text.now }
-    requires wanted { (here.old.phase ≡ phases.Wants) ⊎ (here.old.phase ≡ phases.WantsMore) }
-    requires bracket { slice_index text.now here.old.at ≡ 91 }
-    ensures read { OnOk result (IsReading (V.holds visitor.new) profile limit text.now here.new writer.new) }
-    ensures on { OnOk result (here.old.at ≤ here.new.at) }
-    ensures further { IfOk result (λ ok. ok ≡ true → here.old.at < here.new.at) }
+    requires wanting { IsWanting (V.holds visitor.old) source here.old writer.old }
+    requires bracket { slice_index source.text.now here.old.at ≡ 91 }
+    ensures { IfOk result (Goes (V.holds visitor.new) source.entry here.old here.new writer.new) }
 {
-    let Some((mark, stop)) = opening_at(text.as_bytes(), here.at) else {
+    let Some((mark, stop)) = opening_at(source.text.as_bytes(), here.at) else {
         return Ok(false);
     };
-    if writer.brackets.count() >= limit.get() {
+    if writer.brackets.count() >= source.limit {
         return Ok(false);
     }
     open_array(mark, here.at, here, writer, visitor)?;
@@ -232,25 +190,19 @@ pub(crate) fn take_array<V: Visitor>(
 /// Takes a `{` and its indicator.
 #[inline(always)]
 pub(crate) fn take_map<V: Visitor>(
-    limit: Limit,
-    profile: Profile,
-    text: &str,
+    source: Source,
     here: &mut Here,
     writer: &mut Writer,
     visitor: &mut V,
 ) -> Result<bool, AllocError>
-    requires reading { IsReading (V.holds visitor.old) profile limit text.now here.old writer.old }
-    requires inside { here.old.at < length text.now }
-    requires wanted { (here.old.phase ≡ phases.Wants) ⊎ (here.old.phase ≡ phases.WantsMore) }
-    requires bracket { slice_index text.now here.old.at ≡ 123 }
-    ensures read { OnOk result (IsReading (V.holds visitor.new) profile limit text.now here.new writer.new) }
-    ensures on { OnOk result (here.old.at ≤ here.new.at) }
-    ensures further { IfOk result (λ ok. ok ≡ true → here.old.at < here.new.at) }
+    requires wanting { IsWanting (V.holds visitor.old) source here.old writer.old }
+    requires bracket { slice_index source.text.now here.old.at ≡ 123 }
+    ensures { IfOk result (Goes (V.holds visitor.new) source.entry here.old here.new writer.new) }
 {
-    let Some((mark, stop)) = opening_at(text.as_bytes(), here.at) else {
+    let Some((mark, stop)) = opening_at(source.text.as_bytes(), here.at) else {
         return Ok(false);
     };
-    if writer.brackets.count() >= limit.get() {
+    if writer.brackets.count() >= source.limit {
         return Ok(false);
     }
     open_map(mark, here.at, here, writer, visitor)?;
@@ -261,22 +213,16 @@ pub(crate) fn take_map<V: Visitor>(
 /// Takes a `<<`, which begins the first piece of a string.
 #[inline(always)]
 pub(crate) fn take_embedded<V: Visitor>(
-    limit: Limit,
-    profile: Profile,
-    text: &str,
+    source: Source,
     here: &mut Here,
     writer: &mut Writer,
     visitor: &mut V,
 ) -> Result<bool, AllocError>
-    requires reading { IsReading (V.holds visitor.old) profile limit text.now here.old writer.old }
-    requires inside { here.old.at < length text.now }
-    requires wanted { (here.old.phase ≡ phases.Wants) ⊎ (here.old.phase ≡ phases.WantsMore) }
-    requires less { slice_index text.now here.old.at ≡ 60 }
-    ensures read { OnOk result (IsReading (V.holds visitor.new) profile limit text.now here.new writer.new) }
-    ensures on { OnOk result (here.old.at ≤ here.new.at) }
-    ensures further { IfOk result (λ ok. ok ≡ true → here.old.at < here.new.at) }
+    requires wanting { IsWanting (V.holds visitor.old) source here.old writer.old }
+    requires less { slice_index source.text.now here.old.at ≡ 60 }
+    ensures { IfOk result (Goes (V.holds visitor.new) source.entry here.old here.new writer.new) }
 {
-    if !embeds_at(text.as_bytes(), here.at) || writer.brackets.count() >= limit.get() {
+    if !embeds_at(source.text.as_bytes(), here.at) || writer.brackets.count() >= source.limit {
         return Ok(false);
     }
     let at = here.at;
@@ -288,22 +234,16 @@ pub(crate) fn take_embedded<V: Visitor>(
 /// Takes a `(_`, if a space follows it.
 #[inline(always)]
 pub(crate) fn take_chunked<V: Visitor>(
-    limit: Limit,
-    profile: Profile,
-    text: &str,
+    source: Source,
     here: &mut Here,
     writer: &mut Writer,
     visitor: &mut V,
 ) -> Result<bool, AllocError>
-    requires reading { IsReading (V.holds visitor.old) profile limit text.now here.old writer.old }
-    requires inside { here.old.at < length text.now }
-    requires wanted { (here.old.phase ≡ phases.Wants) ⊎ (here.old.phase ≡ phases.WantsMore) }
-    requires paren { slice_index text.now here.old.at ≡ 40 }
-    ensures read { OnOk result (IsReading (V.holds visitor.new) profile limit text.now here.new writer.new) }
-    ensures on { OnOk result (here.old.at ≤ here.new.at) }
-    ensures further { IfOk result (λ ok. ok ≡ true → here.old.at < here.new.at) }
+    requires wanting { IsWanting (V.holds visitor.old) source here.old writer.old }
+    requires paren { slice_index source.text.now here.old.at ≡ 40 }
+    ensures { IfOk result (Goes (V.holds visitor.new) source.entry here.old here.new writer.new) }
 {
-    if !opens_chunks_at(text.as_bytes(), here.at) {
+    if !opens_chunks_at(source.text.as_bytes(), here.at) {
         return Ok(false);
     }
     let at = here.at;

@@ -3,7 +3,7 @@
 
 use crate::MeaningError;
 use crate::spellers::Spellers;
-use cborn_lex::Mark;
+use cborn_lex::{Mark, Profile};
 use cborn_model::{StringKind, push_doubling};
 use std::alloc::{AllocError, Global};
 use std::marker::Model;
@@ -38,6 +38,16 @@ pub(crate) enum Phase {
     WantsNumber,
     /// `simple(` and a number.
     HasNumber,
+}
+
+/// A text, the profile of the notation that it is read in, and how many brackets may be open in it. A
+/// function that isn't in line is given a copy made field by field, `Source { ..source }`: given the
+/// whole, the fields would have to stay in memory.
+#[derive(Clone, Copy)]
+pub(crate) struct Source<'a> {
+    pub(crate) limit: u64,
+    pub(crate) profile: Profile,
+    pub(crate) text: &'a str,
 }
 
 /// Where the reader is: `at` is its offset in the text, in bytes, and `phase` what was read last.

@@ -1,9 +1,9 @@
 //! The grammar: what each token does in each phase. Each function answers whether the grammar has
 //! such a token there.
 
-ghost use Rattle.std.specs.Prelude.{◌≡◌, ℕ, ◌<◌, ◌^◌, Bool, List, IfOk};
+ghost use Rattle.std.specs.Prelude.{◌≡◌, ℕ, ◌<◌, ◌^◌, Bool, true, false, List, IfOk};
 ghost use Rattle.cborn_edn.specs.devices.Syntax.{Span as Place, Item, Pieces as Joined, StringsBefore};
-ghost use Rattle.cborn_edn.specs.devices.Machine.{Stack, Home, as_chunk, State, wants, has, builds, wants_chunk, wants_number, has_number};
+ghost use Rattle.cborn_edn.specs.devices.Machine.{Stack, Home, as_chunk, State, wants, has, builds, wants_number, has_number};
 ghost use Rattle.cborn_lex.specs.declared.classes.Mark.{Mark as Indicator};
 ghost use Rattle.cborn_lex.specs.Kinds.{class_of};
 ghost use Rattle.cborn_edn.specs.devices.Shows.{Shows};
@@ -14,9 +14,7 @@ use crate::containers::{open_array, open_embedded, open_map, open_tag};
 use crate::endings::{end_array, end_embedded, end_entry, end_key, end_map, end_tag, has_chunks};
 use crate::numbers::{Numeral, close_simple, open_simple, put_number, put_simple, put_word};
 use crate::states::{Here, Phase, Writer};
-use crate::strings::{
-    StringToken, begin_string, end_chunk, end_chunks, end_item, join, open_chunks,
-};
+use crate::strings::{StringToken, add_piece, end_chunk, end_chunks, end_item, open_chunks};
 use cborn_lex::{BareToken, Kind};
 use cborn_model::{StringKind, Visitor};
 use std::alloc::AllocError;
@@ -34,17 +32,70 @@ pub(crate) fn take<V: Visitor>(
     requires { (s : State) × IsReady (V.holds visitor.old) token.kind number here.old writer.old s }
     ensures { IfOk result (λ ok. (s : State) → Takes (V.holds visitor.old) (V.holds visitor.new) token.kind number token.start here.old writer.old here.new writer.new ok s) }
 {
-    if takes_no_piece(here.phase) && is_piece(token.kind) {
-        return Ok(false);
+    if is_piece(token.kind) {
+        return take_piece(token, number, here, writer, visitor);
     }
     match here.phase {
         Phase::Wants => begin(token, number, here, writer, visitor),
         Phase::WantsMore => begin(token, number, here, writer, visitor),
         Phase::Has => after(token, number, here, writer, visitor),
-        Phase::Builds => more(token, number, here, writer, visitor),
-        Phase::WantsChunk => begin_chunk(token, number, here, writer, visitor),
+        Phase::Builds => after_pieces(token, number, here, writer, visitor),
+        Phase::WantsChunk => Ok(false),
         Phase::WantsNumber => begin_number(token, number, here, writer, visitor),
         Phase::HasNumber => Ok(after_number(token, number, here, writer)),
+    }
+}
+
+/// Whether a token is a piece of a string, or begins one.
+#[inline(always)]
+pub(crate) fn is_piece(kind: Kind) -> bool
+    ensures { result ≡ is_piece kind }
+{
+    matches!(kind, Kind::Text(_) | Kind::Bytes { .. } | Kind::EmbedOpen)
+}
+
+/// Takes a piece of a string, or a `<<`, which begins one.
+fn take_piece<V: Visitor>(
+    token: BareToken,
+    number: u128,
+    here: &mut Here,
+    writer: &mut Writer,
+    visitor: &mut V,
+) -> Result<bool, AllocError>
+    requires piece { is_piece token.kind ≡ true }
+    requires ready { (s : State) × IsReady (V.holds visitor.old) token.kind number here.old writer.old s }
+    ensures { IfOk result (λ ok. (s : State) → Takes (V.holds visitor.old) (V.holds visitor.new) token.kind number token.start here.old writer.old here.new writer.new ok s) }
+{
+    if takes_no_piece(here.phase) {
+        return Ok(false);
+    }
+    let place = token.start;
+    match token.kind {
+        Kind::Text(mark) => {
+            let piece = StringToken {
+                kind: StringKind::OfText,
+                quoted: true,
+                place,
+                mark,
+            };
+            add_piece(piece, here, writer);
+            Ok(true)
+        }
+        Kind::Bytes { quoted, mark } => {
+            let piece = StringToken {
+                kind: StringKind::OfBytes,
+                quoted,
+                place,
+                mark,
+            };
+            add_piece(piece, here, writer);
+            Ok(true)
+        }
+        Kind::EmbedOpen => {
+            open_embedded(place, here, writer)?;
+            Ok(true)
+        }
+        _ => unreachable!(),
     }
 }
 
@@ -55,7 +106,7 @@ fn takes_no_piece(phase: Phase) -> bool
     matches!(phase, Phase::Has | Phase::WantsNumber | Phase::HasNumber)
 }
 
-/// Takes a token where an item is wanted.
+/// Takes a token that is no piece where an item is wanted.
 fn begin<V: Visitor>(
     token: BareToken,
     number: u128,
@@ -63,8 +114,9 @@ fn begin<V: Visitor>(
     writer: &mut Writer,
     visitor: &mut V,
 ) -> Result<bool, AllocError>
-    requires { (st : Stack) × IsReady (V.holds visitor.old) token.kind number here.old writer.old (wants st) }
-    ensures { IfOk result (λ ok. (st : Stack) → Takes (V.holds visitor.old) (V.holds visitor.new) token.kind number token.start here.old writer.old here.new writer.new ok (wants st)) }
+    requires bare { is_piece token.kind ≡ false }
+    requires ready { (st : Stack) × IsReady (V.holds visitor.old) token.kind number here.old writer.old (wants st) }
+    ensures { IfOk result (λ ok. (st : Stack) → Turns (V.holds visitor.old) (V.holds visitor.new) token.kind number token.start here.old writer.old here.new writer.new ok (wants st)) }
 {
     let place = token.start;
     match token.kind {
@@ -101,36 +153,13 @@ fn begin<V: Visitor>(
             put_word(n, place, here, writer, visitor)?;
             Ok(true)
         }
-        Kind::EmbedOpen => {
-            open_embedded(place, here, writer)?;
-            Ok(true)
-        }
-        Kind::Text(mark) => {
-            let piece = StringToken {
-                kind: StringKind::OfText,
-                quoted: true,
-                place,
-                mark,
-            };
-            begin_string(piece, here, writer);
-            Ok(true)
-        }
-        Kind::Bytes { quoted, mark } => {
-            let piece = StringToken {
-                kind: StringKind::OfBytes,
-                quoted,
-                place,
-                mark,
-            };
-            begin_string(piece, here, writer);
-            Ok(true)
-        }
         Kind::ArrayClose => end_array(here, writer, visitor),
         Kind::MapClose => end_map(here, writer, visitor),
         Kind::EmbedClose(mark) => end_embedded(mark, place, here, writer, visitor),
         Kind::ParenClose => Ok(false),
         Kind::Comma => Ok(false),
         Kind::Colon => Ok(false),
+        _ => unreachable!(),
     }
 }
 
@@ -155,48 +184,6 @@ fn after<V: Visitor>(
         Kind::Comma => Ok(end_entry(here, writer)),
         _ => Ok(false),
     }
-}
-
-/// Takes a token after pieces of a string or of a chunk: another piece, or what ends them.
-fn more<V: Visitor>(
-    token: BareToken,
-    number: u128,
-    here: &mut Here,
-    writer: &mut Writer,
-    visitor: &mut V,
-) -> Result<bool, AllocError>
-    requires { (h : Home) × (ps : Joined) × IsReady (V.holds visitor.old) token.kind number here.old writer.old (builds h ps) }
-    ensures { IfOk result (λ ok. (h : Home) (ps : Joined) → Takes (V.holds visitor.old) (V.holds visitor.new) token.kind number token.start here.old writer.old here.new writer.new ok (builds h ps)) }
-{
-    if !is_piece(token.kind) {
-        return after_pieces(token, number, here, writer, visitor);
-    }
-    match token.kind {
-        Kind::Text(mark) => {
-            join(StringKind::OfText, token.start, mark, writer);
-            Ok(true)
-        }
-        Kind::Bytes {
-            quoted: _quoted,
-            mark,
-        } => {
-            join(StringKind::OfBytes, token.start, mark, writer);
-            Ok(true)
-        }
-        Kind::EmbedOpen => {
-            open_embedded(token.start, here, writer)?;
-            Ok(true)
-        }
-        _ => unreachable!(),
-    }
-}
-
-/// Whether a token is a piece of a string, or begins one.
-#[inline(always)]
-pub(crate) fn is_piece(kind: Kind) -> bool
-    ensures { result ≡ is_piece kind }
-{
-    matches!(kind, Kind::Text(_) | Kind::Bytes { .. } | Kind::EmbedOpen)
 }
 
 /// Ends the pieces of a string or of a chunk, and takes the token after them.
@@ -237,47 +224,6 @@ fn after_chunk<V: Visitor>(
         Kind::ParenClose => {
             end_chunk(here, writer, visitor)?;
             end_chunks(here, writer, visitor)?;
-            Ok(true)
-        }
-        _ => Ok(false),
-    }
-}
-
-/// Takes a token where a chunk is wanted.
-fn begin_chunk<V: Visitor>(
-    token: BareToken,
-    number: u128,
-    here: &mut Here,
-    writer: &mut Writer,
-    visitor: &mut V,
-) -> Result<bool, AllocError>
-    requires { (st : Stack) × (s : Place) × (b : StringsBefore) × IsReady (V.holds visitor.old) token.kind number here.old writer.old (wants_chunk st s b) }
-    ensures { IfOk result (λ ok. (st : Stack) (s : Place) (b : StringsBefore) → Takes (V.holds visitor.old) (V.holds visitor.new) token.kind number token.start here.old writer.old here.new writer.new ok (wants_chunk st s b)) }
-{
-    let place = token.start;
-    match token.kind {
-        Kind::Text(mark) => {
-            let piece = StringToken {
-                kind: StringKind::OfText,
-                quoted: true,
-                place,
-                mark,
-            };
-            begin_string(piece, here, writer);
-            Ok(true)
-        }
-        Kind::Bytes { quoted, mark } => {
-            let piece = StringToken {
-                kind: StringKind::OfBytes,
-                quoted,
-                place,
-                mark,
-            };
-            begin_string(piece, here, writer);
-            Ok(true)
-        }
-        Kind::EmbedOpen => {
-            open_embedded(place, here, writer)?;
             Ok(true)
         }
         _ => Ok(false),

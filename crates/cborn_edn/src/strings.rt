@@ -1,16 +1,15 @@
 //! Strings piece by piece (RFC 8610 appendix G.4), and their chunks (RFC 8949 section 3.2.3).
 
-ghost use Rattle.std.specs.Prelude.{◌≡◌, ℕ, ◌≤◌, ◌++◌, List, Bool, length, take, drop, IsSome, Some, None, OnOk, true, ◌&&◌};
+ghost use Rattle.std.specs.Prelude.{◌≡◌, ℕ, ◌≤◌, ◌++◌, List, Bool, length, take, drop, Option, Some, None, OnOk, true, ◌&&◌};
 ghost use Rattle.cborn_edn.specs.Says as says;
 ghost use Rattle.cborn_model.specs.declared.visitors.StringKind.{StringKind as Kind};
 ghost use Rattle.cborn_model.specs.declared.visitors.StringKind.TheVariants.{OfText};
-ghost use Rattle.cborn_edn.specs.devices.Syntax.{Span as Place, Pieces as Joined, Strings, StringsBefore, strings, string, chunked, also, piece, text, no_string, after_strings};
-ghost use Rattle.cborn_edn.specs.devices.Machine.{Stack, Home, as_item, as_chunk, wants, has, builds, wants_chunk, at_home};
+ghost use Rattle.cborn_edn.specs.devices.Syntax.{Span as Place, Pieces as Joined, Strings, StringsBefore, strings, string, chunked, piece, text, no_string, after_strings};
+ghost use Rattle.cborn_edn.specs.devices.Machine.{Stack, Home, as_item, as_chunk, wants, has, builds, wants_chunk, at_home, with_piece};
 ghost use Rattle.std.specs.Str.{IsUtf8};
 ghost use Rattle.cborn_lex.specs.declared.classes.Mark.TheVariants.{Absent};
 ghost use Rattle.cborn_edn.specs.devices.Kept.{joint, kind_or};
 ghost use Rattle.cborn_edn.specs.devices.MeaningErrors.{Notes};
-ghost use Rattle.cborn_edn.specs.declared.states.Here.{Here as AnyHere};
 ghost use Rattle.cborn_edn.specs.devices.Shows.{Shows, piece_of};
 ghost use Rattle.cborn_edn.specs.devices.Handed.{string_event, chunk_event, Reads};
 
@@ -57,18 +56,10 @@ pub(crate) fn note_piece(
 )
     ensures { (s t : says.Str) → string ≡ joint s → kind ≡ t.kind → place ≡ t.place → Notes error.old error.new (says.piece_errors s t) }
 {
-    note_unless(
-        is_absent(string.mark),
-        string.mark_place,
-        EdnReason::IndicatorNotAllowed,
-        error,
-    );
-    note_unless(
-        may_join(string.kind, kind),
-        place,
-        EdnReason::MixedString,
-        error,
-    );
+    let reason = EdnReason::IndicatorNotAllowed;
+    note_unless(is_absent(string.mark), string.mark_place, reason, error);
+    let reason = EdnReason::MixedString;
+    note_unless(may_join(string.kind, kind), place, reason, error);
 }
 
 /// Notes what is wrong with a whole string, whose bytes are `content`. `may_end` says whether its
@@ -78,12 +69,8 @@ fn note_string(may_end: bool, string: Joint, content: &[u8], error: &mut Option<
 {
     note_mark(may_end, string, content.len() as u64, error);
     if string.known {
-        note_unless(
-            is_good(string.kind, content),
-            string.place,
-            EdnReason::TextNotUtf8,
-            error,
-        );
+        let reason = EdnReason::TextNotUtf8;
+        note_unless(is_good(string.kind, content), string.place, reason, error);
     }
 }
 
@@ -93,12 +80,8 @@ fn note_mark(may_end: bool, string: Joint, size: u64, error: &mut Option<Meaning
     ensures { (s : says.Str) → string ≡ joint s → (s.known ≡ true → size ≡ length s.bytes) → Notes error.old error.new (says.mark_errors may_end s) }
 {
     if is_endless(string.mark) {
-        note_unless(
-            may_end,
-            string.mark_place,
-            EdnReason::IndicatorNotAllowed,
-            error,
-        );
+        let reason = EdnReason::IndicatorNotAllowed;
+        note_unless(may_end, string.mark_place, reason, error);
     } else if string.known {
         note_width(string.mark, size, string.mark_place, error);
     }
@@ -140,37 +123,29 @@ pub(crate) struct StringToken {
     pub(crate) mark: Mark,
 }
 
-/// Begins a string with the piece `token`, whose bytes are the last of the pieces.
+/// Adds a piece to a string, or begins a string with it. Its bytes are the last of the pieces.
 #[inline(always)]
-pub(crate) fn begin_string(token: StringToken, here: &mut Here, writer: &mut Writer)
+pub(crate) fn add_piece(token: StringToken, here: &mut Here, writer: &mut Writer)
     requires { writer.old.start ≤ length writer.old.pieces.items }
-    ensures shows { (h : Home) (a : Place) (x base : List ℕ) → token.place ≡ a.start → writer.old.pieces.items ≡ base ++ x → (token.kind ≡ OfText → token.quoted ≡ true) → Shows here.old writer.old base (at_home h None) → Shows here.new writer.new writer.new.pieces.items (builds h (piece (piece_of token.kind a token.quoted x token.mark))) }
+    ensures shows { (h : Home) (o : Option Joined) (a : Place) (x base : List ℕ) → token.place ≡ a.start → writer.old.pieces.items ≡ base ++ x → (token.kind ≡ OfText → token.quoted ≡ true) → Shows here.old writer.old base (at_home h o) → Shows here.new writer.new writer.new.pieces.items (builds h (with_piece o (piece_of token.kind a token.quoted x token.mark))) }
     ensures spellers { writer.new.spellers ≡ writer.old.spellers }
 {
+    here.phase = Phase::Builds;
+    let Some(string) = writer.string else {
+        writer.string = Some(Joint {
+            kind: token.kind,
+            place: token.place,
+            mark: token.mark,
+            mark_place: token.place,
+            lone: is_lone(token.quoted, writer.pieces.len() - writer.start),
+            known: true,
+        });
+        return;
+    };
+    note_piece(string, token.kind, token.place, &mut writer.error);
     writer.string = Some(Joint {
-        kind: token.kind,
-        place: token.place,
         mark: token.mark,
         mark_place: token.place,
-        lone: is_lone(token.quoted, writer.pieces.len() - writer.start),
-        known: true,
-    });
-    here.phase = Phase::Builds;
-}
-
-/// Adds a piece at `place` to a string. Its bytes are the last of the pieces.
-pub(crate) fn join(kind: StringKind, place: usize, mark: Mark, writer: &mut Writer)
-    requires { IsSome writer.old.string }
-    ensures shows { (here : AnyHere) (h : Home) (ps : Joined) (a : Place) (q : Bool) (x base : List ℕ) → place ≡ a.start → writer.old.pieces.items ≡ base ++ x → Shows here writer.old base (builds h ps) → Shows here writer.new writer.new.pieces.items (builds h (also ps (piece_of kind a q x mark))) }
-    ensures spellers { writer.new.spellers ≡ writer.old.spellers }
-{
-    let Some(string) = writer.string else {
-        unreachable!();
-    };
-    note_piece(string, kind, place, &mut writer.error);
-    writer.string = Some(Joint {
-        mark,
-        mark_place: place,
         lone: false,
         ..string
     });
@@ -287,12 +262,8 @@ fn kind_or(first: Option<StringKind>, next: StringKind) -> StringKind
 fn note_chunk(kind: StringKind, string: Joint, content: &[u8], error: &mut Option<MeaningError>)
     ensures { (s : says.Str) → string ≡ joint s → (s.known ≡ true → content.now ≡ s.bytes) → Notes error.old error.new (says.chunk_errors kind s) }
 {
-    note_unless(
-        are_same(kind, string.kind),
-        string.place,
-        EdnReason::MixedChunks,
-        error,
-    );
+    let reason = EdnReason::MixedChunks;
+    note_unless(are_same(kind, string.kind), string.place, reason, error);
     note_string(false, string, content, error);
 }
 

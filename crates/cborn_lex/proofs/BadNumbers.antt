@@ -1,6 +1,5 @@
 -- A number that is a float is read as one.
-use Rattle.cborn_lex.proofs.Common.{◌≡◌, refl, sym, subst, ℕ, ◌^◌, List, [], ◌∷◌, Bool, true, false, ◌||◌, not, cond, eqb, ltb, ⊎_elim, Ok, Err, eqb-true, and_parts, and_left, and_right, not-true, list_all, list_any, is_digit, bytes_eq, codes, BadNumber, NumberTooLarge, FloatLeftOut, begins, are_digits, within, has_prefix, has_any, integer, is_based, IsFloat}
-use Rattle.std.specs.Prelude.{drop, take}
+use Rattle.cborn_lex.proofs.Common.{◌≡◌, refl, sym, subst, ℕ, ◌^◌, List, [], ◌∷◌, Bool, true, false, ◌||◌, not, cond, eqb, ltb, ⊎_elim, Ok, Err, eqb-true, and_parts, and_left, and_right, not-true, list_all, list_any, is_digit, bytes_eq, codes, BadNumber, NumberTooLarge, FloatLeftOut, begins, are_digits, within, has_prefix, has_any, integer, IsFloat, drop, take}
 use Rattle.cborn_lex.specs.Bad as bad
 use Rattle.cborn_lex.proofs.GoodBack.{or_cases, never}
 
@@ -37,12 +36,7 @@ pub record NoBase (a b c d e f : Bool) : Type 0 where
 
 no_base : (a b c d e f : Bool) → (a || (b || (c || (d || (e || (f || false)))))) ≡ false → NoBase a b c d e f
 no_base false false false false false false h = record { first = refl; second = refl; third = refl }
-no_base true b c d e f h = never (sym h)
-no_base false true c d e f h = never (sym h)
-no_base false false true d e f h = never (sym h)
-no_base false false false true e f h = never (sym h)
-no_base false false false false true f h = never (sym h)
-no_base false false false false false true h = never (sym h)
+no_base _ _ _ _ _ _ h = never (sym h)
 
 infinite : (n : Bool) (x : List ℕ) → n ≡ true → has_prefix (codes "Infinity") x ≡ true → integer n x ≡ Err FloatLeftOut
 infinite n [] k e = never e

@@ -15,7 +15,7 @@ pub use Rattle.base64.specs.Engines.{standard}
 pub use Rattle.base64.specs.GeneralPurpose.{IsBytes, IsStrict, decode_of}
 pub use Rattle.base64.specs.declared.decode.DecodeError.{DecodeError}
 pub use Rattle.cborn_model.specs.declared.heads.Width.TheVariants.{Direct, Eight}
-pub use Rattle.cborn_lex.specs.Bad.{BeginsNothing, Fails, FailsAt, HasNoTokenFrom, HasNoTokens, IsFloat, IsNoInteger, IsPrefix, IsWord, is_based, is_float_word, is_quote, is_start}
+pub use Rattle.cborn_lex.specs.Bad.{BeginsNothing, Fails, FailsAt, HasNoTokenFrom, HasNoTokens, IsFloat, IsNoInteger, IsPrefix, IsWord, is_float_word, is_quote, is_start}
 pub use Rattle.cborn_lex.specs.Forms.{Closed, ContentGives, IsAfterWord, IsIndicator, IsNumber, IsPrefixed, IsRun, IsString, IsTag, Lacks, Prefix, Reads, ReadsFrom, ReadsNumber, ReadsWord, Start, base64, digit, double, greater, hash, hexadecimal, less, letter, minus, opening, other, paren, paren_front, prefix_of, simple, single, slash, start_of, unknown, white}
 pub use Rattle.cborn_lex.specs.Good.{Covers, HasTokens, IsCoded, IsLiteral, IsMark, IsName, IsNumeral, IsTokenFrom, Takes, TokensBetween}
 pub use Rattle.cborn_lex.specs.Kinds.{StandsFor, class_of, content_of}
@@ -24,7 +24,7 @@ pub use Rattle.cborn_lex.specs.Numbers.{BeginsDecimal, are_digits, has_any, has_
 pub use Rattle.cborn_lex.specs.Strings.{HasDigits, IsBase64, IsHex, IsText, are_hex, base64_text, code, comment, escape_code, filled, four, is_content, is_escape, is_high, is_low, is_unclosed, nothing, space, to_standard}
 pub use Rattle.cborn_lex.specs.Tokens.{Bad, Front, Read, WhiteSpace, begins, is_not, is_numeral, is_white, is_word, mark_of, marked}
 pub use Rattle.cborn_lex.specs.declared.classes.Class.{Class}
-pub use Rattle.cborn_lex.specs.declared.classes.Class.TheVariants.{ArrayClose, ArrayOpen, Bytes, ChunkOpen, Colon, Comma, EmbedClose, EmbedOpen, MapClose, MapOpen, Number, ParenClose, SimpleOpen, TagOpen, Text, Word}
+pub use Rattle.cborn_lex.specs.declared.classes.Class.TheVariants.{ArrayClose, ArrayOpen, Bytes, ChunkOpen, Colon, Comma, EmbedClose, EmbedOpen, MapClose, MapOpen, ParenClose, SimpleOpen, TagOpen, Text, Word}
 pub use Rattle.cborn_lex.specs.declared.classes.Mark.{Mark}
 pub use Rattle.cborn_lex.specs.declared.classes.Mark.TheVariants.{Absent, Endless, Wide}
 pub use Rattle.cborn_lex.specs.declared.classes.Profile.{Profile}
@@ -38,3 +38,4 @@ pub use Rattle.cborn_lex.specs.devices.Letters.{HasLetters, Letter, LettersSoFar
 pub use Rattle.cborn_lex.specs.devices.Pieces.{AreRead, BeginsNoPiece, LexParted, Lexeme, Parted, StopParted, front_of, slice, spelled, token, tokens, white_space}
 pub use Rattle.cborn_lex.specs.devices.Scan.{IsEncoded, after, code_at, escape_of, is_raw, low_code, onto, paired, refusal, strip, unit_from}
 pub use Rattle.cborn_lex.specs.devices.View.{FrontStandsFor, front_view}
+pub use Rattle.cborn_lex.specs.shared.Modest.{AreModest, IsModest}

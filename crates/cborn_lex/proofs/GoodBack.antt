@@ -1,6 +1,5 @@
 -- What Good.antt takes as white space, a comment or a token reads as that by Forms.antt.
-use Rattle.cborn_lex.proofs.Common.{◌≡◌, refl, sym, ap, ◌∙◌, subst, ℕ, ◌-◌, ◌<◌, ◌≤◌, ◌^◌, List, [], ◌∷◌, ◌++◌, Bool, true, false, ◌&&◌, ◌||◌, cond, eqb, ltb, ◌⊎◌, inl, inr, Option, Some, None, Ok, append-nil, arith, eqb-true, and_parts, or_parts, ltb-true, ltb-false, lt-ltb, list_all, is_digit, codes, Profile, Two, Mark, Class, ArrayOpen, MapOpen, EmbedClose, Text, Bytes, TagOpen, Word, Front, WhiteSpace, Read, is_white, is_word, is_numeral, is_not, begins, mark_of, marked, are_digits, number, within, has_prefix, integer, signed, number_front, white, hash, digit, start_of, ReadsFrom, Reads, IsMark, IsLiteral, IsNumeral, IsName, IsCoded, Takes}
-use Rattle.std.specs.Prelude.{drop}
+use Rattle.cborn_lex.proofs.Common.{◌≡◌, refl, sym, ap, ◌∙◌, subst, ℕ, ◌-◌, ◌<◌, ◌≤◌, ◌^◌, List, [], ◌∷◌, ◌++◌, Bool, true, false, ◌&&◌, ◌||◌, cond, eqb, ltb, ◌⊎◌, inl, inr, Option, Some, None, Ok, append-nil, arith, eqb-true, and_parts, or_parts, ltb-true, ltb-false, lt-ltb, list_all, is_digit, codes, Profile, Two, Mark, Class, ArrayOpen, MapOpen, EmbedClose, Text, Bytes, TagOpen, Word, Front, WhiteSpace, Read, is_white, is_word, is_numeral, is_not, begins, mark_of, marked, are_digits, number, within, has_prefix, integer, signed, number_front, white, hash, digit, start_of, ReadsFrom, Reads, IsMark, IsLiteral, IsNumeral, IsName, IsCoded, Takes, drop}
 use Rattle.cborn_lex.specs.Good as good
 use Rattle.cborn_lex.proofs.TwoParts.{digit_starts}
 
@@ -33,13 +32,10 @@ in_ten : (c : ℕ) → is_digit c 10 ≡ true → (48 ≤ c) × (c ≤ 57)
 in_ten c e = go (ltb c 48) (ltb c 58) (ltb c 65) (ltb c 91) (ltb c 97) (ltb c 123) refl refl refl refl refl refl e
   where
     go : (a b d f g h : Bool) → ltb c 48 ≡ a → ltb c 58 ≡ b → ltb c 65 ≡ d → ltb c 91 ≡ f → ltb c 97 ≡ g → ltb c 123 ≡ h → ltb (cond a 36 (cond b (c - 48) (cond d 36 (cond f (c - 55) (cond g 36 (cond h (c - 87) 36)))))) 10 ≡ true → (48 ≤ c) × (c ≤ 57)
-    go true b d f g h e1 e2 e3 e4 e5 e6 k = never k
     go false true d f g h e1 e2 e3 e4 e5 e6 k = let low = ltb-false c 48 e1 in let high = ltb-true c 58 e2 in (omega (arith, low), omega (arith, high))
-    go false false true f g h e1 e2 e3 e4 e5 e6 k = never k
     go false false false true g h e1 e2 e3 e4 e5 e6 k = let low = ltb-false c 65 e3 in let small = ltb-true (c - 55) 10 k in absurd (omega (arith, low, small))
-    go false false false false true h e1 e2 e3 e4 e5 e6 k = never k
     go false false false false false true e1 e2 e3 e4 e5 e6 k = let low = ltb-false c 97 e5 in let small = ltb-true (c - 87) 10 k in absurd (omega (arith, low, small))
-    go false false false false false false e1 e2 e3 e4 e5 e6 k = never k
+    go _ _ _ _ _ _ e1 e2 e3 e4 e5 e6 k = never k
 
 -- two characters at the front
 second : (b : ℕ) (x : List ℕ) → has_prefix (48 ∷ b ∷ []) x ≡ true → (y : List ℕ) × (x ≡ 48 ∷ b ∷ y)

@@ -1,6 +1,5 @@
 -- What reads by Forms.antt as white space, a comment or a token is taken as that by Good.antt, and what reads as bad fails for that reason by Bad.antt.
-use Rattle.cborn_lex.proofs.Common.{◌≡◌, refl, sym, ap, ◌∙◌, subst, ℕ, ◌<◌, ◌^◌, List, [], ◌∷◌, ◌++◌, Bool, true, false, ◌&&◌, ◌||◌, not, cond, eqb, ltb, inl, inr, Option, Some, None, Result, Ok, Err, append-nil, append_assoc, eqb-true, and_parts, and_from, or_parts, or_from, ltb-true, ltb-false, list_all, list_any, is_ascii_digit, is_ascii_alphabetic, is_ascii_alphanumeric, is_in_range, bytes_eq, codes, Profile, One, Two, Eight, Mark, Wide, LexReason, UnexpectedCharacter, UnclosedString, UnclosedComment, BadEscape, BadHex, BadBase64, UnknownPrefix, BadIndicator, BadNumber, NumberTooLarge, FloatLeftOut, Class, ArrayOpen, MapOpen, EmbedClose, ArrayClose, MapClose, ParenClose, Comma, Colon, EmbedOpen, ChunkOpen, SimpleOpen, Text, Bytes, TagOpen, Word, Front, WhiteSpace, Read, Bad, is_white, is_word, is_numeral, is_not, begins, mark_of, marked, are_digits, number, within, has_prefix, has_any, integer, signed, number_front, word_front, is_content, is_unclosed, IsText, IsHex, IsBase64, IsRun, IsIndicator, IsString, hexadecimal, base64, unknown, prefix_of, IsPrefixed, IsAfterWord, IsTag, Start, white, slash, hash, less, greater, paren, double, simple, letter, minus, digit, other, single, opening, ReadsFrom, Reads, IsMark, IsLiteral, IsNumeral, IsName, IsCoded, Takes, is_start, IsWord, is_float_word, IsPrefix, is_based, IsFloat, IsNoInteger, Fails}
-use Rattle.std.specs.Prelude.{drop}
+use Rattle.cborn_lex.proofs.Common.{◌≡◌, refl, sym, ap, ◌∙◌, subst, ℕ, ◌<◌, ◌^◌, List, [], ◌∷◌, ◌++◌, Bool, true, false, ◌&&◌, ◌||◌, not, cond, eqb, ltb, inl, inr, Option, Some, None, Result, Ok, Err, append-nil, append_assoc, eqb-true, and_parts, and_from, or_parts, or_from, ltb-true, ltb-false, list_all, list_any, is_ascii_digit, is_ascii_alphabetic, is_ascii_alphanumeric, is_in_range, bytes_eq, codes, Profile, One, Two, Eight, Mark, Wide, LexReason, UnexpectedCharacter, UnclosedString, UnclosedComment, BadEscape, BadHex, BadBase64, UnknownPrefix, BadIndicator, BadNumber, NumberTooLarge, FloatLeftOut, Class, ArrayOpen, MapOpen, EmbedClose, ArrayClose, MapClose, ParenClose, Comma, Colon, EmbedOpen, ChunkOpen, SimpleOpen, Text, Bytes, TagOpen, Word, Front, WhiteSpace, Read, Bad, is_white, is_word, is_numeral, is_not, begins, mark_of, marked, are_digits, number, within, has_prefix, has_any, integer, signed, number_front, word_front, is_content, is_unclosed, IsText, IsHex, IsBase64, IsRun, IsIndicator, IsString, hexadecimal, base64, unknown, prefix_of, IsPrefixed, IsAfterWord, IsTag, Start, white, slash, hash, less, greater, paren, double, simple, letter, minus, digit, other, single, opening, ReadsFrom, Reads, IsMark, IsLiteral, IsNumeral, IsName, IsCoded, Takes, is_start, IsWord, IsPrefix, IsNoInteger, Fails, drop}
 use Rattle.cborn_lex.specs.Good as good
 use Rattle.cborn_lex.specs.Bad as bad
 use Rattle.cborn_lex.proofs.GoodBack.{never, literal_is}
@@ -62,20 +61,8 @@ an_opening_a p c s z a e h = put p c 91 s s z a (marked ArrayOpen (mark_of s)) (
 an_opening_m : Case (opening MapOpen) (λ c. eqb c 123)
 an_opening_m p c s z a e h = put p c 123 s s z a (marked MapOpen (mark_of s)) (eqb-true c 123 e) refl h.1 (marks p MapOpen (123 ∷ []) s z h.0 (λ m i. good.map_open s z m i) (good.map_open (codes "_3") [] (Wide Eight) three))
 
-single_93 : Case (single ArrayClose) (λ c. eqb c 93)
-single_93 p c s z a e h = put p c 93 s [] z a (Read ArrayClose) (eqb-true c 93 e) h.0 h.1 (good.array_close z)
-
-single_125 : Case (single MapClose) (λ c. eqb c 125)
-single_125 p c s z a e h = put p c 125 s [] z a (Read MapClose) (eqb-true c 125 e) h.0 h.1 (good.map_close z)
-
-single_41 : Case (single ParenClose) (λ c. eqb c 41)
-single_41 p c s z a e h = put p c 41 s [] z a (Read ParenClose) (eqb-true c 41 e) h.0 h.1 (good.paren_close z)
-
-single_44 : Case (single Comma) (λ c. eqb c 44)
-single_44 p c s z a e h = put p c 44 s [] z a (Read Comma) (eqb-true c 44 e) h.0 h.1 (good.comma z)
-
-single_58 : Case (single Colon) (λ c. eqb c 58)
-single_58 p c s z a e h = put p c 58 s [] z a (Read Colon) (eqb-true c 58 e) h.0 h.1 (good.colon z)
+a_single : (k : Class) (d : ℕ) → ((p : Profile) (z : List ℕ) → Takes p (d ∷ []) z (Some k)) → Case (single k) (λ c. eqb c d)
+a_single k d t p c s z a e h = put p c d s [] z a (Read k) (eqb-true c d e) h.0 h.1 (t p z)
 
 a_less : Case less (λ c. eqb c 60)
 a_less p c s z a e (inl (f, g)) = put p c 60 s (60 ∷ []) z a (Read EmbedOpen) (eqb-true c 60 e) f g (good.embed_open z)
@@ -179,19 +166,15 @@ judge n x r e =
         → Judged n x r
     go true true hp o od b bd d w f g e1 e2 eh e3 e4 e5 e6 e7 e8 ef eg k = subst (Judged n x) k (valued n x (number 16 0 (drop 2 x)) (good.hexadecimal x e1 e2))
     go true false true o od b bd d w f g e1 e2 eh e3 e4 e5 e6 e7 e8 ef eg k = subst (Judged n x) k (bad.float (bad.hexadecimal (one_of (has_prefix (codes "0x") x) (has_prefix (codes "0X") x) true e1) eh))
-    go true false false o od b bd d w f g e1 e2 eh e3 e4 e5 e6 e7 e8 ef eg k = wrong k
     go false h hp true true b bd d w f g e1 e2 eh e3 e4 e5 e6 e7 e8 ef eg k = subst (Judged n x) k (valued n x (number 8 0 (drop 2 x)) (good.octal x e3 e4))
-    go false h hp true false b bd d w f g e1 e2 eh e3 e4 e5 e6 e7 e8 ef eg k = wrong k
     go false h hp false od true true d w f g e1 e2 eh e3 e4 e5 e6 e7 e8 ef eg k = subst (Judged n x) k (valued n x (number 2 0 (drop 2 x)) (good.binary x e5 e6))
-    go false h hp false od true false d w f g e1 e2 eh e3 e4 e5 e6 e7 e8 ef eg k = wrong k
     go false h hp false od false bd true true f g e1 e2 eh e3 e4 e5 e6 e7 e8 ef eg k = subst (Judged n x) k (valued n x (number 10 0 x) (good.decimal x e7 e8))
-    go false h hp false od false bd true false f g e1 e2 eh e3 e4 e5 e6 e7 e8 ef eg k = wrong k
     go false h hp false od false bd false w true g e1 e2 eh e3 e4 e5 e6 e7 e8 ef eg k =
         let both = and_parts (begins is_ascii_digit x) (has_any (codes ".eE") x) ef in
         let none = no_base (has_prefix (codes "0x") x) (has_prefix (codes "0X") x) (has_prefix (codes "0o") x) (has_prefix (codes "0O") x) (has_prefix (codes "0b") x) (has_prefix (codes "0B") x) e1 e3 e5 in
         subst (Judged n x) k (bad.float (bad.decimal both.0 none both.1))
     go false h hp false od false bd false w false true e1 e2 eh e3 e4 e5 e6 e7 e8 ef eg k = let both = and_parts n (has_prefix (codes "Infinity") x) eg in subst (Judged n x) k (bad.float (bad.infinite both.0 both.1))
-    go false h hp false od false bd false w false false e1 e2 eh e3 e4 e5 e6 e7 e8 ef eg k = wrong k
+    go _ _ _ _ _ _ _ _ _ _ _ e1 e2 eh e3 e4 e5 e6 e7 e8 ef eg k = wrong k
 
 around : (x y t z : List ℕ) → x ++ (y ++ (t ++ z)) ≡ (x ++ (y ++ t)) ++ z
 around x y t z = sym (assoc x (y ++ t) z ∙ ap (λ l. x ++ l) (assoc y t z))
@@ -336,11 +319,11 @@ taken p (c ∷ s) z a h = go (is_white c) (eqb c 47) (eqb c 35) (eqb c 91) (eqb 
     go false false true b3 b4 b5 b6 b7 b8 b9 b10 b11 b12 b13 b14 b15 b16 b17 e0 e1 e2 e3 e4 e5 e6 e7 e8 e9 e10 e11 e12 e13 e14 e15 e16 e17 h = a_hash p c s z a e2 h
     go false false false true b4 b5 b6 b7 b8 b9 b10 b11 b12 b13 b14 b15 b16 b17 e0 e1 e2 e3 e4 e5 e6 e7 e8 e9 e10 e11 e12 e13 e14 e15 e16 e17 h = an_opening_a p c s z a e3 h
     go false false false false true b5 b6 b7 b8 b9 b10 b11 b12 b13 b14 b15 b16 b17 e0 e1 e2 e3 e4 e5 e6 e7 e8 e9 e10 e11 e12 e13 e14 e15 e16 e17 h = an_opening_m p c s z a e4 h
-    go false false false false false true b6 b7 b8 b9 b10 b11 b12 b13 b14 b15 b16 b17 e0 e1 e2 e3 e4 e5 e6 e7 e8 e9 e10 e11 e12 e13 e14 e15 e16 e17 h = single_93 p c s z a e5 h
-    go false false false false false false true b7 b8 b9 b10 b11 b12 b13 b14 b15 b16 b17 e0 e1 e2 e3 e4 e5 e6 e7 e8 e9 e10 e11 e12 e13 e14 e15 e16 e17 h = single_125 p c s z a e6 h
-    go false false false false false false false true b8 b9 b10 b11 b12 b13 b14 b15 b16 b17 e0 e1 e2 e3 e4 e5 e6 e7 e8 e9 e10 e11 e12 e13 e14 e15 e16 e17 h = single_41 p c s z a e7 h
-    go false false false false false false false false true b9 b10 b11 b12 b13 b14 b15 b16 b17 e0 e1 e2 e3 e4 e5 e6 e7 e8 e9 e10 e11 e12 e13 e14 e15 e16 e17 h = single_44 p c s z a e8 h
-    go false false false false false false false false false true b10 b11 b12 b13 b14 b15 b16 b17 e0 e1 e2 e3 e4 e5 e6 e7 e8 e9 e10 e11 e12 e13 e14 e15 e16 e17 h = single_58 p c s z a e9 h
+    go false false false false false true b6 b7 b8 b9 b10 b11 b12 b13 b14 b15 b16 b17 e0 e1 e2 e3 e4 e5 e6 e7 e8 e9 e10 e11 e12 e13 e14 e15 e16 e17 h = a_single ArrayClose 93 (λ q y. good.array_close y) p c s z a e5 h
+    go false false false false false false true b7 b8 b9 b10 b11 b12 b13 b14 b15 b16 b17 e0 e1 e2 e3 e4 e5 e6 e7 e8 e9 e10 e11 e12 e13 e14 e15 e16 e17 h = a_single MapClose 125 (λ q y. good.map_close y) p c s z a e6 h
+    go false false false false false false false true b8 b9 b10 b11 b12 b13 b14 b15 b16 b17 e0 e1 e2 e3 e4 e5 e6 e7 e8 e9 e10 e11 e12 e13 e14 e15 e16 e17 h = a_single ParenClose 41 (λ q y. good.paren_close y) p c s z a e7 h
+    go false false false false false false false false true b9 b10 b11 b12 b13 b14 b15 b16 b17 e0 e1 e2 e3 e4 e5 e6 e7 e8 e9 e10 e11 e12 e13 e14 e15 e16 e17 h = a_single Comma 44 (λ q y. good.comma y) p c s z a e8 h
+    go false false false false false false false false false true b10 b11 b12 b13 b14 b15 b16 b17 e0 e1 e2 e3 e4 e5 e6 e7 e8 e9 e10 e11 e12 e13 e14 e15 e16 e17 h = a_single Colon 58 (λ q y. good.colon y) p c s z a e9 h
     go false false false false false false false false false false true b11 b12 b13 b14 b15 b16 b17 e0 e1 e2 e3 e4 e5 e6 e7 e8 e9 e10 e11 e12 e13 e14 e15 e16 e17 h = a_less p c s z a e10 h
     go false false false false false false false false false false false true b12 b13 b14 b15 b16 b17 e0 e1 e2 e3 e4 e5 e6 e7 e8 e9 e10 e11 e12 e13 e14 e15 e16 e17 h = a_greater p c s z a e11 h
     go false false false false false false false false false false false false true b13 b14 b15 b16 b17 e0 e1 e2 e3 e4 e5 e6 e7 e8 e9 e10 e11 e12 e13 e14 e15 e16 e17 h = a_paren p c s z a e12 h

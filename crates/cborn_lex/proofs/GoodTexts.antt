@@ -1,6 +1,5 @@
 -- The definitions of Good.antt and Bad.antt agree with those of Lex.antt on the tokens between two places of a text, and on its lexical fault.
-use Rattle.cborn_lex.proofs.Common.{◌≡◌, subst, ℕ, List, ◌++◌, Option, Some, None, Profile, Token, LexFault, Refused, OutOfMemory, LexReason, WhiteSpace, Read, Bad, Covers, HasTokens, IsTokenFrom, BeginsNothing, FailsAt, HasNoTokens, HasNoTokenFrom, Through, Lex, Stop, HasNoPiece, IsStopAt, IsStopFrom, IsNext}
-use Rattle.std.specs.Prelude.{drop}
+use Rattle.cborn_lex.proofs.Common.{◌≡◌, subst, ℕ, List, ◌++◌, Option, Some, None, Profile, Token, LexFault, Refused, OutOfMemory, LexReason, WhiteSpace, Read, Bad, Covers, HasTokens, IsTokenFrom, BeginsNothing, FailsAt, HasNoTokens, HasNoTokenFrom, Through, Lex, Stop, HasNoPiece, IsStopAt, IsStopFrom, IsNext, drop}
 use Rattle.cborn_lex.specs.Good as good
 use Rattle.cborn_lex.specs.Lex as lex
 use Rattle.cborn_lex.proofs.GoodFronts.{taken}

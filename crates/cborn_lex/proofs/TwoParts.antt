@@ -7,22 +7,8 @@ use Rattle.cborn_lex.specs.declared.fronts.Front.TheVariants as fronts
 use Rattle.cborn_lex.specs.declared.classes.Class.TheVariants as classes
 
 nothing_in : (k : Kind) (n : ℕ) → content_of (class_of k n []) ≡ []
-nothing_in (kinds.ArrayOpen m) n = refl
-nothing_in (kinds.MapOpen m) n = refl
-nothing_in kinds.ArrayClose n = refl
-nothing_in kinds.MapClose n = refl
-nothing_in kinds.ParenClose n = refl
-nothing_in kinds.Comma n = refl
-nothing_in kinds.Colon n = refl
-nothing_in kinds.EmbedOpen n = refl
-nothing_in (kinds.EmbedClose m) n = refl
-nothing_in kinds.ChunkOpen n = refl
-nothing_in (kinds.Number b m) n = refl
-nothing_in (kinds.TagOpen m) n = refl
-nothing_in (kinds.Word v) n = refl
-nothing_in kinds.SimpleOpen n = refl
 nothing_in (kinds.Text m) n = refl
-nothing_in (kinds.Bytes q m) n = refl
+nothing_in _ n = refl
 
 -- where nothing was appended
 pub nothing_appended : (f : FrontIn) (n : ℕ) (old new : List ℕ) → new ≡ old → FrontStandsFor f n old new (front_view n [] f)
@@ -33,11 +19,9 @@ nothing_appended (fronts.Bad r) n old new e = refl
 -- a string
 pub string_appended : (f : FrontIn) (n : ℕ) (x old new : List ℕ) (k : Mark → Class) (m : Option Mark) → ((a : Mark) → content_of (k a) ≡ x) → front_view n x f ≡ marked k m → new ≡ old ++ x → FrontStandsFor f n old new (marked k m)
 string_appended fronts.WhiteSpace n x old new k None c e w = cc
-string_appended fronts.WhiteSpace n x old new k (Some a) c e w = cc
-string_appended (fronts.Read l) n x old new k None c e w = cc
 string_appended (fronts.Read l) n x old new k (Some a) c e w = let same : class_of l n x ≡ k a = cc in (k a, refl, record { content = x; class = sym same; written = w ∙ ap (λ y. old ++ y) (sym (c a)) })
 string_appended (fronts.Bad r) n x old new k None c e w = sym e
-string_appended (fronts.Bad r) n x old new k (Some a) c e w = cc
+string_appended _ n x old new k _ c e w = cc
 
 -- a string that isn't closed
 pub unclosed_made : (whole unclosed : List ℕ → Bool) (q : ℕ) (Is : List ℕ → List ℕ → Type 0) (r : LexReason) (k : List ℕ → Mark → Class) (tail : List ℕ) → unclosed tail ≡ true → IsString whole unclosed q Is r k (take (length tail) tail) (drop (length tail) tail) (Bad UnclosedString)
@@ -68,22 +52,9 @@ same_class k n old new c e t = whole k t.content t.class
     now x h = t.written ∙ ap (λ y. y ++ content_of c) e ∙ h
 
     whole : (k : Kind) (x : List ℕ) → c ≡ class_of k n x → class_of k n new ≡ c
-    whole (kinds.ArrayOpen m) x h = sym h
-    whole (kinds.MapOpen m) x h = sym h
-    whole kinds.ArrayClose x h = sym h
-    whole kinds.MapClose x h = sym h
-    whole kinds.ParenClose x h = sym h
-    whole kinds.Comma x h = sym h
-    whole kinds.Colon x h = sym h
-    whole kinds.EmbedOpen x h = sym h
-    whole (kinds.EmbedClose m) x h = sym h
-    whole kinds.ChunkOpen x h = sym h
-    whole (kinds.Number b m) x h = sym h
-    whole (kinds.TagOpen m) x h = sym h
-    whole (kinds.Word v) x h = sym h
-    whole kinds.SimpleOpen x h = sym h
     whole (kinds.Text m) x h = ap (λ y. classes.Text y m) (now x (ap content_of h)) ∙ sym h
     whole (kinds.Bytes q m) x h = ap (λ y. classes.Bytes q y m) (now x (ap content_of h)) ∙ sym h
+    whole _ x h = sym h
 
 -- Digits.
 
@@ -139,9 +110,4 @@ six c a b d e f g z h0 h1 h2 h3 h4 h5 h6 = rw (h0, h1, h2, h3, h4, h5, h6) (105 
 
 pub simple_word : (c : ℕ) (tail : List ℕ) → 6 ≤ length tail → c ≡ 115 → get_or tail 0 0 ≡ 105 → get_or tail 1 0 ≡ 109 → get_or tail 2 0 ≡ 112 → get_or tail 3 0 ≡ 108 → get_or tail 4 0 ≡ 101 → get_or tail 5 0 ≡ 40 → ReadsWord c (take 6 tail) (drop 6 tail) (Read classes.SimpleOpen)
 simple_word c (a ∷ b ∷ d ∷ e ∷ f ∷ g ∷ z) l h0 h1 h2 h3 h4 h5 h6 = six c a b d e f g z h0 h1 h2 h3 h4 h5 h6
-simple_word c [] l h0 h1 h2 h3 h4 h5 h6 = absurd (omega (arith, l))
-simple_word c (a ∷ []) l h0 h1 h2 h3 h4 h5 h6 = absurd (omega (arith, l))
-simple_word c (a ∷ b ∷ []) l h0 h1 h2 h3 h4 h5 h6 = absurd (omega (arith, l))
-simple_word c (a ∷ b ∷ d ∷ []) l h0 h1 h2 h3 h4 h5 h6 = absurd (omega (arith, l))
-simple_word c (a ∷ b ∷ d ∷ e ∷ []) l h0 h1 h2 h3 h4 h5 h6 = absurd (omega (arith, l))
-simple_word c (a ∷ b ∷ d ∷ e ∷ f ∷ []) l h0 h1 h2 h3 h4 h5 h6 = absurd (omega (arith, l))
+simple_word c _ l h0 h1 h2 h3 h4 h5 h6 = absurd (omega (arith, l))

@@ -6,4 +6,5 @@ pub mod Good
 pub mod Kinds
 pub mod Bad
 pub mod Lex
+pub mod shared
 pub mod devices

@@ -1,6 +1,5 @@
 -- What the machine holds: the tokens that it took, how deep they went, and the commas before brackets.
-use Rattle.cborn_edn.proofs.Common.{◌≡◌, refl, ap, ◌∙◌, ℕ, suc, ◌+◌, ◌≤◌, List, [], ◌∷◌, ◌++◌, Option, Some, None, append_assoc, arith, max, Class, EmbedClose, ArrayClose, Token, Span, token, Piece, embedded, Pieces, Content, tokens_of_piece, tokens_of_pieces, tokens_of_content, depth_of_number, depth, depth_of_piece, depth_of_pieces, depth_of_strings_before, depth_of_row_before, depth_of_content, depth_of_pairs_before, commas, commas_of_piece, commas_of_pieces, commas_of_strings_before, commas_of_row_before, commas_of_content, commas_of_pairs_before}
-use Rattle.cborn_edn.proofs.Grammar.Machine.{Stack, in_row, in_key, in_value, in_tag, Nest, at_top, in_array, in_embed, Home, as_item, as_chunk, State, wants, has, builds, wants_chunk, wants_number, has_number, with_piece, ends}
+use Rattle.cborn_edn.proofs.Common.{◌≡◌, refl, ap, ◌∙◌, ℕ, suc, ◌+◌, ◌≤◌, List, [], ◌∷◌, ◌++◌, Option, Some, None, append_assoc, arith, max, Class, EmbedClose, ArrayClose, Token, Span, token, Piece, embedded, Pieces, Content, tokens_of_piece, tokens_of_pieces, tokens_of_content, depth_of_number, depth, depth_of_piece, depth_of_pieces, depth_of_strings_before, depth_of_row_before, depth_of_content, depth_of_pairs_before, commas, commas_of_piece, commas_of_pieces, commas_of_strings_before, commas_of_row_before, commas_of_content, commas_of_pairs_before, Stack, in_row, in_key, in_value, in_tag, Nest, at_top, in_array, in_embed, Home, as_item, as_chunk, State, wants, has, builds, wants_chunk, wants_number, has_number, with_piece, ends}
 pub use Rattle.cborn_edn.specs.devices.Machine.{tokens_before, held_stack, held_nest, held_home, held, levels, levels_nest, levels_home, open_levels, row_comma, pair_comma, comma_in, comma_at}
 
 abbrev pub depth_before : Option Pieces → ℕ

@@ -1,10 +1,9 @@
 -- Tokens have at most one tree. Within the limit they have a tree or one syntax error, never both. A larger limit and profile 2 accept all that the others do.
-use Rattle.cborn_edn.proofs.Common.{◌≡◌, refl, ap, ◌∙◌, sym, subst, ℕ, suc, ◌+◌, ◌≤◌, List, [], ◌∷◌, ◌++◌, Option, Some, None, append_assoc, append-nil, arith, ◌<◌, zero, ◌⊎◌, inl, inr, max, Token, Profile, token, span, Item, number, word, simple, string, row, no_item, Input, items, tokens_of_input, depth, depth_of_input, commas, commas_of_input, AllowsCount, EdnReason, UnexpectedToken, UnexpectedEnd, TooDeep, Parse, HasTree, GoesOn, GoesOnAtAnyDepth, StopsAt, IsSyntaxError, reach, same_Some}
-use Rattle.cborn_lex.specs.declared.classes.Profile.TheVariants.{One as ProfileOne, Two as ProfileTwo}
+use Rattle.cborn_edn.proofs.Common.{◌≡◌, refl, ap, ◌∙◌, sym, subst, ℕ, suc, ◌+◌, ◌≤◌, List, [], ◌∷◌, ◌++◌, Option, Some, None, append_assoc, append-nil, arith, ◌<◌, zero, ◌⊎◌, inl, inr, max, Token, Profile, token, span, Item, number, word, simple, string, row, no_item, Input, items, tokens_of_input, depth, depth_of_input, commas, commas_of_input, AllowsCount, EdnReason, UnexpectedToken, UnexpectedEnd, TooDeep, Parse, HasTree, GoesOn, GoesOnAtAnyDepth, StopsAt, IsSyntaxError, reach, same_Some, ProfileOne, ProfileTwo, Stack, in_row, at_top, as_item, State, wants, has, builds, start, step, run, finish, held, open_levels, levels, comma_at}
 use Rattle.cborn_edn.specs.devices.Syntax.{nothing}
-use Rattle.cborn_edn.proofs.Grammar.Machine.{Stack, in_row, at_top, as_item, State, wants, has, builds, start, step, run, run-append, run-none}
-use Rattle.cborn_edn.proofs.Grammar.Takes.{landed, then, whole, takes_input, finish, finish-whole}
-use Rattle.cborn_edn.proofs.Grammar.Held.{held, open_levels, deep_stack, deep, commas_stack, commas_held, levels, comma_at, After, Grows}
+use Rattle.cborn_edn.proofs.Grammar.Machine.{run-append, run-none}
+use Rattle.cborn_edn.proofs.Grammar.Takes.{landed, then, whole, takes_input, finish-whole}
+use Rattle.cborn_edn.proofs.Grammar.Held.{deep_stack, deep, commas_stack, commas_held, After, Grows}
 use Rattle.cborn_edn.proofs.Grammar.Grows.{grows}
 use Rattle.cborn_edn.proofs.Grammar.Closes.{closes}
 use Rattle.cborn_edn.proofs.Grammar.Trailing.{parse_of, allowed_count}

@@ -1,9 +1,6 @@
 -- The machine with its tests of the profile and the limit is a parser: it answers the tree, or the syntax error.
-use Rattle.cborn_edn.proofs.Common.{◌≡◌, refl, ap, ◌∙◌, sym, subst, ℕ, suc, ◌+◌, ◌≤◌, List, [], ◌∷◌, ◌++◌, Bool, true, false, Option, Some, None, append_assoc, append-nil, leb, cond, arith, ◌<◌, zero, max, leb-true, leb-false, Token, Profile, AllowsCount, token, span, Input, depth_of_input, UnexpectedToken, TooDeep, Parse, GoesOn, IsSyntaxError, reach}
-use Rattle.cborn_lex.specs.declared.classes.Profile.TheVariants.{One as ProfileOne, Two as ProfileTwo}
-use Rattle.cborn_edn.proofs.Grammar.Machine.{State, start, step}
-use Rattle.cborn_edn.proofs.Grammar.Takes.{finish}
-use Rattle.cborn_edn.proofs.Grammar.Held.{held, open_levels, deep, commas_held, comma_at, After, Grows}
+use Rattle.cborn_edn.proofs.Common.{◌≡◌, refl, ap, ◌∙◌, sym, subst, ℕ, suc, ◌+◌, ◌≤◌, List, [], ◌∷◌, ◌++◌, Bool, true, false, Option, Some, None, append_assoc, append-nil, leb, cond, arith, ◌<◌, zero, max, leb-true, leb-false, Token, Profile, AllowsCount, token, span, Input, depth_of_input, UnexpectedToken, TooDeep, Parse, GoesOn, IsSyntaxError, reach, ProfileOne, ProfileTwo, State, start, step, finish, held, open_levels, comma_at}
+use Rattle.cborn_edn.proofs.Grammar.Held.{deep, commas_held, After, Grows}
 use Rattle.cborn_edn.proofs.Grammar.Grows.{grows}
 use Rattle.cborn_edn.proofs.Grammar.Trailing.{parse_of}
 use Rattle.cborn_edn.proofs.Grammar.OneTree.{Leads, Ended, IfTree, ends_tree, held_by, good, goes_on, nothing_goes, no_tree, leads_on, same_end, stops}

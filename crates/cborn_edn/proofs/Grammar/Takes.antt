@@ -1,7 +1,7 @@
 -- The machine takes the tokens of a tree, and then holds that tree.
-use Rattle.cborn_edn.proofs.Common.{◌≡◌, refl, ap, ◌∙◌, ℕ, List, ◌∷◌, ◌++◌, Bool, Option, Some, None, append_assoc, Mark, Class, ArrayOpen, MapOpen, EmbedClose, ArrayClose, MapClose, ParenClose, Comma, Colon, EmbedOpen, ChunkOpen, TagOpen, Text, Bytes, Token, Span, token, Item, number, word, tag, simple, string, chunked, array, Piece, text, bytes, embedded, Pieces, piece, also, Strings, strings, StringsBefore, no_string, after_strings, Row, row, RowBefore, no_item, after_row, Content, loose, tight, pairs, PairsBefore, no_pair, after_pairs, Fields, loose_fields, tight_fields, Input, items, tokens_of, tokens_of_piece, tokens_of_pieces, tokens_of_strings, tokens_of_strings_before, tokens_of_row, tokens_of_row_before, tokens_of_content, tokens_of_pairs, tokens_of_pairs_before, tokens_of_fields, tokens_of_input}
+use Rattle.cborn_edn.proofs.Common.{◌≡◌, refl, ap, ◌∙◌, ℕ, List, ◌∷◌, ◌++◌, Bool, Option, Some, None, append_assoc, Mark, Class, ArrayOpen, MapOpen, EmbedClose, ArrayClose, MapClose, ParenClose, Comma, Colon, EmbedOpen, ChunkOpen, TagOpen, Text, Bytes, Token, Span, token, Item, number, word, tag, simple, string, chunked, array, Piece, text, bytes, embedded, Pieces, piece, also, Strings, strings, StringsBefore, no_string, after_strings, Row, row, RowBefore, no_item, after_row, Content, loose, tight, pairs, PairsBefore, no_pair, after_pairs, Fields, loose_fields, tight_fields, Input, items, tokens_of, tokens_of_piece, tokens_of_pieces, tokens_of_strings, tokens_of_strings_before, tokens_of_row, tokens_of_row_before, tokens_of_content, tokens_of_pairs, tokens_of_pairs_before, tokens_of_fields, tokens_of_input, Stack, in_row, in_key, in_value, in_tag, Nest, at_top, in_array, in_embed, Home, as_item, as_chunk, State, wants, has, builds, wants_chunk, start, with_piece, ends, step_by, run}
 use Rattle.cborn_edn.specs.devices.Syntax.{map, Pairs, nothing}
-use Rattle.cborn_edn.proofs.Grammar.Machine.{Stack, in_row, in_key, in_value, in_tag, Nest, at_top, in_array, in_embed, Home, as_item, as_chunk, State, wants, has, builds, wants_chunk, start, with_piece, ends, after, step_by, run}
+use Rattle.cborn_edn.proofs.Grammar.Machine.{after}
 pub use Rattle.cborn_edn.specs.devices.Machine.{at_home, finish}
 
 -- the state after a whole item
@@ -53,19 +53,19 @@ class_at (close_embed m) = EmbedClose m
 abbrev pub then : List Token → State → Option State
 then ts s = run ts (Some s)
 
-text_piece : (h : Home) (b : Option Pieces) (a : Span) (x : List ℕ) (m : Mark) (y : List Token) → then (token a (Text x m) ∷ y) (at_home h b) ≡ then y (builds h (with_piece b (text a x m)))
+pub text_piece : (h : Home) (b : Option Pieces) (a : Span) (x : List ℕ) (m : Mark) (y : List Token) → then (token a (Text x m) ∷ y) (at_home h b) ≡ then y (builds h (with_piece b (text a x m)))
 text_piece (as_item st) None a x m y = refl
 text_piece (as_chunk st s b) None a x m y = refl
 text_piece (as_item st) (Some ps) a x m y = refl
 text_piece (as_chunk st s b) (Some ps) a x m y = refl
 
-bytes_piece : (h : Home) (b : Option Pieces) (a : Span) (q : Bool) (x : List ℕ) (m : Mark) (y : List Token) → then (token a (Bytes q x m) ∷ y) (at_home h b) ≡ then y (builds h (with_piece b (bytes a q x m)))
+pub bytes_piece : (h : Home) (b : Option Pieces) (a : Span) (q : Bool) (x : List ℕ) (m : Mark) (y : List Token) → then (token a (Bytes q x m) ∷ y) (at_home h b) ≡ then y (builds h (with_piece b (bytes a q x m)))
 bytes_piece (as_item st) None a q x m y = refl
 bytes_piece (as_chunk st s b) None a q x m y = refl
 bytes_piece (as_item st) (Some ps) a q x m y = refl
 bytes_piece (as_chunk st s b) (Some ps) a q x m y = refl
 
-embed_opens : (h : Home) (b : Option Pieces) (a : Span) (y : List Token) → then (token a EmbedOpen ∷ y) (at_home h b) ≡ then y (wants (in_row (in_embed h b a) no_item))
+pub embed_opens : (h : Home) (b : Option Pieces) (a : Span) (y : List Token) → then (token a EmbedOpen ∷ y) (at_home h b) ≡ then y (wants (in_row (in_embed h b a) no_item))
 embed_opens (as_item st) None a y = refl
 embed_opens (as_chunk st s b) None a y = refl
 embed_opens (as_item st) (Some ps) a y = refl

@@ -1,6 +1,5 @@
 -- The tokens of a tree have as many commas directly before closing brackets as the tree counts.
-use Rattle.cborn_edn.proofs.Common.{◌≡◌, refl, sym, ap, ◌∙◌, ℕ, ◌+◌, List, [], ◌∷◌, ◌++◌, Bool, true, false, append_assoc, append-nil, arith, Class, ArrayClose, MapClose, ParenClose, Comma, Colon, EmbedClose, Token, Profile, Span, token, span, Item, number, word, tag, simple, string, chunked, array, Piece, text, bytes, embedded, Pieces, piece, also, Strings, strings, StringsBefore, no_string, after_strings, Row, row, RowBefore, no_item, after_row, Content, loose, tight, pairs, PairsBefore, no_pair, after_pairs, Fields, loose_fields, tight_fields, Input, items, tokens_of, tokens_of_piece, tokens_of_pieces, tokens_of_strings, tokens_of_strings_before, tokens_of_row, tokens_of_row_before, tokens_of_content, tokens_of_pairs, tokens_of_pairs_before, tokens_of_fields, tokens_of_input, AllowsCount, commas, commas_of_piece, commas_of_pieces, commas_of_strings, commas_of_strings_before, commas_of_row, commas_of_row_before, commas_of_content, commas_of_pairs, commas_of_pairs_before, commas_of_fields, commas_of_input, is_closing, Allows, Parse}
-use Rattle.cborn_lex.specs.declared.classes.Profile.TheVariants.{One as ProfileOne, Two as ProfileTwo}
+use Rattle.cborn_edn.proofs.Common.{◌≡◌, refl, sym, ap, ◌∙◌, ℕ, ◌+◌, List, [], ◌∷◌, ◌++◌, Bool, true, false, append_assoc, append-nil, arith, Class, ArrayClose, MapClose, ParenClose, Comma, Colon, EmbedClose, Token, Profile, Span, token, span, Item, number, word, tag, simple, string, chunked, array, Piece, text, bytes, embedded, Pieces, piece, also, Strings, strings, StringsBefore, no_string, after_strings, Row, row, RowBefore, no_item, after_row, Content, loose, tight, pairs, PairsBefore, no_pair, after_pairs, Fields, loose_fields, tight_fields, Input, items, tokens_of, tokens_of_piece, tokens_of_pieces, tokens_of_strings, tokens_of_strings_before, tokens_of_row, tokens_of_row_before, tokens_of_content, tokens_of_pairs, tokens_of_pairs_before, tokens_of_fields, tokens_of_input, AllowsCount, commas, commas_of_piece, commas_of_pieces, commas_of_strings, commas_of_strings_before, commas_of_row, commas_of_row_before, commas_of_content, commas_of_pairs, commas_of_pairs_before, commas_of_fields, commas_of_input, is_closing, Allows, Parse, ProfileOne, ProfileTwo}
 use Rattle.cborn_edn.specs.devices.Syntax.{map, Pairs, nothing}
 
 abbrev is_comma : Class → Bool
@@ -107,14 +106,14 @@ none_closes [] y at t b e = go (is_closing t.class) (omega (arith, e))
     go false f = refl
 none_closes (s ∷ x) y at t b e = none_closes x y at t (is_comma s.class) (omega (arith, e))
 
+light : (k : Bool) → both k false ≡ 0
+light true = refl
+light false = refl
+
 -- after a token that is a comma, or not
 weightless : (b : Bool) (c d : Class) → (c ≡ Comma → is_closing d ≡ false) → weight (is_comma c) d ≡ 0
 weightless b Comma d h = rw (h refl) refl
 weightless b c d h = light (is_closing d)
-  where
-    light : (k : Bool) → both k false ≡ 0
-    light true = refl
-    light false = refl
 
 -- if no closing bracket follows a comma, the tokens have none
 none_counted : (t : Token) (l : List Token) → Allows ProfileOne (t ∷ l) → trailing (is_comma t.class) l ≡ 0
@@ -126,16 +125,9 @@ none_counted t (u ∷ l) h =
       none_counted u l (λ x y at v e. h (t ∷ x) y at v (ap (λ z. t ∷ z) e)),
     )
 
-first_light : (c : Class) → weight false c ≡ 0
-first_light c = go (is_closing c)
-  where
-    go : (k : Bool) → both k false ≡ 0
-    go true = refl
-    go false = refl
-
 none_in : (l : List Token) → Allows ProfileOne l → trailing false l ≡ 0
 none_in [] h = refl
-none_in (t ∷ l) h = omega (arith, first_light t.class, none_counted t l h)
+none_in (t ∷ l) h = omega (arith, light (is_closing t.class), none_counted t l h)
 
 -- a parse, by what the tree counts
 pub parse_of : (p : Profile) (ts : List Token) (t : Input) → tokens_of_input t ≡ ts → AllowsCount p (commas_of_input t) → Parse p ts t

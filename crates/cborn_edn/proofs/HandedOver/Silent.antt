@@ -1,6 +1,5 @@
 -- Tokens that hand nothing over.
-use Rattle.cborn_edn.proofs.Common.{◌≡◌, refl, sym, ap, ◌∙◌, subst, ℕ, Bool, List, [], ◌∷◌, ◌++◌, Option, Some, None, append_assoc, Tree, Trees, more, Entries, no_entry, entry, a_map, Partial, top, inside, no_part, put, IsWritten, Speller, Mark, Span, Item, simple, Piece, embedded, Pieces, piece, also, no_string, row, RowBefore, no_item, after_row, Content, loose, tight, pairs, PairsBefore, after_pairs, Stack, in_row, in_key, in_value, Nest, at_top, in_array, in_embed, Home, as_item, as_chunk, State, wants, has, builds, wants_chunk, wants_number, has_number, at_home, with_piece, node, faults_of_pieces, snoc, snoc_entry, nodes_before, entries_before, noted, noted_home, stack_of, stack_in, content_state, listed_trees, Holds, FitsSoFar, listed_entries, states_around, states_around_home, size_asked, front_of, row_front, front, Handed, AllHanded}
-use Rattle.cborn_model.specs.Tree.{no_item as no_node}
+use Rattle.cborn_edn.proofs.Common.{◌≡◌, refl, sym, ap, ◌∙◌, subst, ℕ, Bool, List, [], ◌∷◌, ◌++◌, Option, Some, None, append_assoc, Tree, Trees, more, Entries, no_entry, entry, a_map, Partial, top, inside, no_part, put, IsWritten, Speller, Mark, Span, Item, simple, Piece, embedded, Pieces, piece, also, no_string, row, RowBefore, no_item, after_row, Content, loose, tight, pairs, PairsBefore, after_pairs, Stack, in_row, in_key, in_value, Nest, at_top, in_array, in_embed, Home, as_item, as_chunk, State, wants, has, builds, wants_chunk, wants_number, has_number, at_home, with_piece, node, faults_of_pieces, snoc, snoc_entry, nodes_before, entries_before, noted, noted_home, stack_of, stack_in, content_state, listed_trees, Holds, FitsSoFar, listed_entries, states_around, states_around_home, size_asked, front_of, row_front, front, Handed, AllHanded, no_node}
 use Rattle.cborn_edn.proofs.Meaning.NoError.{no_left}
 use Rattle.cborn_edn.proofs.HandedOver.Handing.{stays}
 
@@ -43,28 +42,31 @@ handed_close_simple h st s b n v m a = handed_same h (has_number st s b n v m) (
 pub handed_open_chunks : (h : Holds) (st : Stack) (a : Span) → Handed h (wants st) → Handed h (wants_chunk st a no_string)
 handed_open_chunks h st a = handed_same h (wants st) (wants_chunk st a no_string) refl (no_left _ _)
 
--- a string begins, with any piece
-pub handed_begin_string : (h : Holds) (home : Home) (p : Piece) → Handed h (at_home home None) → Handed h (builds home (piece p))
-handed_begin_string h (as_item st) p = handed_same h (wants st) (builds (as_item st) (piece p)) refl (no_left _ _)
-handed_begin_string h (as_chunk st s b) p = handed_same h (wants_chunk st s b) (builds (as_chunk st s b) (piece p)) refl (no_left _ _)
-
-pub handed_join : (h : Holds) (home : Home) (ps : Pieces) (p : Piece) → Handed h (builds home ps) → Handed h (builds home (also ps p))
+handed_join : (h : Holds) (home : Home) (ps : Pieces) (p : Piece) → Handed h (builds home ps) → Handed h (builds home (also ps p))
 handed_join h home ps p = handed_same h (builds home ps) (builds home (also ps p)) refl (λ q. no_left _ _ (append_assoc (noted_home home) (faults_of_pieces ps) _ ∙ q))
+
+-- one more piece of a string, which may be the first
+handed_piece : (h : Holds) (ps : List Speller) (home : Home) (o : Option Pieces) (p : Piece) → AllHanded h ps (at_home home o ∷ states_around_home home) → AllHanded h ps (builds home (with_piece o p) ∷ states_around (stack_of home))
+handed_piece h ps (as_item st) None p t = stays h ps _ _ (states_around st) (λ k. handed_same k (wants st) (builds (as_item st) (piece p)) refl (no_left _ _)) t
+handed_piece h ps (as_chunk st s b) None p t = stays h ps _ _ (states_around st) (λ k. handed_same k (wants_chunk st s b) (builds (as_chunk st s b) (piece p)) refl (no_left _ _)) t
+handed_piece h ps (as_item st) (Some xs) p t = stays h ps _ _ (states_around st) (λ k. handed_join k (as_item st) xs p) t
+handed_piece h ps (as_chunk st s b) (Some xs) p t = stays h ps _ _ (states_around st) (λ k. handed_join k (as_chunk st s b) xs p) t
+
+-- the states around a string
+pub around_string : (home : Home) (o : Option Pieces) → states_around (stack_in (at_home home o)) ≡ states_around_home home
+around_string (as_item st) None = refl
+around_string (as_item st) (Some ps) = refl
+around_string (as_chunk st s b) None = refl
+around_string (as_chunk st s b) (Some ps) = refl
+
+pub piece_handed : (h : Holds) (ps qs : List Speller) (home : Home) (o : Option Pieces) (p : Piece) → qs ≡ ps → AllHanded h ps (at_home home o ∷ states_around (stack_in (at_home home o))) → AllHanded h qs (builds home (with_piece o p) ∷ states_around (stack_of home))
+piece_handed h ps qs home o p e t = subst (λ (l : List Speller). AllHanded h l (builds home (with_piece o p) ∷ states_around (stack_of home))) (sym e) (handed_piece h ps home o p (subst (λ (ss : List State). AllHanded h ps (at_home home o ∷ ss)) (around_string home o) t))
 
 -- the first piece, or a later piece, is a `<<`, whose speller was handed nothing
 pub embed_opened : (h : Holds) (p : Speller) (ps : List Speller) (home : Home) (o : Option Pieces) (a : Span) → IsWritten p (top []) no_part → AllHanded h ps (at_home home o ∷ states_around (stack_in (at_home home o))) → AllHanded h (p ∷ ps) (wants (in_row (in_embed home o a) no_item) ∷ states_around (in_row (in_embed home o a) no_item))
-embed_opened h p ps (as_item st) None a new t = (λ q. (new, tt), t)
-embed_opened h p ps (as_item st) (Some xs) a new t = (λ q. (new, tt), t)
-embed_opened h p ps (as_chunk st s b) None a new t = (λ q. (new, tt), t)
-embed_opened h p ps (as_chunk st s b) (Some xs) a new t = (λ q. (new, tt), t)
+embed_opened h p ps home o a new t = ((λ q. (new, tt)), subst (λ (ss : List State). AllHanded h ps (at_home home o ∷ ss)) (around_string home o) t)
 
 -- a `<<` ends, and its string goes on around it
-embed_left : (h : Holds) (ps : List Speller) (home : Home) (o : Option Pieces) (s : Span) (c : Content) (a : Span) (m : Mark) → AllHanded h ps (at_home home o ∷ states_around_home home) → AllHanded h ps (builds home (with_piece o (embedded s c a m)) ∷ states_around (stack_of home))
-embed_left h ps (as_item st) None s c a m t = stays h ps _ _ (states_around st) (λ k. handed_begin_string k (as_item st) (embedded s c a m)) t
-embed_left h ps (as_chunk st d b) None s c a m t = stays h ps _ _ (states_around st) (λ k. handed_begin_string k (as_chunk st d b) (embedded s c a m)) t
-embed_left h ps (as_item st) (Some xs) s c a m t = stays h ps _ _ (states_around st) (λ k. handed_join k (as_item st) xs (embedded s c a m)) t
-embed_left h ps (as_chunk st d b) (Some xs) s c a m t = stays h ps _ _ (states_around st) (λ k. handed_join k (as_chunk st d b) xs (embedded s c a m)) t
-
 pub embed_closed : (h : Holds) (p : Speller) (ps : List Speller) (home : Home) (o : Option Pieces) (s : Span) (c : Content) (a : Span) (m : Mark) → AllHanded h (p ∷ ps) (content_state (in_embed home o s) c ∷ states_around (stack_in (content_state (in_embed home o s) c))) → AllHanded h ps (builds home (with_piece o (embedded s c a m)) ∷ states_around (stack_of home))
-embed_closed h p ps home o s (loose b) a m t = embed_left h ps home o s (loose b) a m t.1
-embed_closed h p ps home o s (tight (row b i)) a m t = embed_left h ps home o s (tight (row b i)) a m t.1
+embed_closed h p ps home o s (loose b) a m t = handed_piece h ps home o (embedded s (loose b) a m) t.1
+embed_closed h p ps home o s (tight (row b i)) a m t = handed_piece h ps home o (embedded s (tight (row b i)) a m) t.1

@@ -1,12 +1,10 @@
 -- Numbers and tags of the fixed notation, as pieces.
-use Rattle.cborn_edn.proofs.Common.{◌≡◌, refl, sym, ap, ◌∙◌, subst, ℕ, suc, ◌+◌, ◌*◌, ◌^◌, ◌<◌, ◌%◌, List, [], ◌∷◌, ◌++◌, length, get_or, Bool, true, false, ◌||◌, not, eqb, inl, inr, Ok, Some, decimal, append-nil, arith, and_from, and_right, cond-true, cond-false, lt-ltb, ne_eqb, cases_lt, decimal_digit, decimal_is_IsNumeral_wide, decimal_by_steps_wide, codes, list_all, is_digit, digit_value, Mark, Absent, Wide, Class, Number, TagOpen, Read, begins, is_numeral, are_digits, within, has_prefix, number_front, signed, Start, digit, start_of, ReadsFrom, ReadsNumber, Direct, token, nowhere, indicator}
-use Rattle.std.proofs.Common.{length-append}
+use Rattle.cborn_edn.proofs.Common.{◌≡◌, refl, sym, ap, ◌∙◌, subst, ℕ, suc, ◌+◌, ◌*◌, ◌^◌, ◌<◌, ◌%◌, List, [], ◌∷◌, ◌++◌, length, get_or, Bool, true, false, ◌||◌, not, eqb, inl, inr, Ok, Some, decimal, append-nil, arith, and_from, and_right, cond-true, cond-false, lt-ltb, ne_eqb, cases_lt, decimal_digit, decimal_is_IsNumeral_wide, decimal_by_steps_wide, codes, list_all, is_digit, digit_value, Mark, Absent, Wide, Class, Number, TagOpen, Read, begins, is_numeral, are_digits, within, has_prefix, number_front, signed, Start, digit, start_of, ReadsFrom, ReadsNumber, Direct, token, nowhere, indicator, length-append, ProfileOne}
 use Rattle.std.proofs.Math.ListN.{get_or-append}
 use Rattle.std.proofs.lemmas.Str.Parse.{digit_from_value}
 use Rattle.std.specs.Str.Parse.{AllDigits, digits_value_after}
-use Rattle.cborn_lex.specs.declared.classes.Profile.TheVariants.{One as ProfileOne}
 use Rattle.cborn_lex.specs.Numbers.{number, integer}
-use Rattle.cborn_edn.proofs.Lexed.Tables.{passes, passes-at}
+use Rattle.cborn_lex.proofs.TwoParts.{passes, passes_at, digit_starts}
 use Rattle.cborn_edn.proofs.Lexed.Chained.{Chained, one_token}
 use Rattle.cborn_lex.proofs.WholeTexts.Spelling.{IsMark}
 use Rattle.cborn_edn.proofs.Lexed.MarkTexts.{Closes, mark_is, indicates}
@@ -14,22 +12,14 @@ use Rattle.cborn_edn.proofs.Lexed.MarkTexts.{Closes, mark_is, indicates}
 -- What holds of each digit.
 
 digit_passes : (q : ℕ → Bool) (c : ℕ) → passes q 48 10 ≡ true → digit_value c < 10 → q c ≡ true
-digit_passes q c t h = let r = digit_from_value c h in passes-at q 48 10 c t r.0 (omega (arith, r.1))
+digit_passes q c t h = let r = digit_from_value c h in passes_at q 48 10 c t r.0 (omega (arith, r.1))
 
 pub digits_pass : (q : ℕ → Bool) (ds : List ℕ) → passes q 48 10 ≡ true → AllDigits 10 ds → list_all q ds ≡ true
 digits_pass q [] t h = refl
 digits_pass q (c ∷ ds) t h = and_from (q c) (list_all q ds) (digit_passes q c t h.0) (digits_pass q ds t h.1)
 
-abbrev is_digit_start : Start → Bool
-is_digit_start digit = true
-is_digit_start _ = false
-
-digit_start : (s : Start) → is_digit_start s ≡ true → s ≡ digit
-digit_start digit e = refl
-digit_start _ e = cc
-
 pub starts : (c : ℕ) → digit_value c < 10 → start_of c ≡ digit
-starts c h = digit_start (start_of c) (digit_passes (λ d. is_digit_start (start_of d)) c refl h)
+starts c h = let r = digit_from_value c h in digit_starts c r.0 (omega (arith, r.1))
 
 -- What digits without a leading zero stand for.
 

@@ -3,7 +3,7 @@ use Rattle.cborn_edn.proofs.Common.{◌≡◌, refl, sym, ap, ℕ, zero, suc, �
 use Rattle.hex.specs.Hex.{encode_with}
 use Rattle.hex.proofs.HexLemmas.{decode_of-encode_lower}
 use Rattle.cborn_lex.specs.Strings.{nothing, digit}
-use Rattle.cborn_edn.proofs.Lexed.Tables.{passes-at}
+use Rattle.cborn_lex.proofs.TwoParts.{passes_at}
 use Rattle.cborn_edn.proofs.Lexed.Chained.{Chained, one_token}
 use Rattle.cborn_lex.proofs.WholeTexts.Spelling.{IsMark}
 use Rattle.cborn_edn.proofs.Lexed.MarkTexts.{Closes, mark_is, indicates}
@@ -18,7 +18,7 @@ abbrev is_inside : ℕ → Bool
 is_inside c = is_digit c 16 && is_not 39 c
 
 digit_inside : (d : ℕ) → d < 16 → is_inside (slice_index lower_digits d) ≡ true
-digit_inside d h = passes-at (λ e. is_inside (slice_index lower_digits e)) 0 16 d refl (omega arith) (omega arith)
+digit_inside d h = passes_at (λ e. is_inside (slice_index lower_digits e)) 0 16 d refl (omega arith) (omega arith)
 
 inside : (x : List ℕ) → AreBytes x → list_all is_inside (encode_lower x) ≡ true
 unfolding encode_with

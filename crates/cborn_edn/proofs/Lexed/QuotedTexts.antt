@@ -1,13 +1,12 @@
 -- Text strings of the fixed notation, as pieces.
-use Rattle.cborn_edn.proofs.Common.{◌≡◌, refl, sym, ap, ◌∙◌, ℕ, ◌/◌, ◌%◌, ◌<◌, List, [], ◌∷◌, ◌++◌, slice_index, Bool, true, ◌&&◌, eqb, ltb, cond, inl, arith, and_parts, and_from, codes, bytes_eq, list_all, flat_map, lower_digits, AreBytes, Mark, Endless, Bytes, Text, marked, is_content, Letter, raw, unit, written, is_letter, meant, token, nowhere, indicator, escaped}
-use Rattle.std.proofs.Common.{map as list_map}
+use Rattle.cborn_edn.proofs.Common.{◌≡◌, refl, sym, ap, ◌∙◌, ℕ, ◌/◌, ◌%◌, ◌<◌, List, [], ◌∷◌, ◌++◌, slice_index, Bool, true, ◌&&◌, eqb, ltb, cond, inl, arith, and_parts, and_from, codes, bytes_eq, list_all, flat_map, lower_digits, AreBytes, Mark, Endless, Bytes, Text, marked, is_content, Letter, raw, unit, written, is_letter, meant, token, nowhere, indicator, escaped, map as list_map}
 use Rattle.std.proofs.lemmas.Slice.Eq.{bytes_eq-Decides}
 use Rattle.hex.specs.Hex.{encode_with}
 use Rattle.cborn_lex.specs.Strings.{IsText, nothing}
 use Rattle.cborn_lex.specs.devices.Letters.{escaped as after_slash}
 use Rattle.cborn_lex.proofs.Contents.Lettered as lettered
 use Rattle.cborn_lex.proofs.Contents.Ends.{content_then}
-use Rattle.cborn_edn.proofs.Lexed.Tables.{passes, passes-at}
+use Rattle.cborn_lex.proofs.TwoParts.{passes, passes_at}
 use Rattle.cborn_edn.proofs.Lexed.Chained.{Chained, one_token}
 use Rattle.cborn_lex.proofs.WholeTexts.Spelling.{IsMark}
 use Rattle.cborn_edn.proofs.Lexed.MarkTexts.{Closes, mark_is, indicates}
@@ -44,7 +43,7 @@ same_bytes x y h = (bytes_eq-Decides x y).0 h
 
 is_written_at : (b : ℕ) → b < 256 → Written b
 is_written_at b h =
-    let t = passes-at is_written 0 256 b each_written (omega arith) (omega arith) in
+    let t = passes_at is_written 0 256 b each_written (omega arith) (omega arith) in
     let first = and_parts _ _ t in
     let second = and_parts _ _ first.1 in
     let third = and_parts _ _ second.1 in

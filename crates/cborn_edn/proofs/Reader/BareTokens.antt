@@ -3,13 +3,7 @@ use Rattle.cborn_edn.proofs.Common.{◌≡◌, subst, ℕ, List, [], ◌∷◌, 
 use Rattle.cborn_lex.proofs.GoodTexts.{through}
 
 pub next_of : (p : Profile) (text : List ℕ) (at : ℕ) (o : Option BareToken) (n : ℕ) (old new : List ℕ) (t : BareToken) → o ≡ Some t → IsNextBareToken p text at o n old new → (c : Class) × Between p text at t.stop (record { start = t.start; stop = t.stop; class = c } ∷ [])
-next_of p text at o n old new t e h = go (subst (λ (q : Option BareToken). IsNextBareToken p text at q n old new) e h)
-  where
-    go : IsNextBareToken p text at (Some t) n old new → (c : Class) × Between p text at t.stop (record { start = t.start; stop = t.stop; class = c } ∷ [])
-    go k = (k.0, through p k.1)
+next_of p text at o n old new t e h = let k = subst (λ (q : Option BareToken). IsNextBareToken p text at q n old new) e h in (k.0, through p k.1)
 
 pub last_of : (p : Profile) (text : List ℕ) (at : ℕ) (o : Option BareToken) (n : ℕ) (old new : List ℕ) → o ≡ None → IsNextBareToken p text at o n old new → Between p text at (length text) []
-last_of p text at o n old new e h = go (subst (λ (q : Option BareToken). IsNextBareToken p text at q n old new) e h)
-  where
-    go : IsNextBareToken p text at None n old new → Between p text at (length text) []
-    go k = through p k.0
+last_of p text at o n old new e h = through p (subst (λ (q : Option BareToken). IsNextBareToken p text at q n old new) e h).0

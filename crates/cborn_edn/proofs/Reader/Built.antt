@@ -1,70 +1,52 @@
 -- What is shown while a string is built, and after it.
-use Rattle.cborn_edn.proofs.Common.{◌≡◌, refl, sym, ap, ◌∙◌, subst, ℕ, ◌-◌, List, ◌∷◌, ◌++◌, length, take, drop, Bool, true, false, ◌&&◌, Option, Some, None, append-nil, append_assoc, arith, take-append_seam, drop-append_seam, length-append, take_rest, same_Some, Speller, Mark, MeaningError, StringKind, OfBytes, OfText, Str, is_nil, same_kind, unless, string_errors, chunk_errors, piece_errors, MixedChunks, first_error, Notes, Span, Pieces, piece, also, Strings, strings, StringsBefore, no_string, after_strings, string, chunked, str, str_of, kind_in, faults_of_pieces, faults_of_strings, Here, Writer, Joint, Chunks, Has, Builds, WantsChunk, noted, strings_noted, noted_stack, noted_home, stack_of, bytes_around, bytes_around_home, pieces_bytes, joint, kind_before, kind_or, Shows, piece_of, Holds, states_around, AllHanded, Reads}
-use Rattle.cborn_edn.proofs.Grammar.Machine.{Stack, Home, as_item, as_chunk, has, builds, wants_chunk}
-use Rattle.cborn_edn.proofs.Grammar.Takes.{at_home}
+use Rattle.cborn_edn.proofs.Common.{◌≡◌, refl, sym, ap, ◌∙◌, subst, ℕ, ◌-◌, List, ◌∷◌, ◌++◌, length, take, drop, Bool, true, false, ◌&&◌, Option, Some, None, append-nil, append_assoc, arith, take-append_seam, drop-append_seam, length-append, take_rest, same_Some, Speller, Mark, MeaningError, StringKind, OfBytes, OfText, Str, is_nil, same_kind, unless, string_errors, chunk_errors, piece_errors, MixedChunks, first_error, Notes, Span, Piece, Pieces, Strings, strings, StringsBefore, no_string, after_strings, string, chunked, str, str_of, kind_in, faults_of_pieces, faults_of_strings, Here, Writer, Joint, Chunks, Has, Builds, WantsChunk, noted, strings_noted, noted_stack, noted_home, stack_of, bytes_around, bytes_around_home, bytes_before, piece_bytes, pieces_bytes, joint, kind_before, kind_or, Shows, piece_of, Holds, states_around, AllHanded, Reads, Stack, Home, as_item, as_chunk, has, builds, wants_chunk, with_piece, at_home, State, stack_in, string_in, chunks_in, bytes_open, IsOpenAt, level_of, count_of, brackets_of, arounds_of, phase_of}
 use Rattle.cborn_edn.proofs.Reader.Joints.{known_joint}
-use Rattle.cborn_edn.proofs.Reader.Showing.{fresh, first_joint, bytes_same, piece_bytes_of, piece_faults}
+use Rattle.cborn_edn.proofs.Reader.Showing.{Standing, standing, first_joint, bytes_same, piece_str}
 
-pub starting_shown : (here : Here) (w : Writer) (h : Home) (k : StringKind) (place : ℕ) (m : Mark) (q lone : Bool) (a : Span) (x base : List ℕ) → place ≡ a.start → w.pieces.items ≡ base ++ x → (k ≡ OfText → q ≡ true)
-    → ((y : List ℕ) → length w.pieces.items - w.start ≡ length y → lone ≡ (q && is_nil y)) → Shows here w base (at_home h None)
-    → Shows (record here { phase = Builds }) (record w { string = Some (record { kind = k; place = place; mark = m; mark_place = place; lone = lone; known = true }) }) w.pieces.items (builds h (piece (piece_of k a q x m)))
-starting_shown here w h k place m q lone a x base p e t l shows =
-    let f = fresh here w h base shows in
-    let size : length w.pieces.items - w.start ≡ length x = omega (arith, ap length e, length-append base x, f.home.start, ap length f.pieces) in
-    record {
-      phase = refl;
-      level = f.home.level;
-      count = f.home.count;
-      brackets = f.home.brackets;
-      around = f.home.around;
-      string = ap Some (first_joint k a q lone x m place p t (l x size));
-      chunks = f.home.chunks;
-      simple = tt;
-      error = f.error ∙ ap first_error (sym (append-nil (noted_home h))) ∙ ap (λ y. first_error (noted_home h ++ y)) (sym (piece_faults k a q x m));
-      start = f.home.start ∙ ap length (sym (bytes_same h));
-      pieces = e ∙ (λ i. f.pieces i ++ sym (piece_bytes_of k a q x m) i);
-    }
+-- the bytes with one more piece, which may be the first
+bytes_with : (l : List ℕ) (o : Option Pieces) (p : Piece) → (l ++ bytes_before o) ++ piece_bytes p ≡ l ++ pieces_bytes (with_piece o p)
+bytes_with l None p = ap (λ y. y ++ piece_bytes p) (append-nil l)
+bytes_with l (Some ps) p = append_assoc l (pieces_bytes ps) (piece_bytes p)
 
-piece_known : (k : StringKind) (a : Span) (q : Bool) (x : List ℕ) (m : Mark) → (str_of (piece_of k a q x m)).known ≡ true
-piece_known OfBytes a q x m = refl
-piece_known OfText a q x m = refl
+module _ (here : Here) (w : Writer) (h : Home) (k : StringKind) (place : ℕ) (m : Mark) (q : Bool) (a : Span) (x base : List ℕ) (p : place ≡ a.start) (e : w.pieces.items ≡ base ++ x) where
+  abbrev pub the_piece : Piece
+  the_piece = piece_of k a q x m
 
-piece_mark : (k : StringKind) (a : Span) (q : Bool) (x : List ℕ) (m : Mark) → (str_of (piece_of k a q x m)).mark ≡ m
-piece_mark OfBytes a q x m = refl
-piece_mark OfText a q x m = refl
+  -- with one more piece, which may be the first
+  added : (o : Option Pieces) (j : Joint) (new : Option MeaningError) → Standing here w h o base → j ≡ joint (str (with_piece o the_piece)) → new ≡ first_error (noted_home h ++ faults_of_pieces (with_piece o the_piece)) → Shows (record here { phase = Builds }) (record w { string = Some j; error = new }) w.pieces.items (builds h (with_piece o the_piece))
+  added o j new s is notes = record {
+    phase = refl;
+    level = s.home.level;
+    count = s.home.count;
+    brackets = s.home.brackets;
+    around = s.home.around;
+    string = ap Some is;
+    chunks = s.home.chunks;
+    simple = tt;
+    error = notes;
+    start = s.home.start ∙ ap length (sym (bytes_same h));
+    pieces = e ∙ (λ i. s.pieces i ++ sym (piece_str k a q x m).0 i) ∙ bytes_with (bytes_around_home h) o the_piece;
+  }
 
-piece_mark_place : (k : StringKind) (a : Span) (q : Bool) (x : List ℕ) (m : Mark) → (str_of (piece_of k a q x m)).mark_place ≡ a.start
-piece_mark_place OfBytes a q x m = refl
-piece_mark_place OfText a q x m = refl
+  pub first_added : (o : Option Pieces) (lone : Bool) → w.string ≡ None → (k ≡ OfText → q ≡ true) → ((y : List ℕ) → length w.pieces.items - w.start ≡ length y → lone ≡ (q && is_nil y)) → Shows here w base (at_home h o)
+      → Shows (record here { phase = Builds }) (record w { string = Some (record { kind = k; place = place; mark = m; mark_place = place; lone = lone; known = true }) }) w.pieces.items (builds h (with_piece o the_piece))
+  first_added None lone none t l shows =
+      let s = standing here w h None base shows in
+      let size : length w.pieces.items - w.start ≡ length x = omega (arith, ap length e, length-append base x, s.home.start, ap length (s.pieces ∙ append-nil (bytes_around_home h))) in
+      added None _ w.error s (first_joint k a q lone x m place p t (l x size)) (s.error ∙ ap (λ y. first_error (noted_home h ++ y)) (sym (piece_str k a q x m).1))
+  first_added (Some ps) lone none t l shows = absurd (let bad : None ≡ Some (joint (str ps)) = sym none ∙ (standing here w h (Some ps) base shows).string in cc)
 
-piece_kind : (k : StringKind) (a : Span) (q : Bool) (x : List ℕ) (m : Mark) → k ≡ (str_of (piece_of k a q x m)).kind
-piece_kind OfBytes a q x m = refl
-piece_kind OfText a q x m = refl
-
-piece_place : (k : StringKind) (a : Span) (q : Bool) (x : List ℕ) (m : Mark) → a.start ≡ (str_of (piece_of k a q x m)).place
-piece_place OfBytes a q x m = refl
-piece_place OfText a q x m = refl
-
-pub joined_shown : (here : Here) (w : Writer) (h : Home) (ps : Pieces) (k : StringKind) (place : ℕ) (m : Mark) (q : Bool) (a : Span) (x base : List ℕ) (j : Joint) (new : Option MeaningError) → place ≡ a.start → w.pieces.items ≡ base ++ x → w.string ≡ Some j
-    → ((s t : Str) → j ≡ joint s → k ≡ t.kind → place ≡ t.place → Notes w.error new (piece_errors s t)) → Shows here w base (builds h ps)
-    → Shows here (record w { string = Some (record { kind = j.kind; place = j.place; mark = m; mark_place = place; lone = false; known = j.known }); error = new }) w.pieces.items (builds h (also ps (piece_of k a q x m)))
-joined_shown here w h ps k place m q a x base j new p e w-is noted shows =
-    let t = str_of (piece_of k a q x m) in
-    let is : j ≡ joint (str ps) = same_Some _ _ (sym w-is ∙ shows.string) in
-    let n = noted (str ps) t is (piece_kind k a q x m) (p ∙ piece_place k a q x m) (noted_home h ++ faults_of_pieces ps) shows.error in
-    record {
-      phase = shows.phase;
-      level = shows.level;
-      count = shows.count;
-      brackets = shows.brackets;
-      around = shows.around;
-      string = ap Some (known_joint j (str ps) is t place m (piece_known k a q x m) (piece_mark k a q x m) (piece_mark_place k a q x m ∙ sym p));
-      chunks = shows.chunks;
-      simple = tt;
-      error = n ∙ ap first_error (append_assoc (noted_home h) (faults_of_pieces ps) (piece_errors (str ps) t)) ∙ ap (λ y. first_error (noted_home h ++ (faults_of_pieces ps ++ (y ++ piece_errors (str ps) t)))) (sym (piece_faults k a q x m));
-      start = shows.start;
-      pieces = e ∙ (λ i. shows.pieces i ++ sym (piece_bytes_of k a q x m) i) ∙ append_assoc (bytes_around_home h) (pieces_bytes ps) _;
-    }
+  pub next_added : (o : Option Pieces) (j : Joint) (new : Option MeaningError) → w.string ≡ Some j → ((s t : Str) → j ≡ joint s → k ≡ t.kind → place ≡ t.place → Notes w.error new (piece_errors s t)) → Shows here w base (at_home h o)
+      → Shows (record here { phase = Builds }) (record w { string = Some (record { kind = j.kind; place = j.place; mark = m; mark_place = place; lone = false; known = j.known }); error = new }) w.pieces.items (builds h (with_piece o the_piece))
+  next_added None j new some noted shows = absurd (let bad : None ≡ Some j = sym (standing here w h None base shows).string ∙ some in cc)
+  next_added (Some ps) j new some noted shows =
+      let s = standing here w h (Some ps) base shows in
+      let t = str_of the_piece in
+      let f = piece_str k a q x m in
+      let is : j ≡ joint (str ps) = same_Some _ _ (sym some ∙ s.string) in
+      let n = noted (str ps) t is f.5 (p ∙ f.6) (noted_home h ++ faults_of_pieces ps) s.error in
+      added (Some ps) _ new s (known_joint j (str ps) is t place m f.2 f.3 (f.4 ∙ sym p))
+      (n ∙ ap first_error (append_assoc (noted_home h) (faults_of_pieces ps) (piece_errors (str ps) t)) ∙ ap (λ y. first_error (noted_home h ++ (faults_of_pieces ps ++ (y ++ piece_errors (str ps) t)))) (sym f.1))
 
 -- the kind of the chunks
 kind_first : (b : StringsBefore) (ps : Pieces) → kind_or (kind_before b) (str ps).kind ≡ kind_in (strings b ps)
@@ -105,24 +87,29 @@ module _ {here : Here} {w : Writer} {h : Home} {ps : Pieces} (e : Shows here w w
 pub item_noted : (st : Stack) (ps : Pieces) (j : Joint) (old new : Option MeaningError) → j ≡ joint (str ps) → Notes old new (string_errors j.lone (str ps)) → old ≡ first_error (noted (builds (as_item st) ps)) → new ≡ first_error (noted (has st (string ps)))
 item_noted st ps j old new is notes e = subst (λ (y : Joint). Notes old new (string_errors y.lone (str ps))) is notes (noted_stack st ++ faults_of_pieces ps) e ∙ ap first_error (append_assoc (noted_stack st) (faults_of_pieces ps) (string_errors (str ps).lone (str ps)))
 
-pub item_read : (h : Holds) (here : Here) (w left : Writer) (st : Stack) (ps : Pieces) (spellers : List Speller) (new : Option MeaningError) → left ≡ record w { pieces = left.pieces; spellers = spellers; string = None; error = new } → left.pieces.items ≡ take w.start w.pieces.items
-    → let u = has st (string ps) in new ≡ first_error (noted u) → Shows here w w.pieces.items (builds (as_item st) ps) → AllHanded h spellers (u ∷ states_around st) → Reads h (record here { phase = Has }) left left.pieces.items u
-item_read h here w left st ps spellers new same kept noted e handed = record {
+-- a string ended, and its pieces were dropped
+ended_read : (h : Holds) (here : Here) (w left : Writer) (home : Home) (ps : Pieces) (u : State) (spellers : List Speller) (cs : Option Chunks) (new : Option MeaningError) → left ≡ record w { pieces = left.pieces; spellers = spellers; string = None; chunks = cs; error = new } → left.pieces.items ≡ take w.start w.pieces.items
+    → stack_of home ≡ stack_in u → None ≡ string_in u → cs ≡ chunks_in u → bytes_around (stack_of home) ≡ bytes_open u → IsOpenAt left.simple u → new ≡ first_error (noted u) → Shows here w w.pieces.items (builds home ps) → AllHanded h spellers (u ∷ states_around (stack_in u)) → Reads h (record here { phase = phase_of u }) left left.pieces.items u
+ended_read h here w left home ps u spellers cs new same kept stack no_joint same_chunks same_bytes simple notes e handed = record {
   shows = record {
     phase = refl;
-    level = e.level;
-    count = e.count;
-    brackets = ap (λ (x : Writer). x.brackets) same ∙ e.brackets;
-    around = ap (λ (x : Writer). x.around) same ∙ e.around;
-    string = ap (λ (x : Writer). x.string) same;
-    chunks = ap (λ (x : Writer). x.chunks) same ∙ e.chunks;
-    simple = tt;
-    error = ap (λ (x : Writer). x.error) same ∙ noted;
-    start = ap (λ (x : Writer). x.start) same ∙ e.start;
-    pieces = kept ∙ around_shown e;
+    level = e.level ∙ ap level_of stack;
+    count = e.count ∙ ap count_of stack;
+    brackets = ap (λ (x : Writer). x.brackets) same ∙ e.brackets ∙ ap brackets_of stack;
+    around = ap (λ (x : Writer). x.around) same ∙ e.around ∙ ap arounds_of stack;
+    string = ap (λ (x : Writer). x.string) same ∙ no_joint;
+    chunks = ap (λ (x : Writer). x.chunks) same ∙ same_chunks;
+    simple = simple;
+    error = ap (λ (x : Writer). x.error) same ∙ notes;
+    start = ap (λ (x : Writer). x.start) same ∙ e.start ∙ ap (λ x. length (bytes_around x)) stack;
+    pieces = kept ∙ around_shown e ∙ same_bytes;
   };
-  handed = subst (λ (x : Writer). AllHanded h x.spellers (has st (string ps) ∷ states_around st)) (sym same) handed;
+  handed = subst (λ (x : Writer). AllHanded h x.spellers (u ∷ states_around (stack_in u))) (sym same) handed;
 }
+
+pub item_read : (h : Holds) (here : Here) (w left : Writer) (st : Stack) (ps : Pieces) (spellers : List Speller) (new : Option MeaningError) → left ≡ record w { pieces = left.pieces; spellers = spellers; string = None; error = new } → left.pieces.items ≡ take w.start w.pieces.items
+    → let u = has st (string ps) in new ≡ first_error (noted u) → Shows here w w.pieces.items (builds (as_item st) ps) → AllHanded h spellers (u ∷ states_around st) → Reads h (record here { phase = Has }) left left.pieces.items u
+item_read h here w left st ps spellers new same kept notes e handed = ended_read h here w left (as_item st) ps (has st (string ps)) spellers w.chunks new same kept refl refl e.chunks refl tt notes e handed
 
 -- the chunks before it, and their kind with it
 pub chunks_open : {here : Here} {w : Writer} (st : Stack) (s : Span) (b : StringsBefore) (ps : Pieces) → Shows here w w.pieces.items (builds (as_chunk st s b) ps) → (cs : Chunks) → w.chunks ≡ Some cs → cs ≡ record { place = s.start; kind = kind_before b }
@@ -136,22 +123,8 @@ chunk_noted st s a b ps k old new kind notes e = notes (noted_stack st ++ string
 
 pub chunk_read : (h : Holds) (here : Here) (w left : Writer) (st : Stack) (s a : Span) (b : StringsBefore) (ps : Pieces) (spellers : List Speller) (place : ℕ) (k : StringKind) (new : Option MeaningError) → left ≡ record w { pieces = left.pieces; spellers = spellers; string = None; chunks = Some (record { place = place; kind = Some k }); error = new } → left.pieces.items ≡ take w.start w.pieces.items
     → let u = wants_chunk st s (after_strings (strings b ps) a) in place ≡ s.start → k ≡ kind_in (strings b ps) → new ≡ first_error (noted u) → Shows here w w.pieces.items (builds (as_chunk st s b) ps) → AllHanded h spellers (u ∷ states_around st) → Reads h (record here { phase = WantsChunk }) left left.pieces.items u
-chunk_read h here w left st s a b ps spellers place k new same kept at kind noted e handed = record {
-  shows = record {
-    phase = refl;
-    level = e.level;
-    count = e.count;
-    brackets = ap (λ (x : Writer). x.brackets) same ∙ e.brackets;
-    around = ap (λ (x : Writer). x.around) same ∙ e.around;
-    string = ap (λ (x : Writer). x.string) same;
-    chunks = ap (λ (x : Writer). x.chunks) same ∙ (λ i. Some (record { place = at i; kind = Some (kind i) }));
-    simple = tt;
-    error = ap (λ (x : Writer). x.error) same ∙ noted;
-    start = ap (λ (x : Writer). x.start) same ∙ e.start;
-    pieces = kept ∙ around_shown e;
-  };
-  handed = subst (λ (x : Writer). AllHanded h x.spellers (wants_chunk st s (after_strings (strings b ps) a) ∷ states_around st)) (sym same) handed;
-}
+chunk_read h here w left st s a b ps spellers place k new same kept at kind notes e handed =
+    ended_read h here w left (as_chunk st s b) ps (wants_chunk st s (after_strings (strings b ps) a)) spellers (Some (record { place = place; kind = Some k })) new same kept refl refl (λ i. Some (record { place = at i; kind = Some (kind i) })) refl tt notes e handed
 
 pub chunks_shown : (here : Here) (w : Writer) (st : Stack) (s a e : Span) (ss : Strings) (spellers : List Speller) → Shows here w w.pieces.items (wants_chunk st s (after_strings ss a)) → Shows (record here { phase = Has }) (record w { spellers = spellers; chunks = None }) w.pieces.items (has st (chunked s ss e))
 chunks_shown here w st s a e ss spellers shows = record { phase = refl; level = shows.level; count = shows.count; brackets = shows.brackets; around = shows.around; string = shows.string; chunks = refl; simple = tt; error = shows.error; start = shows.start; pieces = shows.pieces }

@@ -1,7 +1,5 @@
 -- Tokens, white space and comments, from the characters at an offset of a text.
-use Rattle.cborn_edn.proofs.Common.{◌≡◌, refl, sym, ap, ◌∙◌, subst, ℕ, ◌+◌, ◌<◌, List, [], ◌∷◌, ◌++◌, length, take, drop, get_or, true, Some, None, arith, append_assoc, append-nil, drop-append_seam, drop-drop, drop_more, take-append-drop, length-take-le, list_all, and_parts, and_from, Profile, Class, Token, is_white, is_not, is_plain, Covers, TokensBetween, IsTokenAt}
-use Rattle.std.proofs.Common.{length-append, length-drop}
-use Rattle.cborn_lex.specs.declared.classes.Profile.TheVariants.{Two}
+use Rattle.cborn_edn.proofs.Common.{◌≡◌, refl, sym, ap, ◌∙◌, subst, ℕ, ◌+◌, ◌<◌, List, [], ◌∷◌, ◌++◌, length, take, drop, get_or, true, Some, None, arith, append_assoc, append-nil, drop-append_seam, drop-drop, drop_more, take-append-drop, length-take-le, list_all, and_parts, and_from, Profile, Class, Token, is_white, is_not, is_plain, Covers, TokensBetween, IsTokenAt, length-append, length-drop, ProfileTwo as Two}
 use Rattle.cborn_lex.specs.Good as good
 use Rattle.cborn_lex.specs.Good.{Takes}
 use Rattle.cborn_lex.proofs.GoodTexts.{covers, through}

@@ -1,11 +1,9 @@
 -- The end of a text: its bytes, or why it has none.
-use Rattle.cborn_edn.proofs.Common.{◌≡◌, refl, sym, ap, ◌∙◌, subst, ℕ, List, [], ◌∷◌, length, Bool, true, false, Option, Some, None, inr, top, no_part, Tree, trees, FitsAll, Speller, Lex, Profile, MeaningError, UnexpectedEnd, Refused, IsText, Notates, IsNoNotation, Item, Pieces, string, RowBefore, no_item, after_row, no_pair, after_pairs, row, Input, items, node, nodes_before, nodes_of_input, faults_of_input, Here, Writer, is_none, phase_of, stack_in, level_of, chunks_in, Shows, listed_trees, trees-listed, Holds, Handed, AllHanded, Reads, may_end, Last, item, pieces, AtEnd, Reached, IsReading}
+use Rattle.cborn_edn.proofs.Common.{◌≡◌, refl, sym, ap, ◌∙◌, subst, ℕ, List, [], ◌∷◌, length, Bool, true, false, Option, Some, None, inr, top, no_part, Tree, trees, FitsAll, Speller, Lex, Profile, MeaningError, UnexpectedEnd, Refused, IsText, Notates, IsNoNotation, Item, Pieces, string, RowBefore, no_item, after_row, no_pair, after_pairs, row, Input, items, node, nodes_before, nodes_of_input, faults_of_input, Here, Writer, is_none, phase_of, stack_in, level_of, chunks_in, Shows, listed_trees, trees-listed, Holds, Handed, AllHanded, Reads, may_end, Last, item, pieces, AtEnd, Reached, IsReadTo, in_row, in_key, at_top, in_array, in_embed, as_item, as_chunk, State, wants, has, builds, start, finish, at_end, parse}
 use Rattle.cborn_lex.proofs.GoodTexts.{has_tokens}
 use Rattle.cborn_lex.proofs.WholeTexts.Progress.{whole_text}
 use Rattle.cborn_edn.specs.devices.Syntax.{nothing}
-use Rattle.cborn_edn.proofs.Grammar.Machine.{in_row, in_key, at_top, in_array, in_embed, as_item, as_chunk, State, wants, has, builds, start}
-use Rattle.cborn_edn.proofs.Grammar.Takes.{finish}
-use Rattle.cborn_edn.proofs.Grammar.Parser.{at_end, parse, Meets, parses}
+use Rattle.cborn_edn.proofs.Grammar.Parser.{Meets, parses}
 use Rattle.cborn_edn.proofs.Meaning.Earliest.{Tells, tells}
 use Rattle.cborn_edn.proofs.Meaning.NoError.{nil_is}
 use Rattle.cborn_edn.proofs.Short.SyntaxErrors.{refused, text_of}
@@ -91,7 +89,7 @@ module _ (p : Profile) (limit : ℕ) (text : List ℕ) (s : State) (r : Reached 
       let is = subst (IsText p limit r.tokens ts) none (is_text t e) in
       (listed_trees ts, (k.held none).0, subst (Notates p limit text) (sym (trees-listed ts)) (r.tokens, has_tokens p text r.tokens lex, is), (k.held none).1)
 
-module _ {h : Holds} {p : Profile} {limit : ℕ} {text : List ℕ} (here : Here) (w : Writer) (r : IsReading h p limit text here w) where
+module _ {h : Holds} {p : Profile} {limit : ℕ} {text : List ℕ} (here : Here) (w : Writer) (r : IsReadTo h p limit text here w) where
   same_end : may_end (phase_of r.state) (level_of (stack_in r.state)) (chunks_in r.state) ≡ may_end here.phase here.level w.chunks
   same_end = let e = r.shows.shows in sym (λ i. may_end (e.phase i) (e.level i) (e.chunks i))
 

@@ -1,14 +1,12 @@
 -- A text that is read up to some place: on with one more token, or why not.
-use Rattle.cborn_edn.proofs.Common.{◌≡◌, refl, sym, ap, ◌∙◌, subst, ℕ, ◌+◌, ◌<◌, ◌≤◌, List, [], ◌∷◌, ◌++◌, length, Bool, true, false, cond, leb, Option, Some, None, append_assoc, append-nil, ◌⊎◌, inl, inr, arith, max, le-leb, lt-leb, Between, IsStopAt, IsStopFrom, class_of, Kind, Class, Profile, Token, LexFault, AreModest, EdnReason, UnexpectedToken, TooDeep, EdnFault, Refused, Span, span, token, after_row, after_pairs, IsNoNotation, lexical, reach, Phase, WantsMore, phase_of, is_trailing_comma, Reached}
+use Rattle.cborn_edn.proofs.Common.{◌≡◌, refl, sym, ap, ◌∙◌, subst, ℕ, ◌+◌, ◌<◌, ◌≤◌, List, [], ◌∷◌, ◌++◌, length, Bool, true, false, cond, leb, Option, Some, None, append_assoc, append-nil, ◌⊎◌, inl, inr, arith, max, le-leb, lt-leb, Between, IsStopAt, IsStopFrom, class_of, Kind, Class, Profile, Token, LexFault, AreModest, EdnReason, UnexpectedToken, TooDeep, EdnFault, Refused, Span, span, token, after_row, after_pairs, IsNoNotation, lexical, reach, Phase, WantsMore, phase_of, is_trailing_comma, Reached, ProfileOne as One, ProfileTwo as Two, in_row, in_key, at_top, in_array, in_embed, State, wants, start, step, step_by, held, open_levels, comma_at, Answer, forbids, checked, parse}
 use Rattle.cborn_lex.specs.declared.classes.Kind.TheVariants as kinds
-use Rattle.cborn_lex.specs.declared.classes.Profile.TheVariants.{One, Two}
 use Rattle.cborn_lex.specs.declared.faults.LexFault.TheVariants.{Refused as LexRefused, OutOfMemory as LexOutOfMemory}
 use Rattle.cborn_lex.proofs.GoodTexts.{failed}
 use Rattle.cborn_lex.proofs.WholeTexts.Progress.{nothing, joins, whole_text, whole_stop, stops}
-use Rattle.cborn_edn.proofs.Grammar.Machine.{in_row, in_key, at_top, in_array, in_embed, State, wants, start, step, step_by}
-use Rattle.cborn_edn.proofs.Grammar.Held.{held, open_levels, deep, commas_held, comma_at, After, Grows}
+use Rattle.cborn_edn.proofs.Grammar.Held.{deep, commas_held, After, Grows}
 use Rattle.cborn_edn.proofs.Grammar.Grows.{grows}
-use Rattle.cborn_edn.proofs.Grammar.Parser.{Answer, HasSyntaxError, forbids, checked, parse, Meets, parses}
+use Rattle.cborn_edn.proofs.Grammar.Parser.{HasSyntaxError, Meets, parses}
 use Rattle.cborn_edn.proofs.Short.SyntaxErrors.{refused}
 use Rattle.cborn_edn.specs.devices.Reading.{is_closing}
 use Rattle.cborn_edn.proofs.Reader.Modest.{modest_both}

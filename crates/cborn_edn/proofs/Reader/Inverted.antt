@@ -1,11 +1,21 @@
 -- Which state is shown, by the phase and the level.
-use Rattle.cborn_edn.proofs.Common.{◌≡◌, refl, sym, ap, ◌∙◌, subst, ℕ, ◌<◌, List, length, Bool, true, false, Option, Some, None, arith, Mark, ArrayClose, MapClose, EmbedClose, ParenClose, Comma, Colon, Span, Item, Pieces, row, RowBefore, no_item, after_row, Content, loose, tight, pairs, PairsBefore, no_pair, after_pairs, Fields, loose_fields, tight_fields, array, embedded, Phase, Has, Here, Writer, level_of, stack_in, phase_of, brackets_of, Shows, content_state, fields_state, is_array, is_embedded, is_key, is_value, is_tag, is_row, ends_map, MayEnd}
+use Rattle.cborn_edn.proofs.Common.{◌≡◌, refl, sym, ap, ◌∙◌, subst, ℕ, ◌<◌, List, length, Bool, true, false, Option, Some, None, arith, Mark, ArrayClose, MapClose, EmbedClose, ParenClose, Comma, Colon, Span, Item, Pieces, row, RowBefore, no_item, after_row, Content, loose, tight, pairs, PairsBefore, no_pair, after_pairs, Fields, loose_fields, tight_fields, array, embedded, Phase, Has, Here, Writer, level_of, stack_in, phase_of, brackets_of, Shows, content_state, fields_state, is_in, is_row, ends_map, MayEnd, Stack, in_row, in_key, in_value, in_tag, Nest, at_top, in_array, in_embed, Home, State, wants, has, builds, with_piece, step_by}
 use Rattle.cborn_edn.specs.devices.Syntax.{map}
-use Rattle.cborn_edn.proofs.Grammar.Machine.{Stack, in_row, in_key, in_value, in_tag, Nest, at_top, in_array, in_embed, Home, State, wants, has, builds, wants_chunk, wants_number, has_number, with_piece, step_by}
 use Rattle.cborn_edn.specs.declared.states.Level.{Level}
+use Rattle.cborn_edn.specs.declared.states.Level.TheVariants as levels
 
 never : {A : Type 0} → false ≡ true → A
 never e = absurd (let bad : false ≡ true = e in cc)
+
+-- a state that may end
+pub data Ending : State → Type 0 where
+  wanted : (st : Stack) → Ending (wants st)
+  whole : (st : Stack) (i : Item) → Ending (has st i)
+
+pub ending : (s : State) → MayEnd s → Ending s
+ending (wants st) x = wanted st
+ending (has st i) x = whole st i
+ending _ x = absurd x
 
 -- an array that may end
 pub record Array (s : State) : Type 0 where
@@ -15,27 +25,19 @@ pub record Array (s : State) : Type 0 where
   pub c : Content
   pub is : content_state (in_array st at m) c ≡ s
 
-pub array_at : (s : State) → MayEnd s → is_array (level_of (stack_in s)) ≡ true → Array s
-array_at (builds h ps) x e = absurd x
-array_at (wants_chunk st p b) x e = absurd x
-array_at (wants_number st p) x e = absurd x
-array_at (has_number st p b n v m) x e = absurd x
-array_at (wants (in_row (in_array st p m) b)) x e = record { st = st; at = p; m = m; c = loose b; is = refl }
-array_at (has (in_row (in_array st p m) b) i) x e = record { st = st; at = p; m = m; c = tight (row b i); is = refl }
-array_at _ x e = never e
+pub array_at : (s : State) → Ending s → is_in levels.Array (level_of (stack_in s)) ≡ true → Array s
+array_at u (wanted (in_row (in_array st p m) b)) e = record { st = st; at = p; m = m; c = loose b; is = refl }
+array_at u (whole (in_row (in_array st p m) b) i) e = record { st = st; at = p; m = m; c = tight (row b i); is = refl }
+array_at u _ e = never e
 
 pub array_step : (st : Stack) (p a : Span) (m : Mark) (c : Content) → step_by (content_state (in_array st p m) c) ArrayClose a ≡ Some (has st (array p m c a))
 array_step st p a m (loose b) = refl
 array_step st p a m (tight (row b i)) = refl
 
-pub no_array : (s : State) (a : Span) → MayEnd s → is_array (level_of (stack_in s)) ≡ false → step_by s ArrayClose a ≡ None
-no_array (builds h ps) a x e = absurd x
-no_array (wants_chunk st p b) a x e = absurd x
-no_array (wants_number st p) a x e = absurd x
-no_array (has_number st p b n v m) a x e = absurd x
-no_array (wants (in_row (in_array st p m) b)) a x e = never (sym e)
-no_array (has (in_row (in_array st p m) b) i) a x e = never (sym e)
-no_array _ a x e = refl
+pub no_array : (s : State) (a : Span) → Ending s → is_in levels.Array (level_of (stack_in s)) ≡ false → step_by s ArrayClose a ≡ None
+no_array u a (wanted (in_row (in_array st p m) b)) e = never (sym e)
+no_array u a (whole (in_row (in_array st p m) b) i) e = never (sym e)
+no_array u a _ e = refl
 
 -- a map that may end
 pub record Map (s : State) : Type 0 where
@@ -45,37 +47,29 @@ pub record Map (s : State) : Type 0 where
   pub f : Fields
   pub is : fields_state st at m f ≡ s
 
-pub map_at : (s : State) → MayEnd s → ends_map (phase_of s) (level_of (stack_in s)) ≡ true → Map s
-map_at (builds h ps) x e = absurd x
-map_at (wants_chunk st p b) x e = absurd x
-map_at (wants_number st p) x e = absurd x
-map_at (has_number st p b n v m) x e = absurd x
-map_at (wants (in_key st p m b)) x e = record { st = st; at = p; m = m; f = loose_fields b; is = refl }
-map_at (has (in_value st p m b k c) v) x e = record { st = st; at = p; m = m; f = tight_fields (pairs b k c v); is = refl }
-map_at (wants (in_row at_top no_item)) x e = never e
-map_at (wants (in_row at_top (after_row r c))) x e = never e
-map_at (wants (in_row (in_array st s m) no_item)) x e = never e
-map_at (wants (in_row (in_array st s m) (after_row r c))) x e = never e
-map_at (wants (in_row (in_embed h o s) no_item)) x e = never e
-map_at (wants (in_row (in_embed h o s) (after_row r c))) x e = never e
-map_at (has (in_row at_top b) i) x e = never e
-map_at _ x e = never e
+pub map_at : (s : State) → Ending s → ends_map (phase_of s) (level_of (stack_in s)) ≡ true → Map s
+map_at u (wanted (in_key st p m b)) e = record { st = st; at = p; m = m; f = loose_fields b; is = refl }
+map_at u (whole (in_value st p m b k c) v) e = record { st = st; at = p; m = m; f = tight_fields (pairs b k c v); is = refl }
+map_at u (wanted (in_row at_top no_item)) e = never e
+map_at u (wanted (in_row at_top (after_row r c))) e = never e
+map_at u (wanted (in_row (in_array st s m) no_item)) e = never e
+map_at u (wanted (in_row (in_array st s m) (after_row r c))) e = never e
+map_at u (wanted (in_row (in_embed h o s) no_item)) e = never e
+map_at u (wanted (in_row (in_embed h o s) (after_row r c))) e = never e
+map_at u (whole (in_row at_top b) i) e = never e
+map_at u _ e = never e
 
 pub map_step : (st : Stack) (p a : Span) (m : Mark) (f : Fields) → step_by (fields_state st p m f) MapClose a ≡ Some (has st (map p m f a))
 map_step st p a m (loose_fields b) = refl
 map_step st p a m (tight_fields (pairs b k c v)) = refl
 
-pub no_map : (s : State) (a : Span) → MayEnd s → ends_map (phase_of s) (level_of (stack_in s)) ≡ false → step_by s MapClose a ≡ None
-no_map (builds h ps) a x e = absurd x
-no_map (wants_chunk st p b) a x e = absurd x
-no_map (wants_number st p) a x e = absurd x
-no_map (has_number st p b n v m) a x e = absurd x
-no_map (wants (in_key st p m no_pair)) a x e = never (sym e)
-no_map (wants (in_key st p m (after_pairs ps c))) a x e = never (sym e)
-no_map (has (in_value st p m b k c) v) a x e = never (sym e)
-no_map (wants (in_row at_top b)) a x e = refl
-no_map (has (in_row at_top b) i) a x e = refl
-no_map _ a x e = refl
+pub no_map : (s : State) (a : Span) → Ending s → ends_map (phase_of s) (level_of (stack_in s)) ≡ false → step_by s MapClose a ≡ None
+no_map u a (wanted (in_key st p m no_pair)) e = never (sym e)
+no_map u a (wanted (in_key st p m (after_pairs ps c))) e = never (sym e)
+no_map u a (whole (in_value st p m b k c) v) e = never (sym e)
+no_map u a (wanted (in_row at_top b)) e = refl
+no_map u a (whole (in_row at_top b) i) e = refl
+no_map u a _ e = refl
 
 -- a `<<` that may end
 pub record Embed (s : State) : Type 0 where
@@ -85,27 +79,19 @@ pub record Embed (s : State) : Type 0 where
   pub c : Content
   pub is : content_state (in_embed h o at) c ≡ s
 
-pub embed_at : (s : State) → MayEnd s → is_embedded (level_of (stack_in s)) ≡ true → Embed s
-embed_at (builds h ps) x e = absurd x
-embed_at (wants_chunk st p b) x e = absurd x
-embed_at (wants_number st p) x e = absurd x
-embed_at (has_number st p b n v m) x e = absurd x
-embed_at (wants (in_row (in_embed h o p) b)) x e = record { h = h; o = o; at = p; c = loose b; is = refl }
-embed_at (has (in_row (in_embed h o p) b) i) x e = record { h = h; o = o; at = p; c = tight (row b i); is = refl }
-embed_at _ x e = never e
+pub embed_at : (s : State) → Ending s → is_in levels.Embedded (level_of (stack_in s)) ≡ true → Embed s
+embed_at u (wanted (in_row (in_embed h o p) b)) e = record { h = h; o = o; at = p; c = loose b; is = refl }
+embed_at u (whole (in_row (in_embed h o p) b) i) e = record { h = h; o = o; at = p; c = tight (row b i); is = refl }
+embed_at u _ e = never e
 
 pub embed_step : (h : Home) (o : Option Pieces) (p a : Span) (m : Mark) (c : Content) → step_by (content_state (in_embed h o p) c) (EmbedClose m) a ≡ Some (builds h (with_piece o (embedded p c a m)))
 embed_step h o p a m (loose b) = refl
 embed_step h o p a m (tight (row b i)) = refl
 
-pub no_embed : (s : State) (m : Mark) (a : Span) → MayEnd s → is_embedded (level_of (stack_in s)) ≡ false → step_by s (EmbedClose m) a ≡ None
-no_embed (builds h ps) m a x e = absurd x
-no_embed (wants_chunk st p b) m a x e = absurd x
-no_embed (wants_number st p) m a x e = absurd x
-no_embed (has_number st p b n v k) m a x e = absurd x
-no_embed (wants (in_row (in_embed h o p) b)) m a x e = never (sym e)
-no_embed (has (in_row (in_embed h o p) b) i) m a x e = never (sym e)
-no_embed _ m a x e = refl
+pub no_embed : (s : State) (m : Mark) (a : Span) → Ending s → is_in levels.Embedded (level_of (stack_in s)) ≡ false → step_by s (EmbedClose m) a ≡ None
+no_embed u m a (wanted (in_row (in_embed h o p) b)) e = never (sym e)
+no_embed u m a (whole (in_row (in_embed h o p) b) i) e = never (sym e)
+no_embed u m a _ e = refl
 
 -- after an item
 pub record Tagging (st : Stack) : Type 0 where
@@ -115,12 +101,12 @@ pub record Tagging (st : Stack) : Type 0 where
   pub m : Mark
   pub is : in_tag around at n m ≡ st
 
-pub tag_at : (st : Stack) → is_tag (level_of st) ≡ true → Tagging st
+pub tag_at : (st : Stack) → is_in levels.Tag (level_of st) ≡ true → Tagging st
 tag_at (in_tag st p n m) e = record { around = st; at = p; n = n; m = m; is = refl }
 tag_at (in_row at_top b) e = never e
 tag_at _ e = never e
 
-pub no_tag : (st : Stack) (i : Item) (a : Span) → is_tag (level_of st) ≡ false → step_by (has st i) ParenClose a ≡ None
+pub no_tag : (st : Stack) (i : Item) (a : Span) → is_in levels.Tag (level_of st) ≡ false → step_by (has st i) ParenClose a ≡ None
 no_tag (in_tag st p n m) i a e = never (sym e)
 no_tag (in_row at_top b) i a e = refl
 no_tag _ i a e = refl
@@ -132,12 +118,12 @@ pub record Keyed (st : Stack) : Type 0 where
   pub b : PairsBefore
   pub is : in_key around at m b ≡ st
 
-pub key_at : (st : Stack) → is_key (level_of st) ≡ true → Keyed st
+pub key_at : (st : Stack) → is_in levels.Key (level_of st) ≡ true → Keyed st
 key_at (in_key st p m b) e = record { around = st; at = p; m = m; b = b; is = refl }
 key_at (in_row at_top b) e = never e
 key_at _ e = never e
 
-pub no_key : (st : Stack) (i : Item) (a : Span) → is_key (level_of st) ≡ false → step_by (has st i) Colon a ≡ None
+pub no_key : (st : Stack) (i : Item) (a : Span) → is_in levels.Key (level_of st) ≡ false → step_by (has st i) Colon a ≡ None
 no_key (in_key st p m b) i a e = never (sym e)
 no_key (in_row at_top b) i a e = refl
 no_key _ i a e = refl
@@ -151,7 +137,7 @@ pub record Valued (st : Stack) : Type 0 where
   pub colon : Span
   pub is : in_value around at m b k colon ≡ st
 
-pub value_at : (st : Stack) → is_value (level_of st) ≡ true → Valued st
+pub value_at : (st : Stack) → is_in levels.Value (level_of st) ≡ true → Valued st
 value_at (in_value st p m b k c) e = record { around = st; at = p; m = m; b = b; k = k; colon = c; is = refl }
 value_at (in_row at_top b) e = never e
 value_at _ e = never e
@@ -165,7 +151,7 @@ pub row_at : (st : Stack) → is_row (level_of st) ≡ true → Rowed st
 row_at (in_row n b) e = record { n = n; b = b; is = refl }
 row_at _ e = never e
 
-pub no_comma : (st : Stack) (i : Item) (a : Span) → is_value (level_of st) ≡ false → is_row (level_of st) ≡ false → step_by (has st i) Comma a ≡ None
+pub no_comma : (st : Stack) (i : Item) (a : Span) → is_in levels.Value (level_of st) ≡ false → is_row (level_of st) ≡ false → step_by (has st i) Comma a ≡ None
 no_comma (in_row at_top b) i a e f = never (sym f)
 no_comma (in_row (in_array st s m) b) i a e f = never (sym f)
 no_comma (in_row (in_embed h o s) b) i a e f = never (sym f)

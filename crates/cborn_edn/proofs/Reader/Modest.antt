@@ -1,22 +1,10 @@
 -- Tokens as a text has them, and heads that are bytes.
-use Rattle.cborn_edn.proofs.Common.{◌≡◌, refl, sym, subst, ℕ, ◌+◌, ◌*◌, ◌^◌, ◌<◌, ◌≤◌, List, [], ◌∷◌, ◌++◌, Bool, true, false, ltb, arith, ltb-true, ltb-false, le-ltb, AreBytes, Eight, Major, Unsigned, code, holds, least, Given, head, Mark, Absent, Endless, Wide, Token, Class, Number, Word, Text, Bytes, IsModest, AreModest, IndicatorTooNarrow, width, width_errors}
+use Rattle.cborn_edn.proofs.Common.{◌≡◌, refl, sym, subst, ℕ, ◌+◌, ◌*◌, ◌^◌, ◌<◌, ◌≤◌, List, [], ◌∷◌, ◌++◌, Bool, true, false, ltb, arith, ltb-true, ltb-false, le-ltb, AreBytes, Eight, Major, Unsigned, code, holds, least, Given, head, Mark, Absent, Endless, Wide, Token, AreModest, IndicatorTooNarrow, width, width_errors}
 use Rattle.cborn_model.proofs.Numbers.OneHead.{least_holds}
 use Rattle.cborn_wire.proofs.Spelled.AllBytes.{head_bytes}
-use Rattle.cborn_lex.proofs.WholeTexts.Weights.{IsModest as IsModestThere, AreModest as AreModestThere}
 use Rattle.cborn_edn.proofs.Meaning.NoError.{held, holds_is}
 
 -- what is known of the tokens between two places of a text
-pub modest_here : (c : Class) → IsModestThere c → IsModest c
-modest_here (Number n v m) h = h
-modest_here (Word n) h = h
-modest_here (Text x m) h = h
-modest_here (Bytes q x m) h = h
-modest_here _ h = tt
-
-pub all_modest : (x : List Token) → AreModestThere x → AreModest x
-all_modest [] h = tt
-all_modest (t ∷ x) h = (modest_here t.class h.0, all_modest x h.1)
-
 pub modest_left : (x y : List Token) → AreModest (x ++ y) → AreModest x
 modest_left [] y h = tt
 modest_left (t ∷ x) y h = (h.0, modest_left x y h.1)

@@ -1,7 +1,5 @@
 -- What is shown before the bracket that ends a row or a map.
-use Rattle.cborn_edn.proofs.Common.{◌≡◌, refl, ap, ◌∙◌, ℕ, suc, ◌+◌, ◌<◌, ◌^◌, List, ◌∷◌, ◌++◌, length, Some, None, append_assoc, arith, Tree, Trees, more, Entries, no_entry, entry, count, count_entries, Mark, first_error, snoc, snoc_entry, node, nodes_before, nodes_in, entries_before, entries_in, faults, faults_before, faults_in, faults_before_pairs, faults_of_fields, Span, Item, row, RowBefore, no_item, after_row, Content, loose, tight, pairs, PairsBefore, no_pair, after_pairs, Fields, loose_fields, tight_fields, MeaningError, Around, Here, OpenBracket, Writer, Phase, Has, WantsMore, noted_stack, noted_nest, level_of, bracket, brackets_of, brackets_nest, arounds_of, arounds_nest, bytes_around, bytes_around_nest, Shows, content_state, fields_state, entries_at}
-use Rattle.cborn_model.specs.Tree.{no_item as no_node}
-use Rattle.cborn_edn.proofs.Grammar.Machine.{Stack, in_row, in_key, in_value, Nest, at_top, in_array, in_embed, has, wants}
+use Rattle.cborn_edn.proofs.Common.{◌≡◌, refl, ap, ◌∙◌, ℕ, suc, ◌+◌, ◌<◌, ◌^◌, List, ◌∷◌, ◌++◌, length, Some, None, append_assoc, arith, Tree, Trees, more, Entries, no_entry, entry, count, count_entries, Mark, first_error, snoc, snoc_entry, node, nodes_before, nodes_in, entries_before, entries_in, faults, faults_before, faults_in, faults_before_pairs, faults_of_fields, Span, Item, row, RowBefore, no_item, after_row, Content, loose, tight, pairs, PairsBefore, no_pair, after_pairs, Fields, loose_fields, tight_fields, MeaningError, Around, Here, OpenBracket, Writer, Phase, Has, WantsMore, noted_stack, noted_nest, level_of, bracket, brackets_of, brackets_nest, arounds_of, arounds_nest, bytes_around, bytes_around_nest, Shows, content_state, fields_state, entries_at, no_node, Stack, in_row, in_key, in_value, Nest, at_top, in_array, in_embed, has, wants, State, stack_in, string_in, chunks_in, bytes_open, phase_of, count_of, wanting, noted}
 use Rattle.cborn_edn.specs.declared.states.Level.TheVariants.{Key}
 
 pub count-snoc : (ts : Trees) (t : Tree) → count (snoc ts t) ≡ suc (count ts)
@@ -32,6 +30,19 @@ pub record AtEnd (here : Here) (writer : Writer) (written : List ℕ) (k : ℕ) 
   pub start : writer.start ≡ length x
   pub pieces : written ≡ x
 
+at_end : {here : Here} {writer : Writer} {written : List ℕ} {k : ℕ} {es : List MeaningError} (s : State) → Shows here writer written s → string_in s ≡ None → chunks_in s ≡ None → entries_at (phase_of s) (count_of (stack_in s)) ≡ k → noted s ≡ es → bytes_open s ≡ bytes_around (stack_in s)
+    → AtEnd here writer written k (brackets_of (stack_in s)) (arounds_of (stack_in s)) es (bytes_around (stack_in s))
+at_end s e no_joint no_chunks size same bytes = record {
+  count = (λ i. entries_at (e.phase i) (e.count i)) ∙ size;
+  brackets = e.brackets;
+  around = e.around;
+  string = e.string ∙ no_joint;
+  chunks = e.chunks ∙ no_chunks;
+  error = e.error ∙ ap first_error same;
+  start = e.start;
+  pieces = e.pieces ∙ bytes;
+}
+
 abbrev pub InContent : Here → Writer → List ℕ → Nest → Content → Type 0
 InContent here writer written n c = AtEnd here writer written (count (nodes_in c)) (brackets_nest n) (arounds_nest n) (noted_nest n ++ faults_in c) (bytes_around_nest n)
 
@@ -39,59 +50,36 @@ abbrev pub InFields : Here → Writer → List ℕ → Stack → Span → Mark �
 InFields here writer written st s m f = AtEnd here writer written (count_entries (entries_in f)) (bracket st s.start m ∷ brackets_of st) (arounds_of st) (noted_stack st ++ faults_of_fields f) (bytes_around st)
 
 pub in_content : (here : Here) (writer : Writer) (written : List ℕ) (n : Nest) (c : Content) → Shows here writer written (content_state n c) → InContent here writer written n c
-in_content here writer written n (loose no_item) e = record { count = ap (λ x. entries_at x here.count) e.phase ∙ e.count; brackets = e.brackets; around = e.around; string = e.string; chunks = e.chunks; error = e.error; start = e.start; pieces = e.pieces }
-in_content here writer written n (loose (after_row r a)) e = record { count = ap (λ x. entries_at x here.count) e.phase ∙ e.count; brackets = e.brackets; around = e.around; string = e.string; chunks = e.chunks; error = e.error; start = e.start; pieces = e.pieces }
-in_content here writer written n (tight (row b i)) e = record {
-  count = ap (λ x. entries_at x here.count) e.phase ∙ omega (arith, e.count, count-snoc (nodes_before b) (node i));
-  brackets = e.brackets;
-  around = e.around;
-  string = e.string;
-  chunks = e.chunks;
-  error = e.error ∙ ap first_error (append_assoc (noted_nest n) (faults_before b) (faults i));
-  start = e.start;
-  pieces = e.pieces;
-}
+in_content here writer written n (loose no_item) e = at_end (wants (in_row n no_item)) e refl refl refl refl refl
+in_content here writer written n (loose (after_row r a)) e = at_end (wants (in_row n (after_row r a))) e refl refl refl refl refl
+in_content here writer written n (tight (row b i)) e = at_end (has (in_row n b) i) e refl refl (omega (arith, count-snoc (nodes_before b) (node i))) (append_assoc (noted_nest n) (faults_before b) (faults i)) refl
 
 pub in_fields : (here : Here) (writer : Writer) (written : List ℕ) (st : Stack) (s : Span) (m : Mark) (f : Fields) → Shows here writer written (fields_state st s m f) → InFields here writer written st s m f
-in_fields here writer written st s m (loose_fields no_pair) e = record { count = ap (λ x. entries_at x here.count) e.phase ∙ e.count; brackets = e.brackets; around = e.around; string = e.string; chunks = e.chunks; error = e.error; start = e.start; pieces = e.pieces }
-in_fields here writer written st s m (loose_fields (after_pairs ps a)) e = record { count = ap (λ x. entries_at x here.count) e.phase ∙ e.count; brackets = e.brackets; around = e.around; string = e.string; chunks = e.chunks; error = e.error; start = e.start; pieces = e.pieces }
-in_fields here writer written st s m (tight_fields (pairs b k c v)) e = record {
-  count = ap (λ x. entries_at x here.count) e.phase ∙ omega (arith, e.count, count-snoc_entry (entries_before b) (node k) (node v));
-  brackets = e.brackets;
-  around = e.around;
+in_fields here writer written st s m (loose_fields no_pair) e = at_end (wants (in_key st s m no_pair)) e refl refl refl refl refl
+in_fields here writer written st s m (loose_fields (after_pairs ps a)) e = at_end (wants (in_key st s m (after_pairs ps a))) e refl refl refl refl refl
+in_fields here writer written st s m (tight_fields (pairs b k c v)) e =
+    at_end (has (in_value st s m b k c) v) e refl refl (omega (arith, count-snoc_entry (entries_before b) (node k) (node v))) (append_assoc (noted_stack st ++ faults_before_pairs b) (faults k) (faults v) ∙ append_assoc (noted_stack st) (faults_before_pairs b) (faults k ++ faults v)) refl
+
+-- a comma was taken
+kept_comma : {here next : Here} {w : Writer} {written : List ℕ} (st to : Stack) (i : Item) → next.phase ≡ wanting to → next.level ≡ level_of to → next.count ≡ count_of to → brackets_of st ≡ brackets_of to → arounds_of st ≡ arounds_of to → bytes_around st ≡ bytes_around to → noted (has st i) ≡ noted (wants to) → Shows here w written (has st i) → Shows next w written (wants to)
+kept_comma st to i phase level size brackets around bytes same e = record {
+  phase = phase;
+  level = level;
+  count = size;
+  brackets = e.brackets ∙ brackets;
+  around = e.around ∙ around;
   string = e.string;
   chunks = e.chunks;
-  error = e.error ∙ ap first_error (append_assoc (noted_stack st ++ faults_before_pairs b) (faults k) (faults v) ∙ append_assoc (noted_stack st) (faults_before_pairs b) (faults k ++ faults v));
-  start = e.start;
-  pieces = e.pieces;
+  simple = tt;
+  error = e.error ∙ ap first_error same;
+  start = e.start ∙ ap length bytes;
+  pieces = e.pieces ∙ bytes;
 }
 
 pub comma_shown : (here next : Here) (w : Writer) (written : List ℕ) (n : Nest) (b : RowBefore) (i : Item) (a : Span) → next.phase ≡ WantsMore → next.level ≡ here.level → next.count ≡ here.count + 1 → Shows here w written (has (in_row n b) i) → Shows next w written (wants (in_row n (after_row (row b i) a)))
-comma_shown here next w written n b i a s l k e = record {
-  phase = s;
-  level = l ∙ e.level ∙ row_level n b (after_row (row b i) a);
-  count = omega (arith, k, e.count, count-snoc (nodes_before b) (node i));
-  brackets = e.brackets;
-  around = e.around;
-  string = e.string;
-  chunks = e.chunks;
-  simple = tt;
-  error = e.error ∙ ap first_error (append_assoc (noted_nest n) (faults_before b) (faults i));
-  start = e.start;
-  pieces = e.pieces;
-}
+comma_shown here next w written n b i a s l k e =
+    kept_comma (in_row n b) (in_row n (after_row (row b i) a)) i s (l ∙ e.level ∙ row_level n b (after_row (row b i) a)) (omega (arith, k, e.count, count-snoc (nodes_before b) (node i))) refl refl refl (append_assoc (noted_nest n) (faults_before b) (faults i)) e
 
 pub pair_comma_shown : (here next : Here) (w : Writer) (written : List ℕ) (st : Stack) (s c a : Span) (m : Mark) (b : PairsBefore) (k v : Item) → next.phase ≡ WantsMore → next.level ≡ Some Key → next.count ≡ here.count + 1 → Shows here w written (has (in_value st s m b k c) v) → Shows next w written (wants (in_key st s m (after_pairs (pairs b k c v) a)))
-pair_comma_shown here next w written st s c a m b k v p l q e = record {
-  phase = p;
-  level = l;
-  count = omega (arith, q, e.count, count-snoc_entry (entries_before b) (node k) (node v));
-  brackets = e.brackets;
-  around = e.around;
-  string = e.string;
-  chunks = e.chunks;
-  simple = tt;
-  error = e.error ∙ ap first_error (append_assoc (noted_stack st ++ faults_before_pairs b) (faults k) (faults v) ∙ append_assoc (noted_stack st) (faults_before_pairs b) (faults k ++ faults v));
-  start = e.start;
-  pieces = e.pieces;
-}
+pair_comma_shown here next w written st s c a m b k v p l q e =
+    kept_comma (in_value st s m b k c) (in_key st s m (after_pairs (pairs b k c v) a)) v p l (omega (arith, q, e.count, count-snoc_entry (entries_before b) (node k) (node v))) refl refl refl (append_assoc (noted_stack st ++ faults_before_pairs b) (faults k) (faults v) ∙ append_assoc (noted_stack st) (faults_before_pairs b) (faults k ++ faults v)) e

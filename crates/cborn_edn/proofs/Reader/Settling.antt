@@ -1,12 +1,8 @@
 -- A string that no other piece follows is an item.
-use Rattle.cborn_edn.proofs.Common.{◌≡◌, refl, sym, ap, ◌∙◌, ℕ, List, [], ◌∷◌, ◌++◌, length, true, cond, leb, Option, Some, None, is_utf8-from_IsUtf8, IsUtf8, least, Absent, Profile, Token, MeaningError, unless, TextNotUtf8, first_error, reach, Span, span, Item, Pieces, piece, text, string, node, faults, NoPieceAt, noted_stack, Reached}
-use Rattle.cborn_model.specs.Tree.{Text as TextNode}
-use Rattle.cborn_edn.proofs.Grammar.Machine.{Stack, in_row, at_top, as_item, State, has, builds, step}
-use Rattle.cborn_edn.proofs.Grammar.Held.{levels, comma_at}
-use Rattle.cborn_edn.proofs.Grammar.Takes.{finish}
-use Rattle.cborn_edn.proofs.Grammar.Parser.{at_end, checked, forbids, parse}
+use Rattle.cborn_edn.proofs.Common.{◌≡◌, refl, sym, ap, ◌∙◌, ℕ, List, [], ◌∷◌, ◌++◌, length, cond, leb, Option, Some, None, is_utf8-from_IsUtf8, IsUtf8, least, Absent, Profile, Token, MeaningError, unless, TextNotUtf8, first_error, reach, Span, span, Item, Pieces, piece, text, string, node, faults, NoPieceAt, noted_stack, Reached, TextNode, Stack, in_row, at_top, as_item, State, has, builds, step, levels, comma_at, finish, at_end, checked, forbids, parse, EndsPieces}
 use Rattle.cborn_edn.proofs.Reader.Going.{after_token}
-use Rattle.cborn_edn.proofs.Reader.NextPieces.{is_single, string_ends, next_single}
+use Rattle.cborn_edn.proofs.Reader.NextPieces.{next_ends}
+use Rattle.cborn_edn.proofs.Reader.Turning.{ended_same}
 use Rattle.cborn_edn.proofs.Reader.Showing.{same_errors}
 
 checked_same : (p : Profile) (limit : ℕ) (s v : State) (t : Token) (o : Option State) → comma_at s t.class ≡ comma_at v t.class → checked p limit s t o ≡ checked p limit v t o
@@ -17,11 +13,11 @@ finish_same : (st : Stack) (ps : Pieces) → finish (builds (as_item st) ps) ≡
 finish_same (in_row at_top b) ps = refl
 finish_same _ ps = refl
 
-parse_same : (p : Profile) (limit : ℕ) (st : Stack) (ps : Pieces) (t : Token) → is_single t.class ≡ true → (more : List Token) (end : ℕ) → parse p limit end (t ∷ more) (builds (as_item st) ps) ≡ parse p limit end (t ∷ more) (has st (string ps))
+parse_same : (p : Profile) (limit : ℕ) (st : Stack) (ps : Pieces) (t : Token) → EndsPieces t.class → (more : List Token) (end : ℕ) → parse p limit end (t ∷ more) (builds (as_item st) ps) ≡ parse p limit end (t ∷ more) (has st (string ps))
 parse_same p limit st ps t e more end =
     let from = builds (as_item st) ps in
     let to = has st (string ps) in
-    ap (λ c. after_token p limit end t more c (leb (reach (levels st) t.class) limit)) (checked_same p limit from to t (step from t) refl ∙ ap (checked p limit to t) (string_ends st ps t.class (span t) e))
+    ap (λ c. after_token p limit end t more c (leb (reach (levels st) t.class) limit)) (checked_same p limit from to t (step from t) refl ∙ ap (checked p limit to t) (ended_same st ps t.class (span t) e))
 
 -- LAW: what the tokens lead to, once the string is whole
 pub settled : (p : Profile) (limit : ℕ) (source : List ℕ) (at : ℕ) (st : Stack) (ps : Pieces) → NoPieceAt source at → Reached p limit source at (builds (as_item st) ps) → Reached p limit source at (has st (string ps))
@@ -30,7 +26,7 @@ settled p limit source at st ps none r = record {
   between = r.between;
   modest = r.modest;
   held = r.held;
-  runs = λ t stop b more end. r.runs t stop b more end ∙ parse_same p limit st ps t (next_single p source at stop t none b) more end;
+  runs = λ t stop b more end. r.runs t stop b more end ∙ parse_same p limit st ps t (next_ends p source at stop t none b) more end;
   stops = λ end. r.stops end ∙ ap (at_end end) (finish_same st ps);
 }
 

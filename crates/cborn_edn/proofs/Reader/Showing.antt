@@ -1,7 +1,5 @@
 -- What is shown, moved from one state of the machine to the next.
-use Rattle.cborn_edn.proofs.Common.{◌≡◌, refl, sym, ap, ◌∙◌, subst, ℕ, List, [], ◌∷◌, ◌++◌, length, Bool, true, false, ◌&&◌, Option, Some, None, append-nil, if◌then◌else◌, spelled_all, Mark, MeaningError, StringKind, OfBytes, OfText, is_nil, first_error, Span, Piece, text, bytes, embedded, Pieces, piece, also, str_of, str, nodes_in, faults_of_piece, Here, Writer, Joint, Speller, Holds, AllHanded, Reads, noted_stack, noted_home, pieces_noted, stack_of, level_of, count_of, brackets_of, brackets_home, arounds_of, arounds_home, bytes_around, bytes_around_home, piece_bytes, pieces_bytes, bytes_before, string_at, joint, Shows, piece_of}
-use Rattle.cborn_edn.proofs.Grammar.Machine.{Home, as_item, as_chunk, State}
-use Rattle.cborn_edn.proofs.Grammar.Takes.{at_home}
+use Rattle.cborn_edn.proofs.Common.{◌≡◌, refl, sym, ap, ◌∙◌, subst, ℕ, List, [], ◌∷◌, ◌++◌, length, Bool, true, false, ◌&&◌, Option, Some, None, append-nil, if◌then◌else◌, spelled_all, Mark, MeaningError, StringKind, OfBytes, OfText, is_nil, first_error, Span, Piece, text, bytes, embedded, Pieces, piece, also, str_of, str, nodes_in, faults_of_piece, Here, Writer, Joint, Speller, Holds, AllHanded, Reads, noted_stack, noted_home, pieces_noted, stack_of, level_of, count_of, brackets_of, brackets_home, arounds_of, arounds_home, bytes_around, bytes_around_home, piece_bytes, pieces_bytes, bytes_before, string_at, joint, Shows, piece_of, Home, as_item, as_chunk, State, at_home}
 use Rattle.cborn_edn.specs.devices.Kept.{chunks_of}
 
 pub moved : (next n : Here) (left l : Writer) (u : State) → next ≡ n → left ≡ l → Shows n l l.pieces.items u → Shows next left left.pieces.items u
@@ -53,24 +51,10 @@ standing here writer (as_chunk st s b) None written e = record { home = record {
 standing here writer (as_item st) (Some ps) written e = record { home = record { level = e.level; count = e.count; brackets = e.brackets; around = e.around; chunks = e.chunks; start = e.start }; string = e.string; error = e.error; pieces = e.pieces }
 standing here writer (as_chunk st s b) (Some ps) written e = record { home = record { level = e.level; count = e.count; brackets = e.brackets; around = e.around; chunks = e.chunks; start = e.start }; string = e.string; error = e.error; pieces = e.pieces }
 
--- before the first piece of a string
-pub record Fresh (here : Here) (writer : Writer) (h : Home) (written : List ℕ) : Type 0 where
-  pub home : AtHome here writer h
-  pub string : writer.string ≡ None
-  pub error : writer.error ≡ first_error (noted_home h)
-  pub pieces : written ≡ bytes_around_home h
-
-pub fresh : (here : Here) (writer : Writer) (h : Home) (out : List ℕ) → Shows here writer out (at_home h None) → Fresh here writer h out
-fresh here writer (as_item st) out e = record { home = record { level = e.level; count = e.count; brackets = e.brackets; around = e.around; chunks = e.chunks; start = e.start }; string = e.string; error = e.error; pieces = e.pieces }
-fresh here writer (as_chunk st s b) out e = record { home = record { level = e.level; count = e.count; brackets = e.brackets; around = e.around; chunks = e.chunks; start = e.start }; string = e.string; error = e.error; pieces = e.pieces }
-
-pub piece_bytes_of : (k : StringKind) (a : Span) (q : Bool) (x : List ℕ) (m : Mark) → piece_bytes (piece_of k a q x m) ≡ x
-piece_bytes_of OfBytes a q x m = refl
-piece_bytes_of OfText a q x m = refl
-
-pub piece_faults : (k : StringKind) (a : Span) (q : Bool) (x : List ℕ) (m : Mark) → faults_of_piece (piece_of k a q x m) ≡ []
-piece_faults OfBytes a q x m = refl
-piece_faults OfText a q x m = refl
+-- what the string of one piece is
+pub piece_str : (k : StringKind) (a : Span) (q : Bool) (x : List ℕ) (m : Mark) → let p = piece_of k a q x m in let t = str_of p in (piece_bytes p ≡ x) × (faults_of_piece p ≡ []) × (t.known ≡ true) × (t.mark ≡ m) × (t.mark_place ≡ a.start) × (k ≡ t.kind) × (a.start ≡ t.place)
+piece_str OfBytes a q x m = (refl, refl, refl, refl, refl, refl, refl)
+piece_str OfText a q x m = (refl, refl, refl, refl, refl, refl, refl)
 
 -- the first piece, where it is lone if it is an empty quote
 pub first_joint : (k : StringKind) (a : Span) (q lone : Bool) (x : List ℕ) (m : Mark) (place : ℕ) → place ≡ a.start → (k ≡ OfText → q ≡ true) → lone ≡ (q && is_nil x)

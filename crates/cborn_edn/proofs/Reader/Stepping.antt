@@ -1,11 +1,8 @@
 -- One token that is read: the reader goes on, or refuses the text.
-use Rattle.cborn_edn.proofs.Common.{◌≡◌, refl, sym, ap, ◌∙◌, subst, ℕ, ◌^◌, ◌<◌, ◌≤◌, List, [], ◌∷◌, ◌++◌, length, Bool, true, false, Option, Some, None, arith, ◌⊎◌, inl, inr, AreBytes, Between, IsStopFrom, class_of, content_of, IsNextBareToken, BareToken, Class, Profile, Token, LexFault, AreModest, EdnReason, UnexpectedToken, TooDeep, EdnFault, Refused, IsNoNotation, lexical, reach, Here, Writer, phase_of, Shows, Holds, Reads, Ready, Taken, Takes, is_trailing_comma, IsReading, Judged}
+use Rattle.cborn_edn.proofs.Common.{◌≡◌, refl, sym, ap, ◌∙◌, subst, ℕ, ◌^◌, ◌<◌, ◌≤◌, List, [], ◌∷◌, ◌++◌, length, Bool, false, Option, Some, None, arith, ◌⊎◌, inl, inr, AreBytes, Between, IsStopFrom, class_of, content_of, IsNextBareToken, BareToken, Class, Profile, Token, LexFault, AreModest, EdnReason, UnexpectedToken, TooDeep, EdnFault, Refused, IsNoNotation, lexical, reach, Here, Writer, phase_of, Shows, Holds, Reads, Ready, Taken, Takes, is_trailing_comma, IsReadTo, Judged, State, open_levels}
 use Rattle.cborn_lex.proofs.GoodTexts.{through}
 use Rattle.cborn_lex.proofs.WholeTexts.Progress.{inside, few}
 use Rattle.cborn_lex.proofs.WholeTexts.Weights.{between_modest}
-use Rattle.cborn_edn.proofs.Reader.Modest.{modest_here}
-use Rattle.cborn_edn.proofs.Grammar.Machine.{State}
-use Rattle.cborn_edn.proofs.Grammar.Held.{open_levels}
 use Rattle.cborn_edn.proofs.Reader.Going.{goes_on, ends, unexpected, too_deep, never_taken, not_trailing, trailing}
 use Rattle.cborn_edn.proofs.Reader.Counts.{shown_few, brackets_levels}
 
@@ -31,26 +28,26 @@ module _ (p : Profile) (text : List ℕ) (are : AreBytes text) (here : Here) (w 
     pub written : v.pieces.items ≡ w.pieces.items ++ content_of (class_of t.kind n content)
 
   pub token_read : (o : Option BareToken) (n : ℕ) (v : Writer) (t : BareToken) → IsNextBareToken p text here.at o n w.pieces.items v.pieces.items → o ≡ Some t → ReadToken n v t
-  token_read o n v t read is = go (subst (λ (q : Option BareToken). IsNextBareToken p text here.at q n w.pieces.items v.pieces.items) is read)
-    where
-      go : IsNextBareToken p text here.at (Some t) n w.pieces.items v.pieces.items → ReadToken n v t
-      go (c, between, s) =
-          let here-is : Between p text here.at t.stop (record { start = t.start; stop = t.stop; class = class_of t.kind n s.content } ∷ []) = subst (λ (k : Class). Between p text here.at t.stop (record { start = t.start; stop = t.stop; class = k } ∷ [])) s.class (through p between) in
-          let there = between_modest p text here.at t.stop (record { start = t.start; stop = t.stop; class = class_of t.kind n s.content } ∷ []) are here-is in
-          record {
-            content = s.content;
-            between = here-is;
-            modest = (modest_here (class_of t.kind n s.content) there.0, tt);
-            written = s.written ∙ ap (λ (k : Class). w.pieces.items ++ content_of k) s.class;
-          }
+  token_read o n v t read is =
+      let f = subst (λ (q : Option BareToken). IsNextBareToken p text here.at q n w.pieces.items v.pieces.items) is read in
+      let s = f.2 in
+      let here-is : Between p text here.at t.stop (record { start = t.start; stop = t.stop; class = class_of t.kind n s.content } ∷ []) = subst (λ (k : Class). Between p text here.at t.stop (record { start = t.start; stop = t.stop; class = k } ∷ [])) s.class (through p f.1) in
+      let there = between_modest p text here.at t.stop (record { start = t.start; stop = t.stop; class = class_of t.kind n s.content } ∷ []) are here-is in
+      record {
+        content = s.content;
+        between = here-is;
+        modest = (there.0, tt);
+        written = s.written ∙ ap (λ (k : Class). w.pieces.items ++ content_of k) s.class;
+      }
 
-module _ {h : Holds} (p : Profile) (limit : ℕ) (text : List ℕ) (are : AreBytes text) (here : Here) (w : Writer) (r : IsReading h p limit text here w) where
+module _ {h : Holds} (p : Profile) (limit : ℕ) (text : List ℕ) (are : AreBytes text) (here : Here) (w : Writer) (r : IsReadTo h p limit text here w) where
   -- with nothing left of the text
-  pub last_read : (o : Option BareToken) (n : ℕ) (v : Writer) → IsNextBareToken p text here.at o n w.pieces.items v.pieces.items → o ≡ None → IsReading h p limit text (record here { at = length text }) (record w { pieces = v.pieces })
-  last_read o n v read is = go (subst (λ (q : Option BareToken). IsNextBareToken p text here.at q n w.pieces.items v.pieces.items) is read)
-    where
-      go : IsNextBareToken p text here.at None n w.pieces.items v.pieces.items → IsReading h p limit text (record here { at = length text }) (record w { pieces = v.pieces })
-      go f = record {
+  pub last_read : (o : Option BareToken) (n : ℕ) (v : Writer) → IsNextBareToken p text here.at o n w.pieces.items v.pieces.items → o ≡ None → IsReadTo h p limit text (record here { at = length text }) (record w { pieces = v.pieces })
+  last_read o n v read is =
+      let f = subst (λ (q : Option BareToken). IsNextBareToken p text here.at q n w.pieces.items v.pieces.items) is read in
+      record {
+        utf8 = r.utf8;
+        small = r.small;
         inside = omega arith;
         state = r.state;
         reached = ends p limit text here.at r.state r.reached (through p f.0);
@@ -87,15 +84,16 @@ module _ {h : Holds} (p : Profile) (limit : ℕ) (text : List ℕ) (are : AreByt
       free e = ap (λ st. is_trailing_comma p st t.kind) (sym r.shows.shows.phase) ∙ sym b ∙ e
 
       -- the reader goes on
-      pub went_on : Judged bad ok deep limit None → IsReading k p limit text (record next { at = t.stop }) left
-      went_on (f, g, low) = go (subst (λ (q : Bool). Taken k q r.state (class_of t.kind n i.content) (record { start = t.start; stop = t.stop }) next left) g took)
-        where
-          go : Taken k true r.state (class_of t.kind n i.content) (record { start = t.start; stop = t.stop }) next left → IsReading k p limit text (record next { at = t.stop }) left
-          go (u, is, e) = record {
+      pub went_on : Judged bad ok deep limit None → IsReadTo k p limit text (record next { at = t.stop }) left
+      went_on (f, g, low) =
+          let q = subst (λ (q : Bool). Taken k q r.state (class_of t.kind n i.content) (record { start = t.start; stop = t.stop }) next left) g took in
+          record {
+            utf8 = r.utf8;
+            small = r.small;
             inside = stop_inside;
-            state = u;
-            reached = goes_on p limit text here.at r.state r.reached t.stop the_token u i.between i.modest is (not_trailing p r.state t.kind n i.content (free f)) (omega (arith, depth_is deep d, low));
-            shows = read_at next left left.pieces.items u t.stop e;
+            state = q.0;
+            reached = goes_on p limit text here.at r.state r.reached t.stop the_token q.0 i.between i.modest q.1 (not_trailing p r.state t.kind n i.content (free f)) (omega (arith, depth_is deep d, low));
+            shows = read_at next left left.pieces.items q.0 t.stop q.2;
           }
 
       -- the text is refused
@@ -105,8 +103,7 @@ module _ {h : Holds} (p : Profile) (limit : ℕ) (text : List ℕ) (are : AreByt
           unexpected p limit text here.at r.state r.reached the_token fault i.between (trailing p limit r.state t.kind n t.start t.stop i.content (ap (λ st. is_trailing_comma p st t.kind) (sym r.shows.shows.phase) ∙ sym b ∙ e)) f
       refusal UnexpectedToken fault (inr e) f =
           unexpected p limit text here.at r.state r.reached the_token fault i.between (never_taken p limit r.state the_token (subst (λ (q : Bool). Taken k q r.state (class_of t.kind n i.content) (record { start = t.start; stop = t.stop }) next left) e took)) f
-      refusal TooDeep fault (f, g, far) h = go (subst (λ (q : Bool). Taken k q r.state (class_of t.kind n i.content) (record { start = t.start; stop = t.stop }) next left) g took)
-        where
-          go : Taken k true r.state (class_of t.kind n i.content) (record { start = t.start; stop = t.stop }) next left → IsNoNotation p limit text fault
-          go (u, is, e) = too_deep p limit text here.at r.state r.reached the_token u fault i.between is (not_trailing p r.state t.kind n i.content (free f)) (omega (arith, depth_is deep d, far)) h
+      refusal TooDeep fault (f, g, far) h =
+          let q = subst (λ (q : Bool). Taken k q r.state (class_of t.kind n i.content) (record { start = t.start; stop = t.stop }) next left) g took in
+          too_deep p limit text here.at r.state r.reached the_token q.0 fault i.between q.1 (not_trailing p r.state t.kind n i.content (free f)) (omega (arith, depth_is deep d, far)) h
       refusal _ fault e f = absurd e

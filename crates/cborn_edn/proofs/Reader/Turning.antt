@@ -1,11 +1,11 @@
 -- What one token does, by its kind.
-use Rattle.cborn_edn.proofs.Common.{◌≡◌, refl, sym, ap, ◌∙◌, subst, ℕ, ◌<◌, ◌≤◌, List, [], ◌∷◌, ◌++◌, length, Bool, true, false, Option, Some, None, append-nil, arith, ◌⊎◌, inl, inr, length-append, Kind, Mark, Class, class_of, content_of, Comma, Colon, top, no_part, OfBytes, OfText, IsWritten, Speller, Span, Item, Pieces, StringsBefore, string, simple, row, no_item, after_row, Content, loose, tight, pairs, no_pair, after_pairs, at_home, Here, Writer, Phase, wanting, phase_of, stack_in, bytes_around, bytes_open, Shows, content_state, Holds, states_around, states_around_nest, states_around_home, Handed, AllHanded, IsSpelled, Reads, Ready, Turned, Taken, Takes, Turns, EndsPieces, has_chunks, is_piece, takes_no_piece}
+use Rattle.cborn_edn.proofs.Common.{◌≡◌, refl, sym, ap, ◌∙◌, subst, ℕ, ◌<◌, ◌≤◌, List, [], ◌∷◌, ◌++◌, length, Bool, true, false, Option, Some, None, append-nil, arith, ◌⊎◌, inl, inr, length-append, Kind, Mark, Class, class_of, content_of, Comma, Colon, top, no_part, OfBytes, OfText, IsWritten, Speller, Span, Item, Pieces, StringsBefore, string, simple, row, no_item, after_row, Content, loose, tight, pairs, after_pairs, at_home, Here, Writer, Phase, wanting, phase_of, bytes_around_home, bytes_before, stack_in, Shows, content_state, Holds, states_around, states_around_nest, states_around_home, Handed, AllHanded, IsSpelled, Reads, Ready, Turned, Taken, Takes, Turns, EndsPieces, has_chunks, is_piece, takes_no_piece, Stack, in_row, in_key, in_value, at_top, in_embed, Home, as_item, as_chunk, State, wants, has, builds, wants_chunk, wants_number, has_number, step_by}
 use Rattle.cborn_lex.specs.declared.classes.Kind.TheVariants as kinds
 use Rattle.cborn_lex.specs.declared.classes.Class.TheVariants as classes
-use Rattle.cborn_edn.proofs.Grammar.Machine.{Stack, in_row, in_key, in_value, in_tag, at_top, in_embed, Home, as_item, as_chunk, State, wants, has, builds, wants_chunk, wants_number, has_number, step_by}
 use Rattle.cborn_edn.specs.declared.states.Phase.TheVariants as phases
 use Rattle.cborn_edn.specs.devices.Kept.{chunks_of}
 use Rattle.cborn_edn.proofs.HandedOver.Handing.{stays}
+use Rattle.cborn_edn.proofs.Reader.Showing.{standing}
 use Rattle.cborn_edn.proofs.HandedOver.Silent.{handed_comma, handed_pairs_comma, handed_colon, handed_close_simple, embed_opened}
 
 -- what is taken of the class is taken of an equal one
@@ -84,12 +84,9 @@ data Wanting (st : Stack) : Type 0 where
   again : wanting st ≡ phases.WantsMore → Wanting st
 
 wanted : (st : Stack) → Wanting st
-wanted (in_row n no_item) = first refl
 wanted (in_row n (after_row r c)) = again refl
-wanted (in_key st s m no_pair) = first refl
 wanted (in_key st s m (after_pairs ps c)) = again refl
-wanted (in_value st s m b k c) = first refl
-wanted (in_tag st s n m) = first refl
+wanted _ = first refl
 
 -- the numbers of the phases, of which no two are the same
 abbrev number : Phase → ℕ
@@ -122,7 +119,7 @@ is_builds (builds h ps) e = (h, ps, refl)
 is_builds (wants st) e = not_wanted st phases.Builds e (omega arith)
 is_builds _ e = apart _ _ e (λ f. omega arith)
 
-pub is_wants_chunk : (s : State) → phase_of s ≡ phases.WantsChunk → (st : Stack) × (p : Span) × (b : StringsBefore) × (wants_chunk st p b ≡ s)
+is_wants_chunk : (s : State) → phase_of s ≡ phases.WantsChunk → (st : Stack) × (p : Span) × (b : StringsBefore) × (wants_chunk st p b ≡ s)
 is_wants_chunk (wants_chunk st p b) e = (st, p, b, refl)
 is_wants_chunk (wants st) e = not_wanted st phases.WantsChunk e (omega arith)
 is_wants_chunk _ e = apart _ _ e (λ f. omega arith)
@@ -192,13 +189,43 @@ pub shown_kind : {holds : Holds} (kind : Kind) (number : ℕ) (here : Here) (wri
 shown_kind {holds = holds} kind number here writer s base c none r =
     subst (λ l. Reads holds here writer l s) (sym (r.stands.written ∙ ap (λ (k : Class). base ++ content_of k) r.stands.class ∙ ap (λ l. base ++ l) (no_content kind number r.stands.content none) ∙ append-nil base)) r.shows
 
--- the bytes of the innermost string begin in what was read
-pub start_inside : {h : Holds} (kind : Kind) (number : ℕ) (here : Here) (writer : Writer) (s : State) (base : List ℕ) (c : Class) → bytes_open s ≡ bytes_around (stack_in s) → Ready h kind number here writer s base c → writer.start ≤ length writer.pieces.items
-start_inside kind number here writer s base c e r = omega (arith, r.shows.shows.start, ap length (r.shows.shows.pieces ∙ e), ap length r.stands.written, length-append base (content_of c))
+pub bare_taken : {h : Holds} (k : Holds) (kind : Kind) (number place : ℕ) (here next : Here) (writer left : Writer) (ok : Bool) (t s : State) → is_piece kind ≡ false → t ≡ s → Turns h k kind number place here writer next left ok t → Takes h k kind number place here writer next left ok s
+bare_taken {h = h} k kind number place here next writer left ok t s none e f = subst (λ (u : State). Takes h k kind number place here writer next left ok u) e (λ base c a p r. f c r.stands.content a p r.stands.class (shown_kind kind number here writer t base c none r))
 
-pub open_home : {h : Holds} {here : Here} {w : Writer} {out : List ℕ} (home : Home) (ps : Pieces) → Reads h here w out (builds home ps) → Reads h here w out (at_home home (Some ps))
-open_home (as_item st) ps e = e
-open_home (as_chunk st s b) ps e = e
+-- a state in which a string begins or goes on
+pub record Adds (s : State) : Type 0 where
+  pub home : Home
+  pub before : Option Pieces
+  pub is : at_home home before ≡ s
+
+adds : (s : State) → takes_no_piece (phase_of s) ≡ false → Adds s
+adds (wants st) e = record { home = as_item st; before = None; is = refl }
+adds (wants_chunk st s b) e = record { home = as_chunk st s b; before = None; is = refl }
+adds (builds (as_item st) ps) e = record { home = as_item st; before = Some ps; is = refl }
+adds (builds (as_chunk st s b) ps) e = record { home = as_chunk st s b; before = Some ps; is = refl }
+adds _ e = absurd (let bad : true ≡ false = e in cc)
+
+pub adding : {h : Holds} (kind : Kind) (number place : ℕ) (here next : Here) (writer left : Writer) (s : State) → takes_no_piece here.phase ≡ false → ((home : Home) (o : Option Pieces) → Takes h h kind number place here writer next left true (at_home home o)) → Takes h h kind number place here writer next left true s
+adding {h = h} kind number place here next writer left s none f base c a p r =
+    let d = adds s (ap takes_no_piece (sym r.shows.shows.phase) ∙ none) in
+    subst (λ (u : State). Takes h h kind number place here writer next left true u) d.is (f d.home d.before) base c a p r
+
+-- the bytes of the innermost string begin in what was read
+pub start_inside : {h : Holds} (kind : Kind) (number : ℕ) (here : Here) (writer : Writer) (s : State) (base : List ℕ) (c : Class) → takes_no_piece here.phase ≡ false → Ready h kind number here writer s base c → writer.start ≤ length writer.pieces.items
+start_inside kind number here writer s base c none r =
+    let d = adds s (ap takes_no_piece (sym r.shows.shows.phase) ∙ none) in
+    let q = standing here writer d.home d.before base (subst (λ (u : State). Shows here writer base u) (sym d.is) r.shows.shows) in
+    omega (arith, q.home.start, ap length q.pieces, length-append (bytes_around_home d.home) (bytes_before d.before), ap length r.stands.written, length-append base (content_of c))
+
+-- where a chunk is wanted, no other token is taken
+pub no_chunk : (s : State) (c : Class) (a : Span) → phase_of s ≡ phases.WantsChunk → EndsPieces c → step_by s c a ≡ None
+no_chunk s c a e h = let i = is_wants_chunk s e in subst (λ (u : State). step_by u c a ≡ None) i.3 (none i.0 i.1 i.2 c h)
+  where
+    none : (st : Stack) (p : Span) (b : StringsBefore) (c : Class) → EndsPieces c → step_by (wants_chunk st p b) c a ≡ None
+    none st p b (classes.Text x m) h = absurd h
+    none st p b (classes.Bytes q x m) h = absurd h
+    none st p b classes.EmbedOpen h = absurd h
+    none st p b _ h = refl
 
 -- where no piece is allowed, the machine takes none
 no_after : (st : Stack) (i : Item) (kind : Kind) (n : ℕ) (x : List ℕ) (a : Span) → is_piece kind ≡ true → step_by (has st i) (class_of kind n x) a ≡ None

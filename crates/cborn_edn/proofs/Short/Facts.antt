@@ -1,7 +1,6 @@
 -- What is known of the trees holds of the relation: a text notates one list of nodes, the same within larger limits and in profile 2, and is then not refused; what was shown reads back.
-use Rattle.cborn_edn.proofs.Common.{◌≡◌, refl, sym, ap, ◌∙◌, subst, ℕ, ◌^◌, ◌<◌, ◌≤◌, List, [], length, Option, Some, None, ◌⊎◌, inl, inr, arith, IsUtf8, AreBytes, Trees, depth_all, FitsAll, spelled_all, Token, Profile, HasTokens, Lex, Stop, EdnReason, MeaningError, first_error, depth_of_input, Parse, unplaced_all, Shown, IsText, Notates, HasSyntaxError, HasMeaningError, nodes_of_input, faults_of_input, Parsed}
+use Rattle.cborn_edn.proofs.Common.{◌≡◌, refl, sym, ap, ◌∙◌, subst, ℕ, ◌^◌, ◌<◌, ◌≤◌, List, [], length, Option, Some, None, ◌⊎◌, inl, inr, arith, IsUtf8, AreBytes, Trees, depth_all, FitsAll, spelled_all, Token, Profile, HasTokens, Lex, Stop, EdnReason, MeaningError, first_error, depth_of_input, Parse, unplaced_all, Shown, IsText, Notates, HasSyntaxError, HasMeaningError, nodes_of_input, faults_of_input, Parsed, ProfileOne, ProfileTwo}
 use Rattle.cborn_lex.specs.Bad.{FailsAt}
-use Rattle.cborn_lex.specs.declared.classes.Profile.TheVariants.{One as ProfileOne, Two as ProfileTwo}
 use Rattle.cborn_lex.specs.declared.faults.LexReason.{LexReason}
 use Rattle.cborn_lex.proofs.WholeTexts.Chains.{one_list, both_profiles as both_lexed, not_both as not_stopped, some_answer}
 use Rattle.cborn_lex.proofs.WholeTexts.Weights.{as_test, text_light}
@@ -10,7 +9,6 @@ use Rattle.cborn_edn.specs.devices.Parse as tree
 use Rattle.cborn_edn.proofs.Grammar.OneTree.{one_tree, both_profiles, not_both, answered}
 use Rattle.cborn_edn.proofs.Meaning.Earliest.{nothing_among, Tells, tells}
 use Rattle.cborn_edn.proofs.Meaning.Sound.{SoundAll, text_sound}
-use Rattle.cborn_edn.proofs.Reader.Modest.{all_modest}
 use Rattle.cborn_edn.proofs.RoundTrip.ReadBack.{shown_tokens}
 use Rattle.cborn_edn.proofs.RoundTrip.Retelling.{reads_same}
 use Rattle.cborn_edn.proofs.RoundTrip.Unplaced.{same_bytes}
@@ -64,7 +62,7 @@ shown_only p limit nodes text says fits shown h =
 
 -- LAW: the nodes of a text are within the limit, and fit their widths if they spell bytes that are few enough
 pub notated_sound : (profile : Profile) (limit : ℕ) (text : List ℕ) (nodes : Trees) → AreBytes text → (h : Notates profile limit text nodes) → SoundAll h.0 nodes limit
-notated_sound p limit text nodes are (x, taken, h) = text_sound h (all_modest x (text_light p text x are (lex_of p text x taken)).0)
+notated_sound p limit text nodes are (x, taken, h) = text_sound h (text_light p text x are (lex_of p text x taken)).0
 
 -- LAW: the nodes of a short text fit their widths and are within the limit
 pub notated_fits : (profile : Profile) (limit : ℕ) (text : List ℕ) (nodes : Trees) → AreBytes text → length text < 2 ^ 56 → Notates profile limit text nodes → FitsAll nodes × (depth_all nodes ≤ limit)

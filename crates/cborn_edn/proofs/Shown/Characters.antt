@@ -1,11 +1,10 @@
 -- The text of the fixed notation is UTF-8.
-use Rattle.cborn_edn.proofs.Common.{◌≡◌, refl, sym, ap, ◌∙◌, subst, ℕ, zero, suc, ◌+◌, ◌^◌, ◌<◌, ◌≤◌, List, [], ◌∷◌, ◌++◌, map, length, get_or, take, Bool, true, false, ◌&&◌, ltb, eqb, cond, inl, inr, decimal, append-nil, arith, and_parts, cond-false, le-ltb, ltb-true, ne_eqb, cases_lt, take_more, take_all, length-append, IsUtf8-append, IsUtf8-nil, IsUtf8-encode, IsUtf8-past_char, length-encode, len_utf8_bounds, IsUtf8-from_ascii, IsUtf8-from_is_utf8, is_utf8-from_IsUtf8, inside_one, encode_ascii, IsAscii-nil, IsAscii-cons, IsAscii-decimal_wide, flat_map-append, codes, encode_utf8, encode_utf8_all, list_all, flat_map, IsUtf8, IsAscii, is_utf8, all_scalars, IsScalar, encode_lower, lower_digits, Width, Direct, Chunk, Tree, Uint, Nint, ByteChunks, TextChunks, Items, Tagged, Simple, Trees, more, trees, Entries, no_entry, entry, count, count_entries, Fits, FitsAll, FitsEntries, Mark, Wide, StringKind, OfBytes, OfText, others, mark_for, mark_for_size, escaped, indicator, opened, shown_string, shown_chunk, joined_by, shown_chunks, shown_simple, shown, item_texts, pair_texts, shown_lines, Shown, AreTexts, IsShowable, EachShowable, ArePairsShowable}
+use Rattle.cborn_edn.proofs.Common.{◌≡◌, refl, sym, ap, ◌∙◌, subst, ℕ, zero, suc, ◌+◌, ◌^◌, ◌<◌, ◌≤◌, List, [], ◌∷◌, ◌++◌, map, length, get_or, take, Bool, true, false, ◌&&◌, ltb, eqb, cond, inl, inr, decimal, append-nil, arith, and_parts, cond-false, le-ltb, ltb-true, ne_eqb, cases_lt, take_more, take_all, length-append, IsUtf8-append, IsUtf8-nil, IsUtf8-encode, IsUtf8-past_char, length-encode, len_utf8_bounds, IsUtf8-from_ascii, IsUtf8-from_is_utf8, is_utf8-from_IsUtf8, inside_one, encode_ascii, IsAscii-nil, IsAscii-cons, IsAscii-decimal_wide, flat_map-append, codes, encode_utf8, encode_utf8_all, list_all, flat_map, IsUtf8, IsAscii, is_utf8, all_scalars, IsScalar, encode_lower, lower_digits, Width, Direct, Chunk, Tree, Uint, Nint, ByteChunks, TextChunks, Items, Tagged, Simple, Trees, more, trees, Entries, no_entry, entry, count, count_entries, Fits, FitsAll, FitsEntries, Mark, Wide, StringKind, OfBytes, OfText, others, mark_for, mark_for_size, escaped, indicator, opened, shown_string, shown_chunk, joined_by, shown_chunks, shown_simple, shown, item_texts, pair_texts, shown_lines, Shown, AreTexts, IsShowable, EachShowable, ArePairsShowable, ByteNode, TextNode, Pairs as PairNode, no_node}
 use Rattle.hex.specs.Hex.{encode_with}
 use Rattle.hex.proofs.HexLemmas.{IsAscii-encode_with}
-use Rattle.cborn_model.specs.Tree.{Bytes as ByteNode, Text as TextNode, Pairs as PairNode, no_item as no_node}
 use Rattle.cborn_model.proofs.Numbers.Simples.{simple_below}
 use Rattle.cborn_edn.proofs.RoundTrip.Back.{below}
-use Rattle.cborn_edn.proofs.Lexed.Tables.{passes, passes-at}
+use Rattle.cborn_lex.proofs.TwoParts.{passes, passes_at}
 
 -- Text with its escapes.
 
@@ -23,7 +22,7 @@ each_low = refl
 
 pub escape_low : (b : ℕ) → b < 128 → (is_low (escaped b) ≡ true) × (0 < length (escaped b))
 escape_low b h =
-    let e = and_parts (ltb 0 (length (escaped b))) (is_low (escaped b)) (passes-at (λ b. ltb 0 (length (escaped b)) && is_low (escaped b)) 0 128 b each_low (omega arith) (omega arith)) in
+    let e = and_parts (ltb 0 (length (escaped b))) (is_low (escaped b)) (passes_at (λ b. ltb 0 (length (escaped b)) && is_low (escaped b)) 0 128 b each_low (omega arith) (omega arith)) in
     (e.1, ltb-true 0 (length (escaped b)) e.0)
 
 pub escaped_low : (b : ℕ) → b < 128 → IsAscii (escaped b) × (0 < length (escaped b))

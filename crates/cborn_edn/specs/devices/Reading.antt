@@ -1,12 +1,13 @@
 -- A device of the proofs: a text that is read up to some place. No definition cites it.
-use Rattle.std.specs.Prelude.{◌≡◌, ◌⊎◌, ℕ, ◌<◌, ◌≤◌, List, [], ◌∷◌, ◌++◌, length, Bool, true, false, not, Option, Some, None}
+use Rattle.std.specs.Prelude.{◌≡◌, ◌⊎◌, ℕ, ◌^◌, ◌<◌, ◌≤◌, List, [], ◌∷◌, ◌++◌, length, Bool, true, false, not, Option, Some, None}
+use Rattle.std.specs.Str.{IsUtf8}
 use Rattle.cborn_lex.specs.Lex.{Between}
 use Rattle.cborn_lex.specs.declared.classes.Kind.{Kind}
 use Rattle.cborn_lex.specs.declared.classes.Kind.TheVariants as kinds
 use Rattle.cborn_lex.specs.declared.classes.Profile.{Profile}
 use Rattle.cborn_lex.specs.declared.classes.Profile.TheVariants.{One}
 use Rattle.cborn_lex.specs.declared.classes.Token.{Token}
-use Rattle.cborn_edn.specs.devices.Modest.{AreModest}
+use Rattle.cborn_lex.specs.shared.Modest.{AreModest}
 use Rattle.cborn_model.specs.Tree.{trees}
 use Rattle.cborn_model.specs.Spelled.{FitsAll}
 use Rattle.cborn_model.specs.Partial.{top, no_part}
@@ -23,6 +24,7 @@ use Rattle.cborn_edn.specs.declared.faults.EdnReason.TheVariants.{UnexpectedToke
 use Rattle.cborn_edn.specs.declared.states.Phase.{Phase}
 use Rattle.cborn_edn.specs.declared.states.Phase.TheVariants.{Wants, WantsMore, Has, Builds}
 use Rattle.cborn_edn.specs.declared.states.Here.{Here}
+use Rattle.cborn_edn.specs.declared.states.Source.{Source}
 use Rattle.cborn_edn.specs.declared.states.Writer.{Writer}
 use Rattle.cborn_edn.specs.devices.Steps.{has_chunks}
 use Rattle.cborn_edn.specs.devices.TreesCode.{listed_trees}
@@ -50,11 +52,28 @@ pub record Reached (profile : Profile) (limit : ℕ) (text : List ℕ) (at : ℕ
   pub stops : (end : ℕ) → parse profile limit end tokens start ≡ parse profile limit end [] s
 
 -- the reader is at an offset of the text, and what it keeps shows the state there
-pub record IsReading (h : Holds) (profile : Profile) (limit : ℕ) (text : List ℕ) (here : Here) (writer : Writer) : Type 0 where
+pub record IsReadTo (h : Holds) (profile : Profile) (limit : ℕ) (text : List ℕ) (here : Here) (writer : Writer) : Type 0 where
+  pub utf8 : IsUtf8 text
+  pub small : length text < 2 ^ 63
   pub inside : here.at ≤ length text
   pub state : State
   pub reached : Reached profile limit text here.at state
   pub shows : Reads h here writer writer.pieces.items state
+
+abbrev pub IsReading : Holds → Source → Here → Writer → Type 0
+IsReading h source here writer = IsReadTo h source.profile source.limit source.text.now here writer
+
+-- and the text goes on
+abbrev pub IsInside : Holds → Source → Here → Writer → Type 0
+IsInside h source here writer = IsReading h source here writer × (here.at < length source.text.now)
+
+-- and an item is wanted
+abbrev pub IsWanting : Holds → Source → Here → Writer → Type 0
+IsWanting h source here writer = IsReading h source here writer × (here.at < length source.text.now) × ((here.phase ≡ Wants) ⊎ (here.phase ≡ WantsMore))
+
+-- the reader went on if ok is true; else it may have stayed where it was
+abbrev pub Goes : Holds → Source → Here → Here → Writer → Bool → Type 0
+Goes h source was here writer ok = IsReading h source here writer × (was.at ≤ here.at) × (ok ≡ true → was.at < here.at)
 
 -- why no text goes on with a token, if none does
 abbrev pub Judged : Bool → Bool → ℕ → ℕ → Option EdnReason → Type 0

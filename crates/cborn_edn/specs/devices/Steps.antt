@@ -5,7 +5,7 @@ use Rattle.cborn_lex.specs.declared.classes.Kind.TheVariants as kinds
 use Rattle.cborn_lex.specs.declared.classes.Class.{Class}
 use Rattle.cborn_lex.specs.declared.classes.Class.TheVariants.{EmbedOpen, Text, Bytes}
 use Rattle.cborn_lex.specs.Kinds.{class_of, StandsFor}
-use Rattle.cborn_edn.specs.devices.Modest.{IsModest}
+use Rattle.cborn_lex.specs.shared.Modest.{IsModest}
 use Rattle.cborn_edn.specs.devices.Syntax.{Span, Pieces}
 use Rattle.cborn_edn.specs.devices.Machine.{Home, State, wants, has, builds, step_by}
 use Rattle.cborn_edn.specs.declared.states.Level.{Level}
@@ -19,25 +19,14 @@ use Rattle.cborn_edn.specs.devices.Shows.{Shows}
 use Rattle.cborn_edn.specs.devices.Events.{Holds}
 use Rattle.cborn_edn.specs.devices.Handed.{Reads}
 
-abbrev pub is_array : Option Level → Bool
-is_array (Some Array) = true
-is_array _ = false
-
-abbrev pub is_embedded : Option Level → Bool
-is_embedded (Some Embedded) = true
-is_embedded _ = false
-
-abbrev pub is_key : Option Level → Bool
-is_key (Some Key) = true
-is_key _ = false
-
-abbrev pub is_value : Option Level → Bool
-is_value (Some Value) = true
-is_value _ = false
-
-abbrev pub is_tag : Option Level → Bool
-is_tag (Some Tag) = true
-is_tag _ = false
+-- the innermost bracket is of this kind
+abbrev pub is_in : Level → Option Level → Bool
+is_in Array (Some Array) = true
+is_in Embedded (Some Embedded) = true
+is_in Key (Some Key) = true
+is_in Value (Some Value) = true
+is_in Tag (Some Tag) = true
+is_in _ _ = false
 
 abbrev pub is_row : Option Level → Bool
 is_row (Some Array) = true
@@ -47,8 +36,8 @@ is_row _ = false
 
 -- the innermost bracket is a map that may end in this phase
 abbrev pub ends_map : Phase → Option Level → Bool
-ends_map Has o = is_value o
-ends_map _ o = is_key o
+ends_map Has o = is_in Value o
+ends_map _ o = is_in Key o
 
 abbrev pub has_chunks : Option Chunks → Bool
 has_chunks None = false

@@ -1,5 +1,5 @@
 -- Each text that isn't empty begins with something.
-use Rattle.cborn_lex.proofs.Common.{◌≡◌, refl, sym, ap, ◌∙◌, subst, ℕ, List, [], ◌∷◌, ◌++◌, Bool, true, false, ◌&&◌, eqb, ◌⊎◌, inl, inr, Option, append_assoc, append-nil, and_parts, eqb-true, list_all-append, list_all, bytes_eq, codes, Profile, One, Two, Mark, LexReason, UnclosedString, UnexpectedCharacter, BadEscape, BadHex, BadBase64, Class, EmbedClose, EmbedOpen, SimpleOpen, Text, Bytes, Front, Read, Bad, is_word, is_numeral, is_not, mark_of, marked, integer, number_front, word_front, IsText, IsHex, IsBase64, IsRun, IsIndicator, Lacks, ContentGives, IsString, Prefix, hexadecimal, base64, unknown, prefix_of, IsPrefixed, IsAfterWord, ReadsWord, IsTag, ReadsNumber, double, simple, Start, white, slash, hash, less, greater, paren, letter, minus, digit, other, single, opening, start_of, paren_front, ReadsFrom, Reads}
+use Rattle.cborn_lex.proofs.Common.{◌≡◌, refl, sym, ap, ◌∙◌, subst, ℕ, List, [], ◌∷◌, ◌++◌, Bool, true, false, ◌&&◌, eqb, ◌⊎◌, inl, inr, Option, append_assoc, append-nil, and_parts, eqb-true, list_all-append, list_all, bytes_eq, codes, Profile, Two, Mark, LexReason, UnclosedString, UnexpectedCharacter, BadEscape, BadHex, BadBase64, Class, EmbedClose, EmbedOpen, SimpleOpen, Text, Bytes, Front, Read, Bad, is_word, is_numeral, is_not, mark_of, marked, integer, number_front, word_front, IsText, IsHex, IsBase64, IsRun, IsIndicator, Lacks, ContentGives, IsString, Prefix, hexadecimal, base64, unknown, prefix_of, IsPrefixed, IsAfterWord, ReadsWord, IsTag, ReadsNumber, double, simple, Start, slash, hash, less, greater, paren, letter, minus, digit, opening, start_of, paren_front, ReadsFrom, Reads}
 use Rattle.cborn_lex.specs.Forms.{Through}
 use Rattle.cborn_lex.proofs.OneFront.Runs.{cut, marks, Found, plain}
 use Rattle.cborn_lex.proofs.OneFront.Quotes.{quoted}
@@ -151,11 +151,8 @@ greater_from profile b c y true e =
 greater_from profile b c y false e = record { s = []; z = c ∷ y; a = Bad UnexpectedCharacter; whole = refl; reads = inr (refl, e, refl) }
 
 pub some_from : (k : Start) (profile : Profile) (c : ℕ) (y : List ℕ) → are_bytes y ≡ true → Started (ReadsFrom k profile c) y
-some_from white profile c y h = fixed y _
 some_from slash profile c y h = up_to 47 _ _ y
-some_from hash One c y h = fixed y _
 some_from hash Two c y h = up_to 10 _ _ y
-some_from (single l) profile c y h = fixed y _
 some_from (opening l) profile c y h = indicated (λ s. marked l (mark_of s)) y
 some_from less profile c [] h = record { s = []; z = []; a = Bad UnexpectedCharacter; whole = refl; reads = inr (refl, refl, refl) }
 some_from less profile c (d ∷ y) h = less_from profile c d y (eqb d 60) refl
@@ -167,7 +164,7 @@ some_from simple profile c y h = string_from _ _ 39 (IsText 39) BadEscape (Bytes
 some_from minus profile c y h = numbers true [] y
 some_from digit profile c y h = numbers false (c ∷ []) y
 some_from letter profile c y h = words c y h
-some_from other profile c y h = fixed y _
+some_from _ _ c y h = fixed y _
 
 pub some_front : (profile : Profile) (c : ℕ) (y : List ℕ) → are_bytes (c ∷ y) ≡ true → Started (Reads profile) (c ∷ y)
 some_front profile c y h =

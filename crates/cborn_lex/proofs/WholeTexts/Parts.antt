@@ -1,6 +1,5 @@
 -- A text read from its front on, and as a list of its pieces.
-use Rattle.cborn_lex.proofs.Common.{◌≡◌, refl, sym, ap, ◌∙◌, subst, ℕ, ◌+◌, List, [], ◌∷◌, ◌++◌, length, append_assoc, append-nil, arith, Profile, Token, LexReason, WhiteSpace, Read, Reads, Through, Lex, Stop, HasNoPiece, Lexeme, white_space, token, spelled, AreRead, tokens, Parted, BeginsNoPiece, LexParted, StopParted}
-use Rattle.std.proofs.Common.{length-append}
+use Rattle.cborn_lex.proofs.Common.{◌≡◌, refl, sym, ap, ◌∙◌, subst, ℕ, ◌+◌, List, [], ◌∷◌, ◌++◌, length, append_assoc, append-nil, arith, Profile, Token, LexReason, WhiteSpace, Read, Reads, Through, Lex, Stop, HasNoPiece, Lexeme, white_space, token, spelled, AreRead, tokens, Parted, BeginsNoPiece, LexParted, StopParted, length-append}
 use Rattle.cborn_lex.specs.Lex as text
 
 pub parted : (profile : Profile) {n m : ℕ} {x y : List ℕ} {ts : List Token} → Through profile n x ts m y → Parted profile n x ts m y

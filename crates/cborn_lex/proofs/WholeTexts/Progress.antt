@@ -1,6 +1,5 @@
 -- A scan from piece to piece.
-use Rattle.cborn_lex.proofs.Common.{◌≡◌, refl, sym, ap, ◌∙◌, subst, ℕ, ◌+◌, ◌<◌, ◌≤◌, List, [], ◌∷◌, ◌++◌, length, take, drop, get_or, arith, add-one, take-append-drop, length-append, length-take-le, drop_all, drop-drop, get_or-drop, true, cond-true, Profile, LexReason, LexFault, Refused, OutOfMemory, Class, Token, Front, WhiteSpace, Read, Bad, is_white, Start, white, start_of, ReadsFrom, Reads, Through, here, Lex, Stop, Between, IsStopAt, IsStopFrom}
-use Rattle.std.proofs.Common.{length-drop}
+use Rattle.cborn_lex.proofs.Common.{◌≡◌, refl, sym, ap, ◌∙◌, subst, ℕ, ◌+◌, ◌<◌, ◌≤◌, List, [], ◌∷◌, ◌++◌, length, take, drop, get_or, arith, add-one, take-append-drop, length-append, length-take-le, drop_all, drop-drop, get_or-drop, true, cond-true, Profile, LexReason, LexFault, Refused, OutOfMemory, Class, Token, Front, WhiteSpace, Read, Bad, is_white, Start, white, start_of, ReadsFrom, Reads, Through, here, Lex, Stop, Between, IsStopAt, IsStopFrom, length-drop}
 use Rattle.cborn_lex.specs.Lex.{white_space, token}
 use Rattle.cborn_lex.proofs.WholeTexts.Chains.{some_long}
 

@@ -1,6 +1,7 @@
-use Rattle.cborn_edn.proofs.Common.{refl, sym, ap, ◌∙◌, subst, ◌∷◌, ◌++◌, WidthFits, Absent, width, tag_errors, first_error, in_tag, wants, noted_stack, states_around}
+use Rattle.cborn_edn.proofs.Common.{refl, sym, ap, ◌∙◌, subst, ◌++◌, WidthFits, Absent, width, tag_errors, first_error, in_tag, wants, noted_stack, states_around}
+use Rattle.cborn_edn.specs.declared.states.Level.TheVariants as levels
 use Rattle.cborn_edn.proofs.Reader.Results.{both_ok}
-use Rattle.cborn_edn.proofs.Reader.Showing.{moved_read}
+use Rattle.cborn_edn.proofs.Reader.Put.{opened_read}
 use Rattle.cborn_edn.proofs.HandedOver.Fits.{tag_fits}
 use Rattle.cborn_edn.proofs.HandedOver.Openings.{hands_tag}
 use Rattle.cborn_edn.proofs.containers.open_tag.Goals as goal
@@ -13,22 +14,7 @@ hand-requires g c = λ none.
 
 pub returns : goal.returns
 returns g c = both_ok c.open_bracket.result (λ f l st a p r.
-    let e = r.shows in
-    let error = c.note_tag.ensures (noted_stack st) e.error ∙ ap (λ q. first_error (noted_stack st ++ tag_errors q c.args.mark c.args.number)) p in
-    let u = wants (in_tag st a c.args.number c.args.mark) in
-    moved_read (g.V.Visitor.holds c.hand.new.visitor) c.open_bracket.new.here _ c.open_bracket.new.writer _ u f l (record {
-      shows = record {
-        phase = refl;
-        level = refl;
-        count = refl;
-        brackets = λ i. record { place = 0; count = e.count i; level = e.level i; mark = Absent } ∷ e.brackets i;
-        around = e.around;
-        string = e.string;
-        chunks = e.chunks;
-        simple = tt;
-        error = error;
-        start = e.start;
-        pieces = e.pieces;
-      };
-      handed = c.in_ok-hand.ensures (wants st) u (states_around st) error (hands_tag st a p c.args.mark c.args.number c.low_bits-n.result c.width_for.result c.low_bits-n.ensures c.width_for.ensures) r.handed;
-    })) c.open_bracket.ensures.here c.open_bracket.ensures.writer
+    let error = c.note_tag.ensures (noted_stack st) r.shows.error ∙ ap (λ q. first_error (noted_stack st ++ tag_errors q c.args.mark c.args.number)) p in
+    let inner = in_tag st a c.args.number c.args.mark in
+    opened_read st inner levels.Tag 0 Absent c.note_tag.new.error c.hand.new.spellers refl refl refl refl refl refl error c.open_bracket.new.here c.open_bracket.new.writer f l
+    (c.in_ok-hand.ensures (wants st) (wants inner) (states_around st) error (hands_tag st a p c.args.mark c.args.number c.low_bits-n.result c.width_for.result c.low_bits-n.ensures c.width_for.ensures) r.handed) r) c.open_bracket.ensures.here c.open_bracket.ensures.writer

@@ -1,24 +1,24 @@
-use Rattle.cborn_edn.proofs.Common.{◌≡◌, sym, ap, ◌∙◌, subst, ◌∷◌, Some, EmbedClose, embedded, is_embedded, stack_in, content_state, states_around, AllHanded, Reads}
-use Rattle.cborn_edn.proofs.Grammar.Machine.{State, in_embed, builds, with_piece, step_by}
+use Rattle.cborn_edn.proofs.Common.{◌≡◌, sym, ap, ◌∙◌, subst, ◌∷◌, Some, EmbedClose, embedded, is_in, stack_in, content_state, states_around, AllHanded, Reads, State, in_embed, builds, with_piece, step_by}
 use Rattle.cborn_edn.proofs.HandedOver.Silent.{embed_closed}
-use Rattle.cborn_edn.proofs.Reader.Inverted.{embed_at, embed_step, no_embed}
+use Rattle.cborn_edn.proofs.Reader.Inverted.{ending, embed_at, embed_step, no_embed}
 use Rattle.cborn_edn.proofs.Reader.Turning.{content_spelled}
+use Rattle.cborn_edn.specs.declared.states.Level.TheVariants as levels
 use Rattle.cborn_edn.proofs.endings.end_embedded.Goals as goal
 
 pub close_embedded-requires : goal.close_embedded-requires
 close_embedded-requires g c =
     let h = g.V.Visitor.holds c.args.visitor.now in
-    let k = embed_at c.requires.0 c.requires.1 (ap is_embedded (sym c.requires.2.shows.level) ∙ sym c.is_embedded.ensures ∙ c.if-not-is_embedded.false) in
+    let k = embed_at c.requires.0 (ending c.requires.0 c.requires.1) (ap (is_in levels.Embedded) (sym c.requires.2.shows.level) ∙ sym c.is_in.ensures ∙ c.if-not-is_in.false) in
     let e = subst (λ (t : State). Reads h c.args.here.now c.args.writer.now c.args.writer.now.pieces.items t) (sym k.is) c.requires.2 in
     (k.h, k.o, k.at, k.c, e.shows, content_spelled h c.args.writer.now.spellers k.h k.o k.at k.c e.handed)
 
-pub returns-then-not-is_embedded-clause-taken : goal.returns-then-not-is_embedded-clause-taken
-returns-then-not-is_embedded-clause-taken g c = λ s a p x e. no_embed s c.args.mark a x (ap is_embedded (sym e.shows.level) ∙ sym c.is_embedded.ensures ∙ c.if-not-is_embedded.true)
+pub returns-then-not-is_in-clause-taken : goal.returns-then-not-is_in-clause-taken
+returns-then-not-is_in-clause-taken g c = λ s a p x e. no_embed s c.args.mark a (ending s x) (ap (is_in levels.Embedded) (sym e.shows.level) ∙ sym c.is_in.ensures ∙ c.if-not-is_in.true)
 
 pub returns-clause-taken : goal.returns-clause-taken
 returns-clause-taken g c = λ s a p x r.
     let h = g.V.Visitor.holds c.args.visitor.now in
-    let k = embed_at s x (ap is_embedded (sym r.shows.level) ∙ sym c.is_embedded.ensures ∙ c.if-not-is_embedded.false) in
+    let k = embed_at s (ending s x) (ap (is_in levels.Embedded) (sym r.shows.level) ∙ sym c.is_in.ensures ∙ c.if-not-is_in.false) in
     let e = subst (λ (t : State). Reads h c.args.here.now c.args.writer.now c.args.writer.now.pieces.items t) (sym k.is) r in
     let u = builds k.h (with_piece k.o (embedded k.at k.c a c.args.mark)) in
     let left = c.in_ok-close_embedded.ensures.spellers in

@@ -1,5 +1,4 @@
-use Rattle.cborn_edn.proofs.Common.{◌≡◌, refl, ap, ◌∙◌, ◌++◌, ◌^◌, true, false, arith, lt-ltb, le-ltb, is_small, argument_of, number_errors, first_error, number, noted_stack, states_around}
-use Rattle.cborn_edn.proofs.Grammar.Machine.{wants, has}
+use Rattle.cborn_edn.proofs.Common.{◌≡◌, refl, ap, ◌∙◌, ◌++◌, ◌^◌, true, false, arith, lt-ltb, le-ltb, is_small, argument_of, number_errors, first_error, number, noted_stack, states_around, wants, has}
 use Rattle.cborn_edn.proofs.HandedOver.Fits.{number_fits}
 use Rattle.cborn_edn.proofs.HandedOver.Openings.{hands_integer, hands_bignum}
 use Rattle.cborn_edn.proofs.Reader.Put.{leaf_shown}

@@ -1,5 +1,4 @@
-use Rattle.cborn_edn.proofs.Common.{◌≡◌, refl, sym, ap, ◌∙◌, true, false, arith, first_error, is_none, states_around}
-use Rattle.cborn_edn.proofs.Grammar.Machine.{wants_number, has_number}
+use Rattle.cborn_edn.proofs.Common.{◌≡◌, refl, sym, ap, ◌∙◌, true, false, arith, first_error, is_none, states_around, wants_number, has_number}
 use Rattle.cborn_edn.proofs.HandedOver.Fits.{simple_fits}
 use Rattle.cborn_edn.proofs.HandedOver.Handing.{silenced}
 use Rattle.cborn_edn.proofs.HandedOver.Openings.{hands_simple}

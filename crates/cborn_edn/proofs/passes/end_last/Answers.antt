@@ -1,5 +1,4 @@
-use Rattle.cborn_edn.proofs.Common.{sym, ap, ◌∙◌, subst, Input, string, Reads, AtEnd}
-use Rattle.cborn_edn.proofs.Grammar.Machine.{in_row, at_top, State}
+use Rattle.cborn_edn.proofs.Common.{sym, ap, ◌∙◌, subst, Input, string, Reads, AtEnd, in_row, at_top, State}
 use Rattle.cborn_edn.specs.devices.Reading.{ends_string}
 use Rattle.cborn_edn.proofs.Reader.Results.{on_ok}
 use Rattle.cborn_edn.proofs.Reader.Ending.{string_end, item_end, bare_end}

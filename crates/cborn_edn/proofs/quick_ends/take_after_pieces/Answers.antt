@@ -4,15 +4,15 @@ use Rattle.cborn_edn.proofs.quick_ends.take_after_pieces.Goals as goal
 
 pub end_item-requires : goal.end_item-requires
 end_item-requires g c =
-    let k = pieced c.args.profile c.args.limit c.args.text.now c.args.here.now c.args.writer.now c.requires.reading c.requires.builds (sym c.has_chunks.ensures ∙ c.if-has_chunks.false) in
+    let k = pieced c.requires.inside.0 c.requires.builds (sym c.has_chunks.ensures ∙ c.if-has_chunks.false) in
     (k.st, k.ps, k.shows)
 
-pub take_after-requires-clause-reading : goal.take_after-requires-clause-reading
-take_after-requires-clause-reading g c =
-    let k = pieced c.args.profile c.args.limit c.args.text.now c.args.here.now c.args.writer.now c.requires.reading c.requires.builds (sym c.has_chunks.ensures ∙ c.if-has_chunks.false) in
-    whole c.args.profile c.args.limit c.args.text.now c.args.here.now c.args.writer.now c.requires.reading k (inr (c.requires.inside, ap (λ (x : List ℕ). ends_string (get_or x c.args.here.now.at 0)) (sym c.as_bytes.ensures.value) ∙ sym c.ends_string.ensures ∙ c.if-not-ends_string.false)) c.end_item.new.here c.end_item.new.writer (c.in_ok-end_item.ensures k.st k.ps k.shows)
+pub take_after-requires-clause-inside : goal.take_after-requires-clause-inside
+take_after-requires-clause-inside g c =
+    let k = pieced c.requires.inside.0 c.requires.builds (sym c.has_chunks.ensures ∙ c.if-has_chunks.false) in
+    (whole c.requires.inside.0 k (inr (c.requires.inside.1, ap (λ (x : List ℕ). ends_string (get_or x c.args.here.now.at 0)) (sym c.as_bytes.ensures.value) ∙ sym c.ends_string.ensures ∙ c.if-not-ends_string.false)) c.end_item.new.here c.end_item.new.writer (c.in_ok-end_item.ensures k.st k.ps k.shows), c.requires.inside.1)
 
 pub take_after-requires-clause-has : goal.take_after-requires-clause-has
 take_after-requires-clause-has g c =
-    let k = pieced c.args.profile c.args.limit c.args.text.now c.args.here.now c.args.writer.now c.requires.reading c.requires.builds (sym c.has_chunks.ensures ∙ c.if-has_chunks.false) in
+    let k = pieced c.requires.inside.0 c.requires.builds (sym c.has_chunks.ensures ∙ c.if-has_chunks.false) in
     (c.in_ok-end_item.ensures k.st k.ps k.shows).shows.phase

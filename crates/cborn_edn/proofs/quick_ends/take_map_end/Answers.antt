@@ -1,18 +1,18 @@
-use Rattle.cborn_edn.proofs.Common.{arith, ◌+◌, [], subst, ◌^◌, ◌<◌, MapClose, Span}
-use Rattle.cborn_lex.proofs.WholeTexts.Weights.{utf8_bytes}
+use Rattle.cborn_edn.proofs.Common.{refl, arith, ◌+◌, MapClose, Span}
 use Rattle.cborn_lex.specs.Good as good
 use Rattle.cborn_lex.specs.declared.classes.Kind.TheVariants as kinds
 use Rattle.cborn_edn.proofs.Reader.CommonTokens.{single_here}
-use Rattle.cborn_edn.proofs.Reader.Taking.{end_taken, end_free, may_end, few_here}
+use Rattle.cborn_edn.proofs.Reader.Taking.{went, end_taken, may_end, few_here}
 use Rattle.cborn_edn.proofs.quick_ends.take_map_end.Goals as goal
 
 pub end_map-requires-clause-few : goal.end_map-requires-clause-few
-end_map-requires-clause-few g c = few_here c.args.profile c.args.limit c.args.text.now c.args.here.now c.args.writer.now c.requires.reading (subst (λ n. n < 2 ^ 63) c.bounded_len-len.ensures.len c.bounded_len-len.ensures.small)
+end_map-requires-clause-few g c = few_here c.requires.inside.0
 
 pub end_map-requires-clause-shows : goal.end_map-requires-clause-shows
-end_map-requires-clause-shows g c = (c.requires.reading.state, may_end c.args.profile c.args.limit c.args.text.now c.args.here.now c.args.writer.now c.requires.reading c.requires.ends, c.requires.reading.shows)
+end_map-requires-clause-shows g c = (c.requires.inside.0.state, may_end c.requires.inside.0 c.requires.ends, c.requires.inside.0.shows)
 
-pub returns-then-taken-clause-read : goal.returns-then-taken-clause-read
-returns-then-taken-clause-read g c =
-    let a : Span = record { start = c.args.here.now.at; stop = c.args.here.now.at + 1 } in
-    end_taken c.args.profile c.args.limit c.args.text.now c.args.here.now c.args.writer.now c.requires.reading (utf8_bytes c.args.text.now c.utf8.text) MapClose (c.args.here.now.at + 1) (single_here c.args.profile c.args.text.now c.args.here.now.at 125 MapClose c.requires.inside c.requires.bracket (λ z. good.map_close z)) c.end_map.new.here c.end_map.new.writer c.in_ok-taken.taken c.if-taken.true (may_end c.args.profile c.args.limit c.args.text.now c.args.here.now c.args.writer.now c.requires.reading c.requires.ends) (λ may e. c.in_ok-taken.ensures.taken c.requires.reading.state a may e) (end_free c.args.profile c.args.limit c.args.text.now c.args.here.now c.args.writer.now c.requires.reading kinds.MapClose 0 [] c.requires.ends) (omega arith)
+pub returns-then-taken : goal.returns-then-taken
+returns-then-taken g c =
+    let at = c.args.here.now.at in
+    let a : Span = record { start = at; stop = at + 1 } in
+    went (end_taken c.requires.inside.0 refl MapClose (at + 1) (λ profile. single_here profile c.args.source.text.now at 125 MapClose c.requires.inside.1 c.requires.bracket (λ z. good.map_close z)) c.end_map.new.here c.end_map.new.writer kinds.MapClose refl c.in_ok-taken.taken c.if-taken.true c.requires.ends (λ may e. c.in_ok-taken.ensures.taken c.requires.inside.0.state a may e) (omega arith))

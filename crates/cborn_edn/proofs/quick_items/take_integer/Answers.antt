@@ -1,20 +1,13 @@
-use Rattle.cborn_edn.proofs.Common.{refl, arith, false, subst, List, ℕ, Number, TagOpen, IsTokenAt, Span, number}
-use Rattle.std.proofs.Common.{if◌then◌else◌}
-use Rattle.cborn_lex.proofs.WholeTexts.Weights.{utf8_bytes}
-use Rattle.cborn_edn.proofs.Grammar.Machine.{has}
-use Rattle.cborn_edn.proofs.Reader.Taking.{item_taken, beyond, number_low}
+use Rattle.cborn_edn.proofs.Common.{refl, arith, false, subst, Bool, List, ℕ, Number, TagOpen, IsTokenAt, Span, number, if◌then◌else◌, has}
+use Rattle.cborn_edn.proofs.Reader.Taking.{went, item_taken, number_low}
 use Rattle.cborn_edn.proofs.quick_items.take_integer.Goals as goal
 
 pub take_tag-requires-clause-token : goal.take_tag-requires-clause-token
-take_tag-requires-clause-token g c = subst (λ b. IsTokenAt c.args.profile c.args.text.now c.args.here.now.at c.in-Some.found.stop (if b then TagOpen c.in-Some.found.number c.in-Some.found.mark else Number false c.in-Some.found.number c.in-Some.found.mark)) c.if-found.true (subst (λ (x : List ℕ). IsTokenAt c.args.profile x c.args.here.now.at c.in-Some.found.stop (if c.in-Some.found.is_tag then TagOpen c.in-Some.found.number c.in-Some.found.mark else Number false c.in-Some.found.number c.in-Some.found.mark)) c.as_bytes.ensures.value (c.in-Some.ensures.token c.args.profile))
+take_tag-requires-clause-token g c = λ profile. let i = c.in-Some.found in subst (λ (x : List ℕ). IsTokenAt profile x c.args.here.now.at i.stop (TagOpen i.number i.mark)) c.as_bytes.ensures.value (subst (λ (b : Bool). IsTokenAt profile c.as_bytes.result.now c.args.here.now.at i.stop (if b then TagOpen i.number i.mark else Number false i.number i.mark)) c.if-found.true (c.in-Some.ensures.token profile))
 
-pub returns-clause-read : goal.returns-clause-read
-returns-clause-read g c =
-    let a : Span = record { start = c.args.here.now.at; stop = c.in-Some.found.stop } in
-    item_taken c.args.profile c.args.limit c.args.text.now c.args.here.now c.args.writer.now c.requires.reading (utf8_bytes c.args.text.now c.utf8.text) (Number false c.in-Some.found.number c.in-Some.found.mark) (c.in-Some.found.stop) (subst (λ b. IsTokenAt c.args.profile c.args.text.now c.args.here.now.at c.in-Some.found.stop (if b then TagOpen c.in-Some.found.number c.in-Some.found.mark else Number false c.in-Some.found.number c.in-Some.found.mark)) c.if-found.false (subst (λ (x : List ℕ). IsTokenAt c.args.profile x c.args.here.now.at c.in-Some.found.stop (if c.in-Some.found.is_tag then TagOpen c.in-Some.found.number c.in-Some.found.mark else Number false c.in-Some.found.number c.in-Some.found.mark)) c.as_bytes.ensures.value (c.in-Some.ensures.token c.args.profile))) c.put_number.new.here c.put_number.new.writer c.requires.wanted (λ st. has st (number a false c.in-Some.found.number c.in-Some.found.mark)) (λ st. refl) (λ st. c.in_ok-put_number.ensures st a refl) (λ st. refl) (number_low _ c.args.limit false c.in-Some.found.number c.in-Some.found.mark (omega arith) (omega (arith, c.if-count-get.false, c.count.ensures.count)))
-
-pub returns-clause-on : goal.returns-clause-on
-returns-clause-on g c = omega (arith, beyond c.args.profile c.args.text.now c.args.here.now.at (c.in-Some.found.stop) (Number false c.in-Some.found.number c.in-Some.found.mark) (subst (λ b. IsTokenAt c.args.profile c.args.text.now c.args.here.now.at c.in-Some.found.stop (if b then TagOpen c.in-Some.found.number c.in-Some.found.mark else Number false c.in-Some.found.number c.in-Some.found.mark)) c.if-found.false (subst (λ (x : List ℕ). IsTokenAt c.args.profile x c.args.here.now.at c.in-Some.found.stop (if c.in-Some.found.is_tag then TagOpen c.in-Some.found.number c.in-Some.found.mark else Number false c.in-Some.found.number c.in-Some.found.mark)) c.as_bytes.ensures.value (c.in-Some.ensures.token c.args.profile))))
-
-pub returns-clause-further : goal.returns-clause-further
-returns-clause-further g c = λ e. beyond c.args.profile c.args.text.now c.args.here.now.at (c.in-Some.found.stop) (Number false c.in-Some.found.number c.in-Some.found.mark) (subst (λ b. IsTokenAt c.args.profile c.args.text.now c.args.here.now.at c.in-Some.found.stop (if b then TagOpen c.in-Some.found.number c.in-Some.found.mark else Number false c.in-Some.found.number c.in-Some.found.mark)) c.if-found.false (subst (λ (x : List ℕ). IsTokenAt c.args.profile x c.args.here.now.at c.in-Some.found.stop (if c.in-Some.found.is_tag then TagOpen c.in-Some.found.number c.in-Some.found.mark else Number false c.in-Some.found.number c.in-Some.found.mark)) c.as_bytes.ensures.value (c.in-Some.ensures.token c.args.profile)))
+pub returns : goal.returns
+returns g c =
+    let i = c.in-Some.found in
+    let a : Span = record { start = c.args.here.now.at; stop = i.stop } in
+    went (item_taken c.requires.0 c.as_bytes.ensures.value (Number false i.number i.mark) i.stop (λ profile. subst (λ (b : Bool). IsTokenAt profile c.as_bytes.result.now c.args.here.now.at i.stop (if b then TagOpen i.number i.mark else Number false i.number i.mark)) c.if-found.false (c.in-Some.ensures.token profile))
+    c.put_number.new.here c.put_number.new.writer c.requires.2 (λ st. has st (number a false i.number i.mark)) (λ st. refl) (λ st. c.in_ok-put_number.ensures st a refl) (λ st. refl) (number_low _ c.args.source.limit false i.number i.mark (omega arith) (omega arith)))

@@ -1,6 +1,5 @@
-use Rattle.cborn_edn.proofs.Common.{refl, ap, ◌∙◌, true, Kind, class_of, strings, after_strings, chunked}
+use Rattle.cborn_edn.proofs.Common.{refl, ap, ◌∙◌, true, Kind, class_of, strings, after_strings, chunked, as_chunk, has, builds, wants_chunk}
 use Rattle.cborn_lex.specs.declared.classes.Kind.TheVariants as kinds
-use Rattle.cborn_edn.proofs.Grammar.Machine.{as_chunk, has, builds, wants_chunk}
 use Rattle.cborn_edn.proofs.Reader.Turning.{taken_as}
 use Rattle.cborn_edn.proofs.steps.after_chunk.Goals as goal
 

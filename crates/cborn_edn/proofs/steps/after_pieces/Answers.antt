@@ -1,5 +1,4 @@
-use Rattle.cborn_edn.proofs.Common.{sym, ap, ◌∙◌, subst, string, Reads, Taken, has_chunks}
-use Rattle.cborn_edn.proofs.Grammar.Machine.{Home, builds, as_item, has}
+use Rattle.cborn_edn.proofs.Common.{sym, ap, ◌∙◌, subst, string, Reads, Taken, has_chunks, Home, builds, as_item, has}
 use Rattle.cborn_edn.proofs.Reader.Results.{if_ok}
 use Rattle.cborn_edn.proofs.Reader.Turning.{item_home, chunk_home, taken_same, ended_same}
 use Rattle.cborn_edn.proofs.steps.after_pieces.Goals as goal

@@ -1,66 +1,48 @@
-use Rattle.cborn_edn.proofs.Common.{refl, ap, ◌∙◌, subst, true, None, class_of, Kind, IsModest, is_piece, number, word, text, bytes, piece, no_item, no_pair, no_string, states_around}
+use Rattle.cborn_edn.proofs.Common.{refl, ap, ◌∙◌, subst, true, class_of, Kind, IsModest, is_piece, number, word, no_item, no_pair, no_string, states_around, in_row, in_key, in_tag, in_array, wants, has, wants_chunk, wants_number}
 use Rattle.cborn_lex.specs.declared.classes.Kind.TheVariants as kinds
-use Rattle.cborn_edn.proofs.Grammar.Machine.{in_row, in_key, in_tag, in_array, in_embed, as_item, wants, has, builds, wants_chunk, wants_number}
 use Rattle.cborn_edn.proofs.Reader.Results.{if_ok}
-use Rattle.cborn_edn.proofs.Reader.Turning.{arm, appends_nothing, not_text, embed_taken, same_handed, shown_kind, start_inside}
-use Rattle.cborn_edn.proofs.HandedOver.Silent.{handed_open_chunks, handed_open_simple, handed_begin_string}
+use Rattle.cborn_edn.proofs.Reader.Turning.{turn, same_handed, shown_kind}
+use Rattle.cborn_edn.proofs.HandedOver.Silent.{handed_open_chunks, handed_open_simple}
 use Rattle.cborn_edn.proofs.steps.begin.Goals as goal
 
 pub returns-in_ok-open_array-in-ArrayOpen : goal.returns-in_ok-open_array-in-ArrayOpen
-returns-in_ok-open_array-in-ArrayOpen g c = λ st. appends_nothing _ c.args.token.kind (kinds.ArrayOpen c.in-ArrayOpen.mark) c.args.number c.args.token.start c.args.here.now c.open_array.new.here c.args.writer.now c.open_array.new.writer true (wants st) c.in-ArrayOpen.is (λ x. refl) (λ x a p e. (wants (in_row (in_array st a c.in-ArrayOpen.mark) no_item), refl, c.in_ok-open_array-in-ArrayOpen.ensures st a p e))
+returns-in_ok-open_array-in-ArrayOpen g c = λ st. turn _ c.args.token.kind (kinds.ArrayOpen c.in-ArrayOpen.mark) c.args.number c.args.token.start c.args.here.now c.open_array.new.here c.args.writer.now c.open_array.new.writer true (wants st) c.in-ArrayOpen.is (λ x a p e. (wants (in_row (in_array st a c.in-ArrayOpen.mark) no_item), refl, c.in_ok-open_array-in-ArrayOpen.ensures st a p e))
 
 pub returns-in_ok-open_map-in-MapOpen : goal.returns-in_ok-open_map-in-MapOpen
-returns-in_ok-open_map-in-MapOpen g c = λ st. appends_nothing _ c.args.token.kind (kinds.MapOpen c.in-MapOpen.mark) c.args.number c.args.token.start c.args.here.now c.open_map.new.here c.args.writer.now c.open_map.new.writer true (wants st) c.in-MapOpen.is (λ x. refl) (λ x a p e. (wants (in_key st a c.in-MapOpen.mark no_pair), refl, c.in_ok-open_map-in-MapOpen.ensures st a p e))
+returns-in_ok-open_map-in-MapOpen g c = λ st. turn _ c.args.token.kind (kinds.MapOpen c.in-MapOpen.mark) c.args.number c.args.token.start c.args.here.now c.open_map.new.here c.args.writer.now c.open_map.new.writer true (wants st) c.in-MapOpen.is (λ x a p e. (wants (in_key st a c.in-MapOpen.mark no_pair), refl, c.in_ok-open_map-in-MapOpen.ensures st a p e))
 
 pub returns-in_ok-open_tag-in-TagOpen : goal.returns-in_ok-open_tag-in-TagOpen
-returns-in_ok-open_tag-in-TagOpen g c = λ st. appends_nothing _ c.args.token.kind (kinds.TagOpen c.in-TagOpen.mark) c.args.number c.args.token.start c.args.here.now c.open_tag.new.here c.args.writer.now c.open_tag.new.writer true (wants st) c.in-TagOpen.is (λ x. refl) (λ x a p e. (wants (in_tag st a c.args.number c.in-TagOpen.mark), refl, c.in_ok-open_tag-in-TagOpen.ensures st a p e))
+returns-in_ok-open_tag-in-TagOpen g c = λ st. turn _ c.args.token.kind (kinds.TagOpen c.in-TagOpen.mark) c.args.number c.args.token.start c.args.here.now c.open_tag.new.here c.args.writer.now c.open_tag.new.writer true (wants st) c.in-TagOpen.is (λ x a p e. (wants (in_tag st a c.args.number c.in-TagOpen.mark), refl, c.in_ok-open_tag-in-TagOpen.ensures st a p e))
 
 pub returns-in_ok-put_number-in-Number : goal.returns-in_ok-put_number-in-Number
-returns-in_ok-put_number-in-Number g c = λ st. appends_nothing _ c.args.token.kind (kinds.Number c.in-Number.negative c.in-Number.mark) c.args.number c.args.token.start c.args.here.now c.put_number.new.here c.args.writer.now c.put_number.new.writer true (wants st) c.in-Number.is (λ x. refl) (λ x a p e. (has st (number a c.in-Number.negative c.args.number c.in-Number.mark), refl, c.in_ok-put_number-in-Number.ensures st a p e))
+returns-in_ok-put_number-in-Number g c = λ st. turn _ c.args.token.kind (kinds.Number c.in-Number.negative c.in-Number.mark) c.args.number c.args.token.start c.args.here.now c.put_number.new.here c.args.writer.now c.put_number.new.writer true (wants st) c.in-Number.is (λ x a p e. (has st (number a c.in-Number.negative c.args.number c.in-Number.mark), refl, c.in_ok-put_number-in-Number.ensures st a p e))
 
 pub returns-in_ok-put_word-in-Word : goal.returns-in_ok-put_word-in-Word
-returns-in_ok-put_word-in-Word g c = λ st. appends_nothing _ c.args.token.kind (kinds.Word c.in-Word.n) c.args.number c.args.token.start c.args.here.now c.put_word.new.here c.args.writer.now c.put_word.new.writer true (wants st) c.in-Word.is (λ x. refl) (λ x a p e. (has st (word a c.in-Word.n), refl, c.in_ok-put_word-in-Word.ensures st a p e))
+returns-in_ok-put_word-in-Word g c = λ st. turn _ c.args.token.kind (kinds.Word c.in-Word.n) c.args.number c.args.token.start c.args.here.now c.put_word.new.here c.args.writer.now c.put_word.new.writer true (wants st) c.in-Word.is (λ x a p e. (has st (word a c.in-Word.n), refl, c.in_ok-put_word-in-Word.ensures st a p e))
 
 pub returns-in-ChunkOpen : goal.returns-in-ChunkOpen
-returns-in-ChunkOpen g c = λ st. appends_nothing _ c.args.token.kind (kinds.ChunkOpen) c.args.number c.args.token.start c.args.here.now c.open_chunks.new.here c.args.writer.now c.open_chunks.new.writer true (wants st) c.in-ChunkOpen.is (λ x. refl) (λ x a p e. (wants_chunk st a no_string, refl, record { shows = c.open_chunks.ensures.shows st a p e.shows; handed = same_handed (g.V.Visitor.holds c.args.visitor.now) c.args.writer.now c.open_chunks.new.writer (wants st) (wants_chunk st a no_string) (states_around st) c.open_chunks.ensures.spellers (λ k. handed_open_chunks k st a) e.handed }))
+returns-in-ChunkOpen g c = λ st. turn _ c.args.token.kind (kinds.ChunkOpen) c.args.number c.args.token.start c.args.here.now c.open_chunks.new.here c.args.writer.now c.open_chunks.new.writer true (wants st) c.in-ChunkOpen.is (λ x a p e. (wants_chunk st a no_string, refl, record { shows = c.open_chunks.ensures.shows st a p e.shows; handed = same_handed (g.V.Visitor.holds c.args.visitor.now) c.args.writer.now c.open_chunks.new.writer (wants st) (wants_chunk st a no_string) (states_around st) c.open_chunks.ensures.spellers (λ k. handed_open_chunks k st a) e.handed }))
 
 pub returns-in-SimpleOpen : goal.returns-in-SimpleOpen
-returns-in-SimpleOpen g c = λ st. appends_nothing _ c.args.token.kind (kinds.SimpleOpen) c.args.number c.args.token.start c.args.here.now c.open_simple.new.here c.args.writer.now c.open_simple.new.writer true (wants st) c.in-SimpleOpen.is (λ x. refl) (λ x a p e. (wants_number st a, refl, record { shows = c.open_simple.ensures.shows st a p e.shows; handed = same_handed (g.V.Visitor.holds c.args.visitor.now) c.args.writer.now c.open_simple.new.writer (wants st) (wants_number st a) (states_around st) c.open_simple.ensures.spellers (λ k. handed_open_simple k st a) e.handed }))
-
-pub returns-in_ok-open_embedded-in-EmbedOpen : goal.returns-in_ok-open_embedded-in-EmbedOpen
-returns-in_ok-open_embedded-in-EmbedOpen g c = λ st. appends_nothing _ c.args.token.kind (kinds.EmbedOpen) c.args.number c.args.token.start c.args.here.now c.open_embedded.new.here c.args.writer.now c.open_embedded.new.writer true (wants st) c.in-EmbedOpen.is (λ x. refl) (λ x a p e.
-    let top = c.in_ok-open_embedded-in-EmbedOpen.ensures.spellers in
-    (wants (in_row (in_embed (as_item st) (None) a) no_item), refl, embed_taken (g.V.Visitor.holds c.args.visitor.now) top.0 c.args.writer.now c.open_embedded.new.writer c.args.here.now c.open_embedded.new.here (as_item st) (None) a top.1 top.2 e (c.in_ok-open_embedded-in-EmbedOpen.ensures.shows (as_item st) (None) a p e.shows)))
-
-pub returns-in-Text : goal.returns-in-Text
-returns-in-Text g c = λ st. arm _ c.args.token.kind (kinds.Text c.in-Text.mark) c.args.number c.args.token.start c.args.here.now c.begin_string.new.here c.args.writer.now c.begin_string.new.writer true (wants st) c.in-Text.is (λ x base a p e shows. (builds (as_item st) (piece (text a x c.in-Text.mark)), refl, record { shows = c.begin_string.ensures.shows (as_item st) a x base p e (λ k. refl) shows.shows; handed = same_handed (g.V.Visitor.holds c.args.visitor.now) c.args.writer.now c.begin_string.new.writer (wants st) (builds (as_item st) (piece (text a x c.in-Text.mark))) (states_around st) c.begin_string.ensures.spellers (λ k. handed_begin_string k (as_item st) (text a x c.in-Text.mark)) shows.handed }))
-
-pub returns-in-Bytes : goal.returns-in-Bytes
-returns-in-Bytes g c = λ st. arm _ c.args.token.kind (kinds.Bytes c.in-Bytes.quoted c.in-Bytes.mark) c.args.number c.args.token.start c.args.here.now c.begin_string-in-Bytes.new.here c.args.writer.now c.begin_string-in-Bytes.new.writer true (wants st) c.in-Bytes.is (λ x base a p e shows. (builds (as_item st) (piece (bytes a c.in-Bytes.quoted x c.in-Bytes.mark)), refl, record { shows = c.begin_string-in-Bytes.ensures.shows (as_item st) a x base p e (λ k. not_text k) shows.shows; handed = same_handed (g.V.Visitor.holds c.args.visitor.now) c.args.writer.now c.begin_string-in-Bytes.new.writer (wants st) (builds (as_item st) (piece (bytes a c.in-Bytes.quoted x c.in-Bytes.mark))) (states_around st) c.begin_string-in-Bytes.ensures.spellers (λ k. handed_begin_string k (as_item st) (bytes a c.in-Bytes.quoted x c.in-Bytes.mark)) shows.handed }))
-
-pub begin_string-requires : goal.begin_string-requires
-begin_string-requires g c = let q = c.requires in start_inside c.args.token.kind c.args.number c.args.here.now c.args.writer.now (wants q.0) q.1.0 q.1.1.0 refl q.1.1.1
-
-pub begin_string-requires-in-Bytes : goal.begin_string-requires-in-Bytes
-begin_string-requires-in-Bytes g c = let q = c.requires in start_inside c.args.token.kind c.args.number c.args.here.now c.args.writer.now (wants q.0) q.1.0 q.1.1.0 refl q.1.1.1
+returns-in-SimpleOpen g c = λ st. turn _ c.args.token.kind (kinds.SimpleOpen) c.args.number c.args.token.start c.args.here.now c.open_simple.new.here c.args.writer.now c.open_simple.new.writer true (wants st) c.in-SimpleOpen.is (λ x a p e. (wants_number st a, refl, record { shows = c.open_simple.ensures.shows st a p e.shows; handed = same_handed (g.V.Visitor.holds c.args.visitor.now) c.args.writer.now c.open_simple.new.writer (wants st) (wants_number st a) (states_around st) c.open_simple.ensures.spellers (λ k. handed_open_simple k st a) e.handed }))
 
 pub put_word-requires : goal.put_word-requires
-put_word-requires g c = let r = c.requires.1.1.1 in subst IsModest (r.stands.class ∙ ap (λ (k : Kind). class_of k c.args.number r.stands.content) c.in-Word.is) r.token
+put_word-requires g c = let r = c.requires.ready.1.1.1 in subst IsModest (r.stands.class ∙ ap (λ (k : Kind). class_of k c.args.number r.stands.content) c.in-Word.is) r.token
 
 pub returns-in-ArrayClose : goal.returns-in-ArrayClose
-returns-in-ArrayClose g c = if_ok c.end_array.result _ _ (λ ok t st. appends_nothing _ c.args.token.kind (kinds.ArrayClose) c.args.number c.args.token.start c.args.here.now c.end_array.new.here c.args.writer.now c.end_array.new.writer ok (wants st) c.in-ArrayClose.is (λ x. refl) (λ x a p e. t (wants st) a tt e)) c.end_array.ensures.taken
+returns-in-ArrayClose g c = if_ok c.end_array.result _ _ (λ ok t st. turn _ c.args.token.kind (kinds.ArrayClose) c.args.number c.args.token.start c.args.here.now c.end_array.new.here c.args.writer.now c.end_array.new.writer ok (wants st) c.in-ArrayClose.is (λ x a p e. t (wants st) a tt e)) c.end_array.ensures.taken
 
 pub returns-in-MapClose : goal.returns-in-MapClose
-returns-in-MapClose g c = if_ok c.end_map.result _ _ (λ ok t st. appends_nothing _ c.args.token.kind (kinds.MapClose) c.args.number c.args.token.start c.args.here.now c.end_map.new.here c.args.writer.now c.end_map.new.writer ok (wants st) c.in-MapClose.is (λ x. refl) (λ x a p e. t (wants st) a tt e)) c.end_map.ensures.taken
+returns-in-MapClose g c = if_ok c.end_map.result _ _ (λ ok t st. turn _ c.args.token.kind (kinds.MapClose) c.args.number c.args.token.start c.args.here.now c.end_map.new.here c.args.writer.now c.end_map.new.writer ok (wants st) c.in-MapClose.is (λ x a p e. t (wants st) a tt e)) c.end_map.ensures.taken
 
 pub returns-in-EmbedClose : goal.returns-in-EmbedClose
-returns-in-EmbedClose g c = if_ok c.end_embedded.result _ _ (λ ok t st. appends_nothing _ c.args.token.kind (kinds.EmbedClose c.in-EmbedClose.mark) c.args.number c.args.token.start c.args.here.now c.end_embedded.new.here c.args.writer.now c.end_embedded.new.writer ok (wants st) c.in-EmbedClose.is (λ x. refl) (λ x a p e. t (wants st) a p tt e)) c.end_embedded.ensures.taken
+returns-in-EmbedClose g c = if_ok c.end_embedded.result _ _ (λ ok t st. turn _ c.args.token.kind (kinds.EmbedClose c.in-EmbedClose.mark) c.args.number c.args.token.start c.args.here.now c.end_embedded.new.here c.args.writer.now c.end_embedded.new.writer ok (wants st) c.in-EmbedClose.is (λ x a p e. t (wants st) a p tt e)) c.end_embedded.ensures.taken
 
 pub end_array-requires-clause-shows : goal.end_array-requires-clause-shows
-end_array-requires-clause-shows g c = let q = c.requires in (wants q.0, tt, shown_kind c.args.token.kind c.args.number c.args.here.now c.args.writer.now (wants q.0) q.1.0 q.1.1.0 (ap is_piece c.in-ArrayClose.is) q.1.1.1)
+end_array-requires-clause-shows g c = let q = c.requires.ready in (wants q.0, tt, shown_kind c.args.token.kind c.args.number c.args.here.now c.args.writer.now (wants q.0) q.1.0 q.1.1.0 (ap is_piece c.in-ArrayClose.is) q.1.1.1)
 
 pub end_map-requires-clause-shows : goal.end_map-requires-clause-shows
-end_map-requires-clause-shows g c = let q = c.requires in (wants q.0, tt, shown_kind c.args.token.kind c.args.number c.args.here.now c.args.writer.now (wants q.0) q.1.0 q.1.1.0 (ap is_piece c.in-MapClose.is) q.1.1.1)
+end_map-requires-clause-shows g c = let q = c.requires.ready in (wants q.0, tt, shown_kind c.args.token.kind c.args.number c.args.here.now c.args.writer.now (wants q.0) q.1.0 q.1.1.0 (ap is_piece c.in-MapClose.is) q.1.1.1)
 
 pub end_embedded-requires : goal.end_embedded-requires
-end_embedded-requires g c = let q = c.requires in (wants q.0, tt, shown_kind c.args.token.kind c.args.number c.args.here.now c.args.writer.now (wants q.0) q.1.0 q.1.1.0 (ap is_piece c.in-EmbedClose.is) q.1.1.1)
+end_embedded-requires g c = let q = c.requires.ready in (wants q.0, tt, shown_kind c.args.token.kind c.args.number c.args.here.now c.args.writer.now (wants q.0) q.1.0 q.1.1.0 (ap is_piece c.in-EmbedClose.is) q.1.1.1)

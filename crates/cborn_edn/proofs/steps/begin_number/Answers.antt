@@ -1,6 +1,5 @@
-use Rattle.cborn_edn.proofs.Common.{refl, true}
+use Rattle.cborn_edn.proofs.Common.{refl, true, wants_number, has_number}
 use Rattle.cborn_lex.specs.declared.classes.Kind.TheVariants as kinds
-use Rattle.cborn_edn.proofs.Grammar.Machine.{wants_number, has_number}
 use Rattle.cborn_edn.proofs.Reader.Turning.{turn}
 use Rattle.cborn_edn.proofs.steps.begin_number.Goals as goal
 

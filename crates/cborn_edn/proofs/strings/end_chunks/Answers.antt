@@ -1,5 +1,4 @@
-use Rattle.cborn_edn.proofs.Common.{chunked, after_strings, states_around}
-use Rattle.cborn_edn.proofs.Grammar.Machine.{has, wants_chunk}
+use Rattle.cborn_edn.proofs.Common.{chunked, after_strings, states_around, has, wants_chunk}
 use Rattle.cborn_edn.proofs.HandedOver.Strings.{hands_chunks_end}
 use Rattle.cborn_edn.proofs.Reader.Built.{chunks_shown}
 use Rattle.cborn_edn.proofs.Reader.Results.{on_ok}

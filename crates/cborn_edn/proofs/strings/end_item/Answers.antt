@@ -1,6 +1,5 @@
-use Rattle.cborn_edn.proofs.Common.{sym, ◌∙◌, subst, List, ℕ, ◌-◌, length, take, drop, arith, Event, string, noted, states_around, Hands, str}
+use Rattle.cborn_edn.proofs.Common.{sym, ◌∙◌, subst, List, ℕ, ◌-◌, length, take, drop, arith, Event, string, noted, states_around, Hands, str, as_item, has, builds}
 use Rattle.cborn_edn.specs.devices.Events.{Fits}
-use Rattle.cborn_edn.proofs.Grammar.Machine.{as_item, has, builds}
 use Rattle.cborn_edn.proofs.HandedOver.Fits.{none_shown}
 use Rattle.cborn_edn.proofs.HandedOver.Strings.{string_fits, hands_string}
 use Rattle.cborn_edn.proofs.Reader.Built.{joint_shown, content_shown, item_noted, item_read}

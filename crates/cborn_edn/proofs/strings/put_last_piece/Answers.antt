@@ -1,5 +1,4 @@
-use Rattle.cborn_edn.proofs.Common.{◌≡◌, refl, sym, ap, ◌∙◌, subst, List, ℕ, ◌-◌, length, take, drop, take_rest, least, OfText, String, states_around, Hands}
-use Rattle.cborn_edn.proofs.Grammar.Machine.{wants, has}
+use Rattle.cborn_edn.proofs.Common.{◌≡◌, refl, sym, ap, ◌∙◌, subst, List, ℕ, ◌-◌, length, take, drop, take_rest, least, OfText, String, states_around, Hands, wants, has}
 use Rattle.cborn_edn.proofs.HandedOver.Strings.{hands_text}
 use Rattle.cborn_edn.proofs.Reader.Put.{leaf_shown}
 use Rattle.cborn_edn.proofs.Reader.Settling.{text_item, text_noted}

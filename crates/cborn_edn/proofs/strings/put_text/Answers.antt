@@ -1,5 +1,4 @@
-use Rattle.cborn_edn.proofs.Common.{refl, states_around}
-use Rattle.cborn_edn.proofs.Grammar.Machine.{wants, has}
+use Rattle.cborn_edn.proofs.Common.{refl, states_around, wants, has}
 use Rattle.cborn_edn.proofs.HandedOver.Strings.{hands_text}
 use Rattle.cborn_edn.proofs.Reader.Put.{leaf_shown}
 use Rattle.cborn_edn.proofs.Reader.Results.{on_ok}

@@ -1,5 +1,4 @@
-use Rattle.std.proofs.Common.{codes}
-use Rattle.cborn_edn.proofs.Common.{is_false, is_true, is_null, is_undefined}
+use Rattle.cborn_edn.proofs.Common.{is_false, is_true, is_null, is_undefined, codes}
 use Rattle.cborn_edn.proofs.words.after_name.Goals as goal
 
 pub returns-in-Some : goal.returns-in-Some

@@ -1,5 +1,4 @@
-use Rattle.cborn_edn.proofs.Common.{◌≡◌, ◌∙◌, ◌+◌, ◌-◌, ◌++◌, sym, ap, length, drop, arith, take_rest, Word}
-use Rattle.std.proofs.Common.{length-append, length-drop}
+use Rattle.cborn_edn.proofs.Common.{◌≡◌, ◌∙◌, ◌+◌, ◌-◌, ◌++◌, sym, ap, length, drop, arith, take_rest, Word, length-append, length-drop}
 use Rattle.cborn_lex.specs.Good as good
 use Rattle.cborn_edn.proofs.Reader.CommonTokens.{token_here}
 use Rattle.cborn_edn.proofs.words.word_at.Goals as goal

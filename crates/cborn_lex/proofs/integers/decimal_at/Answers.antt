@@ -1,4 +1,4 @@
-use Rattle.cborn_lex.proofs.Common.{sym, ap, ◌∙◌, arith, ◌+◌, ◌-◌, ◌*◌, ◌<◌, ◌≡◌, ◌⊎◌, inl, inr, true, false, length, get_or, false≢true, eq-eqb, eqb-true, ltb-true, is_numeral}
+use Rattle.cborn_lex.proofs.Common.{sym, ap, ◌∙◌, arith, ◌+◌, ◌-◌, ◌*◌, ◌≡◌, inl, inr, get_or, false≢true, eq-eqb, eqb-true, ltb-true}
 use Rattle.cborn_lex.proofs.Decimals.{digit_more, digit_numeral, below_more, fits_more, decimal_value, decimal_run, no_decimal}
 use Rattle.cborn_lex.proofs.integers.decimal_at.Goals as goal
 use Rattle.cborn_lex.proofs.integers.decimal_at.Goals.{then-len-eq0-via-then-len-eq0, then-len-eq0-via-else-len-eq0+then-tail-eq48, else-len-tail-via-then-len-tail+else-is_numeral, else-len-tail-via-else-len-tail, then-len-gt1, else-len-gt1}
@@ -29,35 +29,26 @@ returns-then-len-eq19-clause-none c =
     no_decimal c.digits.len c.args.tail.now c.digits.invariant.0 c.digits.invariant.2 (λ l k. absurd (omega (arith, l, c.if-len-eq19.true))) (inr (inr (h.0, digit_numeral (get_or c.args.tail.now c.digits.len 0) c.in-Some.digit h.1 h.2)))
 
 pub returns-then-len-eq0-clause-none : goal.returns-then-len-eq0-clause-none
-returns-then-len-eq0-clause-none c = no_decimal c.digits.len c.args.tail.now c.digits.invariant.0 c.digits.invariant.2 (λ l. c.in_default.ensures.none) why
-  where
-    why : (c.digits.len ≡ 0) ⊎ (((1 < c.digits.len) × (get_or c.args.tail.now 0 0 ≡ 48)) ⊎ ((c.digits.len < length c.args.tail.now) × (is_numeral (get_or c.args.tail.now c.digits.len 0) ≡ true)))
-    why = elim c.then-len-eq0.branch [
-      | then-len-eq0-via-then-len-eq0 w ↦ inl w.if-len-eq0.true
-      | then-len-eq0-via-else-len-eq0+then-tail-eq48 w ↦ elim w.if-len-gt1.branch [
-        | then-len-gt1 v ↦ inr (inl (v.if-len-gt1.true, eqb-true (get_or c.args.tail.now 0 0) 48 (sym v.value-is ∙ w.if-tail-eq48.true)))
-        | else-len-gt1 v ↦ absurd (omega (arith, v.if-len-gt1.false, ltb-true 1 c.digits.len (sym v.value-is ∙ w.if-tail-eq48.true)))
-      ]
-    ]
+returns-then-len-eq0-clause-none c = no_decimal c.digits.len c.args.tail.now c.digits.invariant.0 c.digits.invariant.2 (λ l. c.in_default.ensures.none) (elim c.then-len-eq0.branch [
+  | then-len-eq0-via-then-len-eq0 w ↦ inl w.if-len-eq0.true
+  | then-len-eq0-via-else-len-eq0+then-tail-eq48 w ↦ elim w.if-len-gt1.branch [
+    | then-len-gt1 v ↦ inr (inl (v.if-len-gt1.true, eqb-true (get_or c.args.tail.now 0 0) 48 (sym v.value-is ∙ w.if-tail-eq48.true)))
+    | else-len-gt1 v ↦ absurd (omega (arith, v.if-len-gt1.false, ltb-true 1 c.digits.len (sym v.value-is ∙ w.if-tail-eq48.true)))
+  ]
+])
 
 pub returns-then-is_numeral-clause-none : goal.returns-then-is_numeral-clause-none
 returns-then-is_numeral-clause-none c =
     no_decimal c.digits.len c.args.tail.now c.digits.invariant.0 c.digits.invariant.2 (λ l. c.in_default.ensures.none) (inr (inr (c.if-len-tail.true, sym c.is_numeral.ensures ∙ c.if-is_numeral.true)))
 
 pub returns-clause-run : goal.returns-clause-run
-returns-clause-run c = decimal_run c.digits.len c.args.tail.now c.digits.invariant.2 ends
-  where
-    ends : c.digits.len < length c.args.tail.now → is_numeral (get_or c.args.tail.now c.digits.len 0) ≡ false
-    ends h = elim c.else-len-tail.branch [
-      | else-len-tail-via-then-len-tail+else-is_numeral w ↦ sym w.is_numeral.ensures ∙ w.if-is_numeral.false
-      | else-len-tail-via-else-len-tail w ↦ absurd (omega (arith, h, w.if-len-tail.false))
-    ]
+returns-clause-run c = decimal_run c.digits.len c.args.tail.now c.digits.invariant.2 (λ h. elim c.else-len-tail.branch [
+  | else-len-tail-via-then-len-tail+else-is_numeral w ↦ sym w.is_numeral.ensures ∙ w.if-is_numeral.false
+  | else-len-tail-via-else-len-tail w ↦ absurd (omega (arith, h, w.if-len-tail.false))
+])
 
 pub returns-clause-value : goal.returns-clause-value
-returns-clause-value c = λ negative. decimal_value negative c.digits.n c.digits.len c.args.tail.now c.if-len-eq0.false c.digits.invariant.0 (omega arith) c.digits.invariant.2 c.digits.invariant.3 lone
-  where
-    lone : 1 < c.digits.len → get_or c.args.tail.now 0 0 ≡ 48 → ⊥
-    lone h e = elim c.if-len-gt1.branch [
-      | then-len-gt1 w ↦ false≢true (sym c.if-tail-eq48.false ∙ w.value-is ∙ eq-eqb _ 48 e)
-      | else-len-gt1 w ↦ absurd (omega (arith, h, w.if-len-gt1.false))
-    ]
+returns-clause-value c = λ negative. decimal_value negative c.digits.n c.digits.len c.args.tail.now c.if-len-eq0.false c.digits.invariant.0 (omega arith) c.digits.invariant.2 c.digits.invariant.3 (λ h e. elim c.if-len-gt1.branch [
+  | then-len-gt1 w ↦ false≢true (sym c.if-tail-eq48.false ∙ w.value-is ∙ eq-eqb _ 48 e)
+  | else-len-gt1 w ↦ absurd (omega (arith, h, w.if-len-gt1.false))
+])

@@ -1,5 +1,4 @@
-use Rattle.cborn_lex.proofs.Common.{sym, subst, ◌∷◌, [], arith, append-nil, Ok, Err, IfErr, ◌≡◌, Between, HasNoTokens}
-use Rattle.std.specs.Prelude.{Result}
+use Rattle.cborn_lex.proofs.Common.{sym, subst, ◌∷◌, [], arith, append-nil, Ok, Err, IfErr, ◌≡◌, Between, HasNoTokens, Result}
 use Rattle.std.specs.Result.{IsErr, IsErrAnd}
 use Rattle.cborn_lex.proofs.WholeTexts.Progress.{nothing, joins, inside, few, whole_text, stops, whole_stop}
 use Rattle.cborn_lex.proofs.GoodTexts.{covers, next_from, no_tokens, stop_from}
