@@ -1,5 +1,5 @@
 -- Tokens of the fixed notation of nodes, wherever they stand, say these nodes, places aside.
-use Rattle.cborn_edn.proofs.Common.{◌≡◌, refl, sym, ap, ap₂, ◌∙◌, subst, ℕ, zero, suc, ◌^◌, ◌≤◌, List, [], ◌∷◌, ◌++◌, length, Bool, true, false, ◌&&◌, ltb, ◌==◌, cond, append_assoc, append-nil, arith, IsTrue, is_utf8-from_IsUtf8, lt-ltb, Width, Direct, One, Two, Four, Eight, Size, Fixed, Chunk, Tree, Uint, Nint, ByteChunks, TextChunks, Items, Tagged, Simple, Trees, more, Entries, no_entry, entry, count, count_entries, depth_all, depth_entries, holds, following, least, is_simple_value, WidthFits, SizeFits, ChunksFit, Fits, FitsAll, FitsEntries, Mark, Absent, Endless, Wide, Class, ArrayOpen, ArrayClose, MapOpen, MapClose, ParenClose, Comma, Colon, ChunkOpen, Number, TagOpen, Word, SimpleOpen, Text, Bytes, Token, Profile, IndicatorTooNarrow, IndicatorNotAllowed, MixedChunks, BadSimple, TagTooLarge, TextNotUtf8, MeaningError, StringKind, OfBytes, OfText, span, tokens_of, tokens_of_pieces, tokens_of_strings, tokens_of_content, tokens_of_fields, tokens_of_input, is_endless, width, size, unless, width_errors, size_errors, tag_errors, argument_of, is_small, integer, bignum, number_node, number_errors, simple_errors, is_good, is_absent, string_node, chunked_node, Str, is_nil, quoted, said_string, chunk, same_kind, string_errors, chunk_errors, IsItem, IsPiece, text_piece, byte_piece, AreChunks, first, next, AreItems, last, before, IsContent, empty, ArePairs, last_pair, pair_before, IsFields, no_fields, IsText, nothing, unplaced_token, nowhere, one_piece, chunk_pieces, chunk_row, chunk_item, simple_item, notated, notated_content, notated_fields, notated_input, unplaced_chunks, unplaced, unplaced_all, unplaced_entries, mark_for, mark_for_size, AreTexts, IsShowable, EachShowable, ArePairsShowable, ByteNode, TextNode, Pairs as PairNode, no_node, Span, token, map as list_map}
+use Rattle.cborn_edn.proofs.Common.{◌≡◌, refl, sym, ap, ap₂, ◌∙◌, subst, ℕ, zero, suc, ◌^◌, ◌≤◌, List, [], ◌∷◌, ◌++◌, length, Bool, true, false, ◌&&◌, ltb, ◌==◌, cond, append_assoc, append-nil, arith, IsTrue, is_utf8-from_IsUtf8, lt-ltb, Width, Direct, One, Two, Four, Eight, Size, Fixed, Chunk, Tree, Uint, Nint, ByteChunks, TextChunks, Items, Tagged, Simple, Trees, more, Entries, no_entry, entry, count, count_entries, depth_all, depth_entries, holds, following, least, is_simple_value, WidthFits, SizeFits, ChunksFit, Fits, FitsAll, FitsEntries, Mark, Absent, Endless, Wide, Class, ArrayOpen, ArrayClose, MapOpen, MapClose, ParenClose, Comma, Colon, ChunkOpen, Number, TagOpen, Word, SimpleOpen, Text, Bytes, Token, Profile, IndicatorTooNarrow, IndicatorNotAllowed, MixedChunks, BadSimple, TagTooLarge, TextNotUtf8, MeaningError, StringKind, OfBytes, OfText, span, tokens_of, tokens_of_pieces, tokens_of_strings, tokens_of_content, tokens_of_fields, tokens_of_input, is_endless, width, size, unless, width_errors, size_errors, tag_errors, argument_of, is_small, integer, bignum, number_node, number_errors, simple_errors, is_good, is_absent, string_node, chunked_node, Str, is_nil, quoted, said_string, chunk, string_errors, chunk_errors, IsItem, IsPiece, text_piece, byte_piece, AreChunks, first, next, AreItems, last, before, IsContent, empty, ArePairs, last_pair, pair_before, IsFields, no_fields, IsText, nothing, unplaced_token, nowhere, one_piece, chunk_pieces, chunk_row, chunk_item, simple_item, notated, notated_content, notated_fields, notated_input, unplaced_chunks, unplaced, unplaced_all, unplaced_entries, mark_for, mark_for_size, AreTexts, IsShowable, EachShowable, ArePairsShowable, ByteNode, TextNode, Pairs as PairNode, no_node, Span, token, map as list_map}
 use Rattle.cborn_model.specs.declared.heads.Size.TheVariants.{Endless as EndlessMark}
 use Rattle.cborn_model.specs.Tree.{depth}
 use Rattle.cborn_model.proofs.Numbers.Simples.{simple_below}
@@ -8,6 +8,8 @@ use Rattle.cborn_edn.specs.Grammar.{number, word, simple, tag, array, map, strin
 use Rattle.cborn_edn.proofs.Lexed.Joined.{more_tokens, more_pair_tokens, more_chunk_tokens, row_tokens, chunk_tokens, pair_tokens}
 use Rattle.cborn_edn.proofs.RoundTrip.Back.{below, count-unplaced, count-unplaced_entries}
 use Rattle.cborn_edn.proofs.Short.Rebuilt.{both_parts}
+use Rattle.cborn_lex.proofs.GoodBack.{and_false}
+use Rattle.cborn_edn.proofs.Reader.Built.{same_same}
 
 -- Tokens whose classes are known.
 
@@ -166,10 +168,6 @@ no_string_errors e k a w b h good =
     (ap (λ c. cond c (unless e a.start IndicatorNotAllowed) (width_errors a.start m (length b))) (marks w (length b)).definite ∙ (marks w (length b)).fits a.start h)
     (ap (λ c. unless c a.start TextNotUtf8) good)
 
-and_false : (b : Bool) → (b && false) ≡ false
-and_false true = refl
-and_false false = refl
-
 unplaced_string : (k : StringKind) (p : ℕ) (w : Width) (b : List ℕ) → unplaced (string_node k p w b) ≡ string_node k 0 w b
 unplaced_string OfBytes p w b = refl
 unplaced_string OfText p w b = refl
@@ -197,10 +195,6 @@ bytes_good (c ∷ cs) = (refl, bytes_good cs)
 texts_good : (cs : List Chunk) → AreTexts cs → AreGood OfText cs
 texts_good [] h = tt
 texts_good (c ∷ cs) h = (h.0, texts_good cs h.1)
-
-same_kind-same : (k : StringKind) → same_kind k k ≡ true
-same_kind-same OfBytes = refl
-same_kind-same OfText = refl
 
 chunks-append : (cs ds : List Chunk) → unplaced_chunks (cs ++ ds) ≡ unplaced_chunks cs ++ unplaced_chunks ds
 chunks-append [] ds = refl
@@ -234,7 +228,7 @@ module _ {p : Profile} {d : ℕ} where
         says = h.says ++ chunk s ∷ [];
         errors = h.errors ++ ([] ++ chunk_errors k s);
         said = next b.at h.said (piece (piece_at k a.0 c.bytes m));
-        none = both_parts h.none (both_parts (ap (λ t. unless t a.0.start MixedChunks) (same_kind-same k)) (no_string_errors false k a.0 c.width c.bytes fits.0.0 good.0));
+        none = both_parts h.none (both_parts (ap (λ t. unless t a.0.start MixedChunks) (same_same k)) (no_string_errors false k a.0 c.width c.bytes fits.0.0 good.0));
         same = chunks-append h.says (chunk s ∷ []) ∙ ap₂ (λ (us : List Chunk) (w : Width). us ++ made_chunk w c.bytes ∷ []) h.same (marks c.width (length c.bytes)).wide;
       }) in
       let r = more_chunks k cs (ds ++ made_chunk c.width c.bytes ∷ []) (x ++ token b.at Comma ∷ q.front) q.back one q.right fits.1 good.1 in
