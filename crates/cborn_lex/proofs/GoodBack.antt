@@ -16,7 +16,7 @@ far d k h = go (eqb d k) refl
     go true e = let same = eqb-true d k e in absurd (omega (arith, h, same))
     go false e = refl
 
-and_false : (b : Bool) → (b && false) ≡ false
+pub and_false : (b : Bool) → (b && false) ≡ false
 and_false true = refl
 and_false false = refl
 
@@ -54,7 +54,7 @@ no_prefix b (c ∷ d ∷ y) e h =
     let one = and_parts (is_digit d 10) (list_all (λ n. is_digit n 10) y) two.1 in
     rw (far d b (omega (arith, h, (in_ten d one.0).1))) (and_false (eqb c 48))
 
-within_back : (n : ℕ) → n < 2 ^ 128 → within n ≡ Ok n
+pub within_back : (n : ℕ) → n < 2 ^ 128 → within n ≡ Ok n
 within_back n h = rw (lt-ltb n (2 ^ 128) h) refl
 
 -- a literal is read as its value, if that is below 2^128

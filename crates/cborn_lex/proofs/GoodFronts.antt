@@ -5,6 +5,7 @@ use Rattle.cborn_lex.specs.Bad as bad
 use Rattle.cborn_lex.proofs.GoodBack.{never, literal_is}
 use Rattle.cborn_lex.proofs.BadNumbers.{float_is, no_within}
 use Rattle.cborn_lex.proofs.OneFront.Quotes.{quoted}
+use Rattle.cborn_lex.proofs.OneFront.Alone.{all_text}
 
 -- taken as what it reads as, or it fails for that reason
 abbrev pub Good : Profile → List ℕ → List ℕ → Front → Type 0
@@ -20,9 +21,6 @@ same_bytes [] [] e = refl
 same_bytes [] (y ∷ ys) e = absurd (let f : false ≡ true = e in cc)
 same_bytes (x ∷ xs) [] e = absurd (let f : false ≡ true = e in cc)
 same_bytes (x ∷ xs) (y ∷ ys) e = let h = and_parts (eqb x y) (bytes_eq xs ys) e in ap (λ c. c ∷ xs) (eqb-true x y h.0) ∙ ap (λ l. y ∷ l) (same_bytes xs ys h.1)
-
-ended : (s z : List ℕ) → z ≡ [] → s ++ z ≡ s
-ended s z e = ap (λ l. s ++ l) e ∙ append-nil s
 
 pub assoc : (x y z : List ℕ) → (x ++ y) ++ z ≡ x ++ (y ++ z)
 assoc x y z = simp append_assoc refl
@@ -48,7 +46,7 @@ a_white p c s z a e h = put p c c s [] z a WhiteSpace refl h.0 h.1 (good.white c
 
 a_slash : Case slash (λ c. eqb c 47)
 a_slash p c s z a e (inl (body, t, f)) = put p c 47 s (body ++ 47 ∷ []) z a WhiteSpace (eqb-true c 47 e) t.whole f (good.comment body z t.none)
-a_slash p c s z a e (inr (l, f)) = put p c 47 s s z a (Bad UnclosedComment) (eqb-true c 47 e) refl f (subst (λ y. Fails p (47 ∷ y) UnclosedComment) (sym (ended s z l.all)) (bad.comment s l.none))
+a_slash p c s z a e (inr (l, f)) = put p c 47 s s z a (Bad UnclosedComment) (eqb-true c 47 e) refl f (subst (λ y. Fails p (47 ∷ y) UnclosedComment) (sym (all_text s z l.all)) (bad.comment s l.none))
 
 a_hash : Case hash (λ c. eqb c 35)
 a_hash One c s z a e h = put One c 35 s [] z a (Bad UnexpectedCharacter) (eqb-true c 35 e) h.0 h.1 (bad.hash z refl)
@@ -110,7 +108,7 @@ strings p whole unclosed q Is r k f s z a con content no_end (inl (x, mark, d, i
 strings p whole unclosed q Is r k f s z a con content no_end (inl (x, mark, d, inr (none, g))) =
     at p (f ++ s) (f ++ (x ++ q ∷ mark)) z a (Bad r) (ap (λ y. f ++ y) d.text) g
     (subst (λ y. Fails p y r) (sym (assoc f (x ++ q ∷ mark) z ∙ ap (λ l. f ++ l) (assoc x (q ∷ mark) z))) (content x (mark ++ z) d.inside none))
-strings p whole unclosed q Is r k f s z a con content no_end (inr (u, n, g)) = at p (f ++ s) (f ++ s) z a (Bad UnclosedString) refl g (subst (λ y. Fails p y UnclosedString) (sym (ended (f ++ s) z n)) (no_end s u))
+strings p whole unclosed q Is r k f s z a con content no_end (inr (u, n, g)) = at p (f ++ s) (f ++ s) z a (Bad UnclosedString) refl g (subst (λ y. Fails p y UnclosedString) (sym (all_text (f ++ s) z n)) (no_end s u))
 
 -- no quote closes what is unclosed
 no_close : (q : ℕ) → eqb q 92 ≡ false → (y : List ℕ) → is_unclosed q y ≡ true → (x z : List ℕ) → is_content q x ≡ true → y ≡ x ++ q ∷ z → ⊥

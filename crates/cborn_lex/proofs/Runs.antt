@@ -8,7 +8,7 @@ use Rattle.std.proofs.lemmas.Simd.{zip2_splat, zip2_of_maps, map-map, mask_l-mod
 use Rattle.cborn_lex.proofs.Contents.Lettered.{is_text}
 use Rattle.cborn_lex.proofs.Contents.Ends.{content_then, unclosed_then}
 use Rattle.cborn_lex.proofs.Contents.Texts.{LetterAt, NoLetters}
-use Rattle.cborn_lex.proofs.Contents.Letters.{raw_allowed, raw_written, raw_meant, escape_is, no_escape, no_control, never, no_raw}
+use Rattle.cborn_lex.proofs.Contents.Letters.{raw_allowed, raw_written, raw_meant, escape_is, no_escape, no_control, never, no_raw, not_raw}
 use Rattle.cborn_lex.proofs.OneFront.Quotes.{content_cons, quoted}
 use lib.Bits.{bit_or}
 use lib.Count.{count_trailing_zeros}
@@ -321,10 +321,6 @@ module _ (q : ℕ) (tail old mid : List ℕ) (at : ℕ) (quote : Quote q) (s : L
 
   pub none_at_control : at < length tail → (get_or tail at 0 ≡ q → ⊥) → (get_or tail at 0 ≡ 92 → ⊥) → is_plain q (get_or tail at 0) ≡ false → NoText q tail
   none_at_control a n m p = nothing_from a n (λ k. no_control q (get_or tail at 0) (take k (drop (at + 1) tail)) (not_raw (is_raw (get_or tail at 0)) (eqb (get_or tail at 0) q) p (ne_eqb _ q n)) m)
-    where
-      not_raw : (a b : Bool) → (a && not b) ≡ false → b ≡ false → a ≡ false
-      not_raw false b h k = refl
-      not_raw true b h k = absurd (false≢true (sym h ∙ ap not k))
 
 -- an escape that fails fails in a shorter text too
 

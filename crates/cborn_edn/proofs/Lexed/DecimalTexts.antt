@@ -1,10 +1,11 @@
 -- Numbers and tags of the fixed notation, as pieces.
-use Rattle.cborn_edn.proofs.Common.{◌≡◌, refl, sym, ap, ◌∙◌, subst, ℕ, suc, ◌+◌, ◌*◌, ◌^◌, ◌<◌, ◌%◌, List, [], ◌∷◌, ◌++◌, length, get_or, Bool, true, false, ◌||◌, not, eqb, inl, inr, Ok, Some, decimal, append-nil, arith, and_from, and_right, cond-true, cond-false, lt-ltb, ne_eqb, cases_lt, decimal_digit, decimal_is_IsNumeral_wide, decimal_by_steps_wide, codes, list_all, is_digit, digit_value, Mark, Absent, Wide, Class, Number, TagOpen, Read, begins, is_numeral, are_digits, within, has_prefix, number_front, signed, Start, digit, start_of, ReadsFrom, ReadsNumber, Direct, token, nowhere, indicator, length-append, ProfileOne}
+use Rattle.cborn_edn.proofs.Common.{◌≡◌, refl, sym, ap, ◌∙◌, subst, ℕ, suc, ◌+◌, ◌*◌, ◌^◌, ◌<◌, ◌%◌, List, [], ◌∷◌, ◌++◌, length, get_or, Bool, true, false, ◌||◌, not, eqb, inl, inr, Ok, Some, decimal, append-nil, arith, and_from, and_right, cond-true, cond-false, ne_eqb, cases_lt, decimal_digit, decimal_is_IsNumeral_wide, decimal_by_steps_wide, codes, list_all, is_digit, digit_value, Mark, Absent, Wide, Class, Number, TagOpen, Read, begins, is_numeral, are_digits, within, has_prefix, number_front, signed, Start, digit, start_of, ReadsFrom, ReadsNumber, Direct, token, nowhere, indicator, length-append, ProfileOne}
 use Rattle.std.proofs.Math.ListN.{get_or-append}
 use Rattle.std.proofs.lemmas.Str.Parse.{digit_from_value}
 use Rattle.std.specs.Str.Parse.{AllDigits, digits_value_after}
 use Rattle.cborn_lex.specs.Numbers.{number, integer}
 use Rattle.cborn_lex.proofs.TwoParts.{passes, passes_at, digit_starts}
+use Rattle.cborn_lex.proofs.GoodBack.{within_back}
 use Rattle.cborn_edn.proofs.Lexed.Chained.{Chained, one_token}
 use Rattle.cborn_lex.proofs.WholeTexts.Spelling.{IsMark}
 use Rattle.cborn_edn.proofs.Lexed.MarkTexts.{Closes, mark_is, indicates}
@@ -22,9 +23,6 @@ pub starts : (c : ℕ) → digit_value c < 10 → start_of c ≡ digit
 starts c h = let r = digit_from_value c h in digit_starts c r.0 (omega (arith, r.1))
 
 -- What digits without a leading zero stand for.
-
-within_bounds : (n : ℕ) → n < 2 ^ 128 → within n ≡ Ok n
-within_bounds n h = cond-true _ _ _ (lt-ltb n (2 ^ 128) h)
 
 value : (n : ℕ) (ds : List ℕ) → number 10 n ds ≡ digits_value_after 10 n ds
 value n [] = refl
@@ -57,7 +55,7 @@ small_decimal n (c ∷ ds) some small e h d v = record {
   rest = ds;
   whole = e;
   digits = d;
-  spells = λ negative. plain_integer negative c ds (ne_eqb c 48 (λ f. omega (arith, h, f))) d ∙ (ap within (value 0 (c ∷ ds) ∙ v) ∙ within_bounds n small);
+  spells = λ negative. plain_integer negative c ds (ne_eqb c 48 (λ f. omega (arith, h, f))) d ∙ (ap within (value 0 (c ∷ ds) ∙ v) ∙ within_back n small);
 }
 
 pub decimal_text : (n : ℕ) → n < 2 ^ 65 → Decimal n

@@ -53,7 +53,7 @@ kind_first : (b : StringsBefore) (ps : Pieces) → kind_or (kind_before b) (str 
 kind_first no_string ps = refl
 kind_first (after_strings ss c) ps = refl
 
-same_same : (k : StringKind) → same_kind k k ≡ true
+pub same_same : (k : StringKind) → same_kind k k ≡ true
 same_same OfBytes = refl
 same_same OfText = refl
 

@@ -3,10 +3,8 @@ use Rattle.cborn_edn.proofs.Common.{◌≡◌, refl, sym, ap, ◌∙◌, subst, 
 use Rattle.cborn_lex.specs.Forms.{Reads}
 use Rattle.cborn_lex.specs.Lex as lex
 use Rattle.cborn_lex.proofs.OneFront.Alone.{one_front}
+use Rattle.cborn_lex.proofs.GoodBack.{never}
 use Rattle.cborn_edn.proofs.Reader.CommonTokens.{begins_here}
-
-clash : {A : Type 0} → false ≡ true → A
-clash e = absurd (let bad : false ≡ true = e in cc)
 
 -- a character that is a token alone
 record Alone (c : ℕ) : Type 0 where
@@ -25,7 +23,7 @@ alone c h = elim (or_cases (eqb c 44) _ h) [
         | inl e ↦ at 58 (eqb-true c 58 e) (record { class = Colon; starting = refl; is = tt })
         | inr h ↦ elim (or_cases (eqb c 41) false h) [
           | inl e ↦ at 41 (eqb-true c 41 e) (record { class = ParenClose; starting = refl; is = tt })
-          | inr h ↦ clash h
+          | inr h ↦ never h
         ]
       ]
     ]

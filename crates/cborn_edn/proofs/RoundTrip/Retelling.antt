@@ -1,5 +1,5 @@
 -- Tokens of the fixed notation of nodes, wherever they stand, say these nodes, places aside.
-use Rattle.cborn_edn.proofs.Common.{◌≡◌, refl, sym, ap, ◌∙◌, subst, ℕ, zero, suc, ◌^◌, ◌≤◌, List, [], ◌∷◌, ◌++◌, length, Bool, true, false, ◌&&◌, ltb, ◌==◌, cond, append_assoc, append-nil, arith, IsTrue, is_utf8-from_IsUtf8, lt-ltb, Width, Direct, One, Two, Four, Eight, Size, Fixed, Chunk, Tree, Uint, Nint, ByteChunks, TextChunks, Items, Tagged, Simple, Trees, more, Entries, no_entry, entry, count, count_entries, depth_all, depth_entries, holds, following, least, is_simple_value, WidthFits, SizeFits, ChunksFit, Fits, FitsAll, FitsEntries, Mark, Absent, Endless, Wide, Class, ArrayOpen, ArrayClose, MapOpen, MapClose, ParenClose, Comma, Colon, ChunkOpen, Number, TagOpen, Word, SimpleOpen, Text, Bytes, Token, Profile, IndicatorTooNarrow, IndicatorNotAllowed, MixedChunks, BadSimple, TagTooLarge, TextNotUtf8, MeaningError, StringKind, OfBytes, OfText, span, tokens_of, tokens_of_pieces, tokens_of_strings, tokens_of_content, tokens_of_fields, tokens_of_input, is_endless, width, size, unless, width_errors, size_errors, tag_errors, argument_of, is_small, integer, bignum, number_node, number_errors, simple_errors, is_good, is_absent, string_node, chunked_node, Str, is_nil, quoted, said_string, chunk, same_kind, string_errors, chunk_errors, IsItem, IsPiece, text_piece, byte_piece, AreChunks, first, next, AreItems, last, before, IsContent, empty, ArePairs, last_pair, pair_before, IsFields, no_fields, IsText, nothing, unplaced_token, nowhere, one_piece, chunk_pieces, chunk_row, chunk_item, simple_item, notated, notated_content, notated_fields, notated_input, unplaced_chunks, unplaced, unplaced_all, unplaced_entries, mark_for, mark_for_size, AreTexts, IsShowable, EachShowable, ArePairsShowable, ByteNode, TextNode, Pairs as PairNode, no_node, Span, token, map as list_map}
+use Rattle.cborn_edn.proofs.Common.{◌≡◌, refl, sym, ap, ap₂, ◌∙◌, subst, ℕ, zero, suc, ◌^◌, ◌≤◌, List, [], ◌∷◌, ◌++◌, length, Bool, true, false, ◌&&◌, ltb, ◌==◌, cond, append_assoc, append-nil, arith, IsTrue, is_utf8-from_IsUtf8, lt-ltb, Width, Direct, One, Two, Four, Eight, Size, Fixed, Chunk, Tree, Uint, Nint, ByteChunks, TextChunks, Items, Tagged, Simple, Trees, more, Entries, no_entry, entry, count, count_entries, depth_all, depth_entries, holds, following, least, is_simple_value, WidthFits, SizeFits, ChunksFit, Fits, FitsAll, FitsEntries, Mark, Absent, Endless, Wide, Class, ArrayOpen, ArrayClose, MapOpen, MapClose, ParenClose, Comma, Colon, ChunkOpen, Number, TagOpen, Word, SimpleOpen, Text, Bytes, Token, Profile, IndicatorTooNarrow, IndicatorNotAllowed, MixedChunks, BadSimple, TagTooLarge, TextNotUtf8, MeaningError, StringKind, OfBytes, OfText, span, tokens_of, tokens_of_pieces, tokens_of_strings, tokens_of_content, tokens_of_fields, tokens_of_input, is_endless, width, size, unless, width_errors, size_errors, tag_errors, argument_of, is_small, integer, bignum, number_node, number_errors, simple_errors, is_good, is_absent, string_node, chunked_node, Str, is_nil, quoted, said_string, chunk, string_errors, chunk_errors, IsItem, IsPiece, text_piece, byte_piece, AreChunks, first, next, AreItems, last, before, IsContent, empty, ArePairs, last_pair, pair_before, IsFields, no_fields, IsText, nothing, unplaced_token, nowhere, one_piece, chunk_pieces, chunk_row, chunk_item, simple_item, notated, notated_content, notated_fields, notated_input, unplaced_chunks, unplaced, unplaced_all, unplaced_entries, mark_for, mark_for_size, AreTexts, IsShowable, EachShowable, ArePairsShowable, ByteNode, TextNode, Pairs as PairNode, no_node, Span, token, map as list_map}
 use Rattle.cborn_model.specs.declared.heads.Size.TheVariants.{Endless as EndlessMark}
 use Rattle.cborn_model.specs.Tree.{depth}
 use Rattle.cborn_model.proofs.Numbers.Simples.{simple_below}
@@ -7,7 +7,9 @@ use Rattle.cborn_edn.specs.devices.Syntax as tree
 use Rattle.cborn_edn.specs.Grammar.{number, word, simple, tag, array, map, string, chunked, piece, tight, tight_fields, items}
 use Rattle.cborn_edn.proofs.Lexed.Joined.{more_tokens, more_pair_tokens, more_chunk_tokens, row_tokens, chunk_tokens, pair_tokens}
 use Rattle.cborn_edn.proofs.RoundTrip.Back.{below, count-unplaced, count-unplaced_entries}
-use Rattle.cborn_edn.proofs.Short.Rebuilt.{both_ap, then_errors}
+use Rattle.cborn_edn.proofs.Short.Rebuilt.{both_parts}
+use Rattle.cborn_lex.proofs.GoodBack.{and_false}
+use Rattle.cborn_edn.proofs.Reader.Built.{same_same}
 
 -- Tokens whose classes are known.
 
@@ -29,7 +31,7 @@ parted [] (t ∷ y) z e = absurd (let bad : [] ≡ t ∷ (y ++ z) = e in cc)
 parted (s ∷ x) (t ∷ y) z e =
     let h : unplaced_token s ≡ t = cc in
     let r = parted x y z cc in
-    record { front = s ∷ r.front; back = r.back; is = ap (λ w. s ∷ w) r.is; left = both_ap (λ (a : Token) (w : List Token). a ∷ w) h r.left; right = r.right }
+    record { front = s ∷ r.front; back = r.back; is = ap (λ w. s ∷ w) r.is; left = ap₂ (λ (a : Token) (w : List Token). a ∷ w) h r.left; right = r.right }
 
 -- a token of this class, and others
 record FirstToken (x : List Token) (k : Class) (y : List Token) : Type 0 where
@@ -162,13 +164,9 @@ piece_at OfText a b m = text_piece a
 no_string_errors : (e : Bool) (k : StringKind) (a : Span) (w : Width) (b : List ℕ) → WidthFits w (length b) → is_good k b ≡ true → string_errors e (str_of k a b (mark_for w (length b))) ≡ []
 no_string_errors e k a w b h good =
     let m = mark_for w (length b) in
-    then_errors
+    both_parts
     (ap (λ c. cond c (unless e a.start IndicatorNotAllowed) (width_errors a.start m (length b))) (marks w (length b)).definite ∙ (marks w (length b)).fits a.start h)
     (ap (λ c. unless c a.start TextNotUtf8) good)
-
-and_false : (b : Bool) → (b && false) ≡ false
-and_false true = refl
-and_false false = refl
 
 unplaced_string : (k : StringKind) (p : ℕ) (w : Width) (b : List ℕ) → unplaced (string_node k p w b) ≡ string_node k 0 w b
 unplaced_string OfBytes p w b = refl
@@ -197,10 +195,6 @@ bytes_good (c ∷ cs) = (refl, bytes_good cs)
 texts_good : (cs : List Chunk) → AreTexts cs → AreGood OfText cs
 texts_good [] h = tt
 texts_good (c ∷ cs) h = (h.0, texts_good cs h.1)
-
-same_kind-same : (k : StringKind) → same_kind k k ≡ true
-same_kind-same OfBytes = refl
-same_kind-same OfText = refl
 
 chunks-append : (cs ds : List Chunk) → unplaced_chunks (cs ++ ds) ≡ unplaced_chunks cs ++ unplaced_chunks ds
 chunks-append [] ds = refl
@@ -234,8 +228,8 @@ module _ {p : Profile} {d : ℕ} where
         says = h.says ++ chunk s ∷ [];
         errors = h.errors ++ ([] ++ chunk_errors k s);
         said = next b.at h.said (piece (piece_at k a.0 c.bytes m));
-        none = then_errors h.none (then_errors (ap (λ t. unless t a.0.start MixedChunks) (same_kind-same k)) (no_string_errors false k a.0 c.width c.bytes fits.0.0 good.0));
-        same = chunks-append h.says (chunk s ∷ []) ∙ both_ap (λ (us : List Chunk) (w : Width). us ++ made_chunk w c.bytes ∷ []) h.same (marks c.width (length c.bytes)).wide;
+        none = both_parts h.none (both_parts (ap (λ t. unless t a.0.start MixedChunks) (same_same k)) (no_string_errors false k a.0 c.width c.bytes fits.0.0 good.0));
+        same = chunks-append h.says (chunk s ∷ []) ∙ ap₂ (λ (us : List Chunk) (w : Width). us ++ made_chunk w c.bytes ∷ []) h.same (marks c.width (length c.bytes)).wide;
       }) in
       let r = more_chunks k cs (ds ++ made_chunk c.width c.bytes ∷ []) (x ++ token b.at Comma ∷ q.front) q.back one q.right fits.1 good.1 in
       said_at (append_assoc x (token b.at Comma ∷ q.front) q.back ∙ ap (λ w. x ++ w) (sym (b.is ∙ ap (λ w. token b.at Comma ∷ w) q.is))) (subst (λ us. SaidChunks p d k ((x ++ token b.at Comma ∷ q.front) ++ q.back) us) (append_assoc ds (made_chunk c.width c.bytes ∷ []) (unplaced_chunks cs)) r)
@@ -332,8 +326,8 @@ module _ {p : Profile} where
           says = Items o.at.start (size m (count r.says)) r.says;
           errors = r.errors ++ size_errors o.at.start m (count r.says);
           said = array o.at o.stop r.said;
-          none = then_errors r.none (ap (size_errors o.at.start m) n ∙ no_size_errors o.at.start s (count ts) h.0);
-          same = both_ap (Items 0) (ap (size m) n ∙ size_back s (count ts)) r.same;
+          none = both_parts r.none (ap (size_errors o.at.start m) n ∙ no_size_errors o.at.start s (count ts) h.0);
+          same = ap₂ (Items 0) (ap (size m) n ∙ size_back s (count ts)) r.same;
         })
     item_said (PairNode q s es) zero x h show low e = absurd (omega (arith, low))
     item_said (PairNode q s es) (suc d) x h show low e =
@@ -345,8 +339,8 @@ module _ {p : Profile} where
           says = PairNode o.at.start (size m (count_entries r.says)) r.says;
           errors = r.errors ++ size_errors o.at.start m (count_entries r.says);
           said = map o.at o.stop r.said;
-          none = then_errors r.none (ap (size_errors o.at.start m) n ∙ no_size_errors o.at.start s (count_entries es) h.0);
-          same = both_ap (PairNode 0) (ap (size m) n ∙ size_back s (count_entries es)) r.same;
+          none = both_parts r.none (ap (size_errors o.at.start m) n ∙ no_size_errors o.at.start s (count_entries es) h.0);
+          same = ap₂ (PairNode 0) (ap (size m) n ∙ size_back s (count_entries es)) r.same;
         })
     item_said (Tagged q w n t) zero x h show low e = absurd (omega (arith, low))
     item_said (Tagged q w n t) (suc d) x h show low e =
@@ -357,8 +351,8 @@ module _ {p : Profile} where
           says = Tagged o.at.start (width m n) n r.says;
           errors = tag_errors o.at.start m n ++ r.errors;
           said = tag o.at o.stop r.said;
-          none = then_errors (ap (λ b. cond b (width_errors o.at.start m n) (unless false o.at.start TagTooLarge)) (lt-ltb n (2 ^ 64) (below w n h.0)) ∙ (marks w n).fits o.at.start h.0) r.none;
-          same = both_ap (λ (v : Width) (u : Tree). Tagged 0 v n u) (marks w n).wide r.same;
+          none = both_parts (ap (λ b. cond b (width_errors o.at.start m n) (unless false o.at.start TagTooLarge)) (lt-ltb n (2 ^ 64) (below w n h.0)) ∙ (marks w n).fits o.at.start h.0) r.none;
+          same = ap₂ (λ (v : Width) (u : Tree). Tagged 0 v n u) (marks w n).wide r.same;
         })
     item_said (Simple q n) d x h s low e = simple_said n x h e
 
@@ -378,7 +372,7 @@ module _ {p : Profile} where
         let q = parted b.rest (tokens_of (notated t)) (more_tokens ts) b.same in
         let r = items_said ts d q.front q.back (unplaced t) (item_said t d q.front h.0 s.0 (omega (arith, low)) q.left) h.1 s.1 (omega (arith, low)) q.right in
         said_at (ap (λ w. x ++ w) (sym (b.is ∙ ap (λ w. token b.at Comma ∷ w) q.is)))
-        (record { says = more f.says r.says; errors = f.errors ++ r.errors; said = before b.at f.said r.said; none = then_errors f.none r.none; same = both_ap more f.same r.same })
+        (record { says = more f.says r.says; errors = f.errors ++ r.errors; said = before b.at f.said r.said; none = both_parts f.none r.none; same = ap₂ more f.same r.same })
 
     fields_said : (es : Entries) (d : ℕ) (x : List Token) → FitsEntries es → ArePairsShowable es → depth_entries es ≤ d → list_map unplaced_token x ≡ tokens_of_fields (notated_fields es) → Said (IsFields p d) unplaced_entries x (unplaced_entries es)
     fields_said no_entry d x h s low e = said_at (sym (no_tokens x e)) (record { says = no_entry; errors = []; said = no_fields; none = refl; same = refl })
@@ -394,7 +388,7 @@ module _ {p : Profile} where
         → Said (ArePairs p d) unplaced_entries (x ++ token a Colon ∷ (y ++ z)) (entry t u (unplaced_entries es))
     pairs_said no_entry d x y z a t u f g h s low e =
         said_at (ap (λ w. x ++ token a Colon ∷ w) (sym (ap (λ w. y ++ w) (no_tokens z e) ∙ append-nil y)))
-        (record { says = entry f.says g.says no_entry; errors = f.errors ++ g.errors; said = last_pair a f.said g.said; none = then_errors f.none g.none; same = both_ap (λ (i j : Tree). entry i j no_entry) f.same g.same })
+        (record { says = entry f.says g.says no_entry; errors = f.errors ++ g.errors; said = last_pair a f.said g.said; none = both_parts f.none g.none; same = ap₂ (λ (i j : Tree). entry i j no_entry) f.same g.same })
     pairs_said (entry k v es) d x y z a t u f g h s low e =
         let b = first_token z Comma (tokens_of (notated k) ++ (token nowhere Colon ∷ (tokens_of (notated v) ++ more_pair_tokens es))) e in
         let q = paired b.rest (tokens_of (notated k)) (tokens_of (notated v)) (more_pair_tokens es) b.same in
@@ -402,7 +396,7 @@ module _ {p : Profile} where
         let j = item_said v d q.value h.1 s.1 (omega (arith, low)) q.mid in
         let r = pairs_said es d q.key q.value q.rest q.colon (unplaced k) (unplaced v) i j h.2 s.2 (omega (arith, low)) q.right in
         said_at (ap (λ w. x ++ token a Colon ∷ (y ++ w)) (sym (b.is ∙ ap (λ w. token b.at Comma ∷ w) q.is)))
-        (record { says = entry f.says g.says r.says; errors = f.errors ++ (g.errors ++ r.errors); said = pair_before a b.at f.said g.said r.said; none = then_errors f.none (then_errors g.none r.none); same = both_ap (λ (l : Tree × Tree) (es : Entries). entry l.0 l.1 es) (both_ap (λ (l m : Tree). (l, m)) f.same g.same) r.same })
+        (record { says = entry f.says g.says r.says; errors = f.errors ++ (g.errors ++ r.errors); said = pair_before a b.at f.said g.said r.said; none = both_parts f.none (both_parts g.none r.none); same = ap₂ (λ (l : Tree × Tree) (es : Entries). entry l.0 l.1 es) (ap₂ (λ (l m : Tree). (l, m)) f.same g.same) r.same })
 
 -- LAW: tokens of the fixed notation say the nodes, places aside
 pub reads_same : (p : Profile) (limit : ℕ) (nodes : Trees) (x : List Token) → FitsAll nodes → EachShowable nodes → depth_all nodes ≤ limit → list_map unplaced_token x ≡ tokens_of_input (notated_input nodes) → (says : Trees) × IsText p limit x says [] × (unplaced_all says ≡ unplaced_all nodes)

@@ -1,5 +1,5 @@
 -- Tokens that the relation takes are those of a tree within the limit, which says the same nodes and has the same meaning errors.
-use Rattle.cborn_edn.proofs.Common.{◌≡◌, refl, sym, ap, ◌∙◌, subst, ℕ, ◌+◌, ◌≤◌, List, [], ◌∷◌, ◌++◌, append_assoc, arith, false, Chunk, Tree, Items, Tagged, Trees, more, Entries, no_entry, entry, count, count_entries, spelled_all, Comma, Colon, ArrayOpen, ArrayClose, MapOpen, MapClose, EmbedOpen, EmbedClose, ChunkOpen, ParenClose, TagOpen, Mark, Token, Profile, MeaningError, StringKind, OfBytes, Span, token, Strings, RowBefore, PairsBefore, tokens_of, tokens_of_piece, tokens_of_pieces, tokens_of_strings, tokens_of_row, tokens_of_row_before, tokens_of_content, tokens_of_pairs, tokens_of_pairs_before, tokens_of_fields, tokens_of_input, depth, depth_of_piece, depth_of_pieces, depth_of_strings, depth_of_row, depth_of_row_before, depth_of_content, depth_of_pairs, depth_of_pairs_before, depth_of_fields, depth_of_input, AllowsCount, commas, commas_of_piece, commas_of_pieces, commas_of_strings, commas_of_row, commas_of_row_before, commas_of_content, commas_of_pairs, commas_of_pairs_before, commas_of_fields, commas_of_input, snoc, snoc_entry, node, str_of, str, kind_in, chunks, nodes, nodes_before, nodes_in, entries_before, entries_in, faults, faults_of_piece, faults_of_pieces, faults_of_strings, faults_of_row, faults_before, faults_in, faults_of_pairs, faults_before_pairs, faults_of_fields, nodes_of_input, faults_of_input, chunked_node, tag_errors, size_errors, width, size, Str, is_nil, joined, said_string, chunk, piece_errors, string_errors, chunk_errors, IsItem, IsPiece, text_piece, byte_piece, ArePieces, AreChunks, first, next, AreItems, last, before, IsContent, empty, ArePairs, last_pair, pair_before, IsFields, no_fields, IsText, nothing, Pairs as PairNode, no_node, ProfileOne, ProfileTwo}
+use Rattle.cborn_edn.proofs.Common.{◌≡◌, refl, sym, ap, ap₂, ◌∙◌, subst, ℕ, ◌+◌, ◌≤◌, List, [], ◌∷◌, ◌++◌, append_assoc, arith, false, Chunk, Tree, Items, Tagged, Trees, more, Entries, no_entry, entry, count, count_entries, spelled_all, Comma, Colon, ArrayOpen, ArrayClose, MapOpen, MapClose, EmbedOpen, EmbedClose, ChunkOpen, ParenClose, TagOpen, Mark, Token, Profile, MeaningError, StringKind, OfBytes, Span, token, Strings, RowBefore, PairsBefore, tokens_of, tokens_of_piece, tokens_of_pieces, tokens_of_strings, tokens_of_row, tokens_of_row_before, tokens_of_content, tokens_of_pairs, tokens_of_pairs_before, tokens_of_fields, tokens_of_input, depth, depth_of_piece, depth_of_pieces, depth_of_strings, depth_of_row, depth_of_row_before, depth_of_content, depth_of_pairs, depth_of_pairs_before, depth_of_fields, depth_of_input, AllowsCount, commas, commas_of_piece, commas_of_pieces, commas_of_strings, commas_of_row, commas_of_row_before, commas_of_content, commas_of_pairs, commas_of_pairs_before, commas_of_fields, commas_of_input, snoc, snoc_entry, node, str_of, str, kind_in, chunks, nodes, nodes_before, nodes_in, entries_before, entries_in, faults, faults_of_piece, faults_of_pieces, faults_of_strings, faults_of_row, faults_before, faults_in, faults_of_pairs, faults_before_pairs, faults_of_fields, nodes_of_input, faults_of_input, chunked_node, tag_errors, size_errors, width, size, Str, is_nil, joined, said_string, chunk, piece_errors, string_errors, chunk_errors, IsItem, IsPiece, text_piece, byte_piece, ArePieces, AreChunks, first, next, AreItems, last, before, IsContent, empty, ArePairs, last_pair, pair_before, IsFields, no_fields, IsText, nothing, Pairs as PairNode, no_node, ProfileOne, ProfileTwo}
 use Rattle.cborn_edn.specs.devices.Syntax as tree
 use Rattle.cborn_edn.specs.devices.Syntax.{Pairs}
 use Rattle.cborn_edn.specs.devices.Said.{entries}
@@ -52,14 +52,8 @@ none_allowed ProfileTwo = tt
 any_allowed : (p : Profile) (n : ℕ) → p ≡ ProfileTwo → AllowsCount p n
 any_allowed p n e = subst (λ q. AllowsCount q n) (sym e) tt
 
-pub both_ap : {A B C : Type 0} (f : A → B → C) {a a' : A} {b b' : B} → a ≡ a' → b ≡ b' → f a b ≡ f a' b'
-both_ap f {a} {a'} {b} {b'} e g = ap (λ x. f x b) e ∙ ap (λ y. f a' y) g
-
-pub then_errors : {a a' b b' : List MeaningError} → a ≡ a' → b ≡ b' → (a ++ b) ≡ (a' ++ b')
-then_errors e g = both_ap (λ (x y : List MeaningError). x ++ y) e g
-
-then_tokens : {a a' b b' : List Token} → a ≡ a' → b ≡ b' → (a ++ b) ≡ (a' ++ b')
-then_tokens e g = both_ap (λ (x y : List Token). x ++ y) e g
+pub both_parts : {A : Type 0} {a a' b b' : List A} → a ≡ a' → b ≡ b' → (a ++ b) ≡ (a' ++ b')
+both_parts e g = ap₂ (λ x y. x ++ y) e g
 
 abbrev append_nodes : Trees → Trees → Trees
 append_nodes no_node us = us
@@ -112,7 +106,7 @@ module _ (p : Profile) where
           shallow = omega (arith, r.shallow);
           allowed = r.allowed;
           says = ap (λ us. Items a.start (size m (count us)) us) r.says;
-          errors = then_errors r.errors (ap (λ us. size_errors a.start m (count us)) r.says);
+          errors = both_parts r.errors (ap (λ us. size_errors a.start m (count us)) r.says);
         }
     rebuilt (map {m = m} a e f) =
         let r = rebuilt_fields f in
@@ -122,7 +116,7 @@ module _ (p : Profile) where
           shallow = omega (arith, r.shallow);
           allowed = r.allowed;
           says = ap (λ us. PairNode a.start (size m (count_entries us)) us) r.says;
-          errors = then_errors r.errors (ap (λ us. size_errors a.start m (count_entries us)) r.says);
+          errors = both_parts r.errors (ap (λ us. size_errors a.start m (count_entries us)) r.says);
         }
     rebuilt (string ps) =
         let r = rebuilt_pieces ps in
@@ -132,7 +126,7 @@ module _ (p : Profile) where
           shallow = r.shallow;
           allowed = r.allowed;
           says = ap said_string r.says;
-          errors = then_errors r.errors (ap (λ (s : Str). string_errors s.lone s) r.says);
+          errors = both_parts r.errors (ap (λ (s : Str). string_errors s.lone s) r.says);
         }
     rebuilt (chunked a e cs) =
         let r = rebuilt_chunks cs in
@@ -155,7 +149,7 @@ module _ (p : Profile) where
           tokens = ap (λ y. token a EmbedOpen ∷ y ++ token e (EmbedClose m) ∷ []) r.tokens;
           shallow = omega (arith, r.shallow);
           allowed = r.allowed;
-          says = both_ap (embedded_str a e m) r.errors r.says;
+          says = ap₂ (embedded_str a e m) r.errors r.says;
           errors = r.errors;
         }
 
@@ -168,11 +162,11 @@ module _ (p : Profile) where
         let f = rebuilt_piece q in
         record {
           found = tree.also r.found f.found;
-          tokens = then_tokens r.tokens f.tokens;
+          tokens = both_parts r.tokens f.tokens;
           shallow = omega (arith, r.shallow, f.shallow);
           allowed = both_allowed p (commas_of_pieces r.found) (commas_of_piece f.found) r.allowed f.allowed;
-          says = both_ap joined r.says f.says;
-          errors = then_errors r.errors (then_errors f.errors (both_ap piece_errors r.says f.says));
+          says = ap₂ joined r.says f.says;
+          errors = both_parts r.errors (both_parts f.errors (ap₂ piece_errors r.says f.says));
         }
 
     rebuilt_chunks : {d : ℕ} {x : List Token} {k : StringKind} {cs : List Chunk} {l : List MeaningError} → AreChunks p d x k cs l → FoundChunks p d x (k, cs) l
@@ -184,18 +178,18 @@ module _ (p : Profile) where
           shallow = omega (arith, r.shallow);
           allowed = both_allowed p 0 (commas_of_pieces r.found) (none_allowed p) r.allowed;
           says = ap (λ (s : Str). (s.kind, chunk s ∷ [])) r.says;
-          errors = then_errors r.errors (ap (string_errors false) r.says);
+          errors = both_parts r.errors (ap (string_errors false) r.says);
         }
     rebuilt_chunks (next {x = x} {y = y} a cs ps) =
         let c = rebuilt_chunks cs in
         let r = rebuilt_pieces ps in
         record {
           found = tree.strings (tree.after_strings c.found a) r.found;
-          tokens = append_assoc (tokens_of_strings c.found) (token a Comma ∷ []) (tokens_of_pieces r.found) ∙ then_tokens c.tokens (ap (λ z. token a Comma ∷ z) r.tokens);
+          tokens = append_assoc (tokens_of_strings c.found) (token a Comma ∷ []) (tokens_of_pieces r.found) ∙ both_parts c.tokens (ap (λ z. token a Comma ∷ z) r.tokens);
           shallow = omega (arith, c.shallow, r.shallow);
           allowed = both_allowed p (commas_of_strings c.found) (commas_of_pieces r.found) c.allowed r.allowed;
-          says = both_ap (λ (q : StringKind × List Chunk) (s : Str). (q.0, q.1 ++ chunk s ∷ [])) c.says r.says;
-          errors = then_errors c.errors (then_errors r.errors (both_ap (λ (q : StringKind × List Chunk) (s : Str). chunk_errors q.0 s) c.says r.says));
+          says = ap₂ (λ (q : StringKind × List Chunk) (s : Str). (q.0, q.1 ++ chunk s ∷ [])) c.says r.says;
+          errors = both_parts c.errors (both_parts r.errors (ap₂ (λ (q : StringKind × List Chunk) (s : Str). chunk_errors q.0 s) c.says r.says));
         }
 
     -- an item after those before it
@@ -246,11 +240,11 @@ module _ (p : Profile) where
         let g = rebuilt v in
         record {
           found = tree.pairs b f.found a g.found;
-          tokens = ap (λ z. tokens_of_pairs_before b ++ z) (then_tokens f.tokens (ap (λ z. token a Colon ∷ z) g.tokens));
+          tokens = ap (λ z. tokens_of_pairs_before b ++ z) (both_parts f.tokens (ap (λ z. token a Colon ∷ z) g.tokens));
           shallow = omega (arith, h, f.shallow, g.shallow);
           allowed = both_allowed p (commas_of_pairs_before b + commas f.found) (commas g.found) (both_allowed p (commas_of_pairs_before b) (commas f.found) w f.allowed) g.allowed;
-          says = both_ap (snoc_entry (entries_before b)) f.says g.says ∙ snoc_entry-is (entries_before b) _ _;
-          errors = ap (λ z. faults_before_pairs b ++ z) (then_errors f.errors g.errors);
+          says = ap₂ (snoc_entry (entries_before b)) f.says g.says ∙ snoc_entry-is (entries_before b) _ _;
+          errors = ap (λ z. faults_before_pairs b ++ z) (both_parts f.errors g.errors);
         }
     rebuilt_pairs (pair_before {z = z} {es = es} {s = s} a c k v is) b h w =
         let f = rebuilt k in
@@ -262,12 +256,12 @@ module _ (p : Profile) where
         record {
           found = r.found;
           tokens = r.tokens ∙ append_assoc (tb ++ (tk ++ (token a Colon ∷ tv))) (token c Comma ∷ []) z ∙ append_assoc tb (tk ++ (token a Colon ∷ tv)) (token c Comma ∷ z)
-              ∙ ap (λ y. tb ++ y) (append_assoc tk (token a Colon ∷ tv) (token c Comma ∷ z) ∙ then_tokens f.tokens (ap (λ y. token a Colon ∷ (y ++ token c Comma ∷ z)) g.tokens));
+              ∙ ap (λ y. tb ++ y) (append_assoc tk (token a Colon ∷ tv) (token c Comma ∷ z) ∙ both_parts f.tokens (ap (λ y. token a Colon ∷ (y ++ token c Comma ∷ z)) g.tokens));
           shallow = r.shallow;
           allowed = r.allowed;
-          says = r.says ∙ snoc_entry-append (entries_before b) es (node f.found) (node g.found) ∙ both_ap (λ (t u : Tree). append_entries (entries_before b) (entry t u es)) f.says g.says;
+          says = r.says ∙ snoc_entry-append (entries_before b) es (node f.found) (node g.found) ∙ ap₂ (λ (t u : Tree). append_entries (entries_before b) (entry t u es)) f.says g.says;
           errors = r.errors ∙ append_assoc (faults_before_pairs b) (faults f.found ++ faults g.found) s
-              ∙ ap (λ y. faults_before_pairs b ++ y) (append_assoc (faults f.found) (faults g.found) s ∙ then_errors f.errors (ap (λ y. y ++ s) g.errors));
+              ∙ ap (λ y. faults_before_pairs b ++ y) (append_assoc (faults f.found) (faults g.found) s ∙ both_parts f.errors (ap (λ y. y ++ s) g.errors));
         }
 
     rebuilt_fields : {d : ℕ} {x : List Token} {es : Entries} {l : List MeaningError} → IsFields p d x es l → FoundFields p d x es l

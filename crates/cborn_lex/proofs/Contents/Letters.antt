@@ -123,13 +123,13 @@ escape_is q c n x e = escape_from q c n x (escape_at q x) (escape_found q x ∙ 
 pub no_escape : (q : ℕ) (x : List ℕ) → escape_of q x ≡ None → NoLetters q (92 ∷ x)
 no_escape q x e = no_letters q 92 x (found_none (escape_at q x) (escape_found q x ∙ e))
 
+pub not_raw : (a b : Bool) → (a && not b) ≡ false → b ≡ false → a ≡ false
+not_raw false b h k = refl
+not_raw true b h k = absurd (false≢true (sym h ∙ ap not k))
+
 pub no_control : (q c : ℕ) (x : List ℕ) → is_raw c ≡ false → (c ≡ 92 → ⊥) → NoLetters q (c ∷ x)
 no_control q c x h k =
-    no_letters q c x (cond-false (eqb c 92) _ _ (ne_eqb c 92 k) ∙ cond-false (leb 32 c) _ _ (below (leb 32 c) (eqb c 92) h (ne_eqb c 92 k)))
-  where
-    below : (a b : Bool) → (a && not b) ≡ false → b ≡ false → a ≡ false
-    below false b h k = refl
-    below true b h k = absurd (false≢true (sym h ∙ ap not k))
+    no_letters q c x (cond-false (eqb c 92) _ _ (ne_eqb c 92 k) ∙ cond-false (leb 32 c) _ _ (not_raw (leb 32 c) (eqb c 92) h (ne_eqb c 92 k)))
 
 -- A whole content.
 

@@ -20,7 +20,7 @@ fixed s t r a b f h k = (h.0 ∙ sym k.0, h.1 ∙ sym k.1)
 through_text : (q : ℕ) (body s z : List ℕ) → Through q body s → s ++ z ≡ body ++ q ∷ z
 through_text q body s z h = ap (λ x. x ++ z) h.whole ∙ append_assoc body (q ∷ []) z
 
-all_text : (s z : List ℕ) → z ≡ [] → s ++ z ≡ s
+pub all_text : (s z : List ℕ) → z ≡ [] → s ++ z ≡ s
 all_text s z h = ap (λ x. s ++ x) h ∙ append-nil s
 
 not_both : (q : ℕ) (body s z t w : List ℕ) → Through q body s → Lacks q t w → s ++ z ≡ t ++ w → ⊥

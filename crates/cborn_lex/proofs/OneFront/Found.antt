@@ -7,6 +7,7 @@ use Rattle.cborn_lex.proofs.Contents.Texts.{text_cases}
 use Rattle.cborn_lex.proofs.Contents.Hexes.{hex_cases}
 use Rattle.cborn_lex.proofs.Contents.Decoded.{are_bytes, is_byte}
 use Rattle.cborn_lex.proofs.Contents.Base64s.{base64_cases}
+use Rattle.cborn_lex.proofs.GoodBack.{and_false}
 
 -- a front of y at which P holds of the front, what follows, and what it is
 pub record Started (P : List ℕ → List ℕ → Front → Type 0) (y : List ℕ) : Type 0 where
@@ -70,10 +71,6 @@ after_from word c y h false e true f =
     let fs = and_parts _ _ f in
     record { s = c ∷ []; z = y; a = Read SimpleOpen; whole = refl; reads = inr (fs.1, fs.0, refl, refl) }
 after_from word c y h false e false f = record { s = []; z = c ∷ y; a = word_front word; whole = refl; reads = (e, f, refl) }
-
-and_false : (b : Bool) → (b && false) ≡ false
-and_false true = refl
-and_false false = refl
 
 after_word : (word : List ℕ) (y : List ℕ) → are_bytes y ≡ true → Started (IsAfterWord word) y
 after_word word [] h = record { s = []; z = []; a = word_front word; whole = refl; reads = (refl, and_false (bytes_eq word (codes "simple")), refl) }
