@@ -10,7 +10,7 @@ ghost use Rattle.cborn_edn.specs.Grammar.{Notates};
 ghost use Rattle.cborn_edn.specs.Spelling.{IsSpelling};
 ghost use Rattle.cborn_edn.specs.devices.Handed.{Reads};
 ghost use Rattle.cborn_edn.specs.devices.Reading as pure;
-ghost use Rattle.cborn_edn.specs.devices.Reading.{IsReading, IsInside, Judged, Last, AtEnd};
+ghost use Rattle.cborn_edn.specs.devices.Reading.{IsReading, IsInside, Judged, Last, AtEnd, of_text};
 ghost use Rattle.cborn_edn.specs.devices.Syntax.{Input};
 ghost use Rattle.cborn_edn.specs.devices.Shows.{Shows};
 
@@ -118,7 +118,15 @@ fn read_tokens<V: Visitor>(
     'tokens: while here.at < source.text.len() {
         if !take_common(source, &mut here, writer, visitor)? && here.at < source.text.len() {
             let mut next = here.same();
-            take_rare(alloc, source, &mut next, writer, visitor)?;
+            take_rare(
+                alloc,
+                source.limit,
+                source.profile,
+                source.text,
+                &mut next,
+                writer,
+                visitor,
+            )?;
             here.become_next(next);
         }
     }
@@ -128,17 +136,24 @@ fn read_tokens<V: Visitor>(
 /// Takes what is next in the text, where `take_common` takes nothing.
 fn take_rare<V: Visitor>(
     alloc: Global,
-    source: Source,
+    limit: u64,
+    profile: Profile,
+    text: &str,
     here: &mut Here,
     writer: &mut Writer,
     visitor: &mut V,
 ) -> Result<(), EdnFault>
-    requires { IsInside (V.holds visitor.old) source here.old writer.old }
-    ensures read { OnOk result (IsReading (V.holds visitor.new) source.entry here.new writer.new) }
+    requires { IsInside (V.holds visitor.old) (of_text limit profile text) here.old writer.old }
+    ensures read { OnOk result (IsReading (V.holds visitor.new) (of_text limit profile text.entry) here.new writer.new) }
     ensures further { OnOk result (here.old.at < here.new.at) }
-    ensures refused { IfErr result (IsNoNotation source.entry.profile source.entry.limit source.entry.text.now) }
+    ensures refused { IfErr result (IsNoNotation profile limit text.now) }
 {
-    if take_empty_end(Source { ..source }, here, writer, visitor)? || here.at == source.text.len() {
+    let source = Source {
+        limit,
+        profile,
+        text,
+    };
+    if take_empty_end(source, here, writer, visitor)? || here.at == source.text.len() {
         return Ok(());
     }
     step(alloc, source, here, writer, visitor)

@@ -35,7 +35,14 @@ pub(crate) fn take_common<V: Visitor>(
 {
     match here.phase {
         Phase::Wants | Phase::WantsMore => take_item(source, here, writer, visitor),
-        Phase::Has => take_after(source, here, writer, visitor),
+        Phase::Has => take_after(
+            source.limit,
+            source.profile,
+            source.text,
+            here,
+            writer,
+            visitor,
+        ),
         Phase::Builds => take_after_pieces(source, here, writer, visitor),
         Phase::WantsNumber => take_simple_number(source, here, writer, visitor),
         Phase::HasNumber => take_simple_end(source, here, writer, visitor),
@@ -56,7 +63,14 @@ fn take_item<V: Visitor>(
 {
     let taken = take_first(source, here, writer, visitor)?;
     if taken && has_item(here.phase) && here.at < source.text.len() {
-        take_after(source, here, writer, visitor)?;
+        take_after(
+            source.limit,
+            source.profile,
+            source.text,
+            here,
+            writer,
+            visitor,
+        )?;
     }
     Ok(taken)
 }

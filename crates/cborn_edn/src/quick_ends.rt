@@ -3,7 +3,7 @@
 
 ghost use Rattle.std.specs.Prelude.{◌≡◌, ◌⊎◌, true, slice_index, IfOk};
 ghost use Rattle.cborn_edn.specs.declared.states.Phase.TheVariants as phases;
-ghost use Rattle.cborn_edn.specs.devices.Reading.{IsInside, Goes};
+ghost use Rattle.cborn_edn.specs.devices.Reading.{IsInside, Goes, of_text};
 ghost use Rattle.cborn_edn.specs.devices.Steps as pure;
 
 use crate::endings::{end_array, end_embedded, end_entry, end_key, end_map, end_tag, has_chunks};
@@ -12,21 +12,29 @@ use crate::quick::{skip_space, take_white_space};
 use crate::states::{Here, Phase, Source, Writer};
 use crate::strings::{end_chunk, end_chunks, end_item};
 use crate::texts::ends_string;
+use cborn_lex::Profile;
 use cborn_model::Visitor;
 use std::alloc::AllocError;
 
 /// Takes what follows an item: a comma, a colon, a bracket that ends, or white space.
 #[inline(always)]
 pub(crate) fn take_after<V: Visitor>(
-    source: Source,
+    limit: u64,
+    profile: Profile,
+    text: &str,
     here: &mut Here,
     writer: &mut Writer,
     visitor: &mut V,
 ) -> Result<bool, AllocError>
-    requires inside { IsInside (V.holds visitor.old) source here.old writer.old }
+    requires inside { IsInside (V.holds visitor.old) (of_text limit profile text) here.old writer.old }
     requires has { here.old.phase ≡ phases.Has }
-    ensures { IfOk result (Goes (V.holds visitor.new) source.entry here.old here.new writer.new) }
+    ensures { IfOk result (Goes (V.holds visitor.new) (of_text limit profile text.entry) here.old here.new writer.new) }
 {
+    let source = Source {
+        limit,
+        profile,
+        text,
+    };
     match source.text.as_bytes()[here.at] {
         b',' => take_comma(source, here, writer, visitor),
         b':' => take_colon(source, here, writer, visitor),
@@ -209,7 +217,14 @@ pub(crate) fn take_after_pieces<V: Visitor>(
     let at = here.at;
     end_item(here, writer, visitor)?;
     here.at = at;
-    take_after(source, here, writer, visitor)
+    take_after(
+        source.limit,
+        source.profile,
+        source.text,
+        here,
+        writer,
+        visitor,
+    )
 }
 
 /// Takes a comma or a `)` after a chunk.

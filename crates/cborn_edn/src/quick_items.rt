@@ -5,7 +5,7 @@ ghost use Rattle.std.specs.Prelude.{◌≡◌, slice_index, IfOk};
 ghost use Rattle.cborn_lex.specs.declared.classes.Class.TheVariants as classes;
 ghost use Rattle.cborn_lex.specs.declared.classes.Profile.{Profile};
 ghost use Rattle.cborn_edn.specs.devices.Ahead.{IsTokenAt};
-ghost use Rattle.cborn_edn.specs.devices.Reading.{IsWanting, Goes};
+ghost use Rattle.cborn_edn.specs.devices.Reading.{IsWanting, Goes, of_text};
 
 use crate::containers::{open_array, open_embedded, open_map, open_tag};
 use crate::integers::{Integer, integer_at, negative_at};
@@ -15,7 +15,7 @@ use crate::states::{Here, Source, Writer};
 use crate::strings::{open_chunks, put_last_piece, put_text};
 use crate::texts::{plain_text_at, push_text};
 use crate::words::word_at;
-use cborn_lex::Mark;
+use cborn_lex::{Mark, Profile};
 use cborn_model::Visitor;
 use std::alloc::AllocError;
 
@@ -132,7 +132,14 @@ pub(crate) fn take_text<V: Visitor>(
 {
     let bytes = source.text.as_bytes();
     let Some(found) = plain_text_at(source.profile, bytes, here.at) else {
-        return take_escaped(Source { ..source }, here, writer, visitor);
+        return take_escaped(
+            source.limit,
+            source.profile,
+            source.text,
+            here,
+            writer,
+            visitor,
+        );
     };
     let content = &bytes[here.at + 1..here.at + 1 + found.len];
     put_text(content, here, writer, visitor)?;
@@ -144,15 +151,22 @@ pub(crate) fn take_text<V: Visitor>(
 /// after it.
 #[inline(never)]
 fn take_escaped<V: Visitor>(
-    source: Source,
+    limit: u64,
+    profile: Profile,
+    text: &str,
     here: &mut Here,
     writer: &mut Writer,
     visitor: &mut V,
 ) -> Result<bool, AllocError>
-    requires wanting { IsWanting (V.holds visitor.old) source here.old writer.old }
-    requires quote { slice_index source.text.now here.old.at ≡ 34 }
-    ensures { IfOk result (Goes (V.holds visitor.new) source.entry here.old here.new writer.new) }
+    requires wanting { IsWanting (V.holds visitor.old) (of_text limit profile text) here.old writer.old }
+    requires quote { slice_index text.now here.old.at ≡ 34 }
+    ensures { IfOk result (Goes (V.holds visitor.new) (of_text limit profile text.entry) here.old here.new writer.new) }
 {
+    let source = Source {
+        limit,
+        profile,
+        text,
+    };
     let start = writer.pieces.len();
     let bytes = source.text.as_bytes();
     let Some(stop) = push_text(source.profile, bytes, here.at, &mut writer.pieces)? else {

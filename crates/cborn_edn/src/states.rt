@@ -41,8 +41,7 @@ pub(crate) enum Phase {
 }
 
 /// A text, the profile of the notation that it is read in, and how many brackets may be open in it. A
-/// function that isn't in line is given a copy made field by field, `Source { ..source }`: given the
-/// whole, the fields would have to stay in memory.
+/// function that isn't in line is given the three: given the whole, it would have to be in memory.
 #[derive(Clone, Copy)]
 pub(crate) struct Source<'a> {
     pub(crate) limit: u64,

@@ -1,4 +1,5 @@
 -- A device of the proofs: a text that is read up to some place. No definition cites it.
+use Rattle.std.proofs.Common.{Bor}
 use Rattle.std.specs.Prelude.{◌≡◌, ◌⊎◌, ℕ, ◌^◌, ◌<◌, ◌≤◌, List, [], ◌∷◌, ◌++◌, length, Bool, true, false, not, Option, Some, None}
 use Rattle.std.specs.Str.{IsUtf8}
 use Rattle.cborn_lex.specs.Lex.{Between}
@@ -59,6 +60,9 @@ pub record IsReadTo (h : Holds) (profile : Profile) (limit : ℕ) (text : List �
   pub state : State
   pub reached : Reached profile limit text here.at state
   pub shows : Reads h here writer writer.pieces.items state
+
+abbrev pub of_text : ℕ → Profile → Bor (List ℕ) → Source
+of_text limit profile text = record { limit = limit; profile = profile; text = text }
 
 abbrev pub IsReading : Holds → Source → Here → Writer → Type 0
 IsReading h source here writer = IsReadTo h source.profile source.limit source.text.now here writer
