@@ -4,4 +4,5 @@ pub mod Malformed
 pub mod Counts
 pub mod Tops
 pub mod CuttingCode
+pub mod Judging
 pub mod Walking

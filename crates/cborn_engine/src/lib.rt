@@ -47,6 +47,7 @@ mod kinds;
 pub mod laws;
 mod nodes;
 mod outputs;
+mod piece_judges;
 mod pieces;
 mod refusals;
 mod showings;

@@ -10,7 +10,7 @@ ghost use Rattle.cborn_judge.specs.Reasons.{flaw_rank};
 ghost use Rattle.cborn_model.specs.First.{IsFirst};
 ghost use Rattle.cborn_judge.specs.Departures.{FindsDefect};
 ghost use Rattle.cborn_judge.specs.shared.Checked.{DefectInAll};
-ghost use Rattle.cborn_judge.specs.shared.Judged.{FlawIn};
+ghost use Rattle.cborn_judge.specs.shared.Judged.{FlawIn, FindsFlaw};
 ghost use Rattle.cborn_judge.specs.devices.Marks.{marks_of};
 ghost use Rattle.cborn_judge.specs.devices.Encoding.{is_chunks, IsMarked, Coded, IsEncodedAs, AreEncodedAs, Finds};
 ghost use Rattle.cborn_judge.specs.devices.Encoders.{kept, IsHeld, StandsIn, StandsAs, Written, IsChunk, IsContent, IsEndedString, IsStringFront, kind_major};
@@ -235,6 +235,16 @@ impl<O: KeyOrder> Encoder<O> {
             defect: None,
             order: PhantomData,
         }
+    }
+
+    /// Whether what it was handed so far has a flaw or a defect: whether [`Encoder::finish`] would give
+    /// one now.
+    #[inline(always)]
+    pub fn departs(&self) -> bool
+        ensures none { result ≡ false → (ts : List Tree) → ⟦<Encoder<O> as Visitor>⟧.holds self.now (top ts) no_part → FindsFlaw (FlawIn (trees ts)) None × FindsDefect (DefectInAll O.order (trees ts)) None }
+        ensures some { result ≡ true → (ts : List Tree) → ⟦<Encoder<O> as Visitor>⟧.holds self.now (top ts) no_part → FindsFlaw (FlawIn (trees ts)) None → FindsDefect (DefectInAll O.order (trees ts)) None → ⊥ }
+    {
+        self.flaw.is_some() || self.defect.is_some()
     }
 
     /// The encodings of the items that it was handed, and the first defect of their spelling: that at

@@ -1,0 +1,25 @@
+use Rattle.cborn_engine.proofs.Common.{rules, ◌≡◌, ◌++◌, None, Err, sym, ◌∙◌, subst, arith, Refused}
+use Rattle.cborn_model.proofs.Bytes.{bytes-append, are_bytes}
+use Rattle.cborn_judge.specs.devices.Encoders.{IsHeld}
+use Rattle.cborn_wire.specs.shared.Visiting.{Reads}
+use Rattle.cborn_wire.proofs.Visiting.Ending.{refused}
+use Rattle.cborn_engine.specs.devices.Judging.{HasJudged}
+use Rattle.cborn_engine.proofs.Streams.Judging.{stays}
+use Rattle.cborn_engine.proofs.piece_judges.PieceJudge.take.Goals as goal
+
+pub returns-then-is_some : goal.returns-then-is_some
+returns-then-is_some g c limit x h = (h.0, stays g.O.KeyOrder.order c.args.self.now x c.args.piece.now c.args.self.now.fault (sym c.is_some.ensures ∙ c.if-is_some.true) h.1)
+
+pub returns-in_ok-fault_in-in-Err : goal.returns-in_ok-fault_in-in-Err
+returns-in_ok-fault_in-in-Err g c limit x h =
+    let order = g.O.KeyOrder.order in
+    let piece = c.args.piece.now in
+    let none : c.args.self.now.fault ≡ None = search rules in
+    let fed = (subst (HasJudged order c.args.self.now x) none h.1).0 in
+    let heads = c.read-read.new.self in
+    let levels = c.read-read.new.levels in
+    let holds = IsHeld order c.read-read.new.visitor in
+    let (place, reason) = c.in_ok-fault_in-in-Err.field-0 in
+    let reads = subst (λ why. Reads holds levels.outer.items levels.inner heads 0 x piece (Err why)) c.in_ok-fault_in-in-Err.ensures (c.in-Err.ensures.fed 0 x fed) in
+    let (q, at, fault) = refused holds levels.outer.items levels.inner heads 0 x piece place reason (bytes-append x piece fed.0 (are_bytes piece c.type_inv.piece)) reads in
+    (c.read-read.ensures.limit ∙ h.0, subst (λ p. Refused heads.limit (x ++ piece) p reason) (omega (arith, at)) fault)

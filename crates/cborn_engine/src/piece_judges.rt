@@ -1,0 +1,103 @@
+//! The [`PieceJudge`], which judges bytes that come in pieces.
+
+ghost use Rattle.std.specs.Prelude.{◌≡◌, ◌+◌, ◌<◌, ◌^◌, ◌++◌, ℕ, List, [], length, IfOk, IfErr, OnOk};
+ghost use Rattle.cborn_wire.specs.declared.faults.VisitFault.TheVariants.{Refused};
+ghost use Rattle.cborn_engine.specs.declared.kinds.Kind.TheVariants as kinds;
+ghost use Rattle.cborn_engine.specs.devices.Encoding.{AreJudged};
+ghost use Rattle.cborn_engine.specs.devices.Judging.{IsJudging};
+ghost use Rattle.cborn_engine.specs.devices.Malformed.{IsRefusedHeld};
+
+use crate::faults::EngineFault;
+use cborn_judge::{EncodedItems, Encoder, Invalid};
+use cborn_model::{KeyOrder, Limit};
+use cborn_wire::{GrownLevels, HeadReader, Until, VisitFault, WireFault, WireReason};
+use std::alloc::{AllocError, Global};
+
+/// Judges bytes that come in pieces: encodes what they hold, and finds their first fault, flaw and
+/// defect. No piece is kept.
+#[derive(Drop)]
+pub(crate) struct PieceJudge<O> {
+    heads: HeadReader,
+    levels: GrownLevels,
+    encoder: Encoder<O>,
+    /// The fault of the bytes so far, with its offset.
+    fault: Option<(u64, WireReason)>,
+}
+
+impl<O: KeyOrder> PieceJudge<O> {
+    /// A judge of bytes of which none came yet. Takes no memory.
+    pub(crate) fn new(alloc: Global, limit: Limit) -> PieceJudge<O>
+        ensures { IsJudging O.order result [] limit }
+    {
+        PieceJudge {
+            heads: HeadReader::new(limit, 0),
+            levels: GrownLevels::new(alloc),
+            encoder: Encoder::new(alloc),
+            fault: None,
+        }
+    }
+
+    /// Takes the next bytes. After a fault they are passed over.
+    ///
+    /// # Errors
+    /// `AllocError` if memory is refused; then nothing is known of the judge.
+    pub(crate) fn take(&mut self, piece: &[u8]) -> Result<(), AllocError>
+        requires { (limit : ℕ) × (x : List ℕ) × IsJudging O.order self.old x limit × (length x + length piece.now < 2 ^ 64) }
+        ensures { OnOk result ((limit : ℕ) (x : List ℕ) → IsJudging O.order self.old x limit → IsJudging O.order self.new (x ++ piece.now) limit) }
+    {
+        if self.fault.is_some() {
+            return Ok(());
+        }
+        let read = self
+            .heads
+            .read(&mut self.levels, &mut self.encoder, piece, Until::End);
+        match read {
+            Ok(_) => Ok(()),
+            Err(why) => {
+                self.fault = Some(fault_in(why)?);
+                Ok(())
+            }
+        }
+    }
+
+    /// Whether the bytes so far were seen to be no deterministic encodings (RFC 8949 section 4.2). It only
+    /// helps to choose a way, so no clause says when.
+    pub(crate) fn departs(&self) -> bool {
+        self.fault.is_some() || self.encoder.departs()
+    }
+
+    /// What is judged of the bytes, which have ended.
+    ///
+    /// # Errors
+    /// The fault of bytes that aren't well-formed, or the first flaw of the first item that isn't valid.
+    pub(crate) fn finish(self) -> Result<EncodedItems, EngineFault>
+        ensures judged { IfOk result (λ found. (limit : ℕ) (x : List ℕ) → IsJudging O.order self x limit → AreJudged O.order limit x found.bytes.items found.defect) }
+        ensures refused { IfErr result (λ why. (limit : ℕ) (x : List ℕ) → IsJudging O.order self x limit → IsRefusedHeld kinds.Wire limit x why) }
+    {
+        if let Some((place, reason)) = self.fault {
+            return Err(EngineFault::Wire(WireFault::Refused { place, reason }));
+        }
+        if !self.heads.is_whole(&self.levels) {
+            let place = self.heads.at();
+            let reason = WireReason::Truncated;
+            return Err(EngineFault::Wire(WireFault::Refused { place, reason }));
+        }
+        match self.encoder.finish() {
+            Ok(encoded) => Ok(encoded),
+            Err((place, reason)) => Err(EngineFault::Invalid(Invalid::Refused { place, reason })),
+        }
+    }
+}
+
+/// The fault of bytes, with its offset, for which they were refused.
+///
+/// # Errors
+/// `AllocError` where memory was refused.
+fn fault_in(why: VisitFault) -> Result<(u64, WireReason), AllocError>
+    ensures { IfOk result (λ fault. why ≡ Refused fault.0 fault.1) }
+{
+    match why {
+        VisitFault::Refused { place, reason } => Ok((place, reason)),
+        VisitFault::Memory(refused) => Err(refused),
+    }
+}
