@@ -4,7 +4,7 @@ pub use Rattle.std.proofs.KnownBytes.{Appends-kept, Appends-trans, Consumes-kept
 pub use Rattle.std.proofs.Math.Seq.{drop-cons, take-add}
 pub use Rattle.std.proofs.lemmas.Bool.{cases_lt, cond-true, eq-eqb, le-ltb}
 pub use Rattle.std.proofs.lemmas.Bool.Decides.{Decides-eqb}
-pub use Rattle.std.proofs.lemmas.List.{append_cancel_right, length-take-le, take-append-drop, take_rest}
+pub use Rattle.std.proofs.lemmas.List.{append_cancel_right, length-take-le, take-append-drop, take_all, take_rest}
 pub use Rattle.std.proofs.lemmas.List.Sorted.{length_permutation}
 pub use Rattle.std.proofs.lemmas.Slice.Eq.{slice_eq-Decides, strip_prefix_is}
 pub use Rattle.std.proofs.lemmas.Str.{is_utf8-from_IsUtf8}
@@ -55,7 +55,7 @@ pub use Rattle.cborn_wire.specs.declared.faults.WireFault.{WireFault}
 pub use Rattle.cborn_wire.specs.declared.faults.WireReason.{WireReason}
 pub use Rattle.cborn_engine.specs.Canonical.{FormAnswers, IsCanonical, IsNormalForm, NormaliseAnswers}
 pub use Rattle.cborn_engine.specs.Checking.{CheckAnswers, Verdict}
-pub use Rattle.cborn_engine.specs.Collecting.{CollectAnswers, Collects, PieceAnswers}
+pub use Rattle.cborn_engine.specs.Collecting.{CollectAnswers, Collects, CollectsOn, PieceAnswers}
 pub use Rattle.cborn_engine.specs.Comparing.{AreCompared, Compares, Difference, IsHeldWhole}
 pub use Rattle.cborn_engine.specs.Counts.{AreReadForCount, AreRefusedWhole, CheckedWhole, ChecksCount, CompareCountAnswers, ComparesCount, CountAnswer, HoldsOne, IsNotOne, IsTaken, NormalisedWhole, NormalisesCount, SecondStarts, ShownWhole, ShowsCount, SpellsCount, SpellsOne, compare_counted_of, counted_of, of_first_counted, of_second_counted, of_the_first}
 pub use Rattle.cborn_engine.specs.Failures.{CountsFault, failures_after_read, failures_after_write, one_more}

@@ -1,5 +1,5 @@
 -- What reading a piece of an input, and all of it, answers.
-use Rattle.std.specs.Prelude.{◌≡◌, ℕ, ◌+◌, ◌≤◌, List, length, take, Option, Result, Ok, Err, Vec}
+use Rattle.std.specs.Prelude.{◌≡◌, ℕ, ◌+◌, ◌≤◌, List, [], ◌++◌, length, take, Option, Result, Ok, Err, Vec}
 use Rattle.std.specs.Global.{Global}
 use Rattle.std.specs.Io.KnownBytes.{IsAtEnd, Consumes, Keeps}
 use Rattle.cborn_engine.specs.declared.stream_faults.InputFault.{InputFault}
@@ -20,8 +20,11 @@ CollectAnswers most input after (Err fault.TooLong) = length input ≡ most + 1
 CollectAnswers most input after (Err fault.ReadFault) = length input ≤ most
 CollectAnswers most input after (Err fault.OutOfMemory) = length input ≤ most
 
--- the bytes that were taken from the reader, and what is answered of them
-pub record Collects (most : ℕ) (before after : Option (List ℕ)) (result : Result (Vec ℕ Global) InputFault) : Type 0 where
+-- the bytes that were taken from the reader after a front that was taken before, and what is answered of both
+pub record CollectsOn (front : List ℕ) (most : ℕ) (before after : Option (List ℕ)) (result : Result (Vec ℕ Global) InputFault) : Type 0 where
   pub input : List ℕ
   pub taken : Consumes before after input
-  pub answer : CollectAnswers most input after result
+  pub answer : CollectAnswers most (front ++ input) after result
+
+abbrev pub Collects : ℕ → Option (List ℕ) → Option (List ℕ) → Result (Vec ℕ Global) InputFault → Type 0
+Collects = CollectsOn []

@@ -42,6 +42,7 @@ mod first_two;
 mod fronts;
 mod inputs;
 mod items;
+mod judged_inputs;
 mod judgments;
 mod kinds;
 pub mod laws;

@@ -1,15 +1,14 @@
 //! Reading all bytes of an input.
-ghost use Rattle.std.specs.Prelude.{◌≡◌, ◌≤◌, ◌<◌, ◌+◌, ◌^◌};
+ghost use Rattle.std.specs.Prelude.{◌≡◌, ◌≤◌, ◌<◌, ◌+◌, ◌^◌, length};
 ghost use Rattle.cborn_engine.specs.Failures.{failures_after_read};
-ghost use Rattle.cborn_engine.specs.Collecting.{Collects};
+ghost use Rattle.cborn_engine.specs.Collecting.{Collects, CollectsOn};
 
 use crate::pieces::{make_room, read_after};
 use crate::sources::Source;
 use crate::stream_faults::InputFault;
 use std::alloc::Global;
 
-/// All bytes of an input, which may have at most `most`; `most` must be below 2^64 - 1. They are
-/// read straight into the buffer that is the answer, which grows with them.
+/// All bytes of an input, which may have at most `most`; `most` must be below 2^64 - 1.
 ///
 /// # Errors
 /// `ReadFault` if the reader fails, which ends the reading. `TooLong` if it gives `most` + 1 bytes;
@@ -24,8 +23,27 @@ pub fn read_bytes<R: Source>(
     ensures failures { R.failed reader.new ≡ failures_after_read result (R.failed reader.old) }
     ensures calls { R.asked reader.new ≤ R.asked reader.old + most + 1 }
 {
-    let mut bytes = Vec::new(alloc);
-    let mut filled = 0;
+    read_on(most, Vec::new(alloc), reader)
+}
+
+/// What `read_bytes` gives of an input whose first bytes are `front`, and were read. The others are
+/// read straight into the buffer that is the answer, which grows with them.
+///
+/// # Errors
+/// Those of `read_bytes`.
+pub fn read_on<R: Source>(
+    most: u64,
+    front: Vec<u8>,
+    reader: &mut R,
+) -> Result<Vec<u8>, InputFault>
+    requires bounded { most + 1 < 2 ^ 64 }
+    requires within { length front.items ≤ most }
+    ensures collects { CollectsOn front.items most (R.remaining reader.old) (R.remaining reader.new) result }
+    ensures failures { R.failed reader.new ≡ failures_after_read result (R.failed reader.old) }
+    ensures calls { R.asked reader.new + length front.items ≤ R.asked reader.old + most + 1 }
+{
+    let mut bytes = front;
+    let mut filled = bytes.len();
     'pieces: loop {
         make_room(&mut bytes, filled)?;
         let count = read_after(reader, &mut bytes, filled, most - filled as u64)?;

@@ -1,11 +1,22 @@
 -- Devices: bytes that are judged as they come in pieces. No public contract cites them.
-use Rattle.std.specs.Prelude.{◌≡◌, ℕ, List, length, Option, None, Some}
+use Rattle.std.specs.Prelude.{◌≡◌, ℕ, ◌≤◌, List, length, Option, None, Some, Result, Ok, Err}
 use Rattle.std.specs.declared.cmp.Ordering.{Ordering}
 use Rattle.cborn_judge.specs.devices.Encoders.{IsHeld}
 use Rattle.cborn_wire.specs.Faults.{Refused}
 use Rattle.cborn_wire.specs.declared.faults.WireReason.{WireReason}
 use Rattle.cborn_wire.specs.shared.Visiting.{IsFed}
+use Rattle.cborn_engine.specs.declared.counts.Count.{Count}
+use Rattle.cborn_engine.specs.declared.counts.Count.TheVariants as counts
+use Rattle.cborn_engine.specs.declared.faults.EngineFault.{EngineFault}
+use Rattle.cborn_engine.specs.declared.judged_inputs.Input.{Input}
+use Rattle.cborn_engine.specs.declared.judged_inputs.Input.TheVariants as inputs
+use Rattle.cborn_engine.specs.declared.kinds.Kind.{Kind}
+use Rattle.cborn_engine.specs.declared.kinds.Kind.TheVariants as kinds
 use Rattle.cborn_engine.specs.declared.piece_judges.PieceJudge.{PieceJudge}
+use Rattle.cborn_engine.specs.devices.Encoding.{AreJudged}
+use Rattle.cborn_engine.specs.Reading.{most_bytes}
+use Rattle.cborn_engine.specs.Refusing.{IsRefused}
+use Rattle.cborn_engine.specs.Streams.{Reads}
 
 -- the bytes x came: the encoder holds what they spell; or they have this fault, whatever follows
 module _ {O : Type 0} (order : List ℕ → List ℕ → Ordering) (j : PieceJudge O) (x : List ℕ) where
@@ -15,3 +26,14 @@ module _ {O : Type 0} (order : List ℕ → List ℕ → Ordering) (j : PieceJud
 
   abbrev pub IsJudging : ℕ → Type 0
   IsJudging limit = (j.heads.limit ≡ limit) × HasJudged j.fault
+
+-- an input that was read, kept whole or judged as it was read
+abbrev pub InputAnswers : (List ℕ → List ℕ → Ordering) → Count → Kind → ℕ → List ℕ → Result Input EngineFault → Type 0
+InputAnswers order count k limit input (Ok (inputs.Whole bytes)) = (bytes.items ≡ input) × (length input ≤ most_bytes)
+InputAnswers order counts.Any kinds.Wire limit input (Ok (inputs.Judged e)) = (length input ≤ most_bytes) × AreJudged order limit input e.bytes.items e.defect
+InputAnswers order count k limit input (Ok (inputs.Judged e)) = ⊥
+InputAnswers order count k limit input (Err why) = IsRefused k limit most_bytes input why
+
+-- some input was taken from the reader, and this is answered for it
+abbrev pub ReadsInput : (List ℕ → List ℕ → Ordering) → Count → Kind → ℕ → Option (List ℕ) → Option (List ℕ) → Result Input EngineFault → Type 0
+ReadsInput order count k limit = Reads (λ why. why) (InputAnswers order count k limit)

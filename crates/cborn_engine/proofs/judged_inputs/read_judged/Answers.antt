@@ -1,0 +1,77 @@
+use Rattle.cborn_engine.proofs.Common.{◌≡◌, ◌+◌, ◌-◌, ℕ, List, ◌++◌, length, take, Ok, Err, sym, ap, ◌∙◌, subst, arith, length-take-le, CollectsOn, read_failures, most_bytes}
+use Rattle.cborn_engine.specs.declared.counts.Count.TheVariants as counts
+use Rattle.cborn_engine.specs.declared.kinds.Kind.TheVariants as kinds
+use Rattle.cborn_engine.specs.devices.Judging.{ReadsInput, IsJudging}
+use Rattle.cborn_engine.proofs.Answers.KnownErrors.{known_error}
+use Rattle.cborn_engine.proofs.Streams.Judging.{halted, refused_memory, read_now, count_now, within_now, taken_on, judged, refused_whole, kept_whole, kept_not, quiet}
+use Rattle.cborn_engine.proofs.judged_inputs.read_judged.Goals as goal
+
+pub returns-in_err-count-clause-input : goal.returns-in_err-count-clause-input
+returns-in_err-count-clause-input g c =
+    known_error (ReadsInput g.O.KeyOrder.order counts.Any kinds.Wire c.args.limit _ _) _ _ c.from_residual-in_err-count.ensures.1
+    (halted g.O.KeyOrder.order c.args.limit c.pieces.left _ (g.R.Source.remaining c.pieces.reader) c.pieces.judge c.pieces.invariant.so_far _ c.read_after.new.bytes.items c.in_err-count.field-0.0 c.in_err-count.ensures.piece)
+
+pub returns-in_err-finish-clause-input : goal.returns-in_err-finish-clause-input
+returns-in_err-finish-clause-input g c =
+    let s = c.pieces.invariant.so_far in
+    known_error (ReadsInput g.O.KeyOrder.order counts.Any kinds.Wire c.args.limit _ _) _ _ c.from_residual-in_err-finish.ensures.1
+    (refused_whole g.O.KeyOrder.order c.args.limit c.pieces.left _ (g.R.Source.remaining c.pieces.reader) c.pieces.judge s _ c.read_after.new.bytes.items c.in_ok-count.count c.in_ok-count.ensures.piece c.if-count-eq0.true c.in_err-finish.field-0.0
+    (c.in_err-finish.ensures.refused c.args.limit s.input s.judging))
+
+pub returns-in_err-finish-clause-failures : goal.returns-in_err-finish-clause-failures
+returns-in_err-finish-clause-failures g c =
+    let s = c.pieces.invariant.so_far in
+    let why = c.in_err-finish.field-0.0 in
+    known_error (λ r. g.R.Source.failed c.read_after.new.reader ≡ read_failures r (g.R.Source.failed c.args.reader.now)) _ _ c.from_residual-in_err-finish.ensures.1
+    (c.in_ok-count.ensures.failures ∙ c.pieces.invariant.failures ∙ sym (quiet c.args.limit s.input why _ (c.in_err-finish.ensures.refused c.args.limit s.input s.judging)))
+
+pub returns-then-count-eq0-clause-input : goal.returns-then-count-eq0-clause-input
+returns-then-count-eq0-clause-input g c =
+    let s = c.pieces.invariant.so_far in
+    judged g.O.KeyOrder.order c.args.limit c.pieces.left _ (g.R.Source.remaining c.pieces.reader) c.pieces.judge s _ c.read_after.new.bytes.items c.in_ok-count.count c.in_ok-count.ensures.piece c.if-count-eq0.true c.in_ok-finish.field-0
+    (c.in_ok-finish.ensures.judged c.args.limit s.input s.judging)
+
+pub take-requires : goal.take-requires
+take-requires g c =
+    let s = c.pieces.invariant.so_far in
+    let n = c.in_ok-count.count in
+    let same : c.deref.result.now ≡ c.read_after.new.bytes.items = c.deref.ensures.value in
+    (c.args.limit, s.input, s.judging, omega (arith, s.count, c.in_ok-count.ensures.piece.0, c.in_ok-count.ensures.piece.1, ap length same, length-take-le n c.deref.result.now))
+
+pub returns-in_err-take-clause-input : goal.returns-in_err-take-clause-input
+returns-in_err-take-clause-input g c =
+    let s = c.pieces.invariant.so_far in
+    let order = g.O.KeyOrder.order in
+    let p = c.in_ok-count.ensures.piece in
+    known_error (ReadsInput order counts.Any kinds.Wire c.args.limit _ _) _ _ c.from_residual-in_err-take.ensures.1
+    (refused_memory order c.args.limit _ _ _ (read_now order c.args.limit c.pieces.left _ (g.R.Source.remaining c.pieces.reader) c.pieces.judge s _ c.read_after.new.bytes.items c.in_ok-count.count p) (within_now order c.args.limit c.pieces.left _ (g.R.Source.remaining c.pieces.reader) c.pieces.judge s _ c.read_after.new.bytes.items c.in_ok-count.count p))
+
+pub returns-in_err-read_on-clause-input : goal.returns-in_err-read_on-clause-input
+returns-in_err-read_on-clause-input g c =
+    let order = g.O.KeyOrder.order in
+    let limit = c.args.limit in
+    let why = c.in_err-read_on.field-0.0 in
+    let collected = subst (λ x. CollectsOn x most_bytes (g.R.Source.remaining c.read_after.new.reader) (g.R.Source.remaining c.read_on.new.reader) (Err why)) c.truncate.ensures.items c.in_err-read_on.ensures.collects in
+    known_error (ReadsInput order counts.Any kinds.Wire limit _ _) _ _ c.from_residual-in_err-read_on.ensures.1
+    (kept_not order limit c.pieces.left _ (g.R.Source.remaining c.pieces.reader) c.pieces.judge c.pieces.invariant.so_far (g.R.Source.remaining c.read_after.new.reader) c.read_after.new.bytes.items c.in_ok-count.count c.in_ok-count.ensures.piece c.if-left-eq-MOST.true _ why collected)
+
+pub returns-then-not-departs-clause-input : goal.returns-then-not-departs-clause-input
+returns-then-not-departs-clause-input g c =
+    let whole = c.in_ok-read_on.field-0 in
+    let collected = subst (λ x. CollectsOn x most_bytes (g.R.Source.remaining c.read_after.new.reader) (g.R.Source.remaining c.read_on.new.reader) (Ok whole)) c.truncate.ensures.items c.in_ok-read_on.ensures.collects in
+    kept_whole g.O.KeyOrder.order c.args.limit c.pieces.left _ (g.R.Source.remaining c.pieces.reader) c.pieces.judge c.pieces.invariant.so_far (g.R.Source.remaining c.read_after.new.reader) c.read_after.new.bytes.items c.in_ok-count.count c.in_ok-count.ensures.piece c.if-left-eq-MOST.true _ whole collected
+
+pub pieces-preserved : goal.pieces-preserved
+pieces-preserved g c =
+    let order = g.O.KeyOrder.order in
+    let s = c.pieces.invariant.so_far in
+    let n = c.in_ok-count.count in
+    let p = c.in_ok-count.ensures.piece in
+    let left : c.pieces.left - n + n ≡ c.pieces.left = omega (arith, p.0) in
+    let judging = subst (λ x. IsJudging order c.take.new.self (s.input ++ take n x) c.args.limit) c.deref.ensures.value (c.in_ok-take.ensures c.args.limit s.input s.judging) in
+    record {
+      so_far = taken_on order c.args.limit c.pieces.left _ (g.R.Source.remaining c.pieces.reader) c.pieces.judge s (g.R.Source.remaining c.read_after.new.reader) c.read_after.new.bytes.items n p _ left c.take.new.self judging;
+      room = omega (arith, p.1, c.if-count-eq0.false);
+      failures = c.in_ok-count.ensures.failures ∙ c.pieces.invariant.failures;
+      calls = omega (arith, c.pieces.invariant.calls, c.in_ok-count.ensures.calls, p.0, c.if-count-eq0.false);
+    }

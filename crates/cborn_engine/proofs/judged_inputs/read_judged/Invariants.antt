@@ -1,0 +1,14 @@
+use Rattle.cborn_engine.proofs.Common.{◌≡◌, ◌≤◌, ◌<◌, ◌+◌, length, most_bytes}
+use Rattle.cborn_engine.proofs.Streams.Judging.{SoFar}
+use Rattle.cborn_engine.proofs.judged_inputs.read_judged.Given as goal
+
+abbrev pub invariant-pieces : goal.invariant-pieces
+invariant-pieces g l = record {
+  so_far : SoFar g.O.KeyOrder.order l.fn.limit l.left (g.R.Source.remaining l.initial.reader) (g.R.Source.remaining l.reader) l.judge;
+  room : 0 < length l.piece.items;
+  failures : g.R.Source.failed l.reader ≡ g.R.Source.failed l.initial.reader;
+  calls : g.R.Source.asked l.reader + l.left ≤ g.R.Source.asked l.initial.reader + most_bytes;
+}
+
+abbrev pub decreases-pieces : goal.decreases-pieces
+decreases-pieces g l = l.left
