@@ -5,3 +5,4 @@ pub mod Compared
 pub mod Refused
 pub mod Any
 pub mod Streamed
+pub mod Judged

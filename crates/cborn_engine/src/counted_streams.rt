@@ -15,14 +15,16 @@ ghost use Rattle.cborn_engine.specs.Showing.{SpellSameBytes};
 ghost use Rattle.cborn_engine.specs.Streams.{IsSent};
 ghost use Rattle.cborn_engine.specs.Failures.{CountsFault};
 
+use crate::answered_inputs::{defect_of, encodings_of, form_of};
 use crate::count_faults::{CompareCountFault, CountFault};
 use crate::counts::Count;
 use crate::differences::difference;
 use crate::inputs::MOST;
+use crate::judged_inputs::read_input;
 use crate::kinds::Kind;
 use crate::outputs::write_answer;
 use crate::sinks::Sink;
-use crate::slices::{check_slice, encode_counted, normalise_slice, show_slice};
+use crate::slices::show_slice;
 use crate::sources::Source;
 use crate::whole_inputs::read_bytes;
 use cborn_judge::Defect;
@@ -52,8 +54,8 @@ pub fn normalise_stream<O: KeyOrder, R: Source, W: Sink>(
     ensures flushed { OnOk result (W.unflushed writer.new ≡ 0) }
     ensures calls { R.asked reader.new ≤ R.asked reader.old + most_bytes + 1 }
 {
-    let input = read_bytes(alloc, MOST, reader)?;
-    let answer = normalise_slice::<O>(alloc, limit, count, in_kind, out_kind, &input);
+    let input = read_input::<O, R>(alloc, limit, count, in_kind, reader)?;
+    let answer = form_of::<O>(alloc, limit, count, in_kind, out_kind, &input);
     send(answer, writer)
 }
 
@@ -118,8 +120,8 @@ pub fn check_stream<O: KeyOrder, R: Source>(
     ensures failures { CountsFault (counted.Engine fault.ReadFault) result (R.failed reader.old) (R.failed reader.new) }
     ensures calls { R.asked reader.new ≤ R.asked reader.old + most_bytes + 1 }
 {
-    let input = read_bytes(alloc, MOST, reader)?;
-    check_slice::<O>(alloc, limit, count, &input)
+    let input = read_input::<O, R>(alloc, limit, count, Kind::Wire, reader)?;
+    defect_of::<O>(alloc, limit, count, &input)
 }
 
 /// Compares what two inputs hold, as `compare` does.
@@ -172,9 +174,6 @@ fn read_counted<O: KeyOrder, R: Source>(
     ensures failures { CountsFault (counted.Engine fault.ReadFault) result (R.failed reader.old) (R.failed reader.new) }
     ensures calls { R.asked reader.new ≤ R.asked reader.old + most_bytes + 1 }
 {
-    let input = read_bytes(alloc, MOST, reader)?;
-    match encode_counted::<O>(alloc, limit, count, kind, &input)? {
-        None => Ok(input),
-        Some(encodings) => Ok(encodings),
-    }
+    let input = read_input::<O, R>(alloc, limit, count, kind, reader)?;
+    encodings_of::<O>(alloc, limit, count, kind, input)
 }

@@ -28,6 +28,7 @@
 //! those of `counted_streams` over readers; `specs/Counts.antt` says what they answer.
 #![tactic(auto)]
 
+mod answered_inputs;
 mod checks;
 mod comparisons;
 mod conversions;

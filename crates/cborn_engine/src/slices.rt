@@ -261,7 +261,7 @@ fn encode_both<'a, 'b, O: KeyOrder>(
 }
 
 /// Bytes that hold items, as an output of this kind: themselves, or their fixed notation.
-fn written_as<'a>(
+pub(crate) fn written_as<'a>(
     alloc: Global,
     limit: Limit,
     kind: Kind,

@@ -49,7 +49,7 @@ read_checked count order limit x l (Err _) h = h
 
 -- ---- what went out
 
-sent_on : {E : Type 0} (failed : E) (Answers : Result (List ℕ) E → Type 0) (a : Result (List ℕ) E) (output : List ℕ) (r : Result Unit E) → IsSent failed (λ b. b ≡ a) output r → Answers a → IsSent failed Answers output r
+pub sent_on : {E : Type 0} (failed : E) (Answers : Result (List ℕ) E → Type 0) (a : Result (List ℕ) E) (output : List ℕ) (r : Result Unit E) → IsSent failed (λ b. b ≡ a) output r → Answers a → IsSent failed Answers output r
 sent_on failed Answers a output (Ok u) e h = subst Answers (sym e) h
 sent_on failed Answers a output (Err why) (inl (f, (whole, e, front))) h = inl (f, (whole, subst Answers (sym e) h, front))
 sent_on failed Answers a output (Err why) (inr (e, none)) h = inr (subst Answers (sym e) h, none)
