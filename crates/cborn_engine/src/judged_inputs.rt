@@ -56,7 +56,7 @@ const PIECE: usize = 1 << 16;
 
 /// Reads bytes that may hold any number of items. If the first piece departs from its encodings, all
 /// pieces are judged as they come. Else the bytes are likely to be their own encodings, which is quicker
-/// to see of all at once.
+/// to see of all at once; but not where they are long strings.
 ///
 /// # Errors
 /// Those of `read_input`.
@@ -79,7 +79,7 @@ fn read_judged<O: KeyOrder, R: Source>(
             return Ok(Input::Judged(judge.finish()?));
         }
         judge.take(&piece[..count])?;
-        if left == MOST && !judge.departs() {
+        if left == MOST && !judge.goes_on() {
             piece.truncate(count);
             return Ok(Input::Whole(read_on(MOST, piece, reader)?));
         }

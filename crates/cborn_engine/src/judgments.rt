@@ -2,16 +2,16 @@
 //! that, or why they hold none. One look finds it all, and keeps no tree.
 
 ghost use Rattle.std.specs.Prelude.{[], IfOk, IfErr};
-ghost use Rattle.cborn_model.specs.Partial.{top, no_part};
 ghost use Rattle.cborn_engine.specs.declared.kinds.Kind.TheVariants as kinds;
 ghost use Rattle.cborn_engine.specs.devices.Encoding.{AreJudged};
+ghost use Rattle.cborn_engine.specs.devices.Judging.{IsJudging};
 ghost use Rattle.cborn_engine.specs.devices.Malformed.{IsRefusedHeld};
 
 use crate::faults::EngineFault;
+use crate::piece_judges::PieceJudge;
 use crate::refusals::fault_or_refusal;
-use cborn_judge::{EncodedItems, Encoder, Invalid};
-use cborn_model::{KeyOrder, Limit, Visitor};
-use cborn_wire::{VisitFault, WireFault, visit};
+use cborn_judge::EncodedItems;
+use cborn_model::{KeyOrder, Limit};
 use std::alloc::Global;
 
 /// The deterministic encodings of the items that bytes hold, the keys of maps in the order `O`, and
@@ -32,33 +32,25 @@ pub fn judge_bytes<O: KeyOrder>(
     // An encoding is longer than what it was read from only where an indefinite length, which takes
     // two bytes, becomes the head of 256 entries or more.
     let capacity = input.len().saturating_add(input.len() / 256 + 8);
-    match Encoder::<O>::with_capacity(alloc, capacity) {
-        Ok(encoder) => judge_with(alloc, limit, input, encoder),
+    match PieceJudge::<O>::with_capacity(alloc, limit, capacity) {
+        Ok(judge) => judge_whole(limit, input, judge),
         Err(refused) => Err(fault_or_refusal(refused, limit, input)),
     }
 }
 
-/// What `judge_bytes` answers, by an encoder that was handed nothing.
-fn judge_with<O: KeyOrder>(
-    alloc: Global,
+/// What `judge_bytes` answers, by a judge to which nothing came.
+fn judge_whole<O: KeyOrder>(
     limit: Limit,
     input: &[u8],
-    encoder: Encoder<O>,
+    judge: PieceJudge<O>,
 ) -> Result<EncodedItems, EngineFault>
-    requires { ⟦<Encoder<O> as Visitor>⟧.holds encoder (top []) no_part }
+    requires { IsJudging O.order judge [] limit }
     ensures judged { IfOk result (λ found. AreJudged O.order limit input.now found.bytes.items found.defect) }
     ensures refused { IfErr result (IsRefusedHeld kinds.Wire limit input.now) }
 {
-    let mut encoder = encoder;
-    match visit(alloc, limit, input, &mut encoder) {
-        Ok(()) => {}
-        Err(VisitFault::Refused { place, reason }) => {
-            return Err(EngineFault::Wire(WireFault::Refused { place, reason }));
-        }
-        Err(VisitFault::Memory(refused)) => return Err(fault_or_refusal(refused, limit, input)),
-    }
-    match encoder.finish() {
-        Ok(encoded) => Ok(encoded),
-        Err((place, reason)) => Err(EngineFault::Invalid(Invalid::Refused { place, reason })),
+    let mut judge = judge;
+    match judge.take(input) {
+        Ok(()) => judge.finish(),
+        Err(refused) => Err(fault_or_refusal(refused, limit, input)),
     }
 }

@@ -1,6 +1,7 @@
 //! The [`PieceJudge`], which judges bytes that come in pieces.
 
 ghost use Rattle.std.specs.Prelude.{◌≡◌, ◌+◌, ◌<◌, ◌^◌, ◌++◌, ℕ, List, [], length, IfOk, IfErr, OnOk};
+ghost use Rattle.cborn_model.specs.Partial.{top, no_part};
 ghost use Rattle.cborn_wire.specs.declared.faults.VisitFault.TheVariants.{Refused};
 ghost use Rattle.cborn_engine.specs.declared.kinds.Kind.TheVariants as kinds;
 ghost use Rattle.cborn_engine.specs.devices.Encoding.{AreJudged};
@@ -9,9 +10,12 @@ ghost use Rattle.cborn_engine.specs.devices.Malformed.{IsRefusedHeld};
 
 use crate::faults::EngineFault;
 use cborn_judge::{EncodedItems, Encoder, Invalid};
-use cborn_model::{KeyOrder, Limit};
+use cborn_model::{KeyOrder, Limit, Visitor};
 use cborn_wire::{GrownLevels, HeadReader, Until, VisitFault, WireFault, WireReason};
 use std::alloc::{AllocError, Global};
+
+/// The bytes of a string that is long.
+const LONG_STRING: u64 = 1 << 12;
 
 /// Judges bytes that come in pieces: encodes what they hold, and finds their first fault, flaw and
 /// defect. No piece is kept.
@@ -29,10 +33,33 @@ impl<O: KeyOrder> PieceJudge<O> {
     pub(crate) fn new(alloc: Global, limit: Limit) -> PieceJudge<O>
         ensures { IsJudging O.order result [] limit }
     {
+        PieceJudge::over(alloc, limit, Encoder::new(alloc))
+    }
+
+    /// The same with room for so many bytes of encodings.
+    ///
+    /// # Errors
+    /// `AllocError` if memory is refused.
+    pub(crate) fn with_capacity(
+        alloc: Global,
+        limit: Limit,
+        capacity: usize,
+    ) -> Result<PieceJudge<O>, AllocError>
+        ensures { IfOk result (λ judge. IsJudging O.order judge [] limit) }
+    {
+        let encoder = Encoder::with_capacity(alloc, capacity)?;
+        Ok(PieceJudge::over(alloc, limit, encoder))
+    }
+
+    /// A judge of bytes of which none came yet, with an encoder that was handed nothing.
+    fn over(alloc: Global, limit: Limit, encoder: Encoder<O>) -> PieceJudge<O>
+        requires { ⟦<Encoder<O> as Visitor>⟧.holds encoder (top []) no_part }
+        ensures { IsJudging O.order result [] limit }
+    {
         PieceJudge {
             heads: HeadReader::new(limit, 0),
             levels: GrownLevels::new(alloc),
-            encoder: Encoder::new(alloc),
+            encoder,
             fault: None,
         }
     }
@@ -60,10 +87,11 @@ impl<O: KeyOrder> PieceJudge<O> {
         }
     }
 
-    /// Whether the bytes so far were seen to be no deterministic encodings (RFC 8949 section 4.2). It only
-    /// helps to choose a way, so no clause says when.
-    pub(crate) fn departs(&self) -> bool {
-        self.fault.is_some() || self.encoder.departs()
+    /// Whether the next bytes are better judged as they come than kept until they are all there. So it
+    /// is where the bytes so far are no deterministic encodings, and where they end amid a long string,
+    /// which is judged as quickly. It only chooses a way, so no clause says when.
+    pub(crate) fn goes_on(&self) -> bool {
+        self.fault.is_some() || self.encoder.departs() || self.encoder.string_len() >= LONG_STRING
     }
 
     /// What is judged of the bytes, which have ended.

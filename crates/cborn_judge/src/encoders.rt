@@ -3,7 +3,9 @@
 ghost use Rattle.std.specs.Prelude.{◌≡◌, ◌++◌, ◌↔◌, ℕ, List, [], length, take, drop, Option, None, Some, true, false, IfOk, IfErr, OnOk, IsTrue};
 ghost use Rattle.cborn_model.specs.Tree as tree;
 ghost use Rattle.cborn_model.specs.Tree.{Tree, trees};
-ghost use Rattle.cborn_model.specs.Partial.{Partial, top, put, no_part, IsFree, Ends, string_tree};
+ghost use Rattle.cborn_model.specs.declared.heads.Width.{Width as Wide};
+ghost use Rattle.cborn_model.specs.declared.visitors.StringKind.{StringKind as Kind};
+ghost use Rattle.cborn_model.specs.Partial.{Partial, top, put, no_part, part, IsFree, Ends, string_tree};
 ghost use Rattle.cborn_model.specs.shared.Runs.{puts, InArray, AtKey};
 ghost use Rattle.std.specs.declared.cmp.Ordering.{Ordering};
 ghost use Rattle.cborn_judge.specs.Reasons.{flaw_rank};
@@ -245,6 +247,17 @@ impl<O: KeyOrder> Encoder<O> {
         ensures some { result ≡ true → (ts : List Tree) → ⟦<Encoder<O> as Visitor>⟧.holds self.now (top ts) no_part → FindsFlaw (FlawIn (trees ts)) None → FindsDefect (DefectInAll O.order (trees ts)) None → ⊥ }
     {
         self.flaw.is_some() || self.defect.is_some()
+    }
+
+    /// The length in bytes of the string that comes in parts. Nothing is known of it where none does.
+    #[inline(always)]
+    pub fn string_len(&self) -> u64
+        ensures { (f : Partial) (p : ℕ) (k : Kind) (w : Wide) (n : ℕ) (x : List ℕ) → ⟦<Encoder<O> as Visitor>⟧.holds self.now f (part p k w n x) → result ≡ n }
+    {
+        match self.string {
+            Some(string) => string.len,
+            None => 0,
+        }
     }
 
     /// The encodings of the items that it was handed, and the first defect of their spelling: that at

@@ -19,21 +19,12 @@ read_unshown k out limit x (fault.Show w) l h = h
 read_unshown k out limit x why l h = (read_refused k limit most_bytes x why l h.0, h.1)
 
 module _ (count : Count) (k : Kind) (limit : ℕ) (x : List ℕ) (short : length x ≤ most_bytes) where
-  pub read_form : (order : List ℕ → List ℕ → Ordering) (out : Kind) (r : Result (CowSlice ℕ Global) CountFault) → CountAnswer count k limit x (NormalisedWhole order k out limit x) r → CountAnswer count k limit x (FormAnswers order k out limit most_bytes x) (bytes_of r)
-  read_form order out (Ok a) h = h
-  read_form order out (Err (counted.Engine w)) h = read_refused k limit most_bytes x w short h
-  read_form order out (Err _) h = ((cow_slice_items h.0.0, h.0.1), h.1)
-
   pub read_shown : (out : Kind) (r : Result (CowSlice ℕ Global) CountFault) → CountAnswer count k limit x (ShownWhole k out limit x) r → CountAnswer count k limit x (ShowAnswers k out limit most_bytes x) (bytes_of r)
   read_shown out (Ok a) h = h
   read_shown out (Err (counted.Engine w)) h = read_unshown k out limit x w short h
   read_shown out (Err _) h = ((cow_slice_items h.0.0, h.0.1), h.1)
 
   module _ (order : List ℕ → List ℕ → Ordering) (input : Vec ℕ Global) (e : x ≡ input.items) where
-    pub read_encoded : (found : Option (Vec ℕ Global)) → CountAnswer count k limit x (EncodedWhole order k limit x) (Ok found) → CountAnswer count k limit x (EncodeAnswers order k limit most_bytes x) (Ok (unwrap_or found input))
-    read_encoded None h = ((short, subst (IsEncoded order k limit x) e h.0.1), h.1)
-    read_encoded (Some bytes) h = h
-
     pub not_encoded : (why : CountFault) → CountAnswer count k limit x (EncodedWhole order k limit x) (Err why) → CountAnswer count k limit x (EncodeAnswers order k limit most_bytes x) (Err why)
     not_encoded (counted.Engine w) h = read_refused k limit most_bytes x w short h
     not_encoded _ h = ((unwrap_or h.0.0 input, go h.0.0 h.0.1), h.1)
@@ -41,11 +32,6 @@ module _ (count : Count) (k : Kind) (limit : ℕ) (x : List ℕ) (short : length
         go : (found : Option (Vec ℕ Global)) → EncodedWhole order k limit x (Ok found) → EncodeAnswers order k limit most_bytes x (Ok (unwrap_or found input))
         go None a = (short, subst (IsEncoded order k limit x) e a.1)
         go (Some bytes) a = a
-
-pub read_checked : (count : Count) (order : List ℕ → List ℕ → Ordering) (limit : ℕ) (x : List ℕ) → length x ≤ most_bytes → (r : Result (Option Defect) CountFault) → CountAnswer count kind.Wire limit x (CheckedWhole order limit x) r → CountAnswer count kind.Wire limit x (CheckAnswers order limit most_bytes x) r
-read_checked count order limit x l (Ok d) h = h
-read_checked count order limit x l (Err (counted.Engine w)) h = read_refused kind.Wire limit most_bytes x w l h
-read_checked count order limit x l (Err _) h = h
 
 -- ---- what went out
 

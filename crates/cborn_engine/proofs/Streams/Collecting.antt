@@ -1,7 +1,6 @@
 -- A loop that collects pieces, each after those before it.
 use Rattle.cborn_engine.proofs.Common.{◌≡◌, ◌≤◌, ◌+◌, ◌-◌, ℕ, List, [], ◌++◌, length, take, drop, Option, Ok, Err, refl, sym, ap, ◌∙◌, subst, arith, append-nil, append_assoc, length-append, Consumes, Consumes-trans, Consumes-kept, length-take-le, take_all, take-add, InputFault, PieceAnswers, CollectsOn}
 use Rattle.cborn_engine.specs.declared.stream_faults.InputFault.TheVariants as fault
-use Rattle.cborn_engine.proofs.Streams.Feeding.{none_taken}
 
 module _ (front : List ℕ) where
   -- the first bytes of a buffer are the front and what was read
@@ -11,10 +10,6 @@ module _ (front : List ℕ) where
     pub read : List ℕ
     pub is : take filled x ≡ front ++ read
     pub taken : Consumes before after read
-
-  -- nothing was read yet
-  pub unfilled : (most : ℕ) (a : Option (List ℕ)) → length front ≤ most → Filled most (length front) a a front
-  unfilled most a l = record { within = omega arith; allowed = l; read = []; is = take_all (length front) front (omega arith) ∙ sym (append-nil front); taken = none_taken a }
 
   -- they stay where the buffer changes after them
   pub kept : (most filled : ℕ) (a b : Option (List ℕ)) (x y : List ℕ) → Filled most filled a b x → take filled y ≡ take filled x → filled ≤ length y → Filled most filled a b y

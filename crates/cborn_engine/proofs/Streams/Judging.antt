@@ -60,9 +60,6 @@ module _ {O : Type 0} (order : List ℕ → List ℕ → Ordering) (limit : ℕ)
     pub count : length input + left ≡ most_bytes
     pub judging : IsJudging order j input limit
 
-  pub at_first : (a : Option (List ℕ)) (j : PieceJudge O) → IsJudging order j [] limit → SoFar most_bytes a a j
-  at_first a j h = record { input = []; taken = none_taken a; count = omega arith; judging = h }
-
   module _ (left : ℕ) (a b : Option (List ℕ)) (j : PieceJudge O) (s : SoFar left a b j) where
     -- no further piece came
     pub halted : (c : Option (List ℕ)) (buf : List ℕ) (why : InputFault) → PieceAnswers b c left buf (Err why) → ReadsInput order counts.Any kinds.Wire limit a c (Err (of_input why))

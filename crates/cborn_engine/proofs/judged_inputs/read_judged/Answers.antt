@@ -55,8 +55,8 @@ returns-in_err-read_on-clause-input g c =
     known_error (ReadsInput order counts.Any kinds.Wire limit _ _) _ _ c.from_residual-in_err-read_on.ensures.1
     (kept_not order limit c.pieces.left _ (g.R.Source.remaining c.pieces.reader) c.pieces.judge c.pieces.invariant.so_far (g.R.Source.remaining c.read_after.new.reader) c.read_after.new.bytes.items c.in_ok-count.count c.in_ok-count.ensures.piece c.if-left-eq-MOST.true _ why collected)
 
-pub returns-then-not-departs-clause-input : goal.returns-then-not-departs-clause-input
-returns-then-not-departs-clause-input g c =
+pub returns-then-not-goes_on-clause-input : goal.returns-then-not-goes_on-clause-input
+returns-then-not-goes_on-clause-input g c =
     let whole = c.in_ok-read_on.field-0 in
     let collected = subst (λ x. CollectsOn x most_bytes (g.R.Source.remaining c.read_after.new.reader) (g.R.Source.remaining c.read_on.new.reader) (Ok whole)) c.truncate.ensures.items c.in_ok-read_on.ensures.collects in
     kept_whole g.O.KeyOrder.order c.args.limit c.pieces.left _ (g.R.Source.remaining c.pieces.reader) c.pieces.judge c.pieces.invariant.so_far (g.R.Source.remaining c.read_after.new.reader) c.read_after.new.bytes.items c.in_ok-count.count c.in_ok-count.ensures.piece c.if-left-eq-MOST.true _ whole collected
