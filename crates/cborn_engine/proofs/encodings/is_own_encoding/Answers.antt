@@ -6,4 +6,4 @@ pub returns-then-eq : goal.returns-then-eq
 returns-then-eq g c h =
     let wire : c.args.kind ≡ kind.Wire = search rules in
     let input = c.args.input.now in
-    subst (λ (k : Kind). IsEncoded g.O.KeyOrder.order k c.args.limit input input) (sym wire) (c.is_deterministic.ensures h)
+    subst (λ (k : Kind). IsEncoded g.O.KeyOrder.order k c.args.limit input input) (sym wire) (c.is_deterministic.ensures.own h)
