@@ -1,6 +1,5 @@
 -- Items that are their own deterministic encodings, walked over in place.
 pub mod Heads
-pub mod Strings
 pub mod Items
 pub mod Maps
 pub mod Following

@@ -1,5 +1,5 @@
 -- Items that are spelled as their deterministic encodings, alone and one after another.
-use Rattle.cborn_engine.proofs.Common.{◌≡◌, ℕ, suc, ◌-◌, ◌<◌, ◌≤◌, ◌↔◌, Bool, true, false, List, [], ◌∷◌, ◌++◌, length, take, drop, Option, None, Some, refl, sym, ap, ◌∙◌, subst, arith, append_assoc, length-append, take-append-drop, Ordering, ByteString, TextString, Width, WidthFits, least, spelled, spelled_all, Fits, FitsAll, AllMean, Tree, Trees, Uint, Nint, Bytes, Text, no_item, more, integer_tree, count, depth_all, Values, integer, bytes, text, no_values, value, AllTidy, IsLast, ContentRead, Finds, IsOwn, Walked, ItemsWalked}
+use Rattle.cborn_engine.proofs.Common.{◌≡◌, ℕ, suc, ◌-◌, ◌<◌, ◌≤◌, ◌↔◌, Bool, true, false, List, [], ◌∷◌, ◌++◌, length, take, drop, Option, None, Some, refl, sym, ap, ◌∙◌, subst, arith, append_assoc, length-append, take-append-drop, Ordering, ByteString, TextString, Width, WidthFits, least, spelled, spelled_all, Fits, FitsAll, AllMean, Tree, Trees, Uint, Nint, Bytes, Text, no_item, more, integer_tree, count, depth_all, Values, integer, bytes, text, no_values, value, AllTidy, IsLast, ContentRead, Finds, IsOwn, AreOwn, Walked, ItemsWalked}
 use Rattle.cborn_model.proofs.Numbers.OneHead.{append_same}
 use Rattle.cborn_model.proofs.Numbers.SomeMagnitude.{magnitude_of}
 use Rattle.cborn_model.specs.shared.Runs.{IsInteger, HasShortHead, IsShortLeaf}
@@ -49,36 +49,34 @@ module _ (order : List ℕ → List ℕ → Ordering) (room : ℕ) where
 
   -- ---- items one after another
 
-  pub items_none : (input : List ℕ) → ItemsWalked order room 0 input input
-  items_none input = record { nodes = no_item; read = refl; count = refl; fits = tt; shallow = omega arith; tidy = tt; values = no_values; mean = tt }
+  pub record AllOwn (ts : Trees) : Type 0 where
+    pub fits : FitsAll ts
+    pub shallow : depth_all ts ≤ room
+    pub tidy : AllTidy order ts
+    pub values : Values
+    pub mean : AllMean ts values
 
-  pub items_before : {k n : ℕ} {input mid rest : List ℕ} → n ≡ suc k → Walked order room input mid → ItemsWalked order room k mid rest → ItemsWalked order room n input rest
-  items_before {rest = rest} c (t, e, o) s = record {
-    nodes = more t s.nodes;
-    read = e ∙ ap (λ z. spelled t ++ z) s.read ∙ sym (append_assoc (spelled t) (spelled_all s.nodes) rest);
-    count = ap suc s.count ∙ sym c;
-    fits = (o.fits, s.fits);
-    shallow = omega (arith, o.shallow, s.shallow);
-    tidy = (o.tidy, s.tidy);
-    values = value o.value s.values;
-    mean = (o.means, s.mean);
-  }
+  pub all_own : (ts : Trees) → AreOwn order room ts → AllOwn ts
+  all_own no_item h = record { fits = tt; shallow = omega arith; tidy = tt; values = no_values; mean = tt }
+  all_own (more t ts) (o, h) =
+      let s = all_own ts h in
+      record { fits = (o.fits, s.fits); shallow = omega (arith, o.shallow, s.shallow); tidy = (o.tidy, s.tidy); values = value o.value s.values; mean = (o.means, s.mean) }
 
-  pub items_first : {n : ℕ} {input rest : List ℕ} → (n ≡ 0 → input ≡ rest → ⊥) → ItemsWalked order room n input rest → (mid : List ℕ) × Walked order room input mid × ItemsWalked order room (n - 1) mid rest
-  items_first {n} {input} {rest} some s = from s.nodes s.values s.read s.count s.fits s.shallow s.tidy s.mean
-    where
-      from : (ts : Trees) (vs : Values) → input ≡ spelled_all ts ++ rest → count ts ≡ n → FitsAll ts → depth_all ts ≤ room → AllTidy order ts → AllMean ts vs → (mid : List ℕ) × Walked order room input mid × ItemsWalked order room (n - 1) mid rest
-      from no_item vs e c f d y m = absurd (some (sym c) e)
-      from (more t ts) no_values e c f d y m = absurd m
-      from (more t ts) (value v vs) e c f d y m = (
-        spelled_all ts ++ rest,
-        (t, e ∙ append_assoc (spelled t) (spelled_all ts) rest, record { fits = f.0; shallow = omega (arith, d); tidy = y.0; value = v; means = m.0 }),
-        record { nodes = ts; read = refl; count = omega (arith, c); fits = f.1; shallow = omega (arith, d); tidy = y.1; values = vs; mean = m.1 },
-      )
+  pub each_own : (ts : Trees) (vs : Values) → FitsAll ts → depth_all ts ≤ room → AllTidy order ts → AllMean ts vs → AreOwn order room ts
+  each_own no_item vs f d y m = tt
+  each_own (more t ts) no_values f d y m = absurd m
+  each_own (more t ts) (value v vs) f d y m = (record { fits = f.0; shallow = omega (arith, d); tidy = y.0; value = v; means = m.0 }, each_own ts vs f.1 (omega (arith, d)) y.1 m.1)
+
+  pub items_before : (k n : ℕ) (input mid rest : List ℕ) → n ≡ suc k → Walked order room input mid → ItemsWalked order room k mid rest → ItemsWalked order room n input rest
+  items_before k n input mid rest c (t, e, o) (ts, f, j, p) = (more t ts, e ∙ ap (λ z. spelled t ++ z) f ∙ sym (append_assoc (spelled t) (spelled_all ts) rest), ap suc j ∙ sym c, (o, p))
+
+  pub items_first : (n : ℕ) (input rest : List ℕ) → (n ≡ 0 → input ≡ rest → ⊥) → ItemsWalked order room n input rest → (mid : List ℕ) × Walked order room input mid × ItemsWalked order room (n - 1) mid rest
+  items_first n input rest some (no_item, e, c, o) = absurd (some (sym c) e)
+  items_first n input rest some (more t ts, e, c, (o, p)) = (spelled_all ts ++ rest, (t, e ∙ append_assoc (spelled t) (spelled_all ts) rest, o), (ts, refl, omega (arith, c), p))
 
   -- after the first of them the others follow
-  pub items_next : {n left : ℕ} {input mid x : List ℕ} → 0 < left → Walked order room mid x → ((end : List ℕ) → ItemsWalked order room left mid end ↔ ItemsWalked order room n input end) → (end : List ℕ) → ItemsWalked order room (left - 1) x end ↔ ItemsWalked order room n input end
-  items_next {left = left} some w lead end = (
-    (λ s. (lead end).0 (items_before (omega (arith, some)) w s)),
-    (λ s. let f = items_first (λ z e. omega (arith, some, z)) ((lead end).1 s) in subst (λ z. ItemsWalked order room (left - 1) z end) (one_walked f.1 w) f.2),
+  pub items_next : (n left : ℕ) (input mid x : List ℕ) → 0 < left → Walked order room mid x → ((end : List ℕ) → ItemsWalked order room left mid end ↔ ItemsWalked order room n input end) → (end : List ℕ) → ItemsWalked order room (left - 1) x end ↔ ItemsWalked order room n input end
+  items_next n left input mid x some w lead end = (
+    (λ s. (lead end).0 (items_before (left - 1) left mid x end (omega (arith, some)) w s)),
+    (λ s. let f = items_first left mid end (λ z e. omega (arith, some, z)) ((lead end).1 s) in subst (λ z. ItemsWalked order room (left - 1) z end) (one_walked f.1 w) f.2),
   )

@@ -1,5 +1,5 @@
 -- Pairs whose keys rise, one after another, each spelled as its deterministic encoding.
-use Rattle.cborn_engine.proofs.Common.{◌≡◌, ℕ, suc, ◌-◌, ◌<◌, ◌≤◌, ◌↔◌, List, [], ◌∷◌, ◌++◌, Option, None, Some, Bor, refl, sym, ap, ◌∙◌, subst, arith, append_assoc, append_cancel_right, Ordering, Less, Equal, AllByRecursion, EntriesMean, IsKeyOrder, Rising, spelled, spelled_entries, FitsEntries, Entries, no_entry, entry, count_entries, depth_entries, Value, Couples, no_pairs, pair, IsProper, HasProperPairs, IsNew, HasNewKeys, Det, DetPairs, Entry, keys, EntriesTidy, spelled_pairs, RisingAfter, Walked, PairsWalked}
+use Rattle.cborn_engine.proofs.Common.{◌≡◌, ℕ, suc, ◌-◌, ◌<◌, ◌≤◌, ◌↔◌, List, [], ◌∷◌, ◌++◌, Option, None, Some, Bor, refl, sym, ap, ◌∙◌, subst, arith, append_assoc, append_cancel_right, Ordering, Less, Equal, AllByRecursion, EntriesMean, IsKeyOrder, Rising, spelled, spelled_entries, FitsEntries, Entries, no_entry, entry, count_entries, depth_entries, Value, Couples, no_pairs, pair, IsProper, HasProperPairs, IsNew, HasNewKeys, Det, DetPairs, Entry, keys, EntriesTidy, spelled_pairs, RisingAfter, Walked, PairsOwn, PairsWalked}
 use Rattle.cborn_det.proofs.Canon.{one_of_same}
 use Rattle.cborn_det.proofs.Rising.{rises_after, rising_tail}
 use Rattle.cborn_det.specs.shared.KeyBefore.{Below}
@@ -7,6 +7,10 @@ use Rattle.cborn_judge.proofs.Encoded.Tidying.{entries_det, entries_proper}
 use Rattle.cborn_engine.proofs.Walks.Items.{one_walked}
 
 module _ (order : List ℕ → List ℕ → Ordering) where
+  pub rising_none : (before : Option (Bor (List ℕ))) → RisingAfter order before []
+  rising_none None = tt
+  rising_none (Some k) = tt
+
   rising_before : (before : Option (Bor (List ℕ))) (k : List ℕ) (ks : List (List ℕ)) → Below order before k → Rising order (k ∷ ks) → RisingAfter order before (k ∷ ks)
   rising_before None k ks b r = r
   rising_before (Some j) k ks b r = (b, r)
@@ -31,18 +35,44 @@ module _ (order : List ℕ → List ℕ → Ordering) where
     new_keys (pair k v ps) [] q h r = absurd h
     new_keys (pair k v ps) (e ∷ es) q h r = (new_key k e.0 ps es q.0 h.0 q.2 h.2 (rises_after order laws e es r), new_keys ps es q.2 h.2 (rising_tail order laws e es r))
 
-    pub pairs_new : {room n : ℕ} {input rest : List ℕ} (s : PairsWalked order room None n input rest) → HasNewKeys s.values
-    pairs_new s =
-        let es = s.pairs in
-        new_keys s.values (spelled_pairs es) (entries_proper order es s.values s.fits s.tidy s.mean) (entries_det order es s.values s.fits s.mean s.tidy) s.rising
-
   module _ (room : ℕ) where
-    pub pairs_none : (before : Option (Bor (List ℕ))) (input : List ℕ) → PairsWalked order room before 0 input input
-    pairs_none before input = record { pairs = no_entry; read = refl; count = refl; fits = tt; shallow = omega arith; tidy = tt; rising = none before; values = no_pairs; mean = tt }
-      where
-        none : (before : Option (Bor (List ℕ))) → RisingAfter order before []
-        none None = tt
-        none (Some k) = tt
+    pub record AllOwn (es : Entries) : Type 0 where
+      pub fits : FitsEntries es
+      pub shallow : depth_entries es ≤ room
+      pub tidy : EntriesTidy order es
+      pub values : Couples
+      pub mean : EntriesMean es values
+
+    pub all_own : (es : Entries) → PairsOwn order room es → AllOwn es
+    all_own no_entry h = record { fits = tt; shallow = omega arith; tidy = tt; values = no_pairs; mean = tt }
+    all_own (entry k v es) (o, p, h) =
+        let s = all_own es h in
+        record { fits = (o.fits, p.fits, s.fits); shallow = omega (arith, o.shallow, p.shallow, s.shallow); tidy = (o.tidy, p.tidy, s.tidy); values = pair o.value p.value s.values; mean = (o.means, p.means, s.mean) }
+
+    pub each_own : (es : Entries) (ps : Couples) → FitsEntries es → depth_entries es ≤ room → EntriesTidy order es → EntriesMean es ps → PairsOwn order room es
+    each_own no_entry ps f d y m = tt
+    each_own (entry k v es) no_pairs f d y m = absurd m
+    each_own (entry k v es) (pair a b ps) f d y m = (
+      record { fits = f.0; shallow = omega (arith, d); tidy = y.0; value = a; means = m.0 },
+      record { fits = f.1; shallow = omega (arith, d); tidy = y.1; value = b; means = m.1 },
+      each_own es ps f.2 (omega (arith, d)) y.2 m.2,
+    )
+
+    pub pairs_new : IsKeyOrder order → (es : Entries) → Rising order (keys (spelled_pairs es)) → (a : AllOwn es) → HasNewKeys a.values
+    pairs_new laws es r a = new_keys laws a.values (spelled_pairs es) (entries_proper order es a.values a.fits a.tidy a.mean) (entries_det order es a.values a.fits a.mean a.tidy) r
+
+    pub pairs_before : (before : Option (Bor (List ℕ))) (key : Bor (List ℕ)) (k n : ℕ) (input mid after rest : List ℕ) → n ≡ suc k → input ≡ key.now ++ mid → Below order before key.now → Walked order room input mid → Walked order room mid after → PairsWalked order room (Some key) k after rest
+        → PairsWalked order room before n input rest
+    pairs_before before key j n input mid after rest c cut above (k, e, o) (v, g, p) (es, f, i, r, q) =
+        let same : key.now ≡ spelled k = append_cancel_right key.now (spelled k) mid (sym cut ∙ e) in
+        let others : List ℕ = spelled_entries es in
+        let ks : List (List ℕ) = keys (spelled_pairs es) in (
+          entry k v es,
+          e ∙ ap (λ z. spelled k ++ z) (g ∙ ap (λ z. spelled v ++ z) f) ∙ sym (append_assoc (spelled k) (spelled v) (others ++ rest)) ∙ sym (append_assoc (spelled k ++ spelled v) others rest),
+          ap suc i ∙ sym c,
+          subst (λ z. RisingAfter order before (z ∷ ks)) same (rising_before before key.now ks above r),
+          (o, p, q),
+        )
 
     -- the first pair, and the others after its key
     pub record FirstPair (before : Option (Bor (List ℕ))) (n : ℕ) (input rest : List ℕ) : Type 0 where
@@ -55,44 +85,23 @@ module _ (order : List ℕ → List ℕ → Ordering) where
       pub second : Walked order room mid after
       pub others : (k : Bor (List ℕ)) → k.now ≡ key → PairsWalked order room (Some k) n after rest
 
-    pub pairs_before : (before : Option (Bor (List ℕ))) (key : Bor (List ℕ)) {k n : ℕ} {input mid after rest : List ℕ} → n ≡ suc k → input ≡ key.now ++ mid → Below order before key.now → Walked order room input mid → Walked order room mid after → PairsWalked order room (Some key) k after rest → PairsWalked order room before n input rest
-    pairs_before before key {mid = mid} {rest = rest} c cut above (k, e, o) (v, g, p) s =
-        let same : key.now ≡ spelled k = append_cancel_right key.now (spelled k) mid (sym cut ∙ e) in
-        let others : List ℕ = spelled_entries s.pairs in
-        let ks : List (List ℕ) = keys (spelled_pairs s.pairs) in
+    pub pairs_first : (before : Option (Bor (List ℕ))) (n : ℕ) (input rest : List ℕ) → 0 < n → PairsWalked order room before n input rest → FirstPair before (n - 1) input rest
+    pairs_first before n input rest some (no_entry, e, c, r, o) = absurd (omega (arith, some, c))
+    pairs_first before n input rest some (entry k v es, e, c, r, (o, p, q)) =
+        let ks : List (List ℕ) = keys (spelled_pairs es) in
+        let above = rising_first before (spelled k) ks r in
+        let after : List ℕ = spelled_entries es ++ rest in
+        let cut : input ≡ spelled k ++ (spelled v ++ after) = e ∙ append_assoc (spelled k ++ spelled v) (spelled_entries es) rest ∙ append_assoc (spelled k) (spelled v) after in
         record {
-          pairs = entry k v s.pairs;
-          read = e ∙ ap (λ z. spelled k ++ z) (g ∙ ap (λ z. spelled v ++ z) s.read) ∙ sym (append_assoc (spelled k) (spelled v) (others ++ rest)) ∙ sym (append_assoc (spelled k ++ spelled v) others rest);
-          count = ap suc s.count ∙ sym c;
-          fits = (o.fits, p.fits, s.fits);
-          shallow = omega (arith, o.shallow, p.shallow, s.shallow);
-          tidy = (o.tidy, p.tidy, s.tidy);
-          rising = subst (λ z. RisingAfter order before (z ∷ ks)) same (rising_before before key.now ks above s.rising);
-          values = pair o.value p.value s.values;
-          mean = (o.means, p.means, s.mean);
+          key = spelled k;
+          mid = spelled v ++ after;
+          after = after;
+          cut = cut;
+          above = above.0;
+          first = (k, cut, o);
+          second = (v, refl, p);
+          others = λ j e. (es, refl, omega (arith, c), subst (λ z. Rising order (z ∷ ks)) (sym e) above.1, q);
         }
-
-    pub pairs_first : (before : Option (Bor (List ℕ))) {n : ℕ} {input rest : List ℕ} → 0 < n → PairsWalked order room before n input rest → FirstPair before (n - 1) input rest
-    pairs_first before {n} {input} {rest} some s = from s.pairs s.values s.read s.count s.fits s.shallow s.tidy s.rising s.mean
-      where
-        from : (es : Entries) (ps : Couples) → input ≡ spelled_entries es ++ rest → count_entries es ≡ n → FitsEntries es → depth_entries es ≤ room → EntriesTidy order es → RisingAfter order before (keys (spelled_pairs es)) → EntriesMean es ps → FirstPair before (n - 1) input rest
-        from no_entry ps e c f d y r m = absurd (omega (arith, some, c))
-        from (entry k v es) no_pairs e c f d y r m = absurd m
-        from (entry k v es) (pair a b ps) e c f d y r m =
-            let ks : List (List ℕ) = keys (spelled_pairs es) in
-            let above = rising_first before (spelled k) ks r in
-            let after : List ℕ = spelled_entries es ++ rest in
-            let cut : input ≡ spelled k ++ (spelled v ++ after) = e ∙ append_assoc (spelled k ++ spelled v) (spelled_entries es) rest ∙ append_assoc (spelled k) (spelled v) after in
-            record {
-              key = spelled k;
-              mid = spelled v ++ after;
-              after = after;
-              cut = cut;
-              above = above.0;
-              first = (k, cut, record { fits = f.0; shallow = omega (arith, d); tidy = y.0; value = a; means = m.0 });
-              second = (v, refl, record { fits = f.1; shallow = omega (arith, d); tidy = y.1; value = b; means = m.1 });
-              others = λ j e. record { pairs = es; read = refl; count = omega (arith, c); fits = f.2; shallow = omega (arith, d); tidy = y.2; rising = subst (λ z. Rising order (z ∷ ks)) (sym e) above.1; values = ps; mean = m.2 };
-            }
 
     -- a pair begins with one key alone
     pub one_key : {before : Option (Bor (List ℕ))} {key mid input rest : List ℕ} {n : ℕ} → input ≡ key ++ mid → Walked order room input mid → (f : FirstPair before n input rest) → (f.mid ≡ mid) × (f.key ≡ key)
@@ -101,12 +110,12 @@ module _ (order : List ℕ → List ℕ → Ordering) where
         (same, append_cancel_right f.key key mid (ap (λ z. f.key ++ z) (sym same) ∙ sym f.cut ∙ cut))
 
     -- after the first pair the others follow
-    pub pairs_next : {n left : ℕ} {input half mid x : List ℕ} (before : Option (Bor (List ℕ))) (key : Bor (List ℕ)) → 0 < left → half ≡ key.now ++ mid → Below order before key.now → Walked order room half mid → Walked order room mid x
+    pub pairs_next : (n left : ℕ) (input half mid x : List ℕ) (before : Option (Bor (List ℕ))) (key : Bor (List ℕ)) → 0 < left → half ≡ key.now ++ mid → Below order before key.now → Walked order room half mid → Walked order room mid x
         → ((end : List ℕ) → PairsWalked order room before left half end ↔ PairsWalked order room None n input end) → (end : List ℕ) → PairsWalked order room (Some key) (left - 1) x end ↔ PairsWalked order room None n input end
-    pairs_next {left = left} before key some cut above w v lead end = (
-      (λ s. (lead end).0 (pairs_before before key (omega (arith, some)) cut above w v s)),
+    pairs_next n left input half mid x before key some cut above w v lead end = (
+      (λ s. (lead end).0 (pairs_before before key (left - 1) left half mid x end (omega (arith, some)) cut above w v s)),
       (λ s.
-          let f = pairs_first before some ((lead end).1 s) in
-          let o = one_key cut w f in
-          subst (λ z. PairsWalked order room (Some key) (left - 1) z end) (one_walked order room (subst (λ z. Walked order room z f.after) o.0 f.second) v) (f.others key (sym o.1))),
+        let f = pairs_first before left half end some ((lead end).1 s) in
+        let o = one_key cut w f in
+        subst (λ z. PairsWalked order room (Some key) (left - 1) z end) (one_walked order room (subst (λ z. Walked order room z f.after) o.0 f.second) v) (f.others key (sym o.1))),
     )

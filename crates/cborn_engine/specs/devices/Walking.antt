@@ -1,19 +1,19 @@
 -- A device of the proofs: what a walk finds at the front of bytes: items that are spelled as their deterministic encodings. No public contract cites it.
-use Rattle.std.specs.Prelude.{◌≡◌, ◌≢◌, ℕ, ◌-◌, ◌≤◌, ◌⊎◌, List, ◌∷◌, ◌++◌, length, Option, None, Some, IsTrue, IsUtf8}
+use Rattle.std.specs.Prelude.{◌≡◌, ◌≢◌, ℕ, ◌-◌, ◌≤◌, ◌⊎◌, List, ◌∷◌, ◌++◌, length, Option, None, Some, IsTrue, IsUtf8, ⊤}
 use Rattle.std.specs.declared.cmp.Ordering.{Ordering}
 use Rattle.std.proofs.Common.{Bor}
 use Rattle.cborn_model.specs.Bytes.{AreBytes}
 use Rattle.cborn_model.specs.declared.heads.Major.{Major}
 use Rattle.cborn_model.specs.declared.heads.Major.TheVariants.{Unsigned, Negative, ByteString, TextString, Array, Map, Tag, Other}
 use Rattle.cborn_model.specs.Heads.{Given, head, WidthFits, least, is_simple_value}
-use Rattle.cborn_model.specs.Meaning.{Means, AllMean, EntriesMean}
+use Rattle.cborn_model.specs.Meaning.{Means}
 use Rattle.cborn_model.specs.Orders.{Rising}
-use Rattle.cborn_model.specs.Spelled.{spelled, spelled_all, spelled_entries, Fits, FitsAll, FitsEntries}
-use Rattle.cborn_model.specs.Tree.{Tree, Trees, Entries, count, count_entries, depth, depth_all, depth_entries}
-use Rattle.cborn_model.specs.Value.{Value, Values, Couples}
+use Rattle.cborn_model.specs.Spelled.{spelled, spelled_all, spelled_entries, Fits}
+use Rattle.cborn_model.specs.Tree.{Tree, Trees, no_item, more, Entries, no_entry, entry, count, count_entries, depth}
+use Rattle.cborn_model.specs.Value.{Value}
 use Rattle.cborn_det.specs.Det.{keys}
 use Rattle.cborn_judge.specs.Defects.{IsLoose}
-use Rattle.cborn_judge.specs.shared.Tidy.{IsTidy, AllTidy, EntriesTidy, spelled_pairs}
+use Rattle.cborn_judge.specs.shared.Tidy.{IsTidy, spelled_pairs}
 
 -- x is the end, so many bytes long, of the input
 abbrev pub IsLast : List ℕ → ℕ → List ℕ → Type 0
@@ -73,32 +73,25 @@ module _ (order : List ℕ → List ℕ → Ordering) where
       pub value : Value
       pub means : Means t value
 
-    -- the input begins with such a node
+    abbrev pub AreOwn : Trees → Type 0
+    AreOwn no_item = ⊤
+    AreOwn (more t ts) = IsOwn t × AreOwn ts
+
+    abbrev pub PairsOwn : Entries → Type 0
+    PairsOwn no_entry = ⊤
+    PairsOwn (entry k v es) = IsOwn k × IsOwn v × PairsOwn es
+
+    -- the input begins with such a node,
     abbrev pub Walked : List ℕ → List ℕ → Type 0
     Walked input rest = (t : Tree) × (input ≡ spelled t ++ rest) × IsOwn t
 
-    -- with n of them
-    pub record ItemsWalked (n : ℕ) (input rest : List ℕ) : Type 0 where
-      pub nodes : Trees
-      pub read : input ≡ spelled_all nodes ++ rest
-      pub count : count nodes ≡ n
-      pub fits : FitsAll nodes
-      pub shallow : depth_all nodes ≤ room
-      pub tidy : AllTidy order nodes
-      pub values : Values
-      pub mean : AllMean nodes values
+    -- with n of them,
+    abbrev pub ItemsWalked : ℕ → List ℕ → List ℕ → Type 0
+    ItemsWalked n input rest = (ts : Trees) × (input ≡ spelled_all ts ++ rest) × (count ts ≡ n) × AreOwn ts
 
-    -- with n pairs of them, whose keys rise above the key before
-    pub record PairsWalked (before : Option (Bor (List ℕ))) (n : ℕ) (input rest : List ℕ) : Type 0 where
-      pub pairs : Entries
-      pub read : input ≡ spelled_entries pairs ++ rest
-      pub count : count_entries pairs ≡ n
-      pub fits : FitsEntries pairs
-      pub shallow : depth_entries pairs ≤ room
-      pub tidy : EntriesTidy order pairs
-      pub rising : RisingAfter before (keys (spelled_pairs pairs))
-      pub values : Couples
-      pub mean : EntriesMean pairs values
+    -- or with n pairs of them, whose keys rise above the key before
+    abbrev pub PairsWalked : Option (Bor (List ℕ)) → ℕ → List ℕ → List ℕ → Type 0
+    PairsWalked before n input rest = (es : Entries) × (input ≡ spelled_entries es ++ rest) × (count_entries es ≡ n) × RisingAfter before (keys (spelled_pairs es)) × PairsOwn es
 
   -- what follows the shortest head of the major type with the argument n makes such a node
   abbrev pub Follows : ℕ → Major → ℕ → List ℕ → List ℕ → Type 0

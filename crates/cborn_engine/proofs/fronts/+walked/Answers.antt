@@ -1,8 +1,8 @@
-use Rattle.cborn_engine.proofs.Common.{Array, Map, Tag, ◌≡◌, ◌-◌, ◌⊎◌, inl, inr, refl, sym, drop, length-drop, subst, arith, Finds, Follows, ItemsWalked, PairsWalked, Walked}
+use Rattle.cborn_engine.proofs.Common.{Array, Map, Tag, ◌≡◌, ◌-◌, ◌⊎◌, inl, inr, refl, sym, drop, length-drop, subst, arith, no_item, no_entry, Finds, Follows, Walked}
 use Rattle.std.proofs.lemmas.Bool.{iff_false}
 use Rattle.cborn_det.specs.shared.KeyBefore.{Below}
-use Rattle.cborn_engine.proofs.Walks.Items.{finds_same, integer_walked, item_last, items_none, items_first, items_next}
-use Rattle.cborn_engine.proofs.Walks.Maps.{pairs_none, pairs_first, pairs_next, one_key}
+use Rattle.cborn_engine.proofs.Walks.Items.{finds_same, integer_walked, item_last, items_first, items_next}
+use Rattle.cborn_engine.proofs.Walks.Maps.{rising_none, pairs_first, pairs_next, one_key}
 use Rattle.cborn_engine.proofs.Walks.Following.{none_headed, found_after, leaf_found}
 use Rattle.cborn_engine.proofs.fronts.+walked.Goals as goal
 
@@ -27,19 +27,18 @@ pub walk_array-returns-in_err-after : goal.walk_array-returns-in_err-after
 walk_array-returns-in_err-after g t c =
     let order = g.O.KeyOrder.order in
     subst (Finds (Follows order c.args.room Array c.args.n c.args.bytes.now)) (sym c.from_residual.ensures)
-    (λ rest f. (let s = items_first order (c.args.room - 1) (λ z e. omega (arith, z, c.items-test.true)) ((c.items.invariant rest).1 f.1) in c.in_err-after.ensures s.0 s.1))
+    (λ rest f. (let s = items_first order (c.args.room - 1) c.items.left c.items.rest.now rest (λ z e. omega (arith, z, c.items-test.true)) ((c.items.invariant rest).1 f.1) in c.in_err-after.ensures s.0 s.1))
 
 pub walk_array-items-preserved : goal.walk_array-items-preserved
 walk_array-items-preserved g t c =
     let order = g.O.KeyOrder.order in
-    items_next order (c.args.room - 1) (omega (arith, c.items-test.true)) (item_last order (c.args.room - 1) c.in_ok-after.ensures c.last-rest.ensures) c.items.invariant
+    items_next order (c.args.room - 1) c.args.n c.items.left c.args.bytes.now c.items.rest.now c.last-rest.result.now (omega (arith, c.items-test.true)) (item_last order (c.args.room - 1) c.in_ok-after.ensures c.last-rest.ensures) c.items.invariant
 
 pub walk_array-returns : goal.walk_array-returns
 walk_array-returns g t c =
     let order = g.O.KeyOrder.order in
     let rest = c.items.rest.now in
-    let none : c.items.left ≡ 0 = omega (arith, c.items-test.false) in
-    (rest, refl, (omega arith, (c.items.invariant rest).0 (subst (λ n. ItemsWalked order (c.args.room - 1) n rest rest) (sym none) (items_none order (c.args.room - 1) rest))))
+    (rest, refl, (omega arith, (c.items.invariant rest).0 (no_item, refl, omega (arith, c.items-test.false), tt)))
 
 pub walk_element-returns-then-len-gt0 : goal.walk_element-returns-then-len-gt0
 walk_element-returns-then-len-gt0 g t c =
@@ -50,12 +49,12 @@ pub walk_map-returns-in_err-after : goal.walk_map-returns-in_err-after
 walk_map-returns-in_err-after g t c =
     let order = g.O.KeyOrder.order in
     subst (Finds (Follows order c.args.room Map c.args.n c.args.bytes.now)) (sym c.from_residual.ensures)
-    (λ rest f. (let p = pairs_first order (c.args.room - 1) c.pairs.before (omega (arith, c.pairs-test.true)) ((c.pairs.invariant rest).1 f.1) in c.in_err-after.ensures p.mid p.first))
+    (λ rest f. (let p = pairs_first order (c.args.room - 1) c.pairs.before c.pairs.left c.pairs.rest.now rest (omega (arith, c.pairs-test.true)) ((c.pairs.invariant rest).1 f.1) in c.in_err-after.ensures p.mid p.first))
 
 pub walk_map-returns-then-not-rises_above : goal.walk_map-returns-then-not-rises_above
 walk_map-returns-then-not-rises_above g t c rest f =
     let order = g.O.KeyOrder.order in
-    let p = pairs_first order (c.args.room - 1) c.pairs.before (omega (arith, c.pairs-test.true)) ((c.pairs.invariant rest).1 f.1) in
+    let p = pairs_first order (c.args.room - 1) c.pairs.before c.pairs.left c.pairs.rest.now rest (omega (arith, c.pairs-test.true)) ((c.pairs.invariant rest).1 f.1) in
     let key = one_key order (c.args.room - 1) c.split_before.ensures.parts (item_last order (c.args.room - 1) c.in_ok-after.ensures c.split_before.ensures.last) p in
     iff_false c.rises_above.ensures c.if-not-rises_above.true (subst (Below order c.pairs.before) key.1 p.above)
 
@@ -64,22 +63,21 @@ walk_map-returns-in_err-end g t c =
     let order = g.O.KeyOrder.order in
     subst (Finds (Follows order c.args.room Map c.args.n c.args.bytes.now)) (sym c.from_residual-in_err-end.ensures)
     (λ rest f. (
-    let p = pairs_first order (c.args.room - 1) c.pairs.before (omega (arith, c.pairs-test.true)) ((c.pairs.invariant rest).1 f.1) in
+    let p = pairs_first order (c.args.room - 1) c.pairs.before c.pairs.left c.pairs.rest.now rest (omega (arith, c.pairs-test.true)) ((c.pairs.invariant rest).1 f.1) in
     let key = one_key order (c.args.room - 1) c.split_before.ensures.parts (item_last order (c.args.room - 1) c.in_ok-after.ensures c.split_before.ensures.last) p in
     c.in_err-end.ensures p.after (subst (λ z. Walked order (c.args.room - 1) z p.after) key.0 p.second)))
 
 pub walk_map-pairs-preserved : goal.walk_map-pairs-preserved
 walk_map-pairs-preserved g t c =
     let order = g.O.KeyOrder.order in
-    pairs_next order (c.args.room - 1) c.pairs.before c.split_before.result.0 (omega (arith, c.pairs-test.true)) c.split_before.ensures.parts (c.rises_above.ensures.0 c.if-not-rises_above.false)
+    pairs_next order (c.args.room - 1) c.args.n c.pairs.left c.args.bytes.now c.pairs.rest.now c.split_before.result.1.now c.last-rest.result.now c.pairs.before c.split_before.result.0 (omega (arith, c.pairs-test.true)) c.split_before.ensures.parts (c.rises_above.ensures.0 c.if-not-rises_above.false)
     (item_last order (c.args.room - 1) c.in_ok-after.ensures c.split_before.ensures.last) (item_last order (c.args.room - 1) c.in_ok-end.ensures c.last-rest.ensures) c.pairs.invariant
 
 pub walk_map-returns : goal.walk_map-returns
 walk_map-returns g t c =
     let order = g.O.KeyOrder.order in
     let rest = c.pairs.rest.now in
-    let none : c.pairs.left ≡ 0 = omega (arith, c.pairs-test.false) in
-    (rest, refl, (omega arith, (c.pairs.invariant rest).0 (subst (λ n. PairsWalked order (c.args.room - 1) c.pairs.before n rest rest) (sym none) (pairs_none order (c.args.room - 1) c.pairs.before rest))))
+    (rest, refl, (omega arith, (c.pairs.invariant rest).0 (no_entry, refl, omega (arith, c.pairs-test.false), rising_none g.O.KeyOrder.order c.pairs.before, tt)))
 
 pub walk_tagged-returns : goal.walk_tagged-returns
 walk_tagged-returns g t c = finds_same c.walk_item.result (λ rest. ((λ w. (omega arith, inr (c.if-n-eq2.false, c.if-n-eq3.false, w))), λ f. elim f.1 [ inl z ↦ absurd (elim z.0 [ inl e ↦ c.if-n-eq2.false e | inr e ↦ c.if-n-eq3.false e ]) | inr w ↦ w.2 ])) c.walk_item.ensures
