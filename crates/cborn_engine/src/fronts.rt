@@ -1,12 +1,11 @@
 //! Bytes that are their own deterministic encodings (RFC 8949 section 4.2), walked over in place:
 //! nothing is written, and nothing is kept but the key before.
 
-ghost use Rattle.std.specs.Prelude.{◌≡◌, ◌≤◌, ◌++◌, ◌↔◌, IsTrue, length};
+ghost use Rattle.std.specs.Prelude.{◌≡◌, ◌≤◌, [], ◌∷◌, ◌++◌, ◌↔◌, IsTrue, length};
 ghost use Rattle.cborn_model.specs.declared.heads.Major.TheVariants.{Array, Map, Tag};
-ghost use Rattle.cborn_det.specs.shared.KeyBefore.{Below};
 ghost use Rattle.cborn_engine.specs.declared.kinds.Kind.TheVariants as kinds;
 ghost use Rattle.cborn_engine.specs.devices.Encoding.{IsEncoded};
-ghost use Rattle.cborn_engine.specs.devices.Walking.{IsLast, Finds, Walked, Follows};
+ghost use Rattle.cborn_engine.specs.devices.Walking.{IsLast, Finds, RisingAfter, Walked, Follows};
 
 use crate::walked_leaves::{read_least, walk_leaf, walk_magnitude};
 use cborn_model::{KeyOrder, Limit, Major};
@@ -145,7 +144,7 @@ fn split_before(bytes: &[u8], len: usize) -> (&[u8], &[u8])
 /// none is before it. Takes no memory.
 #[inline(always)]
 fn rises_above<O: KeyOrder>(before: Option<&[u8]>, key: &[u8]) -> bool
-    ensures { IsTrue result ↔ Below O.order before.entry key.now }
+    ensures { IsTrue result ↔ RisingAfter O.order before.entry (key.now ∷ []) }
 {
     match before {
         Some(before) => O::compare(before, key).is_lt(),

@@ -2,7 +2,6 @@
 use Rattle.cborn_engine.proofs.Common.{◌≡◌, ℕ, suc, ◌-◌, ◌<◌, ◌≤◌, ◌↔◌, List, [], ◌∷◌, ◌++◌, Option, None, Some, Bor, refl, sym, ap, ◌∙◌, subst, arith, append_assoc, append_cancel_right, Ordering, Less, Equal, AllByRecursion, EntriesMean, IsKeyOrder, Rising, spelled, spelled_entries, FitsEntries, Entries, no_entry, entry, count_entries, depth_entries, Value, Couples, no_pairs, pair, IsProper, HasProperPairs, IsNew, HasNewKeys, Det, DetPairs, Entry, keys, EntriesTidy, spelled_pairs, RisingAfter, Walked, PairsOwn, PairsWalked}
 use Rattle.cborn_det.proofs.Canon.{one_of_same}
 use Rattle.cborn_det.proofs.Rising.{rises_after, rising_tail}
-use Rattle.cborn_det.specs.shared.KeyBefore.{Below}
 use Rattle.cborn_judge.proofs.Encoded.Tidying.{entries_det, entries_proper}
 use Rattle.cborn_engine.proofs.Walks.Items.{one_walked}
 
@@ -11,13 +10,13 @@ module _ (order : List ℕ → List ℕ → Ordering) where
   rising_none None = tt
   rising_none (Some k) = tt
 
-  rising_before : (before : Option (Bor (List ℕ))) (k : List ℕ) (ks : List (List ℕ)) → Below order before k → Rising order (k ∷ ks) → RisingAfter order before (k ∷ ks)
+  rising_before : (before : Option (Bor (List ℕ))) (k : List ℕ) (ks : List (List ℕ)) → RisingAfter order before (k ∷ []) → Rising order (k ∷ ks) → RisingAfter order before (k ∷ ks)
   rising_before None k ks b r = r
-  rising_before (Some j) k ks b r = (b, r)
+  rising_before (Some j) k ks b r = (b.0, r)
 
-  rising_first : (before : Option (Bor (List ℕ))) (k : List ℕ) (ks : List (List ℕ)) → RisingAfter order before (k ∷ ks) → Below order before k × Rising order (k ∷ ks)
+  rising_first : (before : Option (Bor (List ℕ))) (k : List ℕ) (ks : List (List ℕ)) → RisingAfter order before (k ∷ ks) → RisingAfter order before (k ∷ []) × Rising order (k ∷ ks)
   rising_first None k ks r = (tt, r)
-  rising_first (Some j) k ks r = r
+  rising_first (Some j) k ks r = ((r.0, tt), r.1)
 
   -- ---- keys that rise are the same as none of the others
 
@@ -61,7 +60,7 @@ module _ (order : List ℕ → List ℕ → Ordering) where
     pub pairs_new : IsKeyOrder order → (es : Entries) → Rising order (keys (spelled_pairs es)) → (a : AllOwn es) → HasNewKeys a.values
     pairs_new laws es r a = new_keys laws a.values (spelled_pairs es) (entries_proper order es a.values a.fits a.tidy a.mean) (entries_det order es a.values a.fits a.mean a.tidy) r
 
-    pub pairs_before : (before : Option (Bor (List ℕ))) (key : Bor (List ℕ)) (k n : ℕ) (input mid after rest : List ℕ) → n ≡ suc k → input ≡ key.now ++ mid → Below order before key.now → Walked order room input mid → Walked order room mid after → PairsWalked order room (Some key) k after rest
+    pub pairs_before : (before : Option (Bor (List ℕ))) (key : Bor (List ℕ)) (k n : ℕ) (input mid after rest : List ℕ) → n ≡ suc k → input ≡ key.now ++ mid → RisingAfter order before (key.now ∷ []) → Walked order room input mid → Walked order room mid after → PairsWalked order room (Some key) k after rest
         → PairsWalked order room before n input rest
     pairs_before before key j n input mid after rest c cut above (k, e, o) (v, g, p) (es, f, i, r, q) =
         let same : key.now ≡ spelled k = append_cancel_right key.now (spelled k) mid (sym cut ∙ e) in
@@ -80,7 +79,7 @@ module _ (order : List ℕ → List ℕ → Ordering) where
       pub mid : List ℕ
       pub after : List ℕ
       pub cut : input ≡ key ++ mid
-      pub above : Below order before key
+      pub above : RisingAfter order before (key ∷ [])
       pub first : Walked order room input mid
       pub second : Walked order room mid after
       pub others : (k : Bor (List ℕ)) → k.now ≡ key → PairsWalked order room (Some k) n after rest
@@ -110,7 +109,7 @@ module _ (order : List ℕ → List ℕ → Ordering) where
         (same, append_cancel_right f.key key mid (ap (λ z. f.key ++ z) (sym same) ∙ sym f.cut ∙ cut))
 
     -- after the first pair the others follow
-    pub pairs_next : (n left : ℕ) (input half mid x : List ℕ) (before : Option (Bor (List ℕ))) (key : Bor (List ℕ)) → 0 < left → half ≡ key.now ++ mid → Below order before key.now → Walked order room half mid → Walked order room mid x
+    pub pairs_next : (n left : ℕ) (input half mid x : List ℕ) (before : Option (Bor (List ℕ))) (key : Bor (List ℕ)) → 0 < left → half ≡ key.now ++ mid → RisingAfter order before (key.now ∷ []) → Walked order room half mid → Walked order room mid x
         → ((end : List ℕ) → PairsWalked order room before left half end ↔ PairsWalked order room None n input end) → (end : List ℕ) → PairsWalked order room (Some key) (left - 1) x end ↔ PairsWalked order room None n input end
     pairs_next n left input half mid x before key some cut above w v lead end = (
       (λ s. (lead end).0 (pairs_before before key (left - 1) left half mid x end (omega (arith, some)) cut above w v s)),

@@ -1,6 +1,5 @@
-use Rattle.cborn_engine.proofs.Common.{Array, Map, Tag, ◌≡◌, ◌-◌, ◌⊎◌, inl, inr, refl, sym, drop, length-drop, subst, arith, no_item, no_entry, Finds, Follows, Walked}
+use Rattle.cborn_engine.proofs.Common.{Array, Map, Tag, ◌≡◌, ◌-◌, ◌⊎◌, inl, inr, [], ◌∷◌, refl, sym, drop, length-drop, subst, arith, no_item, no_entry, Finds, Follows, RisingAfter, Walked}
 use Rattle.std.proofs.lemmas.Bool.{iff_false}
-use Rattle.cborn_det.specs.shared.KeyBefore.{Below}
 use Rattle.cborn_engine.proofs.Walks.Items.{finds_same, integer_walked, item_last, items_first, items_next}
 use Rattle.cborn_engine.proofs.Walks.Maps.{rising_none, pairs_first, pairs_next, one_key}
 use Rattle.cborn_engine.proofs.Walks.Following.{none_headed, found_after, leaf_found}
@@ -36,7 +35,6 @@ walk_array-items-preserved g t c =
 
 pub walk_array-returns : goal.walk_array-returns
 walk_array-returns g t c =
-    let order = g.O.KeyOrder.order in
     let rest = c.items.rest.now in
     (rest, refl, (omega arith, (c.items.invariant rest).0 (no_item, refl, omega (arith, c.items-test.false), tt)))
 
@@ -56,7 +54,7 @@ walk_map-returns-then-not-rises_above g t c rest f =
     let order = g.O.KeyOrder.order in
     let p = pairs_first order (c.args.room - 1) c.pairs.before c.pairs.left c.pairs.rest.now rest (omega (arith, c.pairs-test.true)) ((c.pairs.invariant rest).1 f.1) in
     let key = one_key order (c.args.room - 1) c.split_before.ensures.parts (item_last order (c.args.room - 1) c.in_ok-after.ensures c.split_before.ensures.last) p in
-    iff_false c.rises_above.ensures c.if-not-rises_above.true (subst (Below order c.pairs.before) key.1 p.above)
+    iff_false c.rises_above.ensures c.if-not-rises_above.true (subst (λ k. RisingAfter order c.pairs.before (k ∷ [])) key.1 p.above)
 
 pub walk_map-returns-in_err-end : goal.walk_map-returns-in_err-end
 walk_map-returns-in_err-end g t c =
@@ -75,7 +73,6 @@ walk_map-pairs-preserved g t c =
 
 pub walk_map-returns : goal.walk_map-returns
 walk_map-returns g t c =
-    let order = g.O.KeyOrder.order in
     let rest = c.pairs.rest.now in
     (rest, refl, (omega arith, (c.pairs.invariant rest).0 (no_entry, refl, omega (arith, c.pairs-test.false), rising_none g.O.KeyOrder.order c.pairs.before, tt)))
 
