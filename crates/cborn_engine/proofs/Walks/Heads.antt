@@ -1,22 +1,21 @@
 -- Shortest heads at the front of bytes.
-use Rattle.cborn_engine.proofs.Common.{◌≡◌, ℕ, ◌+◌, ◌*◌, inl, inr, true, false, List, [], ◌++◌, length, drop, None, Some, refl, sym, ap, ◌∙◌, subst, arith, append_assoc, append-nil, length-append, drop_at, IsTrue, Width, Given, head, following, WidthFits, least, is_simple_value, Major, Other, LeastHeadRead, HasNoLeastHead, ArgumentFits, IsHeadOf, major_at, seen_argument}
-use Rattle.std.proofs.lemmas.Bool.{le-ltb}
+use Rattle.cborn_engine.proofs.Common.{◌≡◌, ℕ, ◌+◌, ◌*◌, ◌≤◌, inl, inr, false, List, [], ◌++◌, length, drop, None, Some, refl, sym, ap, ◌∙◌, subst, arith, append_assoc, append-nil, length-append, drop_at, IsTrue, Width, Given, head, following, WidthFits, least, is_simple_value, Major, Other, LeastHeadRead, HasNoLeastHead, ArgumentFits, IsHeadOf, major_at, seen_argument}
+use Rattle.std.proofs.lemmas.Bool.{le-ltb, lt-ltb}
 use Rattle.cborn_model.specs.Heads.{Argument, EndlessArgument, code, information}
 use Rattle.cborn_model.specs.declared.heads.Width.TheVariants.{Direct}
 use Rattle.cborn_model.proofs.Numbers.Majors.{major_at-code}
-use Rattle.cborn_model.proofs.Numbers.OneHead.{one_head}
-use Rattle.cborn_model.proofs.Numbers.Simples.{simple_cases, least_direct, least_one}
+use Rattle.cborn_model.proofs.Numbers.OneHead.{one_head, low_bits_below}
+use Rattle.cborn_model.proofs.Numbers.Simples.{simple_cases}
 use Rattle.cborn_wire.specs.HeadReading.{ReadsHead, reason_alone}
 use Rattle.cborn_wire.specs.Slots.{element_or_end}
 use Rattle.cborn_wire.specs.declared.heads.Argument as wire
 use Rattle.cborn_wire.specs.declared.heads.Head.{Head}
 use Rattle.cborn_wire.specs.declared.heads.HeadRead.{HeadRead}
 use Rattle.cborn_wire.specs.declared.heads.HeadRead.TheVariants.{Full, Short, Bad}
-use Rattle.cborn_wire.specs.shared.InitialBytes.{Info, Next, info_for, is_endless_head, head_reason}
+use Rattle.cborn_wire.specs.shared.InitialBytes.{info_for, head_reason}
 use Rattle.cborn_wire.proofs.HeadReading.HeadFronts.{now_free}
 use Rattle.cborn_wire.proofs.HeadReading.InitialBytes.{same_alone}
 use Rattle.cborn_wire.proofs.Machine.Pieces.{major_of_head, info_of_head}
-use Rattle.cborn_wire.proofs.Machine.TakesItems.{given_endless}
 
 -- a head that was read, and what follows it
 pub head_read : {x tail : List ℕ} {h : Head} {n : ℕ} {m : Major} {a : wire.Argument} → tail ≡ drop n x → IsHeadOf x h n → major_at h.major ≡ m → h.argument ≡ a → x ≡ head m (seen_argument a) ++ tail
@@ -35,25 +34,14 @@ one_least {m} {k} {n} {j} {y = y} {z} h i =
 
 -- ---- where no shortest head is read there is none
 
-width_in : Info → Width
-width_in (Next w) = w
-width_in i = Direct
-
-width_for : (w : Width) (n : ℕ) → width_in (info_for (Given w n)) ≡ w
-unfolding width_in
-width_for Direct n = refl
-width_for w n = refl
-
 -- of two heads at the front of one list, the one with an argument
 same_argument : (m k : Major) (w : Width) (n : ℕ) (a : Argument) (x y : List ℕ) → WidthFits w n → ArgumentFits a → head m (Given w n) ++ x ≡ head k a ++ y → (a ≡ Given w n) × (x ≡ y)
-same_argument m k w n a x y f g e = of a g e (sym (info_of_head m (Given w n) _ _ x f refl) ∙ info_of_head k a _ _ y g e)
-  where
-    of : (a : Argument) → ArgumentFits a → head m (Given w n) ++ x ≡ head k a ++ y → info_for (Given w n) ≡ info_for a → (a ≡ Given w n) × (x ≡ y)
-    of (Given v j) g e i =
-        let o = one_head w v x y (f, refl) (g, refl) e in
-        let wide : v ≡ w = sym (width_for v j) ∙ ap width_in (sym i) ∙ width_for w n in
-        ((λ i. Given (wide i) (sym o.argument i)), o.rest)
-    of EndlessArgument g e i = absurd (let z : false ≡ true = sym (given_endless w n) ∙ ap is_endless_head i in cc)
+same_argument m k w n (Given v j) x y f g e =
+    let o = one_head w v x y (f, refl) (g, refl) e in
+    ((λ i. Given (sym o.width i) (sym o.argument i)), o.rest)
+same_argument m k w n EndlessArgument x y f g e =
+    let first : 32 * code m + information w n ≡ 32 * code k + 31 = cc in
+    absurd (omega (arith, first, low_bits_below w n f))
 
 argument_free : (m : Major) (w : Width) (n : ℕ) (y : List ℕ) → (m ≡ Other → ⊥) → head_reason element_or_end false m (info_for (Given w n)) y ≡ None
 argument_free m Direct n y o = now_free y m n
@@ -62,8 +50,8 @@ argument_free m w n y o = refl
 
 simple_free : (n : ℕ) (y : List ℕ) → IsTrue (is_simple_value n) → head_reason element_or_end false Other (info_for (Given (least n) n)) (following (least n) n ++ y) ≡ None
 simple_free n y s = elim (simple_cases n s) [
-  | inl low ↦ subst (λ w. head_reason element_or_end false Other (info_for (Given w n)) (following w n ++ y) ≡ None) (sym (least_direct n low)) refl
-  | inr high ↦ subst (λ w. head_reason element_or_end false Other (info_for (Given w n)) (following w n ++ y) ≡ None) (sym (least_one n (omega (arith, high.0)) high.1)) (rw (le-ltb n 32 high.0) refl)
+  | inl low ↦ rw (lt-ltb n 24 low) refl
+  | inr high ↦ let far : 24 ≤ n = omega (arith, high.0) in rw (le-ltb n 24 far, lt-ltb n 256 high.1, le-ltb n 32 high.0) refl
 ]
 
 least_free : {m : Major} {n : ℕ} {x y : List ℕ} → LeastHeadRead m n x y → (m ≡ Other → IsTrue (is_simple_value n)) → reason_alone x ≡ None

@@ -1,5 +1,5 @@
 -- Pairs whose keys rise, one after another, each spelled as its deterministic encoding.
-use Rattle.cborn_engine.proofs.Common.{◌≡◌, ℕ, suc, ◌-◌, ◌<◌, ◌≤◌, ◌↔◌, List, [], ◌∷◌, ◌++◌, Option, None, Some, Bor, refl, sym, ap, ◌∙◌, subst, arith, append_assoc, append_cancel_right, Ordering, Less, Equal, AllByRecursion, EntriesMean, IsKeyOrder, Rising, spelled, spelled_entries, FitsEntries, Entries, no_entry, entry, count_entries, depth_entries, Value, Couples, no_pairs, pair, IsProper, HasProperPairs, IsNew, HasNewKeys, Det, DetPairs, Entry, keys, EntriesTidy, spelled_pairs, RisingAfter, Walked, PairsOwn, PairsWalked}
+use Rattle.cborn_engine.proofs.Common.{◌≡◌, ℕ, suc, ◌-◌, ◌<◌, ◌≤◌, ◌↔◌, List, [], ◌∷◌, ◌++◌, Option, None, Some, Bor, refl, sym, ap, ◌∙◌, subst, arith, append_assoc, append_cancel_right, Ordering, Less, Equal, AllByRecursion, EntriesMean, IsKeyOrder, Rising, spelled, spelled_entries, FitsEntries, Entries, no_entry, entry, depth_entries, Value, Couples, no_pairs, pair, IsProper, HasProperPairs, IsNew, HasNewKeys, Det, DetPairs, Entry, keys, EntriesTidy, spelled_pairs, RisingAfter, Walked, PairsOwn, PairsWalked}
 use Rattle.cborn_det.proofs.Canon.{one_of_same}
 use Rattle.cborn_det.proofs.Rising.{rises_after, rising_tail}
 use Rattle.cborn_judge.proofs.Encoded.Tidying.{entries_det, entries_proper}
@@ -35,6 +35,7 @@ module _ (order : List ℕ → List ℕ → Ordering) where
     new_keys (pair k v ps) (e ∷ es) q h r = (new_key k e.0 ps es q.0 h.0 q.2 h.2 (rises_after order laws e es r), new_keys ps es q.2 h.2 (rising_tail order laws e es r))
 
   module _ (room : ℕ) where
+    -- what holds of each pair, of all together
     pub record AllOwn (es : Entries) : Type 0 where
       pub fits : FitsEntries es
       pub shallow : depth_entries es ≤ room
@@ -114,7 +115,7 @@ module _ (order : List ℕ → List ℕ → Ordering) where
     pairs_next n left input half mid x before key some cut above w v lead end = (
       (λ s. (lead end).0 (pairs_before before key (left - 1) left half mid x end (omega (arith, some)) cut above w v s)),
       (λ s.
-        let f = pairs_first before left half end some ((lead end).1 s) in
-        let o = one_key cut w f in
-        subst (λ z. PairsWalked order room (Some key) (left - 1) z end) (one_walked order room (subst (λ z. Walked order room z f.after) o.0 f.second) v) (f.others key (sym o.1))),
+          let f = pairs_first before left half end some ((lead end).1 s) in
+          let o = one_key cut w f in
+          subst (λ z. PairsWalked order room (Some key) (left - 1) z end) (one_walked order room (subst (λ z. Walked order room z f.after) o.0 f.second) v) (f.others key (sym o.1))),
     )

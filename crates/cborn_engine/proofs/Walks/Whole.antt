@@ -1,5 +1,5 @@
 -- Bytes are their own deterministic encodings exactly if they are such items, one after another.
-use Rattle.cborn_engine.proofs.Common.{◌≡◌, ℕ, suc, ◌+◌, ◌-◌, ◌<◌, ◌≤◌, ◌↔◌, List, [], ◌++◌, length, append-nil, refl, sym, ap, ◌∙◌, subst, arith, Ordering, AllMean, spelled_all, Trees, trees, count, depth_all, Values, AreProper, values_of, DetValues, IsEncoded, ItemsWalked, Walked}
+use Rattle.cborn_engine.proofs.Common.{◌≡◌, ℕ, suc, ◌-◌, ◌<◌, ◌≤◌, ◌↔◌, List, [], ◌++◌, length, append-nil, refl, sym, ap, ◌∙◌, subst, arith, Ordering, AllMean, spelled_all, Trees, trees, count, depth_all, Values, AreProper, values_of, DetValues, IsEncoded, ItemsWalked, Walked}
 use Rattle.cborn_model.proofs.Listed.Meanings.{all_mean}
 use Rattle.cborn_det.proofs.Room.{counted}
 use Rattle.cborn_det.proofs.Steps.{values_of_seq}

@@ -73,6 +73,7 @@ module _ (order : List ℕ → List ℕ → Ordering) where
       pub value : Value
       pub means : Means t value
 
+    -- so is each of these
     abbrev pub AreOwn : Trees → Type 0
     AreOwn no_item = ⊤
     AreOwn (more t ts) = IsOwn t × AreOwn ts
