@@ -18,4 +18,3 @@ pub use Rattle.cborn_det.specs.Appending.{Appends}
 pub use Rattle.cborn_det.specs.Det.{Det, DetMap, DetPairs, DetSeq, DetValues, Entry, IsInteger, IsString, bignum_tag, joined, keys, major_of}
 pub use Rattle.cborn_det.specs.devices.Writing.{AppendsPair, BeginsWith, IsWritten, entries_of, lengths_of}
 pub use Rattle.cborn_det.specs.shared.Distinct.{HasDistinctKeys}
-pub use Rattle.cborn_det.specs.shared.KeyBefore.{Below, EndsIn}

@@ -1,18 +1,6 @@
 -- Lists of entries whose keys rise.
-use Rattle.cborn_det.proofs.Common.{◌≡◌, ℕ, Option, None, Some, Bor, map-append, EndsIn, Below, inl, inr, List, [], ◌∷◌, ◌++◌, map, refl, sym, ap, ◌∙◌, subst, IsPermutation, Ordering, Less, Equal, Greater, AllByRecursion, IsPermutation-refl, IsPermutation-sym, IsPermutation-trans, IsPermutation-map, IsPermutation-cons, IsPermutation-middle, ordering_reverse, IsKeyOrder, Rising, Entry, keys, HasDistinctKeys}
+use Rattle.cborn_det.proofs.Common.{◌≡◌, ℕ, inl, inr, List, [], ◌∷◌, map, refl, sym, ap, ◌∙◌, subst, IsPermutation, Ordering, Less, Equal, Greater, AllByRecursion, IsPermutation-refl, IsPermutation-sym, IsPermutation-trans, IsPermutation-map, IsPermutation-cons, IsPermutation-middle, ordering_reverse, IsKeyOrder, Rising, Entry, keys, HasDistinctKeys}
 use Rattle.cborn_model.proofs.SameItems.Rearranging.{All_moved, weaker, both, at_member, IsIn, AreIn, are_in_moved}
-
--- one more key, above the last
-rising_push : (order : List ℕ → List ℕ → Ordering) (js : List (List ℕ)) (k l : List ℕ) → Rising order (js ++ k ∷ []) → order k l ≡ Less → Rising order ((js ++ k ∷ []) ++ l ∷ [])
-rising_push order [] k l r h = (h, tt)
-rising_push order (i ∷ []) k l r h = (r.0, (h, tt))
-rising_push order (i ∷ j ∷ js) k l r h = (r.0, rising_push order (j ∷ js) k l r.1 h)
-
--- the same of entries
-pub rise_more : (order : List ℕ → List ℕ → Ordering) (before : Option (Bor (List ℕ))) (front : List Entry) (e : Entry) → Rising order (keys front) → EndsIn before (keys front) → Below order before e.0 → Rising order (keys (front ++ e ∷ []))
-rise_more order None front e r n b = subst (Rising order) (ap (λ z. z ++ e.0 ∷ []) (sym n) ∙ sym (map-append (λ (z : Entry). z.0) front (e ∷ []))) tt
-rise_more order (Some k) front e r n b =
-    subst (Rising order) (ap (λ z. z ++ e.0 ∷ []) (sym n.1) ∙ sym (map-append (λ (z : Entry). z.0) front (e ∷ []))) (rising_push order n.0 k.now e.0 (subst (Rising order) n.1 r) b)
 
 abbrev bare : List ℕ → Entry
 bare k = (k, [])

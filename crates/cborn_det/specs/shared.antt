@@ -1,2 +1,1 @@
-pub mod KeyBefore
 pub mod Distinct

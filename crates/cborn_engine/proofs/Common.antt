@@ -78,4 +78,4 @@ pub use Rattle.cborn_engine.specs.devices.Counting.{read_failures}
 pub use Rattle.cborn_engine.specs.devices.Counts.{EncodedWhole, ReadsCount, bytes_of, own_or}
 pub use Rattle.cborn_engine.specs.devices.Encoding.{AreJudged, EncodeAnswers, IsEncoded, IsFixedText, IsWrittenAs, kind_of}
 pub use Rattle.cborn_engine.specs.devices.Malformed.{IsRefusedHeld, IsUnshownHeld, IsWireFault}
-pub use Rattle.cborn_engine.specs.devices.Walking.{ContentRead, IsLast, IsOwn, ItemsWalked, Leaves, LeastHeadRead, MagnitudeRead, PairsWalked, Walked, Walks, WalksAfter}
+pub use Rattle.cborn_engine.specs.devices.Walking.{AreOwn, ContentRead, Finds, Follows, HasNoLeastHead, IsLast, IsOwn, ItemsWalked, LeafFollows, LeastHeadRead, MagnitudeRead, PairsOwn, PairsWalked, RisingAfter, Walked}

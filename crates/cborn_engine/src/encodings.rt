@@ -1,6 +1,6 @@
 //! Encoding what a whole input holds. The encodings are written as bytes or a text are read; no tree is
 //! kept.
-ghost use Rattle.std.specs.Prelude.{◌≤◌, length, IfOk, IfErr, IsTrue};
+ghost use Rattle.std.specs.Prelude.{◌≡◌, ◌↔◌, ◌≤◌, length, IfOk, IfErr, IsTrue};
 ghost use Rattle.cborn_engine.specs.declared.kinds.Kind.TheVariants as kinds;
 ghost use Rattle.cborn_engine.specs.devices.Encoding.{IsEncoded, kind_of};
 ghost use Rattle.cborn_engine.specs.Reading.{most_bytes};
@@ -19,7 +19,7 @@ use std::alloc::Global;
 /// Whether the whole input is the deterministic encodings of what it holds, one after another. False of
 /// a text.
 pub fn is_own_encoding<O: KeyOrder>(limit: Limit, kind: Kind, input: &[u8]) -> bool
-    ensures { IsTrue result → IsEncoded O.order kind limit input.now input.now }
+    ensures { IsTrue result ↔ (kind ≡ kinds.Wire) × IsEncoded O.order kind limit input.now input.now }
 {
     kind == Kind::Wire && is_deterministic::<O>(limit, input)
 }

@@ -1,24 +1,23 @@
 //! Bytes that are their own deterministic encodings (RFC 8949 section 4.2), walked over in place:
 //! nothing is written, and nothing is kept but the key before.
 
-ghost use Rattle.std.specs.Prelude.{◌≡◌, ◌≤◌, ◌++◌, IsTrue, length};
+ghost use Rattle.std.specs.Prelude.{◌≡◌, ◌≤◌, [], ◌∷◌, ◌++◌, ◌↔◌, IsTrue, length};
 ghost use Rattle.cborn_model.specs.declared.heads.Major.TheVariants.{Array, Map, Tag};
-ghost use Rattle.cborn_det.specs.shared.KeyBefore.{Below};
 ghost use Rattle.cborn_engine.specs.declared.kinds.Kind.TheVariants as kinds;
 ghost use Rattle.cborn_engine.specs.devices.Encoding.{IsEncoded};
-ghost use Rattle.cborn_engine.specs.devices.Walking.{IsLast, Walks, WalksAfter};
+ghost use Rattle.cborn_engine.specs.devices.Walking.{IsLast, Finds, RisingAfter, Walked, Follows};
 
 use crate::walked_leaves::{read_least, walk_leaf, walk_magnitude};
 use cborn_model::{KeyOrder, Limit, Major};
 use cborn_wire::int_len;
 
-/// Whether the bytes are seen to be the deterministic encodings of items, one after another, none
-/// deeper than `limit`, the keys of maps in the order `O` (RFC 8949 section 4.2). It is a quick way:
-/// no clause says when it is true.
+/// Whether the bytes are the deterministic encodings of items, one after another, none deeper than
+/// `limit`, the keys of maps in the order `O` (RFC 8949 section 4.2).
 ///
 /// The bytes are walked over once, in place, up to the first item that isn't. No memory is taken.
 pub fn is_deterministic<O: KeyOrder>(limit: Limit, bytes: &[u8]) -> bool
-    ensures { IsTrue result → IsEncoded O.order kinds.Wire limit bytes.now bytes.now }
+    ensures own { IsTrue result → IsEncoded O.order kinds.Wire limit bytes.now bytes.now }
+    ensures all { IsEncoded O.order kinds.Wire limit bytes.now bytes.now → IsTrue result }
 {
     let room = limit.get();
     let mut rest = bytes;
@@ -36,7 +35,7 @@ pub fn is_deterministic<O: KeyOrder>(limit: Limit, bytes: &[u8]) -> bool
 #[cycle(walked)]
 #[inline(always)]
 fn walk_item<O: KeyOrder>(room: u64, bytes: &[u8]) -> Option<usize>
-    ensures { Walks O.order room bytes.now result }
+    ensures { Finds (Walked O.order room bytes.now) result }
 {
     let (major, n, rest) = read_least(bytes)?;
     match major {
@@ -52,7 +51,7 @@ fn walk_item<O: KeyOrder>(room: u64, bytes: &[u8]) -> Option<usize>
 #[cycle(walked)]
 #[inline(never)]
 fn walk_array<O: KeyOrder>(room: u64, n: u64, bytes: &[u8]) -> Option<usize>
-    ensures { WalksAfter O.order room Array n bytes.now result }
+    ensures { Finds (Follows O.order room Array n bytes.now) result }
 {
     if room == 0 {
         return None;
@@ -71,7 +70,7 @@ fn walk_array<O: KeyOrder>(room: u64, n: u64, bytes: &[u8]) -> Option<usize>
 #[cycle(walked)]
 #[inline(always)]
 fn walk_element<O: KeyOrder>(room: u64, bytes: &[u8]) -> Option<usize>
-    ensures { Walks O.order room bytes.now result }
+    ensures { Finds (Walked O.order room bytes.now) result }
 {
     let len = int_len(bytes);
     if len > 0 {
@@ -85,7 +84,7 @@ fn walk_element<O: KeyOrder>(room: u64, bytes: &[u8]) -> Option<usize>
 #[cycle(walked)]
 #[inline(never)]
 fn walk_map<O: KeyOrder>(room: u64, n: u64, bytes: &[u8]) -> Option<usize>
-    ensures { WalksAfter O.order room Map n bytes.now result }
+    ensures { Finds (Follows O.order room Map n bytes.now) result }
 {
     if room == 0 {
         return None;
@@ -111,7 +110,7 @@ fn walk_map<O: KeyOrder>(room: u64, n: u64, bytes: &[u8]) -> Option<usize>
 #[cycle(walked)]
 #[inline(never)]
 fn walk_tagged<O: KeyOrder>(room: u64, n: u64, bytes: &[u8]) -> Option<usize>
-    ensures { WalksAfter O.order room Tag n bytes.now result }
+    ensures { Finds (Follows O.order room Tag n bytes.now) result }
 {
     if room == 0 {
         return None;
@@ -145,7 +144,7 @@ fn split_before(bytes: &[u8], len: usize) -> (&[u8], &[u8])
 /// none is before it. Takes no memory.
 #[inline(always)]
 fn rises_above<O: KeyOrder>(before: Option<&[u8]>, key: &[u8]) -> bool
-    ensures { IsTrue result → Below O.order before.entry key.now }
+    ensures { IsTrue result ↔ RisingAfter O.order before.entry (key.now ∷ []) }
 {
     match before {
         Some(before) => O::compare(before, key).is_lt(),

@@ -1,9 +1,8 @@
 //! Heads and items without children, read in place: nothing is written.
 
-ghost use Rattle.std.specs.Prelude.{◌≡◌, ◌⊎◌, ℕ, List, IfSome};
-ghost use Rattle.std.specs.declared.cmp.Ordering.{Ordering};
+ghost use Rattle.std.specs.Prelude.{◌≡◌, ◌⊎◌, MatchOption};
 ghost use Rattle.cborn_model.specs.declared.heads.Major.TheVariants.{ByteString, TextString};
-ghost use Rattle.cborn_engine.specs.devices.Walking.{LeastHeadRead, ContentRead, MagnitudeRead, Leaves, WalksAfter};
+ghost use Rattle.cborn_engine.specs.devices.Walking.{Finds, LeastHeadRead, HasNoLeastHead, ContentRead, MagnitudeRead, LeafFollows};
 
 use cborn_judge::{is_loose, is_text};
 use cborn_model::{Major, is_simple_value, shortest};
@@ -14,7 +13,7 @@ use cborn_wire::{Argument, HeadRead, read_head};
 /// no memory.
 #[inline(always)]
 pub(crate) fn read_least(bytes: &[u8]) -> Option<(Major, u64, &[u8])>
-    ensures { IfSome result (λ r. LeastHeadRead r.0 r.1 bytes.now r.2.now) }
+    ensures { MatchOption result (HasNoLeastHead bytes.now) (λ r. LeastHeadRead r.0 r.1 bytes.now r.2.now) }
 {
     let HeadRead::Full(head, len) = read_head(bytes) else {
         return None;
@@ -33,7 +32,7 @@ pub(crate) fn read_least(bytes: &[u8]) -> Option<(Major, u64, &[u8])>
 /// encoding (RFC 8949 section 4.2). None where no such item is there, and for an array, a map or a tag.
 #[inline(always)]
 pub(crate) fn walk_leaf(major: Major, n: u64, bytes: &[u8]) -> Option<usize>
-    ensures { (order : List ℕ → List ℕ → Ordering) (room : ℕ) → WalksAfter order room major n bytes.now result }
+    ensures { Finds (LeafFollows major n bytes.now) result }
 {
     match major {
         Major::Unsigned => Some(bytes.len()),
@@ -55,7 +54,7 @@ pub(crate) fn walk_leaf(major: Major, n: u64, bytes: &[u8]) -> Option<usize>
 #[inline(always)]
 fn walk_content(major: Major, n: u64, bytes: &[u8]) -> Option<usize>
     requires { (major ≡ ByteString) ⊎ (major ≡ TextString) }
-    ensures { IfSome result (Leaves (ContentRead major n bytes.now)) }
+    ensures { Finds (ContentRead major n bytes.now) result }
 {
     if n > bytes.len() as u64 {
         return None;
@@ -71,7 +70,7 @@ fn walk_content(major: Major, n: u64, bytes: &[u8]) -> Option<usize>
 /// has no shorter encoding (RFC 8949 section 3.4.3). None where no such byte string is there.
 #[inline(never)]
 pub(crate) fn walk_magnitude(bytes: &[u8]) -> Option<usize>
-    ensures { IfSome result (Leaves (MagnitudeRead bytes.now)) }
+    ensures { Finds (MagnitudeRead bytes.now) result }
 {
     let (major, n, rest) = read_least(bytes)?;
     if major != Major::ByteString || n > rest.len() as u64 {

@@ -9,7 +9,7 @@ use Rattle.cborn_wire.proofs.Spelled.TreeLists.{trees-append, spelled_all-append
 
 -- ---- one more node
 
-pub nodes_put : (ts : List Tree) (t : Tree) → spelled_all (trees (ts ++ t ∷ [])) ≡ spelled_all (trees ts) ++ spelled t
+nodes_put : (ts : List Tree) (t : Tree) → spelled_all (trees (ts ++ t ∷ [])) ≡ spelled_all (trees ts) ++ spelled t
 nodes_put ts t = ap spelled_all (trees-append ts (t ∷ [])) ∙ spelled_all-append (trees ts) (trees (t ∷ [])) ∙ ap (λ l. spelled_all (trees ts) ++ l) (append-nil (spelled t))
 
 written_put : (f : Partial) (t : Tree) → written (put f t) ≡ written f ++ spelled t

@@ -24,7 +24,7 @@ depth_append (t ∷ ts) us d f g = omega (arith, depth_append ts us d (omega (ar
 
 -- ---- lists, as the contents of an array
 
-abbrev value_list : Values → List Value
+abbrev pub value_list : Values → List Value
 value_list no_values = []
 value_list (value v vs) = v ∷ value_list vs
 
@@ -66,7 +66,7 @@ nodes_read limit x vs b l =
     let same : trees (tree_list b.nodes) ≡ b.nodes = trees-tree_list b.nodes in
     record { spells = ap spelled_all same ∙ b.spelled; fit = subst FitsAll (sym same) b.fit; shallow = l }
 
-as_input : (limit : ℕ) (x : List ℕ) (vs : Values) (b : BytesHold x vs) → depth_all (trees (tree_list b.nodes)) ≤ limit → Holds kind.Wire limit x (value_list vs)
+pub as_input : (limit : ℕ) (x : List ℕ) (vs : Values) (b : BytesHold x vs) → depth_all (trees (tree_list b.nodes)) ≤ limit → Holds kind.Wire limit x (value_list vs)
 as_input limit x vs b l = record { nodes = tree_list b.nodes; spelled = nodes_read limit x vs b l; meant = mean_listed b.nodes vs b.meant }
 
 pub held_within : (x : List ℕ) (vs : List Value) → BytesHold x (values_of vs) → (limit : ℕ) × Holds kind.Wire limit x vs
@@ -82,7 +82,7 @@ items_once x vs ws a b =
     sym (values-listed vs) ∙ ap values_of once ∙ values-listed ws
 
 module _ (order : List ℕ → List ℕ → Ordering) where
-  det_listed : (vs : Values) (x : List ℕ) → DetValues order vs x → DetSeq order (value_list vs) x
+  pub det_listed : (vs : Values) (x : List ℕ) → DetValues order vs x → DetSeq order (value_list vs) x
   det_listed vs x d = seq_of_values order (value_list vs) x (subst (λ (us : Values). DetValues order us x) (sym (values-listed vs)) d)
 
   -- what has an encoding is valid

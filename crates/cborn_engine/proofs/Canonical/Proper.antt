@@ -39,7 +39,7 @@ module _ (order : List ℕ → List ℕ → Ordering) where
         subst IsProper (sym m.4) (m.0, m.1, holds_below w n f.0, proper t m.2 e.1 f.1 m.3 e.3)
     proper (Simple p n) v x f m d = subst IsProper (sym m) f
 
-    all_proper : (ts : Trees) (vs : Values) (x : List ℕ) → FitsAll ts → AllMean ts vs → DetValues order vs x → AreProper vs
+    pub all_proper : (ts : Trees) (vs : Values) (x : List ℕ) → FitsAll ts → AllMean ts vs → DetValues order vs x → AreProper vs
     all_proper no_item no_values x f m d = tt
     all_proper no_item (value v vs) x f m d = absurd m
     all_proper (more t ts) no_values x f m d = absurd m

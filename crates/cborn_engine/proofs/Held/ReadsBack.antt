@@ -1,10 +1,11 @@
 -- What is written deterministically reads back as the same items, no deeper than they are.
 use Rattle.cborn_engine.proofs.Common.{◌≡◌, ◌≤◌, ◌<◌, ℕ, suc, ◌+◌, ◌^◌, inl, inr, Bool, true, false, ltb, List, [], ◌∷◌, ◌++◌, length, refl, sym, ap, ◌∙◌, subst, arith, Ordering, append-nil, AllZip, AllByRecursion, le-ltb, IsTrue, length_permutation, Fixed, big_endian, Array, Map, Tag, WidthFits, Given, head, least, IsLeastHead, is_simple_value, Tree, Uint, Nint, Bytes, Text, Items, Pairs, Tagged, Simple, Trees, no_item, more, trees, Entries, no_entry, entry, count, count_entries, depth, depth_all, depth_entries, spelled, spelled_all, spelled_entries, Fits, FitsAll, FitsEntries, Placed, PlacedAll, PlacedEntries, Value, Values, Couples, integer, bytes, text, array, dict, tagged, simple, no_values, value, no_pairs, pair, value_count, pair_count, listed, Same, SameValues, SamePairs, IsProper, AreProper, HasProperPairs, HasNewKeys, IsNew, value_depth, values_depth, pairs_depth, Means, AllMean, EntriesMean, IsKeyOrder, Rising, Entry, IsInteger, Det, DetValues, DetPairs, DetSeq, joined, keys}
 use Rattle.std.specs.declared.cmp.Ordering.TheVariants.{Less}
-use Rattle.cborn_model.proofs.SameItems.Rearranging.{carried, weaker}
+use Rattle.cborn_model.proofs.SameItems.Rearranging.{carried}
 use Rattle.cborn_model.proofs.SameItems.Sameness.{same_turned, same_chained}
 use Rattle.cborn_model.proofs.Listed.Values.{length-listed}
 use Rattle.cborn_det.proofs.Canon.{one_of_same}
+use Rattle.cborn_det.proofs.Rising.{rises_after, rising_tail}
 use Rattle.cborn_lex.proofs.WholeTexts.Weights.{utf8_bytes}
 
 -- the bytes spell a node at p that means the same as the item, valid, and is no deeper
@@ -142,11 +143,6 @@ module _ (order : List ℕ → List ℕ → Ordering) (laws : IsKeyOrder order) 
         shallow = omega (arith, one.key.shallow, one.val.shallow, one.key_shallow, one.value_shallow, more.shallow);
       }
 
-  -- a key that rises is below all that follow
-  below_all : (k : List ℕ) (es : List Entry) → Rising order (k ∷ keys es) → AllByRecursion (λ (g : Entry). order k g.0 ≡ Less) es
-  below_all k [] h = tt
-  below_all k (e ∷ es) h = (h.0, weaker (λ (g : Entry). order e.0 g.0 ≡ Less) (λ (g : Entry). order k g.0 ≡ Less) (λ g q. laws.along k e.0 g.0 h.0 q) es (below_all e.0 es h.1))
-
   -- a key whose encoding is below the others' is new among them
   new_among : (deep : ℕ) (a r : Value) (k : List ℕ) (ps : Couples) (rs : List (Value × Value)) (es : List Entry) → IsProper r → Det order r k → Same a r → SamePairs ps rs → AllZip (Backed deep) rs es → AllByRecursion (λ (g : Entry). order k g.0 ≡ Less) es → IsNew a ps
   new_among deep a r k no_pairs rs es p d s t z l = tt
@@ -163,11 +159,7 @@ module _ (order : List ℕ → List ℕ → Ordering) (laws : IsKeyOrder order) 
   new_keys deep no_pairs rs es t z h = tt
   new_keys deep (pair a w ps) [] es t z h = absurd t
   new_keys deep (pair a w ps) (r ∷ rs) [] t z h = absurd z
-  new_keys deep (pair a w ps) (r ∷ rs) (e ∷ es) t z h = (new_among deep a r.0 e.0 ps rs es z.0.1 z.0.2 t.0 t.2 z.1 (below_all e.0 es h), new_keys deep ps rs es t.2 z.1 (rest es h))
-    where
-      rest : (es : List Entry) → Rising order (e.0 ∷ keys es) → Rising order (keys es)
-      rest [] h = tt
-      rest (f ∷ fs) h = h.1
+  new_keys deep (pair a w ps) (r ∷ rs) (e ∷ es) t z h = (new_among deep a r.0 e.0 ps rs es z.0.1 z.0.2 t.0 t.2 z.1 (rises_after order laws e es h), new_keys deep ps rs es t.2 z.1 (rising_tail order laws e es h))
 
   map_back : (p : ℕ) (ps : Couples) (x : List ℕ) → pair_count ps < 2 ^ 64 → Det order (dict ps) x → ((es : List Entry) → DetPairs order ps es → AllZip (Backed (pairs_depth ps)) (listed ps) es) → ReadsBack p (dict ps) x
   map_back p ps x few d back =

@@ -1,84 +1,121 @@
--- Maps that are spelled as their deterministic encodings: pairs one after another, whose keys rise.
-use Rattle.cborn_engine.proofs.Common.{◌≡◌, ℕ, ◌+◌, ◌-◌, ◌≤◌, List, [], ◌∷◌, ◌++◌, length, Option, None, Some, Bor, refl, sym, ap, ◌∙◌, subst, arith, append_assoc, append-nil, length-append, append_cancel_right, Ordering, Less, Equal, AllByRecursion, Map, Fixed, WidthFits, least, EntriesMean, IsKeyOrder, Rising, spelled, spelled_entries, FitsEntries, Tree, Pairs, entries, count_entries, depth_entries, Value, Couples, no_pairs, pair, dict, IsProper, HasProperPairs, IsNew, HasNewKeys, Det, DetPairs, Entry, keys, EntriesTidy, spelled_pairs, IsOwn, Walked, PairsWalked, WalksAfter}
-use Rattle.cborn_model.proofs.Listed.Trees.{count_entries-entries}
+-- Pairs whose keys rise, one after another, each spelled as its deterministic encoding.
+use Rattle.cborn_engine.proofs.Common.{◌≡◌, ℕ, suc, ◌-◌, ◌<◌, ◌≤◌, ◌↔◌, List, [], ◌∷◌, ◌++◌, Option, None, Some, Bor, refl, sym, ap, ◌∙◌, subst, arith, append_assoc, append_cancel_right, Ordering, Less, Equal, AllByRecursion, EntriesMean, IsKeyOrder, Rising, spelled, spelled_entries, FitsEntries, Entries, no_entry, entry, depth_entries, Value, Couples, no_pairs, pair, IsProper, HasProperPairs, IsNew, HasNewKeys, Det, DetPairs, Entry, keys, EntriesTidy, spelled_pairs, RisingAfter, Walked, PairsOwn, PairsWalked}
 use Rattle.cborn_det.proofs.Canon.{one_of_same}
-use Rattle.cborn_det.proofs.Rising.{rise_more, rises_after, rising_tail}
-use Rattle.cborn_det.specs.shared.KeyBefore.{Below}
+use Rattle.cborn_det.proofs.Rising.{rises_after, rising_tail}
 use Rattle.cborn_judge.proofs.Encoded.Tidying.{entries_det, entries_proper}
-use Rattle.cborn_judge.proofs.Encoding.PairsHinted.{all_more}
-use Rattle.cborn_engine.proofs.Walks.Items.{fixed_split}
+use Rattle.cborn_engine.proofs.Walks.Items.{one_walked}
 
--- ---- one more pair
+module _ (order : List ℕ → List ℕ → Ordering) where
+  pub rising_none : (before : Option (Bor (List ℕ))) → RisingAfter order before []
+  rising_none None = tt
+  rising_none (Some k) = tt
 
-pairs_put : (ps : List (Tree × Tree)) (p : Tree × Tree) → spelled_pairs (entries (ps ++ p ∷ [])) ≡ spelled_pairs (entries ps) ++ (spelled p.0, spelled p.1) ∷ []
-pairs_put [] p = refl
-pairs_put (q ∷ ps) p = ap (λ l. (spelled q.0, spelled q.1) ∷ l) (pairs_put ps p)
+  rising_before : (before : Option (Bor (List ℕ))) (k : List ℕ) (ks : List (List ℕ)) → RisingAfter order before (k ∷ []) → Rising order (k ∷ ks) → RisingAfter order before (k ∷ ks)
+  rising_before None k ks b r = r
+  rising_before (Some j) k ks b r = (b.0, r)
 
-entries_put : (ps : List (Tree × Tree)) (p : Tree × Tree) → spelled_entries (entries (ps ++ p ∷ [])) ≡ spelled_entries (entries ps) ++ (spelled p.0 ++ spelled p.1)
-entries_put [] p = append-nil (spelled p.0 ++ spelled p.1)
-entries_put (q ∷ ps) p =
-    let first : List ℕ = spelled q.0 ++ spelled q.1 in
-    ap (λ l. first ++ l) (entries_put ps p) ∙ sym (append_assoc first (spelled_entries (entries ps)) (spelled p.0 ++ spelled p.1))
+  rising_first : (before : Option (Bor (List ℕ))) (k : List ℕ) (ks : List (List ℕ)) → RisingAfter order before (k ∷ ks) → RisingAfter order before (k ∷ []) × Rising order (k ∷ ks)
+  rising_first None k ks r = (tt, r)
+  rising_first (Some j) k ks r = ((r.0, tt), r.1)
 
-keys_put : (ps : List (Tree × Tree)) (p : Tree × Tree) → keys (spelled_pairs (entries (ps ++ p ∷ []))) ≡ keys (spelled_pairs (entries ps)) ++ spelled p.0 ∷ []
-keys_put [] p = refl
-keys_put (q ∷ ps) p = ap (λ l. spelled q.0 ∷ l) (keys_put ps p)
+  -- ---- keys that rise are the same as none of the others
 
-module _ (order : List ℕ → List ℕ → Ordering) (room : ℕ) where
-  pub pairs_more : {before : Option (Bor (List ℕ))} (key : Bor (List ℕ)) {n : ℕ} {input half mid rest : List ℕ} → PairsWalked order room before n input half → half ≡ key.now ++ mid → Walked order room half mid → Walked order room mid rest → Below order before key.now → PairsWalked order room (Some key) (n + 1) input rest
-  pairs_more {before} key {mid = mid} {rest} s cut (k, e, o) (v, g, p) above =
-      let same : spelled k ≡ key.now = append_cancel_right (spelled k) key.now mid (sym e ∙ cut) in
-      let front : List ℕ = spelled_entries (entries s.pairs) in
-      let both : List ℕ = spelled k ++ spelled v in
-      record {
-        pairs = s.pairs ++ (k, v) ∷ [];
-        read = s.read ∙ ap (λ z. front ++ z) (e ∙ ap (λ z. spelled k ++ z) g ∙ sym (append_assoc (spelled k) (spelled v) rest)) ∙ sym (append_assoc front both rest) ∙ ap (λ z. z ++ rest) (sym (entries_put s.pairs (k, v)));
-        own = all_more (λ q. IsOwn order room q.0 × IsOwn order room q.1) s.pairs (k, v) s.own (o, p);
-        count = length-append s.pairs ((k, v) ∷ []) ∙ ap (λ j. j + 1) s.count;
-        rising = subst (λ l. Rising order (keys l)) (sym (pairs_put s.pairs (k, v))) (rise_more order before (spelled_pairs (entries s.pairs)) (spelled k, spelled v) s.rising s.last (subst (Below order before) (sym same) above));
-        last = (keys (spelled_pairs (entries s.pairs)), keys_put s.pairs (k, v) ∙ ap (λ z. keys (spelled_pairs (entries s.pairs)) ++ z ∷ []) same);
-      }
+  module _ (laws : IsKeyOrder order) where
+    unlike : (x y : List ℕ) → order x y ≡ Less → x ≡ y → ⊥
+    unlike x y l e = let same : Equal ≡ Less = sym (laws.itself x) ∙ ap (order x) e ∙ l in cc
 
-  record AllOwn (ps : List (Tree × Tree)) : Type 0 where
-    fits : FitsEntries (entries ps)
-    shallow : depth_entries (entries ps) ≤ room
-    tidy : EntriesTidy order (entries ps)
-    values : Couples
-    mean : EntriesMean (entries ps) values
+    new_key : (k : Value) (x : List ℕ) (ps : Couples) (es : List Entry) → IsProper k → Det order k x → HasProperPairs ps → DetPairs order ps es → AllByRecursion (λ (f : Entry). order x f.0 ≡ Less) es → IsNew k ps
+    new_key k x no_pairs es p d q h a = tt
+    new_key k x (pair l v ps) [] p d q h a = absurd h
+    new_key k x (pair l v ps) (e ∷ es) p d q h a = ((λ s. unlike x e.0 a.0 (one_of_same order laws k l x e.0 p q.0 s d h.0)), new_key k x ps es p d q.2 h.2 a.1)
 
-  all_own : (ps : List (Tree × Tree)) → AllByRecursion (λ p. IsOwn order room p.0 × IsOwn order room p.1) ps → AllOwn ps
-  all_own [] h = record { fits = tt; shallow = omega arith; tidy = tt; values = no_pairs; mean = tt }
-  all_own (p ∷ ps) ((k, v), h) =
-      let r = all_own ps h in
-      record { fits = (k.fits, v.fits, r.fits); shallow = omega (arith, k.shallow, v.shallow, r.shallow); tidy = (k.tidy, v.tidy, r.tidy); values = pair k.value v.value r.values; mean = (k.means, v.means, r.mean) }
+    new_keys : (ps : Couples) (es : List Entry) → HasProperPairs ps → DetPairs order ps es → Rising order (keys es) → HasNewKeys ps
+    new_keys no_pairs es q h r = tt
+    new_keys (pair k v ps) [] q h r = absurd h
+    new_keys (pair k v ps) (e ∷ es) q h r = (new_key k e.0 ps es q.0 h.0 q.2 h.2 (rises_after order laws e es r), new_keys ps es q.2 h.2 (rising_tail order laws e es r))
 
--- ---- keys that rise are the same as none of the others
+  module _ (room : ℕ) where
+    -- what holds of each pair, of all together
+    pub record AllOwn (es : Entries) : Type 0 where
+      pub fits : FitsEntries es
+      pub shallow : depth_entries es ≤ room
+      pub tidy : EntriesTidy order es
+      pub values : Couples
+      pub mean : EntriesMean es values
 
-module _ (order : List ℕ → List ℕ → Ordering) (laws : IsKeyOrder order) where
-  unlike : (x y : List ℕ) → order x y ≡ Less → x ≡ y → ⊥
-  unlike x y l e = let same : Equal ≡ Less = sym (laws.itself x) ∙ ap (order x) e ∙ l in cc
+    pub all_own : (es : Entries) → PairsOwn order room es → AllOwn es
+    all_own no_entry h = record { fits = tt; shallow = omega arith; tidy = tt; values = no_pairs; mean = tt }
+    all_own (entry k v es) (o, p, h) =
+        let s = all_own es h in
+        record { fits = (o.fits, p.fits, s.fits); shallow = omega (arith, o.shallow, p.shallow, s.shallow); tidy = (o.tidy, p.tidy, s.tidy); values = pair o.value p.value s.values; mean = (o.means, p.means, s.mean) }
 
-  new_key : (k : Value) (x : List ℕ) (ps : Couples) (es : List Entry) → IsProper k → Det order k x → HasProperPairs ps → DetPairs order ps es → AllByRecursion (λ (f : Entry). order x f.0 ≡ Less) es → IsNew k ps
-  new_key k x no_pairs es p d q h a = tt
-  new_key k x (pair l v ps) [] p d q h a = absurd h
-  new_key k x (pair l v ps) (e ∷ es) p d q h a = ((λ s. unlike x e.0 a.0 (one_of_same order laws k l x e.0 p q.0 s d h.0)), new_key k x ps es p d q.2 h.2 a.1)
+    pub each_own : (es : Entries) (ps : Couples) → FitsEntries es → depth_entries es ≤ room → EntriesTidy order es → EntriesMean es ps → PairsOwn order room es
+    each_own no_entry ps f d y m = tt
+    each_own (entry k v es) no_pairs f d y m = absurd m
+    each_own (entry k v es) (pair a b ps) f d y m = (
+      record { fits = f.0; shallow = omega (arith, d); tidy = y.0; value = a; means = m.0 },
+      record { fits = f.1; shallow = omega (arith, d); tidy = y.1; value = b; means = m.1 },
+      each_own es ps f.2 (omega (arith, d)) y.2 m.2,
+    )
 
-  new_keys : (ps : Couples) (es : List Entry) → HasProperPairs ps → DetPairs order ps es → Rising order (keys es) → HasNewKeys ps
-  new_keys no_pairs es q h r = tt
-  new_keys (pair k v ps) [] q h r = absurd h
-  new_keys (pair k v ps) (e ∷ es) q h r = (new_key k e.0 ps es q.0 h.0 q.2 h.2 (rises_after order laws e es r), new_keys ps es q.2 h.2 (rising_tail order laws e es r))
+    pub pairs_new : IsKeyOrder order → (es : Entries) → Rising order (keys (spelled_pairs es)) → (a : AllOwn es) → HasNewKeys a.values
+    pairs_new laws es r a = new_keys laws a.values (spelled_pairs es) (entries_proper order es a.values a.fits a.tidy a.mean) (entries_det order es a.values a.fits a.mean a.tidy) r
 
-  pub map_walked : {room : ℕ} {before : Option (Bor (List ℕ))} (n : ℕ) {k : ℕ} {input rest : List ℕ} → 1 ≤ room → PairsWalked order (room - 1) before k input rest → k ≡ n → WalksAfter order room Map n input (Some (length rest))
-  map_walked {room} n {rest = rest} some s all h =
-      let es = entries s.pairs in
-      let c : count_entries es ≡ n = count_entries-entries s.pairs ∙ s.count ∙ all in
-      let a = all_own order (room - 1) s.pairs s.own in
-      let new = new_keys a.values (spelled_pairs es) (entries_proper order es a.values a.fits a.tidy a.mean) (entries_det order es a.values a.fits a.mean a.tidy) s.rising in (
-        rest,
-        refl,
-        (
-          Pairs 0 (Fixed (least n)) es,
-          fixed_split Map (least n) (spelled_entries es) rest c s.read,
-          record { fits = (subst (WidthFits (least n)) (sym c) h, a.fits); shallow = omega (arith, some, a.shallow); tidy = (ap least (sym c), a.tidy, s.rising); value = dict a.values; means = (a.values, a.mean, new, refl) },
-        ),
-      )
+    pub pairs_before : (before : Option (Bor (List ℕ))) (key : Bor (List ℕ)) (k n : ℕ) (input mid after rest : List ℕ) → n ≡ suc k → input ≡ key.now ++ mid → RisingAfter order before (key.now ∷ []) → Walked order room input mid → Walked order room mid after → PairsWalked order room (Some key) k after rest
+        → PairsWalked order room before n input rest
+    pairs_before before key j n input mid after rest c cut above (k, e, o) (v, g, p) (es, f, i, r, q) =
+        let same : key.now ≡ spelled k = append_cancel_right key.now (spelled k) mid (sym cut ∙ e) in
+        let others : List ℕ = spelled_entries es in
+        let ks : List (List ℕ) = keys (spelled_pairs es) in (
+          entry k v es,
+          e ∙ ap (λ z. spelled k ++ z) (g ∙ ap (λ z. spelled v ++ z) f) ∙ sym (append_assoc (spelled k) (spelled v) (others ++ rest)) ∙ sym (append_assoc (spelled k ++ spelled v) others rest),
+          ap suc i ∙ sym c,
+          subst (λ z. RisingAfter order before (z ∷ ks)) same (rising_before before key.now ks above r),
+          (o, p, q),
+        )
+
+    -- the first pair, and the others after its key
+    pub record FirstPair (before : Option (Bor (List ℕ))) (n : ℕ) (input rest : List ℕ) : Type 0 where
+      pub key : List ℕ
+      pub mid : List ℕ
+      pub after : List ℕ
+      pub cut : input ≡ key ++ mid
+      pub above : RisingAfter order before (key ∷ [])
+      pub first : Walked order room input mid
+      pub second : Walked order room mid after
+      pub others : (k : Bor (List ℕ)) → k.now ≡ key → PairsWalked order room (Some k) n after rest
+
+    pub pairs_first : (before : Option (Bor (List ℕ))) (n : ℕ) (input rest : List ℕ) → 0 < n → PairsWalked order room before n input rest → FirstPair before (n - 1) input rest
+    pairs_first before n input rest some (no_entry, e, c, r, o) = absurd (omega (arith, some, c))
+    pairs_first before n input rest some (entry k v es, e, c, r, (o, p, q)) =
+        let ks : List (List ℕ) = keys (spelled_pairs es) in
+        let above = rising_first before (spelled k) ks r in
+        let after : List ℕ = spelled_entries es ++ rest in
+        let cut : input ≡ spelled k ++ (spelled v ++ after) = e ∙ append_assoc (spelled k ++ spelled v) (spelled_entries es) rest ∙ append_assoc (spelled k) (spelled v) after in
+        record {
+          key = spelled k;
+          mid = spelled v ++ after;
+          after = after;
+          cut = cut;
+          above = above.0;
+          first = (k, cut, o);
+          second = (v, refl, p);
+          others = λ j e. (es, refl, omega (arith, c), subst (λ z. Rising order (z ∷ ks)) (sym e) above.1, q);
+        }
+
+    -- a pair begins with one key alone
+    pub one_key : {before : Option (Bor (List ℕ))} {key mid input rest : List ℕ} {n : ℕ} → input ≡ key ++ mid → Walked order room input mid → (f : FirstPair before n input rest) → (f.mid ≡ mid) × (f.key ≡ key)
+    one_key {key = key} {mid} cut w f =
+        let same : f.mid ≡ mid = one_walked order room f.first w in
+        (same, append_cancel_right f.key key mid (ap (λ z. f.key ++ z) (sym same) ∙ sym f.cut ∙ cut))
+
+    -- after the first pair the others follow
+    pub pairs_next : (n left : ℕ) (input half mid x : List ℕ) (before : Option (Bor (List ℕ))) (key : Bor (List ℕ)) → 0 < left → half ≡ key.now ++ mid → RisingAfter order before (key.now ∷ []) → Walked order room half mid → Walked order room mid x
+        → ((end : List ℕ) → PairsWalked order room before left half end ↔ PairsWalked order room None n input end) → (end : List ℕ) → PairsWalked order room (Some key) (left - 1) x end ↔ PairsWalked order room None n input end
+    pairs_next n left input half mid x before key some cut above w v lead end = (
+      (λ s. (lead end).0 (pairs_before before key (left - 1) left half mid x end (omega (arith, some)) cut above w v s)),
+      (λ s.
+          let f = pairs_first before left half end some ((lead end).1 s) in
+          let o = one_key cut w f in
+          subst (λ z. PairsWalked order room (Some key) (left - 1) z end) (one_walked order room (subst (λ z. Walked order room z f.after) o.0 f.second) v) (f.others key (sym o.1))),
+    )

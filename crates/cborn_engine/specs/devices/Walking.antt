@@ -1,19 +1,17 @@
--- A device of the proofs: what a walk finds at the front of bytes, where it finds something: items that are spelled as their deterministic encodings. No public contract cites it.
-use Rattle.std.specs.Prelude.{◌≡◌, ℕ, ◌≤◌, List, ◌++◌, length, Option, IfSome, IsUtf8}
-use Rattle.std.specs.List.{AllByRecursion}
+-- A device of the proofs: what a walk finds at the front of bytes: items that are spelled as their deterministic encodings. No public contract cites it.
+use Rattle.std.specs.Prelude.{◌≡◌, ◌≢◌, ℕ, ◌-◌, ◌≤◌, ◌⊎◌, List, ◌∷◌, ◌++◌, length, Option, None, Some, IsTrue, IsUtf8, ⊤}
 use Rattle.std.specs.declared.cmp.Ordering.{Ordering}
 use Rattle.std.proofs.Common.{Bor}
 use Rattle.cborn_model.specs.Bytes.{AreBytes}
 use Rattle.cborn_model.specs.declared.heads.Major.{Major}
-use Rattle.cborn_model.specs.declared.heads.Major.TheVariants.{ByteString, TextString}
-use Rattle.cborn_model.specs.Heads.{Given, head, WidthFits, least}
+use Rattle.cborn_model.specs.declared.heads.Major.TheVariants.{Unsigned, Negative, ByteString, TextString, Array, Map, Tag, Other}
+use Rattle.cborn_model.specs.Heads.{Given, head, WidthFits, least, is_simple_value}
 use Rattle.cborn_model.specs.Meaning.{Means}
 use Rattle.cborn_model.specs.Orders.{Rising}
 use Rattle.cborn_model.specs.Spelled.{spelled, spelled_all, spelled_entries, Fits}
-use Rattle.cborn_model.specs.Tree.{Tree, trees, entries, depth}
+use Rattle.cborn_model.specs.Tree.{Tree, Trees, no_item, more, Entries, no_entry, entry, count, count_entries, depth}
 use Rattle.cborn_model.specs.Value.{Value}
 use Rattle.cborn_det.specs.Det.{keys}
-use Rattle.cborn_det.specs.shared.KeyBefore.{EndsIn}
 use Rattle.cborn_judge.specs.Defects.{IsLoose}
 use Rattle.cborn_judge.specs.shared.Tidy.{IsTidy, spelled_pairs}
 
@@ -21,10 +19,19 @@ use Rattle.cborn_judge.specs.shared.Tidy.{IsTidy, spelled_pairs}
 abbrev pub IsLast : List ℕ → ℕ → List ℕ → Type 0
 IsLast input len x = (front : List ℕ) × (input ≡ front ++ x) × (length x ≡ len)
 
+-- P holds of some rest, which has this many bytes; None: of no rest
+abbrev pub Finds : (List ℕ → Type 0) → Option ℕ → Type 0
+Finds P None = (rest : List ℕ) → P rest → ⊥
+Finds P (Some len) = (rest : List ℕ) × (length rest ≡ len) × P rest
+
 -- the input begins with the shortest head of the major type with the argument n
 pub record LeastHeadRead (major : Major) (n : ℕ) (input rest : List ℕ) : Type 0 where
   pub fits : WidthFits (least n) n
   pub read : input ≡ head major (Given (least n) n) ++ rest
+
+-- it begins with none, but for that of what is no simple value
+abbrev pub HasNoLeastHead : List ℕ → Type 0
+HasNoLeastHead input = (m : Major) (n : ℕ) (rest : List ℕ) → LeastHeadRead m n input rest → (m ≡ Other → IsTrue (is_simple_value n)) → ⊥
 
 -- the content of a string of the major type, of n bytes
 pub record ContentRead (major : Major) (n : ℕ) (input rest : List ℕ) : Type 0 where
@@ -42,43 +49,54 @@ pub record MagnitudeRead (input rest : List ℕ) : Type 0 where
   pub goes : ContentRead ByteString len tail rest
   pub tight : IsLoose goes.content → ⊥
 
--- P holds of some rest, which has this many bytes
-abbrev pub Leaves : (List ℕ → Type 0) → ℕ → Type 0
-Leaves P len = (rest : List ℕ) × (length rest ≡ len) × P rest
+-- what follows the shortest head of the major type with the argument n makes an item without children
+abbrev pub LeafFollows : Major → ℕ → List ℕ → List ℕ → Type 0
+LeafFollows Unsigned n input rest = input ≡ rest
+LeafFollows Negative n input rest = input ≡ rest
+LeafFollows ByteString n input rest = ContentRead ByteString n input rest
+LeafFollows TextString n input rest = ContentRead TextString n input rest
+LeafFollows Other n input rest = IsTrue (is_simple_value n) × (input ≡ rest)
+LeafFollows _ n input rest = ⊥
 
-module _ (order : List ℕ → List ℕ → Ordering) (room : ℕ) where
-  -- a node no deeper than the room that means an item, and is spelled as its encoding
-  pub record IsOwn (t : Tree) : Type 0 where
-    pub fits : Fits t
-    pub shallow : depth t ≤ room
-    pub tidy : IsTidy order t
-    pub value : Value
-    pub means : Means t value
+module _ (order : List ℕ → List ℕ → Ordering) where
+  -- the keys rise, above the key before, if there is one
+  abbrev pub RisingAfter : Option (Bor (List ℕ)) → List (List ℕ) → Type 0
+  RisingAfter None ks = Rising order ks
+  RisingAfter (Some k) ks = Rising order (k.now ∷ ks)
 
-  -- the input begins with such a node
-  abbrev pub Walked : List ℕ → List ℕ → Type 0
-  Walked input rest = (t : Tree) × (input ≡ spelled t ++ rest) × IsOwn t
+  module _ (room : ℕ) where
+    -- a node no deeper than the room that means an item, and is spelled as its encoding
+    pub record IsOwn (t : Tree) : Type 0 where
+      pub fits : Fits t
+      pub shallow : depth t ≤ room
+      pub tidy : IsTidy order t
+      pub value : Value
+      pub means : Means t value
 
-  -- with n of them
-  pub record ItemsWalked (n : ℕ) (input rest : List ℕ) : Type 0 where
-    pub nodes : List Tree
-    pub read : input ≡ spelled_all (trees nodes) ++ rest
-    pub own : AllByRecursion IsOwn nodes
-    pub count : length nodes ≡ n
+    -- so is each of these
+    abbrev pub AreOwn : Trees → Type 0
+    AreOwn no_item = ⊤
+    AreOwn (more t ts) = IsOwn t × AreOwn ts
 
-  -- with n pairs of them whose keys rise, the last of them this one
-  pub record PairsWalked (before : Option (Bor (List ℕ))) (n : ℕ) (input rest : List ℕ) : Type 0 where
-    pub pairs : List (Tree × Tree)
-    pub read : input ≡ spelled_entries (entries pairs) ++ rest
-    pub own : AllByRecursion (λ p. IsOwn p.0 × IsOwn p.1) pairs
-    pub count : length pairs ≡ n
-    pub rising : Rising order (keys (spelled_pairs (entries pairs)))
-    pub last : EndsIn before (keys (spelled_pairs (entries pairs)))
+    abbrev pub PairsOwn : Entries → Type 0
+    PairsOwn no_entry = ⊤
+    PairsOwn (entry k v es) = IsOwn k × IsOwn v × PairsOwn es
 
-  -- so many bytes follow the node at the front
-  abbrev pub Walks : List ℕ → Option ℕ → Type 0
-  Walks input o = IfSome o (Leaves (Walked input))
+    -- the input begins with such a node,
+    abbrev pub Walked : List ℕ → List ℕ → Type 0
+    Walked input rest = (t : Tree) × (input ≡ spelled t ++ rest) × IsOwn t
 
-  -- the same of one that begins with the shortest head of this major type with the argument n
-  abbrev pub WalksAfter : Major → ℕ → List ℕ → Option ℕ → Type 0
-  WalksAfter m n input o = WidthFits (least n) n → Walks (head m (Given (least n) n) ++ input) o
+    -- with n of them,
+    abbrev pub ItemsWalked : ℕ → List ℕ → List ℕ → Type 0
+    ItemsWalked n input rest = (ts : Trees) × (input ≡ spelled_all ts ++ rest) × (count ts ≡ n) × AreOwn ts
+
+    -- or with n pairs of them, whose keys rise above the key before
+    abbrev pub PairsWalked : Option (Bor (List ℕ)) → ℕ → List ℕ → List ℕ → Type 0
+    PairsWalked before n input rest = (es : Entries) × (input ≡ spelled_entries es ++ rest) × (count_entries es ≡ n) × RisingAfter before (keys (spelled_pairs es)) × PairsOwn es
+
+  -- what follows the shortest head of the major type with the argument n makes such a node
+  abbrev pub Follows : ℕ → Major → ℕ → List ℕ → List ℕ → Type 0
+  Follows room Array n input rest = (1 ≤ room) × ItemsWalked (room - 1) n input rest
+  Follows room Map n input rest = (1 ≤ room) × PairsWalked (room - 1) None n input rest
+  Follows room Tag n input rest = (1 ≤ room) × ((((n ≡ 2) ⊎ (n ≡ 3)) × MagnitudeRead input rest) ⊎ ((n ≢ 2) × (n ≢ 3) × Walked (room - 1) input rest))
+  Follows room m n input rest = LeafFollows m n input rest

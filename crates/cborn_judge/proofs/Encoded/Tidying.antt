@@ -1,7 +1,7 @@
 -- A tidy node spells the encoding of what it means, and what spells an encoding is tidy.
-use Rattle.cborn_judge.proofs.Common.{◌≡◌, ◌≢◌, ℕ, suc, ◌+◌, ◌*◌, ◌<◌, ◌≤◌, ◌^◌, ◌⊎◌, inl, inr, List, [], ◌∷◌, ◌++◌, length, refl, sym, ap, ◌∙◌, subst, arith, true, false, Bool, append_assoc, append-nil, Ordering, AllByRecursion, cases_lt, length_permutation, IsPermutation-refl, IsLoose, Value, Values, Couples, integer, bytes, text, array, dict, tagged, simple, no_values, value, no_pairs, pair, value_count, pair_count, big_endian, AreBytes, IsShortest, IsProper, AreProper, HasProperPairs, Width, Direct, One, Two, Four, Eight, Major, Unsigned, Negative, ByteString, TextString, Array, Map, Tag, Other, WidthFits, information, following, least, IsHead, IsLeastHead, Given, EndlessArgument, code, head, IsString, IsInteger, Det, DetValues, DetPairs, Entry, keys, joined, major_of, bignum_tag, Rising, Chunk, Tree, Uint, Nint, Bytes, Text, ByteChunks, TextChunks, Items, Pairs, Tagged, Simple, Trees, no_item, more, Entries, no_entry, entry, count, count_entries, Size, Fixed, Endless, SizeFits, ending, chunks, spelled, spelled_all, spelled_entries, Fits, FitsAll, FitsEntries, IsNumber, IsByteString, IsBignum, Means, AllMean, EntriesMean}
+use Rattle.cborn_judge.proofs.Common.{◌≡◌, ◌≢◌, ℕ, suc, ◌+◌, ◌*◌, ◌<◌, ◌≤◌, ◌^◌, ◌⊎◌, inl, inr, List, [], ◌∷◌, ◌++◌, length, refl, sym, ap, ◌∙◌, subst, arith, true, false, Bool, append_assoc, append-nil, Ordering, AllByRecursion, cases_lt, length_permutation, IsPermutation-refl, IsLoose, Value, Values, Couples, integer, bytes, text, array, dict, tagged, simple, no_values, value, no_pairs, pair, value_count, pair_count, big_endian, AreBytes, IsShortest, IsProper, AreProper, HasProperPairs, Width, Major, Unsigned, Negative, ByteString, TextString, Array, Map, Tag, Other, WidthFits, information, following, least, IsHead, IsLeastHead, Given, EndlessArgument, code, head, IsString, IsInteger, Det, DetValues, DetPairs, Entry, keys, joined, major_of, bignum_tag, Rising, Chunk, Tree, Uint, Nint, Bytes, Text, ByteChunks, TextChunks, Items, Pairs, Tagged, Simple, Trees, no_item, more, Entries, no_entry, entry, count, count_entries, Size, Fixed, Endless, SizeFits, ending, chunks, spelled, spelled_all, spelled_entries, Fits, FitsAll, FitsEntries, IsNumber, IsByteString, IsBignum, Means, AllMean, EntriesMean}
 use Rattle.cborn_judge.specs.shared.Tidy.{spelled_pairs, SizeIsTidy, IsTidy, AllTidy, EntriesTidy}
-use Rattle.cborn_model.proofs.Numbers.OneHead.{one_head, append_same}
+use Rattle.cborn_model.proofs.Numbers.OneHead.{one_head, append_same, low_bits_below}
 use Rattle.cborn_model.proofs.Numbers.Simples.{simple_fits}
 use Rattle.cborn_model.proofs.SameItems.Rearranging.{All_moved}
 use Rattle.cborn_det.proofs.Canon.{string_one}
@@ -96,18 +96,6 @@ module _ (order : List ℕ → List ℕ → Ordering) where
 
 -- ---- from the encoding to tidy
 
-same_width : (w v : Width) (n k : ℕ) → WidthFits w n → WidthFits v k → information w n ≡ information v k → w ≡ v
-same_width Direct Direct n k h g e = refl
-same_width One One n k h g e = refl
-same_width Two Two n k h g e = refl
-same_width Four Four n k h g e = refl
-same_width Eight Eight n k h g e = refl
-same_width _ _ n k h g e = absurd (omega arith)
-
-bits_low : (w : Width) (n : ℕ) → WidthFits w n → information w n < 31
-bits_low Direct n h = omega arith
-bits_low _ n h = omega arith
-
 module _ (order : List ℕ → List ℕ → Ordering) where
   -- the entry is what some valid pair encodes to
   IsEntry : Entry → Type 0
@@ -166,12 +154,8 @@ module _ (order : List ℕ → List ℕ → Ordering) where
   meets m w n c r x s h z e =
       let a : head m (Given w n) ++ (c ++ r) ≡ z.front ++ (z.content ++ s) = sym (append_assoc (head m (Given w n)) c r) ∙ e ∙ ap (λ l. l ++ s) z.is ∙ append_assoc z.front z.content s in
       let o = one_head w (least z.argument) (c ++ r) (z.content ++ s) (h, refl) z.is_head a in
-      let first : head m (Given w n) ≡ (32 * z.major + information (least z.argument) z.argument) ∷ following (least z.argument) z.argument = o.head ∙ z.is_head.1 in
-      let byte : 32 * code m + information w n ≡ 32 * z.major + information (least z.argument) z.argument = cc in
-      let low : information w n ≡ information (least z.argument) z.argument = omega (arith, o.major) in
-      let width : w ≡ least z.argument = same_width w (least z.argument) n z.argument h z.is_head.0 low in
       record {
-        least_width = width ∙ ap least (sym o.argument);
+        least_width = o.width ∙ ap least (sym o.argument);
         content = z.content;
         follows = subst (λ k. Content (code m) k z.content) (sym o.argument) (subst (λ j. Content j z.argument z.content) (sym o.major) z.follows);
         rest = o.rest;
@@ -183,7 +167,7 @@ module _ (order : List ℕ → List ℕ → Ordering) where
   not_endless m c x s z e =
       let a : head m EndlessArgument ++ c ≡ ((32 * z.major + information (least z.argument) z.argument) ∷ following (least z.argument) z.argument) ++ (z.content ++ s) = e ∙ ap (λ l. l ++ s) z.is ∙ append_assoc z.front z.content s ∙ ap (λ l. l ++ (z.content ++ s)) z.is_head.1 in
       let byte : 32 * code m + 31 ≡ 32 * z.major + information (least z.argument) z.argument = cc in
-      omega (arith, bits_low (least z.argument) z.argument z.is_head.0)
+      omega (arith, low_bits_below (least z.argument) z.argument z.is_head.0)
 
   abbrev Spelt : List ℕ → List ℕ → List ℕ → List ℕ → Type 0 → Type 0
   Spelt a r x s T = (a ≡ x) × (r ≡ s) × T

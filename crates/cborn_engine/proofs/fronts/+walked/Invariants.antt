@@ -1,4 +1,4 @@
-use Rattle.cborn_engine.proofs.Common.{◌≡◌, ℕ, ◌*◌, ◌+◌, ◌-◌, ItemsWalked, PairsWalked}
+use Rattle.cborn_engine.proofs.Common.{ℕ, ◌*◌, ◌+◌, ◌-◌, ◌↔◌, List, None, ItemsWalked, PairsWalked}
 use Rattle.cborn_engine.proofs.fronts.+walked.Given as goal
 
 abbrev pub decreases-walk_item : goal.decreases-walk_item
@@ -22,10 +22,10 @@ decreases-walk_array-items g l = l.left
 abbrev pub decreases-walk_map-pairs : goal.decreases-walk_map-pairs
 decreases-walk_map-pairs g l = l.left
 
--- the items and the pairs so far
+-- up to each end, what is left is items or pairs exactly if the whole is
 
 abbrev pub invariant-walk_array-items : goal.invariant-walk_array-items
-invariant-walk_array-items g l = (k : ℕ) × ItemsWalked g.O.KeyOrder.order (l.room - 1) k l.bytes l.rest × (k + l.left ≡ l.n)
+invariant-walk_array-items g l = (end : List ℕ) → ItemsWalked g.O.KeyOrder.order (l.room - 1) l.left l.rest end ↔ ItemsWalked g.O.KeyOrder.order (l.room - 1) l.n l.bytes end
 
 abbrev pub invariant-walk_map-pairs : goal.invariant-walk_map-pairs
-invariant-walk_map-pairs g l = (k : ℕ) × PairsWalked g.O.KeyOrder.order (l.room - 1) l.before k l.bytes l.rest × (k + l.left ≡ l.n)
+invariant-walk_map-pairs g l = (end : List ℕ) → PairsWalked g.O.KeyOrder.order (l.room - 1) l.before l.left l.rest end ↔ PairsWalked g.O.KeyOrder.order (l.room - 1) None l.n l.bytes end

@@ -1,9 +1,10 @@
-use Rattle.cborn_engine.proofs.Common.{ℕ, length, ItemsWalked}
+use Rattle.cborn_engine.proofs.Common.{length, ◌↔◌}
+use Rattle.cborn_engine.proofs.Walks.Whole.{AllWalked}
 use Rattle.cborn_engine.proofs.fronts.is_deterministic.Given as goal
 
 abbrev pub decreases-items : goal.decreases-items
 decreases-items g l = length l.rest
 
--- the items so far
+-- what is left is its own encodings exactly if the whole is
 abbrev pub invariant-items : goal.invariant-items
-invariant-items g l = (n : ℕ) × ItemsWalked g.O.KeyOrder.order l.room n l.bytes l.rest
+invariant-items g l = AllWalked g.O.KeyOrder.order l.room l.rest ↔ AllWalked g.O.KeyOrder.order l.room l.bytes

@@ -9,7 +9,7 @@ returns-in_err-encode_input g c =
     known_error (λ r. EncodedWhole g.O.KeyOrder.order c.args.kind c.args.limit c.args.input.now r) _ _ c.from_residual.ensures.1 (c.in_err-encode_input.ensures.refused most_bytes l)
 
 pub returns-then-is_own_encoding : goal.returns-then-is_own_encoding
-returns-then-is_own_encoding g c = (short most_bytes c.args.input.now c.is_too_long.result c.is_too_long.ensures c.if-is_too_long.false, c.is_own_encoding.ensures c.if-is_own_encoding.true)
+returns-then-is_own_encoding g c = (short most_bytes c.args.input.now c.is_too_long.result c.is_too_long.ensures c.if-is_too_long.false, (c.is_own_encoding.ensures.0 c.if-is_own_encoding.true).1)
 
 pub returns : goal.returns
 returns g c = (short most_bytes c.args.input.now c.is_too_long.result c.is_too_long.ensures c.if-is_too_long.false, c.in_ok-encode_input.ensures.encoded)
