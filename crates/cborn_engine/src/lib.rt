@@ -13,11 +13,14 @@
 //! canonical form) and `specs/Canonical.antt` (the headline). `Refusing` says why an input is
 //! refused; `Loading`, `Showing`, `Comparing` and `Checking` say what the other calls answer.
 //! [`laws`] has the headline in one place. In the code `texts` makes texts and bytes of what was
-//! read, `nodes` makes nodes and `inputs` hands them out. `judgments` encodes bytes and finds their
-//! first flaw or defect, in one look that keeps no tree (`cborn_judge`). `encodings` encodes a whole
-//! input so, `showings` writes it in another form (`cborn_edn`), `checks` looks whether it is
-//! deterministic, and `refusals` says why an input is refused. `fronts` walks over bytes that are
-//! their own encodings, in place; `walked_leaves` reads the items without children for it.
+//! read, `nodes` makes nodes and `inputs` hands them out. `piece_judges` encodes bytes that come in
+//! pieces and finds their first flaw or defect, in one look that keeps no tree (`cborn_judge`);
+//! `judgments` does so with bytes that are held, and `judged_inputs` with those of a reader, which
+//! are kept whole only where they may be their own encodings; `answered_inputs` says what is answered
+//! for either. `encodings` encodes a whole input, `showings` writes it in another form (`cborn_edn`),
+//! `checks` looks whether it is deterministic, and `refusals` says why an input is refused. `fronts`
+//! walks over bytes that are their own encodings, in place; `walked_leaves` reads the items without
+//! children for it.
 //! `conversions`, `comparisons` and `checks` have the calls over readers of any number of items,
 //! `counted_streams` those with a count, and `slices` those over inputs that are held whole;
 //! `differences` finds where two encodings differ.

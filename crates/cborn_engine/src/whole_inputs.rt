@@ -31,11 +31,7 @@ pub fn read_bytes<R: Source>(
 ///
 /// # Errors
 /// Those of `read_bytes`.
-pub fn read_on<R: Source>(
-    most: u64,
-    front: Vec<u8>,
-    reader: &mut R,
-) -> Result<Vec<u8>, InputFault>
+pub fn read_on<R: Source>(most: u64, front: Vec<u8>, reader: &mut R) -> Result<Vec<u8>, InputFault>
     requires bounded { most + 1 < 2 ^ 64 }
     requires within { length front.items ≤ most }
     ensures collects { CollectsOn front.items most (R.remaining reader.old) (R.remaining reader.new) result }
