@@ -10,8 +10,8 @@ ghost use Rattle.cborn_engine.specs.devices.Malformed.{IsRefusedHeld};
 use crate::faults::EngineFault;
 use crate::piece_judges::PieceJudge;
 use crate::refusals::fault_or_refusal;
-use cborn_judge::EncodedItems;
-use cborn_model::{KeyOrder, Limit};
+use cborn_judge::{EncodedItems, Encoder};
+use cborn_model::{KeyOrder, Limit, Visitor};
 use std::alloc::Global;
 
 /// The deterministic encodings of the items that bytes hold, the keys of maps in the order `O`, and
@@ -44,7 +44,7 @@ fn judge_whole<O: KeyOrder>(
     input: &[u8],
     judge: PieceJudge<O>,
 ) -> Result<EncodedItems, EngineFault>
-    requires { IsJudging O.order judge [] limit }
+    requires { IsJudging ⟦<Encoder<O> as Visitor>⟧.holds judge [] limit }
     ensures judged { IfOk result (λ found. AreJudged O.order limit input.now found.bytes.items found.defect) }
     ensures refused { IfErr result (IsRefusedHeld kinds.Wire limit input.now) }
 {

@@ -31,7 +31,7 @@ pub(crate) struct PieceJudge<O> {
 impl<O: KeyOrder> PieceJudge<O> {
     /// A judge of bytes of which none came yet. Takes no memory.
     pub(crate) fn new(alloc: Global, limit: Limit) -> PieceJudge<O>
-        ensures { IsJudging O.order result [] limit }
+        ensures { IsJudging ⟦<Encoder<O> as Visitor>⟧.holds result [] limit }
     {
         PieceJudge::over(alloc, limit, Encoder::new(alloc))
     }
@@ -45,7 +45,7 @@ impl<O: KeyOrder> PieceJudge<O> {
         limit: Limit,
         capacity: usize,
     ) -> Result<PieceJudge<O>, AllocError>
-        ensures { IfOk result (λ judge. IsJudging O.order judge [] limit) }
+        ensures { IfOk result (λ judge. IsJudging ⟦<Encoder<O> as Visitor>⟧.holds judge [] limit) }
     {
         let encoder = Encoder::with_capacity(alloc, capacity)?;
         Ok(PieceJudge::over(alloc, limit, encoder))
@@ -54,7 +54,7 @@ impl<O: KeyOrder> PieceJudge<O> {
     /// A judge of bytes of which none came yet, with an encoder that was handed nothing.
     fn over(alloc: Global, limit: Limit, encoder: Encoder<O>) -> PieceJudge<O>
         requires { ⟦<Encoder<O> as Visitor>⟧.holds encoder (top []) no_part }
-        ensures { IsJudging O.order result [] limit }
+        ensures { IsJudging ⟦<Encoder<O> as Visitor>⟧.holds result [] limit }
     {
         PieceJudge {
             heads: HeadReader::new(limit, 0),
@@ -69,8 +69,8 @@ impl<O: KeyOrder> PieceJudge<O> {
     /// # Errors
     /// `AllocError` if memory is refused; then nothing is known of the judge.
     pub(crate) fn take(&mut self, piece: &[u8]) -> Result<(), AllocError>
-        requires { (limit : ℕ) × (x : List ℕ) × IsJudging O.order self.old x limit × (length x + length piece.now < 2 ^ 64) }
-        ensures { OnOk result ((limit : ℕ) (x : List ℕ) → IsJudging O.order self.old x limit → IsJudging O.order self.new (x ++ piece.now) limit) }
+        requires { (limit : ℕ) × (x : List ℕ) × IsJudging ⟦<Encoder<O> as Visitor>⟧.holds self.old x limit × (length x + length piece.now < 2 ^ 64) }
+        ensures { OnOk result ((limit : ℕ) (x : List ℕ) → IsJudging ⟦<Encoder<O> as Visitor>⟧.holds self.old x limit → IsJudging ⟦<Encoder<O> as Visitor>⟧.holds self.new (x ++ piece.now) limit) }
     {
         if self.fault.is_some() {
             return Ok(());
@@ -99,8 +99,8 @@ impl<O: KeyOrder> PieceJudge<O> {
     /// # Errors
     /// The fault of bytes that aren't well-formed, or the first flaw of the first item that isn't valid.
     pub(crate) fn finish(self) -> Result<EncodedItems, EngineFault>
-        ensures judged { IfOk result (λ found. (limit : ℕ) (x : List ℕ) → IsJudging O.order self x limit → AreJudged O.order limit x found.bytes.items found.defect) }
-        ensures refused { IfErr result (λ why. (limit : ℕ) (x : List ℕ) → IsJudging O.order self x limit → IsRefusedHeld kinds.Wire limit x why) }
+        ensures judged { IfOk result (λ found. (limit : ℕ) (x : List ℕ) → IsJudging ⟦<Encoder<O> as Visitor>⟧.holds self x limit → AreJudged O.order limit x found.bytes.items found.defect) }
+        ensures refused { IfErr result (λ why. (limit : ℕ) (x : List ℕ) → IsJudging ⟦<Encoder<O> as Visitor>⟧.holds self x limit → IsRefusedHeld kinds.Wire limit x why) }
     {
         if let Some((place, reason)) = self.fault {
             return Err(EngineFault::Wire(WireFault::Refused { place, reason }));

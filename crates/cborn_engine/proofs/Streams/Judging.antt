@@ -21,17 +21,17 @@ use Rattle.cborn_engine.proofs.Streams.Feeding.{none_taken, taken_all}
 
 module _ {O : Type 0} (order : List ℕ → List ℕ → Ordering) (j : PieceJudge O) (x : List ℕ) where
   -- a fault stays, whatever follows
-  pub stays : (y : List ℕ) (fault : Option (ℕ × WireReason)) → is_some fault ≡ true → HasJudged order j x fault → HasJudged order j (x ++ y) fault
+  pub stays : (y : List ℕ) (fault : Option (ℕ × WireReason)) → is_some fault ≡ true → HasJudged (IsHeld order) j x fault → HasJudged (IsHeld order) j (x ++ y) fault
   stays y None some h = absurd cc
   stays y (Some f) some h = refused_stays j.heads.limit x y f.0 f.1 h
 
-  module _ (limit : ℕ) (h : IsJudging order j x limit) where
+  module _ (limit : ℕ) (h : IsJudging (IsHeld order) j x limit) where
     pub refused : (f : ℕ × WireReason) → j.fault ≡ Some f → Fault limit x f.0 f.1
-    refused f some = inl (subst (λ k. Refused k x f.0 f.1) h.0 (subst (HasJudged order j x) some h.1))
+    refused f some = inl (subst (λ k. Refused k x f.0 f.1) h.0 (subst (HasJudged (IsHeld order) j x) some h.1))
 
     module _ (none : j.fault ≡ None) where
-      read : HasJudged order j x None
-      read = subst (HasJudged order j x) none h.1
+      read : HasJudged (IsHeld order) j x None
+      read = subst (HasJudged (IsHeld order) j x) none h.1
 
       pub ended : MayEnd j.levels.outer.items j.heads → (ts : List Tree) × IsHeld order j.encoder (top ts) no_part × Wellformed limit (trees ts) x × PlacedAll 0 (trees ts)
       ended may =
@@ -58,7 +58,7 @@ module _ {O : Type 0} (order : List ℕ → List ℕ → Ordering) (limit : ℕ)
     pub input : List ℕ
     pub taken : Consumes before after input
     pub count : length input + left ≡ most_bytes
-    pub judging : IsJudging order j input limit
+    pub judging : IsJudging (IsHeld order) j input limit
 
   module _ (left : ℕ) (a b : Option (List ℕ)) (j : PieceJudge O) (s : SoFar left a b j) where
     -- no further piece came
@@ -83,7 +83,7 @@ module _ {O : Type 0} (order : List ℕ → List ℕ → Ordering) (limit : ℕ)
       pub within_now : length all ≤ most_bytes
       within_now = omega (arith, count_now, p.0)
 
-      pub taken_on : (m : ℕ) → m + n ≡ left → (k : PieceJudge O) → IsJudging order k all limit → SoFar m a c k
+      pub taken_on : (m : ℕ) → m + n ≡ left → (k : PieceJudge O) → IsJudging (IsHeld order) k all limit → SoFar m a c k
       taken_on m e k h = record { input = all; taken = read_now; count = omega (arith, count_now, e); judging = h }
 
       -- the input has ended

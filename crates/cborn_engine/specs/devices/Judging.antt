@@ -1,7 +1,8 @@
 -- Devices: bytes that are judged as they come in pieces. No public contract cites them.
 use Rattle.std.specs.Prelude.{◌≡◌, ℕ, ◌≤◌, List, length, Option, None, Some, Result, Ok, Err}
 use Rattle.std.specs.declared.cmp.Ordering.{Ordering}
-use Rattle.cborn_judge.specs.devices.Encoders.{IsHeld}
+use Rattle.cborn_judge.specs.declared.encoders.Encoder.{Encoder}
+use Rattle.cborn_model.specs.Partial.{Partial, Part}
 use Rattle.cborn_wire.specs.Faults.{Refused}
 use Rattle.cborn_wire.specs.declared.faults.WireReason.{WireReason}
 use Rattle.cborn_wire.specs.shared.Visiting.{IsFed}
@@ -19,9 +20,9 @@ use Rattle.cborn_engine.specs.Refusing.{IsRefused}
 use Rattle.cborn_engine.specs.Streams.{Reads}
 
 -- the bytes x came: the encoder holds what they spell; or they have this fault, whatever follows
-module _ {O : Type 0} (order : List ℕ → List ℕ → Ordering) (j : PieceJudge O) (x : List ℕ) where
+module _ {O : Type 0} (holds : Encoder O → Partial → Part → Type 0) (j : PieceJudge O) (x : List ℕ) where
   abbrev pub HasJudged : Option (ℕ × WireReason) → Type 0
-  HasJudged None = IsFed (IsHeld order j.encoder) j.levels.outer.items j.levels.inner j.heads 0 x × (j.heads.at ≡ length x)
+  HasJudged None = IsFed (holds j.encoder) j.levels.outer.items j.levels.inner j.heads 0 x × (j.heads.at ≡ length x)
   HasJudged (Some f) = Refused j.heads.limit x f.0 f.1
 
   abbrev pub IsJudging : ℕ → Type 0

@@ -1,6 +1,7 @@
 use Rattle.cborn_engine.proofs.Common.{◌≡◌, ◌+◌, ◌-◌, ℕ, List, ◌++◌, length, take, Ok, Err, sym, ap, ◌∙◌, subst, arith, length-take-le, CollectsOn, read_failures, most_bytes}
 use Rattle.cborn_engine.specs.declared.counts.Count.TheVariants as counts
 use Rattle.cborn_engine.specs.declared.kinds.Kind.TheVariants as kinds
+use Rattle.cborn_judge.specs.devices.Encoders.{IsHeld}
 use Rattle.cborn_engine.specs.devices.Judging.{ReadsInput, IsJudging}
 use Rattle.cborn_engine.proofs.Answers.KnownErrors.{known_error}
 use Rattle.cborn_engine.proofs.Streams.Judging.{halted, refused_memory, read_now, count_now, within_now, taken_on, judged, refused_whole, kept_whole, kept_not, quiet}
@@ -68,7 +69,7 @@ pieces-preserved g c =
     let n = c.in_ok-count.count in
     let p = c.in_ok-count.ensures.piece in
     let left : c.pieces.left - n + n ≡ c.pieces.left = omega (arith, p.0) in
-    let judging = subst (λ x. IsJudging order c.take.new.self (s.input ++ take n x) c.args.limit) c.deref.ensures.value (c.in_ok-take.ensures c.args.limit s.input s.judging) in
+    let judging = subst (λ x. IsJudging (IsHeld order) c.take.new.self (s.input ++ take n x) c.args.limit) c.deref.ensures.value (c.in_ok-take.ensures c.args.limit s.input s.judging) in
     record {
       so_far = taken_on order c.args.limit c.pieces.left _ (g.R.Source.remaining c.pieces.reader) c.pieces.judge s (g.R.Source.remaining c.read_after.new.reader) c.read_after.new.bytes.items n p _ left c.take.new.self judging;
       room = omega (arith, p.1, c.if-count-eq0.false);
