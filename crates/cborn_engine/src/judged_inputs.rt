@@ -1,10 +1,10 @@
 //! Reading an input. Bytes are judged as they are read where they depart early from their
 //! deterministic encodings; then none of them is kept.
-ghost use Rattle.std.specs.Prelude.{◌≡◌, ◌≤◌, ◌+◌};
+ghost use Rattle.std.specs.Prelude.{◌≡◌, ◌≤◌, ◌+◌, length, take};
 ghost use Rattle.cborn_engine.specs.declared.counts.Count.TheVariants as counts;
 ghost use Rattle.cborn_engine.specs.declared.kinds.Kind.TheVariants as kinds;
 ghost use Rattle.cborn_engine.specs.devices.Counting.{read_failures};
-ghost use Rattle.cborn_engine.specs.devices.Judging.{ReadsInput};
+ghost use Rattle.cborn_engine.specs.devices.Judging.{ReadsInput, ReadsWhole};
 ghost use Rattle.cborn_engine.specs.Reading.{most_bytes};
 
 use crate::counts::Count;
@@ -56,7 +56,7 @@ const PIECE: usize = 1 << 16;
 
 /// Reads bytes that may hold any number of items. If the first piece departs from its encodings, all
 /// pieces are judged as they come. Else the bytes are likely to be their own encodings, which is quicker
-/// to see of all at once; but not where they are long strings.
+/// to see of all at once; but not where they are long strings. A piece that isn't full is likely all.
 ///
 /// # Errors
 /// Those of `read_input`.
@@ -78,11 +78,32 @@ fn read_judged<O: KeyOrder, R: Source>(
         if count == 0 {
             return Ok(Input::Judged(judge.finish()?));
         }
+        if left == MOST && count < PIECE {
+            return read_whole(piece, count, reader);
+        }
         judge.take(&piece[..count])?;
         if left == MOST && !judge.goes_on() {
-            piece.truncate(count);
-            return Ok(Input::Whole(read_on(MOST, piece, reader)?));
+            return read_whole(piece, count, reader);
         }
         left -= count as u64;
     }
+}
+
+/// Reads on to the end of an input of which the first `count` bytes of `piece` were read.
+///
+/// # Errors
+/// `ReadFault`, `TooLong` and `OutOfMemory`, as `read_on` gives them.
+fn read_whole<R: Source>(
+    piece: Vec<u8>,
+    count: usize,
+    reader: &mut R,
+) -> Result<Input, EngineFault>
+    requires { count ≤ most_bytes }
+    ensures whole { ReadsWhole (take count piece.items) (R.remaining reader.old) (R.remaining reader.new) result }
+    ensures failures { R.failed reader.new ≡ read_failures result (R.failed reader.old) }
+    ensures calls { R.asked reader.new + length (take count piece.items) ≤ R.asked reader.old + most_bytes + 1 }
+{
+    let mut front = piece;
+    front.truncate(count);
+    Ok(Input::Whole(read_on(MOST, front, reader)?))
 }

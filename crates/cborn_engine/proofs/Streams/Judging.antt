@@ -1,6 +1,6 @@
 -- What a judge of pieces knows of the bytes that came.
 use Rattle.std.proofs.lemmas.List.{nil_from_length}
-use Rattle.cborn_engine.proofs.Common.{◌≡◌, ℕ, ◌+◌, ◌≤◌, List, [], ◌++◌, length, take, Bool, true, Option, None, Some, Ok, Err, Vec, Global, refl, sym, ap, ◌∙◌, subst, arith, inl, inr, is_some, length-append, length-take-le, Ordering, Tree, trees, Wellformed, PlacedAll, Fault, Refused, WireReason, Consumes, Consumes-trans, Consumes-kept, PieceAnswers, CollectAnswers, CollectsOn, InputFault, EngineFault, of_input, most_bytes, AreJudged, IsRefusedHeld}
+use Rattle.cborn_engine.proofs.Common.{◌≡◌, ℕ, ◌+◌, ◌≤◌, List, [], ◌++◌, length, take, Bool, true, Option, None, Some, Result, Ok, Err, refl, sym, ap, ◌∙◌, subst, arith, inl, inr, is_some, length-append, length-take-le, Ordering, Tree, trees, Wellformed, PlacedAll, Fault, Refused, WireReason, Consumes, Consumes-trans, Consumes-kept, PieceAnswers, CollectAnswers, InputFault, EngineFault, of_input, most_bytes, AreJudged, IsRefusedHeld}
 use Rattle.cborn_model.specs.Partial.{top, no_part}
 use Rattle.cborn_judge.specs.devices.Encoders.{IsHeld}
 use Rattle.cborn_wire.specs.shared.Visiting.{MayEnd}
@@ -9,13 +9,14 @@ use Rattle.cborn_wire.proofs.Spelled.FaultLaws.{refused_stays}
 use Rattle.cborn_wire.proofs.Visiting.Ending.{whole, cut}
 use Rattle.cborn_engine.specs.declared.counts.Count.TheVariants as counts
 use Rattle.cborn_engine.specs.declared.faults.EngineFault.TheVariants as fault
+use Rattle.cborn_engine.specs.declared.judged_inputs.Input.{Input}
 use Rattle.cborn_engine.specs.declared.judged_inputs.Input.TheVariants.{Whole, Judged}
 use Rattle.cborn_engine.specs.declared.kinds.Kind.TheVariants as kinds
 use Rattle.cborn_engine.specs.declared.piece_judges.PieceJudge.{PieceJudge}
 use Rattle.cborn_engine.specs.declared.stream_faults.InputFault.TheVariants as input
 use Rattle.cborn_judge.specs.declared.encoders.EncodedItems.{EncodedItems}
 use Rattle.cborn_engine.specs.devices.Counting.{read_failures_at}
-use Rattle.cborn_engine.specs.devices.Judging.{HasJudged, IsJudging, ReadsInput}
+use Rattle.cborn_engine.specs.devices.Judging.{HasJudged, IsJudging, ReadsInput, ReadsWhole}
 use Rattle.cborn_engine.proofs.Answers.Whole.{read_refused}
 use Rattle.cborn_engine.proofs.Streams.Feeding.{none_taken, taken_all}
 
@@ -104,11 +105,10 @@ module _ {O : Type 0} (order : List ℕ → List ℕ → Ordering) (limit : ℕ)
             nothing : s.input ≡ []
             nothing = nil_from_length s.input (omega (arith, s.count, first))
 
-        pub kept_whole : (bytes : Vec ℕ Global) → CollectsOn (take n buf) most_bytes c d (Ok bytes) → ReadsInput order counts.Any kinds.Wire limit a d (Ok (Whole bytes))
-        kept_whole bytes w = record { input = take n buf ++ w.input; taken = Consumes-trans a c d (take n buf) w.input (subst (Consumes a c) (sym front) read_now) w.taken; answer = (w.answer.0, w.answer.1); to_end = w.answer.2 }
-
-        pub kept_not : (why : InputFault) → CollectsOn (take n buf) most_bytes c d (Err why) → ReadsInput order counts.Any kinds.Wire limit a d (Err (of_input why))
-        kept_not why w = go why w.answer
+        pub kept_whole : (r : Result Input EngineFault) → ReadsWhole (take n buf) c d r → ReadsInput order counts.Any kinds.Wire limit a d r
+        kept_whole (Ok (Whole bytes)) w = record { input = take n buf ++ w.input; taken = Consumes-trans a c d (take n buf) w.input (subst (Consumes a c) (sym front) read_now) w.taken; answer = (w.answer.0, w.answer.1); to_end = w.answer.2 }
+        kept_whole (Ok (Judged e)) w = absurd w
+        kept_whole (Err why) (f, is, w) = subst (λ e. ReadsInput order counts.Any kinds.Wire limit a d (Err e)) (sym is) (go f w.answer)
           where
             x : List ℕ
             x = take n buf ++ w.input
@@ -116,7 +116,7 @@ module _ {O : Type 0} (order : List ℕ → List ℕ → Ordering) (limit : ℕ)
             taken : Consumes a d x
             taken = Consumes-trans a c d (take n buf) w.input (subst (Consumes a c) (sym front) read_now) w.taken
 
-            go : (why : InputFault) → CollectAnswers most_bytes x d (Err why) → ReadsInput order counts.Any kinds.Wire limit a d (Err (of_input why))
+            go : (f : InputFault) → CollectAnswers most_bytes x d (Err f) → ReadsInput order counts.Any kinds.Wire limit a d (Err (of_input f))
             go input.TooLong h = record { input = x; taken = taken; answer = h; to_end = inr (inr (inl refl)) }
             go input.ReadFault h = record { input = x; taken = taken; answer = h; to_end = inr (inl refl) }
             go input.OutOfMemory h = refused_memory order limit a d x taken h

@@ -13,8 +13,11 @@ use Rattle.cborn_engine.specs.declared.judged_inputs.Input.{Input}
 use Rattle.cborn_engine.specs.declared.judged_inputs.Input.TheVariants as inputs
 use Rattle.cborn_engine.specs.declared.kinds.Kind.{Kind}
 use Rattle.cborn_engine.specs.declared.kinds.Kind.TheVariants as kinds
+use Rattle.cborn_engine.specs.declared.stream_faults.InputFault.{InputFault}
 use Rattle.cborn_engine.specs.declared.piece_judges.PieceJudge.{PieceJudge}
 use Rattle.cborn_engine.specs.devices.Encoding.{AreJudged}
+use Rattle.cborn_engine.specs.Collecting.{CollectsOn}
+use Rattle.cborn_engine.specs.Faults.{of_input}
 use Rattle.cborn_engine.specs.Reading.{most_bytes}
 use Rattle.cborn_engine.specs.Refusing.{IsRefused}
 use Rattle.cborn_engine.specs.Streams.{Reads}
@@ -38,3 +41,9 @@ InputAnswers order count k limit input (Err why) = IsRefused k limit most_bytes 
 -- some input was taken from the reader, and this is answered for it
 abbrev pub ReadsInput : (List ℕ → List ℕ → Ordering) → Count → Kind → ℕ → Option (List ℕ) → Option (List ℕ) → Result Input EngineFault → Type 0
 ReadsInput order count k limit = Reads (λ why. why) (InputAnswers order count k limit)
+
+-- after this front the rest of an input was read too, or not
+abbrev pub ReadsWhole : List ℕ → Option (List ℕ) → Option (List ℕ) → Result Input EngineFault → Type 0
+ReadsWhole front before after (Ok (inputs.Whole bytes)) = CollectsOn front most_bytes before after (Ok bytes)
+ReadsWhole front before after (Ok (inputs.Judged e)) = ⊥
+ReadsWhole front before after (Err why) = (f : InputFault) × (why ≡ of_input f) × CollectsOn front most_bytes before after (Err f)

@@ -4,7 +4,7 @@ use Rattle.cborn_engine.specs.declared.kinds.Kind.TheVariants as kinds
 use Rattle.cborn_judge.specs.devices.Encoders.{IsHeld}
 use Rattle.cborn_engine.specs.devices.Judging.{ReadsInput, IsJudging}
 use Rattle.cborn_engine.proofs.Answers.KnownErrors.{known_error}
-use Rattle.cborn_engine.proofs.Streams.Judging.{halted, refused_memory, read_now, count_now, within_now, taken_on, judged, refused_whole, kept_whole, kept_not, quiet}
+use Rattle.cborn_engine.proofs.Streams.Judging.{halted, refused_memory, read_now, count_now, within_now, taken_on, judged, refused_whole, kept_whole, quiet}
 use Rattle.cborn_engine.proofs.judged_inputs.read_judged.Goals as goal
 
 pub returns-in_err-count-clause-input : goal.returns-in_err-count-clause-input
@@ -47,20 +47,13 @@ returns-in_err-take-clause-input g c =
     known_error (ReadsInput order counts.Any kinds.Wire c.args.limit _ _) _ _ c.from_residual-in_err-take.ensures.1
     (refused_memory order c.args.limit _ _ _ (read_now order c.args.limit c.pieces.left _ (g.R.Source.remaining c.pieces.reader) c.pieces.judge s _ c.read_after.new.bytes.items c.in_ok-count.count p) (within_now order c.args.limit c.pieces.left _ (g.R.Source.remaining c.pieces.reader) c.pieces.judge s _ c.read_after.new.bytes.items c.in_ok-count.count p))
 
-pub returns-in_err-read_on-clause-input : goal.returns-in_err-read_on-clause-input
-returns-in_err-read_on-clause-input g c =
-    let order = g.O.KeyOrder.order in
-    let limit = c.args.limit in
-    let why = c.in_err-read_on.field-0.0 in
-    let collected = subst (λ x. CollectsOn x most_bytes (g.R.Source.remaining c.read_after.new.reader) (g.R.Source.remaining c.read_on.new.reader) (Err why)) c.truncate.ensures.items c.in_err-read_on.ensures.collects in
-    known_error (ReadsInput order counts.Any kinds.Wire limit _ _) _ _ c.from_residual-in_err-read_on.ensures.1
-    (kept_not order limit c.pieces.left _ (g.R.Source.remaining c.pieces.reader) c.pieces.judge c.pieces.invariant.so_far (g.R.Source.remaining c.read_after.new.reader) c.read_after.new.bytes.items c.in_ok-count.count c.in_ok-count.ensures.piece c.if-left-eq-MOST.true _ why collected)
+pub returns-then-count-lt-PIECE-clause-input : goal.returns-then-count-lt-PIECE-clause-input
+returns-then-count-lt-PIECE-clause-input g c =
+    kept_whole g.O.KeyOrder.order c.args.limit c.pieces.left _ (g.R.Source.remaining c.pieces.reader) c.pieces.judge c.pieces.invariant.so_far (g.R.Source.remaining c.read_after.new.reader) c.read_after.new.bytes.items c.in_ok-count.count c.in_ok-count.ensures.piece c.if-left-eq-MOST.true _ c.read_whole.result c.read_whole.ensures.whole
 
 pub returns-then-not-goes_on-clause-input : goal.returns-then-not-goes_on-clause-input
 returns-then-not-goes_on-clause-input g c =
-    let whole = c.in_ok-read_on.field-0 in
-    let collected = subst (λ x. CollectsOn x most_bytes (g.R.Source.remaining c.read_after.new.reader) (g.R.Source.remaining c.read_on.new.reader) (Ok whole)) c.truncate.ensures.items c.in_ok-read_on.ensures.collects in
-    kept_whole g.O.KeyOrder.order c.args.limit c.pieces.left _ (g.R.Source.remaining c.pieces.reader) c.pieces.judge c.pieces.invariant.so_far (g.R.Source.remaining c.read_after.new.reader) c.read_after.new.bytes.items c.in_ok-count.count c.in_ok-count.ensures.piece c.if-left-eq-MOST.true _ whole collected
+    kept_whole g.O.KeyOrder.order c.args.limit c.pieces.left _ (g.R.Source.remaining c.pieces.reader) c.pieces.judge c.pieces.invariant.so_far (g.R.Source.remaining c.read_after.new.reader) c.read_after.new.bytes.items c.in_ok-count.count c.in_ok-count.ensures.piece c.if-left-eq-MOST-2.true _ c.read_whole-then-not-goes_on.result c.read_whole-then-not-goes_on.ensures.whole
 
 pub pieces-preserved : goal.pieces-preserved
 pieces-preserved g c =
