@@ -1,9 +1,8 @@
 -- What is answered where an input is read, and the answer of the call over what is held is sent.
-use Rattle.cborn_engine.proofs.Common.{◌≡◌, ◌≢◌, refl, sym, ap, subst, ◌≤◌, ℕ, List, [], length, Option, None, Some, Result, Ok, Err, Vec, Global, Ordering, inl, inr, Appends, cow_slice_items, CowSlice, Defect, InputFault, CountFault, Count, EngineFault, Kind, FormAnswers, CheckAnswers, Collects, CountAnswer, NormalisedWhole, ShownWhole, CheckedWhole, unwrap_or, EncodedWhole, bytes_of, EncodeAnswers, IsEncoded, CountsFault, failures_after_read, of_input, IsNoFlaw, most_bytes, IsRefused, ShowAnswers, IsSent, Writes, IsRefusedWhole, IsUnshownWhole}
+use Rattle.cborn_engine.proofs.Common.{◌≡◌, ◌≢◌, refl, sym, ap, subst, ◌≤◌, ℕ, List, [], length, Option, None, Some, Result, Ok, Err, Vec, Global, Ordering, inl, inr, Appends, cow_slice_items, CowSlice, InputFault, CountFault, Count, EngineFault, Kind, Collects, CountAnswer, ShownWhole, unwrap_or, EncodedWhole, bytes_of, EncodeAnswers, IsEncoded, CountsFault, failures_after_read, of_input, IsNoFlaw, most_bytes, IsRefused, ShowAnswers, IsSent, Writes, IsRefusedWhole, IsUnshownWhole}
 use Rattle.cborn_engine.specs.declared.stream_faults.InputFault.TheVariants as input
 use Rattle.cborn_engine.specs.declared.count_faults.CountFault.TheVariants as counted
 use Rattle.cborn_engine.specs.declared.faults.EngineFault.TheVariants as fault
-use Rattle.cborn_engine.specs.declared.kinds.Kind.TheVariants as kind
 use Rattle.cborn_engine.proofs.Answers.Unanswered.{nothing_written}
 use Rattle.cborn_engine.proofs.Answers.Whole.{unread, read_whole, read_refused}
 use Rattle.cborn_engine.proofs.CountAnswers.Answered.{same_engine}

@@ -1,5 +1,5 @@
 -- A loop that collects pieces, each after those before it.
-use Rattle.cborn_engine.proofs.Common.{◌≡◌, ◌≤◌, ◌+◌, ◌-◌, ℕ, List, [], ◌++◌, length, take, drop, Option, Ok, Err, refl, sym, ap, ◌∙◌, subst, arith, append-nil, append_assoc, length-append, Consumes, Consumes-trans, Consumes-kept, length-take-le, take_all, take-add, InputFault, PieceAnswers, CollectsOn}
+use Rattle.cborn_engine.proofs.Common.{◌≡◌, ◌≤◌, ◌+◌, ◌-◌, ℕ, List, ◌++◌, length, take, drop, Option, Ok, Err, ap, ◌∙◌, arith, append_assoc, length-append, Consumes, Consumes-trans, Consumes-kept, length-take-le, take-add, InputFault, PieceAnswers, CollectsOn}
 use Rattle.cborn_engine.specs.declared.stream_faults.InputFault.TheVariants as fault
 
 module _ (front : List ℕ) where

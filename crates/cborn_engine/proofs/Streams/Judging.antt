@@ -1,6 +1,6 @@
 -- What a judge of pieces knows of the bytes that came.
 use Rattle.std.proofs.lemmas.List.{nil_from_length}
-use Rattle.cborn_engine.proofs.Common.{◌≡◌, ℕ, ◌+◌, ◌≤◌, List, [], ◌++◌, length, take, Bool, true, Option, None, Some, Result, Ok, Err, refl, sym, ap, ◌∙◌, subst, arith, inl, inr, is_some, length-append, length-take-le, Ordering, Tree, trees, Wellformed, PlacedAll, Fault, Refused, WireReason, Consumes, Consumes-trans, Consumes-kept, PieceAnswers, CollectAnswers, InputFault, EngineFault, of_input, most_bytes, AreJudged, IsRefusedHeld}
+use Rattle.cborn_engine.proofs.Common.{◌≡◌, ℕ, ◌+◌, ◌≤◌, List, [], ◌++◌, length, take, true, Option, None, Some, Result, Ok, Err, refl, sym, ap, subst, arith, inl, inr, is_some, length-append, length-take-le, Ordering, Tree, trees, Wellformed, PlacedAll, Fault, Refused, WireReason, Consumes, Consumes-trans, Consumes-kept, PieceAnswers, CollectAnswers, InputFault, EngineFault, of_input, most_bytes, AreJudged, IsRefusedHeld}
 use Rattle.cborn_model.specs.Partial.{top, no_part}
 use Rattle.cborn_judge.specs.devices.Encoders.{IsHeld}
 use Rattle.cborn_wire.specs.shared.Visiting.{MayEnd}
@@ -18,7 +18,7 @@ use Rattle.cborn_judge.specs.declared.encoders.EncodedItems.{EncodedItems}
 use Rattle.cborn_engine.specs.devices.Counting.{read_failures_at}
 use Rattle.cborn_engine.specs.devices.Judging.{HasJudged, IsJudging, ReadsInput, ReadsWhole}
 use Rattle.cborn_engine.proofs.Answers.Whole.{read_refused}
-use Rattle.cborn_engine.proofs.Streams.Feeding.{none_taken, taken_all}
+use Rattle.cborn_engine.proofs.Streams.Feeding.{taken_all}
 
 module _ {O : Type 0} (order : List ℕ → List ℕ → Ordering) (j : PieceJudge O) (x : List ℕ) where
   -- a fault stays, whatever follows

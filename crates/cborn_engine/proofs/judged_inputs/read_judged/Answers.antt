@@ -1,10 +1,10 @@
-use Rattle.cborn_engine.proofs.Common.{◌≡◌, ◌+◌, ◌-◌, ℕ, List, ◌++◌, length, take, Ok, Err, sym, ap, ◌∙◌, subst, arith, length-take-le, CollectsOn, read_failures, most_bytes}
+use Rattle.cborn_engine.proofs.Common.{◌≡◌, ◌+◌, ◌-◌, ◌++◌, length, take, sym, ap, ◌∙◌, subst, arith, length-take-le, read_failures}
 use Rattle.cborn_engine.specs.declared.counts.Count.TheVariants as counts
 use Rattle.cborn_engine.specs.declared.kinds.Kind.TheVariants as kinds
 use Rattle.cborn_judge.specs.devices.Encoders.{IsHeld}
 use Rattle.cborn_engine.specs.devices.Judging.{ReadsInput, IsJudging}
 use Rattle.cborn_engine.proofs.Answers.KnownErrors.{known_error}
-use Rattle.cborn_engine.proofs.Streams.Judging.{halted, refused_memory, read_now, count_now, within_now, taken_on, judged, refused_whole, kept_whole, quiet}
+use Rattle.cborn_engine.proofs.Streams.Judging.{halted, refused_memory, read_now, within_now, taken_on, judged, refused_whole, kept_whole, quiet}
 use Rattle.cborn_engine.proofs.judged_inputs.read_judged.Goals as goal
 
 pub returns-in_err-count-clause-input : goal.returns-in_err-count-clause-input
