@@ -93,11 +93,7 @@ fn read_judged<O: KeyOrder, R: Source>(
 ///
 /// # Errors
 /// `ReadFault`, `TooLong` and `OutOfMemory`, as `read_on` gives them.
-fn read_whole<R: Source>(
-    piece: Vec<u8>,
-    count: usize,
-    reader: &mut R,
-) -> Result<Input, EngineFault>
+fn read_whole<R: Source>(piece: Vec<u8>, count: usize, reader: &mut R) -> Result<Input, EngineFault>
     requires { count ≤ most_bytes }
     ensures whole { ReadsWhole (take count piece.items) (R.remaining reader.old) (R.remaining reader.new) result }
     ensures failures { R.failed reader.new ≡ read_failures result (R.failed reader.old) }
