@@ -14,7 +14,7 @@ use cborn_model::{KeyOrder, Limit, Visitor};
 use cborn_wire::{GrownLevels, HeadReader, Until, VisitFault, WireFault, WireReason};
 use std::alloc::{AllocError, Global};
 
-/// The bytes of a string that is long.
+/// A string of so many bytes or more is long.
 const LONG_STRING: u64 = 1 << 12;
 
 /// Judges bytes that come in pieces: encodes what they hold, and finds their first fault, flaw and
@@ -36,7 +36,7 @@ impl<O: KeyOrder> PieceJudge<O> {
         PieceJudge::over(alloc, limit, Encoder::new(alloc))
     }
 
-    /// The same with room for so many bytes of encodings.
+    /// A judge of bytes of which none came yet, with room for `capacity` bytes of their encodings.
     ///
     /// # Errors
     /// `AllocError` if memory is refused.
