@@ -53,4 +53,4 @@ pub use Rattle.cborn_wire.specs.shared.Ground.{Ground, IsPlacedOpen, place_of}
 pub use Rattle.cborn_wire.specs.shared.InitialBytes.{EndlessInformation, Info, Next, Now, Reserved, front_reason, head_reason, info_at, info_for, is_always_bounded, is_bad_chunk, is_break, is_container, is_endless_head, is_float, is_of_kind, is_one, is_other, is_reserved}
 pub use Rattle.cborn_wire.specs.shared.Machine.{AtMostOneMore, Failed, Goal, IsLive, IsReached, Live, State, Stops, Unfinished, after_head, append_trees, argument_of, at_slot, begin_head, content_at, content_of, ended, finished, front, gather, gathered, gathering, held, holding, is_full, nothing, number, partial_bytes, ready_in, run, snoc, start, step, unless, width_bytes}
 pub use Rattle.cborn_wire.specs.shared.Spelling.{IsEnded, IsWritten, container, containers_of, counted, ending_of, entries_in, shape, sized_ending, with_head, written}
-pub use Rattle.cborn_wire.specs.shared.Visiting.{AreFromBytes, FailsAs, Here, HereAt, IsFed, IsFresh, IsInput, Keeps, MayEnd, Missing, OpenIn, Reads, ReadsItem, RefusesPiece, Stands, Takes, TakesPiece, at_most_highest, head_at, is_chunks, kind_in, levels, map_kind, may_end, next_head, next_number, open_in, ready, seen_head, slot_of, state, unfinished, with_part}
+pub use Rattle.cborn_wire.specs.shared.Visiting.{AreFromBytes, FailsAs, Here, HereAt, IsFed, IsFresh, IsInput, Keeps, MayEnd, Missing, Reads, ReadsItem, RefusesPiece, Stands, Takes, TakesPiece, at_most_highest, head_at, is_chunks, kind_in, levels, map_kind, may_end, next_head, next_number, open_in, ready, seen_head, slot_of, state, unfinished, with_part}

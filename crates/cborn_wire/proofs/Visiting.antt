@@ -2,6 +2,7 @@
 pub mod Counting
 pub mod Taking
 pub mod Pieces
+pub mod Heads
 pub mod Ending
 pub mod Leaves
 pub mod Containers

@@ -8,8 +8,8 @@ ghost use Rattle.cborn_wire.specs.HeadReading.{major_at};
 ghost use Rattle.cborn_wire.specs.Slots.{AreOpen, slot, open_depth};
 ghost use Rattle.cborn_wire.specs.devices.Leaves.{TakesHead};
 ghost use Rattle.cborn_wire.specs.shared.InitialBytes.{info_at, head_reason};
-ghost use Rattle.cborn_wire.specs.shared.Machine.{after_head, ended};
-ghost use Rattle.cborn_wire.specs.shared.Visiting.{ready, open_in, Keeps, Takes, Stands};
+ghost use Rattle.cborn_wire.specs.shared.Machine.{after_head, ended, IsReached};
+ghost use Rattle.cborn_wire.specs.shared.Visiting.{ready, open_in, state, Keeps, Takes, Stands};
 
 use crate::Argument;
 use crate::counting::{end_innermost, open_array, open_map, open_tag};
@@ -154,7 +154,7 @@ fn take_container<L: Levels, V: Visitor>(
 /// # Errors
 /// `AllocError` if memory is refused to levels or visitor, of which nothing is known then.
 #[inline(always)]
-pub(crate) fn take_leaves_or_container<L: Levels, V: Visitor>(
+fn take_leaves_or_container<L: Levels, V: Visitor>(
     levels: &mut L,
     visitor: &mut V,
     limit: u64,
@@ -173,4 +173,41 @@ pub(crate) fn take_leaves_or_container<L: Levels, V: Visitor>(
         return Ok(len);
     }
     take_container(levels, visitor, limit, place, piece)
+}
+
+/// Takes what is whole at the front of `piece`, whose first byte is at the offset `place`: leaves,
+/// containers' heads and breaks, one after another, until nothing is open. Gives their length in bytes;
+/// 0 where `take_leaves_or_container` takes nothing.
+///
+/// # Errors
+/// `AllocError` if memory is refused to levels or visitor, of which nothing is known then.
+#[inline(always)]
+pub(crate) fn take_heads<L: Levels, V: Visitor>(
+    levels: &mut L,
+    visitor: &mut V,
+    limit: u64,
+    place: u64,
+    piece: &[u8],
+) -> Result<usize, AllocError>
+    requires far { place + length piece.now < 2 ^ 64 }
+    requires levels { limit + 1 < L.most }
+    requires here { (f : Partial) × (base : ℕ) × V.holds visitor.old f no_part × Keeps f (L.outer levels.old) (L.inner levels.old) × IsReached limit base (state place f no_part) }
+    ensures goes { (f : Partial) (base : ℕ) → V.holds visitor.old f no_part → Keeps f (L.outer levels.old) (L.inner levels.old) → IsReached limit base (state place f no_part) → IfOk result (λ n. 0 < n → TakesHead limit place f piece.now (V.holds visitor.new) (L.outer levels.new) (L.inner levels.new) n) }
+    ensures none { IfOk result (λ n. n ≡ 0 → (visitor.new ≡ visitor.old) × (levels.new ≡ levels.old)) }
+    ensures memory { OnErr result (V.takes_memory ⊎ L.takes_memory) }
+{
+    let mut rest = piece;
+    let mut at = place;
+    'heads: while !rest.is_empty() {
+        let len = take_leaves_or_container(levels, visitor, limit, at, rest)?;
+        if len == 0 {
+            return Ok(piece.len() - rest.len());
+        }
+        rest = &rest[len..];
+        at += len as u64;
+        if levels.count() == 0 {
+            return Ok(piece.len() - rest.len());
+        }
+    }
+    Ok(piece.len() - rest.len())
 }

@@ -10,10 +10,10 @@ ghost use Rattle.cborn_wire.specs.declared.faults.WireReason.{WireReason as Reas
 ghost use Rattle.cborn_wire.specs.Slots.{AreOpen, slot, open_depth};
 ghost use Rattle.cborn_wire.specs.HeadReading.{major_at};
 ghost use Rattle.cborn_wire.specs.shared.InitialBytes.{info_at, head_reason};
-ghost use Rattle.cborn_wire.specs.shared.Machine.{Live, State};
-ghost use Rattle.cborn_wire.specs.shared.Visiting.{ready, open_in, state, Keeps, seen_head, Here, IsShort, Takes, TakesPiece, TakesSome, OpenIn, IsFresh, IsFed, MayEnd, Reads, ReadsItem, next_head};
+ghost use Rattle.cborn_wire.specs.shared.Machine.{Live, State, IsReached};
+ghost use Rattle.cborn_wire.specs.shared.Visiting.{ready, open_in, state, Keeps, seen_head, Here, IsShort, Takes, TakesPiece, TakesSome, IsFresh, IsFed, MayEnd, Reads, ReadsItem, next_head};
 
-use crate::containers::take_leaves_or_container;
+use crate::containers::take_heads;
 use crate::counting::{close_string, take_head};
 use crate::heads::{read_number, wide_width};
 use crate::levels::Levels;
@@ -159,11 +159,11 @@ impl HeadReader {
         visitor: &mut V,
         piece: &[u8],
     ) -> Result<usize, VisitFault>
-        requires here { (s : State) × Here (V.holds visitor.old) (L.outer levels.old) (L.inner levels.old) self.old s × OpenIn self.old.limit s }
+        requires here { (s : State) × (base : ℕ) × Here (V.holds visitor.old) (L.outer levels.old) (L.inner levels.old) self.old s × IsReached self.old.limit base s }
         requires levels { self.old.limit + 1 < L.most }
         requires some { 0 < length piece.now }
         requires room { self.old.at + length piece.now < 2 ^ 64 }
-        ensures goes { (s : State) → Here (V.holds visitor.old) (L.outer levels.old) (L.inner levels.old) self.old s → OpenIn self.old.limit s → TakesPiece self.old.limit s piece.now (V.holds visitor.new) (L.outer levels.new) (L.inner levels.new) self.new.left self.old.at self.new.head result }
+        ensures goes { (s : State) (base : ℕ) → Here (V.holds visitor.old) (L.outer levels.old) (L.inner levels.old) self.old s → IsReached self.old.limit base s → TakesPiece self.old.limit s piece.now (V.holds visitor.new) (L.outer levels.new) (L.inner levels.new) self.new.left self.old.at self.new.head result }
         ensures some { TakesSome (length piece.now) self.old self.new result }
         ensures kept { (p : ℕ) (r : Reason) → result ≡ Err (Refused p r) → (p ≡ next_head self.old) × (visitor.new ≡ visitor.old) × (levels.new ≡ levels.old) × (self.new ≡ self.old) }
         ensures memory { result ≡ Err (Memory alloc_error) → V.takes_memory ⊎ L.takes_memory }
@@ -174,7 +174,7 @@ impl HeadReader {
         if self.left > 0 {
             return self.take_content(levels, visitor, piece);
         }
-        let len = take_leaves_or_container(levels, visitor, self.limit, self.at, piece)?;
+        let len = take_heads(levels, visitor, self.limit, self.at, piece)?;
         if len > 0 {
             return Ok(len);
         }

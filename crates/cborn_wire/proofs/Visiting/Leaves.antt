@@ -12,7 +12,8 @@ use Rattle.cborn_wire.proofs.Machine.OneMore.{one_more_finished}
 use Rattle.cborn_wire.proofs.Machine.Pieces.{major_of_head, info_of_head, content_done}
 use Rattle.cborn_wire.proofs.Machine.Running.{run-append}
 use Rattle.cborn_wire.proofs.Machine.SoundRuns.{code_at}
-use Rattle.cborn_wire.proofs.Visiting.Pieces.{front_taken, next_cut, next_taken}
+use Rattle.cborn_wire.proofs.Visiting.Heads.{front_heads}
+use Rattle.cborn_wire.proofs.Visiting.Pieces.{next_cut, next_taken, taken_len}
 
 -- the head
 
@@ -169,9 +170,6 @@ pub leaf_some : (x : List ℕ) (g : GivenHead) (n : ℕ) → IsLeafOf x g n → 
 leaf_some x g n leaf = omega (arith, leaf.len, leaf.given.head.len, head_some (major_at (g.first / 32)) (heads.Given g.width g.argument))
 
 -- how far a piece is read, of which y and n bytes of what follows are read
-taken_len : (piece y rest : List ℕ) → piece ≡ y ++ rest → (n : ℕ) → n ≤ length rest → length piece - length (take (length rest - n) (drop n rest)) ≡ length y + n
-taken_len piece y rest cut n fits = omega (arith, ap length (next_cut piece y rest cut n fits), length-append (y ++ take n rest) (take (length rest - n) (drop n rest)), length-append y (take n rest), length-take-le n rest fits)
-
 module _ (holds : Partial → Part → Type 0) (outer : List Level) (inner : Level) (place : ℕ) (f : Partial) (piece y rest : List ℕ) (cut : piece ≡ y ++ rest) where
   -- the last leaf of the innermost container was taken
   pub last_taken : (at : ℕ) (h : Partial) (t : Tree) (n : ℕ) → at ≡ place + length y → n ≤ length rest → ready h ≡ ready f
@@ -191,15 +189,4 @@ module _ (holds : Partial → Part → Type 0) (outer : List Level) (inner : Lev
 
   -- the innermost container goes on
   pub some_taken : (at : ℕ) (h : Partial) → at ≡ place + length y → holds h no_part → Keeps h outer inner → ready h ≡ ready f → ((limit : ℕ) → run limit (state place f no_part) y ≡ state at h no_part) → TakesLeaves place f piece holds outer inner (length piece - length rest)
-  some_taken at h e held kept rd is =
-      let k = length piece - length rest in
-      let many : k ≡ length y = omega (arith, ap length cut, length-append y rest) in
-      let front : take k piece ≡ y = ap (λ j. take j piece) many ∙ front_taken piece y rest cut in (
-        omega arith,
-        λ limit.
-            let goes : run limit (state place f no_part) (take k piece) ≡ state at h no_part = ap (run limit (state place f no_part)) front ∙ is limit in
-            let far : at ≡ place + k = omega (arith, e, many) in (
-              record { partial = h; amid = no_part; held = held; levels = kept; missing = refl; fits = tt; is = goes ∙ ap (λ j. state j h no_part) far },
-              inl (ap ready_in goes ∙ rd),
-            ),
-      )
+  some_taken at h e held kept rd is = (omega arith, λ limit. let (fits, stands, more) = front_heads limit place f piece y rest cut at e h rd (is limit) holds outer inner held kept in (stands, more))

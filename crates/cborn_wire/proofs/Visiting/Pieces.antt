@@ -1,8 +1,8 @@
 -- A piece is read by its fronts.
-use Rattle.cborn_wire.proofs.Common.{◌≡◌, refl, sym, ap, ◌∙◌, subst, ℕ, ◌+◌, ◌-◌, ◌≤◌, List, [], ◌++◌, length, take, drop, Option, Some, None, Result, Ok, Err, inl, inr, arith, append_assoc, length-append, take-append-drop, take_all, take_rest, take-append-le, nil_from_length, AreBytes, Trees, Partial, Part, no_part, part, VisitFault, Refused, Memory, WireReason, Level, PartialHead, HeadReader, OpenContainer, Unfinished, nothing, State, Live, Failed, ready_in, start, run, AtMostOneMore, unfinished, seen_head, Missing, Stands, HereAt, Here, OpenIn, TakesPiece, IsFed, MayEnd, Reads, ReadsItem, next_head}
+use Rattle.cborn_wire.proofs.Common.{◌≡◌, refl, sym, ap, ◌∙◌, subst, ℕ, ◌+◌, ◌-◌, ◌≤◌, List, [], ◌++◌, length, take, drop, Option, Some, None, Result, Ok, Err, inl, inr, arith, append_assoc, length-append, length-take-le, take-append-drop, take_all, take_rest, take-append-le, nil_from_length, AreBytes, Trees, Partial, Part, no_part, part, VisitFault, Refused, Memory, WireReason, Level, PartialHead, HeadReader, OpenContainer, Unfinished, nothing, State, Live, Failed, ready_in, start, run, AtMostOneMore, unfinished, seen_head, Missing, Stands, HereAt, Here, IsReached, TakesPiece, IsFed, MayEnd, Reads, ReadsItem, next_head}
 use Rattle.cborn_model.proofs.Bytes.{bytes-append}
 use Rattle.cborn_wire.proofs.Machine.Running.{run-append}
-use Rattle.cborn_wire.proofs.Visiting.Taking.{bytes-take, is_open, outer_count}
+use Rattle.cborn_wire.proofs.Visiting.Taking.{bytes-take, outer_count}
 
 -- what was taken of a piece
 pub front_taken : (piece y rest : List ℕ) → piece ≡ y ++ rest → take (length y) piece ≡ y
@@ -43,6 +43,9 @@ module _ (piece y rest : List ℕ) (cut : piece ≡ y ++ rest) (n : ℕ) (fits :
   pub next_taken : take (length piece - length (take (length rest - n) (drop n rest))) piece ≡ y ++ take n rest
   next_taken = ap (λ k. take k piece) (omega (arith, ap length next_cut, length-append (y ++ take n rest) (take (length rest - n) (drop n rest)))) ∙ front_taken piece (y ++ take n rest) (take (length rest - n) (drop n rest)) next_cut
 
+  pub taken_len : length piece - length (take (length rest - n) (drop n rest)) ≡ length y + n
+  taken_len = omega (arith, ap length next_cut, length-append (y ++ take n rest) (take (length rest - n) (drop n rest)), length-append y (take n rest), length-take-le n rest fits)
+
 -- After the bytes x and y the reader m takes a front of the rest, or the rest is refused.
 module _ {V L : Type 0} (holds : V → Partial → Part → Type 0) (outer : L → List Level) (inner : L → Level) (v : V) (k : L) (m : HeadReader) (base : ℕ) (x y rest : List ℕ) (fed : IsFed (holds v) (outer k) (inner k) m base (x ++ y)) where
   abbrev now : State
@@ -50,10 +53,10 @@ module _ {V L : Type 0} (holds : V → Partial → Part → Type 0) (outer : L �
 
   -- what a call that takes bytes gives here
   abbrev Takes : V → L → HeadReader → Result ℕ VisitFault → Type 0
-  Takes w j next r = (s : State) → Here (holds v) (outer k) (inner k) m s → OpenIn m.limit s → TakesPiece m.limit s rest (holds w) (outer j) (inner j) next.left m.at next.head r
+  Takes w j next r = (s : State) (b : ℕ) → Here (holds v) (outer k) (inner k) m s → IsReached m.limit b s → TakesPiece m.limit s rest (holds w) (outer j) (inner j) next.left m.at next.head r
 
-  pub open_now : OpenIn m.limit now
-  open_now = is_open m.limit base (x ++ y) fed.0 (holds v) (outer k) (inner k) m.left m.at m.head fed.2
+  pub reached_now : IsReached m.limit base now
+  reached_now = (x ++ y, fed.0, refl)
 
   next_state : (n : ℕ) → run m.limit now (take n rest) ≡ run m.limit (start base) (x ++ (y ++ take n rest))
   next_state n = sym (run-append m.limit (start base) (x ++ y) (take n rest)) ∙ ap (run m.limit (start base)) (append_assoc x y (take n rest))
@@ -63,7 +66,7 @@ module _ {V L : Type 0} (holds : V → Partial → Part → Type 0) (outer : L �
     moved = record next { at = next.at + n }
 
     here : Here (holds w) (outer j) (inner j) moved (run m.limit (start base) (x ++ (y ++ take n rest)))
-    here = subst (λ p. HereAt (holds w) (outer j) (inner j) next.left (p + n) next.head (run m.limit (start base) (x ++ (y ++ take n rest)))) (sym at) (subst (HereAt (holds w) (outer j) (inner j) next.left (m.at + n) next.head) (next_state n) (takes now fed.2 open_now).0)
+    here = subst (λ p. HereAt (holds w) (outer j) (inner j) next.left (p + n) next.head (run m.limit (start base) (x ++ (y ++ take n rest)))) (sym at) (subst (HereAt (holds w) (outer j) (inner j) next.left (m.at + n) next.head) (next_state n) (takes now base fed.2 reached_now).0)
 
     pub next_fed : AreBytes rest → IsFed (holds w) (outer j) (inner j) moved base (x ++ (y ++ take n rest))
     next_fed more = (
@@ -75,7 +78,7 @@ module _ {V L : Type 0} (holds : V → Partial → Part → Type 0) (outer : L �
     -- no item is whole before
     module _ (none : ready_in now ≡ ready_in (run m.limit (start base) x)) where
       pub next_item : AtMostOneMore (ready_in (run m.limit (start base) x)) (run m.limit (start base) (x ++ (y ++ take n rest)))
-      next_item = subst (λ ts. AtMostOneMore ts (run m.limit (start base) (x ++ (y ++ take n rest)))) none (subst (AtMostOneMore (ready_in now)) (next_state n) (takes now fed.2 open_now).1)
+      next_item = subst (λ ts. AtMostOneMore ts (run m.limit (start base) (x ++ (y ++ take n rest)))) none (subst (AtMostOneMore (ready_in now)) (next_state n) (takes now base fed.2 reached_now).1)
 
       -- nor now, where the input may not end
       pub none_more : (MayEnd (outer j) moved → ⊥) → ready_in (run next.limit (start base) (x ++ (y ++ take n rest))) ≡ ready_in (run next.limit (start base) x)
@@ -98,11 +101,11 @@ module _ {V L : Type 0} (holds : V → Partial → Part → Type 0) (outer : L �
           taken = length y;
           within = omega (arith, ap length cut, length-append y rest);
           fed = subst (λ z. IsFed (holds v) (outer k) (inner k) m base (x ++ z)) (sym taken) fed;
-          fails = rw taken (all_state ∙ takes now fed.2 open_now);
+          fails = rw taken (all_state ∙ takes now base fed.2 reached_now);
           next = sym there;
         })
     next_refused w j next (Memory e) takes same kept = tt
 
     pub next_item_refused : (w : V) (j : L) (next : HeadReader) (e : VisitFault) → Takes w j next (Err e) → ready_in now ≡ ready_in (run m.limit (start base) x) → ReadsItem m.limit base x piece (Err e)
-    next_item_refused w j next (Refused p r) takes none = all_state ∙ takes now fed.2 open_now ∙ ap (λ ts. Failed ts p r) none
+    next_item_refused w j next (Refused p r) takes none = all_state ∙ takes now base fed.2 reached_now ∙ ap (λ ts. Failed ts p r) none
     next_item_refused w j next (Memory e) takes none = tt

@@ -1,5 +1,5 @@
 -- What is taken off the front of a piece.
-use Rattle.cborn_wire.proofs.Common.{◌≡◌, refl, sym, ap, ◌∙◌, subst, ℕ, ◌+◌, ◌/◌, ◌%◌, ◌<◌, ◌≤◌, List, [], ◌∷◌, ◌++◌, length, take, drop, get_or, Bool, false, leb, Option, Some, None, arith, length-append, add-one, take-append-drop, length-take-le, AreBytes, Width, Direct, Major, Unsigned, ByteString, TextString, Other, Argument, Given, EndlessArgument, Tree, Trees, Opening, an_array, a_map, in_chunks, Partial, top, inside, Part, no_part, part, paired, last_key, string_tree, TakesItem, TakesString, VisitFault, Refused, Memory, StringKind, OfBytes, OfText, major_of, Slot, item, chunk, OpenContainer, opened, slot, slot_in, slot_in_map, open_depth, IsNoString, AreOpen, Head, Level, PartialHead, major_at, seen_argument, IsHeadOf, Info, Next, info_at, info_for, is_of_kind, is_break, is_bad_chunk, head_reason, plain, place_of, width_bytes, argument_of, content_of, nothing, gathering, State, Live, start, begin_head, unless, finished, run, ready, open_in, state, at_most_highest, map_kind, kind_in, levels, Keeps, Takes, slot_of, Missing, Stands, FailsAs, HereAt, OpenIn}
+use Rattle.cborn_wire.proofs.Common.{◌≡◌, refl, sym, ap, ◌∙◌, subst, ℕ, ◌+◌, ◌/◌, ◌%◌, ◌<◌, ◌≤◌, List, [], ◌∷◌, ◌++◌, length, take, drop, get_or, Bool, false, leb, Option, Some, None, arith, length-append, add-one, take-append-drop, length-take-le, AreBytes, Width, Direct, Major, Unsigned, ByteString, TextString, Other, Argument, Given, EndlessArgument, Tree, Trees, Opening, an_array, a_map, in_chunks, Partial, top, inside, Part, no_part, part, paired, last_key, string_tree, TakesItem, TakesString, VisitFault, Refused, Memory, StringKind, OfBytes, OfText, major_of, Slot, item, chunk, OpenContainer, opened, slot, slot_in, slot_in_map, open_depth, IsNoString, AreOpen, Head, Level, PartialHead, major_at, seen_argument, IsHeadOf, Info, Next, info_at, info_for, is_of_kind, is_break, is_bad_chunk, head_reason, plain, place_of, width_bytes, argument_of, content_of, nothing, Unfinished, gathering, State, Live, start, begin_head, unless, finished, run, IsReached, ready, open_in, state, at_most_highest, map_kind, kind_in, levels, Keeps, Takes, slot_of, Missing, Stands, FailsAs, HereAt}
 use Rattle.cborn_model.proofs.Bytes.{bytes-left}
 use Rattle.cborn_wire.proofs.Machine.Reached.{depth_is_length}
 use Rattle.cborn_wire.proofs.Machine.TakesItems.{given_endless}
@@ -169,17 +169,12 @@ fails_on limit s u ts n piece (Refused p r) goes h =
 fails_on limit s u ts n piece (Memory e) goes h = tt
 
 -- what some bytes make is within the limit
-module _ (limit base : ℕ) (x : List ℕ) (bytes : AreBytes x) where
-  live_open : (s : State) (at : ℕ) (rd : Trees) (os : List OpenContainer) (q : _) → run limit (start base) x ≡ s → s ≡ Live at rd os q → OpenIn limit s
-  live_open s at rd os q is e =
-      let h : SoundLive limit base x at rd os q = subst (Sound limit base x) (is ∙ e) (sound limit base x bytes) in
-      subst (OpenIn limit) (sym e) h.ground.are_open
-
-  pub is_open : (holds : Partial → Part → Type 0) (outer : List Level) (l : Level) (left at : ℕ) (h : Option PartialHead) → HereAt holds outer l left at h (run limit (start base) x) → OpenIn limit (run limit (start base) x)
-  is_open holds outer l left at None h = live_open _ at (ready h.partial) (open_in h.partial) _ refl h.is
-  is_open holds outer l left at (Some p) (short, f, held, are, takes, is) = live_open _ at (ready f) (open_in f) _ refl is
+pub reached_open : (limit base : ℕ) (s : State) (at : ℕ) (rd : Trees) (os : List OpenContainer) (q : Unfinished) → IsReached limit base s → s ≡ Live at rd os q → AreOpen limit os
+reached_open limit base s at rd os q (x, bytes, is) e =
+    let h : SoundLive limit base x at rd os q = subst (Sound limit base x) (is ∙ e) (sound limit base x bytes) in
+    h.ground.are_open
 
 -- there is room for one more level where a reader is
-pub here_room : (limit most : ℕ) (holds : Partial → Part → Type 0) (outer : List Level) (l : Level) (left at : ℕ) (h : Option PartialHead) (s : State) → limit + 1 < most → HereAt holds outer l left at h s → OpenIn limit s → length outer < most
-here_room limit most holds outer l left at None s small here within = room limit most here.partial outer l here.levels small (subst (OpenIn limit) here.is within)
-here_room limit most holds outer l left at (Some h) s small (short, f, held, are, takes, is) within = room limit most f outer l are small (subst (OpenIn limit) is within)
+pub here_room : (limit most base : ℕ) (holds : Partial → Part → Type 0) (outer : List Level) (l : Level) (left at : ℕ) (h : Option PartialHead) (s : State) → limit + 1 < most → HereAt holds outer l left at h s → IsReached limit base s → length outer < most
+here_room limit most base holds outer l left at None s small here from = room limit most here.partial outer l here.levels small (reached_open limit base s at _ _ _ from here.is)
+here_room limit most base holds outer l left at (Some h) s small (short, f, held, are, takes, is) from = room limit most f outer l are small (reached_open limit base s at _ _ _ from is)

@@ -154,11 +154,6 @@ HereAt holds around l left at (Some h) s = IsShort h × (f : Partial) × holds f
 abbrev pub Here : (Partial → Part → Type 0) → List Level → Level → HeadReader → State → Type 0
 Here holds around l m s = HereAt holds around l m.left m.at m.head s
 
--- what is open is within the limit
-abbrev pub OpenIn : ℕ → State → Type 0
-OpenIn limit (Live at ts os q) = AreOpen limit os
-OpenIn limit (Failed ts p r) = ⊥
-
 -- This many bytes of the piece are taken, and at most one more item is whole; or the call fails as the piece does.
 abbrev pub TakesPiece : ℕ → State → List ℕ → (Partial → Part → Type 0) → List Level → Level → ℕ → ℕ → Option PartialHead → Result ℕ VisitFault → Type 0
 TakesPiece limit s piece holds around l left at h result =

@@ -1,6 +1,6 @@
 use Rattle.cborn_wire.proofs.Common.{Err, ◌++◌, ◌∙◌, refl, subst, take, arith, length-append, length-take-le, err_from_is_err_and, AreBytes, run, start, ReadsItem}
 use Rattle.cborn_model.proofs.Bytes.{bytes-right, are_bytes}
-use Rattle.cborn_wire.proofs.Visiting.Pieces.{next_cut, next_taken, open_now, next_fed, next_item, next_refused, next_item_refused, none_more}
+use Rattle.cborn_wire.proofs.Visiting.Pieces.{next_cut, next_taken, reached_now, next_fed, next_item, next_refused, next_item_refused, none_more}
 use Rattle.cborn_wire.proofs.head_readers.HeadReader.read.Goals as goal
 use Rattle.cborn_wire.proofs.head_readers.HeadReader.read.Goals.{else-is_item-via-then-is_item+else-is_whole, else-is_item-via-else-is_item}
 
@@ -10,7 +10,7 @@ take-requires-clause-here g c =
     let (base, x, fed) = c.requires.fed in
     let h = goes base x fed in
     let m = c.loop-rest.self in
-    (run m.limit (start base) (x ++ y), h.2, open_now g.V.Visitor.holds g.L.Levels.outer g.L.Levels.inner c.loop-rest.visitor c.loop-rest.levels m base x y c.loop-rest.rest.now h)
+    (run m.limit (start base) (x ++ y), base, h.2, reached_now g.V.Visitor.holds g.L.Levels.outer g.L.Levels.inner c.loop-rest.visitor c.loop-rest.levels m base x y c.loop-rest.rest.now h)
 
 pub returns-in_err-len-clause-fed : goal.returns-in_err-len-clause-fed
 returns-in_err-len-clause-fed g c = λ base x fed.
