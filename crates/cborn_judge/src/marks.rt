@@ -1,9 +1,11 @@
 //! Where the pairs of a map lie in a buffer, what is wrong with their order, and how they are
 //! arranged.
 
-ghost use Rattle.std.specs.Prelude.{◌≡◌, ◌<◌, ◌^◌, ◌++◌, ℕ, List, length, map, take, drop, flat_map, true, false, None, IfOk, IfSome, OnOk, IsPermutation};
+ghost use Rattle.std.specs.Prelude.{◌≡◌, ◌<◌, ◌^◌, ◌++◌, ℕ, List, length, map, take, drop, flat_map, true, false, Option, None, IfOk, IfSome, OnOk, IsPermutation};
 ghost use Rattle.cborn_det.specs.Det.{joined};
+ghost use Rattle.cborn_model.specs.Earliest.{IsEarliest};
 ghost use Rattle.cborn_judge.specs.Departures.{FindsDefect};
+ghost use Rattle.cborn_judge.specs.Reasons.{defect_rank};
 ghost use Rattle.cborn_judge.specs.shared.Judged.{FindsFlaw};
 ghost use Rattle.cborn_judge.specs.devices.Encoding.{Row, row_entries, Mark as Marked, AreMarked, AreFilled, AreArranged, RowRepeat, FindsDescent};
 ghost use Rattle.cborn_judge.specs.devices.Marks.{mark_of, narrow_of, mark_hint, narrow_hint, between, key_of, pair_of, AreHinted, mark_order, FallAt, TieAt, FallsIn, TiesIn, AreSorted};
@@ -314,7 +316,7 @@ fn first_fall<O: KeyOrder, S: Spot>(spots: &mut [S], out: &[u8]) -> Option<Defec
         let hint = hint(known, key);
         spot.set_hint(hint);
         if hint <= last {
-            first = earliest(first, fall::<O>(mark.place, before, key));
+            first = keep_fall::<O>(first, mark.place, before, key);
         }
         if !key.is_empty() {
             before = key;
@@ -322,6 +324,23 @@ fn first_fall<O: KeyOrder, S: Spot>(spots: &mut [S], out: &[u8]) -> Option<Defec
         }
     }
     first
+}
+
+/// The first of what was found so far and the defect of `key`, as `fall` gives it. One at a higher place
+/// isn't looked for.
+#[inline(always)]
+fn keep_fall<O: KeyOrder>(
+    first: Option<Defect>,
+    place: u64,
+    before: &[u8],
+    key: &[u8],
+) -> Option<Defect>
+    ensures { (next : Option Defect) × FindsDefect (FallAt O.order before.now key.now place) next × IsEarliest (λ d. (d.place, defect_rank d.reason)) first next result }
+{
+    match first {
+        Some(found) if found.place < place => first,
+        _ => earliest(first, fall::<O>(place, before, key)),
+    }
 }
 
 /// The defect of `key` at the offset `place`, if it isn't above the one before it. Either is empty

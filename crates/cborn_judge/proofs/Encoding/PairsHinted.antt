@@ -1,5 +1,5 @@
 -- What is found by a loop over marks that looks at the hints for the keys first.
-use Rattle.cborn_judge.proofs.Common.{◌≡◌, ℕ, suc, ◌+◌, ◌<◌, ◌≤◌, ◌⊎◌, inl, inr, List, [], ◌∷◌, ◌++◌, length, get_or, set, nat_lt, add-one, map, take, refl, sym, ap, ◌∙◌, subst, arith, true, false, true≢false, Option, None, Some, Ordering, ◌==◌, AllByRecursion, take-set, take_more_set, get_or-set_same, length-set, ltb-true, map-set_same, AreBytes, IsEarliest, defect_rank, KeyOrder, FindsDefect, Tells, Mark, key_of, all_keyed, IsFall, last_filled, FallAt, FallsIn, Met, AreHigher, AreHintedBy}
+use Rattle.cborn_judge.proofs.Common.{◌≡◌, ℕ, suc, ◌+◌, ◌<◌, ◌≤◌, ◌⊎◌, inl, inr, List, [], ◌∷◌, ◌++◌, length, get_or, set, nat_lt, add-one, map, take, refl, sym, ap, ◌∙◌, subst, arith, true, false, true≢false, Option, None, Some, Ordering, Less, ◌==◌, AllByRecursion, take-set, take_more_set, get_or-set_same, length-set, ltb-true, map-set_same, AreBytes, IsEarliest, defect_rank, KeyOrder, FindsDefect, Tells, Mark, key_of, all_keyed, IsFall, last_filled, FallAt, FallsIn, Met, AreHigher, AreHintedBy}
 use Rattle.cborn_judge.specs.declared.defects.Defect.{Defect}
 use Rattle.cborn_judge.proofs.Encoding.PairsRead.{empty, bytes_between}
 use Rattle.cborn_judge.proofs.Encoding.PairsMet.{IsMet, met-take_more}
@@ -11,6 +11,23 @@ none_first key (Some x) = refl
 pub all_more : {X : Type 0} (P : X → Type 0) (xs : List X) (x : X) → AllByRecursion P xs → P x → AllByRecursion P (xs ++ x ∷ [])
 all_more P [] x h p = (p, tt)
 all_more P (y ∷ xs) x h p = (h.0, all_more P xs x h.1 p)
+
+-- What a look at a key at a higher place than x would find comes after x.
+pub fall_after : (order : List ℕ → List ℕ → Ordering) (k l : List ℕ) (place : ℕ) (x : Defect) → x.place < place → (o : Option Defect) × FindsDefect (FallAt order k l place) o × IsEarliest (λ d. (d.place, defect_rank d.reason)) (Some x) o (Some x)
+fall_after order [] l place x less = (None, λ p r f. f.1.0 refl, refl)
+fall_after order (b ∷ k) [] place x less = (None, λ p r f. f.1.1 refl, refl)
+fall_after order (b ∷ k) (c ∷ l) place x less = go (order (b ∷ k) (c ∷ l)) refl
+  where
+    found : (order (b ∷ k) (c ∷ l) ≡ Less → ⊥) → (o : Option Defect) × FindsDefect (FallAt order (b ∷ k) (c ∷ l) place) o × IsEarliest (λ d. (d.place, defect_rank d.reason)) (Some x) o (Some x)
+    found high = (
+      Some (record { place = place; reason = KeyOrder }),
+      record { is = (refl, ((λ e. cc), (λ e. cc), refl, high)); first = λ q s f. inr (sym f.1.2, omega (arith, ap defect_rank f.0)) },
+      (inl refl, inr (refl, omega arith), inl less),
+    )
+
+    go : (e : Ordering) → order (b ∷ k) (c ∷ l) ≡ e → (o : Option Defect) × FindsDefect (FallAt order (b ∷ k) (c ∷ l) place) o × IsEarliest (λ d. (d.place, defect_rank d.reason)) (Some x) o (Some x)
+    go Less e = (None, λ p r f. f.1.3 e, refl)
+    go n e = found (λ is. cc)
 
 module _ {S : Type 0} (seen : S → Mark) (hinted : S → ℕ) (b : List ℕ) where
   module _ (order : List ℕ → List ℕ → Ordering) (hint : List ℕ → ℕ) where

@@ -18,7 +18,7 @@ loop-spot-preserved g c =
     let bytes : AreBytes key = subst AreBytes (sym c.key_in-key.ensures) (bytes_between b m.1 m.2 (are_bytes b c.type_inv.out)) in
     let look : Looks g.S.Spot.seen g.S.Spot.hinted b order hint before key last m.0 c.loop-spot.first c.if-hint-last.first =
     elim c.if-hint-last.branch [
-      | then-hint-last w ↦ inr (w.fall.result, w.fall.ensures, subst (λ o. IsEarliest (λ d. (d.place, defect_rank d.reason)) c.loop-spot.first w.fall.result o) (sym w.first-is) w.earliest-first.ensures)
+      | then-hint-last w ↦ let (o, finds, is) = w.keep_fall-first.ensures in inr (o, finds, subst (λ z. IsEarliest (λ d. (d.place, defect_rank d.reason)) c.loop-spot.first o z) (sym w.first-is) is)
       | else-hint-last w ↦ inl (subst (λ n. last < n) c.hint-hint.ensures (omega (arith, w.if-hint-last.false)), w.first-is)
     ] in
     let next : Remembers g.S.Spot.seen g.S.Spot.hinted b order hint before key last c.if-not-is_empty.before.now c.if-not-is_empty.last =
