@@ -1,10 +1,12 @@
 use Rattle.cborn_engine.proofs.Common.{◌≡◌, ◌≤◌, ◌<◌, ◌+◌, length, most_bytes}
-use Rattle.cborn_engine.proofs.Streams.Judging.{SoFar}
+use Rattle.cborn_judge.specs.devices.Encoders.{IsHeld}
+use Rattle.cborn_engine.specs.devices.Judging.{IsJudging}
+use Rattle.cborn_engine.proofs.Streams.Coming.{SoFar}
 use Rattle.cborn_engine.proofs.judged_inputs.read_judged.Given as goal
 
 abbrev pub invariant-pieces : goal.invariant-pieces
 invariant-pieces g l = record {
-  so_far : SoFar g.O.KeyOrder.order l.fn.limit l.left (g.R.Source.remaining l.initial.reader) (g.R.Source.remaining l.reader) l.judge;
+  so_far : SoFar most_bytes l.left (g.R.Source.remaining l.initial.reader) (g.R.Source.remaining l.reader) (λ x. IsJudging (IsHeld g.O.KeyOrder.order) l.judge x l.fn.limit);
   room : 0 < length l.piece.items;
   failures : g.R.Source.failed l.reader ≡ g.R.Source.failed l.initial.reader;
   calls : g.R.Source.asked l.reader + l.left ≤ g.R.Source.asked l.initial.reader + most_bytes;
