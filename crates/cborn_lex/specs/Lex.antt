@@ -1,11 +1,6 @@
 -- A device of the proofs: the tokens of a text, and its lexical fault, by the first character of each front. The law `good_tokens` holds it against Good.antt, and `bad_tokens` against Bad.antt.
 use Rattle.std.specs.Prelude.{◌≡◌, ℕ, ◌+◌, ◌<◌, ◌≤◌, List, [], ◌∷◌, ◌++◌, length, drop, Option, Some, None}
-use Rattle.cborn_lex.specs.declared.classes.Profile.{Profile}
-use Rattle.cborn_lex.specs.declared.classes.Class.{Class}
-use Rattle.cborn_lex.specs.declared.classes.Token.{Token}
-use Rattle.cborn_lex.specs.declared.faults.LexFault.{LexFault}
-use Rattle.cborn_lex.specs.declared.faults.LexFault.TheVariants.{Refused, OutOfMemory}
-use Rattle.cborn_lex.specs.declared.faults.LexReason.{LexReason}
+use Rattle.cborn_lex.specs.Common.{Profile, Class, Token, LexFault, Refused, OutOfMemory, LexReason}
 use Rattle.cborn_lex.specs.Tokens.{WhiteSpace, Read, Bad}
 use Rattle.cborn_lex.specs.Forms.{Reads}
 

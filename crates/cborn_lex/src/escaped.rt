@@ -1,14 +1,9 @@
 //! Strings between quotes, with the escapes of JSON (RFC 8259 section 7).
 
 ghost use Rattle.std.specs.Prelude.{◌≡◌, ℕ, ◌<◌, ◌≤◌, ◌++◌, ◌==◌, List, length, take, drop, slice_index, MatchOption, IfOk, IfSome, OnOk, encode_utf8, true, false, None, Some};
-ghost use Rattle.cborn_lex.specs.declared.classes.Class.{Class};
-ghost use Rattle.cborn_lex.specs.declared.classes.Class.TheVariants.{Text, Bytes};
-ghost use Rattle.cborn_lex.specs.Tokens.{Front as AnyFront, Bad, marked};
-ghost use Rattle.cborn_lex.specs.Strings.{is_content, is_unclosed, is_low};
-ghost use Rattle.cborn_lex.specs.Forms.{IsQuoted};
-ghost use Rattle.cborn_lex.specs.devices.Letters.{NoText};
-ghost use Rattle.cborn_lex.specs.devices.Scan.{code_at, low_code, unit_from};
-ghost use Rattle.cborn_lex.specs.devices.View.{front_view, FrontStandsFor};
+ghost use Rattle.cborn_lex.specs.Common.{Class, Text, Bytes};
+ghost use Rattle.cborn_lex.specs.Cited.{Front as AnyFront, Bad, marked, is_content, is_unclosed, is_low, IsQuoted};
+ghost use Rattle.cborn_lex.specs.devices.Common.{NoText, code_at, low_code, unit_from, front_view, FrontStandsFor};
 
 use crate::classes::{Kind, Mark};
 use crate::faults::LexReason;

@@ -2,10 +2,9 @@
 //! a front and how many bytes of `tail` it takes.
 
 ghost use Rattle.std.specs.Prelude.{◌≡◌, ℕ, ◌<◌, ◌≤◌, List, [], length, take, drop, slice_index, IfOk, false, ◌⊎◌};
-ghost use Rattle.cborn_lex.specs.declared.classes.Class.TheVariants.{ArrayOpen, MapOpen, EmbedClose};
-ghost use Rattle.cborn_lex.specs.Tokens.{Front as AnyFront, WhiteSpace, is_white, mark_of, marked};
-ghost use Rattle.cborn_lex.specs.Forms.{start_of, less, greater, hash, paren_front, IsIndicator, Through, Lacks, ReadsFrom, Reads};
-ghost use Rattle.cborn_lex.specs.devices.View.{front_view, FrontStandsFor};
+ghost use Rattle.cborn_lex.specs.Common.{ArrayOpen, MapOpen, EmbedClose};
+ghost use Rattle.cborn_lex.specs.Cited.{Front as AnyFront, WhiteSpace, is_white, mark_of, marked, start_of, less, greater, hash, paren_front, IsIndicator, Through, Lacks, ReadsFrom, Reads};
+ghost use Rattle.cborn_lex.specs.devices.Common.{front_view, FrontStandsFor};
 
 use crate::classes::{Kind, Profile};
 use crate::escaped::{double_quoted, single_quoted};

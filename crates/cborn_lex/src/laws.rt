@@ -1,14 +1,8 @@
 //! Laws of the tokens of a text: each function does nothing, and its contract is a theorem.
 
 ghost use Rattle.std.specs.Prelude.{◌≡◌, ◌↔◌, Some, None, ℕ, ◌<◌, List, [], ◌++◌, ◌⊎◌, length, drop};
-ghost use Rattle.hex.specs.Hex.{IsBytes};
-ghost use Rattle.cborn_lex.specs.declared.classes.Class.{Class};
-ghost use Rattle.cborn_lex.specs.declared.classes.Token.{Token};
-ghost use Rattle.cborn_lex.specs.declared.faults.LexFault.{LexFault};
-ghost use Rattle.cborn_lex.specs.Tokens.{WhiteSpace, Read, Bad};
-ghost use Rattle.cborn_lex.specs.Forms.{Reads};
-ghost use Rattle.cborn_lex.specs.Good.{Takes, HasTokens, TokensBetween};
-ghost use Rattle.cborn_lex.specs.Bad.{Fails, BeginsNothing, FailsAt, HasNoTokens, HasNoTokenFrom};
+ghost use Rattle.cborn_lex.specs.Common.{IsBytes, Class, Token, LexFault};
+ghost use Rattle.cborn_lex.specs.Cited.{WhiteSpace, Read, Bad, Reads, Takes, HasTokens, TokensBetween, Fails, BeginsNothing, FailsAt, HasNoTokens, HasNoTokenFrom};
 ghost use Rattle.cborn_lex.specs.Lex.{Lex, Stop, SpansRise};
 
 use crate::classes::Profile;

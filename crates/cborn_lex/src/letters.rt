@@ -4,11 +4,10 @@
 //! an escape, and control characters, which no string may have.
 
 ghost use Rattle.std.specs.Prelude.{◌≡◌, ◌≤◌, ◌<◌, ◌+◌, ◌++◌, ℕ, List, true, length, take, drop, map, slice_index, IfOk, OnOk, MatchOption, None, Some, false, encode_utf8, ◌⊎◌};
-ghost use Rattle.std.specs.List.{list_all};
+ghost use Rattle.cborn_lex.specs.Common.{list_all};
+ghost use Rattle.cborn_lex.specs.Cited.{is_escape, escape_code};
+ghost use Rattle.cborn_lex.specs.devices.Common.{escape_of, is_plain, is_special, LettersSoFar, LettersTaken, NoText};
 ghost use Rattle.std.specs.Simd.Lanes.{mask_l};
-ghost use Rattle.cborn_lex.specs.Strings.{is_escape, escape_code};
-ghost use Rattle.cborn_lex.specs.devices.Scan.{escape_of};
-ghost use Rattle.cborn_lex.specs.devices.Letters.{is_plain, is_special, LettersSoFar, LettersTaken, NoText};
 
 use crate::escaped::push_unit_escape;
 use crate::slices::rest_of;

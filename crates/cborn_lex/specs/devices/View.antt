@@ -1,6 +1,6 @@
 -- A device of the proofs: what the private types of the code stand for. No definition cites it.
 use Rattle.std.specs.Prelude.{◌≡◌, ℕ, List}
-use Rattle.cborn_lex.specs.declared.classes.Class.{Class}
+use Rattle.cborn_lex.specs.Common.{Class}
 use Rattle.cborn_lex.specs.declared.fronts.Front.{Front as FrontIn}
 use Rattle.cborn_lex.specs.declared.fronts.Front.TheVariants as fronts
 use Rattle.cborn_lex.specs.Tokens.{Front, WhiteSpace, Read, Bad}
