@@ -17,3 +17,4 @@ pub mod Handed
 pub mod Steps
 pub mod Reading
 pub mod Notating
+pub mod Common

@@ -2,13 +2,9 @@
 //! answers whether the token is allowed there, and changes nothing if it isn't.
 
 ghost use Rattle.std.specs.Prelude.{◌≡◌, ◌<◌, ◌^◌, false, IfOk, OnOk};
-ghost use Rattle.cborn_lex.specs.declared.classes.Class.TheVariants.{ArrayClose, MapClose, EmbedClose, ParenClose, Comma, Colon};
-ghost use Rattle.cborn_edn.specs.devices.Syntax.{Span as Place, Item};
-ghost use Rattle.cborn_edn.specs.devices.Machine.{Stack, State, has};
-ghost use Rattle.cborn_edn.specs.devices.Shows.{Shows};
-ghost use Rattle.cborn_edn.specs.devices.Handed.{Reads};
+ghost use Rattle.cborn_edn.specs.Common.{ArrayClose, MapClose, EmbedClose, ParenClose, Comma, Colon};
+ghost use Rattle.cborn_edn.specs.devices.Common.{Span as Place, Item, Stack, State, has, Shows, Reads, MayEnd, Turned, Taken};
 ghost use Rattle.cborn_edn.specs.devices.Steps as pure;
-ghost use Rattle.cborn_edn.specs.devices.Steps.{MayEnd, Turned, Taken};
 
 use crate::containers::{close_embedded, close_sized, close_tag, colon, comma, comma_of_pairs};
 use crate::states::{Chunks, Here, Level, Phase, Writer};

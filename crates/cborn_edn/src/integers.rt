@@ -1,11 +1,10 @@
 //! Decimal integers and the numbers of tags (RFC 8949 section 8).
 
 ghost use Rattle.std.specs.Prelude.{◌≡◌, ◌≤◌, ◌<◌, true, false, ◌==◌, length, slice_index, IfSome, if◌then◌else◌};
-ghost use Rattle.cborn_lex.specs.declared.classes.Profile.{Profile};
+ghost use Rattle.cborn_edn.specs.Common.{Profile, begins};
+ghost use Rattle.cborn_edn.specs.devices.Common.{IsTokenAt};
 ghost use Rattle.cborn_lex.specs.declared.classes.Class.TheVariants as classes;
 ghost use Rattle.cborn_lex.specs.declared.classes.Mark.TheVariants as marks;
-ghost use Rattle.cborn_lex.specs.Tokens.{begins};
-ghost use Rattle.cborn_edn.specs.devices.Ahead.{IsTokenAt};
 
 use cborn_lex::{Mark, decimal_at, mark_at};
 

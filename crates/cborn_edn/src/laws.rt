@@ -2,28 +2,16 @@
 //! contract is a theorem.
 
 ghost use Rattle.std.specs.Prelude.{◌≡◌, ℕ, ◌^◌, ◌<◌, ◌≤◌, Bool, true, List, [], map, length, ◌⊎◌, ◌↔◌};
-ghost use Rattle.std.specs.Str.{is_utf8};
+ghost use Rattle.cborn_edn.specs.Common.{is_utf8, Trees, depth_all, FitsAll, spelled_all, Profile, One as ProfileOne, Two as ProfileTwo, Token, HasTokens, FailsAt, EdnReason, MeaningError};
+ghost use Rattle.cborn_edn.specs.devices.Common.{tokens_of_input, Parsed};
+ghost use Rattle.cborn_edn.specs.Cited.{AreShowable, Shown, shown_lines, IsText, Notates, HasTree, IsSyntaxError, HasMeaningError, HasSyntaxError};
 ghost use Rattle.cborn_model.specs.Bytes.{AreBytes};
-ghost use Rattle.cborn_model.specs.Tree.{Trees, depth_all};
 ghost use Rattle.cborn_model.specs.Value.{Values};
 ghost use Rattle.cborn_model.specs.Meaning.{AllMean};
-ghost use Rattle.cborn_model.specs.Spelled.{FitsAll, spelled_all};
-ghost use Rattle.cborn_lex.specs.declared.classes.Profile.{Profile};
-ghost use Rattle.cborn_lex.specs.declared.classes.Profile.TheVariants.{One as ProfileOne, Two as ProfileTwo};
-ghost use Rattle.cborn_lex.specs.declared.classes.Token.{Token};
 ghost use Rattle.cborn_lex.specs.declared.faults.LexReason.{LexReason};
-ghost use Rattle.cborn_lex.specs.Good.{HasTokens};
-ghost use Rattle.cborn_lex.specs.Bad.{FailsAt};
-ghost use Rattle.cborn_edn.specs.declared.faults.EdnReason.{EdnReason};
-ghost use Rattle.cborn_edn.specs.devices.Syntax.{tokens_of_input};
 ghost use Rattle.cborn_edn.specs.devices.Parse as trees;
-ghost use Rattle.cborn_edn.specs.devices.Said.{Parsed};
 ghost use Rattle.cborn_edn.specs.ReadingBack.{unplaced_token, notated_input, unplaced_all};
-ghost use Rattle.cborn_edn.specs.Shown.{AreShowable, Shown, shown_lines};
 ghost use Rattle.cborn_edn.specs.Starts.{spots_all, IsRising};
-ghost use Rattle.cborn_edn.specs.Grammar.{IsText, Notates};
-ghost use Rattle.cborn_edn.specs.declared.meaning_errors.MeaningError.{MeaningError};
-ghost use Rattle.cborn_edn.specs.Faults.{HasTree, IsSyntaxError, HasMeaningError, HasSyntaxError};
 
 /// Tokens are a text of the grammar in at most one way, with the same nodes and meaning errors in
 /// each profile and within each limit.

@@ -1,17 +1,9 @@
 //! Integers, tags and simple values, and what is wrong with their indicators.
 
 ghost use Rattle.std.specs.Prelude.{◌≡◌, ◌<◌, ◌++◌, ◌∷◌, ℕ, Bool, List, OnOk};
-ghost use Rattle.std.specs.Int.Digits.{digits_of};
-ghost use Rattle.cborn_lex.specs.declared.classes.Mark.{Mark as Indicator};
-ghost use Rattle.cborn_edn.specs.devices.Syntax.{Span as Place, number, word, simple};
-ghost use Rattle.cborn_edn.specs.devices.Machine.{Stack, State, wants, has, wants_number, has_number};
-ghost use Rattle.cborn_edn.specs.declared.states.Writer.{Writer as Writing};
-ghost use Rattle.cborn_edn.specs.declared.events.Event.TheVariants.{Bignum};
-ghost use Rattle.cborn_edn.specs.devices.Shows.{Shows};
-ghost use Rattle.cborn_edn.specs.devices.Noted.{noted};
-ghost use Rattle.cborn_edn.specs.devices.Handed.{Hands, AllHanded, Reads};
+ghost use Rattle.cborn_edn.specs.Common.{digits_of, Mark as Indicator, Writer as Writing, Bignum};
+ghost use Rattle.cborn_edn.specs.devices.Common.{Span as Place, number, word, simple, Stack, State, wants, has, wants_number, has_number, Shows, noted, Hands, AllHanded, Reads, Notes, first_error};
 ghost use Rattle.cborn_edn.specs.Says as says;
-ghost use Rattle.cborn_edn.specs.devices.MeaningErrors.{Notes, first_error};
 
 use crate::events::Event;
 use crate::handing::hand;

@@ -5,10 +5,9 @@
 //! what is there. All functions are in line, so that `here` is kept in registers.
 
 ghost use Rattle.std.specs.Prelude.{◌≡◌, ◌≤◌, ◌<◌, [], true, length, slice_index, IfOk};
-ghost use Rattle.cborn_lex.specs.declared.classes.Profile.{Profile};
-ghost use Rattle.cborn_lex.specs.Good.{TokensBetween};
+ghost use Rattle.cborn_edn.specs.Common.{Profile, TokensBetween};
+ghost use Rattle.cborn_edn.specs.devices.Common.{IsInside, IsWanting, Goes};
 ghost use Rattle.cborn_edn.specs.declared.states.Phase.TheVariants as phases;
-ghost use Rattle.cborn_edn.specs.devices.Reading.{IsInside, IsWanting, Goes};
 
 use crate::integers::integer_at;
 use crate::numbers::{Numeral, close_simple, put_simple};

@@ -3,7 +3,7 @@
 
 ghost use Rattle.std.specs.Prelude.{◌≡◌, ◌⊎◌, true, slice_index, IfOk};
 ghost use Rattle.cborn_edn.specs.declared.states.Phase.TheVariants as phases;
-ghost use Rattle.cborn_edn.specs.devices.Reading.{IsInside, Goes, of_text};
+ghost use Rattle.cborn_edn.specs.devices.Common.{IsInside, Goes, of_text};
 ghost use Rattle.cborn_edn.specs.devices.Steps as pure;
 
 use crate::endings::{end_array, end_embedded, end_entry, end_key, end_map, end_tag, has_chunks};

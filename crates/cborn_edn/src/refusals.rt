@@ -1,11 +1,9 @@
 //! Syntax errors: where no text of the grammar goes on.
 
 ghost use Rattle.std.specs.Prelude.{◌≡◌, ◌≤◌, ◌⊎◌, List, length};
-ghost use Rattle.cborn_lex.specs.Lex.{Between, IsStopFrom};
-ghost use Rattle.cborn_lex.specs.declared.classes.Token.{Token};
-ghost use Rattle.cborn_lex.specs.declared.faults.LexFault.{LexFault as LexStop};
+ghost use Rattle.cborn_edn.specs.Common.{Between, IsStopFrom, Token, LexFault as LexStop};
+ghost use Rattle.cborn_edn.specs.devices.Common.{lexical};
 ghost use Rattle.cborn_edn.specs.declared.faults.EdnFault.TheVariants.{Refused};
-ghost use Rattle.cborn_edn.specs.devices.Machine.{lexical};
 
 use crate::{EdnFault, EdnReason};
 use cborn_lex::{Profile, next_token};

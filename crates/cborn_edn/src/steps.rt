@@ -2,13 +2,8 @@
 //! such a token there.
 
 ghost use Rattle.std.specs.Prelude.{◌≡◌, ℕ, ◌<◌, ◌^◌, Bool, true, false, List, IfOk};
-ghost use Rattle.cborn_edn.specs.devices.Syntax.{Span as Place, Item, Pieces as Joined, StringsBefore};
-ghost use Rattle.cborn_edn.specs.devices.Machine.{Stack, Home, as_chunk, State, wants, has, builds, wants_number, has_number};
-ghost use Rattle.cborn_lex.specs.declared.classes.Mark.{Mark as Indicator};
-ghost use Rattle.cborn_lex.specs.Kinds.{class_of};
-ghost use Rattle.cborn_edn.specs.devices.Shows.{Shows};
-ghost use Rattle.cborn_edn.specs.devices.Handed.{Reads};
-ghost use Rattle.cborn_edn.specs.devices.Steps.{is_piece, takes_no_piece, IsReady, Takes, Turned, Turns, EndsAt};
+ghost use Rattle.cborn_edn.specs.devices.Common.{Span as Place, Item, Pieces as Joined, StringsBefore, Stack, Home, as_chunk, State, wants, has, builds, wants_number, has_number, Shows, Reads, is_piece, takes_no_piece, IsReady, Takes, Turned, Turns, EndsAt};
+ghost use Rattle.cborn_edn.specs.Common.{Mark as Indicator, class_of};
 
 use crate::containers::{open_array, open_embedded, open_map, open_tag};
 use crate::endings::{end_array, end_embedded, end_entry, end_key, end_map, end_tag, has_chunks};

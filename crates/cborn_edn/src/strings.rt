@@ -2,16 +2,8 @@
 
 ghost use Rattle.std.specs.Prelude.{◌≡◌, ℕ, ◌≤◌, ◌++◌, List, Bool, length, take, drop, Option, Some, None, OnOk, true, ◌&&◌};
 ghost use Rattle.cborn_edn.specs.Says as says;
-ghost use Rattle.cborn_model.specs.declared.visitors.StringKind.{StringKind as Kind};
-ghost use Rattle.cborn_model.specs.declared.visitors.StringKind.TheVariants.{OfText};
-ghost use Rattle.cborn_edn.specs.devices.Syntax.{Span as Place, Pieces as Joined, Strings, StringsBefore, strings, string, chunked, piece, text, no_string, after_strings};
-ghost use Rattle.cborn_edn.specs.devices.Machine.{Stack, Home, as_item, as_chunk, wants, has, builds, wants_chunk, at_home, with_piece};
-ghost use Rattle.std.specs.Str.{IsUtf8};
-ghost use Rattle.cborn_lex.specs.declared.classes.Mark.TheVariants.{Absent};
-ghost use Rattle.cborn_edn.specs.devices.Kept.{joint, kind_or};
-ghost use Rattle.cborn_edn.specs.devices.MeaningErrors.{Notes};
-ghost use Rattle.cborn_edn.specs.devices.Shows.{Shows, piece_of};
-ghost use Rattle.cborn_edn.specs.devices.Handed.{string_event, chunk_event, Reads};
+ghost use Rattle.cborn_edn.specs.Common.{StringKind as Kind, OfText, IsUtf8, Absent};
+ghost use Rattle.cborn_edn.specs.devices.Common.{Span as Place, Pieces as Joined, Strings, StringsBefore, strings, string, chunked, piece, text, no_string, after_strings, Stack, Home, as_item, as_chunk, wants, has, builds, wants_chunk, at_home, with_piece, joint, kind_or, Notes, Shows, piece_of, string_event, chunk_event, Reads};
 
 use crate::events::Event;
 use crate::handing::hand;

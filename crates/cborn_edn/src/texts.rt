@@ -1,12 +1,10 @@
 //! Text strings in one piece (RFC 8949 section 8, RFC 8259 section 7).
 
 ghost use Rattle.std.specs.Prelude.{◌≡◌, ◌≤◌, ◌<◌, ◌+◌, ◌++◌, ◌==◌, ℕ, List, [], true, false, length, take, drop, slice_index, IfOk, IfSome, MatchOption};
-ghost use Rattle.std.specs.Str.{IsUtf8};
+ghost use Rattle.cborn_edn.specs.Common.{IsUtf8, begins, TokensBetween};
+ghost use Rattle.cborn_edn.specs.devices.Common.{ends_string, NoPieceAt, IsTextAt};
 ghost use Rattle.cborn_lex.specs.declared.classes.Class.TheVariants as classes;
 ghost use Rattle.cborn_lex.specs.declared.classes.Mark.TheVariants as marks;
-ghost use Rattle.cborn_lex.specs.Tokens.{begins};
-ghost use Rattle.cborn_lex.specs.Good.{TokensBetween};
-ghost use Rattle.cborn_edn.specs.devices.Ahead.{ends_string, NoPieceAt, IsTextAt};
 
 use crate::white_space::skip_white_space;
 use cborn_lex::{Profile, plain_run, push_letters};

@@ -1,7 +1,6 @@
 -- A device of the proofs: the nesting depth that a token needs. No definition cites it.
 use Rattle.std.specs.Prelude.{ℕ, suc, ◌+◌}
-use Rattle.cborn_lex.specs.declared.classes.Class.{Class}
-use Rattle.cborn_lex.specs.declared.classes.Class.TheVariants.{ArrayOpen, MapOpen, EmbedOpen, Number, TagOpen}
+use Rattle.cborn_edn.specs.Common.{Class, ArrayOpen, MapOpen, EmbedOpen, Number, TagOpen}
 use Rattle.cborn_edn.specs.devices.Syntax.{depth_of_number}
 
 -- the nesting depth that a token needs inside k open brackets

@@ -1,6 +1,6 @@
 -- A device of the proofs: the first meaning error, and how the reader keeps it. No definition cites it.
 use Rattle.std.specs.Prelude.{◌≡◌, List, [], ◌∷◌, ◌++◌, ◌==◌, ◌&&◌, ◌||◌, Bool, true, false, nat_lt, nat_le, if◌then◌else◌, Option, Some, None}
-use Rattle.cborn_edn.specs.declared.meaning_errors.MeaningError.{MeaningError}
+use Rattle.cborn_edn.specs.Common.{MeaningError}
 use Rattle.cborn_edn.specs.Faults.{number_of}
 
 -- a has a lower place than b, or the same place and no higher number

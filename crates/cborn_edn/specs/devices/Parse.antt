@@ -1,12 +1,6 @@
 -- A device of the proofs: which tokens are a text of the grammar, and the first token with which no such text goes on.
 use Rattle.std.specs.Prelude.{◌≡◌, ℕ, ◌≤◌, List, [], ◌∷◌, ◌++◌, Bool, true, false}
-use Rattle.cborn_lex.specs.declared.classes.Profile.{Profile}
-use Rattle.cborn_lex.specs.declared.classes.Profile.TheVariants.{One as ProfileOne, Two as ProfileTwo}
-use Rattle.cborn_edn.specs.declared.faults.EdnReason.{EdnReason}
-use Rattle.cborn_edn.specs.declared.faults.EdnReason.TheVariants.{UnexpectedToken, UnexpectedEnd, TooDeep}
-use Rattle.cborn_lex.specs.declared.classes.Class.{Class}
-use Rattle.cborn_lex.specs.declared.classes.Class.TheVariants.{ArrayClose, MapClose, EmbedClose, Comma}
-use Rattle.cborn_lex.specs.declared.classes.Token.{Token}
+use Rattle.cborn_edn.specs.Common.{Profile, One as ProfileOne, Two as ProfileTwo, EdnReason, UnexpectedToken, UnexpectedEnd, TooDeep, Class, ArrayClose, MapClose, EmbedClose, Comma, Token}
 use Rattle.cborn_edn.specs.devices.Syntax.{Span, token, Input, tokens_of_input, depth_of_input}
 
 -- ], } or >>

@@ -1,15 +1,8 @@
 -- A device of the proofs: what the reader keeps shows a state of the machine of tokens. No definition cites it.
 use Rattle.std.specs.Prelude.{◌≡◌, ℕ, ◌+◌, List, length, Bool}
-use Rattle.cborn_lex.specs.declared.classes.Mark.{Mark}
-use Rattle.cborn_model.specs.declared.visitors.StringKind.{StringKind}
-use Rattle.cborn_model.specs.declared.visitors.StringKind.TheVariants.{OfBytes, OfText}
+use Rattle.cborn_edn.specs.Common.{Mark, StringKind, OfBytes, OfText, Phase, Has, Here, Writer}
 use Rattle.cborn_edn.specs.devices.Syntax.{Span, Piece, text, bytes, row, Content, loose, tight, pairs, Fields, loose_fields, tight_fields}
-use Rattle.cborn_edn.specs.devices.Machine.{first_error}
-use Rattle.cborn_edn.specs.devices.Machine.{Stack, in_row, in_key, in_value, Nest, State, wants, has, wants_number}
-use Rattle.cborn_edn.specs.declared.states.Phase.{Phase}
-use Rattle.cborn_edn.specs.declared.states.Phase.TheVariants.{Has}
-use Rattle.cborn_edn.specs.declared.states.Here.{Here}
-use Rattle.cborn_edn.specs.declared.states.Writer.{Writer}
+use Rattle.cborn_edn.specs.devices.Machine.{first_error, Stack, in_row, in_key, in_value, Nest, State, wants, has, wants_number}
 use Rattle.cborn_edn.specs.devices.Noted.{noted}
 use Rattle.cborn_edn.specs.devices.Kept.{phase_of, stack_in, level_of, count_of, brackets_of, arounds_of, bytes_around, string_in, chunks_in, bytes_open}
 
