@@ -37,5 +37,5 @@ pub use Rattle.cborn_lex.specs.declared.faults.LexReason.TheVariants.{BadBase64,
 pub use Rattle.cborn_lex.specs.devices.Letters.{HasLetters, Letter, LettersSoFar, LettersTaken, NoText, escaped, is_letter, is_plain, is_special, meant, pair, raw, unit, written}
 pub use Rattle.cborn_lex.specs.devices.Pieces.{AreRead, BeginsNoPiece, LexParted, Lexeme, Parted, StopParted, front_of, slice, spelled, token, tokens, white_space}
 pub use Rattle.cborn_lex.specs.devices.Scan.{IsEncoded, after, code_at, escape_of, is_raw, low_code, onto, paired, refusal, strip, unit_from}
-pub use Rattle.cborn_lex.specs.devices.View.{FrontStandsFor, front_view}
+pub use Rattle.cborn_lex.specs.devices.View.{FrontStandsFor, front_view, of_quoted}
 pub use Rattle.cborn_lex.specs.shared.Modest.{AreModest, IsModest}

@@ -1,9 +1,9 @@
 //! Strings between quotes, with the escapes of JSON (RFC 8259 section 7).
 
-ghost use Rattle.std.specs.Prelude.{◌≡◌, ℕ, ◌<◌, ◌≤◌, ◌++◌, ◌==◌, List, length, take, drop, slice_index, MatchOption, IfOk, IfSome, OnOk, encode_utf8, true, false, None, Some};
-ghost use Rattle.cborn_lex.specs.Common.{Class, Text, Bytes};
+ghost use Rattle.std.specs.Prelude.{◌≡◌, ℕ, ◌<◌, ◌≤◌, ◌++◌, ◌==◌, ◌⊎◌, List, length, take, drop, slice_index, MatchOption, IfOk, IfSome, OnOk, encode_utf8, true, false, None, Some};
+ghost use Rattle.cborn_lex.specs.Common.{Class, Bytes};
 ghost use Rattle.cborn_lex.specs.Cited.{Front as AnyFront, Bad, marked, is_content, is_unclosed, is_low, IsQuoted};
-ghost use Rattle.cborn_lex.specs.devices.Common.{NoText, code_at, low_code, unit_from, front_view, FrontStandsFor};
+ghost use Rattle.cborn_lex.specs.devices.Common.{of_quoted, NoText, code_at, low_code, unit_from, front_view, FrontStandsFor};
 
 use crate::classes::{Kind, Mark};
 use crate::faults::LexReason;
@@ -122,14 +122,14 @@ fn bad_string(quote: u8, tail: &[u8]) -> (LexReason, usize)
     (LexReason::BadEscape, i + 1 + m)
 }
 
-/// The kind of a string in double quotes, or that its indicator is bad.
+/// The kind of a string between these quotes, or that its indicator is bad.
 #[inline(always)]
-fn text_front(mark: Option<Mark>) -> Front
-    ensures { (n : ℕ) (x : List ℕ) → front_view n x result ≡ marked (Text x) mark }
+fn quoted_front(quote: u8, mark: Option<Mark>) -> Front
+    ensures { (n : ℕ) (x : List ℕ) → front_view n x result ≡ marked (of_quoted quote x) mark }
 {
     match mark {
-        Some(mark) => Front::Read(Kind::Text(mark)),
-        None => Front::Bad(LexReason::BadIndicator),
+        Some(mark) if quote == b'"' => Front::Read(Kind::Text(mark)),
+        _ => bytes_front(true, mark),
     }
 }
 
@@ -144,28 +144,16 @@ pub fn bytes_front(quoted: bool, mark: Option<Mark>) -> Front
     }
 }
 
-/// Reads a string after its opening double quote, and appends its bytes to `out`. Gives its kind,
-/// or what is wrong with it, and how many bytes of `tail` it takes.
-pub fn double_quoted(tail: &[u8], out: &mut Vec<u8>) -> Result<(Front, usize), AllocError>
-    ensures { IfOk result (λ r. (r.1 ≤ length tail.now) × ((a : AnyFront) × IsQuoted 34 Text (take r.1 tail.now) (drop r.1 tail.now) a × ((n : ℕ) → FrontStandsFor r.0 n out.old.items out.new.items a))) }
+/// Reads a string after its opening quote, a double or a single one, and appends its bytes to `out`.
+/// Gives its kind, or what is wrong with it, and how many bytes of `tail` it takes.
+pub fn quoted(quote: u8, tail: &[u8], out: &mut Vec<u8>) -> Result<(Front, usize), AllocError>
+    requires { (quote ≡ 34) ⊎ (quote ≡ 39) }
+    ensures { IfOk result (λ r. (r.1 ≤ length tail.now) × ((a : AnyFront) × IsQuoted quote (of_quoted quote) (take r.1 tail.now) (drop r.1 tail.now) a × ((n : ℕ) → FrontStandsFor r.0 n out.old.items out.new.items a))) }
 {
-    let Some(i) = push_letters(b'"', tail, 0, out)? else {
-        let (reason, n) = bad_string(b'"', tail);
+    let Some(i) = push_letters(quote, tail, 0, out)? else {
+        let (reason, n) = bad_string(quote, tail);
         return Ok((Front::Bad(reason), n));
     };
     let (mark, m) = mark_at(rest_of(tail, i + 1));
-    Ok((text_front(mark), i + 1 + m))
-}
-
-/// Reads a string after its opening single quote, and appends its bytes to `out`. Gives its kind,
-/// or what is wrong with it, and how many bytes of `tail` it takes.
-pub fn single_quoted(tail: &[u8], out: &mut Vec<u8>) -> Result<(Front, usize), AllocError>
-    ensures { IfOk result (λ r. (r.1 ≤ length tail.now) × ((a : AnyFront) × IsQuoted 39 (Bytes true) (take r.1 tail.now) (drop r.1 tail.now) a × ((n : ℕ) → FrontStandsFor r.0 n out.old.items out.new.items a))) }
-{
-    let Some(i) = push_letters(b'\'', tail, 0, out)? else {
-        let (reason, n) = bad_string(b'\'', tail);
-        return Ok((Front::Bad(reason), n));
-    };
-    let (mark, m) = mark_at(rest_of(tail, i + 1));
-    Ok((bytes_front(true, mark), i + 1 + m))
+    Ok((quoted_front(quote, mark), i + 1 + m))
 }

@@ -7,7 +7,7 @@ ghost use Rattle.cborn_lex.specs.Cited.{Front as AnyFront, WhiteSpace, is_white,
 ghost use Rattle.cborn_lex.specs.devices.Common.{front_view, FrontStandsFor};
 
 use crate::classes::{Kind, Profile};
-use crate::escaped::{double_quoted, single_quoted};
+use crate::escaped::quoted;
 use crate::faults::LexReason;
 use crate::integers::{number_at, number_from_digit};
 use crate::keywords::word_at;
@@ -147,8 +147,8 @@ fn front_by_character(
         b')' => Ok((Front::Read(Kind::ParenClose), 0)),
         b'0'..=b'9' => Ok(number_from_digit(text, tail, number)),
         b'-' => Ok(number_at(true, tail, number)),
-        b'"' => double_quoted(tail, out),
-        b'\'' => single_quoted(tail, out),
+        b'"' => quoted(b'"', tail, out),
+        b'\'' => quoted(b'\'', tail, out),
         b'a'..=b'z' | b'A'..=b'Z' => word_at(alloc, text, tail, out),
         b'(' => Ok(paren(tail)),
         b'<' => Ok(less(tail)),

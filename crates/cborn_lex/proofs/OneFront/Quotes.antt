@@ -77,13 +77,6 @@ module _ (q : ℕ) (ne : eqb q 92 ≡ false) where
     | inr e ↦ elim (cases_Bool (eqb c q)) [ inl h ↦ inl (at_front c (d ∷ x) h) | inr h ↦ find_plain c d x e h (find (d ∷ x)) ]
   ]
 
-  quoted_one : (c d x y : List ℕ) → is_content q c ≡ true → is_content q d ≡ true → c ++ q ∷ x ≡ d ++ q ∷ y → c ≡ d
-  quoted_one c d x y h k e =
-      let l = content_is c x h in
-      let r = content_is d y k in
-      let m = ap (content_at q) e in
-      cc
-
   quoted_apart : (c x : List ℕ) → is_content q c ≡ true → is_unclosed q (c ++ q ∷ x) ≡ true → ⊥
   quoted_apart c x h k =
       let l = content_is c x h in
@@ -91,4 +84,4 @@ module _ (q : ℕ) (ne : eqb q 92 ≡ false) where
       cc
 
   pub quoted : Closer (is_content q) (is_unclosed q) q
-  quoted = record { find = find; one = quoted_one; apart = quoted_apart }
+  quoted = record { find = find; one = (λ c d x y h k e. let l = content_is c x h in let r = content_is d y k in let m = ap (content_at q) e in cc); apart = quoted_apart }
