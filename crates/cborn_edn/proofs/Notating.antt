@@ -290,11 +290,6 @@ shown_built (a_tag p w n) ts (t, is) =
     (ap (λ l. ((decimal n ++ (indicator (mark_for w n) ++ codes "(")) ++ l) ++ codes ")") (append-nil (shown t)) ∙ simp append_assoc)
 shown_built (in_chunks p k) ts e = chunks_joined k p ts e
 
-written_end : (f : Partial) (o : Opening) (ts : List Tree) → Ends o ts → ((written f ++ separator (next_in f)) ++ (beginning o ++ (late_text o ts ++ following (first o) ts))) ++ ending (next_after (first o) ts) ≡ written (put f (built o ts))
-written_end f o ts e =
-    append_assoc (written f ++ separator (next_in f)) (beginning o ++ (late_text o ts ++ following (first o) ts)) (ending (next_after (first o) ts))
-    ∙ ap (λ l. (written f ++ separator (next_in f)) ++ l) (shown_built o ts e) ∙ sym (written_put f (built o ts))
-
 in_pairs : (ts : List Tree) (p : ℕ) → last_key ts ≡ None → IsBadAmong (trees ts) p → IsBadInPairs (entries (paired ts)) p
 in_pairs [] p e h = h
 in_pairs (k ∷ []) p e h = absurd (let d : Some k ≡ None = e in cc)
@@ -396,7 +391,7 @@ end_held v w f o ts a ends around next bad end h =
           (λ p b. elim (bad_put f (built o ts) p b) [ inl x ↦ inl x | inr y ↦ inr ((bad_built o ts p ends).1 y) ])
           (subst (IsLowest (IsBadIn (inside f o ts))) (sym bad) h.bad);
       lates = λ none. (ended (sym bad ∙ none)).0 ∙ sym (lates_put f (built o ts));
-      text = λ none. (ended (sym bad ∙ none)).1 ∙ written_end f o ts ends;
+      text = λ none. (ended (sym bad ∙ none)).1 ∙ (append_assoc (written f ++ separator (next_in f)) (beginning o ++ (late_text o ts ++ following (first o) ts)) (ending (next_after (first o) ts)) ∙ ap (λ l. (written f ++ separator (next_in f)) ++ l) (shown_built o ts ends) ∙ sym (written_put f (built o ts)));
     }
 
 hex_nothing : encode_lower [] ≡ []

@@ -65,9 +65,9 @@ pub(crate) fn negative_at(text: &[u8], at: usize) -> Option<(u64, usize)>
     Some((n, at + 1 + len))
 }
 
-/// Whether `x` begins with the character `c`.
+/// Whether `tail` begins with the character `c`.
 #[inline(always)]
-fn begins_with(c: u8, tail: &[u8]) -> bool
+pub(crate) fn begins_with(c: u8, tail: &[u8]) -> bool
     ensures { result ≡ begins (λ d. d == c) tail.now }
 {
     tail.len() > 0 && tail[0] == c

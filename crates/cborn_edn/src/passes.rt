@@ -12,7 +12,7 @@ use crate::quick::take_common;
 use crate::quick_ends::take_empty_end;
 use crate::refusals::{first_fault, refused};
 use crate::spellers::Spellers;
-use crate::states::{Arounds, Brackets, Chunks, Here, Level, Phase, Source, Writer};
+use crate::states::{Chunks, Here, Level, Opened, Phase, Source, Writer};
 use crate::steps::take;
 use crate::strings::end_item;
 use crate::tokens::{is_trailing_comma, reach_of};
@@ -84,8 +84,8 @@ impl Writer {
         Writer {
             pieces: Vec::new(alloc),
             start: 0,
-            brackets: Brackets::new(alloc),
-            around: Arounds::new(alloc),
+            brackets: Opened::new(alloc),
+            around: Opened::new(alloc),
             spellers: Spellers::new(alloc),
             string: None,
             chunks: None,

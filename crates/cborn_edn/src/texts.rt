@@ -6,6 +6,7 @@ ghost use Rattle.cborn_edn.specs.devices.Common.{ends_string, NoPieceAt, IsTextA
 ghost use Rattle.cborn_lex.specs.declared.classes.Class.TheVariants as classes;
 ghost use Rattle.cborn_lex.specs.declared.classes.Mark.TheVariants as marks;
 
+use crate::integers::begins_with;
 use crate::white_space::skip_white_space;
 use cborn_lex::{Profile, plain_run, push_letters};
 use std::alloc::AllocError;
@@ -91,7 +92,7 @@ fn white_space_after(profile: Profile, text: &[u8], at: usize) -> Option<usize>
     ensures ends { IfSome result (λ stop. NoPieceAt text.now stop) }
     ensures no_mark { IfSome result (λ stop. begins (λ c. c == 95) (drop at text.now) ≡ false) }
 {
-    if begins_mark(&text[at..]) {
+    if begins_with(b'_', &text[at..]) {
         return None;
     }
     let stop = skip_white_space(profile, text, at)?;
@@ -99,14 +100,6 @@ fn white_space_after(profile: Profile, text: &[u8], at: usize) -> Option<usize>
         return Some(stop);
     }
     None
-}
-
-/// Whether `tail` begins with an underscore, as an indicator does.
-#[inline(always)]
-fn begins_mark(tail: &[u8]) -> bool
-    ensures { result ≡ begins (λ c. c == 95) tail.now }
-{
-    tail.len() > 0 && tail[0] == b'_'
 }
 
 /// Whether the character `c` ends a string that it follows. No piece of a string begins with it.

@@ -192,14 +192,11 @@ more_split f g t u v x e (inr (inr h)) = inr (inr (h.0, cc))
 head_same : {v x : Token} {a b : List Token} → v ∷ a ≡ x ∷ b → v ≡ x
 head_same e = cc
 
-tail_same : {v x : Token} {a b : List Token} → v ∷ a ≡ x ∷ b → a ≡ b
-tail_same e = cc
-
 splits : (f y g z : List Token) (t u : Token) → f ++ (t ∷ y) ≡ g ++ (u ∷ z) → SplitsAs f g t u
 splits [] y [] z t u e = inl (refl, head_same e)
 splits [] y (x ∷ g) z t u e = inr (inl (g, ap (λ l. l ∷ g) (sym (head_same e))))
 splits (v ∷ f) y [] z t u e = inr (inr (f, ap (λ l. l ∷ f) (head_same e)))
-splits (v ∷ f) y (x ∷ g) z t u e = more_split f g t u v x (head_same e) (splits f y g z t u (tail_same e))
+splits (v ∷ f) y (x ∷ g) z t u e = more_split f g t u v x (head_same e) (splits f y g z t u (cc))
 
 module _ (p : Profile) (limit : ℕ) (ts : List Token) where
   -- it stops at one token

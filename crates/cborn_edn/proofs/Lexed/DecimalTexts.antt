@@ -44,10 +44,6 @@ pub record Decimal (n : ℕ) : Type 0 where
   pub digits : AllDigits 10 (first ∷ rest)
   pub spells : (negative : Bool) → integer negative (first ∷ rest) ≡ Ok n
 
-no_zero : (n : ℕ) → 0 < n → n < 10 ^ 64 → 48 < get_or (decimal n) 0 0
-no_zero n some small = (decimal_by_steps_wide (λ m ds. (0 < length ds) × (0 < m → 48 < get_or ds 0 0)) (λ m l. (omega arith, λ a. omega arith))
-    (λ m ds l h. (omega (arith, length-append ds ((48 + m % 10) ∷ [])), λ a. omega (arith, get_or-append ds ((48 + m % 10) ∷ []) 0 0 h.0, h.1 (omega arith)))) n small).1 some
-
 small_decimal : (n : ℕ) (ds : List ℕ) → 0 < n → n < 2 ^ 128 → decimal n ≡ ds → 48 < get_or ds 0 0 → AllDigits 10 ds → digits_value_after 10 0 ds ≡ n → Decimal n
 small_decimal n [] some small e h d v = absurd (omega arith)
 small_decimal n (c ∷ ds) some small e h d v = record {
@@ -62,7 +58,7 @@ pub decimal_text : (n : ℕ) → n < 2 ^ 65 → Decimal n
 decimal_text n h = elim (cases_lt 0 n) [
   | inl some ↦
       let r = decimal_is_IsNumeral_wide n (omega arith) in
-      small_decimal n (decimal n) some (omega arith) refl (no_zero n some (omega arith)) r.0.1 r.1
+      small_decimal n (decimal n) some (omega arith) refl ((decimal_by_steps_wide (λ m ds. (0 < length ds) × (0 < m → 48 < get_or ds 0 0)) (λ m l. (omega arith, λ a. omega arith)) (λ m ds l h. (omega (arith, length-append ds ((48 + m % 10) ∷ [])), λ a. omega (arith, get_or-append ds ((48 + m % 10) ∷ []) 0 0 h.0, h.1 (omega arith)))) n (omega arith)).1 some) r.0.1 r.1
   | inr none ↦
       let e : n ≡ 0 = omega arith in
       subst Decimal (sym e) (record { first = 48; rest = []; whole = decimal_digit 0 (omega arith); digits = (omega arith, tt); spells = λ negative. refl })

@@ -77,9 +77,6 @@ text_text x m z h k close =
 
 -- empty strings in no chunks
 
-pub no_text_chunks : (z : List ℕ) → Closes z → Chained (codes "\"\"_") z (token nowhere (Text [] Endless) ∷ [])
-no_text_chunks z close = text_text [] Endless z tt tt close
-
 pub no_byte_chunks : (z : List ℕ) → Closes z → Chained (codes "''_") z (token nowhere (Bytes true [] Endless) ∷ [])
 no_byte_chunks z close =
     one_token (Bytes true [] Endless) (codes "''_") z (inl (

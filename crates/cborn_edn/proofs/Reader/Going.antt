@@ -93,9 +93,6 @@ module _ (profile : Profile) (limit : ℕ) (text : List ℕ) (at : ℕ) (s : Sta
       let high : leb (reach (open_levels s) t.class) limit ≡ false = lt-leb _ _ far in
       syntax t TooDeep fault next (λ more end. r.runs t t.stop next more end ∙ ap (λ c. after_token profile limit end t more c (leb (reach (open_levels s) t.class) limit)) here ∙ ap (λ b. after_token profile limit end t more (Some u) b) high) h
 
-pub never_taken : (profile : Profile) (limit : ℕ) (s : State) (t : Token) → step s t ≡ None → checked profile limit s t (step s t) ≡ None
-never_taken profile limit s t e = ap (checked profile limit s t) e
-
 pub free_none : (p : Profile) → forbids p 0 ≡ false
 free_none One = refl
 free_none Two = refl
@@ -107,9 +104,6 @@ open_free p (wants st) (kinds.EmbedClose m) n x e = clash e
 open_free p (wants st) _ n x e = free_none p
 open_free p _ k n x e = free_none p
 
-two_free : (c : ℕ) → forbids Two c ≡ false
-two_free c = refl
-
 -- no bracket ends there after a comma
 pub tight_free : (p : Profile) (s : State) (k : Kind) (n : ℕ) (x : List ℕ) → (phase_of s ≡ WantsMore → ⊥) → forbids p (comma_at s (class_of k n x)) ≡ false
 tight_free p (wants (in_row m (after_row r c))) k n x e = absurd (e refl)
@@ -119,7 +113,7 @@ tight_free p _ _ n x e = free_none p
 
 -- the token is no bracket that ends after a comma
 pub not_trailing : (p : Profile) (s : State) (k : Kind) (n : ℕ) (x : List ℕ) → is_trailing_comma p (phase_of s) k ≡ false → forbids p (comma_at s (class_of k n x)) ≡ false
-not_trailing Two s k n x e = two_free (comma_at s (class_of k n x))
+not_trailing Two s k n x e = refl
 not_trailing One s k n x e = go (phase_of s) refl e
   where
     go : (st : Phase) → phase_of s ≡ st → is_trailing_comma One st k ≡ false → forbids One (comma_at s (class_of k n x)) ≡ false

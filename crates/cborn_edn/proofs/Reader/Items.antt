@@ -85,12 +85,6 @@ chunks_here profile text at h e f g =
     let bare : begins is_word (drop (at + 2) text) ≡ false = ap (begins is_word) space in
     token_here profile text (40 ∷ 95 ∷ []) (drop (at + 2) text) at (at + 2) ChunkOpen all refl (good.chunk_open (drop (at + 2) text) bare)
 
--- a text string without an indicator, whose content of len characters stands for these bytes
-text_here : (profile : Profile) (text tail bytes : List ℕ) (at len : ℕ) → at < length text → get_or text at 0 ≡ 34 → tail ≡ drop (at + 1) text → len < length tail → get_or tail len 0 ≡ 34 → is_content 34 (take len tail) ≡ true → IsText 34 (take len tail) bytes → begins (λ c. eqb c 95) (drop (len + 1) tail) ≡ false → IsTokenAt profile text at (at + len + 2) (Text bytes Absent)
-text_here profile text tail bytes at len h e t l q i is b =
-    let s = ended text tail at len 34 34 h e t l q in
-    token_here profile text (34 ∷ take len tail ++ 34 ∷ []) (drop (len + 1) tail) at (at + len + 2) (Text bytes Absent) s.whole s.size (good.text (take len tail) bytes [] (drop (len + 1) tail) Absent i is (b, refl))
-
 -- LAW: plain letters up to a quote are a content, which stands for itself
 pub plain_here : (tail : List ℕ) (len : ℕ) → len < length tail → get_or tail len 0 ≡ 34 → list_all (is_plain 34) (take len tail) ≡ true → (is_content 34 (take len tail) ≡ true) × IsText 34 (take len tail) (take len tail)
 plain_here tail len h e p =
@@ -107,7 +101,7 @@ text_at profile text tail bytes at len stop h e t l q i is b white none inside =
     let after : drop (at + len + 2) text ≡ drop (len + 1) tail = ap (λ n. drop n text) (sym place) ∙ sym (drop-drop (len + 1) (at + 1) text) ∙ ap (drop (len + 1)) (sym t) in
     record {
       stop = at + len + 2;
-      token = text_here profile text tail bytes at len h e t l q i is (subst (λ (y : List ℕ). begins (λ c. eqb c 95) y ≡ false) after b);
+      token = (let s = ended text tail at len 34 34 h e t l q in token_here profile text (34 ∷ take len tail ++ 34 ∷ []) (drop (len + 1) tail) at (at + len + 2) (Text bytes Absent) s.whole s.size (good.text (take len tail) bytes [] (drop (len + 1) tail) Absent i is ((subst (λ (y : List ℕ). begins (λ c. eqb c 95) y ≡ false) after b), refl)));
       utf8 = λ u. text_utf8 34 (take len tail) bytes is (subst (λ (y : List ℕ). IsUtf8 (take len y)) (sym t) (slice_utf8 text at len u h (omega (arith, e)) (subst (λ (y : List ℕ). len < length y) t l) (subst (λ (y : List ℕ). get_or y len 0 < 128) t (omega (arith, q)))));
       white_space = white;
       ends = none;

@@ -1,8 +1,9 @@
 -- Frequent tokens, taken without the lexer: the reader goes on as the machine of tokens does.
-use Rattle.cborn_edn.proofs.Common.{◌≡◌, refl, sym, ap, ◌∙◌, subst, ℕ, zero, suc, ◌+◌, ◌^◌, ◌<◌, ◌≤◌, List, [], ◌∷◌, length, Bool, true, false, Some, arith, ◌⊎◌, inl, inr, lt-ltb, AreBytes, IsUtf8, Between, TokensBetween, class_of, Kind, Class, Number, Text, Mark, Absent, Profile, Token, is_small, reach, Span, Item, Pieces, piece, string, StringsBefore, IsTokenAt, IsTextAt, NoPieceAt, Here, Writer, IsModest, AreModest, Holds, Reads, MayEnd, Taken, has_chunks, IsReadTo, Reached, if◌then◌else◌, text as piece_text, Stack, Home, as_item, as_chunk, State, wants, has, builds, wants_number, step_by, open_levels, comma_at, comma_in, forbids}
+use Rattle.cborn_edn.proofs.Common.{sized_end, ◌≡◌, refl, sym, ap, ◌∙◌, subst, ℕ, zero, suc, ◌+◌, ◌^◌, ◌<◌, ◌≤◌, List, [], ◌∷◌, length, Bool, true, false, Some, arith, ◌⊎◌, inl, inr, lt-ltb, AreBytes, IsUtf8, Between, TokensBetween, class_of, Kind, Class, Number, Text, Mark, Absent, Profile, Token, is_small, reach, Span, Item, Pieces, piece, string, StringsBefore, IsTokenAt, IsTextAt, NoPieceAt, Here, Writer, IsModest, AreModest, Holds, Reads, MayEnd, Taken, has_chunks, IsReadTo, Reached, if◌then◌else◌, text as piece_text, Stack, Home, as_item, as_chunk, State, wants, has, builds, wants_number, step_by, open_levels, comma_at, comma_in, forbids}
 use Rattle.cborn_lex.proofs.GoodTexts.{through}
 use Rattle.cborn_lex.proofs.WholeTexts.Progress.{inside, few}
 use Rattle.cborn_lex.proofs.WholeTexts.Weights.{between_modest, utf8_bytes}
+use Rattle.cborn_lex.specs.declared.classes.Kind.TheVariants as kinds
 use Rattle.cborn_edn.specs.declared.states.Phase.TheVariants as phases
 use Rattle.cborn_edn.proofs.Reader.Counts.{shown_few, brackets_levels}
 use Rattle.cborn_edn.proofs.Reader.Going.{goes_on, skips, free_none, tight_free}
@@ -25,6 +26,15 @@ number_low l limit n v m small low = subst (λ b. l + (if b then 0 else 1) ≤ l
     fits true zero h = refl
     fits true (suc v) h = lt-ltb v (2 ^ 64) (omega (arith, h))
     fits false v h = lt-ltb v (2 ^ 64) h
+
+-- the bracket that ends an array or a map has no content, and no level of its own
+pub sized_kind : (m : Bool) → (k : Kind) × (sized_end m ≡ class_of k 0 [])
+sized_kind true = (kinds.MapClose, refl)
+sized_kind false = (kinds.ArrayClose, refl)
+
+pub sized_low : (m : Bool) (l limit : ℕ) → reach l (sized_end m) ≤ limit
+sized_low true l limit = omega arith
+sized_low false l limit = omega arith
 
 -- LAW: a token isn't empty
 pub beyond : (p : Profile) (text : List ℕ) (at stop : ℕ) (c : Class) → IsTokenAt p text at stop c → at < stop
@@ -66,9 +76,6 @@ module _ {h : Holds} {p : Profile} {limit : ℕ} {text : List ℕ} {here : Here}
   token_found : {x : List ℕ} → x ≡ text → (c : Class) (stop : ℕ) → ((q : Profile) → IsTokenAt q x here.at stop c) → IsTokenAt p text here.at stop c
   token_found same c stop found = subst (λ (y : List ℕ). IsTokenAt p y here.at stop c) same (found p)
 
-  pub beyond_found : {x : List ℕ} → x ≡ text → (c : Class) (stop : ℕ) → ((q : Profile) → IsTokenAt q x here.at stop c) → here.at < stop
-  beyond_found same c stop found = beyond p text here.at stop c (token_found same c stop found)
-
   pub modest_found : {x : List ℕ} → x ≡ text → (c : Class) (stop : ℕ) → ((q : Profile) → IsTokenAt q x here.at stop c) → IsModest c
   modest_found same c stop found = modest_at p text here.at stop c (utf8_bytes text r.utf8) (token_found same c stop found)
 
@@ -108,7 +115,7 @@ module _ {h : Holds} {p : Profile} {limit : ℕ} {text : List ℕ} {here : Here}
     taken u is e free low =
         let between : Between p text here.at stop (token_at here.at stop c ∷ []) = through p (token_found same c stop found) in
         let modest : AreModest (token_at here.at stop c ∷ []) = (modest_found same c stop found, tt) in
-        (record { utf8 = r.utf8; small = r.small; inside = (inside p text here.at stop (token_at here.at stop c ∷ []) r.inside between).1; state = u; reached = goes_on p limit text here.at r.state r.reached stop (token_at here.at stop c) u between modest is free low; shows = read_at next left left.pieces.items u stop e }, beyond_found same c stop found)
+        (record { utf8 = r.utf8; small = r.small; inside = (inside p text here.at stop (token_at here.at stop c ∷ []) r.inside between).1; state = u; reached = goes_on p limit text here.at r.state r.reached stop (token_at here.at stop c) u between modest is free low; shows = read_at next left left.pieces.items u stop e }, (beyond p text here.at stop c (token_found same c stop found)))
 
     -- from the state that is shown
     pub taken_from : (s u : State) → s ≡ r.state → step_by s c (span_at here.at stop) ≡ Some u → Reads k next left left.pieces.items u → forbids p (comma_at s c) ≡ false → reach (open_levels s) c ≤ limit → IsReadTo k p limit text (record next { at = stop }) left × (here.at < stop)

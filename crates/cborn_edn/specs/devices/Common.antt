@@ -8,6 +8,6 @@ pub use Rattle.cborn_edn.specs.devices.MeaningErrors.{Notes, first_error, is_non
 pub use Rattle.cborn_edn.specs.devices.Noted.{noted}
 pub use Rattle.cborn_edn.specs.devices.Reading.{AtEnd, Goes, IsInside, IsReading, IsWanting, Judged, Last, of_text}
 pub use Rattle.cborn_edn.specs.devices.Said.{Parsed}
-pub use Rattle.cborn_edn.specs.devices.Shows.{Shows, content_state, entries_at, fields_state, piece_of}
+pub use Rattle.cborn_edn.specs.devices.Shows.{Shows, Sized, content_state, entries_at, piece_of}
 pub use Rattle.cborn_edn.specs.devices.Steps.{EndsAt, IsReady, MayEnd, Taken, Takes, Turned, Turns, is_piece, takes_no_piece}
 pub use Rattle.cborn_edn.specs.devices.Syntax.{Content, Fields, Input, Item, PairsBefore, Pieces, RowBefore, Span, Strings, StringsBefore, after_pairs, after_row, after_strings, array, chunked, embedded, map, no_item, no_pair, no_string, number, pairs, piece, row, simple, string, strings, tag, text, tokens_of_input, word}
