@@ -14,10 +14,9 @@ pub use Rattle.cborn_edn.specs.declared.states.OpenBracket.{OpenBracket}
 pub use Rattle.cborn_edn.specs.declared.states.Phase.{Phase}
 pub use Rattle.cborn_edn.specs.declared.states.Phase.TheVariants.{Builds, Has, HasNumber, Wants, WantsMore, WantsNumber}
 pub use Rattle.cborn_edn.specs.declared.states.Writer.{Writer}
-pub use Rattle.cborn_lex.specs.Bad.{FailsAt}
+pub use Rattle.cborn_lex.specs.Bad.{FailsAt, HasNoTokenFrom}
 pub use Rattle.cborn_lex.specs.Good.{HasTokens, IsName, TokensBetween}
 pub use Rattle.cborn_lex.specs.Kinds.{StandsFor, class_of}
-pub use Rattle.cborn_lex.specs.Lex.{Between, IsStopFrom}
 pub use Rattle.cborn_lex.specs.Tokens.{begins, is_not, is_white, is_word}
 pub use Rattle.cborn_lex.specs.declared.classes.Class.{Class}
 pub use Rattle.cborn_lex.specs.declared.classes.Class.TheVariants.{ArrayClose, ArrayOpen, ChunkOpen, Colon, Comma, EmbedClose, EmbedOpen, MapClose, MapOpen, Number, ParenClose, SimpleOpen, TagOpen, Word}

@@ -9,7 +9,6 @@ ghost use Rattle.cborn_model.specs.Bytes.{AreBytes};
 ghost use Rattle.cborn_model.specs.Value.{Values};
 ghost use Rattle.cborn_model.specs.Meaning.{AllMean};
 ghost use Rattle.cborn_lex.specs.declared.faults.LexReason.{LexReason};
-ghost use Rattle.cborn_edn.specs.devices.Parse as trees;
 ghost use Rattle.cborn_edn.specs.ReadingBack.{unplaced_token, notated_input, unplaced_all};
 ghost use Rattle.cborn_edn.specs.Starts.{spots_all, IsRising};
 
@@ -85,9 +84,7 @@ pub fn spots_rise()
 
 /// The trees of the grammar, a device of the proofs, agree with its relation. Tokens are a text of
 /// the grammar exactly if they are those of a tree, which says the same nodes and has the same
-/// meaning errors. They have the same syntax errors.
+/// meaning errors.
 pub fn short_form()
-    ensures text { (profile : Profile) (limit : ℕ) (tokens : List Token) (nodes : Trees) (errors : List MeaningError) → Parsed profile limit tokens nodes errors ↔ IsText profile limit tokens nodes errors }
-    ensures tree { (profile : Profile) (limit : ℕ) (tokens : List Token) → trees.HasTree profile limit tokens ↔ HasTree profile limit tokens }
-    ensures syntax_error { (profile : Profile) (limit end : ℕ) (tokens : List Token) (p : ℕ) (r : EdnReason) → trees.IsSyntaxError profile limit end tokens p r ↔ IsSyntaxError profile limit end tokens p r }
+    ensures { (profile : Profile) (limit : ℕ) (tokens : List Token) (nodes : Trees) (errors : List MeaningError) → Parsed profile limit tokens nodes errors ↔ IsText profile limit tokens nodes errors }
 {}

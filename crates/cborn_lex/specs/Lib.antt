@@ -6,7 +6,6 @@ pub mod Forms
 pub mod Good
 pub mod Kinds
 pub mod Bad
-pub mod Lex
 pub mod Cited
 pub mod shared
 pub mod devices

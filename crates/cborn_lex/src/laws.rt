@@ -2,8 +2,7 @@
 
 ghost use Rattle.std.specs.Prelude.{◌≡◌, ◌↔◌, Some, None, ℕ, ◌<◌, List, [], ◌++◌, ◌⊎◌, length, drop};
 ghost use Rattle.cborn_lex.specs.Common.{IsBytes, Class, Token, LexFault};
-ghost use Rattle.cborn_lex.specs.Cited.{WhiteSpace, Read, Bad, Reads, Takes, HasTokens, TokensBetween, Fails, BeginsNothing, FailsAt, HasNoTokens, HasNoTokenFrom};
-ghost use Rattle.cborn_lex.specs.Lex.{Lex, Stop, SpansRise};
+ghost use Rattle.cborn_lex.specs.Cited.{WhiteSpace, Read, Bad, Reads, Takes, HasTokens, TokensBetween, Fails, BeginsNothing, FailsAt, HasNoTokens, HasNoTokenFrom, SpansRise};
 
 use crate::classes::Profile;
 use crate::faults::LexReason;
@@ -41,12 +40,10 @@ pub fn token_by_token()
     ensures stops { (profile : Profile) (text : List ℕ) (m n : ℕ) (ts : List Token) (e : LexFault) → TokensBetween profile text m n ts → HasNoTokenFrom profile text n e → HasNoTokenFrom profile text m e }
 {}
 
-/// `Reads` and `Takes` agree on white space and tokens, and so on the tokens of a text. `Reads` is
-/// a device of the proofs.
+/// `Reads` and `Takes` agree on white space and tokens. `Reads` is a device of the proofs.
 pub fn good_tokens()
     ensures white_space { (profile : Profile) (s z : List ℕ) → Reads profile s z WhiteSpace ↔ Takes profile s z None }
     ensures token { (profile : Profile) (s z : List ℕ) (k : Class) → Reads profile s z (Read k) ↔ Takes profile s z (Some k) }
-    ensures texts { (profile : Profile) (text : List ℕ) (tokens : List Token) → Lex profile text tokens ↔ HasTokens profile text tokens }
 {}
 
 /// `Reads` and `Fails` agree on lexical faults and their reasons. `Reads` is a device of the
@@ -54,5 +51,4 @@ pub fn good_tokens()
 pub fn bad_tokens()
     ensures front { (profile : Profile) (s z : List ℕ) (r : LexReason) → Reads profile s z (Bad r) → Fails profile (s ++ z) r }
     ensures back { (profile : Profile) (y : List ℕ) (r : LexReason) → Fails profile y r → (s : List ℕ) × (z : List ℕ) × (y ≡ s ++ z) × Reads profile s z (Bad r) }
-    ensures texts { (profile : Profile) (text : List ℕ) (n : ℕ) (r : LexReason) → Stop profile text n r ↔ FailsAt profile text n r }
 {}

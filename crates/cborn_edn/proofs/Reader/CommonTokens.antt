@@ -1,17 +1,8 @@
 -- Tokens, white space and comments, from the characters at an offset of a text.
-use Rattle.cborn_edn.proofs.Common.{Bool, false, if◌then◌else◌, ArrayClose, MapClose, sized_end, ◌≡◌, refl, sym, ap, ◌∙◌, subst, ℕ, ◌+◌, ◌<◌, List, [], ◌∷◌, ◌++◌, length, take, drop, get_or, true, Some, None, arith, append_assoc, append-nil, drop-append_seam, drop-drop, drop_more, take-append-drop, length-take-le, list_all, and_parts, and_from, Profile, Class, Token, is_white, is_not, is_plain, Covers, TokensBetween, IsTokenAt, length-append, length-drop, ProfileTwo as Two}
+use Rattle.cborn_edn.proofs.Common.{Bool, false, if◌then◌else◌, ArrayClose, MapClose, sized_end, ◌≡◌, refl, sym, ap, ◌∙◌, subst, ℕ, ◌+◌, ◌<◌, List, [], ◌∷◌, ◌++◌, length, take, drop, get_or, true, Some, None, arith, append_assoc, append-nil, drop-append_seam, drop-drop, drop_more, take-append-drop, length-take-le, list_all, and_parts, and_from, Profile, Class, is_white, is_not, is_plain, Covers, TokensBetween, IsTokenAt, length-append, length-drop, ProfileTwo as Two}
 use Rattle.cborn_lex.specs.Good as good
 use Rattle.cborn_lex.specs.Good.{Takes}
-use Rattle.cborn_lex.proofs.GoodTexts.{covers, through}
-use Rattle.cborn_lex.proofs.WholeTexts.Progress.{joins}
-
--- LAW: the tokens between three places
-pub join : (profile : Profile) (text : List ℕ) (l m n : ℕ) (ts us : List Token) → TokensBetween profile text l m ts → TokensBetween profile text m n us → TokensBetween profile text l n (ts ++ us)
-join profile text l m n ts us h k = covers profile (joins profile text l m n ts us (through profile h) (through profile k))
-
--- LAW: no token is between a place and itself
-pub nothing : (profile : Profile) (text : List ℕ) (n : ℕ) → TokensBetween profile text n n []
-nothing profile text n = good.end n (drop n text)
+pub use Rattle.cborn_lex.proofs.WholeTexts.Progress.{joins as join, nothing}
 
 -- what follows the slice s
 rest_of : (text s z : List ℕ) (at stop : ℕ) → drop at text ≡ s ++ z → stop ≡ at + length s → drop stop text ≡ z

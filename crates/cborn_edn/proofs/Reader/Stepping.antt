@@ -1,8 +1,6 @@
 -- One token that is read: the reader goes on, or refuses the text.
-use Rattle.cborn_edn.proofs.Common.{◌≡◌, refl, sym, ap, ◌∙◌, subst, ℕ, ◌^◌, ◌<◌, ◌≤◌, List, [], ◌∷◌, ◌++◌, length, Bool, false, Option, Some, None, arith, ◌⊎◌, inl, inr, AreBytes, Between, IsStopFrom, class_of, content_of, IsNextBareToken, BareToken, Class, Profile, Token, LexFault, AreModest, EdnReason, UnexpectedToken, TooDeep, EdnFault, Refused, IsNoNotation, lexical, reach, Here, Writer, phase_of, Holds, Reads, Ready, Taken, Takes, is_trailing_comma, IsReadTo, Judged, State, open_levels, checked}
-use Rattle.cborn_lex.proofs.GoodTexts.{through}
-use Rattle.cborn_lex.proofs.WholeTexts.Progress.{inside, few}
-use Rattle.cborn_lex.proofs.WholeTexts.Weights.{between_modest}
+use Rattle.cborn_edn.proofs.Common.{◌≡◌, refl, sym, ap, ◌∙◌, subst, ℕ, ◌^◌, ◌<◌, ◌≤◌, List, [], ◌∷◌, ◌++◌, length, Bool, false, Option, Some, None, arith, ◌⊎◌, inl, inr, AreBytes, TokensBetween, HasNoTokenFrom, class_of, content_of, IsNextBareToken, BareToken, Class, Profile, Token, LexFault, AreModest, EdnReason, UnexpectedToken, TooDeep, EdnFault, Refused, IsNoNotation, lexical, reach, Here, Writer, phase_of, Holds, Reads, Ready, Taken, Takes, is_trailing_comma, IsReadTo, Judged, State, open_levels, checked, few, between_modest}
+use Rattle.cborn_lex.proofs.WholeTexts.Progress.{inside}
 use Rattle.cborn_edn.proofs.Reader.Going.{goes_on, ends, unexpected, too_deep, not_trailing, trailing}
 use Rattle.cborn_edn.proofs.Reader.Counts.{shown_few, brackets_levels}
 
@@ -19,7 +17,7 @@ module _ (p : Profile) (text : List ℕ) (are : AreBytes text) (here : Here) (w 
   -- a token that was read
   pub record ReadToken (n : ℕ) (v : Writer) (t : BareToken) : Type 0 where
     pub content : List ℕ
-    pub between : Between p text here.at t.stop (record { start = t.start; stop = t.stop; class = class_of t.kind n content } ∷ [])
+    pub between : TokensBetween p text here.at t.stop (record { start = t.start; stop = t.stop; class = class_of t.kind n content } ∷ [])
     pub modest : AreModest (record { start = t.start; stop = t.stop; class = class_of t.kind n content } ∷ [])
     pub written : v.pieces.items ≡ w.pieces.items ++ content_of (class_of t.kind n content)
 
@@ -27,7 +25,7 @@ module _ (p : Profile) (text : List ℕ) (are : AreBytes text) (here : Here) (w 
   token_read o n v t read is =
       let f = subst (λ (q : Option BareToken). IsNextBareToken p text here.at q n w.pieces.items v.pieces.items) is read in
       let s = f.2 in
-      let here-is : Between p text here.at t.stop (record { start = t.start; stop = t.stop; class = class_of t.kind n s.content } ∷ []) = subst (λ (k : Class). Between p text here.at t.stop (record { start = t.start; stop = t.stop; class = k } ∷ [])) s.class (through p f.1) in
+      let here-is : TokensBetween p text here.at t.stop (record { start = t.start; stop = t.stop; class = class_of t.kind n s.content } ∷ []) = subst (λ (k : Class). TokensBetween p text here.at t.stop (record { start = t.start; stop = t.stop; class = k } ∷ [])) s.class f.1 in
       let there = between_modest p text here.at t.stop (record { start = t.start; stop = t.stop; class = class_of t.kind n s.content } ∷ []) are here-is in
       record {
         content = s.content;
@@ -46,7 +44,7 @@ module _ {h : Holds} (p : Profile) (limit : ℕ) (text : List ℕ) (are : AreByt
         small = r.small;
         inside = omega arith;
         state = r.state;
-        reached = ends p limit text here.at r.state r.reached (through p f.0);
+        reached = ends p limit text here.at r.state r.reached f.0;
         shows = read_at here (record w { pieces = v.pieces }) v.pieces.items r.state (length text) (subst (λ l. Reads h here (record w { pieces = v.pieces }) l r.state) (sym f.1) (same_read here w v w.pieces.items r.state r.shows));
       }
 
@@ -94,7 +92,7 @@ module _ {h : Holds} (p : Profile) (limit : ℕ) (text : List ℕ) (are : AreByt
 
       -- the text is refused
       pub refusal : (why : EdnReason) (fault : EdnFault) → Judged bad ok deep limit (Some why)
-          → ((more : List Token) × Between p text t.stop (length text) more × (fault ≡ Refused t.start why)) ⊎ ((stop : LexFault) × IsStopFrom p text t.stop stop × (fault ≡ lexical stop)) → IsNoNotation p limit text fault
+          → ((more : List Token) × TokensBetween p text t.stop (length text) more × (fault ≡ Refused t.start why)) ⊎ ((stop : LexFault) × HasNoTokenFrom p text t.stop stop × (fault ≡ lexical stop)) → IsNoNotation p limit text fault
       refusal UnexpectedToken fault (inl e) f =
           unexpected p limit text here.at r.state r.reached the_token fault i.between (trailing p limit r.state t.kind n t.start t.stop i.content (ap (λ st. is_trailing_comma p st t.kind) (sym r.shows.shows.phase) ∙ sym b ∙ e)) f
       refusal UnexpectedToken fault (inr e) f =

@@ -1,5 +1,5 @@
 -- A device of the proofs: a text that is read up to some place. No definition cites it.
-use Rattle.cborn_edn.specs.Common.{Bor, IsUtf8, Between, Kind, Profile, One, Token, AreModest, trees, FitsAll, top, no_part, Level, Chunks, EdnReason, UnexpectedToken, TooDeep, Phase, Wants, WantsMore, Has, Builds, Here, Writer}
+use Rattle.cborn_edn.specs.Common.{Bor, IsUtf8, TokensBetween, Kind, Profile, One, Token, AreModest, trees, FitsAll, top, no_part, Level, Chunks, EdnReason, UnexpectedToken, TooDeep, Phase, Wants, WantsMore, Has, Builds, Here, Writer}
 use Rattle.std.specs.Prelude.{◌≡◌, ◌⊎◌, ℕ, ◌^◌, ◌<◌, ◌≤◌, List, [], ◌∷◌, ◌++◌, length, Bool, true, false, not, Option, Some, None}
 use Rattle.cborn_lex.specs.declared.classes.Kind.TheVariants as kinds
 use Rattle.cborn_edn.specs.devices.Syntax.{Item, Pieces, string, RowBefore, row, Input, nothing, items}
@@ -25,10 +25,10 @@ is_trailing_comma _ _ k = false
 -- the tokens of the text up to an offset lead to a state
 pub record Reached (profile : Profile) (limit : ℕ) (text : List ℕ) (at : ℕ) (s : State) : Type 0 where
   pub tokens : List Token
-  pub between : Between profile text 0 at tokens
+  pub between : TokensBetween profile text 0 at tokens
   pub modest : AreModest tokens
   pub held : held s ≡ tokens
-  pub runs : (t : Token) (stop : ℕ) → Between profile text at stop (t ∷ []) → (more : List Token) (end : ℕ) → parse profile limit end (tokens ++ (t ∷ more)) start ≡ parse profile limit end (t ∷ more) s
+  pub runs : (t : Token) (stop : ℕ) → TokensBetween profile text at stop (t ∷ []) → (more : List Token) (end : ℕ) → parse profile limit end (tokens ++ (t ∷ more)) start ≡ parse profile limit end (t ∷ more) s
   pub stops : (end : ℕ) → parse profile limit end tokens start ≡ parse profile limit end [] s
 
 -- the reader is at an offset of the text, and what it keeps shows the state there

@@ -1,5 +1,5 @@
 -- The laws of whole texts.
-use Rattle.cborn_lex.proofs.Common.{◌≡◌, refl, sym, ap, ◌∙◌, subst, ℕ, zero, suc, ◌<◌, List, [], ◌∷◌, ◌++◌, length, true, ◌⊎◌, inl, inr, append_assoc, append-nil, arith, and_parts, list_all-append, Profile, One, Two, LexReason, Token, Front, WhiteSpace, Read, Bad, Start, hash, start_of, ReadsFrom, Reads, Lex, HasNoPiece, Stop, SpansRise, Lexeme, white_space, token, slice, front_of, spelled, AreRead, tokens, BeginsNoPiece, drop, ◌≤◌, ◌+◌, length-append}
+use Rattle.cborn_lex.proofs.Common.{◌≡◌, refl, sym, ap, ◌∙◌, subst, ℕ, zero, suc, ◌<◌, List, [], ◌∷◌, ◌++◌, length, true, ◌⊎◌, inl, inr, append_assoc, append-nil, arith, and_parts, list_all-append, Profile, One, Two, LexReason, Token, Front, WhiteSpace, Read, Bad, Start, hash, start_of, ReadsFrom, Reads, HasTokens, BeginsNothing, FailsAt, SpansRise, Lexeme, white_space, token, slice, front_of, spelled, AreRead, tokens, BeginsNoPiece, drop, ◌≤◌, ◌+◌, length-append}
 use Rattle.cborn_lex.proofs.WholeTexts.Parts.{lex_parted, parted_lex, stop_parted, parted_stop, has_no_piece}
 use Rattle.cborn_lex.proofs.Sliced.Pieces.{front_is}
 use Rattle.cborn_lex.proofs.OneFront.Runs.{rest}
@@ -51,14 +51,14 @@ bad_ends profile s z r h p x k e = not_bad p r (sym (one_front profile s z (slic
 whole_text : (text : List ℕ) (ps : List Lexeme) → text ≡ spelled ps → text ≡ spelled ps ++ []
 whole_text text ps e = e ∙ sym (append-nil (spelled ps))
 
-pub one_list : (profile : Profile) (text : List ℕ) (ts us : List Token) → Lex profile text ts → Lex profile text us → ts ≡ us
+pub one_list : (profile : Profile) (text : List ℕ) (ts us : List Token) → HasTokens profile text ts → HasTokens profile text us → ts ≡ us
 one_list profile text ts us a b =
     let h = lex_parted profile text ts a in
     let k = lex_parted profile text us b in
     let r = one_chain profile h.pieces k.pieces [] [] h.read k.read (end_ends profile) (end_ends profile) (sym (whole_text text h.pieces h.whole) ∙ whole_text text k.pieces k.whole) in
     h.placed ∙ (ap (tokens 0) r.0 ∙ sym k.placed)
 
-pub not_both : (profile : Profile) (text : List ℕ) (ts : List Token) (p : ℕ) (r : LexReason) → Lex profile text ts → Stop profile text p r → ⊥
+pub not_both : (profile : Profile) (text : List ℕ) (ts : List Token) (p : ℕ) (r : LexReason) → HasTokens profile text ts → FailsAt profile text p r → ⊥
 not_both profile text ts p r a b =
     let h = lex_parted profile text ts a in
     let k = stop_parted profile text p r b in
@@ -68,7 +68,7 @@ not_both profile text ts p r a b =
 bad_reason : (r s : LexReason) → Bad r ≡ Bad s → r ≡ s
 bad_reason r s e = cc
 
-pub one_stop : (profile : Profile) (text : List ℕ) (p q : ℕ) (r s : LexReason) → Stop profile text p r → Stop profile text q s → (p ≡ q) × (r ≡ s)
+pub one_stop : (profile : Profile) (text : List ℕ) (p q : ℕ) (r s : LexReason) → FailsAt profile text p r → FailsAt profile text q s → (p ≡ q) × (r ≡ s)
 one_stop profile text p q r s a b =
     let h = stop_parted profile text p r a in
     let k = stop_parted profile text q s b in
@@ -81,17 +81,17 @@ shorter : (profile : Profile) (s z text : List ℕ) (a : Front) → Reads profil
 shorter profile [] z text a h e = absurd h
 shorter profile (c ∷ s) z text a h e = omega (arith, ap length e, length-append s z)
 
-pub stop_inside : (profile : Profile) (text : List ℕ) (p : ℕ) (r : LexReason) → Stop profile text p r → p < length text
+pub stop_inside : (profile : Profile) (text : List ℕ) (p : ℕ) (r : LexReason) → FailsAt profile text p r → p < length text
 stop_inside profile text p r a =
     let h = stop_parted profile text p r a in
     let some = shorter profile h.front h.rest (h.front ++ h.rest) (Bad r) h.bad refl in
     omega (arith, ap length h.whole, h.place, length-append (spelled h.pieces) (h.front ++ h.rest))
 
-pub stop_no_piece : (profile : Profile) (text : List ℕ) (p : ℕ) (r : LexReason) → Stop profile text p r → HasNoPiece profile (drop p text)
+pub stop_no_piece : (profile : Profile) (text : List ℕ) (p : ℕ) (r : LexReason) → FailsAt profile text p r → BeginsNothing profile (drop p text)
 stop_no_piece profile text p r a =
     let h = stop_parted profile text p r a in
     let rest : drop p text ≡ h.front ++ h.rest = (front_is p text (spelled h.pieces) (h.front ++ h.rest) h.whole (sym h.place)).1 in
-    subst (HasNoPiece profile) (sym rest) (has_no_piece profile (h.front ++ h.rest) (bad_ends profile h.front h.rest r h.bad))
+    subst (BeginsNothing profile) (sym rest) (has_no_piece profile (h.front ++ h.rest) (bad_ends profile h.front h.rest r h.bad))
 
 -- Spans.
 
@@ -113,7 +113,7 @@ spans profile (token k s ∷ ps) n z h =
     let long = some_long profile s (spelled ps ++ z) (Read k) h.0 in
     (omega arith, omega arith, subst (λ (end : ℕ). SpansRise (n + length s) (tokens (n + length s) ps) end) size (spans profile ps (n + length s) z h.1))
 
-pub spans_rise : (profile : Profile) (text : List ℕ) (ts : List Token) → Lex profile text ts → SpansRise 0 ts (length text)
+pub spans_rise : (profile : Profile) (text : List ℕ) (ts : List Token) → HasTokens profile text ts → SpansRise 0 ts (length text)
 spans_rise profile text ts a =
     let h = lex_parted profile text ts a in
     let size : 0 + length (spelled h.pieces) ≡ length text = omega (arith, ap length h.whole) in
@@ -165,11 +165,11 @@ chain_below profile (suc n) (c ∷ y) k h =
     let l = shorter profile r.s r.z (c ∷ y) r.a r.reads r.whole in
     step profile r.s r.z (c ∷ y) r.a r.reads r.whole (chain_below profile n r.z (omega arith) (bytes_after r.s r.z (c ∷ y) h r.whole))
 
-answered : (profile : Profile) (text : List ℕ) → Chain profile text ⊎ Broken profile text → ((ts : List Token) × Lex profile text ts) ⊎ ((p : ℕ) × (r : LexReason) × Stop profile text p r)
+answered : (profile : Profile) (text : List ℕ) → Chain profile text ⊎ Broken profile text → ((ts : List Token) × HasTokens profile text ts) ⊎ ((p : ℕ) × (r : LexReason) × FailsAt profile text p r)
 answered profile text (inl r) = inl (tokens 0 r.pieces, parted_lex profile text (tokens 0 r.pieces) (record { pieces = r.pieces; read = r.read; whole = r.whole; placed = refl }))
 answered profile text (inr r) = inr (length (spelled r.pieces), r.reason, parted_stop profile text (length (spelled r.pieces)) r.reason (record { pieces = r.pieces; front = r.front; rest = r.rest; read = r.read; bad = r.bad; whole = r.whole; place = refl }))
 
-pub some_answer : (profile : Profile) (text : List ℕ) → are_bytes text ≡ true → ((ts : List Token) × Lex profile text ts) ⊎ ((p : ℕ) × (r : LexReason) × Stop profile text p r)
+pub some_answer : (profile : Profile) (text : List ℕ) → are_bytes text ≡ true → ((ts : List Token) × HasTokens profile text ts) ⊎ ((p : ℕ) × (r : LexReason) × FailsAt profile text p r)
 some_answer profile text h = answered profile text (chain_below profile (suc (length text)) text (omega arith) h)
 
 -- Profiles.
@@ -186,5 +186,5 @@ two_chain : (ps : List Lexeme) (z : List ℕ) → AreRead One ps z → AreRead T
 two_chain [] z h = h
 two_chain (p ∷ ps) z h = (two_reads (slice p) (spelled ps ++ z) p h.0, two_chain ps z h.1)
 
-pub both_profiles : (text : List ℕ) (ts : List Token) → Lex One text ts → Lex Two text ts
+pub both_profiles : (text : List ℕ) (ts : List Token) → HasTokens One text ts → HasTokens Two text ts
 both_profiles text ts a = let h = lex_parted One text ts a in parted_lex Two text ts (record { pieces = h.pieces; read = two_chain h.pieces [] h.read; whole = h.whole; placed = h.placed })

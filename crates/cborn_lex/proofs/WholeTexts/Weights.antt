@@ -1,5 +1,5 @@
 -- What a token weighs: one, and the bytes of its content. The tokens of a text weigh no more than four times its length.
-use Rattle.cborn_lex.proofs.Common.{◌≡◌, refl, sym, ap, ◌∙◌, subst, ℕ, suc, ◌+◌, ◌-◌, ◌*◌, ◌%◌, ◌^◌, ◌<◌, ◌≤◌, List, [], ◌∷◌, ◌++◌, length, take, drop, map, replicate, Bool, true, false, ◌&&◌, not, cond, ltb, eqb, inl, inr, Option, Some, None, Result, Ok, Err, arith, length-append, length-map, length-replicate, take-append-drop, cond_both, and_parts, and_from, lt-ltb, ltb-true, list_all-append, list_all, list_any, flat_map, filter, encode_utf8, encode_utf8_all, is_digit, digit_value, standard, Profile, One, Two, Mark, Class, ArrayOpen, MapOpen, EmbedClose, ChunkOpen, TagOpen, Word, Text, Bytes, Token, LexReason, NumberTooLarge, Front, WhiteSpace, Read, Bad, mark_of, marked, is_white, is_not, integer, within, signed, number_front, word_front, escape_code, are_hex, code, is_high, is_low, IsText, HasDigits, nothing, space, comment, IsHex, to_standard, filled, IsBase64, is_content, is_unclosed, Letter, raw, escaped, unit, pair, written, meant, is_letter, IsString, Prefix, hexadecimal, base64, unknown, prefix_of, IsPrefixed, IsAfterWord, ReadsNumber, double, simple, Start, white, slash, hash, less, greater, paren, letter, minus, digit, other, single, opening, start_of, paren_front, ReadsFrom, Reads, Lex, Between, Lexeme, white_space, token, spelled, AreRead, tokens, AreModest, IsModest}
+use Rattle.cborn_lex.proofs.Common.{◌≡◌, refl, sym, ap, ◌∙◌, subst, ℕ, suc, ◌+◌, ◌-◌, ◌*◌, ◌%◌, ◌^◌, ◌<◌, ◌≤◌, List, [], ◌∷◌, ◌++◌, length, take, drop, map, replicate, Bool, true, false, ◌&&◌, not, cond, ltb, eqb, inl, inr, Option, Some, None, Result, Ok, Err, arith, length-append, length-map, length-replicate, take-append-drop, cond_both, and_parts, and_from, lt-ltb, ltb-true, list_all-append, list_all, list_any, flat_map, filter, encode_utf8, encode_utf8_all, is_digit, digit_value, standard, Profile, One, Two, Mark, Class, ArrayOpen, MapOpen, EmbedClose, ChunkOpen, TagOpen, Word, Text, Bytes, Token, LexReason, NumberTooLarge, Front, WhiteSpace, Read, Bad, mark_of, marked, is_white, is_not, integer, within, signed, number_front, word_front, escape_code, are_hex, code, is_high, is_low, IsText, HasDigits, nothing, space, comment, IsHex, to_standard, filled, IsBase64, is_content, is_unclosed, Letter, raw, escaped, unit, pair, written, meant, is_letter, IsString, Prefix, hexadecimal, base64, unknown, prefix_of, IsPrefixed, IsAfterWord, ReadsNumber, double, simple, Start, white, slash, hash, less, greater, paren, letter, minus, digit, other, single, opening, start_of, paren_front, ReadsFrom, Reads, HasTokens, TokensBetween, Lexeme, white_space, token, spelled, AreRead, tokens, AreModest, IsModest}
 use Rattle.std.specs.Str.{IsUtf8, all_scalars}
 use lib.Utf8.{encode, scalar, scalar_cases}
 use Rattle.hex.proofs.HexLemmas.{decode_of-ok}
@@ -286,7 +286,7 @@ tokens_light profile (token k s ∷ ps) n z h is =
     ((f.0, r.0), omega (arith, f.1, r.1, length-append s (spelled ps)))
 
 -- LAW: the tokens of a text are modest, and weigh four times its length at most
-pub text_light : (profile : Profile) (text : List ℕ) (ts : List Token) → AreBytes text → Lex profile text ts → AreModest ts × (weigh ts ≤ 4 * length text)
+pub text_light : (profile : Profile) (text : List ℕ) (ts : List Token) → AreBytes text → HasTokens profile text ts → AreModest ts × (weigh ts ≤ 4 * length text)
 text_light profile text ts h a =
     let lex = lex_parted profile text ts a in
     let whole = lex.whole in
@@ -294,7 +294,7 @@ text_light profile text ts h a =
     rw lex.placed (r.0, omega (arith, r.1, ap length whole))
 
 -- LAW: the tokens between two places of a text are modest, also if the text has a lexical fault after them
-pub between_modest : (profile : Profile) (text : List ℕ) (n m : ℕ) (ts : List Token) → AreBytes text → Between profile text n m ts → AreModest ts
+pub between_modest : (profile : Profile) (text : List ℕ) (n m : ℕ) (ts : List Token) → AreBytes text → TokensBetween profile text n m ts → AreModest ts
 between_modest profile text n m ts h a =
     let b = parted profile a in
     let after : are_bytes (drop n text) ≡ true = (split (take n text) (drop n text) (ap are_bytes (take-append-drop n text) ∙ as_test text h)).1 in

@@ -1,10 +1,6 @@
 use Rattle.cborn_edn.proofs.Common.{refl, sym, ◌∷◌, level_of, count_of, brackets_of, no_item, in_row, in_array, wants, noted_stack, states_around, [], inside, front_of, an_array, None}
-use Rattle.cborn_edn.proofs.HandedOver.Handing.{free}
-use Rattle.cborn_edn.proofs.Meaning.NoError.{no_left}
+use Rattle.cborn_edn.proofs.Lemmas.{free, no_left, both_ok, same_errors, opened_read}
 use Rattle.cborn_edn.specs.declared.states.Level.TheVariants as levels
-use Rattle.cborn_edn.proofs.Reader.Results.{both_ok}
-use Rattle.cborn_edn.proofs.Reader.Showing.{same_errors}
-use Rattle.cborn_edn.proofs.Reader.Put.{opened_read}
 use Rattle.cborn_edn.proofs.containers.open_array.Goals as goal
 
 pub returns : goal.returns

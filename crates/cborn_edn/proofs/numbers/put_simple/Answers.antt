@@ -1,9 +1,5 @@
 use Rattle.cborn_edn.proofs.Common.{◌≡◌, refl, sym, ap, ◌∙◌, true, false, arith, first_error, is_none, states_around, wants_number, has_number, put, front_of, Simple}
-use Rattle.cborn_edn.proofs.Meaning.NoError.{no_left}
-use Rattle.cborn_edn.proofs.HandedOver.Fits.{simple_fits}
-use Rattle.cborn_edn.proofs.HandedOver.Handing.{silenced, free}
-use Rattle.cborn_edn.proofs.Reader.Put.{leaf_shown, simple_noted}
-use Rattle.cborn_edn.proofs.Reader.Results.{on_ok}
+use Rattle.cborn_edn.proofs.Lemmas.{no_left, simple_fits, silenced, free, leaf_shown, simple_noted, on_ok}
 use Rattle.cborn_edn.proofs.numbers.put_simple.Goals as goal
 
 pub returns-then-not-is_none : goal.returns-then-not-is_none

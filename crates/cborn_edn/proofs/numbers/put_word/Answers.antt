@@ -1,9 +1,5 @@
 use Rattle.cborn_edn.proofs.Common.{refl, word, noted_stack, states_around, wants, has, ap, put, front_of, Simple}
-use Rattle.cborn_edn.proofs.HandedOver.Handing.{free}
-use Rattle.cborn_edn.proofs.Meaning.NoError.{no_left}
-use Rattle.cborn_edn.proofs.Reader.Put.{leaf_shown}
-use Rattle.cborn_edn.proofs.Reader.Results.{on_ok}
-use Rattle.cborn_edn.proofs.Reader.Showing.{same_errors}
+use Rattle.cborn_edn.proofs.Lemmas.{free, no_left, leaf_shown, on_ok, same_errors}
 use Rattle.cborn_edn.proofs.numbers.put_word.Goals as goal
 
 pub returns : goal.returns

@@ -1,6 +1,5 @@
 use Rattle.cborn_edn.proofs.Common.{refl, ◌+◌, Span, sized_end}
-use Rattle.cborn_edn.proofs.Reader.CommonTokens.{sized_end_here}
-use Rattle.cborn_edn.proofs.Reader.Taking.{went, end_taken, may_end, few_here, sized_kind, sized_low}
+use Rattle.cborn_edn.proofs.Lemmas.{sized_end_here, went, end_taken, may_end, few_here, sized_kind, sized_low}
 use Rattle.cborn_edn.proofs.quick_ends.take_sized_end.Goals as goal
 
 pub end_sized-requires-clause-few : goal.end_sized-requires-clause-few

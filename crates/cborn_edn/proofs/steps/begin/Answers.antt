@@ -1,8 +1,6 @@
 use Rattle.cborn_edn.proofs.Common.{refl, ap, ◌∙◌, subst, true, class_of, Kind, IsModest, is_piece, number, word, no_item, no_pair, no_string, states_around, in_row, in_key, in_tag, in_array, wants, has, wants_chunk, wants_number}
 use Rattle.cborn_lex.specs.declared.classes.Kind.TheVariants as kinds
-use Rattle.cborn_edn.proofs.Reader.Results.{if_ok}
-use Rattle.cborn_edn.proofs.Reader.Turning.{turn, same_handed, shown_kind}
-use Rattle.cborn_edn.proofs.HandedOver.Silent.{handed_open_chunks, handed_open_simple}
+use Rattle.cborn_edn.proofs.Lemmas.{if_ok, turn, same_handed, shown_kind, handed_open_chunks, handed_open_simple}
 use Rattle.cborn_edn.proofs.steps.begin.Goals as goal
 
 pub returns-in_ok-open_array-in-ArrayOpen : goal.returns-in_ok-open_array-in-ArrayOpen

@@ -1,7 +1,5 @@
 use Rattle.cborn_edn.proofs.Common.{chunked, after_strings, states_around, has, wants_chunk}
-use Rattle.cborn_edn.proofs.HandedOver.Strings.{hands_chunks_end}
-use Rattle.cborn_edn.proofs.Reader.Built.{chunks_shown}
-use Rattle.cborn_edn.proofs.Reader.Results.{on_ok}
+use Rattle.cborn_edn.proofs.Lemmas.{hands_chunks_end, chunks_shown, on_ok}
 use Rattle.cborn_edn.proofs.strings.end_chunks.Goals as goal
 
 pub returns : goal.returns
