@@ -172,6 +172,7 @@ fn hash(profile: Profile, tail: &[u8]) -> (Front, usize)
 
 /// What `text` begins with, and how many bytes that takes. Its first character isn't white space. A
 /// number is put into `number`, and the content of a string is appended to `out`.
+#[tactic(auto, using(crate::proofs::WholeTexts::Progress::first_reads))]
 pub fn first_of(
     alloc: Global,
     profile: Profile,

@@ -16,6 +16,7 @@ pub fn one_answer()
 {}
 
 /// The tokens of a text aren't empty, rise and don't overlap, and end within it.
+#[tactic(auto, using(crate::proofs::WholeTexts::Chains::spans_rise))]
 pub fn spans_rise()
     ensures { (profile : Profile) (text : List ℕ) (ts : List Token) → HasTokens profile text ts → SpansRise 0 ts (length text) }
 {}
@@ -27,6 +28,7 @@ pub fn no_token_at_stop()
 {}
 
 /// A text of profile 1 has the same tokens, at the same places, in profile 2.
+#[tactic(auto, using(crate::proofs::WholeTexts::Chains::both_profiles))]
 pub fn both_profiles()
     ensures { (text : List ℕ) (ts : List Token) → HasTokens Profile.One text ts → HasTokens Profile.Two text ts }
 {}
@@ -48,6 +50,7 @@ pub fn good_tokens()
 
 /// `Reads` and `Fails` agree on lexical faults and their reasons. `Reads` is a device of the
 /// proofs.
+#[tactic(auto, using(crate::proofs::GoodFronts::taken, crate::proofs::BadBack::fails))]
 pub fn bad_tokens()
     ensures front { (profile : Profile) (s z : List ℕ) (r : LexReason) → Reads profile s z (Bad r) → Fails profile (s ++ z) r }
     ensures back { (profile : Profile) (y : List ℕ) (r : LexReason) → Fails profile y r → (s : List ℕ) × (z : List ℕ) × (y ≡ s ++ z) × Reads profile s z (Bad r) }

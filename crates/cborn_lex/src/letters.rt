@@ -16,6 +16,7 @@ use std::simd::prelude::*;
 
 /// How many plain letters `tail` begins with: bytes that are no control characters, no backslashes
 /// and not the closing quote `quote` (RFC 8259 section 7).
+#[tactic(auto, using(crate::proofs::Runs::more_plain))]
 #[inline(always)]
 pub fn plain_run(quote: u8, tail: &[u8]) -> usize
     ensures within { result ≤ length tail.now }
@@ -236,6 +237,7 @@ fn push_long_run(quote: u8, tail: &[u8], out: &mut Vec<u8>) -> Result<usize, All
 
 /// Appends in UTF-8 the character of the escape whose backslash is at the offset `at` of `tail`,
 /// and gives the offset after the escape. `None` if the backslash begins no escape.
+#[tactic(auto, using(crate::proofs::Runs::unit_escape, crate::proofs::Runs::escape_within))]
 #[inline(always)]
 fn push_escape(
     quote: u8,

@@ -142,6 +142,7 @@ pub fn mark_at(x: &[u8]) -> (Option<Mark>, usize)
 /// The encoding indicator that `x` begins with, whose first byte is an underscore, and its length
 /// in bytes. `None` if the underscore begins no indicator. Out of line, since few tokens have an
 /// indicator.
+#[tactic(auto, using(crate::proofs::TwoParts::long_mark))]
 #[inline(never)]
 fn underscored_mark(x: &[u8]) -> (Option<Mark>, usize)
     requires some { 0 < length x.now }

@@ -110,12 +110,8 @@ hex_cases x = hex_from x (strip false x) refl (strips false x)
 
 -- For the code.
 
-from_option : (x ds : List ℕ) (o : Option (List ℕ)) → o ≡ Some ds → Stripped false x o → HasDigits x ds
-from_option x ds None e k = cc
-from_option x ds (Some d) e k = let same : d ≡ ds = cc in subst (HasDigits x) same k
-
 pub hex_ok : (x ds bytes : List ℕ) → strip false x ≡ Some ds → decode_of ds ≡ Ok bytes → IsHex x bytes
-hex_ok x ds bytes e h = (ds, from_option x ds (strip false x) e (strips false x), h)
+hex_ok x ds bytes e h = (ds, subst (Stripped false x) e (strips false x), h)
 
 -- The loop.
 

@@ -1,6 +1,8 @@
 -- The laws of whole texts.
-use Rattle.cborn_lex.proofs.Common.{◌≡◌, refl, sym, ap, ◌∙◌, subst, ℕ, zero, suc, ◌<◌, List, [], ◌∷◌, ◌++◌, length, true, ◌⊎◌, inl, inr, append_assoc, append-nil, arith, and_parts, list_all-append, Profile, One, Two, LexReason, Token, Front, WhiteSpace, Read, Bad, Start, hash, start_of, ReadsFrom, Reads, HasTokens, BeginsNothing, FailsAt, SpansRise, Lexeme, white_space, token, slice, front_of, spelled, AreRead, tokens, BeginsNoPiece, drop, ◌≤◌, ◌+◌, length-append}
-use Rattle.cborn_lex.proofs.WholeTexts.Parts.{lex_parted, parted_lex, stop_parted, parted_stop, has_no_piece}
+use Rattle.cborn_lex.proofs.Common.{◌≡◌, refl, sym, ap, ◌∙◌, subst, ℕ, zero, suc, ◌<◌, List, [], ◌∷◌, ◌++◌, length, true, ◌⊎◌, inl, inr, append_assoc, append-nil, arith, and_parts, list_all-append, Profile, One, Two, LexReason, Token, Front, WhiteSpace, Read, Bad, Start, hash, start_of, ReadsFrom, Reads, HasTokens, BeginsNothing, FailsAt, SpansRise, Lexeme, white_space, token, slice, front_of, spelled, AreRead, tokens, BeginsNoPiece, drop, ◌≤◌, ◌+◌, length-append, Covers, Fails}
+use Rattle.cborn_lex.specs.Good as good
+use Rattle.cborn_lex.proofs.GoodFronts.{Good, taken}
+use Rattle.cborn_lex.proofs.WholeTexts.Parts.{lex_parted, parted_lex, stop_parted, has_no_piece}
 use Rattle.cborn_lex.proofs.Sliced.Pieces.{front_is}
 use Rattle.cborn_lex.proofs.OneFront.Runs.{rest}
 use Rattle.cborn_lex.proofs.OneFront.Alone.{one_front}
@@ -121,56 +123,33 @@ spans_rise profile text ts a =
 
 -- Existence.
 
-pub record Chain (profile : Profile) (text : List ℕ) : Type 0 where
-  pub pieces : List Lexeme
-  pub read : AreRead profile pieces []
-  pub whole : text ≡ spelled pieces
+-- the tokens of a text from n on, or its lexical fault
+abbrev Answered : Profile → ℕ → List ℕ → Type 0
+Answered profile n text = ((ts : List Token) × Covers profile n text ts (n + length text) []) ⊎ ((p : ℕ) × (r : LexReason) × ((ts : List Token) × (y : List ℕ) × Covers profile n text ts p y × Fails profile y r))
 
-pub record Broken (profile : Profile) (text : List ℕ) : Type 0 where
-  pub pieces : List Lexeme
-  pub front : List ℕ
-  pub rest : List ℕ
-  pub reason : LexReason
-  pub read : AreRead profile pieces (front ++ rest)
-  pub bad : Reads profile front rest (Bad reason)
-  pub whole : text ≡ spelled pieces ++ (front ++ rest)
-
-onto : (profile : Profile) (p : Lexeme) (z text : List ℕ) → Reads profile (slice p) z (front_of p) → text ≡ slice p ++ z → Chain profile z ⊎ Broken profile z → Chain profile text ⊎ Broken profile text
-onto profile p z text h e (inl r) =
-    inl (record { pieces = p ∷ r.pieces; read = (subst (λ (x : List ℕ). Reads profile (slice p) x (front_of p)) (whole_text z r.pieces r.whole) h, r.read); whole = e ∙ ap (λ x. slice p ++ x) r.whole })
-onto profile p z text h e (inr r) =
-    inr (record {
-      pieces = p ∷ r.pieces;
-      front = r.front;
-      rest = r.rest;
-      reason = r.reason;
-      read = (subst (λ (x : List ℕ). Reads profile (slice p) x (front_of p)) r.whole h, r.read);
-      bad = r.bad;
-      whole = e ∙ (ap (λ x. slice p ++ x) r.whole ∙ sym (split p r.pieces (r.front ++ r.rest)));
-    })
-
-step : (profile : Profile) (s z text : List ℕ) (a : Front) → Reads profile s z a → text ≡ s ++ z → (Chain profile z ⊎ Broken profile z) → Chain profile text ⊎ Broken profile text
-step profile s z text WhiteSpace h e r = onto profile (white_space s) z text h e r
-step profile s z text (Read k) h e r = onto profile (token k s) z text h e r
-step profile s z text (Bad b) h e r = inr (record { pieces = []; front = s; rest = z; reason = b; read = tt; bad = h; whole = e })
+after_front : (profile : Profile) (n : ℕ) (s z : List ℕ) (a : Front) → Good profile s z a → Answered profile (n + length s) z → Answered profile n (s ++ z)
+after_front profile n s z WhiteSpace t (inl (ts, c)) = inl (ts, subst (λ (m : ℕ). Covers profile n (s ++ z) ts m []) (omega (arith, length-append s z)) (good.white_space n _ s z [] ts t c))
+after_front profile n s z WhiteSpace t (inr (p, r, (ts, y, c, f))) = inr (p, r, (ts, y, good.white_space n p s z y ts t c, f))
+after_front profile n s z (Read k) t (inl (ts, c)) = inl (record { start = n; stop = n + length s; class = k } ∷ ts, subst (λ (m : ℕ). Covers profile n (s ++ z) (record { start = n; stop = n + length s; class = k } ∷ ts) m []) (omega (arith, length-append s z)) (good.token n _ k s z [] ts t c))
+after_front profile n s z (Read k) t (inr (p, r, (ts, y, c, f))) = inr (p, r, (record { start = n; stop = n + length s; class = k } ∷ ts, y, good.token n p k s z y ts t c, f))
+after_front profile n s z (Bad r) f x = inr (n, r, ([], s ++ z, good.end n (s ++ z), f))
 
 bytes_after : (s z text : List ℕ) → are_bytes text ≡ true → text ≡ s ++ z → are_bytes z ≡ true
 bytes_after s z text h e = (and_parts _ _ (sym (list_all-append is_byte s z) ∙ (ap are_bytes (sym e) ∙ h))).1
 
-chain_below : (profile : Profile) (n : ℕ) (text : List ℕ) → length text < n → are_bytes text ≡ true → Chain profile text ⊎ Broken profile text
-chain_below profile zero text k h = absurd (omega arith)
-chain_below profile (suc n) [] k h = inl (record { pieces = []; read = tt; whole = refl })
-chain_below profile (suc n) (c ∷ y) k h =
+answered : (profile : Profile) (k n : ℕ) (text : List ℕ) → length text < k → are_bytes text ≡ true → Answered profile n text
+answered profile zero n text l h = absurd (omega arith)
+answered profile (suc k) n [] l h = inl ([], subst (λ (m : ℕ). Covers profile n [] [] m []) (omega arith) (good.end n []))
+answered profile (suc k) n (c ∷ y) l h =
     let r = some_front profile c y h in
-    let l = shorter profile r.s r.z (c ∷ y) r.a r.reads r.whole in
-    step profile r.s r.z (c ∷ y) r.a r.reads r.whole (chain_below profile n r.z (omega arith) (bytes_after r.s r.z (c ∷ y) h r.whole))
-
-answered : (profile : Profile) (text : List ℕ) → Chain profile text ⊎ Broken profile text → ((ts : List Token) × HasTokens profile text ts) ⊎ ((p : ℕ) × (r : LexReason) × FailsAt profile text p r)
-answered profile text (inl r) = inl (tokens 0 r.pieces, parted_lex profile text (tokens 0 r.pieces) (record { pieces = r.pieces; read = r.read; whole = r.whole; placed = refl }))
-answered profile text (inr r) = inr (length (spelled r.pieces), r.reason, parted_stop profile text (length (spelled r.pieces)) r.reason (record { pieces = r.pieces; front = r.front; rest = r.rest; read = r.read; bad = r.bad; whole = r.whole; place = refl }))
+    let short = shorter profile r.s r.z (c ∷ y) r.a r.reads r.whole in
+    subst (Answered profile n) (sym r.whole) (after_front profile n r.s r.z r.a (taken profile r.s r.z r.a r.reads) (answered profile k (n + length r.s) r.z (omega arith) (bytes_after r.s r.z (c ∷ y) h r.whole)))
 
 pub some_answer : (profile : Profile) (text : List ℕ) → are_bytes text ≡ true → ((ts : List Token) × HasTokens profile text ts) ⊎ ((p : ℕ) × (r : LexReason) × FailsAt profile text p r)
-some_answer profile text h = answered profile text (chain_below profile (suc (length text)) text (omega arith) h)
+some_answer profile text h = elim (answered profile (suc (length text)) 0 text (omega arith) h) [
+  | inl a ↦ inl (a.0, subst (λ (m : ℕ). Covers profile 0 text a.0 m []) (omega arith) a.1)
+  | inr b ↦ inr b
+]
 
 -- Profiles.
 

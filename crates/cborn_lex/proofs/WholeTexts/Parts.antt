@@ -57,11 +57,6 @@ stop_parted profile text n r (ts, y, t, f) =
     let place = p.place in
     record { pieces = p.pieces; front = b.front; rest = b.rest; read = subst (AreRead profile p.pieces) b.whole p.read; bad = b.reads; whole = p.whole ∙ ap (λ z. spelled p.pieces ++ z) b.whole; place = omega arith }
 
-pub parted_stop : (profile : Profile) (text : List ℕ) (n : ℕ) (r : LexReason) → StopParted profile text n r → FailsAt profile text n r
-parted_stop profile text n r p =
-    let place = p.place in
-    (tokens 0 p.pieces, p.front ++ p.rest, through profile 0 n text (p.front ++ p.rest) (tokens 0 p.pieces) (record { pieces = p.pieces; read = p.read; whole = p.whole; place = omega arith; placed = refl }), taken profile p.front p.rest (Bad r) p.bad)
-
 pub has_no_piece : (profile : Profile) (z : List ℕ) → BeginsNoPiece profile z → BeginsNothing profile z
 has_no_piece profile z h s x None e t = h (white_space s) x (read profile t) e
 has_no_piece profile z h s x (Some k) e t = h (token k s) x (read profile t) e
