@@ -289,19 +289,12 @@ shown_built (a_tag p w n) ts (t, is) =
     (ap (λ l. ((decimal n ++ (indicator (mark_for w n) ++ codes "(")) ++ l) ++ codes ")") (append-nil (shown t)) ∙ simp append_assoc)
 shown_built (in_chunks p k) ts e = chunks_joined k p ts e
 
-in_pairs : (ts : List Tree) (p : ℕ) → last_key ts ≡ None → IsBadAmong (trees ts) p → IsBadInPairs (entries (paired ts)) p
-in_pairs [] p e h = h
-in_pairs (k ∷ []) p e h = absurd (let d : Some k ≡ None = e in cc)
-in_pairs (k ∷ v ∷ ts) p e (inl h) = inl h
-in_pairs (k ∷ v ∷ ts) p e (inr (inl h)) = inr (inl h)
-in_pairs (k ∷ v ∷ ts) p e (inr (inr h)) = inr (inr (in_pairs ts p e h))
-
-from_pairs : (ts : List Tree) (p : ℕ) → last_key ts ≡ None → IsBadInPairs (entries (paired ts)) p → IsBadAmong (trees ts) p
-from_pairs [] p e h = h
-from_pairs (k ∷ []) p e h = absurd (let d : Some k ≡ None = e in cc)
-from_pairs (k ∷ v ∷ ts) p e (inl h) = inl h
-from_pairs (k ∷ v ∷ ts) p e (inr (inl h)) = inr (inl h)
-from_pairs (k ∷ v ∷ ts) p e (inr (inr h)) = inr (inr (from_pairs ts p e h))
+in_pairs : (ts : List Tree) (p : ℕ) → last_key ts ≡ None → (IsBadAmong (trees ts) p → IsBadInPairs (entries (paired ts)) p) × (IsBadInPairs (entries (paired ts)) p → IsBadAmong (trees ts) p)
+in_pairs [] p e = (λ h. h, λ h. h)
+in_pairs (k ∷ []) p e = absurd (let d : Some k ≡ None = e in cc)
+in_pairs (k ∷ v ∷ ts) p e =
+    let g = in_pairs ts p e in
+    (λ h. elim h [ inl a ↦ inl a | inr b ↦ inr (elim b [ inl c ↦ inl c | inr d ↦ inr (g.0 d) ]) ], λ h. elim h [ inl a ↦ inl a | inr b ↦ inr (elim b [ inl c ↦ inl c | inr d ↦ inr (g.1 d) ]) ])
 
 no_bytes : (ts : List Tree) (p : ℕ) → AreStrings OfBytes ts → IsBadAmong (trees ts) p → ⊥
 no_bytes [] p s h = h
@@ -318,7 +311,7 @@ in_texts (_ ∷ ts) p s = absurd s.0
 
 bad_built : (o : Opening) (ts : List Tree) (p : ℕ) → Ends o ts → (IsBadAmong (trees ts) p → IsBadText (built o ts) p) × (IsBadText (built o ts) p → IsBadAmong (trees ts) p)
 bad_built (an_array q s c) ts p e = (λ h. h, λ h. h)
-bad_built (a_map q s c) ts p e = (in_pairs ts p e.1, from_pairs ts p e.1)
+bad_built (a_map q s c) ts p e = in_pairs ts p e.1
 bad_built (a_tag q w n) ts p (t, is) =
     subst (λ us. (IsBadAmong (trees us) p → IsBadText (built (a_tag q w n) us) p) × (IsBadText (built (a_tag q w n) us) p → IsBadAmong (trees us) p)) (sym is)
     (λ h. elim h [ inl a ↦ a | inr b ↦ absurd b ], λ h. inl h)

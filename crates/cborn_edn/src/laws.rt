@@ -14,6 +14,7 @@ ghost use Rattle.cborn_edn.specs.Starts.{spots_all, IsRising};
 
 /// Tokens are a text of the grammar in at most one way, with the same nodes and meaning errors in
 /// each profile and within each limit.
+#[tactic(auto, using(crate::proofs::Short::Facts::one_text))]
 pub fn one_text()
     ensures { (profile other : Profile) (limit most : ℕ) (tokens : List Token) (nodes others : Trees) (errors faults : List MeaningError) → IsText profile limit tokens nodes errors → IsText other most tokens others faults → (nodes ≡ others) × (errors ≡ faults) }
 {}
@@ -33,6 +34,7 @@ pub fn larger_limit()
 
 /// What is a text of the grammar in profile 1 is one in profile 2, with the same nodes, places and
 /// meaning errors.
+#[tactic(auto, using(crate::proofs::Short::Facts::both_texts))]
 pub fn both_profiles()
     ensures { (limit : ℕ) (tokens : List Token) (nodes : Trees) (errors : List MeaningError) → IsText ProfileOne limit tokens nodes errors → IsText ProfileTwo limit tokens nodes errors }
 {}
@@ -85,6 +87,7 @@ pub fn spots_rise()
 /// The trees of the grammar, a device of the proofs, agree with its relation. Tokens are a text of
 /// the grammar exactly if they are those of a tree, which says the same nodes and has the same
 /// meaning errors.
+#[tactic(auto, using(crate::proofs::Short::SyntaxErrors::said_by, crate::proofs::Short::SyntaxErrors::parsed))]
 pub fn short_form()
     ensures { (profile : Profile) (limit : ℕ) (tokens : List Token) (nodes : Trees) (errors : List MeaningError) → Parsed profile limit tokens nodes errors ↔ IsText profile limit tokens nodes errors }
 {}

@@ -50,6 +50,7 @@ pub(crate) fn embeds_at(text: &[u8], at: usize) -> bool
 }
 
 /// Whether an underscore and a space follow the `(` at the offset `at` of `text`.
+#[tactic(auto, using(crate::proofs::Reader::Items::chunks_here))]
 #[inline(always)]
 pub(crate) fn opens_chunks_at(text: &[u8], at: usize) -> bool
     requires inside { at < length text.now }

@@ -40,6 +40,7 @@ fn may_join(kind: StringKind, next: StringKind) -> bool
 }
 
 /// Notes what is wrong with a piece of the kind `kind` at `place` after those of `string`.
+#[tactic(auto, using(crate::proofs::Reader::Joints::piece_noted))]
 pub(crate) fn note_piece(
     string: Joint,
     kind: StringKind,
@@ -68,6 +69,7 @@ fn note_string(may_end: bool, string: Joint, content: &[u8], error: &mut Option<
 
 /// Notes what is wrong with the indicator of a whole string of `size` bytes. `may_end` says whether
 /// it may ask for an indefinite length.
+#[tactic(auto, using(crate::proofs::Reader::Joints::mark_endless, crate::proofs::Reader::Joints::mark_wide, crate::proofs::Reader::Joints::mark_unknown))]
 fn note_mark(may_end: bool, string: Joint, size: u64, error: &mut Option<MeaningError>)
     ensures { (s : says.Str) → string ≡ joint s → (s.known ≡ true → size ≡ length s.bytes) → Notes error.old error.new (says.mark_errors may_end s) }
 {
@@ -260,6 +262,7 @@ fn note_chunk(kind: StringKind, string: Joint, content: &[u8], error: &mut Optio
 }
 
 /// Ends a string of one or more chunks, which is then an item.
+#[tactic(auto, using(crate::proofs::HandedOver::Strings::hands_chunks_end, crate::proofs::Reader::Built::chunks_shown, crate::proofs::Reader::Results::on_ok))]
 pub(crate) fn end_chunks<V: Visitor>(
     here: &mut Here,
     writer: &mut Writer,

@@ -67,6 +67,7 @@ pub(crate) fn push_text(
 
 /// The offset after the white space that follows a string, which ends at the offset `at`. `None` if
 /// the string has an indicator, or if another piece may follow.
+#[tactic(auto, using(crate::proofs::Reader::CommonTokens::nothing))]
 #[inline(always)]
 pub(crate) fn end_of_string(profile: Profile, text: &[u8], at: usize) -> Option<usize>
     requires { at ≤ length text.now }

@@ -1,7 +1,7 @@
 -- Text strings of the fixed notation, as pieces.
 use Rattle.hex.specs.Hex.{encode_with}
 use Rattle.cborn_edn.proofs.Common.{◌≡◌, refl, sym, ap, ◌∙◌, ℕ, ◌/◌, ◌%◌, ◌<◌, List, [], ◌∷◌, ◌++◌, slice_index, Bool, true, ◌&&◌, eqb, ltb, cond, inl, arith, and_parts, and_from, codes, bytes_eq, list_all, flat_map, lower_digits, AreBytes, Mark, Endless, Bytes, Text, marked, is_content, Letter, raw, unit, written, is_letter, meant, token, nowhere, indicator, escaped, map as list_map, after_slash, passes, passes_at}
-use Rattle.std.proofs.lemmas.Slice.Eq.{bytes_eq-Decides}
+use Rattle.cborn_lex.proofs.GoodFronts.{same_bytes}
 use Rattle.cborn_lex.specs.Strings.{IsText, nothing}
 use Rattle.cborn_lex.proofs.Contents.Lettered as lettered
 use Rattle.cborn_lex.proofs.Contents.Ends.{content_then}
@@ -35,9 +35,6 @@ record Written (b : ℕ) : Type 0 where
   allowed : is_letter 34 (letter_of b) ≡ true
   value : meant (letter_of b) ≡ b ∷ []
   inside : is_content 34 (escaped b) ≡ true
-
-same_bytes : (x y : List ℕ) → bytes_eq x y ≡ true → x ≡ y
-same_bytes x y h = (bytes_eq-Decides x y).0 h
 
 is_written_at : (b : ℕ) → b < 256 → Written b
 is_written_at b h =

@@ -2,10 +2,7 @@
 use Rattle.cborn_edn.proofs.Common.{sym, subst, IfOk}
 use Rattle.std.specs.Prelude.{◌≡◌, Result, Ok, Err, IfErr, OnOk}
 use Rattle.std.specs.Result.{IsErr, IsErrAnd}
-
-pub on_ok : {A E : Type 0} (r : Result A E) {P Q : Type 0} → (P → Q) → OnOk r P → OnOk r Q
-on_ok (Ok a) f h = f h
-on_ok (Err e) f h = h
+pub use Rattle.cborn_model.proofs.HandedOver.{on_ok}
 
 pub both_ok : {A E : Type 0} (r : Result A E) {P Q R : Type 0} → (P → Q → R) → OnOk r P → OnOk r Q → OnOk r R
 both_ok (Ok a) f h k = f h k
