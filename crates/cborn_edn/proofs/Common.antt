@@ -77,10 +77,8 @@ pub use Rattle.cborn_edn.specs.devices.Commas.{AllowsCount, commas, commas_of_co
 pub use Rattle.cborn_edn.specs.devices.Events.{AreFew, Comes, FitsSoFar, Follows, Holds, OpeningFits, bignum_of, Fits as EventFits}
 pub use Rattle.cborn_edn.specs.devices.Handed.{AllHanded, Handed, Hands, InnermostFollows, IsSpelled, Reads, chunk_event, front, front_of, listed_entries, row_front, size_asked, states_around, states_around_home, states_around_nest, string_event}
 pub use Rattle.cborn_edn.specs.devices.Kept.{around, arounds_home, arounds_nest, arounds_of, bracket, brackets_home, brackets_nest, brackets_of, bytes_around, bytes_around_home, bytes_around_nest, bytes_before, bytes_open, chunks_in, count_of, joint, kind_before, kind_or, level_of, phase_of, piece_bytes, pieces_bytes, stack_in, stack_of, string_at, string_in, wanting}
-pub use Rattle.cborn_edn.specs.devices.Levels.{reach}
-pub use Rattle.cborn_edn.specs.devices.Lexical.{lexical}
-pub use Rattle.cborn_edn.specs.devices.Machine.{Answer, Home, Nest, Stack, State, after_number, after_string, as_chunk, as_item, at_end, at_home, at_top, begin, begin_chunk, begin_number, builds, checked, comma_at, comma_in, ends, ends_loose, finish, forbids, has, has_number, held, held_home, held_nest, held_stack, in_array, in_embed, in_key, in_row, in_tag, in_value, levels, levels_home, levels_nest, more_string, open_levels, parse, run, start, step, step_by, wants, wants_chunk, wants_number, with_piece}
-pub use Rattle.cborn_edn.specs.devices.MeaningErrors.{Notes, earlier, first_error, is_none}
+pub use Rattle.cborn_edn.specs.devices.Machine.{Answer, Home, Nest, Stack, State, after_number, after_string, as_chunk, as_item, at_end, at_home, at_top, begin, begin_chunk, begin_number, builds, checked, comma_at, comma_in, ends, ends_loose, finish, forbids, has, has_number, held, held_home, held_nest, held_stack, in_array, in_embed, in_key, in_row, in_tag, in_value, levels, levels_home, levels_nest, more_string, open_levels, parse, run, start, step, step_by, wants, wants_chunk, wants_number, with_piece, reach}
+pub use Rattle.cborn_edn.specs.devices.MeaningErrors.{Notes, earlier, first_error, is_none, lexical}
 pub use Rattle.cborn_edn.specs.devices.Notating.{IsBadIn, IsCounted, IsEnded, IsHeld, IsLowest, after, beginning, content, count_one, ending, is_counted, late_in, late_size, lates, lowest_with, next_after, next_around, next_in, one_more, quote, separator, string_end, tally, least as lower}
 pub use Rattle.cborn_edn.specs.devices.Noted.{noted, noted_home, noted_nest, noted_stack, pieces_noted, strings_noted}
 pub use Rattle.cborn_edn.specs.devices.Parse.{Allows, Parse, is_closing}

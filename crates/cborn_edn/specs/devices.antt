@@ -1,8 +1,5 @@
 pub mod TreesCode
-pub mod Escaping
-pub mod Lexical
 pub mod MeaningErrors
-pub mod Levels
 pub mod Commas
 pub mod Syntax
 pub mod Machine

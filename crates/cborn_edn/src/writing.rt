@@ -4,8 +4,7 @@ ghost use Rattle.std.specs.Prelude.{◌≡◌, ◌≤◌, ◌++◌, ◌∷◌, �
 ghost use Rattle.cborn_edn.specs.Common.{flat_map, encode_lower, integer_tree};
 ghost use Rattle.cborn_edn.specs.Cited.{mark_for};
 ghost use Rattle.cborn_edn.specs.Shown as pure;
-ghost use Rattle.cborn_edn.specs.devices.Escaping.{is_escaped};
-ghost use Rattle.cborn_edn.specs.devices.Notating.{quote, content, string_end, size_text};
+ghost use Rattle.cborn_edn.specs.devices.Notating.{is_escaped, quote, content, string_end, size_text};
 
 use cborn_model::{Size, StringKind, Width, shortest};
 use itoa::Buffer;

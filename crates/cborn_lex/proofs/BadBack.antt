@@ -380,9 +380,6 @@ module _ (p : Profile) where
   differs : (w v : List ℕ) → is_float_word w ≡ true → is_float_word v ≡ false → bytes_eq w v ≡ false
   differs w v e f = false_from_ne_true (bytes_eq w v) (λ s. absurd (let t : true ≡ false = sym e ∙ ap is_float_word (same_bytes w v s) ∙ f in cc))
 
-  float_front : (w : List ℕ) → is_float_word w ≡ true → word_front w ≡ Bad FloatLeftOut
-  float_front w e = rw (differs w (codes "false") e refl, differs w (codes "true") e refl, differs w (codes "null") e refl, differs w (codes "undefined") e refl, e) refl
-
   not_named : (w v : List ℕ) (n : ℕ) → IsName v n → ((n : ℕ) → IsName w n → ⊥) → bytes_eq w v ≡ false
   not_named w v n i denied = false_from_ne_true (bytes_eq w v) (λ s. denied n (subst (λ u. IsName u n) (sym (same_bytes w v s)) i))
 
@@ -398,7 +395,7 @@ module _ (p : Profile) where
   fails (bad.chunks z b) = let r = cut is_word z in some_chunks z r.s r.z r.whole r.run b
   fails (bad.negative x z r run denied) = a_negative_fails x z r run denied
   fails (bad.positive x z r b run denied) = a_positive_fails x z r b run denied
-  fails (bad.float w z word q e) = word_reads w z FloatLeftOut word q (ap (λ b. b && begins (λ c. eqb c 40) z) (differs w (codes "simple") e refl)) (float_front w e)
+  fails (bad.float w z word q e) = word_reads w z FloatLeftOut word q (ap (λ b. b && begins (λ c. eqb c 40) z) (differs w (codes "simple") e refl)) (rw (differs w (codes "false") e refl, differs w (codes "true") e refl, differs w (codes "null") e refl, differs w (codes "undefined") e refl, e) refl)
   fails (bad.word w z word q e denied s) = word_reads w z UnexpectedCharacter word q s (rw (not_named w (codes "false") 20 good.is_false denied, not_named w (codes "true") 21 good.is_true denied, not_named w (codes "null") 22 good.is_null denied, not_named w (codes "undefined") 23 good.is_undefined denied, e) refl)
   fails (bad.less z n) = record { front = 60 ∷ []; rest = z; whole = refl; reads = inr (refl, n, refl) }
   fails (bad.greater z n) = record { front = 62 ∷ []; rest = z; whole = refl; reads = inr (refl, n, refl) }

@@ -148,12 +148,7 @@ digit_apart (suc l) c x a tagged (d ∷ body) mark tag h n e =
       body,
       mark,
       tag,
-      record {
-        run = record { pass = (and_parts (is_numeral d) (list_all is_numeral body) n.run.pass).1; ends = n.run.ends };
-        indicator = n.indicator;
-        tagging = n.tagging;
-        whole = rest;
-      },
+      record { run = record { pass = (and_parts (is_numeral d) (list_all is_numeral body) n.run.pass).1; ends = n.run.ends }; indicator = n.indicator; tagging = n.tagging; whole = rest },
       e ∙ ap (λ b. number_front false tagged (mark_of mark) (integer false (b ∷ body))) (sym same),
     ) in
     (omega arith, subst (λ (j : ℕ). ReadsNumber false (c ∷ []) (take j x) (drop j x) a) (sym one) reads)

@@ -145,15 +145,16 @@ pub fn bytes_front(quoted: bool, mark: Option<Mark>) -> Front
 }
 
 /// Reads a string after its opening quote, a double or a single one, and appends its bytes to `out`.
-/// Gives its kind, or what is wrong with it, and how many bytes of `tail` it takes.
-pub fn quoted(quote: u8, tail: &[u8], out: &mut Vec<u8>) -> Result<(Front, usize), AllocError>
-    requires { (quote ≡ 34) ⊎ (quote ≡ 39) }
-    ensures { IfOk result (λ r. (r.1 ≤ length tail.now) × ((a : AnyFront) × IsQuoted quote (of_quoted quote) (take r.1 tail.now) (drop r.1 tail.now) a × ((n : ℕ) → FrontStandsFor r.0 n out.old.items out.new.items a))) }
+/// Gives its kind, or what is wrong with it, and how many bytes of `tail` it takes. Each quote has a
+/// copy of the code.
+pub fn quoted<const QUOTE: u8>(tail: &[u8], out: &mut Vec<u8>) -> Result<(Front, usize), AllocError>
+    requires { (QUOTE ≡ 34) ⊎ (QUOTE ≡ 39) }
+    ensures { IfOk result (λ r. (r.1 ≤ length tail.now) × ((a : AnyFront) × IsQuoted QUOTE (of_quoted QUOTE) (take r.1 tail.now) (drop r.1 tail.now) a × ((n : ℕ) → FrontStandsFor r.0 n out.old.items out.new.items a))) }
 {
-    let Some(i) = push_letters(quote, tail, 0, out)? else {
-        let (reason, n) = bad_string(quote, tail);
+    let Some(i) = push_letters(QUOTE, tail, 0, out)? else {
+        let (reason, n) = bad_string(QUOTE, tail);
         return Ok((Front::Bad(reason), n));
     };
     let (mark, m) = mark_at(rest_of(tail, i + 1));
-    Ok((quoted_front(quote, mark), i + 1 + m))
+    Ok((quoted_front(QUOTE, mark), i + 1 + m))
 }

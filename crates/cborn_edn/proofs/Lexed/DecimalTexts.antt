@@ -90,12 +90,7 @@ reads_tag first body n m z h d e = (
   body,
   indicator m,
   codes "(",
-  record {
-    run = record { pass = digits_pass is_numeral body refl d; ends = no_numeral m (40 ∷ z) h refl };
-    indicator = indicates m (40 ∷ z) h refl refl;
-    tagging = (refl, refl, refl, refl);
-    whole = refl;
-  },
+  record { run = record { pass = digits_pass is_numeral body refl d; ends = no_numeral m (40 ∷ z) h refl }; indicator = indicates m (40 ∷ z) h refl refl; tagging = (refl, refl, refl, refl); whole = refl },
   sym (ap (λ o. number_front false true o (integer false (first ++ body))) (mark_is m h) ∙ ap (number_front false true (Some m)) e),
 )
 

@@ -27,12 +27,7 @@ module _ (p : Profile) (text : List ℕ) (are : AreBytes text) (here : Here) (w 
       let s = f.2 in
       let here-is : TokensBetween p text here.at t.stop (record { start = t.start; stop = t.stop; class = class_of t.kind n s.content } ∷ []) = subst (λ (k : Class). TokensBetween p text here.at t.stop (record { start = t.start; stop = t.stop; class = k } ∷ [])) s.class f.1 in
       let there = between_modest p text here.at t.stop (record { start = t.start; stop = t.stop; class = class_of t.kind n s.content } ∷ []) are here-is in
-      record {
-        content = s.content;
-        between = here-is;
-        modest = (there.0, tt);
-        written = s.written ∙ ap (λ (k : Class). w.pieces.items ++ content_of k) s.class;
-      }
+      record { content = s.content; between = here-is; modest = (there.0, tt); written = s.written ∙ ap (λ (k : Class). w.pieces.items ++ content_of k) s.class }
 
 module _ {h : Holds} (p : Profile) (limit : ℕ) (text : List ℕ) (are : AreBytes text) (here : Here) (w : Writer) (r : IsReadTo h p limit text here w) where
   -- with nothing left of the text

@@ -110,9 +110,6 @@ hex_cases x = hex_from x (strip false x) refl (strips false x)
 
 -- For the code.
 
-pub hex_ok : (x ds bytes : List ℕ) → strip false x ≡ Some ds → decode_of ds ≡ Ok bytes → IsHex x bytes
-hex_ok x ds bytes e h = (ds, subst (Stripped false x) e (strips false x), h)
-
 -- The loop.
 
 pub after_none : (o : Option (List ℕ)) → after [] o ≡ o

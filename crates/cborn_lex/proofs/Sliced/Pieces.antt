@@ -18,12 +18,7 @@ number_of negative tagged first body mark tag z x k e l run indicator tag-is =
       body,
       mark,
       tag,
-      record {
-        run = rw f.1 run;
-        indicator = rw f.1 indicator;
-        tagging = rw f.1 tag-is;
-        whole = f.0;
-      },
+      record { run = rw f.1 run; indicator = rw f.1 indicator; tagging = rw f.1 tag-is; whole = f.0 },
       refl,
     )
 

@@ -5,21 +5,21 @@ use Rattle.cborn_lex.proofs.TwoParts.{string_appended}
 use Rattle.cborn_lex.proofs.escaped.quoted.Goals as goal
 
 pub bad_string-reason-requires-clause-no_backslash : goal.bad_string-reason-requires-clause-no_backslash
-bad_string-reason-requires-clause-no_backslash c = elim c.requires [ inl e ↦ rw e refl | inr e ↦ rw e refl ]
+bad_string-reason-requires-clause-no_backslash g c = elim c.requires [ inl e ↦ rw e refl | inr e ↦ rw e refl ]
 
 pub bad_string-reason-requires-clause-none : goal.bad_string-reason-requires-clause-none
-bad_string-reason-requires-clause-none c = let h = rw c.in_default.is at c.in_ok-i.ensures.letters in h c.args.out.now.items (none_yet c.args.quote c.args.tail.now c.args.out.now.items)
+bad_string-reason-requires-clause-none g c = let h = rw c.in_default.is at c.in_ok-i.ensures.letters in h c.args.out.now.items (none_yet g.row.QUOTE c.args.tail.now c.args.out.now.items)
 
 pub returns-in_default : goal.returns-in_default
-returns-in_default c = (c.bad_string-reason.ensures.within, (Bad c.bad_string-reason.result.0, c.bad_string-reason.ensures.reads (of_quoted c.args.quote), λ n. refl))
+returns-in_default g c = (c.bad_string-reason.ensures.within, (Bad c.bad_string-reason.result.0, c.bad_string-reason.ensures.reads (of_quoted g.row.QUOTE), λ n. refl))
 
 content_is : (q : ℕ) (x : List ℕ) (m : Mark) → (q ≡ 34) ⊎ (q ≡ 39) → content_of (of_quoted q x m) ≡ x
 content_is q x m (inl e) = rw e refl
 content_is q x m (inr e) = rw e refl
 
 pub returns : goal.returns
-returns c =
-    let q = c.args.quote in
+returns g c =
+    let q = g.row.QUOTE in
     let k = of_quoted q in
     let mark = c.mark_at-mark.result.0 in
     let h = rw c.in-Some.is at c.in_ok-i.ensures.letters in

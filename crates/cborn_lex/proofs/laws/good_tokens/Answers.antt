@@ -4,7 +4,4 @@ use Rattle.cborn_lex.proofs.GoodBack.{read}
 use Rattle.cborn_lex.proofs.laws.good_tokens.Goals as goal
 
 pub returns : goal.returns
-returns c = record {
-  white_space = λ profile s z. (λ h. taken profile s z WhiteSpace h, λ h. read profile h);
-  token = λ profile s z k. (λ h. taken profile s z (Read k) h, λ h. read profile h);
-}
+returns c = record { white_space = λ profile s z. (λ h. taken profile s z WhiteSpace h, λ h. read profile h); token = λ profile s z k. (λ h. taken profile s z (Read k) h, λ h. read profile h) }
