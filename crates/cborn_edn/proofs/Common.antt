@@ -102,7 +102,8 @@ pub use Rattle.cborn_model.proofs.Numbers.OneHead.{least_holds}
 pub use Rattle.cborn_wire.proofs.Spelled.AllBytes.{head_bytes}
 pub use Rattle.cborn_model.proofs.HandedOver.{on_ok, strings as strings_held}
 pub use Rattle.cborn_edn.specs.declared.states.Level.TheVariants.{Embedded, Key}
-pub use Rattle.cborn_lex.proofs.WholeTexts.Progress.{few, joins, stops, whole_stop, whole_text}
+pub use Rattle.cborn_lex.proofs.WholeTexts.Progress.{few, joins, passed_on, stops, whole_stop, whole_text}
 pub use Rattle.cborn_edn.specs.declared.states.Level.{Level}
 pub use Rattle.cborn_lex.proofs.Runs.{letters_end, none_yet, run_more}
 pub use mathlib.Core.List.{reverse}
+pub use Rattle.cborn_lex.proofs.OneFront.Alone.{one_front, same_head}

@@ -15,7 +15,7 @@ pub use Rattle.cborn_edn.proofs.Reader.Going.{begins, free_none, stopped}
 pub use Rattle.cborn_edn.proofs.Reader.Inverted.{embed_at, embed_step, ending, no_embed}
 pub use Rattle.cborn_edn.proofs.Reader.Opened.{reverse-at, reverse-set}
 pub use Rattle.cborn_edn.proofs.Reader.Put.{leaf_shown, opened_read, simple_noted}
-pub use Rattle.cborn_edn.proofs.Reader.Results.{all_ok, both_ok, if_ok, on_ok, passed_on}
+pub use Rattle.cborn_edn.proofs.Reader.Results.{all_ok, both_ok, if_ok, on_ok}
 pub use Rattle.cborn_edn.proofs.Reader.Rows.{AtEnd, entries_few, in_content, in_fields}
 pub use Rattle.cborn_edn.proofs.Reader.Settling.{text_item, text_noted}
 pub use Rattle.cborn_edn.proofs.Reader.Showing.{known_bytes, same_around, same_errors}

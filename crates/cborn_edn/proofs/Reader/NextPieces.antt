@@ -1,9 +1,8 @@
 -- The token after a string that is known to end.
-use Rattle.cborn_edn.proofs.Common.{◌≡◌, refl, sym, ap, ◌∙◌, subst, ℕ, ◌+◌, List, [], ◌∷◌, length, drop, get_or, true, false, eqb, inl, inr, arith, eqb-true, or_cases, drop_all, Profile, Class, ArrayClose, MapClose, ParenClose, Comma, Colon, Token, WhiteSpace, Read, Start, single, start_of, ReadsFrom, Covers, TokensBetween, ends_string, NoPieceAt, EndsPieces, never}
+use Rattle.cborn_edn.proofs.Common.{one_front, ◌≡◌, refl, sym, ap, ◌∙◌, subst, ℕ, ◌+◌, List, [], ◌∷◌, length, drop, get_or, true, false, eqb, inl, inr, arith, eqb-true, or_cases, drop_all, Profile, Class, ArrayClose, MapClose, ParenClose, Comma, Colon, Token, WhiteSpace, Read, Start, single, start_of, ReadsFrom, Covers, TokensBetween, ends_string, NoPieceAt, EndsPieces, never}
 use Rattle.cborn_lex.specs.Forms.{Reads}
 use Rattle.cborn_lex.specs.Good as good
 use Rattle.cborn_lex.proofs.GoodBack.{read}
-use Rattle.cborn_lex.proofs.OneFront.Alone.{one_front}
 use Rattle.cborn_edn.proofs.Reader.CommonTokens.{begins_here}
 
 -- a character that is a token alone

@@ -1,5 +1,6 @@
 -- A scan from piece to piece.
-use Rattle.cborn_lex.proofs.Common.{Fails, ◌≡◌, refl, sym, ap, ◌∙◌, subst, ℕ, ◌+◌, ◌<◌, ◌≤◌, List, [], ◌∷◌, ◌++◌, length, take, drop, get_or, arith, add-one, take-append-drop, length-append, length-take-le, drop_all, drop-drop, get_or-drop, true, cond-true, Profile, LexReason, LexFault, Refused, OutOfMemory, Class, Token, Front, WhiteSpace, Read, Bad, is_white, Start, white, start_of, ReadsFrom, Reads, Covers, HasTokens, FailsAt, TokensBetween, HasNoTokens, HasNoTokenFrom, length-drop}
+use Rattle.cborn_lex.proofs.Common.{Result, Ok, Err, IfErr, Fails, ◌≡◌, refl, sym, ap, ◌∙◌, subst, ℕ, ◌+◌, ◌<◌, ◌≤◌, List, [], ◌∷◌, ◌++◌, length, take, drop, get_or, arith, add-one, take-append-drop, length-append, length-take-le, drop_all, drop-drop, get_or-drop, true, cond-true, Profile, LexReason, LexFault, Refused, OutOfMemory, Class, Token, Front, WhiteSpace, Read, Bad, is_white, Start, white, start_of, ReadsFrom, Reads, Covers, HasTokens, FailsAt, TokensBetween, HasNoTokens, HasNoTokenFrom, length-drop}
+use Rattle.std.specs.Result.{IsErr, IsErrAnd}
 use Rattle.cborn_lex.specs.Good.{end, white_space, token}
 use Rattle.cborn_lex.proofs.GoodFronts.{taken as takes}
 use Rattle.cborn_lex.proofs.GoodBack.{read}
@@ -131,3 +132,8 @@ whole_stop profile text (Refused p r) (q, e, h) = let same : q ≡ p = omega ari
 -- a token takes some bytes
 pub few : (profile : Profile) (text : List ℕ) (n m : ℕ) (ts : List Token) → TokensBetween profile text n m ts → n + length ts ≤ m
 few profile text n m ts h = (taken profile h).0
+
+-- a fault that is passed on
+pub passed_on : {A E : Type 0} (r : Result A E) (x : E) (P : E → Type 0) → P x → IsErr r × IsErrAnd r (λ e. e ≡ x) → IfErr r P
+passed_on (Ok a) x P p h = tt
+passed_on (Err e) x P p h = subst P (sym h.1) p

@@ -1,5 +1,5 @@
-use Rattle.cborn_edn.proofs.Common.{ap, ◌∙◌, class_of, IsNoNotation, lexical, reach, utf8_bytes}
-use Rattle.cborn_edn.proofs.Lemmas.{passed_on, stopped, last_read, token_read, ready, further, stop_inside, went_on, refusal}
+use Rattle.cborn_edn.proofs.Common.{passed_on, ap, ◌∙◌, class_of, IsNoNotation, lexical, reach, utf8_bytes}
+use Rattle.cborn_edn.proofs.Lemmas.{stopped, last_read, token_read, ready, further, stop_inside, went_on, refusal}
 use Rattle.cborn_edn.proofs.passes.step.Goals as goal
 
 pub returns-in_err-found-clause-refused : goal.returns-in_err-found-clause-refused

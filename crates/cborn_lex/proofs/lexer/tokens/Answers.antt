@@ -1,6 +1,5 @@
-use Rattle.cborn_lex.proofs.Common.{IsTokenFrom, sym, subst, ◌∷◌, [], arith, append-nil, Ok, Err, IfErr, ◌≡◌, TokensBetween, HasNoTokens, Result}
-use Rattle.std.specs.Result.{IsErr, IsErrAnd}
-use Rattle.cborn_lex.proofs.WholeTexts.Progress.{nothing, joins, inside, few, whole_text, stops, whole_stop}
+use Rattle.cborn_lex.proofs.Common.{IsTokenFrom, subst, ◌∷◌, [], arith, append-nil, TokensBetween, HasNoTokens}
+use Rattle.cborn_lex.proofs.WholeTexts.Progress.{passed_on, nothing, joins, inside, few, whole_text, stops, whole_stop}
 use Rattle.cborn_lex.proofs.lexer.tokens.Goals as goal
 
 pub tokens-init : goal.tokens-init
@@ -23,10 +22,6 @@ pub returns-clause-ok : goal.returns-clause-ok
 returns-clause-ok c =
     let last = subst (IsTokenFrom c.args.profile c.args.text.now c.tokens.at) c.in_default.is c.in_ok-token.ensures.ok in
     whole_text c.args.profile c.args.text.now c.tokens.found.items (subst (TokensBetween c.args.profile c.args.text.now 0 _) (append-nil c.tokens.found.items) (joins c.args.profile c.args.text.now 0 c.tokens.at _ c.tokens.found.items [] c.tokens.invariant.0 last))
-
-passed_on : {A E : Type 0} (r : Result A E) (x : E) (P : E → Type 0) → P x → IsErr r × IsErrAnd r (λ e. e ≡ x) → IfErr r P
-passed_on (Ok a) x P p h = tt
-passed_on (Err e) x P p h = subst P (sym h.1) p
 
 pub returns-in_err-token-clause-refused : goal.returns-in_err-token-clause-refused
 returns-in_err-token-clause-refused c =
