@@ -1,4 +1,5 @@
 pub mod Common
+pub mod Lemmas
 pub mod Grammar
 pub mod Meaning
 pub mod Reader

@@ -1,16 +1,15 @@
 -- The text of a partial sequence, as heads and strings come.
-use Rattle.cborn_edn.proofs.Common.{◌≡◌, refl, sym, ap, ◌∙◌, subst, ℕ, ◌+◌, ◌-◌, ◌^◌, ◌≤◌, List, [], ◌∷◌, ◌++◌, length, map, take, drop, min, decimal, append_assoc, append-nil, Option, Some, None, Bool, true, false, not, is_some, ◌⊎◌, inl, inr, slice_index, ◌/◌, ◌%◌, Result, Ok, Err, OnOk, IfErr, IsErrAnd, arith, le-ltb, ltb-true, ltb-false, eq-eqb, IsUtf8, flat_map-append, drop-append_seam, take-append-drop, encode_lower, lower_digits, Fixed, Width, Direct, One, Two, Four, Eight, holds, least, StringKind, OfBytes, OfText, Tree, trees, entries, FitsAll, Partial, top, inside, Opening, an_array, a_map, a_tag, in_chunks, no_part, part, put, built, paired, last_key, chunks_of, string_tree, integer_tree, AreStrings, Ends, IsFree, ended_size, Notator, Absent, Wide, is_good, others, shown, shown_chunk, shown_string, shown_lines, item_texts, pair_texts, joined_by, indicator, mark_for, mark_for_size, opened, Shown, IsBadText, IsBadAmong, IsBadInPairs, IsBadChunk, LowestBadText, after, separator, ending, next_after, beginning, next_in, next_around, late_size, is_counted, one_more, IsCounted, IsEnded, count_one, tally, late_in, lates, IsBadIn, IsLowest, lowest_with, quote, content, string_end, IsHeld, codes, if◌then◌else◌, ByteNode as Bytes, TextNode as Text}
-use Rattle.std.proofs.Math.Dec.{ltb}
 use Rattle.hex.specs.Hex.{encode_with}
+use Rattle.cborn_edn.proofs.Common.{◌≡◌, refl, sym, ap, ◌∙◌, subst, ℕ, ◌+◌, ◌-◌, ◌^◌, ◌≤◌, List, [], ◌∷◌, ◌++◌, length, map, take, drop, min, decimal, append_assoc, append-nil, Option, Some, None, Bool, true, false, not, is_some, ◌⊎◌, inl, inr, slice_index, ◌/◌, ◌%◌, Result, Ok, Err, OnOk, IfErr, IsErrAnd, arith, le-ltb, ltb-true, ltb-false, eq-eqb, IsUtf8, flat_map-append, drop-append_seam, take-append-drop, encode_lower, lower_digits, Fixed, Width, Direct, One, Two, Four, Eight, holds, least, StringKind, OfBytes, OfText, Tree, trees, entries, FitsAll, Partial, top, inside, Opening, an_array, a_map, a_tag, in_chunks, no_part, part, put, built, paired, last_key, chunks_of, string_tree, integer_tree, AreStrings, Ends, IsFree, ended_size, Notator, Absent, Wide, is_good, others, shown, shown_chunk, shown_string, shown_lines, item_texts, pair_texts, joined_by, indicator, mark_for, mark_for_size, opened, Shown, IsBadText, IsBadAmong, IsBadInPairs, IsBadChunk, LowestBadText, after, separator, ending, next_after, beginning, next_in, next_around, late_size, is_counted, one_more, IsCounted, IsEnded, count_one, tally, late_in, lates, IsBadIn, IsLowest, lowest_with, quote, content, string_end, IsHeld, codes, if◌then◌else◌, ByteNode as Bytes, TextNode as Text, count-trees, count_entries-entries, lower}
+use Rattle.std.proofs.Math.Dec.{ltb}
 use Rattle.cborn_model.specs.declared.heads.Size.TheVariants.{Endless}
-use Rattle.cborn_model.proofs.Listed.Trees.{count-trees, count_entries-entries}
 use Rattle.cborn_wire.proofs.Visiting.Counting.{last_same}
 use Rattle.cborn_edn.specs.declared.notators.Next.{Next}
 use Rattle.cborn_edn.specs.declared.notators.Next.TheVariants.{FirstItem, Item, FirstElement, Element, FirstKey, Key, Value, Content, FirstChunk, Chunk, FirstLateElement, LateElement, FirstLateKey, LateKey, LateValue}
 use Rattle.cborn_edn.specs.declared.notators.OpenString.{OpenString}
 use Rattle.cborn_edn.specs.declared.notators.Late.{Late}
 use Rattle.cborn_edn.specs.declared.faults.ShowFault.{ShowFault}
-use Rattle.cborn_edn.specs.devices.Notating.{following, first, written, least as lower}
+use Rattle.cborn_edn.specs.devices.Notating.{following, first, written}
 use Rattle.cborn_edn.proofs.Shown.Characters.{lines_text, same_utf8}
 use Rattle.cborn_edn.proofs.Reader.Modest.{least_is_eight}
 use Rattle.cborn_edn.proofs.Shown.Lowests.{each_showable}
@@ -290,24 +289,12 @@ shown_built (a_tag p w n) ts (t, is) =
     (ap (λ l. ((decimal n ++ (indicator (mark_for w n) ++ codes "(")) ++ l) ++ codes ")") (append-nil (shown t)) ∙ simp append_assoc)
 shown_built (in_chunks p k) ts e = chunks_joined k p ts e
 
-written_end : (f : Partial) (o : Opening) (ts : List Tree) → Ends o ts → ((written f ++ separator (next_in f)) ++ (beginning o ++ (late_text o ts ++ following (first o) ts))) ++ ending (next_after (first o) ts) ≡ written (put f (built o ts))
-written_end f o ts e =
-    append_assoc (written f ++ separator (next_in f)) (beginning o ++ (late_text o ts ++ following (first o) ts)) (ending (next_after (first o) ts))
-    ∙ ap (λ l. (written f ++ separator (next_in f)) ++ l) (shown_built o ts e) ∙ sym (written_put f (built o ts))
-
-in_pairs : (ts : List Tree) (p : ℕ) → last_key ts ≡ None → IsBadAmong (trees ts) p → IsBadInPairs (entries (paired ts)) p
-in_pairs [] p e h = h
-in_pairs (k ∷ []) p e h = absurd (let d : Some k ≡ None = e in cc)
-in_pairs (k ∷ v ∷ ts) p e (inl h) = inl h
-in_pairs (k ∷ v ∷ ts) p e (inr (inl h)) = inr (inl h)
-in_pairs (k ∷ v ∷ ts) p e (inr (inr h)) = inr (inr (in_pairs ts p e h))
-
-from_pairs : (ts : List Tree) (p : ℕ) → last_key ts ≡ None → IsBadInPairs (entries (paired ts)) p → IsBadAmong (trees ts) p
-from_pairs [] p e h = h
-from_pairs (k ∷ []) p e h = absurd (let d : Some k ≡ None = e in cc)
-from_pairs (k ∷ v ∷ ts) p e (inl h) = inl h
-from_pairs (k ∷ v ∷ ts) p e (inr (inl h)) = inr (inl h)
-from_pairs (k ∷ v ∷ ts) p e (inr (inr h)) = inr (inr (from_pairs ts p e h))
+in_pairs : (ts : List Tree) (p : ℕ) → last_key ts ≡ None → (IsBadAmong (trees ts) p → IsBadInPairs (entries (paired ts)) p) × (IsBadInPairs (entries (paired ts)) p → IsBadAmong (trees ts) p)
+in_pairs [] p e = (λ h. h, λ h. h)
+in_pairs (k ∷ []) p e = absurd (let d : Some k ≡ None = e in cc)
+in_pairs (k ∷ v ∷ ts) p e =
+    let g = in_pairs ts p e in
+    (λ h. elim h [ inl a ↦ inl a | inr b ↦ inr (elim b [ inl c ↦ inl c | inr d ↦ inr (g.0 d) ]) ], λ h. elim h [ inl a ↦ inl a | inr b ↦ inr (elim b [ inl c ↦ inl c | inr d ↦ inr (g.1 d) ]) ])
 
 no_bytes : (ts : List Tree) (p : ℕ) → AreStrings OfBytes ts → IsBadAmong (trees ts) p → ⊥
 no_bytes [] p s h = h
@@ -324,7 +311,7 @@ in_texts (_ ∷ ts) p s = absurd s.0
 
 bad_built : (o : Opening) (ts : List Tree) (p : ℕ) → Ends o ts → (IsBadAmong (trees ts) p → IsBadText (built o ts) p) × (IsBadText (built o ts) p → IsBadAmong (trees ts) p)
 bad_built (an_array q s c) ts p e = (λ h. h, λ h. h)
-bad_built (a_map q s c) ts p e = (in_pairs ts p e.1, from_pairs ts p e.1)
+bad_built (a_map q s c) ts p e = in_pairs ts p e.1
 bad_built (a_tag q w n) ts p (t, is) =
     subst (λ us. (IsBadAmong (trees us) p → IsBadText (built (a_tag q w n) us) p) × (IsBadText (built (a_tag q w n) us) p → IsBadAmong (trees us) p)) (sym is)
     (λ h. elim h [ inl a ↦ a | inr b ↦ absurd b ], λ h. inl h)
@@ -396,7 +383,7 @@ end_held v w f o ts a ends around next bad end h =
           (λ p b. elim (bad_put f (built o ts) p b) [ inl x ↦ inl x | inr y ↦ inr ((bad_built o ts p ends).1 y) ])
           (subst (IsLowest (IsBadIn (inside f o ts))) (sym bad) h.bad);
       lates = λ none. (ended (sym bad ∙ none)).0 ∙ sym (lates_put f (built o ts));
-      text = λ none. (ended (sym bad ∙ none)).1 ∙ written_end f o ts ends;
+      text = λ none. (ended (sym bad ∙ none)).1 ∙ (append_assoc (written f ++ separator (next_in f)) (beginning o ++ (late_text o ts ++ following (first o) ts)) (ending (next_after (first o) ts)) ∙ ap (λ l. (written f ++ separator (next_in f)) ++ l) (shown_built o ts ends) ∙ sym (written_put f (built o ts)));
     }
 
 hex_nothing : encode_lower [] ≡ []

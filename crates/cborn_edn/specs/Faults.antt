@@ -1,17 +1,8 @@
 -- Why a text notates nothing: it isn't made of tokens, its tokens aren't a text of the grammar, or what they say has a meaning error.
 use Rattle.std.specs.Prelude.{◌≡◌, ◌⊎◌, ℕ, List, [], ◌∷◌, ◌++◌, length}
-use Rattle.cborn_model.specs.Tree.{Trees}
+use Rattle.cborn_edn.specs.Common.{Trees, HasTokens, FailsAt, Profile, Token, Refused as LexRefused, OutOfMemory as LexOutOfMemory, EdnReason, UnexpectedToken, UnexpectedEnd, TooDeep, IndicatorTooNarrow, IndicatorNotAllowed, MixedString, MixedChunks, TextNotUtf8, BadSimple, TagTooLarge, EdnFault, Lex as LexPart, MeaningError}
 use Rattle.cborn_model.specs.First.{IsFirst}
-use Rattle.cborn_lex.specs.Good.{HasTokens}
-use Rattle.cborn_lex.specs.Bad.{FailsAt}
-use Rattle.cborn_lex.specs.declared.classes.Profile.{Profile}
-use Rattle.cborn_lex.specs.declared.classes.Token.{Token}
-use Rattle.cborn_lex.specs.declared.faults.LexFault.TheVariants.{Refused as LexRefused, OutOfMemory as LexOutOfMemory}
-use Rattle.cborn_edn.specs.declared.faults.EdnReason.{EdnReason}
-use Rattle.cborn_edn.specs.declared.faults.EdnReason.TheVariants.{UnexpectedToken, UnexpectedEnd, TooDeep, IndicatorTooNarrow, IndicatorNotAllowed, MixedString, MixedChunks, TextNotUtf8, BadSimple, TagTooLarge}
-use Rattle.cborn_edn.specs.declared.faults.EdnFault.{EdnFault}
-use Rattle.cborn_edn.specs.declared.faults.EdnFault.TheVariants.{Lex as LexPart, Refused, OutOfMemory}
-use Rattle.cborn_edn.specs.declared.meaning_errors.MeaningError.{MeaningError}
+use Rattle.cborn_edn.specs.declared.faults.EdnFault.TheVariants.{Refused, OutOfMemory}
 use Rattle.cborn_edn.specs.Grammar.{IsText}
 
 -- the tokens are a text of the grammar, whatever its meaning errors

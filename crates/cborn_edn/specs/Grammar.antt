@@ -1,19 +1,8 @@
 -- The grammar of the notation (RFC 8949 section 8, RFC 8610 appendix G): which tokens are an item, which node the item says, and its meaning errors. The node counts only if there is no meaning error.
 -- In each relation p is the profile, d a bound of the nesting depth, x are the tokens and l the meaning errors. The relation holds for each d that is large enough.
 use Rattle.std.specs.Prelude.{◌≡◌, ℕ, suc, ◌≤◌, List, [], ◌∷◌, ◌++◌, Bool, true, false}
-use Rattle.cborn_model.specs.declared.nodes.Chunk.{Chunk}
-use Rattle.cborn_model.specs.Tree.{Tree, Items, Pairs, Tagged, Simple, Trees, no_item as no_node, more, Entries, no_entry, entry, count, count_entries}
-use Rattle.cborn_model.specs.Spelled.{spelled_all}
-use Rattle.cborn_lex.specs.declared.classes.Mark.{Mark}
-use Rattle.cborn_lex.specs.declared.classes.Class.{Class}
-use Rattle.cborn_lex.specs.declared.classes.Class.TheVariants.{ArrayOpen, MapOpen, ArrayClose, MapClose, ParenClose, Comma, Colon, EmbedOpen, EmbedClose, ChunkOpen, Number, TagOpen, Word, SimpleOpen, Text, Bytes}
-use Rattle.cborn_lex.specs.declared.classes.Token.{Token}
-use Rattle.cborn_lex.specs.declared.classes.Profile.{Profile}
-use Rattle.cborn_lex.specs.declared.classes.Profile.TheVariants.{Two as ProfileTwo}
-use Rattle.cborn_lex.specs.Good.{HasTokens}
-use Rattle.cborn_model.specs.declared.visitors.StringKind.{StringKind}
-use Rattle.cborn_model.specs.declared.visitors.StringKind.TheVariants.{OfBytes, OfText}
-use Rattle.cborn_edn.specs.declared.meaning_errors.MeaningError.{MeaningError}
+use Rattle.cborn_edn.specs.Common.{Chunk, Tree, Items, Pairs, Tagged, Simple, Trees, no_item as no_node, more, Entries, no_entry, entry, count, count_entries, spelled_all, Mark, Class, ArrayOpen, MapOpen, ArrayClose, MapClose, ParenClose, Comma, Colon, EmbedOpen, EmbedClose, ChunkOpen, Number, TagOpen, Word, SimpleOpen, Token, Profile, Two as ProfileTwo, HasTokens, StringKind, OfBytes, OfText, MeaningError}
+use Rattle.cborn_lex.specs.declared.classes.Class.TheVariants.{Text, Bytes}
 use Rattle.cborn_edn.specs.Says.{width, size, size_errors, depth_of_number, number_node, number_errors, tag_errors, simple_errors, chunked_node, Str, is_nil, quoted, joined, said_string, chunk, piece_errors, string_errors, chunk_errors}
 
 -- a token's place in the text: the offset of its first byte, and the offset after its last byte

@@ -1,3 +1,4 @@
+pub mod Common
 pub mod Says
 pub mod Grammar
 pub mod Faults
@@ -7,5 +8,6 @@ pub mod ShownBytes
 pub mod Plain
 pub mod ReadingBack
 pub mod Starts
+pub mod Cited
 pub mod shared
 pub mod devices

@@ -1,9 +1,6 @@
 -- The notation of a deterministic encoding (RFC 8949 sections 4.2 and 8). Its heads are the shortest and its lengths definite, so it has no indicator and no string in chunks.
 use Rattle.std.specs.Prelude.{◌≡◌, ℕ, suc, List, [], ◌∷◌, ◌++◌, codes, decimal}
-use Rattle.std.specs.List.{flat_map}
-use Rattle.std.specs.Str.{IsUtf8}
-use Rattle.hex.specs.Hex.{encode_lower}
-use Rattle.cborn_model.specs.Tree.{Tree, Uint, Nint, Bytes as ByteNode, Text as TextNode, Items, Pairs as PairNode, Tagged, Simple, Trees, no_item as no_node, more, Entries, no_entry, entry}
+use Rattle.cborn_edn.specs.Common.{flat_map, IsUtf8, encode_lower, Tree, Uint, Nint, Bytes as ByteNode, Text as TextNode, Items, Pairs as PairNode, Tagged, Simple, Trees, no_item as no_node, more, Entries, no_entry, entry}
 use Rattle.cborn_edn.specs.Shown.{escaped, shown_simple, joined_by}
 
 -- An integer is in decimal, a byte string in hexadecimal, a text string in double quotes, and what an array, a map or a tag holds in brackets. There is no string in chunks, so what is said of one counts for nothing.

@@ -1,21 +1,10 @@
 -- The fixed notation of nodes: their text, and why nodes have none.
 use Rattle.std.specs.Prelude.{◌≡◌, ℕ, suc, ◌≤◌, List, [], ◌∷◌, ◌++◌, map, length, codes, decimal, false, nat_lt, ◌==◌, ◌⊎◌, if◌then◌else◌}
-use Rattle.std.specs.List.{flat_map, join_by}
-use Rattle.std.specs.Str.{is_utf8, IsUtf8}
-use Rattle.hex.specs.Hex.{encode_lower}
-use Rattle.cborn_model.specs.declared.heads.Width.{Width}
-use Rattle.cborn_model.specs.declared.heads.Width.TheVariants.{One, Two, Four, Eight}
-use Rattle.cborn_model.specs.declared.heads.Size.{Size}
-use Rattle.cborn_model.specs.declared.heads.Size.TheVariants.{Fixed, Endless as EndlessMark}
-use Rattle.cborn_model.specs.declared.nodes.Chunk.{Chunk}
-use Rattle.cborn_model.specs.Tree.{Tree, Uint, Nint, Bytes as ByteNode, Text as TextNode, ByteChunks, TextChunks, Items, Pairs as PairNode, Tagged, Simple, Trees, no_item as no_node, more, Entries, no_entry, entry, count, count_entries}
-use Rattle.cborn_model.specs.Heads.{following, least}
-use Rattle.cborn_lex.specs.declared.classes.Mark.{Mark}
-use Rattle.cborn_lex.specs.declared.classes.Mark.TheVariants.{Absent, Endless, Wide}
+use Rattle.cborn_edn.specs.Common.{flat_map, join_by, is_utf8, IsUtf8, encode_lower, Width, Four, Eight, Size, Fixed, Endless as EndlessMark, Chunk, Tree, Uint, Nint, Bytes as ByteNode, Text as TextNode, ByteChunks, TextChunks, Items, Pairs as PairNode, Tagged, Simple, Trees, no_item as no_node, more, Entries, no_entry, entry, count, count_entries, following, least, Mark, Absent, Wide, StringKind, OfBytes, OfText}
+use Rattle.cborn_model.specs.declared.heads.Width.TheVariants.{One, Two}
+use Rattle.cborn_lex.specs.declared.classes.Mark.TheVariants.{Endless}
 use Rattle.cborn_edn.specs.declared.faults.ShowFault.{ShowFault}
 use Rattle.cborn_edn.specs.declared.faults.ShowFault.TheVariants.{NotUtf8, OutOfMemory}
-use Rattle.cborn_model.specs.declared.visitors.StringKind.{StringKind}
-use Rattle.cborn_model.specs.declared.visitors.StringKind.TheVariants.{OfBytes, OfText}
 
 -- a head has an indicator only if it isn't the shortest: if its argument takes more bytes than it needs
 abbrev pub mark_for : Width → ℕ → Mark

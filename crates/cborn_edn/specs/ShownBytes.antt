@@ -1,8 +1,7 @@
 -- The fixed notation of what bytes hold (RFC 8949 section 8), or why they have none.
 use Rattle.std.specs.Prelude.{ℕ, List}
 use Rattle.cborn_model.specs.Placed.{PlacedAll}
-use Rattle.cborn_model.specs.Spelled.{Wellformed}
-use Rattle.cborn_model.specs.Tree.{Tree, trees}
+use Rattle.cborn_edn.specs.Common.{Wellformed, Tree, trees}
 use Rattle.cborn_wire.specs.Faults.{Fault}
 use Rattle.cborn_edn.specs.Shown.{Shown, LowestBadText}
 use Rattle.cborn_edn.specs.declared.shown_bytes.Notated.{Notated}

@@ -1,8 +1,6 @@
 -- What the reader gives: the bytes that the nodes of a text spell.
 use Rattle.std.specs.Prelude.{◌≡◌, ℕ, List}
-use Rattle.cborn_model.specs.Tree.{Trees}
-use Rattle.cborn_model.specs.Spelled.{spelled_all}
-use Rattle.cborn_lex.specs.declared.classes.Profile.{Profile}
+use Rattle.cborn_edn.specs.Common.{Trees, spelled_all, Profile}
 use Rattle.cborn_edn.specs.Grammar.{Notates}
 
 -- the text notates nodes, and the bytes are what they spell

@@ -1,8 +1,6 @@
 -- The places of the nodes and chunks of a text, in the order of their heads: each node before what it contains.
 use Rattle.std.specs.Prelude.{ℕ, ◌<◌, List, [], ◌∷◌, ◌++◌}
-use Rattle.std.specs.List.{AllByRecursion}
-use Rattle.cborn_model.specs.declared.nodes.Chunk.{Chunk}
-use Rattle.cborn_model.specs.Tree.{Tree, Uint, Nint, Bytes, Text, ByteChunks, TextChunks, Items, Pairs, Tagged, Simple, Trees, no_item, more, Entries, no_entry, entry}
+use Rattle.cborn_edn.specs.Common.{AllByRecursion, Chunk, Tree, Uint, Nint, Bytes, Text, ByteChunks, TextChunks, Items, Pairs, Tagged, Simple, Trees, no_item, more, Entries, no_entry, entry}
 
 abbrev pub starts_of_chunks : List Chunk → List ℕ
 starts_of_chunks [] = []

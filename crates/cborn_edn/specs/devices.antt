@@ -1,8 +1,5 @@
 pub mod TreesCode
-pub mod Escaping
-pub mod Lexical
 pub mod MeaningErrors
-pub mod Levels
 pub mod Commas
 pub mod Syntax
 pub mod Machine
@@ -17,3 +14,4 @@ pub mod Handed
 pub mod Steps
 pub mod Reading
 pub mod Notating
+pub mod Common

@@ -1,24 +1,10 @@
 //! Brackets that open and end, and commas and colons between items.
 
 ghost use Rattle.std.specs.Prelude.{◌≡◌, ℕ, ◌<◌, ◌^◌, [], ◌∷◌, ◌++◌, List, length, Option, Some, None, OnOk, true, false, ◌&&◌, if◌then◌else◌};
-ghost use Rattle.cborn_model.specs.Tree.{Tree, trees};
-ghost use Rattle.cborn_model.specs.Spelled.{spelled_all};
-ghost use Rattle.cborn_lex.specs.declared.classes.Mark.{Mark as Indicator};
-ghost use Rattle.cborn_edn.specs.devices.Syntax.{Span as Place, Item, Content, Fields, Pieces as Joined, no_item, no_pair, array, map, tag, embedded, row, RowBefore, after_row, pairs, PairsBefore, after_pairs};
-ghost use Rattle.cborn_edn.specs.devices.Machine.{Stack, Nest, in_row, in_key, in_value, in_tag, in_array, in_embed, Home, State, with_piece, wants, has, builds, at_home};
-ghost use Rattle.cborn_edn.specs.devices.Noted.{noted};
-ghost use Rattle.cborn_edn.specs.devices.Shows.{Shows, content_state, fields_state, entries_at};
+ghost use Rattle.cborn_edn.specs.Common.{Tree, trees, spelled_all, Mark as Indicator, Speller as OneSpeller, top, no_part, OpenBracket as Opened, Writer as Writing, Has, Wants, OfBytes};
+ghost use Rattle.cborn_edn.specs.devices.Common.{Span as Place, Item, Content, Pieces as Joined, no_item, no_pair, array, map, tag, embedded, row, RowBefore, after_row, pairs, PairsBefore, after_pairs, Stack, Nest, in_row, in_key, in_value, in_tag, in_array, in_embed, Home, State, with_piece, wants, has, builds, at_home, Shows, content_state, entries_at, IsSpelled, Reads, joint, Notes, Sized};
+ghost use Rattle.cborn_edn.specs.Cited.{Str, joined, piece_errors, size_errors};
 ghost use Rattle.cborn_edn.specs.devices.Handed as pure;
-ghost use Rattle.cborn_edn.specs.devices.Handed.{IsSpelled, Reads};
-ghost use Rattle.cborn_wire.specs.declared.spellers.Speller.{Speller as OneSpeller};
-ghost use Rattle.cborn_model.specs.Partial.{top, no_part};
-ghost use Rattle.cborn_edn.specs.declared.states.OpenBracket.{OpenBracket as Opened};
-ghost use Rattle.cborn_edn.specs.declared.states.Writer.{Writer as Writing};
-ghost use Rattle.cborn_edn.specs.declared.states.Phase.TheVariants.{Has, Wants};
-ghost use Rattle.cborn_edn.specs.devices.Kept.{joint};
-ghost use Rattle.cborn_edn.specs.devices.MeaningErrors.{Notes};
-ghost use Rattle.cborn_edn.specs.Says.{Str, joined, piece_errors, size_errors};
-ghost use Rattle.cborn_model.specs.declared.visitors.StringKind.TheVariants.{OfBytes};
 
 use crate::MeaningError;
 use crate::events::Event;
@@ -202,8 +188,7 @@ pub(crate) fn close_sized<V: Visitor>(
 ) -> Result<(), AllocError>
     requires small { here.old.count < 2 ^ 63 }
     requires open { 0 < length writer.old.brackets }
-    ensures array { OnOk result ((st : Stack) (s a : Place) (m : Indicator) (c : Content) → Reads (V.holds visitor.old) here.old writer.old writer.old.pieces.items (content_state (in_array st s m) c) → Reads (V.holds visitor.new) here.new writer.new writer.new.pieces.items (has st (array s m c a))) }
-    ensures map { OnOk result ((st : Stack) (s a : Place) (m : Indicator) (f : Fields) → Reads (V.holds visitor.old) here.old writer.old writer.old.pieces.items (fields_state st s m f) → Reads (V.holds visitor.new) here.new writer.new writer.new.pieces.items (has st (map s m f a))) }
+    ensures { OnOk result ((s u : State) (a : Place) → Sized a s u → Reads (V.holds visitor.old) here.old writer.old writer.old.pieces.items s → Reads (V.holds visitor.new) here.new writer.new writer.new.pieces.items u) }
 {
     let count = all_entries(here);
     let bracket = shut(here, writer);

@@ -2,13 +2,9 @@
 //! answers whether the token is allowed there, and changes nothing if it isn't.
 
 ghost use Rattle.std.specs.Prelude.{◌≡◌, ◌<◌, ◌^◌, false, IfOk, OnOk};
-ghost use Rattle.cborn_lex.specs.declared.classes.Class.TheVariants.{ArrayClose, MapClose, EmbedClose, ParenClose, Comma, Colon};
-ghost use Rattle.cborn_edn.specs.devices.Syntax.{Span as Place, Item};
-ghost use Rattle.cborn_edn.specs.devices.Machine.{Stack, State, has};
-ghost use Rattle.cborn_edn.specs.devices.Shows.{Shows};
-ghost use Rattle.cborn_edn.specs.devices.Handed.{Reads};
+ghost use Rattle.cborn_edn.specs.Common.{ArrayClose, MapClose, EmbedClose, ParenClose, Comma, Colon};
+ghost use Rattle.cborn_edn.specs.devices.Common.{Span as Place, Item, Stack, State, has, Shows, Reads, MayEnd, Turned, Taken};
 ghost use Rattle.cborn_edn.specs.devices.Steps as pure;
-ghost use Rattle.cborn_edn.specs.devices.Steps.{MayEnd, Turned, Taken};
 
 use crate::containers::{close_embedded, close_sized, close_tag, colon, comma, comma_of_pairs};
 use crate::states::{Chunks, Here, Level, Phase, Writer};
@@ -37,12 +33,15 @@ fn is_row(level: Option<Level>) -> bool
     matches!(level, None | Some(Level::Array | Level::Embedded))
 }
 
-/// Whether the innermost bracket is a map that may end in this phase: before a key, or after a
-/// value.
+/// Whether the innermost bracket is a map that may end in this phase, before a key or after a value;
+/// or else whether it is an array.
 #[inline(always)]
-fn ends_map(phase: Phase, level: Option<Level>) -> bool
-    ensures { result ≡ pure.ends_map phase level }
+fn ends_sized(is_map: bool, phase: Phase, level: Option<Level>) -> bool
+    ensures { result ≡ pure.ends_sized is_map phase level }
 {
+    if !is_map {
+        return is_in(Level::Array, level);
+    }
     match phase {
         Phase::Has => is_in(Level::Value, level),
         _ => is_in(Level::Key, level),
@@ -57,38 +56,20 @@ pub(crate) fn has_chunks(chunks: Option<Chunks>) -> bool
     matches!(chunks, Some(_))
 }
 
-/// Ends an array with a `]`, if one may end there.
+/// Ends a map with a `}`, or an array with a `]`, if one may end there.
 #[inline(always)]
-pub(crate) fn end_array<V: Visitor>(
+pub(crate) fn end_sized<V: Visitor>(
+    is_map: bool,
     here: &mut Here,
     writer: &mut Writer,
     visitor: &mut V,
 ) -> Result<bool, AllocError>
     requires few { here.old.count < 2 ^ 63 }
     requires shows { (s : State) × MayEnd s × Reads (V.holds visitor.old) here.old writer.old writer.old.pieces.items s }
-    ensures taken { IfOk result (λ ok. (s : State) (a : Place) → MayEnd s → Reads (V.holds visitor.old) here.old writer.old writer.old.pieces.items s → Taken (V.holds visitor.new) ok s ArrayClose a here.new writer.new) }
+    ensures taken { IfOk result (λ ok. (s : State) (a : Place) → MayEnd s → Reads (V.holds visitor.old) here.old writer.old writer.old.pieces.items s → Taken (V.holds visitor.new) ok s (pure.sized_end is_map) a here.new writer.new) }
     ensures kept { IfOk result (λ ok. ok ≡ false → (here.new ≡ here.old) × (writer.new ≡ writer.old) × (visitor.new ≡ visitor.old)) }
 {
-    if !is_in(Level::Array, here.level) {
-        return Ok(false);
-    }
-    close_sized(here, writer, visitor)?;
-    Ok(true)
-}
-
-/// Ends a map with a `}`, if one may end there.
-#[inline(always)]
-pub(crate) fn end_map<V: Visitor>(
-    here: &mut Here,
-    writer: &mut Writer,
-    visitor: &mut V,
-) -> Result<bool, AllocError>
-    requires few { here.old.count < 2 ^ 63 }
-    requires shows { (s : State) × MayEnd s × Reads (V.holds visitor.old) here.old writer.old writer.old.pieces.items s }
-    ensures taken { IfOk result (λ ok. (s : State) (a : Place) → MayEnd s → Reads (V.holds visitor.old) here.old writer.old writer.old.pieces.items s → Taken (V.holds visitor.new) ok s MapClose a here.new writer.new) }
-    ensures kept { IfOk result (λ ok. ok ≡ false → (here.new ≡ here.old) × (writer.new ≡ writer.old) × (visitor.new ≡ visitor.old)) }
-{
-    if !ends_map(here.phase, here.level) {
+    if !ends_sized(is_map, here.phase, here.level) {
         return Ok(false);
     }
     close_sized(here, writer, visitor)?;

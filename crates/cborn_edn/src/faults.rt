@@ -3,7 +3,7 @@
 ghost use Rattle.std.specs.Prelude.{◌≡◌};
 ghost use Rattle.cborn_edn.specs.declared.faults.EdnFault.TheVariants.{OutOfMemory};
 ghost use Rattle.cborn_edn.specs.declared.faults.ShowFault.TheVariants.{OutOfMemory as ShowOutOfMemory};
-ghost use Rattle.cborn_edn.specs.devices.Lexical.{lexical};
+ghost use Rattle.cborn_edn.specs.devices.MeaningErrors.{lexical};
 
 use cborn_lex::LexFault;
 use std::alloc::AllocError;

@@ -4,11 +4,7 @@
 //! of a string. After a meaning error nothing is handed over any more, since the text notates nothing.
 
 ghost use Rattle.std.specs.Prelude.{◌≡◌, ◌∷◌, List, true, OnOk};
-ghost use Rattle.cborn_edn.specs.devices.MeaningErrors.{first_error, is_none};
-ghost use Rattle.cborn_edn.specs.devices.Machine.{State};
-ghost use Rattle.cborn_edn.specs.devices.Noted.{noted};
-ghost use Rattle.cborn_edn.specs.devices.Events.{Fits};
-ghost use Rattle.cborn_edn.specs.devices.Handed.{Hands, AllHanded, InnermostFollows};
+ghost use Rattle.cborn_edn.specs.devices.Common.{first_error, is_none, State, noted, Fits, Hands, AllHanded, InnermostFollows};
 
 use crate::MeaningError;
 use crate::events::{Event, hand_to};

@@ -1,11 +1,10 @@
 //! Decimal integers and the numbers of tags (RFC 8949 section 8).
 
 ghost use Rattle.std.specs.Prelude.{◌≡◌, ◌≤◌, ◌<◌, true, false, ◌==◌, length, slice_index, IfSome, if◌then◌else◌};
-ghost use Rattle.cborn_lex.specs.declared.classes.Profile.{Profile};
+ghost use Rattle.cborn_edn.specs.Common.{Profile, begins};
+ghost use Rattle.cborn_edn.specs.devices.Common.{IsTokenAt};
 ghost use Rattle.cborn_lex.specs.declared.classes.Class.TheVariants as classes;
 ghost use Rattle.cborn_lex.specs.declared.classes.Mark.TheVariants as marks;
-ghost use Rattle.cborn_lex.specs.Tokens.{begins};
-ghost use Rattle.cborn_edn.specs.devices.Ahead.{IsTokenAt};
 
 use cborn_lex::{Mark, decimal_at, mark_at};
 
@@ -66,9 +65,9 @@ pub(crate) fn negative_at(text: &[u8], at: usize) -> Option<(u64, usize)>
     Some((n, at + 1 + len))
 }
 
-/// Whether `x` begins with the character `c`.
+/// Whether `tail` begins with the character `c`.
 #[inline(always)]
-fn begins_with(c: u8, tail: &[u8]) -> bool
+pub(crate) fn begins_with(c: u8, tail: &[u8]) -> bool
     ensures { result ≡ begins (λ d. d == c) tail.now }
 {
     tail.len() > 0 && tail[0] == c

@@ -2,31 +2,19 @@
 //! contract is a theorem.
 
 ghost use Rattle.std.specs.Prelude.{◌≡◌, ℕ, ◌^◌, ◌<◌, ◌≤◌, Bool, true, List, [], map, length, ◌⊎◌, ◌↔◌};
-ghost use Rattle.std.specs.Str.{is_utf8};
+ghost use Rattle.cborn_edn.specs.Common.{is_utf8, Trees, depth_all, FitsAll, spelled_all, Profile, One as ProfileOne, Two as ProfileTwo, Token, HasTokens, FailsAt, EdnReason, MeaningError};
+ghost use Rattle.cborn_edn.specs.devices.Common.{tokens_of_input, Parsed};
+ghost use Rattle.cborn_edn.specs.Cited.{AreShowable, Shown, shown_lines, IsText, Notates, HasTree, IsSyntaxError, HasMeaningError, HasSyntaxError};
 ghost use Rattle.cborn_model.specs.Bytes.{AreBytes};
-ghost use Rattle.cborn_model.specs.Tree.{Trees, depth_all};
 ghost use Rattle.cborn_model.specs.Value.{Values};
 ghost use Rattle.cborn_model.specs.Meaning.{AllMean};
-ghost use Rattle.cborn_model.specs.Spelled.{FitsAll, spelled_all};
-ghost use Rattle.cborn_lex.specs.declared.classes.Profile.{Profile};
-ghost use Rattle.cborn_lex.specs.declared.classes.Profile.TheVariants.{One as ProfileOne, Two as ProfileTwo};
-ghost use Rattle.cborn_lex.specs.declared.classes.Token.{Token};
 ghost use Rattle.cborn_lex.specs.declared.faults.LexReason.{LexReason};
-ghost use Rattle.cborn_lex.specs.Good.{HasTokens};
-ghost use Rattle.cborn_lex.specs.Bad.{FailsAt};
-ghost use Rattle.cborn_edn.specs.declared.faults.EdnReason.{EdnReason};
-ghost use Rattle.cborn_edn.specs.devices.Syntax.{tokens_of_input};
-ghost use Rattle.cborn_edn.specs.devices.Parse as trees;
-ghost use Rattle.cborn_edn.specs.devices.Said.{Parsed};
 ghost use Rattle.cborn_edn.specs.ReadingBack.{unplaced_token, notated_input, unplaced_all};
-ghost use Rattle.cborn_edn.specs.Shown.{AreShowable, Shown, shown_lines};
 ghost use Rattle.cborn_edn.specs.Starts.{spots_all, IsRising};
-ghost use Rattle.cborn_edn.specs.Grammar.{IsText, Notates};
-ghost use Rattle.cborn_edn.specs.declared.meaning_errors.MeaningError.{MeaningError};
-ghost use Rattle.cborn_edn.specs.Faults.{HasTree, IsSyntaxError, HasMeaningError, HasSyntaxError};
 
 /// Tokens are a text of the grammar in at most one way, with the same nodes and meaning errors in
 /// each profile and within each limit.
+#[tactic(auto, using(crate::proofs::Short::Facts::one_text))]
 pub fn one_text()
     ensures { (profile other : Profile) (limit most : ℕ) (tokens : List Token) (nodes others : Trees) (errors faults : List MeaningError) → IsText profile limit tokens nodes errors → IsText other most tokens others faults → (nodes ≡ others) × (errors ≡ faults) }
 {}
@@ -46,6 +34,7 @@ pub fn larger_limit()
 
 /// What is a text of the grammar in profile 1 is one in profile 2, with the same nodes, places and
 /// meaning errors.
+#[tactic(auto, using(crate::proofs::Short::Facts::both_texts))]
 pub fn both_profiles()
     ensures { (limit : ℕ) (tokens : List Token) (nodes : Trees) (errors : List MeaningError) → IsText ProfileOne limit tokens nodes errors → IsText ProfileTwo limit tokens nodes errors }
 {}
@@ -97,9 +86,8 @@ pub fn spots_rise()
 
 /// The trees of the grammar, a device of the proofs, agree with its relation. Tokens are a text of
 /// the grammar exactly if they are those of a tree, which says the same nodes and has the same
-/// meaning errors. They have the same syntax errors.
+/// meaning errors.
+#[tactic(auto, using(crate::proofs::Short::SyntaxErrors::said_by, crate::proofs::Short::SyntaxErrors::parsed))]
 pub fn short_form()
-    ensures text { (profile : Profile) (limit : ℕ) (tokens : List Token) (nodes : Trees) (errors : List MeaningError) → Parsed profile limit tokens nodes errors ↔ IsText profile limit tokens nodes errors }
-    ensures tree { (profile : Profile) (limit : ℕ) (tokens : List Token) → trees.HasTree profile limit tokens ↔ HasTree profile limit tokens }
-    ensures syntax_error { (profile : Profile) (limit end : ℕ) (tokens : List Token) (p : ℕ) (r : EdnReason) → trees.IsSyntaxError profile limit end tokens p r ↔ IsSyntaxError profile limit end tokens p r }
+    ensures { (profile : Profile) (limit : ℕ) (tokens : List Token) (nodes : Trees) (errors : List MeaningError) → Parsed profile limit tokens nodes errors ↔ IsText profile limit tokens nodes errors }
 {}

@@ -1,9 +1,9 @@
 //! Brackets with their indicators (RFC 8949 section 8, RFC 8610 appendix G.3).
 
 ghost use Rattle.std.specs.Prelude.{◌≡◌, ◌≤◌, ◌<◌, ◌+◌, length, slice_index, true, IfSome};
-ghost use Rattle.cborn_lex.specs.declared.classes.Profile.{Profile};
+ghost use Rattle.cborn_edn.specs.Common.{Profile};
+ghost use Rattle.cborn_edn.specs.devices.Common.{IsTokenAt};
 ghost use Rattle.cborn_lex.specs.declared.classes.Class.TheVariants as classes;
-ghost use Rattle.cborn_edn.specs.devices.Ahead.{IsTokenAt};
 
 use cborn_lex::{Mark, mark_at};
 
@@ -50,6 +50,7 @@ pub(crate) fn embeds_at(text: &[u8], at: usize) -> bool
 }
 
 /// Whether an underscore and a space follow the `(` at the offset `at` of `text`.
+#[tactic(auto, using(crate::proofs::Reader::Items::chunks_here))]
 #[inline(always)]
 pub(crate) fn opens_chunks_at(text: &[u8], at: usize) -> bool
     requires inside { at < length text.now }

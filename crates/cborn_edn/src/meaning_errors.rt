@@ -4,7 +4,7 @@
 ghost use Rattle.std.specs.Prelude.{◌≡◌, false};
 ghost use Rattle.cborn_edn.specs.Says as says;
 ghost use Rattle.cborn_edn.specs.devices.MeaningErrors as pure;
-ghost use Rattle.cborn_edn.specs.devices.MeaningErrors.{Notes};
+ghost use Rattle.cborn_edn.specs.devices.Common.{Notes};
 
 use crate::EdnReason;
 use cborn_lex::Mark;

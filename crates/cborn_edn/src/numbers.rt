@@ -1,17 +1,9 @@
 //! Integers, tags and simple values, and what is wrong with their indicators.
 
 ghost use Rattle.std.specs.Prelude.{◌≡◌, ◌<◌, ◌++◌, ◌∷◌, ℕ, Bool, List, OnOk};
-ghost use Rattle.std.specs.Int.Digits.{digits_of};
-ghost use Rattle.cborn_lex.specs.declared.classes.Mark.{Mark as Indicator};
-ghost use Rattle.cborn_edn.specs.devices.Syntax.{Span as Place, number, word, simple};
-ghost use Rattle.cborn_edn.specs.devices.Machine.{Stack, State, wants, has, wants_number, has_number};
-ghost use Rattle.cborn_edn.specs.declared.states.Writer.{Writer as Writing};
-ghost use Rattle.cborn_edn.specs.declared.events.Event.TheVariants.{Bignum};
-ghost use Rattle.cborn_edn.specs.devices.Shows.{Shows};
-ghost use Rattle.cborn_edn.specs.devices.Noted.{noted};
-ghost use Rattle.cborn_edn.specs.devices.Handed.{Hands, AllHanded, Reads};
+ghost use Rattle.cborn_edn.specs.Common.{digits_of, Mark as Indicator, Writer as Writing, Bignum};
+ghost use Rattle.cborn_edn.specs.devices.Common.{Span as Place, number, word, simple, Stack, State, wants, has, wants_number, has_number, Shows, noted, Hands, AllHanded, Reads, Notes, first_error};
 ghost use Rattle.cborn_edn.specs.Says as says;
-ghost use Rattle.cborn_edn.specs.devices.MeaningErrors.{Notes, first_error};
 
 use crate::events::Event;
 use crate::handing::hand;
@@ -72,27 +64,22 @@ pub(crate) fn is_small(negative: bool, magnitude: u128) -> bool
     argument_of(negative, magnitude) < OUTSIDE
 }
 
-/// Notes what is wrong with the indicator at `place` of an integer: `magnitude`, or `-magnitude`.
+/// Notes what is wrong with the indicator of an integer at `place`.
 #[inline(always)]
-fn note_number(
-    negative: bool,
-    magnitude: u128,
-    mark: Mark,
-    place: usize,
-    error: &mut Option<MeaningError>,
-)
-    ensures { Notes error.old error.new (says.number_errors place negative magnitude mark) }
+fn note_number(numeral: Numeral, place: usize, error: &mut Option<MeaningError>)
+    ensures { Notes error.old error.new (says.number_errors place numeral.negative numeral.magnitude numeral.mark) }
 {
-    let argument = argument_of(negative, magnitude);
+    let argument = argument_of(numeral.negative, numeral.magnitude);
     if argument >= OUTSIDE {
         let reason = EdnReason::IndicatorNotAllowed;
-        note_unless(is_absent(mark), place, reason, error);
+        note_unless(is_absent(numeral.mark), place, reason, error);
     } else {
-        note_width(mark, argument as u64, place, error);
+        note_width(numeral.mark, argument as u64, place, error);
     }
 }
 
 /// Appends the bytes of `n`, the highest first, without leading zeros.
+#[tactic(auto, using(crate::proofs::Reader::Bignums::one_digit))]
 fn push_digits(n: u128, out: &mut Vec<u8>) -> Result<(), AllocError>
     ensures { OnOk result (out.new.items ≡ out.old.items ++ digits_of 256 n) }
 {
@@ -151,20 +138,15 @@ pub(crate) fn put_number<V: Visitor>(
 ) -> Result<(), AllocError>
     ensures { OnOk result ((st : Stack) (a : Place) → place ≡ a.start → Reads (V.holds visitor.old) here.old writer.old writer.old.pieces.items (wants st) → Reads (V.holds visitor.new) here.new writer.new writer.new.pieces.items (has st (number a numeral.negative numeral.magnitude numeral.mark))) }
 {
-    let Numeral {
-        negative,
-        magnitude,
-        mark,
-    } = numeral;
     here.phase = Phase::Has;
-    note_number(negative, magnitude, mark, place, &mut writer.error);
-    let negative = is_below(negative, magnitude);
-    let argument = argument_of(numeral.negative, magnitude);
+    note_number(numeral, place, &mut writer.error);
+    let negative = is_below(numeral.negative, numeral.magnitude);
+    let argument = argument_of(numeral.negative, numeral.magnitude);
     if argument >= OUTSIDE {
         return put_bignum(negative, argument, place, writer, visitor);
     }
     let n = argument as u64;
-    let width = width_for(mark, n);
+    let width = width_for(numeral.mark, n);
     let event = Event::Integer { negative, width, n };
     let spellers = &mut writer.spellers;
     hand(event, place, &[], writer.error, spellers, visitor)

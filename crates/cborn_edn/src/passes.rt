@@ -1,25 +1,18 @@
 //! A whole text, read token by token: its nodes, handed to a visitor, or why it has none.
 
 ghost use Rattle.std.specs.Prelude.{◌≡◌, ◌≤◌, ◌<◌, ◌^◌, List, [], length, IfOk, IfErr, OnOk};
-ghost use Rattle.cborn_edn.specs.Faults.{IsNoNotation};
-ghost use Rattle.cborn_edn.specs.devices.Machine.{State, start};
-ghost use Rattle.cborn_model.specs.Tree.{Tree, trees};
-ghost use Rattle.cborn_model.specs.Spelled.{FitsAll};
-ghost use Rattle.cborn_model.specs.Partial.{top, no_part};
-ghost use Rattle.cborn_edn.specs.Grammar.{Notates};
+ghost use Rattle.cborn_edn.specs.Cited.{IsNoNotation, Notates};
+ghost use Rattle.cborn_edn.specs.devices.Common.{State, start, Reads, IsReading, IsInside, Judged, Last, AtEnd, of_text, Input, Shows};
+ghost use Rattle.cborn_edn.specs.Common.{Tree, trees, FitsAll, top, no_part};
 ghost use Rattle.cborn_edn.specs.Spelling.{IsSpelling};
-ghost use Rattle.cborn_edn.specs.devices.Handed.{Reads};
 ghost use Rattle.cborn_edn.specs.devices.Reading as pure;
-ghost use Rattle.cborn_edn.specs.devices.Reading.{IsReading, IsInside, Judged, Last, AtEnd, of_text};
-ghost use Rattle.cborn_edn.specs.devices.Syntax.{Input};
-ghost use Rattle.cborn_edn.specs.devices.Shows.{Shows};
 
 use crate::endings::has_chunks;
 use crate::quick::take_common;
 use crate::quick_ends::take_empty_end;
 use crate::refusals::{first_fault, refused};
 use crate::spellers::Spellers;
-use crate::states::{Arounds, Brackets, Chunks, Here, Level, Phase, Source, Writer};
+use crate::states::{Chunks, Here, Level, Opened, Phase, Source, Writer};
 use crate::steps::take;
 use crate::strings::end_item;
 use crate::tokens::{is_trailing_comma, reach_of};
@@ -91,8 +84,8 @@ impl Writer {
         Writer {
             pieces: Vec::new(alloc),
             start: 0,
-            brackets: Brackets::new(alloc),
-            around: Arounds::new(alloc),
+            brackets: Opened::new(alloc),
+            around: Opened::new(alloc),
             spellers: Spellers::new(alloc),
             string: None,
             chunks: None,

@@ -5,14 +5,13 @@
 //! what is there. All functions are in line, so that `here` is kept in registers.
 
 ghost use Rattle.std.specs.Prelude.{◌≡◌, ◌≤◌, ◌<◌, [], true, length, slice_index, IfOk};
-ghost use Rattle.cborn_lex.specs.declared.classes.Profile.{Profile};
-ghost use Rattle.cborn_lex.specs.Good.{TokensBetween};
+ghost use Rattle.cborn_edn.specs.Common.{Profile, TokensBetween};
+ghost use Rattle.cborn_edn.specs.devices.Common.{IsInside, IsWanting, Goes};
 ghost use Rattle.cborn_edn.specs.declared.states.Phase.TheVariants as phases;
-ghost use Rattle.cborn_edn.specs.devices.Reading.{IsInside, IsWanting, Goes};
 
 use crate::integers::integer_at;
 use crate::numbers::{Numeral, close_simple, put_simple};
-use crate::quick_ends::{take_after, take_after_pieces, take_array_end, take_map_end};
+use crate::quick_ends::{take_after, take_after_pieces, take_sized_end};
 use crate::quick_items::{
     take_array, take_chunked, take_embedded, take_integer, take_map, take_negative, take_text,
     take_word,
@@ -62,7 +61,7 @@ fn take_item<V: Visitor>(
     ensures { IfOk result (Goes (V.holds visitor.new) source.entry here.old here.new writer.new) }
 {
     let taken = take_first(source, here, writer, visitor)?;
-    if taken && has_item(here.phase) && here.at < source.text.len() {
+    if taken && here.phase == Phase::Has && here.at < source.text.len() {
         take_after(
             source.limit,
             source.profile,
@@ -73,14 +72,6 @@ fn take_item<V: Visitor>(
         )?;
     }
     Ok(taken)
-}
-
-/// Whether an item was read last.
-#[inline(always)]
-fn has_item(phase: Phase) -> bool
-    ensures { result ≡ true → phase ≡ phases.Has }
-{
-    matches!(phase, Phase::Has)
 }
 
 /// Takes an item, a bracket, or white space, where an item is wanted.
@@ -123,8 +114,8 @@ fn take_row<V: Visitor>(
         return take_array(source, here, writer, visitor);
     }
     let taken = take_array(source, here, writer, visitor)?;
-    if taken && is_first(here.phase) && has_byte_at(b']', source.text.as_bytes(), here.at) {
-        take_array_end(source, here, writer, visitor)?;
+    if taken && here.phase == Phase::Wants && has_byte_at(b']', source.text.as_bytes(), here.at) {
+        take_sized_end(false, source, here, writer, visitor)?;
     }
     Ok(taken)
 }
@@ -145,8 +136,8 @@ fn take_pairs<V: Visitor>(
         return take_map(source, here, writer, visitor);
     }
     let taken = take_map(source, here, writer, visitor)?;
-    if taken && is_first(here.phase) && has_byte_at(b'}', source.text.as_bytes(), here.at) {
-        take_map_end(source, here, writer, visitor)?;
+    if taken && here.phase == Phase::Wants && has_byte_at(b'}', source.text.as_bytes(), here.at) {
+        take_sized_end(true, source, here, writer, visitor)?;
     }
     Ok(taken)
 }
@@ -158,14 +149,6 @@ fn has_byte_at(c: u8, text: &[u8], at: usize) -> bool
     ensures is { result ≡ true → slice_index text.now at ≡ c }
 {
     at < text.len() && text[at] == c
-}
-
-/// Whether an item is wanted, and not after a comma.
-#[inline(always)]
-fn is_first(phase: Phase) -> bool
-    ensures { result ≡ true → phase ≡ phases.Wants }
-{
-    matches!(phase, Phase::Wants)
 }
 
 /// Passes over a space, if there is one.

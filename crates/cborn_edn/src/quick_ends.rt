@@ -1,12 +1,12 @@
 //! Frequent tokens after an item or after the pieces of a string, taken without the lexer. Each
 //! function answers whether it took something.
 
-ghost use Rattle.std.specs.Prelude.{◌≡◌, ◌⊎◌, true, slice_index, IfOk};
+ghost use Rattle.std.specs.Prelude.{◌≡◌, ◌⊎◌, true, slice_index, IfOk, if◌then◌else◌};
 ghost use Rattle.cborn_edn.specs.declared.states.Phase.TheVariants as phases;
-ghost use Rattle.cborn_edn.specs.devices.Reading.{IsInside, Goes, of_text};
+ghost use Rattle.cborn_edn.specs.devices.Common.{IsInside, Goes, of_text};
 ghost use Rattle.cborn_edn.specs.devices.Steps as pure;
 
-use crate::endings::{end_array, end_embedded, end_entry, end_key, end_map, end_tag, has_chunks};
+use crate::endings::{end_embedded, end_entry, end_key, end_sized, end_tag, has_chunks};
 use crate::marks::embed_end_at;
 use crate::quick::{skip_space, take_white_space};
 use crate::states::{Here, Phase, Source, Writer};
@@ -38,8 +38,8 @@ pub(crate) fn take_after<V: Visitor>(
     match source.text.as_bytes()[here.at] {
         b',' => take_comma(source, here, writer, visitor),
         b':' => take_colon(source, here, writer, visitor),
-        b']' => take_array_end(source, here, writer, visitor),
-        b'}' => take_map_end(source, here, writer, visitor),
+        b']' => take_sized_end(false, source, here, writer, visitor),
+        b'}' => take_sized_end(true, source, here, writer, visitor),
         b')' => take_tag_end(source, here, writer, visitor),
         b'>' => take_embed_end(source, here, writer, visitor),
         _ => take_white_space(source, here, writer, visitor),
@@ -90,9 +90,10 @@ fn take_colon<V: Visitor>(
     Ok(taken)
 }
 
-/// Takes a `]`.
+/// Takes the `}` of a map, or the `]` of an array.
 #[inline(always)]
-pub(crate) fn take_array_end<V: Visitor>(
+pub(crate) fn take_sized_end<V: Visitor>(
+    is_map: bool,
     source: Source,
     here: &mut Here,
     writer: &mut Writer,
@@ -100,32 +101,11 @@ pub(crate) fn take_array_end<V: Visitor>(
 ) -> Result<bool, AllocError>
     requires inside { IsInside (V.holds visitor.old) source here.old writer.old }
     requires ends { (here.old.phase ≡ phases.Has) ⊎ (here.old.phase ≡ phases.Wants) }
-    requires bracket { slice_index source.text.now here.old.at ≡ 93 }
+    requires bracket { slice_index source.text.now here.old.at ≡ (if is_map then 125 else 93) }
     ensures { IfOk result (Goes (V.holds visitor.new) source.entry here.old here.new writer.new) }
 {
     let at = here.at;
-    let taken = end_array(here, writer, visitor)?;
-    if taken {
-        here.at = at + 1;
-    }
-    Ok(taken)
-}
-
-/// Takes a `}`.
-#[inline(always)]
-pub(crate) fn take_map_end<V: Visitor>(
-    source: Source,
-    here: &mut Here,
-    writer: &mut Writer,
-    visitor: &mut V,
-) -> Result<bool, AllocError>
-    requires inside { IsInside (V.holds visitor.old) source here.old writer.old }
-    requires ends { (here.old.phase ≡ phases.Has) ⊎ (here.old.phase ≡ phases.Wants) }
-    requires bracket { slice_index source.text.now here.old.at ≡ 125 }
-    ensures { IfOk result (Goes (V.holds visitor.new) source.entry here.old here.new writer.new) }
-{
-    let at = here.at;
-    let taken = end_map(here, writer, visitor)?;
+    let taken = end_sized(is_map, here, writer, visitor)?;
     if taken {
         here.at = at + 1;
     }
@@ -146,8 +126,8 @@ pub(crate) fn take_empty_end<V: Visitor>(
         return Ok(false);
     }
     match source.text.as_bytes()[here.at] {
-        b']' => take_array_end(source, here, writer, visitor),
-        b'}' => take_map_end(source, here, writer, visitor),
+        b']' => take_sized_end(false, source, here, writer, visitor),
+        b'}' => take_sized_end(true, source, here, writer, visitor),
         _ => Ok(false),
     }
 }

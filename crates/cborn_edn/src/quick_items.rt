@@ -3,9 +3,8 @@
 
 ghost use Rattle.std.specs.Prelude.{◌≡◌, slice_index, IfOk};
 ghost use Rattle.cborn_lex.specs.declared.classes.Class.TheVariants as classes;
-ghost use Rattle.cborn_lex.specs.declared.classes.Profile.{Profile};
-ghost use Rattle.cborn_edn.specs.devices.Ahead.{IsTokenAt};
-ghost use Rattle.cborn_edn.specs.devices.Reading.{IsWanting, Goes, of_text};
+ghost use Rattle.cborn_edn.specs.Common.{Profile};
+ghost use Rattle.cborn_edn.specs.devices.Common.{IsTokenAt, IsWanting, Goes, of_text};
 
 use crate::containers::{open_array, open_embedded, open_map, open_tag};
 use crate::integers::{Integer, integer_at, negative_at};

@@ -1,9 +1,8 @@
 //! Notation, read as nodes.
 
 ghost use Rattle.std.specs.Prelude.{IfOk, IfErr};
-ghost use Rattle.cborn_model.specs.Tree.{trees};
-ghost use Rattle.cborn_edn.specs.Grammar.{Notates};
-ghost use Rattle.cborn_edn.specs.Faults.{IsNoNotation};
+ghost use Rattle.cborn_edn.specs.Common.{trees};
+ghost use Rattle.cborn_edn.specs.Cited.{Notates, IsNoNotation};
 
 use crate::EdnFault;
 use crate::passes::visit_text;

@@ -1,11 +1,9 @@
 //! Syntax errors: where no text of the grammar goes on.
 
 ghost use Rattle.std.specs.Prelude.{◌≡◌, ◌≤◌, ◌⊎◌, List, length};
-ghost use Rattle.cborn_lex.specs.Lex.{Between, IsStopFrom};
-ghost use Rattle.cborn_lex.specs.declared.classes.Token.{Token};
-ghost use Rattle.cborn_lex.specs.declared.faults.LexFault.{LexFault as LexStop};
+ghost use Rattle.cborn_edn.specs.Common.{TokensBetween, HasNoTokenFrom, Token, LexFault as LexStop};
+ghost use Rattle.cborn_edn.specs.devices.Common.{lexical};
 ghost use Rattle.cborn_edn.specs.declared.faults.EdnFault.TheVariants.{Refused};
-ghost use Rattle.cborn_edn.specs.devices.Machine.{lexical};
 
 use crate::{EdnFault, EdnReason};
 use cborn_lex::{Profile, next_token};
@@ -33,7 +31,7 @@ pub(crate) fn first_fault(
     fault: EdnFault,
 ) -> EdnFault
     requires { at ≤ length text.now }
-    ensures { ((tokens : List Token) × Between profile text.now at (length text.now) tokens × (result ≡ fault)) ⊎ ((stop : LexStop) × IsStopFrom profile text.now at stop × (result ≡ lexical stop)) }
+    ensures { ((tokens : List Token) × TokensBetween profile text.now at (length text.now) tokens × (result ≡ fault)) ⊎ ((stop : LexStop) × HasNoTokenFrom profile text.now at stop × (result ≡ lexical stop)) }
 {
     let mut content = Vec::new(alloc);
     let mut number: u128 = 0;

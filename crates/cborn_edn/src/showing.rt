@@ -2,8 +2,8 @@
 
 ghost use Rattle.std.specs.Prelude.{IfOk, IfErr};
 ghost use Rattle.std.specs.String.{string_bytes};
-ghost use Rattle.cborn_model.specs.Tree.{trees};
-ghost use Rattle.cborn_edn.specs.Shown.{Shown, IsShowFault};
+ghost use Rattle.cborn_edn.specs.Common.{trees};
+ghost use Rattle.cborn_edn.specs.Cited.{Shown, IsShowFault};
 
 use crate::{Notator, ShowFault};
 use cborn_model::{Spelled, visit_node};

@@ -149,8 +149,8 @@ pub(crate) struct Writer {
     pub(crate) pieces: Vec<u8>,
     /// Where those of the innermost string begin, or would begin.
     pub(crate) start: usize,
-    pub(crate) brackets: Brackets,
-    pub(crate) around: Arounds,
+    pub(crate) brackets: Opened<OpenBracket>,
+    pub(crate) around: Opened<Around>,
     /// Spells the items in each open `<<`.
     pub(crate) spellers: Spellers,
     pub(crate) string: Option<Joint>,
@@ -161,33 +161,24 @@ pub(crate) struct Writer {
     pub(crate) error: Option<MeaningError>,
 }
 
-/// The open brackets. In contracts they are a list with the innermost first.
+/// What is open, as brackets or what is kept around each `<<`. In contracts it is a list with the
+/// innermost first.
 #[derive(Drop)]
-pub(crate) struct Brackets {
-    brackets: Vec<OpenBracket>,
+pub(crate) struct Opened<T> {
+    all: Vec<T>,
 }
 
-impl Model for Brackets {
+impl<T> Model for Opened<T> {
     ghost use Rattle.std.specs.Prelude.{List};
-    ghost use Rattle.cborn_edn.specs.declared.states.OpenBracket.{OpenBracket as OneBracket};
     ghost use mathlib.Core.List as lists;
 
-    ghost Value = { List OneBracket };
+    ghost Value = { List T };
 
-    ghost view = { λ l. lists.reverse l.brackets.items };
+    ghost view = { λ l. lists.reverse l.all.items };
 }
 
-impl Brackets {
-    ghost use Rattle.std.specs.Prelude.{◌≡◌, ◌<◌, ◌^◌, [], ◌∷◌, length, MatchOption, OnOk};
-
-    /// None are open.
-    pub(crate) fn new(alloc: Global) -> Brackets
-        ensures { result ≡ [] }
-    {
-        Brackets {
-            brackets: Vec::new(alloc),
-        }
-    }
+impl Opened<OpenBracket> {
+    ghost use Rattle.std.specs.Prelude.{◌≡◌, ◌<◌, ◌^◌, length};
 
     /// How many are open.
     #[tactic(auto, using(crate::proofs::Reader::Opened::innermost))]
@@ -195,66 +186,35 @@ impl Brackets {
         ensures count { result ≡ length self.now }
         ensures small { result < 2 ^ 63 }
     {
-        self.brackets.len() as u64
-    }
-
-    /// Adds one, which is then the innermost.
-    #[tactic(auto, using(crate::proofs::Reader::Opened::innermost))]
-    #[inline(always)]
-    pub(crate) fn open(&mut self, bracket: OpenBracket) -> Result<(), AllocError>
-        ensures { OnOk result (self.new ≡ bracket ∷ self.old) }
-    {
-        push_doubling(&mut self.brackets, bracket)
-    }
-
-    /// Takes off the innermost, if there is one, and gives it.
-    pub(crate) fn shut(&mut self) -> Option<OpenBracket>
-        ensures { MatchOption result (self.old ≡ []) (λ f. self.old ≡ f ∷ self.new) }
-    {
-        self.brackets.pop()
+        self.all.len() as u64
     }
 }
 
-/// What is kept around each open `<<`. In contracts it is a list with the innermost first.
-#[derive(Drop)]
-pub(crate) struct Arounds {
-    arounds: Vec<Around>,
-}
-
-impl Model for Arounds {
-    ghost use Rattle.std.specs.Prelude.{List};
-    ghost use Rattle.cborn_edn.specs.declared.states.Around.{Around as OneAround};
-    ghost use mathlib.Core.List as lists;
-
-    ghost Value = { List OneAround };
-
-    ghost view = { λ l. lists.reverse l.arounds.items };
-}
-
-impl Arounds {
+impl<T: Drop> Opened<T> {
     ghost use Rattle.std.specs.Prelude.{◌≡◌, [], ◌∷◌, MatchOption, OnOk};
 
     /// None are open.
-    pub(crate) fn new(alloc: Global) -> Arounds
+    pub(crate) fn new(alloc: Global) -> Opened<T>
         ensures { result ≡ [] }
     {
-        Arounds {
-            arounds: Vec::new(alloc),
+        Opened {
+            all: Vec::new(alloc),
         }
     }
 
     /// Adds one, which is then the innermost.
     #[tactic(auto, using(crate::proofs::Reader::Opened::innermost))]
-    pub(crate) fn open(&mut self, around: Around) -> Result<(), AllocError>
-        ensures { OnOk result (self.new ≡ around ∷ self.old) }
+    #[inline(always)]
+    pub(crate) fn open(&mut self, one: T) -> Result<(), AllocError>
+        ensures { OnOk result (self.new ≡ one ∷ self.old) }
     {
-        push_doubling(&mut self.arounds, around)
+        push_doubling(&mut self.all, one)
     }
 
     /// Takes off the innermost, if there is one, and gives it.
-    pub(crate) fn shut(&mut self) -> Option<Around>
-        ensures { MatchOption result (self.old ≡ []) (λ a. self.old ≡ a ∷ self.new) }
+    pub(crate) fn shut(&mut self) -> Option<T>
+        ensures { MatchOption result (self.old ≡ []) (λ f. self.old ≡ f ∷ self.new) }
     {
-        self.arounds.pop()
+        self.all.pop()
     }
 }

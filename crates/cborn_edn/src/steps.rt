@@ -2,16 +2,11 @@
 //! such a token there.
 
 ghost use Rattle.std.specs.Prelude.{◌≡◌, ℕ, ◌<◌, ◌^◌, Bool, true, false, List, IfOk};
-ghost use Rattle.cborn_edn.specs.devices.Syntax.{Span as Place, Item, Pieces as Joined, StringsBefore};
-ghost use Rattle.cborn_edn.specs.devices.Machine.{Stack, Home, as_chunk, State, wants, has, builds, wants_number, has_number};
-ghost use Rattle.cborn_lex.specs.declared.classes.Mark.{Mark as Indicator};
-ghost use Rattle.cborn_lex.specs.Kinds.{class_of};
-ghost use Rattle.cborn_edn.specs.devices.Shows.{Shows};
-ghost use Rattle.cborn_edn.specs.devices.Handed.{Reads};
-ghost use Rattle.cborn_edn.specs.devices.Steps.{is_piece, takes_no_piece, IsReady, Takes, Turned, Turns, EndsAt};
+ghost use Rattle.cborn_edn.specs.devices.Common.{Span as Place, Item, Pieces as Joined, StringsBefore, Stack, Home, as_chunk, State, wants, has, builds, wants_number, has_number, Shows, Reads, is_piece, takes_no_piece, IsReady, Takes, Turned, Turns, EndsAt};
+ghost use Rattle.cborn_edn.specs.Common.{Mark as Indicator, class_of};
 
 use crate::containers::{open_array, open_embedded, open_map, open_tag};
-use crate::endings::{end_array, end_embedded, end_entry, end_key, end_map, end_tag, has_chunks};
+use crate::endings::{end_embedded, end_entry, end_key, end_sized, end_tag, has_chunks};
 use crate::numbers::{Numeral, close_simple, open_simple, put_number, put_simple, put_word};
 use crate::states::{Here, Phase, Writer};
 use crate::strings::{StringToken, add_piece, end_chunk, end_chunks, end_item, open_chunks};
@@ -153,8 +148,8 @@ fn begin<V: Visitor>(
             put_word(n, place, here, writer, visitor)?;
             Ok(true)
         }
-        Kind::ArrayClose => end_array(here, writer, visitor),
-        Kind::MapClose => end_map(here, writer, visitor),
+        Kind::ArrayClose => end_sized(false, here, writer, visitor),
+        Kind::MapClose => end_sized(true, here, writer, visitor),
         Kind::EmbedClose(mark) => end_embedded(mark, place, here, writer, visitor),
         Kind::ParenClose => Ok(false),
         Kind::Comma => Ok(false),
@@ -176,8 +171,8 @@ fn after<V: Visitor>(
     ensures { IfOk result (λ ok. (st : Stack) (i : Item) → Turns (V.holds visitor.old) (V.holds visitor.new) token.kind number token.start here.old writer.old here.new writer.new ok (has st i)) }
 {
     match token.kind {
-        Kind::ArrayClose => end_array(here, writer, visitor),
-        Kind::MapClose => end_map(here, writer, visitor),
+        Kind::ArrayClose => end_sized(false, here, writer, visitor),
+        Kind::MapClose => end_sized(true, here, writer, visitor),
         Kind::EmbedClose(mark) => end_embedded(mark, token.start, here, writer, visitor),
         Kind::ParenClose => end_tag(here, writer, visitor),
         Kind::Colon => Ok(end_key(here, writer)),

@@ -2,16 +2,8 @@
 
 ghost use Rattle.std.specs.Prelude.{◌≡◌, ℕ, ◌≤◌, ◌++◌, List, Bool, length, take, drop, Option, Some, None, OnOk, true, ◌&&◌};
 ghost use Rattle.cborn_edn.specs.Says as says;
-ghost use Rattle.cborn_model.specs.declared.visitors.StringKind.{StringKind as Kind};
-ghost use Rattle.cborn_model.specs.declared.visitors.StringKind.TheVariants.{OfText};
-ghost use Rattle.cborn_edn.specs.devices.Syntax.{Span as Place, Pieces as Joined, Strings, StringsBefore, strings, string, chunked, piece, text, no_string, after_strings};
-ghost use Rattle.cborn_edn.specs.devices.Machine.{Stack, Home, as_item, as_chunk, wants, has, builds, wants_chunk, at_home, with_piece};
-ghost use Rattle.std.specs.Str.{IsUtf8};
-ghost use Rattle.cborn_lex.specs.declared.classes.Mark.TheVariants.{Absent};
-ghost use Rattle.cborn_edn.specs.devices.Kept.{joint, kind_or};
-ghost use Rattle.cborn_edn.specs.devices.MeaningErrors.{Notes};
-ghost use Rattle.cborn_edn.specs.devices.Shows.{Shows, piece_of};
-ghost use Rattle.cborn_edn.specs.devices.Handed.{string_event, chunk_event, Reads};
+ghost use Rattle.cborn_edn.specs.Common.{StringKind as Kind, OfText, IsUtf8, Absent};
+ghost use Rattle.cborn_edn.specs.devices.Common.{Span as Place, Pieces as Joined, Strings, StringsBefore, strings, string, chunked, piece, text, no_string, after_strings, Stack, Home, as_item, as_chunk, wants, has, builds, wants_chunk, at_home, with_piece, joint, kind_or, Notes, Shows, piece_of, string_event, chunk_event, Reads};
 
 use crate::events::Event;
 use crate::handing::hand;
@@ -48,6 +40,7 @@ fn may_join(kind: StringKind, next: StringKind) -> bool
 }
 
 /// Notes what is wrong with a piece of the kind `kind` at `place` after those of `string`.
+#[tactic(auto, using(crate::proofs::Reader::Joints::piece_noted))]
 pub(crate) fn note_piece(
     string: Joint,
     kind: StringKind,
@@ -76,6 +69,7 @@ fn note_string(may_end: bool, string: Joint, content: &[u8], error: &mut Option<
 
 /// Notes what is wrong with the indicator of a whole string of `size` bytes. `may_end` says whether
 /// it may ask for an indefinite length.
+#[tactic(auto, using(crate::proofs::Reader::Joints::mark_endless, crate::proofs::Reader::Joints::mark_wide, crate::proofs::Reader::Joints::mark_unknown))]
 fn note_mark(may_end: bool, string: Joint, size: u64, error: &mut Option<MeaningError>)
     ensures { (s : says.Str) → string ≡ joint s → (s.known ≡ true → size ≡ length s.bytes) → Notes error.old error.new (says.mark_errors may_end s) }
 {
@@ -268,6 +262,7 @@ fn note_chunk(kind: StringKind, string: Joint, content: &[u8], error: &mut Optio
 }
 
 /// Ends a string of one or more chunks, which is then an item.
+#[tactic(auto, using(crate::proofs::HandedOver::Strings::hands_chunks_end, crate::proofs::Reader::Built::chunks_shown, crate::proofs::Reader::Results::on_ok))]
 pub(crate) fn end_chunks<V: Visitor>(
     here: &mut Here,
     writer: &mut Writer,

@@ -1,13 +1,12 @@
 //! Text strings in one piece (RFC 8949 section 8, RFC 8259 section 7).
 
 ghost use Rattle.std.specs.Prelude.{◌≡◌, ◌≤◌, ◌<◌, ◌+◌, ◌++◌, ◌==◌, ℕ, List, [], true, false, length, take, drop, slice_index, IfOk, IfSome, MatchOption};
-ghost use Rattle.std.specs.Str.{IsUtf8};
+ghost use Rattle.cborn_edn.specs.Common.{IsUtf8, begins, TokensBetween};
+ghost use Rattle.cborn_edn.specs.devices.Common.{ends_string, NoPieceAt, IsTextAt};
 ghost use Rattle.cborn_lex.specs.declared.classes.Class.TheVariants as classes;
 ghost use Rattle.cborn_lex.specs.declared.classes.Mark.TheVariants as marks;
-ghost use Rattle.cborn_lex.specs.Tokens.{begins};
-ghost use Rattle.cborn_lex.specs.Good.{TokensBetween};
-ghost use Rattle.cborn_edn.specs.devices.Ahead.{ends_string, NoPieceAt, IsTextAt};
 
+use crate::integers::begins_with;
 use crate::white_space::skip_white_space;
 use cborn_lex::{Profile, plain_run, push_letters};
 use std::alloc::AllocError;
@@ -68,6 +67,7 @@ pub(crate) fn push_text(
 
 /// The offset after the white space that follows a string, which ends at the offset `at`. `None` if
 /// the string has an indicator, or if another piece may follow.
+#[tactic(auto, using(crate::proofs::Reader::CommonTokens::nothing))]
 #[inline(always)]
 pub(crate) fn end_of_string(profile: Profile, text: &[u8], at: usize) -> Option<usize>
     requires { at ≤ length text.now }
@@ -93,7 +93,7 @@ fn white_space_after(profile: Profile, text: &[u8], at: usize) -> Option<usize>
     ensures ends { IfSome result (λ stop. NoPieceAt text.now stop) }
     ensures no_mark { IfSome result (λ stop. begins (λ c. c == 95) (drop at text.now) ≡ false) }
 {
-    if begins_mark(&text[at..]) {
+    if begins_with(b'_', &text[at..]) {
         return None;
     }
     let stop = skip_white_space(profile, text, at)?;
@@ -101,14 +101,6 @@ fn white_space_after(profile: Profile, text: &[u8], at: usize) -> Option<usize>
         return Some(stop);
     }
     None
-}
-
-/// Whether `tail` begins with an underscore, as an indicator does.
-#[inline(always)]
-fn begins_mark(tail: &[u8]) -> bool
-    ensures { result ≡ begins (λ c. c == 95) tail.now }
-{
-    tail.len() > 0 && tail[0] == b'_'
 }
 
 /// Whether the character `c` ends a string that it follows. No piece of a string begins with it.

@@ -1,8 +1,8 @@
 //! What the next token of a text is, and how deep it goes.
 
 ghost use Rattle.std.specs.Prelude.{◌≡◌, ◌<◌, ◌^◌, ℕ, List};
-ghost use Rattle.cborn_lex.specs.Kinds.{class_of};
-ghost use Rattle.cborn_edn.specs.devices.Machine.{reach};
+ghost use Rattle.cborn_edn.specs.Common.{class_of};
+ghost use Rattle.cborn_edn.specs.devices.Common.{reach};
 ghost use Rattle.cborn_edn.specs.devices.Reading as pure;
 
 use crate::numbers::is_small;

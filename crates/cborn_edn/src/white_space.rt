@@ -1,12 +1,9 @@
 //! White space, which comments are part of (RFC 8949 section 8, RFC 8610 appendix G.6).
 
 ghost use Rattle.std.specs.Prelude.{◌≡◌, ◌≤◌, ◌<◌, ◌+◌, ◌==◌, ℕ, [], true, length, take, drop, map, slice_index, IfSome, MatchOption};
-ghost use Rattle.std.specs.List.{list_all};
+ghost use Rattle.cborn_edn.specs.Common.{list_all, Profile as AnyProfile, is_white, is_not, TokensBetween};
 ghost use Rattle.std.specs.Simd.Lanes.{mask_l};
-ghost use Rattle.cborn_lex.specs.declared.classes.Profile.{Profile as AnyProfile};
 ghost use Rattle.cborn_lex.specs.declared.classes.Profile.TheVariants as profiles;
-ghost use Rattle.cborn_lex.specs.Tokens.{is_white, is_not};
-ghost use Rattle.cborn_lex.specs.Good.{TokensBetween};
 
 use cborn_lex::{Profile, find, plain_run};
 use std::simd::prelude::*;

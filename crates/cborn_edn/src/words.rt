@@ -1,11 +1,9 @@
 //! The words of simple values (RFC 8949 sections 3.3 and 8).
 
 ghost use Rattle.std.specs.Prelude.{◌≡◌, ◌≤◌, ◌||◌, ◌==◌, ◌++◌, ℕ, List, codes, length, IfSome};
-ghost use Rattle.cborn_lex.specs.declared.classes.Profile.{Profile};
+ghost use Rattle.cborn_edn.specs.Common.{Profile, is_word, begins, IsName};
+ghost use Rattle.cborn_edn.specs.devices.Common.{IsTokenAt};
 ghost use Rattle.cborn_lex.specs.declared.classes.Class.TheVariants as classes;
-ghost use Rattle.cborn_lex.specs.Tokens.{is_word, begins};
-ghost use Rattle.cborn_lex.specs.Good.{IsName};
-ghost use Rattle.cborn_edn.specs.devices.Ahead.{IsTokenAt};
 
 /// The simple value of the word at the offset `at` of `text`, and the offset after the word. `None`
 /// if it is none of `false`, `true`, `null` and `undefined`.

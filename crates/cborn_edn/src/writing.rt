@@ -1,13 +1,10 @@
 //! Parts of the fixed notation, appended to a buffer.
 
 ghost use Rattle.std.specs.Prelude.{◌≡◌, ◌≤◌, ◌++◌, ◌∷◌, ℕ, suc, true, length, OnOk, codes, decimal};
-ghost use Rattle.std.specs.List.{flat_map};
-ghost use Rattle.hex.specs.Hex.{encode_lower};
-ghost use Rattle.cborn_model.specs.Partial.{integer_tree};
+ghost use Rattle.cborn_edn.specs.Common.{flat_map, encode_lower, integer_tree};
+ghost use Rattle.cborn_edn.specs.Cited.{mark_for};
 ghost use Rattle.cborn_edn.specs.Shown as pure;
-ghost use Rattle.cborn_edn.specs.Shown.{mark_for};
-ghost use Rattle.cborn_edn.specs.devices.Escaping.{is_escaped};
-ghost use Rattle.cborn_edn.specs.devices.Notating.{quote, content, string_end, size_text};
+ghost use Rattle.cborn_edn.specs.devices.Notating.{is_escaped, quote, content, string_end, size_text};
 
 use cborn_model::{Size, StringKind, Width, shortest};
 use itoa::Buffer;

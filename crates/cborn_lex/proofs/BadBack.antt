@@ -45,9 +45,6 @@ starts_other c e =
     let denied : (k : ℕ) → list_any (λ d. eqb k d) (codes "/#[]{}(),:<>\"'-") ≡ true → eqb c k ≡ false = λ k h. false_from_ne_true (eqb c k) (λ same. absurd (let t : true ≡ false = sym (subst (λ n. list_any (λ k. eqb n k) (codes "/#[]{}(),:<>\"'-") ≡ true) (sym (eqb-true c k same)) h) ∙ a.1 in cc)) in
     rw (b.0, denied 47 refl, denied 35 refl, denied 91 refl, denied 123 refl, denied 93 refl, denied 125 refl, denied 41 refl, denied 44 refl, denied 58 refl, denied 60 refl, denied 62 refl, denied 40 refl, denied 34 refl, denied 39 refl, denied 45 refl, u.0, l) refl
 
-ascii_digit_starts : (c : ℕ) → is_ascii_digit c ≡ true → start_of c ≡ digit
-ascii_digit_starts c e = let h = and_parts (nat_le 48 c) (nat_le c 57) e in digit_starts c (leb-true 48 c h.0) (leb-true c 57 h.1)
-
 -- Numbers.
 
 abbrev failure : LexReason → Result ℕ LexReason
@@ -154,12 +151,13 @@ module _ (p : Profile) (m z : List ℕ) (i : IsIndicator m z) (e : mark_of m ≡
   one_char : (c : ℕ) (s : List ℕ) → c ∷ [] ≡ s ++ codes "_3" → eqb c 51 ≡ false → ReadsBad s
   one_char c s w d = absurd (not_three (c ∷ []) c refl d s w)
 
-  bracket : (c : ℕ) (t s : List ℕ) (mk : Mark) → eqb c 51 ≡ false → mark_of t ≡ Some mk → c ∷ t ≡ s ++ codes "_3" → ReadsBad (c ∷ []) → ReadsBad s
-  bracket c t s mk d f w reads_bad = subst ReadsBad (split (c ∷ []) t s mk f (not_three (c ∷ []) c refl d) w).front reads_bad
+  -- a token f and its mark t
+  marked_end : (f t s : List ℕ) (mk : Mark) → mark_of t ≡ Some mk → ((u : List ℕ) → f ≡ u ++ codes "_3" → ⊥) → f ++ t ≡ s ++ codes "_3" → ReadsBad f → ReadsBad s
+  marked_end f t s mk h denied w reads_bad = subst ReadsBad (split f t s mk h denied w).front reads_bad
 
   -- a content f up to its quote q, and a mark t
   string_end : (f : List ℕ) (q : ℕ) (t s : List ℕ) (mk : Mark) → eqb q 51 ≡ false → mark_of t ≡ Some mk → (f ++ q ∷ []) ++ t ≡ s ++ codes "_3" → ReadsBad (f ++ q ∷ []) → ReadsBad s
-  string_end f q t s mk d h w reads_bad = subst ReadsBad (split (f ++ q ∷ []) t s mk h (not_three (f ++ q ∷ []) q (last_append 0 f (q ∷ [])) d) w).front reads_bad
+  string_end f q t s mk d h w reads_bad = marked_end (f ++ q ∷ []) t s mk h (not_three (f ++ q ∷ []) q (last_append 0 f (q ∷ [])) d) w reads_bad
 
   a_text : (x b : List ℕ) → is_content 34 x ≡ true → IsText 34 x b → ReadsBad (34 ∷ x ++ 34 ∷ [])
   a_text x b c is = record {
@@ -227,17 +225,13 @@ module _ (p : Profile) (m z : List ℕ) (i : IsIndicator m z) (e : mark_of m ≡
         );
       }
 
-  -- the characters of a number before its mark
-  number_end : (f t s : List ℕ) (mk : Mark) → mark_of t ≡ Some mk → ((u : List ℕ) → f ≡ u ++ codes "_3" → ⊥) → f ++ t ≡ s ++ codes "_3" → ReadsBad f → ReadsBad s
-  number_end f t s mk h denied w reads_bad = subst ReadsBad (split f t s mk h denied w).front reads_bad
-
   reads_bad : {y z' : List ℕ} {k : Class} (s : List ℕ) → Takes p y z' (Some k) → y ≡ s ++ codes "_3" → ReadsBad s
-  reads_bad s (good.array_open t y mk j) w = bracket 91 t s mk refl j.1 w (record { front = 91 ∷ m; rest = z; whole = refl; reads = (i, sym (opening ArrayOpen)) })
+  reads_bad s (good.array_open t y mk j) w = string_end [] 91 t s mk refl j.1 w (record { front = 91 ∷ m; rest = z; whole = refl; reads = (i, sym (opening ArrayOpen)) })
   reads_bad s (good.array_close y) w = one_char 93 s w refl
-  reads_bad s (good.map_open t y mk j) w = bracket 123 t s mk refl j.1 w (record { front = 123 ∷ m; rest = z; whole = refl; reads = (i, sym (opening MapOpen)) })
+  reads_bad s (good.map_open t y mk j) w = string_end [] 123 t s mk refl j.1 w (record { front = 123 ∷ m; rest = z; whole = refl; reads = (i, sym (opening MapOpen)) })
   reads_bad s (good.map_close y) w = one_char 125 s w refl
   reads_bad s (good.embed_open y) w = absurd (not_three (codes "<<") 60 refl refl s w)
-  reads_bad s (good.embed_close t y mk j) w = subst ReadsBad (split (codes ">>") t s mk j.1 (not_three (codes ">>") 62 refl refl) w).front (record { front = 62 ∷ 62 ∷ m; rest = z; whole = refl; reads = inl (m, refl, i, sym (opening EmbedClose)) })
+  reads_bad s (good.embed_close t y mk j) w = string_end (62 ∷ []) 62 t s mk refl j.1 w (record { front = 62 ∷ 62 ∷ m; rest = z; whole = refl; reads = inl (m, refl, i, sym (opening EmbedClose)) })
   reads_bad s (good.chunk_open y d) w = absurd (not_three (codes "(_") 95 refl refl s w)
   reads_bad s (good.paren_close y) w = one_char 41 s w refl
   reads_bad s (good.comma y) w = one_char 44 s w refl
@@ -247,10 +241,10 @@ module _ (p : Profile) (m z : List ℕ) (i : IsIndicator m z) (e : mark_of m ≡
   reads_bad s (good.coded u x b t y mk is n j) w = string_end (u ++ 39 ∷ x) 39 t s mk refl j.1 (assoc (u ++ 39 ∷ x) (39 ∷ []) t ∙ assoc u (39 ∷ x) (39 ∷ t) ∙ w) (a_coded u x b is n)
   reads_bad s (good.word u y n is d) w = no_name u s n is w
   reads_bad s (good.simple y) w = absurd (not_three (codes "simple(") 40 refl refl s w)
-  reads_bad s (good.negative x t y v mk n) w = number_end (45 ∷ x) t s mk n.indicator.1 (λ u. no_underscore_after 45 x u refl n.run.pass) w (a_negative x v n.literal n.bounded n.run.pass)
+  reads_bad s (good.negative x t y v mk n) w = marked_end (45 ∷ x) t s mk n.indicator.1 (λ u. no_underscore_after 45 x u refl n.run.pass) w (a_negative x v n.literal n.bounded n.run.pass)
   reads_bad s (good.positive x t y v mk n d) w =
       let b = first_digit x v n.literal in
-      number_end x t s mk n.indicator.1 (λ u. no_underscore x u n.run.pass) w
+      marked_end x t s mk n.indicator.1 (λ u. no_underscore x u n.run.pass) w
       (subst ReadsBad (sym b.whole) (a_positive b.first b.others v b.starts (subst (λ l. IsLiteral l v) b.whole n.literal) n.bounded (subst (λ l. list_all is_numeral l ≡ true) b.whole n.run.pass)))
   reads_bad s (good.tag x t y v mk n) w = absurd (not_three (x ++ (t ++ 40 ∷ [])) 40 (last_append 0 x (t ++ 40 ∷ []) ∙ last_append (last_of 0 x) t (40 ∷ [])) refl s w)
 
@@ -358,7 +352,7 @@ module _ (p : Profile) where
         front = c ∷ y ++ (k.s ++ t.s);
         rest = t.z;
         whole = ap (λ l. c ∷ y ++ l) after ∙ sym (assoc (c ∷ y) (k.s ++ t.s) t.z ∙ ap (λ l. c ∷ y ++ l) (assoc k.s t.s t.z));
-        reads = subst (λ q. ReadsFrom q p c (y ++ (k.s ++ t.s)) t.z (Bad r)) (sym (ascii_digit_starts c b)) (
+        reads = subst (λ q. ReadsFrom q p c (y ++ (k.s ++ t.s)) t.z (Bad r)) (sym (let h = and_parts (nat_le 48 c) (nat_le c 57) b in digit_starts c (leb-true 48 c h.0) (leb-true c 57 h.1))) (
           t.tagged,
           y,
           k.s,
@@ -386,17 +380,8 @@ module _ (p : Profile) where
   differs : (w v : List ℕ) → is_float_word w ≡ true → is_float_word v ≡ false → bytes_eq w v ≡ false
   differs w v e f = false_from_ne_true (bytes_eq w v) (λ s. absurd (let t : true ≡ false = sym e ∙ ap is_float_word (same_bytes w v s) ∙ f in cc))
 
-  float_front : (w : List ℕ) → is_float_word w ≡ true → word_front w ≡ Bad FloatLeftOut
-  float_front w e = rw (differs w (codes "false") e refl, differs w (codes "true") e refl, differs w (codes "null") e refl, differs w (codes "undefined") e refl, e) refl
-
-  a_float : (w z : List ℕ) → IsWord w z → begins (λ c. eqb c 39) z ≡ false → is_float_word w ≡ true → BadFront p (w ++ z) FloatLeftOut
-  a_float w z word q e = word_reads w z FloatLeftOut word q (ap (λ b. b && begins (λ c. eqb c 40) z) (differs w (codes "simple") e refl)) (float_front w e)
-
   not_named : (w v : List ℕ) (n : ℕ) → IsName v n → ((n : ℕ) → IsName w n → ⊥) → bytes_eq w v ≡ false
   not_named w v n i denied = false_from_ne_true (bytes_eq w v) (λ s. denied n (subst (λ u. IsName u n) (sym (same_bytes w v s)) i))
-
-  other_word : (w : List ℕ) → is_float_word w ≡ false → ((n : ℕ) → IsName w n → ⊥) → word_front w ≡ Bad UnexpectedCharacter
-  other_word w e denied = rw (not_named w (codes "false") 20 good.is_false denied, not_named w (codes "true") 21 good.is_true denied, not_named w (codes "null") 22 good.is_null denied, not_named w (codes "undefined") 23 good.is_undefined denied, e) refl
 
   -- LAW: what fails reads as bad
   pub fails : {y : List ℕ} {r : LexReason} → Fails p y r → BadFront p y r
@@ -410,8 +395,8 @@ module _ (p : Profile) where
   fails (bad.chunks z b) = let r = cut is_word z in some_chunks z r.s r.z r.whole r.run b
   fails (bad.negative x z r run denied) = a_negative_fails x z r run denied
   fails (bad.positive x z r b run denied) = a_positive_fails x z r b run denied
-  fails (bad.float w z word q e) = a_float w z word q e
-  fails (bad.word w z word q e denied s) = word_reads w z UnexpectedCharacter word q s (other_word w e denied)
+  fails (bad.float w z word q e) = word_reads w z FloatLeftOut word q (ap (λ b. b && begins (λ c. eqb c 40) z) (differs w (codes "simple") e refl)) (rw (differs w (codes "false") e refl, differs w (codes "true") e refl, differs w (codes "null") e refl, differs w (codes "undefined") e refl, e) refl)
+  fails (bad.word w z word q e denied s) = word_reads w z UnexpectedCharacter word q s (rw (not_named w (codes "false") 20 good.is_false denied, not_named w (codes "true") 21 good.is_true denied, not_named w (codes "null") 22 good.is_null denied, not_named w (codes "undefined") 23 good.is_undefined denied, e) refl)
   fails (bad.less z n) = record { front = 60 ∷ []; rest = z; whole = refl; reads = inr (refl, n, refl) }
   fails (bad.greater z n) = record { front = 62 ∷ []; rest = z; whole = refl; reads = inr (refl, n, refl) }
   fails (bad.paren z n) = record { front = 40 ∷ []; rest = z; whole = refl; reads = (n, refl) }

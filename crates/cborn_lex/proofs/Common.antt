@@ -17,9 +17,8 @@ pub use Rattle.base64.specs.declared.decode.DecodeError.{DecodeError}
 pub use Rattle.cborn_model.specs.declared.heads.Width.TheVariants.{Direct, Eight}
 pub use Rattle.cborn_lex.specs.Bad.{BeginsNothing, Fails, FailsAt, HasNoTokenFrom, HasNoTokens, IsFloat, IsNoInteger, IsPrefix, IsWord, is_float_word, is_quote, is_start}
 pub use Rattle.cborn_lex.specs.Forms.{Closed, ContentGives, IsAfterWord, IsIndicator, IsNumber, IsPrefixed, IsRun, IsString, IsTag, Lacks, Prefix, Reads, ReadsFrom, ReadsNumber, ReadsWord, Start, base64, digit, double, greater, hash, hexadecimal, less, letter, minus, opening, other, paren, paren_front, prefix_of, simple, single, slash, start_of, unknown, white}
-pub use Rattle.cborn_lex.specs.Good.{Covers, HasTokens, IsCoded, IsLiteral, IsMark, IsName, IsNumeral, IsTokenFrom, Takes, TokensBetween}
+pub use Rattle.cborn_lex.specs.Good.{Covers, HasTokens, SpansRise, IsCoded, IsLiteral, IsMark, IsName, IsNumeral, IsTokenFrom, Takes, TokensBetween}
 pub use Rattle.cborn_lex.specs.Kinds.{StandsFor, class_of, content_of}
-pub use Rattle.cborn_lex.specs.Lex.{Between, HasNoPiece, IsNext, IsStopAt, IsStopFrom, Lex, SpansRise, Stop, Through, here}
 pub use Rattle.cborn_lex.specs.Numbers.{BeginsDecimal, are_digits, has_any, has_prefix, integer, number, number_front, signed, within, word_front}
 pub use Rattle.cborn_lex.specs.Strings.{HasDigits, IsBase64, IsHex, IsText, are_hex, base64_text, code, comment, escape_code, filled, four, is_content, is_escape, is_high, is_low, is_unclosed, nothing, space, to_standard}
 pub use Rattle.cborn_lex.specs.Tokens.{Bad, Front, Read, WhiteSpace, begins, is_not, is_numeral, is_white, is_word, mark_of, marked}
@@ -37,5 +36,5 @@ pub use Rattle.cborn_lex.specs.declared.faults.LexReason.TheVariants.{BadBase64,
 pub use Rattle.cborn_lex.specs.devices.Letters.{HasLetters, Letter, LettersSoFar, LettersTaken, NoText, escaped, is_letter, is_plain, is_special, meant, pair, raw, unit, written}
 pub use Rattle.cborn_lex.specs.devices.Pieces.{AreRead, BeginsNoPiece, LexParted, Lexeme, Parted, StopParted, front_of, slice, spelled, token, tokens, white_space}
 pub use Rattle.cborn_lex.specs.devices.Scan.{IsEncoded, after, code_at, escape_of, is_raw, low_code, onto, paired, refusal, strip, unit_from}
-pub use Rattle.cborn_lex.specs.devices.View.{FrontStandsFor, front_view}
+pub use Rattle.cborn_lex.specs.devices.View.{FrontStandsFor, front_view, of_quoted}
 pub use Rattle.cborn_lex.specs.shared.Modest.{AreModest, IsModest}

@@ -54,9 +54,6 @@ digits_pass : (q : ℕ → Bool) (ds : List ℕ) → passes q 48 10 ≡ true →
 digits_pass q [] t h = refl
 digits_pass q (c ∷ ds) t h = let hs = and_parts (is_digit c 10) (list_all (λ d. is_digit d 10) ds) h in and_from (q c) (list_all q ds) (digit_passes q c t hs.0) (digits_pass q ds t hs.1)
 
-within_bounds : (n : ℕ) → n < 2 ^ 64 → within n ≡ Ok n
-within_bounds n h = cond-true _ _ _ (lt-ltb n (2 ^ 128) (omega (arith, h)))
-
 plain_integer : (negative : Bool) (c : ℕ) (ds : List ℕ) → eqb c 48 ≡ false → list_all (λ d. is_digit d 10) (c ∷ ds) ≡ true → integer negative (c ∷ ds) ≡ within (number 10 0 (c ∷ ds))
 plain_integer negative c ds e h =
     let hex : (has_prefix (codes "0x") (c ∷ ds) || has_prefix (codes "0X") (c ∷ ds)) ≡ false = rw e refl in
@@ -71,7 +68,7 @@ zero_alone negative c ds e f = rw (e, f) refl
 value_of : (negative : Bool) (n l c : ℕ) (y : List ℕ) → n < 2 ^ 64 → list_all (λ d. is_digit d 10) (c ∷ take l y) ≡ true → number 10 0 (c ∷ take l y) ≡ n → (0 < l → c ≡ 48 → ⊥) → integer negative (c ∷ take l y) ≡ Ok n
 value_of negative n l c y h a v lone = elim (cases_Bool (eqb c 48)) [
   | inl e ↦ alone l a v lone (eqb-true c 48 e)
-  | inr e ↦ plain_integer negative c (take l y) e a ∙ (ap within v ∙ within_bounds n h)
+  | inr e ↦ plain_integer negative c (take l y) e a ∙ (ap within v ∙ (cond-true _ _ _ (lt-ltb n (2 ^ 128) (omega (arith, h)))))
 ]
   where
     alone : (l : ℕ) → list_all (λ d. is_digit d 10) (c ∷ take l y) ≡ true → number 10 0 (c ∷ take l y) ≡ n → (0 < l → c ≡ 48 → ⊥) → c ≡ 48 → integer negative (c ∷ take l y) ≡ Ok n
@@ -151,12 +148,7 @@ digit_apart (suc l) c x a tagged (d ∷ body) mark tag h n e =
       body,
       mark,
       tag,
-      record {
-        run = record { pass = (and_parts (is_numeral d) (list_all is_numeral body) n.run.pass).1; ends = n.run.ends };
-        indicator = n.indicator;
-        tagging = n.tagging;
-        whole = rest;
-      },
+      record { run = record { pass = (and_parts (is_numeral d) (list_all is_numeral body) n.run.pass).1; ends = n.run.ends }; indicator = n.indicator; tagging = n.tagging; whole = rest },
       e ∙ ap (λ b. number_front false tagged (mark_of mark) (integer false (b ∷ body))) (sym same),
     ) in
     (omega arith, subst (λ (j : ℕ). ReadsNumber false (c ∷ []) (take j x) (drop j x) a) (sym one) reads)

@@ -1,5 +1,6 @@
 -- What reads by Forms.antt as white space, a comment or a token is taken as that by Good.antt, and what reads as bad fails for that reason by Bad.antt.
 use Rattle.cborn_lex.proofs.Common.{◌≡◌, refl, sym, ap, ◌∙◌, subst, ℕ, ◌<◌, ◌^◌, List, [], ◌∷◌, ◌++◌, Bool, true, false, ◌&&◌, ◌||◌, not, cond, eqb, ltb, inl, inr, Option, Some, None, Result, Ok, Err, append-nil, append_assoc, eqb-true, and_parts, and_from, or_parts, or_from, ltb-true, ltb-false, list_all, list_any, is_ascii_digit, is_ascii_alphabetic, is_ascii_alphanumeric, is_in_range, bytes_eq, codes, Profile, One, Two, Eight, Mark, Wide, LexReason, UnexpectedCharacter, UnclosedString, UnclosedComment, BadEscape, BadHex, BadBase64, UnknownPrefix, BadIndicator, BadNumber, NumberTooLarge, FloatLeftOut, Class, ArrayOpen, MapOpen, EmbedClose, ArrayClose, MapClose, ParenClose, Comma, Colon, EmbedOpen, ChunkOpen, SimpleOpen, Text, Bytes, TagOpen, Word, Front, WhiteSpace, Read, Bad, is_white, is_word, is_numeral, is_not, begins, mark_of, marked, are_digits, number, within, has_prefix, has_any, integer, signed, number_front, word_front, is_content, is_unclosed, IsText, IsHex, IsBase64, IsRun, IsIndicator, IsString, hexadecimal, base64, unknown, prefix_of, IsPrefixed, IsAfterWord, IsTag, Start, white, slash, hash, less, greater, paren, double, simple, letter, minus, digit, other, single, opening, ReadsFrom, Reads, IsMark, IsLiteral, IsNumeral, IsName, IsCoded, Takes, is_start, IsWord, IsPrefix, IsNoInteger, Fails, drop}
+use Rattle.std.proofs.lemmas.Slice.Eq.{bytes_eq-Decides}
 use Rattle.cborn_lex.specs.Good as good
 use Rattle.cborn_lex.specs.Bad as bad
 use Rattle.cborn_lex.proofs.GoodBack.{never, literal_is}
@@ -17,10 +18,7 @@ put : (p : Profile) (c d : ℕ) (s t z : List ℕ) (a f : Front) → c ≡ d →
 put p c d s t z a f e g h k = subst (λ x. Good p (x ∷ s) z a) (sym e) (subst (λ x. Good p (d ∷ x) z a) (sym g) (subst (λ x. Good p (d ∷ t) z x) (sym h) k))
 
 pub same_bytes : (xs ys : List ℕ) → bytes_eq xs ys ≡ true → xs ≡ ys
-same_bytes [] [] e = refl
-same_bytes [] (y ∷ ys) e = absurd (let f : false ≡ true = e in cc)
-same_bytes (x ∷ xs) [] e = absurd (let f : false ≡ true = e in cc)
-same_bytes (x ∷ xs) (y ∷ ys) e = let h = and_parts (eqb x y) (bytes_eq xs ys) e in ap (λ c. c ∷ xs) (eqb-true x y h.0) ∙ ap (λ l. y ∷ l) (same_bytes xs ys h.1)
+same_bytes xs ys h = (bytes_eq-Decides xs ys).0 h
 
 pub assoc : (x y z : List ℕ) → (x ++ y) ++ z ≡ x ++ (y ++ z)
 assoc x y z = simp append_assoc refl
@@ -41,9 +39,6 @@ marks p k f s z i h w = go (mark_of s) refl
 abbrev Case : Start → (ℕ → Bool) → Type 0
 Case k test = (p : Profile) (c : ℕ) (s z : List ℕ) (a : Front) → test c ≡ true → ReadsFrom k p c s z a → Good p (c ∷ s) z a
 
-a_white : Case white is_white
-a_white p c s z a e h = put p c c s [] z a WhiteSpace refl h.0 h.1 (good.white c z e)
-
 a_slash : Case slash (λ c. eqb c 47)
 a_slash p c s z a e (inl (body, t, f)) = put p c 47 s (body ++ 47 ∷ []) z a WhiteSpace (eqb-true c 47 e) t.whole f (good.comment body z t.none)
 a_slash p c s z a e (inr (l, f)) = put p c 47 s s z a (Bad UnclosedComment) (eqb-true c 47 e) refl f (subst (λ y. Fails p (47 ∷ y) UnclosedComment) (sym (all_text s z l.all)) (bad.comment s l.none))
@@ -52,12 +47,6 @@ a_hash : Case hash (λ c. eqb c 35)
 a_hash One c s z a e h = put One c 35 s [] z a (Bad UnexpectedCharacter) (eqb-true c 35 e) h.0 h.1 (bad.hash z refl)
 a_hash Two c s z a e (inl (body, t, f)) = put Two c 35 s (body ++ 10 ∷ []) z a WhiteSpace (eqb-true c 35 e) t.whole f (good.line body z refl t.none)
 a_hash Two c s z a e (inr (l, f)) = put Two c 35 s s z a WhiteSpace (eqb-true c 35 e) refl f (subst (λ y. Takes Two (35 ∷ s) y None) (sym l.all) (good.last_line s refl l.none))
-
-an_opening_a : Case (opening ArrayOpen) (λ c. eqb c 91)
-an_opening_a p c s z a e h = put p c 91 s s z a (marked ArrayOpen (mark_of s)) (eqb-true c 91 e) refl h.1 (marks p ArrayOpen (91 ∷ []) s z h.0 (λ m i. good.array_open s z m i) (good.array_open (codes "_3") [] (Wide Eight) three))
-
-an_opening_m : Case (opening MapOpen) (λ c. eqb c 123)
-an_opening_m p c s z a e h = put p c 123 s s z a (marked MapOpen (mark_of s)) (eqb-true c 123 e) refl h.1 (marks p MapOpen (123 ∷ []) s z h.0 (λ m i. good.map_open s z m i) (good.map_open (codes "_3") [] (Wide Eight) three))
 
 a_single : (k : Class) (d : ℕ) → ((p : Profile) (z : List ℕ) → Takes p (d ∷ []) z (Some k)) → Case (single k) (λ c. eqb c d)
 a_single k d t p c s z a e h = put p c d s [] z a (Read k) (eqb-true c d e) h.0 h.1 (t p z)
@@ -283,14 +272,11 @@ in_either false true l w e = refl
 in_either false false true w e = refl
 in_either false false false w e = never e
 
-letter_word : (c : ℕ) → is_ascii_alphabetic c ≡ true → is_word c ≡ true
-letter_word c e = in_either (is_ascii_digit c) (is_in_range 65 90 c) (is_in_range 97 122 c) (eqb c 95) e
-
 a_letter : Case letter is_ascii_alphabetic
 a_letter p c s z a e (word, after, run, whole, h) = at p (c ∷ s) ((c ∷ word) ++ after) z a a (ap (λ y. c ∷ y) whole) refl (go after run h)
   where
     all : list_all is_word word ≡ true → list_all is_word (c ∷ word) ≡ true
-    all k = and_from (is_word c) (list_all is_word word) (letter_word c e) k
+    all k = and_from (is_word c) (list_all is_word word) (in_either (is_ascii_digit c) (is_in_range 65 90 c) (is_in_range 97 122 c) (eqb c 95) e) k
 
     go : (after : List ℕ) → IsRun is_word word (after ++ z) → IsAfterWord (c ∷ word) after z a → Good p ((c ∷ word) ++ after) z a
     go [] run h = at p ((c ∷ word) ++ []) (c ∷ word) z a (word_front (c ∷ word)) (append-nil (c ∷ word)) h.2 (a_word p (c ∷ word) z (record { letter = e; run = record { pass = all run.pass; ends = run.ends } }) h.0 h.1)
@@ -312,11 +298,11 @@ taken p [] z a h = absurd h
 taken p (c ∷ s) z a h = go (is_white c) (eqb c 47) (eqb c 35) (eqb c 91) (eqb c 123) (eqb c 93) (eqb c 125) (eqb c 41) (eqb c 44) (eqb c 58) (eqb c 60) (eqb c 62) (eqb c 40) (eqb c 34) (eqb c 39) (eqb c 45) (is_ascii_digit c) (is_ascii_alphabetic c) refl refl refl refl refl refl refl refl refl refl refl refl refl refl refl refl refl refl h
   where
     go : (b0 b1 b2 b3 b4 b5 b6 b7 b8 b9 b10 b11 b12 b13 b14 b15 b16 b17 : Bool) → is_white c ≡ b0 → eqb c 47 ≡ b1 → eqb c 35 ≡ b2 → eqb c 91 ≡ b3 → eqb c 123 ≡ b4 → eqb c 93 ≡ b5 → eqb c 125 ≡ b6 → eqb c 41 ≡ b7 → eqb c 44 ≡ b8 → eqb c 58 ≡ b9 → eqb c 60 ≡ b10 → eqb c 62 ≡ b11 → eqb c 40 ≡ b12 → eqb c 34 ≡ b13 → eqb c 39 ≡ b14 → eqb c 45 ≡ b15 → is_ascii_digit c ≡ b16 → is_ascii_alphabetic c ≡ b17 → ReadsFrom (cond b0 white (cond b1 slash (cond b2 hash (cond b3 (opening ArrayOpen) (cond b4 (opening MapOpen) (cond b5 (single ArrayClose) (cond b6 (single MapClose) (cond b7 (single ParenClose) (cond b8 (single Comma) (cond b9 (single Colon) (cond b10 less (cond b11 greater (cond b12 paren (cond b13 double (cond b14 simple (cond b15 minus (cond b16 digit (cond b17 letter other)))))))))))))))))) p c s z a → Good p (c ∷ s) z a
-    go true b1 b2 b3 b4 b5 b6 b7 b8 b9 b10 b11 b12 b13 b14 b15 b16 b17 e0 e1 e2 e3 e4 e5 e6 e7 e8 e9 e10 e11 e12 e13 e14 e15 e16 e17 h = a_white p c s z a e0 h
+    go true b1 b2 b3 b4 b5 b6 b7 b8 b9 b10 b11 b12 b13 b14 b15 b16 b17 e0 e1 e2 e3 e4 e5 e6 e7 e8 e9 e10 e11 e12 e13 e14 e15 e16 e17 h = put p c c s [] z a WhiteSpace refl h.0 h.1 (good.white c z e0)
     go false true b2 b3 b4 b5 b6 b7 b8 b9 b10 b11 b12 b13 b14 b15 b16 b17 e0 e1 e2 e3 e4 e5 e6 e7 e8 e9 e10 e11 e12 e13 e14 e15 e16 e17 h = a_slash p c s z a e1 h
     go false false true b3 b4 b5 b6 b7 b8 b9 b10 b11 b12 b13 b14 b15 b16 b17 e0 e1 e2 e3 e4 e5 e6 e7 e8 e9 e10 e11 e12 e13 e14 e15 e16 e17 h = a_hash p c s z a e2 h
-    go false false false true b4 b5 b6 b7 b8 b9 b10 b11 b12 b13 b14 b15 b16 b17 e0 e1 e2 e3 e4 e5 e6 e7 e8 e9 e10 e11 e12 e13 e14 e15 e16 e17 h = an_opening_a p c s z a e3 h
-    go false false false false true b5 b6 b7 b8 b9 b10 b11 b12 b13 b14 b15 b16 b17 e0 e1 e2 e3 e4 e5 e6 e7 e8 e9 e10 e11 e12 e13 e14 e15 e16 e17 h = an_opening_m p c s z a e4 h
+    go false false false true b4 b5 b6 b7 b8 b9 b10 b11 b12 b13 b14 b15 b16 b17 e0 e1 e2 e3 e4 e5 e6 e7 e8 e9 e10 e11 e12 e13 e14 e15 e16 e17 h = put p c 91 s s z a (marked ArrayOpen (mark_of s)) (eqb-true c 91 e3) refl h.1 (marks p ArrayOpen (91 ∷ []) s z h.0 (λ m i. good.array_open s z m i) (good.array_open (codes "_3") [] (Wide Eight) three))
+    go false false false false true b5 b6 b7 b8 b9 b10 b11 b12 b13 b14 b15 b16 b17 e0 e1 e2 e3 e4 e5 e6 e7 e8 e9 e10 e11 e12 e13 e14 e15 e16 e17 h = put p c 123 s s z a (marked MapOpen (mark_of s)) (eqb-true c 123 e4) refl h.1 (marks p MapOpen (123 ∷ []) s z h.0 (λ m i. good.map_open s z m i) (good.map_open (codes "_3") [] (Wide Eight) three))
     go false false false false false true b6 b7 b8 b9 b10 b11 b12 b13 b14 b15 b16 b17 e0 e1 e2 e3 e4 e5 e6 e7 e8 e9 e10 e11 e12 e13 e14 e15 e16 e17 h = a_single ArrayClose 93 (λ q y. good.array_close y) p c s z a e5 h
     go false false false false false false true b7 b8 b9 b10 b11 b12 b13 b14 b15 b16 b17 e0 e1 e2 e3 e4 e5 e6 e7 e8 e9 e10 e11 e12 e13 e14 e15 e16 e17 h = a_single MapClose 125 (λ q y. good.map_close y) p c s z a e6 h
     go false false false false false false false true b8 b9 b10 b11 b12 b13 b14 b15 b16 b17 e0 e1 e2 e3 e4 e5 e6 e7 e8 e9 e10 e11 e12 e13 e14 e15 e16 e17 h = a_single ParenClose 41 (λ q y. good.paren_close y) p c s z a e7 h

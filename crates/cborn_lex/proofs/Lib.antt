@@ -7,7 +7,6 @@ pub mod GoodFronts
 pub mod GoodBack
 pub mod BadNumbers
 pub mod BadBack
-pub mod GoodTexts
 pub mod Runs
 pub mod TwoParts
 pub mod Decimals

@@ -1,5 +1,5 @@
 -- Letters between quotes: runs of plain ones, and escapes.
-use Rattle.cborn_lex.proofs.Common.{◌≡◌, refl, sym, ap, ap₂, ◌∙◌, subst, ℕ, zero, suc, ◌+◌, ◌-◌, ◌*◌, ◌/◌, ◌<◌, ◌≤◌, ◌^◌, ◌%◌, List, [], ◌∷◌, ◌++◌, length, take, drop, get_or, map, replicate, Bool, true, false, ◌&&◌, ◌||◌, not, cond, eqb, leb, ltb, ◌⊎◌, inl, inr, Option, Some, None, arith, append-nil, append_assoc, and_parts, and_from, or_cases, eq-eqb, eqb-true, ne_eqb, cond-true, cond-false, not-true, false≢true, lt-ltb, le-leb, cases_lt, take-take, length-take, length-map, drop_more, take-append-drop, length-append, length-drop, drop-map, drop-drop, take_rest, zero-div, list_all-append, take-add, take-append-add, take-nil, list_all, flat_map, prefix_len, is_digit, zip2, mask_l, top, is_content, is_unclosed, is_escape, escape_code, four, are_hex, code, is_high, is_low, Letter, raw, escaped, unit, pair, written, meant, is_letter, is_plain, is_special, LettersSoFar, LettersTaken, NoText, is_raw, escape_of, code_at, low_code, paired, unit_from, encode_utf8}
+use Rattle.cborn_lex.proofs.Common.{◌≡◌, refl, sym, ap, ap₂, ◌∙◌, subst, ℕ, zero, suc, ◌+◌, ◌-◌, ◌*◌, ◌/◌, ◌<◌, ◌≤◌, ◌^◌, ◌%◌, List, [], ◌∷◌, ◌++◌, length, take, drop, get_or, map, replicate, Bool, true, false, ◌&&◌, ◌||◌, not, cond, eqb, leb, ltb, ◌⊎◌, inl, inr, Option, Some, None, arith, append-nil, append_assoc, and_parts, and_from, or_cases, eq-eqb, eqb-true, ne_eqb, cond-true, cond-false, not-true, false≢true, lt-ltb, le-leb, cases_lt, take-take, length-take, length-map, drop_more, take-append-drop, length-append, length-drop, drop-map, drop-drop, take_rest, zero-div, list_all-append, take-add, take-nil, list_all, flat_map, prefix_len, is_digit, zip2, mask_l, top, is_content, is_unclosed, is_escape, escape_code, four, are_hex, code, is_high, is_low, Letter, raw, escaped, unit, pair, written, meant, is_letter, is_plain, is_special, LettersSoFar, LettersTaken, NoText, is_raw, escape_of, code_at, low_code, paired, unit_from, encode_utf8}
 use Rattle.std.proofs.lemmas.Bool.Decides.{leb_tells}
 use Rattle.std.proofs.lemmas.List.Sums.{prefix_len-le-length}
 use Rattle.std.proofs.lemmas.Nat.{shr-shr, shr_high}
@@ -37,12 +37,9 @@ not_below a b = elim (leb_tells (suc a) b) [
   | inr p ↦ elim (leb_tells b a) [ inl q ↦ ap not p.0 ∙ sym q.0 | inr q ↦ absurd (omega (arith, p.1, q.1)) ]
 ]
 
-lane : (q c : ℕ) → top 7 (bit_or (bit_or (hit c q) (hit c 92)) (below c 32)) ≡ is_special q c
-lane q c = tops (eqb c q) (eqb c 92) (ltb c 32) ∙ ap (λ b. not ((b && not (eqb c 92)) && not (eqb c q))) (not_below c 32)
-
 lanes : (q : ℕ) (v : List ℕ) → map (λ c. top 7 (bit_or (bit_or (hit c q) (hit c 92)) (below c 32))) v ≡ map (is_special q) v
 lanes q [] = refl
-lanes q (c ∷ v) = ap₂ (λ b bs. b ∷ bs) (lane q c) (lanes q v)
+lanes q (c ∷ v) = ap₂ (λ b bs. b ∷ bs) (tops (eqb c q) (eqb c 92) (ltb c 32) ∙ ap (λ b. not ((b && not (eqb c 92)) && not (eqb c q))) (not_below c 32)) (lanes q v)
 
 pub marked_lanes : (width q : ℕ) (v : List ℕ) → width ≤ 64 → length v ≡ width → mask_l (map (top 7) (zip2 bit_or (zip2 bit_or (zip2 hit v (replicate width q)) (zip2 hit v (replicate width 92))) (zip2 below v (replicate width 32)))) % 2 ^ 64 ≡ mask_l (map (is_special q) v)
 marked_lanes width q v most long =
@@ -133,10 +130,6 @@ short_run q tail from at left h room e some = elim (cases_lt at (from + 64)) [
 
 pub more_plain : (q : ℕ) (tail : List ℕ) (at n : ℕ) → list_all (is_plain q) (take at tail) ≡ true → list_all (is_plain q) (take n (drop at tail)) ≡ true → list_all (is_plain q) (take (at + n) tail) ≡ true
 more_plain q tail at n h k = ap (list_all (is_plain q)) (take-add at n tail) ∙ list_all-append (is_plain q) (take at tail) (take n (drop at tail)) ∙ and_from _ _ h k
-
--- A block that is appended whole, and cut.
-pub block_cut : (tail old block whole cut : List ℕ) (l n : ℕ) → n ≤ 16 → block ≡ take 16 tail → whole ≡ old ++ block → l ≡ length old → cut ≡ take (l + n) whole → cut ≡ old ++ take n tail
-block_cut tail old block whole cut l n h b w e c = c ∙ ap₂ (λ m z. take (m + n) z) e w ∙ take-append-add old block n ∙ ap (λ z. old ++ z) (ap (take n) b ∙ take-take n 16 tail h)
 
 -- what the buffer had first, it has after two steps that each keep what they find
 pub still : (old mid new : List ℕ) → take (length old) mid ≡ old → take (length mid) new ≡ mid → take (length old) new ≡ old

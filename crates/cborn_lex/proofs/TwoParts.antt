@@ -1,5 +1,5 @@
 -- Fronts in two parts: a kind, and the number or the content that goes with it.
-use Rattle.cborn_lex.proofs.Common.{◌≡◌, ◌&&◌, refl, sym, ap, ◌∙◌, subst, ℕ, zero, suc, ◌<◌, ◌≤◌, List, [], ◌∷◌, ◌++◌, append-nil, length, take, drop, get_or, Bool, true, false, eqb, inl, inr, Option, Some, None, Result, Ok, Err, IfOk, arith, ◌+◌, false≢true, eq-eqb, and_right, and_parts, cases_lt, cond-true, cond-false, take_all, drop_all, Mark, Class, bytes_eq, codes, LexReason, UnclosedString, Front, Read, Bad, marked, mark_of, is_word, Profile, IsIndicator, IsString, Start, digit, start_of, ReadsFrom, Prefix, hexadecimal, base64, unknown, prefix_of, IsPrefixed, ReadsWord, class_of, content_of, StandsFor, front_view, FrontStandsFor}
+use Rattle.cborn_lex.proofs.Common.{◌≡◌, ◌&&◌, refl, sym, ap, ◌∙◌, subst, ℕ, zero, suc, ◌<◌, ◌≤◌, List, [], ◌∷◌, ◌++◌, append-nil, length, take, drop, get_or, Bool, true, false, eqb, inl, inr, Option, Some, None, Result, Ok, Err, IfOk, arith, ◌+◌, false≢true, eq-eqb, and_right, and_parts, cases_lt, cond-false, Mark, Class, Front, Read, marked, mark_of, is_word, Profile, IsIndicator, Start, digit, start_of, ReadsFrom, Prefix, prefix_of, IsPrefixed, ReadsWord, class_of, content_of, StandsFor, front_view, FrontStandsFor}
 use Rattle.cborn_lex.specs.declared.classes.Kind.{Kind}
 use Rattle.cborn_lex.specs.declared.classes.Kind.TheVariants as kinds
 use Rattle.cborn_lex.specs.declared.fronts.Front.{Front as FrontIn}
@@ -22,10 +22,6 @@ string_appended fronts.WhiteSpace n x old new k None c e w = cc
 string_appended (fronts.Read l) n x old new k (Some a) c e w = let same : class_of l n x ≡ k a = cc in (k a, refl, record { content = x; class = sym same; written = w ∙ ap (λ y. old ++ y) (sym (c a)) })
 string_appended (fronts.Bad r) n x old new k None c e w = sym e
 string_appended _ n x old new k _ c e w = cc
-
--- a string that isn't closed
-pub unclosed_made : (whole unclosed : List ℕ → Bool) (q : ℕ) (Is : List ℕ → List ℕ → Type 0) (r : LexReason) (k : List ℕ → Mark → Class) (tail : List ℕ) → unclosed tail ≡ true → IsString whole unclosed q Is r k (take (length tail) tail) (drop (length tail) tail) (Bad UnclosedString)
-unclosed_made whole unclosed q Is r k tail h = inr (ap unclosed (take_all (length tail) tail (omega arith)) ∙ h, drop_all (length tail) tail (omega arith), refl)
 
 -- an underscore and two characters of words, or more
 pub long_mark : (x : List ℕ) (n : ℕ) → 2 < length x → get_or x 0 0 ≡ 95 → is_word (get_or x 1 0) ≡ true → is_word (get_or x 2 0) ≡ true → IsIndicator (take n x) (drop n x) → None ≡ mark_of (take n x)
@@ -94,20 +90,8 @@ pub prefix_known : {E : Type 0} (p : Prefix) (word tail old new : List ℕ) (r :
     → IfOk r (λ r. (r.1 ≤ length tail) × ((a : Front) × IsPrefixed (prefix_of word) (take r.1 tail) (drop r.1 tail) a × ((n : ℕ) → FrontStandsFor r.0 n old new a)))
 prefix_known p word tail old new r e h = subst (λ (q : Prefix). IfOk r (λ r. (r.1 ≤ length tail) × ((a : Front) × IsPrefixed q (take r.1 tail) (drop r.1 tail) a × ((n : ℕ) → FrontStandsFor r.0 n old new a)))) (sym e) h
 
-pub prefix_hex : (word : List ℕ) → bytes_eq word (codes "h") ≡ true → prefix_of word ≡ hexadecimal
-prefix_hex word h = cond-true _ _ _ h
-
-pub prefix_base64 : (word : List ℕ) → bytes_eq word (codes "h") ≡ false → bytes_eq word (codes "b64") ≡ true → prefix_of word ≡ base64
-prefix_base64 word h k = cond-false _ _ _ h ∙ cond-true _ _ _ k
-
-pub prefix_none : (word : List ℕ) → bytes_eq word (codes "h") ≡ false → bytes_eq word (codes "b64") ≡ false → prefix_of word ≡ unknown
-prefix_none word h k = cond-false _ _ _ h ∙ cond-false _ _ _ k
-
 -- `simple(`
 
-six : (c a b d e f g : ℕ) (z : List ℕ) → c ≡ 115 → a ≡ 105 → b ≡ 109 → d ≡ 112 → e ≡ 108 → f ≡ 101 → g ≡ 40 → ReadsWord c (a ∷ b ∷ d ∷ e ∷ f ∷ g ∷ []) z (Read classes.SimpleOpen)
-six c a b d e f g z h0 h1 h2 h3 h4 h5 h6 = rw (h0, h1, h2, h3, h4, h5, h6) (105 ∷ 109 ∷ 112 ∷ 108 ∷ 101 ∷ [], 40 ∷ [], record { pass = refl; ends = refl }, refl, inr (refl, refl, refl, refl))
-
 pub simple_word : (c : ℕ) (tail : List ℕ) → 6 ≤ length tail → c ≡ 115 → get_or tail 0 0 ≡ 105 → get_or tail 1 0 ≡ 109 → get_or tail 2 0 ≡ 112 → get_or tail 3 0 ≡ 108 → get_or tail 4 0 ≡ 101 → get_or tail 5 0 ≡ 40 → ReadsWord c (take 6 tail) (drop 6 tail) (Read classes.SimpleOpen)
-simple_word c (a ∷ b ∷ d ∷ e ∷ f ∷ g ∷ z) l h0 h1 h2 h3 h4 h5 h6 = six c a b d e f g z h0 h1 h2 h3 h4 h5 h6
+simple_word c (a ∷ b ∷ d ∷ e ∷ f ∷ g ∷ z) l h0 h1 h2 h3 h4 h5 h6 = rw (h0, h1, h2, h3, h4, h5, h6) (105 ∷ 109 ∷ 112 ∷ 108 ∷ 101 ∷ [], 40 ∷ [], record { pass = refl; ends = refl }, refl, inr (refl, refl, refl, refl))
 simple_word c _ l h0 h1 h2 h3 h4 h5 h6 = absurd (omega (arith, l))

@@ -1,16 +1,6 @@
 -- Lexical faults: what is wrong where neither white space, a comment nor a token begins (RFC 8949 section 8, RFC 8610 appendix G).
 use Rattle.std.specs.Prelude.{◌≡◌, ℕ, ◌+◌, ◌≤◌, ◌^◌, Bool, true, false, ◌||◌, ◌&&◌, List, [], ◌∷◌, ◌++◌, ◌==◌, bytes_eq, drop, codes, Option, Some, None}
-use Rattle.std.specs.List.{list_all, list_any}
-use Rattle.std.specs.Str.{byte}
-use Rattle.std.specs.Char.{is_ascii_digit, is_ascii_alphabetic, is_ascii_alphanumeric}
-use Rattle.cborn_lex.specs.declared.classes.Profile.{Profile}
-use Rattle.cborn_lex.specs.declared.classes.Profile.TheVariants.{One}
-use Rattle.cborn_lex.specs.declared.classes.Class.{Class}
-use Rattle.cborn_lex.specs.declared.classes.Token.{Token}
-use Rattle.cborn_lex.specs.declared.faults.LexFault.{LexFault}
-use Rattle.cborn_lex.specs.declared.faults.LexFault.TheVariants.{Refused, OutOfMemory}
-use Rattle.cborn_lex.specs.declared.faults.LexReason.{LexReason}
-use Rattle.cborn_lex.specs.declared.faults.LexReason.TheVariants.{UnexpectedCharacter, UnclosedString, UnclosedComment, BadEscape, BadHex, BadBase64, UnknownPrefix, BadIndicator, BadNumber, NumberTooLarge, FloatLeftOut}
+use Rattle.cborn_lex.specs.Common.{list_all, list_any, byte, is_ascii_digit, is_ascii_alphabetic, is_ascii_alphanumeric, Profile, One, Class, Token, LexFault, Refused, OutOfMemory, LexReason, UnexpectedCharacter, UnclosedString, UnclosedComment, BadEscape, BadHex, BadBase64, UnknownPrefix, BadIndicator, BadNumber, NumberTooLarge, FloatLeftOut}
 use Rattle.cborn_lex.specs.Tokens.{is_white, is_word, is_numeral, is_not, begins, mark_of}
 use Rattle.cborn_lex.specs.Numbers.{has_prefix, has_any}
 use Rattle.cborn_lex.specs.Forms.{IsRun, IsIndicator}

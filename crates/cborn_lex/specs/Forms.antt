@@ -1,16 +1,7 @@
 -- What the front of a text is, by its first character: white space, a comment, a token, or what is wrong with it (RFC 8949 section 8, RFC 8610 appendix G). It is a device of the proofs, but for `IsRun` and `IsIndicator`.
 -- A text is a list of bytes in UTF-8. Each character that means something is ASCII, so no definition decodes.
 use Rattle.std.specs.Prelude.{◌≡◌, ℕ, Bool, true, false, ◌&&◌, not, List, [], ◌∷◌, ◌++◌, ◌==◌, bytes_eq, codes, Option, ◌⊎◌, if◌then◌else◌}
-use Rattle.std.specs.List.{list_all}
-use Rattle.std.specs.Str.{byte}
-use Rattle.std.specs.Char.{is_ascii_digit, is_ascii_alphabetic}
-use Rattle.cborn_lex.specs.declared.classes.Profile.{Profile}
-use Rattle.cborn_lex.specs.declared.classes.Profile.TheVariants.{One, Two}
-use Rattle.cborn_lex.specs.declared.classes.Mark.{Mark}
-use Rattle.cborn_lex.specs.declared.faults.LexReason.{LexReason}
-use Rattle.cborn_lex.specs.declared.faults.LexReason.TheVariants.{UnexpectedCharacter, UnclosedString, UnclosedComment, BadEscape, BadHex, BadBase64, UnknownPrefix, BadIndicator}
-use Rattle.cborn_lex.specs.declared.classes.Class.{Class}
-use Rattle.cborn_lex.specs.declared.classes.Class.TheVariants.{ArrayOpen, MapOpen, EmbedClose, ArrayClose, MapClose, ParenClose, Comma, Colon, EmbedOpen, ChunkOpen, SimpleOpen, Text, Bytes}
+use Rattle.cborn_lex.specs.Common.{list_all, byte, is_ascii_digit, is_ascii_alphabetic, Profile, One, Two, Mark, LexReason, UnexpectedCharacter, UnclosedString, UnclosedComment, BadEscape, BadHex, BadBase64, UnknownPrefix, BadIndicator, Class, ArrayOpen, MapOpen, EmbedClose, ArrayClose, MapClose, ParenClose, Comma, Colon, EmbedOpen, ChunkOpen, SimpleOpen, Text, Bytes}
 use Rattle.cborn_lex.specs.Tokens.{Front, WhiteSpace, Read, Bad, is_white, is_word, is_numeral, is_not, begins, mark_of, marked}
 use Rattle.cborn_lex.specs.Numbers.{integer, number_front, word_front}
 use Rattle.cborn_lex.specs.Strings.{is_content, is_unclosed, IsText, IsHex, IsBase64}

@@ -1,14 +1,7 @@
 -- What the front of a text may be: white space, a comment or a token (RFC 8949 section 8, RFC 8610 appendix G); and the tokens of a text.
 -- A text is a list of bytes in UTF-8. Each character that means something is ASCII, so no definition decodes. In what follows s is the part of the text that is described, and z all that follows it.
-use Rattle.std.specs.Prelude.{◌≡◌, ℕ, ◌+◌, ◌<◌, length, ◌^◌, true, false, ◌||◌, not, List, [], ◌∷◌, ◌++◌, ◌==◌, bytes_eq, drop, codes, Option, Some, None}
-use Rattle.std.specs.List.{list_all}
-use Rattle.std.specs.Str.{byte}
-use Rattle.cborn_lex.specs.declared.classes.Profile.{Profile}
-use Rattle.cborn_lex.specs.declared.classes.Profile.TheVariants.{Two}
-use Rattle.cborn_lex.specs.declared.classes.Token.{Token}
-use Rattle.cborn_lex.specs.declared.classes.Mark.{Mark}
-use Rattle.cborn_lex.specs.declared.classes.Class.{Class}
-use Rattle.cborn_lex.specs.declared.classes.Class.TheVariants.{ArrayOpen, MapOpen, EmbedClose, ArrayClose, MapClose, ParenClose, Comma, Colon, EmbedOpen, ChunkOpen, SimpleOpen, Text, Bytes, TagOpen, Word}
+use Rattle.std.specs.Prelude.{◌≡◌, ℕ, ◌+◌, ◌<◌, ◌≤◌, length, ◌^◌, true, false, ◌||◌, not, List, [], ◌∷◌, ◌++◌, ◌==◌, bytes_eq, drop, codes, Option, Some, None}
+use Rattle.cborn_lex.specs.Common.{list_all, byte, Profile, Two, Token, Mark, Class, ArrayOpen, MapOpen, EmbedClose, ArrayClose, MapClose, ParenClose, Comma, Colon, EmbedOpen, ChunkOpen, SimpleOpen, Text, Bytes, TagOpen, Word}
 use Rattle.cborn_lex.specs.Tokens.{is_white, is_word, is_numeral, is_not, begins, mark_of}
 use Rattle.cborn_lex.specs.Numbers.{are_digits, has_prefix, number, signed}
 use Rattle.cborn_lex.specs.Forms.{IsRun, IsIndicator}
@@ -94,3 +87,8 @@ TokensBetween profile x n m ts = Covers profile n (drop n x) ts m (drop m x)
 abbrev pub IsTokenFrom : Profile → List ℕ → ℕ → Option Token → Type 0
 IsTokenFrom profile x n (Some t) = TokensBetween profile x n t.stop (t ∷ [])
 IsTokenFrom profile x n None = TokensBetween profile x n (length x) []
+
+-- from n on up to m, the tokens rise, don't overlap and aren't empty
+abbrev pub SpansRise : ℕ → List Token → ℕ → Type 0
+SpansRise n [] m = n ≤ m
+SpansRise n (t ∷ ts) m = (n ≤ t.start) × (t.start < t.stop) × SpansRise t.stop ts m

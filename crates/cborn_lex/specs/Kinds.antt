@@ -1,10 +1,9 @@
 -- A token in two parts: its kind, and its number or the content of its string.
 use Rattle.std.specs.Prelude.{◌≡◌, ℕ, List, [], ◌∷◌, ◌++◌, length, Option, Some, None}
-use Rattle.cborn_lex.specs.declared.classes.Profile.{Profile}
+use Rattle.cborn_lex.specs.Common.{Profile, Class}
 use Rattle.cborn_lex.specs.declared.classes.Kind.{Kind}
 use Rattle.cborn_lex.specs.declared.classes.Kind.TheVariants as kinds
 use Rattle.cborn_lex.specs.declared.classes.BareToken.{BareToken}
-use Rattle.cborn_lex.specs.declared.classes.Class.{Class}
 use Rattle.cborn_lex.specs.declared.classes.Class.TheVariants as classes
 use Rattle.cborn_lex.specs.Good.{TokensBetween}
 

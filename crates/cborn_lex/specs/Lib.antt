@@ -1,3 +1,4 @@
+pub mod Common
 pub mod Tokens
 pub mod Numbers
 pub mod Strings
@@ -5,6 +6,6 @@ pub mod Forms
 pub mod Good
 pub mod Kinds
 pub mod Bad
-pub mod Lex
+pub mod Cited
 pub mod shared
 pub mod devices

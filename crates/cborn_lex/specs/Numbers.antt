@@ -1,12 +1,6 @@
 -- Integers (RFC 8949 section 8, RFC 8610 appendix G.5), and words.
 use Rattle.std.specs.Prelude.{◌≡◌, ℕ, ◌+◌, ◌*◌, ◌^◌, ◌≤◌, Bool, true, false, ◌||◌, ◌&&◌, not, List, [], ◌∷◌, length, take, drop, ◌==◌, nat_lt, bytes_eq, codes, Option, Result, Ok, Err, if◌then◌else◌}
-use Rattle.std.specs.List.{list_all, list_any}
-use Rattle.std.specs.Char.{is_digit, digit_value, is_ascii_digit}
-use Rattle.cborn_lex.specs.declared.classes.Mark.{Mark}
-use Rattle.cborn_lex.specs.declared.faults.LexReason.{LexReason}
-use Rattle.cborn_lex.specs.declared.faults.LexReason.TheVariants.{UnexpectedCharacter, BadNumber, NumberTooLarge, FloatLeftOut}
-use Rattle.cborn_lex.specs.declared.classes.Class.{Class}
-use Rattle.cborn_lex.specs.declared.classes.Class.TheVariants.{Number, TagOpen, Word}
+use Rattle.cborn_lex.specs.Common.{list_all, list_any, is_digit, digit_value, is_ascii_digit, Mark, LexReason, UnexpectedCharacter, BadNumber, NumberTooLarge, FloatLeftOut, Class, Number, TagOpen, Word}
 use Rattle.cborn_lex.specs.Tokens.{Front, Read, Bad, begins, is_numeral, marked}
 
 -- one or more digits of the base

@@ -1,9 +1,6 @@
 -- What the contents of strings stand for.
 use Rattle.std.specs.Prelude.{◌≡◌, ℕ, ◌+◌, ◌-◌, ◌*◌, ◌%◌, Bool, true, ◌||◌, ◌&&◌, not, List, [], ◌∷◌, ◌++◌, length, map, filter, replicate, ◌==◌, nat_le, nat_lt, codes, Ok, if◌then◌else◌, encode_utf8}
-use Rattle.std.specs.List.{list_all, list_any}
-use Rattle.std.specs.Str.{byte}
-use Rattle.std.specs.Char.{is_digit, digit_value}
-use Rattle.hex.specs.Hex.{decode_of, IsBytes}
+use Rattle.cborn_lex.specs.Common.{list_all, list_any, byte, is_digit, digit_value, decode_of, IsBytes}
 use Rattle.base64.specs.GeneralPurpose.{encode_of}
 use Rattle.base64.specs.Engines.{standard}
 use Rattle.cborn_lex.specs.Tokens.{is_white, is_not}

@@ -1,13 +1,8 @@
 -- The characters that tokens are made of, indicators, and what the front of a text can be.
 use Rattle.std.specs.Prelude.{ℕ, Bool, List, [], ◌∷◌, false, ◌||◌, not, ◌==◌, bytes_eq, codes, Option, Some, None, if◌then◌else◌}
-use Rattle.std.specs.Str.{byte}
-use Rattle.std.specs.Char.{is_ascii_alphanumeric}
+use Rattle.cborn_lex.specs.Common.{byte, is_ascii_alphanumeric, Class, Mark, LexReason, BadIndicator}
 use Rattle.cborn_model.specs.declared.heads.Width.TheVariants.{One, Two, Four, Eight}
-use Rattle.cborn_lex.specs.declared.classes.Class.{Class}
-use Rattle.cborn_lex.specs.declared.classes.Mark.{Mark}
 use Rattle.cborn_lex.specs.declared.classes.Mark.TheVariants.{Absent, Endless, Wide}
-use Rattle.cborn_lex.specs.declared.faults.LexReason.{LexReason}
-use Rattle.cborn_lex.specs.declared.faults.LexReason.TheVariants.{BadIndicator}
 
 -- the front of a text: white space or a comment, a token, or a lexical fault
 pub data Front : Type 0 where

@@ -1,7 +1,7 @@
 //! Tokens: what they are, and what they mean.
 
 ghost use Rattle.std.specs.Prelude.{◌≡◌};
-ghost use Rattle.cborn_lex.specs.Kinds.{class_of};
+ghost use Rattle.cborn_lex.specs.Cited.{class_of};
 
 use cborn_model::{ByteString, Width};
 

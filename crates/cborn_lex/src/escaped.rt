@@ -1,14 +1,9 @@
 //! Strings between quotes, with the escapes of JSON (RFC 8259 section 7).
 
-ghost use Rattle.std.specs.Prelude.{◌≡◌, ℕ, ◌<◌, ◌≤◌, ◌++◌, ◌==◌, List, length, take, drop, slice_index, MatchOption, IfOk, IfSome, OnOk, encode_utf8, true, false, None, Some};
-ghost use Rattle.cborn_lex.specs.declared.classes.Class.{Class};
-ghost use Rattle.cborn_lex.specs.declared.classes.Class.TheVariants.{Text, Bytes};
-ghost use Rattle.cborn_lex.specs.Tokens.{Front as AnyFront, Bad, marked};
-ghost use Rattle.cborn_lex.specs.Strings.{is_content, is_unclosed, is_low};
-ghost use Rattle.cborn_lex.specs.Forms.{IsQuoted};
-ghost use Rattle.cborn_lex.specs.devices.Letters.{NoText};
-ghost use Rattle.cborn_lex.specs.devices.Scan.{code_at, low_code, unit_from};
-ghost use Rattle.cborn_lex.specs.devices.View.{front_view, FrontStandsFor};
+ghost use Rattle.std.specs.Prelude.{◌≡◌, ℕ, ◌<◌, ◌≤◌, ◌++◌, ◌==◌, ◌⊎◌, List, length, take, drop, slice_index, MatchOption, IfOk, IfSome, OnOk, encode_utf8, true, false, None, Some};
+ghost use Rattle.cborn_lex.specs.Common.{Class, Bytes};
+ghost use Rattle.cborn_lex.specs.Cited.{Front as AnyFront, Bad, marked, is_content, is_unclosed, is_low, IsQuoted};
+ghost use Rattle.cborn_lex.specs.devices.Common.{of_quoted, NoText, code_at, low_code, unit_from, front_view, FrontStandsFor};
 
 use crate::classes::{Kind, Mark};
 use crate::faults::LexReason;
@@ -127,14 +122,14 @@ fn bad_string(quote: u8, tail: &[u8]) -> (LexReason, usize)
     (LexReason::BadEscape, i + 1 + m)
 }
 
-/// The kind of a string in double quotes, or that its indicator is bad.
+/// The kind of a string between these quotes, or that its indicator is bad.
 #[inline(always)]
-fn text_front(mark: Option<Mark>) -> Front
-    ensures { (n : ℕ) (x : List ℕ) → front_view n x result ≡ marked (Text x) mark }
+fn quoted_front(quote: u8, mark: Option<Mark>) -> Front
+    ensures { (n : ℕ) (x : List ℕ) → front_view n x result ≡ marked (of_quoted quote x) mark }
 {
     match mark {
-        Some(mark) => Front::Read(Kind::Text(mark)),
-        None => Front::Bad(LexReason::BadIndicator),
+        Some(mark) if quote == b'"' => Front::Read(Kind::Text(mark)),
+        _ => bytes_front(true, mark),
     }
 }
 
@@ -149,28 +144,17 @@ pub fn bytes_front(quoted: bool, mark: Option<Mark>) -> Front
     }
 }
 
-/// Reads a string after its opening double quote, and appends its bytes to `out`. Gives its kind,
-/// or what is wrong with it, and how many bytes of `tail` it takes.
-pub fn double_quoted(tail: &[u8], out: &mut Vec<u8>) -> Result<(Front, usize), AllocError>
-    ensures { IfOk result (λ r. (r.1 ≤ length tail.now) × ((a : AnyFront) × IsQuoted 34 Text (take r.1 tail.now) (drop r.1 tail.now) a × ((n : ℕ) → FrontStandsFor r.0 n out.old.items out.new.items a))) }
+/// Reads a string after its opening quote, a double or a single one, and appends its bytes to `out`.
+/// Gives its kind, or what is wrong with it, and how many bytes of `tail` it takes. Each quote has a
+/// copy of the code.
+pub fn quoted<const QUOTE: u8>(tail: &[u8], out: &mut Vec<u8>) -> Result<(Front, usize), AllocError>
+    requires { (QUOTE ≡ 34) ⊎ (QUOTE ≡ 39) }
+    ensures { IfOk result (λ r. (r.1 ≤ length tail.now) × ((a : AnyFront) × IsQuoted QUOTE (of_quoted QUOTE) (take r.1 tail.now) (drop r.1 tail.now) a × ((n : ℕ) → FrontStandsFor r.0 n out.old.items out.new.items a))) }
 {
-    let Some(i) = push_letters(b'"', tail, 0, out)? else {
-        let (reason, n) = bad_string(b'"', tail);
+    let Some(i) = push_letters(QUOTE, tail, 0, out)? else {
+        let (reason, n) = bad_string(QUOTE, tail);
         return Ok((Front::Bad(reason), n));
     };
     let (mark, m) = mark_at(rest_of(tail, i + 1));
-    Ok((text_front(mark), i + 1 + m))
-}
-
-/// Reads a string after its opening single quote, and appends its bytes to `out`. Gives its kind,
-/// or what is wrong with it, and how many bytes of `tail` it takes.
-pub fn single_quoted(tail: &[u8], out: &mut Vec<u8>) -> Result<(Front, usize), AllocError>
-    ensures { IfOk result (λ r. (r.1 ≤ length tail.now) × ((a : AnyFront) × IsQuoted 39 (Bytes true) (take r.1 tail.now) (drop r.1 tail.now) a × ((n : ℕ) → FrontStandsFor r.0 n out.old.items out.new.items a))) }
-{
-    let Some(i) = push_letters(b'\'', tail, 0, out)? else {
-        let (reason, n) = bad_string(b'\'', tail);
-        return Ok((Front::Bad(reason), n));
-    };
-    let (mark, m) = mark_at(rest_of(tail, i + 1));
-    Ok((bytes_front(true, mark), i + 1 + m))
+    Ok((quoted_front(QUOTE, mark), i + 1 + m))
 }

@@ -1,7 +1,7 @@
 //! Why a text is not made of tokens.
 
 ghost use Rattle.std.specs.Prelude.{◌≡◌};
-ghost use Rattle.cborn_lex.specs.declared.faults.LexFault.TheVariants.{OutOfMemory};
+ghost use Rattle.cborn_lex.specs.Common.{OutOfMemory};
 
 use std::alloc::{AllocError, AllocFailed};
 use thiserror::Error;

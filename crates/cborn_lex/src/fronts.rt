@@ -2,13 +2,12 @@
 //! a front and how many bytes of `tail` it takes.
 
 ghost use Rattle.std.specs.Prelude.{◌≡◌, ℕ, ◌<◌, ◌≤◌, List, [], length, take, drop, slice_index, IfOk, false, ◌⊎◌};
-ghost use Rattle.cborn_lex.specs.declared.classes.Class.TheVariants.{ArrayOpen, MapOpen, EmbedClose};
-ghost use Rattle.cborn_lex.specs.Tokens.{Front as AnyFront, WhiteSpace, is_white, mark_of, marked};
-ghost use Rattle.cborn_lex.specs.Forms.{start_of, less, greater, hash, paren_front, IsIndicator, Through, Lacks, ReadsFrom, Reads};
-ghost use Rattle.cborn_lex.specs.devices.View.{front_view, FrontStandsFor};
+ghost use Rattle.cborn_lex.specs.Common.{ArrayOpen, MapOpen, EmbedClose};
+ghost use Rattle.cborn_lex.specs.Cited.{Front as AnyFront, WhiteSpace, is_white, mark_of, marked, start_of, less, greater, hash, paren_front, IsIndicator, Through, Lacks, ReadsFrom, Reads};
+ghost use Rattle.cborn_lex.specs.devices.Common.{front_view, FrontStandsFor};
 
 use crate::classes::{Kind, Profile};
-use crate::escaped::{double_quoted, single_quoted};
+use crate::escaped::quoted;
 use crate::faults::LexReason;
 use crate::integers::{number_at, number_from_digit};
 use crate::keywords::word_at;
@@ -148,8 +147,8 @@ fn front_by_character(
         b')' => Ok((Front::Read(Kind::ParenClose), 0)),
         b'0'..=b'9' => Ok(number_from_digit(text, tail, number)),
         b'-' => Ok(number_at(true, tail, number)),
-        b'"' => double_quoted(tail, out),
-        b'\'' => single_quoted(tail, out),
+        b'"' => quoted::<b'"'>(tail, out),
+        b'\'' => quoted::<b'\''>(tail, out),
         b'a'..=b'z' | b'A'..=b'Z' => word_at(alloc, text, tail, out),
         b'(' => Ok(paren(tail)),
         b'<' => Ok(less(tail)),
@@ -173,6 +172,7 @@ fn hash(profile: Profile, tail: &[u8]) -> (Front, usize)
 
 /// What `text` begins with, and how many bytes that takes. Its first character isn't white space. A
 /// number is put into `number`, and the content of a string is appended to `out`.
+#[tactic(auto, using(crate::proofs::WholeTexts::Progress::first_reads))]
 pub fn first_of(
     alloc: Global,
     profile: Profile,

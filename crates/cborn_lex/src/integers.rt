@@ -1,12 +1,9 @@
 //! Integers and the numbers of tags (RFC 8949 section 8, RFC 8610 appendix G.5).
 
 ghost use Rattle.std.specs.Prelude.{◌≡◌, ◌+◌, ◌*◌, ◌<◌, ◌≤◌, MatchOption, length, take, drop, Bool, [], slice_index, OnSome, IfSome, true, Ok, Err, false, ◌==◌, ◌||◌, ◌&&◌, not, ◌^◌, if◌then◌else◌, ℕ, IfNone};
-ghost use Rattle.std.specs.List.{list_all, list_any};
-ghost use Rattle.std.specs.Char.{digit_value, is_digit};
-ghost use Rattle.cborn_lex.specs.Tokens.{begins, is_numeral};
-ghost use Rattle.cborn_lex.specs.Numbers.{integer, within, number, are_digits, number_front, BeginsDecimal};
-ghost use Rattle.cborn_lex.specs.Forms.{ReadsNumber, IsRun};
-ghost use Rattle.cborn_lex.specs.devices.View.{front_view};
+ghost use Rattle.cborn_lex.specs.Common.{list_all, list_any, digit_value, is_digit};
+ghost use Rattle.cborn_lex.specs.Cited.{begins, is_numeral, integer, within, number, are_digits, number_front, BeginsDecimal, ReadsNumber, IsRun};
+ghost use Rattle.cborn_lex.specs.devices.Common.{front_view};
 
 use crate::classes::{Kind, Mark};
 use crate::faults::LexReason;
@@ -43,6 +40,7 @@ fn are_digits(base: u8, ds: &[u8]) -> bool
 }
 
 /// The number that digits of the base spell, if it fits 128 bits.
+#[tactic(auto, using(crate::proofs::Sliced::Values::too_large, crate::proofs::Sliced::Values::all_read))]
 fn value(base: u8, ds: &[u8]) -> Result<u128, LexReason>
     requires { 1 ≤ base }
     ensures { result ≡ within (number base 0 ds.now) }

@@ -1,10 +1,8 @@
 //! Words: prefixes of byte strings, `simple(`, and the names of simple values.
 
 ghost use Rattle.std.specs.Prelude.{◌≡◌, ℕ, ◌<◌, ◌≤◌, length, take, drop, [], slice_index, IfOk, true, false, ◌&&◌, bytes_eq, codes, ◌==◌};
-ghost use Rattle.cborn_lex.specs.Tokens.{Front as AnyFront, begins};
-ghost use Rattle.cborn_lex.specs.Numbers.{word_front};
-ghost use Rattle.cborn_lex.specs.Forms.{IsPrefixed, prefix_of, IsAfterWord, ReadsWord};
-ghost use Rattle.cborn_lex.specs.devices.View.{front_view, FrontStandsFor};
+ghost use Rattle.cborn_lex.specs.Cited.{Front as AnyFront, begins, word_front, IsPrefixed, prefix_of, IsAfterWord, ReadsWord};
+ghost use Rattle.cborn_lex.specs.devices.Common.{front_view, FrontStandsFor};
 
 use crate::classes::Kind;
 use crate::encoded::{Encoding, in_encoding};

@@ -1,15 +1,8 @@
 //! Laws of the tokens of a text: each function does nothing, and its contract is a theorem.
 
 ghost use Rattle.std.specs.Prelude.{◌≡◌, ◌↔◌, Some, None, ℕ, ◌<◌, List, [], ◌++◌, ◌⊎◌, length, drop};
-ghost use Rattle.hex.specs.Hex.{IsBytes};
-ghost use Rattle.cborn_lex.specs.declared.classes.Class.{Class};
-ghost use Rattle.cborn_lex.specs.declared.classes.Token.{Token};
-ghost use Rattle.cborn_lex.specs.declared.faults.LexFault.{LexFault};
-ghost use Rattle.cborn_lex.specs.Tokens.{WhiteSpace, Read, Bad};
-ghost use Rattle.cborn_lex.specs.Forms.{Reads};
-ghost use Rattle.cborn_lex.specs.Good.{Takes, HasTokens, TokensBetween};
-ghost use Rattle.cborn_lex.specs.Bad.{Fails, BeginsNothing, FailsAt, HasNoTokens, HasNoTokenFrom};
-ghost use Rattle.cborn_lex.specs.Lex.{Lex, Stop, SpansRise};
+ghost use Rattle.cborn_lex.specs.Common.{IsBytes, Class, Token, LexFault};
+ghost use Rattle.cborn_lex.specs.Cited.{WhiteSpace, Read, Bad, Reads, Takes, HasTokens, TokensBetween, Fails, BeginsNothing, FailsAt, HasNoTokens, HasNoTokenFrom, SpansRise};
 
 use crate::classes::Profile;
 use crate::faults::LexReason;
@@ -23,6 +16,7 @@ pub fn one_answer()
 {}
 
 /// The tokens of a text aren't empty, rise and don't overlap, and end within it.
+#[tactic(auto, using(crate::proofs::WholeTexts::Chains::spans_rise))]
 pub fn spans_rise()
     ensures { (profile : Profile) (text : List ℕ) (ts : List Token) → HasTokens profile text ts → SpansRise 0 ts (length text) }
 {}
@@ -34,6 +28,7 @@ pub fn no_token_at_stop()
 {}
 
 /// A text of profile 1 has the same tokens, at the same places, in profile 2.
+#[tactic(auto, using(crate::proofs::WholeTexts::Chains::both_profiles))]
 pub fn both_profiles()
     ensures { (text : List ℕ) (ts : List Token) → HasTokens Profile.One text ts → HasTokens Profile.Two text ts }
 {}
@@ -47,18 +42,16 @@ pub fn token_by_token()
     ensures stops { (profile : Profile) (text : List ℕ) (m n : ℕ) (ts : List Token) (e : LexFault) → TokensBetween profile text m n ts → HasNoTokenFrom profile text n e → HasNoTokenFrom profile text m e }
 {}
 
-/// `Reads` and `Takes` agree on white space and tokens, and so on the tokens of a text. `Reads` is
-/// a device of the proofs.
+/// `Reads` and `Takes` agree on white space and tokens. `Reads` is a device of the proofs.
 pub fn good_tokens()
     ensures white_space { (profile : Profile) (s z : List ℕ) → Reads profile s z WhiteSpace ↔ Takes profile s z None }
     ensures token { (profile : Profile) (s z : List ℕ) (k : Class) → Reads profile s z (Read k) ↔ Takes profile s z (Some k) }
-    ensures texts { (profile : Profile) (text : List ℕ) (tokens : List Token) → Lex profile text tokens ↔ HasTokens profile text tokens }
 {}
 
 /// `Reads` and `Fails` agree on lexical faults and their reasons. `Reads` is a device of the
 /// proofs.
+#[tactic(auto, using(crate::proofs::GoodFronts::taken, crate::proofs::BadBack::fails))]
 pub fn bad_tokens()
     ensures front { (profile : Profile) (s z : List ℕ) (r : LexReason) → Reads profile s z (Bad r) → Fails profile (s ++ z) r }
     ensures back { (profile : Profile) (y : List ℕ) (r : LexReason) → Fails profile y r → (s : List ℕ) × (z : List ℕ) × (y ≡ s ++ z) × Reads profile s z (Bad r) }
-    ensures texts { (profile : Profile) (text : List ℕ) (n : ℕ) (r : LexReason) → Stop profile text n r ↔ FailsAt profile text n r }
 {}

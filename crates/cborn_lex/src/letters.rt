@@ -4,11 +4,10 @@
 //! an escape, and control characters, which no string may have.
 
 ghost use Rattle.std.specs.Prelude.{◌≡◌, ◌≤◌, ◌<◌, ◌+◌, ◌++◌, ℕ, List, true, length, take, drop, map, slice_index, IfOk, OnOk, MatchOption, None, Some, false, encode_utf8, ◌⊎◌};
-ghost use Rattle.std.specs.List.{list_all};
+ghost use Rattle.cborn_lex.specs.Common.{list_all};
+ghost use Rattle.cborn_lex.specs.Cited.{is_escape, escape_code};
+ghost use Rattle.cborn_lex.specs.devices.Common.{escape_of, is_plain, is_special, LettersSoFar, LettersTaken, NoText};
 ghost use Rattle.std.specs.Simd.Lanes.{mask_l};
-ghost use Rattle.cborn_lex.specs.Strings.{is_escape, escape_code};
-ghost use Rattle.cborn_lex.specs.devices.Scan.{escape_of};
-ghost use Rattle.cborn_lex.specs.devices.Letters.{is_plain, is_special, LettersSoFar, LettersTaken, NoText};
 
 use crate::escaped::push_unit_escape;
 use crate::slices::rest_of;
@@ -17,6 +16,7 @@ use std::simd::prelude::*;
 
 /// How many plain letters `tail` begins with: bytes that are no control characters, no backslashes
 /// and not the closing quote `quote` (RFC 8259 section 7).
+#[tactic(auto, using(crate::proofs::Runs::more_plain))]
 #[inline(always)]
 pub fn plain_run(quote: u8, tail: &[u8]) -> usize
     ensures within { result ≤ length tail.now }
@@ -74,15 +74,15 @@ fn run_of_block(quote: u8, tail: &[u8], at: usize) -> usize
     }
 }
 
-/// A bit for each of sixteen letters, the lowest for the first. It is set if the letter isn't
-/// plain.
+/// A bit for each of the letters, the lowest for the first. It is set if the letter isn't plain.
 #[inline(always)]
-fn special_letters(quote: u8, letters: u8x16) -> u64
-    ensures { result ≡ mask_l (map (is_special quote) letters) }
+fn special_letters<const N: usize>(quote: u8, letters: Simd<u8, N>) -> u64
+    requires { N ≤ 64 }
+    ensures { result ≡ mask_l (map (is_special quote) letters.entry) }
 {
-    let quotes = letters.simd_eq(u8x16::splat(quote));
-    let backslashes = letters.simd_eq(u8x16::splat(b'\\'));
-    let controls = letters.simd_lt(u8x16::splat(32));
+    let quotes = letters.simd_eq(Simd::splat(quote));
+    let backslashes = letters.simd_eq(Simd::splat(b'\\'));
+    let controls = letters.simd_lt(Simd::splat(32));
     (quotes | backslashes | controls).to_bitmask()
 }
 
@@ -153,7 +153,7 @@ fn push_short_runs(
         return Ok(from);
     }
     let mut at = from;
-    let mut left = special_letters_of_64(quote, u8x64::from_slice(&tail[at..]));
+    let mut left = special_letters(quote, u8x64::from_slice(&tail[at..]));
     'escapes: while left != 0 {
         let n = left.trailing_zeros() as usize;
         if n > 16 {
@@ -171,17 +171,6 @@ fn push_short_runs(
         left = left >> n >> 2;
     }
     Ok(at)
-}
-
-/// A bit for each of 64 letters, the lowest for the first. It is set if the letter isn't plain.
-#[inline(always)]
-fn special_letters_of_64(quote: u8, letters: u8x64) -> u64
-    ensures { result ≡ mask_l (map (is_special quote) letters) }
-{
-    let quotes = letters.simd_eq(u8x64::splat(quote));
-    let backslashes = letters.simd_eq(u8x64::splat(b'\\'));
-    let controls = letters.simd_lt(u8x64::splat(32));
-    (quotes | backslashes | controls).to_bitmask()
 }
 
 /// Appends the plain letters from the offset `at` of `tail` on, and gives how many they are.
@@ -237,6 +226,7 @@ fn push_long_run(quote: u8, tail: &[u8], out: &mut Vec<u8>) -> Result<usize, All
 
 /// Appends in UTF-8 the character of the escape whose backslash is at the offset `at` of `tail`,
 /// and gives the offset after the escape. `None` if the backslash begins no escape.
+#[tactic(auto, using(crate::proofs::Runs::unit_escape, crate::proofs::Runs::escape_within))]
 #[inline(always)]
 fn push_escape(
     quote: u8,

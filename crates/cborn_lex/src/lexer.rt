@@ -1,9 +1,7 @@
 //! Reading the tokens of a text, in one list or one by one.
 
 ghost use Rattle.std.specs.Prelude.{◌≤◌, length, IfOk, IfErr};
-ghost use Rattle.cborn_lex.specs.Good.{HasTokens, IsTokenFrom};
-ghost use Rattle.cborn_lex.specs.Bad.{HasNoTokens, HasNoTokenFrom};
-ghost use Rattle.cborn_lex.specs.Kinds.{IsNextBareToken};
+ghost use Rattle.cborn_lex.specs.Cited.{HasTokens, IsTokenFrom, HasNoTokens, HasNoTokenFrom, IsNextBareToken};
 
 use crate::classes::{BareToken, Profile, Token};
 use crate::faults::LexFault;

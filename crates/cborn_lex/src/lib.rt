@@ -40,8 +40,8 @@
 //! - `Bad.antt`: where a text has a lexical fault, and why.
 //! - `Kinds.antt`: a token in two parts, as `next_token` gives it.
 //!
-//! `Forms.antt` and `Lex.antt` say the same by the first character of a front. They serve the
-//! proofs, and [`laws`] holds them against the definitions.
+//! `Forms.antt` says the same by the first character of a front. It serves the proofs, and [`laws`]
+//! holds it against the definitions.
 //!
 //! # The modules
 //!

@@ -1,11 +1,8 @@
 //! Characters and slices of a text, as bytes of UTF-8.
 
 ghost use Rattle.std.specs.Prelude.{◌≡◌, ◌<◌, ◌≤◌, length, take, drop, slice_index, MatchOption, true, ◌==◌, [], ◌∷◌};
-ghost use Rattle.std.specs.List.{list_all};
-ghost use Rattle.std.specs.Char.{is_ascii_digit};
-ghost use Rattle.cborn_lex.specs.Tokens.{is_white, is_word, is_numeral, is_not, mark_of, begins};
-ghost use Rattle.cborn_lex.specs.Numbers.{has_prefix};
-ghost use Rattle.cborn_lex.specs.Forms.{IsRun, IsIndicator};
+ghost use Rattle.cborn_lex.specs.Common.{list_all, is_ascii_digit};
+ghost use Rattle.cborn_lex.specs.Cited.{is_white, is_word, is_numeral, is_not, mark_of, begins, has_prefix, IsRun, IsIndicator};
 
 use crate::classes::Mark;
 use cborn_model::Width;
@@ -145,6 +142,7 @@ pub fn mark_at(x: &[u8]) -> (Option<Mark>, usize)
 /// The encoding indicator that `x` begins with, whose first byte is an underscore, and its length
 /// in bytes. `None` if the underscore begins no indicator. Out of line, since few tokens have an
 /// indicator.
+#[tactic(auto, using(crate::proofs::TwoParts::long_mark))]
 #[inline(never)]
 fn underscored_mark(x: &[u8]) -> (Option<Mark>, usize)
     requires some { 0 < length x.now }

@@ -1,7 +1,7 @@
 //! The units of UTF-16 that escapes `\uXXXX` write (RFC 8259 section 7).
 
 ghost use Rattle.std.specs.Prelude.{◌≡◌, ◌<◌, true};
-ghost use Rattle.cborn_lex.specs.Strings.{are_hex, code, is_high, is_low};
+ghost use Rattle.cborn_lex.specs.Cited.{are_hex, code, is_high, is_low};
 
 use crate::integers::digit_of;
 

@@ -1,6 +1,5 @@
 -- All that the machine has open can be closed, and that takes no more depth and no more commas before brackets.
-use Rattle.cborn_edn.proofs.Common.{◌≡◌, refl, ap, ◌∙◌, sym, ℕ, ◌+◌, ◌≤◌, List, [], ◌∷◌, ◌++◌, false, append_assoc, append-nil, arith, max, EmbedClose, ArrayClose, MapClose, ParenClose, Colon, Number, Text, Token, Absent, token, Item, tag, simple, string, chunked, array, text, embedded, Pieces, piece, strings, Row, row, tight, pairs, tight_fields, Input, items, tokens_of, tokens_of_pieces, tokens_of_row, tokens_of_input, depth, depth_of_pieces, depth_of_row, depth_of_input, commas, commas_of_pieces, commas_of_row, commas_of_input, Stack, in_row, in_key, in_value, in_tag, Nest, at_top, in_array, in_embed, Home, as_item, as_chunk, State, wants, has, builds, wants_chunk, wants_number, has_number, with_piece, held_stack, held_nest, held_home, held, levels, levels_nest, levels_home, nowhere}
-use Rattle.cborn_edn.specs.devices.Syntax.{map}
+use Rattle.cborn_edn.proofs.Common.{◌≡◌, refl, ap, ◌∙◌, sym, ℕ, ◌+◌, ◌≤◌, List, [], ◌∷◌, ◌++◌, false, append_assoc, append-nil, arith, max, EmbedClose, ArrayClose, MapClose, ParenClose, Colon, Number, Text, Token, Absent, token, Item, tag, simple, string, chunked, array, text, embedded, Pieces, piece, strings, Row, row, tight, pairs, tight_fields, Input, items, tokens_of, tokens_of_pieces, tokens_of_row, tokens_of_input, depth, depth_of_pieces, depth_of_row, depth_of_input, commas, commas_of_pieces, commas_of_row, commas_of_input, Stack, in_row, in_key, in_value, in_tag, Nest, at_top, in_array, in_embed, Home, as_item, as_chunk, State, wants, has, builds, wants_chunk, wants_number, has_number, with_piece, held_stack, held_nest, held_home, held, levels, levels_nest, levels_home, nowhere, map_item as map}
 use Rattle.cborn_edn.proofs.Grammar.Held.{deep_stack, deep_nest, deep_home, deep, commas_stack, commas_nest, commas_home, commas_held, levels-deep, with_piece-tokens, with_piece-depth, with_piece-commas}
 
 -- The state can be closed, with no more depth and no more commas before brackets.

@@ -1,5 +1,5 @@
 -- Tokens have at most one tree. Within the limit they have a tree or one syntax error, never both. A larger limit and profile 2 accept all that the others do.
-use Rattle.cborn_edn.proofs.Common.{◌≡◌, refl, ap, ◌∙◌, sym, subst, ℕ, suc, ◌+◌, ◌≤◌, List, [], ◌∷◌, ◌++◌, Option, Some, None, append_assoc, append-nil, arith, ◌<◌, zero, ◌⊎◌, inl, inr, max, Token, Profile, token, span, Item, number, word, simple, string, row, no_item, Input, items, tokens_of_input, depth, depth_of_input, commas, commas_of_input, AllowsCount, EdnReason, UnexpectedToken, UnexpectedEnd, TooDeep, Parse, HasTree, GoesOn, GoesOnAtAnyDepth, StopsAt, IsSyntaxError, reach, same_Some, ProfileOne, ProfileTwo, Stack, in_row, at_top, as_item, State, wants, has, builds, start, step, run, finish, held, open_levels, levels, comma_at}
+use Rattle.cborn_edn.proofs.Common.{◌≡◌, refl, ap, ◌∙◌, sym, subst, ℕ, ◌+◌, ◌≤◌, List, [], ◌∷◌, ◌++◌, Option, Some, None, append_assoc, append-nil, arith, ◌⊎◌, inl, inr, max, Token, Profile, token, span, Item, number, word, simple, string, row, no_item, Input, items, tokens_of_input, depth, depth_of_input, commas, commas_of_input, AllowsCount, EdnReason, UnexpectedToken, UnexpectedEnd, TooDeep, Parse, HasTree, GoesOn, StopsAt, IsSyntaxError, reach, same_Some, ProfileOne, ProfileTwo, Stack, in_row, at_top, as_item, State, wants, has, builds, start, step, run, finish, held, open_levels, levels, comma_at, IsText, Parsed}
 use Rattle.cborn_edn.specs.devices.Syntax.{nothing}
 use Rattle.cborn_edn.proofs.Grammar.Machine.{run-append, run-none}
 use Rattle.cborn_edn.proofs.Grammar.Takes.{landed, then, whole, takes_input, finish-whole}
@@ -7,6 +7,7 @@ use Rattle.cborn_edn.proofs.Grammar.Held.{deep_stack, deep, commas_stack, commas
 use Rattle.cborn_edn.proofs.Grammar.Grows.{grows}
 use Rattle.cborn_edn.proofs.Grammar.Closes.{closes}
 use Rattle.cborn_edn.proofs.Grammar.Trailing.{parse_of, allowed_count}
+use Rattle.cborn_edn.proofs.Short.SyntaxErrors.{parsed, has_tree}
 
 -- what the tokens lead to
 abbrev pub Leads : List Token → State → Type 0
@@ -74,18 +75,21 @@ pub record Good (p : Profile) (limit : ℕ) (ts : List Token) : Type 0 where
   pub shallow : deep state ≤ limit
 
 pub good : (p : Profile) (limit : ℕ) (ts : List Token) → GoesOn p limit ts → Good p limit ts
-good p limit ts (more, (tree, parse, low)) = go (run ts (Some start)) refl (sym (run-append ts more (Some start)) ∙ ap (λ l. run l (Some start)) (sym parse.is) ∙ takes_all tree)
+good p limit ts (more, (us, l, h)) = led (parsed p limit (ts ++ more) us l h)
   where
-    go : (o : Option State) → run ts (Some start) ≡ o → run more o ≡ Some (whole tree) → Good p limit ts
-    go None e f = no_some (sym (run-none more) ∙ f)
-    go (Some s) e f =
-        let r = ran more s (whole tree) f in
-        record { state = s; leads = e; allowed = allows_less p _ (commas_of_input tree) (omega (arith, r.commas, commas-whole tree)) (allowed_count p _ tree parse); shallow = omega (arith, r.deeper, deep-whole tree, low) }
+    led : Parsed p limit (ts ++ more) us l → Good p limit ts
+    led t = go (run ts (Some start)) refl (sym (run-append ts more (Some start)) ∙ ap (λ l. run l (Some start)) (sym t.parse.is) ∙ takes_all t.tree)
+      where
+        go : (o : Option State) → run ts (Some start) ≡ o → run more o ≡ Some (whole t.tree) → Good p limit ts
+        go None e f = no_some (sym (run-none more) ∙ f)
+        go (Some s) e f =
+            let r = ran more s (whole t.tree) f in
+            record { state = s; leads = e; allowed = allows_less p _ (commas_of_input t.tree) (omega (arith, r.commas, commas-whole t.tree)) (allowed_count p _ t.tree t.parse); shallow = omega (arith, r.deeper, deep-whole t.tree, t.shallow) }
 
 pub goes_on : (p : Profile) (limit : ℕ) (ts : List Token) → Good p limit ts → GoesOn p limit ts
 goes_on p limit ts g =
     let c = closes g.state in
-    (c.more, (c.tree, parse_of p _ c.tree (c.is ∙ ap (λ l. l ++ c.more) (held_by ts g.state g.leads)) (allows_less p _ _ c.few g.allowed), omega (arith, c.shallow, g.shallow)))
+    (c.more, has_tree p limit (ts ++ c.more) c.tree (parse_of p _ c.tree (c.is ∙ ap (λ l. l ++ c.more) (held_by ts g.state g.leads)) (allows_less p _ _ c.few g.allowed)) (omega (arith, c.shallow, g.shallow)))
 
 pub record Ended (s : State) (t : Input) : Type 0 where
   pub is : tokens_of_input t ≡ held s
@@ -103,12 +107,13 @@ ends_tree (builds (as_item (in_row at_top b)) ps) = record { is = refl; depth = 
 ends_tree _ = tt
 
 has_goes : (p : Profile) (limit : ℕ) (ts : List Token) → HasTree p limit ts → GoesOn p limit ts
-has_goes p limit ts (tree, parse, low) = ([], (tree, parse_of p _ tree (parse.is ∙ sym (append-nil ts)) (allowed_count p ts tree parse), low))
+has_goes p limit ts (us, l, h) = ([], (us, l, subst (λ x. IsText p limit x us l) (sym (append-nil ts)) h))
 
 pub no_tree : (p : Profile) (limit : ℕ) (ts : List Token) (s : State) → Leads ts s → finish s ≡ None → HasTree p limit ts → ⊥
-no_tree p limit ts s e f (tree, parse, low) =
-    let same : Some (whole tree) ≡ Some s = sym (takes_all tree) ∙ ap (λ l. run l (Some start)) parse.is ∙ e in
-    no_some (sym f ∙ ap finish (sym (same_Some _ _ same)) ∙ finish-whole tree)
+no_tree p limit ts s e f (us, l, h) =
+    let t = parsed p limit ts us l h in
+    let same : Some (whole t.tree) ≡ Some s = sym (takes_all t.tree) ∙ ap (λ l. run l (Some start)) t.parse.is ∙ e in
+    no_some (sym f ∙ ap finish (sym (same_Some _ _ same)) ∙ finish-whole t.tree)
 
 pub nothing_goes : (p : Profile) (limit : ℕ) (f : List Token) (t : Token) (s : State) → Leads f s → step s t ≡ None → GoesOn p limit (f ++ (t ∷ [])) → ⊥
 nothing_goes p limit f t s e none g =
@@ -122,52 +127,9 @@ leads_on f t s u e next = run-append f (t ∷ []) (Some start) ∙ ap (run (t �
 pub same_end : (ts : List Token) (s u : State) → Leads ts s → Leads ts u → s ≡ u
 same_end ts s u e f = same_Some _ _ (sym e ∙ f)
 
--- whether the profile allows so many
-allows : (p : Profile) (n : ℕ) → AllowsCount p n ⊎ (AllowsCount p n → ⊥)
-allows ProfileOne zero = inl refl
-allows ProfileOne (suc n) = inr (λ e. omega arith)
-allows ProfileTwo n = inl tt
-
-low : (d limit : ℕ) → (d ≤ limit) ⊎ (limit < d)
-low d limit = grind arith
-
--- LAW: tokens have a tree within the limit, or a syntax error
-abbrev pub Answered : Profile → ℕ → ℕ → List Token → Type 0
-Answered p limit end ts = HasTree p limit ts ⊎ ((q : ℕ) × (r : EdnReason) × IsSyntaxError p limit end ts q r)
-
 module _ (p : Profile) (limit end : ℕ) where
   pub stops : (f y : List Token) (t : Token) (s : State) → Leads f s → AllowsCount p (commas_held s) → deep s ≤ limit → (GoesOn p limit (f ++ (t ∷ [])) → ⊥) → StopsAt p limit (f ++ (t ∷ y)) f t
   stops f y t s e a d never = record { y = y; split = refl; before = goes_on p limit f (record { state = s; leads = e; allowed = a; shallow = d }); here = never }
-
-  search_on : (y f : List Token) (s : State) → Leads f s → AllowsCount p (commas_held s) → deep s ≤ limit → Answered p limit end (f ++ y)
-  search_on [] f s e a d = go (finish s) refl (ends_tree s)
-    where
-      go : (o : Option Input) → finish s ≡ o → IfTree o (Ended s) → Answered p limit end (f ++ [])
-      go None none h = inr (end, UnexpectedEnd, (refl, rw append-nil (goes_on p limit f (record { state = s; leads = e; allowed = a; shallow = d })), rw append-nil (no_tree p limit f s e none)))
-      go (Some t) some h = inl (t, parse_of p _ t (h.is ∙ held_by f s e ∙ sym (append-nil f)) (rw h.commas a), omega (arith, h.depth))
-  search_on (t ∷ y) f s e a d = go (step s t) refl (λ u next b c. rw append_assoc at (search_on y (f ++ (t ∷ [])) u (leads_on f t s u e next) b c))
-    where
-      go : (o : Option State) → step s t ≡ o → ((u : State) → step s t ≡ Some u → AllowsCount p (commas_held u) → deep u ≤ limit → Answered p limit end (f ++ (t ∷ y))) → Answered p limit end (f ++ (t ∷ y))
-      go None none rest = inr (t.start, UnexpectedToken, (f, t, stops f y t s e a d (nothing_goes p limit f t s e none), refl, λ g. nothing_goes p g.0 f t s e none g.1))
-      go (Some u) next rest = choose (allows p (commas_held u)) (low (deep u) limit)
-        where
-          deeper : (m : ℕ) → GoesOn p m (f ++ (t ∷ [])) → AllowsCount p (commas_held u) × (deep u ≤ m)
-          deeper m g =
-              let h = good p m (f ++ (t ∷ [])) g in
-              let same : h.state ≡ u = same_end (f ++ (t ∷ [])) h.state u h.leads (leads_on f t s u e next) in
-              (subst (λ v. AllowsCount p (commas_held v)) same h.allowed, omega (arith, ap deep same, h.shallow))
-
-          choose : AllowsCount p (commas_held u) ⊎ (AllowsCount p (commas_held u) → ⊥) → (deep u ≤ limit) ⊎ (limit < deep u) → Answered p limit end (f ++ (t ∷ y))
-          choose (inl b) (inl c) = rest u next b c
-          choose (inr never) _ = inr (t.start, UnexpectedToken, (f, t, stops f y t s e a d (λ g. never (deeper limit g).0), refl, λ g. never (deeper g.0 g.1).0))
-          choose (inl b) (inr c) = inr (t.start, TooDeep, (f, t, stops f y t s e a d (λ g. omega (arith, (deeper limit g).1)), refl, (deep u, goes_on p (deep u) (f ++ (t ∷ [])) (record { state = u; leads = leads_on f t s u e next; allowed = b; shallow = omega arith }))))
-
-  pub answered : (ts : List Token) → Answered p limit end ts
-  answered ts = search_on ts [] start refl (none p) (omega arith)
-    where
-      none : (p : Profile) → AllowsCount p (commas_held start)
-      none ProfileOne = omega arith
-      none ProfileTwo = tt
 
   -- if tokens go on, those that they begin with go on
   front_goes : (x y : List Token) → GoesOn p limit (x ++ y) → GoesOn p limit x
@@ -179,6 +141,9 @@ module _ (p : Profile) (limit end : ℕ) where
   not_both ts q UnexpectedToken h (f, t, s, at, never) = s.here (front_goes (f ++ (t ∷ [])) s.y (rw append_assoc (subst (GoesOn p limit) s.split (has_goes p limit ts h))))
   not_both ts q TooDeep h (f, t, s, at, never) = s.here (front_goes (f ++ (t ∷ [])) s.y (rw append_assoc (subst (GoesOn p limit) s.split (has_goes p limit ts h))))
   not_both ts q _ h j = absurd j
+
+abbrev GoesOnAtAnyDepth : Profile → List Token → Type 0
+GoesOnAtAnyDepth p ts = (limit : ℕ) × GoesOn p limit ts
 
 -- two splits of one list
 abbrev SplitsAs : (f g : List Token) (t u : Token) → Type 0
@@ -192,14 +157,11 @@ more_split f g t u v x e (inr (inr h)) = inr (inr (h.0, cc))
 head_same : {v x : Token} {a b : List Token} → v ∷ a ≡ x ∷ b → v ≡ x
 head_same e = cc
 
-tail_same : {v x : Token} {a b : List Token} → v ∷ a ≡ x ∷ b → a ≡ b
-tail_same e = cc
-
 splits : (f y g z : List Token) (t u : Token) → f ++ (t ∷ y) ≡ g ++ (u ∷ z) → SplitsAs f g t u
 splits [] y [] z t u e = inl (refl, head_same e)
 splits [] y (x ∷ g) z t u e = inr (inl (g, ap (λ l. l ∷ g) (sym (head_same e))))
 splits (v ∷ f) y [] z t u e = inr (inr (f, ap (λ l. l ∷ f) (head_same e)))
-splits (v ∷ f) y (x ∷ g) z t u e = more_split f g t u v x (head_same e) (splits f y g z t u (tail_same e))
+splits (v ∷ f) y (x ∷ g) z t u e = more_split f g t u v x (head_same e) (splits f y g z t u (cc))
 
 module _ (p : Profile) (limit : ℕ) (ts : List Token) where
   -- it stops at one token
@@ -238,7 +200,7 @@ module _ (p : Profile) (limit : ℕ) (ts : List Token) where
 
 -- LAW: larger limits and profile 2 accept no less
 pub larger_limit : (p : Profile) (limit most : ℕ) (ts : List Token) → limit ≤ most → HasTree p limit ts → HasTree p most ts
-larger_limit p limit most ts h t = (t.0, t.1, omega (arith, t.2))
+larger_limit p limit most ts low (us, l, h) = let t = parsed p limit ts us l h in has_tree p most ts t.tree t.parse (omega (arith, t.shallow))
 
 pub both_profiles : (ts : List Token) (t : Input) → Parse ProfileOne ts t → Parse ProfileTwo ts t
 both_profiles ts t h = record { is = h.is; allowed = tt }

@@ -1,8 +1,9 @@
 -- The machine with its tests of the profile and the limit is a parser: it answers the tree, or the syntax error.
-use Rattle.cborn_edn.proofs.Common.{◌≡◌, refl, ap, ◌∙◌, sym, subst, ℕ, suc, ◌+◌, ◌≤◌, List, [], ◌∷◌, ◌++◌, Bool, true, false, Option, Some, None, append_assoc, append-nil, leb, cond, arith, ◌<◌, zero, max, leb-true, leb-false, Token, Profile, AllowsCount, token, span, Input, depth_of_input, UnexpectedToken, TooDeep, Parse, GoesOn, IsSyntaxError, reach, ProfileOne, ProfileTwo, State, start, step, finish, held, open_levels, comma_at}
+use Rattle.cborn_edn.proofs.Common.{HasTree, EdnReason, ◌⊎◌, inl, inr, ◌≡◌, refl, ap, ◌∙◌, sym, subst, ℕ, suc, ◌+◌, ◌≤◌, List, [], ◌∷◌, ◌++◌, Bool, true, false, Option, Some, None, append_assoc, append-nil, leb, cond, arith, ◌<◌, zero, max, leb-true, leb-false, Token, Profile, AllowsCount, token, span, Input, depth_of_input, UnexpectedToken, TooDeep, Parse, GoesOn, IsSyntaxError, reach, ProfileOne, ProfileTwo, State, start, step, finish, held, open_levels, comma_at}
 use Rattle.cborn_edn.proofs.Grammar.Held.{deep, commas_held, After, Grows}
 use Rattle.cborn_edn.proofs.Grammar.Grows.{grows}
 use Rattle.cborn_edn.proofs.Grammar.Trailing.{parse_of}
+use Rattle.cborn_edn.proofs.Short.SyntaxErrors.{has_tree}
 use Rattle.cborn_edn.proofs.Grammar.OneTree.{Leads, Ended, IfTree, ends_tree, held_by, good, goes_on, nothing_goes, no_tree, leads_on, same_end, stops}
 -- The parser that the code is. Its tests look at the next token and at what is open alone.
 
@@ -69,3 +70,11 @@ module _ (p : Profile) (limit end : ℕ) where
       none : (p : Profile) → AllowsCount p (commas_held start)
       none ProfileOne = omega arith
       none ProfileTwo = tt
+
+  -- LAW: tokens have a tree within the limit, or a syntax error
+  pub answered : (ts : List Token) → HasTree p limit ts ⊎ ((q : ℕ) × (r : EdnReason) × IsSyntaxError p limit end ts q r)
+  answered ts = go (parse p limit end ts start) (parses ts)
+    where
+      go : (a : Answer) → Meets p limit end ts a → HasTree p limit ts ⊎ ((q : ℕ) × (r : EdnReason) × IsSyntaxError p limit end ts q r)
+      go (Whole t) h = inl (has_tree p limit ts t h.0 h.1)
+      go (HasSyntaxError q r) h = inr (q, r, h)

@@ -1,10 +1,7 @@
 -- What is whole after an event fits its heads.
-use Rattle.cborn_edn.proofs.Common.{◌≡◌, refl, sym, subst, ℕ, ◌<◌, ◌^◌, List, [], ◌∷◌, ◌++◌, length, Bool, true, false, Some, None, arith, if◌then◌else◌, AreBytes, Width, Fixed, StringKind, OfBytes, OfText, WidthFits, holds, least, Tree, Uint, Nint, Simple, trees, entries, Fits, FitsAll, FitsEntries, ChunksFit, Opening, an_array, a_map, a_tag, in_chunks, Partial, top, inside, put, paired, last_of, chunks_of, chunks_tree, built, AreStrings, Ends, Event, Integer, Bignum, Map, Tag, String, NoChunks, Close, OpeningFits, FitsSoFar, AreFew, Comes, ByteNode as Bytes, TextNode as Text}
-use Rattle.cborn_model.specs.declared.heads.Size.TheVariants.{Endless}
-use Rattle.cborn_model.proofs.Numbers.OneHead.{least_holds}
-use Rattle.cborn_model.proofs.Listed.Trees.{count-trees, count_entries-entries}
-use Rattle.cborn_edn.specs.declared.events.Event.TheVariants.{Simple as SimpleValue, Array, FirstChunk}
-use Rattle.cborn_edn.specs.devices.Events.{Fits as EventFits, after}
+use Rattle.cborn_edn.proofs.Common.{◌≡◌, refl, sym, subst, ℕ, ◌<◌, ◌^◌, List, [], ◌∷◌, ◌++◌, length, Bool, true, false, Some, None, arith, if◌then◌else◌, AreBytes, Width, Fixed, StringKind, OfBytes, OfText, WidthFits, holds, least, Tree, Uint, Nint, Simple, trees, entries, Fits, FitsAll, FitsEntries, ChunksFit, Opening, an_array, a_map, a_tag, in_chunks, Partial, top, inside, put, paired, last_of, chunks_of, chunks_tree, built, AreStrings, Ends, Event, Integer, Bignum, Map, Tag, String, NoChunks, Close, OpeningFits, FitsSoFar, AreFew, Comes, ByteNode as Bytes, TextNode as Text, EndlessMark as Endless, least_holds, count-trees, count_entries-entries, SimpleValue, FirstChunk, EventFits}
+use Rattle.cborn_edn.specs.declared.events.Event.TheVariants.{Array}
+use Rattle.cborn_edn.specs.devices.Events.{after}
 use Rattle.cborn_edn.proofs.Meaning.NoError.{holds_is}
 
 fits_more : (ts : List Tree) (t : Tree) → FitsAll (trees ts) → Fits t → FitsAll (trees (ts ++ (t ∷ [])))

@@ -1,5 +1,5 @@
 -- Tokens that hand nothing over.
-use Rattle.cborn_edn.proofs.Common.{◌≡◌, refl, sym, ap, ◌∙◌, subst, ℕ, Bool, List, [], ◌∷◌, ◌++◌, Option, Some, None, append_assoc, Tree, Trees, more, Entries, no_entry, entry, a_map, Partial, top, inside, no_part, put, IsWritten, Speller, Mark, Span, Item, simple, Piece, embedded, Pieces, piece, also, no_string, row, RowBefore, no_item, after_row, Content, loose, tight, pairs, PairsBefore, after_pairs, Stack, in_row, in_key, in_value, Nest, at_top, in_array, in_embed, Home, as_item, as_chunk, State, wants, has, builds, wants_chunk, wants_number, has_number, at_home, with_piece, node, faults_of_pieces, snoc, snoc_entry, nodes_before, entries_before, noted, noted_home, stack_of, stack_in, content_state, listed_trees, Holds, FitsSoFar, listed_entries, states_around, states_around_home, size_asked, front_of, row_front, front, Handed, AllHanded, no_node}
+use Rattle.cborn_edn.proofs.Common.{◌≡◌, refl, sym, ap, ◌∙◌, subst, ℕ, Bool, List, [], ◌∷◌, ◌++◌, Option, Some, None, append_assoc, Tree, Trees, more, Entries, no_entry, entry, a_map, Partial, inside, no_part, put, Speller, Mark, Span, Item, simple, Piece, embedded, Pieces, piece, also, no_string, row, RowBefore, after_row, Content, loose, tight, pairs, PairsBefore, after_pairs, Stack, in_row, in_key, in_value, Nest, at_top, in_array, in_embed, Home, as_item, as_chunk, State, wants, has, builds, wants_chunk, wants_number, has_number, at_home, with_piece, node, faults_of_pieces, snoc, snoc_entry, nodes_before, entries_before, noted, noted_home, stack_of, stack_in, content_state, listed_trees, Holds, FitsSoFar, listed_entries, states_around, states_around_home, size_asked, front_of, row_front, front, Handed, AllHanded, no_node}
 use Rattle.cborn_edn.proofs.Meaning.NoError.{no_left}
 use Rattle.cborn_edn.proofs.HandedOver.Handing.{stays}
 
@@ -30,9 +30,6 @@ handed_pairs_comma h st s m b k c v a = handed_same h (has (in_value st s m b k 
     (ap (inside (front_of st) (a_map s.start (size_asked m) None)) (sym (listed_snoc_entry (entries_before b) (node k) (node v))))
     (λ q. simp append_assoc q)
 
-pub handed_colon : (h : Holds) (st : Stack) (s : Span) (m : Mark) (b : PairsBefore) (k : Item) (a : Span) → Handed h (has (in_key st s m b) k) → Handed h (wants (in_value st s m b k a))
-handed_colon h st s m b k a = handed_same h (has (in_key st s m b) k) (wants (in_value st s m b k a)) refl (λ q. q)
-
 pub handed_open_simple : (h : Holds) (st : Stack) (a : Span) → Handed h (wants st) → Handed h (wants_number st a)
 handed_open_simple h st a = handed_same h (wants st) (wants_number st a) refl (λ q. q)
 
@@ -61,10 +58,6 @@ around_string (as_chunk st s b) (Some ps) = refl
 
 pub piece_handed : (h : Holds) (ps qs : List Speller) (home : Home) (o : Option Pieces) (p : Piece) → qs ≡ ps → AllHanded h ps (at_home home o ∷ states_around (stack_in (at_home home o))) → AllHanded h qs (builds home (with_piece o p) ∷ states_around (stack_of home))
 piece_handed h ps qs home o p e t = subst (λ (l : List Speller). AllHanded h l (builds home (with_piece o p) ∷ states_around (stack_of home))) (sym e) (handed_piece h ps home o p (subst (λ (ss : List State). AllHanded h ps (at_home home o ∷ ss)) (around_string home o) t))
-
--- the first piece, or a later piece, is a `<<`, whose speller was handed nothing
-pub embed_opened : (h : Holds) (p : Speller) (ps : List Speller) (home : Home) (o : Option Pieces) (a : Span) → IsWritten p (top []) no_part → AllHanded h ps (at_home home o ∷ states_around (stack_in (at_home home o))) → AllHanded h (p ∷ ps) (wants (in_row (in_embed home o a) no_item) ∷ states_around (in_row (in_embed home o a) no_item))
-embed_opened h p ps home o a new t = ((λ q. (new, tt)), subst (λ (ss : List State). AllHanded h ps (at_home home o ∷ ss)) (around_string home o) t)
 
 -- a `<<` ends, and its string goes on around it
 pub embed_closed : (h : Holds) (p : Speller) (ps : List Speller) (home : Home) (o : Option Pieces) (s : Span) (c : Content) (a : Span) (m : Mark) → AllHanded h (p ∷ ps) (content_state (in_embed home o s) c ∷ states_around (stack_in (content_state (in_embed home o s) c))) → AllHanded h ps (builds home (with_piece o (embedded s c a m)) ∷ states_around (stack_of home))

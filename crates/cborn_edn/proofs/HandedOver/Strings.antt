@@ -1,8 +1,7 @@
 -- Strings that end, and their chunks.
-use Rattle.cborn_edn.proofs.Common.{◌≡◌, refl, sym, ap, ◌∙◌, subst, ℕ, ◌^◌, ◌<◌, List, [], ◌∷◌, ◌++◌, length, map, Bool, true, false, ◌&&◌, arith, append_assoc, if◌then◌else◌, map-append, Width, Chunk, StringKind, OfBytes, OfText, WidthFits, least, Partial, top, inside, an_array, a_map, a_tag, in_chunks, put, IsFree, TakesString, string_tree, chunks_tree, MixedChunks, Event, String, NoChunks, Close, Joint, width, is_endless, same_kind, Str, said_string, chunk, chunked_node, string_node, mark_errors, chunk_errors, Span, Pieces, string, chunked, Strings, strings, StringsBefore, no_string, after_strings, depth_of_pieces, Stack, as_item, as_chunk, wants, has, builds, wants_chunk, str, kind_in, chunks, faults_of_pieces, faults_of_strings, noted, noted_stack, pieces_bytes, joint, kind_before, Comes, front_of, Hands, string_event, chunk_event, ProfileTwo as Two}
+use Rattle.cborn_edn.proofs.Common.{◌≡◌, refl, sym, ap, ◌∙◌, subst, ℕ, ◌^◌, ◌<◌, List, [], ◌∷◌, ◌++◌, length, map, Bool, true, false, ◌&&◌, arith, append_assoc, if◌then◌else◌, map-append, Width, Chunk, StringKind, OfBytes, OfText, WidthFits, least, Partial, top, inside, an_array, a_map, a_tag, in_chunks, put, IsFree, TakesString, string_tree, chunks_tree, MixedChunks, Event, String, NoChunks, Close, Joint, width, is_endless, same_kind, Str, said_string, chunk, chunked_node, string_node, mark_errors, chunk_errors, Span, Pieces, string, chunked, Strings, strings, StringsBefore, no_string, after_strings, depth_of_pieces, Stack, as_item, as_chunk, wants, has, builds, wants_chunk, str, kind_in, chunks, faults_of_pieces, faults_of_strings, noted, noted_stack, pieces_bytes, joint, kind_before, Comes, front_of, Hands, string_event, chunk_event, ProfileTwo as Two, strings_held, EventFits as Fits}
 use Rattle.cborn_model.specs.shared.Walks.{string_of}
-use Rattle.cborn_model.proofs.HandedOver.{strings as strings_held}
-use Rattle.cborn_edn.specs.devices.Events.{Fits, after}
+use Rattle.cborn_edn.specs.devices.Events.{after}
 use Rattle.cborn_edn.proofs.Short.Derived.{derived_pieces}
 use Rattle.cborn_edn.proofs.Meaning.NoError.{no_left, no_right, held, known_pieces, mark_fits}
 use Rattle.cborn_edn.proofs.Reader.Showing.{known_bytes}

@@ -1,9 +1,8 @@
 -- A part of a text, read as pieces one after another, and the tokens of it.
-use Rattle.cborn_edn.proofs.Common.{◌≡◌, refl, sym, ap, ◌∙◌, subst, ℕ, ◌+◌, List, [], ◌∷◌, ◌++◌, length, append_assoc, append-nil, Profile, Class, Token, WhiteSpace, Read, Lex, token, nowhere, unplaced_token, map as list_map, ProfileOne, ProfileTwo}
+use Rattle.cborn_edn.proofs.Common.{◌≡◌, refl, sym, ap, ◌∙◌, subst, ℕ, ◌+◌, List, [], ◌∷◌, ◌++◌, length, append_assoc, append-nil, Profile, Class, Token, WhiteSpace, Read, HasTokens, token, nowhere, unplaced_token, map as list_map, ProfileOne, ProfileTwo, both_profiles}
 use Rattle.cborn_lex.specs.Forms.{Reads}
 use Rattle.cborn_lex.specs.devices.Pieces.{Lexeme, white_space, token as lexed, slice, front_of, spelled, AreRead, tokens}
 use Rattle.cborn_lex.proofs.WholeTexts.Parts.{parted_lex}
-use Rattle.cborn_lex.proofs.WholeTexts.Chains.{both_profiles}
 
 -- the tokens among pieces, without their places
 abbrev pub unplaced_tokens : List Lexeme → List Token
@@ -61,9 +60,9 @@ retell x z ts us e h = subst (λ (w : List Token). Chained x z w) e h
 
 -- these are the tokens of a whole text, without their places
 abbrev pub HasBare : Profile → List ℕ → List Token → Type 0
-HasBare profile x bares = (ts : List Token) × Lex profile x ts × (list_map unplaced_token ts ≡ bares)
+HasBare profile x bares = (ts : List Token) × HasTokens profile x ts × (list_map unplaced_token ts ≡ bares)
 
-lexed_one : (x : List ℕ) (ts : List Token) (h : Chained x [] ts) → Lex ProfileOne x (tokens 0 h.pieces)
+lexed_one : (x : List ℕ) (ts : List Token) (h : Chained x [] ts) → HasTokens ProfileOne x (tokens 0 h.pieces)
 lexed_one x ts h = parted_lex ProfileOne x (tokens 0 h.pieces) (record { pieces = h.pieces; read = h.read; whole = h.whole; placed = refl })
 
 pub whole_text : (profile : Profile) (x : List ℕ) (ts : List Token) → Chained x [] ts → HasBare profile x ts

@@ -1,11 +1,9 @@
 -- Numbers and tags of the fixed notation, as pieces.
-use Rattle.cborn_edn.proofs.Common.{◌≡◌, refl, sym, ap, ◌∙◌, subst, ℕ, suc, ◌+◌, ◌*◌, ◌^◌, ◌<◌, ◌%◌, List, [], ◌∷◌, ◌++◌, length, get_or, Bool, true, false, ◌||◌, not, eqb, inl, inr, Ok, Some, decimal, append-nil, arith, and_from, and_right, cond-true, cond-false, ne_eqb, cases_lt, decimal_digit, decimal_is_IsNumeral_wide, decimal_by_steps_wide, codes, list_all, is_digit, digit_value, Mark, Absent, Wide, Class, Number, TagOpen, Read, begins, is_numeral, are_digits, within, has_prefix, number_front, signed, Start, digit, start_of, ReadsFrom, ReadsNumber, Direct, token, nowhere, indicator, length-append, ProfileOne}
+use Rattle.cborn_edn.proofs.Common.{◌≡◌, refl, sym, ap, ◌∙◌, subst, ℕ, suc, ◌+◌, ◌*◌, ◌^◌, ◌<◌, ◌%◌, List, [], ◌∷◌, ◌++◌, length, get_or, Bool, true, false, ◌||◌, not, eqb, inl, inr, Ok, Some, decimal, append-nil, arith, and_from, and_right, cond-true, cond-false, ne_eqb, cases_lt, decimal_digit, decimal_is_IsNumeral_wide, decimal_by_steps_wide, codes, list_all, is_digit, digit_value, Mark, Absent, Wide, Class, Number, TagOpen, Read, begins, is_numeral, are_digits, within, has_prefix, number_front, signed, Start, digit, start_of, ReadsFrom, ReadsNumber, Direct, token, nowhere, indicator, length-append, ProfileOne, passes, passes_at, digit_starts, within_back}
 use Rattle.std.proofs.Math.ListN.{get_or-append}
 use Rattle.std.proofs.lemmas.Str.Parse.{digit_from_value}
 use Rattle.std.specs.Str.Parse.{AllDigits, digits_value_after}
 use Rattle.cborn_lex.specs.Numbers.{number, integer}
-use Rattle.cborn_lex.proofs.TwoParts.{passes, passes_at, digit_starts}
-use Rattle.cborn_lex.proofs.GoodBack.{within_back}
 use Rattle.cborn_edn.proofs.Lexed.Chained.{Chained, one_token}
 use Rattle.cborn_lex.proofs.WholeTexts.Spelling.{IsMark}
 use Rattle.cborn_edn.proofs.Lexed.MarkTexts.{Closes, mark_is, indicates}
@@ -44,10 +42,6 @@ pub record Decimal (n : ℕ) : Type 0 where
   pub digits : AllDigits 10 (first ∷ rest)
   pub spells : (negative : Bool) → integer negative (first ∷ rest) ≡ Ok n
 
-no_zero : (n : ℕ) → 0 < n → n < 10 ^ 64 → 48 < get_or (decimal n) 0 0
-no_zero n some small = (decimal_by_steps_wide (λ m ds. (0 < length ds) × (0 < m → 48 < get_or ds 0 0)) (λ m l. (omega arith, λ a. omega arith))
-    (λ m ds l h. (omega (arith, length-append ds ((48 + m % 10) ∷ [])), λ a. omega (arith, get_or-append ds ((48 + m % 10) ∷ []) 0 0 h.0, h.1 (omega arith)))) n small).1 some
-
 small_decimal : (n : ℕ) (ds : List ℕ) → 0 < n → n < 2 ^ 128 → decimal n ≡ ds → 48 < get_or ds 0 0 → AllDigits 10 ds → digits_value_after 10 0 ds ≡ n → Decimal n
 small_decimal n [] some small e h d v = absurd (omega arith)
 small_decimal n (c ∷ ds) some small e h d v = record {
@@ -62,7 +56,7 @@ pub decimal_text : (n : ℕ) → n < 2 ^ 65 → Decimal n
 decimal_text n h = elim (cases_lt 0 n) [
   | inl some ↦
       let r = decimal_is_IsNumeral_wide n (omega arith) in
-      small_decimal n (decimal n) some (omega arith) refl (no_zero n some (omega arith)) r.0.1 r.1
+      small_decimal n (decimal n) some (omega arith) refl ((decimal_by_steps_wide (λ m ds. (0 < length ds) × (0 < m → 48 < get_or ds 0 0)) (λ m l. (omega arith, λ a. omega arith)) (λ m ds l h. (omega (arith, length-append ds ((48 + m % 10) ∷ [])), λ a. omega (arith, get_or-append ds ((48 + m % 10) ∷ []) 0 0 h.0, h.1 (omega arith)))) n (omega arith)).1 some) r.0.1 r.1
   | inr none ↦
       let e : n ≡ 0 = omega arith in
       subst Decimal (sym e) (record { first = 48; rest = []; whole = decimal_digit 0 (omega arith); digits = (omega arith, tt); spells = λ negative. refl })
@@ -96,12 +90,7 @@ reads_tag first body n m z h d e = (
   body,
   indicator m,
   codes "(",
-  record {
-    run = record { pass = digits_pass is_numeral body refl d; ends = no_numeral m (40 ∷ z) h refl };
-    indicator = indicates m (40 ∷ z) h refl refl;
-    tagging = (refl, refl, refl, refl);
-    whole = refl;
-  },
+  record { run = record { pass = digits_pass is_numeral body refl d; ends = no_numeral m (40 ∷ z) h refl }; indicator = indicates m (40 ∷ z) h refl refl; tagging = (refl, refl, refl, refl); whole = refl },
   sym (ap (λ o. number_front false true o (integer false (first ++ body))) (mark_is m h) ∙ ap (number_front false true (Some m)) e),
 )
 

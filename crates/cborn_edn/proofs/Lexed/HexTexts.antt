@@ -1,9 +1,7 @@
 -- Byte strings of the fixed notation, as pieces.
-use Rattle.cborn_edn.proofs.Common.{◌≡◌, refl, sym, ap, ℕ, zero, suc, ◌/◌, ◌%◌, ◌<◌, List, [], ◌∷◌, ◌++◌, slice_index, Bool, true, false, ◌&&◌, inl, arith, and_parts, and_from, codes, list_all, is_digit, encode_lower, lower_digits, IsBytes, AreBytes, Mark, Bytes, is_not, marked, HasDigits, IsHex, token, nowhere, indicator}
 use Rattle.hex.specs.Hex.{encode_with}
-use Rattle.hex.proofs.HexLemmas.{decode_of-encode_lower}
+use Rattle.cborn_edn.proofs.Common.{◌≡◌, refl, sym, ap, ℕ, zero, suc, ◌/◌, ◌%◌, ◌<◌, List, [], ◌∷◌, ◌++◌, slice_index, Bool, true, false, ◌&&◌, inl, arith, and_parts, and_from, codes, list_all, is_digit, encode_lower, lower_digits, IsBytes, AreBytes, Mark, Bytes, is_not, marked, HasDigits, token, nowhere, indicator, decode_of-encode_lower, passes_at}
 use Rattle.cborn_lex.specs.Strings.{nothing, digit}
-use Rattle.cborn_lex.proofs.TwoParts.{passes_at}
 use Rattle.cborn_edn.proofs.Lexed.Chained.{Chained, one_token}
 use Rattle.cborn_lex.proofs.WholeTexts.Spelling.{IsMark}
 use Rattle.cborn_edn.proofs.Lexed.MarkTexts.{Closes, mark_is, indicates}
@@ -35,9 +33,6 @@ are_digits : (ds : List ℕ) → list_all is_inside ds ≡ true → HasDigits ds
 are_digits [] h = nothing
 are_digits (d ∷ ds) h = let hs = and_parts (is_inside d) (list_all is_inside ds) h in digit d ds ds (and_parts (is_digit d 16) (is_not 39 d) hs.0).0 (are_digits ds hs.1)
 
-is_hex : (x : List ℕ) → AreBytes x → IsHex (encode_lower x) x
-is_hex x h = (encode_lower x, are_digits (encode_lower x) (inside x h), decode_of-encode_lower x (bytes_at x h))
-
 pub bytes_text : (x : List ℕ) (m : Mark) (z : List ℕ) → AreBytes x → IsMark m → Closes z → Chained (codes "h'" ++ (encode_lower x ++ (codes "'" ++ indicator m))) z (token nowhere (Bytes false x m) ∷ [])
 bytes_text x m z h k close =
     one_token (Bytes false x m) (104 ∷ 39 ∷ (encode_lower x ++ (39 ∷ indicator m))) z (
@@ -51,7 +46,7 @@ bytes_text x m z h k close =
           encode_lower x,
           indicator m,
           record { inside = no_quote (encode_lower x) (inside x h); text = refl; indicator = indicates m z k close.no_word close.no_mark },
-          inl (x, is_hex x h, ap (marked (Bytes false x)) (sym (mark_is m k))),
+          inl (x, (encode_lower x, are_digits (encode_lower x) (inside x h), decode_of-encode_lower x (bytes_at x h)), ap (marked (Bytes false x)) (sym (mark_is m k))),
         ),
       ),
     )

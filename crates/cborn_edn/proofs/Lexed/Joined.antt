@@ -29,11 +29,8 @@ pub chunk_tokens : (k : StringKind) (cs : List Chunk) (b : StringsBefore) (c : C
 chunk_tokens k [] b c = ap (λ x. tokens_of_strings_before b ++ x) (sym (append-nil (tokens_of_pieces (chunk_pieces k c))))
 chunk_tokens k (d ∷ cs) b c = chunk_tokens k cs (after_strings (strings b (chunk_pieces k c)) nowhere) d ∙ regroup (tokens_of_strings_before b) (tokens_of_pieces (chunk_pieces k c)) (tokens_of_pieces (chunk_pieces k d) ++ more_chunk_tokens k cs) comma
 
-regroup_pair : (b i j w : List Token) (c d : Token) → ((b ++ (i ++ (d ∷ j))) ++ c ∷ []) ++ w ≡ b ++ (i ++ (d ∷ (j ++ c ∷ w)))
-regroup_pair b i j w c d = simp append_assoc
-
 pub pair_tokens : (es : Entries) (b : PairsBefore) (i j : Item) → tokens_of_pairs (notated_pairs es b i j) ≡ tokens_of_pairs_before b ++ (tokens_of i ++ (token nowhere Colon ∷ (tokens_of j ++ more_pair_tokens es)))
 pair_tokens no_entry b i j = ap (λ x. tokens_of_pairs_before b ++ (tokens_of i ++ (token nowhere Colon ∷ x))) (sym (append-nil (tokens_of j)))
 pair_tokens (entry k v es) b i j =
     pair_tokens es (after_pairs (pairs b i nowhere j) nowhere) (notated k) (notated v)
-    ∙ regroup_pair (tokens_of_pairs_before b) (tokens_of i) (tokens_of j) (tokens_of (notated k) ++ (token nowhere Colon ∷ (tokens_of (notated v) ++ more_pair_tokens es))) comma (token nowhere Colon)
+    ∙ (simp append_assoc)

@@ -1,6 +1,5 @@
 -- Indicators, brackets and separators of the fixed notation, as pieces.
-use Rattle.cborn_edn.proofs.Common.{◌≡◌, refl, sym, ap, subst, ℕ, List, [], ◌∷◌, ◌++◌, length, Bool, true, false, eqb, ◌==◌, cond, Some, codes, lt-ltb, cond-true, Width, Direct, One, Two, Four, Eight, Size, Fixed, following, least, WidthFits, SizeFits, Mark, Absent, Endless, Wide, Class, ArrayOpen, MapOpen, ArrayClose, MapClose, ParenClose, Comma, Colon, ChunkOpen, Read, begins, is_word, is_numeral, mark_of, marked, IsIndicator, token, nowhere, mark_for, mark_for_size, indicator, opened, ProfileOne}
-use Rattle.cborn_model.specs.declared.heads.Size.TheVariants.{Endless as EndlessMark}
+use Rattle.cborn_edn.proofs.Common.{◌≡◌, refl, sym, ap, subst, ℕ, List, [], ◌∷◌, ◌++◌, length, Bool, true, false, eqb, ◌==◌, cond, Some, codes, lt-ltb, cond-true, Width, Direct, One, Two, Four, Eight, Size, Fixed, following, least, WidthFits, SizeFits, Mark, Absent, Endless, Wide, Class, ArrayOpen, MapOpen, ParenClose, Comma, Colon, ChunkOpen, Read, begins, is_word, is_numeral, mark_of, marked, IsIndicator, token, nowhere, mark_for, mark_for_size, indicator, opened, ProfileOne, EndlessMark}
 use Rattle.cborn_lex.specs.Forms.{Reads}
 use Rattle.cborn_lex.proofs.WholeTexts.Spelling.{IsMark}
 use Rattle.cborn_edn.proofs.Lexed.Chained.{Chained, one_token, one_white_space, both}
@@ -77,18 +76,6 @@ colon z = one_token Colon (codes ":") z (refl, refl)
 
 pub comma_space : (z : List ℕ) → Chained (codes ", ") z (token nowhere Comma ∷ [])
 comma_space z = both (codes ",") (codes " ") z (token nowhere Comma ∷ []) [] (comma (32 ∷ z)) (space z)
-
-pub comma_line : (z : List ℕ) → Chained (codes ",\n") z (token nowhere Comma ∷ [])
-comma_line z = both (codes ",") (codes "\n") z (token nowhere Comma ∷ []) [] (comma (10 ∷ z)) (line z)
-
-pub colon_space : (z : List ℕ) → Chained (codes ": ") z (token nowhere Colon ∷ [])
-colon_space z = both (codes ":") (codes " ") z (token nowhere Colon ∷ []) [] (colon (32 ∷ z)) (space z)
-
-pub bracket_close : (z : List ℕ) → Chained (codes "]") z (token nowhere ArrayClose ∷ [])
-bracket_close z = one_token ArrayClose (codes "]") z (refl, refl)
-
-pub brace_close : (z : List ℕ) → Chained (codes "}") z (token nowhere MapClose ∷ [])
-brace_close z = one_token MapClose (codes "}") z (refl, refl)
 
 pub paren_close : (z : List ℕ) → Chained (codes ")") z (token nowhere ParenClose ∷ [])
 paren_close z = one_token ParenClose (codes ")") z (refl, refl)

@@ -1,13 +1,12 @@
 -- Nodes of the fixed notation, as pieces.
-use Rattle.cborn_edn.proofs.Common.{◌≡◌, refl, sym, ap, ◌∙◌, subst, ℕ, List, [], ◌∷◌, ◌++◌, map, length, false, eqb, decimal, append_assoc, arith, codes, AreBytes, Width, Chunk, Tree, Uint, Nint, ByteChunks, TextChunks, Items, Tagged, Simple, Trees, more, Entries, no_entry, entry, count, count_entries, WidthFits, ChunksFit, Fits, FitsAll, FitsEntries, Mark, ArrayOpen, ArrayClose, MapOpen, MapClose, ParenClose, Comma, Colon, ChunkOpen, TagOpen, Token, begins, no_string, no_item, no_pair, token, tokens_of, tokens_of_pieces, tokens_of_strings, tokens_of_content, tokens_of_fields, tokens_of_input, StringKind, OfBytes, OfText, nowhere, chunk_pieces, chunk_row, chunk_item, notated, notated_content, notated_fields, notated_input, others, mark_for, mark_for_size, indicator, opened, shown_string, shown_chunk, joined_by, shown_chunks, shown, item_texts, pair_texts, shown_lines, ByteNode, TextNode, Pairs as PairNode, no_node}
-use Rattle.cborn_model.proofs.Numbers.Simples.{simple_below}
+use Rattle.cborn_edn.proofs.Common.{◌≡◌, refl, sym, ap, ◌∙◌, subst, ℕ, List, [], ◌∷◌, ◌++◌, map, length, false, eqb, decimal, append_assoc, arith, codes, AreBytes, Width, Chunk, Tree, Uint, Nint, ByteChunks, TextChunks, Items, Tagged, Simple, Trees, more, Entries, no_entry, entry, count, count_entries, WidthFits, ChunksFit, Fits, FitsAll, FitsEntries, Mark, ArrayOpen, ArrayClose, MapOpen, MapClose, ParenClose, Comma, Colon, ChunkOpen, TagOpen, Token, begins, no_string, no_item, no_pair, token, tokens_of, tokens_of_pieces, tokens_of_strings, tokens_of_content, tokens_of_fields, tokens_of_input, StringKind, OfBytes, OfText, nowhere, chunk_pieces, chunk_row, chunk_item, notated, notated_content, notated_fields, notated_input, others, mark_for, mark_for_size, indicator, opened, shown_string, shown_chunk, joined_by, shown_chunks, shown, item_texts, pair_texts, shown_lines, ByteNode, TextNode, Pairs as PairNode, no_node, Endless, simple_below}
 use Rattle.cborn_edn.proofs.RoundTrip.Back.{below}
-use Rattle.cborn_edn.proofs.Lexed.Chained.{Chained, no_text, both, retell}
+use Rattle.cborn_edn.proofs.Lexed.Chained.{Chained, no_text, both, retell, one_token}
 use Rattle.cborn_edn.proofs.Lexed.Joined.{more_tokens, more_pair_tokens, more_chunk_tokens, row_tokens, chunk_tokens, pair_tokens}
-use Rattle.cborn_edn.proofs.Lexed.MarkTexts.{Closes, comma_closes, colon_closes, paren_closes, bracket_closes, brace_closes, line_closes, is_mark, is_size_mark, comma_space, comma_line, colon_space, bracket_close, brace_close, paren_close, line, chunks_open, array_open, map_open}
+use Rattle.cborn_edn.proofs.Lexed.MarkTexts.{Closes, comma_closes, colon_closes, paren_closes, bracket_closes, brace_closes, line_closes, is_mark, is_size_mark, comma_space, paren_close, line, chunks_open, array_open, map_open, comma, colon, space}
 use Rattle.cborn_edn.proofs.Lexed.DecimalTexts.{number_text, negative_text, tag_text, decimal_begins}
 use Rattle.cborn_edn.proofs.Lexed.HexTexts.{bytes_text}
-use Rattle.cborn_edn.proofs.Lexed.QuotedTexts.{text_text, no_text_chunks, no_byte_chunks}
+use Rattle.cborn_edn.proofs.Lexed.QuotedTexts.{text_text, no_byte_chunks}
 use Rattle.cborn_edn.proofs.Lexed.WordTexts.{simple_text, simple_begins}
 
 -- Strings.
@@ -49,7 +48,7 @@ chunked_bytes [] z h close = no_byte_chunks z close
 chunked_bytes (c ∷ cs) z h close = chunks_text OfBytes c cs z h
 
 chunked_text : (cs : List Chunk) (z : List ℕ) → ChunksFit cs → Closes z → Chained (shown_chunks OfText cs) z (tokens_of (chunk_item OfText cs))
-chunked_text [] z h close = no_text_chunks z close
+chunked_text [] z h close = text_text [] Endless z tt tt close
 chunked_text (c ∷ cs) z h close = chunks_text OfText c cs z h
 
 -- No node begins as an indicator does.
@@ -95,7 +94,7 @@ pair_text : (k v : Tree) (x z : List ℕ) (ts : List Token) → Chained (shown k
 pair_text k v x z ts key value rest =
     subst (λ (y : List ℕ). Chained y z (tokens_of (notated k) ++ (token nowhere Colon ∷ (tokens_of (notated v) ++ ts)))) (sym (append_assoc (shown k) (codes ": " ++ shown v) x))
     (both (shown k) (codes ": " ++ (shown v ++ x)) z (tokens_of (notated k)) (token nowhere Colon ∷ (tokens_of (notated v) ++ ts)) key
-    (both (codes ": ") (shown v ++ x) z (token nowhere Colon ∷ []) (tokens_of (notated v) ++ ts) (colon_space _)
+    (both (codes ": ") (shown v ++ x) z (token nowhere Colon ∷ []) (tokens_of (notated v) ++ ts) (both (codes ":") (codes " ") _ (token nowhere Colon ∷ []) [] (colon (32 ∷ _)) (space _))
     (both (shown v) x z (tokens_of (notated v)) ts value rest)))
 
 mutual
@@ -110,12 +109,12 @@ mutual
       let m = mark_for_size s (count ts) in
       both (codes "[" ++ opened m) (joined_by (codes ", ") (item_texts ts) ++ codes "]") z (token nowhere (ArrayOpen m) ∷ []) (tokens_of_content (notated_content ts) ++ token nowhere ArrayClose ∷ [])
       (array_open m _ (is_size_mark s (count ts) h.0) (rw append_assoc (all_begin ts (93 ∷ z) h.1 refl)))
-      (both (joined_by (codes ", ") (item_texts ts)) (codes "]") z (tokens_of_content (notated_content ts)) (token nowhere ArrayClose ∷ []) (all_text ts (93 ∷ z) h.1 (bracket_closes z)) (bracket_close z))
+      (both (joined_by (codes ", ") (item_texts ts)) (codes "]") z (tokens_of_content (notated_content ts)) (token nowhere ArrayClose ∷ []) (all_text ts (93 ∷ z) h.1 (bracket_closes z)) (one_token ArrayClose (codes "]") z (refl, refl)))
   node_text (PairNode p s es) z h close =
       let m = mark_for_size s (count_entries es) in
       both (codes "{" ++ opened m) (joined_by (codes ", ") (pair_texts es) ++ codes "}") z (token nowhere (MapOpen m) ∷ []) (tokens_of_fields (notated_fields es) ++ token nowhere MapClose ∷ [])
       (map_open m _ (is_size_mark s (count_entries es) h.0) (rw append_assoc (entries_begin es (125 ∷ z) h.1 refl)))
-      (both (joined_by (codes ", ") (pair_texts es)) (codes "}") z (tokens_of_fields (notated_fields es)) (token nowhere MapClose ∷ []) (entries_text es (125 ∷ z) h.1 (brace_closes z)) (brace_close z))
+      (both (joined_by (codes ", ") (pair_texts es)) (codes "}") z (tokens_of_fields (notated_fields es)) (token nowhere MapClose ∷ []) (entries_text es (125 ∷ z) h.1 (brace_closes z)) (one_token MapClose (codes "}") z (refl, refl)))
   node_text (Tagged p w n t) z h close =
       let l = below w n h.0 in
       let m = mark_for w n in
@@ -164,7 +163,7 @@ line_text t ts z h rest =
 more_lines : (ts : Trees) (z : List ℕ) → FitsAll ts → Chained (further_lines ts ++ codes "\n") z (more_tokens ts)
 more_lines no_node z h = line z
 more_lines (more t ts) z h =
-    both (codes ",\n") ((shown t ++ further_lines ts) ++ codes "\n") z (token nowhere Comma ∷ []) (tokens_of (notated t) ++ more_tokens ts) (comma_line _) (line_text t ts z h.0 (more_lines ts z h.1))
+    both (codes ",\n") ((shown t ++ further_lines ts) ++ codes "\n") z (token nowhere Comma ∷ []) (tokens_of (notated t) ++ more_tokens ts) (both (codes ",") (codes "\n") _ (token nowhere Comma ∷ []) [] (comma (10 ∷ _)) (line _)) (line_text t ts z h.0 (more_lines ts z h.1))
 
 pub lines_text : (ts : Trees) (z : List ℕ) → FitsAll ts → Chained (shown_lines ts) z (tokens_of_input (notated_input ts))
 lines_text no_node z h = no_text z

@@ -1,12 +1,10 @@
 -- Text strings of the fixed notation, as pieces.
-use Rattle.cborn_edn.proofs.Common.{◌≡◌, refl, sym, ap, ◌∙◌, ℕ, ◌/◌, ◌%◌, ◌<◌, List, [], ◌∷◌, ◌++◌, slice_index, Bool, true, ◌&&◌, eqb, ltb, cond, inl, arith, and_parts, and_from, codes, bytes_eq, list_all, flat_map, lower_digits, AreBytes, Mark, Endless, Bytes, Text, marked, is_content, Letter, raw, unit, written, is_letter, meant, token, nowhere, indicator, escaped, map as list_map}
-use Rattle.std.proofs.lemmas.Slice.Eq.{bytes_eq-Decides}
 use Rattle.hex.specs.Hex.{encode_with}
+use Rattle.cborn_edn.proofs.Common.{◌≡◌, refl, sym, ap, ◌∙◌, ℕ, ◌/◌, ◌%◌, ◌<◌, List, [], ◌∷◌, ◌++◌, slice_index, Bool, true, ◌&&◌, eqb, ltb, cond, inl, arith, and_parts, and_from, codes, bytes_eq, list_all, flat_map, lower_digits, AreBytes, Mark, Endless, Bytes, Text, marked, is_content, Letter, raw, unit, written, is_letter, meant, token, nowhere, indicator, escaped, map as list_map, after_slash, passes, passes_at}
+use Rattle.cborn_lex.proofs.GoodFronts.{same_bytes}
 use Rattle.cborn_lex.specs.Strings.{IsText, nothing}
-use Rattle.cborn_lex.specs.devices.Letters.{escaped as after_slash}
 use Rattle.cborn_lex.proofs.Contents.Lettered as lettered
 use Rattle.cborn_lex.proofs.Contents.Ends.{content_then}
-use Rattle.cborn_lex.proofs.TwoParts.{passes, passes_at}
 use Rattle.cborn_edn.proofs.Lexed.Chained.{Chained, one_token}
 use Rattle.cborn_lex.proofs.WholeTexts.Spelling.{IsMark}
 use Rattle.cborn_edn.proofs.Lexed.MarkTexts.{Closes, mark_is, indicates}
@@ -37,9 +35,6 @@ record Written (b : ℕ) : Type 0 where
   allowed : is_letter 34 (letter_of b) ≡ true
   value : meant (letter_of b) ≡ b ∷ []
   inside : is_content 34 (escaped b) ≡ true
-
-same_bytes : (x y : List ℕ) → bytes_eq x y ≡ true → x ≡ y
-same_bytes x y h = (bytes_eq-Decides x y).0 h
 
 is_written_at : (b : ℕ) → b < 256 → Written b
 is_written_at b h =
@@ -76,9 +71,6 @@ text_text x m z h k close =
     ))
 
 -- empty strings in no chunks
-
-pub no_text_chunks : (z : List ℕ) → Closes z → Chained (codes "\"\"_") z (token nowhere (Text [] Endless) ∷ [])
-no_text_chunks z close = text_text [] Endless z tt tt close
 
 pub no_byte_chunks : (z : List ℕ) → Closes z → Chained (codes "''_") z (token nowhere (Bytes true [] Endless) ∷ [])
 no_byte_chunks z close =

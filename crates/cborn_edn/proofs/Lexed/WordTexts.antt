@@ -4,18 +4,6 @@ use Rattle.cborn_edn.proofs.Lexed.Chained.{Chained, one_token, both}
 use Rattle.cborn_edn.proofs.Lexed.MarkTexts.{Closes, paren_closes, paren_close}
 use Rattle.cborn_edn.proofs.Lexed.DecimalTexts.{number_text}
 
-false_text : (z : List ℕ) → Closes z → Chained (codes "false") z (token nowhere (Word 20) ∷ [])
-false_text z h = one_token (Word 20) (codes "false") z (codes "alse", [], record { pass = refl; ends = h.no_word }, refl, (h.no_quote, refl, refl))
-
-true_text : (z : List ℕ) → Closes z → Chained (codes "true") z (token nowhere (Word 21) ∷ [])
-true_text z h = one_token (Word 21) (codes "true") z (codes "rue", [], record { pass = refl; ends = h.no_word }, refl, (h.no_quote, refl, refl))
-
-null_text : (z : List ℕ) → Closes z → Chained (codes "null") z (token nowhere (Word 22) ∷ [])
-null_text z h = one_token (Word 22) (codes "null") z (codes "ull", [], record { pass = refl; ends = h.no_word }, refl, (h.no_quote, refl, refl))
-
-undefined_text : (z : List ℕ) → Closes z → Chained (codes "undefined") z (token nowhere (Word 23) ∷ [])
-undefined_text z h = one_token (Word 23) (codes "undefined") z (codes "ndefined", [], record { pass = refl; ends = h.no_word }, refl, (h.no_quote, refl, refl))
-
 simple_open : (z : List ℕ) → Chained (codes "simple(") z (token nowhere SimpleOpen ∷ [])
 simple_open z = one_token SimpleOpen (codes "simple(") z (codes "imple", codes "(", record { pass = refl; ends = refl }, refl, inr (refl, refl, refl, refl))
 
@@ -48,13 +36,13 @@ IsRead z n = Chained (shown_simple n) z (tokens_of (simple_item n))
 
 pub simple_text : (n : ℕ) (z : List ℕ) → n < 256 → Closes z → Chained (shown_simple n) z (tokens_of (simple_item n))
 simple_text n z l k = elim (cases_Bool (eqb n 20)) [
-  | inl e ↦ subst (IsRead z) (sym (eqb-true n 20 e)) (false_text z k)
+  | inl e ↦ subst (IsRead z) (sym (eqb-true n 20 e)) (one_token (Word 20) (codes "false") z (codes "alse", [], record { pass = refl; ends = k.no_word }, refl, (k.no_quote, refl, refl)))
   | inr e ↦ elim (cases_Bool (eqb n 21)) [
-    | inl f ↦ subst (IsRead z) (sym (eqb-true n 21 f)) (true_text z k)
+    | inl f ↦ subst (IsRead z) (sym (eqb-true n 21 f)) (one_token (Word 21) (codes "true") z (codes "rue", [], record { pass = refl; ends = k.no_word }, refl, (k.no_quote, refl, refl)))
     | inr f ↦ elim (cases_Bool (eqb n 22)) [
-      | inl g ↦ subst (IsRead z) (sym (eqb-true n 22 g)) (null_text z k)
+      | inl g ↦ subst (IsRead z) (sym (eqb-true n 22 g)) (one_token (Word 22) (codes "null") z (codes "ull", [], record { pass = refl; ends = k.no_word }, refl, (k.no_quote, refl, refl)))
       | inr g ↦ elim (cases_Bool (eqb n 23)) [
-        | inl h ↦ subst (IsRead z) (sym (eqb-true n 23 h)) (undefined_text z k)
+        | inl h ↦ subst (IsRead z) (sym (eqb-true n 23 h)) (one_token (Word 23) (codes "undefined") z (codes "ndefined", [], record { pass = refl; ends = k.no_word }, refl, (k.no_quote, refl, refl)))
         | inr h ↦ rw (other_text n e f g h, other_item n e f g h) (numbered_text n z l)
       ]
     ]

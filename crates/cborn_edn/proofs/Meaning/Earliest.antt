@@ -76,15 +76,9 @@ abbrev pub Tells : List MeaningError → Option MeaningError → Type 0
 Tells l None = l ≡ []
 Tells l (Some s) = IsFirstOf l s
 
-no_later_of : (p q m n : ℕ) → m < 64 → n < 64 → p * 64 + m ≤ q * 64 + n → NoLater (p, m) (q, n)
-no_later_of p q m n hm hn h = grind arith
-
 no_later_than : (a b : MeaningError) → rank a ≤ rank b → NoLater (a.place, number_of a.reason) (b.place, number_of b.reason)
 unfolding rank
-no_later_than a b h = no_later_of a.place b.place (number_of a.reason) (number_of b.reason) (low_number a.reason) (low_number b.reason) h
-
-reported_first : (s t : MeaningError) (l : List MeaningError) → IsFirstOf l t → rank s ≤ rank t → IsFirstOf (s ∷ l) s
-reported_first s t l f h = first_left number_of _ (IsAmong l) s.place s.reason (first_alone number_of s.place s.reason) (λ q r i. no_later_on (s.place, number_of s.reason) (t.place, number_of t.reason) (q, number_of r) (no_later_than s t h) (f.first q r i))
+no_later_than a b h = grind arith
 
 reported_second : (s t : MeaningError) (l : List MeaningError) → IsFirstOf l t → rank t < rank s → IsFirstOf (s ∷ l) t
 reported_second s t l f h = first_right number_of _ (IsAmong l) t.place t.reason (λ q r e. rw (e.0, e.1) (no_later_than t s (omega arith))) f
@@ -102,5 +96,5 @@ tells (s ∷ l) = go (first_error l) (tells l)
     go (Some t) f = subst (Tells (s ∷ l)) (sym (picked s t)) (choose (leb (rank s) (rank t)) refl)
       where
         choose : (b : Bool) → leb (rank s) (rank t) ≡ b → IsFirstOf (s ∷ l) (cond b s t)
-        choose true e = reported_first s t l f (leb-true _ _ e)
+        choose true e = first_left number_of _ (IsAmong l) s.place s.reason (first_alone number_of s.place s.reason) (λ q r i. no_later_on (s.place, number_of s.reason) (t.place, number_of t.reason) (q, number_of r) (no_later_than s t (leb-true _ _ e)) (f.first q r i))
         choose false e = reported_second s t l f (leb-false _ _ e)

@@ -57,13 +57,10 @@ pub same_same : (k : StringKind) → same_kind k k ≡ true
 same_same OfBytes = refl
 same_same OfText = refl
 
-no_mix : (k : StringKind) (s : Str) → k ≡ s.kind → chunk_errors k s ≡ string_errors false s
-no_mix k s e = ap (λ x. chunk_errors x s) e ∙ ap (λ b. unless b s.place MixedChunks ++ string_errors false s) (same_same s.kind)
-
 -- the meaning errors of one more chunk
 more_noted : (l : List MeaningError) (b : StringsBefore) (ps : Pieces) (k : StringKind) → k ≡ kind_in (strings b ps) → l ++ strings_noted b ++ faults_of_pieces ps ++ chunk_errors k (str ps) ≡ l ++ faults_of_strings (strings b ps)
 more_noted l no_string ps k e =
-    ap (λ x. x ++ faults_of_pieces ps ++ chunk_errors k (str ps)) (append-nil l) ∙ append_assoc l (faults_of_pieces ps) (chunk_errors k (str ps)) ∙ ap (λ x. l ++ (faults_of_pieces ps ++ x)) (no_mix k (str ps) e)
+    ap (λ x. x ++ faults_of_pieces ps ++ chunk_errors k (str ps)) (append-nil l) ∙ append_assoc l (faults_of_pieces ps) (chunk_errors k (str ps)) ∙ ap (λ x. l ++ (faults_of_pieces ps ++ x)) (ap (λ x. chunk_errors x (str ps)) e ∙ ap (λ b. unless b (str ps).place MixedChunks ++ string_errors false (str ps)) (same_same (str ps).kind))
 more_noted l (after_strings ss c) ps k e =
     append_assoc (l ++ faults_of_strings ss) (faults_of_pieces ps) (chunk_errors k (str ps)) ∙ append_assoc l (faults_of_strings ss) (faults_of_pieces ps ++ chunk_errors k (str ps))
     ∙ ap (λ x. l ++ (faults_of_strings ss ++ (faults_of_pieces ps ++ chunk_errors x (str ps)))) e

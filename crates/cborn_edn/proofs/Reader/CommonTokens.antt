@@ -1,17 +1,8 @@
 -- Tokens, white space and comments, from the characters at an offset of a text.
-use Rattle.cborn_edn.proofs.Common.{◌≡◌, refl, sym, ap, ◌∙◌, subst, ℕ, ◌+◌, ◌<◌, List, [], ◌∷◌, ◌++◌, length, take, drop, get_or, true, Some, None, arith, append_assoc, append-nil, drop-append_seam, drop-drop, drop_more, take-append-drop, length-take-le, list_all, and_parts, and_from, Profile, Class, Token, is_white, is_not, is_plain, Covers, TokensBetween, IsTokenAt, length-append, length-drop, ProfileTwo as Two}
+use Rattle.cborn_edn.proofs.Common.{Bool, false, if◌then◌else◌, ArrayClose, MapClose, sized_end, ◌≡◌, refl, sym, ap, ◌∙◌, subst, ℕ, ◌+◌, ◌<◌, List, [], ◌∷◌, ◌++◌, length, take, drop, get_or, true, Some, None, arith, append_assoc, append-nil, drop-append_seam, drop-drop, drop_more, take-append-drop, length-take-le, list_all, and_parts, and_from, Profile, Class, is_white, is_not, is_plain, Covers, TokensBetween, IsTokenAt, length-append, length-drop, ProfileTwo as Two}
 use Rattle.cborn_lex.specs.Good as good
 use Rattle.cborn_lex.specs.Good.{Takes}
-use Rattle.cborn_lex.proofs.GoodTexts.{covers, through}
-use Rattle.cborn_lex.proofs.WholeTexts.Progress.{joins}
-
--- LAW: the tokens between three places
-pub join : (profile : Profile) (text : List ℕ) (l m n : ℕ) (ts us : List Token) → TokensBetween profile text l m ts → TokensBetween profile text m n us → TokensBetween profile text l n (ts ++ us)
-join profile text l m n ts us h k = covers profile (joins profile text l m n ts us (through profile h) (through profile k))
-
--- LAW: no token is between a place and itself
-pub nothing : (profile : Profile) (text : List ℕ) (n : ℕ) → TokensBetween profile text n n []
-nothing profile text n = good.end n (drop n text)
+pub use Rattle.cborn_lex.proofs.WholeTexts.Progress.{joins as join, nothing}
 
 -- what follows the slice s
 rest_of : (text s z : List ℕ) (at stop : ℕ) → drop at text ≡ s ++ z → stop ≡ at + length s → drop stop text ≡ z
@@ -39,14 +30,14 @@ begins_here text at c h e = drop_more text at 0 h ∙ ap (λ d. d ∷ drop (at +
 pub single_here : (profile : Profile) (text : List ℕ) (at c : ℕ) (k : Class) → at < length text → get_or text at 0 ≡ c → ((z : List ℕ) → Takes profile (c ∷ []) z (Some k)) → IsTokenAt profile text at (at + 1) k
 single_here profile text at c k h e t = token_here profile text (c ∷ []) (drop (at + 1) text) at (at + 1) k (begins_here text at c h e) refl (t (drop (at + 1) text))
 
+pub sized_end_here : (m : Bool) (profile : Profile) (text : List ℕ) (at : ℕ) → at < length text → get_or text at 0 ≡ (if m then 125 else 93) → IsTokenAt profile text at (at + 1) (sized_end m)
+sized_end_here true profile text at h e = single_here profile text at 125 MapClose h e (λ z. good.map_close z)
+sized_end_here false profile text at h e = single_here profile text at 93 ArrayClose h e (λ z. good.array_close z)
+
 -- White space and comments.
 
 pub white_here : (profile : Profile) (text : List ℕ) (at : ℕ) → at < length text → is_white (get_or text at 0) ≡ true → TokensBetween profile text at (at + 1) []
 white_here profile text at h w = white_space_here profile text (get_or text at 0 ∷ []) (drop (at + 1) text) at (at + 1) (begins_here text at (get_or text at 0) h refl) refl (good.white (get_or text at 0) (drop (at + 1) text) w)
-
--- up to and with the character q at the offset i
-through_here : (tail : List ℕ) (i q : ℕ) → i < length tail → get_or tail i 0 ≡ q → tail ≡ (take i tail ++ q ∷ []) ++ drop (i + 1) tail
-through_here tail i q h e = sym (take-append-drop i tail) ∙ ap (λ y. take i tail ++ y) (drop_more tail i 0 h ∙ ap (λ d. d ∷ drop (i + 1) tail) e) ∙ sym (append_assoc (take i tail) (q ∷ []) (drop (i + 1) tail))
 
 -- a slice that begins with c and goes up to and with the next q, and what follows it
 pub record Ended (text tail : List ℕ) (at i c q : ℕ) : Type 0 where
@@ -55,7 +46,7 @@ pub record Ended (text tail : List ℕ) (at i c q : ℕ) : Type 0 where
 
 pub ended : (text tail : List ℕ) (at i c q : ℕ) → at < length text → get_or text at 0 ≡ c → tail ≡ drop (at + 1) text → i < length tail → get_or tail i 0 ≡ q → Ended text tail at i c q
 ended text tail at i c q h e t l f = record {
-  whole = begins_here text at c h e ∙ ap (λ y. c ∷ y) (sym t ∙ through_here tail i q l f);
+  whole = begins_here text at c h e ∙ ap (λ y. c ∷ y) (sym t ∙ (sym (take-append-drop i tail) ∙ ap (λ y. take i tail ++ y) (drop_more tail i 0 l ∙ ap (λ d. d ∷ drop (i + 1) tail) f) ∙ sym (append_assoc (take i tail) (q ∷ []) (drop (i + 1) tail))));
   size = omega (arith, length-append (take i tail) (q ∷ []), length-take-le i tail (omega (arith, l)));
 }
 

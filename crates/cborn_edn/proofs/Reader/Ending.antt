@@ -1,12 +1,10 @@
 -- The end of a text: its bytes, or why it has none.
-use Rattle.cborn_edn.proofs.Common.{◌≡◌, refl, sym, ap, ◌∙◌, subst, ℕ, List, [], ◌∷◌, length, Bool, true, false, Option, Some, None, inr, top, no_part, Tree, trees, FitsAll, Speller, Lex, Profile, MeaningError, UnexpectedEnd, Refused, IsText, Notates, IsNoNotation, Item, Pieces, string, RowBefore, no_item, after_row, no_pair, after_pairs, row, Input, items, node, nodes_before, nodes_of_input, faults_of_input, Here, Writer, is_none, phase_of, stack_in, level_of, chunks_in, Shows, listed_trees, trees-listed, Holds, Handed, AllHanded, Reads, may_end, Last, item, pieces, AtEnd, Reached, IsReadTo, in_row, in_key, at_top, in_array, in_embed, as_item, as_chunk, State, wants, has, builds, start, finish, at_end, parse}
-use Rattle.cborn_lex.proofs.GoodTexts.{has_tokens}
-use Rattle.cborn_lex.proofs.WholeTexts.Progress.{whole_text}
+use Rattle.cborn_edn.proofs.Common.{◌≡◌, refl, sym, ap, ◌∙◌, subst, ℕ, List, [], ◌∷◌, length, Bool, true, false, Option, Some, None, inl, inr, top, no_part, Tree, trees, FitsAll, Speller, HasTokens, Profile, MeaningError, UnexpectedEnd, Refused, IsText, Notates, IsNoNotation, Item, Pieces, string, RowBefore, no_item, after_row, no_pair, after_pairs, row, Input, items, node, nodes_before, nodes_of_input, faults_of_input, Here, Writer, is_none, phase_of, stack_in, level_of, chunks_in, Shows, listed_trees, trees-listed, Holds, Handed, AllHanded, Reads, may_end, Last, item, pieces, AtEnd, Reached, IsReadTo, in_row, in_key, at_top, in_array, in_embed, as_item, as_chunk, State, wants, has, builds, start, finish, at_end, parse, whole_text}
 use Rattle.cborn_edn.specs.devices.Syntax.{nothing}
 use Rattle.cborn_edn.proofs.Grammar.Parser.{Meets, parses}
 use Rattle.cborn_edn.proofs.Meaning.Earliest.{Tells, tells}
 use Rattle.cborn_edn.proofs.Meaning.NoError.{nil_is}
-use Rattle.cborn_edn.proofs.Short.SyntaxErrors.{refused, text_of}
+use Rattle.cborn_edn.proofs.Short.SyntaxErrors.{text_of}
 use Rattle.cborn_edn.proofs.HandedOver.Silent.{listed_snoc}
 use Rattle.cborn_edn.specs.devices.Reading.{ends_string, empty}
 use Rattle.cborn_edn.proofs.Reader.NotedErrors.{none_first}
@@ -64,7 +62,7 @@ string_end s t (item b i) n = absurd (let bad : false ≡ true = n in cc)
 string_end s t (pieces b ps) n = record { b = b; ps = ps; is = refl; tree = refl }
 
 module _ (p : Profile) (limit : ℕ) (text : List ℕ) (s : State) (r : Reached p limit text (length text) s) where
-  lex : Lex p text r.tokens
+  lex : HasTokens p text r.tokens
   lex = whole_text p text r.tokens r.between
 
   met : (o : Option Input) → finish s ≡ o → Meets p limit (length text) r.tokens (at_end (length text) o)
@@ -73,21 +71,21 @@ module _ (p : Profile) (limit : ℕ) (text : List ℕ) (s : State) (r : Reached 
       subst (Meets p limit (length text) r.tokens) on (parses p limit (length text) r.tokens)
 
   pub cut_short : finish s ≡ None → IsNoNotation p limit text (Refused (length text) UnexpectedEnd)
-  cut_short e = refused p limit text r.tokens (length text) UnexpectedEnd lex (met None e)
+  cut_short e = inl (r.tokens, lex, met None e)
 
   is_text : (t : Input) → finish s ≡ Some t → IsText p limit r.tokens (nodes_of_input t) (faults_of_input t)
   is_text t e = let m = met (Some t) e in text_of p limit r.tokens t m.0 m.1
 
   pub meaning_refused : {h : Holds} (t : Input) (w : Writer) (error : MeaningError) → finish s ≡ Some t → AtEnd h t w → w.error ≡ Some error → IsNoNotation p limit text (Refused error.place error.reason)
   meaning_refused t w error e k is =
-      inr (r.tokens, nodes_of_input t, faults_of_input t, has_tokens p text r.tokens lex, is_text t e, subst (Tells (faults_of_input t)) (sym k.error ∙ is) (tells (faults_of_input t)))
+      inr (r.tokens, nodes_of_input t, faults_of_input t, lex, is_text t e, subst (Tells (faults_of_input t)) (sym k.error ∙ is) (tells (faults_of_input t)))
 
   pub held_text : {h : Holds} (t : Input) (w : Writer) → finish s ≡ Some t → AtEnd h t w → w.error ≡ None → (nodes : List Tree) × h (top nodes) no_part × Notates p limit text (trees nodes) × FitsAll (trees nodes)
   held_text t w e k no_error =
       let ts = nodes_of_input t in
       let none : faults_of_input t ≡ [] = nil_is (faults_of_input t) (sym (none_first (faults_of_input t)) ∙ ap is_none (sym k.error ∙ no_error)) in
       let is = subst (IsText p limit r.tokens ts) none (is_text t e) in
-      (listed_trees ts, (k.held none).0, subst (Notates p limit text) (sym (trees-listed ts)) (r.tokens, has_tokens p text r.tokens lex, is), (k.held none).1)
+      (listed_trees ts, (k.held none).0, subst (Notates p limit text) (sym (trees-listed ts)) (r.tokens, lex, is), (k.held none).1)
 
 module _ {h : Holds} {p : Profile} {limit : ℕ} {text : List ℕ} (here : Here) (w : Writer) (r : IsReadTo h p limit text here w) where
   same_end : may_end (phase_of r.state) (level_of (stack_in r.state)) (chunks_in r.state) ≡ may_end here.phase here.level w.chunks

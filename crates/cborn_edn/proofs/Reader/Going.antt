@@ -1,13 +1,11 @@
 -- A text that is read up to some place: on with one more token, or why not.
-use Rattle.cborn_edn.proofs.Common.{◌≡◌, refl, sym, ap, ◌∙◌, subst, ℕ, ◌+◌, ◌<◌, ◌≤◌, List, [], ◌∷◌, ◌++◌, length, Bool, true, false, cond, leb, Option, Some, None, append_assoc, append-nil, ◌⊎◌, inl, inr, arith, max, le-leb, lt-leb, Between, IsStopAt, IsStopFrom, class_of, Kind, Class, Profile, Token, LexFault, AreModest, EdnReason, UnexpectedToken, TooDeep, EdnFault, Refused, Span, span, token, after_row, after_pairs, IsNoNotation, lexical, reach, Phase, WantsMore, phase_of, is_trailing_comma, Reached, ProfileOne as One, ProfileTwo as Two, in_row, in_key, at_top, in_array, in_embed, State, wants, start, step, step_by, held, open_levels, comma_at, Answer, forbids, checked, parse}
+use Rattle.cborn_edn.proofs.Common.{◌≡◌, refl, sym, ap, ◌∙◌, subst, ℕ, ◌+◌, ◌<◌, ◌≤◌, List, [], ◌∷◌, ◌++◌, length, Bool, true, false, cond, leb, Option, Some, None, append_assoc, append-nil, ◌⊎◌, inl, inr, arith, max, le-leb, lt-leb, TokensBetween, HasNoTokens, HasNoTokenFrom, class_of, Kind, Class, Profile, Token, LexFault, AreModest, EdnReason, UnexpectedToken, TooDeep, EdnFault, Refused, Span, span, token, after_row, after_pairs, IsNoNotation, lexical, reach, Phase, WantsMore, phase_of, is_trailing_comma, Reached, ProfileOne as One, ProfileTwo as Two, in_row, in_key, at_top, in_array, in_embed, State, wants, start, step, step_by, held, open_levels, comma_at, Answer, forbids, checked, parse, joins, whole_text, whole_stop, stops}
 use Rattle.cborn_lex.specs.declared.classes.Kind.TheVariants as kinds
 use Rattle.cborn_lex.specs.declared.faults.LexFault.TheVariants.{Refused as LexRefused, OutOfMemory as LexOutOfMemory}
-use Rattle.cborn_lex.proofs.GoodTexts.{failed}
-use Rattle.cborn_lex.proofs.WholeTexts.Progress.{nothing, joins, whole_text, whole_stop, stops}
+use Rattle.cborn_lex.proofs.WholeTexts.Progress.{nothing}
 use Rattle.cborn_edn.proofs.Grammar.Held.{deep, commas_held, After, Grows}
 use Rattle.cborn_edn.proofs.Grammar.Grows.{grows}
 use Rattle.cborn_edn.proofs.Grammar.Parser.{HasSyntaxError, Meets, parses}
-use Rattle.cborn_edn.proofs.Short.SyntaxErrors.{refused}
 use Rattle.cborn_edn.specs.devices.Reading.{is_closing}
 use Rattle.cborn_edn.proofs.Reader.Modest.{modest_both}
 use Rattle.cborn_edn.proofs.Reader.Turning.{apart}
@@ -16,8 +14,8 @@ pub begins : (profile : Profile) (limit : ℕ) (text : List ℕ) → Reached pro
 begins profile limit text = record { tokens = []; between = nothing profile text 0; modest = tt; held = refl; runs = λ t stop b more end. refl; stops = λ end. refl }
 
 -- what is reported of a text with a lexical fault
-lexical_reported : (profile : Profile) (limit : ℕ) (text : List ℕ) (e : LexFault) → IsStopAt profile text e → IsNoNotation profile limit text (lexical e)
-lexical_reported profile limit text (LexRefused p r) h = failed profile text p r h
+lexical_reported : (profile : Profile) (limit : ℕ) (text : List ℕ) (e : LexFault) → HasNoTokens profile text e → IsNoNotation profile limit text (lexical e)
+lexical_reported profile limit text (LexRefused p r) h = h
 lexical_reported profile limit text LexOutOfMemory h = tt
 
 clash : {A : Type 0} → true ≡ false → A
@@ -40,7 +38,7 @@ after_token profile limit end t more o b = elim o [ None ↦ HasSyntaxError t.st
 
 module _ (profile : Profile) (limit : ℕ) (text : List ℕ) (at : ℕ) (s : State) (r : Reached profile limit text at s) where
   -- after one more token
-  pub goes_on : (stop : ℕ) (t : Token) (u : State) → Between profile text at stop (t ∷ []) → AreModest (t ∷ []) → step s t ≡ Some u → forbids profile (comma_at s t.class) ≡ false → reach (open_levels s) t.class ≤ limit → Reached profile limit text stop u
+  pub goes_on : (stop : ℕ) (t : Token) (u : State) → TokensBetween profile text at stop (t ∷ []) → AreModest (t ∷ []) → step s t ≡ Some u → forbids profile (comma_at s t.class) ≡ false → reach (open_levels s) t.class ≤ limit → Reached profile limit text stop u
   goes_on stop t u next modest takes free low =
       let here : checked profile limit s t (step s t) ≡ Some u = ap (checked profile limit s t) takes ∙ ap (λ b. cond b None (Some u)) free in
       let deep : leb (reach (open_levels s) t.class) limit ≡ true = le-leb _ _ low in
@@ -56,10 +54,10 @@ module _ (profile : Profile) (limit : ℕ) (text : List ℕ) (at : ℕ) (s : Sta
       }
 
   -- after white space and comments
-  pub skips : (stop : ℕ) → Between profile text at stop [] → Reached profile limit text stop s
+  pub skips : (stop : ℕ) → TokensBetween profile text at stop [] → Reached profile limit text stop s
   skips stop white = record {
     tokens = r.tokens;
-    between = subst (Between profile text 0 stop) (append-nil r.tokens) (joins profile text 0 at stop r.tokens [] r.between white);
+    between = subst (TokensBetween profile text 0 stop) (append-nil r.tokens) (joins profile text 0 at stop r.tokens [] r.between white);
     modest = r.modest;
     held = r.held;
     runs = λ t last b. r.runs t last (joins profile text at stop last [] (t ∷ []) white b);
@@ -67,34 +65,31 @@ module _ (profile : Profile) (limit : ℕ) (text : List ℕ) (at : ℕ) (s : Sta
   }
 
   -- if only white space and comments are left
-  pub ends : Between profile text at (length text) [] → Reached profile limit text (length text) s
+  pub ends : TokensBetween profile text at (length text) [] → Reached profile limit text (length text) s
   ends last = skips (length text) last
 
-  pub stopped : (e : LexFault) → IsStopFrom profile text at e → IsNoNotation profile limit text (lexical e)
+  pub stopped : (e : LexFault) → HasNoTokenFrom profile text at e → IsNoNotation profile limit text (lexical e)
   stopped e h = lexical_reported profile limit text e (whole_stop profile text e (stops profile text 0 at r.tokens e r.between h))
 
   -- a token that is refused; but a later lexical fault comes first
-  syntax : (t : Token) (why : EdnReason) (fault : EdnFault) → Between profile text at t.stop (t ∷ []) → ((more : List Token) (end : ℕ) → parse profile limit end (r.tokens ++ (t ∷ more)) start ≡ HasSyntaxError t.start why)
-      → ((more : List Token) × Between profile text t.stop (length text) more × (fault ≡ Refused t.start why)) ⊎ ((stop : LexFault) × IsStopFrom profile text t.stop stop × (fault ≡ lexical stop)) → IsNoNotation profile limit text fault
+  syntax : (t : Token) (why : EdnReason) (fault : EdnFault) → TokensBetween profile text at t.stop (t ∷ []) → ((more : List Token) (end : ℕ) → parse profile limit end (r.tokens ++ (t ∷ more)) start ≡ HasSyntaxError t.start why)
+      → ((more : List Token) × TokensBetween profile text t.stop (length text) more × (fault ≡ Refused t.start why)) ⊎ ((stop : LexFault) × HasNoTokenFrom profile text t.stop stop × (fault ≡ lexical stop)) → IsNoNotation profile limit text fault
   syntax t why fault next reported (inl (more, rest, f)) =
       let all = joins profile text 0 at (length text) r.tokens (t ∷ more) r.between (joins profile text at t.stop (length text) (t ∷ []) more next rest) in
       let met = subst (Meets profile limit (length text) (r.tokens ++ (t ∷ more))) (reported more (length text)) (parses profile limit (length text) (r.tokens ++ (t ∷ more))) in
-      subst (IsNoNotation profile limit text) (sym f) (refused profile limit text (r.tokens ++ (t ∷ more)) t.start why (whole_text profile text (r.tokens ++ (t ∷ more)) all) met)
+      subst (IsNoNotation profile limit text) (sym f) (inl (r.tokens ++ (t ∷ more), whole_text profile text (r.tokens ++ (t ∷ more)) all, met))
   syntax t why fault next reported (inr (stop, h, f)) = subst (IsNoNotation profile limit text) (sym f) (stopped stop (stops profile text at t.stop (t ∷ []) stop next h))
 
-  pub unexpected : (t : Token) (fault : EdnFault) → Between profile text at t.stop (t ∷ []) → checked profile limit s t (step s t) ≡ None
-      → ((more : List Token) × Between profile text t.stop (length text) more × (fault ≡ Refused t.start UnexpectedToken)) ⊎ ((stop : LexFault) × IsStopFrom profile text t.stop stop × (fault ≡ lexical stop)) → IsNoNotation profile limit text fault
+  pub unexpected : (t : Token) (fault : EdnFault) → TokensBetween profile text at t.stop (t ∷ []) → checked profile limit s t (step s t) ≡ None
+      → ((more : List Token) × TokensBetween profile text t.stop (length text) more × (fault ≡ Refused t.start UnexpectedToken)) ⊎ ((stop : LexFault) × HasNoTokenFrom profile text t.stop stop × (fault ≡ lexical stop)) → IsNoNotation profile limit text fault
   unexpected t fault next none h = syntax t UnexpectedToken fault next (λ more end. r.runs t t.stop next more end ∙ ap (λ c. after_token profile limit end t more c (leb (reach (open_levels s) t.class) limit)) none) h
 
-  pub too_deep : (t : Token) (u : State) (fault : EdnFault) → Between profile text at t.stop (t ∷ []) → step s t ≡ Some u → forbids profile (comma_at s t.class) ≡ false → limit < reach (open_levels s) t.class
-      → ((more : List Token) × Between profile text t.stop (length text) more × (fault ≡ Refused t.start TooDeep)) ⊎ ((stop : LexFault) × IsStopFrom profile text t.stop stop × (fault ≡ lexical stop)) → IsNoNotation profile limit text fault
+  pub too_deep : (t : Token) (u : State) (fault : EdnFault) → TokensBetween profile text at t.stop (t ∷ []) → step s t ≡ Some u → forbids profile (comma_at s t.class) ≡ false → limit < reach (open_levels s) t.class
+      → ((more : List Token) × TokensBetween profile text t.stop (length text) more × (fault ≡ Refused t.start TooDeep)) ⊎ ((stop : LexFault) × HasNoTokenFrom profile text t.stop stop × (fault ≡ lexical stop)) → IsNoNotation profile limit text fault
   too_deep t u fault next takes free far h =
       let here : checked profile limit s t (step s t) ≡ Some u = ap (checked profile limit s t) takes ∙ ap (λ b. cond b None (Some u)) free in
       let high : leb (reach (open_levels s) t.class) limit ≡ false = lt-leb _ _ far in
       syntax t TooDeep fault next (λ more end. r.runs t t.stop next more end ∙ ap (λ c. after_token profile limit end t more c (leb (reach (open_levels s) t.class) limit)) here ∙ ap (λ b. after_token profile limit end t more (Some u) b) high) h
-
-pub never_taken : (profile : Profile) (limit : ℕ) (s : State) (t : Token) → step s t ≡ None → checked profile limit s t (step s t) ≡ None
-never_taken profile limit s t e = ap (checked profile limit s t) e
 
 pub free_none : (p : Profile) → forbids p 0 ≡ false
 free_none One = refl
@@ -107,9 +102,6 @@ open_free p (wants st) (kinds.EmbedClose m) n x e = clash e
 open_free p (wants st) _ n x e = free_none p
 open_free p _ k n x e = free_none p
 
-two_free : (c : ℕ) → forbids Two c ≡ false
-two_free c = refl
-
 -- no bracket ends there after a comma
 pub tight_free : (p : Profile) (s : State) (k : Kind) (n : ℕ) (x : List ℕ) → (phase_of s ≡ WantsMore → ⊥) → forbids p (comma_at s (class_of k n x)) ≡ false
 tight_free p (wants (in_row m (after_row r c))) k n x e = absurd (e refl)
@@ -119,7 +111,7 @@ tight_free p _ _ n x e = free_none p
 
 -- the token is no bracket that ends after a comma
 pub not_trailing : (p : Profile) (s : State) (k : Kind) (n : ℕ) (x : List ℕ) → is_trailing_comma p (phase_of s) k ≡ false → forbids p (comma_at s (class_of k n x)) ≡ false
-not_trailing Two s k n x e = two_free (comma_at s (class_of k n x))
+not_trailing Two s k n x e = refl
 not_trailing One s k n x e = go (phase_of s) refl e
   where
     go : (st : Phase) → phase_of s ≡ st → is_trailing_comma One st k ≡ false → forbids One (comma_at s (class_of k n x)) ≡ false

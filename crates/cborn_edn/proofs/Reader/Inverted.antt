@@ -1,8 +1,5 @@
 -- Which state is shown, by the phase and the level.
-use Rattle.cborn_edn.proofs.Common.{◌≡◌, refl, sym, ap, ◌∙◌, subst, ℕ, ◌<◌, List, length, Bool, true, false, Option, Some, None, arith, Mark, ArrayClose, MapClose, EmbedClose, ParenClose, Comma, Colon, Span, Item, Pieces, row, RowBefore, no_item, after_row, Content, loose, tight, pairs, PairsBefore, no_pair, after_pairs, Fields, loose_fields, tight_fields, array, embedded, Phase, Has, Here, Writer, level_of, stack_in, phase_of, brackets_of, Shows, content_state, fields_state, is_in, is_row, ends_map, MayEnd, Stack, in_row, in_key, in_value, in_tag, Nest, at_top, in_array, in_embed, Home, State, wants, has, builds, with_piece, step_by}
-use Rattle.cborn_lex.proofs.GoodBack.{never}
-use Rattle.cborn_edn.specs.devices.Syntax.{map}
-use Rattle.cborn_edn.specs.declared.states.Level.{Level}
+use Rattle.cborn_edn.proofs.Common.{◌≡◌, refl, sym, ap, ◌∙◌, subst, ℕ, ◌<◌, List, length, Bool, true, false, Option, Some, None, arith, Mark, EmbedClose, ParenClose, Comma, Colon, Span, Item, Pieces, row, RowBefore, no_item, after_row, Content, loose, tight, pairs, PairsBefore, no_pair, after_pairs, loose_fields, tight_fields, array, embedded, Phase, Has, Here, Writer, level_of, stack_in, phase_of, brackets_of, Shows, content_state, Sized, of_array, of_map, is_in, is_row, ends_sized, sized_end, MayEnd, Stack, in_row, in_key, in_value, in_tag, Nest, at_top, in_array, in_embed, Home, State, wants, has, builds, with_piece, step_by, never, map_item as map, Level}
 use Rattle.cborn_edn.specs.declared.states.Level.TheVariants as levels
 
 -- a state that may end
@@ -15,59 +12,30 @@ ending (wants st) x = wanted st
 ending (has st i) x = whole st i
 ending _ x = absurd x
 
--- an array that may end
-pub record Array (s : State) : Type 0 where
-  pub st : Stack
-  pub at : Span
-  pub m : Mark
-  pub c : Content
-  pub is : content_state (in_array st at m) c ≡ s
+-- an array or a map that may end
+pub sized_at : (m : Bool) (s : State) (a : Span) → Ending s → ends_sized m (phase_of s) (level_of (stack_in s)) ≡ true → (u : State) × (step_by s (sized_end m) a ≡ Some u) × Sized a s u
+sized_at false u a (wanted (in_row (in_array st p m) b)) e = (has st (array p m (loose b) a), refl, of_array st p m (loose b))
+sized_at false u a (whole (in_row (in_array st p m) b) i) e = (has st (array p m (tight (row b i)) a), refl, of_array st p m (tight (row b i)))
+sized_at true u a (wanted (in_key st p m b)) e = (has st (map p m (loose_fields b) a), refl, of_map st p m (loose_fields b))
+sized_at true u a (whole (in_value st p m b k c) v) e = (has st (map p m (tight_fields (pairs b k c v)) a), refl, of_map st p m (tight_fields (pairs b k c v)))
+sized_at true u a (wanted (in_row at_top no_item)) e = never e
+sized_at true u a (wanted (in_row at_top (after_row r c))) e = never e
+sized_at true u a (wanted (in_row (in_array st s m) no_item)) e = never e
+sized_at true u a (wanted (in_row (in_array st s m) (after_row r c))) e = never e
+sized_at true u a (wanted (in_row (in_embed h o s) no_item)) e = never e
+sized_at true u a (wanted (in_row (in_embed h o s) (after_row r c))) e = never e
+sized_at true u a (whole (in_row at_top b) i) e = never e
+sized_at _ u a _ e = never e
 
-pub array_at : (s : State) → Ending s → is_in levels.Array (level_of (stack_in s)) ≡ true → Array s
-array_at u (wanted (in_row (in_array st p m) b)) e = record { st = st; at = p; m = m; c = loose b; is = refl }
-array_at u (whole (in_row (in_array st p m) b) i) e = record { st = st; at = p; m = m; c = tight (row b i); is = refl }
-array_at u _ e = never e
-
-pub array_step : (st : Stack) (p a : Span) (m : Mark) (c : Content) → step_by (content_state (in_array st p m) c) ArrayClose a ≡ Some (has st (array p m c a))
-array_step st p a m (loose b) = refl
-array_step st p a m (tight (row b i)) = refl
-
-pub no_array : (s : State) (a : Span) → Ending s → is_in levels.Array (level_of (stack_in s)) ≡ false → step_by s ArrayClose a ≡ None
-no_array u a (wanted (in_row (in_array st p m) b)) e = never (sym e)
-no_array u a (whole (in_row (in_array st p m) b) i) e = never (sym e)
-no_array u a _ e = refl
-
--- a map that may end
-pub record Map (s : State) : Type 0 where
-  pub st : Stack
-  pub at : Span
-  pub m : Mark
-  pub f : Fields
-  pub is : fields_state st at m f ≡ s
-
-pub map_at : (s : State) → Ending s → ends_map (phase_of s) (level_of (stack_in s)) ≡ true → Map s
-map_at u (wanted (in_key st p m b)) e = record { st = st; at = p; m = m; f = loose_fields b; is = refl }
-map_at u (whole (in_value st p m b k c) v) e = record { st = st; at = p; m = m; f = tight_fields (pairs b k c v); is = refl }
-map_at u (wanted (in_row at_top no_item)) e = never e
-map_at u (wanted (in_row at_top (after_row r c))) e = never e
-map_at u (wanted (in_row (in_array st s m) no_item)) e = never e
-map_at u (wanted (in_row (in_array st s m) (after_row r c))) e = never e
-map_at u (wanted (in_row (in_embed h o s) no_item)) e = never e
-map_at u (wanted (in_row (in_embed h o s) (after_row r c))) e = never e
-map_at u (whole (in_row at_top b) i) e = never e
-map_at u _ e = never e
-
-pub map_step : (st : Stack) (p a : Span) (m : Mark) (f : Fields) → step_by (fields_state st p m f) MapClose a ≡ Some (has st (map p m f a))
-map_step st p a m (loose_fields b) = refl
-map_step st p a m (tight_fields (pairs b k c v)) = refl
-
-pub no_map : (s : State) (a : Span) → Ending s → ends_map (phase_of s) (level_of (stack_in s)) ≡ false → step_by s MapClose a ≡ None
-no_map u a (wanted (in_key st p m no_pair)) e = never (sym e)
-no_map u a (wanted (in_key st p m (after_pairs ps c))) e = never (sym e)
-no_map u a (whole (in_value st p m b k c) v) e = never (sym e)
-no_map u a (wanted (in_row at_top b)) e = refl
-no_map u a (whole (in_row at_top b) i) e = refl
-no_map u a _ e = refl
+pub no_sized : (m : Bool) (s : State) (a : Span) → Ending s → ends_sized m (phase_of s) (level_of (stack_in s)) ≡ false → step_by s (sized_end m) a ≡ None
+no_sized false u a (wanted (in_row (in_array st p m) b)) e = never (sym e)
+no_sized false u a (whole (in_row (in_array st p m) b) i) e = never (sym e)
+no_sized true u a (wanted (in_key st p m no_pair)) e = never (sym e)
+no_sized true u a (wanted (in_key st p m (after_pairs ps c))) e = never (sym e)
+no_sized true u a (whole (in_value st p m b k c) v) e = never (sym e)
+no_sized true u a (wanted (in_row at_top b)) e = refl
+no_sized true u a (whole (in_row at_top b) i) e = refl
+no_sized _ u a _ e = refl
 
 -- a `<<` that may end
 pub record Embed (s : State) : Type 0 where
@@ -166,6 +134,6 @@ is_open f here w out s none some e =
     let some_level : level_of (stack_in s) ≡ None → ⊥ = λ q. never (sym none ∙ ap f (sym q) ∙ ap f (sym e.level) ∙ some) in
     subst (λ l. 0 < length l) (sym e.brackets) (brackets_open (stack_in s) some_level)
 
-pub ends_none : (p : Phase) → ends_map p None ≡ false
-ends_none Has = refl
-ends_none _ = refl
+pub sized_none : (m : Bool) (p : Phase) → ends_sized m p None ≡ false
+sized_none true Has = refl
+sized_none _ _ = refl

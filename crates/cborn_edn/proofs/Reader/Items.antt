@@ -1,8 +1,7 @@
 -- Tokens of numbers, strings and brackets from what was found at a place of a text.
-use Rattle.cborn_edn.proofs.Common.{◌≡◌, refl, sym, ap, ◌∙◌, subst, ℕ, ◌+◌, ◌<◌, ◌≤◌, List, [], ◌∷◌, ◌++◌, length, take, drop, get_or, Bool, true, false, not, eqb, Some, Ok, arith, append_assoc, append-nil, ne_eqb, eqb-true, false≢true, take-append-drop, length-take-le, drop-drop, Profile, Mark, Absent, Class, Number, TagOpen, Text, EmbedClose, ChunkOpen, begins, is_numeral, is_word, mark_of, signed, list_all, IsUtf8, is_content, is_plain, LettersSoFar, IsRun, IsIndicator, IsMark, IsNumeral, TokensBetween, IsTokenAt, NoPieceAt, IsTextAt, length-append}
+use Rattle.cborn_edn.proofs.Common.{◌≡◌, refl, sym, ap, ◌∙◌, subst, ℕ, ◌+◌, ◌<◌, ◌≤◌, List, [], ◌∷◌, ◌++◌, length, take, drop, get_or, Bool, true, false, not, eqb, Some, Ok, arith, append_assoc, append-nil, ne_eqb, eqb-true, false≢true, take-append-drop, length-take-le, drop-drop, Profile, Mark, Absent, Class, Number, TagOpen, Text, EmbedClose, ChunkOpen, begins, is_numeral, is_word, mark_of, signed, list_all, IsUtf8, is_content, is_plain, LettersSoFar, IsRun, IsIndicator, IsMark, IsNumeral, TokensBetween, IsTokenAt, NoPieceAt, IsTextAt, length-append, none_yet, run_more, letters_end}
 use Rattle.cborn_lex.specs.Numbers.{integer}
 use Rattle.cborn_lex.specs.Strings.{IsText}
-use Rattle.cborn_lex.proofs.Runs.{none_yet, run_more, letters_end}
 use Rattle.cborn_lex.specs.Good as good
 use Rattle.cborn_lex.specs.Good.{Takes}
 use Rattle.cborn_lex.proofs.GoodFronts.{judge}
@@ -85,12 +84,6 @@ chunks_here profile text at h e f g =
     let bare : begins is_word (drop (at + 2) text) ≡ false = ap (begins is_word) space in
     token_here profile text (40 ∷ 95 ∷ []) (drop (at + 2) text) at (at + 2) ChunkOpen all refl (good.chunk_open (drop (at + 2) text) bare)
 
--- a text string without an indicator, whose content of len characters stands for these bytes
-text_here : (profile : Profile) (text tail bytes : List ℕ) (at len : ℕ) → at < length text → get_or text at 0 ≡ 34 → tail ≡ drop (at + 1) text → len < length tail → get_or tail len 0 ≡ 34 → is_content 34 (take len tail) ≡ true → IsText 34 (take len tail) bytes → begins (λ c. eqb c 95) (drop (len + 1) tail) ≡ false → IsTokenAt profile text at (at + len + 2) (Text bytes Absent)
-text_here profile text tail bytes at len h e t l q i is b =
-    let s = ended text tail at len 34 34 h e t l q in
-    token_here profile text (34 ∷ take len tail ++ 34 ∷ []) (drop (len + 1) tail) at (at + len + 2) (Text bytes Absent) s.whole s.size (good.text (take len tail) bytes [] (drop (len + 1) tail) Absent i is (b, refl))
-
 -- LAW: plain letters up to a quote are a content, which stands for itself
 pub plain_here : (tail : List ℕ) (len : ℕ) → len < length tail → get_or tail len 0 ≡ 34 → list_all (is_plain 34) (take len tail) ≡ true → (is_content 34 (take len tail) ≡ true) × IsText 34 (take len tail) (take len tail)
 plain_here tail len h e p =
@@ -107,7 +100,7 @@ text_at profile text tail bytes at len stop h e t l q i is b white none inside =
     let after : drop (at + len + 2) text ≡ drop (len + 1) tail = ap (λ n. drop n text) (sym place) ∙ sym (drop-drop (len + 1) (at + 1) text) ∙ ap (drop (len + 1)) (sym t) in
     record {
       stop = at + len + 2;
-      token = text_here profile text tail bytes at len h e t l q i is (subst (λ (y : List ℕ). begins (λ c. eqb c 95) y ≡ false) after b);
+      token = (let s = ended text tail at len 34 34 h e t l q in token_here profile text (34 ∷ take len tail ++ 34 ∷ []) (drop (len + 1) tail) at (at + len + 2) (Text bytes Absent) s.whole s.size (good.text (take len tail) bytes [] (drop (len + 1) tail) Absent i is ((subst (λ (y : List ℕ). begins (λ c. eqb c 95) y ≡ false) after b), refl)));
       utf8 = λ u. text_utf8 34 (take len tail) bytes is (subst (λ (y : List ℕ). IsUtf8 (take len y)) (sym t) (slice_utf8 text at len u h (omega (arith, e)) (subst (λ (y : List ℕ). len < length y) t l) (subst (λ (y : List ℕ). get_or y len 0 < 128) t (omega (arith, q)))));
       white_space = white;
       ends = none;

@@ -1,9 +1,8 @@
 -- The token after a string that is known to end.
-use Rattle.cborn_edn.proofs.Common.{◌≡◌, refl, sym, ap, ◌∙◌, subst, ℕ, ◌+◌, List, [], ◌∷◌, length, drop, get_or, true, false, eqb, inl, inr, arith, eqb-true, or_cases, drop_all, Profile, Class, ArrayClose, MapClose, ParenClose, Comma, Colon, Token, WhiteSpace, Read, Start, single, start_of, ReadsFrom, Through, Between, ends_string, NoPieceAt, EndsPieces}
+use Rattle.cborn_edn.proofs.Common.{one_front, ◌≡◌, refl, sym, ap, ◌∙◌, subst, ℕ, ◌+◌, List, [], ◌∷◌, length, drop, get_or, true, false, eqb, inl, inr, arith, eqb-true, or_cases, drop_all, Profile, Class, ArrayClose, MapClose, ParenClose, Comma, Colon, Token, WhiteSpace, Read, Start, single, start_of, ReadsFrom, Covers, TokensBetween, ends_string, NoPieceAt, EndsPieces, never}
 use Rattle.cborn_lex.specs.Forms.{Reads}
-use Rattle.cborn_lex.specs.Lex as lex
-use Rattle.cborn_lex.proofs.OneFront.Alone.{one_front}
-use Rattle.cborn_lex.proofs.GoodBack.{never}
+use Rattle.cborn_lex.specs.Good as good
+use Rattle.cborn_lex.proofs.GoodBack.{read}
 use Rattle.cborn_edn.proofs.Reader.CommonTokens.{begins_here}
 
 -- a character that is a token alone
@@ -37,11 +36,11 @@ reads : (profile : Profile) (c : ℕ) (z : List ℕ) (a : Alone c) → Reads pro
 reads profile c z a = subst (λ (s : Start). ReadsFrom s profile c [] z (Read a.class)) (sym a.starting) (refl, refl)
 
 -- the first token of a text that begins with that character
-first : (profile : Profile) {n m : ℕ} {x y : List ℕ} {ts : List Token} → Through profile n x ts m y → (c : ℕ) (z : List ℕ) (t : Token) → Alone c → x ≡ c ∷ z → ts ≡ t ∷ [] → EndsPieces t.class
-first profile (lex.here n x) c z t a e f = absurd (let bad : [] ≡ t ∷ [] = f in cc)
-first profile (lex.white_space n m s x y ts r h) c z t a e f = absurd (let bad : WhiteSpace ≡ Read a.class = (one_front profile s x (c ∷ []) z WhiteSpace (Read a.class) r (reads profile c z a) e).1 in cc)
-first profile (lex.token n m k s x y ts r h) c z t a e f =
-    let same : Read k ≡ Read a.class = (one_front profile s x (c ∷ []) z (Read k) (Read a.class) r (reads profile c z a) e).1 in
+first : (profile : Profile) {n m : ℕ} {x y : List ℕ} {ts : List Token} → Covers profile n x ts m y → (c : ℕ) (z : List ℕ) (t : Token) → Alone c → x ≡ c ∷ z → ts ≡ t ∷ [] → EndsPieces t.class
+first profile (good.end n x) c z t a e f = absurd (let bad : [] ≡ t ∷ [] = f in cc)
+first profile (good.white_space n m s x y ts r h) c z t a e f = absurd (let bad : WhiteSpace ≡ Read a.class = (one_front profile s x (c ∷ []) z WhiteSpace (Read a.class) (read profile r) (reads profile c z a) e).1 in cc)
+first profile (good.token n m k s x y ts r h) c z t a e f =
+    let same : Read k ≡ Read a.class = (one_front profile s x (c ∷ []) z (Read k) (Read a.class) (read profile r) (reads profile c z a) e).1 in
     let class : k ≡ a.class = one_class k a.class same in
     let token : k ≡ t.class = ap class_of_first f in
     subst (λ (j : Class). EndsPieces j) (sym class ∙ token) a.is
@@ -54,14 +53,14 @@ first profile (lex.token n m k s x y ts r h) c z t a e f =
     class_of_first (u ∷ us) = u.class
 
 -- no token begins an empty text
-none_begins : (profile : Profile) {n m : ℕ} {x y : List ℕ} {ts : List Token} → Through profile n x ts m y → (t : Token) → x ≡ [] → ts ≡ t ∷ [] → ⊥
-none_begins profile (lex.here n x) t e f = let bad : [] ≡ t ∷ [] = f in cc
-none_begins profile (lex.white_space n m [] x y ts r h) t e f = r
-none_begins profile (lex.white_space n m (c ∷ s) x y ts r h) t e f = omega (arith, ap length e)
-none_begins profile (lex.token n m k [] x y ts r h) t e f = r
-none_begins profile (lex.token n m k (c ∷ s) x y ts r h) t e f = omega (arith, ap length e)
+none_begins : (profile : Profile) {n m : ℕ} {x y : List ℕ} {ts : List Token} → Covers profile n x ts m y → (t : Token) → x ≡ [] → ts ≡ t ∷ [] → ⊥
+none_begins profile (good.end n x) t e f = let bad : [] ≡ t ∷ [] = f in cc
+none_begins profile (good.white_space n m [] x y ts r h) t e f = read profile r
+none_begins profile (good.white_space n m (c ∷ s) x y ts r h) t e f = omega (arith, ap length e)
+none_begins profile (good.token n m k [] x y ts r h) t e f = read profile r
+none_begins profile (good.token n m k (c ∷ s) x y ts r h) t e f = omega (arith, ap length e)
 
 -- LAW: the next token there ends the string
-pub next_ends : (profile : Profile) (text : List ℕ) (n m : ℕ) (t : Token) → NoPieceAt text n → Between profile text n m (t ∷ []) → EndsPieces t.class
+pub next_ends : (profile : Profile) (text : List ℕ) (n m : ℕ) (t : Token) → NoPieceAt text n → TokensBetween profile text n m (t ∷ []) → EndsPieces t.class
 next_ends profile text n m t (inl e) h = absurd (none_begins profile h t (drop_all n text (omega (arith, e))) refl)
 next_ends profile text n m t (inr h) k = first profile k (get_or text n 0) (drop (n + 1) text) t (alone (get_or text n 0) h.1) (begins_here text n (get_or text n 0) h.0 refl) refl

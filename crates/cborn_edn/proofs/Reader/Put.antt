@@ -1,6 +1,5 @@
 -- What is shown after a number, a word or the number of a simple value.
-use Rattle.cborn_edn.proofs.Common.{◌≡◌, refl, sym, ap, ◌∙◌, ℕ, List, ◌∷◌, ◌++◌, length, Bool, Option, Some, Speller, Mark, simple_errors, MeaningError, first_error, Notes, Span, Here, Writer, noted, noted_stack, phase_of, stack_in, level_of, count_of, brackets_of, arounds_of, bytes_around, string_in, chunks_in, bytes_open, Shows, IsOpenAt, Wants, wanting, Holds, states_around, AllHanded, Reads, Stack, State, wants}
-use Rattle.cborn_edn.specs.declared.states.Level.{Level}
+use Rattle.cborn_edn.proofs.Common.{◌≡◌, refl, sym, ap, ◌∙◌, ℕ, List, ◌∷◌, ◌++◌, length, Bool, Option, Some, Speller, Mark, simple_errors, MeaningError, first_error, Notes, Span, Here, Writer, noted, noted_stack, phase_of, stack_in, level_of, count_of, brackets_of, arounds_of, bytes_around, string_in, chunks_in, bytes_open, Shows, IsOpenAt, Wants, wanting, Holds, states_around, AllHanded, Reads, Stack, State, wants, Level}
 use Rattle.cborn_edn.proofs.Reader.Showing.{moved_read}
 
 -- a leaf was taken, which changes neither what is open nor the pieces

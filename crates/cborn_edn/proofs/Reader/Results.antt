@@ -1,11 +1,7 @@
--- What holds of an answer in case of success, and of a fault that is passed on.
-use Rattle.cborn_edn.proofs.Common.{sym, subst, IfOk}
-use Rattle.std.specs.Prelude.{◌≡◌, Result, Ok, Err, IfErr, OnOk}
-use Rattle.std.specs.Result.{IsErr, IsErrAnd}
-
-pub on_ok : {A E : Type 0} (r : Result A E) {P Q : Type 0} → (P → Q) → OnOk r P → OnOk r Q
-on_ok (Ok a) f h = f h
-on_ok (Err e) f h = h
+-- What holds of an answer in case of success.
+use Rattle.cborn_edn.proofs.Common.{IfOk}
+use Rattle.std.specs.Prelude.{Result, Ok, Err, OnOk}
+pub use Rattle.cborn_model.proofs.HandedOver.{on_ok}
 
 pub both_ok : {A E : Type 0} (r : Result A E) {P Q R : Type 0} → (P → Q → R) → OnOk r P → OnOk r Q → OnOk r R
 both_ok (Ok a) f h k = f h k
@@ -18,8 +14,3 @@ all_ok (Err e) f h k l = h
 pub if_ok : {A E : Type 0} (r : Result A E) (P Q : A → Type 0) → ((x : A) → P x → Q x) → IfOk r P → IfOk r Q
 if_ok (Ok x) P Q f h = f x h
 if_ok (Err e) P Q f h = tt
-
--- a fault that is passed on
-pub passed_on : {A E : Type 0} (r : Result A E) (x : E) (P : E → Type 0) → P x → IsErr r × IsErrAnd r (λ e. e ≡ x) → IfErr r P
-passed_on (Ok a) x P p h = tt
-passed_on (Err e) x P p h = subst P (sym h.1) p

@@ -1,6 +1,7 @@
 -- What is shown, moved from one state of the machine to the next.
-use Rattle.cborn_edn.proofs.Common.{◌≡◌, refl, sym, ap, ◌∙◌, subst, ℕ, List, [], ◌∷◌, ◌++◌, length, Bool, true, false, ◌&&◌, Option, Some, None, append-nil, if◌then◌else◌, spelled_all, Mark, MeaningError, StringKind, OfBytes, OfText, is_nil, first_error, Span, Piece, text, bytes, embedded, Pieces, piece, also, str_of, str, nodes_in, faults_of_piece, Here, Writer, Joint, Speller, Holds, AllHanded, Reads, noted_stack, noted_home, pieces_noted, stack_of, level_of, count_of, brackets_of, brackets_home, arounds_of, arounds_home, bytes_around, bytes_around_home, piece_bytes, pieces_bytes, bytes_before, string_at, joint, Shows, piece_of, Home, as_item, as_chunk, State, at_home}
+use Rattle.cborn_edn.proofs.Common.{◌≡◌, refl, sym, ap, ◌∙◌, subst, ℕ, List, [], ◌∷◌, ◌++◌, length, Bool, true, false, ◌&&◌, Option, Some, None, append-nil, if◌then◌else◌, spelled_all, Mark, StringKind, OfBytes, OfText, is_nil, first_error, Span, Piece, text, bytes, embedded, Pieces, piece, also, str_of, str, nodes_in, faults_of_piece, Here, Writer, Joint, Speller, Holds, AllHanded, Reads, noted_stack, noted_home, pieces_noted, stack_of, level_of, count_of, brackets_of, brackets_home, arounds_of, arounds_home, bytes_around, bytes_around_home, piece_bytes, pieces_bytes, bytes_before, string_at, joint, Shows, piece_of, Home, as_item, as_chunk, State, at_home}
 use Rattle.cborn_edn.specs.devices.Kept.{chunks_of}
+pub use Rattle.cborn_edn.proofs.Reader.NotedErrors.{none_noted as same_errors}
 
 pub moved : (next n : Here) (left l : Writer) (u : State) → next ≡ n → left ≡ l → Shows n l l.pieces.items u → Shows next left left.pieces.items u
 moved next n left l u e f h = subst (λ (w : Writer). Shows next w w.pieces.items u) (sym f) (subst (λ (x : Here). Shows x l l.pieces.items u) (sym e) h)
@@ -12,10 +13,6 @@ moved_read k next n left l u e f h = subst (λ (w : Writer). Reads k next w w.pi
 -- what was handed over, where the spellers and the states around are the same
 pub same_around : (h : Holds) (ps qs : List Speller) (s : State) (ss ts : List State) → qs ≡ ps → ss ≡ ts → AllHanded h ps (s ∷ ss) → AllHanded h qs (s ∷ ts)
 same_around h ps qs s ss ts e f t = subst (λ (l : List Speller). AllHanded h l (s ∷ ts)) (sym e) (subst (λ (l : List State). AllHanded h ps (s ∷ l)) f t)
-
--- nothing more is noted
-pub same_errors : (o : Option MeaningError) (l : List MeaningError) → o ≡ first_error l → o ≡ first_error (l ++ [])
-same_errors o l e = e ∙ ap first_error (sym (append-nil l))
 
 -- what is shown around a string
 pub record AtHome (here : Here) (writer : Writer) (h : Home) : Type 0 where

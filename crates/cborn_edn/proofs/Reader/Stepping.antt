@@ -1,17 +1,11 @@
 -- One token that is read: the reader goes on, or refuses the text.
-use Rattle.cborn_edn.proofs.Common.{◌≡◌, refl, sym, ap, ◌∙◌, subst, ℕ, ◌^◌, ◌<◌, ◌≤◌, List, [], ◌∷◌, ◌++◌, length, Bool, false, Option, Some, None, arith, ◌⊎◌, inl, inr, AreBytes, Between, IsStopFrom, class_of, content_of, IsNextBareToken, BareToken, Class, Profile, Token, LexFault, AreModest, EdnReason, UnexpectedToken, TooDeep, EdnFault, Refused, IsNoNotation, lexical, reach, Here, Writer, phase_of, Shows, Holds, Reads, Ready, Taken, Takes, is_trailing_comma, IsReadTo, Judged, State, open_levels}
-use Rattle.cborn_lex.proofs.GoodTexts.{through}
-use Rattle.cborn_lex.proofs.WholeTexts.Progress.{inside, few}
-use Rattle.cborn_lex.proofs.WholeTexts.Weights.{between_modest}
-use Rattle.cborn_edn.proofs.Reader.Going.{goes_on, ends, unexpected, too_deep, never_taken, not_trailing, trailing}
+use Rattle.cborn_edn.proofs.Common.{◌≡◌, refl, sym, ap, ◌∙◌, subst, ℕ, ◌^◌, ◌<◌, ◌≤◌, List, [], ◌∷◌, ◌++◌, length, Bool, false, Option, Some, None, arith, ◌⊎◌, inl, inr, AreBytes, TokensBetween, HasNoTokenFrom, class_of, content_of, IsNextBareToken, BareToken, Class, Profile, Token, LexFault, AreModest, EdnReason, UnexpectedToken, TooDeep, EdnFault, Refused, IsNoNotation, lexical, reach, Here, Writer, phase_of, Holds, Reads, Ready, Taken, Takes, is_trailing_comma, IsReadTo, Judged, State, open_levels, checked, few, between_modest}
+use Rattle.cborn_lex.proofs.WholeTexts.Progress.{inside}
+use Rattle.cborn_edn.proofs.Reader.Going.{goes_on, ends, unexpected, too_deep, not_trailing, trailing}
 use Rattle.cborn_edn.proofs.Reader.Counts.{shown_few, brackets_levels}
 
--- what is shown, where pieces are appended
-pub same_shown : (here : Here) (w v : Writer) (out : List ℕ) (s : State) → Shows here w out s → Shows here (record w { pieces = v.pieces }) out s
-same_shown here w v out s e = record { phase = e.phase; level = e.level; count = e.count; brackets = e.brackets; around = e.around; string = e.string; chunks = e.chunks; simple = e.simple; error = e.error; start = e.start; pieces = e.pieces }
-
 pub same_read : {h : Holds} (here : Here) (w v : Writer) (out : List ℕ) (s : State) → Reads h here w out s → Reads h here (record w { pieces = v.pieces }) out s
-same_read here w v out s e = record { shows = same_shown here w v out s e.shows; handed = e.handed }
+same_read here w v out s e = record { shows = (record { phase = e.shows.phase; level = e.shows.level; count = e.shows.count; brackets = e.shows.brackets; around = e.shows.around; string = e.shows.string; chunks = e.shows.chunks; simple = e.shows.simple; error = e.shows.error; start = e.shows.start; pieces = e.shows.pieces }); handed = e.handed }
 
 -- where the reader is in the text is no part of what is shown
 pub read_at : {h : Holds} (next : Here) (left : Writer) (out : List ℕ) (u : State) (stop : ℕ) → Reads h next left out u → Reads h (record next { at = stop }) left out u
@@ -23,7 +17,7 @@ module _ (p : Profile) (text : List ℕ) (are : AreBytes text) (here : Here) (w 
   -- a token that was read
   pub record ReadToken (n : ℕ) (v : Writer) (t : BareToken) : Type 0 where
     pub content : List ℕ
-    pub between : Between p text here.at t.stop (record { start = t.start; stop = t.stop; class = class_of t.kind n content } ∷ [])
+    pub between : TokensBetween p text here.at t.stop (record { start = t.start; stop = t.stop; class = class_of t.kind n content } ∷ [])
     pub modest : AreModest (record { start = t.start; stop = t.stop; class = class_of t.kind n content } ∷ [])
     pub written : v.pieces.items ≡ w.pieces.items ++ content_of (class_of t.kind n content)
 
@@ -31,14 +25,9 @@ module _ (p : Profile) (text : List ℕ) (are : AreBytes text) (here : Here) (w 
   token_read o n v t read is =
       let f = subst (λ (q : Option BareToken). IsNextBareToken p text here.at q n w.pieces.items v.pieces.items) is read in
       let s = f.2 in
-      let here-is : Between p text here.at t.stop (record { start = t.start; stop = t.stop; class = class_of t.kind n s.content } ∷ []) = subst (λ (k : Class). Between p text here.at t.stop (record { start = t.start; stop = t.stop; class = k } ∷ [])) s.class (through p f.1) in
+      let here-is : TokensBetween p text here.at t.stop (record { start = t.start; stop = t.stop; class = class_of t.kind n s.content } ∷ []) = subst (λ (k : Class). TokensBetween p text here.at t.stop (record { start = t.start; stop = t.stop; class = k } ∷ [])) s.class f.1 in
       let there = between_modest p text here.at t.stop (record { start = t.start; stop = t.stop; class = class_of t.kind n s.content } ∷ []) are here-is in
-      record {
-        content = s.content;
-        between = here-is;
-        modest = (there.0, tt);
-        written = s.written ∙ ap (λ (k : Class). w.pieces.items ++ content_of k) s.class;
-      }
+      record { content = s.content; between = here-is; modest = (there.0, tt); written = s.written ∙ ap (λ (k : Class). w.pieces.items ++ content_of k) s.class }
 
 module _ {h : Holds} (p : Profile) (limit : ℕ) (text : List ℕ) (are : AreBytes text) (here : Here) (w : Writer) (r : IsReadTo h p limit text here w) where
   -- with nothing left of the text
@@ -50,7 +39,7 @@ module _ {h : Holds} (p : Profile) (limit : ℕ) (text : List ℕ) (are : AreByt
         small = r.small;
         inside = omega arith;
         state = r.state;
-        reached = ends p limit text here.at r.state r.reached (through p f.0);
+        reached = ends p limit text here.at r.state r.reached f.0;
         shows = read_at here (record w { pieces = v.pieces }) v.pieces.items r.state (length text) (subst (λ l. Reads h here (record w { pieces = v.pieces }) l r.state) (sym f.1) (same_read here w v w.pieces.items r.state r.shows));
       }
 
@@ -98,11 +87,11 @@ module _ {h : Holds} (p : Profile) (limit : ℕ) (text : List ℕ) (are : AreByt
 
       -- the text is refused
       pub refusal : (why : EdnReason) (fault : EdnFault) → Judged bad ok deep limit (Some why)
-          → ((more : List Token) × Between p text t.stop (length text) more × (fault ≡ Refused t.start why)) ⊎ ((stop : LexFault) × IsStopFrom p text t.stop stop × (fault ≡ lexical stop)) → IsNoNotation p limit text fault
+          → ((more : List Token) × TokensBetween p text t.stop (length text) more × (fault ≡ Refused t.start why)) ⊎ ((stop : LexFault) × HasNoTokenFrom p text t.stop stop × (fault ≡ lexical stop)) → IsNoNotation p limit text fault
       refusal UnexpectedToken fault (inl e) f =
           unexpected p limit text here.at r.state r.reached the_token fault i.between (trailing p limit r.state t.kind n t.start t.stop i.content (ap (λ st. is_trailing_comma p st t.kind) (sym r.shows.shows.phase) ∙ sym b ∙ e)) f
       refusal UnexpectedToken fault (inr e) f =
-          unexpected p limit text here.at r.state r.reached the_token fault i.between (never_taken p limit r.state the_token (subst (λ (q : Bool). Taken k q r.state (class_of t.kind n i.content) (record { start = t.start; stop = t.stop }) next left) e took)) f
+          unexpected p limit text here.at r.state r.reached the_token fault i.between (ap (checked p limit r.state the_token) (subst (λ (q : Bool). Taken k q r.state (class_of t.kind n i.content) (record { start = t.start; stop = t.stop }) next left) e took)) f
       refusal TooDeep fault (f, g, far) h =
           let q = subst (λ (q : Bool). Taken k q r.state (class_of t.kind n i.content) (record { start = t.start; stop = t.stop }) next left) g took in
           too_deep p limit text here.at r.state r.reached the_token q.0 fault i.between q.1 (not_trailing p r.state t.kind n i.content (free f)) (omega (arith, depth_is deep d, far)) h

@@ -1,8 +1,7 @@
 -- Frequent tokens, taken without the lexer: the reader goes on as the machine of tokens does.
-use Rattle.cborn_edn.proofs.Common.{◌≡◌, refl, sym, ap, ◌∙◌, subst, ℕ, zero, suc, ◌+◌, ◌^◌, ◌<◌, ◌≤◌, List, [], ◌∷◌, length, Bool, true, false, Some, arith, ◌⊎◌, inl, inr, lt-ltb, AreBytes, IsUtf8, Between, TokensBetween, class_of, Kind, Class, Number, Text, Mark, Absent, Profile, Token, is_small, reach, Span, Item, Pieces, piece, string, StringsBefore, IsTokenAt, IsTextAt, NoPieceAt, Here, Writer, IsModest, AreModest, Holds, Reads, MayEnd, Taken, has_chunks, IsReadTo, Reached, if◌then◌else◌, text as piece_text, Stack, Home, as_item, as_chunk, State, wants, has, builds, wants_number, step_by, open_levels, comma_at, comma_in, forbids}
-use Rattle.cborn_lex.proofs.GoodTexts.{through}
-use Rattle.cborn_lex.proofs.WholeTexts.Progress.{inside, few}
-use Rattle.cborn_lex.proofs.WholeTexts.Weights.{between_modest, utf8_bytes}
+use Rattle.cborn_edn.proofs.Common.{sized_end, ◌≡◌, refl, sym, ap, ◌∙◌, subst, ℕ, zero, suc, ◌+◌, ◌^◌, ◌<◌, ◌≤◌, List, [], ◌∷◌, length, Bool, true, false, Some, arith, ◌⊎◌, inl, inr, lt-ltb, AreBytes, IsUtf8, TokensBetween, class_of, Kind, Class, Number, Text, Mark, Absent, Profile, Token, is_small, reach, Span, Item, Pieces, piece, string, StringsBefore, IsTokenAt, IsTextAt, NoPieceAt, Here, Writer, IsModest, AreModest, Holds, Reads, MayEnd, Taken, has_chunks, IsReadTo, Reached, if◌then◌else◌, text as piece_text, Stack, Home, as_item, as_chunk, State, wants, has, builds, wants_number, step_by, open_levels, comma_at, comma_in, forbids, few, between_modest, utf8_bytes}
+use Rattle.cborn_lex.proofs.WholeTexts.Progress.{inside}
+use Rattle.cborn_lex.specs.declared.classes.Kind.TheVariants as kinds
 use Rattle.cborn_edn.specs.declared.states.Phase.TheVariants as phases
 use Rattle.cborn_edn.proofs.Reader.Counts.{shown_few, brackets_levels}
 use Rattle.cborn_edn.proofs.Reader.Going.{goes_on, skips, free_none, tight_free}
@@ -26,9 +25,18 @@ number_low l limit n v m small low = subst (λ b. l + (if b then 0 else 1) ≤ l
     fits true (suc v) h = lt-ltb v (2 ^ 64) (omega (arith, h))
     fits false v h = lt-ltb v (2 ^ 64) h
 
+-- the bracket that ends an array or a map has no content, and no level of its own
+pub sized_kind : (m : Bool) → (k : Kind) × (sized_end m ≡ class_of k 0 [])
+sized_kind true = (kinds.MapClose, refl)
+sized_kind false = (kinds.ArrayClose, refl)
+
+pub sized_low : (m : Bool) (l limit : ℕ) → reach l (sized_end m) ≤ limit
+sized_low true l limit = omega arith
+sized_low false l limit = omega arith
+
 -- LAW: a token isn't empty
 pub beyond : (p : Profile) (text : List ℕ) (at stop : ℕ) (c : Class) → IsTokenAt p text at stop c → at < stop
-beyond p text at stop c h = omega (arith, few p text at stop (token_at at stop c ∷ []) (through p h))
+beyond p text at stop c h = omega (arith, few p text at stop (token_at at stop c ∷ []) h)
 
 -- on, and something was taken
 pub went : {A : Type 0} {m n : ℕ} {ok : Bool} → A × (m < n) → A × (m ≤ n) × (ok ≡ true → m < n)
@@ -36,14 +44,14 @@ went (a, further) = (a, omega (arith, further), λ e. further)
 
 -- what is known of a token
 pub modest_at : (p : Profile) (text : List ℕ) (at stop : ℕ) (c : Class) → AreBytes text → IsTokenAt p text at stop c → IsModest c
-modest_at p text at stop c are tok = (between_modest p text at stop (token_at at stop c ∷ []) are (through p tok)).0
+modest_at p text at stop c are tok = (between_modest p text at stop (token_at at stop c ∷ []) are tok).0
 
 module _ {h : Holds} {p : Profile} {limit : ℕ} {text : List ℕ} {here : Here} {w : Writer} (r : IsReadTo h p limit text here w) where
   -- LAW: on with white space and comments
   pub skipped : (stop : ℕ) → TokensBetween p text here.at stop [] → IsReadTo h p limit text (record here { at = stop }) w × (here.at ≤ stop)
   skipped stop white =
-      let within = inside p text here.at stop [] r.inside (through p white) in
-      (record { utf8 = r.utf8; small = r.small; inside = within.1; state = r.state; reached = skips p limit text here.at r.state r.reached stop (through p white); shows = read_at here w w.pieces.items r.state stop r.shows }, within.0)
+      let within = inside p text here.at stop [] r.inside white in
+      (record { utf8 = r.utf8; small = r.small; inside = within.1; state = r.state; reached = skips p limit text here.at r.state r.reached stop white; shows = read_at here w w.pieces.items r.state stop r.shows }, within.0)
 
   pub skipped_to : (next : Here) → next ≡ record here { at = next.at } → TokensBetween p text here.at next.at [] → IsReadTo h p limit text next w × (here.at ≤ next.at)
   skipped_to next e white = let s = skipped next.at white in (subst (λ (x : Here). IsReadTo h p limit text x w) (sym e) s.0, s.1)
@@ -65,9 +73,6 @@ module _ {h : Holds} {p : Profile} {limit : ℕ} {text : List ℕ} {here : Here}
 
   token_found : {x : List ℕ} → x ≡ text → (c : Class) (stop : ℕ) → ((q : Profile) → IsTokenAt q x here.at stop c) → IsTokenAt p text here.at stop c
   token_found same c stop found = subst (λ (y : List ℕ). IsTokenAt p y here.at stop c) same (found p)
-
-  pub beyond_found : {x : List ℕ} → x ≡ text → (c : Class) (stop : ℕ) → ((q : Profile) → IsTokenAt q x here.at stop c) → here.at < stop
-  beyond_found same c stop found = beyond p text here.at stop c (token_found same c stop found)
 
   pub modest_found : {x : List ℕ} → x ≡ text → (c : Class) (stop : ℕ) → ((q : Profile) → IsTokenAt q x here.at stop c) → IsModest c
   modest_found same c stop found = modest_at p text here.at stop c (utf8_bytes text r.utf8) (token_found same c stop found)
@@ -106,9 +111,9 @@ module _ {h : Holds} {p : Profile} {limit : ℕ} {text : List ℕ} {here : Here}
     -- LAW: on with a token
     taken : (u : State) → step_by r.state c (span_at here.at stop) ≡ Some u → Reads k next left left.pieces.items u → forbids p (comma_at r.state c) ≡ false → reach (open_levels r.state) c ≤ limit → IsReadTo k p limit text (record next { at = stop }) left × (here.at < stop)
     taken u is e free low =
-        let between : Between p text here.at stop (token_at here.at stop c ∷ []) = through p (token_found same c stop found) in
+        let between : TokensBetween p text here.at stop (token_at here.at stop c ∷ []) = (token_found same c stop found) in
         let modest : AreModest (token_at here.at stop c ∷ []) = (modest_found same c stop found, tt) in
-        (record { utf8 = r.utf8; small = r.small; inside = (inside p text here.at stop (token_at here.at stop c ∷ []) r.inside between).1; state = u; reached = goes_on p limit text here.at r.state r.reached stop (token_at here.at stop c) u between modest is free low; shows = read_at next left left.pieces.items u stop e }, beyond_found same c stop found)
+        (record { utf8 = r.utf8; small = r.small; inside = (inside p text here.at stop (token_at here.at stop c ∷ []) r.inside between).1; state = u; reached = goes_on p limit text here.at r.state r.reached stop (token_at here.at stop c) u between modest is free low; shows = read_at next left left.pieces.items u stop e }, (beyond p text here.at stop c (token_found same c stop found)))
 
     -- from the state that is shown
     pub taken_from : (s u : State) → s ≡ r.state → step_by s c (span_at here.at stop) ≡ Some u → Reads k next left left.pieces.items u → forbids p (comma_at s c) ≡ false → reach (open_levels s) c ≤ limit → IsReadTo k p limit text (record next { at = stop }) left × (here.at < stop)
@@ -158,18 +163,18 @@ module _ {h : Holds} {p : Profile} {limit : ℕ} {text : List ℕ} {here : Here}
       let t = subst (λ (z : List ℕ). IsTextAt p z here.at stop x) same found in
       let ps = piece (piece_text (span_at here.at t.stop) x Absent) in
       let token = token_at here.at t.stop (Text x Absent) in
-      let between : Between p text here.at t.stop (token ∷ []) = through p t.token in
+      let between : TokensBetween p text here.at t.stop (token ∷ []) = t.token in
       let modest : AreModest (token ∷ []) = (modest_at p text here.at t.stop (Text x Absent) (utf8_bytes text r.utf8) t.token, tt) in
       let before = subst (λ (v : State). Reached p limit text here.at v) (sym i.1) r.reached in
       let string_read = goes_on p limit text here.at (wants st) before t.stop token (builds (as_item st) ps) between modest refl (free_none p) (omega arith) in
       let first = inside p text here.at t.stop (token ∷ []) r.inside between in
-      let rest = inside p text t.stop stop [] first.1 (through p t.white_space) in (
+      let rest = inside p text t.stop stop [] first.1 t.white_space in (
         record {
           utf8 = r.utf8;
           small = r.small;
           inside = rest.1;
           state = has st (string ps);
-          reached = settled p limit text stop st ps t.ends (skips p limit text t.stop (builds (as_item st) ps) string_read stop (through p t.white_space));
+          reached = settled p limit text stop st ps t.ends (skips p limit text t.stop (builds (as_item st) ps) string_read stop t.white_space);
           shows = read_at next left left.pieces.items (has st (string ps)) stop (reads st (t.utf8 r.utf8) (shown_as (wants st) i.1));
         },
         omega (arith, beyond p text here.at t.stop (Text x Absent) t.token, rest.0),

@@ -6,7 +6,7 @@ use Rattle.cborn_edn.specs.declared.states.Phase.TheVariants as phases
 use Rattle.cborn_edn.specs.devices.Kept.{chunks_of}
 use Rattle.cborn_edn.proofs.HandedOver.Handing.{stays}
 use Rattle.cborn_edn.proofs.Reader.Showing.{standing}
-use Rattle.cborn_edn.proofs.HandedOver.Silent.{handed_comma, handed_pairs_comma, handed_colon, handed_close_simple, embed_opened}
+use Rattle.cborn_edn.proofs.HandedOver.Silent.{handed_comma, handed_pairs_comma, handed_close_simple, handed_same, around_string}
 
 -- what is taken of the class is taken of an equal one
 pub taken_as : (h : Holds) (ok : Bool) (s : State) (c k : Class) (a : Span) (next : Here) (left : Writer) → c ≡ k → Taken h ok s k a next left → Taken h ok s c a next left
@@ -45,7 +45,7 @@ none_led : {A : Type 0} (u : State) → None ≡ Some u → A
 none_led u is = absurd (let bad : None ≡ Some u = is in cc)
 
 pub colon_handed : (h : Holds) (st : Stack) (i : Item) (a : Span) → StaysHanded h (has st i) Colon a
-colon_handed h (in_key st s m b) i a ps u is t = led h ps (wants (in_value st s m b i a)) u is (stays h ps (has (in_key st s m b) i) (wants (in_value st s m b i a)) (states_around st) (λ k. handed_colon k st s m b i a) t)
+colon_handed h (in_key st s m b) i a ps u is t = led h ps (wants (in_value st s m b i a)) u is (stays h ps (has (in_key st s m b) i) (wants (in_value st s m b i a)) (states_around st) (λ k. (handed_same k (has (in_key st s m b) i) (wants (in_value st s m b i a)) refl (λ q. q))) t)
 colon_handed h (in_row at_top b) i a ps u is t = none_led u is
 colon_handed h _ i a ps u is t = none_led u is
 
@@ -71,7 +71,7 @@ content_spelled h ps home o s (tight (row b i)) t = spelled_in h ps (has (in_row
 pub embed_taken : (h : Holds) (p : Speller) (was left : Writer) (here next : Here) (home : Home) (o : Option Pieces) (a : Span) → left.spellers ≡ p ∷ was.spellers → IsWritten p (top []) no_part → Reads h here was was.pieces.items (at_home home o) → Shows next left left.pieces.items (wants (in_row (in_embed home o a) no_item)) → Reads h next left left.pieces.items (wants (in_row (in_embed home o a) no_item))
 embed_taken h p was left here next home o a e new r shows = record {
   shows = shows;
-  handed = subst (λ ps. AllHanded h ps (wants (in_row (in_embed home o a) no_item) ∷ states_around (in_row (in_embed home o a) no_item))) (sym e) (embed_opened h p was.spellers home o a new r.handed);
+  handed = subst (λ ps. AllHanded h ps (wants (in_row (in_embed home o a) no_item) ∷ states_around (in_row (in_embed home o a) no_item))) (sym e) (((λ q. (new, tt)), subst (λ (ss : List State). AllHanded h was.spellers (at_home home o ∷ ss)) (around_string home o) r.handed));
 }
 
 -- the visitor holds what it held

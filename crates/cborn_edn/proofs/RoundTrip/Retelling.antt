@@ -1,14 +1,11 @@
 -- Tokens of the fixed notation of nodes, wherever they stand, say these nodes, places aside.
-use Rattle.cborn_edn.proofs.Common.{◌≡◌, refl, sym, ap, ap₂, ◌∙◌, subst, ℕ, zero, suc, ◌^◌, ◌≤◌, List, [], ◌∷◌, ◌++◌, length, Bool, true, false, ◌&&◌, ltb, ◌==◌, cond, append_assoc, append-nil, arith, IsTrue, is_utf8-from_IsUtf8, lt-ltb, Width, Direct, One, Two, Four, Eight, Size, Fixed, Chunk, Tree, Uint, Nint, ByteChunks, TextChunks, Items, Tagged, Simple, Trees, more, Entries, no_entry, entry, count, count_entries, depth_all, depth_entries, holds, following, least, is_simple_value, WidthFits, SizeFits, ChunksFit, Fits, FitsAll, FitsEntries, Mark, Absent, Endless, Wide, Class, ArrayOpen, ArrayClose, MapOpen, MapClose, ParenClose, Comma, Colon, ChunkOpen, Number, TagOpen, Word, SimpleOpen, Text, Bytes, Token, Profile, IndicatorTooNarrow, IndicatorNotAllowed, MixedChunks, BadSimple, TagTooLarge, TextNotUtf8, MeaningError, StringKind, OfBytes, OfText, span, tokens_of, tokens_of_pieces, tokens_of_strings, tokens_of_content, tokens_of_fields, tokens_of_input, is_endless, width, size, unless, width_errors, size_errors, tag_errors, argument_of, is_small, integer, bignum, number_node, number_errors, simple_errors, is_good, is_absent, string_node, chunked_node, Str, is_nil, quoted, said_string, chunk, string_errors, chunk_errors, IsItem, IsPiece, text_piece, byte_piece, AreChunks, first, next, AreItems, last, before, IsContent, empty, ArePairs, last_pair, pair_before, IsFields, no_fields, IsText, nothing, unplaced_token, nowhere, one_piece, chunk_pieces, chunk_row, chunk_item, simple_item, notated, notated_content, notated_fields, notated_input, unplaced_chunks, unplaced, unplaced_all, unplaced_entries, mark_for, mark_for_size, AreTexts, IsShowable, EachShowable, ArePairsShowable, ByteNode, TextNode, Pairs as PairNode, no_node, Span, token, map as list_map}
-use Rattle.cborn_model.specs.declared.heads.Size.TheVariants.{Endless as EndlessMark}
+use Rattle.cborn_edn.proofs.Common.{◌≡◌, refl, sym, ap, ap₂, ◌∙◌, subst, ℕ, zero, suc, ◌^◌, ◌≤◌, List, [], ◌∷◌, ◌++◌, length, Bool, true, false, ◌&&◌, ltb, ◌==◌, cond, append_assoc, append-nil, arith, IsTrue, is_utf8-from_IsUtf8, lt-ltb, Width, Direct, One, Two, Four, Eight, Size, Fixed, Chunk, Tree, Uint, Nint, ByteChunks, TextChunks, Items, Tagged, Simple, Trees, more, Entries, no_entry, entry, count, count_entries, depth_all, depth_entries, holds, following, least, is_simple_value, WidthFits, SizeFits, ChunksFit, Fits, FitsAll, FitsEntries, Mark, Absent, Endless, Wide, Class, ArrayOpen, ArrayClose, MapOpen, MapClose, ParenClose, Comma, Colon, ChunkOpen, Number, TagOpen, Word, SimpleOpen, Text, Bytes, Token, Profile, IndicatorTooNarrow, IndicatorNotAllowed, MixedChunks, BadSimple, TagTooLarge, TextNotUtf8, MeaningError, StringKind, OfBytes, OfText, span, tokens_of, tokens_of_pieces, tokens_of_strings, tokens_of_content, tokens_of_fields, tokens_of_input, is_endless, width, size, unless, width_errors, size_errors, argument_of, is_small, integer, bignum, is_good, is_absent, string_node, chunked_node, Str, is_nil, quoted, said_string, chunk, string_errors, IsItem, IsPiece, text_piece, byte_piece, AreChunks, first, next, AreItems, last, before, IsContent, empty, ArePairs, last_pair, pair_before, IsFields, no_fields, IsText, nothing, unplaced_token, nowhere, one_piece, chunk_pieces, chunk_row, chunk_item, simple_item, notated, notated_content, notated_fields, notated_input, unplaced_chunks, unplaced, unplaced_all, unplaced_entries, mark_for, mark_for_size, AreTexts, IsShowable, EachShowable, ArePairsShowable, ByteNode, TextNode, Pairs as PairNode, no_node, Span, token, map as list_map, EndlessMark, simple_below, and_false}
 use Rattle.cborn_model.specs.Tree.{depth}
-use Rattle.cborn_model.proofs.Numbers.Simples.{simple_below}
 use Rattle.cborn_edn.specs.devices.Syntax as tree
 use Rattle.cborn_edn.specs.Grammar.{number, word, simple, tag, array, map, string, chunked, piece, tight, tight_fields, items}
 use Rattle.cborn_edn.proofs.Lexed.Joined.{more_tokens, more_pair_tokens, more_chunk_tokens, row_tokens, chunk_tokens, pair_tokens}
 use Rattle.cborn_edn.proofs.RoundTrip.Back.{below, count-unplaced, count-unplaced_entries}
 use Rattle.cborn_edn.proofs.Short.Rebuilt.{both_parts}
-use Rattle.cborn_lex.proofs.GoodBack.{and_false}
 use Rattle.cborn_edn.proofs.Reader.Built.{same_same}
 
 -- Tokens whose classes are known.
@@ -137,6 +134,10 @@ record Said {S : Type 0} (Is : List Token → S → List MeaningError → Type 0
   none : errors ≡ []
   same : aside says ≡ s
 
+-- what they say and its meaning errors are those of the relation
+stated : {S : Type 0} {Is : List Token → S → List MeaningError → Type 0} {aside : S → S} {x : List Token} {s : S} (says : S) (errors : List MeaningError) → Is x says errors → errors ≡ [] → aside says ≡ s → Said Is aside x s
+stated says errors said none same = record { says = says; errors = errors; said = said; none = none; same = same }
+
 said_at : {S : Type 0} {Is : List Token → S → List MeaningError → Type 0} {aside : S → S} {x y : List Token} {s : S} → x ≡ y → Said Is aside x s → Said Is aside y s
 said_at {S} {Is} {aside} {x} {y} {s} e h = subst (λ z. Said Is aside z s) e h
 
@@ -216,7 +217,7 @@ module _ {p : Profile} {d : ℕ} where
   -- the chunks after some
   more_chunks : (k : StringKind) (cs ds : List Chunk) (x y : List Token) → SaidChunks p d k x ds → list_map unplaced_token y ≡ more_chunk_tokens k cs → ChunksFit cs → AreGood k cs → SaidChunks p d k (x ++ y) (ds ++ unplaced_chunks cs)
   more_chunks k [] ds x y h e fits good =
-      said_at (sym (ap (λ w. x ++ w) (no_tokens y e) ∙ append-nil x)) (record { says = h.says; errors = h.errors; said = h.said; none = h.none; same = h.same ∙ sym (append-nil ds) })
+      said_at (sym (ap (λ w. x ++ w) (no_tokens y e) ∙ append-nil x)) (stated _ _ h.said h.none (h.same ∙ sym (append-nil ds)))
   more_chunks k (c ∷ cs) ds x y h e fits good =
       let b = first_token y Comma (tokens_of_pieces (chunk_pieces k c) ++ more_chunk_tokens k cs) e in
       let q = parted b.rest (tokens_of_pieces (chunk_pieces k c)) (more_chunk_tokens k cs) b.same in
@@ -224,13 +225,9 @@ module _ {p : Profile} {d : ℕ} where
       let m = mark_for c.width (length c.bytes) in
       let s = str_of k a.0 c.bytes m in
       let one : SaidChunks p d k (x ++ token b.at Comma ∷ q.front) (ds ++ made_chunk c.width c.bytes ∷ []) = said_at (ap (λ w. x ++ token b.at Comma ∷ w) a.1)
-      (record {
-        says = h.says ++ chunk s ∷ [];
-        errors = h.errors ++ ([] ++ chunk_errors k s);
-        said = next b.at h.said (piece (piece_at k a.0 c.bytes m));
-        none = both_parts h.none (both_parts (ap (λ t. unless t a.0.start MixedChunks) (same_same k)) (no_string_errors false k a.0 c.width c.bytes fits.0.0 good.0));
-        same = chunks-append h.says (chunk s ∷ []) ∙ ap₂ (λ (us : List Chunk) (w : Width). us ++ made_chunk w c.bytes ∷ []) h.same (marks c.width (length c.bytes)).wide;
-      }) in
+      (stated _ _ (next b.at h.said (piece (piece_at k a.0 c.bytes m)))
+      (both_parts h.none (both_parts (ap (λ t. unless t a.0.start MixedChunks) (same_same k)) (no_string_errors false k a.0 c.width c.bytes fits.0.0 good.0)))
+      (chunks-append h.says (chunk s ∷ []) ∙ ap₂ (λ (us : List Chunk) (w : Width). us ++ made_chunk w c.bytes ∷ []) h.same (marks c.width (length c.bytes)).wide)) in
       let r = more_chunks k cs (ds ++ made_chunk c.width c.bytes ∷ []) (x ++ token b.at Comma ∷ q.front) q.back one q.right fits.1 good.1 in
       said_at (append_assoc x (token b.at Comma ∷ q.front) q.back ∙ ap (λ w. x ++ w) (sym (b.is ∙ ap (λ w. token b.at Comma ∷ w) q.is))) (subst (λ us. SaidChunks p d k ((x ++ token b.at Comma ∷ q.front) ++ q.back) us) (append_assoc ds (made_chunk c.width c.bytes ∷ []) (unplaced_chunks cs)) r)
 
@@ -241,34 +238,28 @@ module _ {p : Profile} {d : ℕ} where
       let m = mark_for c.width (length c.bytes) in
       let s = str_of k a.0 c.bytes m in
       let one : SaidChunks p d k q.front (made_chunk c.width c.bytes ∷ []) = said_at a.1
-      (record {
-        says = chunk s ∷ [];
-        errors = [] ++ string_errors false s;
-        said = first (piece (piece_at k a.0 c.bytes m));
-        none = no_string_errors false k a.0 c.width c.bytes fits.0.0 good.0;
-        same = ap (λ w. made_chunk w c.bytes ∷ []) (marks c.width (length c.bytes)).wide;
-      }) in
+      (stated _ _ (first (piece (piece_at k a.0 c.bytes m))) (no_string_errors false k a.0 c.width c.bytes fits.0.0 good.0) (ap (λ w. made_chunk w c.bytes ∷ []) (marks c.width (length c.bytes)).wide)) in
       said_at (sym q.is) (more_chunks k cs (made_chunk c.width c.bytes ∷ []) q.front q.back one q.right fits.1 good.1)
 
   empty_said : (k : StringKind) (x : List Token) → list_map unplaced_token x ≡ tokens_of (chunk_item k []) → SaidItem p d x (chunked_node k 0 [])
-  empty_said OfBytes x e = let a = alone x (Bytes true [] Endless) e in said_at a.1 (record { says = ByteChunks a.0.start []; errors = []; said = string (piece (byte_piece a.0)); none = refl; same = refl })
+  empty_said OfBytes x e = let a = alone x (Bytes true [] Endless) e in said_at a.1 (stated _ _ (string (piece (byte_piece a.0))) refl refl)
   empty_said OfText x e =
       let a = alone x (Text [] Endless) e in
-      said_at a.1 (record { says = TextChunks a.0.start []; errors = _; said = string (piece (text_piece a.0)); none = ap (λ b. unless b a.0.start TextNotUtf8) (is_utf8-from_IsUtf8 [] ([], (refl, refl))); same = refl })
+      said_at a.1 (stated _ _ (string (piece (text_piece a.0))) (ap (λ b. unless b a.0.start TextNotUtf8) (is_utf8-from_IsUtf8 [] ([], (refl, refl)))) refl)
 
   chunked_said : (k : StringKind) (cs : List Chunk) (x : List Token) → list_map unplaced_token x ≡ tokens_of (chunk_item k cs) → ChunksFit cs → AreGood k cs → SaidItem p d x (chunked_node k 0 (unplaced_chunks cs))
   chunked_said k [] x e fits good = empty_said k x e
   chunked_said k (c ∷ cs) x e fits good =
       let o = enclosed x ChunkOpen ParenClose (tokens_of_strings (chunk_row k cs tree.no_string c)) e in
       let r = chunks_said k c cs o.inner (o.same ∙ chunk_tokens k cs tree.no_string c) fits good in
-      said_at o.is (record { says = chunked_node k o.at.start r.says; errors = r.errors; said = chunked o.at o.stop r.said; none = r.none; same = unplaced_chunked k o.at.start r.says ∙ ap (chunked_node k 0) r.same })
+      said_at o.is (stated _ _ (chunked o.at o.stop r.said) r.none (unplaced_chunked k o.at.start r.says ∙ ap (chunked_node k 0) r.same))
 
   string_said : (k : StringKind) (w : Width) (b : List ℕ) (x : List Token) → list_map unplaced_token x ≡ token nowhere (class_of k b (mark_for w (length b))) ∷ [] → WidthFits w (length b) → is_good k b ≡ true → SaidItem p d x (string_node k 0 w b)
   string_said k w b x e h good =
       let m = mark_for w (length b) in
       let a = alone x (class_of k b m) e in
       let s = str_of k a.0 b m in
-      said_at a.1 (record { says = said_string s; errors = [] ++ string_errors s.lone s; said = string (piece (piece_at k a.0 b m)); none = no_string_errors s.lone k a.0 w b h good; same = ap unplaced (string_is k a.0 w b) ∙ unplaced_string k a.0.start w b })
+      said_at a.1 (stated _ _ (string (piece (piece_at k a.0 b m))) (no_string_errors s.lone k a.0 w b h good) (ap unplaced (string_is k a.0 w b) ∙ unplaced_string k a.0.start w b))
 
   -- an integer of major type 0 or 1
   number_said : (n : Bool) (v : ℕ) (w : Width) (t : Tree) (x : List Token) → list_map unplaced_token x ≡ token nowhere (Number n v (mark_for w (argument_of n v))) ∷ [] → WidthFits w (argument_of n v) → ((q : ℕ) → unplaced (integer q n v w) ≡ t) → SaidItem p d x t
@@ -277,13 +268,9 @@ module _ {p : Profile} {d : ℕ} where
       let a = alone x (Number n v m) e in
       let q = a.0.start in
       let small : is_small n v ≡ true = lt-ltb (argument_of n v) (2 ^ 64) (below w (argument_of n v) h) in
-      said_at a.1 (record {
-        says = number_node q n v m;
-        errors = number_errors q n v m;
-        said = number a.0 (subst (λ b. cond b 0 1 ≤ d) (sym small) (omega arith));
-        none = ap (λ b. cond b (width_errors q m (argument_of n v)) (unless (is_absent m) q IndicatorNotAllowed)) small ∙ (marks w (argument_of n v)).fits q h;
-        same = ap (λ b. unplaced (cond b (integer q n v (width m (argument_of n v))) (bignum q n v))) small ∙ ap (λ u. unplaced (integer q n v u)) (marks w (argument_of n v)).wide ∙ f q;
-      })
+      said_at a.1 (stated _ _ (number a.0 (subst (λ b. cond b 0 1 ≤ d) (sym small) (omega arith)))
+      (ap (λ b. cond b (width_errors q m (argument_of n v)) (unless (is_absent m) q IndicatorNotAllowed)) small ∙ (marks w (argument_of n v)).fits q h)
+      (ap (λ b. unplaced (cond b (integer q n v (width m (argument_of n v))) (bignum q n v))) small ∙ ap (λ u. unplaced (integer q n v u)) (marks w (argument_of n v)).wide ∙ f q))
 
   simple_said : (n : ℕ) (x : List Token) → IsTrue (is_simple_value n) → list_map unplaced_token x ≡ tokens_of (simple_item n) → SaidItem p d x (Simple 0 n)
   simple_said n x h e = go (ltb n 20) (ltb n 24) e
@@ -294,17 +281,11 @@ module _ {p : Profile} {d : ℕ} where
           let a = alone o.inner (Number false n Absent) o.same in
           let few = simple_below n h in
           let small : is_small false n ≡ true = lt-ltb n (2 ^ 64) (omega arith) in
-          said_at (ap (λ w. token o.at SimpleOpen ∷ w ++ token o.stop ParenClose ∷ []) a.1 ∙ o.is) (record {
-            says = Simple o.at.start n;
-            errors = simple_errors o.at.start a.0.start false n Absent;
-            said = simple o.at a.0 o.stop (subst (λ b. cond b 0 1 ≤ d) (sym small) (omega arith));
-            none = ap (λ b. unless b o.at.start BadSimple ++ []) h;
-            same = refl;
-          })
+          said_at (ap (λ w. token o.at SimpleOpen ∷ w ++ token o.stop ParenClose ∷ []) a.1 ∙ o.is) (stated _ _ (simple o.at a.0 o.stop (subst (λ b. cond b 0 1 ≤ d) (sym small) (omega arith))) (ap (λ b. unless b o.at.start BadSimple ++ []) h) refl)
 
       go : (b c : Bool) → list_map unplaced_token x ≡ tokens_of (cond b (tree.simple nowhere nowhere false n Absent nowhere) (cond c (tree.word nowhere n) (tree.simple nowhere nowhere false n Absent nowhere))) → SaidItem p d x (Simple 0 n)
       go true c e = bracketed e
-      go false true e = let a = alone x (Word n) e in said_at a.1 (record { says = Simple a.0.start n; errors = []; said = word a.0; none = refl; same = refl })
+      go false true e = let a = alone x (Word n) e in said_at a.1 (stated _ _ (word a.0) refl refl)
       go false false e = bracketed e
 
 module _ {p : Profile} where
@@ -322,73 +303,55 @@ module _ {p : Profile} where
         let o = enclosed x (ArrayOpen m) ArrayClose (tokens_of_content (notated_content ts)) e in
         let r = content_said ts d o.inner h.1 show (omega (arith, low)) o.same in
         let n : count r.says ≡ count ts = sym (count-unplaced r.says) ∙ ap count r.same ∙ count-unplaced ts in
-        said_at o.is (record {
-          says = Items o.at.start (size m (count r.says)) r.says;
-          errors = r.errors ++ size_errors o.at.start m (count r.says);
-          said = array o.at o.stop r.said;
-          none = both_parts r.none (ap (size_errors o.at.start m) n ∙ no_size_errors o.at.start s (count ts) h.0);
-          same = ap₂ (Items 0) (ap (size m) n ∙ size_back s (count ts)) r.same;
-        })
+        said_at o.is (stated _ _ (array o.at o.stop r.said) (both_parts r.none (ap (size_errors o.at.start m) n ∙ no_size_errors o.at.start s (count ts) h.0)) (ap₂ (Items 0) (ap (size m) n ∙ size_back s (count ts)) r.same))
     item_said (PairNode q s es) zero x h show low e = absurd (omega (arith, low))
     item_said (PairNode q s es) (suc d) x h show low e =
         let m = mark_for_size s (count_entries es) in
         let o = enclosed x (MapOpen m) MapClose (tokens_of_fields (notated_fields es)) e in
         let r = fields_said es d o.inner h.1 show (omega (arith, low)) o.same in
         let n : count_entries r.says ≡ count_entries es = sym (count-unplaced_entries r.says) ∙ ap count_entries r.same ∙ count-unplaced_entries es in
-        said_at o.is (record {
-          says = PairNode o.at.start (size m (count_entries r.says)) r.says;
-          errors = r.errors ++ size_errors o.at.start m (count_entries r.says);
-          said = map o.at o.stop r.said;
-          none = both_parts r.none (ap (size_errors o.at.start m) n ∙ no_size_errors o.at.start s (count_entries es) h.0);
-          same = ap₂ (PairNode 0) (ap (size m) n ∙ size_back s (count_entries es)) r.same;
-        })
+        said_at o.is (stated _ _ (map o.at o.stop r.said) (both_parts r.none (ap (size_errors o.at.start m) n ∙ no_size_errors o.at.start s (count_entries es) h.0)) (ap₂ (PairNode 0) (ap (size m) n ∙ size_back s (count_entries es)) r.same))
     item_said (Tagged q w n t) zero x h show low e = absurd (omega (arith, low))
     item_said (Tagged q w n t) (suc d) x h show low e =
         let m = mark_for w n in
         let o = enclosed x (TagOpen n m) ParenClose (tokens_of (notated t)) e in
         let r = item_said t d o.inner h.1 show (omega (arith, low)) o.same in
-        said_at o.is (record {
-          says = Tagged o.at.start (width m n) n r.says;
-          errors = tag_errors o.at.start m n ++ r.errors;
-          said = tag o.at o.stop r.said;
-          none = both_parts (ap (λ b. cond b (width_errors o.at.start m n) (unless false o.at.start TagTooLarge)) (lt-ltb n (2 ^ 64) (below w n h.0)) ∙ (marks w n).fits o.at.start h.0) r.none;
-          same = ap₂ (λ (v : Width) (u : Tree). Tagged 0 v n u) (marks w n).wide r.same;
-        })
+        said_at o.is (stated _ _ (tag o.at o.stop r.said) (both_parts (ap (λ b. cond b (width_errors o.at.start m n) (unless false o.at.start TagTooLarge)) (lt-ltb n (2 ^ 64) (below w n h.0)) ∙ (marks w n).fits o.at.start h.0) r.none) (ap₂ (λ (v : Width) (u : Tree). Tagged 0 v n u) (marks w n).wide r.same))
     item_said (Simple q n) d x h s low e = simple_said n x h e
 
     content_said : (ts : Trees) (d : ℕ) (x : List Token) → FitsAll ts → EachShowable ts → depth_all ts ≤ d → list_map unplaced_token x ≡ tokens_of_content (notated_content ts) → Said (IsContent p d) unplaced_all x (unplaced_all ts)
-    content_said no_node d x h s low e = said_at (sym (no_tokens x e)) (record { says = no_node; errors = []; said = empty; none = refl; same = refl })
+    content_said no_node d x h s low e = said_at (sym (no_tokens x e)) (stated _ _ empty refl refl)
     content_said (more t ts) d x h s low e =
         let q = parted x (tokens_of (notated t)) (more_tokens ts) (e ∙ row_tokens ts tree.no_item (notated t)) in
         let r = items_said ts d q.front q.back (unplaced t) (item_said t d q.front h.0 s.0 (omega (arith, low)) q.left) h.1 s.1 (omega (arith, low)) q.right in
-        said_at (sym q.is) (record { says = r.says; errors = r.errors; said = tight r.said; none = r.none; same = r.same })
+        said_at (sym q.is) (stated _ _ (tight r.said) r.none r.same)
 
     -- an item, and those after it
     items_said : (ts : Trees) (d : ℕ) (x y : List Token) (u : Tree) → SaidItem p d x u → FitsAll ts → EachShowable ts → depth_all ts ≤ d → list_map unplaced_token y ≡ more_tokens ts → Said (AreItems p d) unplaced_all (x ++ y) (more u (unplaced_all ts))
     items_said no_node d x y u f h s low e =
-        said_at (sym (ap (λ w. x ++ w) (no_tokens y e) ∙ append-nil x)) (record { says = more f.says no_node; errors = f.errors; said = last f.said; none = f.none; same = ap (λ v. more v no_node) f.same })
+        said_at (sym (ap (λ w. x ++ w) (no_tokens y e) ∙ append-nil x)) (stated _ _ (last f.said) f.none (ap (λ v. more v no_node) f.same))
     items_said (more t ts) d x y u f h s low e =
         let b = first_token y Comma (tokens_of (notated t) ++ more_tokens ts) e in
         let q = parted b.rest (tokens_of (notated t)) (more_tokens ts) b.same in
         let r = items_said ts d q.front q.back (unplaced t) (item_said t d q.front h.0 s.0 (omega (arith, low)) q.left) h.1 s.1 (omega (arith, low)) q.right in
         said_at (ap (λ w. x ++ w) (sym (b.is ∙ ap (λ w. token b.at Comma ∷ w) q.is)))
-        (record { says = more f.says r.says; errors = f.errors ++ r.errors; said = before b.at f.said r.said; none = both_parts f.none r.none; same = ap₂ more f.same r.same })
+        (stated _ _ (before b.at f.said r.said) (both_parts f.none r.none) (ap₂ more f.same r.same))
 
     fields_said : (es : Entries) (d : ℕ) (x : List Token) → FitsEntries es → ArePairsShowable es → depth_entries es ≤ d → list_map unplaced_token x ≡ tokens_of_fields (notated_fields es) → Said (IsFields p d) unplaced_entries x (unplaced_entries es)
-    fields_said no_entry d x h s low e = said_at (sym (no_tokens x e)) (record { says = no_entry; errors = []; said = no_fields; none = refl; same = refl })
+    fields_said no_entry d x h s low e = said_at (sym (no_tokens x e)) (stated _ _ no_fields refl refl)
     fields_said (entry k v es) d x h s low e =
         let q = paired x (tokens_of (notated k)) (tokens_of (notated v)) (more_pair_tokens es) (e ∙ pair_tokens es tree.no_pair (notated k) (notated v)) in
         let f = item_said k d q.key h.0 s.0 (omega (arith, low)) q.left in
         let g = item_said v d q.value h.1 s.1 (omega (arith, low)) q.mid in
         let r = pairs_said es d q.key q.value q.rest q.colon (unplaced k) (unplaced v) f g h.2 s.2 (omega (arith, low)) q.right in
-        said_at (sym q.is) (record { says = r.says; errors = r.errors; said = tight_fields r.said; none = r.none; same = r.same })
+        said_at (sym q.is) (stated _ _ (tight_fields r.said) r.none r.same)
 
     -- a pair, and those after it
     pairs_said : (es : Entries) (d : ℕ) (x y z : List Token) (a : Span) (t u : Tree) → SaidItem p d x t → SaidItem p d y u → FitsEntries es → ArePairsShowable es → depth_entries es ≤ d → list_map unplaced_token z ≡ more_pair_tokens es
         → Said (ArePairs p d) unplaced_entries (x ++ token a Colon ∷ (y ++ z)) (entry t u (unplaced_entries es))
     pairs_said no_entry d x y z a t u f g h s low e =
         said_at (ap (λ w. x ++ token a Colon ∷ w) (sym (ap (λ w. y ++ w) (no_tokens z e) ∙ append-nil y)))
-        (record { says = entry f.says g.says no_entry; errors = f.errors ++ g.errors; said = last_pair a f.said g.said; none = both_parts f.none g.none; same = ap₂ (λ (i j : Tree). entry i j no_entry) f.same g.same })
+        (stated _ _ (last_pair a f.said g.said) (both_parts f.none g.none) (ap₂ (λ (i j : Tree). entry i j no_entry) f.same g.same))
     pairs_said (entry k v es) d x y z a t u f g h s low e =
         let b = first_token z Comma (tokens_of (notated k) ++ (token nowhere Colon ∷ (tokens_of (notated v) ++ more_pair_tokens es))) e in
         let q = paired b.rest (tokens_of (notated k)) (tokens_of (notated v)) (more_pair_tokens es) b.same in
@@ -396,7 +359,7 @@ module _ {p : Profile} where
         let j = item_said v d q.value h.1 s.1 (omega (arith, low)) q.mid in
         let r = pairs_said es d q.key q.value q.rest q.colon (unplaced k) (unplaced v) i j h.2 s.2 (omega (arith, low)) q.right in
         said_at (ap (λ w. x ++ token a Colon ∷ (y ++ w)) (sym (b.is ∙ ap (λ w. token b.at Comma ∷ w) q.is)))
-        (record { says = entry f.says g.says r.says; errors = f.errors ++ (g.errors ++ r.errors); said = pair_before a b.at f.said g.said r.said; none = both_parts f.none (both_parts g.none r.none); same = ap₂ (λ (l : Tree × Tree) (es : Entries). entry l.0 l.1 es) (ap₂ (λ (l m : Tree). (l, m)) f.same g.same) r.same })
+        (stated _ _ (pair_before a b.at f.said g.said r.said) (both_parts f.none (both_parts g.none r.none)) (ap₂ (λ (l : Tree × Tree) (es : Entries). entry l.0 l.1 es) (ap₂ (λ (l m : Tree). (l, m)) f.same g.same) r.same))
 
 -- LAW: tokens of the fixed notation say the nodes, places aside
 pub reads_same : (p : Profile) (limit : ℕ) (nodes : Trees) (x : List Token) → FitsAll nodes → EachShowable nodes → depth_all nodes ≤ limit → list_map unplaced_token x ≡ tokens_of_input (notated_input nodes) → (says : Trees) × IsText p limit x says [] × (unplaced_all says ≡ unplaced_all nodes)

@@ -1,19 +1,15 @@
 -- What is known of the trees holds of the relation: a text notates one list of nodes, the same within larger limits and in profile 2, and is then not refused; what was shown reads back.
-use Rattle.cborn_edn.proofs.Common.{◌≡◌, refl, sym, ap, ◌∙◌, subst, ℕ, ◌^◌, ◌<◌, ◌≤◌, List, [], length, Option, Some, None, ◌⊎◌, inl, inr, arith, IsUtf8, AreBytes, Trees, depth_all, FitsAll, spelled_all, Token, Profile, HasTokens, Lex, Stop, EdnReason, MeaningError, first_error, depth_of_input, Parse, unplaced_all, Shown, IsText, Notates, HasSyntaxError, HasMeaningError, nodes_of_input, faults_of_input, Parsed, ProfileOne, ProfileTwo}
-use Rattle.cborn_lex.specs.Bad.{FailsAt}
+use Rattle.cborn_edn.proofs.Common.{HasTree, IsSyntaxError, ◌≡◌, refl, sym, ap, ◌∙◌, subst, ℕ, ◌^◌, ◌<◌, ◌≤◌, List, [], length, Option, Some, None, ◌⊎◌, inl, inr, arith, IsUtf8, AreBytes, Trees, depth_all, FitsAll, spelled_all, Token, Profile, HasTokens, FailsAt, EdnReason, MeaningError, first_error, depth_of_input, Parse, unplaced_all, Shown, IsText, Notates, HasSyntaxError, HasMeaningError, nodes_of_input, faults_of_input, Parsed, ProfileOne, ProfileTwo, one_list, both_profiles as both_lexed, not_both as not_stopped, some_answer, as_test, text_light}
 use Rattle.cborn_lex.specs.declared.faults.LexReason.{LexReason}
-use Rattle.cborn_lex.proofs.WholeTexts.Chains.{one_list, both_profiles as both_lexed, not_both as not_stopped, some_answer}
-use Rattle.cborn_lex.proofs.WholeTexts.Weights.{as_test, text_light}
-use Rattle.cborn_lex.proofs.GoodTexts.{has_tokens, lexed as lex_of, failed, stopped}
-use Rattle.cborn_edn.specs.devices.Parse as tree
-use Rattle.cborn_edn.proofs.Grammar.OneTree.{one_tree, both_profiles, not_both, answered}
+use Rattle.cborn_edn.proofs.Grammar.OneTree.{one_tree, both_profiles, not_both}
+use Rattle.cborn_edn.proofs.Grammar.Parser.{answered}
 use Rattle.cborn_edn.proofs.Meaning.Earliest.{nothing_among, Tells, tells}
 use Rattle.cborn_edn.proofs.Meaning.Sound.{SoundAll, text_sound}
 use Rattle.cborn_edn.proofs.RoundTrip.ReadBack.{shown_tokens}
 use Rattle.cborn_edn.proofs.RoundTrip.Retelling.{reads_same}
 use Rattle.cborn_edn.proofs.RoundTrip.Unplaced.{same_bytes}
 use Rattle.cborn_edn.proofs.Shown.Readable.{lines_show}
-use Rattle.cborn_edn.proofs.Short.SyntaxErrors.{text_of, parsed, said_by, tree_had, syntax_error, tree_syntax_error}
+use Rattle.cborn_edn.proofs.Short.SyntaxErrors.{parsed, said_by}
 
 -- two texts of the relation with the same tokens have one tree
 same_parse : (p q : Profile) (limit most : ℕ) (x y : List Token) (ts us : Trees) (l m : List MeaningError) → x ≡ y → (a : Parsed p limit x ts l) → (b : Parsed q most y us m) → a.tree ≡ b.tree
@@ -23,7 +19,7 @@ pub one_notation : (profile : Profile) (limit most : ℕ) (text : List ℕ) (us 
 one_notation p limit most text us vs (x, lex, h) (y, lexed, k) =
     let a = parsed p limit x us [] h in
     let b = parsed p most y vs [] k in
-    sym a.says ∙ ap nodes_of_input (same_parse p p limit most x y us vs [] [] (one_list p text x y (lex_of p text x lex) (lex_of p text y lexed)) a b) ∙ b.says
+    sym a.says ∙ ap nodes_of_input (same_parse p p limit most x y us vs [] [] (one_list p text x y lex lexed) a b) ∙ b.says
 
 -- LAW: tokens are a text in one way
 pub one_text : (p q : Profile) (limit most : ℕ) (x : List Token) (ts us : Trees) (l m : List MeaningError) → IsText p limit x ts l → IsText q most x us m → (ts ≡ us) × (l ≡ m)
@@ -45,14 +41,14 @@ pub both_texts : (limit : ℕ) (x : List Token) (ts : Trees) (l : List MeaningEr
 both_texts limit x ts l h = let a = parsed ProfileOne limit x ts l h in again ProfileOne ProfileTwo limit limit x ts l a (both_profiles x a.tree a.parse) a.shallow
 
 pub both_notate : (limit : ℕ) (text : List ℕ) (nodes : Trees) → Notates ProfileOne limit text nodes → Notates ProfileTwo limit text nodes
-both_notate limit text nodes (x, lex, h) = let a = parsed ProfileOne limit x nodes [] h in (x, has_tokens ProfileTwo text x (both_lexed text x (lex_of ProfileOne text x lex)), again ProfileOne ProfileTwo limit limit x nodes [] a (both_profiles x a.tree a.parse) a.shallow)
+both_notate limit text nodes (x, lex, h) = let a = parsed ProfileOne limit x nodes [] h in (x, (both_lexed text x lex), again ProfileOne ProfileTwo limit limit x nodes [] a (both_profiles x a.tree a.parse) a.shallow)
 
 -- LAW: what was shown reads back
 pub shown_back : (profile : Profile) (limit : ℕ) (nodes : Trees) (text : List ℕ) → FitsAll nodes → Shown nodes text → depth_all nodes ≤ limit → (says : Trees) × Notates profile limit text says × (unplaced_all says ≡ unplaced_all nodes) × (spelled_all says ≡ spelled_all nodes)
 shown_back p limit nodes text fits shown low =
     let r = shown_tokens p nodes text fits shown in
     let b = reads_same p limit nodes r.0 fits (lines_show nodes fits (subst IsUtf8 shown.1 shown.0)) low r.2 in
-    (b.0, (r.0, has_tokens p text r.0 r.1, b.1), b.2, same_bytes b.0 nodes b.2)
+    (b.0, (r.0, r.1, b.1), b.2, same_bytes b.0 nodes b.2)
 
 pub shown_only : (profile : Profile) (limit : ℕ) (nodes : Trees) (text : List ℕ) (says : Trees) → FitsAll nodes → Shown nodes text → Notates profile limit text says → (unplaced_all says ≡ unplaced_all nodes) × (spelled_all says ≡ spelled_all nodes)
 shown_only p limit nodes text says fits shown h =
@@ -62,29 +58,29 @@ shown_only p limit nodes text says fits shown h =
 
 -- LAW: the nodes of a text are within the limit, and fit their widths if they spell bytes that are few enough
 pub notated_sound : (profile : Profile) (limit : ℕ) (text : List ℕ) (nodes : Trees) → AreBytes text → (h : Notates profile limit text nodes) → SoundAll h.0 nodes limit
-notated_sound p limit text nodes are (x, taken, h) = text_sound h (text_light p text x are (lex_of p text x taken)).0
+notated_sound p limit text nodes are (x, taken, h) = text_sound h (text_light p text x are taken).0
 
 -- LAW: the nodes of a short text fit their widths and are within the limit
 pub notated_fits : (profile : Profile) (limit : ℕ) (text : List ℕ) (nodes : Trees) → AreBytes text → length text < 2 ^ 56 → Notates profile limit text nodes → FitsAll nodes × (depth_all nodes ≤ limit)
 notated_fits p limit text nodes are short (x, taken, h) =
-    let light = text_light p text x are (lex_of p text x taken) in
+    let light = text_light p text x are taken in
     let s = notated_sound p limit text nodes are (x, taken, h) in
     (s.fits (omega (arith, light.1, s.few)), s.low)
 
 -- LAW: a text that notates nodes isn't refused
 pub no_stop : (p : Profile) (limit : ℕ) (text : List ℕ) (nodes : Trees) → Notates p limit text nodes → (q : ℕ) (r : LexReason) → FailsAt p text q r → ⊥
-no_stop p limit text nodes (x, lex, h) q r s = not_stopped p text x q r (lex_of p text x lex) (stopped p text q r s)
+no_stop p limit text nodes (x, lex, h) q r s = not_stopped p text x q r lex s
 
 pub no_syntax_error : (p : Profile) (limit : ℕ) (text : List ℕ) (nodes : Trees) → Notates p limit text nodes → (q : ℕ) (r : EdnReason) → HasSyntaxError p limit text q r → ⊥
 no_syntax_error p limit text nodes (x, lex, h) q r (y, lexed, j) =
-    let same : y ≡ x = one_list p text y x (lex_of p text y lexed) (lex_of p text x lex) in
-    not_both p limit (length text) x q r (tree_had p limit x (nodes, [], h)) (subst (λ (ts : List Token). tree.IsSyntaxError p limit (length text) ts q r) same (tree_syntax_error p limit (length text) y q r j))
+    let same : y ≡ x = one_list p text y x lexed lex in
+    not_both p limit (length text) x q r (nodes, [], h) (subst (λ (ts : List Token). IsSyntaxError p limit (length text) ts q r) same j)
 
 pub no_error : (p : Profile) (limit most : ℕ) (text : List ℕ) (nodes : Trees) → Notates p limit text nodes → (q : ℕ) (r : EdnReason) → HasMeaningError p most text q r → ⊥
 no_error p limit most text nodes (x, lex, h) q r (y, ts, l, lexed, k, f) =
     let a = parsed p limit x nodes [] h in
     let b = parsed p most y ts l k in
-    let same = same_parse p p most limit y x ts nodes l [] (one_list p text y x (lex_of p text y lexed) (lex_of p text x lex)) b a in
+    let same = same_parse p p most limit y x ts nodes l [] (one_list p text y x lexed lex) b a in
     nothing_among l q r (sym b.errors ∙ ap faults_of_input same ∙ a.errors) f.is
 
 abbrev pub Answered : Profile → ℕ → List ℕ → Type 0
@@ -98,13 +94,13 @@ module _ (p : Profile) (limit : ℕ) (text : List ℕ) where
       go None e = inl (ts, (x, taken, subst (IsText p limit x ts) e h))
       go (Some s) f = inr (inr (s.place, s.reason, inr (x, ts, l, taken, h, f)))
 
-  of_tokens : (x : List Token) → HasTokens p text x → tree.HasTree p limit x ⊎ ((q : ℕ) × (r : EdnReason) × tree.IsSyntaxError p limit (length text) x q r) → Answered p limit text
-  of_tokens x taken (inl (t, h, low)) = judged x taken (nodes_of_input t) (faults_of_input t) (text_of p limit x t h low)
-  of_tokens x taken (inr (q, r, e)) = inr (inr (q, r, inl (x, taken, syntax_error p limit (length text) x q r e)))
+  of_tokens : (x : List Token) → HasTokens p text x → HasTree p limit x ⊎ ((q : ℕ) × (r : EdnReason) × IsSyntaxError p limit (length text) x q r) → Answered p limit text
+  of_tokens x taken (inl (ts, l, h)) = judged x taken ts l h
+  of_tokens x taken (inr (q, r, e)) = inr (inr (q, r, inl (x, taken, e)))
 
-  of_text : ((x : List Token) × Lex p text x) ⊎ ((q : ℕ) × (r : LexReason) × Stop p text q r) → Answered p limit text
-  of_text (inl (x, lex)) = of_tokens x (has_tokens p text x lex) (answered p limit (length text) x)
-  of_text (inr (q, r, stop)) = inr (inl (q, r, failed p text q r stop))
+  of_text : ((x : List Token) × HasTokens p text x) ⊎ ((q : ℕ) × (r : LexReason) × FailsAt p text q r) → Answered p limit text
+  of_text (inl (x, lex)) = of_tokens x lex (answered p limit (length text) x)
+  of_text (inr (q, r, stop)) = inr (inl (q, r, stop))
 
   -- LAW: a text has an answer
   pub some_text : AreBytes text → Answered p limit text

@@ -120,14 +120,7 @@ module _ (p : Profile) where
         }
     rebuilt (string ps) =
         let r = rebuilt_pieces ps in
-        record {
-          found = tree.string r.found;
-          tokens = r.tokens;
-          shallow = r.shallow;
-          allowed = r.allowed;
-          says = ap said_string r.says;
-          errors = both_parts r.errors (ap (λ (s : Str). string_errors s.lone s) r.says);
-        }
+        record { found = tree.string r.found; tokens = r.tokens; shallow = r.shallow; allowed = r.allowed; says = ap said_string r.says; errors = both_parts r.errors (ap (λ (s : Str). string_errors s.lone s) r.says) }
     rebuilt (chunked a e cs) =
         let r = rebuilt_chunks cs in
         record {
@@ -224,14 +217,7 @@ module _ (p : Profile) where
         record { found = tree.tight r.found; tokens = r.tokens; shallow = r.shallow; allowed = r.allowed; says = r.says; errors = r.errors }
     rebuilt_content (loose a e is) =
         let r = rebuilt_items is tree.no_item (omega arith) (none_allowed p) in
-        record {
-          found = tree.loose (tree.after_row r.found a);
-          tokens = ap (λ z. z ++ token a Comma ∷ []) r.tokens;
-          shallow = r.shallow;
-          allowed = any_allowed p (commas_of_row r.found + 1) e;
-          says = r.says;
-          errors = r.errors;
-        }
+        record { found = tree.loose (tree.after_row r.found a); tokens = ap (λ z. z ++ token a Comma ∷ []) r.tokens; shallow = r.shallow; allowed = any_allowed p (commas_of_row r.found + 1) e; says = r.says; errors = r.errors }
 
     rebuilt_pairs : {d : ℕ} {x : List Token} {es : Entries} {l : List MeaningError} → ArePairs p d x es l → (b : PairsBefore) → depth_of_pairs_before b ≤ d → AllowsCount p (commas_of_pairs_before b)
         → FoundPairs p d (tokens_of_pairs_before b ++ x) (append_entries (entries_before b) es) (faults_before_pairs b ++ l)
@@ -271,14 +257,7 @@ module _ (p : Profile) where
         record { found = tree.tight_fields r.found; tokens = r.tokens; shallow = r.shallow; allowed = r.allowed; says = r.says; errors = r.errors }
     rebuilt_fields (loose_fields a e is) =
         let r = rebuilt_pairs is tree.no_pair (omega arith) (none_allowed p) in
-        record {
-          found = tree.loose_fields (tree.after_pairs r.found a);
-          tokens = ap (λ z. z ++ token a Comma ∷ []) r.tokens;
-          shallow = r.shallow;
-          allowed = any_allowed p (commas_of_pairs r.found + 1) e;
-          says = r.says;
-          errors = r.errors;
-        }
+        record { found = tree.loose_fields (tree.after_pairs r.found a); tokens = ap (λ z. z ++ token a Comma ∷ []) r.tokens; shallow = r.shallow; allowed = any_allowed p (commas_of_pairs r.found + 1) e; says = r.says; errors = r.errors }
 
   pub rebuilt_input : {d : ℕ} {x : List Token} {ts : Trees} {l : List MeaningError} → IsText p d x ts l → FoundInput p d x ts l
   rebuilt_input nothing = record { found = tree.nothing; tokens = refl; shallow = omega arith; allowed = none_allowed p; says = refl; errors = refl }

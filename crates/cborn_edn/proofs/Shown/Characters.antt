@@ -1,10 +1,7 @@
 -- The text of the fixed notation is UTF-8.
-use Rattle.cborn_edn.proofs.Common.{◌≡◌, refl, sym, ap, ◌∙◌, subst, ℕ, zero, suc, ◌+◌, ◌^◌, ◌<◌, ◌≤◌, List, [], ◌∷◌, ◌++◌, map, length, get_or, take, Bool, true, false, ◌&&◌, ltb, eqb, cond, inl, inr, decimal, append-nil, arith, and_parts, cond-false, le-ltb, ltb-true, ne_eqb, cases_lt, take_more, take_all, length-append, IsUtf8-append, IsUtf8-nil, IsUtf8-encode, IsUtf8-past_char, length-encode, len_utf8_bounds, IsUtf8-from_ascii, IsUtf8-from_is_utf8, is_utf8-from_IsUtf8, inside_one, encode_ascii, IsAscii-nil, IsAscii-cons, IsAscii-decimal_wide, flat_map-append, codes, encode_utf8, encode_utf8_all, list_all, flat_map, IsUtf8, IsAscii, is_utf8, all_scalars, IsScalar, encode_lower, lower_digits, Width, Direct, Chunk, Tree, Uint, Nint, ByteChunks, TextChunks, Items, Tagged, Simple, Trees, more, trees, Entries, no_entry, entry, count, count_entries, Fits, FitsAll, FitsEntries, Mark, Wide, StringKind, OfBytes, OfText, others, mark_for, mark_for_size, escaped, indicator, opened, shown_string, shown_chunk, joined_by, shown_chunks, shown_simple, shown, item_texts, pair_texts, shown_lines, Shown, AreTexts, IsShowable, EachShowable, ArePairsShowable, ByteNode, TextNode, Pairs as PairNode, no_node}
 use Rattle.hex.specs.Hex.{encode_with}
-use Rattle.hex.proofs.HexLemmas.{IsAscii-encode_with}
-use Rattle.cborn_model.proofs.Numbers.Simples.{simple_below}
+use Rattle.cborn_edn.proofs.Common.{same_head, ◌≡◌, refl, sym, ap, ◌∙◌, subst, ℕ, zero, suc, ◌+◌, ◌^◌, ◌<◌, ◌≤◌, List, [], ◌∷◌, ◌++◌, map, length, get_or, take, Bool, true, false, ◌&&◌, ltb, eqb, cond, inl, inr, decimal, append-nil, arith, and_parts, cond-false, le-ltb, ltb-true, ne_eqb, cases_lt, take_more, take_all, length-append, IsUtf8-append, IsUtf8-nil, IsUtf8-encode, IsUtf8-past_char, length-encode, len_utf8_bounds, IsUtf8-from_ascii, IsUtf8-from_is_utf8, is_utf8-from_IsUtf8, inside_one, encode_ascii, IsAscii-nil, IsAscii-cons, IsAscii-decimal_wide, flat_map-append, codes, encode_utf8, encode_utf8_all, list_all, flat_map, IsUtf8, IsAscii, is_utf8, all_scalars, IsScalar, lower_digits, Width, Direct, Chunk, Tree, Uint, Nint, ByteChunks, TextChunks, Items, Tagged, Simple, Trees, more, trees, Entries, no_entry, entry, count, count_entries, Fits, FitsAll, FitsEntries, Mark, Wide, StringKind, OfBytes, OfText, others, mark_for, mark_for_size, escaped, indicator, opened, shown_string, shown_chunk, joined_by, shown_chunks, shown_simple, shown, item_texts, pair_texts, shown_lines, Shown, AreTexts, IsShowable, EachShowable, ArePairsShowable, ByteNode, TextNode, Pairs as PairNode, no_node, IsAscii-encode_with, simple_below, passes, passes_at}
 use Rattle.cborn_edn.proofs.RoundTrip.Back.{below}
-use Rattle.cborn_lex.proofs.TwoParts.{passes, passes_at}
 
 -- Text with its escapes.
 
@@ -72,9 +69,6 @@ after_ascii [] x low h = h
 after_ascii (b ∷ a) x low h =
     let e = and_parts (ltb b 128) (is_low a) low in
     after_ascii a x e.1 (IsUtf8-past_char (b ∷ (a ++ x)) (a ++ x) b h (ap (λ l. l ++ (a ++ x)) (sym (encode_ascii b (ltb-true b 128 e.0)))))
-
-same_head : {a b : ℕ} {x y : List ℕ} → a ∷ x ≡ b ∷ y → (a ≡ b) × (x ≡ y)
-same_head e = (cc, cc)
 
 low_head : (a y : List ℕ) (c : ℕ) (z : List ℕ) → is_low a ≡ true → 0 < length a → a ++ y ≡ c ∷ z → c < 128
 low_head [] y c z low some e = absurd (omega arith)
@@ -144,16 +138,13 @@ opened_text m = ascii (opened m) (opened_low m)
 number_text : (n : ℕ) → n < 2 ^ 65 → IsUtf8 (decimal n)
 number_text n h = IsUtf8-from_ascii (decimal n) (IsAscii-decimal_wide n (omega arith))
 
-hex_text : (x : List ℕ) → IsUtf8 (encode_lower x)
-hex_text x = IsUtf8-from_ascii _ (IsAscii-encode_with lower_digits x (low_ascii lower_digits refl))
-
 -- a text is UTF-8 if its kind has to be
 abbrev IsSound : StringKind → List ℕ → Type 0
 IsSound OfBytes x = Unit {0}
 IsSound OfText x = is_utf8 x ≡ true
 
 string_text : (k : StringKind) (w : Width) (x : List ℕ) → IsSound k x → IsUtf8 (shown_string k w x)
-string_text OfBytes w x h = IsUtf8-append _ _ (ascii (codes "h'") refl) (IsUtf8-append _ _ (hex_text x) (IsUtf8-append _ _ (ascii (codes "'") refl) (indicator_text (mark_for w (length x)))))
+string_text OfBytes w x h = IsUtf8-append _ _ (ascii (codes "h'") refl) (IsUtf8-append _ _ (IsUtf8-from_ascii _ (IsAscii-encode_with lower_digits x (low_ascii lower_digits refl))) (IsUtf8-append _ _ (ascii (codes "'") refl) (indicator_text (mark_for w (length x)))))
 string_text OfText w x h = IsUtf8-append _ _ (ascii (codes "\"") refl) (IsUtf8-append _ _ (escaped_text x h) (IsUtf8-append _ _ (ascii (codes "\"") refl) (indicator_text (mark_for w (length x)))))
 
 abbrev AreSound : StringKind → List Chunk → Type 0

@@ -1,7 +1,5 @@
 -- The spots of what a text notates rise.
-use Rattle.cborn_edn.proofs.Common.{sym, subst, ℕ, ◌<◌, ◌≤◌, List, [], ◌∷◌, length, inl, inr, arith, AllByRecursion, Trees, Profile, Token, SpansRise, Notates, IsRising, spots_all}
-use Rattle.cborn_lex.proofs.GoodTexts.{lexed}
-use Rattle.cborn_lex.proofs.WholeTexts.Chains.{spans_rise}
+use Rattle.cborn_edn.proofs.Common.{sym, subst, ℕ, ◌<◌, ◌≤◌, List, [], ◌∷◌, length, inl, inr, arith, AllByRecursion, Trees, Profile, Token, SpansRise, Notates, IsRising, spots_all, spans_rise}
 use Rattle.cborn_edn.proofs.Started.Meant.{Among, text_among}
 
 abbrev AreFrom : ℕ → List ℕ → Type 0
@@ -34,4 +32,4 @@ rise n end xs (t ∷ ts) s (inr (ys, e, h)) =
 -- LAW: spots rise
 pub spots_rise : (profile : Profile) (limit : ℕ) (text : List ℕ) (nodes : Trees) → Notates profile limit text nodes → IsRising (spots_all nodes)
 spots_rise profile limit text nodes (tokens, taken, h) =
-    (rise 0 (length text) (spots_all nodes) tokens (spans_rise profile text tokens (lexed profile text tokens taken)) (text_among h)).1
+    (rise 0 (length text) (spots_all nodes) tokens (spans_rise profile text tokens taken) (text_among h)).1

@@ -1,12 +1,7 @@
 -- A device of the proofs: what a text has at an offset. No definition cites it.
 use Rattle.std.specs.Prelude.{◌≡◌, ℕ, ◌<◌, ◌≤◌, Bool, true, List, [], ◌∷◌, ◌==◌, codes, length, slice_index, ◌⊎◌}
-use Rattle.std.specs.List.{list_any}
-use Rattle.cborn_lex.specs.declared.classes.Profile.{Profile}
-use Rattle.std.specs.Str.{IsUtf8}
-use Rattle.cborn_lex.specs.declared.classes.Class.{Class}
+use Rattle.cborn_edn.specs.Common.{list_any, Profile, IsUtf8, Class, Absent, TokensBetween}
 use Rattle.cborn_lex.specs.declared.classes.Class.TheVariants.{Text}
-use Rattle.cborn_lex.specs.declared.classes.Mark.TheVariants.{Absent}
-use Rattle.cborn_lex.specs.Good.{TokensBetween}
 
 -- there is a token of this class from the offset n up to m
 abbrev pub IsTokenAt : Profile → List ℕ → ℕ → ℕ → Class → Type 0

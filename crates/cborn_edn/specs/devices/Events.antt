@@ -1,12 +1,7 @@
 -- A device of the proofs: what a visitor holds after each event. No definition cites it.
 use Rattle.std.specs.Prelude.{ℕ, ◌<◌, ◌^◌, List, [], ◌∷◌, length, Bool, None, IsTrue, if◌then◌else◌}
-use Rattle.cborn_model.specs.declared.heads.Width.TheVariants.{Direct}
-use Rattle.cborn_model.specs.Heads.{WidthFits, least, is_simple_value}
-use Rattle.cborn_model.specs.Tree.{Tree, Bytes, Tagged, Simple, trees}
-use Rattle.cborn_model.specs.Spelled.{FitsAll}
-use Rattle.cborn_model.specs.Partial.{Opening, an_array, a_map, a_tag, in_chunks, paired, Partial, top, inside, Part, no_part, put, built, integer_tree, string_tree, chunks_tree, IsFree, Ends, Proper, TakesString}
-use Rattle.cborn_edn.specs.declared.events.Event.{Event}
-use Rattle.cborn_edn.specs.declared.events.Event.TheVariants.{Integer, Bignum, Simple as SimpleValue, Array, Map, Tag, String, FirstChunk, NoChunks, Close}
+use Rattle.cborn_edn.specs.Common.{Direct, WidthFits, least, is_simple_value, Tree, Bytes, Tagged, Simple, trees, FitsAll, Opening, an_array, a_map, a_tag, in_chunks, paired, Partial, top, inside, Part, no_part, put, built, integer_tree, string_tree, chunks_tree, IsFree, Ends, Proper, TakesString, Event, Integer, Bignum, Map, String, FirstChunk, NoChunks, Close}
+use Rattle.cborn_edn.specs.declared.events.Event.TheVariants.{Simple as SimpleValue, Array, Tag}
 
 -- what a visitor holds
 abbrev pub Holds : Type 1

@@ -1,15 +1,9 @@
 -- A device of the proofs: what was handed over at a state of the machine of tokens. The visitor is handed what is outside of `<<..>>`. No definition cites it.
 use Rattle.std.specs.Prelude.{◌≡◌, ℕ, List, [], ◌∷◌, ◌++◌, map, ◌&&◌, Some, None, if◌then◌else◌}
-use Rattle.cborn_model.specs.declared.heads.Width.TheVariants.{Direct}
-use Rattle.cborn_model.specs.declared.heads.Size.{Size}
-use Rattle.cborn_model.specs.declared.heads.Size.TheVariants.{Fixed, Endless as EndlessSize}
-use Rattle.cborn_model.specs.Tree.{Tree, Simple, Entries, no_entry, entry}
-use Rattle.cborn_model.specs.Partial.{an_array, a_map, a_tag, in_chunks, Partial, top, inside, no_part, put}
+use Rattle.cborn_edn.specs.Common.{Direct, Size, Fixed, Endless as EndlessSize, Tree, Simple, Entries, no_entry, entry, an_array, a_map, a_tag, in_chunks, Partial, top, inside, no_part, put, Speller, Mark, Absent, Wide, Event, String, FirstChunk, NoChunks, Joint, Chunks, Here, Writer}
 use Rattle.cborn_model.specs.shared.Walks.{string_of}
 use Rattle.cborn_wire.specs.shared.Spelling.{IsWritten}
-use Rattle.cborn_wire.specs.declared.spellers.Speller.{Speller}
-use Rattle.cborn_lex.specs.declared.classes.Mark.{Mark}
-use Rattle.cborn_lex.specs.declared.classes.Mark.TheVariants.{Absent, Endless, Wide}
+use Rattle.cborn_lex.specs.declared.classes.Mark.TheVariants.{Endless}
 use Rattle.cborn_edn.specs.Says.{width, is_endless}
 use Rattle.cborn_edn.specs.devices.TreesCode.{listed_trees}
 use Rattle.cborn_edn.specs.devices.Syntax.{StringsBefore, no_string, after_strings}
@@ -19,12 +13,6 @@ use Rattle.cborn_edn.specs.devices.Noted.{noted}
 use Rattle.cborn_edn.specs.devices.Kept.{stack_in}
 use Rattle.cborn_edn.specs.devices.Shows.{Shows}
 use Rattle.cborn_edn.specs.devices.Events.{Holds, FitsSoFar, Comes, after, Follows}
-use Rattle.cborn_edn.specs.declared.events.Event.{Event}
-use Rattle.cborn_edn.specs.declared.events.Event.TheVariants.{String, FirstChunk, NoChunks}
-use Rattle.cborn_edn.specs.declared.states.Joint.{Joint}
-use Rattle.cborn_edn.specs.declared.states.Chunks.{Chunks}
-use Rattle.cborn_edn.specs.declared.states.Here.{Here}
-use Rattle.cborn_edn.specs.declared.states.Writer.{Writer}
 
 -- keys and values in turn
 abbrev pub listed_entries : Entries → List Tree

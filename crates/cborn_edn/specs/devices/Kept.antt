@@ -1,22 +1,12 @@
 -- A device of the proofs: what the reader keeps at a state of the machine of tokens. No definition cites it.
 use Rattle.std.specs.Prelude.{ℕ, List, [], ◌∷◌, ◌++◌, length, Option, Some, None, if◌then◌else◌}
-use Rattle.cborn_model.specs.Tree.{count, count_entries}
-use Rattle.cborn_model.specs.Spelled.{spelled_all}
-use Rattle.cborn_lex.specs.declared.classes.Mark.{Mark}
-use Rattle.cborn_lex.specs.declared.classes.Mark.TheVariants.{Absent}
-use Rattle.cborn_model.specs.declared.visitors.StringKind.{StringKind}
-use Rattle.cborn_edn.specs.devices.Machine.{first_error}
+use Rattle.cborn_edn.specs.Common.{count, count_entries, spelled_all, Mark, Absent, StringKind, Level, Phase, OpenBracket, Joint, Chunks}
+use Rattle.cborn_edn.specs.devices.Machine.{first_error, Stack, in_row, in_key, in_value, in_tag, Nest, at_top, in_array, in_embed, Home, as_item, as_chunk, State, wants, has, builds, wants_chunk, wants_number, has_number}
 use Rattle.cborn_edn.specs.Says.{Str, is_nil}
 use Rattle.cborn_edn.specs.devices.Syntax.{Piece, text, bytes, embedded, Pieces, piece, also, StringsBefore, no_string, after_strings, after_row, after_pairs}
-use Rattle.cborn_edn.specs.devices.Machine.{Stack, in_row, in_key, in_value, in_tag, Nest, at_top, in_array, in_embed, Home, as_item, as_chunk, State, wants, has, builds, wants_chunk, wants_number, has_number}
 use Rattle.cborn_edn.specs.devices.Said.{str, kind_in, nodes_before, nodes_in, entries_before, faults_in}
-use Rattle.cborn_edn.specs.declared.states.Level.{Level}
 use Rattle.cborn_edn.specs.declared.states.Level.TheVariants as levels
-use Rattle.cborn_edn.specs.declared.states.Phase.{Phase}
 use Rattle.cborn_edn.specs.declared.states.Phase.TheVariants as phases
-use Rattle.cborn_edn.specs.declared.states.OpenBracket.{OpenBracket}
-use Rattle.cborn_edn.specs.declared.states.Joint.{Joint}
-use Rattle.cborn_edn.specs.declared.states.Chunks.{Chunks}
 use Rattle.cborn_edn.specs.declared.states.Around.{Around}
 use Rattle.cborn_edn.specs.devices.Noted.{noted_home, pieces_noted}
 

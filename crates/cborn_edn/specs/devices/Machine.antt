@@ -1,18 +1,10 @@
 -- A device of the proofs: a machine that takes one token after another and builds a tree, and the parser that it is with tests of the profile and the limit. No definition cites it.
-use Rattle.std.specs.Prelude.{ℕ, zero, suc, nat_le, List, [], ◌∷◌, ◌++◌, Bool, true, false, cond, Option, Some, None}
-use Rattle.cborn_lex.specs.declared.classes.Profile.{Profile}
-use Rattle.cborn_lex.specs.declared.classes.Profile.TheVariants.{One as ProfileOne, Two as ProfileTwo}
-use Rattle.cborn_edn.specs.declared.faults.EdnReason.{EdnReason}
-use Rattle.cborn_edn.specs.declared.faults.EdnReason.TheVariants.{UnexpectedToken, UnexpectedEnd, TooDeep}
-pub use Rattle.cborn_edn.specs.devices.MeaningErrors.{first_error}
-pub use Rattle.cborn_edn.specs.devices.Lexical.{lexical}
-pub use Rattle.cborn_edn.specs.devices.Levels.{reach}
-use Rattle.cborn_lex.specs.declared.classes.Mark.{Mark}
-use Rattle.cborn_lex.specs.declared.classes.Class.{Class}
-use Rattle.cborn_lex.specs.declared.classes.Class.TheVariants.{ArrayOpen, MapOpen, EmbedClose, ArrayClose, MapClose, ParenClose, Comma, Colon, EmbedOpen, ChunkOpen, SimpleOpen, Number, TagOpen, Word, Text, Bytes}
-use Rattle.cborn_lex.specs.declared.classes.Token.{Token}
+use Rattle.std.specs.Prelude.{ℕ, zero, suc, ◌+◌, nat_le, List, [], ◌∷◌, ◌++◌, Bool, true, false, cond, Option, Some, None}
+use Rattle.cborn_edn.specs.Common.{Profile, One as ProfileOne, Two as ProfileTwo, EdnReason, UnexpectedToken, UnexpectedEnd, TooDeep, Mark, Class, ArrayOpen, MapOpen, EmbedClose, ArrayClose, MapClose, ParenClose, Comma, Colon, EmbedOpen, ChunkOpen, SimpleOpen, Number, TagOpen, Word, Token}
+pub use Rattle.cborn_edn.specs.devices.MeaningErrors.{first_error, lexical}
+use Rattle.cborn_lex.specs.declared.classes.Class.TheVariants.{Text, Bytes}
 use Rattle.cborn_edn.specs.devices.Commas.{last_comma, last_pair_comma}
-use Rattle.cborn_edn.specs.devices.Syntax.{Span, span, token, Input, nothing, items, tokens_of, tokens_of_pieces, tokens_of_strings_before, tokens_of_row_before, tokens_of_pairs_before, Item, number, word, tag, simple, string, chunked, array, map, Piece, text, bytes, embedded, Pieces, piece, also, strings, StringsBefore, no_string, after_strings, row, RowBefore, no_item, after_row, Content, loose, tight, pairs, PairsBefore, no_pair, after_pairs, loose_fields, tight_fields}
+use Rattle.cborn_edn.specs.devices.Syntax.{depth_of_number, Span, span, token, Input, nothing, items, tokens_of, tokens_of_pieces, tokens_of_strings_before, tokens_of_row_before, tokens_of_pairs_before, Item, number, word, tag, simple, string, chunked, array, map, Piece, text, bytes, embedded, Pieces, piece, also, strings, StringsBefore, no_string, after_strings, row, RowBefore, no_item, after_row, Content, loose, tight, pairs, PairsBefore, no_pair, after_pairs, loose_fields, tight_fields}
 
 mutual
   -- all that is open where an item is wanted: the innermost bracket, which has what is open around it
@@ -172,6 +164,15 @@ held (builds h ps) = held_home h ++ tokens_of_pieces ps
 held (wants_chunk st s b) = held_stack st ++ (token s ChunkOpen ∷ tokens_of_strings_before b)
 held (wants_number st s) = held_stack st ++ (token s SimpleOpen ∷ [])
 held (has_number st s b n v m) = held_stack st ++ (token s SimpleOpen ∷ token b (Number n v m) ∷ [])
+
+-- the nesting depth that a token needs inside k open brackets
+abbrev pub reach : ℕ → Class → ℕ
+reach k (ArrayOpen m) = suc k
+reach k (MapOpen m) = suc k
+reach k EmbedOpen = suc k
+reach k (TagOpen n m) = suc k
+reach k (Number n v m) = k + depth_of_number n v
+reach k _ = 0
 
 -- how many arrays, maps, tags and `<<` are open
 abbrev mutual

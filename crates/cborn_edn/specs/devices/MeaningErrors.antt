@@ -1,6 +1,7 @@
--- A device of the proofs: the first meaning error, and how the reader keeps it. No definition cites it.
+-- A device of the proofs: the first meaning error, how the reader keeps it, and what is reported of a lexical fault. No definition cites it.
 use Rattle.std.specs.Prelude.{◌≡◌, List, [], ◌∷◌, ◌++◌, ◌==◌, ◌&&◌, ◌||◌, Bool, true, false, nat_lt, nat_le, if◌then◌else◌, Option, Some, None}
-use Rattle.cborn_edn.specs.declared.meaning_errors.MeaningError.{MeaningError}
+use Rattle.cborn_edn.specs.Common.{MeaningError, LexFault, Refused as LexRefused, OutOfMemory as LexOutOfMemory, EdnFault, Lex}
+use Rattle.cborn_edn.specs.declared.faults.EdnFault.TheVariants.{OutOfMemory}
 use Rattle.cborn_edn.specs.Faults.{number_of}
 
 -- a has a lower place than b, or the same place and no higher number
@@ -25,3 +26,8 @@ Notes old new l = (before : List MeaningError) → old ≡ first_error before �
 abbrev pub is_none : Option MeaningError → Bool
 is_none None = true
 is_none (Some s) = false
+
+-- out of memory is one fault, whichever crate asked for the memory
+abbrev pub lexical : LexFault → EdnFault
+lexical (LexRefused p r) = Lex (LexRefused p r)
+lexical LexOutOfMemory = OutOfMemory

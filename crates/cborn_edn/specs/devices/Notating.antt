@@ -1,14 +1,6 @@
 -- A device of the proofs: the text of a partial sequence, as the visitor that writes notation has it. No definition cites it.
-use Rattle.std.specs.Prelude.{◌≡◌, ℕ, ◌+◌, ◌-◌, ◌^◌, ◌≤◌, List, [], ◌∷◌, ◌++◌, length, Option, Some, None, codes, decimal, min, if◌then◌else◌, Bool, true, false, ◌⊎◌}
-use Rattle.std.specs.List.{flat_map}
-use Rattle.hex.specs.Hex.{encode_lower}
-use Rattle.cborn_model.specs.declared.heads.Size.{Size}
-use Rattle.cborn_model.specs.declared.heads.Size.TheVariants.{Fixed, Endless}
-use Rattle.cborn_model.specs.declared.heads.Width.{Width}
-use Rattle.cborn_model.specs.declared.visitors.StringKind.{StringKind}
-use Rattle.cborn_model.specs.declared.visitors.StringKind.TheVariants.{OfBytes, OfText}
-use Rattle.cborn_model.specs.Tree.{Tree, trees}
-use Rattle.cborn_model.specs.Partial.{Partial, top, inside, Opening, an_array, a_map, a_tag, in_chunks, Part, no_part, part, ended_size}
+use Rattle.std.specs.Prelude.{◌≡◌, ℕ, ◌+◌, ◌-◌, ◌^◌, ◌≤◌, List, [], ◌∷◌, ◌++◌, length, Option, Some, None, codes, decimal, min, if◌then◌else◌, Bool, true, false, ◌⊎◌, nat_lt, ◌==◌, ◌||◌}
+use Rattle.cborn_edn.specs.Common.{flat_map, encode_lower, Size, Fixed, Endless, Width, StringKind, OfBytes, OfText, Tree, trees, Partial, top, inside, Opening, an_array, a_map, a_tag, in_chunks, Part, no_part, part, ended_size}
 use Rattle.cborn_edn.specs.declared.notators.Next.{Next}
 use Rattle.cborn_edn.specs.declared.notators.Next.TheVariants.{FirstItem, Item, FirstElement, Element, FirstKey, Key, Value, Content, TagEnd, FirstChunk, Chunk, FirstLateElement, LateElement, FirstLateKey, LateKey, LateValue}
 use Rattle.cborn_edn.specs.declared.notators.OpenString.{OpenString}
@@ -208,3 +200,7 @@ pub record IsHeld (v : Notator) (f : Partial) (c : Part) : Type 0 where
   pub lates : v.bad ≡ None → v.lates.items ≡ lates (begins c) f
   pub bad : IsLowest (IsBadIn f) v.bad
   pub text : WritesPart v.out.items v.string v.bad f c
+
+-- this byte is written as an escape
+abbrev pub is_escaped : ℕ → Bool
+is_escaped b = nat_lt b 32 || b == 34 || b == 92

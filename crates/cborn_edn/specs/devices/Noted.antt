@@ -1,6 +1,6 @@
 -- A device of the proofs: the meaning errors, at a state of the machine of tokens, of all that is whole since the innermost open `<<`. No definition cites it.
 use Rattle.std.specs.Prelude.{List, [], ◌++◌, Option, Some, None}
-use Rattle.cborn_edn.specs.declared.meaning_errors.MeaningError.{MeaningError}
+use Rattle.cborn_edn.specs.Common.{MeaningError}
 use Rattle.cborn_edn.specs.Says.{tag_errors, simple_errors}
 use Rattle.cborn_edn.specs.devices.Syntax.{Pieces, StringsBefore, no_string, after_strings}
 use Rattle.cborn_edn.specs.devices.Machine.{Stack, in_row, in_key, in_value, in_tag, Nest, at_top, in_array, in_embed, Home, as_item, as_chunk, State, wants, has, builds, wants_chunk, wants_number, has_number}

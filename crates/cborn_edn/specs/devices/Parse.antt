@@ -1,13 +1,7 @@
--- A device of the proofs: which tokens are a text of the grammar, and the first token with which no such text goes on.
-use Rattle.std.specs.Prelude.{◌≡◌, ℕ, ◌≤◌, List, [], ◌∷◌, ◌++◌, Bool, true, false}
-use Rattle.cborn_lex.specs.declared.classes.Profile.{Profile}
-use Rattle.cborn_lex.specs.declared.classes.Profile.TheVariants.{One as ProfileOne, Two as ProfileTwo}
-use Rattle.cborn_edn.specs.declared.faults.EdnReason.{EdnReason}
-use Rattle.cborn_edn.specs.declared.faults.EdnReason.TheVariants.{UnexpectedToken, UnexpectedEnd, TooDeep}
-use Rattle.cborn_lex.specs.declared.classes.Class.{Class}
-use Rattle.cborn_lex.specs.declared.classes.Class.TheVariants.{ArrayClose, MapClose, EmbedClose, Comma}
-use Rattle.cborn_lex.specs.declared.classes.Token.{Token}
-use Rattle.cborn_edn.specs.devices.Syntax.{Span, token, Input, tokens_of_input, depth_of_input}
+-- A device of the proofs: which tokens are those of a tree of the grammar.
+use Rattle.std.specs.Prelude.{◌≡◌, List, ◌∷◌, ◌++◌, Bool, true, false}
+use Rattle.cborn_edn.specs.Common.{Profile, One as ProfileOne, Two as ProfileTwo, Class, ArrayClose, MapClose, EmbedClose, Comma, Token}
+use Rattle.cborn_edn.specs.devices.Syntax.{Span, token, Input, tokens_of_input}
 
 -- ], } or >>
 abbrev pub is_closing : Class → Bool
@@ -24,26 +18,3 @@ Allows ProfileTwo tokens = Unit {0}
 pub record Parse (profile : Profile) (tokens : List Token) (tree : Input) : Type 0 where
   pub is : tokens_of_input tree ≡ tokens
   pub allowed : Allows profile tokens
-
-abbrev pub HasTree : Profile → ℕ → List Token → Type 0
-HasTree profile limit tokens = (tree : Input) × Parse profile tokens tree × (depth_of_input tree ≤ limit)
-
-abbrev pub GoesOn : Profile → ℕ → List Token → Type 0
-GoesOn profile limit tokens = (more : List Token) × HasTree profile limit (tokens ++ more)
-
-abbrev pub GoesOnAtAnyDepth : Profile → List Token → Type 0
-GoesOnAtAnyDepth profile tokens = (limit : ℕ) × GoesOn profile limit tokens
-
--- no text of the grammar begins with f and t
-pub record StopsAt (profile : Profile) (limit : ℕ) (tokens f : List Token) (t : Token) : Type 0 where
-  pub y : List Token
-  pub split : tokens ≡ f ++ t ∷ y
-  pub before : GoesOn profile limit f
-  pub here : GoesOn profile limit (f ++ t ∷ []) → ⊥
-
--- the syntax error of the tokens; end is the text's length
-abbrev pub IsSyntaxError : Profile → ℕ → ℕ → List Token → ℕ → EdnReason → Type 0
-IsSyntaxError profile limit end tokens p UnexpectedEnd = (p ≡ end) × GoesOn profile limit tokens × (HasTree profile limit tokens → ⊥)
-IsSyntaxError profile limit end tokens p UnexpectedToken = (f : List Token) × (t : Token) × StopsAt profile limit tokens f t × (p ≡ t.start) × (GoesOnAtAnyDepth profile (f ++ t ∷ []) → ⊥)
-IsSyntaxError profile limit end tokens p TooDeep = (f : List Token) × (t : Token) × StopsAt profile limit tokens f t × (p ≡ t.start) × GoesOnAtAnyDepth profile (f ++ t ∷ [])
-IsSyntaxError profile limit end tokens p _ = ⊥

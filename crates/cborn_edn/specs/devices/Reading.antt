@@ -1,32 +1,11 @@
 -- A device of the proofs: a text that is read up to some place. No definition cites it.
-use Rattle.std.proofs.Common.{Bor}
+use Rattle.cborn_edn.specs.Common.{Bor, IsUtf8, TokensBetween, Kind, Profile, One, Token, AreModest, trees, FitsAll, top, no_part, Level, Chunks, EdnReason, UnexpectedToken, TooDeep, Phase, Wants, WantsMore, Has, Builds, Here, Writer}
 use Rattle.std.specs.Prelude.{◌≡◌, ◌⊎◌, ℕ, ◌^◌, ◌<◌, ◌≤◌, List, [], ◌∷◌, ◌++◌, length, Bool, true, false, not, Option, Some, None}
-use Rattle.std.specs.Str.{IsUtf8}
-use Rattle.cborn_lex.specs.Lex.{Between}
-use Rattle.cborn_lex.specs.declared.classes.Kind.{Kind}
 use Rattle.cborn_lex.specs.declared.classes.Kind.TheVariants as kinds
-use Rattle.cborn_lex.specs.declared.classes.Profile.{Profile}
-use Rattle.cborn_lex.specs.declared.classes.Profile.TheVariants.{One}
-use Rattle.cborn_lex.specs.declared.classes.Token.{Token}
-use Rattle.cborn_lex.specs.shared.Modest.{AreModest}
-use Rattle.cborn_model.specs.Tree.{trees}
-use Rattle.cborn_model.specs.Spelled.{FitsAll}
-use Rattle.cborn_model.specs.Partial.{top, no_part}
 use Rattle.cborn_edn.specs.devices.Syntax.{Item, Pieces, string, RowBefore, row, Input, nothing, items}
-use Rattle.cborn_edn.specs.devices.Machine.{first_error}
+use Rattle.cborn_edn.specs.devices.Machine.{first_error, in_row, at_top, as_item, State, has, builds, start, held, parse}
 use Rattle.cborn_edn.specs.devices.Said.{nodes_of_input, faults_of_input}
-use Rattle.cborn_edn.specs.devices.Machine.{in_row, at_top, as_item, State, has, builds, start}
-use Rattle.cborn_edn.specs.declared.states.Level.{Level}
-use Rattle.cborn_edn.specs.declared.states.Chunks.{Chunks}
-use Rattle.cborn_edn.specs.devices.Machine.{held}
-use Rattle.cborn_edn.specs.devices.Machine.{parse}
-use Rattle.cborn_edn.specs.declared.faults.EdnReason.{EdnReason}
-use Rattle.cborn_edn.specs.declared.faults.EdnReason.TheVariants.{UnexpectedToken, TooDeep}
-use Rattle.cborn_edn.specs.declared.states.Phase.{Phase}
-use Rattle.cborn_edn.specs.declared.states.Phase.TheVariants.{Wants, WantsMore, Has, Builds}
-use Rattle.cborn_edn.specs.declared.states.Here.{Here}
 use Rattle.cborn_edn.specs.declared.states.Source.{Source}
-use Rattle.cborn_edn.specs.declared.states.Writer.{Writer}
 use Rattle.cborn_edn.specs.devices.Steps.{has_chunks}
 use Rattle.cborn_edn.specs.devices.TreesCode.{listed_trees}
 use Rattle.cborn_edn.specs.devices.Events.{Holds}
@@ -46,10 +25,10 @@ is_trailing_comma _ _ k = false
 -- the tokens of the text up to an offset lead to a state
 pub record Reached (profile : Profile) (limit : ℕ) (text : List ℕ) (at : ℕ) (s : State) : Type 0 where
   pub tokens : List Token
-  pub between : Between profile text 0 at tokens
+  pub between : TokensBetween profile text 0 at tokens
   pub modest : AreModest tokens
   pub held : held s ≡ tokens
-  pub runs : (t : Token) (stop : ℕ) → Between profile text at stop (t ∷ []) → (more : List Token) (end : ℕ) → parse profile limit end (tokens ++ (t ∷ more)) start ≡ parse profile limit end (t ∷ more) s
+  pub runs : (t : Token) (stop : ℕ) → TokensBetween profile text at stop (t ∷ []) → (more : List Token) (end : ℕ) → parse profile limit end (tokens ++ (t ∷ more)) start ≡ parse profile limit end (t ∷ more) s
   pub stops : (end : ℕ) → parse profile limit end tokens start ≡ parse profile limit end [] s
 
 -- the reader is at an offset of the text, and what it keeps shows the state there

@@ -1,15 +1,8 @@
 -- A device of the proofs: what the reader keeps shows a state of the machine of tokens. No definition cites it.
 use Rattle.std.specs.Prelude.{◌≡◌, ℕ, ◌+◌, List, length, Bool}
-use Rattle.cborn_lex.specs.declared.classes.Mark.{Mark}
-use Rattle.cborn_model.specs.declared.visitors.StringKind.{StringKind}
-use Rattle.cborn_model.specs.declared.visitors.StringKind.TheVariants.{OfBytes, OfText}
-use Rattle.cborn_edn.specs.devices.Syntax.{Span, Piece, text, bytes, row, Content, loose, tight, pairs, Fields, loose_fields, tight_fields}
-use Rattle.cborn_edn.specs.devices.Machine.{first_error}
-use Rattle.cborn_edn.specs.devices.Machine.{Stack, in_row, in_key, in_value, Nest, State, wants, has, wants_number}
-use Rattle.cborn_edn.specs.declared.states.Phase.{Phase}
-use Rattle.cborn_edn.specs.declared.states.Phase.TheVariants.{Has}
-use Rattle.cborn_edn.specs.declared.states.Here.{Here}
-use Rattle.cborn_edn.specs.declared.states.Writer.{Writer}
+use Rattle.cborn_edn.specs.Common.{Mark, StringKind, OfBytes, OfText, Phase, Has, Here, Writer}
+use Rattle.cborn_edn.specs.devices.Syntax.{Span, Piece, text, bytes, array, map, row, Content, loose, tight, pairs, Fields, loose_fields, tight_fields}
+use Rattle.cborn_edn.specs.devices.Machine.{first_error, Stack, in_row, in_key, in_value, Nest, in_array, State, wants, has, wants_number}
 use Rattle.cborn_edn.specs.devices.Noted.{noted}
 use Rattle.cborn_edn.specs.devices.Kept.{phase_of, stack_in, level_of, count_of, brackets_of, arounds_of, bytes_around, string_in, chunks_in, bytes_open}
 
@@ -46,6 +39,11 @@ content_state n (tight (row b i)) = has (in_row n b) i
 abbrev pub fields_state : Stack → Span → Mark → Fields → State
 fields_state st s m (loose_fields b) = wants (in_key st s m b)
 fields_state st s m (tight_fields (pairs b k c v)) = has (in_value st s m b k c) v
+
+-- u has the array or the map that s has open, which ends with the bracket a
+pub data Sized (a : Span) : State → State → Type 0 where
+  of_array : (st : Stack) (s : Span) (m : Mark) (c : Content) → Sized a (content_state (in_array st s m) c) (has st (array s m c a))
+  of_map : (st : Stack) (s : Span) (m : Mark) (f : Fields) → Sized a (fields_state st s m f) (has st (map s m f a))
 
 -- how many items or pairs there are if n of them have a comma after them
 abbrev pub entries_at : Phase → ℕ → ℕ

@@ -1,20 +1,11 @@
 -- A device of the proofs: one token that the reader takes as the machine of tokens does. No definition cites it.
 use Rattle.std.specs.Prelude.{◌≡◌, ℕ, ◌^◌, ◌<◌, List, Bool, true, false, Option, Some, None}
-use Rattle.cborn_lex.specs.declared.classes.Kind.{Kind}
+use Rattle.cborn_edn.specs.Common.{Kind, Class, ArrayClose, MapClose, EmbedOpen, class_of, StandsFor, IsModest, Level, Phase, Has, WantsNumber, HasNumber, Chunks, Here, Writer}
 use Rattle.cborn_lex.specs.declared.classes.Kind.TheVariants as kinds
-use Rattle.cborn_lex.specs.declared.classes.Class.{Class}
-use Rattle.cborn_lex.specs.declared.classes.Class.TheVariants.{EmbedOpen, Text, Bytes}
-use Rattle.cborn_lex.specs.Kinds.{class_of, StandsFor}
-use Rattle.cborn_lex.specs.shared.Modest.{IsModest}
+use Rattle.cborn_lex.specs.declared.classes.Class.TheVariants.{Text, Bytes}
 use Rattle.cborn_edn.specs.devices.Syntax.{Span, Pieces}
 use Rattle.cborn_edn.specs.devices.Machine.{Home, State, wants, has, builds, step_by}
-use Rattle.cborn_edn.specs.declared.states.Level.{Level}
 use Rattle.cborn_edn.specs.declared.states.Level.TheVariants.{Array, Embedded, Key, Value, Tag}
-use Rattle.cborn_edn.specs.declared.states.Phase.{Phase}
-use Rattle.cborn_edn.specs.declared.states.Phase.TheVariants.{Has, WantsNumber, HasNumber}
-use Rattle.cborn_edn.specs.declared.states.Chunks.{Chunks}
-use Rattle.cborn_edn.specs.declared.states.Here.{Here}
-use Rattle.cborn_edn.specs.declared.states.Writer.{Writer}
 use Rattle.cborn_edn.specs.devices.Shows.{Shows}
 use Rattle.cborn_edn.specs.devices.Events.{Holds}
 use Rattle.cborn_edn.specs.devices.Handed.{Reads}
@@ -38,6 +29,15 @@ is_row _ = false
 abbrev pub ends_map : Phase → Option Level → Bool
 ends_map Has o = is_in Value o
 ends_map _ o = is_in Key o
+
+-- it is a map, or else an array, that may end in this phase
+abbrev pub ends_sized : Bool → Phase → Option Level → Bool
+ends_sized true p o = ends_map p o
+ends_sized false p o = is_in Array o
+
+abbrev pub sized_end : Bool → Class
+sized_end true = MapClose
+sized_end false = ArrayClose
 
 abbrev pub has_chunks : Option Chunks → Bool
 has_chunks None = false

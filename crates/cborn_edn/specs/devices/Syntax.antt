@@ -1,8 +1,7 @@
 -- A device of the proofs: the trees of the grammar of the notation, with the place of each token. No public contract cites it, but for laws that say what the trees are to tokens and nodes.
 use Rattle.std.specs.Prelude.{ℕ, suc, List, [], ◌∷◌, ◌++◌, Bool, max}
-use Rattle.cborn_lex.specs.declared.classes.Mark.{Mark}
-use Rattle.cborn_lex.specs.declared.classes.Class.TheVariants.{ArrayOpen, MapOpen, ArrayClose, MapClose, ParenClose, Comma, Colon, EmbedOpen, EmbedClose, ChunkOpen, Number, TagOpen, Word, SimpleOpen, Text, Bytes}
-use Rattle.cborn_lex.specs.declared.classes.Token.{Token}
+use Rattle.cborn_edn.specs.Common.{Mark, ArrayOpen, MapOpen, ArrayClose, MapClose, ParenClose, Comma, Colon, EmbedOpen, EmbedClose, ChunkOpen, Number, TagOpen, Word, SimpleOpen, Token}
+use Rattle.cborn_lex.specs.declared.classes.Class.TheVariants.{Text, Bytes}
 pub use Rattle.cborn_edn.specs.Says.{is_below, argument_of, is_small, depth_of_number}
 pub use Rattle.cborn_edn.specs.Grammar.{Span, token}
 

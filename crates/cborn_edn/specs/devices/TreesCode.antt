@@ -1,7 +1,6 @@
 -- A device of the proofs: nodes as a list. No definition cites it.
 use Rattle.std.specs.Prelude.{◌≡◌, List, [], ◌∷◌, refl}
-use Rattle.std.proofs.Common.{ap}
-use Rattle.cborn_model.specs.Tree.{Tree, Trees, no_item, more, trees}
+use Rattle.cborn_edn.specs.Common.{ap, Tree, Trees, no_item, more, trees}
 
 abbrev pub listed_trees : Trees → List Tree
 listed_trees no_item = []

@@ -1,8 +1,6 @@
 -- A device of the proofs, here and in the crates above: texts of nodes that are all UTF-8, node by node.
 use Rattle.std.specs.Prelude.{◌≡◌, List, [], ◌∷◌, true}
-use Rattle.std.specs.Str.{is_utf8}
-use Rattle.cborn_model.specs.declared.nodes.Chunk.{Chunk}
-use Rattle.cborn_model.specs.Tree.{Tree, Text as TextNode, TextChunks, Items, Pairs as PairNode, Tagged, Trees, no_item as no_node, more, Entries, no_entry, entry}
+use Rattle.cborn_edn.specs.Common.{is_utf8, Chunk, Tree, Text as TextNode, TextChunks, Items, Pairs as PairNode, Tagged, Trees, no_item as no_node, more, Entries, no_entry, entry}
 
 abbrev pub AreTexts : List Chunk → Type 0
 AreTexts [] = Unit {0}

@@ -14,12 +14,9 @@ bytes_filter p (c ∷ x) h =
     let k = bytes_filter p x hs.1 in
     cond_both (p c) (c ∷ filter p x) (filter p x) (λ y. are_bytes y ≡ true) (λ e. and_from _ _ hs.0 k) (λ e. k)
 
-standard_byte : (c : ℕ) → is_byte c ≡ true → is_byte (to_standard c) ≡ true
-standard_byte c h = cond_both (eqb c 45) 43 (cond (eqb c 95) 47 c) (λ d. is_byte d ≡ true) (λ e. refl) (λ e. cond_both (eqb c 95) 47 c (λ d. is_byte d ≡ true) (λ f. refl) (λ f. h))
-
 bytes_map : (x : List ℕ) → are_bytes x ≡ true → are_bytes (map to_standard x) ≡ true
 bytes_map [] h = refl
-bytes_map (c ∷ x) h = let hs = and_parts (is_byte c) (are_bytes x) h in and_from _ _ (standard_byte c hs.0) (bytes_map x hs.1)
+bytes_map (c ∷ x) h = let hs = and_parts (is_byte c) (are_bytes x) h in and_from _ _ (cond_both (eqb c 45) 43 (cond (eqb c 95) 47 c) (λ d. is_byte d ≡ true) (λ e. refl) (λ e. cond_both (eqb c 95) 47 c (λ d. is_byte d ≡ true) (λ f. refl) (λ f. hs.0))) (bytes_map x hs.1)
 
 bytes_padding : (n : ℕ) → are_bytes (replicate n 61) ≡ true
 bytes_padding zero = refl

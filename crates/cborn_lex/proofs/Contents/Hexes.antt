@@ -1,5 +1,5 @@
 -- A content of h'..' stands for some bytes or for none.
-use Rattle.cborn_lex.proofs.Common.{◌≡◌, refl, sym, ap, ◌∙◌, subst, ℕ, ◌+◌, ◌<◌, ◌≤◌, List, [], ◌∷◌, ◌++◌, length, drop, get_or, Bool, true, false, not, cond, eqb, ◌⊎◌, inl, inr, Option, Some, None, Result, Ok, Err, append_assoc, drop_more, drop_all, cond-true, cond-false, and_parts, and_from, eq-eqb, eqb-true, not-true, or_cases, list_all, is_digit, is_not, is_white, onto, strip, after, HasDigits, nothing, space, comment, IsHex}
+use Rattle.cborn_lex.proofs.Common.{◌≡◌, refl, sym, ap, ◌∙◌, subst, ℕ, ◌+◌, ◌<◌, ◌≤◌, List, [], ◌∷◌, ◌++◌, length, drop, get_or, Bool, true, false, not, cond, eqb, ◌⊎◌, inl, inr, Option, Some, None, Result, Ok, Err, append_assoc, drop_more, drop_all, cond-true, cond-false, and_parts, and_from, eqb-true, not-true, or_cases, list_all, is_digit, is_not, is_white, onto, strip, after, HasDigits, nothing, space, comment, IsHex}
 use Rattle.hex.specs.Hex.{decode_of}
 use Rattle.hex.specs.declared.error.FromHexError.{FromHexError}
 use Rattle.hex.specs.declared.error.FromHexError.TheVariants.{OutOfMemory}
@@ -110,13 +110,6 @@ hex_cases x = hex_from x (strip false x) refl (strips false x)
 
 -- For the code.
 
-from_option : (x ds : List ℕ) (o : Option (List ℕ)) → o ≡ Some ds → Stripped false x o → HasDigits x ds
-from_option x ds None e k = cc
-from_option x ds (Some d) e k = let same : d ≡ ds = cc in subst (HasDigits x) same k
-
-pub hex_ok : (x ds bytes : List ℕ) → strip false x ≡ Some ds → decode_of ds ≡ Ok bytes → IsHex x bytes
-hex_ok x ds bytes e h = (ds, from_option x ds (strip false x) e (strips false x), h)
-
 -- The loop.
 
 pub after_none : (o : Option (List ℕ)) → after [] o ≡ o
@@ -140,12 +133,6 @@ at_inside ds x c = ap (after ds) (go (eqb c 47))
 
 pub at_digit : (ds x : List ℕ) (c : ℕ) → is_digit c 16 ≡ true → after ds (strip false (c ∷ x)) ≡ after (ds ++ c ∷ []) (strip false x)
 at_digit ds x c h = ap (after ds) (cond-true (is_digit c 16) _ _ h) ∙ after_onto ds c (strip false x)
-
-pub at_space : (ds x : List ℕ) (c : ℕ) → is_digit c 16 ≡ false → is_white c ≡ true → after ds (strip false (c ∷ x)) ≡ after ds (strip false x)
-at_space ds x c h k = ap (after ds) (cond-false (is_digit c 16) _ _ h ∙ cond-true (is_white c) _ _ k)
-
-pub at_open : (ds x : List ℕ) (c : ℕ) → is_digit c 16 ≡ false → is_white c ≡ false → c ≡ 47 → after ds (strip false (c ∷ x)) ≡ after ds (strip true x)
-at_open ds x c h k e = ap (after ds) (cond-false (is_digit c 16) _ _ h ∙ (cond-false (is_white c) _ _ k ∙ cond-true (eqb c 47) _ _ (eq-eqb c 47 e)))
 
 pub moved : (content ds es : List ℕ) (at : ℕ) (i j : Bool) (i' j' : Bool) → at < length content → i ≡ i' → j ≡ j' → after ds (strip i' (get_or content at 0 ∷ drop (at + 1) content)) ≡ after es (strip j' (drop (at + 1) content)) → after ds (strip i (drop at content)) ≡ strip false content
     → after es (strip j (drop (at + 1) content)) ≡ strip false content

@@ -65,13 +65,10 @@ unit_at_is q (a ∷ b ∷ c ∷ d ∷ x) =
     (λ k. tt)
 unit_at_is q _ = tt
 
-unit_of_u : (q e : ℕ) (x : List ℕ) → eqb e 117 ≡ true → MatchAt q (92 ∷ e ∷ x) (unit_at x)
-unit_of_u q e x h = subst (λ (d : ℕ). MatchAt q (92 ∷ d ∷ x) (unit_at x)) (sym (eqb-true e 117 h)) (unit_at_is q x)
-
 escape_at_is : (q : ℕ) (x : List ℕ) → MatchAt q (92 ∷ x) (escape_at q x)
 escape_at_is q [] = tt
 escape_at_is q (e ∷ x) =
-    chosen q _ (is_escape q e) _ _ (λ h. record { allowed = h; whole = refl }) (λ h. chosen q _ (eqb e 117) _ _ (λ k. unit_of_u q e x k) (λ k. tt))
+    chosen q _ (is_escape q e) _ _ (λ h. record { allowed = h; whole = refl }) (λ h. chosen q _ (eqb e 117) _ _ (λ k. (subst (λ (d : ℕ). MatchAt q (92 ∷ d ∷ x) (unit_at x)) (sym (eqb-true e 117 k)) (unit_at_is q x))) (λ k. tt))
 
 escape_of : (q c : ℕ) (x : List ℕ) → eqb c 92 ≡ true → MatchAt q (c ∷ x) (escape_at q x)
 escape_of q c x h = subst (λ (d : ℕ). MatchAt q (d ∷ x) (escape_at q x)) (sym (eqb-true c 92 h)) (escape_at_is q x)

@@ -11,8 +11,8 @@ use Rattle.cborn_lex.proofs.Contents.Base64s.{base64_one}
 abbrev pub Same : List ℕ → List ℕ → Front → Front → Type 0
 Same s t a b = (s ≡ t) × (a ≡ b)
 
-tail : (c d : ℕ) (x y : List ℕ) → c ∷ x ≡ d ∷ y → (c ≡ d) × (x ≡ y)
-tail c d x y e = (cc, cc)
+pub same_head : {a b : ℕ} {x y : List ℕ} → a ∷ x ≡ b ∷ y → (a ≡ b) × (x ≡ y)
+same_head e = (cc, cc)
 
 fixed : (s t r : List ℕ) (a b f : Front) → (s ≡ r) × (a ≡ f) → (t ≡ r) × (b ≡ f) → Same s t a b
 fixed s t r a b f h k = (h.0 ∙ sym k.0, h.1 ∙ sym k.1)
@@ -57,7 +57,7 @@ module _ (whole unclosed : List ℕ → Bool) (q : ℕ) (closer : Closer whole u
   string s z t w a b one (inl (content, mark, h, i)) (inl (inside, sign, j, l)) e =
       let texts = sym (closed_text whole q content mark s z h) ∙ (e ∙ closed_text whole q inside sign t w j) in
       let same = closer.one content inside (mark ++ z) (sign ++ w) h.inside j.inside texts in
-      let marks = one_indicator mark sign z w h.indicator j.indicator (tail q q (mark ++ z) (sign ++ w) (rest content inside (q ∷ (mark ++ z)) (q ∷ (sign ++ w)) same texts)).1 in
+      let marks = one_indicator mark sign z w h.indicator j.indicator (same_head (rest content inside (q ∷ (mark ++ z)) (q ∷ (sign ++ w)) same texts)).1 in
       let moved = subst (λ (x : List ℕ). ContentGives (Is x) r k (mark_of sign) b) (sym same) l in (
         h.text ∙ (ap (λ x. x ++ q ∷ mark) same ∙ (ap (λ x. inside ++ q ∷ x) marks ∙ sym j.text)),
         one_gives (Is content) r k (mark_of sign) a b (one content) (subst (λ (x : List ℕ). ContentGives (Is content) r k (mark_of x) a) marks i) moved,
@@ -89,13 +89,13 @@ after_word word [] z (d ∷ t) w a b h (inr k) e = absurd (no_simple word d z (t
 after_word word (c ∷ s) z [] w a b (inl h) k e = absurd (test_at (λ d. eqb d 39) c w (s ++ z) k.0 (sym e) h.0)
 after_word word (c ∷ s) z [] w a b (inr h) k e = absurd (no_simple word c w (s ++ z) k.1 (sym e) h.0 h.1)
 after_word word (c ∷ s) z (d ∷ t) w a b (inl h) (inl k) e =
-    let es = tail c d (s ++ z) (t ++ w) e in
+    let es = same_head e in
     let r = prefixed (prefix_of word) s z t w a b h.1 k.1 es.1 in
     (ap (λ x. x ∷ s) es.0 ∙ ap (λ x. d ∷ x) r.0, r.1)
-after_word word (c ∷ s) z (d ∷ t) w a b (inl h) (inr k) e = absurd (two_codes c d (tail c d (s ++ z) (t ++ w) e).0 h.0 k.0)
-after_word word (c ∷ s) z (d ∷ t) w a b (inr h) (inl k) e = absurd (two_codes d c (sym (tail c d (s ++ z) (t ++ w) e).0) k.0 h.0)
+after_word word (c ∷ s) z (d ∷ t) w a b (inl h) (inr k) e = absurd (two_codes c d (same_head e).0 h.0 k.0)
+after_word word (c ∷ s) z (d ∷ t) w a b (inr h) (inl k) e = absurd (two_codes d c (sym (same_head e).0) k.0 h.0)
 after_word word (c ∷ s) z (d ∷ t) w a b (inr h) (inr k) e =
-    (ap (λ x. x ∷ s) (tail c d (s ++ z) (t ++ w) e).0 ∙ ap (λ x. d ∷ x) (h.2 ∙ sym k.2), h.3 ∙ sym k.3)
+    (ap (λ x. x ∷ s) (same_head e).0 ∙ ap (λ x. d ∷ x) (h.2 ∙ sym k.2), h.3 ∙ sym k.3)
 
 word_text : (word after s z : List ℕ) → s ≡ word ++ after → s ++ z ≡ word ++ (after ++ z)
 word_text word after s z h = ap (λ x. x ++ z) h ∙ append_assoc word after z
@@ -113,7 +113,7 @@ tags : (negative p q : Bool) (s z t w : List ℕ) → IsTag negative p s z → I
 tags negative p q [] z [] w h k e = (refl, h.0 ∙ sym k.0)
 tags negative p q [] z (d ∷ t) w h k e = absurd (both_ways _ h.1 (and_from _ _ (ap not k.1) (ap (begins (λ c. eqb c 40)) e ∙ k.2)))
 tags negative p q (c ∷ s) z [] w h k e = absurd (both_ways _ k.1 (and_from _ _ (ap not h.1) (ap (begins (λ d. eqb d 40)) (sym e) ∙ h.2)))
-tags negative p q (c ∷ s) z (d ∷ t) w h k e = (ap (λ x. x ∷ s) (tail c d (s ++ z) (t ++ w) e).0 ∙ ap (λ x. d ∷ x) (h.3 ∙ sym k.3), h.0 ∙ sym k.0)
+tags negative p q (c ∷ s) z (d ∷ t) w h k e = (ap (λ x. x ∷ s) (same_head e).0 ∙ ap (λ x. d ∷ x) (h.3 ∙ sym k.3), h.0 ∙ sym k.0)
 
 number_text : (body mark tag s z : List ℕ) → s ≡ body ++ (mark ++ tag) → s ++ z ≡ body ++ (mark ++ (tag ++ z))
 number_text body mark tag s z h = ap (λ x. x ++ z) h ∙ simp append_assoc
@@ -146,7 +146,7 @@ one_from less profile c s z t w a b (inl h) (inr k) e = absurd (test_at (λ d. e
 one_from less profile c s z t w a b (inr h) (inl k) e = absurd (test_at (λ d. eqb d 60) 60 z w h.1 (ap (λ x. x ++ z) (sym h.0) ∙ (e ∙ ap (λ x. x ++ w) k.0)) refl)
 one_from less profile c s z t w a b (inr h) (inr k) e = (h.0 ∙ sym k.0, h.2 ∙ sym k.2)
 one_from greater profile c s z t w a b (inl (mark, h, i, j)) (inl (sign, k, l, m)) e =
-    let r = one_indicator mark sign z w i l (tail 62 62 (mark ++ z) (sign ++ w) (sym (greater_text s z mark h) ∙ (e ∙ greater_text t w sign k))).1 in
+    let r = one_indicator mark sign z w i l (same_head (sym (greater_text s z mark h) ∙ (e ∙ greater_text t w sign k))).1 in
     (h ∙ (ap (λ x. 62 ∷ x) r ∙ sym k), j ∙ (ap (λ x. marked EmbedClose (mark_of x)) r ∙ sym m))
 one_from greater profile c s z t w a b (inl (mark, h, i, j)) (inr k) e = absurd (test_at (λ d. eqb d 62) 62 w (mark ++ z) k.1 (ap (λ x. x ++ w) (sym k.0) ∙ (sym e ∙ greater_text s z mark h)) refl)
 one_from greater profile c s z t w a b (inr h) (inl (sign, k, l, m)) e = absurd (test_at (λ d. eqb d 62) 62 z (sign ++ w) h.1 (ap (λ x. x ++ z) (sym h.0) ∙ (e ∙ greater_text t w sign k)) refl)
@@ -163,6 +163,6 @@ pub one_front : (profile : Profile) (s z t w : List ℕ) (a b : Front) → Reads
 one_front profile [] z t w a b h k e = absurd h
 one_front profile (c ∷ s) z [] w a b h k e = absurd k
 one_front profile (c ∷ s) z (d ∷ t) w a b h k e =
-    let es = tail c d (s ++ z) (t ++ w) e in
+    let es = same_head e in
     let r = one_from (start_of d) profile d s z t w a b (subst (λ (x : ℕ). ReadsFrom (start_of x) profile x s z a) es.0 h) k es.1 in
     (ap (λ x. x ∷ s) es.0 ∙ ap (λ x. d ∷ x) r.0, r.1)

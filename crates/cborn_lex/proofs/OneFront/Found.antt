@@ -80,13 +80,7 @@ words : (c : ℕ) (y : List ℕ) → are_bytes y ≡ true → Started (ReadsWord
 words c y h =
     let r = cut is_word y in
     let t = after_word (c ∷ r.s) r.z (and_parts _ _ (sym (list_all-append is_byte r.s r.z) ∙ (ap are_bytes (sym r.whole) ∙ h))).1 in
-    record {
-      s = r.s ++ t.s;
-      z = t.z;
-      a = t.a;
-      whole = r.whole ∙ (ap (λ x. r.s ++ x) t.whole ∙ sym (append_assoc r.s t.s t.z));
-      reads = (r.s, t.s, subst (λ (x : List ℕ). IsRun is_word r.s x) t.whole r.run, refl, t.reads);
-    }
+    record { s = r.s ++ t.s; z = t.z; a = t.a; whole = r.whole ∙ (ap (λ x. r.s ++ x) t.whole ∙ sym (append_assoc r.s t.s t.z)); reads = (r.s, t.s, subst (λ (x : List ℕ). IsRun is_word r.s x) t.whole r.run, refl, t.reads) }
 
 -- Numbers.
 
@@ -122,12 +116,7 @@ numbers negative first y =
         r.s,
         m.s,
         t.s,
-        record {
-          run = subst (λ (x : List ℕ). IsRun is_numeral r.s x) after r.run;
-          indicator = subst (λ (x : List ℕ). IsIndicator m.s x) t.whole m.indicator;
-          tagging = t.tag;
-          whole = refl;
-        },
+        record { run = subst (λ (x : List ℕ). IsRun is_numeral r.s x) after r.run; indicator = subst (λ (x : List ℕ). IsIndicator m.s x) t.whole m.indicator; tagging = t.tag; whole = refl },
         refl,
       );
     }

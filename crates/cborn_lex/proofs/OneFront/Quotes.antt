@@ -58,9 +58,6 @@ module _ (q : ℕ) (ne : eqb q 92 ≡ false) where
   at_front : (c : ℕ) (y : List ℕ) → eqb c q ≡ true → Found (is_content q) q (c ∷ y)
   at_front c y e = record { content = []; after = y; inside = refl; text = ap (λ d. d ∷ y) (eqb-true c q e) }
 
-  find_last : (c : ℕ) → Found (is_content q) q (c ∷ []) ⊎ (is_unclosed q (c ∷ []) ≡ true)
-  find_last c = elim (cases_Bool (eqb c q)) [ inl e ↦ inl (at_front c [] e) | inr e ↦ inr (ap not e) ]
-
   find_taken : (c d : ℕ) (x : List ℕ) → eqb c 92 ≡ true → Found (is_content q) q x ⊎ (is_unclosed q x ≡ true) → Found (is_content q) q (c ∷ d ∷ x) ⊎ (is_unclosed q (c ∷ d ∷ x) ≡ true)
   find_taken c d x e (inl r) = inl (record { content = c ∷ d ∷ r.content; after = r.after; inside = content_taken q c d r.content e ∙ r.inside; text = ap (λ y. c ∷ d ∷ y) r.text })
   find_taken c d x e (inr h) = inr (unclosed_taken q c d x e ∙ h)
@@ -71,18 +68,11 @@ module _ (q : ℕ) (ne : eqb q 92 ≡ false) where
 
   find : (y : List ℕ) → Found (is_content q) q y ⊎ (is_unclosed q y ≡ true)
   find [] = inr refl
-  find (c ∷ []) = find_last c
+  find (c ∷ []) = elim (cases_Bool (eqb c q)) [ inl e ↦ inl (at_front c [] e) | inr e ↦ inr (ap not e) ]
   find (c ∷ d ∷ x) = elim (cases_Bool (eqb c 92)) [
     | inl e ↦ find_taken c d x e (find x)
     | inr e ↦ elim (cases_Bool (eqb c q)) [ inl h ↦ inl (at_front c (d ∷ x) h) | inr h ↦ find_plain c d x e h (find (d ∷ x)) ]
   ]
-
-  quoted_one : (c d x y : List ℕ) → is_content q c ≡ true → is_content q d ≡ true → c ++ q ∷ x ≡ d ++ q ∷ y → c ≡ d
-  quoted_one c d x y h k e =
-      let l = content_is c x h in
-      let r = content_is d y k in
-      let m = ap (content_at q) e in
-      cc
 
   quoted_apart : (c x : List ℕ) → is_content q c ≡ true → is_unclosed q (c ++ q ∷ x) ≡ true → ⊥
   quoted_apart c x h k =
@@ -91,4 +81,4 @@ module _ (q : ℕ) (ne : eqb q 92 ≡ false) where
       cc
 
   pub quoted : Closer (is_content q) (is_unclosed q) q
-  quoted = record { find = find; one = quoted_one; apart = quoted_apart }
+  quoted = record { find = find; one = (λ c d x y h k e. let l = content_is c x h in let r = content_is d y k in let m = ap (content_at q) e in cc); apart = quoted_apart }

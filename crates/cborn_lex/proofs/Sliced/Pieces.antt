@@ -18,20 +18,9 @@ number_of negative tagged first body mark tag z x k e l run indicator tag-is =
       body,
       mark,
       tag,
-      record {
-        run = rw f.1 run;
-        indicator = rw f.1 indicator;
-        tagging = rw f.1 tag-is;
-        whole = f.0;
-      },
+      record { run = rw f.1 run; indicator = rw f.1 indicator; tagging = rw f.1 tag-is; whole = f.0 },
       refl,
     )
-
-pub number_untagged : (negative : Bool) (first x : List ℕ) (n m : ℕ) → n ≤ length x → m ≤ length (drop n x) → IsRun is_numeral (take n x) (drop n x) → IsIndicator (take m (drop n x)) (drop m (drop n x)) → (not negative && begins (λ c. eqb c 40) (drop m (drop n x))) ≡ false
-    → ReadsNumber negative first (take (n + m) x) (drop (n + m) x) (number_front negative false (mark_of (take m (drop n x))) (integer negative (first ++ take n x)))
-number_untagged negative first x n m h k run indicator none =
-    number_of negative false first (take n x) (take m (drop n x)) [] (drop m (drop n x)) x (n + m) (parts n m x) (omega (arith, length-take-le n x h, length-take-le m (drop n x) k))
-    (subst (λ (y : List ℕ). IsRun is_numeral (take n x) y) (sym (take-append-drop m (drop n x))) run) indicator (refl, none)
 
 tag_is : (negative : Bool) (x : List ℕ) → (not negative && begins (λ c. eqb c 40) x) ≡ true → IsTag negative true (take 1 x) (drop 1 x)
 tag_is false [] h = cc
@@ -73,7 +62,7 @@ made negative true first x n m k h i run indicator t e =
     let some = tag_fits negative (drop m (drop n x)) (sym t) in
     (omega (arith, length-drop n x, length-drop m (drop n x)), rw e (number_tagged negative first x n m h i run indicator (sym t)))
 made negative false first x n m k h i run indicator t e =
-    (omega (arith, length-drop n x), rw e (number_untagged negative first x n m h i run indicator (sym t)))
+    (omega (arith, length-drop n x), rw e (number_of negative false first (take n x) (take m (drop n x)) [] (drop m (drop n x)) x (n + m) (parts n m x) (omega (arith, length-take-le n x h, length-take-le m (drop n x) i)) (subst (λ (y : List ℕ). IsRun is_numeral (take n x) y) (sym (take-append-drop m (drop n x))) run) indicator (refl, (sym t))))
 
 pub number_made : (negative tagged : Bool) (first x after more text : List ℕ) (n m k : ℕ) → IsNumberAt negative tagged first x after more text n m k
     → (k ≤ length x) × ReadsNumber negative first (take k x) (drop k x) (number_front negative tagged (mark_of (take m after)) (integer negative text))

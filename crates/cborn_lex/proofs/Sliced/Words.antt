@@ -31,38 +31,23 @@ prefix_made word (c ∷ x) tail n a h e k is =
     (omega (arith, ap length same), rw add-one (inl (h, subst (λ (y : List ℕ). IsPrefixed (prefix_of word) (take n y) (drop n y) a) same is)))
 
 -- a content, a quote and an indicator
-pub record IsClosedAt (whole : List ℕ → Bool) (q i m : ℕ) (tail content after : List ℕ) : Type 0 where
-  pub inside : whole (take i tail) ≡ true
-  pub fits : i < length tail
-  pub quote : get_or tail i 0 ≡ q
-  pub content_is : content ≡ take i tail
-  pub after_is : after ≡ drop (i + 1) tail
-  pub mark_fits : m ≤ length after
-  pub indicator : IsIndicator (take m after) (drop m after)
+module _ (whole : List ℕ → Bool) (q i m : ℕ) (tail content after : List ℕ) (inside : whole (take i tail) ≡ true) (fits : i < length tail) (quote : get_or tail i 0 ≡ q) (content_is : content ≡ take i tail) (after_is : after ≡ drop (i + 1) tail) (mark_fits : m ≤ length after) (indicator : IsIndicator (take m after) (drop m after)) where
+  closed : (i + 1 + m ≤ length tail) × Closed whole q content (take m after) (take (i + 1 + m) tail) (drop (i + 1 + m) tail)
+  closed =
+      let fit : m ≤ length (drop (i + 1) tail) = omega (arith, ap length after_is) in
+      let beyond : drop i tail ≡ q ∷ drop (i + 1) tail = drop_more tail i 0 fits ∙ ap (λ c. c ∷ drop (i + 1) tail) quote in
+      let parts : tail ≡ (take i tail ++ q ∷ take m after) ++ drop m after =
+      sym (take-append-drop i tail) ∙ (ap (λ x. take i tail ++ x) (beyond ∙ ap (λ x. q ∷ x) (sym after_is ∙ sym (take-append-drop m after))) ∙ sym (append_assoc (take i tail) (q ∷ take m after) (drop m after))) in
+      let short : i ≤ length tail = omega arith in
+      let s = front_is (i + 1 + m) tail (take i tail ++ q ∷ take m after) (drop m after) parts (omega (arith, length-append (take i tail) (q ∷ take m after), length-take-le i tail short, length-take-le m after mark_fits)) in
+      (omega (arith, length-drop (i + 1) tail), rw content_is (record { inside = inside; text = s.0; indicator = rw s.1 indicator }))
 
-closed : (whole : List ℕ → Bool) (q i m : ℕ) (tail content after : List ℕ) → IsClosedAt whole q i m tail content after → (i + 1 + m ≤ length tail) × Closed whole q content (take m after) (take (i + 1 + m) tail) (drop (i + 1 + m) tail)
-closed whole q i m tail content after h =
-    let k = h.fits in
-    let e = h.after_is in
-    let fits = h.mark_fits in
-    let fit : m ≤ length (drop (i + 1) tail) = omega (arith, ap length e) in
-    let beyond : drop i tail ≡ q ∷ drop (i + 1) tail = drop_more tail i 0 k ∙ ap (λ c. c ∷ drop (i + 1) tail) h.quote in
-    let parts : tail ≡ (take i tail ++ q ∷ take m after) ++ drop m after =
-    sym (take-append-drop i tail) ∙ (ap (λ x. take i tail ++ x) (beyond ∙ ap (λ x. q ∷ x) (sym e ∙ sym (take-append-drop m after))) ∙ sym (append_assoc (take i tail) (q ∷ take m after) (drop m after))) in
-    let short : i ≤ length tail = omega arith in
-    let s = front_is (i + 1 + m) tail (take i tail ++ q ∷ take m after) (drop m after) parts (omega (arith, length-append (take i tail) (q ∷ take m after), length-take-le i tail short, length-take-le m after fits)) in
-    (omega (arith, length-drop (i + 1) tail), rw h.content_is (record { inside = h.inside; text = s.0; indicator = rw s.1 h.indicator }))
+  module _ (unclosed : List ℕ → Bool) (Is : List ℕ → List ℕ → Type 0) (r : LexReason) (k : List ℕ → Mark → Class) (a : Front) where
+    pub string_ok : (bytes : List ℕ) (mark : Option Mark) → Is content bytes → a ≡ marked (k bytes) mark → mark ≡ mark_of (take m after) → (i + 1 + m ≤ length tail) × IsString whole unclosed q Is r k (take (i + 1 + m) tail) (drop (i + 1 + m) tail) a
+    string_ok bytes mark is e f = (closed.0, inl (content, take m after, closed.1, inl (bytes, is, e ∙ ap (marked (k bytes)) f)))
 
-module _ (whole unclosed : List ℕ → Bool) (q : ℕ) (Is : List ℕ → List ℕ → Type 0) (r : LexReason) (k : List ℕ → Mark → Class) where
-  pub string_ok : (i m : ℕ) (tail content after bytes : List ℕ) (a : Front) (mark : Option Mark) → IsClosedAt whole q i m tail content after → Is content bytes → a ≡ marked (k bytes) mark → mark ≡ mark_of (take m after) → (i + 1 + m ≤ length tail) × IsString whole unclosed q Is r k (take (i + 1 + m) tail) (drop (i + 1 + m) tail) a
-  string_ok i m tail content after bytes a mark h is e f =
-      let c = closed whole q i m tail content after h in
-      (c.0, inl (content, take m after, c.1, inl (bytes, is, e ∙ ap (marked (k bytes)) f)))
-
-  pub string_bad : (i m : ℕ) (tail content after : List ℕ) (a : Front) → IsClosedAt whole q i m tail content after → ((bytes : List ℕ) → Is content bytes → ⊥) → a ≡ Bad r → (i + 1 + m ≤ length tail) × IsString whole unclosed q Is r k (take (i + 1 + m) tail) (drop (i + 1 + m) tail) a
-  string_bad i m tail content after a h f e =
-      let c = closed whole q i m tail content after h in
-      (c.0, inl (content, take m after, c.1, inr (f, e)))
+    pub string_bad : ((bytes : List ℕ) → Is content bytes → ⊥) → a ≡ Bad r → (i + 1 + m ≤ length tail) × IsString whole unclosed q Is r k (take (i + 1 + m) tail) (drop (i + 1 + m) tail) a
+    string_bad f e = (closed.0, inl (content, take m after, closed.1, inr (f, e)))
 
 -- `>>` and its indicator
 pub close_made : (tail after : List ℕ) (n : ℕ) (a : Front) → begins (λ c. eqb c 62) tail ≡ true → after ≡ drop 1 tail → IsIndicator (take n after) (drop n after) → a ≡ marked EmbedClose (mark_of (take n after))

@@ -1,6 +1,8 @@
 -- The laws of whole texts.
-use Rattle.cborn_lex.proofs.Common.{◌≡◌, refl, sym, ap, ◌∙◌, subst, ℕ, zero, suc, ◌<◌, List, [], ◌∷◌, ◌++◌, length, true, ◌⊎◌, inl, inr, append_assoc, append-nil, arith, and_parts, list_all-append, Profile, One, Two, LexReason, Token, Front, WhiteSpace, Read, Bad, Start, hash, start_of, ReadsFrom, Reads, Lex, HasNoPiece, Stop, SpansRise, Lexeme, white_space, token, slice, front_of, spelled, AreRead, tokens, BeginsNoPiece, drop, ◌≤◌, ◌+◌, length-append}
-use Rattle.cborn_lex.proofs.WholeTexts.Parts.{lex_parted, parted_lex, stop_parted, parted_stop, has_no_piece}
+use Rattle.cborn_lex.proofs.Common.{◌≡◌, refl, sym, ap, ◌∙◌, subst, ℕ, zero, suc, ◌<◌, List, [], ◌∷◌, ◌++◌, length, true, ◌⊎◌, inl, inr, append_assoc, append-nil, arith, and_parts, list_all-append, Profile, One, Two, LexReason, Token, Front, WhiteSpace, Read, Bad, Start, hash, start_of, ReadsFrom, Reads, HasTokens, BeginsNothing, FailsAt, SpansRise, Lexeme, white_space, token, slice, front_of, spelled, AreRead, tokens, BeginsNoPiece, drop, ◌≤◌, ◌+◌, length-append, Covers, Fails}
+use Rattle.cborn_lex.specs.Good as good
+use Rattle.cborn_lex.proofs.GoodFronts.{Good, taken}
+use Rattle.cborn_lex.proofs.WholeTexts.Parts.{lex_parted, parted_lex, stop_parted, has_no_piece}
 use Rattle.cborn_lex.proofs.Sliced.Pieces.{front_is}
 use Rattle.cborn_lex.proofs.OneFront.Runs.{rest}
 use Rattle.cborn_lex.proofs.OneFront.Alone.{one_front}
@@ -51,14 +53,14 @@ bad_ends profile s z r h p x k e = not_bad p r (sym (one_front profile s z (slic
 whole_text : (text : List ℕ) (ps : List Lexeme) → text ≡ spelled ps → text ≡ spelled ps ++ []
 whole_text text ps e = e ∙ sym (append-nil (spelled ps))
 
-pub one_list : (profile : Profile) (text : List ℕ) (ts us : List Token) → Lex profile text ts → Lex profile text us → ts ≡ us
+pub one_list : (profile : Profile) (text : List ℕ) (ts us : List Token) → HasTokens profile text ts → HasTokens profile text us → ts ≡ us
 one_list profile text ts us a b =
     let h = lex_parted profile text ts a in
     let k = lex_parted profile text us b in
     let r = one_chain profile h.pieces k.pieces [] [] h.read k.read (end_ends profile) (end_ends profile) (sym (whole_text text h.pieces h.whole) ∙ whole_text text k.pieces k.whole) in
     h.placed ∙ (ap (tokens 0) r.0 ∙ sym k.placed)
 
-pub not_both : (profile : Profile) (text : List ℕ) (ts : List Token) (p : ℕ) (r : LexReason) → Lex profile text ts → Stop profile text p r → ⊥
+pub not_both : (profile : Profile) (text : List ℕ) (ts : List Token) (p : ℕ) (r : LexReason) → HasTokens profile text ts → FailsAt profile text p r → ⊥
 not_both profile text ts p r a b =
     let h = lex_parted profile text ts a in
     let k = stop_parted profile text p r b in
@@ -68,7 +70,7 @@ not_both profile text ts p r a b =
 bad_reason : (r s : LexReason) → Bad r ≡ Bad s → r ≡ s
 bad_reason r s e = cc
 
-pub one_stop : (profile : Profile) (text : List ℕ) (p q : ℕ) (r s : LexReason) → Stop profile text p r → Stop profile text q s → (p ≡ q) × (r ≡ s)
+pub one_stop : (profile : Profile) (text : List ℕ) (p q : ℕ) (r s : LexReason) → FailsAt profile text p r → FailsAt profile text q s → (p ≡ q) × (r ≡ s)
 one_stop profile text p q r s a b =
     let h = stop_parted profile text p r a in
     let k = stop_parted profile text q s b in
@@ -81,17 +83,17 @@ shorter : (profile : Profile) (s z text : List ℕ) (a : Front) → Reads profil
 shorter profile [] z text a h e = absurd h
 shorter profile (c ∷ s) z text a h e = omega (arith, ap length e, length-append s z)
 
-pub stop_inside : (profile : Profile) (text : List ℕ) (p : ℕ) (r : LexReason) → Stop profile text p r → p < length text
+pub stop_inside : (profile : Profile) (text : List ℕ) (p : ℕ) (r : LexReason) → FailsAt profile text p r → p < length text
 stop_inside profile text p r a =
     let h = stop_parted profile text p r a in
     let some = shorter profile h.front h.rest (h.front ++ h.rest) (Bad r) h.bad refl in
     omega (arith, ap length h.whole, h.place, length-append (spelled h.pieces) (h.front ++ h.rest))
 
-pub stop_no_piece : (profile : Profile) (text : List ℕ) (p : ℕ) (r : LexReason) → Stop profile text p r → HasNoPiece profile (drop p text)
+pub stop_no_piece : (profile : Profile) (text : List ℕ) (p : ℕ) (r : LexReason) → FailsAt profile text p r → BeginsNothing profile (drop p text)
 stop_no_piece profile text p r a =
     let h = stop_parted profile text p r a in
     let rest : drop p text ≡ h.front ++ h.rest = (front_is p text (spelled h.pieces) (h.front ++ h.rest) h.whole (sym h.place)).1 in
-    subst (HasNoPiece profile) (sym rest) (has_no_piece profile (h.front ++ h.rest) (bad_ends profile h.front h.rest r h.bad))
+    subst (BeginsNothing profile) (sym rest) (has_no_piece profile (h.front ++ h.rest) (bad_ends profile h.front h.rest r h.bad))
 
 -- Spans.
 
@@ -113,7 +115,7 @@ spans profile (token k s ∷ ps) n z h =
     let long = some_long profile s (spelled ps ++ z) (Read k) h.0 in
     (omega arith, omega arith, subst (λ (end : ℕ). SpansRise (n + length s) (tokens (n + length s) ps) end) size (spans profile ps (n + length s) z h.1))
 
-pub spans_rise : (profile : Profile) (text : List ℕ) (ts : List Token) → Lex profile text ts → SpansRise 0 ts (length text)
+pub spans_rise : (profile : Profile) (text : List ℕ) (ts : List Token) → HasTokens profile text ts → SpansRise 0 ts (length text)
 spans_rise profile text ts a =
     let h = lex_parted profile text ts a in
     let size : 0 + length (spelled h.pieces) ≡ length text = omega (arith, ap length h.whole) in
@@ -121,56 +123,33 @@ spans_rise profile text ts a =
 
 -- Existence.
 
-pub record Chain (profile : Profile) (text : List ℕ) : Type 0 where
-  pub pieces : List Lexeme
-  pub read : AreRead profile pieces []
-  pub whole : text ≡ spelled pieces
+-- the tokens of a text from n on, or its lexical fault
+abbrev Answered : Profile → ℕ → List ℕ → Type 0
+Answered profile n text = ((ts : List Token) × Covers profile n text ts (n + length text) []) ⊎ ((p : ℕ) × (r : LexReason) × ((ts : List Token) × (y : List ℕ) × Covers profile n text ts p y × Fails profile y r))
 
-pub record Broken (profile : Profile) (text : List ℕ) : Type 0 where
-  pub pieces : List Lexeme
-  pub front : List ℕ
-  pub rest : List ℕ
-  pub reason : LexReason
-  pub read : AreRead profile pieces (front ++ rest)
-  pub bad : Reads profile front rest (Bad reason)
-  pub whole : text ≡ spelled pieces ++ (front ++ rest)
-
-onto : (profile : Profile) (p : Lexeme) (z text : List ℕ) → Reads profile (slice p) z (front_of p) → text ≡ slice p ++ z → Chain profile z ⊎ Broken profile z → Chain profile text ⊎ Broken profile text
-onto profile p z text h e (inl r) =
-    inl (record { pieces = p ∷ r.pieces; read = (subst (λ (x : List ℕ). Reads profile (slice p) x (front_of p)) (whole_text z r.pieces r.whole) h, r.read); whole = e ∙ ap (λ x. slice p ++ x) r.whole })
-onto profile p z text h e (inr r) =
-    inr (record {
-      pieces = p ∷ r.pieces;
-      front = r.front;
-      rest = r.rest;
-      reason = r.reason;
-      read = (subst (λ (x : List ℕ). Reads profile (slice p) x (front_of p)) r.whole h, r.read);
-      bad = r.bad;
-      whole = e ∙ (ap (λ x. slice p ++ x) r.whole ∙ sym (split p r.pieces (r.front ++ r.rest)));
-    })
-
-step : (profile : Profile) (s z text : List ℕ) (a : Front) → Reads profile s z a → text ≡ s ++ z → (Chain profile z ⊎ Broken profile z) → Chain profile text ⊎ Broken profile text
-step profile s z text WhiteSpace h e r = onto profile (white_space s) z text h e r
-step profile s z text (Read k) h e r = onto profile (token k s) z text h e r
-step profile s z text (Bad b) h e r = inr (record { pieces = []; front = s; rest = z; reason = b; read = tt; bad = h; whole = e })
+after_front : (profile : Profile) (n : ℕ) (s z : List ℕ) (a : Front) → Good profile s z a → Answered profile (n + length s) z → Answered profile n (s ++ z)
+after_front profile n s z WhiteSpace t (inl (ts, c)) = inl (ts, subst (λ (m : ℕ). Covers profile n (s ++ z) ts m []) (omega (arith, length-append s z)) (good.white_space n _ s z [] ts t c))
+after_front profile n s z WhiteSpace t (inr (p, r, (ts, y, c, f))) = inr (p, r, (ts, y, good.white_space n p s z y ts t c, f))
+after_front profile n s z (Read k) t (inl (ts, c)) = inl (record { start = n; stop = n + length s; class = k } ∷ ts, subst (λ (m : ℕ). Covers profile n (s ++ z) (record { start = n; stop = n + length s; class = k } ∷ ts) m []) (omega (arith, length-append s z)) (good.token n _ k s z [] ts t c))
+after_front profile n s z (Read k) t (inr (p, r, (ts, y, c, f))) = inr (p, r, (record { start = n; stop = n + length s; class = k } ∷ ts, y, good.token n p k s z y ts t c, f))
+after_front profile n s z (Bad r) f x = inr (n, r, ([], s ++ z, good.end n (s ++ z), f))
 
 bytes_after : (s z text : List ℕ) → are_bytes text ≡ true → text ≡ s ++ z → are_bytes z ≡ true
 bytes_after s z text h e = (and_parts _ _ (sym (list_all-append is_byte s z) ∙ (ap are_bytes (sym e) ∙ h))).1
 
-chain_below : (profile : Profile) (n : ℕ) (text : List ℕ) → length text < n → are_bytes text ≡ true → Chain profile text ⊎ Broken profile text
-chain_below profile zero text k h = absurd (omega arith)
-chain_below profile (suc n) [] k h = inl (record { pieces = []; read = tt; whole = refl })
-chain_below profile (suc n) (c ∷ y) k h =
+answered : (profile : Profile) (k n : ℕ) (text : List ℕ) → length text < k → are_bytes text ≡ true → Answered profile n text
+answered profile zero n text l h = absurd (omega arith)
+answered profile (suc k) n [] l h = inl ([], subst (λ (m : ℕ). Covers profile n [] [] m []) (omega arith) (good.end n []))
+answered profile (suc k) n (c ∷ y) l h =
     let r = some_front profile c y h in
-    let l = shorter profile r.s r.z (c ∷ y) r.a r.reads r.whole in
-    step profile r.s r.z (c ∷ y) r.a r.reads r.whole (chain_below profile n r.z (omega arith) (bytes_after r.s r.z (c ∷ y) h r.whole))
+    let short = shorter profile r.s r.z (c ∷ y) r.a r.reads r.whole in
+    subst (Answered profile n) (sym r.whole) (after_front profile n r.s r.z r.a (taken profile r.s r.z r.a r.reads) (answered profile k (n + length r.s) r.z (omega arith) (bytes_after r.s r.z (c ∷ y) h r.whole)))
 
-answered : (profile : Profile) (text : List ℕ) → Chain profile text ⊎ Broken profile text → ((ts : List Token) × Lex profile text ts) ⊎ ((p : ℕ) × (r : LexReason) × Stop profile text p r)
-answered profile text (inl r) = inl (tokens 0 r.pieces, parted_lex profile text (tokens 0 r.pieces) (record { pieces = r.pieces; read = r.read; whole = r.whole; placed = refl }))
-answered profile text (inr r) = inr (length (spelled r.pieces), r.reason, parted_stop profile text (length (spelled r.pieces)) r.reason (record { pieces = r.pieces; front = r.front; rest = r.rest; read = r.read; bad = r.bad; whole = r.whole; place = refl }))
-
-pub some_answer : (profile : Profile) (text : List ℕ) → are_bytes text ≡ true → ((ts : List Token) × Lex profile text ts) ⊎ ((p : ℕ) × (r : LexReason) × Stop profile text p r)
-some_answer profile text h = answered profile text (chain_below profile (suc (length text)) text (omega arith) h)
+pub some_answer : (profile : Profile) (text : List ℕ) → are_bytes text ≡ true → ((ts : List Token) × HasTokens profile text ts) ⊎ ((p : ℕ) × (r : LexReason) × FailsAt profile text p r)
+some_answer profile text h = elim (answered profile (suc (length text)) 0 text (omega arith) h) [
+  | inl a ↦ inl (a.0, subst (λ (m : ℕ). Covers profile 0 text a.0 m []) (omega arith) a.1)
+  | inr b ↦ inr b
+]
 
 -- Profiles.
 
@@ -186,5 +165,5 @@ two_chain : (ps : List Lexeme) (z : List ℕ) → AreRead One ps z → AreRead T
 two_chain [] z h = h
 two_chain (p ∷ ps) z h = (two_reads (slice p) (spelled ps ++ z) p h.0, two_chain ps z h.1)
 
-pub both_profiles : (text : List ℕ) (ts : List Token) → Lex One text ts → Lex Two text ts
+pub both_profiles : (text : List ℕ) (ts : List Token) → HasTokens One text ts → HasTokens Two text ts
 both_profiles text ts a = let h = lex_parted One text ts a in parted_lex Two text ts (record { pieces = h.pieces; read = two_chain h.pieces [] h.read; whole = h.whole; placed = h.placed })

@@ -1,62 +1,62 @@
 -- A text read from its front on, and as a list of its pieces.
-use Rattle.cborn_lex.proofs.Common.{◌≡◌, refl, sym, ap, ◌∙◌, subst, ℕ, ◌+◌, List, [], ◌∷◌, ◌++◌, length, append_assoc, append-nil, arith, Profile, Token, LexReason, WhiteSpace, Read, Reads, Through, Lex, Stop, HasNoPiece, Lexeme, white_space, token, spelled, AreRead, tokens, Parted, BeginsNoPiece, LexParted, StopParted, length-append}
-use Rattle.cborn_lex.specs.Lex as text
+use Rattle.cborn_lex.proofs.Common.{Some, None, ◌≡◌, refl, sym, ap, ◌∙◌, subst, ℕ, ◌+◌, List, [], ◌∷◌, ◌++◌, length, append_assoc, append-nil, arith, Profile, Token, LexReason, WhiteSpace, Read, Reads, Covers, HasTokens, FailsAt, BeginsNothing, Lexeme, white_space, token, spelled, AreRead, tokens, Parted, BeginsNoPiece, LexParted, StopParted, length-append}
+use Rattle.cborn_lex.specs.Good as good
+use Rattle.cborn_lex.proofs.GoodFronts.{taken}
+use Rattle.cborn_lex.proofs.GoodBack.{read}
+use Rattle.cborn_lex.proofs.BadBack.{fails}
 
-pub parted : (profile : Profile) {n m : ℕ} {x y : List ℕ} {ts : List Token} → Through profile n x ts m y → Parted profile n x ts m y
-parted profile (text.here n x) = record { pieces = []; read = tt; whole = refl; place = omega arith; placed = refl }
-parted profile (text.white_space n m s x y ts h t) =
+pub parted : (profile : Profile) {n m : ℕ} {x y : List ℕ} {ts : List Token} → Covers profile n x ts m y → Parted profile n x ts m y
+parted profile (good.end n x) = record { pieces = []; read = tt; whole = refl; place = omega arith; placed = refl }
+parted profile (good.white_space n m s x y ts h t) =
     let r = parted profile t in
     let place = r.place in
     record {
       pieces = white_space s ∷ r.pieces;
-      read = (subst (λ (z : List ℕ). Reads profile s z WhiteSpace) r.whole h, r.read);
+      read = (subst (λ (z : List ℕ). Reads profile s z WhiteSpace) r.whole (read profile h), r.read);
       whole = ap (λ z. s ++ z) r.whole ∙ sym (append_assoc s (spelled r.pieces) y);
       place = omega (arith, length-append s (spelled r.pieces));
       placed = r.placed;
     }
-parted profile (text.token n m k s x y ts h t) =
+parted profile (good.token n m k s x y ts h t) =
     let r = parted profile t in
     let place = r.place in
     record {
       pieces = token k s ∷ r.pieces;
-      read = (subst (λ (z : List ℕ). Reads profile s z (Read k)) r.whole h, r.read);
+      read = (subst (λ (z : List ℕ). Reads profile s z (Read k)) r.whole (read profile h), r.read);
       whole = ap (λ z. s ++ z) r.whole ∙ sym (append_assoc s (spelled r.pieces) y);
       place = omega (arith, length-append s (spelled r.pieces));
       placed = ap (λ us. record { start = n; stop = n + length s; class = k } ∷ us) r.placed;
     }
 
-through_all : (profile : Profile) (n m : ℕ) (ps : List Lexeme) (y : List ℕ) → AreRead profile ps y → m ≡ n + length (spelled ps) → Through profile n (spelled ps ++ y) (tokens n ps) m y
-through_all profile n m [] y h e = subst (λ (k : ℕ). Through profile n y [] k y) (omega arith) (text.here n y)
+through_all : (profile : Profile) (n m : ℕ) (ps : List Lexeme) (y : List ℕ) → AreRead profile ps y → m ≡ n + length (spelled ps) → Covers profile n (spelled ps ++ y) (tokens n ps) m y
+through_all profile n m [] y h e = subst (λ (k : ℕ). Covers profile n y [] k y) (omega arith) (good.end n y)
 through_all profile n m (white_space s ∷ ps) y h e =
-    subst (λ (z : List ℕ). Through profile n z (tokens (n + length s) ps) m y) (sym (append_assoc s (spelled ps) y))
-    (text.white_space n m s (spelled ps ++ y) y (tokens (n + length s) ps) h.0 (through_all profile (n + length s) m ps y h.1 (omega (arith, length-append s (spelled ps)))))
+    subst (λ (z : List ℕ). Covers profile n z (tokens (n + length s) ps) m y) (sym (append_assoc s (spelled ps) y))
+    (good.white_space n m s (spelled ps ++ y) y (tokens (n + length s) ps) (taken profile s (spelled ps ++ y) WhiteSpace h.0) (through_all profile (n + length s) m ps y h.1 (omega (arith, length-append s (spelled ps)))))
 through_all profile n m (token k s ∷ ps) y h e =
-    subst (λ (z : List ℕ). Through profile n z (tokens n (token k s ∷ ps)) m y) (sym (append_assoc s (spelled ps) y))
-    (text.token n m k s (spelled ps ++ y) y (tokens (n + length s) ps) h.0 (through_all profile (n + length s) m ps y h.1 (omega (arith, length-append s (spelled ps)))))
+    subst (λ (z : List ℕ). Covers profile n z (tokens n (token k s ∷ ps)) m y) (sym (append_assoc s (spelled ps) y))
+    (good.token n m k s (spelled ps ++ y) y (tokens (n + length s) ps) (taken profile s (spelled ps ++ y) (Read k) h.0) (through_all profile (n + length s) m ps y h.1 (omega (arith, length-append s (spelled ps)))))
 
-pub through : (profile : Profile) (n m : ℕ) (x y : List ℕ) (ts : List Token) → Parted profile n x ts m y → Through profile n x ts m y
+pub through : (profile : Profile) (n m : ℕ) (x y : List ℕ) (ts : List Token) → Parted profile n x ts m y → Covers profile n x ts m y
 through profile n m x y ts r =
-    subst (λ (z : List ℕ). Through profile n z ts m y) (sym r.whole)
-    (subst (λ (us : List Token). Through profile n (spelled r.pieces ++ y) us m y) (sym r.placed) (through_all profile n m r.pieces y r.read r.place))
+    subst (λ (z : List ℕ). Covers profile n z ts m y) (sym r.whole)
+    (subst (λ (us : List Token). Covers profile n (spelled r.pieces ++ y) us m y) (sym r.placed) (through_all profile n m r.pieces y r.read r.place))
 
 -- Whole texts, and texts that stop.
 
-pub lex_parted : (profile : Profile) (text : List ℕ) (ts : List Token) → Lex profile text ts → LexParted profile text ts
+pub lex_parted : (profile : Profile) (text : List ℕ) (ts : List Token) → HasTokens profile text ts → LexParted profile text ts
 lex_parted profile text ts h = let r = parted profile h in record { pieces = r.pieces; read = r.read; whole = r.whole ∙ append-nil (spelled r.pieces); placed = r.placed }
 
-pub parted_lex : (profile : Profile) (text : List ℕ) (ts : List Token) → LexParted profile text ts → Lex profile text ts
+pub parted_lex : (profile : Profile) (text : List ℕ) (ts : List Token) → LexParted profile text ts → HasTokens profile text ts
 parted_lex profile text ts r = through profile 0 (length text) text [] ts (record { pieces = r.pieces; read = r.read; whole = r.whole ∙ sym (append-nil (spelled r.pieces)); place = omega (arith, ap length r.whole); placed = r.placed })
 
-pub stop_parted : (profile : Profile) (text : List ℕ) (n : ℕ) (r : LexReason) → Stop profile text n r → StopParted profile text n r
-stop_parted profile text n r (ts, s, x, t, bad) =
+pub stop_parted : (profile : Profile) (text : List ℕ) (n : ℕ) (r : LexReason) → FailsAt profile text n r → StopParted profile text n r
+stop_parted profile text n r (ts, y, t, f) =
     let p = parted profile t in
+    let b = fails profile f in
     let place = p.place in
-    record { pieces = p.pieces; front = s; rest = x; read = p.read; bad = bad; whole = p.whole; place = omega arith }
+    record { pieces = p.pieces; front = b.front; rest = b.rest; read = subst (AreRead profile p.pieces) b.whole p.read; bad = b.reads; whole = p.whole ∙ ap (λ z. spelled p.pieces ++ z) b.whole; place = omega arith }
 
-pub parted_stop : (profile : Profile) (text : List ℕ) (n : ℕ) (r : LexReason) → StopParted profile text n r → Stop profile text n r
-parted_stop profile text n r p =
-    let place = p.place in
-    (tokens 0 p.pieces, p.front, p.rest, through profile 0 n text (p.front ++ p.rest) (tokens 0 p.pieces) (record { pieces = p.pieces; read = p.read; whole = p.whole; place = omega arith; placed = refl }), p.bad)
-
-pub has_no_piece : (profile : Profile) (z : List ℕ) → BeginsNoPiece profile z → HasNoPiece profile z
-has_no_piece profile z h s x e = (λ r. h (white_space s) x r e, λ k r. h (token k s) x r e)
+pub has_no_piece : (profile : Profile) (z : List ℕ) → BeginsNoPiece profile z → BeginsNothing profile z
+has_no_piece profile z h s x None e t = h (white_space s) x (read profile t) e
+has_no_piece profile z h s x (Some k) e t = h (token k s) x (read profile t) e

@@ -1,5 +1,5 @@
 -- What a token weighs: one, and the bytes of its content. The tokens of a text weigh no more than four times its length.
-use Rattle.cborn_lex.proofs.Common.{◌≡◌, refl, sym, ap, ◌∙◌, subst, ℕ, suc, ◌+◌, ◌-◌, ◌*◌, ◌%◌, ◌^◌, ◌<◌, ◌≤◌, List, [], ◌∷◌, ◌++◌, length, take, drop, map, replicate, Bool, true, false, ◌&&◌, not, cond, ltb, eqb, inl, inr, Option, Some, None, Result, Ok, Err, arith, length-append, length-map, length-replicate, take-append-drop, cond_both, and_parts, and_from, lt-ltb, ltb-true, list_all-append, list_all, list_any, flat_map, filter, encode_utf8, encode_utf8_all, is_digit, digit_value, standard, Profile, One, Two, Mark, Class, ArrayOpen, MapOpen, ArrayClose, MapClose, ParenClose, Comma, Colon, EmbedClose, ChunkOpen, TagOpen, Word, Text, Bytes, Token, LexReason, NumberTooLarge, Front, WhiteSpace, Read, Bad, mark_of, marked, is_white, is_not, integer, within, signed, number_front, word_front, escape_code, are_hex, code, is_high, is_low, IsText, HasDigits, nothing, space, comment, IsHex, to_standard, filled, IsBase64, is_content, is_unclosed, Letter, raw, escaped, unit, pair, written, meant, is_letter, IsString, Prefix, hexadecimal, base64, unknown, prefix_of, IsPrefixed, IsAfterWord, ReadsNumber, double, simple, Start, white, slash, hash, less, greater, paren, letter, minus, digit, other, single, opening, start_of, paren_front, ReadsFrom, Reads, Lex, Between, Lexeme, white_space, token, spelled, AreRead, tokens, AreModest, IsModest}
+use Rattle.cborn_lex.proofs.Common.{◌≡◌, refl, sym, ap, ◌∙◌, subst, ℕ, suc, ◌+◌, ◌-◌, ◌*◌, ◌%◌, ◌^◌, ◌<◌, ◌≤◌, List, [], ◌∷◌, ◌++◌, length, take, drop, map, replicate, Bool, true, false, ◌&&◌, not, cond, ltb, eqb, inl, inr, Option, Some, None, Result, Ok, Err, arith, length-append, length-map, length-replicate, take-append-drop, cond_both, and_parts, and_from, lt-ltb, ltb-true, list_all-append, list_all, list_any, flat_map, filter, encode_utf8, encode_utf8_all, is_digit, digit_value, standard, Profile, One, Two, Mark, Class, ArrayOpen, MapOpen, EmbedClose, ChunkOpen, TagOpen, Word, Text, Bytes, Token, LexReason, NumberTooLarge, Front, WhiteSpace, Read, Bad, mark_of, marked, is_white, is_not, integer, within, signed, number_front, word_front, escape_code, are_hex, code, is_high, is_low, IsText, HasDigits, nothing, space, comment, IsHex, to_standard, filled, IsBase64, is_content, is_unclosed, Letter, raw, escaped, unit, pair, written, meant, is_letter, IsString, Prefix, hexadecimal, base64, unknown, prefix_of, IsPrefixed, IsAfterWord, ReadsNumber, double, simple, Start, white, slash, hash, less, greater, paren, letter, minus, digit, other, single, opening, start_of, paren_front, ReadsFrom, Reads, HasTokens, TokensBetween, Lexeme, white_space, token, spelled, AreRead, tokens, AreModest, IsModest}
 use Rattle.std.specs.Str.{IsUtf8, all_scalars}
 use lib.Utf8.{encode, scalar, scalar_cases}
 use Rattle.hex.proofs.HexLemmas.{decode_of-ok}
@@ -215,9 +215,6 @@ either_small b x y h k = cond_both b x y IsSmall (λ e. h) (λ e. k)
 within_small : (n : ℕ) → IsSmall (within n)
 within_small n = cond_both (ltb n (2 ^ 128)) (Ok n) (Err NumberTooLarge) IsSmall (λ e. ok (ltb-true n (2 ^ 128) e)) (λ e. err)
 
-integer_small : (negative : Bool) (body : List ℕ) → IsSmall (integer negative body)
-integer_small negative body = search (either_small, within_small, err) depth 12
-
 number_light : (negative tagged : Bool) (m : Option Mark) (r : Result ℕ LexReason) → IsSmall r → IsLight 1 (number_front negative tagged m r)
 number_light negative tagged m (Err r) err = bad
 number_light negative true m (Ok n) (ok h) = marked_light 1 (TagOpen n) m (λ m. read tt (omega arith))
@@ -225,42 +222,24 @@ number_light negative false m (Ok n) (ok h) = marked_light 1 (signed negative n)
 
 reads_number_light : (negative : Bool) (first s z : List ℕ) (a : Front) → ReadsNumber negative first s z a → IsLight 1 a
 reads_number_light negative first s z a (tagged, body, mark, tag, is, e) =
-    subst (IsLight 1) (sym e) (number_light negative tagged (mark_of mark) (integer negative (first ++ body)) (integer_small negative (first ++ body)))
+    subst (IsLight 1) (sym e) (number_light negative tagged (mark_of mark) (integer negative (first ++ body)) (search (either_small, within_small, err) depth 12))
 
 -- What a first character begins.
 
-data IsLightStart : Start → Type 0 where
-  one : {k : Class} → IsModest k → weight k ≤ 1 → IsLightStart (single k)
-  each : {k : Mark → Class} → ((m : Mark) → IsLight 1 (Read (k m))) → IsLightStart (opening k)
-  of_double : IsLightStart double
-  of_simple : IsLightStart simple
-  of_white : IsLightStart white
-  of_slash : IsLightStart slash
-  of_hash : IsLightStart hash
-  of_less : IsLightStart less
-  of_greater : IsLightStart greater
-  of_paren : IsLightStart paren
-  of_letter : IsLightStart letter
-  of_minus : IsLightStart minus
-  of_digit : IsLightStart digit
-  of_other : IsLightStart other
+abbrev IsLightStart : Start → Type 0
+IsLightStart (single k) = IsModest k × (weight k ≤ 1)
+IsLightStart (opening k) = (m : Mark) → IsLight 1 (Read (k m))
+IsLightStart _ = Unit {0}
 
 either_start : (b : Bool) (x y : Start) → IsLightStart x → IsLightStart y → IsLightStart (cond b x y)
 either_start b x y h k = cond_both b x y IsLightStart (λ e. h) (λ e. k)
 
 start_light : (c : ℕ) → IsLightStart (start_of c)
 start_light c =
-    let array : IsLightStart (opening ArrayOpen) = each (λ m. read tt (omega arith)) in
-    let map : IsLightStart (opening MapOpen) = each (λ m. read tt (omega arith)) in
-    let array_end : IsLightStart (single ArrayClose) = one tt (omega arith) in
-    let map_end : IsLightStart (single MapClose) = one tt (omega arith) in
-    let paren_end : IsLightStart (single ParenClose) = one tt (omega arith) in
-    let comma : IsLightStart (single Comma) = one tt (omega arith) in
-    let colon : IsLightStart (single Colon) = one tt (omega arith) in
-    search (either_start, array, map, array_end, map_end, paren_end, comma, colon, of_double, of_simple, of_white, of_slash, of_hash, of_less, of_greater, of_paren, of_letter, of_minus, of_digit, of_other) depth 24
-
-paren_light : (mark : List ℕ) → IsLight 1 (paren_front mark)
-paren_light mark = let chunks : IsLight 1 (Read ChunkOpen) = read tt (omega arith) in search (either_light 1, bad, chunks) depth 8
+    let array : (m : Mark) → IsLight 1 (Read (ArrayOpen m)) = λ m. read tt (omega arith) in
+    let map : (m : Mark) → IsLight 1 (Read (MapOpen m)) = λ m. read tt (omega arith) in
+    let one : 1 ≤ 1 = omega arith in
+    search (either_start, array, map, one) depth 24
 
 from_light : (k : Start) (profile : Profile) (c : ℕ) (s z : List ℕ) (a : Front) → IsLightStart k → are_bytes s ≡ true → ReadsFrom k profile c s z a → IsLight (length s + 4) a
 from_light white profile c s z a l h is = subst (IsLight _) (sym is.1) no_token
@@ -269,13 +248,13 @@ from_light slash profile c s z a l h (inr is) = subst (IsLight _) (sym is.1) bad
 from_light hash One c s z a l h is = subst (IsLight _) (sym is.1) bad
 from_light hash Two c s z a l h (inl (body, is, e)) = subst (IsLight _) (sym e) no_token
 from_light hash Two c s z a l h (inr is) = subst (IsLight _) (sym is.1) no_token
-from_light (single k) profile c s z a (one modest l) h is = subst (IsLight _) (sym is.1) (read modest (omega arith))
-from_light (opening k) profile c s z a (each l) h is = subst (IsLight _) (sym is.1) (lighter 1 _ (marked k (mark_of s)) (omega arith) (marked_light 1 k (mark_of s) l))
+from_light (single k) profile c s z a (modest, l) h is = subst (IsLight _) (sym is.1) (read modest (omega arith))
+from_light (opening k) profile c s z a l h is = subst (IsLight _) (sym is.1) (lighter 1 _ (marked k (mark_of s)) (omega arith) (marked_light 1 k (mark_of s) l))
 from_light less profile c s z a l h (inl is) = subst (IsLight _) (sym is.1) (read tt (omega arith))
 from_light less profile c s z a l h (inr is) = subst (IsLight _) (sym is.2) bad
 from_light greater profile c s z a l h (inl (mark, e, is, f)) = subst (IsLight _) (sym f) (marked_light _ EmbedClose (mark_of mark) (λ m. read tt (omega arith)))
 from_light greater profile c s z a l h (inr is) = subst (IsLight _) (sym is.2) bad
-from_light paren profile c s z a l h is = subst (IsLight _) (sym is.1) (lighter 1 _ (paren_front s) (omega arith) (paren_light s))
+from_light paren profile c s z a l h is = subst (IsLight _) (sym is.1) (lighter 1 _ (paren_front s) (omega arith) (let chunks : IsLight 1 (Read ChunkOpen) = read tt (omega arith) in search (either_light 1, bad, chunks) depth 8))
 from_light double profile c s z a l h is = string_light (is_content 34) (is_unclosed 34) 34 (IsText 34) _ Text s z a (text_spelled 34) is_of_text h is
 from_light simple profile c s z a l h is = string_light (is_content 39) (is_unclosed 39) 39 (IsText 39) _ (Bytes true) s z a (text_spelled 39) (is_of_bytes true) h is
 from_light minus profile c s z a l h is = lighter 1 _ a (omega arith) (reads_number_light true [] s z a is)
@@ -307,7 +286,7 @@ tokens_light profile (token k s ∷ ps) n z h is =
     ((f.0, r.0), omega (arith, f.1, r.1, length-append s (spelled ps)))
 
 -- LAW: the tokens of a text are modest, and weigh four times its length at most
-pub text_light : (profile : Profile) (text : List ℕ) (ts : List Token) → AreBytes text → Lex profile text ts → AreModest ts × (weigh ts ≤ 4 * length text)
+pub text_light : (profile : Profile) (text : List ℕ) (ts : List Token) → AreBytes text → HasTokens profile text ts → AreModest ts × (weigh ts ≤ 4 * length text)
 text_light profile text ts h a =
     let lex = lex_parted profile text ts a in
     let whole = lex.whole in
@@ -315,7 +294,7 @@ text_light profile text ts h a =
     rw lex.placed (r.0, omega (arith, r.1, ap length whole))
 
 -- LAW: the tokens between two places of a text are modest, also if the text has a lexical fault after them
-pub between_modest : (profile : Profile) (text : List ℕ) (n m : ℕ) (ts : List Token) → AreBytes text → Between profile text n m ts → AreModest ts
+pub between_modest : (profile : Profile) (text : List ℕ) (n m : ℕ) (ts : List Token) → AreBytes text → TokensBetween profile text n m ts → AreModest ts
 between_modest profile text n m ts h a =
     let b = parted profile a in
     let after : are_bytes (drop n text) ≡ true = (split (take n text) (drop n text) (ap are_bytes (take-append-drop n text) ∙ as_test text h)).1 in

@@ -1,7 +1,6 @@
 -- A device of the proofs: contents of strings as lists of letters, and what they stand for. No definition cites it.
 use Rattle.std.specs.Prelude.{◌≡◌, ℕ, ◌<◌, Bool, true, ◌||◌, ◌&&◌, not, List, [], ◌∷◌, ◌++◌, flat_map, ◌==◌, nat_le, encode_utf8, length, take, slice_index}
-use Rattle.std.specs.List.{list_all}
-use Rattle.std.specs.Str.{byte}
+use Rattle.cborn_lex.specs.Common.{list_all, byte}
 use Rattle.cborn_lex.specs.Strings.{four, code, are_hex, is_high, is_low, is_escape, escape_code, paired, is_content, IsText}
 use Rattle.cborn_lex.specs.devices.Scan.{is_raw}
 

@@ -1,9 +1,6 @@
 -- A device of the proofs: a text as a list of its pieces. No definition cites it.
 use Rattle.std.specs.Prelude.{◌≡◌, ℕ, ◌+◌, List, [], ◌∷◌, ◌++◌, length}
-use Rattle.cborn_lex.specs.declared.classes.Profile.{Profile}
-use Rattle.cborn_lex.specs.declared.classes.Class.{Class}
-use Rattle.cborn_lex.specs.declared.classes.Token.{Token}
-use Rattle.cborn_lex.specs.declared.faults.LexReason.{LexReason}
+use Rattle.cborn_lex.specs.Common.{Profile, Class, Token, LexReason}
 use Rattle.cborn_lex.specs.Tokens.{Front, WhiteSpace, Read, Bad}
 use Rattle.cborn_lex.specs.Forms.{Reads}
 

@@ -1,11 +1,9 @@
 -- A device of the proofs: functions that the code computes. No definition cites it.
 use Rattle.std.specs.Prelude.{ℕ, ◌+◌, ◌-◌, ◌*◌, Bool, true, false, not, List, [], ◌∷◌, ◌++◌, drop, Option, Some, None, ◌==◌, ◌&&◌, nat_le, cond}
-use Rattle.std.specs.Char.{is_digit}
+use Rattle.cborn_lex.specs.Common.{is_digit, LexReason, BadHex, BadBase64}
 use Rattle.cborn_lex.specs.Tokens.{is_white}
 use Rattle.cborn_lex.specs.declared.encoded.Encoding.{Encoding}
 use Rattle.cborn_lex.specs.declared.encoded.Encoding.TheVariants.{Hex, Base64}
-use Rattle.cborn_lex.specs.declared.faults.LexReason.{LexReason}
-use Rattle.cborn_lex.specs.declared.faults.LexReason.TheVariants.{BadHex, BadBase64}
 use Rattle.cborn_lex.specs.Strings.{IsHex, IsBase64, is_escape, escape_code, are_hex, code, is_high, is_low}
 
 abbrev pub onto : ℕ → Option (List ℕ) → Option (List ℕ)

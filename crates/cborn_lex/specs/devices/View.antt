@@ -1,6 +1,6 @@
 -- A device of the proofs: what the private types of the code stand for. No definition cites it.
-use Rattle.std.specs.Prelude.{◌≡◌, ℕ, List}
-use Rattle.cborn_lex.specs.declared.classes.Class.{Class}
+use Rattle.std.specs.Prelude.{◌≡◌, ℕ, List, true, ◌==◌, if◌then◌else◌}
+use Rattle.cborn_lex.specs.Common.{Class, Mark, Text, Bytes}
 use Rattle.cborn_lex.specs.declared.fronts.Front.{Front as FrontIn}
 use Rattle.cborn_lex.specs.declared.fronts.Front.TheVariants as fronts
 use Rattle.cborn_lex.specs.Tokens.{Front, WhiteSpace, Read, Bad}
@@ -17,3 +17,7 @@ abbrev pub FrontStandsFor : FrontIn → ℕ → List ℕ → List ℕ → Front 
 FrontStandsFor fronts.WhiteSpace n old new a = (a ≡ WhiteSpace) × (new ≡ old)
 FrontStandsFor (fronts.Read k) n old new a = (c : Class) × (a ≡ Read c) × StandsFor k n old new c
 FrontStandsFor (fronts.Bad r) n old new a = a ≡ Bad r
+
+-- what a string between quotes q is, by its bytes and its indicator
+abbrev pub of_quoted : ℕ → List ℕ → Mark → Class
+of_quoted q = if q == 34 then Text else Bytes true

@@ -1,9 +1,7 @@
 -- A device of the proofs: tokens as a text has them: contents are bytes, numbers are below 2^128, and words are simple values below 24. No definition cites it.
 use Rattle.std.specs.Prelude.{◌^◌, ◌<◌, List, [], ◌∷◌}
 use Rattle.cborn_model.specs.Bytes.{AreBytes}
-use Rattle.cborn_lex.specs.declared.classes.Class.{Class}
-use Rattle.cborn_lex.specs.declared.classes.Class.TheVariants.{Number, Word, Text, Bytes}
-use Rattle.cborn_lex.specs.declared.classes.Token.{Token}
+use Rattle.cborn_lex.specs.Common.{Class, Number, Word, Text, Bytes, Token}
 
 abbrev pub IsModest : Class → Type 0
 IsModest (Number n v m) = v < 2 ^ 128

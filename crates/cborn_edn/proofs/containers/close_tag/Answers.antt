@@ -1,9 +1,5 @@
 use Rattle.cborn_edn.proofs.Common.{refl, ap, ◌∙◌, ◌∷◌, append_assoc, Writer, Absent, tag_errors, first_error, bracket, brackets_of, arounds_of, bytes_around, noted, noted_stack, faults, tag, in_tag, has, states_around}
-use Rattle.cborn_edn.proofs.Reader.Results.{on_ok}
-use Rattle.cborn_edn.proofs.Reader.Showing.{same_around}
-use Rattle.cborn_edn.proofs.Reader.Closed.{closed}
-use Rattle.cborn_edn.proofs.Reader.Rows.{AtEnd}
-use Rattle.cborn_edn.proofs.HandedOver.Closings.{hands_tag_end}
+use Rattle.cborn_edn.proofs.Lemmas.{on_ok, same_around, closed, AtEnd, hands_tag_end}
 use Rattle.cborn_edn.proofs.containers.close_tag.Goals as goal
 
 pub returns : goal.returns

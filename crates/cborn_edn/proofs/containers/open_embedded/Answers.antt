@@ -1,6 +1,5 @@
 use Rattle.cborn_edn.proofs.Common.{rules, ◌≡◌, ap, ◌∙◌, length, Writer}
-use Rattle.cborn_edn.proofs.Reader.Results.{on_ok, both_ok}
-use Rattle.cborn_edn.proofs.Reader.Closed.{embed_kept}
+use Rattle.cborn_edn.proofs.Lemmas.{on_ok, both_ok, embed_kept}
 use Rattle.cborn_edn.proofs.containers.open_embedded.Goals as goal
 
 pub returns-clause-shows : goal.returns-clause-shows

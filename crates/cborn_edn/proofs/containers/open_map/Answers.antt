@@ -1,9 +1,6 @@
-use Rattle.cborn_edn.proofs.Common.{refl, sym, ◌∷◌, level_of, count_of, brackets_of, no_pair, in_key, wants, noted_stack, states_around}
+use Rattle.cborn_edn.proofs.Common.{refl, sym, ◌∷◌, level_of, count_of, brackets_of, no_pair, in_key, wants, noted_stack, states_around, [], inside, front_of, a_map, None}
+use Rattle.cborn_edn.proofs.Lemmas.{free, no_left, both_ok, same_errors, opened_read}
 use Rattle.cborn_edn.specs.declared.states.Level.TheVariants as levels
-use Rattle.cborn_edn.proofs.Reader.Results.{both_ok}
-use Rattle.cborn_edn.proofs.Reader.Showing.{same_errors}
-use Rattle.cborn_edn.proofs.Reader.Put.{opened_read}
-use Rattle.cborn_edn.proofs.HandedOver.Openings.{hands_map}
 use Rattle.cborn_edn.proofs.containers.open_map.Goals as goal
 
 pub returns : goal.returns
@@ -11,4 +8,4 @@ returns g c = both_ok c.open_bracket.result (λ f l st a p r.
     let error = same_errors c.args.writer.now.error (noted_stack st) r.shows.error in
     let inner = in_key st a c.args.mark no_pair in
     opened_read st inner levels.Key c.args.place c.args.mark c.args.writer.now.error c.hand.new.spellers refl refl refl (λ i. record { place = sym p i; count = count_of st; level = level_of st; mark = c.args.mark } ∷ brackets_of st) refl refl error c.open_bracket.new.here c.open_bracket.new.writer f l
-    (c.in_ok-hand.ensures (wants st) (wants inner) (states_around st) error (hands_map st a p c.args.mark c.size_asked.result c.size_asked.ensures) r.handed) r) c.open_bracket.ensures.here c.open_bracket.ensures.writer
+    (c.in_ok-hand.ensures (wants st) (wants inner) (states_around st) error (λ q. (no_left _ _ q, free st, λ i. inside (front_of st) (a_map (p i) (c.size_asked.ensures i) None) [])) r.handed) r) c.open_bracket.ensures.here c.open_bracket.ensures.writer

@@ -1,6 +1,5 @@
 use Rattle.cborn_edn.proofs.Common.{◌≡◌, sym, ap, ◌∙◌, subst, ◌∷◌, Some, EmbedClose, embedded, is_in, stack_in, content_state, states_around, AllHanded, Reads, State, in_embed, builds, with_piece, step_by}
-use Rattle.cborn_edn.proofs.HandedOver.Silent.{embed_closed}
-use Rattle.cborn_edn.proofs.Reader.Inverted.{ending, embed_at, embed_step, no_embed}
+use Rattle.cborn_edn.proofs.Lemmas.{embed_closed, ending, embed_at, embed_step, no_embed}
 use Rattle.cborn_edn.proofs.Reader.Turning.{content_spelled}
 use Rattle.cborn_edn.specs.declared.states.Level.TheVariants as levels
 use Rattle.cborn_edn.proofs.endings.end_embedded.Goals as goal

@@ -1,7 +1,5 @@
-use Rattle.cborn_edn.proofs.Common.{◌≡◌, sym, ap, ◌∙◌, true, false, arith, first_error, is_none}
-use Rattle.cborn_model.proofs.Bytes.{are_bytes}
-use Rattle.cborn_edn.proofs.Reader.Results.{on_ok}
-use Rattle.cborn_edn.proofs.HandedOver.Handing.{silenced, outside, inside}
+use Rattle.cborn_edn.proofs.Common.{◌≡◌, sym, ap, ◌∙◌, true, false, arith, first_error, is_none, are_bytes}
+use Rattle.cborn_edn.proofs.Lemmas.{on_ok, silenced, outside, inside}
 use Rattle.cborn_edn.proofs.handing.hand.Goals as goal
 
 pub returns-then-not-is_none : goal.returns-then-not-is_none

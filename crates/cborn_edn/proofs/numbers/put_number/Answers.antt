@@ -1,8 +1,5 @@
 use Rattle.cborn_edn.proofs.Common.{◌≡◌, refl, ap, ◌∙◌, ◌++◌, ◌^◌, true, false, arith, lt-ltb, le-ltb, is_small, argument_of, number_errors, first_error, number, noted_stack, states_around, wants, has}
-use Rattle.cborn_edn.proofs.HandedOver.Fits.{number_fits}
-use Rattle.cborn_edn.proofs.HandedOver.Openings.{hands_integer, hands_bignum}
-use Rattle.cborn_edn.proofs.Reader.Put.{leaf_shown}
-use Rattle.cborn_edn.proofs.Reader.Results.{on_ok, all_ok}
+use Rattle.cborn_edn.proofs.Lemmas.{number_fits, hands_integer, hands_bignum, leaf_shown, on_ok, all_ok}
 use Rattle.cborn_edn.proofs.numbers.put_number.Goals as goal
 
 pub returns-then-argument-ge-OUTSIDE : goal.returns-then-argument-ge-OUTSIDE

@@ -1,9 +1,5 @@
-use Rattle.cborn_edn.proofs.Common.{◌≡◌, refl, sym, ap, ◌∙◌, true, false, arith, first_error, is_none, states_around, wants_number, has_number}
-use Rattle.cborn_edn.proofs.HandedOver.Fits.{simple_fits}
-use Rattle.cborn_edn.proofs.HandedOver.Handing.{silenced}
-use Rattle.cborn_edn.proofs.HandedOver.Openings.{hands_simple}
-use Rattle.cborn_edn.proofs.Reader.Put.{leaf_shown, simple_noted}
-use Rattle.cborn_edn.proofs.Reader.Results.{on_ok}
+use Rattle.cborn_edn.proofs.Common.{◌≡◌, refl, sym, ap, ◌∙◌, true, false, arith, first_error, is_none, states_around, wants_number, has_number, put, front_of, Simple}
+use Rattle.cborn_edn.proofs.Lemmas.{no_left, simple_fits, silenced, free, leaf_shown, simple_noted, on_ok}
 use Rattle.cborn_edn.proofs.numbers.put_simple.Goals as goal
 
 pub returns-then-not-is_none : goal.returns-then-not-is_none
@@ -36,5 +32,5 @@ returns g c = on_ok c.hand.result (λ hand st s a p r.
     let noted = simple_noted w.error c.note_simple.new.error st s a w.simple c.args.place n.negative n.magnitude n.mark r.shows.simple p r.shows.error c.note_simple.ensures in
     record {
       shows = leaf_shown (wants_number st s) u c.note_simple.new.error refl refl refl refl refl refl tt noted r.shows;
-      handed = hand (wants_number st s) u (states_around st) noted (hands_simple st s r.shows.simple a n.negative n.magnitude n.mark) r.handed;
+      handed = hand (wants_number st s) u (states_around st) noted (λ q. (no_left _ _ q, free st, ap (λ k. put (front_of st) (Simple k n.magnitude)) r.shows.simple)) r.handed;
     }) c.hand.ensures

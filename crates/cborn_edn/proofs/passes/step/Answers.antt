@@ -1,15 +1,11 @@
-use Rattle.cborn_edn.proofs.Common.{ap, ◌∙◌, class_of, IsNoNotation, lexical, reach}
-use Rattle.cborn_lex.proofs.GoodTexts.{stop_from}
-use Rattle.cborn_lex.proofs.WholeTexts.Weights.{utf8_bytes}
-use Rattle.cborn_edn.proofs.Reader.Results.{passed_on}
-use Rattle.cborn_edn.proofs.Reader.Going.{stopped}
-use Rattle.cborn_edn.proofs.Reader.Stepping.{last_read, token_read, ready, further, stop_inside, went_on, refusal}
+use Rattle.cborn_edn.proofs.Common.{passed_on, ap, ◌∙◌, class_of, IsNoNotation, lexical, reach, utf8_bytes}
+use Rattle.cborn_edn.proofs.Lemmas.{stopped, last_read, token_read, ready, further, stop_inside, went_on, refusal}
 use Rattle.cborn_edn.proofs.passes.step.Goals as goal
 
 pub returns-in_err-found-clause-refused : goal.returns-in_err-found-clause-refused
 returns-in_err-found-clause-refused g c =
     passed_on c.from_residual.result (lexical c.in_err-found.field-0.0) (IsNoNotation c.args.source.profile c.args.source.limit c.args.source.text.now)
-    (stopped c.args.source.profile c.args.source.limit c.args.source.text.now c.args.here.now.at c.requires.0.state c.requires.0.reached c.in_err-found.field-0.0 (stop_from c.args.source.profile c.args.source.text.now c.args.here.now.at c.in_err-found.field-0.0 c.in_err-found.ensures.refused)) c.from_residual.ensures
+    (stopped c.args.source.profile c.args.source.limit c.args.source.text.now c.args.here.now.at c.requires.0.state c.requires.0.reached c.in_err-found.field-0.0 c.in_err-found.ensures.refused) c.from_residual.ensures
 
 pub returns-in_default-clause-read : goal.returns-in_default-clause-read
 returns-in_default-clause-read g c = last_read c.args.source.profile c.args.source.limit c.args.source.text.now (utf8_bytes c.args.source.text.now c.requires.0.utf8) c.args.here.now c.args.writer.now c.requires.0 c.in_ok-found.found c.next_token.new.number (record c.args.writer.now { pieces = c.next_token.new.out }) c.in_ok-found.ensures.ok c.in_default.is

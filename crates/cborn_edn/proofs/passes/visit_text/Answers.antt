@@ -1,7 +1,6 @@
 use Rattle.cborn_edn.proofs.Common.{subst, arith, ◌^◌, ◌<◌, start}
 use Rattle.cborn_edn.specs.declared.states.TheConstants as constants
-use Rattle.cborn_edn.proofs.Reader.Ending.{first_reads}
-use Rattle.cborn_edn.proofs.Reader.Going.{begins}
+use Rattle.cborn_edn.proofs.Lemmas.{first_reads, begins}
 use Rattle.cborn_edn.proofs.passes.visit_text.Goals as goal
 
 pub read_tokens-requires : goal.read_tokens-requires

@@ -1,10 +1,6 @@
 use Rattle.cborn_edn.proofs.Common.{refl, sym, ap, ◌∙◌, ℕ, List, arith, ◌+◌, ◌≡◌, slice_index, ParenClose, Span, simple, states_around, has, has_number}
 use Rattle.cborn_lex.specs.Good as good
-use Rattle.cborn_edn.proofs.Reader.CommonTokens.{single_here}
-use Rattle.cborn_edn.proofs.HandedOver.Handing.{stays}
-use Rattle.cborn_edn.proofs.HandedOver.Silent.{handed_close_simple}
-use Rattle.cborn_edn.proofs.Reader.Going.{free_none}
-use Rattle.cborn_edn.proofs.Reader.Taking.{went, taken_from, simple_number, shown_as}
+use Rattle.cborn_edn.proofs.Lemmas.{single_here, stays, handed_close_simple, free_none, went, taken_from, simple_number, shown_as}
 use Rattle.cborn_edn.proofs.quick.take_simple_end.Goals as goal
 
 pub returns : goal.returns

@@ -1,6 +1,5 @@
 use Rattle.cborn_edn.proofs.Common.{sym, ap, ◌∙◌, subst, ℕ, List, [], ◌+◌, get_or, arith, TokensBetween, is_white}
-use Rattle.cborn_edn.proofs.Reader.CommonTokens.{white_here}
-use Rattle.cborn_edn.proofs.Reader.Taking.{skipped}
+use Rattle.cborn_edn.proofs.Lemmas.{white_here, skipped}
 use Rattle.cborn_edn.proofs.quick.take_white_space.Goals as goal
 
 pub returns-then-not-begins_white_space-2 : goal.returns-then-not-begins_white_space-2

@@ -1,8 +1,6 @@
 use Rattle.cborn_edn.proofs.Common.{refl, arith, ◌+◌, Comma, Span, strings, after_strings, as_chunk, builds, wants_chunk}
 use Rattle.cborn_lex.specs.Good as good
-use Rattle.cborn_edn.proofs.Reader.CommonTokens.{single_here}
-use Rattle.cborn_edn.proofs.Reader.Going.{free_none}
-use Rattle.cborn_edn.proofs.Reader.Taking.{went, chunked, taken_from}
+use Rattle.cborn_edn.proofs.Lemmas.{single_here, free_none, went, chunked, taken_from}
 use Rattle.cborn_edn.proofs.quick_ends.take_chunk_comma.Goals as goal
 
 pub end_chunk-requires : goal.end_chunk-requires

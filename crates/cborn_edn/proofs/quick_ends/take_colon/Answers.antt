@@ -1,8 +1,6 @@
 use Rattle.cborn_edn.proofs.Common.{refl, arith, ◌+◌, Colon, Span, has}
 use Rattle.cborn_lex.specs.Good as good
-use Rattle.cborn_edn.proofs.Reader.CommonTokens.{single_here}
-use Rattle.cborn_edn.proofs.Reader.Turning.{still_taken, colon_handed}
-use Rattle.cborn_edn.proofs.Reader.Taking.{skipped_to, after_taken}
+use Rattle.cborn_edn.proofs.Lemmas.{single_here, still_taken, colon_handed, skipped_to, after_taken}
 use Rattle.cborn_edn.proofs.quick_ends.take_colon.Goals as goal
 
 pub skip_space-requires : goal.skip_space-requires

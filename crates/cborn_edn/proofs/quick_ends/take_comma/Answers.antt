@@ -1,8 +1,6 @@
 use Rattle.cborn_edn.proofs.Common.{refl, arith, ◌+◌, Comma, Span, has}
 use Rattle.cborn_lex.specs.Good as good
-use Rattle.cborn_edn.proofs.Reader.CommonTokens.{single_here}
-use Rattle.cborn_edn.proofs.Reader.Turning.{still_taken, comma_handed}
-use Rattle.cborn_edn.proofs.Reader.Taking.{skipped_to, after_taken, few_here}
+use Rattle.cborn_edn.proofs.Lemmas.{single_here, still_taken, comma_handed, skipped_to, after_taken, few_here}
 use Rattle.cborn_edn.proofs.quick_ends.take_comma.Goals as goal
 
 pub end_entry-taken-requires : goal.end_entry-taken-requires

@@ -1,7 +1,6 @@
 use Rattle.cborn_edn.proofs.Common.{refl, arith, ◌+◌, ParenClose, Span}
 use Rattle.cborn_lex.specs.Good as good
-use Rattle.cborn_edn.proofs.Reader.CommonTokens.{single_here}
-use Rattle.cborn_edn.proofs.Reader.Taking.{went, after_taken}
+use Rattle.cborn_edn.proofs.Lemmas.{single_here, went, after_taken}
 use Rattle.cborn_edn.proofs.quick_ends.take_tag_end.Goals as goal
 
 pub returns-then-taken : goal.returns-then-taken

@@ -1,7 +1,5 @@
 use Rattle.cborn_edn.proofs.Common.{refl, arith, ◌+◌, ChunkOpen, Span, no_string, states_around, wants, wants_chunk}
-use Rattle.cborn_edn.proofs.Reader.Turning.{same_handed}
-use Rattle.cborn_edn.proofs.HandedOver.Silent.{handed_open_chunks}
-use Rattle.cborn_edn.proofs.Reader.Taking.{went, item_taken}
+use Rattle.cborn_edn.proofs.Lemmas.{same_handed, handed_open_chunks, went, item_taken}
 use Rattle.cborn_edn.proofs.quick_items.take_chunked.Goals as goal
 
 pub returns : goal.returns

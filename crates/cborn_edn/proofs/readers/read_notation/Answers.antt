@@ -1,5 +1,4 @@
-use Rattle.cborn_edn.proofs.Common.{arith, trees}
-use Rattle.cborn_lex.proofs.WholeTexts.Weights.{utf8_bytes}
+use Rattle.cborn_edn.proofs.Common.{arith, trees, utf8_bytes}
 use Rattle.cborn_edn.proofs.Short.Facts.{notated_sound}
 use Rattle.cborn_edn.proofs.readers.read_notation.Goals as goal
 

@@ -1,6 +1,5 @@
-use Rattle.cborn_edn.proofs.Common.{List, ◌∷◌, [], ◌++◌, inl, inr, refl, arith, Token}
-use Rattle.cborn_lex.proofs.GoodTexts.{stop_from}
-use Rattle.cborn_lex.proofs.WholeTexts.Progress.{nothing, joins, inside, few, stops}
+use Rattle.cborn_edn.proofs.Common.{List, ◌∷◌, [], ◌++◌, inl, inr, refl, arith, Token, joins, few, stops}
+use Rattle.cborn_lex.proofs.WholeTexts.Progress.{nothing, inside}
 use Rattle.cborn_edn.proofs.Reader.BareTokens.{next_of, last_of}
 use Rattle.cborn_edn.proofs.refusals.first_fault.Goals as goal
 
@@ -31,4 +30,4 @@ returns-in-Ok-None c =
 pub returns-in-Err : goal.returns-in-Err
 returns-in-Err c =
     let inv = c.tokens.invariant in
-    inr (c.in-Err.stop, stops c.args.profile c.args.text.now c.args.at c.tokens.place inv.0.0 c.in-Err.stop inv.0.1 (stop_from c.args.profile c.args.text.now c.tokens.place c.in-Err.stop c.in-Err.ensures.refused), c.from.ensures)
+    inr (c.in-Err.stop, stops c.args.profile c.args.text.now c.args.at c.tokens.place inv.0.0 c.in-Err.stop inv.0.1 c.in-Err.ensures.refused, c.from.ensures)

@@ -1,6 +1,5 @@
 use Rattle.cborn_edn.proofs.Common.{◌++◌, ◌∷◌, [], sym, ap, ◌∙◌, subst, take, arith, IsUtf8, take_more, take_all, top, no_part, IsHeld}
-use Rattle.cborn_edn.proofs.Notating.{error_is}
-use Rattle.cborn_edn.proofs.Shown.Characters.{fits_more, fits_whole}
+use Rattle.cborn_edn.proofs.Lemmas.{error_is, fits_more, fits_whole}
 use Rattle.cborn_edn.proofs.showing.show.Goals as goal
 
 pub returns-in_err-finish-clause-refused : goal.returns-in_err-finish-clause-refused

@@ -1,7 +1,6 @@
 use Rattle.cborn_lex.specs.declared.classes.Kind.TheVariants as kinds
 use Rattle.cborn_edn.proofs.Common.{Comma, Colon, has}
-use Rattle.cborn_edn.proofs.Reader.Results.{if_ok}
-use Rattle.cborn_edn.proofs.Reader.Turning.{turn, still_taken, colon_handed, comma_handed}
+use Rattle.cborn_edn.proofs.Lemmas.{if_ok, turn, still_taken, colon_handed, comma_handed}
 use Rattle.cborn_edn.proofs.steps.after.Goals as goal
 
 pub returns-in-EmbedClose : goal.returns-in-EmbedClose

@@ -1,6 +1,5 @@
 use Rattle.cborn_edn.proofs.Common.{sym, ap, ◌∙◌, subst, string, Reads, Taken, has_chunks, Home, builds, as_item, has}
-use Rattle.cborn_edn.proofs.Reader.Results.{if_ok}
-use Rattle.cborn_edn.proofs.Reader.Turning.{item_home, chunk_home, taken_same, ended_same}
+use Rattle.cborn_edn.proofs.Lemmas.{if_ok, item_home, chunk_home, taken_same, ended_same}
 use Rattle.cborn_edn.proofs.steps.after_pieces.Goals as goal
 
 pub end_item-requires : goal.end_item-requires

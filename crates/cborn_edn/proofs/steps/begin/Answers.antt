@@ -1,8 +1,6 @@
 use Rattle.cborn_edn.proofs.Common.{refl, ap, ◌∙◌, subst, true, class_of, Kind, IsModest, is_piece, number, word, no_item, no_pair, no_string, states_around, in_row, in_key, in_tag, in_array, wants, has, wants_chunk, wants_number}
 use Rattle.cborn_lex.specs.declared.classes.Kind.TheVariants as kinds
-use Rattle.cborn_edn.proofs.Reader.Results.{if_ok}
-use Rattle.cborn_edn.proofs.Reader.Turning.{turn, same_handed, shown_kind}
-use Rattle.cborn_edn.proofs.HandedOver.Silent.{handed_open_chunks, handed_open_simple}
+use Rattle.cborn_edn.proofs.Lemmas.{if_ok, turn, same_handed, shown_kind, handed_open_chunks, handed_open_simple}
 use Rattle.cborn_edn.proofs.steps.begin.Goals as goal
 
 pub returns-in_ok-open_array-in-ArrayOpen : goal.returns-in_ok-open_array-in-ArrayOpen
@@ -30,19 +28,19 @@ pub put_word-requires : goal.put_word-requires
 put_word-requires g c = let r = c.requires.ready.1.1.1 in subst IsModest (r.stands.class ∙ ap (λ (k : Kind). class_of k c.args.number r.stands.content) c.in-Word.is) r.token
 
 pub returns-in-ArrayClose : goal.returns-in-ArrayClose
-returns-in-ArrayClose g c = if_ok c.end_array.result _ _ (λ ok t st. turn _ c.args.token.kind (kinds.ArrayClose) c.args.number c.args.token.start c.args.here.now c.end_array.new.here c.args.writer.now c.end_array.new.writer ok (wants st) c.in-ArrayClose.is (λ x a p e. t (wants st) a tt e)) c.end_array.ensures.taken
+returns-in-ArrayClose g c = if_ok c.end_sized.result _ _ (λ ok t st. turn _ c.args.token.kind (kinds.ArrayClose) c.args.number c.args.token.start c.args.here.now c.end_sized.new.here c.args.writer.now c.end_sized.new.writer ok (wants st) c.in-ArrayClose.is (λ x a p e. t (wants st) a tt e)) c.end_sized.ensures.taken
 
 pub returns-in-MapClose : goal.returns-in-MapClose
-returns-in-MapClose g c = if_ok c.end_map.result _ _ (λ ok t st. turn _ c.args.token.kind (kinds.MapClose) c.args.number c.args.token.start c.args.here.now c.end_map.new.here c.args.writer.now c.end_map.new.writer ok (wants st) c.in-MapClose.is (λ x a p e. t (wants st) a tt e)) c.end_map.ensures.taken
+returns-in-MapClose g c = if_ok c.end_sized-in-MapClose.result _ _ (λ ok t st. turn _ c.args.token.kind (kinds.MapClose) c.args.number c.args.token.start c.args.here.now c.end_sized-in-MapClose.new.here c.args.writer.now c.end_sized-in-MapClose.new.writer ok (wants st) c.in-MapClose.is (λ x a p e. t (wants st) a tt e)) c.end_sized-in-MapClose.ensures.taken
 
 pub returns-in-EmbedClose : goal.returns-in-EmbedClose
 returns-in-EmbedClose g c = if_ok c.end_embedded.result _ _ (λ ok t st. turn _ c.args.token.kind (kinds.EmbedClose c.in-EmbedClose.mark) c.args.number c.args.token.start c.args.here.now c.end_embedded.new.here c.args.writer.now c.end_embedded.new.writer ok (wants st) c.in-EmbedClose.is (λ x a p e. t (wants st) a p tt e)) c.end_embedded.ensures.taken
 
-pub end_array-requires-clause-shows : goal.end_array-requires-clause-shows
-end_array-requires-clause-shows g c = let q = c.requires.ready in (wants q.0, tt, shown_kind c.args.token.kind c.args.number c.args.here.now c.args.writer.now (wants q.0) q.1.0 q.1.1.0 (ap is_piece c.in-ArrayClose.is) q.1.1.1)
+pub end_sized-requires-clause-shows : goal.end_sized-requires-clause-shows
+end_sized-requires-clause-shows g c = let q = c.requires.ready in (wants q.0, tt, shown_kind c.args.token.kind c.args.number c.args.here.now c.args.writer.now (wants q.0) q.1.0 q.1.1.0 (ap is_piece c.in-ArrayClose.is) q.1.1.1)
 
-pub end_map-requires-clause-shows : goal.end_map-requires-clause-shows
-end_map-requires-clause-shows g c = let q = c.requires.ready in (wants q.0, tt, shown_kind c.args.token.kind c.args.number c.args.here.now c.args.writer.now (wants q.0) q.1.0 q.1.1.0 (ap is_piece c.in-MapClose.is) q.1.1.1)
+pub end_sized-requires-in-MapClose-clause-shows : goal.end_sized-requires-in-MapClose-clause-shows
+end_sized-requires-in-MapClose-clause-shows g c = let q = c.requires.ready in (wants q.0, tt, shown_kind c.args.token.kind c.args.number c.args.here.now c.args.writer.now (wants q.0) q.1.0 q.1.1.0 (ap is_piece c.in-MapClose.is) q.1.1.1)
 
 pub end_embedded-requires : goal.end_embedded-requires
 end_embedded-requires g c = let q = c.requires.ready in (wants q.0, tt, shown_kind c.args.token.kind c.args.number c.args.here.now c.args.writer.now (wants q.0) q.1.0 q.1.1.0 (ap is_piece c.in-EmbedClose.is) q.1.1.1)

@@ -1,6 +1,5 @@
 use Rattle.cborn_edn.proofs.Common.{sym, ◌∙◌, subst, inl, inr, class_of, IsReady, EndsPieces, State, wants, has, builds, wants_number, has_number}
-use Rattle.cborn_edn.proofs.Reader.Results.{if_ok}
-use Rattle.cborn_edn.proofs.Reader.Turning.{is_has, is_wants, is_builds, is_wants_number, is_has_number, taken_as, still_taken, paren_handed, shown_kind, bare_taken, no_piece, no_chunk}
+use Rattle.cborn_edn.proofs.Lemmas.{if_ok, is_has, is_wants, is_builds, is_wants_number, is_has_number, taken_as, still_taken, paren_handed, shown_kind, bare_taken, no_piece, no_chunk}
 use Rattle.cborn_edn.proofs.steps.take.Goals as goal
 
 pub begin-requires-clause-ready : goal.begin-requires-clause-ready

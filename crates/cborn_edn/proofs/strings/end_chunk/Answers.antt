@@ -1,9 +1,6 @@
 use Rattle.cborn_edn.proofs.Common.{sym, ap, ◌∙◌, subst, List, ℕ, ◌-◌, length, take, drop, arith, Event, Chunks, strings, after_strings, noted, states_around, chunk_event, Hands, str, as_chunk, builds, wants_chunk}
 use Rattle.cborn_edn.specs.devices.Events.{Fits}
-use Rattle.cborn_edn.proofs.HandedOver.Fits.{none_shown}
-use Rattle.cborn_edn.proofs.HandedOver.Strings.{chunk_fits, hands_chunk}
-use Rattle.cborn_edn.proofs.Reader.Built.{joint_shown, content_shown, chunks_open, kind_shown, chunk_noted, chunk_read}
-use Rattle.cborn_edn.proofs.Reader.Showing.{known_bytes}
+use Rattle.cborn_edn.proofs.Lemmas.{none_shown, chunk_fits, hands_chunk, joint_shown, content_shown, chunks_open, kind_shown, chunk_noted, chunk_read, known_bytes}
 use Rattle.cborn_edn.proofs.strings.end_chunk.Goals as goal
 
 pub hand-requires : goal.hand-requires

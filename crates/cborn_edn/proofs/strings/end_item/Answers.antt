@@ -1,9 +1,6 @@
 use Rattle.cborn_edn.proofs.Common.{sym, ◌∙◌, subst, List, ℕ, ◌-◌, length, take, drop, arith, Event, string, noted, states_around, Hands, str, as_item, has, builds}
 use Rattle.cborn_edn.specs.devices.Events.{Fits}
-use Rattle.cborn_edn.proofs.HandedOver.Fits.{none_shown}
-use Rattle.cborn_edn.proofs.HandedOver.Strings.{string_fits, hands_string}
-use Rattle.cborn_edn.proofs.Reader.Built.{joint_shown, content_shown, item_noted, item_read}
-use Rattle.cborn_edn.proofs.Reader.Showing.{known_bytes}
+use Rattle.cborn_edn.proofs.Lemmas.{none_shown, string_fits, hands_string, joint_shown, content_shown, item_noted, item_read, known_bytes}
 use Rattle.cborn_edn.proofs.strings.end_item.Goals as goal
 
 pub hand-requires : goal.hand-requires

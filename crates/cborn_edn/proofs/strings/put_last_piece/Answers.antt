@@ -1,7 +1,5 @@
 use Rattle.cborn_edn.proofs.Common.{◌≡◌, refl, sym, ap, ◌∙◌, subst, List, ℕ, ◌-◌, length, take, drop, take_rest, least, OfText, String, states_around, Hands, wants, has}
-use Rattle.cborn_edn.proofs.HandedOver.Strings.{hands_text}
-use Rattle.cborn_edn.proofs.Reader.Put.{leaf_shown}
-use Rattle.cborn_edn.proofs.Reader.Settling.{text_item, text_noted}
+use Rattle.cborn_edn.proofs.Lemmas.{hands_text, leaf_shown, text_item, text_noted}
 use Rattle.cborn_edn.proofs.strings.put_last_piece.Goals as goal
 
 pub returns-clause-read : goal.returns-clause-read

@@ -1,8 +1,5 @@
 use Rattle.cborn_edn.proofs.Common.{refl, states_around, wants, has}
-use Rattle.cborn_edn.proofs.HandedOver.Strings.{hands_text}
-use Rattle.cborn_edn.proofs.Reader.Put.{leaf_shown}
-use Rattle.cborn_edn.proofs.Reader.Results.{on_ok}
-use Rattle.cborn_edn.proofs.Reader.Settling.{text_item, text_noted}
+use Rattle.cborn_edn.proofs.Lemmas.{hands_text, leaf_shown, on_ok, text_item, text_noted}
 use Rattle.cborn_edn.proofs.strings.put_text.Goals as goal
 
 pub returns-clause-read : goal.returns-clause-read

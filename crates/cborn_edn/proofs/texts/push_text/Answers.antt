@@ -1,5 +1,4 @@
-use Rattle.cborn_edn.proofs.Common.{◌+◌, ◌-◌, length, take, drop, take_rest}
-use Rattle.cborn_lex.proofs.Runs.{none_yet}
+use Rattle.cborn_edn.proofs.Common.{◌+◌, ◌-◌, length, take, drop, take_rest, none_yet}
 use Rattle.cborn_edn.proofs.Reader.Items.{text_at}
 use Rattle.cborn_edn.proofs.texts.push_text.Goals as goal
 

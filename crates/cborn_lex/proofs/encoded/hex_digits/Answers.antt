@@ -1,5 +1,5 @@
-use Rattle.cborn_lex.proofs.Common.{◌≡◌, refl, sym, ap, ◌∙◌, ◌+◌, [], subst, false, true, not, eqb, get_or, drop, nat_lt, append-nil, Some, lt-ltb, le-ltb, cond-false, ne_eqb, drop_more, strip, after}
-use Rattle.cborn_lex.proofs.Contents.Hexes.{after_none, at_inside, at_digit, at_space, at_open, at_end, moved}
+use Rattle.cborn_lex.proofs.Common.{◌≡◌, refl, sym, ap, ◌∙◌, ◌+◌, [], subst, false, true, not, eqb, get_or, drop, nat_lt, append-nil, Some, lt-ltb, le-ltb, cond-false, ne_eqb, drop_more, strip, after, is_digit, cond-true, is_white, eq-eqb}
+use Rattle.cborn_lex.proofs.Contents.Hexes.{after_none, at_inside, at_digit, at_end, moved}
 use Rattle.cborn_lex.proofs.encoded.hex_digits.Goals as goal
 use Rattle.cborn_lex.proofs.encoded.hex_digits.Goals.{then-inside, else-inside+then-digit_of-lt16+in_ok-push, else-inside+else-digit_of-lt16+then-c-eq47, else-inside+else-digit_of-lt16+else-c-eq47+else-not-is_white, then-inside-2, else-inside-2}
 
@@ -21,10 +21,10 @@ loop-c-preserved c =
           moved x ds es k c.loop-c.inside c.if-inside.inside false false c.loop-c-test.true w.if-inside.false (w.inside-is ∙ w.if-inside.false) (at_digit ds z b is ∙ ap (λ l. after l (strip false z)) (sym (ap (λ v. v.items) w.digits-is ∙ w.in_ok-push.ensures.items))) c.loop-c.invariant
       | else-inside+else-digit_of-lt16+then-c-eq47 w ↦
           let no = ap (λ n. nat_lt n 16) (sym w.digit_of.ensures) ∙ le-ltb w.digit_of.result 16 w.if-digit_of-lt16.false in
-          moved x ds es k c.loop-c.inside c.if-inside.inside false true c.loop-c-test.true w.if-inside.false w.inside-is (at_open ds z b no (rw w.if-c-eq47.true refl) w.if-c-eq47.true ∙ ap (λ v. after v.items (strip true z)) (sym w.digits-is)) c.loop-c.invariant
+          moved x ds es k c.loop-c.inside c.if-inside.inside false true c.loop-c-test.true w.if-inside.false w.inside-is ((ap (after ds) (cond-false (is_digit b 16) _ _ no ∙ (cond-false (is_white b) _ _ (rw w.if-c-eq47.true refl) ∙ cond-true (eqb b 47) _ _ (eq-eqb b 47 w.if-c-eq47.true)))) ∙ ap (λ v. after v.items (strip true z)) (sym w.digits-is)) c.loop-c.invariant
       | else-inside+else-digit_of-lt16+else-c-eq47+else-not-is_white w ↦
           let no = ap (λ n. nat_lt n 16) (sym w.digit_of.ensures) ∙ le-ltb w.digit_of.result 16 w.if-digit_of-lt16.false in
-          moved x ds es k c.loop-c.inside c.if-inside.inside false false c.loop-c-test.true w.if-inside.false (w.inside-is ∙ w.if-inside.false) (at_space ds z b no (sym w.is_white.ensures ∙ w.if-not-is_white.false) ∙ ap (λ v. after v.items (strip false z)) (sym w.digits-is)) c.loop-c.invariant
+          moved x ds es k c.loop-c.inside c.if-inside.inside false false c.loop-c-test.true w.if-inside.false (w.inside-is ∙ w.if-inside.false) ((ap (after ds) (cond-false (is_digit b 16) _ _ no ∙ cond-true (is_white b) _ _ (sym w.is_white.ensures ∙ w.if-not-is_white.false))) ∙ ap (λ v. after v.items (strip false z)) (sym w.digits-is)) c.loop-c.invariant
     ]
 
 pub returns : goal.returns

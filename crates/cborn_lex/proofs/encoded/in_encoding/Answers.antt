@@ -1,39 +1,23 @@
-use Rattle.cborn_lex.proofs.Common.{refl, sym, false, arith, ap, ◌∙◌, ◌++◌, list_all, UnclosedString, Bytes, is_not, Bad, marked, IsEncoded, refusal}
+use Rattle.cborn_lex.proofs.Common.{refl, sym, false, arith, ap, ◌∙◌, ◌++◌, list_all, UnclosedString, Bytes, is_not, Bad, marked, IsEncoded, refusal, inr, take_all, length, drop_all}
 use Rattle.cborn_lex.proofs.Sliced.Words.{string_ok, string_bad}
-use Rattle.cborn_lex.proofs.TwoParts.{string_appended, unclosed_made}
+use Rattle.cborn_lex.proofs.TwoParts.{string_appended}
 use Rattle.cborn_lex.proofs.encoded.in_encoding.Goals as goal
 
 pub returns-in_default : goal.returns-in_default
-returns-in_default c = (omega arith, (Bad UnclosedString, unclosed_made (list_all (is_not 39)) (list_all (is_not 39)) 39 (IsEncoded c.args.encoding) (refusal c.args.encoding) (Bytes false) c.args.tail.now c.in_default.ensures, λ n. refl))
+returns-in_default c = (omega arith, (Bad UnclosedString, (inr (ap (list_all (is_not 39)) (take_all (length c.args.tail.now) c.args.tail.now (omega arith)) ∙ c.in_default.ensures, drop_all (length c.args.tail.now) c.args.tail.now (omega arith), refl)), λ n. refl))
 
 pub returns-in_ok-extend_from_slice-in-Some-2 : goal.returns-in_ok-extend_from_slice-in-Some-2
 returns-in_ok-extend_from_slice-in-Some-2 c =
     let is = rw c.in-Some-2.is at c.in_ok-bytes.ensures in
     let a = marked (Bytes false c.in-Some-2.bytes.items) c.mark_at-mark.result.0 in
     let s =
-    string_ok (list_all (is_not 39)) (list_all (is_not 39)) 39 (IsEncoded c.args.encoding) (refusal c.args.encoding) (Bytes false) c.in-Some.i c.mark_at-mark.result.1 c.args.tail.now c.front_of-content.result.now c.rest_of.result.now c.in-Some-2.bytes.items a c.mark_at-mark.result.0
-    (record {
-      inside = c.in-Some.ensures.1;
-      fits = c.in-Some.ensures.0;
-      quote = c.in-Some.ensures.2;
-      content_is = c.front_of-content.ensures;
-      after_is = c.rest_of.ensures;
-      mark_fits = c.mark_at-mark.ensures.within;
-      indicator = c.mark_at-mark.ensures.run;
-    }) is refl c.mark_at-mark.ensures.mark in
+    string_ok (list_all (is_not 39)) 39 c.in-Some.i c.mark_at-mark.result.1 c.args.tail.now c.front_of-content.result.now c.rest_of.result.now c.in-Some.ensures.1 c.in-Some.ensures.0 c.in-Some.ensures.2 c.front_of-content.ensures c.rest_of.ensures c.mark_at-mark.ensures.within c.mark_at-mark.ensures.run
+    (list_all (is_not 39)) (IsEncoded c.args.encoding) (refusal c.args.encoding) (Bytes false) a c.in-Some-2.bytes.items c.mark_at-mark.result.0 is refl c.mark_at-mark.ensures.mark in
     (s.0, (a, s.1, λ n. string_appended c.bytes_front.result n c.in-Some-2.bytes.items c.args.out.now.items c.extend_from_slice.new.self.items (Bytes false c.in-Some-2.bytes.items) c.mark_at-mark.result.0 (λ m. refl) (c.bytes_front.ensures n c.in-Some-2.bytes.items) (c.in_ok-extend_from_slice-in-Some-2.ensures.items ∙ ap (λ x. c.args.out.now.items ++ x) c.as_slice.ensures.value)))
 
 pub returns-in-None : goal.returns-in-None
 returns-in-None c =
     let s =
-    string_bad (list_all (is_not 39)) (list_all (is_not 39)) 39 (IsEncoded c.args.encoding) (refusal c.args.encoding) (Bytes false) c.in-Some.i c.mark_at-mark.result.1 c.args.tail.now c.front_of-content.result.now c.rest_of.result.now (Bad (refusal c.args.encoding))
-    (record {
-      inside = c.in-Some.ensures.1;
-      fits = c.in-Some.ensures.0;
-      quote = c.in-Some.ensures.2;
-      content_is = c.front_of-content.ensures;
-      after_is = c.rest_of.ensures;
-      mark_fits = c.mark_at-mark.ensures.within;
-      indicator = c.mark_at-mark.ensures.run;
-    }) (rw c.in-None.is at c.in_ok-bytes.ensures) refl in
+    string_bad (list_all (is_not 39)) 39 c.in-Some.i c.mark_at-mark.result.1 c.args.tail.now c.front_of-content.result.now c.rest_of.result.now c.in-Some.ensures.1 c.in-Some.ensures.0 c.in-Some.ensures.2 c.front_of-content.ensures c.rest_of.ensures c.mark_at-mark.ensures.within c.mark_at-mark.ensures.run
+    (list_all (is_not 39)) (IsEncoded c.args.encoding) (refusal c.args.encoding) (Bytes false) (Bad (refusal c.args.encoding)) (rw c.in-None.is at c.in_ok-bytes.ensures) refl in
     (s.0, (Bad (refusal c.args.encoding), s.1, λ n. ap Bad (sym c.refusal.ensures)))

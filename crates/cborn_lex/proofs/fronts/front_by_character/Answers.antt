@@ -44,10 +44,10 @@ pub returns-in-45 : goal.returns-in-45
 returns-in-45 c = rw (← c.rest_of-tail.ensures) (from_plain c.args.profile (get_or c.args.text.now 0 0) 45 c.number_at.result.1 c.number_at.new.number c.rest_of-tail.result.now c.args.out.now.items c.number_at.result.0 c.in-45.is c.number_at.ensures.within c.number_at.ensures.reads)
 
 pub returns-in-34 : goal.returns-in-34
-returns-in-34 c = rw (← c.rest_of-tail.ensures) (quoted_from c.args.profile (get_or c.args.text.now 0 0) 34 c.args.number.now c.rest_of-tail.result.now c.args.out.now.items c.double_quoted.new.out.items c.double_quoted.result c.in-34.is c.double_quoted.ensures)
+returns-in-34 c = rw (← c.rest_of-tail.ensures) (quoted_from c.args.profile (get_or c.args.text.now 0 0) 34 c.args.number.now c.rest_of-tail.result.now c.args.out.now.items c.quoted.new.out.items c.quoted.result c.in-34.is c.quoted.ensures)
 
 pub returns-in-39 : goal.returns-in-39
-returns-in-39 c = rw (← c.rest_of-tail.ensures) (quoted_from c.args.profile (get_or c.args.text.now 0 0) 39 c.args.number.now c.rest_of-tail.result.now c.args.out.now.items c.single_quoted.new.out.items c.single_quoted.result c.in-39.is c.single_quoted.ensures)
+returns-in-39 c = rw (← c.rest_of-tail.ensures) (quoted_from c.args.profile (get_or c.args.text.now 0 0) 39 c.args.number.now c.rest_of-tail.result.now c.args.out.now.items c.quoted-in-39.new.out.items c.quoted-in-39.result c.in-39.is c.quoted-in-39.ensures)
 
 pub returns-in-48-to-57 : goal.returns-in-48-to-57
 returns-in-48-to-57 c =

@@ -8,7 +8,7 @@ escapes-init c =
     let whole : 64 ≡ c.args.from + 64 - c.args.from = omega arith in (
       omega arith,
       omega arith,
-      subst (λ (w : ℕ). c.special_letters_of_64-left.result ≡ mask_l (map (is_special c.args.quote) (take w (drop c.args.from c.args.tail.now)))) whole c.special_letters_of_64-left.ensures,
+      subst (λ (w : ℕ). c.special_letters-left.result ≡ mask_l (map (is_special c.args.quote) (take w (drop c.args.from c.args.tail.now)))) whole c.special_letters-left.ensures,
       λ old s. s,
       take-length c.args.out.now.items,
     )

@@ -1,7 +1,5 @@
-use Rattle.cborn_lex.proofs.Common.{sym, subst, ◌∷◌, [], arith, append-nil, Ok, Err, IfErr, ◌≡◌, Between, HasNoTokens, Result}
-use Rattle.std.specs.Result.{IsErr, IsErrAnd}
-use Rattle.cborn_lex.proofs.WholeTexts.Progress.{nothing, joins, inside, few, whole_text, stops, whole_stop}
-use Rattle.cborn_lex.proofs.GoodTexts.{covers, next_from, no_tokens, stop_from}
+use Rattle.cborn_lex.proofs.Common.{IsTokenFrom, subst, ◌∷◌, [], arith, append-nil, TokensBetween, HasNoTokens}
+use Rattle.cborn_lex.proofs.WholeTexts.Progress.{passed_on, nothing, joins, inside, few, whole_text, stops, whole_stop}
 use Rattle.cborn_lex.proofs.lexer.tokens.Goals as goal
 
 pub tokens-init : goal.tokens-init
@@ -9,27 +7,23 @@ tokens-init c = (rw c.new-found.ensures.items (nothing c.args.profile c.args.tex
 
 pub tokens-preserved : goal.tokens-preserved
 tokens-preserved c =
-    let next = next_from c.args.profile c.args.text.now c.tokens.at c.in-Some.is c.in_ok-token.ensures.ok in
+    let next = subst (IsTokenFrom c.args.profile c.args.text.now c.tokens.at) c.in-Some.is c.in_ok-token.ensures.ok in
     let far = inside c.args.profile c.args.text.now c.tokens.at c.in-Some.token.stop (c.in-Some.token ∷ []) c.tokens.invariant.1 next in
     (rw c.in_ok-push.ensures.items (joins c.args.profile c.args.text.now 0 c.tokens.at c.in-Some.token.stop c.tokens.found.items (c.in-Some.token ∷ []) c.tokens.invariant.0 next), far.1)
 
 pub tokens-smaller : goal.tokens-smaller
 tokens-smaller c =
-    let next = next_from c.args.profile c.args.text.now c.tokens.at c.in-Some.is c.in_ok-token.ensures.ok in
+    let next = subst (IsTokenFrom c.args.profile c.args.text.now c.tokens.at) c.in-Some.is c.in_ok-token.ensures.ok in
     let far = inside c.args.profile c.args.text.now c.tokens.at c.in-Some.token.stop (c.in-Some.token ∷ []) c.tokens.invariant.1 next in
     let more = few c.args.profile c.args.text.now c.tokens.at c.in-Some.token.stop (c.in-Some.token ∷ []) next in
     omega (arith, far.1, more)
 
 pub returns-clause-ok : goal.returns-clause-ok
 returns-clause-ok c =
-    let last = next_from c.args.profile c.args.text.now c.tokens.at c.in_default.is c.in_ok-token.ensures.ok in
-    covers c.args.profile (whole_text c.args.profile c.args.text.now c.tokens.found.items (subst (Between c.args.profile c.args.text.now 0 _) (append-nil c.tokens.found.items) (joins c.args.profile c.args.text.now 0 c.tokens.at _ c.tokens.found.items [] c.tokens.invariant.0 last)))
-
-passed_on : {A E : Type 0} (r : Result A E) (x : E) (P : E → Type 0) → P x → IsErr r × IsErrAnd r (λ e. e ≡ x) → IfErr r P
-passed_on (Ok a) x P p h = tt
-passed_on (Err e) x P p h = subst P (sym h.1) p
+    let last = subst (IsTokenFrom c.args.profile c.args.text.now c.tokens.at) c.in_default.is c.in_ok-token.ensures.ok in
+    whole_text c.args.profile c.args.text.now c.tokens.found.items (subst (TokensBetween c.args.profile c.args.text.now 0 _) (append-nil c.tokens.found.items) (joins c.args.profile c.args.text.now 0 c.tokens.at _ c.tokens.found.items [] c.tokens.invariant.0 last))
 
 pub returns-in_err-token-clause-refused : goal.returns-in_err-token-clause-refused
 returns-in_err-token-clause-refused c =
-    let stop = whole_stop c.args.profile c.args.text.now c.in_err-token.field-0.0 (stops c.args.profile c.args.text.now 0 c.tokens.at c.tokens.found.items c.in_err-token.field-0.0 c.tokens.invariant.0 (stop_from c.args.profile c.args.text.now c.tokens.at c.in_err-token.field-0.0 c.in_err-token.ensures.refused)) in
-    passed_on c.from_residual.result c.in_err-token.field-0.0 (HasNoTokens c.args.profile c.args.text.now) (no_tokens c.args.profile c.args.text.now c.in_err-token.field-0.0 stop) c.from_residual.ensures
+    let stop = whole_stop c.args.profile c.args.text.now c.in_err-token.field-0.0 (stops c.args.profile c.args.text.now 0 c.tokens.at c.tokens.found.items c.in_err-token.field-0.0 c.tokens.invariant.0 c.in_err-token.ensures.refused) in
+    passed_on c.from_residual.result c.in_err-token.field-0.0 (HasNoTokens c.args.profile c.args.text.now) stop c.from_residual.ensures

@@ -1,8 +1,8 @@
-use Rattle.cborn_lex.proofs.Common.{◌≤◌, ◌-◌, length, Between}
+use Rattle.cborn_lex.proofs.Common.{◌≤◌, ◌-◌, length, TokensBetween}
 use Rattle.cborn_lex.proofs.lexer.tokens.Given as goal
 
 abbrev pub invariant-tokens : goal.invariant-tokens
-invariant-tokens l = Between l.fn.profile l.fn.text 0 l.at l.found.items × (l.at ≤ length l.fn.text)
+invariant-tokens l = TokensBetween l.fn.profile l.fn.text 0 l.at l.found.items × (l.at ≤ length l.fn.text)
 
 abbrev pub decreases-tokens : goal.decreases-tokens
 decreases-tokens l = length l.fn.text - l.at

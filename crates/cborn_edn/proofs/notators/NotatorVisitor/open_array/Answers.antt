@@ -1,5 +1,4 @@
-use Rattle.cborn_edn.proofs.Common.{◌∙◌, an_array}
-use Rattle.cborn_model.proofs.HandedOver.{on_ok}
+use Rattle.cborn_edn.proofs.Common.{◌∙◌, an_array, on_ok}
 use Rattle.cborn_edn.proofs.Notating.{opened_held}
 use Rattle.cborn_edn.proofs.notators.NotatorVisitor.open_array.Goals as goal
 

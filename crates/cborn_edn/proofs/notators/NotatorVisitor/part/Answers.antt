@@ -1,5 +1,4 @@
-use Rattle.cborn_edn.proofs.Common.{refl}
-use Rattle.cborn_model.proofs.HandedOver.{on_ok}
+use Rattle.cborn_edn.proofs.Common.{refl, on_ok}
 use Rattle.cborn_edn.proofs.Notating.{more_held}
 use Rattle.cborn_edn.proofs.notators.NotatorVisitor.part.Goals as goal
 

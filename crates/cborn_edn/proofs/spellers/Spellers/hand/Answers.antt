@@ -1,8 +1,5 @@
-use Rattle.cborn_edn.proofs.Common.{◌∙◌, sym, ◌-◌, ◌+◌, ◌≡◌, ◌<◌, arith, take, length}
-use mathlib.Core.List.{reverse}
-use Rattle.cborn_edn.proofs.Reader.Opened.{reverse-at, reverse-set}
-use Rattle.cborn_edn.proofs.Reader.Results.{on_ok}
-use Rattle.cborn_edn.proofs.HandedOver.Handing.{taken}
+use Rattle.cborn_edn.proofs.Common.{◌∙◌, sym, ◌-◌, ◌+◌, ◌≡◌, ◌<◌, arith, take, length, reverse}
+use Rattle.cborn_edn.proofs.Lemmas.{reverse-at, reverse-set, on_ok, taken}
 use Rattle.cborn_edn.proofs.spellers.Spellers.hand.Goals as goal
 
 pub returns : goal.returns

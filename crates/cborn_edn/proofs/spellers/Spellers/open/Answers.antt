@@ -1,5 +1,4 @@
-use Rattle.cborn_edn.proofs.Common.{◌∙◌, ap, ◌∷◌, ◌+◌, refl, List, Speller}
-use mathlib.Core.List.{reverse}
+use Rattle.cborn_edn.proofs.Common.{◌∙◌, ap, ◌∷◌, ◌+◌, refl, List, Speller, reverse}
 use Rattle.cborn_edn.proofs.Reader.Opened.{reverse-set}
 use Rattle.cborn_edn.proofs.spellers.Spellers.open.Goals as goal
 
