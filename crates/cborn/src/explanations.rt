@@ -16,9 +16,6 @@ use std::alloc::{AllocError, Global};
 pub type Bytes<'a> = Result<&'a [u8], AllocError>;
 
 /// Lines that say why an input is refused. Empty where the fault isn't in its content.
-///
-/// # Errors
-/// `AllocError` where memory is refused, or was for the bytes of the input.
 pub fn explain_fault(
     alloc: Global,
     limit: Limit,
@@ -26,21 +23,24 @@ pub fn explain_fault(
     input: Bytes<'_>,
     fault: CountFault,
 ) -> Result<String, AllocError> {
-    match reason_of(kind, fault) {
-        Some(Reason::Bytes(reason, place)) => explain_bytes(alloc, limit, input?, place, reason),
-        Some(Reason::Text(profile, reason, place)) => {
+    let profile = match kind {
+        Kind::Wire => match reason_of_bytes(fault) {
+            Some((reason, place)) => return explain_bytes(alloc, limit, input?, place, reason),
+            None => return Ok(String::new(alloc)),
+        },
+        Kind::Notation => Profile::One,
+        Kind::Notation2 => Profile::Two,
+    };
+    match reason_of_text(fault) {
+        Some((reason, place)) => {
             let text = input?;
-            let input = NotationText { profile, text };
-            explain_text(alloc, limit, input, place, reason)
+            explain_text(alloc, limit, NotationText { profile, text }, place, reason)
         }
         None => Ok(String::new(alloc)),
     }
 }
 
 /// Lines that say why an input isn't deterministic.
-///
-/// # Errors
-/// `AllocError` where memory is refused, or was for the bytes of the input.
 pub fn explain_defect(
     alloc: Global,
     limit: Limit,
@@ -53,9 +53,6 @@ pub fn explain_defect(
 
 /// Lines that say where two inputs differ: in their items, or, where they hold the same, as `are_same`
 /// says, in how these are encoded. Maps are gone through in the order of keys `O`.
-///
-/// # Errors
-/// `AllocError` where memory is refused, or was for the bytes of an input.
 pub fn explain_compared<O: KeyOrder>(
     alloc: Global,
     limit: Limit,
@@ -68,9 +65,6 @@ pub fn explain_compared<O: KeyOrder>(
 
 /// A line that says that an input looks like a text or hexadecimal, though it was read as bytes. Empty
 /// where it doesn't, or was read as a text. `name` are the words for that input.
-///
-/// # Errors
-/// `AllocError` where memory is refused, or was for the bytes of the input.
 pub fn explain_kind(
     alloc: Global,
     name: &str,
@@ -89,57 +83,38 @@ pub fn explain_kind(
     }
 }
 
-/// Why an input is refused, and at which offset in bytes.
-#[derive(Clone, Copy)]
-enum Reason {
-    Bytes(BytesReason, u64),
-    Text(Profile, TextReason, u64),
-}
-
-/// The reason and the offset of a fault. `None`: it isn't in the content of the input.
-fn reason_of(kind: Kind, fault: CountFault) -> Option<Reason> {
+/// Why bytes are refused, and at which offset. `None`: it isn't for their content.
+fn reason_of_bytes(fault: CountFault) -> Option<(BytesReason, u64)> {
     match fault {
-        CountFault::Engine(fault) => reason_of_content(kind, fault),
-        CountFault::NoItem(place) => Some(of_count(kind, CountReason::NoItem, place)),
-        CountFault::MoreItems(place) => Some(of_count(kind, CountReason::MoreItems, place)),
-    }
-}
-
-fn of_count(kind: Kind, reason: CountReason, place: u64) -> Reason {
-    match kind {
-        Kind::Wire => Reason::Bytes(BytesReason::Count(reason), place),
-        _ => of_text(kind, TextReason::Count(reason), place),
-    }
-}
-
-fn reason_of_content(kind: Kind, fault: EngineFault) -> Option<Reason> {
-    match fault {
-        EngineFault::Wire(WireFault::Refused { place, reason }) => {
-            Some(Reason::Bytes(BytesReason::Malformed(reason), place))
+        CountFault::NoItem(place) => Some((BytesReason::Count(CountReason::NoItem), place)),
+        CountFault::MoreItems(place) => Some((BytesReason::Count(CountReason::MoreItems), place)),
+        CountFault::Engine(EngineFault::Wire(WireFault::Refused { place, reason })) => {
+            Some((BytesReason::Malformed(reason), place))
         }
-        EngineFault::Edn(EdnFault::Lex(LexFault::Refused { place, reason })) => {
-            Some(of_text(kind, TextReason::Token(reason), place))
+        CountFault::Engine(EngineFault::Invalid(Invalid::Refused { place, reason })) => {
+            Some((BytesReason::Invalid(reason), place))
         }
-        EngineFault::Edn(EdnFault::Refused { place, reason }) => {
-            Some(of_text(kind, TextReason::Notation(reason), place))
+        CountFault::Engine(EngineFault::Show(ShowFault::NotUtf8 { place })) => {
+            Some((BytesReason::Invalid(InvalidReason::NotUtf8), place))
         }
-        EngineFault::Invalid(Invalid::Refused { place, reason }) => Some(match kind {
-            Kind::Wire => Reason::Bytes(BytesReason::Invalid(reason), place),
-            _ => of_text(kind, TextReason::Invalid(reason), place),
-        }),
-        EngineFault::Show(ShowFault::NotUtf8 { place }) => {
-            let reason = BytesReason::Invalid(InvalidReason::NotUtf8);
-            Some(Reason::Bytes(reason, place))
-        }
-        EngineFault::TextInput(place) => Some(of_text(kind, TextReason::NotUtf8, place)),
         _ => None,
     }
 }
 
-fn of_text(kind: Kind, reason: TextReason, place: u64) -> Reason {
-    let profile = match kind {
-        Kind::Notation2 => Profile::Two,
-        _ => Profile::One,
-    };
-    Reason::Text(profile, reason, place)
+/// Why a text is refused, and at which offset in bytes. `None`: it isn't for its content.
+fn reason_of_text(fault: CountFault) -> Option<(TextReason, u64)> {
+    match fault {
+        CountFault::NoItem(place) => Some((TextReason::Count(CountReason::NoItem), place)),
+        CountFault::MoreItems(place) => Some((TextReason::Count(CountReason::MoreItems), place)),
+        CountFault::Engine(EngineFault::Edn(EdnFault::Lex(LexFault::Refused { place, reason }))) =>
+            { Some((TextReason::Token(reason), place)) }
+        CountFault::Engine(EngineFault::Edn(EdnFault::Refused { place, reason })) => {
+            Some((TextReason::Notation(reason), place))
+        }
+        CountFault::Engine(EngineFault::Invalid(Invalid::Refused { place, reason })) => {
+            Some((TextReason::Invalid(reason), place))
+        }
+        CountFault::Engine(EngineFault::TextInput(place)) => Some((TextReason::NotUtf8, place)),
+        _ => None,
+    }
 }

@@ -15,36 +15,25 @@ pub struct Form {
     pub arguments: &'static [Argument],
 }
 
-/// An argument of a command.
+/// An argument of a command: its name, that of an option without its `--`; its help; and its kind.
 #[derive(Clone, Copy)]
-pub struct Argument {
-    /// An option's name is without its `--`.
-    pub name: &'static str,
-    pub help: &'static str,
-    pub takes: Takes,
-}
+pub struct Argument(pub &'static str, pub &'static str, pub Takes);
 
 /// What kind of argument it is.
 #[derive(Clone, Copy)]
 pub enum Takes {
+    /// The name of a file, which may be left out.
+    File,
     /// The name of a file.
-    File { is_required: bool },
+    RequiredFile,
     /// The names of any number of files.
     Files,
-    /// An option with the name of a file, which has no default. It is also written as one letter.
-    Output { letter: char, name: &'static str },
-    /// An option with a value.
-    Value(Value),
+    /// An option with the name of a file, which has no default. It is also written as this letter.
+    Output(char),
+    /// An option with a value: what that is called, which there are, and which it is by default.
+    Value(&'static str, ValueParser<'static>, &'static str),
     /// An option without a value.
     Nothing,
-}
-
-/// The value of an option.
-#[derive(Clone, Copy)]
-pub struct Value {
-    pub name: &'static str,
-    pub parser: ValueParser<'static>,
-    pub default: &'static str,
 }
 
 /// All commands.
@@ -82,111 +71,44 @@ const CHECK: Form = Form {
     arguments: &[FILES, ORDER, DEPTH, ONE, EXPLAIN],
 };
 
-const FILE: Argument = Argument {
-    name: "FILE",
-    help: help::FILE,
-    takes: Takes::File { is_required: false },
-};
+const FILE: Argument = Argument("FILE", help::FILE, Takes::File);
 
-const FILES: Argument = Argument {
-    name: "FILE",
-    help: help::FILES,
-    takes: Takes::Files,
-};
+const FILES: Argument = Argument("FILE", help::FILES, Takes::Files);
 
-const OUTPUT: Argument = Argument {
-    name: "output",
-    help: help::OUTPUT,
-    takes: Takes::Output {
-        letter: 'o',
-        name: "FILE",
-    },
-};
+const OUTPUT: Argument = Argument("output", help::OUTPUT, Takes::Output('o'));
 
-const FILE_A: Argument = Argument {
-    name: "FILE_A",
-    help: help::FILE_A,
-    takes: Takes::File { is_required: true },
-};
+const FILE_A: Argument = Argument("FILE_A", help::FILE_A, Takes::RequiredFile);
 
-const FILE_B: Argument = Argument {
-    name: "FILE_B",
-    help: help::FILE_B,
-    takes: Takes::File { is_required: true },
-};
+const FILE_B: Argument = Argument("FILE_B", help::FILE_B, Takes::RequiredFile);
 
-const FROM: Argument = Argument {
-    name: "from",
-    help: help::FROM,
-    takes: Takes::Value(KIND_TO_READ),
-};
+const FROM: Argument = Argument("from", help::FROM, KIND_TO_READ);
 
-const FROM_A: Argument = Argument {
-    name: "from-a",
-    help: help::FROM_A,
-    takes: Takes::Value(KIND_TO_READ),
-};
+const FROM_A: Argument = Argument("from-a", help::FROM_A, KIND_TO_READ);
 
-const FROM_B: Argument = Argument {
-    name: "from-b",
-    help: help::FROM_B,
-    takes: Takes::Value(KIND_TO_READ),
-};
+const FROM_B: Argument = Argument("from-b", help::FROM_B, KIND_TO_READ);
 
-const KIND_TO_READ: Value = Value {
-    name: "KIND",
-    parser: ValueParser::Names(&["wire", "notation", "notation-2"]),
-    default: "wire",
-};
+const TO_NOTATION: Argument = Argument("to", help::TO, Takes::Value("KIND", WRITTEN, "notation"));
 
-const TO_NOTATION: Argument = Argument {
-    name: "to",
-    help: help::TO,
-    takes: Takes::Value(Value {
-        name: "KIND",
-        parser: ValueParser::Names(&["wire", "notation"]),
-        default: "notation",
-    }),
-};
+const TO_WIRE: Argument = Argument("to", help::TO, Takes::Value("KIND", WRITTEN, "wire"));
 
-const TO_WIRE: Argument = Argument {
-    name: "to",
-    help: help::TO,
-    takes: Takes::Value(Value {
-        name: "KIND",
-        parser: ValueParser::Names(&["wire", "notation"]),
-        default: "wire",
-    }),
-};
+const ORDER: Argument = Argument(
+    "order",
+    help::ORDER,
+    Takes::Value("ORDER", ORDERS, "bytewise"),
+);
 
-const ORDER: Argument = Argument {
-    name: "order",
-    help: help::ORDER,
-    takes: Takes::Value(Value {
-        name: "ORDER",
-        parser: ValueParser::Names(&["bytewise", "length-first"]),
-        default: "bytewise",
-    }),
-};
+const DEPTH: Argument = Argument("depth", help::DEPTH, Takes::Value("N", DEPTHS, "128"));
 
-const DEPTH: Argument = Argument {
-    name: "depth",
-    help: help::DEPTH,
-    takes: Takes::Value(Value {
-        name: "N",
-        parser: ValueParser::Unsigned(1, 1024),
-        default: "128",
-    }),
-};
+const ONE: Argument = Argument("one", help::ONE, Takes::Nothing);
 
-const ONE: Argument = Argument {
-    name: "one",
-    help: help::ONE,
-    takes: Takes::Nothing,
-};
+const EXPLAIN: Argument = Argument("explain", help::EXPLAIN, Takes::Nothing);
 
-const EXPLAIN: Argument = Argument {
-    name: "explain",
-    help: help::EXPLAIN,
-    takes: Takes::Nothing,
-};
+const KIND_TO_READ: Takes = Takes::Value("KIND", READ, "wire");
+
+const READ: ValueParser<'static> = ValueParser::Names(&["wire", "notation", "notation-2"]);
+
+const WRITTEN: ValueParser<'static> = ValueParser::Names(&["wire", "notation"]);
+
+const ORDERS: ValueParser<'static> = ValueParser::Names(&["bytewise", "length-first"]);
+
+const DEPTHS: ValueParser<'static> = ValueParser::Unsigned(1, 1024);

@@ -22,7 +22,6 @@
 #![tactic(auto)]
 
 mod explanations;
-mod formats;
 mod forms;
 mod help;
 mod inputs;

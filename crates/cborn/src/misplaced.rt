@@ -30,91 +30,29 @@ pub struct Advice {
     pub line: &'static str,
 }
 
-/// The line on an option that the command of this name doesn't have.
-#[derive(Clone, Copy)]
-struct Rule {
-    command: &'static str,
-    option: &'static str,
-    line: &'static str,
-}
-
-const RULES: &[Rule] = &[
-    Rule {
-        command: "compare",
-        option: "--from",
-        line: COMPARE_FROM,
-    },
-    Rule {
-        command: "compare",
-        option: "--to",
-        line: COMPARE_TO,
-    },
-    Rule {
-        command: "check",
-        option: "--from",
-        line: CHECK_FROM,
-    },
-    Rule {
-        command: "check",
-        option: "--to",
-        line: CHECK_TO,
-    },
-    Rule {
-        command: "show",
-        option: "--order",
-        line: SHOW_ORDER,
-    },
-    Rule {
-        command: "check",
-        option: "--output",
-        line: CHECK_OUTPUT,
-    },
-    Rule {
-        command: "check",
-        option: "-o",
-        line: CHECK_OUTPUT,
-    },
-    Rule {
-        command: "normalise",
-        option: "--in-place",
-        line: IN_PLACE,
-    },
-    Rule {
-        command: "normalise",
-        option: "-i",
-        line: IN_PLACE,
-    },
-    Rule {
-        command: "show",
-        option: "--in-place",
-        line: IN_PLACE,
-    },
-    Rule {
-        command: "show",
-        option: "-i",
-        line: IN_PLACE,
-    },
+/// Commands, each with an option that it doesn't have, and the line on that.
+const RULES: &[(&str, &str, &str)] = &[
+    ("compare", "--from", COMPARE_FROM),
+    ("compare", "--to", COMPARE_TO),
+    ("check", "--from", CHECK_FROM),
+    ("check", "--to", CHECK_TO),
+    ("show", "--order", SHOW_ORDER),
+    ("check", "--output", CHECK_OUTPUT),
+    ("check", "-o", CHECK_OUTPUT),
+    ("normalise", "--in-place", IN_PLACE),
+    ("normalise", "-i", IN_PLACE),
+    ("show", "--in-place", IN_PLACE),
+    ("show", "-i", IN_PLACE),
 ];
 
 /// The first advice of the list whose command and option the words have. The first of `words` is the
 /// program's name, the second the command's. `None`: the list has no advice on these words.
 pub fn advice_on(words: &[&str]) -> Option<Advice> {
     let name = *words.get(1)?;
-    for rule in RULES {
-        if rule.command == name && has_option(words, rule.option) {
-            let command = form_of(name)?;
-            let line = rule.line;
+    let command = COMMANDS.iter().find(|command| command.name == name)?;
+    for (command_name, option, line) in RULES {
+        if *command_name == name && has_option(words, option) {
             return Some(Advice { command, line });
-        }
-    }
-    None
-}
-
-/// The command of this name, if there is one.
-fn form_of(name: &str) -> Option<&'static Form> {
-    for command in COMMANDS {
-        if command.name == name {
-            return Some(command);
         }
     }
     None
@@ -122,20 +60,15 @@ fn form_of(name: &str) -> Option<&'static Form> {
 
 /// Whether an option is among the words, alone or with `=` and a value. After `--` there are no options.
 fn has_option(words: &[&str], option: &str) -> bool {
-    for word in words {
-        if *word == "--" {
-            return false;
-        }
-        if is_option(word, option) {
-            return true;
-        }
-    }
-    false
+    words
+        .iter()
+        .take_while(|word| **word != "--")
+        .any(|word| is_option(word, option))
 }
 
 fn is_option(word: &str, option: &str) -> bool {
-    match word.as_bytes().strip_prefix(option.as_bytes()) {
-        Some(rest) => matches!(rest.first(), None | Some(b'=')),
+    match word.strip_prefix(option) {
+        Some(rest) => rest.is_empty() || rest.starts_with('='),
         None => false,
     }
 }

@@ -2,10 +2,11 @@
 ghost use Rattle.std.specs.Prelude.{◌≡◌, ◌<◌, ◌≤◌, ◌⊎◌, length, true, IfOk, IfSome};
 ghost use Rattle.cborn.specs.Words.{is_option, plain_count, HasHyphens, IsCheckOfFiles};
 
-use crate::forms::{Argument, COMMANDS, Form, Takes, Value};
+use crate::forms::{Argument, COMMANDS, Form, Takes};
 use crate::help;
 use crate::misplaced::{Advice, advice_on};
-use crate::requests::{Action, Format, Items, Order, Purpose, Request, Task};
+use crate::requests::{Action, Named, Order, Purpose, Request, Task};
+use cborn_engine::{Count, Kind};
 use cborn_model::Limit;
 use clap::error::ErrorKind;
 use clap::{Arg, ArgAction, ArgMatches, Command, Error};
@@ -40,10 +41,8 @@ fn request_by<'a>(
 }
 
 fn no_command(program: &mut Command<'_>) -> Error {
-    match program.error(ErrorKind::MissingSubcommand, "a command is required") {
-        Ok(error) => error,
-        Err(refused) => Error::from(refused),
-    }
+    let error = program.error(ErrorKind::MissingSubcommand, "a command is required");
+    error.unwrap_or_else(Error::from)
 }
 
 /// The mistake that `clap` found in the words. Where they have an option that the command lacks, and
@@ -53,16 +52,8 @@ fn explained(alloc: Global, words: &[&str], why: Error) -> Error {
         return why;
     }
     match advice_on(words) {
-        Some(advice) => error_of(alloc, &advice),
+        Some(advice) => advised(alloc, &advice).unwrap_or_else(Error::from),
         None => why,
-    }
-}
-
-/// The mistake that gives this advice, or that memory for it was refused.
-fn error_of(alloc: Global, advice: &Advice) -> Error {
-    match advised(alloc, advice) {
-        Ok(error) => error,
-        Err(refused) => Error::from(refused),
     }
 }
 
@@ -103,7 +94,11 @@ fn task_of<'a>(name: &str, found: &ArgMatches<'a>) -> Option<Task<'a>> {
         output: found.get_str("output"),
         order: order_of(found),
         limit: limit_of(found)?,
-        items: items_of(found),
+        count: if found.get_flag("one") {
+            Count::One
+        } else {
+            Count::Any
+        },
         explain: found.get_flag("explain"),
     })
 }
@@ -169,42 +164,27 @@ fn limit_of(found: &ArgMatches<'_>) -> Option<Limit> {
     Limit::new(found.get_one::<u64>("depth")?)
 }
 
-fn items_of(found: &ArgMatches<'_>) -> Items {
-    if found.get_flag("one") {
-        Items::One
-    } else {
-        Items::Any
-    }
-}
-
 fn action_of<'a>(name: &str, found: &ArgMatches<'a>) -> Option<Action<'a>> {
-    if name == "compare" {
-        return comparison_of(found);
-    }
-    Some(Action::Read {
-        file: found.get_str("FILE"),
-        purpose: purpose_of(name, found)?,
-    })
+    let (from, to) = (kind_of(found, "from"), kind_of(found, "to"));
+    let purpose = match name {
+        "show" => Purpose::Show { from, to },
+        "normalise" => Purpose::Normalise { from, to },
+        "check" => Purpose::Check,
+        "compare" => {
+            let first = named_by(found, "FILE_A", "from-a")?;
+            let second = named_by(found, "FILE_B", "from-b")?;
+            return Some(Action::Compare { first, second });
+        }
+        _ => return None,
+    };
+    let file = found.get_str("FILE");
+    Some(Action::Read { file, purpose })
 }
 
-fn comparison_of<'a>(found: &ArgMatches<'a>) -> Option<Action<'a>> {
-    Some(Action::Compare {
-        first: found.get_str("FILE_A")?,
-        second: found.get_str("FILE_B")?,
-        from_a: format_of(found, "from-a"),
-        from_b: format_of(found, "from-b"),
-    })
-}
-
-fn purpose_of(name: &str, found: &ArgMatches<'_>) -> Option<Purpose> {
-    let from = format_of(found, "from");
-    let to = format_of(found, "to");
-    match name {
-        "show" => Some(Purpose::Show { from, to }),
-        "normalise" => Some(Purpose::Normalise { from, to }),
-        "check" => Some(Purpose::Check),
-        _ => None,
-    }
+/// The file that an argument names, which is read as the format that an option names.
+fn named_by<'a>(found: &ArgMatches<'a>, file: &str, from: &str) -> Option<Named<'a>> {
+    let (name, kind) = (found.get_str(file)?, kind_of(found, from));
+    Some(Named { name, kind })
 }
 
 fn order_of(found: &ArgMatches<'_>) -> Order {
@@ -215,29 +195,20 @@ fn order_of(found: &ArgMatches<'_>) -> Order {
 }
 
 /// The format that an option names. A command without that option reads or writes bytes.
-fn format_of(found: &ArgMatches<'_>, name: &str) -> Format {
+fn kind_of(found: &ArgMatches<'_>, name: &str) -> Kind {
     match found.get_str(name) {
-        Some("notation") => Format::Notation,
-        Some("notation-2") => Format::Notation2,
-        _ => Format::Wire,
+        Some("notation") => Kind::Notation,
+        Some("notation-2") => Kind::Notation2,
+        _ => Kind::Wire,
     }
 }
 
 fn program<'a>(alloc: Global) -> Result<Command<'a>, AllocError> {
     let mut program = named(alloc);
     for form in COMMANDS {
-        program = with_command(alloc, program, form)?;
+        program = program.subcommand(command(alloc, form)?)?;
     }
     Ok(program)
-}
-
-fn with_command<'a>(
-    alloc: Global,
-    program: Command<'a>,
-    form: &Form,
-) -> Result<Command<'a>, AllocError> {
-    let command = command(alloc, form)?;
-    program.subcommand(command)
 }
 
 fn named<'a>(alloc: Global) -> Command<'a> {
@@ -260,19 +231,19 @@ fn command<'a>(alloc: Global, form: &Form) -> Result<Command<'a>, AllocError> {
 }
 
 fn argument_of<'a>(alloc: Global, argument: &Argument) -> Arg<'a> {
-    let arg = Arg::new(alloc, argument.name).help(argument.help);
-    match argument.takes {
-        Takes::File { is_required } => arg.required(is_required),
+    let Argument(name, help, takes) = *argument;
+    let arg = Arg::new(alloc, name).help(help);
+    match takes {
+        Takes::File => arg,
+        Takes::RequiredFile => arg.required(true),
         Takes::Files => arg.num_args(0..).action(ArgAction::Append),
-        Takes::Output { letter, name } => arg.short(letter).long(argument.name).value_name(name),
-        Takes::Value(value) => with_value(arg.long(argument.name), value),
-        Takes::Nothing => arg.long(argument.name).action(ArgAction::SetTrue),
+        Takes::Output(letter) => arg.short(letter).long(name).value_name("FILE"),
+        Takes::Value(value, parser, default) => arg
+            .long(name)
+            .value_name(value)
+            .value_parser(parser)
+            .hide_possible_values(true)
+            .default_value(default),
+        Takes::Nothing => arg.long(name).action(ArgAction::SetTrue),
     }
-}
-
-fn with_value<'a>(arg: Arg<'a>, value: Value) -> Arg<'a> {
-    arg.value_name(value.name)
-        .value_parser(value.parser)
-        .hide_possible_values(true)
-        .default_value(value.default)
 }

@@ -168,27 +168,16 @@ impl<'a> Remarks<'a> {
                 self.on_kind(Side::Second, kinds.1, notes.1);
             }
             Err(Trouble::Compare(CompareCountFault::First(fault))) => {
-                self.on_first(kinds, notes, fault);
+                self.on_fault(Side::First, kinds.0, notes.0, fault);
             }
             Err(Trouble::Compare(CompareCountFault::Second(fault))) => {
-                self.on_second(kinds, notes, fault);
+                if let Notes::Look(look) = notes.0 {
+                    self.hint_on_valid(Side::First, *look);
+                }
+                self.on_fault(Side::Second, kinds.1, notes.1, fault);
             }
             Err(_) => {}
         }
-    }
-
-    /// Adds lines on why the first of two inputs is refused, or the hint on what it looks like.
-    fn on_first(&mut self, kinds: (Kind, Kind), notes: (&Notes, &Notes), fault: CountFault) {
-        self.on_fault(Side::First, kinds.0, notes.0, fault);
-    }
-
-    /// Adds lines on why the second of two inputs is refused, or the hint on what it looks like. Before
-    /// that it adds the hint on the first.
-    fn on_second(&mut self, kinds: (Kind, Kind), notes: (&Notes, &Notes), fault: CountFault) {
-        if let Notes::Look(look) = notes.0 {
-            self.hint_on_valid(Side::First, *look);
-        }
-        self.on_fault(Side::Second, kinds.1, notes.1, fault);
     }
 
     /// Adds lines on why an input is refused, or the hint on what it looks like.
@@ -244,7 +233,7 @@ impl<'a> Remarks<'a> {
     /// Adds the hint on an input, if there is one. A hint is left out where memory for it is refused.
     fn hint(&mut self, which: Side<'_>, look: Look) {
         if let Some(hint) = look.hint() {
-            if let Ok(line) = hint_line(self.alloc, which, hint) {
+            if let Ok(line) = format!(in self.alloc; "cborn: {which}hint: {hint}\n") {
                 let _ = self.lines.push_str(line.as_str());
             }
         }
@@ -252,26 +241,12 @@ impl<'a> Remarks<'a> {
 
     /// Adds an explanation, or that there is no memory for it.
     fn add(&mut self, explanation: Result<String, AllocError>) {
-        let is_added = match explanation {
-            Ok(text) => self.lines.push_str(text.as_str()).is_ok(),
-            Err(_) => false,
-        };
-        if !is_added {
-            self.add_no_memory();
-        }
-    }
-
-    /// Adds the line that there is no memory for an explanation, unless it is the last line already: of
-    /// an input that wasn't kept both the explanation and the hint are missing.
-    fn add_no_memory(&mut self) {
-        if !self.lines.as_str().ends_with(OUT_OF_MEMORY) {
+        let is_added = explanation.is_ok_and(|text| self.lines.push_str(text.as_str()).is_ok());
+        // of an input that wasn't kept both the explanation and the hint are missing
+        if !is_added && !self.lines.as_str().ends_with(OUT_OF_MEMORY) {
             let _ = self.lines.push_str(OUT_OF_MEMORY);
         }
     }
-}
-
-fn hint_line(alloc: Global, which: Side<'_>, hint: Hint) -> Result<String, AllocError> {
-    format!(in alloc; "cborn: {which}hint: {hint}\n")
 }
 
 /// The name of the file that a read or a write failed of, where one was named.
@@ -285,8 +260,8 @@ fn failed_file<'a>(task: &Task<'a>, trouble: Trouble<'_>) -> Option<&'a str> {
     match (fault, task.action) {
         (EngineFault::WriteFault, _) => task.output,
         (EngineFault::ReadFault, Action::Read { file, .. }) => file,
-        (EngineFault::ReadFault, Action::Compare { first, second, .. }) => {
-            Some(if is_second { second } else { first })
+        (EngineFault::ReadFault, Action::Compare { first, second }) => {
+            Some(if is_second { second.name } else { first.name })
         }
         _ => None,
     }
@@ -294,8 +269,5 @@ fn failed_file<'a>(task: &Task<'a>, trouble: Trouble<'_>) -> Option<&'a str> {
 
 /// Whether the path leads to a folder.
 fn is_folder<F: Files>(files: &F, path: &str) -> bool {
-    match fs::metadata(files, path) {
-        Ok(found) => found.is_dir(),
-        Err(_) => false,
-    }
+    fs::metadata(files, path).is_ok_and(|found| found.is_dir())
 }

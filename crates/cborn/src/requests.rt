@@ -1,5 +1,6 @@
 //! What the words of a command line ask for.
 
+use cborn_engine::{Count, Kind};
 use cborn_model::Limit;
 
 /// What a command line asks for.
@@ -18,7 +19,7 @@ pub struct Task<'a> {
     pub output: Option<&'a str>,
     pub order: Order,
     pub limit: Limit,
-    pub items: Items,
+    pub count: Count,
     /// Whether a refusal, a defect or a difference is followed by lines that say where and why.
     pub explain: bool,
 }
@@ -43,36 +44,39 @@ pub enum Action<'a> {
     },
     /// Compares two files.
     Compare {
-        first: &'a str,
-        second: &'a str,
-        from_a: Format,
-        from_b: Format,
+        first: Named<'a>,
+        second: Named<'a>,
     },
+}
+
+/// The name of a file, and the format that it is read as.
+#[derive(Clone, Copy)]
+pub struct Named<'a> {
+    pub name: &'a str,
+    pub kind: Kind,
 }
 
 /// What one input is read for.
 #[derive(Clone, Copy)]
 pub enum Purpose {
-    Show { from: Format, to: Format },
-    Normalise { from: Format, to: Format },
+    Show { from: Kind, to: Kind },
+    Normalise { from: Kind, to: Kind },
     Check,
 }
 
 impl Purpose {
     /// The format of the input.
-    pub fn from(self) -> Format {
+    pub fn from(self) -> Kind {
         match self {
             Purpose::Show { from, .. } | Purpose::Normalise { from, .. } => from,
-            Purpose::Check => Format::Wire,
+            Purpose::Check => Kind::Wire,
         }
     }
 
     /// Whether the answer is CBOR bytes.
     fn is_for_bytes(self) -> bool {
         match self {
-            Purpose::Show { to, .. } | Purpose::Normalise { to, .. } => {
-                matches!(to, Format::Wire)
-            }
+            Purpose::Show { to, .. } | Purpose::Normalise { to, .. } => to == Kind::Wire,
             Purpose::Check => false,
         }
     }
@@ -85,25 +89,4 @@ pub enum Order {
     Bytewise,
     /// Shortest first (RFC 8949 section 4.2.3).
     LengthFirst,
-}
-
-/// How many items an input may hold.
-#[derive(Clone, Copy)]
-pub enum Items {
-    /// Any number, none included.
-    Any,
-    /// Exactly one. Each of two inputs holds one.
-    One,
-}
-
-/// The format of an input or an output.
-#[derive(Clone, Copy)]
-pub enum Format {
-    /// CBOR bytes.
-    Wire,
-    /// Diagnostic notation.
-    Notation,
-    /// Diagnostic notation with comments from `#` to the end of a line, and one comma after the last item
-    /// of an array, pair of a map or embedded item.
-    Notation2,
 }

@@ -2,16 +2,15 @@
 ghost use Rattle.std.specs.Prelude.{◌≡◌, ◌≤◌, IfOk, IfErr, OnOk, None};
 ghost use Rattle.cborn.specs.Statuses.{IsRefusal};
 
-use crate::formats::{count_of, kind_of};
 use crate::inputs::{LateFile, Noted};
 use crate::lines::{Answer, Trouble, tell_answer, tell_answer_on};
 use crate::remarks::Remarks;
-use crate::requests::{Action, Format, Order, Purpose, Task};
+use crate::requests::{Action, Named, Order, Purpose, Task};
 use crate::statuses::DONE;
 use crate::systems::System;
 use cborn_engine::{
-    CompareCountFault, Count, Counted, Kind, Source, check_stream, compare_streams,
-    normalise_stream, show_stream,
+    CompareCountFault, Count, Counted, Source, check_stream, compare_streams, normalise_stream,
+    show_stream,
 };
 use cborn_model::{Bytewise, KeyOrder, LengthFirst, Limit};
 use std::alloc::Global;
@@ -25,20 +24,6 @@ struct Wanted {
     alloc: Global,
     limit: Limit,
     count: Count,
-}
-
-/// The name of a file, and the format that it is read as.
-#[derive(Clone, Copy)]
-struct Named<'a> {
-    name: &'a str,
-    kind: Kind,
-}
-
-impl<'a> Named<'a> {
-    fn new(name: &'a str, format: Format) -> Self {
-        let kind = kind_of(format);
-        Named { name, kind }
-    }
 }
 
 /// Does a task, flushes what it wrote, and answers the exit status: `DONE` or `DIFFERENT`. Adds to
@@ -79,39 +64,22 @@ fn act<'a, O: KeyOrder, F: Files, I: Read + Drop, W: Write>(
     ensures untouched { IfErr result (λ why. IsRefusal why → out.new ≡ out.old) }
     ensures flushed { OnOk result (out.new.unflushed ≡ 0) }
 {
-    let Task {
-        action,
-        limit,
-        items,
-        ..
-    } = *task;
-    let alloc = system.alloc;
     let wanted = Wanted {
-        alloc,
-        limit,
-        count: count_of(items),
+        alloc: system.alloc,
+        limit: task.limit,
+        count: task.count,
     };
     let file_system = system.files;
-    match action {
-        Action::Read {
-            file: None,
-            purpose,
-        } => read_for::<O, I, W>(wanted, purpose, input, out, remarks),
-        Action::Read {
-            file: Some(name),
-            purpose,
-        } => match fs::open(file_system, name) {
-            Ok(file) => read_for::<O, F::File, W>(wanted, purpose, file, out, remarks),
-            Err(_) => Err(Trouble::CannotRead(name)),
+    match task.action {
+        Action::Read { file, purpose } => match file {
+            None => read_for::<O, I, W>(wanted, purpose, input, out, remarks),
+            Some(name) => match fs::open(file_system, name) {
+                Ok(file) => read_for::<O, F::File, W>(wanted, purpose, file, out, remarks),
+                Err(_) => Err(Trouble::CannotRead(name)),
+            },
         },
-        Action::Compare {
-            first,
-            second,
-            from_a,
-            from_b,
-        } => {
-            let files = (Named::new(first, from_a), Named::new(second, from_b));
-            compare_files::<O, F, W>(system, wanted, files, out, remarks)
+        Action::Compare { first, second } => {
+            compare_files::<O, F, W>(system, wanted, (first, second), out, remarks)
         }
     }
 }
@@ -141,7 +109,7 @@ fn read_for<'a, O: KeyOrder, I: Read + Drop, W: Write>(
     ensures flushed { OnOk result (out.new.unflushed ≡ 0) }
 {
     let alloc = wanted.alloc;
-    let kind = kind_of(purpose.from());
+    let kind = purpose.from();
     let mut reader = Noted {
         inner: Counted::new(input),
         notes: remarks.notes(kind),
@@ -184,11 +152,10 @@ fn answer_for<'a, O: KeyOrder, R: Source, W: Write>(
     } = wanted;
     match purpose {
         Purpose::Show { from, to } => {
-            show_stream(alloc, limit, count, kind_of(from), kind_of(to), reader, out)?;
+            show_stream(alloc, limit, count, from, to, reader, out)?;
             Ok(None)
         }
         Purpose::Normalise { from, to } => {
-            let (from, to) = (kind_of(from), kind_of(to));
             normalise_stream::<O, _, _>(alloc, limit, count, from, to, reader, out)?;
             Ok(None)
         }

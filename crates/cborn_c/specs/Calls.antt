@@ -47,27 +47,20 @@ IsBadPlaced unplaced place code = (code ≡ 2) × (place ≡ unplaced)
 abbrev pub IsDepth : ℕ → Type 0
 IsDepth limit = (1 ≤ limit) × (limit ≤ 1024)
 
--- the input, which has to hold so many items, is normalised
-pub record NormalisesInto (count : Count) (order : List ℕ → List ℕ → Ordering) (k out : Kind) (limit : ℕ) (x before after : List ℕ) (told : CbornTold) (code : ℕ) : Type 0 where
-  pub answer : Result (CowSlice ℕ Global) CountFault
-  pub normalised : CountAnswer count k limit x (NormalisedWhole order k out limit x) answer
-  pub put : Told answer before after told code
+-- some answer is right, and is reported so
+abbrev pub Reports : {A : Type 0} → (A → Type 0) → (A → Type 0) → Type 0
+Reports {A} IsRight IsTold = (answer : A) × IsRight answer × IsTold answer
 
 abbrev pub NormaliseCall : Count → Option Kind → Option Kind → Option KeyOrdering → ℕ → List ℕ → List ℕ → List ℕ → CbornTold → CbornTold → ℕ → Type 0
 NormaliseCall count (Some k) (Some out) (Some order) limit x before after untold told code =
-    (IsDepth limit → NormalisesInto count (order_of order) k out limit x before after told code) × ((IsDepth limit → ⊥) → IsBad before after untold told code)
+    (IsDepth limit → Reports (CountAnswer count k limit x (NormalisedWhole (order_of order) k out limit x)) (λ answer. Told answer before after told code)) × ((IsDepth limit → ⊥) → IsBad before after untold told code)
 NormaliseCall count (Some k) (Some out) None limit x before after untold told code = IsBad before after untold told code
 NormaliseCall count (Some k) None order limit x before after untold told code = IsBad before after untold told code
 NormaliseCall count None out order limit x before after untold told code = IsBad before after untold told code
 
-pub record ShowsInto (count : Count) (k out : Kind) (limit : ℕ) (x before after : List ℕ) (told : CbornTold) (code : ℕ) : Type 0 where
-  pub answer : Result (CowSlice ℕ Global) CountFault
-  pub shown : CountAnswer count k limit x (ShownWhole k out limit x) answer
-  pub put : Told answer before after told code
-
 abbrev pub ShowCall : Count → Option Kind → Option Kind → ℕ → List ℕ → List ℕ → List ℕ → CbornTold → CbornTold → ℕ → Type 0
 ShowCall count (Some k) (Some out) limit x before after untold told code =
-    (IsDepth limit → ShowsInto count k out limit x before after told code) × ((IsDepth limit → ⊥) → IsBad before after untold told code)
+    (IsDepth limit → Reports (CountAnswer count k limit x (ShownWhole k out limit x)) (λ answer. Told answer before after told code)) × ((IsDepth limit → ⊥) → IsBad before after untold told code)
 ShowCall count (Some k) None limit x before after untold told code = IsBad before after untold told code
 ShowCall count None out limit x before after untold told code = IsBad before after untold told code
 
@@ -80,13 +73,8 @@ abbrev pub CheckTold : Result (Option Defect) CountFault → ℕ → ℕ → Typ
 CheckTold (Ok defect) place code = DefectTold defect place code
 CheckTold (Err why) place code = (code ≡ counted_number why) × (place ≡ counted_place why)
 
-pub record ChecksInto (count : Count) (order : List ℕ → List ℕ → Ordering) (limit : ℕ) (x : List ℕ) (place code : ℕ) : Type 0 where
-  pub answer : Result (Option Defect) CountFault
-  pub checked : CountAnswer count kind.Wire limit x (CheckedWhole order limit x) answer
-  pub told : CheckTold answer place code
-
 abbrev pub CheckCall : Count → Option KeyOrdering → ℕ → List ℕ → ℕ → ℕ → ℕ → Type 0
-CheckCall count (Some order) limit x unplaced place code = (IsDepth limit → ChecksInto count (order_of order) limit x place code) × ((IsDepth limit → ⊥) → IsBadPlaced unplaced place code)
+CheckCall count (Some order) limit x unplaced place code = (IsDepth limit → Reports (CountAnswer count kind.Wire limit x (CheckedWhole (order_of order) limit x)) (λ answer. CheckTold answer place code)) × ((IsDepth limit → ⊥) → IsBadPlaced unplaced place code)
 CheckCall count None limit x unplaced place code = IsBadPlaced unplaced place code
 
 -- a fault of the first input; or one of the second, whose number is 65,536 more; or refused memory, which is a fault of neither
@@ -104,13 +92,8 @@ abbrev pub CompareTold : Result (Option ℕ) CompareCountFault → ℕ → ℕ �
 CompareTold (Ok difference) place code = DifferenceTold difference place code
 CompareTold (Err why) place code = CompareFaultTold why place code
 
-pub record ComparesInto (k l : Kind) (limit : ℕ) (x y : List ℕ) (place code : ℕ) : Type 0 where
-  pub answer : Result (Option ℕ) CompareCountFault
-  pub compared : Compared counts.Any k l limit x y answer
-  pub told : CompareTold answer place code
-
 abbrev pub CompareCall : Option Kind → Option Kind → ℕ → List ℕ → List ℕ → ℕ → ℕ → ℕ → Type 0
-CompareCall (Some k) (Some l) limit x y unplaced place code = (IsDepth limit → ComparesInto k l limit x y place code) × ((IsDepth limit → ⊥) → IsBadPlaced unplaced place code)
+CompareCall (Some k) (Some l) limit x y unplaced place code = (IsDepth limit → Reports (Compared counts.Any k l limit x y) (λ answer. CompareTold answer place code)) × ((IsDepth limit → ⊥) → IsBadPlaced unplaced place code)
 CompareCall (Some k) None limit x y unplaced place code = IsBadPlaced unplaced place code
 CompareCall None l limit x y unplaced place code = IsBadPlaced unplaced place code
 
@@ -120,13 +103,8 @@ SameTold (Ok true) place code = (code ≡ 0) × (place ≡ 0)
 SameTold (Ok false) place code = (code ≡ 5) × (place ≡ 0)
 SameTold (Err why) place code = CompareFaultTold why place code
 
-pub record MatchesInto (count : Count) (k l : Kind) (limit : ℕ) (x y : List ℕ) (place code : ℕ) : Type 0 where
-  pub answer : Result Bool CompareCountFault
-  pub matched : Matched count k l limit x y answer
-  pub told : SameTold answer place code
-
 abbrev pub SameCall : Count → Option Kind → Option Kind → ℕ → List ℕ → List ℕ → ℕ → ℕ → ℕ → Type 0
-SameCall count (Some k) (Some l) limit x y unplaced place code = (IsDepth limit → MatchesInto count k l limit x y place code) × ((IsDepth limit → ⊥) → IsBadPlaced unplaced place code)
+SameCall count (Some k) (Some l) limit x y unplaced place code = (IsDepth limit → Reports (Matched count k l limit x y) (λ answer. SameTold answer place code)) × ((IsDepth limit → ⊥) → IsBadPlaced unplaced place code)
 SameCall count (Some k) None limit x y unplaced place code = IsBadPlaced unplaced place code
 SameCall count None l limit x y unplaced place code = IsBadPlaced unplaced place code
 
@@ -138,14 +116,9 @@ EndTold (Ok (Some end)) size place code = (code ≡ 0) × (place ≡ end)
 EndTold (Ok None) size place code = (code ≡ 1793) × (place ≡ size)
 EndTold (Err why) size place code = (code ≡ fault_number (fault.Wire why)) × (place ≡ fault_place (fault.Wire why))
 
-pub record EndsItemInto (limit : ℕ) (x : List ℕ) (start place code : ℕ) : Type 0 where
-  pub answer : Result (Option ℕ) WireFault
-  pub ends : EndsItem limit x start answer
-  pub told : EndTold answer (length x) place code
-
 abbrev pub ItemEndCall : ℕ → List ℕ → ℕ → ℕ → ℕ → ℕ → Type 0
 ItemEndCall limit x start unplaced place code =
-    (IsDepth limit → start ≤ length x → EndsItemInto limit x start place code) × ((IsDepth limit → ⊥) → IsBadPlaced unplaced place code) × (length x < start → IsBadPlaced unplaced place code)
+    (IsDepth limit → start ≤ length x → Reports (EndsItem limit x start) (λ answer. EndTold answer (length x) place code)) × ((IsDepth limit → ⊥) → IsBadPlaced unplaced place code) × (length x < start → IsBadPlaced unplaced place code)
 
 -- ---- words and explanations
 
@@ -198,14 +171,9 @@ abbrev pub ComparisonTold : Result Bool CompareCountFault → List ℕ → List 
 ComparisonTold (Ok same) before after told code = ExplainsInto before after told code
 ComparisonTold (Err why) before after told code = CompareFaultTold why told.place code × (told.length ≡ 0) × (after ≡ before)
 
-pub record ComparisonInto (k l : Kind) (limit : ℕ) (x y before after : List ℕ) (told : CbornTold) (code : ℕ) : Type 0 where
-  pub answer : Result Bool CompareCountFault
-  pub matched : Matched counts.Any k l limit x y answer
-  pub reported : ComparisonTold answer before after told code
-
 abbrev pub ComparisonCall : Option Kind → Option Kind → Option KeyOrdering → ℕ → List ℕ → List ℕ → List ℕ → List ℕ → CbornTold → CbornTold → ℕ → Type 0
 ComparisonCall (Some k) (Some l) (Some order) limit x y before after untold told code =
-    (IsDepth limit → ComparisonInto k l limit x y before after told code) × ((IsDepth limit → ⊥) → IsBad before after untold told code)
+    (IsDepth limit → Reports (Matched counts.Any k l limit x y) (λ answer. ComparisonTold answer before after told code)) × ((IsDepth limit → ⊥) → IsBad before after untold told code)
 ComparisonCall (Some k) (Some l) None limit x y before after untold told code = IsBad before after untold told code
 ComparisonCall (Some k) None order limit x y before after untold told code = IsBad before after untold told code
 ComparisonCall None l order limit x y before after untold told code = IsBad before after untold told code

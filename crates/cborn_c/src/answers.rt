@@ -54,23 +54,22 @@ pub fn put(
     }
 }
 
+/// Reports a place, and answers the number for C that goes with it.
+fn told(place: &mut u64, at: u64, number: u32) -> u32
+    ensures { (place.new ≡ at) × (result ≡ number) }
+{
+    *place = at;
+    number
+}
+
 /// Reports a defect, that there is none, or the fault of the input. Answers the number for C.
 pub fn defect_told(answer: Result<Option<Defect>, CountFault>, place: &mut u64) -> u32
     ensures { CheckTold answer place.new result }
 {
     match answer {
-        Ok(None) => {
-            *place = 0;
-            OK
-        }
-        Ok(Some(defect)) => {
-            *place = defect.place;
-            number_defect(defect.reason)
-        }
-        Err(why) => {
-            *place = place_of_counted(why);
-            number_counted(why)
-        }
+        Ok(None) => told(place, 0, OK),
+        Ok(Some(defect)) => told(place, defect.place, number_defect(defect.reason)),
+        Err(why) => told(place, place_of_counted(why), number_counted(why)),
     }
 }
 
@@ -79,14 +78,8 @@ pub fn difference_told(answer: Result<Option<u64>, CompareCountFault>, place: &m
     ensures { CompareTold answer place.new result }
 {
     match answer {
-        Ok(None) => {
-            *place = 0;
-            OK
-        }
-        Ok(Some(index)) => {
-            *place = index;
-            DIFFERENT
-        }
+        Ok(None) => told(place, 0, OK),
+        Ok(Some(index)) => told(place, index, DIFFERENT),
         Err(why) => compare_fault_told(why, place),
     }
 }
@@ -96,10 +89,8 @@ pub fn same_told(answer: Result<bool, CompareCountFault>, place: &mut u64) -> u3
     ensures { SameTold answer place.new result }
 {
     match answer {
-        Ok(same) => {
-            *place = 0;
-            if same { OK } else { DIFFERENT }
-        }
+        Ok(true) => told(place, 0, OK),
+        Ok(false) => told(place, 0, DIFFERENT),
         Err(why) => compare_fault_told(why, place),
     }
 }
@@ -109,18 +100,15 @@ pub fn compare_fault_told(why: CompareCountFault, place: &mut u64) -> u32
     ensures { CompareFaultTold why place.new result }
 {
     match why {
-        CompareCountFault::First(why) => {
-            *place = place_of_counted(why);
-            number_counted(why)
-        }
+        CompareCountFault::First(why) => told(place, place_of_counted(why), number_counted(why)),
         CompareCountFault::Second(why) => {
-            *place = place_of_counted(why);
-            number_counted(why) + OF_SECOND
+            told(
+                place,
+                place_of_counted(why),
+                number_counted(why) + OF_SECOND,
+            )
         }
-        CompareCountFault::OutOfMemory => {
-            *place = 0;
-            OUT_OF_MEMORY
-        }
+        CompareCountFault::OutOfMemory => told(place, 0, OUT_OF_MEMORY),
     }
 }
 
@@ -134,13 +122,9 @@ pub fn end_told(
     ensures { EndTold answer input_length place.new result }
 {
     let why = match answer {
-        Ok(Some(end)) => {
-            *place = end as u64;
-            return OK;
-        }
+        Ok(Some(end)) => return told(place, end as u64, OK),
         Ok(None) => CountFault::NoItem(input_length as u64),
         Err(why) => CountFault::Engine(EngineFault::Wire(why)),
     };
-    *place = place_of_counted(why);
-    number_counted(why)
+    told(place, place_of_counted(why), number_counted(why))
 }

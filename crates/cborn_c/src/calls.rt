@@ -1,15 +1,14 @@
 //! The calls on inputs that have to hold a given number of items. `lib.rt` exports each for any number
-//! and for exactly one, but the explanation of a comparison for any number alone.
+//! and for exactly one.
 ghost use Rattle.std.specs.Prelude.{◌≡◌, ◌≢◌, ◌≤◌, ◌+◌, ◌*◌, ◌/◌, length, IfOk};
 ghost use Rattle.std.specs.Cow.{cow_slice_items};
 ghost use Rattle.cborn_engine.specs.declared.kinds.Kind.TheVariants as kinds;
 ghost use Rattle.cborn_engine.specs.Counts.{CountAnswer, NormalisedWhole, CheckedWhole};
 ghost use Rattle.cborn_c.specs.Answers.{Matched};
 ghost use Rattle.cborn_c.specs.Numbers.{numbered_kind, numbered_order, order_of};
-ghost use Rattle.cborn_c.specs.Calls.{NormaliseCall, ShowCall, CheckCall, SameCall, ComparisonCall};
+ghost use Rattle.cborn_c.specs.Calls.{NormaliseCall, ShowCall, CheckCall, SameCall};
 
-use crate::answers::{CbornTold, compare_fault_told, defect_told, put, same_told};
-use crate::explanations::put_text;
+use crate::answers::{CbornTold, defect_told, put, same_told};
 use crate::numbers::{BAD_ARGUMENT, KeyOrdering, kind_at, order_at};
 use cborn_engine::{
     CompareCountFault, Count, CountFault, Kind, check_slice, normalise_slice, same_items,
@@ -40,18 +39,10 @@ pub fn normalise(
     ensures call { NormaliseCall count (numbered_kind from) (numbered_kind to) (numbered_order order) depth input.now out.old out.new told.old told.new result }
     ensures room { from ≡ 0 → to ≡ 0 → length input.now + length input.now / 3 ≤ length out.old → result ≢ 1 }
 {
-    let Some(from) = kind_at(from) else {
-        return BAD_ARGUMENT;
-    };
-    let Some(to) = kind_at(to) else {
-        return BAD_ARGUMENT;
-    };
-    let Some(order) = order_at(order) else {
-        return BAD_ARGUMENT;
-    };
-    let Some(limit) = Limit::new(depth) else {
-        return BAD_ARGUMENT;
-    };
+    take!(from = kind_at(from));
+    take!(to = kind_at(to));
+    take!(order = order_at(order));
+    take!(limit = Limit::new(depth));
     let answer = normalised(alloc, limit, count, order, from, to, input);
     put(answer, out, told)
 }
@@ -73,15 +64,9 @@ pub fn show(
 ) -> u32
     ensures { ShowCall count (numbered_kind from) (numbered_kind to) depth input.now out.old out.new told.old told.new result }
 {
-    let Some(from) = kind_at(from) else {
-        return BAD_ARGUMENT;
-    };
-    let Some(to) = kind_at(to) else {
-        return BAD_ARGUMENT;
-    };
-    let Some(limit) = Limit::new(depth) else {
-        return BAD_ARGUMENT;
-    };
+    take!(from = kind_at(from));
+    take!(to = kind_at(to));
+    take!(limit = Limit::new(depth));
     put(show_slice(alloc, limit, count, from, to, input), out, told)
 }
 
@@ -100,12 +85,8 @@ pub fn check(
 ) -> u32
     ensures { CheckCall count (numbered_order order) depth input.now place.old place.new result }
 {
-    let Some(order) = order_at(order) else {
-        return BAD_ARGUMENT;
-    };
-    let Some(limit) = Limit::new(depth) else {
-        return BAD_ARGUMENT;
-    };
+    take!(order = order_at(order));
+    take!(limit = Limit::new(depth));
     defect_told(checked(alloc, limit, count, order, input), place)
 }
 
@@ -126,59 +107,11 @@ pub fn same(
 ) -> u32
     ensures { SameCall count (numbered_kind from_a) (numbered_kind from_b) depth first.now second.now place.old place.new result }
 {
-    let Some(from_a) = kind_at(from_a) else {
-        return BAD_ARGUMENT;
-    };
-    let Some(from_b) = kind_at(from_b) else {
-        return BAD_ARGUMENT;
-    };
-    let Some(limit) = Limit::new(depth) else {
-        return BAD_ARGUMENT;
-    };
+    take!(from_a = kind_at(from_a));
+    take!(from_b = kind_at(from_b));
+    take!(limit = Limit::new(depth));
     let answer = matched(alloc, limit, count, from_a, first, from_b, second);
     same_told(answer, place)
-}
-
-/// What `cborn_explain_comparison` answers.
-///
-/// # Errors
-/// Those of this call.
-pub fn comparison(
-    alloc: Global,
-    from_a: u32,
-    from_b: u32,
-    order: u32,
-    depth: u64,
-    first: &[u8],
-    second: &[u8],
-    out: &mut [u8],
-    told: &mut CbornTold,
-) -> u32
-    ensures { ComparisonCall (numbered_kind from_a) (numbered_kind from_b) (numbered_order order) depth first.now second.now out.old out.new told.old told.new result }
-{
-    let Some(from_a) = kind_at(from_a) else {
-        return BAD_ARGUMENT;
-    };
-    let Some(from_b) = kind_at(from_b) else {
-        return BAD_ARGUMENT;
-    };
-    let Some(order) = order_at(order) else {
-        return BAD_ARGUMENT;
-    };
-    let Some(limit) = Limit::new(depth) else {
-        return BAD_ARGUMENT;
-    };
-    let kinds = (from_a, from_b);
-    match matched(alloc, limit, Count::Any, from_a, first, from_b, second) {
-        Ok(same) => {
-            let answer = compared_lines(alloc, limit, order, kinds, (first, second), same);
-            put_text(answer, out, told)
-        }
-        Err(why) => {
-            told.length = 0;
-            compare_fault_told(why, &mut told.place)
-        }
-    }
 }
 
 /// The canonical form of the items of the input, with the keys of maps in this order.
@@ -233,7 +166,7 @@ fn checked(
 /// # Errors
 /// The fault that the engine reports.
 #[inline(always)]
-fn matched(
+pub fn matched(
     alloc: Global,
     limit: Limit,
     count: Count,
@@ -252,7 +185,7 @@ fn matched(
 ///
 /// # Errors
 /// `AllocError` where memory is refused.
-fn compared_lines(
+pub fn compared_lines(
     alloc: Global,
     limit: Limit,
     order: KeyOrdering,

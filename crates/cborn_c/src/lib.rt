@@ -8,6 +8,15 @@
 //! `specs/Calls.antt` says what each call answers, `specs/Numbers.antt` what the numbers mean.
 #![tactic(auto)]
 
+/// Takes what a number from C means. Where it means nothing, the call answers that.
+macro_rules! take {
+    ($meant:ident = $found:expr) => {
+        let Some($meant) = $found else {
+            return BAD_ARGUMENT;
+        };
+    };
+}
+
 mod answers;
 mod calls;
 mod explanations;
@@ -19,13 +28,13 @@ ghost use Rattle.cborn_engine.specs.declared.counts.Count.TheVariants as counts;
 ghost use Rattle.cborn_c.specs.Numbers.{numbered_kind, numbered_order};
 ghost use Rattle.cborn_c.specs.Calls.{NormaliseCall, ShowCall, CheckCall, CompareCall, SameCall, ItemEndCall, WordsCall, ExplainCall, ComparisonCall};
 
-use answers::{CbornTold, difference_told, end_told};
-use calls::{check, comparison, normalise, same, show};
+use answers::{CbornTold, compare_fault_told, difference_told, end_told};
+use calls::{check, compared_lines, matched, normalise, same, show};
 use cborn_engine::{Count, compare_slices};
 use cborn_model::{Bytewise, Limit};
 use cborn_wire::item_end;
 use explanations::{Input, explained, put_text};
-use numbers::{BAD_ARGUMENT, kind_at};
+use numbers::{BAD_ARGUMENT, kind_at, order_at};
 use std::alloc::Global;
 use words::{counted_fault_at, defect_at, of_first, put_words};
 
@@ -124,15 +133,9 @@ pub extern "C" fn cborn_compare(
 ) -> u32
     ensures { CompareCall (numbered_kind from_a) (numbered_kind from_b) depth first.now second.now place.old place.new result }
 {
-    let Some(from_a) = kind_at(from_a) else {
-        return BAD_ARGUMENT;
-    };
-    let Some(from_b) = kind_at(from_b) else {
-        return BAD_ARGUMENT;
-    };
-    let Some(limit) = Limit::new(depth) else {
-        return BAD_ARGUMENT;
-    };
+    take!(from_a = kind_at(from_a));
+    take!(from_b = kind_at(from_b));
+    take!(limit = Limit::new(depth));
     let any = Count::Any;
     let answer = compare_slices::<Bytewise>(alloc, limit, any, from_a, first, from_b, second);
     difference_told(answer, place)
@@ -144,10 +147,7 @@ pub extern "C" fn cborn_compare(
 /// where they differ.
 ///
 /// # Errors
-/// `BAD_ARGUMENT` where `from_a` or `from_b` numbers nothing or `depth` is no limit; `place` is then
-/// unchanged. `OUT_OF_MEMORY` where memory is refused, for either input; `place` gets 0. Else the
-/// number of the fault of `first`, or `OF_SECOND` more than that of `second`, and `place` gets its
-/// offset in bytes from the start of that input.
+/// Those of `cborn_compare`.
 #[unsafe(no_mangle)]
 pub extern "C" fn cborn_same(
     alloc: Global,
@@ -160,16 +160,8 @@ pub extern "C" fn cborn_same(
 ) -> u32
     ensures { SameCall counts.Any (numbered_kind from_a) (numbered_kind from_b) depth first.now second.now place.old place.new result }
 {
-    same(
-        alloc,
-        Count::Any,
-        from_a,
-        from_b,
-        depth,
-        first,
-        second,
-        place,
-    )
+    let count = Count::Any;
+    same(alloc, count, from_a, from_b, depth, first, second, place)
 }
 
 /// Writes the deterministic encoding of the one item that `input` has to hold to the start of `out`
@@ -244,10 +236,7 @@ pub extern "C" fn cborn_check_one(
 /// `cborn_compare`.
 ///
 /// # Errors
-/// `BAD_ARGUMENT` where `from_a` or `from_b` numbers nothing or `depth` is no limit; `place` is then
-/// unchanged. `OUT_OF_MEMORY` where memory is refused, for either input; `place` gets 0. Else the
-/// number of the fault of `first`, or `OF_SECOND` more than that of `second`, and `place` gets its
-/// offset in bytes from the start of that input. `NO_ITEM` and `MORE_ITEMS` are among these faults.
+/// Those of `cborn_compare`. `NO_ITEM` and `MORE_ITEMS` are among the faults.
 #[unsafe(no_mangle)]
 pub extern "C" fn cborn_compare_one(
     alloc: Global,
@@ -260,16 +249,8 @@ pub extern "C" fn cborn_compare_one(
 ) -> u32
     ensures { SameCall counts.One (numbered_kind from_a) (numbered_kind from_b) depth first.now second.now place.old place.new result }
 {
-    same(
-        alloc,
-        Count::One,
-        from_a,
-        from_b,
-        depth,
-        first,
-        second,
-        place,
-    )
+    let count = Count::One;
+    same(alloc, count, from_a, from_b, depth, first, second, place)
 }
 
 /// `OK` if a well-formed item starts in `input`, which is CBOR bytes, at the offset `start` (RFC 8949
@@ -295,9 +276,7 @@ pub extern "C" fn cborn_item_end(
     if start > input.len() as u64 {
         return BAD_ARGUMENT;
     }
-    let Some(limit) = Limit::new(depth) else {
-        return BAD_ARGUMENT;
-    };
+    take!(limit = Limit::new(depth));
     let answer = item_end(alloc, limit, input, start as usize);
     end_told(answer, input.len(), place)
 }
@@ -349,19 +328,13 @@ pub extern "C" fn cborn_explain(
 ) -> u32
     ensures { ExplainCall (numbered_kind from) depth number out.old out.new told.old told.new result }
 {
-    let Some(from) = kind_at(from) else {
-        return BAD_ARGUMENT;
-    };
-    let Some(limit) = Limit::new(depth) else {
-        return BAD_ARGUMENT;
-    };
+    take!(from = kind_at(from));
+    take!(limit = Limit::new(depth));
     let input = Input {
         kind: from,
         bytes: input,
     };
-    let Some(answer) = explained(alloc, limit, input, number, place) else {
-        return BAD_ARGUMENT;
-    };
+    take!(answer = explained(alloc, limit, input, number, place));
     put_text(answer, out, told)
 }
 
@@ -390,9 +363,21 @@ pub extern "C" fn cborn_explain_comparison(
 ) -> u32
     ensures { ComparisonCall (numbered_kind from_a) (numbered_kind from_b) (numbered_order order) depth first.now second.now out.old out.new told.old told.new result }
 {
-    comparison(
-        alloc, from_a, from_b, order, depth, first, second, out, told,
-    )
+    take!(from_a = kind_at(from_a));
+    take!(from_b = kind_at(from_b));
+    take!(order = order_at(order));
+    take!(limit = Limit::new(depth));
+    let kinds = (from_a, from_b);
+    match matched(alloc, limit, Count::Any, from_a, first, from_b, second) {
+        Ok(same) => {
+            let answer = compared_lines(alloc, limit, order, kinds, (first, second), same);
+            put_text(answer, out, told)
+        }
+        Err(why) => {
+            told.length = 0;
+            compare_fault_told(why, &mut told.place)
+        }
+    }
 }
 
 /// The version of the library as one number: the major version times 65,536, the minor one times 256,

@@ -10,8 +10,6 @@ use Rattle.cborn_judge.specs.declared.faults.Invalid.{Invalid}
 use Rattle.cborn_judge.specs.declared.faults.Invalid.TheVariants as invalid
 use Rattle.cborn_engine.specs.declared.stream_faults.InputFault.{InputFault}
 use Rattle.cborn_engine.specs.declared.stream_faults.InputFault.TheVariants as input
-use Rattle.cborn_engine.specs.declared.stream_faults.OutputFault.{OutputFault}
-use Rattle.cborn_engine.specs.declared.stream_faults.OutputFault.TheVariants as output
 use Rattle.cborn_engine.specs.declared.faults.EngineFault.{EngineFault}
 use Rattle.cborn_engine.specs.declared.faults.EngineFault.TheVariants as fault
 
@@ -19,9 +17,6 @@ abbrev pub of_input : InputFault → EngineFault
 of_input input.ReadFault = fault.ReadFault
 of_input input.TooLong = fault.TooLong
 of_input input.OutOfMemory = fault.OutOfMemory
-
-abbrev pub of_output : OutputFault → EngineFault
-of_output output.WriteFault = fault.WriteFault
 
 abbrev pub of_wire : WireFault → EngineFault
 of_wire (wire.Refused p r) = fault.Wire (wire.Refused p r)

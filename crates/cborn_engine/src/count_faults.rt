@@ -7,7 +7,7 @@ ghost use Rattle.cborn_engine.specs.declared.faults.CompareFault.{CompareFault};
 ghost use Rattle.cborn_engine.specs.declared.faults.EngineFault.{EngineFault};
 
 use crate::faults::{CompareFault, EngineFault};
-use crate::stream_faults::{InputFault, OutputFault};
+use crate::stream_faults::InputFault;
 use std::alloc::AllocError;
 use thiserror::Error;
 
@@ -64,16 +64,6 @@ impl From<InputFault> for CountFault {
     ghost from_gives = { λ why e. e ≡ CountFault.Engine (of_input why) };
 
     fn from(why: InputFault) -> Self {
-        CountFault::Engine(EngineFault::from(why))
-    }
-}
-
-impl From<OutputFault> for CountFault {
-    ghost use Rattle.cborn_engine.specs.Faults.{of_output};
-
-    ghost from_gives = { λ why e. e ≡ CountFault.Engine (of_output why) };
-
-    fn from(why: OutputFault) -> Self {
         CountFault::Engine(EngineFault::from(why))
     }
 }

@@ -3,7 +3,7 @@ ghost use Rattle.std.specs.Prelude.{◌≡◌};
 ghost use Rattle.cborn_engine.specs.declared.faults.CompareFault.{CompareFault};
 ghost use Rattle.cborn_engine.specs.declared.faults.EngineFault.{EngineFault};
 
-use crate::stream_faults::{InputFault, OutputFault};
+use crate::stream_faults::InputFault;
 use cborn_edn::{EdnFault, ShowFault};
 use cborn_judge::Invalid;
 use cborn_lex::LexFault;
@@ -84,18 +84,6 @@ impl From<InputFault> for EngineFault {
             InputFault::ReadFault => EngineFault::ReadFault,
             InputFault::TooLong => EngineFault::TooLong,
             InputFault::OutOfMemory => EngineFault::OutOfMemory,
-        }
-    }
-}
-
-impl From<OutputFault> for EngineFault {
-    ghost use Rattle.cborn_engine.specs.Faults.{of_output};
-
-    ghost from_gives = { λ why e. e ≡ of_output why };
-
-    fn from(why: OutputFault) -> Self {
-        match why {
-            OutputFault::WriteFault => EngineFault::WriteFault,
         }
     }
 }

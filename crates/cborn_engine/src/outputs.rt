@@ -3,15 +3,15 @@ ghost use Rattle.std.specs.Prelude.{◌≡◌, OnOk};
 ghost use Rattle.cborn_engine.specs.Failures.{failures_after};
 ghost use Rattle.cborn_engine.specs.Writing.{Sends};
 
+use crate::faults::EngineFault;
 use crate::sinks::Sink;
-use crate::stream_faults::OutputFault;
 
 /// Writes all bytes, and then flushes once, even if there are none.
 ///
 /// # Errors
 /// `WriteFault` if a write or the flush fails, or a write takes nothing; then a front of the bytes was
 /// written, which may be all of them.
-pub fn write_answer<W: Sink>(writer: &mut W, bytes: &[u8]) -> Result<(), OutputFault>
+pub fn write_answer<W: Sink>(writer: &mut W, bytes: &[u8]) -> Result<(), EngineFault>
     ensures writes { Sends (W.contents writer.old) (W.contents writer.new) bytes.now result }
     ensures failures { W.failed writer.new ≡ failures_after result (W.failed writer.old) }
     ensures flushed { OnOk result (W.unflushed writer.new ≡ 0) }
@@ -20,15 +20,15 @@ pub fn write_answer<W: Sink>(writer: &mut W, bytes: &[u8]) -> Result<(), OutputF
     while sent < bytes.len() {
         let count = match writer.write_some(&bytes[sent..]) {
             Ok(count) => count,
-            Err(_) => return Err(OutputFault::WriteFault),
+            Err(_) => return Err(EngineFault::WriteFault),
         };
         if count == 0 {
-            return Err(OutputFault::WriteFault);
+            return Err(EngineFault::WriteFault);
         }
         sent += count;
     }
     match writer.flush_all() {
         Ok(()) => Ok(()),
-        Err(_) => Err(OutputFault::WriteFault),
+        Err(_) => Err(EngineFault::WriteFault),
     }
 }

@@ -1,4 +1,4 @@
-//! Why an input could not be read, or an answer not be written.
+//! Why an input could not be read.
 ghost use Rattle.std.specs.Prelude.{◌≡◌};
 ghost use Rattle.cborn_engine.specs.declared.stream_faults.InputFault.{InputFault};
 
@@ -17,14 +17,6 @@ pub enum InputFault {
     /// Memory was refused.
     #[error("out of memory")]
     OutOfMemory,
-}
-
-/// Why an answer was not written whole.
-#[derive(Clone, Copy, PartialEq, Eq, Debug, Error)]
-pub enum OutputFault {
-    /// The writer failed. What it took before is a front of the answer.
-    #[error("write failed")]
-    WriteFault,
 }
 
 impl From<AllocError> for InputFault {

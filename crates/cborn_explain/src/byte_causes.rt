@@ -2,17 +2,16 @@
 
 ghost use Rattle.std.specs.Prelude.{◌≤◌};
 
-use crate::byte_heads::{content_len, end_of_item, item_at, whole_head};
+use crate::byte_heads::{content_len, content_of, item_at, whole_head};
 use crate::byte_walks::Walk;
-use crate::items::{encoded_at, valid_at};
+use crate::items::ItemReader;
 use crate::order_causes::push_rule;
-use crate::quotes::{push_hex, push_item, slice_of, valid_front};
+use crate::quotes::{push_hex, slice_of, valid_front};
 use crate::reasons::BytesReason;
-use cborn_det::encode;
 use cborn_judge::{DefectReason, InvalidReason};
-use cborn_model::{Bytewise, Limit, Major, shortest};
+use cborn_model::{Limit, Major, shortest};
 use cborn_wire::{Argument, Head, HeadRead, Level, LevelKind, WireReason, head_bytes, read_head};
-use std::alloc::{AllocError, Global};
+use std::alloc::AllocError;
 
 /// How many bytes of an encoding are written at most.
 const ENCODING: usize = 16;
@@ -24,53 +23,39 @@ pub(crate) struct RefusedBytes<'a> {
     /// A walk over the bytes to the place that was reported with the reason: to the head that begins
     /// there, or to the one whose argument or string the place is in.
     pub(crate) walk: &'a Walk,
-    /// The nesting limit under which they are refused.
-    pub(crate) limit: Limit,
+    /// It has the nesting limit under which they are refused.
+    pub(crate) items: &'a ItemReader,
 }
 
 impl<'a> RefusedBytes<'a> {
     /// Writes the sentence for `reason`.
-    ///
-    /// # Errors
-    /// `AllocError` where memory is refused.
     pub(crate) fn push_cause(
         &self,
-        alloc: Global,
         out: &mut String,
         reason: BytesReason,
     ) -> Result<(), AllocError> {
         match reason {
             BytesReason::Malformed(reason) => self.push_malformed(out, reason),
-            BytesReason::Invalid(reason) => self.push_invalid(alloc, out, reason),
-            BytesReason::Defect(reason) => self.push_defect(alloc, out, reason),
+            BytesReason::Invalid(InvalidReason::NotUtf8) => self.push_not_utf8(out),
+            BytesReason::Invalid(InvalidReason::BadBignum) => push_bad_bignum(out, self.rest()),
+            BytesReason::Invalid(InvalidReason::DuplicateKey) => self.push_duplicate(out),
+            BytesReason::Defect(DefectReason::LongHead) => push_long_head(out, self.rest()),
+            BytesReason::Defect(DefectReason::EndlessLength) => {
+                let kind = kind_of(self.first());
+                write!(
+                    out,
+                    "the {kind} has an indefinite length, and the deterministic encoding tells each length in the head"
+                )
+            }
+            BytesReason::Defect(DefectReason::LooseBignum) => self.push_loose(out),
+            BytesReason::Defect(DefectReason::KeyOrder) => self.push_order(out),
             BytesReason::Count(reason) => out.push_str(reason.sentence()),
         }
     }
 
     /// The bytes from the head on to which the walk has come.
     fn rest(&self) -> &'a [u8] {
-        let bytes = self.bytes;
-        bytes.get(self.walk.at..).unwrap_or(&[])
-    }
-
-    /// The innermost level at that head.
-    fn level(&self) -> Level {
-        self.walk.innermost()
-    }
-
-    /// Writes why the bytes aren't well-formed.
-    fn push_malformed(&self, out: &mut String, reason: WireReason) -> Result<(), AllocError> {
-        match reason {
-            WireReason::ReservedInfo | WireReason::EndlessNotAllowed => {
-                push_bad_initial_byte(out, self.first(), reason)
-            }
-            WireReason::BadChunk => push_bad_chunk(out, self.level()),
-            WireReason::UnexpectedBreak => push_bad_break(out, self.level()),
-            WireReason::FloatLeftOut => push_float(out, self.first()),
-            WireReason::BadSimple => push_bad_simple(out, self.rest()),
-            WireReason::TooDeep => push_too_deep(self.limit, out, "arrays, maps and tags"),
-            WireReason::Truncated => self.push_truncated(out),
-        }
+        slice_of(self.bytes, self.walk.at, self.bytes.len())
     }
 
     /// The first byte of that head. 0: the input ends there.
@@ -78,135 +63,133 @@ impl<'a> RefusedBytes<'a> {
         self.rest().first().copied().unwrap_or(0)
     }
 
-    /// Writes what the end of the input cuts off.
-    fn push_truncated(&self, out: &mut String) -> Result<(), AllocError> {
-        if self.rest().is_empty() {
-            return push_missing_at_end(out, self.level());
-        }
-        push_cut_head(out, self.rest(), self.walk.at)
-    }
-
-    /// Writes why an item is invalid.
-    fn push_invalid(
-        &self,
-        alloc: Global,
-        out: &mut String,
-        reason: InvalidReason,
-    ) -> Result<(), AllocError> {
+    /// Writes why the bytes aren't well-formed.
+    fn push_malformed(&self, out: &mut String, reason: WireReason) -> Result<(), AllocError> {
+        let (first, level) = (self.first(), self.walk.innermost());
+        let (kind, information, place) = (kind_of(first), first % 32, level.place);
         match reason {
-            InvalidReason::NotUtf8 => push_not_utf8(out, self.rest(), self.walk.at),
-            InvalidReason::BadBignum => push_bad_bignum(out, self.rest()),
-            InvalidReason::DuplicateKey => self.push_duplicate(alloc, out),
+            WireReason::ReservedInfo => write!(
+                out,
+                "the low five bits of the initial byte {first:02x} are {information}, and no head has 28, 29 or 30 there"
+            ),
+            WireReason::EndlessNotAllowed => write!(
+                out,
+                "the initial byte {first:02x} gives the {kind} an indefinite length, which only strings, arrays and maps have"
+            ),
+            WireReason::BadChunk => write!(
+                out,
+                "an indefinite-length string is open since offset {place}: only definite-length strings of its kind may follow, or the break ff"
+            ),
+            WireReason::UnexpectedBreak => {
+                out.push_str("a break ends an indefinite length, and ")?;
+                push_missing(out, level)
+            }
+            WireReason::FloatLeftOut => push_float(out, information),
+            WireReason::BadSimple => push_bad_simple(out, self.rest()),
+            WireReason::TooDeep => push_too_deep(self.items.limit, out, "arrays, maps and tags"),
+            WireReason::Truncated if !self.rest().is_empty() => self.push_cut_head(out),
+            WireReason::Truncated => push_missing_at_end(out, level),
         }
-    }
-
-    /// Writes the key at the place.
-    fn push_key(&self, alloc: Global, out: &mut String) -> Result<(), AllocError> {
-        let key = item_at(alloc, self.bytes, self.walk.at)?;
-        push_item(alloc, self.limit, out, key)
     }
 
     /// Writes which key the key at the place repeats.
-    fn push_duplicate(&self, alloc: Global, out: &mut String) -> Result<(), AllocError> {
+    fn push_duplicate(&self, out: &mut String) -> Result<(), AllocError> {
         out.push_str("the key ")?;
-        self.push_key(alloc, out)?;
-        match self.earlier_key(alloc)? {
-            Some(place) => write!(out, " is the same as the key at offset {place} of this map"),
+        self.push_key(out)?;
+        match self.earlier_key()? {
+            Some((_, place)) => {
+                write!(out, " is the same as the key at offset {place} of this map")
+            }
             None => out.push_str(" is the same as an earlier key of this map"),
         }
     }
 
-    /// The offset of the first key of the open map that is the same as the key at the place. `None`:
-    /// none was found, though there may be one, since a key that isn't valid alone isn't compared.
-    ///
-    /// # Errors
-    /// `AllocError` where memory is refused.
-    fn earlier_key(&self, alloc: Global) -> Result<Option<usize>, AllocError> {
-        let bytes = self.bytes;
-        let later = self.walk.at;
-        let map = self.level().place as usize;
-        let Some(wanted) = encoded_at(alloc, self.limit, bytes, later)? else {
-            return Ok(None);
-        };
-        let mut at = match whole_head(bytes.get(map..).unwrap_or(&[])) {
-            Some((_, len)) => map.saturating_add(len),
-            None => return Ok(None),
-        };
-        'keys: for _ in 0..bytes.len() {
-            if at >= later {
-                break;
-            }
-            if let Some(key) = encoded_at(alloc, self.limit, bytes, at)? {
-                if key == wanted {
-                    return Ok(Some(at));
-                }
-            }
-            at = end_of_item(alloc, bytes, at)?;
-            at = end_of_item(alloc, bytes, at)?;
-        }
-        Ok(None)
+    /// Writes the key at the place.
+    fn push_key(&self, out: &mut String) -> Result<(), AllocError> {
+        self.items
+            .push_item(out, item_at(self.items.alloc, self.bytes, self.walk.at)?)
     }
 
-    /// Writes why an item isn't in the deterministic encoding.
-    fn push_defect(
-        &self,
-        alloc: Global,
-        out: &mut String,
-        reason: DefectReason,
-    ) -> Result<(), AllocError> {
-        match reason {
-            DefectReason::LongHead => push_long_head(out, self.rest()),
-            DefectReason::EndlessLength => {
-                let kind = kind_of(Major::of_initial_byte(self.first()));
-                write!(
-                    out,
-                    "{kind} has an indefinite length, and the deterministic encoding tells each length in the head"
-                )
-            }
-            DefectReason::LooseBignum => push_loose(alloc, self.limit, out, self.rest()),
-            DefectReason::KeyOrder => self.push_order(alloc, out),
-        }
+    /// The first key of the open map that is the same as the key at the place, as `key_from` gives it.
+    fn earlier_key(&self) -> Result<Option<(u64, usize)>, AllocError> {
+        let (bytes, later) = (self.bytes, self.walk.at);
+        let map = self.walk.innermost().place as usize;
+        let head = whole_head(slice_of(bytes, map, bytes.len()));
+        let key = self.items.encoded_at(bytes, later)?;
+        let (Some((_, len)), Some(key)) = (head, key) else {
+            return Ok(None);
+        };
+        self.items
+            .key_from(bytes, map.saturating_add(len), later, &key)
     }
 
     /// Writes before which key the key at the place has to come, and by which order.
-    fn push_order(&self, alloc: Global, out: &mut String) -> Result<(), AllocError> {
+    fn push_order(&self, out: &mut String) -> Result<(), AllocError> {
         out.push_str("the key ")?;
-        self.push_key(alloc, out)?;
+        self.push_key(out)?;
         out.push_str(" has to come before the key ")?;
         let (from, to) = self.walk.last_key();
-        push_item(alloc, self.limit, out, slice_of(self.bytes, from, to))?;
+        let before = slice_of(self.bytes, from, to);
+        self.items.push_item(out, before)?;
         write!(out, " at offset {from}")?;
-        let here = valid_at(alloc, self.limit, self.bytes, self.walk.at)?;
-        let before = valid_at(alloc, self.limit, self.bytes, from)?;
-        match (here, before) {
-            (Some(here), Some(before)) => push_rule(alloc, out, &here, &before),
-            _ => Ok(()),
-        }
-    }
-}
-
-/// Writes why an initial byte begins no head, for the two reasons that name its low five bits.
-fn push_bad_initial_byte(
-    out: &mut String,
-    first: u8,
-    reason: WireReason,
-) -> Result<(), AllocError> {
-    if reason == WireReason::ReservedInfo {
-        let information = first % 32;
-        return write!(
+        push_rule(
+            self.items,
             out,
-            "the low five bits of the initial byte {first:02x} are {information}, and no head has 28, 29 or 30 there"
-        );
+            item_at(self.items.alloc, self.bytes, self.walk.at)?,
+            before,
+        )
     }
-    let kind = kind_of(Major::of_initial_byte(first));
-    write!(
-        out,
-        "the initial byte {first:02x} gives {kind} an indefinite length, which only strings, arrays and maps have"
-    )
+
+    /// Writes which bytes of the head at the place, or of the string after it, are missing.
+    fn push_cut_head(&self, out: &mut String) -> Result<(), AllocError> {
+        let (rest, place) = (self.rest(), self.walk.at);
+        let first = self.first();
+        let (what, verb, announced, there) = match read_head(rest) {
+            HeadRead::Full(head, len) => {
+                (
+                    kind_of(first),
+                    "announces",
+                    content_len(head),
+                    rest.len().saturating_sub(len),
+                )
+            }
+            _ => ("head", "has", head_len(first), rest.len()),
+        };
+        let are = if there == 1 { "is" } else { "are" };
+        let s = plural(announced);
+        write!(
+            out,
+            "the {what} at offset {place} {verb} {announced} byte{s}, of which {there} {are} there"
+        )
+    }
+
+    /// Writes which byte of the text string at the place isn't UTF-8.
+    fn push_not_utf8(&self, out: &mut String) -> Result<(), AllocError> {
+        let string = content_of(self.rest());
+        let start = whole_head(self.rest()).map_or(0, |(_, len)| len.saturating_sub(string.len()));
+        let at = valid_front(string).len();
+        let offset = self.walk.at.saturating_add(start).saturating_add(at);
+        let byte = string.get(at).copied().unwrap_or(0);
+        write!(
+            out,
+            "a text string is UTF-8, and the byte {byte:02x} at offset {offset} begins no character or is cut off"
+        )
+    }
+
+    /// Writes why the bignum at the place isn't deterministic, and the deterministic encoding of its
+    /// integer.
+    fn push_loose(&self, out: &mut String) -> Result<(), AllocError> {
+        out.push_str("a bignum is for integers beyond 64 bits, and its bytes begin with no 00")?;
+        if let Some(encoding) = self.items.encoded_at(self.bytes, self.walk.at)? {
+            out.push_str(": the shortest encoding is ")?;
+            push_hex(out, &encoding, ENCODING)?;
+        }
+        Ok(())
+    }
 }
 
-fn push_float(out: &mut String, first: u8) -> Result<(), AllocError> {
-    let bits = match first % 32 {
+fn push_float(out: &mut String, information: u8) -> Result<(), AllocError> {
+    let bits = match information {
         25 => "16",
         26 => "32",
         _ => "64",
@@ -226,56 +209,36 @@ fn push_bad_simple(out: &mut String, rest: &[u8]) -> Result<(), AllocError> {
 }
 
 /// Writes why a nesting is too deep. `open` names what counts as a level.
-///
-/// # Errors
-/// `AllocError` where memory for `out` is refused.
 pub(crate) fn push_too_deep(limit: Limit, out: &mut String, open: &str) -> Result<(), AllocError> {
     let most = limit.get();
-    write!(
-        out,
-        "the nesting limit is {most}, and this is inside as many {open}: "
-    )?;
-    out.push_str(if most < 1024 {
+    let how = if most < 1024 {
         "--depth N raises the limit, up to 1024"
     } else {
         "no limit is greater"
-    })
-}
-
-fn push_bad_chunk(out: &mut String, level: Level) -> Result<(), AllocError> {
-    let place = level.place;
+    };
     write!(
         out,
-        "an indefinite-length string is open since offset {place}: only definite-length strings of its kind may follow, or the break ff"
+        "the nesting limit is {most}, and this is inside as many {open}: {how}"
     )
 }
 
-fn push_bad_break(out: &mut String, level: Level) -> Result<(), AllocError> {
-    out.push_str("a break ends an indefinite length, and ")?;
-    if let LevelKind::Sequence(_) = level.kind {
-        return out.push_str("nothing is open here");
-    }
-    push_missing(out, level)
-}
-
-/// Writes what the container of an open level lacks. Where the level is the input itself, it writes
-/// nothing.
+/// Writes what the container of an open level lacks, or that none is open.
 fn push_missing(out: &mut String, level: Level) -> Result<(), AllocError> {
     let place = level.place;
     match level.kind {
-        LevelKind::Sequence(_) => Ok(()),
+        LevelKind::Sequence(_) => out.push_str("nothing is open here"),
         LevelKind::Array(Some(count), parts) => {
-            let elements = counted(count, "element", "elements");
+            let s = plural(count);
             write!(
                 out,
-                "the array at offset {place} announces {count} {elements} and has {parts}"
+                "the array at offset {place} announces {count} element{s} and has {parts}"
             )
         }
         LevelKind::Map(Some(count), parts) => {
-            let pairs = counted(count, "pair", "pairs");
+            let s = plural(count);
             write!(
                 out,
-                "the map at offset {place} announces {count} {pairs} and has {parts}"
+                "the map at offset {place} announces {count} pair{s} and has {parts}"
             )
         }
         LevelKind::MapValue(_, _) => {
@@ -310,37 +273,9 @@ fn push_missing_at_end(out: &mut String, level: Level) -> Result<(), AllocError>
     push_missing(out, level)
 }
 
-/// Writes which bytes of a head, or of the string after it, are missing. `rest` begins with the
-/// head, whose offset is `place`, and isn't empty.
-fn push_cut_head(out: &mut String, rest: &[u8], place: usize) -> Result<(), AllocError> {
-    let (what, announced, there) = match read_head(rest) {
-        HeadRead::Full(head, len) => (
-            kind_of(head.major_type()),
-            content_len(head),
-            rest.len().saturating_sub(len),
-        ),
-        _ => (
-            "the head",
-            head_len(rest.first().copied().unwrap_or(0)),
-            rest.len(),
-        ),
-    };
-    let verb = if what == "the head" {
-        "has"
-    } else {
-        "announces"
-    };
-    let are = if there == 1 { "is" } else { "are" };
-    write!(
-        out,
-        "{what} at offset {place} {verb} {announced} {}, of which {there} {are} there",
-        counted(announced, "byte", "bytes")
-    )
-}
-
-/// `one` where the count is 1, else `more`.
-pub(crate) fn counted<'a>(count: u64, one: &'a str, more: &'a str) -> &'a str {
-    if count == 1 { one } else { more }
+/// The ending of a noun after a count.
+pub(crate) fn plural(count: u64) -> &'static str {
+    if count == 1 { "" } else { "s" }
 }
 
 /// How many bytes a head with this initial byte has.
@@ -354,62 +289,34 @@ fn head_len(first: u8) -> u64 {
     }
 }
 
-/// What an item of this major type is called, with the definite article.
-fn kind_of(major: Major) -> &'static str {
-    match major {
-        Major::Unsigned | Major::Negative => "the integer",
-        Major::ByteString => "the byte string",
-        Major::TextString => "the text string",
-        Major::Array => "the array",
-        Major::Map => "the map",
-        Major::Tag => "the tag",
-        Major::Other => "the simple value",
+/// What an item with this initial byte is called.
+fn kind_of(first: u8) -> &'static str {
+    match Major::of_initial_byte(first) {
+        Major::Unsigned | Major::Negative => "integer",
+        Major::ByteString => "byte string",
+        Major::TextString => "text string",
+        Major::Array => "array",
+        Major::Map => "map",
+        Major::Tag => "tag",
+        Major::Other => "simple value",
     }
-}
-
-/// What an item of this major type is called, with the indefinite article.
-fn a_kind_of(major: Major) -> &'static str {
-    match major {
-        Major::Unsigned | Major::Negative => "an integer",
-        Major::ByteString => "a byte string",
-        Major::TextString => "a text string",
-        Major::Array => "an array",
-        Major::Map => "a map",
-        Major::Tag => "a tag",
-        Major::Other => "a simple value",
-    }
-}
-
-/// Writes which byte of a text string isn't UTF-8. `rest` begins with the head of the string, whose
-/// offset is `place`.
-fn push_not_utf8(out: &mut String, rest: &[u8], place: usize) -> Result<(), AllocError> {
-    let (start, len) = match whole_head(rest) {
-        Some((head, len)) => (len.saturating_sub(content_len(head) as usize), len),
-        None => (0, 0),
-    };
-    let string = slice_of(rest, start, len);
-    let at = valid_front(string).len();
-    let offset = place.saturating_add(start).saturating_add(at);
-    let byte = string.get(at).copied().unwrap_or(0);
-    write!(
-        out,
-        "a text string is UTF-8, and the byte {byte:02x} at offset {offset} begins no character or is cut off"
-    )
 }
 
 /// Writes what tag 2 or 3 has in place of a byte string. `rest` begins with the head of the tag.
 fn push_bad_bignum(out: &mut String, rest: &[u8]) -> Result<(), AllocError> {
     let (number, content) = match whole_head(rest) {
-        Some((head, len)) => (argument_of(head), rest.get(len..).unwrap_or(&[])),
+        Some((head, len)) => (argument_of(head), slice_of(rest, len, rest.len())),
         None => (2, rest),
     };
-    let kind = match content.first() {
-        Some(first) => a_kind_of(Major::of_initial_byte(*first)),
-        None => "nothing",
+    let kind = content.first().map_or("nothing", |first| kind_of(*first));
+    let article = match kind {
+        "nothing" => "",
+        "integer" | "array" => "an ",
+        _ => "a ",
     };
     write!(
         out,
-        "tag {number} makes an integer of a byte string, and here it encloses {kind}"
+        "tag {number} makes an integer of a byte string, and here it encloses {article}{kind}"
     )
 }
 
@@ -446,20 +353,4 @@ fn shortest_head(number: u8, n: u64) -> ([u8; 9], usize)
     requires { number ≤ 6 }
 {
     head_bytes(number, shortest(n), n)
-}
-
-/// Writes why a bignum isn't deterministic, and the deterministic encoding of its integer. `rest`
-/// begins with the bignum.
-fn push_loose(
-    alloc: Global,
-    limit: Limit,
-    out: &mut String,
-    rest: &[u8],
-) -> Result<(), AllocError> {
-    out.push_str("a bignum is for integers beyond 64 bits, and its bytes begin with no 00")?;
-    if let Some(valid) = valid_at(alloc, limit, rest, 0)? {
-        out.push_str(": the shortest encoding is ")?;
-        push_hex(out, &encode::<Bytewise>(alloc, &valid)?, ENCODING)?;
-    }
-    Ok(())
 }

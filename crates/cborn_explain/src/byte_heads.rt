@@ -47,9 +47,6 @@ pub(crate) fn content_of(bytes: &[u8]) -> &[u8] {
 /// Where the item at `at` ends: an offset in bytes from the start of `bytes`. Where no whole item
 /// begins there, it is the offset of the first head that isn't whole or isn't allowed. Where `at`
 /// is beyond the end, it is the length.
-///
-/// # Errors
-/// `AllocError` where memory for what is open is refused.
 pub(crate) fn end_of_item(alloc: Global, bytes: &[u8], at: usize) -> Result<usize, AllocError>
     ensures within { IfOk result (λ end. end ≤ length bytes.now) }
     ensures item { IfOk result (λ end. (t : Tree) (rest : List ℕ) → at ≤ length bytes.now → drop at bytes.now ≡ spelled t ++ rest → Fits t → depth t ≤ 1024 → end ≡ at + length (spelled t)) }
@@ -69,9 +66,6 @@ pub(crate) fn end_of_item(alloc: Global, bytes: &[u8], at: usize) -> Result<usiz
 
 /// The bytes of the item that begins at an offset; of one that isn't whole or isn't allowed, those
 /// before the head at fault. Empty where none begins.
-///
-/// # Errors
-/// `AllocError` where memory for what is open is refused.
 pub(crate) fn item_at(alloc: Global, bytes: &[u8], at: usize) -> Result<&[u8], AllocError> {
     let end = end_of_item(alloc, bytes, at)?;
     Ok(bytes.get(at..end).unwrap_or(&[]))

@@ -24,9 +24,6 @@ pub(crate) struct Walk {
 impl Walk {
     /// A walk to the head at `place`; to the head whose argument or string the place is in; or to a
     /// head before it that isn't whole or isn't allowed.
-    ///
-    /// # Errors
-    /// `AllocError` where memory for what is open is refused.
     pub(crate) fn to(alloc: Global, bytes: &[u8], place: usize) -> Result<Walk, AllocError>
         requires { place ≤ length bytes.now }
         ensures { IfOk result (λ walk. IsWalked bytes.now place walk.at walk.levels.items) }
@@ -42,9 +39,6 @@ impl Walk {
     }
 
     /// The path to the head that comes next.
-    ///
-    /// # Errors
-    /// `AllocError` where memory for the path is refused.
     pub(crate) fn path(&self, alloc: Global) -> Result<Path, AllocError>
         ensures { IfOk result (λ path. path.steps.items ≡ path_of self.now.levels.items) }
     {

@@ -1,14 +1,14 @@
 //! The parts of two compared inputs, and where they are in these inputs.
 
 use crate::byte_heads::{end_of_item, whole_head};
-use crate::items::encoded_at;
+use crate::items::ItemReader;
 use crate::paths::Step;
-use crate::quotes::{line_and_column, valid_front};
+use crate::quotes::{At, slice_of, valid_front};
 use crate::text_walks::NotationText;
 use cborn_edn::{EdnFault, read_notation};
 use cborn_lex::LexFault;
-use cborn_model::{Form, Limit, Spelled};
-use std::alloc::{AllocError, Global};
+use cborn_model::{Form, Spelled};
+use std::alloc::AllocError;
 
 /// One of two inputs that are compared.
 #[derive(Clone, Copy)]
@@ -22,69 +22,42 @@ pub struct Compared<'a> {
 /// A part of an input.
 #[derive(Drop)]
 pub(crate) struct Part<'a> {
-    alloc: Global,
-    limit: Limit,
-    input: Compared<'a>,
+    pub(crate) items: &'a ItemReader,
+    pub(crate) input: Compared<'a>,
     /// The offset of its head in the bytes that the input spells.
-    at: usize,
+    pub(crate) at: usize,
     /// The path that leads there.
-    steps: Vec<Step>,
+    pub(crate) steps: Vec<Step>,
 }
 
 impl<'a> Part<'a> {
-    /// The part at the offset `at` of the bytes that the input spells, to which `steps` lead.
-    pub(crate) fn new(
-        (alloc, limit): (Global, Limit),
-        input: Compared<'a>,
-        at: usize,
-        steps: Vec<Step>,
-    ) -> Part<'a> {
-        Part {
-            alloc,
-            limit,
-            input,
-            at,
-            steps,
-        }
-    }
-
     /// Goes on into the container that begins here, a tag or the input: to the part to which `step`
     /// leads in its deterministic encoding. A pair is looked for by its key, of which `key` is the
     /// encoding.
-    ///
-    /// # Errors
-    /// `AllocError` where memory is refused.
     pub(crate) fn enter(&mut self, step: Step, key: &[u8]) -> Result<(), AllocError> {
-        let step = match step {
-            Step::Item(index) => {
-                self.skip(index)?;
-                step
-            }
+        let mut step = step;
+        match step {
+            Step::Item(index) => self.skip(index)?,
             Step::Element(index) => {
                 self.open();
                 self.skip(index)?;
-                step
             }
-            Step::Key(_) => Step::Key(self.find(key)?),
+            Step::Key(_) => step = Step::Key(self.find(key)?),
             Step::Value(_) => {
-                let index = self.find(key)?;
+                step = Step::Value(self.find(key)?);
                 self.skip(1)?;
-                Step::Value(index)
             }
-            Step::Content(_) => {
-                self.open();
-                step
-            }
-            Step::Chunk(_) | Step::Embedded(_) => step,
-        };
+            Step::Content(_) => self.open(),
+            Step::Chunk(_) | Step::Embedded(_) => {}
+        }
         self.steps.push(step)?;
         Ok(())
     }
 
     /// Goes past the head that begins here.
     fn open(&mut self) {
-        let rest = self.input.spelled.get(self.at..).unwrap_or(&[]);
-        if let Some((_, len)) = whole_head(rest) {
+        let bytes = self.input.spelled;
+        if let Some((_, len)) = whole_head(slice_of(bytes, self.at, bytes.len())) {
             self.at = self.at.saturating_add(len);
         }
     }
@@ -92,7 +65,7 @@ impl<'a> Part<'a> {
     /// Goes past items.
     fn skip(&mut self, count: u64) -> Result<(), AllocError> {
         for _ in 0..count {
-            self.at = end_of_item(self.alloc, self.input.spelled, self.at)?;
+            self.at = end_of_item(self.items.alloc, self.input.spelled, self.at)?;
         }
         Ok(())
     }
@@ -102,26 +75,18 @@ impl<'a> Part<'a> {
     fn find(&mut self, key: &[u8]) -> Result<u64, AllocError> {
         let bytes = self.input.spelled;
         self.open();
-        let Some(wanted) = encoded_at(self.alloc, self.limit, key, 0)? else {
+        let Some(wanted) = self.items.encoded_at(key, 0)? else {
             return Ok(0);
         };
-        let mut index: u64 = 0;
-        'pairs: for _ in 0..bytes.len() {
-            match encoded_at(self.alloc, self.limit, bytes, self.at)? {
-                Some(found) if found != wanted => {}
-                _ => break,
-            }
-            self.skip(2)?;
-            index = index.saturating_add(1);
-        }
+        let Some((index, at)) = self.items.key_from(bytes, self.at, bytes.len(), &wanted)? else {
+            return Ok(0);
+        };
+        self.at = at;
         Ok(index)
     }
 
     /// Writes where the part begins in the input: of bytes the offset, of a text the line and the column
     /// too.
-    ///
-    /// # Errors
-    /// `AllocError` where memory is refused.
     pub(crate) fn push_place(&self, out: &mut String) -> Result<(), AllocError> {
         match self.input.text {
             None => {
@@ -130,8 +95,8 @@ impl<'a> Part<'a> {
             }
             Some(input) => {
                 let place = self.place_in_text(input)?;
-                let (line, column) = line_and_column(input.text, place);
-                write!(out, "at {line}:{column} (offset {place})")
+                let at = At(input.text, place);
+                write!(out, "at {at} (offset {place})")
             }
         }
     }
@@ -140,14 +105,14 @@ impl<'a> Part<'a> {
     /// the length of the text.
     fn place_in_text(&self, input: NotationText<'_>) -> Result<usize, AllocError> {
         let text = valid_front(input.text);
-        match read_notation(self.alloc, self.limit, input.profile, text) {
+        match read_notation(self.items.alloc, self.items.limit, input.profile, text) {
             Ok(nodes) => {
                 let place = place_of(&nodes, &self.steps);
                 Ok(place.map_or(text.len(), |place| place as usize))
             }
             Err(EdnFault::OutOfMemory | EdnFault::Lex(LexFault::OutOfMemory)) => Err(AllocError),
             // a compared input isn't refused
-            Err(EdnFault::Lex(LexFault::Refused { .. }) | EdnFault::Refused { .. }) => Ok(0),
+            Err(_) => Ok(0),
         }
     }
 }

@@ -51,26 +51,16 @@ fn compared_lines<O: KeyOrder>(
     }
     let first = normalise_slice::<O>(alloc, limit, Count::Any, kinds.0, Kind::Wire, first)?;
     let second = normalise_slice::<O>(alloc, limit, Count::Any, kinds.1, Kind::Wire, second)?;
-    let inputs = (ours, theirs);
-    Ok(explain_difference::<O>(alloc, limit, inputs, &first, &second)?)
+    Ok(explain_difference::<O>(alloc, limit, (ours, theirs), &first, &second)?)
 }
 
 /// An input that is compared, with the bytes that it spells.
-fn compared<'a>(kind: Kind, input: &'a [u8], spelled: &'a [u8]) -> Compared<'a> {
+fn compared<'a>(kind: Kind, text: &'a [u8], spelled: &'a [u8]) -> Compared<'a> {
     let profile = match kind {
-        Kind::Wire => return Compared {
-            spelled,
-            text: None,
-        },
-        Kind::Notation => Profile::One,
-        Kind::Notation2 => Profile::Two,
+        Kind::Wire => None,
+        Kind::Notation => Some(Profile::One),
+        Kind::Notation2 => Some(Profile::Two),
     };
-    let text = NotationText {
-        profile,
-        text: input,
-    };
-    Compared {
-        spelled,
-        text: Some(text),
-    }
+    let text = profile.map(|profile| NotationText { profile, text });
+    Compared { spelled, text }
 }

@@ -3,14 +3,15 @@
 ghost use Rattle.std.specs.Prelude.{◌≡◌, [], IfOk};
 ghost use Rattle.std.specs.String.{string_bytes};
 
-use crate::byte_causes::counted;
+use crate::byte_causes::plural;
 use crate::byte_heads::{content_of, end_of_item, item_at, whole_head};
 use crate::byte_walks::Walk;
 use crate::compared_parts::{Compared, Part};
 use crate::first_differences::{Difference, common_len, walk_to_difference};
-use crate::path_lines::{BytesPath, Pairs};
+use crate::items::ItemReader;
+use crate::path_lines::{Pairs, push_path};
 use crate::paths::Step;
-use crate::quotes::{push_hex, push_item, slice_of};
+use crate::quotes::{push_hex, slice_of};
 use cborn_model::{KeyOrder, Limit, Major};
 use cborn_wire::{Argument, LevelKind};
 use std::alloc::{AllocError, Global};
@@ -38,29 +39,19 @@ pub fn explain_difference<'a, O: KeyOrder>(
     ensures same { IfOk result (λ text. first.now ≡ second.now → string_bytes text ≡ []) }
 {
     let mut out = String::new(alloc);
-    let Some(found) = walk_to_difference(alloc, first, second)? else {
+    let items = &ItemReader { alloc, limit };
+    let Some((walk, difference)) = walk_to_difference(alloc, first, second)? else {
         return Ok(out);
     };
-    let (walk, difference) = &found;
     out.push_str("  path   ")?;
-    let line = BytesPath {
-        bytes: first,
-        walk,
-        path: &difference.path,
-        pairs: Pairs::Named,
-    };
-    line.push(alloc, limit, &mut out)?;
-    let mut ours = Side::new((alloc, limit), "first", inputs.0, first, &found)?;
-    let mut theirs = Side::new((alloc, limit), "second", inputs.1, second, &found)?;
-    if let Some(Step::Key(_)) = difference.path.steps.last() {
-        push_sides(
-            &mut out,
-            &ours,
-            &theirs,
-            Some(O::compare(ours.item, theirs.item)),
-        )?;
-    } else {
-        push_sides(&mut out, &ours, &theirs, None)?;
+    let path = &difference.path;
+    push_path(items, &mut out, (first, &walk), path, Pairs::Named)?;
+    let mut ours = Side::new(items, "first", inputs.0, first, (&walk, &difference))?;
+    let mut theirs = Side::new(items, "second", inputs.1, second, (&walk, &difference))?;
+    let is_key = matches!(path.steps.last(), Some(Step::Key(_)));
+    let order = is_key.then_some(O::compare(ours.item, theirs.item));
+    push_sides(&mut out, &ours, &theirs, order)?;
+    if !is_key {
         push_lone_element(&mut out, &mut ours, &mut theirs)?;
         push_lone_key::<O>(&mut out, &mut ours, &mut theirs)?;
     }
@@ -71,8 +62,6 @@ pub fn explain_difference<'a, O: KeyOrder>(
 /// What one of two inputs has where they differ.
 #[derive(Drop)]
 struct Side<'a> {
-    alloc: Global,
-    limit: Limit,
     /// What the input is called.
     name: &'static str,
     /// The deterministic encoding of the item. Empty where the items end.
@@ -82,18 +71,22 @@ struct Side<'a> {
 }
 
 impl<'a> Side<'a> {
-    /// The side of the input whose items are encoded as `encoded`. `found` is where it differs from
-    /// the other.
+    /// The side of the input whose items are encoded as `encoded`. The last argument is where it differs
+    /// from the other.
     fn new(
-        (alloc, limit): (Global, Limit),
+        items: &'a ItemReader,
         name: &'static str,
         input: Compared<'a>,
         encoded: &'a [u8],
-        found: &(Walk, Difference),
+        (walk, difference): (&Walk, &Difference),
     ) -> Result<Side<'a>, AllocError> {
-        let (walk, difference) = found;
-        let item = item_at(alloc, encoded, difference.place as usize)?;
-        let mut part = Part::new((alloc, limit), input, 0, Vec::new(alloc));
+        let item = item_at(items.alloc, encoded, difference.place as usize)?;
+        let mut part = Part {
+            items,
+            input,
+            at: 0,
+            steps: Vec::new(items.alloc),
+        };
         for (i, step) in difference.path.steps.iter().enumerate() {
             let key = match *step {
                 Step::Value(_) => {
@@ -104,19 +97,13 @@ impl<'a> Side<'a> {
             };
             part.enter(*step, key)?;
         }
-        Ok(Side {
-            alloc,
-            limit,
-            name,
-            item,
-            part,
-        })
+        Ok(Side { name, item, part })
     }
 
     /// The notation of the item.
     fn notation(&self) -> Result<String, AllocError> {
-        let mut notation = String::new(self.alloc);
-        push_item(self.alloc, self.limit, &mut notation, self.item)?;
+        let mut notation = String::new(self.part.items.alloc);
+        self.part.items.push_item(&mut notation, self.item)?;
         Ok(notation)
     }
 
@@ -151,13 +138,18 @@ impl<'a> Side<'a> {
         }
     }
 
-    /// Writes where the part is that was entered last, and its notation. `part` is its encoding.
-    fn push_part(&self, out: &mut String, part: &[u8]) -> Result<(), AllocError> {
+    /// Enters an element or a key, and writes where it is, and its notation. `part` is its encoding.
+    fn push_part(&mut self, out: &mut String, step: Step, part: &[u8]) -> Result<(), AllocError> {
+        self.part.enter(step, part)?;
+        match step {
+            Step::Element(index) => write!(out, "\n  part   [{index}]")?,
+            _ => out.push_str("\n  key   ")?,
+        }
         let name = self.name;
-        write!(out, "of the {name} ")?;
+        write!(out, " of the {name} ")?;
         self.part.push_place(out)?;
         out.push_str(": ")?;
-        push_item(self.alloc, self.limit, out, part)
+        self.part.items.push_item(out, part)
     }
 }
 
@@ -199,7 +191,7 @@ fn push_rest(out: &mut String, ours: &[u8], theirs: &[u8]) -> Result<(), AllocEr
     }
     let len = common_len(left, right);
     if len == left.len() {
-        return write!(out, ", of {len} {}", counted(len as u64, "byte", "bytes"));
+        return write!(out, ", of {len} byte{}", plural(len as u64));
     }
     write!(out, ", from byte {len} on: ")?;
     push_hex(out, slice_of(left, len, left.len()), REST)
@@ -212,61 +204,35 @@ fn push_lone_element(
     ours: &mut Side<'_>,
     theirs: &mut Side<'_>,
 ) -> Result<(), AllocError> {
-    let alloc = ours.alloc;
+    let alloc = ours.part.items.alloc;
     let left = inside(ours.item, Major::Array);
     let right = inside(theirs.item, Major::Array);
     let (Some(left), Some(right)) = (left, right) else {
         return Ok(());
     };
-    let Some((index, at)) = first_difference(alloc, left, right)? else {
+    let Some((walk, difference)) = walk_to_difference(alloc, left, right)? else {
         return Ok(());
     };
+    let Some(Step::Item(index)) = difference.path.steps.first().copied() else {
+        return Ok(());
+    };
+    let at = walk.place_of(1);
     let our_rest = slice_of(left, at, left.len());
     let their_rest = slice_of(right, at, right.len());
     let is_ours = ends_with_items(alloc, our_rest, their_rest)?;
     let is_theirs = ends_with_items(alloc, their_rest, our_rest)?;
+    let step = Step::Element(index);
     if !is_theirs {
-        push_element(out, ours, index, our_rest)?;
+        ours.push_part(out, step, item_at(alloc, our_rest, 0)?)?;
     }
     if is_ours {
         return out.push_str(", which the second lacks");
     }
-    push_element(out, theirs, index, their_rest)?;
+    theirs.push_part(out, step, item_at(alloc, their_rest, 0)?)?;
     if is_theirs {
         return out.push_str(", which the first lacks");
     }
     Ok(())
-}
-
-/// The index of the first item in which two sequences differ, and its offset, the same in both. `None`:
-/// they are equal.
-fn first_difference(
-    alloc: Global,
-    left: &[u8],
-    right: &[u8],
-) -> Result<Option<(u64, usize)>, AllocError> {
-    match walk_to_difference(alloc, left, right)? {
-        Some((walk, difference)) => {
-            Ok(match difference.path.steps.first() {
-                Some(Step::Item(index)) => Some((*index, walk.place_of(1))),
-                _ => None,
-            })
-        }
-        None => Ok(None),
-    }
-}
-
-/// Writes an element of the array of a side. `rest` are the encodings of the elements from it on.
-fn push_element(
-    out: &mut String,
-    side: &mut Side<'_>,
-    index: u64,
-    rest: &[u8],
-) -> Result<(), AllocError> {
-    let element = item_at(side.alloc, rest, 0)?;
-    side.part.enter(Step::Element(index), element)?;
-    write!(out, "\n  part   [{index}] ")?;
-    side.push_part(out, element)
 }
 
 /// Whether `items` are one or more items and then those of `last`.
@@ -290,24 +256,17 @@ fn push_lone_key<O: KeyOrder>(
     let (Some(left), Some(right)) = (left, right) else {
         return Ok(());
     };
-    match lone_key::<O>(ours.alloc, left, right)? {
-        (Ordering::Less, key) => push_key(out, ours, key, "second"),
-        (Ordering::Greater, key) => push_key(out, theirs, key, "first"),
+    match lone_key::<O>(ours.part.items.alloc, left, right)? {
+        (Ordering::Less, key) => {
+            ours.push_part(out, Step::Key(0), key)?;
+            out.push_str(", which the second lacks")
+        }
+        (Ordering::Greater, key) => {
+            theirs.push_part(out, Step::Key(0), key)?;
+            out.push_str(", which the first lacks")
+        }
         (Ordering::Equal, _) => Ok(()),
     }
-}
-
-/// Writes a key of the map of a side, which the map of the other side lacks.
-fn push_key(
-    out: &mut String,
-    side: &mut Side<'_>,
-    key: &[u8],
-    other: &str,
-) -> Result<(), AllocError> {
-    side.part.enter(Step::Key(0), key)?;
-    out.push_str("\n  key    ")?;
-    side.push_part(out, key)?;
-    write!(out, ", which the {other} lacks")
 }
 
 /// The first key that only one of two lists of pairs has: `Less` where that is the left one, `Greater`
@@ -341,15 +300,10 @@ fn lone_key<'a, O: KeyOrder>(
 /// What follows the head of an item of this major type. `None`: it is of another.
 fn inside(item: &[u8], major: Major) -> Option<&[u8]> {
     let (head, len) = whole_head(item)?;
-    if head.major_type() == major {
-        item.get(len..)
-    } else {
-        None
-    }
+    (head.major_type() == major).then_some(slice_of(item, len, item.len()))
 }
 
 /// What follows the first pair. `key` is the length of its key in bytes.
 fn after_pair(alloc: Global, pairs: &[u8], key: usize) -> Result<&[u8], AllocError> {
-    let end = end_of_item(alloc, pairs, key)?;
-    Ok(pairs.get(end..).unwrap_or(&[]))
+    Ok(slice_of(pairs, end_of_item(alloc, pairs, key)?, pairs.len()))
 }

@@ -36,9 +36,6 @@ pub fn find_difference(
 }
 
 /// A walk over `first` to where the two first differ, and what [`find_difference`] gives.
-///
-/// # Errors
-/// `AllocError` where memory for the path is refused.
 pub(crate) fn walk_to_difference(
     alloc: Global,
     first: &[u8],

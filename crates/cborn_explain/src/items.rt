@@ -1,129 +1,108 @@
-//! Single items of an input, read as nodes: to show them, and to compare them by their deterministic
-//! encodings.
+//! Single items of an input: to show them, and to compare them by their deterministic encodings.
 
-use cborn_det::encode;
-use cborn_edn::{EdnFault, ShowFault, read_notation, show};
-use cborn_judge::{Invalid, judge};
-use cborn_lex::{LexFault, Profile};
-use cborn_model::{Bytewise, Limit, Spelled, Valid};
-use cborn_wire::{WireFault, read_one};
+use crate::byte_heads::{content_of, end_of_item, item_at, whole_head};
+use crate::quotes::{Escaped, PIECE, front_of, push_hex, push_notation};
+use cborn_edn::{Notated, show_bytes};
+use cborn_engine::{Count, CountFault, EngineFault, Kind, normalise_slice};
+use cborn_model::{Bytewise, KeyOrder, Limit, Major};
 use std::alloc::{AllocError, Global};
+use std::borrow::CowSlice;
 
-/// The item that begins at the offset `at`, in the fixed notation and with an end of line. `None`:
-/// no item begins there, or a text string in it isn't UTF-8.
-///
-/// # Errors
-/// `AllocError` where memory is refused.
-pub(crate) fn notation_at(
-    alloc: Global,
-    limit: Limit,
-    bytes: &[u8],
-    at: usize,
-) -> Result<Option<String>, AllocError> {
-    let Some(node) = node_at(alloc, limit, bytes, at)? else {
-        return Ok(None);
+/// The most bytes of an item that is read and written as notation. Of a longer one only the start
+/// is read, so that a sentence costs no more for a long item.
+const LONG_ITEM: usize = 512;
+
+/// Reads single items under a nesting limit.
+#[derive(Clone, Copy)]
+pub(crate) struct ItemReader {
+    pub(crate) alloc: Global,
+    pub(crate) limit: Limit,
+}
+
+impl ItemReader {
+    /// The deterministic encoding of the one item of an input, the keys of maps in the order `O` (RFC
+    /// 8949 section 4.2). Two items are the same exactly if these are equal, and to compare these takes
+    /// their length, in whatever order keys were written. `None`: the input doesn't hold exactly one
+    /// item, or that is invalid.
+    pub(crate) fn encoded<'a, O: KeyOrder>(
+        &self,
+        kind: Kind,
+        input: &'a [u8],
+    ) -> Result<Option<CowSlice<'a, u8, Global>>, AllocError> {
+        match normalise_slice::<O>(self.alloc, self.limit, Count::One, kind, Kind::Wire, input) {
+            Ok(encoding) => Ok(Some(encoding)),
+            Err(CountFault::Engine(EngineFault::OutOfMemory)) => Err(AllocError),
+            Err(_) => Ok(None),
+        }
+    }
+
+    /// That encoding of the item that begins at the offset `at`.
+    pub(crate) fn encoded_at<'a>(
+        &self,
+        bytes: &'a [u8],
+        at: usize,
+    ) -> Result<Option<CowSlice<'a, u8, Global>>, AllocError> {
+        self.encoded::<Bytewise>(Kind::Wire, item_at(self.alloc, bytes, at)?)
+    }
+
+    /// The first key from the offset `at` on, a key of a map, and before `stop`, of which `wanted` is the
+    /// encoding: the index of its pair, from there on, and its offset. `None`: no key is the same.
+    pub(crate) fn key_from(
+        &self,
+        bytes: &[u8],
+        mut at: usize,
+        stop: usize,
+        wanted: &[u8],
+    ) -> Result<Option<(u64, usize)>, AllocError> {
+        'pairs: for index in 0..bytes.len() as u64 {
+            if at >= stop {
+                break;
+            }
+            match self.encoded_at(bytes, at)? {
+                Some(key) if *key == *wanted => return Ok(Some((index, at))),
+                _ => {}
+            }
+            at = end_of_item(self.alloc, bytes, at)?;
+            at = end_of_item(self.alloc, bytes, at)?;
+        }
+        Ok(None)
+    }
+
+    /// Writes the item that these bytes encode in the fixed notation, cut where it is long. Where they
+    /// encode no item that has a notation, it writes them in hexadecimal. Of more than `LONG_ITEM` bytes
+    /// it writes what the first head says, and the start of a string.
+    pub(crate) fn push_item(&self, out: &mut String, item: &[u8]) -> Result<(), AllocError> {
+        if item.len() > LONG_ITEM {
+            return push_front(out, item);
+        }
+        match show_bytes(self.alloc, self.limit, item)? {
+            Notated::Text(text) => push_notation(out, text.trim_ascii_end()),
+            _ => push_hex(out, item, PIECE / 3),
+        }
+    }
+}
+
+/// Writes the start of a long item.
+fn push_front(out: &mut String, item: &[u8]) -> Result<(), AllocError> {
+    let Some((head, _)) = whole_head(item) else {
+        return push_hex(out, item, PIECE / 3);
     };
-    let mut nodes = Vec::new(alloc);
-    nodes.push(node)?;
-    match show(alloc, &nodes) {
-        Ok(text) => Ok(Some(text)),
-        Err(ShowFault::NotUtf8 { .. }) => Ok(None),
-        Err(ShowFault::OutOfMemory) => Err(AllocError),
-    }
-}
-
-/// What the item at the offset `at` means. `None`: no item begins there, or it is invalid.
-///
-/// # Errors
-/// `AllocError` where memory is refused.
-pub(crate) fn valid_at(
-    alloc: Global,
-    limit: Limit,
-    bytes: &[u8],
-    at: usize,
-) -> Result<Option<Valid>, AllocError> {
-    match node_at(alloc, limit, bytes, at)? {
-        Some(node) => valid_of(alloc, &node),
-        None => Ok(None),
-    }
-}
-
-/// The deterministic encoding of the item that begins at the offset `at` (RFC 8949 section 4.2.1).
-/// Two items are the same exactly if these are equal, and to compare these takes their length, in
-/// whatever order keys were written. `None`: no item begins there, or it is invalid.
-///
-/// # Errors
-/// `AllocError` where memory is refused.
-pub(crate) fn encoded_at(
-    alloc: Global,
-    limit: Limit,
-    bytes: &[u8],
-    at: usize,
-) -> Result<Option<Vec<u8>>, AllocError> {
-    match valid_at(alloc, limit, bytes, at)? {
-        Some(valid) => Ok(Some(encode::<Bytewise>(alloc, &valid)?)),
-        None => Ok(None),
-    }
-}
-
-/// The deterministic encoding of the item that this text notates (RFC 8949 section 4.2.1). `None`:
-/// it doesn't notate exactly one item, or the item is invalid.
-///
-/// # Errors
-/// `AllocError` where memory is refused.
-pub(crate) fn encoded_of_text(
-    alloc: Global,
-    limit: Limit,
-    profile: Profile,
-    text: &str,
-) -> Result<Option<Vec<u8>>, AllocError> {
-    match valid_of_text(alloc, limit, profile, text)? {
-        Some(valid) => Ok(Some(encode::<Bytewise>(alloc, &valid)?)),
-        None => Ok(None),
-    }
-}
-
-/// What the item that this text notates means. `None`: it doesn't notate exactly one item, or the
-/// item is invalid.
-///
-/// # Errors
-/// `AllocError` where memory is refused.
-fn valid_of_text(
-    alloc: Global,
-    limit: Limit,
-    profile: Profile,
-    text: &str,
-) -> Result<Option<Valid>, AllocError> {
-    match read_notation(alloc, limit, profile, text) {
-        Ok(nodes) => match nodes.as_slice() {
-            [node] => valid_of(alloc, node),
-            _ => Ok(None),
-        },
-        Err(EdnFault::OutOfMemory | EdnFault::Lex(LexFault::OutOfMemory)) => Err(AllocError),
-        Err(EdnFault::Lex(LexFault::Refused { .. }) | EdnFault::Refused { .. }) => Ok(None),
-    }
-}
-
-fn node_at(
-    alloc: Global,
-    limit: Limit,
-    bytes: &[u8],
-    at: usize,
-) -> Result<Option<Spelled>, AllocError> {
-    if at > bytes.len() {
-        return Ok(None);
-    }
-    match read_one(alloc, limit, bytes, at) {
-        Ok((node, _)) => Ok(Some(node)),
-        Err(WireFault::Refused { .. }) => Ok(None),
-        Err(WireFault::OutOfMemory) => Err(AllocError),
-    }
-}
-
-fn valid_of(alloc: Global, node: &Spelled) -> Result<Option<Valid>, AllocError> {
-    match judge(alloc, node) {
-        Ok(valid) => Ok(Some(valid)),
-        Err(Invalid::Refused { .. }) => Ok(None),
-        Err(Invalid::OutOfMemory) => Err(AllocError),
+    let content = content_of(item);
+    match head.major_type() {
+        Major::TextString if !content.is_empty() => {
+            let text = front_of(content, PIECE);
+            write!(out, "\"{}\"..", Escaped { text })
+        }
+        Major::ByteString if !content.is_empty() => {
+            out.push_str("h'")?;
+            for byte in content.iter().take(PIECE / 3) {
+                write!(out, "{byte:02x}")?;
+            }
+            out.push_str("'..")
+        }
+        Major::Array => out.push_str("[..]"),
+        Major::Map => out.push_str("{..}"),
+        Major::Tag => out.push_str("a tag over a long item"),
+        _ => out.push_str("(_ ..)"),
     }
 }

@@ -3,11 +3,10 @@
 use crate::byte_causes::RefusedBytes;
 use crate::byte_walks::{Walk, place_in};
 use crate::hints::hint_of;
-use crate::path_lines::{BytesPath, Pairs, PathWriter, step_text};
+use crate::items::ItemReader;
+use crate::path_lines::{Pairs, PathWriter, push_path};
 use crate::paths::Step;
-use crate::quotes::{
-    line_and_column, push_bytes_around, push_line_around, push_notation, slice_of,
-};
+use crate::quotes::{push_bytes_around, push_notation, push_text_around, slice_of};
 use crate::reasons::{BytesReason, TextReason};
 use crate::text_causes::RefusedText;
 use crate::text_spots::spot_of;
@@ -30,28 +29,20 @@ pub fn explain_bytes(
     reason: BytesReason,
 ) -> Result<String, AllocError> {
     let place = place_in(bytes, place);
-    let walk = Walk::to(alloc, bytes, place)?;
+    let walk = &Walk::to(alloc, bytes, place)?;
+    let items = &ItemReader { alloc, limit };
     let mut out = String::new(alloc);
     out.push_str("  path  ")?;
     let path = walk.path(alloc)?;
-    let line = BytesPath {
-        bytes,
-        walk: &walk,
-        path: &path,
-        pairs: Pairs::Numbered,
-    };
-    line.push(alloc, limit, &mut out)?;
+    push_path(items, &mut out, (bytes, walk), &path, Pairs::Numbered)?;
     out.push_str("\n  bytes ")?;
     push_bytes_around(&mut out, bytes, place)?;
     out.push_str("\n  why   ")?;
-    let refused = RefusedBytes {
-        bytes,
-        walk: &walk,
-        limit,
-    };
-    refused.push_cause(alloc, &mut out, reason)?;
+    RefusedBytes { bytes, walk, items }.push_cause(&mut out, reason)?;
     out.push('\n')?;
-    push_hint(&mut out, bytes)?;
+    if let Some(hint) = hint_of(bytes) {
+        write!(out, "  hint  {hint}\n")?;
+    }
     Ok(out)
 }
 
@@ -72,20 +63,22 @@ pub fn explain_text(
 ) -> Result<String, AllocError> {
     let text = input.text;
     let place = place_in(text, place);
-    let walk = walk_text(alloc, input, place)?;
+    let walk = &walk_text(alloc, input, place)?;
     let spot = spot_of(text, place, reason);
+    let items = &ItemReader { alloc, limit };
     let mut out = String::new(alloc);
     out.push_str("  path  ")?;
-    push_text_path(alloc, &mut out, text, &walk)?;
-    push_text_around(&mut out, text, spot)?;
+    push_text_path(alloc, &mut out, text, walk)?;
+    push_text_around(alloc, &mut out, text, spot)?;
     out.push_str("  why   ")?;
     let refused = RefusedText {
         input,
-        limit,
+        items,
         place,
         spot,
+        walk,
     };
-    refused.push_cause(alloc, &mut out, &walk, reason)?;
+    refused.push_cause(&mut out, reason)?;
     out.push('\n')?;
     Ok(out)
 }
@@ -98,9 +91,8 @@ fn push_text_path(
     text: &[u8],
     walk: &TextWalk,
 ) -> Result<(), AllocError> {
-    let mut path = PathWriter::new(alloc);
-    let item = step_text(alloc, Step::Item(walk.items), "", Pairs::Numbered)?;
-    path.step(out, item)?;
+    let mut path = PathWriter::new(alloc, Pairs::Numbered);
+    path.step(alloc, out, Step::Item(walk.items), "")?;
     for open in walk.open.iter() {
         if open.is_lost {
             return path.cut(out);
@@ -108,38 +100,14 @@ fn push_text_path(
         if let Some(step) = open.step() {
             let mut key = String::new(alloc);
             if let Step::Value(_) = step {
-                let (from, to) = open.key;
-                push_notation(&mut key, slice_of(text, from, to))?;
+                push_notation(&mut key, slice_of(text, open.key.0, open.key.1))?;
             }
-            let step = step_text(alloc, step, key.as_str(), Pairs::Numbered)?;
-            path.step(out, step)?;
+            path.step(alloc, out, step, key.as_str())?;
         }
     }
     if walk.beyond > 0 {
-        return path.cut(out);
-    }
-    path.end(out)
-}
-
-/// Writes the line and the column of an offset, and that line with a mark below.
-fn push_text_around(out: &mut String, text: &[u8], place: usize) -> Result<(), AllocError> {
-    let (line, column) = line_and_column(text, place);
-    write!(out, "\n  line  {line}:{column}\n  text  ")?;
-    let width = push_line_around(out, text, place)?;
-    out.push_str("\n        ")?;
-    for _ in 0..width {
-        out.push(' ')?;
-    }
-    out.push_str("^\n")
-}
-
-/// Writes the hint on bytes that look like a text.
-fn push_hint(out: &mut String, bytes: &[u8]) -> Result<(), AllocError> {
-    match hint_of(bytes) {
-        Some(hint) => {
-            write!(out, "  hint  {hint}\n")?;
-            Ok(())
-        }
-        None => Ok(()),
+        path.cut(out)
+    } else {
+        path.end(out)
     }
 }

@@ -1,24 +1,26 @@
 //! Why a key is out of order: the rule by which it comes first.
 
-use cborn_det::encode;
-use cborn_model::{Bytewise, KeyOrder, LengthFirst, Valid};
-use std::alloc::{AllocError, Global};
+use crate::items::ItemReader;
+use cborn_engine::Kind;
+use cborn_model::{Bytewise, KeyOrder, LengthFirst};
+use std::alloc::AllocError;
 use std::cmp::Ordering;
 
 /// Writes why `key` has to come before the key that precedes it, `before`. Where the two orders
 /// sort these keys differently, it writes which order has `key` first. They may do so where the
-/// encodings are equally long: each order also sorts the maps within the keys.
-///
-/// # Errors
-/// `AllocError` where memory is refused.
+/// encodings are equally long: each order also sorts the maps within the keys. Where one is no valid
+/// item, it writes nothing.
 pub(crate) fn push_rule(
-    alloc: Global,
+    items: &ItemReader,
     out: &mut String,
-    key: &Valid,
-    before: &Valid,
+    key: &[u8],
+    before: &[u8],
 ) -> Result<(), AllocError> {
-    let (bytewise, differ) = is_first::<Bytewise>(alloc, key, before)?;
-    let (length_first, _) = is_first::<LengthFirst>(alloc, key, before)?;
+    let bytewise = is_first::<Bytewise>(items, key, before)?;
+    let length_first = is_first::<LengthFirst>(items, key, before)?;
+    let (Some((bytewise, differ)), Some((length_first, _))) = (bytewise, length_first) else {
+        return Ok(());
+    };
     out.push_str(match (bytewise, length_first) {
         (true, false) if differ => {
             ": in the bytewise order its encoding is the lesser; the length-first order has these two as they are, since it is the longer"
@@ -37,14 +39,17 @@ pub(crate) fn push_rule(
 }
 
 /// Whether `key` comes before `other` in the order `O`, and whether their encodings differ in length,
-/// which doesn't depend on the order.
-fn is_first<O: KeyOrder>(
-    alloc: Global,
-    key: &Valid,
-    other: &Valid,
-) -> Result<(bool, bool), AllocError> {
-    let ours = encode::<O>(alloc, key)?;
-    let theirs = encode::<O>(alloc, other)?;
+/// which doesn't depend on the order. `None`: one is no valid item.
+fn is_first<'a, O: KeyOrder>(
+    items: &ItemReader,
+    key: &'a [u8],
+    other: &'a [u8],
+) -> Result<Option<(bool, bool)>, AllocError> {
+    let ours = items.encoded::<O>(Kind::Wire, key)?;
+    let theirs = items.encoded::<O>(Kind::Wire, other)?;
+    let (Some(ours), Some(theirs)) = (ours, theirs) else {
+        return Ok(None);
+    };
     let is_less = matches!(O::compare(&ours, &theirs), Ordering::Less);
-    Ok((is_less, ours.len() != theirs.len()))
+    Ok(Some((is_less, ours.len() != theirs.len())))
 }

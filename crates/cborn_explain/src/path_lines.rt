@@ -1,35 +1,45 @@
 //! A path as it is written.
 
 use crate::byte_walks::Walk;
+use crate::items::ItemReader;
 use crate::paths::{Path, Step};
-use crate::quotes::{push_item, slice_of};
-use cborn_model::Limit;
+use crate::quotes::slice_of;
 use std::alloc::{AllocError, Global};
 
 /// Writes the steps of a path in a line. Steps in a row that are written alike are written once,
 /// with their count.
 #[derive(Drop)]
 pub(crate) struct PathWriter {
+    pairs: Pairs,
     last: String,
     times: u64,
 }
 
 impl PathWriter {
     /// A writer that has written nothing.
-    pub(crate) fn new(alloc: Global) -> PathWriter {
+    pub(crate) fn new(alloc: Global, pairs: Pairs) -> PathWriter {
+        let last = String::new(alloc);
         PathWriter {
-            last: String::new(alloc),
+            pairs,
+            last,
             times: 0,
         }
     }
 
-    /// Writes the next step, whose text is `step`.
-    pub(crate) fn step(&mut self, out: &mut String, step: String) -> Result<(), AllocError> {
-        if self.times > 0 && self.last.as_str() == step.as_str() {
-            self.times = self.times.saturating_add(1);
-            return Ok(());
-        }
+    /// Writes the next step. `key` is the text of the key where the step leads to a value of a map.
+    pub(crate) fn step(
+        &mut self,
+        alloc: Global,
+        out: &mut String,
+        step: Step,
+        key: &str,
+    ) -> Result<(), AllocError> {
+        let step = step_text(alloc, step, key, self.pairs)?;
         if self.times > 0 {
+            if self.last.as_str() == step.as_str() {
+                self.times = self.times.saturating_add(1);
+                return Ok(());
+            }
             self.end(out)?;
             out.push(' ')?;
         }
@@ -42,11 +52,12 @@ impl PathWriter {
     /// Writes the count of the last step, where it came more than once. It has to be called after
     /// the last step.
     pub(crate) fn end(&mut self, out: &mut String) -> Result<(), AllocError> {
-        if self.times > 1 {
-            let times = self.times;
-            write!(out, "*{times}")?;
+        let times = self.times;
+        if times > 1 {
+            write!(out, "*{times}")
+        } else {
+            Ok(())
         }
-        Ok(())
     }
 
     /// Ends the path with `..`, where further steps follow that aren't known.
@@ -56,39 +67,25 @@ impl PathWriter {
     }
 }
 
-/// A path in some bytes, or a front of it.
-#[derive(Clone, Copy)]
-pub(crate) struct BytesPath<'a> {
-    pub(crate) bytes: &'a [u8],
-    /// The walk over the bytes whose path it is.
-    pub(crate) walk: &'a Walk,
-    pub(crate) path: &'a Path,
-    pub(crate) pairs: Pairs,
-}
-
-impl BytesPath<'_> {
-    /// Writes the path in a line.
-    ///
-    /// # Errors
-    /// `AllocError` where memory is refused.
-    pub(crate) fn push(
-        &self,
-        alloc: Global,
-        limit: Limit,
-        out: &mut String,
-    ) -> Result<(), AllocError> {
-        let mut writer = PathWriter::new(alloc);
-        for (i, step) in self.path.steps.iter().enumerate() {
-            let mut key = String::new(alloc);
-            if let Step::Value(_) = *step {
-                let (from, to) = self.walk.key_at(i);
-                push_item(alloc, limit, &mut key, slice_of(self.bytes, from, to))?;
-            }
-            let text = step_text(alloc, *step, key.as_str(), self.pairs)?;
-            writer.step(out, text)?;
+/// Writes a path in some bytes, or a front of it, in a line. `walk` is a walk over the bytes whose path
+/// it is.
+pub(crate) fn push_path(
+    items: &ItemReader,
+    out: &mut String,
+    (bytes, walk): (&[u8], &Walk),
+    path: &Path,
+    pairs: Pairs,
+) -> Result<(), AllocError> {
+    let mut writer = PathWriter::new(items.alloc, pairs);
+    for (i, step) in path.steps.iter().enumerate() {
+        let mut key = String::new(items.alloc);
+        if let Step::Value(_) = *step {
+            let (from, to) = walk.key_at(i);
+            items.push_item(&mut key, slice_of(bytes, from, to))?;
         }
-        writer.end(out)
+        writer.step(items.alloc, out, *step, key.as_str())?;
     }
+    writer.end(out)
 }
 
 /// How the pairs of maps are written in a path.
@@ -100,13 +97,8 @@ pub(crate) enum Pairs {
     Named,
 }
 
-/// The text of a step. `key` is the text of the key where the step leads to a value of a map.
-pub(crate) fn step_text(
-    alloc: Global,
-    step: Step,
-    key: &str,
-    pairs: Pairs,
-) -> Result<String, AllocError> {
+/// The text of a step.
+fn step_text(alloc: Global, step: Step, key: &str, pairs: Pairs) -> Result<String, AllocError> {
     match step {
         Step::Key(_) if pairs == Pairs::Named => format!(in alloc; "{{key}}"),
         Step::Value(_) if pairs == Pairs::Named => format!(in alloc; "{{{key}}}"),

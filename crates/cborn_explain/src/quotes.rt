@@ -1,11 +1,6 @@
 //! Quoted pieces of an input. Long pieces are cut. Control characters, and characters that change
 //! the direction of a line, are escaped, so that a piece changes nothing but its own line.
 
-ghost use Rattle.std.specs.Prelude.{◌≤◌, IfOk};
-
-use crate::byte_heads::{content_len, content_of, whole_head};
-use crate::items::notation_at;
-use cborn_model::{Limit, Major};
 use simdutf8::compat::from_utf8;
 use std::alloc::{AllocError, Global};
 use std::fmt;
@@ -14,38 +9,17 @@ use std::fmt::{Display, Formatter};
 /// How many bytes are written before the one at a place.
 const BYTES_BEFORE: usize = 8;
 
-/// How many bytes are written after the one at a place.
-const BYTES_AFTER: usize = 12;
+/// How many bytes are written around the one at a place.
+const AROUND: usize = 20;
 
 /// How many characters of a piece are written at most.
-const PIECE: usize = 40;
+pub(crate) const PIECE: usize = 40;
 
 /// How many characters of a line are written before a place.
 const LINE_BEFORE: usize = 40;
 
 /// How many characters of a line are written from a place on.
 const LINE_AFTER: usize = 30;
-
-/// The most bytes of an item that is read and written as notation. Of a longer one only the start
-/// is read, so that a sentence costs no more for a long item.
-const LONG_ITEM: usize = 512;
-
-/// Writes a character, escaped if it isn't plain. Answers how many columns were written.
-pub(crate) fn push_char(out: &mut String, c: char) -> Result<usize, AllocError>
-    ensures { IfOk result (λ width. width ≤ 8) }
-{
-    if is_plain(c) {
-        out.push(c)?;
-        return Ok(1);
-    }
-    let code = c as u32;
-    write!(out, "\\u{code:04x}")?;
-    match code {
-        0..=0xffff => Ok(6),
-        0x10000..=0xfffff => Ok(7),
-        _ => Ok(8),
-    }
-}
 
 /// Whether a terminal shows the character as itself. It doesn't where the character is a control or
 /// not shown, ends a line or changes the direction of text. Marks over the character before are shown.
@@ -102,56 +76,41 @@ pub(crate) fn slice_of(bytes: &[u8], from: usize, to: usize) -> &[u8] {
     bytes.get(from..to).unwrap_or(&[])
 }
 
-/// Writes the start of `bytes` as text: at most `most` characters, and those alone that come before
-/// the first byte that isn't UTF-8. `..` follows where that isn't all. Answers how many columns
-/// were written.
-///
-/// # Errors
-/// `AllocError` where memory for `out` is refused.
-pub(crate) fn push_text(out: &mut String, bytes: &[u8], most: usize) -> Result<usize, AllocError> {
-    let front = front_of(bytes, most);
-    let mut width = push_chars(out, front)?;
-    if front.len() < bytes.len() {
-        out.push_str("..")?;
-        width = width.saturating_add(2);
+/// The start of bytes as text: at most so many characters, and those alone that come before the first
+/// byte that isn't UTF-8. `..` follows where that isn't all.
+#[derive(Clone, Copy)]
+pub(crate) struct Cut<'a>(pub(crate) &'a [u8], pub(crate) usize);
+
+impl Display for Cut<'_> {
+    fn fmt<W: fmt::Write>(&self, f: &mut Formatter<W>) -> fmt::Result {
+        let text = front_of(self.0, self.1);
+        let dots = if text.len() < self.0.len() { ".." } else { "" };
+        write!(f, "{}{dots}", Escaped { text })
     }
-    Ok(width)
 }
 
-/// Writes the start of a notation as [`push_text`] does, at most `PIECE` characters. Where it is cut
-/// within a string, a quote closes the string before the `..`.
-///
-/// # Errors
-/// `AllocError` where memory for `out` is refused.
+/// Writes the start of a notation, at most `PIECE` characters. Where it is cut within a string, a quote
+/// closes the string before the `..`.
 pub(crate) fn push_notation(out: &mut String, notation: &[u8]) -> Result<(), AllocError> {
-    let front = front_of(notation, PIECE);
-    push_chars(out, front)?;
-    if front.len() == notation.len() {
+    let text = front_of(notation, PIECE);
+    write!(out, "{}", Escaped { text })?;
+    if text.len() == notation.len() {
         return Ok(());
     }
-    if let Some(quote) = open_quote(front) {
+    if let Some(quote) = open_quote(text) {
         out.push(quote)?;
     }
     out.push_str("..")
 }
 
 /// At most `most` characters at the start of the bytes, up to the first byte that isn't UTF-8.
-fn front_of(bytes: &[u8], most: usize) -> &str {
+pub(crate) fn front_of(bytes: &[u8], most: usize) -> &str {
     let front = valid_front(bytes.get(..most.saturating_mul(4)).unwrap_or(bytes));
     let mut len: usize = 0;
     for c in front.chars().take(most) {
         len = len.saturating_add(c.len_utf8());
     }
     valid_front(slice_of(bytes, 0, len))
-}
-
-/// Writes characters, escaped where they aren't plain. Answers how many columns were written.
-fn push_chars(out: &mut String, text: &str) -> Result<usize, AllocError> {
-    let mut width: usize = 0;
-    for c in text.chars() {
-        width = width.saturating_add(push_char(out, c)?);
-    }
-    Ok(width)
 }
 
 /// The quote that ends the string in which this front of a notation ends. `None`: it ends in none. A
@@ -161,44 +120,27 @@ fn open_quote(front: &str) -> Option<char> {
     let mut is_escaped = false;
     for c in front.chars() {
         match open {
-            None => open = end_of(c),
+            None if matches!(c, '"' | '\'' | '/') => open = Some(c),
+            None if c == '#' => open = Some('\n'),
             Some(_) if is_escaped => is_escaped = false,
             Some('"' | '\'') if c == '\\' => is_escaped = true,
             Some(end) if c == end => open = None,
             _ => {}
         }
     }
-    match open {
-        Some('"' | '\'') => open,
-        _ => None,
-    }
-}
-
-/// The character that ends the string or the comment which `first` begins. `None`: it begins neither.
-fn end_of(first: char) -> Option<char> {
-    match first {
-        '"' | '\'' | '/' => Some(first),
-        '#' => Some('\n'),
-        _ => None,
-    }
+    open.filter(|end| matches!(*end, '"' | '\''))
 }
 
 /// The longest front of the bytes that is UTF-8.
 pub(crate) fn valid_front(bytes: &[u8]) -> &str {
     match from_utf8(bytes) {
         Ok(text) => text,
-        Err(why) => match bytes.get(..why.valid_up_to()) {
-            Some(front) => from_utf8(front).unwrap_or(""),
-            None => "",
-        },
+        Err(why) => from_utf8(slice_of(bytes, 0, why.valid_up_to())).unwrap_or(""),
     }
 }
 
 /// Writes at most `most` bytes in hexadecimal, with a space between two, and `..` where there are
 /// more.
-///
-/// # Errors
-/// `AllocError` where memory for `out` is refused.
 pub(crate) fn push_hex(out: &mut String, bytes: &[u8], most: usize) -> Result<(), AllocError> {
     for (i, byte) in bytes.iter().enumerate() {
         if i == most {
@@ -214,128 +156,73 @@ pub(crate) fn push_hex(out: &mut String, bytes: &[u8], most: usize) -> Result<()
 
 /// Writes the bytes around an offset in hexadecimal, and the one at the offset as `>00<`. Where the
 /// offset is the end, it writes `><` there.
-///
-/// # Errors
-/// `AllocError` where memory for `out` is refused.
 pub(crate) fn push_bytes_around(
     out: &mut String,
     bytes: &[u8],
     place: usize,
 ) -> Result<(), AllocError> {
     let from = place.saturating_sub(BYTES_BEFORE);
-    let window = bytes.get(from..).unwrap_or(&[]);
+    let before = slice_of(bytes, from, place);
     if from > 0 {
         out.push_str(".. ")?;
     }
-    for (i, byte) in window.iter().enumerate() {
-        if i > BYTES_BEFORE + BYTES_AFTER {
-            return out.push_str(" ..");
-        }
-        if i > 0 {
-            out.push(' ')?;
-        }
-        if i == place - from {
-            write!(out, ">{byte:02x}<")?;
-        } else {
-            write!(out, "{byte:02x}")?;
-        }
+    push_hex(out, before, BYTES_BEFORE)?;
+    if !before.is_empty() {
+        out.push(' ')?;
     }
-    if place >= bytes.len() {
-        out.push_str(if window.is_empty() { "><" } else { " ><" })?;
-    }
-    Ok(())
-}
-
-/// Writes the item that these bytes encode in the fixed notation, cut where it is long. Where they
-/// encode no item that has a notation, it writes them in hexadecimal. Of more than `LONG_ITEM` bytes
-/// it writes what the first head says, and the start of a string.
-///
-/// # Errors
-/// `AllocError` where memory is refused.
-pub(crate) fn push_item(
-    alloc: Global,
-    limit: Limit,
-    out: &mut String,
-    item: &[u8],
-) -> Result<(), AllocError> {
-    if item.len() <= LONG_ITEM {
-        if let Some(text) = notation_at(alloc, limit, item, 0)? {
-            return push_notation(out, text.as_str().trim_end().as_bytes());
-        }
-        return push_hex(out, item, PIECE / 3);
-    }
-    push_front(out, item)
-}
-
-/// Writes the start of a long item.
-fn push_front(out: &mut String, item: &[u8]) -> Result<(), AllocError> {
-    let Some((head, _)) = whole_head(item) else {
-        return push_hex(out, item, PIECE / 3);
+    let Some(byte) = bytes.get(place) else {
+        return out.push_str("><");
     };
-    match head.major_type() {
-        Major::TextString if content_len(head) > 0 => {
-            out.push('"')?;
-            push_chars(out, front_of(content_of(item), PIECE))?;
-            out.push_str("\"..")
-        }
-        Major::ByteString if content_len(head) > 0 => {
-            out.push_str("h'")?;
-            for byte in content_of(item).iter().take(PIECE / 3) {
-                write!(out, "{byte:02x}")?;
-            }
-            out.push_str("'..")
-        }
-        Major::Array => out.push_str("[..]"),
-        Major::Map => out.push_str("{..}"),
-        Major::Tag => out.push_str("a tag over a long item"),
-        _ => out.push_str("(_ ..)"),
+    write!(out, ">{byte:02x}<")?;
+    let after = slice_of(bytes, place.saturating_add(1), bytes.len());
+    if !after.is_empty() {
+        out.push(' ')?;
     }
+    push_hex(out, after, AROUND.saturating_sub(before.len()))
 }
 
-/// The line and the column of an offset in bytes of a text. Both count from 1, the column in
+/// The line and the column of an offset in bytes of a text, as `1:7`. Both count from 1, the column in
 /// characters.
-pub(crate) fn line_and_column(text: &[u8], place: usize) -> (u64, u64) {
-    let front = text.get(..place).unwrap_or(text);
-    let mut line: u64 = 1;
-    let mut column: u64 = 1;
-    for byte in front.iter() {
-        if *byte == b'\n' {
-            line = line.saturating_add(1);
-            column = 1;
-        } else if !matches!(*byte, 0x80..=0xbf) {
-            column = column.saturating_add(1);
+#[derive(Clone, Copy)]
+pub(crate) struct At<'a>(pub(crate) &'a [u8], pub(crate) usize);
+
+impl Display for At<'_> {
+    fn fmt<W: fmt::Write>(&self, f: &mut Formatter<W>) -> fmt::Result {
+        let (mut line, mut column): (u64, u64) = (1, 1);
+        for byte in self.0.get(..self.1).unwrap_or(self.0).iter() {
+            match *byte {
+                b'\n' => (line, column) = (line.saturating_add(1), 1),
+                0x80..=0xbf => {}
+                _ => column = column.saturating_add(1),
+            }
         }
+        write!(f, "{line}:{column}")
     }
-    (line, column)
 }
 
-/// Writes the line of a text that holds an offset in bytes, cut around that offset. Answers how
-/// many columns were written before it.
-///
-/// # Errors
-/// `AllocError` where memory for `out` is refused.
-pub(crate) fn push_line_around(
+/// Writes the line and the column of an offset in bytes of a text, and that line, cut around the
+/// offset, with a mark below.
+pub(crate) fn push_text_around(
+    alloc: Global,
     out: &mut String,
     text: &[u8],
     place: usize,
-) -> Result<usize, AllocError> {
+) -> Result<(), AllocError> {
     let before = text.get(..place).unwrap_or(text);
-    let after = text.get(place..).unwrap_or(&[]);
     let from = start_of_piece(before);
-    let piece = before.get(from..).unwrap_or(&[]);
-    let mut width: usize = 0;
-    if from > 0 && before.get(from - 1) != Some(&b'\n') {
-        out.push_str("..")?;
-        width = 2;
-    }
-    width = width.saturating_add(push_chars(out, valid_front(piece))?);
+    let is_cut = from > 0 && before.get(from - 1) != Some(&b'\n');
+    let dots = if is_cut { ".." } else { "" };
+    let piece = valid_front(slice_of(before, from, before.len()));
+    let piece = format!(in alloc; "{dots}{}", Escaped { text: piece })?;
+    let after = slice_of(text, place, text.len());
     let end = after.iter().position(|b| *b == b'\n' || *b == b'\r');
-    let rest = match end {
-        Some(end) => after.get(..end).unwrap_or(after),
-        None => after,
-    };
-    push_text(out, rest, LINE_AFTER)?;
-    Ok(width)
+    let rest = Cut(slice_of(after, 0, end.unwrap_or(after.len())), LINE_AFTER);
+    let at = At(text, place);
+    write!(out, "\n  line  {at}\n  text  {piece}{rest}\n        ")?;
+    for _ in piece.chars() {
+        out.push(' ')?;
+    }
+    out.push_str("^\n")
 }
 
 /// The index at which the written part of the last line of `before` begins: at most `LINE_BEFORE`

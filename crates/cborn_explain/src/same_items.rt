@@ -3,15 +3,15 @@
 ghost use Rattle.std.specs.Prelude.{◌≡◌, [], IfOk};
 ghost use Rattle.std.specs.String.{string_bytes};
 
-use crate::byte_causes::{counted, push_shortest};
+use crate::byte_causes::{plural, push_shortest};
 use crate::byte_heads::item_at;
-use crate::byte_walks::{Walk, holds_parts};
+use crate::byte_walks::holds_parts;
 use crate::compared_parts::{Compared, Part};
 use crate::first_differences::walk_to_difference;
-use crate::items::encoded_at;
-use crate::path_lines::{BytesPath, Pairs};
+use crate::items::ItemReader;
+use crate::path_lines::{Pairs, push_path};
 use crate::paths::Step;
-use crate::quotes::{push_hex, push_item};
+use crate::quotes::{push_hex, slice_of};
 use cborn_model::{Limit, Major};
 use cborn_wire::{Argument, HeadRead, LevelKind, read_head};
 use std::alloc::{AllocError, Global};
@@ -35,31 +35,34 @@ pub fn explain_same(
     ensures same { IfOk result (λ text. first.entry.spelled ≡ second.entry.spelled → string_bytes text ≡ []) }
 {
     let mut out = String::new(alloc);
+    let items = &ItemReader { alloc, limit };
     let found = walk_to_difference(alloc, first.spelled, second.spelled)?;
     let Some((walk, difference)) = found else {
         return Ok(out);
     };
-    let is_order = are_other_items(alloc, limit, &walk, (first.spelled, second.spelled))?;
+    let is_order = are_other_items(items, walk.item_place(), first.spelled, second.spelled)?;
     let (path, at) = if is_order {
         (difference.path, difference.place as usize)
     } else {
         (walk.path(alloc)?, walk.at)
     };
     out.push_str("  path   ")?;
-    let line = BytesPath {
-        bytes: first.spelled,
-        walk: &walk,
-        path: &path,
-        pairs: Pairs::Numbered,
-    };
-    line.push(alloc, limit, &mut out)?;
+    push_path(
+        items,
+        &mut out,
+        (first.spelled, &walk),
+        &path,
+        Pairs::Numbered,
+    )?;
     let level = (!is_order).then_some(walk.innermost().kind);
-    let ours = Spelling::new((alloc, limit), first, at, &path.steps)?;
-    let theirs = Spelling::new((alloc, limit), second, at, &path.steps)?;
+    let ours = item_or_break(alloc, first.spelled, at)?;
+    let theirs = item_or_break(alloc, second.spelled, at)?;
     out.push_str("\n  first  ")?;
-    ours.push((alloc, limit), &mut out, level, theirs.item)?;
+    part_at(items, first, at, &path.steps)?.push_place(&mut out)?;
+    push_spelling(items, &mut out, level, ours, theirs)?;
     out.push_str("\n  second ")?;
-    theirs.push((alloc, limit), &mut out, level, ours.item)?;
+    part_at(items, second, at, &path.steps)?.push_place(&mut out)?;
+    push_spelling(items, &mut out, level, theirs, ours)?;
     if is_order {
         out.push_str("\n  why    the keys come in another order")?;
     }
@@ -67,71 +70,64 @@ pub fn explain_same(
     Ok(out)
 }
 
-/// Whether two inputs have different items at the place to which a walk has come. Of inputs that hold
-/// the same items that is so only where the keys of a map come in another order.
-fn are_other_items(
-    alloc: Global,
-    limit: Limit,
-    walk: &Walk,
-    (first, second): (&[u8], &[u8]),
+/// Whether two inputs have different items at a place. Of inputs that hold the same items that is so
+/// only where the keys of a map come in another order.
+fn are_other_items<'a>(
+    items: &ItemReader,
+    place: usize,
+    first: &'a [u8],
+    second: &'a [u8],
 ) -> Result<bool, AllocError> {
-    let place = walk.item_place();
-    let ours = encoded_at(alloc, limit, first, place)?;
-    let theirs = encoded_at(alloc, limit, second, place)?;
+    let ours = items.encoded_at(first, place)?;
+    let theirs = items.encoded_at(second, place)?;
     Ok(match (ours, theirs) {
-        (Some(ours), Some(theirs)) => ours != theirs,
+        (Some(ours), Some(theirs)) => *ours != *theirs,
         _ => false,
     })
 }
 
-/// How one of two inputs encodes an item.
-#[derive(Drop)]
-struct Spelling<'a> {
-    /// The bytes of the item, of a chunk, or of the break that ends the chunks.
-    item: &'a [u8],
-    part: Part<'a>,
+/// The part of an input at the offset `at` of the bytes that it spells, to which `steps` lead.
+fn part_at<'a>(
+    items: &'a ItemReader,
+    input: Compared<'a>,
+    at: usize,
+    steps: &[Step],
+) -> Result<Part<'a>, AllocError> {
+    let steps = steps.to_vec(items.alloc)?;
+    Ok(Part {
+        items,
+        input,
+        at,
+        steps,
+    })
 }
 
-impl<'a> Spelling<'a> {
-    /// What the input has at the offset `at` of the bytes that it spells, to which `steps` lead.
-    fn new(
-        (alloc, limit): (Global, Limit),
-        input: Compared<'a>,
-        at: usize,
-        steps: &[Step],
-    ) -> Result<Spelling<'a>, AllocError> {
-        let mut item = item_at(alloc, input.spelled, at)?;
-        if item.is_empty() {
-            item = input.spelled.get(at..).unwrap_or(&[]);
-            item = item.get(..1).unwrap_or(&[]);
-        }
-        let mut own_steps = Vec::new(alloc);
-        for step in steps {
-            own_steps.push(*step)?;
-        }
-        let part = Part::new((alloc, limit), input, at, own_steps);
-        Ok(Spelling { item, part })
-    }
+/// The bytes of the item at an offset, of a chunk, or of the break that ends the chunks.
+fn item_or_break(alloc: Global, bytes: &[u8], at: usize) -> Result<&[u8], AllocError> {
+    let item = item_at(alloc, bytes, at)?;
+    Ok(if item.is_empty() {
+        slice_of(bytes, at, at.saturating_add(1))
+    } else {
+        item
+    })
+}
 
-    /// Writes the place in the input, the bytes, and how they encode the item, which the other input
-    /// encodes as `other`. `level` is what the item is in. `None`: it is a key, and the other input has
-    /// another key there.
-    fn push(
-        &self,
-        (alloc, limit): (Global, Limit),
-        out: &mut String,
-        level: Option<LevelKind>,
-        other: &[u8],
-    ) -> Result<(), AllocError> {
-        self.part.push_place(out)?;
-        out.push_str(": ")?;
-        push_hex(out, self.item, ITEM)?;
-        match level {
-            Some(level) => push_how(out, level, self.item, other),
-            None => {
-                out.push_str(", the key ")?;
-                push_item(alloc, limit, out, self.item)
-            }
+/// Writes the bytes of an item, and how they encode it, which the other input encodes as `other`. `level`
+/// is what the item is in. `None`: it is a key, and the other input has another key there.
+fn push_spelling(
+    items: &ItemReader,
+    out: &mut String,
+    level: Option<LevelKind>,
+    item: &[u8],
+    other: &[u8],
+) -> Result<(), AllocError> {
+    out.push_str(": ")?;
+    push_hex(out, item, ITEM)?;
+    match level {
+        Some(level) => push_how(out, level, item, other),
+        None => {
+            out.push_str(", the key ")?;
+            items.push_item(out, item)
         }
     }
 }
@@ -153,12 +149,11 @@ fn push_how(
         (Argument::Endless, _) if major == Major::Other => out.push_str(", the end of the chunks"),
         (Argument::Endless, _) => out.push_str(", an indefinite length"),
         (Argument::Given(_, n), theirs) if is_other_length(level, n, theirs) => {
-            let what = if let LevelKind::Tag(_) = level {
-                "bignum"
-            } else {
-                "chunk"
+            let what = match level {
+                LevelKind::Tag(_) => "bignum",
+                _ => "chunk",
             };
-            write!(out, ", a {what} of {n} {}", counted(n, "byte", "bytes"))
+            write!(out, ", a {what} of {n} byte{}", plural(n))
         }
         _ if major == Major::Tag && other.major_type() != Major::Tag => {
             out.push_str(", a bignum that could be an integer")

@@ -1,7 +1,8 @@
 //! Why a text is refused: a sentence for each reason.
 
 use crate::byte_causes::push_too_deep;
-use crate::quotes::{line_and_column, push_char, push_notation, push_text, valid_front};
+use crate::items::ItemReader;
+use crate::quotes::{At, Cut, Escaped, front_of, push_notation, slice_of};
 use crate::reasons::TextReason;
 use crate::text_keys::{earlier_key, key_at};
 use crate::text_spots::indicator_at;
@@ -9,8 +10,9 @@ use crate::text_walks::{Bracket, LastToken, NotationText, TextWalk};
 use cborn_edn::EdnReason;
 use cborn_judge::InvalidReason;
 use cborn_lex::{LexReason, Profile, are_hex, hex_code, is_low};
-use cborn_model::Limit;
-use std::alloc::{AllocError, Global};
+use std::alloc::AllocError;
+use std::fmt;
+use std::fmt::{Display, Formatter};
 
 /// How many characters of a word, a number or a key are written.
 const WORD: usize = 40;
@@ -19,33 +21,42 @@ const WORD: usize = 40;
 #[derive(Clone, Copy)]
 pub(crate) struct RefusedText<'a> {
     pub(crate) input: NotationText<'a>,
-    /// The nesting limit under which it is refused.
-    pub(crate) limit: Limit,
+    /// It has the nesting limit under which it is refused.
+    pub(crate) items: &'a ItemReader,
     /// The offset in bytes that was reported with the reason.
     pub(crate) place: usize,
     /// The offset in bytes of the character at fault, as `spot_of` finds it.
     pub(crate) spot: usize,
+    /// A walk to the place.
+    pub(crate) walk: &'a TextWalk<'a>,
 }
 
-impl RefusedText<'_> {
-    /// Writes the sentence for `reason`. `walk` has come to the place.
-    ///
-    /// # Errors
-    /// `AllocError` where memory is refused.
+/// The first character of some bytes, in quotes; or that they end here.
+#[derive(Clone, Copy)]
+struct Character<'a>(&'a [u8]);
+
+impl Display for Character<'_> {
+    fn fmt<W: fmt::Write>(&self, f: &mut Formatter<W>) -> fmt::Result {
+        let text = front_of(self.0, 1);
+        if text.is_empty() {
+            return write!(f, "the end");
+        }
+        write!(f, "'{}'", Escaped { text })
+    }
+}
+
+impl<'a> RefusedText<'a> {
+    /// Writes the sentence for `reason`.
     pub(crate) fn push_cause(
         &self,
-        alloc: Global,
         out: &mut String,
-        walk: &TextWalk,
         reason: TextReason,
     ) -> Result<(), AllocError> {
         match reason {
             TextReason::NotUtf8 => self.push_not_utf8(out),
             TextReason::Token(reason) => self.push_token(out, reason),
-            TextReason::Notation(reason) => self.push_notation(out, walk, reason),
-            TextReason::Invalid(InvalidReason::DuplicateKey) => {
-                self.push_duplicate(alloc, out, walk)
-            }
+            TextReason::Notation(reason) => self.push_notation(out, reason),
+            TextReason::Invalid(InvalidReason::DuplicateKey) => self.push_duplicate(out),
             TextReason::Invalid(InvalidReason::BadBignum) => {
                 out.push_str(
                     "tag 2 or 3 makes an integer of a byte string, and here it encloses another item",
@@ -59,272 +70,216 @@ impl RefusedText<'_> {
     }
 
     fn push_not_utf8(&self, out: &mut String) -> Result<(), AllocError> {
-        let byte = self.input.text.get(self.place).copied().unwrap_or(0);
+        let byte = self.rest(self.place).first().copied().unwrap_or(0);
         write!(
             out,
             "a text is UTF-8, and the byte {byte:02x} here begins no character or is cut off"
         )
     }
 
-    /// Writes the line and the column of an offset.
-    fn push_place(&self, out: &mut String, place: usize) -> Result<(), AllocError> {
-        let (line, column) = line_and_column(self.input.text, place);
-        write!(out, "{line}:{column}")
+    /// The text from an offset on.
+    fn rest(&self, place: usize) -> &'a [u8] {
+        slice_of(self.input.text, place, self.input.text.len())
     }
 
-    /// Writes the character at fault, in quotes.
-    fn push_spot(&self, out: &mut String) -> Result<(), AllocError> {
-        let rest = self.input.text.get(self.spot..).unwrap_or(&[]);
-        let front = rest.get(..4).unwrap_or(rest);
-        match valid_front(front).chars().next() {
-            Some(c) => {
-                out.push('\'')?;
-                push_char(out, c)?;
-                out.push('\'')
-            }
-            None => out.push_str("the end"),
-        }
-    }
-
-    /// Whether the character at fault is a closing quote.
-    fn is_quote(&self) -> bool {
-        self.input.text.get(self.spot) == Some(&b'\'')
-    }
-
-    /// Writes `before`, the line and the column of the character at fault, and `after`. Where
-    /// `before` is empty, it writes the character and `at` in its place.
-    fn push_at_spot(&self, out: &mut String, before: &str, after: &str) -> Result<(), AllocError> {
-        if before.is_empty() {
-            self.push_spot(out)?;
-            out.push_str(" at ")?;
-        }
-        out.push_str(before)?;
-        self.push_place(out, self.spot)?;
-        out.push_str(after)
+    /// The line and the column of an offset.
+    fn at(&self, place: usize) -> At<'a> {
+        At(self.input.text, place)
     }
 
     /// The letters, digits, points, underscores and minus signs in a row from an offset on.
-    fn word_at(&self, place: usize) -> &[u8] {
-        let rest = self.input.text.get(place..).unwrap_or(&[]);
+    fn word(&self, place: usize) -> Cut<'a> {
+        let rest = self.rest(place);
         let len = rest.iter().position(|b| !is_word(*b)).unwrap_or(rest.len());
-        rest.get(..len).unwrap_or(rest)
-    }
-
-    fn push_word(&self, out: &mut String, place: usize) -> Result<(), AllocError> {
-        out.push('\'')?;
-        push_text(out, self.word_at(place), WORD)?;
-        out.push('\'')
-    }
-
-    /// Writes the number at the place without its encoding indicator.
-    fn push_number(&self, out: &mut String) -> Result<(), AllocError> {
-        let word = self.word_at(self.place);
-        let len = word.iter().position(|b| *b == b'_').unwrap_or(word.len());
-        out.push('\'')?;
-        push_text(out, word.get(..len).unwrap_or(word), WORD)?;
-        out.push('\'')
+        Cut(slice_of(rest, 0, len), WORD)
     }
 
     /// Writes why a token is wrong.
     fn push_token(&self, out: &mut String, reason: LexReason) -> Result<(), AllocError> {
-        let is_word = matches!(
-            reason,
-            LexReason::UnexpectedCharacter | LexReason::UnknownPrefix
-        );
-        if is_word && self.is_after_slashes() {
-            return out.push_str("comments are / .. /, and the // before this is an empty one");
-        }
+        let at = self.at(self.spot);
+        let is_quote = self.rest(self.spot).starts_with(b"'");
         match reason {
-            LexReason::UnexpectedCharacter => self.push_unexpected_character(out),
-            LexReason::UnclosedString => {
-                out.push_str("the string that begins here has no quote that ends it")
+            LexReason::UnexpectedCharacter | LexReason::UnknownPrefix if self.is_after_slashes() =>
+                {
+                    return out.push_str(
+                        "comments are / .. /, and the // before this is an empty one",
+                    );
+                }
+            LexReason::BadHex | LexReason::BadBase64 if is_quote => {
+                write!(out, "the quote at {at}")?
             }
-            LexReason::UnclosedComment => {
-                out.push_str("the comment that begins here has no slash that ends it")
+            LexReason::BadHex | LexReason::BadBase64 => self.push_spot(out)?,
+            LexReason::BadIndicator => write!(out, "'{}'", self.word(self.spot))?,
+            LexReason::UnknownPrefix | LexReason::FloatLeftOut => {
+                write!(out, "'{}'", self.word(self.place))?
             }
-            LexReason::BadEscape => self.push_bad_escape(out),
-            LexReason::BadHex if self.is_quote() => self.push_at_spot(
-                out,
-                "the quote at ",
-                " ends the bytes after an odd number of digits",
-            ),
-            LexReason::BadHex => self.push_at_spot(
-                out,
-                "",
-                " is no hexadecimal digit, white space or whole comment",
-            ),
-            LexReason::BadBase64 if self.is_quote() => self.push_at_spot(
-                out,
-                "the quote at ",
-                " ends the bytes after digits or padding that fit no bytes",
-            ),
-            LexReason::BadBase64 => self.push_at_spot(out, "", " is no digit of base64"),
-            LexReason::UnknownPrefix => {
-                self.push_word(out, self.place)?;
-                out.push_str(
-                    " is no prefix of a string: h is, for hexadecimal, and b64, for base64",
-                )
-            }
-            LexReason::BadNumber => self.push_bad_number(out),
-            LexReason::NumberTooLarge => {
-                out.push_str(
-                    "a number has at most 128 bits: 340282366920938463463374607431768211455 is the greatest",
-                )
-            }
-            LexReason::BadIndicator => {
-                self.push_word(out, self.spot)?;
-                out.push_str(
-                    " is no encoding indicator: _, _0, _1, _2 and _3 are, and after ( comes _ alone",
-                )
-            }
-            LexReason::FloatLeftOut => {
-                self.push_word(out, self.place)?;
-                out.push_str(" is no integer, and floats are left out")
-            }
+            _ => {}
         }
+        let sentence = match reason {
+            LexReason::UnexpectedCharacter => return self.push_unexpected_character(out),
+            LexReason::UnclosedString => "the string that begins here has no quote that ends it",
+            LexReason::UnclosedComment => "the comment that begins here has no slash that ends it",
+            LexReason::BadEscape => return self.push_bad_escape(out),
+            LexReason::BadHex if is_quote => " ends the bytes after an odd number of digits",
+            LexReason::BadHex => " is no hexadecimal digit, white space or whole comment",
+            LexReason::BadBase64 if is_quote =>
+                " ends the bytes after digits or padding that fit no bytes",
+            LexReason::BadBase64 => " is no digit of base64",
+            LexReason::UnknownPrefix =>
+                " is no prefix of a string: h is, for hexadecimal, and b64, for base64",
+            LexReason::BadNumber => return self.push_bad_number(out),
+            LexReason::NumberTooLarge =>
+                "a number has at most 128 bits: 340282366920938463463374607431768211455 is the greatest",
+            LexReason::BadIndicator =>
+                " is no encoding indicator: _, _0, _1, _2 and _3 are, and after ( comes _ alone",
+            LexReason::FloatLeftOut => " is no integer, and floats are left out",
+        };
+        out.push_str(sentence)
+    }
+
+    /// Writes the character at fault, and its line and column.
+    fn push_spot(&self, out: &mut String) -> Result<(), AllocError> {
+        write!(out, "{} at {}", self.character(), self.at(self.spot))
+    }
+
+    /// The character at fault.
+    fn character(&self) -> Character<'a> {
+        Character(self.rest(self.spot))
     }
 
     /// Whether `//` comes before the place, and white space of the same line.
     fn is_after_slashes(&self) -> bool {
-        let before = self.input.text.get(..self.place).unwrap_or(&[]);
+        let before = slice_of(self.input.text, 0, self.place);
         let last = before.iter().rposition(|b| !matches!(*b, b' ' | b'\t'));
         let len = last.map_or(0, |index| index.saturating_add(1));
-        let before = before.get(..len).unwrap_or(&[]);
-        before.ends_with(b"//")
+        slice_of(before, 0, len).ends_with(b"//")
     }
 
     /// Writes what is wrong with an escape, or with a character that has to be escaped.
     fn push_bad_escape(&self, out: &mut String) -> Result<(), AllocError> {
-        match self.input.text.get(self.spot..).unwrap_or(&[]) {
+        let (before, after) = match self.rest(self.spot) {
             [b'\\', b'u', a, b, c, d, ..] if are_hex(*a, *b, *c, *d) => {
-                out.push_str(if is_low(hex_code(*a, *b, *c, *d)) {
-                    "the escape at "
+                if is_low(hex_code(*a, *b, *c, *d)) {
+                    (
+                        "the escape",
+                        " is the second half of a pair of surrogates, and no first half comes before it",
+                    )
                 } else {
-                    "after the escape at "
-                })?;
-                self.push_place(out, self.spot)?;
-                out.push_str(if is_low(hex_code(*a, *b, *c, *d)) {
-                    " is the second half of a pair of surrogates, and no first half comes before it"
-                } else {
-                    ", the first half of a pair of surrogates, the second has to follow"
-                })
+                    (
+                        "after the escape",
+                        ", the first half of a pair of surrogates, the second has to follow",
+                    )
+                }
             }
-            [b'\\', b'u', ..] => self.push_at_spot(
-                out,
-                "after \\u at ",
-                " there are no four hexadecimal digits",
-            ),
-            [b'\\', ..] => self.push_at_spot(out, "", " begins no escape of JSON"),
-            _ => self.push_at_spot(out, "", " is a control character, which has to be escaped"),
-        }
+            [b'\\', b'u', ..] => ("after \\u", " there are no four hexadecimal digits"),
+            rest => {
+                self.push_spot(out)?;
+                return out.push_str(if rest.starts_with(b"\\") {
+                    " begins no escape of JSON"
+                } else {
+                    " is a control character, which has to be escaped"
+                });
+            }
+        };
+        write!(out, "{before} at {}{after}", self.at(self.spot))
     }
 
     fn push_unexpected_character(&self, out: &mut String) -> Result<(), AllocError> {
-        match self.input.text.get(self.place) {
+        match self.rest(self.place).first() {
             Some(b'#') if self.input.profile == Profile::One => {
                 out.push_str("comments from # to the end of a line are read with notation-2 alone")
             }
             Some(byte) if byte.is_ascii_alphabetic() => {
-                self.push_word(out, self.place)?;
-                out.push_str(
-                    " is no word of the notation: false, true, null and undefined are, and simple(",
+                let word = self.word(self.place);
+                write!(
+                    out,
+                    "'{word}' is no word of the notation: false, true, null and undefined are, and simple("
                 )
             }
             _ => {
-                self.push_spot(out)?;
-                out.push_str(" begins no token")
+                let c = self.character();
+                write!(out, "{c} begins no token")
             }
         }
     }
 
     fn push_bad_number(&self, out: &mut String) -> Result<(), AllocError> {
-        self.push_number(out)?;
+        let word = self.word(self.place).0;
+        let len = word.iter().position(|b| *b == b'_').unwrap_or(word.len());
+        let number = Cut(slice_of(word, 0, len), WORD);
+        let (c, at) = (self.character(), self.at(self.spot));
         if self.spot > self.place {
-            out.push_str(" is no number: ")?;
-            return self.push_at_spot(out, "", " is no digit of it");
+            return write!(
+                out,
+                "'{number}' is no number: {c} at {at} is no digit of it"
+            );
         }
-        out.push_str(" is no number: it lacks digits, or begins with a 0 that it doesn't need")
+        write!(
+            out,
+            "'{number}' is no number: it lacks digits, or begins with a 0 that it doesn't need"
+        )
     }
 
     /// Writes why the tokens are a syntax error, or notate no item.
-    fn push_notation(
-        &self,
-        out: &mut String,
-        walk: &TextWalk,
-        reason: EdnReason,
-    ) -> Result<(), AllocError> {
-        match reason {
+    fn push_notation(&self, out: &mut String, reason: EdnReason) -> Result<(), AllocError> {
+        let sentence = match reason {
             EdnReason::UnexpectedToken => {
-                out.push_str("here may come ")?;
-                self.push_allowed(out, walk)?;
-                if self.is_after_trailing_comma(walk) {
-                    out.push_str("; a trailing comma is read with notation-2 alone")?;
+                let allowed = self.allowed();
+                write!(out, "here may come {}{}", allowed.0, allowed.1)?;
+                if !self.is_after_trailing_comma() {
+                    return Ok(());
                 }
-                Ok(())
+                "; a trailing comma is read with notation-2 alone"
             }
-            EdnReason::UnexpectedEnd => self.push_unexpected_end(out, walk),
-            EdnReason::TooDeep => self.push_deep(out),
+            EdnReason::UnexpectedEnd => return self.push_unexpected_end(out),
+            EdnReason::TooDeep => {
+                push_too_deep(self.items.limit, out, "arrays, maps, tags and <<..>>")?;
+                if !self.is_at_number() {
+                    return Ok(());
+                }
+                "; an integer beyond 64 bits counts as one of them"
+            }
             EdnReason::IndicatorTooNarrow => {
-                out.push_str(
-                    "the number, the length or the count doesn't fit the width that the indicator asks for: _0 has 1 byte, _1 has 2, _2 has 4 and _3 has 8",
-                )
+                "the number, the length or the count doesn't fit the width that the indicator asks for: _0 has 1 byte, _1 has 2, _2 has 4 and _3 has 8"
             }
-            EdnReason::IndicatorNotAllowed => out.push_str(self.unwanted_indicator(walk)),
+            EdnReason::IndicatorNotAllowed => return out.push_str(self.unwanted_indicator()),
             EdnReason::MixedString => {
-                out.push_str(
-                    "pieces after a byte string are bytes too, and this one is a text in double quotes",
-                )
+                "pieces after a byte string are bytes too, and this one is a text in double quotes"
             }
             EdnReason::MixedChunks => {
-                out.push_str(
-                    "the chunks of a string are all of one kind, bytes or text, as the first is",
-                )
+                "the chunks of a string are all of one kind, bytes or text, as the first is"
             }
             EdnReason::TextNotUtf8 => {
-                out.push_str("a text string is UTF-8, and the joined pieces of this one aren't")
+                "a text string is UTF-8, and the joined pieces of this one aren't"
             }
-            EdnReason::BadSimple => {
-                out.push_str("a simple value is from 0 to 23, or from 32 to 255")
-            }
-            EdnReason::TagTooLarge => {
-                out.push_str("the number of a tag is at most 18446744073709551615")
-            }
-        }
+            EdnReason::BadSimple => "a simple value is from 0 to 23, or from 32 to 255",
+            EdnReason::TagTooLarge => "the number of a tag is at most 18446744073709551615",
+        };
+        out.push_str(sentence)
     }
 
-    /// Writes why a nesting is too deep. An integer beyond 64 bits adds a level, since it is
+    /// Whether the token at the place is a number. An integer beyond 64 bits adds a level, since it is
     /// encoded as a tag of a byte string.
-    fn push_deep(&self, out: &mut String) -> Result<(), AllocError> {
-        push_too_deep(self.limit, out, "arrays, maps, tags and <<..>>")?;
-        if self.is_at_number() {
-            out.push_str("; an integer beyond 64 bits counts as one of them")?;
-        }
-        Ok(())
-    }
-
-    /// Whether the token at the place is a number.
     fn is_at_number(&self) -> bool {
-        matches!(self.input.text.get(self.place), Some(b'-' | b'0'..=b'9'))
+        matches!(self.rest(self.place), [b'-' | b'0'..=b'9', ..])
     }
 
     /// Why the token at the place may not have its encoding indicator.
-    fn unwanted_indicator(&self, walk: &TextWalk) -> &'static str {
-        let bracket = walk.open.last().map(|open| open.bracket);
-        if self.is_at_number() {
-            return match bracket {
-                Some(Bracket::Simple) => "the number of a simple value has no encoding indicator",
-                _ if self.is_indefinite() => {
-                    "_ asks for an indefinite length, which numbers and tags don't have"
-                }
-                _ => {
-                    "an integer beyond 64 bits is encoded as a bignum, and has no encoding indicator"
-                }
-            };
-        }
-        if !self.is_indefinite() {
-            return "of pieces side by side the last alone has an encoding indicator, for the whole string";
-        }
+    fn unwanted_indicator(&self) -> &'static str {
+        let bracket = self.walk.open.last().map(|open| open.bracket);
         match bracket {
+            Some(Bracket::Simple) if self.is_at_number() => {
+                "the number of a simple value has no encoding indicator"
+            }
+            _ if self.is_at_number() && self.is_indefinite() => {
+                "_ asks for an indefinite length, which numbers and tags don't have"
+            }
+            _ if self.is_at_number() => {
+                "an integer beyond 64 bits is encoded as a bignum, and has no encoding indicator"
+            }
+            _ if !self.is_indefinite() => {
+                "of pieces side by side the last alone has an encoding indicator, for the whole string"
+            }
             Some(Bracket::Chunks) => "a chunk has a definite length, so that no _ follows it",
             _ => {
                 "only [, {, (, '' and \"\" have _, which is an indefinite length: a string with a prefix, with bytes or in pieces has none"
@@ -335,44 +290,45 @@ impl RefusedText<'_> {
     /// Whether the encoding indicator of the string, the number or the tag that begins at the place,
     /// or of the `>>` there, is `_` alone. True too where it has none.
     fn is_indefinite(&self) -> bool {
-        let token = self.input.text.get(self.place..).unwrap_or(&[]);
-        let at = match token {
-            [b'>', b'>', ..] => 2,
-            _ => indicator_at(token),
+        let token = self.rest(self.place);
+        let at = if token.starts_with(b">>") {
+            2
+        } else {
+            indicator_at(token)
         };
-        match token.get(at..).unwrap_or(&[]) {
+        match slice_of(token, at, token.len()) {
             [b'_', next, ..] => !next.is_ascii_digit(),
             _ => true,
         }
     }
 
     /// Writes what is missing at the end of the text, and which bracket is open.
-    fn push_unexpected_end(&self, out: &mut String, walk: &TextWalk) -> Result<(), AllocError> {
-        out.push_str("the text ends, and here must come ")?;
-        self.push_allowed(out, walk)?;
-        match walk.open.last() {
+    fn push_unexpected_end(&self, out: &mut String) -> Result<(), AllocError> {
+        let allowed = self.allowed();
+        write!(
+            out,
+            "the text ends, and here must come {}{}",
+            allowed.0, allowed.1
+        )?;
+        match self.walk.open.last() {
             Some(open) => {
-                out.push_str(": the ")?;
-                out.push_str(opening(open.bracket))?;
-                out.push_str(" at ")?;
-                self.push_place(out, open.place)?;
-                out.push_str(" is open")
+                let (bracket, at) = (opening(open.bracket), self.at(open.place));
+                write!(out, ": the {bracket} at {at} is open")
             }
             None => Ok(()),
         }
     }
 
-    /// Writes what may follow the last token.
-    fn push_allowed(&self, out: &mut String, walk: &TextWalk) -> Result<(), AllocError> {
-        if matches!(walk.last, LastToken::Piece) {
-            out.push_str("a further piece of the string, or ")?;
-        }
-        let is_whole = matches!(walk.last, LastToken::Piece | LastToken::Item);
-        let may_end = matches!(walk.last, LastToken::Opening)
-            || matches!(walk.last, LastToken::Separator) && self.input.profile == Profile::Two;
-        let words = match walk.open.last() {
+    /// What may follow the last token: a piece of the string that it is, or what else.
+    fn allowed(&self) -> (&'static str, &'static str) {
+        let last = self.walk.last;
+        let is_piece = matches!(last, LastToken::Piece);
+        let is_whole = is_piece || matches!(last, LastToken::Item);
+        let is_first = matches!(last, LastToken::Opening);
+        let may_end = is_first || !is_whole && self.input.profile == Profile::Two;
+        let words = match self.walk.open.last() {
             None if is_whole => "a comma, or the end",
-            None if matches!(walk.last, LastToken::Opening) => "an item, or the end",
+            None if is_first => "an item, or the end",
             None => "an item",
             Some(open) => match open.bracket {
                 Bracket::Array if is_whole => "a comma or ]",
@@ -391,17 +347,23 @@ impl RefusedText<'_> {
                 _ => "an item",
             },
         };
-        out.push_str(words)
+        (
+            if is_piece {
+                "a further piece of the string, or "
+            } else {
+                ""
+            },
+            words,
+        )
     }
 
     /// Whether a bracket is closed at the place after a trailing comma, which profile 2 alone allows.
-    fn is_after_trailing_comma(&self, walk: &TextWalk) -> bool {
-        let is_comma = matches!(walk.last, LastToken::Separator);
-        let Some(open) = walk.open.last() else {
+    fn is_after_trailing_comma(&self) -> bool {
+        let is_comma = matches!(self.walk.last, LastToken::Separator);
+        let Some(open) = self.walk.open.last() else {
             return false;
         };
-        let rest = self.input.text.get(self.place..).unwrap_or(&[]);
-        let is_closed = match (open.bracket, rest) {
+        let is_closed = match (open.bracket, self.rest(self.place)) {
             (Bracket::Array, [b']', ..]) | (Bracket::Embedded, [b'>', b'>', ..]) => true,
             (Bracket::Map, [b'}', ..]) => open.is_at_key(),
             _ => false,
@@ -410,24 +372,20 @@ impl RefusedText<'_> {
     }
 
     /// Writes which key the key at the place repeats.
-    fn push_duplicate(
-        &self,
-        alloc: Global,
-        out: &mut String,
-        walk: &TextWalk,
-    ) -> Result<(), AllocError> {
-        let key = key_at(alloc, self.input, self.place)?;
+    fn push_duplicate(&self, out: &mut String) -> Result<(), AllocError> {
         out.push_str("the key ")?;
-        push_notation(out, key)?;
-        let found = match walk.open.last() {
-            Some(open) => earlier_key(alloc, self.limit, self.input, open.place, self.place)?,
+        push_notation(out, key_at(self.items.alloc, self.input, self.place)?)?;
+        let found = match self.walk.open.last() {
+            Some(open) => earlier_key(self.items, self.input, open.place, self.place)?,
             None => None,
         };
         match found {
             Some(place) => {
-                out.push_str(" is the same as the key at ")?;
-                self.push_place(out, place)?;
-                write!(out, " (offset {place}) of this map")
+                let at = self.at(place);
+                write!(
+                    out,
+                    " is the same as the key at {at} (offset {place}) of this map"
+                )
             }
             None => out.push_str(" is the same as an earlier key of this map"),
         }

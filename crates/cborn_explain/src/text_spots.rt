@@ -1,5 +1,6 @@
 //! The character within a token that is at fault.
 
+use crate::quotes::slice_of;
 use crate::reasons::TextReason;
 use cborn_lex::{LexReason, are_hex, hex_code, is_high, is_low};
 
@@ -39,38 +40,18 @@ fn unit_len(quote: u8, rest: &[u8]) -> Option<usize> {
     match rest {
         [b'\\', b'u', a, b, c, d, rest @ ..] if are_hex(*a, *b, *c, *d) => {
             let code = hex_code(*a, *b, *c, *d);
-            if is_low(code) {
-                return None;
-            }
-            if is_high(code) {
-                pair_len(rest)
-            } else {
-                Some(6)
+            match rest {
+                _ if !is_low(code) && !is_high(code) => Some(6),
+                [b'\\', b'u', a, b, c, d, ..] if is_high(code) && are_hex(*a, *b, *c, *d) => {
+                    is_low(hex_code(*a, *b, *c, *d)).then_some(12)
+                }
+                _ => None,
             }
         }
-        [
-            b'\\',
-            b'"' | b'\\' | b'/' | b'b' | b'f' | b'n' | b'r' | b't',
-            ..
-        ] => Some(2),
         [b'\\', b'\'', ..] if quote == b'\'' => Some(2),
+        [b'\\', b, ..] if b"\"\\/bfnrt".contains(b) => Some(2),
         [b'\\', ..] => None,
         [byte, ..] if *byte >= 0x20 => Some(1),
-        _ => None,
-    }
-}
-
-/// How many bytes a pair of surrogate escapes has. `rest` follows the first, and has to begin with
-/// the second. `None`: it doesn't.
-fn pair_len(rest: &[u8]) -> Option<usize> {
-    match rest {
-        [b'\\', b'u', a, b, c, d, ..] if are_hex(*a, *b, *c, *d) => {
-            if is_low(hex_code(*a, *b, *c, *d)) {
-                Some(12)
-            } else {
-                None
-            }
-        }
         _ => None,
     }
 }
@@ -79,19 +60,14 @@ fn pair_len(rest: &[u8]) -> Option<usize> {
 /// of the slash of a comment that isn't closed. Where there is no such character, the number of digits
 /// is odd, and it is the index of the closing quote.
 fn bad_hex(token: &[u8]) -> usize {
-    let mut is_comment = false;
-    let mut opened = 2;
-    for (i, byte) in token.iter().enumerate() {
-        if i < 2 {
-            continue;
-        }
-        if *byte == b'/' {
-            is_comment = !is_comment;
-            opened = i;
-        } else if *byte == b'\'' {
-            return if is_comment { opened } else { i };
-        } else if !is_comment && !is_white(*byte) && !byte.is_ascii_hexdigit() {
-            return i;
+    let mut comment = None;
+    for (i, byte) in token.iter().enumerate().skip(2) {
+        match (*byte, comment) {
+            (b'/', None) => comment = Some(i),
+            (b'/', Some(_)) => comment = None,
+            (b'\'', _) => return comment.unwrap_or(i),
+            (byte, None) if !is_white(byte) && !byte.is_ascii_hexdigit() => return i,
+            _ => {}
         }
     }
     0
@@ -100,12 +76,11 @@ fn bad_hex(token: &[u8]) -> usize {
 /// The index in `b64'..'` of the first character that is no white space, no padding and in no alphabet
 /// of base64. Where there is no other, it is the index of the closing quote.
 fn bad_base64(token: &[u8]) -> usize {
-    for (i, byte) in token.iter().enumerate() {
-        if i >= 4 && !is_base64(*byte) && !is_white(*byte) {
-            return i;
-        }
-    }
-    0
+    let first = token
+        .iter()
+        .skip(4)
+        .position(|b| !is_base64(*b) && !is_white(*b));
+    first.map_or(0, |i| i.saturating_add(4))
 }
 
 fn is_base64(byte: u8) -> bool {
@@ -118,37 +93,21 @@ fn is_white(byte: u8) -> bool {
 
 /// The index in a number of the first character that is no digit of its base. 0: all are digits.
 fn bad_digit(token: &[u8]) -> usize {
-    let signed = matches!(token.first(), Some(b'-'));
-    let body = if signed {
-        token.get(1..).unwrap_or(&[])
-    } else {
-        token
-    };
-    let start = if signed { 1 } else { 0 };
+    let body = token.strip_prefix(b"-").unwrap_or(token);
     let (base, skipped) = match body {
         [b'0', b'x' | b'X', ..] => (16, 2),
         [b'0', b'o' | b'O', ..] => (8, 2),
         [b'0', b'b' | b'B', ..] => (2, 2),
         _ => (10, 0),
     };
-    for (i, byte) in body.iter().enumerate() {
-        if i >= skipped && !is_digit(base, *byte) {
-            return if is_body(*byte) {
-                i.saturating_add(start)
-            } else {
-                0
-            };
-        }
-    }
-    0
-}
-
-fn is_digit(base: u8, byte: u8) -> bool {
-    match base {
-        16 => byte.is_ascii_hexdigit(),
-        8 => matches!(byte, b'0'..=b'7'),
-        2 => matches!(byte, b'0' | b'1'),
-        _ => byte.is_ascii_digit(),
+    let start = token
+        .len()
+        .saturating_sub(body.len())
+        .saturating_add(skipped);
+    let after = slice_of(token, start, token.len());
+    match after.iter().position(|b| !char::from(*b).is_digit(base)) {
+        Some(i) if after.get(i).is_some_and(|b| is_body(*b)) => i.saturating_add(start),
+        _ => 0,
     }
 }
 
@@ -164,24 +123,15 @@ pub(crate) fn indicator_at(token: &[u8]) -> usize {
     let quote = match token {
         [b'"', ..] => b'"',
         [b'\'', ..] | [b'h', b'\'', ..] | [b'b', b'6', b'4', b'\'', ..] => b'\'',
-        _ => return first_underscore(token),
+        _ => return token.iter().position(|b| *b == b'_').unwrap_or(0),
     };
     let opened = token.iter().position(|b| *b == quote).unwrap_or(0);
     let mut is_escape = false;
-    for (i, byte) in token.iter().enumerate() {
-        if i > opened {
-            if is_escape {
-                is_escape = false;
-            } else if *byte == b'\\' {
-                is_escape = true;
-            } else if *byte == quote {
-                return i.saturating_add(1);
-            }
+    for (i, byte) in token.iter().enumerate().skip(opened.saturating_add(1)) {
+        if *byte == quote && !is_escape {
+            return i.saturating_add(1);
         }
+        is_escape = *byte == b'\\' && !is_escape;
     }
     0
-}
-
-fn first_underscore(token: &[u8]) -> usize {
-    token.iter().position(|b| *b == b'_').unwrap_or(0)
 }

@@ -88,7 +88,10 @@ pub(crate) enum LastToken {
 
 /// A walk from token to token, between two of them.
 #[derive(Drop)]
-pub(crate) struct TextWalk {
+pub(crate) struct TextWalk<'a> {
+    alloc: Global,
+    profile: Profile,
+    text: &'a str,
     /// How many items outside of all brackets a comma has ended.
     pub(crate) items: u64,
     /// The brackets that are open, the innermost last.
@@ -104,29 +107,27 @@ pub(crate) struct TextWalk {
 
 /// Walks over a text, and stops before the first token that ends after the offset `place`, or that is
 /// wrong. `place` is an offset in bytes from the start of the text.
-///
-/// # Errors
-/// `AllocError` where memory is refused.
 pub(crate) fn walk_text(
     alloc: Global,
     input: NotationText<'_>,
     place: usize,
-) -> Result<TextWalk, AllocError> {
-    let profile = input.profile;
-    let mut walk = TextWalk::new(alloc);
-    let text = valid_front(input.text);
-    'tokens: for _ in 0..text.len() {
-        if !walk.take_next(alloc, profile, text, place)? {
+) -> Result<TextWalk<'_>, AllocError> {
+    let mut walk = TextWalk::new(alloc, input.profile, valid_front(input.text));
+    'tokens: for _ in 0..walk.text.len() {
+        if !walk.take_next(place)? {
             break;
         }
     }
     Ok(walk)
 }
 
-impl TextWalk {
+impl<'a> TextWalk<'a> {
     /// A walk before the first token of a text.
-    pub(crate) fn new(alloc: Global) -> TextWalk {
+    pub(crate) fn new(alloc: Global, profile: Profile, text: &'a str) -> TextWalk<'a> {
         TextWalk {
+            alloc,
+            profile,
+            text,
             items: 0,
             open: Vec::new(alloc),
             beyond: 0,
@@ -138,37 +139,20 @@ impl TextWalk {
 
     /// Goes on past the next token, and gives `true`. `false`: the token ends after the offset `place`
     /// or is wrong, or there is none.
-    ///
-    /// # Errors
-    /// `AllocError` where memory is refused.
-    pub(crate) fn take_next(
-        &mut self,
-        alloc: Global,
-        profile: Profile,
-        text: &str,
-        place: usize,
-    ) -> Result<bool, AllocError> {
+    pub(crate) fn take_next(&mut self, place: usize) -> Result<bool, AllocError> {
+        let (alloc, profile, text) = (self.alloc, self.profile, self.text);
         if self.stop > text.len() {
             return Ok(false);
         }
         let mut number: u128 = 0;
         self.content.clear();
-        match next_token(
-            alloc,
-            profile,
-            text,
-            self.stop,
-            &mut number,
-            &mut self.content,
-        ) {
-            Ok(Some(token)) => {
-                if token.start >= place || token.stop > place {
-                    return Ok(false);
-                }
+        let content = &mut self.content;
+        match next_token(alloc, profile, text, self.stop, &mut number, content) {
+            Ok(Some(token)) if token.start < place && token.stop <= place => {
                 self.take(&token, number)?;
                 Ok(true)
             }
-            Ok(None) | Err(LexFault::Refused { .. }) => Ok(false),
+            Ok(_) | Err(LexFault::Refused { .. }) => Ok(false),
             Err(LexFault::OutOfMemory) => Err(AllocError),
         }
     }
@@ -185,21 +169,23 @@ impl TextWalk {
             Kind::EmbedOpen => self.begin(Bracket::Embedded, start)?,
             Kind::EmbedClose(_) => self.end(LastToken::Piece),
             Kind::ArrayClose | Kind::MapClose | Kind::ParenClose => self.end(LastToken::Item),
-            Kind::Comma => self.separate(),
-            Kind::Colon => self.end_key(),
-            Kind::Number { .. } | Kind::Word(_) => self.put(LastToken::Item, start),
-            Kind::Text(_) | Kind::Bytes { .. } => self.put(LastToken::Piece, start),
+            Kind::Comma => self.separate(false),
+            Kind::Colon => self.separate(true),
+            Kind::Number { .. } | Kind::Word(_) => self.begin_part(LastToken::Item, start),
+            Kind::Text(_) | Kind::Bytes { .. } => self.begin_part(LastToken::Piece, start),
         }
         self.stop = token.stop;
         Ok(())
     }
 
-    /// Keeps where a token begins, if it is the first of a key.
-    fn begin_part(&mut self, start: usize) {
+    /// Goes on past a token that begins an item or a piece of it, and keeps where, if it is the first of a
+    /// key.
+    fn begin_part(&mut self, token: LastToken, start: usize) {
+        let is_first = matches!(self.last, LastToken::Opening | LastToken::Separator);
+        self.last = token;
         if self.beyond > 0 {
             return;
         }
-        let is_first = matches!(self.last, LastToken::Opening | LastToken::Separator);
         if let Some(open) = self.open.last_mut() {
             if is_first && open.is_at_key() {
                 open.key = (start, start);
@@ -208,8 +194,7 @@ impl TextWalk {
     }
 
     fn begin(&mut self, bracket: Bracket, place: usize) -> Result<(), AllocError> {
-        self.begin_part(place);
-        self.last = LastToken::Opening;
+        self.begin_part(LastToken::Opening, place);
         if self.open.len() >= MOST_OPEN {
             self.beyond = self.beyond.saturating_add(1);
             return Ok(());
@@ -233,42 +218,29 @@ impl TextWalk {
         self.last = last;
     }
 
-    fn put(&mut self, last: LastToken, start: usize) {
-        self.begin_part(start);
-        self.last = last;
-    }
-
-    /// Goes on past a comma.
-    fn separate(&mut self) {
+    /// Goes on past a comma, or the colon after a key.
+    fn separate(&mut self, is_colon: bool) {
+        let is_whole = matches!(self.last, LastToken::Piece | LastToken::Item);
         self.last = LastToken::Separator;
         if self.beyond > 0 {
             return;
         }
         match self.open.last_mut() {
             Some(open) => {
-                if open.is_at_key() {
-                    open.is_lost = true;
+                if is_colon {
+                    open.key.1 = self.stop;
                 }
+                let is_at_key = open.is_at_key();
+                let is_expected = if is_colon {
+                    is_whole && is_at_key
+                } else {
+                    !is_at_key
+                };
+                open.is_lost = open.is_lost || !is_expected;
                 open.parts = open.parts.saturating_add(1);
             }
+            None if is_colon => {}
             None => self.items = self.items.saturating_add(1),
-        }
-    }
-
-    /// Goes on past the colon after a key.
-    fn end_key(&mut self) {
-        let stop = self.stop;
-        let is_whole = matches!(self.last, LastToken::Piece | LastToken::Item);
-        self.last = LastToken::Separator;
-        if self.beyond > 0 {
-            return;
-        }
-        if let Some(open) = self.open.last_mut() {
-            if !is_whole || !open.is_at_key() {
-                open.is_lost = true;
-            }
-            open.key.1 = stop;
-            open.parts = open.parts.saturating_add(1);
         }
     }
 

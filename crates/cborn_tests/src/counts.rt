@@ -12,6 +12,10 @@ use std::alloc::Global;
 use std::process::Abort;
 use std::test::Fail;
 
+const USUAL: Limit = Limit::USUAL;
+
+const ONE: Count = Count::One;
+
 /// Inputs, and the encoding of their one item, or why they have none.
 const ONES: [(Kind, &[u8], Result<&[u8], CountFault>); 8] = [
     (Kind::Wire, b"", Err(CountFault::NoItem(0))),
@@ -36,24 +40,11 @@ fn encoded(
     input: &[u8],
     wanted: Result<&[u8], CountFault>,
 ) -> Result<(), Fail> {
-    let slice = normalise_slice::<Bytewise>(
-        alloc,
-        Limit::USUAL,
-        Count::One,
-        kind,
-        Kind::Wire,
-        input,
-    );
+    let slice = normalise_slice::<Bytewise>(alloc, USUAL, ONE, kind, Kind::Wire, input);
     let mut out = Taken::new(alloc)?;
-    let mut reader = Bytes::new(input, 2);
+    let (wire, reader) = (Kind::Wire, &mut Bytes::new(input, 2));
     let streamed = normalise_stream::<Bytewise, _, _>(
-        alloc,
-        Limit::USUAL,
-        Count::One,
-        kind,
-        Kind::Wire,
-        &mut reader,
-        &mut out,
+        alloc, USUAL, ONE, kind, wire, reader, &mut out,
     );
     assert_eq!(rt; streamed.err(), wanted.err(), "{input:?}");
     assert!(rt; out.bytes.as_slice() == wanted.unwrap_or(b""), "{input:?}");
@@ -72,18 +63,10 @@ fn shown(
     input: &[u8],
     fault: Option<CountFault>,
 ) -> Result<(), Fail> {
-    let slice = show_slice(alloc, Limit::USUAL, Count::One, kind, Kind::Wire, input);
+    let slice = show_slice(alloc, USUAL, ONE, kind, Kind::Wire, input);
     let mut out = Taken::new(alloc)?;
-    let mut reader = Bytes::new(input, 2);
-    let streamed = show_stream(
-        alloc,
-        Limit::USUAL,
-        Count::One,
-        kind,
-        Kind::Wire,
-        &mut reader,
-        &mut out,
-    );
+    let (wire, reader) = (Kind::Wire, &mut Bytes::new(input, 2));
+    let streamed = show_stream(alloc, USUAL, ONE, kind, wire, reader, &mut out);
     assert_eq!(rt; streamed.err(), fault, "{input:?}");
     match slice {
         Ok(bytes) => assert!(rt; out.bytes.as_slice() == &*bytes, "{input:?}"),
@@ -95,19 +78,11 @@ fn shown(
 /// The answer of both calls that compare two items, for an item and itself.
 fn compared(rt: &impl Abort, alloc: Global, kind: Kind, input: &[u8], fault: Option<CountFault>) {
     let wanted = fault.map(CompareCountFault::First);
-    let same = same_items::<Bytewise>(alloc, Limit::USUAL, Count::One, kind, input, kind, input);
+    let same = same_items::<Bytewise>(alloc, USUAL, ONE, kind, input, kind, input);
     assert_eq!(rt; same.err(), wanted, "{input:?}");
     assert!(rt; same.unwrap_or(true), "{input:?}");
-    let (mut first, mut second) = (Bytes::new(input, 2), Bytes::new(input, 3));
-    let streamed = compare_streams::<Bytewise, _, _>(
-        alloc,
-        Limit::USUAL,
-        Count::One,
-        kind,
-        &mut first,
-        kind,
-        &mut second,
-    );
+    let (first, second) = (&mut Bytes::new(input, 2), &mut Bytes::new(input, 3));
+    let streamed = compare_streams::<Bytewise, _, _>(alloc, USUAL, ONE, kind, first, kind, second);
     assert_eq!(rt; streamed.err(), wanted, "{input:?}");
     assert_eq!(rt; streamed.unwrap_or(None), None, "{input:?}");
 }
@@ -141,15 +116,10 @@ const CHECKED: [(&[u8], Result<Option<Defect>, CountFault>); 4] = [
 #[test]
 fn one_item_checked(rt: HostRuntime) {
     for (input, wanted) in CHECKED {
-        let slice = check_slice::<Bytewise>(rt.alloc(), Limit::USUAL, Count::One, input);
+        let slice = check_slice::<Bytewise>(rt.alloc(), USUAL, ONE, input);
         assert_eq!(rt; slice, wanted, "{input:?}");
         let mut reader = Bytes::new(input, 1);
-        let streamed = check_stream::<Bytewise, _>(
-            rt.alloc(),
-            Limit::USUAL,
-            Count::One,
-            &mut reader,
-        );
+        let streamed = check_stream::<Bytewise, _>(rt.alloc(), USUAL, ONE, &mut reader);
         assert_eq!(rt; streamed, wanted, "{input:?}");
     }
 }
@@ -157,16 +127,8 @@ fn one_item_checked(rt: HostRuntime) {
 /// Catches a difference of two items that isn't at index 0, or none.
 #[test]
 fn one_item_differs(rt: HostRuntime) {
-    let (kind, one) = (Kind::Wire, Count::One);
-    let found = compare_slices::<Bytewise>(
-        rt.alloc(),
-        Limit::USUAL,
-        one,
-        kind,
-        b"\x01",
-        kind,
-        b"\x02",
-    );
+    let (alloc, kind) = (rt.alloc(), Kind::Wire);
+    let found = compare_slices::<Bytewise>(alloc, USUAL, ONE, kind, b"\x01", kind, b"\x02");
     assert_eq!(rt; found, Ok(Some(0)));
 }
 
@@ -175,19 +137,11 @@ fn one_item_differs(rt: HostRuntime) {
 fn any_items(rt: HostRuntime) -> Result<(), Fail> {
     let (kind, any) = (Kind::Wire, Count::Any);
     for input in [b"".as_slice(), b"\x01\x02"] {
-        let answer = normalise_slice::<Bytewise>(rt.alloc(), Limit::USUAL, any, kind, kind, input)?;
+        let answer = normalise_slice::<Bytewise>(rt.alloc(), USUAL, any, kind, kind, input)?;
         assert!(rt; &*answer == input);
         let mut reader = Bytes::new(input, 1);
         let mut out = Taken::new(rt.alloc())?;
-        show_stream(
-            rt.alloc(),
-            Limit::USUAL,
-            any,
-            kind,
-            kind,
-            &mut reader,
-            &mut out,
-        )?;
+        show_stream(rt.alloc(), USUAL, any, kind, kind, &mut reader, &mut out)?;
         assert!(rt; out.bytes.as_slice() == input);
     }
     Ok(())

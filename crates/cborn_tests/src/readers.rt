@@ -53,12 +53,8 @@ fn inputs_within_a_bound(rt: HostRuntime) -> Result<(), Fail> {
     let result = load_within(rt.alloc(), Limit::USUAL, 4, Kind::Wire, &mut long);
     assert_eq!(rt; result.err(), Some(EngineFault::TooLong));
     assert_eq!(rt; long.rest.len(), 2);
-    let nodes = load(
-        rt.alloc(),
-        Limit::USUAL,
-        Kind::Wire,
-        &mut Bytes::new(INPUT, 1),
-    )?;
+    let mut bytes = Bytes::new(INPUT, 1);
+    let nodes = load(rt.alloc(), Limit::USUAL, Kind::Wire, &mut bytes)?;
     assert_eq!(rt; nodes.len(), 1);
     Ok(())
 }

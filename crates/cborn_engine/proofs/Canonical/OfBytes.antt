@@ -34,27 +34,21 @@ values-listed (value v vs) = ap (value v) (values-listed vs)
 
 mean_listed : (ts : Trees) (vs : Values) → AllMean ts vs → AllZip Means (tree_list ts) (value_list vs)
 mean_listed no_item no_values h = tt
-mean_listed no_item (value v vs) h = absurd h
-mean_listed (more t ts) no_values h = absurd h
 mean_listed (more t ts) (value v vs) h = (h.0, mean_listed ts vs h.1)
+mean_listed _ _ h = absurd h
 
 same_listed : (vs ws : Values) → SameValues vs ws → AllZip Same (value_list vs) (value_list ws)
 same_listed no_values no_values h = tt
-same_listed no_values (value w ws) h = absurd h
-same_listed (value v vs) no_values h = absurd h
 same_listed (value v vs) (value w ws) h = (h.0, same_listed vs ws h.1)
-
-same_values : (vs ws : Values) → AllZip Same (value_list vs) (value_list ws) → SameValues vs ws
-same_values no_values no_values h = tt
-same_values no_values (value w ws) h = absurd h
-same_values (value v vs) no_values h = absurd h
-same_values (value v vs) (value w ws) h = (h.0, same_values vs ws h.1)
+same_listed _ _ h = absurd h
 
 same_of : (vs : Values) (ws : List Value) → AllZip Same (value_list vs) ws → SameValues vs (values_of ws)
 same_of no_values [] h = tt
-same_of no_values (w ∷ ws) h = absurd h
-same_of (value v vs) [] h = absurd h
 same_of (value v vs) (w ∷ ws) h = (h.0, same_of vs ws h.1)
+same_of _ _ h = absurd h
+
+same_values : (vs ws : Values) → AllZip Same (value_list vs) (value_list ws) → SameValues vs ws
+same_values vs ws h = subst (SameValues vs) (values-listed ws) (same_of vs (value_list ws) h)
 
 -- ---- what an input of bytes holds, its bytes hold
 

@@ -68,8 +68,6 @@ Backed r e = AreBytes (e.0 ++ e.1) → PlainEntry e
 
 entries_of : (rs : List (Value × Value)) (es : List Entry) → AllZip Backed rs es → AreBytes (joined es) → PlainEntries es (length rs)
 entries_of [] [] h are = record { nodes = no_entry; counted = refl; spells = refl; fits = tt; reported = refl }
-entries_of [] (e ∷ es) h are = absurd h
-entries_of (r ∷ rs) [] h are = absurd h
 entries_of (r ∷ rs) (e ∷ es) h are =
     let one = h.0 (bytes-left (e.0 ++ e.1) (joined es) are) in
     let rest = entries_of rs es h.1 (bytes-right (e.0 ++ e.1) (joined es) are) in
@@ -80,6 +78,7 @@ entries_of (r ∷ rs) (e ∷ es) h are =
       fits = (one.key.fits, one.val.fits, rest.fits);
       reported = λ i. (one.key.reported i ++ (codes ": " ++ one.val.reported i)) ∷ rest.reported i;
     }
+entries_of _ _ h are = absurd h
 
 module _ (order : List ℕ → List ℕ → Ordering) where
   a_map : (ps : Couples) (x : List ℕ) → AreBytes x → Det order (dict ps) x → ((es : List Entry) → DetPairs order ps es → AllZip Backed (listed ps) es) → PlainNode x
@@ -131,9 +130,8 @@ module _ (order : List ℕ → List ℕ → Ordering) where
 
     some_entries : (ps : Couples) (es : List Entry) → DetPairs order ps es → AllZip Backed (listed ps) es
     some_entries no_pairs [] d = tt
-    some_entries no_pairs (e ∷ es) d = absurd d
-    some_entries (pair k v ps) [] d = absurd d
     some_entries (pair k v ps) (e ∷ es) d = ((λ are. record { key = a_node k e.0 (bytes-left e.0 e.1 are) d.0; val = a_node v e.1 (bytes-right e.0 e.1 are) d.1 }), some_entries ps es d.2)
+    some_entries _ _ d = absurd d
 
   sequence : (vs : List Value) (x : List ℕ) → AreBytes x → DetSeq order vs x → PlainNodes x (length vs)
   sequence [] x are d = record { nodes = no_item; counted = refl; spells = sym d; fits = tt; reported = refl }

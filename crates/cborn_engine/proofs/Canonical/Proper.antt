@@ -41,26 +41,22 @@ module _ (order : List ℕ → List ℕ → Ordering) where
 
     pub all_proper : (ts : Trees) (vs : Values) (x : List ℕ) → FitsAll ts → AllMean ts vs → DetValues order vs x → AreProper vs
     all_proper no_item no_values x f m d = tt
-    all_proper no_item (value v vs) x f m d = absurd m
-    all_proper (more t ts) no_values x f m d = absurd m
     all_proper (more t ts) (value v vs) x f m d = (proper t v d.0 f.0 m.0 d.2, all_proper ts vs d.1 f.1 m.1 d.3)
+    all_proper _ _ x f m d = absurd m
 
     entries_proper : (es : Entries) (ps : Couples) (xs : List Entry) → FitsEntries es → EntriesMean es ps → DetPairs order ps xs → HasProperPairs ps
     entries_proper no_entry no_pairs xs f m d = tt
-    entries_proper no_entry (pair a b ps) xs f m d = absurd m
-    entries_proper (entry k v es) no_pairs xs f m d = absurd m
     entries_proper (entry k v es) (pair a b ps) [] f m d = absurd d
     entries_proper (entry k v es) (pair a b ps) (x ∷ xs) f m d = (proper k a x.0 f.0 m.0 d.0, proper v b x.1 f.1 m.1 d.1, entries_proper es ps xs f.2 m.2 d.2)
+    entries_proper _ _ xs f m d = absurd m
 
   pub sequence_proper : (ns : List Tree) (vs : List Value) (x : List ℕ) → FitsAll (trees ns) → AllZip Means ns vs → DetSeq order vs x → AllByRecursion IsProper vs
   sequence_proper [] [] x f m d = tt
-  sequence_proper [] (v ∷ vs) x f m d = absurd m
-  sequence_proper (n ∷ ns) [] x f m d = absurd m
   sequence_proper (n ∷ ns) (v ∷ vs) x f m d = (proper n v d.0 f.0 m.0 d.2, sequence_proper ns vs d.1 f.1 m.1 d.3)
+  sequence_proper _ _ x f m d = absurd m
 
 -- it is no deeper than the nodes
 pub sequence_shallow : (limit : ℕ) (ns : List Tree) (vs : List Value) → FitsAll (trees ns) → depth_all (trees ns) ≤ limit → AllZip Means ns vs → AreShallow limit vs
 sequence_shallow limit [] [] f l m = tt
-sequence_shallow limit [] (v ∷ vs) f l m = absurd m
-sequence_shallow limit (n ∷ ns) [] f l m = absurd m
 sequence_shallow limit (n ∷ ns) (v ∷ vs) f l m = (omega (arith, meaning_shallow n v f.0 m.0, l), sequence_shallow limit ns vs f.1 (omega (arith, l)) m.1)
+sequence_shallow limit _ _ f l m = absurd m

@@ -52,14 +52,13 @@ pub record AreSound (limit : ℕ) (vs : List Value) : Type 0 where
 
 pub nodes_sound : (limit : ℕ) (ns : List Tree) (vs : List Value) → FitsAll (trees ns) → depth_all (trees ns) ≤ limit → length (spelled_all (trees ns)) < 2 ^ 64 → AllZip Means ns vs → AreSound limit vs
 nodes_sound limit [] [] f d l h = record { proper = tt; shallow = tt }
-nodes_sound limit [] (v ∷ vs) f d l h = absurd h
-nodes_sound limit (n ∷ ns) [] f d l h = absurd h
 nodes_sound limit (n ∷ ns) (v ∷ vs) f d l h =
     let rest = nodes_sound limit ns vs f.1 (omega (arith, d)) (right (spelled n) (spelled_all (trees ns)) l) h.1 in
     record {
       proper = (meaning_valid n v f.0 (left (spelled n) (spelled_all (trees ns)) l) h.0, rest.proper);
       shallow = (omega (arith, meaning_shallow n v f.0 h.0, d), rest.shallow);
     }
+nodes_sound limit _ _ f d l h = absurd h
 
 pub held_is_sound : (limit : ℕ) (input : List ℕ) (vs : List Value) → length input < 2 ^ 64 → Holds kind.Wire limit input vs → AreSound limit vs
 held_is_sound limit input vs l h =

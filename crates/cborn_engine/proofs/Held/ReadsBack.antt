@@ -58,51 +58,15 @@ pub record EntriesReadBack (deep p : ℕ) (rs : List (Value × Value)) (es : Lis
 deep_integer : (s : Bool) (m : List ℕ) → 2 ^ 64 ≤ big_endian m → 1 ≤ value_depth (integer s m)
 deep_integer s m h = let e : ltb (big_endian m) (2 ^ 64) ≡ false = le-ltb (big_endian m) (2 ^ 64) h in rw e (omega arith)
 
+-- a node that means the item itself
+itself : (p : ℕ) (v : Value) (x : List ℕ) (t : Tree) → Same v v → IsProper v → spelled t ≡ x → Fits t → Placed p t → Means t v → depth t ≤ value_depth v → ReadsBack p v x
+itself p v x t same proper spells fits placed means shallow = record { node = t; item = v; spells = spells; fits = fits; placed = placed; means = means; same = same; proper = proper; shallow = shallow }
+
 integer_back : (p : ℕ) (s : Bool) (m x : List ℕ) → IsProper (integer s m) → IsInteger s m x → ReadsBack p (integer s m) x
-integer_back p false m x h (inl d) = record {
-  node = Uint p (least (big_endian m)) (big_endian m);
-  item = integer false m;
-  spells = sym d.1.1;
-  fits = d.1.0;
-  placed = refl;
-  means = (m, h.0, h.1, refl, refl);
-  same = refl;
-  proper = h;
-  shallow = omega arith;
-}
-integer_back p true m x h (inl d) = record {
-  node = Nint p (least (big_endian m)) (big_endian m);
-  item = integer true m;
-  spells = sym d.1.1;
-  fits = d.1.0;
-  placed = refl;
-  means = (m, h.0, h.1, refl, refl);
-  same = refl;
-  proper = h;
-  shallow = omega arith;
-}
-integer_back p false m x h (inr d) = record {
-  node = Tagged p (least 2) 2 (Bytes (p + length (head Tag (Given (least 2) 2))) (least (length m)) m);
-  item = integer false m;
-  spells = (λ i. sym d.3.1 i ++ (sym d.4.1.1 i ++ m)) ∙ ap (λ l. d.1 ++ l) (sym d.4.2) ∙ sym d.5;
-  fits = (d.3.0, (d.4.1.0, h.0));
-  placed = (refl, refl);
-  means = inl (refl, (m, refl, (m, h.0, h.1, refl, refl)));
-  same = refl;
-  proper = h;
-  shallow = deep_integer false m d.0;
-}
-integer_back p true m x h (inr d) = record {
-  node = Tagged p (least 3) 3 (Bytes (p + length (head Tag (Given (least 3) 3))) (least (length m)) m);
-  item = integer true m;
-  spells = (λ i. sym d.3.1 i ++ (sym d.4.1.1 i ++ m)) ∙ ap (λ l. d.1 ++ l) (sym d.4.2) ∙ sym d.5;
-  fits = (d.3.0, (d.4.1.0, h.0));
-  placed = (refl, refl);
-  means = inr (inl (refl, (m, refl, (m, h.0, h.1, refl, refl))));
-  same = refl;
-  proper = h;
-  shallow = deep_integer true m d.0;
-}
+integer_back p false m x h (inl d) = itself p (integer false m) x (Uint p (least (big_endian m)) (big_endian m)) refl h (sym d.1.1) d.1.0 refl (m, h.0, h.1, refl, refl) (omega arith)
+integer_back p true m x h (inl d) = itself p (integer true m) x (Nint p (least (big_endian m)) (big_endian m)) refl h (sym d.1.1) d.1.0 refl (m, h.0, h.1, refl, refl) (omega arith)
+integer_back p false m x h (inr d) = itself p (integer false m) x (Tagged p (least 2) 2 (Bytes (p + length (head Tag (Given (least 2) 2))) (least (length m)) m)) refl h ((λ i. sym d.3.1 i ++ (sym d.4.1.1 i ++ m)) ∙ ap (λ l. d.1 ++ l) (sym d.4.2) ∙ sym d.5) (d.3.0, (d.4.1.0, h.0)) (refl, refl) (inl (refl, (m, refl, (m, h.0, h.1, refl, refl)))) (deep_integer false m d.0)
+integer_back p true m x h (inr d) = itself p (integer true m) x (Tagged p (least 3) 3 (Bytes (p + length (head Tag (Given (least 3) 3))) (least (length m)) m)) refl h ((λ i. sym d.3.1 i ++ (sym d.4.1.1 i ++ m)) ∙ ap (λ l. d.1 ++ l) (sym d.4.2) ∙ sym d.5) (d.3.0, (d.4.1.0, h.0)) (refl, refl) (inr (inl (refl, (m, refl, (m, h.0, h.1, refl, refl))))) (deep_integer true m d.0)
 
 simple_back : (p n : ℕ) (x : List ℕ) → IsTrue (is_simple_value n) → IsLeastHead 7 n x → ReadsBack p (simple n) x
 simple_back p n x v d =
@@ -118,8 +82,6 @@ module _ (order : List ℕ → List ℕ → Ordering) (laws : IsKeyOrder order) 
   -- entries one after another
   entries_back : (deep p : ℕ) (rs : List (Value × Value)) (es : List Entry) → AllZip (Backed deep) rs es → EntriesReadBack deep p rs es
   entries_back deep p [] [] h = record { nodes = no_entry; couples = no_pairs; spells = refl; counted = refl; fits = tt; placed = tt; mean = tt; same = tt; proper = tt; as_many = refl; shallow = omega arith }
-  entries_back deep p [] (e ∷ es) h = absurd h
-  entries_back deep p (r ∷ rs) [] h = absurd h
   entries_back deep p (r ∷ rs) (e ∷ es) h =
       let one : EntryReadsBack deep p r e = h.0.0 p in
       let more : EntriesReadBack deep (p + length e.0 + length e.1) rs es = entries_back deep (p + length e.0 + length e.1) rs es h.1 in
@@ -142,6 +104,7 @@ module _ (order : List ℕ → List ℕ → Ordering) (laws : IsKeyOrder order) 
         as_many = ap suc more.as_many;
         shallow = omega (arith, one.key.shallow, one.val.shallow, one.key_shallow, one.value_shallow, more.shallow);
       }
+  entries_back deep p _ _ h = absurd h
 
   -- a key whose encoding is below the others' is new among them
   new_among : (deep : ℕ) (a r : Value) (k : List ℕ) (ps : Couples) (rs : List (Value × Value)) (es : List Entry) → IsProper r → Det order r k → Same a r → SamePairs ps rs → AllZip (Backed deep) rs es → AllByRecursion (λ (g : Entry). order k g.0 ≡ Less) es → IsNew a ps
@@ -239,12 +202,11 @@ module _ (order : List ℕ → List ℕ → Ordering) (laws : IsKeyOrder order) 
 
     pairs_read_back : (deep : ℕ) (ps : Couples) (es : List Entry) → HasProperPairs ps → pairs_depth ps ≤ deep → DetPairs order ps es → AllZip (Backed deep) (listed ps) es
     pairs_read_back deep no_pairs [] h l d = tt
-    pairs_read_back deep no_pairs (e ∷ es) h l d = absurd d
-    pairs_read_back deep (pair k v ps) [] h l d = absurd d
     pairs_read_back deep (pair k v ps) (e ∷ es) h l d = (
       (λ p. record { key = reads_back p k e.0 h.0 d.0; val = reads_back (p + length e.0) v e.1 h.1 d.1; key_shallow = omega (arith, l); value_shallow = omega (arith, l) }, h.0, d.0),
       pairs_read_back deep ps es h.2 (omega (arith, l)) d.2,
     )
+    pairs_read_back deep _ _ h l d = absurd d
 
 -- the bytes spell nodes, one after another from p on, that mean the same items as these, and are no deeper
 pub record SequenceReadsBack (deep p : ℕ) (vs : List Value) (x : List ℕ) : Type 0 where

@@ -1,6 +1,6 @@
 -- What a loop over a writer knows.
 use Rattle.cborn_engine.proofs.Common.{◌≡◌, ◌≢◌, ℕ, zero, suc, ◌+◌, ◌-◌, ◌<◌, List, length, take, drop, Option, Ok, Err, refl, sym, ◌∙◌, ap, subst, length-drop, Appends, Appends-trans, take-append-drop, take_rest, take-add, drop-cons, Sends, failures_after_write, one_more}
-use Rattle.cborn_engine.specs.declared.stream_faults.OutputFault.TheVariants.{WriteFault}
+use Rattle.cborn_engine.specs.declared.faults.EngineFault.TheVariants.{WriteFault}
 
 -- a write that takes some bytes is no failure
 pub no_failure : (n : ℕ) (piece : List ℕ) (count : ℕ) → n ≢ 0 → failures_after_write {E = Unit} (Ok n) piece count ≡ count
@@ -28,4 +28,4 @@ length-rest_after bytes sent = ap length (take_rest bytes sent) ∙ length-drop 
 
 -- a front of the bytes went out
 pub front_out : (bytes : List ℕ) (sent : ℕ) (a b : Option (List ℕ)) → Appends a b (take sent bytes) → Sends a b bytes (Err WriteFault)
-front_out bytes sent a b h = record { output = take sent bytes; written = h; answer = (drop sent bytes, take-append-drop sent bytes) }
+front_out bytes sent a b h = record { output = take sent bytes; written = h; answer = (refl, (drop sent bytes, take-append-drop sent bytes)) }

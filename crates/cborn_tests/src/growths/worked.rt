@@ -3,6 +3,7 @@ use super::super::memory::Bytes;
 use cborn_det::encode;
 use cborn_edn::{EdnFault, EdnReason, show};
 use cborn_engine::{EngineFault, Kind, load};
+use cborn_judge::DefectReason::{EndlessLength, KeyOrder, LongHead, LooseBignum};
 use cborn_judge::{Defect, DefectReason, first_defect, judge};
 use cborn_model::{Bytewise, LengthFirst, Limit, Spelled};
 use cborn_wire::{Feeder, WireFault, spell, spell_all};
@@ -10,152 +11,102 @@ use std::alloc::{AllocError, Global};
 use std::process::Abort;
 use std::test::Fail;
 
-/// The bytes of an item, its text, its encodings bytewise and length-first, and its first defect.
-type Worked<'a> = (
-    &'a [u8],
-    &'a str,
-    &'a [u8],
-    &'a [u8],
-    Option<(u64, DefectReason)>,
-);
+/// The bytes of an item, its text, its encoding in either order of keys, and its first defect.
+type Worked<'a> = (&'a [u8], &'a str, &'a [u8], Option<(u64, DefectReason)>);
 
-/// Maps with keys in falling order, a map with a string in chunks, bignums that are loose, in chunks,
-/// without bytes or with a long head, strings and tags, keys of two kinds with the same bytes, and a
-/// defect in a key, in a chunk and in a value.
-const WORKED: [Worked<'static>; 19] = [
+/// A map with keys in falling order, and its encoding length-first.
+const FALLING: (Worked<'static>, &[u8]) = (
     (
         b"\xa8\xf4\x00\x81\x20\x00\x81\x18\x64\x00\x62\x61\x61\x00\x61\x7a\x00\x20\x00\x18\x64\x00\x0a\x00",
-        "{false: 0, [-1]: 0, [100]: 0, \"aa\": 0, \"z\": 0, -1: 0, 100: 0, 10: 0}\n",
+        "{false: 0, [-1]: 0, [100]: 0, \"aa\": 0, \"z\": 0, -1: 0, 100: 0, 10: 0}",
         b"\xa8\x0a\x00\x18\x64\x00\x20\x00\x61\x7a\x00\x62\x61\x61\x00\x81\x18\x64\x00\x81\x20\x00\xf4\x00",
-        b"\xa8\x0a\x00\x20\x00\xf4\x00\x18\x64\x00\x61\x7a\x00\x81\x20\x00\x62\x61\x61\x00\x81\x18\x64\x00",
-        Some((3, DefectReason::KeyOrder)),
+        Some((3, KeyOrder)),
     ),
+    b"\xa8\x0a\x00\x20\x00\xf4\x00\x18\x64\x00\x61\x7a\x00\x81\x20\x00\x62\x61\x61\x00\x81\x18\x64\x00",
+);
+
+/// A map with keys in falling order, a map with a string in chunks, bignums that are loose, in chunks,
+/// without bytes or with a long head, strings and tags, keys of two kinds with the same bytes, and a
+/// defect in a key, in a chunk and in a value.
+const WORKED: [Worked<'static>; 18] = [
     (
         b"\xa2\x03\x04\x01\x81\x02",
-        "{3: 4, 1: [2]}\n",
+        "{3: 4, 1: [2]}",
         b"\xa2\x01\x81\x02\x03\x04",
-        b"\xa2\x01\x81\x02\x03\x04",
-        Some((3, DefectReason::KeyOrder)),
+        Some((3, KeyOrder)),
     ),
     (
         b"\xbf\x61\x7a\x01\x0a\x5f\x41\x01\xff\xff",
-        "{_ \"z\": 1, 10: (_ h'01')}\n",
+        "{_ \"z\": 1, 10: (_ h'01')}",
         b"\xa2\x0a\x41\x01\x61\x7a\x01",
-        b"\xa2\x0a\x41\x01\x61\x7a\x01",
-        Some((0, DefectReason::EndlessLength)),
+        Some((0, EndlessLength)),
     ),
-    (
-        b"\xc2\x41\x01",
-        "2(h'01')\n",
-        b"\x01",
-        b"\x01",
-        Some((0, DefectReason::LooseBignum)),
-    ),
+    (b"\xc2\x41\x01", "2(h'01')", b"\x01", Some((0, LooseBignum))),
     (
         b"\xc2\x5f\x41\x01\xff",
-        "2((_ h'01'))\n",
+        "2((_ h'01'))",
         b"\x01",
-        b"\x01",
-        Some((0, DefectReason::LooseBignum)),
+        Some((0, LooseBignum)),
     ),
     (
         b"\xc2\x58\x09\x01\x00\x00\x00\x00\x00\x00\x00\x00",
-        "2(h'010000000000000000'_0)\n",
+        "2(h'010000000000000000'_0)",
         b"\xc2\x49\x01\x00\x00\x00\x00\x00\x00\x00\x00",
-        b"\xc2\x49\x01\x00\x00\x00\x00\x00\x00\x00\x00",
-        Some((1, DefectReason::LongHead)),
+        Some((1, LongHead)),
     ),
     (
         b"\xc3\x49\x01\x00\x00\x00\x00\x00\x00\x00\x00",
-        "3(h'010000000000000000')\n",
-        b"\xc3\x49\x01\x00\x00\x00\x00\x00\x00\x00\x00",
+        "3(h'010000000000000000')",
         b"\xc3\x49\x01\x00\x00\x00\x00\x00\x00\x00\x00",
         None,
     ),
     (
         b"\x5f\x41\x01\xff",
-        "(_ h'01')\n",
+        "(_ h'01')",
         b"\x41\x01",
-        b"\x41\x01",
-        Some((0, DefectReason::EndlessLength)),
+        Some((0, EndlessLength)),
     ),
     (
         b"\x64\x22\x5c\x0a\x01",
-        "\"\\\"\\\\\\n\\u0001\"\n",
-        b"\x64\x22\x5c\x0a\x01",
+        "\"\\\"\\\\\\n\\u0001\"",
         b"\x64\x22\x5c\x0a\x01",
         None,
     ),
     (
         b"\x98\x02\x18\x01\x58\x01\x61",
-        "[_0 1_0, h'61'_0]\n",
+        "[_0 1_0, h'61'_0]",
         b"\x82\x01\x41\x61",
-        b"\x82\x01\x41\x61",
-        Some((0, DefectReason::LongHead)),
+        Some((0, LongHead)),
     ),
-    (
-        b"\xd8\x18\x41\x01",
-        "24(h'01')\n",
-        b"\xd8\x18\x41\x01",
-        b"\xd8\x18\x41\x01",
-        None,
-    ),
-    (
-        b"\xd9\xd9\xf7\x80",
-        "55799([])\n",
-        b"\xd9\xd9\xf7\x80",
-        b"\xd9\xd9\xf7\x80",
-        None,
-    ),
+    (b"\xd8\x18\x41\x01", "24(h'01')", b"\xd8\x18\x41\x01", None),
+    (b"\xd9\xd9\xf7\x80", "55799([])", b"\xd9\xd9\xf7\x80", None),
     (
         b"\xa2\x41\x61\x00\x61\x61\x00",
-        "{h'61': 0, \"a\": 0}\n",
-        b"\xa2\x41\x61\x00\x61\x61\x00",
+        "{h'61': 0, \"a\": 0}",
         b"\xa2\x41\x61\x00\x61\x61\x00",
         None,
     ),
-    (
-        b"\xc2\x40",
-        "2(h'')\n",
-        b"\x00",
-        b"\x00",
-        Some((0, DefectReason::LooseBignum)),
-    ),
-    (
-        b"\xc3\x40",
-        "3(h'')\n",
-        b"\x20",
-        b"\x20",
-        Some((0, DefectReason::LooseBignum)),
-    ),
+    (b"\xc2\x40", "2(h'')", b"\x00", Some((0, LooseBignum))),
+    (b"\xc3\x40", "3(h'')", b"\x20", Some((0, LooseBignum))),
     (
         b"\xa2\x02\x00\x18\x01\x00",
-        "{2: 0, 1_0: 0}\n",
+        "{2: 0, 1_0: 0}",
         b"\xa2\x01\x00\x02\x00",
-        b"\xa2\x01\x00\x02\x00",
-        Some((3, DefectReason::LongHead)),
+        Some((3, LongHead)),
     ),
     (
         b"\x5f\x58\x01\x61\xff",
-        "(_ h'61'_0)\n",
+        "(_ h'61'_0)",
         b"\x41\x61",
-        b"\x41\x61",
-        Some((0, DefectReason::EndlessLength)),
+        Some((0, EndlessLength)),
     ),
     (
         b"\xa1\x01\xa2\x02\x00\x01\x00",
-        "{1: {2: 0, 1: 0}}\n",
+        "{1: {2: 0, 1: 0}}",
         b"\xa1\x01\xa2\x01\x00\x02\x00",
-        b"\xa1\x01\xa2\x01\x00\x02\x00",
-        Some((5, DefectReason::KeyOrder)),
+        Some((5, KeyOrder)),
     ),
-    (
-        b"\x81\x18\x18",
-        "[24]\n",
-        b"\x81\x18\x18",
-        b"\x81\x18\x18",
-        None,
-    ),
+    (b"\x81\x18\x18", "[24]", b"\x81\x18\x18", None),
 ];
 
 /// The nodes of bytes that are fed in two pieces.
@@ -169,21 +120,26 @@ fn fed(rt: &impl Abort, alloc: Global, bytes: &[u8]) -> Result<Vec<Spelled>, Wir
 }
 
 /// Asserts that the calls that give or accept nodes have the right answers.
-fn is_worked(rt: &impl Abort, alloc: Global, worked: Worked<'_>) -> Result<(), Fail> {
-    let (bytes, text, bytewise, length_first, defect) = worked;
+fn is_worked(
+    rt: &impl Abort,
+    alloc: Global,
+    worked: Worked<'_>,
+    length_first: &[u8],
+) -> Result<(), Fail> {
+    let (bytes, text, bytewise, defect) = worked;
     let nodes = fed(rt, alloc, bytes)?;
     let node = nodes.first().ok_or("no item")?;
     assert!(rt; spell(alloc, node)?.as_slice() == bytes, "{text}");
-    assert_eq!(rt; show(alloc, &nodes)?.as_str(), text);
+    assert_eq!(rt;
+        show(alloc, &nodes)?.as_str().strip_suffix("\n"),
+        Some(text)
+    );
     let defect = defect.map(|(place, reason)| Defect { place, reason });
     assert_eq!(rt; first_defect::<Bytewise>(alloc, node)?, defect, "{text}");
     let item = judge(alloc, node)?;
+    assert!(rt; *encode::<Bytewise>(alloc, &item)? == *bytewise, "{text}");
     assert!(rt;
-        encode::<Bytewise>(alloc, &item)?.as_slice() == bytewise,
-        "{text}"
-    );
-    assert!(rt;
-        encode::<LengthFirst>(alloc, &item)?.as_slice() == length_first,
+        *encode::<LengthFirst>(alloc, &item)? == *length_first,
         "{text}"
     );
     Ok(())
@@ -192,8 +148,10 @@ fn is_worked(rt: &impl Abort, alloc: Global, worked: Worked<'_>) -> Result<(), F
 /// Catches a call that gives up on a form.
 #[test]
 fn items_worked(rt: HostRuntime) -> Result<(), Fail> {
+    let (falling, length_first) = FALLING;
+    is_worked(&rt, rt.alloc(), falling, length_first)?;
     for worked in WORKED {
-        is_worked(&rt, rt.alloc(), worked)?;
+        is_worked(&rt, rt.alloc(), worked, worked.2)?;
     }
     Ok(())
 }
@@ -221,9 +179,8 @@ fn nest_worked(rt: HostRuntime) -> Result<(), Fail> {
     let bytes = nested(rt.alloc(), 0x81, 128, b"\x00", b"")?;
     let text = nested(rt.alloc(), b'[', 128, b"0", b"]")?;
     assert_eq!(rt; spelled(rt.alloc(), Kind::Notation, &text)?, bytes);
-    let mut line = String::from_utf8(text)?;
-    line.push('\n')?;
-    is_worked(&rt, rt.alloc(), (&bytes, &line, &bytes, &bytes, None))
+    let text = String::from_utf8(text)?;
+    is_worked(&rt, rt.alloc(), (&bytes, &text, &bytes, None), &bytes)
 }
 
 /// Texts, and the bytes that they spell: strings in pieces, embedded items, escapes, and an integer
