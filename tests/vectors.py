@@ -13,6 +13,7 @@ import itertools
 import pathlib
 import sys
 import tempfile
+import textwrap
 
 import reading
 import shared
@@ -99,10 +100,10 @@ def tried(library, program, those):
     return count, wrong
 
 
-def literal(content, is_text):
-    """Bytes as a literal of Rattle: those of a text by its characters, as far as these are ASCII."""
+def literal(content):
+    """The bytes of a text as a literal of Rattle: by its characters, as far as these are ASCII."""
     plain = {chr(byte): chr(byte) for byte in range(32, 127)} | {"\\": "\\\\", '"': '\\"', "\n": "\\n"}
-    written = (is_text and plain.get(chr(byte)) or f"\\x{byte:02x}" for byte in content)
+    written = (plain.get(chr(byte)) or f"\\x{byte:02x}" for byte in content)
     return f'b"{"".join(written)}"'
 
 
@@ -113,10 +114,11 @@ def inputs_as_module(path):
         if len(content) < 1024:
             found["BYTES" if "wire" in kinds else "TEXTS"][content] = None
     yield "//! The inputs of tests/fronts.vectors, made by tests/vectors.py: all but the maps of 1,000 keys.\n"
-    for name, about in ("BYTES", "Bytes."), ("TEXTS", "Texts of the notation, of which two aren't UTF-8."):
-        yield f"/// {about}\npub const {name}: [&[u8]; {len(found[name])}] = ["
-        yield from (f"    {literal(content, name == 'TEXTS')}," for content in found[name])
-        yield "];\n"
+    words = textwrap.fill(" ".join(content.hex() for content in found["BYTES"] if content), 100, break_long_words=False)
+    yield f'/// Bytes, in hexadecimal. The input without bytes is left out.\npub const BYTES: &str = "\\\n{words}";\n'
+    yield f"/// Texts of the notation, of which two aren't UTF-8.\npub const TEXTS: [&[u8]; {len(found['TEXTS'])}] = ["
+    yield from (f"    {literal(content)}," for content in found["TEXTS"])
+    yield "];\n"
 
 
 def main():

@@ -6,7 +6,7 @@ ghost use Rattle.cborn_engine.specs.Failures.{failures_after};
 
 use cborn_engine::Source;
 use cborn_explain::Look;
-use std::alloc::{AllocError, Global};
+use std::alloc::AllocError;
 use std::io::{ErrorKind, Read};
 use std::rt::Files;
 use std::{fs, io};
@@ -126,51 +126,20 @@ pub enum Notes {
     Nothing,
     /// What its bytes look like.
     Look(Look),
-    /// All bytes that were read of it.
-    Whole(Kept),
+    /// All bytes that were read of it, or that memory for one of them was refused.
+    Whole(Result<Vec<u8>, AllocError>),
 }
 
 impl Notes {
     fn see(&mut self, bytes: &[u8]) {
         match self {
-            Notes::Nothing => {}
             Notes::Look(look) => look.see(bytes),
-            Notes::Whole(kept) => kept.see(bytes),
-        }
-    }
-}
-
-/// The bytes of an input that were read.
-#[derive(Drop)]
-pub struct Kept {
-    bytes: Vec<u8>,
-    /// The refused growth for which some bytes are missing.
-    lost: Option<AllocError>,
-}
-
-impl Kept {
-    /// No bytes yet.
-    pub fn new(alloc: Global) -> Self {
-        Kept {
-            bytes: Vec::new(alloc),
-            lost: None,
-        }
-    }
-
-    fn see(&mut self, bytes: &[u8]) {
-        if let Err(why) = self.bytes.extend_from_slice(bytes) {
-            self.lost = Some(why);
-        }
-    }
-
-    /// All bytes that were read.
-    ///
-    /// # Errors
-    /// `AllocError` where memory for some of them was refused.
-    pub fn bytes(&self) -> Result<&[u8], AllocError> {
-        match self.lost {
-            None => Ok(self.bytes.as_slice()),
-            Some(why) => Err(why),
+            Notes::Whole(Ok(kept)) => {
+                if let Err(refused) = kept.extend_from_slice(bytes) {
+                    *self = Notes::Whole(Err(refused));
+                }
+            }
+            _ => {}
         }
     }
 }

@@ -5,15 +5,35 @@ ghost use Rattle.cborn_engine.specs.declared.EngineFault.TheVariants as fault;
 ghost use Rattle.cborn_engine.specs.declared.CountFault.TheVariants as counted;
 ghost use Rattle.cborn.specs.declared.lines.Trouble.TheVariants as trouble;
 
-use crate::names::FileName;
+use crate::requests::Task;
 use crate::statuses::{DIFFERENT, DONE, FAILED, REFUSED};
 use cborn_engine::{CompareCountFault, CountFault, Counted, EngineFault};
+use cborn_explain::Escaped;
 use cborn_judge::Defect;
 use itoa::Buffer;
-use std::alloc::Global;
+use std::alloc::{AllocError, Global};
 use std::fmt::{Display, Formatter};
 use std::io::Write;
 use std::{fmt, io};
+
+/// The name of a file. It displays with its characters escaped, since it may hold any, and with the
+/// backslash escaped too: a name that has one doesn't look like another whose characters are escaped.
+#[derive(Clone, Copy)]
+pub struct FileName<'a> {
+    pub text: &'a str,
+}
+
+impl Display for FileName<'_> {
+    fn fmt<W: fmt::Write>(&self, f: &mut Formatter<W>) -> fmt::Result {
+        for (index, piece) in self.text.split('\\').enumerate() {
+            if index > 0 {
+                write!(f, "\\u005c")?;
+            }
+            write!(f, "{}", Escaped { text: piece })?;
+        }
+        Ok(())
+    }
+}
 
 /// Why a task wasn't done.
 #[derive(Clone, Copy)]
@@ -56,6 +76,14 @@ impl From<EngineFault> for Trouble<'_> {
     }
 }
 
+impl From<AllocError> for Trouble<'_> {
+    ghost from_gives = { λ _ gave. gave ≡ trouble.Engine (counted.Engine fault.OutOfMemory) };
+
+    fn from(refused: AllocError) -> Self {
+        Trouble::Engine(CountFault::from(refused))
+    }
+}
+
 impl From<CountFault> for Trouble<'_> {
     ghost from_gives = { λ why gave. gave ≡ trouble.Engine why };
 
@@ -95,46 +123,30 @@ impl Display for Answer {
     }
 }
 
-/// Prints an answer on a line and flushes it. Answers the exit status that goes with it: 0 or 1.
+/// Prints an answer on a line and flushes it. Answers the exit status that goes with it: 0 or 1. After the
+/// name of a file the line is one write, so that the lines of programs side by side don't mix.
 ///
 /// # Errors
-/// `WriteFault` where the line can't be written or flushed.
-pub fn tell_answer<'a, W: Write>(out: &mut Counted<W>, answer: Answer) -> Result<u8, Trouble<'a>>
-    ensures status { IfOk result (λ status. status ≡ status_of_answer answer) }
-    ensures flushed { OnOk result (out.new.unflushed ≡ 0) }
-    ensures trouble { IfErr result (λ why. why ≡ trouble.Engine (counted.Engine fault.WriteFault)) }
-{
-    match print(out, &answer, "\n") {
-        Ok(()) => Ok(status_of_answer(answer)),
-        Err(_) => Err(Trouble::Engine(CountFault::Engine(EngineFault::WriteFault))),
-    }
-}
-
-/// Prints the name of a file and the answer on it on a line, and flushes it. The line is one write, so
-/// that the lines of programs side by side don't mix. Answers the exit status: 0 or 1.
-///
-/// # Errors
-/// `OutOfMemory` where memory for the line is refused, and `WriteFault` where it can't be written or
-/// flushed.
-pub fn tell_answer_on<'a, W: Write>(
+/// `OutOfMemory` where memory for a line with a name is refused, and `WriteFault` where the line can't be
+/// written or flushed.
+pub fn tell_answer<'a, W: Write>(
     alloc: Global,
     out: &mut Counted<W>,
-    name: &str,
+    name: Option<&str>,
     answer: Answer,
 ) -> Result<u8, Trouble<'a>>
     ensures status { IfOk result (λ status. status ≡ status_of_answer answer) }
     ensures flushed { OnOk result (out.new.unflushed ≡ 0) }
     ensures trouble { IfErr result (λ why. status_of_trouble why ≡ FAILED) }
 {
-    let name = FileName { text: name };
-    let line = match format!(in alloc; "{name}: {answer}\n") {
-        Ok(line) => line,
-        Err(refused) => return Err(Trouble::Engine(CountFault::from(refused))),
-    };
-    match print(out, &line, "") {
-        Ok(()) => Ok(status_of_answer(answer)),
-        Err(_) => Err(Trouble::Engine(CountFault::Engine(EngineFault::WriteFault))),
+    match name {
+        None => print(out, &answer, "\n")?,
+        Some(text) => {
+            let line = format!(in alloc; "{}: {answer}\n", FileName { text })?;
+            print(out, &line, "")?
+        }
     }
+    Ok(status_of_answer(answer))
 }
 
 fn status_of_answer(answer: Answer) -> u8
@@ -149,25 +161,24 @@ fn status_of_answer(answer: Answer) -> u8
 /// Prints `text` and then `end`, and flushes.
 ///
 /// # Errors
-/// The error of the write or the flush that fails.
-pub fn print<W: Write, T: Display>(out: &mut Counted<W>, text: &T, end: &str) -> io::Result<()>
+/// `WriteFault` where the write or the flush fails.
+pub fn print<W: Write, T: Display>(
+    out: &mut Counted<W>,
+    text: &T,
+    end: &str,
+) -> Result<(), EngineFault>
     ensures flushed { OnOk result (out.new.unflushed ≡ 0) }
+    ensures fault { IfErr result (λ why. why ≡ fault.WriteFault) }
 {
-    write!(out, "{text}{end}")?;
-    out.flush()
-}
-
-/// Prints a trouble on a line, and answers its exit status: 2 or more. A write that fails is ignored.
-pub fn tell_trouble<E: Write>(err: &mut E, trouble: Trouble<'_>) -> u8
-    ensures status { result ≡ status_of_trouble trouble.entry }
-    ensures undone { 2 ≤ result }
-{
-    explain_trouble(err, trouble, "")
+    if write!(out, "{text}{end}").is_err() || out.flush().is_err() {
+        return Err(EngineFault::WriteFault);
+    }
+    Ok(())
 }
 
 /// Prints a trouble on a line and `lines` after it, and answers its exit status: 2 or more. A write
 /// that fails is ignored, but `lines` aren't printed where the trouble couldn't be.
-pub fn explain_trouble<E: Write>(err: &mut E, trouble: Trouble<'_>, lines: &str) -> u8
+pub fn tell_trouble<E: Write>(err: &mut E, trouble: Trouble<'_>, lines: &str) -> u8
     ensures status { result ≡ status_of_trouble trouble.entry }
     ensures undone { 2 ≤ result }
 {
@@ -177,12 +188,14 @@ pub fn explain_trouble<E: Write>(err: &mut E, trouble: Trouble<'_>, lines: &str)
     status_of_trouble(trouble)
 }
 
-/// Prints the name of a file on a line and explaining lines after it, if there are any. A write that
-/// fails is ignored.
-pub fn print_lines_on<E: Write>(err: &mut E, name: &str, lines: &str) {
-    if !lines.is_empty() {
-        let name = FileName { text: name };
-        let _ = write!(err, "  file  {name}\n{lines}");
+/// Prints the lines on a task that is done: explanations of one of several files after its name, or hints,
+/// which have it. A write that fails is ignored.
+pub fn print_remarks<E: Write>(err: &mut E, task: &Task<'_>, lines: &str) {
+    match task.named {
+        Some(text) if task.explain && !lines.is_empty() => {
+            let _ = write!(err, "  file  {}\n{lines}", FileName { text });
+        }
+        _ => print_lines(err, lines),
     }
 }
 
@@ -194,23 +207,17 @@ pub fn print_lines<E: Write>(err: &mut E, lines: &str) {
 }
 
 fn print_trouble<E: Write>(err: &mut E, trouble: Trouble<'_>) -> io::Result<()> {
-    match trouble {
-        Trouble::CannotRead(name) => print_after(err, "cborn: cannot read ", name),
-        Trouble::CannotReadFirst(name) => print_after(err, "cborn: first: cannot read ", name),
-        Trouble::CannotReadSecond(name) => print_after(err, "cborn: second: cannot read ", name),
-        Trouble::Engine(fault) => writeln!(err, "cborn: {fault}"),
-        Trouble::Compare(fault) => writeln!(err, "cborn: {fault}"),
-        Trouble::OfFile(name, fault) => {
-            let name = FileName { text: name };
-            writeln!(err, "cborn: {name}: {fault}")
+    let (start, text) = match trouble {
+        Trouble::CannotRead(name) => ("", name),
+        Trouble::CannotReadFirst(name) => ("first: ", name),
+        Trouble::CannotReadSecond(name) => ("second: ", name),
+        Trouble::Engine(fault) => return writeln!(err, "cborn: {fault}"),
+        Trouble::Compare(fault) => return writeln!(err, "cborn: {fault}"),
+        Trouble::OfFile(text, fault) => {
+            return writeln!(err, "cborn: {}: {fault}", FileName { text });
         }
-    }
-}
-
-/// Prints a line that ends with the name of a file.
-fn print_after<E: Write>(err: &mut E, start: &str, name: &str) -> io::Result<()> {
-    let name = FileName { text: name };
-    writeln!(err, "{start}{name}")
+    };
+    writeln!(err, "cborn: {start}cannot read {}", FileName { text })
 }
 
 fn status_of_trouble(trouble: Trouble<'_>) -> u8

@@ -4,39 +4,34 @@
 //! answers the exit status. Here it is given what the system gives: words, files and memory. Where the system
 //! gives no words, [`tell_words`] says so.
 //!
-//! - `options`: from the words to a request, by the argument parser `clap`; `requests`: that request, and its
-//!   task.
+//! - `options`: from the words to a request, by the argument parser `clap`; `requests`: that request, its
+//!   task, and what a run is given.
 //! - `forms`: the commands and their arguments; `help`: the texts of help.
 //! - `misplaced`: what is said of an option that only another command has, or that is meant by another name.
-//! - `systems`: what a run is given.
-//! - `tasks`: the commands, by the calls of `cborn_engine`; `several`: a command on several files.
+//! - `runs`: a run, of one task or of several files that are checked; `tasks`: the commands, by the calls of
+//!   `cborn_engine`.
 //! - `inputs`: the files that they read.
 //! - `outputs`: where their answers go; `saved`: the file that one goes to.
-//! - `lines`: the lines that are printed, and `names` the names in them; `usage` those on a wrong command
-//!   line.
-//! - `remarks`: what else standard error gets. `explanations` has the part that `--explain` asks for.
+//! - `lines`: the lines that are printed, and the names in them; `usage` those on a wrong command line.
+//! - `remarks`: what else standard error gets: explanations, and hints.
 //! - `statuses`: the exit statuses.
 //!
 //! `specs/Statuses.antt` says which exit status goes with what, `specs/Words.antt` when a request has more
 //! than one file to check.
 #![tactic(auto)]
 
-mod explanations;
 mod forms;
 mod help;
 mod inputs;
 mod lines;
 mod misplaced;
-mod names;
 mod options;
 mod outputs;
 mod remarks;
 mod requests;
 mod runs;
 mod saved;
-mod several;
 mod statuses;
-mod systems;
 mod tasks;
 mod usage;
 
@@ -48,9 +43,6 @@ use std::{env, io};
 use usage::tell_words;
 
 /// Runs the program with what the system gives, and answers its exit status.
-///
-/// # Errors
-/// Why the words of the command line can't be had.
 fn run_host(rt: &HostRuntime, alloc: Global) -> io::Result<u8> {
     let mut owned = Vec::new(alloc);
     for word in env::args(rt)? {

@@ -20,21 +20,10 @@ pub fn read_request<'a>(alloc: Global, words: &'a [&'a str]) -> Result<Request<'
     ensures several { IfOk result (λ request. 0 < length request.others.items → IsCheckOfFiles words.now) }
 {
     let mut program = program(alloc)?;
-    request_by(alloc, &mut program, words)
-}
-
-fn request_by<'a>(
-    alloc: Global,
-    program: &mut Command<'a>,
-    words: &'a [&'a str],
-) -> Result<Request<'a>, Error>
-    ensures several { IfOk result (λ request. 0 < length request.others.items → IsCheckOfFiles words.now) }
-{
     match program.try_get_matches_from_mut(words) {
-        Ok(matches) => match request_of(alloc, words, &matches) {
-            Ok(Some(request)) => Ok(request),
-            Ok(None) => Err(no_command(program)),
-            Err(refused) => Err(Error::from(refused)),
+        Ok(matches) => match request_of(alloc, words, &matches)? {
+            Some(request) => Ok(request),
+            None => Err(no_command(&mut program)),
         },
         Err(why) => Err(explained(alloc, words, why)),
     }
@@ -48,19 +37,15 @@ fn no_command(program: &mut Command<'_>) -> Error {
 /// The mistake that `clap` found in the words. Where they have an option that the command lacks, and
 /// there is advice on it, the mistake that gives the advice.
 fn explained(alloc: Global, words: &[&str], why: Error) -> Error {
-    if why.kind() != ErrorKind::UnknownArgument {
-        return why;
-    }
     match advice_on(words) {
-        Some(advice) => advised(alloc, &advice).unwrap_or_else(Error::from),
-        None => why,
+        Some(advice) if why.kind() == ErrorKind::UnknownArgument => advised(
+            alloc, &advice,
+        ).unwrap_or_else(Error::from),
+        _ => why,
     }
 }
 
 /// The mistake whose text is the line of an advice and the usage of its command.
-///
-/// # Errors
-/// `AllocError` where memory is refused.
 fn advised(alloc: Global, advice: &Advice) -> Result<Error, AllocError> {
     let command = command(alloc, advice.command)?;
     let mut command = command.bin_name(advice.command.whole_name)?;
@@ -68,9 +53,6 @@ fn advised(alloc: Global, advice: &Advice) -> Result<Error, AllocError> {
 }
 
 /// What was found in the words. `None`: there is no command.
-///
-/// # Errors
-/// `AllocError` where memory for the names of files is refused.
 fn request_of<'a>(
     alloc: Global,
     words: &[&str],
@@ -81,19 +63,23 @@ fn request_of<'a>(
     let Some((name, found)) = matches.subcommand() else {
         return Ok(None);
     };
-    let Some(task) = task_of(name, found) else {
+    let Some(mut task) = task_of(name, found) else {
         return Ok(None);
     };
     let others = others_of(alloc, words, found)?;
+    if !others.is_empty() {
+        task.named = found.get_str("FILE");
+    }
     Ok(Some(Request { task, others }))
 }
 
 fn task_of<'a>(name: &str, found: &ArgMatches<'a>) -> Option<Task<'a>> {
     Some(Task {
         action: action_of(name, found)?,
+        named: None,
         output: found.get_str("output"),
         order: order_of(found),
-        limit: limit_of(found)?,
+        limit: Limit::new(found.get_one::<u64>("depth")?)?,
         count: if found.get_flag("one") {
             Count::One
         } else {
@@ -104,9 +90,6 @@ fn task_of<'a>(name: &str, found: &ArgMatches<'a>) -> Option<Task<'a>> {
 }
 
 /// The files after the first one of a command line that checks two at least. Of any other there are none.
-///
-/// # Errors
-/// `AllocError` where memory is refused.
 fn others_of<'a>(
     alloc: Global,
     words: &[&str],
@@ -160,10 +143,6 @@ fn is_option(word: &str) -> bool
     }
 }
 
-fn limit_of(found: &ArgMatches<'_>) -> Option<Limit> {
-    Limit::new(found.get_one::<u64>("depth")?)
-}
-
 fn action_of<'a>(name: &str, found: &ArgMatches<'a>) -> Option<Action<'a>> {
     let (from, to) = (kind_of(found, "from"), kind_of(found, "to"));
     let purpose = match name {
@@ -204,20 +183,16 @@ fn kind_of(found: &ArgMatches<'_>, name: &str) -> Kind {
 }
 
 fn program<'a>(alloc: Global) -> Result<Command<'a>, AllocError> {
-    let mut program = named(alloc);
-    for form in COMMANDS {
-        program = program.subcommand(command(alloc, form)?)?;
-    }
-    Ok(program)
-}
-
-fn named<'a>(alloc: Global) -> Command<'a> {
-    Command::new(alloc, "cborn")
+    let mut program = Command::new(alloc, "cborn")
         .version("0.6.0-dev")
         .about(help::PROGRAM)
         .after_long_help(help::PROGRAM_NOTES)
         .subcommand_required(true)
-        .disable_help_subcommand(true)
+        .disable_help_subcommand(true);
+    for form in COMMANDS {
+        program = program.subcommand(command(alloc, form)?)?;
+    }
+    Ok(program)
 }
 
 fn command<'a>(alloc: Global, form: &Form) -> Result<Command<'a>, AllocError> {

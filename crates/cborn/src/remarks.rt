@@ -1,28 +1,19 @@
 //! What standard error gets besides the line of a trouble: explanations, where they are asked for, and
 //! the hint that an input looks like a text. A person at a terminal gets the hint without asking.
 
-use crate::explanations::{explain_compared, explain_defect, explain_fault, explain_kind};
-use crate::inputs::{Kept, Notes};
-use crate::lines::{Answer, Trouble, status_of_fault};
-use crate::names::FileName;
-use crate::requests::{Action, Task};
+use crate::inputs::Notes;
+use crate::lines::{Answer, FileName, Trouble, status_of_fault};
+use crate::requests::{Action, System, Task};
 use crate::statuses::{DONE, REFUSED};
 use cborn_engine::{CompareCountFault, CountFault, EngineFault, Kind};
-use cborn_explain::{Hint, Look};
+use cborn_explain::{
+    Hint, Look, explain_comparison, explain_defect, explain_fault, hint_of, place_of,
+};
 use cborn_model::{KeyOrder, Limit};
 use std::alloc::{AllocError, Global};
 use std::fmt::{Display, Formatter};
 use std::rt::Files;
 use std::{fmt, fs};
-
-/// Who reads standard error.
-#[derive(Clone, Copy)]
-pub enum Audience {
-    /// A person, at a terminal.
-    Person,
-    /// Whatever reads a file or a pipe.
-    Program,
-}
 
 /// An input of a command.
 #[derive(Clone, Copy)]
@@ -70,9 +61,10 @@ const OUT_OF_MEMORY: &str = "  out of memory\n";
 #[derive(Drop)]
 pub struct Remarks<'a> {
     alloc: Global,
-    audience: Audience,
+    /// Whether a person reads them.
+    is_person: bool,
     /// The file that they are on, where it is one of several.
-    file: Option<&'a str>,
+    pub file: Option<&'a str>,
     limit: Limit,
     /// Whether lines that say where and why are wanted.
     explain: bool,
@@ -81,21 +73,16 @@ pub struct Remarks<'a> {
 }
 
 impl<'a> Remarks<'a> {
-    /// No lines yet, for a task. `file` is what it reads where that is one of several files.
-    pub fn new(alloc: Global, audience: Audience, task: &Task<'_>, file: Option<&'a str>) -> Self {
+    /// No lines yet, for a task.
+    pub fn new<F>(system: &System<'_, F>, task: &Task<'a>) -> Self {
         Remarks {
-            alloc,
-            audience,
-            file,
+            alloc: system.alloc,
+            is_person: system.is_person,
+            file: task.named,
             limit: task.limit,
             explain: task.explain,
-            lines: String::new(alloc),
+            lines: String::new(system.alloc),
         }
-    }
-
-    /// The file that they are on, where it is one of several.
-    pub fn file(&self) -> Option<&'a str> {
-        self.file
     }
 
     /// The only input of a command that reads one at a time.
@@ -109,8 +96,8 @@ impl<'a> Remarks<'a> {
     /// What has to be kept of an input of this kind. The answer goes with the reader of that input.
     pub fn notes(&self, kind: Kind) -> Notes {
         if self.explain {
-            Notes::Whole(Kept::new(self.alloc))
-        } else if matches!(self.audience, Audience::Person) && kind == Kind::Wire {
+            Notes::Whole(Ok(Vec::new(self.alloc)))
+        } else if self.is_person && kind == Kind::Wire {
             Notes::Look(Look::new())
         } else {
             Notes::Nothing
@@ -127,30 +114,26 @@ impl<'a> Remarks<'a> {
 
     /// Adds the hint for a person that the file which a read or a write failed of is a folder.
     pub fn on_failure<F: Files>(&mut self, files: &F, task: &Task<'_>, trouble: Trouble<'_>) {
-        if !matches!(self.audience, Audience::Person) {
-            return;
-        }
         let Some(text) = failed_file(task, trouble) else {
             return;
         };
-        if is_folder(files, text) {
+        if self.is_person && fs::metadata(files, text).is_ok_and(|found| found.is_dir()) {
             let name = FileName { text };
-            if let Ok(line) = format!(in self.alloc; "cborn: hint: {name} is a folder\n") {
-                let _ = self.lines.push_str(line.as_str());
-            }
+            self.add_hint(format!(in self.alloc; "cborn: hint: {name} is a folder\n"));
         }
     }
 
     /// Adds lines on why an input isn't deterministic, where that was the answer and the input was kept.
     /// Else it adds the hint on what the input looks like.
     pub fn on_answer(&mut self, kind: Kind, notes: &Notes, answer: Option<Answer>) {
-        match (notes, answer) {
-            (Notes::Whole(kept), Some(Answer::Defective(defect))) => {
-                let lines = explain_defect(self.alloc, self.limit, kept.bytes(), defect);
-                self.add(lines);
-            }
-            _ => self.on_kind(self.only(), kind, notes),
-        }
+        let lines = match (notes, answer) {
+            (Notes::Whole(Ok(bytes)), Some(Answer::Defective(defect))) => explain_defect(
+                self.alloc, self.limit, bytes, defect,
+            ),
+            (Notes::Whole(Err(refused)), Some(Answer::Defective(_))) => Err(*refused),
+            _ => return self.on_kind(self.only(), kind, notes),
+        };
+        self.add(lines);
     }
 
     /// Adds lines on where two inputs differ and the hints on what they look like. Where one is refused,
@@ -182,18 +165,15 @@ impl<'a> Remarks<'a> {
 
     /// Adds lines on why an input is refused, or the hint on what it looks like.
     fn on_fault(&mut self, which: Side<'_>, kind: Kind, notes: &Notes, fault: CountFault) {
-        match notes {
-            Notes::Nothing => {}
-            Notes::Look(look) => {
-                if status_of_fault(fault) == REFUSED {
-                    self.hint(which, *look);
-                }
-            }
-            Notes::Whole(kept) => {
-                let lines = explain_fault(self.alloc, self.limit, kind, kept.bytes(), fault);
-                self.add(lines);
-            }
-        }
+        let lines = match notes {
+            Notes::Look(look) if status_of_fault(fault) == REFUSED => return self.hint(
+                which, *look,
+            ),
+            Notes::Whole(Ok(bytes)) => explain_fault(self.alloc, self.limit, kind, bytes, fault),
+            Notes::Whole(Err(refused)) if place_of(fault).is_some() => Err(*refused),
+            _ => return,
+        };
+        self.add(lines);
     }
 
     /// Adds lines on where two inputs differ, in their items or in how these are encoded.
@@ -203,22 +183,33 @@ impl<'a> Remarks<'a> {
         notes: (&Notes, &Notes),
         are_same: bool,
     ) {
-        if let (Notes::Whole(first), Notes::Whole(second)) = notes {
-            let inputs = (first.bytes(), second.bytes());
-            let lines = explain_compared::<O>(self.alloc, self.limit, kinds, inputs, are_same);
-            self.add(lines);
-        }
+        let (alloc, limit) = (self.alloc, self.limit);
+        let lines = match notes {
+            (Notes::Whole(Ok(first)), Notes::Whole(Ok(second))) => explain_comparison::<O>(
+                alloc,
+                limit,
+                kinds,
+                (first, second),
+                are_same,
+            ),
+            (Notes::Whole(Err(refused)), _) | (_, Notes::Whole(Err(refused))) => Err(*refused),
+            _ => return,
+        };
+        self.add(lines);
     }
 
     /// Adds the hint on what an input looks like.
     fn on_kind(&mut self, which: Side<'_>, kind: Kind, notes: &Notes) {
         match notes {
-            Notes::Nothing => {}
             Notes::Look(look) => self.hint_on_valid(which, *look),
-            Notes::Whole(kept) => {
-                let lines = explain_kind(self.alloc, which.name(), kind, kept.bytes());
-                self.add(lines);
+            Notes::Whole(Ok(bytes)) if kind == Kind::Wire => {
+                if let Some(hint) = hint_of(bytes) {
+                    let (name, words) = (which.name(), hint.words());
+                    self.add(format!(in self.alloc; "  hint  {name} {words}\n"));
+                }
             }
+            Notes::Whole(Err(refused)) if kind == Kind::Wire => self.add(Err(*refused)),
+            _ => {}
         }
     }
 
@@ -230,12 +221,17 @@ impl<'a> Remarks<'a> {
         }
     }
 
-    /// Adds the hint on an input, if there is one. A hint is left out where memory for it is refused.
+    /// Adds the hint on an input, if there is one.
     fn hint(&mut self, which: Side<'_>, look: Look) {
         if let Some(hint) = look.hint() {
-            if let Ok(line) = format!(in self.alloc; "cborn: {which}hint: {hint}\n") {
-                let _ = self.lines.push_str(line.as_str());
-            }
+            self.add_hint(format!(in self.alloc; "cborn: {which}hint: {hint}\n"));
+        }
+    }
+
+    /// Adds the line of a hint. It is left out where memory for it is refused.
+    fn add_hint(&mut self, hint: Result<String, AllocError>) {
+        if let Ok(line) = hint {
+            let _ = self.lines.push_str(line.as_str());
         }
     }
 
@@ -265,9 +261,4 @@ fn failed_file<'a>(task: &Task<'a>, trouble: Trouble<'_>) -> Option<&'a str> {
         }
         _ => None,
     }
-}
-
-/// Whether the path leads to a folder.
-fn is_folder<F: Files>(files: &F, path: &str) -> bool {
-    fs::metadata(files, path).is_ok_and(|found| found.is_dir())
 }

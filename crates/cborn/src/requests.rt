@@ -1,7 +1,17 @@
-//! What the words of a command line ask for.
+//! What the words of a command line ask for, and what a run is given from outside.
 
 use cborn_engine::{Count, Kind};
 use cborn_model::Limit;
+use std::alloc::Global;
+
+/// The files and the memory of the system, and who reads standard error.
+#[derive(Drop)]
+pub struct System<'r, F> {
+    pub files: &'r F,
+    pub alloc: Global,
+    /// Whether that is a person, at a terminal.
+    pub is_person: bool,
+}
 
 /// What a command line asks for.
 #[derive(Drop)]
@@ -15,6 +25,8 @@ pub struct Request<'a> {
 #[derive(Clone, Copy)]
 pub struct Task<'a> {
     pub action: Action<'a>,
+    /// The file that it reads, where that is one of several: lines on it have its name.
+    pub named: Option<&'a str>,
     /// The file that the answer goes to. `None`: it goes to standard output.
     pub output: Option<&'a str>,
     pub order: Order,
@@ -27,9 +39,13 @@ pub struct Task<'a> {
 impl Task<'_> {
     /// Whether its answer is CBOR bytes that go to standard output.
     pub fn prints_bytes(&self) -> bool {
-        match (self.output, self.action) {
-            (None, Action::Read { purpose, .. }) => purpose.is_for_bytes(),
-            _ => false,
+        let Action::Read { purpose, .. } = self.action else {
+            return false;
+        };
+        match purpose {
+            Purpose::Show { to, .. } | Purpose::Normalise { to, .. } => self.output.is_none()
+                && to == Kind::Wire,
+            Purpose::Check => false,
         }
     }
 }
@@ -70,14 +86,6 @@ impl Purpose {
         match self {
             Purpose::Show { from, .. } | Purpose::Normalise { from, .. } => from,
             Purpose::Check => Kind::Wire,
-        }
-    }
-
-    /// Whether the answer is CBOR bytes.
-    fn is_for_bytes(self) -> bool {
-        match self {
-            Purpose::Show { to, .. } | Purpose::Normalise { to, .. } => to == Kind::Wire,
-            Purpose::Check => false,
         }
     }
 }

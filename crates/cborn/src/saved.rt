@@ -73,9 +73,6 @@ impl<'r, 'p, F: Files> SavedFile<'r, 'p, F> {
     }
 
     /// The new file, taken out of `self.new`. It is made if that is empty.
-    ///
-    /// # Errors
-    /// Why it can't be made.
     #[inline(never)]
     fn taken(&mut self) -> io::Result<NewFile<F::File>> {
         match self.new.take() {
@@ -143,10 +140,7 @@ fn is_no_link(why: ErrorKind) -> bool {
     matches!(why, ErrorKind::InvalidInput | ErrorKind::NotFound)
 }
 
-/// Who may read, write and run the file at a path. `None`: there is no such file.
-///
-/// # Errors
-/// Why the system doesn't say, or that it is no regular file.
+/// Who may read, write and run the file at a path, if it is a regular one. `None`: there is no such file.
 fn mode_of<F: Files>(files: &F, path: &PathBuf) -> io::Result<Option<u32>> {
     match fs::metadata(files, path) {
         Ok(found) if found.is_file() => Ok(Some(found.permissions().mode() & KEPT_BITS)),

@@ -3,11 +3,10 @@ ghost use Rattle.std.specs.Prelude.{◌≡◌, ◌≤◌, IfOk, IfErr, OnOk, Non
 ghost use Rattle.cborn.specs.Statuses.{IsRefusal};
 
 use crate::inputs::{LateFile, Noted};
-use crate::lines::{Answer, Trouble, tell_answer, tell_answer_on};
+use crate::lines::{Answer, Trouble, tell_answer};
 use crate::remarks::Remarks;
-use crate::requests::{Action, Named, Order, Purpose, Task};
+use crate::requests::{Action, Named, Order, Purpose, System, Task};
 use crate::statuses::DONE;
-use crate::systems::System;
 use cborn_engine::{
     CompareCountFault, Count, Counted, Source, check_stream, compare_streams, normalise_stream,
     show_stream,
@@ -19,18 +18,10 @@ use std::io::{Read, Write};
 use std::rt::Files;
 
 /// The memory with which an input is read, the nesting limit, and how many items it has to hold.
-#[derive(Clone, Copy)]
-struct Wanted {
-    alloc: Global,
-    limit: Limit,
-    count: Count,
-}
+type Wanted = (Global, Limit, Count);
 
 /// Does a task, flushes what it wrote, and answers the exit status: `DONE` or `DIFFERENT`. Adds to
 /// `remarks` what standard error gets then, or gets after the line of a trouble.
-///
-/// # Errors
-/// Why the task wasn't done. Where an input is refused, nothing is written to `out`.
 pub fn perform<'a, F: Files, I: Read + Drop, W: Write>(
     system: &System<'_, F>,
     task: &Task<'a>,
@@ -50,9 +41,6 @@ pub fn perform<'a, F: Files, I: Read + Drop, W: Write>(
 
 /// Does a task with the keys of maps in the order `O`, flushes what it wrote, and answers the exit
 /// status: `DONE` or `DIFFERENT`. Adds to `remarks` what standard error gets.
-///
-/// # Errors
-/// Why the task wasn't done. Where an input is refused, nothing is written to `out`.
 fn act<'a, O: KeyOrder, F: Files, I: Read + Drop, W: Write>(
     system: &System<'_, F>,
     task: &Task<'a>,
@@ -64,11 +52,7 @@ fn act<'a, O: KeyOrder, F: Files, I: Read + Drop, W: Write>(
     ensures untouched { IfErr result (λ why. IsRefusal why → out.new ≡ out.old) }
     ensures flushed { OnOk result (out.new.unflushed ≡ 0) }
 {
-    let wanted = Wanted {
-        alloc: system.alloc,
-        limit: task.limit,
-        count: task.count,
-    };
+    let wanted = (system.alloc, task.limit, task.count);
     let file_system = system.files;
     match task.action {
         Action::Read { file, purpose } => match file {
@@ -84,19 +68,8 @@ fn act<'a, O: KeyOrder, F: Files, I: Read + Drop, W: Write>(
     }
 }
 
-/// The answer on two inputs, by the index of the first difference.
-fn difference(index: Option<u64>) -> Answer {
-    match index {
-        None => Answer::Same,
-        Some(index) => Answer::DifferentAt(index),
-    }
-}
-
 /// Reads one input, writes and flushes what is asked for, and answers the exit status: `DONE` or
 /// `DIFFERENT`.
-///
-/// # Errors
-/// Why the task wasn't done. Where the input is refused, nothing is written to `out`.
 fn read_for<'a, O: KeyOrder, I: Read + Drop, W: Write>(
     wanted: Wanted,
     purpose: Purpose,
@@ -108,8 +81,7 @@ fn read_for<'a, O: KeyOrder, I: Read + Drop, W: Write>(
     ensures untouched { IfErr result (λ why. IsRefusal why → out.new ≡ out.old) }
     ensures flushed { OnOk result (out.new.unflushed ≡ 0) }
 {
-    let alloc = wanted.alloc;
-    let kind = purpose.from();
+    let (alloc, kind) = (wanted.0, purpose.from());
     let mut reader = Noted {
         inner: Counted::new(input),
         notes: remarks.notes(kind),
@@ -121,10 +93,9 @@ fn read_for<'a, O: KeyOrder, I: Read + Drop, W: Write>(
             return Err(trouble);
         }
     };
-    let status = match (answer, remarks.file()) {
-        (None, _) => DONE,
-        (Some(answer), None) => tell_answer(out, answer)?,
-        (Some(answer), Some(name)) => tell_answer_on(alloc, out, name, answer)?,
+    let status = match answer {
+        None => DONE,
+        Some(answer) => tell_answer(alloc, out, remarks.file, answer)?,
     };
     remarks.on_answer(kind, &reader.notes, answer);
     Ok(status)
@@ -132,9 +103,6 @@ fn read_for<'a, O: KeyOrder, I: Read + Drop, W: Write>(
 
 /// Reads one input. Writes and flushes what is asked for, and answers `None`, or answers what is to be
 /// printed.
-///
-/// # Errors
-/// The fault that the engine reports.
 #[tactic(auto, using(crate::proofs::Refusals::refused_is_unwritten))]
 fn answer_for<'a, O: KeyOrder, R: Source, W: Write>(
     wanted: Wanted,
@@ -145,11 +113,7 @@ fn answer_for<'a, O: KeyOrder, R: Source, W: Write>(
     ensures untouched { IfErr result (λ why. IsRefusal why → out.new ≡ out.old) }
     ensures flushed { IfOk result (λ answer. answer ≡ None → out.new.unflushed ≡ 0) }
 {
-    let Wanted {
-        alloc,
-        limit,
-        count,
-    } = wanted;
+    let (alloc, limit, count) = wanted;
     match purpose {
         Purpose::Show { from, to } => {
             show_stream(alloc, limit, count, from, to, reader, out)?;
@@ -168,9 +132,6 @@ fn answer_for<'a, O: KeyOrder, R: Source, W: Write>(
 
 /// Compares two files, prints the answer, and answers the exit status: `DONE` or `DIFFERENT`. The second
 /// is opened only once the first has been read and isn't refused.
-///
-/// # Errors
-/// Why there is no answer. Where a file is refused, nothing is written to `out`.
 fn compare_files<'a, O: KeyOrder, F: Files, W: Write>(
     system: &System<'_, F>,
     wanted: Wanted,
@@ -185,9 +146,8 @@ fn compare_files<'a, O: KeyOrder, F: Files, W: Write>(
     let (first, second) = files;
     let kinds = (first.kind, second.kind);
     let file_system = system.files;
-    let file = match fs::open(file_system, first.name) {
-        Ok(file) => file,
-        Err(_) => return Err(Trouble::CannotReadFirst(first.name)),
+    let Ok(file) = fs::open(file_system, first.name) else {
+        return Err(Trouble::CannotReadFirst(first.name));
     };
     let mut reader = Noted {
         inner: Counted::new(file),
@@ -197,11 +157,7 @@ fn compare_files<'a, O: KeyOrder, F: Files, W: Write>(
         inner: LateFile::new(file_system, second.name),
         notes: remarks.notes(second.kind),
     };
-    let Wanted {
-        alloc,
-        limit,
-        count,
-    } = wanted;
+    let (alloc, limit, count) = wanted;
     let compared = compare_streams::<O, _, _>(
         alloc,
         limit,
@@ -212,17 +168,15 @@ fn compare_files<'a, O: KeyOrder, F: Files, W: Write>(
         &mut late,
     );
     let missing = late.inner.is_missing().then_some(second.name);
-    let reported = tell_comparison(out, compared, missing);
+    let reported = tell_comparison(alloc, out, compared, missing);
     remarks.on_comparison::<O>(kinds, (&reader.notes, &late.notes), reported);
     reported
 }
 
 /// Prints the answer of a comparison, and answers the exit status: `DONE` or `DIFFERENT`. `missing` is
 /// the name of the second file where it couldn't be opened.
-///
-/// # Errors
-/// Why the files weren't compared, or that the answer can't be written.
 fn tell_comparison<'a, W: Write>(
+    alloc: Global,
     out: &mut Counted<W>,
     compared: Result<Option<u64>, CompareCountFault>,
     missing: Option<&'a str>,
@@ -232,7 +186,8 @@ fn tell_comparison<'a, W: Write>(
     ensures flushed { OnOk result (out.new.unflushed ≡ 0) }
 {
     match (compared, missing) {
-        (Ok(index), _) => tell_answer(out, difference(index)),
+        (Ok(None), _) => tell_answer(alloc, out, None, Answer::Same),
+        (Ok(Some(index)), _) => tell_answer(alloc, out, None, Answer::DifferentAt(index)),
         (Err(CompareCountFault::Second(_)), Some(name)) => Err(Trouble::CannotReadSecond(name)),
         (Err(why), _) => Err(Trouble::Compare(why)),
     }

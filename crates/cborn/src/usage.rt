@@ -1,76 +1,48 @@
 //! What is printed where the command line gives no task.
-ghost use Rattle.std.specs.Prelude.{◌≡◌, ◌≤◌, ◌⊎◌, IfOk, IfErr};
-ghost use Rattle.cborn.specs.Statuses.{status_of_trouble};
+ghost use Rattle.std.specs.Prelude.{◌≡◌, ◌≤◌, ◌⊎◌};
 
 use crate::lines::{Trouble, print, print_lines, tell_trouble};
 use crate::statuses::{DONE, FAILED, REFUSED, USAGE};
-use cborn_engine::{CountFault, Counted, EngineFault};
+use cborn_engine::Counted;
 use cborn_explain::Escaped;
 use clap::Error;
 use clap::error::ErrorKind;
 use std::alloc::{AllocError, Global};
-use std::io;
-use std::io::Write;
+use std::io::{self, Write};
 
 /// Prints why the command line gives no task: help or the version to `out`, a mistake to `err`. Answers
 /// the exit status.
-pub fn tell_usage<W: Write, E: Write + Drop>(
+pub fn tell_usage<W: Write, E: Write>(
     alloc: Global,
     why: &Error,
     out: &mut Counted<W>,
-    err: E,
+    err: &mut E,
 ) -> u8
     ensures status { result ≤ 4 }
     ensures refused { result ≡ REFUSED → out.new ≡ out.old }
     ensures usage { result ≡ USAGE → out.new ≡ out.old }
     ensures flushed { result ≤ 1 → out.new.unflushed ≡ 0 }
 {
-    let mut err = err;
-    match answer_usage(alloc, why, out, &mut err) {
-        Ok(status) => status,
-        Err(trouble) => tell_trouble(&mut err, trouble),
-    }
-}
-
-/// Prints a mistake to `err`, or help or the version to `out`. Answers the exit status: `USAGE` or
-/// `DONE`. A write to `err` that fails is ignored.
-///
-/// # Errors
-/// `OutOfMemory` where memory is refused, and `WriteFault` where `out` fails.
-fn answer_usage<'a, W: Write, E: Write>(
-    alloc: Global,
-    why: &Error,
-    out: &mut Counted<W>,
-    err: &mut E,
-) -> Result<u8, Trouble<'a>>
-    ensures status { IfOk result (λ status. (status ≡ DONE) ⊎ (status ≡ USAGE)) }
-    ensures untouched { IfOk result (λ status. status ≡ USAGE → out.new ≡ out.old) }
-    ensures flushed { IfOk result (λ status. status ≡ DONE → out.new.unflushed ≡ 0) }
-    ensures trouble { IfErr result (λ why. status_of_trouble why ≡ FAILED) }
-{
-    if why.kind() == ErrorKind::OutOfMemory {
-        return Err(Trouble::Engine(CountFault::Engine(EngineFault::OutOfMemory)));
-    }
     let text = match text_of(alloc, why) {
         Ok(text) => text,
-        Err(refused) => return Err(Trouble::Engine(CountFault::from(refused))),
+        Err(refused) => return tell_trouble(err, Trouble::from(refused), ""),
     };
     if why.use_stderr() {
         print_lines(err, &text);
-        return Ok(USAGE);
+        return USAGE;
     }
     match print(out, &text, "") {
-        Ok(()) => Ok(DONE),
-        Err(_) => Err(Trouble::Engine(CountFault::Engine(EngineFault::WriteFault))),
+        Ok(()) => DONE,
+        Err(failed) => tell_trouble(err, Trouble::from(failed), ""),
     }
 }
 
 /// Help, the version, or what is wrong with the command line. The lines of a mistake are escaped,
 /// since they may quote an argument, which may hold any character.
-///
-/// # Errors
-/// `AllocError` where memory is refused.
 fn text_of(alloc: Global, why: &Error) -> Result<String, AllocError> {
+    if why.kind() == ErrorKind::OutOfMemory {
+        return Err(AllocError);
+    }
     let text = format!(in alloc; "{why}")?;
     if !why.use_stderr() {
         return Ok(text);

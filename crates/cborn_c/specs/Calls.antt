@@ -1,6 +1,5 @@
 -- What a call from C answers.
 use Rattle.std.specs.Prelude.{◌≡◌, ℕ, ◌<◌, ◌≤◌, ◌⊎◌, ◌+◌, ◌∷◌, ◌++◌, [], Bool, true, false, List, length, drop, Option, None, Some, Result, Ok, Err}
-use Rattle.std.specs.declared.cmp.Ordering.{Ordering}
 use Rattle.std.specs.declared.alloc.AllocError.{AllocError}
 use Rattle.std.specs.declared.string.String.{String}
 use Rattle.std.specs.Global.{Global}
@@ -11,19 +10,18 @@ use Rattle.cborn_judge.specs.declared.defects.Defect.{Defect}
 use Rattle.cborn_judge.specs.declared.defects.DefectReason.{DefectReason}
 use Rattle.cborn_wire.specs.declared.faults.WireFault.{WireFault}
 use Rattle.cborn_wire.specs.Reading.{EndsItem}
-use Rattle.cborn_explain.specs.declared.reasons.BytesReason.{BytesReason}
-use Rattle.cborn_explain.specs.declared.reasons.TextReason.{TextReason}
 use Rattle.cborn_engine.specs.declared.faults.EngineFault.TheVariants as fault
 use Rattle.cborn_engine.specs.declared.count_faults.CompareCountFault.{CompareCountFault}
 use Rattle.cborn_engine.specs.declared.count_faults.CompareCountFault.TheVariants as compared
 use Rattle.cborn_engine.specs.declared.count_faults.CountFault.{CountFault}
+use Rattle.cborn_engine.specs.declared.count_faults.CountFault.TheVariants as counted
 use Rattle.cborn_engine.specs.declared.counts.Count.{Count}
 use Rattle.cborn_engine.specs.declared.counts.Count.TheVariants as counts
 use Rattle.cborn_engine.specs.declared.kinds.Kind.{Kind}
 use Rattle.cborn_engine.specs.declared.kinds.Kind.TheVariants as kind
 use Rattle.cborn_c.specs.declared.numbers.KeyOrdering.{KeyOrdering}
 use Rattle.cborn_c.specs.declared.answers.CbornTold.{CbornTold}
-use Rattle.cborn_c.specs.Numbers.{order_of, fault_number, fault_place, counted_number, counted_place, defect_number, TellsOfBytes, text_number}
+use Rattle.cborn_c.specs.Numbers.{order_of, counted_number, counted_place, defect_number, IsOfFormat}
 use Rattle.cborn_engine.specs.Counts.{CountAnswer, NormalisedWhole, ShownWhole, CheckedWhole}
 use Rattle.cborn_c.specs.Answers.{Compared, Matched}
 
@@ -114,7 +112,7 @@ SameCall count None l limit x y unplaced place code = IsBadPlaced unplaced place
 abbrev pub EndTold : Result (Option ℕ) WireFault → ℕ → ℕ → ℕ → Type 0
 EndTold (Ok (Some end)) size place code = (code ≡ 0) × (place ≡ end)
 EndTold (Ok None) size place code = (code ≡ 1793) × (place ≡ size)
-EndTold (Err why) size place code = (code ≡ fault_number (fault.Wire why)) × (place ≡ fault_place (fault.Wire why))
+EndTold (Err why) size place code = (code ≡ counted_number (counted.Engine (fault.Wire why))) × (place ≡ counted_place (counted.Engine (fault.Wire why)))
 
 abbrev pub ItemEndCall : ℕ → List ℕ → ℕ → ℕ → ℕ → ℕ → Type 0
 ItemEndCall limit x start unplaced place code =
@@ -137,9 +135,7 @@ WordsCall number before after code = (HasWords number → WordsPut before after 
 
 -- the number of a fault in the content of an input of this format
 abbrev pub IsFaultOf : Kind → ℕ → Type 0
-IsFaultOf kind.Wire number = (reason : BytesReason) × TellsOfBytes reason number
-IsFaultOf kind.Notation number = (reason : TextReason) × (text_number reason ≡ number)
-IsFaultOf kind.Notation2 number = (reason : TextReason) × (text_number reason ≡ number)
+IsFaultOf k number = ((why : CountFault) × (counted_number why ≡ number)) × IsOfFormat k number
 
 -- the number of a defect, which only bytes have
 abbrev pub IsDefectOf : Kind → ℕ → Type 0

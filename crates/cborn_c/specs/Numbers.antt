@@ -1,5 +1,5 @@
 -- The numbers of formats, orders of keys, faults and defects in C. That of a fault or a defect is 256 times its class, plus its reason. The classes: 1 bytes, 2 tokens, 3 notation, 4 texts that aren't UTF-8, 5 invalid items, 6 defects, 7 inputs that aren't one item.
-use Rattle.std.specs.Prelude.{◌≡◌, ◌⊎◌, ℕ, zero, suc, List, Option, None, Some}
+use Rattle.std.specs.Prelude.{◌≡◌, ◌⊎◌, ◌/◌, ℕ, zero, suc, List, Option, None, Some, unwrap_or}
 use Rattle.std.specs.declared.cmp.Ordering.{Ordering}
 use Rattle.cborn_model.specs.Orders.{bytewise, length_first}
 use Rattle.cborn_wire.specs.declared.faults.WireReason.{WireReason}
@@ -17,12 +17,7 @@ use Rattle.cborn_judge.specs.declared.faults.InvalidReason.TheVariants as invali
 use Rattle.cborn_judge.specs.declared.faults.Invalid.TheVariants as invalid_fault
 use Rattle.cborn_judge.specs.declared.defects.DefectReason.{DefectReason}
 use Rattle.cborn_judge.specs.declared.defects.DefectReason.TheVariants as defect
-use Rattle.cborn_explain.specs.declared.reasons.CountReason.{CountReason}
-use Rattle.cborn_explain.specs.declared.reasons.CountReason.TheVariants as counts
-use Rattle.cborn_explain.specs.declared.reasons.BytesReason.{BytesReason}
-use Rattle.cborn_explain.specs.declared.reasons.BytesReason.TheVariants as bytes
-use Rattle.cborn_explain.specs.declared.reasons.TextReason.{TextReason}
-use Rattle.cborn_explain.specs.declared.reasons.TextReason.TheVariants as text
+use Rattle.cborn_explain.specs.Faults.{place_of}
 use Rattle.cborn_engine.specs.declared.faults.EngineFault.{EngineFault}
 use Rattle.cborn_engine.specs.declared.faults.EngineFault.TheVariants as fault
 use Rattle.cborn_engine.specs.declared.count_faults.CountFault.{CountFault}
@@ -93,27 +88,6 @@ defect_number defect.EndlessLength = 1538
 defect_number defect.LooseBignum = 1539
 defect_number defect.KeyOrder = 1540
 
-abbrev pub count_number : CountReason → ℕ
-count_number counts.NoItem = 1793
-count_number counts.MoreItems = 1794
-
--- A fault of bytes, and its number. A text string that can't be shown has a number of its own. A defect is no fault.
-abbrev pub TellsOfBytes : BytesReason → ℕ → Type 0
-TellsOfBytes (bytes.Malformed r) number = wire_number r ≡ number
-TellsOfBytes (bytes.Invalid invalid.NotUtf8) number = (number ≡ 1281) ⊎ (number ≡ 1026)
-TellsOfBytes (bytes.Invalid invalid.BadBignum) number = number ≡ 1282
-TellsOfBytes (bytes.Invalid invalid.DuplicateKey) number = number ≡ 1283
-TellsOfBytes (bytes.Defect r) number = ⊥
-TellsOfBytes (bytes.Count r) number = count_number r ≡ number
-
--- the number of a fault of a text
-abbrev pub text_number : TextReason → ℕ
-text_number text.NotUtf8 = 1025
-text_number (text.Token r) = lex_number r
-text_number (text.Notation r) = edn_number r
-text_number (text.Invalid r) = invalid_number r
-text_number (text.Count r) = count_number r
-
 -- the number of a fault. 3: memory was refused. An input in memory has no failed read or write, so these have the same number.
 abbrev pub fault_number : EngineFault → ℕ
 fault_number (fault.Wire (wire_fault.Refused p r)) = wire_number r
@@ -132,30 +106,18 @@ fault_number fault.ReadFault = 3
 fault_number fault.WriteFault = 3
 fault_number fault.OutOfMemory = 3
 
-abbrev pub fault_place : EngineFault → ℕ
-fault_place (fault.Wire (wire_fault.Refused p r)) = p
-fault_place (fault.Wire wire_fault.OutOfMemory) = 0
-fault_place (fault.Edn (edn_fault.Lex (lex_fault.Refused p r))) = p
-fault_place (fault.Edn (edn_fault.Lex lex_fault.OutOfMemory)) = 0
-fault_place (fault.Edn (edn_fault.Refused p r)) = p
-fault_place (fault.Edn edn_fault.OutOfMemory) = 0
-fault_place (fault.TextInput p) = p
-fault_place (fault.Invalid (invalid_fault.Refused p r)) = p
-fault_place (fault.Invalid invalid_fault.OutOfMemory) = 0
-fault_place (fault.Show (unshown.NotUtf8 p)) = p
-fault_place (fault.Show unshown.OutOfMemory) = 0
-fault_place fault.TooLong = 0
-fault_place fault.ReadFault = 0
-fault_place fault.WriteFault = 0
-fault_place fault.OutOfMemory = 0
-
 -- the number of a fault where the input has to hold a given number of items
 abbrev pub counted_number : CountFault → ℕ
 counted_number (counted.Engine why) = fault_number why
-counted_number (counted.NoItem p) = count_number counts.NoItem
-counted_number (counted.MoreItems p) = count_number counts.MoreItems
+counted_number (counted.NoItem p) = 1793
+counted_number (counted.MoreItems p) = 1794
 
+-- the offset of a fault. 0: it isn't in the content of the input.
 abbrev pub counted_place : CountFault → ℕ
-counted_place (counted.Engine why) = fault_place why
-counted_place (counted.NoItem p) = p
-counted_place (counted.MoreItems p) = p
+counted_place why = unwrap_or (place_of why) 0
+
+-- The class of a number is one of the faults in the content of an input of this format. Bytes have a text string that can't be shown, too.
+abbrev pub IsOfFormat : Kind → ℕ → Type 0
+IsOfFormat kind.Wire number = (number / 256 ≡ 1) ⊎ (number / 256 ≡ 5) ⊎ (number / 256 ≡ 7) ⊎ (number ≡ 1026)
+IsOfFormat kind.Notation number = (number / 256 ≡ 2) ⊎ (number / 256 ≡ 3) ⊎ (number / 256 ≡ 5) ⊎ (number / 256 ≡ 7) ⊎ (number ≡ 1025)
+IsOfFormat kind.Notation2 number = (number / 256 ≡ 2) ⊎ (number / 256 ≡ 3) ⊎ (number / 256 ≡ 5) ⊎ (number / 256 ≡ 7) ⊎ (number ≡ 1025)

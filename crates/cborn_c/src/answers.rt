@@ -1,12 +1,13 @@
 //! How answers are reported to C.
-ghost use Rattle.std.specs.Prelude.{◌≡◌};
+ghost use Rattle.std.specs.Prelude.{◌≡◌, ◌<◌};
+ghost use Rattle.cborn_c.specs.Numbers.{counted_number, counted_place};
 ghost use Rattle.cborn_c.specs.Calls.{Told, CheckTold, CompareFaultTold, CompareTold, SameTold, EndTold};
 
 use crate::numbers::{
     DIFFERENT, OF_SECOND, OK, OUT_OF_MEMORY, TOO_SMALL, number_counted, number_defect,
-    place_of_counted,
 };
 use cborn_engine::{CompareCountFault, CountFault, EngineFault};
+use cborn_explain::place_of;
 use cborn_judge::Defect;
 use cborn_wire::WireFault;
 use std::alloc::Global;
@@ -46,7 +47,7 @@ pub fn put(
         }
         Err(why) => {
             *told = CbornTold {
-                place: place_of_counted(why),
+                place: place_of(why).unwrap_or(0),
                 length: 0,
             };
             number_counted(why)
@@ -62,6 +63,14 @@ fn told(place: &mut u64, at: u64, number: u32) -> u32
     number
 }
 
+/// Reports a fault, and answers its number for C.
+fn fault_told(why: CountFault, place: &mut u64) -> u32
+    ensures told { (place.new ≡ counted_place why) × (result ≡ counted_number why) }
+    ensures small { result < 65536 }
+{
+    told(place, place_of(why).unwrap_or(0), number_counted(why))
+}
+
 /// Reports a defect, that there is none, or the fault of the input. Answers the number for C.
 pub fn defect_told(answer: Result<Option<Defect>, CountFault>, place: &mut u64) -> u32
     ensures { CheckTold answer place.new result }
@@ -69,7 +78,7 @@ pub fn defect_told(answer: Result<Option<Defect>, CountFault>, place: &mut u64) 
     match answer {
         Ok(None) => told(place, 0, OK),
         Ok(Some(defect)) => told(place, defect.place, number_defect(defect.reason)),
-        Err(why) => told(place, place_of_counted(why), number_counted(why)),
+        Err(why) => fault_told(why, place),
     }
 }
 
@@ -100,14 +109,8 @@ pub fn compare_fault_told(why: CompareCountFault, place: &mut u64) -> u32
     ensures { CompareFaultTold why place.new result }
 {
     match why {
-        CompareCountFault::First(why) => told(place, place_of_counted(why), number_counted(why)),
-        CompareCountFault::Second(why) => {
-            told(
-                place,
-                place_of_counted(why),
-                number_counted(why) + OF_SECOND,
-            )
-        }
+        CompareCountFault::First(why) => fault_told(why, place),
+        CompareCountFault::Second(why) => fault_told(why, place) + OF_SECOND,
         CompareCountFault::OutOfMemory => told(place, 0, OUT_OF_MEMORY),
     }
 }
@@ -126,5 +129,5 @@ pub fn end_told(
         Ok(None) => CountFault::NoItem(input_length as u64),
         Err(why) => CountFault::Engine(EngineFault::Wire(why)),
     };
-    told(place, place_of_counted(why), number_counted(why))
+    fault_told(why, place)
 }

@@ -1,16 +1,13 @@
-//! The explanation of a fault or a defect by its number.
-ghost use Rattle.std.specs.Prelude.{◌≡◌, ◌≢◌, ◌<◌, ◌⊎◌, IfSome, IfNone};
-ghost use Rattle.cborn_explain.specs.declared.reasons.BytesReason.{BytesReason};
-ghost use Rattle.cborn_explain.specs.declared.reasons.TextReason.{TextReason};
-ghost use Rattle.cborn_c.specs.Calls.{IsExplained, TextTold};
-ghost use Rattle.cborn_c.specs.Numbers.{TellsOfBytes, text_number};
+//! Explanations of what another call reported.
+ghost use Rattle.std.specs.Prelude.{◌↔◌, IsTrue, IfSome, IfNone};
+ghost use Rattle.cborn_c.specs.Calls.{IsExplained, IsFaultOf, TextTold};
+ghost use Rattle.cborn_c.specs.Numbers.{IsOfFormat};
 
 use crate::answers::{CbornTold, put};
-use crate::words::{count_at, defect_at, edn_at, invalid_at, lex_at, of_first, wire_at};
+use crate::words::{counted_fault_at, defect_at, of_first};
 use cborn_engine::{CountFault, Kind};
-use cborn_explain::{BytesReason, NotationText, TextReason, explain_bytes, explain_text};
-use cborn_judge::InvalidReason;
-use cborn_lex::Profile;
+use cborn_explain::{explain_defect, explain_fault};
+use cborn_judge::Defect;
 use cborn_model::Limit;
 use std::alloc::{AllocError, Global};
 use std::borrow::CowSlice;
@@ -22,46 +19,31 @@ pub struct Input<'a> {
     pub bytes: &'a [u8],
 }
 
-/// The reason for which bytes are refused that has this number. `None`: no such reason has it.
-fn bytes_fault_at(number: u32) -> Option<BytesReason>
-    ensures numbered { IfSome result (λ reason. TellsOfBytes reason number) }
-    ensures every { IfNone result ((reason : BytesReason) → TellsOfBytes reason number → ⊥) }
+/// Whether the class of a number is one of the faults in the content of an input of this format.
+fn is_of_format(kind: Kind, number: u32) -> bool
+    ensures { IsTrue result ↔ IsOfFormat kind number }
 {
-    if let Some(reason) = wire_at(number) {
-        return Some(BytesReason::Malformed(reason));
-    }
-    if let Some(reason) = invalid_at(number) {
-        return Some(BytesReason::Invalid(reason));
-    }
-    if let Some(reason) = count_at(number) {
-        return Some(BytesReason::Count(reason));
-    }
-    match number {
-        0x402 => Some(BytesReason::Invalid(InvalidReason::NotUtf8)),
-        _ => None,
+    let class = number / 256;
+    match kind {
+        Kind::Wire => class == 1 || class == 5 || class == 7 || number == 0x402,
+        Kind::Notation | Kind::Notation2 => class == 2
+            || class == 3
+            || class == 5
+            || class == 7
+            || number == 0x401,
     }
 }
 
-/// The reason for which a text is refused that has this number. `None`: no such reason has it.
-fn text_fault_at(number: u32) -> Option<TextReason>
-    ensures numbered { IfSome result (λ reason. text_number reason ≡ number) }
-    ensures every { IfNone result ((reason : TextReason) → text_number reason ≢ number) }
+/// A fault that has this number, at an offset in bytes. `None`: no fault in the content of an input of
+/// this format has it.
+fn content_fault_at(kind: Kind, number: u32, place: u64) -> Option<CountFault>
+    ensures some { IfSome result (λ why. IsFaultOf kind number) }
+    ensures none { IfNone result (IsFaultOf kind number → ⊥) }
 {
-    if let Some(reason) = lex_at(number) {
-        return Some(TextReason::Token(reason));
-    }
-    if let Some(reason) = edn_at(number) {
-        return Some(TextReason::Notation(reason));
-    }
-    if let Some(reason) = invalid_at(number) {
-        return Some(TextReason::Invalid(reason));
-    }
-    if let Some(reason) = count_at(number) {
-        return Some(TextReason::Count(reason));
-    }
-    match number {
-        0x401 => Some(TextReason::NotUtf8),
-        _ => None,
+    if is_of_format(kind, number) {
+        counted_fault_at(number, place)
+    } else {
+        None
     }
 }
 
@@ -79,23 +61,12 @@ pub fn explained(
     ensures none { IfNone result (IsExplained input.entry.kind number → ⊥) }
 {
     let Input { kind, bytes } = input;
-    let profile = match kind {
-        Kind::Wire => {
-            let reason = match defect_at(number) {
-                Some(defect) => BytesReason::Defect(defect),
-                None => bytes_fault_at(of_first(number))?,
-            };
-            return Some(explain_bytes(alloc, limit, bytes, place, reason));
-        }
-        Kind::Notation => Profile::One,
-        Kind::Notation2 => Profile::Two,
-    };
-    let reason = text_fault_at(of_first(number))?;
-    let text = NotationText {
-        profile,
-        text: bytes,
-    };
-    Some(explain_text(alloc, limit, text, place, reason))
+    if let (Kind::Wire, Some(reason)) = (kind, defect_at(number)) {
+        let defect = Defect { place, reason };
+        return Some(explain_defect(alloc, limit, bytes, defect));
+    }
+    let fault = content_fault_at(kind, of_first(number), place)?;
+    Some(explain_fault(alloc, limit, kind, bytes, fault))
 }
 
 /// Writes an explanation to the start of `out`, and answers the number for C. `told` gets its length in

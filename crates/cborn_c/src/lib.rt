@@ -28,9 +28,11 @@ ghost use Rattle.cborn_engine.specs.declared.counts.Count.TheVariants as counts;
 ghost use Rattle.cborn_c.specs.Numbers.{numbered_kind, numbered_order};
 ghost use Rattle.cborn_c.specs.Calls.{NormaliseCall, ShowCall, CheckCall, CompareCall, SameCall, ItemEndCall, WordsCall, ExplainCall, ComparisonCall};
 
-use answers::{CbornTold, compare_fault_told, difference_told, end_told};
-use calls::{check, compared_lines, matched, normalise, same, show};
-use cborn_engine::{Count, compare_slices};
+use answers::{
+    CbornTold, compare_fault_told, defect_told, difference_told, end_told, put, same_told,
+};
+use calls::{checked, compared_lines, matched, normalised};
+use cborn_engine::{Count, compare_slices, show_slice};
 use cborn_model::{Bytewise, Limit};
 use cborn_wire::item_end;
 use explanations::{Input, explained, put_text};
@@ -62,7 +64,12 @@ pub extern "C" fn cborn_normalise(
     ensures call { NormaliseCall counts.Any (numbered_kind from) (numbered_kind to) (numbered_order order) depth input.now out.old out.new told.old told.new result }
     ensures room { from ≡ 0 → to ≡ 0 → length input.now + length input.now / 3 ≤ length out.old → result ≢ 1 }
 {
-    normalise(alloc, Count::Any, from, to, order, depth, input, out, told)
+    take!(from = kind_at(from));
+    take!(to = kind_at(to));
+    take!(order = order_at(order));
+    take!(limit = Limit::new(depth));
+    let answer = normalised(alloc, limit, Count::Any, order, from, to, input);
+    put(answer, out, told)
 }
 
 /// Writes the items of `input` as they are spelled to the start of `out`: as bytes (RFC 8949
@@ -87,7 +94,11 @@ pub extern "C" fn cborn_show(
 ) -> u32
     ensures { ShowCall counts.Any (numbered_kind from) (numbered_kind to) depth input.now out.old out.new told.old told.new result }
 {
-    show(alloc, Count::Any, from, to, depth, input, out, told)
+    take!(from = kind_at(from));
+    take!(to = kind_at(to));
+    take!(limit = Limit::new(depth));
+    let answer = show_slice(alloc, limit, Count::Any, from, to, input);
+    put(answer, out, told)
 }
 
 /// `OK` if the bytes of `input` are the deterministic encodings of the items that they hold (RFC 8949
@@ -108,7 +119,9 @@ pub extern "C" fn cborn_check(
 ) -> u32
     ensures { CheckCall counts.Any (numbered_order order) depth input.now place.old place.new result }
 {
-    check(alloc, Count::Any, order, depth, input, place)
+    take!(order = order_at(order));
+    take!(limit = Limit::new(depth));
+    defect_told(checked(alloc, limit, Count::Any, order, input), place)
 }
 
 /// `OK` if two inputs hold the same items (RFC 8949 section 2), else `DIFFERENT`, and `place` gets the
@@ -160,8 +173,11 @@ pub extern "C" fn cborn_same(
 ) -> u32
     ensures { SameCall counts.Any (numbered_kind from_a) (numbered_kind from_b) depth first.now second.now place.old place.new result }
 {
-    let count = Count::Any;
-    same(alloc, count, from_a, from_b, depth, first, second, place)
+    take!(from_a = kind_at(from_a));
+    take!(from_b = kind_at(from_b));
+    take!(limit = Limit::new(depth));
+    let answer = matched(alloc, limit, Count::Any, from_a, first, from_b, second);
+    same_told(answer, place)
 }
 
 /// Writes the deterministic encoding of the one item that `input` has to hold to the start of `out`
@@ -185,7 +201,12 @@ pub extern "C" fn cborn_normalise_one(
     ensures call { NormaliseCall counts.One (numbered_kind from) (numbered_kind to) (numbered_order order) depth input.now out.old out.new told.old told.new result }
     ensures room { from ≡ 0 → to ≡ 0 → length input.now + length input.now / 3 ≤ length out.old → result ≢ 1 }
 {
-    normalise(alloc, Count::One, from, to, order, depth, input, out, told)
+    take!(from = kind_at(from));
+    take!(to = kind_at(to));
+    take!(order = order_at(order));
+    take!(limit = Limit::new(depth));
+    let answer = normalised(alloc, limit, Count::One, order, from, to, input);
+    put(answer, out, told)
 }
 
 /// Writes the one item that `input` has to hold as it is spelled, valid or not, to the start of
@@ -208,7 +229,11 @@ pub extern "C" fn cborn_show_one(
 ) -> u32
     ensures { ShowCall counts.One (numbered_kind from) (numbered_kind to) depth input.now out.old out.new told.old told.new result }
 {
-    show(alloc, Count::One, from, to, depth, input, out, told)
+    take!(from = kind_at(from));
+    take!(to = kind_at(to));
+    take!(limit = Limit::new(depth));
+    let answer = show_slice(alloc, limit, Count::One, from, to, input);
+    put(answer, out, told)
 }
 
 /// `OK` if the one item that `input` has to hold is deterministic (RFC 8949 section 4.2), else the
@@ -228,7 +253,9 @@ pub extern "C" fn cborn_check_one(
 ) -> u32
     ensures { CheckCall counts.One (numbered_order order) depth input.now place.old place.new result }
 {
-    check(alloc, Count::One, order, depth, input, place)
+    take!(order = order_at(order));
+    take!(limit = Limit::new(depth));
+    defect_told(checked(alloc, limit, Count::One, order, input), place)
 }
 
 /// `OK` if two inputs, each of which has to hold exactly one item, hold the same one (RFC 8949
@@ -249,8 +276,11 @@ pub extern "C" fn cborn_compare_one(
 ) -> u32
     ensures { SameCall counts.One (numbered_kind from_a) (numbered_kind from_b) depth first.now second.now place.old place.new result }
 {
-    let count = Count::One;
-    same(alloc, count, from_a, from_b, depth, first, second, place)
+    take!(from_a = kind_at(from_a));
+    take!(from_b = kind_at(from_b));
+    take!(limit = Limit::new(depth));
+    let answer = matched(alloc, limit, Count::One, from_a, first, from_b, second);
+    same_told(answer, place)
 }
 
 /// `OK` if a well-formed item starts in `input`, which is CBOR bytes, at the offset `start` (RFC 8949
@@ -297,7 +327,7 @@ pub extern "C" fn cborn_words(number: u32, out: &mut [u8]) -> u32
     if let Some(reason) = defect_at(number) {
         return put_words(&reason, out);
     }
-    match counted_fault_at(of_first(number)) {
+    match counted_fault_at(of_first(number), 0) {
         Some(why) => put_words(&why, out),
         None => BAD_ARGUMENT,
     }

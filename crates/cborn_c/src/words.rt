@@ -3,13 +3,12 @@ ghost use Rattle.std.specs.Prelude.{◌≡◌, ◌≢◌, ◌<◌, ◌≤◌, �
 ghost use Rattle.cborn_engine.specs.declared.faults.EngineFault.{EngineFault};
 ghost use Rattle.cborn_engine.specs.declared.count_faults.CountFault.{CountFault};
 ghost use Rattle.cborn_c.specs.Calls.{IsPut, WordsPut};
-ghost use Rattle.cborn_c.specs.Numbers.{wire_number, lex_number, edn_number, invalid_number, count_number, defect_number, fault_number, counted_number};
+ghost use Rattle.cborn_c.specs.Numbers.{wire_number, lex_number, edn_number, invalid_number, defect_number, fault_number, counted_number};
 
 use crate::numbers::{OF_SECOND, OK, OUT_OF_MEMORY, TOO_LONG, TOO_SMALL};
 use arrayvec::ArrayString;
 use cborn_edn::{EdnFault, EdnReason, ShowFault};
 use cborn_engine::{CountFault, EngineFault};
-use cborn_explain::CountReason;
 use cborn_judge::{DefectReason, Invalid, InvalidReason};
 use cborn_lex::{LexFault, LexReason};
 use cborn_wire::{WireFault, WireReason};
@@ -90,19 +89,6 @@ pub fn invalid_at(number: u32) -> Option<InvalidReason>
     }
 }
 
-/// The reason for which an input isn't exactly one item that has this number. `None`: no such reason
-/// has it.
-pub fn count_at(number: u32) -> Option<CountReason>
-    ensures numbered { IfSome result (λ reason. count_number reason ≡ number) }
-    ensures every { IfNone result ((number < 1793) ⊎ (1794 < number)) }
-{
-    match number {
-        0x701 => Some(CountReason::NoItem),
-        0x702 => Some(CountReason::MoreItems),
-        _ => None,
-    }
-}
-
 /// The number without `OF_SECOND` where it is greater than that, as those of faults of a second input
 /// are; else the number itself.
 pub fn of_first(number: u32) -> u32
@@ -130,12 +116,11 @@ pub fn defect_at(number: u32) -> Option<DefectReason>
     }
 }
 
-/// A fault that has this number, at offset 0. `None`: no fault has it.
-pub fn fault_at(number: u32) -> Option<EngineFault>
+/// A fault that has this number, at an offset in bytes. `None`: no fault has it.
+fn fault_at(number: u32, place: u64) -> Option<EngineFault>
     ensures numbered { IfSome result (λ why. fault_number why ≡ number) }
     ensures every { IfNone result ((why : EngineFault) → fault_number why ≢ number) }
 {
-    let place = 0;
     if let Some(reason) = wire_at(number) {
         return Some(EngineFault::Wire(WireFault::Refused { place, reason }));
     }
@@ -158,16 +143,16 @@ pub fn fault_at(number: u32) -> Option<EngineFault>
     }
 }
 
-/// A fault, at offset 0, of an input that has to hold a given number of items, that has this number. `None`:
-/// no such fault has it.
-pub fn counted_fault_at(number: u32) -> Option<CountFault>
+/// A fault of an input that has to hold a given number of items, that has this number, at an offset in
+/// bytes. `None`: no such fault has it.
+pub fn counted_fault_at(number: u32, place: u64) -> Option<CountFault>
     ensures numbered { IfSome result (λ why. counted_number why ≡ number) }
     ensures every { IfNone result ((why : CountFault) → counted_number why ≢ number) }
 {
-    match count_at(number) {
-        Some(CountReason::NoItem) => Some(CountFault::NoItem(0)),
-        Some(CountReason::MoreItems) => Some(CountFault::MoreItems(0)),
-        None => match fault_at(number) {
+    match number {
+        0x701 => Some(CountFault::NoItem(place)),
+        0x702 => Some(CountFault::MoreItems(place)),
+        _ => match fault_at(number, place) {
             Some(why) => Some(CountFault::Engine(why)),
             None => None,
         },

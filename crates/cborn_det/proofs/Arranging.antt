@@ -1,10 +1,10 @@
 -- What a sort of entries by an order of keys gives.
-use Rattle.cborn_det.proofs.Common.{◌≡◌, ℕ, suc, List, [], ◌∷◌, map, refl, sym, ap, ◌∙◌, arith, false, Bool, true≢false, add-one, IsPermutation, Ordering, Less, Equal, Greater, is_lt, is_eq, ordering_reverse, IsKeyOrder, Rising, Entry, keys, HasDistinctKeys}
-use Rattle.std.specs.Cmp.{IsTotalOrder}
+use Rattle.std.specs.Prelude.{◌≡◌, ◌∷◌}
 use Rattle.std.specs.List.{IsDistinct}
+use Rattle.cborn_det.proofs.Common.{ℕ, suc, List, [], map, refl, sym, ap, ◌∙◌, arith, false, Bool, true≢false, add-one, IsPermutation, Ordering, Less, Equal, Greater, is_lt, is_eq, ordering_reverse, IsKeyOrder, Rising, Entry, keys, HasDistinctKeys, weaker}
+use Rattle.std.specs.Cmp.{IsTotalOrder}
 use Rattle.std.specs.List.Sorted.{IsSortedBy}
 use Rattle.std.proofs.lemmas.Map.Keys.{IsDistinct-IsPermutation}
-use Rattle.cborn_model.proofs.SameItems.Rearranging.{weaker}
 
 module _ (order : List ℕ → List ℕ → Ordering) (laws : IsKeyOrder order) where
   pub total : IsTotalOrder order

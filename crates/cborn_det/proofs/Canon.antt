@@ -1,12 +1,9 @@
 -- Of valid items, two have one encoding exactly if they are the same, and each has one.
-use Rattle.cborn_det.proofs.Common.{◌↔◌, ◌≡◌, ◌≢◌, ℕ, suc, ◌+◌, ◌*◌, ◌<◌, ◌^◌, ◌⊎◌, inl, inr, List, [], ◌∷◌, ◌++◌, length, refl, sym, ap, ◌∙◌, subst, arith, true, false, Bool, append-nil, IsPermutation, Ordering, ⊤, AllByRecursion, AllZip, length_permutation, IsPermutation-sym, IsPermutation-trans, cases_lt, Value, Values, Couples, integer, bytes, text, array, dict, tagged, simple, no_values, value, no_pairs, pair, listed, value_count, pair_count, pairs_of, number, Same, SameValues, SamePairs, big_endian, IsProper, AreProper, HasProperPairs, IsNew, HasNewKeys, Width, information, following, IsHead, least, IsLeastHead, IsString, IsInteger, Det, DetValues, DetPairs, DetSeq, DetMap, Entry, joined, major_of, bignum_tag, HasDistinctKeys, IsKeyOrder}
-use Rattle.cborn_model.proofs.Numbers.OneHead.{one_head, least_holds}
+use Rattle.std.specs.Prelude.{◌↔◌, ◌≡◌, ◌≢◌, ◌+◌, ◌*◌, ◌<◌, ◌^◌, ◌⊎◌, ◌∷◌, ◌++◌}
+use Rattle.cborn_det.proofs.Common.{ℕ, suc, inl, inr, List, [], length, refl, sym, ap, ◌∙◌, subst, arith, true, false, Bool, append-nil, IsPermutation, Ordering, ⊤, AllByRecursion, AllZip, length_permutation, IsPermutation-sym, IsPermutation-trans, cases_lt, Value, Values, Couples, integer, bytes, text, array, dict, tagged, simple, no_values, value, no_pairs, pair, listed, value_count, pair_count, pairs_of, number, Same, SameValues, SamePairs, big_endian, IsProper, AreProper, HasProperPairs, IsNew, HasNewKeys, Width, information, following, IsHead, least, IsLeastHead, IsString, IsInteger, Det, DetValues, DetPairs, DetSeq, DetMap, Entry, joined, major_of, bignum_tag, HasDistinctKeys, IsKeyOrder, one_head, least_holds, All_moved, carried, carried_left, one_magnitude, one_number, listed-pairs_of}
 use Rattle.cborn_model.proofs.Numbers.Simples.{simple_below}
-use Rattle.cborn_model.proofs.SameItems.Rearranging.{All_moved, carried, carried_left}
 use Rattle.cborn_det.proofs.Rising.{one_arrangement, arranged}
 use Rattle.cborn_det.proofs.Reading.{small, reads, EntryReads, pairs_read, arranged_reads}
-use Rattle.cborn_model.proofs.Numbers.OneMagnitude.{one_magnitude, one_number}
-use Rattle.cborn_model.proofs.Listed.Values.{listed-pairs_of}
 
 -- the heads that an item may begin with
 abbrev Leads : Value → ℕ → ℕ → Type 0

@@ -1,6 +1,6 @@
 -- Entries that lie one after another in a buffer: what is read of them.
-use Rattle.cborn_det.proofs.Common.{◌≡◌, ℕ, ◌+◌, ◌<◌, ◌≤◌, List, [], ◌∷◌, ◌++◌, length, map, take, drop, get_or, refl, sym, ap, ◌∙◌, subst, arith, append_assoc, take_at, drop_at, length-append, length-drop, drop_more, Entry, joined, IsWritten, lengths_of}
-use Rattle.cborn_model.proofs.Numbers.OneHead.{append_same}
+use Rattle.std.specs.Prelude.{◌≡◌, ◌+◌, ◌<◌, ◌≤◌, ◌∷◌, ◌++◌}
+use Rattle.cborn_det.proofs.Common.{ℕ, List, [], length, map, take, drop, get_or, refl, sym, ap, ◌∙◌, subst, arith, append_assoc, take_at, drop_at, length-append, length-drop, drop_more, Entry, joined, IsWritten, lengths_of, append_same}
 
 -- what was written says which entries there are
 pub one_written : (es fs : List Entry) (cs : List (ℕ × ℕ)) (b : List ℕ) → IsWritten es cs b → IsWritten fs cs b → es ≡ fs

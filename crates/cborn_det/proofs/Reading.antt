@@ -1,7 +1,6 @@
 -- No encoding begins another: what is at the front of a list is one encoding at most.
-use Rattle.cborn_det.proofs.Common.{◌≡◌, ℕ, suc, ◌<◌, ◌⊎◌, inl, inr, List, [], ◌∷◌, ◌++◌, length, refl, sym, ap, ◌∙◌, subst, arith, true, false, Bool, append_assoc, append-nil, IsPermutation, Ordering, AllByRecursion, length_permutation, Value, Values, Couples, integer, bytes, text, array, dict, tagged, simple, no_values, value, no_pairs, pair, value_count, pair_count, big_endian, Width, IsHead, least, Det, DetValues, DetPairs, Entry, joined, major_of, bignum_tag}
-use Rattle.cborn_model.proofs.Numbers.OneHead.{one_head, append_same}
-use Rattle.cborn_model.proofs.SameItems.Rearranging.{All_moved}
+use Rattle.std.specs.Prelude.{◌≡◌, ◌<◌, ◌⊎◌, ◌∷◌, ◌++◌}
+use Rattle.cborn_det.proofs.Common.{ℕ, suc, inl, inr, List, [], length, refl, sym, ap, ◌∙◌, subst, arith, true, false, Bool, append_assoc, append-nil, IsPermutation, Ordering, AllByRecursion, length_permutation, Value, Values, Couples, integer, bytes, text, array, dict, tagged, simple, no_values, value, no_pairs, pair, value_count, pair_count, big_endian, Width, IsHead, least, Det, DetValues, DetPairs, Entry, joined, major_of, bignum_tag, one_head, append_same, All_moved}
 
 pub small : (b : Bool) → major_of b < 2
 small true = omega arith

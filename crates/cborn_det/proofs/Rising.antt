@@ -1,6 +1,6 @@
 -- Lists of entries whose keys rise.
-use Rattle.cborn_det.proofs.Common.{◌≡◌, ℕ, inl, inr, List, [], ◌∷◌, map, refl, sym, ap, ◌∙◌, subst, IsPermutation, Ordering, Less, Equal, Greater, AllByRecursion, IsPermutation-refl, IsPermutation-sym, IsPermutation-trans, IsPermutation-map, IsPermutation-cons, IsPermutation-middle, ordering_reverse, IsKeyOrder, Rising, Entry, keys, HasDistinctKeys}
-use Rattle.cborn_model.proofs.SameItems.Rearranging.{All_moved, weaker, both, at_member, IsIn, AreIn, are_in_moved}
+use Rattle.std.specs.Prelude.{◌≡◌, ◌∷◌}
+use Rattle.cborn_det.proofs.Common.{ℕ, inl, inr, List, [], map, refl, sym, ap, ◌∙◌, subst, IsPermutation, Ordering, Less, Equal, Greater, AllByRecursion, IsPermutation-refl, IsPermutation-sym, IsPermutation-trans, IsPermutation-map, IsPermutation-cons, IsPermutation-middle, ordering_reverse, IsKeyOrder, Rising, Entry, keys, HasDistinctKeys, All_moved, weaker, both, at_member, IsIn, AreIn, are_in_moved}
 
 abbrev bare : List ℕ → Entry
 bare k = (k, [])

@@ -1,8 +1,8 @@
 -- How much room encodings take: of each item less than four thirds of the bytes that spelled it.
-use Rattle.cborn_det.proofs.Common.{◌≡◌, ℕ, suc, ◌+◌, ◌*◌, ◌<◌, ◌≤◌, ◌^◌, inl, inr, List, [], ◌∷◌, ◌++◌, length, refl, sym, ap, ◌∙◌, subst, arith, true, false, Bool, ltb, ltb-true, ltb-false, length-append, lit<, IsPermutation, Ordering, AllZip, flat_map, cases_lt, cond_both, sum_by-IsPermutation, Width, AreBytes, big_endian, IsShortest, WidthFits, following, least, IsLeastHead, Given, EndlessArgument, head, argument, Value, Values, Couples, array, dict, tagged, simple, no_values, value, no_pairs, pair, value_count, pair_count, IsString, IsInteger, Det, DetValues, DetPairs, DetSeq, Entry, joined, major_of, bignum_tag}
+use Rattle.std.specs.Prelude.{◌≡◌, ◌+◌, ◌*◌, ◌<◌, ◌≤◌, ◌^◌, ◌∷◌, ◌++◌}
+use Rattle.cborn_det.proofs.Common.{ℕ, suc, inl, inr, List, [], length, refl, sym, ap, ◌∙◌, subst, arith, true, false, Bool, ltb, ltb-true, ltb-false, length-append, lit<, IsPermutation, Ordering, AllZip, flat_map, cases_lt, cond_both, sum_by-IsPermutation, Width, AreBytes, big_endian, IsShortest, WidthFits, following, least, IsLeastHead, Given, EndlessArgument, head, argument, Value, Values, Couples, array, dict, tagged, simple, no_values, value, no_pairs, pair, value_count, pair_count, IsString, IsInteger, Det, DetValues, DetPairs, DetSeq, Entry, joined, major_of, bignum_tag, below_power, fewer}
 use Rattle.std.proofs.lemmas.List.Concat.{length-flat_map}
 use Rattle.std.proofs.Math.Nat.{pow-le-pow_right}
-use Rattle.cborn_model.proofs.Numbers.OneMagnitude.{below_power, fewer}
 use Rattle.cborn_model.specs.declared.heads.Width.TheVariants.{Direct, One, Two, Four, Eight}
 use Rattle.cborn_model.specs.declared.heads.Size.{Size}
 use Rattle.cborn_model.specs.declared.heads.Size.TheVariants.{Fixed, Endless}
@@ -34,10 +34,7 @@ bytes_in Eight = 8
 length-following : (w : Width) (n : ℕ) → length (following w n) ≡ bytes_in w
 unfolding bytes_in
 length-following Direct n = refl
-length-following One n = refl
-length-following Two n = refl
-length-following Four n = refl
-length-following Eight n = refl
+length-following _ n = refl
 
 least_is_least : (w : Width) (n : ℕ) → WidthFits w n → bytes_in (least n) ≤ bytes_in w
 unfolding bytes_in
@@ -114,11 +111,8 @@ abbrev IsRoomFor : List ℕ → List ℕ → Type 0
 IsRoomFor s x = 3 * length x + 1 ≤ 4 * length s
 
 pub holds_below : (w : Width) (n : ℕ) → WidthFits w n → n < 2 ^ 64
-holds_below Direct n h = omega (arith, h)
-holds_below One n h = omega (arith, h)
-holds_below Two n h = omega (arith, h)
-holds_below Four n h = omega (arith, h)
 holds_below Eight n h = h
+holds_below _ n h = omega (arith, h)
 
 integer_room : (order : List ℕ → List ℕ → Ordering) (s : Bool) (j : Major) (w : Width) (n : ℕ) (v : Value) (x : List ℕ) → WidthFits w n → IsNumber s n v → Det order v x → IsRoomFor (head j (Given w n)) x
 integer_room order s j w n v x h m d =

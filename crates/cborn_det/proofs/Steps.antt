@@ -1,7 +1,7 @@
 -- The steps of the encoder, over plain values.
-use Rattle.cborn_det.proofs.Common.{◌≡◌, ℕ, ◌+◌, ◌-◌, ◌<◌, List, [], ◌∷◌, ◌++◌, length, map, take, drop, get_or, refl, sym, ap, ◌∙◌, subst, arith, append_assoc, append-nil, length-append, drop_at, take_at, ◌≤◌, Ordering, IsPermutation, Result, Ok, Err, IsErr, MatchResult, AllByRecursion, take_more, map-append, take-append-drop, All-from_recursion, item_value, pair_value, Value, array, dict, values_of, pairs_of, IsProper, AreProper, HasProperPairs, IsLeastHead, Rising, Det, DetValues, DetPairs, DetSeq, Entry, joined, keys, Appends, AppendsPair, BeginsWith, IsWritten, lengths_of}
+use Rattle.std.specs.Prelude.{◌≡◌, ◌+◌, ◌-◌, ◌<◌, ◌∷◌, ◌++◌, ◌≤◌}
+use Rattle.cborn_det.proofs.Common.{ℕ, List, [], length, map, take, drop, get_or, refl, sym, ap, ◌∙◌, subst, arith, append_assoc, append-nil, length-append, drop_at, take_at, Ordering, IsPermutation, Result, Ok, Err, IsErr, MatchResult, AllByRecursion, take_more, map-append, take-append-drop, All-from_recursion, item_value, pair_value, Value, array, dict, values_of, pairs_of, IsProper, AreProper, HasProperPairs, IsLeastHead, Rising, Det, DetValues, DetPairs, DetSeq, Entry, joined, keys, Appends, AppendsPair, BeginsWith, IsWritten, lengths_of, value_count-values_of, pair_count-pairs_of}
 use Rattle.cborn_model.specs.declared.items.Item.{Item}
-use Rattle.cborn_model.proofs.Listed.Values.{value_count-values_of, pair_count-pairs_of}
 
 -- ---- what is valid of all is valid of each
 

@@ -1,5 +1,6 @@
 -- No encoding is empty.
-use Rattle.cborn_det.proofs.Common.{ℕ, ◌<◌, inl, inr, List, length, length-append, ap, arith, Bool, Ordering, big_endian, IsLeastHead, Value, integer, bytes, text, array, dict, tagged, simple, value_count, pair_count, Det, IsString, IsInteger, joined, major_of, bignum_tag}
+use Rattle.std.specs.Prelude.{◌<◌}
+use Rattle.cborn_det.proofs.Common.{ℕ, inl, inr, List, length, length-append, ap, arith, Bool, Ordering, big_endian, IsLeastHead, Value, integer, bytes, text, array, dict, tagged, simple, value_count, pair_count, Det, IsString, IsInteger, joined, major_of, bignum_tag}
 
 some_head : (major n : ℕ) (h : List ℕ) → IsLeastHead major n h → 0 < length h
 some_head major n h l = omega (arith, ap length l.1)

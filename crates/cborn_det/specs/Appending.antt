@@ -1,5 +1,6 @@
 -- What is written at the end of a buffer, or in the place of a byte.
-use Rattle.std.specs.Prelude.{◌≡◌, ℕ, ◌+◌, List, ◌++◌, take, drop}
+use Rattle.std.specs.Prelude.{◌≡◌, ◌+◌, ◌++◌}
+use Rattle.cborn_det.specs.Common.{ℕ, List, take, drop}
 
 -- new is old, followed by a list of which P holds
 abbrev pub Appends : (List ℕ → Type 0) → List ℕ → List ℕ → Type 0

@@ -1,10 +1,6 @@
 -- The deterministic encoding of an item (RFC 8949 section 4.2).
-use Rattle.std.specs.Prelude.{◌≡◌, ℕ, ◌^◌, ◌<◌, ◌≤◌, ◌⊎◌, Bool, true, false, List, [], ◌∷◌, ◌++◌, map, flat_map, length, IsPermutation, IsTrue, ⊤}
-use Rattle.std.specs.declared.cmp.Ordering.{Ordering}
-use Rattle.cborn_model.specs.Bytes.{big_endian}
-use Rattle.cborn_model.specs.Heads.{IsLeastHead, is_simple_value}
-use Rattle.cborn_model.specs.Orders.{Rising}
-use Rattle.cborn_model.specs.Value.{Value, Values, Couples, integer, bytes, text, array, dict, tagged, simple, no_values, value, no_pairs, pair, value_count, pair_count, pairs_of, listed}
+use Rattle.std.specs.Prelude.{◌≡◌, ◌^◌, ◌<◌, ◌≤◌, ◌⊎◌, ◌∷◌, ◌++◌}
+use Rattle.cborn_det.specs.Common.{ℕ, Bool, true, false, List, [], map, flat_map, length, IsPermutation, IsTrue, ⊤, Ordering, big_endian, IsLeastHead, is_simple_value, Rising, Value, Values, Couples, integer, bytes, text, array, dict, tagged, simple, no_values, value, no_pairs, pair, value_count, pair_count, pairs_of, listed}
 
 -- what a pair of a map encodes to: its key's bytes and its value's
 abbrev pub Entry : Type 0

@@ -1,3 +1,4 @@
+pub mod Common
 pub mod Det
 pub mod Appending
 pub mod shared

@@ -1,9 +1,8 @@
 //! The deterministic encoder of items.
 
-ghost use Rattle.std.specs.Prelude.{◌≡◌, ℕ, List, ◌↔◌, IfOk, OnOk, OnErr, IsTrue, MatchResult, map};
+ghost use Rattle.std.specs.Prelude.{◌≡◌, ◌↔◌};
+ghost use Rattle.cborn_det.specs.Common.{ℕ, List, IfOk, OnOk, OnErr, IsTrue, MatchResult, map, IsProper, AreProper, HasProperPairs, HasNewKeys, Same, values_of, pairs_of, dict};
 ghost use Rattle.cborn_model.specs.ItemView.{item_value, pair_value};
-ghost use Rattle.cborn_model.specs.Valid.{IsProper, AreProper, HasProperPairs, HasNewKeys};
-ghost use Rattle.cborn_model.specs.Value.{Same, values_of, pairs_of, dict};
 ghost use Rattle.cborn_det.specs.Appending.{Appends};
 ghost use Rattle.cborn_det.specs.devices.Writing.{AppendsPair, BeginsWith, IsWritten, Writes};
 ghost use Rattle.cborn_det.specs.Det.{Det, DetSeq, DetPairs, Entry};

@@ -1,8 +1,8 @@
 //! Arranging the entries of a map in a buffer, in which they follow one another. An entry is the
 //! bytes of a key and of its value.
 
-ghost use Rattle.std.specs.Prelude.{◌≡◌, List, ◌++◌, IfOk, OnOk, IsPermutation, ◌≤◌, length, take, drop};
-ghost use Rattle.cborn_model.specs.Orders.{Rising};
+ghost use Rattle.std.specs.Prelude.{◌≡◌, ◌++◌, ◌≤◌};
+ghost use Rattle.cborn_det.specs.Common.{List, IfOk, OnOk, IsPermutation, length, take, drop, Rising};
 ghost use Rattle.cborn_det.specs.devices.Writing.{BeginsWith, IsWritten, entries_of};
 ghost use Rattle.cborn_det.specs.shared.Distinct.{HasDistinctKeys};
 ghost use Rattle.cborn_det.specs.Det.{Entry, joined, keys};
@@ -12,6 +12,7 @@ use std::alloc::{AllocError, Global};
 
 /// Arranges the entries that `out` has from the offset `start` on, so that their keys rise.
 /// `lengths` are those of each key and value in bytes.
+#[tactic(auto, using(crate::proofs::Steps::begins_take))]
 pub(crate) fn arrange<O: KeyOrder>(
     alloc: Global,
     lengths: &[(usize, usize)],
@@ -45,6 +46,7 @@ fn arranged<O: KeyOrder>(
 }
 
 /// The entries in `written`, in their order, as slices of it.
+#[tactic(auto, using(crate::proofs::Cutting::cut_fits))]
 fn entries_in<'a>(
     alloc: Global,
     lengths: &[(usize, usize)],

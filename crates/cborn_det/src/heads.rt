@@ -1,8 +1,8 @@
 //! The shortest head, at the end of a buffer or in the place of a byte (RFC 8949 section 4.2.1). Other
 //! crates' passes use it too.
 
-ghost use Rattle.std.specs.Prelude.{◌≡◌, ◌<◌, length, OnOk, OnErr};
-ghost use Rattle.cborn_model.specs.Heads.{code, IsLeastHead};
+ghost use Rattle.std.specs.Prelude.{◌≡◌, ◌<◌};
+ghost use Rattle.cborn_det.specs.Common.{length, OnOk, OnErr, code, IsLeastHead};
 ghost use Rattle.cborn_det.specs.Appending.{Appends, Replaces};
 
 use cborn_model::{Major, Width, shortest};

@@ -1,14 +1,11 @@
 //! Laws of the deterministic encoding (RFC 8949 section 4.2): the contract of each function is a
 //! theorem for any order of keys.
 
-ghost use Rattle.std.specs.Prelude.{◌≡◌, ℕ, ◌+◌, ◌*◌, ◌≤◌, List, [], ◌++◌, ◌↔◌, All, IsPermutation, length};
-ghost use Rattle.std.specs.List.{AllZip};
+ghost use Rattle.std.specs.Prelude.{◌≡◌, ◌+◌, ◌*◌, ◌≤◌, ◌++◌, ◌↔◌};
+ghost use Rattle.cborn_det.specs.Common.{ℕ, List, [], All, IsPermutation, length, AllZip, Rising, IsProper, Value, Couples, dict, Same};
 ghost use Rattle.cborn_model.specs.Meaning.{Means};
-ghost use Rattle.cborn_model.specs.Orders.{Rising};
 ghost use Rattle.cborn_model.specs.Spelled.{FitsAll, spelled_all};
 ghost use Rattle.cborn_model.specs.Tree.{Tree, trees};
-ghost use Rattle.cborn_model.specs.Valid.{IsProper};
-ghost use Rattle.cborn_model.specs.Value.{Value, Couples, dict, Same};
 ghost use Rattle.cborn_det.specs.Det.{Det, DetSeq, DetMap, Entry, keys};
 
 use cborn_model::KeyOrder;
@@ -19,6 +16,7 @@ pub fn one_encoding<O: KeyOrder>()
 {}
 
 /// Every valid item, however deep, has an encoding.
+#[tactic(auto, using(crate::proofs::Canon::det_exists))]
 pub fn some_encoding<O: KeyOrder>()
     ensures { (a : Value) → IsProper a → (x : List ℕ) × Det O.order a x }
 {}
@@ -43,11 +41,13 @@ pub fn by_pairs<O: KeyOrder>()
 {}
 
 /// Two sequences of valid items have equal encodings exactly if they are the same, item by item.
+#[tactic(auto, using(crate::proofs::Common::recursion_from_All, crate::proofs::Canon::seq_of_one, crate::proofs::Canon::one_of_seq))]
 pub fn one_sequence<O: KeyOrder>()
     ensures { (vs ws : List Value) (x y : List ℕ) → All IsProper vs → All IsProper ws → DetSeq O.order vs x → DetSeq O.order ws y → (x ≡ y) ↔ AllZip Same vs ws }
 {}
 
 /// Every sequence of valid items has an encoding.
+#[tactic(auto, using(crate::proofs::Common::recursion_from_All, crate::proofs::Canon::seq_exists))]
 pub fn some_sequence<O: KeyOrder>()
     ensures { (vs : List Value) → All IsProper vs → (x : List ℕ) × DetSeq O.order vs x }
 {}
@@ -55,6 +55,7 @@ pub fn some_sequence<O: KeyOrder>()
 /// The encodings of items take at most a third more bytes than any spelling of them: three for each
 /// four, and one less for each item. Only lists of indefinite length, and bignums that fit 64 bits,
 /// grow.
+#[tactic(auto, using(crate::proofs::Room::sequence_room))]
 pub fn room<O: KeyOrder>()
     ensures { (nodes : List Tree) (vs : List Value) (x : List ℕ) → FitsAll (trees nodes) → AllZip Means nodes vs → DetSeq O.order vs x → 3 * length x + length nodes ≤ 4 * length (spelled_all (trees nodes)) }
 {}

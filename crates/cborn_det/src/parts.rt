@@ -1,9 +1,7 @@
 //! The parts of an encoding, at the end of a buffer: strings, integers and simple values.
 
-ghost use Rattle.std.specs.Prelude.{◌≡◌, ◌++◌, ℕ, List, OnOk, OnErr, IsTrue};
-ghost use Rattle.std.specs.declared.cmp.Ordering.{Ordering};
-ghost use Rattle.cborn_model.specs.Heads.{code, is_simple_value};
-ghost use Rattle.cborn_model.specs.Value.{simple};
+ghost use Rattle.std.specs.Prelude.{◌≡◌, ◌++◌};
+ghost use Rattle.cborn_det.specs.Common.{ℕ, List, OnOk, OnErr, IsTrue, Ordering, code, is_simple_value, simple};
 ghost use Rattle.cborn_det.specs.Appending.{Appends};
 ghost use Rattle.cborn_det.specs.devices.Writing.{Writes};
 ghost use Rattle.cborn_det.specs.Det.{Det, IsInteger, IsString, major_of};

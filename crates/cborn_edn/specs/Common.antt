@@ -12,7 +12,7 @@ pub use Rattle.cborn_edn.specs.declared.states.Joint.{Joint}
 pub use Rattle.cborn_edn.specs.declared.states.Level.{Level}
 pub use Rattle.cborn_edn.specs.declared.states.OpenBracket.{OpenBracket}
 pub use Rattle.cborn_edn.specs.declared.states.Phase.{Phase}
-pub use Rattle.cborn_edn.specs.declared.states.Phase.TheVariants.{Builds, Has, HasNumber, Wants, WantsMore, WantsNumber}
+pub use Rattle.cborn_edn.specs.declared.states.Phase.TheVariants.{Builds, Has, HasNumber, Wants, WantsChunk, WantsMore, WantsNumber}
 pub use Rattle.cborn_edn.specs.declared.states.Writer.{Writer}
 pub use Rattle.cborn_lex.specs.Bad.{FailsAt, HasNoTokenFrom}
 pub use Rattle.cborn_lex.specs.Good.{HasTokens, IsName, TokensBetween}

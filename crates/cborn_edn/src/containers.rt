@@ -1,8 +1,8 @@
 //! Brackets that open and end, and commas and colons between items.
 
 ghost use Rattle.std.specs.Prelude.{◌≡◌, ℕ, ◌<◌, ◌^◌, [], ◌∷◌, ◌++◌, List, length, Option, Some, None, OnOk, true, false, ◌&&◌, if◌then◌else◌};
-ghost use Rattle.cborn_edn.specs.Common.{Tree, trees, spelled_all, Mark as Indicator, Speller as OneSpeller, top, no_part, OpenBracket as Opened, Writer as Writing, Has, Wants, OfBytes};
-ghost use Rattle.cborn_edn.specs.devices.Common.{Span as Place, Item, Content, Pieces as Joined, no_item, no_pair, array, map, tag, embedded, row, RowBefore, after_row, pairs, PairsBefore, after_pairs, Stack, Nest, in_row, in_key, in_value, in_tag, in_array, in_embed, Home, State, with_piece, wants, has, builds, at_home, Shows, content_state, entries_at, IsSpelled, Reads, joint, Notes, Sized};
+ghost use Rattle.cborn_edn.specs.Common.{Here as Where, Builds, Tree, trees, spelled_all, Mark as Indicator, Speller as OneSpeller, top, no_part, OpenBracket as Opened, Writer as Writing, Has, Wants, OfBytes};
+ghost use Rattle.cborn_edn.specs.devices.Common.{Span as Place, Item, Content, Pieces as Joined, no_item, no_pair, array, map, tag, embedded, row, RowBefore, after_row, pairs, PairsBefore, after_pairs, Stack, Nest, in_row, in_key, in_value, in_tag, in_array, in_embed, Home, State, with_piece, wants, has, builds, at_home, Shows, content_state, entries_at, IsSpelled, Reads, joint, Notes, after_opening, Sized};
 ghost use Rattle.cborn_edn.specs.Cited.{Str, joined, piece_errors, size_errors};
 ghost use Rattle.cborn_edn.specs.devices.Handed as pure;
 
@@ -30,38 +30,40 @@ fn size_asked(mark: Mark) -> Size
     }
 }
 
-/// Opens an array at `place`.
+/// Opens a map, or else an array, at the offset `here.at`.
 #[inline(always)]
-pub(crate) fn open_array<V: Visitor>(
+pub(crate) fn open_sized<V: Visitor>(
+    is_map: bool,
     mark: Mark,
-    place: usize,
     here: &mut Here,
     writer: &mut Writer,
     visitor: &mut V,
 ) -> Result<(), AllocError>
-    ensures { OnOk result ((st : Stack) (a : Place) → place ≡ a.start → Reads (V.holds visitor.old) here.old writer.old writer.old.pieces.items (wants st) → Reads (V.holds visitor.new) here.new writer.new writer.new.pieces.items (wants (in_row (in_array st a mark) no_item))) }
+    ensures { OnOk result ((st : Stack) (a : Place) → here.old.at ≡ a.start → Reads (V.holds visitor.old) here.old writer.old writer.old.pieces.items (wants st) → Reads (V.holds visitor.new) here.new writer.new writer.new.pieces.items (wants (after_opening is_map st a mark))) }
 {
-    let event = Event::Array(size_asked(mark));
+    let place = here.at;
+    let size = size_asked(mark);
     let spellers = &mut writer.spellers;
-    hand(event, place, &[], writer.error, spellers, visitor)?;
+    if is_map {
+        hand(
+            Event::Map(size),
+            place,
+            &[],
+            writer.error,
+            spellers,
+            visitor,
+        )?;
+        return open_bracket(Level::Key, mark, place, here, writer);
+    }
+    hand(
+        Event::Array(size),
+        place,
+        &[],
+        writer.error,
+        spellers,
+        visitor,
+    )?;
     open_bracket(Level::Array, mark, place, here, writer)
-}
-
-/// Opens a map at `place`.
-#[inline(always)]
-pub(crate) fn open_map<V: Visitor>(
-    mark: Mark,
-    place: usize,
-    here: &mut Here,
-    writer: &mut Writer,
-    visitor: &mut V,
-) -> Result<(), AllocError>
-    ensures { OnOk result ((st : Stack) (a : Place) → place ≡ a.start → Reads (V.holds visitor.old) here.old writer.old writer.old.pieces.items (wants st) → Reads (V.holds visitor.new) here.new writer.new writer.new.pieces.items (wants (in_key st a mark no_pair))) }
-{
-    let event = Event::Map(size_asked(mark));
-    let spellers = &mut writer.spellers;
-    hand(event, place, &[], writer.error, spellers, visitor)?;
-    open_bracket(Level::Key, mark, place, here, writer)
 }
 
 /// Opens a tag at `place`, whose content is wanted.
@@ -93,12 +95,23 @@ fn low_bits(number: u128) -> u64
 }
 
 /// Opens a `<<` at `place`, as the first piece of a string or a later one.
+#[inline(always)]
 pub(crate) fn open_embedded(
     place: usize,
     here: &mut Here,
     writer: &mut Writer,
 ) -> Result<(), AllocError>
     ensures shows { OnOk result ((h : Home) (o : Option Joined) (a : Place) → place ≡ a.start → Shows here.old writer.old writer.old.pieces.items (at_home h o) → Shows here.new writer.new writer.new.pieces.items (wants (in_row (in_embed h o a) no_item))) }
+    ensures spellers { OnOk result ((p : OneSpeller) × (writer.new.spellers ≡ p ∷ writer.old.spellers) × ⟦<Speller as Visitor>⟧.holds p (top []) no_part) }
+{
+    open_around(writer)?;
+    open_bracket(Level::Embedded, Mark::Absent, place, here, writer)
+}
+
+/// Keeps what is around a `<<` that opens, and begins what is inside.
+#[inline(never)]
+fn open_around(writer: &mut Writer) -> Result<(), AllocError>
+    ensures kept { OnOk result (writer.new ≡ record writer.old { start = length writer.old.pieces.items; around = record { start = writer.old.start; string = writer.old.string; chunks = writer.old.chunks; error = writer.old.error } ∷ writer.old.around; spellers = writer.new.spellers; string = None; chunks = None; error = None }) }
     ensures spellers { OnOk result ((p : OneSpeller) × (writer.new.spellers ≡ p ∷ writer.old.spellers) × ⟦<Speller as Visitor>⟧.holds p (top []) no_part) }
 {
     let around = Around {
@@ -113,7 +126,7 @@ pub(crate) fn open_embedded(
     writer.string = None;
     writer.chunks = None;
     writer.error = None;
-    open_bracket(Level::Embedded, Mark::Absent, place, here, writer)
+    Ok(())
 }
 
 /// Opens a bracket, in which an item is wanted.
@@ -125,7 +138,7 @@ fn open_bracket(
     here: &mut Here,
     writer: &mut Writer,
 ) -> Result<(), AllocError>
-    ensures here { OnOk result (here.new ≡ record { at = here.old.at; count = 0; phase = Wants; level = Some level }) }
+    ensures here { OnOk result (here.new ≡ record { at = here.old.at; count = 0; phase = Wants; level = level }) }
     ensures writer { OnOk result (writer.new ≡ record writer.old { brackets = record { place = place; count = here.old.count; level = here.old.level; mark = mark } ∷ writer.old.brackets }) }
 {
     let bracket = OpenBracket {
@@ -137,7 +150,7 @@ fn open_bracket(
     writer.brackets.open(bracket)?;
     here.count = 0;
     here.phase = Phase::Wants;
-    here.level = Some(level);
+    here.level = level;
     Ok(())
 }
 
@@ -158,6 +171,7 @@ fn all_entries(here: &Here) -> u64
 fn shut(here: &mut Here, writer: &mut Writer) -> OpenBracket
     requires { 0 < length writer.old.brackets }
     ensures rest { writer.new ≡ record writer.old { brackets = writer.new.brackets } }
+    ensures was { writer.old.brackets ≡ result ∷ writer.new.brackets }
     ensures top { (f : Opened) (fs : List Opened) → writer.old.brackets ≡ f ∷ fs → (result ≡ f) × (writer.new ≡ record writer.old { brackets = fs }) × (here.new ≡ record here.old { count = f.count; phase = Has; level = f.level }) }
 {
     let Some(bracket) = writer.brackets.shut() else {
@@ -213,6 +227,7 @@ pub(crate) fn close_tag<V: Visitor>(
 }
 
 /// Ends a `<<` with a `>>` at `place`: it is then a piece of a string.
+#[inline(always)]
 pub(crate) fn close_embedded(
     mark: Mark,
     place: usize,
@@ -224,22 +239,39 @@ pub(crate) fn close_embedded(
     ensures spellers { OnOk result ((p : OneSpeller) × (writer.old.spellers ≡ p ∷ writer.new.spellers)) }
 {
     let bracket = shut(here, writer);
-    let Some(around) = writer.around.shut() else {
-        unreachable!();
-    };
+    close_around(mark, bracket.place, place, writer)?;
+    here.phase = Phase::Builds;
+    Ok(())
+}
+
+/// Ends a `<<` at `opened`, whose bracket was taken off, with a `>>` at `place`: it is then a piece of
+/// a string.
+#[inline(never)]
+fn close_around(
+    mark: Mark,
+    opened: usize,
+    place: usize,
+    writer: &mut Writer,
+) -> Result<(), AllocError>
+    requires { (here : Where) × (f : Opened) × (h : Home) × (o : Option Joined) × (s : Place) × (c : Content) × Shows here (record writer.old { brackets = f ∷ writer.old.brackets }) writer.old.pieces.items (content_state (in_embed h o s) c) × IsSpelled writer.old.spellers (content_state (in_embed h o s) c) }
+    ensures shows { OnOk result ((here : Where) (f : Opened) (h : Home) (o : Option Joined) (s a : Place) (c : Content) → f.place ≡ opened → place ≡ a.start → Shows here (record writer.old { brackets = f ∷ writer.old.brackets }) writer.old.pieces.items (content_state (in_embed h o s) c) → IsSpelled writer.old.spellers (content_state (in_embed h o s) c) → Shows (record here { count = f.count; phase = Builds; level = f.level }) writer.new writer.new.pieces.items (builds h (with_piece o (embedded s c a mark)))) }
+    ensures spellers { OnOk result ((p : OneSpeller) × (writer.old.spellers ≡ p ∷ writer.new.spellers)) }
+{
     let Some(speller) = writer.spellers.innermost() else {
         unreachable!();
     };
     let known = is_none(writer.error);
     push_spelled(known, speller, &mut writer.pieces)?;
     writer.spellers.shut();
+    let Some(around) = writer.around.shut() else {
+        unreachable!();
+    };
     writer.error = earlier(around.error, writer.error);
     let error = &mut writer.error;
-    let string = with_embedded(around.string, bracket.place, known, mark, place, error);
+    let string = with_embedded(around.string, opened, known, mark, place, error);
     writer.start = around.start;
     writer.chunks = around.chunks;
     writer.string = Some(string);
-    here.phase = Phase::Builds;
     Ok(())
 }
 
@@ -298,34 +330,4 @@ fn are_both(one: bool, other: bool) -> bool
     ensures { result ≡ (one && other) }
 {
     one && other
-}
-
-/// Takes a comma after an item of an array, of a `<<` or of the whole text.
-#[inline(always)]
-pub(crate) fn comma(here: &mut Here)
-    requires { here.old.count < 2 ^ 63 }
-    ensures { (w : Writing) (out : List ℕ) (n : Nest) (b : RowBefore) (i : Item) (a : Place) → Shows here.old w out (has (in_row n b) i) → Shows here.new w out (wants (in_row n (after_row (row b i) a))) }
-{
-    here.count += 1;
-    here.phase = Phase::WantsMore;
-}
-
-/// Takes a comma after a pair of a map.
-#[inline(always)]
-pub(crate) fn comma_of_pairs(here: &mut Here)
-    requires { here.old.count < 2 ^ 63 }
-    ensures { (w : Writing) (out : List ℕ) (st : Stack) (s c a : Place) (m : Indicator) (b : PairsBefore) (k v : Item) → Shows here.old w out (has (in_value st s m b k c) v) → Shows here.new w out (wants (in_key st s m (after_pairs (pairs b k c v) a))) }
-{
-    here.count += 1;
-    here.phase = Phase::WantsMore;
-    here.level = Some(Level::Key);
-}
-
-/// Takes a colon after a key.
-#[inline(always)]
-pub(crate) fn colon(here: &mut Here)
-    ensures { (w : Writing) (out : List ℕ) (st : Stack) (s c : Place) (m : Indicator) (b : PairsBefore) (k : Item) → Shows here.old w out (has (in_key st s m b) k) → Shows here.new w out (wants (in_value st s m b k c)) }
-{
-    here.phase = Phase::Wants;
-    here.level = Some(Level::Value);
 }

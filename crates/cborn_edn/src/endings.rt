@@ -6,7 +6,7 @@ ghost use Rattle.cborn_edn.specs.Common.{ArrayClose, MapClose, EmbedClose, Paren
 ghost use Rattle.cborn_edn.specs.devices.Common.{Span as Place, Item, Stack, State, has, Shows, Reads, MayEnd, Turned, Taken};
 ghost use Rattle.cborn_edn.specs.devices.Steps as pure;
 
-use crate::containers::{close_embedded, close_sized, close_tag, colon, comma, comma_of_pairs};
+use crate::containers::{close_embedded, close_sized, close_tag};
 use crate::states::{Chunks, Here, Level, Phase, Writer};
 use cborn_lex::Mark;
 use cborn_model::Visitor;
@@ -14,29 +14,28 @@ use std::alloc::AllocError;
 
 /// Whether the innermost bracket is of this kind.
 #[inline(always)]
-fn is_in(kind: Level, level: Option<Level>) -> bool
+fn is_in(kind: Level, level: Level) -> bool
     ensures { result ≡ pure.is_in kind level }
 {
     match (kind, level) {
-        (Level::Array, Some(Level::Array)) | (Level::Embedded, Some(Level::Embedded)) => true,
-        (Level::Key, Some(Level::Key)) | (Level::Value, Some(Level::Value)) => true,
-        (Level::Tag, Some(Level::Tag)) => true,
+        (Level::Array, Level::Array) | (Level::Embedded, Level::Embedded) => true,
+        (Level::Key, Level::Key) | (Level::Value, Level::Value) | (Level::Tag, Level::Tag) => true,
         _ => false,
     }
 }
 
 /// Whether commas separate items there: in an array, in a `<<`, or where no bracket is open.
 #[inline(always)]
-fn is_row(level: Option<Level>) -> bool
+fn is_row(level: Level) -> bool
     ensures { result ≡ pure.is_row level }
 {
-    matches!(level, None | Some(Level::Array | Level::Embedded))
+    matches!(level, Level::Outside | Level::Array | Level::Embedded)
 }
 
 /// Whether the innermost bracket is a map that may end in this phase, before a key or after a value;
 /// or else whether it is an array.
 #[inline(always)]
-fn ends_sized(is_map: bool, phase: Phase, level: Option<Level>) -> bool
+pub(crate) fn ends_sized(is_map: bool, phase: Phase, level: Level) -> bool
     ensures { result ≡ pure.ends_sized is_map phase level }
 {
     if !is_map {
@@ -123,7 +122,8 @@ pub(crate) fn end_key(here: &mut Here, writer: &Writer) -> bool
     if !is_in(Level::Key, here.level) {
         return false;
     }
-    colon(here);
+    here.phase = Phase::Wants;
+    here.level = Level::Value;
     true
 }
 
@@ -135,12 +135,15 @@ pub(crate) fn end_entry(here: &mut Here, writer: &Writer) -> bool
     ensures kept { result ≡ false → here.new ≡ here.old }
 {
     if is_in(Level::Value, here.level) {
-        comma_of_pairs(here);
+        here.count += 1;
+        here.phase = Phase::WantsMore;
+        here.level = Level::Key;
         return true;
     }
     if !is_row(here.level) {
         return false;
     }
-    comma(here);
+    here.count += 1;
+    here.phase = Phase::WantsMore;
     true
 }

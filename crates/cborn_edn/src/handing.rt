@@ -47,6 +47,9 @@ fn hand_inside(
     requires { Fits event content.now }
     ensures { OnOk result (InnermostFollows event place content.now spellers.old spellers.new) }
 {
+    if let Event::Integer { negative, width, n } = event {
+        return spellers.integer(place, negative, width, n);
+    }
     let copy = event;
     spellers.hand(copy, place, content)
 }

@@ -1,10 +1,11 @@
 //! Brackets with their indicators (RFC 8949 section 8, RFC 8610 appendix G.3).
 
-ghost use Rattle.std.specs.Prelude.{◌≡◌, ◌≤◌, ◌<◌, ◌+◌, length, slice_index, true, IfSome};
-ghost use Rattle.cborn_edn.specs.Common.{Profile};
-ghost use Rattle.cborn_edn.specs.devices.Common.{IsTokenAt};
+ghost use Rattle.std.specs.Prelude.{Bool, ◌≡◌, ◌≤◌, ◌<◌, ◌+◌, length, slice_index, true, IfSome};
+ghost use Rattle.cborn_edn.specs.Common.{Profile, Absent};
+ghost use Rattle.cborn_edn.specs.devices.Common.{IsTokenAt, opening, opening_character};
 ghost use Rattle.cborn_lex.specs.declared.classes.Class.TheVariants as classes;
 
+use crate::integers::begins_with;
 use cborn_lex::{Mark, mark_at};
 
 /// The indicator of the opening bracket at the offset `at` of `text`, and the offset after it.
@@ -13,11 +14,33 @@ use cborn_lex::{Mark, mark_at};
 pub(crate) fn opening_at(text: &[u8], at: usize) -> Option<(Mark, usize)>
     requires { at < length text.now }
     ensures within { IfSome result (λ r. r.1 ≤ length text.now) }
-    ensures array { IfSome result (λ r. (profile : Profile) → slice_index text.now at ≡ 91 → IsTokenAt profile text.now at r.1 (classes.ArrayOpen r.0)) }
-    ensures map { IfSome result (λ r. (profile : Profile) → slice_index text.now at ≡ 123 → IsTokenAt profile text.now at r.1 (classes.MapOpen r.0)) }
+    ensures token { IfSome result (λ r. (profile : Profile) (is_map : Bool) → slice_index text.now at ≡ opening_character is_map → IsTokenAt profile text.now at r.1 (opening is_map r.0)) }
 {
     let (mark, len) = mark_at(&text[at + 1..]);
     Some((mark?, at + 1 + len))
+}
+
+/// Whether `text` has a `{`, or else a `[`, at the offset `at`, and no indicator after it.
+#[inline(always)]
+pub(crate) fn opens_at(is_map: bool, text: &[u8], at: usize) -> bool
+    ensures within { result ≡ true → at < length text.now }
+    ensures token { result ≡ true → (profile : Profile) → IsTokenAt profile text.now at (at + 1) (opening is_map Absent) }
+{
+    if at >= text.len() {
+        return false;
+    }
+    if text[at] != opening_character(is_map) {
+        return false;
+    }
+    !begins_with(b'_', &text[at + 1..])
+}
+
+/// The bracket that begins a map, or else an array.
+#[inline(always)]
+fn opening_character(is_map: bool) -> u8
+    ensures { result ≡ opening_character is_map }
+{
+    if is_map { b'{' } else { b'[' }
 }
 
 /// The indicator of the `>>` at the offset `at` of `text`, where a `>` is, and the offset after it.

@@ -9,7 +9,7 @@ ghost use Rattle.cborn_edn.specs.devices.Reading as pure;
 
 use crate::endings::has_chunks;
 use crate::quick::take_common;
-use crate::quick_ends::take_empty_end;
+use crate::quick_items::take_marked;
 use crate::refusals::{first_fault, refused};
 use crate::spellers::Spellers;
 use crate::states::{Chunks, Here, Level, Opened, Phase, Source, Writer};
@@ -110,7 +110,7 @@ fn read_tokens<V: Visitor>(
     let mut here = Here::FIRST;
     'tokens: while here.at < source.text.len() {
         if !take_common(source, &mut here, writer, visitor)? && here.at < source.text.len() {
-            let mut next = here.same();
+            let mut next = here;
             take_rare(
                 alloc,
                 source.limit,
@@ -120,7 +120,7 @@ fn read_tokens<V: Visitor>(
                 writer,
                 visitor,
             )?;
-            here.become_next(next);
+            here = next;
         }
     }
     Ok(here)
@@ -146,7 +146,7 @@ fn take_rare<V: Visitor>(
         profile,
         text,
     };
-    if take_empty_end(source, here, writer, visitor)? || here.at == source.text.len() {
+    if take_marked(source, here, writer, visitor)? || here.at == source.text.len() {
         return Ok(());
     }
     step(alloc, source, here, writer, visitor)
@@ -239,13 +239,13 @@ fn finish<V: Visitor>(
 }
 
 /// Whether a text may end in this phase: no bracket is open, and nothing else has to follow.
-fn may_end(phase: Phase, level: Option<Level>, chunks: Option<Chunks>) -> bool
+fn may_end(phase: Phase, level: Level, chunks: Option<Chunks>) -> bool
     ensures { result ≡ pure.may_end phase level chunks }
 {
     match (phase, level) {
-        (Phase::Wants, None) => true,
-        (Phase::Has, None) => true,
-        (Phase::Builds, None) => !has_chunks(chunks),
+        (Phase::Wants, Level::Outside) => true,
+        (Phase::Has, Level::Outside) => true,
+        (Phase::Builds, Level::Outside) => !has_chunks(chunks),
         _ => false,
     }
 }

@@ -11,10 +11,9 @@ ghost use Rattle.cborn_edn.specs.declared.states.Phase.TheVariants as phases;
 
 use crate::integers::integer_at;
 use crate::numbers::{Numeral, close_simple, put_simple};
-use crate::quick_ends::{take_after, take_after_pieces, take_sized_end};
+use crate::quick_ends::{take_after, take_after_pieces, take_empty_end};
 use crate::quick_items::{
-    take_array, take_chunked, take_embedded, take_integer, take_map, take_negative, take_text,
-    take_word,
+    take_chunked, take_embedded, take_integer, take_negative, take_openings, take_text, take_word,
 };
 use crate::states::{Here, Phase, Source, Writer};
 use crate::white_space::{begins_white_space, skip_white_space};
@@ -32,46 +31,32 @@ pub(crate) fn take_common<V: Visitor>(
     requires { IsInside (V.holds visitor.old) source here.old writer.old }
     ensures { IfOk result (Goes (V.holds visitor.new) source.entry here.old here.new writer.new) }
 {
-    match here.phase {
-        Phase::Wants | Phase::WantsMore => take_item(source, here, writer, visitor),
-        Phase::Has => take_after(
-            source.limit,
-            source.profile,
-            source.text,
-            here,
-            writer,
-            visitor,
-        ),
-        Phase::Builds => take_after_pieces(source, here, writer, visitor),
-        Phase::WantsNumber => take_simple_number(source, here, writer, visitor),
-        Phase::HasNumber => take_simple_end(source, here, writer, visitor),
-        Phase::WantsChunk => Ok(false),
+    let taken = take_before(source, here, writer, visitor)?;
+    if here.phase == Phase::Has && here.at < source.text.len() {
+        return take_after(source, here, writer, visitor);
     }
+    Ok(taken)
 }
 
-/// Takes an item and what follows it, a bracket, or white space, where an item is wanted.
+/// Takes what is next in the text, if it is frequent and no item was read last. Ends a string.
 #[inline(always)]
-fn take_item<V: Visitor>(
+fn take_before<V: Visitor>(
     source: Source,
     here: &mut Here,
     writer: &mut Writer,
     visitor: &mut V,
 ) -> Result<bool, AllocError>
-    requires { IsWanting (V.holds visitor.old) source here.old writer.old }
+    requires { IsInside (V.holds visitor.old) source here.old writer.old }
     ensures { IfOk result (Goes (V.holds visitor.new) source.entry here.old here.new writer.new) }
 {
-    let taken = take_first(source, here, writer, visitor)?;
-    if taken && here.phase == Phase::Has && here.at < source.text.len() {
-        take_after(
-            source.limit,
-            source.profile,
-            source.text,
-            here,
-            writer,
-            visitor,
-        )?;
+    match here.phase {
+        Phase::Wants | Phase::WantsMore => take_first(source, here, writer, visitor),
+        Phase::Has => Ok(false),
+        Phase::Builds => take_after_pieces(source, here, writer, visitor),
+        Phase::WantsNumber => take_simple_number(source, here, writer, visitor),
+        Phase::HasNumber => take_simple_end(source, here, writer, visitor),
+        Phase::WantsChunk => Ok(false),
     }
-    Ok(taken)
 }
 
 /// Takes an item, a bracket, or white space, where an item is wanted.
@@ -89,57 +74,15 @@ fn take_first<V: Visitor>(
         b'0'..=b'9' => take_integer(source, here, writer, visitor),
         b'"' => take_text(source, here, writer, visitor),
         b'-' => take_negative(source, here, writer, visitor),
-        b'[' => take_row(source, here, writer, visitor),
-        b'{' => take_pairs(source, here, writer, visitor),
+        b'[' => take_openings(false, source, here, writer, visitor),
+        b'{' => take_openings(true, source, here, writer, visitor),
         b'f' | b'n' | b't' | b'u' => take_word(source, here, writer, visitor),
         b'<' => take_embedded(source, here, writer, visitor),
         b'(' => take_chunked(source, here, writer, visitor),
+        b']' => take_empty_end(false, source, here, writer, visitor),
+        b'}' => take_empty_end(true, source, here, writer, visitor),
         _ => take_white_space(source, here, writer, visitor),
     }
-}
-
-/// Takes a `[`, and also the `]` if it follows directly.
-#[inline(always)]
-fn take_row<V: Visitor>(
-    source: Source,
-    here: &mut Here,
-    writer: &mut Writer,
-    visitor: &mut V,
-) -> Result<bool, AllocError>
-    requires wanting { IsWanting (V.holds visitor.old) source here.old writer.old }
-    requires bracket { slice_index source.text.now here.old.at ≡ 91 }
-    ensures { IfOk result (Goes (V.holds visitor.new) source.entry here.old here.new writer.new) }
-{
-    if !has_byte_at(b']', source.text.as_bytes(), here.at + 1) {
-        return take_array(source, here, writer, visitor);
-    }
-    let taken = take_array(source, here, writer, visitor)?;
-    if taken && here.phase == Phase::Wants && has_byte_at(b']', source.text.as_bytes(), here.at) {
-        take_sized_end(false, source, here, writer, visitor)?;
-    }
-    Ok(taken)
-}
-
-/// Takes a `{`, and also the `}` if it follows directly.
-#[inline(always)]
-fn take_pairs<V: Visitor>(
-    source: Source,
-    here: &mut Here,
-    writer: &mut Writer,
-    visitor: &mut V,
-) -> Result<bool, AllocError>
-    requires wanting { IsWanting (V.holds visitor.old) source here.old writer.old }
-    requires bracket { slice_index source.text.now here.old.at ≡ 123 }
-    ensures { IfOk result (Goes (V.holds visitor.new) source.entry here.old here.new writer.new) }
-{
-    if !has_byte_at(b'}', source.text.as_bytes(), here.at + 1) {
-        return take_map(source, here, writer, visitor);
-    }
-    let taken = take_map(source, here, writer, visitor)?;
-    if taken && here.phase == Phase::Wants && has_byte_at(b'}', source.text.as_bytes(), here.at) {
-        take_sized_end(true, source, here, writer, visitor)?;
-    }
-    Ok(taken)
 }
 
 /// Whether `text` has the byte `c` at the offset `at`.

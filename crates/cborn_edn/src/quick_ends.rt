@@ -1,45 +1,38 @@
 //! Frequent tokens after an item or after the pieces of a string, taken without the lexer. Each
 //! function answers whether it took something.
 
-ghost use Rattle.std.specs.Prelude.{◌≡◌, ◌⊎◌, true, slice_index, IfOk, if◌then◌else◌};
+ghost use Rattle.std.specs.Prelude.{◌≡◌, ◌<◌, ◌⊎◌, true, length, slice_index, IfOk, if◌then◌else◌};
 ghost use Rattle.cborn_edn.specs.declared.states.Phase.TheVariants as phases;
-ghost use Rattle.cborn_edn.specs.devices.Common.{IsInside, Goes, of_text};
+ghost use Rattle.cborn_edn.specs.devices.Common.{IsInside, Goes};
 ghost use Rattle.cborn_edn.specs.devices.Steps as pure;
 
-use crate::endings::{end_embedded, end_entry, end_key, end_sized, end_tag, has_chunks};
+use crate::containers::close_sized;
+use crate::endings::{end_embedded, end_entry, end_key, end_tag, ends_sized, has_chunks};
 use crate::marks::embed_end_at;
 use crate::quick::{skip_space, take_white_space};
 use crate::states::{Here, Phase, Source, Writer};
 use crate::strings::{end_chunk, end_chunks, end_item};
 use crate::texts::ends_string;
-use cborn_lex::Profile;
 use cborn_model::Visitor;
 use std::alloc::AllocError;
 
 /// Takes what follows an item: a comma, a colon, a bracket that ends, or white space.
 #[inline(always)]
 pub(crate) fn take_after<V: Visitor>(
-    limit: u64,
-    profile: Profile,
-    text: &str,
+    source: Source,
     here: &mut Here,
     writer: &mut Writer,
     visitor: &mut V,
 ) -> Result<bool, AllocError>
-    requires inside { IsInside (V.holds visitor.old) (of_text limit profile text) here.old writer.old }
+    requires inside { IsInside (V.holds visitor.old) source here.old writer.old }
     requires has { here.old.phase ≡ phases.Has }
-    ensures { IfOk result (Goes (V.holds visitor.new) (of_text limit profile text.entry) here.old here.new writer.new) }
+    ensures { IfOk result (Goes (V.holds visitor.new) source.entry here.old here.new writer.new) }
 {
-    let source = Source {
-        limit,
-        profile,
-        text,
-    };
     match source.text.as_bytes()[here.at] {
         b',' => take_comma(source, here, writer, visitor),
         b':' => take_colon(source, here, writer, visitor),
-        b']' => take_sized_end(false, source, here, writer, visitor),
-        b'}' => take_sized_end(true, source, here, writer, visitor),
+        b']' => take_sized_ends(false, source, here, writer, visitor),
+        b'}' => take_sized_ends(true, source, here, writer, visitor),
         b')' => take_tag_end(source, here, writer, visitor),
         b'>' => take_embed_end(source, here, writer, visitor),
         _ => take_white_space(source, here, writer, visitor),
@@ -60,12 +53,12 @@ fn take_comma<V: Visitor>(
     ensures { IfOk result (Goes (V.holds visitor.new) source.entry here.old here.new writer.new) }
 {
     let at = here.at;
-    let taken = end_entry(here, writer);
-    if taken {
-        here.at = at + 1;
-        skip_space(source.text, here);
+    if !end_entry(here, writer) {
+        return Ok(false);
     }
-    Ok(taken)
+    here.at = at + 1;
+    skip_space(source.text, here);
+    Ok(true)
 }
 
 /// Takes a colon after an item, and a space after the colon.
@@ -82,17 +75,17 @@ fn take_colon<V: Visitor>(
     ensures { IfOk result (Goes (V.holds visitor.new) source.entry here.old here.new writer.new) }
 {
     let at = here.at;
-    let taken = end_key(here, writer);
-    if taken {
-        here.at = at + 1;
-        skip_space(source.text, here);
+    if !end_key(here, writer) {
+        return Ok(false);
     }
-    Ok(taken)
+    here.at = at + 1;
+    skip_space(source.text, here);
+    Ok(true)
 }
 
-/// Takes the `}` of a map, or the `]` of an array.
+/// Takes each `}` of a map, or each `]` of an array, up to the first other character.
 #[inline(always)]
-pub(crate) fn take_sized_end<V: Visitor>(
+pub(crate) fn take_sized_ends<V: Visitor>(
     is_map: bool,
     source: Source,
     here: &mut Here,
@@ -101,19 +94,38 @@ pub(crate) fn take_sized_end<V: Visitor>(
 ) -> Result<bool, AllocError>
     requires inside { IsInside (V.holds visitor.old) source here.old writer.old }
     requires ends { (here.old.phase ≡ phases.Has) ⊎ (here.old.phase ≡ phases.Wants) }
-    requires bracket { slice_index source.text.now here.old.at ≡ (if is_map then 125 else 93) }
     ensures { IfOk result (Goes (V.holds visitor.new) source.entry here.old here.new writer.new) }
 {
-    let at = here.at;
-    let taken = end_sized(is_map, here, writer, visitor)?;
-    if taken {
+    let was = here.at;
+    'brackets: while closes(is_map, source.text.as_bytes(), here) {
+        let at = here.at;
+        close_sized(here, writer, visitor)?;
         here.at = at + 1;
     }
-    Ok(taken)
+    Ok(here.at > was)
 }
 
-/// Takes a `]` or `}` where an item may begin: after a bracket that is empty but for white space.
+/// Whether a `}` of a map or a `]` of an array is next, which may end there.
+#[inline(always)]
+fn closes(is_map: bool, text: &[u8], here: &Here) -> bool
+    ensures within { result ≡ true → here.now.at < length text.now }
+    ensures bracket { result ≡ true → slice_index text.now here.now.at ≡ (if is_map then 125 else 93) }
+    ensures ends { result ≡ true → pure.ends_sized is_map here.now.phase here.now.level ≡ true }
+{
+    if here.at >= text.len() {
+        return false;
+    }
+    let bracket = if is_map { b'}' } else { b']' };
+    if text[here.at] != bracket {
+        return false;
+    }
+    ends_sized(is_map, here.phase, here.level)
+}
+
+/// Takes a `}` or `]` directly after the bracket that opens.
+#[inline(always)]
 pub(crate) fn take_empty_end<V: Visitor>(
+    is_map: bool,
     source: Source,
     here: &mut Here,
     writer: &mut Writer,
@@ -122,14 +134,10 @@ pub(crate) fn take_empty_end<V: Visitor>(
     requires { IsInside (V.holds visitor.old) source here.old writer.old }
     ensures { IfOk result (Goes (V.holds visitor.new) source.entry here.old here.new writer.new) }
 {
-    if !matches!(here.phase, Phase::Wants) {
+    if here.phase != Phase::Wants {
         return Ok(false);
     }
-    match source.text.as_bytes()[here.at] {
-        b']' => take_sized_end(false, source, here, writer, visitor),
-        b'}' => take_sized_end(true, source, here, writer, visitor),
-        _ => Ok(false),
-    }
+    take_sized_ends(is_map, source, here, writer, visitor)
 }
 
 /// Takes the `)` of a tag.
@@ -146,11 +154,11 @@ fn take_tag_end<V: Visitor>(
     ensures { IfOk result (Goes (V.holds visitor.new) source.entry here.old here.new writer.new) }
 {
     let at = here.at;
-    let taken = end_tag(here, writer, visitor)?;
-    if taken {
-        here.at = at + 1;
+    if !end_tag(here, writer, visitor)? {
+        return Ok(false);
     }
-    Ok(taken)
+    here.at = at + 1;
+    Ok(true)
 }
 
 /// Takes a `>>` after an item.
@@ -169,11 +177,11 @@ fn take_embed_end<V: Visitor>(
     let Some((mark, stop)) = embed_end_at(source.text.as_bytes(), here.at) else {
         return Ok(false);
     };
-    let taken = end_embedded(mark, here.at, here, writer, visitor)?;
-    if taken {
-        here.at = stop;
+    if !end_embedded(mark, here.at, here, writer, visitor)? {
+        return Ok(false);
     }
-    Ok(taken)
+    here.at = stop;
+    Ok(true)
 }
 
 /// Takes what follows the pieces of a string, if it begins no other piece, and ends the string.
@@ -197,14 +205,7 @@ pub(crate) fn take_after_pieces<V: Visitor>(
     let at = here.at;
     end_item(here, writer, visitor)?;
     here.at = at;
-    take_after(
-        source.limit,
-        source.profile,
-        source.text,
-        here,
-        writer,
-        visitor,
-    )
+    Ok(false)
 }
 
 /// Takes a comma or a `)` after a chunk.
@@ -220,50 +221,19 @@ fn take_after_chunk<V: Visitor>(
     requires chunk { pure.has_chunks writer.old.chunks ≡ true }
     ensures { IfOk result (Goes (V.holds visitor.new) source.entry here.old here.new writer.new) }
 {
-    match source.text.as_bytes()[here.at] {
-        b',' => take_chunk_comma(source, here, writer, visitor),
-        b')' => take_chunks_end(source, here, writer, visitor),
+    let at = here.at;
+    match source.text.as_bytes()[at] {
+        b',' => {
+            end_chunk(here, writer, visitor)?;
+            here.at = at + 1;
+            Ok(true)
+        }
+        b')' => {
+            end_chunk(here, writer, visitor)?;
+            end_chunks(here, writer, visitor)?;
+            here.at = at + 1;
+            Ok(true)
+        }
         _ => Ok(false),
     }
-}
-
-/// Takes a comma after a chunk.
-#[inline(always)]
-fn take_chunk_comma<V: Visitor>(
-    source: Source,
-    here: &mut Here,
-    writer: &mut Writer,
-    visitor: &mut V,
-) -> Result<bool, AllocError>
-    requires inside { IsInside (V.holds visitor.old) source here.old writer.old }
-    requires builds { here.old.phase ≡ phases.Builds }
-    requires chunk { pure.has_chunks writer.old.chunks ≡ true }
-    requires comma { slice_index source.text.now here.old.at ≡ 44 }
-    ensures { IfOk result (Goes (V.holds visitor.new) source.entry here.old here.new writer.new) }
-{
-    let at = here.at;
-    end_chunk(here, writer, visitor)?;
-    here.at = at + 1;
-    Ok(true)
-}
-
-/// Takes the `)` of a string in chunks, after a chunk.
-#[inline(always)]
-fn take_chunks_end<V: Visitor>(
-    source: Source,
-    here: &mut Here,
-    writer: &mut Writer,
-    visitor: &mut V,
-) -> Result<bool, AllocError>
-    requires inside { IsInside (V.holds visitor.old) source here.old writer.old }
-    requires builds { here.old.phase ≡ phases.Builds }
-    requires chunk { pure.has_chunks writer.old.chunks ≡ true }
-    requires paren { slice_index source.text.now here.old.at ≡ 41 }
-    ensures { IfOk result (Goes (V.holds visitor.new) source.entry here.old here.new writer.new) }
-{
-    let at = here.at;
-    end_chunk(here, writer, visitor)?;
-    end_chunks(here, writer, visitor)?;
-    here.at = at + 1;
-    Ok(true)
 }

@@ -4,13 +4,14 @@
 ghost use Rattle.std.specs.Prelude.{◌≡◌, slice_index, IfOk};
 ghost use Rattle.cborn_lex.specs.declared.classes.Class.TheVariants as classes;
 ghost use Rattle.cborn_edn.specs.Common.{Profile};
-ghost use Rattle.cborn_edn.specs.devices.Common.{IsTokenAt, IsWanting, Goes, of_text};
+ghost use Rattle.cborn_edn.specs.devices.Common.{IsInside, IsTokenAt, IsWanting, Goes, opening_character};
 
-use crate::containers::{open_array, open_embedded, open_map, open_tag};
+use crate::containers::{open_embedded, open_sized, open_tag};
 use crate::integers::{Integer, integer_at, negative_at};
-use crate::marks::{embeds_at, opening_at, opens_chunks_at};
+use crate::marks::{embeds_at, opening_at, opens_at, opens_chunks_at};
 use crate::numbers::{Numeral, put_number, put_word};
-use crate::states::{Here, Source, Writer};
+use crate::quick_ends::take_sized_ends;
+use crate::states::{Here, Phase, Source, Writer};
 use crate::strings::{open_chunks, put_last_piece, put_text};
 use crate::texts::{plain_text_at, push_text};
 use crate::words::word_at;
@@ -131,14 +132,7 @@ pub(crate) fn take_text<V: Visitor>(
 {
     let bytes = source.text.as_bytes();
     let Some(found) = plain_text_at(source.profile, bytes, here.at) else {
-        return take_escaped(
-            source.limit,
-            source.profile,
-            source.text,
-            here,
-            writer,
-            visitor,
-        );
+        return take_escaped(source, here, writer, visitor);
     };
     let content = &bytes[here.at + 1..here.at + 1 + found.len];
     put_text(content, here, writer, visitor)?;
@@ -148,24 +142,17 @@ pub(crate) fn take_text<V: Visitor>(
 
 /// Takes a text string of one piece without an indicator, which may have escapes, and the white space
 /// after it.
-#[inline(never)]
+#[inline(always)]
 fn take_escaped<V: Visitor>(
-    limit: u64,
-    profile: Profile,
-    text: &str,
+    source: Source,
     here: &mut Here,
     writer: &mut Writer,
     visitor: &mut V,
 ) -> Result<bool, AllocError>
-    requires wanting { IsWanting (V.holds visitor.old) (of_text limit profile text) here.old writer.old }
-    requires quote { slice_index text.now here.old.at ≡ 34 }
-    ensures { IfOk result (Goes (V.holds visitor.new) (of_text limit profile text.entry) here.old here.new writer.new) }
+    requires wanting { IsWanting (V.holds visitor.old) source here.old writer.old }
+    requires quote { slice_index source.text.now here.old.at ≡ 34 }
+    ensures { IfOk result (Goes (V.holds visitor.new) source.entry here.old here.new writer.new) }
 {
-    let source = Source {
-        limit,
-        profile,
-        text,
-    };
     let start = writer.pieces.len();
     let bytes = source.text.as_bytes();
     let Some(stop) = push_text(source.profile, bytes, here.at, &mut writer.pieces)? else {
@@ -177,39 +164,66 @@ fn take_escaped<V: Visitor>(
     Ok(true)
 }
 
-/// Takes a `[` and its indicator.
+/// Takes each `{`, or else each `[`, without an indicator, up to the first other character; and what ends
+/// them, if that follows directly.
 #[inline(always)]
-pub(crate) fn take_array<V: Visitor>(
+pub(crate) fn take_openings<V: Visitor>(
+    is_map: bool,
     source: Source,
     here: &mut Here,
     writer: &mut Writer,
     visitor: &mut V,
 ) -> Result<bool, AllocError>
-    requires wanting { IsWanting (V.holds visitor.old) source here.old writer.old }
-    requires bracket { slice_index source.text.now here.old.at ≡ 91 }
+    requires { IsWanting (V.holds visitor.old) source here.old writer.old }
     ensures { IfOk result (Goes (V.holds visitor.new) source.entry here.old here.new writer.new) }
 {
-    let Some((mark, stop)) = opening_at(source.text.as_bytes(), here.at) else {
-        return Ok(false);
-    };
-    if writer.brackets.count() >= source.limit {
-        return Ok(false);
+    let was = here.at;
+    'brackets: while opens_at(is_map, source.text.as_bytes(), here.at) {
+        if writer.brackets.count() >= source.limit {
+            return Ok(false);
+        }
+        let at = here.at;
+        open_sized(is_map, Mark::Absent, here, writer, visitor)?;
+        here.at = at + 1;
     }
-    open_array(mark, here.at, here, writer, visitor)?;
-    here.at = stop;
-    Ok(true)
+    if here.phase == Phase::Wants && here.at < source.text.len() {
+        take_sized_ends(is_map, source, here, writer, visitor)?;
+    }
+    Ok(here.at > was)
 }
 
-/// Takes a `{` and its indicator.
+/// Takes a `[` or a `{` and its indicator, if an item is wanted.
 #[inline(always)]
-pub(crate) fn take_map<V: Visitor>(
+pub(crate) fn take_marked<V: Visitor>(
+    source: Source,
+    here: &mut Here,
+    writer: &mut Writer,
+    visitor: &mut V,
+) -> Result<bool, AllocError>
+    requires { IsInside (V.holds visitor.old) source here.old writer.old }
+    ensures { IfOk result (Goes (V.holds visitor.new) source.entry here.old here.new writer.new) }
+{
+    if !matches!(here.phase, Phase::Wants | Phase::WantsMore) {
+        return Ok(false);
+    }
+    match source.text.as_bytes()[here.at] {
+        b'[' => take_opening(false, source, here, writer, visitor),
+        b'{' => take_opening(true, source, here, writer, visitor),
+        _ => Ok(false),
+    }
+}
+
+/// Takes a `{`, or else a `[`, and its indicator.
+#[inline(always)]
+fn take_opening<V: Visitor>(
+    is_map: bool,
     source: Source,
     here: &mut Here,
     writer: &mut Writer,
     visitor: &mut V,
 ) -> Result<bool, AllocError>
     requires wanting { IsWanting (V.holds visitor.old) source here.old writer.old }
-    requires bracket { slice_index source.text.now here.old.at ≡ 123 }
+    requires bracket { slice_index source.text.now here.old.at ≡ opening_character is_map }
     ensures { IfOk result (Goes (V.holds visitor.new) source.entry here.old here.new writer.new) }
 {
     let Some((mark, stop)) = opening_at(source.text.as_bytes(), here.at) else {
@@ -218,7 +232,7 @@ pub(crate) fn take_map<V: Visitor>(
     if writer.brackets.count() >= source.limit {
         return Ok(false);
     }
-    open_map(mark, here.at, here, writer, visitor)?;
+    open_sized(is_map, mark, here, writer, visitor)?;
     here.at = stop;
     Ok(true)
 }

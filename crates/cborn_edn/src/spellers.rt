@@ -1,14 +1,15 @@
 //! What spells the items in each open `<<`.
 
-ghost use Rattle.std.specs.Prelude.{◌≡◌, ◌<◌, ◌≤◌, [], ◌∷◌, List, length, take, MatchOption, OnOk};
+ghost use Rattle.std.specs.Prelude.{ℕ, ◌≡◌, ◌<◌, ◌≤◌, [], ◌∷◌, List, length, take, MatchOption, OnOk};
 ghost use Rattle.cborn_model.specs.Partial.{top, no_part};
 ghost use Rattle.cborn_wire.specs.declared.spellers.Speller.{Speller as OneSpeller};
+ghost use Rattle.cborn_edn.specs.Common.{Integer, WidthFits};
 ghost use Rattle.cborn_edn.specs.Says.{is_nil};
 ghost use Rattle.cborn_edn.specs.devices.Events.{Fits};
 ghost use Rattle.cborn_edn.specs.devices.Handed.{InnermostFollows};
 
 use crate::events::{Event, hand_to};
-use cborn_model::Visitor;
+use cborn_model::{Visitor, Width};
 use cborn_wire::Speller;
 use std::alloc::{AllocError, Global};
 use std::marker::Model;
@@ -90,6 +91,24 @@ impl Spellers {
         if self.spellers[self.depth].capacity() > KEPT {
             self.spellers.truncate(self.depth);
         }
+    }
+
+    /// Hands an integer to the innermost, if there is one.
+    #[inline(always)]
+    pub(crate) fn integer(
+        &mut self,
+        place: usize,
+        negative: bool,
+        width: Width,
+        n: u64,
+    ) -> Result<(), AllocError>
+        requires { WidthFits width n }
+        ensures { OnOk result ((content : List ℕ) → InnermostFollows (Integer negative width n) place content self.old self.new) }
+    {
+        if self.depth == 0 {
+            return Ok(());
+        }
+        self.spellers[self.depth - 1].integer(place as u64, negative, width, n)
     }
 
     /// Hands an event to the innermost, if there is one.

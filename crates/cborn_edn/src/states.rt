@@ -8,9 +8,11 @@ use cborn_model::{StringKind, push_doubling};
 use std::alloc::{AllocError, Global};
 use std::marker::Model;
 
-/// A kind of open bracket.
+/// The kind of the innermost open bracket.
 #[derive(Clone, Copy, PartialEq, Eq)]
 pub(crate) enum Level {
+    /// None is open.
+    Outside,
     Array,
     /// `<<`
     Embedded,
@@ -50,51 +52,24 @@ pub(crate) struct Source<'a> {
 }
 
 /// Where the reader is: `at` is its offset in the text, in bytes, and `phase` what was read last.
-/// `level` is the kind of the innermost open bracket, `None` if none is open, and `count` how many
-/// items or pairs in it have a comma after them.
+/// `level` is the kind of the innermost open bracket, and `count` how many items or pairs in it have
+/// a comma after them.
 #[derive(Clone, Copy)]
 pub(crate) struct Here {
     pub(crate) at: usize,
     pub(crate) count: u64,
     pub(crate) phase: Phase,
-    pub(crate) level: Option<Level>,
+    pub(crate) level: Level,
 }
 
 impl Here {
-    ghost use Rattle.std.specs.Prelude.{◌≡◌};
-
     /// Before the first token.
     pub(crate) const FIRST: Here = Here {
         at: 0,
         count: 0,
         phase: Phase::Wants,
-        level: None,
+        level: Level::Outside,
     };
-
-    /// A copy, made field by field, which stays in registers. A copy of the whole goes through
-    /// memory.
-    #[inline(always)]
-    pub(crate) fn same(&self) -> Here
-        ensures { result ≡ self.now }
-    {
-        Here {
-            at: self.at,
-            count: self.count,
-            phase: self.phase,
-            level: self.level,
-        }
-    }
-
-    /// Becomes `next`, field by field, so that it stays in registers.
-    #[inline(always)]
-    pub(crate) fn become_next(&mut self, next: Here)
-        ensures { self.new ≡ next }
-    {
-        self.at = next.at;
-        self.count = next.count;
-        self.phase = next.phase;
-        self.level = next.level;
-    }
 }
 
 /// An open bracket. `place` is its offset in the text, and 0 for a tag. `count` and `level` are those
@@ -103,7 +78,7 @@ impl Here {
 pub(crate) struct OpenBracket {
     pub(crate) place: usize,
     pub(crate) count: u64,
-    pub(crate) level: Option<Level>,
+    pub(crate) level: Level,
     pub(crate) mark: Mark,
 }
 
@@ -111,11 +86,11 @@ pub(crate) struct OpenBracket {
 /// `mark`.
 #[derive(Clone, Copy)]
 pub(crate) struct Joint {
-    pub(crate) kind: StringKind,
     pub(crate) place: usize,
-    pub(crate) mark: Mark,
     /// The place of the token that has the indicator.
     pub(crate) mark_place: usize,
+    pub(crate) mark: Mark,
+    pub(crate) kind: StringKind,
     /// Whether it is one piece, `''` or `""`.
     pub(crate) lone: bool,
     /// Whether the bytes are what is meant: nothing embedded in it has a meaning error.

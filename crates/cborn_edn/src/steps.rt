@@ -5,7 +5,7 @@ ghost use Rattle.std.specs.Prelude.{◌≡◌, ℕ, ◌<◌, ◌^◌, Bool, true
 ghost use Rattle.cborn_edn.specs.devices.Common.{Span as Place, Item, Pieces as Joined, StringsBefore, Stack, Home, as_chunk, State, wants, has, builds, wants_number, has_number, Shows, Reads, is_piece, takes_no_piece, IsReady, Takes, Turned, Turns, EndsAt};
 ghost use Rattle.cborn_edn.specs.Common.{Mark as Indicator, class_of};
 
-use crate::containers::{open_array, open_embedded, open_map, open_tag};
+use crate::containers::{open_embedded, open_sized, open_tag};
 use crate::endings::{end_embedded, end_entry, end_key, end_sized, end_tag, has_chunks};
 use crate::numbers::{Numeral, close_simple, open_simple, put_number, put_simple, put_word};
 use crate::states::{Here, Phase, Writer};
@@ -116,11 +116,13 @@ fn begin<V: Visitor>(
     let place = token.start;
     match token.kind {
         Kind::ArrayOpen(mark) => {
-            open_array(mark, place, here, writer, visitor)?;
+            here.at = place;
+            open_sized(false, mark, here, writer, visitor)?;
             Ok(true)
         }
         Kind::MapOpen(mark) => {
-            open_map(mark, place, here, writer, visitor)?;
+            here.at = place;
+            open_sized(true, mark, here, writer, visitor)?;
             Ok(true)
         }
         Kind::TagOpen(mark) => {

@@ -2,7 +2,7 @@
 
 ghost use Rattle.std.specs.Prelude.{◌≡◌, ℕ, ◌≤◌, ◌++◌, List, Bool, length, take, drop, Option, Some, None, OnOk, true, ◌&&◌};
 ghost use Rattle.cborn_edn.specs.Says as says;
-ghost use Rattle.cborn_edn.specs.Common.{StringKind as Kind, OfText, IsUtf8, Absent};
+ghost use Rattle.cborn_edn.specs.Common.{Here as Where, Has, WantsChunk, StringKind as Kind, OfText, IsUtf8, Absent};
 ghost use Rattle.cborn_edn.specs.devices.Common.{Span as Place, Pieces as Joined, Strings, StringsBefore, strings, string, chunked, piece, text, no_string, after_strings, Stack, Home, as_item, as_chunk, wants, has, builds, wants_chunk, at_home, with_piece, joint, kind_or, Notes, Shows, piece_of, string_event, chunk_event, Reads};
 
 use crate::events::Event;
@@ -57,6 +57,7 @@ pub(crate) fn note_piece(
 
 /// Notes what is wrong with a whole string, whose bytes are `content`. `may_end` says whether its
 /// indicator may ask for an indefinite length without a chunk.
+#[inline(always)]
 fn note_string(may_end: bool, string: Joint, content: &[u8], error: &mut Option<MeaningError>)
     ensures { (s : says.Str) → string ≡ joint s → (s.known ≡ true → content.now ≡ s.bytes) → Notes error.old error.new (says.string_errors may_end s) }
 {
@@ -146,6 +147,7 @@ pub(crate) fn add_piece(token: StringToken, here: &mut Here, writer: &mut Writer
 }
 
 /// Ends a string, which is then an item.
+#[inline(always)]
 pub(crate) fn end_item<V: Visitor>(
     here: &mut Here,
     writer: &mut Writer,
@@ -154,10 +156,20 @@ pub(crate) fn end_item<V: Visitor>(
     requires { (st : Stack) × (ps : Joined) × Reads (V.holds visitor.old) here.old writer.old writer.old.pieces.items (builds (as_item st) ps) }
     ensures { OnOk result ((st : Stack) (ps : Joined) → Reads (V.holds visitor.old) here.old writer.old writer.old.pieces.items (builds (as_item st) ps) → Reads (V.holds visitor.new) here.new writer.new writer.new.pieces.items (has st (string ps))) }
 {
+    put_string(writer, visitor)?;
+    here.phase = Phase::Has;
+    Ok(())
+}
+
+/// Hands over the string that is open, which has ended.
+#[inline(never)]
+fn put_string<V: Visitor>(writer: &mut Writer, visitor: &mut V) -> Result<(), AllocError>
+    requires { (here : Where) × (st : Stack) × (ps : Joined) × Reads (V.holds visitor.old) here writer.old writer.old.pieces.items (builds (as_item st) ps) }
+    ensures { OnOk result ((here : Where) (st : Stack) (ps : Joined) → Reads (V.holds visitor.old) here writer.old writer.old.pieces.items (builds (as_item st) ps) → Reads (V.holds visitor.new) (record here { phase = Has }) writer.new writer.new.pieces.items (has st (string ps))) }
+{
     let Some(joint) = writer.string else {
         unreachable!();
     };
-    here.phase = Phase::Has;
     let content = &writer.pieces[writer.start..];
     note_string(joint.lone, joint, content, &mut writer.error);
     let event = string_event(joint, content.len());
@@ -199,6 +211,7 @@ pub(crate) fn open_chunks(place: usize, here: &mut Here, writer: &mut Writer)
 }
 
 /// Ends a string, which is then a chunk.
+#[inline(always)]
 pub(crate) fn end_chunk<V: Visitor>(
     here: &mut Here,
     writer: &mut Writer,
@@ -207,13 +220,23 @@ pub(crate) fn end_chunk<V: Visitor>(
     requires { (st : Stack) × (s : Place) × (b : StringsBefore) × (ps : Joined) × Reads (V.holds visitor.old) here.old writer.old writer.old.pieces.items (builds (as_chunk st s b) ps) }
     ensures { OnOk result ((st : Stack) (s a : Place) (b : StringsBefore) (ps : Joined) → Reads (V.holds visitor.old) here.old writer.old writer.old.pieces.items (builds (as_chunk st s b) ps) → Reads (V.holds visitor.new) here.new writer.new writer.new.pieces.items (wants_chunk st s (after_strings (strings b ps) a))) }
 {
+    put_chunk(writer, visitor)?;
+    here.phase = Phase::WantsChunk;
+    Ok(())
+}
+
+/// Hands over the string that is open, which has ended and is a chunk.
+#[inline(never)]
+fn put_chunk<V: Visitor>(writer: &mut Writer, visitor: &mut V) -> Result<(), AllocError>
+    requires { (here : Where) × (st : Stack) × (s : Place) × (b : StringsBefore) × (ps : Joined) × Reads (V.holds visitor.old) here writer.old writer.old.pieces.items (builds (as_chunk st s b) ps) }
+    ensures { OnOk result ((here : Where) (st : Stack) (s a : Place) (b : StringsBefore) (ps : Joined) → Reads (V.holds visitor.old) here writer.old writer.old.pieces.items (builds (as_chunk st s b) ps) → Reads (V.holds visitor.new) (record here { phase = WantsChunk }) writer.new writer.new.pieces.items (wants_chunk st s (after_strings (strings b ps) a))) }
+{
     let Some(joint) = writer.string else {
         unreachable!();
     };
     let Some(chunks) = writer.chunks else {
         unreachable!();
     };
-    here.phase = Phase::WantsChunk;
     let kind = kind_or(chunks.kind, joint.kind);
     writer.chunks = Some(Chunks {
         kind: Some(kind),
@@ -263,6 +286,7 @@ fn note_chunk(kind: StringKind, string: Joint, content: &[u8], error: &mut Optio
 
 /// Ends a string of one or more chunks, which is then an item.
 #[tactic(auto, using(crate::proofs::HandedOver::Strings::hands_chunks_end, crate::proofs::Reader::Built::chunks_shown, crate::proofs::Reader::Results::on_ok))]
+#[inline(always)]
 pub(crate) fn end_chunks<V: Visitor>(
     here: &mut Here,
     writer: &mut Writer,

@@ -43,7 +43,7 @@ pub(crate) fn plain_text_at(profile: Profile, text: &[u8], at: usize) -> Option<
 ///
 /// # Errors
 /// `AllocError` if memory is refused.
-#[inline(always)]
+#[inline(never)]
 pub(crate) fn push_text(
     profile: Profile,
     text: &[u8],
@@ -108,5 +108,5 @@ fn white_space_after(profile: Profile, text: &[u8], at: usize) -> Option<usize>
 pub(crate) fn ends_string(c: u8) -> bool
     ensures { result ≡ ends_string c }
 {
-    matches!(c, b',' | b']' | b'}' | b':' | b')')
+    matches!(c, b',' | b']' | b'}' | b':' | b')' | b'>')
 }

@@ -5,7 +5,7 @@ ghost use Rattle.cborn_edn.specs.Common.{list_all, Profile as AnyProfile, is_whi
 ghost use Rattle.std.specs.Simd.Lanes.{mask_l};
 ghost use Rattle.cborn_lex.specs.declared.classes.Profile.TheVariants as profiles;
 
-use cborn_lex::{Profile, find, plain_run};
+use cborn_lex::{Profile, find};
 use std::simd::prelude::*;
 
 /// The offset of the first character, from the offset `at` of `text` on, that is neither white
@@ -141,12 +141,7 @@ fn long_end(profile: Profile, text: &[u8], at: usize) -> Option<usize>
     ensures within { IfSome result (λ end. end ≤ length text.now) }
     ensures white_space { IfSome result (λ end. TokensBetween profile text.now at end []) }
 {
-    let tail = &text[at + 1..];
-    let run = plain_run(b'/', tail);
-    if run < tail.len() && tail[run] == b'/' {
-        return Some(at + run + 2);
-    }
-    let len = find(b'/', tail)?;
+    let len = find(b'/', &text[at + 1..])?;
     Some(at + len + 2)
 }
 

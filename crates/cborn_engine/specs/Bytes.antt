@@ -1,9 +1,6 @@
 -- What bytes hold. Who reads and writes bytes alone needs no other definition of this crate.
-use Rattle.std.specs.Prelude.{◌≡◌, ℕ, List}
-use Rattle.cborn_model.specs.Tree.{Trees}
-use Rattle.cborn_model.specs.Spelled.{FitsAll, spelled_all}
-use Rattle.cborn_model.specs.Value.{Values}
-use Rattle.cborn_model.specs.Meaning.{AllMean}
+use Rattle.std.specs.Prelude.{◌≡◌}
+use Rattle.cborn_engine.specs.Common.{ℕ, List, Trees, FitsAll, spelled_all, Values, AllMean}
 
 -- the bytes hold these items: they are the spelling of nodes that mean them, however deep
 pub record BytesHold (bytes : List ℕ) (items : Values) : Type 0 where

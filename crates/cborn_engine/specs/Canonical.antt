@@ -1,12 +1,6 @@
 -- What normalising an input answers.
-use Rattle.std.specs.Prelude.{◌≡◌, ◌↔◌, ℕ, ◌≤◌, List, length, Option, Result, Ok, Err}
-use Rattle.std.specs.declared.cmp.Ordering.{Ordering}
-use Rattle.std.specs.List.{AllZip, AllByRecursion}
-use Rattle.cborn_model.specs.Valid.{IsProper}
-use Rattle.cborn_model.specs.Value.{Value, Same}
-use Rattle.cborn_engine.specs.declared.faults.EngineFault.{EngineFault}
-use Rattle.cborn_engine.specs.declared.faults.EngineFault.TheVariants as fault
-use Rattle.cborn_engine.specs.declared.kinds.Kind.{Kind}
+use Rattle.std.specs.Prelude.{◌≡◌, ◌↔◌, ◌≤◌}
+use Rattle.cborn_engine.specs.Common.{ℕ, List, length, Option, Result, Ok, Err, Ordering, AllZip, AllByRecursion, IsProper, Value, Same, EngineFault, Kind}
 use Rattle.cborn_engine.specs.Holding.{Holds, Canon}
 use Rattle.cborn_engine.specs.Refusing.{IsRefused}
 use Rattle.cborn_engine.specs.Streams.{IsSent, Writes}
@@ -37,7 +31,7 @@ FormAnswers order k out limit most input (Err why) = IsRefused k limit most inpu
 
 -- what went out of it
 abbrev pub NormaliseAnswers : (List ℕ → List ℕ → Ordering) → Kind → Kind → ℕ → ℕ → List ℕ → List ℕ → Result Unit EngineFault → Type 0
-NormaliseAnswers order k out limit most input = IsSent fault.WriteFault (FormAnswers order k out limit most input)
+NormaliseAnswers order k out limit most input = IsSent EngineFault.WriteFault (FormAnswers order k out limit most input)
 
 -- some input was taken from the reader, and this went out
 abbrev pub Normalises : (List ℕ → List ℕ → Ordering) → Kind → Kind → ℕ → ℕ → Option (List ℕ) → Option (List ℕ) → Option (List ℕ) → Option (List ℕ) → Result Unit EngineFault → Type 0

@@ -1,12 +1,6 @@
 -- What comparing two inputs answers.
-use Rattle.std.specs.Prelude.{◌≡◌, ◌≢◌, ℕ, suc, ◌≤◌, List, [], length, take, Option, None, Some, Result, Ok, Err, ⊤}
-use Rattle.std.specs.Io.KnownBytes.{IsAtEnd, Consumes}
-use Rattle.std.specs.List.{AllZip}
-use Rattle.cborn_model.specs.Value.{Value, Same}
-use Rattle.cborn_engine.specs.declared.faults.CompareFault.{CompareFault}
-use Rattle.cborn_engine.specs.declared.faults.CompareFault.TheVariants as compared
-use Rattle.cborn_engine.specs.declared.faults.EngineFault.TheVariants as fault
-use Rattle.cborn_engine.specs.declared.kinds.Kind.{Kind}
+use Rattle.std.specs.Prelude.{◌≡◌, ◌≢◌, ◌≤◌}
+use Rattle.cborn_engine.specs.Common.{ℕ, suc, List, [], length, take, Option, None, Some, Result, Ok, Err, ⊤, IsAtEnd, Consumes, AllZip, Value, Same, CompareFault, EngineFault, Kind}
 use Rattle.cborn_engine.specs.Holding.{Holds}
 use Rattle.cborn_engine.specs.Refusing.{IsRefused}
 use Rattle.cborn_engine.specs.Streams.{IsRead}
@@ -27,17 +21,17 @@ pub record AreCompared (k l : Kind) (limit : ℕ) (x y : List ℕ) (answer : Opt
 -- What comparing these two inputs answers: the first is refused before a byte of the second is read. Out of memory is reported of neither input, but as the comparison's own.
 abbrev pub CompareAnswers : Kind → Kind → ℕ → ℕ → List ℕ → List ℕ → Result (Option ℕ) CompareFault → Type 0
 CompareAnswers k l limit most x y (Ok answer) = (length x ≤ most) × (length y ≤ most) × AreCompared k l limit x y answer
-CompareAnswers k l limit most x y (Err (compared.First why)) = IsRefused k limit most x why × (why ≢ fault.OutOfMemory) × (y ≡ [])
-CompareAnswers k l limit most x y (Err (compared.Second why)) =
-    (length x ≤ most) × ((items : List Value) × Holds k limit x items) × IsRefused l limit most y why × (why ≢ fault.OutOfMemory)
-CompareAnswers k l limit most x y (Err compared.OutOfMemory) = (length x ≤ most) × (length y ≤ most)
+CompareAnswers k l limit most x y (Err (CompareFault.First why)) = IsRefused k limit most x why × (why ≢ EngineFault.OutOfMemory) × (y ≡ [])
+CompareAnswers k l limit most x y (Err (CompareFault.Second why)) =
+    (length x ≤ most) × ((items : List Value) × Holds k limit x items) × IsRefused l limit most y why × (why ≢ EngineFault.OutOfMemory)
+CompareAnswers k l limit most x y (Err CompareFault.OutOfMemory) = (length x ≤ most) × (length y ≤ most)
 
 -- the readers were read to their ends before this was answered
 abbrev pub AreRead : Result (Option ℕ) CompareFault → Option (List ℕ) → Option (List ℕ) → Type 0
 AreRead (Ok answer) rest rest2 = IsAtEnd rest × IsAtEnd rest2
-AreRead (Err (compared.First why)) rest rest2 = IsRead {A = Option ℕ} (λ w. w) (Err why) rest
-AreRead (Err (compared.Second why)) rest rest2 = IsAtEnd rest × IsRead {A = Option ℕ} (λ w. w) (Err why) rest2
-AreRead (Err compared.OutOfMemory) rest rest2 = ⊤
+AreRead (Err (CompareFault.First why)) rest rest2 = IsRead {A = Option ℕ} (λ w. w) (Err why) rest
+AreRead (Err (CompareFault.Second why)) rest rest2 = IsAtEnd rest × IsRead {A = Option ℕ} (λ w. w) (Err why) rest2
+AreRead (Err CompareFault.OutOfMemory) rest rest2 = ⊤
 
 -- an input that holds items was taken from the reader, to its end
 abbrev pub IsHeldWhole : Kind → ℕ → Option (List ℕ) → Option (List ℕ) → Type 0

@@ -1,5 +1,5 @@
 -- What is counted of a reader or a writer.
-use Rattle.std.specs.Prelude.{ℕ}
+use Rattle.cborn_engine.specs.Common.{ℕ}
 
 pub record Counts (T : Type 0) : Type 0 where
   pub inner : T

@@ -1,19 +1,6 @@
 -- What an input holds, and the canonical form of what it holds.
-use Rattle.std.specs.Prelude.{◌≡◌, ℕ, List, IsUtf8}
-use Rattle.std.specs.declared.cmp.Ordering.{Ordering}
-use Rattle.std.specs.List.{AllZip}
-use Rattle.cborn_model.specs.Tree.{Tree, trees}
-use Rattle.cborn_model.specs.Spelled.{Wellformed, FitsAll, spelled_all}
-use Rattle.cborn_model.specs.Placed.{PlacedAll}
-use Rattle.cborn_model.specs.Value.{Value, Same}
-use Rattle.cborn_model.specs.Meaning.{Means}
-use Rattle.cborn_det.specs.Det.{DetSeq}
-use Rattle.cborn_lex.specs.declared.classes.Profile.{Profile}
-use Rattle.cborn_lex.specs.declared.classes.Profile.TheVariants as profile
-use Rattle.cborn_edn.specs.Grammar.{Notates}
-use Rattle.cborn_edn.specs.Plain.{IsPlain}
-use Rattle.cborn_engine.specs.declared.kinds.Kind.{Kind}
-use Rattle.cborn_engine.specs.declared.kinds.Kind.TheVariants as kind
+use Rattle.std.specs.Prelude.{◌≡◌}
+use Rattle.cborn_engine.specs.Common.{ℕ, List, IsUtf8, Ordering, AllZip, Tree, trees, Wellformed, FitsAll, spelled_all, PlacedAll, Value, Same, Means, DetSeq, Profile, Notates, IsPlain, Kind}
 
 -- the input is a text that notates these nodes
 abbrev pub IsNotation : Profile → ℕ → List ℕ → List Tree → Type 0
@@ -21,13 +8,13 @@ IsNotation p limit input nodes = IsUtf8 input × Notates p limit input (trees no
 
 -- the input is the spelling of these nodes, none deeper than the limit; or it notates them
 abbrev pub Spells : Kind → ℕ → List ℕ → List Tree → Type 0
-Spells kind.Wire limit input nodes = Wellformed limit (trees nodes) input
-Spells kind.Notation limit input nodes = IsNotation profile.One limit input nodes
-Spells kind.Notation2 limit input nodes = IsNotation profile.Two limit input nodes
+Spells Kind.Wire limit input nodes = Wellformed limit (trees nodes) input
+Spells Kind.Notation limit input nodes = IsNotation Profile.One limit input nodes
+Spells Kind.Notation2 limit input nodes = IsNotation Profile.Two limit input nodes
 
 -- it spells them, and each says where it is: in bytes one after another from the start, in a text where it is notated
 abbrev pub SpellsInPlace : Kind → ℕ → List ℕ → List Tree → Type 0
-SpellsInPlace kind.Wire limit input nodes = Wellformed limit (trees nodes) input × PlacedAll 0 (trees nodes)
+SpellsInPlace Kind.Wire limit input nodes = Wellformed limit (trees nodes) input × PlacedAll 0 (trees nodes)
 SpellsInPlace k limit input nodes = Spells k limit input nodes
 
 -- the input holds these items: it spells nodes that mean them
@@ -53,5 +40,5 @@ pub record IsPlainText (bytes text : List ℕ) : Type 0 where
 
 -- the canonical form of items under an order of keys: their deterministic encodings, one after another (RFC 8949 section 4.2), or the notation of these
 abbrev pub Canon : (List ℕ → List ℕ → Ordering) → Kind → List Value → List ℕ → Type 0
-Canon order kind.Wire items w = DetSeq order items w
+Canon order Kind.Wire items w = DetSeq order items w
 Canon order _ items w = (x : List ℕ) × DetSeq order items x × IsPlainText x w

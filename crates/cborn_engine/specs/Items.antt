@@ -1,8 +1,6 @@
 -- The items of bytes, one after another.
-use Rattle.std.specs.Prelude.{◌≡◌, ℕ, ◌+◌, List, length, drop}
-use Rattle.cborn_model.specs.Tree.{Tree}
-use Rattle.cborn_model.specs.Spelled.{spelled}
-use Rattle.cborn_wire.specs.Reading.{IsFirstItem}
+use Rattle.std.specs.Prelude.{◌≡◌, ◌+◌}
+use Rattle.cborn_engine.specs.Common.{ℕ, List, length, drop, Tree, spelled, IsFirstItem}
 
 -- What contracts see: the nesting limit, the bytes, and the offset at which the next item starts.
 pub record Cutting : Type 0 where

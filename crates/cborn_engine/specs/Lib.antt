@@ -1,3 +1,4 @@
+pub mod Common
 pub mod Failures
 pub mod Collecting
 pub mod Writing

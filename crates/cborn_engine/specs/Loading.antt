@@ -1,17 +1,13 @@
 -- What loading an input answers.
-use Rattle.std.specs.Prelude.{ℕ, ◌≤◌, List, length, Option, Result, Ok, Err, Vec, ⊤}
-use Rattle.std.specs.Global.{Global}
-use Rattle.cborn_model.specs.Tree.{Tree}
-use Rattle.cborn_engine.specs.declared.faults.EngineFault.{EngineFault}
-use Rattle.cborn_engine.specs.declared.faults.EngineFault.TheVariants as fault
-use Rattle.cborn_engine.specs.declared.kinds.Kind.{Kind}
+use Rattle.std.specs.Prelude.{◌≤◌}
+use Rattle.cborn_engine.specs.Common.{ℕ, List, length, Option, Result, Ok, Err, Vec, ⊤, Global, Tree, EngineFault, Kind}
 use Rattle.cborn_engine.specs.Holding.{SpellsInPlace}
 use Rattle.cborn_engine.specs.Refusing.{IsRefused}
 use Rattle.cborn_engine.specs.Streams.{Reads}
 
 -- a load refuses no node for what it means
 abbrev pub IsNoFlaw : EngineFault → Type 0
-IsNoFlaw (fault.Invalid why) = ⊥
+IsNoFlaw (EngineFault.Invalid why) = ⊥
 IsNoFlaw _ = ⊤
 
 -- what a load of this input answers: the nodes that it spells, or why it spells none

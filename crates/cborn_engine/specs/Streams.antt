@@ -1,14 +1,12 @@
 -- What reading an input and writing an answer does around what is answered for the input.
-use Rattle.std.specs.Prelude.{◌≡◌, ◌⊎◌, ℕ, List, [], Option, Result, Ok, Err}
-use Rattle.std.specs.Io.KnownBytes.{IsAtEnd, Consumes, Appends}
-use Rattle.cborn_engine.specs.declared.faults.EngineFault.{EngineFault}
-use Rattle.cborn_engine.specs.declared.faults.EngineFault.TheVariants as fault
+use Rattle.std.specs.Prelude.{◌≡◌, ◌⊎◌}
+use Rattle.cborn_engine.specs.Common.{ℕ, List, [], Option, Result, Ok, Err, IsAtEnd, Consumes, Appends, EngineFault}
 use Rattle.cborn_engine.specs.Writing.{IsFront}
 
 -- The reader was read to its end before this was answered, but where it failed, gave a byte too many or memory was refused, as a call names these.
 abbrev pub IsRead : {A E : Type 0} → (EngineFault → E) → Result A E → Option (List ℕ) → Type 0
 IsRead name (Ok a) rest = IsAtEnd rest
-IsRead name (Err why) rest = IsAtEnd rest ⊎ (why ≡ name fault.ReadFault) ⊎ (why ≡ name fault.TooLong) ⊎ (why ≡ name fault.OutOfMemory)
+IsRead name (Err why) rest = IsAtEnd rest ⊎ (why ≡ name EngineFault.ReadFault) ⊎ (why ≡ name EngineFault.TooLong) ⊎ (why ≡ name EngineFault.OutOfMemory)
 
 -- some input was taken from the reader, and this is answered for it
 pub record Reads {A E : Type 0} (name : EngineFault → E) (Answers : List ℕ → Result A E → Type 0) (before after : Option (List ℕ)) (result : Result A E) : Type 0 where
@@ -26,4 +24,4 @@ IsSent failed Answers output (Err why) = ((why ≡ failed) × ((whole : List ℕ
 pub record Writes {E : Type 0} (name : EngineFault → E) (Answers : List ℕ → Result (List ℕ) E → Type 0) (before after sent sent_after : Option (List ℕ)) (result : Result Unit E) : Type 0 where
   pub output : List ℕ
   pub given : Appends sent sent_after output
-  pub read : Reads name (λ input. IsSent (name fault.WriteFault) (Answers input) output) before after result
+  pub read : Reads name (λ input. IsSent (name EngineFault.WriteFault) (Answers input) output) before after result

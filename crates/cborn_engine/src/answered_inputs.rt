@@ -1,8 +1,6 @@
 //! What is answered for an input that was read.
-ghost use Rattle.std.specs.Prelude.{◌≢◌, ℕ, List, Ok, Err};
-ghost use Rattle.cborn_engine.specs.declared.count_faults.CountFault.TheVariants as counted;
-ghost use Rattle.cborn_engine.specs.declared.faults.EngineFault.TheVariants as fault;
-ghost use Rattle.cborn_engine.specs.declared.kinds.Kind.TheVariants as kinds;
+ghost use Rattle.std.specs.Prelude.{◌≢◌};
+ghost use Rattle.cborn_engine.specs.Common.{ℕ, List, Ok, Err, CountFault, EngineFault, Kind};
 ghost use Rattle.cborn_engine.specs.Canonical.{FormAnswers};
 ghost use Rattle.cborn_engine.specs.Checking.{CheckAnswers};
 ghost use Rattle.cborn_engine.specs.Counts.{CountAnswer};
@@ -35,8 +33,8 @@ pub(crate) fn form_of<'a, O: KeyOrder>(
 ) -> Result<CowSlice<'a, u8, Global>, CountFault>
     requires { (x : List ℕ) × InputAnswers O.order count in_kind limit x (Ok input.now) }
     ensures form { (x : List ℕ) → InputAnswers O.order count in_kind limit x (Ok input.now) → CountAnswer count in_kind limit x (FormAnswers O.order in_kind out_kind limit most_bytes x) (bytes_of result) }
-    ensures read { result ≢ Err (counted.Engine fault.ReadFault) }
-    ensures written { result ≢ Err (counted.Engine fault.WriteFault) }
+    ensures read { result ≢ Err (CountFault.Engine EngineFault.ReadFault) }
+    ensures written { result ≢ Err (CountFault.Engine EngineFault.WriteFault) }
 {
     match input {
         Input::Whole(bytes) => {
@@ -59,8 +57,8 @@ pub(crate) fn defect_of<O: KeyOrder>(
     count: Count,
     input: &Input,
 ) -> Result<Option<Defect>, CountFault>
-    ensures defect { (x : List ℕ) → InputAnswers O.order count kinds.Wire limit x (Ok input.now) → CountAnswer count kinds.Wire limit x (CheckAnswers O.order limit most_bytes x) result }
-    ensures read { result ≢ Err (counted.Engine fault.ReadFault) }
+    ensures defect { (x : List ℕ) → InputAnswers O.order count Kind.Wire limit x (Ok input.now) → CountAnswer count Kind.Wire limit x (CheckAnswers O.order limit most_bytes x) result }
+    ensures read { result ≢ Err (CountFault.Engine EngineFault.ReadFault) }
 {
     match input {
         Input::Whole(bytes) => check_slice::<O>(alloc, limit, count, bytes),
@@ -81,7 +79,7 @@ pub(crate) fn encodings_of<O: KeyOrder>(
     input: Input,
 ) -> Result<Vec<u8>, CountFault>
     ensures encodings { (x : List ℕ) → InputAnswers O.order count kind limit x (Ok input) → CountAnswer count kind limit x (EncodeAnswers O.order kind limit most_bytes x) result }
-    ensures read { result ≢ Err (counted.Engine fault.ReadFault) }
+    ensures read { result ≢ Err (CountFault.Engine EngineFault.ReadFault) }
 {
     match input {
         Input::Whole(bytes) => {

@@ -1,6 +1,6 @@
 //! Whether bytes are deterministic.
-ghost use Rattle.std.specs.Prelude.{◌≤◌, ◌+◌, length};
-ghost use Rattle.cborn_engine.specs.declared.faults.EngineFault.TheVariants as fault;
+ghost use Rattle.std.specs.Prelude.{◌≤◌, ◌+◌};
+ghost use Rattle.cborn_engine.specs.Common.{length, EngineFault};
 ghost use Rattle.cborn_engine.specs.Failures.{CountsFault};
 ghost use Rattle.cborn_engine.specs.Checking.{Checks};
 ghost use Rattle.cborn_engine.specs.Reading.{most_bytes};
@@ -32,7 +32,7 @@ pub fn check<O: KeyOrder, R: Source>(
     reader: &mut R,
 ) -> Result<Option<Defect>, EngineFault>
     ensures checks { Checks O.order limit most_bytes (R.remaining reader.old) (R.remaining reader.new) result }
-    ensures failures { CountsFault fault.ReadFault result (R.failed reader.old) (R.failed reader.new) }
+    ensures failures { CountsFault EngineFault.ReadFault result (R.failed reader.old) (R.failed reader.new) }
     ensures calls { R.asked reader.new ≤ R.asked reader.old + most_bytes + 1 }
 {
     of_any(check_stream::<O, R>(alloc, limit, Count::Any, reader))

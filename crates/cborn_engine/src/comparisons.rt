@@ -1,9 +1,7 @@
 //! Whether two inputs hold the same items. Each is read whole and encoded, the first before a byte
 //! of the second is read; the encodings are equal exactly if the items are the same.
-ghost use Rattle.std.specs.Prelude.{◌≡◌, ◌≤◌, ◌⊎◌, ◌+◌, Err};
-ghost use Rattle.cborn_engine.specs.declared.faults.CompareFault.TheVariants as compared;
-ghost use Rattle.cborn_engine.specs.declared.faults.EngineFault.{EngineFault};
-ghost use Rattle.cborn_engine.specs.declared.faults.EngineFault.TheVariants as fault;
+ghost use Rattle.std.specs.Prelude.{◌≡◌, ◌≤◌, ◌⊎◌, ◌+◌};
+ghost use Rattle.cborn_engine.specs.Common.{Err, CompareFault, EngineFault};
 ghost use Rattle.cborn_engine.specs.Comparing.{Compares, IsHeldWhole};
 ghost use Rattle.cborn_engine.specs.Failures.{CountsFault};
 ghost use Rattle.cborn_engine.specs.Reading.{most_bytes};
@@ -36,10 +34,10 @@ pub fn compare<O: KeyOrder, R: Source, Q: Source>(
     second: &mut Q,
 ) -> Result<Option<u64>, CompareFault>
     ensures compares { Compares kind_a kind_b limit most_bytes (R.remaining first.old) (R.remaining first.new) (Q.remaining second.old) (Q.remaining second.new) result }
-    ensures unread { (why : EngineFault) → result ≡ Err (compared.First why) → second.new ≡ second.old }
+    ensures unread { (why : EngineFault) → result ≡ Err (CompareFault.First why) → second.new ≡ second.old }
     ensures first_held { (second.new ≡ second.old) ⊎ IsHeldWhole kind_a limit (R.remaining first.old) (R.remaining first.new) }
-    ensures first_failures { CountsFault (compared.First fault.ReadFault) result (R.failed first.old) (R.failed first.new) }
-    ensures second_failures { CountsFault (compared.Second fault.ReadFault) result (Q.failed second.old) (Q.failed second.new) }
+    ensures first_failures { CountsFault (CompareFault.First EngineFault.ReadFault) result (R.failed first.old) (R.failed first.new) }
+    ensures second_failures { CountsFault (CompareFault.Second EngineFault.ReadFault) result (Q.failed second.old) (Q.failed second.new) }
     ensures first_calls { R.asked first.new ≤ R.asked first.old + most_bytes + 1 }
     ensures second_calls { Q.asked second.new ≤ Q.asked second.old + most_bytes + 1 }
 {

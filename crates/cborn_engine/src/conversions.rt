@@ -1,7 +1,6 @@
 //! From a reader to a writer.
-ghost use Rattle.std.specs.Prelude.{◌≡◌, ◌≢◌, ◌≤◌, ◌+◌, ℕ, List, IfOk, IfErr, OnOk};
-ghost use Rattle.std.specs.Io.KnownBytes.{Consumes, Appends};
-ghost use Rattle.cborn_engine.specs.declared.faults.EngineFault.TheVariants as fault;
+ghost use Rattle.std.specs.Prelude.{◌≡◌, ◌≢◌, ◌≤◌, ◌+◌};
+ghost use Rattle.cborn_engine.specs.Common.{ℕ, List, IfOk, IfErr, OnOk, Consumes, Appends, EngineFault};
 ghost use Rattle.cborn_engine.specs.Canonical.{Normalises, IsNormalForm};
 ghost use Rattle.cborn_engine.specs.Reading.{most_bytes};
 ghost use Rattle.cborn_engine.specs.Showing.{Shows, SpellSameBytes};
@@ -37,9 +36,9 @@ pub fn normalise<O: KeyOrder, R: Source, W: Sink>(
 ) -> Result<(), EngineFault>
     ensures normalises { Normalises O.order in_kind out_kind limit most_bytes (R.remaining reader.old) (R.remaining reader.new) (W.contents writer.old) (W.contents writer.new) result }
     ensures headline { OnOk result ((input : List ℕ) × (output : List ℕ) × Consumes (R.remaining reader.old) (R.remaining reader.new) input × Appends (W.contents writer.old) (W.contents writer.new) output × IsNormalForm O.order in_kind out_kind limit input output) }
-    ensures read_failures { CountsFault fault.ReadFault result (R.failed reader.old) (R.failed reader.new) }
-    ensures write_failures { CountsFault fault.WriteFault result (W.failed writer.old) (W.failed writer.new) }
-    ensures untouched { IfErr result (λ why. why ≢ fault.WriteFault → writer.new ≡ writer.old) }
+    ensures read_failures { CountsFault EngineFault.ReadFault result (R.failed reader.old) (R.failed reader.new) }
+    ensures write_failures { CountsFault EngineFault.WriteFault result (W.failed writer.old) (W.failed writer.new) }
+    ensures untouched { IfErr result (λ why. why ≢ EngineFault.WriteFault → writer.new ≡ writer.old) }
     ensures flushed { OnOk result (W.unflushed writer.new ≡ 0) }
     ensures calls { R.asked reader.new ≤ R.asked reader.old + most_bytes + 1 }
 {
@@ -66,9 +65,9 @@ pub fn show_all<R: Source, W: Sink>(
 ) -> Result<(), EngineFault>
     ensures shows { Shows in_kind out_kind limit most_bytes (R.remaining reader.old) (R.remaining reader.new) (W.contents writer.old) (W.contents writer.new) result }
     ensures same_bytes { OnOk result ((input : List ℕ) × (output : List ℕ) × Consumes (R.remaining reader.old) (R.remaining reader.new) input × Appends (W.contents writer.old) (W.contents writer.new) output × SpellSameBytes in_kind out_kind limit input output) }
-    ensures read_failures { CountsFault fault.ReadFault result (R.failed reader.old) (R.failed reader.new) }
-    ensures write_failures { CountsFault fault.WriteFault result (W.failed writer.old) (W.failed writer.new) }
-    ensures untouched { IfErr result (λ why. why ≢ fault.WriteFault → writer.new ≡ writer.old) }
+    ensures read_failures { CountsFault EngineFault.ReadFault result (R.failed reader.old) (R.failed reader.new) }
+    ensures write_failures { CountsFault EngineFault.WriteFault result (W.failed writer.old) (W.failed writer.new) }
+    ensures untouched { IfErr result (λ why. why ≢ EngineFault.WriteFault → writer.new ≡ writer.old) }
     ensures flushed { OnOk result (W.unflushed writer.new ≡ 0) }
     ensures calls { R.asked reader.new ≤ R.asked reader.old + most_bytes + 1 }
 {

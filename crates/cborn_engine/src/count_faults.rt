@@ -1,10 +1,7 @@
 //! Why an input that has to hold a given number of items gives no answer.
-ghost use Rattle.std.specs.Prelude.{◌≡◌, Result};
-ghost use Rattle.cborn_engine.specs.declared.count_faults.CompareCountFault.{CompareCountFault};
-ghost use Rattle.cborn_engine.specs.declared.count_faults.CountFault.{CountFault};
+ghost use Rattle.std.specs.Prelude.{◌≡◌};
+ghost use Rattle.cborn_engine.specs.Common.{Result, CompareCountFault, CountFault, CompareFault, EngineFault};
 ghost use Rattle.cborn_engine.specs.Counts.{compare_counted_of, counted_of, of_first_counted, of_second_counted};
-ghost use Rattle.cborn_engine.specs.declared.faults.CompareFault.{CompareFault};
-ghost use Rattle.cborn_engine.specs.declared.faults.EngineFault.{EngineFault};
 
 use crate::faults::{CompareFault, EngineFault};
 use crate::stream_faults::InputFault;

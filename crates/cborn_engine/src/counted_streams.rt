@@ -1,11 +1,7 @@
 //! The calls over readers and writers. Each reads a whole input, makes the call over what is held, and
 //! sends the answer.
-ghost use Rattle.std.specs.Prelude.{◌≡◌, ◌≢◌, ◌≤◌, ◌⊎◌, ◌+◌, ℕ, List, Err, IfErr, OnOk};
-ghost use Rattle.std.specs.Io.KnownBytes.{Consumes, Appends};
-ghost use Rattle.cborn_engine.specs.declared.faults.EngineFault.TheVariants as fault;
-ghost use Rattle.cborn_engine.specs.declared.count_faults.CountFault.{CountFault};
-ghost use Rattle.cborn_engine.specs.declared.count_faults.CountFault.TheVariants as counted;
-ghost use Rattle.cborn_engine.specs.declared.count_faults.CompareCountFault.TheVariants as compared;
+ghost use Rattle.std.specs.Prelude.{◌≡◌, ◌≢◌, ◌≤◌, ◌⊎◌, ◌+◌};
+ghost use Rattle.cborn_engine.specs.Common.{ℕ, List, Err, IfErr, OnOk, Consumes, Appends, EngineFault, CountFault, CompareCountFault};
 ghost use Rattle.cborn_engine.specs.Canonical.{IsNormalForm};
 ghost use Rattle.cborn_engine.specs.Comparing.{IsHeldWhole};
 ghost use Rattle.cborn_engine.specs.devices.Counts.{ReadsCount, bytes_of};
@@ -48,9 +44,9 @@ pub fn normalise_stream<O: KeyOrder, R: Source, W: Sink>(
 ) -> Result<(), CountFault>
     ensures normalises { NormalisesCount count O.order in_kind out_kind limit most_bytes (R.remaining reader.old) (R.remaining reader.new) (W.contents writer.old) (W.contents writer.new) result }
     ensures headline { OnOk result ((input : List ℕ) × (output : List ℕ) × Consumes (R.remaining reader.old) (R.remaining reader.new) input × Appends (W.contents writer.old) (W.contents writer.new) output × IsNormalForm O.order in_kind out_kind limit input output) }
-    ensures read_failures { CountsFault (counted.Engine fault.ReadFault) result (R.failed reader.old) (R.failed reader.new) }
-    ensures write_failures { CountsFault (counted.Engine fault.WriteFault) result (W.failed writer.old) (W.failed writer.new) }
-    ensures untouched { IfErr result (λ why. why ≢ counted.Engine fault.WriteFault → writer.new ≡ writer.old) }
+    ensures read_failures { CountsFault (CountFault.Engine EngineFault.ReadFault) result (R.failed reader.old) (R.failed reader.new) }
+    ensures write_failures { CountsFault (CountFault.Engine EngineFault.WriteFault) result (W.failed writer.old) (W.failed writer.new) }
+    ensures untouched { IfErr result (λ why. why ≢ CountFault.Engine EngineFault.WriteFault → writer.new ≡ writer.old) }
     ensures flushed { OnOk result (W.unflushed writer.new ≡ 0) }
     ensures calls { R.asked reader.new ≤ R.asked reader.old + most_bytes + 1 }
 {
@@ -75,9 +71,9 @@ pub fn show_stream<R: Source, W: Sink>(
 ) -> Result<(), CountFault>
     ensures shows { ShowsCount count in_kind out_kind limit most_bytes (R.remaining reader.old) (R.remaining reader.new) (W.contents writer.old) (W.contents writer.new) result }
     ensures same_bytes { OnOk result ((input : List ℕ) × (output : List ℕ) × Consumes (R.remaining reader.old) (R.remaining reader.new) input × Appends (W.contents writer.old) (W.contents writer.new) output × SpellSameBytes in_kind out_kind limit input output) }
-    ensures read_failures { CountsFault (counted.Engine fault.ReadFault) result (R.failed reader.old) (R.failed reader.new) }
-    ensures write_failures { CountsFault (counted.Engine fault.WriteFault) result (W.failed writer.old) (W.failed writer.new) }
-    ensures untouched { IfErr result (λ why. why ≢ counted.Engine fault.WriteFault → writer.new ≡ writer.old) }
+    ensures read_failures { CountsFault (CountFault.Engine EngineFault.ReadFault) result (R.failed reader.old) (R.failed reader.new) }
+    ensures write_failures { CountsFault (CountFault.Engine EngineFault.WriteFault) result (W.failed writer.old) (W.failed writer.new) }
+    ensures untouched { IfErr result (λ why. why ≢ CountFault.Engine EngineFault.WriteFault → writer.new ≡ writer.old) }
     ensures flushed { OnOk result (W.unflushed writer.new ≡ 0) }
     ensures calls { R.asked reader.new ≤ R.asked reader.old + most_bytes + 1 }
 {
@@ -95,10 +91,10 @@ fn send<W: Sink>(
     answer: Result<CowSlice<'_, u8, Global>, CountFault>,
     writer: &mut W,
 ) -> Result<(), CountFault>
-    requires { answer ≢ Err (counted.Engine fault.WriteFault) }
-    ensures sent { (output : List ℕ) × Appends (W.contents writer.old) (W.contents writer.new) output × IsSent (counted.Engine fault.WriteFault) (λ a. a ≡ bytes_of answer.entry) output result }
-    ensures failures { CountsFault (counted.Engine fault.WriteFault) result (W.failed writer.old) (W.failed writer.new) }
-    ensures untouched { IfErr result (λ why. why ≢ counted.Engine fault.WriteFault → writer.new ≡ writer.old) }
+    requires { answer ≢ Err (CountFault.Engine EngineFault.WriteFault) }
+    ensures sent { (output : List ℕ) × Appends (W.contents writer.old) (W.contents writer.new) output × IsSent (CountFault.Engine EngineFault.WriteFault) (λ a. a ≡ bytes_of answer.entry) output result }
+    ensures failures { CountsFault (CountFault.Engine EngineFault.WriteFault) result (W.failed writer.old) (W.failed writer.new) }
+    ensures untouched { IfErr result (λ why. why ≢ CountFault.Engine EngineFault.WriteFault → writer.new ≡ writer.old) }
     ensures flushed { OnOk result (W.unflushed writer.new ≡ 0) }
 {
     let answer = answer?;
@@ -117,7 +113,7 @@ pub fn check_stream<O: KeyOrder, R: Source>(
     reader: &mut R,
 ) -> Result<Option<Defect>, CountFault>
     ensures checks { ChecksCount count O.order limit most_bytes (R.remaining reader.old) (R.remaining reader.new) result }
-    ensures failures { CountsFault (counted.Engine fault.ReadFault) result (R.failed reader.old) (R.failed reader.new) }
+    ensures failures { CountsFault (CountFault.Engine EngineFault.ReadFault) result (R.failed reader.old) (R.failed reader.new) }
     ensures calls { R.asked reader.new ≤ R.asked reader.old + most_bytes + 1 }
 {
     let input = read_input::<O, R>(alloc, limit, count, Kind::Wire, reader)?;
@@ -140,10 +136,10 @@ pub fn compare_streams<O: KeyOrder, R: Source, Q: Source>(
     second: &mut Q,
 ) -> Result<Option<u64>, CompareCountFault>
     ensures compares { ComparesCount count kind_a kind_b limit (R.remaining first.old) (R.remaining first.new) (Q.remaining second.old) (Q.remaining second.new) result }
-    ensures unread { (why : CountFault) → result ≡ Err (compared.First why) → second.new ≡ second.old }
+    ensures unread { (why : CountFault) → result ≡ Err (CompareCountFault.First why) → second.new ≡ second.old }
     ensures first_held { (second.new ≡ second.old) ⊎ IsHeldWhole kind_a limit (R.remaining first.old) (R.remaining first.new) }
-    ensures first_failures { CountsFault (compared.First (counted.Engine fault.ReadFault)) result (R.failed first.old) (R.failed first.new) }
-    ensures second_failures { CountsFault (compared.Second (counted.Engine fault.ReadFault)) result (Q.failed second.old) (Q.failed second.new) }
+    ensures first_failures { CountsFault (CompareCountFault.First (CountFault.Engine EngineFault.ReadFault)) result (R.failed first.old) (R.failed first.new) }
+    ensures second_failures { CountsFault (CompareCountFault.Second (CountFault.Engine EngineFault.ReadFault)) result (Q.failed second.old) (Q.failed second.new) }
     ensures first_calls { R.asked first.new ≤ R.asked first.old + most_bytes + 1 }
     ensures second_calls { Q.asked second.new ≤ Q.asked second.old + most_bytes + 1 }
 {
@@ -171,7 +167,7 @@ fn read_counted<O: KeyOrder, R: Source>(
     reader: &mut R,
 ) -> Result<Vec<u8>, CountFault>
     ensures reads { ReadsCount count O.order kind limit (R.remaining reader.old) (R.remaining reader.new) result }
-    ensures failures { CountsFault (counted.Engine fault.ReadFault) result (R.failed reader.old) (R.failed reader.new) }
+    ensures failures { CountsFault (CountFault.Engine EngineFault.ReadFault) result (R.failed reader.old) (R.failed reader.new) }
     ensures calls { R.asked reader.new ≤ R.asked reader.old + most_bytes + 1 }
 {
     let input = read_input::<O, R>(alloc, limit, count, kind, reader)?;

@@ -1,7 +1,6 @@
 //! Readers and writers of std, with counts of their failures, reads and bytes.
 ghost use Rattle.std.specs.Prelude.{◌≡◌};
-ghost use Rattle.std.specs.Io.{ReadsAtMost, WritesAtMost};
-ghost use Rattle.std.specs.Io.KnownBytes.{Keeps, ReadConsumes, WriteAppends};
+ghost use Rattle.cborn_engine.specs.Common.{ReadsAtMost, WritesAtMost, Keeps, ReadConsumes, WriteAppends};
 ghost use Rattle.cborn_engine.specs.Failures.{one_more, failures_after, failures_after_write, unflushed_after_write, unflushed_after_flush};
 
 use crate::sinks::Sink;

@@ -1,12 +1,8 @@
 //! How many items an input has to hold, and whether one that spells nodes does.
-ghost use Rattle.std.specs.Prelude.{◌≡◌, ◌≤◌, ◌⊎◌, List, length, IfErr, OnOk};
-ghost use Rattle.cborn_model.specs.Tree.{Tree};
-ghost use Rattle.cborn_engine.specs.declared.faults.EngineFault.TheVariants as fault;
-ghost use Rattle.cborn_engine.specs.declared.kinds.Kind.TheVariants as kinds;
-ghost use Rattle.cborn_engine.specs.declared.count_faults.CountFault.TheVariants as counted;
+ghost use Rattle.std.specs.Prelude.{◌≡◌, ◌≤◌, ◌⊎◌};
+ghost use Rattle.cborn_engine.specs.Common.{List, length, IfErr, OnOk, Tree, EngineFault, Kind, CountFault, Count};
 ghost use Rattle.cborn_engine.specs.devices.Encoding.{kind_of};
 ghost use Rattle.cborn_engine.specs.Holding.{Spells};
-ghost use Rattle.cborn_engine.specs.declared.counts.Count.TheVariants as counts;
 ghost use Rattle.cborn_engine.specs.Counts.{SpellsCount, SpellsOne, IsNotOne};
 ghost use Rattle.cborn_engine.specs.Reading.{most_bytes};
 
@@ -44,7 +40,7 @@ pub fn expect(
     requires short { length input.now ≤ most_bytes }
     requires spelled { (nodes : List Tree) × Spells kind limit input.now nodes }
     ensures counted { OnOk result (SpellsCount count kind limit input.now) }
-    ensures refused { IfErr result (λ why. (count ≡ counts.One) × ((why ≡ counted.Engine fault.OutOfMemory) ⊎ IsNotOne kind limit input.now why)) }
+    ensures refused { IfErr result (λ why. (count ≡ Count.One) × ((why ≡ CountFault.Engine EngineFault.OutOfMemory) ⊎ IsNotOne kind limit input.now why)) }
 {
     match count {
         Count::Any => Ok(()),
@@ -53,14 +49,11 @@ pub fn expect(
 }
 
 /// Refuses an input that spells nodes, but not exactly one.
-///
-/// # Errors
-/// `NoItem` and `MoreItems`, and want of memory.
 fn expect_one(alloc: Global, limit: Limit, kind: Kind, input: &[u8]) -> Result<(), CountFault>
     requires short { length input.now ≤ most_bytes }
     requires spelled { (nodes : List Tree) × Spells kind limit input.now nodes }
     ensures one { OnOk result (SpellsOne kind limit input.now) }
-    ensures refused { IfErr result (λ why. (why ≡ counted.Engine fault.OutOfMemory) ⊎ IsNotOne kind limit input.now why) }
+    ensures refused { IfErr result (λ why. (why ≡ CountFault.Engine EngineFault.OutOfMemory) ⊎ IsNotOne kind limit input.now why) }
 {
     match profile_of(kind) {
         None => one_in_bytes(alloc, limit, input),
@@ -69,10 +62,11 @@ fn expect_one(alloc: Global, limit: Limit, kind: Kind, input: &[u8]) -> Result<(
 }
 
 /// What `expect_one` answers of bytes. They are walked over up to the end of the first item.
+#[tactic(auto, using(crate::proofs::CountAnswers::Second::none_first, crate::proofs::CountAnswers::Second::none_in_bytes, crate::proofs::CountAnswers::Second::second_in_bytes))]
 fn one_in_bytes(alloc: Global, limit: Limit, input: &[u8]) -> Result<(), CountFault>
-    requires spelled { (nodes : List Tree) × Spells kinds.Wire limit input.now nodes }
-    ensures one { OnOk result (SpellsOne kinds.Wire limit input.now) }
-    ensures refused { IfErr result (λ why. (why ≡ counted.Engine fault.OutOfMemory) ⊎ IsNotOne kinds.Wire limit input.now why) }
+    requires spelled { (nodes : List Tree) × Spells Kind.Wire limit input.now nodes }
+    ensures one { OnOk result (SpellsOne Kind.Wire limit input.now) }
+    ensures refused { IfErr result (λ why. (why ≡ CountFault.Engine EngineFault.OutOfMemory) ⊎ IsNotOne Kind.Wire limit input.now why) }
 {
     let most = limit.get();
     prove!(most <= 1024);
@@ -86,6 +80,7 @@ fn one_in_bytes(alloc: Global, limit: Limit, input: &[u8]) -> Result<(), CountFa
 }
 
 /// What `expect_one` answers of a text. It is read to its end.
+#[tactic(auto, using(crate::proofs::Answers::known_error, crate::proofs::CountAnswers::Refused::refused_memory, crate::proofs::CountAnswers::Second::none_in_text))]
 fn one_in_text(
     alloc: Global,
     limit: Limit,
@@ -95,7 +90,7 @@ fn one_in_text(
     requires short { length input.now ≤ most_bytes }
     requires spelled { (nodes : List Tree) × Spells (kind_of profile) limit input.now nodes }
     ensures one { OnOk result (SpellsOne (kind_of profile) limit input.now) }
-    ensures refused { IfErr result (λ why. (why ≡ counted.Engine fault.OutOfMemory) ⊎ IsNotOne (kind_of profile) limit input.now why) }
+    ensures refused { IfErr result (λ why. (why ≡ CountFault.Engine EngineFault.OutOfMemory) ⊎ IsNotOne (kind_of profile) limit input.now why) }
 {
     let mut items = FirstTwo::new(alloc);
     hand_text(alloc, limit, profile, input, &mut items)?;

@@ -1,7 +1,6 @@
 //! Where two sequences differ whose deterministic encodings are held. The encodings are walked side
 //! by side in place, item by item.
-ghost use Rattle.std.specs.Prelude.{IfOk};
-ghost use Rattle.cborn_engine.specs.declared.kinds.Kind.TheVariants as kinds;
+ghost use Rattle.cborn_engine.specs.Common.{IfOk, Kind};
 ghost use Rattle.cborn_engine.specs.Comparing.{AreCompared};
 ghost use Rattle.cborn_engine.specs.devices.Encoding.{IsEncoded};
 
@@ -20,9 +19,9 @@ pub fn difference<O: KeyOrder>(
     ours: &[u8],
     theirs: &[u8],
 ) -> Result<Option<u64>, AllocError>
-    requires ours { IsEncoded O.order kinds.Wire limit ours.now ours.now }
-    requires theirs { IsEncoded O.order kinds.Wire limit theirs.now theirs.now }
-    ensures { IfOk result (AreCompared kinds.Wire kinds.Wire limit ours.now theirs.now) }
+    requires ours { IsEncoded O.order Kind.Wire limit ours.now ours.now }
+    requires theirs { IsEncoded O.order Kind.Wire limit theirs.now theirs.now }
+    ensures { IfOk result (AreCompared Kind.Wire Kind.Wire limit ours.now theirs.now) }
 {
     if ours == theirs {
         return Ok(None);

@@ -1,8 +1,9 @@
 //! Encoding what a whole input holds. The encodings are written as bytes or a text are read; no tree is
 //! kept.
-ghost use Rattle.std.specs.Prelude.{◌≡◌, ◌↔◌, ◌≤◌, length, IfOk, IfErr, IsTrue};
-ghost use Rattle.cborn_engine.specs.declared.kinds.Kind.TheVariants as kinds;
+ghost use Rattle.std.specs.Prelude.{◌≡◌, ◌≤◌};
+ghost use Rattle.cborn_engine.specs.Common.{Kind, length, IfOk, IfErr, IsTrue};
 ghost use Rattle.cborn_engine.specs.devices.Encoding.{IsEncoded, kind_of};
+ghost use Rattle.cborn_engine.specs.devices.Walking.{walked_depth};
 ghost use Rattle.cborn_engine.specs.Reading.{most_bytes};
 ghost use Rattle.cborn_engine.specs.devices.Malformed.{IsRefusedHeld};
 
@@ -17,9 +18,10 @@ use cborn_model::{KeyOrder, Limit};
 use std::alloc::Global;
 
 /// Whether the whole input is the deterministic encodings of what it holds, one after another. False of
-/// a text.
+/// a text, and of items deeper than 256 levels.
 pub fn is_own_encoding<O: KeyOrder>(limit: Limit, kind: Kind, input: &[u8]) -> bool
-    ensures { IsTrue result ↔ (kind ≡ kinds.Wire) × IsEncoded O.order kind limit input.now input.now }
+    ensures own { IsTrue result → (kind ≡ Kind.Wire) × IsEncoded O.order kind limit input.now input.now }
+    ensures all { kind ≡ Kind.Wire → IsEncoded O.order kind (walked_depth limit) input.now input.now → IsTrue result }
 {
     kind == Kind::Wire && is_deterministic::<O>(limit, input)
 }
@@ -50,8 +52,8 @@ fn encode_bytes<O: KeyOrder>(
     limit: Limit,
     input: &[u8],
 ) -> Result<Vec<u8>, EngineFault>
-    ensures encoded { IfOk result (λ bytes. IsEncoded O.order kinds.Wire limit input.now bytes.items) }
-    ensures refused { IfErr result (IsRefusedHeld kinds.Wire limit input.now) }
+    ensures encoded { IfOk result (λ bytes. IsEncoded O.order Kind.Wire limit input.now bytes.items) }
+    ensures refused { IfErr result (IsRefusedHeld Kind.Wire limit input.now) }
 {
     let encoded = judge_bytes::<O>(alloc, limit, input)?;
     Ok(encoded.bytes)

@@ -1,7 +1,6 @@
 //! Why an input is refused, or could not be read, or its answer not be written.
 ghost use Rattle.std.specs.Prelude.{◌≡◌};
-ghost use Rattle.cborn_engine.specs.declared.faults.CompareFault.{CompareFault};
-ghost use Rattle.cborn_engine.specs.declared.faults.EngineFault.{EngineFault};
+ghost use Rattle.cborn_engine.specs.Common.{CompareFault, EngineFault};
 
 use crate::stream_faults::InputFault;
 use cborn_edn::{EdnFault, ShowFault};

@@ -1,8 +1,7 @@
 //! The visitor [`FirstTwo`], which keeps where the first two items of an input begin.
 
-ghost use Rattle.std.specs.Prelude.{◌≡◌, ◌++◌, ◌∷◌, ℕ, List, [], length, slice_get, OnOk};
-ghost use Rattle.cborn_model.specs.Partial.{Partial, Opening, top, inside, no_part};
-ghost use Rattle.cborn_wire.specs.shared.Ground.{place_of};
+ghost use Rattle.std.specs.Prelude.{◌≡◌, ◌++◌, ◌∷◌};
+ghost use Rattle.cborn_engine.specs.Common.{ℕ, List, [], length, slice_get, OnOk, Partial, Opening, top, inside, no_part, place_of};
 ghost use Rattle.cborn_engine.specs.devices.Tops.{IsHeld};
 
 use cborn_model::{Size, StringKind, Visitor, Width};

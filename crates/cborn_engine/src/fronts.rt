@@ -5,21 +5,33 @@ ghost use Rattle.std.specs.Prelude.{◌≡◌, ◌≤◌, [], ◌∷◌, ◌++�
 ghost use Rattle.cborn_model.specs.declared.heads.Major.TheVariants.{Array, Map, Tag};
 ghost use Rattle.cborn_engine.specs.declared.kinds.Kind.TheVariants as kinds;
 ghost use Rattle.cborn_engine.specs.devices.Encoding.{IsEncoded};
-ghost use Rattle.cborn_engine.specs.devices.Walking.{IsLast, Finds, RisingAfter, Walked, Follows};
+ghost use Rattle.cborn_engine.specs.devices.Walking.{IsLast, Finds, RisingAfter, Walked, Follows, walked_depth};
 
 use crate::walked_leaves::{read_least, walk_leaf, walk_magnitude};
 use cborn_model::{KeyOrder, Limit, Major};
 use cborn_wire::int_len;
 
+/// How deep a walk goes at most, so that it takes little stack: a level takes some 120 bytes of it.
+const DEEPEST: u64 = 256;
+
+/// How deep a walk under this nesting limit goes.
+fn walked_depth(limit: Limit) -> u64
+    ensures { result ≡ walked_depth limit }
+{
+    let limit = limit.get();
+    if limit < DEEPEST { limit } else { DEEPEST }
+}
+
 /// Whether the bytes are the deterministic encodings of items, one after another, none deeper than
-/// `limit`, the keys of maps in the order `O` (RFC 8949 section 4.2).
+/// `limit`, the keys of maps in the order `O` (RFC 8949 section 4.2). Of items deeper than 256 levels it
+/// is false.
 ///
 /// The bytes are walked over once, in place, up to the first item that isn't. No memory is taken.
 pub fn is_deterministic<O: KeyOrder>(limit: Limit, bytes: &[u8]) -> bool
     ensures own { IsTrue result → IsEncoded O.order kinds.Wire limit bytes.now bytes.now }
-    ensures all { IsEncoded O.order kinds.Wire limit bytes.now bytes.now → IsTrue result }
+    ensures all { IsEncoded O.order kinds.Wire (walked_depth limit) bytes.now bytes.now → IsTrue result }
 {
-    let room = limit.get();
+    let room = walked_depth(limit);
     let mut rest = bytes;
     'items: while !rest.is_empty() {
         let Some(after) = walk_item::<O>(room, rest) else {

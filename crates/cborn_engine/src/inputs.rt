@@ -1,7 +1,6 @@
 //! Reading a whole input as nodes: bytes by pieces that aren't kept, a text whole.
 ghost use Rattle.std.specs.Prelude.{◌≡◌, ◌≤◌, ◌+◌};
-ghost use Rattle.cborn_engine.specs.declared.faults.EngineFault.TheVariants as fault;
-ghost use Rattle.cborn_engine.specs.declared.kinds.Kind.TheVariants as kinds;
+ghost use Rattle.cborn_engine.specs.Common.{EngineFault, Kind};
 ghost use Rattle.cborn_engine.specs.Failures.{CountsFault};
 ghost use Rattle.cborn_engine.specs.devices.Encoding.{kind_of};
 ghost use Rattle.cborn_engine.specs.Loading.{Loads};
@@ -34,7 +33,7 @@ pub fn load<R: Source>(
     reader: &mut R,
 ) -> Result<Vec<Spelled>, EngineFault>
     ensures loads { Loads kind limit most_bytes (R.remaining reader.old) (R.remaining reader.new) result }
-    ensures failures { CountsFault fault.ReadFault result (R.failed reader.old) (R.failed reader.new) }
+    ensures failures { CountsFault EngineFault.ReadFault result (R.failed reader.old) (R.failed reader.new) }
     ensures calls { R.asked reader.new ≤ R.asked reader.old + most_bytes + 1 }
 {
     load_within(alloc, limit, MOST, kind, reader)
@@ -60,7 +59,7 @@ pub fn load_within<R: Source>(
 ) -> Result<Vec<Spelled>, EngineFault>
     requires { most ≤ most_bytes }
     ensures loads { Loads kind limit most (R.remaining reader.old) (R.remaining reader.new) result }
-    ensures failures { CountsFault fault.ReadFault result (R.failed reader.old) (R.failed reader.new) }
+    ensures failures { CountsFault EngineFault.ReadFault result (R.failed reader.old) (R.failed reader.new) }
     ensures calls { R.asked reader.new ≤ R.asked reader.old + most + 1 }
 {
     match profile_of(kind) {
@@ -74,9 +73,6 @@ const PIECE: usize = 4096;
 
 /// The items of bytes, of which none is kept once it was fed. After a fault the bytes are read on
 /// to their end and not fed, so that a failed read and a byte too many are reported in its place.
-///
-/// # Errors
-/// Those of `load_within`.
 fn load_bytes<R: Source>(
     alloc: Global,
     limit: Limit,
@@ -84,7 +80,7 @@ fn load_bytes<R: Source>(
     reader: &mut R,
 ) -> Result<Vec<Spelled>, EngineFault>
     requires { most ≤ most_bytes }
-    ensures loads { Loads kinds.Wire limit most (R.remaining reader.old) (R.remaining reader.new) result }
+    ensures loads { Loads Kind.Wire limit most (R.remaining reader.old) (R.remaining reader.new) result }
     ensures failures { R.failed reader.new ≡ read_failures result (R.failed reader.old) }
     ensures calls { R.asked reader.new ≤ R.asked reader.old + most + 1 }
 {
@@ -106,9 +102,6 @@ fn load_bytes<R: Source>(
 }
 
 /// The items of a text, which is kept until they are made.
-///
-/// # Errors
-/// Those of `load_within`.
 fn load_text<R: Source>(
     alloc: Global,
     limit: Limit,

@@ -1,6 +1,6 @@
 //! The items of bytes that are held whole, one after another.
-ghost use Rattle.std.specs.Prelude.{◌≡◌, None, Ok, Err, length, IfOk, IfErr, IfSome};
-ghost use Rattle.cborn_wire.specs.Reading.{EndsItem};
+ghost use Rattle.std.specs.Prelude.{◌≡◌};
+ghost use Rattle.cborn_engine.specs.Common.{None, Ok, Err, length, IfOk, IfErr, IfSome, EndsItem};
 ghost use Rattle.cborn_engine.specs.Items.{GivesItem};
 
 use cborn_model::Limit;

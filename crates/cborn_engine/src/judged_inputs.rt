@@ -1,8 +1,7 @@
 //! Reading an input. Bytes are judged as they are read where they depart early from their
 //! deterministic encodings; then none of them is kept.
-ghost use Rattle.std.specs.Prelude.{◌≡◌, ◌≤◌, ◌+◌, length, take};
-ghost use Rattle.cborn_engine.specs.declared.counts.Count.TheVariants as counts;
-ghost use Rattle.cborn_engine.specs.declared.kinds.Kind.TheVariants as kinds;
+ghost use Rattle.std.specs.Prelude.{◌≡◌, ◌≤◌, ◌+◌};
+ghost use Rattle.cborn_engine.specs.Common.{length, take, Count, Kind};
 ghost use Rattle.cborn_engine.specs.devices.Counting.{read_failures};
 ghost use Rattle.cborn_engine.specs.devices.Judging.{ReadsInput, ReadsWhole};
 ghost use Rattle.cborn_engine.specs.Reading.{most_bytes};
@@ -57,15 +56,12 @@ const PIECE: usize = 1 << 16;
 /// Reads bytes that may hold any number of items. If the first piece departs from its encodings, all
 /// pieces are judged as they come. Else the bytes are likely to be their own encodings, which is quicker
 /// to see of all at once; but not where they are long strings. A piece that isn't full is likely all.
-///
-/// # Errors
-/// Those of `read_input`.
 fn read_judged<O: KeyOrder, R: Source>(
     alloc: Global,
     limit: Limit,
     reader: &mut R,
 ) -> Result<Input, EngineFault>
-    ensures input { ReadsInput O.order counts.Any kinds.Wire limit (R.remaining reader.old) (R.remaining reader.new) result }
+    ensures input { ReadsInput O.order Count.Any Kind.Wire limit (R.remaining reader.old) (R.remaining reader.new) result }
     ensures failures { R.failed reader.new ≡ read_failures result (R.failed reader.old) }
     ensures calls { R.asked reader.new ≤ R.asked reader.old + most_bytes + 1 }
 {

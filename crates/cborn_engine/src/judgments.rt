@@ -1,8 +1,7 @@
 //! Judging bytes: what the items that they hold are encoded as, and where they first depart from
 //! that, or why they hold none. One look finds it all, and keeps no tree.
 
-ghost use Rattle.std.specs.Prelude.{[], IfOk, IfErr};
-ghost use Rattle.cborn_engine.specs.declared.kinds.Kind.TheVariants as kinds;
+ghost use Rattle.cborn_engine.specs.Common.{[], IfOk, IfErr, Kind};
 ghost use Rattle.cborn_engine.specs.devices.Encoding.{AreJudged};
 ghost use Rattle.cborn_engine.specs.devices.Judging.{IsJudging};
 ghost use Rattle.cborn_engine.specs.devices.Malformed.{IsRefusedHeld};
@@ -27,7 +26,7 @@ pub fn judge_bytes<O: KeyOrder>(
     input: &[u8],
 ) -> Result<EncodedItems, EngineFault>
     ensures judged { IfOk result (λ found. AreJudged O.order limit input.now found.bytes.items found.defect) }
-    ensures refused { IfErr result (IsRefusedHeld kinds.Wire limit input.now) }
+    ensures refused { IfErr result (IsRefusedHeld Kind.Wire limit input.now) }
 {
     // An encoding is longer than what it was read from only where an indefinite length, which takes
     // two bytes, becomes the head of 256 entries or more.
@@ -46,7 +45,7 @@ fn judge_whole<O: KeyOrder>(
 ) -> Result<EncodedItems, EngineFault>
     requires { IsJudging ⟦<Encoder<O> as Visitor>⟧.holds judge [] limit }
     ensures judged { IfOk result (λ found. AreJudged O.order limit input.now found.bytes.items found.defect) }
-    ensures refused { IfErr result (IsRefusedHeld kinds.Wire limit input.now) }
+    ensures refused { IfErr result (IsRefusedHeld Kind.Wire limit input.now) }
 {
     let mut judge = judge;
     match judge.take(input) {

@@ -1,6 +1,6 @@
 //! What an input or an output is.
-ghost use Rattle.std.specs.Prelude.{◌≡◌, MatchOption};
-ghost use Rattle.cborn_engine.specs.declared.kinds.Kind.TheVariants as kinds;
+ghost use Rattle.std.specs.Prelude.{◌≡◌};
+ghost use Rattle.cborn_engine.specs.Common.{MatchOption, Kind};
 ghost use Rattle.cborn_engine.specs.devices.Encoding.{kind_of};
 
 use cborn_lex::Profile;
@@ -19,7 +19,7 @@ pub enum Kind {
 
 /// The profile of an input that is notation. None: it is bytes.
 pub fn profile_of(kind: Kind) -> Option<Profile>
-    ensures { MatchOption result (kind ≡ kinds.Wire) (λ profile. kind ≡ kind_of profile) }
+    ensures { MatchOption result (kind ≡ Kind.Wire) (λ profile. kind ≡ kind_of profile) }
 {
     match kind {
         Kind::Wire => None,

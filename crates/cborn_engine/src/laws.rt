@@ -1,20 +1,8 @@
 //! What follows from the contracts. Each function but `two_calls` does nothing; its contract is a
 //! theorem over the definitions in `specs/`.
 
-ghost use Rattle.std.specs.Prelude.{◌≡◌, ◌≤◌, ◌↔◌, ◌⊎◌, ℕ, List, ◌++◌, Option, None, Some, Ok, Err, IfOk, IfErr, length};
-ghost use Rattle.std.specs.Cow.{cow_slice_items};
-ghost use Rattle.std.specs.Io.KnownBytes.{Consumes, IsAtEnd};
-ghost use Rattle.std.specs.List.{AllZip, AllByRecursion};
-ghost use Rattle.cborn_model.specs.Tree.{Tree, Trees};
-ghost use Rattle.cborn_model.specs.Spelled.{FitsAll, spelled_all};
-ghost use Rattle.cborn_model.specs.Valid.{IsProper};
-ghost use Rattle.cborn_model.specs.Value.{Value, Values, Same, SameValues, values_of};
-ghost use Rattle.cborn_det.specs.Det.{DetValues, DetSeq};
-ghost use Rattle.cborn_edn.specs.Plain.{IsPlain};
-ghost use Rattle.cborn_edn.specs.Shown.{Shown};
-ghost use Rattle.cborn_engine.specs.declared.faults.EngineFault.{EngineFault};
-ghost use Rattle.cborn_engine.specs.declared.kinds.Kind.{Kind};
-ghost use Rattle.cborn_engine.specs.declared.kinds.Kind.TheVariants as kinds;
+ghost use Rattle.std.specs.Prelude.{◌≡◌, ◌≤◌, ◌↔◌, ◌⊎◌, ◌++◌};
+ghost use Rattle.cborn_engine.specs.Common.{ℕ, List, Option, None, Some, Ok, Err, IfOk, IfErr, length, cow_slice_items, Consumes, IsAtEnd, AllZip, AllByRecursion, Tree, Trees, FitsAll, spelled_all, IsProper, Value, Values, Same, SameValues, values_of, DetValues, DetSeq, IsPlain, Shown, EngineFault, Kind};
 ghost use Rattle.cborn_engine.specs.Bytes.{BytesHold};
 ghost use Rattle.cborn_engine.specs.Holding.{Holds, HoldSameItems, Spells, Canon};
 ghost use Rattle.cborn_engine.specs.Loading.{LoadAnswers};
@@ -46,6 +34,7 @@ pub fn headline<O: KeyOrder>()
 
 /// Nodes that spell deterministic encodings have the same text in the notation of these, in which
 /// there is no indicator and no string in chunks, as in the fixed notation of all nodes.
+#[tactic(auto, using(crate::proofs::Canonical::PlainText::plain_is))]
 pub fn canonical_text<O: KeyOrder>()
     ensures { (items : List Value) (nodes : Trees) (text : List ℕ) → FitsAll nodes → DetSeq O.order items (spelled_all nodes) → IsPlain nodes text ↔ Shown nodes text }
 {}
@@ -93,9 +82,9 @@ pub fn headline_of_bytes<O: KeyOrder>()
 /// input of them holds under some limit. So its canonical form, as bytes, is the deterministic
 /// encoding of what the bytes hold.
 pub fn bytes_alone<O: KeyOrder>()
-    ensures held { (limit : ℕ) (x : List ℕ) (items : List Value) → Holds kinds.Wire limit x items → BytesHold x (values_of items) }
-    ensures within { (x : List ℕ) (items : List Value) → BytesHold x (values_of items) → (limit : ℕ) × Holds kinds.Wire limit x items }
-    ensures canonical { (limit : ℕ) (x v : List ℕ) → IsCanonical O.order kinds.Wire kinds.Wire limit x v → (items : Values) × BytesHold x items × DetValues O.order items v }
+    ensures held { (limit : ℕ) (x : List ℕ) (items : List Value) → Holds Kind.Wire limit x items → BytesHold x (values_of items) }
+    ensures within { (x : List ℕ) (items : List Value) → BytesHold x (values_of items) → (limit : ℕ) × Holds Kind.Wire limit x items }
+    ensures canonical { (limit : ℕ) (x v : List ℕ) → IsCanonical O.order Kind.Wire Kind.Wire limit x v → (items : Values) × BytesHold x items × DetValues O.order items v }
 {}
 
 /// Where a canonical form that is no longer than an input may be is normalised again, that is
@@ -107,7 +96,7 @@ pub fn refused_again<O: KeyOrder>()
 
 /// A check finds no defect exactly if normalising would write the very bytes that came in.
 pub fn checked<O: KeyOrder>()
-    ensures { (limit : ℕ) (x : List ℕ) → IsChecked O.order limit x None ↔ IsCanonical O.order kinds.Wire kinds.Wire limit x x }
+    ensures { (limit : ℕ) (x : List ℕ) → IsChecked O.order limit x None ↔ IsCanonical O.order Kind.Wire Kind.Wire limit x x }
 {}
 
 /// A comparison finds no difference exactly if both inputs hold the same items.
@@ -117,14 +106,15 @@ pub fn compared()
 
 /// The canonical form of two inputs of bytes, one after the other, is that of the first and then that of the
 /// other.
+#[tactic(auto, using(crate::proofs::Canonical::OfBytes::joined))]
 pub fn joined<O: KeyOrder>()
-    ensures { (limit : ℕ) (x y v w : List ℕ) → IsCanonical O.order kinds.Wire kinds.Wire limit x v → IsCanonical O.order kinds.Wire kinds.Wire limit y w → IsCanonical O.order kinds.Wire kinds.Wire limit (x ++ y) (v ++ w) }
+    ensures { (limit : ℕ) (x y v w : List ℕ) → IsCanonical O.order Kind.Wire Kind.Wire limit x v → IsCanonical O.order Kind.Wire Kind.Wire limit y w → IsCanonical O.order Kind.Wire Kind.Wire limit (x ++ y) (v ++ w) }
 {}
 
 /// What is shown of bytes, of whatever kind, is shown as those bytes again; and what is shown of an
 /// input is one.
 pub fn shown_back()
-    ensures back { (out : Kind) (limit : ℕ) (x v : List ℕ) → IsShown kinds.Wire out limit x v → IsShown out kinds.Wire limit v x }
+    ensures back { (out : Kind) (limit : ℕ) (x v : List ℕ) → IsShown Kind.Wire out limit x v → IsShown out Kind.Wire limit v x }
     ensures one { (k out : Kind) (limit : ℕ) (x v w : List ℕ) → IsShown k out limit x v → IsShown k out limit x w → v ≡ w }
 {}
 
@@ -144,6 +134,7 @@ pub fn valid_items<O: KeyOrder>()
 {}
 
 /// A canonical form holds items that are the same as those of the input.
+#[tactic(auto, using(crate::proofs::Canonical::Canonicity::reads_back))]
 pub fn reads_back<O: KeyOrder>()
     ensures { (k out : Kind) (limit : ℕ) (x v : List ℕ) → length x ≤ most_bytes → (a : IsCanonical O.order k out limit x v) → (others : List Value) × Holds out limit v others × AllZip Same others a.items }
 {}
@@ -171,6 +162,7 @@ pub fn one_list()
 {}
 
 /// What was read to its end of a reader that says its bytes is all that it had.
+#[tactic(auto, using(crate::proofs::Held::Known::whole))]
 pub fn whole_input()
     ensures { (x input : List ℕ) (after : Option (List ℕ)) → Consumes (Some x) after input → IsAtEnd after → input ≡ x }
 {}

@@ -1,5 +1,6 @@
 //! Texts that are held whole, read as nodes, for a caller who asks for nodes.
-ghost use Rattle.std.specs.Prelude.{◌≡◌, ◌≤◌, ℕ, length, IfOk, IfErr};
+ghost use Rattle.std.specs.Prelude.{◌≡◌, ◌≤◌};
+ghost use Rattle.cborn_engine.specs.Common.{ℕ, length, IfOk, IfErr};
 ghost use Rattle.cborn_engine.specs.devices.Encoding.{kind_of};
 ghost use Rattle.cborn_engine.specs.Holding.{SpellsInPlace};
 ghost use Rattle.cborn_engine.specs.Loading.{IsNoFlaw};

@@ -1,9 +1,8 @@
 //! The [`PieceJudge`], which judges bytes that come in pieces.
 
-ghost use Rattle.std.specs.Prelude.{◌≡◌, ◌+◌, ◌<◌, ◌^◌, ◌++◌, ℕ, List, [], length, IfOk, IfErr, OnOk};
-ghost use Rattle.cborn_model.specs.Partial.{top, no_part};
+ghost use Rattle.std.specs.Prelude.{◌≡◌, ◌+◌, ◌<◌, ◌^◌, ◌++◌};
+ghost use Rattle.cborn_engine.specs.Common.{ℕ, List, [], length, IfOk, IfErr, OnOk, top, no_part, Kind};
 ghost use Rattle.cborn_wire.specs.declared.faults.VisitFault.TheVariants.{Refused};
-ghost use Rattle.cborn_engine.specs.declared.kinds.Kind.TheVariants as kinds;
 ghost use Rattle.cborn_engine.specs.devices.Encoding.{AreJudged};
 ghost use Rattle.cborn_engine.specs.devices.Judging.{IsJudging};
 ghost use Rattle.cborn_engine.specs.devices.Malformed.{IsRefusedHeld};
@@ -100,7 +99,7 @@ impl<O: KeyOrder> PieceJudge<O> {
     /// The fault of bytes that aren't well-formed, or the first flaw of the first item that isn't valid.
     pub(crate) fn finish(self) -> Result<EncodedItems, EngineFault>
         ensures judged { IfOk result (λ found. (limit : ℕ) (x : List ℕ) → IsJudging ⟦<Encoder<O> as Visitor>⟧.holds self x limit → AreJudged O.order limit x found.bytes.items found.defect) }
-        ensures refused { IfErr result (λ why. (limit : ℕ) (x : List ℕ) → IsJudging ⟦<Encoder<O> as Visitor>⟧.holds self x limit → IsRefusedHeld kinds.Wire limit x why) }
+        ensures refused { IfErr result (λ why. (limit : ℕ) (x : List ℕ) → IsJudging ⟦<Encoder<O> as Visitor>⟧.holds self x limit → IsRefusedHeld Kind.Wire limit x why) }
     {
         if let Some((place, reason)) = self.fault {
             return Err(EngineFault::Wire(WireFault::Refused { place, reason }));

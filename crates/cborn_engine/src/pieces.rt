@@ -1,5 +1,6 @@
 //! Reading an input in pieces.
-ghost use Rattle.std.specs.Prelude.{◌≡◌, ◌≤◌, ◌<◌, ◌+◌, ◌^◌, length, take, drop, OnOk};
+ghost use Rattle.std.specs.Prelude.{◌≡◌, ◌≤◌, ◌<◌, ◌+◌, ◌^◌};
+ghost use Rattle.cborn_engine.specs.Common.{length, take, drop, OnOk};
 ghost use Rattle.cborn_engine.specs.Failures.{failures_after_read};
 ghost use Rattle.cborn_engine.specs.Collecting.{PieceAnswers};
 
@@ -78,9 +79,6 @@ pub fn read_after<R: Source>(
 
 /// Reads the next piece of an input, which may have at most `left` more bytes, to a slice from the
 /// offset `filled` on, and gives its length in bytes: 0 only at the end.
-///
-/// # Errors
-/// `ReadFault` if the reader fails. `TooLong` if it gives more than `left` bytes.
 fn read_at<R: Source>(
     reader: &mut R,
     buf: &mut [u8],

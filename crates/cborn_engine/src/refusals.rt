@@ -1,7 +1,6 @@
 //! Why bytes are refused that aren't well-formed: for their fault.
 ghost use Rattle.std.specs.Prelude.{◌≡◌, ◌⊎◌};
-ghost use Rattle.cborn_engine.specs.declared.faults.EngineFault.TheVariants as fault;
-ghost use Rattle.cborn_wire.specs.Faults.{IsWellformed};
+ghost use Rattle.cborn_engine.specs.Common.{EngineFault, IsWellformed};
 ghost use Rattle.cborn_engine.specs.devices.Malformed.{IsWireFault};
 
 use crate::faults::EngineFault;
@@ -23,7 +22,7 @@ pub fn fault_of_bytes(limit: Limit, input: &[u8]) -> EngineFault
 /// What is answered of bytes where a growth was refused: the fault of those that aren't well-formed,
 /// whatever memory there is; else `OutOfMemory`.
 pub fn fault_or_refusal(refused: AllocError, limit: Limit, input: &[u8]) -> EngineFault
-    ensures { IsWireFault limit input.now result ⊎ IsWellformed limit input.now × (result ≡ fault.OutOfMemory) }
+    ensures { IsWireFault limit input.now result ⊎ IsWellformed limit input.now × (result ≡ EngineFault.OutOfMemory) }
 {
     match scan(limit, input) {
         Some((place, reason)) => EngineFault::Wire(WireFault::Refused { place, reason }),

@@ -1,10 +1,8 @@
 //! Reading a whole input, and writing what it holds in another form. Bytes that are to stay bytes
 //! are what their nodes spell, once it is known that they are well-formed. Else they are read head
 //! by head, and become notation on the way. A text becomes bytes first.
-ghost use Rattle.std.specs.Prelude.{◌≡◌, ◌≢◌, ◌≤◌, ℕ, length, IfOk, IfErr, IsTrue, IsFalse};
-ghost use Rattle.cborn_wire.specs.declared.faults.WireReason.{WireReason};
-ghost use Rattle.cborn_wire.specs.Faults.{Fault, IsWellformed};
-ghost use Rattle.cborn_engine.specs.declared.kinds.Kind.TheVariants as kinds;
+ghost use Rattle.std.specs.Prelude.{◌≡◌, ◌≢◌, ◌≤◌};
+ghost use Rattle.cborn_engine.specs.Common.{ℕ, length, IfOk, IfErr, IsTrue, IsFalse, WireReason, Fault, IsWellformed, Kind};
 ghost use Rattle.cborn_engine.specs.devices.Encoding.{kind_of};
 ghost use Rattle.cborn_engine.specs.Reading.{most_bytes};
 ghost use Rattle.cborn_engine.specs.Showing.{IsShown};
@@ -22,9 +20,10 @@ use std::alloc::Global;
 
 /// Whether an input is well-formed bytes that are to stay bytes. Where it isn't, and is of bytes
 /// that are to stay bytes, it has a fault.
+#[tactic(auto, using(crate::proofs::Answers::none_found, crate::proofs::Answers::own_spelling, crate::proofs::Answers::some_found))]
 pub fn is_own_spelling(limit: Limit, in_kind: Kind, out_kind: Kind, input: &[u8]) -> bool
     ensures own { IsTrue result → IsShown in_kind out_kind limit input.now input.now }
-    ensures malformed { IsFalse result → in_kind ≡ kinds.Wire → out_kind ≡ kinds.Wire → (p : ℕ) × (r : WireReason) × Fault limit input.now p r }
+    ensures malformed { IsFalse result → in_kind ≡ Kind.Wire → out_kind ≡ Kind.Wire → (p : ℕ) × (r : WireReason) × Fault limit input.now p r }
 {
     in_kind == Kind::Wire && out_kind == Kind::Wire && scan(limit, input).is_none()
 }
@@ -43,7 +42,7 @@ pub fn show_input(
     input: &[u8],
 ) -> Result<Vec<u8>, EngineFault>
     requires short { length input.now ≤ most_bytes }
-    requires malformed { in_kind ≡ kinds.Wire → out_kind ≡ kinds.Wire → IsWellformed limit input.now → ⊥ }
+    requires malformed { in_kind ≡ Kind.Wire → out_kind ≡ Kind.Wire → IsWellformed limit input.now → ⊥ }
     ensures shown { IfOk result (λ bytes. IsShown in_kind out_kind limit input.now bytes.items) }
     ensures unshown { IfErr result (IsUnshownHeld in_kind out_kind limit input.now) }
 {
@@ -61,9 +60,9 @@ fn tell_bytes(
     out_kind: Kind,
     input: &[u8],
 ) -> Result<Vec<u8>, EngineFault>
-    requires { out_kind ≡ kinds.Wire → IsWellformed limit input.now → ⊥ }
-    ensures shown { IfOk result (λ bytes. IsShown kinds.Wire out_kind limit input.now bytes.items) }
-    ensures unshown { IfErr result (IsUnshownHeld kinds.Wire out_kind limit input.now) }
+    requires { out_kind ≡ Kind.Wire → IsWellformed limit input.now → ⊥ }
+    ensures shown { IfOk result (λ bytes. IsShown Kind.Wire out_kind limit input.now bytes.items) }
+    ensures unshown { IfErr result (IsUnshownHeld Kind.Wire out_kind limit input.now) }
 {
     match out_kind {
         Kind::Wire => Err(fault_of_bytes(limit, input)),
@@ -83,9 +82,9 @@ fn notate_bytes(
     out_kind: Kind,
     input: &[u8],
 ) -> Result<Vec<u8>, EngineFault>
-    requires { out_kind ≢ kinds.Wire }
-    ensures shown { IfOk result (λ bytes. IsShown kinds.Wire out_kind limit input.now bytes.items) }
-    ensures unshown { IfErr result (IsUnshownHeld kinds.Wire out_kind limit input.now) }
+    requires { out_kind ≢ Kind.Wire }
+    ensures shown { IfOk result (λ bytes. IsShown Kind.Wire out_kind limit input.now bytes.items) }
+    ensures unshown { IfErr result (IsUnshownHeld Kind.Wire out_kind limit input.now) }
 {
     let notated = match show_bytes(alloc, limit, input) {
         Ok(notated) => notated,

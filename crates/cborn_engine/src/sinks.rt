@@ -1,7 +1,6 @@
 //! What bytes are written to.
-ghost use Rattle.std.specs.Prelude.{◌≡◌, ℕ, List, Option, OnOk};
-ghost use Rattle.std.specs.Io.{WritesAtMost};
-ghost use Rattle.std.specs.Io.KnownBytes.{Keeps, WriteAppends};
+ghost use Rattle.std.specs.Prelude.{◌≡◌};
+ghost use Rattle.cborn_engine.specs.Common.{ℕ, List, Option, OnOk, WritesAtMost, Keeps, WriteAppends};
 ghost use Rattle.cborn_engine.specs.Failures.{failures_after, failures_after_write};
 
 use std::io;

@@ -1,14 +1,7 @@
 //! The calls over inputs that are held whole. Such an input is read where it lies, and where it is
 //! its own answer, that is lent and not copied.
-ghost use Rattle.std.specs.Prelude.{◌≡◌, ◌≢◌, ◌<◌, ◌≤◌, ◌*◌, ◌↔◌, ℕ, List, length, Err, IfOk, IfErr, IsTrue};
-ghost use Rattle.std.specs.Cow.{cow_slice_items};
-ghost use Rattle.cborn_model.specs.Value.{Value, Values};
-ghost use Rattle.cborn_det.specs.Det.{DetValues};
-ghost use Rattle.cborn_engine.specs.declared.count_faults.CountFault.TheVariants as counted;
-ghost use Rattle.cborn_engine.specs.declared.counts.Count.TheVariants as counts;
-ghost use Rattle.cborn_engine.specs.declared.faults.EngineFault.TheVariants as fault;
-ghost use Rattle.cborn_engine.specs.declared.kinds.Kind.TheVariants as kinds;
-ghost use Rattle.cborn_engine.specs.declared.kinds.Kind.{Kind};
+ghost use Rattle.std.specs.Prelude.{◌≡◌, ◌≢◌, ◌<◌, ◌≤◌, ◌*◌, ◌↔◌};
+ghost use Rattle.cborn_engine.specs.Common.{ℕ, List, length, Err, IfOk, IfErr, IsTrue, cow_slice_items, Value, Values, DetValues, CountFault, Count, EngineFault, Kind};
 ghost use Rattle.cborn_engine.specs.Bytes.{BytesHold};
 ghost use Rattle.cborn_engine.specs.Canonical.{IsCanonical, IsNormalForm};
 ghost use Rattle.cborn_engine.specs.Comparing.{AreCompared};
@@ -54,9 +47,9 @@ pub fn normalise_slice<'a, O: KeyOrder>(
 ) -> Result<CowSlice<'a, u8, Global>, CountFault>
     ensures normalised { CountAnswer count in_kind limit input.now (NormalisedWhole O.order in_kind out_kind limit input.now) result }
     ensures headline { IfOk result (λ output. IsNormalForm O.order in_kind out_kind limit input.now (cow_slice_items output)) }
-    ensures bytes { IfOk result (λ output. in_kind ≡ kinds.Wire → out_kind ≡ kinds.Wire → (items : Values) × BytesHold input.now items × DetValues O.order items (cow_slice_items output)) }
-    ensures room { IfOk result (λ output. in_kind ≡ kinds.Wire → out_kind ≡ kinds.Wire → 3 * length (cow_slice_items output) ≤ 4 * length input.now) }
-    ensures malformed { length input.now ≤ most_bytes → TellsFaultAs counted.Engine in_kind limit input.now result }
+    ensures bytes { IfOk result (λ output. in_kind ≡ Kind.Wire → out_kind ≡ Kind.Wire → (items : Values) × BytesHold input.now items × DetValues O.order items (cow_slice_items output)) }
+    ensures room { IfOk result (λ output. in_kind ≡ Kind.Wire → out_kind ≡ Kind.Wire → 3 * length (cow_slice_items output) ≤ 4 * length input.now) }
+    ensures malformed { length input.now ≤ most_bytes → TellsFaultAs CountFault.Engine in_kind limit input.now result }
 {
     let encodings = encode_slice::<O>(alloc, limit, in_kind, input)?;
     let answer = written_as(alloc, limit, out_kind, lent(input, encodings))?;
@@ -82,8 +75,8 @@ pub fn show_slice<'a>(
 ) -> Result<CowSlice<'a, u8, Global>, CountFault>
     ensures shown { CountAnswer count in_kind limit input.now (ShownWhole in_kind out_kind limit input.now) result }
     ensures same_bytes { IfOk result (λ output. SpellSameBytes in_kind out_kind limit input.now (cow_slice_items output)) }
-    ensures malformed { length input.now ≤ most_bytes → TellsFaultAs counted.Engine in_kind limit input.now result }
-    ensures unfailing { count ≡ counts.Any → in_kind ≡ kinds.Wire → out_kind ≡ kinds.Wire → result ≢ Err (counted.Engine fault.OutOfMemory) }
+    ensures malformed { length input.now ≤ most_bytes → TellsFaultAs CountFault.Engine in_kind limit input.now result }
+    ensures unfailing { count ≡ Count.Any → in_kind ≡ Kind.Wire → out_kind ≡ Kind.Wire → result ≢ Err (CountFault.Engine EngineFault.OutOfMemory) }
 {
     let answer = spell_slice(alloc, limit, in_kind, out_kind, input)?;
     expect(alloc, limit, count, in_kind, input)?;
@@ -104,8 +97,8 @@ pub fn check_slice<O: KeyOrder>(
     count: Count,
     input: &[u8],
 ) -> Result<Option<Defect>, CountFault>
-    ensures checked { CountAnswer count kinds.Wire limit input.now (CheckedWhole O.order limit input.now) result }
-    ensures malformed { length input.now ≤ most_bytes → TellsFaultAs counted.Engine kinds.Wire limit input.now result }
+    ensures checked { CountAnswer count Kind.Wire limit input.now (CheckedWhole O.order limit input.now) result }
+    ensures malformed { length input.now ≤ most_bytes → TellsFaultAs CountFault.Engine Kind.Wire limit input.now result }
 {
     if is_too_long(input) {
         return Err(CountFault::Engine(EngineFault::TooLong));
@@ -174,7 +167,7 @@ fn spell_slice<'a>(
     input: &'a [u8],
 ) -> Result<CowSlice<'a, u8, Global>, EngineFault>
     ensures shown { ShownWhole in_kind out_kind limit input.now result }
-    ensures unfailing { in_kind ≡ kinds.Wire → out_kind ≡ kinds.Wire → result ≢ Err fault.OutOfMemory }
+    ensures unfailing { in_kind ≡ Kind.Wire → out_kind ≡ Kind.Wire → result ≢ Err EngineFault.OutOfMemory }
 {
     if is_too_long(input) {
         return Err(EngineFault::TooLong);
@@ -267,7 +260,7 @@ pub(crate) fn written_as<'a>(
     kind: Kind,
     bytes: CowSlice<'a, u8, Global>,
 ) -> Result<CowSlice<'a, u8, Global>, AllocError>
-    requires { (items : List Value) × Holds kinds.Wire limit (cow_slice_items bytes) items }
+    requires { (items : List Value) × Holds Kind.Wire limit (cow_slice_items bytes) items }
     ensures { IfOk result (λ answer. IsWrittenAs kind (cow_slice_items bytes.entry) (cow_slice_items answer)) }
 {
     match kind {
@@ -284,7 +277,7 @@ pub(crate) fn written_as<'a>(
 /// # Errors
 /// Where a growth of the text was refused.
 fn fixed_text(alloc: Global, limit: Limit, bytes: &[u8]) -> Result<Vec<u8>, AllocError>
-    requires { (items : List Value) × Holds kinds.Wire limit bytes.now items }
+    requires { (items : List Value) × Holds Kind.Wire limit bytes.now items }
     ensures { IfOk result (λ text. IsFixedText bytes.now text.items) }
 {
     match show_bytes(alloc, limit, bytes)? {

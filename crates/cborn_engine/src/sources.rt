@@ -1,7 +1,6 @@
 //! What bytes are read from.
-ghost use Rattle.std.specs.Prelude.{◌≡◌, ◌≤◌, ◌+◌, ℕ, List, Option};
-ghost use Rattle.std.specs.Io.{ReadsAtMost};
-ghost use Rattle.std.specs.Io.KnownBytes.{ReadConsumes};
+ghost use Rattle.std.specs.Prelude.{◌≡◌, ◌≤◌, ◌+◌};
+ghost use Rattle.cborn_engine.specs.Common.{ℕ, List, Option, ReadsAtMost, ReadConsumes};
 ghost use Rattle.cborn_engine.specs.Failures.{failures_after};
 
 use std::io;

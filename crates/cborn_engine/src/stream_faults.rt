@@ -1,6 +1,6 @@
 //! Why an input could not be read.
 ghost use Rattle.std.specs.Prelude.{◌≡◌};
-ghost use Rattle.cborn_engine.specs.declared.stream_faults.InputFault.{InputFault};
+ghost use Rattle.cborn_engine.specs.Common.{InputFault};
 
 use std::alloc::AllocError;
 use thiserror::Error;

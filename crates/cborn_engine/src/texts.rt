@@ -1,10 +1,7 @@
 //! The text that the bytes of an input are.
-ghost use Rattle.std.specs.Prelude.{◌≡◌, ◌≤◌, ℕ, List, [], length, IfOk, IfErr, OnOk, IsUtf8};
-ghost use Rattle.cborn_lex.specs.declared.classes.Profile.{Profile as ProfileSpec};
+ghost use Rattle.std.specs.Prelude.{◌≡◌, ◌≤◌};
+ghost use Rattle.cborn_engine.specs.Common.{ℕ, List, [], length, IfOk, IfErr, OnOk, IsUtf8, Profile as ProfileSpec, top, no_part, Tree, trees, Notates};
 ghost use Rattle.cborn_engine.specs.devices.Encoding.{kind_of};
-ghost use Rattle.cborn_model.specs.Partial.{top, no_part};
-ghost use Rattle.cborn_model.specs.Tree.{Tree, trees};
-ghost use Rattle.cborn_edn.specs.Grammar.{Notates};
 ghost use Rattle.cborn_edn.specs.Spelling.{IsSpelling};
 ghost use Rattle.cborn_engine.specs.Loading.{IsNoFlaw};
 ghost use Rattle.cborn_engine.specs.devices.Malformed.{IsRefusedHeld};

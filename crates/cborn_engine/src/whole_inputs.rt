@@ -1,5 +1,6 @@
 //! Reading all bytes of an input.
-ghost use Rattle.std.specs.Prelude.{◌≡◌, ◌≤◌, ◌<◌, ◌+◌, ◌^◌, length};
+ghost use Rattle.std.specs.Prelude.{◌≡◌, ◌≤◌, ◌<◌, ◌+◌, ◌^◌};
+ghost use Rattle.cborn_engine.specs.Common.{length};
 ghost use Rattle.cborn_engine.specs.Failures.{failures_after_read};
 ghost use Rattle.cborn_engine.specs.Collecting.{Collects, CollectsOn};
 

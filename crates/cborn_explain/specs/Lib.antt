@@ -1,3 +1,4 @@
+pub mod Faults
 pub mod Hints
 pub mod Paths
 pub mod devices

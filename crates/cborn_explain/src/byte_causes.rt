@@ -4,14 +4,19 @@ ghost use Rattle.std.specs.Prelude.{◌≤◌};
 
 use crate::byte_heads::{content_len, content_of, item_at, whole_head};
 use crate::byte_walks::Walk;
+use crate::faults::count_sentence;
 use crate::items::ItemReader;
-use crate::order_causes::push_rule;
-use crate::quotes::{push_hex, slice_of, valid_front};
-use crate::reasons::BytesReason;
-use cborn_judge::{DefectReason, InvalidReason};
-use cborn_model::{Limit, Major, shortest};
-use cborn_wire::{Argument, Head, HeadRead, Level, LevelKind, WireReason, head_bytes, read_head};
+use crate::order_causes::rule;
+use crate::quotes::{Hex, Text, slice_of, valid_front};
+use cborn_edn::ShowFault;
+use cborn_engine::{CountFault, EngineFault};
+use cborn_judge::{DefectReason, Invalid, InvalidReason};
+use cborn_model::{Major, shortest};
+use cborn_wire::{
+    Argument, Head, HeadRead, Level, LevelKind, WireFault, WireReason, head_bytes, read_head,
+};
 use std::alloc::AllocError;
+use std::fmt::{self, Display, Formatter};
 
 /// How many bytes of an encoding are written at most.
 const ENCODING: usize = 16;
@@ -28,28 +33,30 @@ pub(crate) struct RefusedBytes<'a> {
 }
 
 impl<'a> RefusedBytes<'a> {
-    /// Writes the sentence for `reason`.
-    pub(crate) fn push_cause(
-        &self,
-        out: &mut String,
-        reason: BytesReason,
-    ) -> Result<(), AllocError> {
+    /// The sentence for a fault. Empty where it is none of the content of bytes.
+    pub(crate) fn fault(&self, fault: CountFault) -> Text {
+        match fault {
+            CountFault::Engine(EngineFault::Wire(WireFault::Refused { reason, .. })) =>
+                self.malformed(reason),
+            CountFault::Engine(EngineFault::Invalid(Invalid::Refused { reason, .. })) =>
+                self.invalid(reason),
+            CountFault::Engine(EngineFault::Show(ShowFault::NotUtf8 { .. })) => self.not_utf8(),
+            _ => String::from_str(self.items.alloc, count_sentence(fault)),
+        }
+    }
+
+    /// The sentence for a defect.
+    pub(crate) fn defect(&self, reason: DefectReason) -> Text {
         match reason {
-            BytesReason::Malformed(reason) => self.push_malformed(out, reason),
-            BytesReason::Invalid(InvalidReason::NotUtf8) => self.push_not_utf8(out),
-            BytesReason::Invalid(InvalidReason::BadBignum) => push_bad_bignum(out, self.rest()),
-            BytesReason::Invalid(InvalidReason::DuplicateKey) => self.push_duplicate(out),
-            BytesReason::Defect(DefectReason::LongHead) => push_long_head(out, self.rest()),
-            BytesReason::Defect(DefectReason::EndlessLength) => {
+            DefectReason::LongHead => self.long_head(),
+            DefectReason::EndlessLength => {
                 let kind = kind_of(self.first());
-                write!(
-                    out,
+                format!(in self.items.alloc;
                     "the {kind} has an indefinite length, and the deterministic encoding tells each length in the head"
                 )
             }
-            BytesReason::Defect(DefectReason::LooseBignum) => self.push_loose(out),
-            BytesReason::Defect(DefectReason::KeyOrder) => self.push_order(out),
-            BytesReason::Count(reason) => out.push_str(reason.sentence()),
+            DefectReason::LooseBignum => self.loose_bignum(),
+            DefectReason::KeyOrder => self.key_order(),
         }
     }
 
@@ -63,51 +70,70 @@ impl<'a> RefusedBytes<'a> {
         self.rest().first().copied().unwrap_or(0)
     }
 
-    /// Writes why the bytes aren't well-formed.
-    fn push_malformed(&self, out: &mut String, reason: WireReason) -> Result<(), AllocError> {
-        let (first, level) = (self.first(), self.walk.innermost());
+    /// Why the bytes aren't well-formed.
+    fn malformed(&self, reason: WireReason) -> Text {
+        let (alloc, level) = (self.items.alloc, self.walk.innermost());
+        let first = self.first();
         let (kind, information, place) = (kind_of(first), first % 32, level.place);
         match reason {
-            WireReason::ReservedInfo => write!(
-                out,
+            WireReason::ReservedInfo => format!(in alloc;
                 "the low five bits of the initial byte {first:02x} are {information}, and no head has 28, 29 or 30 there"
             ),
-            WireReason::EndlessNotAllowed => write!(
-                out,
+            WireReason::EndlessNotAllowed => format!(in alloc;
                 "the initial byte {first:02x} gives the {kind} an indefinite length, which only strings, arrays and maps have"
             ),
-            WireReason::BadChunk => write!(
-                out,
+            WireReason::BadChunk => format!(in alloc;
                 "an indefinite-length string is open since offset {place}: only definite-length strings of its kind may follow, or the break ff"
             ),
             WireReason::UnexpectedBreak => {
-                out.push_str("a break ends an indefinite length, and ")?;
-                push_missing(out, level)
+                let mut text = format!(in alloc; "a break ends an indefinite length, and ")?;
+                push_missing(&mut text, level)?;
+                Ok(text)
             }
-            WireReason::FloatLeftOut => push_float(out, information),
-            WireReason::BadSimple => push_bad_simple(out, self.rest()),
-            WireReason::TooDeep => push_too_deep(self.items.limit, out, "arrays, maps and tags"),
-            WireReason::Truncated if !self.rest().is_empty() => self.push_cut_head(out),
-            WireReason::Truncated => push_missing_at_end(out, level),
+            WireReason::FloatLeftOut => {
+                let bits = head_len(first).saturating_sub(1).saturating_mul(8);
+                format!(in alloc; "a float of {bits} bits begins here, and floats are left out")
+            }
+            WireReason::BadSimple => {
+                let second = self.rest().get(1).copied().unwrap_or(0);
+                format!(in alloc;
+                    "after f8 comes {second:02x}, the simple value {second}: none below 32 has two bytes"
+                )
+            }
+            WireReason::TooDeep => too_deep(self.items, "arrays, maps and tags"),
+            WireReason::Truncated if !self.rest().is_empty() => self.cut_head(),
+            WireReason::Truncated => {
+                let mut text = String::new(alloc);
+                push_missing_at_end(&mut text, level)?;
+                Ok(text)
+            }
         }
     }
 
-    /// Writes which key the key at the place repeats.
-    fn push_duplicate(&self, out: &mut String) -> Result<(), AllocError> {
-        out.push_str("the key ")?;
-        self.push_key(out)?;
+    /// Why an item is invalid.
+    fn invalid(&self, reason: InvalidReason) -> Text {
+        match reason {
+            InvalidReason::NotUtf8 => self.not_utf8(),
+            InvalidReason::BadBignum => self.bad_bignum(),
+            InvalidReason::DuplicateKey => self.duplicate_key(),
+        }
+    }
+
+    /// The bytes of the item at the place.
+    fn item(&self) -> Result<&'a [u8], AllocError> {
+        item_at(self.items.alloc, self.bytes, self.walk.at)
+    }
+
+    /// Which key the key at the place repeats.
+    fn duplicate_key(&self) -> Text {
+        let alloc = self.items.alloc;
+        let key = self.items.notation(self.item()?)?;
         match self.earlier_key()? {
-            Some((_, place)) => {
-                write!(out, " is the same as the key at offset {place} of this map")
-            }
-            None => out.push_str(" is the same as an earlier key of this map"),
+            Some((_, place)) => format!(in alloc;
+                "the key {key} is the same as the key at offset {place} of this map"
+            ),
+            None => format!(in alloc; "the key {key} is the same as an earlier key of this map"),
         }
-    }
-
-    /// Writes the key at the place.
-    fn push_key(&self, out: &mut String) -> Result<(), AllocError> {
-        self.items
-            .push_item(out, item_at(self.items.alloc, self.bytes, self.walk.at)?)
     }
 
     /// The first key of the open map that is the same as the key at the place, as `key_from` gives it.
@@ -123,136 +149,131 @@ impl<'a> RefusedBytes<'a> {
             .key_from(bytes, map.saturating_add(len), later, &key)
     }
 
-    /// Writes before which key the key at the place has to come, and by which order.
-    fn push_order(&self, out: &mut String) -> Result<(), AllocError> {
-        out.push_str("the key ")?;
-        self.push_key(out)?;
-        out.push_str(" has to come before the key ")?;
+    /// Before which key the key at the place has to come, and by which order.
+    fn key_order(&self) -> Text {
+        let (alloc, item) = (self.items.alloc, self.item()?);
         let (from, to) = self.walk.last_key();
         let before = slice_of(self.bytes, from, to);
-        self.items.push_item(out, before)?;
-        write!(out, " at offset {from}")?;
-        push_rule(
-            self.items,
-            out,
-            item_at(self.items.alloc, self.bytes, self.walk.at)?,
-            before,
-        )
+        let rule = rule(self.items, item, before)?;
+        let (key, other) = (self.items.notation(item)?, self.items.notation(before)?);
+        format!(in alloc; "the key {key} has to come before the key {other} at offset {from}{rule}")
     }
 
-    /// Writes which bytes of the head at the place, or of the string after it, are missing.
-    fn push_cut_head(&self, out: &mut String) -> Result<(), AllocError> {
-        let (rest, place) = (self.rest(), self.walk.at);
-        let first = self.first();
+    /// Which bytes of the head at the place, or of the string after it, are missing.
+    fn cut_head(&self) -> Text {
+        let (rest, place, first) = (self.rest(), self.walk.at, self.first());
         let (what, verb, announced, there) = match read_head(rest) {
             HeadRead::Full(head, len) => {
-                (
-                    kind_of(first),
-                    "announces",
-                    content_len(head),
-                    rest.len().saturating_sub(len),
-                )
+                let there = rest.len().saturating_sub(len);
+                (kind_of(first), "announces", content_len(head), there)
             }
             _ => ("head", "has", head_len(first), rest.len()),
         };
         let are = if there == 1 { "is" } else { "are" };
         let s = plural(announced);
-        write!(
-            out,
+        format!(in self.items.alloc;
             "the {what} at offset {place} {verb} {announced} byte{s}, of which {there} {are} there"
         )
     }
 
-    /// Writes which byte of the text string at the place isn't UTF-8.
-    fn push_not_utf8(&self, out: &mut String) -> Result<(), AllocError> {
+    /// Which byte of the text string at the place isn't UTF-8.
+    fn not_utf8(&self) -> Text {
         let string = content_of(self.rest());
         let start = whole_head(self.rest()).map_or(0, |(_, len)| len.saturating_sub(string.len()));
         let at = valid_front(string).len();
         let offset = self.walk.at.saturating_add(start).saturating_add(at);
         let byte = string.get(at).copied().unwrap_or(0);
-        write!(
-            out,
+        format!(in self.items.alloc;
             "a text string is UTF-8, and the byte {byte:02x} at offset {offset} begins no character or is cut off"
         )
     }
 
-    /// Writes why the bignum at the place isn't deterministic, and the deterministic encoding of its
-    /// integer.
-    fn push_loose(&self, out: &mut String) -> Result<(), AllocError> {
-        out.push_str("a bignum is for integers beyond 64 bits, and its bytes begin with no 00")?;
+    /// Why the bignum at the place isn't deterministic, and the deterministic encoding of its integer.
+    fn loose_bignum(&self) -> Text {
+        let mut text = format!(in self.items.alloc;
+            "a bignum is for integers beyond 64 bits, and its bytes begin with no 00"
+        )?;
         if let Some(encoding) = self.items.encoded_at(self.bytes, self.walk.at)? {
-            out.push_str(": the shortest encoding is ")?;
-            push_hex(out, &encoding, ENCODING)?;
+            write!(
+                text,
+                ": the shortest encoding is {}",
+                Hex(&encoding, ENCODING)
+            )?;
         }
-        Ok(())
+        Ok(text)
+    }
+
+    /// What tag 2 or 3 at the place has in place of a byte string.
+    fn bad_bignum(&self) -> Text {
+        let rest = self.rest();
+        let (number, content) = match whole_head(rest) {
+            Some((head, len)) => (argument_of(head), slice_of(rest, len, rest.len())),
+            None => (2, rest),
+        };
+        let kind = content.first().map_or("nothing", |first| kind_of(*first));
+        let article = match kind {
+            "nothing" => "",
+            "integer" | "array" => "an ",
+            _ => "a ",
+        };
+        format!(in self.items.alloc;
+            "tag {number} makes an integer of a byte string, and here it encloses {article}{kind}"
+        )
+    }
+
+    /// The head at the place, and the shortest head in its place.
+    fn long_head(&self) -> Text {
+        let (alloc, rest) = (self.items.alloc, self.rest());
+        let HeadRead::Full(head, len) = read_head(rest) else {
+            return format!(in alloc; "the head isn't the shortest");
+        };
+        let (n, long) = (argument_of(head), Hex(slice_of(rest, 0, len), 9));
+        let short = Shortest(head.major_type(), n);
+        format!(in alloc; "the head {long} holds {n}, and the shortest that does is {short}")
     }
 }
 
-fn push_float(out: &mut String, information: u8) -> Result<(), AllocError> {
-    let bits = match information {
-        25 => "16",
-        26 => "32",
-        _ => "64",
-    };
-    write!(
-        out,
-        "a float of {bits} bits begins here, and floats are left out"
-    )
-}
-
-fn push_bad_simple(out: &mut String, rest: &[u8]) -> Result<(), AllocError> {
-    let second = rest.get(1).copied().unwrap_or(0);
-    write!(
-        out,
-        "after f8 comes {second:02x}, the simple value {second}: none below 32 has two bytes"
-    )
-}
-
-/// Writes why a nesting is too deep. `open` names what counts as a level.
-pub(crate) fn push_too_deep(limit: Limit, out: &mut String, open: &str) -> Result<(), AllocError> {
-    let most = limit.get();
+/// Why a nesting is too deep. `open` names what counts as a level.
+pub(crate) fn too_deep(items: &ItemReader, open: &str) -> Text {
+    let most = items.limit.get();
     let how = if most < 1024 {
         "--depth N raises the limit, up to 1024"
     } else {
         "no limit is greater"
     };
-    write!(
-        out,
-        "the nesting limit is {most}, and this is inside as many {open}: {how}"
-    )
+    format!(in items.alloc; "the nesting limit is {most}, and this is inside as many {open}: {how}")
 }
 
 /// Writes what the container of an open level lacks, or that none is open.
 fn push_missing(out: &mut String, level: Level) -> Result<(), AllocError> {
-    let place = level.place;
+    let (place, count, parts) = (level.place, level.argument, level.parts());
     match level.kind {
-        LevelKind::Sequence(_) => out.push_str("nothing is open here"),
-        LevelKind::Array(Some(count), parts) => {
+        LevelKind::Sequence => out.push_str("nothing is open here"),
+        LevelKind::Array => {
             let s = plural(count);
             write!(
                 out,
                 "the array at offset {place} announces {count} element{s} and has {parts}"
             )
         }
-        LevelKind::Map(Some(count), parts) => {
-            let s = plural(count);
-            write!(
-                out,
-                "the map at offset {place} announces {count} pair{s} and has {parts}"
-            )
-        }
-        LevelKind::MapValue(_, _) => {
+        LevelKind::Map | LevelKind::GreatMap | LevelKind::EndlessMap if parts % 2 == 1 => {
             write!(
                 out,
                 "the map at offset {place} lacks the value of its last key"
             )
         }
-        LevelKind::Tag(number) => {
-            write!(out, "the tag {number} at offset {place} lacks its content")
+        LevelKind::Map | LevelKind::GreatMap => {
+            let s = plural(count);
+            let pairs = parts / 2;
+            write!(
+                out,
+                "the map at offset {place} announces {count} pair{s} and has {pairs}"
+            )
         }
-        LevelKind::Array(None, _) => push_endless(out, "array", place),
-        LevelKind::Map(None, _) => push_endless(out, "map", place),
-        LevelKind::Chunks(_, _) => push_endless(out, "string", place),
+        LevelKind::Tag => write!(out, "the tag {count} at offset {place} lacks its content"),
+        LevelKind::EndlessArray => push_endless(out, "array", place),
+        LevelKind::EndlessMap => push_endless(out, "map", place),
+        LevelKind::Chunks(_) => push_endless(out, "string", place),
     }
 }
 
@@ -266,7 +287,7 @@ fn push_endless(out: &mut String, kind: &str, place: u64) -> Result<(), AllocErr
 /// Writes that the input ends, and what its innermost open container lacks.
 fn push_missing_at_end(out: &mut String, level: Level) -> Result<(), AllocError> {
     out.push_str("the input ends")?;
-    if let LevelKind::Sequence(_) = level.kind {
+    if level.kind == LevelKind::Sequence {
         return Ok(());
     }
     out.push_str(", and ")?;
@@ -302,24 +323,6 @@ fn kind_of(first: u8) -> &'static str {
     }
 }
 
-/// Writes what tag 2 or 3 has in place of a byte string. `rest` begins with the head of the tag.
-fn push_bad_bignum(out: &mut String, rest: &[u8]) -> Result<(), AllocError> {
-    let (number, content) = match whole_head(rest) {
-        Some((head, len)) => (argument_of(head), slice_of(rest, len, rest.len())),
-        None => (2, rest),
-    };
-    let kind = content.first().map_or("nothing", |first| kind_of(*first));
-    let article = match kind {
-        "nothing" => "",
-        "integer" | "array" => "an ",
-        _ => "a ",
-    };
-    write!(
-        out,
-        "tag {number} makes an integer of a byte string, and here it encloses {article}{kind}"
-    )
-}
-
 fn argument_of(head: Head) -> u64 {
     match head.argument {
         Argument::Given(_, n) => n,
@@ -327,26 +330,20 @@ fn argument_of(head: Head) -> u64 {
     }
 }
 
-/// Writes the head that `rest` begins with, and the shortest head in its place.
-fn push_long_head(out: &mut String, rest: &[u8]) -> Result<(), AllocError> {
-    let HeadRead::Full(head, len) = read_head(rest) else {
-        return out.push_str("the head isn't the shortest");
-    };
-    let n = argument_of(head);
-    out.push_str("the head ")?;
-    push_hex(out, slice_of(rest, 0, len), 9)?;
-    write!(out, " holds {n}, and the shortest that does is ")?;
-    push_shortest(out, head.major_type(), n)
-}
+/// The shortest head of a major type with an argument, in hexadecimal.
+#[derive(Clone, Copy)]
+pub(crate) struct Shortest(pub(crate) Major, pub(crate) u64);
 
-/// Writes the shortest head of this major type with this argument.
-pub(crate) fn push_shortest(out: &mut String, major: Major, n: u64) -> Result<(), AllocError> {
-    let number = major.number();
-    if number > 6 {
-        return write!(out, "{n:02x}");
+impl Display for Shortest {
+    fn fmt<W: fmt::Write>(&self, f: &mut Formatter<W>) -> fmt::Result {
+        let Shortest(major, n) = *self;
+        let number = major.number();
+        if number > 6 {
+            return write!(f, "{n:02x}");
+        }
+        let (bytes, len) = shortest_head(number, n);
+        write!(f, "{}", Hex(slice_of(&bytes, 0, len), 9))
     }
-    let (bytes, len) = shortest_head(number, n);
-    push_hex(out, slice_of(&bytes, 0, len), 9)
 }
 
 fn shortest_head(number: u8, n: u64) -> ([u8; 9], usize)

@@ -44,7 +44,7 @@ impl Walk {
     {
         let mut steps = Vec::new(alloc);
         for level in &self.levels {
-            steps.push(step(level.kind))?;
+            steps.push(step(level))?;
         }
         Ok(Path { steps })
     }
@@ -69,7 +69,7 @@ impl Walk {
     pub(crate) fn item_place(&self) -> usize {
         let mut place = self.at;
         for level in self.levels.iter().rev() {
-            if !holds_parts(level.kind) {
+            if !holds_parts(*level) {
                 break;
             }
             place = level.place as usize;
@@ -103,25 +103,32 @@ fn had_memory(read: Result<usize, VisitFault>) -> Result<(), AllocError>
 }
 
 /// Whether a level holds chunks of a string or the bytes of a bignum: parts of one value.
-pub(crate) fn holds_parts(kind: LevelKind) -> bool {
-    match kind {
-        LevelKind::Chunks(_, _) => true,
-        LevelKind::Tag(number) => number == 2 || number == 3,
+pub(crate) fn holds_parts(level: Level) -> bool {
+    match level.kind {
+        LevelKind::Chunks(_) => true,
+        LevelKind::Tag => level.argument == 2 || level.argument == 3,
         _ => false,
     }
 }
 
 /// The step to the next part of a level.
-fn step(kind: LevelKind) -> Step
-    ensures { result ≡ step_of kind }
+fn step(level: &Level) -> Step
+    ensures { result ≡ step_of level.now }
 {
-    match kind {
-        LevelKind::Sequence(parts) => Step::Item(parts),
-        LevelKind::Array(_, parts) => Step::Element(parts),
-        LevelKind::Map(_, parts) => Step::Key(parts),
-        LevelKind::MapValue(_, parts) => Step::Value(parts),
-        LevelKind::Tag(number) => Step::Content(u128::from(number)),
-        LevelKind::Chunks(_, parts) => Step::Chunk(parts),
+    let parts = level.parts();
+    match level.kind {
+        LevelKind::Sequence => Step::Item(parts),
+        LevelKind::Array | LevelKind::EndlessArray => Step::Element(parts),
+        LevelKind::Map | LevelKind::GreatMap | LevelKind::EndlessMap => {
+            let pairs = parts / 2;
+            if parts % 2 == 0 {
+                Step::Key(pairs)
+            } else {
+                Step::Value(pairs)
+            }
+        }
+        LevelKind::Tag => Step::Content(u128::from(level.argument)),
+        LevelKind::Chunks(_) => Step::Chunk(parts),
     }
 }
 

@@ -5,7 +5,6 @@ use crate::differences::explain_difference;
 use crate::same_items::explain_same;
 use crate::text_walks::NotationText;
 use cborn_engine::{Count, CountFault, EngineFault, Kind, normalise_slice, show_slice};
-use cborn_lex::Profile;
 use cborn_model::{KeyOrder, Limit};
 use std::alloc::{AllocError, Global};
 
@@ -32,9 +31,6 @@ pub fn explain_comparison<O: KeyOrder>(
 }
 
 /// What [`explain_comparison`] gives of two inputs.
-///
-/// # Errors
-/// `OutOfMemory`, and the fault of an input that is refused.
 fn compared_lines<O: KeyOrder>(
     alloc: Global,
     limit: Limit,
@@ -44,23 +40,18 @@ fn compared_lines<O: KeyOrder>(
 ) -> Result<String, CountFault> {
     let our_bytes = show_slice(alloc, limit, Count::Any, kinds.0, Kind::Wire, first)?;
     let their_bytes = show_slice(alloc, limit, Count::Any, kinds.1, Kind::Wire, second)?;
-    let ours = compared(kinds.0, first, &our_bytes);
-    let theirs = compared(kinds.1, second, &their_bytes);
+    let ours = Compared {
+        spelled: &our_bytes,
+        text: NotationText::of(kinds.0, first),
+    };
+    let theirs = Compared {
+        spelled: &their_bytes,
+        text: NotationText::of(kinds.1, second),
+    };
     if are_same {
         return Ok(explain_same(alloc, limit, ours, theirs)?);
     }
     let first = normalise_slice::<O>(alloc, limit, Count::Any, kinds.0, Kind::Wire, first)?;
     let second = normalise_slice::<O>(alloc, limit, Count::Any, kinds.1, Kind::Wire, second)?;
     Ok(explain_difference::<O>(alloc, limit, (ours, theirs), &first, &second)?)
-}
-
-/// An input that is compared, with the bytes that it spells.
-fn compared<'a>(kind: Kind, text: &'a [u8], spelled: &'a [u8]) -> Compared<'a> {
-    let profile = match kind {
-        Kind::Wire => None,
-        Kind::Notation => Some(Profile::One),
-        Kind::Notation2 => Some(Profile::Two),
-    };
-    let text = profile.map(|profile| NotationText { profile, text });
-    Compared { spelled, text }
 }

@@ -6,12 +6,12 @@ ghost use Rattle.std.specs.String.{string_bytes};
 use crate::byte_causes::plural;
 use crate::byte_heads::{content_of, end_of_item, item_at, whole_head};
 use crate::byte_walks::Walk;
-use crate::compared_parts::{Compared, Part};
+use crate::compared_parts::Compared;
 use crate::first_differences::{Difference, common_len, walk_to_difference};
 use crate::items::ItemReader;
-use crate::path_lines::{Pairs, push_path};
+use crate::path_lines::{Pairs, path_line};
 use crate::paths::Step;
-use crate::quotes::{push_hex, slice_of};
+use crate::quotes::{Hex, Text, slice_of};
 use cborn_model::{KeyOrder, Limit, Major};
 use cborn_wire::{Argument, LevelKind};
 use std::alloc::{AllocError, Global};
@@ -38,36 +38,40 @@ pub fn explain_difference<'a, O: KeyOrder>(
 ) -> Result<String, AllocError>
     ensures same { IfOk result (λ text. first.now ≡ second.now → string_bytes text ≡ []) }
 {
-    let mut out = String::new(alloc);
     let items = &ItemReader { alloc, limit };
     let Some((walk, difference)) = walk_to_difference(alloc, first, second)? else {
-        return Ok(out);
+        return Ok(String::new(alloc));
     };
-    out.push_str("  path   ")?;
     let path = &difference.path;
-    push_path(items, &mut out, (first, &walk), path, Pairs::Named)?;
     let mut ours = Side::new(items, "first", inputs.0, first, (&walk, &difference))?;
     let mut theirs = Side::new(items, "second", inputs.1, second, (&walk, &difference))?;
     let is_key = matches!(path.steps.last(), Some(Step::Key(_)));
     let order = is_key.then_some(O::compare(ours.item, theirs.item));
-    push_sides(&mut out, &ours, &theirs, order)?;
-    if !is_key {
-        push_lone_element(&mut out, &mut ours, &mut theirs)?;
-        push_lone_key::<O>(&mut out, &mut ours, &mut theirs)?;
-    }
-    out.push('\n')?;
-    Ok(out)
+    let path = path_line(items, (first, &walk), path, Pairs::Named)?;
+    let first = ours.line(order, &theirs)?;
+    let second = theirs.line(order.map(Ordering::reverse), &ours)?;
+    let lone = if is_key {
+        String::new(alloc)
+    } else {
+        lone_parts::<O>(&mut ours, &mut theirs)?
+    };
+    format!(in alloc; "  path   {path}\n  first  {first}\n  second {second}{lone}\n")
 }
 
 /// What one of two inputs has where they differ.
 #[derive(Drop)]
 struct Side<'a> {
+    items: &'a ItemReader,
     /// What the input is called.
     name: &'static str,
+    input: Compared<'a>,
     /// The deterministic encoding of the item. Empty where the items end.
     item: &'a [u8],
-    /// The item in the input, or a part of it that was entered.
-    part: Part<'a>,
+    notation: String,
+    /// The offset of the item in the bytes that the input spells, or of a part of it that was entered.
+    at: usize,
+    /// The path that leads there.
+    steps: Vec<Step>,
 }
 
 impl<'a> Side<'a> {
@@ -81,9 +85,12 @@ impl<'a> Side<'a> {
         (walk, difference): (&Walk, &Difference),
     ) -> Result<Side<'a>, AllocError> {
         let item = item_at(items.alloc, encoded, difference.place as usize)?;
-        let mut part = Part {
+        let mut side = Side {
             items,
+            name,
             input,
+            item,
+            notation: items.notation(item)?,
             at: 0,
             steps: Vec::new(items.alloc),
         };
@@ -95,79 +102,103 @@ impl<'a> Side<'a> {
                 }
                 _ => item,
             };
-            part.enter(*step, key)?;
+            side.enter(*step, key)?;
         }
-        Ok(Side { name, item, part })
+        Ok(side)
     }
 
-    /// The notation of the item.
-    fn notation(&self) -> Result<String, AllocError> {
-        let mut notation = String::new(self.part.items.alloc);
-        self.part.items.push_item(&mut notation, self.item)?;
-        Ok(notation)
-    }
-
-    /// Writes where the item is, and its notation. `order` is how a key compares with the key of the
-    /// other side: the lesser is missing in the other map. `other` is the item of the other side,
-    /// where the notations of both are the same text.
-    fn push(
-        &self,
-        out: &mut String,
-        notation: &str,
-        order: Option<Ordering>,
-        other: Option<&[u8]>,
-    ) -> Result<(), AllocError> {
-        if self.item.is_empty() {
-            out.push_str("nothing: the items end ")?;
-            return self.part.push_place(out);
-        }
-        self.part.push_place(out)?;
-        out.push_str(": ")?;
-        match (order, count_of(self.item)) {
-            (None, Some((kind, count))) => return write!(out, "{kind} of {count}: {notation}"),
-            (None, None) => {}
-            (Some(_), _) => out.push_str("the key ")?,
-        }
-        out.push_str(notation)?;
-        if let Some(other) = other {
-            push_rest(out, self.item, other)?;
-        }
-        match order {
-            Some(Ordering::Less) => out.push_str(", which the other map lacks"),
-            _ => Ok(()),
-        }
-    }
-
-    /// Enters an element or a key, and writes where it is, and its notation. `part` is its encoding.
-    fn push_part(&mut self, out: &mut String, step: Step, part: &[u8]) -> Result<(), AllocError> {
-        self.part.enter(step, part)?;
+    /// Goes on into the container that begins here, a tag or the input: to the part to which `step`
+    /// leads in its deterministic encoding. A pair is looked for by its key, of which `key` is the
+    /// encoding.
+    fn enter(&mut self, step: Step, key: &[u8]) -> Result<(), AllocError> {
+        let mut step = step;
         match step {
-            Step::Element(index) => write!(out, "\n  part   [{index}]")?,
-            _ => out.push_str("\n  key   ")?,
+            Step::Item(index) => self.skip(index)?,
+            Step::Element(index) => {
+                self.open();
+                self.skip(index)?;
+            }
+            Step::Key(_) => step = Step::Key(self.find(key)?),
+            Step::Value(_) => {
+                step = Step::Value(self.find(key)?);
+                self.skip(1)?;
+            }
+            Step::Content(_) => self.open(),
+            Step::Chunk(_) | Step::Embedded(_) => {}
         }
-        let name = self.name;
-        write!(out, " of the {name} ")?;
-        self.part.push_place(out)?;
-        out.push_str(": ")?;
-        self.part.items.push_item(out, part)
+        self.steps.push(step)?;
+        Ok(())
     }
-}
 
-/// Writes a line for each side. `order` is how our key compares with theirs.
-fn push_sides(
-    out: &mut String,
-    ours: &Side<'_>,
-    theirs: &Side<'_>,
-    order: Option<Ordering>,
-) -> Result<(), AllocError> {
-    let left = ours.notation()?;
-    let right = theirs.notation()?;
-    let is_one = left.as_str() == right.as_str();
-    out.push_str("\n  first  ")?;
-    ours.push(out, left.as_str(), order, is_one.then_some(theirs.item))?;
-    out.push_str("\n  second ")?;
-    let order = order.map(Ordering::reverse);
-    theirs.push(out, right.as_str(), order, is_one.then_some(ours.item))
+    /// Goes past the head that begins here.
+    fn open(&mut self) {
+        let bytes = self.input.spelled;
+        if let Some((_, len)) = whole_head(slice_of(bytes, self.at, bytes.len())) {
+            self.at = self.at.saturating_add(len);
+        }
+    }
+
+    /// Goes past items.
+    fn skip(&mut self, count: u64) -> Result<(), AllocError> {
+        for _ in 0..count {
+            self.at = end_of_item(self.items.alloc, self.input.spelled, self.at)?;
+        }
+        Ok(())
+    }
+
+    /// Goes to the key of this map that is the same as the encoded key, and answers the index of its
+    /// pair.
+    fn find(&mut self, key: &[u8]) -> Result<u64, AllocError> {
+        let bytes = self.input.spelled;
+        self.open();
+        let Some(wanted) = self.items.encoded_at(key, 0)? else {
+            return Ok(0);
+        };
+        let Some((index, at)) = self.items.key_from(bytes, self.at, bytes.len(), &wanted)? else {
+            return Ok(0);
+        };
+        self.at = at;
+        Ok(index)
+    }
+
+    /// Where the item is, and its notation. `order` is how a key compares with the key of the other side:
+    /// the lesser is missing in the other map. Where the notations of both are the same text, the bytes
+    /// that differ follow.
+    fn line(&self, order: Option<Ordering>, other: &Side<'_>) -> Text {
+        let (alloc, notation) = (self.items.alloc, self.notation.as_str());
+        let place = self.input.place(self.items, self.at, &self.steps)?;
+        if self.item.is_empty() {
+            return format!(in alloc; "nothing: the items end {place}");
+        }
+        if let (None, Some((kind, count))) = (order, count_of(self.item)) {
+            return format!(in alloc; "{place}: {kind} of {count}: {notation}");
+        }
+        let key = if order.is_some() { "the key " } else { "" };
+        let rest = if notation == other.notation.as_str() {
+            rest(alloc, self.item, other.item)?
+        } else {
+            String::new(alloc)
+        };
+        let lacks = match order {
+            Some(Ordering::Less) => ", which the other map lacks",
+            _ => "",
+        };
+        format!(in alloc; "{place}: {key}{notation}{rest}{lacks}")
+    }
+
+    /// Enters an element or a key: a line on where it is, and its notation. `part` is its encoding.
+    fn part_line(&mut self, step: Step, part: &[u8]) -> Text {
+        self.enter(step, part)?;
+        let (alloc, name) = (self.items.alloc, self.name);
+        let place = self.input.place(self.items, self.at, &self.steps)?;
+        let notation = self.items.notation(part)?;
+        match step {
+            Step::Element(index) => format!(in alloc;
+                "\n  part   [{index}] of the {name} {place}: {notation}"
+            ),
+            _ => format!(in alloc; "\n  key    of the {name} {place}: {notation}"),
+        }
+    }
 }
 
 /// The kind and the length of an encoded array or map. `None`: it is neither.
@@ -180,41 +211,53 @@ fn count_of(item: &[u8]) -> Option<(&'static str, u64)> {
     }
 }
 
-/// Writes the bytes of an item from the first on in which it differs from another: of two strings the
-/// bytes of the content, of anything else those of the encoding.
-fn push_rest(out: &mut String, ours: &[u8], theirs: &[u8]) -> Result<(), AllocError> {
+/// The bytes of an item from the first on in which it differs from another: of two strings the bytes of
+/// the content, of anything else those of the encoding.
+fn rest(alloc: Global, ours: &[u8], theirs: &[u8]) -> Text {
     let (left, right) = (content_of(ours), content_of(theirs));
     if left.is_empty() || right.is_empty() {
         let len = common_len(ours, theirs);
-        write!(out, ", its encoding from byte {len} on: ")?;
-        return push_hex(out, slice_of(ours, len, ours.len()), REST);
+        let bytes = Hex(slice_of(ours, len, ours.len()), REST);
+        return format!(in alloc; ", its encoding from byte {len} on: {bytes}");
     }
     let len = common_len(left, right);
     if len == left.len() {
-        return write!(out, ", of {len} byte{}", plural(len as u64));
+        let s = plural(len as u64);
+        return format!(in alloc; ", of {len} byte{s}");
     }
-    write!(out, ", from byte {len} on: ")?;
-    push_hex(out, slice_of(left, len, left.len()), REST)
+    let bytes = Hex(slice_of(left, len, left.len()), REST);
+    format!(in alloc; ", from byte {len} on: {bytes}")
 }
 
-/// Of two arrays, writes the first element that only one has, where the rest is the same. Else it
-/// writes the first element of each that differs. Of anything else it writes nothing.
-fn push_lone_element(
-    out: &mut String,
-    ours: &mut Side<'_>,
-    theirs: &mut Side<'_>,
-) -> Result<(), AllocError> {
-    let alloc = ours.part.items.alloc;
-    let left = inside(ours.item, Major::Array);
-    let right = inside(theirs.item, Major::Array);
-    let (Some(left), Some(right)) = (left, right) else {
-        return Ok(());
-    };
+/// Lines on the first part that only one of two arrays or of two maps has. Of anything else there are none.
+fn lone_parts<O: KeyOrder>(ours: &mut Side<'_>, theirs: &mut Side<'_>) -> Text {
+    let arrays = (
+        inside(ours.item, Major::Array),
+        inside(theirs.item, Major::Array),
+    );
+    if let (Some(left), Some(right)) = arrays {
+        return lone_element(ours, theirs, left, right);
+    }
+    let maps = (
+        inside(ours.item, Major::Map),
+        inside(theirs.item, Major::Map),
+    );
+    match maps {
+        (Some(left), Some(right)) => lone_pair::<O>(ours, theirs, left, right),
+        _ => Ok(String::new(ours.items.alloc)),
+    }
+}
+
+/// Lines on the first element that only one of two arrays has, where the rest is the same. Else they are
+/// on the first element of each that differs. `left` and `right` are the elements of the arrays.
+fn lone_element(ours: &mut Side<'_>, theirs: &mut Side<'_>, left: &[u8], right: &[u8]) -> Text {
+    let alloc = ours.items.alloc;
+    let mut lines = String::new(alloc);
     let Some((walk, difference)) = walk_to_difference(alloc, left, right)? else {
-        return Ok(());
+        return Ok(lines);
     };
     let Some(Step::Item(index)) = difference.path.steps.first().copied() else {
-        return Ok(());
+        return Ok(lines);
     };
     let at = walk.place_of(1);
     let our_rest = slice_of(left, at, left.len());
@@ -223,16 +266,18 @@ fn push_lone_element(
     let is_theirs = ends_with_items(alloc, their_rest, our_rest)?;
     let step = Step::Element(index);
     if !is_theirs {
-        ours.push_part(out, step, item_at(alloc, our_rest, 0)?)?;
+        lines = ours.part_line(step, item_at(alloc, our_rest, 0)?)?;
     }
     if is_ours {
-        return out.push_str(", which the second lacks");
+        return format!(in alloc; "{lines}, which the second lacks");
     }
-    theirs.push_part(out, step, item_at(alloc, their_rest, 0)?)?;
-    if is_theirs {
-        return out.push_str(", which the first lacks");
-    }
-    Ok(())
+    let second = theirs.part_line(step, item_at(alloc, their_rest, 0)?)?;
+    let lacks = if is_theirs {
+        ", which the first lacks"
+    } else {
+        ""
+    };
+    format!(in alloc; "{lines}{second}{lacks}")
 }
 
 /// Whether `items` are one or more items and then those of `last`.
@@ -242,31 +287,24 @@ fn ends_with_items(alloc: Global, items: &[u8], last: &[u8]) -> Result<bool, All
         return Ok(false);
     }
     let walk = Walk::to(alloc, items, len)?;
-    Ok(walk.at == len && matches!(walk.innermost().kind, LevelKind::Sequence(_)))
+    Ok(walk.at == len && walk.innermost().kind == LevelKind::Sequence)
 }
 
-/// Writes the first key that only one of two maps has. Of anything else it writes nothing.
-fn push_lone_key<O: KeyOrder>(
-    out: &mut String,
+/// A line on the first key that only one of two maps has. `left` and `right` are their pairs.
+fn lone_pair<O: KeyOrder>(
     ours: &mut Side<'_>,
     theirs: &mut Side<'_>,
-) -> Result<(), AllocError> {
-    let left = inside(ours.item, Major::Map);
-    let right = inside(theirs.item, Major::Map);
-    let (Some(left), Some(right)) = (left, right) else {
-        return Ok(());
+    left: &[u8],
+    right: &[u8],
+) -> Text {
+    let alloc = ours.items.alloc;
+    let (order, key) = lone_key::<O>(alloc, left, right)?;
+    let (line, lacks) = match order {
+        Ordering::Less => (ours.part_line(Step::Key(0), key)?, "second"),
+        Ordering::Greater => (theirs.part_line(Step::Key(0), key)?, "first"),
+        Ordering::Equal => return Ok(String::new(alloc)),
     };
-    match lone_key::<O>(ours.part.items.alloc, left, right)? {
-        (Ordering::Less, key) => {
-            ours.push_part(out, Step::Key(0), key)?;
-            out.push_str(", which the second lacks")
-        }
-        (Ordering::Greater, key) => {
-            theirs.push_part(out, Step::Key(0), key)?;
-            out.push_str(", which the first lacks")
-        }
-        (Ordering::Equal, _) => Ok(()),
-    }
+    format!(in alloc; "{line}, which the {lacks} lacks")
 }
 
 /// The first key that only one of two lists of pairs has: `Less` where that is the left one, `Greater`

@@ -3,8 +3,7 @@
 ghost use Rattle.std.specs.Prelude.{◌≡◌, ◌<◌, ◌↔◌, ◌⊎◌, length, All, IsSome, IsTrue, Some, None};
 ghost use Rattle.cborn_explain.specs.Hints.{IsTextByte};
 
-use std::fmt;
-use std::fmt::{Display, Formatter};
+use std::fmt::{self, Display, Formatter};
 
 /// What bytes look like.
 #[derive(Clone, Copy, PartialEq, Eq, Debug)]
@@ -53,21 +52,10 @@ pub struct Look {
     pub is_text: bool,
     /// The last byte. `None`: there is none yet. Once a byte is no text, this stays as it was.
     pub last: Option<u8>,
-    /// Which of them are hexadecimal digits. Once a byte is no text, this stays as it was.
-    pub digits: Digits,
-}
-
-/// Which characters of a text are hexadecimal digits.
-#[derive(Clone, Copy)]
-pub enum Digits {
-    /// None: all characters are white space.
-    Missing,
-    /// All but the white space, and their number is even.
-    Even,
-    /// All but the white space, and their number is odd.
-    Odd,
-    /// Not all: a character is neither a digit nor white space.
-    Mixed,
+    /// How many of them are hexadecimal digits. Once a byte is no text, this stays as it was.
+    pub digits: u64,
+    /// One is neither a digit nor white space. Once a byte is no text, this stays as it was.
+    pub is_mixed: bool,
 }
 
 impl Look {
@@ -79,7 +67,8 @@ impl Look {
         Look {
             is_text: true,
             last: None,
-            digits: Digits::Missing,
+            digits: 0,
+            is_mixed: false,
         }
     }
 
@@ -93,7 +82,10 @@ impl Look {
         }
         self.is_text = bytes.iter().all(|b| is_text_byte(*b));
         if self.is_text {
-            self.digits = self.digits.and(bytes);
+            let digits = bytes.iter().filter(|b| b.is_ascii_hexdigit()).count();
+            let spaces = bytes.iter().filter(|b| b.is_ascii_whitespace()).count();
+            self.is_mixed = self.is_mixed || digits.saturating_add(spaces) < bytes.len();
+            self.digits = self.digits.saturating_add(digits as u64);
             if let Some(last) = bytes.last() {
                 self.last = Some(*last);
             }
@@ -114,27 +106,12 @@ impl Look {
         if !self.is_text || self.last.is_none() {
             return None;
         }
-        match self.digits {
-            Digits::Even => Some(Hint::Hexadecimal),
-            Digits::Missing | Digits::Odd | Digits::Mixed => Some(Hint::Notation),
-        }
-    }
-}
-
-impl Digits {
-    /// Which characters are digits in the text so far with `bytes`, which are text too, after it.
-    fn and(self, bytes: &[u8]) -> Digits {
-        let mut digits = self;
-        for byte in bytes.iter() {
-            digits = match digits {
-                Digits::Mixed => return Digits::Mixed,
-                _ if byte.is_ascii_whitespace() => digits,
-                _ if !byte.is_ascii_hexdigit() => return Digits::Mixed,
-                Digits::Odd => Digits::Even,
-                Digits::Missing | Digits::Even => Digits::Odd,
-            };
-        }
-        digits
+        let is_hexadecimal = !self.is_mixed && self.digits > 0 && self.digits % 2 == 0;
+        Some(if is_hexadecimal {
+            Hint::Hexadecimal
+        } else {
+            Hint::Notation
+        })
     }
 }
 

@@ -1,7 +1,7 @@
 //! Single items of an input: to show them, and to compare them by their deterministic encodings.
 
 use crate::byte_heads::{content_of, end_of_item, item_at, whole_head};
-use crate::quotes::{Escaped, PIECE, front_of, push_hex, push_notation};
+use crate::quotes::{CutNotation, Escaped, Hex, PIECE, Text, front_of};
 use cborn_edn::{Notated, show_bytes};
 use cborn_engine::{Count, CountFault, EngineFault, Kind, normalise_slice};
 use cborn_model::{Bytewise, KeyOrder, Limit, Major};
@@ -68,41 +68,43 @@ impl ItemReader {
         Ok(None)
     }
 
-    /// Writes the item that these bytes encode in the fixed notation, cut where it is long. Where they
-    /// encode no item that has a notation, it writes them in hexadecimal. Of more than `LONG_ITEM` bytes
-    /// it writes what the first head says, and the start of a string.
-    pub(crate) fn push_item(&self, out: &mut String, item: &[u8]) -> Result<(), AllocError> {
+    /// The item that these bytes encode in the fixed notation, cut where it is long. Where they encode no
+    /// item that has a notation, the bytes in hexadecimal. Of more than `LONG_ITEM` bytes it is what the
+    /// first head says, and the start of a string.
+    pub(crate) fn notation(&self, item: &[u8]) -> Text {
+        let alloc = self.alloc;
         if item.len() > LONG_ITEM {
-            return push_front(out, item);
+            return front(alloc, item);
         }
-        match show_bytes(self.alloc, self.limit, item)? {
-            Notated::Text(text) => push_notation(out, text.trim_ascii_end()),
-            _ => push_hex(out, item, PIECE / 3),
+        match show_bytes(alloc, self.limit, item)? {
+            Notated::Text(text) => format!(in alloc; "{}", CutNotation(text.trim_ascii_end())),
+            _ => format!(in alloc; "{}", Hex(item, PIECE / 3)),
         }
     }
 }
 
-/// Writes the start of a long item.
-fn push_front(out: &mut String, item: &[u8]) -> Result<(), AllocError> {
+/// The start of a long item.
+fn front(alloc: Global, item: &[u8]) -> Text {
     let Some((head, _)) = whole_head(item) else {
-        return push_hex(out, item, PIECE / 3);
+        return format!(in alloc; "{}", Hex(item, PIECE / 3));
     };
     let content = content_of(item);
     match head.major_type() {
         Major::TextString if !content.is_empty() => {
             let text = front_of(content, PIECE);
-            write!(out, "\"{}\"..", Escaped { text })
+            format!(in alloc; "\"{}\"..", Escaped { text })
         }
         Major::ByteString if !content.is_empty() => {
-            out.push_str("h'")?;
+            let mut text = String::from_str(alloc, "h'")?;
             for byte in content.iter().take(PIECE / 3) {
-                write!(out, "{byte:02x}")?;
+                write!(text, "{byte:02x}")?;
             }
-            out.push_str("'..")
+            text.push_str("'..")?;
+            Ok(text)
         }
-        Major::Array => out.push_str("[..]"),
-        Major::Map => out.push_str("{..}"),
-        Major::Tag => out.push_str("a tag over a long item"),
-        _ => out.push_str("(_ ..)"),
+        Major::Array => format!(in alloc; "[..]"),
+        Major::Map => format!(in alloc; "{{..}}"),
+        Major::Tag => format!(in alloc; "a tag over a long item"),
+        _ => format!(in alloc; "(_ ..)"),
     }
 }

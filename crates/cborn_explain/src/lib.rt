@@ -6,11 +6,11 @@
 //! why   a float of 16 bits begins here, and floats are left out
 //! ```
 //!
-//! Another call refused the input, and reported an offset and a reason. The calls here are given
-//! these and the input, and walk over it up to the offset: [`explain_bytes`] from head to head,
-//! [`explain_text`] from token to token. [`explain_comparison`] says where two inputs hold other
-//! items, or encode the same ones differently. [`hint_of`] says whether bytes look like a text, and
-//! [`Look`] does so of bytes that come in pieces.
+//! Another call refused the input, and reported a fault. [`explain_fault`] is given it and the input, and
+//! walks over that up to the offset: over bytes from head to head, over a text from token to token.
+//! [`explain_defect`] does so for bytes that aren't deterministic. [`explain_comparison`] says where two
+//! inputs hold other items, or encode the same ones differently. [`hint_of`] says whether bytes look like a
+//! text, and [`Look`] does so of bytes that come in pieces.
 //!
 //! A path leads from item to part up to an offset ([`path_to`]), or to where two inputs differ
 //! ([`find_difference`]). `specs/Paths.antt` defines where over the nodes that the bytes spell, and
@@ -25,7 +25,7 @@
 //! - `byte_walks`: a walk over bytes to an offset. `part_places`: where the keys are on its way.
 //! - `byte_heads`: heads with their strings, and where an item ends.
 //! - `path_lines`: a path in a line. `hints`: whether bytes look like a text.
-//! - `reasons`: the reasons, as other calls report them.
+//! - `faults`: the faults that are in the content of an input.
 //! - `byte_causes`, `order_causes`, `text_causes`: the sentence for each reason.
 //! - `text_walks`: a walk over a text from token to token.
 //! - `text_spots`: the character within a token that is at fault.
@@ -40,6 +40,7 @@ mod byte_walks;
 mod compared_parts;
 mod comparisons;
 mod differences;
+mod faults;
 mod first_differences;
 mod hints;
 mod items;
@@ -49,7 +50,6 @@ mod part_places;
 mod path_lines;
 mod paths;
 mod quotes;
-mod reasons;
 mod same_items;
 mod text_causes;
 mod text_keys;
@@ -59,11 +59,11 @@ mod text_walks;
 pub use compared_parts::Compared;
 pub use comparisons::explain_comparison;
 pub use differences::explain_difference;
+pub use faults::place_of;
 pub use first_differences::{Difference, find_difference};
-pub use hints::{Digits, Hint, Look, hint_of};
-pub use notes::{explain_bytes, explain_text};
+pub use hints::{Hint, Look, hint_of};
+pub use notes::{explain_defect, explain_fault};
 pub use paths::{Path, Step, path_to};
 pub use quotes::Escaped;
-pub use reasons::{BytesReason, CountReason, TextReason};
 pub use same_items::explain_same;
 pub use text_walks::NotationText;

@@ -2,75 +2,104 @@
 
 use crate::byte_causes::RefusedBytes;
 use crate::byte_walks::{Walk, place_in};
+use crate::faults::place_of;
 use crate::hints::hint_of;
 use crate::items::ItemReader;
-use crate::path_lines::{Pairs, PathWriter, push_path};
+use crate::path_lines::{Pairs, PathWriter, path_line};
 use crate::paths::Step;
-use crate::quotes::{push_bytes_around, push_notation, push_text_around, slice_of};
-use crate::reasons::{BytesReason, TextReason};
+use crate::quotes::{CutNotation, HexAround, Text, slice_of, text_around};
 use crate::text_causes::RefusedText;
 use crate::text_spots::spot_of;
 use crate::text_walks::{NotationText, TextWalk, walk_text};
+use cborn_edn::EdnFault;
+use cborn_engine::{CountFault, EngineFault, Kind};
+use cborn_judge::Defect;
+use cborn_lex::LexFault;
 use cborn_model::Limit;
 use std::alloc::{AllocError, Global};
 
-/// Lines that say where bytes are refused or aren't deterministic, and why: the path to `place`,
-/// the bytes around it, a sentence, and a hint where the bytes look like a text. Another call
-/// reported `place`, an offset in bytes from the start, and `reason`, under the same limit. An
-/// offset beyond the end counts as the end.
+/// Lines that say where an input is refused, and why. Another call reported the fault of this input, which
+/// is read as `kind`, under the same limit. Of bytes they are the path to the offset of the fault, the bytes
+/// around it, a sentence, and a hint where the bytes look like a text. Of a text they are the path, the line
+/// and the column of the offset, that line with a mark below, and a sentence; where a whole token was
+/// reported, the mark is at the character within it that is at fault. An offset beyond the end counts as
+/// the end. Empty where the fault isn't in the content of the input.
 ///
 /// # Errors
 /// `AllocError` where memory is refused.
-pub fn explain_bytes(
+pub fn explain_fault(
+    alloc: Global,
+    limit: Limit,
+    kind: Kind,
+    input: &[u8],
+    fault: CountFault,
+) -> Result<String, AllocError> {
+    let items = &ItemReader { alloc, limit };
+    let Some(place) = place_of(fault) else {
+        return Ok(String::new(alloc));
+    };
+    let place = place_in(input, place);
+    match NotationText::of(kind, input) {
+        None => {
+            let walk = &Walk::to(alloc, input, place)?;
+            let bytes = input;
+            let why = RefusedBytes { bytes, walk, items }.fault(fault)?;
+            lines_of_bytes(items, (bytes, walk), place, &why)
+        }
+        Some(text) => lines_of_text(items, text, place, fault),
+    }
+}
+
+/// Lines that say where bytes aren't deterministic, and why: those of [`explain_fault`] for the first
+/// defect of the bytes, which another call reported.
+///
+/// # Errors
+/// `AllocError` where memory is refused.
+pub fn explain_defect(
     alloc: Global,
     limit: Limit,
     bytes: &[u8],
-    place: u64,
-    reason: BytesReason,
+    defect: Defect,
 ) -> Result<String, AllocError> {
-    let place = place_in(bytes, place);
-    let walk = &Walk::to(alloc, bytes, place)?;
     let items = &ItemReader { alloc, limit };
-    let mut out = String::new(alloc);
-    out.push_str("  path  ")?;
-    let path = walk.path(alloc)?;
-    push_path(items, &mut out, (bytes, walk), &path, Pairs::Numbered)?;
-    out.push_str("\n  bytes ")?;
-    push_bytes_around(&mut out, bytes, place)?;
-    out.push_str("\n  why   ")?;
-    RefusedBytes { bytes, walk, items }.push_cause(&mut out, reason)?;
-    out.push('\n')?;
-    if let Some(hint) = hint_of(bytes) {
-        write!(out, "  hint  {hint}\n")?;
-    }
-    Ok(out)
+    let place = place_in(bytes, defect.place);
+    let walk = &Walk::to(alloc, bytes, place)?;
+    let why = RefusedBytes { bytes, walk, items }.defect(defect.reason)?;
+    lines_of_bytes(items, (bytes, walk), place, &why)
 }
 
-/// Lines that say where a text of the notation is refused, and why: the path to `place`, its line
-/// and column, that line with a mark below, and a sentence. Another call reported `place`, an
-/// offset in bytes from the start of the text, and `reason`, under the same limit. An offset beyond
-/// the end counts as the end. Where a whole token was reported, the mark is at the character within
-/// it that is at fault.
-///
-/// # Errors
-/// `AllocError` where memory is refused.
-pub fn explain_text(
-    alloc: Global,
-    limit: Limit,
+/// The lines on some bytes. `walk` is a walk over them to `place`, and `why` the sentence.
+fn lines_of_bytes(
+    items: &ItemReader,
+    (bytes, walk): (&[u8], &Walk),
+    place: usize,
+    why: &str,
+) -> Text {
+    let alloc = items.alloc;
+    let path = walk.path(alloc)?;
+    let path = path_line(items, (bytes, walk), &path, Pairs::Numbered)?;
+    let around = HexAround(bytes, place);
+    let mut lines = format!(in alloc; "  path  {path}\n  bytes {around}\n  why   {why}\n")?;
+    if let Some(hint) = hint_of(bytes) {
+        write!(lines, "  hint  {hint}\n")?;
+    }
+    Ok(lines)
+}
+
+/// The lines on a text. `place` is the offset of the fault.
+fn lines_of_text(
+    items: &ItemReader,
     input: NotationText<'_>,
-    place: u64,
-    reason: TextReason,
-) -> Result<String, AllocError> {
-    let text = input.text;
-    let place = place_in(text, place);
+    place: usize,
+    fault: CountFault,
+) -> Text {
+    let (alloc, text) = (items.alloc, input.text);
     let walk = &walk_text(alloc, input, place)?;
-    let spot = spot_of(text, place, reason);
-    let items = &ItemReader { alloc, limit };
-    let mut out = String::new(alloc);
-    out.push_str("  path  ")?;
-    push_text_path(alloc, &mut out, text, walk)?;
-    push_text_around(alloc, &mut out, text, spot)?;
-    out.push_str("  why   ")?;
+    let spot = match fault {
+        CountFault::Engine(EngineFault::Edn(EdnFault::Lex(LexFault::Refused { reason, .. }))) =>
+            spot_of(text, place, reason),
+        _ => place,
+    };
     let refused = RefusedText {
         input,
         items,
@@ -78,36 +107,29 @@ pub fn explain_text(
         spot,
         walk,
     };
-    refused.push_cause(&mut out, reason)?;
-    out.push('\n')?;
-    Ok(out)
+    let path = text_path(alloc, text, walk)?;
+    let around = text_around(alloc, text, spot)?;
+    let why = refused.fault(fault)?;
+    format!(in alloc; "  path  {path}\n{around}  why   {why}\n")
 }
 
-/// Writes the path to where a walk over a text has come. It is cut before a bracket whose parts aren't
-/// known, and where the walk doesn't keep more brackets.
-fn push_text_path(
-    alloc: Global,
-    out: &mut String,
-    text: &[u8],
-    walk: &TextWalk,
-) -> Result<(), AllocError> {
+/// The path to where a walk over a text has come. It is cut before a bracket whose parts aren't known, and
+/// where the walk doesn't keep more brackets.
+fn text_path(alloc: Global, text: &[u8], walk: &TextWalk) -> Text {
     let mut path = PathWriter::new(alloc, Pairs::Numbered);
-    path.step(alloc, out, Step::Item(walk.items), "")?;
+    path.step(Step::Item(walk.items), "")?;
     for open in walk.open.iter() {
         if open.is_lost {
-            return path.cut(out);
+            return path.end(true);
         }
         if let Some(step) = open.step() {
             let mut key = String::new(alloc);
             if let Step::Value(_) = step {
-                push_notation(&mut key, slice_of(text, open.key.0, open.key.1))?;
+                let (from, to) = open.key;
+                write!(key, "{}", CutNotation(slice_of(text, from, to)))?;
             }
-            path.step(alloc, out, step, key.as_str())?;
+            path.step(step, key.as_str())?;
         }
     }
-    if walk.beyond > 0 {
-        path.cut(out)
-    } else {
-        path.end(out)
-    }
+    path.end(walk.beyond > 0)
 }

@@ -6,34 +6,28 @@ use cborn_model::{Bytewise, KeyOrder, LengthFirst};
 use std::alloc::AllocError;
 use std::cmp::Ordering;
 
-/// Writes why `key` has to come before the key that precedes it, `before`. Where the two orders
-/// sort these keys differently, it writes which order has `key` first. They may do so where the
-/// encodings are equally long: each order also sorts the maps within the keys. Where one is no valid
-/// item, it writes nothing.
-pub(crate) fn push_rule(
+/// Why `key` has to come before the key that precedes it, `before`. Where the two orders sort these keys
+/// differently, it says which order has `key` first. They may do so where the encodings are equally long:
+/// each order also sorts the maps within the keys. Empty where one is no valid item.
+pub(crate) fn rule(
     items: &ItemReader,
-    out: &mut String,
     key: &[u8],
     before: &[u8],
-) -> Result<(), AllocError> {
+) -> Result<&'static str, AllocError> {
     let bytewise = is_first::<Bytewise>(items, key, before)?;
     let length_first = is_first::<LengthFirst>(items, key, before)?;
     let (Some((bytewise, differ)), Some((length_first, _))) = (bytewise, length_first) else {
-        return Ok(());
+        return Ok("");
     };
-    out.push_str(match (bytewise, length_first) {
-        (true, false) if differ => {
-            ": in the bytewise order its encoding is the lesser; the length-first order has these two as they are, since it is the longer"
-        }
-        (true, false) => {
-            ": in the bytewise order its encoding is the lesser; the length-first order has these two as they are"
-        }
-        (false, true) if differ => {
-            ": in the length-first order its encoding is the shorter; the bytewise order has these two as they are"
-        }
-        (false, true) => {
-            ": in the length-first order its encoding is the lesser; the bytewise order has these two as they are"
-        }
+    Ok(match (bytewise, length_first) {
+        (true, false) if differ =>
+            ": in the bytewise order its encoding is the lesser; the length-first order has these two as they are, since it is the longer",
+        (true, false) =>
+            ": in the bytewise order its encoding is the lesser; the length-first order has these two as they are",
+        (false, true) if differ =>
+            ": in the length-first order its encoding is the shorter; the bytewise order has these two as they are",
+        (false, true) =>
+            ": in the length-first order its encoding is the lesser; the bytewise order has these two as they are",
         _ => ": its encoding is the lesser, in the bytewise order and in the length-first order",
     })
 }

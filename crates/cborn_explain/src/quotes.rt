@@ -3,8 +3,10 @@
 
 use simdutf8::compat::from_utf8;
 use std::alloc::{AllocError, Global};
-use std::fmt;
-use std::fmt::{Display, Formatter};
+use std::fmt::{self, Display, Formatter};
+
+/// A text, or that memory for it is refused.
+pub(crate) type Text = Result<String, AllocError>;
 
 /// How many bytes are written before the one at a place.
 const BYTES_BEFORE: usize = 8;
@@ -89,18 +91,23 @@ impl Display for Cut<'_> {
     }
 }
 
-/// Writes the start of a notation, at most `PIECE` characters. Where it is cut within a string, a quote
-/// closes the string before the `..`.
-pub(crate) fn push_notation(out: &mut String, notation: &[u8]) -> Result<(), AllocError> {
-    let text = front_of(notation, PIECE);
-    write!(out, "{}", Escaped { text })?;
-    if text.len() == notation.len() {
-        return Ok(());
+/// The start of a notation, at most `PIECE` characters. Where it is cut within a string, a quote closes
+/// the string before the `..`.
+#[derive(Clone, Copy)]
+pub(crate) struct CutNotation<'a>(pub(crate) &'a [u8]);
+
+impl Display for CutNotation<'_> {
+    fn fmt<W: fmt::Write>(&self, f: &mut Formatter<W>) -> fmt::Result {
+        let text = front_of(self.0, PIECE);
+        write!(f, "{}", Escaped { text })?;
+        if text.len() == self.0.len() {
+            return Ok(());
+        }
+        if let Some(quote) = open_quote(text) {
+            write!(f, "{quote}")?;
+        }
+        write!(f, "..")
     }
-    if let Some(quote) = open_quote(text) {
-        out.push(quote)?;
-    }
-    out.push_str("..")
 }
 
 /// At most `most` characters at the start of the bytes, up to the first byte that isn't UTF-8.
@@ -139,46 +146,43 @@ pub(crate) fn valid_front(bytes: &[u8]) -> &str {
     }
 }
 
-/// Writes at most `most` bytes in hexadecimal, with a space between two, and `..` where there are
-/// more.
-pub(crate) fn push_hex(out: &mut String, bytes: &[u8], most: usize) -> Result<(), AllocError> {
-    for (i, byte) in bytes.iter().enumerate() {
-        if i == most {
-            return out.push_str(" ..");
+/// Bytes in hexadecimal, with a space between two: at most so many, and `..` where there are more.
+#[derive(Clone, Copy)]
+pub(crate) struct Hex<'a>(pub(crate) &'a [u8], pub(crate) usize);
+
+impl Display for Hex<'_> {
+    fn fmt<W: fmt::Write>(&self, f: &mut Formatter<W>) -> fmt::Result {
+        for (i, byte) in self.0.iter().enumerate() {
+            if i == self.1 {
+                return write!(f, " ..");
+            }
+            let gap = if i > 0 { " " } else { "" };
+            write!(f, "{gap}{byte:02x}")?;
         }
-        if i > 0 {
-            out.push(' ')?;
-        }
-        write!(out, "{byte:02x}")?;
+        Ok(())
     }
-    Ok(())
 }
 
-/// Writes the bytes around an offset in hexadecimal, and the one at the offset as `>00<`. Where the
-/// offset is the end, it writes `><` there.
-pub(crate) fn push_bytes_around(
-    out: &mut String,
-    bytes: &[u8],
-    place: usize,
-) -> Result<(), AllocError> {
-    let from = place.saturating_sub(BYTES_BEFORE);
-    let before = slice_of(bytes, from, place);
-    if from > 0 {
-        out.push_str(".. ")?;
+/// The bytes around an offset in hexadecimal, and the one at the offset as `>00<`. Where the offset is
+/// the end, `><` is there.
+#[derive(Clone, Copy)]
+pub(crate) struct HexAround<'a>(pub(crate) &'a [u8], pub(crate) usize);
+
+impl Display for HexAround<'_> {
+    fn fmt<W: fmt::Write>(&self, f: &mut Formatter<W>) -> fmt::Result {
+        let HexAround(bytes, place) = *self;
+        let from = place.saturating_sub(BYTES_BEFORE);
+        let before = slice_of(bytes, from, place);
+        let dots = if from > 0 { ".. " } else { "" };
+        let gap = if before.is_empty() { "" } else { " " };
+        write!(f, "{dots}{}{gap}", Hex(before, BYTES_BEFORE))?;
+        let [byte, after @ ..] = slice_of(bytes, place, bytes.len()) else {
+            return write!(f, "><");
+        };
+        let gap = if after.is_empty() { "" } else { " " };
+        let after = Hex(after, AROUND.saturating_sub(before.len()));
+        write!(f, ">{byte:02x}<{gap}{after}")
     }
-    push_hex(out, before, BYTES_BEFORE)?;
-    if !before.is_empty() {
-        out.push(' ')?;
-    }
-    let Some(byte) = bytes.get(place) else {
-        return out.push_str("><");
-    };
-    write!(out, ">{byte:02x}<")?;
-    let after = slice_of(bytes, place.saturating_add(1), bytes.len());
-    if !after.is_empty() {
-        out.push(' ')?;
-    }
-    push_hex(out, after, AROUND.saturating_sub(before.len()))
 }
 
 /// The line and the column of an offset in bytes of a text, as `1:7`. Both count from 1, the column in
@@ -200,14 +204,9 @@ impl Display for At<'_> {
     }
 }
 
-/// Writes the line and the column of an offset in bytes of a text, and that line, cut around the
-/// offset, with a mark below.
-pub(crate) fn push_text_around(
-    alloc: Global,
-    out: &mut String,
-    text: &[u8],
-    place: usize,
-) -> Result<(), AllocError> {
+/// The lines that say the line and the column of an offset in bytes of a text, and that line, cut around
+/// the offset, with a mark below.
+pub(crate) fn text_around(alloc: Global, text: &[u8], place: usize) -> Text {
     let before = text.get(..place).unwrap_or(text);
     let from = start_of_piece(before);
     let is_cut = from > 0 && before.get(from - 1) != Some(&b'\n');
@@ -218,11 +217,12 @@ pub(crate) fn push_text_around(
     let end = after.iter().position(|b| *b == b'\n' || *b == b'\r');
     let rest = Cut(slice_of(after, 0, end.unwrap_or(after.len())), LINE_AFTER);
     let at = At(text, place);
-    write!(out, "\n  line  {at}\n  text  {piece}{rest}\n        ")?;
+    let mut lines = format!(in alloc; "  line  {at}\n  text  {piece}{rest}\n        ")?;
     for _ in piece.chars() {
-        out.push(' ')?;
+        lines.push(' ')?;
     }
-    out.push_str("^\n")
+    lines.push_str("^\n")?;
+    Ok(lines)
 }
 
 /// The index at which the written part of the last line of `before` begins: at most `LINE_BEFORE`

@@ -1,21 +1,29 @@
 //! Why a text is refused: a sentence for each reason.
 
-use crate::byte_causes::push_too_deep;
+use crate::byte_causes::too_deep;
+use crate::faults::count_sentence;
 use crate::items::ItemReader;
-use crate::quotes::{At, Cut, Escaped, front_of, push_notation, slice_of};
-use crate::reasons::TextReason;
+use crate::quotes::{At, Cut, CutNotation, Escaped, Text, front_of, slice_of};
 use crate::text_keys::{earlier_key, key_at};
 use crate::text_spots::indicator_at;
 use crate::text_walks::{Bracket, LastToken, NotationText, TextWalk};
-use cborn_edn::EdnReason;
-use cborn_judge::InvalidReason;
-use cborn_lex::{LexReason, Profile, are_hex, hex_code, is_low};
-use std::alloc::AllocError;
-use std::fmt;
-use std::fmt::{Display, Formatter};
+use cborn_edn::{EdnFault, EdnReason};
+use cborn_engine::{CountFault, EngineFault};
+use cborn_judge::{Invalid, InvalidReason};
+use cborn_lex::{LexFault, LexReason, Profile, are_hex, hex_code, is_low};
+use std::fmt::{self, Display, Formatter};
 
 /// How many characters of a word, a number or a key are written.
 const WORD: usize = 40;
+
+const EMPTY_COMMENT: &str = "comments are / .. /, and the // before this is an empty one";
+
+const BAD_TEXT: &str = "a text string is UTF-8, and this one isn't";
+
+const HASH: &str = "comments from # to the end of a line are read with notation-2 alone";
+
+const BAD_BIGNUM: &str =
+    "tag 2 or 3 makes an integer of a byte string, and here it encloses another item";
 
 /// A text that is refused, and where.
 #[derive(Clone, Copy)]
@@ -46,35 +54,28 @@ impl Display for Character<'_> {
 }
 
 impl<'a> RefusedText<'a> {
-    /// Writes the sentence for `reason`.
-    pub(crate) fn push_cause(
-        &self,
-        out: &mut String,
-        reason: TextReason,
-    ) -> Result<(), AllocError> {
-        match reason {
-            TextReason::NotUtf8 => self.push_not_utf8(out),
-            TextReason::Token(reason) => self.push_token(out, reason),
-            TextReason::Notation(reason) => self.push_notation(out, reason),
-            TextReason::Invalid(InvalidReason::DuplicateKey) => self.push_duplicate(out),
-            TextReason::Invalid(InvalidReason::BadBignum) => {
-                out.push_str(
-                    "tag 2 or 3 makes an integer of a byte string, and here it encloses another item",
+    /// The sentence for a fault. Empty where it is none of the content of a text.
+    pub(crate) fn fault(&self, fault: CountFault) -> Text {
+        let alloc = self.items.alloc;
+        let CountFault::Engine(why) = fault else {
+            return String::from_str(alloc, count_sentence(fault));
+        };
+        match why {
+            EngineFault::TextInput(_) => {
+                let byte = self.rest(self.place).first().copied().unwrap_or(0);
+                format!(in alloc;
+                    "a text is UTF-8, and the byte {byte:02x} here begins no character or is cut off"
                 )
             }
-            TextReason::Invalid(InvalidReason::NotUtf8) => {
-                out.push_str("a text string is UTF-8, and this one isn't")
-            }
-            TextReason::Count(reason) => out.push_str(reason.sentence()),
+            EngineFault::Edn(EdnFault::Lex(LexFault::Refused { reason, .. })) => self.token(reason),
+            EngineFault::Edn(EdnFault::Refused { reason, .. }) => self.notation(reason),
+            EngineFault::Invalid(Invalid::Refused { reason, .. }) => match reason {
+                InvalidReason::DuplicateKey => self.duplicate_key(),
+                InvalidReason::BadBignum => String::from_str(alloc, BAD_BIGNUM),
+                InvalidReason::NotUtf8 => String::from_str(alloc, BAD_TEXT),
+            },
+            _ => Ok(String::new(alloc)),
         }
-    }
-
-    fn push_not_utf8(&self, out: &mut String) -> Result<(), AllocError> {
-        let byte = self.rest(self.place).first().copied().unwrap_or(0);
-        write!(
-            out,
-            "a text is UTF-8, and the byte {byte:02x} here begins no character or is cut off"
-        )
     }
 
     /// The text from an offset on.
@@ -94,32 +95,18 @@ impl<'a> RefusedText<'a> {
         Cut(slice_of(rest, 0, len), WORD)
     }
 
-    /// Writes why a token is wrong.
-    fn push_token(&self, out: &mut String, reason: LexReason) -> Result<(), AllocError> {
-        let at = self.at(self.spot);
+    /// Why a token is wrong.
+    fn token(&self, reason: LexReason) -> Text {
+        let alloc = self.items.alloc;
+        let (c, at) = (self.character(), self.at(self.spot));
         let is_quote = self.rest(self.spot).starts_with(b"'");
-        match reason {
-            LexReason::UnexpectedCharacter | LexReason::UnknownPrefix if self.is_after_slashes() =>
-                {
-                    return out.push_str(
-                        "comments are / .. /, and the // before this is an empty one",
-                    );
-                }
-            LexReason::BadHex | LexReason::BadBase64 if is_quote => {
-                write!(out, "the quote at {at}")?
-            }
-            LexReason::BadHex | LexReason::BadBase64 => self.push_spot(out)?,
-            LexReason::BadIndicator => write!(out, "'{}'", self.word(self.spot))?,
-            LexReason::UnknownPrefix | LexReason::FloatLeftOut => {
-                write!(out, "'{}'", self.word(self.place))?
-            }
-            _ => {}
-        }
         let sentence = match reason {
-            LexReason::UnexpectedCharacter => return self.push_unexpected_character(out),
+            LexReason::UnexpectedCharacter | LexReason::UnknownPrefix if self.is_after_slashes() =>
+                return String::from_str(alloc, EMPTY_COMMENT),
+            LexReason::UnexpectedCharacter => return self.unexpected_character(),
             LexReason::UnclosedString => "the string that begins here has no quote that ends it",
             LexReason::UnclosedComment => "the comment that begins here has no slash that ends it",
-            LexReason::BadEscape => return self.push_bad_escape(out),
+            LexReason::BadEscape => return self.bad_escape(),
             LexReason::BadHex if is_quote => " ends the bytes after an odd number of digits",
             LexReason::BadHex => " is no hexadecimal digit, white space or whole comment",
             LexReason::BadBase64 if is_quote =>
@@ -127,19 +114,25 @@ impl<'a> RefusedText<'a> {
             LexReason::BadBase64 => " is no digit of base64",
             LexReason::UnknownPrefix =>
                 " is no prefix of a string: h is, for hexadecimal, and b64, for base64",
-            LexReason::BadNumber => return self.push_bad_number(out),
+            LexReason::BadNumber => return self.bad_number(),
             LexReason::NumberTooLarge =>
                 "a number has at most 128 bits: 340282366920938463463374607431768211455 is the greatest",
             LexReason::BadIndicator =>
                 " is no encoding indicator: _, _0, _1, _2 and _3 are, and after ( comes _ alone",
             LexReason::FloatLeftOut => " is no integer, and floats are left out",
         };
-        out.push_str(sentence)
-    }
-
-    /// Writes the character at fault, and its line and column.
-    fn push_spot(&self, out: &mut String) -> Result<(), AllocError> {
-        write!(out, "{} at {}", self.character(), self.at(self.spot))
+        match reason {
+            LexReason::BadHex | LexReason::BadBase64 if is_quote => format!(in alloc;
+                "the quote at {at}{sentence}"
+            ),
+            LexReason::BadHex | LexReason::BadBase64 => format!(in alloc; "{c} at {at}{sentence}"),
+            LexReason::BadIndicator => format!(in alloc; "'{}'{sentence}", self.word(self.spot)),
+            LexReason::UnknownPrefix | LexReason::FloatLeftOut => format!(in alloc;
+                "'{}'{sentence}",
+                self.word(self.place)
+            ),
+            _ => String::from_str(alloc, sentence),
+        }
     }
 
     /// The character at fault.
@@ -155,107 +148,87 @@ impl<'a> RefusedText<'a> {
         slice_of(before, 0, len).ends_with(b"//")
     }
 
-    /// Writes what is wrong with an escape, or with a character that has to be escaped.
-    fn push_bad_escape(&self, out: &mut String) -> Result<(), AllocError> {
-        let (before, after) = match self.rest(self.spot) {
+    /// What is wrong with an escape, or with a character that has to be escaped.
+    fn bad_escape(&self) -> Text {
+        let alloc = self.items.alloc;
+        let (c, at) = (self.character(), self.at(self.spot));
+        match self.rest(self.spot) {
             [b'\\', b'u', a, b, c, d, ..] if are_hex(*a, *b, *c, *d) => {
                 if is_low(hex_code(*a, *b, *c, *d)) {
-                    (
-                        "the escape",
-                        " is the second half of a pair of surrogates, and no first half comes before it",
-                    )
-                } else {
-                    (
-                        "after the escape",
-                        ", the first half of a pair of surrogates, the second has to follow",
-                    )
+                    return format!(in alloc;
+                        "the escape at {at} is the second half of a pair of surrogates, and no first half comes before it"
+                    );
                 }
-            }
-            [b'\\', b'u', ..] => ("after \\u", " there are no four hexadecimal digits"),
-            rest => {
-                self.push_spot(out)?;
-                return out.push_str(if rest.starts_with(b"\\") {
-                    " begins no escape of JSON"
-                } else {
-                    " is a control character, which has to be escaped"
-                });
-            }
-        };
-        write!(out, "{before} at {}{after}", self.at(self.spot))
-    }
-
-    fn push_unexpected_character(&self, out: &mut String) -> Result<(), AllocError> {
-        match self.rest(self.place).first() {
-            Some(b'#') if self.input.profile == Profile::One => {
-                out.push_str("comments from # to the end of a line are read with notation-2 alone")
-            }
-            Some(byte) if byte.is_ascii_alphabetic() => {
-                let word = self.word(self.place);
-                write!(
-                    out,
-                    "'{word}' is no word of the notation: false, true, null and undefined are, and simple("
+                format!(in alloc;
+                    "after the escape at {at}, the first half of a pair of surrogates, the second has to follow"
                 )
             }
-            _ => {
-                let c = self.character();
-                write!(out, "{c} begins no token")
-            }
+            [b'\\', b'u', ..] => format!(in alloc;
+                "after \\u at {at} there are no four hexadecimal digits"
+            ),
+            [b'\\', ..] => format!(in alloc; "{c} at {at} begins no escape of JSON"),
+            _ => format!(in alloc; "{c} at {at} is a control character, which has to be escaped"),
         }
     }
 
-    fn push_bad_number(&self, out: &mut String) -> Result<(), AllocError> {
+    fn unexpected_character(&self) -> Text {
+        let alloc = self.items.alloc;
+        match self.rest(self.place).first() {
+            Some(b'#') if self.input.profile == Profile::One => String::from_str(alloc, HASH),
+            Some(byte) if byte.is_ascii_alphabetic() => {
+                let word = self.word(self.place);
+                format!(in alloc;
+                    "'{word}' is no word of the notation: false, true, null and undefined are, and simple("
+                )
+            }
+            _ => format!(in alloc; "{} begins no token", self.character()),
+        }
+    }
+
+    fn bad_number(&self) -> Text {
+        let alloc = self.items.alloc;
         let word = self.word(self.place).0;
         let len = word.iter().position(|b| *b == b'_').unwrap_or(word.len());
         let number = Cut(slice_of(word, 0, len), WORD);
         let (c, at) = (self.character(), self.at(self.spot));
         if self.spot > self.place {
-            return write!(
-                out,
-                "'{number}' is no number: {c} at {at} is no digit of it"
-            );
+            return format!(in alloc; "'{number}' is no number: {c} at {at} is no digit of it");
         }
-        write!(
-            out,
+        format!(in alloc;
             "'{number}' is no number: it lacks digits, or begins with a 0 that it doesn't need"
         )
     }
 
-    /// Writes why the tokens are a syntax error, or notate no item.
-    fn push_notation(&self, out: &mut String, reason: EdnReason) -> Result<(), AllocError> {
+    /// Why the tokens are a syntax error, or notate no item.
+    fn notation(&self, reason: EdnReason) -> Text {
+        let alloc = self.items.alloc;
         let sentence = match reason {
             EdnReason::UnexpectedToken => {
-                let allowed = self.allowed();
-                write!(out, "here may come {}{}", allowed.0, allowed.1)?;
-                if !self.is_after_trailing_comma() {
-                    return Ok(());
-                }
-                "; a trailing comma is read with notation-2 alone"
+                let (piece, allowed) = self.allowed();
+                let comma = self.note_on_comma();
+                return format!(in alloc; "here may come {piece}{allowed}{comma}");
             }
-            EdnReason::UnexpectedEnd => return self.push_unexpected_end(out),
+            EdnReason::UnexpectedEnd => return self.unexpected_end(),
             EdnReason::TooDeep => {
-                push_too_deep(self.items.limit, out, "arrays, maps, tags and <<..>>")?;
+                let text = too_deep(self.items, "arrays, maps, tags and <<..>>")?;
                 if !self.is_at_number() {
-                    return Ok(());
+                    return Ok(text);
                 }
-                "; an integer beyond 64 bits counts as one of them"
+                return format!(in alloc; "{text}; an integer beyond 64 bits counts as one of them");
             }
-            EdnReason::IndicatorTooNarrow => {
-                "the number, the length or the count doesn't fit the width that the indicator asks for: _0 has 1 byte, _1 has 2, _2 has 4 and _3 has 8"
-            }
-            EdnReason::IndicatorNotAllowed => return out.push_str(self.unwanted_indicator()),
-            EdnReason::MixedString => {
-                "pieces after a byte string are bytes too, and this one is a text in double quotes"
-            }
-            EdnReason::MixedChunks => {
-                "the chunks of a string are all of one kind, bytes or text, as the first is"
-            }
-            EdnReason::TextNotUtf8 => {
-                "a text string is UTF-8, and the joined pieces of this one aren't"
-            }
+            EdnReason::IndicatorTooNarrow =>
+                "the number, the length or the count doesn't fit the width that the indicator asks for: _0 has 1 byte, _1 has 2, _2 has 4 and _3 has 8",
+            EdnReason::IndicatorNotAllowed => self.unwanted_indicator(),
+            EdnReason::MixedString =>
+                "pieces after a byte string are bytes too, and this one is a text in double quotes",
+            EdnReason::MixedChunks =>
+                "the chunks of a string are all of one kind, bytes or text, as the first is",
+            EdnReason::TextNotUtf8 =>
+                "a text string is UTF-8, and the joined pieces of this one aren't",
             EdnReason::BadSimple => "a simple value is from 0 to 23, or from 32 to 255",
             EdnReason::TagTooLarge => "the number of a tag is at most 18446744073709551615",
         };
-        out.push_str(sentence)
+        String::from_str(alloc, sentence)
     }
 
     /// Whether the token at the place is a number. An integer beyond 64 bits adds a level, since it is
@@ -268,22 +241,17 @@ impl<'a> RefusedText<'a> {
     fn unwanted_indicator(&self) -> &'static str {
         let bracket = self.walk.open.last().map(|open| open.bracket);
         match bracket {
-            Some(Bracket::Simple) if self.is_at_number() => {
-                "the number of a simple value has no encoding indicator"
-            }
-            _ if self.is_at_number() && self.is_indefinite() => {
-                "_ asks for an indefinite length, which numbers and tags don't have"
-            }
-            _ if self.is_at_number() => {
-                "an integer beyond 64 bits is encoded as a bignum, and has no encoding indicator"
-            }
-            _ if !self.is_indefinite() => {
-                "of pieces side by side the last alone has an encoding indicator, for the whole string"
-            }
+            Some(Bracket::Simple) if self.is_at_number() =>
+                "the number of a simple value has no encoding indicator",
+            _ if self.is_at_number() && self.is_indefinite() =>
+                "_ asks for an indefinite length, which numbers and tags don't have",
+            _ if self.is_at_number() =>
+                "an integer beyond 64 bits is encoded as a bignum, and has no encoding indicator",
+            _ if !self.is_indefinite() =>
+                "of pieces side by side the last alone has an encoding indicator, for the whole string",
             Some(Bracket::Chunks) => "a chunk has a definite length, so that no _ follows it",
-            _ => {
-                "only [, {, (, '' and \"\" have _, which is an indefinite length: a string with a prefix, with bytes or in pieces has none"
-            }
+            _ =>
+                "only [, {, (, '' and \"\" have _, which is an indefinite length: a string with a prefix, with bytes or in pieces has none",
         }
     }
 
@@ -302,21 +270,17 @@ impl<'a> RefusedText<'a> {
         }
     }
 
-    /// Writes what is missing at the end of the text, and which bracket is open.
-    fn push_unexpected_end(&self, out: &mut String) -> Result<(), AllocError> {
-        let allowed = self.allowed();
-        write!(
-            out,
-            "the text ends, and here must come {}{}",
-            allowed.0, allowed.1
+    /// What is missing at the end of the text, and which bracket is open.
+    fn unexpected_end(&self) -> Text {
+        let (piece, allowed) = self.allowed();
+        let mut text = format!(in self.items.alloc;
+            "the text ends, and here must come {piece}{allowed}"
         )?;
-        match self.walk.open.last() {
-            Some(open) => {
-                let (bracket, at) = (opening(open.bracket), self.at(open.place));
-                write!(out, ": the {bracket} at {at} is open")
-            }
-            None => Ok(()),
+        if let Some(open) = self.walk.open.last() {
+            let (bracket, at) = (opening(open.bracket), self.at(open.place));
+            write!(text, ": the {bracket} at {at} is open")?;
         }
+        Ok(text)
     }
 
     /// What may follow the last token: a piece of the string that it is, or what else.
@@ -357,24 +321,26 @@ impl<'a> RefusedText<'a> {
         )
     }
 
-    /// Whether a bracket is closed at the place after a trailing comma, which profile 2 alone allows.
-    fn is_after_trailing_comma(&self) -> bool {
-        let is_comma = matches!(self.walk.last, LastToken::Separator);
-        let Some(open) = self.walk.open.last() else {
-            return false;
-        };
-        let is_closed = match (open.bracket, self.rest(self.place)) {
-            (Bracket::Array, [b']', ..]) | (Bracket::Embedded, [b'>', b'>', ..]) => true,
-            (Bracket::Map, [b'}', ..]) => open.is_at_key(),
+    /// What is said where a bracket is closed at the place after a trailing comma, which profile 2 alone
+    /// allows.
+    fn note_on_comma(&self) -> &'static str {
+        let is_closed = match (self.walk.open.last(), self.rest(self.place)) {
+            (Some(open), [b']', ..]) => matches!(open.bracket, Bracket::Array),
+            (Some(open), [b'>', b'>', ..]) => matches!(open.bracket, Bracket::Embedded),
+            (Some(open), [b'}', ..]) => open.is_at_key(),
             _ => false,
         };
-        is_comma && is_closed && self.input.profile == Profile::One
+        let is_comma = matches!(self.walk.last, LastToken::Separator);
+        if is_comma && is_closed && self.input.profile == Profile::One {
+            return "; a trailing comma is read with notation-2 alone";
+        }
+        ""
     }
 
-    /// Writes which key the key at the place repeats.
-    fn push_duplicate(&self, out: &mut String) -> Result<(), AllocError> {
-        out.push_str("the key ")?;
-        push_notation(out, key_at(self.items.alloc, self.input, self.place)?)?;
+    /// Which key the key at the place repeats.
+    fn duplicate_key(&self) -> Text {
+        let alloc = self.items.alloc;
+        let key = CutNotation(key_at(alloc, self.input, self.place)?);
         let found = match self.walk.open.last() {
             Some(open) => earlier_key(self.items, self.input, open.place, self.place)?,
             None => None,
@@ -382,12 +348,11 @@ impl<'a> RefusedText<'a> {
         match found {
             Some(place) => {
                 let at = self.at(place);
-                write!(
-                    out,
-                    " is the same as the key at {at} (offset {place}) of this map"
+                format!(in alloc;
+                    "the key {key} is the same as the key at {at} (offset {place}) of this map"
                 )
             }
-            None => out.push_str(" is the same as an earlier key of this map"),
+            None => format!(in alloc; "the key {key} is the same as an earlier key of this map"),
         }
     }
 }

@@ -1,19 +1,18 @@
 //! The character within a token that is at fault.
 
 use crate::quotes::slice_of;
-use crate::reasons::TextReason;
 use cborn_lex::{LexReason, are_hex, hex_code, is_high, is_low};
 
 /// The offset in bytes of the character that is at fault. `place` is the offset that was reported
 /// with the reason. The answer is that offset, or one within the token that begins there.
-pub(crate) fn spot_of(text: &[u8], place: usize, reason: TextReason) -> usize {
+pub(crate) fn spot_of(text: &[u8], place: usize, reason: LexReason) -> usize {
     let token = text.get(place..).unwrap_or(&[]);
     let within = match reason {
-        TextReason::Token(LexReason::BadEscape) => bad_escape(token),
-        TextReason::Token(LexReason::BadHex) => bad_hex(token),
-        TextReason::Token(LexReason::BadBase64) => bad_base64(token),
-        TextReason::Token(LexReason::BadNumber) => bad_digit(token),
-        TextReason::Token(LexReason::BadIndicator) => indicator_at(token),
+        LexReason::BadEscape => bad_escape(token),
+        LexReason::BadHex => bad_hex(token),
+        LexReason::BadBase64 => bad_base64(token),
+        LexReason::BadNumber => bad_digit(token),
+        LexReason::BadIndicator => indicator_at(token),
         _ => 0,
     };
     place.saturating_add(within)

@@ -2,6 +2,7 @@
 
 use crate::paths::Step;
 use crate::quotes::valid_front;
+use cborn_engine::Kind as Format;
 use cborn_lex::{BareToken, Kind, LexFault, Profile, next_token};
 use std::alloc::{AllocError, Global};
 
@@ -15,6 +16,18 @@ const MOST_OPEN: usize = 1026;
 pub struct NotationText<'a> {
     pub profile: Profile,
     pub text: &'a [u8],
+}
+
+impl<'a> NotationText<'a> {
+    /// An input as a text. `None`: its format is bytes.
+    pub(crate) fn of(kind: Format, text: &'a [u8]) -> Option<NotationText<'a>> {
+        let profile = match kind {
+            Format::Wire => return None,
+            Format::Notation => Profile::One,
+            Format::Notation2 => Profile::Two,
+        };
+        Some(NotationText { profile, text })
+    }
 }
 
 /// What a bracket opens.

@@ -1,5 +1,5 @@
 -- The names that the proofs of this crate use, each from where it is defined.
-pub use Rattle.std.proofs.Common.{Bool, Bor, Equal, Err, Greater, IsPermutation, Less, List, None, Ok, OnOk, Option, Ordering, Result, Some, [], add-one, ap, append-nil, append_assoc, arith, cond, drop, drop_at, eqb, false, get_or, inl, inr, is_lt, leb, length, length-append, length-drop, lt-ltb, ltb, map, mul-le-mul_right, nat_lt, not, pow-suc, refl, rules, set, subst, suc, sym, take, take_at, true, true≢false, zero, ℕ, ◌*◌, ◌++◌, ◌+◌, ◌-◌, ◌/◌, ◌<◌, ◌^◌, ◌∙◌, ◌∷◌, ◌≡◌, ◌≢◌, ◌≤◌, ◌⊎◌}
+pub use Rattle.std.proofs.Common.{Bool, Bor, Equal, Err, Greater, IsPermutation, Less, List, None, Ok, OnOk, Option, Ordering, Result, Some, [], add-one, ap, append-nil, append_assoc, arith, cond, drop, drop_at, eqb, false, get_or, inl, inr, is_lt, leb, length, length-append, length-drop, lt-ltb, ltb, map, mul-le-mul_right, nat_lt, not, pow-suc, refl, rules, set, subst, suc, sym, take, take_at, true, true≢false, zero, ℕ, ◌∙◌}
 pub use Rattle.std.proofs.Math.Seq.{get_or-append_seam, map-set_same, take-add}
 pub use Rattle.std.proofs.lemmas.Bool.{cases_eq, cases_lt, eq-eqb, eqb-true, le-ltb, leb-false, leb-true, ltb-true, not-false, not-true}
 pub use Rattle.std.proofs.lemmas.Fn.{always_returns_same}
@@ -12,9 +12,24 @@ pub use Rattle.std.specs.List.{AllByRecursion, AllZip, IsAllAdjacentAnswer, slic
 pub use Rattle.std.specs.List.Sorted.{IsSortedBy}
 pub use Rattle.std.specs.Option.{MatchOption, unwrap_or}
 pub use Rattle.std.specs.Ordering.{nat_cmp, ordering_reverse, ordering_then}
-pub use Rattle.std.specs.Prelude.{IfErr, IfOk, IfSome, IsErr, IsTrue, IsUtf8, flat_map, is_some, ⊤, ◌%◌, ◌&&◌, ◌==◌, ◌||◌, ◌↔◌}
+pub use Rattle.std.specs.Prelude.{IfErr, IfOk, IfSome, IsErr, IsTrue, IsUtf8, flat_map, is_some, ⊤}
+pub use Rattle.std.specs.Str.{is_utf8}
+pub use Rattle.cborn_det.proofs.Canon.{one_of_same, same_of_one, string_one, tags}
+pub use Rattle.cborn_det.proofs.Room.{counted, counted_pairs, holds_below, joined_bytes, length_of_chunks, no_more}
+pub use Rattle.cborn_det.proofs.Steps.{seq_append, values_of_seq}
+pub use Rattle.cborn_det.proofs.Written.{some_bytes}
 pub use Rattle.cborn_det.specs.Appending.{Appends, Replaces}
 pub use Rattle.cborn_det.specs.Det.{Det, DetPairs, DetSeq, DetValues, Entry, IsInteger, IsString, bignum_tag, joined, keys, major_of}
+pub use Rattle.cborn_model.proofs.Bytes.{are_bytes, bytes-append, bytes-left, bytes-right}
+pub use Rattle.cborn_model.proofs.Firsts.{first_once}
+pub use Rattle.cborn_model.proofs.Found.{Either, found_alike, found_both, none_both}
+pub use Rattle.cborn_model.proofs.HandedOver.{on_ok, strings_are}
+pub use Rattle.cborn_model.proofs.Listed.Trees.{count-trees, count_entries-entries, depth_of_item, depth_of_pair}
+pub use Rattle.cborn_model.proofs.Numbers.OneMagnitude.{below_power, fits_in, large, one_magnitude}
+pub use Rattle.cborn_model.proofs.Numbers.Simples.{simple_fits}
+pub use Rattle.cborn_model.proofs.Numbers.SomeMagnitude.{magnitude_of}
+pub use Rattle.cborn_model.proofs.SameItems.Rearranging.{All_moved, IsIn, at_member, weaker}
+pub use Rattle.cborn_model.proofs.SameItems.Sameness.{same_itself}
 pub use Rattle.cborn_model.specs.Bytes.{AreBytes, IsShortest, big_endian}
 pub use Rattle.cborn_model.specs.Earliest.{IsEarliest}
 pub use Rattle.cborn_model.specs.First.{IsFirst, NoLater}
@@ -26,7 +41,7 @@ pub use Rattle.cborn_model.specs.Partial.{AreStrings, Ends, IsAll, IsFree, Openi
 pub use Rattle.cborn_model.specs.Placed.{ChunksPlaced, Placed, PlacedAll, PlacedEntries}
 pub use Rattle.cborn_model.specs.Spelled.{Fits, FitsAll, FitsEntries, chunk_bytes, chunks, ending, spelled, spelled_all, spelled_entries}
 pub use Rattle.cborn_model.specs.Tree.{ByteChunks, Bytes, Entries, Items, Nint, Pairs, Simple, Tagged, Text, TextChunks, Tree, Trees, Uint, count, count_entries, depth, depth_all, depth_entries, entries, entry, more, no_entry, no_item, place, trees}
-pub use Rattle.cborn_model.specs.Valid.{AreProper, HasNewKeys, HasProperPairs, IsNew, IsProper, IsValid, pairs_depth, value_depth, values_depth}
+pub use Rattle.cborn_model.specs.Valid.{AreProper, HasNewKeys, HasProperPairs, IsNew, IsProper, pairs_depth, value_depth, values_depth}
 pub use Rattle.cborn_model.specs.Value.{Couples, Same, Value, Values, array, bytes, dict, integer, no_pairs, no_values, pair, pair_count, pairs_of, simple, tagged, text, value, value_count, values_of}
 pub use Rattle.cborn_model.specs.declared.heads.Major.{Major}
 pub use Rattle.cborn_model.specs.declared.heads.Major.TheVariants.{Array, ByteString, Map, Negative, Other, Tag, TextString, Unsigned}
@@ -42,12 +57,14 @@ pub use Rattle.cborn_judge.specs.Defects.{ChunksDefect, Defect, DefectAt, Descen
 pub use Rattle.cborn_judge.specs.Departures.{FindsDefect, LongAt, LooseBytesAt}
 pub use Rattle.cborn_judge.specs.Flaws.{Flaw, FlawAt, HasBadChunk, HasRepeat, IsFirstFlaw, IsRefusal, IsRefusalOfAll, IsRepeated, IsWord, Within, WithinAll, WithinEntries}
 pub use Rattle.cborn_judge.specs.Reasons.{defect_rank, flaw_rank}
+pub use Rattle.cborn_judge.specs.declared.defects.Defect.{Defect as SomeDefect}
 pub use Rattle.cborn_judge.specs.declared.defects.DefectReason.{DefectReason}
 pub use Rattle.cborn_judge.specs.declared.defects.DefectReason.TheVariants.{EndlessLength, KeyOrder, LongHead, LooseBignum}
 pub use Rattle.cborn_judge.specs.declared.encoders.Encodings.{Encodings}
 pub use Rattle.cborn_judge.specs.declared.encoders.OpenString.{OpenString}
 pub use Rattle.cborn_judge.specs.declared.faults.InvalidReason.{InvalidReason}
 pub use Rattle.cborn_judge.specs.declared.faults.InvalidReason.TheVariants.{BadBignum, DuplicateKey, NotUtf8}
+pub use Rattle.cborn_judge.specs.declared.flaws.Flaw.{Flaw as SomeFlaw}
 pub use Rattle.cborn_judge.specs.declared.levels.Container.{Container}
 pub use Rattle.cborn_judge.specs.declared.levels.Level.{Level}
 pub use Rattle.cborn_judge.specs.devices.Building.{IsBignumItem, IsItemOf, IsPairOf}
@@ -58,3 +75,4 @@ pub use Rattle.cborn_judge.specs.devices.Marks.{AreAllHinted, AreHigher, AreHint
 pub use Rattle.cborn_judge.specs.shared.Checked.{DefectIn, DefectInAll, DescentAt, IsEarliestDefect, LooseAt, SizeAt}
 pub use Rattle.cborn_judge.specs.shared.Judged.{FindsFlaw, FlawAmong, FlawIn, IsEarliestFlaw, RepeatFlaw}
 pub use Rattle.cborn_judge.specs.shared.Repeats.{IsAgain, IsOneOf, IsTied}
+pub use Rattle.cborn_judge.specs.shared.Tidy.{AllTidy, EntriesTidy, IsTidy, SizeIsTidy, spelled_pairs}

@@ -1,4 +1,114 @@
--- The flaws of a node by those of its parts.
-pub mod Steps
-pub mod Walking
-pub mod Sequences
+-- The first flaw of nodes: of a node, as a walk goes on, and of a sequence.
+use Rattle.std.specs.Prelude.{◌⊎◌, ◌∷◌, ◌++◌, ◌≡◌, ◌↔◌, ◌+◌, ◌<◌, ◌≤◌}
+use Rattle.cborn_judge.proofs.Common.{inl, inr, List, [], Tree, trees, Within, WithinAll, ℕ, refl, subst, HasRepeat, FlawAt, Flaw, InvalidReason, DuplicateKey, FlawIn, FlawAmong, Size, Items, Pairs, Tagged, Trees, Entries, Width, zero, suc, length, get_or, take, arith, Result, Ok, Err, AllZip, IfErr, IsErr, IsFirst, NoLater, Means, PlacedAll, flaw_rank, spelled, Value, IsRefusal, IsRefusalOfAll}
+use Rattle.std.specs.Result.{IsErrAnd}
+use Rattle.cborn_judge.specs.declared.faults.Invalid.{Invalid}
+use Rattle.cborn_judge.specs.declared.faults.Invalid.TheVariants.{OutOfMemory, Refused}
+use Rattle.cborn_judge.proofs.Loops.{zip_more}
+use Rattle.cborn_judge.proofs.Meaning.Judging.{meaning}
+use Rattle.cborn_judge.proofs.Meaning.Placing.{flaw_within}
+
+-- ---- what is within one more node
+
+pub after : (xs : List Tree) (x : Tree) (q : Tree) → WithinAll q (trees (xs ++ x ∷ [])) → WithinAll q (trees xs) ⊎ Within q x
+after [] x q (inl h) = inr h
+after [] x q (inr h) = absurd h
+after (y ∷ ys) x q (inl h) = inl (inl h)
+after (y ∷ ys) x q (inr h) = elim (after ys x q h) [ inl k ↦ inl (inr k) | inr k ↦ inr k ]
+
+pub before : (xs : List Tree) (x : Tree) (q : Tree) → WithinAll q (trees xs) → WithinAll q (trees (xs ++ x ∷ []))
+before [] x q h = absurd h
+before (y ∷ ys) x q (inl h) = inl h
+before (y ∷ ys) x q (inr h) = inr (before ys x q h)
+
+pub last : (xs : List Tree) (x : Tree) (q : Tree) → Within q x → WithinAll q (trees (xs ++ x ∷ []))
+last [] x q h = inl h
+last (y ∷ ys) x q h = inr (last ys x q h)
+
+-- ---- the flaws of a node, one level at a time
+
+-- ---- flaws, level by level
+
+pub flaw_items : (p : ℕ) (s : Size) (ts : Trees) (q : ℕ) (r : InvalidReason) → Flaw (Items p s ts) q r ↔ FlawIn ts q r
+flaw_items p s ts q r = ((λ f. to f.0 f.1 f.2), (λ f. (f.0, inr f.1, f.2)))
+  where
+    to : (u : Tree) → Within u (Items p s ts) → FlawAt u q r → FlawIn ts q r
+    to u (inl e) f = absurd (subst (λ z. FlawAt z q r) e f)
+    to u (inr i) f = (u, i, f)
+
+pub flaw_pairs : (p : ℕ) (s : Size) (es : Entries) (q : ℕ) (r : InvalidReason) → Flaw (Pairs p s es) q r ↔ (FlawAmong es q r ⊎ ((r ≡ DuplicateKey) × HasRepeat es q))
+flaw_pairs p s es q r = ((λ f. to f.0 f.1 f.2), from)
+  where
+    to : (u : Tree) → Within u (Pairs p s es) → FlawAt u q r → FlawAmong es q r ⊎ ((r ≡ DuplicateKey) × HasRepeat es q)
+    to u (inl e) f = inr (subst (λ z. FlawAt z q r) e f)
+    to u (inr i) f = inl (u, i, f)
+
+    from : FlawAmong es q r ⊎ ((r ≡ DuplicateKey) × HasRepeat es q) → Flaw (Pairs p s es) q r
+    from (inl f) = (f.0, inr f.1, f.2)
+    from (inr f) = (Pairs p s es, inl refl, f)
+
+pub flaw_tagged : (p : ℕ) (w : Width) (n : ℕ) (t : Tree) (q : ℕ) (r : InvalidReason) → Flaw (Tagged p w n t) q r ↔ (FlawAt (Tagged p w n t) q r ⊎ Flaw t q r)
+flaw_tagged p w n t q r = ((λ f. to f.0 f.1 f.2), from)
+  where
+    to : (u : Tree) → Within u (Tagged p w n t) → FlawAt u q r → FlawAt (Tagged p w n t) q r ⊎ Flaw t q r
+    to u (inl e) f = inl (subst (λ z. FlawAt z q r) e f)
+    to u (inr i) f = inr (u, i, f)
+
+    from : FlawAt (Tagged p w n t) q r ⊎ Flaw t q r → Flaw (Tagged p w n t) q r
+    from (inl f) = (Tagged p w n t, inl refl, f)
+    from (inr f) = (f.0, inr f.1, f.2)
+
+-- ---- what the nodes of a sequence mean, or the first flaw of the first that means nothing, as a loop over them meets them
+
+pub mean_more : (ts : List Tree) (vs : List Value) (t : Tree) (v : Value) → AllZip Means ts vs → Means t v → AllZip Means (ts ++ t ∷ []) (vs ++ v ∷ [])
+mean_more = zip_more Means
+
+refused_here : (ts : List Tree) (i : ℕ) (d : Tree) (vs : List Value) (f : Invalid) → i < length ts → AllZip Means (take i ts) vs → IsRefusal (get_or ts i d) f → IsRefusalOfAll ts f
+refused_here [] i d vs f l h r = absurd (omega arith)
+refused_here (t ∷ ts) zero d vs f l h r = inl r
+refused_here (t ∷ ts) (suc i) d [] f l h r = absurd h
+refused_here (t ∷ ts) (suc i) d (v ∷ vs) f l h r = inr ((v, h.0), refused_here ts i d vs f (omega arith) h.1 r)
+
+pub refused_at : (ts : List Tree) (i : ℕ) (t : Tree) (vs : List Value) (f : Invalid) → i < length ts → t ≡ get_or ts i t → AllZip Means (take i ts) vs → IsRefusal t f → IsRefusalOfAll ts f
+refused_at ts i t vs f l e h r = refused_here ts i t vs f l h (subst (λ z. IsRefusal z f) e r)
+
+pub refused_memory : (ts : List Tree) → IsRefusalOfAll ts OutOfMemory
+refused_memory [] = refl
+refused_memory (t ∷ ts) = inl tt
+
+-- an error that was passed on
+pub passed_on : {A E : Type 0} (r : Result A E) (P Q : E → Type 0) → ((e : E) → P e → Q e) → IsErr r × IsErrAnd r P → IfErr r Q
+passed_on (Ok x) P Q f h = tt
+passed_on (Err e) P Q f h = f e h.1
+
+-- ---- nodes that lie one after another
+
+-- their flaws are not before them
+flaw_from : (ts : List Tree) (a : ℕ) (q : Tree) (p : ℕ) (r : InvalidReason) → PlacedAll a (trees ts) → WithinAll q (trees ts) → FlawAt q p r → a ≤ p
+flaw_from [] a q p r h w f = absurd w
+flaw_from (t ∷ ts) a q p r h (inl w) f = (flaw_within t a p r h.0 (q, w, f)).0
+flaw_from (t ∷ ts) a q p r h (inr w) f = omega (arith, flaw_from ts (a + length (spelled t)) q p r h.1 w f)
+
+no_sooner : (p q m n : ℕ) → q < p → NoLater (p, m) (q, n) → ⊥
+no_sooner p q m n l (inl h) = omega (arith, l, h)
+no_sooner p q m n l (inr h) = omega (arith, l, h.0)
+
+-- each flaw of a node is before those of the nodes after it
+abbrev pub AreApart : List Tree → Type 0
+AreApart [] = Unit {0}
+AreApart (t ∷ ts) = ((p q : ℕ) (r s : InvalidReason) → Flaw t p r → FlawIn (trees ts) q s → p < q) × AreApart ts
+
+pub placed_apart : (ts : List Tree) (a : ℕ) → PlacedAll a (trees ts) → AreApart ts
+placed_apart [] a h = tt
+placed_apart (t ∷ ts) a h = (λ p q r s f g. omega (arith, (flaw_within t a p r h.0 f).1, flaw_from ts (a + length (spelled t)) g.0 q s h.1 g.1 g.2), placed_apart ts (a + length (spelled t)) h.1)
+
+-- the first flaw of all is that of the first node that means nothing
+pub first_refusal : (ts : List Tree) (p : ℕ) (r : InvalidReason) → AreApart ts → IsFirst flaw_rank (FlawIn (trees ts)) p r → IsRefusalOfAll ts (Refused p r)
+first_refusal [] p r h f = absurd f.is.1
+first_refusal (t ∷ ts) p r h f = by f.is.0 f.is.1 f.is.2 (first_refusal ts p r h.1)
+  where
+    by : (q : Tree) → WithinAll q (trees (t ∷ ts)) → FlawAt q p r → (IsFirst flaw_rank (FlawIn (trees ts)) p r → IsRefusalOfAll ts (Refused p r)) → IsRefusalOfAll (t ∷ ts) (Refused p r)
+    by q (inl w) g rest = inl (record { is = (q, w, g); first = λ s i k. f.first s i (k.0, inl k.1, k.2) })
+    by q (inr w) g rest =
+        let sound : (s : ℕ) (i : InvalidReason) → Flaw t s i → ⊥ = λ s i k. no_sooner p s (flaw_rank r) (flaw_rank i) (h.0 s p i r k (q, w, g)) (f.first s i (k.0, inl k.1, k.2)) in
+        inr (meaning t sound, rest (record { is = (q, w, g); first = λ s i k. f.first s i (k.0, inr k.1, k.2) }))

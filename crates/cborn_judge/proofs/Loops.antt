@@ -1,2 +1,22 @@
--- What a loop over a list has passed.
-pub mod Passing
+-- What a loop over a list has passed, with the next element.
+use Rattle.std.specs.Prelude.{◌≡◌, ◌+◌, ◌<◌, ◌∷◌, ◌++◌}
+use Rattle.cborn_judge.proofs.Common.{ℕ, List, [], length, get_or, take, sym, ap, ◌∙◌, subst, AllZip, take_more}
+
+pub passed_one : {A : Type 0} (xs : List A) (i : ℕ) (x : A) → i < length xs → x ≡ get_or xs i x → take (i + 1) xs ≡ take i xs ++ x ∷ []
+passed_one {A} xs i x l e = take_more xs i x l ∙ ap (λ (z : A). take i xs ++ z ∷ []) (sym e)
+
+-- ---- with another list that the loop builds
+
+module _ {A B : Type 0} (R : A → B → Type 0) where
+  pub zip_append : (xs : List A) (ys : List B) (us : List A) (vs : List B) → AllZip R xs ys → AllZip R us vs → AllZip R (xs ++ us) (ys ++ vs)
+  zip_append [] [] us vs h k = k
+  zip_append [] (b ∷ ys) us vs h k = absurd h
+  zip_append (a ∷ xs) [] us vs h k = absurd h
+  zip_append (a ∷ xs) (b ∷ ys) us vs h k = (h.0, zip_append xs ys us vs h.1 k)
+
+  pub zip_more : (xs : List A) (ys : List B) (x : A) (y : B) → AllZip R xs ys → R x y → AllZip R (xs ++ x ∷ []) (ys ++ y ∷ [])
+  zip_more xs ys x y h r = zip_append xs ys (x ∷ []) (y ∷ []) h (r, tt)
+
+  pub zip-take_more : (xs : List A) (i : ℕ) (x : A) (ys zs : List B) (y : B) → i < length xs → x ≡ get_or xs i x → AllZip R (take i xs) ys → R x y → zs ≡ ys ++ y ∷ [] → AllZip R (take (i + 1) xs) zs
+  zip-take_more xs i x ys zs y l e h r z =
+      subst (λ t. AllZip R t zs) (sym (passed_one xs i x l e)) (subst (AllZip R (take i xs ++ x ∷ [])) (sym z) (zip_more (take i xs) ys x y h r))

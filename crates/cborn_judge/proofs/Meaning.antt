@@ -2,4 +2,3 @@
 pub mod Meanings
 pub mod Judging
 pub mod Placing
-pub mod Building

@@ -1,5 +1,6 @@
 -- No two reasons have one number.
-use Rattle.cborn_judge.proofs.Common.{◌≡◌, refl, arith, flaw_rank, defect_rank, InvalidReason, NotUtf8, BadBignum, DuplicateKey, DefectReason, LongHead, EndlessLength, LooseBignum, KeyOrder}
+use Rattle.std.specs.Prelude.{◌≡◌}
+use Rattle.cborn_judge.proofs.Common.{refl, arith, flaw_rank, defect_rank, InvalidReason, NotUtf8, BadBignum, DuplicateKey, DefectReason, LongHead, EndlessLength, LooseBignum, KeyOrder}
 
 pub flaw_rank_once : (r s : InvalidReason) → flaw_rank r ≡ flaw_rank s → r ≡ s
 flaw_rank_once NotUtf8 NotUtf8 e = refl

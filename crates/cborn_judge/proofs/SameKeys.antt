@@ -1,2 +1,202 @@
--- Once the keys of a map are sorted, those that are repeated lie next to one another.
-pub mod Repeating
+-- After a sort the repeated keys are those that tie with their neighbour.
+use Rattle.std.specs.Prelude.{◌≡◌, ◌≢◌, ◌<◌, ◌≤◌, ◌⊎◌, ◌∷◌, ◌↔◌, ◌&&◌}
+use Rattle.cborn_judge.proofs.Common.{ℕ, suc, inl, inr, List, [], refl, sym, ap, ◌∙◌, subst, arith, true, false, Bool, true≢false, add-one, IsPermutation, Ordering, Less, Equal, Greater, is_lt, eqb, ⊤, nat_cmp, ordering_then, ordering_reverse, AllByRecursion, IsSortedBy, IsPermutation-sym, eqb-true, eq-eqb, cases_eq, IsRepeated, IsOneOf, IsAgain, IsTied, Value, IsKeyOrder, Tree, Entries, no_entry, entry, Means, All_moved, weaker, at_member}
+use Rattle.std.specs.List.{IsDistinct}
+use Rattle.std.proofs.lemmas.Map.Keys.{IsDistinct-IsPermutation, ge_from_not_lt}
+
+module _ {X : Type 0} (order : List ℕ → List ℕ → Ordering) (bytes : X → List ℕ) (position : X → ℕ) where
+  -- by the encoding, and at equal encodings by the position
+  abbrev pub key_order : X → X → Ordering
+  key_order x y = ordering_then (order (bytes x) (bytes y)) (nat_cmp (position x) (position y))
+
+-- what means nothing is the same as no key
+pub nothing_repeated : (k : Tree) (es : Entries) (p : ℕ) → ((a : Value) → Means k a → ⊥) → IsRepeated k es p → ⊥
+nothing_repeated k no_entry p h r = r
+nothing_repeated k (entry l v es) p h (inl r) = h r.1.0 r.1.2
+nothing_repeated k (entry l v es) p h (inr r) = nothing_repeated k es p h r
+
+-- of two that have the same bytes one comes after the other
+pub either_again : {X : Type 0} (bytes : X → List ℕ) (xs : List X) (w z : X) → IsOneOf w xs → IsOneOf z xs → bytes w ≡ bytes z → (w ≡ z → ⊥) → IsAgain bytes xs z ⊎ IsAgain bytes xs w
+either_again bytes [] w z i j e n = absurd i
+either_again bytes (x ∷ xs) w z (inl i) (inl j) e n = absurd (n (i ∙ sym j))
+either_again bytes (x ∷ xs) w z (inl i) (inr j) e n = inl (inl (j, ap bytes (sym i) ∙ e))
+either_again bytes (x ∷ xs) w z (inr i) (inl j) e n = inr (inl (i, ap bytes (sym j) ∙ sym e))
+either_again bytes (x ∷ xs) w z (inr i) (inr j) e n = elim (either_again bytes xs w z i j e n) [ inl a ↦ inl (inr a) | inr a ↦ inr (inr a) ]
+
+-- ---- after a sort
+
+-- Of the keys only those count whose encodings pass the test.
+module _ {X : Type 0} (counts : List ℕ → Bool) (bytes : X → List ℕ) (position : X → ℕ) where
+  -- each that counts is at a lower position than those after it
+  abbrev pub LieBefore : List X → Type 0
+  LieBefore [] = ⊤
+  LieBefore (x ∷ xs) = ((z : X) → IsOneOf z xs → counts (bytes x) ≡ true → position x < position z) × LieBefore xs
+
+module _ {X : Type 0} (order : List ℕ → List ℕ → Ordering) (laws : IsKeyOrder order) (counts : List ℕ → Bool) (bytes : X → List ℕ) (position : X → ℕ) where
+  -- z has the bytes of one at a lower position
+  abbrev HasEarlier : List X → X → Type 0
+  HasEarlier xs z = (w : X) × IsOneOf w xs × IsOneOf z xs × (bytes w ≡ bytes z) × (position w < position z)
+
+  pub again_earlier : (xs : List X) (z : X) → counts (bytes z) ≡ true → LieBefore counts bytes position xs → IsAgain bytes xs z → HasEarlier xs z
+  again_earlier [] z s h r = absurd r
+  again_earlier (x ∷ xs) z s h (inl r) = (x, inl refl, inr r.0, r.1, h.0 z r.0 (ap counts r.1 ∙ s))
+  again_earlier (x ∷ xs) z s h (inr r) = let u = again_earlier xs z s h.1 r in (u.0, inr u.1, inr u.2, u.3, u.4)
+
+  earlier_again : (xs : List X) (w z : X) → counts (bytes z) ≡ true → LieBefore counts bytes position xs → IsOneOf w xs → IsOneOf z xs → bytes w ≡ bytes z → position w < position z → IsAgain bytes xs z
+  earlier_again [] w z s h i j e l = absurd i
+  earlier_again (x ∷ xs) w z s h (inl i) (inl j) e l = let f : position w ≡ position z = ap position (i ∙ sym j) in absurd (omega arith)
+  earlier_again (x ∷ xs) w z s h (inl i) (inr j) e l = inl (j, ap bytes (sym i) ∙ e)
+  earlier_again (x ∷ xs) w z s h (inr i) (inl j) e l =
+      let k = h.0 w i (ap (λ y. counts (bytes y)) (sym j) ∙ s) in
+      let f : position z ≡ position x = ap position j in absurd (omega arith)
+  earlier_again (x ∷ xs) w z s h (inr i) (inr j) e l = inr (earlier_again xs w z s h.1 i j e l)
+
+  -- x comes before y in the order, strictly if it counts
+  abbrev Comes : X → X → Type 0
+  Comes x y = (order (bytes x) (bytes y) ≡ Less) ⊎ ((bytes x ≡ bytes y) × (counts (bytes x) ≡ true → position x < position y))
+
+  abbrev pub InOrder : List X → Type 0
+  InOrder (x ∷ y ∷ ys) = Comes x y × InOrder (y ∷ ys)
+  InOrder _ = ⊤
+
+  not_less_itself : (a b : List ℕ) → a ≡ b → order a b ≡ Less → ⊥
+  not_less_itself a b e l = let f : order a a ≡ Equal = laws.itself a in let g : order a a ≡ Less = subst (λ c. order a c ≡ Less) (sym e) l in cc
+
+  less_turned : (a b : List ℕ) → order a b ≡ Less → order b a ≡ Less → ⊥
+  less_turned a b l m = let f : order b a ≡ Greater = laws.turned a b ∙ ap ordering_reverse l in cc
+
+  comes_on : (x y z : X) → Comes x y → Comes y z → Comes x z
+  comes_on x y z (inl h) (inl k) = inl (laws.along (bytes x) (bytes y) (bytes z) h k)
+  comes_on x y z (inl h) (inr k) = inl (subst (λ c. order (bytes x) c ≡ Less) k.0 h)
+  comes_on x y z (inr h) (inl k) = inl (subst (λ c. order c (bytes z) ≡ Less) (sym h.0) k)
+  comes_on x y z (inr h) (inr k) = inr (h.0 ∙ k.0, (λ s. let f = h.1 s in let g = k.1 (ap counts (sym h.0) ∙ s) in omega arith))
+
+  first_comes : (x : X) (xs : List X) (z : X) → InOrder (x ∷ xs) → IsOneOf z xs → Comes x z
+  first_comes x [] z o i = absurd i
+  first_comes x (y ∷ ys) z o (inl e) = subst (Comes x) (sym e) o.0
+  first_comes x (y ∷ ys) z o (inr i) = comes_on x y z o.0 (first_comes y ys z o.1 i)
+
+  -- between two with equal bytes stand none with others
+  between : (x y z : X) → counts (bytes z) ≡ true → Comes x y → Comes y z → bytes x ≡ bytes z → (bytes x ≡ bytes y) × (position y < position z)
+  between x y z s (inl h) (inl k) e = absurd (less_turned (bytes x) (bytes y) h (subst (λ c. order (bytes y) c ≡ Less) (sym e) k))
+  between x y z s (inl h) (inr k) e = absurd (not_less_itself (bytes x) (bytes y) (e ∙ sym k.0) h)
+  between x y z s (inr h) (inl k) e = absurd (not_less_itself (bytes y) (bytes z) (sym h.0 ∙ e) k)
+  between x y z s (inr h) (inr k) e = (h.0, k.1 (ap counts k.0 ∙ s))
+
+  tied_earlier : (xs : List X) (z : X) → counts (bytes z) ≡ true → InOrder xs → IsTied bytes xs z → HasEarlier xs z
+  tied_earlier (x ∷ y ∷ ys) z s o (inl t) =
+      elim o.0 [
+        | inl l ↦ absurd (not_less_itself (bytes x) (bytes y) t.1 l)
+        | inr l ↦
+            let f : position y ≡ position z = ap position t.0 in
+            let k = l.1 (ap counts (t.1 ∙ ap bytes t.0) ∙ s) in
+            (x, inl refl, inr (inl (sym t.0)), t.1 ∙ ap bytes t.0, (omega arith))
+      ]
+  tied_earlier (x ∷ y ∷ ys) z s o (inr t) = let u = tied_earlier (y ∷ ys) z s o.1 t in (u.0, inr u.1, inr u.2, u.3, u.4)
+  tied_earlier _ z s o t = absurd t
+
+  earlier_tied : (xs : List X) (w z : X) → counts (bytes z) ≡ true → InOrder xs → IsOneOf w xs → IsOneOf z xs → bytes w ≡ bytes z → position w < position z → IsTied bytes xs z
+  earlier_tied [] w z s o i j e l = absurd i
+  earlier_tied (x ∷ xs) w z s o (inl i) (inl j) e l = let f : position w ≡ position z = ap position (i ∙ sym j) in absurd (omega arith)
+  earlier_tied (x ∷ []) w z s o (inl i) (inr j) e l = absurd j
+  earlier_tied (x ∷ []) w z s o (inr i) j e l = absurd i
+  earlier_tied (x ∷ y ∷ ys) w z s o (inl i) (inr (inl j)) e l = inl (sym j, ap bytes (sym i) ∙ e ∙ ap bytes j)
+  earlier_tied (x ∷ y ∷ ys) w z s o (inl i) (inr (inr j)) e l =
+      let b = between x y z s o.0 (first_comes y ys z o.1 j) (ap bytes (sym i) ∙ e) in
+      inr (earlier_tied (y ∷ ys) y z s o.1 (inl refl) (inr j) (sym b.0 ∙ ap bytes (sym i) ∙ e) b.1)
+  earlier_tied (x ∷ y ∷ ys) w z s o (inr i) (inl j) e l =
+      elim (first_comes x (y ∷ ys) w o i) [
+        | inl k ↦ absurd (not_less_itself (bytes x) (bytes w) (ap bytes (sym j) ∙ sym e) k)
+        | inr k ↦
+            let f : position z ≡ position x = ap position j in
+            let m = k.1 (ap (λ v. counts (bytes v)) (sym j) ∙ s) in absurd (omega arith)
+      ]
+  earlier_tied (x ∷ y ∷ ys) w z s o (inr i) (inr j) e l = inr (earlier_tied (y ∷ ys) w z s o.1 i j e l)
+
+  pub one_of_moved : (xs ys : List X) (z : X) → IsPermutation xs ys → IsOneOf z xs → IsOneOf z ys
+  one_of_moved xs ys z p i = at_member (λ x. IsOneOf x ys) z xs i (All_moved (λ x. IsOneOf x ys) ys xs (IsPermutation-sym xs ys p) (all_in ys))
+    where
+      all_in : (l : List X) → AllByRecursion (λ x. IsOneOf x l) l
+      all_in [] = tt
+      all_in (x ∷ xs) = (inl refl, weaker (λ z. IsOneOf z xs) (λ z. IsOneOf z (x ∷ xs)) (λ z h. inr h) xs (all_in xs))
+
+  -- of keys in the order of their positions, the repeats are those that tie once the keys are sorted
+  pub again_tied : (xs ys : List X) (z : X) → counts (bytes z) ≡ true → LieBefore counts bytes position xs → IsPermutation xs ys → InOrder ys → IsAgain bytes xs z ↔ IsTied bytes ys z
+  again_tied xs ys z s h p o = (
+    (λ r. let u = again_earlier xs z s h r in earlier_tied ys u.0 z s o (one_of_moved xs ys u.0 p u.1) (one_of_moved xs ys z p u.2) u.3 u.4),
+    (λ t. let u = tied_earlier ys z s o t in
+        let q = IsPermutation-sym xs ys p in
+        earlier_again xs u.0 z s h (one_of_moved ys xs u.0 q u.1) (one_of_moved ys xs z q u.2) u.3 u.4),
+  )
+
+  -- both count, and are at one position
+  abbrev AtOnePlace : X → X → Bool
+  AtOnePlace x y = counts (bytes x) && (counts (bytes y) && eqb (position x) (position y))
+
+  at_one_turned : (x y : X) → AtOnePlace x y ≡ AtOnePlace y x
+  at_one_turned x y = swapped (counts (bytes x)) (counts (bytes y)) (eqb (position x) (position y)) ∙ ap (λ b. counts (bytes y) && (counts (bytes x) && b)) (by (position x) (position y) (cases_eq (position x) (position y)))
+    where
+      swapped : (a b c : Bool) → a && (b && c) ≡ b && (a && c)
+      swapped true true c = refl
+      swapped true false c = refl
+      swapped false true c = refl
+      swapped false false c = refl
+
+      by : (m n : ℕ) → (m ≡ n) ⊎ (m ≡ n → ⊥) → eqb m n ≡ eqb n m
+      by m n (inl e) = eq-eqb m n e ∙ sym (eq-eqb n m (sym e))
+      by m n (inr e) = not_eq m n e ∙ sym (not_eq n m (λ f. e (sym f)))
+        where
+          not_eq : (m n : ℕ) → (m ≡ n → ⊥) → eqb m n ≡ false
+          not_eq m n e = go (eqb m n) refl
+            where
+              go : (b : Bool) → eqb m n ≡ b → eqb m n ≡ false
+              go true f = absurd (e (eqb-true m n f))
+              go false f = f
+
+  positions_apart : (xs : List X) → LieBefore counts bytes position xs → IsDistinct AtOnePlace xs
+  unfolding IsDistinct
+  positions_apart [] h = tt
+  positions_apart (x ∷ xs) h = (apart_from x xs h.0, positions_apart xs h.1)
+    where
+      apart : (x z : X) → (counts (bytes x) ≡ true → position x < position z) → AtOnePlace x z ≡ false
+      apart x z l = go (counts (bytes x)) (counts (bytes z)) (eqb (position x) (position z)) refl refl
+        where
+          go : (a b c : Bool) → counts (bytes x) ≡ a → eqb (position x) (position z) ≡ c → a && (b && c) ≡ false
+          go false b c e f = refl
+          go true false c e f = refl
+          go true true false e f = refl
+          go true true true e f = absurd (let m = eqb-true (position x) (position z) f in let k = l e in omega arith)
+
+      apart_from : (x : X) (xs : List X) → ((z : X) → IsOneOf z xs → counts (bytes x) ≡ true → position x < position z) → AllByRecursion (λ z. AtOnePlace x z ≡ false) xs
+      apart_from x [] h = tt
+      apart_from x (y ∷ ys) h = (apart x y (h y (inl refl)), apart_from x ys (λ z i. h z (inr i)))
+
+  comes_from : (x y : X) → is_lt (key_order order bytes position y x) ≡ false → AtOnePlace x y ≡ false → Comes x y
+  comes_from x y h k = by (order (bytes y) (bytes x)) refl h
+    where
+      by : (o : Ordering) → order (bytes y) (bytes x) ≡ o → is_lt (ordering_then o (nat_cmp (position y) (position x))) ≡ false → Comes x y
+      by Less q l = absurd (true≢false l)
+      by Equal q l =
+          let same : bytes x ≡ bytes y = sym (laws.exact (bytes y) (bytes x) q) in
+          let at_least : position x ≤ position y = ge_from_not_lt (position y) (position x) l in
+          inr (
+            same,
+            (λ s. elim (cases_eq (position x) (position y)) [
+              | inl e ↦ absurd (true≢false (sym ((λ i. s i && (((ap counts (sym same) ∙ s) i) && eq-eqb (position x) (position y) e i))) ∙ k))
+              | inr e ↦ let ne : position x ≢ position y = e in omega arith
+            ]),
+          )
+      by Greater q l = inl (laws.turned (bytes y) (bytes x) ∙ ap ordering_reverse q)
+
+  in_order_sorted : (ys : List X) → IsSortedBy (λ x y. is_lt (key_order order bytes position x y)) ys → IsDistinct AtOnePlace ys → InOrder ys
+  unfolding IsDistinct
+  in_order_sorted [] s d = tt
+  in_order_sorted (x ∷ []) s d = tt
+  in_order_sorted (x ∷ y ∷ ys) s d = (
+    comes_from x y (s 0 x (omega arith) (omega arith)) d.0.0,
+    in_order_sorted (y ∷ ys) (λ k e low l. rw add-one (rw add-one at (s (suc k) e (omega arith) (omega arith)))) d.1,
+  )
+
+  -- keys in the order of their positions, once sorted
+  pub sorted_in_order : (xs ys : List X) → LieBefore counts bytes position xs → IsPermutation xs ys → IsSortedBy (λ x y. is_lt (key_order order bytes position x y)) ys → InOrder ys
+  sorted_in_order xs ys h p s = in_order_sorted ys s (IsDistinct-IsPermutation AtOnePlace at_one_turned xs ys p (positions_apart xs h))

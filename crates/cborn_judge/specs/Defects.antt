@@ -1,23 +1,9 @@
 -- Where the spelling of an item departs from its deterministic encoding (RFC 8949 section 4.2). The encoding of the whole is not mentioned.
-use Rattle.std.specs.Prelude.{◌≡◌, ◌≢◌, ℕ, ◌≤◌, ◌⊎◌, List, [], ◌∷◌, length, Option, None, Some, ⊤}
-use Rattle.std.specs.declared.cmp.Ordering.{Ordering}
-use Rattle.std.specs.declared.cmp.Ordering.TheVariants.{Less}
+use Rattle.std.specs.Prelude.{◌≡◌, ◌≢◌, ◌≤◌, ◌⊎◌, ◌∷◌}
+use Rattle.cborn_judge.specs.Common.{ℕ, List, [], length, Option, None, Some, ⊤, Ordering, Less, Value, Values, Width, least, Det, Chunk, Size, Fixed, Endless, Tree, Uint, Nint, Bytes, Text, ByteChunks, TextChunks, Items, Pairs, Tagged, Simple, Trees, Entries, no_entry, entry, count, count_entries, place, IsByteString, Means, AllMean, IsFirst, spelled, DefectReason, LongHead, EndlessLength, LooseBignum, KeyOrder}
 use Rattle.cborn_judge.specs.Flaws.{Within, WithinAll}
-use Rattle.cborn_model.specs.Value.{Value, Values}
-use Rattle.cborn_model.specs.declared.heads.Width.{Width}
-use Rattle.cborn_model.specs.Heads.{least}
-use Rattle.cborn_det.specs.Det.{Det}
-use Rattle.cborn_model.specs.declared.nodes.Chunk.{Chunk}
-use Rattle.cborn_model.specs.declared.heads.Size.{Size}
-use Rattle.cborn_model.specs.declared.heads.Size.TheVariants.{Fixed, Endless}
-use Rattle.cborn_model.specs.Tree.{Tree, Uint, Nint, Bytes, Text, ByteChunks, TextChunks, Items, Pairs, Tagged, Simple, Trees, Entries, no_entry, entry, count, count_entries, place}
-use Rattle.cborn_model.specs.Meaning.{IsByteString, Means, AllMean}
-use Rattle.cborn_model.specs.First.{IsFirst}
 use Rattle.cborn_judge.specs.Reasons.{defect_rank}
-use Rattle.cborn_model.specs.Spelled.{spelled}
 use Rattle.cborn_judge.specs.declared.defects.Defect as defect
-use Rattle.cborn_judge.specs.declared.defects.DefectReason.{DefectReason}
-use Rattle.cborn_judge.specs.declared.defects.DefectReason.TheVariants.{LongHead, EndlessLength, LooseBignum, KeyOrder}
 
 -- an argument's head that is not the shortest
 abbrev pub IsLong : Width → ℕ → Type 0

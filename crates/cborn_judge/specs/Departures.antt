@@ -1,14 +1,9 @@
 -- The departure of one head, of one bignum and of one key from the deterministic encoding (RFC 8949 section 4.2), and the first of some.
-use Rattle.std.specs.Prelude.{◌≡◌, ◌≢◌, ℕ, List, Option}
-use Rattle.std.specs.declared.cmp.Ordering.{Ordering}
-use Rattle.std.specs.declared.cmp.Ordering.TheVariants.{Less}
-use Rattle.cborn_model.specs.declared.heads.Width.{Width}
+use Rattle.std.specs.Prelude.{◌≡◌, ◌≢◌}
+use Rattle.cborn_judge.specs.Common.{ℕ, List, Option, Ordering, Less, Width, Finds, DefectReason, LongHead, LooseBignum, KeyOrder}
 use Rattle.cborn_judge.specs.Defects.{IsLong, IsLoose}
 use Rattle.cborn_judge.specs.Reasons.{defect_rank}
-use Rattle.cborn_model.specs.Earliest.{Finds}
 use Rattle.cborn_judge.specs.declared.defects.Defect as defect
-use Rattle.cborn_judge.specs.declared.defects.DefectReason.{DefectReason}
-use Rattle.cborn_judge.specs.declared.defects.DefectReason.TheVariants.{LongHead, LooseBignum, KeyOrder}
 
 abbrev pub FindsDefect : (ℕ → DefectReason → Type 0) → Option defect.Defect → Type 0
 FindsDefect = Finds defect_rank (λ d. d.place) (λ d. d.reason)

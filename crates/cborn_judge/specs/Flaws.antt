@@ -1,15 +1,7 @@
 -- Why a node means nothing, and where (RFC 8949 sections 3.1, 3.4.3 and 5.6).
-use Rattle.std.specs.Prelude.{◌≡◌, ◌<◌, ◌^◌, ℕ, ◌⊎◌, List, [], ◌∷◌, IsUtf8, ⊤}
-use Rattle.cborn_model.specs.Value.{Value, Same}
-use Rattle.cborn_model.specs.declared.nodes.Chunk.{Chunk}
-use Rattle.cborn_model.specs.Tree.{Tree, Uint, Nint, Text, TextChunks, Items, Pairs, Tagged, Trees, no_item, more, Entries, no_entry, entry, place}
-use Rattle.cborn_model.specs.First.{IsFirst}
+use Rattle.std.specs.Prelude.{◌≡◌, ◌<◌, ◌^◌, ◌⊎◌, ◌∷◌}
+use Rattle.cborn_judge.specs.Common.{ℕ, List, [], IsUtf8, ⊤, Value, Same, Chunk, Tree, Uint, Nint, Text, TextChunks, Items, Pairs, Tagged, Trees, no_item, more, Entries, no_entry, entry, place, IsFirst, InvalidReason, NotUtf8, BadBignum, DuplicateKey, Invalid, Refused, OutOfMemory, IsByteString, Means}
 use Rattle.cborn_judge.specs.Reasons.{flaw_rank}
-use Rattle.cborn_judge.specs.declared.faults.InvalidReason.{InvalidReason}
-use Rattle.cborn_judge.specs.declared.faults.InvalidReason.TheVariants.{NotUtf8, BadBignum, DuplicateKey}
-use Rattle.cborn_judge.specs.declared.faults.Invalid.{Invalid}
-use Rattle.cborn_judge.specs.declared.faults.Invalid.TheVariants.{Refused, OutOfMemory}
-use Rattle.cborn_model.specs.Meaning.{IsByteString, Means}
 
 -- q is this node, or inside it
 abbrev mutual

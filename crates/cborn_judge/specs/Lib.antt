@@ -1,3 +1,4 @@
+pub mod Common
 pub mod Reasons
 pub mod Flaws
 pub mod Defects

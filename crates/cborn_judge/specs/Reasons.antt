@@ -1,9 +1,5 @@
 -- The numbers of the reasons of flaws and of defects.
-use Rattle.std.specs.Prelude.{ℕ}
-use Rattle.cborn_judge.specs.declared.faults.InvalidReason.{InvalidReason}
-use Rattle.cborn_judge.specs.declared.faults.InvalidReason.TheVariants.{NotUtf8, BadBignum, DuplicateKey}
-use Rattle.cborn_judge.specs.declared.defects.DefectReason.{DefectReason}
-use Rattle.cborn_judge.specs.declared.defects.DefectReason.TheVariants.{LongHead, EndlessLength, LooseBignum, KeyOrder}
+use Rattle.cborn_judge.specs.Common.{ℕ, InvalidReason, NotUtf8, BadBignum, DuplicateKey, DefectReason, LongHead, EndlessLength, LooseBignum, KeyOrder}
 
 abbrev pub flaw_rank : InvalidReason → ℕ
 flaw_rank NotUtf8 = 1

@@ -1,9 +1,6 @@
 //! What integers and bignums mean (RFC 8949 sections 3.1 and 3.4.3).
 
-ghost use Rattle.std.specs.Prelude.{IfOk};
-ghost use Rattle.cborn_model.specs.Bytes.{big_endian};
-ghost use Rattle.cborn_model.specs.ItemView.{item_value};
-ghost use Rattle.cborn_model.specs.Meaning.{IsNumber};
+ghost use Rattle.cborn_judge.specs.Common.{IfOk, big_endian, item_value, IsNumber};
 ghost use Rattle.cborn_judge.specs.devices.Building.{IsBignumItem};
 
 use crate::strings::join;

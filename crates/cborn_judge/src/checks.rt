@@ -1,6 +1,7 @@
 //! The check whether a node spells the deterministic encoding of what it means.
 
-ghost use Rattle.std.specs.Prelude.{◌≡◌, ◌↔◌, IfOk, IfErr, None};
+ghost use Rattle.std.specs.Prelude.{◌≡◌, ◌↔◌};
+ghost use Rattle.cborn_judge.specs.Common.{IfOk, IfErr, None};
 ghost use Rattle.cborn_judge.specs.Defects.{IsCheck, IsDeterministic};
 ghost use Rattle.cborn_judge.specs.Flaws.{IsRefusal};
 
@@ -16,6 +17,7 @@ use std::alloc::Global;
 ///
 /// # Errors
 /// `Refused`, with the node's first flaw, if it means no item. `OutOfMemory` if memory is refused.
+#[tactic(auto, using(crate::proofs::FirstDefect::concluded))]
 pub fn first_defect<O: KeyOrder>(
     alloc: Global,
     spelled: &Spelled,

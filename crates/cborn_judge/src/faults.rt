@@ -1,8 +1,8 @@
 //! Flaws: why a node means no item (RFC 8949 sections 3.1, 3.4.3 and 5.6).
 
 ghost use Rattle.std.specs.Prelude.{◌≡◌};
+ghost use Rattle.cborn_judge.specs.Common.{OutOfMemory};
 ghost use Rattle.cborn_judge.specs.Reasons.{flaw_rank};
-ghost use Rattle.cborn_judge.specs.declared.faults.Invalid.TheVariants.{OutOfMemory};
 
 use std::alloc::{AllocError, AllocFailed};
 use thiserror::Error;

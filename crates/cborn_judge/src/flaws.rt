@@ -1,9 +1,8 @@
 //! The flaw of a node, and what is kept of the faults that are found.
 
-ghost use Rattle.std.specs.Prelude.{◌≡◌, false, Some};
+ghost use Rattle.std.specs.Prelude.{◌≡◌};
+ghost use Rattle.cborn_judge.specs.Common.{false, Some, IsEarliest, NotUtf8};
 ghost use Rattle.cborn_judge.specs.Reasons.{flaw_rank};
-ghost use Rattle.cborn_model.specs.Earliest.{IsEarliest};
-ghost use Rattle.cborn_judge.specs.declared.faults.InvalidReason.TheVariants.{NotUtf8};
 ghost use Rattle.cborn_judge.specs.shared.Judged.{FindsFlaw};
 
 use crate::faults::InvalidReason;

@@ -1,13 +1,8 @@
 //! What nodes mean (RFC 8949 section 5.3), or their first flaw.
 
-ghost use Rattle.std.specs.Prelude.{◌≡◌, ◌++◌, ◌∷◌, [], ℕ, IfOk, IfErr, OnOk};
-ghost use Rattle.std.specs.List.{AllZip};
-ghost use Rattle.cborn_model.specs.declared.heads.Width.{Width};
-ghost use Rattle.cborn_model.specs.declared.heads.Size.{Size};
-ghost use Rattle.cborn_model.specs.Meaning.{Means};
-ghost use Rattle.cborn_model.specs.Spelled.{Fits};
+ghost use Rattle.std.specs.Prelude.{◌≡◌, ◌++◌, ◌∷◌};
+ghost use Rattle.cborn_judge.specs.Common.{[], ℕ, IfOk, IfErr, OnOk, AllZip, Width, Size, Means, Fits, trees, entries};
 ghost use Rattle.cborn_model.specs.Tree as tree;
-ghost use Rattle.cborn_model.specs.Tree.{trees, entries};
 ghost use Rattle.cborn_judge.specs.Departures.{FindsDefect};
 ghost use Rattle.cborn_judge.specs.Flaws.{IsRefusal, IsRefusalOfAll};
 ghost use Rattle.cborn_judge.specs.shared.Checked.{DefectIn};
@@ -28,6 +23,7 @@ use std::alloc::{AllocError, Global};
 /// # Errors
 /// `Refused` if it means none, with its first flaw: that at the lowest offset, and there that with
 /// the lowest number. `OutOfMemory` if memory is refused.
+#[tactic(auto, using(crate::proofs::Meaning::Meanings::meaning_shallow))]
 pub fn judge(alloc: Global, spelled: &Spelled) -> Result<Valid, Invalid>
     ensures meant { IfOk result (λ valid. Means spelled.now valid) }
     ensures refused { IfErr result (IsRefusal spelled.now) }
@@ -42,6 +38,7 @@ pub fn judge(alloc: Global, spelled: &Spelled) -> Result<Valid, Invalid>
 /// # Errors
 /// `Refused` if a node means none, with the first flaw of the first such node. `OutOfMemory` if
 /// memory is refused.
+#[tactic(auto, using(crate::proofs::FirstFlaw::refused_at, crate::proofs::FirstFlaw::passed_on, crate::proofs::FirstFlaw::refused_memory))]
 pub fn judge_all(alloc: Global, spelled: &[Spelled]) -> Result<Vec<Valid>, Invalid>
     ensures meant { IfOk result (λ items. AllZip Means spelled.now items.items) }
     ensures refused { IfErr result (IsRefusalOfAll spelled.now) }

@@ -1,13 +1,8 @@
 //! Laws of what nodes mean, and of defects: the contract of each function is a theorem.
 
-ghost use Rattle.std.specs.Prelude.{◌≡◌, ◌<◌, ◌≤◌, ◌+◌, ◌^◌, ◌↔◌, ℕ, length};
-ghost use Rattle.cborn_model.specs.Meaning.{Means, AllMean};
+ghost use Rattle.std.specs.Prelude.{◌≡◌, ◌<◌, ◌≤◌, ◌+◌, ◌^◌, ◌↔◌};
+ghost use Rattle.cborn_judge.specs.Common.{ℕ, length, Means, AllMean, spelled, spelled_all, Fits, FitsAll, Tree, Trees, depth, IsProper, AreProper, value_depth, Value, Values, Det, DetValues};
 ghost use Rattle.cborn_model.specs.Placed.{Placed};
-ghost use Rattle.cborn_model.specs.Spelled.{spelled, spelled_all, Fits, FitsAll};
-ghost use Rattle.cborn_model.specs.Tree.{Tree, Trees, depth};
-ghost use Rattle.cborn_model.specs.Valid.{IsProper, AreProper, value_depth};
-ghost use Rattle.cborn_model.specs.Value.{Value, Values};
-ghost use Rattle.cborn_det.specs.Det.{Det, DetValues};
 ghost use Rattle.cborn_judge.specs.declared.defects.DefectReason as departs;
 ghost use Rattle.cborn_judge.specs.declared.faults.InvalidReason as invalid;
 ghost use Rattle.cborn_judge.specs.Defects.{Defect, IsFirstDefect, SequenceDefect, IsFirstOfSequence};
@@ -16,12 +11,14 @@ ghost use Rattle.cborn_judge.specs.Flaws.{Flaw, IsFirstFlaw, IsWord, Within};
 use cborn_model::KeyOrder;
 
 /// A node means at most one item.
+#[tactic(auto, using(crate::proofs::Meaning::Meanings::means_once))]
 pub fn one_meaning()
     ensures { (t : Tree) (a b : Value) → Means t a → Means t b → a ≡ b }
 {}
 
 /// What a node that fits means is valid. What any node means is no deeper than the node, if its
 /// integers fit 64 bits.
+#[tactic(auto, using(crate::proofs::Meaning::Meanings::meaning_valid, crate::proofs::Meaning::Meanings::means_shallow))]
 pub fn valid_meaning()
     ensures valid { (t : Tree) (a : Value) → Fits t → length (spelled t) < 2 ^ 64 → Means t a → IsProper a }
     ensures shallow { (t : Tree) (a : Value) → ((q : Tree) → Within q t → IsWord q) → Means t a → value_depth a ≤ depth t }

@@ -1,9 +1,8 @@
 //! Where the pairs of a map lie in a buffer, what is wrong with their order, and how they are
 //! arranged.
 
-ghost use Rattle.std.specs.Prelude.{◌≡◌, ◌<◌, ◌^◌, ◌++◌, ℕ, List, length, map, take, drop, flat_map, true, false, Option, None, IfOk, IfSome, OnOk, IsPermutation};
-ghost use Rattle.cborn_det.specs.Det.{joined};
-ghost use Rattle.cborn_model.specs.Earliest.{IsEarliest};
+ghost use Rattle.std.specs.Prelude.{◌≡◌, ◌<◌, ◌^◌, ◌++◌};
+ghost use Rattle.cborn_judge.specs.Common.{ℕ, List, length, map, take, drop, flat_map, true, false, Option, None, IfOk, IfSome, OnOk, IsPermutation, joined, IsEarliest};
 ghost use Rattle.cborn_judge.specs.Departures.{FindsDefect};
 ghost use Rattle.cborn_judge.specs.Reasons.{defect_rank};
 ghost use Rattle.cborn_judge.specs.shared.Judged.{FindsFlaw};
@@ -389,6 +388,7 @@ fn first_tie<S: Spot>(spots: &[S], out: &[u8]) -> Option<Flaw>
 }
 
 /// The flaw of `key` at the offset `place`, if it is the same as the one before it, and not empty.
+#[tactic(auto, using(crate::proofs::Encoding::PairsRead::empty))]
 fn tie(place: u64, before: &[u8], key: &[u8]) -> Option<Flaw>
     ensures { FindsFlaw (TieAt before.now key.now place) result }
 {

@@ -1,7 +1,7 @@
 //! The pairs of the maps that are open while items are encoded.
 
-ghost use Rattle.std.specs.Prelude.{◌≡◌, ◌++◌, ◌∷◌, ℕ, List, [], length, map, take, drop, None, IfOk, IfSome, OnOk};
-ghost use Rattle.cborn_det.specs.Det.{joined};
+ghost use Rattle.std.specs.Prelude.{◌≡◌, ◌++◌, ◌∷◌};
+ghost use Rattle.cborn_judge.specs.Common.{ℕ, List, [], length, map, take, drop, None, IfOk, IfSome, OnOk, joined};
 ghost use Rattle.cborn_judge.specs.shared.Judged.{FindsFlaw};
 ghost use Rattle.cborn_judge.specs.devices.Encoding.{Row, row_entries, Mark as Marked, AreMarked, AreFilled, AreArranged, RowRepeat, FindsDescent};
 ghost use Rattle.cborn_judge.specs.devices.Marks.{mark_of, narrow_of, marks_of, AreAllHinted};

@@ -1,9 +1,9 @@
 //! The defects of single heads, of bignums and of the order of keys.
 
-ghost use Rattle.std.specs.Prelude.{◌↔◌, IsTrue};
+ghost use Rattle.std.specs.Prelude.{◌↔◌};
+ghost use Rattle.cborn_judge.specs.Common.{IsTrue, ended_size};
 ghost use Rattle.cborn_judge.specs.Departures.{FindsDefect, LongAt, LooseBytesAt, NotAboveAt};
 ghost use Rattle.cborn_judge.specs.shared.Checked.{SizeAt};
-ghost use Rattle.cborn_model.specs.Partial.{ended_size};
 ghost use Rattle.cborn_judge.specs.Defects.{IsLoose};
 
 use crate::defects::{Defect, DefectReason};

@@ -1,9 +1,8 @@
 //! What strings may hold and mean (RFC 8949 sections 3.1 and 3.2.3). What a node is built with isn't
 //! inlined, so that the recursion over nodes takes little stack.
 
-ghost use Rattle.std.specs.Prelude.{◌≡◌, ◌↔◌, IfOk, IsTrue, IsUtf8};
-ghost use Rattle.cborn_model.specs.ItemView.{item_value};
-ghost use Rattle.cborn_model.specs.Meaning.{joined_chunks, ChunksAreText};
+ghost use Rattle.std.specs.Prelude.{◌≡◌, ◌↔◌};
+ghost use Rattle.cborn_judge.specs.Common.{IfOk, IsTrue, IsUtf8, item_value, joined_chunks, ChunksAreText};
 ghost use Rattle.cborn_model.specs.Value as value;
 ghost use Rattle.cborn_judge.specs.devices.Encoders.{IsContent};
 
@@ -54,6 +53,7 @@ pub(crate) fn bytes_of_chunks(alloc: Global, chunks: &[Chunk]) -> Result<Item, A
 }
 
 /// The text string of these chunks. Any item if one of them isn't UTF-8.
+#[tactic(auto, using(crate::proofs::Meaning::Meanings::joined_text))]
 #[inline(never)]
 pub(crate) fn text_of_chunks(alloc: Global, chunks: &[Chunk]) -> Result<Item, AllocError>
     ensures { IfOk result (λ item. ChunksAreText chunks.now → item_value item ≡ value.text (joined_chunks chunks.now)) }

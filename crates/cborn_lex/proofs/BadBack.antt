@@ -1,5 +1,6 @@
 -- What fails for a reason by Bad.antt reads as bad for it by Forms.antt.
-use Rattle.cborn_lex.proofs.Common.{◌≡◌, refl, sym, ap, ◌∙◌, subst, ℕ, ◌<◌, ◌≤◌, ◌^◌, List, [], ◌∷◌, ◌++◌, Bool, true, false, ◌&&◌, ◌||◌, cond, eqb, ltb, ◌⊎◌, inl, inr, Some, None, Result, Ok, Err, append-nil, arith, eqb-true, and_parts, or_parts, or_from, false_from_ne_true, leb-true, ltb-true, append_cancel_right, list_all, list_any, is_ascii_digit, is_ascii_alphabetic, is_ascii_alphanumeric, is_in_range, bytes_eq, codes, nat_le, Profile, Mark, Absent, Endless, Wide, LexReason, UnexpectedCharacter, UnclosedString, BadEscape, BadHex, BadBase64, UnknownPrefix, BadIndicator, BadNumber, NumberTooLarge, FloatLeftOut, Class, ArrayOpen, MapOpen, EmbedClose, Text, Bytes, Bad, is_white, is_word, is_numeral, is_not, begins, mark_of, marked, within, integer, number_front, word_front, is_content, is_unclosed, IsText, IsRun, IsIndicator, unknown, prefix_of, IsPrefixed, hash, digit, letter, other, start_of, ReadsFrom, Reads, IsLiteral, IsName, IsCoded, Takes, is_quote, is_start, IsWord, is_float_word, IsPrefix, IsNoInteger, Fails}
+use Rattle.std.specs.Prelude.{◌≡◌, ◌<◌, ◌≤◌, ◌^◌, ◌∷◌, ◌++◌, ◌&&◌, ◌||◌, ◌⊎◌}
+use Rattle.cborn_lex.proofs.Common.{refl, sym, ap, ◌∙◌, subst, ℕ, List, [], Bool, true, false, cond, eqb, ltb, inl, inr, Some, None, Result, Ok, Err, append-nil, arith, eqb-true, and_parts, or_parts, or_from, false_from_ne_true, leb-true, ltb-true, append_cancel_right, list_all, list_any, is_ascii_digit, is_ascii_alphabetic, is_ascii_alphanumeric, is_in_range, bytes_eq, codes, nat_le, Profile, Mark, Absent, Endless, Wide, LexReason, UnexpectedCharacter, UnclosedString, BadEscape, BadHex, BadBase64, UnknownPrefix, BadIndicator, BadNumber, NumberTooLarge, FloatLeftOut, Class, ArrayOpen, MapOpen, EmbedClose, Text, Bytes, Bad, is_white, is_word, is_numeral, is_not, begins, mark_of, marked, within, integer, number_front, word_front, is_content, is_unclosed, IsText, IsRun, IsIndicator, unknown, prefix_of, IsPrefixed, hash, digit, letter, other, start_of, ReadsFrom, Reads, IsLiteral, IsName, IsCoded, Takes, is_quote, is_start, IsWord, is_float_word, IsPrefix, IsNoInteger, Fails}
 use Rattle.cborn_model.specs.declared.heads.Width.TheVariants as width
 use Rattle.cborn_lex.specs.Good as good
 use Rattle.cborn_lex.specs.Bad as bad
@@ -96,11 +97,7 @@ ends_three : (f s : List ℕ) → f ≡ s ++ codes "_3" → last_of 0 f ≡ 51
 ends_three f s e = ap (last_of 0) e ∙ last_append 0 s (codes "_3")
 
 -- an indicator at the end of a text that ends in _3 is that one, where the rest doesn't end so
-pub record Split (f t s : List ℕ) : Type 0 where
-  pub mark : t ≡ codes "_3"
-  pub front : f ≡ s
-
-split : (f t s : List ℕ) (m : Mark) → mark_of t ≡ Some m → ((u : List ℕ) → f ≡ u ++ codes "_3" → ⊥) → f ++ t ≡ s ++ codes "_3" → Split f t s
+split : (f t s : List ℕ) (m : Mark) → mark_of t ≡ Some m → ((u : List ℕ) → f ≡ u ++ codes "_3" → ⊥) → f ++ t ≡ s ++ codes "_3" → f ≡ s
 split f t s m e denied w = go (bytes_eq t []) (bytes_eq t (codes "_")) (bytes_eq t (codes "_0")) (bytes_eq t (codes "_1")) (bytes_eq t (codes "_2")) (bytes_eq t (codes "_3")) refl refl refl refl refl refl e
   where
     wrong : (x : List ℕ) → t ≡ x → last_of (last_of 0 f) x ≡ 51
@@ -109,7 +106,7 @@ split f t s m e denied w = go (bytes_eq t []) (bytes_eq t (codes "_")) (bytes_eq
     none : None ≡ Some m → ⊥
     none e = cc
 
-    go : (b0 b1 b2 b3 b4 b5 : Bool) → bytes_eq t [] ≡ b0 → bytes_eq t (codes "_") ≡ b1 → bytes_eq t (codes "_0") ≡ b2 → bytes_eq t (codes "_1") ≡ b3 → bytes_eq t (codes "_2") ≡ b4 → bytes_eq t (codes "_3") ≡ b5 → cond b0 (Some Absent) (cond b1 (Some Endless) (cond b2 (Some (Wide width.One)) (cond b3 (Some (Wide width.Two)) (cond b4 (Some (Wide width.Four)) (cond b5 (Some (Wide width.Eight)) None))))) ≡ Some m → Split f t s
+    go : (b0 b1 b2 b3 b4 b5 : Bool) → bytes_eq t [] ≡ b0 → bytes_eq t (codes "_") ≡ b1 → bytes_eq t (codes "_0") ≡ b2 → bytes_eq t (codes "_1") ≡ b3 → bytes_eq t (codes "_2") ≡ b4 → bytes_eq t (codes "_3") ≡ b5 → cond b0 (Some Absent) (cond b1 (Some Endless) (cond b2 (Some (Wide width.One)) (cond b3 (Some (Wide width.Two)) (cond b4 (Some (Wide width.Four)) (cond b5 (Some (Wide width.Eight)) None))))) ≡ Some m → f ≡ s
     go true b1 b2 b3 b4 b5 e0 e1 e2 e3 e4 e5 k = absurd (denied s (sym (append-nil f) ∙ ap (λ y. f ++ y) (sym (same_bytes t [] e0)) ∙ w))
     go false true b2 b3 b4 b5 e0 e1 e2 e3 e4 e5 k = absurd (let h = wrong (codes "_") (same_bytes t (codes "_") e1) in omega (arith, h))
     go false false true b3 b4 b5 e0 e1 e2 e3 e4 e5 k = absurd (let h = wrong (codes "_0") (same_bytes t (codes "_0") e2) in omega (arith, h))
@@ -117,7 +114,7 @@ split f t s m e denied w = go (bytes_eq t []) (bytes_eq t (codes "_")) (bytes_eq
     go false false false false true b5 e0 e1 e2 e3 e4 e5 k = absurd (let h = wrong (codes "_2") (same_bytes t (codes "_2") e4) in omega (arith, h))
     go false false false false false true e0 e1 e2 e3 e4 e5 k =
         let same = same_bytes t (codes "_3") e5 in
-        record { mark = same; front = append_cancel_right f s (codes "_3") (ap (λ y. f ++ y) (sym same) ∙ w) }
+        append_cancel_right f s (codes "_3") (ap (λ y. f ++ y) (sym same) ∙ w)
     go false false false false false false e0 e1 e2 e3 e4 e5 k = absurd (none k)
 
 -- what ends in another character doesn't end so
@@ -153,7 +150,7 @@ module _ (p : Profile) (m z : List ℕ) (i : IsIndicator m z) (e : mark_of m ≡
 
   -- a token f and its mark t
   marked_end : (f t s : List ℕ) (mk : Mark) → mark_of t ≡ Some mk → ((u : List ℕ) → f ≡ u ++ codes "_3" → ⊥) → f ++ t ≡ s ++ codes "_3" → ReadsBad f → ReadsBad s
-  marked_end f t s mk h denied w reads_bad = subst ReadsBad (split f t s mk h denied w).front reads_bad
+  marked_end f t s mk h denied w reads_bad = subst ReadsBad (split f t s mk h denied w) reads_bad
 
   -- a content f up to its quote q, and a mark t
   string_end : (f : List ℕ) (q : ℕ) (t s : List ℕ) (mk : Mark) → eqb q 51 ≡ false → mark_of t ≡ Some mk → (f ++ q ∷ []) ++ t ≡ s ++ codes "_3" → ReadsBad (f ++ q ∷ []) → ReadsBad s
@@ -207,21 +204,21 @@ module _ (p : Profile) (m z : List ℕ) (i : IsIndicator m z) (e : mark_of m ≡
   a_positive c y v st l b all =
       let t = tagging false z in
       record {
-        front = c ∷ y ++ (m ++ t.s);
-        rest = t.z;
-        whole = ap (λ l. c ∷ y ++ (m ++ l)) t.whole ∙ sym (assoc (c ∷ y) (m ++ t.s) t.z ∙ ap (λ l. c ∷ y ++ l) (assoc m t.s t.z));
-        reads = subst (λ k. ReadsFrom k p c (y ++ (m ++ t.s)) t.z (Bad BadIndicator)) (sym st) (
-          t.tagged,
+        front = c ∷ y ++ (m ++ t.1);
+        rest = t.2;
+        whole = ap (λ l. c ∷ y ++ (m ++ l)) t.3 ∙ sym (assoc (c ∷ y) (m ++ t.1) t.2 ∙ ap (λ l. c ∷ y ++ l) (assoc m t.1 t.2));
+        reads = subst (λ k. ReadsFrom k p c (y ++ (m ++ t.1)) t.2 (Bad BadIndicator)) (sym st) (
+          t.0,
           y,
           m,
-          t.s,
+          t.1,
           record {
-            run = record { pass = (and_parts (is_numeral c) (list_all is_numeral y) all).1; ends = subst (λ l. begins is_numeral (m ++ l) ≡ false) t.whole (mark_ends m z i e) };
-            indicator = subst (λ l. IsIndicator m l) t.whole i;
-            tagging = t.tag;
+            run = record { pass = (and_parts (is_numeral c) (list_all is_numeral y) all).1; ends = subst (λ l. begins is_numeral (m ++ l) ≡ false) t.3 (mark_ends m z i e) };
+            indicator = subst (λ l. IsIndicator m l) t.3 i;
+            tagging = t.4;
             whole = refl;
           },
-          sym (rw (e, value false (c ∷ y) v l b) (bad_front false t.tagged v)),
+          sym (rw (e, value false (c ∷ y) v l b) (bad_front false t.0 v)),
         );
       }
 
@@ -245,7 +242,7 @@ module _ (p : Profile) (m z : List ℕ) (i : IsIndicator m z) (e : mark_of m ≡
   reads_bad s (good.positive x t y v mk n d) w =
       let b = first_digit x v n.literal in
       marked_end x t s mk n.indicator.1 (λ u. no_underscore x u n.run.pass) w
-      (subst ReadsBad (sym b.whole) (a_positive b.first b.others v b.starts (subst (λ l. IsLiteral l v) b.whole n.literal) n.bounded (subst (λ l. list_all is_numeral l ≡ true) b.whole n.run.pass)))
+      (subst ReadsBad (sym b.2) (a_positive b.0 b.1 v b.3 (subst (λ l. IsLiteral l v) b.2 n.literal) n.bounded (subst (λ l. list_all is_numeral l ≡ true) b.2 n.run.pass)))
   reads_bad s (good.tag x t y v mk n) w = absurd (not_three (x ++ (t ++ 40 ∷ [])) 40 (last_append 0 x (t ++ 40 ∷ []) ∙ last_append (last_of 0 x) t (40 ∷ [])) refl s w)
 
 module _ (p : Profile) where
@@ -347,23 +344,23 @@ module _ (p : Profile) where
   a_positive_fails (c ∷ y) z r b run denied =
       let k = marks z in
       let t = tagging false k.z in
-      let after : z ≡ k.s ++ (t.s ++ t.z) = k.whole ∙ ap (λ l. k.s ++ l) t.whole in
+      let after : z ≡ k.s ++ (t.1 ++ t.2) = k.whole ∙ ap (λ l. k.s ++ l) t.3 in
       record {
-        front = c ∷ y ++ (k.s ++ t.s);
-        rest = t.z;
-        whole = ap (λ l. c ∷ y ++ l) after ∙ sym (assoc (c ∷ y) (k.s ++ t.s) t.z ∙ ap (λ l. c ∷ y ++ l) (assoc k.s t.s t.z));
-        reads = subst (λ q. ReadsFrom q p c (y ++ (k.s ++ t.s)) t.z (Bad r)) (sym (let h = and_parts (nat_le 48 c) (nat_le c 57) b in digit_starts c (leb-true 48 c h.0) (leb-true c 57 h.1))) (
-          t.tagged,
+        front = c ∷ y ++ (k.s ++ t.1);
+        rest = t.2;
+        whole = ap (λ l. c ∷ y ++ l) after ∙ sym (assoc (c ∷ y) (k.s ++ t.1) t.2 ∙ ap (λ l. c ∷ y ++ l) (assoc k.s t.1 t.2));
+        reads = subst (λ q. ReadsFrom q p c (y ++ (k.s ++ t.1)) t.2 (Bad r)) (sym (let h = and_parts (nat_le 48 c) (nat_le c 57) b in digit_starts c (leb-true 48 c h.0) (leb-true c 57 h.1))) (
+          t.0,
           y,
           k.s,
-          t.s,
+          t.1,
           record {
             run = subst (λ l. IsRun is_numeral y l) after (record { pass = (and_parts (is_numeral c) (list_all is_numeral y) run.pass).1; ends = run.ends });
-            indicator = subst (λ l. IsIndicator k.s l) t.whole k.indicator;
-            tagging = t.tag;
+            indicator = subst (λ l. IsIndicator k.s l) t.3 k.indicator;
+            tagging = t.4;
             whole = refl;
           },
-          sym (ap (number_front false t.tagged (mark_of k.s)) (no_integer_is false (c ∷ y) r denied)),
+          sym (ap (number_front false t.0 (mark_of k.s)) (no_integer_is false (c ∷ y) r denied)),
         );
       }
 

@@ -1,5 +1,6 @@
 -- A number that is a float is read as one.
-use Rattle.cborn_lex.proofs.Common.{◌≡◌, refl, sym, subst, ℕ, ◌^◌, List, [], ◌∷◌, Bool, true, false, ◌||◌, not, cond, eqb, ltb, ⊎_elim, Ok, Err, eqb-true, and_parts, and_left, and_right, not-true, list_all, list_any, is_digit, bytes_eq, codes, BadNumber, NumberTooLarge, FloatLeftOut, begins, are_digits, within, has_prefix, has_any, integer, IsFloat, drop, take}
+use Rattle.std.specs.Prelude.{◌≡◌, ◌^◌, ◌∷◌, ◌||◌}
+use Rattle.cborn_lex.proofs.Common.{refl, sym, subst, ℕ, List, [], Bool, true, false, not, cond, eqb, ltb, ⊎_elim, Ok, Err, eqb-true, and_parts, and_left, and_right, not-true, list_all, list_any, is_digit, bytes_eq, codes, BadNumber, NumberTooLarge, FloatLeftOut, begins, are_digits, within, has_prefix, has_any, integer, IsFloat, drop, take}
 use Rattle.cborn_lex.specs.Bad as bad
 use Rattle.cborn_lex.proofs.GoodBack.{or_cases, never}
 
@@ -29,13 +30,8 @@ two_of true b e = e
 two_of false true e = e
 two_of false false e = e
 
-pub record NoBase (a b c d e f : Bool) : Type 0 where
-  pub first : (a || b) ≡ false
-  pub second : (c || d) ≡ false
-  pub third : (e || f) ≡ false
-
-no_base : (a b c d e f : Bool) → (a || (b || (c || (d || (e || (f || false)))))) ≡ false → NoBase a b c d e f
-no_base false false false false false false h = record { first = refl; second = refl; third = refl }
+no_base : (a b c d e f : Bool) → (a || (b || (c || (d || (e || (f || false)))))) ≡ false → ((a || b) ≡ false) × ((c || d) ≡ false) × ((e || f) ≡ false)
+no_base false false false false false false h = (refl, refl, refl)
 no_base _ _ _ _ _ _ h = never (sym h)
 
 infinite : (n : Bool) (x : List ℕ) → n ≡ true → has_prefix (codes "Infinity") x ≡ true → integer n x ≡ Err FloatLeftOut
@@ -48,5 +44,5 @@ pub float_is : (n : Bool) (x : List ℕ) → IsFloat n x → integer n x ≡ Err
 float_is n x (bad.hexadecimal b h) = rw (two_of (has_prefix (codes "0x") x) (has_prefix (codes "0X") x) b, no_digits 16 (codes ".pP") (drop 2 x) refl h, h) refl
 float_is n x (bad.decimal b k h) =
     let none = no_base (has_prefix (codes "0x") x) (has_prefix (codes "0X") x) (has_prefix (codes "0o") x) (has_prefix (codes "0O") x) (has_prefix (codes "0b") x) (has_prefix (codes "0B") x) k in
-    rw (none.first, none.second, none.third, no_digits 10 (codes ".eE") x refl h, b, h) refl
+    rw (none.0, none.1, none.2, no_digits 10 (codes ".eE") x refl h, b, h) refl
 float_is n x (bad.infinite k e) = infinite n x k e

@@ -1,5 +1,6 @@
 -- Decimal integers at the front of a text.
-use Rattle.cborn_lex.proofs.Common.{◌≡◌, refl, sym, ap, ◌∙◌, subst, ℕ, zero, suc, ◌+◌, ◌-◌, ◌*◌, ◌<◌, ◌≤◌, ◌^◌, List, [], ◌∷◌, ◌++◌, length, take, drop, get_or, Bool, true, false, ◌||◌, ◌⊎◌, not, eqb, Ok, inl, inr, arith, append_assoc, pow-suc, and_parts, and_from, cond-true, cond-false, lt-ltb, ltb-true, eqb-true, cases_Bool, cases_lt, false≢true, take_more, drop_more, take-append-drop, list_all-append, digit_value_digit, list_all, is_digit, digit_value, codes, bytes_eq, is_numeral, begins, number, within, integer, has_prefix, are_digits, BeginsDecimal, Front, mark_of, number_front, IsRun, IsNumber, ReadsNumber}
+use Rattle.std.specs.Prelude.{◌≡◌, ◌+◌, ◌-◌, ◌*◌, ◌<◌, ◌≤◌, ◌^◌, ◌∷◌, ◌++◌, ◌||◌, ◌⊎◌}
+use Rattle.cborn_lex.proofs.Common.{refl, sym, ap, ◌∙◌, subst, ℕ, zero, suc, List, [], length, take, drop, get_or, ne_eqb, Bool, true, false, not, eqb, Ok, inl, inr, arith, append_assoc, pow-suc, and_parts, and_from, cond-true, cond-false, lt-ltb, ltb-true, eqb-true, cases_Bool, cases_lt, false≢true, take_more, drop_more, take-append-drop, list_all-append, digit_value_digit, list_all, is_digit, digit_value, codes, bytes_eq, is_numeral, begins, number, within, integer, has_prefix, are_digits, BeginsDecimal, Front, mark_of, number_front, IsRun, IsNumber, ReadsNumber}
 use Rattle.std.proofs.lemmas.Str.Parse.{digit_from_value}
 use Rattle.cborn_lex.proofs.TwoParts.{passes, passes_at}
 
@@ -50,7 +51,7 @@ digit_passes q c t h = let r = digit_from_value c (ltb-true (digit_value c) 10 h
 pub digit_numeral : (c d : ℕ) → c ≡ 48 + d → d ≤ 9 → is_numeral c ≡ true
 digit_numeral c d e l = passes_at is_numeral 48 10 c refl (omega (arith, e)) (omega (arith, e, l))
 
-digits_pass : (q : ℕ → Bool) (ds : List ℕ) → passes q 48 10 ≡ true → list_all (λ d. is_digit d 10) ds ≡ true → list_all q ds ≡ true
+pub digits_pass : (q : ℕ → Bool) (ds : List ℕ) → passes q 48 10 ≡ true → list_all (λ d. is_digit d 10) ds ≡ true → list_all q ds ≡ true
 digits_pass q [] t h = refl
 digits_pass q (c ∷ ds) t h = let hs = and_parts (is_digit c 10) (list_all (λ d. is_digit d 10) ds) h in and_from (q c) (list_all q ds) (digit_passes q c t hs.0) (digits_pass q ds t hs.1)
 
@@ -61,6 +62,11 @@ plain_integer negative c ds e h =
     let binary : (has_prefix (codes "0b") (c ∷ ds) || has_prefix (codes "0B") (c ∷ ds)) ≡ false = rw e refl in
     let all : are_digits 10 (c ∷ ds) ≡ true = h in
     cond-false _ _ _ hex ∙ (cond-false _ _ _ octal ∙ (cond-false _ _ _ binary ∙ (cond-true _ _ _ all ∙ rw e refl)))
+
+pub long_value : (negative : Bool) (len : ℕ) (body : List ℕ) → 0 < len → len ≤ length body → (get_or body 0 0 ≡ 48 → ⊥) → list_all (λ d. is_digit d 10) (take len body) ≡ true → integer negative (take len body) ≡ within (number 10 0 (take len body))
+long_value negative zero body s w z a = absurd (omega (arith, s))
+long_value negative (suc l) [] s w z a = absurd (omega (arith, w))
+long_value negative (suc l) (c ∷ y) s w z a = plain_integer negative c (take l y) (ne_eqb c 48 z) a
 
 zero_alone : (negative : Bool) (c : ℕ) (ds : List ℕ) → c ≡ 48 → ds ≡ [] → integer negative (c ∷ ds) ≡ Ok (number 10 0 (c ∷ ds))
 zero_alone negative c ds e f = rw (e, f) refl

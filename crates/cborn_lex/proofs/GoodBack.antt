@@ -1,5 +1,6 @@
 -- What Good.antt takes as white space, a comment or a token reads as that by Forms.antt.
-use Rattle.cborn_lex.proofs.Common.{◌≡◌, refl, sym, ap, ◌∙◌, subst, ℕ, ◌-◌, ◌<◌, ◌≤◌, ◌^◌, List, [], ◌∷◌, ◌++◌, Bool, true, false, ◌&&◌, ◌||◌, cond, eqb, ltb, ◌⊎◌, inl, inr, Option, Some, None, Ok, append-nil, arith, eqb-true, and_parts, or_parts, ltb-true, ltb-false, lt-ltb, list_all, is_digit, codes, Profile, Two, Mark, Class, ArrayOpen, MapOpen, EmbedClose, Text, Bytes, TagOpen, Word, Front, WhiteSpace, Read, is_white, is_word, is_numeral, is_not, begins, mark_of, marked, are_digits, number, within, has_prefix, integer, signed, number_front, white, hash, digit, start_of, ReadsFrom, Reads, IsMark, IsLiteral, IsNumeral, IsName, IsCoded, Takes, drop}
+use Rattle.std.specs.Prelude.{◌≡◌, ◌-◌, ◌<◌, ◌≤◌, ◌^◌, ◌∷◌, ◌++◌, ◌&&◌, ◌||◌, ◌⊎◌}
+use Rattle.cborn_lex.proofs.Common.{refl, sym, ap, ◌∙◌, subst, ℕ, List, [], Bool, true, false, cond, eqb, ltb, inl, inr, Option, Some, None, Ok, append-nil, arith, eqb-true, and_parts, or_parts, ltb-true, ltb-false, lt-ltb, list_all, is_digit, codes, Profile, Two, Mark, Class, ArrayOpen, MapOpen, EmbedClose, Text, Bytes, TagOpen, Word, Front, WhiteSpace, Read, is_white, is_word, is_numeral, is_not, begins, mark_of, marked, are_digits, number, within, has_prefix, integer, signed, number_front, white, hash, digit, start_of, ReadsFrom, Reads, IsMark, IsLiteral, IsNumeral, IsName, IsCoded, Takes, drop}
 use Rattle.cborn_lex.specs.Good as good
 use Rattle.cborn_lex.proofs.TwoParts.{digit_starts}
 
@@ -77,22 +78,19 @@ pub value : (negative : Bool) (x : List ℕ) (v : ℕ) → IsLiteral x v → v <
 value negative x v l h = literal_is negative x v l ∙ within_back v h
 
 -- its first character is a digit
-pub record Begins (x : List ℕ) : Type 0 where
-  pub first : ℕ
-  pub others : List ℕ
-  pub whole : x ≡ first ∷ others
-  pub starts : start_of first ≡ digit
+abbrev pub Begins : List ℕ → Type 0
+Begins x = (first : ℕ) × (others : List ℕ) × (x ≡ first ∷ others) × (start_of first ≡ digit)
 
 prefixed : (b d : ℕ) (x : List ℕ) → (has_prefix (48 ∷ b ∷ []) x || has_prefix (48 ∷ d ∷ []) x) ≡ true → Begins x
 prefixed b d x e = go (or_cases (has_prefix (48 ∷ b ∷ []) x) (has_prefix (48 ∷ d ∷ []) x) e)
   where
     go : (has_prefix (48 ∷ b ∷ []) x ≡ true) ⊎ (has_prefix (48 ∷ d ∷ []) x ≡ true) → Begins x
-    go (inl f) = let s = second b x f in record { first = 48; others = b ∷ s.0; whole = s.1; starts = refl }
-    go (inr f) = let s = second d x f in record { first = 48; others = d ∷ s.0; whole = s.1; starts = refl }
+    go (inl f) = let s = second b x f in (48, b ∷ s.0, s.1, refl)
+    go (inr f) = let s = second d x f in (48, d ∷ s.0, s.1, refl)
 
 decimals : (x : List ℕ) → are_digits 10 x ≡ true → Begins x
 decimals [] d = never d
-decimals (c ∷ y) d = let h = in_ten c (and_parts (is_digit c 10) (list_all (λ n. is_digit n 10) y) d).0 in record { first = c; others = y; whole = refl; starts = digit_starts c h.0 h.1 }
+decimals (c ∷ y) d = let h = in_ten c (and_parts (is_digit c 10) (list_all (λ n. is_digit n 10) y) d).0 in (c, y, refl, digit_starts c h.0 h.1)
 
 pub first_digit : (x : List ℕ) (v : ℕ) → IsLiteral x v → Begins x
 first_digit x v (good.decimal y d z) = decimals y d
@@ -155,7 +153,7 @@ module _ (p : Profile) where
       (false, x, s, [], record { run = n.run; indicator = n.indicator.0; tagging = (refl, refl); whole = ap (λ l. x ++ l) (sym (append-nil s)) }, sym (front_is true false s x z v m n))
   read (good.positive x s z v m n e) =
       let b = first_digit x v n.literal in
-      subst (λ y. IsNumeral y s z v m → Reads p (y ++ s) z (Read (signed false v m))) (sym b.whole) (λ k. numeral b.first b.others s z v m b.starts k e) n
+      subst (λ y. IsNumeral y s z v m → Reads p (y ++ s) z (Read (signed false v m))) (sym b.2) (λ k. numeral b.0 b.1 s z v m b.3 k e) n
   read (good.tag x s z v m n) =
       let b = first_digit x v n.literal in
-      subst (λ y. IsNumeral y s (40 ∷ z) v m → Reads p (y ++ (s ++ 40 ∷ [])) z (Read (TagOpen v m))) (sym b.whole) (λ k. tagged b.first b.others s z v m b.starts k) n
+      subst (λ y. IsNumeral y s (40 ∷ z) v m → Reads p (y ++ (s ++ 40 ∷ [])) z (Read (TagOpen v m))) (sym b.2) (λ k. tagged b.0 b.1 s z v m b.3 k) n

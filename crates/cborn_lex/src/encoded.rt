@@ -1,18 +1,17 @@
 //! Byte strings with the prefix `h` or `b64` (RFC 8949 section 8, RFC 4648).
 
 ghost use Rattle.std.specs.Prelude.{◌≡◌, ℕ, ◌≤◌, List, true, length, take, drop, map, filter, replicate, OnOk, MatchOption, IfOk, false, Some, None, ◌==◌, not, ◌++◌};
-ghost use Rattle.cborn_lex.specs.Common.{list_any, Bytes};
+ghost use Rattle.cborn_lex.specs.Common.{list_any, Bytes, decode_of};
 ghost use Rattle.cborn_lex.specs.Cited.{Front as AnyFront, is_white, marked, IsHex, base64_text, to_standard, IsBase64, IsUnquoted};
 ghost use Rattle.cborn_lex.specs.devices.Common.{strip, IsEncoded, refusal, front_view, FrontStandsFor};
 
 use crate::escaped::bytes_front;
 use crate::faults::LexReason;
 use crate::fronts::Front;
-use crate::integers::digit_of;
+use crate::integers::{all_digits, digit_of};
 use crate::slices::{find, front_of, is_white, mark_at, rest_of};
 use base64::DecodeAllocError;
 use base64::engine::general_purpose::STANDARD;
-use hex::FromHexError;
 use std::alloc::{AllocError, Global};
 
 /// How the content of a string with a prefix encodes its bytes.
@@ -45,17 +44,28 @@ fn hex_digits(alloc: Global, content: &[u8]) -> Result<Option<Vec<u8>>, AllocErr
     Ok(if inside { None } else { Some(digits) })
 }
 
-/// The bytes that a content in hexadecimal encodes; `None` if it encodes none.
-fn hex_bytes(alloc: Global, content: &[u8]) -> Result<Option<Vec<u8>>, AllocError>
-    ensures { IfOk result (λ r. MatchOption r ((bytes : List ℕ) → IsHex content.now bytes → ⊥) (λ v. IsHex content.now v.items)) }
+/// Appends the bytes that digits in hexadecimal write; `false` if they write none.
+fn push_digits(digits: &[u8], out: &mut Vec<u8>) -> Result<bool, AllocError>
+    ensures written { IfOk result (λ ok. ok ≡ true → (bytes : List ℕ) × (decode_of digits.now ≡ Ok bytes) × (out.new.items ≡ out.old.items ++ bytes)) }
+    ensures none { IfOk result (λ ok. ok ≡ false → (bytes : List ℕ) → decode_of digits.now ≡ Ok bytes → ⊥) }
 {
-    let Some(digits) = hex_digits(alloc, content)? else {
-        return Ok(None);
-    };
-    match hex::decode(alloc, digits.as_slice()) {
-        Ok(bytes) => Ok(Some(bytes)),
-        Err(FromHexError::OutOfMemory) => Err(AllocError),
-        Err(_) => Ok(None),
+    let start = out.len();
+    out.resize(start + digits.len() / 2, 0)?;
+    Ok(hex::decode_to_slice(digits, &mut out[start..]).is_ok())
+}
+
+/// Appends the bytes that a content in hexadecimal encodes; `false` if it encodes none. Mostly there is
+/// nothing between the digits.
+fn push_hex(alloc: Global, content: &[u8], out: &mut Vec<u8>) -> Result<bool, AllocError>
+    ensures written { IfOk result (λ ok. ok ≡ true → (bytes : List ℕ) × IsHex content.now bytes × (out.new.items ≡ out.old.items ++ bytes)) }
+    ensures none { IfOk result (λ ok. ok ≡ false → (bytes : List ℕ) → IsHex content.now bytes → ⊥) }
+{
+    if all_digits(16, content) {
+        return push_digits(content, out);
+    }
+    match hex_digits(alloc, content)? {
+        Some(digits) => push_digits(digits.as_slice(), out),
+        None => Ok(false),
     }
 }
 
@@ -114,25 +124,35 @@ fn standard_text(alloc: Global, content: &[u8]) -> Result<Vec<u8>, AllocError>
     Ok(text)
 }
 
-/// The bytes that a content in base64 encodes; `None` if it encodes none.
-fn base64_bytes(alloc: Global, content: &[u8]) -> Result<Option<Vec<u8>>, AllocError>
-    ensures { IfOk result (λ r. MatchOption r ((bytes : List ℕ) → IsBase64 content.now bytes → ⊥) (λ v. IsBase64 content.now v.items)) }
+/// Appends the bytes that a content in base64 encodes; `false` if it encodes none.
+fn push_base64(alloc: Global, content: &[u8], out: &mut Vec<u8>) -> Result<bool, AllocError>
+    ensures written { IfOk result (λ ok. ok ≡ true → (bytes : List ℕ) × IsBase64 content.now bytes × (out.new.items ≡ out.old.items ++ bytes)) }
+    ensures none { IfOk result (λ ok. ok ≡ false → (bytes : List ℕ) → IsBase64 content.now bytes → ⊥) }
 {
     let text = standard_text(alloc, content)?;
     match STANDARD.decode(alloc, text.as_slice()) {
-        Ok(bytes) => Ok(Some(bytes)),
+        Ok(bytes) => {
+            out.extend_from_slice(bytes.as_slice())?;
+            Ok(true)
+        }
         Err(DecodeAllocError::OutOfMemory) => Err(AllocError),
-        Err(_) => Ok(None),
+        Err(_) => Ok(false),
     }
 }
 
-/// The bytes that a content encodes; `None` if it encodes none.
-fn decoded(alloc: Global, encoding: Encoding, content: &[u8]) -> Result<Option<Vec<u8>>, AllocError>
-    ensures { IfOk result (λ r. MatchOption r ((bytes : List ℕ) → IsEncoded encoding content.now bytes → ⊥) (λ v. IsEncoded encoding content.now v.items)) }
+/// Appends the bytes that a content encodes; `false` if it encodes none.
+fn push_decoded(
+    alloc: Global,
+    encoding: Encoding,
+    content: &[u8],
+    out: &mut Vec<u8>,
+) -> Result<bool, AllocError>
+    ensures written { IfOk result (λ ok. ok ≡ true → (bytes : List ℕ) × IsEncoded encoding content.now bytes × (out.new.items ≡ out.old.items ++ bytes)) }
+    ensures none { IfOk result (λ ok. ok ≡ false → (bytes : List ℕ) → IsEncoded encoding content.now bytes → ⊥) }
 {
     match encoding {
-        Encoding::Hex => hex_bytes(alloc, content),
-        Encoding::Base64 => base64_bytes(alloc, content),
+        Encoding::Hex => push_hex(alloc, content, out),
+        Encoding::Base64 => push_base64(alloc, content, out),
     }
 }
 
@@ -161,11 +181,8 @@ pub fn in_encoding(
     };
     let content = front_of(tail, i);
     let (mark, m) = mark_at(rest_of(tail, i + 1));
-    match decoded(alloc, encoding, content)? {
-        Some(bytes) => {
-            out.extend_from_slice(bytes.as_slice())?;
-            Ok((bytes_front(false, mark), i + 1 + m))
-        }
-        None => Ok((Front::Bad(refusal(encoding)), i + 1 + m)),
+    if push_decoded(alloc, encoding, content, out)? {
+        return Ok((bytes_front(false, mark), i + 1 + m));
     }
+    Ok((Front::Bad(refusal(encoding)), i + 1 + m))
 }

@@ -26,7 +26,7 @@ pub fn digit_of(c: u8) -> u8
 }
 
 /// Whether each character is a digit of the base.
-fn all_digits(base: u8, ds: &[u8]) -> bool
+pub fn all_digits(base: u8, ds: &[u8]) -> bool
     ensures { result ≡ list_all (λ d. is_digit d base) ds.now }
 {
     ds.iter().all(|d| digit_of(*d) < base)
@@ -136,8 +136,32 @@ fn any_integer(negative: bool, body: &[u8]) -> (Result<u128, LexReason>, usize)
     ensures run { IsRun is_numeral (take result.1 body.now) (drop result.1 body.now) }
     ensures value { result.0 ≡ integer negative (take result.1 body.now) }
 {
+    let digits = digits_len(body);
+    if digits > 0 && body[0] != b'0' && !begins_numeral(rest_of(body, digits)) {
+        return (value(10, front_of(body, digits)), digits);
+    }
     let n = numeral_len(body);
     (integer(negative, front_of(body, n)), n)
+}
+
+/// How many decimal digits `tail` begins with.
+fn digits_len(tail: &[u8]) -> usize
+    ensures within { result ≤ length tail.now }
+    ensures digits { list_all (λ d. is_digit d 10) (take result tail.now) ≡ true }
+{
+    for (i, c) in tail.iter().enumerate() {
+        if digit_of(*c) >= 10 {
+            return i;
+        }
+    }
+    tail.len()
+}
+
+/// Whether `x` begins with a character that may be in a number.
+fn begins_numeral(x: &[u8]) -> bool
+    ensures { result ≡ begins is_numeral x.now }
+{
+    x.len() > 0 && is_numeral(x[0])
 }
 
 /// The decimal integer that `tail` begins with, and how many digits it has (RFC 8949 section 8, RFC

@@ -5,6 +5,7 @@ ghost use Rattle.cborn_lex.specs.Common.{list_all, is_ascii_digit};
 ghost use Rattle.cborn_lex.specs.Cited.{is_white, is_word, is_numeral, is_not, mark_of, begins, has_prefix, IsRun, IsIndicator};
 
 use crate::classes::Mark;
+use crate::letters::plain_run;
 use cborn_model::Width;
 
 /// Whether a character is white space: a space, a tab, a line feed or a carriage return.
@@ -75,9 +76,14 @@ pub fn has_prefix(p: &[u8], x: &[u8]) -> bool
 }
 
 /// The offset in `tail` of the first byte that is `wanted`, if there is one.
+#[tactic(auto, using(crate::proofs::Runs::plain_others))]
 pub fn find(wanted: u8, tail: &[u8]) -> Option<usize>
     ensures { MatchOption result (list_all (is_not wanted) tail.now ≡ true) (λ i. (i < length tail.now) × (list_all (is_not wanted) (take i tail.now) ≡ true) × (slice_index tail.now i ≡ wanted)) }
 {
+    let run = plain_run(wanted, tail);
+    if run < tail.len() && tail[run] == wanted {
+        return Some(run);
+    }
     for (i, c) in tail.iter().enumerate() {
         if *c == wanted {
             return Some(i);

@@ -1,6 +1,6 @@
 -- Bytes one after another are bytes.
-use Rattle.cborn_model.proofs.Common.{ℕ, suc, List, [], ◌∷◌, ◌++◌, get_or, w8, arith, AreBytes}
-use Rattle.std.proofs.Common.{Fits}
+use Rattle.cborn_model.proofs.Common.{ℕ, suc, List, [], get_or, w8, arith, AreBytes}
+use Rattle.std.proofs.Common.{Fits, ◌∷◌, ◌++◌}
 
 pub bytes-append : (x y : List ℕ) → AreBytes x → AreBytes y → AreBytes (x ++ y)
 bytes-append [] y h k = k

@@ -1,5 +1,6 @@
 -- What comes no later than what, and the first of the faults of two kinds.
-use Rattle.cborn_model.proofs.Common.{◌≡◌, ℕ, ◌⊎◌, inl, inr, refl, ◌∙◌, arith, NoLater, IsFirst}
+use Rattle.std.specs.Prelude.{◌≡◌, ◌⊎◌}
+use Rattle.cborn_model.proofs.Common.{ℕ, inl, inr, refl, ◌∙◌, arith, NoLater, IsFirst}
 
 pub no_later_on : (a b c : ℕ × ℕ) → NoLater a b → NoLater b c → NoLater a c
 no_later_on a b c (inl h) (inl k) = inl (omega arith)

@@ -1,6 +1,6 @@
 -- The first of what two searches found.
-use Rattle.cborn_model.proofs.Common.{◌≡◌, ℕ, ◌⊎◌, inl, inr, refl, sym, ◌∙◌, subst, Option, None, Some, IsFirst}
-use Rattle.std.specs.Prelude.{◌↔◌}
+use Rattle.std.specs.Prelude.{◌≡◌, ◌⊎◌, ◌↔◌}
+use Rattle.cborn_model.proofs.Common.{ℕ, inl, inr, refl, sym, ◌∙◌, subst, Option, None, Some, IsFirst}
 use Rattle.cborn_model.proofs.Firsts.{no_later_on}
 use Rattle.cborn_model.specs.Earliest.{IsEarlier, IsEarliest, Finds}
 

@@ -1,5 +1,6 @@
 -- What a walk over nodes hands to a visitor.
-use Rattle.cborn_model.proofs.Common.{◌≡◌, refl, sym, ap, ◌∙◌, subst, ℕ, suc, ◌+◌, ◌<◌, List, [], ◌∷◌, ◌++◌, length, map, get_or, take, Option, Some, None, Result, Ok, Err, OnOk, arith, append-nil, take_more, length-take, map-append, option_to_list, SizeFits, Fits, FitsAll, FitsEntries, Chunk, Size, Fixed, Endless, Tree, Bytes, Text, Items, Pairs, trees, entries, depth, depth_all, depth_entries, Partial, Opening, a_map, in_chunks, inside, put, paired, last_key, chunk_of, chunks_of, chunks_tree, built, IsMore, IsAll, IsString, AreStrings, Ends, IsFree, Proper, TakesString, flat, string_of, count_of}
+use Rattle.std.specs.Prelude.{◌≡◌, ◌+◌, ◌<◌, ◌∷◌, ◌++◌}
+use Rattle.cborn_model.proofs.Common.{refl, sym, ap, ◌∙◌, subst, ℕ, suc, List, [], length, map, get_or, take, Option, Some, None, Result, Ok, Err, OnOk, arith, append-nil, take_more, length-take, map-append, option_to_list, SizeFits, Fits, FitsAll, FitsEntries, Chunk, Size, Fixed, Endless, Tree, Bytes, Text, Items, Pairs, trees, entries, depth, depth_all, depth_entries, Partial, Opening, a_map, in_chunks, inside, put, paired, last_key, chunk_of, chunks_of, chunks_tree, built, IsMore, IsAll, IsString, AreStrings, Ends, IsFree, Proper, TakesString, flat, string_of, count_of}
 use Rattle.cborn_model.specs.View.{tree_of}
 use Rattle.cborn_model.specs.declared.nodes.Form.{Form}
 use Rattle.cborn_model.specs.declared.nodes.Form.TheVariants as forms

@@ -1,6 +1,6 @@
 -- Bytes, and the whole number that a list of them writes (RFC 8949 sections 3 and 3.4.3).
-use Rattle.std.specs.Prelude.{ℕ, ◌+◌, ◌*◌, ◌^◌, ◌<◌, List, [], ◌∷◌, length, ⊤}
-use Rattle.std.specs.List.{AllByRecursion}
+use Rattle.std.specs.Prelude.{◌+◌, ◌*◌, ◌^◌, ◌<◌, ◌∷◌}
+use Rattle.cborn_model.specs.Common.{ℕ, List, [], length, ⊤, AllByRecursion}
 
 -- A byte is a whole number from 0 to 255.
 abbrev pub AreBytes : List ℕ → Type 0

@@ -1,5 +1,6 @@
 -- The first of two faults, and of what two searches found. The key of a fault is its place and the number of its reason.
-use Rattle.std.specs.Prelude.{◌≡◌, ℕ, ◌⊎◌, Option, None, Some}
+use Rattle.std.specs.Prelude.{◌≡◌, ◌⊎◌}
+use Rattle.cborn_model.specs.Common.{ℕ, Option, None, Some}
 use Rattle.cborn_model.specs.First.{IsFirst, NoLater}
 
 module _ {X : Type 0} (key : X → ℕ × ℕ) where

@@ -1,5 +1,6 @@
 -- The first of several faults: the least place, and at one place the least number.
-use Rattle.std.specs.Prelude.{◌≡◌, ℕ, ◌<◌, ◌≤◌, ◌⊎◌}
+use Rattle.std.specs.Prelude.{◌≡◌, ◌<◌, ◌≤◌, ◌⊎◌}
+use Rattle.cborn_model.specs.Common.{ℕ}
 
 -- a place and a number come no later than another place and number
 abbrev pub NoLater : ℕ × ℕ → ℕ × ℕ → Type 0

@@ -1,12 +1,6 @@
 -- Heads (RFC 8949 section 3): an initial byte with the major type in its high three bits and the additional information in its low five, and the bytes of an argument that follows it.
-use Rattle.std.specs.Prelude.{◌≡◌, ℕ, zero, suc, ◌+◌, ◌*◌, ◌^◌, ◌<◌, List, [], ◌∷◌, Bool, ◌&&◌, ◌||◌, if◌then◌else◌, nat_lt, nat_le}
-use Rattle.std.specs.Int.{w16, w32, w64, to_be_bytes}
-use Rattle.cborn_model.specs.declared.heads.Width.{Width}
-use Rattle.cborn_model.specs.declared.heads.Width.TheVariants.{Direct, One, Two, Four, Eight}
-use Rattle.cborn_model.specs.declared.heads.Size.{Size}
-use Rattle.cborn_model.specs.declared.heads.Size.TheVariants.{Fixed, Endless}
-use Rattle.cborn_model.specs.declared.heads.Major.{Major}
-use Rattle.cborn_model.specs.declared.heads.Major.TheVariants.{Unsigned, Negative, ByteString, TextString, Array, Map, Tag, Other}
+use Rattle.std.specs.Prelude.{◌≡◌, ◌+◌, ◌*◌, ◌^◌, ◌<◌, ◌∷◌, ◌&&◌, ◌||◌, if◌then◌else◌}
+use Rattle.cborn_model.specs.Common.{ℕ, zero, suc, List, [], Bool, nat_lt, nat_le, w16, w32, w64, to_be_bytes, Width, Direct, One, Two, Four, Eight, Size, Fixed, Endless, Major, Unsigned, Negative, ByteString, TextString, Array, Map, Tag, Other}
 
 -- the number of a major type
 abbrev pub code : Major → ℕ

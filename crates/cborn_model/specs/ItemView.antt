@@ -1,5 +1,5 @@
 -- The item of the data model that an `Item` is seen as.
-use Rattle.std.specs.Prelude.{string_bytes}
+use Rattle.cborn_model.specs.Common.{string_bytes}
 use Rattle.cborn_model.specs.Value.{Value, integer, bytes, text, array, dict, tagged, simple, values_of, pairs_of}
 use Rattle.cborn_model.specs.declared.items.Item.{Item}
 use Rattle.cborn_model.specs.declared.items.Item.TheVariants.{Int, Bytes, Text, Items, Pairs, Tagged, Simple}

@@ -1,9 +1,6 @@
 -- The two orders of keys by their encodings (RFC 8949 sections 4.2.1 and 4.2.3), and when keys rise.
-use Rattle.std.specs.Prelude.{◌≡◌, ℕ, List, [], ◌∷◌, length, ⊤}
-use Rattle.std.specs.declared.cmp.Ordering.{Ordering}
-use Rattle.std.specs.declared.cmp.Ordering.TheVariants.{Less, Equal}
-use Rattle.std.specs.Ordering.{nat_cmp, ordering_then, ordering_reverse}
-use Rattle.std.specs.Cmp.Lexicographic.{slice_cmp}
+use Rattle.std.specs.Prelude.{◌≡◌, ◌∷◌}
+use Rattle.cborn_model.specs.Common.{ℕ, List, [], length, ⊤, Ordering, Less, Equal, nat_cmp, ordering_then, ordering_reverse, slice_cmp}
 use Rattle.cborn_model.specs.declared.orders.KnownOrder.{KnownOrder}
 use Rattle.cborn_model.specs.declared.orders.KnownOrder.TheVariants as known
 

@@ -1,7 +1,6 @@
 -- Nodes as pure trees: each data item as it is spelled, with its offset and the width of each head. A chunk is a definite string inside an indefinite one (RFC 8949 section 3.2.3).
-use Rattle.std.specs.Prelude.{ℕ, suc, max, List, [], ◌∷◌}
-use Rattle.cborn_model.specs.declared.heads.Width.{Width}
-use Rattle.cborn_model.specs.declared.heads.Size.{Size}
+use Rattle.std.specs.Prelude.{◌∷◌}
+use Rattle.cborn_model.specs.Common.{ℕ, suc, max, List, [], Width, Size}
 use Rattle.cborn_model.specs.declared.nodes.Chunk.{Chunk}
 
 -- The first number of each is its place: the offset of its head in bytes from the start of the input.

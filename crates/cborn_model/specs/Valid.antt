@@ -1,5 +1,6 @@
 -- Which items are valid (RFC 8949 sections 3.4.3 and 5.3): what a `Valid` holds.
-use Rattle.std.specs.Prelude.{◌≢◌, ℕ, suc, max, ◌^◌, ◌<◌, ◌≤◌, length, IsTrue, IsUtf8, ⊤, if◌then◌else◌, nat_lt}
+use Rattle.std.specs.Prelude.{◌≢◌, ◌^◌, ◌<◌, ◌≤◌, if◌then◌else◌}
+use Rattle.cborn_model.specs.Common.{ℕ, suc, max, length, IsTrue, IsUtf8, ⊤, nat_lt}
 use Rattle.cborn_model.specs.Bytes.{AreBytes, big_endian, IsShortest}
 use Rattle.cborn_model.specs.Heads.{is_simple_value}
 use Rattle.cborn_model.specs.Value.{Value, Values, Couples, integer, bytes, text, array, dict, tagged, simple, no_values, value, no_pairs, pair, Same, value_count, pair_count}

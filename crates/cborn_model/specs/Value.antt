@@ -1,5 +1,6 @@
 -- Items of the generic data model (RFC 8949 section 2), extended by tags 2 and 3 (RFC 8949 section 3.4.3), as pure data, and when two are the same.
-use Rattle.std.specs.Prelude.{◌≡◌, ℕ, ℤ, pos, negsuc, suc, max, Bool, true, false, List, [], ◌∷◌, IsPermutation, ⊤}
+use Rattle.std.specs.Prelude.{◌≡◌, ◌∷◌}
+use Rattle.cborn_model.specs.Common.{ℕ, ℤ, pos, negsuc, suc, max, Bool, true, false, List, [], IsPermutation, ⊤}
 use Rattle.cborn_model.specs.Bytes.{big_endian}
 
 -- An integer is its sign and the bytes of its magnitude, and a text its bytes in UTF-8.

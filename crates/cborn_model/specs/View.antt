@@ -1,5 +1,5 @@
 -- The tree that a node is seen as.
-use Rattle.std.specs.Prelude.{ℕ}
+use Rattle.cborn_model.specs.Common.{ℕ}
 use Rattle.cborn_model.specs.Tree.{Tree, trees, entries}
 use Rattle.cborn_model.specs.Tree as tree
 use Rattle.cborn_model.specs.declared.nodes.Form.{Form}

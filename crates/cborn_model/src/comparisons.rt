@@ -1,7 +1,8 @@
 //! Sameness of items (RFC 8949 sections 2, 3.4.3 and 5.6.1). Pairs of maps are looked for one by
 //! one, first at their own index, since most maps that are the same are written in one order.
 
-ghost use Rattle.std.specs.Prelude.{◌≡◌, ◌<◌, ◌≤◌, ◌↔◌, map, length, IsTrue, MatchOption};
+ghost use Rattle.std.specs.Prelude.{◌≡◌, ◌<◌, ◌≤◌, ◌↔◌};
+ghost use Rattle.cborn_model.specs.Common.{map, length, IsTrue, MatchOption};
 ghost use Rattle.cborn_model.specs.Bytes.{AreBytes, IsShortest, big_endian};
 ghost use Rattle.cborn_model.specs.ItemView.{item_value, pair_value};
 ghost use Rattle.cborn_model.specs.devices.Pairs.{HasPair, Gives};

@@ -1,6 +1,7 @@
 //! How lists grow.
 
-ghost use Rattle.std.specs.Prelude.{◌≡◌, ◌<◌, ◌≤◌, ◌+◌, ◌*◌, max, [], ◌∷◌, ◌++◌, OnOk, OnErr, vec_len, vec_capacity};
+ghost use Rattle.std.specs.Prelude.{◌≡◌, ◌<◌, ◌≤◌, ◌+◌, ◌*◌, ◌∷◌, ◌++◌};
+ghost use Rattle.cborn_model.specs.Common.{max, [], OnOk, OnErr, vec_len, vec_capacity};
 
 use std::alloc::AllocError;
 

@@ -1,7 +1,8 @@
 //! Magnitudes of integers (RFC 8949 sections 3.1 and 3.4.3): big-endian bytes, and the numbers that
 //! they are.
 
-ghost use Rattle.std.specs.Prelude.{◌≡◌, ◌<◌, ◌≤◌, ◌^◌, length, IfOk, MatchOption};
+ghost use Rattle.std.specs.Prelude.{◌≡◌, ◌<◌, ◌≤◌, ◌^◌};
+ghost use Rattle.cborn_model.specs.Common.{length, IfOk, MatchOption};
 ghost use Rattle.cborn_model.specs.Bytes.{AreBytes, IsShortest, big_endian};
 
 use crate::ByteString;
@@ -23,6 +24,7 @@ pub fn magnitude_of(alloc: Global, bytes: &[u8]) -> Result<ByteString, AllocErro
 }
 
 /// The number with these big-endian bytes; `None` from 2^64 on.
+#[tactic(auto, using(crate::proofs::Numbers::SomeMagnitude::number_above, crate::proofs::Numbers::OneMagnitude::read_more))]
 #[inline]
 pub fn word_of(bytes: &[u8]) -> Option<u64>
     ensures { MatchOption result (2 ^ 64 ≤ big_endian bytes.now) (λ n. big_endian bytes.now ≡ n) }

@@ -2,7 +2,8 @@
 //! without values: generic code is compiled for each. A caller may add one, with a proof of its
 //! laws.
 
-ghost use Rattle.std.specs.Prelude.{◌≡◌, ℕ, List, IfSome};
+ghost use Rattle.std.specs.Prelude.{◌≡◌};
+ghost use Rattle.cborn_model.specs.Common.{ℕ, List, IfSome};
 ghost use Rattle.std.proofs.Common.{Ordering};
 ghost use Rattle.cborn_model.specs.Orders.{IsKeyOrder, bytewise, length_first, order_of};
 ghost use Rattle.cborn_model.specs.shared.OrderLaws.{bytewise_order, length_first_order};

@@ -1,6 +1,7 @@
 //! Which of several faults comes first.
 
-ghost use Rattle.std.specs.Prelude.{◌≡◌, ℕ};
+ghost use Rattle.std.specs.Prelude.{◌≡◌};
+ghost use Rattle.cborn_model.specs.Common.{ℕ};
 ghost use Rattle.cborn_model.specs.Earliest.{IsEarlier, IsEarliest};
 
 /// Something wrong at an offset, for a reason that has a number. The first of several is the one at

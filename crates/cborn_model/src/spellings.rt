@@ -1,6 +1,7 @@
 //! Which nodes spell bytes, and [`Spelled`], a node that does.
 
-ghost use Rattle.std.specs.Prelude.{◌≡◌, ◌-◌, ◌^◌, ◌↔◌, min, length, IsTrue};
+ghost use Rattle.std.specs.Prelude.{◌≡◌, ◌-◌, ◌^◌, ◌↔◌};
+ghost use Rattle.cborn_model.specs.Common.{min, length, IsTrue};
 ghost use Rattle.cborn_model.specs.Heads.{WidthFits, SizeFits};
 ghost use Rattle.cborn_model.specs.Tree.{depth, depth_all, depth_entries, trees, entries};
 ghost use Rattle.cborn_model.specs.Spelled.{Fits, FitsAll, FitsEntries, ChunksFit, IsSpelled};
@@ -143,6 +144,7 @@ fn pairs_have_room(pairs: &[(Node, Node)]) -> bool
     true
 }
 
+#[tactic(auto, using(crate::proofs::Listed::Deciding::refuted, crate::proofs::Listed::Deciding::failed, crate::proofs::Listed::Fitting::chunk_fits_at))]
 fn chunks_fit(chunks: &[Chunk]) -> bool
     ensures { IsTrue result ↔ ChunksFit chunks.now }
 {

@@ -1,6 +1,7 @@
 //! Which items are valid, and [`Valid`], an item that is. Texts are UTF-8 by their type.
 
-ghost use Rattle.std.specs.Prelude.{◌≡◌, ◌-◌, ◌^◌, ◌<◌, ◌↔◌, min, map, length, string_bytes, IsTrue, IsUtf8};
+ghost use Rattle.std.specs.Prelude.{◌≡◌, ◌-◌, ◌^◌, ◌<◌, ◌↔◌};
+ghost use Rattle.cborn_model.specs.Common.{min, map, length, string_bytes, IsTrue, IsUtf8};
 ghost use Rattle.cborn_model.specs.Bytes.{AreBytes, IsShortest};
 ghost use Rattle.cborn_model.specs.ItemView.{item_value, pair_value};
 ghost use Rattle.cborn_model.specs.Value.{values_of, pairs_of};
@@ -113,6 +114,7 @@ fn has_proper_pairs(pairs: &[(Item, Item)]) -> bool
 }
 
 /// Whether no two keys are the same.
+#[tactic(auto, using(crate::proofs::Listed::Deciding::refuted, crate::proofs::Listed::Deciding::there, crate::proofs::Listed::Validating::given_after_head))]
 fn has_new_keys(pairs: &[(Item, Item)]) -> bool
     requires { HasProperPairs (pairs_of (map pair_value pairs.now)) }
     ensures { IsTrue result ↔ HasNewKeys (pairs_of (map pair_value pairs.now)) }

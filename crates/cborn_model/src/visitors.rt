@@ -1,8 +1,7 @@
 //! The [`Visitor`], which is handed data items head by head, whatever they are read from.
 
-ghost use Rattle.std.specs.Prelude.{◌≡◌, ◌++◌, ℕ, List, [], length, true, false, OnOk, OnErr, IfOk, IsTrue};
-ghost use Rattle.cborn_model.specs.declared.heads.Width.{Width as Wide};
-ghost use Rattle.cborn_model.specs.declared.visitors.StringKind.{StringKind as Kind};
+ghost use Rattle.std.specs.Prelude.{◌≡◌, ◌++◌};
+ghost use Rattle.cborn_model.specs.Common.{ℕ, List, [], length, true, false, OnOk, OnErr, IfOk, IsTrue, Width as Wide, StringKind as Kind};
 ghost use Rattle.cborn_model.specs.Heads.{WidthFits, is_simple_value};
 ghost use Rattle.cborn_model.specs.Tree.{Tree, Simple};
 ghost use Rattle.cborn_model.specs.Partial.{Opening, an_array, a_map, a_tag, in_chunks, Partial, inside, Part, no_part, part, put, built, integer_tree, string_tree, Proper, TakesString, IsFree, Ends, CountFits};

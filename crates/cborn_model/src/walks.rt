@@ -1,6 +1,7 @@
 //! Handing nodes to a visitor.
 
-ghost use Rattle.std.specs.Prelude.{◌≡◌, length, OnOk, OnErr};
+ghost use Rattle.std.specs.Prelude.{◌≡◌};
+ghost use Rattle.cborn_model.specs.Common.{length, OnOk, OnErr};
 ghost use Rattle.cborn_model.specs.Heads.{WidthFits, SizeFits};
 ghost use Rattle.cborn_model.specs.Tree.{Items, Pairs, trees, entries};
 ghost use Rattle.cborn_model.specs.Spelled.{Fits, FitsAll, FitsEntries, ChunksFit};
@@ -100,6 +101,7 @@ fn count_of(size: Size, len: usize) -> Option<u64>
 }
 
 /// Hands a string of indefinite length to a visitor.
+#[tactic(auto, using(crate::proofs::Listed::Fitting::chunk_fits_at))]
 fn visit_chunks<V: Visitor>(
     visitor: &mut V,
     place: u64,

@@ -4,6 +4,7 @@ mod inputs;
 
 use self::inputs::{BYTES, TEXTS};
 use super::memory::Bytes;
+use super::wire::vectors::of_hex;
 use cborn_engine::{EngineFault, Kind, load};
 use cborn_model::Limit;
 use cborn_wire::{WireFault, WireReason, spell_all};
@@ -53,9 +54,10 @@ fn great_map(alloc: Global) -> Result<Vec<u8>, AllocError> {
 /// Catches a front of bytes that is answered with out of memory, or read as other bytes.
 #[test]
 fn bytes_are_loaded(rt: HostRuntime) -> Result<(), Fail> {
-    for input in BYTES {
+    for input in &of_hex(rt.alloc(), BYTES)? {
         are_loaded(&rt, rt.alloc(), input);
     }
+    are_loaded(&rt, rt.alloc(), b"");
     are_loaded(&rt, rt.alloc(), &great_map(rt.alloc())?);
     Ok(())
 }

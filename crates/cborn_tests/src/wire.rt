@@ -5,4 +5,4 @@ mod cuts;
 mod limits;
 mod readers;
 mod taking;
-mod vectors;
+pub mod vectors;

@@ -1,7 +1,7 @@
 -- The names that the proofs of this crate use, each from where it is defined.
-pub use Rattle.std.proofs.Common.{Bool, Err, IfOk, IsErrAnd, List, None, Ok, OnErr, Option, Result, Some, [], add-one, add-zero, ap, append-nil, append_assoc, arith, cond, drop, drop_at, eqb, false, get_or, inl, inr, leb, length, length-append, ltb, map, max, not, refl, rules, set, subst, suc, sym, take, take_at, true, vec_len, zero, zero-add, ℕ, ◌%◌, ◌&&◌, ◌*◌, ◌++◌, ◌+◌, ◌-◌, ◌/◌, ◌<◌, ◌^◌, ◌||◌, ◌∙◌, ◌∷◌, ◌≡◌, ◌≤◌, ◌⊎◌}
+pub use Rattle.std.proofs.Common.{Bool, Err, IfOk, IsErrAnd, List, None, Ok, OnErr, Option, Result, Some, [], add-one, add-zero, ap, append-nil, append_assoc, arith, cond, drop, drop_at, eqb, false, get_or, inl, inr, leb, length, length-append, ltb, map, max, not, refl, rules, set, subst, suc, sym, take, take_at, true, vec_len, zero, zero-add, ℕ, ◌∙◌}
 pub use Rattle.std.proofs.Math.Seq.{get_or-append_seam, take-add}
-pub use Rattle.std.proofs.lemmas.Bool.{agree_below_at, and_parts, cases_order, cond_both, eqb-true, false≢true, le-leb, le-ltb, leb-false, leb-true, lt-leb, lt-ltb, ltb-false, ltb-true, ne_eqb, not-true}
+pub use Rattle.std.proofs.lemmas.Bool.{agree_below_at, and_parts, cases_lt, cases_order, cond_both, eqb-true, false≢true, le-leb, le-ltb, leb-false, leb-true, lt-leb, lt-ltb, ltb-false, ltb-true, ne_eqb, not-true}
 pub use Rattle.std.proofs.lemmas.List.{append_cancel_left, drop-drop, drop-take, get_or_at, length-drop, length-replicate, length-take, length-take-le, length_push, nil_from_length, set_at, take-append-drop, take-append-le, take-take, take_all, take_more, take_more_set, take_rest}
 pub use Rattle.std.proofs.lemmas.Nat.{be_bytes_2, be_bytes_4, be_bytes_8, from_be_bytes-to_be_bytes_2, from_be_bytes-to_be_bytes_4, from_be_bytes-to_be_bytes_8}
 pub use Rattle.std.proofs.lemmas.Result.{err_from_is_err_and, on_ok_weaker}
@@ -42,15 +42,14 @@ pub use Rattle.cborn_wire.specs.declared.item_readers.ItemReader.{ItemReader}
 pub use Rattle.cborn_wire.specs.declared.leaves.GivenHead.{GivenHead}
 pub use Rattle.cborn_wire.specs.declared.levels.Level.{Level}
 pub use Rattle.cborn_wire.specs.declared.levels.LevelKind.{LevelKind}
-pub use Rattle.cborn_wire.specs.declared.levels.LevelKind.TheVariants.{Chunks, MapValue, Sequence}
 pub use Rattle.cborn_wire.specs.declared.nodes.Nodes.{Nodes}
 pub use Rattle.cborn_wire.specs.declared.spellers.OpenSpelling.{OpenSpelling}
 pub use Rattle.cborn_wire.specs.devices.Counting.{IsNoChunkSlot, plain}
 pub use Rattle.cborn_wire.specs.devices.ItemReading.{EndsHeld, IsMade, IsMoved, Took, pending, seen}
-pub use Rattle.cborn_wire.specs.devices.Leaves.{AfterLeaves, IsGiven, IsLeaf, IsLeafOf, TakesHead, TakesLeaves, TakesRun, content_len, leaf_tree}
+pub use Rattle.cborn_wire.specs.devices.Leaves.{AfterLeaves, IsGiven, IsLeaf, IsLeafOf, TakesHead, TakesRun, content_len, leaf_tree}
 pub use Rattle.cborn_wire.specs.devices.OpenNodes.{IsHeld, around, seen_nodes, seen_string, within}
 pub use Rattle.cborn_wire.specs.shared.Ground.{Ground, IsPlacedOpen, place_of}
 pub use Rattle.cborn_wire.specs.shared.InitialBytes.{EndlessInformation, Info, Next, Now, Reserved, front_reason, head_reason, info_at, info_for, is_always_bounded, is_bad_chunk, is_break, is_container, is_endless_head, is_float, is_of_kind, is_one, is_other, is_reserved}
 pub use Rattle.cborn_wire.specs.shared.Machine.{AtMostOneMore, Failed, Goal, IsLive, IsReached, Live, State, Stops, Unfinished, after_head, append_trees, argument_of, at_slot, begin_head, content_at, content_of, ended, finished, front, gather, gathered, gathering, held, holding, is_full, nothing, number, partial_bytes, ready_in, run, snoc, start, step, unless, width_bytes}
 pub use Rattle.cborn_wire.specs.shared.Spelling.{IsEnded, IsWritten, container, containers_of, counted, ending_of, entries_in, shape, sized_ending, with_head, written}
-pub use Rattle.cborn_wire.specs.shared.Visiting.{AreFromBytes, FailsAs, Here, HereAt, IsFed, IsFresh, IsInput, Keeps, MayEnd, Missing, Reads, ReadsItem, RefusesPiece, Stands, Takes, TakesPiece, at_most_highest, head_at, is_chunks, kind_in, levels, map_kind, may_end, next_head, next_number, open_in, ready, seen_head, slot_of, state, unfinished, with_part}
+pub use Rattle.cborn_wire.specs.shared.Visiting.{AreFromBytes, FailsAs, Here, HereAt, IsFed, IsFresh, IsInput, Keeps, MayEnd, Missing, Reads, ReadsItem, RefusesPiece, Stands, Takes, TakesPiece, announced_nodes, at_none, head_at, if_none, input_level, is_array, is_at_key, is_chunks, is_even, kind_at_none, kind_in, lessened, level_in, level_with, levels, may_end, next_head, open_in, parts_of, ready, room_in, seen_head, slot_of, state, unfinished, with_kind, with_part}

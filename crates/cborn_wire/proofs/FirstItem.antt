@@ -1,6 +1,6 @@
 -- What a reader of heads that stops after one item says of the front of the bytes.
-use Rattle.cborn_wire.proofs.Common.{◌≡◌, refl, sym, ap, ◌∙◌, subst, ℕ, ◌+◌, ◌<◌, ◌≤◌, List, [], ◌∷◌, ◌++◌, length, take, drop, append-nil, Option, Some, None, Ok, Err, inl, inr, arith, length-take-le, take-append-drop, take_all, drop-drop, nil_from_length, AreBytes, Tree, no_item, trees, depth, spelled, Fits, Wellformed, PlacedAll, Partial, Part, top, no_part, Fault, VisitFault, Refused, Memory, Truncated, Level, HeadReader, EndsHeld, nothing, Live, Failed, ready_in, start, run, AtMostOneMore, MayEnd, IsFed, ReadsItem}
-use Rattle.std.proofs.Common.{length-drop}
+use Rattle.cborn_wire.proofs.Common.{refl, sym, ap, ◌∙◌, subst, ℕ, List, [], length, take, drop, append-nil, Option, Some, None, Ok, Err, inl, inr, arith, length-take-le, take-append-drop, take_all, drop-drop, nil_from_length, AreBytes, Tree, no_item, trees, depth, spelled, Fits, Wellformed, PlacedAll, Partial, Part, top, no_part, Fault, VisitFault, Refused, Memory, Truncated, Level, HeadReader, EndsHeld, nothing, Live, Failed, ready_in, start, run, AtMostOneMore, MayEnd, IsFed, ReadsItem}
+use Rattle.std.proofs.Common.{length-drop, ◌≡◌, ◌+◌, ◌<◌, ◌≤◌, ◌∷◌, ◌++◌}
 use Rattle.cborn_model.proofs.Bytes.{bytes-right}
 use Rattle.cborn_wire.specs.Reading.{EndsItem}
 use Rattle.cborn_wire.specs.declared.faults.WireFault.TheVariants as wire

@@ -1,5 +1,6 @@
 -- The end of a buffer that is moved on, block by block.
-use Rattle.cborn_wire.proofs.Common.{◌≡◌, sym, ap, ◌∙◌, subst, ℕ, ◌+◌, ◌-◌, ◌<◌, ◌≤◌, List, ◌++◌, length, take, drop, arith, take-take, take-append-drop, drop-drop, drop-take}
+use Rattle.std.specs.Prelude.{◌≡◌, ◌+◌, ◌-◌, ◌<◌, ◌≤◌, ◌++◌}
+use Rattle.cborn_wire.proofs.Common.{sym, ap, ◌∙◌, subst, ℕ, List, length, take, drop, arith, take-take, take-append-drop, drop-drop, drop-take}
 
 -- one more block of len bytes is moved: all from `at` on is, and nothing before it
 pub moved : (old now next : List ℕ) (at len end more : ℕ) → end ≡ at + len → take end now ≡ take end old → drop (end + more) now ≡ drop end old → take (at + more) next ≡ take (at + more) now → drop (at + more) next ≡ take len (drop at now) ++ drop (at + more + len) now

@@ -1,5 +1,6 @@
 -- Integers that are told apart by the form of their initial bytes.
-use Rattle.cborn_wire.proofs.Common.{◌≡◌, ℕ, zero, suc, ◌+◌, ◌*◌, ◌/◌, ◌%◌, ◌<◌, ◌≤◌, inl, inr, List, [], ◌∷◌, ◌++◌, length, take, drop, get_or, refl, sym, ap, ◌∙◌, subst, arith, append_assoc, append-nil, length-append, length-drop, lt-ltb, le-ltb, Width, Direct, One, Two, Four, Eight, AreBytes, Other, code, least, Tree, Uint, Nint, IsInteger, IsShortLeaf, AreShortIntegers, Head, Full, major_at, IsHeadOf, Next, info_at, width_bytes, number}
+use Rattle.std.specs.Prelude.{◌≡◌, ◌+◌, ◌*◌, ◌/◌, ◌%◌, ◌<◌, ◌≤◌, ◌∷◌, ◌++◌}
+use Rattle.cborn_wire.proofs.Common.{ℕ, zero, suc, inl, inr, List, [], length, take, drop, get_or, refl, sym, ap, ◌∙◌, subst, arith, append_assoc, append-nil, length-append, length-drop, lt-ltb, le-ltb, Width, Direct, One, Two, Four, Eight, AreBytes, Other, code, least, Tree, Uint, Nint, IsInteger, IsShortLeaf, AreShortIntegers, Head, Full, major_at, IsHeadOf, Next, info_at, width_bytes, number}
 use Rattle.cborn_model.proofs.Numbers.Majors.{code_at}
 use Rattle.cborn_model.proofs.Numbers.Simples.{least_direct, least_one}
 use Rattle.cborn_wire.specs.declared.heads.Argument.TheVariants as arguments

@@ -2,72 +2,53 @@
 //! alone shows that they are allowed.
 
 ghost use Rattle.std.specs.Prelude.{◌≡◌, ◌+◌, ◌/◌, ◌%◌, ◌^◌, ◌<◌, ◌≤◌, ℕ, [], length, nat_le, true, None, OnErr, IfOk, ◌⊎◌};
-ghost use Rattle.cborn_model.specs.Heads.{Given, EndlessArgument, WidthFits};
 ghost use Rattle.cborn_model.specs.Partial.{Partial, no_part};
-ghost use Rattle.cborn_wire.specs.HeadReading.{major_at};
+ghost use Rattle.cborn_wire.specs.HeadReading.{ArgumentFits, major_at, seen_argument};
+ghost use Rattle.cborn_wire.specs.declared.heads.Argument.TheVariants.{Endless};
 ghost use Rattle.cborn_wire.specs.Slots.{AreOpen, slot, open_depth};
 ghost use Rattle.cborn_wire.specs.devices.Leaves.{TakesHead};
 ghost use Rattle.cborn_wire.specs.shared.InitialBytes.{info_at, head_reason};
-ghost use Rattle.cborn_wire.specs.shared.Machine.{after_head, ended, IsReached};
+ghost use Rattle.cborn_wire.specs.shared.Machine.{after_head, IsReached};
 ghost use Rattle.cborn_wire.specs.shared.Visiting.{ready, open_in, state, Keeps, Takes, Stands};
 
 use crate::Argument;
 use crate::counting::{end_innermost, open_array, open_map, open_tag};
-use crate::leaves::{GivenHead, given_head, take_leaves};
+use crate::leaves::{given_head, take_leaves};
 use crate::levels::Levels;
 use crate::refusals::is_plain;
 use cborn_model::Visitor;
 use std::alloc::AllocError;
 
-/// Takes the head at `place` of an array or a map of indefinite length, whose initial byte is
-/// `first`. Gives 0.
+/// Takes the head of an array, a map or a tag, whose initial byte is `first`, from the offset `place`
+/// to the offset `end`. Gives 0.
 #[inline(always)]
-fn open_endless<L: Levels, V: Visitor>(
+fn open_container<L: Levels, V: Visitor>(
     levels: &mut L,
     visitor: &mut V,
+    end: u64,
     place: u64,
-    first: u8,
+    head: (u8, Argument),
 ) -> Result<u64, AllocError>
-    requires least { 128 ≤ first }
-    requires most { first < 192 }
-    requires far { place + 1 < 2 ^ 64 }
+    requires least { 128 ≤ head.0 }
+    requires most { head.0 < 224 }
+    requires bounded { head.1 ≡ Endless → head.0 < 192 }
+    requires fits { ArgumentFits (seen_argument head.1) }
     requires room { length (L.outer levels.old) < L.most }
-    ensures goes { (f : Partial) → Takes f (major_at (first / 32)) EndlessArgument → V.holds visitor.old f no_part → Keeps f (L.outer levels.old) (L.inner levels.old) → IfOk result (λ left. Stands (V.holds visitor.new) (L.outer levels.new) (L.inner levels.new) left (place + 1) (after_head (place + 1) place (ready f) (open_in f) (major_at (first / 32)) EndlessArgument)) }
+    ensures goes { (f : Partial) → Takes f (major_at (head.0 / 32)) (seen_argument head.1) → V.holds visitor.old f no_part → Keeps f (L.outer levels.old) (L.inner levels.old) → IfOk result (λ left. Stands (V.holds visitor.new) (L.outer levels.new) (L.inner levels.new) left end (after_head end place (ready f) (open_in f) (major_at (head.0 / 32)) (seen_argument head.1))) }
     ensures zero { IfOk result (λ left. left ≡ 0) }
     ensures memory { OnErr result (V.takes_memory ⊎ L.takes_memory) }
 {
+    let (first, argument) = head;
     if first < 160 {
-        return open_array(levels, visitor, place + 1, place, Argument::Endless);
-    }
-    open_map(levels, visitor, place + 1, place, Argument::Endless)
-}
-
-/// Takes the head at `place` of an array or a map of definite length, or a tag. Gives 0.
-#[inline(always)]
-fn open_given<L: Levels, V: Visitor>(
-    levels: &mut L,
-    visitor: &mut V,
-    place: u64,
-    head: GivenHead,
-) -> Result<u64, AllocError>
-    requires least { 128 ≤ head.first }
-    requires most { head.first < 224 }
-    requires fits { WidthFits head.width head.argument }
-    requires far { place + head.len < 2 ^ 64 }
-    requires room { length (L.outer levels.old) < L.most }
-    ensures goes { (f : Partial) → Takes f (major_at (head.first / 32)) (Given head.width head.argument) → V.holds visitor.old f no_part → Keeps f (L.outer levels.old) (L.inner levels.old) → IfOk result (λ left. Stands (V.holds visitor.new) (L.outer levels.new) (L.inner levels.new) left (place + head.len) (after_head (place + head.len) place (ready f) (open_in f) (major_at (head.first / 32)) (Given head.width head.argument))) }
-    ensures zero { IfOk result (λ left. left ≡ 0) }
-    ensures memory { OnErr result (V.takes_memory ⊎ L.takes_memory) }
-{
-    let end = place + head.len as u64;
-    let argument = Argument::Given(head.width, head.argument);
-    if head.first < 160 {
         return open_array(levels, visitor, end, place, argument);
     }
-    if head.first < 192 {
+    if first < 192 {
         return open_map(levels, visitor, end, place, argument);
     }
-    open_tag(levels, visitor, place, head.width, head.argument)
+    let Argument::Given(width, n) = argument else {
+        unreachable!();
+    };
+    open_tag(levels, visitor, place, width, n)
 }
 
 /// Whether a head with this initial byte is allowed next, as far as that byte says. It is false too
@@ -80,37 +61,14 @@ fn is_allowed<L: Levels>(levels: &L, limit: u64, first: u8) -> bool
     if !is_plain(first) || levels.count() as u64 >= limit {
         return false;
     }
-    !levels.innermost().kind.is_chunks()
+    !levels.innermost().is_chunks()
 }
 
-/// Takes a break that ends at the offset `end`, if it may come here. Gives its length in bytes, and 0
-/// otherwise.
+/// Takes a head of indefinite length or a break, which `first` is, at the offset `place`. Gives its
+/// length in bytes, and 0 where it takes none, since it isn't allowed, or takes more to be found
+/// allowed.
 #[inline(always)]
-fn take_break<L: Levels, V: Visitor>(
-    levels: &mut L,
-    visitor: &mut V,
-    end: u64,
-) -> Result<usize, AllocError>
-    ensures goes { (place : ℕ) (f : Partial) → V.holds visitor.old f no_part → Keeps f (L.outer levels.old) (L.inner levels.old) → IfOk result (λ n. 0 < n → Stands (V.holds visitor.new) (L.outer levels.new) (L.inner levels.new) 0 end (ended end place (ready f) (open_in f))) }
-    ensures one { IfOk result (λ n. 0 < n → n ≡ 1) }
-    ensures none { IfOk result (λ n. n ≡ 0 → (visitor.new ≡ visitor.old) × (levels.new ≡ levels.old)) }
-    ensures memory { OnErr result V.takes_memory }
-{
-    if !levels.innermost().kind.may_end() {
-        return Ok(0);
-    }
-    end_innermost(levels, visitor, end)?;
-    Ok(1)
-}
-
-/// Takes the head of a container that is whole at the front of `piece`, whose first byte is at the
-/// offset `place`, or a break. Gives the length of it in bytes; 0 where it takes none, since the head
-/// is another one, isn't allowed, or takes more to be found allowed.
-///
-/// # Errors
-/// `AllocError` if memory is refused to levels or visitor, of which nothing is known then.
-#[inline(always)]
-fn take_container<L: Levels, V: Visitor>(
+fn take_endless<L: Levels, V: Visitor>(
     levels: &mut L,
     visitor: &mut V,
     limit: u64,
@@ -126,35 +84,28 @@ fn take_container<L: Levels, V: Visitor>(
 {
     let first = piece[0];
     if first == 255 {
-        return take_break(levels, visitor, place + 1);
-    }
-    if first < 128 || first >= 224 {
-        return Ok(0);
-    }
-    if first % 32 == 31 {
-        if !is_allowed(levels, limit, first) {
+        if !levels.innermost().may_end() {
             return Ok(0);
         }
-        open_endless(levels, visitor, place, first)?;
+        end_innermost(levels, visitor, place + 1)?;
         return Ok(1);
     }
-    let Some(head) = given_head(piece) else {
-        return Ok(0);
-    };
-    if !is_allowed(levels, limit, first) {
+    if first < 128 || first % 32 != 31 || !is_allowed(levels, limit, first) {
         return Ok(0);
     }
-    open_given(levels, visitor, place, head)?;
-    Ok(head.len)
+    let head = (first, Argument::Endless);
+    open_container(levels, visitor, place + 1, place, head)?;
+    Ok(1)
 }
 
-/// Takes the leaves at the front of `piece`, whose first byte is at the offset `place`, as
-/// `take_leaves` does; where there are none, a container's head or a break, as `take_container` does.
+/// Takes what is whole at the front of `piece`, whose first byte is at the offset `place`: a container's
+/// head, a break, or leaves as `take_leaves` does. Gives its length in bytes; 0 where it takes nothing,
+/// since a head or a string isn't whole, isn't allowed, or takes more to be found allowed.
 ///
 /// # Errors
 /// `AllocError` if memory is refused to levels or visitor, of which nothing is known then.
 #[inline(always)]
-fn take_leaves_or_container<L: Levels, V: Visitor>(
+fn take_whole<L: Levels, V: Visitor>(
     levels: &mut L,
     visitor: &mut V,
     limit: u64,
@@ -168,16 +119,24 @@ fn take_leaves_or_container<L: Levels, V: Visitor>(
     ensures none { IfOk result (λ n. n ≡ 0 → (visitor.new ≡ visitor.old) × (levels.new ≡ levels.old)) }
     ensures memory { OnErr result (V.takes_memory ⊎ L.takes_memory) }
 {
-    let len = take_leaves(levels, visitor, place, piece)?;
-    if len > 0 {
-        return Ok(len);
+    let Some(head) = given_head(piece) else {
+        return take_endless(levels, visitor, limit, place, piece);
+    };
+    if head.first < 128 || head.first >= 224 {
+        return take_leaves(levels, visitor, place, head, piece);
     }
-    take_container(levels, visitor, limit, place, piece)
+    if !is_allowed(levels, limit, head.first) {
+        return Ok(0);
+    }
+    let end = place + head.len as u64;
+    let argument = Argument::Given(head.width, head.argument);
+    open_container(levels, visitor, end, place, (head.first, argument))?;
+    Ok(head.len)
 }
 
 /// Takes what is whole at the front of `piece`, whose first byte is at the offset `place`: leaves,
 /// containers' heads and breaks, one after another, until nothing is open. Gives their length in bytes;
-/// 0 where `take_leaves_or_container` takes nothing.
+/// 0 where `take_whole` takes nothing.
 ///
 /// # Errors
 /// `AllocError` if memory is refused to levels or visitor, of which nothing is known then.
@@ -199,7 +158,7 @@ pub(crate) fn take_heads<L: Levels, V: Visitor>(
     let mut rest = piece;
     let mut at = place;
     'heads: while !rest.is_empty() {
-        let len = take_leaves_or_container(levels, visitor, limit, at, rest)?;
+        let len = take_whole(levels, visitor, limit, at, rest)?;
         if len == 0 {
             return Ok(piece.len() - rest.len());
         }

@@ -1,6 +1,6 @@
 //! What a head makes of the levels, and of what a visitor holds.
 
-ghost use Rattle.std.specs.Prelude.{◌≡◌, ◌<◌, ℕ, List, [], length, true, OnErr, IfOk, Err, ◌⊎◌, alloc_error};
+ghost use Rattle.std.specs.Prelude.{◌≡◌, ◌<◌, ℕ, List, [], length, true, None, OnErr, IfOk, Err, ◌⊎◌, alloc_error};
 ghost use Rattle.cborn_model.specs.declared.heads.Width.{Width as Wide};
 ghost use Rattle.cborn_model.specs.declared.heads.Major.TheVariants as majors;
 ghost use Rattle.cborn_model.specs.declared.visitors.StringKind.{StringKind as Kind};
@@ -9,12 +9,13 @@ ghost use Rattle.cborn_model.specs.Partial.{an_array, a_map, a_tag, in_chunks, P
 ghost use Rattle.cborn_model.specs.Tree.{Tree};
 ghost use Rattle.cborn_wire.specs.declared.faults.VisitFault.TheVariants.{Refused, Memory};
 ghost use Rattle.cborn_wire.specs.declared.faults.WireReason.{WireReason as Reason};
+ghost use Rattle.cborn_wire.specs.declared.levels.Level.{Level as OneLevel};
 ghost use Rattle.cborn_wire.specs.Slots.{major_of};
 ghost use Rattle.cborn_wire.specs.HeadReading.{major_at, size_in, count_in, seen_argument, ArgumentFits};
 ghost use Rattle.cborn_wire.specs.shared.Machine.{finished, holding, ended, content_at, after_head};
-ghost use Rattle.cborn_wire.specs.shared.Visiting.{may_end, ready, open_in, Keeps, Takes, Stands, Gives};
+ghost use Rattle.cborn_wire.specs.shared.Visiting.{may_end, with_part, ready, open_in, Keeps, Takes, Stands, Gives};
 
-use crate::levels::{Level, LevelKind, Levels, next_number};
+use crate::levels::{Level, Levels};
 use crate::{Argument, Head, VisitFault, WireReason};
 use cborn_model::{Major, StringKind, Visitor, Width};
 use std::alloc::AllocError;
@@ -22,25 +23,42 @@ use std::alloc::AllocError;
 /// Counts a whole item, which ends at the offset `end` and which the visitor has taken, in the
 /// innermost level. If that was its last part, the level is closed and counted in the next one, and
 /// so on. Gives 0.
+#[inline(always)]
 pub(crate) fn finish<L: Levels, V: Visitor>(
     levels: &mut L,
     visitor: &mut V,
     end: u64,
 ) -> Result<u64, AllocError>
+    ensures string { (f : Partial) (p : ℕ) (k : Kind) (w : Wide) (x : List ℕ) → TakesString f k → V.holds visitor.old (put f (string_tree p k w x)) no_part → Keeps f (L.outer levels.old) (L.inner levels.old) → IfOk result (λ left. Stands (V.holds visitor.new) (L.outer levels.new) (L.inner levels.new) left end (finished end (ready f) (open_in f) (string_tree p k w x))) }
     ensures goes { (f : Partial) (t : Tree) → TakesItem f → V.holds visitor.old (put f t) no_part → Keeps f (L.outer levels.old) (L.inner levels.old) → IfOk result (λ left. Stands (V.holds visitor.new) (L.outer levels.new) (L.inner levels.new) left end (finished end (ready f) (open_in f) t)) }
     ensures zero { IfOk result (λ left. left ≡ 0) }
     ensures memory { OnErr result V.takes_memory }
 {
-    loop {
-        if let Some(kind) = levels.innermost().kind.with_part() {
-            levels.set(kind);
-            return Ok(0);
-        }
-        if !levels.leave() {
-            return Ok(0);
-        }
-        visitor.close()?;
+    if levels.add_part() {
+        return Ok(0);
     }
+    close(levels, visitor, end)
+}
+
+/// Closes the innermost level, whose last part is whole and was handed to the visitor, and counts it in
+/// the next one, and so on. Gives 0.
+#[inline(never)]
+fn close<L: Levels, V: Visitor>(
+    levels: &mut L,
+    visitor: &mut V,
+    end: u64,
+) -> Result<u64, AllocError>
+    ensures goes { (f : Partial) (t : Tree) (l : OneLevel) → V.holds visitor.old (put f t) no_part → Keeps f (L.outer levels.old) l → with_part l ≡ None → IfOk result (λ left. Stands (V.holds visitor.new) (L.outer levels.new) (L.inner levels.new) left end (finished end (ready f) (open_in f) t)) }
+    ensures zero { IfOk result (λ left. left ≡ 0) }
+    ensures memory { OnErr result V.takes_memory }
+{
+    'levels: while levels.leave() {
+        visitor.close()?;
+        if levels.add_part() {
+            return Ok(0);
+        }
+    }
+    Ok(0)
 }
 
 /// Takes a break, from the offset `place` to the offset `end`. Gives 0.
@@ -54,7 +72,7 @@ pub(crate) fn end<L: Levels, V: Visitor>(
     ensures kept { (p : ℕ) (r : Reason) → result ≡ Err (Refused p r) → (p ≡ place) × (visitor.new ≡ visitor.old) × (levels.new ≡ levels.old) }
     ensures memory { result ≡ Err (Memory alloc_error) → V.takes_memory }
 {
-    if !levels.innermost().kind.may_end() {
+    if !levels.innermost().may_end() {
         return Err(VisitFault::Refused {
             place,
             reason: WireReason::UnexpectedBreak,
@@ -71,7 +89,7 @@ pub(crate) fn end_innermost<L: Levels, V: Visitor>(
     visitor: &mut V,
     end: u64,
 ) -> Result<u64, AllocError>
-    requires { may_end (L.inner levels.old).kind ≡ true }
+    requires { may_end (L.inner levels.old).kind (L.inner levels.old).missing ≡ true }
     ensures goes { (place : ℕ) (f : Partial) → V.holds visitor.old f no_part → Keeps f (L.outer levels.old) (L.inner levels.old) → IfOk result (λ left. Stands (V.holds visitor.new) (L.outer levels.new) (L.inner levels.new) left end (ended end place (ready f) (open_in f))) }
     ensures zero { IfOk result (λ left. left ≡ 0) }
     ensures memory { OnErr result V.takes_memory }
@@ -94,10 +112,6 @@ pub(crate) fn close_string<L: Levels, V: Visitor>(
     ensures memory { OnErr result V.takes_memory }
 {
     visitor.close_string()?;
-    if let LevelKind::Chunks(kind, parts) = levels.innermost().kind {
-        levels.set(LevelKind::Chunks(kind, next_number(parts)));
-        return Ok(0);
-    }
     finish(levels, visitor, end)
 }
 
@@ -143,8 +157,7 @@ fn open_chunks<L: Levels, V: Visitor>(
     ensures memory { OnErr result (V.takes_memory ⊎ L.takes_memory) }
 {
     visitor.open_chunks(place, kind)?;
-    let kind = LevelKind::Chunks(kind, 0);
-    levels.open(Level { place, kind })?;
+    levels.open(Level::of_chunks(place, kind))?;
     Ok(0)
 }
 
@@ -169,8 +182,7 @@ pub(crate) fn open_array<L: Levels, V: Visitor>(
         visitor.close()?;
         return finish(levels, visitor, end);
     }
-    let kind = LevelKind::Array(count, 0);
-    levels.open(Level { place, kind })?;
+    levels.open(Level::of_array(place, count))?;
     Ok(0)
 }
 
@@ -195,8 +207,7 @@ pub(crate) fn open_map<L: Levels, V: Visitor>(
         visitor.close()?;
         return finish(levels, visitor, end);
     }
-    let kind = LevelKind::Map(count, 0);
-    levels.open(Level { place, kind })?;
+    levels.open(Level::of_map(place, count))?;
     Ok(0)
 }
 
@@ -216,8 +227,7 @@ pub(crate) fn open_tag<L: Levels, V: Visitor>(
     ensures memory { OnErr result (V.takes_memory ⊎ L.takes_memory) }
 {
     visitor.open_tag(place, width, n)?;
-    let kind = LevelKind::Tag(n);
-    levels.open(Level { place, kind })?;
+    levels.open(Level::of_tag(place, n))?;
     Ok(0)
 }
 

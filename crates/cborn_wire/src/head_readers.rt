@@ -48,7 +48,7 @@ fn refusal<L: Levels>(levels: &L, limit: u64, first: u8) -> Option<WireReason>
     ensures { (f : Partial) → Keeps f (L.outer levels.now) (L.inner levels.now) → AreOpen limit (open_in f) → result ≡ head_reason (slot (open_in f)) (nat_le limit (open_depth (open_in f))) (major_at (first / 32)) (info_at (first % 32)) [] }
 {
     let is_full = levels.count() as u64 >= limit;
-    levels.innermost().kind.slot().refusal(is_full, first)
+    levels.innermost().slot().refusal(is_full, first)
 }
 
 /// How far a [`HeadReader`] reads.

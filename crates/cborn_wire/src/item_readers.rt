@@ -8,7 +8,7 @@ ghost use Rattle.cborn_wire.specs.devices.ItemReading.{pending, seen, IsMade, Re
 
 use crate::VisitFault;
 use crate::head_readers::{HeadReader, Until};
-use crate::levels::{GrownLevels, LevelKind, Levels};
+use crate::levels::GrownLevels;
 use crate::nodes::Nodes;
 use cborn_model::{Limit, Spelled};
 use std::alloc::Global;
@@ -66,7 +66,7 @@ impl ItemReader {
             return Ok((len, None));
         };
         // The items that were given are counted no more.
-        self.levels.set(LevelKind::Sequence(0));
+        self.levels.start_anew();
         Ok((len, Some(Spelled::new(node))))
     }
 }

@@ -6,14 +6,14 @@ ghost use Rattle.cborn_model.specs.Bytes.{AreBytes};
 ghost use Rattle.cborn_model.specs.Heads.{WidthFits};
 ghost use Rattle.cborn_model.specs.Partial.{Partial, no_part, put, IsFree};
 ghost use Rattle.cborn_wire.specs.HeadReading.{major_at};
-ghost use Rattle.cborn_wire.specs.devices.Leaves.{IsGiven, IsLeafOf, IsLeaf, content_len, leaf_tree, TakesRun, TakesLeaves};
+ghost use Rattle.cborn_wire.specs.devices.Leaves.{IsGiven, IsLeafOf, IsLeaf, content_len, leaf_tree, TakesHead};
 ghost use Rattle.cborn_wire.specs.shared.InitialBytes.{Next, info_at};
 ghost use Rattle.cborn_wire.specs.shared.Visiting.{Keeps};
 
 use crate::counting::finish;
 use crate::heads::{read_number, width_len};
-use crate::levels::{LevelKind, Levels};
-use crate::runs::{Taken, take_run};
+use crate::levels::Levels;
+use crate::runs::take_run;
 use cborn_model::{StringKind, Visitor, Width};
 use std::alloc::AllocError;
 
@@ -88,6 +88,15 @@ pub(crate) fn leaf_at(bytes: &[u8]) -> Option<Leaf>
     ensures { MatchOption result ⊤ (λ leaf. IsLeafOf bytes.now leaf.head leaf.end) }
 {
     let head = given_head(bytes)?;
+    leaf_of(head, bytes)
+}
+
+/// The leaf with this head, if it is whole at the front of `bytes`.
+#[inline(always)]
+fn leaf_of(head: GivenHead, bytes: &[u8]) -> Option<Leaf>
+    requires { IsGiven bytes.now head }
+    ensures { MatchOption result ⊤ (λ leaf. IsLeafOf bytes.now leaf.head leaf.end × (leaf.head ≡ head)) }
+{
     if head.first < 64 || head.first >= 224 {
         let end = head.len;
         return Some(Leaf { head, end });
@@ -99,16 +108,10 @@ pub(crate) fn leaf_at(bytes: &[u8]) -> Option<Leaf>
     Some(Leaf { head, end })
 }
 
-/// Whether a leaf may begin with this byte.
-#[inline(always)]
-fn may_be_leaf(first: u8) -> bool {
-    first < 128 || first >= 224
-}
-
 /// Hands the leaf with this head, at the offset `place`, to a visitor. `bytes` is the content of a
 /// string, and empty of other leaves.
 #[inline(always)]
-fn visit_leaf<V: Visitor>(
+pub(crate) fn visit_leaf<V: Visitor>(
     visitor: &mut V,
     place: u64,
     head: GivenHead,
@@ -134,72 +137,32 @@ fn visit_leaf<V: Visitor>(
     visitor.string(place, kind, head.width, bytes)
 }
 
-/// Takes the leaf at the front of `bytes`, which is at the offset `place`, and with it the rest of a run
-/// of integers or the value of a key, if the visitor takes these at once. `None`: there is no leaf.
-#[inline(always)]
-fn take_next<V: Visitor>(
-    visitor: &mut V,
-    kind: LevelKind,
-    place: u64,
-    bytes: &[u8],
-) -> Result<Option<Taken>, AllocError>
-    ensures taken { IfOk result (λ r. MatchOption r (visitor.new ≡ visitor.old) (λ t. TakesRun place bytes.now kind t.before_last (V.holds visitor.old) (V.holds visitor.new) t.len)) }
-    ensures memory { OnErr result V.takes_memory }
-{
-    let Some(leaf) = leaf_at(bytes) else {
-        return Ok(None);
-    };
-    if let Some(taken) = take_run(visitor, kind, leaf, place, bytes)? {
-        return Ok(Some(taken));
-    }
-    visit_leaf(visitor, place, leaf.head, &bytes[leaf.head.len..leaf.end])?;
-    Ok(Some(Taken {
-        len: leaf.end,
-        before_last: kind,
-    }))
-}
-
-/// Takes the leaves at the front of `piece`, whose first byte is at the offset `place`: those that
-/// are whole in it, up to the last part of the innermost container. Gives their length in bytes.
-/// Between items of the input and in a string of indefinite length it takes none.
-///
-/// # Errors
-/// `AllocError` if memory is refused to the visitor, of which nothing is known then.
+/// Takes leaves at the front of `piece`, which begins with this head at the offset `place`: one, or
+/// those that the visitor takes at a time. Gives their length in bytes. 0: the head is none of a leaf,
+/// or the leaf isn't whole, or no item is allowed here.
 #[inline(always)]
 pub(crate) fn take_leaves<L: Levels, V: Visitor>(
     levels: &mut L,
     visitor: &mut V,
     place: u64,
+    head: GivenHead,
     piece: &[u8],
 ) -> Result<usize, AllocError>
-    requires some { 0 < length piece.now }
+    requires given { IsGiven piece.now head }
     requires room { place + length piece.now < 2 ^ 64 }
-    ensures goes { (f : Partial) → V.holds visitor.old f no_part → Keeps f (L.outer levels.old) (L.inner levels.old) → IfOk result (TakesLeaves place f piece.now (V.holds visitor.new) (L.outer levels.new) (L.inner levels.new)) }
+    ensures goes { (limit : ℕ) (f : Partial) → V.holds visitor.old f no_part → Keeps f (L.outer levels.old) (L.inner levels.old) → IfOk result (λ n. 0 < n → TakesHead limit place f piece.now (V.holds visitor.new) (L.outer levels.new) (L.inner levels.new) n) }
     ensures none { IfOk result (λ n. n ≡ 0 → (visitor.new ≡ visitor.old) × (levels.new ≡ levels.old)) }
     ensures memory { OnErr result V.takes_memory }
 {
-    if !may_be_leaf(piece[0]) {
+    let level = levels.innermost();
+    if level.is_chunks() {
         return Ok(0);
     }
-    let mut kind = levels.innermost().kind;
-    if kind.is_chunks() || levels.count() == 0 {
+    let Some(leaf) = leaf_of(head, piece) else {
         return Ok(0);
-    }
-    let mut rest = piece;
-    let mut at = place;
-    while let Some(taken) = take_next(visitor, kind, at, rest)? {
-        rest = &rest[taken.len..];
-        at += taken.len as u64;
-        let Some(next) = taken.before_last.with_part() else {
-            levels.set(taken.before_last);
-            finish(levels, visitor, at)?;
-            return Ok(piece.len() - rest.len());
-        };
-        kind = next;
-    }
-    if rest.len() == piece.len() {
-        return Ok(0);
-    }
-    levels.set(kind);
-    Ok(piece.len() - rest.len())
+    };
+    let taken = take_run(visitor, level, leaf, place, piece)?;
+    levels.add_parts(taken.before_last);
+    finish(levels, visitor, place + taken.len as u64)?;
+    Ok(taken.len)
 }

@@ -1,130 +1,226 @@
 //! The levels that a reader is inside: of each it keeps only what its next head needs.
 
-ghost use Rattle.std.specs.Prelude.{◌≡◌, ◌∷◌, ◌++◌, ◌-◌, ◌<◌, ℕ, List, [], length, take, slice_index_or, true, false, IfOk, OnOk, OnErr};
-ghost use Rattle.cborn_wire.specs.Slots as slots;
+ghost use Rattle.std.specs.Prelude.{◌≡◌, ◌∷◌, ◌++◌, ◌-◌, ◌<◌, ℕ, List, [], length, take, slice_index_or, true, false, None, Some, IfOk, OnOk, OnErr};
+ghost use Rattle.cborn_model.specs.Partial.{a_map, an_array, in_chunks};
+ghost use Rattle.cborn_model.specs.declared.heads.Size.{Size};
 ghost use Rattle.cborn_wire.specs.declared.levels.Level.{Level as OneLevel};
-ghost use Rattle.cborn_wire.specs.declared.levels.LevelKind.TheVariants.{Sequence};
+ghost use Rattle.cborn_wire.specs.declared.levels.LevelKind.TheVariants.{Tag};
 ghost use Rattle.cborn_wire.specs.devices.Counting.{seen_slot};
-ghost use Rattle.cborn_wire.specs.shared.Machine.{is_all};
-ghost use Rattle.cborn_wire.specs.shared.Visiting.{next_number, with_part, is_chunks, may_end, slot_of, IsInput};
+ghost use Rattle.cborn_wire.specs.shared.Visiting.{IsInput, at_none, input_level, is_array, is_chunks, is_at_key, lessened, level_in, may_end, parts_of, room_in, slot_of, with_part};
 
 use crate::refusals::Slot;
 use cborn_model::StringKind;
 use std::alloc::{AllocError, Global};
 
-/// The input, or an open container in it. The last number is how many of its parts are complete,
-/// up to 2^64-1. An `Option` is how many the head announces, and `None` an indefinite length.
-#[derive(Clone, Copy)]
+/// What a level is.
+#[derive(Clone, Copy, PartialEq, Eq)]
 pub enum LevelKind {
     /// The input itself: a sequence of items (RFC 8742).
-    Sequence(u64),
-    /// An array; its parts are elements.
-    Array(Option<u64>, u64),
-    /// A map in which a key comes next; its parts are pairs.
-    Map(Option<u64>, u64),
-    /// A map in which the value of a pair comes next; its parts are pairs.
-    MapValue(Option<u64>, u64),
-    /// A tag of this number.
-    Tag(u64),
-    /// A string of indefinite length; its parts are chunks.
-    Chunks(StringKind, u64),
+    Sequence,
+    Array,
+    Map,
+    /// A map of which more than 2^64 keys and values are missing.
+    GreatMap,
+    Tag,
+    /// An array of indefinite length.
+    EndlessArray,
+    /// A map of indefinite length.
+    EndlessMap,
+    /// A string of indefinite length.
+    Chunks(StringKind),
 }
 
-impl LevelKind {
-    /// This level with one more part. `None`: that was its last part.
-    #[inline(always)]
-    pub(crate) fn with_part(self) -> Option<LevelKind>
-        ensures { result ≡ with_part self }
-    {
-        match self {
-            LevelKind::Sequence(parts) => Some(LevelKind::Sequence(next_number(parts))),
-            LevelKind::Array(most, parts) => {
-                let parts = next_number(parts);
-                if is_all(most, parts) {
-                    return None;
-                }
-                Some(LevelKind::Array(most, parts))
-            }
-            LevelKind::Map(most, parts) => Some(LevelKind::MapValue(most, parts)),
-            LevelKind::MapValue(most, parts) => {
-                let parts = next_number(parts);
-                if is_all(most, parts) {
-                    return None;
-                }
-                Some(LevelKind::Map(most, parts))
-            }
-            LevelKind::Tag(_) => None,
-            LevelKind::Chunks(kind, parts) => Some(LevelKind::Chunks(kind, next_number(parts))),
-        }
-    }
-
-    /// Whether it is a string of indefinite length.
-    #[inline(always)]
-    pub(crate) fn is_chunks(self) -> bool
-        ensures { result ≡ is_chunks self }
-    {
-        matches!(self, LevelKind::Chunks(_, _))
-    }
-
-    /// Whether a break may end it.
-    #[inline(always)]
-    pub(crate) fn may_end(self) -> bool
-        ensures { result ≡ may_end self }
-    {
-        matches!(
-            self,
-            LevelKind::Array(None, _) | LevelKind::Map(None, _) | LevelKind::Chunks(_, _)
-        )
-    }
-
-    /// What may come next in it.
-    #[inline(always)]
-    pub(crate) fn slot(self) -> Slot
-        ensures { seen_slot result ≡ slot_of self }
-    {
-        match self {
-            LevelKind::Array(None, _) | LevelKind::Map(None, _) => Slot::ItemOrBreak,
-            LevelKind::Chunks(kind, _) => Slot::Chunk(kind),
-            _ => Slot::Item,
-        }
-    }
-}
-
-/// One more, up to 2^64-1.
-#[inline(always)]
-pub(crate) fn next_number(n: u64) -> u64
-    ensures { result ≡ next_number n }
-{
-    if n < u64::MAX { n + 1 } else { n }
-}
-
-/// Whether `parts` are all that were announced.
-#[inline(always)]
-fn is_all(most: Option<u64>, parts: u64) -> bool
-    ensures { result ≡ is_all most parts }
-{
-    match most {
-        Some(most) => most <= parts,
-        None => false,
-    }
-}
-
-/// A level, and the offset in bytes of its head; 0 for the input.
+/// The input, or an open container in it. Its parts are items, elements, keys and values, the content
+/// of a tag, or chunks.
 #[derive(Clone, Copy)]
 pub struct Level {
+    /// The offset of its head in bytes; 0 for the input.
     pub place: u64,
     pub kind: LevelKind,
+    /// The argument of its head; 0 where it has none.
+    pub argument: u64,
+    /// How many parts are missing, modulo 2^64; where no number is announced, 0 minus those that came.
+    pub missing: u64,
 }
 
 impl Level {
     /// The input, of which nothing was read.
     pub(crate) fn input() -> Level
-        ensures { result ≡ record { place = 0; kind = LevelKind.Sequence 0 } }
+        ensures { result ≡ input_level 0 }
+    {
+        Level::endless(0, LevelKind::Sequence)
+    }
+
+    /// A level that announces no number of parts.
+    #[inline(always)]
+    fn endless(place: u64, kind: LevelKind) -> Level
+        ensures { result ≡ record { place = place; kind = kind; argument = 0; missing = 0 } }
     {
         Level {
-            place: 0,
-            kind: LevelKind::Sequence(0),
+            place,
+            kind,
+            argument: 0,
+            missing: 0,
         }
+    }
+
+    /// An array of which nothing but its head was read.
+    #[inline(always)]
+    pub(crate) fn of_array(place: u64, count: Option<u64>) -> Level
+        ensures { (s : Size) → result ≡ level_in (an_array place s count) [] }
+    {
+        let Some(n) = count else {
+            return Level::endless(place, LevelKind::EndlessArray);
+        };
+        Level {
+            place,
+            kind: LevelKind::Array,
+            argument: n,
+            missing: n,
+        }
+    }
+
+    /// A map of which nothing but its head was read.
+    #[inline(always)]
+    pub(crate) fn of_map(place: u64, count: Option<u64>) -> Level
+        ensures { (s : Size) → result ≡ level_in (a_map place s count) [] }
+    {
+        let Some(n) = count else {
+            return Level::endless(place, LevelKind::EndlessMap);
+        };
+        let kind = if n > 1 << 63 {
+            LevelKind::GreatMap
+        } else {
+            LevelKind::Map
+        };
+        Level {
+            place,
+            kind,
+            argument: n,
+            missing: n.wrapping_add(n),
+        }
+    }
+
+    /// The tag of this number, of which nothing but its head was read.
+    #[inline(always)]
+    pub(crate) fn of_tag(place: u64, number: u64) -> Level
+        ensures { result ≡ record { place = place; kind = Tag; argument = number; missing = 1 } }
+    {
+        Level {
+            place,
+            kind: LevelKind::Tag,
+            argument: number,
+            missing: 1,
+        }
+    }
+
+    /// A string of indefinite length of which nothing but its head was read.
+    pub(crate) fn of_chunks(place: u64, kind: StringKind) -> Level
+        ensures { result ≡ level_in (in_chunks place kind) [] }
+    {
+        Level::endless(place, LevelKind::Chunks(kind))
+    }
+
+    /// How many parts are whole, modulo 2^64. Says nothing of a tag.
+    pub fn parts(&self) -> u64
+        ensures { result ≡ parts_of self.now }
+    {
+        let announced = match self.kind {
+            LevelKind::Map | LevelKind::GreatMap => self.argument.wrapping_add(self.argument),
+            _ => self.argument,
+        };
+        announced.wrapping_sub(self.missing)
+    }
+
+    /// Counts one more part, and gives whether it isn't the last. After the last nothing is known of
+    /// the level.
+    #[inline(always)]
+    fn add_part(&mut self) -> bool
+        ensures more { result ≡ true → with_part self.old ≡ Some self.new }
+        ensures last { result ≡ false → with_part self.old ≡ None }
+    {
+        self.missing = self.missing.wrapping_sub(1);
+        self.missing != 0 || self.goes_on()
+    }
+
+    /// Whether there are more parts, where the number of those that are missing is a multiple of 2^64.
+    #[cold]
+    fn goes_on(&mut self) -> bool
+        ensures more { result ≡ true → at_none self.old ≡ Some self.new }
+        ensures last { result ≡ false → at_none self.old ≡ None }
+    {
+        match self.kind {
+            LevelKind::Array | LevelKind::Map | LevelKind::Tag => false,
+            LevelKind::GreatMap => {
+                self.kind = LevelKind::Map;
+                true
+            }
+            _ => true,
+        }
+    }
+
+    /// Whether it is an array.
+    #[inline(always)]
+    pub(crate) fn is_array(&self) -> bool
+        ensures { result ≡ is_array self.now.kind }
+    {
+        matches!(self.kind, LevelKind::Array | LevelKind::EndlessArray)
+    }
+
+    /// How many parts at most may come in an array.
+    #[inline(always)]
+    pub(crate) fn room(&self) -> u64
+        ensures { result ≡ room_in self.now.kind self.now.missing }
+    {
+        match self.kind {
+            LevelKind::EndlessArray => u64::MAX,
+            _ => self.missing,
+        }
+    }
+
+    /// Whether it is a map in which a key comes next.
+    #[inline(always)]
+    pub(crate) fn is_at_key(&self) -> bool
+        ensures { result ≡ is_at_key self.now.kind self.now.missing }
+    {
+        match self.kind {
+            LevelKind::Map | LevelKind::GreatMap | LevelKind::EndlessMap => self.missing % 2 == 0,
+            _ => false,
+        }
+    }
+
+    /// Whether it is a string of indefinite length.
+    #[inline(always)]
+    pub(crate) fn is_chunks(&self) -> bool
+        ensures { result ≡ is_chunks self.now.kind }
+    {
+        matches!(self.kind, LevelKind::Chunks(_))
+    }
+
+    /// Whether a break may end it.
+    #[inline(always)]
+    pub(crate) fn may_end(&self) -> bool
+        ensures { result ≡ may_end self.now.kind self.now.missing }
+    {
+        match self.kind {
+            LevelKind::EndlessArray | LevelKind::Chunks(_) => true,
+            LevelKind::EndlessMap => self.missing % 2 == 0,
+            _ => false,
+        }
+    }
+
+    /// What may come next in it.
+    #[inline(always)]
+    pub(crate) fn slot(&self) -> Slot
+        ensures { seen_slot result ≡ slot_of self.now.kind self.now.missing }
+    {
+        if let LevelKind::Chunks(kind) = self.kind {
+            return Slot::Chunk(kind);
+        }
+        if self.may_end() {
+            return Slot::ItemOrBreak;
+        }
+        Slot::Item
     }
 }
 
@@ -150,10 +246,18 @@ pub trait Levels {
     fn count(&self) -> usize
         ensures { result ≡ length (outer self.now) };
 
-    /// Takes `kind` for the innermost.
-    fn set(&mut self, kind: LevelKind)
-        ensures inner { inner self.new ≡ record (inner self.old) { kind = kind } }
-        ensures outer { outer self.new ≡ outer self.old };
+    /// Counts one more part of the innermost, and gives whether it isn't the last. After the last
+    /// nothing is known of the innermost.
+    fn add_part(&mut self) -> bool
+        ensures outer { outer self.new ≡ outer self.old }
+        ensures more { result ≡ true → with_part (inner self.old) ≡ Some (inner self.new) }
+        ensures last { result ≡ false → with_part (inner self.old) ≡ None };
+
+    /// Counts so many more parts of the innermost, where more than these are missing or nobody knows
+    /// how many.
+    fn add_parts(&mut self, count: u64)
+        ensures outer { outer self.new ≡ outer self.old }
+        ensures inner { inner self.new ≡ record (inner self.old) { missing = lessened (inner self.old).missing count } };
 
     /// Opens a level inside the innermost.
     ///
@@ -195,6 +299,14 @@ impl GrownLevels {
         }
     }
 
+    /// Forgets the parts of the input, in which nothing is open.
+    pub(crate) fn start_anew(&mut self)
+        ensures outer { self.new.outer.items ≡ self.old.outer.items }
+        ensures inner { self.new.inner ≡ input_level 0 }
+    {
+        self.inner = Level::input();
+    }
+
     /// All levels, the outermost first and the innermost last.
     ///
     /// # Errors
@@ -228,8 +340,13 @@ impl Levels for GrownLevels {
     }
 
     #[inline(always)]
-    fn set(&mut self, kind: LevelKind) {
-        self.inner.kind = kind;
+    fn add_part(&mut self) -> bool {
+        self.inner.add_part()
+    }
+
+    #[inline(always)]
+    fn add_parts(&mut self, count: u64) {
+        self.inner.missing = self.inner.missing.wrapping_sub(count);
     }
 
     fn open(&mut self, level: Level) -> Result<(), AllocError> {
@@ -273,7 +390,7 @@ impl<const MOST: usize> LevelTable<MOST> {
 impl<const MOST: usize> Levels for LevelTable<MOST> {
     ghost outer = { λ l. take l.around l.levels };
 
-    ghost inner = { λ l. slice_index_or l.levels l.around (record { place = 0; kind = Sequence 0 }) };
+    ghost inner = { λ l. slice_index_or l.levels l.around (input_level 0) };
 
     ghost takes_memory = { ⊥ };
 
@@ -290,8 +407,14 @@ impl<const MOST: usize> Levels for LevelTable<MOST> {
     }
 
     #[inline(always)]
-    fn set(&mut self, kind: LevelKind) {
-        self.levels[self.around].kind = kind;
+    fn add_part(&mut self) -> bool {
+        self.levels[self.around].add_part()
+    }
+
+    #[inline(always)]
+    fn add_parts(&mut self, count: u64) {
+        let missing = self.levels[self.around].missing;
+        self.levels[self.around].missing = missing.wrapping_sub(count);
     }
 
     fn open(&mut self, level: Level) -> Result<(), AllocError> {

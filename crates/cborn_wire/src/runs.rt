@@ -4,11 +4,12 @@ ghost use Rattle.std.specs.Prelude.{◌≡◌, ◌≤◌, ◌/◌, ℕ, Option, 
 ghost use Rattle.cborn_model.specs.Heads.{WidthFits, least};
 ghost use Rattle.cborn_model.specs.shared.Runs.{text_in as content_of_text};
 ghost use Rattle.cborn_wire.specs.HeadReading.{major_at};
-ghost use Rattle.cborn_wire.specs.declared.levels.LevelKind.TheVariants.{Array, Map, MapValue};
+ghost use Rattle.cborn_wire.specs.declared.levels.Level.{Level as OneLevel};
 ghost use Rattle.cborn_wire.specs.devices.Leaves.{IsLeafOf, leaf_tree, TakesRun};
+ghost use Rattle.cborn_wire.specs.shared.Visiting.{is_array, is_at_key};
 
-use crate::leaves::{GivenHead, Leaf, leaf_at};
-use crate::levels::LevelKind;
+use crate::leaves::{GivenHead, Leaf, leaf_at, visit_leaf};
+use crate::levels::Level;
 use crate::short_integers::integers_at;
 use cborn_model::{LeafPair, Visitor, Width, shortest};
 use std::alloc::AllocError;
@@ -18,63 +19,96 @@ use std::alloc::AllocError;
 pub(crate) struct Taken {
     /// How many bytes.
     pub(crate) len: usize,
-    /// The level as it was before the last leaf.
-    pub(crate) before_last: LevelKind,
+    /// How many leaves before the last.
+    pub(crate) before_last: u64,
 }
 
-/// Takes a run of integers or a key and its value at the front of `bytes`, which begins with this leaf
-/// at the offset `place`. `None`: the visitor took nothing.
+/// Takes this leaf, which is at the front of `bytes` at the offset `place`; with those after it that the
+/// visitor takes at a time, if there are any: a run of integers, or the value of a key.
 #[inline(always)]
 pub(crate) fn take_run<V: Visitor>(
     visitor: &mut V,
-    kind: LevelKind,
+    level: Level,
+    leaf: Leaf,
+    place: u64,
+    bytes: &[u8],
+) -> Result<Taken, AllocError>
+    requires { IsLeafOf bytes.now leaf.head leaf.end }
+    ensures taken { IfOk result (λ t. TakesRun place bytes.now level t.before_last (V.holds visitor.old) (V.holds visitor.new) t.len) }
+    ensures memory { OnErr result V.takes_memory }
+{
+    if V::takes_runs() {
+        if let Some(taken) = take_several(visitor, level, leaf, place, bytes)? {
+            return Ok(taken);
+        }
+    }
+    visit_leaf(visitor, place, leaf.head, &bytes[leaf.head.len..leaf.end])?;
+    Ok(Taken {
+        len: leaf.end,
+        before_last: 0,
+    })
+}
+
+/// Takes a run of integers, or a key and its value, at the front of `bytes`, which begins with this
+/// leaf at the offset `place`. `None`: the visitor took nothing.
+#[inline(always)]
+fn take_several<V: Visitor>(
+    visitor: &mut V,
+    level: Level,
     leaf: Leaf,
     place: u64,
     bytes: &[u8],
 ) -> Result<Option<Taken>, AllocError>
     requires { IsLeafOf bytes.now leaf.head leaf.end }
-    ensures taken { IfOk result (λ r. MatchOption r (visitor.new ≡ visitor.old) (λ t. TakesRun place bytes.now kind t.before_last (V.holds visitor.old) (V.holds visitor.new) t.len)) }
+    ensures taken { IfOk result (λ r. MatchOption r (visitor.new ≡ visitor.old) (λ t. TakesRun place bytes.now level t.before_last (V.holds visitor.old) (V.holds visitor.new) t.len)) }
     ensures memory { OnErr result V.takes_memory }
 {
-    if !V::takes_runs() {
+    if level.is_array() {
+        return take_integers(visitor, level, leaf, place, bytes);
+    }
+    if !level.is_at_key() {
         return Ok(None);
     }
-    match kind {
-        LevelKind::Array(most, parts) if leaf.head.first < 64 => {
-            take_integers(visitor, most, parts, place, bytes)
-        }
-        LevelKind::Map(most, parts) => {
-            let Some(len) = take_pair(visitor, leaf, place, bytes)? else {
-                return Ok(None);
-            };
-            let before_last = LevelKind::MapValue(most, parts);
-            Ok(Some(Taken { len, before_last }))
-        }
-        _ => Ok(None),
-    }
+    let Some(len) = take_pair(visitor, leaf, place, bytes)? else {
+        return Ok(None);
+    };
+    Ok(Some(Taken {
+        len,
+        before_last: 1,
+    }))
 }
 
-/// Takes integers of an array of `most` items, if that is known, of which `parts` are whole. `None`:
-/// the visitor took nothing, or there is only one, which is taken as any other leaf.
+/// Takes integers of an array. `None`: the visitor took nothing, or there is only one, which is taken as
+/// any other leaf.
 #[inline(always)]
 fn take_integers<V: Visitor>(
     visitor: &mut V,
-    most: Option<u64>,
-    parts: u64,
+    level: Level,
+    leaf: Leaf,
     place: u64,
     bytes: &[u8],
 ) -> Result<Option<Taken>, AllocError>
-    ensures taken { IfOk result (λ r. MatchOption r (visitor.new ≡ visitor.old) (λ t. TakesRun place bytes.now (Array most parts) t.before_last (V.holds visitor.old) (V.holds visitor.new) t.len)) }
+    requires { is_array level.kind ≡ true }
+    ensures taken { IfOk result (λ r. MatchOption r (visitor.new ≡ visitor.old) (λ t. TakesRun place bytes.now level t.before_last (V.holds visitor.old) (V.holds visitor.new) t.len)) }
     ensures memory { OnErr result V.takes_memory }
 {
-    let room = most.unwrap_or(u64::MAX).saturating_sub(parts);
-    let run = integers_at(bytes, room);
+    if leaf.head.first > 63 || !begins_integer(bytes, leaf.end) {
+        return Ok(None);
+    }
+    let run = integers_at(bytes, level.room());
     if run.count < 2 || !visitor.integers(place, run.count, &bytes[..run.len])? {
         return Ok(None);
     }
-    let before_last = LevelKind::Array(most, parts + (run.count - 1));
-    let len = run.len;
-    Ok(Some(Taken { len, before_last }))
+    Ok(Some(Taken {
+        len: run.len,
+        before_last: run.count - 1,
+    }))
+}
+
+/// Whether an integer begins at the offset `at` of the bytes, where it is worth to look for a run.
+#[inline(always)]
+fn begins_integer(bytes: &[u8], at: usize) -> bool {
+    at < bytes.len() && bytes[at] < 64
 }
 
 /// Takes the key at the front of `bytes`, which is this leaf, and the value after it, where both are
@@ -87,7 +121,7 @@ fn take_pair<V: Visitor>(
     bytes: &[u8],
 ) -> Result<Option<usize>, AllocError>
     requires { IsLeafOf bytes.now key.head key.end }
-    ensures taken { IfOk result (λ r. MatchOption r (visitor.new ≡ visitor.old) (λ n. (most : Option ℕ) (parts : ℕ) → TakesRun place bytes.now (Map most parts) (MapValue most parts) (V.holds visitor.old) (V.holds visitor.new) n)) }
+    ensures taken { IfOk result (λ r. MatchOption r (visitor.new ≡ visitor.old) (λ n. (level : OneLevel) → is_at_key level.kind level.missing ≡ true → TakesRun place bytes.now level 1 (V.holds visitor.old) (V.holds visitor.new) n)) }
     ensures memory { OnErr result V.takes_memory }
 {
     let after = &bytes[key.end..];

@@ -1,8 +1,6 @@
 -- A device of the proofs: what the parts of the encoder leave at the end of a buffer. No definition and no public contract cites it; the contracts of the crate's own functions do.
-use Rattle.std.specs.Prelude.{◌≡◌, ℕ, List, ◌++◌, map, length, Result, MatchResult}
-use Rattle.std.specs.declared.cmp.Ordering.{Ordering}
-use Rattle.std.proofs.Common.{Bor}
-use Rattle.cborn_model.specs.Value.{Value}
+use Rattle.std.specs.Prelude.{◌≡◌, ◌++◌}
+use Rattle.cborn_det.specs.Common.{ℕ, List, map, length, Result, MatchResult, Ordering, Bor, Value}
 use Rattle.cborn_det.specs.Appending.{Appends}
 use Rattle.cborn_det.specs.Det.{Entry, joined, Det}
 

@@ -1,6 +1,6 @@
 -- A device of the proofs, here and in the crates above: no two entries of a map have the same key. No definition and no public contract cites it.
-use Rattle.std.specs.Prelude.{◌≡◌, List, [], ◌∷◌, ⊤}
-use Rattle.std.specs.List.{AllByRecursion}
+use Rattle.std.specs.Prelude.{◌≡◌, ◌∷◌}
+use Rattle.cborn_det.specs.Common.{List, [], ⊤, AllByRecursion}
 use Rattle.cborn_det.specs.Det.{Entry}
 
 -- no two of the keys are equal

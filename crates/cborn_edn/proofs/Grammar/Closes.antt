@@ -1,17 +1,14 @@
 -- All that the machine has open can be closed, and that takes no more depth and no more commas before brackets.
-use Rattle.cborn_edn.proofs.Common.{◌≡◌, refl, ap, ◌∙◌, sym, ℕ, ◌+◌, ◌≤◌, List, [], ◌∷◌, ◌++◌, false, append_assoc, append-nil, arith, max, EmbedClose, ArrayClose, MapClose, ParenClose, Colon, Number, Text, Token, Absent, token, Item, tag, simple, string, chunked, array, text, embedded, Pieces, piece, strings, Row, row, tight, pairs, tight_fields, Input, items, tokens_of, tokens_of_pieces, tokens_of_row, tokens_of_input, depth, depth_of_pieces, depth_of_row, depth_of_input, commas, commas_of_pieces, commas_of_row, commas_of_input, Stack, in_row, in_key, in_value, in_tag, Nest, at_top, in_array, in_embed, Home, as_item, as_chunk, State, wants, has, builds, wants_chunk, wants_number, has_number, with_piece, held_stack, held_nest, held_home, held, levels, levels_nest, levels_home, nowhere, map_item as map}
+use Rattle.std.specs.Prelude.{◌≡◌, ◌+◌, ◌≤◌, ◌∷◌, ◌++◌}
+use Rattle.cborn_edn.proofs.Common.{refl, ap, ◌∙◌, sym, ℕ, List, [], false, append_assoc, append-nil, arith, max, EmbedClose, ArrayClose, MapClose, ParenClose, Colon, Number, Text, Token, Absent, token, Item, tag, simple, string, chunked, array, text, embedded, Pieces, piece, strings, Row, row, tight, pairs, tight_fields, Input, items, tokens_of, tokens_of_pieces, tokens_of_row, tokens_of_input, depth, depth_of_pieces, depth_of_row, depth_of_input, commas, commas_of_pieces, commas_of_row, commas_of_input, Stack, in_row, in_key, in_value, in_tag, Nest, at_top, in_array, in_embed, Home, as_item, as_chunk, State, wants, has, builds, wants_chunk, wants_number, has_number, with_piece, held_stack, held_nest, held_home, held, levels, levels_nest, levels_home, nowhere, map_item as map}
 use Rattle.cborn_edn.proofs.Grammar.Held.{deep_stack, deep_nest, deep_home, deep, commas_stack, commas_nest, commas_home, commas_held, levels-deep, with_piece-tokens, with_piece-depth, with_piece-commas}
 
 -- The state can be closed, with no more depth and no more commas before brackets.
-pub record Closed (x : List Token) (d n : ℕ) : Type 0 where
-  pub more : List Token
-  pub tree : Input
-  pub is : tokens_of_input tree ≡ x ++ more
-  pub shallow : depth_of_input tree ≤ d
-  pub few : commas_of_input tree ≤ n
+abbrev pub Closed : List Token → ℕ → ℕ → Type 0
+Closed x d n = (more : List Token) × (tree : Input) × (tokens_of_input tree ≡ x ++ more) × (depth_of_input tree ≤ d) × (commas_of_input tree ≤ n)
 
 extend : (x y z : List Token) (d e m n : ℕ) → z ≡ x ++ y → e ≤ d → m ≤ n → Closed z e m → Closed x d n
-extend x y z d e m n p q r c = record { more = y ++ c.more; tree = c.tree; is = c.is ∙ ap (λ l. l ++ c.more) p ∙ append_assoc x y c.more; shallow = omega (arith, c.shallow); few = omega (arith, c.few) }
+extend x y z d e m n p q r c = (y ++ c.0, c.1, c.2 ∙ ap (λ l. l ++ c.0) p ∙ append_assoc x y c.0, omega (arith, c.3), omega (arith, c.4))
 
 abbrev empty : Pieces
 empty = piece (text nowhere [] Absent)
@@ -27,7 +24,7 @@ mutual
   closes_item (in_tag st s n m) i = extend _ (token nowhere ParenClose ∷ []) _ _ _ _ _ (simp append_assoc) (omega arith) (omega arith) (closes_item st (tag s n m i nowhere))
 
   pub closes_row : (n : Nest) (r : Row) → Closed (held_nest n ++ tokens_of_row r) (max (deep_nest n) (levels_nest n + depth_of_row r)) (commas_nest n + commas_of_row r)
-  closes_row at_top r = record { more = []; tree = items r; is = sym (append-nil _); shallow = omega arith; few = omega arith }
+  closes_row at_top r = ([], items r, sym (append-nil _), omega arith, omega arith)
   closes_row (in_array st s m) r = extend _ (token nowhere ArrayClose ∷ []) _ _ _ _ _ (simp append_assoc) (omega arith) (omega arith) (closes_item st (array s m (tight r) nowhere))
   closes_row (in_embed h b s) r =
       let p = embedded s (tight r) nowhere Absent in

@@ -1,5 +1,6 @@
 -- What the machine holds: the tokens that it took, how deep they went, and the commas before brackets.
-use Rattle.cborn_edn.proofs.Common.{◌≡◌, refl, ap, ◌∙◌, ℕ, suc, ◌+◌, ◌≤◌, List, [], ◌∷◌, ◌++◌, Option, Some, None, append_assoc, arith, max, Class, EmbedClose, ArrayClose, Token, Span, token, Piece, embedded, Pieces, Content, tokens_of_piece, tokens_of_pieces, tokens_of_content, depth_of_number, depth, depth_of_piece, depth_of_pieces, depth_of_strings_before, depth_of_row_before, depth_of_content, depth_of_pairs_before, commas, commas_of_piece, commas_of_pieces, commas_of_strings_before, commas_of_row_before, commas_of_content, commas_of_pairs_before, Stack, in_row, in_key, in_value, in_tag, Nest, at_top, in_array, in_embed, Home, as_item, as_chunk, State, wants, has, builds, wants_chunk, wants_number, has_number, with_piece, ends}
+use Rattle.std.specs.Prelude.{◌≡◌, ◌+◌, ◌≤◌, ◌∷◌, ◌++◌}
+use Rattle.cborn_edn.proofs.Common.{refl, ap, ◌∙◌, ℕ, suc, List, [], Option, Some, None, append_assoc, arith, max, Class, EmbedClose, ArrayClose, Token, Span, token, Piece, embedded, Pieces, Content, tokens_of_piece, tokens_of_pieces, tokens_of_content, depth_of_number, depth, depth_of_piece, depth_of_pieces, depth_of_strings_before, depth_of_row_before, depth_of_content, depth_of_pairs_before, commas, commas_of_piece, commas_of_pieces, commas_of_strings_before, commas_of_row_before, commas_of_content, commas_of_pairs_before, Stack, in_row, in_key, in_value, in_tag, Nest, at_top, in_array, in_embed, Home, as_item, as_chunk, State, wants, has, builds, wants_chunk, wants_number, has_number, with_piece, ends}
 pub use Rattle.cborn_edn.specs.devices.Machine.{tokens_before, held_stack, held_nest, held_home, held, levels, levels_nest, levels_home, open_levels, row_comma, pair_comma, comma_in, comma_at}
 
 abbrev pub depth_before : Option Pieces → ℕ
@@ -63,14 +64,12 @@ After None P = Unit {0}
 After (Some s) P = P s
 
 -- s is the state after x and the token
-pub record Grows (x : List Token) (d n : ℕ) (t : Token) (s : State) : Type 0 where
-  pub held : held s ≡ x ++ (t ∷ [])
-  pub deep : deep s ≡ d
-  pub commas : commas_held s ≡ n
+abbrev pub Grows : List Token → ℕ → ℕ → Token → State → Type 0
+Grows x d n t s = (held s ≡ x ++ (t ∷ [])) × (deep s ≡ d) × (commas_held s ≡ n)
 
 pub after-is : (o : Option State) (x y : List Token) (d e m n : ℕ) (t : Token) → x ≡ y → d ≡ e → m ≡ n → After o (Grows x d m t) → After o (Grows y e n t)
 after-is None x y d e m n t p q r g = tt
-after-is (Some s) x y d e m n t p q r g = record { held = g.held ∙ ap (λ l. l ++ (t ∷ [])) p; deep = g.deep ∙ q; commas = g.commas ∙ r }
+after-is (Some s) x y d e m n t p q r g = (g.0 ∙ ap (λ l. l ++ (t ∷ [])) p, g.1 ∙ q, g.2 ∙ r)
 
 pub with_piece-tokens : (b : Option Pieces) (p : Piece) → tokens_of_pieces (with_piece b p) ≡ tokens_before b ++ tokens_of_piece p
 with_piece-tokens None p = refl
@@ -85,12 +84,8 @@ with_piece-commas None p = omega arith
 with_piece-commas (Some ps) p = refl
 
 pub ends_grow : (n : Nest) (c : Content) (e : Class) (a : Span) → After (ends n c e a) (Grows (held_nest n ++ tokens_of_content c) (max (deep_nest n) (levels_nest n + depth_of_content c)) (commas_nest n + commas_of_content c) (token a e))
-ends_grow (in_array st s m) c ArrayClose a = record { held = simp append_assoc; deep = omega arith; commas = refl }
-ends_grow (in_embed h b s) c (EmbedClose m) a = record {
-  held = ap (λ l. held_home h ++ l) (with_piece-tokens b (embedded s c a m)) ∙ simp append_assoc;
-  deep = omega (arith, with_piece-depth b (embedded s c a m));
-  commas = omega (arith, with_piece-commas b (embedded s c a m));
-}
+ends_grow (in_array st s m) c ArrayClose a = (simp append_assoc, omega arith, refl)
+ends_grow (in_embed h b s) c (EmbedClose m) a = (ap (λ l. held_home h ++ l) (with_piece-tokens b (embedded s c a m)) ∙ simp append_assoc, omega (arith, with_piece-depth b (embedded s c a m)), omega (arith, with_piece-commas b (embedded s c a m)))
 ends_grow _ _ _ _ = tt
 
 mutual

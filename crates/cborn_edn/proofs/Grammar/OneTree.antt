@@ -1,5 +1,6 @@
 -- Tokens have at most one tree. Within the limit they have a tree or one syntax error, never both. A larger limit and profile 2 accept all that the others do.
-use Rattle.cborn_edn.proofs.Common.{◌≡◌, refl, ap, ◌∙◌, sym, subst, ℕ, ◌+◌, ◌≤◌, List, [], ◌∷◌, ◌++◌, Option, Some, None, append_assoc, append-nil, arith, ◌⊎◌, inl, inr, max, Token, Profile, token, span, Item, number, word, simple, string, row, no_item, Input, items, tokens_of_input, depth, depth_of_input, commas, commas_of_input, AllowsCount, EdnReason, UnexpectedToken, UnexpectedEnd, TooDeep, Parse, HasTree, GoesOn, StopsAt, IsSyntaxError, reach, same_Some, ProfileOne, ProfileTwo, Stack, in_row, at_top, as_item, State, wants, has, builds, start, step, run, finish, held, open_levels, levels, comma_at, IsText, Parsed}
+use Rattle.std.specs.Prelude.{◌≡◌, ◌+◌, ◌≤◌, ◌∷◌, ◌++◌, ◌⊎◌}
+use Rattle.cborn_edn.proofs.Common.{refl, ap, ◌∙◌, sym, subst, ℕ, List, [], Option, Some, None, append_assoc, append-nil, arith, inl, inr, max, Token, Profile, token, span, Item, number, word, simple, string, row, no_item, Input, items, tokens_of_input, depth, depth_of_input, commas, commas_of_input, AllowsCount, EdnReason, UnexpectedToken, UnexpectedEnd, TooDeep, Parse, HasTree, GoesOn, StopsAt, IsSyntaxError, reach, same_Some, ProfileOne, ProfileTwo, Stack, in_row, at_top, as_item, State, wants, has, builds, start, step, run, finish, held, open_levels, levels, comma_at, IsText, Parsed}
 use Rattle.cborn_edn.specs.devices.Syntax.{nothing}
 use Rattle.cborn_edn.proofs.Grammar.Machine.{run-append, run-none}
 use Rattle.cborn_edn.proofs.Grammar.Takes.{landed, then, whole, takes_input, finish-whole}
@@ -44,13 +45,11 @@ no_some : {A : Type 0} {x : A} {B : Type 0} → None ≡ Some x → B
 no_some e = cc
 
 -- what a run of the machine adds to what it holds
-pub record Ran (y : List Token) (s u : State) : Type 0 where
-  pub held : held u ≡ held s ++ y
-  pub deeper : deep s ≤ deep u
-  pub commas : commas_held s ≤ commas_held u
+abbrev pub Ran : List Token → State → State → Type 0
+Ran y s u = (held u ≡ held s ++ y) × (deep s ≤ deep u) × (commas_held s ≤ commas_held u)
 
 pub ran : (y : List Token) (s u : State) → then y s ≡ Some u → Ran y s u
-ran [] s u e = let same : s ≡ u = same_Some _ _ e in record { held = ap held (sym same) ∙ sym (append-nil (held s)); deeper = omega (arith, ap deep same); commas = omega (arith, ap commas_held same) }
+ran [] s u e = let same : s ≡ u = same_Some _ _ e in (ap held (sym same) ∙ sym (append-nil (held s)), omega (arith, ap deep same), omega (arith, ap commas_held same))
 ran (t ∷ y) s u e = go (step s t) (grows s t.class (span t)) e (λ v. ran y v u)
   where
     go : (o : Option State) → After o (Grows (held s) (max (deep s) (reach (open_levels s) t.class)) (commas_held s + comma_at s t.class) (token (span t) t.class)) → run y o ≡ Some u
@@ -58,21 +57,18 @@ ran (t ∷ y) s u e = go (step s t) (grows s t.class (span t)) e (λ v. ran y v 
     go None g f rest = no_some (sym (run-none y) ∙ f)
     go (Some v) g f rest =
         let r = rest v f in
-        record { held = r.held ∙ ap (λ l. l ++ y) g.held ∙ append_assoc (held s) (t ∷ []) y; deeper = omega (arith, g.deep, r.deeper); commas = omega (arith, g.commas, r.commas) }
+        (r.0 ∙ ap (λ l. l ++ y) g.0 ∙ append_assoc (held s) (t ∷ []) y, omega (arith, g.1, r.1), omega (arith, g.2, r.2))
 
 pub held_by : (ts : List Token) (s : State) → Leads ts s → held s ≡ ts
-held_by ts s e = (ran ts start s e).held
+held_by ts s e = (ran ts start s e).0
 
 allows_less : (p : Profile) (m n : ℕ) → m ≤ n → AllowsCount p n → AllowsCount p m
 allows_less ProfileOne m n h a = omega (arith, a)
 allows_less ProfileTwo m n h a = tt
 
 -- tokens that lead to a state within the profile and the limit
-pub record Good (p : Profile) (limit : ℕ) (ts : List Token) : Type 0 where
-  pub state : State
-  pub leads : Leads ts state
-  pub allowed : AllowsCount p (commas_held state)
-  pub shallow : deep state ≤ limit
+abbrev pub Good : Profile → ℕ → List Token → Type 0
+Good p limit ts = (state : State) × Leads ts state × AllowsCount p (commas_held state) × (deep state ≤ limit)
 
 pub good : (p : Profile) (limit : ℕ) (ts : List Token) → GoesOn p limit ts → Good p limit ts
 good p limit ts (more, (us, l, h)) = led (parsed p limit (ts ++ more) us l h)
@@ -84,26 +80,24 @@ good p limit ts (more, (us, l, h)) = led (parsed p limit (ts ++ more) us l h)
         go None e f = no_some (sym (run-none more) ∙ f)
         go (Some s) e f =
             let r = ran more s (whole t.tree) f in
-            record { state = s; leads = e; allowed = allows_less p _ (commas_of_input t.tree) (omega (arith, r.commas, commas-whole t.tree)) (allowed_count p _ t.tree t.parse); shallow = omega (arith, r.deeper, deep-whole t.tree, t.shallow) }
+            (s, e, allows_less p _ (commas_of_input t.tree) (omega (arith, r.2, commas-whole t.tree)) (allowed_count p _ t.tree t.parse), omega (arith, r.1, deep-whole t.tree, t.shallow))
 
 pub goes_on : (p : Profile) (limit : ℕ) (ts : List Token) → Good p limit ts → GoesOn p limit ts
 goes_on p limit ts g =
-    let c = closes g.state in
-    (c.more, has_tree p limit (ts ++ c.more) c.tree (parse_of p _ c.tree (c.is ∙ ap (λ l. l ++ c.more) (held_by ts g.state g.leads)) (allows_less p _ _ c.few g.allowed)) (omega (arith, c.shallow, g.shallow)))
+    let c = closes g.0 in
+    (c.0, has_tree p limit (ts ++ c.0) c.1 (parse_of p _ c.1 (c.2 ∙ ap (λ l. l ++ c.0) (held_by ts g.0 g.1)) (allows_less p _ _ c.4 g.2)) (omega (arith, c.3, g.3)))
 
-pub record Ended (s : State) (t : Input) : Type 0 where
-  pub is : tokens_of_input t ≡ held s
-  pub depth : depth_of_input t ≡ deep s
-  pub commas : commas_of_input t ≡ commas_held s
+abbrev pub Ended : State → Input → Type 0
+Ended s t = (tokens_of_input t ≡ held s) × (depth_of_input t ≡ deep s) × (commas_of_input t ≡ commas_held s)
 
 abbrev pub IfTree : Option Input → (Input → Type 0) → Type 0
 IfTree None P = Unit {0}
 IfTree (Some t) P = P t
 
 pub ends_tree : (s : State) → IfTree (finish s) (Ended s)
-ends_tree (wants (in_row at_top no_item)) = record { is = refl; depth = omega arith; commas = omega arith }
-ends_tree (has (in_row at_top b) i) = record { is = refl; depth = omega arith; commas = omega arith }
-ends_tree (builds (as_item (in_row at_top b)) ps) = record { is = refl; depth = omega arith; commas = omega arith }
+ends_tree (wants (in_row at_top no_item)) = (refl, omega arith, omega arith)
+ends_tree (has (in_row at_top b) i) = (refl, omega arith, omega arith)
+ends_tree (builds (as_item (in_row at_top b)) ps) = (refl, omega arith, omega arith)
 ends_tree _ = tt
 
 has_goes : (p : Profile) (limit : ℕ) (ts : List Token) → HasTree p limit ts → GoesOn p limit ts
@@ -118,7 +112,7 @@ no_tree p limit ts s e f (us, l, h) =
 pub nothing_goes : (p : Profile) (limit : ℕ) (f : List Token) (t : Token) (s : State) → Leads f s → step s t ≡ None → GoesOn p limit (f ++ (t ∷ [])) → ⊥
 nothing_goes p limit f t s e none g =
     let h = good p limit (f ++ (t ∷ [])) g in
-    no_some (sym (run-append f (t ∷ []) (Some start) ∙ ap (run (t ∷ [])) e ∙ none) ∙ h.leads)
+    no_some (sym (run-append f (t ∷ []) (Some start) ∙ ap (run (t ∷ [])) e ∙ none) ∙ h.1)
 
 pub leads_on : (f : List Token) (t : Token) (s u : State) → Leads f s → step s t ≡ Some u → Leads (f ++ (t ∷ [])) u
 leads_on f t s u e next = run-append f (t ∷ []) (Some start) ∙ ap (run (t ∷ [])) e ∙ next
@@ -129,7 +123,7 @@ same_end ts s u e f = same_Some _ _ (sym e ∙ f)
 
 module _ (p : Profile) (limit end : ℕ) where
   pub stops : (f y : List Token) (t : Token) (s : State) → Leads f s → AllowsCount p (commas_held s) → deep s ≤ limit → (GoesOn p limit (f ++ (t ∷ [])) → ⊥) → StopsAt p limit (f ++ (t ∷ y)) f t
-  stops f y t s e a d never = record { y = y; split = refl; before = goes_on p limit f (record { state = s; leads = e; allowed = a; shallow = d }); here = never }
+  stops f y t s e a d never = record { y = y; split = refl; before = goes_on p limit f ((s, e, a, d)); here = never }
 
   -- if tokens go on, those that they begin with go on
   front_goes : (x y : List Token) → GoesOn p limit (x ++ y) → GoesOn p limit x

@@ -1,5 +1,6 @@
 -- The machine with its tests of the profile and the limit is a parser: it answers the tree, or the syntax error.
-use Rattle.cborn_edn.proofs.Common.{HasTree, EdnReason, ◌⊎◌, inl, inr, ◌≡◌, refl, ap, ◌∙◌, sym, subst, ℕ, suc, ◌+◌, ◌≤◌, List, [], ◌∷◌, ◌++◌, Bool, true, false, Option, Some, None, append_assoc, append-nil, leb, cond, arith, ◌<◌, zero, max, leb-true, leb-false, Token, Profile, AllowsCount, token, span, Input, depth_of_input, UnexpectedToken, TooDeep, Parse, GoesOn, IsSyntaxError, reach, ProfileOne, ProfileTwo, State, start, step, finish, held, open_levels, comma_at}
+use Rattle.std.specs.Prelude.{◌⊎◌, ◌≡◌, ◌+◌, ◌≤◌, ◌∷◌, ◌++◌, ◌<◌}
+use Rattle.cborn_edn.proofs.Common.{HasTree, EdnReason, inl, inr, refl, ap, ◌∙◌, sym, subst, ℕ, suc, List, [], Bool, true, false, Option, Some, None, append_assoc, append-nil, leb, cond, arith, zero, max, leb-true, leb-false, Token, Profile, AllowsCount, token, span, Input, depth_of_input, UnexpectedToken, TooDeep, Parse, GoesOn, IsSyntaxError, reach, ProfileOne, ProfileTwo, State, start, step, finish, held, open_levels, comma_at}
 use Rattle.cborn_edn.proofs.Grammar.Held.{deep, commas_held, After, Grows}
 use Rattle.cborn_edn.proofs.Grammar.Grows.{grows}
 use Rattle.cborn_edn.proofs.Grammar.Trailing.{parse_of}
@@ -29,8 +30,8 @@ module _ (p : Profile) (limit end : ℕ) where
   parse_meets [] f s e a d = go (finish s) refl (ends_tree s)
     where
       go : (o : Option Input) → finish s ≡ o → IfTree o (Ended s) → Meets p limit end (f ++ []) (at_end end o)
-      go None none h = (refl, rw append-nil (goes_on p limit f (record { state = s; leads = e; allowed = a; shallow = d })), rw append-nil (no_tree p limit f s e none))
-      go (Some t) some h = (parse_of p _ t (h.is ∙ held_by f s e ∙ sym (append-nil f)) (rw h.commas a), omega (arith, h.depth))
+      go None none h = (refl, rw append-nil (goes_on p limit f ((s, e, a, d))), rw append-nil (no_tree p limit f s e none))
+      go (Some t) some h = (parse_of p _ t (h.0 ∙ held_by f s e ∙ sym (append-nil f)) (rw h.2 a), omega (arith, h.1))
   parse_meets (t ∷ y) f s e a d = go (step s t) refl (grows s t.class (span t)) (λ u next b c. rw append_assoc at (parse_meets y (f ++ (t ∷ [])) u (leads_on f t s u e next) b c))
     where
       Goal : Answer → Type 0
@@ -45,22 +46,22 @@ module _ (p : Profile) (limit end : ℕ) where
           deeper : (m : ℕ) → GoesOn p m (f ++ (t ∷ [])) → AllowsCount p (commas_held u) × (deep u ≤ m)
           deeper m h =
               let k = good p m (f ++ (t ∷ [])) h in
-              let same : k.state ≡ u = same_end (f ++ (t ∷ [])) k.state u k.leads (leads_on f t s u e next) in
-              (subst (λ v. AllowsCount p (commas_held v)) same k.allowed, omega (arith, ap deep same, k.shallow))
+              let same : k.0 ≡ u = same_end (f ++ (t ∷ [])) k.0 u k.1 (leads_on f t s u e next) in
+              (subst (λ v. AllowsCount p (commas_held v)) same k.2, omega (arith, ap deep same, k.3))
 
           choose : (b : Bool) → forbids p (comma_at s t.class) ≡ b → (c : Bool) → leb (reach (open_levels s) t.class) limit ≡ c
               → Meets p limit end (f ++ (t ∷ y)) (elim (cond b None (Some u)) [ None ↦ HasSyntaxError t.start UnexpectedToken | Some v ↦ cond c (parse p limit end y v) (HasSyntaxError t.start TooDeep) ])
           choose true bad c low =
-              let never = λ (m : ℕ) (h : GoesOn p m (f ++ (t ∷ []))). forbidden p (commas_held s) (comma_at s t.class) bad (subst (AllowsCount p) g.commas (deeper m h).0) in
+              let never = λ (m : ℕ) (h : GoesOn p m (f ++ (t ∷ []))). forbidden p (commas_held s) (comma_at s t.class) bad (subst (AllowsCount p) g.2 (deeper m h).0) in
               (f, t, stops p limit end f y t s e a d (never limit), refl, λ h. never h.0 h.1)
-          choose false fine true low = rest u next (subst (AllowsCount p) (sym g.commas) (allows_more p _ _ fine a)) (omega (arith, g.deep, leb-true _ _ low))
+          choose false fine true low = rest u next (subst (AllowsCount p) (sym g.2) (allows_more p _ _ fine a)) (omega (arith, g.1, leb-true _ _ low))
           choose false fine false low =
               let far : limit < reach (open_levels s) t.class = leb-false _ _ low in (
                 f,
                 t,
-                stops p limit end f y t s e a d (λ h. omega (arith, g.deep, (deeper limit h).1)),
+                stops p limit end f y t s e a d (λ h. omega (arith, g.1, (deeper limit h).1)),
                 refl,
-                (deep u, goes_on p (deep u) (f ++ (t ∷ [])) (record { state = u; leads = leads_on f t s u e next; allowed = subst (AllowsCount p) (sym g.commas) (allows_more p _ _ fine a); shallow = omega arith })),
+                (deep u, goes_on p (deep u) (f ++ (t ∷ [])) ((u, leads_on f t s u e next, subst (AllowsCount p) (sym g.2) (allows_more p _ _ fine a), omega arith))),
               )
 
   -- the parser's answer is the tree within the limit, or the syntax error

@@ -1,5 +1,6 @@
 -- Containers that end.
-use Rattle.cborn_edn.proofs.Common.{◌≡◌, refl, sym, ap, ◌∙◌, subst, ℕ, ◌<◌, ◌^◌, List, [], ◌∷◌, ◌++◌, length, Bool, true, false, ltb, cond, None, append_assoc, if◌then◌else◌, Width, Direct, Fixed, holds, least, Tree, Items, Pairs, Trees, Entries, no_entry, entry, entries, count, count_entries, Opening, an_array, a_map, a_tag, Partial, inside, put, paired, last_key, built, ended_size, IsFree, Ends, Mark, Absent, Endless, Wide, IndicatorTooNarrow, Close, width, size, size_errors, listed_trees, trees-listed, Span, Item, tag, array, row, Content, loose, tight, pairs, Fields, loose_fields, tight_fields, Stack, in_tag, in_array, State, has, node, nodes_before, nodes_in, entries_before, entries_in, faults, faults_before, faults_in, faults_before_pairs, faults_of_fields, noted, noted_stack, content_state, fields_state, AreFew, Comes, listed_entries, size_asked, front_of, front, Hands, count-trees, count_entries-entries, map_item as map}
+use Rattle.std.specs.Prelude.{◌≡◌, ◌<◌, ◌^◌, ◌∷◌, ◌++◌, if◌then◌else◌}
+use Rattle.cborn_edn.proofs.Common.{refl, sym, ap, ◌∙◌, subst, ℕ, List, [], length, Bool, true, false, ltb, cond, None, append_assoc, Width, Direct, Fixed, holds, least, Tree, Items, Pairs, Trees, Entries, no_entry, entry, entries, count, count_entries, Opening, an_array, a_map, a_tag, Partial, inside, put, paired, last_key, built, ended_size, IsFree, Ends, Mark, Absent, Endless, Wide, IndicatorTooNarrow, Close, width, size, size_errors, listed_trees, trees-listed, Span, Item, tag, array, row, Content, loose, tight, pairs, Fields, loose_fields, tight_fields, Stack, in_tag, in_array, State, has, node, nodes_before, nodes_in, entries_before, entries_in, faults, faults_before, faults_in, faults_before_pairs, faults_of_fields, noted, noted_stack, content_state, fields_state, AreFew, Comes, listed_entries, size_asked, front_of, front, Hands, count-trees, count_entries-entries, map_item as map}
 use Rattle.cborn_edn.specs.devices.Events.{after}
 use Rattle.cborn_edn.proofs.Meaning.NoError.{no_left, no_right, held}
 use Rattle.cborn_edn.proofs.HandedOver.Handing.{free}

@@ -1,5 +1,6 @@
 -- What fits its width, since it is handed over only without a meaning error.
-use Rattle.cborn_edn.proofs.Common.{◌≡◌, refl, sym, ap, ◌∙◌, ℕ, ◌^◌, ◌<◌, List, [], ◌∷◌, ◌++◌, Bool, true, not, Option, Some, None, arith, if◌then◌else◌, and_parts, ltb-true, WidthFits, is_simple_value, Mark, MeaningError, IndicatorNotAllowed, BadSimple, is_absent, is_below, is_small, is_simple, argument_of, width, unless, width_errors, number_errors, tag_errors, simple_errors, first_error, is_none, Notes, IsTrue}
+use Rattle.std.specs.Prelude.{◌≡◌, ◌^◌, ◌<◌, ◌∷◌, ◌++◌, if◌then◌else◌}
+use Rattle.cborn_edn.proofs.Common.{refl, sym, ap, ◌∙◌, ℕ, List, [], Bool, true, not, Option, Some, None, arith, and_parts, ltb-true, WidthFits, is_simple_value, Mark, MeaningError, IndicatorNotAllowed, BadSimple, is_absent, is_below, is_small, is_simple, argument_of, width, unless, width_errors, number_errors, tag_errors, simple_errors, first_error, is_none, Notes, IsTrue}
 use Rattle.std.proofs.lemmas.Bool.Decides.{nat_tests}
 use Rattle.cborn_edn.proofs.Meaning.NoError.{no_left, no_right, nil_is, held, width_fits, tag_small}
 use Rattle.cborn_edn.proofs.Reader.NotedErrors.{none_first}

@@ -1,5 +1,6 @@
 -- What is whole after an event fits its heads.
-use Rattle.cborn_edn.proofs.Common.{◌≡◌, refl, sym, subst, ℕ, ◌<◌, ◌^◌, List, [], ◌∷◌, ◌++◌, length, Bool, true, false, Some, None, arith, if◌then◌else◌, AreBytes, Width, Fixed, StringKind, OfBytes, OfText, WidthFits, holds, least, Tree, Uint, Nint, Simple, trees, entries, Fits, FitsAll, FitsEntries, ChunksFit, Opening, an_array, a_map, a_tag, in_chunks, Partial, top, inside, put, paired, last_of, chunks_of, chunks_tree, built, AreStrings, Ends, Event, Integer, Bignum, Map, Tag, String, NoChunks, Close, OpeningFits, FitsSoFar, AreFew, Comes, ByteNode as Bytes, TextNode as Text, EndlessMark as Endless, least_holds, count-trees, count_entries-entries, SimpleValue, FirstChunk, EventFits}
+use Rattle.std.specs.Prelude.{◌≡◌, ◌<◌, ◌^◌, ◌∷◌, ◌++◌, if◌then◌else◌}
+use Rattle.cborn_edn.proofs.Common.{refl, sym, subst, ℕ, List, [], length, Bool, true, false, Some, None, arith, AreBytes, Width, Fixed, StringKind, OfBytes, OfText, WidthFits, holds, least, Tree, Uint, Nint, Simple, trees, entries, Fits, FitsAll, FitsEntries, ChunksFit, Opening, an_array, a_map, a_tag, in_chunks, Partial, top, inside, put, paired, last_of, chunks_of, chunks_tree, built, AreStrings, Ends, Event, Integer, Bignum, Map, Tag, String, NoChunks, Close, OpeningFits, FitsSoFar, AreFew, Comes, ByteNode as Bytes, TextNode as Text, EndlessMark as Endless, least_holds, count-trees, count_entries-entries, SimpleValue, FirstChunk, EventFits}
 use Rattle.cborn_edn.specs.declared.events.Event.TheVariants.{Array}
 use Rattle.cborn_edn.specs.devices.Events.{after}
 use Rattle.cborn_edn.proofs.Meaning.NoError.{holds_is}

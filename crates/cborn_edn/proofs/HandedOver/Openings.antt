@@ -1,5 +1,6 @@
 -- Heads that are handed over, and leaves.
-use Rattle.cborn_edn.proofs.Common.{◌≡◌, refl, sym, ap, ◌∙◌, ℕ, ◌<◌, ◌^◌, [], Bool, true, false, cond, digits_of, Width, Tree, a_tag, inside, put, integer_tree, Mark, width, is_below, argument_of, is_small, integer, bignum, number_node, Integer, Bignum, Tag, Span, number, Stack, in_tag, wants, has, noted_stack, bignum_of, front_of, Hands}
+use Rattle.std.specs.Prelude.{◌≡◌, ◌<◌, ◌^◌}
+use Rattle.cborn_edn.proofs.Common.{refl, sym, ap, ◌∙◌, ℕ, [], Bool, true, false, cond, digits_of, Width, Tree, a_tag, inside, put, integer_tree, Mark, width, is_below, argument_of, is_small, integer, bignum, number_node, Integer, Bignum, Tag, Span, number, Stack, in_tag, wants, has, noted_stack, bignum_of, front_of, Hands}
 use Rattle.cborn_edn.proofs.Meaning.NoError.{no_left, no_right, tag_small}
 use Rattle.cborn_edn.proofs.HandedOver.Handing.{free}
 

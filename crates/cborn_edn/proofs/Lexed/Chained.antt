@@ -1,5 +1,6 @@
 -- A part of a text, read as pieces one after another, and the tokens of it.
-use Rattle.cborn_edn.proofs.Common.{◌≡◌, refl, sym, ap, ◌∙◌, subst, ℕ, ◌+◌, List, [], ◌∷◌, ◌++◌, length, append_assoc, append-nil, Profile, Class, Token, WhiteSpace, Read, HasTokens, token, nowhere, unplaced_token, map as list_map, ProfileOne, ProfileTwo, both_profiles}
+use Rattle.std.specs.Prelude.{◌≡◌, ◌+◌, ◌∷◌, ◌++◌}
+use Rattle.cborn_edn.proofs.Common.{refl, sym, ap, ◌∙◌, subst, ℕ, List, [], length, append_assoc, append-nil, Profile, Class, Token, WhiteSpace, Read, HasTokens, token, nowhere, unplaced_token, map as list_map, ProfileOne, ProfileTwo, both_profiles}
 use Rattle.cborn_lex.specs.Forms.{Reads}
 use Rattle.cborn_lex.specs.devices.Pieces.{Lexeme, white_space, token as lexed, slice, front_of, spelled, AreRead, tokens}
 use Rattle.cborn_lex.proofs.WholeTexts.Parts.{parted_lex}

@@ -1,5 +1,6 @@
 -- The tokens of the rows of the fixed notation, from the first item on.
-use Rattle.cborn_edn.proofs.Common.{◌≡◌, sym, ap, ◌∙◌, List, [], ◌∷◌, ◌++◌, append_assoc, append-nil, Chunk, Trees, more, Entries, no_entry, entry, Comma, Colon, Token, Item, StringsBefore, strings, after_strings, RowBefore, row, after_row, PairsBefore, pairs, after_pairs, token, tokens_of, tokens_of_pieces, tokens_of_strings, tokens_of_strings_before, tokens_of_row, tokens_of_row_before, tokens_of_pairs, tokens_of_pairs_before, StringKind, nowhere, chunk_pieces, chunk_row, notated, notated_row, notated_pairs, no_node}
+use Rattle.std.specs.Prelude.{◌≡◌, ◌∷◌, ◌++◌}
+use Rattle.cborn_edn.proofs.Common.{sym, ap, ◌∙◌, List, [], append_assoc, append-nil, Chunk, Trees, more, Entries, no_entry, entry, Comma, Colon, Token, Item, StringsBefore, strings, after_strings, RowBefore, row, after_row, PairsBefore, pairs, after_pairs, token, tokens_of, tokens_of_pieces, tokens_of_strings, tokens_of_strings_before, tokens_of_row, tokens_of_row_before, tokens_of_pairs, tokens_of_pairs_before, StringKind, nowhere, chunk_pieces, chunk_row, notated, notated_row, notated_pairs, no_node}
 
 abbrev comma : Token
 comma = token nowhere Comma

@@ -1,5 +1,6 @@
 -- Nodes of the fixed notation, as pieces.
-use Rattle.cborn_edn.proofs.Common.{◌≡◌, refl, sym, ap, ◌∙◌, subst, ℕ, List, [], ◌∷◌, ◌++◌, map, length, false, eqb, decimal, append_assoc, arith, codes, AreBytes, Width, Chunk, Tree, Uint, Nint, ByteChunks, TextChunks, Items, Tagged, Simple, Trees, more, Entries, no_entry, entry, count, count_entries, WidthFits, ChunksFit, Fits, FitsAll, FitsEntries, Mark, ArrayOpen, ArrayClose, MapOpen, MapClose, ParenClose, Comma, Colon, ChunkOpen, TagOpen, Token, begins, no_string, no_item, no_pair, token, tokens_of, tokens_of_pieces, tokens_of_strings, tokens_of_content, tokens_of_fields, tokens_of_input, StringKind, OfBytes, OfText, nowhere, chunk_pieces, chunk_row, chunk_item, notated, notated_content, notated_fields, notated_input, others, mark_for, mark_for_size, indicator, opened, shown_string, shown_chunk, joined_by, shown_chunks, shown, item_texts, pair_texts, shown_lines, ByteNode, TextNode, Pairs as PairNode, no_node, Endless, simple_below}
+use Rattle.std.specs.Prelude.{◌≡◌, ◌∷◌, ◌++◌}
+use Rattle.cborn_edn.proofs.Common.{refl, sym, ap, ◌∙◌, subst, ℕ, List, [], map, length, false, eqb, decimal, append_assoc, arith, codes, AreBytes, Width, Chunk, Tree, Uint, Nint, ByteChunks, TextChunks, Items, Tagged, Simple, Trees, more, Entries, no_entry, entry, count, count_entries, WidthFits, ChunksFit, Fits, FitsAll, FitsEntries, Mark, ArrayOpen, ArrayClose, MapOpen, MapClose, ParenClose, Comma, Colon, ChunkOpen, TagOpen, Token, begins, no_string, no_item, no_pair, token, tokens_of, tokens_of_pieces, tokens_of_strings, tokens_of_content, tokens_of_fields, tokens_of_input, StringKind, OfBytes, OfText, nowhere, chunk_pieces, chunk_row, chunk_item, notated, notated_content, notated_fields, notated_input, others, mark_for, mark_for_size, indicator, opened, shown_string, shown_chunk, joined_by, shown_chunks, shown, item_texts, pair_texts, shown_lines, ByteNode, TextNode, Pairs as PairNode, no_node, Endless, simple_below}
 use Rattle.cborn_edn.proofs.RoundTrip.Back.{below}
 use Rattle.cborn_edn.proofs.Lexed.Chained.{Chained, no_text, both, retell, one_token}
 use Rattle.cborn_edn.proofs.Lexed.Joined.{more_tokens, more_pair_tokens, more_chunk_tokens, row_tokens, chunk_tokens, pair_tokens}

@@ -1,6 +1,7 @@
 -- Text strings of the fixed notation, as pieces.
+use Rattle.std.specs.Prelude.{◌≡◌, ◌/◌, ◌%◌, ◌<◌, ◌∷◌, ◌++◌, ◌&&◌}
 use Rattle.hex.specs.Hex.{encode_with}
-use Rattle.cborn_edn.proofs.Common.{◌≡◌, refl, sym, ap, ◌∙◌, ℕ, ◌/◌, ◌%◌, ◌<◌, List, [], ◌∷◌, ◌++◌, slice_index, Bool, true, ◌&&◌, eqb, ltb, cond, inl, arith, and_parts, and_from, codes, bytes_eq, list_all, flat_map, lower_digits, AreBytes, Mark, Endless, Bytes, Text, marked, is_content, Letter, raw, unit, written, is_letter, meant, token, nowhere, indicator, escaped, map as list_map, after_slash, passes, passes_at}
+use Rattle.cborn_edn.proofs.Common.{refl, sym, ap, ◌∙◌, ℕ, List, [], slice_index, Bool, true, eqb, ltb, cond, inl, arith, and_parts, and_from, codes, bytes_eq, list_all, flat_map, lower_digits, AreBytes, Mark, Endless, Bytes, Text, marked, is_content, Letter, raw, unit, written, is_letter, meant, token, nowhere, indicator, escaped, map as list_map, after_slash, passes, passes_at}
 use Rattle.cborn_lex.proofs.GoodFronts.{same_bytes}
 use Rattle.cborn_lex.specs.Strings.{IsText, nothing}
 use Rattle.cborn_lex.proofs.Contents.Lettered as lettered
@@ -30,28 +31,22 @@ each_written : passes is_written 0 256 ≡ true
 unfolding encode_with lib.Utf8.encode
 each_written = refl
 
-record Written (b : ℕ) : Type 0 where
-  text : escaped b ≡ written (letter_of b)
-  allowed : is_letter 34 (letter_of b) ≡ true
-  value : meant (letter_of b) ≡ b ∷ []
-  inside : is_content 34 (escaped b) ≡ true
-
-is_written_at : (b : ℕ) → b < 256 → Written b
+is_written_at : (b : ℕ) → b < 256 → (escaped b ≡ written (letter_of b)) × (is_letter 34 (letter_of b) ≡ true) × (meant (letter_of b) ≡ b ∷ []) × (is_content 34 (escaped b) ≡ true)
 is_written_at b h =
     let t = passes_at is_written 0 256 b each_written (omega arith) (omega arith) in
     let first = and_parts _ _ t in
     let second = and_parts _ _ first.1 in
     let third = and_parts _ _ second.1 in
-    record { text = same_bytes _ _ first.0; allowed = second.0; value = same_bytes _ _ third.0; inside = third.1 }
+    (same_bytes _ _ first.0, second.0, same_bytes _ _ third.0, third.1)
 
 letters : (x : List ℕ) → AreBytes x → (flat_map escaped x ≡ flat_map written (list_map letter_of x)) × (list_all (is_letter 34) (list_map letter_of x) ≡ true) × (x ≡ flat_map meant (list_map letter_of x))
 letters [] h = (refl, refl, refl)
 letters (b ∷ x) h =
     let w = is_written_at b h.0 in
     let r = letters x h.1 in (
-      ap (λ y. y ++ flat_map escaped x) w.text ∙ ap (λ y. written (letter_of b) ++ y) r.0,
-      and_from _ _ w.allowed r.1,
-      ap (λ y. b ∷ y) r.2 ∙ ap (λ y. y ++ flat_map meant (list_map letter_of x)) (sym w.value),
+      ap (λ y. y ++ flat_map escaped x) w.0 ∙ ap (λ y. written (letter_of b) ++ y) r.0,
+      and_from _ _ w.1 r.1,
+      ap (λ y. b ∷ y) r.2 ∙ ap (λ y. y ++ flat_map meant (list_map letter_of x)) (sym w.2),
     )
 
 is_text : (x : List ℕ) → AreBytes x → IsText 34 (flat_map escaped x) x
@@ -59,7 +54,7 @@ is_text x h = let r = letters x h in lettered.is_text 34 (flat_map escaped x) x 
 
 inside : (x : List ℕ) → AreBytes x → is_content 34 (flat_map escaped x) ≡ true
 inside [] h = refl
-inside (b ∷ x) h = content_then 34 (escaped b) (flat_map escaped x) (is_written_at b h.0).inside (inside x h.1)
+inside (b ∷ x) h = content_then 34 (escaped b) (flat_map escaped x) (is_written_at b h.0).3 (inside x h.1)
 
 pub text_text : (x : List ℕ) (m : Mark) (z : List ℕ) → AreBytes x → IsMark m → Closes z → Chained (codes "\"" ++ (flat_map escaped x ++ (codes "\"" ++ indicator m))) z (token nowhere (Text x m) ∷ [])
 text_text x m z h k close =

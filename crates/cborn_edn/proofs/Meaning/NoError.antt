@@ -1,5 +1,6 @@
 -- What is known where there is no meaning error: an argument, a count or a length below 2^64 fits its width.
-use Rattle.cborn_edn.proofs.Common.{◌≡◌, refl, ap, ℕ, ◌^◌, ◌<◌, List, [], ◌∷◌, ◌++◌, length, Bool, true, false, ltb, cond, if◌then◌else◌, ltb-true, and_from, Width, Direct, holds, WidthFits, SizeFits, Mark, Absent, Endless, Wide, Token, Profile, MeaningError, EdnReason, IndicatorTooNarrow, IndicatorNotAllowed, TagTooLarge, width, size, unless, width_errors, size_errors, tag_errors, Str, is_endless, is_nil, mark_errors, IsPiece, text_piece, byte_piece, ArePieces, least_holds}
+use Rattle.std.specs.Prelude.{◌≡◌, ◌^◌, ◌<◌, ◌∷◌, ◌++◌, if◌then◌else◌}
+use Rattle.cborn_edn.proofs.Common.{refl, ap, ℕ, List, [], length, Bool, true, false, ltb, cond, ltb-true, and_from, Width, Direct, holds, WidthFits, SizeFits, Mark, Absent, Endless, Wide, Token, Profile, MeaningError, EdnReason, IndicatorTooNarrow, IndicatorNotAllowed, TagTooLarge, width, size, unless, width_errors, size_errors, tag_errors, Str, is_endless, is_nil, mark_errors, IsPiece, text_piece, byte_piece, ArePieces, least_holds}
 use Rattle.cborn_edn.specs.Grammar.{embedded, piece, also}
 
 pub no_left : {A : Type 0} (x y : List A) → x ++ y ≡ [] → x ≡ []

@@ -1,5 +1,6 @@
 -- The bytes of an integer outside 64 bits, the highest first.
-use Rattle.cborn_edn.proofs.Common.{◌≡◌, sym, ap, ◌∙◌, ℕ, ◌<◌, ◌/◌, ◌%◌, List, [], ◌∷◌, ◌++◌, append_assoc, arith, digits_of, digits_of_step}
+use Rattle.std.specs.Prelude.{◌≡◌, ◌<◌, ◌/◌, ◌%◌, ◌∷◌, ◌++◌}
+use Rattle.cborn_edn.proofs.Common.{sym, ap, ◌∙◌, ℕ, List, [], append_assoc, arith, digits_of, digits_of_step}
 
 pub one_digit : (x y z : List ℕ) (n : ℕ) → 0 < n → y ≡ x ++ digits_of 256 (n / 256) → z ≡ y ++ n % 256 ∷ [] → z ≡ x ++ digits_of 256 n
 one_digit x y z n h e f =

@@ -1,5 +1,6 @@
 -- What is shown after a bracket that opens, and after one that ends.
-use Rattle.cborn_edn.proofs.Common.{◌≡◌, refl, sym, ap, ◌∙◌, subst, ℕ, List, [], ◌∷◌, ◌++◌, length, Bool, true, false, Option, Some, None, append-nil, append_assoc, if◌then◌else◌, Tree, trees, spelled_all, top, no_part, OfBytes, IsWritten, Speller, Mark, Absent, MeaningError, is_nil, Str, joined, piece_errors, size_errors, first_error, earlier, is_none, Notes, listed_trees, trees-listed, Span, Item, embedded, Pieces, row, Content, loose, tight, pairs, Fields, loose_fields, tight_fields, no_item, node, str, str_of, nodes_before, nodes_in, faults, faults_in, faults_of_pieces, noted, noted_stack, noted_home, stack_of, stack_in, bracket, brackets_of, brackets_home, around, arounds_of, arounds_home, bytes_around, bytes_around_home, bytes_before, piece_bytes, pieces_bytes, joint, Shows, content_state, fields_state, entries_at, states_around, states_around_nest, Handed, IsSpelled, Here, Writer, OpenBracket, Around, Joint, Has, Builds, Wants, Stack, in_row, Nest, in_embed, Home, State, wants, has, builds, with_piece, at_home, Embedded}
+use Rattle.std.specs.Prelude.{◌≡◌, ◌∷◌, ◌++◌, if◌then◌else◌}
+use Rattle.cborn_edn.proofs.Common.{refl, sym, ap, ◌∙◌, subst, ℕ, List, [], length, Bool, true, false, Option, Some, None, append-nil, append_assoc, Tree, trees, spelled_all, top, no_part, OfBytes, IsWritten, Speller, Mark, Absent, MeaningError, is_nil, Str, joined, piece_errors, size_errors, first_error, earlier, is_none, Notes, listed_trees, trees-listed, Span, Item, embedded, Pieces, row, Content, loose, tight, pairs, Fields, loose_fields, tight_fields, no_item, node, str, str_of, nodes_before, nodes_in, faults, faults_in, faults_of_pieces, noted, noted_stack, noted_home, stack_of, stack_in, bracket, brackets_of, brackets_home, around, arounds_of, arounds_home, bytes_around, bytes_around_home, bytes_before, piece_bytes, pieces_bytes, joint, Shows, content_state, fields_state, entries_at, states_around, states_around_nest, Handed, IsSpelled, Here, Writer, OpenBracket, Around, Joint, Has, Builds, Wants, Stack, in_row, Nest, in_embed, Home, State, wants, has, builds, with_piece, at_home, Embedded}
 use Rattle.cborn_edn.proofs.Meaning.NoError.{nil_is}
 use Rattle.cborn_edn.proofs.Reader.NotedErrors.{earlier_noted, none_first}
 use Rattle.cborn_edn.proofs.Reader.Showing.{brackets_same, arounds_same, bytes_same, standing}
@@ -49,7 +50,7 @@ closed_sized here next w mid new ps f n st p k m es i q shut many noted is =
 
 -- a `<<` opens
 pub embed_kept : (here next : Here) (w left : Writer) (ps : List Speller) (h : Home) (o : Option Pieces) (a : Span) (place from : ℕ) (all : List Around) → place ≡ a.start → from ≡ length w.pieces.items → all ≡ record { start = w.start; string = w.string; chunks = w.chunks; error = w.error } ∷ w.around
-    → next ≡ record here { count = 0; phase = Wants; level = Some Embedded } → left ≡ record w { start = from; brackets = record { place = place; count = here.count; level = here.level; mark = Absent } ∷ w.brackets; around = all; spellers = ps; string = None; chunks = None; error = None }
+    → next ≡ record here { count = 0; phase = Wants; level = Embedded } → left ≡ record w { start = from; brackets = record { place = place; count = here.count; level = here.level; mark = Absent } ∷ w.brackets; around = all; spellers = ps; string = None; chunks = None; error = None }
     → Shows here w w.pieces.items (at_home h o) → Shows next left left.pieces.items (wants (in_row (in_embed h o a) no_item))
 embed_kept here next w left ps h o a place from all p n k f l e =
     let q = standing here w h o w.pieces.items e in
@@ -84,6 +85,10 @@ spelled_innermost all p ps s e t = subst (λ (l : List Speller). IsSpelled l s) 
 
 one_head : {A : Type 0} (x y : A) (xs ys : List A) → x ∷ xs ≡ y ∷ ys → (x ≡ y) × (xs ≡ ys)
 one_head x y xs ys e = (cc, cc)
+
+-- a bracket that was taken off, put back
+pub reopened : (here : Here) (w : Writer) (f : OpenBracket) → Shut here (record w { brackets = f ∷ w.brackets }) (record here { count = f.count; phase = Has; level = f.level }) w f
+reopened here w f = λ g gs e. let d = one_head f g w.brackets gs e in (d.0, λ i. record w { brackets = d.1 i }, λ i. record here { count = (d.0 i).count; phase = Has; level = (d.0 i).level })
 
 -- what a string with one more piece is, which is embedded
 pub record Rejoined (before : Option Joint) (opened : ℕ) (known : Bool) (m : Mark) (place : ℕ) (old new : Option MeaningError) (j : Joint) : Type 0 where

@@ -1,5 +1,6 @@
 -- Tokens, white space and comments, from the characters at an offset of a text.
-use Rattle.cborn_edn.proofs.Common.{Bool, false, if◌then◌else◌, ArrayClose, MapClose, sized_end, ◌≡◌, refl, sym, ap, ◌∙◌, subst, ℕ, ◌+◌, ◌<◌, List, [], ◌∷◌, ◌++◌, length, take, drop, get_or, true, Some, None, arith, append_assoc, append-nil, drop-append_seam, drop-drop, drop_more, take-append-drop, length-take-le, list_all, and_parts, and_from, Profile, Class, is_white, is_not, is_plain, Covers, TokensBetween, IsTokenAt, length-append, length-drop, ProfileTwo as Two}
+use Rattle.std.specs.Prelude.{if◌then◌else◌, ◌≡◌, ◌+◌, ◌<◌, ◌∷◌, ◌++◌}
+use Rattle.cborn_edn.proofs.Common.{Bool, false, ArrayClose, MapClose, sized_end, refl, sym, ap, ◌∙◌, subst, ℕ, List, [], length, take, drop, get_or, true, Some, None, arith, append_assoc, append-nil, drop-append_seam, drop-drop, drop_more, take-append-drop, length-take-le, list_all, Profile, Class, is_white, is_not, Covers, TokensBetween, IsTokenAt, length-append, length-drop, ProfileTwo as Two}
 use Rattle.cborn_lex.specs.Good as good
 use Rattle.cborn_lex.specs.Good.{Takes}
 pub use Rattle.cborn_lex.proofs.WholeTexts.Progress.{joins as join, nothing}
@@ -40,30 +41,16 @@ pub white_here : (profile : Profile) (text : List ℕ) (at : ℕ) → at < lengt
 white_here profile text at h w = white_space_here profile text (get_or text at 0 ∷ []) (drop (at + 1) text) at (at + 1) (begins_here text at (get_or text at 0) h refl) refl (good.white (get_or text at 0) (drop (at + 1) text) w)
 
 -- a slice that begins with c and goes up to and with the next q, and what follows it
-pub record Ended (text tail : List ℕ) (at i c q : ℕ) : Type 0 where
-  pub whole : drop at text ≡ (c ∷ take i tail ++ q ∷ []) ++ drop (i + 1) tail
-  pub size : at + i + 2 ≡ at + length (c ∷ take i tail ++ q ∷ [])
-
-pub ended : (text tail : List ℕ) (at i c q : ℕ) → at < length text → get_or text at 0 ≡ c → tail ≡ drop (at + 1) text → i < length tail → get_or tail i 0 ≡ q → Ended text tail at i c q
-ended text tail at i c q h e t l f = record {
-  whole = begins_here text at c h e ∙ ap (λ y. c ∷ y) (sym t ∙ (sym (take-append-drop i tail) ∙ ap (λ y. take i tail ++ y) (drop_more tail i 0 l ∙ ap (λ d. d ∷ drop (i + 1) tail) f) ∙ sym (append_assoc (take i tail) (q ∷ []) (drop (i + 1) tail))));
-  size = omega (arith, length-append (take i tail) (q ∷ []), length-take-le i tail (omega (arith, l)));
-}
+pub ended : (text tail : List ℕ) (at i c q : ℕ) → at < length text → get_or text at 0 ≡ c → tail ≡ drop (at + 1) text → i < length tail → get_or tail i 0 ≡ q → (drop at text ≡ (c ∷ take i tail ++ q ∷ []) ++ drop (i + 1) tail) × (at + i + 2 ≡ at + length (c ∷ take i tail ++ q ∷ []))
+ended text tail at i c q h e t l f = (begins_here text at c h e ∙ ap (λ y. c ∷ y) (sym t ∙ (sym (take-append-drop i tail) ∙ ap (λ y. take i tail ++ y) (drop_more tail i 0 l ∙ ap (λ d. d ∷ drop (i + 1) tail) f) ∙ sym (append_assoc (take i tail) (q ∷ []) (drop (i + 1) tail)))), omega (arith, length-append (take i tail) (q ∷ []), length-take-le i tail (omega (arith, l))))
 
 ended_here : (profile : Profile) (text tail : List ℕ) (at i c q : ℕ) → at < length text → get_or text at 0 ≡ c → tail ≡ drop (at + 1) text → i < length tail → get_or tail i 0 ≡ q → ((z : List ℕ) → Takes profile (c ∷ take i tail ++ q ∷ []) z None) → TokensBetween profile text at (at + i + 2) []
 ended_here profile text tail at i c q h e t l f k =
     let s = ended text tail at i c q h e t l f in
-    white_space_here profile text (c ∷ take i tail ++ q ∷ []) (drop (i + 1) tail) at (at + i + 2) s.whole s.size (k (drop (i + 1) tail))
+    white_space_here profile text (c ∷ take i tail ++ q ∷ []) (drop (i + 1) tail) at (at + i + 2) s.0 s.1 (k (drop (i + 1) tail))
 
 pub comment_here : (profile : Profile) (text tail : List ℕ) (at i : ℕ) → at < length text → get_or text at 0 ≡ 47 → tail ≡ drop (at + 1) text → i < length tail → list_all (is_not 47) (take i tail) ≡ true → get_or tail i 0 ≡ 47 → TokensBetween profile text at (at + i + 2) []
 comment_here profile text tail at i h e t l a f = ended_here profile text tail at i 47 47 h e t l f (λ z. good.comment (take i tail) z a)
-
--- LAW: letters that are plain in a string between slashes have no slash
-pub plain_comment : (x : List ℕ) → list_all (is_plain 47) x ≡ true → list_all (is_not 47) x ≡ true
-plain_comment [] e = refl
-plain_comment (c ∷ x) e =
-    let h = and_parts (is_plain 47 c) (list_all (is_plain 47) x) e in
-    and_from (is_not 47 c) (list_all (is_not 47) x) ((and_parts _ _ h.0).1) (plain_comment x h.1)
 
 pub line_here : (text tail : List ℕ) (at i : ℕ) → at < length text → get_or text at 0 ≡ 35 → tail ≡ drop (at + 1) text → i < length tail → list_all (is_not 10) (take i tail) ≡ true → get_or tail i 0 ≡ 10 → TokensBetween Two text at (at + i + 2) []
 line_here text tail at i h e t l a f = ended_here Two text tail at i 35 10 h e t l f (λ z. good.line (take i tail) z refl a)

@@ -1,5 +1,6 @@
 -- The end of a text: its bytes, or why it has none.
-use Rattle.cborn_edn.proofs.Common.{◌≡◌, refl, sym, ap, ◌∙◌, subst, ℕ, List, [], ◌∷◌, length, Bool, true, false, Option, Some, None, inl, inr, top, no_part, Tree, trees, FitsAll, Speller, HasTokens, Profile, MeaningError, UnexpectedEnd, Refused, IsText, Notates, IsNoNotation, Item, Pieces, string, RowBefore, no_item, after_row, no_pair, after_pairs, row, Input, items, node, nodes_before, nodes_of_input, faults_of_input, Here, Writer, is_none, phase_of, stack_in, level_of, chunks_in, Shows, listed_trees, trees-listed, Holds, Handed, AllHanded, Reads, may_end, Last, item, pieces, AtEnd, Reached, IsReadTo, in_row, in_key, at_top, in_array, in_embed, as_item, as_chunk, State, wants, has, builds, start, finish, at_end, parse, whole_text}
+use Rattle.std.specs.Prelude.{◌≡◌, ◌∷◌}
+use Rattle.cborn_edn.proofs.Common.{refl, sym, ap, ◌∙◌, subst, ℕ, List, [], length, Bool, true, false, Option, Some, None, inl, inr, top, no_part, Tree, trees, FitsAll, Speller, HasTokens, Profile, MeaningError, UnexpectedEnd, Refused, IsText, Notates, IsNoNotation, Item, Pieces, string, RowBefore, no_item, after_row, no_pair, after_pairs, row, Input, items, node, nodes_before, nodes_of_input, faults_of_input, Here, Writer, is_none, phase_of, stack_in, level_of, chunks_in, Shows, listed_trees, trees-listed, Holds, Handed, AllHanded, Reads, may_end, Last, item, pieces, AtEnd, Reached, IsReadTo, in_row, in_key, at_top, in_array, in_embed, as_item, as_chunk, State, wants, has, builds, start, finish, at_end, parse, whole_text}
 use Rattle.cborn_edn.specs.devices.Syntax.{nothing}
 use Rattle.cborn_edn.proofs.Grammar.Parser.{Meets, parses}
 use Rattle.cborn_edn.proofs.Meaning.Earliest.{Tells, tells}
@@ -50,16 +51,10 @@ bare_end {h = h} here w s t empty n e = record { error = e.shows.error; held = o
 bare_end here w s t (item b i) n e = item_end here w b i e
 bare_end here w s t (pieces b ps) n e = absurd (let bad : true ≡ false = ap ends_string (sym e.shows.phase) ∙ n in cc)
 
-pub record Pieced (s : State) (t : Input) : Type 0 where
-  pub b : RowBefore
-  pub ps : Pieces
-  pub is : builds (as_item (in_row at_top b)) ps ≡ s
-  pub tree : items (row b (string ps)) ≡ t
-
-pub string_end : (s : State) (t : Input) → Last s t → ends_string (phase_of s) ≡ true → Pieced s t
+pub string_end : (s : State) (t : Input) → Last s t → ends_string (phase_of s) ≡ true → (b : RowBefore) × (ps : Pieces) × (builds (as_item (in_row at_top b)) ps ≡ s) × (items (row b (string ps)) ≡ t)
 string_end s t empty n = absurd (let bad : false ≡ true = n in cc)
 string_end s t (item b i) n = absurd (let bad : false ≡ true = n in cc)
-string_end s t (pieces b ps) n = record { b = b; ps = ps; is = refl; tree = refl }
+string_end s t (pieces b ps) n = (b, ps, refl, refl)
 
 module _ (p : Profile) (limit : ℕ) (text : List ℕ) (s : State) (r : Reached p limit text (length text) s) where
   lex : HasTokens p text r.tokens

@@ -1,5 +1,6 @@
 -- A text that is read up to some place: on with one more token, or why not.
-use Rattle.cborn_edn.proofs.Common.{◌≡◌, refl, sym, ap, ◌∙◌, subst, ℕ, ◌+◌, ◌<◌, ◌≤◌, List, [], ◌∷◌, ◌++◌, length, Bool, true, false, cond, leb, Option, Some, None, append_assoc, append-nil, ◌⊎◌, inl, inr, arith, max, le-leb, lt-leb, TokensBetween, HasNoTokens, HasNoTokenFrom, class_of, Kind, Class, Profile, Token, LexFault, AreModest, EdnReason, UnexpectedToken, TooDeep, EdnFault, Refused, Span, span, token, after_row, after_pairs, IsNoNotation, lexical, reach, Phase, WantsMore, phase_of, is_trailing_comma, Reached, ProfileOne as One, ProfileTwo as Two, in_row, in_key, at_top, in_array, in_embed, State, wants, start, step, step_by, held, open_levels, comma_at, Answer, forbids, checked, parse, joins, whole_text, whole_stop, stops}
+use Rattle.std.specs.Prelude.{◌≡◌, ◌+◌, ◌<◌, ◌≤◌, ◌∷◌, ◌++◌, ◌⊎◌}
+use Rattle.cborn_edn.proofs.Common.{refl, sym, ap, ◌∙◌, subst, ℕ, List, [], length, Bool, true, false, cond, leb, Option, Some, None, append_assoc, append-nil, inl, inr, arith, max, le-leb, lt-leb, TokensBetween, HasNoTokens, HasNoTokenFrom, class_of, Kind, Class, Profile, Token, LexFault, AreModest, EdnReason, UnexpectedToken, TooDeep, EdnFault, Refused, Span, span, token, after_row, after_pairs, IsNoNotation, lexical, reach, Phase, WantsMore, phase_of, is_trailing_comma, Reached, ProfileOne as One, ProfileTwo as Two, in_row, in_key, at_top, in_array, in_embed, State, wants, start, step, step_by, held, open_levels, comma_at, Answer, forbids, checked, parse, joins, whole_text, whole_stop, stops}
 use Rattle.cborn_lex.specs.declared.classes.Kind.TheVariants as kinds
 use Rattle.cborn_lex.specs.declared.faults.LexFault.TheVariants.{Refused as LexRefused, OutOfMemory as LexOutOfMemory}
 use Rattle.cborn_lex.proofs.WholeTexts.Progress.{nothing}
@@ -30,7 +31,7 @@ held_more s u c a e = go (step_by s c a) (grows s c a) e
   where
     go : (o : Option State) → After o (Grows (held s) (max (deep s) (reach (open_levels s) c)) (commas_held s + comma_at s c) (token a c)) → o ≡ Some u → held u ≡ held s ++ (token a c ∷ [])
     go None g f = absurd (let bad : None ≡ Some u = f in cc)
-    go (Some v) g f = ap held (sym (one_state v u f)) ∙ g.held
+    go (Some v) g f = ap held (sym (one_state v u f)) ∙ g.0
 
 -- what a token makes of the answer
 abbrev pub after_token : Profile → ℕ → ℕ → Token → List Token → Option State → Bool → Answer

@@ -1,5 +1,6 @@
 -- Tokens of numbers, strings and brackets from what was found at a place of a text.
-use Rattle.cborn_edn.proofs.Common.{◌≡◌, refl, sym, ap, ◌∙◌, subst, ℕ, ◌+◌, ◌<◌, ◌≤◌, List, [], ◌∷◌, ◌++◌, length, take, drop, get_or, Bool, true, false, not, eqb, Some, Ok, arith, append_assoc, append-nil, ne_eqb, eqb-true, false≢true, take-append-drop, length-take-le, drop-drop, Profile, Mark, Absent, Class, Number, TagOpen, Text, EmbedClose, ChunkOpen, begins, is_numeral, is_word, mark_of, signed, list_all, IsUtf8, is_content, is_plain, LettersSoFar, IsRun, IsIndicator, IsMark, IsNumeral, TokensBetween, IsTokenAt, NoPieceAt, IsTextAt, length-append, none_yet, run_more, letters_end}
+use Rattle.std.specs.Prelude.{◌≡◌, ◌+◌, ◌<◌, ◌≤◌, ◌∷◌, ◌++◌}
+use Rattle.cborn_edn.proofs.Common.{not-true, opening, opening_character, refl, sym, ap, ◌∙◌, subst, ℕ, List, [], length, take, drop, get_or, Bool, true, false, not, eqb, Some, Ok, arith, append_assoc, append-nil, ne_eqb, eqb-true, false≢true, take-append-drop, length-take-le, drop-drop, Profile, Mark, Absent, Class, Number, TagOpen, Text, EmbedClose, ChunkOpen, begins, is_numeral, is_word, mark_of, signed, list_all, IsUtf8, is_content, is_plain, LettersSoFar, IsRun, IsIndicator, IsMark, IsNumeral, TokensBetween, IsTokenAt, NoPieceAt, IsTextAt, length-append, none_yet, run_more, letters_end}
 use Rattle.cborn_lex.specs.Numbers.{integer}
 use Rattle.cborn_lex.specs.Strings.{IsText}
 use Rattle.cborn_lex.specs.Good as good
@@ -59,12 +60,20 @@ negative_here profile text tail at len n h e t l s i r b =
     token_here profile text (45 ∷ (x ++ [])) z at (at + 1 + len) (Number true n Absent) all long
     (subst (λ (k : Class). Takes profile (45 ∷ (x ++ [])) z (Some k)) (below_signed n s) (good.negative x [] z n Absent (numeral true x [] z n Absent i r (b, refl))))
 
+pub opening_takes : (m : Bool) (profile : Profile) (s z : List ℕ) (a : Mark) → IsMark s z a → Takes profile (opening_character m ∷ s) z (Some (opening m a))
+opening_takes true profile s z a i = good.map_open s z a i
+opening_takes false profile s z a i = good.array_open s z a i
+
 -- a bracket, and an indicator of len characters after it
 pub opening_here : (profile : Profile) (text tail : List ℕ) (at c len : ℕ) (m : Mark) (k : Mark → Class) → at < length text → get_or text at 0 ≡ c → tail ≡ drop (at + 1) text → len ≤ length tail → IsIndicator (take len tail) (drop len tail) → mark_of (take len tail) ≡ Some m
     → ((s z : List ℕ) → IsMark s z m → Takes profile (c ∷ s) z (Some (k m))) → IsTokenAt profile text at (at + 1 + len) (k m)
 opening_here profile text tail at c len m k h e t l i o f =
     let all : drop at text ≡ (c ∷ take len tail) ++ drop len tail = begins_here text at c h e ∙ ap (λ y. c ∷ y) (sym t ∙ sym (take-append-drop len tail)) in
     token_here profile text (c ∷ take len tail) (drop len tail) at (at + 1 + len) (k m) all (omega (arith, length-take-le len tail l)) (f (take len tail) (drop len tail) (i, o))
+
+-- a bracket without an indicator
+pub bare_opening : (profile : Profile) (text tail : List ℕ) (at c : ℕ) (k : Class) (marked : Bool) → at < length text → get_or text at 0 ≡ c → tail ≡ drop (at + 1) text → marked ≡ begins (λ d. eqb d 95) tail → not marked ≡ true → ((z : List ℕ) → begins (λ d. eqb d 95) z ≡ false → Takes profile (c ∷ []) z (Some k)) → IsTokenAt profile text at (at + 1) k
+bare_opening profile text tail at c k marked h e t m none f = token_here profile text (c ∷ []) (drop (at + 1) text) at (at + 1) k (begins_here text at c h e) refl (f (drop (at + 1) text) (ap (begins (λ d. eqb d 95)) (sym t) ∙ sym m ∙ not-true marked none))
 
 -- the end of what is embedded, and an indicator of len characters after it
 pub embed_end_here : (profile : Profile) (text tail : List ℕ) (at len stop : ℕ) (m : Mark) → at + 1 < length text → get_or text at 0 ≡ 62 → get_or text (at + 1) 0 ≡ 62 → tail ≡ drop (at + 1 + 1) text → len ≤ length tail → IsIndicator (take len tail) (drop len tail) → mark_of (take len tail) ≡ Some m → stop ≡ at + 2 + len
@@ -100,7 +109,7 @@ text_at profile text tail bytes at len stop h e t l q i is b white none inside =
     let after : drop (at + len + 2) text ≡ drop (len + 1) tail = ap (λ n. drop n text) (sym place) ∙ sym (drop-drop (len + 1) (at + 1) text) ∙ ap (drop (len + 1)) (sym t) in
     record {
       stop = at + len + 2;
-      token = (let s = ended text tail at len 34 34 h e t l q in token_here profile text (34 ∷ take len tail ++ 34 ∷ []) (drop (len + 1) tail) at (at + len + 2) (Text bytes Absent) s.whole s.size (good.text (take len tail) bytes [] (drop (len + 1) tail) Absent i is ((subst (λ (y : List ℕ). begins (λ c. eqb c 95) y ≡ false) after b), refl)));
+      token = (let s = ended text tail at len 34 34 h e t l q in token_here profile text (34 ∷ take len tail ++ 34 ∷ []) (drop (len + 1) tail) at (at + len + 2) (Text bytes Absent) s.0 s.1 (good.text (take len tail) bytes [] (drop (len + 1) tail) Absent i is ((subst (λ (y : List ℕ). begins (λ c. eqb c 95) y ≡ false) after b), refl)));
       utf8 = λ u. text_utf8 34 (take len tail) bytes is (subst (λ (y : List ℕ). IsUtf8 (take len y)) (sym t) (slice_utf8 text at len u h (omega (arith, e)) (subst (λ (y : List ℕ). len < length y) t l) (subst (λ (y : List ℕ). get_or y len 0 < 128) t (omega (arith, q)))));
       white_space = white;
       ends = none;

@@ -1,5 +1,6 @@
 -- The meaning errors of a string, and of its pieces.
-use Rattle.cborn_edn.proofs.Common.{◌≡◌, refl, sym, ap, ◌∙◌, subst, ℕ, List, [], ◌++◌, length, Bool, true, false, ◌&&◌, Option, if◌then◌else◌, Mark, StringKind, MeaningError, IndicatorNotAllowed, TextNotUtf8, MixedString, MixedChunks, unless, width_errors, is_absent, is_endless, is_good, may_join, same_kind, Str, joined, piece_errors, mark_errors, string_errors, chunk_errors, Joint, Notes, joint}
+use Rattle.std.specs.Prelude.{◌≡◌, ◌++◌, ◌&&◌, if◌then◌else◌}
+use Rattle.cborn_edn.proofs.Common.{refl, sym, ap, ◌∙◌, subst, ℕ, List, [], length, Bool, true, false, Option, Mark, StringKind, MeaningError, IndicatorNotAllowed, TextNotUtf8, MixedString, MixedChunks, unless, width_errors, is_absent, is_endless, is_good, may_join, same_kind, Str, joined, piece_errors, mark_errors, string_errors, chunk_errors, Joint, Notes, joint}
 use Rattle.cborn_edn.proofs.Reader.NotedErrors.{none_noted, both_noted}
 
 abbrev marked : Bool → Bool → Str → List MeaningError → List MeaningError

@@ -1,5 +1,6 @@
 -- Tokens as a text has them, and heads that are bytes.
-use Rattle.cborn_edn.proofs.Common.{◌≡◌, refl, sym, subst, ℕ, ◌+◌, ◌*◌, ◌^◌, ◌<◌, ◌≤◌, List, [], ◌∷◌, ◌++◌, Bool, true, false, ltb, arith, ltb-true, ltb-false, le-ltb, AreBytes, Eight, Major, Unsigned, code, holds, least, Given, head, Mark, Absent, Endless, Wide, Token, AreModest, IndicatorTooNarrow, width, width_errors, least_holds, head_bytes}
+use Rattle.std.specs.Prelude.{◌≡◌, ◌+◌, ◌*◌, ◌^◌, ◌<◌, ◌≤◌, ◌∷◌, ◌++◌}
+use Rattle.cborn_edn.proofs.Common.{refl, sym, subst, ℕ, List, [], Bool, true, false, ltb, arith, ltb-true, ltb-false, le-ltb, AreBytes, Eight, Major, Unsigned, code, holds, least, Given, head, Mark, Absent, Endless, Wide, Token, AreModest, IndicatorTooNarrow, width, width_errors, least_holds, head_bytes}
 use Rattle.cborn_edn.proofs.Meaning.NoError.{held, holds_is}
 
 -- what is known of the tokens between two places of a text

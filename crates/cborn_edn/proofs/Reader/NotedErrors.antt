@@ -1,5 +1,6 @@
 -- Meaning errors, noted one after another.
-use Rattle.cborn_edn.proofs.Common.{◌≡◌, refl, sym, ap, ◌∙◌, List, [], ◌∷◌, ◌++◌, false, Option, Some, None, append-nil, append_assoc, MeaningError, is_nil, first_error, earlier, is_none, Notes}
+use Rattle.std.specs.Prelude.{◌≡◌, ◌∷◌, ◌++◌}
+use Rattle.cborn_edn.proofs.Common.{refl, sym, ap, ◌∙◌, List, [], false, Option, Some, None, append-nil, append_assoc, MeaningError, is_nil, first_error, earlier, is_none, Notes}
 use Rattle.cborn_edn.proofs.Meaning.Earliest.{first-append}
 
 -- nothing is noted

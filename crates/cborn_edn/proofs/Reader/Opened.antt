@@ -1,5 +1,6 @@
 -- What is open, the innermost first.
-use Rattle.cborn_edn.proofs.Common.{◌≡◌, sym, ap, ◌∙◌, ℕ, ◌+◌, ◌<◌, List, [], ◌∷◌, ◌++◌, length, take, get_or, set, reverse-append, length-reverse, take_more, take_more_set, reverse}
+use Rattle.std.specs.Prelude.{◌≡◌, ◌+◌, ◌<◌, ◌∷◌, ◌++◌}
+use Rattle.cborn_edn.proofs.Common.{sym, ap, ◌∙◌, ℕ, List, [], length, take, get_or, set, reverse-append, length-reverse, take_more, take_more_set, reverse}
 
 pub reverse-push : {A : Type 0} (xs : List A) (x : A) → reverse (xs ++ x ∷ []) ≡ x ∷ reverse xs
 reverse-push xs x = reverse-append xs (x ∷ [])

@@ -1,5 +1,7 @@
 -- What is shown before the bracket that ends a row or a map.
-use Rattle.cborn_edn.proofs.Common.{◌≡◌, refl, ap, ◌∙◌, ℕ, suc, ◌+◌, ◌<◌, ◌^◌, List, ◌∷◌, ◌++◌, length, Some, None, append_assoc, arith, Tree, Trees, more, Entries, no_entry, entry, count, count_entries, Mark, first_error, snoc, snoc_entry, node, nodes_before, nodes_in, entries_before, entries_in, faults, faults_before, faults_in, faults_before_pairs, faults_of_fields, Span, Item, row, RowBefore, no_item, after_row, Content, loose, tight, pairs, PairsBefore, no_pair, after_pairs, Fields, loose_fields, tight_fields, MeaningError, Around, Here, OpenBracket, Writer, Phase, Has, WantsMore, noted_stack, noted_nest, level_of, bracket, brackets_of, brackets_nest, arounds_of, arounds_nest, bytes_around, bytes_around_nest, Shows, content_state, fields_state, entries_at, no_node, Stack, in_row, in_key, in_value, Nest, at_top, in_array, in_embed, has, wants, State, stack_in, string_in, chunks_in, bytes_open, phase_of, count_of, wanting, noted, Key}
+use Rattle.std.specs.Prelude.{◌≡◌, ◌+◌, ◌<◌, ◌^◌, ◌∷◌, ◌++◌}
+use Rattle.cborn_edn.specs.declared.states.Level.TheVariants.{Value}
+use Rattle.cborn_edn.proofs.Common.{Wants, refl, ap, ◌∙◌, ℕ, suc, List, length, None, append_assoc, arith, Tree, Trees, more, Entries, no_entry, entry, count, count_entries, Mark, first_error, snoc, snoc_entry, node, nodes_before, nodes_in, entries_before, entries_in, faults, faults_before, faults_in, faults_before_pairs, faults_of_fields, Span, Item, row, RowBefore, no_item, after_row, Content, loose, tight, pairs, PairsBefore, no_pair, after_pairs, Fields, loose_fields, tight_fields, MeaningError, Around, Here, OpenBracket, Writer, Phase, Has, WantsMore, noted_stack, noted_nest, level_of, bracket, brackets_of, brackets_nest, arounds_of, arounds_nest, bytes_around, bytes_around_nest, Shows, content_state, fields_state, entries_at, no_node, Stack, in_row, in_key, in_value, Nest, at_top, in_array, in_embed, has, wants, State, stack_in, string_in, chunks_in, bytes_open, phase_of, count_of, wanting, noted, Key}
 
 pub count-snoc : (ts : Trees) (t : Tree) → count (snoc ts t) ≡ suc (count ts)
 count-snoc no_node t = refl
@@ -79,6 +81,9 @@ pub comma_shown : (here next : Here) (w : Writer) (written : List ℕ) (n : Nest
 comma_shown here next w written n b i a s l k e =
     kept_comma (in_row n b) (in_row n (after_row (row b i) a)) i s (l ∙ e.level ∙ row_level n b (after_row (row b i) a)) (omega (arith, k, e.count, count-snoc (nodes_before b) (node i))) refl refl refl (append_assoc (noted_nest n) (faults_before b) (faults i)) e
 
-pub pair_comma_shown : (here next : Here) (w : Writer) (written : List ℕ) (st : Stack) (s c a : Span) (m : Mark) (b : PairsBefore) (k v : Item) → next.phase ≡ WantsMore → next.level ≡ Some Key → next.count ≡ here.count + 1 → Shows here w written (has (in_value st s m b k c) v) → Shows next w written (wants (in_key st s m (after_pairs (pairs b k c v) a)))
+pub pair_comma_shown : (here next : Here) (w : Writer) (written : List ℕ) (st : Stack) (s c a : Span) (m : Mark) (b : PairsBefore) (k v : Item) → next.phase ≡ WantsMore → next.level ≡ Key → next.count ≡ here.count + 1 → Shows here w written (has (in_value st s m b k c) v) → Shows next w written (wants (in_key st s m (after_pairs (pairs b k c v) a)))
 pair_comma_shown here next w written st s c a m b k v p l q e =
     kept_comma (in_value st s m b k c) (in_key st s m (after_pairs (pairs b k c v) a)) v p l (omega (arith, q, e.count, count-snoc_entry (entries_before b) (node k) (node v))) refl refl refl (append_assoc (noted_stack st ++ faults_before_pairs b) (faults k) (faults v) ∙ append_assoc (noted_stack st) (faults_before_pairs b) (faults k ++ faults v)) e
+
+pub colon_shown : (here next : Here) (w : Writer) (written : List ℕ) (st : Stack) (s c : Span) (m : Mark) (b : PairsBefore) (k : Item) → next.phase ≡ Wants → next.level ≡ Value → next.count ≡ here.count → Shows here w written (has (in_key st s m b) k) → Shows next w written (wants (in_value st s m b k c))
+colon_shown here next w written st s c m b k p l q e = kept_comma (in_key st s m b) (in_value st s m b k c) k p l (q ∙ e.count) refl refl refl refl e

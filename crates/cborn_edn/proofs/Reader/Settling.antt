@@ -1,5 +1,6 @@
 -- A string that no other piece follows is an item.
-use Rattle.cborn_edn.proofs.Common.{◌≡◌, refl, sym, ap, ◌∙◌, ℕ, List, [], ◌∷◌, ◌++◌, length, cond, leb, Option, Some, None, is_utf8-from_IsUtf8, IsUtf8, least, Absent, Profile, Token, MeaningError, unless, TextNotUtf8, first_error, reach, Span, span, Item, Pieces, piece, text, string, node, faults, NoPieceAt, noted_stack, Reached, TextNode, Stack, in_row, at_top, as_item, State, has, builds, step, levels, comma_at, finish, at_end, checked, forbids, parse, EndsPieces}
+use Rattle.std.specs.Prelude.{◌≡◌, ◌∷◌, ◌++◌}
+use Rattle.cborn_edn.proofs.Common.{refl, sym, ap, ◌∙◌, ℕ, List, [], length, cond, leb, Option, Some, None, is_utf8-from_IsUtf8, IsUtf8, least, Absent, Profile, Token, MeaningError, unless, TextNotUtf8, first_error, reach, Span, span, Item, Pieces, piece, text, string, node, faults, NoPieceAt, noted_stack, Reached, TextNode, Stack, in_row, at_top, as_item, State, has, builds, step, levels, comma_at, finish, at_end, checked, forbids, parse, EndsPieces}
 use Rattle.cborn_edn.proofs.Reader.Going.{after_token}
 use Rattle.cborn_edn.proofs.Reader.NextPieces.{next_ends}
 use Rattle.cborn_edn.proofs.Reader.Turning.{ended_same}

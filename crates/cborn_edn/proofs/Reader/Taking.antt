@@ -1,5 +1,6 @@
 -- Frequent tokens, taken without the lexer: the reader goes on as the machine of tokens does.
-use Rattle.cborn_edn.proofs.Common.{sized_end, ◌≡◌, refl, sym, ap, ◌∙◌, subst, ℕ, zero, suc, ◌+◌, ◌^◌, ◌<◌, ◌≤◌, List, [], ◌∷◌, length, Bool, true, false, Some, arith, ◌⊎◌, inl, inr, lt-ltb, AreBytes, IsUtf8, TokensBetween, class_of, Kind, Class, Number, Text, Mark, Absent, Profile, Token, is_small, reach, Span, Item, Pieces, piece, string, StringsBefore, IsTokenAt, IsTextAt, NoPieceAt, Here, Writer, IsModest, AreModest, Holds, Reads, MayEnd, Taken, has_chunks, IsReadTo, Reached, if◌then◌else◌, text as piece_text, Stack, Home, as_item, as_chunk, State, wants, has, builds, wants_number, step_by, open_levels, comma_at, comma_in, forbids, few, between_modest, utf8_bytes}
+use Rattle.std.specs.Prelude.{◌≡◌, ◌+◌, ◌^◌, ◌<◌, ◌≤◌, ◌∷◌, ◌⊎◌, if◌then◌else◌}
+use Rattle.cborn_edn.proofs.Common.{has_number, sized_end, opening, after_opening, phase_of, refl, sym, ap, ◌∙◌, subst, ℕ, zero, suc, List, [], length, Bool, true, false, Some, arith, inl, inr, lt-ltb, AreBytes, IsUtf8, TokensBetween, class_of, Kind, Class, Number, Text, Mark, Absent, Profile, Token, is_small, reach, Span, Item, Pieces, piece, string, StringsBefore, IsTokenAt, IsTextAt, NoPieceAt, Here, Writer, IsModest, AreModest, Holds, Reads, MayEnd, Taken, has_chunks, IsReadTo, Reached, text as piece_text, Stack, Home, as_item, as_chunk, State, wants, has, builds, wants_number, step_by, open_levels, comma_at, comma_in, forbids, few, between_modest, utf8_bytes}
 use Rattle.cborn_lex.proofs.WholeTexts.Progress.{inside}
 use Rattle.cborn_lex.specs.declared.classes.Kind.TheVariants as kinds
 use Rattle.cborn_edn.specs.declared.states.Phase.TheVariants as phases
@@ -7,7 +8,7 @@ use Rattle.cborn_edn.proofs.Reader.Counts.{shown_few, brackets_levels}
 use Rattle.cborn_edn.proofs.Reader.Going.{goes_on, skips, free_none, tight_free}
 use Rattle.cborn_edn.proofs.Reader.Settling.{settled}
 use Rattle.cborn_edn.proofs.Reader.Stepping.{read_at}
-use Rattle.cborn_edn.proofs.Reader.Turning.{is_has, is_wants, is_builds, is_wants_number, HasNumber, is_has_number, item_home, chunk_home}
+use Rattle.cborn_edn.proofs.Reader.Turning.{is_has, is_wants, is_builds, is_wants_number, is_has_number, item_home, chunk_home}
 
 -- a token between two offsets of a text
 abbrev token_at : ℕ → ℕ → Class → Token
@@ -33,6 +34,23 @@ sized_kind false = (kinds.ArrayClose, refl)
 pub sized_low : (m : Bool) (l limit : ℕ) → reach l (sized_end m) ≤ limit
 sized_low true l limit = omega arith
 sized_low false l limit = omega arith
+
+-- a bracket that opens
+pub opened_by : (m : Bool) (st : Stack) (a : Span) (k : Mark) → step_by (wants st) (opening m k) a ≡ Some (wants (after_opening m st a k))
+opened_by true st a k = refl
+opened_by false st a k = refl
+
+pub opened_free : (m : Bool) (st : Stack) (k : Mark) → comma_in st (opening m k) ≡ 0
+opened_free true st k = refl
+opened_free false st k = refl
+
+pub opened_low : (m : Bool) (k : Mark) (l limit : ℕ) → l < limit → reach l (opening m k) ≤ limit
+opened_low true k l limit h = omega (arith, h)
+opened_low false k l limit h = omega (arith, h)
+
+pub opened_wants : (m : Bool) (st : Stack) (a : Span) (k : Mark) → phase_of (wants (after_opening m st a k)) ≡ phases.Wants
+opened_wants true st a k = refl
+opened_wants false st a k = refl
 
 -- LAW: a token isn't empty
 pub beyond : (p : Profile) (text : List ℕ) (at stop : ℕ) (c : Class) → IsTokenAt p text at stop c → at < stop
@@ -60,7 +78,7 @@ module _ {h : Holds} {p : Profile} {limit : ℕ} {text : List ℕ} {here : Here}
   pub shown_as : (s : State) → s ≡ r.state → Reads h here w w.pieces.items s
   shown_as s e = subst (λ (v : State). Reads h here w w.pieces.items v) (sym e) r.shows
 
-  wanted : (here.phase ≡ phases.Wants) ⊎ (here.phase ≡ phases.WantsMore) → (st : Stack) × (wants st ≡ r.state)
+  pub wanted : (here.phase ≡ phases.Wants) ⊎ (here.phase ≡ phases.WantsMore) → (st : Stack) × (wants st ≡ r.state)
   wanted (inl q) = is_wants r.state (inl (sym r.shows.shows.phase ∙ q))
   wanted (inr q) = is_wants r.state (inr (sym r.shows.shows.phase ∙ q))
 
@@ -78,34 +96,20 @@ module _ {h : Holds} {p : Profile} {limit : ℕ} {text : List ℕ} {here : Here}
   modest_found same c stop found = modest_at p text here.at stop c (utf8_bytes text r.utf8) (token_found same c stop found)
 
   -- pieces of a string
-  pub record Pieced : Type 0 where
-    pub st : Stack
-    pub ps : Pieces
-    pub is : builds (as_item st) ps ≡ r.state
-    pub shows : Reads h here w w.pieces.items (builds (as_item st) ps)
-
-  pub pieced : here.phase ≡ phases.Builds → has_chunks w.chunks ≡ false → Pieced
+  pub pieced : here.phase ≡ phases.Builds → has_chunks w.chunks ≡ false → (st : Stack) × (ps : Pieces) × (builds (as_item st) ps ≡ r.state) × Reads h here w w.pieces.items (builds (as_item st) ps)
   pieced q none =
       let b = is_builds r.state (sym r.shows.shows.phase ∙ q) in
       let k = item_home b.0 (ap has_chunks (sym (shown_as (builds b.0 b.1) b.2).shows.chunks) ∙ none) in
       let is = ap (λ (x : Home). builds x b.1) k.1 ∙ b.2 in
-      record { st = k.0; ps = b.1; is = is; shows = shown_as (builds (as_item k.0) b.1) is }
+      (k.0, b.1, is, shown_as (builds (as_item k.0) b.1) is)
 
   -- pieces of a chunk
-  pub record Chunked : Type 0 where
-    pub st : Stack
-    pub at : Span
-    pub b : StringsBefore
-    pub ps : Pieces
-    pub is : builds (as_chunk st at b) ps ≡ r.state
-    pub shows : Reads h here w w.pieces.items (builds (as_chunk st at b) ps)
-
-  pub chunked : here.phase ≡ phases.Builds → has_chunks w.chunks ≡ true → Chunked
+  pub chunked : here.phase ≡ phases.Builds → has_chunks w.chunks ≡ true → (st : Stack) × (at : Span) × (b : StringsBefore) × (ps : Pieces) × (builds (as_chunk st at b) ps ≡ r.state) × Reads h here w w.pieces.items (builds (as_chunk st at b) ps)
   chunked q some =
       let b = is_builds r.state (sym r.shows.shows.phase ∙ q) in
       let k = chunk_home b.0 (ap has_chunks (sym (shown_as (builds b.0 b.1) b.2).shows.chunks) ∙ some) in
-      let is = ap (λ (x : Home). builds x b.1) k.is ∙ b.2 in
-      record { st = k.st; at = k.at; b = k.b; ps = b.1; is = is; shows = shown_as (builds (as_chunk k.st k.at k.b) b.1) is }
+      let is = ap (λ (x : Home). builds x b.1) k.3 ∙ b.2 in
+      (k.0, k.1, k.2, b.1, is, shown_as (builds (as_chunk k.0 k.1 k.2) b.1) is)
 
   module _ {k : Holds} {x : List ℕ} (same : x ≡ text) (c : Class) (stop : ℕ) (found : (q : Profile) → IsTokenAt q x here.at stop c) (next : Here) (left : Writer) where
     -- LAW: on with a token
@@ -181,16 +185,16 @@ module _ {h : Holds} {p : Profile} {limit : ℕ} {text : List ℕ} {here : Here}
       )
 
   -- LAW: the pieces are whole
-  pub whole : {k : Holds} (i : Pieced) → NoPieceAt text here.at → (next : Here) (left : Writer) → Reads k next left left.pieces.items (has i.st (string i.ps)) → IsReadTo k p limit text (record next { at = here.at }) left
-  whole i none next left e = record {
+  pub whole : {k : Holds} (st : Stack) (ps : Pieces) → builds (as_item st) ps ≡ r.state → NoPieceAt text here.at → (next : Here) (left : Writer) → Reads k next left left.pieces.items (has st (string ps)) → IsReadTo k p limit text (record next { at = here.at }) left
+  whole st ps is none next left e = record {
     utf8 = r.utf8;
     small = r.small;
     inside = r.inside;
-    state = has i.st (string i.ps);
-    reached = settled p limit text here.at i.st i.ps none (subst (λ (v : State). Reached p limit text here.at v) (sym i.is) r.reached);
-    shows = read_at next left left.pieces.items (has i.st (string i.ps)) here.at e;
+    state = has st (string ps);
+    reached = settled p limit text here.at st ps none (subst (λ (v : State). Reached p limit text here.at v) (sym is) r.reached);
+    shows = read_at next left left.pieces.items (has st (string ps)) here.at e;
   }
 
   -- the number of a simple value
-  pub simple_number : here.phase ≡ phases.HasNumber → HasNumber r.state
+  pub simple_number : here.phase ≡ phases.HasNumber → (st : Stack) × (at : Span) × (b : Span) × (n : Bool) × (v : ℕ) × (m : Mark) × (has_number st at b n v m ≡ r.state)
   simple_number q = is_has_number r.state (sym r.shows.shows.phase ∙ q)

@@ -1,5 +1,6 @@
 -- What one token does, by its kind.
-use Rattle.cborn_edn.proofs.Common.{◌≡◌, refl, sym, ap, ◌∙◌, subst, ℕ, ◌<◌, ◌≤◌, List, [], ◌∷◌, ◌++◌, length, Bool, true, false, Option, Some, None, append-nil, arith, ◌⊎◌, inl, inr, length-append, Kind, Mark, Class, class_of, content_of, Comma, Colon, top, no_part, OfBytes, OfText, IsWritten, Speller, Span, Item, Pieces, StringsBefore, string, simple, row, no_item, after_row, Content, loose, tight, pairs, after_pairs, at_home, Here, Writer, Phase, wanting, phase_of, bytes_around_home, bytes_before, stack_in, Shows, content_state, Holds, states_around, states_around_nest, states_around_home, Handed, AllHanded, IsSpelled, Reads, Ready, Turned, Taken, Takes, Turns, EndsPieces, has_chunks, is_piece, takes_no_piece, Stack, in_row, in_key, in_value, at_top, in_embed, Home, as_item, as_chunk, State, wants, has, builds, wants_chunk, wants_number, has_number, step_by}
+use Rattle.std.specs.Prelude.{◌≡◌, ◌<◌, ◌≤◌, ◌∷◌, ◌++◌, ◌⊎◌}
+use Rattle.cborn_edn.proofs.Common.{refl, sym, ap, ◌∙◌, subst, ℕ, List, [], length, Bool, true, false, Option, Some, None, append-nil, arith, inl, inr, length-append, Kind, Mark, Class, class_of, content_of, Comma, Colon, top, no_part, OfBytes, OfText, IsWritten, Speller, Span, Item, Pieces, StringsBefore, string, simple, row, no_item, after_row, Content, loose, tight, pairs, after_pairs, at_home, Here, Writer, Phase, wanting, phase_of, bytes_around_home, bytes_before, stack_in, Shows, content_state, Holds, states_around, states_around_nest, states_around_home, Handed, AllHanded, IsSpelled, Reads, Ready, Turned, Taken, Takes, Turns, EndsPieces, has_chunks, is_piece, takes_no_piece, Stack, in_row, in_key, in_value, at_top, in_embed, Home, as_item, as_chunk, State, wants, has, builds, wants_chunk, wants_number, has_number, step_by}
 use Rattle.cborn_lex.specs.declared.classes.Kind.TheVariants as kinds
 use Rattle.cborn_lex.specs.declared.classes.Class.TheVariants as classes
 use Rattle.cborn_edn.specs.declared.states.Phase.TheVariants as phases
@@ -129,17 +130,8 @@ is_wants_number (wants_number st p) e = (st, p, refl)
 is_wants_number (wants st) e = not_wanted st phases.WantsNumber e (omega arith)
 is_wants_number _ e = apart _ _ e (λ f. omega arith)
 
-pub record HasNumber (s : State) : Type 0 where
-  pub st : Stack
-  pub at : Span
-  pub b : Span
-  pub n : Bool
-  pub v : ℕ
-  pub m : Mark
-  pub is : has_number st at b n v m ≡ s
-
-pub is_has_number : (s : State) → phase_of s ≡ phases.HasNumber → HasNumber s
-is_has_number (has_number st p b n v m) e = record { st = st; at = p; b = b; n = n; v = v; m = m; is = refl }
+pub is_has_number : (s : State) → phase_of s ≡ phases.HasNumber → (st : Stack) × (at : Span) × (b : Span) × (n : Bool) × (v : ℕ) × (m : Mark) × (has_number st at b n v m ≡ s)
+is_has_number (has_number st p b n v m) e = (st, p, b, n, v, m, refl)
 is_has_number (wants st) e = not_wanted st phases.HasNumber e (omega arith)
 is_has_number _ e = apart _ _ e (λ f. omega arith)
 
@@ -148,14 +140,8 @@ pub item_home : (h : Home) → has_chunks (chunks_of h) ≡ false → (st : Stac
 item_home (as_item st) e = (st, refl)
 item_home (as_chunk st s b) e = absurd (let bad : true ≡ false = e in cc)
 
-pub record InChunk (h : Home) : Type 0 where
-  pub st : Stack
-  pub at : Span
-  pub b : StringsBefore
-  pub is : as_chunk st at b ≡ h
-
-pub chunk_home : (h : Home) → has_chunks (chunks_of h) ≡ true → InChunk h
-chunk_home (as_chunk st s b) e = record { st = st; at = s; b = b; is = refl }
+pub chunk_home : (h : Home) → has_chunks (chunks_of h) ≡ true → (st : Stack) × (at : Span) × (b : StringsBefore) × (as_chunk st at b ≡ h)
+chunk_home (as_chunk st s b) e = (st, s, b, refl)
 chunk_home (as_item st) e = absurd (let bad : false ≡ true = e in cc)
 
 pub not_text : {A : Type 0} → OfBytes ≡ OfText → A
@@ -193,29 +179,24 @@ pub bare_taken : {h : Holds} (k : Holds) (kind : Kind) (number place : ℕ) (her
 bare_taken {h = h} k kind number place here next writer left ok t s none e f = subst (λ (u : State). Takes h k kind number place here writer next left ok u) e (λ base c a p r. f c r.stands.content a p r.stands.class (shown_kind kind number here writer t base c none r))
 
 -- a state in which a string begins or goes on
-pub record Adds (s : State) : Type 0 where
-  pub home : Home
-  pub before : Option Pieces
-  pub is : at_home home before ≡ s
-
-adds : (s : State) → takes_no_piece (phase_of s) ≡ false → Adds s
-adds (wants st) e = record { home = as_item st; before = None; is = refl }
-adds (wants_chunk st s b) e = record { home = as_chunk st s b; before = None; is = refl }
-adds (builds (as_item st) ps) e = record { home = as_item st; before = Some ps; is = refl }
-adds (builds (as_chunk st s b) ps) e = record { home = as_chunk st s b; before = Some ps; is = refl }
+adds : (s : State) → takes_no_piece (phase_of s) ≡ false → (home : Home) × (before : Option Pieces) × (at_home home before ≡ s)
+adds (wants st) e = (as_item st, None, refl)
+adds (wants_chunk st s b) e = (as_chunk st s b, None, refl)
+adds (builds (as_item st) ps) e = (as_item st, Some ps, refl)
+adds (builds (as_chunk st s b) ps) e = (as_chunk st s b, Some ps, refl)
 adds _ e = absurd (let bad : true ≡ false = e in cc)
 
 pub adding : {h : Holds} (kind : Kind) (number place : ℕ) (here next : Here) (writer left : Writer) (s : State) → takes_no_piece here.phase ≡ false → ((home : Home) (o : Option Pieces) → Takes h h kind number place here writer next left true (at_home home o)) → Takes h h kind number place here writer next left true s
 adding {h = h} kind number place here next writer left s none f base c a p r =
     let d = adds s (ap takes_no_piece (sym r.shows.shows.phase) ∙ none) in
-    subst (λ (u : State). Takes h h kind number place here writer next left true u) d.is (f d.home d.before) base c a p r
+    subst (λ (u : State). Takes h h kind number place here writer next left true u) d.2 (f d.0 d.1) base c a p r
 
 -- the bytes of the innermost string begin in what was read
 pub start_inside : {h : Holds} (kind : Kind) (number : ℕ) (here : Here) (writer : Writer) (s : State) (base : List ℕ) (c : Class) → takes_no_piece here.phase ≡ false → Ready h kind number here writer s base c → writer.start ≤ length writer.pieces.items
 start_inside kind number here writer s base c none r =
     let d = adds s (ap takes_no_piece (sym r.shows.shows.phase) ∙ none) in
-    let q = standing here writer d.home d.before base (subst (λ (u : State). Shows here writer base u) (sym d.is) r.shows.shows) in
-    omega (arith, q.home.start, ap length q.pieces, length-append (bytes_around_home d.home) (bytes_before d.before), ap length r.stands.written, length-append base (content_of c))
+    let q = standing here writer d.0 d.1 base (subst (λ (u : State). Shows here writer base u) (sym d.2) r.shows.shows) in
+    omega (arith, q.home.start, ap length q.pieces, length-append (bytes_around_home d.0) (bytes_before d.1), ap length r.stands.written, length-append base (content_of c))
 
 -- where a chunk is wanted, no other token is taken
 pub no_chunk : (s : State) (c : Class) (a : Span) → phase_of s ≡ phases.WantsChunk → EndsPieces c → step_by s c a ≡ None

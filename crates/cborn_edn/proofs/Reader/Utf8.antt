@@ -1,5 +1,6 @@
 -- What the content of a string stands for is UTF-8 if the text is.
-use Rattle.cborn_edn.proofs.Common.{◌≡◌, refl, sym, ap, ◌∙◌, subst, ℕ, zero, suc, ◌+◌, ◌<◌, ◌≤◌, ◌^◌, List, [], ◌∷◌, ◌++◌, length, take, drop, get_or, Bool, true, false, ◌&&◌, ◌||◌, cond, ltb, leb, eqb, inl, inr, arith, and_parts, and_from, or_parts, or_from, cases_lt, cond_both, cond-true, cond-false, ltb-true, lt-ltb, le-ltb, le-leb, ne_eqb, false≢true, not-true, IsUtf8-nil, IsUtf8-append, IsUtf8-encode, IsUtf8-from_ascii, IsUtf8-take, IsUtf8-drop, IsCharBoundary-after_ascii, IsCharBoundary-before_ascii, encode_utf8_all, codes, list_all, list_any, flat_map, is_digit, digit_value, IsUtf8, is_escape, escape_code, are_hex, is_high, is_low, Letter, raw, unit, written, meant, is_letter, length-append, after_slash as escaped, pair}
+use Rattle.std.specs.Prelude.{◌≡◌, ◌+◌, ◌<◌, ◌≤◌, ◌^◌, ◌∷◌, ◌++◌, ◌&&◌, ◌||◌}
+use Rattle.cborn_edn.proofs.Common.{refl, sym, ap, ◌∙◌, subst, ℕ, zero, suc, List, [], length, take, drop, get_or, Bool, true, false, cond, ltb, leb, eqb, inl, inr, arith, and_parts, and_from, or_parts, or_from, cases_lt, cond_both, cond-true, cond-false, ltb-true, lt-ltb, le-ltb, le-leb, ne_eqb, false≢true, not-true, IsUtf8-nil, IsUtf8-append, IsUtf8-encode, IsUtf8-from_ascii, IsUtf8-take, IsUtf8-drop, IsCharBoundary-after_ascii, IsCharBoundary-before_ascii, encode_utf8_all, codes, list_all, list_any, flat_map, is_digit, digit_value, IsUtf8, is_escape, escape_code, are_hex, is_high, is_low, Letter, raw, unit, written, meant, is_letter, length-append, after_slash as escaped, pair}
 use Rattle.cborn_lex.specs.Strings.{IsText, code, paired}
 use Rattle.cborn_lex.proofs.Contents.Lettered.{has_letters}
 use lib.Utf8.{encode, scalar, scalars}
@@ -55,20 +56,13 @@ unfolding encode
 low c h = cond-true (ltb c 128) _ _ (lt-ltb c 128 h)
 
 -- the letters that such bytes are
-record Peeled (q : ℕ) (t z : List ℕ) (ls : List Letter) : Type 0 where
-  rest : List Letter
-  whole : flat_map written rest ≡ z
-  value : flat_map meant ls ≡ t ++ flat_map meant rest
-  allowed : list_all (is_letter q) rest ≡ true
-  fewer : length rest + length t ≡ length ls
-
-peel : (q : ℕ) (t z : List ℕ) (ls : List Letter) → High t → list_all (is_letter q) ls ≡ true → flat_map written ls ≡ t ++ z → Peeled q t z ls
-peel q [] z ls h a e = record { rest = ls; whole = e; value = refl; allowed = a; fewer = omega arith }
+peel : (q : ℕ) (t z : List ℕ) (ls : List Letter) → High t → list_all (is_letter q) ls ≡ true → flat_map written ls ≡ t ++ z → (rest : List Letter) × (flat_map written rest ≡ z) × (flat_map meant ls ≡ t ++ flat_map meant rest) × (list_all (is_letter q) rest ≡ true) × (length rest + length t ≡ length ls)
+peel q [] z ls h a e = (ls, e, refl, a, omega arith)
 peel q (c ∷ t) z [] h a e = absurd (omega (arith, ap length e, length-append (c ∷ t) z))
 peel q (c ∷ t) z (raw d ∷ ls) h a e =
     let r = peel q t z ls h.1 (and_parts (is_letter q (raw d)) (list_all (is_letter q) ls) a).1 (ap (drop 1) e) in
     let same : d ≡ c = ap (λ x. get_or x 0 0) e in
-    record { rest = r.rest; whole = r.whole; value = (λ i. same i ∷ r.value i); allowed = r.allowed; fewer = omega (arith, r.fewer) }
+    (r.0, r.1, λ i. same i ∷ r.2 i, r.3, omega (arith, r.4))
 peel q (c ∷ t) z (escaped d ∷ ls) h a e = let same : 92 ≡ c = ap (λ x. get_or x 0 0) e in absurd (omega (arith, same, h.0))
 peel q (c ∷ t) z (unit i j k l ∷ ls) h a e = let same : 92 ≡ c = ap (λ x. get_or x 0 0) e in absurd (omega (arith, same, h.0))
 peel q (c ∷ t) z (pair i j k l m n o p ∷ ls) h a e = let same : 92 ≡ c = ap (λ x. get_or x 0 0) e in absurd (omega (arith, same, h.0))
@@ -100,29 +94,16 @@ below b x y h k = cond_both b x y (λ n. n < 128) (λ e. h) (λ e. k)
 escape_below : (e : ℕ) → e < 128 → escape_code e < 128
 escape_below e h = below (eqb e 98) 8 _ (omega arith) (below (eqb e 102) 12 _ (omega arith) (below (eqb e 110) 10 _ (omega arith) (below (eqb e 114) 13 _ (omega arith) (below (eqb e 116) 9 e (omega arith) h))))
 
-record Hexes (a b c d : ℕ) : Type 0 where
-  one : a < 128
-  two : b < 128
-  three : c < 128
-  four : d < 128
-  small : code a b c d < 2 ^ 16
-
-hexes : (a b c d : ℕ) → are_hex a b c d ≡ true → Hexes a b c d
+hexes : (a b c d : ℕ) → are_hex a b c d ≡ true → (a < 128) × (b < 128) × (c < 128) × (d < 128) × (code a b c d < 2 ^ 16)
 hexes a b c d h =
     let hs = and_parts (is_digit a 16 && is_digit b 16) (is_digit c 16 && is_digit d 16) h in
     let ls = and_parts (is_digit a 16) (is_digit b 16) hs.0 in
     let rs = and_parts (is_digit c 16) (is_digit d 16) hs.1 in
-    record {
-      one = digit_ascii a ls.0;
-      two = digit_ascii b ls.1;
-      three = digit_ascii c rs.0;
-      four = digit_ascii d rs.1;
-      small = omega (arith, ltb-true (digit_value a) 16 ls.0, ltb-true (digit_value b) 16 ls.1, ltb-true (digit_value c) 16 rs.0, ltb-true (digit_value d) 16 rs.1);
-    }
+    (digit_ascii a ls.0, digit_ascii b ls.1, digit_ascii c rs.0, digit_ascii d rs.1, omega (arith, ltb-true (digit_value a) 16 ls.0, ltb-true (digit_value b) 16 ls.1, ltb-true (digit_value c) 16 rs.0, ltb-true (digit_value d) 16 rs.1))
 
-after_four : (a b c d : ℕ) (x : List ℕ) → Hexes a b c d → IsUtf8 (92 ∷ 117 ∷ a ∷ b ∷ c ∷ d ∷ x) → IsUtf8 x
+after_four : (a b c d : ℕ) (x : List ℕ) → (a < 128) × (b < 128) × (c < 128) × (d < 128) × (code a b c d < 2 ^ 16) → IsUtf8 (92 ∷ 117 ∷ a ∷ b ∷ c ∷ d ∷ x) → IsUtf8 x
 after_four a b c d x h u =
-    after d x h.four (after c (d ∷ x) h.three (after b (c ∷ d ∷ x) h.two (after a (b ∷ c ∷ d ∷ x) h.one (after 117 (a ∷ b ∷ c ∷ d ∷ x) (omega arith) (after 92 (117 ∷ a ∷ b ∷ c ∷ d ∷ x) (omega arith) u)))))
+    after d x h.3 (after c (d ∷ x) h.2 (after b (c ∷ d ∷ x) h.1 (after a (b ∷ c ∷ d ∷ x) h.0 (after 117 (a ∷ b ∷ c ∷ d ∷ x) (omega arith) (after 92 (117 ∷ a ∷ b ∷ c ∷ d ∷ x) (omega arith) u)))))
 
 no_surrogate : (n : ℕ) → n < 2 ^ 16 → (is_high n || is_low n) ≡ false → scalar n ≡ true
 no_surrogate n h k = elim (cases_lt n 0xD800) [
@@ -161,8 +142,8 @@ wide n q c ls (k ∷ ks) l a f s e h = elim (cases_lt k 128) [
   | inr m ↦
       let ss = and_parts (scalar k) (scalars ks) s in
       let p = peel q (encode k) (encode_utf8_all ks) (raw c ∷ ls) (high k m) a (sym e) in
-      let shorter : length p.rest < n = omega (arith, l, p.fewer, long (encode k) (some_bytes k)) in
-      subst IsUtf8 (sym p.value) (IsUtf8-append (encode k) (flat_map meant p.rest) (IsUtf8-encode k ss.0) (f p.rest shorter p.allowed (ks, (ss.1, sym p.whole))))
+      let shorter : length p.0 < n = omega (arith, l, p.4, long (encode k) (some_bytes k)) in
+      subst IsUtf8 (sym p.2) (IsUtf8-append (encode k) (flat_map meant p.0) (IsUtf8-encode k ss.0) (f p.0 shorter p.3 (ks, (ss.1, sym p.1))))
 ]
 
 letters_utf8 : (n q : ℕ) (ls : List Letter) → length ls < n → list_all (is_letter q) ls ≡ true → IsUtf8 (flat_map written ls) → IsUtf8 (flat_map meant ls)
@@ -180,7 +161,7 @@ letters_utf8 (suc n) q (unit a b c d ∷ ls) l al u =
     let hs = and_parts (is_letter q (unit a b c d)) (list_all (is_letter q) ls) al in
     let ts = and_parts (are_hex a b c d) _ hs.0 in
     let h = hexes a b c d ts.0 in
-    IsUtf8-append (encode (code a b c d)) (flat_map meant ls) (IsUtf8-encode (code a b c d) (no_surrogate (code a b c d) h.small (not-true _ ts.1))) (letters_utf8 n q ls (omega (arith, l)) hs.1 (after_four a b c d (flat_map written ls) h u))
+    IsUtf8-append (encode (code a b c d)) (flat_map meant ls) (IsUtf8-encode (code a b c d) (no_surrogate (code a b c d) h.4 (not-true _ ts.1))) (letters_utf8 n q ls (omega (arith, l)) hs.1 (after_four a b c d (flat_map written ls) h u))
 letters_utf8 (suc n) q (pair a b c d e f g i ∷ ls) l al u =
     let hs = and_parts (is_letter q (pair a b c d e f g i)) (list_all (is_letter q) ls) al in
     let ts = and_parts (are_hex a b c d && is_high (code a b c d)) (are_hex e f g i && is_low (code e f g i)) hs.0 in

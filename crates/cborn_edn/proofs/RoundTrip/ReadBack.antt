@@ -1,5 +1,6 @@
 -- What was shown has the tokens of the fixed notation.
-use Rattle.cborn_edn.proofs.Common.{◌≡◌, sym, subst, ℕ, List, [], Trees, FitsAll, Profile, Token, HasTokens, tokens_of_input, unplaced_token, notated_input, Shown, shown_lines, map as list_map}
+use Rattle.std.specs.Prelude.{◌≡◌}
+use Rattle.cborn_edn.proofs.Common.{sym, subst, ℕ, List, [], Trees, FitsAll, Profile, Token, HasTokens, tokens_of_input, unplaced_token, notated_input, Shown, shown_lines, map as list_map}
 use Rattle.cborn_edn.proofs.Lexed.Chained.{HasBare, whole_text}
 use Rattle.cborn_edn.proofs.Lexed.NodeTexts.{lines_text}
 

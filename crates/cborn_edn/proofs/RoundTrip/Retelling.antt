@@ -1,5 +1,6 @@
 -- Tokens of the fixed notation of nodes, wherever they stand, say these nodes, places aside.
-use Rattle.cborn_edn.proofs.Common.{◌≡◌, refl, sym, ap, ap₂, ◌∙◌, subst, ℕ, zero, suc, ◌^◌, ◌≤◌, List, [], ◌∷◌, ◌++◌, length, Bool, true, false, ◌&&◌, ltb, ◌==◌, cond, append_assoc, append-nil, arith, IsTrue, is_utf8-from_IsUtf8, lt-ltb, Width, Direct, One, Two, Four, Eight, Size, Fixed, Chunk, Tree, Uint, Nint, ByteChunks, TextChunks, Items, Tagged, Simple, Trees, more, Entries, no_entry, entry, count, count_entries, depth_all, depth_entries, holds, following, least, is_simple_value, WidthFits, SizeFits, ChunksFit, Fits, FitsAll, FitsEntries, Mark, Absent, Endless, Wide, Class, ArrayOpen, ArrayClose, MapOpen, MapClose, ParenClose, Comma, Colon, ChunkOpen, Number, TagOpen, Word, SimpleOpen, Text, Bytes, Token, Profile, IndicatorTooNarrow, IndicatorNotAllowed, MixedChunks, BadSimple, TagTooLarge, TextNotUtf8, MeaningError, StringKind, OfBytes, OfText, span, tokens_of, tokens_of_pieces, tokens_of_strings, tokens_of_content, tokens_of_fields, tokens_of_input, is_endless, width, size, unless, width_errors, size_errors, argument_of, is_small, integer, bignum, is_good, is_absent, string_node, chunked_node, Str, is_nil, quoted, said_string, chunk, string_errors, IsItem, IsPiece, text_piece, byte_piece, AreChunks, first, next, AreItems, last, before, IsContent, empty, ArePairs, last_pair, pair_before, IsFields, no_fields, IsText, nothing, unplaced_token, nowhere, one_piece, chunk_pieces, chunk_row, chunk_item, simple_item, notated, notated_content, notated_fields, notated_input, unplaced_chunks, unplaced, unplaced_all, unplaced_entries, mark_for, mark_for_size, AreTexts, IsShowable, EachShowable, ArePairsShowable, ByteNode, TextNode, Pairs as PairNode, no_node, Span, token, map as list_map, EndlessMark, simple_below, and_false}
+use Rattle.std.specs.Prelude.{◌≡◌, ◌^◌, ◌≤◌, ◌∷◌, ◌++◌, ◌&&◌, ◌==◌}
+use Rattle.cborn_edn.proofs.Common.{refl, sym, ap, ap₂, ◌∙◌, subst, ℕ, zero, suc, List, [], length, Bool, true, false, ltb, cond, append_assoc, append-nil, arith, IsTrue, is_utf8-from_IsUtf8, lt-ltb, Width, Direct, One, Two, Four, Eight, Size, Fixed, Chunk, Tree, Uint, Nint, ByteChunks, TextChunks, Items, Tagged, Simple, Trees, more, Entries, no_entry, entry, count, count_entries, depth_all, depth_entries, holds, following, least, is_simple_value, WidthFits, SizeFits, ChunksFit, Fits, FitsAll, FitsEntries, Mark, Absent, Endless, Wide, Class, ArrayOpen, ArrayClose, MapOpen, MapClose, ParenClose, Comma, Colon, ChunkOpen, Number, TagOpen, Word, SimpleOpen, Text, Bytes, Token, Profile, IndicatorTooNarrow, IndicatorNotAllowed, MixedChunks, BadSimple, TagTooLarge, TextNotUtf8, MeaningError, StringKind, OfBytes, OfText, span, tokens_of, tokens_of_pieces, tokens_of_strings, tokens_of_content, tokens_of_fields, tokens_of_input, is_endless, width, size, unless, width_errors, size_errors, argument_of, is_small, integer, bignum, is_good, is_absent, string_node, chunked_node, Str, is_nil, quoted, said_string, chunk, string_errors, IsItem, IsPiece, text_piece, byte_piece, AreChunks, first, next, AreItems, last, before, IsContent, empty, ArePairs, last_pair, pair_before, IsFields, no_fields, IsText, nothing, unplaced_token, nowhere, one_piece, chunk_pieces, chunk_row, chunk_item, simple_item, notated, notated_content, notated_fields, notated_input, unplaced_chunks, unplaced, unplaced_all, unplaced_entries, mark_for, mark_for_size, AreTexts, IsShowable, EachShowable, ArePairsShowable, ByteNode, TextNode, Pairs as PairNode, no_node, Span, token, map as list_map, EndlessMark, simple_below, and_false}
 use Rattle.cborn_model.specs.Tree.{depth}
 use Rattle.cborn_edn.specs.devices.Syntax as tree
 use Rattle.cborn_edn.specs.Grammar.{number, word, simple, tag, array, map, string, chunked, piece, tight, tight_fields, items}
@@ -15,70 +16,40 @@ no_tokens [] e = refl
 no_tokens (t ∷ x) e = absurd (let bad : unplaced_token t ∷ list_map unplaced_token x ≡ [] = e in cc)
 
 -- in two parts
-record Parted (x y z : List Token) : Type 0 where
-  front : List Token
-  back : List Token
-  is : x ≡ front ++ back
-  left : list_map unplaced_token front ≡ y
-  right : list_map unplaced_token back ≡ z
-
-parted : (x y z : List Token) → list_map unplaced_token x ≡ y ++ z → Parted x y z
-parted x [] z e = record { front = []; back = x; is = refl; left = refl; right = e }
+parted : (x y z : List Token) → list_map unplaced_token x ≡ y ++ z → (front : List Token) × (back : List Token) × (x ≡ front ++ back) × (list_map unplaced_token front ≡ y) × (list_map unplaced_token back ≡ z)
+parted x [] z e = ([], x, refl, refl, e)
 parted [] (t ∷ y) z e = absurd (let bad : [] ≡ t ∷ (y ++ z) = e in cc)
 parted (s ∷ x) (t ∷ y) z e =
     let h : unplaced_token s ≡ t = cc in
     let r = parted x y z cc in
-    record { front = s ∷ r.front; back = r.back; is = ap (λ w. s ∷ w) r.is; left = ap₂ (λ (a : Token) (w : List Token). a ∷ w) h r.left; right = r.right }
+    (s ∷ r.0, r.1, ap (λ w. s ∷ w) r.2, ap₂ (λ (a : Token) (w : List Token). a ∷ w) h r.3, r.4)
 
 -- a token of this class, and others
-record FirstToken (x : List Token) (k : Class) (y : List Token) : Type 0 where
-  at : Span
-  rest : List Token
-  is : x ≡ token at k ∷ rest
-  same : list_map unplaced_token rest ≡ y
-
-first_token : (x : List Token) (k : Class) (y : List Token) → list_map unplaced_token x ≡ token nowhere k ∷ y → FirstToken x k y
+first_token : (x : List Token) (k : Class) (y : List Token) → list_map unplaced_token x ≡ token nowhere k ∷ y → (at : Span) × (rest : List Token) × (x ≡ token at k ∷ rest) × (list_map unplaced_token rest ≡ y)
 first_token [] k y e = absurd (let bad : [] ≡ token nowhere k ∷ y = e in cc)
 first_token (t ∷ x) k y e =
     let h : unplaced_token t ≡ token nowhere k = cc in
-    record { at = span t; rest = x; is = ap (λ (u : Token). token (span t) u.class ∷ x) h; same = cc }
+    (span t, x, ap (λ (u : Token). token (span t) u.class ∷ x) h, cc)
 
 -- a token of this class alone
 alone : (x : List Token) (k : Class) → list_map unplaced_token x ≡ token nowhere k ∷ [] → (a : Span) × (token a k ∷ [] ≡ x)
-alone x k e = let b = first_token x k [] e in (b.at, sym (b.is ∙ ap (λ w. token b.at k ∷ w) (no_tokens b.rest b.same)))
+alone x k e = let b = first_token x k [] e in (b.0, sym (b.2 ∙ ap (λ w. token b.0 k ∷ w) (no_tokens b.1 b.3)))
 
 -- tokens between two of these classes
-record Enclosed (x : List Token) (k end : Class) (y : List Token) : Type 0 where
-  at : Span
-  stop : Span
-  inner : List Token
-  is : token at k ∷ inner ++ token stop end ∷ [] ≡ x
-  same : list_map unplaced_token inner ≡ y
-
-enclosed : (x : List Token) (k end : Class) (y : List Token) → list_map unplaced_token x ≡ token nowhere k ∷ y ++ token nowhere end ∷ [] → Enclosed x k end y
+enclosed : (x : List Token) (k end : Class) (y : List Token) → list_map unplaced_token x ≡ token nowhere k ∷ y ++ token nowhere end ∷ [] → (at : Span) × (stop : Span) × (inner : List Token) × (token at k ∷ inner ++ token stop end ∷ [] ≡ x) × (list_map unplaced_token inner ≡ y)
 enclosed x k end y e =
     let b = first_token x k (y ++ token nowhere end ∷ []) e in
-    let q = parted b.rest y (token nowhere end ∷ []) b.same in
-    let c = alone q.back end q.right in
-    record { at = b.at; stop = c.0; inner = q.front; is = sym (b.is ∙ ap (λ w. token b.at k ∷ w) (q.is ∙ ap (λ w. q.front ++ w) (sym c.1))); same = q.left }
+    let q = parted b.1 y (token nowhere end ∷ []) b.3 in
+    let c = alone q.1 end q.4 in
+    (b.0, c.0, q.0, sym (b.2 ∙ ap (λ w. token b.0 k ∷ w) (q.2 ∙ ap (λ w. q.0 ++ w) (sym c.1))), q.3)
 
 -- a key, a value and what follows them
-record Paired (x y z w : List Token) : Type 0 where
-  key : List Token
-  colon : Span
-  value : List Token
-  rest : List Token
-  is : x ≡ key ++ token colon Colon ∷ (value ++ rest)
-  left : list_map unplaced_token key ≡ y
-  mid : list_map unplaced_token value ≡ z
-  right : list_map unplaced_token rest ≡ w
-
-paired : (x y z w : List Token) → list_map unplaced_token x ≡ y ++ token nowhere Colon ∷ (z ++ w) → Paired x y z w
+paired : (x y z w : List Token) → list_map unplaced_token x ≡ y ++ token nowhere Colon ∷ (z ++ w) → (key : List Token) × (colon : Span) × (value : List Token) × (rest : List Token) × (x ≡ key ++ token colon Colon ∷ (value ++ rest)) × (list_map unplaced_token key ≡ y) × (list_map unplaced_token value ≡ z) × (list_map unplaced_token rest ≡ w)
 paired x y z w e =
     let q = parted x y (token nowhere Colon ∷ (z ++ w)) e in
-    let c = first_token q.back Colon (z ++ w) q.right in
-    let r = parted c.rest z w c.same in
-    record { key = q.front; colon = c.at; value = r.front; rest = r.back; is = q.is ∙ ap (λ u. q.front ++ u) (c.is ∙ ap (λ u. token c.at Colon ∷ u) r.is); left = q.left; mid = r.left; right = r.right }
+    let c = first_token q.1 Colon (z ++ w) q.4 in
+    let r = parted c.1 z w c.3 in
+    (q.0, c.0, r.0, r.1, q.2 ∙ ap (λ u. q.0 ++ u) (c.2 ∙ ap (λ u. token c.0 Colon ∷ u) r.2), q.3, r.3, r.4)
 
 -- The indicator of a width.
 
@@ -101,12 +72,8 @@ as_long-same Eight Eight n e = refl
 as_long-same _ _ n e = absurd (let f : false ≡ true = e in cc)
 
 -- it asks for this width, and for no indefinite length
-record Marks (w : Width) (n : ℕ) (m : Mark) : Type 0 where
-  wide : width m n ≡ w
-  sized : size m n ≡ Fixed w
-  definite : is_endless m ≡ false
-  fits : (p : ℕ) → WidthFits w n → width_errors p m n ≡ []
-  size_fits : (p : ℕ) → WidthFits w n → size_errors p m n ≡ []
+abbrev Marks : Width → ℕ → Mark → Type 0
+Marks w n m = (width m n ≡ w) × (size m n ≡ Fixed w) × (is_endless m ≡ false) × ((p : ℕ) → WidthFits w n → width_errors p m n ≡ []) × ((p : ℕ) → WidthFits w n → size_errors p m n ≡ [])
 
 marks : (w : Width) (n : ℕ) → Marks w n (mark_for w n)
 marks w n = go (as_long w (least n) n) refl
@@ -115,16 +82,16 @@ marks w n = go (as_long w (least n) n) refl
     narrow p h = ap (λ b. unless b p IndicatorTooNarrow) (holds_true w n h)
 
     go : (b : Bool) → as_long w (least n) n ≡ b → Marks w n (cond b Absent (Wide w))
-    go true e = let same = as_long-same w (least n) n e in record { wide = same; sized = ap Fixed same; definite = refl; fits = λ p h. refl; size_fits = λ p h. refl }
-    go false e = record { wide = refl; sized = refl; definite = refl; fits = narrow; size_fits = narrow }
+    go true e = let same = as_long-same w (least n) n e in (same, ap Fixed same, refl, λ p h. refl, λ p h. refl)
+    go false e = (refl, refl, refl, narrow, narrow)
 
 size_back : (s : Size) (n : ℕ) → size (mark_for_size s n) n ≡ s
 size_back EndlessMark n = refl
-size_back (Fixed w) n = (marks w n).sized
+size_back (Fixed w) n = (marks w n).1
 
 no_size_errors : (p : ℕ) (s : Size) (n : ℕ) → SizeFits s n → size_errors p (mark_for_size s n) n ≡ []
 no_size_errors p EndlessMark n h = refl
-no_size_errors p (Fixed w) n h = (marks w n).size_fits p h
+no_size_errors p (Fixed w) n h = (marks w n).4 p h
 
 -- What tokens say, without a meaning error, is this but for places.
 record Said {S : Type 0} (Is : List Token → S → List MeaningError → Type 0) (aside : S → S) (x : List Token) (s : S) : Type 0 where
@@ -166,7 +133,7 @@ no_string_errors : (e : Bool) (k : StringKind) (a : Span) (w : Width) (b : List 
 no_string_errors e k a w b h good =
     let m = mark_for w (length b) in
     both_parts
-    (ap (λ c. cond c (unless e a.start IndicatorNotAllowed) (width_errors a.start m (length b))) (marks w (length b)).definite ∙ (marks w (length b)).fits a.start h)
+    (ap (λ c. cond c (unless e a.start IndicatorNotAllowed) (width_errors a.start m (length b))) (marks w (length b)).2 ∙ (marks w (length b)).3 a.start h)
     (ap (λ c. unless c a.start TextNotUtf8) good)
 
 unplaced_string : (k : StringKind) (p : ℕ) (w : Width) (b : List ℕ) → unplaced (string_node k p w b) ≡ string_node k 0 w b
@@ -180,8 +147,8 @@ unplaced_chunked OfText p cs = refl
 string_is : (k : StringKind) (a : Span) (w : Width) (b : List ℕ) → said_string (str_of k a b (mark_for w (length b))) ≡ string_node k a.start w b
 string_is k a w b =
     let m = mark_for w (length b) in
-    ap (λ c. cond c (chunked_node k a.start []) (string_node k a.start (width m (length b)) b)) (ap (λ c. (is_text k && is_nil b) && c) (marks w (length b)).definite ∙ and_false (is_text k && is_nil b))
-    ∙ ap (λ v. string_node k a.start v b) (marks w (length b)).wide
+    ap (λ c. cond c (chunked_node k a.start []) (string_node k a.start (width m (length b)) b)) (ap (λ c. (is_text k && is_nil b) && c) (marks w (length b)).2 ∙ and_false (is_text k && is_nil b))
+    ∙ ap (λ v. string_node k a.start v b) (marks w (length b)).0
 
 -- Chunks.
 
@@ -220,26 +187,26 @@ module _ {p : Profile} {d : ℕ} where
       said_at (sym (ap (λ w. x ++ w) (no_tokens y e) ∙ append-nil x)) (stated _ _ h.said h.none (h.same ∙ sym (append-nil ds)))
   more_chunks k (c ∷ cs) ds x y h e fits good =
       let b = first_token y Comma (tokens_of_pieces (chunk_pieces k c) ++ more_chunk_tokens k cs) e in
-      let q = parted b.rest (tokens_of_pieces (chunk_pieces k c)) (more_chunk_tokens k cs) b.same in
-      let a = one_chunk k c q.front q.left in
+      let q = parted b.1 (tokens_of_pieces (chunk_pieces k c)) (more_chunk_tokens k cs) b.3 in
+      let a = one_chunk k c q.0 q.3 in
       let m = mark_for c.width (length c.bytes) in
       let s = str_of k a.0 c.bytes m in
-      let one : SaidChunks p d k (x ++ token b.at Comma ∷ q.front) (ds ++ made_chunk c.width c.bytes ∷ []) = said_at (ap (λ w. x ++ token b.at Comma ∷ w) a.1)
-      (stated _ _ (next b.at h.said (piece (piece_at k a.0 c.bytes m)))
+      let one : SaidChunks p d k (x ++ token b.0 Comma ∷ q.0) (ds ++ made_chunk c.width c.bytes ∷ []) = said_at (ap (λ w. x ++ token b.0 Comma ∷ w) a.1)
+      (stated _ _ (next b.0 h.said (piece (piece_at k a.0 c.bytes m)))
       (both_parts h.none (both_parts (ap (λ t. unless t a.0.start MixedChunks) (same_same k)) (no_string_errors false k a.0 c.width c.bytes fits.0.0 good.0)))
-      (chunks-append h.says (chunk s ∷ []) ∙ ap₂ (λ (us : List Chunk) (w : Width). us ++ made_chunk w c.bytes ∷ []) h.same (marks c.width (length c.bytes)).wide)) in
-      let r = more_chunks k cs (ds ++ made_chunk c.width c.bytes ∷ []) (x ++ token b.at Comma ∷ q.front) q.back one q.right fits.1 good.1 in
-      said_at (append_assoc x (token b.at Comma ∷ q.front) q.back ∙ ap (λ w. x ++ w) (sym (b.is ∙ ap (λ w. token b.at Comma ∷ w) q.is))) (subst (λ us. SaidChunks p d k ((x ++ token b.at Comma ∷ q.front) ++ q.back) us) (append_assoc ds (made_chunk c.width c.bytes ∷ []) (unplaced_chunks cs)) r)
+      (chunks-append h.says (chunk s ∷ []) ∙ ap₂ (λ (us : List Chunk) (w : Width). us ++ made_chunk w c.bytes ∷ []) h.same (marks c.width (length c.bytes)).0)) in
+      let r = more_chunks k cs (ds ++ made_chunk c.width c.bytes ∷ []) (x ++ token b.0 Comma ∷ q.0) q.1 one q.4 fits.1 good.1 in
+      said_at (append_assoc x (token b.0 Comma ∷ q.0) q.1 ∙ ap (λ w. x ++ w) (sym (b.2 ∙ ap (λ w. token b.0 Comma ∷ w) q.2))) (subst (λ us. SaidChunks p d k ((x ++ token b.0 Comma ∷ q.0) ++ q.1) us) (append_assoc ds (made_chunk c.width c.bytes ∷ []) (unplaced_chunks cs)) r)
 
   chunks_said : (k : StringKind) (c : Chunk) (cs : List Chunk) (x : List Token) → list_map unplaced_token x ≡ tokens_of_pieces (chunk_pieces k c) ++ more_chunk_tokens k cs → ChunksFit (c ∷ cs) → AreGood k (c ∷ cs) → SaidChunks p d k x (unplaced_chunks (c ∷ cs))
   chunks_said k c cs x e fits good =
       let q = parted x (tokens_of_pieces (chunk_pieces k c)) (more_chunk_tokens k cs) e in
-      let a = one_chunk k c q.front q.left in
+      let a = one_chunk k c q.0 q.3 in
       let m = mark_for c.width (length c.bytes) in
       let s = str_of k a.0 c.bytes m in
-      let one : SaidChunks p d k q.front (made_chunk c.width c.bytes ∷ []) = said_at a.1
-      (stated _ _ (first (piece (piece_at k a.0 c.bytes m))) (no_string_errors false k a.0 c.width c.bytes fits.0.0 good.0) (ap (λ w. made_chunk w c.bytes ∷ []) (marks c.width (length c.bytes)).wide)) in
-      said_at (sym q.is) (more_chunks k cs (made_chunk c.width c.bytes ∷ []) q.front q.back one q.right fits.1 good.1)
+      let one : SaidChunks p d k q.0 (made_chunk c.width c.bytes ∷ []) = said_at a.1
+      (stated _ _ (first (piece (piece_at k a.0 c.bytes m))) (no_string_errors false k a.0 c.width c.bytes fits.0.0 good.0) (ap (λ w. made_chunk w c.bytes ∷ []) (marks c.width (length c.bytes)).0)) in
+      said_at (sym q.2) (more_chunks k cs (made_chunk c.width c.bytes ∷ []) q.0 q.1 one q.4 fits.1 good.1)
 
   empty_said : (k : StringKind) (x : List Token) → list_map unplaced_token x ≡ tokens_of (chunk_item k []) → SaidItem p d x (chunked_node k 0 [])
   empty_said OfBytes x e = let a = alone x (Bytes true [] Endless) e in said_at a.1 (stated _ _ (string (piece (byte_piece a.0))) refl refl)
@@ -251,8 +218,8 @@ module _ {p : Profile} {d : ℕ} where
   chunked_said k [] x e fits good = empty_said k x e
   chunked_said k (c ∷ cs) x e fits good =
       let o = enclosed x ChunkOpen ParenClose (tokens_of_strings (chunk_row k cs tree.no_string c)) e in
-      let r = chunks_said k c cs o.inner (o.same ∙ chunk_tokens k cs tree.no_string c) fits good in
-      said_at o.is (stated _ _ (chunked o.at o.stop r.said) r.none (unplaced_chunked k o.at.start r.says ∙ ap (chunked_node k 0) r.same))
+      let r = chunks_said k c cs o.2 (o.4 ∙ chunk_tokens k cs tree.no_string c) fits good in
+      said_at o.3 (stated _ _ (chunked o.0 o.1 r.said) r.none (unplaced_chunked k o.0.start r.says ∙ ap (chunked_node k 0) r.same))
 
   string_said : (k : StringKind) (w : Width) (b : List ℕ) (x : List Token) → list_map unplaced_token x ≡ token nowhere (class_of k b (mark_for w (length b))) ∷ [] → WidthFits w (length b) → is_good k b ≡ true → SaidItem p d x (string_node k 0 w b)
   string_said k w b x e h good =
@@ -269,8 +236,8 @@ module _ {p : Profile} {d : ℕ} where
       let q = a.0.start in
       let small : is_small n v ≡ true = lt-ltb (argument_of n v) (2 ^ 64) (below w (argument_of n v) h) in
       said_at a.1 (stated _ _ (number a.0 (subst (λ b. cond b 0 1 ≤ d) (sym small) (omega arith)))
-      (ap (λ b. cond b (width_errors q m (argument_of n v)) (unless (is_absent m) q IndicatorNotAllowed)) small ∙ (marks w (argument_of n v)).fits q h)
-      (ap (λ b. unplaced (cond b (integer q n v (width m (argument_of n v))) (bignum q n v))) small ∙ ap (λ u. unplaced (integer q n v u)) (marks w (argument_of n v)).wide ∙ f q))
+      (ap (λ b. cond b (width_errors q m (argument_of n v)) (unless (is_absent m) q IndicatorNotAllowed)) small ∙ (marks w (argument_of n v)).3 q h)
+      (ap (λ b. unplaced (cond b (integer q n v (width m (argument_of n v))) (bignum q n v))) small ∙ ap (λ u. unplaced (integer q n v u)) (marks w (argument_of n v)).0 ∙ f q))
 
   simple_said : (n : ℕ) (x : List Token) → IsTrue (is_simple_value n) → list_map unplaced_token x ≡ tokens_of (simple_item n) → SaidItem p d x (Simple 0 n)
   simple_said n x h e = go (ltb n 20) (ltb n 24) e
@@ -278,10 +245,10 @@ module _ {p : Profile} {d : ℕ} where
       bracketed : list_map unplaced_token x ≡ tokens_of (tree.simple nowhere nowhere false n Absent nowhere) → SaidItem p d x (Simple 0 n)
       bracketed e =
           let o = enclosed x SimpleOpen ParenClose (token nowhere (Number false n Absent) ∷ []) e in
-          let a = alone o.inner (Number false n Absent) o.same in
+          let a = alone o.2 (Number false n Absent) o.4 in
           let few = simple_below n h in
           let small : is_small false n ≡ true = lt-ltb n (2 ^ 64) (omega arith) in
-          said_at (ap (λ w. token o.at SimpleOpen ∷ w ++ token o.stop ParenClose ∷ []) a.1 ∙ o.is) (stated _ _ (simple o.at a.0 o.stop (subst (λ b. cond b 0 1 ≤ d) (sym small) (omega arith))) (ap (λ b. unless b o.at.start BadSimple ++ []) h) refl)
+          said_at (ap (λ w. token o.0 SimpleOpen ∷ w ++ token o.1 ParenClose ∷ []) a.1 ∙ o.3) (stated _ _ (simple o.0 a.0 o.1 (subst (λ b. cond b 0 1 ≤ d) (sym small) (omega arith))) (ap (λ b. unless b o.0.start BadSimple ++ []) h) refl)
 
       go : (b c : Bool) → list_map unplaced_token x ≡ tokens_of (cond b (tree.simple nowhere nowhere false n Absent nowhere) (cond c (tree.word nowhere n) (tree.simple nowhere nowhere false n Absent nowhere))) → SaidItem p d x (Simple 0 n)
       go true c e = bracketed e
@@ -301,30 +268,30 @@ module _ {p : Profile} where
     item_said (Items q s ts) (suc d) x h show low e =
         let m = mark_for_size s (count ts) in
         let o = enclosed x (ArrayOpen m) ArrayClose (tokens_of_content (notated_content ts)) e in
-        let r = content_said ts d o.inner h.1 show (omega (arith, low)) o.same in
+        let r = content_said ts d o.2 h.1 show (omega (arith, low)) o.4 in
         let n : count r.says ≡ count ts = sym (count-unplaced r.says) ∙ ap count r.same ∙ count-unplaced ts in
-        said_at o.is (stated _ _ (array o.at o.stop r.said) (both_parts r.none (ap (size_errors o.at.start m) n ∙ no_size_errors o.at.start s (count ts) h.0)) (ap₂ (Items 0) (ap (size m) n ∙ size_back s (count ts)) r.same))
+        said_at o.3 (stated _ _ (array o.0 o.1 r.said) (both_parts r.none (ap (size_errors o.0.start m) n ∙ no_size_errors o.0.start s (count ts) h.0)) (ap₂ (Items 0) (ap (size m) n ∙ size_back s (count ts)) r.same))
     item_said (PairNode q s es) zero x h show low e = absurd (omega (arith, low))
     item_said (PairNode q s es) (suc d) x h show low e =
         let m = mark_for_size s (count_entries es) in
         let o = enclosed x (MapOpen m) MapClose (tokens_of_fields (notated_fields es)) e in
-        let r = fields_said es d o.inner h.1 show (omega (arith, low)) o.same in
+        let r = fields_said es d o.2 h.1 show (omega (arith, low)) o.4 in
         let n : count_entries r.says ≡ count_entries es = sym (count-unplaced_entries r.says) ∙ ap count_entries r.same ∙ count-unplaced_entries es in
-        said_at o.is (stated _ _ (map o.at o.stop r.said) (both_parts r.none (ap (size_errors o.at.start m) n ∙ no_size_errors o.at.start s (count_entries es) h.0)) (ap₂ (PairNode 0) (ap (size m) n ∙ size_back s (count_entries es)) r.same))
+        said_at o.3 (stated _ _ (map o.0 o.1 r.said) (both_parts r.none (ap (size_errors o.0.start m) n ∙ no_size_errors o.0.start s (count_entries es) h.0)) (ap₂ (PairNode 0) (ap (size m) n ∙ size_back s (count_entries es)) r.same))
     item_said (Tagged q w n t) zero x h show low e = absurd (omega (arith, low))
     item_said (Tagged q w n t) (suc d) x h show low e =
         let m = mark_for w n in
         let o = enclosed x (TagOpen n m) ParenClose (tokens_of (notated t)) e in
-        let r = item_said t d o.inner h.1 show (omega (arith, low)) o.same in
-        said_at o.is (stated _ _ (tag o.at o.stop r.said) (both_parts (ap (λ b. cond b (width_errors o.at.start m n) (unless false o.at.start TagTooLarge)) (lt-ltb n (2 ^ 64) (below w n h.0)) ∙ (marks w n).fits o.at.start h.0) r.none) (ap₂ (λ (v : Width) (u : Tree). Tagged 0 v n u) (marks w n).wide r.same))
+        let r = item_said t d o.2 h.1 show (omega (arith, low)) o.4 in
+        said_at o.3 (stated _ _ (tag o.0 o.1 r.said) (both_parts (ap (λ b. cond b (width_errors o.0.start m n) (unless false o.0.start TagTooLarge)) (lt-ltb n (2 ^ 64) (below w n h.0)) ∙ (marks w n).3 o.0.start h.0) r.none) (ap₂ (λ (v : Width) (u : Tree). Tagged 0 v n u) (marks w n).0 r.same))
     item_said (Simple q n) d x h s low e = simple_said n x h e
 
     content_said : (ts : Trees) (d : ℕ) (x : List Token) → FitsAll ts → EachShowable ts → depth_all ts ≤ d → list_map unplaced_token x ≡ tokens_of_content (notated_content ts) → Said (IsContent p d) unplaced_all x (unplaced_all ts)
     content_said no_node d x h s low e = said_at (sym (no_tokens x e)) (stated _ _ empty refl refl)
     content_said (more t ts) d x h s low e =
         let q = parted x (tokens_of (notated t)) (more_tokens ts) (e ∙ row_tokens ts tree.no_item (notated t)) in
-        let r = items_said ts d q.front q.back (unplaced t) (item_said t d q.front h.0 s.0 (omega (arith, low)) q.left) h.1 s.1 (omega (arith, low)) q.right in
-        said_at (sym q.is) (stated _ _ (tight r.said) r.none r.same)
+        let r = items_said ts d q.0 q.1 (unplaced t) (item_said t d q.0 h.0 s.0 (omega (arith, low)) q.3) h.1 s.1 (omega (arith, low)) q.4 in
+        said_at (sym q.2) (stated _ _ (tight r.said) r.none r.same)
 
     -- an item, and those after it
     items_said : (ts : Trees) (d : ℕ) (x y : List Token) (u : Tree) → SaidItem p d x u → FitsAll ts → EachShowable ts → depth_all ts ≤ d → list_map unplaced_token y ≡ more_tokens ts → Said (AreItems p d) unplaced_all (x ++ y) (more u (unplaced_all ts))
@@ -332,19 +299,19 @@ module _ {p : Profile} where
         said_at (sym (ap (λ w. x ++ w) (no_tokens y e) ∙ append-nil x)) (stated _ _ (last f.said) f.none (ap (λ v. more v no_node) f.same))
     items_said (more t ts) d x y u f h s low e =
         let b = first_token y Comma (tokens_of (notated t) ++ more_tokens ts) e in
-        let q = parted b.rest (tokens_of (notated t)) (more_tokens ts) b.same in
-        let r = items_said ts d q.front q.back (unplaced t) (item_said t d q.front h.0 s.0 (omega (arith, low)) q.left) h.1 s.1 (omega (arith, low)) q.right in
-        said_at (ap (λ w. x ++ w) (sym (b.is ∙ ap (λ w. token b.at Comma ∷ w) q.is)))
-        (stated _ _ (before b.at f.said r.said) (both_parts f.none r.none) (ap₂ more f.same r.same))
+        let q = parted b.1 (tokens_of (notated t)) (more_tokens ts) b.3 in
+        let r = items_said ts d q.0 q.1 (unplaced t) (item_said t d q.0 h.0 s.0 (omega (arith, low)) q.3) h.1 s.1 (omega (arith, low)) q.4 in
+        said_at (ap (λ w. x ++ w) (sym (b.2 ∙ ap (λ w. token b.0 Comma ∷ w) q.2)))
+        (stated _ _ (before b.0 f.said r.said) (both_parts f.none r.none) (ap₂ more f.same r.same))
 
     fields_said : (es : Entries) (d : ℕ) (x : List Token) → FitsEntries es → ArePairsShowable es → depth_entries es ≤ d → list_map unplaced_token x ≡ tokens_of_fields (notated_fields es) → Said (IsFields p d) unplaced_entries x (unplaced_entries es)
     fields_said no_entry d x h s low e = said_at (sym (no_tokens x e)) (stated _ _ no_fields refl refl)
     fields_said (entry k v es) d x h s low e =
         let q = paired x (tokens_of (notated k)) (tokens_of (notated v)) (more_pair_tokens es) (e ∙ pair_tokens es tree.no_pair (notated k) (notated v)) in
-        let f = item_said k d q.key h.0 s.0 (omega (arith, low)) q.left in
-        let g = item_said v d q.value h.1 s.1 (omega (arith, low)) q.mid in
-        let r = pairs_said es d q.key q.value q.rest q.colon (unplaced k) (unplaced v) f g h.2 s.2 (omega (arith, low)) q.right in
-        said_at (sym q.is) (stated _ _ (tight_fields r.said) r.none r.same)
+        let f = item_said k d q.0 h.0 s.0 (omega (arith, low)) q.5 in
+        let g = item_said v d q.2 h.1 s.1 (omega (arith, low)) q.6 in
+        let r = pairs_said es d q.0 q.2 q.3 q.1 (unplaced k) (unplaced v) f g h.2 s.2 (omega (arith, low)) q.7 in
+        said_at (sym q.4) (stated _ _ (tight_fields r.said) r.none r.same)
 
     -- a pair, and those after it
     pairs_said : (es : Entries) (d : ℕ) (x y z : List Token) (a : Span) (t u : Tree) → SaidItem p d x t → SaidItem p d y u → FitsEntries es → ArePairsShowable es → depth_entries es ≤ d → list_map unplaced_token z ≡ more_pair_tokens es
@@ -354,17 +321,17 @@ module _ {p : Profile} where
         (stated _ _ (last_pair a f.said g.said) (both_parts f.none g.none) (ap₂ (λ (i j : Tree). entry i j no_entry) f.same g.same))
     pairs_said (entry k v es) d x y z a t u f g h s low e =
         let b = first_token z Comma (tokens_of (notated k) ++ (token nowhere Colon ∷ (tokens_of (notated v) ++ more_pair_tokens es))) e in
-        let q = paired b.rest (tokens_of (notated k)) (tokens_of (notated v)) (more_pair_tokens es) b.same in
-        let i = item_said k d q.key h.0 s.0 (omega (arith, low)) q.left in
-        let j = item_said v d q.value h.1 s.1 (omega (arith, low)) q.mid in
-        let r = pairs_said es d q.key q.value q.rest q.colon (unplaced k) (unplaced v) i j h.2 s.2 (omega (arith, low)) q.right in
-        said_at (ap (λ w. x ++ token a Colon ∷ (y ++ w)) (sym (b.is ∙ ap (λ w. token b.at Comma ∷ w) q.is)))
-        (stated _ _ (pair_before a b.at f.said g.said r.said) (both_parts f.none (both_parts g.none r.none)) (ap₂ (λ (l : Tree × Tree) (es : Entries). entry l.0 l.1 es) (ap₂ (λ (l m : Tree). (l, m)) f.same g.same) r.same))
+        let q = paired b.1 (tokens_of (notated k)) (tokens_of (notated v)) (more_pair_tokens es) b.3 in
+        let i = item_said k d q.0 h.0 s.0 (omega (arith, low)) q.5 in
+        let j = item_said v d q.2 h.1 s.1 (omega (arith, low)) q.6 in
+        let r = pairs_said es d q.0 q.2 q.3 q.1 (unplaced k) (unplaced v) i j h.2 s.2 (omega (arith, low)) q.7 in
+        said_at (ap (λ w. x ++ token a Colon ∷ (y ++ w)) (sym (b.2 ∙ ap (λ w. token b.0 Comma ∷ w) q.4)))
+        (stated _ _ (pair_before a b.0 f.said g.said r.said) (both_parts f.none (both_parts g.none r.none)) (ap₂ (λ (l : Tree × Tree) (es : Entries). entry l.0 l.1 es) (ap₂ (λ (l m : Tree). (l, m)) f.same g.same) r.same))
 
 -- LAW: tokens of the fixed notation say the nodes, places aside
 pub reads_same : (p : Profile) (limit : ℕ) (nodes : Trees) (x : List Token) → FitsAll nodes → EachShowable nodes → depth_all nodes ≤ limit → list_map unplaced_token x ≡ tokens_of_input (notated_input nodes) → (says : Trees) × IsText p limit x says [] × (unplaced_all says ≡ unplaced_all nodes)
 reads_same p limit no_node x h s low e = (no_node, subst (λ y. IsText p limit y no_node []) (sym (no_tokens x e)) nothing, refl)
 reads_same p limit (more t ts) x h s low e =
     let q = parted x (tokens_of (notated t)) (more_tokens ts) (e ∙ row_tokens ts tree.no_item (notated t)) in
-    let r = items_said ts limit q.front q.back (unplaced t) (item_said t limit q.front h.0 s.0 (omega (arith, low)) q.left) h.1 s.1 (omega (arith, low)) q.right in
-    (r.says, subst (λ y. IsText p limit y r.says []) (sym q.is) (subst (IsText p limit (q.front ++ q.back) r.says) r.none (items r.said)), r.same)
+    let r = items_said ts limit q.0 q.1 (unplaced t) (item_said t limit q.0 h.0 s.0 (omega (arith, low)) q.3) h.1 s.1 (omega (arith, low)) q.4 in
+    (r.says, subst (λ y. IsText p limit y r.says []) (sym q.2) (subst (IsText p limit (q.0 ++ q.1) r.says) r.none (items r.said)), r.same)

@@ -1,5 +1,6 @@
 -- What is known of the trees holds of the relation: a text notates one list of nodes, the same within larger limits and in profile 2, and is then not refused; what was shown reads back.
-use Rattle.cborn_edn.proofs.Common.{HasTree, IsSyntaxError, ◌≡◌, refl, sym, ap, ◌∙◌, subst, ℕ, ◌^◌, ◌<◌, ◌≤◌, List, [], length, Option, Some, None, ◌⊎◌, inl, inr, arith, IsUtf8, AreBytes, Trees, depth_all, FitsAll, spelled_all, Token, Profile, HasTokens, FailsAt, EdnReason, MeaningError, first_error, depth_of_input, Parse, unplaced_all, Shown, IsText, Notates, HasSyntaxError, HasMeaningError, nodes_of_input, faults_of_input, Parsed, ProfileOne, ProfileTwo, one_list, both_profiles as both_lexed, not_both as not_stopped, some_answer, as_test, text_light}
+use Rattle.std.specs.Prelude.{◌≡◌, ◌^◌, ◌<◌, ◌≤◌, ◌⊎◌}
+use Rattle.cborn_edn.proofs.Common.{HasTree, IsSyntaxError, refl, sym, ap, ◌∙◌, subst, ℕ, List, [], length, Option, Some, None, inl, inr, arith, IsUtf8, AreBytes, Trees, depth_all, FitsAll, spelled_all, Token, Profile, HasTokens, FailsAt, EdnReason, MeaningError, first_error, depth_of_input, Parse, unplaced_all, Shown, IsText, Notates, HasSyntaxError, HasMeaningError, nodes_of_input, faults_of_input, Parsed, ProfileOne, ProfileTwo, one_list, both_profiles as both_lexed, not_both as not_stopped, some_answer, as_test, text_light}
 use Rattle.cborn_lex.specs.declared.faults.LexReason.{LexReason}
 use Rattle.cborn_edn.proofs.Grammar.OneTree.{one_tree, both_profiles, not_both}
 use Rattle.cborn_edn.proofs.Grammar.Parser.{answered}

@@ -1,5 +1,6 @@
 -- Tokens are a text of the relation exactly if they are those of a tree, with what it says.
-use Rattle.cborn_edn.proofs.Common.{HasTree, subst, ℕ, ◌≤◌, List, Trees, Token, Profile, MeaningError, Input, depth_of_input, Parse, IsText, nodes_of_input, faults_of_input, Parsed}
+use Rattle.std.specs.Prelude.{◌≤◌}
+use Rattle.cborn_edn.proofs.Common.{HasTree, subst, ℕ, List, Trees, Token, Profile, MeaningError, Input, depth_of_input, Parse, IsText, nodes_of_input, faults_of_input, Parsed}
 use Rattle.cborn_edn.proofs.Grammar.Trailing.{parse_of, allowed_count}
 use Rattle.cborn_edn.proofs.Short.Derived.{derived_input}
 use Rattle.cborn_edn.proofs.Short.Rebuilt.{rebuilt_input}

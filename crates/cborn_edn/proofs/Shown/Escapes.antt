@@ -1,5 +1,6 @@
 -- Text with its escapes, run by run.
-use Rattle.cborn_edn.proofs.Common.{◌≡◌, sym, ap, ◌∙◌, ℕ, ◌+◌, ◌-◌, ◌<◌, ◌≤◌, List, [], ◌∷◌, ◌++◌, length, take, drop, get_or, false, append_assoc, append-nil, arith, flat_map, take_more, get_or-drop, length-drop, flat_map-append, escaped}
+use Rattle.std.specs.Prelude.{◌≡◌, ◌+◌, ◌-◌, ◌<◌, ◌≤◌, ◌∷◌, ◌++◌}
+use Rattle.cborn_edn.proofs.Common.{sym, ap, ◌∙◌, ℕ, List, [], length, take, drop, get_or, false, append_assoc, append-nil, arith, flat_map, take_more, get_or-drop, length-drop, flat_map-append, escaped}
 use Rattle.cborn_edn.specs.devices.Notating.{is_escaped}
 
 pub plain : (b : ℕ) → is_escaped b ≡ false → escaped b ≡ b ∷ []

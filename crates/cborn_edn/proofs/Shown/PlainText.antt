@@ -1,5 +1,6 @@
 -- The plain text of nodes doesn't depend on their places.
-use Rattle.cborn_edn.proofs.Common.{◌≡◌, refl, sym, ap, ◌∙◌, ◌∷◌, ◌++◌, decimal, Tree, Items, Pairs, Tagged, Trees, more, Entries, no_entry, entry, joined_by, unplaced, unplaced_all, unplaced_entries, codes, no_node as no_item}
+use Rattle.std.specs.Prelude.{◌≡◌, ◌∷◌, ◌++◌}
+use Rattle.cborn_edn.proofs.Common.{refl, sym, ap, ◌∙◌, decimal, Tree, Items, Pairs, Tagged, Trees, more, Entries, no_entry, entry, joined_by, unplaced, unplaced_all, unplaced_entries, codes, no_node as no_item}
 use Rattle.cborn_edn.specs.Plain.{plain, plain_items, plain_pairs, plain_lines}
 
 mutual

@@ -1,5 +1,6 @@
 -- The text of nodes doesn't depend on their places.
-use Rattle.cborn_edn.proofs.Common.{◌≡◌, refl, sym, ap, ◌∙◌, subst, ℕ, List, [], ◌∷◌, ◌++◌, map, decimal, true, is_utf8, Chunk, Tree, ByteChunks, TextChunks, Items, Pairs, Tagged, Trees, more, Entries, no_entry, entry, StringKind, OfBytes, OfText, AreTexts, IsShowable, EachShowable, ArePairsShowable, Shown, AreShowable, mark_for, mark_for_size, indicator, opened, shown_chunk, joined_by, shown_chunks, shown, item_texts, pair_texts, shown_lines, unplaced_chunks, unplaced, unplaced_all, unplaced_entries, codes, no_node as no_item}
+use Rattle.std.specs.Prelude.{◌≡◌, ◌∷◌, ◌++◌}
+use Rattle.cborn_edn.proofs.Common.{refl, sym, ap, ◌∙◌, subst, ℕ, List, [], map, decimal, true, is_utf8, Chunk, Tree, ByteChunks, TextChunks, Items, Pairs, Tagged, Trees, more, Entries, no_entry, entry, StringKind, OfBytes, OfText, AreTexts, IsShowable, EachShowable, ArePairsShowable, Shown, AreShowable, mark_for, mark_for_size, indicator, opened, shown_chunk, joined_by, shown_chunks, shown, item_texts, pair_texts, shown_lines, unplaced_chunks, unplaced, unplaced_all, unplaced_entries, codes, no_node as no_item}
 use Rattle.cborn_edn.proofs.Shown.Lowests.{each_showable, are_showable}
 use Rattle.cborn_edn.proofs.RoundTrip.Back.{count-unplaced, count-unplaced_entries}
 

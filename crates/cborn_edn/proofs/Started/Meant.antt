@@ -1,5 +1,6 @@
 -- Each token of a text has at most one of the spots of the nodes that the text says.
-use Rattle.cborn_edn.proofs.Common.{◌≡◌, refl, ap, subst, sym, ℕ, List, [], ◌∷◌, ◌++◌, length, Bool, true, false, ◌&&◌, cond, append-nil, ◌⊎◌, inl, inr, Width, Chunk, Tree, Uint, Nint, Trees, Entries, Mark, ArrayClose, MapClose, ParenClose, Comma, Colon, ChunkOpen, EmbedClose, Number, Token, Profile, MeaningError, StringKind, OfBytes, OfText, integer, string_node, chunked_node, width, is_endless, is_below, argument_of, is_small, bignum, number_node, Str, said_string, chunk, starts_of_chunks, unless_bytes, spots, spots_all, spots_entries, IsItem, text_piece, byte_piece, ArePieces, AreChunks, first, next, AreItems, last, before, IsContent, empty, ArePairs, last_pair, pair_before, IsFields, no_fields, IsText, nothing, ByteNode, token}
+use Rattle.std.specs.Prelude.{◌≡◌, ◌∷◌, ◌++◌, ◌&&◌, ◌⊎◌}
+use Rattle.cborn_edn.proofs.Common.{refl, ap, subst, sym, ℕ, List, [], length, Bool, true, false, cond, append-nil, inl, inr, Width, Chunk, Tree, Uint, Nint, Trees, Entries, Mark, ArrayClose, MapClose, ParenClose, Comma, Colon, ChunkOpen, EmbedClose, Number, Token, Profile, MeaningError, StringKind, OfBytes, OfText, integer, string_node, chunked_node, width, is_endless, is_below, argument_of, is_small, bignum, number_node, Str, said_string, chunk, starts_of_chunks, unless_bytes, spots, spots_all, spots_entries, IsItem, text_piece, byte_piece, ArePieces, AreChunks, first, next, AreItems, last, before, IsContent, empty, ArePairs, last_pair, pair_before, IsFields, no_fields, IsText, nothing, ByteNode, token}
 use Rattle.cborn_edn.specs.Grammar.{number, word, simple, tag, array, map, string, chunked, embedded, piece, also, tight, loose, tight_fields, loose_fields, items}
 
 -- places of some of the tokens, in their order

@@ -1,5 +1,6 @@
 -- The spots of what a text notates rise.
-use Rattle.cborn_edn.proofs.Common.{sym, subst, ℕ, ◌<◌, ◌≤◌, List, [], ◌∷◌, length, inl, inr, arith, AllByRecursion, Trees, Profile, Token, SpansRise, Notates, IsRising, spots_all, spans_rise}
+use Rattle.std.specs.Prelude.{◌<◌, ◌≤◌, ◌∷◌}
+use Rattle.cborn_edn.proofs.Common.{sym, subst, ℕ, List, [], length, inl, inr, arith, AllByRecursion, Trees, Profile, Token, SpansRise, Notates, IsRising, spots_all, spans_rise}
 use Rattle.cborn_edn.proofs.Started.Meant.{Among, text_among}
 
 abbrev AreFrom : ℕ → List ℕ → Type 0

@@ -15,13 +15,13 @@ stack_of (as_item st) = st
 stack_of (as_chunk st s b) = st
 
 -- the kind of the innermost open bracket
-abbrev pub level_of : Stack → Option Level
-level_of (in_row at_top b) = None
-level_of (in_row (in_array st s m) b) = Some levels.Array
-level_of (in_row (in_embed h o s) b) = Some levels.Embedded
-level_of (in_key st s m b) = Some levels.Key
-level_of (in_value st s m b k c) = Some levels.Value
-level_of (in_tag st s n m) = Some levels.Tag
+abbrev pub level_of : Stack → Level
+level_of (in_row at_top b) = levels.Outside
+level_of (in_row (in_array st s m) b) = levels.Array
+level_of (in_row (in_embed h o s) b) = levels.Embedded
+level_of (in_key st s m b) = levels.Key
+level_of (in_value st s m b k c) = levels.Value
+level_of (in_tag st s n m) = levels.Tag
 
 -- how many items or pairs in it have a comma after them
 abbrev pub count_of : Stack → ℕ

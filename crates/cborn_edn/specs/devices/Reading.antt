@@ -1,4 +1,5 @@
 -- A device of the proofs: a text that is read up to some place. No definition cites it.
+use Rattle.cborn_edn.specs.declared.states.Level.TheVariants.{Outside}
 use Rattle.cborn_edn.specs.Common.{Bor, IsUtf8, TokensBetween, Kind, Profile, One, Token, AreModest, trees, FitsAll, top, no_part, Level, Chunks, EdnReason, UnexpectedToken, TooDeep, Phase, Wants, WantsMore, Has, Builds, Here, Writer}
 use Rattle.std.specs.Prelude.{◌≡◌, ◌⊎◌, ℕ, ◌^◌, ◌<◌, ◌≤◌, List, [], ◌∷◌, ◌++◌, length, Bool, true, false, not, Option, Some, None}
 use Rattle.cborn_lex.specs.declared.classes.Kind.TheVariants as kinds
@@ -66,10 +67,10 @@ Judged trailing taken reach limit (Some TooDeep) = (trailing ≡ false) × (take
 Judged trailing taken reach limit (Some _) = ⊥
 
 -- a text may end in this phase
-abbrev pub may_end : Phase → Option Level → Option Chunks → Bool
-may_end Wants None cs = true
-may_end Has None cs = true
-may_end Builds None cs = not (has_chunks cs)
+abbrev pub may_end : Phase → Level → Option Chunks → Bool
+may_end Wants Outside cs = true
+may_end Has Outside cs = true
+may_end Builds Outside cs = not (has_chunks cs)
 may_end _ _ cs = false
 
 abbrev pub ends_string : Phase → Bool

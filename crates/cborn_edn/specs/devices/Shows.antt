@@ -1,7 +1,7 @@
 -- A device of the proofs: what the reader keeps shows a state of the machine of tokens. No definition cites it.
-use Rattle.std.specs.Prelude.{◌≡◌, ℕ, ◌+◌, List, length, Bool}
+use Rattle.std.specs.Prelude.{◌≡◌, ℕ, ◌+◌, List, length, Bool, true, false}
 use Rattle.cborn_edn.specs.Common.{Mark, StringKind, OfBytes, OfText, Phase, Has, Here, Writer}
-use Rattle.cborn_edn.specs.devices.Syntax.{Span, Piece, text, bytes, array, map, row, Content, loose, tight, pairs, Fields, loose_fields, tight_fields}
+use Rattle.cborn_edn.specs.devices.Syntax.{Span, Piece, text, bytes, array, map, row, Content, loose, tight, pairs, Fields, loose_fields, tight_fields, no_item, no_pair}
 use Rattle.cborn_edn.specs.devices.Machine.{first_error, Stack, in_row, in_key, in_value, Nest, in_array, State, wants, has, wants_number}
 use Rattle.cborn_edn.specs.devices.Noted.{noted}
 use Rattle.cborn_edn.specs.devices.Kept.{phase_of, stack_in, level_of, count_of, brackets_of, arounds_of, bytes_around, string_in, chunks_in, bytes_open}
@@ -39,6 +39,11 @@ content_state n (tight (row b i)) = has (in_row n b) i
 abbrev pub fields_state : Stack → Span → Mark → Fields → State
 fields_state st s m (loose_fields b) = wants (in_key st s m b)
 fields_state st s m (tight_fields (pairs b k c v)) = has (in_value st s m b k c) v
+
+-- what is open after the bracket that begins an array or a map
+abbrev pub after_opening : Bool → Stack → Span → Mark → Stack
+after_opening true st a m = in_key st a m no_pair
+after_opening false st a m = in_row (in_array st a m) no_item
 
 -- u has the array or the map that s has open, which ends with the bracket a
 pub data Sized (a : Span) : State → State → Type 0 where

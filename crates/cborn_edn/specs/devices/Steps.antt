@@ -5,33 +5,33 @@ use Rattle.cborn_lex.specs.declared.classes.Kind.TheVariants as kinds
 use Rattle.cborn_lex.specs.declared.classes.Class.TheVariants.{Text, Bytes}
 use Rattle.cborn_edn.specs.devices.Syntax.{Span, Pieces}
 use Rattle.cborn_edn.specs.devices.Machine.{Home, State, wants, has, builds, step_by}
-use Rattle.cborn_edn.specs.declared.states.Level.TheVariants.{Array, Embedded, Key, Value, Tag}
+use Rattle.cborn_edn.specs.declared.states.Level.TheVariants.{Outside, Array, Embedded, Key, Value, Tag}
 use Rattle.cborn_edn.specs.devices.Shows.{Shows}
 use Rattle.cborn_edn.specs.devices.Events.{Holds}
 use Rattle.cborn_edn.specs.devices.Handed.{Reads}
 
 -- the innermost bracket is of this kind
-abbrev pub is_in : Level → Option Level → Bool
-is_in Array (Some Array) = true
-is_in Embedded (Some Embedded) = true
-is_in Key (Some Key) = true
-is_in Value (Some Value) = true
-is_in Tag (Some Tag) = true
+abbrev pub is_in : Level → Level → Bool
+is_in Array Array = true
+is_in Embedded Embedded = true
+is_in Key Key = true
+is_in Value Value = true
+is_in Tag Tag = true
 is_in _ _ = false
 
-abbrev pub is_row : Option Level → Bool
-is_row (Some Array) = true
-is_row (Some Embedded) = true
-is_row None = true
+abbrev pub is_row : Level → Bool
+is_row Array = true
+is_row Embedded = true
+is_row Outside = true
 is_row _ = false
 
 -- the innermost bracket is a map that may end in this phase
-abbrev pub ends_map : Phase → Option Level → Bool
+abbrev pub ends_map : Phase → Level → Bool
 ends_map Has o = is_in Value o
 ends_map _ o = is_in Key o
 
 -- it is a map, or else an array, that may end in this phase
-abbrev pub ends_sized : Bool → Phase → Option Level → Bool
+abbrev pub ends_sized : Bool → Phase → Level → Bool
 ends_sized true p o = ends_map p o
 ends_sized false p o = is_in Array o
 

@@ -1,31 +1,14 @@
 -- The flaws of what a text notates: each is at a spot, and spots rise, so that the first flaw of all is that of the first node that means nothing.
-use Rattle.cborn_engine.proofs.Common.{◌≡◌, ℕ, ◌<◌, inl, inr, List, [], ◌∷◌, ◌++◌, refl, sym, subst, Chunk, Tree, Uint, Nint, Bytes, Text, ByteChunks, TextChunks, Items, Pairs, Tagged, Simple, Trees, no_item, more, Entries, no_entry, entry, place, trees, Within, WithinAll, WithinEntries, IsRepeated, HasRepeat, HasBadChunk, FlawAt, Flaw, InvalidReason}
-use Rattle.cborn_model.proofs.SameItems.Rearranging.{IsIn, at_member}
+use Rattle.std.specs.Prelude.{◌≡◌, ◌<◌, ◌∷◌, ◌++◌}
+use Rattle.cborn_engine.proofs.Common.{ℕ, inl, inr, List, [], refl, sym, subst, Chunk, Tree, Uint, Bytes, Text, TextChunks, Items, Pairs, Tagged, Trees, no_item, more, Entries, no_entry, entry, place, trees, Within, WithinAll, WithinEntries, IsRepeated, HasRepeat, HasBadChunk, FlawAt, Flaw, InvalidReason, IsIn, at_member, AreApart}
+use Rattle.cborn_judge.proofs.Meaning.Placing.{in_left, in_right}
 use Rattle.cborn_edn.specs.Starts.{starts_of_chunks, unless_bytes, spots, spots_all, spots_entries, IsRising}
-use Rattle.cborn_judge.proofs.FirstFlaw.Sequences.{AreApart}
-
-in_left : (p : ℕ) (xs ys : List ℕ) → IsIn p xs → IsIn p (xs ++ ys)
-in_left p [] ys i = absurd i
-in_left p (x ∷ xs) ys (inl e) = inl e
-in_left p (x ∷ xs) ys (inr i) = inr (in_left p xs ys i)
-
-in_right : (p : ℕ) (xs ys : List ℕ) → IsIn p ys → IsIn p (xs ++ ys)
-in_right p [] ys i = i
-in_right p (x ∷ xs) ys i = inr (in_right p xs ys i)
 
 -- ---- flaws are at spots
 
 own_spot : (t : Tree) → IsIn (place t) (spots t)
 own_spot (Uint p w n) = inl refl
-own_spot (Nint p w n) = inl refl
-own_spot (Bytes p w b) = inl refl
-own_spot (Text p w b) = inl refl
-own_spot (ByteChunks p cs) = inl refl
-own_spot (TextChunks p cs) = inl refl
-own_spot (Items p s ts) = inl refl
-own_spot (Pairs p s es) = inl refl
-own_spot (Tagged p w n t) = inl refl
-own_spot (Simple p n) = inl refl
+own_spot _ = inl refl
 
 later_spot : (k v : Tree) (es : Entries) (p : ℕ) → IsIn p (spots_entries es) → IsIn p (spots_entries (entry k v es))
 later_spot k v es p i = in_right p (spots k) (spots v ++ spots_entries es) (in_right p (spots v) (spots_entries es) i)
@@ -72,13 +55,7 @@ module _ (q : Tree) (p : ℕ) (r : InvalidReason) (h : FlawAt q p r) where
     spot_in (Pairs s z es) (inr i) = inr (spot_in_pairs es i)
     spot_in (Tagged s w n t) (inl e) = own (Tagged s w n t) e
     spot_in (Tagged s w n t) (inr i) = inr (under_tag t i (spot_in t i))
-    spot_in (Uint s w n) e = own (Uint s w n) e
-    spot_in (Nint s w n) e = own (Nint s w n) e
-    spot_in (Bytes s w b) e = own (Bytes s w b) e
-    spot_in (Text s w b) e = own (Text s w b) e
-    spot_in (ByteChunks s cs) e = own (ByteChunks s cs) e
-    spot_in (TextChunks s cs) e = own (TextChunks s cs) e
-    spot_in (Simple s n) e = own (Simple s n) e
+    spot_in x e = own x e
 
     spot_among : (ts : Trees) → WithinAll q ts → IsIn p (spots_all ts)
     spot_among no_item i = absurd i

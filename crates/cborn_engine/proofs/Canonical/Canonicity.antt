@@ -1,8 +1,6 @@
 -- What is encoded of what an input holds is canonical.
-use Rattle.cborn_engine.proofs.Common.{◌≡◌, ◌≤◌, ◌↔◌, ℕ, List, length, refl, sym, ◌∙◌, subst, Ordering, AllZip, AllByRecursion, Value, Same, Tree, trees, depth_all, Wellformed, FitsAll, IsProper, IsKeyOrder, DetSeq, Kind, Spells, Holds, Canon, IsWrittenAs, IsEncoded, IsCanonical, most_bytes}
-use Rattle.cborn_det.proofs.Canon.{seq_of_one, one_of_seq, seq_exists}
-use Rattle.cborn_lex.specs.declared.classes.Profile.TheVariants as profile
-use Rattle.cborn_engine.specs.declared.kinds.Kind.TheVariants as kind
+use Rattle.std.specs.Prelude.{◌≡◌, ◌≤◌, ◌↔◌}
+use Rattle.cborn_engine.proofs.Common.{ℕ, List, length, refl, sym, ◌∙◌, subst, Ordering, AllZip, AllByRecursion, Value, Same, Tree, trees, depth_all, Wellformed, FitsAll, IsProper, IsKeyOrder, DetSeq, Kind, Spells, Holds, Canon, IsWrittenAs, IsEncoded, IsCanonical, most_bytes, seq_of_one, one_of_seq, seq_exists, Profile}
 use Rattle.cborn_engine.proofs.Held.Notated.{fits}
 use Rattle.cborn_engine.proofs.Canonical.Proper.{sequence_proper, sequence_shallow}
 use Rattle.cborn_engine.proofs.Held.Meant.{holds_once, all_same, all_turned, AreSound}
@@ -20,24 +18,20 @@ module _ (order : List ℕ → List ℕ → Ordering) (laws : IsKeyOrder order) 
 -- ---- what is encoded, as an output of a kind
 
 pub canon_of : (order : List ℕ → List ℕ → Ordering) (out : Kind) (vs : List Value) (x w : List ℕ) → DetSeq order vs x → IsWrittenAs out x w → Canon order out vs w
-canon_of order kind.Wire vs x w d e = subst (DetSeq order vs) (sym e) d
-canon_of order kind.Notation vs x w d e = (x, d, as_plain order vs x w d e)
-canon_of order kind.Notation2 vs x w d e = (x, d, as_plain order vs x w d e)
+canon_of order Kind.Wire vs x w d e = subst (DetSeq order vs) (sym e) d
+canon_of order _ vs x w d e = (x, d, as_plain order vs x w d e)
 
 canon_is : (order : List ℕ → List ℕ → Ordering) (out : Kind) (vs : List Value) (w : List ℕ) → Canon order out vs w → (x : List ℕ) × DetSeq order vs x × IsWrittenAs out x w
-canon_is order kind.Wire vs w d = (w, d, refl)
-canon_is order kind.Notation vs w c = (c.0, c.1, as_fixed order vs c.0 w c.1 c.2)
-canon_is order kind.Notation2 vs w c = (c.0, c.1, as_fixed order vs c.0 w c.1 c.2)
+canon_is order Kind.Wire vs w d = (w, d, refl)
+canon_is order _ vs w c = (c.0, c.1, as_fixed order vs c.0 w c.1 c.2)
 
 output_once : (out : Kind) (x v w : List ℕ) → IsWrittenAs out x v → IsWrittenAs out x w → v ≡ w
-output_once kind.Wire x v w h k = h ∙ sym k
-output_once kind.Notation x v w h k = text_once x v w h k
-output_once kind.Notation2 x v w h k = text_once x v w h k
+output_once Kind.Wire x v w h k = h ∙ sym k
+output_once _ x v w h k = text_once x v w h k
 
 encoding_once : (out : Kind) (x y w : List ℕ) → IsWrittenAs out x w → IsWrittenAs out y w → x ≡ y
-encoding_once kind.Wire x y w h k = sym h ∙ k
-encoding_once kind.Notation x y w h k = bytes_once x y w h k
-encoding_once kind.Notation2 x y w h k = bytes_once x y w h k
+encoding_once Kind.Wire x y w h k = sym h ∙ k
+encoding_once _ x y w h k = bytes_once x y w h k
 
 -- valid items have one canonical form
 one_form : (order : List ℕ → List ℕ → Ordering) (laws : IsKeyOrder order) (out : Kind) (vs : List Value) (v w : List ℕ) → AllByRecursion IsProper vs → Canon order out vs v → Canon order out vs w → v ≡ w
@@ -49,20 +43,20 @@ one_form order laws out vs v w p c d =
 
 -- the output holds what its bytes do
 holds_back : (out : Kind) (limit : ℕ) (vs : List Value) (x w : List ℕ) (back : SequenceReadsBack limit 0 vs x) → IsWrittenAs out x w → Holds out limit w back.items
-holds_back kind.Wire limit vs x w back e =
+holds_back Kind.Wire limit vs x w back e =
     let spelled : Wellformed limit (trees back.nodes) w = record { spells = back.spells ∙ sym e; fit = back.fits; shallow = back.shallow } in
     record { nodes = back.nodes; spelled = spelled; meant = back.mean }
-holds_back kind.Notation limit vs x w back e =
-    let t = text_back profile.One limit x w back.nodes back.items back.fits back.shallow back.spells back.mean e in record { nodes = t.nodes; spelled = t.notated; meant = t.mean }
-holds_back kind.Notation2 limit vs x w back e =
-    let t = text_back profile.Two limit x w back.nodes back.items back.fits back.shallow back.spells back.mean e in record { nodes = t.nodes; spelled = t.notated; meant = t.mean }
+holds_back Kind.Notation limit vs x w back e =
+    let t = text_back Profile.One limit x w back.nodes back.items back.fits back.shallow back.spells back.mean e in record { nodes = t.nodes; spelled = t.notated; meant = t.mean }
+holds_back Kind.Notation2 limit vs x w back e =
+    let t = text_back Profile.Two limit x w back.nodes back.items back.fits back.shallow back.spells back.mean e in record { nodes = t.nodes; spelled = t.notated; meant = t.mean }
 
 -- ---- what was read is sound
 
 pub spelled_fits : (k : Kind) (limit : ℕ) (input : List ℕ) (ns : List Tree) → length input ≤ most_bytes → Spells k limit input ns → FitsAll (trees ns) × (depth_all (trees ns) ≤ limit)
-spelled_fits kind.Wire limit input ns l h = (h.fit, h.shallow)
-spelled_fits kind.Notation limit input ns l h = fits profile.One limit input ns h l
-spelled_fits kind.Notation2 limit input ns l h = fits profile.Two limit input ns h l
+spelled_fits Kind.Wire limit input ns l h = (h.fit, h.shallow)
+spelled_fits Kind.Notation limit input ns l h = fits Profile.One limit input ns h l
+spelled_fits Kind.Notation2 limit input ns l h = fits Profile.Two limit input ns h l
 
 held_sound : (order : List ℕ → List ℕ → Ordering) (k : Kind) (limit : ℕ) (input : List ℕ) (vs : List Value) (x : List ℕ) → length input ≤ most_bytes → Holds k limit input vs → DetSeq order vs x → AreSound limit vs
 held_sound order k limit input vs x short h d =
@@ -120,7 +114,7 @@ module _ (order : List ℕ → List ℕ → Ordering) (laws : IsKeyOrder order) 
 
 -- the bytes hold items of which they are the encodings, the same as these
 pub record OwnEncoding (order : List ℕ → List ℕ → Ordering) (limit : ℕ) (bytes : List ℕ) (items : List Value) : Type 0 where
-  pub own : IsEncoded order kind.Wire limit bytes bytes
+  pub own : IsEncoded order Kind.Wire limit bytes bytes
   pub same : AllZip Same own.items items
 
 -- what was encoded of an input is its own encoding
@@ -131,7 +125,7 @@ own_bytes order laws k limit input bytes short e =
     record {
       own = record {
         items = back.items;
-        held = holds_back kind.Wire limit e.items bytes bytes back refl;
+        held = holds_back Kind.Wire limit e.items bytes bytes back refl;
         encoded = same_encoded order laws e.items back.items bytes sound.proper back.proper e.encoded (all_turned back.items e.items back.same);
       };
       same = back.same;

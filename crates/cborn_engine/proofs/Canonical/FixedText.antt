@@ -1,10 +1,6 @@
 -- Bytes have one text in the fixed notation, and it reads back as what the bytes hold.
-use Rattle.cborn_engine.proofs.Common.{◌≡◌, ◌≤◌, ℕ, List, sym, ◌∙◌, subst, arith, AllZip, Tree, Trees, trees, depth_all, spelled_all, FitsAll, Value, values_of, Means, AllMean, Profile, Notates, unplaced_all, listed_trees, trees-listed, IsNotation, IsFixedText}
-use Rattle.cborn_lex.specs.declared.classes.Profile.TheVariants as profile
-use Rattle.cborn_edn.proofs.Short.Facts.{shown_back, shown_only}
-use Rattle.cborn_edn.proofs.Shown.SameText.{same_text}
-use Rattle.cborn_edn.proofs.RoundTrip.Unplaced.{same_depth, same_meaning}
-use Rattle.cborn_model.proofs.Listed.Meanings.{all_mean, zip_mean}
+use Rattle.std.specs.Prelude.{◌≡◌, ◌≤◌}
+use Rattle.cborn_engine.proofs.Common.{ℕ, List, sym, ◌∙◌, subst, arith, AllZip, Tree, Trees, trees, depth_all, spelled_all, FitsAll, Value, values_of, Means, AllMean, Profile, Notates, unplaced_all, listed_trees, trees-listed, IsNotation, IsFixedText, shown_back, shown_only, same_text, same_depth, same_meaning, all_mean, zip_mean}
 use Rattle.cborn_engine.proofs.Held.SameNodes.{same_nodes}
 
 -- bytes have one text
@@ -16,8 +12,8 @@ text_once x v w h k =
 pub bytes_once : (x y w : List ℕ) → IsFixedText x w → IsFixedText y w → x ≡ y
 bytes_once x y w h k =
     let deep : ℕ = depth_all (trees h.nodes) in
-    let back = shown_back profile.One deep (trees h.nodes) w h.fit h.shown (omega arith) in
-    let only = shown_only profile.One deep (trees k.nodes) w back.0 k.fit k.shown back.1 in
+    let back = shown_back Profile.One deep (trees h.nodes) w h.fit h.shown (omega arith) in
+    let only = shown_only Profile.One deep (trees k.nodes) w back.0 k.fit k.shown back.1 in
     sym h.spelled ∙ sym back.3 ∙ only.1 ∙ k.spelled
 
 -- the text of bytes that spell these nodes notates nodes that mean the same items

@@ -1,6 +1,6 @@
 -- What follows where the outputs are canonical forms.
-use Rattle.cborn_engine.proofs.Common.{◌≡◌, ◌≤◌, ◌↔◌, inl, inr, ℕ, List, ◌++◌, length, Err, sym, subst, ap, Ordering, AllZip, IsKeyOrder, Value, Same, EngineFault, Kind, Canon, HoldSameItems, IsNoRefusal, IsTrouble, IsFront, IsCanonical, NormaliseAnswers, most_bytes}
-use Rattle.cborn_engine.specs.declared.faults.EngineFault.TheVariants as fault
+use Rattle.std.specs.Prelude.{◌≡◌, ◌≤◌, ◌↔◌, ◌++◌}
+use Rattle.cborn_engine.proofs.Common.{inl, inr, ℕ, List, length, Err, sym, subst, ap, Ordering, AllZip, IsKeyOrder, Value, Same, EngineFault, Kind, Canon, HoldSameItems, IsNoRefusal, IsTrouble, IsFront, IsCanonical, NormaliseAnswers, most_bytes}
 use Rattle.cborn_engine.proofs.Canonical.Canonicity.{valid, reads_back, alone, one_for_same, again}
 use Rattle.cborn_engine.proofs.Held.Known.{input_read}
 use Rattle.cborn_engine.proofs.Held.Meant.{holds_once, all_turned}
@@ -37,6 +37,6 @@ module _ (order : List ℕ → List ℕ → Ordering) (laws : IsKeyOrder order) 
       (trouble why (input_read out limit most v back.0 why room back.1 r), (v, ap (λ (u : List ℕ). u ++ v) e))
     where
       trouble : (why : EngineFault) → IsNoRefusal why → IsTrouble why
-      trouble fault.ReadFault n = tt
-      trouble fault.OutOfMemory n = tt
+      trouble EngineFault.ReadFault n = tt
+      trouble EngineFault.OutOfMemory n = tt
       trouble _ n = absurd n

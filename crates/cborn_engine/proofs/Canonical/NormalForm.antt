@@ -1,5 +1,6 @@
 -- What an answer is worth: all that the headline says of it, at once.
-use Rattle.cborn_engine.proofs.Common.{◌≤◌, ℕ, List, length, sym, subst, Ordering, Option, Result, Ok, Err, OnOk, Consumes, Appends, IsKeyOrder, CountFault, Count, Kind, Canon, IsCanonical, IsNormalForm, NormalisesCount, most_bytes}
+use Rattle.std.specs.Prelude.{◌≤◌}
+use Rattle.cborn_engine.proofs.Common.{ℕ, List, length, sym, subst, Ordering, Option, Result, Ok, Err, OnOk, Consumes, Appends, IsKeyOrder, CountFault, Count, Kind, Canon, IsCanonical, IsNormalForm, NormalisesCount, most_bytes}
 use Rattle.cborn_engine.proofs.Canonical.Canonicity.{reads_back, alone, one_for_same, own_form, again}
 use Rattle.cborn_engine.proofs.Held.Meant.{all_turned}
 

@@ -1,12 +1,7 @@
 -- Bytes hold one list of items, and each encoding of them holds the same items.
-use Rattle.cborn_engine.proofs.Common.{◌≡◌, ◌≤◌, ◌↔◌, ℕ, max, List, [], ◌∷◌, ◌++◌, refl, sym, ap, ◌∙◌, subst, arith, Ordering, AllZip, IsKeyOrder, Tree, Trees, no_item, more, trees, depth_all, Wellformed, FitsAll, spelled_all, Value, Values, no_values, value, values_of, Same, SameValues, Means, AllMean, DetSeq, DetValues, Kind, IsCanonical, Holds, IsEncoded, IsWrittenAs}
-use Rattle.cborn_det.proofs.Canon.{seq_of_one, one_of_seq}
-use Rattle.cborn_det.proofs.Steps.{values_of_seq, seq_of_values, seq_append}
-use Rattle.cborn_wire.proofs.Spelled.TreeLists.{tree_list, trees-tree_list, trees-append, spelled_all-append}
-use Rattle.cborn_model.proofs.Listed.Meanings.{all_mean, zip_mean}
-use Rattle.cborn_judge.proofs.Loops.Passing.{zip_append}
-use Rattle.cborn_engine.specs.declared.kinds.Kind.TheVariants as kind
-use Rattle.cborn_engine.specs.Bytes.{BytesHold}
+use Rattle.std.specs.Prelude.{◌≡◌, ◌≤◌, ◌↔◌, ◌∷◌, ◌++◌}
+use Rattle.cborn_engine.proofs.Common.{ℕ, max, List, [], refl, sym, ap, ◌∙◌, subst, arith, Ordering, AllZip, IsKeyOrder, Tree, Trees, no_item, more, trees, depth_all, Wellformed, FitsAll, spelled_all, Value, Values, no_values, value, values_of, Same, SameValues, Means, AllMean, DetSeq, DetValues, Kind, IsCanonical, Holds, IsEncoded, IsWrittenAs, seq_of_one, one_of_seq, values_of_seq, seq_of_values, seq_append, tree_list, trees-tree_list, trees-append, spelled_all-append, all_mean, zip_mean, BytesHold}
+use Rattle.cborn_judge.proofs.Loops.{zip_append}
 use Rattle.cborn_engine.proofs.Canonical.Canonicity.{same_encoded}
 use Rattle.cborn_engine.proofs.Canonical.Proper.{sequence_proper, sequence_shallow}
 use Rattle.cborn_engine.proofs.Held.Meant.{AreSound, holds_once, all_turned}
@@ -52,7 +47,7 @@ same_values vs ws h = subst (SameValues vs) (values-listed ws) (same_of vs (valu
 
 -- ---- what an input of bytes holds, its bytes hold
 
-pub bytes_hold : (limit : ℕ) (x : List ℕ) (vs : List Value) → Holds kind.Wire limit x vs → BytesHold x (values_of vs)
+pub bytes_hold : (limit : ℕ) (x : List ℕ) (vs : List Value) → Holds Kind.Wire limit x vs → BytesHold x (values_of vs)
 bytes_hold limit x vs h = record { nodes = trees h.nodes; fit = h.spelled.fit; spelled = h.spelled.spells; meant = all_mean h.nodes vs h.meant }
 
 nodes_read : (limit : ℕ) (x : List ℕ) (vs : Values) (b : BytesHold x vs) → depth_all (trees (tree_list b.nodes)) ≤ limit → Wellformed limit (trees (tree_list b.nodes)) x
@@ -60,10 +55,10 @@ nodes_read limit x vs b l =
     let same : trees (tree_list b.nodes) ≡ b.nodes = trees-tree_list b.nodes in
     record { spells = ap spelled_all same ∙ b.spelled; fit = subst FitsAll (sym same) b.fit; shallow = l }
 
-pub as_input : (limit : ℕ) (x : List ℕ) (vs : Values) (b : BytesHold x vs) → depth_all (trees (tree_list b.nodes)) ≤ limit → Holds kind.Wire limit x (value_list vs)
+pub as_input : (limit : ℕ) (x : List ℕ) (vs : Values) (b : BytesHold x vs) → depth_all (trees (tree_list b.nodes)) ≤ limit → Holds Kind.Wire limit x (value_list vs)
 as_input limit x vs b l = record { nodes = tree_list b.nodes; spelled = nodes_read limit x vs b l; meant = mean_listed b.nodes vs b.meant }
 
-pub held_within : (x : List ℕ) (vs : List Value) → BytesHold x (values_of vs) → (limit : ℕ) × Holds kind.Wire limit x vs
+pub held_within : (x : List ℕ) (vs : List Value) → BytesHold x (values_of vs) → (limit : ℕ) × Holds Kind.Wire limit x vs
 held_within x vs b =
     let limit : ℕ = depth_all (trees (tree_list b.nodes)) in
     let same : trees (tree_list b.nodes) ≡ b.nodes = trees-tree_list b.nodes in
@@ -72,7 +67,7 @@ held_within x vs b =
 pub items_once : (x : List ℕ) (vs ws : Values) → BytesHold x vs → BytesHold x ws → vs ≡ ws
 items_once x vs ws a b =
     let limit : ℕ = max (depth_all (trees (tree_list a.nodes))) (depth_all (trees (tree_list b.nodes))) in
-    let once : value_list vs ≡ value_list ws = holds_once kind.Wire limit x (value_list vs) (value_list ws) (as_input limit x vs a (omega arith)) (as_input limit x ws b (omega arith)) in
+    let once : value_list vs ≡ value_list ws = holds_once Kind.Wire limit x (value_list vs) (value_list ws) (as_input limit x vs a (omega arith)) (as_input limit x ws b (omega arith)) in
     sym (values-listed vs) ∙ ap values_of once ∙ values-listed ws
 
 module _ (order : List ℕ → List ℕ → Ordering) where
@@ -80,15 +75,15 @@ module _ (order : List ℕ → List ℕ → Ordering) where
   det_listed vs x d = seq_of_values order (value_list vs) x (subst (λ (us : Values). DetValues order us x) (sym (values-listed vs)) d)
 
   -- what has an encoding is valid
-  sound : (limit : ℕ) (x v : List ℕ) (vs : List Value) → Holds kind.Wire limit x vs → DetSeq order vs v → AreSound limit vs
+  sound : (limit : ℕ) (x v : List ℕ) (vs : List Value) → Holds Kind.Wire limit x vs → DetSeq order vs v → AreSound limit vs
   sound limit x v vs a d = record { proper = sequence_proper order a.nodes vs v a.spelled.fit a.meant d; shallow = sequence_shallow limit a.nodes vs a.spelled.fit a.spelled.shallow a.meant }
 
-  pub canonical_bytes : (limit : ℕ) (x v : List ℕ) → IsCanonical order kind.Wire kind.Wire limit x v → (vs : Values) × BytesHold x vs × DetValues order vs v
+  pub canonical_bytes : (limit : ℕ) (x v : List ℕ) → IsCanonical order Kind.Wire Kind.Wire limit x v → (vs : Values) × BytesHold x vs × DetValues order vs v
   canonical_bytes limit x v c = (values_of c.items, bytes_hold limit x c.items c.held, values_of_seq order c.items v c.written)
 
-  pub encoded_bytes : (k out : Kind) (limit : ℕ) (x bytes output : List ℕ) → IsEncoded order k limit x bytes → IsWrittenAs out bytes output → k ≡ kind.Wire → out ≡ kind.Wire → (vs : Values) × BytesHold x vs × DetValues order vs output
-  encoded_bytes kind.Wire kind.Wire limit x bytes output e w p q = canonical_bytes limit x output (record { items = e.items; held = e.held; written = subst (DetSeq order e.items) (sym w) e.encoded })
-  encoded_bytes kind.Wire _ limit x bytes output e w p q = absurd cc
+  pub encoded_bytes : (k out : Kind) (limit : ℕ) (x bytes output : List ℕ) → IsEncoded order k limit x bytes → IsWrittenAs out bytes output → k ≡ Kind.Wire → out ≡ Kind.Wire → (vs : Values) × BytesHold x vs × DetValues order vs output
+  encoded_bytes Kind.Wire Kind.Wire limit x bytes output e w p q = canonical_bytes limit x output (record { items = e.items; held = e.held; written = subst (DetSeq order e.items) (sym w) e.encoded })
+  encoded_bytes Kind.Wire _ limit x bytes output e w p q = absurd cc
   encoded_bytes _ out limit x bytes output e w p q = absurd cc
 
   module _ (laws : IsKeyOrder order) where
@@ -119,7 +114,7 @@ module _ (order : List ℕ → List ℕ → Ordering) where
 
   -- ---- one input after another
 
-  pub joined : (limit : ℕ) (x y v w : List ℕ) → IsCanonical order kind.Wire kind.Wire limit x v → IsCanonical order kind.Wire kind.Wire limit y w → IsCanonical order kind.Wire kind.Wire limit (x ++ y) (v ++ w)
+  pub joined : (limit : ℕ) (x y v w : List ℕ) → IsCanonical order Kind.Wire Kind.Wire limit x v → IsCanonical order Kind.Wire Kind.Wire limit y w → IsCanonical order Kind.Wire Kind.Wire limit (x ++ y) (v ++ w)
   joined limit x y v w a b =
       let ts = a.held.nodes in
       let us = b.held.nodes in

@@ -1,12 +1,9 @@
 -- Nodes that spell deterministic encodings have no indicator and no chunk in their fixed notation: it is their plain text.
-use Rattle.cborn_engine.proofs.Common.{◌≡◌, refl, sym, ap, ◌∙◌, subst, ℕ, suc, inl, inr, Bool, true, false, eqb, List, [], ◌∷◌, ◌++◌, length, codes, decimal, Ordering, append-nil, eq-eqb, cond-true, AllZip, flat_map, length_permutation, Array, Map, Fixed, AreBytes, big_endian, following, WidthFits, Given, head, least, head_bytes, Tree, Uint, Nint, Bytes, Text, Items, Pairs, Tagged, Simple, Trees, no_item, more, trees, Entries, no_entry, entry, count, count_entries, spelled, spelled_all, spelled_entries, Fits, FitsAll, FitsEntries, Value, Values, Couples, integer, bytes, text, array, dict, tagged, simple, no_values, value, no_pairs, pair, value_count, pair_count, listed, Entry, IsInteger, Det, DetValues, DetPairs, DetSeq, joined, escaped, mark_for, indicator, opened, joined_by, shown, item_texts, pair_texts, shown_lines, IsPlainText, IsFixedText}
-use Rattle.cborn_model.proofs.Bytes.{bytes-left, bytes-right}
-use Rattle.cborn_model.proofs.SameItems.Rearranging.{carried}
-use Rattle.cborn_model.proofs.Listed.Values.{length-listed}
+use Rattle.std.specs.Prelude.{◌≡◌, ◌∷◌, ◌++◌}
+use Rattle.cborn_engine.proofs.Common.{refl, sym, ap, ◌∙◌, subst, ℕ, suc, inl, inr, Bool, true, false, eqb, List, [], length, codes, decimal, Ordering, append-nil, eq-eqb, cond-true, AllZip, flat_map, length_permutation, Array, Map, Fixed, AreBytes, big_endian, following, WidthFits, Given, head, least, head_bytes, Tree, Uint, Nint, Bytes, Text, Items, Pairs, Tagged, Simple, Trees, no_item, more, trees, Entries, no_entry, entry, count, count_entries, spelled, spelled_all, spelled_entries, Fits, FitsAll, FitsEntries, Value, Values, Couples, integer, bytes, text, array, dict, tagged, simple, no_values, value, no_pairs, pair, value_count, pair_count, listed, Entry, IsInteger, Det, DetValues, DetPairs, DetSeq, joined, escaped, mark_for, indicator, opened, joined_by, shown, item_texts, pair_texts, shown_lines, IsPlainText, IsFixedText, bytes-left, bytes-right, carried, length-listed, same_text}
 use Rattle.cborn_wire.proofs.Spelled.AllBytes.{spelled_all_bytes}
 use Rattle.cborn_lex.specs.declared.classes.Mark.TheVariants.{Absent, Wide}
 use Rattle.cborn_edn.specs.Plain.{plain, plain_items, plain_pairs, plain_lines}
-use Rattle.cborn_edn.proofs.Shown.SameText.{same_text}
 use Rattle.cborn_edn.proofs.Shown.PlainText.{same_plain}
 use Rattle.cborn_engine.proofs.Held.SameNodes.{same_nodes}
 

@@ -1,11 +1,6 @@
 -- What is known of two deterministic encodings that are walked together.
-use Rattle.cborn_engine.proofs.Common.{◌≡◌, ◌≤◌, ◌+◌, ℕ, zero, suc, List, [], ◌∷◌, ◌++◌, length, drop, take, Option, None, Some, Ordering, sym, ◌∙◌, ap, subst, arith, length-append, AllZip, AllByRecursion, append_cancel_right, take-append-drop, Means, IsKeyOrder, spelled, spelled_all, Fits, Wellformed, depth, Tree, trees, IsProper, Value, Same, Det, DetSeq, Difference, AreCompared, IsEncoded, Holds}
-use Rattle.cborn_wire.proofs.Spelled.OneReading.{one_front}
-use Rattle.cborn_judge.proofs.Encoded.Tidying.{det_tidy}
-use Rattle.cborn_model.proofs.Lengths.{some_bytes}
-use Rattle.cborn_model.proofs.SameItems.Sameness.{same_chained}
-use Rattle.cborn_det.proofs.Canon.{same_of_one, one_of_same, seq_of_one}
-use Rattle.cborn_engine.specs.declared.kinds.Kind.TheVariants as kind
+use Rattle.std.specs.Prelude.{◌≡◌, ◌≤◌, ◌+◌, ◌∷◌, ◌++◌}
+use Rattle.cborn_engine.proofs.Common.{ℕ, zero, suc, List, [], length, drop, take, Option, None, Some, Ordering, sym, ◌∙◌, ap, subst, arith, length-append, AllZip, AllByRecursion, append_cancel_right, take-append-drop, Means, IsKeyOrder, spelled, spelled_all, Fits, Wellformed, depth, Tree, trees, IsProper, Value, Same, Det, DetSeq, Difference, AreCompared, IsEncoded, Holds, one_front, det_tidy, some_bytes, same_chained, same_of_one, one_of_same, seq_of_one, Kind}
 use Rattle.cborn_engine.proofs.Canonical.Proper.{sequence_proper}
 use Rattle.cborn_engine.proofs.CountAnswers.Second.{Ends}
 use Rattle.cborn_engine.proofs.Held.Meant.{all_turned}
@@ -27,7 +22,7 @@ none_of_both left right end at never t l r e f fits deep =
 module _ (order : List ℕ → List ℕ → Ordering) (limit : ℕ) where
   -- the bytes are the encodings of items
   abbrev Encoded : List ℕ → Type 0
-  Encoded x = IsEncoded order kind.Wire limit x x
+  Encoded x = IsEncoded order Kind.Wire limit x x
 
   proper : (x : List ℕ) (h : Encoded x) → AllByRecursion IsProper h.items
   proper x h = sequence_proper order h.held.nodes h.items x h.held.spelled.fit h.held.meant h.encoded
@@ -38,7 +33,7 @@ module _ (order : List ℕ → List ℕ → Ordering) (limit : ℕ) where
     proper : IsProper item
     det : Det order item (spelled t)
     others : Encoded rest
-    more : (vs : List Value) → Holds kind.Wire limit rest vs → Holds kind.Wire limit x (item ∷ vs)
+    more : (vs : List Value) → Holds Kind.Wire limit rest vs → Holds Kind.Wire limit x (item ∷ vs)
 
   split : (t : Tree) (x rest : List ℕ) → Fits t → x ≡ spelled t ++ rest → Encoded x → Split t x rest
   split t x rest f e h = go h.held.nodes h.items h.held.spelled h.held.meant h.encoded (proper x h)
@@ -58,7 +53,7 @@ module _ (order : List ℕ → List ℕ → Ordering) (limit : ℕ) where
           }
 
   abbrev Compared : List ℕ → List ℕ → Option ℕ → Type 0
-  Compared = AreCompared kind.Wire kind.Wire limit
+  Compared = AreCompared Kind.Wire Kind.Wire limit
 
   compared : {x y : List ℕ} {answer : Option ℕ} (h : Encoded x) (k : Encoded y) → Difference h.items k.items answer → Compared x y answer
   compared h k d = record { ours = h.items; theirs = k.items; held = h.held; held2 = k.held; difference = d }

@@ -1,14 +1,8 @@
 -- Where the second item of an input starts: where the first ends.
-use Rattle.cborn_engine.proofs.Common.{◌≡◌, ◌≢◌, refl, sym, ap, ◌∙◌, subst, ℕ, ◌+◌, ◌≤◌, List, [], ◌∷◌, ◌++◌, length, drop, arith, length-append, map, slice_get, is_some, Tree, Uint, Nint, Bytes, Text, ByteChunks, TextChunks, Items, Pairs, Tagged, Simple, Trees, no_item, more, trees, place, depth, Placed, spelled, spelled_all, Fits, Wellformed, all_from, Profile, kind_of, IsNotation, Spells, SpellsInPlace, SpellsOne, SecondStarts}
-use Rattle.std.proofs.lemmas.List.{length-drop}
-use Rattle.std.specs.Prelude.{Some, None, true, false}
+use Rattle.std.specs.Prelude.{◌≡◌, ◌≢◌, ◌+◌, ◌≤◌, ◌∷◌, ◌++◌}
+use Rattle.cborn_engine.proofs.Common.{refl, sym, ap, ◌∙◌, subst, ℕ, List, [], length, drop, arith, length-append, map, slice_get, is_some, Tree, ByteChunks, TextChunks, Items, Pairs, Tagged, Trees, no_item, more, trees, place, depth, Placed, spelled, spelled_all, Fits, Wellformed, all_from, Profile, kind_of, IsNotation, Spells, SpellsInPlace, SpellsOne, SecondStarts, listed_reading, tree_list, some_bytes, one_front, Kind, length-drop, Some, None, true, false}
+use Rattle.cborn_engine.proofs.Answers.{spells}
 use Rattle.cborn_wire.specs.Reading.{IsFirstItem}
-use Rattle.cborn_wire.proofs.Spelled.OneReading.{listed_reading}
-use Rattle.cborn_wire.proofs.Spelled.TreeLists.{tree_list}
-use Rattle.cborn_model.proofs.Lengths.{some_bytes}
-use Rattle.cborn_wire.proofs.Spelled.OneReading.{one_front}
-use Rattle.cborn_lex.specs.declared.classes.Profile.TheVariants as profile
-use Rattle.cborn_engine.specs.declared.kinds.Kind.TheVariants as kind
 
 -- ---- bytes
 
@@ -57,26 +51,22 @@ follows limit x ns end w l e at = let b = begins limit x ns end w l e in go b.fi
     go t (u ∷ us) are long rest = record { first = t; second = u; others = us; are = are; long = long }
 
 placed_there : (t : Tree) (p : ℕ) → Placed p t → place t ≡ p
-placed_there (Uint q w n) p h = h
-placed_there (Nint q w n) p h = h
-placed_there (Bytes q w b) p h = h
-placed_there (Text q w b) p h = h
 placed_there (ByteChunks q cs) p h = h.0
 placed_there (TextChunks q cs) p h = h.0
 placed_there (Items q s ts) p h = h.0
 placed_there (Pairs q s es) p h = h.0
 placed_there (Tagged q w n t) p h = h.0
-placed_there (Simple q n) p h = h
+placed_there _ p h = h
 
 -- nodes in their places
-pub in_places : (limit : ℕ) (ns : List Tree) (x : List ℕ) → Wellformed limit (trees ns) x → (ms : List Tree) × SpellsInPlace kind.Wire limit x ms
+pub in_places : (limit : ℕ) (ns : List Tree) (x : List ℕ) → Wellformed limit (trees ns) x → (ms : List Tree) × SpellsInPlace Kind.Wire limit x ms
 in_places limit ns x w = (tree_list (all_from 0 (trees ns)), listed_reading limit 0 (trees ns) x w)
 
-pub second_in_bytes : (limit : ℕ) (x : List ℕ) (ns : List Tree) (end : ℕ) → Wellformed limit (trees ns) x → end ≤ length x → Ends x end → end ≢ length x → SecondStarts kind.Wire limit x end
+pub second_in_bytes : (limit : ℕ) (x : List ℕ) (ns : List Tree) (end : ℕ) → Wellformed limit (trees ns) x → end ≤ length x → Ends x end → end ≢ length x → SecondStarts Kind.Wire limit x end
 second_in_bytes limit x ns end w l e at =
     let m = in_places limit ns x w in
     let f = follows limit x m.0 end m.1.0 l e at in
-    let spelled : SpellsInPlace kind.Wire limit x (f.first ∷ f.second ∷ f.others) = subst (SpellsInPlace kind.Wire limit x) f.are m.1 in
+    let spelled : SpellsInPlace Kind.Wire limit x (f.first ∷ f.second ∷ f.others) = subst (SpellsInPlace Kind.Wire limit x) f.are m.1 in
     record { first = f.first; second = f.second; rest = f.others; spelled = spelled; here = omega (arith, placed_there f.second _ spelled.1.1.0, f.long) }
 
 -- Well-formed bytes that don't begin with an item hold none.
@@ -84,35 +74,29 @@ pub none_first : (limit : ℕ) (x : List ℕ) (ts : Trees) → limit ≤ 1024 �
 none_first limit x no_item low w none = refl
 none_first limit x (more t ts) low w none = absurd (none t (spelled_all ts) (sym w.spells) w.fit.0 (omega (arith, w.shallow, low)))
 
-pub none_in_bytes : (limit : ℕ) (x : List ℕ) (ns : List Tree) → Wellformed limit (trees ns) x → trees ns ≡ no_item → Spells kind.Wire limit x [] × (length x ≡ 0)
+pub none_in_bytes : (limit : ℕ) (x : List ℕ) (ns : List Tree) → Wellformed limit (trees ns) x → trees ns ≡ no_item → Spells Kind.Wire limit x [] × (length x ≡ 0)
 none_in_bytes limit x ns w e =
     let none : Wellformed limit no_item x = subst (λ (ts : Trees). Wellformed limit ts x) e w in
     (none, sym (ap length none.spells))
 
-pub one_in_bytes : (limit : ℕ) (x : List ℕ) (ns : List Tree) (end : ℕ) → Wellformed limit (trees ns) x → end ≤ length x → Ends x end → end ≡ length x → SpellsOne kind.Wire limit x
-one_in_bytes limit x ns end w l e at = let a = alone limit x ns end w l e at in (a.0, subst (Spells kind.Wire limit x) a.1 w)
+pub one_in_bytes : (limit : ℕ) (x : List ℕ) (ns : List Tree) (end : ℕ) → Wellformed limit (trees ns) x → end ≤ length x → Ends x end → end ≡ length x → SpellsOne Kind.Wire limit x
+one_in_bytes limit x ns end w l e at = let a = alone limit x ns end w l e at in (a.0, subst (Spells Kind.Wire limit x) a.1 w)
 
 -- ---- a text
 
-pub notated : (p : Profile) (limit : ℕ) (x : List ℕ) (ns : List Tree) → IsNotation p limit x ns → Spells (kind_of p) limit x ns
-notated profile.One limit x ns h = h
-notated profile.Two limit x ns h = h
-
 notated_there : (p : Profile) (limit : ℕ) (x : List ℕ) (ns : List Tree) → IsNotation p limit x ns → SpellsInPlace (kind_of p) limit x ns
-notated_there profile.One limit x ns h = h
-notated_there profile.Two limit x ns h = h
+notated_there Profile.One limit x ns h = h
+notated_there Profile.Two limit x ns h = h
 
 module _ (p : Profile) (limit : ℕ) (text : List ℕ) where
   pub none_in_text : (ns : List Tree) → IsNotation p limit text ns → is_some (slice_get (map place ns) 0) ≡ false → Spells (kind_of p) limit text []
-  none_in_text [] h e = notated p limit text [] h
+  none_in_text [] h e = spells p limit text [] h
   none_in_text (n ∷ ns) h e = cc
 
   pub one_in_text : (ns : List Tree) → IsNotation p limit text ns → is_some (slice_get (map place ns) 0) ≡ true → slice_get (map place ns) 1 ≡ None → SpellsOne (kind_of p) limit text
-  one_in_text [] h e f = cc
-  one_in_text (n ∷ []) h e f = (n, notated p limit text (n ∷ []) h)
-  one_in_text (n ∷ m ∷ ns) h e f = cc
+  one_in_text (n ∷ []) h e f = (n, spells p limit text (n ∷ []) h)
+  one_in_text _ h e f = cc
 
   pub second_in_text : (ns : List Tree) (q : ℕ) → IsNotation p limit text ns → slice_get (map place ns) 1 ≡ Some q → SecondStarts (kind_of p) limit text q
-  second_in_text [] q h e = cc
-  second_in_text (n ∷ []) q h e = cc
   second_in_text (n ∷ m ∷ ns) q h e = record { first = n; second = m; rest = ns; spelled = notated_there p limit text (n ∷ m ∷ ns) h; here = let is : Some (place m) ≡ Some q = e in cc }
+  second_in_text _ q h e = cc

@@ -1,14 +1,7 @@
 -- An input holds one list of items, and these are valid and no deeper than the limit.
-use Rattle.cborn_engine.proofs.Common.{◌≡◌, ◌≤◌, ◌<◌, ◌^◌, ℕ, List, [], ◌∷◌, length, sym, ap, ◌∙◌, subst, arith, AllZip, AllByRecursion, Tree, trees, depth_all, spelled_all, spelled, FitsAll, Value, values_of, Same, IsProper, Means, Profile, unplaced_all, Kind, Spells, SpellsInPlace, Holds, IsNotation}
+use Rattle.std.specs.Prelude.{◌≡◌, ◌≤◌, ◌<◌, ◌^◌, ◌∷◌}
+use Rattle.cborn_engine.proofs.Common.{ℕ, List, [], length, sym, ap, ◌∙◌, subst, arith, AllZip, AllByRecursion, Tree, trees, depth_all, spelled_all, spelled, FitsAll, Value, values_of, Same, IsProper, Means, Profile, unplaced_all, Kind, Spells, SpellsInPlace, Holds, IsNotation, turned_zip, same_itself, same_turned, one_notation, same_meaning, all_mean, zip_mean, means_once, meaning_valid, meaning_shallow, left, right}
 use Rattle.cborn_model.proofs.Listed.Trees.{trees-injective}
-use Rattle.cborn_model.proofs.SameItems.Rearranging.{turned_zip}
-use Rattle.cborn_model.proofs.SameItems.Sameness.{same_itself, same_turned}
-use Rattle.cborn_lex.specs.declared.classes.Profile.TheVariants as profile
-use Rattle.cborn_edn.proofs.Short.Facts.{one_notation}
-use Rattle.cborn_edn.proofs.RoundTrip.Unplaced.{same_meaning}
-use Rattle.cborn_model.proofs.Listed.Meanings.{all_mean, zip_mean}
-use Rattle.cborn_judge.proofs.Meaning.Meanings.{means_once, meaning_valid, meaning_shallow, left, right}
-use Rattle.cborn_engine.specs.declared.kinds.Kind.TheVariants as kind
 use Rattle.cborn_engine.proofs.Held.ReadsBack.{AreShallow}
 use Rattle.cborn_engine.proofs.Held.SameNodes.{same_nodes}
 
@@ -26,15 +19,14 @@ all_mean_once (n ∷ ns) (v ∷ vs) (w ∷ ws) h g = λ i. means_once n v w h.0 
 
 -- what is spelled in place is spelled
 pub in_place : (k : Kind) (limit : ℕ) (input : List ℕ) (ns : List Tree) → SpellsInPlace k limit input ns → Spells k limit input ns
-in_place kind.Wire limit input ns h = h.0
-in_place kind.Notation limit input ns h = h
-in_place kind.Notation2 limit input ns h = h
+in_place Kind.Wire limit input ns h = h.0
+in_place _ limit input ns h = h
 
 -- an input spells one list of nodes, but for their places
 pub unplaced_once : (k : Kind) (limit : ℕ) (input : List ℕ) (ns ms : List Tree) → Spells k limit input ns → Spells k limit input ms → unplaced_all (trees ns) ≡ unplaced_all (trees ms)
-unplaced_once kind.Wire limit input ns ms h g = same_nodes (trees ns) (trees ms) h.fit g.fit (h.spells ∙ sym g.spells)
-unplaced_once kind.Notation limit input ns ms h g = ap (λ (us : List Tree). unplaced_all (trees us)) (notates_once profile.One limit input ns ms h g)
-unplaced_once kind.Notation2 limit input ns ms h g = ap (λ (us : List Tree). unplaced_all (trees us)) (notates_once profile.Two limit input ns ms h g)
+unplaced_once Kind.Wire limit input ns ms h g = same_nodes (trees ns) (trees ms) h.fit g.fit (h.spells ∙ sym g.spells)
+unplaced_once Kind.Notation limit input ns ms h g = ap (λ (us : List Tree). unplaced_all (trees us)) (notates_once Profile.One limit input ns ms h g)
+unplaced_once Kind.Notation2 limit input ns ms h g = ap (λ (us : List Tree). unplaced_all (trees us)) (notates_once Profile.Two limit input ns ms h g)
 
 -- nodes that an input spells mean the same items, whatever places they say
 pub means_too : (k : Kind) (limit : ℕ) (input : List ℕ) (ns ms : List Tree) (vs : List Value) → Spells k limit input ns → Spells k limit input ms → AllZip Means ns vs → AllZip Means ms vs
@@ -60,7 +52,7 @@ nodes_sound limit (n ∷ ns) (v ∷ vs) f d l h =
     }
 nodes_sound limit _ _ f d l h = absurd h
 
-pub held_is_sound : (limit : ℕ) (input : List ℕ) (vs : List Value) → length input < 2 ^ 64 → Holds kind.Wire limit input vs → AreSound limit vs
+pub held_is_sound : (limit : ℕ) (input : List ℕ) (vs : List Value) → length input < 2 ^ 64 → Holds Kind.Wire limit input vs → AreSound limit vs
 held_is_sound limit input vs l h =
     nodes_sound limit h.nodes vs h.spelled.fit h.spelled.shallow (subst (λ (x : List ℕ). length x < 2 ^ 64) (sym h.spelled.spells) l) h.meant
 

@@ -1,9 +1,8 @@
 -- What a text notates: it fits, is no deeper than the limit, and the text isn't refused.
-use Rattle.cborn_engine.proofs.Common.{◌≤◌, ℕ, List, length, arith, Tree, trees, depth_all, FitsAll, Profile, EdnReason, HasSyntaxError, HasMeaningError, IsNotation, most_bytes}
+use Rattle.std.specs.Prelude.{◌≤◌}
+use Rattle.cborn_engine.proofs.Common.{ℕ, List, length, arith, Tree, trees, depth_all, FitsAll, Profile, EdnReason, HasSyntaxError, HasMeaningError, IsNotation, most_bytes, utf8_bytes, notated_fits, no_stop as never_stops, no_syntax_error as never_syntax_error, no_error as never_errors}
 use Rattle.cborn_lex.specs.declared.faults.LexReason.{LexReason}
 use Rattle.cborn_lex.specs.Bad.{FailsAt}
-use Rattle.cborn_lex.proofs.WholeTexts.Weights.{utf8_bytes}
-use Rattle.cborn_edn.proofs.Short.Facts.{notated_fits, no_stop as never_stops, no_syntax_error as never_syntax_error, no_error as never_errors}
 
 module _ (p : Profile) (limit : ℕ) (text : List ℕ) (ns : List Tree) (h : IsNotation p limit text ns) where
   pub fits : length text ≤ most_bytes → FitsAll (trees ns) × (depth_all (trees ns) ≤ limit)

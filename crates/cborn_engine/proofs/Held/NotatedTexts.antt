@@ -1,9 +1,9 @@
 -- The text strings of what is notated are UTF-8, so its bytes have a notation.
-use Rattle.cborn_engine.proofs.Common.{◌≡◌, ◌≤◌, ℕ, List, [], ◌∷◌, ◌++◌, Bool, true, false, ◌&&◌, length, refl, arith, if◌then◌else◌, IsUtf8, is_utf8, Width, Chunk, Tree, Trees, Entries, trees, Profile, EdnReason, IsItem, IsPiece, ArePieces, AreChunks, AreItems, IsContent, ArePairs, IsFields, IsText, number, word, tag, chunked, text_piece, byte_piece, embedded, piece, also, first, next, last, before, empty, tight, loose, last_pair, pair_before, no_fields, tight_fields, loose_fields, nothing, items, IsSpelling, IsUnshown, IsWellformed, most_bytes}
-use Rattle.cborn_engine.proofs.Answers.Listed.{nodes_of, notated_of, spells_of}
+use Rattle.std.specs.Prelude.{◌≡◌, ◌≤◌, ◌∷◌, ◌++◌, ◌&&◌, if◌then◌else◌}
+use Rattle.cborn_engine.proofs.Common.{ℕ, List, [], Bool, true, false, length, refl, arith, IsUtf8, is_utf8, Width, Chunk, Tree, Trees, Entries, trees, Profile, EdnReason, IsItem, IsPiece, ArePieces, AreChunks, AreItems, IsContent, ArePairs, IsFields, IsText, number, word, tag, chunked, text_piece, byte_piece, embedded, piece, also, first, next, last, before, empty, tight, loose, last_pair, pair_before, no_fields, tight_fields, loose_fields, nothing, items, IsSpelling, IsUnshown, IsWellformed, most_bytes, utf8_bytes, notated_fits}
+use Rattle.cborn_engine.proofs.Answers.{nodes_of, notated_of, spells_of}
 use Rattle.cborn_lex.specs.declared.classes.Mark.{Mark}
 use Rattle.cborn_lex.specs.declared.classes.Token.{Token}
-use Rattle.cborn_lex.proofs.WholeTexts.Weights.{utf8_bytes}
 use Rattle.cborn_model.specs.declared.visitors.StringKind.{StringKind}
 use Rattle.cborn_model.specs.declared.visitors.StringKind.TheVariants.{OfBytes, OfText}
 use Rattle.cborn_edn.specs.declared.faults.EdnReason.TheVariants.{MixedChunks, TextNotUtf8}
@@ -11,7 +11,6 @@ use Rattle.cborn_edn.specs.Says.{unless, mark_errors, string_errors, is_good, sa
 use Rattle.cborn_edn.specs.Grammar.{simple, array, map, string}
 use Rattle.cborn_edn.specs.shared.Texts.{AreTexts, IsShowable, EachShowable, ArePairsShowable}
 use Rattle.cborn_edn.proofs.Shown.Lowests.{are_showable}
-use Rattle.cborn_edn.proofs.Short.Facts.{notated_fits}
 use Rattle.cborn_engine.proofs.Held.BadTexts.{good_shows}
 
 -- of two lists that are empty together, each is

@@ -1,12 +1,7 @@
 -- What is written deterministically reads back as the same items, no deeper than they are.
-use Rattle.cborn_engine.proofs.Common.{◌≡◌, ◌≤◌, ◌<◌, ℕ, suc, ◌+◌, ◌^◌, inl, inr, Bool, true, false, ltb, List, [], ◌∷◌, ◌++◌, length, refl, sym, ap, ◌∙◌, subst, arith, Ordering, append-nil, AllZip, AllByRecursion, le-ltb, IsTrue, length_permutation, Fixed, big_endian, Array, Map, Tag, WidthFits, Given, head, least, IsLeastHead, is_simple_value, Tree, Uint, Nint, Bytes, Text, Items, Pairs, Tagged, Simple, Trees, no_item, more, trees, Entries, no_entry, entry, count, count_entries, depth, depth_all, depth_entries, spelled, spelled_all, spelled_entries, Fits, FitsAll, FitsEntries, Placed, PlacedAll, PlacedEntries, Value, Values, Couples, integer, bytes, text, array, dict, tagged, simple, no_values, value, no_pairs, pair, value_count, pair_count, listed, Same, SameValues, SamePairs, IsProper, AreProper, HasProperPairs, HasNewKeys, IsNew, value_depth, values_depth, pairs_depth, Means, AllMean, EntriesMean, IsKeyOrder, Rising, Entry, IsInteger, Det, DetValues, DetPairs, DetSeq, joined, keys}
+use Rattle.std.specs.Prelude.{◌≡◌, ◌≤◌, ◌<◌, ◌+◌, ◌^◌, ◌∷◌, ◌++◌}
+use Rattle.cborn_engine.proofs.Common.{ℕ, suc, inl, inr, Bool, true, false, ltb, List, [], length, refl, sym, ap, ◌∙◌, subst, arith, Ordering, append-nil, AllZip, AllByRecursion, le-ltb, IsTrue, length_permutation, Fixed, big_endian, Array, Map, Tag, WidthFits, Given, head, least, IsLeastHead, is_simple_value, Tree, Uint, Nint, Bytes, Text, Items, Pairs, Tagged, Simple, Trees, no_item, more, trees, Entries, no_entry, entry, count, count_entries, depth, depth_all, depth_entries, spelled, spelled_all, spelled_entries, Fits, FitsAll, FitsEntries, Placed, PlacedAll, PlacedEntries, Value, Values, Couples, integer, bytes, text, array, dict, tagged, simple, no_values, value, no_pairs, pair, value_count, pair_count, listed, Same, SameValues, SamePairs, IsProper, AreProper, HasProperPairs, HasNewKeys, IsNew, value_depth, values_depth, pairs_depth, Means, AllMean, EntriesMean, IsKeyOrder, Rising, Entry, IsInteger, Det, DetValues, DetPairs, DetSeq, joined, keys, carried, same_turned, same_chained, length-listed, one_of_same, rises_after, rising_tail, utf8_bytes}
 use Rattle.std.specs.declared.cmp.Ordering.TheVariants.{Less}
-use Rattle.cborn_model.proofs.SameItems.Rearranging.{carried}
-use Rattle.cborn_model.proofs.SameItems.Sameness.{same_turned, same_chained}
-use Rattle.cborn_model.proofs.Listed.Values.{length-listed}
-use Rattle.cborn_det.proofs.Canon.{one_of_same}
-use Rattle.cborn_det.proofs.Rising.{rises_after, rising_tail}
-use Rattle.cborn_lex.proofs.WholeTexts.Weights.{utf8_bytes}
 
 -- the bytes spell a node at p that means the same as the item, valid, and is no deeper
 pub record ReadsBack (p : ℕ) (v : Value) (x : List ℕ) : Type 0 where

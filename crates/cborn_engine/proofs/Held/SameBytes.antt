@@ -1,5 +1,6 @@
 -- What is shown of an input spells the bytes that the input spells.
-use Rattle.cborn_engine.proofs.Common.{◌≤◌, ℕ, List, length, refl, Option, Result, Ok, Err, OnOk, Consumes, Appends, trees, Wellformed, spelled_all, CountFault, Count, Kind, IsShown, SpellSameBytes, ShowsCount, most_bytes}
+use Rattle.std.specs.Prelude.{◌≤◌}
+use Rattle.cborn_engine.proofs.Common.{ℕ, List, length, refl, Option, Result, Ok, Err, OnOk, Consumes, Appends, trees, Wellformed, spelled_all, CountFault, Count, Kind, IsShown, SpellSameBytes, ShowsCount, most_bytes}
 use Rattle.cborn_engine.proofs.Canonical.Canonicity.{spelled_fits}
 use Rattle.cborn_engine.proofs.Held.ShownBack.{shown_as_bytes}
 

@@ -1,6 +1,6 @@
 -- Nodes that spell the same bytes are the same but for their places.
-use Rattle.cborn_engine.proofs.Common.{◌≡◌, refl, sym, ap, ◌∙◌, ℕ, suc, ◌+◌, List, [], ◌∷◌, length, Chunk, Major, ByteString, TextString, Array, Map, Tag, Given, head, argument, Tree, Uint, Nint, Bytes, Text, ByteChunks, TextChunks, Items, Pairs, Tagged, Simple, Trees, no_item, more, Entries, no_entry, entry, count, count_entries, chunk_bytes, spelled, spelled_all, FitsAll, chunks_from, placed_from, all_from, entries_from, unplaced_chunks, unplaced, unplaced_all, unplaced_entries}
-use Rattle.cborn_wire.proofs.Spelled.OneReading.{one_spelling}
+use Rattle.std.specs.Prelude.{◌≡◌, ◌+◌, ◌∷◌}
+use Rattle.cborn_engine.proofs.Common.{refl, sym, ap, ◌∙◌, ℕ, suc, List, [], length, Chunk, Major, ByteString, TextString, Array, Map, Tag, Given, head, argument, Tree, ByteChunks, TextChunks, Items, Pairs, Tagged, Trees, no_item, more, Entries, no_entry, entry, count, count_entries, chunk_bytes, spelled, spelled_all, FitsAll, chunks_from, placed_from, all_from, entries_from, unplaced_chunks, unplaced, unplaced_all, unplaced_entries, one_spelling}
 
 -- Nodes that are placed anew are what they were, places aside.
 
@@ -10,16 +10,12 @@ moved_chunks m p (c ∷ cs) = ap (λ (ds : List Chunk). record c { place = 0 } �
 
 mutual
   moved : (t : Tree) (p : ℕ) → unplaced (placed_from p t) ≡ unplaced t
-  moved (Uint q w n) p = refl
-  moved (Nint q w n) p = refl
-  moved (Bytes q w b) p = refl
-  moved (Text q w b) p = refl
   moved (ByteChunks q cs) p = ap (ByteChunks 0) (moved_chunks ByteString (suc p) cs)
   moved (TextChunks q cs) p = ap (TextChunks 0) (moved_chunks TextString (suc p) cs)
   moved (Items q s ts) p = ap (Items 0 s) (moved_all ts (p + length (head Array (argument s (count ts)))))
   moved (Pairs q s es) p = ap (Pairs 0 s) (moved_entries es (p + length (head Map (argument s (count_entries es)))))
   moved (Tagged q w n t) p = ap (Tagged 0 w n) (moved t (p + length (head Tag (Given w n))))
-  moved (Simple q n) p = refl
+  moved _ p = refl
 
   moved_all : (ts : Trees) (p : ℕ) → unplaced_all (all_from p ts) ≡ unplaced_all ts
   moved_all no_item p = refl

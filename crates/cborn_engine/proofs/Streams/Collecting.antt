@@ -1,6 +1,6 @@
 -- A loop that collects pieces, each after those before it.
-use Rattle.cborn_engine.proofs.Common.{◌≡◌, ◌≤◌, ◌+◌, ◌-◌, ℕ, List, ◌++◌, length, take, drop, Option, Ok, Err, ap, ◌∙◌, arith, append_assoc, length-append, Consumes, Consumes-trans, Consumes-kept, length-take-le, take-add, InputFault, PieceAnswers, CollectsOn}
-use Rattle.cborn_engine.specs.declared.stream_faults.InputFault.TheVariants as fault
+use Rattle.std.specs.Prelude.{◌≡◌, ◌≤◌, ◌+◌, ◌-◌, ◌++◌}
+use Rattle.cborn_engine.proofs.Common.{ℕ, List, length, take, drop, Option, Ok, Err, ap, ◌∙◌, arith, append_assoc, length-append, Consumes, Consumes-trans, Consumes-kept, length-take-le, take-add, InputFault, PieceAnswers, CollectsOn}
 
 module _ (front : List ℕ) where
   -- the first bytes of a buffer are the front and what was read
@@ -17,10 +17,10 @@ module _ (front : List ℕ) where
 
   -- no further piece came
   pub stopped : (most filled : ℕ) (a b c : Option (List ℕ)) (x buf : List ℕ) (why : InputFault) → Filled most filled a b x → PieceAnswers b c (most - filled) buf (Err why) → CollectsOn front most a c (Err why)
-  stopped most filled a b c x buf fault.TooLong h p =
+  stopped most filled a b c x buf InputFault.TooLong h p =
       let n : length (front ++ (h.read ++ p.0)) ≡ most + 1 = omega (arith, ap length (append_assoc front h.read p.0), length-append (front ++ h.read) p.0, ap length h.is, length-take-le filled x h.within, h.allowed, p.2) in
       record { input = h.read ++ p.0; taken = Consumes-trans a b c h.read p.0 h.taken p.1; answer = n }
-  stopped most filled a b c x buf fault.ReadFault h p =
+  stopped most filled a b c x buf InputFault.ReadFault h p =
       let l : length (front ++ h.read) ≤ most = omega (arith, ap length h.is, length-take-le filled x h.within, h.allowed) in
       record { input = h.read; taken = Consumes-kept a b c h.read h.taken p; answer = l }
   stopped most filled a b c x buf _ h p = absurd p

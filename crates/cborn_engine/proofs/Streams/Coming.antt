@@ -1,6 +1,7 @@
 -- What is known in a loop that reads an input by pieces, and keeps none of them.
-use Rattle.cborn_engine.proofs.Common.{◌≡◌, ◌≤◌, ◌+◌, ℕ, List, [], ◌++◌, length, take, Option, None, Some, Ok, Err, append-nil, refl, subst, arith, length-append, Consumes, Consumes-trans, Consumes-kept, length-take-le, InputFault, PieceAnswers, Collects}
-use Rattle.cborn_engine.specs.declared.stream_faults.InputFault.TheVariants as input
+use Rattle.std.specs.Prelude.{◌≡◌, ◌≤◌, ◌+◌, ◌++◌}
+use Rattle.cborn_engine.proofs.Common.{ℕ, List, [], length, take, Option, Ok, Err, append-nil, subst, arith, length-append, Consumes, Consumes-trans, Consumes-kept, length-take-le, InputFault, PieceAnswers, Collects}
+use Rattle.cborn_engine.proofs.Answers.{nothing_read}
 
 -- Of at most `most` bytes so many more may come, and this is known of what came.
 pub record SoFar (most left : ℕ) (before after : Option (List ℕ)) (Known : List ℕ → Type 0) : Type 0 where
@@ -9,21 +10,17 @@ pub record SoFar (most left : ℕ) (before after : Option (List ℕ)) (Known : L
   pub count : length input + left ≡ most
   pub known : Known input
 
-none_taken : (a : Option (List ℕ)) → Consumes a a []
-none_taken None = tt
-none_taken (Some x) = refl
-
 pub at_first : (most : ℕ) (a : Option (List ℕ)) (Known : List ℕ → Type 0) → Known [] → SoFar most most a a Known
-at_first most a Known h = record { input = []; taken = none_taken a; count = omega arith; known = h }
+at_first most a Known h = record { input = []; taken = nothing_read a; count = omega arith; known = h }
 
 module _ (most left : ℕ) (a b c : Option (List ℕ)) (Known : List ℕ → Type 0) (s : SoFar most left a b Known) (buf : List ℕ) where
   -- no further piece came
   pub halted : (why : InputFault) → PieceAnswers b c left buf (Err why) → Collects most a c (Err why)
-  halted input.TooLong p =
+  halted InputFault.TooLong p =
       let n : length (s.input ++ p.0) ≡ most + 1 = omega (arith, length-append s.input p.0, p.2, s.count) in
       record { input = s.input ++ p.0; taken = Consumes-trans a b c s.input p.0 s.taken p.1; answer = n }
-  halted input.ReadFault p = let n : length s.input ≤ most = omega (arith, s.count) in record { input = s.input; taken = Consumes-kept a b c s.input s.taken p; answer = n }
-  halted input.OutOfMemory p = absurd p
+  halted InputFault.ReadFault p = let n : length s.input ≤ most = omega (arith, s.count) in record { input = s.input; taken = Consumes-kept a b c s.input s.taken p; answer = n }
+  halted InputFault.OutOfMemory p = absurd p
 
   -- a piece came
   module _ (n : ℕ) (p : PieceAnswers b c left buf (Ok n)) where

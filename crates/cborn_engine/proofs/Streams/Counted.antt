@@ -1,8 +1,7 @@
 -- What follows from an answer for a count of failures.
-use Rattle.cborn_engine.proofs.Common.{◌≡◌, ℕ, Result, Ok, Err, refl, EngineFault, read_failures, CountsFault}
-use Rattle.cborn_engine.specs.declared.faults.EngineFault.TheVariants as fault
+use Rattle.std.specs.Prelude.{◌≡◌}
+use Rattle.cborn_engine.proofs.Common.{ℕ, Result, Err, refl, EngineFault, read_failures, CountsFault}
 
-pub read_counted : {A : Type 0} (r : Result A EngineFault) (n m : ℕ) → m ≡ read_failures r n → CountsFault fault.ReadFault r n m
-read_counted (Ok a) n m e = (λ p. absurd cc, λ p. e)
-read_counted (Err fault.ReadFault) n m e = (λ p. e, λ p. absurd (p refl))
-read_counted (Err _) n m e = (λ p. absurd cc, λ p. e)
+pub read_counted : {A : Type 0} (r : Result A EngineFault) (n m : ℕ) → m ≡ read_failures r n → CountsFault EngineFault.ReadFault r n m
+read_counted (Err EngineFault.ReadFault) n m e = (λ p. e, λ p. absurd (p refl))
+read_counted _ n m e = (λ p. absurd cc, λ p. e)

@@ -1,22 +1,8 @@
 -- What a judge of pieces knows of the bytes that came.
-use Rattle.std.proofs.lemmas.List.{nil_from_length}
-use Rattle.cborn_engine.proofs.Common.{◌≡◌, ℕ, ◌≤◌, List, [], ◌++◌, length, take, true, Option, None, Some, Result, Ok, Err, refl, sym, subst, arith, inl, inr, is_some, Ordering, Tree, trees, Wellformed, PlacedAll, Fault, Refused, WireReason, Consumes, Consumes-trans, PieceAnswers, Collects, InputFault, EngineFault, of_input, most_bytes, AreJudged, IsRefusedHeld}
-use Rattle.cborn_model.specs.Partial.{top, no_part}
-use Rattle.cborn_judge.specs.devices.Encoders.{IsHeld}
-use Rattle.cborn_wire.specs.shared.Visiting.{MayEnd}
-use Rattle.cborn_wire.specs.declared.faults.WireReason.TheVariants.{Truncated}
-use Rattle.cborn_wire.proofs.Spelled.FaultLaws.{refused_stays}
-use Rattle.cborn_wire.proofs.Visiting.Ending.{whole, cut}
-use Rattle.cborn_engine.specs.declared.counts.Count.TheVariants as counts
-use Rattle.cborn_engine.specs.declared.faults.EngineFault.TheVariants as fault
-use Rattle.cborn_engine.specs.declared.judged_inputs.Input.{Input}
-use Rattle.cborn_engine.specs.declared.judged_inputs.Input.TheVariants.{Whole, Judged}
-use Rattle.cborn_engine.specs.declared.kinds.Kind.TheVariants as kinds
+use Rattle.std.specs.Prelude.{◌≡◌, ◌≤◌, ◌++◌}
+use Rattle.cborn_engine.proofs.Common.{ℕ, List, [], length, take, true, Option, None, Some, Result, Ok, Err, refl, sym, subst, arith, inl, inr, is_some, Ordering, Tree, trees, Wellformed, PlacedAll, Fault, Refused, WireReason, Consumes, Consumes-trans, PieceAnswers, Collects, InputFault, EngineFault, of_input, most_bytes, AreJudged, IsRefusedHeld, nil_from_length, top, no_part, IsHeld, MayEnd, Truncated, refused_stays, whole, cut, Count, Input, Whole, Judged, Kind, EncodedItems, read_failures_at, HasJudged, IsJudging, InputAnswers, ReadsInput, ReadsWhole}
 use Rattle.cborn_engine.specs.declared.piece_judges.PieceJudge.{PieceJudge}
-use Rattle.cborn_judge.specs.declared.encoders.EncodedItems.{EncodedItems}
-use Rattle.cborn_engine.specs.devices.Counting.{read_failures_at}
-use Rattle.cborn_engine.specs.devices.Judging.{HasJudged, IsJudging, InputAnswers, ReadsInput, ReadsWhole}
-use Rattle.cborn_engine.proofs.Answers.Whole.{read_refused, unread}
+use Rattle.cborn_engine.proofs.Answers.{read_refused, unread}
 use Rattle.cborn_engine.proofs.Streams.Coming.{SoFar, read_now, taken_all}
 
 module _ {O : Type 0} (order : List ℕ → List ℕ → Ordering) (j : PieceJudge O) (x : List ℕ) where
@@ -44,17 +30,17 @@ module _ {O : Type 0} (order : List ℕ → List ℕ → Ordering) (j : PieceJud
           subst (λ k. Fault limit x k Truncated) (sym read.1) (subst (λ k. Fault k x (length x) Truncated) h.0 here)
 
 -- no content of bytes is a failure of their reader
-pub quiet : (limit : ℕ) (x : List ℕ) (why : EngineFault) (n : ℕ) → IsRefusedHeld kinds.Wire limit x why → read_failures_at why n ≡ n
-quiet limit x fault.ReadFault n h = absurd (h (length x) (omega arith))
+pub quiet : (limit : ℕ) (x : List ℕ) (why : EngineFault) (n : ℕ) → IsRefusedHeld Kind.Wire limit x why → read_failures_at why n ≡ n
+quiet limit x EngineFault.ReadFault n h = absurd (h (length x) (omega arith))
 quiet limit x _ n h = refl
 
 -- memory was refused after this was read
-pub refused_memory : (order : List ℕ → List ℕ → Ordering) (limit : ℕ) (a b : Option (List ℕ)) (x : List ℕ) → Consumes a b x → length x ≤ most_bytes → ReadsInput order counts.Any kinds.Wire limit a b (Err fault.OutOfMemory)
+pub refused_memory : (order : List ℕ → List ℕ → Ordering) (limit : ℕ) (a b : Option (List ℕ)) (x : List ℕ) → Consumes a b x → length x ≤ most_bytes → ReadsInput order Count.Any Kind.Wire limit a b (Err EngineFault.OutOfMemory)
 refused_memory order limit a b x t l = record { input = x; taken = t; answer = l; to_end = inr (inr (inr refl)) }
 
 -- so is a failed read, or a byte too many
-pub unread_input : (order : List ℕ → List ℕ → Ordering) (limit : ℕ) (a b : Option (List ℕ)) (why : InputFault) → Collects most_bytes a b (Err why) → ReadsInput order counts.Any kinds.Wire limit a b (Err (of_input why))
-unread_input order limit a b why = unread (λ why. why) (InputAnswers order counts.Any kinds.Wire limit) most_bytes a b kinds.Wire limit why (λ x r. r.0)
+pub unread_input : (order : List ℕ → List ℕ → Ordering) (limit : ℕ) (a b : Option (List ℕ)) (why : InputFault) → Collects most_bytes a b (Err why) → ReadsInput order Count.Any Kind.Wire limit a b (Err (of_input why))
+unread_input order limit a b why = unread (λ why. why) (InputAnswers order Count.Any Kind.Wire limit) most_bytes a b Kind.Wire limit why (λ x r. r.0)
 
 -- The judge took all bytes that were read so far.
 module _ {O : Type 0} (order : List ℕ → List ℕ → Ordering) (limit left : ℕ) (a b c : Option (List ℕ)) (j : PieceJudge O) (s : SoFar most_bytes left a b (λ x. IsJudging (IsHeld order) j x limit)) (buf : List ℕ) (n : ℕ) (p : PieceAnswers b c left buf (Ok n)) where
@@ -63,13 +49,13 @@ module _ {O : Type 0} (order : List ℕ → List ℕ → Ordering) (limit left :
     taken : Consumes a c s.input
     taken = taken_all most_bytes left a b c (λ x. IsJudging (IsHeld order) j x limit) s buf n p none
 
-    pub judged : (e : EncodedItems) → AreJudged order limit s.input e.bytes.items e.defect → ReadsInput order counts.Any kinds.Wire limit a c (Ok (Judged e))
+    pub judged : (e : EncodedItems) → AreJudged order limit s.input e.bytes.items e.defect → ReadsInput order Count.Any Kind.Wire limit a c (Ok (Judged e))
     judged e h = record { input = s.input; taken = taken; answer = (omega (arith, s.count), h); to_end = p.3 none }
 
-    pub refused_whole : (why : EngineFault) → IsRefusedHeld kinds.Wire limit s.input why → ReadsInput order counts.Any kinds.Wire limit a c (Err why)
+    pub refused_whole : (why : EngineFault) → IsRefusedHeld Kind.Wire limit s.input why → ReadsInput order Count.Any Kind.Wire limit a c (Err why)
     refused_whole why h =
         let l : length s.input ≤ most_bytes = omega (arith, s.count) in
-        record { input = s.input; taken = taken; answer = read_refused kinds.Wire limit most_bytes s.input why l (h most_bytes l); to_end = inl (p.3 none) }
+        record { input = s.input; taken = taken; answer = read_refused Kind.Wire limit most_bytes s.input why l (h most_bytes l); to_end = inl (p.3 none) }
 
   -- it was the first piece, and all that followed was collected, or not
   module _ (first : left ≡ most_bytes) (d : Option (List ℕ)) where
@@ -79,7 +65,7 @@ module _ {O : Type 0} (order : List ℕ → List ℕ → Ordering) (limit left :
     with_front : (y : List ℕ) → Consumes c d y → Consumes a d (take n buf ++ y)
     with_front y t = Consumes-trans a c d (take n buf) y (subst (λ x. Consumes a c (x ++ take n buf)) nothing (read_now most_bytes left a b c (λ x. IsJudging (IsHeld order) j x limit) s buf n p)) t
 
-    pub kept_whole : (r : Result Input EngineFault) → ReadsWhole (take n buf) c d r → ReadsInput order counts.Any kinds.Wire limit a d r
+    pub kept_whole : (r : Result Input EngineFault) → ReadsWhole (take n buf) c d r → ReadsInput order Count.Any Kind.Wire limit a d r
     kept_whole (Ok (Whole bytes)) w = record { input = take n buf ++ w.input; taken = with_front w.input w.taken; answer = (w.answer.0, w.answer.1); to_end = w.answer.2 }
     kept_whole (Ok (Judged e)) w = absurd w
-    kept_whole (Err why) (f, is, w) = subst (λ e. ReadsInput order counts.Any kinds.Wire limit a d (Err e)) (sym is) (unread_input order limit a d f (record { input = take n buf ++ w.input; taken = with_front w.input w.taken; answer = w.answer }))
+    kept_whole (Err why) (f, is, w) = subst (λ e. ReadsInput order Count.Any Kind.Wire limit a d (Err e)) (sym is) (unread_input order limit a d f (record { input = take n buf ++ w.input; taken = with_front w.input w.taken; answer = w.answer }))

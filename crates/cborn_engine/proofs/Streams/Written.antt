@@ -1,5 +1,6 @@
 -- What a loop over a writer knows.
-use Rattle.cborn_engine.proofs.Common.{◌≡◌, ◌≢◌, ℕ, zero, suc, ◌+◌, ◌-◌, ◌<◌, List, length, take, drop, Option, Ok, Err, refl, sym, ◌∙◌, ap, subst, length-drop, Appends, Appends-trans, take-append-drop, take_rest, take-add, drop-cons, Sends, failures_after_write, one_more}
+use Rattle.std.specs.Prelude.{◌≡◌, ◌≢◌, ◌+◌, ◌-◌, ◌<◌}
+use Rattle.cborn_engine.proofs.Common.{ℕ, zero, suc, List, length, take, drop, Option, Ok, Err, refl, sym, ◌∙◌, ap, subst, length-drop, Appends, Appends-trans, take-append-drop, take_rest, take-add, drop-cons, Sends, failures_after_write, one_more}
 use Rattle.cborn_engine.specs.declared.faults.EngineFault.TheVariants.{WriteFault}
 
 -- a write that takes some bytes is no failure

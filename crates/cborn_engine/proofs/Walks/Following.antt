@@ -1,5 +1,6 @@
 -- An item that is spelled as its deterministic encoding, and what follows its head.
-use Rattle.cborn_engine.proofs.Common.{◌≡◌, ◌≢◌, ℕ, ◌-◌, ◌≤◌, ◌⊎◌, inl, inr, Bool, true, false, List, ◌++◌, length, Option, refl, sym, ap, ◌∙◌, subst, arith, append_assoc, append-nil, Ordering, Major, Unsigned, Negative, ByteString, TextString, Array, Map, Tag, Other, Fixed, Width, Given, head, least, WidthFits, IsBignum, Means, IsKeyOrder, spelled, spelled_all, spelled_entries, Fits, Tree, Uint, Nint, Bytes, Text, ByteChunks, TextChunks, Items, Pairs, Tagged, Simple, count, count_entries, Value, integer, array, dict, tagged, simple, IsLoose, AreBytes, string, ending, LeastHeadRead, HasNoLeastHead, ContentRead, MagnitudeRead, Finds, LeafFollows, Follows, IsOwn, Walked}
+use Rattle.std.specs.Prelude.{◌≡◌, ◌≢◌, ◌-◌, ◌≤◌, ◌⊎◌, ◌++◌}
+use Rattle.cborn_engine.proofs.Common.{ℕ, inl, inr, Bool, true, false, List, length, Option, refl, sym, ap, ◌∙◌, subst, arith, append_assoc, append-nil, Ordering, Major, Unsigned, Negative, ByteString, TextString, Array, Map, Tag, Other, Fixed, Width, Given, head, least, WidthFits, IsBignum, Means, IsKeyOrder, spelled, spelled_all, spelled_entries, Fits, Tree, Uint, Nint, Bytes, Text, ByteChunks, TextChunks, Items, Pairs, Tagged, Simple, count, count_entries, Value, integer, array, dict, tagged, simple, IsLoose, AreBytes, string, ending, LeastHeadRead, HasNoLeastHead, ContentRead, MagnitudeRead, Finds, LeafFollows, Follows, IsOwn, Walked}
 use Rattle.cborn_model.proofs.Numbers.Simples.{simple_fits}
 use Rattle.cborn_model.specs.Meaning.{IsByteString}
 use Rattle.cborn_model.specs.declared.heads.Size.TheVariants.{Endless}

@@ -1,5 +1,6 @@
 -- Shortest heads at the front of bytes.
-use Rattle.cborn_engine.proofs.Common.{◌≡◌, ℕ, ◌+◌, ◌*◌, ◌≤◌, inl, inr, false, List, [], ◌++◌, length, drop, None, Some, refl, sym, ap, ◌∙◌, subst, arith, append_assoc, append-nil, length-append, drop_at, IsTrue, Width, Given, head, following, WidthFits, least, is_simple_value, Major, Other, LeastHeadRead, HasNoLeastHead, ArgumentFits, IsHeadOf, major_at, seen_argument}
+use Rattle.std.specs.Prelude.{◌≡◌, ◌+◌, ◌*◌, ◌≤◌, ◌++◌}
+use Rattle.cborn_engine.proofs.Common.{ℕ, inl, inr, false, List, [], length, drop, None, Some, refl, sym, ap, ◌∙◌, subst, arith, append_assoc, append-nil, length-append, drop_at, IsTrue, Width, Given, head, following, WidthFits, least, is_simple_value, Major, Other, LeastHeadRead, HasNoLeastHead, ArgumentFits, IsHeadOf, major_at, seen_argument}
 use Rattle.std.proofs.lemmas.Bool.{le-ltb, lt-ltb}
 use Rattle.cborn_model.specs.Heads.{Argument, EndlessArgument, code, information}
 use Rattle.cborn_model.specs.declared.heads.Width.TheVariants.{Direct}

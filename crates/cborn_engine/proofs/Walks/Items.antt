@@ -1,5 +1,6 @@
 -- Items that are spelled as their deterministic encodings, alone and one after another.
-use Rattle.cborn_engine.proofs.Common.{◌≡◌, ℕ, suc, ◌-◌, ◌<◌, ◌≤◌, ◌↔◌, Bool, true, false, List, [], ◌∷◌, ◌++◌, length, take, drop, Option, None, Some, refl, sym, ap, ◌∙◌, subst, arith, append_assoc, length-append, take-append-drop, Ordering, ByteString, TextString, Width, WidthFits, least, spelled, spelled_all, Fits, FitsAll, AllMean, Tree, Trees, Uint, Nint, Bytes, Text, no_item, more, integer_tree, depth_all, Values, integer, bytes, text, no_values, value, AllTidy, IsLast, ContentRead, Finds, IsOwn, AreOwn, Walked, ItemsWalked}
+use Rattle.std.specs.Prelude.{◌≡◌, ◌-◌, ◌<◌, ◌≤◌, ◌↔◌, ◌∷◌, ◌++◌}
+use Rattle.cborn_engine.proofs.Common.{ℕ, suc, Bool, true, false, List, [], length, take, drop, Option, None, Some, refl, sym, ap, ◌∙◌, subst, arith, append_assoc, length-append, take-append-drop, Ordering, ByteString, TextString, Width, WidthFits, least, spelled, spelled_all, Fits, FitsAll, AllMean, Tree, Trees, Uint, Nint, Bytes, Text, no_item, more, integer_tree, depth_all, Values, integer, bytes, text, no_values, value, AllTidy, IsLast, ContentRead, Finds, IsOwn, AreOwn, Walked, ItemsWalked}
 use Rattle.cborn_model.proofs.Numbers.OneHead.{append_same}
 use Rattle.cborn_model.proofs.Numbers.SomeMagnitude.{magnitude_of}
 use Rattle.cborn_model.specs.shared.Runs.{IsInteger, HasShortHead, IsShortLeaf}

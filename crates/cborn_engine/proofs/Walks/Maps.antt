@@ -1,5 +1,6 @@
 -- Pairs whose keys rise, one after another, each spelled as its deterministic encoding.
-use Rattle.cborn_engine.proofs.Common.{◌≡◌, ℕ, suc, ◌-◌, ◌<◌, ◌≤◌, ◌↔◌, List, [], ◌∷◌, ◌++◌, Option, None, Some, Bor, refl, sym, ap, ◌∙◌, subst, arith, append_assoc, append_cancel_right, Ordering, Less, Equal, AllByRecursion, EntriesMean, IsKeyOrder, Rising, spelled, spelled_entries, FitsEntries, Entries, no_entry, entry, depth_entries, Value, Couples, no_pairs, pair, IsProper, HasProperPairs, IsNew, HasNewKeys, Det, DetPairs, Entry, keys, EntriesTidy, spelled_pairs, RisingAfter, Walked, PairsOwn, PairsWalked}
+use Rattle.std.specs.Prelude.{◌≡◌, ◌-◌, ◌<◌, ◌≤◌, ◌↔◌, ◌∷◌, ◌++◌}
+use Rattle.cborn_engine.proofs.Common.{ℕ, suc, List, [], Option, None, Some, Bor, refl, sym, ap, ◌∙◌, subst, arith, append_assoc, append_cancel_right, Ordering, Less, Equal, AllByRecursion, EntriesMean, IsKeyOrder, Rising, spelled, spelled_entries, FitsEntries, Entries, no_entry, entry, depth_entries, Value, Couples, no_pairs, pair, IsProper, HasProperPairs, IsNew, HasNewKeys, Det, DetPairs, Entry, keys, EntriesTidy, spelled_pairs, RisingAfter, Walked, PairsOwn, PairsWalked}
 use Rattle.cborn_det.proofs.Canon.{one_of_same}
 use Rattle.cborn_det.proofs.Rising.{rises_after, rising_tail}
 use Rattle.cborn_judge.proofs.Encoded.Tidying.{entries_det, entries_proper}

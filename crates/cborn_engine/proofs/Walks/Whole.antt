@@ -1,5 +1,6 @@
 -- Bytes are their own deterministic encodings exactly if they are such items, one after another.
-use Rattle.cborn_engine.proofs.Common.{◌≡◌, ℕ, suc, ◌-◌, ◌<◌, ◌≤◌, ◌↔◌, List, [], ◌++◌, length, append-nil, refl, sym, ap, ◌∙◌, subst, arith, Ordering, AllMean, spelled_all, Trees, trees, count, depth_all, Values, AreProper, values_of, DetValues, IsEncoded, ItemsWalked, Walked}
+use Rattle.std.specs.Prelude.{◌≡◌, ◌-◌, ◌<◌, ◌≤◌, ◌↔◌, ◌++◌, if◌then◌else◌}
+use Rattle.cborn_engine.proofs.Common.{ℕ, suc, List, [], length, append-nil, refl, sym, ap, ◌∙◌, subst, arith, Ordering, AllMean, spelled_all, Trees, trees, count, depth_all, Values, AreProper, values_of, DetValues, IsEncoded, ItemsWalked, Walked, walked_depth, cases_lt, lt-ltb, le-ltb, inl, inr}
 use Rattle.cborn_model.proofs.Listed.Meanings.{all_mean}
 use Rattle.cborn_det.proofs.Room.{counted}
 use Rattle.cborn_det.proofs.Steps.{values_of_seq}
@@ -16,14 +17,14 @@ module _ (order : List ℕ → List ℕ → Ordering) (room : ℕ) where
   abbrev pub AllWalked : List ℕ → Type 0
   AllWalked x = (n : ℕ) × ItemsWalked order room n x []
 
-  pub all_encoded : (x : List ℕ) → AllWalked x → IsEncoded order kind.Wire room x x
-  all_encoded x (n, (ts, e, c, o)) =
+  pub all_encoded : (limit : ℕ) → room ≤ limit → (x : List ℕ) → AllWalked x → IsEncoded order kind.Wire limit x x
+  all_encoded limit within x (n, (ts, e, c, o)) =
       let a = all_own order room ts o in
       let spells : spelled_all ts ≡ x = sym (e ∙ append-nil (spelled_all ts)) in
       let b : BytesHold x a.values = record { nodes = ts; fit = a.fits; spelled = spells; meant = a.mean } in
       record {
         items = value_list a.values;
-        held = as_input room x a.values b (subst (λ us. depth_all us ≤ room) (sym (trees-tree_list ts)) a.shallow);
+        held = as_input limit x a.values b (subst (λ us. depth_all us ≤ limit) (sym (trees-tree_list ts)) (omega (arith, a.shallow, within)));
         encoded = det_listed order a.values x (subst (DetValues order a.values) spells (all_det order ts a.values a.fits a.mean a.tidy));
       }
 
@@ -47,3 +48,10 @@ module _ (order : List ℕ → List ℕ → Ordering) (room : ℕ) where
     (λ s. lead.0 (suc s.0, items_before order room s.0 (suc s.0) mid x [] refl w s.1)),
     (λ s. let f = first_walked mid more (lead.1 s) in subst AllWalked (one_walked order room f.1 w) f.2),
   )
+
+-- a walk goes no deeper than the limit
+pub within_limit : (limit : ℕ) → walked_depth limit ≤ limit
+within_limit limit = elim (cases_lt limit 256) [
+  | inl less ↦ subst (λ n. n ≤ limit) (sym (ap (λ b. if b then limit else 256) (lt-ltb limit 256 less))) (omega arith)
+  | inr more ↦ subst (λ n. n ≤ limit) (sym (ap (λ b. if b then limit else 256) (le-ltb limit 256 more))) more
+]

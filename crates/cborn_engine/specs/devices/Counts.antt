@@ -1,14 +1,6 @@
 -- Devices: encoding what an input holds, where it has to hold a given number of items, and the answer of a call as bytes. No public contract cites them.
-use Rattle.std.specs.Prelude.{ℕ, ◌≤◌, List, length, Option, None, Some, Result, Ok, Err, Vec}
-use Rattle.std.specs.Global.{Global}
-use Rattle.std.specs.Cow.{cow_slice_items}
-use Rattle.std.specs.declared.borrow.CowSlice.{CowSlice}
-use Rattle.std.specs.declared.cmp.Ordering.{Ordering}
-use Rattle.cborn_engine.specs.declared.count_faults.CountFault.{CountFault}
-use Rattle.cborn_engine.specs.declared.count_faults.CountFault.TheVariants as counted
-use Rattle.cborn_engine.specs.declared.counts.Count.{Count}
-use Rattle.cborn_engine.specs.declared.faults.EngineFault.{EngineFault}
-use Rattle.cborn_engine.specs.declared.kinds.Kind.{Kind}
+use Rattle.std.specs.Prelude.{◌≤◌}
+use Rattle.cborn_engine.specs.Common.{ℕ, List, length, Option, None, Some, Result, Ok, Err, Vec, Global, cow_slice_items, CowSlice, Ordering, CountFault, Count, EngineFault, Kind}
 use Rattle.cborn_engine.specs.Counts.{CountAnswer}
 use Rattle.cborn_engine.specs.devices.Encoding.{EncodeAnswers, IsEncoded}
 use Rattle.cborn_engine.specs.Reading.{most_bytes}
@@ -27,7 +19,7 @@ EncodedWhole order k limit input (Err why) = IsRefusedWhole k limit most_bytes i
 
 -- some input was taken from the reader, and these are its encodings
 abbrev pub ReadsCount : Count → (List ℕ → List ℕ → Ordering) → Kind → ℕ → Option (List ℕ) → Option (List ℕ) → Result (Vec ℕ Global) CountFault → Type 0
-ReadsCount count order k limit = Reads counted.Engine (λ input. CountAnswer count k limit input (EncodeAnswers order k limit most_bytes input))
+ReadsCount count order k limit = Reads CountFault.Engine (λ input. CountAnswer count k limit input (EncodeAnswers order k limit most_bytes input))
 
 -- an answer, as its bytes
 abbrev pub bytes_of : Result (CowSlice ℕ Global) CountFault → Result (List ℕ) CountFault

@@ -1,6 +1,5 @@
 -- A device of the proofs: a code for what contracts see of the items of bytes. No definition cites it.
-use Rattle.std.specs.Prelude.{ℕ, List, refl}
-use Rattle.std.specs.Coded.{Coded, code_by, coded×, coded_ℕ, coded_list}
+use Rattle.cborn_engine.specs.Common.{ℕ, List, refl, Coded, code_by, coded×, coded_ℕ, coded_list}
 use Rattle.cborn_engine.specs.Items.{Cutting}
 
 abbrev pub cutting_code : Coded Cutting

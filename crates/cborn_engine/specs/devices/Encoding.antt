@@ -1,30 +1,13 @@
 -- Devices: what reading an input, encoding what it holds and writing that out answers. No public contract cites them.
-use Rattle.std.specs.Prelude.{◌≡◌, ℕ, ◌≤◌, List, length, Option, Result, Ok, Err, Vec}
-use Rattle.std.specs.List.{AllZip}
-use Rattle.std.specs.Global.{Global}
-use Rattle.std.specs.declared.cmp.Ordering.{Ordering}
-use Rattle.cborn_model.specs.Meaning.{Means}
-use Rattle.cborn_model.specs.Placed.{PlacedAll}
-use Rattle.cborn_model.specs.Value.{Value}
-use Rattle.cborn_judge.specs.declared.defects.Defect.{Defect}
-use Rattle.cborn_det.specs.Det.{DetSeq}
-use Rattle.cborn_judge.specs.Defects.{SequenceDefect}
-use Rattle.cborn_judge.specs.Departures.{FindsDefect}
-use Rattle.cborn_engine.specs.declared.faults.EngineFault.{EngineFault}
-use Rattle.cborn_lex.specs.declared.classes.Profile.{Profile}
-use Rattle.cborn_lex.specs.declared.classes.Profile.TheVariants as profile
-use Rattle.cborn_engine.specs.declared.kinds.Kind.{Kind}
-use Rattle.cborn_engine.specs.declared.kinds.Kind.TheVariants as kind
-use Rattle.cborn_edn.specs.Shown.{Shown}
-use Rattle.cborn_model.specs.Tree.{Tree, trees}
-use Rattle.cborn_model.specs.Spelled.{FitsAll, spelled_all, Wellformed}
+use Rattle.std.specs.Prelude.{◌≡◌, ◌≤◌}
+use Rattle.cborn_engine.specs.Common.{ℕ, List, length, Option, Result, Ok, Err, Vec, AllZip, Global, Ordering, Means, PlacedAll, Value, Defect, DetSeq, SequenceDefect, FindsDefect, EngineFault, Profile, Kind, Shown, Tree, trees, FitsAll, spelled_all, Wellformed}
 use Rattle.cborn_engine.specs.Holding.{Holds}
 use Rattle.cborn_engine.specs.Refusing.{IsRefused}
 
 -- the kind of input that is notation of this profile
 abbrev pub kind_of : Profile → Kind
-kind_of profile.One = kind.Notation
-kind_of profile.Two = kind.Notation2
+kind_of Profile.One = Kind.Notation
+kind_of Profile.Two = Kind.Notation2
 
 -- the text is the fixed notation of nodes that spell these bytes
 pub record IsFixedText (bytes text : List ℕ) : Type 0 where
@@ -35,9 +18,8 @@ pub record IsFixedText (bytes text : List ℕ) : Type 0 where
 
 -- bytes as an output of a kind: themselves, or in the fixed notation
 abbrev pub IsWrittenAs : Kind → List ℕ → List ℕ → Type 0
-IsWrittenAs kind.Wire bytes output = output ≡ bytes
-IsWrittenAs kind.Notation bytes output = IsFixedText bytes output
-IsWrittenAs kind.Notation2 bytes output = IsFixedText bytes output
+IsWrittenAs Kind.Wire bytes output = output ≡ bytes
+IsWrittenAs _ bytes output = IsFixedText bytes output
 
 -- the bytes are the deterministic encodings of the items that the input holds
 pub record IsEncoded (order : List ℕ → List ℕ → Ordering) (k : Kind) (limit : ℕ) (input bytes : List ℕ) : Type 0 where

@@ -1,20 +1,6 @@
 -- Devices: bytes that are judged as they come in pieces. No public contract cites them.
-use Rattle.std.specs.Prelude.{◌≡◌, ℕ, ◌≤◌, List, length, Option, None, Some, Result, Ok, Err}
-use Rattle.std.specs.declared.cmp.Ordering.{Ordering}
-use Rattle.cborn_judge.specs.declared.encoders.Encoder.{Encoder}
-use Rattle.cborn_model.specs.Partial.{Partial, Part}
-use Rattle.cborn_wire.specs.Faults.{Refused}
-use Rattle.cborn_wire.specs.declared.faults.WireReason.{WireReason}
-use Rattle.cborn_wire.specs.shared.Visiting.{IsFed}
-use Rattle.cborn_engine.specs.declared.counts.Count.{Count}
-use Rattle.cborn_engine.specs.declared.counts.Count.TheVariants as counts
-use Rattle.cborn_engine.specs.declared.faults.EngineFault.{EngineFault}
-use Rattle.cborn_engine.specs.declared.judged_inputs.Input.{Input}
-use Rattle.cborn_engine.specs.declared.judged_inputs.Input.TheVariants as inputs
-use Rattle.cborn_engine.specs.declared.kinds.Kind.{Kind}
-use Rattle.cborn_engine.specs.declared.kinds.Kind.TheVariants as kinds
-use Rattle.cborn_engine.specs.declared.stream_faults.InputFault.{InputFault}
-use Rattle.cborn_engine.specs.declared.piece_judges.PieceJudge.{PieceJudge}
+use Rattle.std.specs.Prelude.{◌≡◌, ◌≤◌}
+use Rattle.cborn_engine.specs.Common.{ℕ, List, length, Option, None, Some, Result, Ok, Err, Ordering, Encoder, Partial, Part, Refused, WireReason, IsFed, Count, EngineFault, Input, Kind, InputFault, PieceJudge}
 use Rattle.cborn_engine.specs.devices.Encoding.{AreJudged}
 use Rattle.cborn_engine.specs.Collecting.{CollectsOn}
 use Rattle.cborn_engine.specs.Faults.{of_input}
@@ -33,9 +19,9 @@ module _ {O : Type 0} (holds : Encoder O → Partial → Part → Type 0) (j : P
 
 -- an input that was read, kept whole or judged as it was read
 abbrev pub InputAnswers : (List ℕ → List ℕ → Ordering) → Count → Kind → ℕ → List ℕ → Result Input EngineFault → Type 0
-InputAnswers order count k limit input (Ok (inputs.Whole bytes)) = (bytes.items ≡ input) × (length input ≤ most_bytes)
-InputAnswers order counts.Any kinds.Wire limit input (Ok (inputs.Judged e)) = (length input ≤ most_bytes) × AreJudged order limit input e.bytes.items e.defect
-InputAnswers order count k limit input (Ok (inputs.Judged e)) = ⊥
+InputAnswers order count k limit input (Ok (Input.Whole bytes)) = (bytes.items ≡ input) × (length input ≤ most_bytes)
+InputAnswers order Count.Any Kind.Wire limit input (Ok (Input.Judged e)) = (length input ≤ most_bytes) × AreJudged order limit input e.bytes.items e.defect
+InputAnswers order count k limit input (Ok (Input.Judged e)) = ⊥
 InputAnswers order count k limit input (Err why) = IsRefused k limit most_bytes input why
 
 -- some input was taken from the reader, and this is answered for it
@@ -44,6 +30,6 @@ ReadsInput order count k limit = Reads (λ why. why) (InputAnswers order count k
 
 -- after this front the rest of an input was read too, or not
 abbrev pub ReadsWhole : List ℕ → Option (List ℕ) → Option (List ℕ) → Result Input EngineFault → Type 0
-ReadsWhole front before after (Ok (inputs.Whole bytes)) = CollectsOn front most_bytes before after (Ok bytes)
-ReadsWhole front before after (Ok (inputs.Judged e)) = ⊥
+ReadsWhole front before after (Ok (Input.Whole bytes)) = CollectsOn front most_bytes before after (Ok bytes)
+ReadsWhole front before after (Ok (Input.Judged e)) = ⊥
 ReadsWhole front before after (Err why) = (f : InputFault) × (why ≡ of_input f) × CollectsOn front most_bytes before after (Err f)

@@ -1,16 +1,11 @@
 -- Devices: why an input that is held is refused. No public contract cites them.
-use Rattle.std.specs.Prelude.{◌≡◌, ◌≤◌, ℕ, List, length}
-use Rattle.cborn_wire.specs.declared.faults.WireFault.TheVariants as wire
-use Rattle.cborn_wire.specs.declared.faults.WireReason.{WireReason}
-use Rattle.cborn_wire.specs.Faults.{Fault}
-use Rattle.cborn_engine.specs.declared.faults.EngineFault.{EngineFault}
-use Rattle.cborn_engine.specs.declared.faults.EngineFault.TheVariants as fault
-use Rattle.cborn_engine.specs.declared.kinds.Kind.{Kind}
+use Rattle.std.specs.Prelude.{◌≡◌, ◌≤◌}
+use Rattle.cborn_engine.specs.Common.{ℕ, List, length, WireFault, WireReason, Fault, EngineFault, Kind}
 use Rattle.cborn_engine.specs.Whole.{IsRefusedWhole, IsUnshownWhole}
 
 -- the one fault of bytes that aren't well-formed
 abbrev pub IsWireFault : ℕ → List ℕ → EngineFault → Type 0
-IsWireFault limit input why = (p : ℕ) × (r : WireReason) × (why ≡ fault.Wire (wire.Refused p r)) × Fault limit input p r
+IsWireFault limit input why = (p : ℕ) × (r : WireReason) × (why ≡ EngineFault.Wire (WireFault.Refused p r)) × Fault limit input p r
 
 -- an input is refused for this, whatever length is allowed that it has
 abbrev pub IsRefusedHeld : Kind → ℕ → List ℕ → EngineFault → Type 0

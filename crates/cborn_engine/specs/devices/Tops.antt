@@ -1,9 +1,6 @@
 -- A device of the proofs: where the items of an input begin that are in no other. No definition cites it.
-use Rattle.std.specs.Prelude.{◌≡◌, ℕ, suc, List, [], ◌∷◌, ◌++◌, length, map, slice_get, ⊤}
-use Rattle.cborn_model.specs.Tree.{place}
-use Rattle.cborn_model.specs.Partial.{Partial, top, inside, Part, no_part, part}
-use Rattle.cborn_wire.specs.shared.Ground.{place_of}
-use Rattle.cborn_engine.specs.declared.first_two.FirstTwo.{FirstTwo}
+use Rattle.std.specs.Prelude.{◌≡◌, ◌∷◌, ◌++◌}
+use Rattle.cborn_engine.specs.Common.{ℕ, suc, List, [], length, map, slice_get, ⊤, place, Partial, top, inside, Part, no_part, part, place_of, FirstTwo}
 
 -- how many containers are open
 abbrev pub open_count : Partial → ℕ

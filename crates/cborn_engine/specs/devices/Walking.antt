@@ -1,5 +1,5 @@
 -- A device of the proofs: what a walk finds at the front of bytes: items that are spelled as their deterministic encodings. No public contract cites it.
-use Rattle.std.specs.Prelude.{◌≡◌, ◌≢◌, ℕ, ◌-◌, ◌≤◌, ◌⊎◌, List, ◌∷◌, ◌++◌, length, Option, None, Some, IsTrue, IsUtf8, ⊤}
+use Rattle.std.specs.Prelude.{◌≡◌, ◌≢◌, ℕ, ◌-◌, ◌≤◌, ◌⊎◌, List, ◌∷◌, ◌++◌, length, Option, None, Some, IsTrue, IsUtf8, nat_lt, if◌then◌else◌, ⊤}
 use Rattle.std.specs.declared.cmp.Ordering.{Ordering}
 use Rattle.std.proofs.Common.{Bor}
 use Rattle.cborn_model.specs.Bytes.{AreBytes}
@@ -18,6 +18,10 @@ use Rattle.cborn_judge.specs.shared.Tidy.{IsTidy, spelled_pairs}
 -- x is the end, so many bytes long, of the input
 abbrev pub IsLast : List ℕ → ℕ → List ℕ → Type 0
 IsLast input len x = (front : List ℕ) × (input ≡ front ++ x) × (length x ≡ len)
+
+-- how deep a walk under this nesting limit goes
+abbrev pub walked_depth : ℕ → ℕ
+walked_depth limit = if nat_lt limit 256 then limit else 256
 
 -- P holds of some rest, which has this many bytes; None: of no rest
 abbrev pub Finds : (List ℕ → Type 0) → Option ℕ → Type 0

@@ -1,48 +1,49 @@
 -- The path into the levels of a walk is that into what is open, and its fronts lead to where the levels begin.
-use Rattle.cborn_explain.proofs.Common.{◌≡◌, refl, sym, ap, ◌∙◌, subst, ℕ, zero, suc, ◌+◌, ◌-◌, ◌^◌, ◌<◌, ◌≤◌, List, [], ◌∷◌, ◌++◌, length, take, drop, get_or, cond, Option, Some, None, ◌⊎◌, inl, inr, arith, append_assoc, length-append, cases_lt, lt-ltb, le-ltb, length-take-le, take-append-drop, take-append-le, take_all, take_at, Tree, trees, spelled_all, Opening, an_array, a_map, a_tag, in_chunks, Partial, top, inside, paired, last_key, opened, opening, beginning, beginnings, Level, front, ready, open_in, at_most_highest, map_kind, kind_in, levels, step_in_map, step_in, steps, EndsAt, step_of, path_of, place_at, Opened}
+use Rattle.std.specs.Prelude.{◌≡◌, ◌+◌, ◌/◌, ◌%◌, ◌^◌, ◌<◌, ◌≤◌, ◌∷◌, ◌++◌, ◌⊎◌}
+use Rattle.cborn_explain.proofs.Common.{refl, sym, ap, ◌∙◌, subst, ℕ, zero, suc, List, [], length, take, drop, get_or, cond, ltb, eqb, Bool, true, false, Option, Some, None, inl, inr, arith, append_assoc, length-append, cases_lt, lt-ltb, le-ltb, length-take-le, take-append-drop, take-append-le, take_all, take_at, Tree, trees, spelled_all, Opening, an_array, a_map, a_tag, in_chunks, Partial, top, inside, paired, last_key, opened, opening, beginning, beginnings, Level, front, ready, open_in, lessened, level_in, levels, step_in_map, step_in, steps, EndsAt, step_of, path_of, place_at, Opened}
 use Rattle.cborn_model.proofs.Lengths.{no_more_nodes}
 use Rattle.cborn_model.proofs.Listed.Trees.{count-trees}
 use Rattle.cborn_wire.specs.shared.Ground.{place_of}
-use Rattle.cborn_wire.proofs.Machine.Containers.{pair_count}
+use Rattle.cborn_wire.proofs.Machine.Containers.{pair_count, even}
+use Rattle.cborn_wire.proofs.Visiting.Counting.{odd}
+use Rattle.cborn_wire.specs.declared.levels.LevelKind.TheVariants.{Map, GreatMap}
+use Rattle.cborn_wire.specs.shared.Visiting.{parts_in}
+use Rattle.cborn_explain.specs.devices.Walks.{pair_step, step_with}
 use Rattle.cborn_wire.proofs.Machine.SoundItems.{ground_less}
 use Rattle.cborn_explain.specs.declared.paths.Step.TheVariants.{Item, Element, Key, Value, Chunk as AChunk}
 
 -- A list of nodes isn't longer than the bytes that spell it, so its length is exact in bytes that are in memory.
 
-exact : (n m : ℕ) → n ≤ m → m < 2 ^ 64 → at_most_highest n ≡ n
-exact n m low short = go (cases_lt n (2 ^ 64 - 1))
+step_same : (o : Opening) (ts : List Tree) → length (beginning (opened o ts)) < 2 ^ 64 → step_of (level_in o ts) ≡ step_in (opened o ts)
+step_same o ts short = go o (omega (arith, no_more_nodes ts, short, length-append (opening o) (spelled_all (trees ts))))
   where
-    go : (n < 2 ^ 64 - 1) ⊎ (2 ^ 64 - 1 ≤ n) → at_most_highest n ≡ n
-    go (inl h) = ap (λ b. cond b n (2 ^ 64 - 1)) (lt-ltb n (2 ^ 64 - 1) h)
-    go (inr h) = ap (λ b. cond b n (2 ^ 64 - 1)) (le-ltb n (2 ^ 64 - 1) h) ∙ omega (arith, h, low, short)
+    in_map : (k : ℕ) (x : Option Tree) → last_key ts ≡ x → k ≡ length ts → pair_step k ≡ step_in_map (length (paired ts)) x
+    in_map k None e same = ap (λ b. cond b (Key (k / 2)) (Value (k / 2))) (ap (λ r. eqb r 0) {y = 0} (omega (arith, same, even ts e))) ∙ ap Key (omega (arith, same, pair_count ts))
+    in_map k (Some t) e same = ap (λ b. cond b (Key (k / 2)) (Value (k / 2))) (ap (λ r. eqb r 0) {y = 1} (omega (arith, same, odd ts t e))) ∙ ap Value (omega (arith, same, pair_count ts))
 
-step_same : (o : Opening) (ts : List Tree) → length (beginning (opened o ts)) < 2 ^ 64 → step_of (kind_in o ts) ≡ step_in (opened o ts)
-step_same o ts short = go o (omega (arith, short, length-append (opening o) (spelled_all (trees ts))))
-  where
-    all : (n : ℕ) → n ≤ length ts → length (spelled_all (trees ts)) < 2 ^ 64 → at_most_highest n ≡ n
-    all n low short = exact n _ (omega (arith, low, no_more_nodes ts)) short
-
-    in_map : (c : Option ℕ) (n k : ℕ) (x : Option Tree) → n ≡ k → step_of (map_kind c n x) ≡ step_in_map k x
-    in_map c n k None e = ap Key e
-    in_map c n k (Some t) e = ap Value e
-
-    go : (o : Opening) → length (spelled_all (trees ts)) < 2 ^ 64 → step_of (kind_in o ts) ≡ step_in (opened o ts)
-    go (an_array p s c) short = ap Element (all (length ts) (omega arith) short)
-    go (a_map p s c) short = in_map c _ _ (last_key ts) (all (length (paired ts)) (omega (arith, pair_count ts)) short)
+    go : (o : Opening) → length ts < 2 ^ 64 → step_of (level_in o ts) ≡ step_in (opened o ts)
+    go (an_array p s (Some n)) short = ap Element (omega (arith, short))
+    go (an_array p s None) short = ap Element (omega (arith, short))
+    go (a_map p s (Some n)) short = great (ltb (length ts + 2 ^ 64) (n + n))
+      where
+        great : (b : Bool) → step_with (cond b GreatMap Map) n (parts_in (cond b GreatMap Map) n (lessened (n + n) (length ts))) ≡ step_in_map (length (paired ts)) (last_key ts)
+        great true = in_map _ (last_key ts) refl (omega (arith, short))
+        great false = in_map _ (last_key ts) refl (omega (arith, short))
+    go (a_map p s None) short = in_map _ (last_key ts) refl (omega (arith, short))
     go (a_tag p w n) short = refl
-    go (in_chunks p k) short = ap AChunk (all (length ts) (omega arith) short)
+    go (in_chunks p k) short = ap AChunk (omega (arith, short))
 
-path_append : (ls : List Level) (l : Level) → path_of (ls ++ l ∷ []) ≡ path_of ls ++ step_of l.kind ∷ []
+path_append : (ls : List Level) (l : Level) → path_of (ls ++ l ∷ []) ≡ path_of ls ++ step_of l ∷ []
 path_append [] l = refl
-path_append (m ∷ ls) l = ap (λ p. step_of m.kind ∷ p) (path_append ls l)
+path_append (m ∷ ls) l = ap (λ p. step_of m ∷ p) (path_append ls l)
 
 pub path_is : (f : Partial) → length (front (ready f) (open_in f)) < 2 ^ 64 → path_of (levels f) ≡ steps (ready f) (open_in f)
-path_is (top ts) short = ap (λ n. Item n ∷ []) (exact (length ts) _ (omega (arith, no_more_nodes ts, length-append (spelled_all (trees ts)) [])) short ∙ sym (count-trees ts))
+path_is (top ts) short = ap (λ n. Item n ∷ []) (omega (arith, no_more_nodes ts, length-append (spelled_all (trees ts)) [], short) ∙ sym (count-trees ts))
 path_is (inside f o ts) short =
     let all = length-append (spelled_all (ready f)) (beginnings (open_in f) ++ beginning (opened o ts)) in
     let both = length-append (beginnings (open_in f)) (beginning (opened o ts)) in
     path_append (levels f) _
-    ∙ ap (λ p. p ++ step_of (kind_in o ts) ∷ []) (path_is f (omega (arith, short, all, both, length-append (spelled_all (ready f)) (beginnings (open_in f)))))
+    ∙ ap (λ p. p ++ step_of (level_in o ts) ∷ []) (path_is f (omega (arith, short, all, both, length-append (spelled_all (ready f)) (beginnings (open_in f)))))
     ∙ ap (λ s. steps (ready f) (open_in f) ++ s ∷ []) (step_same o ts (omega (arith, short, all, both)))
 
 -- where the levels begin
@@ -69,7 +70,7 @@ length_path (l ∷ ls) = omega (arith, length_path ls)
 
 pub some_path : (f : Partial) → 0 < length (path_of (levels f))
 some_path (top ts) = omega arith
-some_path (inside f o ts) = omega (arith, length_path (levels (inside f o ts)), length-append (levels f) (record { place = place_of o; kind = kind_in o ts } ∷ []))
+some_path (inside f o ts) = omega (arith, length_path (levels (inside f o ts)), length-append (levels f) (level_in o ts ∷ []))
 
 -- The bytes before the head of the innermost open container end with what is open around it.
 opened_back : (x : List ℕ) (at : ℕ) (f : Partial) (o : Opening) (ts : List Tree) → Opened x at (inside f o ts) → (place_of o ≤ at) × Opened x (place_of o) f
@@ -99,9 +100,9 @@ whole_ends x f at k short h beyond =
 
 further : (x : List ℕ) (f : Partial) (o : Opening) (ts : List Tree) (at k : ℕ) → k ≤ length (levels f) → place_of o ≤ at → Front x f (place_of o) k → Front x (inside f o ts) at k
 further x f o ts at k low below before =
-    let l : Level = record { place = place_of o; kind = kind_in o ts } in
+    let l : Level = level_in o ts in
     let there = place_append (levels f) l k at low in
-    let path : take k (path_of (levels f ++ l ∷ [])) ≡ take k (path_of (levels f)) = ap (take k) (path_append (levels f) l) ∙ take-append-le k (path_of (levels f)) (step_of l.kind ∷ []) (omega (arith, length_path (levels f), low)) in
+    let path : take k (path_of (levels f ++ l ∷ [])) ≡ take k (path_of (levels f)) = ap (take k) (path_append (levels f) l) ∙ take-append-le k (path_of (levels f)) (step_of l ∷ []) (omega (arith, length_path (levels f), low)) in
     (omega (arith, there, before.0, below), subst (λ n. EndsAt (take n x) (take k (path_of (levels f ++ l ∷ [])))) (sym there) (subst (EndsAt (take (place_at (levels f) k (place_of o)) x)) (sym path) before.1))
 
 pub front_ends : (x : List ℕ) (f : Partial) (at k : ℕ) → length x < 2 ^ 64 → Opened x at f → 0 < k → (place_at (levels f) k at ≤ at) × EndsAt (take (place_at (levels f) k at) x) (take k (path_of (levels f)))
@@ -110,6 +111,6 @@ front_ends x (inside f o ts) at k short h some =
     let back = opened_back x at f o ts h in
     let before = front_ends x f (place_of o) k short back.1 some in
     elim (cases_lt k (length (levels (inside f o ts)))) [
-      | inl less ↦ further x f o ts at k (omega (arith, less, length-append (levels f) (record { place = place_of o; kind = kind_in o ts } ∷ []))) back.0 before
+      | inl less ↦ further x f o ts at k (omega (arith, less, length-append (levels f) (level_in o ts ∷ []))) back.0 before
       | inr beyond ↦ whole_ends x (inside f o ts) at k short h beyond
     ]

@@ -1,5 +1,6 @@
 -- A walk is where the longest front that ends between two heads ends.
-use Rattle.cborn_explain.proofs.Common.{◌≡◌, refl, sym, ap, ◌∙◌, subst, ℕ, ◌^◌, ◌<◌, ◌≤◌, List, [], ◌∷◌, ◌++◌, length, take, drop, Option, Some, None, Result, Ok, Err, IfOk, alloc_error, ◌⊎◌, inl, inr, arith, append-nil, length-append, zero-add, length-take-le, take-append-drop, take-append-le, take_all, take_at, take-append_seam, Trees, depth_all, FitsAll, Partial, Part, no_part, part, WireReason, Level, OpenContainer, slot, open_depth, AreOpen, argument_of, content_of, Unfinished, nothing, gathering, Live, Failed, ready_in, start, front, partial_bytes, run, ready, open_in, unfinished, levels, seen_head, HereAt, IsFed, Reads, head_at, next_head, Step, EndsAt, LeadsTo, path_of, IsAmid, place_in, IsOver, IsWalked}
+use Rattle.std.specs.Prelude.{◌≡◌, ◌^◌, ◌<◌, ◌≤◌, ◌∷◌, ◌++◌, ◌⊎◌}
+use Rattle.cborn_explain.proofs.Common.{refl, sym, ap, ◌∙◌, subst, ℕ, List, [], length, take, drop, Option, Some, None, Result, Ok, Err, IfOk, alloc_error, inl, inr, arith, append-nil, length-append, zero-add, length-take-le, take-append-drop, take-append-le, take_all, take_at, take-append_seam, Trees, depth_all, FitsAll, Partial, Part, no_part, part, WireReason, Level, OpenContainer, slot, open_depth, AreOpen, argument_of, content_of, Unfinished, nothing, gathering, Live, Failed, ready_in, start, front, partial_bytes, run, ready, open_in, unfinished, levels, seen_head, HereAt, IsFed, Reads, head_at, next_head, Step, EndsAt, LeadsTo, path_of, IsAmid, place_in, IsOver, IsWalked}
 use Rattle.cborn_model.specs.Bytes.{AreBytes}
 use Rattle.cborn_model.proofs.Bytes.{bytes-left}
 use Rattle.cborn_wire.specs.declared.faults.VisitFault.{VisitFault}

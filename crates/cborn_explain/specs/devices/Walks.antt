@@ -1,28 +1,37 @@
 -- A device of the proofs: what a walk over the first bytes of an input keeps of what is open at their end. No public contract cites it; the contracts of the crate's own functions do.
-use Rattle.std.specs.Prelude.{◌≡◌, ℕ, zero, suc, ◌≤◌, List, [], ◌∷◌, ◌++◌, length, map, take, Option, Some, None}
+use Rattle.std.specs.Prelude.{◌≡◌, ℕ, zero, suc, ◌≤◌, ◌/◌, ◌%◌, nat_eq, if◌then◌else◌, List, [], ◌∷◌, ◌++◌, length, map, take, Option, Some, None}
 use Rattle.cborn_model.specs.Partial.{Partial, Part, no_part, part}
 use Rattle.cborn_wire.specs.declared.levels.LevelKind.{LevelKind}
-use Rattle.cborn_wire.specs.declared.levels.LevelKind.TheVariants.{Sequence, Array, Map, MapValue, Tag, Chunks}
+use Rattle.cborn_wire.specs.declared.levels.LevelKind.TheVariants.{Sequence, Array, Map, GreatMap, Tag, EndlessArray, EndlessMap, Chunks}
 use Rattle.cborn_wire.specs.declared.levels.Level.{Level}
 use Rattle.cborn_wire.specs.shared.Ground.{Ground}
 use Rattle.cborn_wire.specs.shared.Machine.{nothing, gathering, State, Live, Failed, start, front, run}
-use Rattle.cborn_wire.specs.shared.Visiting.{ready, open_in, levels}
+use Rattle.cborn_wire.specs.shared.Visiting.{ready, open_in, levels, parts_of}
 use Rattle.cborn_explain.specs.declared.paths.Step.{Step}
 use Rattle.cborn_explain.specs.declared.paths.Step.TheVariants as steps
 use Rattle.cborn_explain.specs.Paths.{EndsAt}
 
--- the step to the next part of a level
-abbrev pub step_of : LevelKind → Step
-step_of (Sequence n) = steps.Item n
-step_of (Array c n) = steps.Element n
-step_of (Map c n) = steps.Key n
-step_of (MapValue c n) = steps.Value n
-step_of (Tag t) = steps.Content t
-step_of (Chunks k n) = steps.Chunk n
+-- the step to the next part of a level, of which k are whole
+
+abbrev pub pair_step : ℕ → Step
+pair_step k = if nat_eq (k % 2) 0 then steps.Key (k / 2) else steps.Value (k / 2)
+
+abbrev pub step_with : LevelKind → ℕ → ℕ → Step
+step_with Sequence n k = steps.Item k
+step_with Array n k = steps.Element k
+step_with EndlessArray n k = steps.Element k
+step_with Map n k = pair_step k
+step_with GreatMap n k = pair_step k
+step_with EndlessMap n k = pair_step k
+step_with Tag n k = steps.Content n
+step_with (Chunks c) n k = steps.Chunk k
+
+abbrev pub step_of : Level → Step
+step_of l = step_with l.kind l.argument (parts_of l)
 
 -- the steps to the head that comes next
 abbrev pub path_of : List Level → List Step
-path_of ls = map (λ l. step_of l.kind) ls
+path_of ls = map step_of ls
 
 -- the offset of the head of the level with this index, or of the head that comes next
 abbrev pub place_at : List Level → ℕ → ℕ → ℕ

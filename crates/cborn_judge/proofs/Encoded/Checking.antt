@@ -1,9 +1,6 @@
 -- A node that means an item has no defect exactly if it spells the item's encoding.
-use Rattle.cborn_judge.proofs.Common.{◌≡◌, ◌≢◌, ℕ, ◌⊎◌, inl, inr, List, [], ◌∷◌, length, refl, sym, ap, ◌∙◌, subst, Ordering, Less, Equal, Greater, Within, WithinAll, WithinEntries, IsLong, SizeDefect, NotAbove, Descends, HasDescent, DefectAt, Defect, SequenceDefect, DefectReason, LongHead, EndlessLength, LooseBignum, KeyOrder, Value, Values, Couples, no_values, value, no_pairs, pair, IsProper, AreProper, Width, Direct, One, Two, Four, Eight, least, Det, DetValues, keys, IsKeyOrder, Rising, Size, Tree, Uint, Nint, Bytes, Text, ByteChunks, TextChunks, Items, Pairs, Tagged, Simple, Trees, no_item, more, Entries, no_entry, entry, count, count_entries, place, Fixed, Endless, spelled, spelled_all, Fits, FitsAll, FitsEntries, Means, AllMean, EntriesMean}
-use Rattle.cborn_judge.specs.shared.Tidy.{spelled_pairs, SizeIsTidy, IsTidy, AllTidy, EntriesTidy}
-use Rattle.cborn_det.proofs.Canon.{one_of_same}
-use Rattle.cborn_model.proofs.SameItems.Sameness.{same_itself}
-use Rattle.cborn_det.proofs.Room.{counted}
+use Rattle.std.specs.Prelude.{◌≡◌, ◌≢◌, ◌⊎◌, ◌∷◌}
+use Rattle.cborn_judge.proofs.Common.{ℕ, inl, inr, List, [], length, refl, sym, ap, ◌∙◌, subst, Ordering, Less, Within, WithinAll, WithinEntries, IsLong, SizeDefect, NotAbove, Descends, HasDescent, DefectAt, Defect, SequenceDefect, DefectReason, LongHead, EndlessLength, LooseBignum, KeyOrder, Value, Values, Couples, no_values, value, no_pairs, pair, IsProper, AreProper, Width, Direct, One, Two, Four, Eight, least, Det, DetValues, keys, IsKeyOrder, Rising, Size, Tree, Uint, Nint, Bytes, Text, ByteChunks, TextChunks, Items, Pairs, Tagged, Simple, Trees, no_item, more, Entries, no_entry, entry, count, count_entries, place, Fixed, Endless, spelled, spelled_all, Fits, FitsAll, FitsEntries, Means, AllMean, EntriesMean, spelled_pairs, SizeIsTidy, IsTidy, AllTidy, EntriesTidy, one_of_same, same_itself, counted}
 use Rattle.cborn_judge.proofs.Encoded.Tidying.{tidy_proper}
 use Rattle.cborn_judge.proofs.Meaning.Judging.{inner_means, within_itself}
 use Rattle.cborn_judge.proofs.Encoded.Tidying.{tidy_det, det_tidy, all_det, all_tidy}
@@ -18,8 +15,7 @@ same_or_not _ _ = inr (λ e. cc)
 
 less_or_not : (o : Ordering) → (o ≡ Less) ⊎ (o ≢ Less)
 less_or_not Less = inl refl
-less_or_not Equal = inr (λ e. cc)
-less_or_not Greater = inr (λ e. cc)
+less_or_not _ = inr (λ e. cc)
 
 not_long : (w : Width) (n : ℕ) → (IsLong w n → ⊥) → w ≡ least n
 not_long w n h = elim (same_or_not w (least n)) [ inl e ↦ e | inr e ↦ absurd (h e) ]
@@ -72,13 +68,7 @@ module _ (order : List ℕ → List ℕ → Ordering) (laws : IsKeyOrder order) 
     within_known q (Pairs p s es) k (inr i) = within_entries q es (in_pairs p s es k) i
     within_known q (Tagged p w n t) k (inl i) = subst Known (sym i) k
     within_known q (Tagged p w n t) k (inr i) = within_known q t (in_tag p w n t k) i
-    within_known q (Uint p w n) k i = subst Known (sym i) k
-    within_known q (Nint p w n) k i = subst Known (sym i) k
-    within_known q (Bytes p w b) k i = subst Known (sym i) k
-    within_known q (Text p w b) k i = subst Known (sym i) k
-    within_known q (ByteChunks p cs) k i = subst Known (sym i) k
-    within_known q (TextChunks p cs) k i = subst Known (sym i) k
-    within_known q (Simple p n) k i = subst Known (sym i) k
+    within_known q _ k i = subst Known (sym i) k
 
     within_all : (q : Tree) (ts : Trees) → KnownAll ts → WithinAll q ts → Known q
     within_all q no_item k i = absurd i
@@ -115,10 +105,6 @@ module _ (order : List ℕ → List ℕ → Ordering) (laws : IsKeyOrder order) 
   fixed_size Endless n r h d = h
 
   tidy_node : (t : Tree) (p : ℕ) (r : DefectReason) → Known t → DefectAt order t p r → ⊥
-  tidy_node (Uint q w n) p r k d = d.2 k.tidy
-  tidy_node (Nint q w n) p r k d = d.2 k.tidy
-  tidy_node (Bytes q w b) p r k d = d.2 k.tidy
-  tidy_node (Text q w b) p r k d = d.2 k.tidy
   tidy_node (ByteChunks q cs) p r k d = k.tidy
   tidy_node (TextChunks q cs) p r k d = k.tidy
   tidy_node (Items q s ts) p r k d = fixed_size s (count ts) r k.tidy.0 d.1
@@ -126,6 +112,7 @@ module _ (order : List ℕ → List ℕ → Ordering) (laws : IsKeyOrder order) 
   tidy_node (Pairs q s es) p r k (inr d) = no_descent es p (in_pairs q s es k) k.tidy.2 d.1
   tidy_node (Tagged q w n t) p r k d = elim d.1 [ inl l ↦ l.1 k.tidy.0 | inr l ↦ k.tidy.2 l.2 l.1 l.3 l.4 ]
   tidy_node (Simple q n) p r k d = d
+  tidy_node _ p r k d = d.2 k.tidy
 
   tidy_sound : (t : Tree) → Known t → (p : ℕ) (r : DefectReason) → Defect order t p r → ⊥
   tidy_sound t k p r (v, m, q, i, d) = tidy_node q p r (within_known q t k i) d

@@ -1,14 +1,9 @@
 -- A tidy node spells the encoding of what it means, and what spells an encoding is tidy.
-use Rattle.cborn_judge.proofs.Common.{◌≡◌, ◌≢◌, ℕ, suc, ◌+◌, ◌*◌, ◌<◌, ◌≤◌, ◌^◌, ◌⊎◌, inl, inr, List, [], ◌∷◌, ◌++◌, length, refl, sym, ap, ◌∙◌, subst, arith, true, false, Bool, append_assoc, append-nil, Ordering, AllByRecursion, cases_lt, length_permutation, IsPermutation-refl, IsLoose, Value, Values, Couples, integer, bytes, text, array, dict, tagged, simple, no_values, value, no_pairs, pair, value_count, pair_count, big_endian, AreBytes, IsShortest, IsProper, AreProper, HasProperPairs, Width, Major, Unsigned, Negative, ByteString, TextString, Array, Map, Tag, Other, WidthFits, information, following, least, IsHead, IsLeastHead, Given, EndlessArgument, code, head, IsString, IsInteger, Det, DetValues, DetPairs, Entry, keys, joined, major_of, bignum_tag, Rising, Chunk, Tree, Uint, Nint, Bytes, Text, ByteChunks, TextChunks, Items, Pairs, Tagged, Simple, Trees, no_item, more, Entries, no_entry, entry, count, count_entries, Size, Fixed, Endless, SizeFits, ending, chunks, spelled, spelled_all, spelled_entries, Fits, FitsAll, FitsEntries, IsNumber, IsByteString, IsBignum, Means, AllMean, EntriesMean}
-use Rattle.cborn_judge.specs.shared.Tidy.{spelled_pairs, SizeIsTidy, IsTidy, AllTidy, EntriesTidy}
+use Rattle.std.specs.Prelude.{◌≡◌, ◌≢◌, ◌+◌, ◌*◌, ◌<◌, ◌≤◌, ◌^◌, ◌⊎◌, ◌∷◌, ◌++◌}
+use Rattle.cborn_judge.proofs.Common.{ℕ, suc, inl, inr, List, [], length, refl, sym, ap, ◌∙◌, subst, arith, true, false, Bool, append_assoc, append-nil, Ordering, AllByRecursion, cases_lt, length_permutation, IsPermutation-refl, IsLoose, Value, Values, Couples, integer, bytes, text, array, dict, tagged, simple, no_values, value, no_pairs, pair, value_count, pair_count, big_endian, AreBytes, IsShortest, IsProper, AreProper, HasProperPairs, Width, Major, Unsigned, Negative, ByteString, TextString, Array, Map, Tag, Other, WidthFits, information, following, least, IsHead, IsLeastHead, Given, EndlessArgument, code, head, IsString, IsInteger, Det, DetValues, DetPairs, Entry, keys, joined, major_of, bignum_tag, Rising, Chunk, Tree, Uint, Nint, Bytes, Text, ByteChunks, TextChunks, Items, Pairs, Tagged, Simple, Trees, no_item, more, Entries, no_entry, entry, count, count_entries, Size, Fixed, Endless, SizeFits, ending, chunks, spelled, spelled_all, spelled_entries, Fits, FitsAll, FitsEntries, IsNumber, IsByteString, IsBignum, Means, AllMean, EntriesMean, spelled_pairs, SizeIsTidy, IsTidy, AllTidy, EntriesTidy, simple_fits, All_moved, string_one, one_magnitude, large, fits_in, below_power, no_more, counted, counted_pairs, holds_below}
 use Rattle.cborn_model.proofs.Numbers.OneHead.{one_head, append_same, low_bits_below}
-use Rattle.cborn_model.proofs.Numbers.Simples.{simple_fits}
-use Rattle.cborn_model.proofs.SameItems.Rearranging.{All_moved}
-use Rattle.cborn_det.proofs.Canon.{string_one}
 use Rattle.cborn_det.proofs.Reading.{small}
-use Rattle.cborn_model.proofs.Numbers.OneMagnitude.{one_magnitude, large, fits_in, below_power}
-use Rattle.cborn_judge.proofs.Meaning.Meanings.{holds_below, number_valid}
-use Rattle.cborn_det.proofs.Room.{no_more, counted, counted_pairs}
+use Rattle.cborn_judge.proofs.Meaning.Meanings.{number_valid}
 
 pub joined_spelled : (es : Entries) → spelled_entries es ≡ joined (spelled_pairs es)
 joined_spelled no_entry = refl
@@ -62,8 +57,6 @@ module _ (order : List ℕ → List ℕ → Ordering) where
     tidy_det (Nint p w n) v f h d = number_det true Negative w n v refl h f d
     tidy_det (Bytes p w b) v f h d = subst (λ z. Det order z (spelled (Bytes p w b))) (sym h) (string_det ByteString w b f.0 d)
     tidy_det (Text p w b) v f h d = subst (λ z. Det order z (spelled (Text p w b))) (sym h.1) (string_det TextString w b f.0 d)
-    tidy_det (ByteChunks p cs) v f h d = absurd d
-    tidy_det (TextChunks p cs) v f h d = absurd d
     tidy_det (Items p (Fixed w) ts) v f h d =
         let k = head Array (Given w (count ts)) in
         subst (λ z. Det order z (spelled (Items p (Fixed w) ts))) (sym h.2)
@@ -81,6 +74,7 @@ module _ (order : List ℕ → List ℕ → Ordering) where
         (head Tag (Given w n), spelled t, is_least_head Tag w n n f.0 d.0 refl, tidy_det t h.2 f.1 h.3 d.1, refl)
     tidy_det (Simple p n) v f h d =
         subst (λ z. Det order z (spelled (Simple p n))) (sym h) (f, (simple_fits n f, refl))
+    tidy_det _ v f h d = absurd d
 
     pub all_det : (ts : Trees) (vs : Values) → FitsAll ts → AllMean ts vs → AllTidy order ts → DetValues order vs (spelled_all ts)
     all_det no_item no_values f h d = refl
@@ -324,8 +318,6 @@ mutual
   tidy_proper order (Nint p w n) v f y h = number_valid true n v h (holds_below w n f)
   tidy_proper order (Bytes p w b) v f y h = subst IsProper (sym h) (f.1, holds_below w (length b) f.0)
   tidy_proper order (Text p w b) v f y h = subst IsProper (sym h.1) (h.0, holds_below w (length b) f.0)
-  tidy_proper order (ByteChunks p cs) v f y h = absurd y
-  tidy_proper order (TextChunks p cs) v f y h = absurd y
   tidy_proper order (Items p s ts) v f y h =
       subst IsProper (sym h.2) (all_proper order ts h.0 f.1 y.1 h.1, count_fits s (count ts) (value_count h.0) y.0 f.0 (counted ts h.0 h.1))
   tidy_proper order (Pairs p s es) v f y h =
@@ -334,6 +326,7 @@ mutual
   tidy_proper order (Tagged p w n t) v f y (inr (inl h)) = tidy_bignum order true t v f.1 y.1 h.1
   tidy_proper order (Tagged p w n t) v f y (inr (inr h)) = subst IsProper (sym h.4) (h.0, h.1, holds_below w n f.0, tidy_proper order t h.2 f.1 y.1 h.3)
   tidy_proper order (Simple p n) v f y h = subst IsProper (sym h) f
+  tidy_proper order _ v f y h = absurd y
 
   all_proper : (order : List ℕ → List ℕ → Ordering) (ts : Trees) (vs : Values) → FitsAll ts → AllTidy order ts → AllMean ts vs → AreProper vs
   all_proper order no_item no_values f y h = tt

@@ -1,14 +1,9 @@
 -- The flaws and the defects of one more whole node.
-use Rattle.cborn_judge.proofs.Common.{◌≡◌, ℕ, ◌⊎◌, inl, inr, List, [], ◌∷◌, ◌++◌, length, map, refl, sym, subst, Bool, true, false, Ordering, Option, None, ◌↔◌, AllZip, Chunk, Size, StringKind, OfBytes, OfText, InvalidReason, NotUtf8, DefectReason, LongHead, EndlessLength, Means, flaw_rank, defect_rank, Tree, ByteChunks, TextChunks, Items, Pairs, Tagged, trees, entries, Value, Partial, top, inside, Opening, an_array, a_map, a_tag, in_chunks, put, built, Ends, paired, chunks_of, chunks_tree, ended_size, Within, WithinAll, WithinEntries, FlawAt, Flaw, HasBadChunk, DefectAt, HasLongChunk, FindsDefect, DefectIn, DefectInAll, SizeAt, DescentAt, IsEarliestDefect, FindsFlaw, FlawIn, IsEarliestFlaw, IsSound, Amid, OwnFlaw, OwnDefect, Finds}
-use Rattle.cborn_judge.specs.declared.defects.Defect as defect
+use Rattle.std.specs.Prelude.{◌≡◌, ◌⊎◌, ◌∷◌, ◌++◌, ◌↔◌}
+use Rattle.cborn_judge.proofs.Common.{ℕ, inl, inr, List, [], length, map, refl, sym, subst, Bool, true, false, Ordering, Option, None, AllZip, Chunk, Size, StringKind, OfBytes, OfText, InvalidReason, NotUtf8, DefectReason, LongHead, EndlessLength, Means, flaw_rank, defect_rank, Tree, ByteChunks, TextChunks, Items, Pairs, Tagged, trees, entries, Value, Partial, top, inside, Opening, an_array, a_map, a_tag, in_chunks, put, built, Ends, paired, chunks_of, chunks_tree, ended_size, Within, WithinAll, WithinEntries, FlawAt, Flaw, HasBadChunk, DefectAt, HasLongChunk, FindsDefect, DefectIn, DefectInAll, SizeAt, DescentAt, IsEarliestDefect, FindsFlaw, FlawIn, IsEarliestFlaw, IsSound, Amid, OwnFlaw, OwnDefect, Finds, Either, found_both, found_alike, none_both, strings_are, count-trees, count_entries-entries, SomeDefect, SomeFlaw}
 use Rattle.cborn_model.specs.Partial.{last_key}
 use Rattle.cborn_model.specs.shared.Walks.{string_of}
-use Rattle.cborn_model.proofs.Found.{Either, found_both, found_alike, none_both}
-use Rattle.cborn_model.proofs.HandedOver.{strings_are}
-use Rattle.cborn_model.proofs.Listed.Trees.{count-trees, count_entries-entries}
-use Rattle.cborn_judge.specs.declared.flaws.Flaw as flaw
-use Rattle.cborn_judge.proofs.FirstFlaw.Walking.{after, before, last}
-use Rattle.cborn_judge.proofs.FirstFlaw.Steps.{flaw_items, flaw_pairs, flaw_tagged}
+use Rattle.cborn_judge.proofs.FirstFlaw.{after, before, last, flaw_items, flaw_pairs, flaw_tagged}
 use Rattle.cborn_judge.proofs.Meaning.Judging.{meaning}
 
 -- ---- what is wrong with nodes, whatever that is
@@ -216,19 +211,19 @@ module _ (order : List ℕ → List ℕ → Ordering) where
 
   -- ---- what is found
 
-  both_flaws : (F G H : ℕ → InvalidReason → Type 0) (a b o : Option flaw.Flaw) → ((p : ℕ) (r : InvalidReason) → Either F G p r ↔ H p r) → FindsFlaw F a → FindsFlaw G b → IsEarliestFlaw a b o → FindsFlaw H o
+  both_flaws : (F G H : ℕ → InvalidReason → Type 0) (a b o : Option SomeFlaw) → ((p : ℕ) (r : InvalidReason) → Either F G p r ↔ H p r) → FindsFlaw F a → FindsFlaw G b → IsEarliestFlaw a b o → FindsFlaw H o
   both_flaws F G H a b o w h k e = found_alike flaw_rank (λ f. f.place) (λ f. f.reason) (Either F G) H o w (found_both flaw_rank (λ f. f.place) (λ f. f.reason) F G a b o h k e)
 
-  both_defects : (F G H : ℕ → DefectReason → Type 0) (a b o : Option defect.Defect) → ((p : ℕ) (r : DefectReason) → Either F G p r ↔ H p r) → FindsDefect F a → FindsDefect G b → IsEarliestDefect a b o → FindsDefect H o
+  both_defects : (F G H : ℕ → DefectReason → Type 0) (a b o : Option SomeDefect) → ((p : ℕ) (r : DefectReason) → Either F G p r ↔ H p r) → FindsDefect F a → FindsDefect G b → IsEarliestDefect a b o → FindsDefect H o
   both_defects F G H a b o w h k e = found_alike defect_rank (λ d. d.place) (λ d. d.reason) (Either F G) H o w (found_both defect_rank (λ d. d.place) (λ d. d.reason) F G a b o h k e)
 
-  pub finds_open : (f : Partial) (o : Opening) (a : Option flaw.Flaw) (d : Option defect.Defect) → Finds order f a d → Finds order (inside f o []) a d
+  pub finds_open : (f : Partial) (o : Opening) (a : Option SomeFlaw) (d : Option SomeDefect) → Finds order f a d → Finds order (inside f o []) a d
   finds_open f o a d h = (
     found_alike flaw_rank (λ f. f.place) (λ f. f.reason) (Amid FlawAt f) (Amid FlawAt (inside f o [])) a (amid_open FlawAt f o) h.0,
     λ e. found_alike defect_rank (λ d. d.place) (λ d. d.reason) (Amid (DefectAt order) f) (Amid (DefectAt order) (inside f o [])) d (amid_open (DefectAt order) f o) (h.1 e),
   )
 
-  pub finds_put : (f : Partial) (t : Tree) (a b o : Option flaw.Flaw) (d e i : Option defect.Defect) → FindsFlaw (Flaw t) b → FindsDefect (DefectIn order t) e → IsEarliestFlaw a b o → IsEarliestDefect d e i → Finds order f a d → Finds order (put f t) o i
+  pub finds_put : (f : Partial) (t : Tree) (a b o : Option SomeFlaw) (d e i : Option SomeDefect) → FindsFlaw (Flaw t) b → FindsDefect (DefectIn order t) e → IsEarliestFlaw a b o → IsEarliestDefect d e i → Finds order f a d → Finds order (put f t) o i
   finds_put f t a b o d e i fl de g j h = (
     both_flaws (Amid FlawAt f) (Flaw t) (Amid FlawAt (put f t)) a b o (amid_put FlawAt f t) h.0 fl g,
     λ n. both_defects (Amid (DefectAt order) f) (DefectIn order t) (Amid (DefectAt order) (put f t)) d e i (amid_put (DefectAt order) f t) (h.1 (none_both flaw_rank (λ f. f.place) (λ f. f.reason) a b o g n).0) de j,
@@ -246,7 +241,7 @@ module _ (order : List ℕ → List ℕ → Ordering) where
   sound false ts s h = refl
   sound true ts s h = let m = all_mean ts h in absurd (s m.0 m.1)
 
-  pub finds_close : (f : Partial) (p : Opening) (ts : List Tree) (flawed : Bool) (a b o : Option flaw.Flaw) (d e i : Option defect.Defect) → Ends p ts → IsSound flawed ts → FindsFlaw (OwnFlaw p ts) b → (flawed ≡ false → b ≡ None → FindsDefect (OwnDefect order p ts) e)
+  pub finds_close : (f : Partial) (p : Opening) (ts : List Tree) (flawed : Bool) (a b o : Option SomeFlaw) (d e i : Option SomeDefect) → Ends p ts → IsSound flawed ts → FindsFlaw (OwnFlaw p ts) b → (flawed ≡ false → b ≡ None → FindsDefect (OwnDefect order p ts) e)
       → IsEarliestFlaw a b o → IsEarliestDefect d e i → Finds order (inside f p ts) a d → Finds order (put f (built p ts)) o i
   finds_close f p ts flawed a b o d e i ends s fl de g j h = (
     both_flaws (Amid FlawAt (inside f p ts)) (OwnFlaw p ts) (Amid FlawAt (put f (built p ts))) a b o (amid_closed FlawAt f p ts (built p ts) (OwnFlaw p ts) (closed_flaw p ts ends)) h.0 fl g,

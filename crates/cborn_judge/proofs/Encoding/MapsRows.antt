@@ -1,14 +1,11 @@
 -- The rows of a map and the pairs of its nodes: which keys are the same, which isn't above the one before it, and what the map is encoded as.
-use Rattle.cborn_judge.proofs.Common.{◌≡◌, ◌≢◌, ℕ, inl, inr, List, [], ◌∷◌, ◌++◌, length, refl, sym, ap, ◌∙◌, subst, arith, None, Ordering, Less, Equal, ◌↔◌, AllZip, IsPermutation-refl, least, IsLeastHead, Means, EntriesMean, IsKeyOrder, Rising, paired, Tree, Pairs, entries, place, IsProper, HasProperPairs, Value, Couples, dict, no_pairs, pair, pair_count, Same, Size, DefectReason, InvalidReason, Det, DetPairs, keys, joined, IsRepeated, HasRepeat, Descends, HasDescent, DescentAt, RepeatFlaw, MeansNothing, Row, row_entries, IsSameKey, HasSameKeys, RowRepeat, AreFilled, filled_keys, Falls, HasFall, RowDescent, AreArranged, IsEncodedAs, Coded, AreRows}
+use Rattle.std.specs.Prelude.{◌≡◌, ◌≢◌, ◌∷◌, ◌++◌, ◌↔◌}
+use Rattle.cborn_judge.proofs.Common.{ℕ, inl, inr, List, [], length, refl, sym, ap, ◌∙◌, subst, arith, None, Ordering, Less, Equal, AllZip, IsPermutation-refl, least, IsLeastHead, Means, EntriesMean, IsKeyOrder, Rising, paired, Tree, Pairs, entries, place, IsProper, HasProperPairs, Value, Couples, dict, no_pairs, pair, pair_count, Same, Size, DefectReason, InvalidReason, Det, DetPairs, keys, joined, IsRepeated, HasRepeat, Descends, HasDescent, DescentAt, RepeatFlaw, MeansNothing, Row, row_entries, IsSameKey, HasSameKeys, RowRepeat, AreFilled, filled_keys, Falls, HasFall, RowDescent, AreArranged, IsEncodedAs, Coded, AreRows, count_entries-entries, same_of_one, one_of_same, holds_below, counted_pairs, some_bytes}
 use Rattle.cborn_model.specs.Partial.{last_key}
-use Rattle.cborn_model.proofs.Listed.Trees.{count_entries-entries}
-use Rattle.cborn_det.proofs.Canon.{same_of_one, one_of_same}
-use Rattle.cborn_det.proofs.Room.{holds_below, counted_pairs}
-use Rattle.cborn_det.proofs.Written.{some_bytes}
-use Rattle.cborn_judge.proofs.FirstDefect.Descending.{above_by_code}
+use Rattle.cborn_judge.proofs.FirstDefect.{above_by_code}
 use Rattle.cborn_judge.proofs.Meaning.Judging.{no_repeat, new_keys}
 use Rattle.cborn_judge.proofs.Meaning.Meanings.{means_once}
-use Rattle.cborn_judge.proofs.SameKeys.Repeating.{nothing_repeated}
+use Rattle.cborn_judge.proofs.SameKeys.{nothing_repeated}
 
 -- ---- keys and values in turn
 

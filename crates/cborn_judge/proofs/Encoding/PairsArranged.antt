@@ -1,11 +1,9 @@
 -- Pairs that are sorted by their keys: what ties is a repeat, and where nothing does the keys rise.
-use Rattle.cborn_judge.proofs.Common.{◌≡◌, ◌≢◌, ℕ, ◌+◌, ◌-◌, ◌≤◌, inl, inr, List, [], ◌∷◌, ◌++◌, length, map, take, drop, refl, sym, ap, ◌∙◌, subst, arith, take_at, Option, None, Ordering, true, is_lt, IsPermutation, get_or, ◌↔◌, flat_map, IsSortedBy, IsStrictWeakOrder, map-append, take-append-drop, take_rest, drop-map, drop_all, get_or-map, length-map, take-map, length-take-le, IsPermutation-map, IsPermutation-refl, IsPermutation-append_left, IsPermutation-append_right, ranks_by, Rising, IsKeyOrder, flaw_rank, InvalidReason, DuplicateKey, joined, keys, FindsDefect, KeyOrder, FindsFlaw, Row, row_entry, row_entries, Mark, AreMarked, AreFilled, AreArranged, filled_keys, HasSameKeys, RowRepeat, key_of, pair_of, row_of, FallsIn, TiesIn, mark_order, AreSorted, IsAgain, IsTied}
+use Rattle.std.specs.Prelude.{◌≡◌, ◌≢◌, ◌+◌, ◌-◌, ◌≤◌, ◌∷◌, ◌++◌, ◌↔◌}
+use Rattle.cborn_judge.proofs.Common.{ℕ, inl, inr, List, [], length, map, take, drop, refl, sym, ap, ◌∙◌, subst, arith, take_at, Option, None, Ordering, true, is_lt, IsPermutation, get_or, flat_map, IsSortedBy, IsStrictWeakOrder, map-append, take-append-drop, take_rest, drop-map, drop_all, get_or-map, length-map, take-map, length-take-le, IsPermutation-map, IsPermutation-refl, IsPermutation-append_left, IsPermutation-append_right, ranks_by, Rising, IsKeyOrder, flaw_rank, InvalidReason, DuplicateKey, joined, keys, FindsDefect, KeyOrder, FindsFlaw, Row, row_entry, row_entries, Mark, AreMarked, AreFilled, AreArranged, filled_keys, HasSameKeys, RowRepeat, key_of, pair_of, row_of, FallsIn, TiesIn, mark_order, AreSorted, IsAgain, IsTied, found_alike, All_moved, SomeFlaw}
 use Rattle.std.proofs.lemmas.Cmp.{on_total, then_total, nat_cmp_total}
-use Rattle.cborn_model.proofs.Found.{found_alike}
-use Rattle.cborn_model.proofs.SameItems.Rearranging.{All_moved}
 use Rattle.cborn_det.proofs.Arranging.{total}
-use Rattle.cborn_judge.specs.declared.flaws.Flaw as flaw
-use Rattle.cborn_judge.proofs.SameKeys.Repeating.{LieBefore, InOrder, again_tied, sorted_in_order, again_earlier, either_again, one_of_moved}
+use Rattle.cborn_judge.proofs.SameKeys.{LieBefore, InOrder, again_tied, sorted_in_order, again_earlier, either_again, one_of_moved}
 use Rattle.cborn_judge.proofs.Encoding.PairsRead.{is_filled, filled, begin_of, marked_read, marked_rise, IsSplit, marked_split, all_split}
 use Rattle.cborn_judge.proofs.Encoding.PairsMet.{ties_all, same_again, none_falls}
 use Rattle.cborn_judge.proofs.Encoding.MapsRows.{keys-filled, rising_new}
@@ -20,7 +18,7 @@ module _ (order : List ℕ → List ℕ → Ordering) (laws : IsKeyOrder order) 
     pub moved : IsPermutation ms ys
 
   -- the repeats are found, or the keys rise
-  abbrev IsApart : Option flaw.Flaw → Type 0
+  abbrev IsApart : Option SomeFlaw → Type 0
   IsApart o = FindsFlaw (RowRepeat rows) o × (o ≡ None → AreFilled rows → AreArranged order rows (flat_map (pair_of b) ys))
 
   module _ (r : AreRearranged) where
@@ -48,7 +46,7 @@ module _ (order : List ℕ → List ℕ → Ordering) (laws : IsKeyOrder order) 
       in_order : InOrder order laws is_filled (key_of b) begin_of ys
       in_order = sorted_in_order order laws is_filled (key_of b) begin_of ms ys rise r.moved sorted
 
-      repeats_found : (o : Option flaw.Flaw) → FindsFlaw (TiesIn b ys) o → FindsFlaw (RowRepeat rows) o
+      repeats_found : (o : Option SomeFlaw) → FindsFlaw (TiesIn b ys) o → FindsFlaw (RowRepeat rows) o
       repeats_found o h = found_alike flaw_rank (λ f. f.place) (λ f. f.reason) (TiesIn b ys) (RowRepeat rows) o (λ p s. (to p s, from p s)) h
         where
           both : (z : Mark) → is_filled (key_of b z) ≡ true → IsAgain (key_of b) ms z ↔ IsTied (key_of b) ys z
@@ -61,11 +59,10 @@ module _ (order : List ℕ → List ℕ → Ordering) (laws : IsKeyOrder order) 
           from p s (e, t) = let u = (same_again b ms p).0 (subst (λ z. HasSameKeys z p) (sym read) t) in (e, (ties_all b ys p).1 (u.0, u.1, u.2, (both u.0 u.1).0 u.3))
 
       rise_untied : (zs : List Mark) → InOrder order laws is_filled (key_of b) begin_of zs → ((z : Mark) → is_filled (key_of b z) ≡ true → IsTied (key_of b) zs z → ⊥) → AreFilled (map (row_of b) zs) → Rising order (keys (row_entries (map (row_of b) zs)))
-      rise_untied [] o n f = tt
-      rise_untied (x ∷ []) o n f = tt
       rise_untied (x ∷ z ∷ zs) o n f = (elim o.0 [ inl l ↦ l | inr l ↦ absurd (n z (filled (key_of b z) f.1.0.0) (inl (refl, l.0))) ], rise_untied (z ∷ zs) o.1 (λ v g t. n v g (inr t)) f.1)
+      rise_untied _ o n f = tt
 
-      pub sorted_apart : (o : Option flaw.Flaw) → FindsFlaw (TiesIn b ys) o → IsApart o
+      pub sorted_apart : (o : Option SomeFlaw) → FindsFlaw (TiesIn b ys) o → IsApart o
       sorted_apart o h = (
         repeats_found o h,
         λ none f. in_place (rise_untied ys in_order (λ z g t. subst (FindsFlaw (TiesIn b ys)) none h z.0 DuplicateKey (refl, (ties_all b ys z.0).1 (z, g, refl, t))) (filled_now f)),

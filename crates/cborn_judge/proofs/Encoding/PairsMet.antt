@@ -1,10 +1,10 @@
 -- What a loop over keys that follow one another finds.
-use Rattle.cborn_judge.proofs.Common.{◌≡◌, ℕ, ◌+◌, ◌<◌, ◌⊎◌, inl, inr, List, [], ◌∷◌, ◌++◌, length, get_or, map, take, refl, sym, ap, ◌∙◌, subst, true, false, true≢false, Option, None, Some, Ordering, Less, Equal, Greater, ◌↔◌, is_some, map-append, Rising, IsEarliest, FindsDefect, KeyOrder, Row, Mark, AreFilled, IsSameKey, HasSameKeys, filled_keys, Falls, HasFall, RowDescent, FindsDescent, key_of, row_of, Keyed, keyed, all_keyed, Met, remembered, IsFall, last_filled, FallsIn, IsTie, last_key, IsOneOf, IsAgain, IsTied}
+use Rattle.std.specs.Prelude.{◌≡◌, ◌+◌, ◌<◌, ◌⊎◌, ◌∷◌, ◌++◌, ◌↔◌}
+use Rattle.cborn_judge.proofs.Common.{ℕ, inl, inr, List, [], length, get_or, map, take, refl, sym, ap, ◌∙◌, subst, true, false, true≢false, Option, None, Some, Ordering, Less, is_some, map-append, Rising, IsEarliest, FindsDefect, KeyOrder, Row, Mark, AreFilled, IsSameKey, HasSameKeys, filled_keys, Falls, HasFall, RowDescent, FindsDescent, key_of, row_of, Keyed, keyed, all_keyed, Met, remembered, IsFall, last_filled, FallsIn, IsTie, last_key, IsOneOf, IsAgain, IsTied, Either, found_both, found_alike}
 use Rattle.cborn_model.specs.Earliest.{Finds}
-use Rattle.cborn_model.proofs.Found.{Either, found_both, found_alike}
 use Rattle.cborn_judge.specs.declared.defects.Defect.{Defect}
-use Rattle.cborn_judge.proofs.Loops.Passing.{passed_one}
-use Rattle.cborn_judge.proofs.FirstDefect.Departing.{alike}
+use Rattle.cborn_judge.proofs.Loops.{passed_one}
+use Rattle.cborn_judge.proofs.FirstDefect.{alike}
 use Rattle.cborn_judge.proofs.Encoding.PairsRead.{is_filled, filled, not_empty, marked_read}
 
 pub none_of : {X : Type 0} (o : Option X) → is_some o ≡ false → o ≡ None
@@ -79,8 +79,7 @@ module _ (order : List ℕ → List ℕ → Ordering) where
 
   less_unless : (o : Ordering) → ((o ≡ Less → ⊥) → ⊥) → o ≡ Less
   less_unless Less h = refl
-  less_unless Equal h = absurd (h (λ e. cc))
-  less_unless Greater h = absurd (h (λ e. cc))
+  less_unless _ h = absurd (h (λ e. cc))
 
   rise_after : (k : List ℕ) (rows : List Row) → (k ≡ [] → ⊥) → ((p : ℕ) → MetFalls k rows p → ⊥) → Rising order (k ∷ filled_keys rows)
   rise_after k [] n h = tt

@@ -1,7 +1,7 @@
 -- Pairs that lie in a buffer are read where their marks say.
-use Rattle.cborn_judge.proofs.Common.{◌≡◌, ℕ, ◌+◌, ◌-◌, ◌<◌, ◌≤◌, inl, inr, List, [], ◌∷◌, ◌++◌, length, map, take, drop, refl, sym, ap, ◌∙◌, subst, arith, append_assoc, take_at, drop_at, length-append, Bool, true, false, true≢false, ◌==◌, flat_map, AllByRecursion, eqb-true, take-add, drop-drop, take-append-drop, AreBytes, joined, Row, row_entries, Mark, AreMarked, between, key_of, pair_of, row_of, IsOneOf}
-use Rattle.cborn_model.proofs.Bytes.{bytes-left, bytes-right}
-use Rattle.cborn_judge.proofs.SameKeys.Repeating.{LieBefore}
+use Rattle.std.specs.Prelude.{◌≡◌, ◌+◌, ◌-◌, ◌<◌, ◌≤◌, ◌∷◌, ◌++◌, ◌==◌}
+use Rattle.cborn_judge.proofs.Common.{ℕ, inl, inr, List, [], length, map, take, drop, refl, sym, ap, ◌∙◌, subst, arith, append_assoc, take_at, drop_at, length-append, Bool, true, false, true≢false, flat_map, AllByRecursion, eqb-true, take-add, drop-drop, take-append-drop, AreBytes, joined, Row, row_entries, Mark, AreMarked, between, key_of, pair_of, row_of, IsOneOf, bytes-left, bytes-right, get_or, set, get_or-map, length-map, map-set, set_at, get_or-append_seam}
+use Rattle.cborn_judge.proofs.SameKeys.{LieBefore}
 
 pub marked_read : (b y : List ℕ) (rows : List Row) (ms : List Mark) (p : ℕ) → p ≡ length y → b ≡ y ++ joined (row_entries rows) → AreMarked p rows ms → map (row_of b) ms ≡ rows
 marked_read b y [] [] p q e a = refl
@@ -94,3 +94,17 @@ pub bytes_between : (b : List ℕ) (s e : ℕ) → AreBytes b → AreBytes (betw
 bytes_between b s e h =
     let after : AreBytes (drop s b) = bytes-right (take s b) (drop s b) (subst AreBytes (sym (take-append-drop s b)) h) in
     bytes-left (take (e - s) (drop s b)) (drop (e - s) (drop s b)) (subst AreBytes (sym (take-append-drop (e - s) (drop s b))) after)
+
+-- ---- the mark of the last pair is read and written
+
+module _ {X Y : Type 0} (f : X → Y) (xs : List X) (n : ℕ) (ms : List Y) (y : Y) (long : n ≡ length xs) (e : map f xs ≡ ms ++ y ∷ []) where
+  here : length ms ≡ n - 1
+  here = let l = ap length e in omega (arith, long, l, length-map xs f, length-append ms (y ∷ []))
+
+  pub last_read : (d : X) → f (get_or xs (n - 1) d) ≡ y
+  last_read d =
+      let l = ap length e in
+      sym (get_or-map f xs (n - 1) d y (omega (arith, long, l, length-map xs f, length-append ms (y ∷ [])))) ∙ (λ j. get_or (e j) (sym here j) y) ∙ get_or-append_seam ms y [] y
+
+  pub last_written : (x : X) (z : Y) → f x ≡ z → map f (set xs (n - 1) x) ≡ ms ++ z ∷ []
+  last_written x z u = map-set f xs (n - 1) x ∙ (λ j. set (e j) (n - 1) (u j)) ∙ set_at ms y [] z (n - 1) here

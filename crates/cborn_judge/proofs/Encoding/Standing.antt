@@ -1,11 +1,9 @@
 -- One more whole node in what an encoder holds.
-use Rattle.cborn_judge.proofs.Common.{◌≡◌, ℕ, ◌+◌, ◌<◌, ◌≤◌, ◌^◌, inl, inr, List, [], ◌∷◌, ◌++◌, length, append_assoc, append-nil, length-append, refl, sym, ap, ◌∙◌, subst, arith, true, false, true≢false, Bool, not, Ordering, Option, None, cases_lt, same_from_push, ◌||◌, ◌%◌, ◌==◌, AllZip, AllByRecursion, Size, Width, Means, joined_chunks, Tree, place, Partial, top, inside, Opening, an_array, a_map, a_tag, in_chunks, put, string_tree, chunk_of, chunks_of, IsFree, puts, InArray, AtKey, Value, bytes, text, IsProper, DetSeq, joined, MeansNothing, Row, Mark, IsMarked, row_entries, AreMarked, IsEncodedAs, Coded, AreEncodedAs, AreRows, IsSound, is_odd, has_key, after, after_items, Opens, IsFront, Contains, Inner, Stands, IsChunk, IsChunkContent, StringKind, OfBytes, OfText, Container, Level}
+use Rattle.std.specs.Prelude.{◌≡◌, ◌+◌, ◌<◌, ◌≤◌, ◌^◌, ◌∷◌, ◌++◌, ◌||◌, ◌%◌, ◌==◌}
+use Rattle.cborn_judge.proofs.Common.{ℕ, inl, inr, List, [], length, append_assoc, append-nil, length-append, refl, sym, ap, ◌∙◌, subst, arith, true, false, true≢false, Bool, not, Ordering, Option, None, cases_lt, same_from_push, AllZip, AllByRecursion, Size, Width, Means, joined_chunks, Tree, place, Partial, top, inside, Opening, an_array, a_map, a_tag, in_chunks, put, string_tree, chunk_of, chunks_of, IsFree, puts, InArray, AtKey, Value, bytes, text, IsProper, DetSeq, joined, MeansNothing, Row, Mark, IsMarked, row_entries, AreMarked, IsEncodedAs, Coded, AreEncodedAs, AreRows, IsSound, is_odd, has_key, after, after_items, Opens, IsFront, Contains, Inner, Stands, IsChunk, IsChunkContent, StringKind, OfBytes, OfText, Container, Level, seq_append, some_bytes}
 use Rattle.cborn_model.specs.Partial.{last_key}
-use Rattle.cborn_det.proofs.Steps.{seq_append}
-use Rattle.cborn_det.proofs.Written.{some_bytes}
-use Rattle.cborn_judge.specs.declared.levels.Container.TheVariants as container
-use Rattle.cborn_judge.proofs.Loops.Passing.{zip_append}
-use Rattle.cborn_judge.proofs.FirstFlaw.Sequences.{mean_more}
+use Rattle.cborn_judge.proofs.Loops.{zip_append}
+use Rattle.cborn_judge.proofs.FirstFlaw.{mean_more}
 
 -- a count that is one higher is odd if it was even
 turned : (n : ℕ) → ((n + 1) % 2 ^ 64 % 2 == 1) ≡ not (n % 2 == 1)
@@ -289,16 +287,16 @@ module _ (order : List ℕ → List ℕ → Ordering) where
       at a e = subst (λ b. IsMarked b (has_key l) m ms ms') e marked
 
       by : (f : Partial) → IsFree f → Stands order outer l f ms y → Stands order outer (after l bad) (put f t) ms' (y ++ x)
-      by (top ts) free s = (s.0, at container.Input s.2 ∙ s.1, s.2, sound_more l.flawed bad ts t s.3 (is_verdict order t x bad v), λ e. contents_more order l.flawed bad ts t y x s.4 v e)
+      by (top ts) free s = (s.0, at Container.Input s.2 ∙ s.1, s.2, sound_more l.flawed bad ts t s.3 (is_verdict order t x bad v), λ e. contents_more order l.flawed bad ts t y x s.4 v e)
       by (inside f (an_array p z n) ts) free s =
-          stands_more outer l (after l bad) f (an_array p z n) ts (ts ++ t ∷ []) ms ms' s.5 y x s refl refl (at (container.Array z n) s.12.opens.1 ∙ s.8) (inner_array l p z n ts t s.5 s.3 x bad (own_short y x s.2 s.3 k s.7) v s.12)
+          stands_more outer l (after l bad) f (an_array p z n) ts (ts ++ t ∷ []) ms ms' s.5 y x s refl refl (at (Container.Array z n) s.12.opens.1 ∙ s.8) (inner_array l p z n ts t s.5 s.3 x bad (own_short y x s.2 s.3 k s.7) v s.12)
       by (inside f (a_tag p w n) ts) free s =
-          stands_more outer l (after l bad) f (a_tag p w n) ts (ts ++ t ∷ []) ms ms' s.5 y x s refl refl (at (container.Tag w n) s.12.opens.1 ∙ s.8) (inner_tag l p w n ts t s.5 s.3 x bad v s.12)
+          stands_more outer l (after l bad) f (a_tag p w n) ts (ts ++ t ∷ []) ms ms' s.5 y x s refl refl (at (Container.Tag w n) s.12.opens.1 ∙ s.8) (inner_tag l p w n ts t s.5 s.3 x bad v s.12)
       by (inside f (in_chunks p j) ts) free s = absurd free.1
       by (inside f (a_map p z n) ts) free s = go (has_key l) refl
         where
-          here : (b : Bool) → has_key l ≡ b → IsMarked (container.Map z n) b m ms ms'
-          here b e = subst (λ k. IsMarked (container.Map z n) k m ms ms') e (at (container.Map z n) s.12.opens.1)
+          here : (b : Bool) → has_key l ≡ b → IsMarked (Container.Map z n) b m ms ms'
+          here b e = subst (λ k. IsMarked (Container.Map z n) k m ms ms') e (at (Container.Map z n) s.12.opens.1)
 
           go : (b : Bool) → has_key l ≡ b → Stands order outer (after l bad) (put (inside f (a_map p z n) ts) t) ms' (y ++ x)
           go false e = stands_key outer l f p z n ts t ms ms' y x bad e v d (here false e) s

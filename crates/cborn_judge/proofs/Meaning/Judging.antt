@@ -1,8 +1,7 @@
 -- A node has no flaw exactly if it means an item.
-use Rattle.cborn_judge.proofs.Common.{◌≡◌, ◌≢◌, ℕ, ◌⊎◌, inl, inr, List, [], ◌∷◌, refl, sym, subst, true, false, Bool, IsUtf8, IsUtf8-from_is_utf8, is_utf8-from_IsUtf8, cases_eq, Within, WithinAll, WithinEntries, IsRepeated, HasRepeat, HasBadChunk, FlawAt, Flaw, InvalidReason, NotUtf8, BadBignum, DuplicateKey, Value, Values, Couples, integer, bytes, text, array, dict, tagged, simple, no_values, value, no_pairs, pair, Same, big_endian, IsNew, HasNewKeys, Width, Chunk, Tree, Uint, Nint, Bytes, Text, ByteChunks, TextChunks, Items, Pairs, Tagged, Simple, Trees, no_item, more, Entries, no_entry, entry, place, joined_chunks, IsNumber, IsByteString, ChunksAreText, Means, AllMean, EntriesMean}
-use Rattle.std.specs.Str.{is_utf8}
+use Rattle.std.specs.Prelude.{◌≡◌, ◌≢◌, ◌⊎◌, ◌∷◌}
+use Rattle.cborn_judge.proofs.Common.{ℕ, inl, inr, List, [], refl, sym, subst, true, false, Bool, IsUtf8, IsUtf8-from_is_utf8, is_utf8-from_IsUtf8, cases_eq, Within, WithinAll, WithinEntries, IsRepeated, HasRepeat, HasBadChunk, FlawAt, Flaw, InvalidReason, NotUtf8, BadBignum, DuplicateKey, Value, Values, Couples, integer, bytes, text, array, dict, tagged, simple, no_values, value, no_pairs, pair, Same, big_endian, IsNew, HasNewKeys, Width, Chunk, Tree, Uint, Nint, Bytes, Text, ByteChunks, TextChunks, Items, Pairs, Tagged, Simple, Trees, no_item, more, Entries, no_entry, entry, place, joined_chunks, IsNumber, IsByteString, ChunksAreText, Means, AllMean, EntriesMean, is_utf8, magnitude_of}
 use Rattle.cborn_judge.proofs.Meaning.Meanings.{means_once}
-use Rattle.cborn_model.proofs.Numbers.SomeMagnitude.{magnitude_of}
 
 -- ---- what means an item has no flaw
 
@@ -39,12 +38,6 @@ sound_node _ v p r m f = f
 -- a node within one that means an item means an item too
 mutual
   pub inner_means : (q t : Tree) (v : Value) → Means t v → Within q t → (u : Value) × Means q u
-  inner_means q (Uint p w n) v m i = (v, subst (λ z. Means z v) (sym i) m)
-  inner_means q (Nint p w n) v m i = (v, subst (λ z. Means z v) (sym i) m)
-  inner_means q (Bytes p w b) v m i = (v, subst (λ z. Means z v) (sym i) m)
-  inner_means q (Text p w b) v m i = (v, subst (λ z. Means z v) (sym i) m)
-  inner_means q (ByteChunks p cs) v m i = (v, subst (λ z. Means z v) (sym i) m)
-  inner_means q (TextChunks p cs) v m i = (v, subst (λ z. Means z v) (sym i) m)
   inner_means q (Items p s ts) v m (inl i) = (v, subst (λ z. Means z v) (sym i) m)
   inner_means q (Items p s ts) v m (inr i) = inner_all q ts m.0 m.1 i
   inner_means q (Pairs p s es) v m (inl i) = (v, subst (λ z. Means z v) (sym i) m)
@@ -53,7 +46,7 @@ mutual
   inner_means q (Tagged p w n t) v (inl m) (inr i) = inner_string q t m.1.0 m.1.1 i
   inner_means q (Tagged p w n t) v (inr (inl m)) (inr i) = inner_string q t m.1.0 m.1.1 i
   inner_means q (Tagged p w n t) v (inr (inr m)) (inr i) = inner_means q t m.2 m.3 i
-  inner_means q (Simple p n) v m i = (v, subst (λ z. Means z v) (sym i) m)
+  inner_means q _ v m i = (v, subst (λ z. Means z v) (sym i) m)
 
   inner_string : (q t : Tree) (b : List ℕ) → IsByteString t b → Within q t → (u : Value) × Means q u
   inner_string q (Bytes p w c) b h i = (bytes c, subst (λ z. Means z (bytes c)) (sym i) refl)

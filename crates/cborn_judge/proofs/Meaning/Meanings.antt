@@ -1,10 +1,10 @@
--- A node means at most one item, which is valid, and no deeper than the node.
-use Rattle.cborn_judge.proofs.Common.{◌≡◌, ℕ, suc, ◌<◌, ◌≤◌, ◌^◌, inl, inr, List, [], ◌∷◌, ◌++◌, length, refl, sym, ap, ◌∙◌, subst, arith, true, false, Bool, length-append, cond, lt-ltb, ltb, IsUtf8, cases_lt, IsUtf8-append, IsUtf8-nil, Value, Values, Couples, integer, bytes, text, array, dict, tagged, simple, no_values, value, no_pairs, pair, big_endian, AreBytes, IsShortest, IsProper, AreProper, HasProperPairs, value_depth, values_depth, pairs_depth, ByteString, TextString, Array, Map, Tag, Given, EndlessArgument, head, argument, Chunk, Tree, Uint, Nint, Bytes, Text, ByteChunks, TextChunks, Items, Pairs, Tagged, Simple, Trees, no_item, more, Entries, no_entry, entry, count, count_entries, depth, depth_all, depth_entries, Endless, ending, chunk_bytes, spelled, spelled_all, spelled_entries, Fits, FitsAll, FitsEntries, Within, WithinAll, WithinEntries, IsWord, joined_chunks, IsNumber, IsByteString, IsBignum, ChunksAreText, Means, AllMean, EntriesMean}
-use Rattle.std.specs.List.{flat_map}
+-- What a node means: that it is one item at most, and building it.
+use Rattle.std.specs.Prelude.{◌≡◌, ◌<◌, ◌≤◌, ◌^◌, ◌∷◌, ◌++◌}
+use Rattle.cborn_judge.proofs.Common.{ℕ, suc, inl, inr, List, [], length, refl, sym, ap, ◌∙◌, subst, arith, true, false, Bool, length-append, cond, lt-ltb, ltb, IsUtf8, cases_lt, IsUtf8-append, IsUtf8-nil, Value, Values, Couples, integer, bytes, text, array, dict, tagged, simple, no_values, value, no_pairs, pair, big_endian, AreBytes, IsShortest, IsProper, AreProper, HasProperPairs, value_depth, values_depth, pairs_depth, ByteString, TextString, Array, Map, Tag, Given, EndlessArgument, head, argument, Chunk, Tree, Uint, Nint, Bytes, Text, ByteChunks, TextChunks, Items, Pairs, Tagged, Simple, Trees, no_item, more, Entries, no_entry, entry, count, count_entries, depth, depth_all, depth_entries, Endless, ending, chunk_bytes, spelled, spelled_all, spelled_entries, Fits, FitsAll, FitsEntries, Within, WithinAll, WithinEntries, IsWord, joined_chunks, IsNumber, IsByteString, IsBignum, ChunksAreText, Means, AllMean, EntriesMean, one_magnitude, large, length_of_chunks, no_more, counted, counted_pairs, flat_map, map, take, AllZip, take_all, item_value, pair_value, trees, entries, values_of, pairs_of, Size, IsItemOf, IsPairOf, holds_below, joined_bytes}
 use Rattle.cborn_model.proofs.Lengths.{some_bytes}
-use Rattle.cborn_model.proofs.Numbers.OneMagnitude.{one_magnitude, large}
-use Rattle.cborn_det.proofs.Room.{length_of_chunks, no_more, counted, counted_pairs}
-pub use Rattle.cborn_det.proofs.Room.{holds_below, joined_bytes}
+use Rattle.cborn_model.specs.declared.items.Item.{Item}
+
+-- ---- a node means at most one item, which is valid, and no deeper than the node
 
 -- ---- at most one
 
@@ -25,9 +25,7 @@ mutual
   pub means_once : (t : Tree) (a b : Value) → Means t a → Means t b → a ≡ b
   means_once (Uint p w n) a b h k = number_once false n a b h k
   means_once (Nint p w n) a b h k = number_once true n a b h k
-  means_once (Bytes p w c) a b h k = h ∙ sym k
   means_once (Text p w c) a b h k = h.1 ∙ sym k.1
-  means_once (ByteChunks p cs) a b h k = h ∙ sym k
   means_once (TextChunks p cs) a b h k = h.1 ∙ sym k.1
   means_once (Items p s ts) a b h k = h.2 ∙ ap array (all_mean_once ts h.0 k.0 h.1 k.1) ∙ sym k.2
   means_once (Pairs p s es) a b h k = h.3 ∙ ap dict (entries_mean_once es h.0 k.0 h.1 k.1) ∙ sym k.3
@@ -40,7 +38,7 @@ mutual
   means_once (Tagged p w n t) a b (inr (inl h)) (inr (inr k)) = absurd (k.1 h.0)
   means_once (Tagged p w n t) a b (inr (inr h)) (inl k) = absurd (h.0 k.0)
   means_once (Tagged p w n t) a b (inr (inr h)) (inr (inl k)) = absurd (h.1 k.0)
-  means_once (Simple p n) a b h k = h ∙ sym k
+  means_once _ a b h k = h ∙ sym k
 
   all_mean_once : (ts : Trees) (vs ws : Values) → AllMean ts vs → AllMean ts ws → vs ≡ ws
   all_mean_once no_item no_values no_values h k = refl
@@ -70,16 +68,14 @@ string_means _ b h = absurd h
 pub means_string : (t : Tree) (b : List ℕ) → Means t (bytes b) → IsByteString t b
 means_string (Uint p w n) b h = let e : bytes b ≡ integer false h.0 = h.4 in cc
 means_string (Nint p w n) b h = let e : bytes b ≡ integer true h.0 = h.4 in cc
-means_string (Bytes p w c) b h = cc
 means_string (Text p w c) b h = let e = h.1 in cc
-means_string (ByteChunks p cs) b h = cc
 means_string (TextChunks p cs) b h = let e = h.1 in cc
 means_string (Items p s ts) b h = let e = h.2 in cc
 means_string (Pairs p s es) b h = let e = h.3 in cc
 means_string (Tagged p w n t) b (inl h) = let e = h.1.2.4 in cc
 means_string (Tagged p w n t) b (inr (inl h)) = let e = h.1.2.4 in cc
 means_string (Tagged p w n t) b (inr (inr h)) = let e = h.4 in cc
-means_string (Simple p n) b h = cc
+means_string _ b h = cc
 
 -- ---- how many bytes a node spells
 
@@ -235,17 +231,13 @@ mutual
   words_fit : (t : Tree) → Fits t → (q : Tree) → Within q t → IsWord q
   words_fit (Uint p w n) f q e = subst IsWord (sym e) (holds_below w n f)
   words_fit (Nint p w n) f q e = subst IsWord (sym e) (holds_below w n f)
-  words_fit (Bytes p w b) f q e = subst IsWord (sym e) tt
-  words_fit (Text p w b) f q e = subst IsWord (sym e) tt
-  words_fit (ByteChunks p cs) f q e = subst IsWord (sym e) tt
-  words_fit (TextChunks p cs) f q e = subst IsWord (sym e) tt
   words_fit (Items p s ts) f q (inl e) = subst IsWord (sym e) tt
   words_fit (Items p s ts) f q (inr i) = words_fit_all ts f.1 q i
   words_fit (Pairs p s es) f q (inl e) = subst IsWord (sym e) tt
   words_fit (Pairs p s es) f q (inr i) = words_fit_entries es f.1 q i
   words_fit (Tagged p w n t) f q (inl e) = subst IsWord (sym e) tt
   words_fit (Tagged p w n t) f q (inr i) = words_fit t f.1 q i
-  words_fit (Simple p n) f q e = subst IsWord (sym e) tt
+  words_fit _ f q e = subst IsWord (sym e) tt
 
   words_fit_all : (ts : Trees) → FitsAll ts → (q : Tree) → WithinAll q ts → IsWord q
   words_fit_all no_item f q i = absurd i
@@ -260,3 +252,30 @@ mutual
 
 pub meaning_shallow : (t : Tree) (v : Value) → Fits t → Means t v → value_depth v ≤ depth t
 meaning_shallow t v f h = means_shallow t v (words_fit t f) h
+
+-- ---- what is built of a node is what the node means, if it means something
+
+values_built : (ns : List Tree) (items : List Item) (vs : Values) → AllZip IsItemOf ns items → AllMean (trees ns) vs → values_of (map item_value items) ≡ vs
+values_built [] [] no_values h m = refl
+values_built [] [] (value v vs) h m = absurd m
+values_built [] (x ∷ xs) vs h m = absurd h
+values_built (n ∷ ns) [] vs h m = absurd h
+values_built (n ∷ ns) (x ∷ xs) no_values h m = absurd m
+values_built (n ∷ ns) (x ∷ xs) (value v vs) h m = λ i. value (h.0 v m.0 i) (values_built ns xs vs h.1 m.1 i)
+
+couples_built : (ns : List (Tree × Tree)) (pairs : List (Item × Item)) (ps : Couples) → AllZip IsPairOf ns pairs → EntriesMean (entries ns) ps → pairs_of (map pair_value pairs) ≡ ps
+couples_built [] [] no_pairs h m = refl
+couples_built [] [] (pair a b ps) h m = absurd m
+couples_built [] (x ∷ xs) ps h m = absurd h
+couples_built (n ∷ ns) [] ps h m = absurd h
+couples_built (n ∷ ns) (x ∷ xs) no_pairs h m = absurd m
+couples_built (n ∷ ns) (x ∷ xs) (pair a b ps) h m = λ i. pair (h.0.0 a m.0 i) (h.0.1 b m.1 i) (couples_built ns xs ps h.1 m.2 i)
+
+-- once a loop has passed all
+pub array_built : (p : ℕ) (s : Size) (ns : List Tree) (i : ℕ) (items : List Item) (l : List Value) (v : Value) → length ns ≤ i → AllZip IsItemOf (take i ns) items → l ≡ map item_value items → Means (Items p s (trees ns)) v → array (values_of l) ≡ v
+array_built p s ns i items l v n h e m =
+    ap (λ z. array (values_of z)) e ∙ ap array (values_built ns items m.0 (subst (λ t. AllZip IsItemOf t items) (take_all i ns n) h) m.1) ∙ sym m.2
+
+pub map_built : (p : ℕ) (s : Size) (ns : List (Tree × Tree)) (i : ℕ) (pairs : List (Item × Item)) (l : List (Value × Value)) (v : Value) → length ns ≤ i → AllZip IsPairOf (take i ns) pairs → l ≡ map pair_value pairs → Means (Pairs p s (entries ns)) v → dict (pairs_of l) ≡ v
+map_built p s ns i pairs l v n h e m =
+    ap (λ z. dict (pairs_of z)) e ∙ ap dict (couples_built ns pairs m.0 (subst (λ t. AllZip IsPairOf t pairs) (take_all i ns n) h) m.1) ∙ sym m.3

@@ -1,7 +1,6 @@
 -- The places in a placed node rise in the written order, within the bytes that it spells.
-use Rattle.cborn_judge.proofs.Common.{◌≡◌, ℕ, suc, ◌+◌, ◌<◌, ◌≤◌, inl, inr, List, [], ◌∷◌, ◌++◌, length, map, refl, sym, subst, arith, length-append, Ordering, Within, WithinAll, WithinEntries, IsRepeated, HasRepeat, HasBadChunk, FlawAt, Flaw, InvalidReason, HasLongChunk, ChunksDefect, Descends, HasDescent, DefectAt, Defect, DefectReason, Chunk, Tree, Uint, Nint, Bytes, Text, ByteChunks, TextChunks, Items, Pairs, Tagged, Simple, Trees, no_item, more, Entries, no_entry, entry, count, count_entries, place, Major, ByteString, TextString, Map, Tag, Array, Given, EndlessArgument, head, argument, Size, Fixed, Endless, ending, chunks, chunk_bytes, spelled, spelled_all, spelled_entries, ChunksPlaced, Placed, PlacedAll, PlacedEntries}
-use Rattle.std.specs.List.{flat_map}
-use Rattle.cborn_model.proofs.SameItems.Rearranging.{IsIn}
+use Rattle.std.specs.Prelude.{◌≡◌, ◌+◌, ◌<◌, ◌≤◌, ◌∷◌, ◌++◌}
+use Rattle.cborn_judge.proofs.Common.{ℕ, suc, inl, inr, List, [], length, map, refl, sym, subst, arith, length-append, Ordering, Within, WithinAll, WithinEntries, IsRepeated, HasRepeat, HasBadChunk, FlawAt, Flaw, InvalidReason, HasLongChunk, ChunksDefect, Descends, HasDescent, DefectAt, Defect, DefectReason, Chunk, Tree, Uint, Nint, Bytes, Text, ByteChunks, TextChunks, Items, Pairs, Tagged, Simple, Trees, no_item, more, Entries, no_entry, entry, count, count_entries, place, Major, ByteString, TextString, Map, Tag, Array, Given, EndlessArgument, head, argument, Size, Fixed, Endless, ending, chunks, chunk_bytes, spelled, spelled_all, spelled_entries, ChunksPlaced, Placed, PlacedAll, PlacedEntries, IsIn, flat_map}
 
 -- ---- the places of all heads, in the written order
 
@@ -68,10 +67,6 @@ head_long m Endless n p q e = omega arith
 
 mutual
   pub places_rise : (t : Tree) (p : ℕ) → Placed p t → RisesWithin p (p + length (spelled t)) (places t)
-  places_rise (Uint q w n) p h = ((omega arith), (omega arith))
-  places_rise (Nint q w n) p h = ((omega arith), (omega arith))
-  places_rise (Bytes q w b) p h = ((omega arith), (omega arith))
-  places_rise (Text q w b) p h = ((omega arith), (omega arith))
   places_rise (ByteChunks q cs) p h = chunked_rise ByteString cs p q h.0 h.1
   places_rise (TextChunks q cs) p h = chunked_rise TextString cs p q h.0 h.1
   places_rise (Items q s ts) p h =
@@ -91,7 +86,7 @@ mutual
       let k = places_rise t (p + length f) h.1 in
       let l = length-append f (spelled t) in
       ((omega arith), widened (p + length f) (p + length f + length (spelled t)) (suc q) (p + length (spelled (Tagged q w n t))) (places t) (omega arith) (omega arith) k)
-  places_rise (Simple q n) p h = ((omega arith), (omega arith))
+  places_rise _ p h = ((omega arith), (omega arith))
 
   pub places_all_rise : (ts : Trees) (p : ℕ) → PlacedAll p ts → RisesWithin p (p + length (spelled_all ts)) (places_all ts)
   places_all_rise no_item p h = omega arith
@@ -115,12 +110,12 @@ mutual
 
 -- ---- where flaws and defects are
 
-in_left : (p : ℕ) (xs ys : List ℕ) → IsIn p xs → IsIn p (xs ++ ys)
+pub in_left : (p : ℕ) (xs ys : List ℕ) → IsIn p xs → IsIn p (xs ++ ys)
 in_left p [] ys i = absurd i
 in_left p (x ∷ xs) ys (inl e) = inl e
 in_left p (x ∷ xs) ys (inr i) = inr (in_left p xs ys i)
 
-in_right : (p : ℕ) (xs ys : List ℕ) → IsIn p ys → IsIn p (xs ++ ys)
+pub in_right : (p : ℕ) (xs ys : List ℕ) → IsIn p ys → IsIn p (xs ++ ys)
 in_right p [] ys i = i
 in_right p (x ∷ xs) ys i = inr (in_right p xs ys i)
 
@@ -138,13 +133,7 @@ mutual
   inner_places q (Pairs p s es) (inr i) = λ x h. inr (inner_entries_places q es i x h)
   inner_places q (Tagged p w n t) (inl e) = itself q (Tagged p w n t) e
   inner_places q (Tagged p w n t) (inr i) = λ x h. inr (inner_places q t i x h)
-  inner_places q (Uint p w n) e = itself q (Uint p w n) e
-  inner_places q (Nint p w n) e = itself q (Nint p w n) e
-  inner_places q (Bytes p w b) e = itself q (Bytes p w b) e
-  inner_places q (Text p w b) e = itself q (Text p w b) e
-  inner_places q (ByteChunks p cs) e = itself q (ByteChunks p cs) e
-  inner_places q (TextChunks p cs) e = itself q (TextChunks p cs) e
-  inner_places q (Simple p n) e = itself q (Simple p n) e
+  inner_places q x e = itself q x e
 
   pub inner_all_places : (q : Tree) (ts : Trees) → WithinAll q ts → AllIn (places q) (places_all ts)
   inner_all_places q no_item i = absurd i
@@ -159,15 +148,7 @@ mutual
 
 own_place : (t : Tree) → IsIn (place t) (places t)
 own_place (Uint p w n) = inl refl
-own_place (Nint p w n) = inl refl
-own_place (Bytes p w b) = inl refl
-own_place (Text p w b) = inl refl
-own_place (ByteChunks p cs) = inl refl
-own_place (TextChunks p cs) = inl refl
-own_place (Items p s ts) = inl refl
-own_place (Pairs p s es) = inl refl
-own_place (Tagged p w n t) = inl refl
-own_place (Simple p n) = inl refl
+own_place _ = inl refl
 
 key_place : (k v : Tree) (es : Entries) (p : ℕ) → p ≡ place k → IsIn p (places_entries (entry k v es))
 key_place k v es p e = in_left p (places k) (places v ++ places_entries es) (subst (λ z. IsIn z (places k)) (sym e) (own_place k))
@@ -221,17 +202,12 @@ module _ (order : List ℕ → List ℕ → Ordering) where
   chunks_defect_place q cs p r (inr h) = inr (long_chunk_place cs p h.1)
 
   defect_at_place : (t : Tree) (p : ℕ) (r : DefectReason) → DefectAt order t p r → IsIn p (places t)
-  defect_at_place (Uint q w n) p r h = inl h.0
-  defect_at_place (Nint q w n) p r h = inl h.0
-  defect_at_place (Bytes q w b) p r h = inl h.0
-  defect_at_place (Text q w b) p r h = inl h.0
   defect_at_place (ByteChunks q cs) p r h = chunks_defect_place q cs p r h
   defect_at_place (TextChunks q cs) p r h = chunks_defect_place q cs p r h
-  defect_at_place (Items q s ts) p r h = inl h.0
   defect_at_place (Pairs q s es) p r (inl h) = inl h.0
   defect_at_place (Pairs q s es) p r (inr h) = inr (descent_place es p h.1)
-  defect_at_place (Tagged q w n t) p r h = inl h.0
   defect_at_place (Simple q n) p r h = absurd h
+  defect_at_place _ p r h = inl h.0
 
   -- a defect of a placed node is within its bytes
   pub defect_within : (t : Tree) (p q : ℕ) (r : DefectReason) → Placed p t → Defect order t q r → (p ≤ q) × (q < p + length (spelled t))

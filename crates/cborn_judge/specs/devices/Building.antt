@@ -1,11 +1,6 @@
 -- A device of the proofs: what is built of nodes. No public contract cites it.
-use Rattle.std.specs.Prelude.{◌≡◌, ◌⊎◌, ℕ, List, Option, None, Some}
-use Rattle.cborn_model.specs.ItemView.{item_value}
-use Rattle.cborn_model.specs.Meaning.{IsByteString, Means}
-use Rattle.cborn_model.specs.Tree.{Tree, Tagged}
-use Rattle.cborn_model.specs.Value.{Value}
-use Rattle.cborn_model.specs.declared.heads.Width.{Width}
-use Rattle.cborn_model.specs.declared.items.Item.{Item}
+use Rattle.std.specs.Prelude.{◌≡◌, ◌⊎◌}
+use Rattle.cborn_judge.specs.Common.{ℕ, List, Option, None, Some, item_value, IsByteString, Means, Tree, Tagged, Value, Width, Item}
 
 -- the node means this item if it means any
 abbrev pub IsItemOf : Tree → Item → Type 0

@@ -1,30 +1,12 @@
 -- A device of the proofs: what an encoder is, as that which it holds of a partial sequence. No definition cites it.
-use Rattle.std.specs.Prelude.{◌≡◌, ℕ, ◌<◌, ◌^◌, List, [], ◌∷◌, ◌++◌, length, Bool, true, false, Option, None, Some, IsUtf8, ⊤}
-use Rattle.std.specs.declared.cmp.Ordering.{Ordering}
-use Rattle.cborn_model.specs.declared.heads.Major.{Major}
-use Rattle.cborn_model.specs.declared.heads.Major.TheVariants.{ByteString, TextString, Array, Map, Tag}
-use Rattle.cborn_model.specs.declared.visitors.StringKind.{StringKind}
-use Rattle.cborn_model.specs.declared.visitors.StringKind.TheVariants.{OfBytes, OfText}
-use Rattle.cborn_model.specs.declared.heads.Width.{Width}
-use Rattle.cborn_model.specs.Bytes.{AreBytes, IsShortest, big_endian}
-use Rattle.cborn_model.specs.Meaning.{IsByteString}
-use Rattle.cborn_model.specs.Heads.{code, IsLeastHead}
-use Rattle.cborn_model.specs.Tree.{Tree, Tagged}
-use Rattle.cborn_model.specs.Partial.{Partial, inside, Opening, an_array, a_map, a_tag, in_chunks, Part, no_part, part, put, IsFree, Ends, built, string_tree, Proper, TakesString}
-use Rattle.cborn_det.specs.Det.{bignum_tag}
+use Rattle.std.specs.Prelude.{◌≡◌, ◌<◌, ◌^◌, ◌∷◌, ◌++◌}
+use Rattle.cborn_judge.specs.Common.{ℕ, List, [], length, Bool, true, false, Option, None, Some, IsUtf8, ⊤, Ordering, Major, ByteString, TextString, Array, Map, Tag, StringKind, OfBytes, OfText, Width, AreBytes, IsShortest, big_endian, IsByteString, code, IsLeastHead, Tree, Tagged, Partial, inside, Opening, an_array, a_map, a_tag, in_chunks, Part, no_part, part, put, IsFree, Ends, built, string_tree, Proper, TakesString, bignum_tag, Container, Level, Findings, Bignum, OpenString, Encodings, Encoder}
 use Rattle.cborn_judge.specs.Flaws.{FlawAt}
 use Rattle.cborn_judge.specs.shared.Checked.{LooseAt}
 use Rattle.cborn_judge.specs.Departures.{FindsDefect, LooseBytesAt}
 use Rattle.cborn_judge.specs.shared.Judged.{FindsFlaw}
 use Rattle.cborn_judge.specs.devices.Encoding.{Mark, Coded, AreEncodedAs, IsSound, Opens, Inner, Stands, Finds, OwnFlaw, OwnDefect, IsOpening, is_chunks}
 use Rattle.cborn_judge.specs.devices.Marks.{marks_of}
-use Rattle.cborn_judge.specs.declared.levels.Container.{Container}
-use Rattle.cborn_judge.specs.declared.levels.Level.{Level}
-use Rattle.cborn_judge.specs.declared.ends.Findings.{Findings}
-use Rattle.cborn_judge.specs.declared.ends.Bignum.{Bignum}
-use Rattle.cborn_judge.specs.declared.encoders.OpenString.{OpenString}
-use Rattle.cborn_judge.specs.declared.encoders.Encodings.{Encodings}
-use Rattle.cborn_judge.specs.declared.encoders.Encoder.{Encoder}
 
 abbrev pub kind_major : StringKind → Major
 kind_major OfBytes = ByteString

@@ -1,31 +1,13 @@
 -- A device of the proofs: what an encoder holds of a partial sequence. Each node that is whole either means something, and then its encoding stands in the buffer, or means nothing. Of public contracts that of `Encoder` alone cites it.
-use Rattle.std.specs.Prelude.{◌≡◌, ◌≢◌, ℕ, ◌+◌, ◌^◌, ◌⊎◌, ◌||◌, List, [], ◌∷◌, ◌++◌, map, length, Bool, true, false, Option, None, Some, IsPermutation, ◌%◌, ◌==◌, ⊤}
-use Rattle.std.proofs.Common.{not}
-use Rattle.std.specs.List.{AllZip, AllByRecursion}
-use Rattle.std.specs.declared.cmp.Ordering.{Ordering}
-use Rattle.std.specs.declared.cmp.Ordering.TheVariants.{Less}
-use Rattle.cborn_judge.specs.declared.faults.InvalidReason.{InvalidReason}
-use Rattle.cborn_judge.specs.declared.faults.InvalidReason.TheVariants.{DuplicateKey}
+use Rattle.std.specs.Prelude.{◌≡◌, ◌≢◌, ◌+◌, ◌^◌, ◌⊎◌, ◌||◌, ◌∷◌, ◌++◌, ◌%◌, ◌==◌}
+use Rattle.cborn_judge.specs.Common.{ℕ, List, [], map, length, Bool, true, false, Option, None, Some, IsPermutation, ⊤, not, AllZip, AllByRecursion, Ordering, Less, InvalidReason, DuplicateKey, DefectReason, KeyOrder, EndlessLength, IsLeastHead, Means, joined_chunks, Tree, Tagged, trees, entries, place, Partial, top, inside, Opening, an_array, a_map, a_tag, in_chunks, paired, last_of, chunks_of, ended_size, Value, IsProper, Rising, Det, DetSeq, Entry, joined, keys, Container, Level}
 use Rattle.cborn_judge.specs.declared.defects.Defect as defect
-use Rattle.cborn_judge.specs.declared.defects.DefectReason.{DefectReason}
-use Rattle.cborn_judge.specs.declared.defects.DefectReason.TheVariants.{KeyOrder, EndlessLength}
-use Rattle.cborn_model.specs.Heads.{IsLeastHead}
-use Rattle.cborn_model.specs.Meaning.{Means, joined_chunks}
-use Rattle.cborn_model.specs.Tree.{Tree, Tagged, trees, entries, place}
-use Rattle.cborn_model.specs.Partial.{Partial, top, inside, Opening, an_array, a_map, a_tag, in_chunks, paired, last_of, chunks_of, ended_size}
-use Rattle.cborn_model.specs.Value.{Value}
-use Rattle.cborn_model.specs.Valid.{IsProper}
-use Rattle.cborn_model.specs.Orders.{Rising}
-use Rattle.cborn_det.specs.Det.{Det, DetSeq, Entry, joined, keys}
 use Rattle.cborn_judge.specs.Flaws.{WithinAll, FlawAt}
 use Rattle.cborn_judge.specs.Defects.{DefectAt}
 use Rattle.cborn_judge.specs.Departures.{FindsDefect, LongAt}
 use Rattle.cborn_judge.specs.shared.Checked.{DescentAt, SizeAt, LooseAt}
 use Rattle.cborn_judge.specs.shared.Judged.{FindsFlaw, RepeatFlaw}
 use Rattle.cborn_judge.specs.declared.flaws.Flaw as flaw
-use Rattle.cborn_judge.specs.declared.levels.Container.{Container}
-use Rattle.cborn_judge.specs.declared.levels.Container.TheVariants as container
-use Rattle.cborn_judge.specs.declared.levels.Level.{Level}
 
 abbrev pub MeansNothing : Tree → Type 0
 MeansNothing t = (v : Value) → Means t v → ⊥
@@ -145,7 +127,7 @@ abbrev pub after_items : Level → ℕ → Level
 after_items l n = record l { count = (l.count + n) % 2 ^ 64 }
 
 abbrev pub are_chunks : Container → Bool
-are_chunks (container.Chunks k) = true
+are_chunks (Container.Chunks k) = true
 are_chunks _ = false
 
 abbrev pub is_chunks : Level → Bool
@@ -153,16 +135,16 @@ is_chunks l = are_chunks l.container
 
 -- a key or, after one, a value was marked, if it is one of a map
 abbrev pub IsMarked : Container → Bool → Mark → List Mark → List Mark → Type 0
-IsMarked (container.Map s c) false m old new = new ≡ old ++ m ∷ []
-IsMarked (container.Map s c) true m old new = (ms : List Mark) (p b k n : ℕ) → old ≡ ms ++ (p, b, k, n) ∷ [] → new ≡ ms ++ (p, b, k, m.3) ∷ []
+IsMarked (Container.Map s c) false m old new = new ≡ old ++ m ∷ []
+IsMarked (Container.Map s c) true m old new = (ms : List Mark) (p b k n : ℕ) → old ≡ ms ++ (p, b, k, n) ∷ [] → new ≡ ms ++ (p, b, k, m.3) ∷ []
 IsMarked _ has_key m old new = new ≡ old
 
 -- what is open at this place
 abbrev pub IsOpening : Container → ℕ → Opening → Type 0
-IsOpening a q (an_array p s c) = (q ≡ p) × (a ≡ container.Array s c)
-IsOpening a q (a_map p s c) = (q ≡ p) × (a ≡ container.Map s c)
-IsOpening a q (a_tag p w n) = (q ≡ p) × (a ≡ container.Tag w n)
-IsOpening a q (in_chunks p k) = (q ≡ p) × (a ≡ container.Chunks k)
+IsOpening a q (an_array p s c) = (q ≡ p) × (a ≡ Container.Array s c)
+IsOpening a q (a_map p s c) = (q ≡ p) × (a ≡ Container.Map s c)
+IsOpening a q (a_tag p w n) = (q ≡ p) × (a ≡ Container.Tag w n)
+IsOpening a q (in_chunks p k) = (q ≡ p) × (a ≡ Container.Chunks k)
 
 abbrev pub Opens : Level → Opening → Type 0
 Opens l o = IsOpening l.container l.place o
@@ -200,7 +182,7 @@ module _ (order : List ℕ → List ℕ → Ordering) where
 
   -- what stands in the buffer of a partial sequence: the levels around the innermost, the outermost first, the innermost, the marks of all, and the bytes
   abbrev pub Stands : List Level → Level → Partial → List Mark → List ℕ → Type 0
-  Stands outer l (top ts) ms y = (outer ≡ []) × (ms ≡ []) × (l.container ≡ container.Input) × IsSound l.flawed ts × (l.flawed ≡ false → AreEncodedAs order ts y)
+  Stands outer l (top ts) ms y = (outer ≡ []) × (ms ≡ []) × (l.container ≡ Container.Input) × IsSound l.flawed ts × (l.flawed ≡ false → AreEncodedAs order ts y)
   Stands outer l (inside f o ts) ms y =
       (os : List Level) × (m : Level) × (x : List ℕ) × (z : List ℕ) × (ns : List Mark) × (own : List Mark)
       × (outer ≡ os ++ m ∷ []) × (y ≡ x ++ z) × (ms ≡ ns ++ own) × (l.start ≡ length x) × (l.pairs ≡ length ns)

@@ -1,10 +1,6 @@
 -- A device of the proofs: the hint for a key in an order that is known.
-use Rattle.std.specs.Prelude.{◌≡◌, ℕ, zero, suc, ◌+◌, ◌*◌, ◌/◌, ◌^◌, ◌<◌, List, [], ◌∷◌, length, Option, None, Some, if◌then◌else◌, nat_lt}
-use Rattle.std.specs.declared.cmp.Ordering.{Ordering}
-use Rattle.std.specs.declared.cmp.Ordering.TheVariants.{Less}
-use Rattle.cborn_model.specs.Bytes.{AreBytes}
-use Rattle.cborn_model.specs.declared.orders.KnownOrder.{KnownOrder}
-use Rattle.cborn_model.specs.declared.orders.KnownOrder.TheVariants as known
+use Rattle.std.specs.Prelude.{◌≡◌, ◌+◌, ◌*◌, ◌/◌, ◌^◌, ◌<◌, ◌∷◌, if◌then◌else◌}
+use Rattle.cborn_judge.specs.Common.{ℕ, zero, suc, List, [], length, Option, None, Some, nat_lt, Ordering, Less, AreBytes, KnownOrder}
 
 -- the big-endian number of the first n bytes, as if zeros followed
 abbrev pub front_of : ℕ → List ℕ → ℕ
@@ -18,8 +14,8 @@ length_hint x = if nat_lt (length x) 255 then length x * 2 ^ 56 + front_of 8 x /
 
 abbrev pub hint_of : Option KnownOrder → List ℕ → ℕ
 hint_of None x = 0
-hint_of (Some known.Bytewise) x = front_of 8 x
-hint_of (Some known.LengthFirst) x = length_hint x
+hint_of (Some KnownOrder.Bytewise) x = front_of 8 x
+hint_of (Some KnownOrder.LengthFirst) x = length_hint x
 
 -- keys rise as their hints do, where these differ
 abbrev pub Tells : (List ℕ → List ℕ → Ordering) → (List ℕ → ℕ) → Type 0

@@ -1,21 +1,9 @@
 -- A device of the proofs: the marks that are kept of pairs, and what is read and found where they lie. Only devices cite it.
-use Rattle.std.specs.Prelude.{◌≡◌, ◌≢◌, ℕ, ◌+◌, ◌-◌, ◌≤◌, ◌⊎◌, ⊤, List, [], ◌∷◌, map, take, drop}
-use Rattle.std.specs.Ordering.{nat_cmp, ordering_then, is_lt}
-use Rattle.std.specs.List.{AllByRecursion}
-use Rattle.std.specs.List.Sorted.{IsSortedBy}
-use Rattle.std.specs.declared.cmp.Ordering.{Ordering}
-use Rattle.std.specs.declared.cmp.Ordering.TheVariants.{Less}
-use Rattle.cborn_judge.specs.declared.defects.DefectReason.{DefectReason}
-use Rattle.cborn_judge.specs.declared.defects.DefectReason.TheVariants.{KeyOrder}
-use Rattle.cborn_judge.specs.declared.faults.InvalidReason.{InvalidReason}
-use Rattle.cborn_judge.specs.declared.faults.InvalidReason.TheVariants.{DuplicateKey}
+use Rattle.std.specs.Prelude.{◌≡◌, ◌≢◌, ◌+◌, ◌-◌, ◌≤◌, ◌⊎◌, ◌∷◌}
+use Rattle.cborn_judge.specs.Common.{ℕ, ⊤, List, [], map, take, drop, nat_cmp, ordering_then, is_lt, AllByRecursion, IsSortedBy, Ordering, Less, DefectReason, KeyOrder, InvalidReason, DuplicateKey, Mark, NarrowMark, Marks, Narrow, Wide}
 use Rattle.cborn_judge.specs.devices.Hints.{Tells}
 use Rattle.cborn_judge.specs.devices.Encoding as encoding
 use Rattle.cborn_judge.specs.devices.Encoding.{Row}
-use Rattle.cborn_judge.specs.declared.marks.Mark.{Mark}
-use Rattle.cborn_judge.specs.declared.marks.NarrowMark.{NarrowMark}
-use Rattle.cborn_judge.specs.declared.pairs.Marks.{Marks}
-use Rattle.cborn_judge.specs.declared.pairs.Marks.TheVariants.{Narrow, Wide}
 use Rattle.cborn_judge.specs.declared.pairs.Pairs.{Pairs}
 
 abbrev pub mark_of : Mark → encoding.Mark

@@ -1,16 +1,10 @@
 -- A device of the proofs: the defects of parts of a node. Of public contracts that of `Encoder` alone cites it.
-use Rattle.std.specs.Prelude.{◌≡◌, ℕ, ◌⊎◌, List, Option}
-use Rattle.std.specs.declared.cmp.Ordering.{Ordering}
-use Rattle.cborn_model.specs.Meaning.{IsByteString}
-use Rattle.cborn_model.specs.Tree.{Tree, Trees, Entries}
-use Rattle.cborn_model.specs.declared.heads.Size.{Size}
+use Rattle.std.specs.Prelude.{◌≡◌, ◌⊎◌}
+use Rattle.cborn_judge.specs.Common.{ℕ, List, Option, Ordering, IsByteString, Tree, Trees, Entries, Size, IsEarliest, DefectReason, LooseBignum, KeyOrder}
 use Rattle.cborn_judge.specs.Defects.{IsLoose, SizeDefect, HasDescent, DefectAt}
 use Rattle.cborn_judge.specs.Reasons.{defect_rank}
 use Rattle.cborn_judge.specs.Flaws.{Within, WithinAll}
-use Rattle.cborn_model.specs.Earliest.{IsEarliest}
 use Rattle.cborn_judge.specs.declared.defects.Defect as defect
-use Rattle.cborn_judge.specs.declared.defects.DefectReason.{DefectReason}
-use Rattle.cborn_judge.specs.declared.defects.DefectReason.TheVariants.{LooseBignum, KeyOrder}
 
 abbrev pub IsEarliestDefect : Option defect.Defect → Option defect.Defect → Option defect.Defect → Type 0
 IsEarliestDefect = IsEarliest (λ d. (d.place, defect_rank d.reason))

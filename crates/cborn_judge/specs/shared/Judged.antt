@@ -1,10 +1,7 @@
 -- A device of the proofs: the flaws of parts, each by itself, and the first that was found. Of public contracts that of `Encoder` alone cites it.
-use Rattle.std.specs.Prelude.{◌≡◌, ℕ, Option}
-use Rattle.cborn_model.specs.Tree.{Trees, Entries, Tree}
-use Rattle.cborn_model.specs.Earliest.{IsEarliest, Finds}
+use Rattle.std.specs.Prelude.{◌≡◌}
+use Rattle.cborn_judge.specs.Common.{ℕ, Option, Trees, Entries, Tree, IsEarliest, Finds, InvalidReason, DuplicateKey}
 use Rattle.cborn_judge.specs.Reasons.{flaw_rank}
-use Rattle.cborn_judge.specs.declared.faults.InvalidReason.{InvalidReason}
-use Rattle.cborn_judge.specs.declared.faults.InvalidReason.TheVariants.{DuplicateKey}
 use Rattle.cborn_judge.specs.Flaws.{WithinAll, WithinEntries, HasRepeat, FlawAt}
 use Rattle.cborn_judge.specs.declared.flaws.Flaw as flaw
 

@@ -1,5 +1,6 @@
 -- Devices of the proofs on repeated keys: which of a list are repeats.
-use Rattle.std.specs.Prelude.{◌≡◌, ℕ, ◌⊎◌, List, [], ◌∷◌}
+use Rattle.std.specs.Prelude.{◌≡◌, ◌⊎◌, ◌∷◌}
+use Rattle.cborn_judge.specs.Common.{ℕ, List, []}
 
 abbrev pub IsOneOf : {X : Type 0} → X → List X → Type 0
 IsOneOf x [] = ⊥

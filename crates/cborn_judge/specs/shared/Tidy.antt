@@ -1,14 +1,6 @@
 -- A device of the proofs: a node that is spelled deterministically, by recursion. No public contract cites it.
-use Rattle.std.specs.Prelude.{◌≡◌, ℕ, ◌⊎◌, List, [], ◌∷◌, length, ⊤}
-use Rattle.std.specs.declared.cmp.Ordering.{Ordering}
-use Rattle.cborn_model.specs.Heads.{least}
-use Rattle.cborn_model.specs.Meaning.{IsByteString}
-use Rattle.cborn_model.specs.Orders.{Rising}
-use Rattle.cborn_model.specs.Spelled.{spelled}
-use Rattle.cborn_model.specs.Tree.{Tree, Uint, Nint, Bytes, Text, ByteChunks, TextChunks, Items, Pairs, Tagged, Simple, Trees, no_item, more, Entries, no_entry, entry, count, count_entries}
-use Rattle.cborn_model.specs.declared.heads.Size.{Size}
-use Rattle.cborn_model.specs.declared.heads.Size.TheVariants.{Fixed, Endless}
-use Rattle.cborn_det.specs.Det.{Entry, keys}
+use Rattle.std.specs.Prelude.{◌≡◌, ◌⊎◌, ◌∷◌}
+use Rattle.cborn_judge.specs.Common.{ℕ, List, [], length, ⊤, Ordering, least, IsByteString, Rising, spelled, Tree, Uint, Nint, Bytes, Text, ByteChunks, TextChunks, Items, Pairs, Tagged, Simple, Trees, no_item, more, Entries, no_entry, entry, count, count_entries, Size, Fixed, Endless, Entry, keys}
 use Rattle.cborn_judge.specs.Defects.{IsLoose}
 
 -- what each pair spells

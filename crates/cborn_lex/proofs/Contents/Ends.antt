@@ -1,5 +1,6 @@
 -- The loop that looks for a string's closing quote.
-use Rattle.cborn_lex.proofs.Common.{◌≡◌, refl, sym, ap, ◌∙◌, ℕ, ◌+◌, ◌<◌, ◌≤◌, List, [], ◌∷◌, ◌++◌, length, take, get_or, true, false, not, eqb, inl, inr, arith, append-nil, append_assoc, and_parts, and_from, eq-eqb, ne_eqb, not-true, cases_Bool, false≢true, take_more, take_all, is_not, is_content, is_unclosed}
+use Rattle.std.specs.Prelude.{◌≡◌, ◌+◌, ◌<◌, ◌≤◌, ◌∷◌, ◌++◌}
+use Rattle.cborn_lex.proofs.Common.{refl, sym, ap, ◌∙◌, ℕ, List, [], length, take, get_or, true, false, not, eqb, inl, inr, arith, append-nil, append_assoc, and_parts, and_from, eq-eqb, ne_eqb, not-true, cases_Bool, false≢true, take_more, take_all, is_not, is_content, is_unclosed}
 use Rattle.cborn_lex.proofs.OneFront.Quotes.{content_cons, content_taken, content_plain, unclosed_taken, unclosed_plain}
 
 pub content_then : (q : ℕ) (x y : List ℕ) → is_content q x ≡ true → is_content q y ≡ true → is_content q (x ++ y) ≡ true

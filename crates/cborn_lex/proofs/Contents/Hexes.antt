@@ -1,8 +1,11 @@
 -- A content of h'..' stands for some bytes or for none.
-use Rattle.cborn_lex.proofs.Common.{◌≡◌, refl, sym, ap, ◌∙◌, subst, ℕ, ◌+◌, ◌<◌, ◌≤◌, List, [], ◌∷◌, ◌++◌, length, drop, get_or, Bool, true, false, not, cond, eqb, ◌⊎◌, inl, inr, Option, Some, None, Result, Ok, Err, append_assoc, drop_more, drop_all, cond-true, cond-false, and_parts, and_from, eqb-true, not-true, or_cases, list_all, is_digit, is_not, is_white, onto, strip, after, HasDigits, nothing, space, comment, IsHex}
-use Rattle.hex.specs.Hex.{decode_of}
+use Rattle.cborn_lex.proofs.Common.{IfOk, refl, sym, ap, ◌∙◌, subst, ℕ, List, [], length, take, drop, get_or, Bool, true, false, not, cond, eqb, inl, inr, Option, Some, None, Result, Ok, Err, append_assoc, length-append, eq-eqb, false≢true, drop_more, drop_all, cond-true, cond-false, and_parts, and_from, eqb-true, not-true, or_cases, list_all, is_digit, is_not, is_white, onto, strip, after, HasDigits, nothing, space, comment, IsHex}
+use Rattle.std.specs.Prelude.{◌/◌, ◌%◌, MatchResult, ◌≡◌, ◌+◌, ◌<◌, ◌≤◌, ◌∷◌, ◌++◌, ◌⊎◌}
+use Rattle.std.specs.Result.{is_ok}
+use Rattle.std.proofs.Math.Seq.{take-append_seam}
+use Rattle.hex.specs.Hex.{decode_of, decode_pairs, decode_sized}
 use Rattle.hex.specs.declared.error.FromHexError.{FromHexError}
-use Rattle.hex.specs.declared.error.FromHexError.TheVariants.{OutOfMemory}
+use Rattle.hex.specs.declared.error.FromHexError.TheVariants.{OddLength, InvalidStringLength}
 use Rattle.cborn_lex.specs.Strings.{digit}
 
 at_char : (c k : ℕ) → is_digit k 16 ≡ false → eqb c k ≡ true → is_digit c 16 ≡ false
@@ -92,11 +95,6 @@ hex_err x ds f e h bytes t =
     let n = t.2 in
     cc
 
--- the decoder fails, and memory is there
-pub not_hex : (x ds : List ℕ) (f : FromHexError) → strip false x ≡ Some ds → (f ≡ OutOfMemory → ⊥) → (f ≡ OutOfMemory) ⊎ (decode_of ds ≡ Err f) → (bytes : List ℕ) → IsHex x bytes → ⊥
-not_hex x ds f e room (inl full) = absurd (room full)
-not_hex x ds f e room (inr h) = hex_err x ds f e h
-
 hex_decoded : (x ds : List ℕ) (r : Result (List ℕ) FromHexError) → strip false x ≡ Some ds → HasDigits x ds → decode_of ds ≡ r → ((bytes : List ℕ) × IsHex x bytes) ⊎ ((bytes : List ℕ) → IsHex x bytes → ⊥)
 hex_decoded x ds (Ok bytes) e k h = inl (bytes, (ds, k, h))
 hex_decoded x ds (Err f) e k h = inr (hex_err x ds f e h)
@@ -109,6 +107,38 @@ pub hex_cases : (x : List ℕ) → ((bytes : List ℕ) × IsHex x bytes) ⊎ ((b
 hex_cases x = hex_from x (strip false x) refl (strips false x)
 
 -- For the code.
+
+-- a content of digits alone
+pub digits_alone : (x : List ℕ) → list_all (λ c. is_digit c 16) x ≡ true → strip false x ≡ Some x
+digits_alone [] h = refl
+digits_alone (c ∷ x) h = let hs = and_parts (is_digit c 16) (list_all (λ d. is_digit d 16) x) h in cond-true (is_digit c 16) _ _ hs.0 ∙ ap (onto c) (digits_alone x hs.1)
+
+-- what the digits of a content say of it
+
+pub hex_written : {E : Type 0} (x ds digits old new : List ℕ) (r : Result Bool E) → strip false x ≡ Some ds → digits ≡ ds → IfOk r (λ ok. ok ≡ true → (bytes : List ℕ) × (decode_of digits ≡ Ok bytes) × (new ≡ old ++ bytes)) → IfOk r (λ ok. ok ≡ true → (bytes : List ℕ) × IsHex x bytes × (new ≡ old ++ bytes))
+hex_written x ds digits old new (Ok ok) e same h = λ t. let d = h t in (d.0, (ds, subst (Stripped false x) e (strips false x), ap decode_of (sym same) ∙ d.1), d.2)
+hex_written x ds digits old new (Err f) e same h = h
+
+pub hex_none : {E : Type 0} (x ds digits : List ℕ) (r : Result Bool E) → strip false x ≡ Some ds → digits ≡ ds → IfOk r (λ ok. ok ≡ false → (bytes : List ℕ) → decode_of digits ≡ Ok bytes → ⊥) → IfOk r (λ ok. ok ≡ false → (bytes : List ℕ) → IsHex x bytes → ⊥)
+hex_none x ds digits (Ok ok) e same h = λ t bytes k.
+    let l = strip_is k.1 in
+    let found : k.0 ≡ ds = cc in
+    h t bytes (ap decode_of (same ∙ sym found) ∙ k.2)
+hex_none x ds digits (Err f) e same h = h
+
+-- the bytes of digits, put where there is room for them
+
+pub decoded_ok : (d new : List ℕ) (n : ℕ) (r : Result (Unit {0}) FromHexError) → length d / 2 ≡ n → is_ok r ≡ true → MatchResult (decode_sized d n) (λ bytes. (r ≡ Ok tt) × (new ≡ bytes)) (λ e. r ≡ Err e) → decode_of d ≡ Ok new
+decoded_ok d new n r half ok h = go (decode_sized d n) (ap (λ b. cond (eqb (length d % 2) 1) (Err OddLength) (cond b (decode_pairs 0 d) (Err InvalidStringLength))) (eq-eqb (length d / 2) n half)) h
+  where
+    go : (o : Result (List ℕ) FromHexError) → o ≡ decode_of d → MatchResult o (λ bytes. (r ≡ Ok tt) × (new ≡ bytes)) (λ e. r ≡ Err e) → decode_of d ≡ Ok new
+    go (Ok bytes) e h = sym e ∙ ap Ok (sym h.1)
+    go (Err f) e h = absurd (false≢true (sym (ap is_ok h) ∙ ok))
+
+pub appended : (old made rest items : List ℕ) (len : ℕ) → len ≡ length old + length made → take len ((old ++ (made ++ rest)) ++ items) ≡ old ++ made
+appended old made rest items len e =
+    let split : (old ++ (made ++ rest)) ++ items ≡ (old ++ made) ++ (rest ++ items) = ap (λ l. l ++ items) (sym (append_assoc old made rest)) ∙ append_assoc (old ++ made) rest items in
+    (λ i. take ((e ∙ sym (length-append old made)) i) (split i)) ∙ take-append_seam (old ++ made) (rest ++ items)
 
 -- The loop.
 

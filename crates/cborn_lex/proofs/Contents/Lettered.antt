@@ -1,5 +1,6 @@
 -- What a content stands for is what its letters mean.
-use Rattle.cborn_lex.proofs.Common.{◌≡◌, refl, sym, ap, subst, ℕ, List, [], ◌∷◌, ◌++◌, true, and_parts, and_from, list_all, flat_map, IsText, Letter, raw, escaped, unit, pair, written, meant, is_letter, HasLetters}
+use Rattle.std.specs.Prelude.{◌≡◌, ◌∷◌, ◌++◌}
+use Rattle.cborn_lex.proofs.Common.{refl, sym, ap, subst, ℕ, List, [], true, and_parts, and_from, list_all, flat_map, IsText, Letter, raw, escaped, unit, pair, written, meant, is_letter, HasLetters}
 use Rattle.cborn_lex.specs.Strings as text
 
 letter_more : (q : ℕ) (l : Letter) (x y : List ℕ) → is_letter q l ≡ true → HasLetters q x y → HasLetters q (written l ++ x) (meant l ++ y)

@@ -1,5 +1,6 @@
 -- Each text that isn't empty begins with something.
-use Rattle.cborn_lex.proofs.Common.{◌≡◌, refl, sym, ap, ◌∙◌, subst, ℕ, List, [], ◌∷◌, ◌++◌, Bool, true, false, ◌&&◌, eqb, ◌⊎◌, inl, inr, Option, append_assoc, append-nil, and_parts, eqb-true, list_all-append, list_all, bytes_eq, codes, Profile, Two, Mark, LexReason, UnclosedString, UnexpectedCharacter, BadEscape, BadHex, BadBase64, Class, EmbedClose, EmbedOpen, SimpleOpen, Text, Bytes, Front, Read, Bad, is_word, is_numeral, is_not, mark_of, marked, integer, number_front, word_front, IsText, IsHex, IsBase64, IsRun, IsIndicator, Lacks, ContentGives, IsString, Prefix, hexadecimal, base64, unknown, prefix_of, IsPrefixed, IsAfterWord, ReadsWord, IsTag, ReadsNumber, double, simple, Start, slash, hash, less, greater, paren, letter, minus, digit, opening, start_of, paren_front, ReadsFrom, Reads}
+use Rattle.std.specs.Prelude.{◌≡◌, ◌∷◌, ◌++◌, ◌&&◌, ◌⊎◌}
+use Rattle.cborn_lex.proofs.Common.{refl, sym, ap, ◌∙◌, subst, ℕ, List, [], Bool, true, false, eqb, inl, inr, Option, append_assoc, append-nil, and_parts, eqb-true, list_all-append, list_all, bytes_eq, codes, Profile, Two, Mark, LexReason, UnclosedString, UnexpectedCharacter, BadEscape, BadHex, BadBase64, Class, EmbedClose, EmbedOpen, SimpleOpen, Text, Bytes, Front, Read, Bad, is_word, is_numeral, is_not, mark_of, marked, integer, number_front, word_front, IsText, IsHex, IsBase64, IsRun, IsIndicator, Lacks, ContentGives, IsString, Prefix, hexadecimal, base64, unknown, prefix_of, IsPrefixed, IsAfterWord, ReadsWord, IsTag, ReadsNumber, double, simple, Start, slash, hash, less, greater, paren, letter, minus, digit, opening, start_of, paren_front, ReadsFrom, Reads}
 use Rattle.cborn_lex.specs.Forms.{Through}
 use Rattle.cborn_lex.proofs.OneFront.Runs.{cut, marks, Found, plain}
 use Rattle.cborn_lex.proofs.OneFront.Quotes.{quoted}
@@ -84,20 +85,16 @@ words c y h =
 
 -- Numbers.
 
-pub record Tagging (negative : Bool) (y : List ℕ) : Type 0 where
-  pub tagged : Bool
-  pub s : List ℕ
-  pub z : List ℕ
-  pub whole : y ≡ s ++ z
-  pub tag : IsTag negative tagged s z
+abbrev pub Tagging : Bool → List ℕ → Type 0
+Tagging negative y = (tagged : Bool) × (s : List ℕ) × (z : List ℕ) × (y ≡ s ++ z) × IsTag negative tagged s z
 
 tagging_from : (c : ℕ) (y : List ℕ) (b : Bool) → eqb c 40 ≡ b → Tagging false (c ∷ y)
-tagging_from c y true e = record { tagged = true; s = c ∷ []; z = y; whole = refl; tag = (refl, refl, e, refl) }
-tagging_from c y false e = record { tagged = false; s = []; z = c ∷ y; whole = refl; tag = (refl, e) }
+tagging_from c y true e = (true, c ∷ [], y, refl, (refl, refl, e, refl))
+tagging_from c y false e = (false, [], c ∷ y, refl, (refl, e))
 
 pub tagging : (negative : Bool) (y : List ℕ) → Tagging negative y
-tagging true y = record { tagged = false; s = []; z = y; whole = refl; tag = (refl, refl) }
-tagging false [] = record { tagged = false; s = []; z = []; whole = refl; tag = (refl, refl) }
+tagging true y = (false, [], y, refl, (refl, refl))
+tagging false [] = (false, [], [], refl, (refl, refl))
 tagging false (c ∷ y) = tagging_from c y (eqb c 40) refl
 
 numbers : (negative : Bool) (first y : List ℕ) → Started (ReadsNumber negative first) y
@@ -105,18 +102,18 @@ numbers negative first y =
     let r = cut is_numeral y in
     let m = marks r.z in
     let t = tagging negative m.z in
-    let after : r.z ≡ m.s ++ (t.s ++ t.z) = m.whole ∙ ap (λ x. m.s ++ x) t.whole in
+    let after : r.z ≡ m.s ++ (t.1 ++ t.2) = m.whole ∙ ap (λ x. m.s ++ x) t.3 in
     record {
-      s = r.s ++ (m.s ++ t.s);
-      z = t.z;
-      a = number_front negative t.tagged (mark_of m.s) (integer negative (first ++ r.s));
+      s = r.s ++ (m.s ++ t.1);
+      z = t.2;
+      a = number_front negative t.0 (mark_of m.s) (integer negative (first ++ r.s));
       whole = r.whole ∙ (ap (λ x. r.s ++ x) after ∙ sym (simp append_assoc));
       reads = (
-        t.tagged,
+        t.0,
         r.s,
         m.s,
-        t.s,
-        record { run = subst (λ (x : List ℕ). IsRun is_numeral r.s x) after r.run; indicator = subst (λ (x : List ℕ). IsIndicator m.s x) t.whole m.indicator; tagging = t.tag; whole = refl },
+        t.1,
+        record { run = subst (λ (x : List ℕ). IsRun is_numeral r.s x) after r.run; indicator = subst (λ (x : List ℕ). IsIndicator m.s x) t.3 m.indicator; tagging = t.4; whole = refl },
         refl,
       );
     }

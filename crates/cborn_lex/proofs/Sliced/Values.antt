@@ -1,5 +1,6 @@
 -- The number that digits spell.
-use Rattle.cborn_lex.proofs.Common.{◌≡◌, sym, ap, ◌∙◌, ℕ, ◌+◌, ◌*◌, ◌^◌, ◌<◌, ◌≤◌, List, [], ◌∷◌, length, drop, get_or, Ok, Err, arith, mul-le-mul_left, cond-true, cond-false, lt-ltb, le-ltb, drop_more, drop_all, digit_value, NumberTooLarge, number, within}
+use Rattle.std.specs.Prelude.{◌≡◌, ◌+◌, ◌*◌, ◌^◌, ◌<◌, ◌≤◌, ◌∷◌}
+use Rattle.cborn_lex.proofs.Common.{sym, ap, ◌∙◌, ℕ, List, [], length, drop, get_or, Ok, Err, arith, mul-le-mul_left, cond-true, cond-false, lt-ltb, le-ltb, drop_more, drop_all, digit_value, NumberTooLarge, number, within}
 
 number_grows : (base n : ℕ) (ds : List ℕ) → 1 ≤ base → n ≤ number base n ds
 number_grows base n [] h = omega arith

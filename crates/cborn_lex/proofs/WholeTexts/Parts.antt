@@ -1,5 +1,6 @@
 -- A text read from its front on, and as a list of its pieces.
-use Rattle.cborn_lex.proofs.Common.{Some, None, ◌≡◌, refl, sym, ap, ◌∙◌, subst, ℕ, ◌+◌, List, [], ◌∷◌, ◌++◌, length, append_assoc, append-nil, arith, Profile, Token, LexReason, WhiteSpace, Read, Reads, Covers, HasTokens, FailsAt, BeginsNothing, Lexeme, white_space, token, spelled, AreRead, tokens, Parted, BeginsNoPiece, LexParted, StopParted, length-append}
+use Rattle.std.specs.Prelude.{◌≡◌, ◌+◌, ◌∷◌, ◌++◌}
+use Rattle.cborn_lex.proofs.Common.{Some, None, refl, sym, ap, ◌∙◌, subst, ℕ, List, [], length, append_assoc, append-nil, arith, Profile, Token, LexReason, WhiteSpace, Read, Reads, Covers, HasTokens, FailsAt, BeginsNothing, Lexeme, white_space, token, spelled, AreRead, tokens, Parted, BeginsNoPiece, LexParted, StopParted, length-append}
 use Rattle.cborn_lex.specs.Good as good
 use Rattle.cborn_lex.proofs.GoodFronts.{taken}
 use Rattle.cborn_lex.proofs.GoodBack.{read}

@@ -1,5 +1,6 @@
 -- A scan from piece to piece.
-use Rattle.cborn_lex.proofs.Common.{Result, Ok, Err, IfErr, Fails, ◌≡◌, refl, sym, ap, ◌∙◌, subst, ℕ, ◌+◌, ◌<◌, ◌≤◌, List, [], ◌∷◌, ◌++◌, length, take, drop, get_or, arith, add-one, take-append-drop, length-append, length-take-le, drop_all, drop-drop, get_or-drop, true, cond-true, Profile, LexReason, LexFault, Refused, OutOfMemory, Class, Token, Front, WhiteSpace, Read, Bad, is_white, Start, white, start_of, ReadsFrom, Reads, Covers, HasTokens, FailsAt, TokensBetween, HasNoTokens, HasNoTokenFrom, length-drop}
+use Rattle.std.specs.Prelude.{◌≡◌, ◌+◌, ◌<◌, ◌≤◌, ◌∷◌, ◌++◌}
+use Rattle.cborn_lex.proofs.Common.{Result, Ok, Err, IfErr, Fails, refl, sym, ap, ◌∙◌, subst, ℕ, List, [], length, take, drop, get_or, arith, add-one, take-append-drop, length-append, length-take-le, drop_all, drop-drop, get_or-drop, true, cond-true, Profile, LexReason, LexFault, Refused, OutOfMemory, Class, Token, Front, WhiteSpace, Read, Bad, is_white, Start, white, start_of, ReadsFrom, Reads, Covers, HasTokens, FailsAt, TokensBetween, HasNoTokens, HasNoTokenFrom, length-drop}
 use Rattle.std.specs.Result.{IsErr, IsErrAnd}
 use Rattle.cborn_lex.specs.Good.{end, white_space, token}
 use Rattle.cborn_lex.proofs.GoodFronts.{taken as takes}
@@ -56,13 +57,8 @@ moved profile (token n m c s x y ts h t) i =
     (r.0, record { start = i; stop = i + length s; class = c } ∷ r.1, omega (arith, r.2), token i r.0 c s x y r.1 h r.3)
 
 -- what the next n bytes are
-record Next (text : List ℕ) (at n : ℕ) : Type 0 where
-  whole : take n (drop at text) ++ drop n (drop at text) ≡ drop at text
-  size : length (take n (drop at text)) ≡ n
-  after : drop n (drop at text) ≡ drop (at + n) text
-
-next : (text : List ℕ) (at n : ℕ) → n ≤ length (drop at text) → Next text at n
-next text at n h = record { whole = take-append-drop n (drop at text); size = length-take-le n (drop at text) h; after = drop-drop n at text }
+next : (text : List ℕ) (at n : ℕ) → n ≤ length (drop at text) → (take n (drop at text) ++ drop n (drop at text) ≡ drop at text) × (length (take n (drop at text)) ≡ n) × (drop n (drop at text) ≡ drop (at + n) text)
+next text at n h = (take-append-drop n (drop at text), length-take-le n (drop at text) h, drop-drop n at text)
 
 pub after_blank : (profile : Profile) (text : List ℕ) (from at n : ℕ) → TokensBetween profile text from at [] → n ≤ length (drop at text) → Reads profile (take n (drop at text)) (drop n (drop at text)) WhiteSpace → TokensBetween profile text from (at + n) []
 after_blank profile text from at n h k r =
@@ -70,7 +66,7 @@ after_blank profile text from at n h k r =
     let s = take n (drop at text) in
     let x = drop n (drop at text) in
     joins profile text from at (at + n) [] [] h
-    (along profile at (at + length s) (at + n) (s ++ x) (drop at text) x (drop (at + n) text) [] [] e.whole refl (ap (λ m. at + m) e.size) e.after (white_space at (at + length s) s x x [] (takes profile s x WhiteSpace r) (end (at + length s) x)))
+    (along profile at (at + length s) (at + n) (s ++ x) (drop at text) x (drop (at + n) text) [] [] e.0 refl (ap (λ m. at + m) e.1) e.2 (white_space at (at + length s) s x x [] (takes profile s x WhiteSpace r) (end (at + length s) x)))
 
 white_reads : (profile : Profile) (x : List ℕ) → 0 < length x → is_white (get_or x 0 0) ≡ true → Reads profile (take 1 x) (drop 1 x) WhiteSpace
 white_reads profile [] h k = absurd (omega arith)
@@ -90,7 +86,7 @@ then_token profile text from at n class h k r =
     let s = take n (drop at text) in
     let x = drop n (drop at text) in
     joins profile text from at (at + n) [] (record { start = at; stop = at + n; class = class } ∷ []) h
-    (along profile at (at + length s) (at + n) (s ++ x) (drop at text) x (drop (at + n) text) (record { start = at; stop = at + length s; class = class } ∷ []) (record { start = at; stop = at + n; class = class } ∷ []) e.whole (ap (λ m. record { start = at; stop = at + m; class = class } ∷ []) e.size) (ap (λ m. at + m) e.size) e.after
+    (along profile at (at + length s) (at + n) (s ++ x) (drop at text) x (drop (at + n) text) (record { start = at; stop = at + length s; class = class } ∷ []) (record { start = at; stop = at + n; class = class } ∷ []) e.0 (ap (λ m. record { start = at; stop = at + m; class = class } ∷ []) e.1) (ap (λ m. at + m) e.1) e.2
     (token at (at + length s) class s x x [] (takes profile s x (Read class) r) (end (at + length s) x)))
 
 pub then_end : (profile : Profile) (text : List ℕ) (from at : ℕ) → from ≤ length text → TokensBetween profile text from at [] → length text ≤ at → TokensBetween profile text from (length text) []

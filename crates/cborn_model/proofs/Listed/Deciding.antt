@@ -1,5 +1,6 @@
 -- What a test that was passed or failed decides.
-use Rattle.cborn_model.proofs.Common.{◌≡◌, Bool, true, false, IsTrue, ◌↔◌, refl, sym, ◌∙◌, Option, Some, None, MatchOption, is_some}
+use Rattle.std.specs.Prelude.{◌≡◌, ◌↔◌}
+use Rattle.cborn_model.proofs.Common.{Bool, true, false, IsTrue, refl, sym, ◌∙◌, Option, Some, None, MatchOption, is_some}
 
 pub true_is_not_false : true ≡ false → ⊥
 true_is_not_false e = cc

@@ -1,5 +1,6 @@
 -- When nodes fit, in std's words: each of them does.
-use Rattle.cborn_model.proofs.Common.{ℕ, zero, suc, ◌≡◌, ◌<◌, List, [], ◌∷◌, length, get_or, arith, true, false, Bool, IsTrue, ◌↔◌, sym, subst, ◌∙◌, Chunk, Tree, Items, Pairs, trees, entries, Size, WidthFits, SizeFits, AreBytes, Fits, FitsAll, FitsEntries, ChunksFit}
+use Rattle.std.specs.Prelude.{◌≡◌, ◌<◌, ◌∷◌, ◌↔◌}
+use Rattle.cborn_model.proofs.Common.{ℕ, zero, suc, List, [], length, get_or, arith, true, false, Bool, IsTrue, sym, subst, ◌∙◌, Chunk, Tree, Items, Pairs, trees, entries, Size, WidthFits, SizeFits, AreBytes, Fits, FitsAll, FitsEntries, ChunksFit}
 use Rattle.cborn_model.proofs.Listed.Trees.{count-trees, count_entries-entries}
 
 abbrev pub PairFits : Tree × Tree → Type 0

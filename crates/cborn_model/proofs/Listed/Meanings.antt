@@ -1,5 +1,6 @@
 -- What the nodes of a sequence mean, in std's words.
-use Rattle.cborn_model.proofs.Common.{List, [], ◌∷◌, AllZip, AllByRecursion, Tree, trees, IsProper, AreProper, Value, Values, no_values, value, values_of}
+use Rattle.std.specs.Prelude.{◌∷◌}
+use Rattle.cborn_model.proofs.Common.{List, [], AllZip, AllByRecursion, Tree, trees, IsProper, AreProper, Value, Values, no_values, value, values_of}
 use Rattle.cborn_model.specs.Meaning.{Means, AllMean}
 
 -- what nodes mean one by one they mean in order

@@ -1,5 +1,6 @@
 -- The definitions over nodes, in std's words: nodes one after another, their number, and how deep they are.
-use Rattle.cborn_model.proofs.Common.{◌≡◌, ℕ, ◌+◌, ◌<◌, ◌≤◌, max, List, [], ◌∷◌, ◌++◌, length, take, get_or, refl, sym, ap, ◌∙◌, subst, arith, flat_map, take_more, Tree, trees, entries, count, count_entries, depth, depth_all, depth_entries, spelled, spelled_all, spelled_entries}
+use Rattle.std.specs.Prelude.{◌≡◌, ◌+◌, ◌<◌, ◌≤◌, ◌∷◌, ◌++◌}
+use Rattle.cborn_model.proofs.Common.{ℕ, max, List, [], length, take, get_or, refl, sym, ap, ◌∙◌, subst, arith, flat_map, take_more, Tree, trees, entries, count, count_entries, depth, depth_all, depth_entries, spelled, spelled_all, spelled_entries}
 use Rattle.std.proofs.lemmas.List.Recursion.{max_push, max_bounds}
 
 abbrev pub spelled_pair : Tree × Tree → List ℕ

@@ -1,5 +1,6 @@
 -- Items of a slice, one by one: what is valid, and how deep.
-use Rattle.cborn_model.proofs.Common.{◌≡◌, ℕ, zero, suc, ◌+◌, ◌<◌, ◌^◌, max, List, [], ◌∷◌, map, length, take, drop, get_or, refl, sym, subst, ◌∙◌, arith, Bool, IsTrue, ◌↔◌, inl, inr, length-map, Item, item_value, pair_value, Value, array, dict, values_of, pairs_of, IsNew, HasNewKeys, IsProper, AreProper, HasProperPairs, value_depth, values_depth, pairs_depth, Gives}
+use Rattle.std.specs.Prelude.{◌≡◌, ◌+◌, ◌<◌, ◌^◌, ◌∷◌, ◌↔◌}
+use Rattle.cborn_model.proofs.Common.{ℕ, zero, suc, max, List, [], map, length, take, drop, get_or, refl, sym, subst, ◌∙◌, arith, Bool, IsTrue, inl, inr, length-map, Item, item_value, pair_value, Value, array, dict, values_of, pairs_of, IsNew, HasNewKeys, IsProper, AreProper, HasProperPairs, value_depth, values_depth, pairs_depth, Gives}
 use Rattle.cborn_model.proofs.Listed.Trees.{greatest_more}
 use Rattle.cborn_model.proofs.Listed.Values.{value_count-values_of, pair_count-pairs_of}
 use Rattle.cborn_model.proofs.SameItems.Comparing.{values, pairs, IsProperItem, IsProperPair}

@@ -1,5 +1,6 @@
 -- The definitions over items, in std's words, and what a recursion over an `Item` goes down by.
-use Rattle.cborn_model.proofs.Common.{◌≡◌, ℕ, suc, ◌<◌, ◌≤◌, max, map, List, [], ◌∷◌, length, get_or, refl, ap, Item, item_value, pair_value, Value, Couples, no_pairs, pair, values_of, pairs_of, listed, value_count, pair_count, height, height_all, height_pairs}
+use Rattle.std.specs.Prelude.{◌≡◌, ◌<◌, ◌≤◌, ◌∷◌}
+use Rattle.cborn_model.proofs.Common.{ℕ, suc, max, map, List, [], length, get_or, refl, ap, Item, item_value, pair_value, Value, Couples, no_pairs, pair, values_of, pairs_of, listed, value_count, pair_count, height, height_all, height_pairs}
 use Rattle.cborn_model.proofs.Listed.Trees.{no_greater}
 
 pub value_count-values_of : (vs : List Value) → value_count (values_of vs) ≡ length vs

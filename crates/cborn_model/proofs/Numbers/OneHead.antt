@@ -1,6 +1,6 @@
 -- A head says its major type, its width and its argument, whatever follows it.
-use Rattle.cborn_model.proofs.Common.{◌≡◌, ℕ, ◌+◌, ◌*◌, ◌<◌, ◌^◌, List, [], ◌∷◌, ◌++◌, length, refl, sym, ap, ◌∙◌, arith, true, false, Bool, cond, w16, w32, w64, ltb, Direct, One, Two, Four, Eight, WidthFits, information, following, IsHead, least}
-use Rattle.std.proofs.Common.{ltb-true}
+use Rattle.std.specs.Prelude.{◌≡◌, ◌+◌, ◌*◌, ◌<◌, ◌^◌, ◌∷◌, ◌++◌}
+use Rattle.cborn_model.proofs.Common.{ℕ, List, [], length, refl, sym, ap, ◌∙◌, arith, true, false, Bool, cond, w16, w32, w64, ltb, Direct, One, Two, Four, Eight, WidthFits, information, following, IsHead, least, ltb-true}
 use Rattle.std.specs.Int.{to_be_bytes, from_be_bytes}
 use Rattle.std.proofs.lemmas.Nat.{from_be_bytes-to_be_bytes_2, from_be_bytes-to_be_bytes_4, from_be_bytes-to_be_bytes_8}
 use Rattle.cborn_model.specs.declared.heads.Width.{Width}

@@ -1,5 +1,6 @@
 -- A number has one magnitude without leading zeros.
-use Rattle.cborn_model.proofs.Common.{◌≡◌, ℕ, suc, ◌+◌, ◌*◌, ◌<◌, ◌≤◌, ◌^◌, inl, inr, List, [], ◌∷◌, length, refl, sym, ap, subst, arith, true, false, Bool, pow-suc, lit<, ◌↔◌, IsTrue, drop, get_or, mul-le-mul_right, cases_lt, drop_more, pow-le-pow_right, big_endian, AreBytes, IsShortest, number}
+use Rattle.std.specs.Prelude.{◌≡◌, ◌+◌, ◌*◌, ◌<◌, ◌≤◌, ◌^◌, ◌∷◌, ◌↔◌}
+use Rattle.cborn_model.proofs.Common.{ℕ, suc, inl, inr, List, [], length, refl, sym, ap, subst, arith, true, false, Bool, pow-suc, lit<, IsTrue, drop, get_or, mul-le-mul_right, cases_lt, drop_more, pow-le-pow_right, big_endian, AreBytes, IsShortest, number}
 
 -- the high part of a number decides
 high_decides : (a b p r s : ℕ) → a < b → r < p → a * p + r ≡ b * p + s → ⊥

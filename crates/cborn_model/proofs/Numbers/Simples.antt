@@ -1,6 +1,6 @@
 -- Simple values, by cases, and their heads.
-use Rattle.cborn_model.proofs.Common.{◌≡◌, refl, ℕ, ◌<◌, ◌≤◌, ◌⊎◌, inl, inr, arith, ltb, leb, lt-ltb, le-ltb, le-leb, ltb-true, leb-true, and_parts, or_cases, Direct, One, WidthFits, least, is_simple_value}
-use Rattle.std.specs.Prelude.{IsTrue}
+use Rattle.std.specs.Prelude.{◌≡◌, ◌<◌, ◌≤◌, ◌⊎◌}
+use Rattle.cborn_model.proofs.Common.{refl, ℕ, inl, inr, arith, ltb, leb, lt-ltb, le-ltb, le-leb, ltb-true, leb-true, and_parts, or_cases, Direct, One, WidthFits, least, is_simple_value, IsTrue}
 use Rattle.cborn_model.proofs.Numbers.OneHead.{least_holds}
 
 -- the two ranges, as the test has them

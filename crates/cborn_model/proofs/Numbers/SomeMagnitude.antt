@@ -1,5 +1,6 @@
 -- Each number has a magnitude without leading zeros.
-use Rattle.cborn_model.proofs.Common.{◌≡◌, ℕ, suc, ◌+◌, ◌*◌, ◌<◌, ◌^◌, inl, inr, List, [], ◌∷◌, length, get_or, ap, sym, subst, arith, pow-suc, lit<, ◌≤◌, drop, length-drop, mul-le-mul_right, pow-le-pow_right, cases_lt, big_endian, AreBytes, IsShortest}
+use Rattle.std.specs.Prelude.{◌≡◌, ◌+◌, ◌*◌, ◌<◌, ◌^◌, ◌∷◌, ◌≤◌}
+use Rattle.cborn_model.proofs.Common.{ℕ, suc, inl, inr, List, [], length, get_or, ap, sym, subst, arith, pow-suc, lit<, drop, length-drop, mul-le-mul_right, pow-le-pow_right, cases_lt, big_endian, AreBytes, IsShortest}
 use Rattle.std.specs.Int.Digits.{number_from_digits_after, digits_of}
 use Rattle.std.proofs.lemmas.Int.Digits.{all_below_base_digits_of, first_digits_of, number_digits_of}
 

@@ -1,5 +1,6 @@
 -- Items of a slice, one by one: what is proper, and what is the same.
-use Rattle.cborn_model.proofs.Common.{◌≡◌, ℕ, zero, suc, ◌+◌, ◌<◌, List, [], ◌∷◌, ◌++◌, map, length, get_or, refl, sym, ap, subst, ◌∙◌, arith, inl, inr, Item, item_value, pair_value, Value, dict, listed, values_of, pairs_of, Same, SameValues, IsNew, HasNewKeys, IsProper, AreProper, HasProperPairs, HasPair, Gives, cases_lt, length-map, get_or_default, map-append}
+use Rattle.std.specs.Prelude.{◌≡◌, ◌+◌, ◌<◌, ◌∷◌, ◌++◌}
+use Rattle.cborn_model.proofs.Common.{ℕ, zero, suc, List, [], map, length, get_or, refl, sym, ap, subst, ◌∙◌, arith, inl, inr, Item, item_value, pair_value, Value, dict, listed, values_of, pairs_of, Same, SameValues, IsNew, HasNewKeys, IsProper, AreProper, HasProperPairs, HasPair, Gives, cases_lt, length-map, get_or_default, map-append}
 use Rattle.cborn_model.proofs.Listed.Values.{pair_count-pairs_of, listed-pairs_of}
 use Rattle.cborn_model.proofs.SameItems.Matching.{given_after, given_before, new_in_both, AllHave, matched, all_have, same_count}
 

@@ -1,5 +1,6 @@
 -- Maps whose keys are distinct are the same exactly if they have as many pairs, and each pair of the one is among those of the other.
-use Rattle.cborn_model.proofs.Common.{◌≡◌, suc, inl, inr, List, [], ◌∷◌, ◌++◌, length, refl, sym, ap, subst, ◌∙◌, arith, IsPermutation, length-append, IsPermutation-refl, IsPermutation-sym, IsPermutation-trans, IsPermutation-cons, IsPermutation-middle, length_permutation, Value, Couples, no_pairs, pair, listed, dict, pairs_of, pair_count, Same, SamePairs, IsNew, HasNewKeys, HasPair, Gives}
+use Rattle.std.specs.Prelude.{◌≡◌, ◌∷◌, ◌++◌}
+use Rattle.cborn_model.proofs.Common.{suc, inl, inr, List, [], length, refl, sym, ap, subst, ◌∙◌, arith, IsPermutation, length-append, IsPermutation-refl, IsPermutation-sym, IsPermutation-trans, IsPermutation-cons, IsPermutation-middle, length_permutation, Value, Couples, no_pairs, pair, listed, dict, pairs_of, pair_count, Same, SamePairs, IsNew, HasNewKeys, HasPair, Gives}
 use Rattle.cborn_model.proofs.SameItems.Rearranging.{IsIn, AreIn, are_in_moved}
 use Rattle.cborn_model.proofs.SameItems.Sameness.{same_turned, same_chained}
 

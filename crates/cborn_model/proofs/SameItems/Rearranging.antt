@@ -1,5 +1,6 @@
 -- Rearrangements of lists, and what is carried through them.
-use Rattle.cborn_model.proofs.Common.{◌≡◌, ℕ, ◌⊎◌, inl, inr, List, [], ◌∷◌, map, set, get_or, refl, sym, ap, ◌∙◌, subst, IsPermutation, AllZip, AllByRecursion, IsPermutation-sym, IsPermutation-map, All-permutation, length-map, swap}
+use Rattle.std.specs.Prelude.{◌≡◌, ◌⊎◌, ◌∷◌}
+use Rattle.cborn_model.proofs.Common.{ℕ, inl, inr, List, [], map, set, get_or, refl, sym, ap, ◌∙◌, subst, IsPermutation, AllZip, AllByRecursion, IsPermutation-sym, IsPermutation-map, All-permutation, length-map, swap}
 use Rattle.std.proofs.lemmas.List.Elements.{All-from_recursion, recursion_from_All}
 use Rattle.std.proofs.Math.Seq.{map-set}
 use Rattle.std.proofs.Math.ListN.{get_or-map}

@@ -1,16 +1,14 @@
 -- To be the same is an equivalence.
-use Rattle.cborn_model.proofs.Common.{List, [], ◌∷◌, refl, sym, ◌∙◌, AllZip, IsPermutation-refl, IsPermutation-sym, IsPermutation-trans, Value, Values, Couples, integer, bytes, text, array, dict, tagged, simple, no_values, value, no_pairs, pair, listed, Same, SameValues, SamePairs}
+use Rattle.std.specs.Prelude.{◌∷◌}
+use Rattle.cborn_model.proofs.Common.{List, [], refl, sym, ◌∙◌, AllZip, IsPermutation-refl, IsPermutation-sym, IsPermutation-trans, Value, Values, Couples, integer, bytes, text, array, dict, tagged, simple, no_values, value, no_pairs, pair, listed, Same, SameValues, SamePairs}
 use Rattle.cborn_model.proofs.SameItems.Rearranging.{carried_left}
 
 mutual
   pub same_itself : (a : Value) → Same a a
-  same_itself (integer s m) = refl
-  same_itself (bytes b) = refl
-  same_itself (text b) = refl
   same_itself (array vs) = values_same vs
   same_itself (dict ps) = (listed ps, IsPermutation-refl (listed ps), pairs_same ps)
   same_itself (tagged t v) = (refl, same_itself v)
-  same_itself (simple n) = refl
+  same_itself _ = refl
 
   pub values_same : (vs : Values) → SameValues vs vs
   values_same no_values = tt

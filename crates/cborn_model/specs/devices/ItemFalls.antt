@@ -1,22 +1,17 @@
 -- A device of the proofs: each item inside another is less high. No definition cites it.
-use Rattle.std.specs.Prelude.{ℕ, ◌≤◌, max, map, List, [], ◌∷◌}
-use Rattle.std.proofs.Common.{arith}
+use Rattle.std.specs.Prelude.{◌≤◌, ◌∷◌}
+use Rattle.cborn_model.specs.Common.{ℕ, max, map, List, [], arith}
 use denote.Param.Weighed.{most}
 use Rattle.cborn_model.specs.Value.{values_of, pairs_of, height, height_all, height_pairs}
 use Rattle.cborn_model.specs.ItemView.{item_value, pair_value}
 use Rattle.cborn_model.specs.declared.items.Item.{Item}
-use Rattle.cborn_model.specs.declared.items.Item.TheVariants.{Int, Bytes, Text, Items, Pairs, Tagged, Simple}
+use Rattle.cborn_model.specs.declared.items.Item.TheVariants.{Int}
 use Rattle.cborn_model.specs.declared.items.ItemBox.TheDeep.{deep-Item}
 use Rattle.cborn_model.specs.declared.items.ItemBox.TheShapes.{weighed-PairList-pairs-at-2}
 
 pub item_falls : (i : Item) → max (deep-Item i) 0 ≤ height (item_value i)
 item_falls (Int s m) = omega arith
-item_falls (Bytes b) = omega arith
-item_falls (Text t) = omega arith
-item_falls (Items l) = omega arith
-item_falls (Pairs l) = omega arith
-item_falls (Tagged n i) = omega arith
-item_falls (Simple n) = omega arith
+item_falls _ = omega arith
 
 pub items_fall : (is : List Item) → max (most deep-Item is) 0 ≤ height_all (values_of (map item_value is))
 items_fall [] = omega arith

@@ -1,5 +1,6 @@
 -- What a search among the pairs of a map finds. A device of the comparison: no other definition cites it.
-use Rattle.std.specs.Prelude.{◌≡◌, ◌⊎◌, List, [], ◌∷◌}
+use Rattle.std.specs.Prelude.{◌≡◌, ◌⊎◌, ◌∷◌}
+use Rattle.cborn_model.specs.Common.{List, []}
 use Rattle.cborn_model.specs.Value.{Value, Same}
 
 -- some pair has this key and this value, or ones that are the same

@@ -1,11 +1,11 @@
 -- A device of the proofs: each child of a node is less deep than the node. No definition cites it.
-use Rattle.std.specs.Prelude.{ℕ, ◌+◌, ◌≤◌, max, List, [], ◌∷◌}
-use Rattle.std.proofs.Common.{arith}
+use Rattle.std.specs.Prelude.{◌+◌, ◌≤◌, ◌∷◌}
+use Rattle.cborn_model.specs.Common.{ℕ, max, List, [], arith}
 use denote.Param.Weighed.{most}
 use Rattle.cborn_model.specs.Tree.{Tree, trees, entries, depth, depth_all, depth_entries}
 use Rattle.cborn_model.specs.View.{tree_of}
 use Rattle.cborn_model.specs.declared.nodes.Form.{Form}
-use Rattle.cborn_model.specs.declared.nodes.Form.TheVariants.{Uint, Nint, Bytes, Text, ByteChunks, TextChunks, Items, Pairs, Tagged, Simple}
+use Rattle.cborn_model.specs.declared.nodes.Form.TheVariants.{Items, Pairs}
 use Rattle.cborn_model.specs.declared.nodes.Node.TheDeep.{deep-Form}
 use Rattle.cborn_model.specs.declared.nodes.Node.TheShapes.{weighed-Form-Pairs-1-at-2}
 
@@ -21,13 +21,6 @@ most-entries [] = omega arith
 most-entries (e ∷ es) = omega (arith, most-entries es)
 
 pub depth_falls : (p : ℕ) (f : Form) → max (deep-Form f) 0 ≤ depth (tree_of p f)
-depth_falls p (Uint w n) = omega arith
-depth_falls p (Nint w n) = omega arith
-depth_falls p (Bytes w b) = omega arith
-depth_falls p (Text w b) = omega arith
-depth_falls p (ByteChunks cs) = omega arith
-depth_falls p (TextChunks cs) = omega arith
 depth_falls p (Items s ns) = omega (arith, most-trees ns.items)
 depth_falls p (Pairs s ps) = omega (arith, most-entries ps.items)
-depth_falls p (Tagged w n t) = omega arith
-depth_falls p (Simple n) = omega arith
+depth_falls p _ = omega arith

@@ -1,9 +1,6 @@
 -- A device of the proofs: a code for items, by which they are told apart. It is that of a tree, which is another for each. No definition cites it.
-use Rattle.std.specs.Prelude.{zero, ◌≡◌, true, false, refl}
-use Rattle.std.proofs.Common.{ap, ◌∙◌}
-use Rattle.std.specs.Coded.{Coded, code_by}
-use Rattle.cborn_model.specs.declared.heads.Width.TheVariants.{Direct}
-use Rattle.cborn_model.specs.declared.heads.Size.TheVariants.{Endless}
+use Rattle.std.specs.Prelude.{◌≡◌}
+use Rattle.cborn_model.specs.Common.{zero, true, false, refl, ap, ◌∙◌, Coded, code_by, Direct, Endless}
 use Rattle.cborn_model.specs.Tree.{Tree, Bytes, Text, Items, Pairs, Tagged, Simple, Trees, no_item, more, Entries, no_entry, entry}
 use Rattle.cborn_model.specs.Value.{Value, integer, bytes, text, array, dict, tagged, simple, Values, no_values, value, Couples, no_pairs, pair}
 use Rattle.cborn_model.specs.shared.TreeCode.{tree_code}

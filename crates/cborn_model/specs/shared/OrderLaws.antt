@@ -1,7 +1,6 @@
 -- A device of the proofs: both orders of keys have the laws.
-use Rattle.std.proofs.Common.{◌≡◌, ℕ, List, length, Ordering, Less, Equal, Greater, nat_cmp}
-use Rattle.std.specs.Ordering.{ordering_then}
-use Rattle.std.specs.Cmp.{IsTotalOrder}
+use Rattle.std.specs.Prelude.{◌≡◌}
+use Rattle.cborn_model.specs.Common.{ℕ, List, length, Ordering, Less, Equal, Greater, nat_cmp, ordering_then, IsTotalOrder}
 use Rattle.std.proofs.lemmas.Cmp.{nat_list_cmp_total, then_total, on_total, nat_cmp_total, tied_itself}
 use Rattle.std.proofs.lemmas.Map.Lookups.{exact_bytes}
 use Rattle.cborn_model.specs.Orders.{IsKeyOrder, bytewise, length_first}

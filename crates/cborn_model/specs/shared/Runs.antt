@@ -1,5 +1,6 @@
 -- A device of the proofs: leaves that a visitor may take several at a time, as they are spelled. Of public contracts those of `Visitor`, and of `int_len` and `integers_at` of cborn_wire, alone cite it.
-use Rattle.std.specs.Prelude.{◌≡◌, ℕ, ◌+◌, List, [], ◌∷◌, ◌++◌, length, take, drop, None}
+use Rattle.std.specs.Prelude.{◌≡◌, ◌+◌, ◌∷◌, ◌++◌}
+use Rattle.cborn_model.specs.Common.{ℕ, List, [], length, take, drop, None}
 use Rattle.cborn_model.specs.Heads.{least}
 use Rattle.cborn_model.specs.Tree.{Tree, Uint, Nint, Bytes, Text, Simple, place}
 use Rattle.cborn_model.specs.Spelled.{spelled, Fits}

@@ -1,10 +1,7 @@
 -- A device of the proofs: a code for trees, by which they are told apart. A tree is the list of its marks, children first. No definition cites it.
-use Rattle.std.specs.Prelude.{ℕ, ◌≡◌, ◌⊎◌, List, [], ◌∷◌, refl}
-use Rattle.std.proofs.Common.{inl, inr, ◌∙◌}
-use Rattle.std.specs.Coded.{Coded, code_by, coded×, coded⊎, coded_ℕ, coded_list}
+use Rattle.std.specs.Prelude.{◌≡◌, ◌⊎◌, ◌∷◌}
+use Rattle.cborn_model.specs.Common.{ℕ, List, [], refl, inl, inr, ◌∙◌, Coded, code_by, coded×, coded⊎, coded_ℕ, coded_list, Width, Size}
 use base.Stored.{coded_unit}
-use Rattle.cborn_model.specs.declared.heads.Width.{Width}
-use Rattle.cborn_model.specs.declared.heads.Size.{Size}
 use Rattle.cborn_model.specs.declared.nodes.Chunk.{Chunk}
 use Rattle.cborn_model.specs.contracts.heads.Width as width
 use Rattle.cborn_model.specs.contracts.heads.Size as size

@@ -1,9 +1,7 @@
 -- A device of the proofs: nodes as a visitor is handed them.
-use Rattle.std.specs.Prelude.{ℕ, List, [], ◌∷◌, Option, Some, None}
-use Rattle.cborn_model.specs.declared.heads.Size.{Size}
-use Rattle.cborn_model.specs.declared.heads.Size.TheVariants.{Fixed, Endless}
+use Rattle.std.specs.Prelude.{◌∷◌}
+use Rattle.cborn_model.specs.Common.{ℕ, List, [], Option, Some, None, Size, Fixed, Endless, StringKind}
 use Rattle.cborn_model.specs.declared.nodes.Chunk.{Chunk}
-use Rattle.cborn_model.specs.declared.visitors.StringKind.{StringKind}
 use Rattle.cborn_model.specs.Tree.{Tree}
 use Rattle.cborn_model.specs.Partial.{string_tree}
 

@@ -1,6 +1,6 @@
 //! Input in pieces: the answer doesn't depend on where the input is cut.
 use super::checks::{are_read_alike, spells};
-use super::vectors::{LOOSE, REFUSED, wellformed};
+use super::vectors::{LOOSE, REFUSED, WELLFORMED, of_hex};
 use cborn_model::{Limit, Spelled};
 use cborn_wire::{Feeder, WireFault, read_all};
 use std::alloc::Global;
@@ -46,9 +46,11 @@ fn by_two(
 /// Catches a head that is kept for one more piece only.
 #[test]
 fn reads_by_bytes(rt: HostRuntime) -> Result<(), Fail> {
-    for input in wellformed(rt.alloc())? {
-        let read = by_bytes(&rt, rt.alloc(), Limit::USUAL, input);
-        spells(&rt, rt.alloc(), read, input);
+    for words in WELLFORMED {
+        for input in &of_hex(rt.alloc(), words)? {
+            let read = by_bytes(&rt, rt.alloc(), Limit::USUAL, input);
+            spells(&rt, rt.alloc(), read, input);
+        }
     }
     Ok(())
 }
@@ -66,7 +68,7 @@ fn refuses_by_bytes(rt: HostRuntime) {
 /// Catches a piece's end that is taken for the end of a head, a string, a chunk or an array.
 #[test]
 fn reads_at_every_cut(rt: HostRuntime) -> Result<(), Fail> {
-    for input in LOOSE {
+    for input in &of_hex(rt.alloc(), LOOSE)? {
         let whole = read_all(rt.alloc(), Limit::USUAL, input)?;
         assert!(rt; input.len() < 100);
         for cut in 0..=input.len() {

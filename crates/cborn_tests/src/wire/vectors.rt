@@ -4,115 +4,36 @@ use cborn_wire::WireReason::{
     BadChunk, BadSimple, EndlessNotAllowed, FloatLeftOut, ReservedInfo, Truncated, UnexpectedBreak,
 };
 use cborn_wire::{WireFault, WireReason, read_all, spell_all};
-use std::alloc::{AllocError, Global};
+use hex::decode;
+use std::alloc::Global;
 use std::test::Fail;
 
 /// Integers, bignums and simple values (RFC 8949, Appendix A).
-const NUMBERS: [&[u8]; 25] = [
-    b"\x00",
-    b"\x01",
-    b"\x0a",
-    b"\x17",
-    b"\x18\x18",
-    b"\x18\x19",
-    b"\x18\x64",
-    b"\x19\x03\xe8",
-    b"\x1a\x00\x0f\x42\x40",
-    b"\x1b\x00\x00\x00\xe8\xd4\xa5\x10\x00",
-    b"\x1b\xff\xff\xff\xff\xff\xff\xff\xff",
-    b"\x20",
-    b"\x29",
-    b"\x38\x63",
-    b"\x39\x03\xe7",
-    b"\x3b\xff\xff\xff\xff\xff\xff\xff\xff",
-    b"\xc2\x49\x01\x00\x00\x00\x00\x00\x00\x00\x00",
-    b"\xc3\x49\x01\x00\x00\x00\x00\x00\x00\x00\x00",
-    b"\xf4",
-    b"\xf5",
-    b"\xf6",
-    b"\xf7",
-    b"\xf0",
-    b"\xf8\xff",
-    b"\xf8\x20",
-];
+const NUMBERS: &str = "\
+00 01 0a 17 1818 1819 1864 1903e8 1a000f4240 1b000000e8d4a51000 1bffffffffffffffff 20 29 3863 3903e7
+3bffffffffffffffff c249010000000000000000 c349010000000000000000 f4 f5 f6 f7 f0 f8ff f820";
 
 /// Strings, and tags of them (RFC 8949, Appendix A).
-const STRINGS: [&[u8]; 18] = [
-    b"\x40",
-    b"\x44\x01\x02\x03\x04",
-    b"\x60",
-    b"\x61\x61",
-    b"\x64\x49\x45\x54\x46",
-    b"\x62\x22\x5c",
-    b"\x62\xc3\xbc",
-    b"\x63\xe6\xb0\xb4",
-    b"\x64\xf0\x90\x85\x91",
-    b"\x5f\x42\x01\x02\x43\x03\x04\x05\xff",
-    b"\x7f\x65\x73\x74\x72\x65\x61\x64\x6d\x69\x6e\x67\xff",
-    b"\x5f\xff",
-    b"\x7f\xff",
-    b"\xc0\x74\x32\x30\x31\x33\x2d\x30\x33\x2d\x32\x31\x54\x32\x30\x3a\x30\x34\x3a\x30\x30\x5a",
-    b"\xc1\x1a\x51\x4b\x67\xb0",
-    b"\xd7\x44\x01\x02\x03\x04",
-    b"\xd8\x18\x45\x64\x49\x45\x54\x46",
-    b"\xd8\x20\x76\x68\x74\x74\x70\x3a\x2f\x2f\x77\x77\x77\x2e\x65\x78\x61\x6d\x70\x6c\x65\x2e\x63\x6f\x6d",
-];
+const STRINGS: &str = "\
+40 4401020304 60 6161 6449455446 62225c 62c3bc 63e6b0b4 64f0908591 5f42010243030405ff
+7f657374726561646d696e67ff 5fff 7fff c074323031332d30332d32315432303a30343a30305a c11a514b67b0
+d74401020304 d818456449455446 d82076687474703a2f2f7777772e6578616d706c652e636f6d";
 
 /// Arrays and maps (RFC 8949, Appendix A).
-const COLLECTIONS: [&[u8]; 18] = [
-    b"\x80",
-    b"\x83\x01\x02\x03",
-    b"\x83\x01\x82\x02\x03\x82\x04\x05",
-    b"\x98\x19\x01\x02\x03\x04\x05\x06\x07\x08\x09\x0a\x0b\x0c\x0d\x0e\x0f\x10\x11\x12\x13\x14\x15\x16\x17\x18\x18\x18\x19",
-    b"\xa0",
-    b"\xa2\x01\x02\x03\x04",
-    b"\xa2\x61\x61\x01\x61\x62\x82\x02\x03",
-    b"\x82\x61\x61\xa1\x61\x62\x61\x63",
-    b"\xa5\x61\x61\x61\x41\x61\x62\x61\x42\x61\x63\x61\x43\x61\x64\x61\x44\x61\x65\x61\x45",
-    b"\x9f\xff",
-    b"\x9f\x01\x82\x02\x03\x9f\x04\x05\xff\xff",
-    b"\x9f\x01\x82\x02\x03\x82\x04\x05\xff",
-    b"\x83\x01\x82\x02\x03\x9f\x04\x05\xff",
-    b"\x83\x01\x9f\x02\x03\xff\x82\x04\x05",
-    b"\x9f\x01\x02\x03\x04\x05\x06\x07\x08\x09\x0a\x0b\x0c\x0d\x0e\x0f\x10\x11\x12\x13\x14\x15\x16\x17\x18\x18\x18\x19\xff",
-    b"\xbf\x61\x61\x01\x61\x62\x9f\x02\x03\xff\xff",
-    b"\x82\x61\x61\xbf\x61\x62\x61\x63\xff",
-    b"\xbf\x63\x46\x75\x6e\xf5\x63\x41\x6d\x74\x21\xff",
-];
+const COLLECTIONS: &str = "\
+80 83010203 8301820203820405 98190102030405060708090a0b0c0d0e0f101112131415161718181819 a0
+a201020304 a26161016162820203 826161a161626163 a56161614161626142616361436164614461656145 9fff
+9f018202039f0405ffff 9f01820203820405ff 83018202039f0405ff 83019f0203ff820405
+9f0102030405060708090a0b0c0d0e0f101112131415161718181819ff bf61610161629f0203ffff 826161bf61626163ff
+bf6346756ef563416d7421ff";
 
 /// Bytes that aren't deterministic: long heads, loose bignums, indefinite lengths, keys in another
 /// order. Some are sequences.
-pub const LOOSE: [&[u8]; 29] = [
-    b"\x18\x01",
-    b"\x98\x02\x18\x01\x58\x01\x61",
-    b"\x19\x00\xff",
-    b"\x38\x17",
-    b"\x59\x00\x02\x61\x62",
-    b"\x78\x03\x61\x62\x63",
-    b"\xc2\x40",
-    b"\xc3\x40",
-    b"\xc2\x43\x00\x00\x01",
-    b"\xc2\x48\xff\xff\xff\xff\xff\xff\xff\xff",
-    b"\xc2\x01",
-    b"\x62\xc3\x28",
-    b"\x7f\x61\xc3\x61\xbc\xff",
-    b"\xa8\xf4\x00\x81\x20\x00\x81\x18\x64\x00\x62\x61\x61\x00\x61\x7a\x00\x20\x00\x18\x64\x00\x0a\x00",
-    b"\xa2\x01\x00\xc2\x41\x01\x00",
-    b"\xa2\x02\x00\x18\x01\x00",
-    b"\xa1\xa2\x02\x00\x01\x00\x00",
-    b"\xbf\x61\x7a\x01\x0a\x5f\x41\x01\xff\xff",
-    b"\x01\x18\x64\x61\x7a",
-    b"\xbf\x01\x02\xff",
-    b"\xd8\x01\x00",
-    b"\xd8\x18\x41\x01",
-    b"\xd9\xd9\xf7\x80",
-    b"\x5f\x58\x01\x61\xff",
-    b"\x5f\x42\x61\x62\x41\x63\xff\x00",
-    b"\x19\x00\x01",
-    b"\x98\x00",
-    b"\x78\x01\x61",
-    b"\xb8\x01\x01\x02",
-];
+pub const LOOSE: &str = "\
+1801 98021801580161 1900ff 3817 5900026162 7803616263 c240 c340 c243000001 c248ffffffffffffffff c201
+62c328 7f61c361bcff a8f4008120008118640062616100617a0020001864000a00 a20100c2410100 a20200180100
+a1a20200010000 bf617a010a5f4101ffff 011864617a bf0102ff d80100 d8184101 d9d9f780 5f580161ff
+5f4261624163ff00 190001 9800 780161 b8010102";
 
 /// Bytes that aren't well-formed, each with the place and the reason of its fault (RFC 8949, Appendix
 /// F): each reason, and declared lengths that no memory holds.
@@ -146,23 +67,27 @@ pub const REFUSED: [(&[u8], u64, WireReason); 23] = [
     (b"\x9f", 1, Truncated),
 ];
 
-/// All of the bytes above that are well-formed.
-pub fn wellformed(alloc: Global) -> Result<Vec<&'static [u8]>, AllocError> {
+/// The bytes of each word of a text, which has two hexadecimal digits a byte.
+pub fn of_hex(alloc: Global, words: &str) -> Result<Vec<Vec<u8>>, Fail> {
     let mut inputs = Vec::new(alloc);
-    inputs.extend_from_slice(&NUMBERS)?;
-    inputs.extend_from_slice(&STRINGS)?;
-    inputs.extend_from_slice(&COLLECTIONS)?;
-    inputs.extend_from_slice(&LOOSE)?;
+    for word in words.split_ascii_whitespace() {
+        inputs.push(decode(alloc, word)?)?;
+    }
     Ok(inputs)
 }
+
+/// Bytes that are well-formed.
+pub const WELLFORMED: [&str; 4] = [NUMBERS, STRINGS, COLLECTIONS, LOOSE];
 
 /// Catches a reader and a writer that agree with each other and not with the standard.
 #[test]
 fn reads_and_spells(rt: HostRuntime) -> Result<(), Fail> {
-    for input in wellformed(rt.alloc())? {
-        let items = read_all(rt.alloc(), Limit::USUAL, input)?;
-        let bytes = spell_all(rt.alloc(), &items)?;
-        assert_eq!(rt; bytes.as_slice(), input);
+    for words in WELLFORMED {
+        for input in &of_hex(rt.alloc(), words)? {
+            let items = read_all(rt.alloc(), Limit::USUAL, input)?;
+            let bytes = spell_all(rt.alloc(), &items)?;
+            assert_eq!(rt; bytes.as_slice(), input.as_slice());
+        }
     }
     Ok(())
 }

@@ -1,5 +1,6 @@
 -- What a reader that is fed by pieces has ready is what it has to give.
-use Rattle.cborn_wire.proofs.Common.{◌≡◌, refl, sym, ap, ◌∙◌, subst, ℕ, ◌≤◌, List, ◌++◌, length, arith, append_assoc, append-nil, length-append, AreBytes, Tree, Trees, no_item, more, trees, depth, depth_all, spelled, spelled_all, Fits, FitsAll, Wellformed, PlacedAll, OpenContainer, beginnings, all_from, AreComplete, append_trees, Unfinished, nothing, State, Live, Failed, start, ready_in, partial_bytes, run}
+use Rattle.std.specs.Prelude.{◌≡◌, ◌≤◌, ◌++◌}
+use Rattle.cborn_wire.proofs.Common.{refl, sym, ap, ◌∙◌, subst, ℕ, List, length, arith, append_assoc, append-nil, length-append, AreBytes, Tree, Trees, no_item, more, trees, depth, depth_all, spelled, spelled_all, Fits, FitsAll, Wellformed, PlacedAll, OpenContainer, beginnings, all_from, AreComplete, append_trees, Unfinished, nothing, State, Live, Failed, start, ready_in, partial_bytes, run}
 use Rattle.cborn_wire.proofs.Machine.Running.{failed_run}
 use Rattle.cborn_wire.proofs.Machine.WholeFront.{front_run}
 use Rattle.cborn_wire.proofs.Machine.TakesItems.{append_trees-nil}

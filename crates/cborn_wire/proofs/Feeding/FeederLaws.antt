@@ -1,5 +1,6 @@
 -- The bytes that a reader that is fed by pieces holds follow from what it keeps, and its answers follow from them.
-use Rattle.cborn_wire.proofs.Common.{◌≡◌, refl, sym, ap, ◌∙◌, subst, ℕ, ◌+◌, ◌≤◌, List, [], ◌++◌, length, Option, Some, None, Err, inr, arith, append_assoc, length-append, option_to_list, AreBytes, Tree, Trees, no_item, more, trees, depth, spelled, Fits, Wellformed, Placed, PlacedAll, WireFault, WireReason, Truncated, OpenContainer, IsWellformed, Fault, AreComplete, Feeding, Accepts, Refuses, RunsShort, Feeds, append_trees, Unfinished, nothing, State, Live, Failed, start, IsLive, ready_in, held, run, IsReached, Stops}
+use Rattle.std.specs.Prelude.{◌≡◌, ◌+◌, ◌≤◌, ◌++◌}
+use Rattle.cborn_wire.proofs.Common.{refl, sym, ap, ◌∙◌, subst, ℕ, List, [], length, Option, Some, None, Err, inr, arith, append_assoc, length-append, option_to_list, AreBytes, Tree, Trees, no_item, more, trees, depth, spelled, Fits, Wellformed, Placed, PlacedAll, WireFault, WireReason, Truncated, OpenContainer, IsWellformed, Fault, AreComplete, Feeding, Accepts, Refuses, RunsShort, Feeds, append_trees, Unfinished, nothing, State, Live, Failed, start, IsLive, ready_in, held, run, IsReached, Stops}
 use Rattle.cborn_model.proofs.Bytes.{bytes-append, bytes-right}
 use Rattle.cborn_wire.specs.declared.faults.WireFault.TheVariants as faults
 use Rattle.cborn_wire.specs.Faults.{Refused}

@@ -1,5 +1,6 @@
 -- What a reader of items takes of a piece, as steps of the machine.
-use Rattle.cborn_wire.proofs.Common.{◌≡◌, refl, sym, ap, ◌∙◌, subst, ℕ, List, [], ◌∷◌, ◌++◌, length, Option, Some, None, Err, inl, inr, arith, nil_from_length, Tree, Trees, no_item, more, trees, IsSpelled, Partial, top, inside, Part, no_part, part, put, whole, VisitFault, Refused, Memory, Sequence, Level, PartialHead, HeadReader, Nodes, ItemReader, OpenContainer, Unfinished, nothing, State, Live, Failed, ready_in, start, run, AtMostOneMore, ready, open_in, unfinished, state, seen_head, Keeps, IsFresh, IsInput, Missing, Stands, HereAt, MayEnd, IsFed, FailsAs, seen_string, seen_nodes, IsHeld, pending, seen, IsMade}
+use Rattle.std.specs.Prelude.{◌≡◌, ◌∷◌, ◌++◌}
+use Rattle.cborn_wire.proofs.Common.{refl, sym, ap, ◌∙◌, subst, ℕ, List, [], length, Option, Some, None, Err, inl, inr, arith, nil_from_length, Tree, Trees, no_item, more, trees, IsSpelled, Partial, top, inside, Part, no_part, part, put, whole, VisitFault, Refused, Memory, input_level, Level, PartialHead, HeadReader, Nodes, ItemReader, OpenContainer, Unfinished, nothing, State, Live, Failed, ready_in, start, run, AtMostOneMore, ready, open_in, unfinished, state, seen_head, IsFresh, IsInput, Missing, Stands, HereAt, MayEnd, IsFed, FailsAs, seen_string, seen_nodes, IsHeld, pending, seen, IsMade}
 use Rattle.cborn_wire.specs.declared.levels.GrownLevels.{GrownLevels}
 use Rattle.cborn_wire.specs.shared.Visiting as visiting
 use Rattle.cborn_wire.specs.shared.Visiting.{levels as levels_of}
@@ -136,7 +137,7 @@ module _ (old : ItemReader) (made : IsMade old) (heads : HeadReader) (levels : G
         alone (v ∷ []) e = cc
         alone (v ∷ w ∷ us) e = cc
 
-    pub item_whole : (counted : GrownLevels) → next.string ≡ nodes.string → counted.outer.items ≡ levels.outer.items → counted.inner ≡ record levels.inner { kind = Sequence 0 }
+    pub item_whole : (counted : GrownLevels) → next.string ≡ nodes.string → counted.outer.items ≡ levels.outer.items → counted.inner ≡ input_level 0
         → AtMostOneMore (ready_in (run old.heads.limit (start made.base) made.read)) (run old.heads.limit (start made.base) (made.read ++ y))
         → let r : ItemReader = record { heads = heads; levels = counted; nodes = next } in IsMade r × (run old.heads.limit (seen [] old) y ≡ seen (t ∷ []) r) × (seen [] r ≡ start heads.at) × IsSpelled t
     item_whole counted string outer inner at_most =
@@ -145,8 +146,7 @@ module _ (old : ItemReader) (made : IsMade old) (heads : HeadReader) (levels : G
         let (head, left, around) = may_end_here (IsHeld nodes) levels.outer.items levels.inner heads now heads.at (more t no_item) fed.2 is_one in
         let here : Stands (IsHeld nodes) levels.outer.items levels.inner heads.left heads.at now = subst (λ h. HereAt (IsHeld nodes) levels.outer.items levels.inner heads.left heads.at h now) head fed.2 in
         let no_string : no_part ≡ seen_string next.string = sym (part_none heads.left here.amid here.missing left) ∙ here.held.1 ∙ ap seen_string (sym string) in
-        let place : levels.inner.place ≡ 0 = at_zero (these ++ t ∷ []) (sym (ap levels_of (here.held.0 ∙ is_top)) ∙ here.levels.0 ∙ ap (λ o. o ++ levels.inner ∷ []) around) in
-        let input : IsInput counted.outer.items counted.inner = (outer ∙ around, inner ∙ ap (λ p. record { place = p; kind = Sequence 0 }) place) in
+        let input : IsInput counted.outer.items counted.inner = (outer ∙ around, inner) in
         let bare_next : top [] ≡ seen_nodes next = sym (bare ∙ ap top none) in
         let (made_next, fresh) = fresh_made r heads.limit heads.at (refl, refl, left, head, fed.1) input (bare_next, no_string) in
         let one : now ≡ seen (t ∷ []) r = is_one ∙ ap with_one (sym fresh) in
@@ -160,9 +160,3 @@ module _ (old : ItemReader) (made : IsMade old) (heads : HeadReader) (levels : G
         part_none : (n : ℕ) (c : Part) → Missing n c → n ≡ 0 → c ≡ no_part
         part_none n no_part h e = refl
         part_none n (part p k w m x) (all, some) e = absurd (omega (arith, some, e))
-
-        at_zero : (ts : List Tree) → levels_of (top ts) ≡ levels.inner ∷ [] → levels.inner.place ≡ 0
-        at_zero ts e = sym (same_place e)
-          where
-            same_place : {a b : Level} → a ∷ [] ≡ b ∷ [] → a.place ≡ b.place
-            same_place e = cc

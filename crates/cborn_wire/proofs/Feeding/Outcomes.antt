@@ -1,5 +1,6 @@
 -- What an answer says of the fault in it.
-use Rattle.cborn_wire.proofs.Common.{◌≡◌, sym, ◌∙◌, ℕ, Result, Ok, Err, OnErr, IsErrAnd, WireFault, WireReason}
+use Rattle.std.specs.Prelude.{◌≡◌}
+use Rattle.cborn_wire.proofs.Common.{sym, ◌∙◌, ℕ, Result, Ok, Err, OnErr, IsErrAnd, WireFault, WireReason}
 use Rattle.cborn_wire.specs.declared.faults.WireFault.TheVariants as faults
 
 pub refused_is : (p q : ℕ) (r s : WireReason) → faults.Refused p r ≡ faults.Refused q s → (p ≡ q) × (r ≡ s)

@@ -1,5 +1,6 @@
 -- A piece is read item by item, as steps of the machine.
-use Rattle.cborn_wire.proofs.Common.{◌≡◌, sym, ap, ◌∙◌, ℕ, List, [], ◌++◌, take, Option, arith, length-append, option_to_list, length-take-le, Tree, no_item, trees, VisitFault, Refused, Memory, ItemReader, Live, Failed, ready_in, run, Stops, open_in, FailsAs, seen_nodes, pending, seen, Took, IsMoved}
+use Rattle.std.specs.Prelude.{◌≡◌, ◌++◌}
+use Rattle.cborn_wire.proofs.Common.{sym, ap, ◌∙◌, ℕ, List, [], take, Option, arith, length-append, option_to_list, length-take-le, Tree, no_item, trees, VisitFault, Refused, Memory, ItemReader, Live, Failed, ready_in, run, Stops, open_in, FailsAs, seen_nodes, pending, seen, Took, IsMoved}
 use Rattle.cborn_wire.specs.Visits.{wire_fault}
 use Rattle.cborn_wire.proofs.Machine.Running.{run-append}
 use Rattle.cborn_wire.proofs.Machine.TakesItems.{append_trees-nil}

@@ -1,5 +1,6 @@
 -- A reader that gives its whole input to a feeder reads it, or gives its fault.
-use Rattle.cborn_wire.proofs.Common.{◌≡◌, sym, ap, ◌∙◌, subst, ℕ, List, length, inl, arith, zero-add, None, Result, Err, OnErr, WireFault, WireReason, Truncated, Fault, Feeding, fresh, Accepts, Refuses, Feeds}
+use Rattle.std.specs.Prelude.{◌≡◌}
+use Rattle.cborn_wire.proofs.Common.{sym, ap, ◌∙◌, subst, ℕ, List, length, inl, arith, zero-add, None, Result, Err, OnErr, WireFault, WireReason, Truncated, Fault, Feeding, fresh, Accepts, Refuses, Feeds}
 use Rattle.cborn_wire.specs.declared.faults.WireFault.TheVariants as faults
 use Rattle.cborn_wire.proofs.Feeding.Outcomes.{refused_is, err_is, on_err}
 

@@ -1,5 +1,6 @@
 -- The machine takes what `read_head` reads.
-use Rattle.cborn_wire.proofs.Common.{◌≡◌, refl, sym, ap, ◌∙◌, ℕ, suc, ◌+◌, ◌/◌, ◌%◌, ◌<◌, ◌≤◌, List, [], ◌∷◌, ◌++◌, length, take, get_or, Bool, true, false, ◌&&◌, cond, leb, Option, Some, None, arith, append-nil, length-append, add-one, take_all, take-append-le, length-take, take_more, Width, Direct, Major, Other, Argument, Given, EndlessArgument, head, Trees, WireReason, BadSimple, TooDeep, UnexpectedBreak, Head, major_at, seen_argument, reason_alone, IsHeadOf, built, Slot, item, element_or_end, key_or_end, chunk, OpenContainer, opened, slot, slot_in, open_depth, needs_item, begins_low, Info, EndlessInformation, info_at, is_break, is_other, is_one, is_container, head_reason, width_bytes, number, argument_of, nothing, gathering, State, Live, Failed, finished, ended, after_head, unless, at_slot, run}
+use Rattle.std.specs.Prelude.{◌≡◌, ◌+◌, ◌/◌, ◌%◌, ◌<◌, ◌≤◌, ◌∷◌, ◌++◌, ◌&&◌}
+use Rattle.cborn_wire.proofs.Common.{refl, sym, ap, ◌∙◌, ℕ, suc, List, [], length, take, get_or, Bool, true, false, cond, leb, Option, Some, None, arith, append-nil, length-append, add-one, take_all, take-append-le, length-take, take_more, Width, Direct, Major, Other, Argument, Given, EndlessArgument, head, Trees, WireReason, BadSimple, TooDeep, UnexpectedBreak, Head, major_at, seen_argument, reason_alone, IsHeadOf, built, Slot, item, element_or_end, key_or_end, chunk, OpenContainer, opened, slot, slot_in, open_depth, needs_item, begins_low, Info, EndlessInformation, info_at, is_break, is_other, is_one, is_container, head_reason, width_bytes, number, argument_of, nothing, gathering, State, Live, Failed, finished, ended, after_head, unless, at_slot, run}
 use Rattle.std.proofs.Math.Bool.{and-false}
 use Rattle.cborn_wire.specs.Slots.{value as a_value}
 use Rattle.cborn_wire.proofs.HeadReading.InitialBytes.{same_alone}

@@ -1,5 +1,6 @@
 -- Where an item becomes complete nothing is left open, so a reader of one item may stop there.
-use Rattle.cborn_wire.proofs.Common.{refl, ℕ, List, [], ◌∷◌, ◌++◌, length, Bool, true, false, cond, ltb, leb, inl, inr, Width, Direct, One, Major, Unsigned, Negative, ByteString, TextString, Array, Map, Tag, Other, Argument, Given, EndlessArgument, Opening, an_array, a_map, built, string_tree, Tree, Trees, StringKind, OfBytes, OfText, OpenContainer, opened, slot_in, needs_item, size_in, count_in, State, is_full, finished, holding, content_at, ended, after_head, AtMostOneMore}
+use Rattle.std.specs.Prelude.{◌∷◌, ◌++◌}
+use Rattle.cborn_wire.proofs.Common.{refl, ℕ, List, [], length, Bool, true, false, cond, ltb, leb, inl, inr, Width, Direct, One, Major, Unsigned, Negative, ByteString, TextString, Array, Map, Tag, Other, Argument, Given, EndlessArgument, Opening, an_array, a_map, built, string_tree, Tree, Trees, StringKind, OfBytes, OfText, OpenContainer, opened, slot_in, needs_item, size_in, count_in, State, is_full, finished, holding, content_at, ended, after_head, AtMostOneMore}
 
 one_more_if : (ready : Trees) (c : Bool) {s u : State} → AtMostOneMore ready s → AtMostOneMore ready u → AtMostOneMore ready (cond c s u)
 one_more_if ready true h k = h

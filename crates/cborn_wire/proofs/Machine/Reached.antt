@@ -1,5 +1,6 @@
 -- What is known of a state that some bytes make.
-use Rattle.cborn_wire.proofs.Common.{◌≡◌, refl, sym, ap, ◌∙◌, subst, ℕ, ◌+◌, ◌≤◌, List, [], ◌∷◌, ◌++◌, length, arith, AreBytes, in_chunks, Tree, Trees, no_item, more, depth, depth_all, Fits, FitsAll, OpenContainer, opened, open_depth, IsNoString, AreOpen, snoc, Unfinished, State, Live, Failed, start, IsLive, held, run, IsReached}
+use Rattle.std.specs.Prelude.{◌≡◌, ◌+◌, ◌≤◌, ◌∷◌, ◌++◌}
+use Rattle.cborn_wire.proofs.Common.{refl, sym, ap, ◌∙◌, subst, ℕ, List, [], length, arith, AreBytes, in_chunks, Tree, Trees, no_item, more, depth, depth_all, Fits, FitsAll, OpenContainer, opened, open_depth, IsNoString, AreOpen, snoc, Unfinished, State, Live, Failed, start, IsLive, held, run, IsReached}
 use Rattle.cborn_model.proofs.Bytes.{bytes-append}
 use Rattle.cborn_wire.proofs.Machine.Running.{run-append}
 use Rattle.cborn_wire.proofs.Machine.SoundItems.{SoundLive, Sound}

@@ -1,5 +1,6 @@
 -- A run over one list after another, and the run of what failed.
-use Rattle.cborn_wire.proofs.Common.{◌≡◌, refl, ℕ, List, [], ◌∷◌, ◌++◌, Trees, WireReason, State, Failed, step, run}
+use Rattle.std.specs.Prelude.{◌≡◌, ◌∷◌, ◌++◌}
+use Rattle.cborn_wire.proofs.Common.{refl, ℕ, List, [], Trees, WireReason, State, Failed, step, run}
 
 pub run-append : (limit : ℕ) (s : State) (x y : List ℕ) → run limit s (x ++ y) ≡ run limit (run limit s x) y
 run-append limit s [] y = refl

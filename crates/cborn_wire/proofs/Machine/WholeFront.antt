@@ -1,5 +1,6 @@
 -- What the machine does doesn't depend on the items that were whole before.
-use Rattle.cborn_wire.proofs.Common.{◌≡◌, refl, ap, ◌∙◌, ℕ, suc, ◌/◌, ◌%◌, List, [], ◌∷◌, ◌++◌, length, Bool, true, false, cond, ltb, leb, Option, Some, None, Width, Direct, One, Major, Unsigned, Negative, ByteString, TextString, Array, Map, Tag, Other, Argument, Given, EndlessArgument, Opening, an_array, a_map, built, string_tree, Tree, Trees, no_item, more, WireReason, StringKind, OfBytes, OfText, OpenContainer, opened, slot_in, needs_item, Info, Now, Next, Reserved, EndlessInformation, info_at, major_at, size_in, count_in, append_trees, snoc, width_bytes, number, Goal, argument_of, content_of, nothing, gathering, State, Live, Failed, is_full, finished, holding, ended, gather, begin_head, after_head, unless, step, run}
+use Rattle.std.specs.Prelude.{◌≡◌, ◌/◌, ◌%◌, ◌∷◌, ◌++◌}
+use Rattle.cborn_wire.proofs.Common.{refl, ap, ◌∙◌, ℕ, suc, List, [], length, Bool, true, false, cond, ltb, leb, Option, Some, None, Width, Direct, One, Major, Unsigned, Negative, ByteString, TextString, Array, Map, Tag, Other, Argument, Given, EndlessArgument, Opening, an_array, a_map, built, string_tree, Tree, Trees, no_item, more, WireReason, StringKind, OfBytes, OfText, OpenContainer, opened, slot_in, needs_item, Info, Now, Next, Reserved, EndlessInformation, info_at, major_at, size_in, count_in, append_trees, snoc, width_bytes, number, Goal, argument_of, content_of, nothing, gathering, State, Live, Failed, is_full, finished, holding, ended, gather, begin_head, after_head, unless, step, run}
 
 abbrev pub with_front : Trees → State → State
 with_front front (Live fed ready os partial) = Live fed (append_trees front ready) os partial

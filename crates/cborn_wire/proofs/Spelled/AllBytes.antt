@@ -1,5 +1,6 @@
 -- What is spelled is bytes.
-use Rattle.cborn_wire.proofs.Common.{subst, ℕ, List, [], ◌∷◌, ◌++◌, length, arith, flat_map, AreBytes, Width, Direct, One, Two, Four, Eight, Size, Fixed, Endless, Chunk, Major, Unsigned, Negative, ByteString, TextString, Array, Map, Tag, Other, WidthFits, following, least, Argument, Given, EndlessArgument, head, argument, SizeFits, Tree, Uint, Nint, Bytes, Text, ByteChunks, TextChunks, Items, Pairs, Tagged, Simple, Trees, no_item, more, Entries, no_entry, entry, count, count_entries, ending, string, chunk_bytes, chunks, spelled, spelled_all, spelled_entries, ChunksFit, Fits, FitsAll, FitsEntries, Wellformed, ArgumentFits}
+use Rattle.std.specs.Prelude.{◌∷◌, ◌++◌}
+use Rattle.cborn_wire.proofs.Common.{subst, ℕ, List, [], length, arith, flat_map, AreBytes, Width, Direct, One, Two, Four, Eight, Size, Fixed, Endless, Chunk, Major, Unsigned, Negative, ByteString, TextString, Array, Map, Tag, Other, WidthFits, following, least, Argument, Given, EndlessArgument, head, argument, SizeFits, Tree, Uint, Nint, Bytes, Text, ByteChunks, TextChunks, Items, Pairs, Tagged, Simple, Trees, no_item, more, Entries, no_entry, entry, count, count_entries, ending, string, chunk_bytes, chunks, spelled, spelled_all, spelled_entries, ChunksFit, Fits, FitsAll, FitsEntries, Wellformed, ArgumentFits}
 use Rattle.cborn_model.proofs.Numbers.OneHead.{low_bits_below}
 use Rattle.cborn_model.proofs.Numbers.Simples.{simple_fits}
 use Rattle.cborn_model.proofs.Bytes.{bytes-append}

@@ -1,5 +1,6 @@
 -- Nodes that are at their offsets stay as they are.
-use Rattle.cborn_wire.proofs.Common.{◌≡◌, refl, sym, ap, ◌∙◌, ℕ, suc, ◌+◌, List, [], ◌∷◌, length, Chunk, Major, ByteString, TextString, Array, Map, Tag, Given, head, argument, Tree, Uint, Nint, Bytes, Text, ByteChunks, TextChunks, Items, Pairs, Tagged, Simple, Trees, no_item, more, Entries, no_entry, entry, count, count_entries, chunk_bytes, spelled, ChunksPlaced, Placed, PlacedAll, PlacedEntries, chunks_from, placed_from, all_from, entries_from}
+use Rattle.std.specs.Prelude.{◌≡◌, ◌+◌, ◌∷◌}
+use Rattle.cborn_wire.proofs.Common.{refl, sym, ap, ◌∙◌, ℕ, suc, List, [], length, Chunk, Major, ByteString, TextString, Array, Map, Tag, Given, head, argument, Tree, Uint, Nint, Bytes, Text, ByteChunks, TextChunks, Items, Pairs, Tagged, Simple, Trees, no_item, more, Entries, no_entry, entry, count, count_entries, chunk_bytes, spelled, ChunksPlaced, Placed, PlacedAll, PlacedEntries, chunks_from, placed_from, all_from, entries_from}
 
 same_chunks : (m : Major) (cs : List Chunk) (p : ℕ) → ChunksPlaced m p cs → chunks_from m p cs ≡ cs
 same_chunks m [] p h = refl

@@ -1,5 +1,6 @@
 -- The laws of faults.
-use Rattle.cborn_wire.proofs.Common.{◌≡◌, refl, sym, ap, ◌∙◌, subst, ℕ, ◌+◌, ◌/◌, ◌%◌, ◌<◌, ◌≤◌, List, [], ◌∷◌, ◌++◌, length, take, Bool, true, false, cond, eqb, ◌⊎◌, inl, inr, arith, append_assoc, length-append, cases_order, AreBytes, Trees, Wellformed, WireReason, Truncated, OpenContainer, IsWellformed, GoesOn, IsReason, Fault, SlotRefused, Unfinished, nothing, gathering, State, Live, Failed, run, start}
+use Rattle.std.specs.Prelude.{◌≡◌, ◌+◌, ◌/◌, ◌%◌, ◌<◌, ◌≤◌, ◌∷◌, ◌++◌, ◌⊎◌}
+use Rattle.cborn_wire.proofs.Common.{refl, sym, ap, ◌∙◌, subst, ℕ, List, [], length, take, Bool, true, false, cond, eqb, inl, inr, arith, append_assoc, length-append, cases_order, AreBytes, Trees, Wellformed, WireReason, Truncated, OpenContainer, IsWellformed, GoesOn, IsReason, Fault, SlotRefused, Unfinished, nothing, gathering, State, Live, Failed, run, start}
 use Rattle.cborn_model.proofs.Bytes.{bytes-left}
 use Rattle.cborn_wire.specs.Faults.{Refused}
 use Rattle.cborn_wire.proofs.Spelled.AllBytes.{well_bytes}

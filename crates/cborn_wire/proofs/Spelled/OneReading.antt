@@ -1,5 +1,6 @@
 -- A list of bytes has one reading at most, and no item begins another.
-use Rattle.cborn_wire.proofs.Common.{◌≡◌, refl, sym, ap, ◌∙◌, subst, ℕ, ◌+◌, ◌≤◌, List, [], ◌++◌, length, max, arith, append_assoc, append-nil, length-append, add-zero, append_cancel_left, AreBytes, Tree, Trees, trees, no_item, more, depth, depth_all, spelled, spelled_all, Fits, FitsAll, Wellformed, Placed, PlacedAll, placed_from, all_from, append_trees, snoc, nothing, State, Live, Failed, start, ready_in, front, run, inl, inr, ◌⊎◌, ◌∷◌}
+use Rattle.std.specs.Prelude.{◌≡◌, ◌+◌, ◌≤◌, ◌++◌, ◌⊎◌, ◌∷◌}
+use Rattle.cborn_wire.proofs.Common.{refl, sym, ap, ◌∙◌, subst, ℕ, List, [], length, max, arith, append_assoc, append-nil, length-append, add-zero, append_cancel_left, AreBytes, Tree, Trees, trees, no_item, more, depth, depth_all, spelled, spelled_all, Fits, FitsAll, Wellformed, Placed, PlacedAll, placed_from, all_from, append_trees, snoc, nothing, State, Live, Failed, start, ready_in, front, run, inl, inr}
 use Rattle.cborn_model.proofs.Numbers.OneHead.{append_same}
 use Rattle.cborn_wire.proofs.Machine.Running.{run-append}
 use Rattle.cborn_wire.proofs.Machine.TakesItems.{takes, append_trees-nil, append_trees-snoc}

@@ -1,5 +1,6 @@
 -- The table of faults by slots gives the reason of `Faults`.
-use Rattle.cborn_wire.proofs.Common.{◌≡◌, refl, sym, ◌∙◌, subst, ℕ, ◌/◌, ◌%◌, ◌<◌, List, [], ◌∷◌, take, Bool, true, false, cond, not, ◌&&◌, ◌||◌, leb, eqb, Option, Some, None, arith, leb-true, eqb-true, le-leb, lt-leb, and_parts, agree_below_at, code, WireReason, ReservedInfo, EndlessNotAllowed, BadChunk, UnexpectedBreak, FloatLeftOut, BadSimple, TooDeep, Truncated, StringKind, OfBytes, OfText, major_of, Slot, item, value, element_or_end, key_or_end, chunk, judged, needs_item, begins_low, reason_at}
+use Rattle.std.specs.Prelude.{◌≡◌, ◌/◌, ◌%◌, ◌<◌, ◌∷◌, ◌&&◌, ◌||◌}
+use Rattle.cborn_wire.proofs.Common.{refl, sym, ◌∙◌, subst, ℕ, List, [], take, Bool, true, false, cond, not, leb, eqb, Option, Some, None, arith, leb-true, eqb-true, le-leb, lt-leb, and_parts, agree_below_at, code, WireReason, ReservedInfo, EndlessNotAllowed, BadChunk, UnexpectedBreak, FloatLeftOut, BadSimple, TooDeep, Truncated, StringKind, OfBytes, OfText, major_of, Slot, item, value, element_or_end, key_or_end, chunk, judged, needs_item, begins_low, reason_at}
 use Rattle.cborn_wire.specs.Faults.{reason_of}
 use Rattle.cborn_wire.specs.SlotFaults as table
 use Rattle.cborn_wire.proofs.Machine.SomeEnd.{some_is}

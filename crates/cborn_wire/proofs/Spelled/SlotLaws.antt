@@ -1,5 +1,6 @@
 -- The state of the machine at a slot, and what it fails for there.
-use Rattle.cborn_wire.proofs.Common.{◌≡◌, refl, sym, ap, ◌∙◌, subst, ℕ, ◌+◌, List, [], ◌++◌, length, Some, arith, append-nil, length-append, AreBytes, Trees, no_item, spelled_all, WireReason, Slot, OpenContainer, beginnings, slot, open_depth, Open, IsWellformed, GoesOn, SlotRefused, front_reason, all_from, Unfinished, nothing, State, Live, Failed, IsLive, run, start, front}
+use Rattle.std.specs.Prelude.{◌≡◌, ◌+◌, ◌++◌}
+use Rattle.cborn_wire.proofs.Common.{refl, sym, ap, ◌∙◌, subst, ℕ, List, [], length, Some, arith, append-nil, length-append, AreBytes, Trees, no_item, spelled_all, WireReason, Slot, OpenContainer, beginnings, slot, open_depth, Open, IsWellformed, GoesOn, SlotRefused, front_reason, all_from, Unfinished, nothing, State, Live, Failed, IsLive, run, start, front}
 use Rattle.cborn_model.proofs.Bytes.{bytes-append}
 use Rattle.cborn_wire.proofs.HeadReading.InitialBytes.{same_reason}
 use Rattle.cborn_wire.proofs.Machine.Running.{run-append, failed_run}

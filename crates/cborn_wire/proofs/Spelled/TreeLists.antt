@@ -1,5 +1,6 @@
 -- Nodes one after another, as lists of std and as the trees' own.
-use Rattle.cborn_wire.proofs.Common.{◌≡◌, refl, sym, ap, ◌∙◌, suc, List, [], ◌∷◌, ◌++◌, length, append_assoc, Tree, Trees, no_item, more, trees, count, spelled, spelled_all, append_trees, snoc}
+use Rattle.std.specs.Prelude.{◌≡◌, ◌∷◌, ◌++◌}
+use Rattle.cborn_wire.proofs.Common.{refl, sym, ap, ◌∙◌, suc, List, [], length, append_assoc, Tree, Trees, no_item, more, trees, count, spelled, spelled_all, append_trees, snoc}
 use Rattle.cborn_model.proofs.Listed.Trees.{trees-injective}
 
 pub trees-append : (ts us : List Tree) → trees (ts ++ us) ≡ append_trees (trees ts) (trees us)

@@ -1,5 +1,6 @@
 -- What is made of the head of an array, a map or a tag.
-use Rattle.cborn_wire.proofs.Common.{◌≡◌, refl, sym, ap, subst, ℕ, zero, suc, ◌+◌, ◌/◌, ◌%◌, ◌≤◌, ◌<◌, List, [], ◌∷◌, length, get_or, leb, false, None, Result, Ok, Err, IfOk, arith, Major, Array, Map, Tag, Other, Argument, EndlessArgument, Partial, Part, no_part, Level, Head, slot, open_depth, major_at, seen_argument, IsHeadOf, TakesHead, info_at, is_always_bounded, head_reason, AtMostOneMore, after_head, ended, ready, open_in, Keeps, Takes, Stands}
+use Rattle.std.specs.Prelude.{◌≡◌, ◌+◌, ◌/◌, ◌%◌, ◌≤◌, ◌<◌, ◌∷◌}
+use Rattle.cborn_wire.proofs.Common.{refl, sym, ap, subst, ℕ, zero, suc, List, [], length, get_or, leb, false, None, Result, IfOk, arith, Major, Array, Map, Tag, Other, Argument, EndlessArgument, Partial, Part, no_part, Level, Head, slot, open_depth, major_at, seen_argument, IsHeadOf, TakesHead, info_at, is_always_bounded, head_reason, AtMostOneMore, after_head, ended, ready, open_in, Keeps, Takes, Stands}
 use Rattle.cborn_wire.specs.declared.heads.Argument.TheVariants.{Endless}
 use Rattle.cborn_wire.proofs.HeadReading.HeadFronts.{endless_head}
 use Rattle.cborn_wire.proofs.HeadReading.HeadSteps.{break_taken, head_fits, head_taken}
@@ -42,13 +43,10 @@ module _ (limit place : ℕ) (f : Partial) (piece : List ℕ) (holds : Partial �
         subst (AtMostOneMore (ready f)) (sym goes) (one_more_head (ready f) (major_at h.major) (seen_argument h.argument) (open_in f) _ _),
       )
 
-  pub break_ends : {E : Type 0} (r : Result ℕ E) → 0 < length piece → get_or piece 0 0 ≡ 255
-      → IfOk r (λ n. 0 < n → Stands holds around l 0 (place + 1) (ended (place + 1) place (ready f) (open_in f))) → IfOk r (λ n. 0 < n → n ≡ 1) → IfOk r (λ n. 0 < n → TakesHead limit place f piece holds around l n)
-  break_ends (Err e) some first stands one = tt
-  break_ends (Ok n) some first stands one = λ h.
-      let goes = break_taken limit place (ready f) (open_in f) piece some first in
-      subst (TakesHead limit place f piece holds around l) (sym (one h)) (
+  pub break_ends : (left : ℕ) → 0 < length piece → get_or piece 0 0 ≡ 255 → left ≡ 0 → Stands holds around l left (place + 1) (ended (place + 1) place (ready f) (open_in f)) → TakesHead limit place f piece holds around l 1
+  break_ends left some first no_left stands =
+      let goes = break_taken limit place (ready f) (open_in f) piece some first in (
         omega (arith, some),
-        subst (Stands holds around l 0 (place + 1)) (sym goes) (stands h),
+        subst (Stands holds around l 0 (place + 1)) (sym goes) (subst (λ k. Stands holds around l k (place + 1) (ended (place + 1) place (ready f) (open_in f))) no_left stands),
         subst (AtMostOneMore (ready f)) (sym goes) (one_more_head (ready f) Other EndlessArgument (open_in f) _ _),
       )

@@ -1,7 +1,9 @@
 -- What one more node or a break makes of a partial sequence: the levels that are kept, and the state.
-use Rattle.cborn_wire.proofs.Common.{◌≡◌, refl, sym, ap, ◌∙◌, ℕ, ◌+◌, ◌-◌, ◌/◌, ◌^◌, ◌<◌, ◌≤◌, List, [], ◌∷◌, ◌++◌, length, Bool, true, false, not, cond, leb, ltb, Option, Some, None, arith, length-append, length_push, le-leb, lt-leb, ltb-true, ltb-false, lt-ltb, le-ltb, Width, Eight, Size, Fixed, Endless, WidthFits, Tree, Opening, an_array, a_map, a_tag, in_chunks, Partial, top, inside, no_part, put, paired, last_key, built, string_tree, IsMore, Goes, Ends, TakesItem, TakesString, Proper, IsFree, UnexpectedBreak, StringKind, OfBytes, OfText, opened, slot_in, slot_in_map, Announces, HeadFits, needs_item, place_of, nothing, is_full, Live, Failed, finished, ended, LevelKind, Sequence, Chunks, Level, ready, open_in, state, AreFromBytes, next_number, at_most_highest, map_kind, kind_in, levels, Keeps, with_part, may_end}
-use Rattle.cborn_wire.specs.declared.levels.LevelKind.TheVariants.{Array, Map}
-use Rattle.cborn_wire.proofs.Machine.Containers.{pair_count, even, key_next, value_next, goes_on, goes_whole, break_ends}
+use Rattle.std.specs.Prelude.{◌≡◌, ◌+◌, ◌/◌, ◌%◌, ◌^◌, ◌<◌, ◌≤◌, ◌∷◌, ◌++◌, ◌⊎◌}
+use Rattle.cborn_wire.proofs.Common.{refl, sym, ap, ◌∙◌, subst, ℕ, zero, suc, List, [], length, Bool, true, false, not, cond, ltb, eqb, Option, Some, None, inl, inr, arith, cases_lt, length-append, length_push, le-leb, lt-leb, lt-ltb, le-ltb, Width, Eight, Fixed, Endless, WidthFits, Tree, Opening, an_array, a_map, a_tag, in_chunks, Partial, top, inside, no_part, put, last_key, built, string_tree, Goes, Ends, TakesItem, TakesString, Proper, IsFree, UnexpectedBreak, StringKind, OfBytes, OfText, opened, slot, slot_in, slot_in_map, HeadFits, needs_item, Slot, item, element_or_end, key_or_end, chunk, plain, nothing, is_full, Live, Failed, finished, ended, LevelKind, Level, ready, open_in, state, AreFromBytes, levels, Keeps, with_part, may_end, lessened, is_even, is_chunks, slot_of, kind_in, level_in, level_with, input_level, announced_nodes, kind_at_none, with_kind, if_none}
+use Rattle.cborn_wire.specs.declared.levels.LevelKind.TheVariants.{Map, GreatMap}
+use Rattle.cborn_wire.specs.Slots.{value}
+use Rattle.cborn_wire.proofs.Machine.Containers.{pair_count, even, goes_on, goes_whole, break_ends}
 use Rattle.cborn_wire.proofs.Machine.SoundItems.{Accepts}
 use Rattle.cborn_wire.proofs.Spelled.TreeLists.{trees-push}
 
@@ -18,46 +20,30 @@ last_same (a ∷ xs) (b ∷ ys) e =
     tail : {A : Type 0} {a b : A} {l m : List A} → a ∷ l ≡ b ∷ m → l ≡ m
     tail e = cc
 
--- numbers that stay at the highest of 64 bits
+-- parts that are missing, modulo 2^64
 
-abbrev highest : ℕ
-highest = 2 ^ 64 - 1
+pub again : (n k : ℕ) → lessened (lessened n k) 1 ≡ lessened n (k + 1)
+again n k = omega arith
 
-below : (n : ℕ) → n < highest → at_most_highest n ≡ n
-below n h = ap (λ b. cond b n highest) (lt-ltb n highest h)
+-- A level with one more part: some are missing then, or none, modulo 2^64.
+module _ (l : Level) where
+  some_missing : (m : ℕ) → 0 < m → if_none (record l { missing = m }) m ≡ Some (record l { missing = m })
+  some_missing zero h = absurd (omega (arith, h))
+  some_missing (suc m) h = refl
 
-above : (n : ℕ) → highest ≤ n → at_most_highest n ≡ highest
-above n h = ap (λ b. cond b n highest) (le-ltb n highest h)
+  none_missing : (m : ℕ) (r : Option LevelKind) → m ≡ 0 → kind_at_none l.kind ≡ r → if_none (record l { missing = m }) m ≡ with_kind (record l { missing = m }) r
+  none_missing zero r h e = ap (with_kind (record l { missing = 0 })) e
+  none_missing (suc m) r h e = absurd (omega (arith, h))
 
-next_highest : (k j : ℕ) → j ≡ k + 1 → next_number (at_most_highest k) ≡ at_most_highest j
-next_highest k j e = go (ltb k highest) refl
-  where
-    go : (b : Bool) → ltb k highest ≡ b → next_number (at_most_highest k) ≡ at_most_highest j
-    go true h =
-        let small : k < highest = ltb-true k highest h in
-        ap next_number (below k small) ∙ ap (λ b. cond b (k + 1) k) (lt-ltb k highest small) ∙ sym e ∙ less (ltb j highest) refl
-      where
-        less : (b : Bool) → ltb j highest ≡ b → j ≡ at_most_highest j
-        less true g = sym (below j (ltb-true j highest g))
-        less false g = omega (arith, ltb-false j highest g, ltb-true k highest h, e) ∙ sym (above j (ltb-false j highest g))
-    go false h =
-        let great : highest ≤ k = ltb-false k highest h in
-        ap next_number (above k great) ∙ ap (λ b. cond b (highest + 1) highest) (le-ltb highest highest (omega arith)) ∙ sym (above j (omega (arith, great, e)))
+  pub counted_on : 0 < lessened l.missing 1 → with_part l ≡ Some (record l { missing = lessened l.missing 1 })
+  counted_on h = some_missing (lessened l.missing 1) h
 
-all_same : (n k : ℕ) → n < 2 ^ 64 → leb n (at_most_highest k) ≡ leb n k
-all_same n k h = go (ltb k highest) refl
-  where
-    go : (b : Bool) → ltb k highest ≡ b → leb n (at_most_highest k) ≡ leb n k
-    go true g = ap (leb n) (below k (ltb-true k highest g))
-    go false g =
-        let great = ltb-false k highest g in
-        ap (leb n) (above k great) ∙ le-leb n highest (omega (arith, h)) ∙ sym (le-leb n k (omega (arith, h, great)))
+  at_none_is : (r : Option LevelKind) → lessened l.missing 1 ≡ 0 → kind_at_none l.kind ≡ r → with_part l ≡ with_kind (record l { missing = lessened l.missing 1 }) r
+  at_none_is r h e = none_missing (lessened l.missing 1) r h e
 
--- a counted part, where the head says how many there are
-counted : (n k j : ℕ) (kind : ℕ → LevelKind) → n < 2 ^ 64 → j ≡ k + 1
-    → cond (leb n (next_number (at_most_highest k))) None (Some (kind (next_number (at_most_highest k)))) ≡ cond (leb n j) None (Some (kind (at_most_highest j)))
-counted n k j kind below e =
-    ap (λ m. cond (leb n m) None (Some (kind m))) (next_highest k j e) ∙ ap (λ b. cond b None (Some (kind (at_most_highest j)))) (all_same n j below)
+  -- a level that announces no number of parts
+  pub endless_on : kind_at_none l.kind ≡ Some l.kind → with_part l ≡ Some (record l { missing = lessened l.missing 1 })
+  endless_on e = elim (cases_lt 0 (lessened l.missing 1)) [ inl h ↦ counted_on h | inr h ↦ at_none_is (Some l.kind) (omega (arith, h)) e ]
 
 small : (w : Width) (n : ℕ) → WidthFits w n → n < 2 ^ 64
 small Eight n h = h
@@ -65,37 +51,88 @@ small w n h = omega arith
 
 -- The level of a container with one more node: none, if it is whole.
 
-abbrev Next : Opening → List Tree → Tree → Type 0
-Next o ts t = with_part (kind_in o ts) ≡ cond (is_full o (length (ts ++ t ∷ []))) None (Some (kind_in o (ts ++ t ∷ [])))
+abbrev Next : Opening → ℕ → Type 0
+Next o k = with_part (level_with o k) ≡ cond (is_full o (k + 1)) None (Some (level_with o (k + 1)))
 
-in_map : (p : ℕ) (s : Size) (c : Option ℕ) (ts : List Tree) (t : Tree) (x : Option Tree) → last_key ts ≡ x → Announces s c → IsMore c (length (paired ts)) → Next (a_map p s c) ts t
-in_map p s None ts t None e fits h = let k = key_next ts t e in rw (e, k.0, k.1) refl
-in_map p s (Some n) ts t None e fits h =
-    let k = key_next ts t e in
-    rw (e, k.0, k.1, lt-leb n (length (ts ++ t ∷ []) / 2) (omega (arith, h, pair_count ts, even ts e, length_push ts t))) refl
-in_map p Endless None ts t (Some u) e fits h =
-    let v = value_next ts t u e in
-    let more : length (paired (ts ++ t ∷ [])) ≡ length (paired ts) + 1 = ap length v.0 ∙ length-append (paired ts) ((u, t) ∷ []) in
-    rw (e, v.1) (ap (λ k. Some (Map None k)) (next_highest (length (paired ts)) (length (paired (ts ++ t ∷ []))) more))
-in_map p (Fixed w) (Some n) ts t (Some u) e fits h =
-    let v = value_next ts t u e in
-    let more : length (paired (ts ++ t ∷ [])) ≡ length (paired ts) + 1 = ap length v.0 ∙ length-append (paired ts) ((u, t) ∷ []) in
-    rw (e, v.1) (counted n (length (paired ts)) (length (paired (ts ++ t ∷ []))) (Map (Some n)) (small w n fits) more ∙ ap (λ k. cond (leb n k) None (Some (Map (Some n) (at_most_highest (length (paired (ts ++ t ∷ []))))))) (pair_count (ts ++ t ∷ [])))
-in_map p (Fixed w) None ts t (Some u) e fits h = absurd fits
-in_map p Endless (Some n) ts t (Some u) e fits h = absurd fits
+-- it is whole
+whole_next : (o : Opening) (k : ℕ) → lessened (announced_nodes o) (k + 1) ≡ 0 → kind_at_none (kind_in o k) ≡ None → is_full o (k + 1) ≡ true → Next o k
+whole_next o k none end full = at_none_is (level_with o k) None (again (announced_nodes o) k ∙ none) end ∙ ap (λ b. cond b None (Some (level_with o (k + 1)))) (sym full)
 
-next : (o : Opening) (ts : List Tree) (t : Tree) → HeadFits o → Goes o ts → Next o ts t
-next (an_array p (Fixed w) (Some n)) ts t fits h = counted n (length ts) (length (ts ++ t ∷ [])) (Array (Some n)) (small w n fits) (length_push ts t)
-next (an_array p Endless None) ts t fits h = ap (λ k. Some (Array None k)) (next_highest (length ts) (length (ts ++ t ∷ [])) (length_push ts t))
-next (an_array p (Fixed w) None) ts t fits h = absurd fits
-next (an_array p Endless (Some n)) ts t fits h = absurd fits
-next (a_map p s c) ts t fits h = in_map p s c ts t (last_key ts) refl fits h
-next (a_tag p w n) ts t fits h = ap (λ b. cond b None (Some (kind_in (a_tag p w n) (ts ++ t ∷ [])))) (sym (le-leb 1 (length (ts ++ t ∷ [])) (omega (arith, length_push ts t))))
-next (in_chunks p k) ts t fits h = ap (λ n. Some (Chunks k n)) (next_highest (length ts) (length (ts ++ t ∷ [])) (length_push ts t))
+-- it isn't
+on_next : (o : Opening) (k : ℕ) (c : LevelKind) → with_part (level_with o k) ≡ Some (record (level_with o k) { kind = c; missing = lessened (lessened (announced_nodes o) k) 1 }) → c ≡ kind_in o (k + 1) → is_full o (k + 1) ≡ false → Next o k
+on_next o k c is kind more =
+    is
+    ∙ ap (λ m. Some (record (level_with o k) { kind = c; missing = m })) (again (announced_nodes o) k)
+    ∙ ap (λ d. Some (record (level_with o (k + 1)) { kind = d })) kind
+    ∙ ap (λ b. cond b None (Some (level_with o (k + 1)))) (sym more)
+
+some_next : (o : Opening) (k : ℕ) → 0 < lessened (announced_nodes o) (k + 1) → kind_in o k ≡ kind_in o (k + 1) → is_full o (k + 1) ≡ false → Next o k
+some_next o k some kind more = on_next o k (kind_in o k) (counted_on (level_with o k) (subst (λ m. 0 < m) (sym (again (announced_nodes o) k)) some)) kind more
+
+endless_next : (o : Opening) (k : ℕ) → kind_at_none (kind_in o k) ≡ Some (kind_in o k) → kind_in o k ≡ kind_in o (k + 1) → is_full o (k + 1) ≡ false → Next o k
+endless_next o k e kind more = on_next o k (kind_in o k) (endless_on (level_with o k) e) kind more
+
+-- a map of n pairs, of which k keys and values are whole
+module _ (p : ℕ) (w : Width) (n k : ℕ) (fits : n < 2 ^ 64) where
+  abbrev o : Opening
+  o = a_map p (Fixed w) (Some n)
+
+  kind_same : (b c : Bool) → ltb (k + 2 ^ 64) (n + n) ≡ b → ltb (k + 1 + 2 ^ 64) (n + n) ≡ c → b ≡ c → kind_in o k ≡ kind_in o (k + 1)
+  kind_same b c e f same = ap (λ d. cond d GreatMap Map) (e ∙ same ∙ sym f)
+
+  great : (b : Bool) → ltb (k + 2 ^ 64) (n + n) ≡ b → kind_in o k ≡ cond b GreatMap Map
+  great b e = ap (λ d. cond d GreatMap Map) e
+
+  map_more : k + 1 < n + n → Next o k
+  map_more h = elim (cases_lt (k + 1 + 2 ^ 64) (n + n)) [
+    | inl far ↦ some_next o k (omega (arith, far, fits)) (kind_same true true (lt-ltb _ _ (omega (arith, far))) (lt-ltb _ _ far) refl) more
+    | inr near ↦ elim (cases_lt (k + 2 ^ 64) (n + n)) [
+      | inl last ↦
+          let none : lessened (n + n) (k + 1) ≡ 0 = omega (arith, near, last) in
+          on_next o k Map (at_none_is (level_with o k) (Some Map) (again (n + n) k ∙ none) (ap kind_at_none (great true (lt-ltb _ _ last)))) (sym (ap (λ d. cond d GreatMap Map) (le-ltb _ _ near))) more
+      | inr close ↦ some_next o k (omega (arith, h, close)) (kind_same false false (le-ltb _ _ close) (le-ltb _ _ near) refl) more
+    ]
+  ]
+    where
+      more : is_full o (k + 1) ≡ false
+      more = lt-leb n ((k + 1) / 2) (omega (arith, h))
+
+  map_next : k < n + n → Next o k
+  map_next h = elim (cases_lt (k + 1) (n + n)) [
+    | inl less ↦ map_more less
+    | inr all ↦ whole_next o k (omega (arith, h, all)) (ap kind_at_none (great false (le-ltb _ _ (omega (arith, all))))) (le-leb n ((k + 1) / 2) (omega (arith, all)))
+  ]
+
+next : (o : Opening) (ts : List Tree) → HeadFits o → Goes o ts → Next o (length ts)
+next (an_array p (Fixed w) (Some n)) ts fits h = go (cases_lt (length ts + 1) n)
+  where
+    o : Opening
+    o = an_array p (Fixed w) (Some n)
+
+    go : (length ts + 1 < n) ⊎ (n ≤ length ts + 1) → Next o (length ts)
+    go (inl less) = some_next o (length ts) (omega (arith, less, small w n fits)) refl (lt-leb n (length ts + 1) less)
+    go (inr all) = whole_next o (length ts) (omega (arith, h, all, small w n fits)) refl (le-leb n (length ts + 1) all)
+next (an_array p Endless None) ts fits h = endless_next (an_array p Endless None) (length ts) refl refl refl
+next (an_array p (Fixed w) None) ts fits h = absurd fits
+next (an_array p Endless (Some n)) ts fits h = absurd fits
+next (a_map p (Fixed w) (Some n)) ts fits h = map_next p w n (length ts) (small w n fits) (omega (arith, h, pair_count ts))
+next (a_map p Endless None) ts fits h = endless_next (a_map p Endless None) (length ts) refl refl refl
+next (a_map p (Fixed w) None) ts fits h = absurd fits
+next (a_map p Endless (Some n)) ts fits h = absurd fits
+next (a_tag p w n) ts fits h = whole_next (a_tag p w n) (length ts) (omega (arith, ap length h)) refl (le-leb 1 (length ts + 1) (omega arith))
+next (in_chunks p k) ts fits h = endless_next (in_chunks p k) (length ts) refl refl refl
+
+-- the same of one more node
+after_next : (o : Opening) (ts : List Tree) (t : Tree) → HeadFits o → Goes o ts → with_part (level_in o ts) ≡ cond (is_full o (length (ts ++ t ∷ []))) None (Some (level_in o (ts ++ t ∷ [])))
+after_next o ts t fits h = next o ts fits h ∙ ap (λ k. cond (is_full o k) None (Some (level_with o k))) (sym (length_push ts t))
 
 pub some_level : (f : Partial) → levels f ≡ [] → ⊥
 some_level (top ts) e = cc
-some_level (inside f o ts) e = absurd (omega (arith, ap length e, length-append (levels f) (record { place = place_of o; kind = kind_in o ts } ∷ [])))
+some_level (inside f o ts) e = absurd (omega (arith, ap length e, length-append (levels f) (level_in o ts ∷ [])))
+
+pub missing_below : (f : Partial) (ls : List Level) (l : Level) → levels f ≡ ls ++ l ∷ [] → l.missing < 2 ^ 64
+missing_below (top ts) ls l e = omega (arith, ap (λ (m : Level). m.missing) (last_same [] ls e).1)
+missing_below (inside f o ts) ls l e = omega (arith, ap (λ (m : Level). m.missing) (last_same (levels f) ls e).1)
 
 -- the innermost container of h, what is around it, and the nodes in it
 pub record Innermost (h : Partial) (ls : List Level) : Type 0 where
@@ -107,28 +144,58 @@ pub record Innermost (h : Partial) (ls : List Level) : Type 0 where
   pub free : IsFree around
   pub from_bytes : AreFromBytes around
 
--- the level with another kind
-abbrev pub with_kind : Level → LevelKind → Level
-with_kind l k = record l { kind = k }
-
-some_of : (c : Bool) (k r : LevelKind) → cond c None (Some k) ≡ Some r → (c ≡ false) × (k ≡ r)
+some_of : (c : Bool) (k r : Level) → cond c None (Some k) ≡ Some r → (c ≡ false) × (k ≡ r)
 some_of true k r e = cc
 some_of false k r e = (refl, cc)
 
-none_of : (c : Bool) (k : LevelKind) → cond c None (Some k) ≡ None → c ≡ true
+none_of : (c : Bool) (k : Level) → cond c None (Some k) ≡ None → c ≡ true
 none_of true k e = refl
 none_of false k e = cc
 
-may_end_slot : (o : Opening) (ts : List Tree) → may_end (kind_in o ts) ≡ not (needs_item (slot_in (opened o ts)))
-may_end_slot (an_array p s None) ts = refl
-may_end_slot (a_map p s c) ts = go c (last_key ts)
+-- its slot, and whether a break may end it
+
+pub odd : (ts : List Tree) (k : Tree) → last_key ts ≡ Some k → length ts % 2 ≡ 1
+odd [] k e = cc
+odd (l ∷ []) k e = refl
+odd (l ∷ v ∷ ts) k e = omega (arith, odd ts k e)
+
+pub key_parity : (n : ℕ) (ts : List Tree) → last_key ts ≡ None → is_even (lessened (n + n) (length ts)) ≡ true
+key_parity n ts e = ap (λ r. eqb r 0) {y = 0} (omega (arith, even ts e))
+
+pub value_parity : (n : ℕ) (ts : List Tree) (k : Tree) → last_key ts ≡ Some k → is_even (lessened (n + n) (length ts)) ≡ false
+value_parity n ts k e = ap (λ r. eqb r 0) {y = 1} (omega (arith, odd ts k e))
+
+level_slot : (o : Opening) (ts : List Tree) → slot_of (kind_in o (length ts)) (lessened (announced_nodes o) (length ts)) ≡ plain (slot_in (opened o ts))
+level_slot (an_array p s None) ts = refl
+level_slot (an_array p s (Some n)) ts = refl
+level_slot (a_map p s None) ts = go (last_key ts) refl
   where
-    go : (c : Option ℕ) (x : Option Tree) → may_end (map_kind c (at_most_highest (length (paired ts))) x) ≡ not (needs_item (slot_in_map c x))
-    go None None = refl
-    go None (Some k) = refl
-    go (Some n) None = refl
-    go (Some n) (Some k) = refl
-may_end_slot o ts = refl
+    go : (x : Option Tree) → last_key ts ≡ x → cond (is_even (lessened 0 (length ts))) element_or_end item ≡ plain (slot_in_map None x)
+    go None e = ap (λ b. cond b element_or_end item) (key_parity 0 ts e)
+    go (Some k) e = ap (λ b. cond b element_or_end item) (value_parity 0 ts k e)
+level_slot (a_map p s (Some n)) ts = go (ltb (length ts + 2 ^ 64) (n + n)) (last_key ts)
+  where
+    go : (b : Bool) (x : Option Tree) → slot_of (cond b GreatMap Map) (lessened (n + n) (length ts)) ≡ plain (slot_in_map (Some n) x)
+    go true None = refl
+    go true (Some k) = refl
+    go false None = refl
+    go false (Some k) = refl
+level_slot (a_tag p w n) ts = refl
+level_slot (in_chunks p k) ts = refl
+
+pub top_slot : (f : Partial) (ls : List Level) (l : Level) → levels f ≡ ls ++ l ∷ [] → slot_of l.kind l.missing ≡ plain (slot (open_in f))
+top_slot (top ts) ls l e = ap (λ (m : Level). slot_of m.kind m.missing) (sym (last_same [] ls e).1)
+top_slot (inside f o ts) ls l e = ap (λ (m : Level). slot_of m.kind m.missing) (sym (last_same (levels f) ls e).1) ∙ level_slot o ts
+
+plain_needs : (s : Slot) → needs_item (plain s) ≡ needs_item s
+plain_needs item = refl
+plain_needs value = refl
+plain_needs element_or_end = refl
+plain_needs key_or_end = refl
+plain_needs (chunk k) = refl
+
+ends_slot : (f : Partial) (ls : List Level) (l : Level) → levels f ≡ ls ++ l ∷ [] → may_end l.kind l.missing ≡ not (needs_item (slot (open_in f)))
+ends_slot f ls l e = ap not (ap needs_item (top_slot f ls l e) ∙ plain_needs (slot (open_in f)))
 
 not_is : (b c : Bool) → not b ≡ not c → b ≡ c
 not_is true true e = refl
@@ -137,32 +204,30 @@ not_is true false e = cc
 not_is false true e = cc
 
 module _ (end : ℕ) where
-  pub stays : (h : Partial) (u : Tree) (ls : List Level) (l : Level) (r : LevelKind) → levels h ≡ ls ++ l ∷ [] → Proper h → Accepts (open_in h) u → AreFromBytes h → with_part l.kind ≡ Some r
-      → ((levels (put h u) ≡ ls ++ with_kind l r ∷ []) × Proper (put h u) × AreFromBytes (put h u)) × (finished end (ready h) (open_in h) u ≡ state end (put h u) no_part)
+  pub stays : (h : Partial) (u : Tree) (ls : List Level) (l r : Level) → levels h ≡ ls ++ l ∷ [] → Proper h → Accepts (open_in h) u → AreFromBytes h → with_part l ≡ Some r
+      → Keeps (put h u) ls r × (finished end (ready h) (open_in h) u ≡ state end (put h u) no_part)
   stays (top ts) u ls l r e proper accepts say w =
       let h = last_same [] ls e in
-      let now = Sequence (at_most_highest (length (ts ++ u ∷ []))) in
-      let is : now ≡ r = ap Sequence (sym (next_highest (length ts) (length (ts ++ u ∷ [])) (length_push ts u))) ∙ some_same (ap (λ (m : Level). with_part m.kind) h.1 ∙ w) in
-      let level : record { place = 0; kind = now } ≡ with_kind l r = ap (λ (m : Level). with_kind m now) h.1 ∙ ap (with_kind l) is in
-      ((ap (λ m. m ++ record { place = 0; kind = now } ∷ []) h.0 ∙ ap (λ k. ls ++ k ∷ []) level, tt, tt), ap (λ us. Live end us [] nothing) (sym (trees-push ts u)))
+      let is : input_level (length (ts ++ u ∷ [])) ≡ r =
+      ap input_level (length_push ts u) ∙ ap (λ m. record (input_level 0) { missing = m }) (sym (again 0 (length ts))) ∙ same (sym (endless_on (input_level (length ts)) refl) ∙ ap with_part h.1 ∙ w)
+      in
+      ((ap (λ m. m ++ input_level (length (ts ++ u ∷ [])) ∷ []) h.0 ∙ ap (λ k. ls ++ k ∷ []) is, tt, tt), ap (λ us. Live end us [] nothing) (sym (trees-push ts u)))
     where
-      some_same : {a b : LevelKind} → Some a ≡ Some b → a ≡ b
-      some_same e = cc
+      same : {a b : Level} → Some a ≡ Some b → a ≡ b
+      same e = cc
   stays (inside f o ts) u ls l r e proper accepts say w =
       let h = last_same (levels f) ls e in
-      let now = kind_in o (ts ++ u ∷ []) in
-      let (more, is) = some_of (is_full o (length (ts ++ u ∷ []))) now r (sym (next o ts u say.1 proper.2) ∙ ap (λ (m : Level). with_part m.kind) h.1 ∙ w) in
-      let level : record { place = place_of o; kind = now } ≡ with_kind l r = ap (λ (m : Level). with_kind m now) h.1 ∙ ap (with_kind l) is in (
-        (ap (λ m. m ++ record { place = place_of o; kind = now } ∷ []) h.0 ∙ ap (λ k. ls ++ k ∷ []) level, (proper.0, proper.1, goes_on o ts u proper.2 accepts more), say),
+      let (more, is) = some_of (is_full o (length (ts ++ u ∷ []))) (level_in o (ts ++ u ∷ [])) r (sym (after_next o ts u say.1 proper.2) ∙ ap with_part h.1 ∙ w) in (
+        (ap (λ m. m ++ level_in o (ts ++ u ∷ []) ∷ []) h.0 ∙ ap (λ k. ls ++ k ∷ []) is, (proper.0, proper.1, goes_on o ts u proper.2 accepts more), say),
         ap (λ c. cond c (finished end (ready f) (open_in f) (built o (ts ++ u ∷ []))) (state end (put (inside f o ts) u) no_part)) more,
       )
 
-  pub closes : (h : Partial) (u : Tree) (ls : List Level) (l : Level) → levels h ≡ ls ++ l ∷ [] → Proper h → AreFromBytes h → with_part l.kind ≡ None
+  pub closes : (h : Partial) (u : Tree) (ls : List Level) (l : Level) → Keeps h ls l → with_part l ≡ None
       → (i : Innermost h ls) × Ends i.opening (i.nodes ++ u ∷ []) × (finished end (ready h) (open_in h) u ≡ finished end (ready i.around) (open_in i.around) (built i.opening (i.nodes ++ u ∷ [])))
-  closes (top ts) u ls l e proper say w = let h = last_same [] ls e in cc (ap (λ (m : Level). with_part m.kind) h.1 ∙ w)
-  closes (inside f o ts) u ls l e proper say w =
+  closes (top ts) u ls l (e, proper, say) w = let h = last_same [] ls e in cc (sym (endless_on (input_level (length ts)) refl) ∙ ap with_part h.1 ∙ w)
+  closes (inside f o ts) u ls l (e, proper, say) w =
       let h = last_same (levels f) ls e in
-      let full = none_of (is_full o (length (ts ++ u ∷ []))) (kind_in o (ts ++ u ∷ [])) (sym (next o ts u say.1 proper.2) ∙ ap (λ (m : Level). with_part m.kind) h.1 ∙ w) in (
+      let full = none_of (is_full o (length (ts ++ u ∷ []))) (level_in o (ts ++ u ∷ [])) (sym (after_next o ts u say.1 proper.2) ∙ ap with_part h.1 ∙ w) in (
         record { around = f; opening = o; nodes = ts; is = refl; levels_are = h.0; free = (proper.0, proper.1); from_bytes = say.0 },
         goes_whole o ts u proper.2 full,
         ap (λ c. cond c (finished end (ready f) (open_in f) (built o (ts ++ u ∷ []))) (state end (put (inside f o ts) u) no_part)) full,
@@ -173,21 +238,21 @@ module _ (end : ℕ) where
       → ended end p (ready f) (open_in (inside f o ts)) ≡ cond b (Failed (ready f) p UnexpectedBreak) (finished end (ready f) (open_in f) (built o ts))
   broken p f o ts b e = ap (λ c. cond c (Failed (ready f) p UnexpectedBreak) (finished end (ready f) (open_in f) (built o ts))) e
 
-  pub breaks : (p : ℕ) (h : Partial) (ls : List Level) (l : Level) → levels h ≡ ls ++ l ∷ [] → Proper h → AreFromBytes h → may_end l.kind ≡ true
+  pub breaks : (p : ℕ) (h : Partial) (ls : List Level) (l : Level) → Keeps h ls l → may_end l.kind l.missing ≡ true
       → (i : Innermost h ls) × Ends i.opening i.nodes × (ended end p (ready h) (open_in h) ≡ finished end (ready i.around) (open_in i.around) (built i.opening i.nodes))
-  breaks p (top ts) ls l e proper say m = let h = last_same [] ls e in cc (ap (λ (m : Level). may_end m.kind) h.1 ∙ m)
-  breaks p (inside f o ts) ls l e proper say m =
+  breaks p (top ts) ls l (e, proper, say) m = cc (sym (ends_slot (top ts) ls l e) ∙ m)
+  breaks p (inside f o ts) ls l (e, proper, say) m =
       let h = last_same (levels f) ls e in
-      let free = not_is _ false (sym (may_end_slot o ts) ∙ ap (λ (m : Level). may_end m.kind) h.1 ∙ m) in
+      let free = not_is _ false (sym (ends_slot (inside f o ts) ls l e) ∙ m) in
       (record { around = f; opening = o; nodes = ts; is = refl; levels_are = h.0; free = (proper.0, proper.1); from_bytes = say.0 }, (break_ends o ts proper.2 free).0, broken p f o ts false free)
 
-  pub breaks_not : (p : ℕ) (h : Partial) (ls : List Level) (l : Level) → levels h ≡ ls ++ l ∷ [] → may_end l.kind ≡ false → ended end p (ready h) (open_in h) ≡ Failed (ready h) p UnexpectedBreak
+  pub breaks_not : (p : ℕ) (h : Partial) (ls : List Level) (l : Level) → levels h ≡ ls ++ l ∷ [] → may_end l.kind l.missing ≡ false → ended end p (ready h) (open_in h) ≡ Failed (ready h) p UnexpectedBreak
   breaks_not p (top ts) ls l e m = refl
-  breaks_not p (inside f o ts) ls l e m = broken p f o ts true (not_is _ true (sym (may_end_slot o ts) ∙ ap (λ (m : Level). may_end m.kind) (last_same (levels f) ls e).1 ∙ m))
+  breaks_not p (inside f o ts) ls l e m = broken p f o ts true (not_is _ true (sym (ends_slot (inside f o ts) ls l e) ∙ m))
 
--- the innermost level is set
-pub keeps_set : (f : Partial) (outer now : List Level) (l new : Level) (r : LevelKind) → now ≡ outer → new ≡ with_kind l r → (levels f ≡ outer ++ with_kind l r ∷ []) × Proper f × AreFromBytes f → Keeps f now new
-keeps_set f outer now l new r same is h = (h.0 ∙ ap (λ ls. ls ++ with_kind l r ∷ []) (sym same) ∙ ap (λ m. now ++ m ∷ []) (sym is), h.1, h.2)
+-- the same levels
+pub kept_as : (f : Partial) {around now : List Level} {l m : Level} → now ≡ around → m ≡ l → Keeps f around l → Keeps f now m
+kept_as f {around} {now} {l} {m} same is h = (h.0 ∙ ap (λ ls. ls ++ l ∷ []) (sym same) ∙ ap (λ k. now ++ k ∷ []) (sym is), h.1, h.2)
 
 -- what may be next
 
@@ -204,7 +269,7 @@ string_accepted (inside f (in_chunks q OfBytes) ts) p OfText w x h = cc
 string_accepted (inside f (in_chunks q OfText) ts) p OfBytes w x h = cc
 string_accepted (inside f o ts) p k w x h = tt
 
-pub item_free : (f : Partial) (ls : List Level) (l : Level) → levels f ≡ ls ++ l ∷ [] → ((j : StringKind) (n : ℕ) → l.kind ≡ Chunks j n → ⊥) → TakesItem f
+pub item_free : (f : Partial) (ls : List Level) (l : Level) → levels f ≡ ls ++ l ∷ [] → is_chunks l.kind ≡ false → TakesItem f
 item_free (top ts) ls l e free = tt
-item_free (inside f (in_chunks q j) ts) ls l e free = absurd (free j (at_most_highest (length ts)) (ap (λ (m : Level). m.kind) (sym (last_same (levels f) ls e).1)))
+item_free (inside f (in_chunks q j) ts) ls l e free = let h = last_same (levels f) ls e in cc (ap (λ (m : Level). is_chunks m.kind) h.1 ∙ free)
 item_free (inside f o ts) ls l e free = tt

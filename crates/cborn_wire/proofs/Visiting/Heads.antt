@@ -1,5 +1,6 @@
 -- Heads that are taken one after another off the front of a piece.
-use Rattle.cborn_wire.proofs.Common.{◌≡◌, refl, sym, ap, ◌∙◌, subst, inl, inr, ℕ, ◌+◌, ◌-◌, ◌<◌, ◌≤◌, List, [], ◌++◌, length, take, drop, arith, length-append, length-take-le, AreBytes, Partial, Part, no_part, Level, TakesHead, Trees, nothing, State, Live, snoc, ready_in, start, run, IsReached, AtMostOneMore, OpenContainer, AreOpen, ready, open_in, state, Keeps, Stands}
+use Rattle.std.specs.Prelude.{◌≡◌, ◌+◌, ◌-◌, ◌<◌, ◌++◌}
+use Rattle.cborn_wire.proofs.Common.{refl, sym, ap, ◌∙◌, subst, inl, inr, ℕ, List, length, take, drop, arith, length-append, AreBytes, Partial, Part, no_part, Level, TakesHead, Trees, nothing, Live, ready_in, start, run, IsReached, AtMostOneMore, OpenContainer, AreOpen, ready, open_in, state, Keeps, Stands}
 use Rattle.cborn_model.proofs.Bytes.{bytes-append, bytes-left}
 use Rattle.cborn_wire.proofs.Machine.Running.{run-append}
 use Rattle.cborn_wire.proofs.Visiting.Pieces.{front_taken, next_taken, taken_len}

@@ -1,10 +1,12 @@
 -- What is read and made of a leaf.
-use Rattle.cborn_wire.proofs.Common.{◌≡◌, refl, sym, ap, ◌∙◌, subst, inl, ℕ, zero, suc, ◌+◌, ◌-◌, ◌/◌, ◌%◌, ◌<◌, ◌≤◌, List, [], ◌∷◌, ◌++◌, length, take, drop, get_or, Bool, false, cond, leb, Option, Some, None, arith, length-append, lt-leb, length-take-le, take-add, AreBytes, Width, Direct, One, Two, Four, Eight, Major, Unsigned, Negative, ByteString, TextString, Array, Map, Tag, Other, code, WidthFits, Tree, Trees, Uint, Nint, Simple, an_array, a_map, a_tag, in_chunks, Partial, top, inside, Part, no_part, put, last_key, TakesItem, TakesString, string_tree, Full, GivenHead, Level, LevelKind, Sequence, MapValue, Chunks, major_at, IsHeadOf, Slot, chunk, OpenContainer, slot, slot_in_map, open_depth, Info, Now, Next, info_at, info_for, is_bad_chunk, head_reason, width_bytes, number, content_of, gathering, Live, content_at, after_head, finished, run, ready_in, AtMostOneMore, ready, open_in, state, levels, slot_of, is_chunks, Keeps, Stands, IsNoChunkSlot, IsGiven, IsLeafOf, IsLeaf, content_len, leaf_tree, AfterLeaves, TakesLeaves}
+use Rattle.std.specs.Prelude.{◌≡◌, ◌+◌, ◌-◌, ◌/◌, ◌%◌, ◌<◌, ◌≤◌, ◌∷◌, ◌++◌}
+use Rattle.cborn_wire.proofs.Common.{refl, sym, ap, ◌∙◌, subst, ℕ, zero, suc, List, [], length, take, drop, get_or, Bool, true, false, cond, leb, Option, Some, None, arith, length-append, lt-leb, length-take-le, take-add, AreBytes, Width, Direct, One, Two, Four, Eight, Major, Unsigned, Negative, ByteString, TextString, Array, Map, Tag, Other, code, WidthFits, Tree, Trees, Uint, Nint, Simple, an_array, a_map, a_tag, in_chunks, Partial, top, inside, Part, no_part, put, last_key, TakesItem, TakesString, string_tree, Full, GivenHead, Level, LevelKind, major_at, IsHeadOf, Slot, chunk, OpenContainer, slot, slot_in_map, open_depth, Info, Now, Next, info_at, info_for, is_bad_chunk, head_reason, width_bytes, number, content_of, gathering, Live, content_at, after_head, finished, run, AtMostOneMore, ready, open_in, state, slot_of, is_chunks, is_even, Stands, IsNoChunkSlot, IsGiven, IsLeafOf, IsLeaf, content_len, leaf_tree, AfterLeaves, TakesHead}
 use Rattle.cborn_model.specs.Heads as heads
 use Rattle.cborn_model.specs.declared.visitors.StringKind.{StringKind}
 use Rattle.cborn_model.specs.declared.visitors.StringKind.TheVariants.{OfBytes, OfText}
 use Rattle.cborn_wire.specs.declared.heads.Argument.TheVariants.{Given}
-use Rattle.cborn_wire.specs.declared.levels.LevelKind.TheVariants.{Array as AnArray, Map as AMap, Tag as ATag}
+use Rattle.cborn_wire.specs.Slots.{element_or_end, item}
+use Rattle.cborn_wire.specs.declared.levels.LevelKind.TheVariants.{Array as AnArray, Map as AMap, Tag as ATag, Sequence, GreatMap, EndlessArray, EndlessMap, Chunks}
 use Rattle.cborn_wire.proofs.HeadReading.HeadFronts.{direct_head, wide_head, wide_fronts}
 use Rattle.cborn_wire.proofs.HeadReading.HeadSteps.{head_some, head_taken}
 use Rattle.cborn_wire.proofs.Machine.TakesItems.{clear_given}
@@ -12,8 +14,6 @@ use Rattle.cborn_wire.proofs.Machine.OneMore.{one_more_finished}
 use Rattle.cborn_wire.proofs.Machine.Pieces.{major_of_head, info_of_head, content_done}
 use Rattle.cborn_wire.proofs.Machine.Running.{run-append}
 use Rattle.cborn_wire.proofs.Machine.SoundRuns.{code_at}
-use Rattle.cborn_wire.proofs.Visiting.Heads.{front_heads}
-use Rattle.cborn_wire.proofs.Visiting.Pieces.{next_cut, next_taken, taken_len}
 
 -- the head
 
@@ -99,15 +99,19 @@ leaf_allowed limit os (b ∷ y) m w n rest fits e h l =
     ∙ leaf_free (slot os) (leb limit (open_depth os)) m w n h l)
 
 -- a level in which an item may be next
-pub plain_kind : (k : LevelKind) → is_chunks k ≡ false → IsNoChunkSlot (slot_of k)
-plain_kind (Sequence n) e = tt
-plain_kind (AnArray None n) e = tt
-plain_kind (AnArray (Some c) n) e = tt
-plain_kind (AMap None n) e = tt
-plain_kind (AMap (Some c) n) e = tt
-plain_kind (MapValue c n) e = tt
-plain_kind (ATag n) e = tt
-plain_kind (Chunks k n) e = cc
+pub plain_kind : (k : LevelKind) (m : ℕ) → is_chunks k ≡ false → IsNoChunkSlot (slot_of k m)
+plain_kind (Chunks c) m e = cc
+plain_kind EndlessMap m e = go (is_even m)
+  where
+    go : (b : Bool) → IsNoChunkSlot (cond b element_or_end item)
+    go true = tt
+    go false = tt
+plain_kind Sequence m e = tt
+plain_kind AnArray m e = tt
+plain_kind AMap m e = tt
+plain_kind GreatMap m e = tt
+plain_kind ATag m e = tt
+plain_kind EndlessArray m e = tt
 
 -- what is made of one
 
@@ -148,20 +152,10 @@ leaf_read limit at f x y h n takes leaf cut =
     ∙ content_read limit (at + h.len) at (ready f) (open_in f) m h.width h.argument y leaf.leaf len
     ∙ ap (λ k. finished k (ready f) (open_in f) (leaf_tree at m h.width h.argument y)) (omega (arith, leaf.len, len))
 
--- inside a container no item of the input becomes whole
-pub ready_same : (f : Partial) (t : Tree) (ls : List Level) (l : Level) → levels f ≡ ls ++ l ∷ [] → 0 < length ls → ready (put f t) ≡ ready f
-ready_same (top ts) t ls l e some = absurd (omega (arith, some, ap length e, length-append ls (l ∷ [])))
-ready_same (inside f o ts) t ls l e some = refl
-
 pub item_after : (f : Partial) (t : Tree) → TakesItem f → TakesItem (put f t)
 item_after (top ts) t h = tt
 item_after (inside f (in_chunks p k) ts) t h = absurd h
 item_after (inside f o ts) t h = tt
-
--- after more bytes and these leaves
-pub next_leaves : (limit place : ℕ) {at end : ℕ} (f : Partial) {h : Partial} {holds : Partial → Type 0} {around : List Level} {l : Level} (y x : List ℕ) → (r : AfterLeaves at end h holds around l x) → run limit (state place f no_part) y ≡ state at h no_part
-    → run limit (state place f no_part) (y ++ x) ≡ finished end (ready r.before) (open_in r.before) r.last
-next_leaves limit place f y x r e = run-append limit (state place f no_part) y x ∙ ap (λ s. run limit s x) e ∙ r.is limit
 
 pub leaf_cut : (x : List ℕ) (g : GivenHead) (n : ℕ) → IsLeafOf x g n → take n x ≡ take g.len x ++ take (n - g.len) (drop g.len x)
 leaf_cut x g n leaf = ap (λ k. take k x) (omega (arith, leaf.len)) ∙ take-add g.len (n - g.len) x
@@ -169,24 +163,12 @@ leaf_cut x g n leaf = ap (λ k. take k x) (omega (arith, leaf.len)) ∙ take-add
 pub leaf_some : (x : List ℕ) (g : GivenHead) (n : ℕ) → IsLeafOf x g n → 0 < n
 leaf_some x g n leaf = omega (arith, leaf.len, leaf.given.head.len, head_some (major_at (g.first / 32)) (heads.Given g.width g.argument))
 
--- how far a piece is read, of which y and n bytes of what follows are read
-module _ (holds : Partial → Part → Type 0) (outer : List Level) (inner : Level) (place : ℕ) (f : Partial) (piece y rest : List ℕ) (cut : piece ≡ y ++ rest) where
-  -- the last leaf of the innermost container was taken
-  pub last_taken : (at : ℕ) (h : Partial) (t : Tree) (n : ℕ) → at ≡ place + length y → n ≤ length rest → ready h ≡ ready f
-      → ((limit : ℕ) → run limit (state place f no_part) (y ++ take n rest) ≡ finished (at + n) (ready h) (open_in h) t) → Stands holds outer inner 0 (at + n) (finished (at + n) (ready h) (open_in h) t)
-      → TakesLeaves place f piece holds outer inner (length piece - length (take (length rest - n) (drop n rest)))
-  last_taken at h t n e fits rd is stands =
-      let k = length piece - length (take (length rest - n) (drop n rest)) in
-      let front : take k piece ≡ y ++ take n rest = next_taken piece y rest cut n fits in
-      let far : at + n ≡ place + k = omega (arith, e, taken_len piece y rest cut n fits) in (
-        omega arith,
-        λ limit.
-            let goes : run limit (state place f no_part) (take k piece) ≡ finished (at + n) (ready h) (open_in h) t = ap (run limit (state place f no_part)) front ∙ is limit in (
-              subst (λ j. Stands holds outer inner 0 j (run limit (state place f no_part) (take k piece))) far (subst (Stands holds outer inner 0 (at + n)) (sym goes) stands),
-              subst (AtMostOneMore (ready f)) (sym goes) (subst (λ r. AtMostOneMore r (finished (at + n) (ready h) (open_in h) t)) rd (one_more_finished (ready h) (open_in h) (at + n) t)),
-            ),
-      )
-
-  -- the innermost container goes on
-  pub some_taken : (at : ℕ) (h : Partial) → at ≡ place + length y → holds h no_part → Keeps h outer inner → ready h ≡ ready f → ((limit : ℕ) → run limit (state place f no_part) y ≡ state at h no_part) → TakesLeaves place f piece holds outer inner (length piece - length rest)
-  some_taken at h e held kept rd is = (omega arith, λ limit. let (fits, stands, more) = front_heads limit place f piece y rest cut at e h rd (is limit) holds outer inner held kept in (stands, more))
+-- leaves are taken, and the last of them is counted
+pub leaves_taken : (limit place n : ℕ) (f : Partial) (piece : List ℕ) {taken : Partial → Type 0} {around : List Level} {l : Level} (holds : Partial → Part → Type 0) (outer : List Level) (inner : Level) → n ≤ length piece → (r : AfterLeaves place (place + n) f taken around l (take n piece))
+    → (left : ℕ) → left ≡ 0 → Stands holds outer inner left (place + n) (finished (place + n) (ready r.before) (open_in r.before) r.last) → TakesHead limit place f piece holds outer inner n
+leaves_taken limit place n f piece holds outer inner fits r left none stands =
+    let goes = r.is limit in (
+      fits,
+      subst (Stands holds outer inner 0 (place + n)) (sym goes) (subst (λ k. Stands holds outer inner k (place + n) (finished (place + n) (ready r.before) (open_in r.before) r.last)) none stands),
+      subst (AtMostOneMore (ready f)) (sym goes) (subst (λ t. AtMostOneMore t (finished (place + n) (ready r.before) (open_in r.before) r.last)) r.same (one_more_finished (ready r.before) (open_in r.before) (place + n) r.last)),
+    )

@@ -1,14 +1,15 @@
 -- What is read and made of leaves that are taken several at a time.
-use Rattle.cborn_wire.proofs.Common.{◌≡◌, refl, sym, ap, ◌∙◌, subst, inl, ℕ, ◌+◌, ◌-◌, ◌/◌, ◌^◌, ◌<◌, ◌≤◌, List, [], ◌∷◌, ◌++◌, length, take, drop, cond, leb, Option, Some, None, arith, append-nil, length-append, unwrap_or, lt-leb, lt-ltb, drop-take, take-append-drop, take-append-le, take_all, length-take-le, take-add, AreBytes, Width, Direct, One, Two, Four, Eight, Major, Unsigned, Negative, ByteString, TextString, Array, Map, Tag, Other, Given, head, WidthFits, least, Tree, Uint, Nint, an_array, a_map, a_tag, in_chunks, Partial, top, inside, no_part, put, paired, last_key, TakesItem, IsInteger, IsShortLeaf, AreShortIntegers, IsShortPair, text_in, puts, InArray, AtKey, Level, LevelKind, Sequence, MapValue, Chunks, GivenHead, major_at, slot, open_depth, finished, run, ready, open_in, state, at_most_highest, map_kind, levels, Keeps, with_part, IsLeafOf, IsLeaf, content_len, leaf_tree, AfterLeaves}
+use Rattle.std.specs.Prelude.{◌≡◌, ◌⊎◌, ◌+◌, ◌-◌, ◌/◌, ◌%◌, ◌^◌, ◌<◌, ◌≤◌, ◌∷◌, ◌++◌}
+use Rattle.cborn_wire.proofs.Common.{refl, sym, ap, ◌∙◌, subst, inl, inr, ℕ, List, [], length, take, drop, Bool, true, false, cond, leb, ltb, eqb-true, false≢true, Option, Some, None, arith, append-nil, length-append, drop-take, take-append-drop, take-append-le, take_all, length-take-le, take-add, AreBytes, Width, Direct, One, Two, Four, Eight, Major, Unsigned, Negative, ByteString, TextString, Array, Map, Tag, Other, Given, head, WidthFits, least, Tree, Uint, Nint, an_array, a_map, a_tag, in_chunks, Partial, Part, IsFree, top, inside, no_part, put, last_key, TakesItem, IsInteger, IsShortLeaf, AreShortIntegers, IsShortPair, text_in, puts, InArray, AtKey, Level, LevelKind, GivenHead, major_at, slot, open_depth, finished, run, ready, open_in, state, levels, Keeps, with_part, lessened, is_array, is_at_key, is_even, kind_at_none, room_in, IsLeafOf, IsLeaf, content_len, leaf_tree, AfterLeaves, TakesRun}
 use Rattle.cborn_model.specs.declared.visitors.LeafPair.{LeafPair}
 use Rattle.cborn_model.proofs.Bytes.{bytes-right}
 use Rattle.cborn_model.proofs.Numbers.Simples.{simple_value}
-use Rattle.cborn_wire.specs.declared.levels.LevelKind.TheVariants.{Array as AnArray, Map as AMap, Tag as ATag}
+use Rattle.cborn_wire.specs.declared.levels.LevelKind.TheVariants.{Array as AnArray, Map as AMap, GreatMap, EndlessArray, EndlessMap}
 use Rattle.cborn_wire.proofs.HeadReading.HeadSteps.{head_front}
 use Rattle.cborn_wire.proofs.Machine.Running.{run-append}
 use Rattle.cborn_wire.proofs.Machine.TakesHeads.{takes_head}
-use Rattle.cborn_wire.proofs.Visiting.Counting.{last_same, with_kind, stays, item_accepted}
-use Rattle.cborn_wire.proofs.Visiting.Leaves.{plain_slot, leaf_free, leaf_read, leaf_cut, item_after}
+use Rattle.cborn_wire.proofs.Visiting.Counting.{last_same, stays, item_accepted, counted_on, endless_on, missing_below, value_parity}
+use Rattle.cborn_wire.proofs.Visiting.Leaves.{plain_slot, leaf_free, leaf_read, leaf_cut, leaf_some, item_after}
 use Rattle.cborn_wire.proofs.Visiting.Taking.{bytes-take}
 
 -- the leaf with this head at the front of x, of which it takes n bytes
@@ -17,62 +18,65 @@ leaf_in p x h n = leaf_tree p (major_at (h.first / 32)) h.width h.argument (take
 
 -- one leaf
 
-module _ (f : Partial) (around : List Level) (l : Level) (kept : Keeps f around l) (takes : TakesItem f) where
-  pub one_taken : (place : ℕ) (holds : Partial → Type 0) (x : List ℕ) (h : GivenHead) (n : ℕ) → IsLeafOf x h n → holds (put f (leaf_in place x h n)) → AfterLeaves place (place + n) f holds around l (take n x)
-  one_taken place holds x h n leaf held = record {
+pub one_taken : (place : ℕ) (old new : Partial → Part → Type 0) (x : List ℕ) (h : GivenHead) (n : ℕ) (l : Level) → IsLeafOf x h n → ((f : Partial) → IsFree f → old f no_part → new (put f (leaf_in place x h n)) no_part) → TakesRun place x l 0 old new n
+one_taken place old new x h n l leaf visited = (
+  leaf_some x h n leaf,
+  leaf.whole,
+  λ f around held kept takes. record {
     before = f;
     last = leaf_in place x h n;
-    held = held;
-    levels = kept;
+    held = visited f (kept.1, takes) held;
+    levels = subst (λ m. Keeps f around (record l { missing = m })) (omega (arith, missing_below f around l kept.0)) kept;
     takes = takes;
     same = refl;
     is = λ limit. leaf_read limit place f x (take (n - h.len) (drop h.len x)) h n takes leaf (leaf_cut x h n leaf);
-  }
+  },
+)
 
 -- where an array or a map is innermost
 
-map_not_array : (c d : Option ℕ) (n k : ℕ) (x : Option Tree) → map_kind c n x ≡ AnArray d k → ⊥
-map_not_array c d n k None e = cc
-map_not_array c d n k (Some t) e = cc
+pub in_array : (f : Partial) (ls : List Level) (l : Level) → levels f ≡ ls ++ l ∷ [] → is_array l.kind ≡ true → InArray f
+in_array (top ts) ls l e is = cc (ap (λ (m : Level). is_array m.kind) (last_same [] ls e).1 ∙ is)
+in_array (inside f (an_array p s c) ts) ls l e is = tt
+in_array (inside f (a_map p s None) ts) ls l e is = cc (ap (λ (m : Level). is_array m.kind) (last_same (levels f) ls e).1 ∙ is)
+in_array (inside f (a_map p s (Some n)) ts) ls l e is = go (ltb (length ts + 2 ^ 64) (n + n)) (ap (λ (m : Level). is_array m.kind) (last_same (levels f) ls e).1 ∙ is)
+  where
+    go : (b : Bool) → is_array (cond b GreatMap AMap) ≡ true → ⊥
+    go true h = cc
+    go false h = cc
+in_array (inside f (a_tag p w n) ts) ls l e is = cc (ap (λ (m : Level). is_array m.kind) (last_same (levels f) ls e).1 ∙ is)
+in_array (inside f (in_chunks p j) ts) ls l e is = cc (ap (λ (m : Level). is_array m.kind) (last_same (levels f) ls e).1 ∙ is)
 
-map_key : (c d : Option ℕ) (n k : ℕ) (x : Option Tree) → map_kind c n x ≡ AMap d k → x ≡ None
-map_key c d n k None e = refl
-map_key c d n k (Some t) e = cc
+pub at_key : (f : Partial) (ls : List Level) (l : Level) → levels f ≡ ls ++ l ∷ [] → is_at_key l.kind l.missing ≡ true → AtKey f
+at_key (top ts) ls l e is = cc (ap (λ (m : Level). is_at_key m.kind m.missing) (last_same [] ls e).1 ∙ is)
+at_key (inside f (an_array p s None) ts) ls l e is = cc (ap (λ (m : Level). is_at_key m.kind m.missing) (last_same (levels f) ls e).1 ∙ is)
+at_key (inside f (an_array p s (Some n)) ts) ls l e is = cc (ap (λ (m : Level). is_at_key m.kind m.missing) (last_same (levels f) ls e).1 ∙ is)
+at_key (inside f (a_map p s None) ts) ls l e is = go (last_key ts) refl (ap (λ (m : Level). is_at_key m.kind m.missing) (last_same (levels f) ls e).1 ∙ is)
+  where
+    go : (x : Option Tree) → last_key ts ≡ x → is_even (lessened 0 (length ts)) ≡ true → last_key ts ≡ None
+    go None h even = h
+    go (Some k) h even = absurd (false≢true (sym (value_parity 0 ts k h) ∙ even))
+at_key (inside f (a_map p s (Some n)) ts) ls l e is = go (last_key ts) (ltb (length ts + 2 ^ 64) (n + n)) refl (ap (λ (m : Level). is_at_key m.kind m.missing) (last_same (levels f) ls e).1 ∙ is)
+  where
+    go : (x : Option Tree) (b : Bool) → last_key ts ≡ x → is_at_key (cond b GreatMap AMap) (lessened (n + n) (length ts)) ≡ true → last_key ts ≡ None
+    go None b h even = h
+    go (Some k) true h even = absurd (false≢true (sym (value_parity n ts k h) ∙ even))
+    go (Some k) false h even = absurd (false≢true (sym (value_parity n ts k h) ∙ even))
+at_key (inside f (a_tag p w n) ts) ls l e is = cc (ap (λ (m : Level). is_at_key m.kind m.missing) (last_same (levels f) ls e).1 ∙ is)
+at_key (inside f (in_chunks p j) ts) ls l e is = cc (ap (λ (m : Level). is_at_key m.kind m.missing) (last_same (levels f) ls e).1 ∙ is)
 
-pub in_array : (f : Partial) (ls : List Level) (l : Level) (most : Option ℕ) (k : ℕ) → levels f ≡ ls ++ l ∷ [] → l.kind ≡ AnArray most k → InArray f
-in_array (top ts) ls l most k e is = absurd (clash (ap (λ (m : Level). m.kind) (last_same [] ls e).1 ∙ is))
+-- after a key its value is missing
+key_counted : (l : Level) → is_at_key l.kind l.missing ≡ true → with_part l ≡ Some (record l { missing = lessened l.missing 1 })
+key_counted l e = counted_on l (go l.kind e)
   where
-    clash : Sequence (at_most_highest (length ts)) ≡ AnArray most k → ⊥
-    clash e = cc
-in_array (inside f (an_array p s c) ts) ls l most k e is = tt
-in_array (inside f (a_map p s c) ts) ls l most k e is = absurd (map_not_array c most (at_most_highest (length (paired ts))) k (last_key ts) (ap (λ (m : Level). m.kind) (last_same (levels f) ls e).1 ∙ is))
-in_array (inside f (a_tag p w n) ts) ls l most k e is = absurd (clash (ap (λ (m : Level). m.kind) (last_same (levels f) ls e).1 ∙ is))
-  where
-    clash : ATag n ≡ AnArray most k → ⊥
-    clash e = cc
-in_array (inside f (in_chunks p j) ts) ls l most k e is = absurd (clash (ap (λ (m : Level). m.kind) (last_same (levels f) ls e).1 ∙ is))
-  where
-    clash : Chunks j (at_most_highest (length ts)) ≡ AnArray most k → ⊥
-    clash e = cc
+    odd : is_even l.missing ≡ true → 0 < lessened l.missing 1
+    odd h = omega (arith, eqb-true (l.missing % 2) 0 h)
 
-pub at_key : (f : Partial) (ls : List Level) (l : Level) (most : Option ℕ) (k : ℕ) → levels f ≡ ls ++ l ∷ [] → l.kind ≡ AMap most k → AtKey f
-at_key (top ts) ls l most k e is = absurd (clash (ap (λ (m : Level). m.kind) (last_same [] ls e).1 ∙ is))
-  where
-    clash : Sequence (at_most_highest (length ts)) ≡ AMap most k → ⊥
-    clash e = cc
-at_key (inside f (an_array p s c) ts) ls l most k e is = absurd (clash (ap (λ (m : Level). m.kind) (last_same (levels f) ls e).1 ∙ is))
-  where
-    clash : AnArray c (at_most_highest (length ts)) ≡ AMap most k → ⊥
-    clash e = cc
-at_key (inside f (a_map p s c) ts) ls l most k e is = map_key c most (at_most_highest (length (paired ts))) k (last_key ts) (ap (λ (m : Level). m.kind) (last_same (levels f) ls e).1 ∙ is)
-at_key (inside f (a_tag p w n) ts) ls l most k e is = absurd (clash (ap (λ (m : Level). m.kind) (last_same (levels f) ls e).1 ∙ is))
-  where
-    clash : ATag n ≡ AMap most k → ⊥
-    clash e = cc
-at_key (inside f (in_chunks p j) ts) ls l most k e is = absurd (clash (ap (λ (m : Level). m.kind) (last_same (levels f) ls e).1 ∙ is))
-  where
-    clash : Chunks j (at_most_highest (length ts)) ≡ AMap most k → ⊥
-    clash e = cc
+    go : (k : LevelKind) → is_at_key k l.missing ≡ true → 0 < lessened l.missing 1
+    go AMap h = odd h
+    go GreatMap h = odd h
+    go EndlessMap h = odd h
+    go k h = cc
 
 key_same : (f : Partial) (t : Tree) → AtKey f → ready (put f t) ≡ ready f
 key_same (inside f o ts) t h = refl
@@ -134,12 +138,12 @@ module _ (x : List ℕ) (g h : GivenHead) (n m : ℕ) (key : IsLeafOf x g n) (va
         value_text = value_text;
       }
 
-  pub pair_taken : (place : ℕ) (f : Partial) (holds : Partial → Type 0) (around : List Level) (l : Level) (most : Option ℕ) (parts : ℕ) → l.kind ≡ AMap most parts → Keeps f around l → TakesItem f → AtKey f → holds (put (put f (leaf_in place x g n)) (leaf_in (place + n) (drop n x) h m))
-      → AfterLeaves place (place + (n + m)) f holds around (record l { kind = MapValue most parts }) (take (n + m) x)
-  pair_taken place f holds around l most parts kind kept takes at held =
+  pub pair_taken : (place : ℕ) (f : Partial) (holds : Partial → Type 0) (around : List Level) (l : Level) → is_at_key l.kind l.missing ≡ true → Keeps f around l → TakesItem f → holds (put (put f (leaf_in place x g n)) (leaf_in (place + n) (drop n x) h m))
+      → AfterLeaves place (place + (n + m)) f holds around (record l { missing = lessened l.missing 1 }) (take (n + m) x)
+  pair_taken place f holds around l wants kept takes held =
       let k = leaf_in place x g n in
       let v = leaf_in (place + n) (drop n x) h m in
-      let s = stays (place + n) f k around l (MapValue most parts) kept.0 kept.1 (item_accepted f k takes) kept.2 (ap with_part kind) in
+      let s = stays (place + n) f k around l (record l { missing = lessened l.missing 1 }) kept.0 kept.1 (item_accepted f k takes) kept.2 (key_counted l wants) in
       let after : TakesItem (put f k) = item_after f k takes in
       record {
         before = put f k;
@@ -147,7 +151,7 @@ module _ (x : List ℕ) (g h : GivenHead) (n m : ℕ) (key : IsLeafOf x g n) (va
         held = held;
         levels = s.0;
         takes = after;
-        same = key_same f k at;
+        same = key_same f k (at_key f around l kept.0 wants);
         is = λ limit.
             ap (run limit (state place f no_part)) (take-add n m x)
             ∙ run-append limit (state place f no_part) (take n x) (take m (drop n x))
@@ -173,45 +177,52 @@ integer_read limit p f y (Nint q w n) takes is s =
     ∙ ap (λ k. finished (p + length y) (ready f) (open_in f) (Nint k w n)) (sym s.placed)
 integer_read limit p f y t takes is s = absurd is
 
--- an array of this many items, if that is known, has room for so many
-abbrev pub HasRoom : Option ℕ → ℕ → Type 0
-HasRoom None k = k < 2 ^ 64
-HasRoom (Some n) k = (k < 2 ^ 64) × (k ≤ n)
+-- in an array so many integers are missing, or nobody knows how many
+abbrev pub HasRoom : Level → ℕ → Type 0
+HasRoom l k = (l.kind ≡ EndlessArray) ⊎ ((l.kind ≡ AnArray) × (k ≤ l.missing))
 
--- the room that is left after these parts
-pub has_room : (most : Option ℕ) (all parts count : ℕ) → all ≡ unwrap_or most (2 ^ 64 - 1) → all < 2 ^ 64 → 0 < count → count ≤ all - parts → HasRoom most (parts + count)
-has_room None all parts count e fits some room = omega (arith, e, fits, some, room)
-has_room (Some n) all parts count e fits some room = (omega (arith, e, fits, some, room), omega (arith, e, fits, some, room))
+pub has_room : (l : Level) (k : ℕ) → is_array l.kind ≡ true → k ≤ room_in l.kind l.missing → HasRoom l k
+has_room l k is h = go l.kind refl is h
+  where
+    go : (c : LevelKind) → l.kind ≡ c → is_array c ≡ true → k ≤ room_in c l.missing → HasRoom l k
+    go AnArray e is h = inr (e, h)
+    go EndlessArray e is h = inl e
+    go c e is h = cc
 
-goes_on : (most : Option ℕ) (k j : ℕ) → HasRoom most j → k + 1 < j → with_part (AnArray most k) ≡ Some (AnArray most (k + 1))
-goes_on None k j room less = ap (λ n. Some (AnArray None n)) (ap (λ b. cond b (k + 1) k) (lt-ltb k (2 ^ 64 - 1) (omega (arith, room, less))))
-goes_on (Some n) k j room less =
-    ap (λ i. cond (leb n i) None (Some (AnArray (Some n) i))) (ap (λ b. cond b (k + 1) k) (lt-ltb k (2 ^ 64 - 1) (omega (arith, room.0, less))))
-    ∙ ap (λ b. cond b None (Some (AnArray (Some n) (k + 1)))) (lt-leb n (k + 1) (omega (arith, room.1, less)))
+-- more than one follows
+array_on : (l : Level) (k : ℕ) → l.missing < 2 ^ 64 → HasRoom l k → 1 < k → with_part l ≡ Some (record l { missing = lessened l.missing 1 })
+array_on l k fits (inl endless) more = endless_on l (ap kind_at_none endless ∙ ap Some (sym endless))
+array_on l k fits (inr (counted, room)) more = counted_on l (omega (arith, fits, room, more))
+
+room_left : (l : Level) (k j : ℕ) → l.missing < 2 ^ 64 → HasRoom l k → k ≡ j + 1 → HasRoom (record l { missing = lessened l.missing 1 }) j
+room_left l k j fits (inl endless) e = inl endless
+room_left l k j fits (inr (counted, room)) e = inr (counted, omega (arith, fits, room, e))
 
 -- the first n bytes of some are integers
-module _ (holds : Partial → Type 0) (most : Option ℕ) (around : List Level) where
-  go : (place end k : ℕ) (f : Partial) (l : Level) (x : List ℕ) (t : Tree) (ts : List Tree) → end ≡ place + length x → l.kind ≡ AnArray most k → Keeps f around l → TakesItem f → InArray f → AreShortIntegers place x (t ∷ ts) → HasRoom most (k + length (t ∷ ts)) → holds (puts f (t ∷ ts))
-      → AfterLeaves place end f holds around (record l { kind = AnArray most (k + length ts) }) x
-  go place end k f l x t [] e kind kept takes in_it (y, z, cut, is, short, none) room held =
+module _ (holds : Partial → Type 0) (around : List Level) where
+  go : (place end : ℕ) (f : Partial) (l : Level) (x : List ℕ) (t : Tree) (ts : List Tree) → end ≡ place + length x → Keeps f around l → TakesItem f → InArray f → AreShortIntegers place x (t ∷ ts) → HasRoom l (length (t ∷ ts)) → holds (puts f (t ∷ ts))
+      → AfterLeaves place end f holds around (record l { missing = lessened l.missing (length ts) }) x
+  go place end f l x t [] e kept takes in_it (y, z, cut, is, short, none) room held =
       let all : x ≡ y = cut ∙ ap (λ r. y ++ r) none ∙ append-nil y in
       record {
         before = f;
         last = t;
         held = held;
-        levels = subst (λ (j : LevelKind). Keeps f around (record l { kind = j })) (kind ∙ ap (AnArray most) (omega arith)) kept;
+        levels = subst (λ m. Keeps f around (record l { missing = m })) (omega (arith, missing_below f around l kept.0)) kept;
         takes = takes;
         same = refl;
         is = λ limit. ap (run limit (state place f no_part)) all ∙ integer_read limit place f y t takes is short ∙ ap (λ j. finished j (ready f) (open_in f) t) (omega (arith, e, ap length all));
       }
-  go place end k f l x t (u ∷ ts) e kind kept takes in_it (y, z, cut, is, short, more) room held =
-      let s = stays (place + length y) f t around l (AnArray most (k + 1)) kept.0 kept.1 (item_accepted f t takes) kept.2 (ap with_part kind ∙ goes_on most k (k + length (t ∷ u ∷ ts)) room (omega arith)) in
-      let r = go (place + length y) end (k + 1) (put f t) (with_kind l (AnArray most (k + 1))) z u ts (omega (arith, e, ap length cut, length-append y z)) refl s.0 (item_after f t takes) (array_after f t in_it) more (subst (HasRoom most) (omega arith) room) held in
+  go place end f l x t (u ∷ ts) e kept takes in_it (y, z, cut, is, short, more) room held =
+      let next = record l { missing = lessened l.missing 1 } in
+      let fits = missing_below f around l kept.0 in
+      let s = stays (place + length y) f t around l next kept.0 kept.1 (item_accepted f t takes) kept.2 (array_on l (length (t ∷ u ∷ ts)) fits room (omega arith)) in
+      let r = go (place + length y) end (put f t) next z u ts (omega (arith, e, ap length cut, length-append y z)) s.0 (item_after f t takes) (array_after f t in_it) more (room_left l (length (t ∷ u ∷ ts)) (length (u ∷ ts)) fits room (omega arith)) held in
       record {
         before = r.before;
         last = r.last;
         held = r.held;
-        levels = subst (λ (j : ℕ). Keeps r.before around (record l { kind = AnArray most j })) (omega arith) r.levels;
+        levels = subst (λ m. Keeps r.before around (record l { missing = m })) (omega arith) r.levels;
         takes = r.takes;
         same = r.same ∙ array_same f t in_it;
         is = λ limit.
@@ -221,12 +232,12 @@ module _ (holds : Partial → Type 0) (most : Option ℕ) (around : List Level) 
             ∙ r.is limit;
       }
 
-  pub integers_taken : (place n count k : ℕ) (f : Partial) (l : Level) (x : List ℕ) (ts : List Tree) → n ≤ length x → 0 < count → l.kind ≡ AnArray most k → Keeps f around l → TakesItem f → InArray f → AreShortIntegers place (take n x) ts → length ts ≡ count → HasRoom most (k + count) → holds (puts f ts)
-      → AfterLeaves place (place + n) f holds around (record l { kind = AnArray most (k + (count - 1)) }) (take n x)
-  integers_taken place n count k f l x [] whole some kind kept takes in_it are many room held = absurd (omega (arith, many, some))
-  integers_taken place n count k f l x (t ∷ ts) whole some kind kept takes in_it are many room held =
-      subst (λ (j : ℕ). AfterLeaves place (place + n) f holds around (record l { kind = AnArray most (k + j) }) (take n x)) (omega (arith, many))
-      (go place (place + n) k f l (take n x) t ts (omega (arith, length-take-le n x whole)) kind kept takes in_it are (subst (λ j. HasRoom most (k + j)) (sym many) room) held)
+  pub integers_taken : (place n count : ℕ) (f : Partial) (l : Level) (x : List ℕ) (ts : List Tree) → n ≤ length x → 0 < count → is_array l.kind ≡ true → Keeps f around l → TakesItem f → AreShortIntegers place (take n x) ts → length ts ≡ count → HasRoom l count → holds (puts f ts)
+      → AfterLeaves place (place + n) f holds around (record l { missing = lessened l.missing (count - 1) }) (take n x)
+  integers_taken place n count f l x [] whole some kind kept takes are many room held = absurd (omega (arith, many, some))
+  integers_taken place n count f l x (t ∷ ts) whole some kind kept takes are many room held =
+      subst (λ j. AfterLeaves place (place + n) f holds around (record l { missing = lessened l.missing j }) (take n x)) (omega (arith, many))
+      (go place (place + n) f l (take n x) t ts (omega (arith, length-take-le n x whole)) kept takes (in_array f around l kept.0 kind) are (subst (HasRoom l) (sym many) room) held)
 
 pub integers_some : (place n : ℕ) (x : List ℕ) (ts : List Tree) → n ≤ length x → AreShortIntegers place (take n x) ts → 0 < length ts → 0 < n
 integers_some place n x [] whole are some = absurd (omega arith)

@@ -1,5 +1,6 @@
 -- What is taken off the front of a piece.
-use Rattle.cborn_wire.proofs.Common.{◌≡◌, refl, sym, ap, ◌∙◌, subst, ℕ, ◌+◌, ◌/◌, ◌%◌, ◌<◌, ◌≤◌, List, [], ◌∷◌, ◌++◌, length, take, drop, get_or, Bool, false, leb, Option, Some, None, arith, length-append, add-one, take-append-drop, length-take-le, AreBytes, Width, Direct, Major, Unsigned, ByteString, TextString, Other, Argument, Given, EndlessArgument, Tree, Trees, Opening, an_array, a_map, in_chunks, Partial, top, inside, Part, no_part, part, paired, last_key, string_tree, TakesItem, TakesString, VisitFault, Refused, Memory, StringKind, OfBytes, OfText, major_of, Slot, item, chunk, OpenContainer, opened, slot, slot_in, slot_in_map, open_depth, IsNoString, AreOpen, Head, Level, PartialHead, major_at, seen_argument, IsHeadOf, Info, Next, info_at, info_for, is_of_kind, is_break, is_bad_chunk, head_reason, plain, place_of, width_bytes, argument_of, content_of, nothing, Unfinished, gathering, State, Live, start, begin_head, unless, finished, run, IsReached, ready, open_in, state, at_most_highest, map_kind, kind_in, levels, Keeps, Takes, slot_of, Missing, Stands, FailsAs, HereAt}
+use Rattle.std.specs.Prelude.{◌≡◌, ◌+◌, ◌/◌, ◌%◌, ◌<◌, ◌≤◌, ◌∷◌, ◌++◌}
+use Rattle.cborn_wire.proofs.Common.{refl, sym, ap, ◌∙◌, subst, ℕ, List, [], length, take, drop, get_or, Bool, false, leb, Option, Some, None, arith, length-append, add-one, take-append-drop, length-take-le, AreBytes, Width, Direct, Major, Unsigned, ByteString, TextString, Other, Argument, Given, EndlessArgument, Trees, in_chunks, Partial, top, inside, Part, no_part, part, string_tree, TakesItem, TakesString, VisitFault, Refused, Memory, StringKind, OfBytes, OfText, major_of, Slot, item, chunk, OpenContainer, opened, slot, slot_in, open_depth, IsNoString, AreOpen, Head, Level, PartialHead, major_at, seen_argument, IsHeadOf, Info, Next, info_at, info_for, is_of_kind, is_break, is_bad_chunk, head_reason, plain, width_bytes, argument_of, content_of, nothing, Unfinished, gathering, State, Live, begin_head, unless, finished, run, IsReached, open_in, state, level_in, levels, Keeps, Takes, slot_of, Missing, Stands, FailsAs, HereAt}
 use Rattle.cborn_model.proofs.Bytes.{bytes-left}
 use Rattle.cborn_wire.proofs.Machine.Reached.{depth_is_length}
 use Rattle.cborn_wire.proofs.Machine.TakesItems.{given_endless}
@@ -8,7 +9,7 @@ use Rattle.cborn_wire.proofs.Machine.SoundSteps.{is_clear, free_of, other_kind, 
 use Rattle.cborn_wire.proofs.Machine.Running.{run-append, failed_run}
 use Rattle.cborn_wire.proofs.Machine.SoundItems.{SoundLive, Sound}
 use Rattle.cborn_wire.proofs.Machine.SoundRuns.{sound, InfoIs, IsWide, info_is}
-use Rattle.cborn_wire.proofs.Visiting.Counting.{last_same}
+use Rattle.cborn_wire.proofs.Visiting.Counting.{top_slot}
 
 pub bytes-take : (n : ℕ) (x : List ℕ) → AreBytes x → AreBytes (take n x)
 bytes-take n x h = bytes-left (take n x) (drop n x) (subst AreBytes (sym (take-append-drop n x)) h)
@@ -46,24 +47,9 @@ plain_same : (s : Slot) (full : Bool) (m : Major) (i : Info) → head_reason (pl
 plain_same item full m i = refl
 plain_same s full m i = refl
 
-level_slot : (o : Opening) (ts : List Tree) → slot_of (kind_in o ts) ≡ plain (slot_in (opened o ts))
-level_slot (an_array p s None) ts = refl
-level_slot (a_map p s c) ts = go c (last_key ts)
-  where
-    go : (c : Option ℕ) (x : Option Tree) → slot_of (map_kind c (at_most_highest (length (paired ts))) x) ≡ plain (slot_in_map c x)
-    go None None = refl
-    go None (Some k) = refl
-    go (Some n) None = refl
-    go (Some n) (Some k) = refl
-level_slot o ts = refl
-
-top_slot : (f : Partial) (ls : List Level) (l : Level) → levels f ≡ ls ++ l ∷ [] → slot_of l.kind ≡ plain (slot (open_in f))
-top_slot (top ts) ls l e = ap (λ (m : Level). slot_of m.kind) (sym (last_same [] ls e).1)
-top_slot (inside f o ts) ls l e = ap (λ (m : Level). slot_of m.kind) (sym (last_same (levels f) ls e).1) ∙ level_slot o ts
-
 level_count : (f : Partial) → length (levels f) ≡ length (open_in f) + 1
 level_count (top ts) = refl
-level_count (inside f o ts) = omega (arith, level_count f, length-append (levels f) (record { place = place_of o; kind = kind_in o ts } ∷ []))
+level_count (inside f o ts) = omega (arith, level_count f, length-append (levels f) (level_in o ts ∷ []))
 
 pub outer_count : (f : Partial) (ls : List Level) (l : Level) → levels f ≡ ls ++ l ∷ [] → length ls ≡ length (open_in f)
 outer_count f ls l e = omega (arith, level_count f, ap length e, length-append ls (l ∷ []))
@@ -81,7 +67,7 @@ any_depth (opened (in_chunks p c) ts ∷ os) limit j m i e = chunk_reason c m i 
 any_depth (opened o ts ∷ os) limit j m i e = ap (λ n. head_reason (slot_in (opened o ts)) (leb limit n) m i []) (e tt)
 
 pub reason_same : (limit : ℕ) (f : Partial) (ls : List Level) (l : Level) (m : Major) (i : Info) → Keeps f ls l → AreOpen limit (open_in f)
-    → head_reason (slot_of l.kind) (leb limit (length ls)) m i [] ≡ head_reason (slot (open_in f)) (leb limit (open_depth (open_in f))) m i []
+    → head_reason (slot_of l.kind l.missing) (leb limit (length ls)) m i [] ≡ head_reason (slot (open_in f)) (leb limit (open_depth (open_in f))) m i []
 reason_same limit f ls l m i are h =
     ap (λ s. head_reason s (leb limit (length ls)) m i []) (top_slot f ls l are.0)
     ∙ plain_same (slot (open_in f)) (leb limit (length ls)) m i

@@ -10,9 +10,8 @@ use Rattle.cborn_wire.specs.declared.heads.Argument.TheVariants.{Given}
 use Rattle.cborn_wire.specs.declared.levels.Level.{Level}
 use Rattle.cborn_wire.specs.declared.leaves.GivenHead.{GivenHead}
 use Rattle.cborn_wire.specs.HeadReading.{major_at, IsHeadOf}
-use Rattle.cborn_wire.specs.declared.levels.LevelKind.{LevelKind}
 use Rattle.cborn_wire.specs.shared.Machine.{AtMostOneMore, finished, run}
-use Rattle.cborn_wire.specs.shared.Visiting.{ready, open_in, state, Keeps, Stands}
+use Rattle.cborn_wire.specs.shared.Visiting.{ready, open_in, state, lessened, Keeps, Stands}
 
 -- this head is at the front of x, and of major type 7 only with a direct argument
 pub record IsGiven (x : List ℕ) (h : GivenHead) : Type 0 where
@@ -59,17 +58,12 @@ pub record AfterLeaves (place end : ℕ) (f : Partial) (holds : Partial → Type
   pub same : ready before ≡ ready f
   pub is : (limit : ℕ) → run limit (state place f no_part) x ≡ finished end (ready before) (open_in before) last
 
--- The first n bytes of x are leaves at the offset `place`. The visitor takes them where the innermost level is `kind`, and before the last of them that is `last`.
-abbrev pub TakesRun : ℕ → List ℕ → LevelKind → LevelKind → (Partial → Part → Type 0) → (Partial → Part → Type 0) → ℕ → Type 0
-TakesRun place x kind last old new n =
-    (0 < n) × (n ≤ length x) × ((f : Partial) (around : List Level) (l : Level) → l.kind ≡ kind → old f no_part → Keeps f around l → TakesItem f → AfterLeaves place (place + n) f (λ h. new h no_part) around (record l { kind = last }) (take n x))
+-- The first n bytes of x are leaves at the offset `place`. The visitor takes them where l is the innermost level, and count of them, but not the last.
+abbrev pub TakesRun : ℕ → List ℕ → Level → ℕ → (Partial → Part → Type 0) → (Partial → Part → Type 0) → ℕ → Type 0
+TakesRun place x l count old new n =
+    (0 < n) × (n ≤ length x) × ((f : Partial) (around : List Level) → old f no_part → Keeps f around l → TakesItem f → AfterLeaves place (place + n) f (λ h. new h no_part) around (record l { missing = lessened l.missing count }) (take n x))
 
 -- n bytes of the piece were read after the partial sequence f, and at most one more item of the input is whole
 abbrev pub TakesHead : ℕ → ℕ → Partial → List ℕ → (Partial → Part → Type 0) → List Level → Level → ℕ → Type 0
 TakesHead limit place f piece holds around l n =
     (n ≤ length piece) × Stands holds around l 0 (place + n) (run limit (state place f no_part) (take n piece)) × AtMostOneMore (ready f) (run limit (state place f no_part) (take n piece))
-
--- the same, whatever the limit
-abbrev pub TakesLeaves : ℕ → Partial → List ℕ → (Partial → Part → Type 0) → List Level → Level → ℕ → Type 0
-TakesLeaves place f piece holds around l n =
-    (n ≤ length piece) × ((limit : ℕ) → Stands holds around l 0 (place + n) (run limit (state place f no_part) (take n piece)) × AtMostOneMore (ready f) (run limit (state place f no_part) (take n piece)))

@@ -1,20 +1,21 @@
 -- A device of the proofs: what a machine keeps of the partial sequence that its visitor holds, and what both are as a state of the machine of these proofs.
-use Rattle.std.specs.Prelude.{◌≡◌, ℕ, ◌+◌, ◌-◌, ◌^◌, ◌<◌, ◌≤◌, List, [], ◌∷◌, ◌++◌, length, take, Bool, true, false, Option, Some, None, Result, Ok, Err, IfOk, MatchResult, if◌then◌else◌, nat_lt}
+use Rattle.std.specs.Prelude.{◌≡◌, ℕ, zero, suc, ◌+◌, ◌-◌, ◌%◌, ◌^◌, ◌<◌, ◌≤◌, List, [], ◌∷◌, ◌++◌, length, take, Bool, true, false, not, Option, Some, None, Result, Ok, Err, IfOk, MatchResult, if◌then◌else◌, nat_eq, nat_lt}
 use Rattle.cborn_model.specs.Bytes.{AreBytes}
 use Rattle.cborn_model.specs.declared.heads.Major.{Major}
 use Rattle.cborn_model.specs.declared.heads.Major.TheVariants.{ByteString, TextString, Other}
 use Rattle.cborn_model.specs.Heads.{Argument, Given, EndlessArgument}
 use Rattle.cborn_model.specs.Tree.{Tree, Trees, trees}
-use Rattle.cborn_model.specs.Partial.{Opening, an_array, a_map, a_tag, in_chunks, Partial, top, inside, Part, no_part, part, paired, last_key, TakesItem, TakesString, Proper}
+use Rattle.cborn_model.specs.Partial.{Opening, an_array, a_map, a_tag, in_chunks, Partial, top, inside, Part, no_part, part, TakesItem, TakesString, Proper}
 use Rattle.cborn_wire.specs.declared.faults.VisitFault.{VisitFault}
 use Rattle.cborn_wire.specs.declared.faults.VisitFault.TheVariants.{Refused, Memory}
 use Rattle.cborn_wire.specs.declared.faults.WireReason.{WireReason}
-use Rattle.cborn_wire.specs.Slots.{OfBytes, OfText, Slot, item, element_or_end, chunk, OpenContainer, opened, HeadFits, AreOpen}
+use Rattle.cborn_wire.specs.Slots.{OfBytes, OfText, Slot, item, element_or_end, chunk, OpenContainer, opened, HeadFits}
+use Rattle.cborn_wire.specs.SlotFaults.{needs_item}
 use Rattle.cborn_wire.specs.HeadReading.{major_at}
 use Rattle.cborn_wire.specs.shared.Ground.{place_of}
-use Rattle.cborn_wire.specs.shared.Machine.{width_bytes, Unfinished, argument_of, content_of, nothing, gathering, State, Live, Failed, ready_in, start, run, is_all, AtMostOneMore}
+use Rattle.cborn_wire.specs.shared.Machine.{width_bytes, Unfinished, argument_of, content_of, nothing, gathering, State, Live, Failed, ready_in, start, run, AtMostOneMore}
 use Rattle.cborn_wire.specs.declared.levels.LevelKind.{LevelKind}
-use Rattle.cborn_wire.specs.declared.levels.LevelKind.TheVariants.{Sequence, Array, Map, MapValue, Tag, Chunks}
+use Rattle.cborn_wire.specs.declared.levels.LevelKind.TheVariants.{Sequence, Array, Map, GreatMap, Tag, EndlessArray, EndlessMap, Chunks}
 use Rattle.cborn_wire.specs.declared.levels.Level.{Level}
 use Rattle.cborn_wire.specs.declared.head_readers.PartialHead.{PartialHead}
 use Rattle.cborn_wire.specs.declared.head_readers.HeadReader.{HeadReader}
@@ -43,28 +44,46 @@ AreFromBytes (inside f o ts) = AreFromBytes f × HeadFits o
 
 -- the levels of what is open
 
--- one more, as a number of 64 bits that stays at its highest
-abbrev pub next_number : ℕ → ℕ
-next_number n = if nat_lt n (2 ^ 64 - 1) then n + 1 else n
+-- n minus k, modulo 2^64
+abbrev pub lessened : ℕ → ℕ → ℕ
+lessened n k = (n + (2 ^ 64 - k % 2 ^ 64)) % 2 ^ 64
 
--- n, or the highest number of 64 bits
-abbrev pub at_most_highest : ℕ → ℕ
-at_most_highest n = if nat_lt n (2 ^ 64 - 1) then n else 2 ^ 64 - 1
+-- how many nodes the head announces; 0 if it says no number
+abbrev pub announced_nodes : Opening → ℕ
+announced_nodes (an_array p s (Some n)) = n
+announced_nodes (a_map p s (Some n)) = n + n
+announced_nodes (a_tag p w n) = 1
+announced_nodes o = 0
 
-abbrev pub map_kind : Option ℕ → ℕ → Option Tree → LevelKind
-map_kind c k None = Map c k
-map_kind c k (Some t) = MapValue c k
+abbrev pub argument_in : Opening → ℕ
+argument_in (an_array p s (Some n)) = n
+argument_in (a_map p s (Some n)) = n
+argument_in (a_tag p w n) = n
+argument_in o = 0
 
-abbrev pub kind_in : Opening → List Tree → LevelKind
-kind_in (an_array p s c) ts = Array c (at_most_highest (length ts))
-kind_in (a_map p s c) ts = map_kind c (at_most_highest (length (paired ts))) (last_key ts)
-kind_in (a_tag p w n) ts = Tag n
-kind_in (in_chunks p k) ts = Chunks k (at_most_highest (length ts))
+-- with k nodes in it
+abbrev pub kind_in : Opening → ℕ → LevelKind
+kind_in (an_array p s (Some n)) k = Array
+kind_in (an_array p s None) k = EndlessArray
+kind_in (a_map p s (Some n)) k = if nat_lt (k + 2 ^ 64) (n + n) then GreatMap else Map
+kind_in (a_map p s None) k = EndlessMap
+kind_in (a_tag p w n) k = Tag
+kind_in (in_chunks p c) k = Chunks c
+
+abbrev pub level_with : Opening → ℕ → Level
+level_with o k = record { place = place_of o; kind = kind_in o k; argument = argument_in o; missing = lessened (announced_nodes o) k }
+
+abbrev pub level_in : Opening → List Tree → Level
+level_in o ts = level_with o (length ts)
+
+-- the input with k items
+abbrev pub input_level : ℕ → Level
+input_level k = record { place = 0; kind = Sequence; argument = 0; missing = lessened 0 k }
 
 -- the outermost first
 abbrev pub levels : Partial → List Level
-levels (top ts) = record { place = 0; kind = Sequence (at_most_highest (length ts)) } ∷ []
-levels (inside f o ts) = levels f ++ record { place = place_of o; kind = kind_in o ts } ∷ []
+levels (top ts) = input_level (length ts) ∷ []
+levels (inside f o ts) = levels f ++ level_in o ts ∷ []
 
 -- The levels are those of the partial sequence, which bytes spell: the innermost is l, the others are around it.
 abbrev pub Keeps : Partial → List Level → Level → Type 0
@@ -72,34 +91,76 @@ Keeps f around l = (levels f ≡ around ++ l ∷ []) × Proper f × AreFromBytes
 
 -- the levels of an input of which nothing was read
 abbrev pub IsInput : List Level → Level → Type 0
-IsInput around l = (around ≡ []) × (l ≡ record { place = 0; kind = Sequence 0 })
+IsInput around l = (around ≡ []) × (l ≡ input_level 0)
 
 -- what a level is with one more part; None if that was its last
-abbrev pub with_part : LevelKind → Option LevelKind
-with_part (Sequence k) = Some (Sequence (next_number k))
-with_part (Array c k) = if is_all c (next_number k) then None else Some (Array c (next_number k))
-with_part (Map c k) = Some (MapValue c k)
-with_part (MapValue c k) = if is_all c (next_number k) then None else Some (Map c (next_number k))
-with_part (Tag n) = None
-with_part (Chunks k n) = Some (Chunks k (next_number n))
+
+abbrev pub kind_at_none : LevelKind → Option LevelKind
+kind_at_none Array = None
+kind_at_none Map = None
+kind_at_none Tag = None
+kind_at_none GreatMap = Some Map
+kind_at_none k = Some k
+
+abbrev pub with_kind : Level → Option LevelKind → Option Level
+with_kind l None = None
+with_kind l (Some k) = Some (record l { kind = k })
+
+-- where a multiple of 2^64 parts is missing
+abbrev pub at_none : Level → Option Level
+at_none l = with_kind l (kind_at_none l.kind)
+
+abbrev pub if_none : Level → ℕ → Option Level
+if_none l zero = at_none l
+if_none l (suc n) = Some l
+
+abbrev pub with_part : Level → Option Level
+with_part l = if_none (record l { missing = lessened l.missing 1 }) (lessened l.missing 1)
+
+-- how many parts are whole, modulo 2^64
+abbrev pub parts_in : LevelKind → ℕ → ℕ → ℕ
+parts_in Map n m = lessened ((n + n) % 2 ^ 64) m
+parts_in GreatMap n m = lessened ((n + n) % 2 ^ 64) m
+parts_in k n m = lessened n m
+
+abbrev pub parts_of : Level → ℕ
+parts_of l = parts_in l.kind l.argument l.missing
+
+abbrev pub is_array : LevelKind → Bool
+is_array Array = true
+is_array EndlessArray = true
+is_array k = false
+
+-- how many parts at most may come in an array
+abbrev pub room_in : LevelKind → ℕ → ℕ
+room_in EndlessArray m = 2 ^ 64 - 1
+room_in k m = m
 
 abbrev pub is_chunks : LevelKind → Bool
-is_chunks (Chunks k n) = true
-is_chunks _ = false
+is_chunks (Chunks c) = true
+is_chunks k = false
 
--- a break may end it
-abbrev pub may_end : LevelKind → Bool
-may_end (Array None k) = true
-may_end (Map None k) = true
-may_end (Chunks k n) = true
-may_end _ = false
+-- of this many missing parts
+abbrev pub is_even : ℕ → Bool
+is_even m = nat_eq (m % 2) 0
+
+-- in a map of which this many parts are missing a key comes next
+abbrev pub is_at_key : LevelKind → ℕ → Bool
+is_at_key Map m = is_even m
+is_at_key GreatMap m = is_even m
+is_at_key EndlessMap m = is_even m
+is_at_key k m = false
 
 -- its slot, as the code knows it, which has one for all in which the same heads are allowed
-abbrev pub slot_of : LevelKind → Slot
-slot_of (Array None k) = element_or_end
-slot_of (Map None k) = element_or_end
-slot_of (Chunks k n) = chunk k
-slot_of _ = item
+abbrev pub slot_of : LevelKind → ℕ → Slot
+slot_of EndlessArray m = element_or_end
+slot_of EndlessMap m = if is_even m then element_or_end else item
+slot_of (Chunks c) m = chunk c
+slot_of k m = item
+
+-- a break may end it
+abbrev pub may_end : LevelKind → ℕ → Bool
+may_end k m = not (needs_item (slot_of k m))
 
 -- what is read and what comes
 

@@ -1,4 +1,4 @@
-use Rattle.std.proofs.Common.{rules, ◌≡◌, refl, sym, ap, ◌∙◌, ◌+◌, ◌<◌, ℕ, List, [], length, take, get_or, true, false, inr, arith}
+use Rattle.std.proofs.Common.{rules, refl, sym, ap, ◌∙◌, ◌<◌, ℕ, List, [], length, take, get_or, inr, arith}
 use Rattle.std.proofs.lemmas.List.{take_more, get_or_default}
 use Rattle.std.proofs.lemmas.Option.{slice_get_read}
 use Rattle.std.specs.Borrow.{Bor}

@@ -1,5 +1,5 @@
-use Rattle.cborn_det.proofs.Common.{append_assoc, rules, ◌≡◌, List, ◌++◌, map, ◌-◌, length, subst, sym, ap, ◌∙◌, length-map, item_value, pair_value, Value, values_of, pairs_of, array, Appends, Det, joined}
-use Rattle.cborn_model.proofs.Listed.Values.{height_of_item, height_of_pair}
+use Rattle.std.specs.Prelude.{◌≡◌, ◌++◌, ◌-◌}
+use Rattle.cborn_det.proofs.Common.{append_assoc, rules, List, map, length, subst, sym, ap, ◌∙◌, length-map, item_value, pair_value, Value, values_of, pairs_of, array, Appends, Det, joined, height_of_item, height_of_pair}
 use Rattle.cborn_det.proofs.Canon.{distinct_keys}
 use Rattle.cborn_det.proofs.Steps.{on_err, begins_more, items_done, items_step, pairs_step, laid, pair_done, map_done, proper_item, proper_pair}
 use Rattle.cborn_det.proofs.encoding.+encoder.Goals as goal

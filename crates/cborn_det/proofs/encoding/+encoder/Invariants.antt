@@ -1,5 +1,5 @@
-use Rattle.cborn_det.proofs.Common.{◌+◌, ◌*◌, map, take, item_value, pair_value, values_of, pairs_of, height, height_all, height_pairs, DetSeq, Appends}
-use Rattle.cborn_model.proofs.Listed.Values.{pair_height}
+use Rattle.std.specs.Prelude.{◌+◌, ◌*◌}
+use Rattle.cborn_det.proofs.Common.{map, take, item_value, pair_value, values_of, pairs_of, height, height_all, height_pairs, DetSeq, Appends, pair_height}
 use Rattle.cborn_det.proofs.Steps.{AppendsPairs}
 use Rattle.cborn_det.proofs.encoding.+encoder.Given as goal
 

@@ -1,4 +1,5 @@
-use Rattle.cborn_det.proofs.Common.{◌+◌, subst, sym, take, [], refl, Appends, Det, DetSeq}
+use Rattle.std.specs.Prelude.{◌+◌}
+use Rattle.cborn_det.proofs.Common.{subst, sym, take, [], refl, Appends, Det, DetSeq}
 use Rattle.cborn_det.proofs.Steps.{seq_step}
 use Rattle.cborn_det.proofs.encoding.encode_all.Goals as goal
 

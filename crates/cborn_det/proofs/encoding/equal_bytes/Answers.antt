@@ -1,4 +1,5 @@
-use Rattle.cborn_det.proofs.Common.{◌≡◌, Bool, true, false, IsTrue, ◌↔◌, Decides, sym, refl, ◌∙◌, subst, Det}
+use Rattle.std.specs.Prelude.{◌≡◌, ◌↔◌}
+use Rattle.cborn_det.proofs.Common.{Bool, true, false, IsTrue, Decides, sym, refl, ◌∙◌, subst, Det}
 use Rattle.std.proofs.lemmas.Bool.Decides.{Decides-eqb}
 use Rattle.std.proofs.lemmas.Slice.Eq.{slice_eq-Decides}
 use Rattle.cborn_det.proofs.Canon.{same_of_one, one_of_same}

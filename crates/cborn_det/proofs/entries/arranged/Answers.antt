@@ -1,4 +1,5 @@
-use Rattle.cborn_det.proofs.Common.{◌≡◌, List, subst, rules, IsPermutation, entries_of, HasDistinctKeys, Entry}
+use Rattle.std.specs.Prelude.{◌≡◌}
+use Rattle.cborn_det.proofs.Common.{List, subst, rules, IsPermutation, entries_of, HasDistinctKeys, Entry}
 use Rattle.cborn_det.proofs.Cutting.{one_written}
 use Rattle.cborn_det.proofs.entries.arranged.Goals as goal
 

@@ -1,14 +1,11 @@
-use Rattle.cborn_det.proofs.Common.{rules, ◌≡◌, List, ℕ, arith, ◌++◌, ◌∷◌, [], ap, ◌∙◌, sym, subst, Bor, map-append, entries_of, IsWritten}
+use Rattle.std.specs.Prelude.{◌≡◌, ◌++◌, ◌∷◌}
+use Rattle.cborn_det.proofs.Common.{rules, List, ℕ, arith, [], ap, ◌∙◌, sym, subst, Bor, map-append, entries_of, IsWritten}
 use Rattle.cborn_det.proofs.Cutting.{cut_fits, cut_more}
 use Rattle.cborn_det.proofs.entries.entries_in.Goals as goal
 
 pub split_at-requires : goal.split_at-requires
 split_at-requires c =
     (cut_fits c.loop-key_len.invariant.0 c.args.lengths.now c.loop-key_len.key_len-index c.loop-key_len.rest.now (omega arith) c.loop-key_len.invariant.1).0
-
-pub split_at-requires-in-loop-key_len : goal.split_at-requires-in-loop-key_len
-split_at-requires-in-loop-key_len c =
-    rw (c.split_at.ensures.back) (cut_fits c.loop-key_len.invariant.0 c.args.lengths.now c.loop-key_len.key_len-index c.loop-key_len.rest.now (omega arith) c.loop-key_len.invariant.1).1
 
 pub loop-key_len-preserved : goal.loop-key_len-preserved
 loop-key_len-preserved c =

@@ -1,4 +1,5 @@
-use Rattle.cborn_det.proofs.Common.{◌++◌, drop, List, Entry, IsWritten, entries_of}
+use Rattle.std.specs.Prelude.{◌++◌}
+use Rattle.cborn_det.proofs.Common.{drop, List, Entry, IsWritten, entries_of}
 use Rattle.cborn_det.proofs.entries.entries_in.Given as goal
 
 -- the entries so far, and those of what is left

@@ -1,4 +1,5 @@
-use Rattle.cborn_det.proofs.Common.{◌≡◌, ◌++◌, drop, joined, entries_of}
+use Rattle.std.specs.Prelude.{◌≡◌, ◌++◌}
+use Rattle.cborn_det.proofs.Common.{drop, joined, entries_of}
 use Rattle.cborn_det.proofs.entries.push_entries.Given as goal
 
 abbrev pub invariant-loop-key : goal.invariant-loop-key

@@ -1,4 +1,5 @@
-use Rattle.cborn_edn.proofs.Common.{ap, refl, subst, ◌<◌, ◌^◌, count, count_entries, Writer, nodes_in, entries_in, faults_in, faults_of_fields, array, in_array, has, stack_in, content_state, fields_state, states_around, Reads, of_array, of_map, map_item as map}
+use Rattle.std.specs.Prelude.{◌<◌, ◌^◌}
+use Rattle.cborn_edn.proofs.Common.{ap, refl, subst, count, count_entries, Writer, nodes_in, entries_in, faults_in, faults_of_fields, array, in_array, has, stack_in, content_state, fields_state, states_around, Reads, of_array, of_map, map_item as map}
 use Rattle.cborn_edn.proofs.Lemmas.{on_ok, entries_few, in_content, in_fields, same_around, closed_sized, content_states, fields_states, hands_array_end, hands_map_end}
 use Rattle.cborn_edn.proofs.containers.close_sized.Goals as goal
 

@@ -1,4 +1,5 @@
-use Rattle.cborn_edn.proofs.Common.{refl, ap, ◌∙◌, ◌∷◌, append_assoc, Writer, Absent, tag_errors, first_error, bracket, brackets_of, arounds_of, bytes_around, noted, noted_stack, faults, tag, in_tag, has, states_around}
+use Rattle.std.specs.Prelude.{◌∷◌}
+use Rattle.cborn_edn.proofs.Common.{refl, ap, ◌∙◌, append_assoc, Writer, Absent, tag_errors, first_error, bracket, brackets_of, arounds_of, bytes_around, noted, noted_stack, faults, tag, in_tag, has, states_around}
 use Rattle.cborn_edn.proofs.Lemmas.{on_ok, same_around, closed, AtEnd, hands_tag_end}
 use Rattle.cborn_edn.proofs.containers.close_tag.Goals as goal
 

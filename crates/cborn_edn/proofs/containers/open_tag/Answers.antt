@@ -1,4 +1,5 @@
-use Rattle.cborn_edn.proofs.Common.{refl, sym, ap, ◌∙◌, subst, ◌++◌, WidthFits, Absent, width, tag_errors, first_error, in_tag, wants, noted_stack, states_around}
+use Rattle.std.specs.Prelude.{◌++◌}
+use Rattle.cborn_edn.proofs.Common.{refl, sym, ap, ◌∙◌, subst, WidthFits, Absent, width, tag_errors, first_error, in_tag, wants, noted_stack, states_around}
 use Rattle.cborn_edn.specs.declared.states.Level.TheVariants as levels
 use Rattle.cborn_edn.proofs.Lemmas.{both_ok, opened_read, tag_fits, hands_tag}
 use Rattle.cborn_edn.proofs.containers.open_tag.Goals as goal

@@ -1,13 +1,15 @@
-use Rattle.cborn_edn.proofs.Common.{◌≡◌, refl, sym, ap, ◌∙◌, subst, Some, Comma, row, after_row, pairs, after_pairs, is_in, is_row, Shows, Stack, in_row, in_key, wants, has, step_by}
+use Rattle.std.specs.Prelude.{◌≡◌}
+use Rattle.cborn_edn.proofs.Common.{refl, sym, ap, ◌∙◌, subst, Some, Comma, row, after_row, pairs, after_pairs, is_in, is_row, Shows, Stack, in_row, in_key, wants, has, step_by}
 use Rattle.cborn_edn.proofs.Reader.Inverted.{value_at, row_at, no_comma}
+use Rattle.cborn_edn.proofs.Reader.Rows.{comma_shown, pair_comma_shown}
 use Rattle.cborn_edn.specs.declared.states.Level.TheVariants as levels
 use Rattle.cborn_edn.proofs.endings.end_entry.Goals as goal
 
 pub returns-then-is_in-clause-taken : goal.returns-then-is_in-clause-taken
 returns-then-is_in-clause-taken c = λ st i a e.
     let k = value_at st (ap (is_in levels.Value) (sym e.level) ∙ sym c.is_in.ensures ∙ c.if-is_in.true) in
-    let u = wants (in_key k.around k.at k.m (after_pairs (pairs k.b k.k k.colon i) a)) in
-    (u, subst (λ (t : Stack). step_by (has t i) Comma a ≡ Some u) k.is refl, c.comma_of_pairs.ensures c.args.writer.now c.args.writer.now.pieces.items k.around k.at k.colon a k.m k.b k.k i (subst (λ (t : Stack). Shows c.args.here.now c.args.writer.now c.args.writer.now.pieces.items (has t i)) (sym k.is) e))
+    let u = wants (in_key k.0 k.1 k.2 (after_pairs (pairs k.3 k.4 k.5 i) a)) in
+    (u, subst (λ (t : Stack). step_by (has t i) Comma a ≡ Some u) k.6 refl, pair_comma_shown c.args.here.now _ c.args.writer.now c.args.writer.now.pieces.items k.0 k.1 k.5 a k.2 k.3 k.4 i refl refl refl (subst (λ (t : Stack). Shows c.args.here.now c.args.writer.now c.args.writer.now.pieces.items (has t i)) (sym k.6) e))
 
 pub returns-then-not-is_row-clause-taken : goal.returns-then-not-is_row-clause-taken
 returns-then-not-is_row-clause-taken c = λ st i a e. no_comma st i a (ap (is_in levels.Value) (sym e.level) ∙ sym c.is_in.ensures ∙ c.if-is_in.false) (ap is_row (sym e.level) ∙ sym c.is_row.ensures ∙ c.if-not-is_row.true)
@@ -15,5 +17,5 @@ returns-then-not-is_row-clause-taken c = λ st i a e. no_comma st i a (ap (is_in
 pub returns-clause-taken : goal.returns-clause-taken
 returns-clause-taken c = λ st i a e.
     let k = row_at st (ap is_row (sym e.level) ∙ sym c.is_row.ensures ∙ c.if-not-is_row.false) in
-    let u = wants (in_row k.n (after_row (row k.b i) a)) in
-    (u, subst (λ (t : Stack). step_by (has t i) Comma a ≡ Some u) k.is refl, c.comma.ensures c.args.writer.now c.args.writer.now.pieces.items k.n k.b i a (subst (λ (t : Stack). Shows c.args.here.now c.args.writer.now c.args.writer.now.pieces.items (has t i)) (sym k.is) e))
+    let u = wants (in_row k.0 (after_row (row k.1 i) a)) in
+    (u, subst (λ (t : Stack). step_by (has t i) Comma a ≡ Some u) k.2 refl, comma_shown c.args.here.now _ c.args.writer.now c.args.writer.now.pieces.items k.0 k.1 i a refl refl refl (subst (λ (t : Stack). Shows c.args.here.now c.args.writer.now c.args.writer.now.pieces.items (has t i)) (sym k.2) e))

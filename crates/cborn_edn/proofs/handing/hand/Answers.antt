@@ -1,4 +1,5 @@
-use Rattle.cborn_edn.proofs.Common.{◌≡◌, sym, ap, ◌∙◌, true, false, arith, first_error, is_none, are_bytes}
+use Rattle.std.specs.Prelude.{◌≡◌}
+use Rattle.cborn_edn.proofs.Common.{sym, ap, ◌∙◌, true, false, arith, first_error, is_none, are_bytes}
 use Rattle.cborn_edn.proofs.Lemmas.{on_ok, silenced, outside, inside}
 use Rattle.cborn_edn.proofs.handing.hand.Goals as goal
 
@@ -7,7 +8,7 @@ returns-then-not-is_none g c = λ s u ss e hands t. silenced (g.V.Visitor.holds 
     (λ q. let bad : is_none c.args.error ≡ true = ap is_none (e ∙ ap first_error q) in absurd (let worse : false ≡ true = c.if-not-is_none.ensures ∙ bad in cc)) t
 
 pub returns-then-is_empty : goal.returns-then-is_empty
-returns-then-is_empty g c = on_ok c.hand_to.result (λ f s u ss e hands t. outside (g.V.Visitor.holds c.args.visitor.now) (g.V.Visitor.holds c.hand_to.new.visitor) c.args.event c.args.place c.args.content.now s u c.args.spellers.now ss (sym c.if-is_empty.ensures) (record { fits = c.requires (sym c.if-not-is_none.ensures); bytes = are_bytes c.args.content.now c.type_inv.content; short = omega arith }) f hands t) c.hand_to.ensures
+returns-then-is_empty g c = on_ok c.hand_to.result (λ f s u ss e hands t. outside (g.V.Visitor.holds c.args.visitor.now) (g.V.Visitor.holds c.hand_to.new.visitor) c.args.event c.args.place c.args.content.now s u c.args.spellers.now ss (sym c.if-is_empty.ensures) (c.requires (sym c.if-not-is_none.ensures), are_bytes c.args.content.now c.type_inv.content, omega arith) f hands t) c.hand_to.ensures
 
 pub returns : goal.returns
-returns g c = on_ok c.hand_inside.result (λ step s u ss e hands t. inside (g.V.Visitor.holds c.args.visitor.now) c.args.event c.args.place c.args.content.now s u c.args.spellers.now c.hand_inside.new.spellers ss (sym c.if-is_empty.ensures) (record { fits = c.requires (sym c.if-not-is_none.ensures); bytes = are_bytes c.args.content.now c.type_inv.content; short = omega arith }) step hands t) c.hand_inside.ensures
+returns g c = on_ok c.hand_inside.result (λ step s u ss e hands t. inside (g.V.Visitor.holds c.args.visitor.now) c.args.event c.args.place c.args.content.now s u c.args.spellers.now c.hand_inside.new.spellers ss (sym c.if-is_empty.ensures) (c.requires (sym c.if-not-is_none.ensures), are_bytes c.args.content.now c.type_inv.content, omega arith) step hands t) c.hand_inside.ensures

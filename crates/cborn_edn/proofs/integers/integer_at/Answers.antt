@@ -1,4 +1,5 @@
-use Rattle.cborn_edn.proofs.Common.{◌≡◌, ◌+◌, ◌∙◌, sym, subst, eqb, List, ℕ, Bool, true, false, take_rest, if◌then◌else◌, Number, TagOpen, begins, IsTokenAt}
+use Rattle.std.specs.Prelude.{◌≡◌, ◌+◌, if◌then◌else◌}
+use Rattle.cborn_edn.proofs.Common.{◌∙◌, sym, subst, eqb, List, ℕ, Bool, true, false, take_rest, Number, TagOpen, begins, IsTokenAt}
 use Rattle.cborn_edn.proofs.Reader.Items.{number_here, tag_here}
 use Rattle.cborn_edn.proofs.integers.integer_at.Goals as goal
 

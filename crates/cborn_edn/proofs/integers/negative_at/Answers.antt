@@ -1,4 +1,5 @@
-use Rattle.cborn_edn.proofs.Common.{◌+◌, ◌∙◌, ◌≡◌, sym, subst, arith, true, false, List, ℕ, eqb, take_rest, begins}
+use Rattle.std.specs.Prelude.{◌+◌, ◌≡◌}
+use Rattle.cborn_edn.proofs.Common.{◌∙◌, sym, subst, arith, true, false, List, ℕ, eqb, take_rest, begins}
 use Rattle.cborn_edn.proofs.Reader.Items.{negative_here}
 use Rattle.cborn_edn.proofs.integers.negative_at.Goals as goal
 

@@ -1,4 +1,5 @@
-use Rattle.cborn_edn.proofs.Common.{◌+◌, ◌∙◌, sym, arith, take_rest}
+use Rattle.std.specs.Prelude.{◌+◌}
+use Rattle.cborn_edn.proofs.Common.{◌∙◌, sym, arith, take_rest}
 use Rattle.cborn_edn.proofs.Reader.Items.{embed_end_here}
 use Rattle.cborn_edn.proofs.marks.embed_end_at.Goals as goal
 

@@ -1,4 +1,5 @@
-use Rattle.cborn_edn.proofs.Common.{◌≡◌, ◌∙◌, ◌+◌, ◌∷◌, [], refl, ap, arith, drop, eqb-true, EmbedOpen}
+use Rattle.std.specs.Prelude.{◌≡◌, ◌+◌, ◌∷◌}
+use Rattle.cborn_edn.proofs.Common.{◌∙◌, [], refl, ap, arith, drop, eqb-true, EmbedOpen}
 use Rattle.cborn_lex.specs.Good as good
 use Rattle.cborn_edn.proofs.Reader.CommonTokens.{begins_here, token_here}
 use Rattle.cborn_edn.proofs.marks.embeds_at.Goals as goal

@@ -1,14 +1,10 @@
-use Rattle.cborn_edn.proofs.Common.{◌+◌, ◌∙◌, sym, take_rest, ArrayOpen, MapOpen}
-use Rattle.cborn_lex.specs.Good as good
-use Rattle.cborn_edn.proofs.Reader.Items.{opening_here}
+use Rattle.std.specs.Prelude.{◌+◌}
+use Rattle.cborn_edn.proofs.Common.{◌∙◌, sym, take_rest, opening, opening_character}
+use Rattle.cborn_edn.proofs.Reader.Items.{opening_here, opening_takes}
 use Rattle.cborn_edn.proofs.marks.opening_at.Goals as goal
 
-pub returns-clause-array : goal.returns-clause-array
-returns-clause-array c profile e =
+pub returns-clause-token : goal.returns-clause-token
+returns-clause-token c profile m e =
     let mark = c.mark_at-mark in
-    opening_here profile c.args.text.now _ c.args.at 91 mark.result.1 c.in_ok-mark.field-0 ArrayOpen c.requires e (take_rest c.args.text.now (c.args.at + 1)) mark.ensures.within mark.ensures.run (sym mark.ensures.mark ∙ c.in_ok-mark.was) (λ s z i. good.array_open s z c.in_ok-mark.field-0 i)
-
-pub returns-clause-map : goal.returns-clause-map
-returns-clause-map c profile e =
-    let mark = c.mark_at-mark in
-    opening_here profile c.args.text.now _ c.args.at 123 mark.result.1 c.in_ok-mark.field-0 MapOpen c.requires e (take_rest c.args.text.now (c.args.at + 1)) mark.ensures.within mark.ensures.run (sym mark.ensures.mark ∙ c.in_ok-mark.was) (λ s z i. good.map_open s z c.in_ok-mark.field-0 i)
+    let a = c.in_ok-mark.field-0 in
+    opening_here profile c.args.text.now _ c.args.at (opening_character m) mark.result.1 a (opening m) c.requires e (take_rest c.args.text.now (c.args.at + 1)) mark.ensures.within mark.ensures.run (sym mark.ensures.mark ∙ c.in_ok-mark.was) (λ s z i. opening_takes m profile s z a i)

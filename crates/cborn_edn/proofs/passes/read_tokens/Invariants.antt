@@ -1,4 +1,5 @@
-use Rattle.cborn_edn.proofs.Common.{◌-◌, length, IsReading}
+use Rattle.std.specs.Prelude.{◌-◌}
+use Rattle.cborn_edn.proofs.Common.{length, IsReading}
 use Rattle.cborn_edn.proofs.passes.read_tokens.Given as goal
 
 abbrev pub invariant-tokens : goal.invariant-tokens

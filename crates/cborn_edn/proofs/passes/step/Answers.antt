@@ -11,7 +11,7 @@ pub returns-in_default-clause-read : goal.returns-in_default-clause-read
 returns-in_default-clause-read g c = last_read c.args.source.profile c.args.source.limit c.args.source.text.now (utf8_bytes c.args.source.text.now c.requires.0.utf8) c.args.here.now c.args.writer.now c.requires.0 c.in_ok-found.found c.next_token.new.number (record c.args.writer.now { pieces = c.next_token.new.out }) c.in_ok-found.ensures.ok c.in_default.is
 
 pub take-requires : goal.take-requires
-take-requires g c = (c.requires.0.state, (c.args.writer.now.pieces.items, (class_of c.in-Some.token.kind c.next_token.new.number (token_read c.args.source.profile c.args.source.text.now (utf8_bytes c.args.source.text.now c.requires.0.utf8) c.args.here.now c.args.writer.now c.in_ok-found.found c.next_token.new.number (record c.args.writer.now { pieces = c.next_token.new.out }) c.in-Some.token c.in_ok-found.ensures.ok c.in-Some.is).content, ready c.args.source.profile c.args.source.limit c.args.source.text.now (utf8_bytes c.args.source.text.now c.requires.0.utf8) c.args.here.now c.args.writer.now c.requires.0 c.next_token.new.number (record c.args.writer.now { pieces = c.next_token.new.out }) c.in-Some.token (token_read c.args.source.profile c.args.source.text.now (utf8_bytes c.args.source.text.now c.requires.0.utf8) c.args.here.now c.args.writer.now c.in_ok-found.found c.next_token.new.number (record c.args.writer.now { pieces = c.next_token.new.out }) c.in-Some.token c.in_ok-found.ensures.ok c.in-Some.is) c.requires.0.small)))
+take-requires g c = (c.requires.0.state, (c.args.writer.now.pieces.items, (class_of c.in-Some.token.kind c.next_token.new.number (token_read c.args.source.profile c.args.source.text.now (utf8_bytes c.args.source.text.now c.requires.0.utf8) c.args.here.now c.args.writer.now c.in_ok-found.found c.next_token.new.number (record c.args.writer.now { pieces = c.next_token.new.out }) c.in-Some.token c.in_ok-found.ensures.ok c.in-Some.is).0, ready c.args.source.profile c.args.source.limit c.args.source.text.now (utf8_bytes c.args.source.text.now c.requires.0.utf8) c.args.here.now c.args.writer.now c.requires.0 c.next_token.new.number (record c.args.writer.now { pieces = c.next_token.new.out }) c.in-Some.token (token_read c.args.source.profile c.args.source.text.now (utf8_bytes c.args.source.text.now c.requires.0.utf8) c.args.here.now c.args.writer.now c.in_ok-found.found c.next_token.new.number (record c.args.writer.now { pieces = c.next_token.new.out }) c.in-Some.token c.in_ok-found.ensures.ok c.in-Some.is) c.requires.0.small)))
 
 pub first_fault-requires : goal.first_fault-requires
 first_fault-requires g c = stop_inside c.args.source.profile c.args.source.limit c.args.source.text.now (utf8_bytes c.args.source.text.now c.requires.0.utf8) c.args.here.now c.args.writer.now c.requires.0 c.next_token.new.number (record c.args.writer.now { pieces = c.next_token.new.out }) c.in-Some.token (token_read c.args.source.profile c.args.source.text.now (utf8_bytes c.args.source.text.now c.requires.0.utf8) c.args.here.now c.args.writer.now c.in_ok-found.found c.next_token.new.number (record c.args.writer.now { pieces = c.next_token.new.out }) c.in-Some.token c.in_ok-found.ensures.ok c.in-Some.is)

@@ -1,4 +1,5 @@
-use Rattle.cborn_edn.proofs.Common.{subst, arith, ◌^◌, ◌<◌, start}
+use Rattle.std.specs.Prelude.{◌^◌, ◌<◌}
+use Rattle.cborn_edn.proofs.Common.{subst, arith, start}
 use Rattle.cborn_edn.specs.declared.states.TheConstants as constants
 use Rattle.cborn_edn.proofs.Lemmas.{first_reads, begins}
 use Rattle.cborn_edn.proofs.passes.visit_text.Goals as goal

@@ -1,4 +1,5 @@
-use Rattle.cborn_edn.proofs.Common.{refl, arith, false, subst, Bool, Number, TagOpen, Span, IsTokenAt, if◌then◌else◌, has_number}
+use Rattle.std.specs.Prelude.{if◌then◌else◌}
+use Rattle.cborn_edn.proofs.Common.{refl, arith, false, subst, Bool, Number, TagOpen, Span, IsTokenAt, has_number}
 use Rattle.cborn_edn.proofs.Reader.Taking.{went, number_taken, number_low}
 use Rattle.cborn_edn.proofs.quick.take_simple_number.Goals as goal
 

@@ -1,4 +1,5 @@
-use Rattle.cborn_edn.proofs.Common.{sym, ap, ◌∙◌, subst, ℕ, List, [], ◌+◌, get_or, arith, TokensBetween, is_white}
+use Rattle.std.specs.Prelude.{◌+◌}
+use Rattle.cborn_edn.proofs.Common.{sym, ap, ◌∙◌, subst, ℕ, List, [], get_or, arith, TokensBetween, is_white}
 use Rattle.cborn_edn.proofs.Lemmas.{white_here, skipped}
 use Rattle.cborn_edn.proofs.quick.take_white_space.Goals as goal
 

@@ -1,4 +1,5 @@
-use Rattle.cborn_edn.proofs.Common.{refl, arith, ◌+◌, ChunkOpen, Span, no_string, states_around, wants, wants_chunk}
+use Rattle.std.specs.Prelude.{◌+◌}
+use Rattle.cborn_edn.proofs.Common.{refl, arith, ChunkOpen, Span, no_string, states_around, wants, wants_chunk}
 use Rattle.cborn_edn.proofs.Lemmas.{same_handed, handed_open_chunks, went, item_taken}
 use Rattle.cborn_edn.proofs.quick_items.take_chunked.Goals as goal
 

@@ -1,4 +1,5 @@
-use Rattle.cborn_edn.proofs.Common.{refl, arith, ◌+◌, None, EmbedOpen, Span, no_item, wants, as_item, in_row, in_embed}
+use Rattle.std.specs.Prelude.{◌+◌}
+use Rattle.cborn_edn.proofs.Common.{refl, arith, None, EmbedOpen, Span, no_item, wants, as_item, in_row, in_embed}
 use Rattle.cborn_edn.proofs.Lemmas.{embed_taken, went, item_taken}
 use Rattle.cborn_edn.proofs.quick_items.take_embedded.Goals as goal
 

@@ -1,4 +1,5 @@
-use Rattle.cborn_edn.proofs.Common.{◌≡◌, refl, sym, ◌∙◌, subst, List, ℕ, length, take, drop, rules, take-append_seam, drop-append_seam, IsUtf8, Absent, Writer, Reads, Span, string, piece, text, wants, has}
+use Rattle.std.specs.Prelude.{◌≡◌}
+use Rattle.cborn_edn.proofs.Common.{refl, sym, ◌∙◌, subst, List, ℕ, length, take, drop, rules, take-append_seam, drop-append_seam, IsUtf8, Absent, Writer, Reads, Span, string, piece, text, wants, has}
 use Rattle.cborn_edn.proofs.Lemmas.{same_read, went, text_taken}
 use Rattle.cborn_edn.proofs.quick_items.take_escaped.Goals as goal
 

@@ -1,4 +1,5 @@
-use Rattle.cborn_edn.proofs.Common.{refl, arith, false, subst, Bool, List, ℕ, Number, TagOpen, IsTokenAt, Span, number, if◌then◌else◌, has}
+use Rattle.std.specs.Prelude.{if◌then◌else◌}
+use Rattle.cborn_edn.proofs.Common.{refl, arith, false, subst, Bool, List, ℕ, Number, TagOpen, IsTokenAt, Span, number, has}
 use Rattle.cborn_edn.proofs.Reader.Taking.{went, item_taken, number_low}
 use Rattle.cborn_edn.proofs.quick_items.take_integer.Goals as goal
 

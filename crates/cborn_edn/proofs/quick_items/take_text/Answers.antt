@@ -1,4 +1,5 @@
-use Rattle.cborn_edn.proofs.Common.{◌≡◌, refl, subst, ◌+◌, ◌-◌, take, drop, arith, IsTextAt}
+use Rattle.std.specs.Prelude.{◌≡◌, ◌+◌, ◌-◌}
+use Rattle.cborn_edn.proofs.Common.{refl, subst, take, drop, arith, IsTextAt}
 use Rattle.cborn_edn.proofs.Reader.Taking.{went, text_taken}
 use Rattle.cborn_edn.proofs.quick_items.take_text.Goals as goal
 

@@ -1,4 +1,5 @@
-use Rattle.cborn_edn.proofs.Common.{List, ◌∷◌, [], ◌++◌, inl, inr, refl, arith, Token, joins, few, stops}
+use Rattle.std.specs.Prelude.{◌∷◌, ◌++◌}
+use Rattle.cborn_edn.proofs.Common.{List, [], inl, inr, refl, arith, Token, joins, few, stops}
 use Rattle.cborn_lex.proofs.WholeTexts.Progress.{nothing, inside}
 use Rattle.cborn_edn.proofs.Reader.BareTokens.{next_of, last_of}
 use Rattle.cborn_edn.proofs.refusals.first_fault.Goals as goal

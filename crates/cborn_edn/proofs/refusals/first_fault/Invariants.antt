@@ -1,4 +1,5 @@
-use Rattle.cborn_edn.proofs.Common.{◌≤◌, ◌-◌, List, length, TokensBetween, Token}
+use Rattle.std.specs.Prelude.{◌≤◌, ◌-◌}
+use Rattle.cborn_edn.proofs.Common.{List, length, TokensBetween, Token}
 use Rattle.cborn_edn.proofs.refusals.first_fault.Given as goal
 
 abbrev pub invariant-tokens : goal.invariant-tokens

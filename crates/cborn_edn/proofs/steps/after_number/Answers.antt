@@ -1,4 +1,5 @@
-use Rattle.cborn_edn.proofs.Common.{◌≡◌, refl, sym, subst, Some, Kind, class_of, simple, has, has_number, step_by}
+use Rattle.std.specs.Prelude.{◌≡◌}
+use Rattle.cborn_edn.proofs.Common.{refl, sym, subst, Some, Kind, class_of, simple, has, has_number, step_by}
 use Rattle.cborn_edn.proofs.steps.after_number.Goals as goal
 
 pub returns-in-ParenClose : goal.returns-in-ParenClose

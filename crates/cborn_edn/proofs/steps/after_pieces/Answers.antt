@@ -25,4 +25,4 @@ pub after_chunk-requires : goal.after_chunk-requires
 after_chunk-requires g c =
     let q = c.requires.shows in
     let i = chunk_home q.0 (ap has_chunks (sym q.2.shows.chunks) ∙ sym c.has_chunks.ensures ∙ c.if-has_chunks.true) in
-    (i.st, i.at, i.b, q.1, subst (λ (x : Home). Reads (g.V.Visitor.holds c.args.visitor.now) c.args.here.now c.args.writer.now c.args.writer.now.pieces.items (builds x q.1)) (sym i.is) q.2)
+    (i.0, i.1, i.2, q.1, subst (λ (x : Home). Reads (g.V.Visitor.holds c.args.visitor.now) c.args.here.now c.args.writer.now c.args.writer.now.pieces.items (builds x q.1)) (sym i.3) q.2)

@@ -1,13 +1,14 @@
 use Rattle.cborn_edn.proofs.Common.{refl, ap, ◌∙◌, subst, true, class_of, Kind, IsModest, is_piece, number, word, no_item, no_pair, no_string, states_around, in_row, in_key, in_tag, in_array, wants, has, wants_chunk, wants_number}
 use Rattle.cborn_lex.specs.declared.classes.Kind.TheVariants as kinds
 use Rattle.cborn_edn.proofs.Lemmas.{if_ok, turn, same_handed, shown_kind, handed_open_chunks, handed_open_simple}
+use Rattle.cborn_edn.proofs.Reader.Stepping.{read_at}
 use Rattle.cborn_edn.proofs.steps.begin.Goals as goal
 
-pub returns-in_ok-open_array-in-ArrayOpen : goal.returns-in_ok-open_array-in-ArrayOpen
-returns-in_ok-open_array-in-ArrayOpen g c = λ st. turn _ c.args.token.kind (kinds.ArrayOpen c.in-ArrayOpen.mark) c.args.number c.args.token.start c.args.here.now c.open_array.new.here c.args.writer.now c.open_array.new.writer true (wants st) c.in-ArrayOpen.is (λ x a p e. (wants (in_row (in_array st a c.in-ArrayOpen.mark) no_item), refl, c.in_ok-open_array-in-ArrayOpen.ensures st a p e))
+pub returns-in_ok-open_sized-in-ArrayOpen : goal.returns-in_ok-open_sized-in-ArrayOpen
+returns-in_ok-open_sized-in-ArrayOpen g c = λ st. turn _ c.args.token.kind (kinds.ArrayOpen c.in-ArrayOpen.mark) c.args.number c.args.token.start c.args.here.now c.open_sized.new.here c.args.writer.now c.open_sized.new.writer true (wants st) c.in-ArrayOpen.is (λ x a p e. (wants (in_row (in_array st a c.in-ArrayOpen.mark) no_item), refl, c.in_ok-open_sized-in-ArrayOpen.ensures st a p (read_at c.args.here.now c.args.writer.now c.args.writer.now.pieces.items (wants st) c.args.token.start e)))
 
-pub returns-in_ok-open_map-in-MapOpen : goal.returns-in_ok-open_map-in-MapOpen
-returns-in_ok-open_map-in-MapOpen g c = λ st. turn _ c.args.token.kind (kinds.MapOpen c.in-MapOpen.mark) c.args.number c.args.token.start c.args.here.now c.open_map.new.here c.args.writer.now c.open_map.new.writer true (wants st) c.in-MapOpen.is (λ x a p e. (wants (in_key st a c.in-MapOpen.mark no_pair), refl, c.in_ok-open_map-in-MapOpen.ensures st a p e))
+pub returns-in_ok-open_sized-in-MapOpen : goal.returns-in_ok-open_sized-in-MapOpen
+returns-in_ok-open_sized-in-MapOpen g c = λ st. turn _ c.args.token.kind (kinds.MapOpen c.in-MapOpen.mark) c.args.number c.args.token.start c.args.here.now c.open_sized-in-MapOpen.new.here c.args.writer.now c.open_sized-in-MapOpen.new.writer true (wants st) c.in-MapOpen.is (λ x a p e. (wants (in_key st a c.in-MapOpen.mark no_pair), refl, c.in_ok-open_sized-in-MapOpen.ensures st a p (read_at c.args.here.now c.args.writer.now c.args.writer.now.pieces.items (wants st) c.args.token.start e)))
 
 pub returns-in_ok-open_tag-in-TagOpen : goal.returns-in_ok-open_tag-in-TagOpen
 returns-in_ok-open_tag-in-TagOpen g c = λ st. turn _ c.args.token.kind (kinds.TagOpen c.in-TagOpen.mark) c.args.number c.args.token.start c.args.here.now c.open_tag.new.here c.args.writer.now c.open_tag.new.writer true (wants st) c.in-TagOpen.is (λ x a p e. (wants (in_tag st a c.args.number c.in-TagOpen.mark), refl, c.in_ok-open_tag-in-TagOpen.ensures st a p e))

@@ -57,6 +57,6 @@ returns-in-HasNumber g c = λ s base k a p r.
     let h = g.V.Visitor.holds c.args.visitor.now in
     let ok = c.after_number.result in
     let i = is_has_number s (sym r.shows.shows.phase ∙ c.in-HasNumber.is) in
-    let now = has_number i.st i.at i.b i.n i.v i.m in
-    bare_taken _ c.args.token.kind c.args.number c.args.token.start c.args.here.now c.after_number.new.here c.args.writer.now c.args.writer.now ok (now) s (sym c.is_piece.ensures ∙ c.if-is_piece.false) i.is (λ q x b o e reads. taken_as h ok now q (class_of c.args.token.kind c.args.number x) b c.after_number.new.here c.args.writer.now e
-    (still_taken h ok now (class_of c.args.token.kind c.args.number x) b c.after_number.new.here c.args.writer.now (paren_handed h i.st i.at i.b i.n i.v i.m (class_of c.args.token.kind c.args.number x) b) reads.handed (c.after_number.ensures i.st i.at i.b b i.n i.v i.m x reads.shows))) base k a p r
+    let now = has_number i.0 i.1 i.2 i.3 i.4 i.5 in
+    bare_taken _ c.args.token.kind c.args.number c.args.token.start c.args.here.now c.after_number.new.here c.args.writer.now c.args.writer.now ok (now) s (sym c.is_piece.ensures ∙ c.if-is_piece.false) i.6 (λ q x b o e reads. taken_as h ok now q (class_of c.args.token.kind c.args.number x) b c.after_number.new.here c.args.writer.now e
+    (still_taken h ok now (class_of c.args.token.kind c.args.number x) b c.after_number.new.here c.args.writer.now (paren_handed h i.0 i.1 i.2 i.3 i.4 i.5 (class_of c.args.token.kind c.args.number x) b) reads.handed (c.after_number.ensures i.0 i.1 i.2 b i.3 i.4 i.5 x reads.shows))) base k a p r

@@ -1,4 +1,5 @@
-use Rattle.cborn_edn.proofs.Common.{◌≡◌, length, rules, arith}
+use Rattle.std.specs.Prelude.{◌≡◌}
+use Rattle.cborn_edn.proofs.Common.{length, rules, arith}
 use Rattle.cborn_edn.proofs.Reader.Built.{first_added, next_added}
 use Rattle.cborn_edn.proofs.strings.add_piece.Goals as goal
 

@@ -1,4 +1,5 @@
-use Rattle.cborn_edn.proofs.Common.{◌≡◌, ◌<◌, ◌+◌, ◌-◌, subst, arith, length, take, drop, List, ℕ, take_rest, IsTextAt}
+use Rattle.std.specs.Prelude.{◌≡◌, ◌<◌, ◌+◌, ◌-◌}
+use Rattle.cborn_edn.proofs.Common.{subst, arith, length, take, drop, List, ℕ, take_rest, IsTextAt}
 use Rattle.cborn_edn.proofs.Reader.Items.{plain_here, text_at}
 use Rattle.cborn_edn.proofs.texts.plain_text_at.Goals as goal
 

@@ -1,4 +1,5 @@
-use Rattle.cborn_edn.proofs.Common.{◌+◌, ◌-◌, length, take, drop, take_rest, none_yet}
+use Rattle.std.specs.Prelude.{◌+◌, ◌-◌}
+use Rattle.cborn_edn.proofs.Common.{length, take, drop, take_rest, none_yet}
 use Rattle.cborn_edn.proofs.Reader.Items.{text_at}
 use Rattle.cborn_edn.proofs.texts.push_text.Goals as goal
 

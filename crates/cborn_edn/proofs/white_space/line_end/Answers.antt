@@ -1,4 +1,5 @@
-use Rattle.cborn_edn.proofs.Common.{[], ◌+◌, length, sym, subst, take_rest, Profile, TokensBetween}
+use Rattle.std.specs.Prelude.{◌+◌}
+use Rattle.cborn_edn.proofs.Common.{[], length, sym, subst, take_rest, Profile, TokensBetween}
 use Rattle.cborn_edn.proofs.Reader.CommonTokens.{line_here, last_line_here}
 use Rattle.cborn_edn.proofs.white_space.line_end.Goals as goal
 

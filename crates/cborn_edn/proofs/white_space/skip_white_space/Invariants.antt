@@ -1,4 +1,5 @@
-use Rattle.cborn_edn.proofs.Common.{◌≤◌, ◌-◌, [], length, TokensBetween}
+use Rattle.std.specs.Prelude.{◌≤◌, ◌-◌}
+use Rattle.cborn_edn.proofs.Common.{[], length, TokensBetween}
 use Rattle.cborn_edn.proofs.white_space.skip_white_space.Given as goal
 
 abbrev pub invariant-white_space : goal.invariant-white_space

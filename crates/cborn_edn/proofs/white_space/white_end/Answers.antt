@@ -1,4 +1,5 @@
-use Rattle.cborn_edn.proofs.Common.{◌+◌, []}
+use Rattle.std.specs.Prelude.{◌+◌}
+use Rattle.cborn_edn.proofs.Common.{[]}
 use Rattle.cborn_edn.proofs.Reader.CommonTokens.{join, white_here}
 use Rattle.cborn_edn.proofs.white_space.white_end.Goals as goal
 

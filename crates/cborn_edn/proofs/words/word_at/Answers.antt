@@ -1,4 +1,5 @@
-use Rattle.cborn_edn.proofs.Common.{◌≡◌, ◌∙◌, ◌+◌, ◌-◌, ◌++◌, sym, ap, length, drop, arith, take_rest, Word, length-append, length-drop}
+use Rattle.std.specs.Prelude.{◌≡◌, ◌+◌, ◌-◌, ◌++◌}
+use Rattle.cborn_edn.proofs.Common.{◌∙◌, sym, ap, length, drop, arith, take_rest, Word, length-append, length-drop}
 use Rattle.cborn_lex.specs.Good as good
 use Rattle.cborn_edn.proofs.Reader.CommonTokens.{token_here}
 use Rattle.cborn_edn.proofs.words.word_at.Goals as goal

@@ -1,4 +1,5 @@
-use Rattle.cborn_edn.proofs.Common.{◌≡◌, ◌++◌, length, encode_lower}
+use Rattle.std.specs.Prelude.{◌≡◌, ◌++◌}
+use Rattle.cborn_edn.proofs.Common.{length, encode_lower}
 use Rattle.cborn_edn.proofs.writing.push_hex.Given as goal
 
 abbrev pub invariant-loop-rest : goal.invariant-loop-rest

@@ -1,5 +1,6 @@
-use Rattle.cborn_engine.proofs.Common.{◌≤◌, ◌∙◌, List, ℕ, length, sym, subst, Err, CountAnswer, EncodeAnswers, most_bytes}
-use Rattle.cborn_engine.proofs.Answers.KnownErrors.{known_error}
+use Rattle.std.specs.Prelude.{◌≤◌}
+use Rattle.cborn_engine.proofs.Common.{◌∙◌, List, ℕ, length, sym, subst, Err, CountAnswer, EncodeAnswers, most_bytes}
+use Rattle.cborn_engine.proofs.Answers.{known_error}
 use Rattle.cborn_engine.proofs.CountAnswers.Judged.{whole_is}
 use Rattle.cborn_engine.proofs.CountAnswers.Streamed.{not_encoded}
 use Rattle.cborn_engine.proofs.answered_inputs.encodings_of.Goals as goal

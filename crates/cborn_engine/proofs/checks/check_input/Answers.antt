@@ -1,10 +1,6 @@
 use Rattle.cborn_engine.proofs.Common.{arith, CheckedWhole, most_bytes}
-use Rattle.cborn_engine.proofs.Answers.KnownErrors.{known_error}
-use Rattle.cborn_engine.proofs.Answers.Whole.{checked, deterministic}
+use Rattle.cborn_engine.proofs.Answers.{known_error, checked}
 use Rattle.cborn_engine.proofs.checks.check_input.Goals as goal
-
-pub returns-then-is_deterministic : goal.returns-then-is_deterministic
-returns-then-is_deterministic g c within = deterministic c.args.limit most_bytes c.args.input.now within g.O.KeyOrder.order (c.is_deterministic.ensures.own c.if-is_deterministic.true)
 
 pub returns-in_err-encoded : goal.returns-in_err-encoded
 returns-in_err-encoded g c within = known_error (CheckedWhole g.O.KeyOrder.order c.args.limit c.args.input.now) _ _ c.from_residual.ensures.1 (c.in_err-encoded.ensures.refused most_bytes within)

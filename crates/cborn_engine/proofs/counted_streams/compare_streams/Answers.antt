@@ -1,6 +1,6 @@
-use Rattle.cborn_engine.proofs.Common.{inr, sym, subst, Err, CompareCountFault, ComparesCount}
+use Rattle.cborn_engine.proofs.Common.{sym, subst, Err, CompareCountFault, ComparesCount}
 use Rattle.cborn_engine.proofs.Comparison.Compared.{its_own}
-use Rattle.cborn_engine.proofs.CountAnswers.Compared.{first_not_read, second_not_read, both_read, held_whole}
+use Rattle.cborn_engine.proofs.CountAnswers.Compared.{first_not_read, second_not_read, both_read}
 use Rattle.cborn_engine.proofs.counted_streams.compare_streams.Goals as goal
 
 pub returns-in-Err-clause-compares : goal.returns-in-Err-clause-compares
@@ -15,12 +15,6 @@ returns-in-Err-read_counted-clause-compares g c =
     let after2 = g.Q.Source.remaining c.read_counted-2.new.reader in
     subst (λ (w : CompareCountFault). ComparesCount c.args.count c.args.kind_a c.args.kind_b c.args.limit (g.R.Source.remaining c.args.first.now) (g.R.Source.remaining c.read_counted.new.reader) before2 after2 (Err w)) (sym c.of_second.ensures)
     (second_not_read c.args.count g.O.KeyOrder.order g.met.O.KeyOrder.laws c.args.kind_a c.args.kind_b c.args.limit (g.R.Source.remaining c.args.first.now) (g.R.Source.remaining c.read_counted.new.reader) before2 after2 c.in-Ok.bytes c.in-Err-read_counted.why c.in-Ok.ensures.reads c.in-Err-read_counted.ensures.reads)
-
-pub returns-in-Err-read_counted-clause-first_held : goal.returns-in-Err-read_counted-clause-first_held
-returns-in-Err-read_counted-clause-first_held g c = inr (held_whole c.args.count g.O.KeyOrder.order c.args.kind_a c.args.limit _ _ c.in-Ok.bytes c.in-Ok.ensures.reads)
-
-pub returns-clause-first_held : goal.returns-clause-first_held
-returns-clause-first_held g c = inr (held_whole c.args.count g.O.KeyOrder.order c.args.kind_a c.args.limit _ _ c.in-Ok.bytes c.in-Ok.ensures.reads)
 
 pub difference-requires : goal.difference-requires
 difference-requires g c =

@@ -1,9 +1,7 @@
-use Rattle.cborn_engine.specs.declared.count_faults.CountFault.TheVariants as counted
-use Rattle.cborn_engine.specs.declared.faults.EngineFault.TheVariants as fault
-use Rattle.cborn_engine.proofs.Common.{ShowAnswers, CountAnswer, ShownWhole, ShowsCount, bytes_of, CountsFault, most_bytes}
-use Rattle.cborn_engine.proofs.Answers.KnownErrors.{known_error}
+use Rattle.cborn_engine.proofs.Common.{ShowAnswers, CountAnswer, ShownWhole, ShowsCount, bytes_of, most_bytes, CountFault, EngineFault}
+use Rattle.cborn_engine.proofs.Answers.{known_error}
 use Rattle.cborn_engine.proofs.Held.SameBytes.{written}
-use Rattle.cborn_engine.proofs.CountAnswers.Streamed.{unread_sent, read_sent, read_shown, show_refused, unshown_quiet, quiet, sent_quiet, quiet_counted, input_counted, input_kept}
+use Rattle.cborn_engine.proofs.CountAnswers.Streamed.{unread_sent, read_sent, read_shown, show_refused, unshown_quiet, quiet, sent_quiet, quiet_counted}
 use Rattle.cborn_engine.proofs.counted_streams.show_stream.Goals as goal
 
 pub returns-in_err-input-clause-shows : goal.returns-in_err-input-clause-shows
@@ -11,12 +9,6 @@ returns-in_err-input-clause-shows g c =
     let k = c.args.in_kind in
     known_error (ShowsCount c.args.count k c.args.out_kind c.args.limit most_bytes _ _ _ _) _ _ c.from_residual.ensures.1
     (unread_sent (λ x. CountAnswer c.args.count k c.args.limit x (ShowAnswers k c.args.out_kind c.args.limit most_bytes x)) _ (g.R.Source.remaining c.read_bytes.new.reader) _ k c.args.limit c.in_err-input.field-0.0 (λ x r. show_refused k c.args.out_kind c.args.limit most_bytes x _ r) c.in_err-input.ensures.collects)
-
-pub returns-in_err-input-clause-read_failures : goal.returns-in_err-input-clause-read_failures
-returns-in_err-input-clause-read_failures g c = known_error (λ r. CountsFault (counted.Engine fault.ReadFault) r (g.R.Source.failed c.args.reader.now) (g.R.Source.failed c.read_bytes.new.reader)) _ _ c.from_residual.ensures.1 (input_counted c.in_err-input.field-0.0 _ _ c.in_err-input.ensures.failures)
-
-pub returns-in_err-input-clause-write_failures : goal.returns-in_err-input-clause-write_failures
-returns-in_err-input-clause-write_failures g c = known_error (λ r. CountsFault (counted.Engine fault.WriteFault) r (g.W.Sink.failed c.args.writer.now) (g.W.Sink.failed c.args.writer.now)) _ _ c.from_residual.ensures.1 (input_kept c.in_err-input.field-0.0 _)
 
 pub send-requires : goal.send-requires
 send-requires g c =
@@ -40,4 +32,4 @@ returns-clause-read_failures g c =
     let x = c.deref.result.now in
     let r = c.show_slice-answer in
     let q = quiet c.args.count c.args.in_kind c.args.limit x (ShownWhole c.args.in_kind c.args.out_kind c.args.limit x) (unshown_quiet c.args.in_kind c.args.out_kind c.args.limit most_bytes x) r.result r.ensures.shown in
-    quiet_counted (counted.Engine fault.ReadFault) c.send.result _ _ (sent_quiet r.result c.send.ensures.sent.0 c.send.result q.0 c.send.ensures.sent.2) c.in_ok-input.ensures.failures
+    quiet_counted (CountFault.Engine EngineFault.ReadFault) c.send.result _ _ (sent_quiet r.result c.send.ensures.sent.0 c.send.result q.0 c.send.ensures.sent.2) c.in_ok-input.ensures.failures

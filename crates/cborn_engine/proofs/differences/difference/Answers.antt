@@ -1,5 +1,6 @@
+use Rattle.std.specs.Prelude.{◌≤◌}
 use Rattle.std.proofs.lemmas.Grind.{common_steps}
-use Rattle.cborn_engine.proofs.Common.{◌≤◌, rules, arith, None, Some, Decides-eqb, strip_prefix_is}
+use Rattle.cborn_engine.proofs.Common.{rules, arith, None, Some, Decides-eqb, strip_prefix_is}
 use Rattle.cborn_engine.proofs.Comparison.Apart.{at_first, passed, none_of_both, apart_here, equal}
 use Rattle.cborn_engine.proofs.differences.difference.Goals as goal
 

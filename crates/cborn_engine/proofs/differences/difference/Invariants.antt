@@ -1,4 +1,5 @@
-use Rattle.cborn_engine.proofs.Common.{◌+◌, ◌≤◌, length}
+use Rattle.std.specs.Prelude.{◌+◌, ◌≤◌}
+use Rattle.cborn_engine.proofs.Common.{length}
 use Rattle.cborn_engine.proofs.Comparison.Apart.{SoFar}
 use Rattle.cborn_engine.proofs.differences.difference.Given as goal
 

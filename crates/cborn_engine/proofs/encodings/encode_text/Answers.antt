@@ -1,14 +1,5 @@
-use Rattle.cborn_engine.proofs.Common.{IfErr, kind_of, IsRefusedHeld}
-use Rattle.cborn_engine.proofs.Answers.KnownErrors.{known_error}
-use Rattle.cborn_engine.proofs.Answers.Malformed.{no_fault}
-use Rattle.cborn_engine.proofs.Answers.Noted.{encoded, flawed}
+use Rattle.cborn_engine.proofs.Answers.{encoded, flawed}
 use Rattle.cborn_engine.proofs.encodings.encode_text.Goals as goal
-
-pub returns-in_err-encoder-clause-refused : goal.returns-in_err-encoder-clause-refused
-returns-in_err-encoder-clause-refused g c = known_error (λ r. IfErr r (IsRefusedHeld (kind_of c.args.profile) c.args.limit c.args.input.now)) _ _ c.from_residual.ensures.1 (λ most l. (l, no_fault c.args.profile c.args.limit c.args.input.now))
-
-pub returns-in_err-hand_text-clause-refused : goal.returns-in_err-hand_text-clause-refused
-returns-in_err-hand_text-clause-refused g c = known_error (λ r. IfErr r (IsRefusedHeld (kind_of c.args.profile) c.args.limit c.args.input.now)) _ _ c.from_residual-in_err-hand_text.ensures.1 c.in_err-hand_text.ensures.refused.0
 
 pub returns-in-Ok-clause-encoded : goal.returns-in-Ok-clause-encoded
 returns-in-Ok-clause-encoded g c =

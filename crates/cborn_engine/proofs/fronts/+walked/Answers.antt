@@ -1,4 +1,5 @@
-use Rattle.cborn_engine.proofs.Common.{Array, Map, Tag, ◌≡◌, ◌-◌, ◌⊎◌, inl, inr, [], ◌∷◌, refl, sym, drop, length-drop, subst, arith, no_item, no_entry, Finds, Follows, RisingAfter, Walked}
+use Rattle.std.specs.Prelude.{◌≡◌, ◌-◌, ◌⊎◌, ◌∷◌}
+use Rattle.cborn_engine.proofs.Common.{Array, Map, Tag, inl, inr, [], refl, sym, drop, length-drop, subst, arith, no_item, no_entry, Finds, Follows, RisingAfter, Walked}
 use Rattle.std.proofs.lemmas.Bool.{iff_false}
 use Rattle.cborn_engine.proofs.Walks.Items.{finds_same, integer_walked, item_last, items_first, items_next}
 use Rattle.cborn_engine.proofs.Walks.Maps.{rising_none, pairs_first, pairs_next, one_key}

@@ -1,4 +1,5 @@
-use Rattle.cborn_engine.proofs.Common.{ℕ, ◌*◌, ◌+◌, ◌-◌, ◌↔◌, List, None, ItemsWalked, PairsWalked}
+use Rattle.std.specs.Prelude.{◌*◌, ◌+◌, ◌-◌, ◌↔◌}
+use Rattle.cborn_engine.proofs.Common.{ℕ, List, None, ItemsWalked, PairsWalked}
 use Rattle.cborn_engine.proofs.fronts.+walked.Given as goal
 
 abbrev pub decreases-walk_item : goal.decreases-walk_item

@@ -1,4 +1,5 @@
-use Rattle.cborn_engine.proofs.Common.{length, ◌↔◌}
+use Rattle.std.specs.Prelude.{◌↔◌}
+use Rattle.cborn_engine.proofs.Common.{length}
 use Rattle.cborn_engine.proofs.Walks.Whole.{AllWalked}
 use Rattle.cborn_engine.proofs.fronts.is_deterministic.Given as goal
 

@@ -1,16 +1,15 @@
-use Rattle.cborn_engine.proofs.Common.{◌≡◌, ◌+◌, ◌-◌, refl, arith, take, true, is_err, LoadAnswers, Loads}
+use Rattle.std.specs.Prelude.{◌≡◌, ◌+◌, ◌-◌}
+use Rattle.cborn_engine.proofs.Common.{refl, arith, take, true, is_err, LoadAnswers, Loads, Kind}
 use Rattle.cborn_wire.proofs.Feeding.Outcomes.{err_is}
-use Rattle.cborn_engine.specs.declared.kinds.Kind.TheVariants as kind
 use Rattle.cborn_engine.proofs.Streams.Coming.{at_first, halted, goes_on}
 use Rattle.cborn_engine.proofs.Streams.Feeding.{IsFedSoFar, none_fed, read_on, fed_now, ended_badly}
-use Rattle.cborn_engine.proofs.Answers.KnownErrors.{known_error}
-use Rattle.cborn_engine.proofs.Answers.Whole.{unread}
+use Rattle.cborn_engine.proofs.Answers.{known_error, unread}
 use Rattle.cborn_engine.proofs.inputs.load_bytes.Goals as goal
 
 pub returns-in_err-count-clause-loads : goal.returns-in_err-count-clause-loads
 returns-in_err-count-clause-loads g c =
-    known_error (Loads kind.Wire c.args.limit c.args.most _ _) _ _ c.from_residual.ensures.1
-    (unread (λ why. why) (LoadAnswers kind.Wire c.args.limit c.args.most) c.args.most _ _ kind.Wire c.args.limit c.in_err-count.field-0.0 (λ x r. r)
+    known_error (Loads Kind.Wire c.args.limit c.args.most _ _) _ _ c.from_residual.ensures.1
+    (unread (λ why. why) (LoadAnswers Kind.Wire c.args.limit c.args.most) c.args.most _ _ Kind.Wire c.args.limit c.in_err-count.field-0.0 (λ x r. r)
     (halted c.args.most c.pieces.left _ (g.R.Source.remaining c.pieces.reader) _ _ c.pieces.invariant.so_far c.read_piece.new.buf c.in_err-count.field-0.0 c.in_err-count.ensures.piece))
 
 pub pieces-preserved : goal.pieces-preserved
@@ -42,6 +41,6 @@ pieces-preserved-then-not-is_refused g c =
 
 pub returns-in_err-finish-clause-loads : goal.returns-in_err-finish-clause-loads
 returns-in_err-finish-clause-loads g c =
-    known_error (Loads kind.Wire c.args.limit c.args.most _ _) _ _ c.from_residual-in_err-finish.ensures.1
+    known_error (Loads Kind.Wire c.args.limit c.args.most _ _) _ _ c.from_residual-in_err-finish.ensures.1
     (ended_badly c.args.limit c.args.most c.pieces.left _ (g.R.Source.remaining c.pieces.reader) _ c.pieces.is_refused c.pieces.feeder c.pieces.invariant.so_far c.read_piece.new.buf c.in_ok-count.count c.in_ok-count.ensures.piece c.if-count-eq0.true c.in_err-finish.field-0.0
     (λ none. let k = c.in_err-finish.ensures.cut none in (err_is _ _ k.0, k.1)) (λ e some. err_is _ _ (c.in_err-finish.ensures.again e some)))

@@ -1,4 +1,4 @@
-use Rattle.cborn_engine.proofs.Common.{◌≡◌, ◌≤◌, ◌+◌}
+use Rattle.std.specs.Prelude.{◌≡◌, ◌≤◌, ◌+◌}
 use Rattle.cborn_engine.proofs.Streams.Coming.{SoFar}
 use Rattle.cborn_engine.proofs.Streams.Feeding.{IsFedSoFar}
 use Rattle.cborn_engine.proofs.inputs.load_bytes.Given as goal

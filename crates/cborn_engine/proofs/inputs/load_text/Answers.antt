@@ -1,13 +1,6 @@
-use Rattle.cborn_engine.proofs.Common.{sym, ◌∙◌, kind_of, LoadAnswers, Loads}
-use Rattle.cborn_engine.proofs.Answers.KnownErrors.{known_error}
-use Rattle.cborn_engine.proofs.Answers.Whole.{loaded, read_whole, still, unread}
+use Rattle.cborn_engine.proofs.Common.{sym, ◌∙◌, kind_of, LoadAnswers}
+use Rattle.cborn_engine.proofs.Answers.{loaded, read_whole, still}
 use Rattle.cborn_engine.proofs.inputs.load_text.Goals as goal
-
-pub returns-in_err-input-clause-loads : goal.returns-in_err-input-clause-loads
-returns-in_err-input-clause-loads g c =
-    let k = kind_of c.args.profile in
-    known_error (Loads k c.args.limit c.args.most _ _) _ _ c.from_residual.ensures.1
-    (unread (λ why. why) (LoadAnswers k c.args.limit c.args.most) c.args.most _ (g.R.Source.remaining c.read_bytes.new.reader) k c.args.limit c.in_err-input.field-0.0 (λ x r. r) c.in_err-input.ensures.collects)
 
 pub returns-clause-loads : goal.returns-clause-loads
 returns-clause-loads g c =

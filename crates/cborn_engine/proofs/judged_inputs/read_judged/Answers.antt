@@ -1,22 +1,19 @@
-use Rattle.cborn_engine.proofs.Common.{◌≡◌, ◌+◌, ◌-◌, ◌++◌, length, take, sym, ap, ◌∙◌, subst, arith, length-take-le, most_bytes, read_failures}
-use Rattle.cborn_engine.specs.declared.counts.Count.TheVariants as counts
-use Rattle.cborn_engine.specs.declared.kinds.Kind.TheVariants as kinds
-use Rattle.cborn_judge.specs.devices.Encoders.{IsHeld}
-use Rattle.cborn_engine.specs.devices.Judging.{ReadsInput, IsJudging}
-use Rattle.cborn_engine.proofs.Answers.KnownErrors.{known_error}
+use Rattle.std.specs.Prelude.{◌≡◌, ◌+◌, ◌-◌, ◌++◌}
+use Rattle.cborn_engine.proofs.Common.{length, take, sym, ap, ◌∙◌, subst, arith, length-take-le, most_bytes, read_failures, Count, Kind, IsHeld, ReadsInput, IsJudging}
+use Rattle.cborn_engine.proofs.Answers.{known_error}
 use Rattle.cborn_engine.proofs.Streams.Coming.{halted, read_now, within_now, goes_on}
 use Rattle.cborn_engine.proofs.Streams.Judging.{unread_input, refused_memory, judged, refused_whole, kept_whole, quiet}
 use Rattle.cborn_engine.proofs.judged_inputs.read_judged.Goals as goal
 
 pub returns-in_err-count-clause-input : goal.returns-in_err-count-clause-input
 returns-in_err-count-clause-input g c =
-    known_error (ReadsInput g.O.KeyOrder.order counts.Any kinds.Wire c.args.limit _ _) _ _ c.from_residual-in_err-count.ensures.1
+    known_error (ReadsInput g.O.KeyOrder.order Count.Any Kind.Wire c.args.limit _ _) _ _ c.from_residual-in_err-count.ensures.1
     (unread_input g.O.KeyOrder.order c.args.limit _ _ c.in_err-count.field-0.0 (halted most_bytes c.pieces.left _ (g.R.Source.remaining c.pieces.reader) _ _ c.pieces.invariant.so_far c.read_after.new.bytes.items c.in_err-count.field-0.0 c.in_err-count.ensures.piece))
 
 pub returns-in_err-finish-clause-input : goal.returns-in_err-finish-clause-input
 returns-in_err-finish-clause-input g c =
     let s = c.pieces.invariant.so_far in
-    known_error (ReadsInput g.O.KeyOrder.order counts.Any kinds.Wire c.args.limit _ _) _ _ c.from_residual-in_err-finish.ensures.1
+    known_error (ReadsInput g.O.KeyOrder.order Count.Any Kind.Wire c.args.limit _ _) _ _ c.from_residual-in_err-finish.ensures.1
     (refused_whole g.O.KeyOrder.order c.args.limit c.pieces.left _ (g.R.Source.remaining c.pieces.reader) _ c.pieces.judge s c.read_after.new.bytes.items c.in_ok-count.count c.in_ok-count.ensures.piece c.if-count-eq0.true c.in_err-finish.field-0.0
     (c.in_err-finish.ensures.refused c.args.limit s.input s.known))
 
@@ -48,7 +45,7 @@ returns-in_err-take-clause-input g c =
     let order = g.O.KeyOrder.order in
     let before = g.R.Source.remaining c.pieces.reader in
     let buf = c.read_after.new.bytes.items in
-    known_error (ReadsInput order counts.Any kinds.Wire c.args.limit _ _) _ _ c.from_residual-in_err-take.ensures.1
+    known_error (ReadsInput order Count.Any Kind.Wire c.args.limit _ _) _ _ c.from_residual-in_err-take.ensures.1
     (refused_memory order c.args.limit _ _ _ (read_now most_bytes c.pieces.left _ before _ _ s buf n p) (within_now most_bytes c.pieces.left _ before _ _ s buf n p))
 
 pub returns-then-count-lt-PIECE-clause-input : goal.returns-then-count-lt-PIECE-clause-input

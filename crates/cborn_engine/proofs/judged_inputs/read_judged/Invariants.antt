@@ -1,6 +1,5 @@
-use Rattle.cborn_engine.proofs.Common.{◌≡◌, ◌≤◌, ◌<◌, ◌+◌, length, most_bytes}
-use Rattle.cborn_judge.specs.devices.Encoders.{IsHeld}
-use Rattle.cborn_engine.specs.devices.Judging.{IsJudging}
+use Rattle.std.specs.Prelude.{◌≡◌, ◌≤◌, ◌<◌, ◌+◌}
+use Rattle.cborn_engine.proofs.Common.{length, most_bytes, IsHeld, IsJudging}
 use Rattle.cborn_engine.proofs.Streams.Coming.{SoFar}
 use Rattle.cborn_engine.proofs.judged_inputs.read_judged.Given as goal
 

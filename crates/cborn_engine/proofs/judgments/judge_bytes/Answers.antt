@@ -1,4 +1,4 @@
-use Rattle.cborn_engine.proofs.Answers.Malformed.{refusal_refused}
+use Rattle.cborn_engine.proofs.Answers.{refusal_refused}
 use Rattle.cborn_engine.proofs.judgments.judge_bytes.Goals as goal
 
 pub returns-in-Err-clause-refused : goal.returns-in-Err-clause-refused

@@ -1,5 +1,5 @@
 use Rattle.cborn_engine.proofs.Common.{[], Result, Ok, Err, IfOk, IfErr}
-use Rattle.cborn_engine.proofs.Answers.Malformed.{refusal_refused}
+use Rattle.cborn_engine.proofs.Answers.{refusal_refused}
 use Rattle.cborn_engine.proofs.judgments.judge_whole.Goals as goal
 
 ok_so : {A E : Type 0} (r : Result A E) {P Q : A → Type 0} → ((a : A) → P a → Q a) → IfOk r P → IfOk r Q

@@ -1,5 +1,4 @@
-use Rattle.cborn_engine.proofs.Common.{inl, inr, subst, Err, cow_slice_items, CountFault, CountAnswer, NormalisedWhole}
-use Rattle.cborn_engine.specs.declared.counts.Count.TheVariants as counts
+use Rattle.cborn_engine.proofs.Common.{cow_slice_items, NormalisedWhole}
 use Rattle.cborn_engine.proofs.Canonical.Headline.{alike, same_held}
 use Rattle.cborn_engine.proofs.CountAnswers.Answered.{engine_of}
 use Rattle.cborn_engine.proofs.laws.two_calls.Goals as goal
@@ -26,11 +25,3 @@ pub of_any-requires-in-Err-normalise_slice : goal.of_any-requires-in-Err-normali
 of_any-requires-in-Err-normalise_slice g c =
     let n = c.in-Err-normalise_slice in
     let e = engine_of c.args.kind_b c.args.limit c.args.second.now (NormalisedWhole g.O.KeyOrder.order c.args.kind_b c.args.out_kind c.args.limit c.args.second.now) n.why n.ensures.normalised in (e.0, e.1)
-
-pub returns-in-Err-clause-refused : goal.returns-in-Err-clause-refused
-returns-in-Err-clause-refused g c =
-    inl (subst (λ (v : CountFault). CountAnswer counts.Any c.args.kind_a c.args.limit c.args.first.now (NormalisedWhole g.O.KeyOrder.order c.args.kind_a c.args.out_kind c.args.limit c.args.first.now) (Err v)) c.of_any.ensures c.in-Err.ensures.normalised)
-
-pub returns-in-Err-normalise_slice-clause-refused : goal.returns-in-Err-normalise_slice-clause-refused
-returns-in-Err-normalise_slice-clause-refused g c =
-    inr (subst (λ (v : CountFault). CountAnswer counts.Any c.args.kind_b c.args.limit c.args.second.now (NormalisedWhole g.O.KeyOrder.order c.args.kind_b c.args.out_kind c.args.limit c.args.second.now) (Err v)) c.of_any-in-Err-normalise_slice.ensures c.in-Err-normalise_slice.ensures.normalised)

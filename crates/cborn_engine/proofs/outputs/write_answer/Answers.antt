@@ -1,5 +1,5 @@
-use Rattle.cborn_engine.proofs.Common.{◌+◌, ◌∙◌, arith, ap, one_more, Appends-kept}
-use Rattle.cborn_engine.proofs.Streams.Written.{rest_after, no_failure, no_progress, sent_on, front_out, length-rest_after}
+use Rattle.cborn_engine.proofs.Common.{◌∙◌, arith, Appends-kept}
+use Rattle.cborn_engine.proofs.Streams.Written.{rest_after, no_failure, sent_on, front_out, length-rest_after}
 use Rattle.cborn_engine.proofs.outputs.write_answer.Goals as goal
 
 pub loop-sent-preserved : goal.loop-sent-preserved
@@ -8,14 +8,6 @@ loop-sent-preserved g c = record {
   written = sent_on c.args.bytes.now c.loop-sent.sent c.in-Ok.count _ (g.W.Sink.contents c.loop-sent.writer) _ c.loop-sent.invariant.written c.in-Ok.ensures.bytes;
   failures = c.in-Ok.ensures.failures ∙ no_failure c.in-Ok.count (rest_after c.args.bytes.now c.loop-sent.sent) _ c.if-count-eq0.false ∙ c.loop-sent.invariant.failures;
 }
-
-pub returns-then-count-eq0-clause-failures : goal.returns-then-count-eq0-clause-failures
-returns-then-count-eq0-clause-failures g c =
-    c.in-Ok.ensures.failures ∙ no_progress c.loop-sent.sent c.in-Ok.count c.args.bytes.now _ c.loop-sent-test.true c.if-count-eq0.true ∙ ap one_more c.loop-sent.invariant.failures
-
-pub returns-then-count-eq0-clause-writes : goal.returns-then-count-eq0-clause-writes
-returns-then-count-eq0-clause-writes g c =
-    front_out c.args.bytes.now (c.loop-sent.sent + c.in-Ok.count) _ _ (sent_on c.args.bytes.now c.loop-sent.sent c.in-Ok.count _ (g.W.Sink.contents c.loop-sent.writer) _ c.loop-sent.invariant.written c.in-Ok.ensures.bytes)
 
 pub returns-in-Err-clause-writes : goal.returns-in-Err-clause-writes
 returns-in-Err-clause-writes g c =

@@ -1,9 +1,6 @@
 use Rattle.cborn_engine.proofs.Common.{IfErr, List, ℕ, subst, IsShownText, IsUnshown, Fault, kind_of, IsUnshownHeld}
 use Rattle.cborn_edn.specs.ShownBytes.{Notates}
-use Rattle.cborn_engine.proofs.Answers.KnownErrors.{known_error}
-use Rattle.cborn_engine.proofs.Answers.Malformed.{no_fault, no_reading}
-use Rattle.cborn_engine.proofs.Answers.Noted.{as_bytes, as_text, never_wire}
-use Rattle.cborn_engine.proofs.Answers.Telling.{refused}
+use Rattle.cborn_engine.proofs.Answers.{known_error, no_reading, as_bytes, as_text, never_wire, refused}
 use Rattle.cborn_engine.proofs.Held.NotatedTexts.{spelled_shows, spelled_read}
 use Rattle.cborn_engine.proofs.showings.tell_text.Goals as goal
 
@@ -15,11 +12,6 @@ returns-in_err-bytes-clause-unshown c =
 
 pub returns-in-Wire-clause-shown : goal.returns-in-Wire-clause-shown
 returns-in-Wire-clause-shown c = let b = c.in_ok-bytes in as_bytes c.args.profile c.args.limit c.args.input.now b.bytes.items b.ensures.spelled.0 b.ensures.spelled.1 c.args.out_kind c.in-Wire.is
-
-pub returns-in_err-answer-in-Notation-clause-unshown : goal.returns-in_err-answer-in-Notation-clause-unshown
-returns-in_err-answer-in-Notation-clause-unshown c =
-    known_error (λ r. IfErr r (IsUnshownHeld (kind_of c.args.profile) c.args.out_kind c.args.limit c.args.input.now)) _ _ c.from_residual-in_err-answer-in-Notation.ensures.1
-    (λ most l. ((l, no_fault c.args.profile c.args.limit c.args.input.now), tt))
 
 pub returns-in-Text-clause-shown : goal.returns-in-Text-clause-shown
 returns-in-Text-clause-shown c =

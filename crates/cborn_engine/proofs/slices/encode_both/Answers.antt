@@ -1,12 +1,6 @@
 use Rattle.cborn_engine.proofs.Common.{sym, subst, CompareCountFault, AreRefusedWhole}
-use Rattle.cborn_engine.proofs.Answers.AtHand.{encoded}
-use Rattle.cborn_engine.proofs.CountAnswers.Answered.{taken, first_refused, second_refused}
+use Rattle.cborn_engine.proofs.CountAnswers.Answered.{taken, second_refused}
 use Rattle.cborn_engine.proofs.slices.encode_both.Goals as goal
-
-pub returns-in-Err-clause-refused : goal.returns-in-Err-clause-refused
-returns-in-Err-clause-refused g c =
-    subst (λ (w : CompareCountFault). AreRefusedWhole c.args.count c.args.kind_a c.args.kind_b c.args.limit c.args.first.now c.args.second.now w) (sym c.of_first.ensures)
-    (first_refused g.O.KeyOrder.order c.args.count c.args.kind_a c.args.kind_b c.args.limit c.args.first.now c.args.second.now c.in-Err.why c.in-Err.ensures)
 
 pub returns-in-Err-encode_counted-clause-refused : goal.returns-in-Err-encode_counted-clause-refused
 returns-in-Err-encode_counted-clause-refused g c =
@@ -19,12 +13,3 @@ returns-clause-taken g c =
     let a = c.in-Ok.ensures in
     let b = c.in-Ok-encode_counted.ensures in
     (taken c.args.count c.args.kind_a c.args.limit c.args.first.now a.0.1.items a.0.0 a.0.1.held a.1, taken c.args.count c.args.kind_b c.args.limit c.args.second.now b.0.1.items b.0.0 b.0.1.held b.1)
-
-pub returns-clause-encoded : goal.returns-clause-encoded
-returns-clause-encoded g c =
-    let m = c.in-Ok in
-    let n = c.in-Ok-encode_counted in
-    let order = g.O.KeyOrder.order in (
-      encoded order c.args.kind_a c.args.limit c.args.first.now m.encodings c.lent-ours.result m.ensures.0.1 c.lent-ours.ensures,
-      encoded order c.args.kind_b c.args.limit c.args.second.now n.encodings c.lent-theirs.result n.ensures.0.1 c.lent-theirs.ensures,
-    )

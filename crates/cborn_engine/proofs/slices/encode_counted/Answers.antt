@@ -1,14 +1,7 @@
 use Rattle.cborn_engine.proofs.Common.{CountAnswer, EncodedWhole}
-use Rattle.cborn_engine.proofs.Answers.KnownErrors.{known_error}
-use Rattle.cborn_engine.proofs.Answers.Malformed.{unfaulted}
+use Rattle.cborn_engine.proofs.Answers.{known_error, unfaulted}
 use Rattle.cborn_engine.proofs.CountAnswers.Answered.{kept_counted}
 use Rattle.cborn_engine.proofs.slices.encode_counted.Goals as goal
-
-pub returns-in_err-encodings : goal.returns-in_err-encodings
-returns-in_err-encodings g c = known_error (λ r. CountAnswer c.args.count c.args.kind c.args.limit c.args.input.now (EncodedWhole g.O.KeyOrder.order c.args.kind c.args.limit c.args.input.now) r) _ _ c.from_residual.ensures.1 c.in_err-encodings.ensures
-
-pub expect-requires : goal.expect-requires
-expect-requires g c = let e = c.in_ok-encodings.ensures in record { short = e.0; spelled = (e.1.held.nodes, e.1.held.spelled) }
 
 pub returns-in_err-expect : goal.returns-in_err-expect
 returns-in_err-expect g c =

@@ -1,15 +1,11 @@
 use Rattle.cborn_engine.proofs.Common.{EncodedWhole, most_bytes}
-use Rattle.cborn_engine.proofs.Answers.AtHand.{short}
-use Rattle.cborn_engine.proofs.Answers.KnownErrors.{known_error}
+use Rattle.cborn_engine.proofs.Answers.{short, known_error}
 use Rattle.cborn_engine.proofs.slices.encode_slice.Goals as goal
 
 pub returns-in_err-encode_input : goal.returns-in_err-encode_input
 returns-in_err-encode_input g c =
     let l = short most_bytes c.args.input.now c.is_too_long.result c.is_too_long.ensures c.if-is_too_long.false in
     known_error (λ r. EncodedWhole g.O.KeyOrder.order c.args.kind c.args.limit c.args.input.now r) _ _ c.from_residual.ensures.1 (c.in_err-encode_input.ensures.refused most_bytes l)
-
-pub returns-then-is_own_encoding : goal.returns-then-is_own_encoding
-returns-then-is_own_encoding g c = (short most_bytes c.args.input.now c.is_too_long.result c.is_too_long.ensures c.if-is_too_long.false, (c.is_own_encoding.ensures.0 c.if-is_own_encoding.true).1)
 
 pub returns : goal.returns
 returns g c = (short most_bytes c.args.input.now c.is_too_long.result c.is_too_long.ensures c.if-is_too_long.false, c.in_ok-encode_input.ensures.encoded)

@@ -1,12 +1,8 @@
 use Rattle.cborn_engine.proofs.Common.{subst, trees}
 use Rattle.cborn_edn.specs.ShownBytes.{Notates}
-use Rattle.cborn_engine.proofs.Answers.Malformed.{no_reading}
-use Rattle.cborn_engine.proofs.Answers.Telling.{as_fixed}
+use Rattle.cborn_engine.proofs.Answers.{no_reading}
 use Rattle.cborn_engine.proofs.Held.BadTexts.{held_shows}
 use Rattle.cborn_engine.proofs.slices.fixed_text.Goals as goal
-
-pub returns : goal.returns
-returns c = as_fixed c.args.limit c.args.bytes.now c.in-Text.text.items (subst (Notates c.args.limit c.args.bytes.now) c.in-Text.is c.in_ok-text.ensures)
 
 pub unreachable-requires : goal.unreachable-requires
 unreachable-requires c =

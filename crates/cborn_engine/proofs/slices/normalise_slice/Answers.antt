@@ -1,7 +1,5 @@
 use Rattle.cborn_engine.proofs.Common.{cow_slice_items, CountAnswer, NormalisedWhole}
-use Rattle.cborn_engine.proofs.Answers.AtHand.{encoded, held, room}
-use Rattle.cborn_engine.proofs.Answers.KnownErrors.{known_error}
-use Rattle.cborn_engine.proofs.Answers.Malformed.{unfaulted}
+use Rattle.cborn_engine.proofs.Answers.{lent_encoded, held, room, known_error, unfaulted}
 use Rattle.cborn_engine.proofs.Canonical.Canonicity.{canon_of}
 use Rattle.cborn_engine.proofs.Canonical.NormalForm.{normal_form}
 use Rattle.cborn_engine.proofs.Canonical.OfBytes.{encoded_bytes}
@@ -10,10 +8,7 @@ use Rattle.cborn_engine.proofs.slices.normalise_slice.Goals as goal
 
 pub written_as-requires : goal.written_as-requires
 written_as-requires g c =
-    held g.O.KeyOrder.order g.met.O.KeyOrder.laws c.args.in_kind c.args.limit c.args.input.now (cow_slice_items c.lent.result) c.in_ok-encodings.ensures.0 (encoded g.O.KeyOrder.order c.args.in_kind c.args.limit c.args.input.now c.in_ok-encodings.encodings c.lent.result c.in_ok-encodings.ensures.1 c.lent.ensures)
-
-pub expect-requires : goal.expect-requires
-expect-requires g c = let e = c.in_ok-encodings.ensures in record { short = e.0; spelled = (e.1.held.nodes, e.1.held.spelled) }
+    held g.O.KeyOrder.order g.met.O.KeyOrder.laws c.args.in_kind c.args.limit c.args.input.now (cow_slice_items c.lent.result) c.in_ok-encodings.ensures.0 (lent_encoded g.O.KeyOrder.order c.args.in_kind c.args.limit c.args.input.now c.in_ok-encodings.encodings c.lent.result c.in_ok-encodings.ensures.1 c.lent.ensures)
 
 pub returns-in_err-encodings-clause-normalised : goal.returns-in_err-encodings-clause-normalised
 returns-in_err-encodings-clause-normalised g c =
@@ -35,7 +30,7 @@ pub returns-in_err-expect-clause-normalised : goal.returns-in_err-expect-clause-
 returns-in_err-expect-clause-normalised g c =
     let order = g.O.KeyOrder.order in
     let e = c.in_ok-encodings.ensures in
-    let lent = encoded g.O.KeyOrder.order c.args.in_kind c.args.limit c.args.input.now c.in_ok-encodings.encodings c.lent.result e.1 c.lent.ensures in
+    let lent = lent_encoded g.O.KeyOrder.order c.args.in_kind c.args.limit c.args.input.now c.in_ok-encodings.encodings c.lent.result e.1 c.lent.ensures in
     let Whole = NormalisedWhole order c.args.in_kind c.args.out_kind c.args.limit c.args.input.now in
     let written = canon_of order c.args.out_kind lent.items (cow_slice_items c.lent.result) (cow_slice_items c.in_ok-answer.answer) lent.encoded c.in_ok-answer.ensures in
     known_error (λ r. CountAnswer c.args.count c.args.in_kind c.args.limit c.args.input.now Whole r) _ _ c.from_residual-in_err-expect.ensures.1
@@ -48,7 +43,7 @@ returns-in_err-expect-clause-malformed g c l = normalised_reported c.args.count 
 pub returns-clause-normalised : goal.returns-clause-normalised
 returns-clause-normalised g c =
     let e = c.in_ok-encodings.ensures in
-    let lent = encoded g.O.KeyOrder.order c.args.in_kind c.args.limit c.args.input.now c.in_ok-encodings.encodings c.lent.result e.1 c.lent.ensures in
+    let lent = lent_encoded g.O.KeyOrder.order c.args.in_kind c.args.limit c.args.input.now c.in_ok-encodings.encodings c.lent.result e.1 c.lent.ensures in
     let written = canon_of g.O.KeyOrder.order c.args.out_kind lent.items (cow_slice_items c.lent.result) (cow_slice_items c.in_ok-answer.answer) lent.encoded c.in_ok-answer.ensures in
     ((e.0, record { items = lent.items; held = lent.held; written = written }), c.in_ok-expect.ensures.counted)
 
@@ -62,8 +57,8 @@ returns-clause-headline g c =
 
 pub returns-clause-bytes : goal.returns-clause-bytes
 returns-clause-bytes g c =
-    encoded_bytes g.O.KeyOrder.order c.args.in_kind c.args.out_kind c.args.limit c.args.input.now (cow_slice_items c.lent.result) (cow_slice_items c.in_ok-answer.answer) (encoded g.O.KeyOrder.order c.args.in_kind c.args.limit c.args.input.now c.in_ok-encodings.encodings c.lent.result c.in_ok-encodings.ensures.1 c.lent.ensures) c.in_ok-answer.ensures
+    encoded_bytes g.O.KeyOrder.order c.args.in_kind c.args.out_kind c.args.limit c.args.input.now (cow_slice_items c.lent.result) (cow_slice_items c.in_ok-answer.answer) (lent_encoded g.O.KeyOrder.order c.args.in_kind c.args.limit c.args.input.now c.in_ok-encodings.encodings c.lent.result c.in_ok-encodings.ensures.1 c.lent.ensures) c.in_ok-answer.ensures
 
 pub returns-clause-room : goal.returns-clause-room
 returns-clause-room g c =
-    room g.O.KeyOrder.order c.args.in_kind c.args.out_kind c.args.limit c.args.input.now (cow_slice_items c.lent.result) (cow_slice_items c.in_ok-answer.answer) (encoded g.O.KeyOrder.order c.args.in_kind c.args.limit c.args.input.now c.in_ok-encodings.encodings c.lent.result c.in_ok-encodings.ensures.1 c.lent.ensures) c.in_ok-answer.ensures
+    room g.O.KeyOrder.order c.args.in_kind c.args.out_kind c.args.limit c.args.input.now (cow_slice_items c.lent.result) (cow_slice_items c.in_ok-answer.answer) (lent_encoded g.O.KeyOrder.order c.args.in_kind c.args.limit c.args.input.now c.in_ok-encodings.encodings c.lent.result c.in_ok-encodings.ensures.1 c.lent.ensures) c.in_ok-answer.ensures

@@ -1,5 +1,5 @@
 use Rattle.cborn_engine.proofs.Common.{Decides-eqb, slice_eq-Decides, cow_slice_items, of_the_first, TellsFaultAs}
-use Rattle.cborn_engine.proofs.Answers.KnownErrors.{known_error}
+use Rattle.cborn_engine.proofs.Answers.{known_error}
 use Rattle.cborn_engine.proofs.Comparison.Compared.{same_encodings, same_forms}
 use Rattle.cborn_engine.proofs.CountAnswers.Answered.{compared_reported, taken_reported}
 use Rattle.cborn_engine.proofs.slices.same_items.Goals as goal

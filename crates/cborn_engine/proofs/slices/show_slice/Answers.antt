@@ -1,27 +1,14 @@
-use Rattle.cborn_engine.proofs.Common.{◌≡◌, ◌≢◌, sym, ap, ◌∙◌, Err, CountAnswer, ShownWhole}
-use Rattle.cborn_engine.specs.declared.count_faults.CountFault.TheVariants as counted
-use Rattle.cborn_engine.specs.declared.counts.Count.TheVariants as counts
-use Rattle.cborn_engine.specs.declared.faults.EngineFault.TheVariants as fault
-use Rattle.cborn_engine.specs.declared.kinds.Kind.TheVariants as kind
-use Rattle.cborn_engine.proofs.Answers.KnownErrors.{known_error}
-use Rattle.cborn_engine.proofs.Answers.Malformed.{unfaulted}
-use Rattle.cborn_engine.proofs.CountAnswers.Answered.{kept_counted, shown_reported, same_engine}
+use Rattle.cborn_engine.proofs.Common.{CountAnswer, ShownWhole}
+use Rattle.cborn_engine.proofs.Answers.{known_error, unfaulted}
+use Rattle.cborn_engine.proofs.CountAnswers.Answered.{kept_counted, shown_reported}
 use Rattle.cborn_engine.proofs.Held.SameBytes.{same_bytes}
 use Rattle.cborn_engine.proofs.slices.show_slice.Goals as goal
-
-pub expect-requires : goal.expect-requires
-expect-requires c = let h = c.in_ok-answer.ensures.shown in record { short = h.0; spelled = (h.1.nodes, h.1.spelled) }
 
 pub returns-in_err-answer-clause-shown : goal.returns-in_err-answer-clause-shown
 returns-in_err-answer-clause-shown c = known_error (λ r. CountAnswer c.args.count c.args.in_kind c.args.limit c.args.input.now (ShownWhole c.args.in_kind c.args.out_kind c.args.limit c.args.input.now) r) _ _ c.from_residual.ensures.1 c.in_err-answer.ensures.shown
 
 pub returns-in_err-answer-clause-malformed : goal.returns-in_err-answer-clause-malformed
 returns-in_err-answer-clause-malformed c l = shown_reported c.args.count c.args.in_kind c.args.out_kind c.args.limit c.args.input.now l _ (returns-in_err-answer-clause-shown c)
-
-pub returns-in_err-answer-clause-unfailing : goal.returns-in_err-answer-clause-unfailing
-returns-in_err-answer-clause-unfailing c =
-    known_error (λ r. c.args.count ≡ counts.Any → c.args.in_kind ≡ kind.Wire → c.args.out_kind ≡ kind.Wire → r ≢ Err (counted.Engine fault.OutOfMemory)) _ _ c.from_residual.ensures.1
-    (λ e a b h. c.in_err-answer.ensures.unfailing a b (ap Err (same_engine c.in_err-answer.field-0.0 fault.OutOfMemory h)))
 
 pub returns-in_err-expect-clause-shown : goal.returns-in_err-expect-clause-shown
 returns-in_err-expect-clause-shown c =
@@ -32,9 +19,6 @@ returns-in_err-expect-clause-shown c =
 
 pub returns-in_err-expect-clause-malformed : goal.returns-in_err-expect-clause-malformed
 returns-in_err-expect-clause-malformed c l = shown_reported c.args.count c.args.in_kind c.args.out_kind c.args.limit c.args.input.now l _ (returns-in_err-expect-clause-shown c)
-
-pub returns-in_err-expect-clause-unfailing : goal.returns-in_err-expect-clause-unfailing
-returns-in_err-expect-clause-unfailing c e a b h = let clash : counts.Any ≡ counts.One = sym e ∙ c.in_err-expect.ensures.refused.0 in absurd cc
 
 pub returns-clause-shown : goal.returns-clause-shown
 returns-clause-shown c = (c.in_ok-answer.ensures.shown, c.in_ok-expect.ensures.counted)

@@ -1,7 +1,5 @@
 use Rattle.cborn_engine.proofs.Common.{subst, ShownWhole, most_bytes}
-use Rattle.cborn_engine.proofs.Answers.AtHand.{short}
-use Rattle.cborn_engine.proofs.Answers.KnownErrors.{known_error}
-use Rattle.cborn_engine.proofs.Answers.Malformed.{no_reading}
+use Rattle.cborn_engine.proofs.Answers.{short, known_error, no_reading}
 use Rattle.cborn_engine.proofs.slices.spell_slice.Goals as goal
 
 pub show_input-requires-clause-malformed : goal.show_input-requires-clause-malformed
@@ -18,9 +16,3 @@ returns-in_err-show_input-clause-unfailing c e f h =
     let found = c.is_own_spelling.ensures.malformed c.if-is_own_spelling.false e f in
     let refused = subst (λ r. ShownWhole c.args.in_kind c.args.out_kind c.args.limit c.args.input.now r) h (returns-in_err-show_input-clause-shown c) in
     refused.0.1.none found.0 found.1 e found.2
-
-pub returns-then-is_own_spelling-clause-shown : goal.returns-then-is_own_spelling-clause-shown
-returns-then-is_own_spelling-clause-shown c = (short most_bytes c.args.input.now c.is_too_long.result c.is_too_long.ensures c.if-is_too_long.false, c.is_own_spelling.ensures.own c.if-is_own_spelling.true)
-
-pub returns-clause-shown : goal.returns-clause-shown
-returns-clause-shown c = (short most_bytes c.args.input.now c.is_too_long.result c.is_too_long.ensures c.if-is_too_long.false, c.in_ok-show_input.ensures.shown)

@@ -1,6 +1,5 @@
-use Rattle.cborn_engine.proofs.Common.{ℕ, List, subst, IfErr, kind_of, IsNoFlaw, IsRefusedHeld, IsSpelling}
-use Rattle.cborn_engine.proofs.Answers.KnownErrors.{known_error}
-use Rattle.cborn_engine.proofs.Answers.Unreported.{untold}
+use Rattle.cborn_engine.proofs.Common.{IfErr, kind_of, IsNoFlaw, IsRefusedHeld}
+use Rattle.cborn_engine.proofs.Answers.{known_error, untold}
 use Rattle.cborn_engine.proofs.texts.bytes_of_text.Goals as goal
 
 pub returns-in_err-text-clause-refused : goal.returns-in_err-text-clause-refused
@@ -16,9 +15,3 @@ returns-in_err-read_text-clause-refused c =
     let why = c.in_err-read_text in
     known_error (λ r. IfErr r (λ why. IsRefusedHeld (kind_of c.args.profile) c.args.limit input why × IsNoFlaw why)) _ _ c.from_residual-in_err-read_text.ensures.1
     (untold c.args.profile c.args.limit input text.text.now why.field-0.0 text.ensures.text.0 text.ensures.text.1 why.ensures.refused)
-
-pub returns-clause-spelled : goal.returns-clause-spelled
-returns-clause-spelled c =
-    let text = c.in_ok-text in
-    let read = c.in_ok-read_text in
-    (text.ensures.text.1, subst (λ (x : List ℕ). IsSpelling c.args.profile c.args.limit x read.field-0.items) text.ensures.text.0 read.ensures.spelled)

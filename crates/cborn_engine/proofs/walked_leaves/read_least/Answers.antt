@@ -1,4 +1,5 @@
-use Rattle.cborn_engine.proofs.Common.{◌≡◌, ◌-◌, ◌++◌, ◌∙◌, ap, sym, subst, take, drop, rules, length, take_rest, Given, head, least, WidthFits, ArgumentFits, seen_argument}
+use Rattle.std.specs.Prelude.{◌≡◌, ◌-◌, ◌++◌}
+use Rattle.cborn_engine.proofs.Common.{◌∙◌, ap, sym, subst, take, drop, rules, length, take_rest, Given, head, least, WidthFits, ArgumentFits, seen_argument}
 use Rattle.cborn_wire.specs.declared.heads.Argument.{Argument}
 use Rattle.cborn_engine.proofs.Walks.Heads.{head_read, full_least, no_full}
 use Rattle.cborn_engine.proofs.walked_leaves.read_least.Goals as goal

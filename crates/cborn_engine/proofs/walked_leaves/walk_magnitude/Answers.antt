@@ -1,4 +1,5 @@
-use Rattle.cborn_engine.proofs.Common.{rules, ◌≡◌, ◌++◌, refl, sym, subst, AreBytes, Given, head, least, ByteString, TextString, Other, LeastHeadRead, Finds, MagnitudeRead}
+use Rattle.std.specs.Prelude.{◌≡◌, ◌++◌}
+use Rattle.cborn_engine.proofs.Common.{rules, refl, sym, subst, AreBytes, Given, head, least, ByteString, TextString, Other, LeastHeadRead, Finds, MagnitudeRead}
 use Rattle.cborn_model.proofs.Bytes.{are_bytes, bytes-left, bytes-right}
 use Rattle.cborn_engine.proofs.walked_leaves.walk_magnitude.Goals as goal
 

@@ -1,6 +1,7 @@
-use Rattle.cborn_engine.proofs.Common.{◌≤◌, ◌+◌, length, drop, arith, length-drop, CollectsOn}
+use Rattle.std.specs.Prelude.{◌≤◌, ◌+◌}
+use Rattle.cborn_engine.proofs.Common.{length, drop, arith, length-drop, CollectsOn}
 use Rattle.cborn_engine.proofs.Streams.Collecting.{kept, stopped, more}
-use Rattle.cborn_engine.proofs.Answers.KnownErrors.{known_error}
+use Rattle.cborn_engine.proofs.Answers.{known_error}
 use Rattle.cborn_engine.proofs.whole_inputs.read_on.Goals as goal
 
 pub returns-in_err-count-clause-collects : goal.returns-in_err-count-clause-collects

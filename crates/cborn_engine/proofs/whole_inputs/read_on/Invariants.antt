@@ -1,4 +1,5 @@
-use Rattle.cborn_engine.proofs.Common.{◌≡◌, ◌≤◌, ◌+◌, ◌-◌, length}
+use Rattle.std.specs.Prelude.{◌≡◌, ◌≤◌, ◌+◌, ◌-◌}
+use Rattle.cborn_engine.proofs.Common.{length}
 use Rattle.cborn_engine.proofs.Streams.Collecting.{Filled}
 use Rattle.cborn_engine.proofs.whole_inputs.read_on.Given as goal
 

@@ -1,4 +1,5 @@
-use Rattle.cborn_explain.proofs.Common.{◌≡◌, sym, ap, ◌∙◌, ℕ, ◌+◌, ◌-◌, ◌≤◌, List, ◌++◌, length, take, drop, arith, length-append, length-drop, take_all, Tree, spelled, Fits}
+use Rattle.std.specs.Prelude.{◌≡◌, ◌+◌, ◌-◌, ◌≤◌, ◌++◌}
+use Rattle.cborn_explain.proofs.Common.{sym, ap, ◌∙◌, ℕ, List, length, take, drop, arith, length-append, length-drop, take_all, Tree, spelled, Fits}
 use Rattle.cborn_wire.specs.Reading.{IsFirstItem}
 use Rattle.cborn_wire.proofs.Spelled.OneReading.{one_front}
 use Rattle.cborn_explain.proofs.byte_heads.end_of_item.Goals as goal

@@ -1,4 +1,5 @@
-use Rattle.cborn_explain.proofs.Common.{◌≡◌, sym, ap, ◌∙◌, subst, length, take, arith, DifferFirstAt, up_to_key, LeadsToDifference, path_of}
+use Rattle.std.specs.Prelude.{◌≡◌}
+use Rattle.cborn_explain.proofs.Common.{sym, ap, ◌∙◌, subst, length, take, arith, DifferFirstAt, up_to_key, LeadsToDifference, path_of}
 use Rattle.cborn_explain.proofs.Walking.Differences.{differ_first, difference_led}
 use Rattle.cborn_explain.proofs.first_differences.walk_to_difference.Goals.{else-common-first-via-then-common-first+else-common-second, else-common-first-via-else-common-first}
 use Rattle.cborn_explain.proofs.first_differences.walk_to_difference.Goals as goal

@@ -1,4 +1,5 @@
-use Rattle.cborn_explain.proofs.Common.{◌≤◌, length}
+use Rattle.std.specs.Prelude.{◌≤◌}
+use Rattle.cborn_explain.proofs.Common.{length}
 use Rattle.cborn_explain.proofs.quotes.start_of_piece.Given as goal
 
 abbrev pub invariant-loop-from : goal.invariant-loop-from

@@ -1,10 +1,5 @@
-use Rattle.cborn_judge.proofs.FirstDefect.Concluding.{concluded, conclusive}
+use Rattle.cborn_judge.proofs.FirstDefect.{conclusive}
 use Rattle.cborn_judge.proofs.checks.first_defect.Goals as goal
-
-pub returns-clause-first : goal.returns-clause-first
-returns-clause-first g c =
-    let m = c.in_ok-encoded.ensures.encoded in
-    concluded g.O.KeyOrder.order c.args.spelled.now m.0 c.in_ok-encoded.encoded.defect m.1 c.in_ok-encoded.ensures.defect
 
 pub returns-clause-deterministic : goal.returns-clause-deterministic
 returns-clause-deterministic g c =

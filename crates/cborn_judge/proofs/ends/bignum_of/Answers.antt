@@ -1,5 +1,6 @@
-use Rattle.cborn_judge.proofs.Common.{◌≡◌, ◌∷◌, ◌++◌, [], refl, ap, ◌∙◌, subst, sym, arith, AreBytes, IsShortest, big_endian, bytes, Det, IsSound}
-use Rattle.cborn_judge.proofs.Encoding.EndsTags.{no_string, rest_read, code_string, code_no_string}
+use Rattle.std.specs.Prelude.{◌≡◌, ◌∷◌, ◌++◌}
+use Rattle.cborn_judge.proofs.Common.{[], refl, ap, ◌∙◌, subst, sym, arith, AreBytes, IsShortest, big_endian, bytes, Det, IsSound}
+use Rattle.cborn_judge.proofs.Encoding.Ends.{no_string, rest_read, code_string, code_no_string}
 use Rattle.cborn_judge.proofs.ends.bignum_of.Goals as goal
 
 pub returns-then-level : goal.returns-then-level

@@ -1,4 +1,5 @@
-use Rattle.cborn_judge.proofs.Common.{◌<◌, ◌^◌, ◌++◌, length, ap, ◌∙◌, subst, arith, ended_size, FindsDefect, SizeAt}
+use Rattle.std.specs.Prelude.{◌<◌, ◌^◌, ◌++◌}
+use Rattle.cborn_judge.proofs.Common.{length, ap, ◌∙◌, subst, arith, ended_size, FindsDefect, SizeAt}
 use Rattle.cborn_judge.proofs.Encoding.Ends.{array_ends}
 use Rattle.cborn_judge.proofs.ends.end_array.Goals as goal
 

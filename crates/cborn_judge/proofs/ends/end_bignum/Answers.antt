@@ -1,8 +1,7 @@
-use Rattle.cborn_judge.proofs.Common.{◌++◌, [], inr, append_assoc, append-nil, refl, ap, ◌∙◌, subst, IsInteger, bignum_tag, IsBignumFound}
-use Rattle.cborn_det.proofs.Canon.{tags}
-use Rattle.cborn_judge.proofs.Encoding.Ends.{cut}
-use Rattle.cborn_judge.proofs.Encoding.EndsTags.{bad_found, bignum_nothing, bignum_coded}
-use Rattle.cborn_judge.proofs.FirstDefect.Departing.{loose_found}
+use Rattle.std.specs.Prelude.{◌++◌}
+use Rattle.cborn_judge.proofs.Common.{[], inr, append_assoc, append-nil, refl, ap, ◌∙◌, subst, IsInteger, bignum_tag, IsBignumFound, tags}
+use Rattle.cborn_judge.proofs.Encoding.Ends.{cut, bad_found, bignum_nothing, bignum_coded}
+use Rattle.cborn_judge.proofs.FirstDefect.{loose_found}
 use Rattle.cborn_judge.proofs.ends.end_bignum.Goals as goal
 
 pub returns-in_default : goal.returns-in_default

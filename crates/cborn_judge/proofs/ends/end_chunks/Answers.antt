@@ -1,6 +1,7 @@
-use Rattle.cborn_judge.proofs.Common.{◌≡◌, ◌<◌, ◌++◌, refl, length, ap, ◌∙◌, subst, arith, code, IsLeastHead, Replaces}
+use Rattle.std.specs.Prelude.{◌≡◌, ◌<◌, ◌++◌}
+use Rattle.cborn_judge.proofs.Common.{refl, length, ap, ◌∙◌, subst, arith, code, IsLeastHead, Replaces}
 use Rattle.std.proofs.lemmas.List.Elements.{recursion_from_All}
-use Rattle.cborn_judge.proofs.Encoding.EndsChunks.{contents_length, chunks_end, endless_found}
+use Rattle.cborn_judge.proofs.Encoding.Ends.{contents_length, chunks_end, endless_found}
 use Rattle.cborn_judge.proofs.ends.end_chunks.Goals as goal
 
 pub returns : goal.returns

@@ -1,5 +1,6 @@
-use Rattle.cborn_judge.proofs.Common.{◌≡◌, ◌++◌, ◌+◌, ◌<◌, length, append_assoc, length-append, refl, sym, ap, ◌∙◌, subst, false, true≢false, None, IsLeastHead, defect_rank, Replaces, joined, row_entries, IsSound}
-use Rattle.cborn_judge.proofs.Encoding.MapsEnding.{ended, length_marked, flaw_found, defect_found}
+use Rattle.std.specs.Prelude.{◌≡◌, ◌++◌, ◌+◌, ◌<◌}
+use Rattle.cborn_judge.proofs.Common.{length, append_assoc, length-append, refl, sym, ap, ◌∙◌, subst, false, true≢false, None, IsLeastHead, defect_rank, Replaces, joined, row_entries, IsSound}
+use Rattle.cborn_judge.proofs.Encoding.Ends.{ended, length_marked, flaw_found, defect_found}
 use Rattle.cborn_judge.proofs.Encoding.MapsRows.{rising_new, as_they_stand}
 use Rattle.cborn_judge.proofs.Encoding.PairsHinted.{none_first}
 use Rattle.cborn_judge.proofs.ends.end_rising.Goals as goal

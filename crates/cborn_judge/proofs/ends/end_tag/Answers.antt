@@ -1,7 +1,7 @@
-use Rattle.cborn_judge.proofs.Common.{◌≡◌, ◌⊎◌, inl, inr, ◌++◌, [], ◌∷◌, true, refl, sym, ap, ◌∙◌, subst, arith, append_assoc, length-append, last_of, Tagged, FindsDefect, LongAt, FlawAt, LooseAt, FindsFlaw, Coded, IsSound, AreEncodedAs}
-use Rattle.cborn_judge.proofs.Encoding.Ends.{cut}
-use Rattle.cborn_judge.proofs.Encoding.EndsTags.{number_of_bignum, only, tag_nothing, tag_flawless, tag_long, tag_coded}
-use Rattle.cborn_judge.proofs.FirstDefect.Departing.{both_found}
+use Rattle.std.specs.Prelude.{◌≡◌, ◌⊎◌, ◌++◌, ◌∷◌}
+use Rattle.cborn_judge.proofs.Common.{inl, inr, [], true, refl, sym, ap, ◌∙◌, subst, arith, append_assoc, length-append, last_of, Tagged, FindsDefect, LongAt, FlawAt, LooseAt, FindsFlaw, Coded, IsSound, AreEncodedAs}
+use Rattle.cborn_judge.proofs.Encoding.Ends.{cut, number_of_bignum, only, tag_nothing, tag_flawless, tag_long, tag_coded}
+use Rattle.cborn_judge.proofs.FirstDefect.{both_found}
 use Rattle.cborn_judge.proofs.ends.end_tag.Goals as goal
 use Rattle.cborn_judge.proofs.ends.end_tag.Goals.{then-number-eq2-via-then-number-eq2, then-number-eq2-via-else-number-eq2+then-number-eq3}
 

@@ -1,9 +1,7 @@
-use Rattle.cborn_judge.proofs.Common.{rules, arith, subst, true, false, Tagged, item_value, IsItemOf, IsPairOf, IsBignumItem}
+use Rattle.cborn_judge.proofs.Common.{rules, arith, subst, true, false, Tagged, item_value, IsItemOf, IsPairOf, IsBignumItem, depth_of_item, depth_of_pair}
 use Rattle.std.proofs.lemmas.Result.{IfOk-weaker}
-use Rattle.cborn_model.proofs.Listed.Trees.{depth_of_item, depth_of_pair}
-use Rattle.cborn_judge.proofs.Loops.Passing.{zip-take_more}
-use Rattle.cborn_judge.proofs.Meaning.Building.{array_built, map_built}
-use Rattle.cborn_judge.proofs.Meaning.Meanings.{number_once, means_once}
+use Rattle.cborn_judge.proofs.Loops.{zip-take_more}
+use Rattle.cborn_judge.proofs.Meaning.Meanings.{array_built, map_built, number_once, means_once}
 use Rattle.cborn_judge.proofs.judgments.+built.Goals as goal
 
 pub array_of-item_of-requires : goal.array_of-item_of-requires

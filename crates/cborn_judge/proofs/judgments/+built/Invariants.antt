@@ -1,4 +1,5 @@
-use Rattle.cborn_judge.proofs.Common.{◌+◌, ◌*◌, take, AllZip, trees, entries, depth, depth_all, depth_entries, IsItemOf, IsPairOf}
+use Rattle.std.specs.Prelude.{◌+◌, ◌*◌}
+use Rattle.cborn_judge.proofs.Common.{take, AllZip, trees, entries, depth, depth_all, depth_entries, IsItemOf, IsPairOf}
 use Rattle.cborn_judge.proofs.judgments.+built.Given as goal
 
 abbrev pub decreases-item_of : goal.decreases-item_of

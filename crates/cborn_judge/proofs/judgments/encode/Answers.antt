@@ -1,6 +1,7 @@
-use Rattle.cborn_judge.proofs.Common.{[], ◌∷◌, subst, top, no_part, IsHeld}
-use Rattle.cborn_judge.proofs.FirstDefect.Concluding.{alone, flawed_alone}
-use Rattle.cborn_judge.proofs.Encoding.EndsTags.{one_encoded}
+use Rattle.std.specs.Prelude.{◌∷◌}
+use Rattle.cborn_judge.proofs.Common.{[], subst, top, no_part, IsHeld}
+use Rattle.cborn_judge.proofs.FirstDefect.{alone, flawed_alone}
+use Rattle.cborn_judge.proofs.Encoding.Ends.{one_encoded}
 use Rattle.cborn_judge.proofs.judgments.encode.Goals as goal
 
 pub returns-in-Ok-clause-encoded : goal.returns-in-Ok-clause-encoded

@@ -1,5 +1,4 @@
-use Rattle.cborn_model.proofs.Firsts.{first_once}
-use Rattle.cborn_judge.proofs.Common.{Defect, SequenceDefect, defect_rank}
+use Rattle.cborn_judge.proofs.Common.{Defect, SequenceDefect, defect_rank, first_once}
 use Rattle.cborn_judge.proofs.Meaning.Placing.{defect_within}
 use Rattle.cborn_judge.proofs.Reasons.{defect_rank_once}
 use Rattle.cborn_judge.proofs.laws.one_defect.Goals as goal

@@ -1,5 +1,4 @@
-use Rattle.cborn_model.proofs.Firsts.{first_once}
-use Rattle.cborn_judge.proofs.Common.{Flaw, flaw_rank}
+use Rattle.cborn_judge.proofs.Common.{Flaw, flaw_rank, first_once}
 use Rattle.cborn_judge.proofs.Meaning.Placing.{flaw_within}
 use Rattle.cborn_judge.proofs.Reasons.{flaw_rank_once}
 use Rattle.cborn_judge.proofs.laws.one_flaw.Goals as goal

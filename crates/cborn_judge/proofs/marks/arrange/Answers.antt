@@ -1,4 +1,5 @@
-use Rattle.cborn_judge.proofs.Common.{rules, ◌≡◌, ◌++◌, ◌-◌, List, ℕ, length, take, drop, None, ap, ◌∙◌, subst, arith, IfOk, with_items_is, places, joined, FindsFlaw, Row, row_entries, Mark, AreMarked, AreFilled, AreArranged, RowRepeat}
+use Rattle.std.specs.Prelude.{◌≡◌, ◌++◌, ◌-◌}
+use Rattle.cborn_judge.proofs.Common.{rules, List, ℕ, length, take, drop, None, ap, ◌∙◌, subst, arith, IfOk, with_items_is, places, joined, FindsFlaw, Row, row_entries, Mark, AreMarked, AreFilled, AreArranged, RowRepeat}
 use Rattle.cborn_judge.proofs.Encoding.PairsArranged.{none_repeats, none_arranged, rest_marked, none_left, front_kept}
 use Rattle.cborn_judge.proofs.marks.arrange.Goals as goal
 

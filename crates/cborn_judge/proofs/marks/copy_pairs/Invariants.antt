@@ -1,4 +1,5 @@
-use Rattle.cborn_judge.proofs.Common.{◌≡◌, ◌++◌, map, drop, flat_map, pair_of}
+use Rattle.std.specs.Prelude.{◌≡◌, ◌++◌}
+use Rattle.cborn_judge.proofs.Common.{map, drop, flat_map, pair_of}
 use Rattle.cborn_judge.proofs.marks.copy_pairs.Given as goal
 
 abbrev pub invariant-loop-spot : goal.invariant-loop-spot

@@ -1,4 +1,5 @@
-use Rattle.cborn_judge.proofs.Common.{rules, ◌++◌, ◌-◌, List, [], length, take, drop, map, None, sym, ap, ◌∙◌, subst, arith, drop_all, with_items_is, places, FindsDefect, Mark, FindsDescent, FallsIn, AreHintedBy}
+use Rattle.std.specs.Prelude.{◌++◌, ◌-◌}
+use Rattle.cborn_judge.proofs.Common.{rules, List, [], length, take, drop, map, None, sym, ap, ◌∙◌, subst, arith, drop_all, with_items_is, places, FindsDefect, Mark, FindsDescent, FallsIn, AreHintedBy}
 use Rattle.cborn_judge.proofs.Encoding.PairsMet.{descent_found}
 use Rattle.cborn_judge.proofs.Encoding.PairsArranged.{rest_marked, none_left, all_kept}
 use Rattle.cborn_judge.proofs.marks.descent.Goals as goal

@@ -1,8 +1,7 @@
-use Rattle.cborn_judge.proofs.Common.{◌<◌, ◌∙◌, inl, inr, ap, sym, subst, arith, take_all, AreBytes, IsEarliest, defect_rank, hint_of, mark_of, AreHintedBy}
-use Rattle.cborn_model.proofs.Bytes.{are_bytes}
-use Rattle.cborn_judge.proofs.Encoding.Hinting.{hint_tells}
+use Rattle.std.specs.Prelude.{◌<◌}
+use Rattle.cborn_judge.proofs.Common.{◌∙◌, inl, inr, ap, sym, subst, arith, take_all, AreBytes, IsEarliest, defect_rank, hint_of, mark_of, AreHintedBy, are_bytes}
+use Rattle.cborn_judge.proofs.Encoding.PairsHinted.{hint_tells, Looks, Remembers, falls_passed}
 use Rattle.cborn_judge.proofs.Encoding.PairsRead.{bytes_between}
-use Rattle.cborn_judge.proofs.Encoding.PairsHinted.{Looks, Remembers, falls_passed}
 use Rattle.cborn_judge.proofs.marks.first_fall.Goals as goal
 use Rattle.cborn_judge.proofs.marks.first_fall.Goals.{then-hint-last, else-hint-last, then-not-is_empty, else-not-is_empty}
 

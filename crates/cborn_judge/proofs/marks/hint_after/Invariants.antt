@@ -1,4 +1,5 @@
-use Rattle.cborn_judge.proofs.Common.{◌≡◌, map}
+use Rattle.std.specs.Prelude.{◌≡◌}
+use Rattle.cborn_judge.proofs.Common.{map}
 use Rattle.cborn_judge.proofs.marks.hint_after.Given as goal
 
 abbrev pub invariant-loop-spot : goal.invariant-loop-spot

@@ -1,4 +1,3 @@
-use Rattle.cborn_judge.proofs.Common.{◌<◌, refl, arith}
 use Rattle.cborn_judge.proofs.Encoding.PairsHinted.{fall_after}
 use Rattle.cborn_judge.proofs.marks.keep_fall.Goals as goal
 

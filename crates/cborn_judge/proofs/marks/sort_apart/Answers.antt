@@ -1,6 +1,5 @@
-use Rattle.cborn_judge.proofs.Common.{◌≡◌, List, map, nat_lt, not, sym, ap, ◌∙◌, subst, IsPermutation, rules, arith, flat_map, IsAllAdjacentAnswer, always_returns_same, IsPermutation-map, IsPermutation-trans, FindsDefect, Mark, AreArranged, key_of, pair_of, FallsIn}
-use Rattle.cborn_model.proofs.Bytes.{are_bytes}
-use Rattle.cborn_model.proofs.SameItems.Rearranging.{All_moved}
+use Rattle.std.specs.Prelude.{◌≡◌}
+use Rattle.cborn_judge.proofs.Common.{List, map, nat_lt, not, sym, ap, ◌∙◌, subst, IsPermutation, rules, arith, flat_map, IsAllAdjacentAnswer, always_returns_same, IsPermutation-map, IsPermutation-trans, FindsDefect, Mark, AreArranged, key_of, pair_of, FallsIn, are_bytes, All_moved}
 use Rattle.cborn_judge.proofs.Encoding.PairsHinted.{risen_hints, higher_from}
 use Rattle.cborn_judge.proofs.Encoding.PairsMet.{none_of}
 use Rattle.cborn_judge.proofs.Encoding.PairsArranged.{sorted_apart, risen}

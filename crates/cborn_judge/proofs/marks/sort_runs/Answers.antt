@@ -1,4 +1,5 @@
-use Rattle.cborn_judge.proofs.Common.{◌+◌, ◌-◌, map, IsPermutation, sym, subst, arith, IsPermutation-trans}
+use Rattle.std.specs.Prelude.{◌+◌, ◌-◌}
+use Rattle.cborn_judge.proofs.Common.{map, IsPermutation, sym, subst, arith, IsPermutation-trans}
 use Rattle.cborn_judge.proofs.Encoding.PairsArranged.{part_moved}
 use Rattle.cborn_judge.proofs.marks.sort_runs.Goals as goal
 use Rattle.cborn_judge.proofs.marks.sort_runs.Goals.{then-start-last, else-start-last}

@@ -1,4 +1,5 @@
-use Rattle.cborn_judge.proofs.Common.{◌≤◌, map, IsPermutation}
+use Rattle.std.specs.Prelude.{◌≤◌}
+use Rattle.cborn_judge.proofs.Common.{map, IsPermutation}
 use Rattle.cborn_judge.proofs.marks.sort_runs.Given as goal
 
 abbrev pub invariant-loop-last : goal.invariant-loop-last

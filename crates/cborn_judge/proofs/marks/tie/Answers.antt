@@ -1,10 +1,7 @@
-use Rattle.cborn_judge.proofs.Common.{ℕ, List, inr, length, refl, sym, ap, ◌∙◌, true≢false, arith, ◌==◌, not-true, not-false, flaw_rank}
+use Rattle.std.specs.Prelude.{◌==◌}
+use Rattle.cborn_judge.proofs.Common.{ℕ, List, inr, length, refl, sym, ap, ◌∙◌, true≢false, arith, not-true, not-false, flaw_rank}
 use Rattle.std.proofs.lemmas.Slice.Eq.{bytes_eq-Decides}
-use Rattle.cborn_judge.proofs.Encoding.PairsRead.{empty}
 use Rattle.cborn_judge.proofs.marks.tie.Goals as goal
-
-pub returns-then-is_empty : goal.returns-then-is_empty
-returns-then-is_empty c p r t = t.1.0 (empty c.args.key.now (sym c.is_empty.ensures ∙ c.if-is_empty.true))
 
 pub returns-then-ne : goal.returns-then-ne
 returns-then-ne c p r t =

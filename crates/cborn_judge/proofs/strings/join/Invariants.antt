@@ -1,4 +1,5 @@
-use Rattle.cborn_judge.proofs.Common.{◌≡◌, take, joined_chunks}
+use Rattle.std.specs.Prelude.{◌≡◌}
+use Rattle.cborn_judge.proofs.Common.{take, joined_chunks}
 use Rattle.cborn_judge.proofs.strings.join.Given as goal
 
 abbrev pub invariant-loop-chunk : goal.invariant-loop-chunk

@@ -1,4 +1,4 @@
-use Rattle.cborn_lex.proofs.Common.{refl, sym, false, arith, ap, ◌∙◌, ◌++◌, list_all, UnclosedString, Bytes, is_not, Bad, marked, IsEncoded, refusal, inr, take_all, length, drop_all}
+use Rattle.cborn_lex.proofs.Common.{refl, sym, false, arith, ap, ◌∙◌, list_all, UnclosedString, Bytes, is_not, Bad, marked, IsEncoded, refusal, inr, take_all, length, drop_all}
 use Rattle.cborn_lex.proofs.Sliced.Words.{string_ok, string_bad}
 use Rattle.cborn_lex.proofs.TwoParts.{string_appended}
 use Rattle.cborn_lex.proofs.encoded.in_encoding.Goals as goal
@@ -6,18 +6,18 @@ use Rattle.cborn_lex.proofs.encoded.in_encoding.Goals as goal
 pub returns-in_default : goal.returns-in_default
 returns-in_default c = (omega arith, (Bad UnclosedString, (inr (ap (list_all (is_not 39)) (take_all (length c.args.tail.now) c.args.tail.now (omega arith)) ∙ c.in_default.ensures, drop_all (length c.args.tail.now) c.args.tail.now (omega arith), refl)), λ n. refl))
 
-pub returns-in_ok-extend_from_slice-in-Some-2 : goal.returns-in_ok-extend_from_slice-in-Some-2
-returns-in_ok-extend_from_slice-in-Some-2 c =
-    let is = rw c.in-Some-2.is at c.in_ok-bytes.ensures in
-    let a = marked (Bytes false c.in-Some-2.bytes.items) c.mark_at-mark.result.0 in
+pub returns-then-branch : goal.returns-then-branch
+returns-then-branch c =
+    let made = c.in_ok-push_decoded.ensures.written c.if-branch.true in
+    let a = marked (Bytes false made.0) c.mark_at-mark.result.0 in
     let s =
     string_ok (list_all (is_not 39)) 39 c.in-Some.i c.mark_at-mark.result.1 c.args.tail.now c.front_of-content.result.now c.rest_of.result.now c.in-Some.ensures.1 c.in-Some.ensures.0 c.in-Some.ensures.2 c.front_of-content.ensures c.rest_of.ensures c.mark_at-mark.ensures.within c.mark_at-mark.ensures.run
-    (list_all (is_not 39)) (IsEncoded c.args.encoding) (refusal c.args.encoding) (Bytes false) a c.in-Some-2.bytes.items c.mark_at-mark.result.0 is refl c.mark_at-mark.ensures.mark in
-    (s.0, (a, s.1, λ n. string_appended c.bytes_front.result n c.in-Some-2.bytes.items c.args.out.now.items c.extend_from_slice.new.self.items (Bytes false c.in-Some-2.bytes.items) c.mark_at-mark.result.0 (λ m. refl) (c.bytes_front.ensures n c.in-Some-2.bytes.items) (c.in_ok-extend_from_slice-in-Some-2.ensures.items ∙ ap (λ x. c.args.out.now.items ++ x) c.as_slice.ensures.value)))
+    (list_all (is_not 39)) (IsEncoded c.args.encoding) (refusal c.args.encoding) (Bytes false) a made.0 c.mark_at-mark.result.0 made.1 refl c.mark_at-mark.ensures.mark in
+    (s.0, (a, s.1, λ n. string_appended c.bytes_front.result n made.0 c.args.out.now.items c.push_decoded.new.out.items (Bytes false made.0) c.mark_at-mark.result.0 (λ m. refl) (c.bytes_front.ensures n made.0) made.2))
 
-pub returns-in-None : goal.returns-in-None
-returns-in-None c =
+pub returns : goal.returns
+returns c =
     let s =
     string_bad (list_all (is_not 39)) 39 c.in-Some.i c.mark_at-mark.result.1 c.args.tail.now c.front_of-content.result.now c.rest_of.result.now c.in-Some.ensures.1 c.in-Some.ensures.0 c.in-Some.ensures.2 c.front_of-content.ensures c.rest_of.ensures c.mark_at-mark.ensures.within c.mark_at-mark.ensures.run
-    (list_all (is_not 39)) (IsEncoded c.args.encoding) (refusal c.args.encoding) (Bytes false) (Bad (refusal c.args.encoding)) (rw c.in-None.is at c.in_ok-bytes.ensures) refl in
+    (list_all (is_not 39)) (IsEncoded c.args.encoding) (refusal c.args.encoding) (Bytes false) (Bad (refusal c.args.encoding)) (c.in_ok-push_decoded.ensures.none c.if-branch.false) refl in
     (s.0, (Bad (refusal c.args.encoding), s.1, λ n. ap Bad (sym c.refusal.ensures)))

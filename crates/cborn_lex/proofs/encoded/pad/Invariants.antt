@@ -1,4 +1,5 @@
-use Rattle.cborn_lex.proofs.Common.{◌≡◌, ◌++◌, replicate}
+use Rattle.std.specs.Prelude.{◌≡◌, ◌++◌}
+use Rattle.cborn_lex.proofs.Common.{replicate}
 use Rattle.cborn_lex.proofs.encoded.pad.Given as goal
 
 abbrev pub invariant-loop-k : goal.invariant-loop-k

@@ -1,4 +1,5 @@
-use Rattle.cborn_lex.proofs.Common.{◌≡◌, ◌++◌, map, not, drop, filter, is_white, to_standard}
+use Rattle.std.specs.Prelude.{◌≡◌, ◌++◌}
+use Rattle.cborn_lex.proofs.Common.{map, not, drop, filter, is_white, to_standard}
 use Rattle.cborn_lex.proofs.encoded.without_white.Given as goal
 
 abbrev pub invariant-loop-c : goal.invariant-loop-c

@@ -1,4 +1,5 @@
-use Rattle.cborn_lex.proofs.Common.{◌≡◌, true, take, length, ◌-◌, is_content}
+use Rattle.std.specs.Prelude.{◌≡◌, ◌-◌}
+use Rattle.cborn_lex.proofs.Common.{true, take, length, is_content}
 use Rattle.cborn_lex.proofs.escaped.content_end.Given as goal
 
 abbrev pub invariant-loop-at : goal.invariant-loop-at

@@ -1,4 +1,5 @@
-use Rattle.cborn_lex.proofs.Common.{◌≡◌, ◌⊎◌, ℕ, List, Mark, refl, inl, inr, take, BadEscape, Bad, marked, is_content, is_unclosed, IsText, content_of, of_quoted}
+use Rattle.std.specs.Prelude.{◌≡◌, ◌⊎◌}
+use Rattle.cborn_lex.proofs.Common.{ℕ, List, Mark, refl, inl, inr, take, BadEscape, Bad, marked, is_content, is_unclosed, IsText, content_of, of_quoted}
 use Rattle.cborn_lex.proofs.Sliced.Words.{string_ok}
 use Rattle.cborn_lex.proofs.Runs.{none_yet}
 use Rattle.cborn_lex.proofs.TwoParts.{string_appended}

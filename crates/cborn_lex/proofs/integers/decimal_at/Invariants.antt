@@ -1,4 +1,5 @@
-use Rattle.cborn_lex.proofs.Common.{◌≡◌, ◌≤◌, ◌<◌, ◌^◌, ◌-◌, true, take, length, list_all, is_digit, number}
+use Rattle.std.specs.Prelude.{◌≡◌, ◌≤◌, ◌<◌, ◌^◌, ◌-◌}
+use Rattle.cborn_lex.proofs.Common.{true, take, length, list_all, is_digit, number}
 use Rattle.cborn_lex.proofs.integers.decimal_at.Given as goal
 
 abbrev pub invariant-digits : goal.invariant-digits

@@ -1,4 +1,5 @@
-use Rattle.cborn_lex.proofs.Common.{◌≡◌, sym, ◌∙◌, subst, refl, [], take, drop, Front, mark_of, integer, number_front, ReadsNumber, front_view}
+use Rattle.std.specs.Prelude.{◌≡◌}
+use Rattle.cborn_lex.proofs.Common.{sym, ◌∙◌, subst, refl, [], take, drop, Front, mark_of, integer, number_front, ReadsNumber, front_view}
 use Rattle.cborn_lex.proofs.Sliced.Pieces.{number_made}
 use Rattle.cborn_lex.proofs.integers.number_at.Goals as goal
 

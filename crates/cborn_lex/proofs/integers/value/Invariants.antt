@@ -1,4 +1,5 @@
-use Rattle.cborn_lex.proofs.Common.{◌≡◌, ◌<◌, ◌^◌, drop, number}
+use Rattle.std.specs.Prelude.{◌≡◌, ◌<◌, ◌^◌}
+use Rattle.cborn_lex.proofs.Common.{drop, number}
 use Rattle.cborn_lex.proofs.integers.value.Given as goal
 
 abbrev pub invariant-loop-d : goal.invariant-loop-d

@@ -1,4 +1,5 @@
-use Rattle.cborn_lex.proofs.Common.{◌≡◌, ◌≤◌, ◌-◌, true, length, take, list_all, is_plain}
+use Rattle.std.specs.Prelude.{◌≡◌, ◌≤◌, ◌-◌}
+use Rattle.cborn_lex.proofs.Common.{true, length, take, list_all, is_plain}
 use Rattle.cborn_lex.proofs.letters.plain_run.Given as goal
 
 abbrev pub invariant-blocks-2 : goal.invariant-blocks-2

@@ -1,4 +1,5 @@
-use Rattle.cborn_lex.proofs.Common.{refl, take, rules, ◌∙◌, ap₂, ◌+◌, take-append-add, ap, ◌++◌, take-take}
+use Rattle.std.specs.Prelude.{◌+◌, ◌++◌}
+use Rattle.cborn_lex.proofs.Common.{refl, take, rules, ◌∙◌, ap₂, take-append-add, ap, take-take}
 use Rattle.cborn_lex.proofs.letters.push_block.Goals as goal
 
 pub returns-clause-written : goal.returns-clause-written

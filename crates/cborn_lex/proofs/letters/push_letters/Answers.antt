@@ -1,4 +1,5 @@
-use Rattle.cborn_lex.proofs.Common.{◌+◌, ◌<◌, length, arith}
+use Rattle.std.specs.Prelude.{◌+◌, ◌<◌}
+use Rattle.cborn_lex.proofs.Common.{length, arith}
 use Rattle.cborn_lex.proofs.Runs.{still, run_more, escape_more, escape_within, letters_end, none_at_end, none_at_control, none_at_escape}
 use Rattle.cborn_lex.proofs.letters.push_letters.Goals as goal
 

@@ -1,4 +1,5 @@
-use Rattle.cborn_lex.proofs.Common.{◌≡◌, ◌≤◌, ◌-◌, List, ℕ, length, take, LettersSoFar}
+use Rattle.std.specs.Prelude.{◌≡◌, ◌≤◌, ◌-◌}
+use Rattle.cborn_lex.proofs.Common.{List, ℕ, length, take, LettersSoFar}
 use Rattle.cborn_lex.proofs.letters.push_letters.Given as goal
 
 abbrev pub invariant-letters : goal.invariant-letters

@@ -1,4 +1,5 @@
-use Rattle.cborn_lex.proofs.Common.{◌≡◌, ◌≤◌, ◌+◌, ◌-◌, List, ℕ, length, take, drop, map, mask_l, is_special, LettersSoFar}
+use Rattle.std.specs.Prelude.{◌≡◌, ◌≤◌, ◌+◌, ◌-◌}
+use Rattle.cborn_lex.proofs.Common.{List, ℕ, length, take, drop, map, mask_l, is_special, LettersSoFar}
 use Rattle.cborn_lex.proofs.letters.push_short_runs.Given as goal
 
 abbrev pub invariant-escapes : goal.invariant-escapes

@@ -1,4 +1,5 @@
-use Rattle.cborn_lex.proofs.Common.{◌≡◌, ◌-◌, length, [], TokensBetween}
+use Rattle.std.specs.Prelude.{◌≡◌, ◌-◌}
+use Rattle.cborn_lex.proofs.Common.{length, [], TokensBetween}
 use Rattle.cborn_lex.proofs.lexer.next_token.Given as goal
 
 abbrev pub invariant-loop-place : goal.invariant-loop-place

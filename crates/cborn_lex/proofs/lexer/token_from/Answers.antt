@@ -1,4 +1,5 @@
-use Rattle.cborn_lex.proofs.Common.{subst, sym, ◌∙◌, ◌∷◌, [], Class, TokensBetween}
+use Rattle.std.specs.Prelude.{◌∷◌}
+use Rattle.cborn_lex.proofs.Common.{subst, sym, ◌∙◌, [], Class, TokensBetween}
 use Rattle.cborn_lex.proofs.TwoParts.{same_class}
 use Rattle.cborn_lex.proofs.lexer.token_from.Goals as goal
 

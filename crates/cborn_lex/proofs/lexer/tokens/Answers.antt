@@ -1,4 +1,5 @@
-use Rattle.cborn_lex.proofs.Common.{IsTokenFrom, subst, ◌∷◌, [], arith, append-nil, TokensBetween, HasNoTokens}
+use Rattle.std.specs.Prelude.{◌∷◌}
+use Rattle.cborn_lex.proofs.Common.{IsTokenFrom, subst, [], arith, append-nil, TokensBetween, HasNoTokens}
 use Rattle.cborn_lex.proofs.WholeTexts.Progress.{passed_on, nothing, joins, inside, few, whole_text, stops, whole_stop}
 use Rattle.cborn_lex.proofs.lexer.tokens.Goals as goal
 

@@ -1,4 +1,5 @@
-use Rattle.cborn_lex.proofs.Common.{◌≤◌, ◌-◌, length, TokensBetween}
+use Rattle.std.specs.Prelude.{◌≤◌, ◌-◌}
+use Rattle.cborn_lex.proofs.Common.{length, TokensBetween}
 use Rattle.cborn_lex.proofs.lexer.tokens.Given as goal
 
 abbrev pub invariant-tokens : goal.invariant-tokens

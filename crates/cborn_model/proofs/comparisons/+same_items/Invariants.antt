@@ -1,4 +1,5 @@
-use Rattle.cborn_model.proofs.Common.{ℕ, ◌<◌, ◌+◌, ◌*◌, max, map, get_or, Item, item_value, pair_value, HasPair, Same, values_of, pairs_of, height, height_all, height_pairs}
+use Rattle.std.specs.Prelude.{◌<◌, ◌+◌, ◌*◌}
+use Rattle.cborn_model.proofs.Common.{ℕ, max, map, get_or, Item, item_value, pair_value, HasPair, Same, values_of, pairs_of, height, height_all, height_pairs}
 use Rattle.cborn_model.proofs.comparisons.+same_items.Given as goal
 
 abbrev pub invariant-same_arrays-loop-i : goal.invariant-same_arrays-loop-i

@@ -1,4 +1,5 @@
-use Rattle.cborn_model.proofs.Common.{rules, ◌≡◌, ◌↔◌, IsTrue}
+use Rattle.std.specs.Prelude.{◌≡◌, ◌↔◌}
+use Rattle.cborn_model.proofs.Common.{rules, IsTrue}
 use Rattle.cborn_model.proofs.Numbers.OneMagnitude.{equal_magnitudes}
 use Rattle.cborn_model.proofs.comparisons.same_magnitudes.Goals as goal
 

@@ -1,4 +1,5 @@
-use Rattle.cborn_model.proofs.Common.{◌≡◌, length, big_endian}
+use Rattle.std.specs.Prelude.{◌≡◌}
+use Rattle.cborn_model.proofs.Common.{length, big_endian}
 use Rattle.cborn_model.proofs.magnitudes.without_zeros.Given as goal
 
 abbrev pub invariant-loop-rest : goal.invariant-loop-rest

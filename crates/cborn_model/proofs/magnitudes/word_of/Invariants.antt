@@ -1,4 +1,5 @@
-use Rattle.cborn_model.proofs.Common.{◌≡◌, ◌+◌, ◌*◌, ◌^◌, drop, length, big_endian}
+use Rattle.std.specs.Prelude.{◌≡◌, ◌+◌, ◌*◌, ◌^◌}
+use Rattle.cborn_model.proofs.Common.{drop, length, big_endian}
 use Rattle.cborn_model.proofs.magnitudes.word_of.Given as goal
 
 abbrev pub invariant-loop-byte : goal.invariant-loop-byte

@@ -1,4 +1,5 @@
-use Rattle.cborn_model.proofs.Common.{◌≡◌, ◌+◌, ◌-◌, ◌*◌, ◌^◌, min, take, trees, entries, depth, depth_all, depth_entries}
+use Rattle.std.specs.Prelude.{◌≡◌, ◌+◌, ◌-◌, ◌*◌, ◌^◌}
+use Rattle.cborn_model.proofs.Common.{min, take, trees, entries, depth, depth_all, depth_entries}
 use Rattle.cborn_model.proofs.spellings.+depth.Given as goal
 
 abbrev pub invariant-items_depth-loop-item : goal.invariant-items_depth-loop-item

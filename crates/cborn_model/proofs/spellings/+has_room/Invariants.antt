@@ -1,4 +1,5 @@
-use Rattle.cborn_model.proofs.Common.{◌+◌, ◌*◌, trees, entries, depth, depth_all, depth_entries, Fits}
+use Rattle.std.specs.Prelude.{◌+◌, ◌*◌}
+use Rattle.cborn_model.proofs.Common.{trees, entries, depth, depth_all, depth_entries, Fits}
 use Rattle.cborn_model.proofs.Listed.Fitting.{Front, PairFits}
 use Rattle.cborn_model.proofs.spellings.+has_room.Given as goal
 

@@ -1,4 +1,5 @@
-use Rattle.cborn_model.proofs.Common.{ℕ, ◌<◌, ◌+◌, ◌*◌, map, get_or, Item, item_value, pair_value, values_of, pairs_of, height, height_all, height_pairs}
+use Rattle.std.specs.Prelude.{◌<◌, ◌+◌, ◌*◌}
+use Rattle.cborn_model.proofs.Common.{ℕ, map, get_or, Item, item_value, pair_value, values_of, pairs_of, height, height_all, height_pairs}
 use Rattle.cborn_model.proofs.SameItems.Comparing.{IsProperItem, IsProperPair}
 use Rattle.cborn_model.proofs.validity.+is_proper.Given as goal
 

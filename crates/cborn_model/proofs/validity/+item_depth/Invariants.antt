@@ -1,4 +1,5 @@
-use Rattle.cborn_model.proofs.Common.{◌≡◌, ◌+◌, ◌-◌, ◌*◌, ◌^◌, min, map, take, item_value, pair_value, values_of, pairs_of, height, height_all, height_pairs, values_depth, pairs_depth}
+use Rattle.std.specs.Prelude.{◌≡◌, ◌+◌, ◌-◌, ◌*◌, ◌^◌}
+use Rattle.cborn_model.proofs.Common.{min, map, take, item_value, pair_value, values_of, pairs_of, height, height_all, height_pairs, values_depth, pairs_depth}
 use Rattle.cborn_model.proofs.validity.+item_depth.Given as goal
 
 abbrev pub invariant-items_depth-loop-item : goal.invariant-items_depth-loop-item

@@ -1,4 +1,5 @@
-use Rattle.cborn_model.proofs.Common.{◌↔◌, map, length, pair_value, pairs_of, HasNewKeys, HasProperPairs}
+use Rattle.std.specs.Prelude.{◌↔◌}
+use Rattle.cborn_model.proofs.Common.{map, length, pair_value, pairs_of, HasNewKeys, HasProperPairs}
 use Rattle.cborn_model.proofs.validity.has_new_keys.Given as goal
 
 abbrev pub invariant-loop-rest : goal.invariant-loop-rest

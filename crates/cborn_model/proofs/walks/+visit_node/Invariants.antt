@@ -1,4 +1,5 @@
-use Rattle.cborn_model.proofs.Common.{◌+◌, ◌*◌, length, take, trees, entries, depth, depth_all, depth_entries, Partial, inside, an_array, a_map, no_part, IsFree, flat, count_of}
+use Rattle.std.specs.Prelude.{◌+◌, ◌*◌}
+use Rattle.cborn_model.proofs.Common.{length, take, trees, entries, depth, depth_all, depth_entries, Partial, inside, an_array, a_map, no_part, IsFree, flat, count_of}
 use Rattle.cborn_model.proofs.walks.+visit_node.Given as goal
 
 abbrev pub invariant-visit_array-loop-item : goal.invariant-visit_array-loop-item

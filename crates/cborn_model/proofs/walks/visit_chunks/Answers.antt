@@ -1,10 +1,6 @@
 use Rattle.cborn_model.proofs.Common.{arith, subst, map, take_all, inside, in_chunks, no_part, string_of}
-use Rattle.cborn_model.proofs.Listed.Fitting.{chunk_fits_at}
 use Rattle.cborn_model.proofs.HandedOver.{chunk_over, chunks_over, on_ok}
 use Rattle.cborn_model.proofs.walks.visit_chunks.Goals as goal
-
-pub string-requires : goal.string-requires
-string-requires g c = rw c.as_slice.ensures.same (chunk_fits_at c.args.chunks.now c.loop-chunk.chunk-index c.chunk-item.result (omega arith) c.chunk-item.is c.requires).0
 
 pub loop-chunk-preserved : goal.loop-chunk-preserved
 loop-chunk-preserved g c = λ f free old.

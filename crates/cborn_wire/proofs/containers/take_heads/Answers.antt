@@ -1,12 +1,13 @@
-use Rattle.cborn_wire.proofs.Common.{refl, ◌+◌, ◌++◌, ◌<◌, ◌≤◌, arith, ap, length, take, length-append, length-take-le, TakesHead}
+use Rattle.std.specs.Prelude.{◌++◌, ◌≤◌}
+use Rattle.cborn_wire.proofs.Common.{arith, ap, length, take, length-append, length-take-le}
 use Rattle.cborn_model.proofs.Bytes.{are_bytes}
 use Rattle.cborn_wire.proofs.Visiting.Heads.{still_open, front_heads, more_heads, heads_go_on}
 use Rattle.cborn_wire.proofs.Visiting.Pieces.{next_cut}
 use Rattle.cborn_wire.proofs.Visiting.Taking.{room}
 use Rattle.cborn_wire.proofs.containers.take_heads.Goals as goal
 
-pub take_leaves_or_container-requires-clause-room : goal.take_leaves_or_container-requires-clause-room
-take_leaves_or_container-requires-clause-room g c =
+pub take_whole-requires-clause-room : goal.take_whole-requires-clause-room
+take_whole-requires-clause-room g c =
     let (f, base, held, keeps, from) = c.requires.here in
     let (y, cut, at, none, goes) = c.heads.invariant in
     let (h, now, kept, same, is) = goes f base held keeps from in
@@ -41,14 +42,14 @@ returns-then-len-eq0-clause-goes g c = λ f base held keeps from some.
     let (y, cut, at, none, goes) = c.heads.invariant in
     let (h, now, kept, same, is) = goes f base held keeps from in
     let left = c.in_ok-len.ensures.none c.if-len-eq0.true in
-    front_heads c.args.limit c.args.place f c.args.piece.now y c.heads.rest.now cut c.heads.at at h same is (g.V.Visitor.holds c.take_leaves_or_container.new.visitor) (g.L.Levels.outer c.take_leaves_or_container.new.levels) (g.L.Levels.inner c.take_leaves_or_container.new.levels) (rw left.0 now) (rw left.1 kept)
+    front_heads c.args.limit c.args.place f c.args.piece.now y c.heads.rest.now cut c.heads.at at h same is (g.V.Visitor.holds c.take_whole.new.visitor) (g.L.Levels.outer c.take_whole.new.levels) (g.L.Levels.inner c.take_whole.new.levels) (rw left.0 now) (rw left.1 kept)
 
 pub returns-then-count-eq0-clause-goes : goal.returns-then-count-eq0-clause-goes
 returns-then-count-eq0-clause-goes g c = λ f base held keeps from some.
     let (y, cut, at, none, goes) = c.heads.invariant in
     let (h, now, kept, same, is) = goes f base held keeps from in
     let all = still_open c.args.limit c.args.place f c.args.piece.now y c.heads.rest.now cut c.heads.at at h same is base (are_bytes c.args.piece.now c.type_inv.piece) from in
-    let new = c.take_leaves_or_container.new in
+    let new = c.take_whole.new in
     more_heads c.args.limit c.args.place f c.args.piece.now y c.heads.rest.now cut c.heads.at at h same is (g.V.Visitor.holds new.visitor) (g.L.Levels.outer new.levels) (g.L.Levels.inner new.levels) c.in_ok-len.len (c.in_ok-len.ensures.goes h now kept all (omega (arith, c.if-len-eq0.false)))
 
 pub returns-clause-goes : goal.returns-clause-goes
@@ -62,7 +63,7 @@ heads-preserved g c =
     let (y, cut, at, none, goes) = c.heads.invariant in
     let rest = c.heads.rest.now in
     let n = c.in_ok-len.len in
-    let new = c.take_leaves_or_container.new in
+    let new = c.take_whole.new in
     let (f0, base0, held0, keeps0, from0) = c.requires.here in
     let (h0, now0, kept0, same0, is0) = goes f0 base0 held0 keeps0 from0 in
     let all0 = still_open c.args.limit c.args.place f0 c.args.piece.now y rest cut c.heads.at at h0 same0 is0 base0 (are_bytes c.args.piece.now c.type_inv.piece) from0 in

@@ -1,4 +1,5 @@
-use Rattle.cborn_wire.proofs.Common.{◌≡◌, ◌+◌, ◌++◌, ℕ, List, length, Partial, no_part, IsReached, run, ready, state, Keeps}
+use Rattle.std.specs.Prelude.{◌≡◌, ◌+◌, ◌++◌}
+use Rattle.cborn_wire.proofs.Common.{ℕ, List, length, Partial, no_part, IsReached, run, ready, state, Keeps}
 use Rattle.cborn_wire.proofs.containers.take_heads.Given as goal
 
 -- A front of the piece was taken, and no item of the input became whole in it.

@@ -1,4 +1,5 @@
-use Rattle.cborn_wire.proofs.Common.{◌≡◌, ℕ, List, ◌++◌, length, IsMoved}
+use Rattle.std.specs.Prelude.{◌≡◌, ◌++◌}
+use Rattle.cborn_wire.proofs.Common.{ℕ, List, length, IsMoved}
 use Rattle.cborn_wire.proofs.feeders.read_piece.Given as goal
 
 abbrev pub invariant-loop-rest : goal.invariant-loop-rest

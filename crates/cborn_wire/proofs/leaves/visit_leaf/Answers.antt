@@ -1,4 +1,5 @@
-use Rattle.cborn_wire.proofs.Common.{subst, ap, ◌∙◌, ◌/◌, arith, on_ok_weaker, no_part, put, string_tree}
+use Rattle.std.specs.Prelude.{◌/◌}
+use Rattle.cborn_wire.proofs.Common.{subst, ap, ◌∙◌, arith, on_ok_weaker, no_part, put, string_tree}
 use Rattle.cborn_wire.proofs.Visiting.Leaves.{bytes_are, text_is, string_free}
 use Rattle.cborn_wire.proofs.leaves.visit_leaf.Goals as goal
 use Rattle.cborn_wire.proofs.leaves.visit_leaf.Goals.{then-head-lt96, else-head-lt96}

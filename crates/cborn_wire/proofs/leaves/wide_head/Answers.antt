@@ -1,4 +1,5 @@
-use Rattle.cborn_wire.proofs.Common.{◌≡◌, ◌+◌, ◌%◌, ◌<◌, sym, subst, Next, info_at, IsGiven}
+use Rattle.std.specs.Prelude.{◌≡◌, ◌+◌, ◌%◌, ◌<◌}
+use Rattle.cborn_wire.proofs.Common.{sym, subst, Next, info_at, IsGiven}
 use Rattle.cborn_wire.proofs.Visiting.Leaves.{given_wide}
 use Rattle.cborn_wire.proofs.leaves.wide_head.Goals as goal
 

@@ -1,4 +1,5 @@
-use Rattle.cborn_wire.proofs.Common.{◌-◌, ◌≡◌, ◌+◌, arith, ◌∙◌}
+use Rattle.std.specs.Prelude.{◌-◌, ◌≡◌, ◌+◌}
+use Rattle.cborn_wire.proofs.Common.{arith, ◌∙◌}
 use Rattle.cborn_wire.proofs.Shifting.{moved}
 use Rattle.cborn_wire.proofs.placed_heads.make_room.Goals as goal
 

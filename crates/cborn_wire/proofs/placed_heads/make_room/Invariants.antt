@@ -1,4 +1,5 @@
-use Rattle.cborn_wire.proofs.Common.{◌≡◌, ◌≤◌, ◌+◌, ◌-◌, length, take, drop}
+use Rattle.std.specs.Prelude.{◌≡◌, ◌≤◌, ◌+◌, ◌-◌}
+use Rattle.cborn_wire.proofs.Common.{length, take, drop}
 use Rattle.cborn_wire.proofs.placed_heads.make_room.Given as goal
 
 -- the bytes before the offset end are where they were, and the rest is moved

@@ -1,4 +1,5 @@
-use Rattle.cborn_wire.proofs.Common.{◌+◌, ◌++◌, ◌<◌, [], ◌∷◌, length, take, ap, subst, sym, ◌∙◌, arith, length-append, AreShortIntegers}
+use Rattle.std.specs.Prelude.{◌+◌, ◌++◌, ◌<◌, ◌∷◌}
+use Rattle.cborn_wire.proofs.Common.{[], length, take, ap, subst, sym, ◌∙◌, arith, length-append, AreShortIntegers}
 use Rattle.cborn_wire.proofs.ShortIntegers.{integers_more}
 use Rattle.cborn_wire.proofs.Visiting.Pieces.{next_cut, all_taken}
 use Rattle.cborn_wire.proofs.short_integers.integers_at.Goals as goal

@@ -1,4 +1,5 @@
-use Rattle.cborn_wire.proofs.Common.{◌≡◌, ◌-◌, ◌≤◌, ◌++◌, ℕ, List, length, Tree, AreShortIntegers}
+use Rattle.std.specs.Prelude.{◌≡◌, ◌-◌, ◌≤◌, ◌++◌}
+use Rattle.cborn_wire.proofs.Common.{ℕ, List, length, Tree, AreShortIntegers}
 use Rattle.cborn_wire.proofs.short_integers.integers_at.Given as goal
 
 -- as many integers as were counted are at the front

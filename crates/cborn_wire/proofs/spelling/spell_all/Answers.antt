@@ -1,4 +1,5 @@
-use Rattle.cborn_wire.proofs.Common.{[], ◌∷◌, ◌++◌, sym, ap, ◌∙◌, subst, take, take_more, top, no_part, IsWritten}
+use Rattle.std.specs.Prelude.{◌∷◌, ◌++◌}
+use Rattle.cborn_wire.proofs.Common.{[], sym, ap, ◌∙◌, subst, take, take_more, top, no_part, IsWritten}
 use Rattle.cborn_wire.proofs.spelling.spell_all.Goals as goal
 
 pub loop-item-preserved : goal.loop-item-preserved

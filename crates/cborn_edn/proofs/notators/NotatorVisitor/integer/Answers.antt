@@ -1,4 +1,5 @@
-use Rattle.cborn_edn.proofs.Common.{sym, ap, ◌∙◌, ◌++◌, subst, integer_tree, shown, after, IsCounted}
+use Rattle.std.specs.Prelude.{◌++◌}
+use Rattle.cborn_edn.proofs.Common.{sym, ap, ◌∙◌, subst, integer_tree, shown, after, IsCounted}
 use Rattle.cborn_edn.proofs.Notating.{noted, put_held, good_integer}
 use Rattle.cborn_edn.proofs.notators.NotatorVisitor.integer.Goals.{then-is_none+in_ok-begin+in_ok-push_integer, else-is_none}
 use Rattle.cborn_edn.proofs.notators.NotatorVisitor.integer.Goals as goal

@@ -1,4 +1,5 @@
-use Rattle.cborn_edn.proofs.Common.{refl, sym, ap, ◌∙◌, ◌++◌, subst, a_tag, beginning, IsCounted}
+use Rattle.std.specs.Prelude.{◌++◌}
+use Rattle.cborn_edn.proofs.Common.{refl, sym, ap, ◌∙◌, subst, a_tag, beginning, IsCounted}
 use Rattle.cborn_edn.proofs.Notating.{noted, entered_held}
 use Rattle.cborn_edn.proofs.notators.NotatorVisitor.open_tag.Goals.{then-is_none+in_ok-begin+in_ok-push_tag, else-is_none}
 use Rattle.cborn_edn.proofs.notators.NotatorVisitor.open_tag.Goals as goal

@@ -1,4 +1,5 @@
-use Rattle.cborn_edn.proofs.Common.{sym, ap, ◌∙◌, ◌++◌, subst, Simple, shown, after, IsCounted}
+use Rattle.std.specs.Prelude.{◌++◌}
+use Rattle.cborn_edn.proofs.Common.{sym, ap, ◌∙◌, subst, Simple, shown, after, IsCounted}
 use Rattle.cborn_edn.proofs.Notating.{noted, put_held}
 use Rattle.cborn_edn.proofs.notators.NotatorVisitor.simple.Goals.{then-is_none+in_ok-begin+in_ok-push_simple, else-is_none}
 use Rattle.cborn_edn.proofs.notators.NotatorVisitor.simple.Goals as goal

@@ -1,4 +1,5 @@
-use Rattle.cborn_edn.proofs.Common.{◌∙◌, sym, ◌-◌, ◌+◌, ◌≡◌, ◌<◌, arith, take, length, reverse}
+use Rattle.std.specs.Prelude.{◌-◌, ◌+◌, ◌≡◌, ◌<◌}
+use Rattle.cborn_edn.proofs.Common.{◌∙◌, sym, arith, take, length, reverse}
 use Rattle.cborn_edn.proofs.Lemmas.{reverse-at, reverse-set, on_ok, taken}
 use Rattle.cborn_edn.proofs.spellers.Spellers.hand.Goals as goal
 

@@ -1,4 +1,5 @@
-use Rattle.cborn_edn.proofs.Common.{◌∙◌, ap, ◌∷◌, ◌+◌, refl, List, Speller, reverse}
+use Rattle.std.specs.Prelude.{◌∷◌, ◌+◌}
+use Rattle.cborn_edn.proofs.Common.{◌∙◌, ap, refl, List, Speller, reverse}
 use Rattle.cborn_edn.proofs.Reader.Opened.{reverse-set}
 use Rattle.cborn_edn.proofs.spellers.Spellers.open.Goals as goal
 

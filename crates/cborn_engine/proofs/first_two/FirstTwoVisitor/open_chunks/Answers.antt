@@ -1,5 +1,4 @@
-use Rattle.cborn_engine.proofs.Common.{refl, in_chunks}
-use Rattle.cborn_model.proofs.HandedOver.{on_ok}
+use Rattle.cborn_engine.proofs.Common.{refl, in_chunks, on_ok}
 use Rattle.cborn_engine.proofs.first_two.FirstTwoVisitor.open_chunks.Goals as goal
 
 pub returns-clause-held : goal.returns-clause-held

@@ -1,7 +1,5 @@
-use Rattle.cborn_engine.proofs.Common.{sym, subst, Fault}
-use Rattle.cborn_wire.specs.declared.faults.WireReason.TheVariants.{Truncated}
-use Rattle.cborn_judge.proofs.FirstFlaw.Sequences.{first_refusal, placed_apart}
-use Rattle.cborn_engine.proofs.Answers.Checked.{found_in_sequence}
+use Rattle.cborn_engine.proofs.Common.{sym, subst, Fault, Truncated, first_refusal, placed_apart}
+use Rattle.cborn_engine.proofs.Answers.{found_in_sequence}
 use Rattle.cborn_engine.proofs.Streams.Judging.{refused, ended, cut_off}
 use Rattle.cborn_engine.proofs.piece_judges.PieceJudge.finish.Goals as goal
 

@@ -1,9 +1,6 @@
-use Rattle.cborn_engine.proofs.Common.{rules, ◌≡◌, ◌++◌, None, Err, sym, ◌∙◌, subst, arith, Refused}
-use Rattle.cborn_model.proofs.Bytes.{bytes-append, are_bytes}
-use Rattle.cborn_judge.specs.devices.Encoders.{IsHeld}
+use Rattle.std.specs.Prelude.{◌≡◌, ◌++◌}
+use Rattle.cborn_engine.proofs.Common.{rules, None, Err, sym, ◌∙◌, subst, arith, Refused, bytes-append, are_bytes, IsHeld, refused, HasJudged}
 use Rattle.cborn_wire.specs.shared.Visiting.{Reads}
-use Rattle.cborn_wire.proofs.Visiting.Ending.{refused}
-use Rattle.cborn_engine.specs.devices.Judging.{HasJudged}
 use Rattle.cborn_engine.proofs.Streams.Judging.{stays}
 use Rattle.cborn_engine.proofs.piece_judges.PieceJudge.take.Goals as goal
 

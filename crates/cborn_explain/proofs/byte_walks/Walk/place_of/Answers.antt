@@ -1,4 +1,5 @@
-use Rattle.cborn_explain.proofs.Common.{◌<◌, length, sym, ap, ◌∙◌, ltb-true, Level, place_at}
+use Rattle.std.specs.Prelude.{◌<◌}
+use Rattle.cborn_explain.proofs.Common.{length, sym, ap, ◌∙◌, ltb-true, Level, place_at}
 use Rattle.cborn_explain.proofs.Walking.Levels.{place_there, place_beyond}
 use Rattle.cborn_explain.proofs.byte_walks.Walk.place_of.Goals as goal
 

@@ -1,6 +1,5 @@
-use Rattle.cborn_judge.proofs.Common.{rules, ◌≡◌, ℕ, List, Option, None, Some, refl, subst, Ordering, Tree, trees, top, FindsFlaw, FindsDefect, Finds}
-use Rattle.cborn_judge.specs.shared.Checked.{DefectInAll}
-use Rattle.cborn_judge.specs.shared.Judged.{FlawIn}
+use Rattle.std.specs.Prelude.{◌≡◌}
+use Rattle.cborn_judge.proofs.Common.{rules, ℕ, List, Option, None, Some, refl, subst, Ordering, Tree, trees, top, FindsFlaw, FindsDefect, Finds, DefectInAll, FlawIn}
 use Rattle.cborn_judge.specs.declared.defects.Defect.{Defect}
 use Rattle.cborn_judge.specs.declared.flaws.Flaw.{Flaw}
 use Rattle.cborn_judge.proofs.encoders.Encoder.departs.Goals as goal

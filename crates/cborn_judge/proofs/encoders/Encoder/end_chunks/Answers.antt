@@ -1,6 +1,5 @@
-use Rattle.cborn_judge.proofs.Common.{refl}
-use Rattle.cborn_model.proofs.HandedOver.{on_ok}
-use Rattle.cborn_judge.proofs.Encoding.EndsWell.{unmarked_ended}
+use Rattle.cborn_judge.proofs.Common.{refl, on_ok}
+use Rattle.cborn_judge.proofs.Encoding.Ends.{unmarked_ended}
 use Rattle.cborn_judge.proofs.encoders.Encoder.end_chunks.Goals as goal
 
 pub returns : goal.returns

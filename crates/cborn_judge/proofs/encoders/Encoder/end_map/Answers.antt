@@ -1,5 +1,4 @@
-use Rattle.cborn_judge.proofs.Common.{ℕ, List, drop, sym, ap, ◌∙◌, subst, not, Option, inside, Mark, FindsDescent, Stands, AreAllHinted}
-use Rattle.cborn_model.proofs.HandedOver.{on_ok}
+use Rattle.cborn_judge.proofs.Common.{ℕ, List, drop, sym, ap, ◌∙◌, subst, not, Option, inside, Mark, FindsDescent, Stands, AreAllHinted, on_ok}
 use Rattle.cborn_judge.specs.declared.defects.Defect.{Defect}
 use Rattle.cborn_judge.proofs.Encoding.PairsMet.{none_of}
 use Rattle.cborn_judge.proofs.encoders.Encoder.end_map.Goals as goal
@@ -15,9 +14,6 @@ pub returns-then-is_none : goal.returns-then-is_none
 returns-then-is_none g c =
     let e = c.args.self.now.encodings in
     record { held = on_ok c.end_rising.result (λ held f o ts free ends old. held f o ts free ends (subst (λ (ms : List Mark). Stands g.O.KeyOrder.order e.outer.items e.innermost (inside f o ts) ms e.out.items) (sym c.descent-descent.ensures.kept) old.0, old.1)) c.end_rising.ensures.held }
-
-pub end_unsorted-requires-clause-hinted : goal.end_unsorted-requires-clause-hinted
-end_unsorted-requires-clause-hinted g c = subst (λ (b : List ℕ). AreAllHinted g.O.KeyOrder.order b c.args.self.now.encodings.innermost.pairs c.descent-descent.new.self.marks) c.deref.ensures.value c.descent-descent.ensures.hinted
 
 pub end_unsorted-requires-clause-descent : goal.end_unsorted-requires-clause-descent
 end_unsorted-requires-clause-descent g c =

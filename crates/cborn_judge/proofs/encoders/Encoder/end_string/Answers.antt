@@ -1,4 +1,4 @@
-use Rattle.cborn_model.proofs.HandedOver.{on_ok}
+use Rattle.cborn_judge.proofs.Common.{on_ok}
 use Rattle.cborn_judge.proofs.Encoding.Leaves.{finds_string}
 use Rattle.cborn_judge.proofs.encoders.Encoder.end_string.Goals as goal
 

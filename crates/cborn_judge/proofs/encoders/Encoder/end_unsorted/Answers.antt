@@ -1,6 +1,5 @@
-use Rattle.cborn_judge.proofs.Common.{ap, ◌∙◌}
-use Rattle.cborn_model.proofs.HandedOver.{on_ok}
-use Rattle.cborn_judge.proofs.Encoding.EndsWell.{map_ended}
+use Rattle.cborn_judge.proofs.Common.{ap, ◌∙◌, on_ok}
+use Rattle.cborn_judge.proofs.Encoding.Ends.{map_ended}
 use Rattle.cborn_judge.proofs.encoders.Encoder.end_unsorted.Goals as goal
 
 pub returns : goal.returns

@@ -1,6 +1,5 @@
-use Rattle.cborn_model.proofs.HandedOver.{on_ok}
 use Rattle.cborn_judge.proofs.Encoding.Finding.{finds_close}
-use Rattle.cborn_judge.proofs.Common.{sym, subst, defect_rank, IsEarliestDefect}
+use Rattle.cborn_judge.proofs.Common.{sym, subst, defect_rank, IsEarliestDefect, on_ok}
 use Rattle.cborn_judge.proofs.Encoding.PairsHinted.{none_first}
 use Rattle.cborn_judge.proofs.encoders.Encoder.leave.Goals as goal
 use Rattle.cborn_judge.proofs.encoders.Encoder.leave.Goals.{in_default-via-in-Some+else-may_precede, in_default-via-in_default}

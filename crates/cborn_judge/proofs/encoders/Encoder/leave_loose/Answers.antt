@@ -1,6 +1,5 @@
-use Rattle.cborn_model.proofs.HandedOver.{on_ok}
 use Rattle.cborn_judge.proofs.Encoding.Finding.{finds_close}
-use Rattle.cborn_judge.proofs.Common.{sym, subst, IsEarliestDefect}
+use Rattle.cborn_judge.proofs.Common.{sym, subst, IsEarliestDefect, on_ok}
 use Rattle.cborn_judge.proofs.encoders.Encoder.leave_loose.Goals as goal
 
 pub returns : goal.returns

@@ -1,4 +1,5 @@
-use Rattle.cborn_judge.proofs.Common.{rules, ◌≡◌, ◌++◌, ◌∷◌, [], length, refl, ap, ◌∙◌, false, subst, inside, code, IsLeastHead, Appends, Level, marks_of}
+use Rattle.std.specs.Prelude.{◌≡◌, ◌++◌, ◌∷◌}
+use Rattle.cborn_judge.proofs.Common.{rules, [], length, refl, ap, ◌∙◌, false, subst, inside, code, IsLeastHead, Appends, Level, marks_of}
 use Rattle.cborn_judge.proofs.Encoding.Finding.{finds_open}
 use Rattle.cborn_judge.proofs.Encoding.Fronts.{front_there}
 use Rattle.cborn_judge.proofs.Encoding.Standing.{stands_open, stands_same}

@@ -1,5 +1,5 @@
 use Rattle.cborn_judge.proofs.Common.{arith, drop, marks_of}
-use Rattle.cborn_judge.proofs.Encoding.MapsEnding.{few_rise}
+use Rattle.cborn_judge.proofs.Encoding.Ends.{few_rise}
 use Rattle.cborn_judge.proofs.encoders.EncoderVisitor.close.Goals as goal
 
 pub end_rising-requires-clause-rising : goal.end_rising-requires-clause-rising

@@ -1,5 +1,5 @@
-use Rattle.cborn_judge.proofs.Common.{◌≡◌, ◌++◌, length, ap, ◌∙◌, sym, subst, Some, IsTrue, ◌↔◌, string_tree, put, no_part, TakesString, IsContent, IsHeld, Written, OpenString}
-use Rattle.cborn_model.proofs.HandedOver.{on_ok}
+use Rattle.std.specs.Prelude.{◌≡◌, ◌++◌, ◌↔◌}
+use Rattle.cborn_judge.proofs.Common.{length, ap, ◌∙◌, sym, subst, Some, IsTrue, string_tree, put, no_part, TakesString, IsContent, IsHeld, Written, OpenString, on_ok}
 use Rattle.cborn_judge.proofs.encoders.EncoderVisitor.close_string.Goals as goal
 
 pub returns-clause-held : goal.returns-clause-held

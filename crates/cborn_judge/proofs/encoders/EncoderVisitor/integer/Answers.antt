@@ -1,5 +1,5 @@
-use Rattle.cborn_judge.proofs.Common.{rules, ◌≡◌, inl, length, subst, IsLeastHead, integer_tree}
-use Rattle.cborn_model.proofs.HandedOver.{on_ok}
+use Rattle.std.specs.Prelude.{◌≡◌}
+use Rattle.cborn_judge.proofs.Common.{rules, inl, length, subst, IsLeastHead, integer_tree, on_ok}
 use Rattle.cborn_judge.proofs.Encoding.Leaves.{integer_encoded, integer_place, finds_integer}
 use Rattle.cborn_judge.proofs.encoders.EncoderVisitor.integer.Goals as goal
 

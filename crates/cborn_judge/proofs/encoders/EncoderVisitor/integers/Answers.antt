@@ -1,4 +1,4 @@
-use Rattle.cborn_judge.proofs.Encoding.ShortLeaves.{short_encoded, finds_short}
+use Rattle.cborn_judge.proofs.Encoding.Leaves.{short_encoded, finds_short}
 use Rattle.cborn_judge.proofs.encoders.EncoderVisitor.integers.Goals as goal
 
 pub returns-clause-taken : goal.returns-clause-taken

@@ -1,5 +1,4 @@
-use Rattle.cborn_judge.proofs.Common.{refl, an_array}
-use Rattle.cborn_model.proofs.HandedOver.{on_ok}
+use Rattle.cborn_judge.proofs.Common.{refl, an_array, on_ok}
 use Rattle.cborn_judge.proofs.encoders.EncoderVisitor.open_array.Goals as goal
 
 pub returns-clause-held : goal.returns-clause-held

@@ -1,5 +1,4 @@
-use Rattle.cborn_judge.proofs.Common.{refl, a_tag}
-use Rattle.cborn_model.proofs.HandedOver.{on_ok}
+use Rattle.cborn_judge.proofs.Common.{refl, a_tag, on_ok}
 use Rattle.cborn_judge.proofs.encoders.EncoderVisitor.open_tag.Goals as goal
 
 pub returns-clause-held : goal.returns-clause-held

@@ -1,6 +1,6 @@
-use Rattle.cborn_judge.proofs.Common.{rules, ◌+◌, take, drop, subst, IsTrue, IsUtf8, put}
-use Rattle.cborn_judge.proofs.Encoding.Leaves.{finds_fine}
-use Rattle.cborn_judge.proofs.Encoding.ShortLeaves.{short_leaf}
+use Rattle.std.specs.Prelude.{◌+◌}
+use Rattle.cborn_judge.proofs.Common.{rules, take, drop, subst, IsTrue, IsUtf8, put}
+use Rattle.cborn_judge.proofs.Encoding.Leaves.{finds_fine, short_leaf}
 use Rattle.cborn_judge.proofs.encoders.EncoderVisitor.pair.Goals as goal
 
 pub returns-clause-taken : goal.returns-clause-taken

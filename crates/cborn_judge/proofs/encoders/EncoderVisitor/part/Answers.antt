@@ -1,6 +1,5 @@
-use Rattle.cborn_judge.proofs.Common.{refl}
-use Rattle.cborn_model.proofs.Bytes.{are_bytes}
-use Rattle.cborn_judge.proofs.Encoding.Strings.{written_more}
+use Rattle.cborn_judge.proofs.Common.{refl, are_bytes}
+use Rattle.cborn_judge.proofs.Encoding.Leaves.{written_more}
 use Rattle.cborn_judge.proofs.encoders.EncoderVisitor.part.Goals as goal
 
 pub returns-clause-held : goal.returns-clause-held

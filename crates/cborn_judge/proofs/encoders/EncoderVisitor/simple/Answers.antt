@@ -1,5 +1,5 @@
-use Rattle.cborn_judge.proofs.Common.{rules, ◌≡◌, inl, length, refl, subst, IsLeastHead, Simple}
-use Rattle.cborn_model.proofs.HandedOver.{on_ok}
+use Rattle.std.specs.Prelude.{◌≡◌}
+use Rattle.cborn_judge.proofs.Common.{rules, inl, length, refl, subst, IsLeastHead, Simple, on_ok}
 use Rattle.cborn_judge.proofs.Encoding.Leaves.{simple_encoded, finds_simple}
 use Rattle.cborn_judge.proofs.encoders.EncoderVisitor.simple.Goals as goal
 

@@ -1,7 +1,6 @@
-use Rattle.cborn_judge.proofs.Common.{◌≡◌, [], length, refl, sym, subst, IsTrue, ◌↔◌, string_tree, put, no_part, TakesString, Finds, IsContent, IsHeld}
-use Rattle.cborn_model.proofs.Bytes.{are_bytes}
-use Rattle.cborn_model.proofs.HandedOver.{on_ok}
-use Rattle.cborn_judge.proofs.Encoding.Strings.{written_more}
+use Rattle.std.specs.Prelude.{◌≡◌, ◌↔◌}
+use Rattle.cborn_judge.proofs.Common.{[], length, refl, sym, subst, IsTrue, string_tree, put, no_part, TakesString, Finds, IsContent, IsHeld, are_bytes, on_ok}
+use Rattle.cborn_judge.proofs.Encoding.Leaves.{written_more}
 use Rattle.cborn_judge.proofs.encoders.EncoderVisitor.string.Goals as goal
 
 pub returns-clause-held : goal.returns-clause-held

@@ -1,5 +1,6 @@
-use Rattle.cborn_judge.proofs.Common.{Bool, ◌≡◌, ◌++◌, ◌+◌, ◌<◌, length, take, drop, append_assoc, length-append, sym, ap, ◌∙◌, subst, ◌||◌, is_some, IsLeastHead, Replaces, joined, row_entries, AreMarked, IsSound, marks_of}
-use Rattle.cborn_judge.proofs.Encoding.MapsEnding.{ended, length_marked, flaw_found, defect_found}
+use Rattle.std.specs.Prelude.{◌≡◌, ◌++◌, ◌+◌, ◌<◌, ◌||◌}
+use Rattle.cborn_judge.proofs.Common.{Bool, length, take, drop, append_assoc, length-append, sym, ap, ◌∙◌, subst, is_some, IsLeastHead, Replaces, joined, row_entries, AreMarked, IsSound, marks_of}
+use Rattle.cborn_judge.proofs.Encoding.Ends.{ended, length_marked, flaw_found, defect_found}
 use Rattle.cborn_judge.proofs.encoders.Encodings.end_map.Goals as goal
 use Rattle.cborn_judge.proofs.encoders.Encodings.end_map.Goals.{then-level, else-level}
 

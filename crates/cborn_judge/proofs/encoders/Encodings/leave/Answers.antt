@@ -1,5 +1,4 @@
-use Rattle.cborn_judge.proofs.Common.{ap, refl, ◌∙◌, built, marks_of}
-use Rattle.cborn_model.proofs.HandedOver.{on_ok}
+use Rattle.cborn_judge.proofs.Common.{ap, refl, ◌∙◌, built, marks_of, on_ok}
 use Rattle.cborn_judge.proofs.Encoding.Fronts.{built_place}
 use Rattle.cborn_judge.proofs.Encoding.Standing.{stands_same}
 use Rattle.cborn_judge.proofs.encoders.Encodings.leave.Goals as goal

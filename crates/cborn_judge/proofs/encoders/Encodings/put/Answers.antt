@@ -1,5 +1,5 @@
-use Rattle.cborn_judge.proofs.Common.{rules, Bool, ◌≡◌, ◌<◌, ◌^◌, ◌++◌, length, ap, refl, sym, ◌∙◌, subst, arith, leb, leb-true, leb-false, put, Mark, after, has_key, IsMarked, Container, marks_of}
-use Rattle.cborn_model.proofs.HandedOver.{on_ok}
+use Rattle.std.specs.Prelude.{◌≡◌, ◌<◌, ◌^◌, ◌++◌}
+use Rattle.cborn_judge.proofs.Common.{rules, Bool, length, ap, refl, sym, ◌∙◌, subst, arith, leb, leb-true, leb-false, put, Mark, after, has_key, IsMarked, Container, marks_of, on_ok}
 use Rattle.cborn_judge.proofs.Encoding.Standing.{stands_put, stands_same}
 use Rattle.cborn_judge.proofs.encoders.Encodings.put.Goals as goal
 

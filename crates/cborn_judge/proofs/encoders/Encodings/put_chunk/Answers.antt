@@ -1,4 +1,5 @@
-use Rattle.cborn_judge.proofs.Common.{◌++◌, refl, put, after, marks_of}
+use Rattle.std.specs.Prelude.{◌++◌}
+use Rattle.cborn_judge.proofs.Common.{refl, put, after, marks_of}
 use Rattle.cborn_judge.proofs.Encoding.Standing.{stands_chunk, stands_same}
 use Rattle.cborn_judge.proofs.encoders.Encodings.put_chunk.Goals as goal
 

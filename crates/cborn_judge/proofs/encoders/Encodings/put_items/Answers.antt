@@ -1,4 +1,5 @@
-use Rattle.cborn_judge.proofs.Common.{rules, ◌<◌, ◌^◌, ◌++◌, length, ap, refl, sym, ◌∙◌, subst, puts, after_items, marks_of}
+use Rattle.std.specs.Prelude.{◌<◌, ◌^◌, ◌++◌}
+use Rattle.cborn_judge.proofs.Common.{rules, length, ap, refl, sym, ◌∙◌, subst, puts, after_items, marks_of}
 use Rattle.cborn_judge.proofs.Encoding.Standing.{stands_items, stands_same}
 use Rattle.cborn_judge.proofs.encoders.Encodings.put_items.Goals as goal
 

@@ -1,5 +1,5 @@
-use Rattle.cborn_judge.proofs.Common.{rules, ◌≡◌, ◌<◌, ◌^◌, ◌++◌, ◌∷◌, [], length, take, drop, false, ap, refl, sym, ◌∙◌, append_assoc, length-append, length-drop, arith, take-append-drop, put, place, after, marks_of}
-use Rattle.cborn_det.proofs.Written.{some_bytes}
+use Rattle.std.specs.Prelude.{◌≡◌, ◌<◌, ◌^◌, ◌++◌, ◌∷◌}
+use Rattle.cborn_judge.proofs.Common.{rules, [], length, take, drop, false, ap, refl, sym, ◌∙◌, append_assoc, length-append, length-drop, arith, take-append-drop, put, place, after, marks_of, some_bytes}
 use Rattle.cborn_judge.proofs.Encoding.Standing.{stands_pair, stands_same}
 use Rattle.cborn_judge.proofs.encoders.Encodings.put_pair.Goals as goal
 

@@ -1,7 +1,7 @@
-use Rattle.cborn_judge.proofs.Common.{◌≡◌, ◌++◌, [], refl, ap, ◌∙◌, sym, subst, true, false, append_assoc, append-nil, string_tree, kept, IsStringFront, is_chunks, marks_of}
-use Rattle.cborn_judge.proofs.Encoding.Strings.{free_there, string_coded, chunk_there, string_place}
+use Rattle.std.specs.Prelude.{◌≡◌, ◌++◌}
+use Rattle.cborn_judge.proofs.Common.{[], refl, ap, ◌∙◌, sym, subst, true, false, append_assoc, append-nil, string_tree, kept, IsStringFront, is_chunks, marks_of, on_ok}
+use Rattle.cborn_judge.proofs.Encoding.Leaves.{free_there, string_coded, chunk_there, string_place}
 use Rattle.cborn_judge.proofs.Encoding.Standing.{stands_same}
-use Rattle.cborn_model.proofs.HandedOver.{on_ok}
 use Rattle.cborn_judge.proofs.encoders.Encodings.put_string.Goals as goal
 
 pub returns-then-is_chunks : goal.returns-then-is_chunks

@@ -1,5 +1,6 @@
-use Rattle.cborn_judge.proofs.Common.{◌≡◌, ◌++◌, ◌∷◌, ◌-◌, ℕ, List, [], OnOk, sym, ap, ◌∙◌, subst, map-set_same, Mark, narrow_of, marks_of, all_marks}
-use Rattle.cborn_judge.proofs.Encoding.LastPair.{last_read, last_written}
+use Rattle.std.specs.Prelude.{◌≡◌, ◌++◌, ◌∷◌, ◌-◌}
+use Rattle.cborn_judge.proofs.Common.{ℕ, List, [], OnOk, sym, ap, ◌∙◌, subst, map-set_same, Mark, narrow_of, marks_of, all_marks}
+use Rattle.cborn_judge.proofs.Encoding.PairsRead.{last_read, last_written}
 use Rattle.cborn_judge.proofs.pairs.Pairs.set_end.Goals as goal
 use Rattle.cborn_judge.proofs.pairs.Pairs.set_end.Goals.{in-Narrow+in-Some+else-set_end, in-Narrow+in_default-last_mut, in_default}
 

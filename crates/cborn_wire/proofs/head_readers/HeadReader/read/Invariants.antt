@@ -1,4 +1,5 @@
-use Rattle.cborn_wire.proofs.Common.{◌≡◌, ◌+◌, ◌++◌, ℕ, List, length, ready_in, start, run, IsFed}
+use Rattle.std.specs.Prelude.{◌≡◌, ◌+◌, ◌++◌}
+use Rattle.cborn_wire.proofs.Common.{ℕ, List, length, ready_in, start, run, IsFed}
 use Rattle.cborn_wire.specs.declared.head_readers.Until.TheVariants.{Item}
 use Rattle.cborn_wire.proofs.head_readers.HeadReader.read.Given as goal
 

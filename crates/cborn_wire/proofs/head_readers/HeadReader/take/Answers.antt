@@ -1,4 +1,5 @@
-use Rattle.cborn_wire.proofs.Common.{◌≡◌, ◌+◌, ◌∙◌, refl, sym, ap, subst, take, arith, no_part, ready_in, run, IsReached, AtMostOneMore, state, head_at, Keeps, HereAt, TakesPiece}
+use Rattle.std.specs.Prelude.{◌≡◌, ◌+◌}
+use Rattle.cborn_wire.proofs.Common.{◌∙◌, refl, sym, ap, subst, take, arith, no_part, ready_in, run, IsReached, AtMostOneMore, state, head_at, Keeps, HereAt, TakesPiece}
 use Rattle.cborn_wire.proofs.Visiting.Taking.{between_here, here_room, reached_open, stands_here}
 use Rattle.cborn_wire.proofs.head_readers.HeadReader.take.Goals as goal
 

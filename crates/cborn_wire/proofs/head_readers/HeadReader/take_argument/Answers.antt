@@ -1,4 +1,5 @@
-use Rattle.cborn_wire.proofs.Common.{rules, sym, subst, ◌≡◌, ◌+◌, ◌++◌, ◌∷◌, [], length, take, get_or, arith, take_more_set, err_from_is_err_and, slice_set, Given, major_at, Live, AtMostOneMore, ready, open_in, seen_head, Stands}
+use Rattle.std.specs.Prelude.{◌≡◌, ◌+◌, ◌++◌, ◌∷◌}
+use Rattle.cborn_wire.proofs.Common.{rules, sym, subst, [], length, take, get_or, arith, take_more_set, err_from_is_err_and, slice_set, Given, major_at, Live, AtMostOneMore, ready, open_in, seen_head, Stands}
 use Rattle.cborn_wire.proofs.HeadReading.HeadSteps.{argument_room, argument_ends}
 use Rattle.cborn_wire.proofs.Machine.OneMore.{one_more_head}
 use Rattle.cborn_wire.proofs.Visiting.Taking.{fails_on, any_argument}

@@ -1,4 +1,5 @@
-use Rattle.cborn_wire.proofs.Common.{◌≡◌, ◌+◌, ◌++◌, ◌≤◌, refl, sym, ap, subst, inl, length, take, arith, length-append, length-take-le, part, ready_in, AtMostOneMore, ready, open_in}
+use Rattle.std.specs.Prelude.{◌≡◌, ◌+◌, ◌++◌, ◌≤◌}
+use Rattle.cborn_wire.proofs.Common.{refl, sym, ap, subst, inl, length, take, arith, length-append, length-take-le, part, ready_in, AtMostOneMore, ready, open_in}
 use Rattle.cborn_wire.proofs.Machine.OneMore.{one_more_finished}
 use Rattle.cborn_wire.proofs.Visiting.Taking.{stands_here, content_ends, content_stays}
 use Rattle.cborn_wire.proofs.head_readers.HeadReader.take_content.Goals as goal

@@ -24,7 +24,7 @@ new-requires c =
     let read = c.in_ok-len.ensures in
     let left = c.in-Some.ensures in
     (item_whole c.args.self.now old c.read.new.self c.read.new.levels c.read.new.visitor (take c.in_ok-len.len c.args.piece.now) read.limit (read.fed old.base old.read old.fed)
-    c.in-Some.node c.take_whole.new.self left.taken.0 left.taken.1 c.set.new.self left.string c.set.ensures.outer c.set.ensures.inner (read.item refl old.base old.read old.fed)).3
+    c.in-Some.node c.take_whole.new.self left.taken.0 left.taken.1 c.start_anew.new.self left.string c.start_anew.ensures.outer c.start_anew.ensures.inner (read.item refl old.base old.read old.fed)).3
 
 pub returns-clause-item : goal.returns-clause-item
 returns-clause-item c =
@@ -32,5 +32,5 @@ returns-clause-item c =
     let read = c.in_ok-len.ensures in
     let left = c.in-Some.ensures in
     let next = item_whole c.args.self.now old c.read.new.self c.read.new.levels c.read.new.visitor (take c.in_ok-len.len c.args.piece.now) read.limit (read.fed old.base old.read old.fed)
-    c.in-Some.node c.take_whole.new.self left.taken.0 left.taken.1 c.set.new.self left.string c.set.ensures.outer c.set.ensures.inner (read.item refl old.base old.read old.fed) in
+    c.in-Some.node c.take_whole.new.self left.taken.0 left.taken.1 c.start_anew.new.self left.string c.start_anew.ensures.outer c.start_anew.ensures.inner (read.item refl old.base old.read old.fed) in
     rw (c.new.ensures) (record { some = read.some; within = read.within; made = next.0; at = read.at; goes = next.1; between = next.2 })

@@ -1,4 +1,5 @@
-use Rattle.cborn_wire.proofs.Common.{◌≡◌, ◌++◌, List, Tree, top, no_part, IsHeld}
+use Rattle.std.specs.Prelude.{◌≡◌, ◌++◌}
+use Rattle.cborn_wire.proofs.Common.{List, Tree, top, no_part, IsHeld}
 use Rattle.cborn_wire.proofs.nodes.Nodes.finish.Given as goal
 
 -- the nodes that were moved, and then those that weren't

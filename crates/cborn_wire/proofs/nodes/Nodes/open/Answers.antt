@@ -1,4 +1,5 @@
-use Rattle.cborn_wire.proofs.Common.{refl, ap, ◌∙◌, ◌++◌, ◌∷◌, []}
+use Rattle.std.specs.Prelude.{◌++◌, ◌∷◌}
+use Rattle.cborn_wire.proofs.Common.{refl, ap, ◌∙◌, []}
 use Rattle.cborn_wire.proofs.Building.{opened}
 use Rattle.cborn_wire.proofs.nodes.Nodes.open.Goals as goal
 

@@ -1,4 +1,5 @@
-use Rattle.cborn_wire.proofs.Common.{rules, ◌≡◌, sym, ap, ◌∙◌, length, Some, Pairs, entries, ended_size, within}
+use Rattle.std.specs.Prelude.{◌≡◌}
+use Rattle.cborn_wire.proofs.Common.{rules, sym, ap, ◌∙◌, length, Some, Pairs, entries, ended_size, within}
 use Rattle.cborn_wire.specs.devices.OpenNodes.{ended}
 use Rattle.cborn_wire.proofs.Building.{map_ends, chunks_end}
 use Rattle.cborn_wire.proofs.open_nodes.OpenNode.end.Goals as goal

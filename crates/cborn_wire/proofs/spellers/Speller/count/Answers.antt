@@ -1,4 +1,5 @@
-use Rattle.cborn_wire.proofs.Common.{List, ap, arith, set, [], ◌∷◌, ◌-◌, length-append, length, vec_len, false≢true, OpenSpelling}
+use Rattle.std.specs.Prelude.{◌∷◌, ◌-◌}
+use Rattle.cborn_wire.proofs.Common.{List, ap, arith, set, [], length-append, length, vec_len, false≢true, OpenSpelling}
 use Rattle.cborn_wire.proofs.Standing.{one_more, node_counted, last_counted}
 use Rattle.cborn_wire.proofs.spellers.Speller.count.Goals as goal
 

@@ -1,4 +1,5 @@
-use Rattle.cborn_wire.proofs.Common.{◌≡◌, sym, ap, ℕ, Option, None, Major, Size, Endless, in_chunks, shape}
+use Rattle.std.specs.Prelude.{◌≡◌}
+use Rattle.cborn_wire.proofs.Common.{sym, ap, ℕ, Option, None, Major, Size, Endless, in_chunks, shape}
 use Rattle.cborn_wire.proofs.spellers.SpellerVisitor.open_chunks.Goals as goal
 
 pub returns-clause-held : goal.returns-clause-held

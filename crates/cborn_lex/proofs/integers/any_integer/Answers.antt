@@ -1,0 +1,14 @@
+use Rattle.cborn_lex.proofs.Common.{refl, sym, ap, ◌∙◌, take, number, within, begins, is_numeral}
+use Rattle.cborn_lex.proofs.Decimals.{digits_pass, long_value}
+use Rattle.cborn_lex.proofs.integers.any_integer.Goals as goal
+
+pub returns-then-not-begins_numeral-clause-run : goal.returns-then-not-begins_numeral-clause-run
+returns-then-not-begins_numeral-clause-run c = record {
+  pass = digits_pass is_numeral (take c.digits_len-digits.result c.args.body.now) refl c.digits_len-digits.ensures.digits;
+  ends = ap (begins is_numeral) (sym c.rest_of.ensures) ∙ sym c.begins_numeral.ensures ∙ c.if-not-begins_numeral.true;
+}
+
+pub returns-then-not-begins_numeral-clause-value : goal.returns-then-not-begins_numeral-clause-value
+returns-then-not-begins_numeral-clause-value c =
+    c.value.ensures ∙ ap (λ x. within (number 10 0 x)) c.front_of.ensures
+    ∙ sym (long_value c.args.negative c.digits_len-digits.result c.args.body.now c.if-digits-gt0.true c.digits_len-digits.ensures.within c.if-body-ne48.true c.digits_len-digits.ensures.digits)
