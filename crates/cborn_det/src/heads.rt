@@ -5,7 +5,7 @@ ghost use Rattle.std.specs.Prelude.{◌≡◌, ◌<◌};
 ghost use Rattle.cborn_det.specs.Common.{length, OnOk, OnErr, code, IsLeastHead};
 ghost use Rattle.cborn_det.specs.Appending.{Appends, Replaces};
 
-use cborn_model::{Major, Width, shortest};
+use cborn_model::{Major, Width, push_doubling, shortest};
 use cborn_wire::push_head;
 use std::alloc::AllocError;
 
@@ -18,14 +18,13 @@ pub fn put_head(major: Major, n: u64, out: &mut Vec<u8>) -> Result<(), AllocErro
     ensures appended { OnOk result (Appends (IsLeastHead (code major) n) out.old.items out.new.items) }
     ensures kept { OnErr result (out.new.items ≡ out.old.items) }
 {
-    if n < 24 && out.len() != out.capacity() {
-        out.push(major.initial_byte(n as u8))?;
-        return Ok(());
+    if n < 24 {
+        return push_doubling(out, major.initial_byte(n as u8));
     }
     put_long_head(major, n, out)
 }
 
-/// What [`put_head`] does where the argument doesn't fit the initial byte, or memory has to grow.
+/// What [`put_head`] does where the argument doesn't fit the initial byte.
 #[inline(never)]
 fn put_long_head(major: Major, n: u64, out: &mut Vec<u8>) -> Result<(), AllocError>
     ensures appended { OnOk result (Appends (IsLeastHead (code major) n) out.old.items out.new.items) }

@@ -116,17 +116,13 @@ fn open_around(writer: &mut Writer) -> Result<(), AllocError>
 {
     let around = Around {
         start: writer.start,
-        string: writer.string,
-        chunks: writer.chunks,
-        error: writer.error,
+        string: writer.string.take(),
+        chunks: writer.chunks.take(),
+        error: writer.error.take(),
     };
     writer.around.open(around)?;
-    writer.spellers.open()?;
     writer.start = writer.pieces.len();
-    writer.string = None;
-    writer.chunks = None;
-    writer.error = None;
-    Ok(())
+    writer.spellers.open()
 }
 
 /// Opens a bracket, in which an item is wanted.

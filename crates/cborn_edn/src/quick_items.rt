@@ -155,10 +155,11 @@ fn take_escaped<V: Visitor>(
 {
     let start = writer.pieces.len();
     let bytes = source.text.as_bytes();
-    let Some(stop) = push_text(source.profile, bytes, here.at, &mut writer.pieces)? else {
+    let mut stop = here.at;
+    if !push_text(source.profile, bytes, &mut stop, &mut writer.pieces)? {
         writer.pieces.truncate(start);
         return Ok(false);
-    };
+    }
     put_last_piece(start, here, writer, visitor)?;
     here.at = stop;
     Ok(true)

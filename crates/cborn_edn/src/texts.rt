@@ -38,8 +38,8 @@ pub(crate) fn plain_text_at(profile: Profile, text: &[u8], at: usize) -> Option<
 }
 
 /// Appends the content of the text string whose opening double quote is at the offset `at` of `text`,
-/// and gives the offset in the text after it and the white space that follows. `None` if there is
-/// none, if it has an indicator, or if another piece may follow. Then a part of it may stay in `out`.
+/// and moves `at` to the offset in the text after it and the white space that follows. `false` if there
+/// is none, if it has an indicator, or if another piece may follow. Then a part of it may stay in `out`.
 ///
 /// # Errors
 /// `AllocError` if memory is refused.
@@ -47,22 +47,23 @@ pub(crate) fn plain_text_at(profile: Profile, text: &[u8], at: usize) -> Option<
 pub(crate) fn push_text(
     profile: Profile,
     text: &[u8],
-    at: usize,
+    at: &mut usize,
     out: &mut Vec<u8>,
-) -> Result<Option<usize>, AllocError>
-    requires inside { at < length text.now }
-    requires quote { slice_index text.now at ≡ 34 }
-    ensures taken { IfOk result (λ r. IfSome r (λ stop. (content : List ℕ) × (out.new.items ≡ out.old.items ++ content) × IsTextAt profile text.now at stop content)) }
+) -> Result<bool, AllocError>
+    requires inside { at.old < length text.now }
+    requires quote { slice_index text.now at.old ≡ 34 }
+    ensures taken { IfOk result (λ r. r ≡ true → (content : List ℕ) × (out.new.items ≡ out.old.items ++ content) × IsTextAt profile text.now at.old at.new content) }
     ensures before { IfOk result (λ r. take (length out.old.items) out.new.items ≡ out.old.items) }
 {
-    let tail = &text[at + 1..];
+    let tail = &text[*at + 1..];
     let Some(len) = push_letters(b'"', tail, 0, out)? else {
-        return Ok(None);
+        return Ok(false);
     };
-    let Some(stop) = end_of_string(profile, text, at + len + 2) else {
-        return Ok(None);
+    let Some(stop) = end_of_string(profile, text, *at + len + 2) else {
+        return Ok(false);
     };
-    Ok(Some(stop))
+    *at = stop;
+    Ok(true)
 }
 
 /// The offset after the white space that follows a string, which ends at the offset `at`. `None` if

@@ -10,7 +10,7 @@ use crate::text_walks::{Bracket, LastToken, NotationText, TextWalk};
 use cborn_edn::{EdnFault, EdnReason};
 use cborn_engine::{CountFault, EngineFault};
 use cborn_judge::{Invalid, InvalidReason};
-use cborn_lex::{LexFault, LexReason, Profile, are_hex, hex_code, is_low};
+use cborn_lex::{LexFault, LexReason, Profile, code_at, is_low};
 use std::fmt::{self, Display, Formatter};
 
 /// How many characters of a word, a number or a key are written.
@@ -153,19 +153,17 @@ impl<'a> RefusedText<'a> {
         let alloc = self.items.alloc;
         let (c, at) = (self.character(), self.at(self.spot));
         match self.rest(self.spot) {
-            [b'\\', b'u', a, b, c, d, ..] if are_hex(*a, *b, *c, *d) => {
-                if is_low(hex_code(*a, *b, *c, *d)) {
-                    return format!(in alloc;
-                        "the escape at {at} is the second half of a pair of surrogates, and no first half comes before it"
-                    );
-                }
-                format!(in alloc;
+            [b'\\', b'u', rest @ ..] => match code_at(rest) {
+                Some(unit) if is_low(unit) => format!(in alloc;
+                    "the escape at {at} is the second half of a pair of surrogates, and no first half comes before it"
+                ),
+                Some(_) => format!(in alloc;
                     "after the escape at {at}, the first half of a pair of surrogates, the second has to follow"
-                )
-            }
-            [b'\\', b'u', ..] => format!(in alloc;
-                "after \\u at {at} there are no four hexadecimal digits"
-            ),
+                ),
+                None => format!(in alloc;
+                    "after \\u at {at} there are no four hexadecimal digits"
+                ),
+            },
             [b'\\', ..] => format!(in alloc; "{c} at {at} begins no escape of JSON"),
             _ => format!(in alloc; "{c} at {at} is a control character, which has to be escaped"),
         }

@@ -1,7 +1,7 @@
 //! The character within a token that is at fault.
 
 use crate::quotes::slice_of;
-use cborn_lex::{LexReason, are_hex, hex_code, is_high, is_low};
+use cborn_lex::{LexReason, unit_at};
 
 /// The offset in bytes of the character that is at fault. `place` is the offset that was reported
 /// with the reason. The answer is that offset, or one within the token that begins there.
@@ -37,16 +37,7 @@ fn bad_escape(token: &[u8]) -> usize {
 /// is wrong, the character has to be escaped, or nothing is left.
 fn unit_len(quote: u8, rest: &[u8]) -> Option<usize> {
     match rest {
-        [b'\\', b'u', a, b, c, d, rest @ ..] if are_hex(*a, *b, *c, *d) => {
-            let code = hex_code(*a, *b, *c, *d);
-            match rest {
-                _ if !is_low(code) && !is_high(code) => Some(6),
-                [b'\\', b'u', a, b, c, d, ..] if is_high(code) && are_hex(*a, *b, *c, *d) => {
-                    is_low(hex_code(*a, *b, *c, *d)).then_some(12)
-                }
-                _ => None,
-            }
-        }
+        [b'\\', b'u', rest @ ..] => unit_at(rest).map(|(_, len)| len),
         [b'\\', b'\'', ..] if quote == b'\'' => Some(2),
         [b'\\', b, ..] if b"\"\\/bfnrt".contains(b) => Some(2),
         [b'\\', ..] => None,

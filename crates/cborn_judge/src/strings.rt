@@ -67,7 +67,7 @@ pub(crate) fn text_of_chunks(alloc: Global, chunks: &[Chunk]) -> Result<Item, Al
 
 /// Whether a string of this kind may hold these bytes: a text has to be UTF-8 (RFC 8949 section
 /// 3.1).
-#[inline]
+#[inline(always)]
 pub(crate) fn is_content(kind: StringKind, bytes: &[u8]) -> bool
     ensures { IsTrue result ↔ IsContent kind bytes.now }
 {

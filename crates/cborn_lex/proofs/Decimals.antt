@@ -1,6 +1,6 @@
 -- Decimal integers at the front of a text.
 use Rattle.std.specs.Prelude.{◌≡◌, ◌+◌, ◌-◌, ◌*◌, ◌<◌, ◌≤◌, ◌^◌, ◌∷◌, ◌++◌, ◌||◌, ◌⊎◌}
-use Rattle.cborn_lex.proofs.Common.{refl, sym, ap, ◌∙◌, subst, ℕ, zero, suc, List, [], length, take, drop, get_or, ne_eqb, Bool, true, false, not, eqb, Ok, inl, inr, arith, append_assoc, pow-suc, and_parts, and_from, cond-true, cond-false, lt-ltb, ltb-true, eqb-true, cases_Bool, cases_lt, false≢true, take_more, drop_more, take-append-drop, list_all-append, digit_value_digit, list_all, is_digit, digit_value, codes, bytes_eq, is_numeral, begins, number, within, integer, has_prefix, are_digits, BeginsDecimal, Front, mark_of, number_front, IsRun, IsNumber, ReadsNumber}
+use Rattle.cborn_lex.proofs.Common.{refl, sym, ap, ◌∙◌, subst, ℕ, zero, suc, List, [], length, take, drop, get_or, ne_eqb, Bool, true, false, not, eqb, Ok, inl, inr, arith, append_assoc, pow-suc, and_parts, and_from, cond-true, cond-false, lt-ltb, ltb-true, eqb-true, cases_Bool, cases_lt, false≢true, take_more, drop_more, take-append-drop, list_all-append, digit_value_digit, false_from_ne_true, leb-true, is_ascii_alphabetic, is_in_range, nat_le, list_all, is_digit, digit_value, codes, bytes_eq, is_numeral, begins, number, within, integer, has_prefix, are_digits, BeginsDecimal, Front, mark_of, number_front, IsRun, IsNumber, ReadsNumber}
 use Rattle.std.proofs.lemmas.Str.Parse.{digit_from_value}
 use Rattle.cborn_lex.proofs.TwoParts.{passes, passes_at}
 
@@ -50,6 +50,16 @@ digit_passes q c t h = let r = digit_from_value c (ltb-true (digit_value c) 10 h
 
 pub digit_numeral : (c d : ℕ) → c ≡ 48 + d → d ≤ 9 → is_numeral c ≡ true
 digit_numeral c d e l = passes_at is_numeral 48 10 c refl (omega (arith, e)) (omega (arith, e, l))
+
+pub letter_numeral : (c : ℕ) → is_digit c 10 ≡ false → (is_ascii_alphabetic c || eqb c 46) ≡ is_numeral c
+letter_numeral c h =
+    let no : is_in_range 48 57 c ≡ false = false_from_ne_true (is_in_range 48 57 c) (λ d.
+        let r = and_parts (nat_le 48 c) (nat_le c 57) d in
+        let low = leb-true 48 c r.0 in
+        let high = leb-true c 57 r.1 in
+        let v = digit_value_digit c (low, high) in
+        false≢true (sym h ∙ lt-ltb (digit_value c) 10 (omega (arith, v, high)))) in
+    rw no refl
 
 pub digits_pass : (q : ℕ → Bool) (ds : List ℕ) → passes q 48 10 ≡ true → list_all (λ d. is_digit d 10) ds ≡ true → list_all q ds ≡ true
 digits_pass q [] t h = refl

@@ -10,7 +10,7 @@ use crate::faults::LexReason;
 use crate::fronts::Front;
 use crate::letters::push_letters;
 use crate::slices::{mark_at, rest_of};
-use crate::units::{are_hex, hex_code, is_high, is_low};
+use crate::units::unit_at;
 use std::alloc::AllocError;
 
 /// The offset in `tail` of the closing quote, if there is one. A quote after a backslash closes
@@ -34,49 +34,6 @@ fn content_end(quote: u8, tail: &[u8]) -> Option<usize>
         }
     }
     None
-}
-
-/// The number of the four hexadecimal digits that `x` begins with, if there are four.
-#[tactic(auto, using(crate::proofs::Contents::Letters::no_code))]
-fn code_at(x: &[u8]) -> Option<u32>
-    ensures value { result ≡ code_at x.now }
-    ensures small { IfSome result (λ n. (n < 65536) × (4 ≤ length x.now)) }
-{
-    if x.len() >= 4 && are_hex(x[0], x[1], x[2], x[3]) {
-        Some(hex_code(x[0], x[1], x[2], x[3]))
-    } else {
-        None
-    }
-}
-
-/// The low surrogate of the escape that `x` begins with, if there is one.
-#[tactic(auto, using(crate::proofs::Contents::Letters::no_low))]
-fn low_code(x: &[u8]) -> Option<u32>
-    ensures value { result ≡ low_code x.now }
-    ensures low { IfSome result (λ n. is_low n ≡ true) }
-{
-    if x.len() < 6 || x[0] != b'\\' || x[1] != b'u' {
-        return None;
-    }
-    let n = code_at(rest_of(x, 2))?;
-    if is_low(n) { Some(n) } else { None }
-}
-
-/// The character of an escape `\uXXXX`, or of two for a surrogate pair, and how many bytes the
-/// escape takes from its backslash on. `x` is what follows the first `u`. `None` if that is no
-/// escape.
-fn unit_at(x: &[u8]) -> Option<(char, usize)>
-    ensures { result ≡ unit_from (code_at x.now) (drop 4 x.now) }
-{
-    let n = code_at(x)?;
-    if is_high(n) {
-        let m = low_code(rest_of(x, 4))?;
-        let c = char::from_u32(0x1_0000 + (n - 0xD800) * 0x400 + (m - 0xDC00))?;
-        Some((c, 12))
-    } else {
-        let c = char::from_u32(n)?;
-        Some((c, 6))
-    }
 }
 
 /// Appends the character `c` in UTF-8.

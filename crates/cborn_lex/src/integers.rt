@@ -187,10 +187,20 @@ pub fn decimal_at(tail: &[u8]) -> Option<(u64, usize)>
     if len == 0 || (len > 1 && tail[0] == b'0') {
         return None;
     }
-    if len < tail.len() && is_numeral(tail[len]) {
+    if len < tail.len() && goes_on(tail[len]) {
         return None;
     }
     Some((n, len))
+}
+
+/// Whether the character `c`, which is no decimal digit, may be in a number.
+#[tactic(auto, using(crate::proofs::Decimals::letter_numeral))]
+#[inline(always)]
+fn goes_on(c: u8) -> bool
+    requires { is_digit c 10 ≡ false }
+    ensures { result ≡ is_numeral c }
+{
+    c.is_ascii_alphabetic() || c == b'.'
 }
 
 /// The value of the decimal digit at the offset `at` of `tail`; `None` if there is none.
@@ -199,11 +209,11 @@ fn digit_at(tail: &[u8], at: usize) -> Option<u8>
     ensures digit { IfSome result (λ d. (at < length tail.now) × (slice_index tail.now at ≡ 48 + d) × (d ≤ 9)) }
     ensures none { IfNone result (at < length tail.now → is_digit (slice_index tail.now at) 10 ≡ false) }
 {
-    if at < tail.len() && tail[at] >= b'0' && tail[at] <= b'9' {
-        Some(tail[at] - b'0')
-    } else {
-        None
+    if at >= tail.len() {
+        return None;
     }
+    let digit = tail[at].wrapping_sub(b'0');
+    if digit <= 9 { Some(digit) } else { None }
 }
 
 /// Reads an integer after its minus, and gives how many bytes of `body` it takes.

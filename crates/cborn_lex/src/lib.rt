@@ -74,4 +74,4 @@ pub use integers::decimal_at;
 pub use letters::{plain_run, push_letters};
 pub use lexer::{next_token, token_from, tokens};
 pub use slices::{find, mark_at};
-pub use units::{are_hex, hex_code, is_high, is_low};
+pub use units::{code_at, is_low, unit_at};

@@ -1,32 +1,71 @@
 //! The units of UTF-16 that escapes `\uXXXX` write (RFC 8259 section 7).
 
-ghost use Rattle.std.specs.Prelude.{◌≡◌, ◌<◌, true};
+ghost use Rattle.std.specs.Prelude.{◌≡◌, ◌<◌, ◌≤◌, length, drop, true, IfSome, Some, None, if◌then◌else◌};
 ghost use Rattle.cborn_lex.specs.Cited.{are_hex, code, is_high, is_low};
+ghost use Rattle.cborn_lex.specs.devices.Common.{code_at, low_code, unit_from};
 
 use crate::integers::digit_of;
+use crate::slices::rest_of;
 
-/// Whether all four are hexadecimal digits.
+/// The number that four hexadecimal digits write. `None` if one of them is no such digit.
 #[inline]
-pub fn are_hex(a: u8, b: u8, c: u8, d: u8) -> bool
-    ensures { result ≡ are_hex a b c d }
+fn hex_code(a: u8, b: u8, c: u8, d: u8) -> Option<u32>
+    ensures value { result ≡ (if are_hex a b c d then Some (code a b c d) else None) }
+    ensures small { IfSome result (λ n. n < 65536) }
 {
-    digit_of(a) < 16 && digit_of(b) < 16 && digit_of(c) < 16 && digit_of(d) < 16
+    let (a, b, c, d) = (digit_of(a), digit_of(b), digit_of(c), digit_of(d));
+    if a < 16 && b < 16 && c < 16 && d < 16 {
+        Some(((a as u32 * 16 + b as u32) * 16 + c as u32) * 16 + d as u32)
+    } else {
+        None
+    }
 }
 
-/// The number that four hexadecimal digits write.
-#[inline]
-pub fn hex_code(a: u8, b: u8, c: u8, d: u8) -> u32
-    requires { are_hex a b c d ≡ true }
-    ensures value { result ≡ code a b c d }
-    ensures small { result < 65536 }
+/// The unit that the four hexadecimal digits write that `x` begins with. `None` if there are no four.
+#[tactic(auto, using(crate::proofs::Contents::Letters::no_code))]
+pub fn code_at(x: &[u8]) -> Option<u32>
+    ensures value { result ≡ code_at x.now }
+    ensures small { IfSome result (λ n. (n < 65536) × (4 ≤ length x.now)) }
 {
-    ((digit_of(a) as u32 * 16 + digit_of(b) as u32) * 16 + digit_of(c) as u32) * 16
-        + digit_of(d) as u32
+    if x.len() < 4 {
+        return None;
+    }
+    hex_code(x[0], x[1], x[2], x[3])
+}
+
+/// The low surrogate of the escape that `x` begins with, if there is one.
+#[tactic(auto, using(crate::proofs::Contents::Letters::no_low))]
+fn low_code(x: &[u8]) -> Option<u32>
+    ensures value { result ≡ low_code x.now }
+    ensures low { IfSome result (λ n. is_low n ≡ true) }
+{
+    if x.len() < 6 || x[0] != b'\\' || x[1] != b'u' {
+        return None;
+    }
+    let n = code_at(rest_of(x, 2))?;
+    if is_low(n) { Some(n) } else { None }
+}
+
+/// The character of an escape `\uXXXX`, or of two for a surrogate pair, and how many bytes the
+/// escape takes from its backslash on. `x` is what follows the first `u`. `None` if that is no
+/// escape.
+pub fn unit_at(x: &[u8]) -> Option<(char, usize)>
+    ensures { result ≡ unit_from (code_at x.now) (drop 4 x.now) }
+{
+    let n = code_at(x)?;
+    if is_high(n) {
+        let m = low_code(rest_of(x, 4))?;
+        let c = char::from_u32(0x1_0000 + (n - 0xD800) * 0x400 + (m - 0xDC00))?;
+        Some((c, 12))
+    } else {
+        let c = char::from_u32(n)?;
+        Some((c, 6))
+    }
 }
 
 /// Whether a unit is a high surrogate, the first half of a pair.
 #[inline]
-pub fn is_high(n: u32) -> bool
+fn is_high(n: u32) -> bool
     ensures { result ≡ is_high n }
 {
     0xD800 <= n && n < 0xDC00

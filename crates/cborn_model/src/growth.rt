@@ -11,7 +11,7 @@ use std::alloc::AllocError;
 ///
 /// # Errors
 /// `AllocError` if memory is refused; the list is unchanged.
-#[inline]
+#[inline(always)]
 pub fn push_doubling<T: Drop>(list: &mut Vec<T>, one: T) -> Result<(), AllocError>
     ensures added { OnOk result (list.new.items ≡ list.old.items ++ one ∷ []) }
     ensures kept { OnErr result (list.new.items ≡ list.old.items) }

@@ -326,22 +326,9 @@ pub fn push_head(out: &mut Vec<u8>, major: Major, width: Width, n: u64) -> Resul
     ensures kept { OnErr result (out.new.items ≡ out.old.items) }
 {
     if let Width::Direct = width {
-        return push(out, major.initial_byte(n as u8));
+        return push_doubling(out, major.initial_byte(n as u8));
     }
     push_wide_head(out, major, width, n)
-}
-
-/// Appends `one`, in line where there is room for it.
-#[inline(always)]
-pub(crate) fn push<T: Drop>(list: &mut Vec<T>, one: T) -> Result<(), AllocError>
-    ensures added { OnOk result (list.new.items ≡ list.old.items ++ one ∷ []) }
-    ensures kept { OnErr result (list.new.items ≡ list.old.items) }
-{
-    if list.len() < list.capacity() {
-        list.push_reserved(one);
-        return Ok(());
-    }
-    push_doubling(list, one)
 }
 
 /// Appends a head. Out of line, since most heads are one byte. Each width has its own call, so that

@@ -8,9 +8,9 @@ ghost use Rattle.cborn_model.specs.Partial.{Opening, Partial, top, inside, put, 
 ghost use Rattle.cborn_wire.specs.shared.Spelling.{shape, ending_of, entries_in, Stands, IsWritten, IsEnded};
 ghost use Rattle.cborn_wire.specs.declared.spellers.OpenSpelling.{OpenSpelling as Container};
 
-use crate::heads::{major_of, push, push_head};
+use crate::heads::{major_of, push_head};
 use crate::placed_heads::set_head;
-use cborn_model::{BREAK, Major, Size, StringKind, Visitor, Width, shortest};
+use cborn_model::{BREAK, Major, Size, StringKind, Visitor, Width, push_doubling, shortest};
 use std::alloc::{AllocError, Global};
 
 /// What is to be written where a container ends.
@@ -43,7 +43,7 @@ impl OpenSpelling {
     {
         match self.ending {
             Ending::Nothing => Ok(()),
-            Ending::Break => push(out, BREAK),
+            Ending::Break => push_doubling(out, BREAK),
             Ending::Later(major, width) => {
                 if self.start >= out.len() {
                     return Ok(());
@@ -183,9 +183,9 @@ impl Speller {
         };
         match (size, count) {
             (Size::Fixed(width), Some(n)) => push_head(&mut self.out, major, width, n)?,
-            _ => push(&mut self.out, major.endless_head())?,
+            _ => push_doubling(&mut self.out, major.endless_head())?,
         }
-        push(&mut self.containers, opened)
+        push_doubling(&mut self.containers, opened)
     }
 
     /// Leaves the innermost container, if there is one, and gives it.

@@ -1,4 +1,5 @@
-use Rattle.cborn_engine.proofs.Common.{◌≡◌, ◌≤◌, ◌-◌, length, take, Appends}
+use Rattle.std.specs.Prelude.{◌≡◌, ◌≤◌, ◌-◌}
+use Rattle.cborn_engine.proofs.Common.{length, take, Appends}
 use Rattle.cborn_engine.proofs.outputs.write_answer.Given as goal
 
 abbrev pub invariant-loop-sent : goal.invariant-loop-sent

@@ -2,7 +2,7 @@ use Rattle.std.specs.Prelude.{◌+◌, ◌-◌, ◌*◌, ◌≡◌}
 use Rattle.cborn_lex.proofs.Common.{sym, ap, ◌∙◌, arith, inl, inr, get_or, false≢true, eq-eqb, eqb-true, ltb-true}
 use Rattle.cborn_lex.proofs.Decimals.{digit_more, digit_numeral, below_more, fits_more, decimal_value, decimal_run, no_decimal}
 use Rattle.cborn_lex.proofs.integers.decimal_at.Goals as goal
-use Rattle.cborn_lex.proofs.integers.decimal_at.Goals.{then-len-eq0-via-then-len-eq0, then-len-eq0-via-else-len-eq0+then-tail-eq48, else-len-tail-via-then-len-tail+else-is_numeral, else-len-tail-via-else-len-tail, then-len-gt1, else-len-gt1}
+use Rattle.cborn_lex.proofs.integers.decimal_at.Goals.{then-len-eq0-via-then-len-eq0, then-len-eq0-via-else-len-eq0+then-tail-eq48, else-len-tail-via-then-len-tail+else-goes_on, else-len-tail-via-else-len-tail, then-len-gt1, else-len-gt1}
 
 pub overflow_mul-n : goal.overflow_mul-n
 overflow_mul-n c =
@@ -38,13 +38,13 @@ returns-then-len-eq0-clause-none c = no_decimal c.digits.len c.args.tail.now c.d
   ]
 ])
 
-pub returns-then-is_numeral-clause-none : goal.returns-then-is_numeral-clause-none
-returns-then-is_numeral-clause-none c =
-    no_decimal c.digits.len c.args.tail.now c.digits.invariant.0 c.digits.invariant.2 (λ l. c.in_default.ensures.none) (inr (inr (c.if-len-tail.true, sym c.is_numeral.ensures ∙ c.if-is_numeral.true)))
+pub returns-then-goes_on-clause-none : goal.returns-then-goes_on-clause-none
+returns-then-goes_on-clause-none c =
+    no_decimal c.digits.len c.args.tail.now c.digits.invariant.0 c.digits.invariant.2 (λ l. c.in_default.ensures.none) (inr (inr (c.if-len-tail.true, sym c.goes_on.ensures ∙ c.if-goes_on.true)))
 
 pub returns-clause-run : goal.returns-clause-run
 returns-clause-run c = decimal_run c.digits.len c.args.tail.now c.digits.invariant.2 (λ h. elim c.else-len-tail.branch [
-  | else-len-tail-via-then-len-tail+else-is_numeral w ↦ sym w.is_numeral.ensures ∙ w.if-is_numeral.false
+  | else-len-tail-via-then-len-tail+else-goes_on w ↦ sym w.goes_on.ensures ∙ w.if-goes_on.false
   | else-len-tail-via-else-len-tail w ↦ absurd (omega (arith, h, w.if-len-tail.false))
 ])
 
