@@ -160,9 +160,7 @@ impl<'a> RefusedText<'a> {
                 Some(_) => format!(in alloc;
                     "after the escape at {at}, the first half of a pair of surrogates, the second has to follow"
                 ),
-                None => format!(in alloc;
-                    "after \\u at {at} there are no four hexadecimal digits"
-                ),
+                None => format!(in alloc; "after \\u at {at} there are no four hexadecimal digits"),
             },
             [b'\\', ..] => format!(in alloc; "{c} at {at} begins no escape of JSON"),
             _ => format!(in alloc; "{c} at {at} is a control character, which has to be escaped"),

@@ -37,7 +37,7 @@ fn bad_escape(token: &[u8]) -> usize {
 /// is wrong, the character has to be escaped, or nothing is left.
 fn unit_len(quote: u8, rest: &[u8]) -> Option<usize> {
     match rest {
-        [b'\\', b'u', rest @ ..] => unit_at(rest).map(|(_, len)| len),
+        [b'\\', b'u', rest @ ..] => unit_at(rest).map(|c| if c.len_utf16() == 1 { 6 } else { 12 }),
         [b'\\', b'\'', ..] if quote == b'\'' => Some(2),
         [b'\\', b, ..] if b"\"\\/bfnrt".contains(b) => Some(2),
         [b'\\', ..] => None,

@@ -54,11 +54,11 @@ digit_numeral c d e l = passes_at is_numeral 48 10 c refl (omega (arith, e)) (om
 pub letter_numeral : (c : ℕ) → is_digit c 10 ≡ false → (is_ascii_alphabetic c || eqb c 46) ≡ is_numeral c
 letter_numeral c h =
     let no : is_in_range 48 57 c ≡ false = false_from_ne_true (is_in_range 48 57 c) (λ d.
-        let r = and_parts (nat_le 48 c) (nat_le c 57) d in
-        let low = leb-true 48 c r.0 in
-        let high = leb-true c 57 r.1 in
-        let v = digit_value_digit c (low, high) in
-        false≢true (sym h ∙ lt-ltb (digit_value c) 10 (omega (arith, v, high)))) in
+    let r = and_parts (nat_le 48 c) (nat_le c 57) d in
+    let low = leb-true 48 c r.0 in
+    let high = leb-true c 57 r.1 in
+    let v = digit_value_digit c (low, high) in
+    false≢true (sym h ∙ lt-ltb (digit_value c) 10 (omega (arith, v, high)))) in
     rw no refl
 
 pub digits_pass : (q : ℕ → Bool) (ds : List ℕ) → passes q 48 10 ≡ true → list_all (λ d. is_digit d 10) ds ≡ true → list_all q ds ≡ true

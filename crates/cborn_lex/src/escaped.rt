@@ -10,7 +10,6 @@ use crate::faults::LexReason;
 use crate::fronts::Front;
 use crate::letters::push_letters;
 use crate::slices::{mark_at, rest_of};
-use crate::units::unit_at;
 use std::alloc::AllocError;
 
 /// The offset in `tail` of the closing quote, if there is one. A quote after a backslash closes
@@ -34,32 +33,6 @@ fn content_end(quote: u8, tail: &[u8]) -> Option<usize>
         }
     }
     None
-}
-
-/// Appends the character `c` in UTF-8.
-fn push_char(bytes: &mut Vec<u8>, c: char) -> Result<(), AllocError>
-    ensures written { OnOk result (bytes.new.items ≡ bytes.old.items ++ encode_utf8 c) }
-    ensures before { take (length bytes.old.items) bytes.new.items ≡ bytes.old.items }
-{
-    let mut room = [0; 4];
-    bytes.extend_from_slice(c.encode_utf8(&mut room).as_bytes())
-}
-
-/// Appends in UTF-8 the character of an escape `\uXXXX`, or of two for a surrogate pair, and gives
-/// how many bytes the escape takes from its backslash on. `x` is what follows the first `u`. `None`
-/// if that is no escape.
-#[inline(never)]
-pub fn push_unit_escape(x: &[u8], out: &mut Vec<u8>) -> Result<Option<usize>, AllocError>
-    ensures escape { IfOk result (λ r. MatchOption r (unit_from (code_at x.now) (drop 4 x.now) ≡ None) (λ size. (c : ℕ) × (unit_from (code_at x.now) (drop 4 x.now) ≡ Some (c, size)) × (out.new.items ≡ out.old.items ++ encode_utf8 c))) }
-    ensures before { take (length out.old.items) out.new.items ≡ out.old.items }
-{
-    match unit_at(x) {
-        Some((c, size)) => {
-            push_char(out, c)?;
-            Ok(Some(size))
-        }
-        None => Ok(None),
-    }
 }
 
 /// Why a string is bad, and how many bytes of `tail`, which follows its opening quote, it takes

@@ -9,8 +9,8 @@ ghost use Rattle.cborn_lex.specs.Cited.{is_escape, escape_code};
 ghost use Rattle.cborn_lex.specs.devices.Common.{escape_of, is_plain, is_special, LettersSoFar, LettersTaken, NoText};
 ghost use Rattle.std.specs.Simd.Lanes.{mask_l};
 
-use crate::escaped::push_unit_escape;
 use crate::slices::rest_of;
+use crate::units::unit_at;
 use std::alloc::AllocError;
 use std::simd::prelude::*;
 
@@ -245,16 +245,26 @@ fn push_escape(
     }
     let second = tail[at + 1];
     if second == b'u' {
-        return match push_unit_escape(rest_of(tail, at + 2), out)? {
-            Some(size) => Ok(Some(at + size)),
-            None => Ok(None),
+        let Some(c) = unit_at(rest_of(tail, at + 2)) else {
+            return Ok(None);
         };
+        push_char(out, c)?;
+        return Ok(Some(at + 6 * c.len_utf16()));
     }
     if push_short_escape(quote, tail, at, out)? {
         Ok(Some(at + 2))
     } else {
         Ok(None)
     }
+}
+
+/// Appends the character `c` in UTF-8.
+fn push_char(bytes: &mut Vec<u8>, c: char) -> Result<(), AllocError>
+    ensures written { OnOk result (bytes.new.items ≡ bytes.old.items ++ encode_utf8 c) }
+    ensures before { take (length bytes.old.items) bytes.new.items ≡ bytes.old.items }
+{
+    let mut room = [0; 4];
+    bytes.extend_from_slice(c.encode_utf8(&mut room).as_bytes())
 }
 
 /// Appends the character of the escape of two characters whose backslash is at the offset `at` of

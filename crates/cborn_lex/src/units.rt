@@ -1,6 +1,6 @@
 //! The units of UTF-16 that escapes `\uXXXX` write (RFC 8259 section 7).
 
-ghost use Rattle.std.specs.Prelude.{◌≡◌, ◌<◌, ◌≤◌, length, drop, true, IfSome, Some, None, if◌then◌else◌};
+ghost use Rattle.std.specs.Prelude.{◌≡◌, ◌<◌, ◌≤◌, length, drop, true, IfSome, IfNone, Some, None, if◌then◌else◌};
 ghost use Rattle.cborn_lex.specs.Cited.{are_hex, code, is_high, is_low};
 ghost use Rattle.cborn_lex.specs.devices.Common.{code_at, low_code, unit_from};
 
@@ -46,20 +46,21 @@ fn low_code(x: &[u8]) -> Option<u32>
     if is_low(n) { Some(n) } else { None }
 }
 
-/// The character of an escape `\uXXXX`, or of two for a surrogate pair, and how many bytes the
-/// escape takes from its backslash on. `x` is what follows the first `u`. `None` if that is no
-/// escape.
-pub fn unit_at(x: &[u8]) -> Option<(char, usize)>
-    ensures { result ≡ unit_from (code_at x.now) (drop 4 x.now) }
+/// The character of an escape `\uXXXX`, or of two for a surrogate pair. `x` is what follows the first
+/// `u`. `None` if that is no escape. From its backslash on the escape takes six bytes for each unit of
+/// the character. Out of line, since most escapes have two characters.
+#[inline(never)]
+pub fn unit_at(x: &[u8]) -> Option<char>
+    ensures none { IfNone result (unit_from (code_at x.now) (drop 4 x.now) ≡ None) }
+    ensures one { IfSome result (λ c. c < 0x1_0000 → unit_from (code_at x.now) (drop 4 x.now) ≡ Some (c, 6)) }
+    ensures two { IfSome result (λ c. 0x1_0000 ≤ c → unit_from (code_at x.now) (drop 4 x.now) ≡ Some (c, 12)) }
 {
     let n = code_at(x)?;
     if is_high(n) {
         let m = low_code(rest_of(x, 4))?;
-        let c = char::from_u32(0x1_0000 + (n - 0xD800) * 0x400 + (m - 0xDC00))?;
-        Some((c, 12))
+        char::from_u32(0x1_0000 + (n - 0xD800) * 0x400 + (m - 0xDC00))
     } else {
-        let c = char::from_u32(n)?;
-        Some((c, 6))
+        char::from_u32(n)
     }
 }
 
