@@ -23,6 +23,7 @@ fn hex_code(a: u8, b: u8, c: u8, d: u8) -> Option<u32>
 
 /// The unit that the four hexadecimal digits write that `x` begins with. `None` if there are no four.
 #[tactic(auto, using(crate::proofs::Contents::Letters::no_code))]
+#[inline(always)]
 pub fn code_at(x: &[u8]) -> Option<u32>
     ensures value { result ≡ code_at x.now }
     ensures small { IfSome result (λ n. (n < 65536) × (4 ≤ length x.now)) }
