@@ -32,7 +32,6 @@ help:
 	@echo 'make stack      the least stack that each command needs at 1,024 levels: no more than STACK KB (STACK is $(STACK))'
 	@echo 'make big        the largest inputs there are, 2^30 bytes, with time and memory: some minutes, 8 GB of memory, 3 GB of disk'
 	@echo 'make library-growths   the tests of the libraries, proved and built first, with each growth refused in turn'
-	@echo 'make gate-cost  the merge gate, and how much processor time each crate took of it'
 	@echo 'make bench      time the commands on a corpus of 130 MB, made under bench/corpus'
 	@echo 'make bench-peers    the program beside its peers, whose drivers it builds (Debian packages; it says which): some ten minutes'
 	@echo 'make bench-growth   time and memory from 1 MB to 1 GB, beside two peers: some 20 minutes, 5 GB of disk'
@@ -140,7 +139,7 @@ library-growths: built-tests
 built-tests: kit
 	cd crates/cborn_tests && rt test
 
-.PHONY: bench-peers bench-growth bench-cost gate-cost
+.PHONY: bench-peers bench-growth bench-cost
 
 # the last file that corpus.py writes
 CORPUS := bench/corpus/small-10000.cbor
@@ -167,9 +166,6 @@ pictures:
 
 bench-cost: build
 	python3 bench/cost.py $(PROGRAM) $(BENCH)
-
-gate-cost:
-	python3 bench/gate.py rt ci
 
 install: build
 	@echo 'Program, man page, completions, and the library with its header and cborn.pc go below $(DESTDIR)$(PREFIX); the library is proved first.'
