@@ -39,11 +39,11 @@ fn is_deterministic(
 /// Catches a call that gives up where a sequence has many items. Its contract would be kept.
 #[test]
 fn many_items_loaded(rt: HostRuntime) -> Result<(), Fail> {
-    let input = [7; 100_000];
+    let input = [7; 70_000];
     let mut bytes = Bytes::new(&input, 1 << 16);
     let nodes = load(rt.alloc(), Limit::USUAL, Kind::Wire, &mut bytes)?;
-    assert_eq!(rt; nodes.len(), 100_000);
-    assert_eq!(rt; show(rt.alloc(), &nodes)?.as_str().len(), 299_999);
+    assert_eq!(rt; nodes.len(), 70_000);
+    assert_eq!(rt; show(rt.alloc(), &nodes)?.as_str().len(), 209_999);
     is_deterministic(&rt, rt.alloc(), &nodes, &input)
 }
 
