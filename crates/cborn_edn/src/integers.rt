@@ -30,6 +30,14 @@ pub(crate) fn integer_at(text: &[u8], at: usize) -> Option<Integer>
     let tail = &text[at..];
     let (number, len) = decimal_at(tail)?;
     let after = &tail[len..];
+    if begins_with(b',', after) {
+        return Some(Integer {
+            number,
+            mark: Mark::Absent,
+            is_tag: false,
+            stop: at + len,
+        });
+    }
     let (found, size) = mark_at(after);
     let mark = found?;
     let is_tag = begins_with(b'(', &after[size..]);

@@ -37,7 +37,7 @@ pub fn read_piece<R: Source>(reader: &mut R, buf: &mut [u8], left: u64) -> Resul
 const FIRST_ROOM: usize = 512;
 
 /// The most by which a buffer grows at once, in bytes.
-const MOST_ROOM: usize = 1 << 18;
+const MOST_ROOM: usize = 1 << 16;
 
 /// Makes room for a piece after the first `filled` bytes, which stay. A full buffer grows by its
 /// length, but by no less than `FIRST_ROOM` and by no more than `MOST_ROOM`.

@@ -200,7 +200,8 @@ fn goes_on(c: u8) -> bool
     requires { is_digit c 10 ≡ false }
     ensures { result ≡ is_numeral c }
 {
-    c.is_ascii_alphabetic() || c == b'.'
+    // A comma follows most numbers.
+    c != b',' && (c.is_ascii_alphabetic() || c == b'.')
 }
 
 /// The value of the decimal digit at the offset `at` of `tail`; `None` if there is none.

@@ -4,21 +4,19 @@ ghost use Rattle.std.specs.Prelude.{◌≡◌, ◌<◌, ◌≤◌, length, drop,
 ghost use Rattle.cborn_lex.specs.Cited.{are_hex, code, is_high, is_low};
 ghost use Rattle.cborn_lex.specs.devices.Common.{code_at, low_code, unit_from};
 
-use crate::integers::digit_of;
 use crate::slices::rest_of;
 
 /// The number that four hexadecimal digits write. `None` if one of them is no such digit.
-#[inline]
+#[inline(always)]
 fn hex_code(a: u8, b: u8, c: u8, d: u8) -> Option<u32>
     ensures value { result ≡ (if are_hex a b c d then Some (code a b c d) else None) }
     ensures small { IfSome result (λ n. n < 65536) }
 {
-    let (a, b, c, d) = (digit_of(a), digit_of(b), digit_of(c), digit_of(d));
-    if a < 16 && b < 16 && c < 16 && d < 16 {
-        Some(((a as u32 * 16 + b as u32) * 16 + c as u32) * 16 + d as u32)
-    } else {
-        None
-    }
+    let a = char::from(a).to_digit(16)?;
+    let b = char::from(b).to_digit(16)?;
+    let c = char::from(c).to_digit(16)?;
+    let d = char::from(d).to_digit(16)?;
+    Some(((a * 16 + b) * 16 + c) * 16 + d)
 }
 
 /// The unit that the four hexadecimal digits write that `x` begins with. `None` if there are no four.
@@ -36,6 +34,7 @@ pub fn code_at(x: &[u8]) -> Option<u32>
 
 /// The low surrogate of the escape that `x` begins with, if there is one.
 #[tactic(auto, using(crate::proofs::Contents::Letters::no_low))]
+#[inline(never)]
 fn low_code(x: &[u8]) -> Option<u32>
     ensures value { result ≡ low_code x.now }
     ensures low { IfSome result (λ n. is_low n ≡ true) }

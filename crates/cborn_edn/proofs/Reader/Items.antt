@@ -47,6 +47,11 @@ module _ (profile : Profile) (text tail after : List ℕ) (at len size n : ℕ) 
       token_here profile text (x ++ (mark ++ 40 ∷ [])) z at (at + len + size + 1) (TagOpen n m) all long
       (good.tag x mark z n m (numeral false x mark (40 ∷ z) n m i (subst (λ (y : List ℕ). IsRun is_numeral x (mark ++ y)) split run) (subst (λ (y : List ℕ). IsIndicator mark y) split k, o)))
 
+-- what begins with a comma
+pub before_comma : (x : List ℕ) → begins (λ c. eqb c 44) x ≡ true → (begins (λ c. eqb c 95) x ≡ false) × (begins (λ c. eqb c 40) x ≡ false)
+before_comma [] h = absurd (false≢true h)
+before_comma (c ∷ x) h = let e = eqb-true c 44 h in (rw e refl, rw e refl)
+
 below_signed : (n : ℕ) → 0 < n → signed true n Absent ≡ Number true n Absent
 below_signed n h = let e : eqb n 0 ≡ false = ne_eqb n 0 (λ f. omega (arith, h, f)) in ap (λ b. Number (not b) n Absent) e
 
