@@ -1,6 +1,6 @@
 //! Hints: numbers by which most keys are compared without a look at their bytes.
 
-ghost use Rattle.std.specs.Prelude.{◌≡◌, ◌<◌, ◌^◌};
+ghost use Rattle.std.specs.Prelude.{◌≡◌, ◌<◌, ◌≤◌, ◌^◌, length, drop};
 ghost use Rattle.cborn_judge.specs.devices.Hints.{front_of, length_hint, hint_of};
 
 use cborn_model::KnownOrder;
@@ -37,12 +37,28 @@ fn front_number(key: &[u8]) -> u64
 {
     match key {
         [a, b, c, d, e, f, g, h, ..] => u64::from_be_bytes([*a, *b, *c, *d, *e, *f, *g, *h]),
-        [a, b, c, d, rest @ ..] => {
-            u64::from(u32::from_be_bytes([*a, *b, *c, *d])) * 0x1_0000_0000
-                + u64::from(short_number(rest)) * 256
+        [a, b, c, d, ..] => {
+            u64::from(u32::from_be_bytes([*a, *b, *c, *d])) * 0x1_0000_0000 + after_four(key)
         }
         _ => u64::from(short_number(key)) * 0x100_0000_0000,
     }
+}
+
+/// The big-endian number of what comes after the first four bytes of a key of four to seven, as if
+/// zeros followed up to the eighth. It is cut out of the last four bytes, whatever the length: a branch
+/// for each length would be mispredicted.
+#[inline(always)]
+fn after_four(key: &[u8]) -> u64
+    requires from_four { 4 ≤ length key.now }
+    requires to_seven { length key.now < 8 }
+    ensures value { result ≡ front_of 4 (drop 4 key.now) }
+    ensures below { result < 2 ^ 32 }
+{
+    let [.., a, b, c, d] = key else {
+        unreachable!();
+    };
+    let last = u64::from(u32::from_be_bytes([*a, *b, *c, *d]));
+    (last << (64 - 8 * key.len())) % 0x1_0000_0000
 }
 
 /// The big-endian number of the first three bytes, as if zeros followed them.

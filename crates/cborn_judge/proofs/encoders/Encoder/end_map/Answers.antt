@@ -1,4 +1,4 @@
-use Rattle.cborn_judge.proofs.Common.{ℕ, List, drop, sym, ap, ◌∙◌, subst, not, Option, inside, Mark, FindsDescent, Stands, AreAllHinted, on_ok}
+use Rattle.cborn_judge.proofs.Common.{ℕ, List, drop, sym, ap, ◌∙◌, subst, not, Option, inside, Mark, FindsDescent, Stands, on_ok}
 use Rattle.cborn_judge.specs.declared.defects.Defect.{Defect}
 use Rattle.cborn_judge.proofs.Encoding.PairsMet.{none_of}
 use Rattle.cborn_judge.proofs.encoders.Encoder.end_map.Goals as goal
