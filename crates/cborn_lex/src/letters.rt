@@ -264,7 +264,10 @@ fn push_char(bytes: &mut Vec<u8>, c: char) -> Result<(), AllocError>
     ensures before { take (length bytes.old.items) bytes.new.items ≡ bytes.old.items }
 {
     let mut room = [0; 4];
-    bytes.extend_from_slice(c.encode_utf8(&mut room).as_bytes())
+    for byte in c.encode_utf8(&mut room).as_bytes() {
+        bytes.push(*byte)?;
+    }
+    Ok(())
 }
 
 /// Appends the character of the escape of two characters whose backslash is at the offset `at` of
