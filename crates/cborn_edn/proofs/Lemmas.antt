@@ -9,7 +9,7 @@ pub use Rattle.cborn_edn.proofs.Meaning.NoError.{no_left}
 pub use Rattle.cborn_edn.proofs.Notating.{error_is}
 pub use Rattle.cborn_edn.proofs.Reader.Built.{chunk_noted, chunk_read, chunks_open, chunks_shown, content_shown, item_noted, item_read, joint_shown, kind_shown}
 pub use Rattle.cborn_edn.proofs.Reader.Closed.{closed, closed_sized, content_states, embed_kept, fields_states}
-pub use Rattle.cborn_edn.proofs.Reader.CommonTokens.{single_here, sized_end_here, white_here}
+pub use Rattle.cborn_edn.proofs.Reader.CommonTokens.{separator_here, single_here, sized_end_here, white_here}
 pub use Rattle.cborn_edn.proofs.Reader.Ending.{bare_end, first_reads, item_end, string_end}
 pub use Rattle.cborn_edn.proofs.Reader.Going.{begins, free_none, stopped}
 pub use Rattle.cborn_edn.proofs.Reader.Inverted.{embed_at, embed_step, ending, no_embed}
@@ -20,7 +20,7 @@ pub use Rattle.cborn_edn.proofs.Reader.Rows.{AtEnd, entries_few, in_content, in_
 pub use Rattle.cborn_edn.proofs.Reader.Settling.{text_item, text_noted}
 pub use Rattle.cborn_edn.proofs.Reader.Showing.{known_bytes, same_around, same_errors}
 pub use Rattle.cborn_edn.proofs.Reader.Stepping.{further, last_read, ready, refusal, same_read, stop_inside, token_read, went_on}
-pub use Rattle.cborn_edn.proofs.Reader.Taking.{after_taken, chunked, end_taken, few_here, item_taken, may_end, shown_as, simple_number, sized_kind, sized_low, skipped, skipped_to, taken_from, text_taken, went}
-pub use Rattle.cborn_edn.proofs.Reader.Turning.{adding, appends_nothing, arm, bare_taken, chunk_home, colon_handed, comma_handed, embed_taken, ended_same, is_builds, is_has, is_has_number, is_wants, is_wants_number, item_home, no_chunk, no_piece, no_piece_taken, not_text, paren_handed, same_handed, shown_kind, start_inside, still_taken, taken_as, taken_same, turn}
+pub use Rattle.cborn_edn.proofs.Reader.Taking.{after_taken, chunked, end_taken, few_here, item_taken, may_end, separator_low, shown_as, simple_number, sized_kind, sized_low, skipped, skipped_to, taken_from, text_taken, went}
+pub use Rattle.cborn_edn.proofs.Reader.Turning.{adding, appends_nothing, arm, bare_taken, chunk_home, embed_taken, ended_same, is_builds, is_has, is_has_number, is_wants, is_wants_number, item_home, no_chunk, no_piece, no_piece_taken, not_text, paren_handed, same_handed, separator_handed, shown_kind, start_inside, still_taken, taken_as, taken_same, turn}
 pub use Rattle.cborn_edn.proofs.Short.Facts.{shown_back, shown_only}
 pub use Rattle.cborn_edn.proofs.Shown.Characters.{fits_more, fits_whole, is_text}

@@ -113,27 +113,22 @@ pub(crate) fn end_tag<V: Visitor>(
     Ok(true)
 }
 
-/// Takes a colon after an item, if the item is a key.
+/// Takes a colon after an item, if the item is a key; or else a comma, if another item or pair may
+/// follow there.
 #[inline(always)]
-pub(crate) fn end_key(here: &mut Here, writer: &Writer) -> bool
-    ensures taken { (st : Stack) (i : Item) (a : Place) → Shows here.old writer.now writer.now.pieces.items (has st i) → Turned result (has st i) Colon a here.new writer.now }
-    ensures kept { result ≡ false → here.new ≡ here.old }
-{
-    if !is_in(Level::Key, here.level) {
-        return false;
-    }
-    here.phase = Phase::Wants;
-    here.level = Level::Value;
-    true
-}
-
-/// Takes a comma after an item, if another item or pair may follow there.
-#[inline(always)]
-pub(crate) fn end_entry(here: &mut Here, writer: &Writer) -> bool
+pub(crate) fn end_part(is_colon: bool, here: &mut Here, writer: &Writer) -> bool
     requires { here.old.count < 2 ^ 63 }
-    ensures taken { (st : Stack) (i : Item) (a : Place) → Shows here.old writer.now writer.now.pieces.items (has st i) → Turned result (has st i) Comma a here.new writer.now }
+    ensures taken { (st : Stack) (i : Item) (a : Place) → Shows here.old writer.now writer.now.pieces.items (has st i) → Turned result (has st i) (pure.separator_of is_colon) a here.new writer.now }
     ensures kept { result ≡ false → here.new ≡ here.old }
 {
+    if is_colon {
+        if !is_in(Level::Key, here.level) {
+            return false;
+        }
+        here.phase = Phase::Wants;
+        here.level = Level::Value;
+        return true;
+    }
     if is_in(Level::Value, here.level) {
         here.count += 1;
         here.phase = Phase::WantsMore;

@@ -8,16 +8,20 @@ ghost use Rattle.cborn_lex.specs.declared.classes.Class.TheVariants as classes;
 use crate::integers::begins_with;
 use cborn_lex::{Mark, mark_at};
 
-/// The indicator of the opening bracket at the offset `at` of `text`, and the offset after it.
-/// `None` if an underscore follows the bracket that begins no indicator.
+/// Of the `{` or `[` at the offset `at` of `text`: whether it begins a map, its indicator, and the offset
+/// after it. `None` if no such bracket is there, or if an underscore follows it that begins no indicator.
 #[inline(always)]
-pub(crate) fn opening_at(text: &[u8], at: usize) -> Option<(Mark, usize)>
+pub(crate) fn opening_at(text: &[u8], at: usize) -> Option<(bool, Mark, usize)>
     requires { at < length text.now }
-    ensures within { IfSome result (λ r. r.1 ≤ length text.now) }
-    ensures token { IfSome result (λ r. (profile : Profile) (is_map : Bool) → slice_index text.now at ≡ opening_character is_map → IsTokenAt profile text.now at r.1 (opening is_map r.0)) }
+    ensures within { IfSome result (λ r. r.2 ≤ length text.now) }
+    ensures token { IfSome result (λ r. (profile : Profile) → IsTokenAt profile text.now at r.2 (opening r.0 r.1)) }
 {
+    let is_map = text[at] == b'{';
+    if text[at] != opening_character(is_map) {
+        return None;
+    }
     let (mark, len) = mark_at(&text[at + 1..]);
-    Some((mark?, at + 1 + len))
+    Some((is_map, mark?, at + 1 + len))
 }
 
 /// Whether `text` has a `{`, or else a `[`, at the offset `at`, and no indicator after it.

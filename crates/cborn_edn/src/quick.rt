@@ -11,7 +11,7 @@ ghost use Rattle.cborn_edn.specs.declared.states.Phase.TheVariants as phases;
 
 use crate::integers::integer_at;
 use crate::numbers::{Numeral, close_simple, put_simple};
-use crate::quick_ends::{take_after, take_after_pieces, take_empty_end};
+use crate::quick_ends::{take_after, take_after_pieces, take_sized_ends};
 use crate::quick_items::{
     take_chunked, take_embedded, take_integer, take_negative, take_openings, take_text, take_word,
 };
@@ -79,8 +79,8 @@ fn take_first<V: Visitor>(
         b'f' | b'n' | b't' | b'u' => take_word(source, here, writer, visitor),
         b'<' => take_embedded(source, here, writer, visitor),
         b'(' => take_chunked(source, here, writer, visitor),
-        b']' => take_empty_end(false, source, here, writer, visitor),
-        b'}' => take_empty_end(true, source, here, writer, visitor),
+        b']' if here.phase == Phase::Wants => take_sized_ends(false, source, here, writer, visitor),
+        b'}' if here.phase == Phase::Wants => take_sized_ends(true, source, here, writer, visitor),
         _ => take_white_space(source, here, writer, visitor),
     }
 }

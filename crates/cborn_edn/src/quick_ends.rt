@@ -7,7 +7,7 @@ ghost use Rattle.cborn_edn.specs.devices.Common.{IsInside, Goes};
 ghost use Rattle.cborn_edn.specs.devices.Steps as pure;
 
 use crate::containers::close_sized;
-use crate::endings::{end_embedded, end_entry, end_key, end_tag, ends_sized, has_chunks};
+use crate::endings::{end_embedded, end_part, end_tag, ends_sized, has_chunks};
 use crate::marks::embed_end_at;
 use crate::quick::{skip_space, take_white_space};
 use crate::states::{Here, Phase, Source, Writer};
@@ -29,8 +29,8 @@ pub(crate) fn take_after<V: Visitor>(
     ensures { IfOk result (Goes (V.holds visitor.new) source.entry here.old here.new writer.new) }
 {
     match source.text.as_bytes()[here.at] {
-        b',' => take_comma(source, here, writer, visitor),
-        b':' => take_colon(source, here, writer, visitor),
+        b',' => take_separator(false, source, here, writer, visitor),
+        b':' => take_separator(true, source, here, writer, visitor),
         b']' => take_sized_ends(false, source, here, writer, visitor),
         b'}' => take_sized_ends(true, source, here, writer, visitor),
         b')' => take_tag_end(source, here, writer, visitor),
@@ -39,9 +39,10 @@ pub(crate) fn take_after<V: Visitor>(
     }
 }
 
-/// Takes a comma after an item, and a space after the comma.
+/// Takes a colon or else a comma after an item, and a space after it.
 #[inline(always)]
-fn take_comma<V: Visitor>(
+fn take_separator<V: Visitor>(
+    is_colon: bool,
     source: Source,
     here: &mut Here,
     writer: &mut Writer,
@@ -49,33 +50,11 @@ fn take_comma<V: Visitor>(
 ) -> Result<bool, AllocError>
     requires inside { IsInside (V.holds visitor.old) source here.old writer.old }
     requires has { here.old.phase ≡ phases.Has }
-    requires comma { slice_index source.text.now here.old.at ≡ 44 }
+    requires separator { slice_index source.text.now here.old.at ≡ (if is_colon then 58 else 44) }
     ensures { IfOk result (Goes (V.holds visitor.new) source.entry here.old here.new writer.new) }
 {
     let at = here.at;
-    if !end_entry(here, writer) {
-        return Ok(false);
-    }
-    here.at = at + 1;
-    skip_space(source.text, here);
-    Ok(true)
-}
-
-/// Takes a colon after an item, and a space after the colon.
-#[inline(always)]
-fn take_colon<V: Visitor>(
-    source: Source,
-    here: &mut Here,
-    writer: &mut Writer,
-    visitor: &mut V,
-) -> Result<bool, AllocError>
-    requires inside { IsInside (V.holds visitor.old) source here.old writer.old }
-    requires has { here.old.phase ≡ phases.Has }
-    requires colon { slice_index source.text.now here.old.at ≡ 58 }
-    ensures { IfOk result (Goes (V.holds visitor.new) source.entry here.old here.new writer.new) }
-{
-    let at = here.at;
-    if !end_key(here, writer) {
+    if !end_part(is_colon, here, writer) {
         return Ok(false);
     }
     here.at = at + 1;
@@ -120,24 +99,6 @@ fn closes(is_map: bool, text: &[u8], here: &Here) -> bool
         return false;
     }
     ends_sized(is_map, here.phase, here.level)
-}
-
-/// Takes a `}` or `]` directly after the bracket that opens.
-#[inline(always)]
-pub(crate) fn take_empty_end<V: Visitor>(
-    is_map: bool,
-    source: Source,
-    here: &mut Here,
-    writer: &mut Writer,
-    visitor: &mut V,
-) -> Result<bool, AllocError>
-    requires { IsInside (V.holds visitor.old) source here.old writer.old }
-    ensures { IfOk result (Goes (V.holds visitor.new) source.entry here.old here.new writer.new) }
-{
-    if here.phase != Phase::Wants {
-        return Ok(false);
-    }
-    take_sized_ends(is_map, source, here, writer, visitor)
 }
 
 /// Takes the `)` of a tag.
@@ -199,29 +160,12 @@ pub(crate) fn take_after_pieces<V: Visitor>(
     if !ends_string(source.text.as_bytes()[here.at]) {
         return Ok(false);
     }
-    if has_chunks(writer.chunks) {
-        return take_after_chunk(source, here, writer, visitor);
+    let at = here.at;
+    if !has_chunks(writer.chunks) {
+        end_item(here, writer, visitor)?;
+        here.at = at;
+        return Ok(false);
     }
-    let at = here.at;
-    end_item(here, writer, visitor)?;
-    here.at = at;
-    Ok(false)
-}
-
-/// Takes a comma or a `)` after a chunk.
-#[inline(always)]
-fn take_after_chunk<V: Visitor>(
-    source: Source,
-    here: &mut Here,
-    writer: &mut Writer,
-    visitor: &mut V,
-) -> Result<bool, AllocError>
-    requires inside { IsInside (V.holds visitor.old) source here.old writer.old }
-    requires builds { here.old.phase ≡ phases.Builds }
-    requires chunk { pure.has_chunks writer.old.chunks ≡ true }
-    ensures { IfOk result (Goes (V.holds visitor.new) source.entry here.old here.new writer.new) }
-{
-    let at = here.at;
     match source.text.as_bytes()[at] {
         b',' => {
             end_chunk(here, writer, visitor)?;

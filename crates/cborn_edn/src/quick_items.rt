@@ -7,7 +7,7 @@ ghost use Rattle.cborn_edn.specs.Common.{Profile};
 ghost use Rattle.cborn_edn.specs.devices.Common.{IsInside, IsTokenAt, IsWanting, Goes, opening_character};
 
 use crate::containers::{open_embedded, open_sized, open_tag};
-use crate::integers::{Integer, integer_at, negative_at};
+use crate::integers::{integer_at, negative_at};
 use crate::marks::{embeds_at, opening_at, opens_at, opens_chunks_at};
 use crate::numbers::{Numeral, put_number, put_word};
 use crate::quick_ends::take_sized_ends;
@@ -34,7 +34,19 @@ pub(crate) fn take_integer<V: Visitor>(
         return Ok(false);
     };
     if found.is_tag {
-        return take_tag(found, source, here, writer, visitor);
+        if writer.brackets.count() >= source.limit {
+            return Ok(false);
+        }
+        open_tag(
+            found.number as u128,
+            found.mark,
+            here.at,
+            here,
+            writer,
+            visitor,
+        )?;
+        here.at = found.stop;
+        return Ok(true);
     }
     if writer.brackets.count() > source.limit {
         return Ok(false);
@@ -45,28 +57,6 @@ pub(crate) fn take_integer<V: Visitor>(
         mark: found.mark,
     };
     put_number(numeral, here.at, here, writer, visitor)?;
-    here.at = found.stop;
-    Ok(true)
-}
-
-/// Takes the number of a tag and its `(`, which `integer_at` found.
-#[inline(always)]
-fn take_tag<V: Visitor>(
-    found: Integer,
-    source: Source,
-    here: &mut Here,
-    writer: &mut Writer,
-    visitor: &mut V,
-) -> Result<bool, AllocError>
-    requires wanting { IsWanting (V.holds visitor.old) source here.old writer.old }
-    requires token { (profile : Profile) → IsTokenAt profile source.text.now here.old.at found.stop (classes.TagOpen found.number found.mark) }
-    ensures { IfOk result (Goes (V.holds visitor.new) source.entry here.old here.new writer.new) }
-{
-    if writer.brackets.count() >= source.limit {
-        return Ok(false);
-    }
-    let n = found.number as u128;
-    open_tag(n, found.mark, here.at, here, writer, visitor)?;
     here.at = found.stop;
     Ok(true)
 }
@@ -131,30 +121,13 @@ pub(crate) fn take_text<V: Visitor>(
     ensures { IfOk result (Goes (V.holds visitor.new) source.entry here.old here.new writer.new) }
 {
     let bytes = source.text.as_bytes();
-    let Some(found) = plain_text_at(source.profile, bytes, here.at) else {
-        return take_escaped(source, here, writer, visitor);
-    };
-    let content = &bytes[here.at + 1..here.at + 1 + found.len];
-    put_text(content, here, writer, visitor)?;
-    here.at = found.stop;
-    Ok(true)
-}
-
-/// Takes a text string of one piece without an indicator, which may have escapes, and the white space
-/// after it.
-#[inline(always)]
-fn take_escaped<V: Visitor>(
-    source: Source,
-    here: &mut Here,
-    writer: &mut Writer,
-    visitor: &mut V,
-) -> Result<bool, AllocError>
-    requires wanting { IsWanting (V.holds visitor.old) source here.old writer.old }
-    requires quote { slice_index source.text.now here.old.at ≡ 34 }
-    ensures { IfOk result (Goes (V.holds visitor.new) source.entry here.old here.new writer.new) }
-{
+    if let Some(found) = plain_text_at(source.profile, bytes, here.at) {
+        let content = &bytes[here.at + 1..here.at + 1 + found.len];
+        put_text(content, here, writer, visitor)?;
+        here.at = found.stop;
+        return Ok(true);
+    }
     let start = writer.pieces.len();
-    let bytes = source.text.as_bytes();
     let mut stop = here.at;
     if !push_text(source.profile, bytes, &mut stop, &mut writer.pieces)? {
         writer.pieces.truncate(start);
@@ -207,27 +180,7 @@ pub(crate) fn take_marked<V: Visitor>(
     if !matches!(here.phase, Phase::Wants | Phase::WantsMore) {
         return Ok(false);
     }
-    match source.text.as_bytes()[here.at] {
-        b'[' => take_opening(false, source, here, writer, visitor),
-        b'{' => take_opening(true, source, here, writer, visitor),
-        _ => Ok(false),
-    }
-}
-
-/// Takes a `{`, or else a `[`, and its indicator.
-#[inline(always)]
-fn take_opening<V: Visitor>(
-    is_map: bool,
-    source: Source,
-    here: &mut Here,
-    writer: &mut Writer,
-    visitor: &mut V,
-) -> Result<bool, AllocError>
-    requires wanting { IsWanting (V.holds visitor.old) source here.old writer.old }
-    requires bracket { slice_index source.text.now here.old.at ≡ opening_character is_map }
-    ensures { IfOk result (Goes (V.holds visitor.new) source.entry here.old here.new writer.new) }
-{
-    let Some((mark, stop)) = opening_at(source.text.as_bytes(), here.at) else {
+    let Some((is_map, mark, stop)) = opening_at(source.text.as_bytes(), here.at) else {
         return Ok(false);
     };
     if writer.brackets.count() >= source.limit {

@@ -6,7 +6,7 @@ ghost use Rattle.cborn_edn.specs.devices.Common.{Span as Place, Item, Pieces as 
 ghost use Rattle.cborn_edn.specs.Common.{Mark as Indicator, class_of};
 
 use crate::containers::{open_embedded, open_sized, open_tag};
-use crate::endings::{end_embedded, end_entry, end_key, end_sized, end_tag, has_chunks};
+use crate::endings::{end_embedded, end_part, end_sized, end_tag, has_chunks};
 use crate::numbers::{Numeral, close_simple, open_simple, put_number, put_simple, put_word};
 use crate::states::{Here, Phase, Writer};
 use crate::strings::{StringToken, add_piece, end_chunk, end_chunks, end_item, open_chunks};
@@ -177,8 +177,8 @@ fn after<V: Visitor>(
         Kind::MapClose => end_sized(true, here, writer, visitor),
         Kind::EmbedClose(mark) => end_embedded(mark, token.start, here, writer, visitor),
         Kind::ParenClose => end_tag(here, writer, visitor),
-        Kind::Colon => Ok(end_key(here, writer)),
-        Kind::Comma => Ok(end_entry(here, writer)),
+        Kind::Colon => Ok(end_part(true, here, writer)),
+        Kind::Comma => Ok(end_part(false, here, writer)),
         _ => Ok(false),
     }
 }

@@ -1,6 +1,6 @@
 -- Tokens, white space and comments, from the characters at an offset of a text.
 use Rattle.std.specs.Prelude.{if◌then◌else◌, ◌≡◌, ◌+◌, ◌<◌, ◌∷◌, ◌++◌}
-use Rattle.cborn_edn.proofs.Common.{Bool, false, ArrayClose, MapClose, sized_end, refl, sym, ap, ◌∙◌, subst, ℕ, List, [], length, take, drop, get_or, true, Some, None, arith, append_assoc, append-nil, drop-append_seam, drop-drop, drop_more, take-append-drop, length-take-le, list_all, Profile, Class, is_white, is_not, Covers, TokensBetween, IsTokenAt, length-append, length-drop, ProfileTwo as Two}
+use Rattle.cborn_edn.proofs.Common.{Bool, false, ArrayClose, MapClose, Colon, Comma, separator_of, sized_end, refl, sym, ap, ◌∙◌, subst, ℕ, List, [], length, take, drop, get_or, true, Some, None, arith, append_assoc, append-nil, drop-append_seam, drop-drop, drop_more, take-append-drop, length-take-le, list_all, Profile, Class, is_white, is_not, Covers, TokensBetween, IsTokenAt, length-append, length-drop, ProfileTwo as Two}
 use Rattle.cborn_lex.specs.Good as good
 use Rattle.cborn_lex.specs.Good.{Takes}
 pub use Rattle.cborn_lex.proofs.WholeTexts.Progress.{joins as join, nothing}
@@ -34,6 +34,10 @@ single_here profile text at c k h e t = token_here profile text (c ∷ []) (drop
 pub sized_end_here : (m : Bool) (profile : Profile) (text : List ℕ) (at : ℕ) → at < length text → get_or text at 0 ≡ (if m then 125 else 93) → IsTokenAt profile text at (at + 1) (sized_end m)
 sized_end_here true profile text at h e = single_here profile text at 125 MapClose h e (λ z. good.map_close z)
 sized_end_here false profile text at h e = single_here profile text at 93 ArrayClose h e (λ z. good.array_close z)
+
+pub separator_here : (m : Bool) (profile : Profile) (text : List ℕ) (at : ℕ) → at < length text → get_or text at 0 ≡ (if m then 58 else 44) → IsTokenAt profile text at (at + 1) (separator_of m)
+separator_here true profile text at h e = single_here profile text at 58 Colon h e (λ z. good.colon z)
+separator_here false profile text at h e = single_here profile text at 44 Comma h e (λ z. good.comma z)
 
 -- White space and comments.
 

@@ -1,6 +1,6 @@
 -- What one token does, by its kind.
 use Rattle.std.specs.Prelude.{◌≡◌, ◌<◌, ◌≤◌, ◌∷◌, ◌++◌, ◌⊎◌}
-use Rattle.cborn_edn.proofs.Common.{refl, sym, ap, ◌∙◌, subst, ℕ, List, [], length, Bool, true, false, Option, Some, None, append-nil, arith, inl, inr, length-append, Kind, Mark, Class, class_of, content_of, Comma, Colon, top, no_part, OfBytes, OfText, IsWritten, Speller, Span, Item, Pieces, StringsBefore, string, simple, row, no_item, after_row, Content, loose, tight, pairs, after_pairs, at_home, Here, Writer, Phase, wanting, phase_of, bytes_around_home, bytes_before, stack_in, Shows, content_state, Holds, states_around, states_around_nest, states_around_home, Handed, AllHanded, IsSpelled, Reads, Ready, Turned, Taken, Takes, Turns, EndsPieces, has_chunks, is_piece, takes_no_piece, Stack, in_row, in_key, in_value, at_top, in_embed, Home, as_item, as_chunk, State, wants, has, builds, wants_chunk, wants_number, has_number, step_by}
+use Rattle.cborn_edn.proofs.Common.{separator_of, true, false, refl, sym, ap, ◌∙◌, subst, ℕ, List, [], length, Bool, true, false, Option, Some, None, append-nil, arith, inl, inr, length-append, Kind, Mark, Class, class_of, content_of, top, no_part, OfBytes, OfText, IsWritten, Speller, Span, Item, Pieces, StringsBefore, string, simple, row, no_item, after_row, Content, loose, tight, pairs, after_pairs, at_home, Here, Writer, Phase, wanting, phase_of, bytes_around_home, bytes_before, stack_in, Shows, content_state, Holds, states_around, states_around_nest, states_around_home, Handed, AllHanded, IsSpelled, Reads, Ready, Turned, Taken, Takes, Turns, EndsPieces, has_chunks, is_piece, takes_no_piece, Stack, in_row, in_key, in_value, at_top, in_embed, Home, as_item, as_chunk, State, wants, has, builds, wants_chunk, wants_number, has_number, step_by}
 use Rattle.cborn_lex.specs.declared.classes.Kind.TheVariants as kinds
 use Rattle.cborn_lex.specs.declared.classes.Class.TheVariants as classes
 use Rattle.cborn_edn.specs.declared.states.Phase.TheVariants as phases
@@ -45,15 +45,13 @@ led h ps v u is = let e : v ≡ u = cc in subst (λ (w : State). AllHanded h ps 
 none_led : {A : Type 0} (u : State) → None ≡ Some u → A
 none_led u is = absurd (let bad : None ≡ Some u = is in cc)
 
-pub colon_handed : (h : Holds) (st : Stack) (i : Item) (a : Span) → StaysHanded h (has st i) Colon a
-colon_handed h (in_key st s m b) i a ps u is t = led h ps (wants (in_value st s m b i a)) u is (stays h ps (has (in_key st s m b) i) (wants (in_value st s m b i a)) (states_around st) (λ k. (handed_same k (has (in_key st s m b) i) (wants (in_value st s m b i a)) refl (λ q. q))) t)
-colon_handed h (in_row at_top b) i a ps u is t = none_led u is
-colon_handed h _ i a ps u is t = none_led u is
-
-pub comma_handed : (h : Holds) (st : Stack) (i : Item) (a : Span) → StaysHanded h (has st i) Comma a
-comma_handed h (in_row n b) i a ps u is t = led h ps (wants (in_row n (after_row (row b i) a))) u is (stays h ps (has (in_row n b) i) (wants (in_row n (after_row (row b i) a))) (states_around_nest n) (λ k. handed_comma k n b i a) t)
-comma_handed h (in_value st s m b k c) i a ps u is t = led h ps (wants (in_key st s m (after_pairs (pairs b k c i) a))) u is (stays h ps (has (in_value st s m b k c) i) (wants (in_key st s m (after_pairs (pairs b k c i) a))) (states_around st) (λ q. handed_pairs_comma q st s m b k c i a) t)
-comma_handed h _ i a ps u is t = none_led u is
+pub separator_handed : (h : Holds) (m : Bool) (st : Stack) (i : Item) (a : Span) → StaysHanded h (has st i) (separator_of m) a
+separator_handed h true (in_key st s m b) i a ps u is t = led h ps (wants (in_value st s m b i a)) u is (stays h ps (has (in_key st s m b) i) (wants (in_value st s m b i a)) (states_around st) (λ k. (handed_same k (has (in_key st s m b) i) (wants (in_value st s m b i a)) refl (λ q. q))) t)
+separator_handed h true (in_row at_top b) i a ps u is t = none_led u is
+separator_handed h true _ i a ps u is t = none_led u is
+separator_handed h false (in_row n b) i a ps u is t = led h ps (wants (in_row n (after_row (row b i) a))) u is (stays h ps (has (in_row n b) i) (wants (in_row n (after_row (row b i) a))) (states_around_nest n) (λ k. handed_comma k n b i a) t)
+separator_handed h false (in_value st s m b k c) i a ps u is t = led h ps (wants (in_key st s m (after_pairs (pairs b k c i) a))) u is (stays h ps (has (in_value st s m b k c) i) (wants (in_key st s m (after_pairs (pairs b k c i) a))) (states_around st) (λ q. handed_pairs_comma q st s m b k c i a) t)
+separator_handed h false _ i a ps u is t = none_led u is
 
 pub paren_handed : (h : Holds) (st : Stack) (s b : Span) (n : Bool) (v : ℕ) (m : Mark) (c : Class) (a : Span) → StaysHanded h (has_number st s b n v m) c a
 paren_handed h st s b n v m classes.ParenClose a ps u is t = led h ps (has st (simple s b n v m a)) u is (stays h ps (has_number st s b n v m) (has st (simple s b n v m a)) (states_around st) (λ k. handed_close_simple k st s b n v m a) t)

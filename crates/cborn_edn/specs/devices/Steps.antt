@@ -1,6 +1,6 @@
 -- A device of the proofs: one token that the reader takes as the machine of tokens does. No definition cites it.
 use Rattle.std.specs.Prelude.{◌≡◌, ℕ, ◌^◌, ◌<◌, List, Bool, true, false, Option, Some, None}
-use Rattle.cborn_edn.specs.Common.{Kind, Class, ArrayClose, MapClose, EmbedOpen, class_of, StandsFor, IsModest, Level, Phase, Has, WantsNumber, HasNumber, Chunks, Here, Writer}
+use Rattle.cborn_edn.specs.Common.{Kind, Class, Colon, Comma, ArrayClose, MapClose, EmbedOpen, class_of, StandsFor, IsModest, Level, Phase, Has, WantsNumber, HasNumber, Chunks, Here, Writer}
 use Rattle.cborn_lex.specs.declared.classes.Kind.TheVariants as kinds
 use Rattle.cborn_lex.specs.declared.classes.Class.TheVariants.{Text, Bytes}
 use Rattle.cborn_edn.specs.devices.Syntax.{Span, Pieces}
@@ -38,6 +38,10 @@ ends_sized false p o = is_in Array o
 abbrev pub sized_end : Bool → Class
 sized_end true = MapClose
 sized_end false = ArrayClose
+
+abbrev pub separator_of : Bool → Class
+separator_of true = Colon
+separator_of false = Comma
 
 abbrev pub has_chunks : Option Chunks → Bool
 has_chunks None = false
