@@ -50,26 +50,12 @@ fn take_before<V: Visitor>(
     ensures { IfOk result (Goes (V.holds visitor.new) source.entry here.old here.new writer.new) }
 {
     match here.phase {
-        Phase::Wants | Phase::WantsMore => take_first(source, here, writer, visitor),
-        Phase::Has => Ok(false),
-        Phase::Builds => take_after_pieces(source, here, writer, visitor),
-        Phase::WantsNumber => take_simple_number(source, here, writer, visitor),
-        Phase::HasNumber => take_simple_end(source, here, writer, visitor),
-        Phase::WantsChunk => Ok(false),
+        Phase::Wants | Phase::WantsMore => {}
+        Phase::Has | Phase::WantsChunk => return Ok(false),
+        Phase::Builds => return take_after_pieces(source, here, writer, visitor),
+        Phase::WantsNumber => return take_simple_number(source, here, writer, visitor),
+        Phase::HasNumber => return take_simple_end(source, here, writer, visitor),
     }
-}
-
-/// Takes an item, a bracket, or white space, where an item is wanted.
-#[inline(always)]
-fn take_first<V: Visitor>(
-    source: Source,
-    here: &mut Here,
-    writer: &mut Writer,
-    visitor: &mut V,
-) -> Result<bool, AllocError>
-    requires { IsWanting (V.holds visitor.old) source here.old writer.old }
-    ensures { IfOk result (Goes (V.holds visitor.new) source.entry here.old here.new writer.new) }
-{
     match source.text.as_bytes()[here.at] {
         b'0'..=b'9' => take_integer(source, here, writer, visitor),
         b'"' => take_text(source, here, writer, visitor),

@@ -2,7 +2,7 @@
 //! such a token there.
 
 ghost use Rattle.std.specs.Prelude.{◌≡◌, ℕ, ◌<◌, ◌^◌, Bool, true, false, List, IfOk};
-ghost use Rattle.cborn_edn.specs.devices.Common.{Span as Place, Item, Pieces as Joined, StringsBefore, Stack, Home, as_chunk, State, wants, has, builds, wants_number, has_number, Shows, Reads, is_piece, takes_no_piece, IsReady, Takes, Turned, Turns, EndsAt};
+ghost use Rattle.cborn_edn.specs.devices.Common.{Span as Place, Item, Pieces as Joined, Stack, Home, State, wants, has, builds, wants_number, has_number, Shows, Reads, is_piece, takes_no_piece, IsReady, Takes, Turned, Turns, EndsAt};
 ghost use Rattle.cborn_edn.specs.Common.{Mark as Indicator, class_of};
 
 use crate::containers::{open_embedded, open_sized, open_tag};
@@ -31,8 +31,7 @@ pub(crate) fn take<V: Visitor>(
         return take_piece(token, number, here, writer, visitor);
     }
     match here.phase {
-        Phase::Wants => begin(token, number, here, writer, visitor),
-        Phase::WantsMore => begin(token, number, here, writer, visitor),
+        Phase::Wants | Phase::WantsMore => begin(token, number, here, writer, visitor),
         Phase::Has => after(token, number, here, writer, visitor),
         Phase::Builds => after_pieces(token, number, here, writer, visitor),
         Phase::WantsChunk => Ok(false),
@@ -153,9 +152,7 @@ fn begin<V: Visitor>(
         Kind::ArrayClose => end_sized(false, here, writer, visitor),
         Kind::MapClose => end_sized(true, here, writer, visitor),
         Kind::EmbedClose(mark) => end_embedded(mark, place, here, writer, visitor),
-        Kind::ParenClose => Ok(false),
-        Kind::Comma => Ok(false),
-        Kind::Colon => Ok(false),
+        Kind::ParenClose | Kind::Comma | Kind::Colon => Ok(false),
         _ => unreachable!(),
     }
 }
@@ -183,7 +180,8 @@ fn after<V: Visitor>(
     }
 }
 
-/// Ends the pieces of a string or of a chunk, and takes the token after them.
+/// Ends the pieces of a string, and takes the token after them; or ends a chunk, and takes the comma or
+/// the `)` after it.
 fn after_pieces<V: Visitor>(
     token: BareToken,
     number: u128,
@@ -195,24 +193,10 @@ fn after_pieces<V: Visitor>(
     requires shows { (h : Home) × (ps : Joined) × Reads (V.holds visitor.old) here.old writer.old writer.old.pieces.items (builds h ps) }
     ensures { IfOk result (λ ok. (h : Home) (ps : Joined) → EndsAt (V.holds visitor.old) (V.holds visitor.new) token.kind number token.start here.old writer.old here.new writer.new ok h ps) }
 {
-    if has_chunks(writer.chunks) {
-        return after_chunk(token, number, here, writer, visitor);
+    if !has_chunks(writer.chunks) {
+        end_item(here, writer, visitor)?;
+        return after(token, number, here, writer, visitor);
     }
-    end_item(here, writer, visitor)?;
-    after(token, number, here, writer, visitor)
-}
-
-/// Ends a chunk, and takes the comma or the `)` after it.
-fn after_chunk<V: Visitor>(
-    token: BareToken,
-    number: u128,
-    here: &mut Here,
-    writer: &mut Writer,
-    visitor: &mut V,
-) -> Result<bool, AllocError>
-    requires { (st : Stack) × (s : Place) × (b : StringsBefore) × (ps : Joined) × Reads (V.holds visitor.old) here.old writer.old writer.old.pieces.items (builds (as_chunk st s b) ps) }
-    ensures { IfOk result (λ ok. (st : Stack) (s : Place) (b : StringsBefore) (ps : Joined) → EndsAt (V.holds visitor.old) (V.holds visitor.new) token.kind number token.start here.old writer.old here.new writer.new ok (as_chunk st s b) ps) }
-{
     match token.kind {
         Kind::Comma => {
             end_chunk(here, writer, visitor)?;

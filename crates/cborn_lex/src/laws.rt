@@ -34,6 +34,7 @@ pub fn both_profiles()
 {}
 
 /// Tokens read one by one, from 0 to the end or to where the text fails, are those of the text.
+#[tactic(auto, using(crate::proofs::WholeTexts::Progress::nothing, crate::proofs::WholeTexts::Progress::joins, crate::proofs::WholeTexts::Progress::whole_text, crate::proofs::WholeTexts::Progress::whole_stop, crate::proofs::WholeTexts::Progress::stops))]
 pub fn token_by_token()
     ensures begins { (profile : Profile) (text : List ℕ) (n : ℕ) → TokensBetween profile text n n [] }
     ensures joins { (profile : Profile) (text : List ℕ) (l m n : ℕ) (ts us : List Token) → TokensBetween profile text l m ts → TokensBetween profile text m n us → TokensBetween profile text l n (ts ++ us) }

@@ -1,15 +1,14 @@
-use Rattle.cborn_edn.proofs.Common.{sym, ◌∙◌, subst, inl, inr, class_of, IsReady, EndsPieces, State, wants, has, builds, wants_number, has_number}
+use Rattle.std.specs.Prelude.{◌≡◌, ◌⊎◌}
+use Rattle.cborn_edn.proofs.Common.{sym, ◌∙◌, subst, Phase, Wants, WantsMore, class_of, IsReady, EndsPieces, State, wants, has, builds, wants_number, has_number}
 use Rattle.cborn_edn.proofs.Lemmas.{if_ok, is_has, is_wants, is_builds, is_wants_number, is_has_number, taken_as, still_taken, paren_handed, shown_kind, bare_taken, no_piece, no_chunk}
 use Rattle.cborn_edn.proofs.steps.take.Goals as goal
 
+abbrev IsWanted : Phase → Type 0
+IsWanted p = (p ≡ Wants) ⊎ (p ≡ WantsMore)
+
 pub begin-requires-clause-ready : goal.begin-requires-clause-ready
 begin-requires-clause-ready g c =
-    let i = is_wants c.requires.0 (inl (sym c.requires.1.1.1.shows.shows.phase ∙ c.in-Wants.is)) in
-    (i.0, subst (λ (t : State). IsReady (g.V.Visitor.holds c.args.visitor.now) c.args.token.kind c.args.number c.args.here.now c.args.writer.now t) (sym i.1) c.requires.1)
-
-pub begin-requires-in-WantsMore-clause-ready : goal.begin-requires-in-WantsMore-clause-ready
-begin-requires-in-WantsMore-clause-ready g c =
-    let i = is_wants c.requires.0 (inr (sym c.requires.1.1.1.shows.shows.phase ∙ c.in-WantsMore.is)) in
+    let i = is_wants c.requires.0 (subst IsWanted c.requires.1.1.1.shows.shows.phase c.in-Wants.is) in
     (i.0, subst (λ (t : State). IsReady (g.V.Visitor.holds c.args.visitor.now) c.args.token.kind c.args.number c.args.here.now c.args.writer.now t) (sym i.1) c.requires.1)
 
 pub after-requires-clause-shows : goal.after-requires-clause-shows
@@ -26,13 +25,8 @@ after_pieces-requires-clause-shows g c =
 
 pub returns-in-Wants : goal.returns-in-Wants
 returns-in-Wants g c = if_ok c.begin.result _ _ (λ ok t s base k a p r.
-    let i = is_wants s (inl (sym r.shows.shows.phase ∙ c.in-Wants.is)) in
+    let i = is_wants s (subst IsWanted r.shows.shows.phase c.in-Wants.is) in
     bare_taken _ c.args.token.kind c.args.number c.args.token.start c.args.here.now c.begin.new.here c.args.writer.now c.begin.new.writer ok (wants i.0) s (sym c.is_piece.ensures ∙ c.if-is_piece.false) i.1 (t i.0) base k a p r) c.begin.ensures
-
-pub returns-in-WantsMore : goal.returns-in-WantsMore
-returns-in-WantsMore g c = if_ok c.begin-in-WantsMore.result _ _ (λ ok t s base k a p r.
-    let i = is_wants s (inr (sym r.shows.shows.phase ∙ c.in-WantsMore.is)) in
-    bare_taken _ c.args.token.kind c.args.number c.args.token.start c.args.here.now c.begin-in-WantsMore.new.here c.args.writer.now c.begin-in-WantsMore.new.writer ok (wants i.0) s (sym c.is_piece.ensures ∙ c.if-is_piece.false) i.1 (t i.0) base k a p r) c.begin-in-WantsMore.ensures
 
 pub returns-in-Has : goal.returns-in-Has
 returns-in-Has g c = if_ok c.after.result _ _ (λ ok t s base k a p r.
