@@ -25,58 +25,10 @@ pub(crate) fn word_at(text: &[u8], at: usize) -> Option<(u8, usize)>
 fn after_name(tail: &[u8]) -> Option<(u8, &[u8])>
     ensures { IfSome result (λ r. (w : List ℕ) × IsName w r.0 × (tail.now ≡ w ++ r.1.now)) }
 {
-    if let Some(rest) = after_true(tail) {
-        return Some((21, rest));
-    }
-    if let Some(rest) = after_null(tail) {
-        return Some((22, rest));
-    }
-    if let Some(rest) = after_false(tail) {
-        return Some((20, rest));
-    }
-    let rest = after_undefined(tail)?;
-    Some((23, rest))
-}
-
-/// What follows `true`, if `tail` begins with it.
-#[inline(always)]
-fn after_true(tail: &[u8]) -> Option<&[u8]>
-    ensures { IfSome result (λ rest. tail.now ≡ codes "true" ++ rest.now) }
-{
     match tail {
-        [b't', b'r', b'u', b'e', rest @ ..] => Some(rest),
-        _ => None,
-    }
-}
-
-/// What follows `null`, if `tail` begins with it.
-#[inline(always)]
-fn after_null(tail: &[u8]) -> Option<&[u8]>
-    ensures { IfSome result (λ rest. tail.now ≡ codes "null" ++ rest.now) }
-{
-    match tail {
-        [b'n', b'u', b'l', b'l', rest @ ..] => Some(rest),
-        _ => None,
-    }
-}
-
-/// What follows `false`, if `tail` begins with it.
-#[inline(always)]
-fn after_false(tail: &[u8]) -> Option<&[u8]>
-    ensures { IfSome result (λ rest. tail.now ≡ codes "false" ++ rest.now) }
-{
-    match tail {
-        [b'f', b'a', b'l', b's', b'e', rest @ ..] => Some(rest),
-        _ => None,
-    }
-}
-
-/// What follows `undefined`, if `tail` begins with it.
-#[inline(always)]
-fn after_undefined(tail: &[u8]) -> Option<&[u8]>
-    ensures { IfSome result (λ rest. tail.now ≡ codes "undefined" ++ rest.now) }
-{
-    match tail {
+        [b't', b'r', b'u', b'e', rest @ ..] => Some((21, rest)),
+        [b'n', b'u', b'l', b'l', rest @ ..] => Some((22, rest)),
+        [b'f', b'a', b'l', b's', b'e', rest @ ..] => Some((20, rest)),
         [
             b'u',
             b'n',
@@ -88,7 +40,7 @@ fn after_undefined(tail: &[u8]) -> Option<&[u8]>
             b'e',
             b'd',
             rest @ ..,
-        ] => Some(rest),
+        ] => Some((23, rest)),
         _ => None,
     }
 }

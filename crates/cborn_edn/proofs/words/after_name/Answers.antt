@@ -1,14 +1,15 @@
-use Rattle.cborn_edn.proofs.Common.{is_false, is_true, is_null, is_undefined, codes}
+use Rattle.cborn_edn.proofs.Common.{arith, is_false, is_true, is_null, is_undefined, codes}
+use Rattle.std.proofs.lemmas.Grind.{common_steps}
 use Rattle.cborn_edn.proofs.words.after_name.Goals as goal
 
-pub returns-in-Some : goal.returns-in-Some
-returns-in-Some c = (codes "true", is_true, c.in-Some.ensures)
+pub returns-in-116 : goal.returns-in-116
+returns-in-116 c = (codes "true", is_true, grind (arith, common_steps))
 
-pub returns-in-Some-after_null : goal.returns-in-Some-after_null
-returns-in-Some-after_null c = (codes "null", is_null, c.in-Some-after_null.ensures)
+pub returns-in-110 : goal.returns-in-110
+returns-in-110 c = (codes "null", is_null, grind (arith, common_steps))
 
-pub returns-in-Some-after_false : goal.returns-in-Some-after_false
-returns-in-Some-after_false c = (codes "false", is_false, c.in-Some-after_false.ensures)
+pub returns-in-102 : goal.returns-in-102
+returns-in-102 c = (codes "false", is_false, grind (arith, common_steps))
 
-pub returns : goal.returns
-returns c = (codes "undefined", is_undefined, c.in_ok-rest.ensures)
+pub returns-in-117 : goal.returns-in-117
+returns-in-117 c = (codes "undefined", is_undefined, grind (arith, common_steps))
