@@ -6,5 +6,4 @@ pub mod DecimalTexts
 pub mod HexTexts
 pub mod QuotedTexts
 pub mod WordTexts
-pub mod Joined
 pub mod NodeTexts

@@ -1,7 +1,6 @@
 -- The text of a partial sequence, as heads and strings come.
-use Rattle.std.specs.Prelude.{◌≡◌, ◌+◌, ◌-◌, ◌^◌, ◌≤◌, ◌∷◌, ◌++◌, ◌⊎◌, ◌/◌, ◌%◌, if◌then◌else◌}
-use Rattle.hex.specs.Hex.{encode_with}
-use Rattle.cborn_edn.proofs.Common.{refl, sym, ap, ◌∙◌, subst, ℕ, List, [], length, map, take, drop, min, decimal, append_assoc, append-nil, Option, Some, None, Bool, true, false, not, is_some, inl, inr, slice_index, Result, Ok, Err, OnOk, IfErr, IsErrAnd, arith, le-ltb, ltb-true, ltb-false, eq-eqb, IsUtf8, flat_map-append, drop-append_seam, take-append-drop, encode_lower, lower_digits, Fixed, Width, Direct, One, Two, Four, Eight, holds, least, StringKind, OfBytes, OfText, Tree, trees, entries, FitsAll, Partial, top, inside, Opening, an_array, a_map, a_tag, in_chunks, no_part, part, put, built, paired, last_key, chunks_of, string_tree, integer_tree, AreStrings, Ends, IsFree, ended_size, Notator, Absent, Wide, is_good, others, shown, shown_chunk, shown_string, shown_lines, item_texts, pair_texts, joined_by, indicator, mark_for, mark_for_size, opened, Shown, IsBadText, IsBadAmong, IsBadInPairs, IsBadChunk, LowestBadText, after, separator, ending, next_after, beginning, next_in, next_around, late_size, is_counted, one_more, IsCounted, IsEnded, count_one, tally, late_in, lates, IsBadIn, IsLowest, lowest_with, quote, content, string_end, IsHeld, codes, ByteNode as Bytes, TextNode as Text, count-trees, count_entries-entries, lower}
+use Rattle.std.specs.Prelude.{◌≡◌, ◌+◌, ◌-◌, ◌^◌, ◌≤◌, ◌∷◌, ◌++◌, ◌⊎◌, if◌then◌else◌}
+use Rattle.cborn_edn.proofs.Common.{refl, sym, ap, ◌∙◌, subst, ℕ, List, [], length, map, drop, min, decimal, append_assoc, append-nil, Option, Some, None, Bool, true, false, not, is_some, inl, inr, Result, Ok, Err, OnOk, arith, le-ltb, ltb-true, ltb-false, eq-eqb, IsUtf8, flat_map-append, drop-append_seam, encode_lower, Fixed, Width, Direct, One, Two, Four, Eight, holds, least, StringKind, OfBytes, OfText, Tree, trees, entries, FitsAll, Partial, top, inside, Opening, an_array, a_map, a_tag, in_chunks, no_part, part, put, built, paired, last_key, chunks_of, string_tree, integer_tree, AreStrings, Ends, IsFree, ended_size, Notator, Absent, Wide, is_good, others, shown, shown_chunk, shown_string, shown_lines, item_texts, pair_texts, joined_by, indicator, mark_for, mark_for_size, opened, Shown, IsBadText, IsBadAmong, IsBadInPairs, IsBadChunk, LowestBadText, after, separator, ending, next_after, beginning, next_in, next_around, late_size, is_counted, one_more, IsCounted, IsEnded, count_one, tally, late_in, lates, IsBadIn, IsLowest, lowest_with, quote, content, string_end, IsHeld, codes, ByteNode as Bytes, TextNode as Text, count-trees, count_entries-entries, lower}
 use Rattle.std.proofs.Math.Dec.{ltb}
 use Rattle.cborn_model.specs.declared.heads.Size.TheVariants.{Endless}
 use Rattle.cborn_wire.proofs.Visiting.Counting.{last_same}
@@ -9,11 +8,11 @@ use Rattle.cborn_edn.specs.declared.notators.Next.{Next}
 use Rattle.cborn_edn.specs.declared.notators.Next.TheVariants.{FirstItem, Item, FirstElement, Element, FirstKey, Key, Value, Content, FirstChunk, Chunk, FirstLateElement, LateElement, FirstLateKey, LateKey, LateValue}
 use Rattle.cborn_edn.specs.declared.notators.OpenString.{OpenString}
 use Rattle.cborn_edn.specs.declared.notators.Late.{Late}
-use Rattle.cborn_edn.specs.declared.faults.ShowFault.{ShowFault}
 use Rattle.cborn_edn.specs.devices.Notating.{following, first, written}
 use Rattle.cborn_edn.proofs.Shown.Characters.{lines_text, same_utf8}
 use Rattle.cborn_edn.proofs.Reader.Modest.{least_is_eight}
 use Rattle.cborn_edn.proofs.Shown.Lowests.{each_showable}
+use Rattle.cborn_edn.proofs.Lexed.HexTexts.{hex_nothing, hex_more}
 
 -- One more node.
 
@@ -273,8 +272,7 @@ shown_built (an_array p (Fixed w) None) ts e =
     let g = items_joined ts in
     bracketed (codes "[" ++ late_size w (length ts)) (codes "]") _ _ _ ((plain_following FirstLateElement ts).0 ∙ g.0) (ending_plain FirstLateElement ts ∙ g.1)
     ∙ ap (λ m. codes "[" ++ (opened (mark_for_size (ended_size (Fixed w) None (length ts)) m) ++ (joined_by (codes ", ") (item_texts (trees ts)) ++ codes "]"))) (sym (count-trees ts))
-shown_built (an_array p Endless (Some n)) ts e = let g = items_joined ts in bracketed (codes "[_ ") (codes "]") _ _ _ g.0 g.1
-shown_built (an_array p Endless None) ts e = let g = items_joined ts in bracketed (codes "[_ ") (codes "]") _ _ _ g.0 g.1
+shown_built (an_array p Endless c) ts e = let g = items_joined ts in bracketed (codes "[_ ") (codes "]") _ _ _ g.0 g.1
 shown_built (a_map p (Fixed w) (Some n)) ts e =
     let g = pairs_joined ts e.1 in
     bracketed (codes "{" ++ opened (mark_for w n)) (codes "}") _ _ _ g.0 g.1
@@ -283,8 +281,7 @@ shown_built (a_map p (Fixed w) None) ts e =
     let g = pairs_joined ts e.1 in
     bracketed (codes "{" ++ late_size w (length (paired ts))) (codes "}") _ _ _ ((plain_following FirstLateKey ts).0 ∙ g.0) (ending_plain FirstLateKey ts ∙ g.1)
     ∙ ap (λ m. codes "{" ++ (opened (mark_for_size (ended_size (Fixed w) None (length (paired ts))) m) ++ (joined_by (codes ", ") (pair_texts (entries (paired ts))) ++ codes "}"))) (sym (count_entries-entries (paired ts)))
-shown_built (a_map p Endless (Some n)) ts e = let g = pairs_joined ts e.1 in bracketed (codes "{_ ") (codes "}") _ _ _ g.0 g.1
-shown_built (a_map p Endless None) ts e = let g = pairs_joined ts e.1 in bracketed (codes "{_ ") (codes "}") _ _ _ g.0 g.1
+shown_built (a_map p Endless c) ts e = let g = pairs_joined ts e.1 in bracketed (codes "{_ ") (codes "}") _ _ _ g.0 g.1
 shown_built (a_tag p w n) ts (t, is) =
     subst (λ us. (beginning (a_tag p w n) ++ following Content us) ++ ending (next_after Content us) ≡ shown (built (a_tag p w n) us)) (sym is)
     (ap (λ l. ((decimal n ++ (indicator (mark_for w n) ++ codes "(")) ++ l) ++ codes ")") (append-nil (shown t)) ∙ simp append_assoc)
@@ -386,21 +383,6 @@ end_held v w f o ts a ends around next bad end h =
       lates = λ none. (ended (sym bad ∙ none)).0 ∙ sym (lates_put f (built o ts));
       text = λ none. (ended (sym bad ∙ none)).1 ∙ (append_assoc (written f ++ separator (next_in f)) (beginning o ++ (late_text o ts ++ following (first o) ts)) (ending (next_after (first o) ts)) ∙ ap (λ l. (written f ++ separator (next_in f)) ++ l) (shown_built o ts ends) ∙ sym (written_put f (built o ts)));
     }
-
-hex_nothing : encode_lower [] ≡ []
-unfolding encode_with
-hex_nothing = refl
-
-hex_more : (x y : List ℕ) → encode_lower (x ++ y) ≡ encode_lower x ++ encode_lower y
-unfolding encode_with
-hex_more [] y = refl
-hex_more (b ∷ x) y = ap (λ l. slice_index lower_digits (b / 16) ∷ slice_index lower_digits (b % 16) ∷ l) (hex_more x y)
-
--- some bytes are written, and the others not yet
-pub hex_on : (old out new rest : List ℕ) (n : ℕ) → old ≡ out ++ encode_lower rest → new ≡ out ++ encode_lower (take n rest) → old ≡ new ++ encode_lower (drop n rest)
-hex_on old out new rest n h e =
-    h ∙ ap (λ r. out ++ encode_lower r) (sym (take-append-drop n rest)) ∙ ap (λ l. out ++ l) (hex_more (take n rest) (drop n rest))
-    ∙ sym (append_assoc out (encode_lower (take n rest)) (encode_lower (drop n rest))) ∙ ap (λ l. l ++ encode_lower (drop n rest)) (sym e)
 
 -- a string begins
 pub string_open : (v w : Notator) (f : Partial) (p : ℕ) (k : StringKind) (l : Width) (n start : ℕ) (o1 : List ℕ) → w.next ≡ v.next → w.around ≡ v.around → IsCounted v.next v.lates.items w.lates.items → w.bad ≡ v.bad → w.string ≡ Some (record { place = p; kind = k; width = l; len = n; start = start })
@@ -516,7 +498,3 @@ finished v out ts none is fits h =
 
 pub refused : (v : Notator) (p : ℕ) (ts : List Tree) → v.bad ≡ Some p → IsHeld v (top ts) no_part → LowestBadText (trees ts) p
 refused v p ts is h = let g = subst (IsLowest (IsBadAmong (trees ts))) is h.bad in record { is = g.0; lowest = g.1 }
-
-pub error_is : {T : Type 0} (r : Result T ShowFault) (e : ShowFault) (P : ShowFault → Type 0) → IsErrAnd r (λ g. g ≡ e) → P e → IfErr r P
-error_is (Ok v) e P is h = cc
-error_is (Err g) e P is h = subst P (sym is) h

@@ -2,4 +2,3 @@
 pub mod Unplaced
 pub mod Back
 pub mod Retelling
-pub mod ReadBack

@@ -1,3 +1,2 @@
--- The places where the nodes and chunks of a text begin rise. Each token has at most one of them (`Meant`), and tokens rise (`Rises`).
-pub mod Meant
+-- The places where the nodes and chunks of a text begin rise. Each token has at most one of them, and tokens rise (`Rises`).
 pub mod Rises

@@ -87,7 +87,7 @@ pub fn spots_rise()
 /// The trees of the grammar, a device of the proofs, agree with its relation. Tokens are a text of
 /// the grammar exactly if they are those of a tree, which says the same nodes and has the same
 /// meaning errors.
-#[tactic(auto, using(crate::proofs::Short::SyntaxErrors::said_by, crate::proofs::Short::SyntaxErrors::parsed))]
+#[tactic(auto, using(crate::proofs::Short::Rebuilt::said_by, crate::proofs::Short::Rebuilt::parsed))]
 pub fn short_form()
     ensures { (profile : Profile) (limit : ℕ) (tokens : List Token) (nodes : Trees) (errors : List MeaningError) → Parsed profile limit tokens nodes errors ↔ IsText profile limit tokens nodes errors }
 {}

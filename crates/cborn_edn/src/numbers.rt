@@ -79,7 +79,7 @@ fn note_number(numeral: Numeral, place: usize, error: &mut Option<MeaningError>)
 }
 
 /// Appends the bytes of `n`, the highest first, without leading zeros.
-#[tactic(auto, using(crate::proofs::Reader::Bignums::one_digit))]
+#[tactic(auto, using(crate::proofs::Reader::Modest::one_digit))]
 fn push_digits(n: u128, out: &mut Vec<u8>) -> Result<(), AllocError>
     ensures { OnOk result (out.new.items ≡ out.old.items ++ digits_of 256 n) }
 {

@@ -1,5 +1,4 @@
 -- What the contents of strings stand for: at most one list of bytes, and how the code finds it.
-pub mod Lettered
 pub mod Texts
 pub mod Letters
 pub mod Ends

@@ -6,9 +6,8 @@ use Rattle.std.proofs.lemmas.List.Sums.{prefix_len-le-length}
 use Rattle.std.proofs.lemmas.Nat.{shr-shr, shr_high}
 use Rattle.std.proofs.lemmas.List.Concat.{flat_map-append}
 use Rattle.std.proofs.lemmas.Simd.{zip2_splat, zip2_of_maps, map-map, mask_l-mod, first_set_mask_l, length-chunk, run_in_chunk_stops}
-use Rattle.cborn_lex.proofs.Contents.Lettered.{is_text}
+use Rattle.cborn_lex.proofs.Contents.Texts.{is_text, LetterAt, NoLetters}
 use Rattle.cborn_lex.proofs.Contents.Ends.{content_then, unclosed_then}
-use Rattle.cborn_lex.proofs.Contents.Texts.{LetterAt, NoLetters}
 use Rattle.cborn_lex.proofs.Contents.Letters.{raw_allowed, raw_written, raw_meant, escape_is, no_escape, no_control, never, no_raw, not_raw}
 use Rattle.cborn_lex.proofs.OneFront.Quotes.{content_cons, quoted}
 use lib.Bits.{bit_or}

@@ -1,4 +1,3 @@
 -- Numbers, words and strings, as slices that the code cuts out of a text.
 pub mod Pieces
-pub mod Values
 pub mod Words

@@ -40,7 +40,7 @@ fn are_digits(base: u8, ds: &[u8]) -> bool
 }
 
 /// The number that digits of the base spell, if it fits 128 bits.
-#[tactic(auto, using(crate::proofs::Sliced::Values::too_large, crate::proofs::Sliced::Values::all_read))]
+#[tactic(auto, using(crate::proofs::Sliced::Words::too_large, crate::proofs::Sliced::Words::all_read))]
 fn value(base: u8, ds: &[u8]) -> Result<u128, LexReason>
     requires { 1 ≤ base }
     ensures { result ≡ within (number base 0 ds.now) }

@@ -2,13 +2,12 @@
 use Rattle.std.specs.Prelude.{◌≡◌, ◌+◌, ◌≤◌, ◌∷◌, ◌++◌, ◌⊎◌}
 use Rattle.cborn_edn.proofs.Common.{refl, ap, ◌∙◌, sym, subst, ℕ, List, [], Option, Some, None, append_assoc, append-nil, arith, inl, inr, max, Token, Profile, token, span, Item, number, word, simple, string, row, no_item, Input, items, tokens_of_input, depth, depth_of_input, commas, commas_of_input, AllowsCount, EdnReason, UnexpectedToken, UnexpectedEnd, TooDeep, Parse, HasTree, GoesOn, StopsAt, IsSyntaxError, reach, same_Some, ProfileOne, ProfileTwo, Stack, in_row, at_top, as_item, State, wants, has, builds, start, step, run, finish, held, open_levels, levels, comma_at, IsText, Parsed}
 use Rattle.cborn_edn.specs.devices.Syntax.{nothing}
-use Rattle.cborn_edn.proofs.Grammar.Machine.{run-append, run-none}
+use Rattle.cborn_edn.proofs.Grammar.Held.{run-append, run-none, deep_stack, deep, commas_stack, commas_held, After, Grows}
 use Rattle.cborn_edn.proofs.Grammar.Takes.{landed, then, whole, takes_input, finish-whole}
-use Rattle.cborn_edn.proofs.Grammar.Held.{deep_stack, deep, commas_stack, commas_held, After, Grows}
 use Rattle.cborn_edn.proofs.Grammar.Grows.{grows}
 use Rattle.cborn_edn.proofs.Grammar.Closes.{closes}
 use Rattle.cborn_edn.proofs.Grammar.Trailing.{parse_of, allowed_count}
-use Rattle.cborn_edn.proofs.Short.SyntaxErrors.{parsed, has_tree}
+use Rattle.cborn_edn.proofs.Short.Rebuilt.{parsed, has_tree}
 
 -- what the tokens lead to
 abbrev pub Leads : List Token → State → Type 0

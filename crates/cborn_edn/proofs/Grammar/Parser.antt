@@ -4,7 +4,7 @@ use Rattle.cborn_edn.proofs.Common.{HasTree, EdnReason, inl, inr, refl, ap, â—Œâ
 use Rattle.cborn_edn.proofs.Grammar.Held.{deep, commas_held, After, Grows}
 use Rattle.cborn_edn.proofs.Grammar.Grows.{grows}
 use Rattle.cborn_edn.proofs.Grammar.Trailing.{parse_of}
-use Rattle.cborn_edn.proofs.Short.SyntaxErrors.{has_tree}
+use Rattle.cborn_edn.proofs.Short.Rebuilt.{has_tree}
 use Rattle.cborn_edn.proofs.Grammar.OneTree.{Leads, Ended, IfTree, ends_tree, held_by, good, goes_on, nothing_goes, no_tree, leads_on, same_end, stops}
 -- The parser that the code is. Its tests look at the next token and at what is open alone.
 

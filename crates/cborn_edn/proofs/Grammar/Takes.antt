@@ -2,7 +2,7 @@
 use Rattle.std.specs.Prelude.{◌≡◌, ◌∷◌, ◌++◌}
 use Rattle.cborn_edn.proofs.Common.{refl, ap, ◌∙◌, ℕ, List, Bool, Option, Some, None, append_assoc, Mark, Class, ArrayOpen, MapOpen, EmbedClose, ArrayClose, MapClose, ParenClose, Comma, Colon, EmbedOpen, ChunkOpen, TagOpen, Text, Bytes, Token, Span, token, Item, number, word, tag, simple, string, chunked, array, Piece, text, bytes, embedded, Pieces, piece, also, Strings, strings, StringsBefore, no_string, after_strings, Row, row, RowBefore, no_item, after_row, Content, loose, tight, pairs, PairsBefore, no_pair, after_pairs, Fields, loose_fields, tight_fields, Input, items, tokens_of, tokens_of_piece, tokens_of_pieces, tokens_of_strings, tokens_of_strings_before, tokens_of_row, tokens_of_row_before, tokens_of_content, tokens_of_pairs, tokens_of_pairs_before, tokens_of_fields, tokens_of_input, Stack, in_row, in_key, in_value, in_tag, Nest, at_top, in_array, in_embed, Home, as_item, as_chunk, State, wants, has, builds, wants_chunk, start, with_piece, ends, step_by, run, map_item as map}
 use Rattle.cborn_edn.specs.devices.Syntax.{Pairs, nothing}
-use Rattle.cborn_edn.proofs.Grammar.Machine.{after}
+use Rattle.cborn_edn.proofs.Grammar.Held.{after}
 pub use Rattle.cborn_edn.specs.devices.Machine.{at_home, finish}
 
 -- the state after a whole item

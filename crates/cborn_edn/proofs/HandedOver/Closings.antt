@@ -1,8 +1,8 @@
--- Containers that end.
+-- Containers that end, leaves, and heads that are handed over.
 use Rattle.std.specs.Prelude.{◌≡◌, ◌<◌, ◌^◌, ◌∷◌, ◌++◌, if◌then◌else◌}
-use Rattle.cborn_edn.proofs.Common.{refl, sym, ap, ◌∙◌, subst, ℕ, List, [], length, Bool, true, false, ltb, cond, None, append_assoc, Width, Direct, Fixed, holds, least, Tree, Items, Pairs, Trees, Entries, no_entry, entry, entries, count, count_entries, Opening, an_array, a_map, a_tag, Partial, inside, put, paired, last_key, built, ended_size, IsFree, Ends, Mark, Absent, Endless, Wide, IndicatorTooNarrow, Close, width, size, size_errors, listed_trees, trees-listed, Span, Item, tag, array, row, Content, loose, tight, pairs, Fields, loose_fields, tight_fields, Stack, in_tag, in_array, State, has, node, nodes_before, nodes_in, entries_before, entries_in, faults, faults_before, faults_in, faults_before_pairs, faults_of_fields, noted, noted_stack, content_state, fields_state, AreFew, Comes, listed_entries, size_asked, front_of, front, Hands, count-trees, count_entries-entries, map_item as map}
+use Rattle.cborn_edn.proofs.Common.{refl, sym, ap, ◌∙◌, subst, ℕ, List, [], length, Bool, true, false, ltb, cond, None, append_assoc, Width, Direct, Fixed, holds, least, Tree, Items, Pairs, Trees, Entries, no_entry, entry, entries, count, count_entries, Opening, an_array, a_map, a_tag, Partial, inside, put, paired, last_key, built, ended_size, IsFree, Ends, Mark, Absent, Endless, Wide, IndicatorTooNarrow, Close, width, size, size_errors, listed_trees, trees-listed, Span, Item, tag, array, row, Content, loose, tight, pairs, Fields, loose_fields, tight_fields, Stack, in_tag, in_array, State, has, node, nodes_before, nodes_in, entries_before, entries_in, faults, faults_before, faults_in, faults_before_pairs, faults_of_fields, noted, noted_stack, content_state, fields_state, AreFew, Comes, listed_entries, size_asked, front_of, front, Hands, count-trees, count_entries-entries, map_item as map, digits_of, integer_tree, is_below, argument_of, is_small, integer, bignum, number_node, Integer, Bignum, Tag, number, wants, bignum_of}
 use Rattle.cborn_edn.specs.devices.Events.{after}
-use Rattle.cborn_edn.proofs.Meaning.NoError.{no_left, no_right, held}
+use Rattle.cborn_edn.proofs.Meaning.NoError.{no_left, no_right, held, tag_small}
 use Rattle.cborn_edn.proofs.HandedOver.Handing.{free}
 use Rattle.cborn_edn.proofs.HandedOver.Silent.{listed_snoc, listed_snoc_entry}
 
@@ -56,3 +56,28 @@ hands_map_end st s a m c few = hands_close (fields_state st s m c) (has st (map 
 
 pub hands_tag_end : (st : Stack) (s a : Span) (n : ℕ) (m : Mark) (i : Item) → Hands Close 0 [] (has (in_tag st s n m) i) (has st (tag s n m i a))
 hands_tag_end st s a n m i = hands_close (has (in_tag st s n m) i) (has st (tag s n m i a)) (front_of st) (a_tag s.start (width m n) n) (node i ∷ []) refl (free st) (node i, refl) tt (λ q. append_assoc (noted_stack st) _ (faults i) ∙ q) (λ q. refl)
+
+-- Heads that are handed over, and leaves.
+
+integer_is : (p : ℕ) (b : Bool) (w : Width) (n : ℕ) → integer_tree p b w n ≡ cond b (integer_tree p true w n) (integer_tree p false w n)
+integer_is p true w n = refl
+integer_is p false w n = refl
+
+-- the node of an integer of 64 bits
+small_is : (p : ℕ) (n : Bool) (v : ℕ) (m : Mark) → is_small n v ≡ true → integer_tree p (is_below n v) (width m (argument_of n v)) (argument_of n v) ≡ number_node p n v m
+small_is p n v m e = integer_is p (is_below n v) (width m (argument_of n v)) (argument_of n v) ∙ sym (ap (λ b. cond b (integer p n v (width m (argument_of n v))) (bignum p n v)) e)
+
+module _ (st : Stack) (a : Span) {place : ℕ} (p : place ≡ a.start) where
+  pub hands_tag : (m : Mark) (v n : ℕ) (wide : Width) → (v < 2 ^ 64 → n ≡ v) → wide ≡ width m n → Hands (Tag wide n) place [] (wants st) (wants (in_tag st a v m))
+  hands_tag m v n wide is w q =
+      let same : n ≡ v = is (tag_small a.start m v (no_right (noted_stack st) _ q)).0 in
+      (no_left _ _ q, free st, λ i. inside (front_of st) (a_tag (p i) ((w ∙ ap (width m) same) i) (same i)) [])
+
+  pub hands_integer : (n : Bool) (v : ℕ) (m : Mark) (below : Bool) (wide : Width) (argument : ℕ) → is_small n v ≡ true → below ≡ is_below n v → argument ≡ argument_of n v → wide ≡ width m argument → Hands (Integer below wide argument) place [] (wants st) (has st (number a n v m))
+  hands_integer n v m below wide argument e b f w q = (no_left _ _ q, free st, (λ i. put (front_of st) (integer_tree (p i) (b i) ((w ∙ ap (width m) f) i) (f i))) ∙ ap (put (front_of st)) (small_is a.start n v m e))
+
+  pub hands_bignum : (n : Bool) (v : ℕ) (m : Mark) (below : Bool) (argument : ℕ) → is_small n v ≡ false → below ≡ is_below n v → argument ≡ argument_of n v → Hands (Bignum below) place (digits_of 256 argument) (wants st) (has st (number a n v m))
+  hands_bignum n v m below argument e b f q = (no_left _ _ q, free st, (λ i. put (front_of st) (bignum_at (p i) (b i) (f i))) ∙ ap (put (front_of st)) (sym (ap (λ b. cond b (integer a.start n v (width m (argument_of n v))) (bignum a.start n v)) e)))
+    where
+      bignum_at : ℕ → Bool → ℕ → Tree
+      bignum_at q b n = bignum_of q b (digits_of 256 n)

@@ -1,7 +1,7 @@
 -- Byte strings of the fixed notation, as pieces.
 use Rattle.std.specs.Prelude.{◌≡◌, ◌/◌, ◌%◌, ◌<◌, ◌∷◌, ◌++◌, ◌&&◌}
 use Rattle.hex.specs.Hex.{encode_with}
-use Rattle.cborn_edn.proofs.Common.{refl, sym, ap, ℕ, zero, suc, List, [], slice_index, Bool, true, false, inl, arith, and_parts, and_from, codes, list_all, is_digit, encode_lower, lower_digits, IsBytes, AreBytes, Mark, Bytes, is_not, marked, HasDigits, token, nowhere, indicator, decode_of-encode_lower, passes_at}
+use Rattle.cborn_edn.proofs.Common.{refl, sym, ap, ◌∙◌, take, drop, take-append-drop, append_assoc, ℕ, zero, suc, List, [], slice_index, Bool, true, false, inl, arith, and_parts, and_from, codes, list_all, is_digit, encode_lower, lower_digits, IsBytes, AreBytes, Mark, Bytes, is_not, marked, HasDigits, token, nowhere, indicator, decode_of-encode_lower, passes_at}
 use Rattle.cborn_lex.specs.Strings.{nothing, digit}
 use Rattle.cborn_edn.proofs.Lexed.Chained.{Chained, one_token}
 use Rattle.cborn_lex.proofs.WholeTexts.Spelling.{IsMark}
@@ -51,3 +51,20 @@ bytes_text x m z h k close =
         ),
       ),
     )
+
+-- Parts of such a text.
+
+pub hex_nothing : encode_lower [] ≡ []
+unfolding encode_with
+hex_nothing = refl
+
+pub hex_more : (x y : List ℕ) → encode_lower (x ++ y) ≡ encode_lower x ++ encode_lower y
+unfolding encode_with
+hex_more [] y = refl
+hex_more (b ∷ x) y = ap (λ l. slice_index lower_digits (b / 16) ∷ slice_index lower_digits (b % 16) ∷ l) (hex_more x y)
+
+-- some bytes are written, and the others not yet
+pub hex_on : (old out new rest : List ℕ) (n : ℕ) → old ≡ out ++ encode_lower rest → new ≡ out ++ encode_lower (take n rest) → old ≡ new ++ encode_lower (drop n rest)
+hex_on old out new rest n h e =
+    h ∙ ap (λ r. out ++ encode_lower r) (sym (take-append-drop n rest)) ∙ ap (λ l. out ++ l) (hex_more (take n rest) (drop n rest))
+    ∙ sym (append_assoc out (encode_lower (take n rest)) (encode_lower (drop n rest))) ∙ ap (λ l. l ++ encode_lower (drop n rest)) (sym e)

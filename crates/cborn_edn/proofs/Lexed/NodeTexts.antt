@@ -1,14 +1,46 @@
 -- Nodes of the fixed notation, as pieces.
 use Rattle.std.specs.Prelude.{◌≡◌, ◌∷◌, ◌++◌}
-use Rattle.cborn_edn.proofs.Common.{refl, sym, ap, ◌∙◌, subst, ℕ, List, [], map, length, false, eqb, decimal, append_assoc, arith, codes, AreBytes, Width, Chunk, Tree, Uint, Nint, ByteChunks, TextChunks, Items, Tagged, Simple, Trees, more, Entries, no_entry, entry, count, count_entries, WidthFits, ChunksFit, Fits, FitsAll, FitsEntries, Mark, ArrayOpen, ArrayClose, MapOpen, MapClose, ParenClose, Comma, Colon, ChunkOpen, TagOpen, Token, begins, no_string, no_item, no_pair, token, tokens_of, tokens_of_pieces, tokens_of_strings, tokens_of_content, tokens_of_fields, tokens_of_input, StringKind, OfBytes, OfText, nowhere, chunk_pieces, chunk_row, chunk_item, notated, notated_content, notated_fields, notated_input, others, mark_for, mark_for_size, indicator, opened, shown_string, shown_chunk, joined_by, shown_chunks, shown, item_texts, pair_texts, shown_lines, ByteNode, TextNode, Pairs as PairNode, no_node, Endless, simple_below}
+use Rattle.cborn_edn.proofs.Common.{refl, sym, ap, ◌∙◌, subst, ℕ, List, [], map, length, false, eqb, decimal, append_assoc, arith, codes, AreBytes, Width, Chunk, Tree, Uint, Nint, ByteChunks, TextChunks, Items, Tagged, Simple, Trees, more, Entries, no_entry, entry, count, count_entries, WidthFits, ChunksFit, Fits, FitsAll, FitsEntries, Mark, ArrayOpen, ArrayClose, MapOpen, MapClose, ParenClose, Comma, Colon, ChunkOpen, TagOpen, Token, begins, no_string, no_item, no_pair, token, tokens_of, tokens_of_pieces, tokens_of_strings, tokens_of_content, tokens_of_fields, tokens_of_input, StringKind, OfBytes, OfText, nowhere, chunk_pieces, chunk_row, chunk_item, notated, notated_content, notated_fields, notated_input, others, mark_for, mark_for_size, indicator, opened, shown_string, shown_chunk, joined_by, shown_chunks, shown, item_texts, pair_texts, shown_lines, ByteNode, TextNode, Pairs as PairNode, no_node, Endless, simple_below, Profile, HasTokens, unplaced_token, Shown, map as list_map, append-nil, Item, StringsBefore, strings, after_strings, RowBefore, row, after_row, PairsBefore, pairs, after_pairs, tokens_of_strings_before, tokens_of_row, tokens_of_row_before, tokens_of_pairs, tokens_of_pairs_before, notated_row, notated_pairs}
 use Rattle.cborn_edn.proofs.RoundTrip.Back.{below}
-use Rattle.cborn_edn.proofs.Lexed.Chained.{Chained, no_text, both, retell, one_token}
-use Rattle.cborn_edn.proofs.Lexed.Joined.{more_tokens, more_pair_tokens, more_chunk_tokens, row_tokens, chunk_tokens, pair_tokens}
+use Rattle.cborn_edn.proofs.Lexed.Chained.{Chained, no_text, both, retell, one_token, HasBare, whole_text}
 use Rattle.cborn_edn.proofs.Lexed.MarkTexts.{Closes, comma_closes, colon_closes, paren_closes, bracket_closes, brace_closes, line_closes, is_mark, is_size_mark, comma_space, paren_close, line, chunks_open, array_open, map_open, comma, colon, space}
 use Rattle.cborn_edn.proofs.Lexed.DecimalTexts.{number_text, negative_text, tag_text, decimal_begins}
 use Rattle.cborn_edn.proofs.Lexed.HexTexts.{bytes_text}
 use Rattle.cborn_edn.proofs.Lexed.QuotedTexts.{text_text, no_byte_chunks}
 use Rattle.cborn_edn.proofs.Lexed.WordTexts.{simple_text, simple_begins}
+
+-- The tokens of the rows of the fixed notation, from the first item on.
+
+-- the tokens after those of the first item
+
+abbrev pub more_tokens : Trees → List Token
+more_tokens no_node = []
+more_tokens (more t ts) = token nowhere Comma ∷ (tokens_of (notated t) ++ more_tokens ts)
+
+abbrev pub more_pair_tokens : Entries → List Token
+more_pair_tokens no_entry = []
+more_pair_tokens (entry k v es) = token nowhere Comma ∷ (tokens_of (notated k) ++ (token nowhere Colon ∷ (tokens_of (notated v) ++ more_pair_tokens es)))
+
+abbrev pub more_chunk_tokens : StringKind → List Chunk → List Token
+more_chunk_tokens k [] = []
+more_chunk_tokens k (c ∷ cs) = token nowhere Comma ∷ (tokens_of_pieces (chunk_pieces k c) ++ more_chunk_tokens k cs)
+
+regroup : (b i w : List Token) (c : Token) → ((b ++ i) ++ c ∷ []) ++ w ≡ b ++ (i ++ c ∷ w)
+regroup b i w c = simp append_assoc
+
+pub row_tokens : (ts : Trees) (b : RowBefore) (i : Item) → tokens_of_row (notated_row ts b i) ≡ tokens_of_row_before b ++ (tokens_of i ++ more_tokens ts)
+row_tokens no_node b i = ap (λ x. tokens_of_row_before b ++ x) (sym (append-nil (tokens_of i)))
+row_tokens (more t ts) b i = row_tokens ts (after_row (row b i) nowhere) (notated t) ∙ regroup (tokens_of_row_before b) (tokens_of i) (tokens_of (notated t) ++ more_tokens ts) (token nowhere Comma)
+
+pub chunk_tokens : (k : StringKind) (cs : List Chunk) (b : StringsBefore) (c : Chunk) → tokens_of_strings (chunk_row k cs b c) ≡ tokens_of_strings_before b ++ (tokens_of_pieces (chunk_pieces k c) ++ more_chunk_tokens k cs)
+chunk_tokens k [] b c = ap (λ x. tokens_of_strings_before b ++ x) (sym (append-nil (tokens_of_pieces (chunk_pieces k c))))
+chunk_tokens k (d ∷ cs) b c = chunk_tokens k cs (after_strings (strings b (chunk_pieces k c)) nowhere) d ∙ regroup (tokens_of_strings_before b) (tokens_of_pieces (chunk_pieces k c)) (tokens_of_pieces (chunk_pieces k d) ++ more_chunk_tokens k cs) (token nowhere Comma)
+
+pub pair_tokens : (es : Entries) (b : PairsBefore) (i j : Item) → tokens_of_pairs (notated_pairs es b i j) ≡ tokens_of_pairs_before b ++ (tokens_of i ++ (token nowhere Colon ∷ (tokens_of j ++ more_pair_tokens es)))
+pair_tokens no_entry b i j = ap (λ x. tokens_of_pairs_before b ++ (tokens_of i ++ (token nowhere Colon ∷ x))) (sym (append-nil (tokens_of j)))
+pair_tokens (entry k v es) b i j =
+    pair_tokens es (after_pairs (pairs b i nowhere j) nowhere) (notated k) (notated v)
+    ∙ (simp append_assoc)
 
 -- Strings.
 
@@ -169,3 +201,8 @@ more_lines (more t ts) z h =
 pub lines_text : (ts : Trees) (z : List ℕ) → FitsAll ts → Chained (shown_lines ts) z (tokens_of_input (notated_input ts))
 lines_text no_node z h = no_text z
 lines_text (more t ts) z h = retell _ z _ _ (sym (row_tokens ts no_item (notated t))) (line_text t ts z h.0 (more_lines ts z h.1))
+
+-- What was shown has the tokens of the fixed notation.
+
+pub shown_tokens : (profile : Profile) (nodes : Trees) (text : List ℕ) → FitsAll nodes → Shown nodes text → (tokens : List Token) × HasTokens profile text tokens × (list_map unplaced_token tokens ≡ tokens_of_input (notated_input nodes))
+shown_tokens profile nodes text fits shown = subst (λ (x : List ℕ). HasBare profile x (tokens_of_input (notated_input nodes))) (sym shown.1) (whole_text profile (shown_lines nodes) (tokens_of_input (notated_input nodes)) (lines_text nodes [] fits))

@@ -4,7 +4,7 @@ use Rattle.hex.specs.Hex.{encode_with}
 use Rattle.cborn_edn.proofs.Common.{refl, sym, ap, ◌∙◌, ℕ, List, [], slice_index, Bool, true, eqb, ltb, cond, inl, arith, and_parts, and_from, codes, bytes_eq, list_all, flat_map, lower_digits, AreBytes, Mark, Endless, Bytes, Text, marked, is_content, Letter, raw, unit, written, is_letter, meant, token, nowhere, indicator, escaped, map as list_map, after_slash, passes, passes_at}
 use Rattle.cborn_lex.proofs.GoodFronts.{same_bytes}
 use Rattle.cborn_lex.specs.Strings.{IsText, nothing}
-use Rattle.cborn_lex.proofs.Contents.Lettered as lettered
+use Rattle.cborn_lex.proofs.Contents.Texts as lettered
 use Rattle.cborn_lex.proofs.Contents.Ends.{content_then}
 use Rattle.cborn_edn.proofs.Lexed.Chained.{Chained, one_token}
 use Rattle.cborn_lex.proofs.WholeTexts.Spelling.{IsMark}

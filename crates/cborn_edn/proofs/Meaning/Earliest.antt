@@ -1,6 +1,6 @@
 -- The first of several meaning errors: there is one where there is any, and it is the first of the first ones of two parts.
 use Rattle.std.specs.Prelude.{◌≡◌, ◌+◌, ◌*◌, ◌<◌, ◌≤◌, ◌∷◌, ◌++◌, ◌&&◌, ◌||◌}
-use Rattle.cborn_edn.proofs.Common.{refl, sym, ap, subst, ◌∙◌, ℕ, List, [], Bool, true, false, cond, leb, ltb, eqb, Option, Some, None, arith, leb-true, leb-false, le-leb, lt-leb, ltb-true, ltb-false, eqb-true, eqb-false, EdnReason, UnexpectedToken, MeaningError, number_of, IsAmong, earlier, first_error}
+use Rattle.cborn_edn.proofs.Common.{refl, sym, ap, subst, ◌∙◌, ℕ, List, [], Bool, true, false, cond, leb, ltb, eqb, Option, Some, None, arith, leb-true, leb-false, le-leb, lt-leb, ltb-true, ltb-false, eqb-true, eqb-false, EdnReason, UnexpectedToken, MeaningError, number_of, IsAmong, earlier, first_error, append-nil, append_assoc, is_nil, is_none, Notes}
 use Rattle.cborn_model.specs.First.{NoLater, IsFirst}
 use Rattle.cborn_model.proofs.Firsts.{no_later_on, first_alone, first_left, first_right}
 
@@ -99,3 +99,25 @@ tells (s ∷ l) = go (first_error l) (tells l)
         choose : (b : Bool) → leb (rank s) (rank t) ≡ b → IsFirstOf (s ∷ l) (cond b s t)
         choose true e = first_left number_of _ (IsAmong l) s.place s.reason (first_alone number_of s.place s.reason) (λ q r i. no_later_on (s.place, number_of s.reason) (t.place, number_of t.reason) (q, number_of r) (no_later_than s t (leb-true _ _ e)) (f.first q r i))
         choose false e = reported_second s t l f (leb-false _ _ e)
+
+-- Meaning errors, noted one after another.
+
+-- nothing is noted
+pub none_noted : (old : Option MeaningError) → Notes old old []
+none_noted old before e = e ∙ ap first_error (sym (append-nil before))
+
+pub both_noted : (old mid new : Option MeaningError) (l m : List MeaningError) → Notes old mid l → Notes mid new m → Notes old new (l ++ m)
+both_noted old mid new l m h k before e = k (before ++ l) (h before e) ∙ ap first_error (append_assoc before l m)
+
+-- the first of those before and of others is noted
+pub earlier_noted : (old new other : Option MeaningError) (l : List MeaningError) → other ≡ first_error l → new ≡ earlier old other → Notes old new l
+earlier_noted old new other l e f before g = f ∙ ap (λ o. earlier o other) g ∙ ap (earlier (first_error before)) e ∙ sym (first-append before l)
+
+none_earlier : (s : MeaningError) (o : Option MeaningError) → is_none (earlier (Some s) o) ≡ false
+none_earlier s None = refl
+none_earlier s (Some t) = refl
+
+-- whether there is a meaning error, by the first
+pub none_first : (l : List MeaningError) → is_none (first_error l) ≡ is_nil l
+none_first [] = refl
+none_first (s ∷ l) = none_earlier s (first_error l)

@@ -3,12 +3,11 @@ use Rattle.std.specs.Prelude.{◌≡◌, ◌∷◌}
 use Rattle.cborn_edn.proofs.Common.{refl, sym, ap, ◌∙◌, subst, ℕ, List, [], length, Bool, true, false, Option, Some, None, inl, inr, top, no_part, Tree, trees, FitsAll, Speller, HasTokens, Profile, MeaningError, UnexpectedEnd, Refused, IsText, Notates, IsNoNotation, Item, Pieces, string, RowBefore, no_item, after_row, no_pair, after_pairs, row, Input, items, node, nodes_before, nodes_of_input, faults_of_input, Here, Writer, is_none, phase_of, stack_in, level_of, chunks_in, Shows, listed_trees, trees-listed, Holds, Handed, AllHanded, Reads, may_end, Last, item, pieces, AtEnd, Reached, IsReadTo, in_row, in_key, at_top, in_array, in_embed, as_item, as_chunk, State, wants, has, builds, start, finish, at_end, parse, whole_text}
 use Rattle.cborn_edn.specs.devices.Syntax.{nothing}
 use Rattle.cborn_edn.proofs.Grammar.Parser.{Meets, parses}
-use Rattle.cborn_edn.proofs.Meaning.Earliest.{Tells, tells}
+use Rattle.cborn_edn.proofs.Meaning.Earliest.{Tells, tells, none_first}
 use Rattle.cborn_edn.proofs.Meaning.NoError.{nil_is}
-use Rattle.cborn_edn.proofs.Short.SyntaxErrors.{text_of}
+use Rattle.cborn_edn.proofs.Short.Rebuilt.{text_of}
 use Rattle.cborn_edn.proofs.HandedOver.Silent.{listed_snoc}
 use Rattle.cborn_edn.specs.devices.Reading.{ends_string, empty}
-use Rattle.cborn_edn.proofs.Reader.NotedErrors.{none_first}
 
 -- outside of each `<<` there are no spellers
 outside : (h : Holds) (ps : List Speller) (s : State) → AllHanded h ps (s ∷ []) → Handed h s

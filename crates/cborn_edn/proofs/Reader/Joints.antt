@@ -1,7 +1,7 @@
 -- The meaning errors of a string, and of its pieces.
 use Rattle.std.specs.Prelude.{◌≡◌, ◌++◌, ◌&&◌, if◌then◌else◌}
 use Rattle.cborn_edn.proofs.Common.{refl, sym, ap, ◌∙◌, subst, ℕ, List, [], length, Bool, true, false, Option, Mark, StringKind, MeaningError, IndicatorNotAllowed, TextNotUtf8, MixedString, MixedChunks, unless, width_errors, is_absent, is_endless, is_good, may_join, same_kind, Str, joined, piece_errors, mark_errors, string_errors, chunk_errors, Joint, Notes, joint}
-use Rattle.cborn_edn.proofs.Reader.NotedErrors.{none_noted, both_noted}
+use Rattle.cborn_edn.proofs.Meaning.Earliest.{none_noted, both_noted}
 
 abbrev marked : Bool → Bool → Str → List MeaningError → List MeaningError
 marked b k s l = if b then l else if k then width_errors s.mark_place s.mark (length s.bytes) else []

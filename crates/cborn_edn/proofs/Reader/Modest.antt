@@ -1,6 +1,6 @@
--- Tokens as a text has them, and heads that are bytes.
-use Rattle.std.specs.Prelude.{◌≡◌, ◌+◌, ◌*◌, ◌^◌, ◌<◌, ◌≤◌, ◌∷◌, ◌++◌}
-use Rattle.cborn_edn.proofs.Common.{refl, sym, subst, ℕ, List, [], Bool, true, false, ltb, arith, ltb-true, ltb-false, le-ltb, AreBytes, Eight, Major, Unsigned, code, holds, least, Given, head, Mark, Absent, Endless, Wide, Token, AreModest, IndicatorTooNarrow, width, width_errors, least_holds, head_bytes}
+-- Tokens as a text has them, heads that are bytes, and the bytes of long integers.
+use Rattle.std.specs.Prelude.{◌≡◌, ◌+◌, ◌*◌, ◌^◌, ◌<◌, ◌≤◌, ◌∷◌, ◌++◌, ◌/◌, ◌%◌}
+use Rattle.cborn_edn.proofs.Common.{refl, sym, subst, ℕ, List, [], Bool, true, false, ltb, arith, ltb-true, ltb-false, le-ltb, AreBytes, Eight, Major, Unsigned, code, holds, least, Given, head, Mark, Absent, Endless, Wide, Token, AreModest, IndicatorTooNarrow, width, width_errors, least_holds, head_bytes, ap, ◌∙◌, append_assoc, digits_of, digits_of_step}
 use Rattle.cborn_edn.proofs.Meaning.NoError.{held, holds_is}
 
 -- what is known of the tokens between two places of a text
@@ -42,3 +42,7 @@ pub width_bytes : (k : Major) (p : ℕ) (m : Mark) (n : ℕ) → width_errors p 
 width_bytes k p Absent n e = least_bytes k n
 width_bytes k p Endless n e = least_bytes k n
 width_bytes k p (Wide w) n e = head_bytes k (Given w n) (holds_is w n (held (holds w n) p IndicatorTooNarrow e))
+
+pub one_digit : (x y z : List ℕ) (n : ℕ) → 0 < n → y ≡ x ++ digits_of 256 (n / 256) → z ≡ y ++ n % 256 ∷ [] → z ≡ x ++ digits_of 256 n
+one_digit x y z n h e f =
+    f ∙ ap (λ l. l ++ n % 256 ∷ []) e ∙ append_assoc x (digits_of 256 (n / 256)) (n % 256 ∷ []) ∙ ap (λ l. x ++ l) (sym (digits_of_step 256 n (omega arith) h))

@@ -2,7 +2,7 @@
 use Rattle.std.specs.Prelude.{◌≡◌, ◌+◌, ◌<◌, ◌≤◌, ◌^◌, ◌∷◌, ◌++◌, ◌&&◌, ◌||◌}
 use Rattle.cborn_edn.proofs.Common.{refl, sym, ap, ◌∙◌, subst, ℕ, zero, suc, List, [], length, take, drop, get_or, Bool, true, false, cond, ltb, leb, eqb, inl, inr, arith, and_parts, and_from, or_parts, or_from, cases_lt, cond_both, cond-true, cond-false, ltb-true, lt-ltb, le-ltb, le-leb, ne_eqb, false≢true, not-true, IsUtf8-nil, IsUtf8-append, IsUtf8-encode, IsUtf8-from_ascii, IsUtf8-take, IsUtf8-drop, IsCharBoundary-after_ascii, IsCharBoundary-before_ascii, encode_utf8_all, codes, list_all, list_any, flat_map, is_digit, digit_value, IsUtf8, is_escape, escape_code, are_hex, is_high, is_low, Letter, raw, unit, written, meant, is_letter, length-append, after_slash as escaped, pair}
 use Rattle.cborn_lex.specs.Strings.{IsText, code, paired}
-use Rattle.cborn_lex.proofs.Contents.Lettered.{has_letters}
+use Rattle.cborn_lex.proofs.Contents.Texts.{has_letters}
 use lib.Utf8.{encode, scalar, scalars}
 
 -- LAW: a slice between two ASCII characters of a text

@@ -6,11 +6,11 @@ use Rattle.cborn_edn.proofs.Grammar.OneTree.{one_tree, both_profiles, not_both}
 use Rattle.cborn_edn.proofs.Grammar.Parser.{answered}
 use Rattle.cborn_edn.proofs.Meaning.Earliest.{nothing_among, Tells, tells}
 use Rattle.cborn_edn.proofs.Meaning.Sound.{SoundAll, text_sound}
-use Rattle.cborn_edn.proofs.RoundTrip.ReadBack.{shown_tokens}
+use Rattle.cborn_edn.proofs.Lexed.NodeTexts.{shown_tokens}
 use Rattle.cborn_edn.proofs.RoundTrip.Retelling.{reads_same}
 use Rattle.cborn_edn.proofs.RoundTrip.Unplaced.{same_bytes}
 use Rattle.cborn_edn.proofs.Shown.Readable.{lines_show}
-use Rattle.cborn_edn.proofs.Short.SyntaxErrors.{parsed, said_by}
+use Rattle.cborn_edn.proofs.Short.Rebuilt.{parsed, said_by}
 
 -- two texts of the relation with the same tokens have one tree
 same_parse : (p q : Profile) (limit most : ℕ) (x y : List Token) (ts us : Trees) (l m : List MeaningError) → x ≡ y → (a : Parsed p limit x ts l) → (b : Parsed q most y us m) → a.tree ≡ b.tree

@@ -1,6 +1,6 @@
 -- A word and what follows it, and a string after its quote, as slices.
-use Rattle.std.specs.Prelude.{◌≡◌, ◌+◌, ◌<◌, ◌≤◌, ◌∷◌, ◌++◌}
-use Rattle.cborn_lex.proofs.Common.{refl, sym, ap, ◌∙◌, subst, ℕ, List, [], length, take, drop, get_or, Bool, true, eqb, arith, append_assoc, add-one, inl, inr, Option, take-append-drop, length-append, length-take-le, length-drop, drop_more, Mark, LexReason, Class, Front, is_word, begins, Bad, mark_of, marked, IsRun, IsIndicator, IsAfterWord, ReadsWord, IsPrefixed, prefix_of, Closed, IsString, eqb-true, EmbedClose}
+use Rattle.std.specs.Prelude.{◌≡◌, ◌+◌, ◌<◌, ◌≤◌, ◌∷◌, ◌++◌, ◌*◌, ◌^◌}
+use Rattle.cborn_lex.proofs.Common.{refl, sym, ap, ◌∙◌, subst, ℕ, List, [], length, take, drop, get_or, Bool, true, eqb, arith, append_assoc, add-one, inl, inr, Option, take-append-drop, length-append, length-take-le, length-drop, drop_more, Mark, LexReason, Class, Front, is_word, begins, Bad, mark_of, marked, IsRun, IsIndicator, IsAfterWord, ReadsWord, IsPrefixed, prefix_of, Closed, IsString, eqb-true, EmbedClose, Ok, Err, mul-le-mul_left, cond-true, cond-false, lt-ltb, le-ltb, drop_all, digit_value, NumberTooLarge, number, within}
 use Rattle.cborn_lex.proofs.Sliced.Pieces.{front_is}
 
 pub word_text : (text tail : List ℕ) (n : ℕ) → 0 < length text → tail ≡ drop 1 text → take (n + 1) text ≡ get_or text 0 0 ∷ take n tail
@@ -58,3 +58,21 @@ close_made (c ∷ x) after n a h e k f =
     let same : after ≡ x = e in
     let front : c ≡ 62 = eqb-true c 62 h in
     (take n x, rw add-one (ap (λ d. d ∷ take n x) front), rw add-one (subst (λ (y : List ℕ). IsIndicator (take n y) (drop n y)) same k), subst (λ (y : List ℕ). a ≡ marked EmbedClose (mark_of (take n y))) same f)
+
+-- The number that digits spell.
+
+number_grows : (base n : ℕ) (ds : List ℕ) → 1 ≤ base → n ≤ number base n ds
+number_grows base n [] h = omega arith
+number_grows base n (d ∷ ds) h = omega (arith, mul-le-mul_left n h, number_grows base (n * base + digit_value d) ds h)
+
+pub too_large : (base n i : ℕ) (ds : List ℕ) → 1 ≤ base → i < length ds → number base n (drop i ds) ≡ number base 0 ds → 2 ^ 128 ≤ n * base + digit_value (get_or ds i 0) → Err NumberTooLarge ≡ within (number base 0 ds)
+too_large base n i ds h k e big =
+    let step : number base n (drop i ds) ≡ number base (n * base + digit_value (get_or ds i 0)) (drop (i + 1) ds) = ap (number base n) (drop_more ds i 0 k) in
+    let grows = number_grows base (n * base + digit_value (get_or ds i 0)) (drop (i + 1) ds) h in
+    let all : 2 ^ 128 ≤ number base 0 ds = omega arith in
+    sym (cond-false _ _ _ (le-ltb (number base 0 ds) (2 ^ 128) all))
+
+pub all_read : (base n i : ℕ) (ds : List ℕ) → length ds ≤ i → n < 2 ^ 128 → number base n (drop i ds) ≡ number base 0 ds → Ok n ≡ within (number base 0 ds)
+all_read base n i ds h k e =
+    let same : n ≡ number base 0 ds = ap (number base n) (sym (drop_all i ds h)) ∙ e in
+    ap Ok same ∙ sym (cond-true _ _ _ (lt-ltb (number base 0 ds) (2 ^ 128) (omega arith)))

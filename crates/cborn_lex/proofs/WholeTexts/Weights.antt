@@ -8,7 +8,7 @@ use Rattle.base64.proofs.RoundTrip.{length-encode_symbols}
 use Rattle.cborn_model.specs.Bytes.{AreBytes}
 use Rattle.cborn_model.proofs.Bytes.{bytes-append}
 use Rattle.cborn_lex.specs.Strings.{digit as one_digit}
-use Rattle.cborn_lex.proofs.Contents.Lettered.{has_letters}
+use Rattle.cborn_lex.proofs.Contents.Texts.{has_letters}
 use Rattle.cborn_lex.proofs.WholeTexts.Parts.{parted, lex_parted}
 use Rattle.cborn_lex.proofs.Contents.Decoded.{is_byte, are_bytes}
 use Rattle.cborn_lex.proofs.Contents.Base64s.{bytes_from}

@@ -1,6 +1,6 @@
 use Rattle.cborn_edn.proofs.Lemmas.{is_text, shown_back, shown_only}
 use Rattle.cborn_edn.proofs.Shown.Readable.{readable}
-use Rattle.cborn_edn.proofs.RoundTrip.ReadBack.{shown_tokens}
+use Rattle.cborn_edn.proofs.Lexed.NodeTexts.{shown_tokens}
 use Rattle.cborn_edn.proofs.laws.shown_text_reads_back.Goals as goal
 
 pub returns : goal.returns

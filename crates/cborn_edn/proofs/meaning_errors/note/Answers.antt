@@ -1,6 +1,6 @@
 use Rattle.std.specs.Prelude.{◌∷◌}
 use Rattle.cborn_edn.proofs.Common.{refl, Some, []}
-use Rattle.cborn_edn.proofs.Reader.NotedErrors.{earlier_noted}
+use Rattle.cborn_edn.proofs.Meaning.Earliest.{earlier_noted}
 use Rattle.cborn_edn.proofs.meaning_errors.note.Goals as goal
 
 pub returns : goal.returns

@@ -1,6 +1,6 @@
 use Rattle.std.specs.Prelude.{◌≡◌, ◌++◌}
 use Rattle.cborn_edn.proofs.Common.{sym, subst, arith, take_rest, length-take, encode_lower}
-use Rattle.cborn_edn.proofs.Notating.{hex_on}
+use Rattle.cborn_edn.proofs.Lexed.HexTexts.{hex_on}
 use Rattle.cborn_edn.proofs.writing.push_hex.Goals as goal
 
 pub loop-rest-preserved : goal.loop-rest-preserved
