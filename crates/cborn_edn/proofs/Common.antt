@@ -62,7 +62,7 @@ pub use Rattle.cborn_edn.specs.devices.Parse.{Allows, Parse, is_closing}
 pub use Rattle.cborn_edn.specs.devices.Reading.{AtEnd, IsReadTo, IsReading, Judged, Last, Reached, is_trailing_comma, item, may_end, pieces}
 pub use Rattle.cborn_edn.specs.devices.Said.{Parsed, chunks, entries_before, entries_in, faults, faults_before, faults_before_pairs, faults_in, faults_of_fields, faults_of_input, faults_of_pairs, faults_of_piece, faults_of_pieces, faults_of_row, faults_of_strings, kind_in, node, nodes, nodes_before, nodes_in, nodes_of_input, snoc, snoc_entry, str, str_of}
 pub use Rattle.cborn_edn.specs.devices.Shows.{IsOpenAt, Shows, Sized, of_array, of_map, content_state, entries_at, fields_state, piece_of, after_opening}
-pub use Rattle.cborn_edn.specs.devices.Steps.{EndsPieces, IsReady, MayEnd, Ready, Taken, Takes, Turned, Turns, ends_map, ends_sized, sized_end, separator_of, has_chunks, is_in, is_piece, is_row, takes_no_piece}
+pub use Rattle.cborn_edn.specs.devices.Steps.{EndsPieces, IsReady, MayEnd, Ready, Taken, Takes, Turned, Turns, ends_map, ends_sized, sized_end, separator_of, is_in, is_piece, is_row, takes_no_piece}
 pub use Rattle.cborn_edn.specs.devices.Syntax.{Content, Fields, Input, Item, PairsBefore, Piece, Pieces, Row, RowBefore, Span, Strings, StringsBefore, after_pairs, after_row, after_strings, also, array, bytes, chunked, depth, depth_of_content, depth_of_fields, depth_of_input, depth_of_number, depth_of_pairs, depth_of_pairs_before, depth_of_piece, depth_of_pieces, depth_of_row, depth_of_row_before, depth_of_strings, depth_of_strings_before, embedded, items, loose, loose_fields, no_item, no_pair, no_string, number, pairs, piece, row, simple, span, string, strings, tag, text, tight, tight_fields, token, tokens_of, tokens_of_content, tokens_of_fields, tokens_of_input, tokens_of_pairs, tokens_of_pairs_before, tokens_of_piece, tokens_of_pieces, tokens_of_row, tokens_of_row_before, tokens_of_strings, tokens_of_strings_before, word, map as map_item}
 pub use Rattle.cborn_edn.specs.devices.TreesCode.{listed_trees, trees-listed}
 pub use Rattle.cborn_edn.specs.shared.Between.{others}

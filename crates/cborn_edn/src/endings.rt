@@ -7,7 +7,7 @@ ghost use Rattle.cborn_edn.specs.devices.Common.{Span as Place, Item, Stack, Sta
 ghost use Rattle.cborn_edn.specs.devices.Steps as pure;
 
 use crate::containers::{close_embedded, close_sized, close_tag};
-use crate::states::{Chunks, Here, Level, Phase, Writer};
+use crate::states::{Here, Level, Phase, Writer};
 use cborn_lex::Mark;
 use cborn_model::Visitor;
 use std::alloc::AllocError;
@@ -45,14 +45,6 @@ pub(crate) fn ends_sized(is_map: bool, phase: Phase, level: Level) -> bool
         Phase::Has => is_in(Level::Value, level),
         _ => is_in(Level::Key, level),
     }
-}
-
-/// Whether a string in chunks is open.
-#[inline(always)]
-pub(crate) fn has_chunks(chunks: Option<Chunks>) -> bool
-    ensures { result ≡ pure.has_chunks chunks }
-{
-    matches!(chunks, Some(_))
 }
 
 /// Ends a map with a `}`, or an array with a `]`, if one may end there.

@@ -7,7 +7,6 @@ ghost use Rattle.cborn_edn.specs.Common.{Tree, trees, FitsAll, top, no_part};
 ghost use Rattle.cborn_edn.specs.Spelling.{IsSpelling};
 ghost use Rattle.cborn_edn.specs.devices.Reading as pure;
 
-use crate::endings::has_chunks;
 use crate::quick::take_common;
 use crate::quick_items::take_marked;
 use crate::refusals::{first_fault, refused};
@@ -245,7 +244,7 @@ fn may_end(phase: Phase, level: Level, chunks: Option<Chunks>) -> bool
     match (phase, level) {
         (Phase::Wants, Level::Outside) => true,
         (Phase::Has, Level::Outside) => true,
-        (Phase::Builds, Level::Outside) => !has_chunks(chunks),
+        (Phase::Builds, Level::Outside) => chunks.is_none(),
         _ => false,
     }
 }

@@ -7,7 +7,7 @@ ghost use Rattle.cborn_edn.specs.devices.Common.{IsInside, Goes};
 ghost use Rattle.cborn_edn.specs.devices.Steps as pure;
 
 use crate::containers::close_sized;
-use crate::endings::{end_embedded, end_part, end_tag, ends_sized, has_chunks};
+use crate::endings::{end_embedded, end_part, end_tag, ends_sized};
 use crate::marks::embed_end_at;
 use crate::quick::{skip_space, take_white_space};
 use crate::states::{Here, Phase, Source, Writer};
@@ -161,7 +161,7 @@ pub(crate) fn take_after_pieces<V: Visitor>(
         return Ok(false);
     }
     let at = here.at;
-    if !has_chunks(writer.chunks) {
+    if writer.chunks.is_none() {
         end_item(here, writer, visitor)?;
         here.at = at;
         return Ok(false);

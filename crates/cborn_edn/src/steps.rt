@@ -6,7 +6,7 @@ ghost use Rattle.cborn_edn.specs.devices.Common.{Span as Place, Item, Pieces as 
 ghost use Rattle.cborn_edn.specs.Common.{Mark as Indicator, class_of};
 
 use crate::containers::{open_embedded, open_sized, open_tag};
-use crate::endings::{end_embedded, end_part, end_sized, end_tag, has_chunks};
+use crate::endings::{end_embedded, end_part, end_sized, end_tag};
 use crate::numbers::{Numeral, close_simple, open_simple, put_number, put_simple, put_word};
 use crate::states::{Here, Phase, Writer};
 use crate::strings::{StringToken, add_piece, end_chunk, end_chunks, end_item, open_chunks};
@@ -193,7 +193,7 @@ fn after_pieces<V: Visitor>(
     requires shows { (h : Home) × (ps : Joined) × Reads (V.holds visitor.old) here.old writer.old writer.old.pieces.items (builds h ps) }
     ensures { IfOk result (λ ok. (h : Home) (ps : Joined) → EndsAt (V.holds visitor.old) (V.holds visitor.new) token.kind number token.start here.old writer.old here.new writer.new ok h ps) }
 {
-    if !has_chunks(writer.chunks) {
+    if writer.chunks.is_none() {
         end_item(here, writer, visitor)?;
         return after(token, number, here, writer, visitor);
     }

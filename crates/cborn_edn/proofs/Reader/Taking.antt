@@ -1,6 +1,6 @@
 -- Frequent tokens, taken without the lexer: the reader goes on as the machine of tokens does.
 use Rattle.std.specs.Prelude.{◌≡◌, ◌+◌, ◌^◌, ◌<◌, ◌≤◌, ◌∷◌, ◌⊎◌, if◌then◌else◌}
-use Rattle.cborn_edn.proofs.Common.{has_number, sized_end, separator_of, opening, after_opening, phase_of, refl, sym, ap, ◌∙◌, subst, ℕ, zero, suc, List, [], length, Bool, true, false, Some, arith, inl, inr, lt-ltb, AreBytes, IsUtf8, TokensBetween, class_of, Kind, Class, Number, Text, Mark, Absent, Profile, Token, is_small, reach, Span, Item, Pieces, piece, string, StringsBefore, IsTokenAt, IsTextAt, NoPieceAt, Here, Writer, IsModest, AreModest, Holds, Reads, MayEnd, Taken, has_chunks, IsReadTo, Reached, text as piece_text, Stack, Home, as_item, as_chunk, State, wants, has, builds, wants_number, step_by, open_levels, comma_at, comma_in, forbids, few, between_modest, utf8_bytes}
+use Rattle.cborn_edn.proofs.Common.{has_number, sized_end, separator_of, opening, after_opening, phase_of, refl, sym, ap, ◌∙◌, subst, ℕ, zero, suc, List, [], length, Bool, true, false, Some, arith, inl, inr, lt-ltb, AreBytes, IsUtf8, TokensBetween, class_of, Kind, Class, Number, Text, Mark, Absent, Profile, Token, is_small, reach, Span, Item, Pieces, piece, string, StringsBefore, IsTokenAt, IsTextAt, NoPieceAt, Here, Writer, IsModest, AreModest, Holds, Reads, MayEnd, Taken, is_some, IsReadTo, Reached, text as piece_text, Stack, Home, as_item, as_chunk, State, wants, has, builds, wants_number, step_by, open_levels, comma_at, comma_in, forbids, few, between_modest, utf8_bytes}
 use Rattle.cborn_lex.proofs.WholeTexts.Progress.{inside}
 use Rattle.cborn_lex.specs.declared.classes.Kind.TheVariants as kinds
 use Rattle.cborn_edn.specs.declared.states.Phase.TheVariants as phases
@@ -100,18 +100,18 @@ module _ {h : Holds} {p : Profile} {limit : ℕ} {text : List ℕ} {here : Here}
   modest_found same c stop found = modest_at p text here.at stop c (utf8_bytes text r.utf8) (token_found same c stop found)
 
   -- pieces of a string
-  pub pieced : here.phase ≡ phases.Builds → has_chunks w.chunks ≡ false → (st : Stack) × (ps : Pieces) × (builds (as_item st) ps ≡ r.state) × Reads h here w w.pieces.items (builds (as_item st) ps)
+  pub pieced : here.phase ≡ phases.Builds → is_some w.chunks ≡ false → (st : Stack) × (ps : Pieces) × (builds (as_item st) ps ≡ r.state) × Reads h here w w.pieces.items (builds (as_item st) ps)
   pieced q none =
       let b = is_builds r.state (sym r.shows.shows.phase ∙ q) in
-      let k = item_home b.0 (ap has_chunks (sym (shown_as (builds b.0 b.1) b.2).shows.chunks) ∙ none) in
+      let k = item_home b.0 (ap is_some (sym (shown_as (builds b.0 b.1) b.2).shows.chunks) ∙ none) in
       let is = ap (λ (x : Home). builds x b.1) k.1 ∙ b.2 in
       (k.0, b.1, is, shown_as (builds (as_item k.0) b.1) is)
 
   -- pieces of a chunk
-  pub chunked : here.phase ≡ phases.Builds → has_chunks w.chunks ≡ true → (st : Stack) × (at : Span) × (b : StringsBefore) × (ps : Pieces) × (builds (as_chunk st at b) ps ≡ r.state) × Reads h here w w.pieces.items (builds (as_chunk st at b) ps)
+  pub chunked : here.phase ≡ phases.Builds → is_some w.chunks ≡ true → (st : Stack) × (at : Span) × (b : StringsBefore) × (ps : Pieces) × (builds (as_chunk st at b) ps ≡ r.state) × Reads h here w w.pieces.items (builds (as_chunk st at b) ps)
   chunked q some =
       let b = is_builds r.state (sym r.shows.shows.phase ∙ q) in
-      let k = chunk_home b.0 (ap has_chunks (sym (shown_as (builds b.0 b.1) b.2).shows.chunks) ∙ some) in
+      let k = chunk_home b.0 (ap is_some (sym (shown_as (builds b.0 b.1) b.2).shows.chunks) ∙ some) in
       let is = ap (λ (x : Home). builds x b.1) k.3 ∙ b.2 in
       (k.0, k.1, k.2, b.1, is, shown_as (builds (as_chunk k.0 k.1 k.2) b.1) is)
 

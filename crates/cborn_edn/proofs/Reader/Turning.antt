@@ -1,6 +1,6 @@
 -- What one token does, by its kind.
 use Rattle.std.specs.Prelude.{◌≡◌, ◌<◌, ◌≤◌, ◌∷◌, ◌++◌, ◌⊎◌}
-use Rattle.cborn_edn.proofs.Common.{separator_of, true, false, refl, sym, ap, ◌∙◌, subst, ℕ, List, [], length, Bool, true, false, Option, Some, None, append-nil, arith, inl, inr, length-append, Kind, Mark, Class, class_of, content_of, top, no_part, OfBytes, OfText, IsWritten, Speller, Span, Item, Pieces, StringsBefore, string, simple, row, no_item, after_row, Content, loose, tight, pairs, after_pairs, at_home, Here, Writer, Phase, wanting, phase_of, bytes_around_home, bytes_before, stack_in, Shows, content_state, Holds, states_around, states_around_nest, states_around_home, Handed, AllHanded, IsSpelled, Reads, Ready, Turned, Taken, Takes, Turns, EndsPieces, has_chunks, is_piece, takes_no_piece, Stack, in_row, in_key, in_value, at_top, in_embed, Home, as_item, as_chunk, State, wants, has, builds, wants_chunk, wants_number, has_number, step_by}
+use Rattle.cborn_edn.proofs.Common.{separator_of, true, false, refl, sym, ap, ◌∙◌, subst, ℕ, List, [], length, Bool, true, false, Option, Some, None, append-nil, arith, inl, inr, length-append, Kind, Mark, Class, class_of, content_of, top, no_part, OfBytes, OfText, IsWritten, Speller, Span, Item, Pieces, StringsBefore, string, simple, row, no_item, after_row, Content, loose, tight, pairs, after_pairs, at_home, Here, Writer, Phase, wanting, phase_of, bytes_around_home, bytes_before, stack_in, Shows, content_state, Holds, states_around, states_around_nest, states_around_home, Handed, AllHanded, IsSpelled, Reads, Ready, Turned, Taken, Takes, Turns, EndsPieces, is_some, is_piece, takes_no_piece, Stack, in_row, in_key, in_value, at_top, in_embed, Home, as_item, as_chunk, State, wants, has, builds, wants_chunk, wants_number, has_number, step_by}
 use Rattle.cborn_lex.specs.declared.classes.Kind.TheVariants as kinds
 use Rattle.cborn_lex.specs.declared.classes.Class.TheVariants as classes
 use Rattle.cborn_edn.specs.declared.states.Phase.TheVariants as phases
@@ -134,11 +134,11 @@ is_has_number (wants st) e = not_wanted st phases.HasNumber e (omega arith)
 is_has_number _ e = apart _ _ e (λ f. omega arith)
 
 -- a string that is no chunk
-pub item_home : (h : Home) → has_chunks (chunks_of h) ≡ false → (st : Stack) × (as_item st ≡ h)
+pub item_home : (h : Home) → is_some (chunks_of h) ≡ false → (st : Stack) × (as_item st ≡ h)
 item_home (as_item st) e = (st, refl)
 item_home (as_chunk st s b) e = absurd (let bad : true ≡ false = e in cc)
 
-pub chunk_home : (h : Home) → has_chunks (chunks_of h) ≡ true → (st : Stack) × (at : Span) × (b : StringsBefore) × (as_chunk st at b ≡ h)
+pub chunk_home : (h : Home) → is_some (chunks_of h) ≡ true → (st : Stack) × (at : Span) × (b : StringsBefore) × (as_chunk st at b ≡ h)
 chunk_home (as_chunk st s b) e = (st, s, b, refl)
 chunk_home (as_item st) e = absurd (let bad : false ≡ true = e in cc)
 

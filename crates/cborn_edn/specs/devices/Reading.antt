@@ -1,13 +1,12 @@
 -- A device of the proofs: a text that is read up to some place. No definition cites it.
 use Rattle.cborn_edn.specs.declared.states.Level.TheVariants.{Outside}
 use Rattle.cborn_edn.specs.Common.{Bor, IsUtf8, TokensBetween, Kind, Profile, One, Token, AreModest, trees, FitsAll, top, no_part, Level, Chunks, EdnReason, UnexpectedToken, TooDeep, Phase, Wants, WantsMore, Has, Builds, Here, Writer}
-use Rattle.std.specs.Prelude.{◌≡◌, ◌⊎◌, ℕ, ◌^◌, ◌<◌, ◌≤◌, List, [], ◌∷◌, ◌++◌, length, Bool, true, false, not, Option, Some, None}
+use Rattle.std.specs.Prelude.{◌≡◌, ◌⊎◌, ℕ, ◌^◌, ◌<◌, ◌≤◌, List, [], ◌∷◌, ◌++◌, length, Bool, true, false, not, is_some, Option, Some, None}
 use Rattle.cborn_lex.specs.declared.classes.Kind.TheVariants as kinds
 use Rattle.cborn_edn.specs.devices.Syntax.{Item, Pieces, string, RowBefore, row, Input, nothing, items}
 use Rattle.cborn_edn.specs.devices.Machine.{first_error, in_row, at_top, as_item, State, has, builds, start, held, parse}
 use Rattle.cborn_edn.specs.devices.Said.{nodes_of_input, faults_of_input}
 use Rattle.cborn_edn.specs.declared.states.Source.{Source}
-use Rattle.cborn_edn.specs.devices.Steps.{has_chunks}
 use Rattle.cborn_edn.specs.devices.TreesCode.{listed_trees}
 use Rattle.cborn_edn.specs.devices.Events.{Holds}
 use Rattle.cborn_edn.specs.devices.Handed.{Reads}
@@ -70,7 +69,7 @@ Judged trailing taken reach limit (Some _) = ⊥
 abbrev pub may_end : Phase → Level → Option Chunks → Bool
 may_end Wants Outside cs = true
 may_end Has Outside cs = true
-may_end Builds Outside cs = not (has_chunks cs)
+may_end Builds Outside cs = not (is_some cs)
 may_end _ _ cs = false
 
 abbrev pub ends_string : Phase → Bool

@@ -1,6 +1,6 @@
 -- A device of the proofs: one token that the reader takes as the machine of tokens does. No definition cites it.
-use Rattle.std.specs.Prelude.{◌≡◌, ℕ, ◌^◌, ◌<◌, List, Bool, true, false, Option, Some, None}
-use Rattle.cborn_edn.specs.Common.{Kind, Class, Colon, Comma, ArrayClose, MapClose, EmbedOpen, class_of, StandsFor, IsModest, Level, Phase, Has, WantsNumber, HasNumber, Chunks, Here, Writer}
+use Rattle.std.specs.Prelude.{◌≡◌, ℕ, ◌^◌, ◌<◌, List, Bool, true, false, Some, None}
+use Rattle.cborn_edn.specs.Common.{Kind, Class, Colon, Comma, ArrayClose, MapClose, EmbedOpen, class_of, StandsFor, IsModest, Level, Phase, Has, WantsNumber, HasNumber, Here, Writer}
 use Rattle.cborn_lex.specs.declared.classes.Kind.TheVariants as kinds
 use Rattle.cborn_lex.specs.declared.classes.Class.TheVariants.{Text, Bytes}
 use Rattle.cborn_edn.specs.devices.Syntax.{Span, Pieces}
@@ -42,10 +42,6 @@ sized_end false = ArrayClose
 abbrev pub separator_of : Bool → Class
 separator_of true = Colon
 separator_of false = Comma
-
-abbrev pub has_chunks : Option Chunks → Bool
-has_chunks None = false
-has_chunks (Some cs) = true
 
 -- an item is wanted, or was read last
 abbrev pub MayEnd : State → Type 0
