@@ -125,7 +125,8 @@ fn read_tokens<V: Visitor>(
     Ok(here)
 }
 
-/// Takes what is next in the text, where `take_common` takes nothing.
+/// Takes what is next in the text, where `take_common` takes nothing: one token, or the white space up to
+/// the text's end.
 fn take_rare<V: Visitor>(
     alloc: Global,
     limit: u64,
@@ -145,26 +146,9 @@ fn take_rare<V: Visitor>(
         profile,
         text,
     };
-    if take_marked(source, here, writer, visitor)? || here.at == source.text.len() {
+    if take_marked(source, here, writer, visitor)? || here.at == text.len() {
         return Ok(());
     }
-    step(alloc, source, here, writer, visitor)
-}
-
-/// Reads one token, or the white space up to the text's end.
-fn step<V: Visitor>(
-    alloc: Global,
-    source: Source,
-    here: &mut Here,
-    writer: &mut Writer,
-    visitor: &mut V,
-) -> Result<(), EdnFault>
-    requires { IsInside (V.holds visitor.old) source here.old writer.old }
-    ensures read { OnOk result (IsReading (V.holds visitor.new) source.entry here.new writer.new) }
-    ensures further { OnOk result (here.old.at < here.new.at) }
-    ensures refused { IfErr result (IsNoNotation source.entry.profile source.entry.limit source.entry.text.now) }
-{
-    let (profile, text) = (source.profile, source.text);
     let (at, phase) = (here.at, here.phase);
     let mut number: u128 = 0;
     let found = next_token(alloc, profile, text, at, &mut number, &mut writer.pieces)?;
@@ -175,7 +159,7 @@ fn step<V: Visitor>(
     let reach = reach_of(writer.brackets.count(), token.kind, number);
     let trailing = is_trailing_comma(profile, phase, token.kind);
     let taken = take(token, number, here, writer, visitor)?;
-    if let Some(reason) = judge(trailing, taken, reach, source.limit) {
+    if let Some(reason) = judge(trailing, taken, reach, limit) {
         let fault = refused(token.start, reason);
         return Err(first_fault(alloc, profile, text, token.stop, fault));
     }
