@@ -1,8 +1,8 @@
 //! What may end or follow after an item, by the kind of the innermost bracket. Each `end_..`
 //! answers whether the token is allowed there, and changes nothing if it isn't.
 
-ghost use Rattle.std.specs.Prelude.{◌≡◌, ◌<◌, ◌^◌, false, IfOk, OnOk};
-ghost use Rattle.cborn_edn.specs.Common.{ArrayClose, MapClose, EmbedClose, ParenClose, Comma, Colon};
+ghost use Rattle.std.specs.Prelude.{◌≡◌, ◌<◌, ◌^◌, false, IfOk};
+ghost use Rattle.cborn_edn.specs.Common.{EmbedClose, ParenClose};
 ghost use Rattle.cborn_edn.specs.devices.Common.{Span as Place, Item, Stack, State, has, Shows, Reads, MayEnd, Turned, Taken};
 ghost use Rattle.cborn_edn.specs.devices.Steps as pure;
 

@@ -1,9 +1,8 @@
 //! What is handed to a visitor, one event after another.
 
-ghost use Rattle.std.specs.Prelude.{◌≡◌, length, OnOk, if◌then◌else◌};
+ghost use Rattle.std.specs.Prelude.{◌≡◌, OnOk, if◌then◌else◌};
 ghost use Rattle.cborn_edn.specs.Common.{Partial, put, no_part, IsFree};
 ghost use Rattle.cborn_edn.specs.devices.Common.{bignum_of, Fits, Follows};
-ghost use Rattle.cborn_edn.specs.devices.Events as pure;
 
 use cborn_model::{Size, StringKind, Visitor, Width, shortest};
 use std::alloc::AllocError;

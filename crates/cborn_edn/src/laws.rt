@@ -1,7 +1,7 @@
 //! Laws of the notation: theorems of its definitions alone. Each function does nothing, and its
 //! contract is a theorem.
 
-ghost use Rattle.std.specs.Prelude.{◌≡◌, ℕ, ◌^◌, ◌<◌, ◌≤◌, Bool, true, List, [], map, length, ◌⊎◌, ◌↔◌};
+ghost use Rattle.std.specs.Prelude.{◌≡◌, ℕ, ◌^◌, ◌<◌, ◌≤◌, true, List, map, length, ◌⊎◌, ◌↔◌};
 ghost use Rattle.cborn_edn.specs.Common.{is_utf8, Trees, depth_all, FitsAll, spelled_all, Profile, One as ProfileOne, Two as ProfileTwo, Token, HasTokens, FailsAt, EdnReason, MeaningError};
 ghost use Rattle.cborn_edn.specs.devices.Common.{tokens_of_input, Parsed};
 ghost use Rattle.cborn_edn.specs.Cited.{AreShowable, Shown, shown_lines, IsText, Notates, HasTree, IsSyntaxError, HasMeaningError, HasSyntaxError};

@@ -1,6 +1,6 @@
 //! Brackets with their indicators (RFC 8949 section 8, RFC 8610 appendix G.3).
 
-ghost use Rattle.std.specs.Prelude.{Bool, ◌≡◌, ◌≤◌, ◌<◌, ◌+◌, length, slice_index, true, IfSome};
+ghost use Rattle.std.specs.Prelude.{◌≡◌, ◌≤◌, ◌<◌, ◌+◌, length, slice_index, true, IfSome};
 ghost use Rattle.cborn_edn.specs.Common.{Profile, Absent};
 ghost use Rattle.cborn_edn.specs.devices.Common.{IsTokenAt, opening, opening_character};
 ghost use Rattle.cborn_lex.specs.declared.classes.Class.TheVariants as classes;

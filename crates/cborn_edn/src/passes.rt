@@ -1,6 +1,6 @@
 //! A whole text, read token by token: its nodes, handed to a visitor, or why it has none.
 
-ghost use Rattle.std.specs.Prelude.{◌≡◌, ◌≤◌, ◌<◌, ◌^◌, List, [], length, IfOk, IfErr, OnOk};
+ghost use Rattle.std.specs.Prelude.{◌≡◌, ◌<◌, ◌^◌, List, [], length, IfOk, IfErr, OnOk};
 ghost use Rattle.cborn_edn.specs.Cited.{IsNoNotation, Notates};
 ghost use Rattle.cborn_edn.specs.devices.Common.{State, start, Reads, IsReading, IsInside, Judged, Last, AtEnd, of_text, Input, Shows};
 ghost use Rattle.cborn_edn.specs.Common.{Tree, trees, FitsAll, top, no_part};

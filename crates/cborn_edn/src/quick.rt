@@ -6,7 +6,7 @@
 
 ghost use Rattle.std.specs.Prelude.{◌≡◌, ◌≤◌, ◌<◌, [], true, length, slice_index, IfOk};
 ghost use Rattle.cborn_edn.specs.Common.{Profile, TokensBetween};
-ghost use Rattle.cborn_edn.specs.devices.Common.{IsInside, IsWanting, Goes};
+ghost use Rattle.cborn_edn.specs.devices.Common.{IsInside, Goes};
 ghost use Rattle.cborn_edn.specs.declared.states.Phase.TheVariants as phases;
 
 use crate::integers::integer_at;

@@ -10,7 +10,7 @@ use crate::containers::close_sized;
 use crate::endings::{end_embedded, end_part, end_tag, ends_sized};
 use crate::marks::embed_end_at;
 use crate::quick::{skip_space, take_white_space};
-use crate::states::{Here, Phase, Source, Writer};
+use crate::states::{Here, Source, Writer};
 use crate::strings::{end_chunk, end_chunks, end_item};
 use crate::texts::ends_string;
 use cborn_model::Visitor;

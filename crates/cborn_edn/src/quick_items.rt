@@ -2,9 +2,7 @@
 //! function answers whether it took something.
 
 ghost use Rattle.std.specs.Prelude.{◌≡◌, slice_index, IfOk};
-ghost use Rattle.cborn_lex.specs.declared.classes.Class.TheVariants as classes;
-ghost use Rattle.cborn_edn.specs.Common.{Profile};
-ghost use Rattle.cborn_edn.specs.devices.Common.{IsInside, IsTokenAt, IsWanting, Goes, opening_character};
+ghost use Rattle.cborn_edn.specs.devices.Common.{IsInside, IsWanting, Goes};
 
 use crate::containers::{open_embedded, open_sized, open_tag};
 use crate::integers::{integer_at, negative_at};
@@ -15,7 +13,7 @@ use crate::states::{Here, Phase, Source, Writer};
 use crate::strings::{open_chunks, put_last_piece, put_text};
 use crate::texts::{plain_text_at, push_text};
 use crate::words::word_at;
-use cborn_lex::{Mark, Profile};
+use cborn_lex::Mark;
 use cborn_model::Visitor;
 use std::alloc::AllocError;
 

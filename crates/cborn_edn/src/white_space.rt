@@ -1,9 +1,8 @@
 //! White space, which comments are part of (RFC 8949 section 8, RFC 8610 appendix G.6).
 
-ghost use Rattle.std.specs.Prelude.{◌≡◌, ◌≤◌, ◌<◌, ◌+◌, ◌==◌, ℕ, [], true, length, take, drop, map, slice_index, IfSome, MatchOption};
+ghost use Rattle.std.specs.Prelude.{◌≡◌, ◌≤◌, ◌<◌, ◌+◌, ◌==◌, [], true, length, take, drop, map, slice_index, IfSome};
 ghost use Rattle.cborn_edn.specs.Common.{list_all, Profile as AnyProfile, is_white, is_not, TokensBetween};
 ghost use Rattle.std.specs.Simd.Lanes.{mask_l};
-ghost use Rattle.cborn_lex.specs.declared.classes.Profile.TheVariants as profiles;
 
 use cborn_lex::{Profile, find};
 use std::simd::prelude::*;

@@ -1,6 +1,6 @@
 //! The words of simple values (RFC 8949 sections 3.3 and 8).
 
-ghost use Rattle.std.specs.Prelude.{◌≡◌, ◌≤◌, ◌||◌, ◌==◌, ◌++◌, ℕ, List, codes, length, IfSome};
+ghost use Rattle.std.specs.Prelude.{◌≡◌, ◌≤◌, ◌||◌, ◌==◌, ◌++◌, ℕ, List, length, IfSome};
 ghost use Rattle.cborn_edn.specs.Common.{Profile, is_word, begins, IsName};
 ghost use Rattle.cborn_edn.specs.devices.Common.{IsTokenAt};
 ghost use Rattle.cborn_lex.specs.declared.classes.Class.TheVariants as classes;

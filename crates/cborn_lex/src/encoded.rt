@@ -1,9 +1,9 @@
 //! Byte strings with the prefix `h` or `b64` (RFC 8949 section 8, RFC 4648).
 
 ghost use Rattle.std.specs.Prelude.{◌≡◌, ℕ, ◌≤◌, List, true, length, take, drop, map, filter, replicate, OnOk, MatchOption, IfOk, false, Some, None, ◌==◌, not, ◌++◌};
-ghost use Rattle.cborn_lex.specs.Common.{list_any, Bytes, decode_of};
-ghost use Rattle.cborn_lex.specs.Cited.{Front as AnyFront, is_white, marked, IsHex, base64_text, to_standard, IsBase64, IsUnquoted};
-ghost use Rattle.cborn_lex.specs.devices.Common.{strip, IsEncoded, refusal, front_view, FrontStandsFor};
+ghost use Rattle.cborn_lex.specs.Common.{list_any, decode_of};
+ghost use Rattle.cborn_lex.specs.Cited.{Front as AnyFront, is_white, IsHex, base64_text, to_standard, IsBase64, IsUnquoted};
+ghost use Rattle.cborn_lex.specs.devices.Common.{strip, IsEncoded, refusal, FrontStandsFor};
 
 use crate::escaped::bytes_front;
 use crate::faults::LexReason;

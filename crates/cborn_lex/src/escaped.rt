@@ -1,9 +1,9 @@
 //! Strings between quotes, with the escapes of JSON (RFC 8259 section 7).
 
-ghost use Rattle.std.specs.Prelude.{◌≡◌, ℕ, ◌<◌, ◌≤◌, ◌++◌, ◌==◌, ◌⊎◌, List, length, take, drop, slice_index, MatchOption, IfOk, IfSome, OnOk, encode_utf8, true, false, None, Some};
+ghost use Rattle.std.specs.Prelude.{◌≡◌, ℕ, ◌<◌, ◌≤◌, ◌==◌, ◌⊎◌, List, length, take, drop, slice_index, MatchOption, IfOk, true, false, None, Some};
 ghost use Rattle.cborn_lex.specs.Common.{Class, Bytes};
-ghost use Rattle.cborn_lex.specs.Cited.{Front as AnyFront, Bad, marked, is_content, is_unclosed, is_low, IsQuoted};
-ghost use Rattle.cborn_lex.specs.devices.Common.{of_quoted, NoText, code_at, low_code, unit_from, front_view, FrontStandsFor};
+ghost use Rattle.cborn_lex.specs.Cited.{Front as AnyFront, Bad, marked, is_content, is_unclosed, IsQuoted};
+ghost use Rattle.cborn_lex.specs.devices.Common.{of_quoted, NoText, front_view, FrontStandsFor};
 
 use crate::classes::{Kind, Mark};
 use crate::faults::LexReason;

@@ -1,6 +1,6 @@
 //! Integers and the numbers of tags (RFC 8949 section 8, RFC 8610 appendix G.5).
 
-ghost use Rattle.std.specs.Prelude.{◌≡◌, ◌+◌, ◌*◌, ◌<◌, ◌≤◌, MatchOption, length, take, drop, Bool, [], slice_index, OnSome, IfSome, true, Ok, Err, false, ◌==◌, ◌||◌, ◌&&◌, not, ◌^◌, if◌then◌else◌, ℕ, IfNone};
+ghost use Rattle.std.specs.Prelude.{◌≡◌, ◌+◌, ◌*◌, ◌<◌, ◌≤◌, MatchOption, length, take, drop, Bool, [], slice_index, IfSome, true, Ok, Err, false, ◌==◌, ◌||◌, ◌&&◌, not, ◌^◌, if◌then◌else◌, ℕ, IfNone};
 ghost use Rattle.cborn_lex.specs.Common.{list_all, list_any, digit_value, is_digit};
 ghost use Rattle.cborn_lex.specs.Cited.{begins, is_numeral, integer, within, number, are_digits, number_front, BeginsDecimal, ReadsNumber, IsRun};
 ghost use Rattle.cborn_lex.specs.devices.Common.{front_view};
