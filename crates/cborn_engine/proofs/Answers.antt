@@ -10,7 +10,7 @@ use Rattle.cborn_model.specs.First.{IsFirst}
 use Rattle.cborn_judge.specs.Reasons.{flaw_rank}
 use Rattle.cborn_judge.specs.shared.Judged.{FlawIn}
 use Rattle.cborn_judge.specs.devices.Encoding.{AreEncodedAs}
-use Rattle.cborn_edn.proofs.Started.Rises.{spots_rise}
+use Rattle.cborn_edn.proofs.Started.{spots_rise}
 use Rattle.cborn_engine.proofs.Held.Meant.{held_is_sound, AreSound}
 use Rattle.cborn_engine.proofs.Canonical.Canonicity.{own_bytes}
 use Rattle.cborn_engine.proofs.Answers.Spots.{rising_apart}

@@ -6,8 +6,7 @@ use Rattle.std.proofs.lemmas.Str.Parse.{digit_from_value}
 use Rattle.std.specs.Str.Parse.{AllDigits, digits_value_after}
 use Rattle.cborn_lex.specs.Numbers.{number, integer}
 use Rattle.cborn_edn.proofs.Lexed.Chained.{Chained, one_token}
-use Rattle.cborn_lex.proofs.WholeTexts.Spelling.{IsMark}
-use Rattle.cborn_edn.proofs.Lexed.MarkTexts.{Closes, mark_is, indicates}
+use Rattle.cborn_edn.proofs.Lexed.MarkTexts.{IsMark, Closes, mark_is, indicates}
 
 -- What holds of each digit.
 

@@ -4,8 +4,7 @@ use Rattle.hex.specs.Hex.{encode_with}
 use Rattle.cborn_edn.proofs.Common.{refl, sym, ap, ◌∙◌, take, drop, take-append-drop, append_assoc, ℕ, zero, suc, List, [], slice_index, Bool, true, false, inl, arith, and_parts, and_from, codes, list_all, is_digit, encode_lower, lower_digits, IsBytes, AreBytes, Mark, Bytes, is_not, marked, HasDigits, token, nowhere, indicator, decode_of-encode_lower, passes_at}
 use Rattle.cborn_lex.specs.Strings.{nothing, digit}
 use Rattle.cborn_edn.proofs.Lexed.Chained.{Chained, one_token}
-use Rattle.cborn_lex.proofs.WholeTexts.Spelling.{IsMark}
-use Rattle.cborn_edn.proofs.Lexed.MarkTexts.{Closes, mark_is, indicates}
+use Rattle.cborn_edn.proofs.Lexed.MarkTexts.{IsMark, Closes, mark_is, indicates}
 
 pub bytes_at : (x : List ℕ) → AreBytes x → IsBytes x
 bytes_at [] h i = omega arith

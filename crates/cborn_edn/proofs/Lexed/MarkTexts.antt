@@ -2,8 +2,12 @@
 use Rattle.std.specs.Prelude.{◌≡◌, ◌∷◌, ◌++◌, ◌==◌}
 use Rattle.cborn_edn.proofs.Common.{refl, sym, ap, subst, ℕ, List, [], length, Bool, true, false, eqb, cond, Some, codes, lt-ltb, cond-true, Width, Direct, One, Two, Four, Eight, Size, Fixed, following, least, WidthFits, SizeFits, Mark, Absent, Endless, Wide, Class, ArrayOpen, MapOpen, ParenClose, Comma, Colon, ChunkOpen, Read, begins, is_word, is_numeral, mark_of, marked, IsIndicator, token, nowhere, mark_for, mark_for_size, indicator, opened, ProfileOne, EndlessMark}
 use Rattle.cborn_lex.specs.Forms.{Reads}
-use Rattle.cborn_lex.proofs.WholeTexts.Spelling.{IsMark}
 use Rattle.cborn_edn.proofs.Lexed.Chained.{Chained, one_token, one_white_space, both}
+
+-- a mark that an indicator can be
+abbrev pub IsMark : Mark → Type 0
+IsMark (Wide Direct) = ⊥
+IsMark _ = Unit {0}
 
 -- what follows an item neither continues its last token nor gives it an indicator
 pub record Closes (z : List ℕ) : Type 0 where

@@ -7,8 +7,7 @@ use Rattle.cborn_lex.specs.Strings.{IsText, nothing}
 use Rattle.cborn_lex.proofs.Contents.Texts as lettered
 use Rattle.cborn_lex.proofs.Contents.Ends.{content_then}
 use Rattle.cborn_edn.proofs.Lexed.Chained.{Chained, one_token}
-use Rattle.cborn_lex.proofs.WholeTexts.Spelling.{IsMark}
-use Rattle.cborn_edn.proofs.Lexed.MarkTexts.{Closes, mark_is, indicates}
+use Rattle.cborn_edn.proofs.Lexed.MarkTexts.{IsMark, Closes, mark_is, indicates}
 
 -- the letter that a byte is written as
 abbrev letter_of : ℕ → Letter

@@ -1,4 +1,4 @@
-use Rattle.cborn_edn.proofs.Started.Rises.{spots_rise}
+use Rattle.cborn_edn.proofs.Started.{spots_rise}
 use Rattle.cborn_edn.proofs.laws.spots_rise.Goals as goal
 
 pub returns : goal.returns
