@@ -6,6 +6,5 @@ pub mod Building
 pub mod Shifting
 pub mod Standing
 pub mod Feeding
-pub mod FirstItem
 pub mod Visiting
 pub mod ShortIntegers

@@ -1,36 +1,18 @@
 -- Integers that are told apart by the form of their initial bytes.
 use Rattle.std.specs.Prelude.{◌≡◌, ◌+◌, ◌*◌, ◌/◌, ◌%◌, ◌<◌, ◌≤◌, ◌∷◌, ◌++◌}
-use Rattle.cborn_wire.proofs.Common.{ℕ, zero, suc, inl, inr, List, [], length, take, drop, get_or, refl, sym, ap, ◌∙◌, subst, arith, append_assoc, append-nil, length-append, length-drop, lt-ltb, le-ltb, Width, Direct, One, Two, Four, Eight, AreBytes, Other, code, least, Tree, Uint, Nint, IsInteger, IsShortLeaf, AreShortIntegers, Head, Full, major_at, IsHeadOf, Next, info_at, width_bytes, number}
-use Rattle.cborn_model.proofs.Numbers.Majors.{code_at}
+use Rattle.cborn_wire.proofs.Common.{ℕ, zero, suc, inl, inr, List, [], length, take, drop, get_or, refl, sym, ap, ◌∙◌, subst, arith, append_assoc, append-nil, length-append, length-drop, lt-ltb, le-ltb, Width, Direct, One, Two, Four, Eight, AreBytes, least, Tree, Uint, Nint, IsInteger, IsShortLeaf, AreShortIntegers, Head, IsHeadOf, Next, info_at, width_bytes, number}
 use Rattle.cborn_model.proofs.Numbers.Simples.{least_direct, least_one}
 use Rattle.cborn_wire.specs.declared.heads.Argument.TheVariants as arguments
 use Rattle.cborn_wire.specs.devices.ShortIntegers.{IsIntegerForm, top_of}
-use Rattle.cborn_wire.proofs.HeadReading.HeadFronts.{direct_front, wide_fronts, wide_head}
 use Rattle.cborn_wire.proofs.HeadReading.HeadSteps.{head_front}
+use Rattle.cborn_wire.proofs.Visiting.Leaves.{given_direct, given_wide}
 
 -- a head of a width, as it is read
 abbrev wide_of : List ℕ → Width → Head
 wide_of x w = record { major = get_or x 0 0 / 32; argument = arguments.Given w (number w (take (width_bytes w) (drop 1 x))) }
 
-bytes_after : (x : List ℕ) → AreBytes x → AreBytes (drop 1 x)
-bytes_after [] h = tt
-bytes_after (b ∷ x) h = h.1
-
-low_not_other : (q : ℕ) → q < 2 → major_at q ≡ Other → ⊥
-low_not_other q low o =
-    let seven : q ≡ 7 = sym (code_at q (omega arith)) ∙ ap code o in
-    omega (arith, seven)
-
 wide_read : (x : List ℕ) (w : Width) → AreBytes x → get_or x 0 0 / 32 < 2 → info_at (get_or x 0 0 % 32) ≡ Next w → 1 + width_bytes w ≤ length x → IsHeadOf x (wide_of x w) (1 + width_bytes w)
-wide_read x w are m i l =
-    let same : code (major_at (get_or x 0 0 / 32)) ≡ get_or x 0 0 / 32 = code_at (get_or x 0 0 / 32) (omega arith) in
-    wide_fronts x (drop 1 x) (Full (wide_of x w) (1 + width_bytes w)) (major_at (get_or x 0 0 / 32)) w refl (omega arith) same i (low_not_other (get_or x 0 0 / 32) m)
-    (λ b e j free. wide_head (drop 1 x) b (get_or x 0 0 / 32) (number w (take (width_bytes w) (drop 1 x))) (width_bytes w) w (omega arith) (e ∙ same) j (bytes_after x are) (let k : width_bytes w ≤ length (drop 1 x) = omega (arith, length-drop 1 x) in k) refl refl free)
-
-direct_read : (x : List ℕ) → AreBytes x → 1 ≤ length x → get_or x 0 0 / 32 < 2 → get_or x 0 0 % 32 < 24 → IsHeadOf x (record { major = get_or x 0 0 / 32; argument = arguments.Given Direct (get_or x 0 0 % 32) }) 1
-direct_read x are some low h =
-    let same : code (major_at (get_or x 0 0 / 32)) ≡ get_or x 0 0 / 32 = code_at (get_or x 0 0 / 32) (omega arith) in
-    subst (λ (n : ℕ). IsHeadOf x (record { major = n; argument = arguments.Given Direct (get_or x 0 0 % 32) }) 1) same (direct_front x (major_at (get_or x 0 0 / 32)) are some same h)
+wide_read x w are m i l = (given_wide x (drop 1 x) w (number w (take (width_bytes w) (drop 1 x))) (width_bytes w) refl are (omega arith) (omega arith) i (omega (arith, length-drop 1 x)) refl refl).head
 
 least_two : (n : ℕ) → 256 ≤ n → n < 65536 → Two ≡ least n
 least_two n p q =
@@ -73,7 +55,7 @@ module _ (p : ℕ) where
   form_found f a b c d e g h i len top y are form over =
       elim form.1 [
         | inl s ↦ subst (λ (j : ℕ). Found (Nine f a b c d e g h i y) j) (sym s.1)
-            (integer_read (Nine f a b c d e g h i y) Direct (f % 32) 1 (f / 32) form.0 (direct_read (Nine f a b c d e g h i y) are (omega arith) form.0 s.0) (sym (least_direct (f % 32) s.0)))
+            (integer_read (Nine f a b c d e g h i y) Direct (f % 32) 1 (f / 32) form.0 (given_direct (Nine f a b c d e g h i y) are (omega arith) s.0).head (sym (least_direct (f % 32) s.0)))
         | inr (inl s) ↦ wide_found (Nine f a b c d e g h i y) One a len are form.0 (ap info_at s.0) (omega arith) refl (sym (least_one a (omega (arith, over, s.2, are.1.1.0, are.1.1.1.0, are.1.1.1.1.0)) are.1.0)) s.1
         | inr (inr (inl s)) ↦ wide_found (Nine f a b c d e g h i y) Two (a * 256 + b) len are form.0 (ap info_at s.0) (omega arith) refl
             (least_two (a * 256 + b) (omega (arith, over, s.2, are.1.1.0, are.1.1.1.0, are.1.1.1.1.0)) (omega (arith, are.1.0, are.1.1.0))) s.1
@@ -84,16 +66,8 @@ module _ (p : ℕ) where
       ]
 
   pub integer_found : (x : List ℕ) (len top : ℕ) → AreBytes x → 9 ≤ length x → IsIntegerForm (get_or x 0 0) len top → top ≤ top_of (get_or x 1 0) (get_or x 2 0) (get_or x 3 0) (get_or x 4 0) → (t : Tree) × IsInteger t × IsShortLeaf p (take len x) t
-  integer_found [] len top are l form over = absurd (omega arith)
-  integer_found (f ∷ []) len top are l form over = absurd (omega arith)
-  integer_found (f ∷ a ∷ []) len top are l form over = absurd (omega arith)
-  integer_found (f ∷ a ∷ b ∷ []) len top are l form over = absurd (omega arith)
-  integer_found (f ∷ a ∷ b ∷ c ∷ []) len top are l form over = absurd (omega arith)
-  integer_found (f ∷ a ∷ b ∷ c ∷ d ∷ []) len top are l form over = absurd (omega arith)
-  integer_found (f ∷ a ∷ b ∷ c ∷ d ∷ e ∷ []) len top are l form over = absurd (omega arith)
-  integer_found (f ∷ a ∷ b ∷ c ∷ d ∷ e ∷ g ∷ []) len top are l form over = absurd (omega arith)
-  integer_found (f ∷ a ∷ b ∷ c ∷ d ∷ e ∷ g ∷ h ∷ []) len top are l form over = absurd (omega arith)
   integer_found (f ∷ a ∷ b ∷ c ∷ d ∷ e ∷ g ∷ h ∷ i ∷ y) len top are l form over = form_found f a b c d e g h i len top y are form over
+  integer_found x len top are l form over = absurd (omega arith)
 
 -- one more integer
 

@@ -1,9 +1,7 @@
 -- What nodes spell is bytes, and bytes have one reading, or one fault.
 -- The laws (`OneReading`, `FaultLaws`) follow from the machine: it takes each reading, and has one state for some bytes. `SlotLaws` has what it fails for, `Reasons` and `GoingOn` say the same without slots.
 pub mod AllBytes
-pub mod ByteLists
 pub mod TreeLists
-pub mod AsPlaced
 pub mod OneReading
 pub mod SlotLaws
 pub mod Reasons

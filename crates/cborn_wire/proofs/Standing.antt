@@ -84,15 +84,12 @@ container_ended f (a_tag p w n) ts x y (t, one) few is done =
 container_ended f (in_chunks p k) ts x y ends few is done =
     done ∙ ap (λ l. l ++ ending Endless) is ∙ append_assoc (written f) (beginning (opened (in_chunks p k) ts)) (ending Endless) ∙ ap (λ l. written f ++ l) (sym (built_spelled (in_chunks p k) ts tt ends))
 
-some_same : {A : Type 0} {a b : A} → Some a ≡ Some b → a ≡ b
-some_same {A} {a} e = ap (λ (o : Option A). elim o [ Some c ↦ c | None ↦ a ]) e
-
 pub container_left : (old left : Speller) (given : Option OpenSpelling) (ended : OpenSpelling) (f : Partial) (o : Opening) (ts : List Tree) (y : List ℕ) → Ends o ts → length old.out.items < 2 ^ 64 → left.out.items ≡ old.out.items → given ≡ Some ended
     → ((c : OpenSpelling) (outer : List OpenSpelling) → old.containers.items ≡ outer ++ c ∷ [] → (given ≡ Some c) × (left.containers.items ≡ outer))
     → IsEnded ended.ending ended.nodes ended.start left.out.items y → Stands old (inside f o ts) [] → (y ≡ written f ++ spelled (built o ts)) × (left.containers.items ≡ containers_of f)
 container_left old left given ended f o ts y ends few same some leave done (out, containers) =
     let c = container f o (counted (length ts)) in
     let outer = leave c (containers_of f) containers in
-    let is : ended ≡ c = some_same (sym some ∙ outer.0) in
+    let is : ended ≡ c = cc (sym some ∙ outer.0) in
     let owed : IsEnded c.ending c.nodes c.start old.out.items y = subst (λ (u : OpenSpelling). IsEnded u.ending u.nodes u.start old.out.items y) is (subst (λ (x : List ℕ). IsEnded ended.ending ended.nodes ended.start x y) same done) in
     (container_ended f o ts old.out.items y ends few (out ∙ append-nil (written (inside f o ts))) owed, outer.1)

@@ -5,5 +5,4 @@ pub mod Pieces
 pub mod Heads
 pub mod Ending
 pub mod Leaves
-pub mod Containers
 pub mod Runs

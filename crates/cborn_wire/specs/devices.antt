@@ -2,6 +2,5 @@ pub mod OpenNodes
 pub mod ItemReading
 pub mod FeederView
 pub mod FeedingCode
-pub mod Counting
 pub mod Leaves
 pub mod ShortIntegers

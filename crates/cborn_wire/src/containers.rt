@@ -21,6 +21,7 @@ use std::alloc::AllocError;
 
 /// Takes the head of an array, a map or a tag, whose initial byte is `first`, from the offset `place`
 /// to the offset `end`. Gives 0.
+#[tactic(auto, using(crate::proofs::Visiting::Heads::array_major, crate::proofs::Visiting::Heads::map_major))]
 #[inline(always)]
 fn open_container<L: Levels, V: Visitor>(
     levels: &mut L,
@@ -56,6 +57,7 @@ fn open_container<L: Levels, V: Visitor>(
 #[inline(always)]
 fn is_allowed<L: Levels>(levels: &L, limit: u64, first: u8) -> bool
     ensures endless { result ≡ true → first % 32 ≡ 31 → first < 192 }
+    ensures room { result ≡ true → length (L.outer levels.now) < limit }
     ensures free { result ≡ true → (f : Partial) → Keeps f (L.outer levels.now) (L.inner levels.now) → AreOpen limit (open_in f) → None ≡ head_reason (slot (open_in f)) (nat_le limit (open_depth (open_in f))) (major_at (first / 32)) (info_at (first % 32)) [] }
 {
     if !is_plain(first) || levels.count() as u64 >= limit {
@@ -77,8 +79,9 @@ fn take_endless<L: Levels, V: Visitor>(
 ) -> Result<usize, AllocError>
     requires some { 0 < length piece.now }
     requires far { place + length piece.now < 2 ^ 64 }
-    requires room { length (L.outer levels.old) < L.most }
+    requires levels { limit < L.most }
     ensures goes { (f : Partial) → V.holds visitor.old f no_part → Keeps f (L.outer levels.old) (L.inner levels.old) → AreOpen limit (open_in f) → IfOk result (λ n. 0 < n → TakesHead limit place f piece.now (V.holds visitor.new) (L.outer levels.new) (L.inner levels.new) n) }
+    ensures within { IfOk result (λ n. n ≤ length piece.now) }
     ensures none { IfOk result (λ n. n ≡ 0 → (visitor.new ≡ visitor.old) × (levels.new ≡ levels.old)) }
     ensures memory { OnErr result (V.takes_memory ⊎ L.takes_memory) }
 {
@@ -114,8 +117,9 @@ fn take_whole<L: Levels, V: Visitor>(
 ) -> Result<usize, AllocError>
     requires some { 0 < length piece.now }
     requires far { place + length piece.now < 2 ^ 64 }
-    requires room { length (L.outer levels.old) < L.most }
+    requires levels { limit < L.most }
     ensures goes { (f : Partial) → V.holds visitor.old f no_part → Keeps f (L.outer levels.old) (L.inner levels.old) → AreOpen limit (open_in f) → IfOk result (λ n. 0 < n → TakesHead limit place f piece.now (V.holds visitor.new) (L.outer levels.new) (L.inner levels.new) n) }
+    ensures within { IfOk result (λ n. n ≤ length piece.now) }
     ensures none { IfOk result (λ n. n ≡ 0 → (visitor.new ≡ visitor.old) × (levels.new ≡ levels.old)) }
     ensures memory { OnErr result (V.takes_memory ⊎ L.takes_memory) }
 {
@@ -149,9 +153,9 @@ pub(crate) fn take_heads<L: Levels, V: Visitor>(
     piece: &[u8],
 ) -> Result<usize, AllocError>
     requires far { place + length piece.now < 2 ^ 64 }
-    requires levels { limit + 1 < L.most }
-    requires here { (f : Partial) × (base : ℕ) × V.holds visitor.old f no_part × Keeps f (L.outer levels.old) (L.inner levels.old) × IsReached limit base (state place f no_part) }
+    requires levels { limit < L.most }
     ensures goes { (f : Partial) (base : ℕ) → V.holds visitor.old f no_part → Keeps f (L.outer levels.old) (L.inner levels.old) → IsReached limit base (state place f no_part) → IfOk result (λ n. 0 < n → TakesHead limit place f piece.now (V.holds visitor.new) (L.outer levels.new) (L.inner levels.new) n) }
+    ensures within { IfOk result (λ n. n ≤ length piece.now) }
     ensures none { IfOk result (λ n. n ≡ 0 → (visitor.new ≡ visitor.old) × (levels.new ≡ levels.old)) }
     ensures memory { OnErr result (V.takes_memory ⊎ L.takes_memory) }
 {

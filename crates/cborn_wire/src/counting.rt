@@ -62,6 +62,7 @@ fn close<L: Levels, V: Visitor>(
 }
 
 /// Takes a break, from the offset `place` to the offset `end`. Gives 0.
+#[tactic(auto, using(crate::proofs::Visiting::Counting::breaks_not))]
 pub(crate) fn end<L: Levels, V: Visitor>(
     levels: &mut L,
     visitor: &mut V,
@@ -113,52 +114,6 @@ pub(crate) fn close_string<L: Levels, V: Visitor>(
 {
     visitor.close_string()?;
     finish(levels, visitor, end)
-}
-
-/// The head of a definite string, its offset in bytes, and the length of the string.
-#[derive(Clone, Copy)]
-struct StringHead {
-    place: u64,
-    kind: StringKind,
-    width: Width,
-    len: u64,
-}
-
-/// Takes the head of a string, which ends at the offset `end`. Gives the string's length.
-#[inline(always)]
-fn open_string<L: Levels, V: Visitor>(
-    levels: &mut L,
-    visitor: &mut V,
-    end: u64,
-    head: StringHead,
-) -> Result<u64, AllocError>
-    requires { WidthFits head.width head.len }
-    ensures goes { (f : Partial) → TakesString f head.kind → V.holds visitor.old f no_part → Keeps f (L.outer levels.old) (L.inner levels.old) → IfOk result (λ left. Stands (V.holds visitor.new) (L.outer levels.new) (L.inner levels.new) left end (content_at end head.place (ready f) (open_in f) head.kind head.width head.len [])) }
-    ensures memory { OnErr result V.takes_memory }
-{
-    visitor.open_string(head.place, head.kind, head.width, head.len)?;
-    if head.len == 0 {
-        return close_string(levels, visitor, end);
-    }
-    Ok(head.len)
-}
-
-/// Takes the head at `place` of a string of indefinite length, which ends at the offset `end`.
-/// Gives 0.
-fn open_chunks<L: Levels, V: Visitor>(
-    levels: &mut L,
-    visitor: &mut V,
-    end: u64,
-    place: u64,
-    kind: StringKind,
-) -> Result<u64, AllocError>
-    requires { length (L.outer levels.old) < L.most }
-    ensures goes { (f : Partial) → TakesItem f → V.holds visitor.old f no_part → Keeps f (L.outer levels.old) (L.inner levels.old) → IfOk result (λ left. Stands (V.holds visitor.new) (L.outer levels.new) (L.inner levels.new) left end (holding end (ready f) (open_in f) (in_chunks place kind) [])) }
-    ensures memory { OnErr result (V.takes_memory ⊎ L.takes_memory) }
-{
-    visitor.open_chunks(place, kind)?;
-    levels.open(Level::of_chunks(place, kind))?;
-    Ok(0)
 }
 
 /// Takes the head at `place` of an array, which ends at the offset `end`. Gives 0.
@@ -246,18 +201,14 @@ fn take_simple<L: Levels, V: Visitor>(
     ensures memory { result ≡ Err (Memory alloc_error) → V.takes_memory }
 {
     match argument {
-        Argument::Given(Width::Direct, n) => {
-            visitor.simple(place, n as u8)?;
-            Ok(finish(levels, visitor, end)?)
-        }
-        Argument::Given(Width::One, n) if n >= 32 => {
-            visitor.simple(place, n as u8)?;
-            Ok(finish(levels, visitor, end)?)
-        }
-        Argument::Given(Width::One, _) => Err(VisitFault::Refused {
+        Argument::Given(Width::One, n) if n < 32 => Err(VisitFault::Refused {
             place,
             reason: WireReason::BadSimple,
         }),
+        Argument::Given(Width::Direct | Width::One, n) => {
+            visitor.simple(place, n as u8)?;
+            Ok(finish(levels, visitor, end)?)
+        }
         Argument::Given(_, _) => Err(VisitFault::Refused {
             place,
             reason: WireReason::FloatLeftOut,
@@ -282,18 +233,16 @@ fn take_string<L: Levels, V: Visitor>(
     ensures memory { OnErr result (V.takes_memory ⊎ L.takes_memory) }
 {
     let (kind, argument) = string;
-    match argument {
-        Argument::Given(width, len) => {
-            let head = StringHead {
-                place,
-                kind,
-                width,
-                len,
-            };
-            open_string(levels, visitor, end, head)
-        }
-        Argument::Endless => open_chunks(levels, visitor, end, place, kind),
+    let Argument::Given(width, len) = argument else {
+        visitor.open_chunks(place, kind)?;
+        levels.open(Level::of_chunks(place, kind))?;
+        return Ok(0);
+    };
+    visitor.open_string(place, kind, width, len)?;
+    if len == 0 {
+        return close_string(levels, visitor, end);
     }
+    Ok(len)
 }
 
 /// Takes a whole head, from the offset `place` to the offset `end`. Gives the number of bytes of a

@@ -121,7 +121,7 @@ impl Feeder {
         if let Some(fault) = self.fault {
             return Err(fault);
         }
-        if !self.reader.is_whole() {
+        if !self.reader.heads.is_whole(&self.reader.levels) {
             return Err(WireFault::Refused {
                 place: self.fed,
                 reason: WireReason::Truncated,

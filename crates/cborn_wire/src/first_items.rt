@@ -22,6 +22,7 @@ use std::alloc::{AllocError, Global};
 /// `Refused` if no item within the nesting limit starts there, with the one fault that is met:
 /// `Truncated`, at the length of `bytes`, if they end before the item does. `OutOfMemory` if memory
 /// for the open levels is refused.
+#[tactic(auto, using(crate::proofs::Visiting::Ending::ends_item))]
 pub fn item_end(
     alloc: Global,
     limit: Limit,

@@ -44,6 +44,7 @@ pub struct HeadReader {
 }
 
 /// Why a head with this initial byte isn't allowed next, as far as that byte says.
+#[tactic(auto, using(crate::proofs::Visiting::Taking::reason_same))]
 fn refusal<L: Levels>(levels: &L, limit: u64, first: u8) -> Option<WireReason>
     ensures { (f : Partial) → Keeps f (L.outer levels.now) (L.inner levels.now) → AreOpen limit (open_in f) → result ≡ head_reason (slot (open_in f)) (nat_le limit (open_depth (open_in f))) (major_at (first / 32)) (info_at (first % 32)) [] }
 {
@@ -58,17 +59,6 @@ pub enum Until {
     End,
     /// Up to the end of an item that is in no other, or to that of the piece.
     Item,
-}
-
-impl Until {
-    /// Whether it is the end of an item.
-    #[inline(always)]
-    fn is_item(self) -> bool
-        ensures item { result ≡ false → self ≡ Until.Item → ⊥ }
-        ensures end { result ≡ true → self ≡ Until.End → ⊥ }
-    {
-        matches!(self, Until::Item)
-    }
 }
 
 impl HeadReader {
@@ -118,6 +108,7 @@ impl HeadReader {
     /// `Refused` if a head in the piece isn't allowed where it is, at its offset from the start of
     /// the input; reader, levels and visitor are then before that head. `Memory` if memory is
     /// refused to levels or visitor; then nothing is known of the three.
+    #[tactic(auto, using(crate::proofs::Visiting::Pieces::reached_now))]
     pub fn read<L: Levels, V: Visitor>(
         &mut self,
         levels: &mut L,
@@ -143,7 +134,7 @@ impl HeadReader {
             let len = self.take(levels, visitor, rest)?;
             self.at += len as u64;
             rest = &rest[len..];
-            if until.is_item() && self.is_whole(levels) {
+            if matches!(until, Until::Item) && self.is_whole(levels) {
                 return Ok(piece.len() - rest.len());
             }
         }
@@ -152,6 +143,7 @@ impl HeadReader {
 
     /// Takes bytes from the front of `piece`, and gives their number: leaves, one after another, or
     /// else a head, or a part of a head or a string.
+    #[tactic(auto, using(crate::proofs::Visiting::Taking::between_here))]
     #[inline(always)]
     fn take<L: Levels, V: Visitor>(
         &mut self,
@@ -182,6 +174,7 @@ impl HeadReader {
     }
 
     /// Takes a head at the front of `piece`, or the initial byte of one that ends after the piece.
+    #[tactic(auto, using(crate::proofs::HeadReading::HeadFronts::short_front, crate::proofs::HeadReading::HeadSteps::first_refused, crate::proofs::HeadReading::HeadSteps::head_fits))]
     #[inline(never)]
     fn take_head<L: Levels, V: Visitor>(
         &mut self,

@@ -80,6 +80,7 @@ pub enum HeadRead {
 /// The head at the front of `bytes`; what follows it isn't looked at. It is `Bad` for the reasons
 /// that hold whatever is around the head: `ReservedInfo`, `EndlessNotAllowed`, `FloatLeftOut` and
 /// `BadSimple` (RFC 8949 sections 3, 3.2.1 and 3.3).
+#[tactic(auto, using(cborn_model::proofs::Bytes::are_bytes, crate::proofs::HeadReading::HeadFronts::no_head, crate::proofs::HeadReading::HeadFronts::direct_front))]
 #[inline]
 pub fn read_head(bytes: &[u8]) -> HeadRead
     ensures { ReadsHead bytes.now result }
@@ -117,6 +118,7 @@ fn head_of(major: Major, argument: Argument) -> Head
 }
 
 /// Reads a head whose argument is the first `len` bytes of `rest`.
+#[tactic(auto, using(cborn_model::proofs::Bytes::are_bytes, crate::proofs::HeadReading::HeadFronts::code_small, crate::proofs::HeadReading::HeadFronts::wide_head))]
 #[inline(always)]
 fn read_wide(major: Major, width: Width, len: usize, rest: &[u8]) -> HeadRead
     requires { len ≡ width_bytes width }
@@ -132,7 +134,7 @@ fn read_wide(major: Major, width: Width, len: usize, rest: &[u8]) -> HeadRead
 }
 
 /// Reads a head of major type 7, of a float or a simple value, whose argument follows the initial
-/// byte.
+/// byte. A simple value of two bytes is 32 or more (RFC 8949 section 3.3).
 fn read_other(information: u8, rest: &[u8]) -> HeadRead
     requires least { 24 ≤ information }
     requires most { information ≤ 27 }
@@ -141,14 +143,6 @@ fn read_other(information: u8, rest: &[u8]) -> HeadRead
     if is_float(Major::Other, information) {
         return HeadRead::Bad(WireReason::FloatLeftOut);
     }
-    read_simple(rest)
-}
-
-/// Reads a simple value of two bytes, the second of which is the first of `rest` (RFC 8949 section
-/// 3.3).
-fn read_simple(rest: &[u8]) -> HeadRead
-    ensures { (first : ℕ) → first / 32 ≡ 7 → info_at (first % 32) ≡ Next One → ReadsHead (first ∷ rest.now) result }
-{
     match rest {
         [0..32, ..] => HeadRead::Bad(WireReason::BadSimple),
         _ => read_wide(Major::Other, Width::One, 1, rest),
@@ -156,6 +150,7 @@ fn read_simple(rest: &[u8]) -> HeadRead
 }
 
 /// Reads a head of indefinite length, or the break (RFC 8949 section 3.2).
+#[tactic(auto, using(crate::proofs::HeadReading::HeadFronts::code_small, crate::proofs::HeadReading::HeadFronts::endless_head))]
 fn read_endless(major: Major) -> HeadRead
     ensures { (first : ℕ) (rest : List ℕ) → first / 32 ≡ code major → info_at (first % 32) ≡ EndlessInformation → ReadsHead (first ∷ rest) result }
 {

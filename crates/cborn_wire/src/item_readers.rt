@@ -25,6 +25,7 @@ pub(crate) struct ItemReader {
 impl ItemReader {
     /// A reader of bytes from the offset `at` on, for the maximum nesting depth `limit`. Takes no
     /// memory.
+    #[tactic(auto, using(crate::proofs::Feeding::ItemSteps::fresh_made))]
     pub(crate) fn new(alloc: Global, limit: Limit, at: u64) -> ItemReader
         ensures made { IsMade result }
         ensures start { seen [] result ≡ start at }
@@ -38,21 +39,13 @@ impl ItemReader {
         }
     }
 
-    /// Whether no item is cut: nothing is open, and no head or string is partial.
-    pub(crate) fn is_whole(&self) -> bool
-        requires { IsMade self.now }
-        ensures whole { result ≡ true → (open_in (seen_nodes self.now.nodes) ≡ []) × (pending self.now.heads.head self.now.nodes.string ≡ nothing) }
-        ensures cut { result ≡ false → open_in (seen_nodes self.now.nodes) ≡ [] → pending self.now.heads.head self.now.nodes.string ≡ nothing → ⊥ }
-    {
-        self.heads.is_whole(&self.levels)
-    }
-
     /// Reads `piece`, the next bytes, up to the end of an item or to that of the piece. Gives the
     /// number of bytes that it read, at least one if there is one, and the item if it is whole.
     ///
     /// # Errors
     /// `Refused` if a head in the piece isn't allowed where it is, and no item is whole before it.
     /// `Memory` if memory is refused. Then nothing is known of the reader but its limit.
+    #[tactic(auto, using(crate::proofs::Feeding::ItemSteps::fails_item))]
     pub(crate) fn read_item(&mut self, piece: &[u8]) -> Result<(usize, Option<Spelled>), VisitFault>
         requires made { IsMade self.old }
         requires room { self.old.heads.at + length piece.now < 2 ^ 64 }

@@ -15,6 +15,7 @@ ghost use Rattle.cborn_wire.specs.SlotFaults.{SlotRefused};
 /// Bytes have at most one reading: two lists of nodes that both spell them are equal if both begin
 /// at the same offset (`placed`), and else equal but for offsets (`aside`: they are equal once
 /// moved to any one offset).
+#[tactic(auto, using(crate::proofs::Spelled::OneReading::one_spelling))]
 pub fn one_reading()
     ensures placed { (limit p : ℕ) (ts us : Trees) (x : List ℕ) → Wellformed limit ts x → Wellformed limit us x → PlacedAll p ts → PlacedAll p us → ts ≡ us }
     ensures aside { (ts us : Trees) → FitsAll ts → FitsAll us → spelled_all ts ≡ spelled_all us → (p : ℕ) → all_from p ts ≡ all_from p us }
@@ -22,6 +23,7 @@ pub fn one_reading()
 
 /// No item begins another: if the bytes of one begin with those of another, both are the same item,
 /// and nothing follows.
+#[tactic(auto, using(crate::proofs::Spelled::OneReading::no_item_begins))]
 pub fn no_item_begins_another()
     ensures { (t u : Tree) (y : List ℕ) → Fits t → Fits u → spelled t ++ y ≡ spelled u → (y ≡ []) × ((p : ℕ) → placed_from p t ≡ placed_from p u) }
 {}
@@ -45,6 +47,7 @@ pub fn one_fault()
 {}
 
 /// A fault is at the offset of a head inside the bytes; only `Truncated` is at their end.
+#[tactic(auto, using(crate::proofs::Spelled::FaultLaws::fault_inside, crate::proofs::Spelled::FaultLaws::fault_at_end))]
 pub fn place_of_fault()
     ensures inside { (limit : ℕ) (x : List ℕ) (p : ℕ) (r : WireReason) → Fault limit x p r → (r ≡ Truncated → ⊥) → p < length x }
     ensures end { (limit : ℕ) (x : List ℕ) (p : ℕ) → Fault limit x p Truncated → p ≡ length x }
@@ -58,6 +61,7 @@ pub fn fronts()
 
 /// A fault other than `Truncated` stays the fault, whatever bytes follow: of the same head, and so
 /// of the whole input.
+#[tactic(auto, using(crate::proofs::Spelled::FaultLaws::refused_stays, crate::proofs::Spelled::FaultLaws::fault_stays))]
 pub fn faults_stay()
     ensures refused { (limit : ℕ) (x y : List ℕ) (p : ℕ) (r : WireReason) → Refused limit x p r → Refused limit (x ++ y) p r }
     ensures fault { (limit : ℕ) (x y : List ℕ) (p : ℕ) (r : WireReason) → Fault limit x p r → (r ≡ Truncated → ⊥) → Fault limit (x ++ y) p r }
@@ -65,12 +69,14 @@ pub fn faults_stay()
 
 /// The table of slots, which judges a head by what is open around it, refuses exactly the heads
 /// that aren't allowed.
+#[tactic(auto, using(crate::proofs::Spelled::GoingOn::refused_said, crate::proofs::Spelled::FaultLaws::said_refused))]
 pub fn faults_by_slots()
     ensures sound { (limit : ℕ) (x : List ℕ) (p : ℕ) (r : WireReason) → AreBytes x → SlotRefused limit x p r → Refused limit x p r }
     ensures found { (limit : ℕ) (x : List ℕ) (p : ℕ) (r : WireReason) → AreBytes x → Refused limit x p r → SlotRefused limit x p r }
 {}
 
 /// What is well-formed under a limit is so under each larger one, as the same nodes.
+#[tactic(auto, using(crate::proofs::Spelled::FaultLaws::larger_limit))]
 pub fn larger_limits()
     ensures { (limit most : ℕ) (ts : Trees) (x : List ℕ) → limit ≤ most → Wellformed limit ts x → Wellformed most ts x }
 {}

@@ -30,6 +30,7 @@ pub(crate) struct GivenHead {
 
 /// The head at the front of `bytes`, if it has an argument and is no float and no simple value of
 /// two bytes. It says less than `read_head`, and takes half of its instructions here.
+#[tactic(auto, using(cborn_model::proofs::Bytes::are_bytes, crate::proofs::Visiting::Leaves::given_direct))]
 #[inline(always)]
 pub(crate) fn given_head(bytes: &[u8]) -> Option<GivenHead>
     ensures { MatchOption result ⊤ (IsGiven bytes.now) }
@@ -60,6 +61,7 @@ pub(crate) fn given_head(bytes: &[u8]) -> Option<GivenHead>
 
 /// The head with the initial byte `first`, whose argument is at the front of `rest`. At each call the
 /// width is a constant.
+#[tactic(auto, using(crate::proofs::Visiting::Leaves::given_wide))]
 #[inline(always)]
 fn wide_head(first: u8, width: Width, rest: &[u8]) -> Option<GivenHead>
     ensures { (x : List ℕ) → AreBytes x → 1 ≤ length x → first ≡ slice_index x 0 → rest.now ≡ drop 1 x → first < 224 → info_at (first % 32) ≡ Next width → MatchOption result ⊤ (IsGiven x) }
@@ -110,6 +112,7 @@ fn leaf_of(head: GivenHead, bytes: &[u8]) -> Option<Leaf>
 
 /// Hands the leaf with this head, at the offset `place`, to a visitor. `bytes` is the content of a
 /// string, and empty of other leaves.
+#[tactic(auto, using(crate::proofs::Visiting::Leaves::bytes_are, crate::proofs::Visiting::Leaves::text_is, crate::proofs::Visiting::Leaves::string_free))]
 #[inline(always)]
 pub(crate) fn visit_leaf<V: Visitor>(
     visitor: &mut V,
@@ -151,6 +154,7 @@ pub(crate) fn take_leaves<L: Levels, V: Visitor>(
     requires given { IsGiven piece.now head }
     requires room { place + length piece.now < 2 ^ 64 }
     ensures goes { (limit : ℕ) (f : Partial) → V.holds visitor.old f no_part → Keeps f (L.outer levels.old) (L.inner levels.old) → IfOk result (λ n. 0 < n → TakesHead limit place f piece.now (V.holds visitor.new) (L.outer levels.new) (L.inner levels.new) n) }
+    ensures within { IfOk result (λ n. n ≤ length piece.now) }
     ensures none { IfOk result (λ n. n ≡ 0 → (visitor.new ≡ visitor.old) × (levels.new ≡ levels.old)) }
     ensures memory { OnErr result V.takes_memory }
 {

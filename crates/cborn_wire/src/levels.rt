@@ -5,8 +5,7 @@ ghost use Rattle.cborn_model.specs.Partial.{a_map, an_array, in_chunks};
 ghost use Rattle.cborn_model.specs.declared.heads.Size.{Size};
 ghost use Rattle.cborn_wire.specs.declared.levels.Level.{Level as OneLevel};
 ghost use Rattle.cborn_wire.specs.declared.levels.LevelKind.TheVariants.{Tag};
-ghost use Rattle.cborn_wire.specs.devices.Counting.{seen_slot};
-ghost use Rattle.cborn_wire.specs.shared.Visiting.{IsInput, at_none, input_level, is_array, is_chunks, is_at_key, lessened, level_in, may_end, parts_of, room_in, slot_of, with_part};
+ghost use Rattle.cborn_wire.specs.shared.Visiting.{IsInput, at_none, input_level, is_array, is_chunks, is_at_key, lessened, level_in, may_end, parts_of, room_in, seen_slot, slot_of, with_part};
 
 use crate::refusals::Slot;
 use cborn_model::StringKind;

@@ -10,7 +10,7 @@
 //!   its [`Levels`] (`levels`), a stack in the place of recursion; `refusals` says where a head isn't
 //!   allowed, and `counting` what a head makes of the levels.
 //! - A [`Feeder`] is fed an input in pieces, and gives items as they are completed, one after
-//!   another (`item_readers`). [`read_all`] feeds it an input that is in memory. A visitor builds
+//!   another (`item_readers`). [`read_all`] reads an input that is in memory. A visitor builds
 //!   the nodes (`nodes`): it puts what is whole into the innermost open container (`open_nodes`).
 //! - [`scan`] says whether an input in memory is well-formed, or what its one fault is: the reader
 //!   with a visitor that keeps nothing. [`item_end`] says where the item at an offset ends,

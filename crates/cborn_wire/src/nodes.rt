@@ -90,6 +90,7 @@ impl Nodes {
     }
 
     /// Removes the container around the innermost, and gives it; the input, if there is none.
+    #[tactic(auto, using(crate::proofs::Building::popped))]
     fn leave(&mut self) -> OpenNode
         ensures around { around (top []) self.old.outer.items ≡ within (around (top []) self.new.outer.items) result }
         ensures rest { self.new ≡ record self.old { outer = self.new.outer } }
@@ -170,8 +171,7 @@ impl Visitor for Nodes {
         let Some(node) = container.end(self.alloc)? else {
             return Ok(());
         };
-        self.innermost.put(node)?;
-        Ok(())
+        self.innermost.put(node)
     }
 
     fn open_string(
@@ -208,7 +208,6 @@ impl Visitor for Nodes {
             width: string.width,
             bytes: ByteString::new(string.bytes),
         };
-        self.innermost.put_string(string.kind, chunk)?;
-        Ok(())
+        self.innermost.put_string(string.kind, chunk)
     }
 }

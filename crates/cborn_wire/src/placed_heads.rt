@@ -68,6 +68,7 @@ fn write_at(start: usize, bytes: &[u8], out: &mut Vec<u8>)
 
 /// Moves the bytes from the offset `from` on by `more` bytes, at most 8. The last bytes are moved
 /// first, so that none is overwritten. The `more` bytes from `from` on then hold anything.
+#[tactic(auto, using(crate::proofs::Shifting::moved))]
 fn make_room(from: usize, more: usize, out: &mut Vec<u8>) -> Result<(), AllocError>
     requires inside { from ≤ length out.old.items }
     requires few { more ≤ 8 }

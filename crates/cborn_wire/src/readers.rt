@@ -11,7 +11,7 @@ ghost use Rattle.cborn_wire.specs.Reading.{IsFirstItem, ItemFault};
 
 use crate::first_items::visit_item;
 use crate::nodes::Nodes;
-use crate::{Feeder, WireFault, WireReason};
+use crate::{WireFault, WireReason, visit};
 use cborn_model::{Limit, Spelled};
 use std::alloc::Global;
 
@@ -25,9 +25,9 @@ pub fn read_all(alloc: Global, limit: Limit, bytes: &[u8]) -> Result<Vec<Spelled
     ensures items { IfOk result (λ v. Wellformed limit (trees v.items) bytes.now × PlacedAll 0 (trees v.items)) }
     ensures fault { (p : ℕ) (r : WireReason) → result ≡ Err (Refused p r) → Fault limit bytes.now p r }
 {
-    let mut feeder = Feeder::new(alloc, limit);
-    feeder.feed(bytes)?;
-    feeder.finish()
+    let mut nodes = Nodes::new(alloc);
+    visit(alloc, limit, bytes, &mut nodes)?;
+    Ok(nodes.finish()?)
 }
 
 /// The item that begins in `bytes` at the offset `start`, which is at most their length, and the

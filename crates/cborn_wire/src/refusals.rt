@@ -4,7 +4,7 @@ ghost use Rattle.std.specs.Prelude.{◌≡◌, ◌<◌, ◌%◌, ◌/◌, [], tr
 ghost use Rattle.cborn_wire.specs.SlotFaults.{needs_item};
 ghost use Rattle.cborn_wire.specs.shared.InitialBytes.{info_at, is_bad_chunk, is_of_kind, head_reason};
 ghost use Rattle.cborn_wire.specs.HeadReading.{major_at};
-ghost use Rattle.cborn_wire.specs.devices.Counting.{seen_slot, IsNoChunkSlot};
+ghost use Rattle.cborn_wire.specs.shared.Visiting.{seen_slot, IsNoChunkSlot};
 ghost use Rattle.cborn_wire.specs.Slots as slots;
 
 use crate::WireReason;
@@ -40,7 +40,7 @@ impl Slot {
         if self.is_bad_chunk(major, information) {
             return Some(WireReason::BadChunk);
         }
-        if is_break(major, information) && self.needs_item() {
+        if is_break(major, information) && matches!(self, Slot::Item) {
             return Some(WireReason::UnexpectedBreak);
         }
         if is_float(major, information) {
@@ -65,13 +65,6 @@ impl Slot {
             }
             _ => false,
         }
-    }
-
-    /// Whether an item is needed here, and a break isn't allowed.
-    fn needs_item(self) -> bool
-        ensures { result ≡ needs_item (seen_slot self) }
-    {
-        matches!(self, Slot::Item)
     }
 }
 

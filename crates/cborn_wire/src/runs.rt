@@ -92,7 +92,8 @@ fn take_integers<V: Visitor>(
     ensures taken { IfOk result (λ r. MatchOption r (visitor.new ≡ visitor.old) (λ t. TakesRun place bytes.now level t.before_last (V.holds visitor.old) (V.holds visitor.new) t.len)) }
     ensures memory { OnErr result V.takes_memory }
 {
-    if leaf.head.first > 63 || !begins_integer(bytes, leaf.end) {
+    // A run is worth to look for where a second integer begins.
+    if leaf.head.first > 63 || leaf.end >= bytes.len() || bytes[leaf.end] > 63 {
         return Ok(None);
     }
     let run = integers_at(bytes, level.room());
@@ -103,12 +104,6 @@ fn take_integers<V: Visitor>(
         len: run.len,
         before_last: run.count - 1,
     }))
-}
-
-/// Whether an integer begins at the offset `at` of the bytes, where it is worth to look for a run.
-#[inline(always)]
-fn begins_integer(bytes: &[u8], at: usize) -> bool {
-    at < bytes.len() && bytes[at] < 64
 }
 
 /// Takes the key at the front of `bytes`, which is this leaf, and the value after it, where both are

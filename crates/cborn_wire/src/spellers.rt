@@ -91,7 +91,10 @@ impl Speller {
     pub fn new(alloc: Global) -> Speller
         ensures { ⟦<Speller as Visitor>⟧.holds result (top []) no_part }
     {
-        Speller::of(alloc, Vec::new(alloc))
+        Speller {
+            out: Vec::new(alloc),
+            containers: Vec::new(alloc),
+        }
     }
 
     /// A visitor that was handed nothing, with memory for the first `room` bytes that it writes.
@@ -101,18 +104,9 @@ impl Speller {
     pub fn with_room(alloc: Global, room: usize) -> Result<Speller, AllocError>
         ensures { IfOk result (λ s. ⟦<Speller as Visitor>⟧.holds s (top []) no_part) }
     {
-        Ok(Speller::of(alloc, Vec::with_capacity(alloc, room)?))
-    }
-
-    /// A visitor that was handed nothing, and writes into `out`.
-    fn of(alloc: Global, out: Vec<u8>) -> Speller
-        requires { out.items ≡ [] }
-        ensures { ⟦<Speller as Visitor>⟧.holds result (top []) no_part }
-    {
-        Speller {
-            out,
-            containers: Vec::new(alloc),
-        }
+        let mut speller = Speller::new(alloc);
+        speller.out = Vec::with_capacity(alloc, room)?;
+        Ok(speller)
     }
 
     /// Becomes a visitor that was handed nothing. Keeps its memory.
@@ -216,15 +210,13 @@ impl Visitor for Speller {
         } else {
             Major::Unsigned
         };
-        self.push_leaf(major, width, n)?;
-        Ok(())
+        self.push_leaf(major, width, n)
     }
 
     #[inline(always)]
     fn simple(&mut self, _place: u64, n: u8) -> Result<(), AllocError> {
         let n = u64::from(n);
-        self.push_leaf(Major::Other, shortest(n), n)?;
-        Ok(())
+        self.push_leaf(Major::Other, shortest(n), n)
     }
 
     #[inline(always)]

@@ -1,103 +1,111 @@
--- The bytes that a reader that is fed by pieces holds follow from what it keeps, and its answers follow from them.
+-- What a reader that is fed by pieces has ready is what it has to give. The bytes that it holds follow from what it keeps, and its answers follow from them.
 use Rattle.std.specs.Prelude.{◌≡◌, ◌+◌, ◌≤◌, ◌++◌}
-use Rattle.cborn_wire.proofs.Common.{refl, sym, ap, ◌∙◌, subst, ℕ, List, [], length, Option, Some, None, Err, inr, arith, append_assoc, length-append, option_to_list, AreBytes, Tree, Trees, no_item, more, trees, depth, spelled, Fits, Wellformed, Placed, PlacedAll, WireFault, WireReason, Truncated, OpenContainer, IsWellformed, Fault, AreComplete, Feeding, Accepts, Refuses, RunsShort, Feeds, append_trees, Unfinished, nothing, State, Live, Failed, start, IsLive, ready_in, held, run, IsReached, Stops}
+use Rattle.cborn_wire.proofs.Common.{refl, sym, ap, ◌∙◌, subst, ℕ, List, [], length, Option, Some, None, Err, arith, append_assoc, length-append, option_to_list, AreBytes, Tree, Trees, no_item, more, trees, depth, spelled, Fits, Wellformed, PlacedAll, WireFault, WireReason, Truncated, OpenContainer, Fault, AreComplete, Feeding, Accepts, Refuses, RunsShort, Feeds, append_trees, Unfinished, nothing, State, Live, Failed, start, ready_in, held, run, IsReached, Stops, append-nil, depth_all, spelled_all, FitsAll, beginnings, all_from, partial_bytes}
 use Rattle.cborn_model.proofs.Bytes.{bytes-append, bytes-right}
 use Rattle.cborn_wire.specs.declared.faults.WireFault.TheVariants as faults
-use Rattle.cborn_wire.specs.Faults.{Refused}
 use Rattle.cborn_wire.specs.Feeding.{IsFed}
-use Rattle.cborn_wire.proofs.Machine.Running.{run-append}
-use Rattle.cborn_wire.proofs.Machine.WholeFront.{with_front}
-use Rattle.cborn_wire.proofs.Spelled.OneReading.{reads, ends_read, after_first}
+use Rattle.cborn_wire.proofs.Machine.Running.{run-append, failed_run}
+use Rattle.cborn_wire.proofs.Machine.WholeFront.{with_front, front_run}
+use Rattle.cborn_wire.proofs.Spelled.OneReading.{ends_read, after_first, placed_reading, longest, ready_front}
 use Rattle.cborn_wire.proofs.Machine.SoundItems.{SoundLive, Sound}
-use Rattle.cborn_wire.proofs.Machine.SoundRuns.{sound}
+use Rattle.cborn_wire.proofs.Machine.SoundRuns.{sound, reached_held, reached_sound}
 use Rattle.cborn_wire.proofs.Spelled.FaultLaws.{fails_refused}
 use Rattle.cborn_wire.proofs.Spelled.GoingOn.{refused_ends}
-use Rattle.cborn_wire.proofs.Spelled.SlotLaws.{goes_on, live_goes}
-use Rattle.cborn_wire.proofs.Machine.Reached.{reached_held, reached_more, reached_offset}
-use Rattle.cborn_wire.proofs.Feeding.Completing.{complete, ready_grows}
-use Rattle.cborn_wire.proofs.Spelled.TreeLists.{trees-append, trees-tree_list, tree_list, begins_list}
+use Rattle.cborn_wire.proofs.Spelled.SlotLaws.{cut_short, goes_on}
+use Rattle.cborn_wire.proofs.Spelled.TreeLists.{trees-append, trees-tree_list, tree_list, begins_list, spelled_all-append}
+use Rattle.cborn_wire.proofs.Machine.TakesItems.{append_trees-nil}
+
+-- Whole items stay, and more follow them.
+pub ready_grows : (limit : ℕ) (s : State) (y : List ℕ) → (us : Trees) × (ready_in (run limit s y) ≡ append_trees (ready_in s) us)
+ready_grows limit (Live fed ready os partial) y =
+    let s = Live fed no_item os partial in (
+      ready_in (run limit s y),
+      ap ready_in (ap (λ l. run limit (Live fed l os partial) y) (sym (append_trees-nil ready)) ∙ front_run ready limit y s) ∙ ready_front ready (run limit s y),
+    )
+ready_grows limit (Failed ready p r) y = (no_item, ap ready_in (failed_run limit y ready p r) ∙ sym (append_trees-nil ready))
 
 module _ (limit base : ℕ) where
-  held_sound : (x : List ℕ) (s : State) → Sound limit base x s → IsLive s → held s ≡ x
-  held_sound x (Live fed ready os partial) h live = sym h.bytes
-  held_sound x (Failed ready p r) h live = absurd live
+  -- No well-formed front is longer than what the complete items spell.
+  no_longer : (x f y : List ℕ) (us : Trees) → x ≡ f ++ y → Wellformed limit us f → length f ≤ length (spelled_all (ready_in (run limit (start base) x)))
+  no_longer x f y us is w =
+      let (vs, e) = longest limit base us f y w in
+      let same : spelled_all (ready_in (run limit (start base) x)) ≡ f ++ spelled_all vs
+      = ap (λ l. spelled_all (ready_in (run limit (start base) l))) is ∙ ap spelled_all e ∙ spelled_all-append (all_from base us) vs
+      ∙ ap (λ l. l ++ spelled_all vs) (placed_reading limit base us f w).0.spells in
+      omega (arith, ap length same, length-append f (spelled_all vs))
 
-  -- what the bytes held and a piece make
-  pub feeds : (s : State) (y : List ℕ) → IsReached limit base s → IsLive s → run limit (start base) (held s ++ y) ≡ run limit s y
-  feeds s y h live = run-append limit (start base) (held s) y ∙ ap (λ u. run limit u y) (reached_held limit base s h live).0
+  -- the complete items of a state are sound, and something follows them
+  record Begins (x : List ℕ) (ready : Trees) : Type 0 where
+    others : List ℕ
+    whole : x ≡ spelled_all ready ++ others
+    read : Wellformed limit ready (spelled_all ready)
+    placed : PlacedAll base ready
 
-  feeds_bytes : (s : State) (y : List ℕ) → IsReached limit base s → IsLive s → AreBytes y → AreBytes (held s ++ y)
-  feeds_bytes s y h live are = bytes-append (held s) y (reached_held limit base s h live).1 are
+  begins_live : (x : List ℕ) (fed : ℕ) (ready : Trees) (os : List OpenContainer) (partial : Unfinished) → SoundLive limit base x fed ready os partial → Begins x ready
+  begins_live x fed ready os partial h = record {
+    others = beginnings os ++ partial_bytes partial;
+    whole = h.bytes ∙ append_assoc (spelled_all ready) (beginnings os) (partial_bytes partial);
+    read = record { spells = refl; fit = h.ground.fit; shallow = h.ground.shallow };
+    placed = h.ground.placed;
+  }
 
-  -- A piece that is taken comes at the end of what is held.
-  pub feeds_more : (s : State) (y : List ℕ) → IsReached limit base s → IsLive s → AreBytes y → IsLive (run limit s y) → held (run limit s y) ≡ held s ++ y
-  feeds_more s y h live are lives =
-      let x = held s ++ y in
-      held_sound x (run limit s y) (subst (Sound limit base x) (feeds s y h live) (sound limit base x (feeds_bytes s y h live are))) lives
+  begins : (x : List ℕ) (s : State) → Sound limit base x s → Begins x (ready_in s)
+  begins x (Live fed ready os partial) h = begins_live x fed ready os partial h
+  begins x (Failed ready p r) h =
+      let b = begins_live h.before p ready h.os nothing h.live in
+      record {
+        others = b.others ++ h.after;
+        whole = h.whole ∙ ap (λ l. l ++ h.after) b.whole ∙ append_assoc (spelled_all ready) b.others h.after;
+        read = b.read;
+        placed = b.placed;
+      }
 
-  -- The complete items are those to take.
-  pub feeds_items : (s : State) (items : List Tree) → IsReached limit base s → IsLive s → ready_in s ≡ trees items → AreComplete limit base items (held s)
-  feeds_items s items h live e =
-      let r = reached_held limit base s h live in
-      complete limit base items (held s) r.1 (ap ready_in r.0 ∙ e)
+  -- What is ready are the nodes of the longest front that is well-formed.
+  pub complete : (items : List Tree) (x : List ℕ) → AreBytes x → ready_in (run limit (start base) x) ≡ trees items → AreComplete limit base items x
+  complete items x bytes e =
+      let s = run limit (start base) x in
+      let b = begins x s (sound limit base x bytes) in
+      let same : spelled_all (ready_in s) ≡ spelled_all (trees items) = ap spelled_all e in
+      record {
+        front = spelled_all (trees items);
+        rest = b.others;
+        whole = b.whole ∙ ap (λ l. l ++ b.others) same;
+        read = record { spells = refl; fit = subst FitsAll e b.read.fit; shallow = subst (λ ts. depth_all ts ≤ limit) e b.read.shallow };
+        placed = subst (PlacedAll base) e b.placed;
+        longest = λ f y others is w. subst (λ l. length f ≤ length l) same (no_longer x f y (trees others) is w);
+      }
 
-  -- A piece is refused for the fault of what is held and the piece, and the items before that fault are left.
-  pub feeds_refused : (s : State) (y : List ℕ) (ready : Trees) (q : ℕ) (r : WireReason) → IsReached limit base s → IsLive s → AreBytes y → run limit s y ≡ Failed ready q r
-      → (p : ℕ) × (q ≡ base + p) × Refused limit (held s ++ y) p r
-  feeds_refused s y ready q r h live are e = fails_refused limit base (held s ++ y) (feeds_bytes s y h live are) ready q r (feeds s y h live ∙ e)
+  -- No item is complete: none is at the front.
+  pub no_first : (x : List ℕ) (t : Tree) (y : List ℕ) → ready_in (run limit (start base) x) ≡ no_item → x ≡ spelled t ++ y → Fits t → depth t ≤ limit → ⊥
+  no_first x t y e is fits deep =
+      let w : Wellformed limit (more t no_item) (spelled t) = record { spells = append-nil (spelled t); fit = (fits, tt); shallow = omega arith } in
+      let (vs, some) = longest limit base (more t no_item) (spelled t) y w in
+      cc (sym e ∙ ap (λ l. ready_in (run limit (start base) l)) is ∙ some)
 
-  pub feeds_items_left : (s : State) (y : List ℕ) (items : List Tree) → IsReached limit base s → IsLive s → AreBytes y → ready_in (run limit s y) ≡ trees items → AreComplete limit base items (held s ++ y)
-  feeds_items_left s y items h live are e = complete limit base items (held s ++ y) (feeds_bytes s y h live are) (ap ready_in (feeds s y h live) ∙ e)
-
-  -- Where a piece is taken nothing is refused.
-  pub feeds_free : (s : State) (y : List ℕ) (p : ℕ) (r : WireReason) → IsReached limit base s → IsLive s → AreBytes y → IsLive (run limit s y) → Refused limit (held s ++ y) p r → ⊥
-  feeds_free s y p r h live are lives fault =
-      let x = held s ++ y in
-      refused_ends limit x p r fault (live_goes limit base x (feeds_bytes s y h live are) (subst IsLive (sym (feeds s y h live)) lives))
-
-  -- Where nothing is open, what is held is the bytes of the items to take.
-  pub feeds_whole : (fed : ℕ) (ready : Trees) → IsReached limit base (Live fed ready [] nothing) → Wellformed limit ready (held (Live fed ready [] nothing)) × PlacedAll base ready
-  feeds_whole fed ready h =
-      let r = reached_held limit base (Live fed ready [] nothing) h tt in
-      ends_read limit base (held (Live fed ready [] nothing)) r.1 fed ready r.0
-
+module _ (limit base : ℕ) where
   -- Where something is open, the input is cut short.
   pub feeds_cut : (fed : ℕ) (ready : Trees) (os : List OpenContainer) (partial : Unfinished) → IsReached limit base (Live fed ready os partial) → (os ≡ [] → partial ≡ nothing → ⊥)
       → let x = held (Live fed ready os partial) in Fault limit x (length x) Truncated
   feeds_cut fed ready os partial h unfinished =
-      let s = Live fed ready os partial in
-      let r = reached_held limit base s h tt in
-      inr (refl, (refl, never r.0, goes_on limit base (held s) r.1 fed ready os partial r.0))
-    where
-      never : run limit (start base) (held (Live fed ready os partial)) ≡ Live fed ready os partial → IsWellformed limit (held (Live fed ready os partial)) → ⊥
-      never e (ts, w) = go (sym (reads limit base ts (held (Live fed ready os partial)) w) ∙ e)
-        where
-          go : {n : ℕ} {us : Trees} → Live n us [] nothing ≡ Live fed ready os partial → ⊥
-          go d = unfinished (cc d) (cc d)
+      let r = reached_held limit base fed ready os partial h in
+      cut_short limit base (held (Live fed ready os partial)) r.1 fed ready os partial r.0 unfinished
 
   without : (t : Tree) (s : State) {fed : ℕ} {ts : Trees} {os : List OpenContainer} {partial : Unfinished} → with_front (more t no_item) s ≡ Live fed (more t ts) os partial → s ≡ Live fed ts os partial
   without t (Live fed ready os partial) e = cc
   without t (Failed ready p r) e = cc
 
-  -- The first item is taken, and with it the bytes that it spells.
-  pub feeds_taken : (fed : ℕ) (t : Tree) (ts : Trees) (os : List OpenContainer) (partial : Unfinished) → IsReached limit base (Live fed (more t ts) os partial)
-      → (held (Live fed (more t ts) os partial) ≡ spelled t ++ held (Live fed ts os partial)) × Fits t × (depth t ≤ limit) × Placed base t × IsReached limit (base + length (spelled t)) (Live fed ts os partial)
-  feeds_taken fed t ts os partial h =
-      let s = Live fed (more t ts) os partial in
-      let rest = held (Live fed ts os partial) in
-      let cut : held s ≡ spelled t ++ rest = simp append_assoc in
-      let r = reached_held limit base s h tt in
-      let all : SoundLive limit base (held s) fed (more t ts) os partial = subst (Sound limit base (held s)) r.0 (sound limit base (held s) r.1) in
-      let shallow : depth t ≤ limit = omega (arith, all.ground.shallow) in
-      let goes = sym (after_first t limit base rest all.ground.fit.0 shallow all.ground.placed.0) ∙ ap (run limit (start base)) (sym cut) ∙ r.0 in
-      (cut, all.ground.fit.0, shallow, all.ground.placed.0, (rest, bytes-right (spelled t) rest (subst AreBytes cut r.1), without t (run limit (start (base + length (spelled t))) rest) goes))
-
--- the state once the first item was taken, if there is one
+-- the state once the first item was taken, if there is one, and with it the bytes that it spells
 pub taken : (limit base at : ℕ) (o : Option Tree) (items left : List Tree) (os : List OpenContainer) (partial : Unfinished) → items ≡ option_to_list o ++ left
     → IsReached limit base (Live at (trees items) os partial) → (q : ℕ) × IsReached limit q (Live at (trees left) os partial)
 taken limit base at None items left os partial e h = (base, subst (λ ts. IsReached limit base (Live at (trees ts) os partial)) e h)
 taken limit base at (Some t) items left os partial e h =
-    (base + length (spelled t), (feeds_taken limit base at t (trees left) os partial (subst (λ ts. IsReached limit base (Live at (trees ts) os partial)) e h)).4)
+    let s = Live at (more t (trees left)) os partial in
+    let rest = held (Live at (trees left) os partial) in
+    let cut : held s ≡ spelled t ++ rest = simp append_assoc in
+    let r = reached_held limit base at (more t (trees left)) os partial (subst (λ ts. IsReached limit base (Live at (trees ts) os partial)) e h) in
+    let all : SoundLive limit base (held s) at (more t (trees left)) os partial = subst (Sound limit base (held s)) r.0 (sound limit base (held s) r.1) in
+    let goes = sym (after_first t limit base rest all.ground.fit.0 (omega (arith, all.ground.shallow)) all.ground.placed.0) ∙ ap (run limit (start base)) (sym cut) ∙ r.0 in
+    (base + length (spelled t), (rest, bytes-right (spelled t) rest (subst AreBytes cut r.1), without limit base t (run limit (start (base + length (spelled t))) rest) goes))
 
 -- These laws in the words of what contracts see of a feeder, for live states.
 
@@ -106,36 +114,49 @@ module _ (limit base at fed : ℕ) (items : List Tree) (os : List OpenContainer)
   with_fault fault = record { limit = limit; fed = fed; held = held (Live at (trees items) os partial); items = items; fault = fault }
 
   offset : fed ≡ base + length (held (Live at (trees items) os partial))
-  offset = sym same ∙ reached_offset limit base at (trees items) os partial h
+  offset = let (x, s) = reached_sound limit base (Live at (trees items) os partial) h in sym same ∙ s.fed_is ∙ ap (λ l. base + length l) s.bytes
+
+  abbrev s : State
+  s = Live at (trees items) os partial
+
+  reached : (run limit (start base) (held s) ≡ s) × AreBytes (held s)
+  reached = reached_held limit base at (trees items) os partial h
 
   pub is_fed : (fault : Option WireFault) → IsFed (with_fault fault)
-  is_fed fault = (base, offset, feeds_items limit base (Live at (trees items) os partial) items h tt refl)
+  is_fed fault = (base, offset, complete limit base items (held s) reached.1 (ap ready_in reached.0))
+
+  -- what the bytes held and a piece make
+  feeds : (y : List ℕ) → run limit (start base) (held s ++ y) ≡ run limit s y
+  feeds y = run-append limit (start base) (held s) y ∙ ap (λ u. run limit u y) reached.0
+
+  feeds_bytes : (y : List ℕ) → AreBytes y → AreBytes (held s ++ y)
+  feeds_bytes y are = bytes-append (held s) y reached.1 are
+
+  feeds_items : (y : List ℕ) (left : List Tree) → AreBytes y → ready_in (run limit s y) ≡ trees left → AreComplete limit base left (held s ++ y)
+  feeds_items y left are e = complete limit base left (held s ++ y) (feeds_bytes y are) (ap ready_in (feeds y) ∙ e)
 
   pub accepts : (piece : List ℕ) (at' : ℕ) (items' : List Tree) (os' : List OpenContainer) (partial' : Unfinished) (fault : Option WireFault) → AreBytes piece
-      → run limit (Live at (trees items) os partial) piece ≡ Live at' (trees items') os' partial'
+      → run limit s piece ≡ Live at' (trees items') os' partial'
       → Accepts piece (with_fault fault) (record { limit = limit; fed = fed + length piece; held = held (Live at' (trees items') os' partial'); items = items'; fault = fault })
   accepts piece at' items' os' partial' fault are e =
-      let s = Live at (trees items) os partial in
-      let s' = Live at' (trees items') os' partial' in
-      let h' : IsReached limit base s' = subst (IsReached limit base) e (reached_more limit base s piece h are) in
-      let bytes : held s' ≡ held s ++ piece = ap held (sym e) ∙ feeds_more limit base s piece h tt are (subst IsLive (sym e) tt) in (
+      let all = held s ++ piece in
+      let now : SoundLive limit base all at' (trees items') os' partial' = subst (Sound limit base all) (feeds piece ∙ e) (sound limit base all (feeds_bytes piece are)) in
+      let bytes : held (Live at' (trees items') os' partial') ≡ all = sym now.bytes in (
         rw bytes refl,
-        (base, omega (arith, offset, ap length bytes, length-append (held s) piece), feeds_items limit base s' items' h' tt refl),
-        λ p r. feeds_free limit base s piece p r h tt are (subst IsLive (sym e) tt),
+        (base, omega (arith, offset, ap length bytes, length-append (held s) piece), subst (AreComplete limit base items') (sym bytes) (feeds_items piece items' are (ap ready_in e))),
+        λ p r fault. refused_ends limit all p r fault (goes_on limit base all (feeds_bytes piece are) at' (trees items') os' partial' (feeds piece ∙ e)),
       )
 
   pub refuses : (piece : List ℕ) (g : Feeding) (q : ℕ) (r : WireReason) (fault : Option WireFault) → AreBytes piece
-      → run limit (Live at (trees items) os partial) piece ≡ Failed (trees g.items) q r → Refuses piece (with_fault fault) g q r
+      → run limit s piece ≡ Failed (trees g.items) q r → Refuses piece (with_fault fault) g q r
   refuses piece g q r fault are e =
-      let s = Live at (trees items) os partial in
-      let (p, stands, refused) = feeds_refused limit base s piece (trees g.items) q r h tt are e in
-      (base, p, offset, stands, refused, feeds_items_left limit base s piece g.items h tt are (ap ready_in e))
+      let (p, stands, refused) = fails_refused limit base (held s ++ piece) (feeds_bytes piece are) (trees g.items) q r (feeds piece ∙ e) in
+      (base, p, offset, stands, refused, feeds_items piece g.items are (ap ready_in e))
 
   -- Memory was refused when the front y of the piece was taken.
   pub runs_short : (piece y z : List ℕ) (g : Feeding) (fault : Option WireFault) → AreBytes piece → piece ≡ y ++ z
-      → ready_in (run limit (Live at (trees items) os partial) y) ≡ trees g.items → RunsShort piece (with_fault fault) g
+      → ready_in (run limit s y) ≡ trees g.items → RunsShort piece (with_fault fault) g
   runs_short piece y z g fault are cut e =
-      let s = Live at (trees items) os partial in
       let (us, more_now) = ready_grows limit s y in
       let (vs, more_then) = ready_grows limit (run limit s y) z in
       let all : ready_in (run limit s piece) ≡ trees (g.items ++ tree_list vs)
@@ -146,15 +167,13 @@ module _ (limit base at fed : ℕ) (items : List Tree) (os : List OpenContainer)
         tree_list vs,
         offset,
         begins_list items g.items us (sym e ∙ more_now),
-        feeds_items_left limit base s piece (g.items ++ tree_list vs) h tt are all,
+        feeds_items piece (g.items ++ tree_list vs) are all,
       )
 
-  pub fails : (piece bytes : List ℕ) (left : List Tree) (e : WireFault) (fault : Option WireFault) → AreBytes piece → Stops limit (Live at (trees items) os partial) piece e (trees left)
+  pub fails : (piece bytes : List ℕ) (left : List Tree) (e : WireFault) (fault : Option WireFault) → AreBytes piece → Stops limit s piece e (trees left)
       → Feeds piece (with_fault fault) (Err e) (record { limit = limit; fed = fed; held = bytes; items = left; fault = Some e })
   fails piece bytes left (faults.Refused p r) fault are h = (refl, refuses piece (record { limit = limit; fed = fed; held = bytes; items = left; fault = Some (faults.Refused p r) }) p r fault are h)
   fails piece bytes left faults.OutOfMemory fault are (y, z, cut, h) = (refl, runs_short piece y z (record { limit = limit; fed = fed; held = bytes; items = left; fault = Some faults.OutOfMemory }) fault are cut h)
 
-  pub whole : os ≡ [] → partial ≡ nothing → Wellformed limit (trees items) (held (Live at (trees items) os partial))
-  whole e f =
-      let g : Live at (trees items) os partial ≡ Live at (trees items) [] nothing = ap (λ l. Live at (trees items) l partial) e ∙ ap (Live at (trees items) []) f in
-      subst (λ s. Wellformed limit (trees items) (held s)) (sym g) (feeds_whole limit base at (trees items) (subst (IsReached limit base) g h)).0
+  pub whole : os ≡ [] → partial ≡ nothing → Wellformed limit (trees items) (held s)
+  whole e f = (ends_read limit base (held s) reached.1 at (trees items) (reached.0 ∙ ap (λ l. Live at (trees items) l partial) e ∙ ap (Live at (trees items) []) f)).0

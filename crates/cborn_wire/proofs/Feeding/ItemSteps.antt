@@ -1,14 +1,18 @@
--- What a reader of items takes of a piece, as steps of the machine.
+-- What a reader of items takes of a piece, item by item, as steps of the machine.
 use Rattle.std.specs.Prelude.{◌≡◌, ◌∷◌, ◌++◌}
-use Rattle.cborn_wire.proofs.Common.{refl, sym, ap, ◌∙◌, subst, ℕ, List, [], length, Option, Some, None, Err, inl, inr, arith, nil_from_length, Tree, Trees, no_item, more, trees, IsSpelled, Partial, top, inside, Part, no_part, part, put, whole, VisitFault, Refused, Memory, input_level, Level, PartialHead, HeadReader, Nodes, ItemReader, OpenContainer, Unfinished, nothing, State, Live, Failed, ready_in, start, run, AtMostOneMore, ready, open_in, unfinished, state, seen_head, IsFresh, IsInput, Missing, Stands, HereAt, MayEnd, IsFed, FailsAs, seen_string, seen_nodes, IsHeld, pending, seen, IsMade}
+use Rattle.cborn_wire.proofs.Common.{refl, sym, ap, ◌∙◌, subst, ℕ, List, [], length, Option, Some, None, Err, inl, inr, arith, nil_from_length, Tree, no_item, more, trees, IsSpelled, Partial, top, inside, Part, no_part, part, put, whole, VisitFault, Refused, Memory, input_level, Level, PartialHead, HeadReader, Nodes, ItemReader, nothing, State, Live, Failed, ready_in, start, run, AtMostOneMore, ready, open_in, unfinished, state, seen_head, IsFresh, IsInput, Missing, Stands, HereAt, MayEnd, IsFed, FailsAs, seen_string, seen_nodes, IsHeld, pending, seen, IsMade, take, length-append, option_to_list, length-take-le, Stops, Took, IsMoved}
 use Rattle.cborn_wire.specs.declared.levels.GrownLevels.{GrownLevels}
 use Rattle.cborn_wire.specs.shared.Visiting as visiting
 use Rattle.cborn_wire.specs.shared.Visiting.{levels as levels_of}
 use Rattle.cborn_wire.proofs.Machine.Running.{run-append}
-use Rattle.cborn_wire.proofs.Machine.Reached.{reached_item}
+use Rattle.cborn_wire.proofs.Machine.SoundRuns.{reached_item}
 use Rattle.cborn_wire.proofs.Visiting.Taking.{outer_count}
 use Rattle.cborn_wire.proofs.Visiting.Pieces.{may_end_here}
 use Rattle.cborn_wire.proofs.Visiting.Ending.{fresh_fed}
+use Rattle.cborn_wire.specs.Visits.{wire_fault}
+use Rattle.cborn_wire.proofs.Machine.TakesItems.{append_trees-nil}
+use Rattle.cborn_wire.proofs.Machine.WholeFront.{with_front, front_run}
+use Rattle.cborn_wire.proofs.Spelled.TreeLists.{trees-append}
 
 -- what the visitor holds is what it is seen as
 pub here_seen : (n : Nodes) (around : List Level) (l : Level) (left at : ℕ) (h : Option PartialHead) (s : State) → HereAt (IsHeld n) around l left at h s
@@ -82,11 +86,8 @@ module _ (old : ItemReader) (made : IsMade old) (heads : HeadReader) (levels : G
   none_ready : ((ts : List Tree) → seen_nodes nodes ≡ top ts → ts ≡ []) → AtMostOneMore no_item now → ready (seen_nodes nodes) ≡ no_item
   none_ready none (inl e) = ap ready_in (sym is_now) ∙ e
   none_ready none (inr (at, t, e)) =
-      let all = nothing_open (seen_nodes nodes) (no_open (sym is_now ∙ e)) in
+      let all = nothing_open (seen_nodes nodes) (cc (sym is_now ∙ e)) in
       ap ready all ∙ ap trees (none (whole (seen_nodes nodes)) all)
-    where
-      no_open : {a b : ℕ} {ts us : Trees} {os : List OpenContainer} {q : Unfinished} → Live a ts os q ≡ Live b us [] nothing → os ≡ []
-      no_open e = cc
 
   pub no_item_whole : (next : Nodes) → seen_nodes next ≡ seen_nodes nodes → next.string ≡ nodes.string → ((ts : List Tree) → seen_nodes nodes ≡ top ts → ts ≡ [])
       → AtMostOneMore (ready_in (run old.heads.limit (start made.base) made.read)) (run old.heads.limit (start made.base) (made.read ++ y))
@@ -123,15 +124,9 @@ module _ (old : ItemReader) (made : IsMade old) (heads : HeadReader) (levels : G
     single (inr (at, u, e)) =
         let here : now ≡ Live heads.at (trees (these ++ t ∷ [])) [] (pending heads.head nodes.string) = is_now ∙ ap (λ f. Live heads.at (ready f) (open_in f) (pending heads.head nodes.string)) is_top in
         let both = sym here ∙ e in
-        let none = alone these (ready_same both) in
-        (none, here ∙ ap (λ us. Live heads.at (trees (us ++ t ∷ [])) [] (pending heads.head nodes.string)) none ∙ ap (Live heads.at (more t no_item) []) (still both))
+        let none = alone these (cc both) in
+        (none, here ∙ ap (λ us. Live heads.at (trees (us ++ t ∷ [])) [] (pending heads.head nodes.string)) none ∙ ap (Live heads.at (more t no_item) []) (cc both))
       where
-        ready_same : {a b : ℕ} {ts us : Trees} {p q : Unfinished} → Live a ts [] p ≡ Live b us [] q → ts ≡ us
-        ready_same e = cc
-
-        still : {a b : ℕ} {ts us : Trees} {p : Unfinished} → Live a ts [] p ≡ Live b us [] nothing → p ≡ nothing
-        still e = cc
-
         alone : (us : List Tree) → trees (us ++ t ∷ []) ≡ more u no_item → us ≡ []
         alone [] e = refl
         alone (v ∷ []) e = cc
@@ -160,3 +155,37 @@ module _ (old : ItemReader) (made : IsMade old) (heads : HeadReader) (levels : G
         part_none : (n : ℕ) (c : Part) → Missing n c → n ≡ 0 → c ≡ no_part
         part_none n no_part h e = refl
         part_none n (part p k w m x) (all, some) e = absurd (omega (arith, some, e))
+
+-- What is read doesn't depend on the items that were whole before.
+module _ (r : ItemReader) (items : List Tree) (x : List ℕ) where
+  from_none : run r.heads.limit (seen items r) x ≡ with_front (trees items) (run r.heads.limit (seen [] r) x)
+  from_none =
+      ap (λ ts. run r.heads.limit (Live r.heads.at ts (open_in (seen_nodes r.nodes)) (pending r.heads.head r.nodes.string)) x) (sym (append_trees-nil (trees items)))
+      ∙ front_run (trees items) r.heads.limit x (seen [] r)
+
+  after_items : (new : ItemReader) (others : List Tree) → run r.heads.limit (seen [] r) x ≡ seen others new → run r.heads.limit (seen items r) x ≡ seen (items ++ others) new
+  after_items new others e =
+      from_none ∙ ap (with_front (trees items)) e
+      ∙ ap (λ ts. Live new.heads.at ts (open_in (seen_nodes new.nodes)) (pending new.heads.head new.nodes.string)) (sym (trees-append items others))
+
+  fails_after : (e : VisitFault) → FailsAs no_item (run r.heads.limit (seen [] r) x) e → FailsAs (trees items) (run r.heads.limit (seen items r) x) e
+  fails_after (Refused p reason) h = from_none ∙ ap (with_front (trees items)) h ∙ ap (λ ts. Failed ts p reason) (append_trees-nil (trees items))
+  fails_after (Memory e) h = tt
+
+-- The front y of the piece was read, and the rest is to come.
+module _ (old : ItemReader) (before : List Tree) (now : ItemReader) (items : List Tree) (piece y rest : List ℕ) (cut : piece ≡ y ++ rest) (m : IsMoved old before now items y) where
+  pub then_stops : (e : VisitFault) → FailsAs no_item (run now.heads.limit (seen [] now) rest) e → Stops old.heads.limit (seen before old) piece (wire_fault e) (trees items)
+  then_stops (Refused p r) h =
+      ap (run old.heads.limit (seen before old)) cut ∙ run-append old.heads.limit (seen before old) y rest ∙ ap (λ u. run old.heads.limit u rest) m.goes
+      ∙ ap (λ k. run k (seen items now) rest) (sym m.limit) ∙ fails_after now items rest (Refused p r) h
+  then_stops (Memory e) h = (y, rest, cut, ap ready_in m.goes)
+
+  pub then_moved : (next : ItemReader) (n : ℕ) (item : Option Tree) (left : List Tree) → Took rest now next n item → next.heads.limit ≡ now.heads.limit → left ≡ items ++ option_to_list item
+      → IsMoved old before next left (y ++ take n rest)
+  then_moved next n item left t limit added = record {
+    made = t.made;
+    limit = limit ∙ m.limit;
+    at = omega (arith, t.at, m.at, length-append y (take n rest), length-take-le n rest t.within);
+    goes = run-append old.heads.limit (seen before old) y (take n rest) ∙ ap (λ u. run old.heads.limit u (take n rest)) m.goes ∙ ap (λ k. run k (seen items now) (take n rest)) (sym m.limit)
+        ∙ after_items now items (take n rest) next (option_to_list item) t.goes ∙ ap (λ l. seen l next) (sym added);
+  }

@@ -1,6 +1,6 @@
 -- What `read_head` answers, at each kind of initial byte.
 use Rattle.std.specs.Prelude.{◌≡◌, ◌+◌, ◌-◌, ◌*◌, ◌/◌, ◌%◌, ◌<◌, ◌≤◌, ◌∷◌, ◌++◌}
-use Rattle.cborn_wire.proofs.Common.{refl, sym, ap, ◌∙◌, subst, ℕ, zero, suc, List, [], length, take, drop, get_or, true, false, None, arith, length-append, take-append-drop, length-take-le, length-replicate, AreBytes, Width, Direct, One, Two, Four, Eight, Major, Unsigned, Negative, Tag, Other, code, information, following, major_at, reason_alone, IsHeadOf, IsFrontOfHead, ReadsHead, element_or_end, Info, Now, Next, EndlessInformation, info_at, is_endless_head, is_always_bounded, is_other, head_reason, width_bytes, number}
+use Rattle.cborn_wire.proofs.Common.{refl, sym, ap, ◌∙◌, subst, ℕ, zero, suc, List, [], length, take, drop, get_or, true, false, None, arith, length-append, take-append-drop, length-take-le, length-replicate, AreBytes, Width, Direct, One, Two, Four, Eight, Major, Unsigned, Other, code, information, following, major_at, reason_alone, IsHeadOf, IsFrontOfHead, ReadsHead, element_or_end, Info, Now, Next, EndlessInformation, info_at, is_endless_head, is_always_bounded, is_other, head_reason, width_bytes, number}
 use Rattle.std.proofs.Math.ListN.{replicate}
 use Rattle.cborn_model.specs.Heads as heads
 use Rattle.cborn_model.proofs.Bytes.{bytes-append, bytes-left}
@@ -17,9 +17,7 @@ module _ (y : List ℕ) where
 
   endless_free : (m : Major) → is_always_bounded m ≡ false → head_reason element_or_end false m EndlessInformation y ≡ None
   endless_free Unsigned e = cc
-  endless_free Negative e = cc
-  endless_free Tag e = cc
-  endless_free m e = refl
+  endless_free m e = cc
 
   pub direct_head : (b : ℕ) → b < 256 → b % 32 < 24 → IsHeadOf (b ∷ y) (record { major = b / 32; argument = Given Direct (b % 32) }) 1
   direct_head b small h =

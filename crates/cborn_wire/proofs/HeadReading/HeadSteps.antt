@@ -1,8 +1,7 @@
 -- The machine takes what `read_head` reads.
 use Rattle.std.specs.Prelude.{◌≡◌, ◌+◌, ◌/◌, ◌%◌, ◌<◌, ◌≤◌, ◌∷◌, ◌++◌, ◌&&◌}
-use Rattle.cborn_wire.proofs.Common.{refl, sym, ap, ◌∙◌, ℕ, suc, List, [], length, take, get_or, Bool, true, false, cond, leb, Option, Some, None, arith, append-nil, length-append, add-one, take_all, take-append-le, length-take, take_more, Width, Direct, Major, Other, Argument, Given, EndlessArgument, head, Trees, WireReason, BadSimple, TooDeep, UnexpectedBreak, Head, major_at, seen_argument, reason_alone, IsHeadOf, built, Slot, item, element_or_end, key_or_end, chunk, OpenContainer, opened, slot, slot_in, open_depth, needs_item, begins_low, Info, EndlessInformation, info_at, is_break, is_other, is_one, is_container, head_reason, width_bytes, number, argument_of, nothing, gathering, State, Live, Failed, finished, ended, after_head, unless, at_slot, run}
+use Rattle.cborn_wire.proofs.Common.{refl, sym, ap, ◌∙◌, ℕ, suc, List, [], length, take, get_or, Bool, true, false, cond, leb, Option, Some, None, arith, append-nil, length-append, add-one, take_all, take-append-le, length-take, take_more, take_more_set, slice_set, Width, Direct, Major, Other, Argument, Given, EndlessArgument, head, Trees, WireReason, BadSimple, TooDeep, UnexpectedBreak, Head, major_at, seen_argument, reason_alone, IsHeadOf, built, Slot, item, element_or_end, OpenContainer, opened, slot, slot_in, open_depth, needs_item, begins_low, Info, EndlessInformation, info_at, is_break, is_other, is_one, is_container, head_reason, width_bytes, number, argument_of, nothing, gathering, State, Live, Failed, finished, ended, after_head, unless, at_slot, run}
 use Rattle.std.proofs.Math.Bool.{and-false}
-use Rattle.cborn_wire.specs.Slots.{value as a_value}
 use Rattle.cborn_wire.proofs.HeadReading.InitialBytes.{same_alone}
 use Rattle.cborn_wire.proofs.Machine.Pieces.{takes_whole_head, refuses_first, argument_done}
 use Rattle.cborn_wire.proofs.Machine.SoundSteps.{is_clear}
@@ -11,10 +10,6 @@ use Rattle.cborn_wire.proofs.Machine.SomeEnd.{refused_run}
 fills : (w : Width) → width_bytes w ≤ 8
 fills Direct = omega arith
 fills w = omega arith
-
--- There is room for one byte more of an argument.
-pub argument_room : (w : Width) (n : ℕ) (bytes : List ℕ) → length bytes ≡ 8 → length (take n bytes) < width_bytes w → n < 8
-argument_room w n bytes l h = omega (arith, length-take n bytes, l, fills w, h)
 
 pub head_some : (m : Major) (a : Argument) → 0 < length (head m a)
 head_some m (Given w n) = omega arith
@@ -26,10 +21,14 @@ head_front piece h n i =
     ap (take n) i.whole ∙ ap (λ k. take k (x ++ i.rest)) i.len ∙ take-append-le (length x) x i.rest (omega arith) ∙ take_all (length x) x (omega arith)
 
 module _ (limit at : ℕ) (ready : Trees) (os : List OpenContainer) where
-  -- The last byte of an argument.
-  pub argument_ends : (p : ℕ) (m : Major) (w : Width) (got all piece : List ℕ) (n : ℕ) → 0 < length piece → all ≡ got ++ get_or piece 0 0 ∷ [] → length got < width_bytes w → width_bytes w ≤ length all → n ≡ number w (take (width_bytes w) all)
-      → run limit (Live at ready os (gathering p (argument_of m w) (width_bytes w) got)) (take 1 piece) ≡ after_head (at + 1) p ready os m (Given w n)
-  argument_ends p m w got all piece n some is short full value =
+  -- The last byte of an argument, of which n bytes came.
+  pub argument_ends : (p : ℕ) (m : Major) (w : Width) (bytes piece : List ℕ) (n v : ℕ) → length bytes ≡ 8 → length (take n bytes) < width_bytes w → 0 < length piece
+      → let all = take (n + 1) (slice_set bytes n (get_or piece 0 0)) in width_bytes w ≤ length all → v ≡ number w (take (width_bytes w) all)
+      → run limit (Live at ready os (gathering p (argument_of m w) (width_bytes w) (take n bytes))) (take 1 piece) ≡ after_head (at + 1) p ready os m (Given w v)
+  argument_ends p m w bytes piece n v eight short some full value =
+      let got = take n bytes in
+      let all = take (n + 1) (slice_set bytes n (get_or piece 0 0)) in
+      let is : all ≡ got ++ get_or piece 0 0 ∷ [] = take_more_set bytes n (get_or piece 0 0) (omega (arith, eight, length-take n bytes, fills w, short)) in
       let many : length all ≡ length got + 1 = ap length is ∙ length-append got (get_or piece 0 0 ∷ []) in
       let whole : take (width_bytes w) all ≡ all = take_all (width_bytes w) all (omega (arith, many, short)) in
       ap (run limit (Live at ready os (gathering p (argument_of m w) (width_bytes w) got))) (take_more piece 0 0 some)
@@ -90,10 +89,7 @@ head_fits piece h n i =
 
 break_reason : (s : Slot) (full : Bool) → head_reason s full Other EndlessInformation [] ≡ cond (needs_item s) (Some UnexpectedBreak) None
 break_reason item full = refl
-break_reason a_value full = refl
-break_reason element_or_end full = refl
-break_reason key_or_end full = refl
-break_reason (chunk k) full = refl
+break_reason s full = refl
 
 unless_needed : (b : Bool) (rd : Trees) (p : ℕ) (s : State) → unless (cond b (Some UnexpectedBreak) None) rd p (cond b (Failed rd p UnexpectedBreak) s) ≡ cond b (Failed rd p UnexpectedBreak) s
 unless_needed true rd p s = refl

@@ -1,20 +1,18 @@
 -- A container and the nodes in it: when more may come, when it is whole, and what it is then.
 use Rattle.std.specs.Prelude.{◌≡◌, ◌+◌, ◌/◌, ◌%◌, ◌<◌, ◌≤◌, ◌∷◌, ◌++◌}
-use Rattle.cborn_wire.proofs.Common.{refl, sym, ap, ◌∙◌, subst, ℕ, suc, List, [], length, map, true, false, Option, Some, None, arith, append_assoc, append-nil, add-one, length_push, leb-true, leb-false, lt-leb, flat_map, Size, Fixed, Endless, Array, Map, Tag, Chunk, WidthFits, Given, EndlessArgument, head, argument, SizeFits, Tree, Bytes, Text, ByteChunks, TextChunks, more, Entries, no_entry, entry, trees, entries, count_entries, depth, depth_all, depth_entries, ending, chunk_bytes, spelled, spelled_all, spelled_entries, ChunksFit, Fits, FitsAll, FitsEntries, ChunksPlaced, Placed, PlacedAll, PlacedEntries, Opening, an_array, a_map, a_tag, in_chunks, paired, last_key, chunks_of, built, ended_size, IsAll, IsString, AreStrings, Goes, Ends, string_of, StringKind, OfBytes, OfText, major_of, opened, announced, opening, slot_in, slot_in_map, added_depth, Announces, HeadFits, needs_item, chunks_from, placed_from, all_from, entries_from, is_full, place_of}
+use Rattle.cborn_wire.proofs.Common.{refl, sym, ap, ◌∙◌, subst, ℕ, suc, List, [], length, map, true, false, Option, Some, None, arith, append_assoc, append-nil, add-one, length_push, leb-true, leb-false, lt-leb, flat_map, Size, Fixed, Endless, Array, Map, Tag, Chunk, WidthFits, Given, EndlessArgument, head, argument, SizeFits, Tree, Bytes, Text, ByteChunks, TextChunks, more, Entries, no_entry, entry, trees, entries, depth, depth_all, depth_entries, ending, chunk_bytes, spelled, spelled_all, spelled_entries, ChunksFit, Fits, FitsAll, FitsEntries, ChunksPlaced, Placed, PlacedAll, PlacedEntries, Opening, an_array, a_map, a_tag, in_chunks, paired, last_key, chunks_of, built, ended_size, IsAll, IsString, AreStrings, Goes, Ends, string_of, StringKind, OfBytes, OfText, major_of, opened, announced, opening, slot_in, slot_in_map, added_depth, Announces, HeadFits, needs_item, chunks_from, placed_from, all_from, entries_from, is_full, place_of}
 use Rattle.cborn_model.proofs.Listed.Trees.{count-trees, count_entries-entries}
 use Rattle.cborn_model.proofs.HandedOver.{strings, strings_are}
 
 -- Keys and values in turn: how many pairs they are, and whether a value is missing.
 
 pub pair_count : (ts : List Tree) → length (paired ts) ≡ length ts / 2
-pair_count [] = refl
-pair_count (k ∷ []) = refl
 pair_count (k ∷ v ∷ ts) = omega (arith, pair_count ts)
+pair_count ts = refl
 
 pub even : (ts : List Tree) → last_key ts ≡ None → length ts % 2 ≡ 0
-even [] e = refl
-even (k ∷ []) e = cc
 even (k ∷ v ∷ ts) e = omega (arith, even ts e)
+even ts e = cc
 
 pub no_key : (ts : List Tree) → length ts % 2 ≡ 0 → last_key ts ≡ None
 no_key [] e = refl
@@ -32,24 +30,20 @@ value_next (l ∷ []) t k e = let same : l ≡ k = cc in (ap (λ l. (l, t) ∷ [
 value_next (l ∷ v ∷ ts) t k e = let h = value_next ts t k e in (ap (λ m. (l, v) ∷ m) h.0, h.1)
 
 pub pairs_spelled : (ts : List Tree) → last_key ts ≡ None → spelled_entries (entries (paired ts)) ≡ spelled_all (trees ts)
-pairs_spelled [] e = refl
-pairs_spelled (k ∷ []) e = cc
 pairs_spelled (k ∷ v ∷ ts) e = ap (λ x. spelled k ++ spelled v ++ x) (pairs_spelled ts e) ∙ append_assoc (spelled k) (spelled v) (spelled_all (trees ts))
+pairs_spelled ts e = cc
 
 pairs_fit : (ts : List Tree) → FitsAll (trees ts) → FitsEntries (entries (paired ts))
-pairs_fit [] h = tt
-pairs_fit (k ∷ []) h = tt
 pairs_fit (k ∷ v ∷ ts) h = (h.0, h.1.0, pairs_fit ts h.1.1)
+pairs_fit ts h = tt
 
 pairs_deep : (ts : List Tree) → depth_entries (entries (paired ts)) ≤ depth_all (trees ts)
-pairs_deep [] = omega arith
-pairs_deep (k ∷ []) = omega arith
 pairs_deep (k ∷ v ∷ ts) = omega (arith, pairs_deep ts)
+pairs_deep ts = omega arith
 
 pairs_placed : (ts : List Tree) (p : ℕ) → PlacedAll p (trees ts) → PlacedEntries p (entries (paired ts))
-pairs_placed [] p h = tt
-pairs_placed (k ∷ []) p h = tt
 pairs_placed (k ∷ v ∷ ts) p h = (h.0, h.1.0, pairs_placed ts _ h.1.1)
+pairs_placed ts p h = tt
 
 -- Strings as chunks.
 
@@ -98,11 +92,10 @@ not_yet o ts n h up = refl
 -- with one more node
 pub goes_on : (o : Opening) (ts : List Tree) (t : Tree) → Goes o ts → Belongs o t → is_full o (length (ts ++ t ∷ [])) ≡ false → Goes o (ts ++ t ∷ [])
 goes_on (an_array p s (Some m)) ts t h is e = leb-false m (length (ts ++ t ∷ [])) e
-goes_on (an_array p s None) ts t h is e = tt
 goes_on (a_map p s (Some m)) ts t h is e = omega (arith, leb-false m (length (ts ++ t ∷ []) / 2) e, pair_count (ts ++ t ∷ []))
-goes_on (a_map p s None) ts t h is e = tt
 goes_on (a_tag p w m) ts t h is e = absurd (omega (arith, leb-false 1 (length (ts ++ t ∷ [])) e, length_push ts t))
 goes_on (in_chunks p k) ts t h is e = strings_push k ts t h is
+goes_on o ts t h is e = tt
 
 pub goes_whole : (o : Opening) (ts : List Tree) (t : Tree) → Goes o ts → is_full o (length (ts ++ t ∷ [])) ≡ true → Ends o (ts ++ t ∷ [])
 goes_whole (an_array p s (Some m)) ts t h e = omega (arith, leb-true m (length (ts ++ t ∷ [])) e, h, length_push ts t)
@@ -142,7 +135,6 @@ closing (in_chunks p k) = ending Endless
 pub full_closing : (o : Opening) (n : ℕ) → is_full o n ≡ true → closing o ≡ []
 full_closing (an_array p s (Some m)) n e = refl
 full_closing (a_map p s (Some m)) n e = refl
-full_closing (a_tag p w m) n e = refl
 full_closing o n e = cc
 
 -- Where it isn't whole by a number, a break ends it.
@@ -156,7 +148,6 @@ endless_closing (in_chunks p k) ts h e = (refl, refl)
 
 -- Where a break may be, it may end.
 pub break_ends : (o : Opening) (ts : List Tree) → Goes o ts → needs_item (slot_in (opened o ts)) ≡ false → Ends o ts × (closing o ≡ ending Endless)
-break_ends (an_array p s (Some n)) ts h e = cc
 break_ends (an_array p s None) ts h e = (tt, refl)
 break_ends (a_map p s c) ts h e = in_map c (last_key ts) refl e
   where
@@ -164,8 +155,8 @@ break_ends (a_map p s c) ts h e = in_map c (last_key ts) refl e
     in_map c (Some k) is e = cc
     in_map (Some n) None is e = cc
     in_map None None is e = ((tt, is), refl)
-break_ends (a_tag p w n) ts h e = cc
 break_ends (in_chunks p k) ts h e = (h, refl)
+break_ends o ts h e = cc
 
 -- the size of an array or a map, with as many items or pairs as were announced
 record Sized (s : Size) (c : Option ℕ) (n : ℕ) : Type 0 where
@@ -177,8 +168,7 @@ record Sized (s : Size) (c : Option ℕ) (n : ℕ) : Type 0 where
 sized : (s : Size) (c : Option ℕ) (n : ℕ) → Announces s c → IsAll c n → Sized s c n
 sized (Fixed w) (Some m) n fits all = record { size = refl; says = ap (Given w) all; end = refl; fits = subst (WidthFits w) (sym all) fits }
 sized Endless None n fits all = record { size = refl; says = refl; end = refl; fits = tt }
-sized (Fixed w) None n fits all = absurd fits
-sized Endless (Some m) n fits all = absurd fits
+sized s c n fits all = absurd fits
 
 pub built_spelled : (o : Opening) (ts : List Tree) → HeadFits o → Ends o ts → spelled (built o ts) ≡ opening o ++ spelled_all (trees ts) ++ closing o
 built_spelled (an_array p s c) ts fits h = let z = sized s c (length ts) fits h in rw (z.size, count-trees ts, z.says, z.end) refl
@@ -197,11 +187,10 @@ built_fits (in_chunks p OfBytes) ts fits h all = strings_fit OfBytes (chunks_of 
 built_fits (in_chunks p OfText) ts fits h all = strings_fit OfText (chunks_of ts) (subst (λ us. FitsAll (trees us)) (sym (strings_are OfText ts h)) all)
 
 pub built_deep : (o : Opening) (ts : List Tree) → Ends o ts → depth (built o ts) ≤ added_depth o + depth_all (trees ts)
-built_deep (an_array p s c) ts h = omega arith
 built_deep (a_map p s c) ts h = omega (arith, pairs_deep ts)
 built_deep (a_tag p w n) ts (t, e) = subst (λ us. depth (built (a_tag p w n) us) ≤ 1 + depth_all (trees us)) (sym e) (omega arith)
 built_deep (in_chunks p OfBytes) ts h = omega arith
-built_deep (in_chunks p OfText) ts h = omega arith
+built_deep o ts h = omega arith
 
 chunks_there : (k : StringKind) (ts : List Tree) (p : ℕ) → AreStrings k ts → PlacedAll (p + 1) (trees ts) → ChunksPlaced (major_of k) (suc p) (chunks_of ts)
 chunks_there k ts p h all = strings_placed k (chunks_of ts) (suc p) (subst (λ us. PlacedAll (suc p) (trees us)) (sym (strings_are k ts h)) (subst (λ n. PlacedAll n (trees ts)) (add-one p) all))
@@ -234,9 +223,8 @@ list_trees [] p = refl
 list_trees (t ∷ ts) p = ap (more (placed_from p t)) (list_trees ts _)
 
 list_entries : (ts : List Tree) (p : ℕ) → entries (paired (list_from p ts)) ≡ entries_from p (entries (paired ts))
-list_entries [] p = refl
-list_entries (k ∷ []) p = refl
 list_entries (k ∷ v ∷ ts) p = ap (entry (placed_from p k) (placed_from (p + length (spelled k)) v)) (list_entries ts _)
+list_entries ts p = refl
 
 pub list_pairs : (ts : List Tree) (p : ℕ) → length (paired (list_from p ts)) ≡ length (paired ts)
 list_pairs ts p = pair_count (list_from p ts) ∙ ap (λ n. n / 2) (list_length ts p) ∙ sym (pair_count ts)
@@ -249,14 +237,11 @@ strings_from OfText (c ∷ cs) p = ap (λ ts. Text p c.width c.bytes ∷ ts) (st
 list_strings : (k : StringKind) (ts : List Tree) (p : ℕ) → AreStrings k ts → list_from p ts ≡ map (string_of k) (chunks_from (major_of k) p (chunks_of ts))
 list_strings k ts p h = ap (list_from p) (sym (strings_are k ts h)) ∙ strings_from k (chunks_of ts) p
 
-pub strings_stay : (k : StringKind) (ts : List Tree) (p : ℕ) → AreStrings k ts → AreStrings k (list_from p ts)
-strings_stay k ts p h = subst (AreStrings k) (sym (list_strings k ts p h)) (strings k (chunks_from (major_of k) p (chunks_of ts))).0
-
 pub ends_from : (o : Opening) (ts : List Tree) (p : ℕ) → Ends o ts → Ends o (list_from p ts)
 ends_from (an_array q s c) ts p h = subst (IsAll c) (sym (list_length ts p)) h
 ends_from (a_map q s c) ts p h = (subst (IsAll c) (sym (list_pairs ts p)) h.0, no_key (list_from p ts) (omega (arith, list_length ts p, even ts h.1)))
 ends_from (a_tag q w n) ts p (t, e) = (placed_from p t, ap (list_from p) e)
-ends_from (in_chunks q k) ts p h = strings_stay k ts p h
+ends_from (in_chunks q k) ts p h = subst (AreStrings k) (sym (list_strings k ts p h)) (strings k (chunks_from (major_of k) p (chunks_of ts))).0
 
 list_chunks : (k : StringKind) (ts : List Tree) (p : ℕ) → AreStrings k ts → chunks_of (list_from (p + 1) ts) ≡ chunks_from (major_of k) (suc p) (chunks_of ts)
 list_chunks k ts p h =
@@ -288,9 +273,6 @@ nodes_entries (entry k v es) = ap (entry k v) (nodes_entries es)
 pub nodes_end : (es : Entries) → last_key (nodes_of es) ≡ None
 nodes_end no_entry = refl
 nodes_end (entry k v es) = nodes_end es
-
-pub nodes_count : (es : Entries) → length (paired (nodes_of es)) ≡ count_entries es
-nodes_count es = sym (count_entries-entries (paired (nodes_of es))) ∙ ap count_entries (nodes_entries es)
 
 pub nodes_fit : (es : Entries) → FitsEntries es → FitsAll (trees (nodes_of es))
 nodes_fit no_entry h = tt

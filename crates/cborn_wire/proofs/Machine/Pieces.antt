@@ -21,10 +21,7 @@ first_of m (Given Eight n) h = record { low = 27; others = following Eight n; by
 first_of m EndlessArgument h = record { low = 31; others = []; bytes = refl; small = omega arith; says = refl }
 
 first_byte : (m : Major) (a : Argument) (b : ℕ) (z y : List ℕ) → b ∷ z ≡ head m a ++ y → (f : FirstOf m a) → b ≡ 32 * code m + f.low
-first_byte m a b z y e f = go (e ∙ ap (λ l. l ++ y) f.bytes)
-  where
-    go : {c : ℕ} {l : List ℕ} → b ∷ z ≡ c ∷ l → b ≡ c
-    go e = cc
+first_byte m a b z y e f = cc (e ∙ ap (λ l. l ++ y) f.bytes)
 
 pub major_of_head : (m : Major) (a : Argument) (b : ℕ) (z y : List ℕ) → ArgumentFits a → b ∷ z ≡ head m a ++ y → major_at (b / 32) ≡ m
 major_of_head m a b z y fits e =

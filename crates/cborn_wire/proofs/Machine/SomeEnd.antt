@@ -64,10 +64,6 @@ module _ (limit : ℕ) where
   zero_step : (fed : ℕ) (ready : Trees) (os : List OpenContainer) → is_bad_chunk (slot os) Unsigned (Now 0) ≡ false → step limit (Live fed ready os nothing) 0 ≡ finished (suc fed) ready os (Uint fed Direct 0)
   zero_step fed ready os free = ap (λ o. unless o ready fed (finished (suc fed) ready os (Uint fed Direct 0))) (none_there (slot os) (leb limit (open_depth os)) free)
 
-  break_step : (fed : ℕ) (ready : Trees) (os : List OpenContainer) (o : Opening) (ts : List Tree) → needs_item (slot_in (opened o ts)) ≡ false
-      → step limit (Live fed ready (opened o ts ∷ os) nothing) 255 ≡ finished (suc fed) ready os (built o ts)
-  break_step fed ready os o ts e = takes_break limit fed ready os o ts [] e ∙ ap (λ q. finished q ready os (built o ts)) (add-one fed)
-
   module _ (os : List OpenContainer) (ready : Trees) (o : Opening) (next : (fed : ℕ) (t : Tree) → Closable (finished fed ready os t)) where
     -- zeros fill a container
     filled : (j fed : ℕ) (ts : List Tree) → ((us : List Tree) → is_bad_chunk (slot_in (opened o us)) Unsigned (Now 0) ≡ false) → is_full o (length ts + j) ≡ true → Closable (holding fed ready os o ts)
@@ -80,7 +76,7 @@ module _ (limit : ℕ) where
 
     -- a break ends it
     broken : (fed : ℕ) (ts : List Tree) → needs_item (slot_in (opened o ts)) ≡ false → Closable (Live fed ready (opened o ts ∷ os) nothing)
-    broken fed ts e = after_byte 255 (Live fed ready (opened o ts ∷ os) nothing) (omega arith) (subst Closable (sym (break_step fed ready os o ts e)) (next (suc fed) (built o ts)))
+    broken fed ts e = after_byte 255 (Live fed ready (opened o ts ∷ os) nothing) (omega arith) (subst Closable (sym (takes_break limit fed ready os o ts [] e ∙ ap (λ q. finished q ready os (built o ts)) (add-one fed))) (next (suc fed) (built o ts)))
 
   no_chunk_in : (c : Option ℕ) (x : Option Tree) → is_bad_chunk (slot_in_map c x) Unsigned (Now 0) ≡ false
   no_chunk_in c (Some k) = refl

@@ -1,6 +1,6 @@
 -- What the machine has is what was read.
 use Rattle.std.specs.Prelude.{◌≡◌, ◌+◌, ◌<◌, ◌≤◌, ◌∷◌, ◌++◌}
-use Rattle.cborn_wire.proofs.Common.{refl, sym, ap, ◌∙◌, subst, ℕ, List, [], length, Bool, true, false, cond, leb, Some, None, arith, append_assoc, append-nil, length-append, add-zero, max, AreBytes, Given, WidthFits, Opening, in_chunks, built, Goes, Ends, Tree, Trees, no_item, more, trees, depth, depth_all, spelled, spelled_all, Fits, FitsAll, Placed, PlacedAll, WireReason, major_of, OpenContainer, opened, opening, beginnings, slot, added_depth, open_depth, HeadFits, IsNoString, MayBegin, Next, is_bad_chunk, head_reason, front_reason, info_for, IsPlacedOpen, Ground, front, partial_bytes, snoc, width_bytes, argument_of, content_of, Unfinished, nothing, gathering, State, Live, Failed, is_full, finished, holding}
+use Rattle.cborn_wire.proofs.Common.{sym, ap, ◌∙◌, subst, ℕ, List, [], length, true, false, leb, Some, None, arith, append_assoc, append-nil, length-append, add-zero, max, cond_both, AreBytes, Given, WidthFits, Opening, in_chunks, built, Goes, Ends, Tree, Trees, no_item, more, trees, depth, depth_all, spelled, spelled_all, Fits, FitsAll, Placed, PlacedAll, WireReason, major_of, OpenContainer, opened, opening, beginnings, slot, added_depth, open_depth, HeadFits, IsNoString, Next, is_bad_chunk, head_reason, front_reason, info_for, IsPlacedOpen, Ground, front, partial_bytes, snoc, width_bytes, argument_of, content_of, Unfinished, nothing, gathering, State, Live, Failed, is_full, finished, holding}
 use Rattle.cborn_wire.proofs.Spelled.TreeLists.{trees-push}
 use Rattle.cborn_wire.proofs.Machine.Containers.{Belongs, closing, full_closing, goes_on, goes_whole, built_spelled, built_fits, built_deep, built_placed}
 
@@ -30,9 +30,8 @@ Accepts [] t = Unit {0}
 Accepts (opened o ts ∷ os) t = Belongs o t
 
 pub accepted : (os : List OpenContainer) (t : Tree) → IsNoString os → Accepts os t
-accepted [] t h = tt
 accepted (opened (in_chunks p k) ts ∷ os) t h = absurd h
-accepted (opened o ts ∷ os) t h = tt
+accepted os t h = tt
 
 -- A partial head or string is what the bytes so far make of one that is allowed here.
 abbrev pub PartialFits : ℕ → List OpenContainer → ℕ → Unfinished → Type 0
@@ -62,17 +61,7 @@ module _ (limit base : ℕ) where
   pub length_front : (ready : Trees) (os : List OpenContainer) → base + length (front ready os) ≡ base + length (spelled_all ready) + length (beginnings os)
   length_front ready os = omega (arith, length-append (spelled_all ready) (beginnings os))
 
-  -- one more thing is open
-  pub ground_more : (ready : Trees) (os : List OpenContainer) (o : OpenContainer) → Ground limit base ready os → IsNoString os → MayBegin limit (open_depth os) o → IsPlacedOpen (base + length (front ready os)) o → Ground limit base ready (o ∷ os)
-  ground_more ready os o g free may placed = record {
-    fit = g.fit;
-    shallow = g.shallow;
-    placed = g.placed;
-    are_open = (may, free, g.are_open);
-    open_placed = (subst (λ q. IsPlacedOpen q o) (length_front ready os) placed, g.open_placed);
-  }
-
-  -- and one less
+  -- one less is open
   pub ground_less : (ready : Trees) (os : List OpenContainer) (o : OpenContainer) → Ground limit base ready (o ∷ os) → Ground limit base ready os
   ground_less ready os o g = record { fit = g.fit; shallow = g.shallow; placed = g.placed; are_open = g.are_open.2; open_placed = g.open_placed.1 }
 
@@ -108,18 +97,16 @@ module _ (limit base : ℕ) where
 
     pub sound_holding : ((t : Tree) → Whole x fed ready os t → Sound x (finished fed ready os t)) → (is_full o (length ts) ≡ false → Goes o ts) → (is_full o (length ts) ≡ true → Ends o ts)
         → x ≡ front ready os ++ (opening o ++ spelled_all (trees ts)) → Sound x (holding fed ready os o ts)
-    sound_holding next goes end bytes = go (is_full o (length ts)) refl
-      where
-        go : (b : Bool) → is_full o (length ts) ≡ b → Sound x (cond b (finished fed ready os (built o ts)) (Live fed ready (opened o ts ∷ os) nothing))
-        go true e =
-            let start = opening o ++ spelled_all (trees ts) in
-            next (built o ts) (ends (end e) (bytes ∙ ap (λ l. front ready os ++ l) (sym (append-nil start) ∙ ap (λ l. start ++ l) (sym (full_closing o (length ts) e)))))
-        go false e = record {
-          ground = ground_more ready os (opened o ts) g free (fits, goes e, all, deep) placed;
+    sound_holding next goes end bytes =
+        let start = opening o ++ spelled_all (trees ts) in
+        cond_both (is_full o (length ts)) _ _ (Sound x)
+        (λ e. next (built o ts) (ends (end e) (bytes ∙ ap (λ l. front ready os ++ l) (sym (append-nil start) ∙ ap (λ l. start ++ l) (sym (full_closing o (length ts) e))))))
+        (λ e. record {
+          ground = record { fit = g.fit; shallow = g.shallow; placed = g.placed; are_open = ((fits, goes e, all, deep), free, g.are_open); open_placed = (subst (λ q. IsPlacedOpen q (opened o ts)) (length_front ready os) placed, g.open_placed) };
           bytes = nothing_more _ _ (bytes ∙ append_assoc (spelled_all ready) (beginnings os) _);
           fed_is = at;
           partial_fits = tt;
-        }
+        })
 
   pub sound_finished : (os : List OpenContainer) (ready : Trees) (t : Tree) (fed : ℕ) (x : List ℕ) → Whole x fed ready os t → Sound x (finished fed ready os t)
   sound_finished [] ready t fed x h = record {

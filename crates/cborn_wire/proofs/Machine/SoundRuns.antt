@@ -1,10 +1,11 @@
--- A whole run keeps what the machine has to what was read.
+-- A whole run keeps what the machine has to what was read: so this is known of each state that some bytes make.
 use Rattle.std.specs.Prelude.{◌≡◌, ◌+◌, ◌*◌, ◌/◌, ◌%◌, ◌<◌, ◌≤◌, ◌∷◌, ◌++◌, ◌&&◌}
-use Rattle.cborn_wire.proofs.Common.{refl, sym, ap, ◌∙◌, subst, ℕ, zero, suc, List, [], length, get_or, Bool, true, false, cond, ltb, leb, eqb, Option, Some, None, arith, append_assoc, append-nil, length_push, cond_both, leb-true, leb-false, ltb-true, eqb-true, be_bytes_2, be_bytes_4, be_bytes_8, AreBytes, Width, Direct, One, Two, Four, Eight, Major, Other, Given, EndlessArgument, code, information, following, head, WidthFits, Trees, WireReason, BadSimple, TooDeep, major_of, Slot, OpenContainer, slot, open_depth, needs_item, begins_low, Info, Now, Next, Reserved, EndlessInformation, info_at, is_bad_chunk, head_reason, front_reason, is_reserved, is_endless_head, is_always_bounded, is_break, is_other, is_float, is_one, is_container, info_for, major_at, start, width_bytes, number, argument_of, content_of, nothing, gathering, State, Live, Failed, gather, begin_head, after_head, at_slot, unless, step, run, front, Ground}
+use Rattle.cborn_wire.proofs.Common.{refl, sym, ap, ◌∙◌, subst, ℕ, zero, suc, List, [], length, get_or, Bool, true, false, cond, ltb, leb, eqb, Option, Some, None, arith, append_assoc, append-nil, length_push, cond_both, leb-true, leb-false, ltb-true, eqb-true, be_bytes_2, be_bytes_4, be_bytes_8, AreBytes, Width, Direct, One, Two, Four, Eight, Major, Other, Given, EndlessArgument, code, information, following, head, WidthFits, Trees, WireReason, BadSimple, TooDeep, major_of, Slot, OpenContainer, slot, open_depth, needs_item, begins_low, Info, Now, Next, Reserved, EndlessInformation, info_at, is_bad_chunk, head_reason, front_reason, is_reserved, is_endless_head, is_always_bounded, is_break, is_other, is_float, is_one, is_container, info_for, major_at, start, width_bytes, number, argument_of, content_of, nothing, gathering, State, Live, Failed, gather, begin_head, at_slot, unless, step, run, front, Ground, in_chunks, Tree, no_item, more, depth, depth_all, Fits, FitsAll, opened, IsNoString, AreOpen, snoc, Unfinished, held, IsReached}
 use Rattle.cborn_model.proofs.Bytes.{bytes-append}
 pub use Rattle.cborn_model.proofs.Numbers.Majors.{code_at}
 use Rattle.cborn_wire.proofs.Machine.SoundItems.{SoundLive, Sound}
 use Rattle.cborn_wire.proofs.Machine.SoundSteps.{Clear, is_clear, sound_head, sound_content}
+use Rattle.cborn_wire.proofs.Machine.Running.{run-append}
 
 pub initial : (b : ℕ) → b < 256 → b ≡ 32 * code (major_at (b / 32)) + b % 32
 initial b h = omega (arith, code_at (b / 32) (omega arith))
@@ -36,9 +37,8 @@ small (b ∷ x) h (suc i) = small x h.1 i
 -- the bytes of an argument are those of the number that they make
 pub again : (w : Width) (got : List ℕ) → IsWide w → length got ≡ width_bytes w → AreBytes got → (following w (number w got) ≡ got) × WidthFits w (number w got)
 again Direct got wide l h = absurd wide
-again One [] wide l h = absurd (omega arith)
 again One (n ∷ []) wide l h = (refl, h.0)
-again One (n ∷ m ∷ got) wide l h = absurd (omega arith)
+again One got wide l h = absurd (omega arith)
 again Two got wide l h = (be_bytes_2 got _ l (small got h) refl, omega (arith, small got h 0, small got h 1))
 again Four got wide l h = (be_bytes_4 got _ l (small got h) refl, omega (arith, small got h 0, small got h 1, small got h 2, small got h 3))
 again Eight got wide l h = (
@@ -91,18 +91,17 @@ module _ (limit base : ℕ) where
       → n ≡ width_bytes w → length got ≤ n → p ≡ base + length (front ready os)
       → x ≡ front ready os ++ ((32 * code m + information w 0) ∷ got) → fed ≡ base + length x
       → Sound limit base x (gather fed p ready os (argument_of m w) n got)
-  sound_argument m w ready os n got fed p x g none bytes broad all up placed is at = go (leb n (length got)) refl
-    where
-      go : (b : Bool) → leb n (length got) ≡ b → Sound limit base x (cond b (after_head fed p ready os m (Given w (number w got))) (Live fed ready os (gathering p (argument_of m w) n got)))
-      go true e =
-          let full : length got ≡ width_bytes w = omega (arith, leb-true n (length got) e) in
-          let k = number w got in
-          let same = again w got broad full bytes in
-          let clear = is_clear (slot os) (leb limit (open_depth os)) m (Next w) [] none in
-          sound_head limit base ready os fed p x g placed at m (Given w k) (subst (Clear (slot os) (leb limit (open_depth os)) m) (sym (wide_info w k broad)) clear) same.1
-          (is ∙ ap (λ i. front ready os ++ ((32 * code m + i) ∷ got)) (sym (wide_information w k broad))
-          ∙ ap (λ l. front ready os ++ ((32 * code m + information w k) ∷ l)) (sym same.0))
-      go false e = record { ground = g; bytes = is; fed_is = at; partial_fits = (placed, all, leb-false n (length got) e, none, bytes) }
+  sound_argument m w ready os n got fed p x g none bytes broad all up placed is at =
+      cond_both (leb n (length got)) _ _ (Sound limit base x)
+      (λ e.
+      let full : length got ≡ width_bytes w = omega (arith, leb-true n (length got) e) in
+      let k = number w got in
+      let same = again w got broad full bytes in
+      let clear = is_clear (slot os) (leb limit (open_depth os)) m (Next w) [] none in
+      sound_head limit base ready os fed p x g placed at m (Given w k) (subst (Clear (slot os) (leb limit (open_depth os)) m) (sym (wide_info w k broad)) clear) same.1
+      (is ∙ ap (λ i. front ready os ++ ((32 * code m + i) ∷ got)) (sym (wide_information w k broad))
+      ∙ ap (λ l. front ready os ++ ((32 * code m + information w k) ∷ l)) (sym same.0)))
+      (λ e. record { ground = g; bytes = is; fed_is = at; partial_fits = (placed, all, leb-false n (length got) e, none, bytes) })
 
   sound_begin : (i : Info) (m : Major) (ready : Trees) (os : List OpenContainer) (fed b : ℕ) (x : List ℕ)
       → SoundLive limit base x fed ready os nothing → head_reason (slot os) (leb limit (open_depth os)) m i [] ≡ None
@@ -160,8 +159,39 @@ module _ (limit base : ℕ) where
   sound_run [] s x h k = subst (λ l. Sound limit base l s) (sym (append-nil x)) k
   sound_run (b ∷ y) s x h k = subst (λ l. Sound limit base l (run limit (step limit s b) y)) (append_assoc x (b ∷ []) y) (sound_run y (step limit s b) (x ++ b ∷ []) h.1 (sound_step s b x h.0 k))
 
-  pub sound_start : Sound limit base [] (start base)
-  sound_start = record { ground = record { fit = tt; shallow = omega arith; placed = tt; are_open = tt; open_placed = tt }; bytes = refl; fed_is = omega arith; partial_fits = tt }
-
   pub sound : (x : List ℕ) → AreBytes x → Sound limit base x (run limit (start base) x)
-  sound x h = sound_run x (start base) [] h sound_start
+  sound x h = sound_run x (start base) [] h (record { ground = record { fit = tt; shallow = omega arith; placed = tt; are_open = tt; open_placed = tt }; bytes = refl; fed_is = omega arith; partial_fits = tt })
+
+fits_last : (ts : Trees) (t : Tree) → FitsAll (snoc ts t) → Fits t
+fits_last no_item t h = h.0
+fits_last (more u ts) t h = fits_last ts t h.1
+
+depth_last : (ts : Trees) (t : Tree) → depth t ≤ depth_all (snoc ts t)
+depth_last no_item t = omega arith
+depth_last (more u ts) t = omega (arith, depth_last ts t)
+
+-- No array, map or tag is open inside an indefinite string, so all that is open counts.
+pub depth_is_length : (limit : ℕ) (os : List OpenContainer) → AreOpen limit os → IsNoString os → open_depth os ≡ length os
+depth_is_length limit [] h free = refl
+depth_is_length limit (opened (in_chunks p k) ts ∷ os) h free = absurd free
+depth_is_length limit (opened o ts ∷ os) h free = omega (arith, depth_is_length limit os h.2 h.1)
+
+module _ (limit base : ℕ) where
+  pub reached_more : (s : State) (y : List ℕ) → IsReached limit base s → AreBytes y → IsReached limit base (run limit s y)
+  reached_more s y (x, bytes, is) are = (x ++ y, bytes-append x y bytes are, run-append limit (start base) x y ∙ ap (λ u. run limit u y) is)
+
+  pub reached_sound : (s : State) → IsReached limit base s → (x : List ℕ) × Sound limit base x s
+  reached_sound s (x, bytes, is) = (x, subst (Sound limit base x) is (sound limit base x bytes))
+
+  -- From a live state follow the bytes that make it.
+  pub reached_held : (fed : ℕ) (ready : Trees) (os : List OpenContainer) (partial : Unfinished) → IsReached limit base (Live fed ready os partial)
+      → let s = Live fed ready os partial in (run limit (start base) (held s) ≡ s) × AreBytes (held s)
+  reached_held fed ready os partial (x, bytes, is) =
+      let h : SoundLive limit base x fed ready os partial = subst (Sound limit base x) is (sound limit base x bytes) in
+      (ap (run limit (start base)) (sym h.bytes) ∙ is, subst AreBytes h.bytes bytes)
+
+  -- a complete item
+  pub reached_item : (fed : ℕ) (ready : Trees) (t : Tree) (os : List OpenContainer) (partial : Unfinished) → IsReached limit base (Live fed (snoc ready t) os partial) → Fits t × (depth t ≤ limit)
+  reached_item fed ready t os partial h =
+      let (x, s) = reached_sound (Live fed (snoc ready t) os partial) h in
+      (fits_last ready t s.ground.fit, omega (arith, depth_last ready t, s.ground.shallow))

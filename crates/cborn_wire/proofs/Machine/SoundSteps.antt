@@ -1,6 +1,6 @@
 -- Each step keeps what the machine has to what was read.
 use Rattle.std.specs.Prelude.{◌≡◌, ◌+◌, ◌≤◌, ◌∷◌, ◌++◌, ◌&&◌}
-use Rattle.cborn_wire.proofs.Common.{refl, sym, ap, ◌∙◌, subst, ℕ, List, [], length, Bool, true, false, cond, ltb, leb, Option, Some, None, inl, inr, arith, append_assoc, append-nil, leb-true, leb-false, ltb-false, AreBytes, Width, Direct, One, Fixed, Endless, Major, Unsigned, Negative, ByteString, TextString, Array, Map, Tag, Other, Argument, Given, EndlessArgument, head, WidthFits, Opening, an_array, a_map, a_tag, in_chunks, built, string_tree, Tree, Uint, Nint, Bytes, Text, Simple, Trees, trees, depth, ending, string, spelled, spelled_all, Fits, Placed, WireReason, BadSimple, UnexpectedBreak, StringKind, OfBytes, OfText, major_of, Slot, OpenContainer, opened, opening, slot, added_depth, open_depth, HeadFits, IsNoString, AreOpen, needs_item, begins_low, ArgumentFits, Info, Next, EndlessInformation, is_reserved, is_endless_head, is_always_bounded, is_other, is_container, is_of_kind, is_break, is_bad_chunk, is_float, is_one, head_reason, info_for, place_of, Ground, content_of, gathering, Live, Failed, finished, holding, ended, gather, after_head, front}
+use Rattle.cborn_wire.proofs.Common.{refl, sym, ap, ◌∙◌, subst, ℕ, List, [], length, Bool, true, false, cond, ltb, leb, Option, Some, None, inl, inr, arith, append_assoc, append-nil, cond_both, leb-true, leb-false, ltb-false, AreBytes, Width, Direct, One, Fixed, Endless, Major, Unsigned, Negative, ByteString, TextString, Array, Map, Tag, Other, Argument, Given, EndlessArgument, head, WidthFits, Opening, an_array, a_map, a_tag, in_chunks, built, string_tree, Tree, Uint, Nint, Bytes, Text, Simple, Trees, trees, depth, ending, string, spelled, spelled_all, Fits, Placed, WireReason, BadSimple, UnexpectedBreak, StringKind, OfBytes, OfText, major_of, Slot, OpenContainer, opened, opening, slot, added_depth, open_depth, HeadFits, IsNoString, AreOpen, needs_item, begins_low, ArgumentFits, Info, Next, EndlessInformation, is_reserved, is_endless_head, is_always_bounded, is_other, is_container, is_of_kind, is_break, is_bad_chunk, is_float, is_one, head_reason, info_for, place_of, Ground, content_of, Failed, finished, holding, ended, gather, after_head, front}
 use Rattle.cborn_model.proofs.Numbers.Simples.{simple_value, least_direct, least_one}
 use Rattle.cborn_wire.proofs.Machine.Containers.{empty_goes, empty_whole, break_ends}
 use Rattle.cborn_wire.proofs.Machine.SoundItems.{Sound, Accepts, accepted, ground_less, top_placed, nothing_more, ends, sound_holding, sound_finished}
@@ -30,9 +30,8 @@ is_clear s full m i y e =
     record { reserved = a.0; bounded = b.0; chunked = c.0; broken = d.0; float = f.0; room = h.0 }
 
 pub free_of : (os : List OpenContainer) (m : Major) (i : Info) → is_bad_chunk (slot os) m i ≡ false → ((k : StringKind) → is_of_kind k m ≡ false) → is_break m i ≡ false → IsNoString os
-free_of [] m i e g h = tt
 free_of (opened (in_chunks p k) ts ∷ os) m i e g h = let f : true ≡ false = rw (h, g k) at e in cc
-free_of (opened o ts ∷ os) m i e g h = tt
+free_of os m i e g h = tt
 
 pub other_kind : (m : Major) → is_of_kind OfBytes m ≡ false → is_of_kind OfText m ≡ false → (k : StringKind) → is_of_kind k m ≡ false
 other_kind m a b OfBytes = a
@@ -40,21 +39,16 @@ other_kind m a b OfText = b
 
 -- no indefinite string begins in another
 pub open_string : (os : List OpenContainer) (k : StringKind) → is_bad_chunk (slot os) (major_of k) EndlessInformation ≡ false → IsNoString os
-open_string [] k e = tt
 open_string (opened (in_chunks p OfBytes) ts ∷ os) OfBytes e = cc
-open_string (opened (in_chunks p OfBytes) ts ∷ os) OfText e = cc
 open_string (opened (in_chunks p OfText) ts ∷ os) OfBytes e = cc
-open_string (opened (in_chunks p OfText) ts ∷ os) OfText e = cc
-open_string (opened o ts ∷ os) k e = tt
+open_string (opened (in_chunks p j) ts ∷ os) k e = cc
+open_string os k e = tt
 
 -- a definite string may be in an indefinite one of its kind
 string_accepted : (os : List OpenContainer) (p : ℕ) (k : StringKind) (w : Width) (bytes : List ℕ) (i : Info) → is_bad_chunk (slot os) (major_of k) i ≡ false → Accepts os (string_tree p k w bytes)
-string_accepted [] p k w bytes i e = tt
-string_accepted (opened (in_chunks q OfBytes) ts ∷ os) p OfBytes w bytes i e = tt
-string_accepted (opened (in_chunks q OfText) ts ∷ os) p OfText w bytes i e = tt
 string_accepted (opened (in_chunks q OfBytes) ts ∷ os) p OfText w bytes i e = cc
 string_accepted (opened (in_chunks q OfText) ts ∷ os) p OfBytes w bytes i e = cc
-string_accepted (opened o ts ∷ os) p k w bytes i e = tt
+string_accepted os p k w bytes i e = tt
 
 pub shallow_open : (limit : ℕ) (os : List OpenContainer) → AreOpen limit os → open_depth os ≤ limit
 shallow_open limit [] h = omega arith
@@ -94,13 +88,12 @@ module _ (limit base : ℕ) (ready : Trees) (os : List OpenContainer) (fed p : �
   -- some of a definite string's bytes came
   pub sound_content : (k : StringKind) (w : Width) (n : ℕ) (got : List ℕ) → is_bad_chunk (slot os) (major_of k) (info_for (Given w n)) ≡ false → WidthFits w n → length got ≤ n → AreBytes got
       → x ≡ front ready os ++ (head (major_of k) (Given w n) ++ got) → Sound limit base x (gather fed p ready os (content_of k w) n got)
-  sound_content k w n got allowed fits up are is = go (leb n (length got)) refl
-    where
-      go : (b : Bool) → leb n (length got) ≡ b → Sound limit base x (cond b (finished fed ready os (string_tree p k w got)) (Live fed ready os (gathering p (content_of k w) n got)))
-      go true e =
-          let same : n ≡ length got = omega (arith, leb-true n (length got) e) in
-          sound_string k w got (info_for (Given w n)) allowed (subst (WidthFits w) same fits, are) (is ∙ ap (λ j. front ready os ++ (head (major_of k) (Given w j) ++ got)) same)
-      go false e = record { ground = g; bytes = is; fed_is = at; partial_fits = (placed, fits, leb-false n (length got) e, allowed, are) }
+  sound_content k w n got allowed fits up are is =
+      cond_both (leb n (length got)) _ _ (Sound limit base x)
+      (λ e.
+      let same : n ≡ length got = omega (arith, leb-true n (length got) e) in
+      sound_string k w got (info_for (Given w n)) allowed (subst (WidthFits w) same fits, are) (is ∙ ap (λ j. front ready os ++ (head (major_of k) (Given w j) ++ got)) same))
+      (λ e. record { ground = g; bytes = is; fed_is = at; partial_fits = (placed, fits, leb-false n (length got) e, allowed, are) })
 
   -- a container is opened
   sound_opening : (o : Opening) → place_of o ≡ p → HeadFits o → IsNoString os → added_depth o + open_depth os ≤ limit → x ≡ front ready os ++ opening o → Sound limit base x (holding fed ready os o [])
@@ -126,21 +119,20 @@ module _ (limit base : ℕ) (ready : Trees) (os : List OpenContainer) (fed p : �
   sound_head Tag (Given w n) c fits is = sound_opening (a_tag p w n) refl fits (free_of os Tag _ c.chunked (other_kind Tag refl refl) refl) (omega (arith, leb-false limit (open_depth os) c.room)) is
   sound_head Other (Given Direct n) c fits is =
       sound_leaf (Simple p n) (accepted os _ (free_of os Other _ c.chunked (other_kind Other refl refl) refl)) (simple_value n (inl fits)) refl placed (is ∙ ap (λ w. front ready os ++ head Other (Given w n)) (sym (least_direct n fits)))
-  sound_head Other (Given One n) c fits is = go (ltb n 32) refl
-    where
-      go : (b : Bool) → ltb n 32 ≡ b → Sound limit base x (cond b (Failed ready p BadSimple) (finished fed ready os (Simple p n)))
-      go true e = record {
+  sound_head Other (Given One n) c fits is =
+      cond_both (ltb n 32) _ _ (Sound limit base x)
+      (λ e. record {
         before = front ready os;
         after = head Other (Given One n);
         os = os;
         whole = is;
         live = record { ground = g; bytes = nothing_more limit base _ _ refl; fed_is = placed; partial_fits = tt };
         refused = low_reason (slot os) (leb limit (open_depth os)) n c e;
-      }
-      go false e =
-          let high : 32 ≤ n = ltb-false n 32 e in
-          sound_leaf (Simple p n) (accepted os _ (free_of os Other _ c.chunked (other_kind Other refl refl) refl)) (simple_value n (inr (high, fits))) refl placed
-          (is ∙ ap (λ w. front ready os ++ head Other (Given w n)) (sym (least_one n (omega arith) fits)))
+      })
+      (λ e.
+      let high : 32 ≤ n = ltb-false n 32 e in
+      sound_leaf (Simple p n) (accepted os _ (free_of os Other _ c.chunked (other_kind Other refl refl) refl)) (simple_value n (inr (high, fits))) refl placed
+      (is ∙ ap (λ w. front ready os ++ head Other (Given w n)) (sym (least_one n (omega arith) fits))))
   sound_head Other EndlessArgument c fits is = sound_ended limit base ready os fed p x g at c.broken is
   sound_head Other (Given w n) c fits is = let e : true ≡ false = c.float in cc
   sound_head m EndlessArgument c fits is = let e : true ≡ false = c.bounded in cc

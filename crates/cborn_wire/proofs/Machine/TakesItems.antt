@@ -1,9 +1,10 @@
 -- The machine takes what an item spells, and has that item.
-use Rattle.cborn_wire.proofs.Common.{refl, sym, ap, ◌∙◌, subst, ℕ, List, [], length, map, Bool, true, false, cond, leb, Some, None, inl, inr, arith, append_assoc, append-nil, length-append, add-zero, lt-leb, le-leb, le-ltb, IsTrue, Width, Direct, One, Size, Fixed, Endless, Chunk, Major, Unsigned, Negative, ByteString, TextString, Array, Map, Tag, Other, Given, EndlessArgument, head, WidthFits, least, is_simple_value, argument, SizeFits, Opening, an_array, a_map, a_tag, in_chunks, built, string_tree, last_key, chunks_of, Goes, Ends, Tree, Uint, Nint, Bytes, Text, ByteChunks, TextChunks, Items, Pairs, Tagged, Simple, Trees, no_item, more, Entries, no_entry, entry, trees, count, count_entries, depth, depth_all, ending, string, spelled, spelled_all, Fits, FitsAll, string_of, WireReason, BadSimple, UnexpectedBreak, placed_from, StringKind, OfBytes, OfText, major_of, Slot, item, value, chunk, OpenContainer, opened, opening, slot, slot_in, slot_in_map, added_depth, open_depth, HeadFits, IsNoString, needs_item, ArgumentFits, Info, Now, Next, EndlessInformation, is_reserved, is_endless_head, is_always_bounded, is_other, is_container, is_bad_chunk, head_reason, info_for, append_trees, snoc, content_of, nothing, gathering, Live, Failed, is_full, finished, holding, gather, after_head, run}
+use Rattle.cborn_wire.proofs.Common.{refl, sym, ap, ◌∙◌, subst, ℕ, List, [], length, map, Bool, false, cond, leb, Some, None, inl, inr, arith, append_assoc, append-nil, length-append, add-zero, cond_both, lt-leb, le-leb, le-ltb, IsTrue, Width, Direct, One, Size, Fixed, Endless, Chunk, Major, Unsigned, Negative, ByteString, TextString, Array, Map, Tag, Other, Given, EndlessArgument, head, WidthFits, least, is_simple_value, argument, SizeFits, Opening, an_array, a_map, a_tag, in_chunks, built, string_tree, last_key, paired, chunks_of, Goes, Ends, Tree, Uint, Nint, Bytes, Text, ByteChunks, TextChunks, Items, Pairs, Tagged, Simple, Trees, no_item, more, Entries, no_entry, entry, trees, count, count_entries, depth, depth_all, ending, string, spelled, spelled_all, Fits, FitsAll, string_of, WireReason, BadSimple, UnexpectedBreak, placed_from, StringKind, OfBytes, OfText, major_of, Slot, chunk, OpenContainer, opened, opening, slot, slot_in, slot_in_map, added_depth, open_depth, HeadFits, IsNoString, needs_item, ArgumentFits, Info, Now, Next, EndlessInformation, is_reserved, is_endless_head, is_always_bounded, is_other, is_container, is_bad_chunk, head_reason, info_for, append_trees, snoc, content_of, nothing, gathering, Live, Failed, is_full, finished, holding, gather, after_head, run}
 use Rattle.std.specs.Prelude.{Option, ◌≡◌, ◌+◌, ◌<◌, ◌≤◌, ◌∷◌, ◌++◌, ◌&&◌}
 use Rattle.cborn_model.proofs.HandedOver.{strings, strings_are}
+use Rattle.cborn_model.proofs.Listed.Trees.{count_entries-entries}
 use Rattle.cborn_model.proofs.Numbers.Simples.{simple_cases, simple_fits, least_direct, least_one}
-use Rattle.cborn_wire.proofs.Machine.Containers.{nodes_of, nodes_entries, nodes_end, nodes_count, nodes_fit, nodes_deep, strings_fitting, strings_flat, not_yet, closing, endless_closing, full_closing, built_spelled, list_from, opening_from, ends_from, built_from}
+use Rattle.cborn_wire.proofs.Machine.Containers.{nodes_of, nodes_entries, nodes_end, nodes_fit, nodes_deep, strings_fitting, strings_flat, not_yet, closing, endless_closing, full_closing, built_spelled, list_from, opening_from, ends_from, built_from}
 use Rattle.cborn_wire.proofs.Machine.TakesHeads.{gathers, takes_head}
 use Rattle.cborn_wire.proofs.Spelled.TreeLists.{tree_list, trees-tree_list, tree_count}
 
@@ -48,10 +49,8 @@ clear_chunk OfBytes full w n = rw (given_reserved w n, given_endless w n) refl
 clear_chunk OfText full w n = rw (given_reserved w n, given_endless w n) refl
 
 clear_break : (s : Slot) (full : Bool) → needs_item s ≡ false → head_reason s full Other EndlessInformation [] ≡ None
-clear_break item full e = cc
-clear_break value full e = cc
 clear_break (chunk OfBytes) full e = refl
-clear_break s full e = refl
+clear_break s full e = cc
 
 -- A definite string, also as a chunk.
 
@@ -102,15 +101,12 @@ module _ (limit fed : ℕ) (ready : Trees) (os : List OpenContainer) where
       go : (o : Opening) → HeadFits o → added_depth o + open_depth os ≤ limit → run limit (Live fed ready os nothing) (opening o ++ x) ≡ run limit (holding (fed + length (opening o)) ready os (opening_from fed o) []) x
       go (an_array p (Fixed w) (Some n)) fits deep = takes_head limit fed ready os Array (Given w n) x fits (clear_given (slot os) full Array w n (bad Array _) refl (lt-leb limit (open_depth os) (omega (arith, deep))))
       go (an_array p Endless None) fits deep = takes_head limit fed ready os Array EndlessArgument x tt (clear (slot os) full Array EndlessInformation (bad Array _) refl refl refl (lt-leb limit (open_depth os) (omega (arith, deep))))
-      go (an_array p (Fixed w) None) fits deep = absurd fits
-      go (an_array p Endless (Some n)) fits deep = absurd fits
       go (a_map p (Fixed w) (Some n)) fits deep = takes_head limit fed ready os Map (Given w n) x fits (clear_given (slot os) full Map w n (bad Map _) refl (lt-leb limit (open_depth os) (omega (arith, deep))))
       go (a_map p Endless None) fits deep = takes_head limit fed ready os Map EndlessArgument x tt (clear (slot os) full Map EndlessInformation (bad Map _) refl refl refl (lt-leb limit (open_depth os) (omega (arith, deep))))
-      go (a_map p (Fixed w) None) fits deep = absurd fits
-      go (a_map p Endless (Some n)) fits deep = absurd fits
       go (a_tag p w n) fits deep = takes_head limit fed ready os Tag (Given w n) x fits (clear_given (slot os) full Tag w n (bad Tag _) refl (lt-leb limit (open_depth os) (omega (arith, deep))))
       go (in_chunks p OfBytes) fits deep = takes_head limit fed ready os ByteString EndlessArgument x tt (clear (slot os) full ByteString EndlessInformation (bad ByteString _) refl refl refl refl)
       go (in_chunks p OfText) fits deep = takes_head limit fed ready os TextString EndlessArgument x tt (clear (slot os) full TextString EndlessInformation (bad TextString _) refl refl refl refl)
+      go o fits deep = absurd fits
 
   -- a break
   pub takes_break : (o : Opening) (ts : List Tree) (x : List ℕ) → needs_item (slot_in (opened o ts)) ≡ false
@@ -122,11 +118,10 @@ module _ (limit fed : ℕ) (ready : Trees) (os : List OpenContainer) where
   -- the end of one that may end
   takes_closing : (o : Opening) (ts : List Tree) (x : List ℕ) → Ends o ts
       → run limit (holding fed ready os o ts) (closing o ++ x) ≡ run limit (finished (fed + length (closing o)) ready os (built o ts)) x
-  takes_closing o ts x h = go (is_full o (length ts)) refl
-    where
-      go : (b : Bool) → is_full o (length ts) ≡ b → run limit (cond b (finished fed ready os (built o ts)) (Live fed ready (opened o ts ∷ os) nothing)) (closing o ++ x) ≡ run limit (finished (fed + length (closing o)) ready os (built o ts)) x
-      go true e = rw (full_closing o (length ts) e, add-zero) refl
-      go false e = let c = endless_closing o ts h e in rw c.0 (takes_break o ts x c.1)
+  takes_closing o ts x h =
+      cond_both (is_full o (length ts)) _ _ (λ s. run limit s (closing o ++ x) ≡ run limit (finished (fed + length (closing o)) ready os (built o ts)) x)
+      (λ e. rw (full_closing o (length ts) e, add-zero) refl)
+      (λ e. let c = endless_closing o ts h e in rw c.0 (takes_break o ts x c.1))
 
 -- The machine takes t inside such a container.
 abbrev pub Taken : ℕ → Opening → Tree → Type 0
@@ -224,7 +219,7 @@ mutual
   takes (Pairs q (Fixed w) es) limit fed ready os x fits free deep =
       let o = a_map fed (Fixed w) (Some (count_entries es)) in
       subst (λ fs. IsTaken limit fed ready os x (Pairs q (Fixed w) fs)) (nodes_entries es)
-      (takes_container limit fed ready os o (nodes_of es) x refl (inside_pairs es limit o (λ us os. tt)) fits.0 (nodes_fit es fits.1) (nodes_count es, nodes_end es) free (omega (arith, nodes_deep es, deep)))
+      (takes_container limit fed ready os o (nodes_of es) x refl (inside_pairs es limit o (λ us os. tt)) fits.0 (nodes_fit es fits.1) (sym (count_entries-entries (paired (nodes_of es))) ∙ ap count_entries (nodes_entries es), nodes_end es) free (omega (arith, nodes_deep es, deep)))
   takes (Pairs q Endless es) limit fed ready os x fits free deep =
       let o = a_map fed Endless None in
       subst (λ fs. IsTaken limit fed ready os x (Pairs q Endless fs)) (nodes_entries es)

@@ -11,9 +11,8 @@ open_from p [] = []
 open_from p (opened o ts ∷ os) = opened (opening_from (p + length (beginnings os)) o) (list_from (p + length (beginnings os) + length (opening o)) ts) ∷ open_from p os
 
 map_slot-from : (c : Option ℕ) (ts : List Tree) (p : ℕ) → slot_in_map c (last_key (list_from p ts)) ≡ slot_in_map c (last_key ts)
-map_slot-from c [] p = refl
-map_slot-from c (k ∷ []) p = refl
 map_slot-from c (k ∷ v ∷ ts) p = map_slot-from c ts _
+map_slot-from c ts p = refl
 
 pub slot-from : (os : List OpenContainer) (p : ℕ) → slot (open_from p os) ≡ slot os
 slot-from (opened (an_array q s None) ts ∷ os) p = refl
@@ -29,9 +28,8 @@ open_depth-from [] p = refl
 open_depth-from (opened o ts ∷ os) p = omega (arith, added_depth-from o (p + length (beginnings os)), open_depth-from os p)
 
 no_string-from : (os : List OpenContainer) (p : ℕ) → IsNoString os → IsNoString (open_from p os)
-no_string-from [] p h = tt
 no_string-from (opened (in_chunks q k) ts ∷ os) p h = absurd h
-no_string-from (opened o ts ∷ os) p h = tt
+no_string-from os p h = tt
 
 full-from : (o : Opening) (p n : ℕ) → is_full (opening_from p o) n ≡ is_full o n
 full-from (an_array q s c) p n = refl

@@ -1,6 +1,6 @@
 -- What is spelled is bytes.
 use Rattle.std.specs.Prelude.{◌∷◌, ◌++◌}
-use Rattle.cborn_wire.proofs.Common.{subst, ℕ, List, [], length, arith, flat_map, AreBytes, Width, Direct, One, Two, Four, Eight, Size, Fixed, Endless, Chunk, Major, Unsigned, Negative, ByteString, TextString, Array, Map, Tag, Other, WidthFits, following, least, Argument, Given, EndlessArgument, head, argument, SizeFits, Tree, Uint, Nint, Bytes, Text, ByteChunks, TextChunks, Items, Pairs, Tagged, Simple, Trees, no_item, more, Entries, no_entry, entry, count, count_entries, ending, string, chunk_bytes, chunks, spelled, spelled_all, spelled_entries, ChunksFit, Fits, FitsAll, FitsEntries, Wellformed, ArgumentFits}
+use Rattle.cborn_wire.proofs.Common.{subst, ℕ, List, [], length, arith, flat_map, AreBytes, Width, Direct, One, Two, Four, Eight, Size, Fixed, Endless, Chunk, Major, Unsigned, Negative, ByteString, TextString, Array, Map, Tag, Other, WidthFits, following, least, Argument, Given, EndlessArgument, head, argument, SizeFits, Tree, Uint, Nint, Bytes, Text, ByteChunks, TextChunks, Items, Pairs, Tagged, Simple, Trees, no_item, more, Entries, no_entry, entry, count, count_entries, ending, string, chunk_bytes, spelled, spelled_all, spelled_entries, ChunksFit, Fits, FitsAll, FitsEntries, Wellformed, ArgumentFits}
 use Rattle.cborn_model.proofs.Numbers.OneHead.{low_bits_below}
 use Rattle.cborn_model.proofs.Numbers.Simples.{simple_fits}
 use Rattle.cborn_model.proofs.Bytes.{bytes-append}
@@ -29,10 +29,6 @@ ending_bytes : (s : Size) → AreBytes (ending s)
 ending_bytes (Fixed w) = tt
 ending_bytes Endless = head_bytes Other EndlessArgument tt
 
-chunked_bytes : (m : Major) (cs : List Chunk) → ChunksFit cs → AreBytes (chunks m cs ++ ending Endless)
-chunked_bytes m cs h =
-    bytes-append (chunks m cs) (ending Endless) (bytes-append (head m EndlessArgument) (flat_map (chunk_bytes m) cs) (head_bytes m EndlessArgument tt) (chunks_bytes m cs h)) (ending_bytes Endless)
-
 -- what a head and an ending enclose
 inside_bytes : (m : Major) (s : Size) (n : ℕ) (x : List ℕ) → SizeFits s n → AreBytes x → AreBytes (head m (argument s n) ++ x ++ ending s)
 inside_bytes m s n x h k =
@@ -44,8 +40,8 @@ mutual
   spelled_bytes (Nint p w n) h = head_bytes Negative (Given w n) h
   spelled_bytes (Bytes p w b) h = string_bytes ByteString w b h.0 h.1
   spelled_bytes (Text p w b) h = string_bytes TextString w b h.0 h.1
-  spelled_bytes (ByteChunks p cs) h = chunked_bytes ByteString cs h
-  spelled_bytes (TextChunks p cs) h = chunked_bytes TextString cs h
+  spelled_bytes (ByteChunks p cs) h = inside_bytes ByteString Endless 0 (flat_map (chunk_bytes ByteString) cs) tt (chunks_bytes ByteString cs h)
+  spelled_bytes (TextChunks p cs) h = inside_bytes TextString Endless 0 (flat_map (chunk_bytes TextString) cs) tt (chunks_bytes TextString cs h)
   spelled_bytes (Items p s ts) h = inside_bytes Array s (count ts) (spelled_all ts) h.0 (spelled_all_bytes ts h.1)
   spelled_bytes (Pairs p s es) h = inside_bytes Map s (count_entries es) (spelled_entries es) h.0 (spelled_entries_bytes es h.1)
   spelled_bytes (Tagged p w n t) h = bytes-append (head Tag (Given w n)) (spelled t) (head_bytes Tag (Given w n) h.0) (spelled_bytes t h.1)

@@ -1,14 +1,12 @@
 -- The laws of faults.
 use Rattle.std.specs.Prelude.{◌≡◌, ◌+◌, ◌/◌, ◌%◌, ◌<◌, ◌≤◌, ◌∷◌, ◌++◌, ◌⊎◌}
-use Rattle.cborn_wire.proofs.Common.{refl, sym, ap, ◌∙◌, subst, ℕ, List, [], length, take, Bool, true, false, cond, eqb, inl, inr, arith, append_assoc, length-append, cases_order, AreBytes, Trees, Wellformed, WireReason, Truncated, OpenContainer, IsWellformed, GoesOn, IsReason, Fault, SlotRefused, Unfinished, nothing, gathering, State, Live, Failed, run, start}
+use Rattle.cborn_wire.proofs.Common.{refl, sym, ap, ◌∙◌, subst, ℕ, List, [], length, take, Bool, true, false, cond, eqb, inl, inr, arith, append_assoc, append-nil, length-append, cases_order, AreBytes, Trees, Wellformed, WireReason, Truncated, IsWellformed, GoesOn, IsReason, Fault, SlotRefused, nothing, gathering, State, Live, Failed, run, start}
 use Rattle.cborn_model.proofs.Bytes.{bytes-left}
 use Rattle.cborn_wire.specs.Faults.{Refused}
 use Rattle.cborn_wire.proofs.Spelled.AllBytes.{well_bytes}
-use Rattle.cborn_wire.proofs.Spelled.ByteLists.{same_place}
-use Rattle.cborn_wire.proofs.Spelled.OneReading.{reads}
+use Rattle.cborn_wire.proofs.Spelled.GoingOn.{same_place, goes_front, refused_ends, none_later, refused_said}
 use Rattle.cborn_wire.proofs.Spelled.Reasons.{not_truncated}
-use Rattle.cborn_wire.proofs.Spelled.SlotLaws.{fails_at_slot, ends_whole, goes_on}
-use Rattle.cborn_wire.proofs.Spelled.GoingOn.{goes_front, well_goes, refused_ends, none_later, refused_said}
+use Rattle.cborn_wire.proofs.Spelled.SlotLaws.{fails_at_slot, ends_whole, goes_on, cut_short}
 
 -- what fails is refused
 pub fails_refused : (limit base : ℕ) (x : List ℕ) → AreBytes x → (ready : Trees) (q : ℕ) (r : WireReason) → run limit (start base) x ≡ Failed ready q r → (p : ℕ) × (q ≡ base + p) × Refused limit x p r
@@ -19,7 +17,7 @@ fails_refused limit base x bytes ready q r e =
 module _ (limit : ℕ) where
   -- never both
   pub not_both : (x : List ℕ) (p : ℕ) (r : WireReason) → IsWellformed limit x → Fault limit x p r → ⊥
-  not_both x p r w (inl h) = refused_ends limit x p r h (well_goes limit x w)
+  not_both x p r w (inl h) = refused_ends limit x p r h ([], subst (IsWellformed limit) (sym (append-nil x)) w)
   not_both x p r w (inr h) = h.1.1 w
 
   one_reason : (f : List ℕ) (b : ℕ) (r s : WireReason) → IsReason limit f b r → IsReason limit f b s → r ≡ s
@@ -47,28 +45,15 @@ module _ (limit : ℕ) where
   one_fault x p q r s (inr g) (inl h) = absurd (refused_ends limit x q s h g.1.2)
   one_fault x p q r s (inr g) (inr h) = (g.1.0 ∙ sym h.1.0, g.0 ∙ sym h.0)
 
-  not_whole : (x : List ℕ) (fed : ℕ) (ready : Trees) (os : List OpenContainer) (partial : Unfinished) → run limit (start 0) x ≡ Live fed ready os partial
-      → ((n : ℕ) (us : Trees) → Live n us [] nothing ≡ Live fed ready os partial → ⊥) → IsWellformed limit x → ⊥
-  not_whole x fed ready os partial e differs w = differs _ _ (sym (reads limit 0 w.0 x w.1) ∙ e)
-
   -- one of them
   pub well_or_fault : (x : List ℕ) → AreBytes x → IsWellformed limit x ⊎ ((p : ℕ) × (r : WireReason) × Fault limit x p r)
   well_or_fault x bytes = go (run limit (start 0) x) refl
     where
       go : (s : State) → run limit (start 0) x ≡ s → IsWellformed limit x ⊎ ((p : ℕ) × (r : WireReason) × Fault limit x p r)
       go (Live fed ready [] nothing) e = inl (ends_whole limit 0 x bytes fed ready e)
-      go (Live fed ready (o ∷ os) nothing) e = inr (length x, Truncated, inr (refl, (refl, not_whole x fed ready (o ∷ os) nothing e (λ n us d. cc), goes_on limit 0 x bytes fed ready (o ∷ os) nothing e)))
-      go (Live fed ready os (gathering p g n got)) e = inr (length x, Truncated, inr (refl, (refl, not_whole x fed ready os (gathering p g n got) e (λ n us d. cc), goes_on limit 0 x bytes fed ready os (gathering p g n got) e)))
+      go (Live fed ready (o ∷ os) nothing) e = inr (length x, Truncated, cut_short limit 0 x bytes fed ready (o ∷ os) nothing e (λ d _. cc d))
+      go (Live fed ready os (gathering p g n got)) e = inr (length x, Truncated, cut_short limit 0 x bytes fed ready os (gathering p g n got) e (λ _ d. cc d))
       go (Failed ready p r) e = let (q, at, h) = fails_refused limit 0 x bytes ready p r e in inr (q, r, inl h)
-
-  -- a front of what is well-formed is well-formed, or is cut at its end
-  pub cut_or_whole : (x y : List ℕ) → IsWellformed limit (x ++ y) → IsWellformed limit x ⊎ Fault limit x (length x) Truncated
-  cut_or_whole x y w = choose (well_or_fault x (bytes-left x y (well_bytes limit w.0 (x ++ y) w.1)))
-    where
-      choose : IsWellformed limit x ⊎ ((p : ℕ) × (r : WireReason) × Fault limit x p r) → IsWellformed limit x ⊎ Fault limit x (length x) Truncated
-      choose (inl h) = inl h
-      choose (inr (p, r, inl h)) = absurd (refused_ends limit x p r h (y, w))
-      choose (inr (p, r, inr h)) = inr (inr (refl, (refl, h.1.1, h.1.2)))
 
   -- What is refused is refused by the table.
   pub said_refused : (x : List ℕ) (p : ℕ) (r : WireReason) → AreBytes x → Refused limit x p r → SlotRefused limit x p r
@@ -113,11 +98,13 @@ pub fault_at_end : (limit : ℕ) (x : List ℕ) (p : ℕ) → Fault limit x p Tr
 fault_at_end limit x p (inl (f, b, y, is, at, begins, bad, why)) = absurd (refused_is_no_end limit f b why)
 fault_at_end limit x p (inr h) = h.1.0
 
+-- a front of what is well-formed is well-formed, or is cut at its end
 pub fronts : (limit : ℕ) (x y : List ℕ) → IsWellformed limit (x ++ y)
     → IsWellformed limit x ⊎ (Fault limit x (length x) Truncated × ((p : ℕ) (r : WireReason) → Fault limit x p r → (p ≡ length x) × (r ≡ Truncated)))
-fronts limit x y w = choose (cut_or_whole limit x y w)
+fronts limit x y w = choose (well_or_fault limit x (bytes-left x y (well_bytes limit w.0 (x ++ y) w.1)))
   where
-    choose : IsWellformed limit x ⊎ Fault limit x (length x) Truncated
+    choose : IsWellformed limit x ⊎ ((p : ℕ) × (r : WireReason) × Fault limit x p r)
         → IsWellformed limit x ⊎ (Fault limit x (length x) Truncated × ((p : ℕ) (r : WireReason) → Fault limit x p r → (p ≡ length x) × (r ≡ Truncated)))
     choose (inl h) = inl h
-    choose (inr h) = inr (h, λ p r k. one_fault limit x p (length x) r Truncated k h)
+    choose (inr (p, r, inl h)) = absurd (refused_ends limit x p r h (y, w))
+    choose (inr (p, r, inr h)) = let cut : Fault limit x (length x) Truncated = inr (refl, (refl, h.1.1, h.1.2)) in inr (cut, λ q s k. one_fault limit x q (length x) s Truncated k cut)

@@ -1,6 +1,6 @@
 -- Which bytes go on: the state of the machine where a head begins, and which heads are allowed there.
-use Rattle.std.specs.Prelude.{◌≡◌, ◌+◌, ◌/◌, ◌%◌, ◌<◌, ◌∷◌, ◌++◌}
-use Rattle.cborn_wire.proofs.Common.{refl, sym, ap, ◌∙◌, subst, ℕ, suc, List, [], length, take, drop, Bool, true, false, cond, leb, eqb, Option, Some, None, inl, inr, arith, append_assoc, append-nil, eqb-true, take-append-drop, AreBytes, Trees, One, Unsigned, Other, WireReason, StringKind, OfBytes, OfText, Slot, item, value, element_or_end, key_or_end, chunk, OpenContainer, slot, open_depth, Open, IsWellformed, GoesOn, BeginsHead, judged, IsReason, reason_at, SlotRefused, Now, Next, is_bad_chunk, head_reason, argument_of, nothing, gathering, State, Live, Failed, step, start, run, unless}
+use Rattle.std.specs.Prelude.{◌≡◌, ◌+◌, ◌/◌, ◌%◌, ◌<◌, ◌∷◌, ◌++◌, ◌≤◌}
+use Rattle.cborn_wire.proofs.Common.{refl, sym, ap, ◌∙◌, subst, ℕ, suc, List, [], length, take, drop, Bool, true, false, cond, leb, eqb, Option, Some, None, inl, inr, arith, append_assoc, append-nil, eqb-true, take-append-drop, AreBytes, Trees, One, Unsigned, Other, WireReason, StringKind, OfBytes, OfText, Slot, item, value, element_or_end, key_or_end, chunk, OpenContainer, slot, open_depth, Open, IsWellformed, GoesOn, BeginsHead, judged, IsReason, reason_at, SlotRefused, Now, Next, is_bad_chunk, head_reason, argument_of, nothing, gathering, State, Live, Failed, step, start, run, unless, length-append, append_cancel_left, nil_from_length}
 use Rattle.cborn_model.proofs.Bytes.{bytes-append, bytes-left, bytes-right}
 use Rattle.cborn_wire.specs.Faults.{Refused}
 use Rattle.cborn_wire.proofs.Machine.Running.{run-append}
@@ -8,20 +8,40 @@ use Rattle.cborn_wire.proofs.Machine.SomeEnd.{Closable, takes_part, takes_intege
 use Rattle.cborn_wire.proofs.Machine.SoundItems.{SoundLive, Sound}
 use Rattle.cborn_wire.proofs.Machine.SoundRuns.{sound}
 use Rattle.cborn_wire.proofs.Spelled.AllBytes.{well_bytes}
-use Rattle.cborn_wire.proofs.Spelled.ByteLists.{later}
 use Rattle.cborn_wire.proofs.Spelled.Reasons.{table_reason, judged_reason}
 use Rattle.cborn_wire.proofs.Spelled.SlotLaws.{At, opened, closable_goes, goes_on, fails_ends, slot_ends}
 
-module _ (limit : ℕ) where
-  -- what goes on is bytes, and each front of it goes on
-  pub goes_bytes : (f : List ℕ) → GoesOn limit f → AreBytes f
-  goes_bytes f (y, (ts, w)) = bytes-left f y (well_bytes limit ts (f ++ y) w)
+-- one list is the front of another that begins with the same
+pub split : (g h z r : List ℕ) → g ++ z ≡ h ++ r → length g ≤ length h → (m : List ℕ) × (h ≡ g ++ m)
+split [] h z r e l = (h, refl)
+split (b ∷ g) [] z r e l = absurd (omega (arith, l))
+split (b ∷ g) (c ∷ h) z r e l =
+    let rest : g ++ z ≡ h ++ r = cc in
+    let first : c ≡ b = cc in
+    let (m, is) = split g h z r rest (omega (arith, l)) in
+    (m, ap (λ k. k ∷ h) first ∙ ap (λ k. b ∷ k) is)
 
+-- two places in one list, the first before the second
+pub later : (x f g y z : List ℕ) (b c : ℕ) → x ≡ f ++ b ∷ y → x ≡ g ++ c ∷ z → length f < length g → (w : List ℕ) × (g ≡ f ++ b ∷ w) × (y ≡ w ++ c ∷ z)
+later x f g y z b c e h l =
+    let (w, is) = split (f ++ b ∷ []) g y (c ∷ z) (append_assoc f (b ∷ []) y ∙ sym e ∙ h) (omega (arith, length-append f (b ∷ []))) in
+    let front : g ≡ f ++ b ∷ w = is ∙ append_assoc f (b ∷ []) w in
+    let both : b ∷ y ≡ b ∷ (w ++ c ∷ z) = append_cancel_left f (b ∷ y) (b ∷ (w ++ c ∷ z)) (sym e ∙ h ∙ ap (λ l. l ++ c ∷ z) front ∙ append_assoc f (b ∷ w) (c ∷ z)) in
+    (w, front, cc both)
+
+-- one place
+pub same_place : (x f g y z : List ℕ) (b c : ℕ) → x ≡ f ++ b ∷ y → x ≡ g ++ c ∷ z → length f ≡ length g → (f ≡ g) × (b ≡ c)
+same_place x f g y z b c e h l =
+    let (w, is) = split f g (b ∷ y) (c ∷ z) (sym e ∙ h) (omega (arith, l)) in
+    let none : w ≡ [] = nil_from_length w (omega (arith, l, ap length is, length-append f w)) in
+    let same : f ≡ g = sym (is ∙ ap (λ w. f ++ w) none ∙ append-nil f) in
+    let both : b ∷ y ≡ c ∷ z = append_cancel_left f (b ∷ y) (c ∷ z) (sym e ∙ h ∙ ap (λ l. l ++ c ∷ z) (sym same)) in
+    (same, cc both)
+
+module _ (limit : ℕ) where
+  -- each front of what goes on goes on
   pub goes_front : (f g : List ℕ) → GoesOn limit (f ++ g) → GoesOn limit f
   goes_front f g (y, w) = (g ++ y, subst (IsWellformed limit) (append_assoc f g y) w)
-
-  pub well_goes : (x : List ℕ) → IsWellformed limit x → GoesOn limit x
-  well_goes x w = ([], subst (IsWellformed limit) (sym (append-nil x)) w)
 
   -- a byte after a front that the machine may take goes on
   byte_goes : (f : List ℕ) (c : ℕ) (s : State) → AreBytes f → c < 256 → run limit (start 0) f ≡ s → Closable limit (step limit s c) → GoesOn limit (f ++ c ∷ [])
@@ -40,7 +60,7 @@ module _ (limit : ℕ) where
   begins_between f (goes, free) = go (run limit (start 0) f) refl
     where
       bytes : AreBytes f
-      bytes = goes_bytes f goes
+      bytes = bytes-left f goes.0 (well_bytes limit goes.1.0 (f ++ goes.0) goes.1.1)
 
       go : (s : State) → run limit (start 0) f ≡ s → Between f
       go (Live fed ready os nothing) e = record { fed = fed; ready = ready; os = os; is = e }

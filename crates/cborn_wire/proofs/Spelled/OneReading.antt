@@ -1,15 +1,42 @@
--- A list of bytes has one reading at most, and no item begins another.
+-- A list of bytes has one reading at most, and no item begins another. Nodes that are at their offsets stay as they are.
 use Rattle.std.specs.Prelude.{◌≡◌, ◌+◌, ◌≤◌, ◌++◌, ◌⊎◌, ◌∷◌}
-use Rattle.cborn_wire.proofs.Common.{refl, sym, ap, ◌∙◌, subst, ℕ, List, [], length, max, arith, append_assoc, append-nil, length-append, add-zero, append_cancel_left, AreBytes, Tree, Trees, trees, no_item, more, depth, depth_all, spelled, spelled_all, Fits, FitsAll, Wellformed, Placed, PlacedAll, placed_from, all_from, append_trees, snoc, nothing, State, Live, Failed, start, ready_in, front, run, inl, inr}
+use Rattle.cborn_wire.proofs.Common.{refl, sym, ap, ◌∙◌, subst, ℕ, List, [], length, max, arith, append_assoc, append-nil, length-append, add-zero, append_cancel_left, AreBytes, Tree, Trees, trees, no_item, more, depth, depth_all, spelled, spelled_all, Fits, FitsAll, Wellformed, Placed, PlacedAll, placed_from, all_from, append_trees, snoc, nothing, State, Live, Failed, start, ready_in, front, run, inl, inr, suc, Chunk, Major, ByteString, TextString, Array, Map, Tag, Given, head, argument, Uint, Nint, Bytes, Text, ByteChunks, TextChunks, Items, Pairs, Tagged, Simple, Entries, no_entry, entry, count, count_entries, chunk_bytes, ChunksPlaced, PlacedEntries, chunks_from, entries_from}
 use Rattle.cborn_model.proofs.Numbers.OneHead.{append_same}
 use Rattle.cborn_wire.proofs.Machine.Running.{run-append}
 use Rattle.cborn_wire.proofs.Machine.TakesItems.{takes, append_trees-nil, append_trees-snoc}
-use Rattle.cborn_wire.proofs.Spelled.AsPlaced.{same-from, same_all-from}
 use Rattle.cborn_wire.proofs.Machine.SoundItems.{SoundLive, Sound}
 use Rattle.cborn_wire.proofs.Machine.SoundRuns.{sound}
 use Rattle.cborn_wire.proofs.Spelled.AllBytes.{well_bytes}
 use Rattle.cborn_wire.proofs.Spelled.TreeLists.{tree_list, trees-tree_list}
 use Rattle.cborn_wire.proofs.Machine.WholeFront.{with_front, front_run}
+
+same_chunks : (m : Major) (cs : List Chunk) (p : ℕ) → ChunksPlaced m p cs → chunks_from m p cs ≡ cs
+same_chunks m [] p h = refl
+same_chunks m (c ∷ cs) p h = ap (λ q. record c { place = q } ∷ chunks_from m (p + length (chunk_bytes m c)) cs) (sym h.0) ∙ ap (λ l. c ∷ l) (same_chunks m cs _ h.1)
+
+mutual
+  pub same-from : (t : Tree) (p : ℕ) → Placed p t → placed_from p t ≡ t
+  same-from (Uint q w n) p h = ap (λ k. Uint k w n) (sym h)
+  same-from (Nint q w n) p h = ap (λ k. Nint k w n) (sym h)
+  same-from (Bytes q w bytes) p h = ap (λ k. Bytes k w bytes) (sym h)
+  same-from (Text q w bytes) p h = ap (λ k. Text k w bytes) (sym h)
+  same-from (ByteChunks q cs) p h = ap (λ k. ByteChunks k (chunks_from ByteString (suc p) cs)) (sym h.0) ∙ ap (ByteChunks q) (same_chunks ByteString cs _ h.1)
+  same-from (TextChunks q cs) p h = ap (λ k. TextChunks k (chunks_from TextString (suc p) cs)) (sym h.0) ∙ ap (TextChunks q) (same_chunks TextString cs _ h.1)
+  same-from (Items q s ts) p h = ap (λ k. Items k s (all_from (p + length (head Array (argument s (count ts)))) ts)) (sym h.0) ∙ ap (Items q s) (same_all-from ts _ h.1)
+  same-from (Pairs q s es) p h = ap (λ k. Pairs k s (entries_from (p + length (head Map (argument s (count_entries es)))) es)) (sym h.0) ∙ ap (Pairs q s) (same_entries-from es _ h.1)
+  same-from (Tagged q w n t) p h = ap (λ k. Tagged k w n (placed_from (p + length (head Tag (Given w n))) t)) (sym h.0) ∙ ap (Tagged q w n) (same-from t _ h.1)
+  same-from (Simple q n) p h = ap (λ k. Simple k n) (sym h)
+
+  pub same_all-from : (ts : Trees) (p : ℕ) → PlacedAll p ts → all_from p ts ≡ ts
+  same_all-from no_item p h = refl
+  same_all-from (more t ts) p h = ap (λ u. more u (all_from (p + length (spelled t)) ts)) (same-from t p h.0) ∙ ap (more t) (same_all-from ts _ h.1)
+
+  same_entries-from : (es : Entries) (p : ℕ) → PlacedEntries p es → entries_from p es ≡ es
+  same_entries-from no_entry p h = refl
+  same_entries-from (entry k v es) p h =
+      ap (λ u. entry u (placed_from (p + length (spelled k)) v) (entries_from (p + length (spelled k) + length (spelled v)) es)) (same-from k p h.0)
+      ∙ ap (λ u. entry k u (entries_from (p + length (spelled k) + length (spelled v)) es)) (same-from v _ h.1)
+      ∙ ap (entry k v) (same_entries-from es _ h.2)
 
 pub takes_sequence : (ts : Trees) (limit fed : ℕ) (ready : Trees) (x : List ℕ) → FitsAll ts → depth_all ts ≤ limit
     → run limit (Live fed ready [] nothing) (spelled_all ts ++ x) ≡ run limit (Live (fed + length (spelled_all ts)) (append_trees ready (all_from fed ts)) [] nothing) x
@@ -67,13 +94,8 @@ pub one_spelling : (ts us : Trees) → FitsAll ts → FitsAll us → spelled_all
 one_spelling ts us h k e = one_reading (max (depth_all ts) (depth_all us)) ts us (spelled_all us)
     (record { spells = e; fit = h; shallow = omega arith }) (record { spells = refl; fit = k; shallow = omega arith })
 
-head_of : Tree → Trees → Tree
-head_of d no_item = d
-head_of d (more t ts) = t
-
 -- no item's bytes are a proper front of another's
 no_front : (t u : Tree) (y : List ℕ) → Fits t → Fits u → spelled t ++ y ≡ spelled u → (y ≡ []) × (placed_from 0 t ≡ placed_from 0 u)
-unfolding head_of
 no_front t u y h k e =
     let limit = max (depth t) (depth u) in
     let t' = placed_from 0 t in
@@ -88,17 +110,14 @@ no_front t u y h k e =
     (append_cancel_left (spelled t) y [] (e ∙ sym (placed_node 0 u k).0 ∙ sym (ap spelled same) ∙ (placed_node 0 t h).0 ∙ sym (append-nil (spelled t))), same)
   where
     first_is : (t u : Tree) (s : State) {fed : ℕ} → with_front (more t no_item) s ≡ Live fed (more u no_item) [] nothing → t ≡ u
-    first_is t u (Live fed ready os partial) e = ap (λ s. head_of t (ready_in s)) e
-    first_is t u (Failed ready p r) e = ap (λ s. head_of t (ready_in s)) e
+    first_is t u (Live fed ready os partial) e = cc
+    first_is t u (Failed ready p r) e = cc
 
 pub no_item_begins : (t u : Tree) (y : List ℕ) → Fits t → Fits u → spelled t ++ y ≡ spelled u → (y ≡ []) × ((p : ℕ) → placed_from p t ≡ placed_from p u)
 no_item_begins t u y h k e =
     let nil : y ≡ [] = (no_front t u y h k e).0 in
     let same : spelled t ++ [] ≡ spelled u ++ [] = ap (λ l. spelled t ++ l) (sym nil) ∙ e ∙ sym (append-nil (spelled u)) in
-    (nil, λ p. first (one_spelling (more t no_item) (more u no_item) (h, tt) (k, tt) same p))
-  where
-    first : {t u : Tree} → more t no_item ≡ more u no_item → t ≡ u
-    first e = cc
+    (nil, λ p. cc (one_spelling (more t no_item) (more u no_item) (h, tt) (k, tt) same p))
 
 -- For a feeder: what is left once the first item was taken is what the bytes after it make.
 pub after_first : (t : Tree) (limit p : ℕ) (x : List ℕ) → Fits t → depth t ≤ limit → Placed p t

@@ -1,6 +1,6 @@
 -- The table of faults by slots gives the reason of `Faults`.
 use Rattle.std.specs.Prelude.{◌≡◌, ◌/◌, ◌%◌, ◌<◌, ◌∷◌, ◌&&◌, ◌||◌}
-use Rattle.cborn_wire.proofs.Common.{refl, sym, ◌∙◌, subst, ℕ, List, [], take, Bool, true, false, cond, not, leb, eqb, Option, Some, None, arith, leb-true, eqb-true, le-leb, lt-leb, and_parts, agree_below_at, code, WireReason, ReservedInfo, EndlessNotAllowed, BadChunk, UnexpectedBreak, FloatLeftOut, BadSimple, TooDeep, Truncated, StringKind, OfBytes, OfText, major_of, Slot, item, value, element_or_end, key_or_end, chunk, judged, needs_item, begins_low, reason_at}
+use Rattle.cborn_wire.proofs.Common.{refl, sym, ◌∙◌, subst, ℕ, List, [], take, Bool, true, false, cond, not, leb, eqb, Option, Some, None, arith, leb-true, eqb-true, le-leb, lt-leb, and_parts, cond_both, agree_below_at, code, WireReason, ReservedInfo, EndlessNotAllowed, BadChunk, UnexpectedBreak, FloatLeftOut, BadSimple, TooDeep, Truncated, StringKind, OfBytes, OfText, major_of, Slot, item, value, element_or_end, key_or_end, chunk, judged, needs_item, begins_low, reason_at}
 use Rattle.cborn_wire.specs.Faults.{reason_of}
 use Rattle.cborn_wire.specs.SlotFaults as table
 use Rattle.cborn_wire.proofs.Machine.SomeEnd.{some_is}
@@ -94,10 +94,6 @@ table_reason element_or_end full m i y r e = reason_of_item element_or_end full 
 table_reason key_or_end full m i y r e = reason_of_item key_or_end full m i y r refl e
 table_reason (chunk k) full m i y r e = reason_of_chunk k full m i y r e
 
--- 0xf8 begins a simple value of two bytes
-simple_first : (b : ℕ) → b < 256 → eqb b 0xf8 ≡ (leb 7 (b / 32) && eqb (b % 32) 24)
-simple_first b byte = agree_below_at (λ b. eqb b 0xf8) (λ b. leb 7 (b / 32) && eqb (b % 32) 24) 256 b refl byte
-
 -- The table judges a head by no other bytes.
 pub judged_reason : (limit : ℕ) (s : Slot) (k b : ℕ) (y : List ℕ) → b < 256 → reason_at limit s k (judged b y) ≡ reason_at limit s k (b ∷ y)
 judged_reason limit s k b y byte = go (eqb b 0xf8) refl
@@ -108,18 +104,18 @@ judged_reason limit s k b y byte = go (eqb b 0xf8) refl
 
     go : (c : Bool) → eqb b 0xf8 ≡ c → reason_at limit s k (b ∷ cond c (take 1 y) []) ≡ reason_at limit s k (b ∷ y)
     go true e = rw (low y) refl
-    go false e = rw (sym (simple_first b byte) ∙ e) refl
+    -- 0xf8 begins a simple value of two bytes
+    go false e = rw (sym (agree_below_at (λ b. eqb b 0xf8) (λ b. leb 7 (b / 32) && eqb (b % 32) 24) 256 b refl byte) ∙ e) refl
 
-not_end : (c : Bool) (q r : WireReason) → (q ≡ Truncated → ⊥) → (r ≡ Truncated → ⊥) → cond c q r ≡ Truncated → ⊥
-not_end true q r g h e = g e
-not_end false q r g h e = h e
+abbrev IsNoEnd : WireReason → Type 0
+IsNoEnd r = r ≡ Truncated → ⊥
 
 -- No head is refused for the end of the input.
 pub not_truncated : (chunked : Bool) (m i : ℕ) → reason_of chunked m i ≡ Truncated → ⊥
 not_truncated chunked m i =
-    not_end (leb 28 i && leb i 30) ReservedInfo _ (λ e. cc)
-    (not_end (eqb i 31 && (leb m 1 || eqb m 6)) EndlessNotAllowed _ (λ e. cc)
-    (not_end chunked BadChunk _ (λ e. cc)
-    (not_end (leb 7 m && eqb i 31) UnexpectedBreak _ (λ e. cc)
-    (not_end (leb 7 m && (leb 25 i && leb i 27)) FloatLeftOut _ (λ e. cc)
-    (not_end (leb 7 m && eqb i 24) BadSimple TooDeep (λ e. cc) (λ e. cc))))))
+    cond_both (leb 28 i && leb i 30) ReservedInfo _ IsNoEnd (λ _ e. cc) (λ _.
+    cond_both (eqb i 31 && (leb m 1 || eqb m 6)) EndlessNotAllowed _ IsNoEnd (λ _ e. cc) (λ _.
+    cond_both chunked BadChunk _ IsNoEnd (λ _ e. cc) (λ _.
+    cond_both (leb 7 m && eqb i 31) UnexpectedBreak _ IsNoEnd (λ _ e. cc) (λ _.
+    cond_both (leb 7 m && (leb 25 i && leb i 27)) FloatLeftOut _ IsNoEnd (λ _ e. cc) (λ _.
+    cond_both (leb 7 m && eqb i 24) BadSimple TooDeep IsNoEnd (λ _ e. cc) (λ _ e. cc))))))

@@ -1,6 +1,6 @@
 -- The state of the machine at a slot, and what it fails for there.
 use Rattle.std.specs.Prelude.{◌≡◌, ◌+◌, ◌++◌}
-use Rattle.cborn_wire.proofs.Common.{refl, sym, ap, ◌∙◌, subst, ℕ, List, [], length, Some, arith, append-nil, length-append, AreBytes, Trees, no_item, spelled_all, WireReason, Slot, OpenContainer, beginnings, slot, open_depth, Open, IsWellformed, GoesOn, SlotRefused, front_reason, all_from, Unfinished, nothing, State, Live, Failed, IsLive, run, start, front}
+use Rattle.cborn_wire.proofs.Common.{refl, sym, ap, ◌∙◌, subst, ℕ, List, [], length, Some, inr, arith, append-nil, length-append, AreBytes, Trees, no_item, spelled_all, WireReason, Slot, OpenContainer, beginnings, slot, open_depth, Open, IsWellformed, GoesOn, Fault, Truncated, SlotRefused, front_reason, all_from, Unfinished, nothing, Live, Failed, run, start, front}
 use Rattle.cborn_model.proofs.Bytes.{bytes-append}
 use Rattle.cborn_wire.proofs.HeadReading.InitialBytes.{same_reason}
 use Rattle.cborn_wire.proofs.Machine.Running.{run-append, failed_run}
@@ -9,9 +9,6 @@ use Rattle.cborn_wire.proofs.Machine.SoundItems.{SoundLive, SoundFailed, Sound}
 use Rattle.cborn_wire.proofs.Machine.SoundRuns.{sound}
 use Rattle.cborn_wire.proofs.Machine.TakesOpen.{open_from, slot-from, open_depth-from, takes_open}
 use Rattle.cborn_wire.proofs.Machine.SomeEnd.{refused_run, Closable, closes}
-
-pub no_fail : {fed p : ℕ} {ts us : Trees} {os : List OpenContainer} {v : Unfinished} {r : WireReason} {A : Type 0} → Live fed ts os v ≡ Failed us p r → A
-no_fail e = cc
 
 module _ (limit base : ℕ) where
   -- the state of the machine at a slot
@@ -74,17 +71,17 @@ module _ (limit base : ℕ) where
       let h : SoundLive limit base x fed ready os partial = subst (Sound limit base x) e (sound limit base x bytes) in
       closable_goes x bytes (subst (Closable limit) (sym e) (closes limit base x fed ready os partial h))
 
-  pub live_goes : (x : List ℕ) → AreBytes x → IsLive (run limit (start base) x) → GoesOn limit x
-  live_goes x bytes live = go (run limit (start base) x) refl live
+  -- Where something is open or partial, the bytes are cut.
+  pub cut_short : (x : List ℕ) → AreBytes x → (fed : ℕ) (ready : Trees) (os : List OpenContainer) (partial : Unfinished) → run limit (start base) x ≡ Live fed ready os partial → (os ≡ [] → partial ≡ nothing → ⊥) → Fault limit x (length x) Truncated
+  cut_short x bytes fed ready os partial e unfinished = inr (refl, (refl, never, goes_on x bytes fed ready os partial e))
     where
-      go : (s : State) → run limit (start base) x ≡ s → IsLive s → GoesOn limit x
-      go (Live fed ready os partial) e live = goes_on x bytes fed ready os partial e
-      go (Failed ready p r) e live = absurd live
+      never : IsWellformed limit x → ⊥
+      never (ts, w) = let both = sym (reads limit base ts x w) ∙ e in unfinished (cc both) (cc both)
 
   -- and what fails doesn't
   pub fails_ends : (x : List ℕ) (p : ℕ) (r : WireReason) (ready : Trees) → run limit (start base) x ≡ Failed ready p r → GoesOn limit x → ⊥
   fails_ends x p r ready e (y, (ts, w)) =
-      no_fail (sym (reads limit base ts (x ++ y) w) ∙ run-append limit (start base) x y ∙ ap (λ s. run limit s y) e ∙ failed_run limit y ready p r)
+      cc (sym (reads limit base ts (x ++ y) w) ∙ run-append limit (start base) x y ∙ ap (λ s. run limit s y) e ∙ failed_run limit y ready p r)
 
 module _ (limit : ℕ) where
   -- each front has at most one slot and one depth
@@ -92,11 +89,8 @@ module _ (limit : ℕ) where
   one_slot f s t j k g h =
       let a = opened limit 0 f s j g in
       let b = opened limit 0 f t k h in
-      let same : a.os ≡ b.os = stack (sym a.is ∙ b.is) in
+      let same : a.os ≡ b.os = cc (sym a.is ∙ b.is) in
       (sym a.slot_is ∙ ap slot same ∙ b.slot_is, sym a.depth_is ∙ ap open_depth same ∙ b.depth_is)
-    where
-      stack : {m n : ℕ} {ts us : Trees} {os ps : List OpenContainer} {v w : Unfinished} → Live m ts os v ≡ Live n us ps w → os ≡ ps
-      stack e = cc
 
   -- What the table refuses has no end.
   pub slot_ends : (x : List ℕ) (p : ℕ) (r : WireReason) → SlotRefused limit x p r → GoesOn limit x → ⊥

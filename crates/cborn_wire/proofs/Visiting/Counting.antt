@@ -1,8 +1,7 @@
 -- What one more node or a break makes of a partial sequence: the levels that are kept, and the state.
 use Rattle.std.specs.Prelude.{◌≡◌, ◌+◌, ◌/◌, ◌%◌, ◌^◌, ◌<◌, ◌≤◌, ◌∷◌, ◌++◌, ◌⊎◌}
-use Rattle.cborn_wire.proofs.Common.{refl, sym, ap, ◌∙◌, subst, ℕ, zero, suc, List, [], length, Bool, true, false, not, cond, ltb, eqb, Option, Some, None, inl, inr, arith, cases_lt, length-append, length_push, le-leb, lt-leb, lt-ltb, le-ltb, Width, Eight, Fixed, Endless, WidthFits, Tree, Opening, an_array, a_map, a_tag, in_chunks, Partial, top, inside, no_part, put, last_key, built, string_tree, Goes, Ends, TakesItem, TakesString, Proper, IsFree, UnexpectedBreak, StringKind, OfBytes, OfText, opened, slot, slot_in, slot_in_map, HeadFits, needs_item, Slot, item, element_or_end, key_or_end, chunk, plain, nothing, is_full, Live, Failed, finished, ended, LevelKind, Level, ready, open_in, state, AreFromBytes, levels, Keeps, with_part, may_end, lessened, is_even, is_chunks, slot_of, kind_in, level_in, level_with, input_level, announced_nodes, kind_at_none, with_kind, if_none}
+use Rattle.cborn_wire.proofs.Common.{refl, sym, ap, ◌∙◌, subst, ℕ, zero, suc, List, [], length, Bool, true, false, not, cond, ltb, eqb, Option, Some, None, inl, inr, arith, cases_lt, length-append, length_push, le-leb, lt-leb, lt-ltb, le-ltb, Width, Eight, Fixed, Endless, WidthFits, Tree, Opening, an_array, a_map, a_tag, in_chunks, Partial, top, inside, no_part, put, last_key, built, string_tree, Goes, Ends, TakesItem, TakesString, Proper, IsFree, UnexpectedBreak, StringKind, OfBytes, OfText, opened, slot, slot_in, slot_in_map, HeadFits, needs_item, Slot, item, element_or_end, plain, nothing, is_full, Live, Failed, finished, ended, LevelKind, Level, ready, open_in, state, AreFromBytes, levels, Keeps, with_part, may_end, lessened, is_even, is_chunks, slot_of, kind_in, level_in, level_with, input_level, announced_nodes, kind_at_none, with_kind, if_none}
 use Rattle.cborn_wire.specs.declared.levels.LevelKind.TheVariants.{Map, GreatMap}
-use Rattle.cborn_wire.specs.Slots.{value}
 use Rattle.cborn_wire.proofs.Machine.Containers.{pair_count, even, goes_on, goes_whole, break_ends}
 use Rattle.cborn_wire.proofs.Machine.SoundItems.{Accepts}
 use Rattle.cborn_wire.proofs.Spelled.TreeLists.{trees-push}
@@ -12,13 +11,11 @@ pub last_same : {A : Type 0} (xs ys : List A) {x y : A} → xs ++ x ∷ [] ≡ y
 last_same [] [] e = (refl, cc)
 last_same [] (b ∷ ys) {x} {y} e = absurd (omega (arith, ap length e, length-append ys (y ∷ [])))
 last_same (a ∷ xs) [] {x} {y} e = absurd (omega (arith, ap length e, length-append xs (x ∷ [])))
-last_same (a ∷ xs) (b ∷ ys) e =
+last_same (a ∷ xs) (b ∷ ys) {x} {y} e =
     let first : a ≡ b = cc in
-    let h = last_same xs ys (tail e) in
+    let rest : xs ++ x ∷ [] ≡ ys ++ y ∷ [] = cc in
+    let h = last_same xs ys rest in
     (ap (λ l. a ∷ l) h.0 ∙ ap (λ c. c ∷ ys) first, h.1)
-  where
-    tail : {A : Type 0} {a b : A} {l m : List A} → a ∷ l ≡ b ∷ m → l ≡ m
-    tail e = cc
 
 -- parts that are missing, modulo 2^64
 
@@ -113,14 +110,11 @@ next (an_array p (Fixed w) (Some n)) ts fits h = go (cases_lt (length ts + 1) n)
     go (inl less) = some_next o (length ts) (omega (arith, less, small w n fits)) refl (lt-leb n (length ts + 1) less)
     go (inr all) = whole_next o (length ts) (omega (arith, h, all, small w n fits)) refl (le-leb n (length ts + 1) all)
 next (an_array p Endless None) ts fits h = endless_next (an_array p Endless None) (length ts) refl refl refl
-next (an_array p (Fixed w) None) ts fits h = absurd fits
-next (an_array p Endless (Some n)) ts fits h = absurd fits
 next (a_map p (Fixed w) (Some n)) ts fits h = map_next p w n (length ts) (small w n fits) (omega (arith, h, pair_count ts))
 next (a_map p Endless None) ts fits h = endless_next (a_map p Endless None) (length ts) refl refl refl
-next (a_map p (Fixed w) None) ts fits h = absurd fits
-next (a_map p Endless (Some n)) ts fits h = absurd fits
 next (a_tag p w n) ts fits h = whole_next (a_tag p w n) (length ts) (omega (arith, ap length h)) refl (le-leb 1 (length ts + 1) (omega arith))
 next (in_chunks p k) ts fits h = endless_next (in_chunks p k) (length ts) refl refl refl
+next c ts fits h = absurd fits
 
 -- the same of one more node
 after_next : (o : Opening) (ts : List Tree) (t : Tree) → HeadFits o → Goes o ts → with_part (level_in o ts) ≡ cond (is_full o (length (ts ++ t ∷ []))) None (Some (level_in o (ts ++ t ∷ [])))
@@ -167,7 +161,6 @@ value_parity n ts k e = ap (λ r. eqb r 0) {y = 1} (omega (arith, odd ts k e))
 
 level_slot : (o : Opening) (ts : List Tree) → slot_of (kind_in o (length ts)) (lessened (announced_nodes o) (length ts)) ≡ plain (slot_in (opened o ts))
 level_slot (an_array p s None) ts = refl
-level_slot (an_array p s (Some n)) ts = refl
 level_slot (a_map p s None) ts = go (last_key ts) refl
   where
     go : (x : Option Tree) → last_key ts ≡ x → cond (is_even (lessened 0 (length ts))) element_or_end item ≡ plain (slot_in_map None x)
@@ -177,11 +170,9 @@ level_slot (a_map p s (Some n)) ts = go (ltb (length ts + 2 ^ 64) (n + n)) (last
   where
     go : (b : Bool) (x : Option Tree) → slot_of (cond b GreatMap Map) (lessened (n + n) (length ts)) ≡ plain (slot_in_map (Some n) x)
     go true None = refl
-    go true (Some k) = refl
     go false None = refl
-    go false (Some k) = refl
-level_slot (a_tag p w n) ts = refl
-level_slot (in_chunks p k) ts = refl
+    go b x = refl
+level_slot c ts = refl
 
 pub top_slot : (f : Partial) (ls : List Level) (l : Level) → levels f ≡ ls ++ l ∷ [] → slot_of l.kind l.missing ≡ plain (slot (open_in f))
 top_slot (top ts) ls l e = ap (λ (m : Level). slot_of m.kind m.missing) (sym (last_same [] ls e).1)
@@ -189,10 +180,7 @@ top_slot (inside f o ts) ls l e = ap (λ (m : Level). slot_of m.kind m.missing) 
 
 plain_needs : (s : Slot) → needs_item (plain s) ≡ needs_item s
 plain_needs item = refl
-plain_needs value = refl
-plain_needs element_or_end = refl
-plain_needs key_or_end = refl
-plain_needs (chunk k) = refl
+plain_needs s = refl
 
 ends_slot : (f : Partial) (ls : List Level) (l : Level) → levels f ≡ ls ++ l ∷ [] → may_end l.kind l.missing ≡ not (needs_item (slot (open_in f)))
 ends_slot f ls l e = ap not (ap needs_item (top_slot f ls l e) ∙ plain_needs (slot (open_in f)))
@@ -200,8 +188,7 @@ ends_slot f ls l e = ap not (ap needs_item (top_slot f ls l e) ∙ plain_needs (
 not_is : (b c : Bool) → not b ≡ not c → b ≡ c
 not_is true true e = refl
 not_is false false e = refl
-not_is true false e = cc
-not_is false true e = cc
+not_is b c e = cc
 
 module _ (end : ℕ) where
   pub stays : (h : Partial) (u : Tree) (ls : List Level) (l r : Level) → levels h ≡ ls ++ l ∷ [] → Proper h → Accepts (open_in h) u → AreFromBytes h → with_part l ≡ Some r
@@ -209,12 +196,9 @@ module _ (end : ℕ) where
   stays (top ts) u ls l r e proper accepts say w =
       let h = last_same [] ls e in
       let is : input_level (length (ts ++ u ∷ [])) ≡ r =
-      ap input_level (length_push ts u) ∙ ap (λ m. record (input_level 0) { missing = m }) (sym (again 0 (length ts))) ∙ same (sym (endless_on (input_level (length ts)) refl) ∙ ap with_part h.1 ∙ w)
+      ap input_level (length_push ts u) ∙ ap (λ m. record (input_level 0) { missing = m }) (sym (again 0 (length ts))) ∙ cc (sym (endless_on (input_level (length ts)) refl) ∙ ap with_part h.1 ∙ w)
       in
       ((ap (λ m. m ++ input_level (length (ts ++ u ∷ [])) ∷ []) h.0 ∙ ap (λ k. ls ++ k ∷ []) is, tt, tt), ap (λ us. Live end us [] nothing) (sym (trees-push ts u)))
-    where
-      same : {a b : Level} → Some a ≡ Some b → a ≡ b
-      same e = cc
   stays (inside f o ts) u ls l r e proper accepts say w =
       let h = last_same (levels f) ls e in
       let (more, is) = some_of (is_full o (length (ts ++ u ∷ []))) (level_in o (ts ++ u ∷ [])) r (sym (after_next o ts u say.1 proper.2) ∙ ap with_part h.1 ∙ w) in (
@@ -257,19 +241,14 @@ kept_as f {around} {now} {l} {m} same is h = (h.0 ∙ ap (λ ls. ls ++ l ∷ [])
 -- what may be next
 
 pub item_accepted : (f : Partial) (t : Tree) → TakesItem f → Accepts (open_in f) t
-item_accepted (top ts) t h = tt
 item_accepted (inside f (in_chunks p k) ts) t h = absurd h
-item_accepted (inside f o ts) t h = tt
+item_accepted f t h = tt
 
 pub string_accepted : (f : Partial) (p : ℕ) (k : StringKind) (w : Width) (x : List ℕ) → TakesString f k → Accepts (open_in f) (string_tree p k w x)
-string_accepted (top ts) p k w x h = tt
-string_accepted (inside f (in_chunks q OfBytes) ts) p OfBytes w x h = tt
-string_accepted (inside f (in_chunks q OfText) ts) p OfText w x h = tt
 string_accepted (inside f (in_chunks q OfBytes) ts) p OfText w x h = cc
 string_accepted (inside f (in_chunks q OfText) ts) p OfBytes w x h = cc
-string_accepted (inside f o ts) p k w x h = tt
+string_accepted f p k w x h = tt
 
 pub item_free : (f : Partial) (ls : List Level) (l : Level) → levels f ≡ ls ++ l ∷ [] → is_chunks l.kind ≡ false → TakesItem f
-item_free (top ts) ls l e free = tt
 item_free (inside f (in_chunks q j) ts) ls l e free = let h = last_same (levels f) ls e in cc (ap (λ (m : Level). is_chunks m.kind) h.1 ∙ free)
-item_free (inside f o ts) ls l e free = tt
+item_free f ls l e free = tt

@@ -1,13 +1,17 @@
--- What a reader is before the first byte, at the end of the input, and at a head that isn't allowed.
-use Rattle.std.specs.Prelude.{◌≡◌, ◌+◌, ◌∷◌, ◌++◌}
-use Rattle.cborn_wire.proofs.Common.{refl, sym, ap, ◌∙◌, subst, ℕ, List, [], length, take, Option, Some, None, Err, inl, inr, arith, take_all, AreBytes, Tree, Trees, trees, Wellformed, PlacedAll, Partial, top, inside, Part, no_part, part, VisitFault, WireReason, Truncated, Level, PartialHead, HeadReader, IsWellformed, Fault, OpenContainer, Unfinished, nothing, State, Live, start, run, ready, open_in, unfinished, Stands, seen_head, HereAt, IsFresh, IsInput, IsFed, MayEnd, levels, Missing, Reads, RefusesPiece}
+-- What a reader is before the first byte, at the end of the input, and at a head that isn't allowed; and what one that stops after one item says of the front of the bytes.
+use Rattle.std.specs.Prelude.{◌≡◌, ◌+◌, ◌<◌, ◌≤◌, ◌∷◌, ◌++◌}
+use Rattle.cborn_wire.proofs.Common.{refl, sym, ap, ◌∙◌, subst, ℕ, List, [], length, length-drop, take, Option, Some, None, Err, inl, arith, take_all, AreBytes, Tree, Trees, trees, Wellformed, PlacedAll, Partial, top, inside, Part, no_part, part, VisitFault, WireReason, Truncated, Level, PartialHead, HeadReader, Fault, OpenContainer, Unfinished, nothing, State, Live, start, run, ready, open_in, unfinished, Stands, seen_head, HereAt, IsFresh, IsInput, IsFed, MayEnd, levels, Missing, Reads, RefusesPiece, drop, append-nil, Ok, inr, length-take-le, take-append-drop, drop-drop, nil_from_length, no_item, depth, spelled, Fits, EndsHeld, Failed, ready_in, AtMostOneMore, ReadsItem}
 use Rattle.cborn_wire.specs.declared.faults.VisitFault.TheVariants as faults
 use Rattle.cborn_wire.specs.Faults.{Refused}
-use Rattle.cborn_wire.proofs.Spelled.SlotLaws.{goes_on}
+use Rattle.cborn_wire.proofs.Spelled.SlotLaws.{cut_short}
 use Rattle.cborn_wire.proofs.Spelled.FaultLaws.{fails_refused}
-use Rattle.cborn_wire.proofs.Spelled.OneReading.{reads, ends_read}
+use Rattle.cborn_wire.proofs.Spelled.OneReading.{ends_read}
 use Rattle.cborn_wire.proofs.Visiting.Taking.{outer_count}
 use Rattle.cborn_wire.proofs.Visiting.Pieces.{may_end_here}
+use Rattle.cborn_model.proofs.Bytes.{bytes-right}
+use Rattle.cborn_wire.specs.Reading.{EndsItem}
+use Rattle.cborn_wire.specs.declared.faults.WireFault.TheVariants as wire
+use Rattle.cborn_wire.proofs.Feeding.FeederLaws.{no_first}
 
 -- a reader that was handed nothing
 pub fresh_fed : (holds : Partial → Part → Type 0) (outer : List Level) (l : Level) (limit at : ℕ) (m : HeadReader) → holds (top []) no_part → IsInput outer l → IsFresh limit at m → IsFed holds outer l m at []
@@ -37,10 +41,7 @@ module _ (holds : Partial → Part → Type 0) (outer : List Level) (l : Level) 
   pub cut : (MayEnd outer m → ⊥) → Fault m.limit x (length x) Truncated
   cut never =
       let (rd, os, q, is) = live_here holds outer l m.left m.at m.head _ fed.2 in
-      inr (refl, (refl, not_whole, goes_on m.limit base x fed.0 m.at rd os q is))
-    where
-      not_whole : IsWellformed m.limit x → ⊥
-      not_whole (ts, w) = never (may_end_here holds outer l m _ _ _ fed.2 (reads m.limit base ts x w))
+      cut_short m.limit base x fed.0 m.at rd os q is (λ none still. never (may_end_here holds outer l m _ m.at rd fed.2 (is ∙ ap (λ ls. Live m.at rd ls q) none ∙ ap (Live m.at rd []) still)))
 
 -- A head that isn't allowed is the fault of the bytes.
 pub refused : (holds : Partial → Part → Type 0) (outer : List Level) (l : Level) (m : HeadReader) (base : ℕ) (x piece : List ℕ) (p : ℕ) (r : WireReason) → AreBytes (x ++ piece) → RefusesPiece holds outer l m base x piece p r
@@ -63,3 +64,64 @@ module _ (holds : Partial → Part → Type 0) (outer : List Level) (l : Level) 
   refused_piece are e h p r said =
       let (q, at, fault) = refused holds outer l m 0 [] x p r are (subst (λ f. Reads holds outer l m 0 [] x (Err f)) said h) in
       subst (λ k. Fault limit x k r) (omega (arith, at)) (subst (λ k. Fault k x q r) limited (inl fault))
+
+pub ends_item : (P : Tree → Type 0) (limit p : ℕ) (x : List ℕ) (end : Option ℕ) → EndsHeld P limit x p (Ok end) → EndsItem limit x p (Ok end)
+ends_item P limit p x (Some end) (some, within, t, held, first) = (some, within, t, first)
+ends_item P limit p x None h = h
+
+-- Nothing is there.
+pub none_there : (limit p : ℕ) (x : List ℕ) → p ≡ length x → EndsItem limit x p (Err (wire.Refused p Truncated))
+none_there limit p x all =
+    let none : drop p x ≡ [] = nil_from_length (drop p x) (omega (arith, length-drop p x, all)) in
+    (0, omega arith, (λ t rest is. no_first limit p [] t rest refl (sym none ∙ is), inl (none, refl, refl)))
+
+-- the bytes from there on
+module _ (limit p : ℕ) (x y : List ℕ) (same : y ≡ drop p x) where
+  -- A head isn't allowed, before any item is whole.
+  pub refused_first : (P : Tree → Type 0) (e : VisitFault) → AreBytes x → ReadsItem limit p [] y (Err e) → EndsHeld P limit x p (Err e)
+  refused_first P (faults.Refused q r) are h =
+      let fails = subst (λ z. run limit (start p) z ≡ Failed no_item q r) same h in
+      let (at, is, fault) = fails_refused limit p (drop p x) (bytes-right (take p x) (drop p x) (subst AreBytes (sym (take-append-drop p x)) are)) no_item q r fails in
+      (at, is, (λ t rest. no_first limit p (drop p x) t rest (ap ready_in fails), inr (inl fault)))
+  refused_first P (faults.Memory e) are h = tt
+
+  module _ (holds : Partial → Part → Type 0) (outer : List Level) (l : Level) (m : HeadReader) (n : ℕ) (low : p ≤ length x) (within : n ≤ length y) (limited : m.limit ≡ limit)
+      (fed : IsFed holds outer l m p (take n y)) (one : AtMostOneMore no_item (run m.limit (start p) (take n y))) where
+    -- The item that is whole.
+    pub first_whole : 0 < n → MayEnd outer m → EndsHeld (λ t. holds (top (t ∷ [])) no_part) limit x p (Ok (Some (p + n)))
+    first_whole some end =
+        let (ts, held, read, placed, is) = whole holds outer l m p (take n y) fed end in
+        go ts held read placed (subst (AtMostOneMore no_item) is one)
+      where
+        go : (ts : List Tree) → holds (top ts) no_part → Wellformed m.limit (trees ts) (take n y) → PlacedAll p (trees ts) → AtMostOneMore no_item (Live m.at (trees ts) [] nothing)
+            → EndsHeld (λ t. holds (top (t ∷ [])) no_part) limit x p (Ok (Some (p + n)))
+        go [] held read placed h = absurd (omega (arith, some, length-take-le n y within, ap length read.spells))
+        go (t ∷ []) held read placed h =
+            let front : take n y ≡ spelled t = sym read.spells ∙ append-nil (spelled t) in
+            let rest : drop n y ≡ drop (p + n) x = ap (drop n) same ∙ drop-drop n p x in (
+              omega (arith, some),
+              omega (arith, within, ap length same, length-drop p x, low),
+              t,
+              held,
+              record { whole = sym (take-append-drop n y ∙ same) ∙ ap (λ z. z ++ drop n y) front ∙ ap (λ z. spelled t ++ z) rest; fits = read.fit.0; shallow = omega (arith, read.shallow, limited); placed = placed.0 },
+            )
+        go (t ∷ u ∷ ts) held read placed (inl h) = cc
+        go (t ∷ u ∷ ts) held read placed (inr (at, v, h)) = cc
+
+    -- The bytes end before an item is whole.
+    pub first_cut : n ≡ length y → (MayEnd outer m → ⊥) → EndsItem limit x p (Err (wire.Refused (length x) Truncated))
+    first_cut all never = (
+      length (drop p x),
+      omega (arith, length-drop p x, low),
+      (none, inr (subst (λ k. Fault k (drop p x) (length (drop p x)) Truncated) limited (cut holds outer l m p (drop p x) (subst (IsFed holds outer l m p) front fed) never))),
+    )
+      where
+        front : take n y ≡ drop p x
+        front = take_all n y (omega (arith, all)) ∙ same
+
+        go : AtMostOneMore no_item (run m.limit (start p) (take n y)) → ready_in (run m.limit (start p) (take n y)) ≡ no_item
+        go (inl none) = none
+        go (inr (at, u, is)) = absurd (never (may_end_here holds outer l m _ at _ fed.2 is))
+
+        none : (t : Tree) (rest : List ℕ) → drop p x ≡ spelled t ++ rest → Fits t → depth t ≤ limit → ⊥
+        none t rest is fits deep = no_first m.limit p (take n y) t rest (go one) (front ∙ is) fits (omega (arith, deep, limited))

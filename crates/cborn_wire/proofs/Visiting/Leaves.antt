@@ -1,16 +1,16 @@
 -- What is read and made of a leaf.
 use Rattle.std.specs.Prelude.{◌≡◌, ◌+◌, ◌-◌, ◌/◌, ◌%◌, ◌<◌, ◌≤◌, ◌∷◌, ◌++◌}
-use Rattle.cborn_wire.proofs.Common.{refl, sym, ap, ◌∙◌, subst, ℕ, zero, suc, List, [], length, take, drop, get_or, Bool, true, false, cond, leb, Option, Some, None, arith, length-append, lt-leb, length-take-le, take-add, AreBytes, Width, Direct, One, Two, Four, Eight, Major, Unsigned, Negative, ByteString, TextString, Array, Map, Tag, Other, code, WidthFits, Tree, Trees, Uint, Nint, Simple, an_array, a_map, a_tag, in_chunks, Partial, top, inside, Part, no_part, put, last_key, TakesItem, TakesString, string_tree, Full, GivenHead, Level, LevelKind, major_at, IsHeadOf, Slot, chunk, OpenContainer, slot, slot_in_map, open_depth, Info, Now, Next, info_at, info_for, is_bad_chunk, head_reason, width_bytes, number, content_of, gathering, Live, content_at, after_head, finished, run, AtMostOneMore, ready, open_in, state, slot_of, is_chunks, is_even, Stands, IsNoChunkSlot, IsGiven, IsLeafOf, IsLeaf, content_len, leaf_tree, AfterLeaves, TakesHead}
+use Rattle.cborn_wire.proofs.Common.{refl, sym, ap, ◌∙◌, subst, ℕ, zero, suc, List, [], length, take, drop, get_or, Bool, true, false, cond, leb, Option, Some, None, arith, length-append, lt-leb, length-take-le, take-add, AreBytes, Width, Direct, Major, Unsigned, Negative, ByteString, TextString, Other, code, WidthFits, Tree, Trees, Uint, Nint, Simple, an_array, a_map, in_chunks, Partial, top, inside, Part, no_part, put, last_key, TakesItem, TakesString, string_tree, Full, GivenHead, Level, LevelKind, major_at, IsHeadOf, Slot, chunk, OpenContainer, slot, slot_in_map, open_depth, Info, Now, Next, info_at, info_for, is_bad_chunk, head_reason, width_bytes, number, content_of, gathering, Live, content_at, after_head, finished, run, AtMostOneMore, ready, open_in, state, slot_of, is_chunks, is_even, Stands, IsNoChunkSlot, IsGiven, IsLeafOf, IsLeaf, content_len, leaf_tree, AfterLeaves, TakesHead}
 use Rattle.cborn_model.specs.Heads as heads
 use Rattle.cborn_model.specs.declared.visitors.StringKind.{StringKind}
 use Rattle.cborn_model.specs.declared.visitors.StringKind.TheVariants.{OfBytes, OfText}
 use Rattle.cborn_wire.specs.declared.heads.Argument.TheVariants.{Given}
 use Rattle.cborn_wire.specs.Slots.{element_or_end, item}
-use Rattle.cborn_wire.specs.declared.levels.LevelKind.TheVariants.{Array as AnArray, Map as AMap, Tag as ATag, Sequence, GreatMap, EndlessArray, EndlessMap, Chunks}
+use Rattle.cborn_wire.specs.declared.levels.LevelKind.TheVariants.{EndlessMap, Chunks}
 use Rattle.cborn_wire.proofs.HeadReading.HeadFronts.{direct_head, wide_head, wide_fronts}
 use Rattle.cborn_wire.proofs.HeadReading.HeadSteps.{head_some, head_taken}
 use Rattle.cborn_wire.proofs.Machine.TakesItems.{clear_given}
-use Rattle.cborn_wire.proofs.Machine.OneMore.{one_more_finished}
+use Rattle.cborn_wire.proofs.Machine.WholeFront.{one_more_finished}
 use Rattle.cborn_wire.proofs.Machine.Pieces.{major_of_head, info_of_head, content_done}
 use Rattle.cborn_wire.proofs.Machine.Running.{run-append}
 use Rattle.cborn_wire.proofs.Machine.SoundRuns.{code_at}
@@ -52,25 +52,21 @@ pub text_is : (p n k : ℕ) (w : Width) (x : List ℕ) → IsLeaf (major_at n) w
 text_is p n k w x l low high = ap (λ m. leaf_tree p (major_at m) w k x) (sym (text_major n w l low high))
 
 pub string_free : (f : Partial) (k : StringKind) → TakesItem f → TakesString f k
-string_free (top ts) k h = tt
 string_free (inside f (in_chunks p j) ts) k h = absurd h
-string_free (inside f o ts) k h = tt
+string_free f k h = tt
 
 -- a leaf is allowed wherever an item is
 
 pub plain_slot : (f : Partial) → TakesItem f → IsNoChunkSlot (slot (open_in f))
-plain_slot (top ts) h = tt
 plain_slot (inside f (in_chunks p k) ts) h = absurd h
 plain_slot (inside f (an_array p s None) ts) h = tt
-plain_slot (inside f (an_array p s (Some n)) ts) h = tt
 plain_slot (inside f (a_map p s c) ts) h = go c (last_key ts)
   where
     go : (c : Option ℕ) (x : Option Tree) → IsNoChunkSlot (slot_in_map c x)
     go None None = tt
-    go None (Some k) = tt
     go (Some n) None = tt
-    go (Some n) (Some k) = tt
-plain_slot (inside f (a_tag p w n) ts) h = tt
+    go c x = tt
+plain_slot f h = tt
 
 no_chunk : (s : Slot) (m : Major) (i : Info) → IsNoChunkSlot s → is_bad_chunk s m i ≡ false
 no_chunk (chunk k) m i h = absurd h
@@ -82,13 +78,8 @@ leaf_free s full Negative w n h l = clear_given s full Negative w n (no_chunk s 
 leaf_free s full ByteString w n h l = clear_given s full ByteString w n (no_chunk s ByteString (info_for (heads.Given w n)) h) refl refl
 leaf_free s full TextString w n h l = clear_given s full TextString w n (no_chunk s TextString (info_for (heads.Given w n)) h) refl refl
 leaf_free s full Other Direct n h l = rw (no_chunk s Other (Now n) h) refl
-leaf_free s full Other One n h l = cc
-leaf_free s full Other Two n h l = cc
-leaf_free s full Other Four n h l = cc
-leaf_free s full Other Eight n h l = cc
-leaf_free s full Array w n h l = absurd l
-leaf_free s full Map w n h l = absurd l
-leaf_free s full Tag w n h l = absurd l
+leaf_free s full Other w n h l = cc
+leaf_free s full m w n h l = absurd l
 
 leaf_allowed : (limit : ℕ) (os : List OpenContainer) (x : List ℕ) (m : Major) (w : Width) (n : ℕ) (rest : List ℕ) → WidthFits w n → x ≡ heads.head m (heads.Given w n) ++ rest → IsNoChunkSlot (slot os) → IsLeaf m w
     → None ≡ head_reason (slot os) (leb limit (open_depth os)) (major_at (get_or x 0 0 / 32)) (info_at (get_or x 0 0 % 32)) []
@@ -106,12 +97,7 @@ plain_kind EndlessMap m e = go (is_even m)
     go : (b : Bool) → IsNoChunkSlot (cond b element_or_end item)
     go true = tt
     go false = tt
-plain_kind Sequence m e = tt
-plain_kind AnArray m e = tt
-plain_kind AMap m e = tt
-plain_kind GreatMap m e = tt
-plain_kind ATag m e = tt
-plain_kind EndlessArray m e = tt
+plain_kind k m e = tt
 
 -- what is made of one
 
@@ -128,18 +114,11 @@ content_read : (limit at p : ℕ) (rd : Trees) (os : List OpenContainer) (m : Ma
 content_read limit at p rd os Unsigned w n [] l e = ap (λ k. finished k rd os (Uint p w n)) (omega arith)
 content_read limit at p rd os Negative w n [] l e = ap (λ k. finished k rd os (Nint p w n)) (omega arith)
 content_read limit at p rd os Other Direct n [] l e = ap (λ k. finished k rd os (Simple p n)) (omega arith)
-content_read limit at p rd os Unsigned w n (b ∷ x) l e = absurd (omega (arith, e))
-content_read limit at p rd os Negative w n (b ∷ x) l e = absurd (omega (arith, e))
-content_read limit at p rd os Other Direct n (b ∷ x) l e = absurd (omega (arith, e))
-content_read limit at p rd os Other One n x l e = cc
-content_read limit at p rd os Other Two n x l e = cc
-content_read limit at p rd os Other Four n x l e = cc
-content_read limit at p rd os Other Eight n x l e = cc
 content_read limit at p rd os ByteString w n x l e = string_read limit at p rd os OfBytes w n x e
 content_read limit at p rd os TextString w n x l e = string_read limit at p rd os OfText w n x e
-content_read limit at p rd os Array w n x l e = absurd l
-content_read limit at p rd os Map w n x l e = absurd l
-content_read limit at p rd os Tag w n x l e = absurd l
+content_read limit at p rd os Other w n x l e = cc
+content_read limit at p rd os m w n (b ∷ x) l e = absurd (omega (arith, e))
+content_read limit at p rd os m w n [] l e = absurd l
 
 pub leaf_read : (limit at : ℕ) (f : Partial) (x y : List ℕ) (h : GivenHead) (n : ℕ) → TakesItem f → IsLeafOf x h n → take n x ≡ take h.len x ++ y
     → run limit (state at f no_part) (take n x) ≡ finished (at + n) (ready f) (open_in f) (leaf_tree at (major_at (h.first / 32)) h.width h.argument y)
@@ -153,8 +132,8 @@ leaf_read limit at f x y h n takes leaf cut =
     ∙ ap (λ k. finished k (ready f) (open_in f) (leaf_tree at m h.width h.argument y)) (omega (arith, leaf.len, len))
 
 pub item_after : (f : Partial) (t : Tree) → TakesItem f → TakesItem (put f t)
-item_after (top ts) t h = tt
 item_after (inside f (in_chunks p k) ts) t h = absurd h
+item_after (top ts) t h = tt
 item_after (inside f o ts) t h = tt
 
 pub leaf_cut : (x : List ℕ) (g : GivenHead) (n : ℕ) → IsLeafOf x g n → take n x ≡ take g.len x ++ take (n - g.len) (drop g.len x)
@@ -164,11 +143,10 @@ pub leaf_some : (x : List ℕ) (g : GivenHead) (n : ℕ) → IsLeafOf x g n → 
 leaf_some x g n leaf = omega (arith, leaf.len, leaf.given.head.len, head_some (major_at (g.first / 32)) (heads.Given g.width g.argument))
 
 -- leaves are taken, and the last of them is counted
-pub leaves_taken : (limit place n : ℕ) (f : Partial) (piece : List ℕ) {taken : Partial → Type 0} {around : List Level} {l : Level} (holds : Partial → Part → Type 0) (outer : List Level) (inner : Level) → n ≤ length piece → (r : AfterLeaves place (place + n) f taken around l (take n piece))
+pub leaves_taken : (limit place n : ℕ) (f : Partial) (piece : List ℕ) {taken : Partial → Type 0} {around : List Level} {l : Level} (holds : Partial → Part → Type 0) (outer : List Level) (inner : Level) (r : AfterLeaves place (place + n) f taken around l (take n piece))
     → (left : ℕ) → left ≡ 0 → Stands holds outer inner left (place + n) (finished (place + n) (ready r.before) (open_in r.before) r.last) → TakesHead limit place f piece holds outer inner n
-leaves_taken limit place n f piece holds outer inner fits r left none stands =
+leaves_taken limit place n f piece holds outer inner r left none stands =
     let goes = r.is limit in (
-      fits,
       subst (Stands holds outer inner 0 (place + n)) (sym goes) (subst (λ k. Stands holds outer inner k (place + n) (finished (place + n) (ready r.before) (open_in r.before) r.last)) none stands),
       subst (AtMostOneMore (ready f)) (sym goes) (subst (λ t. AtMostOneMore t (finished (place + n) (ready r.before) (open_in r.before) r.last)) r.same (one_more_finished (ready r.before) (open_in r.before) (place + n) r.last)),
     )

@@ -1,6 +1,6 @@
 -- A piece is read by its fronts.
 use Rattle.std.specs.Prelude.{◌≡◌, ◌+◌, ◌-◌, ◌≤◌, ◌++◌}
-use Rattle.cborn_wire.proofs.Common.{refl, sym, ap, ◌∙◌, subst, ℕ, List, [], length, take, drop, Option, Some, None, Result, Ok, Err, inl, inr, arith, append_assoc, length-append, length-take-le, take-append-drop, take_all, take_rest, take-append-le, nil_from_length, AreBytes, Trees, Partial, Part, no_part, part, VisitFault, Refused, Memory, WireReason, Level, PartialHead, HeadReader, OpenContainer, Unfinished, nothing, State, Live, Failed, ready_in, start, run, AtMostOneMore, unfinished, seen_head, Missing, Stands, HereAt, Here, IsReached, TakesPiece, IsFed, MayEnd, Reads, ReadsItem, next_head}
+use Rattle.cborn_wire.proofs.Common.{refl, sym, ap, ◌∙◌, subst, ℕ, List, [], length, take, drop, Option, Some, None, Result, Ok, Err, inl, inr, arith, append_assoc, length-append, length-take-le, take-append-drop, take_all, take_rest, take-append-le, nil_from_length, AreBytes, Trees, Partial, Part, no_part, part, VisitFault, Refused, Memory, WireReason, Level, PartialHead, HeadReader, nothing, State, Live, Failed, ready_in, start, run, AtMostOneMore, unfinished, open_in, Missing, Stands, HereAt, Here, IsReached, TakesPiece, IsFed, MayEnd, Reads, ReadsItem, next_head}
 use Rattle.cborn_model.proofs.Bytes.{bytes-append}
 use Rattle.cborn_wire.proofs.Machine.Running.{run-append}
 use Rattle.cborn_wire.proofs.Visiting.Taking.{bytes-take, outer_count}
@@ -14,13 +14,10 @@ all_taken piece y rest cut = ap (λ k. take k piece) (omega (arith, ap length cu
 
 -- Where nothing is open and nothing is partial, the input may end.
 
-same_open : {a b : ℕ} {us ts : Trees} {os qs : List OpenContainer} {p q : Unfinished} → Live a us os p ≡ Live b ts qs q → (os ≡ qs) × (p ≡ q)
-same_open e = (cc, cc)
-
 bare : (holds : Partial → Part → Type 0) (outer : List Level) (l : Level) (left at n : ℕ) (ts : Trees) (s : State) → Stands holds outer l left at s → s ≡ Live n ts [] nothing → (left ≡ 0) × (outer ≡ [])
 bare holds outer l left at n ts s h is =
-    let same = same_open (sym h.is ∙ is) in
-    (go h.amid h.missing same.1, nil_from_length outer (outer_count h.partial outer l h.levels.0 ∙ ap length same.0))
+    let none : open_in h.partial ≡ [] = cc (sym h.is ∙ is) in
+    (go h.amid h.missing (cc (sym h.is ∙ is)), nil_from_length outer (outer_count h.partial outer l h.levels.0 ∙ ap length none))
   where
     go : (c : Part) → Missing left c → unfinished c ≡ nothing → left ≡ 0
     go no_part none e = none
@@ -31,10 +28,7 @@ may_end_here holds outer l m s n ts here is = go m.head refl here
   where
     go : (h : Option PartialHead) → m.head ≡ h → HereAt holds outer l m.left m.at h s → MayEnd outer m
     go None e h = let b = bare holds outer l m.left m.at n ts s h is in (e, b.0, b.1)
-    go (Some p) e (short, f, held, are, takes, at) = absurd (clash (same_open (sym at ∙ is)).1)
-      where
-        clash : seen_head p ≡ nothing → ⊥
-        clash e = cc
+    go (Some p) e (short, f, held, are, takes, at) = cc (sym at ∙ is)
 
 -- A front y of the piece was read, the rest is to come, and n bytes of that are taken next.
 module _ (piece y rest : List ℕ) (cut : piece ≡ y ++ rest) (n : ℕ) (fits : n ≤ length rest) where

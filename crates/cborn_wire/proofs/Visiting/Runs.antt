@@ -1,6 +1,6 @@
 -- What is read and made of leaves that are taken several at a time.
 use Rattle.std.specs.Prelude.{◌≡◌, ◌⊎◌, ◌+◌, ◌-◌, ◌/◌, ◌%◌, ◌^◌, ◌<◌, ◌≤◌, ◌∷◌, ◌++◌}
-use Rattle.cborn_wire.proofs.Common.{refl, sym, ap, ◌∙◌, subst, inl, inr, ℕ, List, [], length, take, drop, Bool, true, false, cond, leb, ltb, eqb-true, false≢true, Option, Some, None, arith, append-nil, length-append, drop-take, take-append-drop, take-append-le, take_all, length-take-le, take-add, AreBytes, Width, Direct, One, Two, Four, Eight, Major, Unsigned, Negative, ByteString, TextString, Array, Map, Tag, Other, Given, head, WidthFits, least, Tree, Uint, Nint, an_array, a_map, a_tag, in_chunks, Partial, Part, IsFree, top, inside, no_part, put, last_key, TakesItem, IsInteger, IsShortLeaf, AreShortIntegers, IsShortPair, text_in, puts, InArray, AtKey, Level, LevelKind, GivenHead, major_at, slot, open_depth, finished, run, ready, open_in, state, levels, Keeps, with_part, lessened, is_array, is_at_key, is_even, kind_at_none, room_in, IsLeafOf, IsLeaf, content_len, leaf_tree, AfterLeaves, TakesRun}
+use Rattle.cborn_wire.proofs.Common.{refl, sym, ap, ◌∙◌, subst, inl, inr, ℕ, List, [], length, take, drop, Bool, true, false, cond, leb, ltb, eqb-true, false≢true, Option, Some, None, arith, append-nil, length-append, drop-take, take-append-drop, take-append-le, take_all, length-take-le, take-add, AreBytes, Width, Direct, Major, Unsigned, Negative, ByteString, TextString, Other, Given, head, WidthFits, least, Tree, Uint, Nint, an_array, a_map, Partial, Part, IsFree, top, inside, no_part, put, last_key, TakesItem, IsInteger, IsShortLeaf, AreShortIntegers, IsShortPair, text_in, puts, InArray, AtKey, Level, LevelKind, GivenHead, major_at, slot, open_depth, finished, run, ready, open_in, state, levels, Keeps, with_part, lessened, is_array, is_at_key, is_even, kind_at_none, room_in, IsLeafOf, IsLeaf, content_len, leaf_tree, AfterLeaves, TakesRun}
 use Rattle.cborn_model.specs.declared.visitors.LeafPair.{LeafPair}
 use Rattle.cborn_model.proofs.Bytes.{bytes-right}
 use Rattle.cborn_model.proofs.Numbers.Simples.{simple_value}
@@ -38,19 +38,16 @@ one_taken place old new x h n l leaf visited = (
 pub in_array : (f : Partial) (ls : List Level) (l : Level) → levels f ≡ ls ++ l ∷ [] → is_array l.kind ≡ true → InArray f
 in_array (top ts) ls l e is = cc (ap (λ (m : Level). is_array m.kind) (last_same [] ls e).1 ∙ is)
 in_array (inside f (an_array p s c) ts) ls l e is = tt
-in_array (inside f (a_map p s None) ts) ls l e is = cc (ap (λ (m : Level). is_array m.kind) (last_same (levels f) ls e).1 ∙ is)
 in_array (inside f (a_map p s (Some n)) ts) ls l e is = go (ltb (length ts + 2 ^ 64) (n + n)) (ap (λ (m : Level). is_array m.kind) (last_same (levels f) ls e).1 ∙ is)
   where
     go : (b : Bool) → is_array (cond b GreatMap AMap) ≡ true → ⊥
     go true h = cc
     go false h = cc
-in_array (inside f (a_tag p w n) ts) ls l e is = cc (ap (λ (m : Level). is_array m.kind) (last_same (levels f) ls e).1 ∙ is)
-in_array (inside f (in_chunks p j) ts) ls l e is = cc (ap (λ (m : Level). is_array m.kind) (last_same (levels f) ls e).1 ∙ is)
+in_array (inside f o ts) ls l e is = cc (ap (λ (m : Level). is_array m.kind) (last_same (levels f) ls e).1 ∙ is)
 
 pub at_key : (f : Partial) (ls : List Level) (l : Level) → levels f ≡ ls ++ l ∷ [] → is_at_key l.kind l.missing ≡ true → AtKey f
 at_key (top ts) ls l e is = cc (ap (λ (m : Level). is_at_key m.kind m.missing) (last_same [] ls e).1 ∙ is)
 at_key (inside f (an_array p s None) ts) ls l e is = cc (ap (λ (m : Level). is_at_key m.kind m.missing) (last_same (levels f) ls e).1 ∙ is)
-at_key (inside f (an_array p s (Some n)) ts) ls l e is = cc (ap (λ (m : Level). is_at_key m.kind m.missing) (last_same (levels f) ls e).1 ∙ is)
 at_key (inside f (a_map p s None) ts) ls l e is = go (last_key ts) refl (ap (λ (m : Level). is_at_key m.kind m.missing) (last_same (levels f) ls e).1 ∙ is)
   where
     go : (x : Option Tree) → last_key ts ≡ x → is_even (lessened 0 (length ts)) ≡ true → last_key ts ≡ None
@@ -62,8 +59,7 @@ at_key (inside f (a_map p s (Some n)) ts) ls l e is = go (last_key ts) (ltb (len
     go None b h even = h
     go (Some k) true h even = absurd (false≢true (sym (value_parity n ts k h) ∙ even))
     go (Some k) false h even = absurd (false≢true (sym (value_parity n ts k h) ∙ even))
-at_key (inside f (a_tag p w n) ts) ls l e is = cc (ap (λ (m : Level). is_at_key m.kind m.missing) (last_same (levels f) ls e).1 ∙ is)
-at_key (inside f (in_chunks p j) ts) ls l e is = cc (ap (λ (m : Level). is_at_key m.kind m.missing) (last_same (levels f) ls e).1 ∙ is)
+at_key (inside f o ts) ls l e is = cc (ap (λ (m : Level). is_at_key m.kind m.missing) (last_same (levels f) ls e).1 ∙ is)
 
 -- after a key its value is missing
 key_counted : (l : Level) → is_at_key l.kind l.missing ≡ true → with_part l ≡ Some (record l { missing = lessened l.missing 1 })
@@ -88,10 +84,7 @@ array_same (top ts) t h = absurd h
 
 array_after : (f : Partial) (t : Tree) → InArray f → InArray (put f t)
 array_after (inside f (an_array p s c) ts) t h = tt
-array_after (inside f (a_map p s c) ts) t h = absurd h
-array_after (inside f (a_tag p w n) ts) t h = absurd h
-array_after (inside f (in_chunks p j) ts) t h = absurd h
-array_after (top ts) t h = absurd h
+array_after f t h = absurd h
 
 -- a key and its value
 
@@ -99,18 +92,11 @@ short_as : (p : ℕ) (m : Major) (w : Width) (n : ℕ) (y z : List ℕ) → AreB
 short_as p Unsigned w n [] z are l fits e s c = record { placed = refl; fits = fits; short = s; spells = sym (c ∙ append-nil (head Unsigned (Given w n))) }
 short_as p Negative w n [] z are l fits e s c = record { placed = refl; fits = fits; short = s; spells = sym (c ∙ append-nil (head Negative (Given w n))) }
 short_as p Other Direct n [] z are l fits e s c = record { placed = refl; fits = simple_value n (inl fits); short = tt; spells = ap (λ v. head Other (Given v n)) (sym s) ∙ sym (c ∙ append-nil (head Other (Given Direct n))) }
-short_as p Unsigned w n (b ∷ y) z are l fits e s c = absurd (omega (arith, e))
-short_as p Negative w n (b ∷ y) z are l fits e s c = absurd (omega (arith, e))
-short_as p Other Direct n (b ∷ y) z are l fits e s c = absurd (omega (arith, e))
-short_as p Other One n y z are l fits e s c = cc
-short_as p Other Two n y z are l fits e s c = cc
-short_as p Other Four n y z are l fits e s c = cc
-short_as p Other Eight n y z are l fits e s c = cc
 short_as p ByteString w n y z are l fits e s c = record { placed = refl; fits = (subst (WidthFits w) (sym e) fits, are); short = s ∙ ap least (sym e); spells = ap (λ k. head ByteString (Given w k) ++ y) e ∙ sym c }
 short_as p TextString w n y z are l fits e s c = record { placed = refl; fits = (subst (WidthFits w) (sym e) fits, are); short = s ∙ ap least (sym e); spells = ap (λ k. head TextString (Given w k) ++ y) e ∙ sym c }
-short_as p Array w n y z are l fits e s c = absurd l
-short_as p Map w n y z are l fits e s c = absurd l
-short_as p Tag w n y z are l fits e s c = absurd l
+short_as p Other w n y z are l fits e s c = cc
+short_as p m w n (b ∷ y) z are l fits e s c = absurd (omega (arith, e))
+short_as p m w n [] z are l fits e s c = absurd l
 
 short_leaf : (p : ℕ) (x : List ℕ) (h : GivenHead) (n : ℕ) → AreBytes x → IsLeafOf x h n → h.width ≡ least h.argument → IsShortLeaf p (take n x) (leaf_in p x h n)
 short_leaf p x h n are leaf short =

@@ -1,29 +1,17 @@
 -- What is taken off the front of a piece.
 use Rattle.std.specs.Prelude.{◌≡◌, ◌+◌, ◌/◌, ◌%◌, ◌<◌, ◌≤◌, ◌∷◌, ◌++◌}
-use Rattle.cborn_wire.proofs.Common.{refl, sym, ap, ◌∙◌, subst, ℕ, List, [], length, take, drop, get_or, Bool, false, leb, Option, Some, None, arith, length-append, add-one, take-append-drop, length-take-le, AreBytes, Width, Direct, Major, Unsigned, ByteString, TextString, Other, Argument, Given, EndlessArgument, Trees, in_chunks, Partial, top, inside, Part, no_part, part, string_tree, TakesItem, TakesString, VisitFault, Refused, Memory, StringKind, OfBytes, OfText, major_of, Slot, item, chunk, OpenContainer, opened, slot, slot_in, open_depth, IsNoString, AreOpen, Head, Level, PartialHead, major_at, seen_argument, IsHeadOf, Info, Next, info_at, info_for, is_of_kind, is_break, is_bad_chunk, head_reason, plain, width_bytes, argument_of, content_of, nothing, Unfinished, gathering, State, Live, begin_head, unless, finished, run, IsReached, open_in, state, level_in, levels, Keeps, Takes, slot_of, Missing, Stands, FailsAs, HereAt}
+use Rattle.cborn_wire.proofs.Common.{refl, sym, ap, ◌∙◌, subst, ℕ, List, [], length, take, drop, get_or, Bool, false, leb, Option, Some, None, arith, length-append, add-one, take-append-drop, AreBytes, Width, Direct, Major, Unsigned, ByteString, TextString, Other, Argument, Given, EndlessArgument, Trees, in_chunks, Partial, top, inside, Part, no_part, part, TakesItem, TakesString, VisitFault, Refused, Memory, StringKind, OfBytes, OfText, major_of, Slot, item, chunk, OpenContainer, opened, slot, slot_in, open_depth, IsNoString, AreOpen, Head, Level, PartialHead, major_at, seen_argument, IsHeadOf, Info, Next, info_at, info_for, is_of_kind, is_break, is_bad_chunk, head_reason, plain, width_bytes, argument_of, nothing, Unfinished, gathering, State, Live, begin_head, unless, run, IsReached, open_in, state, level_in, levels, Keeps, Takes, slot_of, Missing, Stands, FailsAs, HereAt}
 use Rattle.cborn_model.proofs.Bytes.{bytes-left}
-use Rattle.cborn_wire.proofs.Machine.Reached.{depth_is_length}
+use Rattle.cborn_wire.proofs.Machine.SoundRuns.{depth_is_length, sound, InfoIs, IsWide, info_is}
 use Rattle.cborn_wire.proofs.Machine.TakesItems.{given_endless}
-use Rattle.cborn_wire.proofs.Machine.Pieces.{major_of_head, info_of_head, content_more, content_done}
+use Rattle.cborn_wire.proofs.Machine.Pieces.{major_of_head, info_of_head}
 use Rattle.cborn_wire.proofs.Machine.SoundSteps.{is_clear, free_of, other_kind, open_string, shallow_open}
 use Rattle.cborn_wire.proofs.Machine.Running.{run-append, failed_run}
 use Rattle.cborn_wire.proofs.Machine.SoundItems.{SoundLive, Sound}
-use Rattle.cborn_wire.proofs.Machine.SoundRuns.{sound, InfoIs, IsWide, info_is}
 use Rattle.cborn_wire.proofs.Visiting.Counting.{top_slot}
 
 pub bytes-take : (n : ℕ) (x : List ℕ) → AreBytes x → AreBytes (take n x)
 bytes-take n x h = bytes-left (take n x) (drop n x) (subst AreBytes (sym (take-append-drop n x)) h)
-
--- more bytes of a string
-module _ (limit at : ℕ) (rd : Trees) (os : List OpenContainer) (p : ℕ) (k : StringKind) (w : Width) (n : ℕ) (got piece : List ℕ) (m : ℕ) (fits : m ≤ length piece) where
-  many : length (take m piece) ≡ m
-  many = length-take-le m piece fits
-
-  pub content_ends : length got < n → length got + m ≡ n → run limit (Live at rd os (gathering p (content_of k w) n got)) (take m piece) ≡ finished (at + m) rd os (string_tree p k w (got ++ take m piece))
-  content_ends h all = content_done limit at rd os p k w n got (take m piece) h (omega (arith, many)) ∙ ap (λ j. finished (at + j) rd os (string_tree p k w (got ++ take m piece))) many
-
-  pub content_stays : length got + m < n → run limit (Live at rd os (gathering p (content_of k w) n got)) (take m piece) ≡ Live (at + m) rd os (gathering p (content_of k w) n (got ++ take m piece))
-  content_stays h = content_more limit at rd os p k w n got (take m piece) (omega (arith, many)) ∙ ap (λ j. Live (at + j) rd os (gathering p (content_of k w) n (got ++ take m piece))) many
 
 -- Between strings the visitor holds no part of one.
 pub between : (holds : Partial → Part → Type 0) (outer : List Level) (l : Level) (left at : ℕ) (s : State) → left ≡ 0 → Stands holds outer l left at s
@@ -58,8 +46,7 @@ outer_count f ls l e = omega (arith, level_count f, ap length e, length-append l
 chunk_reason : (k : StringKind) (m : Major) (i : Info) (f g : Bool) → head_reason (chunk k) f m i [] ≡ head_reason (chunk k) g m i []
 chunk_reason OfBytes Unsigned i f g = refl
 chunk_reason OfText Unsigned i f g = refl
-chunk_reason OfBytes m i f g = refl
-chunk_reason OfText m i f g = refl
+chunk_reason k m i f g = refl
 
 any_depth : (os : List OpenContainer) (limit j : ℕ) (m : Major) (i : Info) → (IsNoString os → j ≡ open_depth os) → head_reason (slot os) (leb limit j) m i [] ≡ head_reason (slot os) (leb limit (open_depth os)) m i []
 any_depth [] limit j m i e = ap (λ n. head_reason item (leb limit n) m i []) (e tt)
@@ -85,17 +72,15 @@ room limit most f ls l are small h = omega (arith, outer_count f ls l are.0, ope
 -- what is allowed may be next
 
 item_next : (f : Partial) → IsNoString (open_in f) → TakesItem f
-item_next (top ts) h = tt
 item_next (inside f (in_chunks p k) ts) h = absurd h
-item_next (inside f o ts) h = tt
+item_next f h = tt
 
 string_next : (f : Partial) (k : StringKind) (i : Info) → is_bad_chunk (slot (open_in f)) (major_of k) i ≡ false → TakesString f k
-string_next (top ts) k i e = tt
 string_next (inside f (in_chunks p OfBytes) ts) OfBytes i e = refl
 string_next (inside f (in_chunks p OfText) ts) OfText i e = refl
 string_next (inside f (in_chunks p OfBytes) ts) OfText i e = cc
 string_next (inside f (in_chunks p OfText) ts) OfBytes i e = cc
-string_next (inside f o ts) k i e = tt
+string_next f k i e = tt
 
 module _ (f : Partial) (full : Bool) where
   allowed : (m : Major) (a : Argument) → head_reason (slot (open_in f)) full m (info_for a) [] ≡ None → is_bad_chunk (slot (open_in f)) m (info_for a) ≡ false

@@ -63,7 +63,7 @@ abbrev pub TakesRun : ℕ → List ℕ → Level → ℕ → (Partial → Part �
 TakesRun place x l count old new n =
     (0 < n) × (n ≤ length x) × ((f : Partial) (around : List Level) → old f no_part → Keeps f around l → TakesItem f → AfterLeaves place (place + n) f (λ h. new h no_part) around (record l { missing = lessened l.missing count }) (take n x))
 
--- n bytes of the piece were read after the partial sequence f, and at most one more item of the input is whole
+-- the first n bytes of the piece were read after the partial sequence f, and at most one more item of the input is whole
 abbrev pub TakesHead : ℕ → ℕ → Partial → List ℕ → (Partial → Part → Type 0) → List Level → Level → ℕ → Type 0
 TakesHead limit place f piece holds around l n =
-    (n ≤ length piece) × Stands holds around l 0 (place + n) (run limit (state place f no_part) (take n piece)) × AtMostOneMore (ready f) (run limit (state place f no_part) (take n piece))
+    Stands holds around l 0 (place + n) (run limit (state place f no_part) (take n piece)) × AtMostOneMore (ready f) (run limit (state place f no_part) (take n piece))

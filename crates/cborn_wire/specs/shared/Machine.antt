@@ -64,10 +64,6 @@ pub data State : Type 0 where
 abbrev pub start : ℕ → State
 start p = Live p no_item [] nothing
 
-abbrev pub IsLive : State → Type 0
-IsLive (Live fed ready os partial) = Unit {0}
-IsLive (Failed ready p r) = ⊥
-
 abbrev pub ready_in : State → Trees
 ready_in (Live fed ready os partial) = ready
 ready_in (Failed ready p r) = ready

@@ -1,5 +1,5 @@
 use Rattle.cborn_wire.proofs.Common.{refl, arith}
-use Rattle.cborn_wire.proofs.Visiting.Containers.{endless_at, head_opens, break_ends}
+use Rattle.cborn_wire.proofs.Visiting.Heads.{endless_at, head_opens, break_ends}
 use Rattle.cborn_wire.proofs.Visiting.Taking.{first_next}
 use Rattle.cborn_wire.proofs.containers.take_endless.Goals as goal
 

@@ -1,41 +1,14 @@
-use Rattle.std.specs.Prelude.{◌++◌, ◌≤◌}
+use Rattle.std.specs.Prelude.{◌++◌}
 use Rattle.cborn_wire.proofs.Common.{arith, ap, length, take, length-append, length-take-le}
 use Rattle.cborn_model.proofs.Bytes.{are_bytes}
 use Rattle.cborn_wire.proofs.Visiting.Heads.{still_open, front_heads, more_heads, heads_go_on}
 use Rattle.cborn_wire.proofs.Visiting.Pieces.{next_cut}
-use Rattle.cborn_wire.proofs.Visiting.Taking.{room}
 use Rattle.cborn_wire.proofs.containers.take_heads.Goals as goal
-
-pub take_whole-requires-clause-room : goal.take_whole-requires-clause-room
-take_whole-requires-clause-room g c =
-    let (f, base, held, keeps, from) = c.requires.here in
-    let (y, cut, at, none, goes) = c.heads.invariant in
-    let (h, now, kept, same, is) = goes f base held keeps from in
-    room c.args.limit g.L.Levels.most h (g.L.Levels.outer c.heads.levels) (g.L.Levels.inner c.heads.levels) kept c.requires.levels
-    (still_open c.args.limit c.args.place f c.args.piece.now y c.heads.rest.now cut c.heads.at at h same is base (are_bytes c.args.piece.now c.type_inv.piece) from)
-
-fits : (g : _) (c : goal.Else-len-eq0 g) → c.in_ok-len.len ≤ length c.heads.rest.now
-fits g c =
-    let (f, base, held, keeps, from) = c.requires.here in
-    let (y, cut, at, none, goes) = c.heads.invariant in
-    let (h, now, kept, same, is) = goes f base held keeps from in
-    let all = still_open c.args.limit c.args.place f c.args.piece.now y c.heads.rest.now cut c.heads.at at h same is base (are_bytes c.args.piece.now c.type_inv.piece) from in
-    (c.in_ok-len.ensures.goes h now kept all (omega (arith, c.if-len-eq0.false))).0
-
-pub slice_bounds-rest-count : goal.slice_bounds-rest-count
-slice_bounds-rest-count g c = fits g c
-
-pub slice_bounds-rest-start : goal.slice_bounds-rest-start
-slice_bounds-rest-start g c = fits g c
 
 pub overflow_add-at : goal.overflow_add-at
 overflow_add-at g c =
-    let (f, base, held, keeps, from) = c.requires.here in
     let (y, cut, at, none, goes) = c.heads.invariant in
-    let (h, now, kept, same, is) = goes f base held keeps from in
-    let all = still_open c.args.limit c.args.place f c.args.piece.now y c.heads.rest.now cut c.heads.at at h same is base (are_bytes c.args.piece.now c.type_inv.piece) from in
-    let takes = c.in_ok-len.ensures.goes h now kept all (omega (arith, c.if-len-eq0.false)) in
-    omega (arith, takes.0, at, ap length cut, length-append y c.heads.rest.now, c.requires.far)
+    omega (arith, c.in_ok-len.ensures.within, at, ap length cut, length-append y c.heads.rest.now, c.requires.far)
 
 pub returns-then-len-eq0-clause-goes : goal.returns-then-len-eq0-clause-goes
 returns-then-len-eq0-clause-goes g c = λ f base held keeps from some.
@@ -50,7 +23,7 @@ returns-then-count-eq0-clause-goes g c = λ f base held keeps from some.
     let (h, now, kept, same, is) = goes f base held keeps from in
     let all = still_open c.args.limit c.args.place f c.args.piece.now y c.heads.rest.now cut c.heads.at at h same is base (are_bytes c.args.piece.now c.type_inv.piece) from in
     let new = c.take_whole.new in
-    more_heads c.args.limit c.args.place f c.args.piece.now y c.heads.rest.now cut c.heads.at at h same is (g.V.Visitor.holds new.visitor) (g.L.Levels.outer new.levels) (g.L.Levels.inner new.levels) c.in_ok-len.len (c.in_ok-len.ensures.goes h now kept all (omega (arith, c.if-len-eq0.false)))
+    more_heads c.args.limit c.args.place f c.args.piece.now y c.heads.rest.now cut c.heads.at at h same is (g.V.Visitor.holds new.visitor) (g.L.Levels.outer new.levels) (g.L.Levels.inner new.levels) c.in_ok-len.len c.in_ok-len.ensures.within (c.in_ok-len.ensures.goes h now kept all (omega (arith, c.if-len-eq0.false)))
 
 pub returns-clause-goes : goal.returns-clause-goes
 returns-clause-goes g c = λ f base held keeps from some.
@@ -64,10 +37,7 @@ heads-preserved g c =
     let rest = c.heads.rest.now in
     let n = c.in_ok-len.len in
     let new = c.take_whole.new in
-    let (f0, base0, held0, keeps0, from0) = c.requires.here in
-    let (h0, now0, kept0, same0, is0) = goes f0 base0 held0 keeps0 from0 in
-    let all0 = still_open c.args.limit c.args.place f0 c.args.piece.now y rest cut c.heads.at at h0 same0 is0 base0 (are_bytes c.args.piece.now c.type_inv.piece) from0 in
-    let whole = (c.in_ok-len.ensures.goes h0 now0 kept0 all0 (omega (arith, c.if-len-eq0.false))).0 in (
+    let whole = c.in_ok-len.ensures.within in (
       y ++ take n rest,
       next_cut c.args.piece.now y rest cut n whole,
       omega (arith, at, length-append y (take n rest), length-take-le n rest whole),
@@ -75,5 +45,5 @@ heads-preserved g c =
       λ f base held keeps from.
           let (h, now, kept, same, is) = goes f base held keeps from in
           let all = still_open c.args.limit c.args.place f c.args.piece.now y rest cut c.heads.at at h same is base (are_bytes c.args.piece.now c.type_inv.piece) from in
-          heads_go_on c.args.limit c.args.place f c.args.piece.now y rest cut c.heads.at at h same is (g.V.Visitor.holds new.visitor) (g.L.Levels.outer new.levels) (g.L.Levels.inner new.levels) n (c.in_ok-len.ensures.goes h now kept all (omega (arith, c.if-len-eq0.false))) (omega (arith, c.if-count-eq0.false, c.count.ensures)),
+          heads_go_on c.args.limit c.args.place f c.args.piece.now y rest cut c.heads.at at h same is (g.V.Visitor.holds new.visitor) (g.L.Levels.outer new.levels) (g.L.Levels.inner new.levels) n whole (c.in_ok-len.ensures.goes h now kept all (omega (arith, c.if-len-eq0.false))) (omega (arith, c.if-count-eq0.false, c.count.ensures)),
     )

@@ -1,6 +1,6 @@
 use Rattle.std.specs.Prelude.{◌≡◌, ◌/◌, ◌%◌}
 use Rattle.cborn_wire.proofs.Common.{refl, subst, leb, None, [], slot, open_depth, open_in, major_at, info_at, head_reason}
-use Rattle.cborn_wire.proofs.Visiting.Containers.{head_opens}
+use Rattle.cborn_wire.proofs.Visiting.Heads.{head_opens}
 use Rattle.cborn_wire.proofs.Visiting.Taking.{first_next}
 use Rattle.cborn_wire.proofs.containers.take_whole.Goals as goal
 

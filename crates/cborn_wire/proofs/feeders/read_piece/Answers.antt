@@ -1,6 +1,6 @@
 use Rattle.std.specs.Prelude.{◌≡◌, ◌++◌}
 use Rattle.cborn_wire.proofs.Common.{rules, take, append-nil, option_to_list, err_from_is_err_and}
-use Rattle.cborn_wire.proofs.Feeding.PieceSteps.{then_stops, then_moved}
+use Rattle.cborn_wire.proofs.Feeding.ItemSteps.{then_stops, then_moved}
 use Rattle.cborn_wire.proofs.Visiting.Pieces.{next_cut}
 use Rattle.cborn_wire.proofs.feeders.read_piece.Goals as goal
 use Rattle.cborn_wire.proofs.feeders.read_piece.Goals.{in-Some+in_ok-push_back, in_default}

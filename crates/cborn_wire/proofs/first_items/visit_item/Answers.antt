@@ -1,8 +1,7 @@
 use Rattle.cborn_wire.proofs.Common.{refl, ap, ◌∙◌, subst, [], Err, length, drop, take, inl, inr, arith, take_rest, top, no_part, ReadsItem}
 use Rattle.std.proofs.Common.{length-drop, ◌-◌, ◌∷◌}
-use Rattle.cborn_wire.proofs.FirstItem.{refused_first, first_whole, first_cut}
+use Rattle.cborn_wire.proofs.Visiting.Ending.{refused_first, first_whole, first_cut, fresh_fed}
 use Rattle.cborn_model.proofs.Bytes.{are_bytes}
-use Rattle.cborn_wire.proofs.Visiting.Ending.{fresh_fed}
 use Rattle.cborn_wire.proofs.first_items.visit_item.Goals as goal
 
 pub read-requires-clause-fed : goal.read-requires-clause-fed

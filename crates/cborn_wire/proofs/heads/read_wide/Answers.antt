@@ -1,10 +1,7 @@
 use Rattle.cborn_wire.proofs.Common.{code}
 use Rattle.cborn_model.proofs.Bytes.{are_bytes}
-use Rattle.cborn_wire.proofs.HeadReading.HeadFronts.{code_small, wide_head, wide_front}
+use Rattle.cborn_wire.proofs.HeadReading.HeadFronts.{code_small, wide_front}
 use Rattle.cborn_wire.proofs.heads.read_wide.Goals as goal
-
-pub returns-in-Some : goal.returns-in-Some
-returns-in-Some c = λ first e i free. rw c.head_of.ensures (wide_head c.args.rest.now first (code c.args.major) c.in-Some.n c.args.len c.args.width (code_small c.args.major) e i (are_bytes c.args.rest.now c.type_inv.rest) c.in-Some.ensures.0 c.in-Some.ensures.1 c.requires free)
 
 pub returns-in-None : goal.returns-in-None
 returns-in-None c = λ first e i free. wide_front c.args.rest.now first (code c.args.major) c.args.width (code_small c.args.major) e i (are_bytes c.args.rest.now c.type_inv.rest) c.in-None.ensures free

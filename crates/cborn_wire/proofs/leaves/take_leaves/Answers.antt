@@ -11,5 +11,5 @@ returns-clause-goes g c = λ limit f held keeps some.
     let (more, whole, after) = c.in_ok-taken.ensures.taken in
     let r = after f (g.L.Levels.outer l) held (kept_as f refl c.innermost-level.ensures keeps) takes in
     let now = c.finish.new in
-    leaves_taken limit c.args.place c.in_ok-taken.taken.len f c.args.piece.now (g.V.Visitor.holds now.visitor) (g.L.Levels.outer now.levels) (g.L.Levels.inner now.levels) whole r c.in_ok-finish.field-0 c.in_ok-finish.ensures.zero
+    leaves_taken limit c.args.place c.in_ok-taken.taken.len f c.args.piece.now (g.V.Visitor.holds now.visitor) (g.L.Levels.outer now.levels) (g.L.Levels.inner now.levels) r c.in_ok-finish.field-0 c.in_ok-finish.ensures.zero
     (c.in_ok-finish.ensures.goes r.before r.last r.takes r.held (kept_as r.before c.add_parts.ensures.outer (c.add_parts.ensures.inner ∙ ap (λ (m : Level). record m { missing = lessened m.missing c.in_ok-taken.taken.before_last }) (sym c.innermost-level.ensures)) r.levels))

@@ -16,12 +16,6 @@ blocks-2-preserved c =
       after = m.1;
     }
 
-pub returns-clause-before : goal.returns-clause-before
-returns-clause-before c =
-    let b = c.blocks-2 in
-    let whole : b.end ≡ c.args.from + (b.end - c.args.from) = omega (arith, b.invariant.least) in
-    (moved c.args.out.now.items b.out.items c.move_block-2.new.out.items c.args.from (b.end - c.args.from) b.end c.args.more whole b.invariant.before b.invariant.after c.move_block-2.ensures.before c.move_block-2.ensures.after).0
-
 pub returns-clause-after : goal.returns-clause-after
 returns-clause-after c =
     let b = c.blocks-2 in

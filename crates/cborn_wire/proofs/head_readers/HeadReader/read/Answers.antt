@@ -1,17 +1,9 @@
 use Rattle.std.specs.Prelude.{◌++◌}
-use Rattle.cborn_wire.proofs.Common.{Err, ◌∙◌, refl, subst, take, arith, length-append, length-take-le, err_from_is_err_and, AreBytes, run, start, ReadsItem}
+use Rattle.cborn_wire.proofs.Common.{Err, false≢true, sym, ◌∙◌, refl, subst, take, arith, length-append, length-take-le, err_from_is_err_and, AreBytes, ReadsItem}
 use Rattle.cborn_model.proofs.Bytes.{bytes-right, are_bytes}
-use Rattle.cborn_wire.proofs.Visiting.Pieces.{next_cut, next_taken, reached_now, next_fed, next_item, next_refused, next_item_refused, none_more}
+use Rattle.cborn_wire.proofs.Visiting.Pieces.{next_cut, next_taken, next_fed, next_item, next_refused, next_item_refused, none_more}
 use Rattle.cborn_wire.proofs.head_readers.HeadReader.read.Goals as goal
-use Rattle.cborn_wire.proofs.head_readers.HeadReader.read.Goals.{else-is_item-via-then-is_item+else-is_whole, else-is_item-via-else-is_item}
-
-pub take-requires-clause-here : goal.take-requires-clause-here
-take-requires-clause-here g c =
-    let (y, cut, limit, at, goes, none) = c.loop-rest.invariant in
-    let (base, x, fed) = c.requires.fed in
-    let h = goes base x fed in
-    let m = c.loop-rest.self in
-    (run m.limit (start base) (x ++ y), base, h.2, reached_now g.V.Visitor.holds g.L.Levels.outer g.L.Levels.inner c.loop-rest.visitor c.loop-rest.levels m base x y c.loop-rest.rest.now h)
+use Rattle.cborn_wire.proofs.head_readers.HeadReader.read.Goals.{in-Item, in_default, else-matches-via-then-matches+else-is_whole, else-matches-via-else-matches}
 
 pub returns-in_err-len-clause-fed : goal.returns-in_err-len-clause-fed
 returns-in_err-len-clause-fed g c = λ base x fed.
@@ -62,5 +54,5 @@ loop-rest-preserved g c =
           (bytes-right y rest (subst AreBytes cut (are_bytes c.args.piece.now c.type_inv.piece))),
       λ item base x fed.
           none_more g.V.Visitor.holds g.L.Levels.outer g.L.Levels.inner old.visitor old.levels old.self base x y rest (goes base x fed) new.visitor new.levels new.self n took.goes took.some.1 took.some.2 (none item base x fed)
-          (elim c.else-is_item.branch [ else-is_item-via-then-is_item+else-is_whole w ↦ w.if-is_whole.ensures.cut refl | else-is_item-via-else-is_item w ↦ absurd (w.if-is_item.ensures.item refl item) ]),
+          (elim c.else-matches.branch [ else-matches-via-then-matches+else-is_whole w ↦ w.if-is_whole.ensures.cut refl | else-matches-via-else-matches w ↦ absurd (elim c.match-matches.branch [ in-Item v ↦ false≢true (sym w.if-matches.false ∙ v.matches-is) | in_default v ↦ v.in_default.not-Item item ]) ]),
     )

@@ -1,22 +1,12 @@
-use Rattle.cborn_wire.proofs.Common.{refl, sym, ◌∙◌, subst, inl, ap, err_from_is_err_and, no_part, major_at, seen_argument, ready_in, AtMostOneMore, ready, open_in, state}
-use Rattle.cborn_wire.proofs.HeadReading.HeadFronts.{short_front}
-use Rattle.cborn_wire.proofs.HeadReading.HeadSteps.{first_refused, second_refused, head_fits, head_taken}
-use Rattle.cborn_wire.proofs.Machine.OneMore.{one_more_head}
+use Rattle.cborn_wire.proofs.Common.{sym, ◌∙◌, subst, inl, ap, err_from_is_err_and, no_part, major_at, seen_argument, ready_in, AtMostOneMore, ready, open_in, state}
+use Rattle.cborn_wire.proofs.HeadReading.HeadSteps.{second_refused, head_taken}
+use Rattle.cborn_wire.proofs.Machine.WholeFront.{one_more_head}
 use Rattle.cborn_wire.proofs.Visiting.Taking.{fails_on, short_taken, stands_here, first_next, short_next}
 use Rattle.cborn_wire.proofs.head_readers.HeadReader.take_head.Goals as goal
-
-pub returns-in-Some-clause-goes : goal.returns-in-Some-clause-goes
-returns-in-Some-clause-goes g c = λ f held are inside.
-    (first_refused c.args.self.now.limit c.args.self.now.at (ready f) (open_in f) c.args.piece.now c.in-Some.reason c.requires.some (sym c.in-Some.is ∙ c.refusal.ensures f are inside))
 
 pub returns-in-Bad-clause-goes : goal.returns-in-Bad-clause-goes
 returns-in-Bad-clause-goes g c = λ f held are inside.
     (second_refused c.args.self.now.limit c.args.self.now.at (ready f) (open_in f) c.args.piece.now c.in-Bad.reason c.requires.some (sym c.in_default.is ∙ c.refusal.ensures f are inside) c.in-Bad.ensures)
-
-pub wide_width-requires : goal.wide_width-requires
-wide_width-requires g c =
-    let wide = short_front c.args.piece.now c.requires.some c.in-Short.ensures in
-    record { least = wide.0; most = wide.1 }
 
 pub returns-in-Short-clause-goes : goal.returns-in-Short-clause-goes
 returns-in-Short-clause-goes g c = λ f held are inside.
@@ -38,6 +28,3 @@ returns-in_ok-self-in-Full-clause-goes g c = λ f held are inside.
       stands_here _ _ _ _ _ c.args.self.now.head _ _ c.requires.between goes (c.in_ok-self-in-Full.ensures.goes f takes held are),
       subst (AtMostOneMore (ready f)) (sym goes) (one_more_head (ready f) (major_at h.major) (seen_argument h.argument) (open_in f) _ _),
     )
-
-pub returns-in_ok-self-in-Full-clause-some : goal.returns-in_ok-self-in-Full-clause-some
-returns-in_ok-self-in-Full-clause-some g c = (head_fits c.args.piece.now c.in-Full.head c.in-Full.len c.in-Full.ensures, refl, refl)

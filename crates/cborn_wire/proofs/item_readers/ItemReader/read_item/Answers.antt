@@ -1,13 +1,6 @@
-use Rattle.cborn_wire.proofs.Common.{refl, take, err_from_is_err_and}
-use Rattle.cborn_wire.proofs.Feeding.ItemSteps.{fails_item, no_item_whole, item_whole}
+use Rattle.cborn_wire.proofs.Common.{refl, take}
+use Rattle.cborn_wire.proofs.Feeding.ItemSteps.{no_item_whole, item_whole}
 use Rattle.cborn_wire.proofs.item_readers.ItemReader.read_item.Goals as goal
-
-pub returns-in_err-len-clause-item : goal.returns-in_err-len-clause-item
-returns-in_err-len-clause-item c =
-    let old = c.requires.made in
-    let e = c.in_err-len.field-0.0 in
-    let p = err_from_is_err_and c.from_residual.result c.from_residual.ensures.1 in
-    rw (p.1, p.2) (fails_item c.args.self.now old c.args.piece.now e (c.in_err-len.ensures.item refl old.base old.read old.fed))
 
 pub returns-in_default-clause-item : goal.returns-in_default-clause-item
 returns-in_default-clause-item c =

@@ -1,10 +1,7 @@
 use Rattle.std.specs.Prelude.{◌≤◌, ◌++◌, ◌∷◌}
-use Rattle.cborn_wire.proofs.Common.{[], sym, ap, ◌∙◌, subst, append_assoc, append-nil, arith, nil_from_length, trees, depth_all, top, FitsAll, around}
+use Rattle.cborn_wire.proofs.Common.{[], sym, ap, ◌∙◌, subst, append_assoc, append-nil, arith, nil_from_length, trees, depth_all, FitsAll}
 use Rattle.cborn_wire.proofs.Building.{part_spelled}
 use Rattle.cborn_wire.proofs.nodes.Nodes.finish.Goals as goal
-
-pub loop-node-init : goal.loop-node-init
-loop-node-init c = λ ts h. sym (ap (λ l. c.in_ok-items.items.items ++ l) (c.into_iter-node-iterator.ensures.into_iter_gives.0 ∙ c.whole_nodes-nodes.ensures (around (top []) c.args.self.outer.items) ts (sym h.0)) ∙ ap (λ l. l ++ ts) c.in_ok-items.ensures.items)
 
 pub new-requires : goal.new-requires
 new-requires c =
