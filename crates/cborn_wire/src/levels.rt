@@ -349,7 +349,20 @@ impl Levels for GrownLevels {
     }
 
     fn open(&mut self, level: Level) -> Result<(), AllocError> {
-        self.outer.push(self.inner)?;
+        // Part by part, as it was written a moment ago: to load two parts at once has to wait until both
+        // are stored.
+        let Level {
+            place,
+            kind,
+            argument,
+            missing,
+        } = self.inner;
+        self.outer.push(Level {
+            place,
+            kind,
+            argument,
+            missing,
+        })?;
         self.inner = level;
         Ok(())
     }
