@@ -1,7 +1,5 @@
 //! Why bytes are refused or aren't deterministic: a sentence for each reason.
 
-ghost use Rattle.std.specs.Prelude.{◌≤◌};
-
 use crate::byte_heads::{content_len, content_of, item_at, whole_head};
 use crate::byte_walks::Walk;
 use crate::faults::count_sentence;
@@ -15,7 +13,7 @@ use cborn_model::{Major, shortest};
 use cborn_wire::{
     Argument, Head, HeadRead, Level, LevelKind, WireFault, WireReason, head_bytes, read_head,
 };
-use std::alloc::AllocError;
+use std::alloc::{AllocError, Global};
 use std::fmt::{self, Display, Formatter};
 
 /// How many bytes of an encoding are written at most.
@@ -39,7 +37,11 @@ impl<'a> RefusedBytes<'a> {
             CountFault::Engine(EngineFault::Wire(WireFault::Refused { reason, .. })) =>
                 self.malformed(reason),
             CountFault::Engine(EngineFault::Invalid(Invalid::Refused { reason, .. })) =>
-                self.invalid(reason),
+                match reason {
+                    InvalidReason::NotUtf8 => self.not_utf8(),
+                    InvalidReason::BadBignum => self.bad_bignum(),
+                    InvalidReason::DuplicateKey => self.duplicate_key(),
+                },
             CountFault::Engine(EngineFault::Show(ShowFault::NotUtf8 { .. })) => self.not_utf8(),
             _ => String::from_str(self.items.alloc, count_sentence(fault)),
         }
@@ -86,9 +88,8 @@ impl<'a> RefusedBytes<'a> {
                 "an indefinite-length string is open since offset {place}: only definite-length strings of its kind may follow, or the break ff"
             ),
             WireReason::UnexpectedBreak => {
-                let mut text = format!(in alloc; "a break ends an indefinite length, and ")?;
-                push_missing(&mut text, level)?;
-                Ok(text)
+                let missing = missing(alloc, level)?;
+                format!(in alloc; "a break ends an indefinite length, and {missing}")
             }
             WireReason::FloatLeftOut => {
                 let bits = head_len(first).saturating_sub(1).saturating_mul(8);
@@ -102,20 +103,13 @@ impl<'a> RefusedBytes<'a> {
             }
             WireReason::TooDeep => too_deep(self.items, "arrays, maps and tags"),
             WireReason::Truncated if !self.rest().is_empty() => self.cut_head(),
+            WireReason::Truncated if level.kind == LevelKind::Sequence => format!(in alloc;
+                "the input ends"
+            ),
             WireReason::Truncated => {
-                let mut text = String::new(alloc);
-                push_missing_at_end(&mut text, level)?;
-                Ok(text)
+                let missing = missing(alloc, level)?;
+                format!(in alloc; "the input ends, and {missing}")
             }
-        }
-    }
-
-    /// Why an item is invalid.
-    fn invalid(&self, reason: InvalidReason) -> Text {
-        match reason {
-            InvalidReason::NotUtf8 => self.not_utf8(),
-            InvalidReason::BadBignum => self.bad_bignum(),
-            InvalidReason::DuplicateKey => self.duplicate_key(),
         }
     }
 
@@ -190,17 +184,14 @@ impl<'a> RefusedBytes<'a> {
 
     /// Why the bignum at the place isn't deterministic, and the deterministic encoding of its integer.
     fn loose_bignum(&self) -> Text {
-        let mut text = format!(in self.items.alloc;
-            "a bignum is for integers beyond 64 bits, and its bytes begin with no 00"
-        )?;
-        if let Some(encoding) = self.items.encoded_at(self.bytes, self.walk.at)? {
-            write!(
-                text,
-                ": the shortest encoding is {}",
+        let rule = "a bignum is for integers beyond 64 bits, and its bytes begin with no 00";
+        match self.items.encoded_at(self.bytes, self.walk.at)? {
+            Some(encoding) => format!(in self.items.alloc;
+                "{rule}: the shortest encoding is {}",
                 Hex(&encoding, ENCODING)
-            )?;
+            ),
+            None => String::from_str(self.items.alloc, rule),
         }
-        Ok(text)
     }
 
     /// What tag 2 or 3 at the place has in place of a byte string.
@@ -244,54 +235,31 @@ pub(crate) fn too_deep(items: &ItemReader, open: &str) -> Text {
     format!(in items.alloc; "the nesting limit is {most}, and this is inside as many {open}: {how}")
 }
 
-/// Writes what the container of an open level lacks, or that none is open.
-fn push_missing(out: &mut String, level: Level) -> Result<(), AllocError> {
+/// What the container of an open level lacks, or that none is open.
+fn missing(alloc: Global, level: Level) -> Text {
     let (place, count, parts) = (level.place, level.argument, level.parts());
-    match level.kind {
-        LevelKind::Sequence => out.push_str("nothing is open here"),
-        LevelKind::Array => {
-            let s = plural(count);
-            write!(
-                out,
-                "the array at offset {place} announces {count} element{s} and has {parts}"
-            )
-        }
-        LevelKind::Map | LevelKind::GreatMap | LevelKind::EndlessMap if parts % 2 == 1 => {
-            write!(
-                out,
-                "the map at offset {place} lacks the value of its last key"
-            )
-        }
+    let s = plural(count);
+    let endless = match level.kind {
+        LevelKind::Sequence => return format!(in alloc; "nothing is open here"),
+        LevelKind::Array => return format!(in alloc;
+            "the array at offset {place} announces {count} element{s} and has {parts}"
+        ),
+        LevelKind::Map | LevelKind::GreatMap | LevelKind::EndlessMap if parts % 2 == 1 =>
+            return format!(in alloc; "the map at offset {place} lacks the value of its last key"),
         LevelKind::Map | LevelKind::GreatMap => {
-            let s = plural(count);
             let pairs = parts / 2;
-            write!(
-                out,
+            return format!(in alloc;
                 "the map at offset {place} announces {count} pair{s} and has {pairs}"
-            )
+            );
         }
-        LevelKind::Tag => write!(out, "the tag {count} at offset {place} lacks its content"),
-        LevelKind::EndlessArray => push_endless(out, "array", place),
-        LevelKind::EndlessMap => push_endless(out, "map", place),
-        LevelKind::Chunks(_) => push_endless(out, "string", place),
-    }
-}
-
-fn push_endless(out: &mut String, kind: &str, place: u64) -> Result<(), AllocError> {
-    write!(
-        out,
-        "the indefinite-length {kind} at offset {place} isn't ended by a break"
-    )
-}
-
-/// Writes that the input ends, and what its innermost open container lacks.
-fn push_missing_at_end(out: &mut String, level: Level) -> Result<(), AllocError> {
-    out.push_str("the input ends")?;
-    if level.kind == LevelKind::Sequence {
-        return Ok(());
-    }
-    out.push_str(", and ")?;
-    push_missing(out, level)
+        LevelKind::Tag => return format!(in alloc;
+            "the tag {count} at offset {place} lacks its content"
+        ),
+        LevelKind::EndlessArray => "array",
+        LevelKind::EndlessMap => "map",
+        LevelKind::Chunks(_) => "string",
+    };
+    format!(in alloc; "the indefinite-length {endless} at offset {place} isn't ended by a break")
 }
 
 /// The ending of a noun after a count.
@@ -341,13 +309,7 @@ impl Display for Shortest {
         if number > 6 {
             return write!(f, "{n:02x}");
         }
-        let (bytes, len) = shortest_head(number, n);
+        let (bytes, len) = head_bytes(number, shortest(n), n);
         write!(f, "{}", Hex(slice_of(&bytes, 0, len), 9))
     }
-}
-
-fn shortest_head(number: u8, n: u64) -> ([u8; 9], usize)
-    requires { number ≤ 6 }
-{
-    head_bytes(number, shortest(n), n)
 }

@@ -1,13 +1,13 @@
 //! Inputs that are compared, and where their parts are.
 
+use crate::faults::answered;
 use crate::items::ItemReader;
 use crate::paths::Step;
 use crate::quotes::{At, Text, valid_front};
 use crate::text_walks::NotationText;
-use cborn_edn::{EdnFault, read_notation};
-use cborn_lex::LexFault;
+use cborn_edn::read_notation;
+use cborn_engine::{CountFault, EngineFault};
 use cborn_model::{Form, Spelled};
-use std::alloc::AllocError;
 
 /// One of two inputs that are compared.
 #[derive(Clone, Copy)]
@@ -27,13 +27,13 @@ impl Compared<'_> {
             return format!(in alloc; "at offset {at}");
         };
         let text = valid_front(input.text);
-        let place = match read_notation(alloc, items.limit, input.profile, text) {
-            Ok(nodes) => place_of(&nodes, steps).map_or(text.len(), |place| place as usize),
-            Err(EdnFault::OutOfMemory | EdnFault::Lex(LexFault::OutOfMemory)) => return Err(
-                AllocError,
-            ),
+        let nodes = read_notation(alloc, items.limit, input.profile, text);
+        let place = match answered(nodes.map_err(|why| CountFault::Engine(EngineFault::from(
+            why,
+        ))))? {
+            Some(nodes) => place_of(&nodes, steps).map_or(text.len(), |place| place as usize),
             // a compared input isn't refused
-            Err(_) => 0,
+            None => 0,
         };
         let at = At(input.text, place);
         format!(in alloc; "at {at} (offset {place})")

@@ -2,9 +2,10 @@
 
 use crate::compared_parts::Compared;
 use crate::differences::explain_difference;
+use crate::faults::answered;
 use crate::same_items::explain_same;
 use crate::text_walks::NotationText;
-use cborn_engine::{Count, CountFault, EngineFault, Kind, normalise_slice, show_slice};
+use cborn_engine::{Count, CountFault, Kind, normalise_slice, show_slice};
 use cborn_model::{KeyOrder, Limit};
 use std::alloc::{AllocError, Global};
 
@@ -22,12 +23,9 @@ pub fn explain_comparison<O: KeyOrder>(
     inputs: (&[u8], &[u8]),
     are_same: bool,
 ) -> Result<String, AllocError> {
-    match compared_lines::<O>(alloc, limit, kinds, inputs, are_same) {
-        Ok(text) => Ok(text),
-        Err(CountFault::Engine(EngineFault::OutOfMemory)) => Err(AllocError),
-        // a compared input isn't refused
-        Err(_) => Ok(String::new(alloc)),
-    }
+    let lines = answered(compared_lines::<O>(alloc, limit, kinds, inputs, are_same))?;
+    // a compared input isn't refused
+    Ok(lines.unwrap_or(String::new(alloc)))
 }
 
 /// What [`explain_comparison`] gives of two inputs.

@@ -231,19 +231,13 @@ fn rest(alloc: Global, ours: &[u8], theirs: &[u8]) -> Text {
 
 /// Lines on the first part that only one of two arrays or of two maps has. Of anything else there are none.
 fn lone_parts<O: KeyOrder>(ours: &mut Side<'_>, theirs: &mut Side<'_>) -> Text {
-    let arrays = (
-        inside(ours.item, Major::Array),
-        inside(theirs.item, Major::Array),
-    );
-    if let (Some(left), Some(right)) = arrays {
-        return lone_element(ours, theirs, left, right);
-    }
-    let maps = (
-        inside(ours.item, Major::Map),
-        inside(theirs.item, Major::Map),
-    );
-    match maps {
-        (Some(left), Some(right)) => lone_pair::<O>(ours, theirs, left, right),
+    match (opened(ours.item), opened(theirs.item)) {
+        (Some((Major::Array, left)), Some((Major::Array, right))) => lone_element(
+            ours, theirs, left, right,
+        ),
+        (Some((Major::Map, left)), Some((Major::Map, right))) => lone_pair::<O>(
+            ours, theirs, left, right,
+        ),
         _ => Ok(String::new(ours.items.alloc)),
     }
 }
@@ -317,13 +311,13 @@ fn lone_key<'a, O: KeyOrder>(
     'pairs: for _ in 0..left.len().saturating_add(right.len()) {
         let ours = item_at(alloc, left, 0)?;
         let theirs = item_at(alloc, right, 0)?;
-        match (ours.is_empty(), theirs.is_empty()) {
+        let order = match (ours.is_empty(), theirs.is_empty()) {
             (true, true) => break,
-            (false, true) => return Ok((Ordering::Less, ours)),
-            (true, false) => return Ok((Ordering::Greater, theirs)),
-            (false, false) => {}
-        }
-        match O::compare(ours, theirs) {
+            (false, true) => Ordering::Less,
+            (true, false) => Ordering::Greater,
+            (false, false) => O::compare(ours, theirs),
+        };
+        match order {
             Ordering::Less => return Ok((Ordering::Less, ours)),
             Ordering::Greater => return Ok((Ordering::Greater, theirs)),
             Ordering::Equal => {
@@ -335,10 +329,10 @@ fn lone_key<'a, O: KeyOrder>(
     Ok((Ordering::Equal, &[]))
 }
 
-/// What follows the head of an item of this major type. `None`: it is of another.
-fn inside(item: &[u8], major: Major) -> Option<&[u8]> {
+/// The major type of an item, and what follows its head.
+fn opened(item: &[u8]) -> Option<(Major, &[u8])> {
     let (head, len) = whole_head(item)?;
-    (head.major_type() == major).then_some(slice_of(item, len, item.len()))
+    Some((head.major_type(), slice_of(item, len, item.len())))
 }
 
 /// What follows the first pair. `key` is the length of its key in bytes.

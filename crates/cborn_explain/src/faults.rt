@@ -8,6 +8,16 @@ use cborn_engine::{CountFault, EngineFault};
 use cborn_judge::Invalid;
 use cborn_lex::LexFault;
 use cborn_wire::WireFault;
+use std::alloc::AllocError;
+
+/// What was answered. `None`: the input is refused.
+pub(crate) fn answered<T: Drop>(answer: Result<T, CountFault>) -> Result<Option<T>, AllocError> {
+    match answer {
+        Ok(answer) => Ok(Some(answer)),
+        Err(CountFault::Engine(EngineFault::OutOfMemory)) => Err(AllocError),
+        Err(_) => Ok(None),
+    }
+}
 
 /// The sentence for an input that doesn't hold exactly one item. Empty for any other fault.
 pub(crate) fn count_sentence(fault: CountFault) -> &'static str {

@@ -29,10 +29,7 @@ pub fn find_difference(
 ) -> Result<Option<Difference>, AllocError>
     ensures leads { IfOk result (λ found. MatchOption found (first.now ≡ second.now) (λ d. LeadsToDifference first.now second.now d.place d.path.steps.items)) }
 {
-    match walk_to_difference(alloc, first, second)? {
-        Some((_, difference)) => Ok(Some(difference)),
-        None => Ok(None),
-    }
+    Ok(walk_to_difference(alloc, first, second)?.map(|(_, difference)| difference))
 }
 
 /// A walk over `first` to where the two first differ, and what [`find_difference`] gives.

@@ -1,9 +1,10 @@
 //! Single items of an input: to show them, and to compare them by their deterministic encodings.
 
 use crate::byte_heads::{content_of, end_of_item, item_at, whole_head};
+use crate::faults::answered;
 use crate::quotes::{CutNotation, Escaped, Hex, PIECE, Text, front_of};
 use cborn_edn::{Notated, show_bytes};
-use cborn_engine::{Count, CountFault, EngineFault, Kind, normalise_slice};
+use cborn_engine::{Count, Kind, normalise_slice};
 use cborn_model::{Bytewise, KeyOrder, Limit, Major};
 use std::alloc::{AllocError, Global};
 use std::borrow::CowSlice;
@@ -29,11 +30,8 @@ impl ItemReader {
         kind: Kind,
         input: &'a [u8],
     ) -> Result<Option<CowSlice<'a, u8, Global>>, AllocError> {
-        match normalise_slice::<O>(self.alloc, self.limit, Count::One, kind, Kind::Wire, input) {
-            Ok(encoding) => Ok(Some(encoding)),
-            Err(CountFault::Engine(EngineFault::OutOfMemory)) => Err(AllocError),
-            Err(_) => Ok(None),
-        }
+        let (alloc, limit) = (self.alloc, self.limit);
+        answered(normalise_slice::<O>(alloc, limit, Count::One, kind, Kind::Wire, input))
     }
 
     /// That encoding of the item that begins at the offset `at`.

@@ -113,11 +113,10 @@ impl Display for CutNotation<'_> {
 /// At most `most` characters at the start of the bytes, up to the first byte that isn't UTF-8.
 pub(crate) fn front_of(bytes: &[u8], most: usize) -> &str {
     let front = valid_front(bytes.get(..most.saturating_mul(4)).unwrap_or(bytes));
-    let mut len: usize = 0;
-    for c in front.chars().take(most) {
-        len = len.saturating_add(c.len_utf8());
-    }
-    valid_front(slice_of(bytes, 0, len))
+    let end = front.char_indices().nth(most);
+    front
+        .get(..end.map_or(front.len(), |(at, _)| at))
+        .unwrap_or(front)
 }
 
 /// The quote that ends the string in which this front of a notation ends. `None`: it ends in none. A
@@ -208,14 +207,16 @@ impl Display for At<'_> {
 /// the offset, with a mark below.
 pub(crate) fn text_around(alloc: Global, text: &[u8], place: usize) -> Text {
     let before = text.get(..place).unwrap_or(text);
-    let from = start_of_piece(before);
-    let is_cut = from > 0 && before.get(from - 1) != Some(&b'\n');
-    let dots = if is_cut { ".." } else { "" };
-    let piece = valid_front(slice_of(before, from, before.len()));
+    let line = before.rsplit(|b| *b == b'\n').next().unwrap_or(before);
+    let line = valid_front(line);
+    let from = line.char_indices().rev().take(LINE_BEFORE).last();
+    let from = from.map_or(0, |(at, _)| at);
+    let dots = if from > 0 { ".." } else { "" };
+    let piece = line.get(from..).unwrap_or("");
     let piece = format!(in alloc; "{dots}{}", Escaped { text: piece })?;
     let after = slice_of(text, place, text.len());
-    let end = after.iter().position(|b| *b == b'\n' || *b == b'\r');
-    let rest = Cut(slice_of(after, 0, end.unwrap_or(after.len())), LINE_AFTER);
+    let rest = after.split(|b| *b == b'\n' || *b == b'\r').next();
+    let rest = Cut(rest.unwrap_or(after), LINE_AFTER);
     let at = At(text, place);
     let mut lines = format!(in alloc; "  line  {at}\n  text  {piece}{rest}\n        ")?;
     for _ in piece.chars() {
@@ -223,22 +224,4 @@ pub(crate) fn text_around(alloc: Global, text: &[u8], place: usize) -> Text {
     }
     lines.push_str("^\n")?;
     Ok(lines)
-}
-
-/// The index at which the written part of the last line of `before` begins: at most `LINE_BEFORE`
-/// characters from its end.
-fn start_of_piece(before: &[u8]) -> usize {
-    let mut from = before.len();
-    let mut count: usize = 0;
-    while from > 0 && count < LINE_BEFORE {
-        let byte = before[from - 1];
-        if byte == b'\n' {
-            break;
-        }
-        from -= 1;
-        if !matches!(byte, 0x80..=0xbf) {
-            count += 1;
-        }
-    }
-    from
 }

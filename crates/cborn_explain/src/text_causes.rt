@@ -91,8 +91,7 @@ impl<'a> RefusedText<'a> {
     /// The letters, digits, points, underscores and minus signs in a row from an offset on.
     fn word(&self, place: usize) -> Cut<'a> {
         let rest = self.rest(place);
-        let len = rest.iter().position(|b| !is_word(*b)).unwrap_or(rest.len());
-        Cut(slice_of(rest, 0, len), WORD)
+        Cut(rest.split(|b| !is_word(*b)).next().unwrap_or(rest), WORD)
     }
 
     /// Why a token is wrong.
@@ -184,8 +183,7 @@ impl<'a> RefusedText<'a> {
     fn bad_number(&self) -> Text {
         let alloc = self.items.alloc;
         let word = self.word(self.place).0;
-        let len = word.iter().position(|b| *b == b'_').unwrap_or(word.len());
-        let number = Cut(slice_of(word, 0, len), WORD);
+        let number = Cut(word.split(|b| *b == b'_').next().unwrap_or(word), WORD);
         let (c, at) = (self.character(), self.at(self.spot));
         if self.spot > self.place {
             return format!(in alloc; "'{number}' is no number: {c} at {at} is no digit of it");
@@ -307,14 +305,12 @@ impl<'a> RefusedText<'a> {
                 _ => "an item",
             },
         };
-        (
-            if is_piece {
-                "a further piece of the string, or "
-            } else {
-                ""
-            },
-            words,
-        )
+        let piece = if is_piece {
+            "a further piece of the string, or "
+        } else {
+            ""
+        };
+        (piece, words)
     }
 
     /// What is said where a bracket is closed at the place after a trailing comma, which profile 2 alone

@@ -66,13 +66,8 @@ impl OpenBracket {
     pub(crate) fn step(&self) -> Option<Step> {
         match self.bracket {
             Bracket::Array => Some(Step::Element(self.parts)),
-            Bracket::Map => {
-                if self.is_at_key() {
-                    Some(Step::Key(self.parts / 2))
-                } else {
-                    Some(Step::Value(self.parts / 2))
-                }
-            }
+            Bracket::Map if self.is_at_key() => Some(Step::Key(self.parts / 2)),
+            Bracket::Map => Some(Step::Value(self.parts / 2)),
             Bracket::Tag(number) => Some(Step::Content(number)),
             Bracket::Chunks => Some(Step::Chunk(self.parts)),
             Bracket::Simple => None,
@@ -243,12 +238,7 @@ impl<'a> TextWalk<'a> {
                 if is_colon {
                     open.key.1 = self.stop;
                 }
-                let is_at_key = open.is_at_key();
-                let is_expected = if is_colon {
-                    is_whole && is_at_key
-                } else {
-                    !is_at_key
-                };
+                let is_expected = is_colon == open.is_at_key() && (is_whole || !is_colon);
                 open.is_lost = open.is_lost || !is_expected;
                 open.parts = open.parts.saturating_add(1);
             }
