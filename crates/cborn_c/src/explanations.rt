@@ -25,12 +25,8 @@ fn is_of_format(kind: Kind, number: u32) -> bool
 {
     let class = number / 256;
     match kind {
-        Kind::Wire => class == 1 || class == 5 || class == 7 || number == 0x402,
-        Kind::Notation | Kind::Notation2 => class == 2
-            || class == 3
-            || class == 5
-            || class == 7
-            || number == 0x401,
+        Kind::Wire => matches!(class, 1 | 5 | 7) || number == 0x402,
+        Kind::Notation | Kind::Notation2 => matches!(class, 2 | 3 | 5 | 7) || number == 0x401,
     }
 }
 
