@@ -43,7 +43,7 @@ pub use Rattle.cborn_engine.specs.declared.count_faults.CountFault.{CountFault}
 pub use Rattle.cborn_engine.specs.declared.counts.Count.{Count}
 pub use Rattle.cborn_engine.specs.declared.faults.CompareFault.{CompareFault}
 pub use Rattle.cborn_engine.specs.declared.faults.EngineFault.{EngineFault}
-pub use Rattle.cborn_engine.specs.declared.first_two.FirstTwo.{FirstTwo}
+pub use Rattle.cborn_engine.specs.declared.places.Places.{Places}
 pub use Rattle.cborn_engine.specs.declared.judged_inputs.Input.{Input}
 pub use Rattle.cborn_engine.specs.declared.kinds.Kind.{Kind}
 pub use Rattle.cborn_engine.specs.declared.piece_judges.PieceJudge.{PieceJudge}

@@ -7,8 +7,8 @@ ghost use Rattle.cborn_engine.specs.Counts.{SpellsCount, SpellsOne, IsNotOne};
 ghost use Rattle.cborn_engine.specs.Reading.{most_bytes};
 
 use crate::count_faults::CountFault;
-use crate::first_two::FirstTwo;
 use crate::kinds::{Kind, profile_of};
+use crate::places::Places;
 use crate::texts::hand_text;
 use cborn_lex::Profile;
 use cborn_model::Limit;
@@ -92,7 +92,7 @@ fn one_in_text(
     ensures one { OnOk result (SpellsOne (kind_of profile) limit input.now) }
     ensures refused { IfErr result (λ why. (why ≡ CountFault.Engine EngineFault.OutOfMemory) ⊎ IsNotOne (kind_of profile) limit input.now why) }
 {
-    let mut items = FirstTwo::new(alloc);
+    let mut items = Places::new(alloc);
     hand_text(alloc, limit, profile, input, &mut items)?;
     if items.first.is_none() {
         return Err(CountFault::NoItem(input.len() as u64));

@@ -9,9 +9,9 @@ ghost use Rattle.cborn_engine.specs.devices.Counting.{read_failures};
 
 use crate::faults::EngineFault;
 use crate::kinds::{Kind, profile_of};
-use crate::nodes::notated_nodes;
 use crate::pieces::read_piece;
 use crate::sources::Source;
+use crate::texts::notated_nodes;
 use crate::whole_inputs::read_bytes;
 use cborn_lex::Profile;
 use cborn_model::{Limit, Spelled};

@@ -14,7 +14,7 @@ use crate::piece_judges::PieceJudge;
 use crate::pieces::read_after;
 use crate::sources::Source;
 use crate::whole_inputs::{read_bytes, read_on};
-use cborn_judge::EncodedItems;
+use cborn_judge::{EncodedItems, Encoder};
 use cborn_model::{KeyOrder, Limit};
 use std::alloc::Global;
 
@@ -65,7 +65,7 @@ fn read_judged<O: KeyOrder, R: Source>(
     ensures failures { R.failed reader.new ≡ read_failures result (R.failed reader.old) }
     ensures calls { R.asked reader.new ≤ R.asked reader.old + most_bytes + 1 }
 {
-    let mut judge = PieceJudge::<O>::new(alloc, limit);
+    let mut judge = PieceJudge::over(alloc, limit, Encoder::<O>::new(alloc));
     let mut piece = Vec::new(alloc);
     piece.resize(PIECE, 0)?;
     let mut left = MOST;

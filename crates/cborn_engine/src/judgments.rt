@@ -31,8 +31,8 @@ pub fn judge_bytes<O: KeyOrder>(
     // An encoding is longer than what it was read from only where an indefinite length, which takes
     // two bytes, becomes the head of 256 entries or more.
     let capacity = input.len().saturating_add(input.len() / 256 + 8);
-    match PieceJudge::<O>::with_capacity(alloc, limit, capacity) {
-        Ok(judge) => judge_whole(limit, input, judge),
+    match Encoder::<O>::with_capacity(alloc, capacity) {
+        Ok(encoder) => judge_whole(limit, input, PieceJudge::over(alloc, limit, encoder)),
         Err(refused) => Err(fault_or_refusal(refused, limit, input)),
     }
 }

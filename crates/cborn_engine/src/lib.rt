@@ -12,8 +12,8 @@
 //! A reader of the definitions starts at `specs/Holding.antt` (what an input holds, and its
 //! canonical form) and `specs/Canonical.antt` (the headline). `Refusing` says why an input is
 //! refused; `Loading`, `Showing`, `Comparing` and `Checking` say what the other calls answer.
-//! [`laws`] has the headline in one place. In the code `texts` makes texts and bytes of what was
-//! read, `nodes` makes nodes and `inputs` hands them out. `piece_judges` encodes bytes that come in
+//! [`laws`] has the headline in one place. In the code `texts` makes texts, bytes and nodes of
+//! what was read, and `inputs` hands nodes out. `piece_judges` encodes bytes that come in
 //! pieces and finds their first flaw or defect, in one look that keeps no tree (`cborn_judge`);
 //! `judgments` does so with bytes that are held, and `judged_inputs` with those of a reader, which
 //! are kept whole only where they may be their own encodings; `answered_inputs` says what is answered
@@ -42,7 +42,6 @@ mod counts;
 mod differences;
 mod encodings;
 mod faults;
-mod first_two;
 mod fronts;
 mod inputs;
 mod items;
@@ -50,10 +49,10 @@ mod judged_inputs;
 mod judgments;
 mod kinds;
 pub mod laws;
-mod nodes;
 mod outputs;
 mod piece_judges;
 mod pieces;
+mod places;
 mod refusals;
 mod showings;
 mod sinks;
@@ -75,6 +74,7 @@ pub use faults::{CompareFault, EngineFault};
 pub use inputs::{load, load_within};
 pub use items::Items;
 pub use kinds::Kind;
+pub use places::Places;
 pub use sinks::Sink;
 pub use slices::{check_slice, compare_slices, normalise_slice, same_items, show_slice};
 pub use sources::Source;

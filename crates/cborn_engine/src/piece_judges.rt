@@ -28,30 +28,8 @@ pub(crate) struct PieceJudge<O> {
 }
 
 impl<O: KeyOrder> PieceJudge<O> {
-    /// A judge of bytes of which none came yet. Takes no memory.
-    pub(crate) fn new(alloc: Global, limit: Limit) -> PieceJudge<O>
-        ensures { IsJudging ⟦<Encoder<O> as Visitor>⟧.holds result [] limit }
-    {
-        PieceJudge::over(alloc, limit, Encoder::new(alloc))
-    }
-
-    /// A judge of bytes of which none came yet, with room for `capacity` bytes of their encodings.
-    ///
-    /// # Errors
-    /// `AllocError` if memory is refused.
-    pub(crate) fn with_capacity(
-        alloc: Global,
-        limit: Limit,
-        capacity: usize,
-    ) -> Result<PieceJudge<O>, AllocError>
-        ensures { IfOk result (λ judge. IsJudging ⟦<Encoder<O> as Visitor>⟧.holds judge [] limit) }
-    {
-        let encoder = Encoder::with_capacity(alloc, capacity)?;
-        Ok(PieceJudge::over(alloc, limit, encoder))
-    }
-
-    /// A judge of bytes of which none came yet, with an encoder that was handed nothing.
-    fn over(alloc: Global, limit: Limit, encoder: Encoder<O>) -> PieceJudge<O>
+    /// A judge of bytes of which none came yet, with an encoder that was handed nothing. Takes no memory.
+    pub(crate) fn over(alloc: Global, limit: Limit, encoder: Encoder<O>) -> PieceJudge<O>
         requires { ⟦<Encoder<O> as Visitor>⟧.holds encoder (top []) no_part }
         ensures { IsJudging ⟦<Encoder<O> as Visitor>⟧.holds result [] limit }
     {

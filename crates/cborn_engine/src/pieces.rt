@@ -74,23 +74,5 @@ pub fn read_after<R: Source>(
     ensures failures { R.failed reader.new ≡ failures_after_read result (R.failed reader.old) }
     ensures calls { R.asked reader.new ≤ R.asked reader.old + 1 }
 {
-    read_at(reader, bytes.as_mut_slice(), filled, left)
-}
-
-/// Reads the next piece of an input, which may have at most `left` more bytes, to a slice from the
-/// offset `filled` on, and gives its length in bytes: 0 only at the end.
-fn read_at<R: Source>(
-    reader: &mut R,
-    buf: &mut [u8],
-    filled: usize,
-    left: u64,
-) -> Result<usize, InputFault>
-    requires room { filled < length buf.old }
-    requires bounded { left + 1 < 2 ^ 64 }
-    ensures front { take filled buf.new ≡ take filled buf.old }
-    ensures piece { PieceAnswers (R.remaining reader.old) (R.remaining reader.new) left (drop filled buf.new) result }
-    ensures failures { R.failed reader.new ≡ failures_after_read result (R.failed reader.old) }
-    ensures calls { R.asked reader.new ≤ R.asked reader.old + 1 }
-{
-    read_piece(reader, &mut buf[filled..], left)
+    read_piece(reader, &mut bytes[filled..], left)
 }

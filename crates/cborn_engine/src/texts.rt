@@ -1,15 +1,16 @@
-//! The text that the bytes of an input are.
+//! The text that the bytes of an input are, and what it notates.
 ghost use Rattle.std.specs.Prelude.{◌≡◌, ◌≤◌};
 ghost use Rattle.cborn_engine.specs.Common.{ℕ, List, [], length, IfOk, IfErr, OnOk, IsUtf8, Profile as ProfileSpec, top, no_part, Tree, trees, Notates};
 ghost use Rattle.cborn_engine.specs.devices.Encoding.{kind_of};
 ghost use Rattle.cborn_edn.specs.Spelling.{IsSpelling};
+ghost use Rattle.cborn_engine.specs.Holding.{SpellsInPlace};
 ghost use Rattle.cborn_engine.specs.Loading.{IsNoFlaw};
 ghost use Rattle.cborn_engine.specs.devices.Malformed.{IsRefusedHeld};
 
 use crate::faults::EngineFault;
-use cborn_edn::{read_text, visit_text};
+use cborn_edn::{read_notation, read_text, visit_text};
 use cborn_lex::Profile;
-use cborn_model::{Limit, Visitor};
+use cborn_model::{Limit, Spelled, Visitor};
 use simdutf8::compat::from_utf8;
 use std::alloc::Global;
 
@@ -44,6 +45,23 @@ pub fn bytes_of_text(
 {
     let text = text_of(input)?;
     Ok(read_text(alloc, limit, profile, text)?)
+}
+
+/// The nodes that a text notates.
+///
+/// # Errors
+/// The fault of its content, or `OutOfMemory`.
+pub fn notated_nodes(
+    alloc: Global,
+    limit: Limit,
+    profile: Profile,
+    input: &[u8],
+) -> Result<Vec<Spelled>, EngineFault>
+    ensures spelled { IfOk result (λ nodes. SpellsInPlace (kind_of profile) limit input.now nodes.items) }
+    ensures refused { IfErr result (λ why. IsRefusedHeld (kind_of profile) limit input.now why × IsNoFlaw why) }
+{
+    let text = text_of(input)?;
+    Ok(read_notation(alloc, limit, profile, text)?)
 }
 
 /// Hands the nodes that a text notates to a visitor that was handed nothing, with their places in the

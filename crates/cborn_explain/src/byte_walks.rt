@@ -5,8 +5,8 @@ ghost use Rattle.std.specs.Prelude.{◌≡◌, ◌≤◌, ◌⊎◌, length, IfO
 ghost use Rattle.cborn_wire.specs.declared.faults.VisitFault.TheVariants.{Memory};
 ghost use Rattle.cborn_explain.specs.devices.Walks.{step_of, path_of, place_at, IsWalked};
 
-use crate::part_places::PartPlaces;
 use crate::paths::{Path, Step};
+use cborn_engine::Places;
 use cborn_model::Limit;
 use cborn_wire::{GrownLevels, HeadReader, Level, LevelKind, Until, VisitFault};
 use std::alloc::{AllocError, Global};
@@ -16,7 +16,7 @@ use std::alloc::{AllocError, Global};
 pub(crate) struct Walk {
     /// The input and what is open in it, the innermost last.
     levels: Vec<Level>,
-    parts: PartPlaces,
+    parts: Places,
     /// The offset in bytes of the head that comes next.
     pub(crate) at: usize,
 }
@@ -30,10 +30,10 @@ impl Walk {
     {
         let mut reader = HeadReader::new(Limit::HIGHEST, 0);
         let mut levels = GrownLevels::new(alloc);
-        let mut parts = PartPlaces::new(alloc);
+        let mut parts = Places::new(alloc);
         // a reader that refuses a head stands before it
         had_memory(reader.read(&mut levels, &mut parts, &bytes[..place], Until::End))?;
-        let at = parts.next_head(reader.next_head()) as usize;
+        let at = parts.string.unwrap_or(reader.next_head()) as usize;
         let levels = levels.into_vec()?;
         Ok(Walk { levels, parts, at })
     }
@@ -81,14 +81,21 @@ impl Walk {
     /// a map in which a value is next.
     pub(crate) fn key_at(&self, index: usize) -> (usize, usize) {
         let end = self.place_of(index.saturating_add(1));
-        let (before, last) = self.parts.last_two(index);
+        let (before, last) = self.last_two(index);
         (if last < end { last } else { before }, end)
     }
 
     /// The offsets in bytes at which the last key begins and ends in the innermost level, a map in
     /// which a key is next.
     pub(crate) fn last_key(&self) -> (usize, usize) {
-        self.parts.last_two(self.levels.len().saturating_sub(1))
+        self.last_two(self.levels.len().saturating_sub(1))
+    }
+
+    /// The offsets in bytes at which the last two parts begin of the level with this index.
+    fn last_two(&self, index: usize) -> (usize, usize) {
+        let around = self.parts.around.get(index).copied();
+        let (before, last) = around.unwrap_or(self.parts.last);
+        (before as usize, last as usize)
     }
 }
 
@@ -137,9 +144,5 @@ pub(crate) fn place_in(bytes: &[u8], place: u64) -> usize
     ensures within { result ≤ length bytes.now }
     ensures place { (result ≡ place) ⊎ ((result ≡ length bytes.now) × (length bytes.now ≤ place)) }
 {
-    if place > bytes.len() as u64 {
-        bytes.len()
-    } else {
-        place as usize
-    }
+    place.min(bytes.len() as u64) as usize
 }

@@ -22,7 +22,7 @@
 //! - `notes`: the lines of one input; start here. `comparisons`: those of two. `differences`: of two that
 //!   hold other items. `same_items`: of two that hold the same. `compared_parts`: where parts of the two are.
 //! - `paths`: paths, and that to an offset. `first_differences`: where two inputs differ.
-//! - `byte_walks`: a walk over bytes to an offset. `part_places`: where the keys are on its way.
+//! - `byte_walks`: a walk over bytes to an offset.
 //! - `byte_heads`: heads with their strings, and where an item ends.
 //! - `path_lines`: a path in a line. `hints`: whether bytes look like a text.
 //! - `faults`: the faults that are in the content of an input.
@@ -46,7 +46,6 @@ mod hints;
 mod items;
 mod notes;
 mod order_causes;
-mod part_places;
 mod path_lines;
 mod paths;
 mod quotes;

@@ -117,18 +117,14 @@ fn lines_of_text(
 /// where the walk doesn't keep more brackets.
 fn text_path(alloc: Global, text: &[u8], walk: &TextWalk) -> Text {
     let mut path = PathWriter::new(alloc, Pairs::Numbered);
-    path.step(Step::Item(walk.items), "")?;
+    path.step(Step::Item(walk.items), &"")?;
     for open in walk.open.iter() {
         if open.is_lost {
             return path.end(true);
         }
         if let Some(step) = open.step() {
-            let mut key = String::new(alloc);
-            if let Step::Value(_) = step {
-                let (from, to) = open.key;
-                write!(key, "{}", CutNotation(slice_of(text, from, to)))?;
-            }
-            path.step(step, key.as_str())?;
+            let (from, to) = open.key;
+            path.step(step, &CutNotation(slice_of(text, from, to)))?;
         }
     }
     path.end(walk.beyond > 0)

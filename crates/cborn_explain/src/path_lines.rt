@@ -5,6 +5,7 @@ use crate::items::ItemReader;
 use crate::paths::{Path, Step};
 use crate::quotes::{Text, slice_of};
 use std::alloc::{AllocError, Global};
+use std::fmt::Display;
 
 /// The steps of a path in a line. Steps in a row that are written alike are written once, with their
 /// count.
@@ -29,8 +30,8 @@ impl PathWriter {
         }
     }
 
-    /// Writes the next step. `key` is the text of the key where the step leads to a value of a map.
-    pub(crate) fn step(&mut self, step: Step, key: &str) -> Result<(), AllocError> {
+    /// Writes the next step. `key` displays as the key where the step leads to a value of a map.
+    pub(crate) fn step<K: Display>(&mut self, step: Step, key: &K) -> Result<(), AllocError> {
         let step = step_text(self.alloc, step, key, self.pairs)?;
         if self.last.as_str() == step.as_str() {
             self.times = self.times.saturating_add(1);
@@ -80,7 +81,7 @@ pub(crate) fn path_line(
             let (from, to) = walk.key_at(i);
             key = items.notation(slice_of(bytes, from, to))?;
         }
-        writer.step(*step, key.as_str())?;
+        writer.step(*step, &key)?;
     }
     writer.end(false)
 }
@@ -95,7 +96,7 @@ pub(crate) enum Pairs {
 }
 
 /// The text of a step.
-fn step_text(alloc: Global, step: Step, key: &str, pairs: Pairs) -> Text {
+fn step_text<K: Display>(alloc: Global, step: Step, key: &K, pairs: Pairs) -> Text {
     match step {
         Step::Key(_) if pairs == Pairs::Named => format!(in alloc; "{{key}}"),
         Step::Value(_) if pairs == Pairs::Named => format!(in alloc; "{{{key}}}"),

@@ -98,40 +98,39 @@ impl<'a> RefusedText<'a> {
     fn token(&self, reason: LexReason) -> Text {
         let alloc = self.items.alloc;
         let (c, at) = (self.character(), self.at(self.spot));
+        let (token, word) = (self.word(self.place), self.word(self.spot));
         let is_quote = self.rest(self.spot).starts_with(b"'");
         let sentence = match reason {
             LexReason::UnexpectedCharacter | LexReason::UnknownPrefix if self.is_after_slashes() =>
-                return String::from_str(alloc, EMPTY_COMMENT),
+                EMPTY_COMMENT,
             LexReason::UnexpectedCharacter => return self.unexpected_character(),
             LexReason::UnclosedString => "the string that begins here has no quote that ends it",
             LexReason::UnclosedComment => "the comment that begins here has no slash that ends it",
             LexReason::BadEscape => return self.bad_escape(),
-            LexReason::BadHex if is_quote => " ends the bytes after an odd number of digits",
-            LexReason::BadHex => " is no hexadecimal digit, white space or whole comment",
-            LexReason::BadBase64 if is_quote =>
-                " ends the bytes after digits or padding that fit no bytes",
-            LexReason::BadBase64 => " is no digit of base64",
-            LexReason::UnknownPrefix =>
-                " is no prefix of a string: h is, for hexadecimal, and b64, for base64",
+            LexReason::BadHex if is_quote => return format!(in alloc;
+                "the quote at {at} ends the bytes after an odd number of digits"
+            ),
+            LexReason::BadHex => return format!(in alloc;
+                "{c} at {at} is no hexadecimal digit, white space or whole comment"
+            ),
+            LexReason::BadBase64 if is_quote => return format!(in alloc;
+                "the quote at {at} ends the bytes after digits or padding that fit no bytes"
+            ),
+            LexReason::BadBase64 => return format!(in alloc; "{c} at {at} is no digit of base64"),
+            LexReason::UnknownPrefix => return format!(in alloc;
+                "'{token}' is no prefix of a string: h is, for hexadecimal, and b64, for base64"
+            ),
             LexReason::BadNumber => return self.bad_number(),
             LexReason::NumberTooLarge =>
                 "a number has at most 128 bits: 340282366920938463463374607431768211455 is the greatest",
-            LexReason::BadIndicator =>
-                " is no encoding indicator: _, _0, _1, _2 and _3 are, and after ( comes _ alone",
-            LexReason::FloatLeftOut => " is no integer, and floats are left out",
+            LexReason::BadIndicator => return format!(in alloc;
+                "'{word}' is no encoding indicator: _, _0, _1, _2 and _3 are, and after ( comes _ alone"
+            ),
+            LexReason::FloatLeftOut => return format!(in alloc;
+                "'{token}' is no integer, and floats are left out"
+            ),
         };
-        match reason {
-            LexReason::BadHex | LexReason::BadBase64 if is_quote => format!(in alloc;
-                "the quote at {at}{sentence}"
-            ),
-            LexReason::BadHex | LexReason::BadBase64 => format!(in alloc; "{c} at {at}{sentence}"),
-            LexReason::BadIndicator => format!(in alloc; "'{}'{sentence}", self.word(self.spot)),
-            LexReason::UnknownPrefix | LexReason::FloatLeftOut => format!(in alloc;
-                "'{}'{sentence}",
-                self.word(self.place)
-            ),
-            _ => String::from_str(alloc, sentence),
-        }
+        String::from_str(alloc, sentence)
     }
 
     /// The character at fault.

@@ -1,6 +1,6 @@
 -- A walk is where the longest front that ends between two heads ends.
 use Rattle.std.specs.Prelude.{◌≡◌, ◌^◌, ◌<◌, ◌≤◌, ◌∷◌, ◌++◌, ◌⊎◌}
-use Rattle.cborn_explain.proofs.Common.{refl, sym, ap, ◌∙◌, subst, ℕ, List, [], length, take, drop, Option, Some, None, Result, Ok, Err, IfOk, alloc_error, inl, inr, arith, append-nil, length-append, zero-add, length-take-le, take-append-drop, take-append-le, take_all, take_at, take-append_seam, Trees, depth_all, FitsAll, Partial, Part, no_part, part, WireReason, Level, OpenContainer, slot, open_depth, AreOpen, argument_of, content_of, Unfinished, nothing, gathering, Live, Failed, ready_in, start, front, partial_bytes, run, ready, open_in, unfinished, levels, seen_head, HereAt, IsFed, Reads, head_at, next_head, Step, EndsAt, LeadsTo, path_of, IsAmid, place_in, IsOver, IsWalked}
+use Rattle.cborn_explain.proofs.Common.{refl, sym, ap, ◌∙◌, subst, ℕ, List, [], length, take, drop, Option, Some, None, Result, Ok, Err, IfOk, alloc_error, inl, inr, arith, append-nil, length-append, zero-add, length-take-le, take-append-drop, take-append-le, take_all, take_at, take-append_seam, unwrap_or, Trees, depth_all, FitsAll, Partial, Part, no_part, part, WireReason, Level, OpenContainer, slot, open_depth, AreOpen, argument_of, content_of, Unfinished, nothing, gathering, Live, Failed, ready_in, start, front, partial_bytes, run, ready, open_in, unfinished, levels, seen_head, HereAt, IsFed, Reads, head_at, next_head, Step, EndsAt, LeadsTo, path_of, Places, IsHeld, place_in, IsOver, IsWalked}
 use Rattle.cborn_model.specs.Bytes.{AreBytes}
 use Rattle.cborn_model.proofs.Bytes.{bytes-left}
 use Rattle.cborn_wire.specs.declared.faults.VisitFault.{VisitFault}
@@ -56,14 +56,13 @@ module _ (y : List ℕ) (bytes : AreBytes y) where
         stands = ap place_in is ∙ there;
       }
 
-  read_over : (string : Option ℕ) (around : List Level) (l : Level) (left at place : ℕ) (h : Option PartialHead) → HereAt (λ f c. IsAmid string c) around l left at h (run 1024 (start 0) y)
-      → (string ≡ None → place ≡ head_at at h) → ((p : ℕ) → string ≡ Some p → place ≡ p) → IsOver y place (around ++ l ∷ [])
-  read_over string around l left at place (Some h) (short, f, held, keeps, takes, is) none some = subst (IsOver y place) keeps.0 (over f at place (seen_head h) is (sym (none held)))
-  read_over string around l left at place None s none some = subst (IsOver y place) s.levels.0 (over s.partial at place (unfinished s.amid) s.is (go s.amid s.held))
+  read_over : (v : Places) (around : List Level) (l : Level) (left at place : ℕ) (h : Option PartialHead) → HereAt (IsHeld v) around l left at h (run 1024 (start 0) y) → place ≡ unwrap_or v.string (head_at at h) → IsOver y place (around ++ l ∷ [])
+  read_over v around l left at place (Some h) (short, f, held, keeps, takes, is) there = subst (IsOver y place) keeps.0 (over f at place (seen_head h) is (sym (there ∙ ap (λ o. unwrap_or o (head_at at (Some h))) held.3)))
+  read_over v around l left at place None s there = subst (IsOver y place) s.levels.0 (over s.partial at place (unfinished s.amid) s.is (go s.amid s.held))
     where
-      go : (c : Part) → IsAmid string c → place_in (Live at (ready s.partial) (open_in s.partial) (unfinished c)) ≡ place
-      go no_part held = sym (none held)
-      go (part p k w n x) held = sym (some p held)
+      go : (c : Part) → IsHeld v s.partial c → place_in (Live at (ready s.partial) (open_in s.partial) (unfinished c)) ≡ place
+      go no_part held = sym (there ∙ ap (λ o. unwrap_or o at) held.3)
+      go (part p k w n x) held = sym (there ∙ ap (λ o. unwrap_or o at) held.3)
 
 -- A head is refused: the bytes before it end between two heads.
 before_fault : (y : List ℕ) → AreBytes y → (ts : Trees) (p : ℕ) (r : WireReason) → run 1024 (start 0) y ≡ Failed ts p r → (p ≤ length y) × Between (take p y)
@@ -106,22 +105,22 @@ module _ (x : List ℕ) (place : ℕ) (within : place ≤ length x) (bytes : Are
       let all : n ≡ p = omega (arith, s.fed_is, next, length-take-le n y low) in
       ap (λ k. place_in (run 1024 (start 0) (take k y))) all ∙ ap place_in before.1.is ∙ length-take-le p y before.0
 
-  pub read_to : (string : Option ℕ) (around : List Level) (l : Level) (m : HeadReader) (at : ℕ) (r : Result ℕ VisitFault) → Reads (λ f c. IsAmid string c) around l m 0 [] y r → (r ≡ Err (Memory alloc_error) → ⊥) → IfOk r (λ n. n ≡ length y) → m.limit ≡ 1024
-      → (string ≡ None → at ≡ next_head m) → ((p : ℕ) → string ≡ Some p → at ≡ p) → IsWalked x place at (around ++ l ∷ [])
-  read_to string around l m at r reads never end limited none some = go r reads never end
+  pub read_to : (v : Places) (around : List Level) (l : Level) (m : HeadReader) (at : ℕ) (r : Result ℕ VisitFault) → Reads (IsHeld v) around l m 0 [] y r → (r ≡ Err (Memory alloc_error) → ⊥) → IfOk r (λ n. n ≡ length y) → m.limit ≡ 1024 → at ≡ unwrap_or v.string (next_head m)
+      → IsWalked x place at (around ++ l ∷ [])
+  read_to v around l m at r reads never end limited there = go r reads never end
     where
-      here : (n : ℕ) → IsFed (λ f c. IsAmid string c) around l m 0 (take n y) → HereAt (λ f c. IsAmid string c) around l m.left m.at m.head (run 1024 (start 0) (take n y))
-      here n fed = subst (λ k. HereAt (λ f c. IsAmid string c) around l m.left m.at m.head (run k (start 0) (take n y))) limited fed.2
+      here : (n : ℕ) → IsFed (IsHeld v) around l m 0 (take n y) → HereAt (IsHeld v) around l m.left m.at m.head (run 1024 (start 0) (take n y))
+      here n fed = subst (λ k. HereAt (IsHeld v) around l m.left m.at m.head (run k (start 0) (take n y))) limited fed.2
 
-      over : (n : ℕ) → IsFed (λ f c. IsAmid string c) around l m 0 (take n y) → IsOver (take n y) at (around ++ l ∷ [])
-      over n fed = read_over (take n y) fed.0 string around l m.left m.at at m.head (here n fed) none some
+      over : (n : ℕ) → IsFed (IsHeld v) around l m 0 (take n y) → IsOver (take n y) at (around ++ l ∷ [])
+      over n fed = read_over (take n y) fed.0 v around l m.left m.at at m.head (here n fed) there
 
-      go : (r : Result ℕ VisitFault) → Reads (λ f c. IsAmid string c) around l m 0 [] y r → (r ≡ Err (Memory alloc_error) → ⊥) → IfOk r (λ n. n ≡ length y) → IsWalked x place at (around ++ l ∷ [])
+      go : (r : Result ℕ VisitFault) → Reads (IsHeld v) around l m 0 [] y r → (r ≡ Err (Memory alloc_error) → ⊥) → IfOk r (λ n. n ≡ length y) → IsWalked x place at (around ++ l ∷ [])
       go (Ok n) fed never all = walked n at _ (omega (arith, all)) (over n fed) (ap (λ z. place_in (run 1024 (start 0) z)) (sym (take_all n y (omega (arith, all)))) ∙ (over n fed).stands)
       go (Err (Refused p r)) h never all =
           let fails = subst (λ k. run k (start 0) y ≡ Failed (ready_in (run k (start 0) (take h.taken y))) p r) limited h.fails in
           walked h.taken at _ h.within (over h.taken h.fed)
-          (ap place_in fails ∙ sym (stands_there (λ f c. IsAmid string c) around l m.left m.at h.taken m.head _ p r fails h.within h.fed.0 (here h.taken h.fed) h.next) ∙ (over h.taken h.fed).stands)
+          (ap place_in fails ∙ sym (stands_there (IsHeld v) around l m.left m.at h.taken m.head _ p r fails h.within h.fed.0 (here h.taken h.fed) h.next) ∙ (over h.taken h.fed).stands)
       go (Err (Memory e)) h never all = absurd (never refl)
 
 -- The path of a walk leads to the place,

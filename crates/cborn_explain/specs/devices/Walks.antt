@@ -1,6 +1,6 @@
 -- A device of the proofs: what a walk over the first bytes of an input keeps of what is open at their end. No public contract cites it; the contracts of the crate's own functions do.
-use Rattle.std.specs.Prelude.{◌≡◌, ℕ, zero, suc, ◌≤◌, ◌/◌, ◌%◌, nat_eq, if◌then◌else◌, List, [], ◌∷◌, ◌++◌, length, map, take, Option, Some, None}
-use Rattle.cborn_model.specs.Partial.{Partial, Part, no_part, part}
+use Rattle.std.specs.Prelude.{◌≡◌, ℕ, zero, suc, ◌≤◌, ◌/◌, ◌%◌, nat_eq, if◌then◌else◌, List, [], ◌∷◌, ◌++◌, length, map, take}
+use Rattle.cborn_model.specs.Partial.{Partial}
 use Rattle.cborn_wire.specs.declared.levels.LevelKind.{LevelKind}
 use Rattle.cborn_wire.specs.declared.levels.LevelKind.TheVariants.{Sequence, Array, Map, GreatMap, Tag, EndlessArray, EndlessMap, Chunks}
 use Rattle.cborn_wire.specs.declared.levels.Level.{Level}
@@ -38,11 +38,6 @@ abbrev pub place_at : List Level → ℕ → ℕ → ℕ
 place_at [] k at = at
 place_at (l ∷ ls) zero at = l.place
 place_at (l ∷ ls) (suc k) at = place_at ls k at
-
--- the offset of the head of the string that is partial
-abbrev pub IsAmid : Option ℕ → Part → Type 0
-IsAmid o no_part = o ≡ None
-IsAmid o (part p k w n x) = o ≡ Some p
 
 -- the offset of the head that comes next, or of one that is partial with its string
 abbrev pub place_in : State → ℕ

@@ -1,4 +1,4 @@
-//! The visitor [`FirstTwo`], which keeps where the first two items of an input begin.
+//! The visitor [`Places`], which keeps where items and their parts begin.
 
 ghost use Rattle.std.specs.Prelude.{◌≡◌, ◌++◌, ◌∷◌};
 ghost use Rattle.cborn_engine.specs.Common.{ℕ, List, [], length, slice_get, OnOk, Partial, Opening, top, inside, no_part, place_of};
@@ -7,38 +7,43 @@ ghost use Rattle.cborn_engine.specs.devices.Tops.{IsHeld};
 use cborn_model::{Size, StringKind, Visitor, Width};
 use std::alloc::{AllocError, Global};
 
-/// Keeps where the first two items begin that are in no other, as offsets in bytes from the start of
-/// the input.
+/// Keeps where the first two items begin that are in no other, and the last two parts of each open
+/// container, as offsets in bytes from the start of the input.
 #[derive(Drop)]
-pub struct FirstTwo {
-    pub(crate) first: Option<u64>,
-    pub(crate) second: Option<u64>,
-    /// The offsets of the containers that are open.
-    pub(crate) around: Vec<u64>,
-    /// The offset of the string that comes in parts.
-    pub(crate) string: u64,
+pub struct Places {
+    pub first: Option<u64>,
+    pub second: Option<u64>,
+    /// The last two parts of the innermost open container, or of the input. In the place of one that
+    /// isn't there is the container itself, or 0.
+    pub last: (u64, u64),
+    /// Those of the input, and of the containers around that one, the outermost first.
+    pub around: Vec<(u64, u64)>,
+    /// The string that comes in parts.
+    pub string: Option<u64>,
 }
 
-impl FirstTwo {
+impl Places {
     /// A visitor that was handed nothing. Takes no memory.
-    pub fn new(alloc: Global) -> FirstTwo
+    pub fn new(alloc: Global) -> Places
         ensures { IsHeld result (top []) no_part }
     {
-        FirstTwo {
+        Places {
             first: None,
             second: None,
+            last: (0, 0),
             around: Vec::new(alloc),
-            string: 0,
+            string: None,
         }
     }
 
-    /// Keeps where an item begins, if it is in no other.
+    /// Keeps where an item begins.
     #[inline(always)]
     fn begin(&mut self, place: u64)
         ensures outside { (xs : List ℕ) → length self.old.around.items ≡ 0 → self.old.first ≡ slice_get xs 0 → self.old.second ≡ slice_get xs 1 → (self.new.first ≡ slice_get (xs ++ place ∷ []) 0) × (self.new.second ≡ slice_get (xs ++ place ∷ []) 1) }
-        ensures inside { (length self.old.around.items ≡ 0 → ⊥) → self.new ≡ self.old }
-        ensures rest { self.new ≡ record self.old { first = self.new.first; second = self.new.second } }
+        ensures inside { (length self.old.around.items ≡ 0 → ⊥) → (self.new.first ≡ self.old.first) × (self.new.second ≡ self.old.second) }
+        ensures rest { self.new ≡ record self.old { first = self.new.first; second = self.new.second; last = self.new.last } }
     {
+        self.last = (self.last.1, place);
         if !self.around.is_empty() {
             return;
         }
@@ -55,12 +60,13 @@ impl FirstTwo {
         ensures { OnOk result ((f : Partial) (o : Opening) → place_of o ≡ place → IsHeld self.old f no_part → IsHeld self.new (inside f o []) no_part) }
     {
         self.begin(place);
-        self.around.push(place)?;
+        self.around.push(self.last)?;
+        self.last = (place, place);
         Ok(())
     }
 }
 
-impl Visitor for FirstTwo {
+impl Visitor for Places {
     ghost holds = { IsHeld };
 
     ghost takes_memory = { Unit {0} };
@@ -103,7 +109,9 @@ impl Visitor for FirstTwo {
     }
 
     fn close(&mut self) -> Result<(), AllocError> {
-        self.around.pop();
+        if let Some(last) = self.around.pop() {
+            self.last = last;
+        }
         Ok(())
     }
 
@@ -114,7 +122,7 @@ impl Visitor for FirstTwo {
         _width: Width,
         _len: u64,
     ) -> Result<(), AllocError> {
-        self.string = place;
+        self.string = Some(place);
         Ok(())
     }
 
@@ -123,7 +131,9 @@ impl Visitor for FirstTwo {
     }
 
     fn close_string(&mut self) -> Result<(), AllocError> {
-        self.begin(self.string);
+        if let Some(place) = self.string.take() {
+            self.begin(place);
+        }
         Ok(())
     }
 }

@@ -1,6 +1,6 @@
 use Rattle.cborn_engine.proofs.Common.{IfErr, kind_of, IsNoFlaw, IsRefusedHeld}
 use Rattle.cborn_engine.proofs.Answers.{known_error, untold}
-use Rattle.cborn_engine.proofs.nodes.notated_nodes.Goals as goal
+use Rattle.cborn_engine.proofs.texts.notated_nodes.Goals as goal
 
 pub returns-in_err-read_notation-clause-refused : goal.returns-in_err-read_notation-clause-refused
 returns-in_err-read_notation-clause-refused c =
