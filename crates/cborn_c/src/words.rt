@@ -152,10 +152,7 @@ pub fn counted_fault_at(number: u32, place: u64) -> Option<CountFault>
     match number {
         0x701 => Some(CountFault::NoItem(place)),
         0x702 => Some(CountFault::MoreItems(place)),
-        _ => match fault_at(number, place) {
-            Some(why) => Some(CountFault::Engine(why)),
-            None => None,
-        },
+        _ => Some(CountFault::Engine(fault_at(number, place)?)),
     }
 }
 
