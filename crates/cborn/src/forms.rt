@@ -7,8 +7,6 @@ use clap::builder::ValueParser;
 #[derive(Clone, Copy)]
 pub struct Form {
     pub name: &'static str,
-    /// The name of the program and the command.
-    pub whole_name: &'static str,
     pub about: &'static str,
     /// The last part of what `--help` prints.
     pub notes: &'static str,
@@ -41,7 +39,6 @@ pub const COMMANDS: &[Form] = &[SHOW, NORMALISE, COMPARE, CHECK];
 
 const SHOW: Form = Form {
     name: "show",
-    whole_name: "cborn show",
     about: help::SHOW,
     notes: help::SHOW_NOTES,
     arguments: &[FILE, OUTPUT, FROM, TO_NOTATION, DEPTH, ONE, EXPLAIN],
@@ -49,7 +46,6 @@ const SHOW: Form = Form {
 
 const NORMALISE: Form = Form {
     name: "normalise",
-    whole_name: "cborn normalise",
     about: help::NORMALISE,
     notes: help::NORMALISE_NOTES,
     arguments: &[FILE, OUTPUT, FROM, TO_WIRE, ORDER, DEPTH, ONE, EXPLAIN],
@@ -57,7 +53,6 @@ const NORMALISE: Form = Form {
 
 const COMPARE: Form = Form {
     name: "compare",
-    whole_name: "cborn compare",
     about: help::COMPARE,
     notes: help::COMPARE_NOTES,
     arguments: &[FILE_A, FILE_B, FROM_A, FROM_B, ORDER, DEPTH, ONE, EXPLAIN],
@@ -65,7 +60,6 @@ const COMPARE: Form = Form {
 
 const CHECK: Form = Form {
     name: "check",
-    whole_name: "cborn check",
     about: help::CHECK,
     notes: help::CHECK_NOTES,
     arguments: &[FILES, ORDER, DEPTH, ONE, EXPLAIN],

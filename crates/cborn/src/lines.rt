@@ -38,12 +38,9 @@ impl Display for FileName<'_> {
 /// Why a task wasn't done.
 #[derive(Clone, Copy)]
 pub enum Trouble<'a> {
-    /// The file of this name can't be opened.
-    CannotRead(&'a str),
-    /// The first of two files, which has this name, can't be opened.
-    CannotReadFirst(&'a str),
-    /// The second of two files, which has this name, can't be opened.
-    CannotReadSecond(&'a str),
+    /// The file of this name can't be opened. First comes which of two files it is, as the line says it;
+    /// of an only file that is empty.
+    CannotRead(&'a str, &'a str),
     /// The engine reported a fault.
     Engine(CountFault),
     /// The engine reported a fault of one of two inputs.
@@ -207,17 +204,14 @@ pub fn print_lines<E: Write>(err: &mut E, lines: &str) {
 }
 
 fn print_trouble<E: Write>(err: &mut E, trouble: Trouble<'_>) -> io::Result<()> {
-    let (start, text) = match trouble {
-        Trouble::CannotRead(name) => ("", name),
-        Trouble::CannotReadFirst(name) => ("first: ", name),
-        Trouble::CannotReadSecond(name) => ("second: ", name),
-        Trouble::Engine(fault) => return writeln!(err, "cborn: {fault}"),
-        Trouble::Compare(fault) => return writeln!(err, "cborn: {fault}"),
-        Trouble::OfFile(text, fault) => {
-            return writeln!(err, "cborn: {}: {fault}", FileName { text });
+    match trouble {
+        Trouble::CannotRead(which, text) => {
+            writeln!(err, "cborn: {which}cannot read {}", FileName { text })
         }
-    };
-    writeln!(err, "cborn: {start}cannot read {}", FileName { text })
+        Trouble::Engine(fault) => writeln!(err, "cborn: {fault}"),
+        Trouble::Compare(fault) => writeln!(err, "cborn: {fault}"),
+        Trouble::OfFile(text, fault) => writeln!(err, "cborn: {}: {fault}", FileName { text }),
+    }
 }
 
 fn status_of_trouble(trouble: Trouble<'_>) -> u8
@@ -239,8 +233,7 @@ pub fn status_of_fault(fault: CountFault) -> u8
     ensures undone { 2 ≤ result }
 {
     match fault {
-        CountFault::Engine(EngineFault::ReadFault) => FAILED,
-        CountFault::Engine(EngineFault::WriteFault) => FAILED,
+        CountFault::Engine(EngineFault::ReadFault | EngineFault::WriteFault) => FAILED,
         CountFault::Engine(EngineFault::OutOfMemory) => FAILED,
         _ => REFUSED,
     }

@@ -47,8 +47,8 @@ fn explained(alloc: Global, words: &[&str], why: Error) -> Error {
 
 /// The mistake whose text is the line of an advice and the usage of its command.
 fn advised(alloc: Global, advice: &Advice) -> Result<Error, AllocError> {
-    let command = command(alloc, advice.command)?;
-    let mut command = command.bin_name(advice.command.whole_name)?;
+    let name = format!(in alloc; "cborn {}", advice.command.name)?;
+    let mut command = command(alloc, advice.command)?.bin_name(&name)?;
     command.error(ErrorKind::UnknownArgument, advice.line)
 }
 

@@ -20,6 +20,16 @@ use std::rt::Files;
 /// The memory with which an input is read, the nesting limit, and how many items it has to hold.
 type Wanted = (Global, Limit, Count);
 
+/// Makes a call with the keys of maps in this order.
+macro_rules! by_order {
+    ($order:expr, $call:ident($($argument:expr),*)) => {
+        match $order {
+            Order::Bytewise => $call::<Bytewise, _, _>($($argument),*),
+            Order::LengthFirst => $call::<LengthFirst, _, _>($($argument),*),
+        }
+    };
+}
+
 /// Does a task, flushes what it wrote, and answers the exit status: `DONE` or `DIFFERENT`. Adds to
 /// `remarks` what standard error gets then, or gets after the line of a trouble.
 pub fn perform<'a, F: Files, I: Read + Drop, W: Write>(
@@ -33,37 +43,21 @@ pub fn perform<'a, F: Files, I: Read + Drop, W: Write>(
     ensures untouched { IfErr result (λ why. IsRefusal why → out.new ≡ out.old) }
     ensures flushed { OnOk result (out.new.unflushed ≡ 0) }
 {
-    match task.order {
-        Order::Bytewise => act::<Bytewise, F, I, W>(system, task, input, out, remarks),
-        Order::LengthFirst => act::<LengthFirst, F, I, W>(system, task, input, out, remarks),
-    }
-}
-
-/// Does a task with the keys of maps in the order `O`, flushes what it wrote, and answers the exit
-/// status: `DONE` or `DIFFERENT`. Adds to `remarks` what standard error gets.
-fn act<'a, O: KeyOrder, F: Files, I: Read + Drop, W: Write>(
-    system: &System<'_, F>,
-    task: &Task<'a>,
-    input: I,
-    out: &mut Counted<W>,
-    remarks: &mut Remarks<'_>,
-) -> Result<u8, Trouble<'a>>
-    ensures status { IfOk result (λ status. status ≤ 1) }
-    ensures untouched { IfErr result (λ why. IsRefusal why → out.new ≡ out.old) }
-    ensures flushed { OnOk result (out.new.unflushed ≡ 0) }
-{
     let wanted = (system.alloc, task.limit, task.count);
-    let file_system = system.files;
+    let (order, file_system) = (task.order, system.files);
     match task.action {
         Action::Read { file, purpose } => match file {
-            None => read_for::<O, I, W>(wanted, purpose, input, out, remarks),
+            None => by_order!(order, read_for(wanted, purpose, input, out, remarks)),
             Some(name) => match fs::open(file_system, name) {
-                Ok(file) => read_for::<O, F::File, W>(wanted, purpose, file, out, remarks),
-                Err(_) => Err(Trouble::CannotRead(name)),
+                Ok(file) => by_order!(order, read_for(wanted, purpose, file, out, remarks)),
+                Err(_) => Err(Trouble::CannotRead("", name)),
             },
         },
         Action::Compare { first, second } => {
-            compare_files::<O, F, W>(system, wanted, (first, second), out, remarks)
+            by_order!(
+                order,
+                compare_files(system, wanted, (first, second), out, remarks)
+            )
         }
     }
 }
@@ -147,7 +141,7 @@ fn compare_files<'a, O: KeyOrder, F: Files, W: Write>(
     let kinds = (first.kind, second.kind);
     let file_system = system.files;
     let Ok(file) = fs::open(file_system, first.name) else {
-        return Err(Trouble::CannotReadFirst(first.name));
+        return Err(Trouble::CannotRead("first: ", first.name));
     };
     let mut reader = Noted {
         inner: Counted::new(file),
@@ -188,7 +182,9 @@ fn tell_comparison<'a, W: Write>(
     match (compared, missing) {
         (Ok(None), _) => tell_answer(alloc, out, None, Answer::Same),
         (Ok(Some(index)), _) => tell_answer(alloc, out, None, Answer::DifferentAt(index)),
-        (Err(CompareCountFault::Second(_)), Some(name)) => Err(Trouble::CannotReadSecond(name)),
+        (Err(CompareCountFault::Second(_)), Some(name)) => Err(Trouble::CannotRead(
+            "second: ", name,
+        )),
         (Err(why), _) => Err(Trouble::Compare(why)),
     }
 }
