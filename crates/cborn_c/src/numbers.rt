@@ -70,13 +70,20 @@ fn number_fault(why: EngineFault) -> u32
 {
     match why {
         EngineFault::Wire(WireFault::Refused { reason, .. }) => 0x101 + reason as u32,
+        EngineFault::Wire(WireFault::OutOfMemory) => OUT_OF_MEMORY,
         EngineFault::Edn(EdnFault::Lex(LexFault::Refused { reason, .. })) => 0x201 + reason as u32,
+        EngineFault::Edn(EdnFault::Lex(LexFault::OutOfMemory)) => OUT_OF_MEMORY,
         EngineFault::Edn(EdnFault::Refused { reason, .. }) => 0x301 + reason as u32,
+        EngineFault::Edn(EdnFault::OutOfMemory) => OUT_OF_MEMORY,
         EngineFault::TextInput(_) => 0x401,
         EngineFault::Invalid(Invalid::Refused { reason, .. }) => 0x501 + reason as u32,
+        EngineFault::Invalid(Invalid::OutOfMemory) => OUT_OF_MEMORY,
         EngineFault::Show(ShowFault::NotUtf8 { .. }) => 0x402,
+        EngineFault::Show(ShowFault::OutOfMemory) => OUT_OF_MEMORY,
         EngineFault::TooLong => TOO_LONG,
-        _ => OUT_OF_MEMORY,
+        EngineFault::ReadFault => OUT_OF_MEMORY,
+        EngineFault::WriteFault => OUT_OF_MEMORY,
+        EngineFault::OutOfMemory => OUT_OF_MEMORY,
     }
 }
 
