@@ -3,7 +3,7 @@ PREFIX ?= /usr/local
 PROGRAM := crates/cborn/out/cborn
 
 # The stack, in KB, within which each command has to answer at 1,024 levels.
-STACK ?= 64
+STACK ?= 48
 
 # The size in MB of the inputs whose cost in memory is tested.
 COST ?= 8
