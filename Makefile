@@ -89,7 +89,6 @@ layout:
 	python3 tests/promises.py --check
 	python3 tests/edits.py
 	python3 tests/made_up.py
-	python3 tests/arguments.py
 	python3 tests/glossary.py
 	python3 tests/words.py
 
@@ -147,10 +146,10 @@ CORPUS := bench/corpus/small-10000.cbor
 $(CORPUS): bench/corpus.py
 	python3 bench/corpus.py bench/corpus
 
-bench: build $(CORPUS)
-	python3 bench/run.py $(PROGRAM) bench/corpus
-
 # BENCH may hold options: BENCH=--cpu on a machine that is shared, BENCH='--into docs/PERFORMANCE.md' to put the tables there.
+bench: build $(CORPUS)
+	python3 bench/tables.py $(PROGRAM) bench/corpus --alone $(BENCH)
+
 bench-peers: build $(CORPUS)
 	python3 bench/tables.py $(PROGRAM) bench/corpus $(BENCH)
 	python3 bench/pictures.py

@@ -1,7 +1,7 @@
 #!/usr/bin/env python3
-"""Measure the program beside its peers, and print the tables of docs/PERFORMANCE.md.
+"""Measure the program beside its peers, or alone, and print the tables of docs/PERFORMANCE.md.
 
-    tables.py PROGRAM CORPUS_FOLDER [--only NAMES] [--best N] [--cpu] [--into FILE]
+    tables.py PROGRAM CORPUS_FOLDER [--only NAMES] [--alone] [--best N] [--cpu] [--into FILE]
               [--most MB] [--memory GB] [--temporary FOLDER]
 
 NAMES are of: machine, normalise, check, compare, show, texts, small, growth; all but growth by default.
@@ -64,7 +64,7 @@ class Bench:
     def __init__(self, given, folder):
         self.given = given
         self.program = str(given.program.resolve())
-        self.peers = peers.all_built()
+        self.peers = [] if given.alone else peers.all_built()
         self.sink = pathlib.Path(folder, "out")
         self.again = pathlib.Path(folder, "again")
         self.folder = pathlib.Path(folder)
@@ -271,6 +271,7 @@ def main():
     words.add_argument("program", type=pathlib.Path)
     words.add_argument("corpus", type=pathlib.Path)
     words.add_argument("--only", default=",".join(name for name in TABLES if name != "growth"))
+    words.add_argument("--alone", action="store_true")
     words.add_argument("--best", type=int, default=3)
     words.add_argument("--cpu", action="store_true")
     words.add_argument("--into", type=pathlib.Path)
