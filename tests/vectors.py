@@ -7,7 +7,8 @@
 
 Each front is an input of `show --to wire`, of `normalise`, of `compare` on both sides, and, if it is of bytes, of
 `check`. None of these calls `load`: tests in Rattle do. What is printed of a front that is read is computed by
-reading.py, which has nothing of the program. fronts.vectors says how its lines are read.
+reading.py, which has nothing of the program; of a text, from the bytes that `show` writes. fronts.vectors says how its
+lines are read.
 """
 import itertools
 import pathlib
@@ -49,14 +50,11 @@ def of_side(which, refusal):
     return refusal.replace(b"cborn: ", f"cborn: {which}: ".encode(), 1)
 
 
-def wanted(kind, front, answer, other):
-    """Each command line on a front, the content of the file `other` for it, and its outcome."""
+def wanted(kind, front, spelled, answer, other):
+    """Each command line on a front that spells these bytes, the content of the file `other` for it, and its outcome."""
     shown, normalised = refusals(answer, len(front))
-    if shown is None:
-        spelled = reading.spelled(kind, front)
-        yield ["show", "--to", "wire", "--from", kind], None, Outcome(spelled, b"", 0)
-    else:
-        yield ["show", "--to", "wire", "--from", kind], None, Outcome(b"", shown, 2)
+    right = Outcome(spelled, b"", 0) if shown is None else Outcome(b"", shown, 2)
+    yield ["show", "--to", "wire", "--from", kind], None, right
     if normalised is not None:
         refused = Outcome(b"", normalised, 2)
         yield ["normalise", "--from", kind], None, refused
@@ -90,7 +88,8 @@ def tried(library, program, those):
     with tempfile.TemporaryDirectory() as folder, shared.Served(library, program) as served:
         other = pathlib.Path(folder, "other")
         for kind, front, answer in those:
-            for words, beside, right in wanted(kind, front, answer, str(other)):
+            spelled = front if kind == "wire" else served.run(["show", "--to", "wire", "--from", kind], front).stdout
+            for words, beside, right in wanted(kind, front, spelled, answer, str(other)):
                 if beside is not None:
                     other.write_bytes(beside)
                 count += 1
