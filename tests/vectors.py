@@ -7,8 +7,8 @@
 
 Each front is an input of `show --to wire`, of `normalise`, of `compare` on both sides, and, if it is of bytes, of
 `check`. None of these calls `load`: tests in Rattle do. What is printed of a front that is read is computed by
-reading.py, which has nothing of the program; of a text, from the bytes that `show` writes. fronts.vectors says how its
-lines are read.
+reading.py, which has nothing of the program; of a text, from the bytes that the text spells which `show` makes of it.
+fronts.vectors says how its lines are read.
 """
 import itertools
 import pathlib
@@ -82,13 +82,19 @@ def fronts(path):
                 yield kind, content[:length], answer
 
 
+def spelled_as_shown(served, kind, text):
+    """The bytes that a text spells once it is shown: those that it has to spell itself."""
+    shown = served.run(["show", "--from", kind], text).stdout
+    return served.run(["show", "--to", "wire", "--from", "notation"], shown).stdout
+
+
 def tried(library, program, those):
     """Some fronts: how many answers there were, and a line for each wrong one."""
     count, wrong = 0, []
     with tempfile.TemporaryDirectory() as folder, shared.Served(library, program) as served:
         other = pathlib.Path(folder, "other")
         for kind, front, answer in those:
-            spelled = front if kind == "wire" else served.run(["show", "--to", "wire", "--from", kind], front).stdout
+            spelled = front if kind == "wire" else spelled_as_shown(served, kind, front)
             for words, beside, right in wanted(kind, front, spelled, answer, str(other)):
                 if beside is not None:
                     other.write_bytes(beside)
