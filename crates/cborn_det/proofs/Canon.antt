@@ -1,82 +1,32 @@
 -- Of valid items, two have one encoding exactly if they are the same, and each has one.
-use Rattle.std.specs.Prelude.{◌↔◌, ◌≡◌, ◌≢◌, ◌+◌, ◌*◌, ◌<◌, ◌^◌, ◌⊎◌, ◌∷◌, ◌++◌}
-use Rattle.cborn_det.proofs.Common.{ℕ, suc, inl, inr, List, [], length, refl, sym, ap, ◌∙◌, subst, arith, true, false, Bool, append-nil, IsPermutation, Ordering, ⊤, AllByRecursion, AllZip, length_permutation, IsPermutation-sym, IsPermutation-trans, cases_lt, Value, Values, Couples, integer, bytes, text, array, dict, tagged, simple, no_values, value, no_pairs, pair, listed, value_count, pair_count, pairs_of, number, Same, SameValues, SamePairs, big_endian, IsProper, AreProper, HasProperPairs, IsNew, HasNewKeys, Width, information, following, IsHead, least, IsLeastHead, IsString, IsInteger, Det, DetValues, DetPairs, DetSeq, DetMap, Entry, joined, major_of, bignum_tag, HasDistinctKeys, IsKeyOrder, one_head, least_holds, All_moved, carried, carried_left, one_magnitude, one_number, listed-pairs_of}
+use Rattle.std.specs.Prelude.{◌↔◌, ◌≡◌, ◌≢◌, ◌+◌, ◌*◌, ◌<◌, ◌≤◌, ◌^◌, ◌⊎◌, ◌∷◌, ◌++◌}
+use Rattle.cborn_det.proofs.Common.{ℕ, suc, inl, inr, List, [], length, refl, sym, ap, ◌∙◌, subst, arith, true, false, Bool, append-nil, length-append, IsPermutation, Ordering, ⊤, AllByRecursion, AllZip, length_permutation, IsPermutation-sym, IsPermutation-trans, cases_lt, Value, Values, Couples, integer, bytes, text, array, dict, tagged, simple, no_values, value, no_pairs, pair, listed, value_count, pair_count, pairs_of, number, Same, SameValues, SamePairs, big_endian, IsProper, AreProper, HasProperPairs, IsNew, HasNewKeys, Width, information, following, IsHead, least, IsLeastHead, IsString, IsInteger, Det, DetValues, DetPairs, DetSeq, DetMap, Entry, joined, major_of, bignum_tag, HasDistinctKeys, IsKeyOrder, one_head, least_holds, All_moved, carried, carried_left, one_magnitude, one_number, listed-pairs_of}
+use Rattle.cborn_model.specs.Heads.{major_at}
+use Rattle.cborn_model.proofs.Numbers.Majors.{major_at-code}
 use Rattle.cborn_model.proofs.Numbers.Simples.{simple_below}
 use Rattle.cborn_det.proofs.Rising.{one_arrangement, arranged}
-use Rattle.cborn_det.proofs.Reading.{small, reads, EntryReads, pairs_read, arranged_reads}
-
--- the heads that an item may begin with
-abbrev Leads : Value → ℕ → ℕ → Type 0
-Leads (integer s m) j n = (j < 2) ⊎ ((j ≡ 6) × ((n ≡ 2) ⊎ (n ≡ 3)))
-Leads (bytes b) j n = j ≡ 2
-Leads (text b) j n = j ≡ 3
-Leads (array vs) j n = j ≡ 4
-Leads (dict ps) j n = j ≡ 5
-Leads (tagged t v) j n = (j ≡ 6) × (n ≡ t)
-Leads (simple k) j n = j ≡ 7
-
-record Led (v : Value) (x : List ℕ) : Type 0 where
-  major : ℕ
-  width : Width
-  argument : ℕ
-  head : List ℕ
-  content : List ℕ
-  is_head : IsHead major width argument head
-  is : x ≡ head ++ content
-  leads : Leads v major argument
+use Rattle.cborn_det.proofs.Reading.{kind, led, Lies, alone, are_entries, some_bytes, reads, EntryReads, pairs_read, joined_reads}
 
 pub tags : (b : Bool) → (bignum_tag b ≡ 2) ⊎ (bignum_tag b ≡ 3)
 tags true = inr refl
 tags false = inl refl
 
--- items of one constructor
-abbrev Alike : Value → Value → Type 0
-Alike (integer s m) (integer t n) = ⊤
-Alike (bytes b) (bytes c) = ⊤
-Alike (text b) (text c) = ⊤
-Alike (array vs) (array ws) = ⊤
-Alike (dict ps) (dict qs) = ⊤
-Alike (tagged t v) (tagged u w) = ⊤
-Alike (simple n) (simple m) = ⊤
-Alike _ _ = ⊥
-
-alike : (a b : Value) (j n : ℕ) → Leads a j n → Leads b j n → IsProper a → IsProper b → Alike a b
-alike (integer s m) (integer t n) i k f g p q = tt
-alike (bytes b) (bytes c) i k f g p q = tt
-alike (text b) (text c) i k f g p q = tt
-alike (array vs) (array ws) i k f g p q = tt
-alike (dict ps) (dict qs) i k f g p q = tt
-alike (tagged t v) (tagged u w) i k f g p q = tt
-alike (simple n) (simple m) i k f g p q = tt
-alike (integer s m) (tagged t v) i k f g p q = let two : t ≢ 2 = q.0 in let three : t ≢ 3 = q.1 in absurd (omega arith)
-alike (tagged t v) (integer s m) i k f g p q = let two : t ≢ 2 = p.0 in let three : t ≢ 3 = p.1 in absurd (omega arith)
-alike _ _ i k f g p q = absurd (omega arith)
+small : (b : Bool) → major_of b < 2
+small true = omega arith
+small false = omega arith
 
 major_sign : (s t : Bool) → major_of s ≡ major_of t → s ≡ t
 major_sign true true e = refl
-major_sign true false e = absurd (omega arith)
-major_sign false true e = absurd (omega arith)
 major_sign false false e = refl
+major_sign _ _ e = absurd (omega arith)
 
 tag_sign : (s t : Bool) → bignum_tag s ≡ bignum_tag t → s ≡ t
 tag_sign true true e = refl
-tag_sign true false e = absurd (omega arith)
-tag_sign false true e = absurd (omega arith)
 tag_sign false false e = refl
-
--- two heads of one list, and what follows them
-pub record TwoHeads (m j n k : ℕ) (c d : List ℕ) : Type 0 where
-  pub major : m ≡ j
-  pub argument : n ≡ k
-  pub content : c ≡ d
-
-two_heads : (m j : ℕ) (w v : Width) (n k : ℕ) (h g c d x y : List ℕ) → IsHead m w n h → IsHead j v k g → x ≡ h ++ c → y ≡ g ++ d → x ≡ y → TwoHeads m j n k c d
-two_heads m j w v n k h g c d x y p q e f i =
-    let o = one_head w v c d p q (sym e ∙ i ∙ f) in
-    record { major = o.major; argument = o.argument; content = o.rest }
+tag_sign _ _ e = absurd (omega arith)
 
 pub string_one : (m : ℕ) (b c x : List ℕ) → IsString m b x → IsString m c x → b ≡ c
-string_one m b c x p q = (two_heads m m (least (length b)) (least (length c)) (length b) (length c) p.0 q.0 b c x x p.1 q.1 p.2 q.2 refl).content
+string_one m b c x p q = (one_head {m = m} {j = m} (least (length b)) (least (length c)) b c p.1 q.1 (sym p.2 ∙ q.2)).rest
 
 string_same : (m : ℕ) (b c x y : List ℕ) → b ≡ c → IsString m b x → IsString m c y → x ≡ y
 string_same m b c x y e p q =
@@ -93,17 +43,18 @@ integer_one s t m n x p q =
     elim p [
       | inl a ↦ elim q [
         | inl b ↦ let o = one_head (least (big_endian m)) (least (big_endian n)) [] [] a.1 b.1 refl in number_from s t m n (major_sign s t o.major) o.argument
-        | inr b ↦ let o = two_heads (major_of s) 6 (least (big_endian m)) (least (bignum_tag t)) (big_endian m) (bignum_tag t) x b.1 [] b.2 x x a.1 b.3 (sym (append-nil x)) b.5 refl in
-            let e : major_of s ≡ 6 = o.major in absurd (omega (arith, small s))
+        | inr b ↦ absurd (no_bignum s m t n x a b)
       ]
       | inr a ↦ elim q [
-        | inl b ↦ let o = two_heads (major_of t) 6 (least (big_endian n)) (least (bignum_tag s)) (big_endian n) (bignum_tag s) x a.1 [] a.2 x x b.1 a.3 (sym (append-nil x)) a.5 refl in
-            let e : major_of t ≡ 6 = o.major in absurd (omega (arith, small t))
-        | inr b ↦ let o = two_heads 6 6 (least (bignum_tag s)) (least (bignum_tag t)) (bignum_tag s) (bignum_tag t) a.1 b.1 a.2 b.2 x x a.3 b.3 a.5 b.5 refl in
-            let e : m ≡ n = string_one 2 m n b.2 (subst (IsString 2 m) o.content a.4) b.4 in
-            number_from s t m n (tag_sign s t o.argument) (ap big_endian e)
+        | inl b ↦ absurd (no_bignum t n s m x b a)
+        | inr b ↦
+            let o = one_head {m = 6} {j = 6} (least (bignum_tag s)) (least (bignum_tag t)) a.2 b.2 a.3 b.3 (sym a.5 ∙ b.5) in
+            number_from s t m n (tag_sign s t o.argument) (ap big_endian (string_one 2 m n b.2 (subst (IsString 2 m) o.rest a.4) b.4))
       ]
     ]
+  where
+    no_bignum : (s : Bool) (m : List ℕ) (t : Bool) (n x : List ℕ) → (big_endian m < 2 ^ 64) × IsLeastHead (major_of s) (big_endian m) x → (2 ^ 64 ≤ big_endian n) × (h : List ℕ) × (c : List ℕ) × IsLeastHead 6 (bignum_tag t) h × IsString 2 n c × (x ≡ h ++ c) → ⊥
+    no_bignum s m t n x a b = omega (arith, (one_head {m = major_of s} {j = 6} (least (big_endian m)) (least (bignum_tag t)) [] b.2 a.1 b.3 (append-nil x ∙ b.5)).major, small s)
 
 simple_one : (n m : ℕ) (x : List ℕ) → IsLeastHead 7 n x → IsLeastHead 7 m x → n ≡ m
 simple_one n m x p q = (one_head {m = 7} {j = 7} (least n) (least m) [] [] p q refl).argument
@@ -116,25 +67,13 @@ proper_listed no_pairs h = tt
 proper_listed (pair k v ps) h = ((h.0, h.1), proper_listed ps h.2)
 
 module _ (order : List ℕ → List ℕ → Ordering) where
-  led : (v : Value) (x : List ℕ) → Det order v x → Led v x
-  led (integer s m) x d =
-      elim d [
-        | inl p ↦ record { major = major_of s; width = least (big_endian m); argument = big_endian m; head = x; content = []; is_head = p.1; is = sym (append-nil x); leads = inl (small s) }
-        | inr p ↦ record { major = 6; width = least (bignum_tag s); argument = bignum_tag s; head = p.1; content = p.2; is_head = p.3; is = p.5; leads = inr (refl, tags s) }
-      ]
-  led (bytes b) x d = record { major = 2; width = least (length b); argument = length b; head = d.0; content = b; is_head = d.1; is = d.2; leads = refl }
-  led (text b) x d = record { major = 3; width = least (length b); argument = length b; head = d.0; content = b; is_head = d.1; is = d.2; leads = refl }
-  led (array vs) x d = record { major = 4; width = least (value_count vs); argument = value_count vs; head = d.0; content = d.1; is_head = d.2; is = d.4; leads = refl }
-  led (dict ps) x d = record { major = 5; width = least (pair_count ps); argument = pair_count ps; head = d.0; content = joined d.2; is_head = d.3; is = d.7; leads = refl }
-  led (tagged t v) x d = record { major = 6; width = least t; argument = t; head = d.0; content = d.1; is_head = d.2; is = d.4; leads = (refl, refl) }
-  led (simple n) x d = record { major = 7; width = least n; argument = n; head = x; content = []; is_head = d.1; is = sym (append-nil x); leads = refl }
-
-  one_kind : (a b : Value) (x : List ℕ) → Det order a x → Det order b x → IsProper a → IsProper b → Alike a b
-  one_kind a b x d e p q =
-      let s = led a x d in
-      let t = led b x e in
-      let o = two_heads s.major t.major s.width t.width s.argument t.argument s.head t.head s.content t.content x x s.is_head t.is_head s.is t.is refl in
-      alike a b s.major s.argument s.leads (subst (λ j. Leads b j s.argument) (sym o.major) (subst (λ n. Leads b t.major n) (sym o.argument) t.leads)) p q
+  same_kind : (a b : Value) (x : List ℕ) → Det order a x → Det order b x → IsProper a → IsProper b → kind a ≡ kind b
+  same_kind a b x d e p q =
+      let s = alone order a x d in
+      let t = alone order b x e in
+      let o = one_head (least s.argument) (least t.argument) s.content t.content s.is_head t.is_head (sym s.is ∙ t.is) in
+      let major : s.major ≡ t.major = sym (major_at-code s.major) ∙ ap major_at o.major ∙ major_at-code t.major in
+      sym (s.leads p) ∙ (λ i. led (major i) (o.argument i)) ∙ t.leads q
 
   -- an entry is a pair's
   abbrev DetPair : Value × Value → Entry → Type 0
@@ -147,16 +86,14 @@ module _ (order : List ℕ → List ℕ → Ordering) where
   det_zip (pair k v ps) (e ∷ es) d = ((d.0, d.1), det_zip ps es d.2)
 
   det_length : (ps : Couples) (es : List Entry) → DetPairs order ps es → length es ≡ pair_count ps
-  det_length no_pairs [] d = refl
-  det_length no_pairs (e ∷ es) d = absurd d
-  det_length (pair k v ps) [] d = absurd d
-  det_length (pair k v ps) (e ∷ es) d = ap suc (det_length ps es d.2)
+  det_length ps es d = (are_entries ⊥ order ps es (λ g. absurd g) d).1
 
   -- where two maps are written alike, the entries of the one are a rearrangement of the other's
   one_content : (ps qs : Couples) (es fs gs hs : List Entry) → DetPairs order ps es → IsPermutation es fs → DetPairs order qs gs → IsPermutation gs hs → pair_count ps ≡ pair_count qs → joined fs ≡ joined hs → IsPermutation gs es
   one_content ps qs es fs gs hs d p e q l j =
-      let reading : AllByRecursion (EntryReads order) fs = All_moved (EntryReads order) es fs p (pairs_read order ps es d) in
-      let t = arranged_reads order qs fs (pair_count ps) (length_permutation es fs p ∙ det_length ps es d) reading [] [] gs hs (sym l) e q (ap (λ l. l ++ []) j) in
+      let long : length fs ≡ length hs = length_permutation es fs p ∙ det_length ps es d ∙ l ∙ sym (length_permutation gs hs q ∙ det_length qs gs e) in
+      let lies = All_moved (Lies order) gs hs q (are_entries ⊥ order qs gs (λ g. absurd g) e).0 in
+      let t = joined_reads order fs hs [] [] long (All_moved (EntryReads order) es fs p (pairs_read order ps es d)) lies (ap (λ l. l ++ []) j) in
       IsPermutation-trans gs hs es q (subst (λ l. IsPermutation l es) t.0 (IsPermutation-sym es fs p))
 
   -- items with one encoding are the same
@@ -166,18 +103,18 @@ module _ (order : List ℕ → List ℕ → Ordering) where
     same_of_one (bytes b) (bytes c) x p q d e = string_one 2 b c x d e
     same_of_one (text b) (text c) x p q d e = string_one 3 b c x d e
     same_of_one (array vs) (array ws) x p q d e =
-        let o = two_heads 4 4 (least (value_count vs)) (least (value_count ws)) (value_count vs) (value_count ws) d.0 e.0 d.1 e.1 x x d.2 e.2 d.4 e.4 refl in
-        values_of_one vs ws d.1 p.0 q.0 o.argument d.3 (subst (DetValues order ws) (sym o.content) e.3)
+        let o = one_head {m = 4} {j = 4} (least (value_count vs)) (least (value_count ws)) d.1 e.1 d.2 e.2 (sym d.4 ∙ e.4) in
+        values_of_one vs ws d.1 p.0 q.0 o.argument d.3 (subst (DetValues order ws) (sym o.rest) e.3)
     same_of_one (dict ps) (dict qs) x p q d e =
-        let o = two_heads 5 5 (least (pair_count ps)) (least (pair_count qs)) (pair_count ps) (pair_count qs) d.0 e.0 (joined d.2) (joined e.2) x x d.3 e.3 d.7 e.7 refl in
-        let moved : IsPermutation e.1 d.1 = one_content ps qs d.1 d.2 e.1 e.2 d.4 d.5 e.4 e.5 o.argument o.content in
+        let o = one_head {m = 5} {j = 5} (least (pair_count ps)) (least (pair_count qs)) (joined d.2) (joined e.2) d.3 e.3 (sym d.7 ∙ e.7) in
+        let moved : IsPermutation e.1 d.1 = one_content ps qs d.1 d.2 e.1 e.2 d.4 d.5 e.4 e.5 o.argument o.rest in
         let t = carried DetPair (listed qs) e.1 d.1 (det_zip qs e.1 e.4) moved in
         (t.0, t.1, pairs_of_one ps t.0 d.1 p.0 (All_moved IsProperPair (listed qs) t.0 t.1 (proper_listed qs q.0)) d.4 t.2)
     same_of_one (tagged t v) (tagged u w) x p q d e =
-        let o = two_heads 6 6 (least t) (least u) t u d.0 e.0 d.1 e.1 x x d.2 e.2 d.4 e.4 refl in
-        (o.argument, same_of_one v w d.1 p.3 q.3 d.3 (subst (Det order w) (sym o.content) e.3))
+        let o = one_head {m = 6} {j = 6} (least t) (least u) d.1 e.1 d.2 e.2 (sym d.4 ∙ e.4) in
+        (o.argument, same_of_one v w d.1 p.3 q.3 d.3 (subst (Det order w) (sym o.rest) e.3))
     same_of_one (simple n) (simple m) x p q d e = simple_one n m x d.1 e.1
-    same_of_one a b x p q d e = absurd (one_kind a b x d e p q)
+    same_of_one a b x p q d e = absurd (omega (arith, same_kind a b x d e p q))
 
     values_of_one : (vs ws : Values) (c : List ℕ) → AreProper vs → AreProper ws → value_count vs ≡ value_count ws → DetValues order vs c → DetValues order ws c → SameValues vs ws
     values_of_one no_values no_values c p q l d e = tt
@@ -201,22 +138,12 @@ module _ (order : List ℕ → List ℕ → Ordering) where
 head_same : (j n k : ℕ) (h g : List ℕ) → n ≡ k → IsLeastHead j n h → IsLeastHead j k g → h ≡ g
 head_same j n k h g e p q = p.1 ∙ ap (λ z. (32 * j + information (least z) z) ∷ following (least z) z) e ∙ sym q.1
 
-sign_same : (s t : Bool) (x y : List ℕ) (n k : ℕ) → s ≡ t → n ≡ k → IsLeastHead (major_of s) n x → IsLeastHead (major_of t) k y → x ≡ y
-sign_same s t x y n k e f p q = head_same (major_of s) n k x y f p (subst (λ z. IsLeastHead (major_of z) k y) (sym e) q)
-
-tag_same : (s t : Bool) (x y : List ℕ) → s ≡ t → IsLeastHead 6 (bignum_tag s) x → IsLeastHead 6 (bignum_tag t) y → x ≡ y
-tag_same s t x y e p q = head_same 6 (bignum_tag s) (bignum_tag t) x y (ap bignum_tag e) p q
-
-integer_same : (s t : Bool) (m n x y : List ℕ) → s ≡ t → m ≡ n → IsInteger s m x → IsInteger t n y → x ≡ y
-integer_same s t m n x y e f p q =
-    let numbers : big_endian m ≡ big_endian n = ap big_endian f in
-    elim p [
-      | inl a ↦ elim q [ inl b ↦ sign_same s t x y (big_endian m) (big_endian n) e numbers a.1 b.1 | inr b ↦ absurd (omega arith) ]
-      | inr a ↦ elim q [
-        | inl b ↦ absurd (omega arith)
-        | inr b ↦ a.5 ∙ (λ i. tag_same s t a.1 b.1 e a.3 b.3 i ++ string_same 2 m n a.2 b.2 f a.4 b.4 i) ∙ sym b.5
-      ]
-    ]
+integer_same : (s : Bool) (m x y : List ℕ) → IsInteger s m x → IsInteger s m y → x ≡ y
+integer_same s m x y (inl a) (inl b) = head_same (major_of s) (big_endian m) (big_endian m) x y refl a.1 b.1
+integer_same s m x y (inl a) (inr b) = absurd (omega arith)
+integer_same s m x y (inr a) (inl b) = absurd (omega arith)
+integer_same s m x y (inr a) (inr b) =
+    a.5 ∙ (λ i. head_same 6 (bignum_tag s) (bignum_tag s) a.1 b.1 refl a.3 b.3 i ++ string_same 2 m m a.2 b.2 refl a.4 b.4 i) ∙ sym b.5
 
 values_count : (vs ws : Values) → SameValues vs ws → value_count vs ≡ value_count ws
 values_count no_values no_values h = refl
@@ -229,7 +156,7 @@ module _ (order : List ℕ → List ℕ → Ordering) (laws : IsKeyOrder order) 
     pub one_of_same : (a b : Value) (x y : List ℕ) → IsProper a → IsProper b → Same a b → Det order a x → Det order b y → x ≡ y
     one_of_same (integer s m) (integer t n) x y p q h d e =
         let k = one_number s t m n h in
-        integer_same s t m n x y k.0 (one_magnitude m n p.0 q.0 p.1 q.1 k.1) d e
+        integer_same s m x y d (subst (λ b. IsInteger b m y) (sym k.0) (subst (λ b. IsInteger t b y) (sym (one_magnitude m n p.0 q.0 p.1 q.1 k.1)) e))
     one_of_same (bytes b) (bytes c) x y p q h d e = string_same 2 b c x y h d e
     one_of_same (text b) (text c) x y p q h d e = string_same 3 b c x y h d e
     one_of_same (array vs) (array ws) x y p q h d e =
@@ -337,9 +264,7 @@ module _ (order : List ℕ → List ℕ → Ordering) (laws : IsKeyOrder order) 
   -- ---- sequences
 
   not_empty : (v : Value) (x y : List ℕ) → Det order v x → x ++ y ≡ [] → ⊥
-  not_empty v x y d e =
-      let t = led order v x d in
-      cc (e, ap (λ l. l ++ y) t.is, t.is_head.1)
+  not_empty v x y d e = omega (arith, some_bytes order v x d, ap length e, length-append x y)
 
   pub seq_of_one : (vs ws : List Value) (x : List ℕ) → AllByRecursion IsProper vs → AllByRecursion IsProper ws → DetSeq order vs x → DetSeq order ws x → AllZip Same vs ws
   seq_of_one [] [] x p q d e = tt

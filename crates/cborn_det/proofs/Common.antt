@@ -1,5 +1,5 @@
 -- The names that the proofs of this crate use, each from where it is defined.
-pub use Rattle.std.proofs.Common.{Bool, Bor, Decides, Equal, Greater, IsPermutation, IsTrue, Less, List, Ordering, [], add-one, ap, append-nil, append_assoc, arith, drop, drop_at, false, get_or, inl, inr, is_eq, is_lt, length, length-append, length-drop, lit<, ltb, ltb-false, ltb-true, map, refl, rules, subst, suc, sym, take, take_at, true, true≢false, ℕ, ◌∙◌}
+pub use Rattle.std.proofs.Common.{Bool, Bor, Decides, Equal, Greater, IsPermutation, IsTrue, Less, List, Ordering, [], add-one, ap, append-nil, append_assoc, arith, drop, drop_at, false, get_or, inl, inr, is_eq, is_lt, length, length-append, length-drop, lit<, ltb, ltb-false, ltb-true, map, refl, rules, subst, suc, sym, take, take_at, true, zero, true≢false, ℕ, ◌∙◌}
 pub use Rattle.std.proofs.lemmas.Bool.{cases_lt, cond_both}
 pub use Rattle.std.proofs.lemmas.List.{drop_more, length-map, map-append, take-append-drop, take_more}
 pub use Rattle.std.proofs.lemmas.List.Elements.{All-from_recursion, recursion_from_All}

@@ -6,4 +6,3 @@ pub mod Arranging
 pub mod Cutting
 pub mod Steps
 pub mod Room
-pub mod Written

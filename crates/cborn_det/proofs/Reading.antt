@@ -1,159 +1,174 @@
--- No encoding begins another: what is at the front of a list is one encoding at most.
-use Rattle.std.specs.Prelude.{◌≡◌, ◌<◌, ◌⊎◌, ◌∷◌, ◌++◌}
-use Rattle.cborn_det.proofs.Common.{ℕ, suc, inl, inr, List, [], length, refl, sym, ap, ◌∙◌, subst, arith, true, false, Bool, append_assoc, append-nil, IsPermutation, Ordering, AllByRecursion, length_permutation, Value, Values, Couples, integer, bytes, text, array, dict, tagged, simple, no_values, value, no_pairs, pair, value_count, pair_count, big_endian, Width, IsHead, least, Det, DetValues, DetPairs, Entry, joined, major_of, bignum_tag, one_head, append_same, All_moved}
+-- What begins an encoding and what follows that; and no encoding begins another: what is at the front of a list is one encoding at most.
+use Rattle.std.specs.Prelude.{◌≡◌, ◌≢◌, ◌+◌, ◌<◌, ◌≤◌, ◌^◌, ◌⊎◌, ◌∷◌, ◌++◌}
+use Rattle.cborn_det.proofs.Common.{ℕ, zero, suc, inl, inr, List, [], length, refl, sym, ap, ◌∙◌, subst, arith, true, false, Bool, length-append, append_assoc, append-nil, Ordering, AllByRecursion, length_permutation, Value, Values, Couples, integer, bytes, text, array, dict, tagged, simple, no_values, value, no_pairs, pair, value_count, pair_count, big_endian, IsShortest, IsProper, AreProper, HasProperPairs, Width, IsHead, IsLeastHead, least, Rising, Det, DetValues, DetPairs, Entry, keys, joined, bignum_tag, one_head, append_same, All_moved}
+use Rattle.cborn_model.specs.Heads.{code, major_at}
+use Rattle.cborn_model.specs.declared.heads.Major.{Major}
+use Rattle.cborn_model.specs.declared.heads.Major.TheVariants.{Unsigned, Negative, ByteString, TextString, Array, Map, Tag, Other}
+use Rattle.cborn_model.proofs.Numbers.Majors.{major_at-code}
 
-pub small : (b : Bool) → major_of b < 2
-small true = omega arith
-small false = omega arith
+-- a number for each constructor of items
+abbrev pub kind : Value → ℕ
+kind (integer s m) = 0
+kind (bytes b) = 2
+kind (text b) = 3
+kind (array vs) = 4
+kind (dict ps) = 5
+kind (tagged t v) = 6
+kind (simple n) = 7
 
-module _ (order : List ℕ → List ℕ → Ordering) where
-  -- what may follow a head of the major type m with the argument n
-  data Content (m n : ℕ) (c : List ℕ) : Type 0 where
-    bare : (m < 2) ⊎ (m ≡ 7) → c ≡ [] → Content m n c
-    string : (m ≡ 2) ⊎ (m ≡ 3) → length c ≡ n → Content m n c
-    items : m ≡ 4 → (vs : Values) → value_count vs ≡ n → DetValues order vs c → Content m n c
-    entries : m ≡ 5 → (ps : Couples) (es fs : List Entry) → pair_count ps ≡ n → DetPairs order ps es → IsPermutation es fs → c ≡ joined fs → Content m n c
-    inner : m ≡ 6 → (v : Value) → Det order v c → Content m n c
+-- that of the items that begin with such a head
+abbrev pub led : Major → ℕ → ℕ
+led Negative n = 0
+led Tag (suc (suc zero)) = 0
+led Tag (suc (suc (suc zero))) = 0
+led m n = code m
+
+led_bignum : (s : Bool) → led Tag (bignum_tag s) ≡ 0
+led_bignum true = refl
+led_bignum false = refl
+
+led_tag : (t : ℕ) → t ≢ 2 → t ≢ 3 → led Tag t ≡ 6
+led_tag (suc (suc zero)) two three = absurd (two refl)
+led_tag (suc (suc (suc zero))) two three = absurd (three refl)
+led_tag _ two three = refl
+
+-- the magnitude of an integer that doesn't fit 64 bits
+abbrev pub IsLarge : Value → Type 0
+IsLarge v = (b : List ℕ) × (v ≡ bytes b) × IsShortest b × (2 ^ 64 ≤ big_endian b)
+
+-- Where G holds the items are valid.
+module _ (G : Type 0) (order : List ℕ → List ℕ → Ordering) where
+  -- the entry is what some pair encodes to
+  pub IsEntry : Entry → Type 0
+  IsEntry e = (k : Value) × (v : Value) × (G → IsProper k × IsProper v) × Det order k e.0 × Det order v e.1
+
+  pub are_entries : (ps : Couples) (es : List Entry) → (G → HasProperPairs ps) → DetPairs order ps es → AllByRecursion IsEntry es × (length es ≡ pair_count ps)
+  unfolding IsEntry
+  are_entries no_pairs [] p d = (tt, refl)
+  are_entries no_pairs (e ∷ es) p d = absurd d
+  are_entries (pair k v ps) [] p d = absurd d
+  are_entries (pair k v ps) (e ∷ es) p d = let t = are_entries ps es (λ g. (p g).2) d.2 in (((k, v, (λ g. ((p g).0, (p g).1)), d.0, d.1), t.0), ap suc t.1)
+
+  -- what may follow a head of this major type with the argument n
+  abbrev pub Content : Major → ℕ → List ℕ → Type 0
+  Content ByteString n c = length c ≡ n
+  Content TextString n c = length c ≡ n
+  Content Array n c = (vs : Values) × (value_count vs ≡ n) × (G → AreProper vs) × DetValues order vs c
+  Content Map n c = (fs : List Entry) × (length fs ≡ n) × AllByRecursion IsEntry fs × Rising order (keys fs) × (c ≡ joined fs)
+  Content Tag n c = (v : Value) × (G → IsProper v) × Det order v c × (G → (n ≡ 2) ⊎ (n ≡ 3) → IsLarge v)
+  Content _ n c = c ≡ []
 
   -- an encoding as a head and what follows it
-  record Seen (x : List ℕ) : Type 0 where
-    major : ℕ
-    width : Width
-    argument : ℕ
-    head : List ℕ
-    content : List ℕ
-    is_head : IsHead major width argument head
-    follows : Content major argument content
-    is : x ≡ head ++ content
+  pub record Seen (v : Value) (x : List ℕ) : Type 0 where
+    pub major : Major
+    pub argument : ℕ
+    pub front : List ℕ
+    pub content : List ℕ
+    pub is_head : IsLeastHead (code major) argument front
+    pub leads : IsProper v → led major argument ≡ kind v
+    pub follows : Content major argument content
+    pub is : x ≡ front ++ content
 
-  seen : (v : Value) (x : List ℕ) → Det order v x → Seen x
-  seen (integer s m) x d =
-      elim d [
-        | inl p ↦ record { major = major_of s; width = least (big_endian m); argument = big_endian m; head = x; content = []; is_head = p.1; follows = bare (inl (small s)) refl; is = sym (append-nil x) }
-        | inr p ↦ record { major = 6; width = least (bignum_tag s); argument = bignum_tag s; head = p.1; content = p.2; is_head = p.3; follows = inner refl (bytes m) p.4; is = p.5 }
-      ]
-  seen (bytes b) x d = record { major = 2; width = least (length b); argument = length b; head = d.0; content = b; is_head = d.1; follows = string (inl refl) refl; is = d.2 }
-  seen (text b) x d = record { major = 3; width = least (length b); argument = length b; head = d.0; content = b; is_head = d.1; follows = string (inr refl) refl; is = d.2 }
-  seen (array vs) x d = record { major = 4; width = least (value_count vs); argument = value_count vs; head = d.0; content = d.1; is_head = d.2; follows = items refl vs refl d.3; is = d.4 }
-  seen (dict ps) x d = record { major = 5; width = least (pair_count ps); argument = pair_count ps; head = d.0; content = joined d.2; is_head = d.3; follows = entries refl ps d.1 d.2 refl d.4 d.5 refl; is = d.7 }
-  seen (tagged t v) x d = record { major = 6; width = least t; argument = t; head = d.0; content = d.1; is_head = d.2; follows = inner refl v d.3; is = d.4 }
-  seen (simple n) x d = record { major = 7; width = least n; argument = n; head = x; content = []; is_head = d.1; follows = bare (inr refl) refl; is = sym (append-nil x) }
+  pub seen : (v : Value) (x : List ℕ) → (G → IsProper v) → Det order v x → Seen v x
+  seen (integer false m) x p (inl d) = record { major = Unsigned; argument = big_endian m; front = x; content = []; is_head = d.1; leads = λ q. refl; follows = refl; is = sym (append-nil x) }
+  seen (integer true m) x p (inl d) = record { major = Negative; argument = big_endian m; front = x; content = []; is_head = d.1; leads = λ q. refl; follows = refl; is = sym (append-nil x) }
+  seen (integer s m) x p (inr d) =
+      record { major = Tag; argument = bignum_tag s; front = d.1; content = d.2; is_head = d.3; leads = λ q. led_bignum s; follows = (bytes m, (λ g. ((p g).0, (p g).2)), d.4, λ g tag. (m, refl, (p g).1, d.0)); is = d.5 }
+  seen (bytes b) x p d = record { major = ByteString; argument = length b; front = d.0; content = b; is_head = d.1; leads = λ q. refl; follows = refl; is = d.2 }
+  seen (text b) x p d = record { major = TextString; argument = length b; front = d.0; content = b; is_head = d.1; leads = λ q. refl; follows = refl; is = d.2 }
+  seen (array vs) x p d = record { major = Array; argument = value_count vs; front = d.0; content = d.1; is_head = d.2; leads = λ q. refl; follows = (vs, refl, (λ g. (p g).0), d.3); is = d.4 }
+  seen (dict ps) x p d =
+      let t = are_entries ps d.1 (λ g. (p g).0) d.4 in
+      record { major = Map; argument = pair_count ps; front = d.0; content = joined d.2; is_head = d.3; leads = λ q. refl; follows = (d.2, length_permutation d.1 d.2 d.5 ∙ t.1, All_moved IsEntry d.1 d.2 d.5 t.0, d.6, refl); is = d.7 }
+  seen (tagged t v) x p d =
+      record { major = Tag; argument = t; front = d.0; content = d.1; is_head = d.2; leads = λ q. led_tag t q.0 q.1; follows = (v, (λ g. (p g).3), d.3, λ g tag. absurd (elim tag [ inl e ↦ (p g).0 e | inr e ↦ (p g).1 e ])); is = d.4 }
+  seen (simple n) x p d = record { major = Other; argument = n; front = x; content = []; is_head = d.1; leads = λ q. refl; follows = refl; is = sym (append-nil x) }
+
+  -- a head and what follows it, where an encoding stands
+  pub record Meets (m : Major) (w : Width) (n : ℕ) (h c r x s : List ℕ) : Type 0 where
+    pub short : w ≡ least n
+    pub content : List ℕ
+    pub follows : Content m n content
+    pub rest : c ++ r ≡ content ++ s
+    pub is : x ≡ h ++ content
+
+  pub meets : (m : Major) (w : Width) (n : ℕ) (h c r x s : List ℕ) (v : Value) → IsHead (code m) w n h → Seen v x → (h ++ c) ++ r ≡ x ++ s → Meets m w n h c r x s
+  meets m w n h c r x s v p z e =
+      let o = one_head w (least z.argument) (c ++ r) (z.content ++ s) p z.is_head (sym (append_assoc h c r) ∙ e ∙ ap (λ l. l ++ s) z.is ∙ append_assoc z.front z.content s) in
+      let major : z.major ≡ m = sym (major_at-code z.major) ∙ ap major_at (sym o.major) ∙ major_at-code m in
+      record {
+        short = o.width ∙ ap least (sym o.argument);
+        content = z.content;
+        follows = subst (λ k. Content m k z.content) (sym o.argument) (subst (λ j. Content j z.argument z.content) major z.follows);
+        rest = o.rest;
+        is = z.is ∙ ap (λ l. l ++ z.content) (sym o.head);
+      }
+
+module _ (order : List ℕ → List ℕ → Ordering) where
+  abbrev Followed : Major → ℕ → List ℕ → Type 0
+  Followed = Content ⊥ order
+
+  abbrev pub Lies : Entry → Type 0
+  Lies = IsEntry ⊥ order
+
+  pub alone : (v : Value) (x : List ℕ) → Det order v x → Seen ⊥ order v x
+  alone v x d = seen ⊥ order v x (λ g. absurd g) d
+
+  -- no encoding is empty
+  pub some_bytes : (v : Value) (x : List ℕ) → Det order v x → 0 < length x
+  some_bytes v x d = let z = alone v x d in omega (arith, ap length z.is, length-append z.front z.content, ap length z.is_head.1)
 
   -- no other encoding is where x is
   abbrev pub Reads : List ℕ → Type 0
   Reads x = (v : Value) (y r s : List ℕ) → Det order v y → x ++ r ≡ y ++ s → (x ≡ y) × (r ≡ s)
 
-  abbrev ContentReads : ℕ → ℕ → List ℕ → Type 0
-  ContentReads m n c = (d r s : List ℕ) → Content m n d → c ++ r ≡ d ++ s → (c ≡ d) × (r ≡ s)
+  reads_from : (m : Major) (n : ℕ) (h c x : List ℕ) → IsLeastHead (code m) n h → x ≡ h ++ c → ((d r s : List ℕ) → Followed m n d → c ++ r ≡ d ++ s → (c ≡ d) × (r ≡ s)) → Reads x
+  reads_from m n h c x p is f v y r s d e =
+      let t = meets ⊥ order m (least n) n h c r y s v p (alone v y d) (ap (λ l. l ++ r) (sym is) ∙ e) in
+      let u = f t.content r s t.follows t.rest in
+      (is ∙ ap (λ l. h ++ l) u.0 ∙ sym t.is, u.1)
 
-  reads_from : (m : ℕ) (w : Width) (n : ℕ) (h c x : List ℕ) → IsHead m w n h → x ≡ h ++ c → ContentReads m n c → Reads x
-  reads_from m w n h c x p is f v y r s d e =
-      let t = seen v y d in
-      let front : h ++ (c ++ r) ≡ t.head ++ (t.content ++ s) = sym (append_assoc h c r) ∙ ap (λ l. l ++ r) (sym is) ∙ e ∙ ap (λ l. l ++ s) t.is ∙ append_assoc t.head t.content s in
-      let o = one_head w t.width (c ++ r) (t.content ++ s) p t.is_head front in
-      let follows : Content m n t.content = subst (λ k. Content m k t.content) (sym o.argument) (subst (λ j. Content j t.argument t.content) (sym o.major) t.follows) in
-      let u = f t.content r s follows o.rest in
-      let heads : h ≡ t.head = o.head in
-      let contents : c ≡ t.content = u.0 in
-      (is ∙ ap (λ l. l ++ c) heads ∙ ap (λ l. t.head ++ l) contents ∙ sym t.is, u.1)
-
-  bare_reads : (m n : ℕ) → (m < 2) ⊎ (m ≡ 7) → ContentReads m n []
-  bare_reads m n h d r s (bare i e) q = (sym e, q ∙ ap (λ l. l ++ s) e)
-  bare_reads m n h d r s (string i e) q = absurd (omega arith)
-  bare_reads m n h d r s (items i vs k e) q = absurd (omega arith)
-  bare_reads m n h d r s (entries i ps es fs k e p j) q = absurd (omega arith)
-  bare_reads m n h d r s (inner i v e) q = absurd (omega arith)
-
-  string_reads : (m : ℕ) (b : List ℕ) → (m ≡ 2) ⊎ (m ≡ 3) → ContentReads m (length b) b
-  string_reads m b h d r s (bare i e) q = absurd (omega arith)
-  string_reads m b h d r s (string i e) q = append_same b d r s (sym e) q
-  string_reads m b h d r s (items i vs k e) q = absurd (omega arith)
-  string_reads m b h d r s (entries i ps es fs k e p j) q = absurd (omega arith)
-  string_reads m b h d r s (inner i v e) q = absurd (omega arith)
-
-  ValuesRead : Values → List ℕ → Type 0
-  ValuesRead vs c = (ws : Values) (d r s : List ℕ) → value_count vs ≡ value_count ws → DetValues order ws d → c ++ r ≡ d ++ s → (c ≡ d) × (r ≡ s)
-
-  items_read : (vs : Values) (c : List ℕ) → ValuesRead vs c → ContentReads 4 (value_count vs) c
-  unfolding ValuesRead
-  items_read vs c f d r s (bare i e) q = absurd (omega arith)
-  items_read vs c f d r s (string i e) q = absurd (omega arith)
-  items_read vs c f d r s (items i ws k e) q = f ws d r s (sym k) e q
-  items_read vs c f d r s (entries i ps es fs k e p j) q = absurd (omega arith)
-  items_read vs c f d r s (inner i v e) q = absurd (omega arith)
-
-  inner_reads : (n : ℕ) (c : List ℕ) → Reads c → ContentReads 6 n c
-  inner_reads n c f d r s (bare i e) q = absurd (omega arith)
-  inner_reads n c f d r s (string i e) q = absurd (omega arith)
-  inner_reads n c f d r s (items i ws k e) q = absurd (omega arith)
-  inner_reads n c f d r s (entries i ps es fs k e p j) q = absurd (omega arith)
-  inner_reads n c f d r s (inner i v e) q = f v d r s e q
+  head_reads : (m : Major) (n : ℕ) (x : List ℕ) → IsLeastHead (code m) n x → ((d : List ℕ) → Followed m n d → d ≡ []) → Reads x
+  head_reads m n x p none = reads_from m n x [] x p (sym (append-nil x)) (λ d r s f q. (sym (none d f), q ∙ ap (λ l. l ++ s) (none d f)))
 
   abbrev pub EntryReads : Entry → Type 0
   EntryReads e = Reads e.0 × Reads e.1
 
-  -- the entry is what some pair encodes to
-  IsEntry : Entry → Type 0
-  IsEntry e = (k : Value) × (v : Value) × Det order k e.0 × Det order v e.1
-
-  are_entries : (ps : Couples) (es : List Entry) → DetPairs order ps es → AllByRecursion IsEntry es × (length es ≡ pair_count ps)
+  -- entries in one order at the front of a list are no others
+  pub joined_reads : (es fs : List Entry) (r s : List ℕ) → length es ≡ length fs → AllByRecursion EntryReads es → AllByRecursion Lies fs → joined es ++ r ≡ joined fs ++ s → (es ≡ fs) × (r ≡ s)
   unfolding IsEntry
-  are_entries no_pairs [] d = (tt, refl)
-  are_entries no_pairs (e ∷ es) d = absurd d
-  are_entries (pair k v ps) [] d = absurd d
-  are_entries (pair k v ps) (e ∷ es) d = let t = are_entries ps es d.2 in (((k, v, d.0, d.1), t.0), ap suc t.1)
-
-  entry_reads : (e f : Entry) (r s : List ℕ) → EntryReads e → IsEntry f → (e.0 ++ e.1) ++ r ≡ (f.0 ++ f.1) ++ s → (e ≡ f) × (r ≡ s)
-  unfolding IsEntry
-  entry_reads e f r s g h q =
-      let t = g.0 h.0 f.0 (e.1 ++ r) (f.1 ++ s) h.2 (sym (append_assoc e.0 e.1 r) ∙ q ∙ append_assoc f.0 f.1 s) in
-      let u = g.1 h.1 f.1 r s h.3 t.1 in
-      (λ i. (t.0 i, u.0 i), u.1)
-
-  joined_reads : (es fs : List Entry) (r s : List ℕ) → length es ≡ length fs → AllByRecursion EntryReads es → AllByRecursion IsEntry fs → joined es ++ r ≡ joined fs ++ s → (es ≡ fs) × (r ≡ s)
   joined_reads [] [] r s l g h q = (refl, q)
   joined_reads [] (f ∷ fs) r s l g h q = absurd (omega arith)
   joined_reads (e ∷ es) [] r s l g h q = absurd (omega arith)
   joined_reads (e ∷ es) (f ∷ fs) r s l g h q =
-      let t = entry_reads e f (joined es ++ r) (joined fs ++ s) g.0 h.0 (sym (append_assoc (e.0 ++ e.1) (joined es) r) ∙ q ∙ append_assoc (f.0 ++ f.1) (joined fs) s) in
-      let u = joined_reads es fs r s (omega arith) g.1 h.1 t.1 in
-      (λ i. t.0 i ∷ u.0 i, u.1)
+      let whole : e.0 ++ (e.1 ++ (joined es ++ r)) ≡ f.0 ++ (f.1 ++ (joined fs ++ s)) =
+      sym (append_assoc e.0 e.1 (joined es ++ r)) ∙ sym (append_assoc (e.0 ++ e.1) (joined es) r) ∙ q ∙ append_assoc (f.0 ++ f.1) (joined fs) s ∙ append_assoc f.0 f.1 (joined fs ++ s) in
+      let t = g.0.0 h.0.0 f.0 (e.1 ++ (joined es ++ r)) (f.1 ++ (joined fs ++ s)) h.0.3 whole in
+      let u = g.0.1 h.0.1 f.1 (joined es ++ r) (joined fs ++ s) h.0.4 t.1 in
+      let w = joined_reads es fs r s (omega arith) g.1 h.1 u.1 in
+      (λ i. (t.0 i, u.0 i) ∷ w.0 i, w.1)
 
-  -- entries in one order at the front of a list are no others
-  pub arranged_reads : (ps : Couples) (fs : List Entry) (n : ℕ) → length fs ≡ n → AllByRecursion EntryReads fs → (r s : List ℕ) (gs hs : List Entry) → pair_count ps ≡ n → DetPairs order ps gs → IsPermutation gs hs → joined fs ++ r ≡ joined hs ++ s → (fs ≡ hs) × (r ≡ s)
-  arranged_reads ps fs n l g r s gs hs k d p q =
-      let t = are_entries ps gs d in
-      joined_reads fs hs r s (omega (arith, length_permutation gs hs p, t.1)) g (All_moved IsEntry gs hs p t.0) q
-
-  entries_read : (n : ℕ) (fs : List Entry) → length fs ≡ n → AllByRecursion EntryReads fs → ContentReads 5 n (joined fs)
-  entries_read n fs l g d r s (bare i e) q = absurd (omega arith)
-  entries_read n fs l g d r s (string i e) q = absurd (omega arith)
-  entries_read n fs l g d r s (items i ws k e) q = absurd (omega arith)
-  entries_read n fs l g d r s (entries i ps gs hs k e p j) q =
-      let t = arranged_reads ps fs n l g r s gs hs k e p (q ∙ ap (λ l. l ++ s) j) in
-      (ap joined t.0 ∙ sym j, t.1)
-  entries_read n fs l g d r s (inner i v e) q = absurd (omega arith)
+  string_reads : (m : Major) (b h x : List ℕ) → IsLeastHead (code m) (length b) h → x ≡ h ++ b → ((d : List ℕ) → Followed m (length b) d → length d ≡ length b) → Reads x
+  string_reads m b h x p is long = reads_from m (length b) h b x p is (λ d r s f q. append_same b d r s (sym (long d f)) q)
 
   mutual
-    unfolding ValuesRead
-
     pub reads : (v : Value) (x : List ℕ) → Det order v x → Reads x
-    reads (integer s m) x d =
-        elim d [
-          | inl p ↦ reads_from (major_of s) (least (big_endian m)) (big_endian m) x [] x p.1 (sym (append-nil x)) (bare_reads (major_of s) (big_endian m) (inl (small s)))
-          | inr p ↦ reads_from 6 (least (bignum_tag s)) (bignum_tag s) p.1 p.2 x p.3 p.5
-              (inner_reads (bignum_tag s) p.2 (reads_from 2 (least (length m)) (length m) p.4.0 m p.2 p.4.1 p.4.2 (string_reads 2 m (inl refl))))
-        ]
-    reads (bytes b) x d = reads_from 2 (least (length b)) (length b) d.0 b x d.1 d.2 (string_reads 2 b (inl refl))
-    reads (text b) x d = reads_from 3 (least (length b)) (length b) d.0 b x d.1 d.2 (string_reads 3 b (inr refl))
-    reads (array vs) x d = reads_from 4 (least (value_count vs)) (value_count vs) d.0 d.1 x d.2 d.4 (items_read vs d.1 (values_read vs d.1 d.3))
+    reads (integer false m) x (inl d) = head_reads Unsigned (big_endian m) x d.1 (λ c f. f)
+    reads (integer true m) x (inl d) = head_reads Negative (big_endian m) x d.1 (λ c f. f)
+    reads (integer s m) x (inr d) = reads_from Tag (bignum_tag s) d.1 d.2 x d.3 d.5 (λ c r s f q. string_reads ByteString m d.4.0 d.2 d.4.1 d.4.2 (λ e g. g) f.0 c r s f.2 q)
+    reads (bytes b) x d = string_reads ByteString b d.0 x d.1 d.2 (λ c f. f)
+    reads (text b) x d = string_reads TextString b d.0 x d.1 d.2 (λ c f. f)
+    reads (array vs) x d = reads_from Array (value_count vs) d.0 d.1 x d.2 d.4 (λ c r s f q. values_read vs d.1 d.3 f.0 c r s (sym f.1) f.3 q)
     reads (dict ps) x d =
-        reads_from 5 (least (pair_count ps)) (pair_count ps) d.0 (joined d.2) x d.3 d.7
-        (entries_read (pair_count ps) d.2 (length_permutation d.1 d.2 d.5 ∙ (are_entries ps d.1 d.4).1) (All_moved EntryReads d.1 d.2 d.5 (pairs_read ps d.1 d.4)))
-    reads (tagged t v) x d = reads_from 6 (least t) t d.0 d.1 x d.2 d.4 (inner_reads t d.1 (reads v d.1 d.3))
-    reads (simple n) x d = reads_from 7 (least n) n x [] x d.1 (sym (append-nil x)) (bare_reads 7 n (inr refl))
+        reads_from Map (pair_count ps) d.0 (joined d.2) x d.3 d.7
+        (λ c r s f q.
+        let long = length_permutation d.1 d.2 d.5 ∙ (are_entries ⊥ order ps d.1 (λ g. absurd g) d.4).1 in
+        let t = joined_reads d.2 f.0 r s (long ∙ sym f.1) (All_moved EntryReads d.1 d.2 d.5 (pairs_read ps d.1 d.4)) f.2 (q ∙ ap (λ l. l ++ s) f.4) in
+        (ap joined t.0 ∙ sym f.4, t.1))
+    reads (tagged t v) x d = reads_from Tag t d.0 d.1 x d.2 d.4 (λ c r s f q. reads v d.1 d.3 f.0 c r s f.2 q)
+    reads (simple n) x d = head_reads Other n x d.1 (λ c f. f)
 
-    values_read : (vs : Values) (c : List ℕ) → DetValues order vs c → ValuesRead vs c
+    values_read : (vs : Values) (c : List ℕ) → DetValues order vs c → (ws : Values) (d r s : List ℕ) → value_count vs ≡ value_count ws → DetValues order ws d → c ++ r ≡ d ++ s → (c ≡ d) × (r ≡ s)
     values_read no_values c e no_values d r s l g q = (e ∙ sym g, sym (ap (λ l. l ++ r) e) ∙ q ∙ ap (λ l. l ++ s) g)
     values_read no_values c e (value w ws) d r s l g q = absurd (omega arith)
     values_read (value v vs) c e no_values d r s l g q = absurd (omega arith)
