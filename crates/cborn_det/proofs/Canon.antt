@@ -1,9 +1,11 @@
 -- Of valid items, two have one encoding exactly if they are the same, and each has one.
 use Rattle.std.specs.Prelude.{◌↔◌, ◌≡◌, ◌≢◌, ◌+◌, ◌*◌, ◌<◌, ◌≤◌, ◌^◌, ◌⊎◌, ◌∷◌, ◌++◌}
-use Rattle.cborn_det.proofs.Common.{ℕ, suc, inl, inr, List, [], length, refl, sym, ap, ◌∙◌, subst, arith, true, false, Bool, append-nil, length-append, IsPermutation, Ordering, ⊤, AllByRecursion, AllZip, length_permutation, IsPermutation-sym, IsPermutation-trans, cases_lt, Value, Values, Couples, integer, bytes, text, array, dict, tagged, simple, no_values, value, no_pairs, pair, listed, value_count, pair_count, pairs_of, number, Same, SameValues, SamePairs, big_endian, IsProper, AreProper, HasProperPairs, IsNew, HasNewKeys, Width, information, following, IsHead, least, IsLeastHead, IsString, IsInteger, Det, DetValues, DetPairs, DetSeq, DetMap, Entry, joined, major_of, bignum_tag, HasDistinctKeys, IsKeyOrder, one_head, least_holds, All_moved, carried, carried_left, one_magnitude, one_number, listed-pairs_of}
+use Rattle.cborn_det.proofs.Common.{ℕ, suc, inl, inr, List, [], length, refl, sym, ap, ◌∙◌, subst, arith, true, false, Bool, append-nil, length-append, IsPermutation, Ordering, ⊤, AllByRecursion, AllZip, length_permutation, IsPermutation-sym, IsPermutation-trans, cases_lt, Value, Values, Couples, integer, bytes, text, array, dict, tagged, simple, no_values, value, no_pairs, pair, listed, value_count, pair_count, pairs_of, values_of, number, Same, SameValues, SamePairs, big_endian, IsProper, AreProper, HasProperPairs, IsNew, HasNewKeys, Width, information, following, IsHead, least, IsLeastHead, IsString, IsInteger, Det, DetValues, DetPairs, DetSeq, DetMap, Entry, joined, major_of, bignum_tag, HasDistinctKeys, IsKeyOrder, one_head, least_holds, All_moved, carried, carried_left, one_magnitude, one_number, listed-pairs_of}
 use Rattle.cborn_model.specs.Heads.{major_at}
 use Rattle.cborn_model.proofs.Numbers.Majors.{major_at-code}
 use Rattle.cborn_model.proofs.Numbers.Simples.{simple_below}
+use Rattle.cborn_model.proofs.Listed.Meanings.{are_proper}
+use Rattle.cborn_det.proofs.Steps.{seq_of_values}
 use Rattle.cborn_det.proofs.Rising.{one_arrangement, arranged}
 use Rattle.cborn_det.proofs.Reading.{kind, led, Lies, alone, are_entries, some_bytes, reads, EntryReads, pairs_read, joined_reads}
 
@@ -284,11 +286,7 @@ module _ (order : List ℕ → List ℕ → Ordering) (laws : IsKeyOrder order) 
       d.4 ∙ (λ i. one_of_same order laws v w d.0 e.0 p.0 q.0 h.0 d.2 e.2 i ++ one_of_seq vs ws d.1 e.1 p.1 q.1 h.1 d.3 e.3 i) ∙ sym e.4
 
   pub seq_exists : (vs : List Value) → AllByRecursion IsProper vs → (x : List ℕ) × DetSeq order vs x
-  seq_exists [] p = ([], refl)
-  seq_exists (v ∷ vs) p =
-      let t = det_exists v p.0 in
-      let u = seq_exists vs p.1 in
-      (t.0 ++ u.0, (t.0, u.0, t.1, u.1, refl))
+  seq_exists vs p = let t = values_exist (values_of vs) (are_proper vs p) in (t.0, seq_of_values order vs t.0 t.1)
 
 -- ---- the encoding of a map, by a rearrangement of its pairs
 

@@ -23,6 +23,7 @@ pub fn some_encoding<O: KeyOrder>()
 
 /// What begins with an encoding begins with no other, and in particular no encoding is a proper
 /// prefix of another.
+#[tactic(auto, using(crate::proofs::Reading::reads))]
 pub fn one_front<O: KeyOrder>()
     ensures reading { (a b : Value) (x y r s : List ℕ) → Det O.order a x → Det O.order b y → x ++ r ≡ y ++ s → (x ≡ y) × (r ≡ s) }
     ensures prefix { (a b : Value) (x y r : List ℕ) → Det O.order a x → Det O.order b y → x ++ r ≡ y → r ≡ [] }
