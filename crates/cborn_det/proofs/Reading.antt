@@ -39,11 +39,10 @@ IsLarge v = (b : List ℕ) × (v ≡ bytes b) × IsShortest b × (2 ^ 64 ≤ big
 -- Where G holds the items are valid.
 module _ (G : Type 0) (order : List ℕ → List ℕ → Ordering) where
   -- the entry is what some pair encodes to
-  pub IsEntry : Entry → Type 0
+  abbrev pub IsEntry : Entry → Type 0
   IsEntry e = (k : Value) × (v : Value) × (G → IsProper k × IsProper v) × Det order k e.0 × Det order v e.1
 
   pub are_entries : (ps : Couples) (es : List Entry) → (G → HasProperPairs ps) → DetPairs order ps es → AllByRecursion IsEntry es × (length es ≡ pair_count ps)
-  unfolding IsEntry
   are_entries no_pairs [] p d = (tt, refl)
   are_entries no_pairs (e ∷ es) p d = absurd d
   are_entries (pair k v ps) [] p d = absurd d
@@ -136,7 +135,6 @@ module _ (order : List ℕ → List ℕ → Ordering) where
 
   -- entries in one order at the front of a list are no others
   pub joined_reads : (es fs : List Entry) (r s : List ℕ) → length es ≡ length fs → AllByRecursion EntryReads es → AllByRecursion Lies fs → joined es ++ r ≡ joined fs ++ s → (es ≡ fs) × (r ≡ s)
-  unfolding IsEntry
   joined_reads [] [] r s l g h q = (refl, q)
   joined_reads [] (f ∷ fs) r s l g h q = absurd (omega arith)
   joined_reads (e ∷ es) [] r s l g h q = absurd (omega arith)

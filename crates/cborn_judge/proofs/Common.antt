@@ -17,7 +17,7 @@ pub use Rattle.std.specs.Str.{is_utf8}
 pub use Rattle.cborn_det.proofs.Canon.{one_of_same, same_of_one, string_one, tags}
 pub use Rattle.cborn_det.proofs.Room.{counted, counted_pairs, holds_below, joined_bytes, length_of_chunks, no_more}
 pub use Rattle.cborn_det.proofs.Steps.{seq_append, values_of_seq}
-pub use Rattle.cborn_det.proofs.Written.{some_bytes}
+pub use Rattle.cborn_det.proofs.Reading.{some_bytes}
 pub use Rattle.cborn_det.specs.Appending.{Appends, Replaces}
 pub use Rattle.cborn_det.specs.Det.{Det, DetPairs, DetSeq, DetValues, Entry, IsInteger, IsString, bignum_tag, joined, keys, major_of}
 pub use Rattle.cborn_model.proofs.Bytes.{are_bytes, bytes-append, bytes-left, bytes-right}

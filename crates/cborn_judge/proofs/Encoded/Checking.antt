@@ -1,9 +1,8 @@
 -- A node that means an item has no defect exactly if it spells the item's encoding.
 use Rattle.std.specs.Prelude.{◌≡◌, ◌≢◌, ◌⊎◌, ◌∷◌}
 use Rattle.cborn_judge.proofs.Common.{ℕ, inl, inr, List, [], length, refl, sym, ap, ◌∙◌, subst, Ordering, Less, Within, WithinAll, WithinEntries, IsLong, SizeDefect, NotAbove, Descends, HasDescent, DefectAt, Defect, SequenceDefect, DefectReason, LongHead, EndlessLength, LooseBignum, KeyOrder, Value, Values, Couples, no_values, value, no_pairs, pair, IsProper, AreProper, Width, Direct, One, Two, Four, Eight, least, Det, DetValues, keys, IsKeyOrder, Rising, Size, Tree, Uint, Nint, Bytes, Text, ByteChunks, TextChunks, Items, Pairs, Tagged, Simple, Trees, no_item, more, Entries, no_entry, entry, count, count_entries, place, Fixed, Endless, spelled, spelled_all, Fits, FitsAll, FitsEntries, Means, AllMean, EntriesMean, spelled_pairs, SizeIsTidy, IsTidy, AllTidy, EntriesTidy, one_of_same, same_itself, counted}
-use Rattle.cborn_judge.proofs.Encoded.Tidying.{tidy_proper}
 use Rattle.cborn_judge.proofs.Meaning.Judging.{inner_means, within_itself}
-use Rattle.cborn_judge.proofs.Encoded.Tidying.{tidy_det, det_tidy, all_det, all_tidy}
+use Rattle.cborn_judge.proofs.Encoded.Tidying.{tidy_det, det_tidy, all_det, all_tidy, tidy_proper}
 
 same_or_not : (v w : Width) → (v ≡ w) ⊎ (v ≢ w)
 same_or_not Direct Direct = inl refl
@@ -24,98 +23,62 @@ module _ (order : List ℕ → List ℕ → Ordering) (laws : IsKeyOrder order) 
   -- ---- a tidy node has no defect
 
   -- what the proofs know of a node
-  record Known (t : Tree) : Type 0 where
-    fits : Fits t
-    tidy : IsTidy order t
-
-  record KnownAll (ts : Trees) : Type 0 where
-    fits : FitsAll ts
-    tidy : AllTidy order ts
-
-  record KnownEntries (es : Entries) : Type 0 where
-    fits : FitsEntries es
-    tidy : EntriesTidy order es
-
-  in_items : (p : ℕ) (s : Size) (ts : Trees) → Known (Items p s ts) → KnownAll ts
-  in_items p s ts k = record { fits = k.fits.1; tidy = k.tidy.1 }
-
-  in_pairs : (p : ℕ) (s : Size) (es : Entries) → Known (Pairs p s es) → KnownEntries es
-  in_pairs p s es k = record { fits = k.fits.1; tidy = k.tidy.1 }
-
-  in_tag : (p : ℕ) (w : Width) (n : ℕ) (t : Tree) → Known (Tagged p w n t) → Known t
-  in_tag p w n t k = record { fits = k.fits.1; tidy = k.tidy.1 }
-
-  in_first : (t : Tree) (ts : Trees) → KnownAll (more t ts) → Known t
-  in_first t ts k = record { fits = k.fits.0; tidy = k.tidy.0 }
-
-  in_rest : (t : Tree) (ts : Trees) → KnownAll (more t ts) → KnownAll ts
-  in_rest t ts k = record { fits = k.fits.1; tidy = k.tidy.1 }
-
-  in_key : (k v : Tree) (es : Entries) → KnownEntries (entry k v es) → Known k
-  in_key k v es h = record { fits = h.fits.0; tidy = h.tidy.0 }
-
-  in_value : (k v : Tree) (es : Entries) → KnownEntries (entry k v es) → Known v
-  in_value k v es h = record { fits = h.fits.1; tidy = h.tidy.1 }
-
-  in_others : (k v : Tree) (es : Entries) → KnownEntries (entry k v es) → KnownEntries es
-  in_others k v es h = record { fits = h.fits.2; tidy = h.tidy.2 }
+  abbrev Known : Tree → Type 0
+  Known t = Fits t × IsTidy order t
 
   mutual
     within_known : (q t : Tree) → Known t → Within q t → Known q
     within_known q (Items p s ts) k (inl i) = subst Known (sym i) k
-    within_known q (Items p s ts) k (inr i) = within_all q ts (in_items p s ts k) i
+    within_known q (Items p s ts) k (inr i) = within_all q ts k.0.1 k.1.1 i
     within_known q (Pairs p s es) k (inl i) = subst Known (sym i) k
-    within_known q (Pairs p s es) k (inr i) = within_entries q es (in_pairs p s es k) i
+    within_known q (Pairs p s es) k (inr i) = within_entries q es k.0.1 k.1.1 i
     within_known q (Tagged p w n t) k (inl i) = subst Known (sym i) k
-    within_known q (Tagged p w n t) k (inr i) = within_known q t (in_tag p w n t k) i
+    within_known q (Tagged p w n t) k (inr i) = within_known q t (k.0.1, k.1.1) i
     within_known q _ k i = subst Known (sym i) k
 
-    within_all : (q : Tree) (ts : Trees) → KnownAll ts → WithinAll q ts → Known q
-    within_all q no_item k i = absurd i
-    within_all q (more t ts) k (inl i) = within_known q t (in_first t ts k) i
-    within_all q (more t ts) k (inr i) = within_all q ts (in_rest t ts k) i
+    within_all : (q : Tree) (ts : Trees) → FitsAll ts → AllTidy order ts → WithinAll q ts → Known q
+    within_all q no_item f y i = absurd i
+    within_all q (more t ts) f y (inl i) = within_known q t (f.0, y.0) i
+    within_all q (more t ts) f y (inr i) = within_all q ts f.1 y.1 i
 
-    within_entries : (q : Tree) (es : Entries) → KnownEntries es → WithinEntries q es → Known q
-    within_entries q no_entry k i = absurd i
-    within_entries q (entry a b es) k (inl i) = within_known q a (in_key a b es k) i
-    within_entries q (entry a b es) k (inr (inl i)) = within_known q b (in_value a b es k) i
-    within_entries q (entry a b es) k (inr (inr i)) = within_entries q es (in_others a b es k) i
+    within_entries : (q : Tree) (es : Entries) → FitsEntries es → EntriesTidy order es → WithinEntries q es → Known q
+    within_entries q no_entry f y i = absurd i
+    within_entries q (entry a b es) f y (inl i) = within_known q a (f.0, y.0) i
+    within_entries q (entry a b es) f y (inr (inl i)) = within_known q b (f.1, y.1) i
+    within_entries q (entry a b es) f y (inr (inr i)) = within_entries q es f.2 y.2 i
 
   -- the encoding of what a tidy node means is what it spells
   spells_it : (t : Tree) (v : Value) (x : List ℕ) → Known t → Means t v → Det order v x → x ≡ spelled t
   spells_it t v x k m d =
-      let p : IsProper v = tidy_proper order t v k.fits k.tidy m in
-      one_of_same order laws v v x (spelled t) p p (same_itself v) d (tidy_det order t v k.fits m k.tidy)
+      let p : IsProper v = tidy_proper order t v k.0 k.1 m in
+      one_of_same order laws v v x (spelled t) p p (same_itself v) d (tidy_det order t v k.0 m k.1)
 
   not_descending : (k l : Tree) → Known k → Known l → order (spelled k) (spelled l) ≡ Less → NotAbove order k l → ⊥
   not_descending k l h j e (a, b, x, y, m, n, d, f, g) =
       g (ap (λ z. order z y) (spells_it k a x h m d) ∙ ap (order (spelled k)) (spells_it l b y j n f) ∙ e)
 
-  rises_along : (k v : Tree) (es : Entries) (p : ℕ) → Known k → KnownEntries es → Rising order (spelled k ∷ keys (spelled_pairs es)) → Descends order k es p → ⊥
-  rises_along k v no_entry p h j r d = d
-  rises_along k v (entry l u es) p h j r (inl d) = not_descending k l h (in_key l u es j) r.0 d.1
-  rises_along k v (entry l u es) p h j r (inr d) = rises_along l u es p (in_key l u es j) (in_others l u es j) r.1 d
+  rises_along : (k : Tree) (es : Entries) (p : ℕ) → Known k → FitsEntries es → EntriesTidy order es → Rising order (spelled k ∷ keys (spelled_pairs es)) → Descends order k es p → ⊥
+  rises_along k no_entry p h f y r d = d
+  rises_along k (entry l u es) p h f y r (inl d) = not_descending k l h (f.0, y.0) r.0 d.1
+  rises_along k (entry l u es) p h f y r (inr d) = rises_along l es p (f.0, y.0) f.2 y.2 r.1 d
 
-  no_descent : (es : Entries) (p : ℕ) → KnownEntries es → Rising order (keys (spelled_pairs es)) → HasDescent order es p → ⊥
-  no_descent no_entry p j r d = d
-  no_descent (entry k v es) p j r d = rises_along k v es p (in_key k v es j) (in_others k v es j) r d
+  no_descent : (es : Entries) (p : ℕ) → FitsEntries es → EntriesTidy order es → Rising order (keys (spelled_pairs es)) → HasDescent order es p → ⊥
+  no_descent no_entry p f y r d = d
+  no_descent (entry k v es) p f y r d = rises_along k es p (f.0, y.0) f.2 y.2 r d
 
   fixed_size : (s : Size) (n : ℕ) (r : DefectReason) → SizeIsTidy s n → SizeDefect s n r → ⊥
   fixed_size (Fixed w) n r h d = d.1 h
   fixed_size Endless n r h d = h
 
   tidy_node : (t : Tree) (p : ℕ) (r : DefectReason) → Known t → DefectAt order t p r → ⊥
-  tidy_node (ByteChunks q cs) p r k d = k.tidy
-  tidy_node (TextChunks q cs) p r k d = k.tidy
-  tidy_node (Items q s ts) p r k d = fixed_size s (count ts) r k.tidy.0 d.1
-  tidy_node (Pairs q s es) p r k (inl d) = fixed_size s (count_entries es) r k.tidy.0 d.1
-  tidy_node (Pairs q s es) p r k (inr d) = no_descent es p (in_pairs q s es k) k.tidy.2 d.1
-  tidy_node (Tagged q w n t) p r k d = elim d.1 [ inl l ↦ l.1 k.tidy.0 | inr l ↦ k.tidy.2 l.2 l.1 l.3 l.4 ]
+  tidy_node (ByteChunks q cs) p r k d = k.1
+  tidy_node (TextChunks q cs) p r k d = k.1
+  tidy_node (Items q s ts) p r k d = fixed_size s (count ts) r k.1.0 d.1
+  tidy_node (Pairs q s es) p r k (inl d) = fixed_size s (count_entries es) r k.1.0 d.1
+  tidy_node (Pairs q s es) p r k (inr d) = no_descent es p k.0.1 k.1.1 k.1.2 d.1
+  tidy_node (Tagged q w n t) p r k d = elim d.1 [ inl l ↦ l.1 k.1.0 | inr l ↦ k.1.2 l.2 l.1 l.3 l.4 ]
   tidy_node (Simple q n) p r k d = d
-  tidy_node _ p r k d = d.2 k.tidy
-
-  tidy_sound : (t : Tree) → Known t → (p : ℕ) (r : DefectReason) → Defect order t p r → ⊥
-  tidy_sound t k p r (v, m, q, i, d) = tidy_node q p r (within_known q t k i) d
+  tidy_node _ p r k d = d.2 k.1
 
   -- ---- a node without a defect is tidy
 
@@ -191,9 +154,7 @@ module _ (order : List ℕ → List ℕ → Ordering) (laws : IsKeyOrder order) 
   check_sound t v f m h = tidy_det order t v f m (clean_tidy t v f m (λ q i p r d. h p r (v, m, q, i, d)))
 
   pub check_whole : (t : Tree) (v : Value) → Fits t → IsProper v → Means t v → Det order v (spelled t) → (p : ℕ) (r : DefectReason) → Defect order t p r → ⊥
-  check_whole t v f g m d p r h =
-      let u = det_tidy order t v [] (spelled t) [] f g d refl in
-      tidy_sound t (record { fits = f; tidy = u.2 }) p r h
+  check_whole t v f g m d p r (u, n, q, i, h) = tidy_node q p r (within_known q t (f, (det_tidy order t v [] (spelled t) [] f g d refl).2) i) h
 
   -- and of a sequence
   pub check_sequence_sound : (ts : Trees) (vs : Values) → FitsAll ts → AllMean ts vs → ((p : ℕ) (r : DefectReason) → SequenceDefect order ts p r → ⊥) → DetValues order vs (spelled_all ts)
@@ -201,5 +162,4 @@ module _ (order : List ℕ → List ℕ → Ordering) (laws : IsKeyOrder order) 
 
   pub check_sequence_whole : (ts : Trees) (vs : Values) → FitsAll ts → AreProper vs → AllMean ts vs → DetValues order vs (spelled_all ts) → (p : ℕ) (r : DefectReason) → SequenceDefect order ts p r → ⊥
   check_sequence_whole ts vs f g m d p r (ws, n, q, i, h) =
-      let u = all_tidy order ts vs (spelled_all ts) [] [] (counted ts vs m) f g d refl in
-      tidy_node q p r (within_all q ts (record { fits = f; tidy = u.2 }) i) h
+      tidy_node q p r (within_all q ts f (all_tidy order ts vs (spelled_all ts) [] [] (counted ts vs m) f g d refl).2 i) h

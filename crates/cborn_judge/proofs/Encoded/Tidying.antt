@@ -1,8 +1,8 @@
 -- A tidy node spells the encoding of what it means, and what spells an encoding is tidy.
 use Rattle.std.specs.Prelude.{◌≡◌, ◌≢◌, ◌+◌, ◌*◌, ◌<◌, ◌≤◌, ◌^◌, ◌⊎◌, ◌∷◌, ◌++◌}
-use Rattle.cborn_judge.proofs.Common.{ℕ, suc, inl, inr, List, [], length, refl, sym, ap, ◌∙◌, subst, arith, true, false, Bool, append_assoc, append-nil, Ordering, AllByRecursion, cases_lt, length_permutation, IsPermutation-refl, IsLoose, Value, Values, Couples, integer, bytes, text, array, dict, tagged, simple, no_values, value, no_pairs, pair, value_count, pair_count, big_endian, AreBytes, IsShortest, IsProper, AreProper, HasProperPairs, Width, Major, Unsigned, Negative, ByteString, TextString, Array, Map, Tag, Other, WidthFits, information, following, least, IsHead, IsLeastHead, Given, EndlessArgument, code, head, IsString, IsInteger, Det, DetValues, DetPairs, Entry, keys, joined, major_of, bignum_tag, Rising, Chunk, Tree, Uint, Nint, Bytes, Text, ByteChunks, TextChunks, Items, Pairs, Tagged, Simple, Trees, no_item, more, Entries, no_entry, entry, count, count_entries, Size, Fixed, Endless, SizeFits, ending, chunks, spelled, spelled_all, spelled_entries, Fits, FitsAll, FitsEntries, IsNumber, IsByteString, IsBignum, Means, AllMean, EntriesMean, spelled_pairs, SizeIsTidy, IsTidy, AllTidy, EntriesTidy, simple_fits, All_moved, string_one, one_magnitude, large, fits_in, below_power, no_more, counted, counted_pairs, holds_below}
+use Rattle.cborn_judge.proofs.Common.{ℕ, ⊤, suc, inl, inr, List, [], length, refl, sym, ap, ◌∙◌, subst, arith, true, false, Bool, append_assoc, append-nil, Ordering, AllByRecursion, cases_lt, length_permutation, IsPermutation-refl, IsLoose, Value, Values, Couples, integer, bytes, text, array, dict, tagged, simple, no_values, value, no_pairs, pair, value_count, pair_count, big_endian, AreBytes, IsShortest, IsProper, AreProper, HasProperPairs, Width, Major, Unsigned, Negative, ByteString, TextString, Array, Map, Tag, Other, WidthFits, information, following, least, IsHead, IsLeastHead, Given, EndlessArgument, code, head, IsString, IsInteger, Det, DetValues, DetPairs, Entry, keys, joined, major_of, bignum_tag, Rising, Chunk, Tree, Uint, Nint, Bytes, Text, ByteChunks, TextChunks, Items, Pairs, Tagged, Simple, Trees, no_item, more, Entries, no_entry, entry, count, count_entries, Size, Fixed, Endless, SizeFits, ending, chunks, spelled, spelled_all, spelled_entries, Fits, FitsAll, FitsEntries, IsNumber, IsByteString, IsBignum, Means, AllMean, EntriesMean, spelled_pairs, SizeIsTidy, IsTidy, AllTidy, EntriesTidy, simple_fits, All_moved, string_one, one_magnitude, large, fits_in, below_power, no_more, counted, counted_pairs, holds_below}
 use Rattle.cborn_model.proofs.Numbers.OneHead.{one_head, append_same, low_bits_below}
-use Rattle.cborn_det.proofs.Reading.{small}
+use Rattle.cborn_det.proofs.Reading.{IsEntry, IsLarge, Content, Meets, seen, meets, alone}
 use Rattle.cborn_judge.proofs.Meaning.Meanings.{number_valid}
 
 pub joined_spelled : (es : Entries) → spelled_entries es ≡ joined (spelled_pairs es)
@@ -91,107 +91,37 @@ module _ (order : List ℕ → List ℕ → Ordering) where
 -- ---- from the encoding to tidy
 
 module _ (order : List ℕ → List ℕ → Ordering) where
-  -- the entry is what some valid pair encodes to
-  IsEntry : Entry → Type 0
-  IsEntry e = (k : Value) × (v : Value) × IsProper k × IsProper v × Det order k e.0 × Det order v e.1
+  -- what follows a head in the encoding of a valid item
+  abbrev Follows : Major → ℕ → List ℕ → Type 0
+  Follows = Content ⊤ order
 
-  are_entries : (ps : Couples) (es : List Entry) → HasProperPairs ps → DetPairs order ps es → AllByRecursion IsEntry es × (length es ≡ pair_count ps)
-  unfolding IsEntry
-  are_entries no_pairs [] p d = (tt, refl)
-  are_entries no_pairs (e ∷ es) p d = absurd d
-  are_entries (pair k v ps) [] p d = absurd d
-  are_entries (pair k v ps) (e ∷ es) p d = let t = are_entries ps es p.2 d.2 in (((k, v, p.0, p.1, d.0, d.1), t.0), ap suc t.1)
-
-  -- what follows a head of the major type m with the argument n, in an encoding
-  data Content (m n : ℕ) (c : List ℕ) : Type 0 where
-    bare : (m < 2) ⊎ (m ≡ 7) → c ≡ [] → Content m n c
-    string : (m ≡ 2) ⊎ (m ≡ 3) → length c ≡ n → Content m n c
-    items : m ≡ 4 → (vs : Values) → value_count vs ≡ n → AreProper vs → DetValues order vs c → Content m n c
-    entries : m ≡ 5 → (fs : List Entry) → length fs ≡ n → AllByRecursion IsEntry fs → Rising order (keys fs) → c ≡ joined fs → Content m n c
-    bignum : m ≡ 6 → (b : List ℕ) → IsProper (bytes b) → IsShortest b → 2 ^ 64 ≤ big_endian b → IsString 2 b c → Content m n c
-    inner : m ≡ 6 → n ≢ 2 → n ≢ 3 → (v : Value) → IsProper v → Det order v c → Content m n c
-
-  record Seen (x : List ℕ) : Type 0 where
-    major : ℕ
-    argument : ℕ
-    front : List ℕ
-    content : List ℕ
-    is_head : IsLeastHead major argument front
-    follows : Content major argument content
-    is : x ≡ front ++ content
-
-  seen : (v : Value) (x : List ℕ) → IsProper v → Det order v x → Seen x
-  seen (integer s m) x p d =
-      elim d [
-        | inl h ↦ record { major = major_of s; argument = big_endian m; front = x; content = []; is_head = h.1; follows = bare (inl (small s)) refl; is = sym (append-nil x) }
-        | inr h ↦ record { major = 6; argument = bignum_tag s; front = h.1; content = h.2; is_head = h.3; follows = bignum refl m (p.0, p.2) p.1 h.0 h.4; is = h.5 }
-      ]
-  seen (bytes b) x p d = record { major = 2; argument = length b; front = d.0; content = b; is_head = d.1; follows = string (inl refl) refl; is = d.2 }
-  seen (text b) x p d = record { major = 3; argument = length b; front = d.0; content = b; is_head = d.1; follows = string (inr refl) refl; is = d.2 }
-  seen (array vs) x p d = record { major = 4; argument = value_count vs; front = d.0; content = d.1; is_head = d.2; follows = items refl vs refl p.0 d.3; is = d.4 }
-  seen (dict ps) x p d =
-      let t = are_entries ps d.1 p.0 d.4 in
-      let n : length d.2 ≡ pair_count ps = length_permutation d.1 d.2 d.5 ∙ t.1 in
-      record { major = 5; argument = pair_count ps; front = d.0; content = joined d.2; is_head = d.3; follows = entries refl d.2 n (All_moved IsEntry d.1 d.2 d.5 t.0) d.6 refl; is = d.7 }
-  seen (tagged t v) x p d = record { major = 6; argument = t; front = d.0; content = d.1; is_head = d.2; follows = inner refl p.0 p.1 v p.3 d.3; is = d.4 }
-  seen (simple n) x p d = record { major = 7; argument = n; front = x; content = []; is_head = d.1; follows = bare (inr refl) refl; is = sym (append-nil x) }
-
-  -- a head and what follows it, where an encoding stands
-  record Meets (m : Major) (w : Width) (n : ℕ) (c r x s : List ℕ) : Type 0 where
-    least_width : w ≡ least n
-    content : List ℕ
-    follows : Content (code m) n content
-    rest : c ++ r ≡ content ++ s
-    is : x ≡ head m (Given w n) ++ content
-
-  meets : (m : Major) (w : Width) (n : ℕ) (c r x s : List ℕ) → WidthFits w n → Seen x → (head m (Given w n) ++ c) ++ r ≡ x ++ s → Meets m w n c r x s
-  meets m w n c r x s h z e =
-      let a : head m (Given w n) ++ (c ++ r) ≡ z.front ++ (z.content ++ s) = sym (append_assoc (head m (Given w n)) c r) ∙ e ∙ ap (λ l. l ++ s) z.is ∙ append_assoc z.front z.content s in
-      let o = one_head w (least z.argument) (c ++ r) (z.content ++ s) (h, refl) z.is_head a in
-      record {
-        least_width = o.width ∙ ap least (sym o.argument);
-        content = z.content;
-        follows = subst (λ k. Content (code m) k z.content) (sym o.argument) (subst (λ j. Content j z.argument z.content) (sym o.major) z.follows);
-        rest = o.rest;
-        is = z.is ∙ ap (λ l. l ++ z.content) (sym o.head);
-      }
+  met : (m : Major) (w : Width) (n : ℕ) (c r x s : List ℕ) (v : Value) → WidthFits w n → IsProper v → Det order v x → (head m (Given w n) ++ c) ++ r ≡ x ++ s → Meets ⊤ order m w n (head m (Given w n)) c r x s
+  met m w n c r x s v f p d e = meets ⊤ order m w n (head m (Given w n)) c r x s v (f, refl) (seen ⊤ order v x (λ g. p) d) e
 
   -- an indefinite length begins no encoding
-  not_endless : (m : Major) (c x s : List ℕ) → Seen x → head m EndlessArgument ++ c ≡ x ++ s → ⊥
-  not_endless m c x s z e =
-      let a : head m EndlessArgument ++ c ≡ ((32 * z.major + information (least z.argument) z.argument) ∷ following (least z.argument) z.argument) ++ (z.content ++ s) = e ∙ ap (λ l. l ++ s) z.is ∙ append_assoc z.front z.content s ∙ ap (λ l. l ++ (z.content ++ s)) z.is_head.1 in
-      let byte : 32 * code m + 31 ≡ 32 * z.major + information (least z.argument) z.argument = cc in
+  not_endless : (m : Major) (c x s : List ℕ) (v : Value) → Det order v x → head m EndlessArgument ++ c ≡ x ++ s → ⊥
+  not_endless m c x s v d e =
+      let z = alone order v x d in
+      let a : head m EndlessArgument ++ c ≡ ((32 * code z.major + information (least z.argument) z.argument) ∷ following (least z.argument) z.argument) ++ (z.content ++ s) = e ∙ ap (λ l. l ++ s) z.is ∙ append_assoc z.front z.content s ∙ ap (λ l. l ++ (z.content ++ s)) z.is_head.1 in
+      let byte : 32 * code m + 31 ≡ 32 * code z.major + information (least z.argument) z.argument = cc in
       omega (arith, low_bits_below (least z.argument) z.argument z.is_head.0)
 
   abbrev Spelt : List ℕ → List ℕ → List ℕ → List ℕ → Type 0 → Type 0
   Spelt a r x s T = (a ≡ x) × (r ≡ s) × T
 
   -- a head alone
-  bare_spelt : (m : Major) (w : Width) (n : ℕ) (r x s : List ℕ) → (code m < 2) ⊎ (code m ≡ 7) → Meets m w n [] r x s → Spelt (head m (Given w n)) r x s (w ≡ least n)
-  bare_spelt m w n r x s h z = by z.follows
-    where
-      by : Content (code m) n z.content → Spelt (head m (Given w n)) r x s (w ≡ least n)
-      by (bare i e) = (sym (append-nil (head m (Given w n))) ∙ ap (λ l. head m (Given w n) ++ l) (sym e) ∙ sym z.is, z.rest ∙ ap (λ l. l ++ s) e, z.least_width)
-      by (string i e) = absurd (omega arith)
-      by (items i vs k p d) = absurd (omega arith)
-      by (entries i fs k p u e) = absurd (omega arith)
-      by (bignum i b p u l d) = absurd (omega arith)
-      by (inner i e f v p d) = absurd (omega arith)
+  bare_spelt : (m : Major) (w : Width) (n : ℕ) (v : Value) (r x s : List ℕ) → ((c : List ℕ) → Follows m n c → c ≡ []) → WidthFits w n → IsProper v → Det order v x → head m (Given w n) ++ r ≡ x ++ s → Spelt (head m (Given w n)) r x s (w ≡ least n)
+  bare_spelt m w n v r x s none f p d e =
+      let h = head m (Given w n) in
+      let z = met m w n [] r x s v f p d (ap (λ l. l ++ r) (append-nil h) ∙ e) in
+      let nothing = none z.content z.follows in
+      (sym (append-nil h) ∙ ap (λ l. h ++ l) (sym nothing) ∙ sym z.is, z.rest ∙ ap (λ l. l ++ s) nothing, z.short)
 
-  string_spelt : (m : Major) (w : Width) (b r x s : List ℕ) → (code m ≡ 2) ⊎ (code m ≡ 3) → Meets m w (length b) b r x s → Spelt (head m (Given w (length b)) ++ b) r x s (w ≡ least (length b))
-  string_spelt m w b r x s h z = by z.follows
-    where
-      by : Content (code m) (length b) z.content → Spelt (head m (Given w (length b)) ++ b) r x s (w ≡ least (length b))
-      by (string i e) = let t = append_same b z.content r s (sym e) z.rest in (ap (λ l. head m (Given w (length b)) ++ l) t.0 ∙ sym z.is, t.1, z.least_width)
-      by (bare i e) = absurd (omega arith)
-      by (items i vs k p d) = absurd (omega arith)
-      by (entries i fs k p u e) = absurd (omega arith)
-      by (bignum i c p u l d) = absurd (omega arith)
-      by (inner i e f v p d) = absurd (omega arith)
-
-  -- no chunked string stands where an encoding stands
-  not_chunked : (m : Major) (cs : List Chunk) (r x s : List ℕ) → Seen x → (chunks m cs ++ ending Endless) ++ r ≡ x ++ s → ⊥
-  not_chunked m cs r x s z e = not_endless m _ x s z e
+  string_spelt : (m : Major) (w : Width) (b : List ℕ) (v : Value) (r x s : List ℕ) → ((c : List ℕ) → Follows m (length b) c → length c ≡ length b) → WidthFits w (length b) → IsProper v → Det order v x → (head m (Given w (length b)) ++ b) ++ r ≡ x ++ s → Spelt (head m (Given w (length b)) ++ b) r x s (w ≡ least (length b))
+  string_spelt m w b v r x s long f p d e =
+      let z = met m w (length b) b r x s v f p d e in
+      let t = append_same b z.content r s (sym (long z.content z.follows)) z.rest in
+      (ap (λ l. head m (Given w (length b)) ++ l) t.0 ∙ sym z.is, t.1, z.short)
 
   loose_or_wide : (b : List ℕ) → AreBytes b → IsShortest b → 2 ^ 64 ≤ big_endian b → IsLoose b → ⊥
   loose_or_wide [] a h l k = omega arith
@@ -204,76 +134,40 @@ module _ (order : List ℕ → List ℕ → Ordering) where
   content_one (ByteChunks p cs) b c f g i h = absurd g
   content_one _ b c f g i h = absurd i
 
-  abbrev TreeSpelt : Tree → Type 0
-  TreeSpelt t = (v : Value) (r x s : List ℕ) → IsProper v → Det order v x → spelled t ++ r ≡ x ++ s → Spelt (spelled t) r x s (IsTidy order t)
-
-  abbrev ItemsSpelt : Trees → Type 0
-  ItemsSpelt ts = (vs : Values) (c r s : List ℕ) → value_count vs ≡ count ts → AreProper vs → DetValues order vs c → spelled_all ts ++ r ≡ c ++ s → Spelt (spelled_all ts) r c s (AllTidy order ts)
-
-  abbrev EntriesSpelt : Entries → Type 0
-  EntriesSpelt es = (fs : List Entry) (r s : List ℕ) → length fs ≡ count_entries es → AllByRecursion IsEntry fs → spelled_entries es ++ r ≡ joined fs ++ s → (spelled_pairs es ≡ fs) × (r ≡ s) × EntriesTidy order es
-
-  items_tidy : (ts : Trees) (n : ℕ) (c r s : List ℕ) → n ≡ count ts → ItemsSpelt ts → Content 4 n c → spelled_all ts ++ r ≡ c ++ s → Spelt (spelled_all ts) r c s (AllTidy order ts)
-  items_tidy ts n c r s m f (items i vs k p d) e = f vs c r s (k ∙ m) p d e
-  items_tidy ts n c r s m f (bare i k) e = absurd (omega arith)
-  items_tidy ts n c r s m f (string i k) e = absurd (omega arith)
-  items_tidy ts n c r s m f (entries i fs k p u q) e = absurd (omega arith)
-  items_tidy ts n c r s m f (bignum i b p u l d) e = absurd (omega arith)
-  items_tidy ts n c r s m f (inner i k j v p d) e = absurd (omega arith)
-
-  pairs_tidy : (es : Entries) (n : ℕ) (c r s : List ℕ) → n ≡ count_entries es → EntriesSpelt es → Content 5 n c → spelled_entries es ++ r ≡ c ++ s → (spelled_entries es ≡ c) × (r ≡ s) × EntriesTidy order es × Rising order (keys (spelled_pairs es))
-  pairs_tidy es n c r s m f (entries i fs k p u q) e =
-      let t = f fs r s (k ∙ m) p (e ∙ ap (λ l. l ++ s) q) in
-      (joined_spelled es ∙ ap joined t.0 ∙ sym q, t.1, t.2, subst (λ z. Rising order (keys z)) (sym t.0) u)
-  pairs_tidy es n c r s m f (bare i k) e = absurd (omega arith)
-  pairs_tidy es n c r s m f (string i k) e = absurd (omega arith)
-  pairs_tidy es n c r s m f (items i vs k p d) e = absurd (omega arith)
-  pairs_tidy es n c r s m f (bignum i b p u l d) e = absurd (omega arith)
-  pairs_tidy es n c r s m f (inner i k j v p d) e = absurd (omega arith)
-
-  inner_tidy : (t : Tree) (n : ℕ) (c r s : List ℕ) → Fits t → TreeSpelt t → Content 6 n c → spelled t ++ r ≡ c ++ s → (spelled t ≡ c) × (r ≡ s) × IsTidy order t × ((b : List ℕ) → (n ≡ 2) ⊎ (n ≡ 3) → IsByteString t b → IsLoose b → ⊥)
-  inner_tidy t n c r s f g (bignum i b p u l d) e =
-      let a = g (bytes b) r c s p d e in
-      (a.0, a.1, a.2, λ b' tag is k. let same : b' ≡ b = content_one t b' b f a.2 is (subst (IsString 2 b) (sym a.0) d) in loose_or_wide b p.0 u l (subst IsLoose same k))
-  inner_tidy t n c r s f g (inner i j k v p d) e =
-      let a = g v r c s p d e in
-      (a.0, a.1, a.2, λ b tag is l. elim tag [ inl q ↦ j q | inr q ↦ k q ])
-  inner_tidy t n c r s f g (bare i k) e = absurd (omega arith)
-  inner_tidy t n c r s f g (string i k) e = absurd (omega arith)
-  inner_tidy t n c r s f g (items i vs k p d) e = absurd (omega arith)
-  inner_tidy t n c r s f g (entries i fs k p u q) e = absurd (omega arith)
+  -- nor is that of a large bignum loose
+  large_content : (t : Tree) (v : Value) (b : List ℕ) → Fits t → IsTidy order t → IsProper v → Det order v (spelled t) → IsLarge v → IsByteString t b → IsLoose b → ⊥
+  large_content t v b f y p d (c, e, h, l) is loose =
+      let same = content_one t b c f y is (subst (λ u. Det order u (spelled t)) e d) in
+      loose_or_wide c (subst IsProper e p).0 h l (subst IsLoose same loose)
 
   mutual
-    unfolding IsEntry
-
     pub det_tidy : (t : Tree) (v : Value) (r x s : List ℕ) → Fits t → IsProper v → Det order v x → spelled t ++ r ≡ x ++ s → Spelt (spelled t) r x s (IsTidy order t)
-    det_tidy (Uint p w n) v r x s f g d e = bare_spelt Unsigned w n r x s (inl (omega arith)) (meets Unsigned w n [] r x s f (seen v x g d) (ap (λ l. l ++ r) (append-nil (head Unsigned (Given w n))) ∙ e))
-    det_tidy (Nint p w n) v r x s f g d e = bare_spelt Negative w n r x s (inl (omega arith)) (meets Negative w n [] r x s f (seen v x g d) (ap (λ l. l ++ r) (append-nil (head Negative (Given w n))) ∙ e))
-    det_tidy (Bytes p w b) v r x s f g d e = string_spelt ByteString w b r x s (inl refl) (meets ByteString w (length b) b r x s f.0 (seen v x g d) e)
-    det_tidy (Text p w b) v r x s f g d e = string_spelt TextString w b r x s (inr refl) (meets TextString w (length b) b r x s f.0 (seen v x g d) e)
-    det_tidy (ByteChunks p cs) v r x s f g d e = absurd (not_chunked ByteString cs r x s (seen v x g d) e)
-    det_tidy (TextChunks p cs) v r x s f g d e = absurd (not_chunked TextString cs r x s (seen v x g d) e)
+    det_tidy (Uint p w n) v r x s f g d e = bare_spelt Unsigned w n v r x s (λ c k. k) f g d e
+    det_tidy (Nint p w n) v r x s f g d e = bare_spelt Negative w n v r x s (λ c k. k) f g d e
+    det_tidy (Bytes p w b) v r x s f g d e = string_spelt ByteString w b v r x s (λ c k. k) f.0 g d e
+    det_tidy (Text p w b) v r x s f g d e = string_spelt TextString w b v r x s (λ c k. k) f.0 g d e
+    det_tidy (ByteChunks p cs) v r x s f g d e = absurd (not_endless ByteString _ x s v d e)
+    det_tidy (TextChunks p cs) v r x s f g d e = absurd (not_endless TextString _ x s v d e)
     det_tidy (Items p (Fixed w) ts) v r x s f g d e =
-        let whole : (head Array (Given w (count ts)) ++ spelled_all ts) ++ r ≡ x ++ s = ap (λ l. l ++ r) (sym (append-nil (head Array (Given w (count ts)) ++ spelled_all ts))) ∙ e in
-        let z = meets Array w (count ts) (spelled_all ts) r x s f.0 (seen v x g d) whole in
-        let t = items_tidy ts (count ts) z.content r s refl (λ vs c r s k p d e. all_tidy ts vs c r s k f.1 p d e) z.follows z.rest in
-        (append-nil (head Array (Given w (count ts)) ++ spelled_all ts) ∙ ap (λ l. head Array (Given w (count ts)) ++ l) t.0 ∙ sym z.is, t.1, (z.least_width, t.2))
-    det_tidy (Items p Endless ts) v r x s f g d e = absurd (not_endless Array _ x s (seen v x g d) e)
+        let h = head Array (Given w (count ts)) in
+        let z = met Array w (count ts) (spelled_all ts) r x s v f.0 g d (ap (λ l. l ++ r) (sym (append-nil (h ++ spelled_all ts))) ∙ e) in
+        let (vs, many, proper, det) = z.follows in
+        let t = all_tidy ts vs z.content r s many f.1 (proper tt) det z.rest in
+        (append-nil (h ++ spelled_all ts) ∙ ap (λ l. h ++ l) t.0 ∙ sym z.is, t.1, (z.short, t.2))
+    det_tidy (Items p Endless ts) v r x s f g d e = absurd (not_endless Array _ x s v d e)
     det_tidy (Pairs p (Fixed w) es) v r x s f g d e =
         let h = head Map (Given w (count_entries es)) in
-        let whole : (h ++ spelled_entries es) ++ r ≡ x ++ s = ap (λ l. l ++ r) (sym (append-nil (h ++ spelled_entries es))) ∙ e in
-        let z = meets Map w (count_entries es) (spelled_entries es) r x s f.0 (seen v x g d) whole in
-        let t = pairs_tidy es (count_entries es) z.content r s refl (λ fs r s k p e. entries_tidy es fs r s k f.1 p e) z.follows z.rest in
-        (append-nil (h ++ spelled_entries es) ∙ ap (λ l. h ++ l) t.0 ∙ sym z.is, t.1, (z.least_width, t.2, t.3))
-    det_tidy (Pairs p Endless es) v r x s f g d e = absurd (not_endless Map _ x s (seen v x g d) e)
+        let z = met Map w (count_entries es) (spelled_entries es) r x s v f.0 g d (ap (λ l. l ++ r) (sym (append-nil (h ++ spelled_entries es))) ∙ e) in
+        let (fs, many, lie, rise, is) = z.follows in
+        let t = entries_tidy es fs r s many f.1 lie (z.rest ∙ ap (λ l. l ++ s) is) in
+        (append-nil (h ++ spelled_entries es) ∙ ap (λ l. h ++ l) (joined_spelled es ∙ ap joined t.0 ∙ sym is) ∙ sym z.is, t.1, (z.short, t.2, subst (λ q. Rising order (keys q)) (sym t.0) rise))
+    det_tidy (Pairs p Endless es) v r x s f g d e = absurd (not_endless Map _ x s v d e)
     det_tidy (Tagged p w n t) v r x s f g d e =
-        let z = meets Tag w n (spelled t) r x s f.0 (seen v x g d) e in
-        let u = inner_tidy t n z.content r s f.1 (λ v r x s p d e. det_tidy t v r x s f.1 p d e) z.follows z.rest in
-        (ap (λ l. head Tag (Given w n) ++ l) u.0 ∙ sym z.is, u.1, (z.least_width, u.2, u.3))
-    det_tidy (Simple p n) v r x s f g d e =
-        let z = meets Other (least n) n [] r x s (simple_fits n f) (seen v x g d) (ap (λ l. l ++ r) (append-nil (head Other (Given (least n) n))) ∙ e) in
-        let t = bare_spelt Other (least n) n r x s (inr refl) z in
-        (t.0, t.1, tt)
+        let z = met Tag w n (spelled t) r x s v f.0 g d e in
+        let (u, proper, det, is_large) = z.follows in
+        let a = det_tidy t u r z.content s f.1 (proper tt) det z.rest in
+        (ap (λ l. head Tag (Given w n) ++ l) a.0 ∙ sym z.is, a.1, (z.short, a.2, λ b tag is l. large_content t u b f.1 a.2 (proper tt) (subst (Det order u) (sym a.0) det) (is_large tt tag) is l))
+    det_tidy (Simple p n) v r x s f g d e = let t = bare_spelt Other (least n) n v r x s (λ c k. k) (simple_fits n f) g d e in (t.0, t.1, tt)
 
     pub all_tidy : (ts : Trees) (vs : Values) (c r s : List ℕ) → value_count vs ≡ count ts → FitsAll ts → AreProper vs → DetValues order vs c → spelled_all ts ++ r ≡ c ++ s → Spelt (spelled_all ts) r c s (AllTidy order ts)
     all_tidy no_item no_values c r s n f p d e = (sym d, e ∙ ap (λ l. l ++ s) d, tt)
@@ -284,7 +178,7 @@ module _ (order : List ℕ → List ℕ → Ordering) where
         let b = all_tidy ts vs d.1 r s (omega arith) f.1 p.1 d.3 a.1 in
         ((λ i. a.0 i ++ b.0 i) ∙ sym d.4, b.1, (a.2, b.2))
 
-    entries_tidy : (es : Entries) (fs : List Entry) (r s : List ℕ) → length fs ≡ count_entries es → FitsEntries es → AllByRecursion IsEntry fs → spelled_entries es ++ r ≡ joined fs ++ s → (spelled_pairs es ≡ fs) × (r ≡ s) × EntriesTidy order es
+    entries_tidy : (es : Entries) (fs : List Entry) (r s : List ℕ) → length fs ≡ count_entries es → FitsEntries es → AllByRecursion (IsEntry ⊤ order) fs → spelled_entries es ++ r ≡ joined fs ++ s → (spelled_pairs es ≡ fs) × (r ≡ s) × EntriesTidy order es
     entries_tidy no_entry [] r s n f p e = (refl, e, tt)
     entries_tidy no_entry (g ∷ fs) r s n f p e = absurd (omega arith)
     entries_tidy (entry k v es) [] r s n f p e = absurd (omega arith)
@@ -292,8 +186,8 @@ module _ (order : List ℕ → List ℕ → Ordering) where
         let q = p.0 in
         let whole : spelled k ++ (spelled v ++ (spelled_entries es ++ r)) ≡ g.0 ++ (g.1 ++ (joined fs ++ s)) =
         sym (append_assoc (spelled k) (spelled v) (spelled_entries es ++ r)) ∙ sym (append_assoc (spelled k ++ spelled v) (spelled_entries es) r) ∙ e ∙ append_assoc (g.0 ++ g.1) (joined fs) s ∙ append_assoc g.0 g.1 (joined fs ++ s) in
-        let a = det_tidy k q.0 (spelled v ++ (spelled_entries es ++ r)) g.0 (g.1 ++ (joined fs ++ s)) f.0 q.2 q.4 whole in
-        let b = det_tidy v q.1 (spelled_entries es ++ r) g.1 (joined fs ++ s) f.1 q.3 q.5 a.1 in
+        let a = det_tidy k q.0 (spelled v ++ (spelled_entries es ++ r)) g.0 (g.1 ++ (joined fs ++ s)) f.0 (q.2 tt).0 q.3 whole in
+        let b = det_tidy v q.1 (spelled_entries es ++ r) g.1 (joined fs ++ s) f.1 (q.2 tt).1 q.4 a.1 in
         let c = entries_tidy es fs r s (omega arith) f.2 p.1 b.1 in
         ((λ i. (a.0 i, b.0 i) ∷ c.0 i), c.1, (a.2, b.2, c.2))
 
