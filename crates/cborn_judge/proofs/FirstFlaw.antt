@@ -6,7 +6,7 @@ use Rattle.cborn_judge.specs.declared.faults.Invalid.{Invalid}
 use Rattle.cborn_judge.specs.declared.faults.Invalid.TheVariants.{OutOfMemory, Refused}
 use Rattle.cborn_judge.proofs.Loops.{zip_more}
 use Rattle.cborn_judge.proofs.Meaning.Judging.{meaning}
-use Rattle.cborn_judge.proofs.Meaning.Placing.{flaw_within}
+use Rattle.cborn_judge.proofs.Meaning.Placing.{flaw_within, flaw_after}
 
 -- ---- what is within one more node
 
@@ -83,12 +83,6 @@ passed_on (Err e) P Q f h = f e h.1
 
 -- ---- nodes that lie one after another
 
--- their flaws are not before them
-flaw_from : (ts : List Tree) (a : ℕ) (q : Tree) (p : ℕ) (r : InvalidReason) → PlacedAll a (trees ts) → WithinAll q (trees ts) → FlawAt q p r → a ≤ p
-flaw_from [] a q p r h w f = absurd w
-flaw_from (t ∷ ts) a q p r h (inl w) f = (flaw_within t a p r h.0 (q, w, f)).0
-flaw_from (t ∷ ts) a q p r h (inr w) f = omega (arith, flaw_from ts (a + length (spelled t)) q p r h.1 w f)
-
 no_sooner : (p q m n : ℕ) → q < p → NoLater (p, m) (q, n) → ⊥
 no_sooner p q m n l (inl h) = omega (arith, l, h)
 no_sooner p q m n l (inr h) = omega (arith, l, h.0)
@@ -100,7 +94,7 @@ AreApart (t ∷ ts) = ((p q : ℕ) (r s : InvalidReason) → Flaw t p r → Flaw
 
 pub placed_apart : (ts : List Tree) (a : ℕ) → PlacedAll a (trees ts) → AreApart ts
 placed_apart [] a h = tt
-placed_apart (t ∷ ts) a h = (λ p q r s f g. omega (arith, (flaw_within t a p r h.0 f).1, flaw_from ts (a + length (spelled t)) g.0 q s h.1 g.1 g.2), placed_apart ts (a + length (spelled t)) h.1)
+placed_apart (t ∷ ts) a h = (λ p q r s f g. omega (arith, (flaw_within t a p r h.0 f).1, flaw_after (trees ts) (a + length (spelled t)) g.0 q s h.1 g.1 g.2), placed_apart ts (a + length (spelled t)) h.1)
 
 -- the first flaw of all is that of the first node that means nothing
 pub first_refusal : (ts : List Tree) (p : ℕ) (r : InvalidReason) → AreApart ts → IsFirst flaw_rank (FlawIn (trees ts)) p r → IsRefusalOfAll ts (Refused p r)

@@ -1,10 +1,18 @@
 -- The flaws of what a text notates: each is at a spot, and spots rise, so that the first flaw of all is that of the first node that means nothing.
 use Rattle.std.specs.Prelude.{◌≡◌, ◌<◌, ◌∷◌, ◌++◌}
 use Rattle.cborn_engine.proofs.Common.{ℕ, inl, inr, List, [], refl, sym, subst, Chunk, Tree, Uint, Bytes, Text, TextChunks, Items, Pairs, Tagged, Trees, no_item, more, Entries, no_entry, entry, place, trees, Within, WithinAll, WithinEntries, IsRepeated, HasRepeat, HasBadChunk, FlawAt, Flaw, InvalidReason, IsIn, at_member, AreApart}
-use Rattle.cborn_judge.proofs.Meaning.Placing.{in_left, in_right}
 use Rattle.cborn_edn.specs.Starts.{starts_of_chunks, unless_bytes, spots, spots_all, spots_entries, IsRising}
 
 -- ---- flaws are at spots
+
+in_left : (p : ℕ) (xs ys : List ℕ) → IsIn p xs → IsIn p (xs ++ ys)
+in_left p [] ys i = absurd i
+in_left p (x ∷ xs) ys (inl e) = inl e
+in_left p (x ∷ xs) ys (inr i) = inr (in_left p xs ys i)
+
+in_right : (p : ℕ) (xs ys : List ℕ) → IsIn p ys → IsIn p (xs ++ ys)
+in_right p [] ys i = i
+in_right p (x ∷ xs) ys i = inr (in_right p xs ys i)
 
 own_spot : (t : Tree) → IsIn (place t) (spots t)
 own_spot (Uint p w n) = inl refl
