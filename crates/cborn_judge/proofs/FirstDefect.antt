@@ -37,21 +37,6 @@ module _ (order : List ℕ → List ℕ → Ordering) where
   pub leaf_found : (t : Tree) (o : Option SomeDefect) → ((q : Tree) → Within q t ↔ (q ≡ t)) → FindsDefect (DefectAt order t) o → FindsDefect (DefectIn order t) o
   leaf_found t o w h = alike (DefectAt order t) (DefectIn order t) o (λ p r. ((λ d. (t, (w t).1 refl, d)), (λ d. subst (λ z. DefectAt order z p r) ((w d.0).0 d.1) d.2))) h
 
-  itself : (t q : Tree) → (q ≡ t) ↔ (q ≡ t)
-  itself t q = ((λ e. e), (λ e. e))
-
-  pub uint_found : (q : ℕ) (w : Width) (n : ℕ) (o : Option SomeDefect) → FindsDefect (LongAt q w n) o → FindsDefect (DefectIn order (Uint q w n)) o
-  uint_found q w n o h = leaf_found (Uint q w n) o (itself (Uint q w n)) h
-
-  pub nint_found : (q : ℕ) (w : Width) (n : ℕ) (o : Option SomeDefect) → FindsDefect (LongAt q w n) o → FindsDefect (DefectIn order (Nint q w n)) o
-  nint_found q w n o h = leaf_found (Nint q w n) o (itself (Nint q w n)) h
-
-  pub bytes_found : (q : ℕ) (w : Width) (b : List ℕ) (o : Option SomeDefect) → FindsDefect (LongAt q w (length b)) o → FindsDefect (DefectIn order (Bytes q w b)) o
-  bytes_found q w b o h = leaf_found (Bytes q w b) o (itself (Bytes q w b)) h
-
-  pub text_found : (q : ℕ) (w : Width) (b : List ℕ) (o : Option SomeDefect) → FindsDefect (LongAt q w (length b)) o → FindsDefect (DefectIn order (Text q w b)) o
-  text_found q w b o h = leaf_found (Text q w b) o (itself (Text q w b)) h
-
   -- a bignum by its bytes
   pub loose_found : (q n : ℕ) (t : Tree) (b c : List ℕ) (x : Option SomeDefect) → (n ≡ 2) ⊎ (n ≡ 3) → IsByteString t b → b ≡ c → FindsDefect (LooseBytesAt q c) x → FindsDefect (LooseAt q n t) x
   loose_found q n t b c x tag is same h =

@@ -1,4 +1,4 @@
--- The first flaw of nodes: of a node, as a walk goes on, and of a sequence.
+-- The first flaw of a sequence.
 use Rattle.std.specs.Prelude.{◌⊎◌, ◌∷◌, ◌++◌, ◌≡◌, ◌↔◌, ◌+◌, ◌<◌, ◌≤◌}
 use Rattle.cborn_judge.proofs.Common.{inl, inr, List, [], Tree, trees, Within, WithinAll, ℕ, refl, subst, HasRepeat, FlawAt, Flaw, InvalidReason, DuplicateKey, FlawIn, FlawAmong, Size, Items, Pairs, Tagged, Trees, Entries, Width, zero, suc, length, get_or, take, arith, Result, Ok, Err, AllZip, IfErr, IsErr, IsFirst, NoLater, Means, PlacedAll, flaw_rank, spelled, Value, IsRefusal, IsRefusalOfAll}
 use Rattle.std.specs.Result.{IsErrAnd}
@@ -7,56 +7,6 @@ use Rattle.cborn_judge.specs.declared.faults.Invalid.TheVariants.{OutOfMemory, R
 use Rattle.cborn_judge.proofs.Loops.{zip_more}
 use Rattle.cborn_judge.proofs.Meaning.Judging.{meaning}
 use Rattle.cborn_judge.proofs.Meaning.Placing.{flaw_within, flaw_after}
-
--- ---- what is within one more node
-
-pub after : (xs : List Tree) (x : Tree) (q : Tree) → WithinAll q (trees (xs ++ x ∷ [])) → WithinAll q (trees xs) ⊎ Within q x
-after [] x q (inl h) = inr h
-after [] x q (inr h) = absurd h
-after (y ∷ ys) x q (inl h) = inl (inl h)
-after (y ∷ ys) x q (inr h) = elim (after ys x q h) [ inl k ↦ inl (inr k) | inr k ↦ inr k ]
-
-pub before : (xs : List Tree) (x : Tree) (q : Tree) → WithinAll q (trees xs) → WithinAll q (trees (xs ++ x ∷ []))
-before [] x q h = absurd h
-before (y ∷ ys) x q (inl h) = inl h
-before (y ∷ ys) x q (inr h) = inr (before ys x q h)
-
-pub last : (xs : List Tree) (x : Tree) (q : Tree) → Within q x → WithinAll q (trees (xs ++ x ∷ []))
-last [] x q h = inl h
-last (y ∷ ys) x q h = inr (last ys x q h)
-
--- ---- the flaws of a node, one level at a time
-
--- ---- flaws, level by level
-
-pub flaw_items : (p : ℕ) (s : Size) (ts : Trees) (q : ℕ) (r : InvalidReason) → Flaw (Items p s ts) q r ↔ FlawIn ts q r
-flaw_items p s ts q r = ((λ f. to f.0 f.1 f.2), (λ f. (f.0, inr f.1, f.2)))
-  where
-    to : (u : Tree) → Within u (Items p s ts) → FlawAt u q r → FlawIn ts q r
-    to u (inl e) f = absurd (subst (λ z. FlawAt z q r) e f)
-    to u (inr i) f = (u, i, f)
-
-pub flaw_pairs : (p : ℕ) (s : Size) (es : Entries) (q : ℕ) (r : InvalidReason) → Flaw (Pairs p s es) q r ↔ (FlawAmong es q r ⊎ ((r ≡ DuplicateKey) × HasRepeat es q))
-flaw_pairs p s es q r = ((λ f. to f.0 f.1 f.2), from)
-  where
-    to : (u : Tree) → Within u (Pairs p s es) → FlawAt u q r → FlawAmong es q r ⊎ ((r ≡ DuplicateKey) × HasRepeat es q)
-    to u (inl e) f = inr (subst (λ z. FlawAt z q r) e f)
-    to u (inr i) f = inl (u, i, f)
-
-    from : FlawAmong es q r ⊎ ((r ≡ DuplicateKey) × HasRepeat es q) → Flaw (Pairs p s es) q r
-    from (inl f) = (f.0, inr f.1, f.2)
-    from (inr f) = (Pairs p s es, inl refl, f)
-
-pub flaw_tagged : (p : ℕ) (w : Width) (n : ℕ) (t : Tree) (q : ℕ) (r : InvalidReason) → Flaw (Tagged p w n t) q r ↔ (FlawAt (Tagged p w n t) q r ⊎ Flaw t q r)
-flaw_tagged p w n t q r = ((λ f. to f.0 f.1 f.2), from)
-  where
-    to : (u : Tree) → Within u (Tagged p w n t) → FlawAt u q r → FlawAt (Tagged p w n t) q r ⊎ Flaw t q r
-    to u (inl e) f = inl (subst (λ z. FlawAt z q r) e f)
-    to u (inr i) f = inr (u, i, f)
-
-    from : FlawAt (Tagged p w n t) q r ⊎ Flaw t q r → Flaw (Tagged p w n t) q r
-    from (inl f) = (Tagged p w n t, inl refl, f)
-    from (inr f) = (f.0, inr f.1, f.2)
 
 -- ---- what the nodes of a sequence mean, or the first flaw of the first that means nothing, as a loop over them meets them
 

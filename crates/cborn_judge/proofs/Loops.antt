@@ -1,9 +1,22 @@
 -- What a loop over a list has passed, with the next element.
-use Rattle.std.specs.Prelude.{◌≡◌, ◌+◌, ◌<◌, ◌∷◌, ◌++◌}
-use Rattle.cborn_judge.proofs.Common.{ℕ, List, [], length, get_or, take, sym, ap, ◌∙◌, subst, AllZip, take_more}
+use Rattle.std.specs.Prelude.{◌≡◌, ◌+◌, ◌<◌, ◌⊎◌, ◌∷◌, ◌++◌, ◌↔◌}
+use Rattle.cborn_judge.proofs.Common.{ℕ, inl, inr, List, [], length, get_or, take, sym, ap, ◌∙◌, subst, AllZip, take_more}
 
 pub passed_one : {A : Type 0} (xs : List A) (i : ℕ) (x : A) → i < length xs → x ≡ get_or xs i x → take (i + 1) xs ≡ take i xs ++ x ∷ []
 passed_one {A} xs i x l e = take_more xs i x l ∙ ap (λ (z : A). take i xs ++ z ∷ []) (sym e)
+
+-- ---- cases in another grouping
+
+pub same : {A : Type 0} → A ↔ A
+same = ((λ h. h), (λ h. h))
+
+pub regrouped : {A B C D : Type 0} → (B ⊎ C) ↔ D → ((A ⊎ B) ⊎ C) ↔ (A ⊎ D)
+regrouped {A} {B} {C} {D} h = (to, (λ k. elim k [ inl a ↦ inl (inl a) | inr d ↦ elim (h.1 d) [ inl b ↦ inl (inr b) | inr c ↦ inr c ] ]))
+  where
+    to : (A ⊎ B) ⊎ C → A ⊎ D
+    to (inl (inl a)) = inl a
+    to (inl (inr b)) = inr (h.0 (inl b))
+    to (inr c) = inr (h.0 (inr c))
 
 -- ---- with another list that the loop builds
 

@@ -1,10 +1,14 @@
 -- The flaws and the defects of one more whole node.
 use Rattle.std.specs.Prelude.{◌≡◌, ◌⊎◌, ◌∷◌, ◌++◌, ◌↔◌}
-use Rattle.cborn_judge.proofs.Common.{ℕ, inl, inr, List, [], length, map, refl, sym, subst, Bool, true, false, Ordering, Option, None, AllZip, Chunk, Size, StringKind, OfBytes, OfText, InvalidReason, NotUtf8, DefectReason, LongHead, EndlessLength, Means, flaw_rank, defect_rank, Tree, ByteChunks, TextChunks, Items, Pairs, Tagged, trees, entries, Value, Partial, top, inside, Opening, an_array, a_map, a_tag, in_chunks, put, built, Ends, paired, chunks_of, chunks_tree, ended_size, Within, WithinAll, WithinEntries, FlawAt, Flaw, HasBadChunk, DefectAt, HasLongChunk, FindsDefect, DefectIn, DefectInAll, SizeAt, DescentAt, IsEarliestDefect, FindsFlaw, FlawIn, IsEarliestFlaw, IsSound, Amid, OwnFlaw, OwnDefect, Finds, Either, found_both, found_alike, none_both, strings_are, count-trees, count_entries-entries, SomeDefect, SomeFlaw}
+use Rattle.cborn_judge.proofs.Common.{ℕ, inl, inr, List, [], length, Width, IsUtf8, IsLong, map, refl, sym, subst, Bool, true, false, Ordering, Option, None, AllZip, Chunk, Size, StringKind, OfBytes, OfText, InvalidReason, NotUtf8, DefectReason, LongHead, EndlessLength, Means, flaw_rank, defect_rank, Tree, ByteChunks, TextChunks, Items, Pairs, Tagged, trees, entries, Value, Partial, top, inside, Opening, an_array, a_map, a_tag, in_chunks, put, built, Ends, paired, chunks_of, chunks_tree, ended_size, Within, WithinAll, WithinEntries, FlawAt, Flaw, HasBadChunk, DefectAt, HasLongChunk, FindsDefect, DefectIn, DefectInAll, SizeAt, DescentAt, IsEarliestDefect, FindsFlaw, FlawIn, IsEarliestFlaw, IsSound, Amid, OwnFlaw, OwnDefect, Finds, Either, found_both, found_alike, none_both, strings_are, count-trees, count_entries-entries, SomeDefect, SomeFlaw}
 use Rattle.cborn_model.specs.Partial.{last_key}
 use Rattle.cborn_model.specs.shared.Walks.{string_of}
-use Rattle.cborn_judge.proofs.FirstFlaw.{after, before, last, flaw_items, flaw_pairs, flaw_tagged}
+use Rattle.cborn_judge.proofs.Loops.{same, regrouped}
 use Rattle.cborn_judge.proofs.Meaning.Judging.{meaning}
+
+within_more : (ts : List Tree) (t q : Tree) → (WithinAll q (trees ts) ⊎ Within q t) ↔ WithinAll q (trees (ts ++ t ∷ []))
+within_more [] t q = ((λ h. elim h [ inl i ↦ absurd i | inr i ↦ inl i ]), (λ h. elim h [ inl i ↦ inr i | inr i ↦ absurd i ]))
+within_more (u ∷ ts) t q = regrouped (within_more ts t q)
 
 -- ---- what is wrong with nodes, whatever that is
 
@@ -16,40 +20,40 @@ module _ {R : Type 0} (at : Tree → ℕ → R → Type 0) where
   InOne t p r = (q : Tree) × Within q t × at q p r
 
   all_more : (ts : List Tree) (t : Tree) (p : ℕ) (r : R) → Either (InAll ts) (InOne t) p r ↔ InAll (ts ++ t ∷ []) p r
-  all_more ts t p r = (to, (λ f. elim (after ts t f.0 f.1) [ inl k ↦ inl (f.0, k, f.2) | inr k ↦ inr (f.0, k, f.2) ]))
-    where
-      to : Either (InAll ts) (InOne t) p r → InAll (ts ++ t ∷ []) p r
-      to (inl f) = (f.0, before ts t f.0 f.1, f.2)
-      to (inr f) = (f.0, last ts t f.0 f.1, f.2)
+  all_more ts t p r = (
+    (λ h. elim h [ inl f ↦ (f.0, (within_more ts t f.0).0 (inl f.1), f.2) | inr f ↦ (f.0, (within_more ts t f.0).0 (inr f.1), f.2) ]),
+    (λ f. elim ((within_more ts t f.0).1 f.1) [ inl k ↦ inl (f.0, k, f.2) | inr k ↦ inr (f.0, k, f.2) ]),
+  )
 
   amid_put : (f : Partial) (t : Tree) (p : ℕ) (r : R) → Either (Amid at f) (InOne t) p r ↔ Amid at (put f t) p r
   amid_put (top ts) t p r = all_more ts t p r
-  amid_put (inside f o ts) t p r = (to, from)
-    where
-      to : Either (Amid at (inside f o ts)) (InOne t) p r → Amid at (put (inside f o ts) t) p r
-      to (inl (inl h)) = inl h
-      to (inl (inr h)) = inr ((all_more ts t p r).0 (inl h))
-      to (inr h) = inr ((all_more ts t p r).0 (inr h))
-
-      from : Amid at (put (inside f o ts) t) p r → Either (Amid at (inside f o ts)) (InOne t) p r
-      from (inl h) = inl (inl h)
-      from (inr h) = elim ((all_more ts t p r).1 h) [ inl k ↦ inl (inr k) | inr k ↦ inr k ]
+  amid_put (inside f o ts) t p r = regrouped (all_more ts t p r)
 
   amid_open : (f : Partial) (o : Opening) (p : ℕ) (r : R) → Amid at f p r ↔ Amid at (inside f o []) p r
   amid_open f o p r = ((λ h. inl h), (λ h. elim h [ inl k ↦ k | inr k ↦ absurd k.1 ]))
 
   -- a container that ends, with what it adds
   amid_closed : (f : Partial) (o : Opening) (ts : List Tree) (t : Tree) (own : ℕ → R → Type 0) → ((p : ℕ) (r : R) → Either (InAll ts) own p r ↔ InOne t p r) → (p : ℕ) (r : R) → Either (Amid at (inside f o ts)) own p r ↔ Amid at (put f t) p r
-  amid_closed f o ts t own all p r = ((λ h. (amid_put f t p r).0 (to h)), (λ h. from ((amid_put f t p r).1 h)))
-    where
-      to : Either (Amid at (inside f o ts)) own p r → Either (Amid at f) (InOne t) p r
-      to (inl (inl h)) = inl h
-      to (inl (inr h)) = inr ((all p r).0 (inl h))
-      to (inr h) = inr ((all p r).0 (inr h))
+  amid_closed f o ts t own all p r =
+      let here : Either (Amid at (inside f o ts)) own p r ↔ (Amid at f p r ⊎ InOne t p r) = regrouped (all p r) in
+      ((λ h. (amid_put f t p r).0 (here.0 h)), (λ h. here.1 ((amid_put f t p r).1 h)))
 
-      from : Either (Amid at f) (InOne t) p r → Either (Amid at (inside f o ts)) own p r
-      from (inl h) = inl (inl h)
-      from (inr h) = elim ((all p r).1 h) [ inl k ↦ inl (inr k) | inr k ↦ inr k ]
+  -- a node with others inside it, and what is at itself
+  around : (t : Tree) (ts : List Tree) (own : ℕ → R → Type 0) (q : ℕ) (r : R) → ((u : Tree) → Within u t ↔ ((u ≡ t) ⊎ WithinAll u (trees ts))) → own q r ↔ at t q r → Either (InAll ts) own q r ↔ InOne t q r
+  around t ts own q r w e = (
+    (λ h. elim h [ inl k ↦ (k.0, (w k.0).1 (inr k.1), k.2) | inr k ↦ (t, (w t).1 (inl refl), e.0 k) ]),
+    (λ h. elim ((w h.0).0 h.1) [ inl j ↦ inr (e.1 (subst (λ z. at z q r) j h.2)) | inr j ↦ inl (h.0, j, h.2) ]),
+  )
+
+  -- strings that are chunks, where each is found by what holds of its chunk
+  among : (k : StringKind) (Has : List Chunk → ℕ → Type 0) (Here : Chunk → ℕ → Type 0) (reason : R) → ((p : ℕ) → Has [] p → ⊥) → ((c : Chunk) (cs : List Chunk) (p : ℕ) → Has (c ∷ cs) p ↔ (Here c p ⊎ Has cs p))
+      → ((c : Chunk) (p : ℕ) (r : R) → InOne (string_of k c) p r ↔ ((r ≡ reason) × Here c p)) → (cs : List Chunk) (p : ℕ) (r : R) → InAll (map (string_of k) cs) p r ↔ ((r ≡ reason) × Has cs p)
+  among k Has Here reason none one each [] p r = ((λ h. absurd h.1), (λ h. absurd (none p h.1)))
+  among k Has Here reason none one each (c ∷ cs) p r =
+      let rest = among k Has Here reason none one each cs p r in (
+        (λ h. elim h.1 [ inl i ↦ let g = (each c p r).0 (h.0, i, h.2) in (g.0, (one c cs p).1 (inl g.1)) | inr i ↦ let g = rest.0 (h.0, i, h.2) in (g.0, (one c cs p).1 (inr g.1)) ]),
+        (λ h. elim ((one c cs p).0 h.1) [ inl i ↦ let g = (each c p r).1 (h.0, i) in (g.0, inl g.1, g.2) | inr i ↦ let g = rest.1 (h.0, i) in (g.0, inr g.1, g.2) ]),
+      )
 
 -- ---- the keys and values of a map
 
@@ -78,134 +82,72 @@ fine_bytes [] u p r h f = h
 fine_bytes (c ∷ cs) u p r (inl e) f = subst (λ z. FlawAt z p r) e f
 fine_bytes (c ∷ cs) u p r (inr h) f = fine_bytes cs u p r h f
 
-bad_texts : (cs : List Chunk) (u : Tree) (p : ℕ) (r : InvalidReason) → WithinAll u (trees (map (string_of OfText) cs)) → FlawAt u p r → (r ≡ NotUtf8) × HasBadChunk cs p
-bad_texts [] u p r h f = absurd h
-bad_texts (c ∷ cs) u p r (inl e) f = let g = subst (λ z. FlawAt z p r) e f in (g.1, inl (g.0, g.2))
-bad_texts (c ∷ cs) u p r (inr h) f = let g = bad_texts cs u p r h f in (g.0, inr g.1)
-
-texts_bad : (cs : List Chunk) (p : ℕ) (r : InvalidReason) → r ≡ NotUtf8 → HasBadChunk cs p → FlawIn (trees (map (string_of OfText) cs)) p r
-texts_bad [] p r e h = absurd h
-texts_bad (c ∷ cs) p r e (inl h) = (string_of OfText c, inl refl, (h.0, e, h.1))
-texts_bad (c ∷ cs) p r e (inr h) = let g = texts_bad cs p r e h in (g.0, inr g.1, g.2)
-
 chunks_flaw : (p : ℕ) (k : StringKind) (cs : List Chunk) (q : ℕ) (r : InvalidReason) → FlawIn (trees (map (string_of k) cs)) q r ↔ Flaw (chunks_tree p k cs) q r
 chunks_flaw p OfBytes cs q r = ((λ f. absurd (fine_bytes cs f.0 q r f.1 f.2)), (λ f. absurd (subst (λ z. FlawAt z q r) f.1 f.2)))
-chunks_flaw p OfText cs q r = ((λ f. (TextChunks p cs, refl, bad_texts cs f.0 q r f.1 f.2)), (λ f. let g = subst (λ z. FlawAt z q r) f.1 f.2 in texts_bad cs q r g.0 g.1))
+chunks_flaw p OfText cs q r =
+    let all = among FlawAt OfText HasBadChunk (λ c p. (p ≡ c.place) × (IsUtf8 c.bytes → ⊥)) NotUtf8 (λ p h. h) (λ c cs p. same)
+        (λ c p r. ((λ d. let g = subst (λ z. FlawAt z p r) d.1 d.2 in (g.1, (g.0, g.2))), (λ d. (string_of OfText c, refl, (d.1.0, d.0, d.1.1))))) cs q r in
+    ((λ f. (TextChunks p cs, refl, all.0 f)), (λ f. all.1 (subst (λ z. FlawAt z q r) f.1 f.2)))
 
 module _ (order : List ℕ → List ℕ → Ordering) where
-  long_strings : (k : StringKind) (cs : List Chunk) (u : Tree) (p : ℕ) (r : DefectReason) → WithinAll u (trees (map (string_of k) cs)) → DefectAt order u p r → (r ≡ LongHead) × HasLongChunk cs p
-  long_strings k [] u p r h f = absurd h
-  long_strings OfBytes (c ∷ cs) u p r (inl e) f = let g = subst (λ z. DefectAt order z p r) e f in (g.1, inl (g.0, g.2))
-  long_strings OfText (c ∷ cs) u p r (inl e) f = let g = subst (λ z. DefectAt order z p r) e f in (g.1, inl (g.0, g.2))
-  long_strings OfBytes (c ∷ cs) u p r (inr h) f = let g = long_strings OfBytes cs u p r h f in (g.0, inr g.1)
-  long_strings OfText (c ∷ cs) u p r (inr h) f = let g = long_strings OfText cs u p r h f in (g.0, inr g.1)
-
-  strings_long : (k : StringKind) (cs : List Chunk) (p : ℕ) (r : DefectReason) → r ≡ LongHead → HasLongChunk cs p → DefectInAll order (trees (map (string_of k) cs)) p r
-  strings_long k [] p r e h = absurd h
-  strings_long OfBytes (c ∷ cs) p r e (inl h) = (string_of OfBytes c, inl refl, (h.0, e, h.1))
-  strings_long OfText (c ∷ cs) p r e (inl h) = (string_of OfText c, inl refl, (h.0, e, h.1))
-  strings_long OfBytes (c ∷ cs) p r e (inr h) = let g = strings_long OfBytes cs p r e h in (g.0, inr g.1, g.2)
-  strings_long OfText (c ∷ cs) p r e (inr h) = let g = strings_long OfText cs p r e h in (g.0, inr g.1, g.2)
+  long_string : (k : StringKind) (c : Chunk) (p : ℕ) (r : DefectReason) → DefectIn order (string_of k c) p r ↔ ((r ≡ LongHead) × ((p ≡ c.place) × IsLong c.width (length c.bytes)))
+  long_string OfBytes c p r = ((λ d. let g = subst (λ z. DefectAt order z p r) d.1 d.2 in (g.1, (g.0, g.2))), (λ d. (string_of OfBytes c, refl, (d.1.0, d.0, d.1.1))))
+  long_string OfText c p r = ((λ d. let g = subst (λ z. DefectAt order z p r) d.1 d.2 in (g.1, (g.0, g.2))), (λ d. (string_of OfText c, refl, (d.1.0, d.0, d.1.1))))
 
   chunks_defect : (p : ℕ) (k : StringKind) (cs : List Chunk) (q : ℕ) (r : DefectReason) → Either (DefectInAll order (trees (map (string_of k) cs))) (λ q r. (q ≡ p) × (r ≡ EndlessLength)) q r ↔ DefectIn order (chunks_tree p k cs) q r
-  chunks_defect p OfBytes cs q r = (to, λ f. from (subst (λ z. DefectAt order z q r) f.1 f.2))
+  chunks_defect p k cs q r = by k (among (DefectAt order) k HasLongChunk (λ c p. (p ≡ c.place) × IsLong c.width (length c.bytes)) LongHead (λ p h. h) (λ c cs p. same) (long_string k) cs q r)
     where
-      to : Either (DefectInAll order (trees (map (string_of OfBytes) cs))) (λ q r. (q ≡ p) × (r ≡ EndlessLength)) q r → DefectIn order (ByteChunks p cs) q r
-      to (inl f) = (ByteChunks p cs, refl, inr (long_strings OfBytes cs f.0 q r f.1 f.2))
-      to (inr f) = (ByteChunks p cs, refl, inl f)
-
-      from : DefectAt order (ByteChunks p cs) q r → Either (DefectInAll order (trees (map (string_of OfBytes) cs))) (λ q r. (q ≡ p) × (r ≡ EndlessLength)) q r
-      from (inl f) = inr f
-      from (inr f) = inl (strings_long OfBytes cs q r f.0 f.1)
-  chunks_defect p OfText cs q r = (to, λ f. from (subst (λ z. DefectAt order z q r) f.1 f.2))
-    where
-      to : Either (DefectInAll order (trees (map (string_of OfText) cs))) (λ q r. (q ≡ p) × (r ≡ EndlessLength)) q r → DefectIn order (TextChunks p cs) q r
-      to (inl f) = (TextChunks p cs, refl, inr (long_strings OfText cs f.0 q r f.1 f.2))
-      to (inr f) = (TextChunks p cs, refl, inl f)
-
-      from : DefectAt order (TextChunks p cs) q r → Either (DefectInAll order (trees (map (string_of OfText) cs))) (λ q r. (q ≡ p) × (r ≡ EndlessLength)) q r
-      from (inl f) = inr f
-      from (inr f) = inl (strings_long OfText cs q r f.0 f.1)
+      by : (k : StringKind) → DefectInAll order (trees (map (string_of k) cs)) q r ↔ ((r ≡ LongHead) × HasLongChunk cs q) → Either (DefectInAll order (trees (map (string_of k) cs))) (λ q r. (q ≡ p) × (r ≡ EndlessLength)) q r ↔ DefectIn order (chunks_tree p k cs) q r
+      by OfBytes all = (
+        (λ h. (ByteChunks p cs, refl, elim h [ inl f ↦ inr (all.0 f) | inr f ↦ inl f ])),
+        (λ h. elim (subst (λ z. DefectAt order z q r) h.1 h.2) [ inl f ↦ inr f | inr f ↦ inl (all.1 f) ]),
+      )
+      by OfText all = (
+        (λ h. (TextChunks p cs, refl, elim h [ inl f ↦ inr (all.0 f) | inr f ↦ inl f ])),
+        (λ h. elim (subst (λ z. DefectAt order z q r) h.1 h.2) [ inl f ↦ inr f | inr f ↦ inl (all.1 f) ]),
+      )
 
 -- ---- a container that ends
 
+within_tag : (p : ℕ) (w : Width) (n : ℕ) (t u : Tree) → Within u (Tagged p w n t) ↔ ((u ≡ Tagged p w n t) ⊎ WithinAll u (trees (t ∷ [])))
+within_tag p w n t u = (
+  (λ h. elim h [ inl e ↦ inl e | inr i ↦ inr (inl i) ]),
+  (λ h. elim h [ inl e ↦ inl e | inr i ↦ elim i [ inl j ↦ inr j | inr j ↦ absurd j ] ]),
+)
+
+within_map : (p : ℕ) (s : Size) (ts : List Tree) → last_key ts ≡ None → (u : Tree) → Within u (Pairs p s (entries (paired ts))) ↔ ((u ≡ Pairs p s (entries (paired ts))) ⊎ WithinAll u (trees ts))
+within_map p s ts e u = (
+  (λ h. elim h [ inl e ↦ inl e | inr i ↦ inr ((in_pairs ts u e).0 i) ]),
+  (λ h. elim h [ inl e ↦ inl e | inr i ↦ inr ((in_pairs ts u e).1 i) ]),
+)
+
 closed_flaw : (o : Opening) (ts : List Tree) → Ends o ts → (q : ℕ) (r : InvalidReason) → Either (FlawIn (trees ts)) (OwnFlaw o ts) q r ↔ Flaw (built o ts) q r
-closed_flaw (an_array p s c) ts e q r =
-    let f = flaw_items p (ended_size s c (length ts)) (trees ts) q r in
-    ((λ h. elim h [ inl k ↦ f.1 k | inr k ↦ absurd k ]), (λ h. inl (f.0 h)))
-closed_flaw (a_map p s c) ts e q r =
-    let f = flaw_pairs p (ended_size s c (length (paired ts))) (entries (paired ts)) q r in (
-      (λ h. elim h [ inl k ↦ f.1 (inl (k.0, (in_pairs ts k.0 e.1).1 k.1, k.2)) | inr k ↦ f.1 (inr k) ]),
-      (λ h. elim (f.0 h) [ inl k ↦ inl (k.0, (in_pairs ts k.0 e.1).0 k.1, k.2) | inr k ↦ inr k ]),
-    )
-closed_flaw (a_tag p w n) ts e q r = subst (λ us. Either (FlawIn (trees us)) (OwnFlaw (a_tag p w n) us) q r ↔ Flaw (built (a_tag p w n) us) q r) (sym e.1) by
-  where
-    f : Flaw (Tagged p w n e.0) q r ↔ (FlawAt (Tagged p w n e.0) q r ⊎ Flaw e.0 q r)
-    f = flaw_tagged p w n e.0 q r
-
-    to : Either (FlawIn (trees (e.0 ∷ []))) (FlawAt (Tagged p w n e.0)) q r → Flaw (Tagged p w n e.0) q r
-    to (inl (u, inl i, d)) = f.1 (inr (u, i, d))
-    to (inl (u, inr i, d)) = absurd i
-    to (inr d) = f.1 (inl d)
-
-    by : Either (FlawIn (trees (e.0 ∷ []))) (FlawAt (Tagged p w n e.0)) q r ↔ Flaw (Tagged p w n e.0) q r
-    by = (to, λ h. elim (f.0 h) [ inl k ↦ inr k | inr k ↦ inl (k.0, inl k.1, k.2) ])
+closed_flaw (an_array p s c) ts e q r = around FlawAt (built (an_array p s c) ts) ts (OwnFlaw (an_array p s c) ts) q r (λ u. same) same
+closed_flaw (a_map p s c) ts e q r = around FlawAt (built (a_map p s c) ts) ts (OwnFlaw (a_map p s c) ts) q r (within_map p (ended_size s c (length (paired ts))) ts e.1) same
+closed_flaw (a_tag p w n) ts e q r =
+    subst (λ us. Either (FlawIn (trees us)) (OwnFlaw (a_tag p w n) us) q r ↔ Flaw (built (a_tag p w n) us) q r) (sym e.1)
+    (around FlawAt (Tagged p w n e.0) (e.0 ∷ []) (FlawAt (Tagged p w n e.0)) q r (within_tag p w n e.0) same)
 closed_flaw (in_chunks p k) ts e q r =
     let f = subst (λ us. FlawIn (trees us) q r ↔ Flaw (chunks_tree p k (chunks_of ts)) q r) (strings_are k ts e) (chunks_flaw p k (chunks_of ts) q r) in
     ((λ h. elim h [ inl g ↦ f.0 g | inr g ↦ absurd g ]), (λ h. inl (f.1 h)))
 
 module _ (order : List ℕ → List ℕ → Ordering) where
   closed_defect : (o : Opening) (ts : List Tree) → Ends o ts → (q : ℕ) (r : DefectReason) → Either (DefectInAll order (trees ts)) (OwnDefect order o ts) q r ↔ DefectIn order (built o ts) q r
-  closed_defect (an_array p s c) ts e q r = ((λ h. to h), (λ h. from h.0 h.1 h.2))
-    where
-      z : Size
-      z = ended_size s c (length ts)
-
-      to : Either (DefectInAll order (trees ts)) (SizeAt p z (length ts)) q r → DefectIn order (Items p z (trees ts)) q r
-      to (inl d) = (d.0, inr d.1, d.2)
-      to (inr d) = (Items p z (trees ts), inl refl, subst (λ n. SizeAt p z n q r) (sym (count-trees ts)) d)
-
-      from : (u : Tree) → Within u (Items p z (trees ts)) → DefectAt order u q r → Either (DefectInAll order (trees ts)) (SizeAt p z (length ts)) q r
-      from u (inl i) d = inr (subst (λ n. SizeAt p z n q r) (count-trees ts) (subst (λ v. DefectAt order v q r) i d))
-      from u (inr i) d = inl (u, i, d)
-  closed_defect (a_map p s c) ts e q r = (to, (λ h. from h.0 h.1 h.2))
-    where
-      ps : List (Tree × Tree)
-      ps = paired ts
-
-      z : Size
-      z = ended_size s c (length ps)
-
-      own : DefectAt order (Pairs p z (entries ps)) q r → Either (SizeAt p z (length ps)) (DescentAt order (entries ps)) q r
-      own (inl d) = inl (subst (λ n. SizeAt p z n q r) (count_entries-entries ps) d)
-      own (inr d) = inr d
-
-      to : Either (DefectInAll order (trees ts)) (OwnDefect order (a_map p s c) ts) q r → DefectIn order (Pairs p z (entries ps)) q r
-      to (inl d) = (d.0, inr ((in_pairs ts d.0 e.1).1 d.1), d.2)
-      to (inr (inl d)) = (Pairs p z (entries ps), inl refl, inl (subst (λ n. SizeAt p z n q r) (sym (count_entries-entries ps)) d))
-      to (inr (inr d)) = (Pairs p z (entries ps), inl refl, inr d)
-
-      from : (u : Tree) → Within u (Pairs p z (entries ps)) → DefectAt order u q r → Either (DefectInAll order (trees ts)) (OwnDefect order (a_map p s c) ts) q r
-      from u (inl i) d = inr (own (subst (λ v. DefectAt order v q r) i d))
-      from u (inr i) d = inl (u, (in_pairs ts u e.1).0 i, d)
-  closed_defect (a_tag p w n) ts e q r = subst (λ us. Either (DefectInAll order (trees us)) (OwnDefect order (a_tag p w n) us) q r ↔ DefectIn order (built (a_tag p w n) us) q r) (sym e.1) (to, λ h. from h.0 h.1 h.2)
-    where
-      t : Tree
-      t = e.0
-
-      to : Either (DefectInAll order (trees (t ∷ []))) (OwnDefect order (a_tag p w n) (t ∷ [])) q r → DefectIn order (Tagged p w n t) q r
-      to (inl (u, inl i, d)) = (u, inr i, d)
-      to (inl (u, inr i, d)) = absurd i
-      to (inr (inl d)) = (Tagged p w n t, inl refl, (d.0, inl (d.1, d.2)))
-      to (inr (inr d)) = (Tagged p w n t, inl refl, (d.0, inr (d.1, d.2, d.3, d.4, d.5)))
-
-      own : DefectAt order (Tagged p w n t) q r → Either (DefectInAll order (trees (t ∷ []))) (OwnDefect order (a_tag p w n) (t ∷ [])) q r
-      own (i, inl d) = inr (inl (i, d.0, d.1))
-      own (i, inr d) = inr (inr (i, d.0, d.1, d.2, d.3, d.4))
-
-      from : (u : Tree) → Within u (Tagged p w n t) → DefectAt order u q r → Either (DefectInAll order (trees (t ∷ []))) (OwnDefect order (a_tag p w n) (t ∷ [])) q r
-      from u (inl i) d = own (subst (λ v. DefectAt order v q r) i d)
-      from u (inr i) d = inl (u, inl i, d)
+  closed_defect (an_array p s c) ts e q r =
+      let z = ended_size s c (length ts) in
+      around (DefectAt order) (built (an_array p s c) ts) ts (OwnDefect order (an_array p s c) ts) q r (λ u. same)
+      (subst (λ n. SizeAt p z (length ts) q r ↔ SizeAt p z n q r) (sym (count-trees ts)) same)
+  closed_defect (a_map p s c) ts e q r =
+      let ps = paired ts in
+      let z = ended_size s c (length ps) in
+      around (DefectAt order) (built (a_map p s c) ts) ts (OwnDefect order (a_map p s c) ts) q r (within_map p z ts e.1)
+      (subst (λ n. (SizeAt p z (length ps) q r ⊎ DescentAt order (entries ps) q r) ↔ (SizeAt p z n q r ⊎ DescentAt order (entries ps) q r)) (sym (count_entries-entries ps)) same)
+  closed_defect (a_tag p w n) ts e q r =
+      subst (λ us. Either (DefectInAll order (trees us)) (OwnDefect order (a_tag p w n) us) q r ↔ DefectIn order (built (a_tag p w n) us) q r) (sym e.1)
+      (around (DefectAt order) (Tagged p w n e.0) (e.0 ∷ []) (OwnDefect order (a_tag p w n) (e.0 ∷ [])) q r (within_tag p w n e.0) (
+        (λ d. elim d [ inl l ↦ (l.0, inl (l.1, l.2)) | inr l ↦ (l.0, inr (l.1, l.2, l.3, l.4, l.5)) ]),
+        (λ d. elim d.1 [ inl l ↦ inl (d.0, l.0, l.1) | inr l ↦ inr (d.0, l.0, l.1, l.2, l.3, l.4) ]),
+      ))
   closed_defect (in_chunks p k) ts e q r =
       subst (λ us. Either (DefectInAll order (trees us)) (λ q r. (q ≡ p) × (r ≡ EndlessLength)) q r ↔ DefectIn order (chunks_tree p k (chunks_of ts)) q r) (strings_are k ts e) (chunks_defect order p k (chunks_of ts) q r)
 

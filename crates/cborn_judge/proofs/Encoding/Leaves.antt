@@ -4,7 +4,8 @@ use Rattle.cborn_judge.proofs.Common.{ℕ, inl, inr, List, append_assoc, length,
 use Rattle.cborn_model.specs.shared.Runs.{IsInteger}
 use Rattle.cborn_judge.proofs.Encoding.Finding.{finds_put}
 use Rattle.cborn_judge.proofs.Encoding.PairsHinted.{none_first}
-use Rattle.cborn_judge.proofs.FirstDefect.{uint_found, nint_found, bytes_found, text_found}
+use Rattle.cborn_judge.proofs.FirstDefect.{leaf_found}
+use Rattle.cborn_judge.proofs.Loops.{same}
 use Rattle.cborn_judge.proofs.Meaning.Meanings.{number_valid}
 
 -- ---- a string that ends in what an encoder holds
@@ -83,8 +84,8 @@ module _ (order : List ℕ → List ℕ → Ordering) where
       (integer true m.0, number, number_valid true n (integer true m.0) number below, inl (subst (λ k. k < 2 ^ 64) (sym m.3) below, subst (λ k. IsLeastHead 1 k x) (sym m.3) h))
 
   pub integer_defect : (p : ℕ) (s : Bool) (w : Width) (n : ℕ) (o : Option SomeDefect) → FindsDefect (LongAt p w n) o → FindsDefect (DefectIn order (integer_tree p s w n)) o
-  integer_defect p false w n o h = uint_found order p w n o h
-  integer_defect p true w n o h = nint_found order p w n o h
+  integer_defect p false w n o h = leaf_found order (Uint p w n) o (λ q. same) h
+  integer_defect p true w n o h = leaf_found order (Nint p w n) o (λ q. same) h
 
   pub finds_integer : (f : Partial) (p : ℕ) (s : Bool) (w : Width) (n : ℕ) (a : Option SomeFlaw) (d e i : Option SomeDefect) → FindsDefect (LongAt p w n) e → IsEarliestDefect d e i → Finds order f a d → Finds order (put f (integer_tree p s w n)) a i
   finds_integer f p s w n a d e i h k g = finds_put order f (integer_tree p s w n) a None a d e i (sound_integer p s w n) (integer_defect p s w n e h) (none_first (λ f. (f.place, flaw_rank f.reason)) a) k g
@@ -118,8 +119,8 @@ module _ (order : List ℕ → List ℕ → Ordering) where
       not_good true i n = absurd (n (i.0 refl))
 
   pub string_defect : (p : ℕ) (k : StringKind) (w : Width) (x : List ℕ) (o : Option SomeDefect) → FindsDefect (LongAt p w (length x)) o → FindsDefect (DefectIn order (string_tree p k w x)) o
-  string_defect p OfBytes w x o h = bytes_found order p w x o h
-  string_defect p OfText w x o h = text_found order p w x o h
+  string_defect p OfBytes w x o h = leaf_found order (Bytes p w x) o (λ q. same) h
+  string_defect p OfText w x o h = leaf_found order (Text p w x) o (λ q. same) h
 
   pub finds_string : (f : Partial) (p : ℕ) (k : StringKind) (w : Width) (n : ℕ) (x : List ℕ) (good : Bool) (a b o : Option SomeFlaw) (d e i : Option SomeDefect) → length x ≡ n → IsTrue good ↔ IsContent k x
       → FindsFlaw (λ q r. (q ≡ p) × (r ≡ NotUtf8) × (good ≡ false)) b → FindsDefect (LongAt p w n) e → IsEarliestFlaw a b o → IsEarliestDefect d e i → Finds order f a d → Finds order (put f (string_tree p k w x)) o i

@@ -3,7 +3,7 @@ use Rattle.std.specs.Prelude.{◌≡◌, ◌+◌, ◌<◌, ◌⊎◌, ◌∷◌,
 use Rattle.cborn_judge.proofs.Common.{ℕ, inl, inr, List, [], length, get_or, map, take, refl, sym, ap, ◌∙◌, subst, true, false, true≢false, Option, None, Some, Ordering, Less, is_some, map-append, Rising, IsEarliest, FindsDefect, KeyOrder, Row, Mark, AreFilled, IsSameKey, HasSameKeys, filled_keys, Falls, HasFall, RowDescent, FindsDescent, key_of, row_of, Keyed, keyed, all_keyed, Met, remembered, IsFall, last_filled, FallsIn, IsTie, last_key, IsOneOf, IsAgain, IsTied, Either, found_both, found_alike}
 use Rattle.cborn_model.specs.Earliest.{Finds}
 use Rattle.cborn_judge.specs.declared.defects.Defect.{Defect}
-use Rattle.cborn_judge.proofs.Loops.{passed_one}
+use Rattle.cborn_judge.proofs.Loops.{passed_one, regrouped}
 use Rattle.cborn_judge.proofs.FirstDefect.{alike}
 use Rattle.cborn_judge.proofs.Encoding.PairsRead.{is_filled, filled, not_empty, marked_read}
 
@@ -14,13 +14,9 @@ none_of (Some x) e = absurd (true≢false e)
 -- ---- one key more
 
 module _ (Here : List ℕ → List ℕ → ℕ → ℕ → Type 0) (next : List ℕ → List ℕ → List ℕ) where
-  met_more : (k : List ℕ) (xs : List Keyed) (x : Keyed) (p : ℕ) → Met Here next k (xs ++ x ∷ []) p ↔ (Met Here next k xs p ⊎ Here (remembered Here next k xs) x.1 x.0 p)
-  met_more k [] x p = ((λ h. elim h [ inl i ↦ inr i | inr i ↦ absurd i ]), (λ h. elim h [ inl i ↦ absurd i | inr i ↦ inl i ]))
-  met_more k (y ∷ xs) x p =
-      let rest = met_more (next k y.1) xs x p in (
-        (λ h. elim h [ inl i ↦ inl (inl i) | inr i ↦ elim (rest.0 i) [ inl j ↦ inl (inr j) | inr j ↦ inr j ] ]),
-        (λ h. elim h [ inl i ↦ elim i [ inl j ↦ inl j | inr j ↦ inr (rest.1 (inl j)) ] | inr i ↦ inr (rest.1 (inr i)) ]),
-      )
+  met_more : (k : List ℕ) (xs : List Keyed) (x : Keyed) (p : ℕ) → (Met Here next k xs p ⊎ Here (remembered Here next k xs) x.1 x.0 p) ↔ Met Here next k (xs ++ x ∷ []) p
+  met_more k [] x p = ((λ h. elim h [ inl i ↦ absurd i | inr i ↦ inl i ]), (λ h. elim h [ inl i ↦ inr i | inr i ↦ absurd i ]))
+  met_more k (y ∷ xs) x p = regrouped (met_more (next k y.1) xs x p)
 
   remembered_more : (k : List ℕ) (xs : List Keyed) (x : Keyed) → remembered Here next k (xs ++ x ∷ []) ≡ next (remembered Here next k xs) x.1
   remembered_more k [] x = refl
@@ -48,11 +44,11 @@ module _ (Here : List ℕ → List ℕ → ℕ → ℕ → Type 0) (next : List 
         H p r = (r ≡ reason) × Met Here next [] (xs ++ x ∷ []) p
 
         to : (p : ℕ) (r : R) → Either F G p r → H p r
-        to p r (inl d) = (d.0, (met_more [] xs x p).1 (inl d.1))
-        to p r (inr d) = (d.0, (met_more [] xs x p).1 (inr (subst (λ l. Here l x.1 x.0 p) h.1 d.1)))
+        to p r (inl d) = (d.0, (met_more [] xs x p).0 (inl d.1))
+        to p r (inr d) = (d.0, (met_more [] xs x p).0 (inr (subst (λ l. Here l x.1 x.0 p) h.1 d.1)))
 
         from : (p : ℕ) (r : R) → H p r → Either F G p r
-        from p r d = elim ((met_more [] xs x p).0 d.1) [ inl i ↦ inl (d.0, i) | inr i ↦ inr (d.0, subst (λ l. Here l x.1 x.0 p) (sym h.1) i) ]
+        from p r d = elim ((met_more [] xs x p).1 d.1) [ inl i ↦ inl (d.0, i) | inr i ↦ inr (d.0, subst (λ l. Here l x.1 x.0 p) (sym h.1) i) ]
 
     -- as a loop meets them over marks that are kept somehow
     pub met-take_more : {S : Type 0} (seen : S → Mark) (bytes : List ℕ) (ss : List S) (i : ℕ) (s : S) (m : Mark) (before key : List ℕ) (a b o : Option X) → i < length ss → s ≡ get_or ss i s → m ≡ seen s → key ≡ key_of bytes m
