@@ -25,9 +25,8 @@ module _ (order : List ℕ → List ℕ → Ordering) (laws : IsKeyOrder order) 
   not_tied e f n = by (order e.0 f.0) refl
     where
       by : (o : Ordering) → order e.0 f.0 ≡ o → is_eq o ≡ false
-      by Less q = refl
       by Equal q = absurd (n (laws.exact e.0 f.0 q))
-      by Greater q = refl
+      by _ q = refl
 
   tested : (es : List Entry) → HasDistinctKeys es → IsDistinct Tied es
   unfolding IsDistinct
@@ -45,12 +44,11 @@ module _ (order : List ℕ → List ℕ → Ordering) (laws : IsKeyOrder order) 
   module _ {X : Type 0} (entry : X → Entry) where
     rises : (xs : List X) → IsSortedBy (λ x y. is_lt (order (entry x).0 (entry y).0)) xs → IsDistinct Tied (map entry xs) → Rising order (keys (map entry xs))
     unfolding IsDistinct
-    rises [] s d = tt
-    rises (x ∷ []) s d = tt
     rises (x ∷ y ∷ ys) s d = (
       below (entry x).0 (entry y).0 (s 0 x (omega arith) (omega arith)) d.0.0,
       rises (y ∷ ys) (λ k e low l. rw add-one (rw add-one at (s (suc k) e (omega arith) (omega arith)))) d.1,
     )
+    rises _ s d = tt
 
     pub rising_from_sorted : (xs ys : List X) → HasDistinctKeys (map entry xs) → IsPermutation (map entry xs) (map entry ys) → IsSortedBy (λ x y. is_lt (order (entry x).0 (entry y).0)) ys → Rising order (keys (map entry ys))
     rising_from_sorted xs ys d p s = rises ys s (IsDistinct-IsPermutation Tied tied_turned (map entry xs) (map entry ys) p (tested (map entry xs) d))

@@ -83,9 +83,8 @@ module _ (order : List ℕ → List ℕ → Ordering) where
 
   det_zip : (ps : Couples) (es : List Entry) → DetPairs order ps es → AllZip DetPair (listed ps) es
   det_zip no_pairs [] d = tt
-  det_zip no_pairs (e ∷ es) d = absurd d
-  det_zip (pair k v ps) [] d = absurd d
   det_zip (pair k v ps) (e ∷ es) d = ((d.0, d.1), det_zip ps es d.2)
+  det_zip _ _ d = absurd d
 
   det_length : (ps : Couples) (es : List Entry) → DetPairs order ps es → length es ≡ pair_count ps
   det_length ps es d = (are_entries ⊥ order ps es (λ g. absurd g) d).1
@@ -221,9 +220,8 @@ module _ (order : List ℕ → List ℕ → Ordering) (laws : IsKeyOrder order) 
 
   pub distinct_keys : (ps : Couples) (es : List Entry) → HasProperPairs ps → HasNewKeys ps → DetPairs order ps es → HasDistinctKeys es
   distinct_keys no_pairs [] p n d = tt
-  distinct_keys no_pairs (g ∷ gs) p n d = absurd d
-  distinct_keys (pair k v ps) [] p n d = absurd d
   distinct_keys (pair k v ps) (g ∷ gs) p n d = (new_apart k g.0 ps gs p.0 d.0 p.2 n.0 d.2, distinct_keys ps gs p.2 n.1 d.2)
+  distinct_keys _ _ p n d = absurd d
 
   mutual
     pub det_exists : (v : Value) → IsProper v → (x : List ℕ) × Det order v x
@@ -293,9 +291,8 @@ module _ (order : List ℕ → List ℕ → Ordering) (laws : IsKeyOrder order) 
 module _ (order : List ℕ → List ℕ → Ordering) where
   det_from_zip : (ps : Couples) (es : List Entry) → AllZip (DetPair order) (listed ps) es → DetPairs order ps es
   det_from_zip no_pairs [] d = tt
-  det_from_zip no_pairs (e ∷ es) d = absurd d
-  det_from_zip (pair k v ps) [] d = absurd d
   det_from_zip (pair k v ps) (e ∷ es) d = (d.0.0, d.0.1, det_from_zip ps es d.1)
+  det_from_zip _ _ d = absurd d
 
   pairs_from_zip : (qs : List (Value × Value)) (es : List Entry) → AllZip (DetPair order) qs es → DetPairs order (pairs_of qs) es
   pairs_from_zip qs es z = det_from_zip (pairs_of qs) es (subst (λ l. AllZip (DetPair order) l es) (sym (listed-pairs_of qs)) z)

@@ -44,9 +44,8 @@ module _ (G : Type 0) (order : List ℕ → List ℕ → Ordering) where
 
   pub are_entries : (ps : Couples) (es : List Entry) → (G → HasProperPairs ps) → DetPairs order ps es → AllByRecursion IsEntry es × (length es ≡ pair_count ps)
   are_entries no_pairs [] p d = (tt, refl)
-  are_entries no_pairs (e ∷ es) p d = absurd d
-  are_entries (pair k v ps) [] p d = absurd d
   are_entries (pair k v ps) (e ∷ es) p d = let t = are_entries ps es (λ g. (p g).2) d.2 in (((k, v, (λ g. ((p g).0, (p g).1)), d.0, d.1), t.0), ap suc t.1)
+  are_entries _ _ p d = absurd d
 
   -- what may follow a head of this major type with the argument n
   abbrev pub Content : Major → ℕ → List ℕ → Type 0
@@ -178,6 +177,5 @@ module _ (order : List ℕ → List ℕ → Ordering) where
 
     pub pairs_read : (ps : Couples) (es : List Entry) → DetPairs order ps es → AllByRecursion EntryReads es
     pairs_read no_pairs [] d = tt
-    pairs_read no_pairs (e ∷ es) d = absurd d
-    pairs_read (pair k v ps) [] d = absurd d
     pairs_read (pair k v ps) (e ∷ es) d = ((reads k e.0 d.0, reads v e.1 d.1), pairs_read ps es d.2)
+    pairs_read _ _ d = absurd d

@@ -153,15 +153,13 @@ simple_room n x d = omega (arith, length_of_least 7 n x d, length_of_head Other 
 
 pub counted : (ts : Trees) (vs : Values) → AllMean ts vs → value_count vs ≡ count ts
 counted no_item no_values m = refl
-counted no_item (value v vs) m = absurd m
-counted (more t ts) no_values m = absurd m
 counted (more t ts) (value v vs) m = ap suc (counted ts vs m.1)
+counted _ _ m = absurd m
 
 pub counted_pairs : (es : Entries) (ps : Couples) → EntriesMean es ps → pair_count ps ≡ count_entries es
 counted_pairs no_entry no_pairs m = refl
-counted_pairs no_entry (pair a b ps) m = absurd m
-counted_pairs (entry k v es) no_pairs m = absurd m
 counted_pairs (entry k v es) (pair a b ps) m = ap suc (counted_pairs es ps m.2)
+counted_pairs _ _ m = absurd m
 
 -- pairs take the same room however they are arranged
 length_moved : (written arranged : List Entry) → IsPermutation written arranged → length (joined arranged) ≡ length (joined written)

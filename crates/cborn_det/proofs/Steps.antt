@@ -111,9 +111,8 @@ module _ (order : List ℕ → List ℕ → Ordering) where
 
   pub pairs_push : (ps : List (Value × Value)) (p : Value × Value) (es : List Entry) (e : Entry) → DetPairs order (pairs_of ps) es → Det order p.0 e.0 → Det order p.1 e.1 → DetPairs order (pairs_of (ps ++ p ∷ [])) (es ++ e ∷ [])
   pairs_push [] p [] e d k v = (k, v, tt)
-  pairs_push [] p (f ∷ es) e d k v = absurd d
-  pairs_push (q ∷ ps) p [] e d k v = absurd d
   pairs_push (q ∷ ps) p (f ∷ es) e d k v = (d.0, d.1, pairs_push ps p es e d.2 k v)
+  pairs_push _ p _ e d k v = absurd d
 
   -- one pair more
   pairs_more : (ps : List (Value × Value)) (p : Value × Value) (lengths : List (ℕ × ℕ)) (two : ℕ × ℕ) (start old new : List ℕ) → AppendsPairs ps lengths start old → AppendsPair order p two old new → AppendsPairs (ps ++ p ∷ []) (lengths ++ two ∷ []) start new

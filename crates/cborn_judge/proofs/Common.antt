@@ -73,6 +73,6 @@ pub use Rattle.cborn_judge.specs.devices.Encoding.{Amid, AreArranged, AreEncoded
 pub use Rattle.cborn_judge.specs.devices.Hints.{Tells, front_of, hint_of, length_hint}
 pub use Rattle.cborn_judge.specs.devices.Marks.{AreAllHinted, AreHigher, AreHintedBy, AreSorted, FallAt, FallsIn, IsFall, IsTie, Keyed, Met, TiesIn, all_keyed, all_marks, between, key_of, keyed, last_filled, last_key, mark_of, mark_order, marks_of, narrow_of, pair_of, remembered, row_of}
 pub use Rattle.cborn_judge.specs.shared.Checked.{DefectIn, DefectInAll, DescentAt, IsEarliestDefect, LooseAt, SizeAt}
-pub use Rattle.cborn_judge.specs.shared.Judged.{FindsFlaw, FlawAmong, FlawIn, IsEarliestFlaw, RepeatFlaw}
+pub use Rattle.cborn_judge.specs.shared.Judged.{FindsFlaw, FlawIn, IsEarliestFlaw, RepeatFlaw}
 pub use Rattle.cborn_judge.specs.shared.Repeats.{IsAgain, IsOneOf, IsTied}
 pub use Rattle.cborn_judge.specs.shared.Tidy.{AllTidy, EntriesTidy, IsTidy, SizeIsTidy, spelled_pairs}

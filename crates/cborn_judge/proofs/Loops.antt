@@ -23,9 +23,8 @@ regrouped {A} {B} {C} {D} h = (to, (λ k. elim k [ inl a ↦ inl (inl a) | inr d
 module _ {A B : Type 0} (R : A → B → Type 0) where
   pub zip_append : (xs : List A) (ys : List B) (us : List A) (vs : List B) → AllZip R xs ys → AllZip R us vs → AllZip R (xs ++ us) (ys ++ vs)
   zip_append [] [] us vs h k = k
-  zip_append [] (b ∷ ys) us vs h k = absurd h
-  zip_append (a ∷ xs) [] us vs h k = absurd h
   zip_append (a ∷ xs) (b ∷ ys) us vs h k = (h.0, zip_append xs ys us vs h.1 k)
+  zip_append _ _ us vs h k = absurd h
 
   pub zip_more : (xs : List A) (ys : List B) (x : A) (y : B) → AllZip R xs ys → R x y → AllZip R (xs ++ x ∷ []) (ys ++ y ∷ [])
   zip_more xs ys x y h r = zip_append xs ys (x ∷ []) (y ∷ []) h (r, tt)

@@ -162,10 +162,8 @@ module _ {X : Type 0} (order : List ℕ → List ℕ → Ordering) (laws : IsKey
       apart x z l = go (counts (bytes x)) (counts (bytes z)) (eqb (position x) (position z)) refl refl
         where
           go : (a b c : Bool) → counts (bytes x) ≡ a → eqb (position x) (position z) ≡ c → a && (b && c) ≡ false
-          go false b c e f = refl
-          go true false c e f = refl
-          go true true false e f = refl
           go true true true e f = absurd (let m = eqb-true (position x) (position z) f in let k = l e in omega arith)
+          go _ _ _ e f = refl
 
       apart_from : (x : X) (xs : List X) → ((z : X) → IsOneOf z xs → counts (bytes x) ≡ true → position x < position z) → AllByRecursion (λ z. AtOnePlace x z ≡ false) xs
       apart_from x [] h = tt
@@ -190,12 +188,11 @@ module _ {X : Type 0} (order : List ℕ → List ℕ → Ordering) (laws : IsKey
 
   in_order_sorted : (ys : List X) → IsSortedBy (λ x y. is_lt (key_order order bytes position x y)) ys → IsDistinct AtOnePlace ys → InOrder ys
   unfolding IsDistinct
-  in_order_sorted [] s d = tt
-  in_order_sorted (x ∷ []) s d = tt
   in_order_sorted (x ∷ y ∷ ys) s d = (
     comes_from x y (s 0 x (omega arith) (omega arith)) d.0.0,
     in_order_sorted (y ∷ ys) (λ k e low l. rw add-one (rw add-one at (s (suc k) e (omega arith) (omega arith)))) d.1,
   )
+  in_order_sorted _ s d = tt
 
   -- keys in the order of their positions, once sorted
   pub sorted_in_order : (xs ys : List X) → LieBefore counts bytes position xs → IsPermutation xs ys → IsSortedBy (λ x y. is_lt (key_order order bytes position x y)) ys → InOrder ys

@@ -78,15 +78,13 @@ module _ (order : List ℕ → List ℕ → Ordering) where
 
     pub all_det : (ts : Trees) (vs : Values) → FitsAll ts → AllMean ts vs → AllTidy order ts → DetValues order vs (spelled_all ts)
     all_det no_item no_values f h d = refl
-    all_det no_item (value v vs) f h d = absurd h
-    all_det (more t ts) no_values f h d = absurd h
     all_det (more t ts) (value v vs) f h d = (spelled t, spelled_all ts, tidy_det t v f.0 h.0 d.0, all_det ts vs f.1 h.1 d.1, refl)
+    all_det _ _ f h d = absurd h
 
     pub entries_det : (es : Entries) (ps : Couples) → FitsEntries es → EntriesMean es ps → EntriesTidy order es → DetPairs order ps (spelled_pairs es)
     entries_det no_entry no_pairs f h d = tt
-    entries_det no_entry (pair a b ps) f h d = absurd h
-    entries_det (entry k v es) no_pairs f h d = absurd h
     entries_det (entry k v es) (pair a b ps) f h d = (tidy_det k a f.0 h.0 d.0, tidy_det v b f.1 h.1 d.1, entries_det es ps f.2 h.2 d.2)
+    entries_det _ _ f h d = absurd h
 
 -- ---- from the encoding to tidy
 
@@ -224,9 +222,8 @@ mutual
 
   all_proper : (order : List ℕ → List ℕ → Ordering) (ts : Trees) (vs : Values) → FitsAll ts → AllTidy order ts → AllMean ts vs → AreProper vs
   all_proper order no_item no_values f y h = tt
-  all_proper order no_item (value v vs) f y h = absurd h
-  all_proper order (more t ts) no_values f y h = absurd h
   all_proper order (more t ts) (value v vs) f y h = (tidy_proper order t v f.0 y.0 h.0, all_proper order ts vs f.1 y.1 h.1)
+  all_proper order _ _ f y h = absurd h
 
   pub entries_proper : (order : List ℕ → List ℕ → Ordering) (es : Entries) (ps : Couples) → FitsEntries es → EntriesTidy order es → EntriesMean es ps → HasProperPairs ps
   entries_proper order no_entry no_pairs f y h = tt

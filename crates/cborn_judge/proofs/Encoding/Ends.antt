@@ -258,9 +258,8 @@ map_ended order e k f o ts found s c is ends h outer same marks ended =
 
 pub length_marked : (p : ℕ) (rs : List Row) (ms : List Mark) → AreMarked p rs ms → length ms ≡ length rs
 length_marked p [] [] h = refl
-length_marked p [] (m ∷ ms) h = absurd h
-length_marked p (r ∷ rs) [] h = absurd h
 length_marked p (r ∷ rs) (m ∷ ms) h = ap suc (length_marked (p + length r.1 + length r.2) rs ms h.1)
+length_marked p _ _ h = absurd h
 
 -- fewer than two keys rise
 pub few_rise : (order : List ℕ → List ℕ → Ordering) (p : ℕ) (own : List Mark) (y : List ℕ) → length own < 2 → FindsDescent order p own y None

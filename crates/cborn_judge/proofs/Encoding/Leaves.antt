@@ -16,11 +16,8 @@ string_place p OfText w x = refl
 
 module _ (order : List ℕ → List ℕ → Ordering) where
   no_chunks : (outer : List Level) (l : Level) (f : Partial) (ms : List Mark) (y : List ℕ) → Stands order outer l f ms y → is_chunks l ≡ false → TakesItem f
-  no_chunks outer l (top ts) ms y s e = tt
-  no_chunks outer l (inside f (an_array p z n) ts) ms y s e = tt
-  no_chunks outer l (inside f (a_map p z n) ts) ms y s e = tt
-  no_chunks outer l (inside f (a_tag p w n) ts) ms y s e = tt
   no_chunks outer l (inside f (in_chunks p k) ts) ms y s e = let h : true ≡ false = sym (ap are_chunks s.12.opens.1) ∙ e in cc
+  no_chunks outer l _ ms y s e = tt
 
   -- a string that is none of chunks
   pub free_there : (outer : List Level) (l : Level) (f : Partial) (ms : List Mark) (y : List ℕ) → Stands order outer l f ms y → is_chunks l ≡ false → Proper f → IsFree f
@@ -54,11 +51,9 @@ module _ (order : List ℕ → List ℕ → Ordering) where
   pub chunk_there : (outer : List Level) (l : Level) (f : Partial) (ms : List Mark) (y : List ℕ) (p : ℕ) (k : StringKind) (w : Width) (x : List ℕ) (good : Bool) → Stands order outer l f ms y → is_chunks l ≡ true → TakesString f k → IsTrue good ↔ IsContent k x
       → IsChunk f (string_tree p k w x) (not good) (kept good x)
   chunk_there outer l (top ts) ms y p k w x good s e takes is = let h : false ≡ true = sym (ap are_chunks s.2) ∙ e in cc
-  chunk_there outer l (inside f (an_array q z n) ts) ms y p k w x good s e takes is = let h : false ≡ true = sym (ap are_chunks s.12.opens.1) ∙ e in cc
-  chunk_there outer l (inside f (a_map q z n) ts) ms y p k w x good s e takes is = let h : false ≡ true = sym (ap are_chunks s.12.opens.1) ∙ e in cc
-  chunk_there outer l (inside f (a_tag q v n) ts) ms y p k w x good s e takes is = let h : false ≡ true = sym (ap are_chunks s.12.opens.1) ∙ e in cc
   chunk_there outer l (inside f (in_chunks q j) ts) ms y p k w x good s e takes is =
       subst (λ i. IsChunk (inside f (in_chunks q i) ts) (string_tree p k w x) (not good) (kept good x)) (sym takes) (p, w, x, refl, chunk_content k good x is)
+  chunk_there outer l (inside f o ts) ms y p k w x good s e takes is = let h : false ≡ true = sym (ap are_chunks s.12.opens.1) ∙ e in cc
 
 -- ---- integers, simple values and strings in what an encoder holds
 

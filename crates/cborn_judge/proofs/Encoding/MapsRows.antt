@@ -36,10 +36,9 @@ module _ (order : List ℕ → List ℕ → Ordering) where
 
   pub paired_rows : (ts : List Tree) (rs : List Row) → last_key ts ≡ None → AreRows order ts rs → AllZip IsRow (paired ts) rs
   paired_rows [] [] l h = tt
-  paired_rows [] (r ∷ rs) l h = absurd h
   paired_rows (k ∷ []) rs l h = cc
-  paired_rows (k ∷ v ∷ ts) [] l h = absurd h
   paired_rows (k ∷ v ∷ ts) (r ∷ rs) l h = ((h.0, h.1, h.2), paired_rows ts rs l h.3)
+  paired_rows _ _ l h = absurd h
 
   not_empty : (v : Value) (x : List ℕ) → Det order v x → x ≢ []
   not_empty v x d e = omega (arith, some_bytes order v x d, ap length e)
@@ -104,14 +103,13 @@ module _ (order : List ℕ → List ℕ → Ordering) where
 
     row_repeated : (k : Tree) (a : Value) (x : List ℕ) (ns : List (Tree × Tree)) (rs : List Row) (p : ℕ) → IsProper a → Means k a → Det order a x → AllZip IsRow ns rs → IsSameKey x rs p → IsRepeated k (entries ns) p
     row_repeated k a x [] [] p g m d h r = absurd r
-    row_repeated k a x [] (r ∷ rs) p g m d h q = absurd h
-    row_repeated k a x (n ∷ ns) [] p g m d h q = absurd h
     row_repeated k a x (n ∷ ns) (r ∷ rs) p g m d h (inl q) = inl (q.0 ∙ h.0.0, by h.0.1)
       where
         by : Coded order n.0 r.1 → (b : Value) × (c : Value) × Means k b × Means n.0 c × Same b c
         by (inl c) = (a, c.0, m, c.1, same_of_one order a c.0 x g c.2 d (subst (Det order c.0) q.1 c.3))
         by (inr c) = absurd (not_empty a x d (sym q.1 ∙ c.0))
     row_repeated k a x (n ∷ ns) (r ∷ rs) p g m d h (inr q) = inr (row_repeated k a x ns rs p g m d h.1 q)
+    row_repeated k a x _ _ p g m d h q = absurd h
 
     repeat_row : (ns : List (Tree × Tree)) (rs : List Row) (p : ℕ) → AllZip IsRow ns rs → HasRepeat (entries ns) p → HasSameKeys rs p
     repeat_row [] rs p h q = absurd q
@@ -125,14 +123,13 @@ module _ (order : List ℕ → List ℕ → Ordering) where
 
     row_repeat : (ns : List (Tree × Tree)) (rs : List Row) (p : ℕ) → AllZip IsRow ns rs → HasSameKeys rs p → HasRepeat (entries ns) p
     row_repeat [] [] p h q = absurd q
-    row_repeat [] (r ∷ rs) p h q = absurd h
-    row_repeat (n ∷ ns) [] p h q = absurd h
     row_repeat (n ∷ ns) (r ∷ rs) p h (inl q) = by h.0.1
       where
         by : Coded order n.0 r.1 → HasRepeat (entries (n ∷ ns)) p
         by (inl c) = inl (row_repeated n.0 c.0 r.1 ns rs p c.2 c.1 c.3 h.1 q.1)
         by (inr c) = absurd (q.0 c.0)
     row_repeat (n ∷ ns) (r ∷ rs) p h (inr q) = inr (row_repeat ns rs p h.1 q)
+    row_repeat _ _ p h q = absurd h
 
     -- keys are the same exactly if their encodings are equal
     pub repeats : (ns : List (Tree × Tree)) (rs : List Row) → AllZip IsRow ns rs → (p : ℕ) (r : InvalidReason) → RowRepeat rs p r ↔ RepeatFlaw (entries ns) p r
@@ -172,17 +169,15 @@ module _ (order : List ℕ → List ℕ → Ordering) where
 
     falls : (m : Tree × Tree) (c : List ℕ) (ns : List (Tree × Tree)) (rs : List Row) (p : ℕ) → IsEncodedAs order m.0 c → AllZip IsRow ns rs → AreFilled rs → Falls order c rs p → Descends order m.0 (entries ns) p
     falls m c [] [] p d h f q = q
-    falls m c [] (r ∷ rs) p d h f q = absurd h
-    falls m c (n ∷ ns) [] p d h f q = absurd h
     falls m c (n ∷ ns) (r ∷ rs) p d h f (inl q) = inl (q.0 ∙ h.0.0, (above_by_code order laws m n c r.1 d (encoded n.0 r.1 f.0.0 h.0.1)).1 q.1)
     falls m c (n ∷ ns) (r ∷ rs) p d h f (inr q) = inr (falls n r.1 ns rs p (encoded n.0 r.1 f.0.0 h.0.1) h.1 f.1 q)
+    falls m c _ _ p d h f q = absurd h
 
     descends : (m : Tree × Tree) (c : List ℕ) (ns : List (Tree × Tree)) (rs : List Row) (p : ℕ) → IsEncodedAs order m.0 c → AllZip IsRow ns rs → AreFilled rs → Descends order m.0 (entries ns) p → Falls order c rs p
     descends m c [] [] p d h f q = q
-    descends m c [] (r ∷ rs) p d h f q = absurd h
-    descends m c (n ∷ ns) [] p d h f q = absurd h
     descends m c (n ∷ ns) (r ∷ rs) p d h f (inl q) = inl (q.0 ∙ sym h.0.0, (above_by_code order laws m n c r.1 d (encoded n.0 r.1 f.0.0 h.0.1)).0 q.1)
     descends m c (n ∷ ns) (r ∷ rs) p d h f (inr q) = inr (descends n r.1 ns rs p (encoded n.0 r.1 f.0.0 h.0.1) h.1 f.1 q)
+    descends m c _ _ p d h f q = absurd h
 
     fall : (ns : List (Tree × Tree)) (rs : List Row) (p : ℕ) → AllZip IsRow ns rs → AreFilled rs → HasFall order rs p ↔ HasDescent order (entries ns) p
     fall [] [] p h f = ((λ q. q), (λ q. q))

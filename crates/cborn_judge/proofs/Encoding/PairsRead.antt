@@ -26,10 +26,9 @@ marked_read b y (r ∷ rows) (m ∷ ms) p q e a =
 -- each begins at this place or after it
 marked_from : (rows : List Row) (ms : List Mark) (p : ℕ) (z : Mark) → AreMarked p rows ms → IsOneOf z ms → p ≤ z.1
 marked_from [] [] p z a i = absurd i
-marked_from [] (m ∷ ms) p z a i = absurd a
-marked_from (r ∷ rows) [] p z a i = absurd a
 marked_from (r ∷ rows) (m ∷ ms) p z a (inl e) = let f : z.1 ≡ p = ap (λ (x : Mark). x.1) (e ∙ a.0) in omega arith
 marked_from (r ∷ rows) (m ∷ ms) p z a (inr i) = let f = marked_from rows ms (p + length r.1 + length r.2) z a.1 i in omega arith
+marked_from _ _ p z a i = absurd a
 
 abbrev pub is_filled : List ℕ → Bool
 is_filled [] = false
@@ -75,12 +74,11 @@ split_at b s m e l k =
 
 pub marked_split : (b : List ℕ) (rows : List Row) (ms : List Mark) (p : ℕ) → AreMarked p rows ms → AllByRecursion (IsSplit b) ms
 marked_split b [] [] p a = tt
-marked_split b [] (m ∷ ms) p a = absurd a
-marked_split b (r ∷ rows) [] p a = absurd a
 marked_split b (r ∷ rows) (m ∷ ms) p a = (
   subst (IsSplit b) (sym a.0) (split_at b p (p + length r.1) (p + length r.1 + length r.2) (omega arith) (omega arith)),
   marked_split b rows ms (p + length r.1 + length r.2) a.1,
 )
+marked_split b _ _ p a = absurd a
 
 pub all_split : (b : List ℕ) (ms : List Mark) → AllByRecursion (IsSplit b) ms → flat_map (pair_of b) ms ≡ joined (row_entries (map (row_of b) ms))
 all_split b [] h = refl

@@ -20,10 +20,9 @@ zip_front (t ∷ ts) us [] h = absurd h
 zip_front (t ∷ ts) us (w ∷ ws) h = let r = zip_front ts us ws h.1 in (w ∷ r.0, (h.0, r.1))
 
 zip_last : (ts : List Tree) (t : Tree) (ws : List Value) → AllZip Means (ts ++ t ∷ []) ws → (v : Value) × Means t v
-zip_last [] t [] h = absurd h
 zip_last [] t (w ∷ ws) h = (w, h.0)
-zip_last (s ∷ ts) t [] h = absurd h
 zip_last (s ∷ ts) t (w ∷ ws) h = zip_last ts t ws h.1
+zip_last _ t _ h = absurd h
 
 -- one node: it means nothing exactly if it is bad
 abbrev pub IsVerdict : Bool → Tree → Type 0
@@ -77,16 +76,14 @@ module _ (order : List ℕ → List ℕ → Ordering) where
   -- one more, if none means nothing
   pub contents_more : (b bad : Bool) (ts : List Tree) (t : Tree) (y x : List ℕ) → (b ≡ false → AreEncodedAs order ts y) → Verdict bad t x → (b || bad) ≡ false → AreEncodedAs order (ts ++ t ∷ []) (y ++ x)
   contents_more false false ts t y x a v e = encoded_more ts t y x (a refl) v
-  contents_more false true ts t y x a v e = cc
-  contents_more true bad ts t y x a v e = cc
+  contents_more _ _ ts t y x a v e = cc
 
   counted : (n : ℕ) (ts us : List Tree) (y : List ℕ) → n ≡ length ts → AreEncodedAs order (ts ++ us) y → length y < 2 ^ 64 → (n + length us) % 2 ^ 64 ≡ length (ts ++ us)
   counted n ts us y e a l = omega (arith, e, as_long (ts ++ us) a.0 y a.1 a.3, l, length-append ts us)
 
   pub counted_more : (b bad : Bool) (n : ℕ) (ts : List Tree) (t : Tree) (y x : List ℕ) → (b ≡ false → AreEncodedAs order ts y × (n ≡ length ts)) → Verdict bad t x → length (y ++ x) < 2 ^ 64 → (b || bad) ≡ false → (n + 1) % 2 ^ 64 ≡ length (ts ++ t ∷ [])
   counted_more false false n ts t y x a v l e = let c = a refl in counted n ts (t ∷ []) (y ++ x) c.1 (encoded_more ts t y x c.0 v) l
-  counted_more false true n ts t y x a v l e = cc
-  counted_more true bad n ts t y x a v l e = cc
+  counted_more _ _ n ts t y x a v l e = cc
 
   -- ---- the pairs of a map
 
@@ -96,14 +93,13 @@ module _ (order : List ℕ → List ℕ → Ordering) where
 
   key_more : (ts : List Tree) (t : Tree) (rs : List Row) (x : List ℕ) → is_odd ts ≡ false → AreRows order ts rs → Coded order t x → AreRows order (ts ++ t ∷ []) (rs ++ (place t, x, []) ∷ [])
   key_more [] t [] x e a c = (refl, c, refl)
-  key_more [] t (r ∷ rs) x e a c = absurd a
   key_more (k ∷ []) t rs x e a c = absurd (true≢false e)
-  key_more (k ∷ v ∷ ts) t [] x e a c = absurd a
   key_more (k ∷ v ∷ ts) t (r ∷ rs) x e a c = (a.0, a.1, a.2, key_more ts t rs x (twice (is_odd ts) e) a.3 c)
     where
       twice : (b : Bool) → not (not b) ≡ false → b ≡ false
       twice true e = e
       twice false e = refl
+  key_more _ t _ x e a c = absurd a
 
   value_more : (ts : List Tree) (t : Tree) (rs : List Row) (x : List ℕ) → is_odd ts ≡ true → AreRows order ts rs → Coded order t x
       → (qs : List Row) × (r : Row) × (rs ≡ qs ++ r ∷ []) × (r.2 ≡ []) × AreRows order (ts ++ t ∷ []) (qs ++ (r.0, r.1, x) ∷ [])
@@ -383,16 +379,12 @@ module _ (order : List ℕ → List ℕ → Ordering) where
 
   chunk_contents : (c bad : Bool) (ts : List Tree) (k : StringKind) (t : Tree) (q : ℕ) (w : Width) (b z x : List ℕ) → t ≡ string_tree q k w b → IsChunkContent bad k b x → (c ≡ false → z ≡ joined_chunks (chunks_of ts)) → (c || bad) ≡ false → z ++ x ≡ joined_chunks (chunks_of (ts ++ t ∷ []))
   chunk_contents false false ts k t q w b z x e i h n = (λ j. h refl j ++ i.1 j) ∙ sym (chunk_joined ts k t q w b e)
-  chunk_contents false true ts k t q w b z x e i h n = cc
-  chunk_contents true bad ts k t q w b z x e i h n = cc
+  chunk_contents _ _ ts k t q w b z x e i h n = cc
 
   pub stands_chunk : (outer : List Level) (l : Level) (f : Partial) (t : Tree) (ms : List Mark) (y x : List ℕ) (bad : Bool) → IsChunk f t bad x → Stands order outer l f ms y → Stands order outer (after l bad) (put f t) ms (y ++ x)
-  stands_chunk outer l (top ts) t ms y x bad c s = absurd c
-  stands_chunk outer l (inside f (an_array p z n) ts) t ms y x bad c s = absurd c
-  stands_chunk outer l (inside f (a_map p z n) ts) t ms y x bad c s = absurd c
-  stands_chunk outer l (inside f (a_tag p z n) ts) t ms y x bad c s = absurd c
   stands_chunk outer l (inside f (in_chunks p k) ts) t ms y x bad c s =
       let h = s.12 in
       stands_more outer l (after l bad) f (in_chunks p k) ts (ts ++ t ∷ []) ms ms s.5 y x s refl refl s.8
       (inner_more l (after l bad) (in_chunks p k) ts (ts ++ t ∷ []) s.5 s.5 s.3 x h h.opens h.content (sound_more l.flawed bad ts t h.sound (chunk_verdict k t c.0 c.1 c.2 x bad c.3 c.4))
       (h.contains.0, λ e. chunk_contents l.flawed bad ts k t c.0 c.1 c.2 h.contents x c.3 c.4 h.contains.1 e))
+  stands_chunk outer l _ t ms y x bad c s = absurd c

@@ -211,20 +211,18 @@ mutual
 
   all_shallow : (ts : Trees) (vs : Values) → ((q : Tree) → WithinAll q ts → IsWord q) → AllMean ts vs → values_depth vs ≤ depth_all ts
   all_shallow no_item no_values f h = omega arith
-  all_shallow no_item (value v vs) f h = absurd h
-  all_shallow (more t ts) no_values f h = absurd h
   all_shallow (more t ts) (value v vs) f h = omega (arith, means_shallow t v (λ q i. f q (inl i)) h.0, all_shallow ts vs (λ q i. f q (inr i)) h.1)
+  all_shallow _ _ f h = absurd h
 
   entries_shallow : (es : Entries) (ps : Couples) → ((q : Tree) → WithinEntries q es → IsWord q) → EntriesMean es ps → pairs_depth ps ≤ depth_entries es
   entries_shallow no_entry no_pairs f h = omega arith
-  entries_shallow no_entry (pair a b ps) f h = absurd h
-  entries_shallow (entry k v es) no_pairs f h = absurd h
   entries_shallow (entry k v es) (pair a b ps) f h = omega (
     arith,
     means_shallow k a (λ q i. f q (inl i)) h.0,
     means_shallow v b (λ q i. f q (inr (inl i))) h.1,
     entries_shallow es ps (λ q i. f q (inr (inr i))) h.2,
   )
+  entries_shallow _ _ f h = absurd h
 
 -- each integer of a node that fits its head has at most 64 bits
 mutual
@@ -257,19 +255,17 @@ meaning_shallow t v f h = means_shallow t v (words_fit t f) h
 
 values_built : (ns : List Tree) (items : List Item) (vs : Values) → AllZip IsItemOf ns items → AllMean (trees ns) vs → values_of (map item_value items) ≡ vs
 values_built [] [] no_values h m = refl
-values_built [] [] (value v vs) h m = absurd m
 values_built [] (x ∷ xs) vs h m = absurd h
 values_built (n ∷ ns) [] vs h m = absurd h
-values_built (n ∷ ns) (x ∷ xs) no_values h m = absurd m
 values_built (n ∷ ns) (x ∷ xs) (value v vs) h m = λ i. value (h.0 v m.0 i) (values_built ns xs vs h.1 m.1 i)
+values_built _ _ _ h m = absurd m
 
 couples_built : (ns : List (Tree × Tree)) (pairs : List (Item × Item)) (ps : Couples) → AllZip IsPairOf ns pairs → EntriesMean (entries ns) ps → pairs_of (map pair_value pairs) ≡ ps
 couples_built [] [] no_pairs h m = refl
-couples_built [] [] (pair a b ps) h m = absurd m
 couples_built [] (x ∷ xs) ps h m = absurd h
 couples_built (n ∷ ns) [] ps h m = absurd h
-couples_built (n ∷ ns) (x ∷ xs) no_pairs h m = absurd m
 couples_built (n ∷ ns) (x ∷ xs) (pair a b ps) h m = λ i. pair (h.0.0 a m.0 i) (h.0.1 b m.1 i) (couples_built ns xs ps h.1 m.2 i)
+couples_built _ _ _ h m = absurd m
 
 -- once a loop has passed all
 pub array_built : (p : ℕ) (s : Size) (ns : List Tree) (i : ℕ) (items : List Item) (l : List Value) (v : Value) → length ns ≤ i → AllZip IsItemOf (take i ns) items → l ≡ map item_value items → Means (Items p s (trees ns)) v → array (values_of l) ≡ v

@@ -2,7 +2,7 @@
 use Rattle.std.specs.Prelude.{◌≡◌}
 use Rattle.cborn_judge.specs.Common.{ℕ, Option, Trees, Entries, Tree, IsEarliest, Finds, InvalidReason, DuplicateKey}
 use Rattle.cborn_judge.specs.Reasons.{flaw_rank}
-use Rattle.cborn_judge.specs.Flaws.{WithinAll, WithinEntries, HasRepeat, FlawAt}
+use Rattle.cborn_judge.specs.Flaws.{WithinAll, HasRepeat, FlawAt}
 use Rattle.cborn_judge.specs.declared.flaws.Flaw as flaw
 
 -- ---- what was found
@@ -15,12 +15,9 @@ FindsFlaw = Finds flaw_rank (λ f. f.place) (λ f. f.reason)
 
 -- ---- flaws
 
--- the flaws of some nodes, and of the keys and values of some pairs, each by itself
+-- the flaws of some nodes, each by itself
 abbrev pub FlawIn : Trees → ℕ → InvalidReason → Type 0
 FlawIn ts p r = (q : Tree) × WithinAll q ts × FlawAt q p r
-
-abbrev pub FlawAmong : Entries → ℕ → InvalidReason → Type 0
-FlawAmong es p r = (q : Tree) × WithinEntries q es × FlawAt q p r
 
 -- a key at this place is the same as an earlier one
 abbrev pub RepeatFlaw : Entries → ℕ → InvalidReason → Type 0
