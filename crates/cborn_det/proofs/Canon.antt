@@ -152,6 +152,31 @@ values_count (value v vs) (value w ws) h = ap suc (values_count vs ws h.1)
 values_count _ _ h = absurd h
 
 module _ (order : List ℕ → List ℕ → Ordering) (laws : IsKeyOrder order) where
+  -- an item has one encoding
+  mutual
+    pub one_det : (v : Value) (x y : List ℕ) → Det order v x → Det order v y → x ≡ y
+    one_det (integer s m) x y d e = integer_same s m x y d e
+    one_det (bytes b) x y d e = string_same 2 b b x y refl d e
+    one_det (text b) x y d e = string_same 3 b b x y refl d e
+    one_det (array vs) x y d e = d.4 ∙ (λ i. head_same 4 (value_count vs) (value_count vs) d.0 e.0 refl d.2 e.2 i ++ one_values vs d.1 e.1 d.3 e.3 i) ∙ sym e.4
+    one_det (dict ps) x y d e =
+        let moved : IsPermutation d.1 e.2 = subst (λ l. IsPermutation l e.2) (sym (one_pairs ps d.1 e.1 d.4 e.4)) e.5 in
+        let arranged_one : d.2 ≡ e.2 = one_arrangement order laws d.1 d.2 e.2 d.5 moved d.6 e.6 in
+        d.7 ∙ (λ i. head_same 5 (pair_count ps) (pair_count ps) d.0 e.0 refl d.3 e.3 i ++ joined (arranged_one i)) ∙ sym e.7
+    one_det (tagged t v) x y d e = d.4 ∙ (λ i. head_same 6 t t d.0 e.0 refl d.2 e.2 i ++ one_det v d.1 e.1 d.3 e.3 i) ∙ sym e.4
+    one_det (simple n) x y d e = head_same 7 n n x y refl d.1 e.1
+
+    one_values : (vs : Values) (c d : List ℕ) → DetValues order vs c → DetValues order vs d → c ≡ d
+    one_values no_values c d e f = e ∙ sym f
+    one_values (value v vs) c d e f = e.4 ∙ (λ i. one_det v e.0 f.0 e.2 f.2 i ++ one_values vs e.1 f.1 e.3 f.3 i) ∙ sym f.4
+
+    one_pairs : (ps : Couples) (es fs : List Entry) → DetPairs order ps es → DetPairs order ps fs → es ≡ fs
+    one_pairs no_pairs [] [] d e = refl
+    one_pairs (pair k v ps) (g ∷ es) (h ∷ fs) d e = λ i. (one_det k g.0 h.0 d.0 e.0 i, one_det v g.1 h.1 d.1 e.1 i) ∷ one_pairs ps es fs d.2 e.2 i
+    one_pairs no_pairs [] (h ∷ fs) d e = absurd e
+    one_pairs (pair k v ps) (g ∷ es) [] d e = absurd e
+    one_pairs _ _ fs d e = absurd d
+
   -- items that are the same have one encoding
   mutual
     pub one_of_same : (a b : Value) (x y : List ℕ) → IsProper a → IsProper b → Same a b → Det order a x → Det order b y → x ≡ y

@@ -2,8 +2,7 @@ use Rattle.std.specs.Prelude.{◌≡◌, ◌↔◌}
 use Rattle.cborn_det.proofs.Common.{Bool, true, false, IsTrue, Decides, sym, refl, ◌∙◌, subst, Det}
 use Rattle.std.proofs.lemmas.Bool.Decides.{Decides-eqb}
 use Rattle.std.proofs.lemmas.Slice.Eq.{slice_eq-Decides}
-use Rattle.cborn_det.proofs.Canon.{same_of_one, one_of_same}
-use Rattle.cborn_model.proofs.SameItems.Sameness.{same_itself}
+use Rattle.cborn_det.proofs.Canon.{same_of_one, one_of_same, one_det}
 use Rattle.cborn_det.proofs.encoding.equal_bytes.Goals as goal
 
 from_decides : (b : Bool) (P : Type 0) → Decides b P → IsTrue b ↔ P
@@ -26,7 +25,7 @@ returns g c =
         λ h. equal.1 (one_of_same order laws c.args.a.now c.args.b.now first second p q h a b),
       );
       bytes = λ x y d e.
-          let one = one_of_same order laws c.args.a.now c.args.a.now x first p p (same_itself c.args.a.now) d a in
-          let two = one_of_same order laws c.args.b.now c.args.b.now y second q q (same_itself c.args.b.now) e b in
+          let one = one_det order laws c.args.a.now x first d a in
+          let two = one_det order laws c.args.b.now y second e b in
           (λ h. one ∙ equal.0 h ∙ sym two, λ i. equal.1 (sym one ∙ i ∙ two));
     }
