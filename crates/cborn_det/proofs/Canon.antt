@@ -119,22 +119,20 @@ module _ (order : List ℕ → List ℕ → Ordering) where
 
     values_of_one : (vs ws : Values) (c : List ℕ) → AreProper vs → AreProper ws → value_count vs ≡ value_count ws → DetValues order vs c → DetValues order ws c → SameValues vs ws
     values_of_one no_values no_values c p q l d e = tt
-    values_of_one no_values (value w ws) c p q l d e = absurd (omega arith)
-    values_of_one (value v vs) no_values c p q l d e = absurd (omega arith)
     values_of_one (value v vs) (value w ws) c p q l d e =
         let t = reads order v d.0 d.2 w e.0 d.1 e.1 e.2 (sym d.4 ∙ e.4) in (
           same_of_one v w d.0 p.0 q.0 d.2 (subst (Det order w) (sym t.0) e.2),
           values_of_one vs ws d.1 p.1 q.1 (omega arith) d.3 (subst (DetValues order ws) (sym t.1) e.3),
         )
+    values_of_one _ _ c p q l d e = absurd (omega arith)
 
     pairs_of_one : (ps : Couples) (rs : List (Value × Value)) (es : List Entry) → HasProperPairs ps → AllByRecursion IsProperPair rs → DetPairs order ps es → AllZip DetPair rs es → SamePairs ps rs
     pairs_of_one no_pairs [] [] p q d z = tt
-    pairs_of_one no_pairs (r ∷ rs) [] p q d z = absurd z
     pairs_of_one no_pairs rs (e ∷ es) p q d z = absurd d
     pairs_of_one (pair k v ps) rs [] p q d z = absurd d
-    pairs_of_one (pair k v ps) [] (e ∷ es) p q d z = absurd z
     pairs_of_one (pair k v ps) (r ∷ rs) (e ∷ es) p q d z =
         (same_of_one k r.0 e.0 p.0 q.0.0 d.0 z.0.0, same_of_one v r.1 e.1 p.1 q.0.1 d.1 z.0.1, pairs_of_one ps rs es p.2 q.1 d.2 z.1)
+    pairs_of_one _ _ _ p q d z = absurd z
 
 head_same : (j n k : ℕ) (h g : List ℕ) → n ≡ k → IsLeastHead j n h → IsLeastHead j k g → h ≡ g
 head_same j n k h g e p q = p.1 ∙ ap (λ z. (32 * j + information (least z) z) ∷ following (least z) z) e ∙ sym q.1
@@ -209,12 +207,11 @@ module _ (order : List ℕ → List ℕ → Ordering) (laws : IsKeyOrder order) 
     one_of_pairs no_pairs [] [] [] p q h d z = refl
     one_of_pairs (pair k v ps) (r ∷ rs) (e ∷ es) (g ∷ gs) p q h d z =
         λ i. (one_of_same k r.0 e.0 g.0 p.0 q.0.0 h.0 d.0 z.0.0 i, one_of_same v r.1 e.1 g.1 p.1 q.0.1 h.1 d.1 z.0.1 i) ∷ one_of_pairs ps rs es gs p.2 q.1 h.2 d.2 z.1 i
-    one_of_pairs no_pairs (r ∷ rs) es gs p q h d z = absurd h
     one_of_pairs no_pairs [] (e ∷ es) gs p q h d z = absurd d
     one_of_pairs no_pairs [] [] (g ∷ gs) p q h d z = absurd z
-    one_of_pairs (pair k v ps) [] es gs p q h d z = absurd h
     one_of_pairs (pair k v ps) (r ∷ rs) [] gs p q h d z = absurd d
     one_of_pairs (pair k v ps) (r ∷ rs) (e ∷ es) [] p q h d z = absurd z
+    one_of_pairs _ _ es gs p q h d z = absurd h
 
 -- ---- each valid item has an encoding
 
@@ -238,10 +235,9 @@ module _ (order : List ℕ → List ℕ → Ordering) (laws : IsKeyOrder order) 
   -- a key that is the same as none of these has an encoding of its own
   new_apart : (k : Value) (c : List ℕ) (ps : Couples) (es : List Entry) → IsProper k → Det order k c → HasProperPairs ps → IsNew k ps → DetPairs order ps es → AllByRecursion (λ (g : Entry). c ≡ g.0 → ⊥) es
   new_apart k c no_pairs [] p d q n e = tt
-  new_apart k c no_pairs (g ∷ gs) p d q n e = absurd e
-  new_apart k c (pair l v ps) [] p d q n e = absurd e
   new_apart k c (pair l v ps) (g ∷ gs) p d q n e =
       (λ i. n.0 (same_of_one order k l c p q.0 d (subst (Det order l) (sym i) e.0)), new_apart k c ps gs p d q.2 n.1 e.2)
+  new_apart k c _ _ p d q n e = absurd e
 
   pub distinct_keys : (ps : Couples) (es : List Entry) → HasProperPairs ps → HasNewKeys ps → DetPairs order ps es → HasDistinctKeys es
   distinct_keys no_pairs [] p n d = tt
@@ -303,10 +299,9 @@ module _ (order : List ℕ → List ℕ → Ordering) (laws : IsKeyOrder order) 
 
   pub one_of_seq : (vs ws : List Value) (x y : List ℕ) → AllByRecursion IsProper vs → AllByRecursion IsProper ws → AllZip Same vs ws → DetSeq order vs x → DetSeq order ws y → x ≡ y
   one_of_seq [] [] x y p q h d e = d ∙ sym e
-  one_of_seq [] (w ∷ ws) x y p q h d e = absurd h
-  one_of_seq (v ∷ vs) [] x y p q h d e = absurd h
   one_of_seq (v ∷ vs) (w ∷ ws) x y p q h d e =
       d.4 ∙ (λ i. one_of_same order laws v w d.0 e.0 p.0 q.0 h.0 d.2 e.2 i ++ one_of_seq vs ws d.1 e.1 p.1 q.1 h.1 d.3 e.3 i) ∙ sym e.4
+  one_of_seq _ _ x y p q h d e = absurd h
 
   pub seq_exists : (vs : List Value) → AllByRecursion IsProper vs → (x : List ℕ) × DetSeq order vs x
   seq_exists vs p = let t = values_exist (values_of vs) (are_proper vs p) in (t.0, seq_of_values order vs t.0 t.1)

@@ -135,8 +135,6 @@ module _ (order : List ℕ → List ℕ → Ordering) where
   -- entries in one order at the front of a list are no others
   pub joined_reads : (es fs : List Entry) (r s : List ℕ) → length es ≡ length fs → AllByRecursion EntryReads es → AllByRecursion Lies fs → joined es ++ r ≡ joined fs ++ s → (es ≡ fs) × (r ≡ s)
   joined_reads [] [] r s l g h q = (refl, q)
-  joined_reads [] (f ∷ fs) r s l g h q = absurd (omega arith)
-  joined_reads (e ∷ es) [] r s l g h q = absurd (omega arith)
   joined_reads (e ∷ es) (f ∷ fs) r s l g h q =
       let whole : e.0 ++ (e.1 ++ (joined es ++ r)) ≡ f.0 ++ (f.1 ++ (joined fs ++ s)) =
       sym (append_assoc e.0 e.1 (joined es ++ r)) ∙ sym (append_assoc (e.0 ++ e.1) (joined es) r) ∙ q ∙ append_assoc (f.0 ++ f.1) (joined fs) s ∙ append_assoc f.0 f.1 (joined fs ++ s) in
@@ -144,6 +142,7 @@ module _ (order : List ℕ → List ℕ → Ordering) where
       let u = g.0.1 h.0.1 f.1 (joined es ++ r) (joined fs ++ s) h.0.4 t.1 in
       let w = joined_reads es fs r s (omega arith) g.1 h.1 u.1 in
       (λ i. (t.0 i, u.0 i) ∷ w.0 i, w.1)
+  joined_reads _ _ r s l g h q = absurd (omega arith)
 
   string_reads : (m : Major) (b h x : List ℕ) → IsLeastHead (code m) (length b) h → x ≡ h ++ b → ((d : List ℕ) → Followed m (length b) d → length d ≡ length b) → Reads x
   string_reads m b h x p is long = reads_from m (length b) h b x p is (λ d r s f q. append_same b d r s (sym (long d f)) q)
@@ -167,13 +166,12 @@ module _ (order : List ℕ → List ℕ → Ordering) where
 
     values_read : (vs : Values) (c : List ℕ) → DetValues order vs c → (ws : Values) (d r s : List ℕ) → value_count vs ≡ value_count ws → DetValues order ws d → c ++ r ≡ d ++ s → (c ≡ d) × (r ≡ s)
     values_read no_values c e no_values d r s l g q = (e ∙ sym g, sym (ap (λ l. l ++ r) e) ∙ q ∙ ap (λ l. l ++ s) g)
-    values_read no_values c e (value w ws) d r s l g q = absurd (omega arith)
-    values_read (value v vs) c e no_values d r s l g q = absurd (omega arith)
     values_read (value v vs) c e (value w ws) d r s l g q =
         let front : e.0 ++ (e.1 ++ r) ≡ g.0 ++ (g.1 ++ s) = sym (append_assoc e.0 e.1 r) ∙ ap (λ l. l ++ r) (sym e.4) ∙ q ∙ ap (λ l. l ++ s) g.4 ∙ append_assoc g.0 g.1 s in
         let t = reads v e.0 e.2 w g.0 (e.1 ++ r) (g.1 ++ s) g.2 front in
         let u = values_read vs e.1 e.3 ws g.1 r s (omega arith) g.3 t.1 in
         (e.4 ∙ (λ i. t.0 i ++ u.0 i) ∙ sym g.4, u.1)
+    values_read _ c e _ d r s l g q = absurd (omega arith)
 
     pub pairs_read : (ps : Couples) (es : List Entry) → DetPairs order ps es → AllByRecursion EntryReads es
     pairs_read no_pairs [] d = tt

@@ -243,19 +243,17 @@ module _ (order : List ℕ → List ℕ → Ordering) where
         let e : length x ≡ length d.0 + length d.1 = ap length d.4 ∙ length-append d.0 d.1 in
         let l : length (spelled_all (more t ts)) ≡ length (spelled t) + length (spelled_all ts) = length-append (spelled t) (spelled_all ts) in
         omega (arith, e, l, item_room t v d.0 f.0 m.0 d.2, values_room ts vs d.1 f.1 m.1 d.3)
-    values_room no_item (value v vs) x f m d = absurd m
-    values_room (more t ts) no_values x f m d = absurd m
+    values_room _ _ x f m d = absurd m
 
     entries_room : (es : Entries) (ps : Couples) (written : List Entry) → FitsEntries es → EntriesMean es ps → DetPairs order ps written → 3 * length (joined written) + count_entries es ≤ 4 * length (spelled_entries es)
     entries_room no_entry no_pairs [] f m d = omega arith
-    entries_room no_entry no_pairs (w ∷ ws) f m d = absurd d
     entries_room (entry k v es) (pair a b ps) (w ∷ ws) f m d =
         let e : length (joined (w ∷ ws)) ≡ length (w.0 ++ w.1) + length (joined ws) = length-append (w.0 ++ w.1) (joined ws) in
         let l : length (spelled_entries (entry k v es)) ≡ length (spelled k ++ spelled v) + length (spelled_entries es) = length-append (spelled k ++ spelled v) (spelled_entries es) in
         omega (arith, e, l, length-append w.0 w.1, length-append (spelled k) (spelled v), item_room k a w.0 f.0 m.0 d.0, item_room v b w.1 f.1 m.1 d.1, entries_room es ps ws f.2 m.2 d.2)
-    entries_room (entry k v es) (pair a b ps) [] f m d = absurd d
     entries_room no_entry (pair a b ps) written f m d = absurd m
     entries_room (entry k v es) no_pairs written f m d = absurd m
+    entries_room _ _ _ f m d = absurd d
 
   pub sequence_room : (nodes : List Tree) (vs : List Value) (x : List ℕ) → FitsAll (trees nodes) → AllZip Means nodes vs → DetSeq order vs x → 3 * length x + length nodes ≤ 4 * length (spelled_all (trees nodes))
   sequence_room [] [] x f m d = let e : length x ≡ 0 = ap length d in omega (arith, e)
@@ -263,5 +261,4 @@ module _ (order : List ℕ → List ℕ → Ordering) where
       let e : length x ≡ length d.0 + length d.1 = ap length d.4 ∙ length-append d.0 d.1 in
       let l : length (spelled_all (trees (t ∷ ts))) ≡ length (spelled t) + length (spelled_all (trees ts)) = length-append (spelled t) (spelled_all (trees ts)) in
       omega (arith, e, l, item_room t v d.0 f.0 m.0 d.2, sequence_room ts vs d.1 f.1 m.1 d.3)
-  sequence_room [] (v ∷ vs) x f m d = absurd m
-  sequence_room (t ∷ ts) [] x f m d = absurd m
+  sequence_room _ _ x f m d = absurd m

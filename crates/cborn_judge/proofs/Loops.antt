@@ -10,6 +10,9 @@ passed_one {A} xs i x l e = take_more xs i x l ∙ ap (λ (z : A). take i xs ++ 
 pub same : {A : Type 0} → A ↔ A
 same = ((λ h. h), (λ h. h))
 
+pub both_ways : {A B C D : Type 0} → A ↔ C → B ↔ D → (A ⊎ B) ↔ (C ⊎ D)
+both_ways h k = ((λ x. elim x [ inl a ↦ inl (h.0 a) | inr b ↦ inr (k.0 b) ]), (λ x. elim x [ inl c ↦ inl (h.1 c) | inr d ↦ inr (k.1 d) ]))
+
 pub regrouped : {A B C D : Type 0} → (B ⊎ C) ↔ D → ((A ⊎ B) ⊎ C) ↔ (A ⊎ D)
 regrouped {A} {B} {C} {D} h = (to, (λ k. elim k [ inl a ↦ inl (inl a) | inr d ↦ elim (h.1 d) [ inl b ↦ inl (inr b) | inr c ↦ inr c ] ]))
   where

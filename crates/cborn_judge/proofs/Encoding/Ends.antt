@@ -1,8 +1,10 @@
 -- What the end of a container, of a string in chunks or of a tag gives.
 use Rattle.std.specs.Prelude.{◌≡◌, ◌+◌, ◌<◌, ◌^◌, ◌++◌, ◌-◌, ◌∷◌, ◌≢◌, ◌⊎◌, ◌≤◌, ◌||◌}
-use Rattle.cborn_judge.proofs.Common.{ℕ, inl, inr, List, [], length, take, drop, refl, sym, ap, ◌∙◌, subst, arith, true, false, Bool, Option, None, Some, append_assoc, append-nil, length-append, drop_at, take_at, Ordering, AllZip-long, Size, IsLeastHead, Means, IsAll, Tree, Items, trees, array, values_of, value_count, Replaces, IsHeadFront, Coded, AreEncodedAs, IsSound, MeansNothing, values_of_seq, AllZip, StringKind, OfBytes, OfText, EndlessLength, AreBytes, code, joined_chunks, ChunksAreText, AreStrings, chunks_of, chunks_tree, Bytes, Text, Value, bytes, text, FindsDefect, kind_major, bytes-right, Bor, eqb, slice_range, MatchOption, unwrap_or, take_all, Width, BadBignum, IsShortest, big_endian, IsByteString, last_of, Tagged, IsProper, integer, tagged, Det, IsInteger, bignum_tag, LongAt, FlawAt, LooseAt, FindsFlaw, IsEncodedAs, tags, Either, SomeDefect, true≢false, Partial, inside, Ends, Opening, an_array, a_map, a_tag, in_chunks, Mark, Opens, Inner, Stands, marks_of, StandsIn, EndsWell, HasEnded, Encodings, Container, Level, suc, is_some, IsKeyOrder, paired, ended_size, built, flaw_rank, entries, IsEarliestDefect, DescentAt, SizeAt, RepeatFlaw, DuplicateKey, HasRepeat, Row, AreMarked, RowRepeat, AreFilled, RowDescent, FindsDescent, AreArranged, AreRows, IsFront, OwnFlaw, OwnDefect, found_alike, SomeFlaw}
+use Rattle.cborn_judge.proofs.Common.{ℕ, OnOk, Result, on_ok, IsFree, IsHeld, put, no_part, Finds, inl, inr, List, [], length, take, drop, refl, sym, ap, ◌∙◌, subst, arith, true, false, Bool, Option, None, Some, append_assoc, append-nil, length-append, drop_at, take_at, Ordering, AllZip-long, Size, IsLeastHead, Means, IsAll, Tree, Items, trees, array, values_of, value_count, Replaces, IsHeadFront, Coded, AreEncodedAs, IsSound, MeansNothing, values_of_seq, AllZip, StringKind, OfBytes, OfText, EndlessLength, AreBytes, code, joined_chunks, ChunksAreText, AreStrings, chunks_of, chunks_tree, Bytes, Text, Value, bytes, text, FindsDefect, kind_major, bytes-right, Bor, eqb, slice_range, MatchOption, unwrap_or, take_all, Width, BadBignum, IsShortest, big_endian, IsByteString, last_of, Tagged, IsProper, integer, tagged, Det, IsInteger, bignum_tag, LongAt, FlawAt, LooseAt, FindsFlaw, IsEncodedAs, tags, Either, SomeDefect, true≢false, Partial, inside, Ends, Opening, an_array, a_map, a_tag, in_chunks, Mark, Opens, Inner, Stands, marks_of, StandsIn, EndsWell, HasEnded, Encodings, Container, Level, suc, is_some, IsKeyOrder, paired, ended_size, built, flaw_rank, entries, IsEarliestDefect, DescentAt, SizeAt, RepeatFlaw, DuplicateKey, HasRepeat, Row, AreMarked, RowRepeat, AreFilled, RowDescent, FindsDescent, AreArranged, AreRows, IsFront, OwnFlaw, OwnDefect, found_alike, SomeFlaw}
 use Rattle.cborn_model.proofs.Listed.Meanings.{all_mean, each_means, are_proper}
 use Rattle.cborn_model.proofs.Listed.Values.{value_count-values_of}
+use Rattle.cborn_judge.specs.devices.Encoders.{Closes}
+use Rattle.cborn_judge.specs.declared.encoders.Encoder.{Encoder}
 use Rattle.cborn_judge.specs.declared.ends.Findings.{Findings}
 use Rattle.cborn_judge.proofs.Meaning.Meanings.{joined_text, string_means, means_string, means_once}
 use Rattle.cborn_judge.proofs.FirstDefect.{alike, both_found}
@@ -241,6 +243,11 @@ unmarked_ended order e k f o ts found a is no_map ends s outer same marks ended 
       subst (λ ms. EndsWell order l o ms e.out.items k.out.items found) (sym none) (subst (λ p. EndsWell order l p [] e.out.items k.out.items found) (opened_as l o a is inner.opens) ended),
       marks ∙ old ∙ ap (λ ms. ns ++ ms) none ∙ append-nil ns,
     ))
+
+pub closes : {O A E : Type 0} (order : List ℕ → List ℕ → Ordering) (e n : Encoder O) (k : Encodings) (r : Result A E) (a : Container) (found : Findings) → e.encodings.innermost.container ≡ a → is_map a ≡ false → k.outer.items ≡ e.encodings.outer.items → k.innermost ≡ e.encodings.innermost → marks_of k.pairs ≡ marks_of e.encodings.pairs
+    → EndsWell order e.encodings.innermost (opening_of a e.encodings.innermost.place) [] e.encodings.out.items k.out.items found
+    → OnOk r ((f : Partial) (o : Opening) (ts : List Tree) → IsFree f → Ends o ts → HasEnded order k f o ts found → Finds order (inside f o ts) e.flaw e.defect → IsHeld order n (put f (built o ts)) no_part) → OnOk r (Closes order e n)
+closes order e n k r a found is no_map outer same marks well h = on_ok r (λ held f o ts free ends old. held f o ts free ends (unmarked_ended order e.encodings k f o ts found a is no_map ends old.0 outer same marks well) old.1) h
 
 -- of a map
 pub map_ended : (order : List ℕ → List ℕ → Ordering) (e k : Encodings) (f : Partial) (o : Opening) (ts : List Tree) (found : Findings) (s : Size) (c : Option ℕ) → e.innermost.container ≡ Container.Map s c → Ends o ts → StandsIn order e (inside f o ts) → k.outer.items ≡ e.outer.items → k.innermost ≡ e.innermost → marks_of k.pairs ≡ take e.innermost.pairs (marks_of e.pairs)

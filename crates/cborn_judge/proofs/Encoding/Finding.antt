@@ -3,7 +3,7 @@ use Rattle.std.specs.Prelude.{◌≡◌, ◌⊎◌, ◌∷◌, ◌++◌, ◌↔�
 use Rattle.cborn_judge.proofs.Common.{ℕ, inl, inr, List, [], length, Width, IsUtf8, IsLong, map, refl, sym, subst, Bool, true, false, Ordering, Option, None, AllZip, Chunk, Size, StringKind, OfBytes, OfText, InvalidReason, NotUtf8, DefectReason, LongHead, EndlessLength, Means, flaw_rank, defect_rank, Tree, ByteChunks, TextChunks, Items, Pairs, Tagged, trees, entries, Value, Partial, top, inside, Opening, an_array, a_map, a_tag, in_chunks, put, built, Ends, paired, chunks_of, chunks_tree, ended_size, Within, WithinAll, WithinEntries, FlawAt, Flaw, HasBadChunk, DefectAt, HasLongChunk, FindsDefect, DefectIn, DefectInAll, SizeAt, DescentAt, IsEarliestDefect, FindsFlaw, FlawIn, IsEarliestFlaw, IsSound, Amid, OwnFlaw, OwnDefect, Finds, Either, found_both, found_alike, none_both, strings_are, count-trees, count_entries-entries, SomeDefect, SomeFlaw}
 use Rattle.cborn_model.specs.Partial.{last_key}
 use Rattle.cborn_model.specs.shared.Walks.{string_of}
-use Rattle.cborn_judge.proofs.Loops.{same, regrouped}
+use Rattle.cborn_judge.proofs.Loops.{same, both_ways, regrouped}
 use Rattle.cborn_judge.proofs.Meaning.Judging.{meaning}
 
 within_more : (ts : List Tree) (t q : Tree) → (WithinAll q (trees ts) ⊎ Within q t) ↔ WithinAll q (trees (ts ++ t ∷ []))
@@ -58,22 +58,9 @@ module _ {R : Type 0} (at : Tree → ℕ → R → Type 0) where
 -- ---- the keys and values of a map
 
 in_pairs : (ts : List Tree) (q : Tree) → last_key ts ≡ None → WithinEntries q (entries (paired ts)) ↔ WithinAll q (trees ts)
-in_pairs [] q e = ((λ h. h), (λ h. h))
+in_pairs [] q e = same
 in_pairs (k ∷ []) q e = cc
-in_pairs (k ∷ v ∷ ts) q e = by (in_pairs ts q e)
-  where
-    by : (WithinEntries q (entries (paired ts)) ↔ WithinAll q (trees ts)) → WithinEntries q (entries (paired (k ∷ v ∷ ts))) ↔ WithinAll q (trees (k ∷ v ∷ ts))
-    by rest = (to, from)
-      where
-        to : WithinEntries q (entries (paired (k ∷ v ∷ ts))) → WithinAll q (trees (k ∷ v ∷ ts))
-        to (inl h) = inl h
-        to (inr (inl h)) = inr (inl h)
-        to (inr (inr h)) = inr (inr (rest.0 h))
-
-        from : WithinAll q (trees (k ∷ v ∷ ts)) → WithinEntries q (entries (paired (k ∷ v ∷ ts)))
-        from (inl h) = inl h
-        from (inr (inl h)) = inr (inl h)
-        from (inr (inr h)) = inr (inr (rest.1 h))
+in_pairs (k ∷ v ∷ ts) q e = both_ways same (both_ways same (in_pairs ts q e))
 
 -- ---- chunks
 
@@ -110,16 +97,10 @@ module _ (order : List ℕ → List ℕ → Ordering) where
 -- ---- a container that ends
 
 within_tag : (p : ℕ) (w : Width) (n : ℕ) (t u : Tree) → Within u (Tagged p w n t) ↔ ((u ≡ Tagged p w n t) ⊎ WithinAll u (trees (t ∷ [])))
-within_tag p w n t u = (
-  (λ h. elim h [ inl e ↦ inl e | inr i ↦ inr (inl i) ]),
-  (λ h. elim h [ inl e ↦ inl e | inr i ↦ elim i [ inl j ↦ inr j | inr j ↦ absurd j ] ]),
-)
+within_tag p w n t u = both_ways same ((λ i. inl i), (λ i. elim i [ inl j ↦ j | inr j ↦ absurd j ]))
 
 within_map : (p : ℕ) (s : Size) (ts : List Tree) → last_key ts ≡ None → (u : Tree) → Within u (Pairs p s (entries (paired ts))) ↔ ((u ≡ Pairs p s (entries (paired ts))) ⊎ WithinAll u (trees ts))
-within_map p s ts e u = (
-  (λ h. elim h [ inl e ↦ inl e | inr i ↦ inr ((in_pairs ts u e).0 i) ]),
-  (λ h. elim h [ inl e ↦ inl e | inr i ↦ inr ((in_pairs ts u e).1 i) ]),
-)
+within_map p s ts e u = both_ways same (in_pairs ts u e)
 
 closed_flaw : (o : Opening) (ts : List Tree) → Ends o ts → (q : ℕ) (r : InvalidReason) → Either (FlawIn (trees ts)) (OwnFlaw o ts) q r ↔ Flaw (built o ts) q r
 closed_flaw (an_array p s c) ts e q r = around FlawAt (built (an_array p s c) ts) ts (OwnFlaw (an_array p s c) ts) q r (λ u. same) same

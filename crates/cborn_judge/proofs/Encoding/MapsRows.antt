@@ -5,6 +5,8 @@ use Rattle.cborn_model.specs.Partial.{last_key}
 use Rattle.cborn_judge.proofs.FirstDefect.{above_by_code}
 use Rattle.cborn_judge.proofs.Meaning.Judging.{no_repeat, new_keys}
 use Rattle.cborn_judge.proofs.Meaning.Meanings.{means_once}
+use Rattle.cborn_judge.specs.Flaws.{MeanSame}
+use Rattle.cborn_judge.proofs.Loops.{same, both_ways}
 use Rattle.cborn_judge.proofs.SameKeys.{nothing_repeated}
 
 -- ---- keys and values in turn
@@ -57,10 +59,8 @@ module _ (order : List ℕ → List ℕ → Ordering) where
 
   pub written : (ns : List (Tree × Tree)) (rs : List Row) (ps : Couples) → AllZip IsRow ns rs → EntriesMean (entries ns) ps → AreWritten rs ps
   written [] [] no_pairs h m = record { filled = tt; proper = tt; written = tt }
-  written [] [] (pair a b ps) h m = absurd m
   written [] (r ∷ rs) ps h m = absurd h
   written (n ∷ ns) [] ps h m = absurd h
-  written (n ∷ ns) (r ∷ rs) no_pairs h m = absurd m
   written (n ∷ ns) (r ∷ rs) (pair a b ps) h m =
       let k = meant n.0 a r.1 h.0.1 m.0 in
       let v = meant n.1 b r.2 h.0.2 m.1 in
@@ -70,6 +70,7 @@ module _ (order : List ℕ → List ℕ → Ordering) where
         proper = (k.0, v.0, w.proper);
         written = (k.1, v.1, w.written);
       }
+  written _ _ _ h m = absurd m
 
   -- of rows whose keys rise
   pub as_they_stand : (rs : List Row) → AreFilled rs → Rising order (filled_keys rs) → AreArranged order rs (joined (row_entries rs))
@@ -90,50 +91,33 @@ module _ (order : List ℕ → List ℕ → Ordering) where
   module _ (laws : IsKeyOrder order) where
     -- ---- which keys are the same
 
+    same_key : (k n : Tree) (x y : List ℕ) → IsEncodedAs order k x → Coded order n y → (y ≡ x) ↔ MeanSame k n
+    same_key k n x y (a, m, g, d) (inl (c, o, u, e)) = (
+      (λ q. (a, c, m, o, same_of_one order a c x g u d (subst (Det order c) q e))),
+      (λ s. sym (one_of_same order laws a c x y g u (subst (λ z. Same z c) (means_once k s.0 a s.2 m) (subst (Same s.0) (means_once n s.1 c s.3 o) s.4)) d e)),
+    )
+    same_key k n x y (a, m, g, d) (inr (z, none)) = ((λ q. absurd (not_empty a x d (sym q ∙ z))), (λ s. absurd (none s.1 s.3)))
+
     -- a key that means the same as k
-    repeated_row : (k : Tree) (a : Value) (x : List ℕ) (ns : List (Tree × Tree)) (rs : List Row) (p : ℕ) → IsProper a → Means k a → Det order a x → AllZip IsRow ns rs → IsRepeated k (entries ns) p → IsSameKey x rs p
-    repeated_row k a x [] rs p g m d h r = absurd r
-    repeated_row k a x (n ∷ ns) [] p g m d h r = absurd h
-    repeated_row k a x (n ∷ ns) (r ∷ rs) p g m d h (inl q) =
-        let s = q.1 in
-        let b = meant n.0 s.1 r.1 h.0.1 s.3 in
-        let same : Same a s.1 = subst (λ c. Same c s.1) (means_once k s.0 a s.2 m) s.4 in
-        inl (q.0 ∙ sym h.0.0, sym (one_of_same order laws a s.1 x r.1 g b.0 same d b.1))
-    repeated_row k a x (n ∷ ns) (r ∷ rs) p g m d h (inr q) = inr (repeated_row k a x ns rs p g m d h.1 q)
+    repeated_rows : (k : Tree) (x : List ℕ) (ns : List (Tree × Tree)) (rs : List Row) (p : ℕ) → IsEncodedAs order k x → AllZip IsRow ns rs → IsSameKey x rs p ↔ IsRepeated k (entries ns) p
+    repeated_rows k x [] [] p e h = same
+    repeated_rows k x (n ∷ ns) (r ∷ rs) p e h =
+        let s = same_key k n.0 x r.1 e h.0.1 in
+        both_ways ((λ q. (q.0 ∙ h.0.0, s.0 q.1)), (λ q. (q.0 ∙ sym h.0.0, s.1 q.1))) (repeated_rows k x ns rs p e h.1)
+    repeated_rows k x _ _ p e h = absurd h
 
-    row_repeated : (k : Tree) (a : Value) (x : List ℕ) (ns : List (Tree × Tree)) (rs : List Row) (p : ℕ) → IsProper a → Means k a → Det order a x → AllZip IsRow ns rs → IsSameKey x rs p → IsRepeated k (entries ns) p
-    row_repeated k a x [] [] p g m d h r = absurd r
-    row_repeated k a x (n ∷ ns) (r ∷ rs) p g m d h (inl q) = inl (q.0 ∙ h.0.0, by h.0.1)
+    repeat_rows : (ns : List (Tree × Tree)) (rs : List Row) (p : ℕ) → AllZip IsRow ns rs → HasSameKeys rs p ↔ HasRepeat (entries ns) p
+    repeat_rows [] [] p h = same
+    repeat_rows (n ∷ ns) (r ∷ rs) p h = both_ways (by h.0.1) (repeat_rows ns rs p h.1)
       where
-        by : Coded order n.0 r.1 → (b : Value) × (c : Value) × Means k b × Means n.0 c × Same b c
-        by (inl c) = (a, c.0, m, c.1, same_of_one order a c.0 x g c.2 d (subst (Det order c.0) q.1 c.3))
-        by (inr c) = absurd (not_empty a x d (sym q.1 ∙ c.0))
-    row_repeated k a x (n ∷ ns) (r ∷ rs) p g m d h (inr q) = inr (row_repeated k a x ns rs p g m d h.1 q)
-    row_repeated k a x _ _ p g m d h q = absurd h
-
-    repeat_row : (ns : List (Tree × Tree)) (rs : List Row) (p : ℕ) → AllZip IsRow ns rs → HasRepeat (entries ns) p → HasSameKeys rs p
-    repeat_row [] rs p h q = absurd q
-    repeat_row (n ∷ ns) [] p h q = absurd h
-    repeat_row (n ∷ ns) (r ∷ rs) p h (inl q) = by h.0.1
-      where
-        by : Coded order n.0 r.1 → HasSameKeys (r ∷ rs) p
-        by (inl c) = inl (not_empty c.0 r.1 c.3, repeated_row n.0 c.0 r.1 ns rs p c.2 c.1 c.3 h.1 q)
-        by (inr c) = absurd (nothing_repeated n.0 (entries ns) p c.1 q)
-    repeat_row (n ∷ ns) (r ∷ rs) p h (inr q) = inr (repeat_row ns rs p h.1 q)
-
-    row_repeat : (ns : List (Tree × Tree)) (rs : List Row) (p : ℕ) → AllZip IsRow ns rs → HasSameKeys rs p → HasRepeat (entries ns) p
-    row_repeat [] [] p h q = absurd q
-    row_repeat (n ∷ ns) (r ∷ rs) p h (inl q) = by h.0.1
-      where
-        by : Coded order n.0 r.1 → HasRepeat (entries (n ∷ ns)) p
-        by (inl c) = inl (row_repeated n.0 c.0 r.1 ns rs p c.2 c.1 c.3 h.1 q.1)
-        by (inr c) = absurd (q.0 c.0)
-    row_repeat (n ∷ ns) (r ∷ rs) p h (inr q) = inr (row_repeat ns rs p h.1 q)
-    row_repeat _ _ p h q = absurd h
+        by : Coded order n.0 r.1 → ((r.1 ≢ []) × IsSameKey r.1 rs p) ↔ IsRepeated n.0 (entries ns) p
+        by (inl c) = let s = repeated_rows n.0 r.1 ns rs p c h.1 in ((λ q. s.0 q.1), (λ q. (not_empty c.0 r.1 c.3, s.1 q)))
+        by (inr c) = ((λ q. absurd (q.0 c.0)), (λ q. absurd (nothing_repeated n.0 (entries ns) p c.1 q)))
+    repeat_rows _ _ p h = absurd h
 
     -- keys are the same exactly if their encodings are equal
     pub repeats : (ns : List (Tree × Tree)) (rs : List Row) → AllZip IsRow ns rs → (p : ℕ) (r : InvalidReason) → RowRepeat rs p r ↔ RepeatFlaw (entries ns) p r
-    repeats ns rs h p r = ((λ q. (q.0, row_repeat ns rs p h q.1)), (λ q. (q.0, repeat_row ns rs p h q.1)))
+    repeats ns rs h p r = let s = repeat_rows ns rs p h in ((λ q. (q.0, s.0 q.1)), (λ q. (q.0, s.1 q.1)))
 
     rising_skip : (k l : List ℕ) (ks : List (List ℕ)) → Rising order (k ∷ l ∷ ks) → Rising order (k ∷ ks)
     rising_skip k l [] h = tt
@@ -167,25 +151,18 @@ module _ (order : List ℕ → List ℕ → Ordering) where
     encoded t x n (inl c) = c
     encoded t x n (inr c) = absurd (n c.0)
 
-    falls : (m : Tree × Tree) (c : List ℕ) (ns : List (Tree × Tree)) (rs : List Row) (p : ℕ) → IsEncodedAs order m.0 c → AllZip IsRow ns rs → AreFilled rs → Falls order c rs p → Descends order m.0 (entries ns) p
-    falls m c [] [] p d h f q = q
-    falls m c (n ∷ ns) (r ∷ rs) p d h f (inl q) = inl (q.0 ∙ h.0.0, (above_by_code order laws m n c r.1 d (encoded n.0 r.1 f.0.0 h.0.1)).1 q.1)
-    falls m c (n ∷ ns) (r ∷ rs) p d h f (inr q) = inr (falls n r.1 ns rs p (encoded n.0 r.1 f.0.0 h.0.1) h.1 f.1 q)
-    falls m c _ _ p d h f q = absurd h
-
-    descends : (m : Tree × Tree) (c : List ℕ) (ns : List (Tree × Tree)) (rs : List Row) (p : ℕ) → IsEncodedAs order m.0 c → AllZip IsRow ns rs → AreFilled rs → Descends order m.0 (entries ns) p → Falls order c rs p
-    descends m c [] [] p d h f q = q
-    descends m c (n ∷ ns) (r ∷ rs) p d h f (inl q) = inl (q.0 ∙ sym h.0.0, (above_by_code order laws m n c r.1 d (encoded n.0 r.1 f.0.0 h.0.1)).0 q.1)
-    descends m c (n ∷ ns) (r ∷ rs) p d h f (inr q) = inr (descends n r.1 ns rs p (encoded n.0 r.1 f.0.0 h.0.1) h.1 f.1 q)
-    descends m c _ _ p d h f q = absurd h
+    falls : (m : Tree × Tree) (c : List ℕ) (ns : List (Tree × Tree)) (rs : List Row) (p : ℕ) → IsEncodedAs order m.0 c → AllZip IsRow ns rs → AreFilled rs → Falls order c rs p ↔ Descends order m.0 (entries ns) p
+    falls m c [] [] p d h f = same
+    falls m c (n ∷ ns) (r ∷ rs) p d h f =
+        let e = encoded n.0 r.1 f.0.0 h.0.1 in
+        let a = above_by_code order laws m n c r.1 d e in
+        both_ways ((λ q. (q.0 ∙ h.0.0, a.1 q.1)), (λ q. (q.0 ∙ sym h.0.0, a.0 q.1))) (falls n r.1 ns rs p e h.1 f.1)
+    falls m c _ _ p d h f = absurd h
 
     fall : (ns : List (Tree × Tree)) (rs : List Row) (p : ℕ) → AllZip IsRow ns rs → AreFilled rs → HasFall order rs p ↔ HasDescent order (entries ns) p
-    fall [] [] p h f = ((λ q. q), (λ q. q))
-    fall [] (r ∷ rs) p h f = absurd h
-    fall (n ∷ ns) [] p h f = absurd h
-    fall (n ∷ ns) (r ∷ rs) p h f =
-        let c = encoded n.0 r.1 f.0.0 h.0.1 in
-        (falls n r.1 ns rs p c h.1 f.1, descends n r.1 ns rs p c h.1 f.1)
+    fall [] [] p h f = same
+    fall (n ∷ ns) (r ∷ rs) p h f = falls n r.1 ns rs p (encoded n.0 r.1 f.0.0 h.0.1) h.1 f.1
+    fall _ _ p h f = absurd h
 
     pub descents : (ns : List (Tree × Tree)) (rs : List Row) → AllZip IsRow ns rs → AreFilled rs → (p : ℕ) (r : DefectReason) → RowDescent order rs p r ↔ DescentAt order (entries ns) p r
     descents ns rs h f p r = ((λ q. (q.0, (fall ns rs p h f).0 q.1)), (λ q. (q.0, (fall ns rs p h f).1 q.1)))

@@ -143,7 +143,6 @@ higher : (a b p r s : ℕ) → a < b → r < p → a * p + r < b * p + s
 higher a b p r s l h = let k : suc a * p ≤ b * p = mul-le-mul_right p l in omega (arith, k)
 
 front_tells : (n : ℕ) → Tells bytewise (front_of n)
-front_tells zero k l h i m = absurd (omega arith)
 front_tells (suc n) [] (b ∷ l) h i m = refl
 front_tells (suc n) (a ∷ k) (b ∷ l) h i m =
     elim (cases_lt a b) [
@@ -156,7 +155,7 @@ front_tells (suc n) (a ∷ k) (b ∷ l) h i m =
             same_then a b (bytewise k l) same ∙ front_tells n k l h.1 i.1 (omega (arith, high, m))
       ]
     ]
-front_tells (suc n) _ [] h i m = absurd (omega arith)
+front_tells _ _ _ h i m = absurd (omega arith)
 
 short_hint : (k : List ℕ) → length k < 255 → length_hint k ≡ length k * 2 ^ 56 + front_of 8 k / 256
 short_hint k l = rw (lt-ltb (length k) 255 l) refl

@@ -3,7 +3,7 @@ use Rattle.std.specs.Prelude.{◌≡◌, ◌+◌, ◌<◌, ◌⊎◌, ◌∷◌,
 use Rattle.cborn_judge.proofs.Common.{ℕ, inl, inr, List, [], length, get_or, map, take, refl, sym, ap, ◌∙◌, subst, true, false, true≢false, Option, None, Some, Ordering, Less, is_some, map-append, Rising, IsEarliest, FindsDefect, KeyOrder, Row, Mark, AreFilled, IsSameKey, HasSameKeys, filled_keys, Falls, HasFall, RowDescent, FindsDescent, key_of, row_of, Keyed, keyed, all_keyed, Met, remembered, IsFall, last_filled, FallsIn, IsTie, last_key, IsOneOf, IsAgain, IsTied, Either, found_both, found_alike}
 use Rattle.cborn_model.specs.Earliest.{Finds}
 use Rattle.cborn_judge.specs.declared.defects.Defect.{Defect}
-use Rattle.cborn_judge.proofs.Loops.{passed_one, regrouped}
+use Rattle.cborn_judge.proofs.Loops.{passed_one, same, both_ways, regrouped}
 use Rattle.cborn_judge.proofs.FirstDefect.{alike}
 use Rattle.cborn_judge.proofs.Encoding.PairsRead.{is_filled, filled, not_empty, marked_read}
 
@@ -77,31 +77,24 @@ module _ (order : List ℕ → List ℕ → Ordering) where
   less_unless Less h = refl
   less_unless _ h = absurd (h (λ e. cc))
 
-  rise_after : (k : List ℕ) (rows : List Row) → (k ≡ [] → ⊥) → ((p : ℕ) → MetFalls k rows p → ⊥) → Rising order (k ∷ filled_keys rows)
-  rise_after k [] n h = tt
-  rise_after k ((q, [], v) ∷ rows) n h = rise_after k rows n (λ p m. h p (inr m))
-  rise_after k ((q, c ∷ cs, v) ∷ rows) n h =
-      (less_unless (order k (c ∷ cs)) (λ f. h q (inl (n, (λ e. cc), refl, f))), rise_after (c ∷ cs) rows (λ e. cc) (λ p m. h p (inr m)))
-
-  rise_all : (rows : List Row) → ((p : ℕ) → MetFalls [] rows p → ⊥) → Rising order (filled_keys rows)
-  rise_all [] h = tt
-  rise_all ((q, [], v) ∷ rows) h = rise_all rows (λ p m. h p (inr m))
-  rise_all ((q, c ∷ cs, v) ∷ rows) h = rise_after (c ∷ cs) rows (λ e. cc) (λ p m. h p (inr m))
+  rise : (k : List ℕ) (rows : List Row) → ((p : ℕ) → MetFalls k rows p → ⊥) → Rising order (filled_keys ((0, k, []) ∷ rows))
+  rise [] [] h = tt
+  rise (b ∷ bs) [] h = tt
+  rise [] ((q, [], v) ∷ rows) h = rise [] rows (λ p m. h p (inr m))
+  rise [] ((q, c ∷ cs, v) ∷ rows) h = rise (c ∷ cs) rows (λ p m. h p (inr m))
+  rise (b ∷ bs) ((q, [], v) ∷ rows) h = rise (b ∷ bs) rows (λ p m. h p (inr m))
+  rise (b ∷ bs) ((q, c ∷ cs, v) ∷ rows) h = (less_unless (order (b ∷ bs) (c ∷ cs)) (λ f. h q (inl ((λ e. cc), (λ e. cc), refl, f))), rise (c ∷ cs) rows (λ p m. h p (inr m)))
 
   pub none_falls : (b : List ℕ) (ms : List Mark) (rows : List Row) → map (row_of b) ms ≡ rows → ((p : ℕ) → Met (IsFall order) last_filled [] (all_keyed b ms) p → ⊥) → Rising order (filled_keys rows)
-  none_falls b ms rows e h = rise_all rows (λ p m. h p (subst (λ z. Met (IsFall order) last_filled [] z p) (sym (keyed_rows b ms ∙ ap (map row_keyed) e)) m))
+  none_falls b ms rows e h = rise [] rows (λ p m. h p (subst (λ z. Met (IsFall order) last_filled [] z p) (sym (keyed_rows b ms ∙ ap (map row_keyed) e)) m))
 
   falls_after : (k : List ℕ) (rows : List Row) (p : ℕ) → (k ≡ [] → ⊥) → AreFilled rows → MetFalls k rows p ↔ Falls order k rows p
-  falls_after k [] p n f = ((λ h. h), (λ h. h))
+  falls_after k [] p n f = same
   falls_after k ((q, [], v) ∷ rows) p n f = absurd (f.0.0 refl)
-  falls_after k ((q, c ∷ cs, v) ∷ rows) p n f =
-      let rest = falls_after (c ∷ cs) rows p (λ e. cc) f.1 in (
-        (λ h. elim h [ inl i ↦ inl (i.2, i.3) | inr i ↦ inr (rest.0 i) ]),
-        (λ h. elim h [ inl i ↦ inl (n, (λ e. cc), i.0, i.1) | inr i ↦ inr (rest.1 i) ]),
-      )
+  falls_after k ((q, c ∷ cs, v) ∷ rows) p n f = both_ways ((λ i. (i.2, i.3)), (λ i. (n, (λ e. cc), i.0, i.1))) (falls_after (c ∷ cs) rows p (λ e. cc) f.1)
 
   falls_all : (rows : List Row) (p : ℕ) → AreFilled rows → MetFalls [] rows p ↔ HasFall order rows p
-  falls_all [] p f = ((λ h. h), (λ h. h))
+  falls_all [] p f = same
   falls_all ((q, [], v) ∷ rows) p f = absurd (f.0.0 refl)
   falls_all ((q, c ∷ cs, v) ∷ rows) p f =
       let rest = falls_after (c ∷ cs) rows p (λ e. cc) f.1 in (

@@ -5,8 +5,6 @@ use Rattle.cborn_judge.proofs.SameKeys.{LieBefore}
 
 pub marked_read : (b y : List ℕ) (rows : List Row) (ms : List Mark) (p : ℕ) → p ≡ length y → b ≡ y ++ joined (row_entries rows) → AreMarked p rows ms → map (row_of b) ms ≡ rows
 marked_read b y [] [] p q e a = refl
-marked_read b y [] (m ∷ ms) p q e a = absurd a
-marked_read b y (r ∷ rows) [] p q e a = absurd a
 marked_read b y (r ∷ rows) (m ∷ ms) p q e a =
     let k : List ℕ = r.1 in
     let v : List ℕ = r.2 in
@@ -22,6 +20,7 @@ marked_read b y (r ∷ rows) (m ∷ ms) p q e a =
     let rest : map (row_of b) ms ≡ rows =
     marked_read b (y ++ (k ++ v)) rows ms (p + length k + length v) (omega (arith, q, length-append y (k ++ v), length-append k v)) (e ∙ sym (append_assoc y (k ++ v) beyond)) a.1 in
     λ i. row i ∷ rest i
+marked_read b y _ _ p q e a = absurd a
 
 -- each begins at this place or after it
 marked_from : (rows : List Row) (ms : List Mark) (p : ℕ) (z : Mark) → AreMarked p rows ms → IsOneOf z ms → p ≤ z.1
@@ -51,8 +50,6 @@ begin_of m = m.1
 -- one whose key isn't empty begins before those after it
 pub marked_rise : (b : List ℕ) (rows : List Row) (ms : List Mark) (p : ℕ) → map (row_of b) ms ≡ rows → AreMarked p rows ms → LieBefore is_filled (key_of b) begin_of ms
 marked_rise b [] [] p e a = tt
-marked_rise b [] (m ∷ ms) p e a = absurd a
-marked_rise b (r ∷ rows) [] p e a = absurd a
 marked_rise b (r ∷ rows) (m ∷ ms) p e a =
     let row : row_of b m ≡ r = cc in
     let rest : map (row_of b) ms ≡ rows = cc in
@@ -61,6 +58,7 @@ marked_rise b (r ∷ rows) (m ∷ ms) p e a =
       (λ z i f. let from = marked_from rows ms (p + length r.1 + length r.2) z a.1 i in let long = some_long r.1 (ap is_filled (sym key) ∙ f) in omega arith),
       marked_rise b rows ms (p + length r.1 + length r.2) rest a.1,
     )
+marked_rise b _ _ p e a = absurd a
 
 -- a pair is its key and its value
 abbrev pub IsSplit : List ℕ → Mark → Type 0

@@ -104,10 +104,7 @@ module _ (order : List ℕ → List ℕ → Ordering) where
   value_more : (ts : List Tree) (t : Tree) (rs : List Row) (x : List ℕ) → is_odd ts ≡ true → AreRows order ts rs → Coded order t x
       → (qs : List Row) × (r : Row) × (rs ≡ qs ++ r ∷ []) × (r.2 ≡ []) × AreRows order (ts ++ t ∷ []) (qs ++ (r.0, r.1, x) ∷ [])
   value_more [] t rs x e a c = absurd (true≢false (sym e))
-  value_more (k ∷ []) t [] x e a c = absurd a
   value_more (k ∷ []) t (r ∷ []) x e a c = ([], r, refl, a.2, (a.0, a.1, c, tt))
-  value_more (k ∷ []) t (r ∷ s ∷ rs) x e a c = absurd a
-  value_more (k ∷ v ∷ ts) t [] x e a c = absurd a
   value_more (k ∷ v ∷ ts) t (r ∷ rs) x e a c =
       let u = value_more ts t rs x (twice (is_odd ts) e) a.3 c in
       (r ∷ u.0, u.1, ap (λ (l : List Row). r ∷ l) u.2, u.3, (a.0, a.1, a.2, u.4))
@@ -115,6 +112,7 @@ module _ (order : List ℕ → List ℕ → Ordering) where
       twice : (b : Bool) → not (not b) ≡ true → b ≡ true
       twice true e = refl
       twice false e = absurd (true≢false (sym e))
+  value_more _ t _ x e a c = absurd a
 
 -- ---- where rows lie
 
@@ -128,15 +126,13 @@ marked_key p [] [] q x s m h e f =
     let b : m ≡ p + length x = omega (arith, e, f) in
     let c : m ≡ p + length x + 0 = omega (arith, e, f) in
     ((λ i. (q, a i, b i, c i)), tt)
-marked_key p [] (n ∷ ms) q x s m h e f = absurd h
-marked_key p (r ∷ rs) [] q x s m h e f = absurd h
 marked_key p (r ∷ rs) (n ∷ ms) q x s m h e f =
     let o : s ≡ p + length r.1 + length r.2 + length (joined (row_entries rs)) = omega (arith, e, length-append (r.1 ++ r.2) (joined (row_entries rs)), length-append r.1 r.2) in
     (h.0, marked_key (p + length r.1 + length r.2) rs ms q x s m h.1 o f)
+marked_key p _ _ q x s m h e f = absurd h
 
 marked_value : (p : ℕ) (qs : List Row) (r : Row) (ms : List Mark) (x : List ℕ) (e : ℕ) → AreMarked p (qs ++ r ∷ []) ms → e ≡ p + length (joined (row_entries qs)) + length r.1 + length x
     → (ns : List Mark) × (m : Mark) × (ms ≡ ns ++ m ∷ []) × AreMarked p (qs ++ (r.0, r.1, x) ∷ []) (ns ++ (m.0, m.1, m.2, e) ∷ [])
-marked_value p [] r [] x e h f = absurd h
 marked_value p [] r (m ∷ []) x e h f =
     let a : m.0 ≡ r.0 = ap (λ (n : Mark). n.0) h.0 in
     let b : m.1 ≡ p = ap (λ (n : Mark). n.1) h.0 in
@@ -144,11 +140,11 @@ marked_value p [] r (m ∷ []) x e h f =
     let d : e ≡ p + length r.1 + length x = omega (arith, f) in
     ([], m, refl, ((λ i. (a i, b i, c i, d i)), tt))
 marked_value p [] r (m ∷ n ∷ ms) x e h f = absurd h.1
-marked_value p (q ∷ qs) r [] x e h f = absurd h
 marked_value p (q ∷ qs) r (m ∷ ms) x e h f =
     let o : e ≡ p + length q.1 + length q.2 + length (joined (row_entries qs)) + length r.1 + length x = omega (arith, f, length-append (q.1 ++ q.2) (joined (row_entries qs)), length-append q.1 q.2) in
     let u = marked_value (p + length q.1 + length q.2) qs r ms x e h.1 o in
     (m ∷ u.0, u.1, ap (λ (l : List Mark). m ∷ l) u.2, (h.0, u.3))
+marked_value p _ r _ x e h f = absurd h
 
 even : (ts : List Tree) → last_key ts ≡ None → is_odd ts ≡ false
 even [] e = refl

@@ -109,17 +109,15 @@ IsFlawless t = (p : ℕ) (r : InvalidReason) → Flaw t p r → ⊥
 -- a repeat of a new key among meanings is one among the keys
 new_or_repeated : (k : Tree) (a : Value) (es : Entries) (ps : Couples) → Means k a → EntriesMean es ps → ((p : ℕ) → IsRepeated k es p → ⊥) → IsNew a ps
 new_or_repeated k a no_entry no_pairs m e h = tt
-new_or_repeated k a no_entry (pair b c ps) m e h = absurd e
-new_or_repeated k a (entry l v es) no_pairs m e h = absurd e
 new_or_repeated k a (entry l v es) (pair b c ps) m e h =
     (λ s. h (place l) (inl (refl, (a, b, m, e.0, s))), new_or_repeated k a es ps m e.2 (λ p i. h p (inr i)))
+new_or_repeated k a _ _ m e h = absurd e
 
 pub new_keys : (es : Entries) (ps : Couples) → EntriesMean es ps → ((p : ℕ) → HasRepeat es p → ⊥) → HasNewKeys ps
 new_keys no_entry no_pairs e h = tt
-new_keys no_entry (pair b c ps) e h = absurd e
-new_keys (entry k v es) no_pairs e h = absurd e
 new_keys (entry k v es) (pair a b ps) e h =
     (new_or_repeated k a es ps e.0 e.2 (λ p i. h p (inl i)), new_keys es ps e.2 (λ p i. h p (inr i)))
+new_keys _ _ e h = absurd e
 
 tag_case : (n : ℕ) → (n ≡ 2) ⊎ (n ≡ 3) ⊎ ((n ≢ 2) × (n ≢ 3))
 tag_case n = elim (cases_eq n 2) [ inl e ↦ inl e | inr e ↦ elim (cases_eq n 3) [ inl f ↦ inr (inl f) | inr f ↦ inr (inr (e, f)) ] ]

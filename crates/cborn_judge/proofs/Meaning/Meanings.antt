@@ -44,19 +44,17 @@ mutual
   all_mean_once no_item no_values no_values h k = refl
   all_mean_once (more t ts) (value v vs) (value w ws) h k =
       λ i. value (means_once t v w h.0 k.0 i) (all_mean_once ts vs ws h.1 k.1 i)
-  all_mean_once no_item (value v vs) ws h k = absurd h
   all_mean_once no_item no_values (value w ws) h k = absurd k
-  all_mean_once (more t ts) no_values ws h k = absurd h
   all_mean_once (more t ts) (value v vs) no_values h k = absurd k
+  all_mean_once _ _ ws h k = absurd h
 
   pub entries_mean_once : (es : Entries) (ps qs : Couples) → EntriesMean es ps → EntriesMean es qs → ps ≡ qs
   entries_mean_once no_entry no_pairs no_pairs h k = refl
   entries_mean_once (entry k v es) (pair a b ps) (pair c d qs) h j =
       λ i. pair (means_once k a c h.0 j.0 i) (means_once v b d h.1 j.1 i) (entries_mean_once es ps qs h.2 j.2 i)
-  entries_mean_once no_entry (pair a b ps) qs h k = absurd h
   entries_mean_once no_entry no_pairs (pair c d qs) h k = absurd k
-  entries_mean_once (entry k v es) no_pairs qs h j = absurd h
   entries_mean_once (entry k v es) (pair a b ps) no_pairs h j = absurd j
+  entries_mean_once _ _ qs h _ = absurd h
 
 -- ---- byte strings
 
@@ -155,21 +153,19 @@ mutual
 
   pub all_valid : (ts : Trees) (vs : Values) → FitsAll ts → Short (spelled_all ts) → AllMean ts vs → AreProper vs
   all_valid no_item no_values f l h = tt
-  all_valid no_item (value v vs) f l h = absurd h
-  all_valid (more t ts) no_values f l h = absurd h
   all_valid (more t ts) (value v vs) f l h =
       (meaning_valid t v f.0 (left (spelled t) (spelled_all ts) l) h.0, all_valid ts vs f.1 (right (spelled t) (spelled_all ts) l) h.1)
+  all_valid _ _ f l h = absurd h
 
   pub entries_valid : (es : Entries) (ps : Couples) → FitsEntries es → Short (spelled_entries es) → EntriesMean es ps → HasProperPairs ps
   entries_valid no_entry no_pairs f l h = tt
-  entries_valid no_entry (pair a b ps) f l h = absurd h
-  entries_valid (entry k v es) no_pairs f l h = absurd h
   entries_valid (entry k v es) (pair a b ps) f l h =
       let m : Short (spelled k ++ spelled v) = left (spelled k ++ spelled v) (spelled_entries es) l in (
         meaning_valid k a f.0 (left (spelled k) (spelled v) m) h.0,
         meaning_valid v b f.1 (right (spelled k) (spelled v) m) h.1,
         entries_valid es ps f.2 (right (spelled k ++ spelled v) (spelled_entries es) l) h.2,
       )
+  entries_valid _ _ f l h = absurd h
 
 -- ---- no deeper
 
