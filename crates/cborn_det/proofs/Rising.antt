@@ -13,11 +13,11 @@ module _ (order : List ℕ → List ℕ → Ordering) (laws : IsKeyOrder order) 
   abbrev Above : Entry → Entry → Type 0
   Above e g = order e.0 g.0 ≡ Less
 
-  not_both : (e f : Entry) → Above e f → Above f e → ⊥
-  not_both e f p q = cc (laws.turned e.0 f.0, ap ordering_reverse p)
+  pub never_both : (a b : List ℕ) → order a b ≡ Less → order b a ≡ Less → ⊥
+  never_both a b p q = cc (laws.turned a b, ap ordering_reverse p)
 
-  not_itself : (e : Entry) → Above e e → ⊥
-  not_itself e p = cc (laws.itself e.0)
+  pub never_itself : (a : List ℕ) → order a a ≡ Less → ⊥
+  never_itself a p = cc (laws.itself a)
 
   pub rises_after : (e : Entry) (es : List Entry) → Rising order (keys (e ∷ es)) → AllByRecursion (Above e) es
   rises_after e [] h = tt
@@ -32,10 +32,10 @@ module _ (order : List ℕ → List ℕ → Ordering) (laws : IsKeyOrder order) 
   rising_cons e (f ∷ fs) h r = (h.0, r)
 
   same_first : (x y : Entry) (xs ys : List Entry) → AllByRecursion (Above x) xs → AllByRecursion (Above y) ys → IsIn x (y ∷ ys) → IsIn y (x ∷ xs) → x ≡ y
-  same_first x y xs ys h k i j = elim i [ inl e ↦ e | inr p ↦ elim j [ inl e ↦ sym e | inr q ↦ absurd (not_both x y (at_member (Above x) y xs q h) (at_member (Above y) x ys p k)) ] ]
+  same_first x y xs ys h k i j = elim i [ inl e ↦ e | inr p ↦ elim j [ inl e ↦ sym e | inr q ↦ absurd (never_both x.0 y.0 (at_member (Above x) y xs q h) (at_member (Above y) x ys p k)) ] ]
 
   without_first : (x y : Entry) (xs ys : List Entry) → x ≡ y → AllByRecursion (Above x) xs → AreIn xs (y ∷ ys) → AreIn xs ys
-  without_first x y xs ys e = both (Above x) (λ z. IsIn z (y ∷ ys)) (λ z. IsIn z ys) (λ z a i. elim i [ inl q ↦ absurd (not_itself x (subst (Above x) (q ∙ sym e) a)) | inr j ↦ j ]) xs
+  without_first x y xs ys e = both (Above x) (λ z. IsIn z (y ∷ ys)) (λ z. IsIn z ys) (λ z a i. elim i [ inl q ↦ absurd (never_itself x.0 (subst (Above x) (q ∙ sym e) a)) | inr j ↦ j ]) xs
 
   one_rising : (xs ys : List Entry) → Rising order (keys xs) → Rising order (keys ys) → AreIn xs ys → AreIn ys xs → xs ≡ ys
   one_rising [] [] r s i j = refl

@@ -28,7 +28,7 @@ pub use Rattle.cborn_model.proofs.Listed.Trees.{count-trees, count_entries-entri
 pub use Rattle.cborn_model.proofs.Numbers.OneMagnitude.{below_power, fits_in, large, one_magnitude}
 pub use Rattle.cborn_model.proofs.Numbers.Simples.{simple_fits}
 pub use Rattle.cborn_model.proofs.Numbers.SomeMagnitude.{magnitude_of}
-pub use Rattle.cborn_model.proofs.SameItems.Rearranging.{All_moved, IsIn, at_member, weaker}
+pub use Rattle.cborn_model.proofs.SameItems.Rearranging.{All_moved, IsIn, are_in_moved, at_member}
 pub use Rattle.cborn_model.proofs.SameItems.Sameness.{same_itself}
 pub use Rattle.cborn_model.specs.Bytes.{AreBytes, IsShortest, big_endian}
 pub use Rattle.cborn_model.specs.Earliest.{IsEarliest}
@@ -74,5 +74,4 @@ pub use Rattle.cborn_judge.specs.devices.Hints.{Tells, front_of, hint_of, length
 pub use Rattle.cborn_judge.specs.devices.Marks.{AreAllHinted, AreHigher, AreHintedBy, AreSorted, FallAt, FallsIn, IsFall, IsTie, Keyed, Met, TiesIn, all_keyed, all_marks, between, key_of, keyed, last_filled, last_key, mark_of, mark_order, marks_of, narrow_of, pair_of, remembered, row_of}
 pub use Rattle.cborn_judge.specs.shared.Checked.{DefectIn, DefectInAll, DescentAt, IsEarliestDefect, LooseAt, SizeAt}
 pub use Rattle.cborn_judge.specs.shared.Judged.{FindsFlaw, FlawIn, IsEarliestFlaw, RepeatFlaw}
-pub use Rattle.cborn_judge.specs.shared.Repeats.{IsAgain, IsOneOf, IsTied}
 pub use Rattle.cborn_judge.specs.shared.Tidy.{AllTidy, EntriesTidy, IsTidy, SizeIsTidy, spelled_pairs}

@@ -1,13 +1,28 @@
 -- After a sort the repeated keys are those that tie with their neighbour.
 use Rattle.std.specs.Prelude.{◌≡◌, ◌≢◌, ◌<◌, ◌≤◌, ◌⊎◌, ◌∷◌, ◌↔◌, ◌&&◌}
-use Rattle.cborn_judge.proofs.Common.{ℕ, suc, inl, inr, List, [], refl, sym, ap, ◌∙◌, subst, arith, true, false, Bool, true≢false, add-one, IsPermutation, Ordering, Less, Equal, Greater, is_lt, eqb, ⊤, nat_cmp, ordering_then, ordering_reverse, AllByRecursion, IsSortedBy, IsPermutation-sym, eqb-true, eq-eqb, cases_eq, IsRepeated, IsOneOf, IsAgain, IsTied, Value, IsKeyOrder, Tree, Entries, no_entry, entry, Means, All_moved, weaker, at_member}
+use Rattle.cborn_judge.proofs.Common.{ℕ, suc, inl, inr, List, [], refl, sym, ap, ◌∙◌, subst, arith, true, false, Bool, true≢false, add-one, IsPermutation, Ordering, Less, Equal, Greater, is_lt, eqb, ⊤, nat_cmp, ordering_then, ordering_reverse, AllByRecursion, IsSortedBy, IsPermutation-sym, eqb-true, eq-eqb, cases_eq, IsRepeated, IsIn, are_in_moved, Value, IsKeyOrder, Tree, Entries, no_entry, entry, Means, at_member}
 use Rattle.std.specs.List.{IsDistinct}
+use Rattle.cborn_det.proofs.Rising.{never_both, never_itself}
 use Rattle.std.proofs.lemmas.Map.Keys.{IsDistinct-IsPermutation, ge_from_not_lt}
 
 module _ {X : Type 0} (order : List ℕ → List ℕ → Ordering) (bytes : X → List ℕ) (position : X → ℕ) where
   -- by the encoding, and at equal encodings by the position
   abbrev pub key_order : X → X → Ordering
   key_order x y = ordering_then (order (bytes x) (bytes y)) (nat_cmp (position x) (position y))
+
+module _ {X : Type 0} (bytes : X → List ℕ) where
+  -- z has the bytes of an earlier one
+  abbrev pub IsAgain : List X → X → Type 0
+  IsAgain [] z = ⊥
+  IsAgain (x ∷ xs) z = (IsIn z xs × (bytes x ≡ bytes z)) ⊎ IsAgain xs z
+
+  -- z has the bytes of the one right before it
+  abbrev pub IsTied : List X → X → Type 0
+  IsTied (x ∷ y ∷ ys) z = ((y ≡ z) × (bytes x ≡ bytes y)) ⊎ IsTied (y ∷ ys) z
+  IsTied _ z = ⊥
+
+pub moved_in : {X : Type 0} (xs ys : List X) (z : X) → IsPermutation xs ys → IsIn z xs → IsIn z ys
+moved_in xs ys z p i = at_member (λ x. IsIn x ys) z xs i (are_in_moved xs ys p)
 
 -- what means nothing is the same as no key
 pub nothing_repeated : (k : Tree) (es : Entries) (p : ℕ) → ((a : Value) → Means k a → ⊥) → IsRepeated k es p → ⊥
@@ -16,7 +31,7 @@ nothing_repeated k (entry l v es) p h (inl r) = h r.1.0 r.1.2
 nothing_repeated k (entry l v es) p h (inr r) = nothing_repeated k es p h r
 
 -- of two that have the same bytes one comes after the other
-pub either_again : {X : Type 0} (bytes : X → List ℕ) (xs : List X) (w z : X) → IsOneOf w xs → IsOneOf z xs → bytes w ≡ bytes z → (w ≡ z → ⊥) → IsAgain bytes xs z ⊎ IsAgain bytes xs w
+pub either_again : {X : Type 0} (bytes : X → List ℕ) (xs : List X) (w z : X) → IsIn w xs → IsIn z xs → bytes w ≡ bytes z → (w ≡ z → ⊥) → IsAgain bytes xs z ⊎ IsAgain bytes xs w
 either_again bytes [] w z i j e n = absurd i
 either_again bytes (x ∷ xs) w z (inl i) (inl j) e n = absurd (n (i ∙ sym j))
 either_again bytes (x ∷ xs) w z (inl i) (inr j) e n = inl (inl (j, ap bytes (sym i) ∙ e))
@@ -30,19 +45,19 @@ module _ {X : Type 0} (counts : List ℕ → Bool) (bytes : X → List ℕ) (pos
   -- each that counts is at a lower position than those after it
   abbrev pub LieBefore : List X → Type 0
   LieBefore [] = ⊤
-  LieBefore (x ∷ xs) = ((z : X) → IsOneOf z xs → counts (bytes x) ≡ true → position x < position z) × LieBefore xs
+  LieBefore (x ∷ xs) = ((z : X) → IsIn z xs → counts (bytes x) ≡ true → position x < position z) × LieBefore xs
 
 module _ {X : Type 0} (order : List ℕ → List ℕ → Ordering) (laws : IsKeyOrder order) (counts : List ℕ → Bool) (bytes : X → List ℕ) (position : X → ℕ) where
   -- z has the bytes of one at a lower position
   abbrev HasEarlier : List X → X → Type 0
-  HasEarlier xs z = (w : X) × IsOneOf w xs × IsOneOf z xs × (bytes w ≡ bytes z) × (position w < position z)
+  HasEarlier xs z = (w : X) × IsIn w xs × IsIn z xs × (bytes w ≡ bytes z) × (position w < position z)
 
   pub again_earlier : (xs : List X) (z : X) → counts (bytes z) ≡ true → LieBefore counts bytes position xs → IsAgain bytes xs z → HasEarlier xs z
   again_earlier [] z s h r = absurd r
   again_earlier (x ∷ xs) z s h (inl r) = (x, inl refl, inr r.0, r.1, h.0 z r.0 (ap counts r.1 ∙ s))
   again_earlier (x ∷ xs) z s h (inr r) = let u = again_earlier xs z s h.1 r in (u.0, inr u.1, inr u.2, u.3, u.4)
 
-  earlier_again : (xs : List X) (w z : X) → counts (bytes z) ≡ true → LieBefore counts bytes position xs → IsOneOf w xs → IsOneOf z xs → bytes w ≡ bytes z → position w < position z → IsAgain bytes xs z
+  earlier_again : (xs : List X) (w z : X) → counts (bytes z) ≡ true → LieBefore counts bytes position xs → IsIn w xs → IsIn z xs → bytes w ≡ bytes z → position w < position z → IsAgain bytes xs z
   earlier_again [] w z s h i j e l = absurd i
   earlier_again (x ∷ xs) w z s h (inl i) (inl j) e l = let f : position w ≡ position z = ap position (i ∙ sym j) in absurd (omega arith)
   earlier_again (x ∷ xs) w z s h (inl i) (inr j) e l = inl (j, ap bytes (sym i) ∙ e)
@@ -60,10 +75,7 @@ module _ {X : Type 0} (order : List ℕ → List ℕ → Ordering) (laws : IsKey
   InOrder _ = ⊤
 
   not_less_itself : (a b : List ℕ) → a ≡ b → order a b ≡ Less → ⊥
-  not_less_itself a b e l = let f : order a a ≡ Equal = laws.itself a in let g : order a a ≡ Less = subst (λ c. order a c ≡ Less) (sym e) l in cc
-
-  less_turned : (a b : List ℕ) → order a b ≡ Less → order b a ≡ Less → ⊥
-  less_turned a b l m = let f : order b a ≡ Greater = laws.turned a b ∙ ap ordering_reverse l in cc
+  not_less_itself a b e l = never_itself order laws a (subst (λ c. order a c ≡ Less) (sym e) l)
 
   comes_on : (x y z : X) → Comes x y → Comes y z → Comes x z
   comes_on x y z (inl h) (inl k) = inl (laws.along (bytes x) (bytes y) (bytes z) h k)
@@ -71,14 +83,14 @@ module _ {X : Type 0} (order : List ℕ → List ℕ → Ordering) (laws : IsKey
   comes_on x y z (inr h) (inl k) = inl (subst (λ c. order c (bytes z) ≡ Less) (sym h.0) k)
   comes_on x y z (inr h) (inr k) = inr (h.0 ∙ k.0, (λ s. let f = h.1 s in let g = k.1 (ap counts (sym h.0) ∙ s) in omega arith))
 
-  first_comes : (x : X) (xs : List X) (z : X) → InOrder (x ∷ xs) → IsOneOf z xs → Comes x z
+  first_comes : (x : X) (xs : List X) (z : X) → InOrder (x ∷ xs) → IsIn z xs → Comes x z
   first_comes x [] z o i = absurd i
   first_comes x (y ∷ ys) z o (inl e) = subst (Comes x) (sym e) o.0
   first_comes x (y ∷ ys) z o (inr i) = comes_on x y z o.0 (first_comes y ys z o.1 i)
 
   -- between two with equal bytes stand none with others
   between : (x y z : X) → counts (bytes z) ≡ true → Comes x y → Comes y z → bytes x ≡ bytes z → (bytes x ≡ bytes y) × (position y < position z)
-  between x y z s (inl h) (inl k) e = absurd (less_turned (bytes x) (bytes y) h (subst (λ c. order (bytes y) c ≡ Less) (sym e) k))
+  between x y z s (inl h) (inl k) e = absurd (never_both order laws (bytes x) (bytes y) h (subst (λ c. order (bytes y) c ≡ Less) (sym e) k))
   between x y z s (inl h) (inr k) e = absurd (not_less_itself (bytes x) (bytes y) (e ∙ sym k.0) h)
   between x y z s (inr h) (inl k) e = absurd (not_less_itself (bytes y) (bytes z) (sym h.0 ∙ e) k)
   between x y z s (inr h) (inr k) e = (h.0, k.1 (ap counts k.0 ∙ s))
@@ -95,7 +107,7 @@ module _ {X : Type 0} (order : List ℕ → List ℕ → Ordering) (laws : IsKey
   tied_earlier (x ∷ y ∷ ys) z s o (inr t) = let u = tied_earlier (y ∷ ys) z s o.1 t in (u.0, inr u.1, inr u.2, u.3, u.4)
   tied_earlier _ z s o t = absurd t
 
-  earlier_tied : (xs : List X) (w z : X) → counts (bytes z) ≡ true → InOrder xs → IsOneOf w xs → IsOneOf z xs → bytes w ≡ bytes z → position w < position z → IsTied bytes xs z
+  earlier_tied : (xs : List X) (w z : X) → counts (bytes z) ≡ true → InOrder xs → IsIn w xs → IsIn z xs → bytes w ≡ bytes z → position w < position z → IsTied bytes xs z
   earlier_tied [] w z s o i j e l = absurd i
   earlier_tied (x ∷ xs) w z s o (inl i) (inl j) e l = let f : position w ≡ position z = ap position (i ∙ sym j) in absurd (omega arith)
   earlier_tied (x ∷ []) w z s o (inl i) (inr j) e l = absurd j
@@ -113,20 +125,13 @@ module _ {X : Type 0} (order : List ℕ → List ℕ → Ordering) (laws : IsKey
       ]
   earlier_tied (x ∷ y ∷ ys) w z s o (inr i) (inr j) e l = inr (earlier_tied (y ∷ ys) w z s o.1 i j e l)
 
-  pub one_of_moved : (xs ys : List X) (z : X) → IsPermutation xs ys → IsOneOf z xs → IsOneOf z ys
-  one_of_moved xs ys z p i = at_member (λ x. IsOneOf x ys) z xs i (All_moved (λ x. IsOneOf x ys) ys xs (IsPermutation-sym xs ys p) (all_in ys))
-    where
-      all_in : (l : List X) → AllByRecursion (λ x. IsOneOf x l) l
-      all_in [] = tt
-      all_in (x ∷ xs) = (inl refl, weaker (λ z. IsOneOf z xs) (λ z. IsOneOf z (x ∷ xs)) (λ z h. inr h) xs (all_in xs))
-
   -- of keys in the order of their positions, the repeats are those that tie once the keys are sorted
   pub again_tied : (xs ys : List X) (z : X) → counts (bytes z) ≡ true → LieBefore counts bytes position xs → IsPermutation xs ys → InOrder ys → IsAgain bytes xs z ↔ IsTied bytes ys z
   again_tied xs ys z s h p o = (
-    (λ r. let u = again_earlier xs z s h r in earlier_tied ys u.0 z s o (one_of_moved xs ys u.0 p u.1) (one_of_moved xs ys z p u.2) u.3 u.4),
+    (λ r. let u = again_earlier xs z s h r in earlier_tied ys u.0 z s o (moved_in xs ys u.0 p u.1) (moved_in xs ys z p u.2) u.3 u.4),
     (λ t. let u = tied_earlier ys z s o t in
         let q = IsPermutation-sym xs ys p in
-        earlier_again xs u.0 z s h (one_of_moved ys xs u.0 q u.1) (one_of_moved ys xs z q u.2) u.3 u.4),
+        earlier_again xs u.0 z s h (moved_in ys xs u.0 q u.1) (moved_in ys xs z q u.2) u.3 u.4),
   )
 
   -- both count, and are at one position
@@ -165,7 +170,7 @@ module _ {X : Type 0} (order : List ℕ → List ℕ → Ordering) (laws : IsKey
           go true true true e f = absurd (let m = eqb-true (position x) (position z) f in let k = l e in omega arith)
           go _ _ _ e f = refl
 
-      apart_from : (x : X) (xs : List X) → ((z : X) → IsOneOf z xs → counts (bytes x) ≡ true → position x < position z) → AllByRecursion (λ z. AtOnePlace x z ≡ false) xs
+      apart_from : (x : X) (xs : List X) → ((z : X) → IsIn z xs → counts (bytes x) ≡ true → position x < position z) → AllByRecursion (λ z. AtOnePlace x z ≡ false) xs
       apart_from x [] h = tt
       apart_from x (y ∷ ys) h = (apart x y (h y (inl refl)), apart_from x ys (λ z i. h z (inr i)))
 

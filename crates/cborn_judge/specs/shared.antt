@@ -1,4 +1,3 @@
 pub mod Checked
 pub mod Judged
-pub mod Repeats
 pub mod Tidy

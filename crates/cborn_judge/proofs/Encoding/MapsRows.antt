@@ -5,6 +5,7 @@ use Rattle.cborn_model.specs.Partial.{last_key}
 use Rattle.cborn_judge.proofs.FirstDefect.{above_by_code}
 use Rattle.cborn_judge.proofs.Meaning.Judging.{no_repeat, new_keys}
 use Rattle.cborn_judge.proofs.Meaning.Meanings.{means_once}
+use Rattle.cborn_det.proofs.Rising.{never_itself}
 use Rattle.cborn_judge.specs.Flaws.{MeanSame}
 use Rattle.cborn_judge.proofs.Loops.{same, both_ways}
 use Rattle.cborn_judge.proofs.SameKeys.{nothing_repeated}
@@ -123,14 +124,11 @@ module _ (order : List ℕ → List ℕ → Ordering) where
     rising_skip k l [] h = tt
     rising_skip k l (m ∷ ks) h = (laws.along k l m h.0 h.1.0, h.1.1)
 
-    not_below : (k : List ℕ) → order k k ≡ Less → ⊥
-    not_below k h = let e : order k k ≡ Equal = laws.itself k in cc
-
     rising_apart : (k : List ℕ) (rs : List Row) (p : ℕ) → k ≢ [] → Rising order (k ∷ filled_keys rs) → IsSameKey k rs p → ⊥
     rising_apart k [] p n h q = q
     rising_apart k ((o, [], v) ∷ rs) p n h (inl q) = n (sym q.1)
     rising_apart k ((o, [], v) ∷ rs) p n h (inr q) = rising_apart k rs p n h q
-    rising_apart k ((o, b ∷ bs, v) ∷ rs) p n h (inl q) = not_below k (subst (λ l. order k l ≡ Less) q.1 h.0)
+    rising_apart k ((o, b ∷ bs, v) ∷ rs) p n h (inl q) = never_itself order laws k (subst (λ l. order k l ≡ Less) q.1 h.0)
     rising_apart k ((o, b ∷ bs, v) ∷ rs) p n h (inr q) = rising_apart k rs p n (rising_skip k (b ∷ bs) (filled_keys rs) h) q
 
     -- keys that rise are the same as none of the others

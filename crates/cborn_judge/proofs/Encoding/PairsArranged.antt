@@ -1,9 +1,9 @@
 -- Pairs that are sorted by their keys: what ties is a repeat, and where nothing does the keys rise.
 use Rattle.std.specs.Prelude.{◌≡◌, ◌≢◌, ◌+◌, ◌-◌, ◌≤◌, ◌∷◌, ◌++◌, ◌↔◌}
-use Rattle.cborn_judge.proofs.Common.{ℕ, inl, inr, List, [], length, map, take, drop, refl, sym, ap, ◌∙◌, subst, arith, take_at, Option, None, Ordering, true, is_lt, IsPermutation, get_or, flat_map, IsSortedBy, IsStrictWeakOrder, map-append, take-append-drop, take_rest, drop-map, drop_all, get_or-map, length-map, take-map, length-take-le, IsPermutation-map, IsPermutation-refl, IsPermutation-append_left, IsPermutation-append_right, ranks_by, Rising, IsKeyOrder, flaw_rank, InvalidReason, DuplicateKey, joined, keys, FindsDefect, KeyOrder, FindsFlaw, Row, row_entry, row_entries, Mark, AreMarked, AreFilled, AreArranged, filled_keys, HasSameKeys, RowRepeat, key_of, pair_of, row_of, FallsIn, TiesIn, mark_order, AreSorted, IsAgain, IsTied, found_alike, All_moved, SomeFlaw}
+use Rattle.cborn_judge.proofs.Common.{ℕ, inl, inr, List, [], length, map, take, drop, refl, sym, ap, ◌∙◌, subst, arith, take_at, Option, None, Ordering, true, is_lt, IsPermutation, get_or, flat_map, IsSortedBy, IsStrictWeakOrder, map-append, take-append-drop, take_rest, drop-map, drop_all, get_or-map, length-map, take-map, length-take-le, IsPermutation-map, IsPermutation-refl, IsPermutation-append_left, IsPermutation-append_right, ranks_by, Rising, IsKeyOrder, flaw_rank, InvalidReason, DuplicateKey, joined, keys, FindsDefect, KeyOrder, FindsFlaw, Row, row_entry, row_entries, Mark, AreMarked, AreFilled, AreArranged, filled_keys, HasSameKeys, RowRepeat, key_of, pair_of, row_of, FallsIn, TiesIn, mark_order, AreSorted, found_alike, All_moved, SomeFlaw}
 use Rattle.std.proofs.lemmas.Cmp.{on_total, then_total, nat_cmp_total}
 use Rattle.cborn_det.proofs.Arranging.{total}
-use Rattle.cborn_judge.proofs.SameKeys.{LieBefore, InOrder, again_tied, sorted_in_order, again_earlier, either_again, one_of_moved}
+use Rattle.cborn_judge.proofs.SameKeys.{IsAgain, IsTied, LieBefore, InOrder, again_tied, sorted_in_order, again_earlier, either_again, moved_in}
 use Rattle.cborn_judge.proofs.Encoding.PairsRead.{is_filled, filled, begin_of, marked_read, marked_rise, IsSplit, marked_split, all_split}
 use Rattle.cborn_judge.proofs.Encoding.PairsMet.{ties_all, same_again, none_falls}
 use Rattle.cborn_judge.proofs.Encoding.MapsRows.{keys-filled, rising_new}
@@ -80,7 +80,7 @@ module _ (order : List ℕ → List ℕ → Ordering) (laws : IsKeyOrder order) 
           let (w, i, j, same, below) = again_earlier order laws is_filled (key_of b) begin_of ms z f rise again in
           let two : w ≡ z → ⊥ = λ k. let at : begin_of w ≡ begin_of z = ap begin_of k in omega (arith, below, at) in
           let new : (v : Mark) → is_filled (key_of b v) ≡ true → IsAgain (key_of b) ys v → ⊥ = λ v g a. rising_new order laws now v.0 rising ((same_again b ys v.0).1 (v, g, refl, a)) in
-          elim (either_again (key_of b) ys w z (one_of_moved order laws is_filled (key_of b) begin_of ms ys w r.moved i) (one_of_moved order laws is_filled (key_of b) begin_of ms ys z r.moved j) same two) [
+          elim (either_again (key_of b) ys w z (moved_in ms ys w r.moved i) (moved_in ms ys z r.moved j) same two) [
             | inl a ↦ new z f a
             | inr a ↦ new w (ap is_filled same ∙ f) a
           ]

@@ -1,8 +1,9 @@
 -- What a loop over keys that follow one another finds.
 use Rattle.std.specs.Prelude.{◌≡◌, ◌+◌, ◌<◌, ◌⊎◌, ◌∷◌, ◌++◌, ◌↔◌}
-use Rattle.cborn_judge.proofs.Common.{ℕ, inl, inr, List, [], length, get_or, map, take, refl, sym, ap, ◌∙◌, subst, true, false, true≢false, Option, None, Some, Ordering, Less, is_some, map-append, Rising, IsEarliest, FindsDefect, KeyOrder, Row, Mark, AreFilled, IsSameKey, HasSameKeys, filled_keys, Falls, HasFall, RowDescent, FindsDescent, key_of, row_of, Keyed, keyed, all_keyed, Met, remembered, IsFall, last_filled, FallsIn, IsTie, last_key, IsOneOf, IsAgain, IsTied, Either, found_both, found_alike}
+use Rattle.cborn_judge.proofs.Common.{ℕ, inl, inr, List, [], length, get_or, map, take, refl, sym, ap, ◌∙◌, subst, true, false, true≢false, Option, None, Some, Ordering, Less, is_some, map-append, Rising, IsEarliest, FindsDefect, KeyOrder, Row, Mark, AreFilled, IsSameKey, HasSameKeys, filled_keys, Falls, HasFall, RowDescent, FindsDescent, key_of, row_of, Keyed, keyed, all_keyed, Met, remembered, IsFall, last_filled, FallsIn, IsTie, last_key, IsIn, Either, found_both, found_alike}
 use Rattle.cborn_model.specs.Earliest.{Finds}
 use Rattle.cborn_judge.specs.declared.defects.Defect.{Defect}
+use Rattle.cborn_judge.proofs.SameKeys.{IsAgain, IsTied}
 use Rattle.cborn_judge.proofs.Loops.{passed_one, same, both_ways, regrouped}
 use Rattle.cborn_judge.proofs.FirstDefect.{alike}
 use Rattle.cborn_judge.proofs.Encoding.PairsRead.{is_filled, filled, not_empty, marked_read}
@@ -138,7 +139,7 @@ module _ (b : List ℕ) where
         (λ h. inr (rest.1 h)),
       )
 
-  same_there : (k : List ℕ) (ms : List Mark) (p : ℕ) → IsSameKey k (map (row_of b) ms) p ↔ ((z : Mark) × IsOneOf z ms × (k ≡ key_of b z) × (p ≡ z.0))
+  same_there : (k : List ℕ) (ms : List Mark) (p : ℕ) → IsSameKey k (map (row_of b) ms) p ↔ ((z : Mark) × IsIn z ms × (k ≡ key_of b z) × (p ≡ z.0))
   same_there k [] p = ((λ h. absurd h), (λ h. absurd h.1))
   same_there k (m ∷ ms) p =
       let rest = same_there k ms p in (

@@ -1,6 +1,6 @@
 -- Pairs that lie in a buffer are read where their marks say.
 use Rattle.std.specs.Prelude.{◌≡◌, ◌+◌, ◌-◌, ◌<◌, ◌≤◌, ◌∷◌, ◌++◌, ◌==◌}
-use Rattle.cborn_judge.proofs.Common.{ℕ, inl, inr, List, [], length, map, take, drop, refl, sym, ap, ◌∙◌, subst, arith, append_assoc, take_at, drop_at, length-append, Bool, true, false, true≢false, flat_map, AllByRecursion, eqb-true, take-add, drop-drop, take-append-drop, AreBytes, joined, Row, row_entries, Mark, AreMarked, between, key_of, pair_of, row_of, IsOneOf, bytes-left, bytes-right, get_or, set, get_or-map, length-map, map-set, set_at, get_or-append_seam}
+use Rattle.cborn_judge.proofs.Common.{ℕ, inl, inr, List, [], length, map, take, drop, refl, sym, ap, ◌∙◌, subst, arith, append_assoc, take_at, drop_at, length-append, Bool, true, false, true≢false, flat_map, AllByRecursion, eqb-true, take-add, drop-drop, take-append-drop, AreBytes, joined, Row, row_entries, Mark, AreMarked, between, key_of, pair_of, row_of, IsIn, bytes-left, bytes-right, get_or, set, get_or-map, length-map, map-set, set_at, get_or-append_seam}
 use Rattle.cborn_judge.proofs.SameKeys.{LieBefore}
 
 pub marked_read : (b y : List ℕ) (rows : List Row) (ms : List Mark) (p : ℕ) → p ≡ length y → b ≡ y ++ joined (row_entries rows) → AreMarked p rows ms → map (row_of b) ms ≡ rows
@@ -23,7 +23,7 @@ marked_read b y (r ∷ rows) (m ∷ ms) p q e a =
 marked_read b y _ _ p q e a = absurd a
 
 -- each begins at this place or after it
-marked_from : (rows : List Row) (ms : List Mark) (p : ℕ) (z : Mark) → AreMarked p rows ms → IsOneOf z ms → p ≤ z.1
+marked_from : (rows : List Row) (ms : List Mark) (p : ℕ) (z : Mark) → AreMarked p rows ms → IsIn z ms → p ≤ z.1
 marked_from [] [] p z a i = absurd i
 marked_from (r ∷ rows) (m ∷ ms) p z a (inl e) = let f : z.1 ≡ p = ap (λ (x : Mark). x.1) (e ∙ a.0) in omega arith
 marked_from (r ∷ rows) (m ∷ ms) p z a (inr i) = let f = marked_from rows ms (p + length r.1 + length r.2) z a.1 i in omega arith
