@@ -13,41 +13,37 @@ ChunkFits c = WidthFits c.width (length c.bytes) × AreBytes c.bytes
 abbrev pub Front : {A : Type 0} → (A → Type 0) → List A → ℕ → Type 0
 Front {A} P xs n = (k : ℕ) (d : A) → k < n → P (get_or xs k d)
 
-pub all_fit : (xs : List Tree) → Front Fits xs (length xs) → FitsAll (trees xs)
-all_fit [] h = tt
-all_fit (x ∷ xs) h = (h 0 x (omega arith), all_fit xs (λ k d l. h (suc k) d (omega arith)))
+-- F of a list says P of each in it.
+module _ {A : Type 0} (F : List A → Type 0) (P : A → Type 0) (none : F []) (more : (x : A) (xs : List A) → (P x × F xs) ↔ F (x ∷ xs)) where
+  pub all_hold : (xs : List A) → Front P xs (length xs) → F xs
+  all_hold [] h = none
+  all_hold (x ∷ xs) h = (more x xs).0 (h 0 x (omega arith), all_hold xs (λ k d l. h (suc k) d (omega arith)))
 
-item_fits : (xs : List Tree) (i : ℕ) (x : Tree) → i < length xs → FitsAll (trees xs) → Fits (get_or xs i x)
-item_fits [] i x l h = absurd (omega arith)
-item_fits (y ∷ xs) zero x l h = h.0
-item_fits (y ∷ xs) (suc i) x l h = item_fits xs i x (omega arith) h.1
+  holds_there : (xs : List A) (i : ℕ) (x : A) → i < length xs → F xs → P (get_or xs i x)
+  holds_there [] i x l h = absurd (omega arith)
+  holds_there (y ∷ xs) zero x l h = ((more y xs).1 h).0
+  holds_there (y ∷ xs) (suc i) x l h = holds_there xs i x (omega arith) ((more y xs).1 h).1
+
+  pub holds_at : (xs : List A) (i : ℕ) (x : A) → i < length xs → x ≡ get_or xs i x → F xs → P x
+  holds_at xs i x l e h = subst P (sym e) (holds_there xs i x l h)
+
+pub all_fit : (xs : List Tree) → Front Fits xs (length xs) → FitsAll (trees xs)
+all_fit = all_hold (λ xs. FitsAll (trees xs)) Fits tt (λ x xs. ((λ h. h), (λ h. h)))
 
 pub fits_at : (xs : List Tree) (i : ℕ) (x : Tree) → i < length xs → x ≡ get_or xs i x → FitsAll (trees xs) → Fits x
-fits_at xs i x l e h = subst Fits (sym e) (item_fits xs i x l h)
+fits_at = holds_at (λ xs. FitsAll (trees xs)) Fits tt (λ x xs. ((λ h. h), (λ h. h)))
 
 pub pairs_fit : (xs : List (Tree × Tree)) → Front PairFits xs (length xs) → FitsEntries (entries xs)
-pairs_fit [] h = tt
-pairs_fit (x ∷ xs) h = let p = h 0 x (omega arith) in (p.0, p.1, pairs_fit xs (λ k d l. h (suc k) d (omega arith)))
-
-pair_fits : (xs : List (Tree × Tree)) (i : ℕ) (x : Tree × Tree) → i < length xs → FitsEntries (entries xs) → PairFits (get_or xs i x)
-pair_fits [] i x l h = absurd (omega arith)
-pair_fits (y ∷ xs) zero x l h = (h.0, h.1)
-pair_fits (y ∷ xs) (suc i) x l h = pair_fits xs i x (omega arith) h.2
+pairs_fit = all_hold (λ xs. FitsEntries (entries xs)) PairFits tt (λ x xs. ((λ h. (h.0.0, h.0.1, h.1)), (λ h. ((h.0, h.1), h.2))))
 
 pub pair_fits_at : (xs : List (Tree × Tree)) (i : ℕ) (x : Tree × Tree) → i < length xs → x ≡ get_or xs i x → FitsEntries (entries xs) → PairFits x
-pair_fits_at xs i x l e h = subst PairFits (sym e) (pair_fits xs i x l h)
+pair_fits_at = holds_at (λ xs. FitsEntries (entries xs)) PairFits tt (λ x xs. ((λ h. (h.0.0, h.0.1, h.1)), (λ h. ((h.0, h.1), h.2))))
 
 pub chunks_fit : (xs : List Chunk) → Front ChunkFits xs (length xs) → ChunksFit xs
-chunks_fit [] h = tt
-chunks_fit (x ∷ xs) h = (h 0 x (omega arith), chunks_fit xs (λ k d l. h (suc k) d (omega arith)))
-
-chunk_fits : (xs : List Chunk) (i : ℕ) (x : Chunk) → i < length xs → ChunksFit xs → ChunkFits (get_or xs i x)
-chunk_fits [] i x l h = absurd (omega arith)
-chunk_fits (y ∷ xs) zero x l h = h.0
-chunk_fits (y ∷ xs) (suc i) x l h = chunk_fits xs i x (omega arith) h.1
+chunks_fit = all_hold ChunksFit ChunkFits tt (λ x xs. ((λ h. h), (λ h. h)))
 
 pub chunk_fits_at : (xs : List Chunk) (i : ℕ) (x : Chunk) → i < length xs → x ≡ get_or xs i x → ChunksFit xs → ChunkFits x
-chunk_fits_at xs i x l e h = subst ChunkFits (sym e) (chunk_fits xs i x l h)
+chunk_fits_at = holds_at ChunksFit ChunkFits tt (λ x xs. ((λ h. h), (λ h. h)))
 
 -- a test of the size, and then one of what it holds
 pub items_and_size : (p : ℕ) (s : Size) (n : ℕ) (xs : List Tree) (r : Bool) → n ≡ length xs → SizeFits s n → (IsTrue r ↔ FitsAll (trees xs)) → (IsTrue r ↔ Fits (Items p s (trees xs)))

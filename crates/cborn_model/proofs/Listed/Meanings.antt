@@ -6,15 +6,13 @@ use Rattle.cborn_model.specs.Meaning.{Means, AllMean}
 -- what nodes mean one by one they mean in order
 pub all_mean : (ts : List Tree) (vs : List Value) → AllZip Means ts vs → AllMean (trees ts) (values_of vs)
 all_mean [] [] h = tt
-all_mean [] (v ∷ vs) h = absurd h
-all_mean (t ∷ ts) [] h = absurd h
 all_mean (t ∷ ts) (v ∷ vs) h = (h.0, all_mean ts vs h.1)
+all_mean _ _ h = absurd h
 
 pub zip_mean : (ts : List Tree) (vs : List Value) → AllMean (trees ts) (values_of vs) → AllZip Means ts vs
 zip_mean [] [] h = tt
-zip_mean [] (v ∷ vs) h = absurd h
-zip_mean (t ∷ ts) [] h = absurd h
 zip_mean (t ∷ ts) (v ∷ vs) h = (h.0, zip_mean ts vs h.1)
+zip_mean _ _ h = absurd h
 
 pub each_means : (ts : List Tree) (vs : Values) → AllMean (trees ts) vs → (ws : List Value) × AllZip Means ts ws
 each_means [] vs h = ([], tt)

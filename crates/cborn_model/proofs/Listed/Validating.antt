@@ -1,19 +1,16 @@
 -- Items of a slice, one by one: what is valid, and how deep.
 use Rattle.std.specs.Prelude.{◌≡◌, ◌+◌, ◌<◌, ◌^◌, ◌∷◌, ◌↔◌}
 use Rattle.cborn_model.proofs.Common.{ℕ, zero, suc, max, List, [], map, length, take, drop, get_or, refl, sym, subst, ◌∙◌, arith, Bool, IsTrue, inl, inr, length-map, Item, item_value, pair_value, Value, array, dict, values_of, pairs_of, IsNew, HasNewKeys, IsProper, AreProper, HasProperPairs, value_depth, values_depth, pairs_depth, Gives}
+use Rattle.cborn_model.proofs.Listed.Fitting.{all_hold}
 use Rattle.cborn_model.proofs.Listed.Trees.{greatest_more}
 use Rattle.cborn_model.proofs.Listed.Values.{value_count-values_of, pair_count-pairs_of}
 use Rattle.cborn_model.proofs.SameItems.Comparing.{values, pairs, IsProperItem, IsProperPair}
 
 pub are_proper_by_item : (is : List Item) → ((k : ℕ) (d : Item) → k < length is → IsProperItem (get_or is k d)) → AreProper (values_of (values is))
-are_proper_by_item [] h = tt
-are_proper_by_item (i ∷ is) h = (h 0 i (omega arith), are_proper_by_item is (λ k d l. h (suc k) d (omega arith)))
+are_proper_by_item = all_hold (λ is. AreProper (values_of (values is))) IsProperItem tt (λ x xs. ((λ h. h), (λ h. h)))
 
 pub are_proper_by_pair : (ps : List (Item × Item)) → ((k : ℕ) (d : Item × Item) → k < length ps → IsProperPair (get_or ps k d)) → HasProperPairs (pairs_of (pairs ps))
-are_proper_by_pair [] h = tt
-are_proper_by_pair (p ∷ ps) h =
-    let t = h 0 p (omega arith) in
-    (t.0, t.1, are_proper_by_pair ps (λ k d l. h (suc k) d (omega arith)))
+are_proper_by_pair = all_hold (λ ps. HasProperPairs (pairs_of (pairs ps))) IsProperPair tt (λ x xs. ((λ h. (h.0.0, h.0.1, h.1)), (λ h. ((h.0, h.1), h.2))))
 
 -- with the bound on the count
 pub array_proper : (is : List Item) (vs : List Value) (r : Bool) → values is ≡ vs → (IsTrue r ↔ AreProper (values_of (values is)) × (length is < 2 ^ 64)) → (IsTrue r ↔ IsProper (array (values_of vs)))

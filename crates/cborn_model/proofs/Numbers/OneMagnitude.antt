@@ -52,9 +52,8 @@ one_magnitude cs bs h k s t e =
 -- equal numbers have one sign, and one magnitude
 pub one_number : (s t : Bool) (m n : List ℕ) → number s m ≡ number t n → (s ≡ t) × (big_endian m ≡ big_endian n)
 one_number true true m n e = (refl, cc)
-one_number true false m n e = cc
-one_number false true m n e = cc
 one_number false false m n e = (refl, cc)
+one_number _ _ m n e = cc
 
 pub fits_in : (n i : ℕ) → n < 256 ^ i → i ≤ 8 → n < 2 ^ 64
 fits_in n i h l = let m : 256 ^ i ≤ 256 ^ 8 = pow-le-pow_right (lit< tt) l in omega arith

@@ -40,15 +40,13 @@ proper_parts (p ∷ ps) qs h = let t = proper_parts ps qs h.2 in ((h.0, h.1, t.0
 
 pub same_by_item : (is js : List Item) → length is ≡ length js → ((k : ℕ) (d : Item) → k < length is → Same (item_value (get_or is k d)) (item_value (get_or js k d))) → SameValues (values_of (values is)) (values_of (values js))
 same_by_item [] [] e h = tt
-same_by_item [] (j ∷ js) e h = absurd (omega arith)
-same_by_item (i ∷ is) [] e h = absurd (omega arith)
 same_by_item (i ∷ is) (j ∷ js) e h = (h 0 i (omega arith), same_by_item is js (omega arith) (λ k d l. h (suc k) d (omega arith)))
+same_by_item _ _ e h = absurd (omega arith)
 
 item_same : (is js : List Item) (n : ℕ) (x y : Item) → n < length is → n < length js → SameValues (values_of (values is)) (values_of (values js)) → Same (item_value (get_or is n x)) (item_value (get_or js n y))
-item_same [] js n x y l m h = absurd (omega arith)
-item_same (i ∷ is) [] n x y l m h = absurd (omega arith)
 item_same (i ∷ is) (j ∷ js) zero x y l m h = h.0
 item_same (i ∷ is) (j ∷ js) (suc n) x y l m h = item_same is js n x y (omega arith) (omega arith) h.1
+item_same _ _ n x y l m h = absurd (omega arith)
 
 pub same_item : (is js : List Item) (n : ℕ) (x y : Item) → n < length is → n < length js → x ≡ get_or is n x → y ≡ get_or js n y → SameValues (values_of (values is)) (values_of (values js)) → Same (item_value x) (item_value y)
 same_item is js n x y l m e f h =
@@ -56,9 +54,8 @@ same_item is js n x y l m e f h =
 
 pub same_length : (is js : List Item) → SameValues (values_of (values is)) (values_of (values js)) → length is ≡ length js
 same_length [] [] h = refl
-same_length [] (j ∷ js) h = absurd h
-same_length (i ∷ is) [] h = absurd h
 same_length (i ∷ is) (j ∷ js) h = ap suc (same_length is js h.1)
+same_length _ _ h = absurd h
 
 -- ---- maps
 

@@ -2,7 +2,7 @@
 use Rattle.std.specs.Prelude.{◌≡◌, ◌∷◌, ◌++◌}
 use Rattle.cborn_model.proofs.Common.{suc, inl, inr, List, [], length, refl, sym, ap, subst, ◌∙◌, arith, IsPermutation, length-append, IsPermutation-refl, IsPermutation-sym, IsPermutation-trans, IsPermutation-cons, IsPermutation-middle, length_permutation, Value, Couples, no_pairs, pair, listed, dict, pairs_of, pair_count, Same, SamePairs, IsNew, HasNewKeys, HasPair, Gives}
 use Rattle.cborn_model.proofs.SameItems.Rearranging.{IsIn, AreIn, are_in_moved}
-use Rattle.cborn_model.proofs.SameItems.Sameness.{same_turned, same_chained}
+use Rattle.cborn_model.proofs.SameItems.Sameness.{same_itself, same_turned, same_chained}
 
 -- each pair of the one is among the others
 abbrev pub AllHave : Couples → List (Value × Value) → Type 0
@@ -54,18 +54,16 @@ member_has p q (r ∷ qs) s t i =
 
 members_have : (ps : Couples) (rs qs : List (Value × Value)) → SamePairs ps rs → AreIn rs qs → AllHave ps qs
 members_have no_pairs [] qs h i = tt
-members_have no_pairs (r ∷ rs) qs h i = absurd h
-members_have (pair k v ps) [] qs h i = absurd h
 members_have (pair k v ps) (r ∷ rs) qs h i = (member_has (k, v) r qs h.0 h.1 i.0, members_have ps rs qs h.2 i.1)
+members_have _ _ qs h i = absurd h
 
 pub all_have : (ps qs : Couples) → Same (dict ps) (dict qs) → AllHave ps (listed qs)
 all_have ps qs h = members_have ps h.0 (listed qs) h.2 (are_in_moved h.0 (listed qs) (IsPermutation-sym (listed qs) h.0 h.1))
 
 as_many : (ps : Couples) (rs : List (Value × Value)) → SamePairs ps rs → pair_count ps ≡ length rs
 as_many no_pairs [] h = refl
-as_many no_pairs (r ∷ rs) h = absurd h
-as_many (pair k v ps) [] h = absurd h
 as_many (pair k v ps) (r ∷ rs) h = ap suc (as_many ps rs h.2)
+as_many _ _ h = absurd h
 
 pub same_count : (ps qs : Couples) → Same (dict ps) (dict qs) → pair_count ps ≡ length (listed qs)
 same_count ps qs h = as_many ps h.0 h.2 ∙ length_permutation (listed qs) h.0 h.1
@@ -77,15 +75,13 @@ not_new k l v [] new s h = h
 not_new k l v (q ∷ qs) new s h =
     elim h [ inl t ↦ new.0 (same_chained l k q.0 s t.0) | inr t ↦ not_new k l v qs new.1 s t ]
 
-not_given : (k l v : Value) (qs : List (Value × Value)) → IsNew l (pairs_of qs) → Same l k → Gives k v qs → ⊥
-not_given k l v [] new s h = h
-not_given k l v (q ∷ qs) new s h =
-    elim h [ inl t ↦ new.0 (same_chained l k q.0 s t.0) | inr t ↦ not_given k l v qs new.1 s t ]
-
 pub given_has : (k v w : Value) (qs : List (Value × Value)) → Gives k w qs → Same v w → HasPair (k, v) qs
 given_has k v w [] h s = h
 given_has k v w (q ∷ qs) h s =
     elim h [ inl t ↦ inl (t.0, subst (λ (z : Value). Same v z) t.1 s) | inr t ↦ inr (given_has k v w qs t s) ]
+
+not_given : (k l v : Value) (qs : List (Value × Value)) → IsNew l (pairs_of qs) → Same l k → Gives k v qs → ⊥
+not_given k l v qs new s h = not_new k l v qs new s (given_has k v v qs h (same_itself v))
 
 -- with distinct keys the value that is given is the one
 pub given_only : (k v w : Value) (qs : List (Value × Value)) → HasNewKeys (pairs_of qs) → Gives k w qs → HasPair (k, v) qs → Same v w

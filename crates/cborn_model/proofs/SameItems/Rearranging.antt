@@ -52,9 +52,8 @@ module _ {X Y : Type 0} (R : X → Y → Type 0) where
 
 pub turned_zip : {X Y : Type 0} (R : X → Y → Type 0) (S : Y → X → Type 0) → ((x : X) (y : Y) → R x y → S y x) → (xs : List X) (ys : List Y) → AllZip R xs ys → AllZip S ys xs
 turned_zip R S f [] [] h = tt
-turned_zip R S f [] (y ∷ ys) h = h
-turned_zip R S f (x ∷ xs) [] h = h
 turned_zip R S f (x ∷ xs) (y ∷ ys) h = (f x y h.0, turned_zip R S f xs ys h.1)
+turned_zip R S f _ _ h = h
 
 pub carried_left : {X Y : Type 0} (R : X → Y → Type 0) (xs xs' : List X) (ys : List Y) → AllZip R xs ys → IsPermutation xs xs' → (ys' : List Y) × IsPermutation ys ys' × AllZip R xs' ys'
 carried_left R xs xs' ys h p =

@@ -24,15 +24,13 @@ SamePair p q = Same p.0 q.0 × Same p.1 q.1
 
 pub zip_from_pairs : (ps : Couples) (rs : List (Value × Value)) → SamePairs ps rs → AllZip SamePair (listed ps) rs
 zip_from_pairs no_pairs [] h = tt
-zip_from_pairs no_pairs (r ∷ rs) h = absurd h
-zip_from_pairs (pair k v ps) [] h = absurd h
 zip_from_pairs (pair k v ps) (r ∷ rs) h = ((h.0, h.1), zip_from_pairs ps rs h.2)
+zip_from_pairs _ _ h = absurd h
 
 pub pairs_from_zip : (ps : Couples) (rs : List (Value × Value)) → AllZip SamePair (listed ps) rs → SamePairs ps rs
 pairs_from_zip no_pairs [] h = tt
-pairs_from_zip no_pairs (r ∷ rs) h = absurd h
-pairs_from_zip (pair k v ps) [] h = absurd h
 pairs_from_zip (pair k v ps) (r ∷ rs) h = (h.0.0, h.0.1, pairs_from_zip ps rs h.1)
+pairs_from_zip _ _ h = absurd h
 
 mutual
   pub same_turned : (a b : Value) → Same a b → Same b a
