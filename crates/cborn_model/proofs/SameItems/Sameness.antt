@@ -58,33 +58,22 @@ mutual
 mutual
   pub same_chained : (a b c : Value) → Same a b → Same b c → Same a c
   same_chained (integer s m) (integer t n) (integer u o) h k = h ∙ k
-  same_chained (integer s m) (integer t n) _ h k = absurd k
   same_chained (bytes b) (bytes c) (bytes d) h k = h ∙ k
-  same_chained (bytes b) (bytes c) _ h k = absurd k
   same_chained (text b) (text c) (text d) h k = h ∙ k
-  same_chained (text b) (text c) _ h k = absurd k
   same_chained (array vs) (array ws) (array us) h k = values_chained vs ws us h k
-  same_chained (array vs) (array ws) _ h k = absurd k
   same_chained (dict ps) (dict qs) (dict us) h k =
       let t = carried_left SamePair (listed qs) h.0 k.0 (zip_from_pairs qs k.0 k.2) h.1 in
       (t.0, IsPermutation-trans (listed us) k.0 t.0 k.1 t.1, pairs_chained ps h.0 t.0 h.2 t.2)
-  same_chained (dict ps) (dict qs) _ h k = absurd k
   same_chained (tagged t v) (tagged u w) (tagged r x) h k = (h.0 ∙ k.0, same_chained v w x h.1 k.1)
-  same_chained (tagged t v) (tagged u w) _ h k = absurd k
   same_chained (simple n) (simple m) (simple o) h k = h ∙ k
-  same_chained (simple n) (simple m) _ h k = absurd k
-  same_chained _ _ _ h k = absurd h
+  same_chained _ _ _ h k = absurd (search (h, k))
 
   pub values_chained : (vs ws us : Values) → SameValues vs ws → SameValues ws us → SameValues vs us
   values_chained no_values no_values no_values h k = tt
-  values_chained no_values no_values (value u us) h k = absurd k
   values_chained (value v vs) (value w ws) (value u us) h k = (same_chained v w u h.0 k.0, values_chained vs ws us h.1 k.1)
-  values_chained (value v vs) (value w ws) no_values h k = absurd k
-  values_chained _ _ _ h k = absurd h
+  values_chained _ _ _ h k = absurd (search (h, k))
 
   pairs_chained : (ps : Couples) (rs ts : List (Value × Value)) → SamePairs ps rs → AllZip SamePair rs ts → SamePairs ps ts
   pairs_chained no_pairs [] [] h z = tt
-  pairs_chained no_pairs [] (t ∷ ts) h z = absurd z
   pairs_chained (pair k v ps) (r ∷ rs) (t ∷ ts) h z = (same_chained k r.0 t.0 h.0 z.0.0, same_chained v r.1 t.1 h.1 z.0.1, pairs_chained ps rs ts h.2 z.1)
-  pairs_chained (pair k v ps) (r ∷ rs) [] h z = absurd z
-  pairs_chained _ _ _ h z = absurd h
+  pairs_chained _ _ _ h z = absurd (search (h, z))
