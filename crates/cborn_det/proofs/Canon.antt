@@ -128,10 +128,10 @@ module _ (order : List ℕ → List ℕ → Ordering) where
 
     pairs_of_one : (ps : Couples) (rs : List (Value × Value)) (es : List Entry) → HasProperPairs ps → AllByRecursion IsProperPair rs → DetPairs order ps es → AllZip DetPair rs es → SamePairs ps rs
     pairs_of_one no_pairs [] [] p q d z = tt
-    pairs_of_one no_pairs rs (e ∷ es) p q d z = absurd d
-    pairs_of_one (pair k v ps) rs [] p q d z = absurd d
     pairs_of_one (pair k v ps) (r ∷ rs) (e ∷ es) p q d z =
         (same_of_one k r.0 e.0 p.0 q.0.0 d.0 z.0.0, same_of_one v r.1 e.1 p.1 q.0.1 d.1 z.0.1, pairs_of_one ps rs es p.2 q.1 d.2 z.1)
+    pairs_of_one no_pairs rs (e ∷ es) p q d z = absurd d
+    pairs_of_one (pair k v ps) rs [] p q d z = absurd d
     pairs_of_one _ _ _ p q d z = absurd z
 
 head_same : (j n k : ℕ) (h g : List ℕ) → n ≡ k → IsLeastHead j n h → IsLeastHead j k g → h ≡ g
@@ -171,9 +171,7 @@ module _ (order : List ℕ → List ℕ → Ordering) (laws : IsKeyOrder order) 
     one_pairs : (ps : Couples) (es fs : List Entry) → DetPairs order ps es → DetPairs order ps fs → es ≡ fs
     one_pairs no_pairs [] [] d e = refl
     one_pairs (pair k v ps) (g ∷ es) (h ∷ fs) d e = λ i. (one_det k g.0 h.0 d.0 e.0 i, one_det v g.1 h.1 d.1 e.1 i) ∷ one_pairs ps es fs d.2 e.2 i
-    one_pairs no_pairs [] (h ∷ fs) d e = absurd e
-    one_pairs (pair k v ps) (g ∷ es) [] d e = absurd e
-    one_pairs _ _ fs d e = absurd d
+    one_pairs _ _ _ d e = absurd (search (e, d))
 
   -- items that are the same have one encoding
   mutual
@@ -207,11 +205,7 @@ module _ (order : List ℕ → List ℕ → Ordering) (laws : IsKeyOrder order) 
     one_of_pairs no_pairs [] [] [] p q h d z = refl
     one_of_pairs (pair k v ps) (r ∷ rs) (e ∷ es) (g ∷ gs) p q h d z =
         λ i. (one_of_same k r.0 e.0 g.0 p.0 q.0.0 h.0 d.0 z.0.0 i, one_of_same v r.1 e.1 g.1 p.1 q.0.1 h.1 d.1 z.0.1 i) ∷ one_of_pairs ps rs es gs p.2 q.1 h.2 d.2 z.1 i
-    one_of_pairs no_pairs [] (e ∷ es) gs p q h d z = absurd d
-    one_of_pairs no_pairs [] [] (g ∷ gs) p q h d z = absurd z
-    one_of_pairs (pair k v ps) (r ∷ rs) [] gs p q h d z = absurd d
-    one_of_pairs (pair k v ps) (r ∷ rs) (e ∷ es) [] p q h d z = absurd z
-    one_of_pairs _ _ es gs p q h d z = absurd h
+    one_of_pairs _ _ _ _ p q h d z = absurd (search (d, z, h))
 
 -- ---- each valid item has an encoding
 

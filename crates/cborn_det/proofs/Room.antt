@@ -251,9 +251,7 @@ module _ (order : List ℕ → List ℕ → Ordering) where
         let e : length (joined (w ∷ ws)) ≡ length (w.0 ++ w.1) + length (joined ws) = length-append (w.0 ++ w.1) (joined ws) in
         let l : length (spelled_entries (entry k v es)) ≡ length (spelled k ++ spelled v) + length (spelled_entries es) = length-append (spelled k ++ spelled v) (spelled_entries es) in
         omega (arith, e, l, length-append w.0 w.1, length-append (spelled k) (spelled v), item_room k a w.0 f.0 m.0 d.0, item_room v b w.1 f.1 m.1 d.1, entries_room es ps ws f.2 m.2 d.2)
-    entries_room no_entry (pair a b ps) written f m d = absurd m
-    entries_room (entry k v es) no_pairs written f m d = absurd m
-    entries_room _ _ _ f m d = absurd d
+    entries_room _ _ _ f m d = absurd (search (m, d))
 
   pub sequence_room : (nodes : List Tree) (vs : List Value) (x : List ℕ) → FitsAll (trees nodes) → AllZip Means nodes vs → DetSeq order vs x → 3 * length x + length nodes ≤ 4 * length (spelled_all (trees nodes))
   sequence_room [] [] x f m d = let e : length x ≡ 0 = ap length d in omega (arith, e)

@@ -73,7 +73,7 @@ chunks_flaw : (p : ℕ) (k : StringKind) (cs : List Chunk) (q : ℕ) (r : Invali
 chunks_flaw p OfBytes cs q r = ((λ f. absurd (fine_bytes cs f.0 q r f.1 f.2)), (λ f. absurd (subst (λ z. FlawAt z q r) f.1 f.2)))
 chunks_flaw p OfText cs q r =
     let all = among FlawAt OfText HasBadChunk (λ c p. (p ≡ c.place) × (IsUtf8 c.bytes → ⊥)) NotUtf8 (λ p h. h) (λ c cs p. same)
-        (λ c p r. ((λ d. let g = subst (λ z. FlawAt z p r) d.1 d.2 in (g.1, (g.0, g.2))), (λ d. (string_of OfText c, refl, (d.1.0, d.0, d.1.1))))) cs q r in
+    (λ c p r. ((λ d. let g = subst (λ z. FlawAt z p r) d.1 d.2 in (g.1, (g.0, g.2))), (λ d. (string_of OfText c, refl, (d.1.0, d.0, d.1.1))))) cs q r in
     ((λ f. (TextChunks p cs, refl, all.0 f)), (λ f. all.1 (subst (λ z. FlawAt z q r) f.1 f.2)))
 
 module _ (order : List ℕ → List ℕ → Ordering) where

@@ -60,8 +60,6 @@ module _ (order : List ℕ → List ℕ → Ordering) where
 
   pub written : (ns : List (Tree × Tree)) (rs : List Row) (ps : Couples) → AllZip IsRow ns rs → EntriesMean (entries ns) ps → AreWritten rs ps
   written [] [] no_pairs h m = record { filled = tt; proper = tt; written = tt }
-  written [] (r ∷ rs) ps h m = absurd h
-  written (n ∷ ns) [] ps h m = absurd h
   written (n ∷ ns) (r ∷ rs) (pair a b ps) h m =
       let k = meant n.0 a r.1 h.0.1 m.0 in
       let v = meant n.1 b r.2 h.0.2 m.1 in
@@ -71,7 +69,7 @@ module _ (order : List ℕ → List ℕ → Ordering) where
         proper = (k.0, v.0, w.proper);
         written = (k.1, v.1, w.written);
       }
-  written _ _ _ h m = absurd m
+  written _ _ _ h m = absurd (search (h, m))
 
   -- of rows whose keys rise
   pub as_they_stand : (rs : List Row) → AreFilled rs → Rising order (filled_keys rs) → AreArranged order rs (joined (row_entries rs))

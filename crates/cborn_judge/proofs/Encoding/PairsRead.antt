@@ -24,9 +24,9 @@ marked_read b y _ _ p q e a = absurd a
 
 -- each begins at this place or after it
 marked_from : (rows : List Row) (ms : List Mark) (p : ℕ) (z : Mark) → AreMarked p rows ms → IsIn z ms → p ≤ z.1
-marked_from [] [] p z a i = absurd i
 marked_from (r ∷ rows) (m ∷ ms) p z a (inl e) = let f : z.1 ≡ p = ap (λ (x : Mark). x.1) (e ∙ a.0) in omega arith
 marked_from (r ∷ rows) (m ∷ ms) p z a (inr i) = let f = marked_from rows ms (p + length r.1 + length r.2) z a.1 i in omega arith
+marked_from [] [] p z a i = absurd i
 marked_from _ _ p z a i = absurd a
 
 abbrev pub is_filled : List ℕ → Bool

@@ -54,17 +54,15 @@ mutual
   inner_string q _ b h i = absurd h
 
   inner_all : (q : Tree) (ts : Trees) (vs : Values) → AllMean ts vs → WithinAll q ts → (u : Value) × Means q u
-  inner_all q no_item vs m i = absurd i
-  inner_all q (more t ts) no_values m i = absurd m
   inner_all q (more t ts) (value v vs) m (inl i) = inner_means q t v m.0 i
   inner_all q (more t ts) (value v vs) m (inr i) = inner_all q ts vs m.1 i
+  inner_all q _ _ m i = absurd (search (i, m))
 
   inner_entries : (q : Tree) (es : Entries) (ps : Couples) → EntriesMean es ps → WithinEntries q es → (u : Value) × Means q u
-  inner_entries q no_entry ps m i = absurd i
-  inner_entries q (entry k v es) no_pairs m i = absurd m
   inner_entries q (entry k v es) (pair a b ps) m (inl i) = inner_means q k a m.0 i
   inner_entries q (entry k v es) (pair a b ps) m (inr (inl i)) = inner_means q v b m.1 i
   inner_entries q (entry k v es) (pair a b ps) m (inr (inr i)) = inner_entries q es ps m.2 i
+  inner_entries q _ _ m i = absurd (search (i, m))
 
 pub no_flaw : (t : Tree) (v : Value) → Means t v → (p : ℕ) (r : InvalidReason) → Flaw t p r → ⊥
 no_flaw t v m p r f = let u = inner_means f.0 t v m f.1 in sound_node f.0 u.0 p r u.1 f.2

@@ -44,17 +44,13 @@ mutual
   all_mean_once no_item no_values no_values h k = refl
   all_mean_once (more t ts) (value v vs) (value w ws) h k =
       λ i. value (means_once t v w h.0 k.0 i) (all_mean_once ts vs ws h.1 k.1 i)
-  all_mean_once no_item no_values (value w ws) h k = absurd k
-  all_mean_once (more t ts) (value v vs) no_values h k = absurd k
-  all_mean_once _ _ ws h k = absurd h
+  all_mean_once _ _ _ h k = absurd (search (k, h))
 
   pub entries_mean_once : (es : Entries) (ps qs : Couples) → EntriesMean es ps → EntriesMean es qs → ps ≡ qs
   entries_mean_once no_entry no_pairs no_pairs h k = refl
   entries_mean_once (entry k v es) (pair a b ps) (pair c d qs) h j =
       λ i. pair (means_once k a c h.0 j.0 i) (means_once v b d h.1 j.1 i) (entries_mean_once es ps qs h.2 j.2 i)
-  entries_mean_once no_entry no_pairs (pair c d qs) h k = absurd k
-  entries_mean_once (entry k v es) (pair a b ps) no_pairs h j = absurd j
-  entries_mean_once _ _ qs h _ = absurd h
+  entries_mean_once _ _ _ h j = absurd (search (h, j))
 
 -- ---- byte strings
 
@@ -251,17 +247,13 @@ meaning_shallow t v f h = means_shallow t v (words_fit t f) h
 
 values_built : (ns : List Tree) (items : List Item) (vs : Values) → AllZip IsItemOf ns items → AllMean (trees ns) vs → values_of (map item_value items) ≡ vs
 values_built [] [] no_values h m = refl
-values_built [] (x ∷ xs) vs h m = absurd h
-values_built (n ∷ ns) [] vs h m = absurd h
 values_built (n ∷ ns) (x ∷ xs) (value v vs) h m = λ i. value (h.0 v m.0 i) (values_built ns xs vs h.1 m.1 i)
-values_built _ _ _ h m = absurd m
+values_built _ _ _ h m = absurd (search (h, m))
 
 couples_built : (ns : List (Tree × Tree)) (pairs : List (Item × Item)) (ps : Couples) → AllZip IsPairOf ns pairs → EntriesMean (entries ns) ps → pairs_of (map pair_value pairs) ≡ ps
 couples_built [] [] no_pairs h m = refl
-couples_built [] (x ∷ xs) ps h m = absurd h
-couples_built (n ∷ ns) [] ps h m = absurd h
 couples_built (n ∷ ns) (x ∷ xs) (pair a b ps) h m = λ i. pair (h.0.0 a m.0 i) (h.0.1 b m.1 i) (couples_built ns xs ps h.1 m.2 i)
-couples_built _ _ _ h m = absurd m
+couples_built _ _ _ h m = absurd (search (h, m))
 
 -- once a loop has passed all
 pub array_built : (p : ℕ) (s : Size) (ns : List Tree) (i : ℕ) (items : List Item) (l : List Value) (v : Value) → length ns ≤ i → AllZip IsItemOf (take i ns) items → l ≡ map item_value items → Means (Items p s (trees ns)) v → array (values_of l) ≡ v
