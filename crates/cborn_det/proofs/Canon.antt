@@ -58,9 +58,6 @@ integer_one s t m n x p q =
     no_bignum : (s : Bool) (m : List ℕ) (t : Bool) (n x : List ℕ) → (big_endian m < 2 ^ 64) × IsLeastHead (major_of s) (big_endian m) x → (2 ^ 64 ≤ big_endian n) × (h : List ℕ) × (c : List ℕ) × IsLeastHead 6 (bignum_tag t) h × IsString 2 n c × (x ≡ h ++ c) → ⊥
     no_bignum s m t n x a b = omega (arith, (one_head {m = major_of s} {j = 6} (least (big_endian m)) (least (bignum_tag t)) [] b.2 a.1 b.3 (append-nil x ∙ b.5)).major, small s)
 
-simple_one : (n m : ℕ) (x : List ℕ) → IsLeastHead 7 n x → IsLeastHead 7 m x → n ≡ m
-simple_one n m x p q = (one_head {m = 7} {j = 7} (least n) (least m) [] [] p q refl).argument
-
 abbrev IsProperPair : Value × Value → Type 0
 IsProperPair p = IsProper p.0 × IsProper p.1
 
@@ -114,7 +111,7 @@ module _ (order : List ℕ → List ℕ → Ordering) where
     same_of_one (tagged t v) (tagged u w) x p q d e =
         let o = one_head {m = 6} {j = 6} (least t) (least u) d.1 e.1 d.2 e.2 (sym d.4 ∙ e.4) in
         (o.argument, same_of_one v w d.1 p.3 q.3 d.3 (subst (Det order w) (sym o.rest) e.3))
-    same_of_one (simple n) (simple m) x p q d e = simple_one n m x d.1 e.1
+    same_of_one (simple n) (simple m) x p q d e = (one_head {m = 7} {j = 7} (least n) (least m) [] [] d.1 e.1 refl).argument
     same_of_one a b x p q d e = absurd (omega (arith, same_kind a b x d e p q))
 
     values_of_one : (vs ws : Values) (c : List ℕ) → AreProper vs → AreProper ws → value_count vs ≡ value_count ws → DetValues order vs c → DetValues order ws c → SameValues vs ws

@@ -4,14 +4,10 @@ use Rattle.cborn_judge.proofs.Common.{inl, inr, List, [], Tree, trees, Within, W
 use Rattle.std.specs.Result.{IsErrAnd}
 use Rattle.cborn_judge.specs.declared.faults.Invalid.{Invalid}
 use Rattle.cborn_judge.specs.declared.faults.Invalid.TheVariants.{OutOfMemory, Refused}
-use Rattle.cborn_judge.proofs.Loops.{zip_more}
 use Rattle.cborn_judge.proofs.Meaning.Judging.{meaning}
 use Rattle.cborn_judge.proofs.Meaning.Placing.{flaw_within, flaw_after}
 
 -- ---- what the nodes of a sequence mean, or the first flaw of the first that means nothing, as a loop over them meets them
-
-pub mean_more : (ts : List Tree) (vs : List Value) (t : Tree) (v : Value) → AllZip Means ts vs → Means t v → AllZip Means (ts ++ t ∷ []) (vs ++ v ∷ [])
-mean_more = zip_more Means
 
 refused_here : (ts : List Tree) (i : ℕ) (d : Tree) (vs : List Value) (f : Invalid) → i < length ts → AllZip Means (take i ts) vs → IsRefusal (get_or ts i d) f → IsRefusalOfAll ts f
 refused_here [] i d vs f l h r = absurd (omega arith)

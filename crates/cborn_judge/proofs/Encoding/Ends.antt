@@ -7,8 +7,9 @@ use Rattle.cborn_judge.specs.devices.Encoders.{Closes}
 use Rattle.cborn_judge.specs.declared.encoders.Encoder.{Encoder}
 use Rattle.cborn_judge.specs.declared.ends.Findings.{Findings}
 use Rattle.cborn_judge.proofs.Meaning.Meanings.{joined_text, string_means, means_string, means_once}
+use Rattle.cborn_judge.proofs.Meaning.Judging.{no_repeat}
 use Rattle.cborn_judge.proofs.FirstDefect.{alike, both_found}
-use Rattle.cborn_judge.proofs.Encoding.MapsRows.{IsRow, sound_paired, paired_sound, paired_rows, written, map_encoded, repeat_nothing, repeats, descents}
+use Rattle.cborn_judge.proofs.Encoding.MapsRows.{IsRow, sound_paired, paired_sound, paired_rows, written, map_encoded, repeats, descents}
 
 -- ---- how containers end: what the nodes in them mean, the head in the place of a front, and arrays
 
@@ -37,9 +38,6 @@ module _ (order : List ℕ → List ℕ → Ordering) where
       let count : n ≡ value_count (values_of vs) = e ∙ sym (AllZip-long Means ts vs m) ∙ sym (value_count-values_of vs) in
       inl (array (values_of vs), (values_of vs, all_mean ts vs m, refl), (are_proper vs proper, omega arith), (h, x, subst (λ k. IsLeastHead 4 k h) count l, values_of_seq order vs x d, refl))
 
-  array_nothing : (p : ℕ) (s : Size) (ts : List Tree) → IsSound true ts → MeansNothing (Items p s (trees ts))
-  array_nothing p s ts h v m = let (ws, k) = each_means ts m.0 m.1 in h ws k
-
   -- what an array leaves in the buffer
   pub array_ends : (flawed : Bool) (p n start : ℕ) (count : Option ℕ) (s : Size) (ts : List Tree) (x front contents old new : List ℕ) → n < 2 ^ 64 → IsAll count (length ts)
       → old ≡ x ++ (front ++ contents) → start ≡ length x → IsHeadFront 4 count front → IsSound flawed ts → (flawed ≡ false → AreEncodedAs order ts contents × (n ≡ length ts))
@@ -47,7 +45,7 @@ module _ (order : List ℕ → List ℕ → Ordering) where
       → (flawed ≡ false → (m : ℕ) → count ≡ Some m → new ≡ old) → (flawed ≡ false → count ≡ None → start < length old → Replaces (IsLeastHead 4 n) start old new)
       → (c : List ℕ) × Coded order (Items p s (trees ts)) c × (new ≡ x ++ c)
   array_ends true p n start count s ts x front contents old new fits all e b f sound good flawed known set =
-      ([], inr (refl, array_nothing p s ts sound), cut start x (front ++ contents) old new e b (flawed refl))
+      ([], inr (refl, λ v m. let (ws, k) = each_means ts m.0 m.1 in sound ws k), cut start x (front ++ contents) old new e b (flawed refl))
   array_ends false p n start count s ts x front contents old new fits all e b f sound good flawed known set =
       let (coded, many) = good refl in
       let (h, least, whole) = headed 4 n count start x front contents old new e b f (subst (IsAll count) (sym many) all) (known refl) (set refl) in
@@ -327,7 +325,7 @@ module _ (order : List ℕ → List ℕ → Ordering) (laws : IsKeyOrder order) 
       → ((flawed || is_some o) ≡ true → new ≡ take (length x) mid) → ((flawed || is_some o) ≡ false → (m : ℕ) → c ≡ Some m → new ≡ mid)
       → ((flawed || is_some o) ≡ false → c ≡ None → length x < length mid → Replaces (IsLeastHead 5 n) (length x) mid new) → Stays x new
   ended true o x h mid new n l v f i r g cut_off known set = gone x h mid new (nothing v) g (cut_off refl)
-  ended false (Some e) x h mid new n l v f i r g cut_off known set = gone x h mid new (repeat_nothing order p (ended_size s c (length (paired ts))) (paired ts) e.place ((repeats order laws (paired ts) rs here e.place e.reason).0 f.is).1) g (cut_off refl)
+  ended false (Some e) x h mid new n l v f i r g cut_off known set = gone x h mid new (λ v m. no_repeat (entries (paired ts)) m.0 e.place m.1 m.2 ((repeats order laws (paired ts) rs here e.place e.reason).0 f.is).1) g (cut_off refl)
   ended false None x h mid new n l v f i r g cut_off known set =
       let a = r refl (sound v) in
       placed x h a.0 mid new n l i v f a.1 a.2 (known refl) (set refl)

@@ -15,13 +15,9 @@ string_place p OfBytes w x = refl
 string_place p OfText w x = refl
 
 module _ (order : List ℕ → List ℕ → Ordering) where
-  no_chunks : (outer : List Level) (l : Level) (f : Partial) (ms : List Mark) (y : List ℕ) → Stands order outer l f ms y → is_chunks l ≡ false → TakesItem f
+  pub no_chunks : (outer : List Level) (l : Level) (f : Partial) (ms : List Mark) (y : List ℕ) → Stands order outer l f ms y → is_chunks l ≡ false → TakesItem f
   no_chunks outer l (inside f (in_chunks p k) ts) ms y s e = let h : true ≡ false = sym (ap are_chunks s.12.opens.1) ∙ e in cc
   no_chunks outer l _ ms y s e = tt
-
-  -- a string that is none of chunks
-  pub free_there : (outer : List Level) (l : Level) (f : Partial) (ms : List Mark) (y : List ℕ) → Stands order outer l f ms y → is_chunks l ≡ false → Proper f → IsFree f
-  free_there outer l f ms y s e p = (p, no_chunks outer l f ms y s e)
 
   -- with the next bytes of its content
   pub written_more : (e n : Encodings) (s : OpenString) (f : Partial) (y h x b : List ℕ) → Written order e s f y h x → n.out.items ≡ e.out.items ++ b → n.innermost ≡ e.innermost → StandsAs order n f y → AreBytes b → Written order n s f y h (x ++ b)
@@ -97,9 +93,6 @@ module _ (order : List ℕ → List ℕ → Ordering) where
   -- a node with which nothing is wrong
   pub finds_fine : (f : Partial) (t : Tree) (a : Option SomeFlaw) (d : Option SomeDefect) → FindsFlaw (Flaw t) None → FindsDefect (DefectIn order t) None → Finds order f a d → Finds order (put f t) a d
   finds_fine f t a d none sound g = finds_put order f t a None a d None d none sound (none_first (λ f. (f.place, flaw_rank f.reason)) a) (none_first (λ e. (e.place, defect_rank e.reason)) d) g
-
-  pub finds_simple : (f : Partial) (p n : ℕ) (a : Option SomeFlaw) (d : Option SomeDefect) → Finds order f a d → Finds order (put f (Simple p n)) a d
-  finds_simple f p n a d g = finds_fine f (Simple p n) a d (sound_simple p n) (simple_defect p n) g
 
   pub string_flaw : (p : ℕ) (k : StringKind) (w : Width) (x : List ℕ) (good : Bool) (o : Option SomeFlaw) → IsTrue good ↔ IsContent k x → FindsFlaw (λ q r. (q ≡ p) × (r ≡ NotUtf8) × (good ≡ false)) o → FindsFlaw (Flaw (string_tree p k w x)) o
   string_flaw p OfBytes w x good o is h =

@@ -3,7 +3,7 @@ use Rattle.std.specs.Prelude.{◌≡◌, ◌≢◌, ◌∷◌, ◌++◌, ◌↔�
 use Rattle.cborn_judge.proofs.Common.{ℕ, inl, inr, List, [], length, refl, sym, ap, ◌∙◌, subst, arith, None, Ordering, Less, Equal, AllZip, IsPermutation-refl, least, IsLeastHead, Means, EntriesMean, IsKeyOrder, Rising, paired, Tree, Pairs, entries, place, IsProper, HasProperPairs, Value, Couples, dict, no_pairs, pair, pair_count, Same, Size, DefectReason, InvalidReason, Det, DetPairs, keys, joined, IsRepeated, HasRepeat, Descends, HasDescent, DescentAt, RepeatFlaw, MeansNothing, Row, row_entries, IsSameKey, HasSameKeys, RowRepeat, AreFilled, filled_keys, Falls, HasFall, RowDescent, AreArranged, IsEncodedAs, Coded, AreRows, count_entries-entries, same_of_one, one_of_same, holds_below, counted_pairs, some_bytes}
 use Rattle.cborn_model.specs.Partial.{last_key}
 use Rattle.cborn_judge.proofs.FirstDefect.{above_by_code}
-use Rattle.cborn_judge.proofs.Meaning.Judging.{no_repeat, new_keys}
+use Rattle.cborn_judge.proofs.Meaning.Judging.{new_keys}
 use Rattle.cborn_judge.proofs.Meaning.Meanings.{means_once}
 use Rattle.cborn_det.proofs.Rising.{never_itself}
 use Rattle.cborn_judge.specs.Flaws.{MeanSame}
@@ -83,9 +83,6 @@ module _ (order : List ℕ → List ℕ → Ordering) where
       let count : length ns ≡ pair_count ps = sym (count_entries-entries ns) ∙ sym (counted_pairs (entries ns) ps m) in
       let head : IsLeastHead 5 (pair_count ps) h = subst (λ k. IsLeastHead 5 k h) count l in
       (dict ps, (ps, m, new, refl), (w.proper, new, holds_below (least (pair_count ps)) (pair_count ps) head.0), (h, row_entries rs, a.0, head, w.written, a.1, a.2, ap (λ y. h ++ y) a.3))
-
-  pub repeat_nothing : (p : ℕ) (s : Size) (ns : List (Tree × Tree)) (q : ℕ) → HasRepeat (entries ns) q → MeansNothing (Pairs p s (entries ns))
-  repeat_nothing p s ns q h v m = no_repeat (entries ns) m.0 q m.1 m.2 h
 
   module _ (laws : IsKeyOrder order) where
     -- ---- which keys are the same

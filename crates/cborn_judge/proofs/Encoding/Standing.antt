@@ -2,8 +2,7 @@
 use Rattle.std.specs.Prelude.{◌≡◌, ◌+◌, ◌<◌, ◌≤◌, ◌^◌, ◌∷◌, ◌++◌, ◌||◌, ◌%◌, ◌==◌}
 use Rattle.cborn_judge.proofs.Common.{ℕ, inl, inr, List, [], length, append_assoc, append-nil, length-append, refl, sym, ap, ◌∙◌, subst, arith, true, false, true≢false, Bool, not, Ordering, Option, None, cases_lt, same_from_push, AllZip, AllByRecursion, Size, Width, Means, joined_chunks, Tree, place, Partial, top, inside, Opening, an_array, a_map, a_tag, in_chunks, put, string_tree, chunk_of, chunks_of, IsFree, puts, InArray, AtKey, Value, bytes, text, IsProper, DetSeq, joined, MeansNothing, Row, Mark, IsMarked, row_entries, AreMarked, IsEncodedAs, Coded, AreEncodedAs, AreRows, IsSound, is_odd, has_key, after, after_items, Opens, IsFront, Contains, Inner, Stands, IsChunk, IsChunkContent, StringKind, OfBytes, OfText, Container, Level, seq_append, some_bytes}
 use Rattle.cborn_model.specs.Partial.{last_key}
-use Rattle.cborn_judge.proofs.Loops.{zip_append}
-use Rattle.cborn_judge.proofs.FirstFlaw.{mean_more}
+use Rattle.cborn_judge.proofs.Loops.{zip_append, zip_more}
 
 -- a count that is one higher is odd if it was even
 turned : (n : ℕ) → ((n + 1) % 2 ^ 64 % 2 == 1) ≡ not (n % 2 == 1)
@@ -30,7 +29,7 @@ IsVerdict false t = (v : Value) × Means t v
 IsVerdict true t = MeansNothing t
 
 pub sound_more : (b bad : Bool) (ts : List Tree) (t : Tree) → IsSound b ts → IsVerdict bad t → IsSound (b || bad) (ts ++ t ∷ [])
-sound_more false false ts t s v = (s.0 ++ v.0 ∷ [], mean_more ts s.0 t v.0 s.1 v.1)
+sound_more false false ts t s v = (s.0 ++ v.0 ∷ [], zip_more Means ts s.0 t v.0 s.1 v.1)
 sound_more false true ts t s v = λ ws h. let m = zip_last ts t ws h in v m.0 m.1
 sound_more true bad ts t s v = λ ws h. let r = zip_front ts (t ∷ []) ws h in s r.0 r.1
 

@@ -1,6 +1,6 @@
 use Rattle.std.specs.Prelude.{◌≡◌, ◌++◌}
 use Rattle.cborn_judge.proofs.Common.{[], refl, ap, ◌∙◌, sym, subst, true, false, append_assoc, append-nil, string_tree, kept, IsStringFront, is_chunks, marks_of, on_ok}
-use Rattle.cborn_judge.proofs.Encoding.Leaves.{free_there, string_coded, chunk_there, string_place}
+use Rattle.cborn_judge.proofs.Encoding.Leaves.{no_chunks, string_coded, chunk_there, string_place}
 use Rattle.cborn_judge.proofs.Encoding.Standing.{stands_same}
 use Rattle.cborn_judge.proofs.encoders.Encodings.put_string.Goals as goal
 
@@ -35,6 +35,6 @@ returns c = record {
       let front : IsStringFront false s.kind s.len h = subst (λ b. IsStringFront b s.kind s.len h) chunks w.front in
       let cut = c.cut.ensures.cut y (h ++ x) (w.out ∙ append_assoc y h x) w.start in
       let stands = stands_same order old.outer.items new.outer.items old.innermost new.innermost f (marks_of old.pairs) (marks_of new.pairs) y y (ap (λ v. v.items) rest.1) rest.0 (ap marks_of rest.2) refl w.stands in
-      held order f (string_tree s.place s.kind s.width x) y (kept good (h ++ x)) (free_there order old.outer.items old.innermost f (marks_of old.pairs) y w.stands chunks ended.0) (string_place s.place s.kind s.width x) cut w.start
+      held order f (string_tree s.place s.kind s.width x) y (kept good (h ++ x)) (ended.0, no_chunks order old.outer.items old.innermost f (marks_of old.pairs) y w.stands chunks) (string_place s.place s.kind s.width x) cut w.start
       (string_coded order s.place s.kind s.width s.len h x good front ended.2 w.short w.bytes is) stands) c.put.ensures.held;
 }
