@@ -3,7 +3,8 @@ pub use Rattle.std.proofs.Common.{Bool, Bor, Equal, Err, Greater, IsPermutation,
 pub use Rattle.std.proofs.Math.Seq.{get_or-append_seam, map-set_same, take-add}
 pub use Rattle.std.proofs.lemmas.Bool.{cases_eq, cases_lt, eq-eqb, eqb-true, le-ltb, leb-false, leb-true, ltb-true, not-false, not-true}
 pub use Rattle.std.proofs.lemmas.Fn.{always_returns_same}
-pub use Rattle.std.proofs.lemmas.List.{drop-drop, drop-map, drop_all, get_or-map, get_or-set_same, length-map, length-set, length-take-le, map-append, map-set, places, same_from_push, set_at, take-append-drop, take-map, take-set, take_all, take_more, take_more_set, take_rest, with_items_is}
+pub use Rattle.std.proofs.lemmas.List.{drop-drop, drop-map, drop_all, get_or-drop, get_or-map, get_or-set_same, get_or-take, length-map, length-set, length-take, length-take-le, map-append, map-set, places, same_from_push, set_at, take-append-drop, take-map, take-set, take_all, take_more, take_more_set, take_rest, with_items_is}
+pub use Rattle.std.proofs.lemmas.List.Elements.{All-append, All-drop, All-from_get_or, All-from_recursion, All-same, All-take, recursion_from_All}
 pub use Rattle.std.proofs.lemmas.List.Sorted.{IsPermutation-append_left, IsPermutation-append_right, IsPermutation-map, IsPermutation-refl, IsPermutation-sym, IsPermutation-trans, length_permutation, ranks_by}
 pub use Rattle.std.proofs.lemmas.Slice.Zip.{AllZip-long}
 pub use Rattle.std.proofs.lemmas.Str.{IsUtf8-append, IsUtf8-from_ascii, IsUtf8-from_is_utf8, IsUtf8-nil, is_utf8-from_IsUtf8}
@@ -71,7 +72,7 @@ pub use Rattle.cborn_judge.specs.devices.Building.{IsBignumItem, IsItemOf, IsPai
 pub use Rattle.cborn_judge.specs.devices.Encoders.{BeginsAs, EndsWell, HasEnded, IsBignumFound, IsChunk, IsChunkContent, IsContent, IsHeld, IsStringFront, StandsAs, StandsIn, Written, kept, kind_major}
 pub use Rattle.cborn_judge.specs.devices.Encoding.{Amid, AreArranged, AreEncodedAs, AreFilled, AreMarked, AreRows, Coded, Contains, Falls, Finds, FindsDescent, HasFall, HasSameKeys, Inner, IsEncodedAs, IsFront, IsHeadFront, IsMarked, IsOpening, IsSameKey, IsSound, Mark, MeansNothing, Opens, OwnDefect, OwnFlaw, Row, RowDescent, RowRepeat, Stands, after, after_items, are_chunks, filled_keys, has_key, is_chunks, is_odd, row_entries, row_entry}
 pub use Rattle.cborn_judge.specs.devices.Hints.{Tells, front_of, hint_of, length_hint}
-pub use Rattle.cborn_judge.specs.devices.Marks.{AreAllHinted, AreHigher, AreHintedBy, AreSorted, FallAt, FallsIn, IsFall, IsTie, Keyed, Met, TiesIn, all_keyed, all_marks, between, key_of, keyed, last_filled, last_key, mark_of, mark_order, marks_of, narrow_of, pair_of, remembered, row_of}
+pub use Rattle.cborn_judge.specs.devices.Marks.{AreAllHinted, AreHinted, AreHintedBy, is_above, AreSorted, FallAt, FallsIn, IsFall, IsTie, Keyed, Met, TiesIn, all_keyed, all_marks, between, key_of, keyed, last_filled, last_key, mark_of, mark_order, marks_of, narrow_of, pair_of, remembered, row_of}
 pub use Rattle.cborn_judge.specs.shared.Checked.{DefectIn, DefectInAll, DescentAt, IsEarliestDefect, LooseAt, SizeAt}
 pub use Rattle.cborn_judge.specs.shared.Judged.{FindsFlaw, FlawIn, IsEarliestFlaw, RepeatFlaw}
 pub use Rattle.cborn_judge.specs.shared.Tidy.{AllTidy, EntriesTidy, IsTidy, SizeIsTidy, spelled_pairs}

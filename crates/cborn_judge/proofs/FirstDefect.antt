@@ -1,6 +1,6 @@
 -- The first defect of nodes: where one departs, and what concludes of all.
 use Rattle.std.specs.Prelude.{◌≡◌, ◌≢◌, ◌↔◌, ◌⊎◌, ◌∷◌}
-use Rattle.cborn_judge.proofs.Common.{ℕ, List, sym, ◌∙◌, subst, Ordering, Less, Means, IsKeyOrder, Tree, IsProper, Value, Det, NotAbove, IsEncodedAs, same_itself, one_of_same, length, refl, Option, IsByteString, Uint, Nint, Bytes, Text, Width, FindsDefect, LongAt, LooseBytesAt, IsEarliestDefect, LooseAt, DefectIn, IsLoose, DefectAt, defect_rank, Within, DefectReason, Either, SomeDefect, inl, inr, [], None, Some, IsFirst, flaw_rank, spelled, Fits, trees, InvalidReason, DefectInAll, FlawIn, IsFirstFlaw, Defect, IsCheck, IsDeterministic}
+use Rattle.cborn_judge.proofs.Common.{ℕ, List, sym, ◌∙◌, subst, Ordering, Less, Means, IsKeyOrder, Tree, IsProper, Value, Det, NotAbove, IsEncodedAs, same_itself, one_of_same, refl, Option, IsByteString, FindsDefect, LooseBytesAt, IsEarliestDefect, LooseAt, DefectIn, IsLoose, DefectAt, defect_rank, Within, DefectReason, Either, SomeDefect, inl, inr, [], None, Some, IsFirst, flaw_rank, spelled, Fits, trees, InvalidReason, DefectInAll, FlawIn, IsFirstFlaw, Defect, IsCheck, IsDeterministic}
 use Rattle.cborn_model.proofs.Found as firsts
 use Rattle.cborn_judge.proofs.Meaning.Meanings.{means_once, string_once}
 use Rattle.cborn_judge.proofs.Encoded.Checking.{check_sound, check_whole}

@@ -1,6 +1,6 @@
 -- The first flaw of a sequence.
-use Rattle.std.specs.Prelude.{◌⊎◌, ◌∷◌, ◌++◌, ◌≡◌, ◌↔◌, ◌+◌, ◌<◌, ◌≤◌}
-use Rattle.cborn_judge.proofs.Common.{inl, inr, List, [], Tree, trees, Within, WithinAll, ℕ, refl, subst, HasRepeat, FlawAt, Flaw, InvalidReason, DuplicateKey, FlawIn, Size, Items, Pairs, Tagged, Trees, Entries, Width, zero, suc, length, get_or, take, arith, Result, Ok, Err, AllZip, IfErr, IsErr, IsFirst, NoLater, Means, PlacedAll, flaw_rank, spelled, Value, IsRefusal, IsRefusalOfAll}
+use Rattle.std.specs.Prelude.{◌∷◌, ◌≡◌, ◌+◌, ◌<◌}
+use Rattle.cborn_judge.proofs.Common.{inl, inr, List, [], Tree, trees, WithinAll, ℕ, refl, subst, FlawAt, Flaw, InvalidReason, FlawIn, zero, suc, length, get_or, take, arith, Result, Ok, Err, AllZip, IfErr, IsErr, IsFirst, NoLater, Means, PlacedAll, flaw_rank, spelled, Value, IsRefusal, IsRefusalOfAll}
 use Rattle.std.specs.Result.{IsErrAnd}
 use Rattle.cborn_judge.specs.declared.faults.Invalid.{Invalid}
 use Rattle.cborn_judge.specs.declared.faults.Invalid.TheVariants.{OutOfMemory, Refused}

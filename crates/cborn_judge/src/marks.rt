@@ -2,12 +2,12 @@
 //! arranged.
 
 ghost use Rattle.std.specs.Prelude.{◌≡◌, ◌<◌, ◌^◌, ◌++◌};
-ghost use Rattle.cborn_judge.specs.Common.{ℕ, List, length, map, take, drop, flat_map, true, false, Option, None, IfOk, IfSome, OnOk, IsPermutation, joined, IsEarliest};
+ghost use Rattle.cborn_judge.specs.Common.{ℕ, List, length, map, take, drop, flat_map, true, false, Option, None, IfOk, IfSome, IsTrue, OnOk, AllByRecursion, IsPermutation, joined, IsEarliest};
 ghost use Rattle.cborn_judge.specs.Departures.{FindsDefect};
 ghost use Rattle.cborn_judge.specs.Reasons.{defect_rank};
 ghost use Rattle.cborn_judge.specs.shared.Judged.{FindsFlaw};
 ghost use Rattle.cborn_judge.specs.devices.Encoding.{Row, row_entries, Mark as Marked, AreMarked, AreFilled, AreArranged, RowRepeat, FindsDescent};
-ghost use Rattle.cborn_judge.specs.devices.Marks.{mark_of, narrow_of, mark_hint, narrow_hint, between, key_of, pair_of, AreHinted, mark_order, FallAt, TieAt, FallsIn, TiesIn, AreSorted};
+ghost use Rattle.cborn_judge.specs.devices.Marks.{mark_of, narrow_of, mark_hint, narrow_hint, between, key_of, pair_of, AreHinted, is_above, mark_order, FallAt, TieAt, FallsIn, TiesIn, AreSorted};
 
 use crate::defects::Defect;
 use crate::faults::InvalidReason;
@@ -229,20 +229,37 @@ fn sort_apart<O: KeyOrder, S: Spot>(spots: &mut [S], out: &[u8]) -> Option<Flaw>
     ensures { (y : List ℕ) (rows : List Row) → out.now ≡ y ++ joined (row_entries rows) → AreMarked (length y) rows (map S.seen spots.old) → FindsFlaw (RowRepeat rows) result × (result ≡ None → AreFilled rows → AreArranged O.order rows (flat_map (pair_of out.now) (map S.seen spots.new))) }
 {
     spots.sort_unstable_by_key(|spot| spot.hint());
-    if spots.is_sorted_by(|a, b| a.hint() < b.hint()) {
+    if do_rise::<O, S>(spots, out) {
         return None;
     }
     sort_runs::<O, S>(spots, out);
-    if first_fall::<O, S>(spots, out).is_none() {
+    if do_rise::<O, S>(spots, out) {
         return None;
     }
     sort::<O, S>(spots, out);
     first_tie(spots, out)
 }
 
+/// Whether each key is above the one before it. Where the hint is higher, the bytes aren't looked at.
+fn do_rise<O: KeyOrder, S: Spot>(spots: &[S], out: &[u8]) -> bool
+    requires { AreHinted S.hinted S.seen O.order out.now spots.now }
+    ensures { IsTrue result → FindsDefect (FallsIn O.order out.now (map S.seen spots.now)) None }
+{
+    spots.is_sorted_by(|a, b| is_above::<O, S>(out, *a, *b))
+}
+
+/// Whether the second has the higher hint, or else the key that is above the other's.
+#[inline(always)]
+fn is_above<O: KeyOrder, S: Spot>(out: &[u8], a: S, b: S) -> bool
+    ensures { result ≡ is_above S.hinted S.seen O.order out.now a b }
+{
+    a.hint() < b.hint() || O::compare(key_in(out, a.mark()), key_in(out, b.mark())).is_lt()
+}
+
 /// Sorts marks that follow one another with equal hints by their keys.
 fn sort_runs<O: KeyOrder, S: Spot>(spots: &mut [S], out: &[u8])
-    ensures { IsPermutation (map S.seen spots.old) (map S.seen spots.new) }
+    ensures moved { IsPermutation (map S.seen spots.old) (map S.seen spots.new) }
+    ensures hinted { AreHinted S.hinted S.seen O.order out.now spots.old → AreHinted S.hinted S.seen O.order out.now spots.new }
 {
     let mut start = 0;
     for last in 0..spots.len() {
@@ -257,18 +274,34 @@ fn sort_runs<O: KeyOrder, S: Spot>(spots: &mut [S], out: &[u8])
     }
 }
 
-/// Sorts marks by the hints for what comes after the front that all their keys have in common, and
-/// those with equal hints by their keys.
+/// Sorts marks that have the same hint by their keys. They are sorted by the hints for what comes after
+/// the front that all their keys have in common, and those with equal hints by their keys.
 #[inline(never)]
 fn sort_run<O: KeyOrder, S: Spot>(spots: &mut [S], out: &[u8])
-    ensures { IsPermutation (map S.seen spots.old) (map S.seen spots.new) }
+    ensures moved { IsPermutation (map S.seen spots.old) (map S.seen spots.new) }
+    ensures hinted { (n : ℕ) → AllByRecursion (λ s. S.hinted s ≡ n) spots.old → AllByRecursion (λ s. S.hinted s ≡ n) spots.new }
 {
+    let Some(first) = spots.first() else {
+        return;
+    };
+    let hint = first.hint();
     let common = common_len(spots, out);
     hint_after::<O, S>(common, spots, out);
     spots.sort_unstable_by(|a, b| match a.hint().cmp(&b.hint()) {
         Ordering::Equal => compare_keys::<O>(out, a.mark(), b.mark()),
         unequal => unequal,
     });
+    set_hints(hint, spots);
+}
+
+/// Each mark gets this hint.
+fn set_hints<S: Spot>(hint: u64, spots: &mut [S])
+    ensures set { AllByRecursion (λ s. S.hinted s ≡ hint) spots.new }
+    ensures kept { map S.seen spots.new ≡ map S.seen spots.old }
+{
+    for spot in spots.iter_mut() {
+        spot.set_hint(hint);
+    }
 }
 
 /// How many bytes at their front all keys of these marks have in common.

@@ -1,6 +1,6 @@
 -- What is found by a loop over marks that looks at the hints for the keys first.
-use Rattle.std.specs.Prelude.{◌≡◌, ◌+◌, ◌<◌, ◌≤◌, ◌⊎◌, ◌∷◌, ◌++◌, ◌==◌, ◌*◌, ◌/◌, ◌^◌}
-use Rattle.cborn_judge.proofs.Common.{ℕ, suc, inl, inr, List, [], length, get_or, set, nat_lt, add-one, map, take, refl, sym, ap, ◌∙◌, subst, arith, true, false, true≢false, Option, None, Some, Ordering, Less, AllByRecursion, take-set, take_more_set, get_or-set_same, length-set, ltb-true, map-set_same, AreBytes, IsEarliest, defect_rank, KeyOrder, FindsDefect, Tells, Mark, key_of, all_keyed, IsFall, last_filled, FallAt, FallsIn, Met, AreHigher, AreHintedBy, zero, pow-suc, mul-le-mul_right, Equal, IfSome, nat_cmp_is, nat_cmp, ordering_then, cases_lt, le-ltb, bytewise, length_first, order_of, front_of, length_hint, hint_of, lt-ltb}
+use Rattle.std.specs.Prelude.{◌≡◌, ◌+◌, ◌-◌, ◌<◌, ◌≤◌, ◌⊎◌, ◌||◌, ◌∷◌, ◌++◌, ◌==◌, ◌*◌, ◌/◌, ◌^◌}
+use Rattle.cborn_judge.proofs.Common.{ℕ, suc, inl, inr, List, [], length, get_or, set, nat_lt, add-one, map, take, refl, sym, ap, ◌∙◌, subst, arith, true, false, true≢false, Option, None, Some, Ordering, Less, AllByRecursion, take-set, take_more_set, get_or-set_same, length-set, ltb-true, map-set_same, AreBytes, IsEarliest, defect_rank, KeyOrder, FindsDefect, Tells, Mark, key_of, all_keyed, IsFall, last_filled, FallAt, FallsIn, Met, AreHinted, AreHintedBy, is_above, Bool, is_lt, ⊤, drop, IsPermutation, IsKeyOrder, All_moved, All-same, All-append, All-take, All-drop, All-from_recursion, recursion_from_All, All-from_get_or, get_or-take, get_or-drop, length-take, zero, pow-suc, mul-le-mul_right, Equal, IfSome, nat_cmp_is, nat_cmp, ordering_then, cases_lt, le-ltb, bytewise, length_first, order_of, front_of, length_hint, hint_of, lt-ltb}
 use Rattle.cborn_judge.specs.declared.defects.Defect.{Defect}
 use Rattle.cborn_model.specs.declared.orders.KnownOrder.{KnownOrder}
 use Rattle.cborn_model.specs.declared.orders.KnownOrder.TheVariants as known
@@ -91,36 +91,107 @@ module _ {S : Type 0} (seen : S → Mark) (hinted : S → ℕ) (b : List ℕ) wh
             met-take_more (IsFall order) last_filled defect_rank (λ d. d.place) (λ d. d.reason) KeyOrder seen b (set now i t) i t m before key first o found
             (omega (arith, l, length-set now i t)) (sym (get_or-set_same now i t t l)) (q ∙ sym u) k (subst (λ z. FallsMet z before first) (sym (take-set now i t)) p.met) f g
 
-    -- ---- hints that rise
+    -- ---- keys that rise
 
-    below_next : (k l : List ℕ) (n h : ℕ) → (k ≡ []) ⊎ (hint k < n) → n ≤ h → h ≡ hint l → (last_filled k l ≡ []) ⊎ (hint (last_filled k l) < h + 1)
-    below_next k [] n h (inl e) m q = inl e
-    below_next k [] n h (inr l) m q = inr (omega (arith, l, m))
-    below_next k (c ∷ cs) n h low m q = inr (omega (arith, q))
+    -- each key is above the one before it
+    abbrev AreAbove : List ℕ → List S → Type 0
+    AreAbove k [] = ⊤
+    AreAbove k (s ∷ ss) = (order k (key_of b (seen s)) ≡ Less) × AreAbove (key_of b (seen s)) ss
 
-    none_met : Tells order hint → AreBytes b → (k : List ℕ) (n : ℕ) (ss : List S) (p : ℕ) → AreBytes k → (k ≡ []) ⊎ (hint k < n) → AreHintedBy hinted seen hint b ss → AreHigher hinted n ss → Met (IsFall order) last_filled k (all_keyed b (map seen ss)) p → ⊥
-    none_met tells bytes k n [] p bk low a h m = m
-    none_met tells bytes k n (s ∷ ss) p bk low a h (inl f) =
+    low_next : (k key : List ℕ) → (k ≡ []) ⊎ (order k key ≡ Less) → (last_filled k key ≡ []) ⊎ ((last_filled k key ≡ key) ⊎ (order (last_filled k key) key ≡ Less))
+    low_next k [] (inl e) = inl e
+    low_next k [] (inr l) = inr (inr l)
+    low_next k (c ∷ cs) low = inr (inl refl)
+
+    none_met : IsKeyOrder order → (k before : List ℕ) (ss : List S) (p : ℕ) → (k ≡ []) ⊎ ((k ≡ before) ⊎ (order k before ≡ Less)) → AreAbove before ss → Met (IsFall order) last_filled k (all_keyed b (map seen ss)) p → ⊥
+    none_met laws k before [] p low h m = m
+    none_met laws k before (s ∷ ss) p low h m =
         let key = key_of b (seen s) in
-        elim low [
-          | inl e ↦ f.0 e
-          | inr l ↦ f.3 (tells k key bk (bytes_between b (seen s).1 (seen s).2 bytes) (omega (arith, l, h.0, a.0)))
+        let next : (k ≡ []) ⊎ (order k key ≡ Less) = elim low [
+          | inl e ↦ inl e
+          | inr r ↦ inr (elim r [ inl e ↦ subst (λ z. order z key ≡ Less) (sym e) h.0 | inr l ↦ laws.along k before key l h.0 ])
+        ] in
+        elim m [
+          | inl f ↦ elim next [ inl e ↦ f.0 e | inr l ↦ f.3 l ]
+          | inr r ↦ none_met laws (last_filled k key) key ss p (low_next k key next) h.1 r
         ]
-    none_met tells bytes k n (s ∷ ss) p bk low a h (inr m) =
+
+    less_is : (o : Ordering) → true ≡ is_lt o → o ≡ Less
+    less_is Less e = refl
+    less_is _ e = absurd (true≢false e)
+
+    above_by : Tells order hint → AreBytes b → (s t : S) → hinted s ≡ hint (key_of b (seen s)) → hinted t ≡ hint (key_of b (seen t)) → true ≡ is_above hinted seen order b s t → order (key_of b (seen s)) (key_of b (seen t)) ≡ Less
+    above_by tells bytes s t h i e = go (nat_lt (hinted s) (hinted t)) refl
+      where
+        go : (v : Bool) → nat_lt (hinted s) (hinted t) ≡ v → order (key_of b (seen s)) (key_of b (seen t)) ≡ Less
+        go true l = let m = ltb-true (hinted s) (hinted t) l in tells _ _ (bytes_between b (seen s).1 (seen s).2 bytes) (bytes_between b (seen t).1 (seen t).2 bytes) (omega (arith, h, i, m))
+        go false l = less_is (order (key_of b (seen s)) (key_of b (seen t))) (e ∙ ap (λ v. v || is_lt (order (key_of b (seen s)) (key_of b (seen t)))) l)
+
+    above_from : Tells order hint → AreBytes b → (s : S) (ss : List S) → AreHintedBy hinted seen hint b (s ∷ ss)
+        → ((k : ℕ) (d : S) → k + 1 < length (s ∷ ss) → true ≡ is_above hinted seen order b (get_or (s ∷ ss) k d) (get_or (s ∷ ss) (k + 1) d)) → AreAbove (key_of b (seen s)) ss
+    above_from tells bytes s [] a h = tt
+    above_from tells bytes s (t ∷ ss) a h = (
+      above_by tells bytes s t a.0 a.1.0 (h 0 s (omega arith)),
+      above_from tells bytes t ss a.1 (λ k d e. rw add-one (rw add-one at (h (suc k) d (omega (arith, e))))),
+    )
+
+    pub none_fall : IsKeyOrder order → Tells order hint → AreBytes b → (ss : List S) → AreHintedBy hinted seen hint b ss
+        → ((k : ℕ) (d : S) → k + 1 < length ss → true ≡ is_above hinted seen order b (get_or ss k d) (get_or ss (k + 1) d)) → FindsDefect (FallsIn order b (map seen ss)) None
+    none_fall laws tells bytes [] a h p r f = f.1
+    none_fall laws tells bytes (s ∷ ss) a h p r f =
         let key = key_of b (seen s) in
-        none_met tells bytes (last_filled k key) (hinted s + 1) ss p (filled_bytes k key bk (bytes_between b (seen s).1 (seen s).2 bytes)) (below_next k key n (hinted s) low h.0 a.0) a.1 h.1 m
+        elim f.1 [
+          | inl g ↦ g.0 refl
+          | inr m ↦ none_met laws (last_filled [] key) key ss p (low_next [] key (inl refl)) (above_from tells bytes s ss a h) m
+        ]
 
-    pub risen_hints : Tells order hint → AreBytes b → (ss : List S) → AreHintedBy hinted seen hint b ss → AreHigher hinted 0 ss → FindsDefect (FallsIn order b (map seen ss)) None
-    risen_hints tells bytes ss a h p r f = none_met tells bytes [] 0 ss p tt (inl refl) a h f.1
+-- ---- marks that are rearranged
 
--- each is higher than the one before it, as `is_sorted_by` says it
-pub higher_from : {S : Type 0} (hinted : S → ℕ) (n : ℕ) (ss : List S) → ((d : S) → 0 < length ss → n ≤ hinted (get_or ss 0 d)) → ((k : ℕ) (d : S) → k + 1 < length ss → true ≡ nat_lt (hinted (get_or ss k d)) (hinted (get_or ss (k + 1) d))) → AreHigher hinted n ss
-higher_from hinted n [] l a = tt
-higher_from hinted n (s ∷ []) l a = (l s (omega arith), tt)
-higher_from hinted n (s ∷ t ∷ ss) l a = (
-  l s (omega arith),
-  higher_from hinted (hinted s + 1) (t ∷ ss) (λ d e. let m : hinted s < hinted t = ltb-true (hinted s) (hinted t) (sym (a 0 s (omega arith))) in omega (arith, m)) (λ k d e. rw add-one (rw add-one at (a (suc k) d (omega (arith, e))))),
-)
+pub hinted_moved : {S : Type 0} (seen : S → Mark) (hinted : S → ℕ) (b : List ℕ) (order : List ℕ → List ℕ → Ordering) (ss ts : List S) → IsPermutation ss ts → AreHinted hinted seen order b ss → AreHinted hinted seen order b ts
+hinted_moved seen hinted b order ss ts p (hint, tells, a) = (hint, tells, All_moved (λ s. hinted s ≡ hint (key_of b (seen s))) ss ts p a)
+
+-- those of a run of equal hints
+
+module _ {S : Type 0} (seen : S → Mark) (hinted : S → ℕ) (b : List ℕ) (hint : List ℕ → ℕ) (n : ℕ) where
+  abbrev HaveHint : List S → Type 0
+  HaveHint = AllByRecursion (λ s. hinted s ≡ n)
+
+  abbrev IsHinted : S → Type 0
+  IsHinted s = hinted s ≡ hint (key_of b (seen s))
+
+  to_keys : (ss : List S) → AreHintedBy hinted seen hint b ss → HaveHint ss → AllByRecursion (λ m. n ≡ hint (key_of b m)) (map seen ss)
+  to_keys [] a h = tt
+  to_keys (s ∷ ss) a h = (sym h.0 ∙ a.0, to_keys ss a.1 h.1)
+
+  from_keys : (ss : List S) → AllByRecursion (λ m. n ≡ hint (key_of b m)) (map seen ss) → HaveHint ss → AreHintedBy hinted seen hint b ss
+  from_keys [] a h = tt
+  from_keys (s ∷ ss) a h = (h.0 ∙ a.0, from_keys ss a.1 h.1)
+
+  pub run_hinted : (start len : ℕ) (old part new : List S) → HaveHint (take len (drop start old)) → IsPermutation (map seen (take len (drop start old))) (map seen part) → HaveHint part → new ≡ take start old ++ (part ++ drop len (drop start old))
+      → AreHintedBy hinted seen hint b old → AreHintedBy hinted seen hint b new
+  run_hinted start len old part new h p k e a =
+      let all = All-from_recursion IsHinted old a in
+      let rest = All-drop IsHinted start old all in
+      let run = recursion_from_All IsHinted (take len (drop start old)) (All-take IsHinted len (drop start old) rest) in
+      let moved = All_moved (λ m. n ≡ hint (key_of b m)) (map seen (take len (drop start old))) (map seen part) p (to_keys (take len (drop start old)) run h) in
+      let inside = All-from_recursion IsHinted part (from_keys part moved k) in
+      recursion_from_All IsHinted new (All-same IsHinted new _ e (All-append IsHinted (take start old) _ (All-take IsHinted start old all) (All-append IsHinted part _ inside (All-drop IsHinted len (drop start old) rest))))
+
+-- the marks from one index to another have one hint
+abbrev pub AreOfOneHint : {S : Type 0} → (S → ℕ) → ℕ → ℕ → List S → Type 0
+AreOfOneHint {S} hinted start last ss = (j : ℕ) (d : S) → start ≤ j → j ≤ last → last < length ss → hinted (get_or ss j d) ≡ hinted (get_or ss last d)
+
+pub one_hint : {S : Type 0} (hinted : S → ℕ) (start last : ℕ) (ss : List S) → start ≤ last → last < length ss → AreOfOneHint hinted start last ss → (n : ℕ) × AllByRecursion (λ s. hinted s ≡ n) (take (last + 1 - start) (drop start ss))
+one_hint hinted start last [] l m h = absurd (omega (arith, m))
+one_hint {S} hinted start last (x ∷ xs) l m h = (hinted (get_or (x ∷ xs) last x), recursion_from_All (λ s. hinted s ≡ hinted (get_or (x ∷ xs) last x)) run (All-from_get_or (λ s. hinted s ≡ hinted (get_or (x ∷ xs) last x)) run x one))
+  where
+    run : List S
+    run = take (last + 1 - start) (drop start (x ∷ xs))
+
+    one : (i : ℕ) → i < length run → hinted (get_or run i x) ≡ hinted (get_or (x ∷ xs) last x)
+    one i k =
+        let most : i < last + 1 - start = omega (arith, k, length-take (last + 1 - start) (drop start (x ∷ xs))) in
+        ap hinted (get_or-take (last + 1 - start) (drop start (x ∷ xs)) i x most ∙ get_or-drop start (x ∷ xs) i x) ∙ h (start + i) x (omega arith) (omega (arith, most, l)) m
 
 -- ---- keys rise as their hints do, where these differ
 

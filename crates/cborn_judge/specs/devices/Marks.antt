@@ -1,6 +1,6 @@
 -- A device of the proofs: the marks that are kept of pairs, and what is read and found where they lie. Only devices cite it.
-use Rattle.std.specs.Prelude.{◌≡◌, ◌≢◌, ◌+◌, ◌-◌, ◌≤◌, ◌⊎◌, ◌∷◌}
-use Rattle.cborn_judge.specs.Common.{ℕ, ⊤, List, [], map, take, drop, nat_cmp, ordering_then, is_lt, AllByRecursion, IsSortedBy, Ordering, Less, DefectReason, KeyOrder, InvalidReason, DuplicateKey, Mark, NarrowMark, Marks, Narrow, Wide}
+use Rattle.std.specs.Prelude.{◌≡◌, ◌≢◌, ◌-◌, ◌⊎◌, ◌∷◌, ◌||◌, Bool, nat_lt}
+use Rattle.cborn_judge.specs.Common.{ℕ, List, [], map, take, drop, nat_cmp, ordering_then, is_lt, AllByRecursion, IsSortedBy, Ordering, Less, DefectReason, KeyOrder, InvalidReason, DuplicateKey, Mark, NarrowMark, Marks, Narrow, Wide}
 use Rattle.cborn_judge.specs.devices.Hints.{Tells}
 use Rattle.cborn_judge.specs.devices.Encoding as encoding
 use Rattle.cborn_judge.specs.devices.Encoding.{Row}
@@ -42,11 +42,6 @@ row_of b m = (m.0, between m.1 m.2 b, between m.2 m.3 b)
 -- ---- hints that are kept
 
 module _ {S : Type 0} (hinted : S → ℕ) where
-  -- each is higher than the one before it, and the first at least n
-  abbrev pub AreHigher : ℕ → List S → Type 0
-  AreHigher n [] = ⊤
-  AreHigher n (s ∷ ss) = (n ≤ hinted s) × AreHigher (hinted s + 1) ss
-
   module _ (seen : S → encoding.Mark) where
     -- each is the hint for the key
     abbrev pub AreHintedBy : (List ℕ → ℕ) → List ℕ → List S → Type 0
@@ -54,6 +49,10 @@ module _ {S : Type 0} (hinted : S → ℕ) where
 
     abbrev pub AreHinted : (List ℕ → List ℕ → Ordering) → List ℕ → List S → Type 0
     AreHinted order b ss = (hint : List ℕ → ℕ) × Tells order hint × AreHintedBy hint b ss
+
+    -- the second has the higher hint, or else the key that is above the other's
+    abbrev pub is_above : (List ℕ → List ℕ → Ordering) → List ℕ → S → S → Bool
+    is_above order b s t = nat_lt (hinted s) (hinted t) || is_lt (order (key_of b (seen s)) (key_of b (seen t)))
 
 -- so it is of the marks from an index on
 abbrev pub AreAllHinted : (List ℕ → List ℕ → Ordering) → List ℕ → ℕ → Marks → Type 0
