@@ -3,11 +3,11 @@ use Rattle.std.specs.Prelude.{◌≡◌, ◌/◌, ◌%◌, ◌<◌, ◌∷◌, �
 use Rattle.cborn_wire.proofs.Common.{refl, ap, ◌∙◌, ℕ, suc, List, [], Bool, false, leb, eqb, arith, le-leb, lt-leb, ne_eqb, agree_below_at, code, StringKind, OfBytes, OfText, major_of, Slot, element_or_end, chunk, reason_of, reason_at, major_at, reason_alone, Info, info_at, is_reserved, is_endless_head, is_always_bounded, is_other, is_container, is_of_kind, is_bad_chunk, is_float, is_one, head_reason, front_reason}
 use Rattle.cborn_wire.specs.SlotFaults as numbers
 
-other_is : (m : ℕ) → leb 7 m ≡ is_other (major_at m)
+pub other_is : (m : ℕ) → leb 7 m ≡ is_other (major_at m)
 other_is (suc (suc (suc (suc (suc (suc (suc n))))))) = le-leb 7 (suc (suc (suc (suc (suc (suc (suc n))))))) (omega arith)
 other_is m = refl
 
-bounded_is : (m : ℕ) → (leb m 1 || eqb m 6) ≡ is_always_bounded (major_at m)
+pub bounded_is : (m : ℕ) → (leb m 1 || eqb m 6) ≡ is_always_bounded (major_at m)
 bounded_is (suc (suc (suc (suc (suc (suc (suc n))))))) =
     let m = suc (suc (suc (suc (suc (suc (suc n)))))) in
     ap (λ b. b || eqb m 6) (lt-leb m 1 (omega arith)) ∙ ne_eqb m 6 (λ e. omega (arith, e))
@@ -25,13 +25,13 @@ kind_is OfText (suc (suc (suc (suc (suc (suc (suc n))))))) = ne_eqb (suc (suc (s
 kind_is k m = refl
 
 -- information and the data that it is
-record SaysInfo (i : ℕ) (j : Info) : Type 0 where
-  reserved : (leb 28 i && leb i 30) ≡ is_reserved j
-  endless_information : eqb i 31 ≡ is_endless_head j
-  float : (leb 25 i && leb i 27) ≡ is_float j
-  one : eqb i 24 ≡ is_one j
+pub record SaysInfo (i : ℕ) (j : Info) : Type 0 where
+  pub reserved : (leb 28 i && leb i 30) ≡ is_reserved j
+  pub endless_information : eqb i 31 ≡ is_endless_head j
+  pub float : (leb 25 i && leb i 27) ≡ is_float j
+  pub one : eqb i 24 ≡ is_one j
 
-info_says : (i : ℕ) → i < 32 → SaysInfo i (info_at i)
+pub info_says : (i : ℕ) → i < 32 → SaysInfo i (info_at i)
 info_says i low = record {
   reserved = agree_below_at (λ n. leb 28 n && leb n 30) (λ n. is_reserved (info_at n)) 32 i refl low;
   endless_information = agree_below_at (λ n. eqb n 31) (λ n. is_endless_head (info_at n)) 32 i refl low;

@@ -121,11 +121,8 @@ module _ (limit : ℕ) where
       byte_goes f 0 (Live (0 + length f) a.ready a.os nothing) bytes (omega arith) a.is (takes_integer limit (0 + length f) a.ready a.os h.ground.are_open (ap (λ t. is_bad_chunk t Unsigned (Now 0)) a.slot_is ∙ free))
 
   reason_there : (f : List ℕ) (s : Slot) (k b : ℕ) (y : List ℕ) (r : WireReason) → AreBytes f → Open limit f s k → reason_at limit s k (b ∷ y) ≡ Some r → IsReason limit f b r
-  reason_there f item k b y r bytes opens e = inl (some_integer f item k bytes opens refl, table_reason item (leb limit k) (b / 32) (b % 32) y r e)
-  reason_there f value k b y r bytes opens e = inl (some_integer f value k bytes opens refl, table_reason value (leb limit k) (b / 32) (b % 32) y r e)
-  reason_there f element_or_end k b y r bytes opens e = inl (some_integer f element_or_end k bytes opens refl, table_reason element_or_end (leb limit k) (b / 32) (b % 32) y r e)
-  reason_there f key_or_end k b y r bytes opens e = inl (some_integer f key_or_end k bytes opens refl, table_reason key_or_end (leb limit k) (b / 32) (b % 32) y r e)
-  reason_there f (chunk kind) k b y r bytes opens e = inr (no_integer f kind k opens, table_reason (chunk kind) (leb limit k) (b / 32) (b % 32) y r e)
+  reason_there f (chunk kind) k b y r bytes opens e = inr (no_integer f kind k opens, table_reason limit (chunk kind) k b y r e)
+  reason_there f s k b y r bytes opens e = inl (some_integer f s k bytes opens refl, table_reason limit s k b y r e)
 
   -- What the table refuses is refused.
   pub refused_said : (x : List ℕ) (p : ℕ) (r : WireReason) → AreBytes x → SlotRefused limit x p r → Refused limit x p r

@@ -1,13 +1,24 @@
 -- The table of faults by slots gives the reason of `Faults`.
 use Rattle.std.specs.Prelude.{◌≡◌, ◌/◌, ◌%◌, ◌<◌, ◌∷◌, ◌&&◌, ◌||◌}
-use Rattle.cborn_wire.proofs.Common.{refl, sym, ◌∙◌, subst, ℕ, List, [], take, Bool, true, false, cond, not, leb, eqb, Option, Some, None, arith, leb-true, eqb-true, le-leb, lt-leb, and_parts, cond_both, agree_below_at, code, WireReason, ReservedInfo, EndlessNotAllowed, BadChunk, UnexpectedBreak, FloatLeftOut, BadSimple, TooDeep, Truncated, StringKind, OfBytes, OfText, major_of, Slot, item, value, element_or_end, key_or_end, chunk, judged, needs_item, begins_low, reason_at}
+use Rattle.cborn_wire.proofs.Common.{refl, sym, ◌∙◌, ℕ, List, [], take, Bool, true, false, cond, leb, eqb, Option, Some, None, arith, cond_both, agree_below_at, WireReason, ReservedInfo, EndlessNotAllowed, BadChunk, UnexpectedBreak, FloatLeftOut, BadSimple, TooDeep, Truncated, StringKind, OfBytes, OfText, ByteString, TextString, Other, Major, Slot, item, chunk, judged, needs_item, begins_low, reason_at, major_at, Info, EndlessInformation, info_at, is_reserved, is_endless_head, is_always_bounded, is_break, is_other, is_float, is_one, is_container, is_bad_chunk, head_reason}
 use Rattle.cborn_wire.specs.Faults.{reason_of}
-use Rattle.cborn_wire.specs.SlotFaults as table
+use Rattle.cborn_wire.proofs.HeadReading.InitialBytes.{SaysInfo, info_says, other_is, bounded_is, same_reason}
 use Rattle.cborn_wire.proofs.Machine.SomeEnd.{some_is}
 
 abbrev pub is_chunk : Slot → Bool
 is_chunk (chunk k) = true
 is_chunk _ = false
+
+-- that reason, by the major type and the information as data
+
+abbrev last_reason : Major → Info → WireReason
+last_reason m i = cond (is_break m i) UnexpectedBreak (cond (is_other m && is_float i) FloatLeftOut (cond (is_other m && is_one i) BadSimple TooDeep))
+
+abbrev data_reason : Bool → Major → Info → WireReason
+data_reason chunked m i = cond (is_reserved i) ReservedInfo (cond (is_endless_head i && is_always_bounded m) EndlessNotAllowed (cond chunked BadChunk (last_reason m i)))
+
+same_data : (chunked : Bool) (m i : ℕ) (j : Info) → SaysInfo i j → reason_of chunked m i ≡ data_reason chunked (major_at m) j
+same_data chunked m i j h = rw (h.reserved, h.endless_information, bounded_is m, other_is m, h.float, h.one) refl
 
 -- the first line of the table that applies, or one of those below it
 first : (c : Bool) (q : WireReason) (o : Option WireReason) (n r : WireReason) → cond c (Some q) o ≡ Some r → (o ≡ Some r → r ≡ n) → r ≡ cond c q n
@@ -20,79 +31,47 @@ first_of true true q o n r e g f = sym (some_is q r e)
 first_of true false q o n r e g f = absurd (g refl e)
 first_of false d q o n r e g f = f e
 
-skip : (c : Bool) (q : WireReason) (o : Option WireReason) (r : WireReason) → c ≡ false → cond c (Some q) o ≡ Some r → o ≡ Some r
-skip true q o r h e = cc
-skip false q o r h e = e
+-- the same where no line below it applies
+only : (c : Bool) (q : WireReason) (o : Option WireReason) (r : WireReason) → cond c (Some q) o ≡ Some r → (c ≡ false → o ≡ Some r → ⊥) → r ≡ q
+only true q o r e f = sym (some_is q r e)
+only false q o r e f = absurd (f refl e)
 
 -- the last lines of the table
-abbrev deep : Bool → ℕ → Option WireReason
-deep full m = cond ((leb 4 m && leb m 6) && full) (Some TooDeep) None
-
-abbrev simple : Bool → Bool → ℕ → ℕ → Option WireReason
-simple low full m i = cond ((leb 7 m && (leb 25 i && leb i 27))) (Some FloatLeftOut) (cond ((leb 7 m && eqb i 24) && low) (Some BadSimple) (deep full m))
-
-deep_is : (full : Bool) (m : ℕ) (r : WireReason) → deep full m ≡ Some r → r ≡ TooDeep
-deep_is full m r e = go ((leb 4 m && leb m 6) && full) e
-  where
-    go : (c : Bool) → cond c (Some TooDeep) None ≡ Some r → r ≡ TooDeep
-    go true e = sym (some_is TooDeep r e)
-    go false e = cc
+abbrev simple : Bool → Bool → Major → Info → Option WireReason
+simple low full m i = cond (is_other m && is_float i) (Some FloatLeftOut) (cond (is_other m && is_one i && low) (Some BadSimple) (cond (is_container m && full) (Some TooDeep) None))
 
 -- the last major type has no items inside it
-not_deep : (full : Bool) (m : ℕ) (r : WireReason) → leb 7 m ≡ true → deep full m ≡ Some r → ⊥
-not_deep full m r h e =
-    let high = leb-true 7 m h in
-    let none : None ≡ Some r = rw (le-leb 4 m (omega (arith, high)), lt-leb m 6 (omega (arith, high))) at e in
-    cc none
+not_deep : (full : Bool) (m : Major) (i : Info) (r : WireReason) → (is_other m && is_one i) ≡ true → cond (is_container m && full) (Some TooDeep) None ≡ Some r → ⊥
+not_deep full Other i r h e = cc
+not_deep full m i r h e = cc
 
 -- a break is no other head
-not_simple : (low full : Bool) (m i : ℕ) (r : WireReason) → (leb 7 m && eqb i 31) ≡ true → simple low full m i ≡ Some r → ⊥
-not_simple low full m i r h e =
-    let (last, is) = and_parts _ _ h in
-    let none : cond (true && false) (Some FloatLeftOut) (cond ((true && false) && low) (Some BadSimple) (deep full m)) ≡ Some r
-    = subst (λ b. cond (b && false) (Some FloatLeftOut) (cond ((b && false) && low) (Some BadSimple) (deep full m)) ≡ Some r) last (subst (λ i. simple low full m i ≡ Some r) (eqb-true i 31 is) e) in
-    not_deep full m r last none
-
--- where no chunk is
-reason_of_item : (s : Slot) (full : Bool) (m i : ℕ) (y : List ℕ) (r : WireReason) → table.is_bad_chunk s m i ≡ false → table.reason_of s full m i y ≡ Some r → r ≡ reason_of false m i
-reason_of_item s full m i y r free e =
-    first (leb 28 i && leb i 30) _ _ _ r e (λ e.
-    first (eqb i 31 && (leb m 1 || eqb m 6)) _ _ _ r e (λ e.
-    first_of (leb 7 m && eqb i 31) (needs_item s) _ _ _ r (skip (table.is_bad_chunk s m i) _ _ r free e) (not_simple (begins_low y) full m i r) (λ e.
-    first (leb 7 m && (leb 25 i && leb i 27)) _ _ _ r e (λ e.
-    first_of (leb 7 m && eqb i 24) (begins_low y) _ _ _ r e (λ h. not_deep full m r (and_parts _ _ h).0) (deep_is full m r)))))
-
--- a head of a string is none of those
-not_string : (k : StringKind) (low full : Bool) (i : ℕ) (r : WireReason) → simple low full (code (major_of k)) i ≡ Some r → ⊥
-not_string OfBytes low full i r e = cc
-not_string OfText low full i r e = cc
+not_simple : (low full : Bool) (m : Major) (i : Info) (r : WireReason) → is_break m i ≡ true → simple low full m i ≡ Some r → ⊥
+not_simple low full Other EndlessInformation r h e = cc
+not_simple low full m i r h e = cc
 
 -- where a chunk is allowed
-not_chunk : (k : StringKind) (low full : Bool) (m i : ℕ) (r : WireReason) → table.is_bad_chunk (chunk k) m i ≡ false → cond ((leb 7 m && eqb i 31) && false) (Some UnexpectedBreak) (simple low full m i) ≡ Some r → ⊥
-not_chunk k low full m i r free e = go (leb 7 m && eqb i 31) (eqb m (code (major_of k))) refl refl free e
-  where
-    go : (b c : Bool) → (leb 7 m && eqb i 31) ≡ b → eqb m (code (major_of k)) ≡ c → not (b || (c && not (eqb i 31))) ≡ false
-        → cond (b && false) (Some UnexpectedBreak) (simple low full m i) ≡ Some r → ⊥
-    go true c h g free e = not_simple low full m i r h e
-    go false true h g free e = not_string k low full i r (subst (λ m. simple low full m i ≡ Some r) (eqb-true m (code (major_of k)) g) e)
-    go false false h g free e = cc free
+not_chunk : (k : StringKind) (low full : Bool) (m : Major) (i : Info) (r : WireReason) → is_bad_chunk (chunk k) m i ≡ false → cond (is_break m i && false) (Some UnexpectedBreak) (simple low full m i) ≡ Some r → ⊥
+not_chunk OfBytes low full ByteString i r free e = cc
+not_chunk OfText low full TextString i r free e = cc
+not_chunk k low full Other EndlessInformation r free e = cc
+not_chunk k low full m i r free e = cc
 
-reason_of_chunk : (k : StringKind) (full : Bool) (m i : ℕ) (y : List ℕ) (r : WireReason) → table.reason_of (chunk k) full m i y ≡ Some r → r ≡ reason_of true m i
-reason_of_chunk k full m i y r e =
-    first (leb 28 i && leb i 30) _ _ _ r e (λ e.
-    first (eqb i 31 && (leb m 1 || eqb m 6)) _ _ _ r e (λ e.
-    bad (table.is_bad_chunk (chunk k) m i) _ e (not_chunk k (begins_low y) full m i r)))
+by_data : (s : Slot) (full : Bool) (m : Major) (i : Info) (y : List ℕ) (r : WireReason) → head_reason s full m i y ≡ Some r → r ≡ data_reason (is_chunk s) m i
+by_data s full m i y r e =
+    first (is_reserved i) _ _ _ r e (λ e.
+    first (is_endless_head i && is_always_bounded m) _ _ _ r e (below s))
   where
-    bad : (c : Bool) (o : Option WireReason) → cond c (Some BadChunk) o ≡ Some r → (c ≡ false → o ≡ Some r → ⊥) → r ≡ BadChunk
-    bad true o e f = sym (some_is BadChunk r e)
-    bad false o e f = absurd (f refl e)
+    below : (s : Slot) → cond (is_bad_chunk s m i) (Some BadChunk) (cond (is_break m i && needs_item s) (Some UnexpectedBreak) (simple (begins_low y) full m i)) ≡ Some r → r ≡ cond (is_chunk s) BadChunk (last_reason m i)
+    below (chunk k) e = only (is_bad_chunk (chunk k) m i) BadChunk _ r e (not_chunk k (begins_low y) full m i r)
+    below s e =
+        first_of (is_break m i) (needs_item s) _ _ _ r e (not_simple (begins_low y) full m i r) (λ e.
+        first (is_other m && is_float i) _ _ _ r e (λ e.
+        first_of (is_other m && is_one i) (begins_low y) _ _ _ r e (not_deep full m i r) (λ e. only (is_container m && full) TooDeep None r e (λ _ e. cc))))
 
-pub table_reason : (s : Slot) (full : Bool) (m i : ℕ) (y : List ℕ) (r : WireReason) → table.reason_of s full m i y ≡ Some r → r ≡ reason_of (is_chunk s) m i
-table_reason item full m i y r e = reason_of_item item full m i y r refl e
-table_reason value full m i y r e = reason_of_item value full m i y r refl e
-table_reason element_or_end full m i y r e = reason_of_item element_or_end full m i y r refl e
-table_reason key_or_end full m i y r e = reason_of_item key_or_end full m i y r refl e
-table_reason (chunk k) full m i y r e = reason_of_chunk k full m i y r e
+pub table_reason : (limit : ℕ) (s : Slot) (k b : ℕ) (y : List ℕ) (r : WireReason) → reason_at limit s k (b ∷ y) ≡ Some r → r ≡ reason_of (is_chunk s) (b / 32) (b % 32)
+table_reason limit s k b y r e =
+    by_data s (leb limit k) (major_at (b / 32)) (info_at (b % 32)) y r (sym (same_reason limit s k (b ∷ y)) ∙ e) ∙ sym (same_data (is_chunk s) (b / 32) (b % 32) (info_at (b % 32)) (info_says (b % 32) (omega arith)))
 
 -- The table judges a head by no other bytes.
 pub judged_reason : (limit : ℕ) (s : Slot) (k b : ℕ) (y : List ℕ) → b < 256 → reason_at limit s k (judged b y) ≡ reason_at limit s k (b ∷ y)
