@@ -1,6 +1,6 @@
 -- Each step keeps what the machine has to what was read.
 use Rattle.std.specs.Prelude.{◌≡◌, ◌+◌, ◌≤◌, ◌∷◌, ◌++◌, ◌&&◌}
-use Rattle.cborn_wire.proofs.Common.{refl, sym, ap, ◌∙◌, subst, ℕ, List, [], length, Bool, true, false, cond, ltb, leb, Option, Some, None, inl, inr, arith, append_assoc, append-nil, cond_both, leb-true, leb-false, ltb-false, AreBytes, Width, Direct, One, Fixed, Endless, Major, Unsigned, Negative, ByteString, TextString, Array, Map, Tag, Other, Argument, Given, EndlessArgument, head, WidthFits, Opening, an_array, a_map, a_tag, in_chunks, built, string_tree, Tree, Uint, Nint, Bytes, Text, Simple, Trees, trees, depth, ending, string, spelled, spelled_all, Fits, Placed, WireReason, BadSimple, UnexpectedBreak, StringKind, OfBytes, OfText, major_of, Slot, OpenContainer, opened, opening, slot, added_depth, open_depth, HeadFits, IsNoString, AreOpen, needs_item, begins_low, ArgumentFits, Info, Next, EndlessInformation, is_reserved, is_endless_head, is_always_bounded, is_other, is_container, is_of_kind, is_break, is_bad_chunk, is_float, is_one, head_reason, info_for, place_of, Ground, content_of, Failed, finished, holding, ended, gather, after_head, front}
+use Rattle.cborn_wire.proofs.Common.{refl, sym, ap, ◌∙◌, subst, ℕ, List, [], length, Bool, true, false, cond, ltb, leb, Option, Some, None, inl, inr, arith, append_assoc, append-nil, cond_both, leb-true, leb-false, ltb-false, AreBytes, Width, Direct, One, Fixed, Endless, Major, Unsigned, Negative, ByteString, TextString, Array, Map, Tag, Other, Argument, Given, EndlessArgument, head, WidthFits, Opening, an_array, a_map, a_tag, in_chunks, built, string_tree, Tree, Uint, Nint, Bytes, Text, Simple, Trees, trees, depth, ending, string, spelled, spelled_all, Fits, Placed, WireReason, BadSimple, UnexpectedBreak, StringKind, OfBytes, OfText, major_of, Slot, OpenContainer, opened, opening, slot, added_depth, open_depth, HeadFits, IsNoString, AreOpen, needs_item, begins_low, ArgumentFits, Info, Next, EndlessInformation, is_reserved, is_endless_head, is_always_bounded, is_other, is_container, is_break, is_bad_chunk, is_float, is_one, head_reason, info_for, place_of, Ground, content_of, Failed, finished, holding, ended, gather, after_head, front, chunk}
 use Rattle.cborn_model.proofs.Numbers.Simples.{simple_value, least_direct, least_one}
 use Rattle.cborn_wire.proofs.Machine.Containers.{empty_goes, empty_whole, break_ends}
 use Rattle.cborn_wire.proofs.Machine.SoundItems.{Sound, Accepts, accepted, ground_less, top_placed, nothing_more, ends, sound_holding, sound_finished}
@@ -29,20 +29,11 @@ is_clear s full m i y e =
     let h = guarded (is_container m && full) _ _ g.1 in
     record { reserved = a.0; bounded = b.0; chunked = c.0; broken = d.0; float = f.0; room = h.0 }
 
-pub free_of : (os : List OpenContainer) (m : Major) (i : Info) → is_bad_chunk (slot os) m i ≡ false → ((k : StringKind) → is_of_kind k m ≡ false) → is_break m i ≡ false → IsNoString os
-free_of (opened (in_chunks p k) ts ∷ os) m i e g h = let f : true ≡ false = rw (h, g k) at e in cc
-free_of os m i e g h = tt
-
-pub other_kind : (m : Major) → is_of_kind OfBytes m ≡ false → is_of_kind OfText m ≡ false → (k : StringKind) → is_of_kind k m ≡ false
-other_kind m a b OfBytes = a
-other_kind m a b OfText = b
-
--- no indefinite string begins in another
-pub open_string : (os : List OpenContainer) (k : StringKind) → is_bad_chunk (slot os) (major_of k) EndlessInformation ≡ false → IsNoString os
-open_string (opened (in_chunks p OfBytes) ts ∷ os) OfBytes e = cc
-open_string (opened (in_chunks p OfText) ts ∷ os) OfBytes e = cc
-open_string (opened (in_chunks p j) ts ∷ os) k e = cc
-open_string os k e = tt
+-- what is no chunk isn't in an indefinite string
+pub free_of : (os : List OpenContainer) (m : Major) (i : Info) → is_bad_chunk (slot os) m i ≡ false → is_bad_chunk (chunk OfBytes) m i ≡ true → is_bad_chunk (chunk OfText) m i ≡ true → IsNoString os
+free_of (opened (in_chunks p OfBytes) ts ∷ os) m i e a b = cc
+free_of (opened (in_chunks p OfText) ts ∷ os) m i e a b = cc
+free_of os m i e a b = tt
 
 -- a definite string may be in an indefinite one of its kind
 string_accepted : (os : List OpenContainer) (p : ℕ) (k : StringKind) (w : Width) (bytes : List ℕ) (i : Info) → is_bad_chunk (slot os) (major_of k) i ≡ false → Accepts os (string_tree p k w bytes)
@@ -106,19 +97,19 @@ module _ (limit base : ℕ) (ready : Trees) (os : List OpenContainer) (fed p : �
 
   -- a head is whole
   pub sound_head : (m : Major) (a : Argument) → Clear (slot os) (leb limit (open_depth os)) m (info_for a) → ArgumentFits a → x ≡ front ready os ++ head m a → Sound limit base x (after_head fed p ready os m a)
-  sound_head Unsigned (Given w n) c fits is = sound_leaf (Uint p w n) (accepted os _ (free_of os Unsigned _ c.chunked (other_kind Unsigned refl refl) refl)) fits refl placed is
-  sound_head Negative (Given w n) c fits is = sound_leaf (Nint p w n) (accepted os _ (free_of os Negative _ c.chunked (other_kind Negative refl refl) refl)) fits refl placed is
+  sound_head Unsigned (Given w n) c fits is = sound_leaf (Uint p w n) (accepted os _ (free_of os Unsigned _ c.chunked refl refl)) fits refl placed is
+  sound_head Negative (Given w n) c fits is = sound_leaf (Nint p w n) (accepted os _ (free_of os Negative _ c.chunked refl refl)) fits refl placed is
   sound_head ByteString (Given w n) c fits is = sound_content OfBytes w n [] c.chunked fits (omega arith) tt (is ∙ ap (λ l. front ready os ++ l) (sym (append-nil (head ByteString (Given w n)))))
   sound_head TextString (Given w n) c fits is = sound_content OfText w n [] c.chunked fits (omega arith) tt (is ∙ ap (λ l. front ready os ++ l) (sym (append-nil (head TextString (Given w n)))))
-  sound_head ByteString EndlessArgument c fits is = sound_opening (in_chunks p OfBytes) refl tt (open_string os OfBytes c.chunked) (omega (arith, shallow_open limit os g.are_open)) is
-  sound_head TextString EndlessArgument c fits is = sound_opening (in_chunks p OfText) refl tt (open_string os OfText c.chunked) (omega (arith, shallow_open limit os g.are_open)) is
-  sound_head Array (Given w n) c fits is = sound_opening (an_array p (Fixed w) (Some n)) refl fits (free_of os Array _ c.chunked (other_kind Array refl refl) refl) (omega (arith, leb-false limit (open_depth os) c.room)) is
-  sound_head Array EndlessArgument c fits is = sound_opening (an_array p Endless None) refl tt (free_of os Array _ c.chunked (other_kind Array refl refl) refl) (omega (arith, leb-false limit (open_depth os) c.room)) is
-  sound_head Map (Given w n) c fits is = sound_opening (a_map p (Fixed w) (Some n)) refl fits (free_of os Map _ c.chunked (other_kind Map refl refl) refl) (omega (arith, leb-false limit (open_depth os) c.room)) is
-  sound_head Map EndlessArgument c fits is = sound_opening (a_map p Endless None) refl tt (free_of os Map _ c.chunked (other_kind Map refl refl) refl) (omega (arith, leb-false limit (open_depth os) c.room)) is
-  sound_head Tag (Given w n) c fits is = sound_opening (a_tag p w n) refl fits (free_of os Tag _ c.chunked (other_kind Tag refl refl) refl) (omega (arith, leb-false limit (open_depth os) c.room)) is
+  sound_head ByteString EndlessArgument c fits is = sound_opening (in_chunks p OfBytes) refl tt (free_of os ByteString _ c.chunked refl refl) (omega (arith, shallow_open limit os g.are_open)) is
+  sound_head TextString EndlessArgument c fits is = sound_opening (in_chunks p OfText) refl tt (free_of os TextString _ c.chunked refl refl) (omega (arith, shallow_open limit os g.are_open)) is
+  sound_head Array (Given w n) c fits is = sound_opening (an_array p (Fixed w) (Some n)) refl fits (free_of os Array _ c.chunked refl refl) (omega (arith, leb-false limit (open_depth os) c.room)) is
+  sound_head Array EndlessArgument c fits is = sound_opening (an_array p Endless None) refl tt (free_of os Array _ c.chunked refl refl) (omega (arith, leb-false limit (open_depth os) c.room)) is
+  sound_head Map (Given w n) c fits is = sound_opening (a_map p (Fixed w) (Some n)) refl fits (free_of os Map _ c.chunked refl refl) (omega (arith, leb-false limit (open_depth os) c.room)) is
+  sound_head Map EndlessArgument c fits is = sound_opening (a_map p Endless None) refl tt (free_of os Map _ c.chunked refl refl) (omega (arith, leb-false limit (open_depth os) c.room)) is
+  sound_head Tag (Given w n) c fits is = sound_opening (a_tag p w n) refl fits (free_of os Tag _ c.chunked refl refl) (omega (arith, leb-false limit (open_depth os) c.room)) is
   sound_head Other (Given Direct n) c fits is =
-      sound_leaf (Simple p n) (accepted os _ (free_of os Other _ c.chunked (other_kind Other refl refl) refl)) (simple_value n (inl fits)) refl placed (is ∙ ap (λ w. front ready os ++ head Other (Given w n)) (sym (least_direct n fits)))
+      sound_leaf (Simple p n) (accepted os _ (free_of os Other _ c.chunked refl refl)) (simple_value n (inl fits)) refl placed (is ∙ ap (λ w. front ready os ++ head Other (Given w n)) (sym (least_direct n fits)))
   sound_head Other (Given One n) c fits is =
       cond_both (ltb n 32) _ _ (Sound limit base x)
       (λ e. record {
@@ -131,7 +122,7 @@ module _ (limit base : ℕ) (ready : Trees) (os : List OpenContainer) (fed p : �
       })
       (λ e.
       let high : 32 ≤ n = ltb-false n 32 e in
-      sound_leaf (Simple p n) (accepted os _ (free_of os Other _ c.chunked (other_kind Other refl refl) refl)) (simple_value n (inr (high, fits))) refl placed
+      sound_leaf (Simple p n) (accepted os _ (free_of os Other _ c.chunked refl refl)) (simple_value n (inr (high, fits))) refl placed
       (is ∙ ap (λ w. front ready os ++ head Other (Given w n)) (sym (least_one n (omega arith) fits))))
   sound_head Other EndlessArgument c fits is = sound_ended limit base ready os fed p x g at c.broken is
   sound_head Other (Given w n) c fits is = let e : true ≡ false = c.float in cc

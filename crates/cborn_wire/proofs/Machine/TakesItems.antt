@@ -1,5 +1,5 @@
 -- The machine takes what an item spells, and has that item.
-use Rattle.cborn_wire.proofs.Common.{refl, sym, ap, ◌∙◌, subst, ℕ, List, [], length, map, Bool, false, cond, leb, Some, None, inl, inr, arith, append_assoc, append-nil, length-append, add-zero, cond_both, lt-leb, le-leb, le-ltb, IsTrue, Width, Direct, One, Size, Fixed, Endless, Chunk, Major, Unsigned, Negative, ByteString, TextString, Array, Map, Tag, Other, Given, EndlessArgument, head, WidthFits, least, is_simple_value, argument, SizeFits, Opening, an_array, a_map, a_tag, in_chunks, built, string_tree, last_key, paired, chunks_of, Goes, Ends, Tree, Uint, Nint, Bytes, Text, ByteChunks, TextChunks, Items, Pairs, Tagged, Simple, Trees, no_item, more, Entries, no_entry, entry, trees, count, count_entries, depth, depth_all, ending, string, spelled, spelled_all, Fits, FitsAll, string_of, WireReason, BadSimple, UnexpectedBreak, placed_from, StringKind, OfBytes, OfText, major_of, Slot, chunk, OpenContainer, opened, opening, slot, slot_in, slot_in_map, added_depth, open_depth, HeadFits, IsNoString, needs_item, ArgumentFits, Info, Now, Next, EndlessInformation, is_reserved, is_endless_head, is_always_bounded, is_other, is_container, is_bad_chunk, head_reason, info_for, append_trees, snoc, content_of, nothing, gathering, Live, Failed, is_full, finished, holding, gather, after_head, run}
+use Rattle.cborn_wire.proofs.Common.{refl, sym, ap, ◌∙◌, subst, ℕ, List, [], length, map, Bool, false, cond, leb, Some, None, inl, inr, arith, append_assoc, append-nil, length-append, add-zero, cond_both, lt-leb, le-leb, le-ltb, IsTrue, Width, Direct, One, Size, Fixed, Endless, Chunk, Major, Unsigned, Negative, ByteString, TextString, Array, Map, Tag, Other, Given, EndlessArgument, head, WidthFits, least, is_simple_value, argument, SizeFits, Opening, an_array, a_map, a_tag, in_chunks, built, string_tree, last_key, paired, chunks_of, Goes, Ends, Tree, Uint, Nint, Bytes, Text, ByteChunks, TextChunks, Items, Pairs, Tagged, Simple, Trees, no_item, more, Entries, no_entry, entry, trees, count, count_entries, depth, depth_all, ending, string, spelled, spelled_all, Fits, FitsAll, string_of, WireReason, BadSimple, UnexpectedBreak, placed_from, StringKind, OfBytes, OfText, major_of, Slot, chunk, OpenContainer, opened, opening, slot, slot_in, slot_in_map, added_depth, open_depth, HeadFits, IsNoString, needs_item, ArgumentFits, Info, Now, Next, EndlessInformation, is_reserved, is_endless_head, is_always_bounded, is_other, is_container, is_bad_chunk, head_reason, info_for, append_trees, snoc, content_of, nothing, gathering, Live, Failed, is_full, finished, holding, gather, after_head, run, IsNoChunkSlot}
 use Rattle.std.specs.Prelude.{Option, ◌≡◌, ◌+◌, ◌<◌, ◌≤◌, ◌∷◌, ◌++◌, ◌&&◌}
 use Rattle.cborn_model.proofs.HandedOver.{strings, strings_are}
 use Rattle.cborn_model.proofs.Listed.Trees.{count_entries-entries}
@@ -10,16 +10,23 @@ use Rattle.cborn_wire.proofs.Spelled.TreeLists.{tree_list, trees-tree_list, tree
 
 -- Which heads are allowed in a slot.
 
-pub no_bad_chunk : (os : List OpenContainer) (m : Major) (i : Info) → IsNoString os → is_bad_chunk (slot os) m i ≡ false
-no_bad_chunk (opened (an_array p s None) ts ∷ os) m i h = refl
-no_bad_chunk (opened (a_map p s c) ts ∷ os) m i h = go c (last_key ts)
-  where
-    go : (c : Option ℕ) (x : Option Tree) → is_bad_chunk (slot_in_map c x) m i ≡ false
-    go c (Some k) = refl
-    go (Some n) None = refl
-    go None None = refl
-no_bad_chunk (opened (in_chunks p k) ts ∷ os) m i h = absurd h
-no_bad_chunk os m i h = refl
+pub map_plain : (c : Option ℕ) (x : Option Tree) → IsNoChunkSlot (slot_in_map c x)
+map_plain None None = tt
+map_plain (Some n) None = tt
+map_plain c x = tt
+
+pub slot_plain : (os : List OpenContainer) → IsNoString os → IsNoChunkSlot (slot os)
+slot_plain (opened (an_array p s None) ts ∷ os) h = tt
+slot_plain (opened (a_map p s c) ts ∷ os) h = map_plain c (last_key ts)
+slot_plain (opened (in_chunks p k) ts ∷ os) h = absurd h
+slot_plain os h = tt
+
+pub no_chunk : (s : Slot) (m : Major) (i : Info) → IsNoChunkSlot s → is_bad_chunk s m i ≡ false
+no_chunk (chunk k) m i h = absurd h
+no_chunk s m i h = refl
+
+no_bad_chunk : (os : List OpenContainer) (m : Major) (i : Info) → IsNoString os → is_bad_chunk (slot os) m i ≡ false
+no_bad_chunk os m i h = no_chunk (slot os) m i (slot_plain os h)
 
 clear : (s : Slot) (full : Bool) (m : Major) (i : Info) → is_bad_chunk s m i ≡ false → is_reserved i ≡ false → (is_endless_head i && is_always_bounded m) ≡ false → is_other m ≡ false → (is_container m && full) ≡ false
     → head_reason s full m i [] ≡ None
@@ -90,23 +97,14 @@ module _ (limit fed : ℕ) (ready : Trees) (os : List OpenContainer) where
   -- the head of a container
   pub takes_opening : (o : Opening) (x : List ℕ) → HeadFits o → IsNoString os → added_depth o + open_depth os ≤ limit
       → run limit (Live fed ready os nothing) (opening o ++ x) ≡ run limit (holding (fed + length (opening o)) ready os (opening_from fed o) []) x
-  takes_opening o x fits free deep = go o fits deep
-    where
-      full : Bool
-      full = leb limit (open_depth os)
-
-      bad : (m : Major) (i : Info) → is_bad_chunk (slot os) m i ≡ false
-      bad m i = no_bad_chunk os m i free
-
-      go : (o : Opening) → HeadFits o → added_depth o + open_depth os ≤ limit → run limit (Live fed ready os nothing) (opening o ++ x) ≡ run limit (holding (fed + length (opening o)) ready os (opening_from fed o) []) x
-      go (an_array p (Fixed w) (Some n)) fits deep = takes_head limit fed ready os Array (Given w n) x fits (clear_given (slot os) full Array w n (bad Array _) refl (lt-leb limit (open_depth os) (omega (arith, deep))))
-      go (an_array p Endless None) fits deep = takes_head limit fed ready os Array EndlessArgument x tt (clear (slot os) full Array EndlessInformation (bad Array _) refl refl refl (lt-leb limit (open_depth os) (omega (arith, deep))))
-      go (a_map p (Fixed w) (Some n)) fits deep = takes_head limit fed ready os Map (Given w n) x fits (clear_given (slot os) full Map w n (bad Map _) refl (lt-leb limit (open_depth os) (omega (arith, deep))))
-      go (a_map p Endless None) fits deep = takes_head limit fed ready os Map EndlessArgument x tt (clear (slot os) full Map EndlessInformation (bad Map _) refl refl refl (lt-leb limit (open_depth os) (omega (arith, deep))))
-      go (a_tag p w n) fits deep = takes_head limit fed ready os Tag (Given w n) x fits (clear_given (slot os) full Tag w n (bad Tag _) refl (lt-leb limit (open_depth os) (omega (arith, deep))))
-      go (in_chunks p OfBytes) fits deep = takes_head limit fed ready os ByteString EndlessArgument x tt (clear (slot os) full ByteString EndlessInformation (bad ByteString _) refl refl refl refl)
-      go (in_chunks p OfText) fits deep = takes_head limit fed ready os TextString EndlessArgument x tt (clear (slot os) full TextString EndlessInformation (bad TextString _) refl refl refl refl)
-      go o fits deep = absurd fits
+  takes_opening (an_array p (Fixed w) (Some n)) x fits free deep = takes_head limit fed ready os Array (Given w n) x fits (clear_given (slot os) (leb limit (open_depth os)) Array w n (no_bad_chunk os Array _ free) refl (lt-leb limit (open_depth os) (omega (arith, deep))))
+  takes_opening (an_array p Endless None) x fits free deep = takes_head limit fed ready os Array EndlessArgument x tt (clear (slot os) (leb limit (open_depth os)) Array EndlessInformation (no_bad_chunk os Array _ free) refl refl refl (lt-leb limit (open_depth os) (omega (arith, deep))))
+  takes_opening (a_map p (Fixed w) (Some n)) x fits free deep = takes_head limit fed ready os Map (Given w n) x fits (clear_given (slot os) (leb limit (open_depth os)) Map w n (no_bad_chunk os Map _ free) refl (lt-leb limit (open_depth os) (omega (arith, deep))))
+  takes_opening (a_map p Endless None) x fits free deep = takes_head limit fed ready os Map EndlessArgument x tt (clear (slot os) (leb limit (open_depth os)) Map EndlessInformation (no_bad_chunk os Map _ free) refl refl refl (lt-leb limit (open_depth os) (omega (arith, deep))))
+  takes_opening (a_tag p w n) x fits free deep = takes_head limit fed ready os Tag (Given w n) x fits (clear_given (slot os) (leb limit (open_depth os)) Tag w n (no_bad_chunk os Tag _ free) refl (lt-leb limit (open_depth os) (omega (arith, deep))))
+  takes_opening (in_chunks p OfBytes) x fits free deep = takes_head limit fed ready os ByteString EndlessArgument x tt (clear (slot os) (leb limit (open_depth os)) ByteString EndlessInformation (no_bad_chunk os ByteString _ free) refl refl refl refl)
+  takes_opening (in_chunks p OfText) x fits free deep = takes_head limit fed ready os TextString EndlessArgument x tt (clear (slot os) (leb limit (open_depth os)) TextString EndlessInformation (no_bad_chunk os TextString _ free) refl refl refl refl)
+  takes_opening o x fits free deep = absurd fits
 
   -- a break
   pub takes_break : (o : Opening) (ts : List Tree) (x : List ℕ) → needs_item (slot_in (opened o ts)) ≡ false

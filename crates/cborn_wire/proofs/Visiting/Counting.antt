@@ -1,9 +1,9 @@
 -- What one more node or a break makes of a partial sequence: the levels that are kept, and the state.
 use Rattle.std.specs.Prelude.{◌≡◌, ◌+◌, ◌/◌, ◌%◌, ◌^◌, ◌<◌, ◌≤◌, ◌∷◌, ◌++◌, ◌⊎◌}
-use Rattle.cborn_wire.proofs.Common.{refl, sym, ap, ◌∙◌, subst, ℕ, zero, suc, List, [], length, Bool, true, false, not, cond, ltb, eqb, Option, Some, None, inl, inr, arith, cases_lt, length-append, length_push, le-leb, lt-leb, lt-ltb, le-ltb, Width, Eight, Fixed, Endless, WidthFits, Tree, Opening, an_array, a_map, a_tag, in_chunks, Partial, top, inside, no_part, put, last_key, built, string_tree, Goes, Ends, TakesItem, TakesString, Proper, IsFree, UnexpectedBreak, StringKind, OfBytes, OfText, opened, slot, slot_in, slot_in_map, HeadFits, needs_item, Slot, item, element_or_end, plain, nothing, is_full, Live, Failed, finished, ended, LevelKind, Level, ready, open_in, state, AreFromBytes, levels, Keeps, with_part, may_end, lessened, is_even, is_chunks, slot_of, kind_in, level_in, level_with, input_level, announced_nodes, kind_at_none, with_kind, if_none}
+use Rattle.cborn_wire.proofs.Common.{refl, sym, ap, ◌∙◌, subst, ℕ, zero, suc, List, [], length, Bool, true, false, not, cond, ltb, eqb, Option, Some, None, inl, inr, arith, cases_lt, length-append, length_push, le-leb, lt-leb, lt-ltb, le-ltb, Width, Eight, Fixed, Endless, WidthFits, Tree, Opening, an_array, a_map, a_tag, in_chunks, Partial, top, inside, no_part, put, last_key, built, string_tree, Goes, Ends, TakesItem, TakesString, Proper, IsFree, UnexpectedBreak, StringKind, OfBytes, OfText, opened, slot, slot_in, slot_in_map, HeadFits, needs_item, Slot, item, element_or_end, plain, nothing, is_full, Live, Failed, finished, ended, LevelKind, Level, ready, open_in, state, AreFromBytes, levels, Keeps, with_part, may_end, lessened, is_even, is_chunks, slot_of, kind_in, level_in, level_with, input_level, announced_nodes, kind_at_none, with_kind, if_none, IsNoString}
 use Rattle.cborn_wire.specs.declared.levels.LevelKind.TheVariants.{Map, GreatMap}
 use Rattle.cborn_wire.proofs.Machine.Containers.{pair_count, even, goes_on, goes_whole, break_ends}
-use Rattle.cborn_wire.proofs.Machine.SoundItems.{Accepts}
+use Rattle.cborn_wire.proofs.Machine.SoundItems.{Accepts, accepted}
 use Rattle.cborn_wire.proofs.Spelled.TreeLists.{trees-push}
 
 -- lists that end alike
@@ -240,9 +240,12 @@ kept_as f {around} {now} {l} {m} same is h = (h.0 ∙ ap (λ ls. ls ++ l ∷ [])
 
 -- what may be next
 
+pub no_string : (f : Partial) → TakesItem f → IsNoString (open_in f)
+no_string (inside f (in_chunks p k) ts) h = absurd h
+no_string f h = tt
+
 pub item_accepted : (f : Partial) (t : Tree) → TakesItem f → Accepts (open_in f) t
-item_accepted (inside f (in_chunks p k) ts) t h = absurd h
-item_accepted f t h = tt
+item_accepted f t h = accepted (open_in f) t (no_string f h)
 
 pub string_accepted : (f : Partial) (p : ℕ) (k : StringKind) (w : Width) (x : List ℕ) → TakesString f k → Accepts (open_in f) (string_tree p k w x)
 string_accepted (inside f (in_chunks q OfBytes) ts) p OfText w x h = cc

@@ -9,7 +9,8 @@ use Rattle.cborn_wire.specs.Slots.{element_or_end, item}
 use Rattle.cborn_wire.specs.declared.levels.LevelKind.TheVariants.{EndlessMap, Chunks}
 use Rattle.cborn_wire.proofs.HeadReading.HeadFronts.{direct_head, wide_head, wide_fronts}
 use Rattle.cborn_wire.proofs.HeadReading.HeadSteps.{head_some, head_taken}
-use Rattle.cborn_wire.proofs.Machine.TakesItems.{clear_given}
+use Rattle.cborn_wire.proofs.Visiting.Counting.{no_string}
+use Rattle.cborn_wire.proofs.Machine.TakesItems.{slot_plain, no_chunk, clear_given}
 use Rattle.cborn_wire.proofs.Machine.WholeFront.{one_more_finished}
 use Rattle.cborn_wire.proofs.Machine.Pieces.{major_of_head, info_of_head, content_done}
 use Rattle.cborn_wire.proofs.Machine.Running.{run-append}
@@ -58,19 +59,7 @@ string_free f k h = tt
 -- a leaf is allowed wherever an item is
 
 pub plain_slot : (f : Partial) → TakesItem f → IsNoChunkSlot (slot (open_in f))
-plain_slot (inside f (in_chunks p k) ts) h = absurd h
-plain_slot (inside f (an_array p s None) ts) h = tt
-plain_slot (inside f (a_map p s c) ts) h = go c (last_key ts)
-  where
-    go : (c : Option ℕ) (x : Option Tree) → IsNoChunkSlot (slot_in_map c x)
-    go None None = tt
-    go (Some n) None = tt
-    go c x = tt
-plain_slot f h = tt
-
-no_chunk : (s : Slot) (m : Major) (i : Info) → IsNoChunkSlot s → is_bad_chunk s m i ≡ false
-no_chunk (chunk k) m i h = absurd h
-no_chunk s m i h = refl
+plain_slot f h = slot_plain (open_in f) (no_string f h)
 
 pub leaf_free : (s : Slot) (full : Bool) (m : Major) (w : Width) (n : ℕ) → IsNoChunkSlot s → IsLeaf m w → head_reason s full m (info_for (heads.Given w n)) [] ≡ None
 leaf_free s full Unsigned w n h l = clear_given s full Unsigned w n (no_chunk s Unsigned (info_for (heads.Given w n)) h) refl refl

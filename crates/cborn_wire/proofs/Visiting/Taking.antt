@@ -1,11 +1,10 @@
 -- What is taken off the front of a piece.
 use Rattle.std.specs.Prelude.{◌≡◌, ◌+◌, ◌/◌, ◌%◌, ◌<◌, ◌≤◌, ◌∷◌, ◌++◌}
-use Rattle.cborn_wire.proofs.Common.{refl, sym, ap, ◌∙◌, subst, ℕ, List, [], length, take, drop, get_or, Bool, false, leb, Option, Some, None, arith, length-append, add-one, take-append-drop, AreBytes, Width, Direct, Major, Unsigned, ByteString, TextString, Other, Argument, Given, EndlessArgument, Trees, in_chunks, Partial, top, inside, Part, no_part, part, TakesItem, TakesString, VisitFault, Refused, Memory, StringKind, OfBytes, OfText, major_of, Slot, item, chunk, OpenContainer, opened, slot, slot_in, open_depth, IsNoString, AreOpen, Head, Level, PartialHead, major_at, seen_argument, IsHeadOf, Info, Next, info_at, info_for, is_of_kind, is_break, is_bad_chunk, head_reason, plain, width_bytes, argument_of, nothing, Unfinished, gathering, State, Live, begin_head, unless, run, IsReached, open_in, state, level_in, levels, Keeps, Takes, slot_of, Missing, Stands, FailsAs, HereAt}
+use Rattle.cborn_wire.proofs.Common.{refl, sym, ap, ◌∙◌, subst, ℕ, List, [], length, take, drop, get_or, Bool, false, leb, Option, Some, None, arith, length-append, add-one, take-append-drop, AreBytes, Width, Direct, Major, Unsigned, ByteString, TextString, Other, Argument, Given, EndlessArgument, Trees, in_chunks, Partial, top, inside, Part, no_part, part, TakesItem, TakesString, VisitFault, Refused, Memory, StringKind, OfBytes, OfText, major_of, Slot, item, chunk, OpenContainer, opened, slot, slot_in, open_depth, IsNoString, AreOpen, Head, Level, PartialHead, major_at, seen_argument, IsHeadOf, Info, Next, info_at, info_for, is_bad_chunk, head_reason, plain, width_bytes, argument_of, nothing, Unfinished, gathering, State, Live, begin_head, unless, run, IsReached, open_in, state, level_in, levels, Keeps, Takes, slot_of, Missing, Stands, FailsAs, HereAt, true}
 use Rattle.cborn_model.proofs.Bytes.{bytes-left}
 use Rattle.cborn_wire.proofs.Machine.SoundRuns.{depth_is_length, sound, InfoIs, IsWide, info_is}
-use Rattle.cborn_wire.proofs.Machine.TakesItems.{given_endless}
 use Rattle.cborn_wire.proofs.Machine.Pieces.{major_of_head, info_of_head}
-use Rattle.cborn_wire.proofs.Machine.SoundSteps.{is_clear, free_of, other_kind, open_string, shallow_open}
+use Rattle.cborn_wire.proofs.Machine.SoundSteps.{is_clear, free_of, shallow_open}
 use Rattle.cborn_wire.proofs.Machine.Running.{run-append, failed_run}
 use Rattle.cborn_wire.proofs.Machine.SoundItems.{SoundLive, Sound}
 use Rattle.cborn_wire.proofs.Visiting.Counting.{top_slot}
@@ -86,17 +85,15 @@ module _ (f : Partial) (full : Bool) where
   allowed : (m : Major) (a : Argument) → head_reason (slot (open_in f)) full m (info_for a) [] ≡ None → is_bad_chunk (slot (open_in f)) m (info_for a) ≡ false
   allowed m a e = (is_clear (slot (open_in f)) full m (info_for a) [] e).chunked
 
-  no_string : (m : Major) (a : Argument) → ((k : StringKind) → is_of_kind k m ≡ false) → is_break m (info_for a) ≡ false → head_reason (slot (open_in f)) full m (info_for a) [] ≡ None → TakesItem f
-  no_string m a k b e = item_next f (free_of (open_in f) m (info_for a) (allowed m a e) k b)
+  no_string : (m : Major) (a : Argument) → is_bad_chunk (chunk OfBytes) m (info_for a) ≡ true → is_bad_chunk (chunk OfText) m (info_for a) ≡ true → head_reason (slot (open_in f)) full m (info_for a) [] ≡ None → TakesItem f
+  no_string m a b c e = item_next f (free_of (open_in f) m (info_for a) (allowed m a e) b c)
 
   pub head_next : (m : Major) (a : Argument) → head_reason (slot (open_in f)) full m (info_for a) [] ≡ None → Takes f m a
   head_next ByteString (Given w n) e = string_next f OfBytes (info_for (Given w n)) (allowed ByteString (Given w n) e)
   head_next TextString (Given w n) e = string_next f OfText (info_for (Given w n)) (allowed TextString (Given w n) e)
-  head_next ByteString EndlessArgument e = item_next f (open_string (open_in f) OfBytes (allowed ByteString EndlessArgument e))
-  head_next TextString EndlessArgument e = item_next f (open_string (open_in f) OfText (allowed TextString EndlessArgument e))
-  head_next Other (Given w n) e = no_string Other (Given w n) (other_kind Other refl refl) (given_endless w n) e
+  head_next Other (Given Direct n) e = no_string Other (Given Direct n) refl refl e
   head_next Other EndlessArgument e = tt
-  head_next m a e = no_string m a (other_kind m refl refl) refl e
+  head_next m a e = no_string m a refl refl e
 
   pub first_next : (piece : List ℕ) (h : Head) (n : ℕ) → IsHeadOf piece h n → 0 < length piece → None ≡ head_reason (slot (open_in f)) full (major_at (get_or piece 0 0 / 32)) (info_at (get_or piece 0 0 % 32)) []
       → Takes f (major_at h.major) (seen_argument h.argument)
