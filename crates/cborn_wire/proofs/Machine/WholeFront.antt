@@ -34,11 +34,9 @@ module _ (R : State → State → Type 0) (old new : Trees) (stay : (fed : ℕ) 
   both_head Other (Given One n) os fed p = either (ltb n 32) _ _ _ _ (fail p BadSimple) (both_finished os fed _)
   both_head Other EndlessArgument os fed p = both_ended os fed p
   both_head Tag (Given w n) os fed p = stay fed _ nothing
-  both_head Tag EndlessArgument os fed p = fail p _
-  both_head Other a os fed p = fail p _
-  both_head Unsigned EndlessArgument os fed p = fail p _
-  both_head Negative EndlessArgument os fed p = fail p _
-  both_head m a os fed p = stay fed _ nothing
+  both_head ByteString EndlessArgument os fed p = stay fed _ nothing
+  both_head TextString EndlessArgument os fed p = stay fed _ nothing
+  both_head m a os fed p = fail p _
 
   both_gather : (g : Goal) (os : List OpenContainer) (fed p n : ℕ) (got : List ℕ) → R (gather fed p old os g n got) (gather fed p new os g n got)
   both_gather (argument_of m w) os fed p n got = either (leb n (length got)) _ _ _ _ (both_head m (Given w (number w got)) os fed p) (stay fed os _)

@@ -8,7 +8,8 @@ use Rattle.cborn_wire.proofs.Visiting.Pieces.{front_taken, next_taken, taken_len
 use Rattle.cborn_wire.proofs.Visiting.Taking.{between, outer_count, reached_open}
 use Rattle.cborn_wire.specs.declared.heads.Argument.TheVariants.{Endless}
 use Rattle.cborn_wire.proofs.HeadReading.HeadFronts.{endless_head}
-use Rattle.cborn_wire.proofs.HeadReading.HeadSteps.{break_taken, head_taken}
+use Rattle.cborn_wire.proofs.HeadReading.HeadSteps.{head_taken}
+use Rattle.cborn_wire.proofs.Visiting.Leaves.{taken_as}
 use Rattle.cborn_wire.proofs.Machine.WholeFront.{one_more_head}
 
 -- the major type of an initial byte
@@ -29,22 +30,12 @@ pub endless_at : (x : List ℕ) → 0 < length x → 128 ≤ get_or x 0 0 → ge
 endless_at [] some low high e = absurd (omega (arith, some))
 endless_at (b ∷ y) some low high e = endless_head y b (b / 32) (omega (arith, high)) refl (ap info_at e) (bounded_not (b / 32) (omega (arith, low)) (omega (arith, high)))
 
--- what is made of a head that is whole at the front of the piece, and of a break
-module _ (limit place : ℕ) (f : Partial) (piece : List ℕ) (holds : Partial → Part → Type 0) (around : List Level) (l : Level) where
-  pub head_opens : (h : Head) (n left : ℕ) → IsHeadOf piece h n → None ≡ head_reason (slot (open_in f)) (leb limit (open_depth (open_in f))) (major_at (get_or piece 0 0 / 32)) (info_at (get_or piece 0 0 % 32)) []
-      → left ≡ 0 → Stands holds around l left (place + n) (after_head (place + n) place (ready f) (open_in f) (major_at h.major) (seen_argument h.argument)) → TakesHead limit place f piece holds around l n
-  head_opens h n left is none no_left stands =
-      let goes = head_taken limit place (ready f) (open_in f) piece h n is none in (
-        subst (Stands holds around l 0 (place + n)) (sym goes) (subst (λ k. Stands holds around l k (place + n) (after_head (place + n) place (ready f) (open_in f) (major_at h.major) (seen_argument h.argument))) no_left stands),
-        subst (AtMostOneMore (ready f)) (sym goes) (one_more_head (ready f) (major_at h.major) (seen_argument h.argument) (open_in f) _ _),
-      )
-
-  pub break_ends : (left : ℕ) → 0 < length piece → get_or piece 0 0 ≡ 255 → left ≡ 0 → Stands holds around l left (place + 1) (ended (place + 1) place (ready f) (open_in f)) → TakesHead limit place f piece holds around l 1
-  break_ends left some first no_left stands =
-      let goes = break_taken limit place (ready f) (open_in f) piece some first in (
-        subst (Stands holds around l 0 (place + 1)) (sym goes) (subst (λ k. Stands holds around l k (place + 1) (ended (place + 1) place (ready f) (open_in f))) no_left stands),
-        subst (AtMostOneMore (ready f)) (sym goes) (one_more_head (ready f) Other EndlessArgument (open_in f) _ _),
-      )
+-- what is made of a head that is whole at the front of the piece
+pub head_opens : (limit place : ℕ) (f : Partial) (piece : List ℕ) (holds : Partial → Part → Type 0) (around : List Level) (l : Level) (h : Head) (n left : ℕ) → IsHeadOf piece h n
+    → None ≡ head_reason (slot (open_in f)) (leb limit (open_depth (open_in f))) (major_at (get_or piece 0 0 / 32)) (info_at (get_or piece 0 0 % 32)) []
+    → left ≡ 0 → Stands holds around l left (place + n) (after_head (place + n) place (ready f) (open_in f) (major_at h.major) (seen_argument h.argument)) → TakesHead limit place f piece holds around l n
+head_opens limit place f piece holds around l h n left is none no_left stands =
+    taken_as limit place n f piece holds around l _ left (head_taken limit place (ready f) (open_in f) piece h n is none) no_left stands (one_more_head (ready f) (major_at h.major) (seen_argument h.argument) (open_in f) _ _)
 
 -- A front y of the piece was taken, after which the partial sequence is h.
 module _ (limit place : ℕ) (f : Partial) (piece y rest : List ℕ) (cut : piece ≡ y ++ rest) (at : ℕ) (there : at ≡ place + length y) (h : Partial) (same : ready h ≡ ready f) (is : run limit (state place f no_part) y ≡ state at h no_part) where

@@ -1,6 +1,6 @@
 -- What is read and made of a leaf.
 use Rattle.std.specs.Prelude.{◌≡◌, ◌+◌, ◌-◌, ◌/◌, ◌%◌, ◌<◌, ◌≤◌, ◌∷◌, ◌++◌}
-use Rattle.cborn_wire.proofs.Common.{refl, sym, ap, ◌∙◌, subst, ℕ, zero, suc, List, [], length, take, drop, get_or, Bool, true, false, cond, leb, Option, Some, None, arith, length-append, lt-leb, length-take-le, take-add, AreBytes, Width, Direct, Major, Unsigned, Negative, ByteString, TextString, Other, code, WidthFits, Tree, Trees, Uint, Nint, Simple, an_array, a_map, in_chunks, Partial, top, inside, Part, no_part, put, last_key, TakesItem, TakesString, string_tree, Full, GivenHead, Level, LevelKind, major_at, IsHeadOf, Slot, chunk, OpenContainer, slot, slot_in_map, open_depth, Info, Now, Next, info_at, info_for, is_bad_chunk, head_reason, width_bytes, number, content_of, gathering, Live, content_at, after_head, finished, run, AtMostOneMore, ready, open_in, state, slot_of, is_chunks, is_even, Stands, IsNoChunkSlot, IsGiven, IsLeafOf, IsLeaf, content_len, leaf_tree, AfterLeaves, TakesHead}
+use Rattle.cborn_wire.proofs.Common.{refl, sym, ap, ◌∙◌, subst, ℕ, zero, suc, List, [], length, take, drop, get_or, Bool, true, false, cond, leb, Option, Some, None, arith, length-append, lt-leb, length-take-le, take-add, AreBytes, Width, Direct, Major, Unsigned, Negative, ByteString, TextString, Other, code, WidthFits, Tree, Trees, Uint, Nint, Simple, an_array, a_map, in_chunks, Partial, top, inside, Part, no_part, put, last_key, TakesItem, TakesString, string_tree, Full, GivenHead, Level, LevelKind, major_at, IsHeadOf, Slot, chunk, OpenContainer, slot, slot_in_map, open_depth, Info, Now, Next, info_at, info_for, is_bad_chunk, head_reason, width_bytes, number, content_of, gathering, Live, content_at, after_head, finished, run, AtMostOneMore, ready, open_in, state, slot_of, is_chunks, is_even, Stands, IsNoChunkSlot, IsGiven, IsLeafOf, IsLeaf, content_len, leaf_tree, AfterLeaves, TakesHead, State}
 use Rattle.cborn_model.specs.Heads as heads
 use Rattle.cborn_model.specs.declared.visitors.StringKind.{StringKind}
 use Rattle.cborn_model.specs.declared.visitors.StringKind.TheVariants.{OfBytes, OfText}
@@ -11,7 +11,6 @@ use Rattle.cborn_wire.proofs.HeadReading.HeadFronts.{direct_head, wide_head, wid
 use Rattle.cborn_wire.proofs.HeadReading.HeadSteps.{head_some, head_taken}
 use Rattle.cborn_wire.proofs.Visiting.Counting.{no_string}
 use Rattle.cborn_wire.proofs.Machine.TakesItems.{slot_plain, no_chunk, clear_given}
-use Rattle.cborn_wire.proofs.Machine.WholeFront.{one_more_finished}
 use Rattle.cborn_wire.proofs.Machine.Pieces.{major_of_head, info_of_head, content_done}
 use Rattle.cborn_wire.proofs.Machine.Running.{run-append}
 use Rattle.cborn_wire.proofs.Machine.SoundRuns.{code_at}
@@ -131,11 +130,8 @@ leaf_cut x g n leaf = ap (λ k. take k x) (omega (arith, leaf.len)) ∙ take-add
 pub leaf_some : (x : List ℕ) (g : GivenHead) (n : ℕ) → IsLeafOf x g n → 0 < n
 leaf_some x g n leaf = omega (arith, leaf.len, leaf.given.head.len, head_some (major_at (g.first / 32)) (heads.Given g.width g.argument))
 
--- leaves are taken, and the last of them is counted
-pub leaves_taken : (limit place n : ℕ) (f : Partial) (piece : List ℕ) {taken : Partial → Type 0} {around : List Level} {l : Level} (holds : Partial → Part → Type 0) (outer : List Level) (inner : Level) (r : AfterLeaves place (place + n) f taken around l (take n piece))
-    → (left : ℕ) → left ≡ 0 → Stands holds outer inner left (place + n) (finished (place + n) (ready r.before) (open_in r.before) r.last) → TakesHead limit place f piece holds outer inner n
-leaves_taken limit place n f piece holds outer inner r left none stands =
-    let goes = r.is limit in (
-      subst (Stands holds outer inner 0 (place + n)) (sym goes) (subst (λ k. Stands holds outer inner k (place + n) (finished (place + n) (ready r.before) (open_in r.before) r.last)) none stands),
-      subst (AtMostOneMore (ready f)) (sym goes) (subst (λ t. AtMostOneMore t (finished (place + n) (ready r.before) (open_in r.before) r.last)) r.same (one_more_finished (ready r.before) (open_in r.before) (place + n) r.last)),
-    )
+-- n bytes of the piece are taken, which make the state s
+pub taken_as : (limit place n : ℕ) (f : Partial) (piece : List ℕ) (holds : Partial → Part → Type 0) (outer : List Level) (inner : Level) (s : State) (left : ℕ) → run limit (state place f no_part) (take n piece) ≡ s
+    → left ≡ 0 → Stands holds outer inner left (place + n) s → AtMostOneMore (ready f) s → TakesHead limit place f piece holds outer inner n
+taken_as limit place n f piece holds outer inner s left goes none stands more =
+    (subst (Stands holds outer inner 0 (place + n)) (sym goes) (subst (λ k. Stands holds outer inner k (place + n) s) none stands), subst (AtMostOneMore (ready f)) (sym goes) more)
