@@ -1,6 +1,7 @@
 -- The table of faults by slots gives the reason of `Faults`.
 use Rattle.std.specs.Prelude.{◌≡◌, ◌/◌, ◌%◌, ◌<◌, ◌∷◌, ◌&&◌, ◌||◌}
-use Rattle.cborn_wire.proofs.Common.{refl, sym, ◌∙◌, ℕ, List, [], take, Bool, true, false, cond, leb, eqb, Option, Some, None, arith, cond_both, agree_below_at, WireReason, ReservedInfo, EndlessNotAllowed, BadChunk, UnexpectedBreak, FloatLeftOut, BadSimple, TooDeep, Truncated, StringKind, OfBytes, OfText, ByteString, TextString, Other, Major, Slot, item, chunk, judged, needs_item, begins_low, reason_at, major_at, Info, EndlessInformation, info_at, is_reserved, is_endless_head, is_always_bounded, is_break, is_other, is_float, is_one, is_container, is_bad_chunk, head_reason}
+use Rattle.cborn_wire.proofs.Common.{refl, sym, ◌∙◌, ℕ, List, [], take, Bool, true, false, cond, leb, eqb, Option, Some, None, arith, agree_below_at, WireReason, ReservedInfo, EndlessNotAllowed, BadChunk, UnexpectedBreak, FloatLeftOut, BadSimple, TooDeep, Truncated, StringKind, OfBytes, OfText, ByteString, TextString, Other, Major, Slot, item, chunk, judged, needs_item, begins_low, reason_at, major_at, Info, EndlessInformation, info_at, is_reserved, is_endless_head, is_always_bounded, is_break, is_other, is_float, is_one, is_container, is_bad_chunk, head_reason}
+use Rattle.std.proofs.lemmas.Bool.Decides.{nat_tests}
 use Rattle.cborn_wire.specs.Faults.{reason_of}
 use Rattle.cborn_wire.proofs.HeadReading.InitialBytes.{SaysInfo, info_says, other_is, bounded_is, same_reason}
 use Rattle.cborn_wire.proofs.Machine.SomeEnd.{some_is}
@@ -86,15 +87,6 @@ judged_reason limit s k b y byte = go (eqb b 0xf8) refl
     -- 0xf8 begins a simple value of two bytes
     go false e = rw (sym (agree_below_at (λ b. eqb b 0xf8) (λ b. leb 7 (b / 32) && eqb (b % 32) 24) 256 b refl byte) ∙ e) refl
 
-abbrev IsNoEnd : WireReason → Type 0
-IsNoEnd r = r ≡ Truncated → ⊥
-
 -- No head is refused for the end of the input.
 pub not_truncated : (chunked : Bool) (m i : ℕ) → reason_of chunked m i ≡ Truncated → ⊥
-not_truncated chunked m i =
-    cond_both (leb 28 i && leb i 30) ReservedInfo _ IsNoEnd (λ _ e. cc) (λ _.
-    cond_both (eqb i 31 && (leb m 1 || eqb m 6)) EndlessNotAllowed _ IsNoEnd (λ _ e. cc) (λ _.
-    cond_both chunked BadChunk _ IsNoEnd (λ _ e. cc) (λ _.
-    cond_both (leb 7 m && eqb i 31) UnexpectedBreak _ IsNoEnd (λ _ e. cc) (λ _.
-    cond_both (leb 7 m && (leb 25 i && leb i 27)) FloatLeftOut _ IsNoEnd (λ _ e. cc) (λ _.
-    cond_both (leb 7 m && eqb i 24) BadSimple TooDeep IsNoEnd (λ _ e. cc) (λ _ e. cc))))))
+not_truncated chunked m i e = grind (arith, nat_tests)

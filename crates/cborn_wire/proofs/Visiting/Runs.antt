@@ -1,14 +1,15 @@
 -- What is read and made of leaves that are taken several at a time.
 use Rattle.std.specs.Prelude.{◌≡◌, ◌⊎◌, ◌+◌, ◌-◌, ◌/◌, ◌%◌, ◌^◌, ◌<◌, ◌≤◌, ◌∷◌, ◌++◌}
-use Rattle.cborn_wire.proofs.Common.{refl, sym, ap, ◌∙◌, subst, inl, inr, ℕ, List, [], length, take, drop, Bool, true, false, cond, leb, ltb, eqb-true, false≢true, Option, Some, None, arith, append-nil, length-append, drop-take, take-append-drop, take-append-le, take_all, length-take-le, take-add, AreBytes, Width, Direct, Major, Unsigned, Negative, ByteString, TextString, Other, Given, head, WidthFits, least, Tree, Uint, Nint, an_array, a_map, Partial, Part, IsFree, top, inside, no_part, put, last_key, TakesItem, IsInteger, IsShortLeaf, AreShortIntegers, IsShortPair, text_in, puts, InArray, AtKey, Level, LevelKind, GivenHead, major_at, slot, open_depth, finished, run, ready, open_in, state, levels, Keeps, with_part, lessened, is_array, is_at_key, is_even, kind_at_none, room_in, IsLeafOf, IsLeaf, content_len, leaf_tree, AfterLeaves, TakesRun}
+use Rattle.cborn_wire.proofs.Common.{refl, sym, ap, ◌∙◌, subst, inl, inr, ℕ, List, [], length, take, drop, Bool, true, false, cond, leb, ltb, eqb-true, Option, Some, None, arith, append-nil, length-append, drop-take, take-append-drop, take-append-le, take_all, length-take-le, take-add, AreBytes, Width, Direct, Major, Unsigned, Negative, ByteString, TextString, Other, Given, head, WidthFits, least, Tree, Uint, Nint, an_array, a_map, Partial, Part, IsFree, top, inside, no_part, put, last_key, TakesItem, IsInteger, IsShortLeaf, AreShortIntegers, IsShortPair, text_in, puts, InArray, AtKey, Level, LevelKind, GivenHead, major_at, slot, open_depth, finished, run, ready, open_in, state, levels, Keeps, with_part, lessened, is_array, is_at_key, is_even, kind_at_none, room_in, IsLeafOf, IsLeaf, content_len, leaf_tree, AfterLeaves, TakesRun}
 use Rattle.cborn_model.specs.declared.visitors.LeafPair.{LeafPair}
 use Rattle.cborn_model.proofs.Bytes.{bytes-right}
 use Rattle.cborn_model.proofs.Numbers.Simples.{simple_value}
 use Rattle.cborn_wire.specs.declared.levels.LevelKind.TheVariants.{Array as AnArray, Map as AMap, GreatMap, EndlessArray, EndlessMap}
 use Rattle.cborn_wire.proofs.HeadReading.HeadSteps.{head_front}
 use Rattle.cborn_wire.proofs.Machine.Running.{run-append}
+use Rattle.cborn_wire.proofs.Machine.Containers.{no_key}
 use Rattle.cborn_wire.proofs.Machine.TakesHeads.{takes_head}
-use Rattle.cborn_wire.proofs.Visiting.Counting.{last_same, stays, item_accepted, counted_on, endless_on, missing_below, value_parity}
+use Rattle.cborn_wire.proofs.Visiting.Counting.{last_same, stays, item_accepted, counted_on, endless_on, missing_below}
 use Rattle.cborn_wire.proofs.Visiting.Leaves.{plain_slot, leaf_free, leaf_read, leaf_cut, leaf_some, item_after}
 use Rattle.cborn_wire.proofs.Visiting.Taking.{bytes-take}
 
@@ -48,31 +49,23 @@ in_array (inside f o ts) ls l e is = cc (ap (λ (m : Level). is_array m.kind) (l
 pub at_key : (f : Partial) (ls : List Level) (l : Level) → levels f ≡ ls ++ l ∷ [] → is_at_key l.kind l.missing ≡ true → AtKey f
 at_key (top ts) ls l e is = cc (ap (λ (m : Level). is_at_key m.kind m.missing) (last_same [] ls e).1 ∙ is)
 at_key (inside f (an_array p s None) ts) ls l e is = cc (ap (λ (m : Level). is_at_key m.kind m.missing) (last_same (levels f) ls e).1 ∙ is)
-at_key (inside f (a_map p s None) ts) ls l e is = go (last_key ts) refl (ap (λ (m : Level). is_at_key m.kind m.missing) (last_same (levels f) ls e).1 ∙ is)
+at_key (inside f (a_map p s None) ts) ls l e is = no_key ts (omega (arith, eqb-true (lessened 0 (length ts) % 2) 0 (ap (λ (m : Level). is_at_key m.kind m.missing) (last_same (levels f) ls e).1 ∙ is)))
+at_key (inside f (a_map p s (Some n)) ts) ls l e is = go (ltb (length ts + 2 ^ 64) (n + n)) (ap (λ (m : Level). is_at_key m.kind m.missing) (last_same (levels f) ls e).1 ∙ is)
   where
-    go : (x : Option Tree) → last_key ts ≡ x → is_even (lessened 0 (length ts)) ≡ true → last_key ts ≡ None
-    go None h even = h
-    go (Some k) h even = absurd (false≢true (sym (value_parity 0 ts k h) ∙ even))
-at_key (inside f (a_map p s (Some n)) ts) ls l e is = go (last_key ts) (ltb (length ts + 2 ^ 64) (n + n)) refl (ap (λ (m : Level). is_at_key m.kind m.missing) (last_same (levels f) ls e).1 ∙ is)
-  where
-    go : (x : Option Tree) (b : Bool) → last_key ts ≡ x → is_at_key (cond b GreatMap AMap) (lessened (n + n) (length ts)) ≡ true → last_key ts ≡ None
-    go None b h even = h
-    go (Some k) true h even = absurd (false≢true (sym (value_parity n ts k h) ∙ even))
-    go (Some k) false h even = absurd (false≢true (sym (value_parity n ts k h) ∙ even))
+    go : (b : Bool) → is_at_key (cond b GreatMap AMap) (lessened (n + n) (length ts)) ≡ true → last_key ts ≡ None
+    go true h = no_key ts (omega (arith, eqb-true (lessened (n + n) (length ts) % 2) 0 h))
+    go false h = no_key ts (omega (arith, eqb-true (lessened (n + n) (length ts) % 2) 0 h))
 at_key (inside f o ts) ls l e is = cc (ap (λ (m : Level). is_at_key m.kind m.missing) (last_same (levels f) ls e).1 ∙ is)
 
 -- after a key its value is missing
 key_counted : (l : Level) → is_at_key l.kind l.missing ≡ true → with_part l ≡ Some (record l { missing = lessened l.missing 1 })
-key_counted l e = counted_on l (go l.kind e)
+key_counted l e = counted_on l (go l.kind l.missing e)
   where
-    odd : is_even l.missing ≡ true → 0 < lessened l.missing 1
-    odd h = omega (arith, eqb-true (l.missing % 2) 0 h)
-
-    go : (k : LevelKind) → is_at_key k l.missing ≡ true → 0 < lessened l.missing 1
-    go AMap h = odd h
-    go GreatMap h = odd h
-    go EndlessMap h = odd h
-    go k h = cc
+    go : (k : LevelKind) (m : ℕ) → is_at_key k m ≡ true → 0 < lessened m 1
+    go AMap m h = omega (arith, eqb-true (m % 2) 0 h)
+    go GreatMap m h = omega (arith, eqb-true (m % 2) 0 h)
+    go EndlessMap m h = omega (arith, eqb-true (m % 2) 0 h)
+    go k m h = cc
 
 key_same : (f : Partial) (t : Tree) → AtKey f → ready (put f t) ≡ ready f
 key_same (inside f o ts) t h = refl
