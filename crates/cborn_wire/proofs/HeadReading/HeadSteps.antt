@@ -1,10 +1,9 @@
 -- The machine takes what `read_head` reads.
 use Rattle.std.specs.Prelude.{◌≡◌, ◌+◌, ◌/◌, ◌%◌, ◌<◌, ◌≤◌, ◌∷◌, ◌++◌, ◌&&◌}
 use Rattle.cborn_wire.proofs.Common.{refl, sym, ap, ◌∙◌, ℕ, suc, List, [], length, take, get_or, Bool, true, false, cond, leb, Option, Some, None, arith, append-nil, length-append, add-one, take_all, take-append-le, length-take, take_more, take_more_set, slice_set, Width, Direct, Major, Other, Argument, Given, EndlessArgument, head, Trees, WireReason, BadSimple, TooDeep, UnexpectedBreak, Head, major_at, seen_argument, reason_alone, IsHeadOf, built, Slot, item, element_or_end, OpenContainer, opened, slot, slot_in, open_depth, needs_item, begins_low, Info, EndlessInformation, info_at, is_break, is_other, is_one, is_container, head_reason, width_bytes, number, argument_of, nothing, gathering, State, Live, Failed, finished, ended, after_head, unless, at_slot, run}
-use Rattle.std.proofs.Math.Bool.{and-false}
+use Rattle.std.proofs.lemmas.Bool.Decides.{nat_tests}
 use Rattle.cborn_wire.proofs.HeadReading.InitialBytes.{same_alone}
 use Rattle.cborn_wire.proofs.Machine.Pieces.{takes_whole_head, refuses_first, argument_done}
-use Rattle.cborn_wire.proofs.Machine.SoundSteps.{is_clear}
 use Rattle.cborn_wire.proofs.Machine.SomeEnd.{refused_run}
 
 fills : (w : Width) → width_bytes w ≤ 8
@@ -61,18 +60,7 @@ module _ (limit at : ℕ) (ready : Trees) (os : List OpenContainer) where
 
 -- A reason that the initial byte alone doesn't give follows from the second byte, wherever the head is.
 bad_simple : (s : Slot) (full : Bool) (m : Major) (i : Info) (y : List ℕ) (r : WireReason) → head_reason s full m i [] ≡ None → head_reason element_or_end false m i y ≡ Some r → head_reason s full m i y ≡ Some r
-bad_simple s full m i y r none e =
-    let c = is_clear s full m i [] none in
-    rw (c.reserved, c.bounded, c.chunked, c.broken, c.float, c.room) (again e)
-  where
-    last : (a b : Bool) (x : Option WireReason) → cond a x (cond (b && false) (Some TooDeep) None) ≡ Some r → cond a x None ≡ Some r
-    last a true x e = e
-    last a false x e = e
-
-    again : head_reason element_or_end false m i y ≡ Some r → cond (is_other m && is_one i && begins_low y) (Some BadSimple) None ≡ Some r
-    again e =
-        let c = is_clear s full m i [] none in
-        last (is_other m && is_one i && begins_low y) (is_container m) (Some BadSimple) (rw (c.reserved, c.bounded, and-false (is_break m i), c.float) at e)
+bad_simple s full m i y r none e = grind (arith, nat_tests)
 
 pub second_refused : (limit at : ℕ) (ready : Trees) (os : List OpenContainer) (piece : List ℕ) (r : WireReason) → 0 < length piece
     → None ≡ head_reason (slot os) (leb limit (open_depth os)) (major_at (get_or piece 0 0 / 32)) (info_at (get_or piece 0 0 % 32)) [] → reason_alone piece ≡ Some r

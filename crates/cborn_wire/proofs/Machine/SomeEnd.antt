@@ -1,6 +1,7 @@
 -- What is refused, and what can go on.
 use Rattle.std.specs.Prelude.{◌≡◌, ◌+◌, ◌-◌, ◌*◌, ◌/◌, ◌%◌, ◌<◌, ◌≤◌, ◌∷◌, ◌++◌, ◌&&◌}
 use Rattle.cborn_wire.proofs.Common.{refl, sym, ap, ◌∙◌, subst, ℕ, zero, suc, List, [], length, Bool, true, false, cond, ltb, leb, Option, Some, None, arith, length-append, add-one, add-zero, lt-leb, le-leb, le-ltb, AreBytes, Width, Direct, One, Two, Four, Eight, Fixed, Major, Unsigned, Negative, ByteString, TextString, Array, Map, Tag, Other, Given, Opening, an_array, a_map, a_tag, in_chunks, last_key, built, string_tree, Tree, Uint, Simple, Trees, WireReason, BadSimple, StringKind, OfBytes, OfText, Slot, OpenContainer, opened, slot, slot_in, slot_in_map, open_depth, AreOpen, needs_item, begins_low, major_at, Info, Now, Next, info_at, is_other, is_one, is_bad_chunk, head_reason, front_reason, info_for, snoc, width_bytes, number, Goal, argument_of, content_of, Unfinished, nothing, gathering, State, Live, Failed, is_full, finished, holding, gather, begin_head, after_head, unless, step, run, get_or_at}
+use Rattle.std.proofs.lemmas.Bool.Decides.{nat_tests}
 use Rattle.cborn_wire.proofs.Machine.Running.{failed_run}
 use Rattle.cborn_wire.proofs.Machine.Containers.{value_next, not_full}
 use Rattle.cborn_wire.proofs.Machine.TakesItems.{takes_break, map_plain, no_chunk}
@@ -10,6 +11,9 @@ use Rattle.cborn_wire.proofs.Machine.SoundRuns.{reason_stays, wide, wide_info}
 
 pub some_is : (q r : WireReason) → Some q ≡ Some r → q ≡ r
 some_is q r e = cc
+
+low_reason : (s : Slot) (full : Bool) (m : Major) (i : Info) (y : List ℕ) (r : WireReason) → head_reason s full m i y ≡ Some r → head_reason s full m i [] ≡ None → cond ((is_other m && is_one i) && begins_low y) (Some BadSimple) None ≡ Some r
+low_reason s full m i y r e h = grind (arith, nat_tests)
 
 module _ (limit : ℕ) where
   low_run : (m : Major) (i : Info) (fed : ℕ) (ready : Trees) (os : List OpenContainer) (y : List ℕ) (r : WireReason)
@@ -25,9 +29,7 @@ module _ (limit : ℕ) where
   refused_at : (full : Bool) (m : Major) (i : Info) (y : List ℕ) (fed : ℕ) (ready : Trees) (os : List OpenContainer) (r : WireReason) → head_reason (slot os) full m i y ≡ Some r
       → (o : Option WireReason) → head_reason (slot os) full m i [] ≡ o → run limit (unless o ready fed (begin_head fed ready os m i)) y ≡ Failed ready fed r
   refused_at full m i y fed ready os r e (Some q) h = failed_run limit y ready fed q ∙ ap (Failed ready fed) (some_is q r (sym (reason_stays (slot os) full m i y q h) ∙ e))
-  refused_at full m i y fed ready os r e None h =
-      let c = is_clear (slot os) full m i [] h in
-      low_run m i fed ready os y r (rw (c.reserved, c.bounded, c.chunked, c.broken, c.float, c.room) at e)
+  refused_at full m i y fed ready os r e None h = low_run m i fed ready os y r (low_reason (slot os) full m i y r e h)
 
   -- What isn't allowed at a slot fails there, for that reason.
   pub refused_run : (y : List ℕ) (fed : ℕ) (ready : Trees) (os : List OpenContainer) (r : WireReason) → front_reason limit (slot os) (open_depth os) y ≡ Some r

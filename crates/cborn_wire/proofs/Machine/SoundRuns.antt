@@ -1,6 +1,7 @@
 -- A whole run keeps what the machine has to what was read: so this is known of each state that some bytes make.
 use Rattle.std.specs.Prelude.{◌≡◌, ◌+◌, ◌*◌, ◌/◌, ◌%◌, ◌<◌, ◌≤◌, ◌∷◌, ◌++◌, ◌&&◌}
 use Rattle.cborn_wire.proofs.Common.{refl, sym, ap, ◌∙◌, subst, ℕ, zero, suc, List, [], length, get_or, Bool, true, false, cond, ltb, leb, eqb, Option, Some, None, arith, append_assoc, append-nil, length_push, cond_both, leb-true, leb-false, ltb-true, eqb-true, be_bytes_2, be_bytes_4, be_bytes_8, AreBytes, Width, Direct, One, Two, Four, Eight, Major, Other, Given, EndlessArgument, code, information, following, head, WidthFits, Trees, WireReason, BadSimple, TooDeep, major_of, Slot, OpenContainer, slot, open_depth, needs_item, begins_low, Info, Now, Next, Reserved, EndlessInformation, info_at, is_bad_chunk, head_reason, front_reason, is_reserved, is_endless_head, is_always_bounded, is_break, is_other, is_float, is_one, is_container, info_for, major_at, start, width_bytes, number, argument_of, content_of, nothing, gathering, State, Live, Failed, gather, begin_head, at_slot, unless, step, run, front, Ground, in_chunks, Tree, no_item, more, depth, depth_all, Fits, FitsAll, opened, IsNoString, AreOpen, snoc, Unfinished, held, IsReached}
+use Rattle.std.proofs.lemmas.Bool.Decides.{nat_tests}
 use Rattle.cborn_model.proofs.Bytes.{bytes-append}
 pub use Rattle.cborn_model.proofs.Numbers.Majors.{code_at}
 use Rattle.cborn_wire.proofs.Machine.SoundItems.{SoundLive, Sound}
@@ -58,26 +59,13 @@ pub wide_information : (w : Width) (n : ℕ) → IsWide w → information w n �
 wide_information Direct n h = absurd h
 wide_information w n h = refl
 
-pass : (c : Bool) (q : WireReason) (o o' : Option WireReason) (r : WireReason) → cond c (Some q) o ≡ Some r → (o ≡ Some r → o' ≡ Some r) → cond c (Some q) o' ≡ Some r
-pass true q o o' r e f = e
-pass false q o o' r e f = f e
-
-reason_last : (full one : Bool) (m : Major) (y : List ℕ) (r : WireReason)
-    → cond ((is_other m && one) && false) (Some BadSimple) (cond (is_container m && full) (Some TooDeep) None) ≡ Some r
-    → cond ((is_other m && one) && begins_low y) (Some BadSimple) (cond (is_container m && full) (Some TooDeep) None) ≡ Some r
-reason_last full true Other y r e = cc
-reason_last full false Other y r e = e
-reason_last full one m y r e = e
+not_both : (m : Major) → (is_other m && is_container m) ≡ false
+not_both Other = refl
+not_both m = refl
 
 -- a reason that the initial byte gives stays, whatever follows
 pub reason_stays : (s : Slot) (full : Bool) (m : Major) (i : Info) (y : List ℕ) (r : WireReason) → head_reason s full m i [] ≡ Some r → head_reason s full m i y ≡ Some r
-reason_stays s full m i y r e =
-    pass (is_reserved i) _ _ _ r e (λ e.
-    pass (is_endless_head i && is_always_bounded m) _ _ _ r e (λ e.
-    pass (is_bad_chunk s m i) _ _ _ r e (λ e.
-    pass (is_break m i && needs_item s) _ _ _ r e (λ e.
-    pass (is_other m && is_float i) _ _ _ r e (λ e.
-    reason_last full (is_one i) m y r e)))))
+reason_stays s full m i y r e = let h = not_both m in grind (arith, nat_tests)
 
 pub front_reason_stays : (limit : ℕ) (s : Slot) (k : ℕ) (y z : List ℕ) (r : WireReason) → front_reason limit s k y ≡ Some r → front_reason limit s k (y ++ z) ≡ Some r
 front_reason_stays limit s k [] z r e = cc
