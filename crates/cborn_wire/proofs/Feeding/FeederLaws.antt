@@ -1,4 +1,6 @@
 -- What a reader that is fed by pieces has ready is what it has to give. The bytes that it holds follow from what it keeps, and its answers follow from them.
+use Rattle.std.proofs.lemmas.Grind.{common_steps}
+use Rattle.std.proofs.lemmas.Bool.Decides.{nat_tests}
 use Rattle.std.specs.Prelude.{◌≡◌, ◌+◌, ◌≤◌, ◌++◌}
 use Rattle.cborn_wire.proofs.Common.{refl, sym, ap, ◌∙◌, subst, ℕ, List, [], length, Option, Some, None, Err, arith, append_assoc, length-append, option_to_list, AreBytes, Tree, Trees, no_item, more, trees, depth, spelled, Fits, Wellformed, PlacedAll, WireFault, WireReason, Truncated, OpenContainer, Fault, AreComplete, Feeding, Accepts, Refuses, RunsShort, Feeds, append_trees, Unfinished, nothing, State, Live, Failed, start, ready_in, held, run, IsReached, Stops, append-nil, depth_all, spelled_all, FitsAll, beginnings, all_from, partial_bytes}
 use Rattle.cborn_model.proofs.Bytes.{bytes-append, bytes-right}
@@ -42,12 +44,7 @@ module _ (limit base : ℕ) where
     placed : PlacedAll base ready
 
   begins_live : (x : List ℕ) (fed : ℕ) (ready : Trees) (os : List OpenContainer) (partial : Unfinished) → SoundLive limit base x fed ready os partial → Begins x ready
-  begins_live x fed ready os partial h = record {
-    others = beginnings os ++ partial_bytes partial;
-    whole = h.bytes ∙ append_assoc (spelled_all ready) (beginnings os) (partial_bytes partial);
-    read = record { spells = refl; fit = h.ground.fit; shallow = h.ground.shallow };
-    placed = h.ground.placed;
-  }
+  begins_live x fed ready os partial h = grind (arith, common_steps, nat_tests)
 
   begins : (x : List ℕ) (s : State) → Sound limit base x s → Begins x (ready_in s)
   begins x (Live fed ready os partial) h = begins_live x fed ready os partial h

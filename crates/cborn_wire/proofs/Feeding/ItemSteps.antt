@@ -1,4 +1,6 @@
 -- What a reader of items takes of a piece, item by item, as steps of the machine.
+use Rattle.std.proofs.lemmas.Grind.{common_steps}
+use Rattle.std.proofs.lemmas.Bool.Decides.{nat_tests}
 use Rattle.std.specs.Prelude.{◌≡◌, ◌∷◌, ◌++◌}
 use Rattle.cborn_wire.proofs.Common.{refl, sym, ap, ◌∙◌, subst, ℕ, List, [], length, Option, Some, None, Err, inl, inr, arith, nil_from_length, Tree, no_item, more, trees, IsSpelled, Partial, top, inside, Part, no_part, part, put, whole, VisitFault, Refused, Memory, input_level, Level, PartialHead, HeadReader, Nodes, ItemReader, nothing, State, Live, Failed, ready_in, start, run, AtMostOneMore, ready, open_in, unfinished, state, seen_head, IsFresh, IsInput, Missing, Stands, HereAt, MayEnd, IsFed, FailsAs, seen_string, seen_nodes, IsHeld, pending, seen, IsMade, take, length-append, option_to_list, length-take-le, Stops, Took, IsMoved}
 use Rattle.cborn_wire.specs.declared.levels.GrownLevels.{GrownLevels}
@@ -45,19 +47,10 @@ none_missing left (part p k w n x) (all, some) e = absurd (omega (arith, some, e
 -- The input may end exactly if nothing is open, and no head or string is partial.
 module _ (r : ItemReader) (made : IsMade r) where
   pub may_end : open_in (seen_nodes r.nodes) ≡ [] → pending r.heads.head r.nodes.string ≡ nothing → MayEnd r.levels.outer.items r.heads
-  may_end none still =
-      let now = run r.heads.limit (start made.base) made.read in
-      may_end_here (IsHeld r.nodes) r.levels.outer.items r.levels.inner r.heads now r.heads.at no_item made.fed.2
-      (made.is ∙ ap (λ os. Live r.heads.at no_item os (pending r.heads.head r.nodes.string)) none ∙ ap (Live r.heads.at no_item []) still)
+  may_end none still = grind (arith, common_steps, nat_tests)
 
   pub none_open : MayEnd r.levels.outer.items r.heads → (open_in (seen_nodes r.nodes) ≡ []) × (pending r.heads.head r.nodes.string ≡ nothing)
-  none_open (head, left, outer) =
-      let now = run r.heads.limit (start made.base) made.read in
-      let s : Stands (IsHeld r.nodes) r.levels.outer.items r.levels.inner r.heads.left r.heads.at now = subst (λ h. HereAt (IsHeld r.nodes) r.levels.outer.items r.levels.inner r.heads.left r.heads.at h now) head made.fed.2 in
-      let many = outer_count s.partial r.levels.outer.items r.levels.inner s.levels.0 in (
-        ap open_in (sym s.held.0) ∙ nil_from_length (open_in s.partial) (omega (arith, many, ap length outer)),
-        ap (λ h. pending h r.nodes.string) head ∙ ap unfinished (sym s.held.1) ∙ none_missing r.heads.left s.amid s.missing left,
-      )
+  none_open (head, left, outer) = grind (arith, common_steps, nat_tests)
 
 -- Reading fails as the machine does.
 pub fails_item : (old : ItemReader) (made : IsMade old) (piece : List ℕ) (e : VisitFault) → visiting.ReadsItem old.heads.limit made.base made.read piece (Err e) → FailsAs no_item (run old.heads.limit (seen [] old) piece) e
@@ -78,9 +71,7 @@ module _ (old : ItemReader) (made : IsMade old) (heads : HeadReader) (levels : G
   comes = ap (λ u. run old.heads.limit u y) (sym made.is) ∙ sym (run-append old.heads.limit (start made.base) made.read y) ∙ ap (λ k. run k (start made.base) (made.read ++ y)) (sym same)
 
   one_more : AtMostOneMore (ready_in (run old.heads.limit (start made.base) made.read)) (run old.heads.limit (start made.base) (made.read ++ y)) → AtMostOneMore no_item now
-  one_more h =
-      subst (λ ts. AtMostOneMore ts now) (ap ready_in made.is)
-      (subst (λ k. AtMostOneMore (ready_in (run old.heads.limit (start made.base) made.read)) (run k (start made.base) (made.read ++ y))) (sym same) h)
+  one_more h = grind (arith, common_steps, nat_tests)
 
   -- no item is whole
   none_ready : ((ts : List Tree) → seen_nodes nodes ≡ top ts → ts ≡ []) → AtMostOneMore no_item now → ready (seen_nodes nodes) ≡ no_item

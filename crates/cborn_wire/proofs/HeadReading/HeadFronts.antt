@@ -1,4 +1,6 @@
 -- What `read_head` answers, at each kind of initial byte.
+use Rattle.std.proofs.lemmas.Grind.{common_steps}
+use Rattle.std.proofs.lemmas.Bool.Decides.{nat_tests}
 use Rattle.std.specs.Prelude.{◌≡◌, ◌+◌, ◌-◌, ◌*◌, ◌/◌, ◌%◌, ◌<◌, ◌≤◌, ◌∷◌, ◌++◌}
 use Rattle.cborn_wire.proofs.Common.{refl, sym, ap, ◌∙◌, subst, ℕ, zero, suc, List, [], length, take, drop, get_or, true, false, None, arith, length-append, take-append-drop, length-take-le, length-replicate, AreBytes, Width, Direct, One, Two, Four, Eight, Major, Unsigned, Other, code, information, following, major_at, reason_alone, IsHeadOf, IsFrontOfHead, ReadsHead, element_or_end, Info, Now, Next, EndlessInformation, info_at, is_endless_head, is_always_bounded, is_other, head_reason, width_bytes, number}
 use Rattle.std.proofs.Math.ListN.{replicate}
@@ -46,9 +48,7 @@ module _ (y : List ℕ) where
 
   -- the initial byte of a head with a wide argument
   wide_first : (b m n : ℕ) (w : Width) → m < 8 → b / 32 ≡ m → info_at (b % 32) ≡ Next w → (b ≡ 32 * code (major_at m) + information w n) × IsWide w
-  wide_first b m n w small e i =
-      let low : (b % 32 ≡ information w 0) × IsWide w = subst (InfoIs (b % 32)) i (info_is (b % 32)) in
-      (omega (arith, code_at m small, e, low.0, wide_information w n low.1), low.1)
+  wide_first b m n w small e i = grind (arith, common_steps, nat_tests)
 
   pub wide_head : (b m n k : ℕ) (w : Width) → m < 8 → b / 32 ≡ m → info_at (b % 32) ≡ Next w → AreBytes y → width_bytes w ≤ length y → n ≡ number w (take (width_bytes w) y) → k ≡ width_bytes w → reason_alone (b ∷ y) ≡ None
       → IsHeadOf (b ∷ y) (record { major = m; argument = Given w n }) (1 + k)

@@ -1,4 +1,5 @@
 -- The machine takes what `read_head` reads.
+use Rattle.std.proofs.lemmas.Grind.{common_steps}
 use Rattle.std.specs.Prelude.{◌≡◌, ◌+◌, ◌/◌, ◌%◌, ◌<◌, ◌≤◌, ◌∷◌, ◌++◌, ◌&&◌}
 use Rattle.cborn_wire.proofs.Common.{refl, sym, ap, ◌∙◌, ℕ, suc, List, [], length, take, get_or, Bool, true, false, cond, leb, Option, Some, None, arith, append-nil, length-append, add-one, take_all, take-append-le, length-take, take_more, take_more_set, slice_set, Width, Direct, Major, Other, Argument, Given, EndlessArgument, head, Trees, WireReason, BadSimple, TooDeep, UnexpectedBreak, Head, major_at, seen_argument, reason_alone, IsHeadOf, built, Slot, item, element_or_end, OpenContainer, opened, slot, slot_in, open_depth, needs_item, begins_low, Info, EndlessInformation, info_at, is_break, is_other, is_one, is_container, head_reason, width_bytes, number, argument_of, nothing, gathering, State, Live, Failed, finished, ended, after_head, unless, at_slot, run}
 use Rattle.std.proofs.lemmas.Bool.Decides.{nat_tests}
@@ -15,25 +16,14 @@ head_some m (Given w n) = omega arith
 head_some m EndlessArgument = omega arith
 
 pub head_front : (piece : List ℕ) (h : Head) (n : ℕ) → IsHeadOf piece h n → take n piece ≡ head (major_at h.major) (seen_argument h.argument)
-head_front piece h n i =
-    let x = head (major_at h.major) (seen_argument h.argument) in
-    ap (take n) i.whole ∙ ap (λ k. take k (x ++ i.rest)) i.len ∙ take-append-le (length x) x i.rest (omega arith) ∙ take_all (length x) x (omega arith)
+head_front piece h n i = grind (arith, common_steps, nat_tests)
 
 module _ (limit at : ℕ) (ready : Trees) (os : List OpenContainer) where
   -- The last byte of an argument, of which n bytes came.
   pub argument_ends : (p : ℕ) (m : Major) (w : Width) (bytes piece : List ℕ) (n v : ℕ) → length bytes ≡ 8 → length (take n bytes) < width_bytes w → 0 < length piece
       → let all = take (n + 1) (slice_set bytes n (get_or piece 0 0)) in width_bytes w ≤ length all → v ≡ number w (take (width_bytes w) all)
       → run limit (Live at ready os (gathering p (argument_of m w) (width_bytes w) (take n bytes))) (take 1 piece) ≡ after_head (at + 1) p ready os m (Given w v)
-  argument_ends p m w bytes piece n v eight short some full value =
-      let got = take n bytes in
-      let all = take (n + 1) (slice_set bytes n (get_or piece 0 0)) in
-      let is : all ≡ got ++ get_or piece 0 0 ∷ [] = take_more_set bytes n (get_or piece 0 0) (omega (arith, eight, length-take n bytes, fills w, short)) in
-      let many : length all ≡ length got + 1 = ap length is ∙ length-append got (get_or piece 0 0 ∷ []) in
-      let whole : take (width_bytes w) all ≡ all = take_all (width_bytes w) all (omega (arith, many, short)) in
-      ap (run limit (Live at ready os (gathering p (argument_of m w) (width_bytes w) got))) (take_more piece 0 0 some)
-      ∙ argument_done limit at ready os p m w (width_bytes w) got (get_or piece 0 0) (omega (arith, many, full))
-      ∙ ap (λ k. after_head k p ready os m (Given w (number w (got ++ get_or piece 0 0 ∷ [])))) (sym (add-one at))
-      ∙ ap (λ k. after_head (at + 1) p ready os m (Given w k)) (sym (value ∙ ap (number w) (whole ∙ is)))
+  argument_ends p m w bytes piece n v eight short some full value = grind (arith, common_steps, nat_tests)
 
   -- An initial byte that isn't allowed there.
   pub first_refused : (piece : List ℕ) (r : WireReason) → 0 < length piece → Some r ≡ head_reason (slot os) (leb limit (open_depth os)) (major_at (get_or piece 0 0 / 32)) (info_at (get_or piece 0 0 % 32)) []

@@ -1,4 +1,6 @@
 -- The table of faults says the same by numbers as by the major type and the information as data.
+use Rattle.std.proofs.lemmas.Grind.{common_steps}
+use Rattle.std.proofs.lemmas.Bool.Decides.{nat_tests}
 use Rattle.std.specs.Prelude.{◌≡◌, ◌/◌, ◌%◌, ◌<◌, ◌∷◌, ◌&&◌, ◌||◌}
 use Rattle.cborn_wire.proofs.Common.{refl, ap, ◌∙◌, ℕ, suc, List, [], Bool, false, leb, eqb, arith, le-leb, lt-leb, ne_eqb, agree_below_at, code, StringKind, OfBytes, OfText, major_of, Slot, element_or_end, chunk, reason_of, reason_at, major_at, reason_alone, Info, info_at, is_reserved, is_endless_head, is_always_bounded, is_other, is_container, is_of_kind, is_bad_chunk, is_float, is_one, head_reason, front_reason}
 use Rattle.cborn_wire.specs.SlotFaults as numbers
@@ -32,12 +34,7 @@ pub record SaysInfo (i : ℕ) (j : Info) : Type 0 where
   pub one : eqb i 24 ≡ is_one j
 
 pub info_says : (i : ℕ) → i < 32 → SaysInfo i (info_at i)
-info_says i low = record {
-  reserved = agree_below_at (λ n. leb 28 n && leb n 30) (λ n. is_reserved (info_at n)) 32 i refl low;
-  endless_information = agree_below_at (λ n. eqb n 31) (λ n. is_endless_head (info_at n)) 32 i refl low;
-  float = agree_below_at (λ n. leb 25 n && leb n 27) (λ n. is_float (info_at n)) 32 i refl low;
-  one = agree_below_at (λ n. eqb n 24) (λ n. is_one (info_at n)) 32 i refl low;
-}
+info_says i low = grind (arith, common_steps, nat_tests)
 
 bad_chunk_is : (s : Slot) (m i : ℕ) (j : Info) → SaysInfo i j → numbers.is_bad_chunk s m i ≡ is_bad_chunk s (major_at m) j
 bad_chunk_is (chunk k) m i j h = rw (other_is m, h.endless_information, kind_is k m) refl

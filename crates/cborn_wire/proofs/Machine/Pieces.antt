@@ -1,4 +1,6 @@
 -- A piece may be taken by heads and by slices, and not byte by byte.
+use Rattle.std.proofs.lemmas.Grind.{common_steps}
+use Rattle.std.proofs.lemmas.Bool.Decides.{nat_tests}
 use Rattle.std.specs.Prelude.{◌≡◌, ◌+◌, ◌*◌, ◌/◌, ◌%◌, ◌<◌, ◌≤◌, ◌∷◌, ◌++◌}
 use Rattle.cborn_wire.proofs.Common.{refl, sym, ap, ◌∙◌, ℕ, suc, List, [], length, cond, leb, Some, None, arith, append-nil, length-append, lt-leb, le-leb, Width, Direct, One, Two, Four, Eight, Major, Argument, Given, EndlessArgument, code, following, head, string_tree, Trees, WireReason, StringKind, OpenContainer, slot, open_depth, info_at, head_reason, info_for, number, argument_of, content_of, nothing, gathering, Live, Failed, finished, after_head, gathered, gather, begin_head, unless, step, run, major_at, ArgumentFits}
 use Rattle.cborn_wire.proofs.Machine.Running.{failed_run}
@@ -29,9 +31,7 @@ major_of_head m a b z y fits e =
     ap (λ n. major_at (n / 32)) (first_byte m a b z y e f) ∙ ap major_at (quotient (code m) f.low f.small) ∙ major_at-code m
 
 pub info_of_head : (m : Major) (a : Argument) (b : ℕ) (z y : List ℕ) → ArgumentFits a → b ∷ z ≡ head m a ++ y → info_at (b % 32) ≡ info_for a
-info_of_head m a b z y fits e =
-    let f = first_of m a fits in
-    ap (λ n. info_at (n % 32)) (first_byte m a b z y e f) ∙ ap info_at (remainder (code m) f.low f.small) ∙ f.says
+info_of_head m a b z y fits e = grind (arith, common_steps, nat_tests)
 
 module _ (limit fed : ℕ) (ready : Trees) (os : List OpenContainer) where
   -- A head that is whole at the front of a piece.
@@ -53,9 +53,7 @@ module _ (limit fed : ℕ) (ready : Trees) (os : List OpenContainer) where
   -- The last byte of an argument.
   pub argument_done : (p : ℕ) (m : Major) (w : Width) (n : ℕ) (got : List ℕ) (b : ℕ) → n ≤ suc (length got)
       → step limit (Live fed ready os (gathering p (argument_of m w) n got)) b ≡ after_head (suc fed) p ready os m (Given w (number w (got ++ b ∷ [])))
-  argument_done p m w n got b h =
-      ap (λ c. cond c (gathered (suc fed) p ready os (argument_of m w) (got ++ b ∷ [])) (Live (suc fed) ready os (gathering p (argument_of m w) n (got ++ b ∷ []))))
-      (le-leb n (length (got ++ b ∷ [])) (omega (arith, length-append got (b ∷ []))))
+  argument_done p m w n got b h = grind (arith, common_steps, nat_tests)
 
   -- A slice of a string's content: one that leaves some to come, and one that ends it.
   module _ (p : ℕ) (k : StringKind) (w : Width) (n : ℕ) (got y : List ℕ) where

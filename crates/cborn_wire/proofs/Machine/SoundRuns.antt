@@ -1,4 +1,5 @@
 -- A whole run keeps what the machine has to what was read: so this is known of each state that some bytes make.
+use Rattle.std.proofs.lemmas.Grind.{common_steps}
 use Rattle.std.specs.Prelude.{◌≡◌, ◌+◌, ◌*◌, ◌/◌, ◌%◌, ◌<◌, ◌≤◌, ◌∷◌, ◌++◌, ◌&&◌}
 use Rattle.cborn_wire.proofs.Common.{refl, sym, ap, ◌∙◌, subst, ℕ, zero, suc, List, [], length, get_or, Bool, true, false, cond, ltb, leb, eqb, Option, Some, None, arith, append_assoc, append-nil, length_push, cond_both, leb-true, leb-false, ltb-true, eqb-true, be_bytes_2, be_bytes_4, be_bytes_8, AreBytes, Width, Direct, One, Two, Four, Eight, Major, Other, Given, EndlessArgument, code, information, following, head, WidthFits, Trees, WireReason, BadSimple, TooDeep, major_of, Slot, OpenContainer, slot, open_depth, needs_item, begins_low, Info, Now, Next, Reserved, EndlessInformation, info_at, is_bad_chunk, head_reason, front_reason, is_reserved, is_endless_head, is_always_bounded, is_break, is_other, is_float, is_one, is_container, info_for, major_at, start, width_bytes, number, argument_of, content_of, nothing, gathering, State, Live, Failed, gather, begin_head, at_slot, unless, step, run, front, Ground, in_chunks, Tree, no_item, more, depth, depth_all, Fits, FitsAll, opened, IsNoString, AreOpen, snoc, Unfinished, held, IsReached}
 use Rattle.std.proofs.lemmas.Bool.Decides.{nat_tests}
@@ -22,13 +23,7 @@ InfoIs i Reserved = Unit {0}
 InfoIs i EndlessInformation = i ≡ 31
 
 pub info_is : (i : ℕ) → InfoIs i (info_at i)
-info_is i =
-    cond_both (ltb i 24) (Now i) _ (InfoIs i) (λ e. (refl, ltb-true i 24 e)) (λ _.
-    cond_both (eqb i 24) (Next One) _ (InfoIs i) (λ e. (eqb-true i 24 e, tt)) (λ _.
-    cond_both (eqb i 25) (Next Two) _ (InfoIs i) (λ e. (eqb-true i 25 e, tt)) (λ _.
-    cond_both (eqb i 26) (Next Four) _ (InfoIs i) (λ e. (eqb-true i 26 e, tt)) (λ _.
-    cond_both (eqb i 27) (Next Eight) _ (InfoIs i) (λ e. (eqb-true i 27 e, tt)) (λ _.
-    cond_both (eqb i 31) EndlessInformation Reserved (InfoIs i) (λ e. eqb-true i 31 e) (λ _. tt))))))
+info_is i = grind (arith, common_steps, nat_tests)
 
 small : (x : List ℕ) → AreBytes x → (i : ℕ) → get_or x i 0 < 256
 small [] h i = omega arith

@@ -1,4 +1,6 @@
 -- Each step keeps what the machine has to what was read.
+use Rattle.std.proofs.lemmas.Grind.{common_steps}
+use Rattle.std.proofs.lemmas.Bool.Decides.{nat_tests}
 use Rattle.std.specs.Prelude.{◌≡◌, ◌+◌, ◌≤◌, ◌∷◌, ◌++◌, ◌&&◌}
 use Rattle.cborn_wire.proofs.Common.{refl, sym, ap, ◌∙◌, subst, ℕ, List, [], length, Bool, true, false, cond, ltb, leb, Option, Some, None, inl, inr, arith, append_assoc, append-nil, cond_both, leb-true, leb-false, ltb-false, AreBytes, Width, Direct, One, Fixed, Endless, Major, Unsigned, Negative, ByteString, TextString, Array, Map, Tag, Other, Argument, Given, EndlessArgument, head, WidthFits, Opening, an_array, a_map, a_tag, in_chunks, built, string_tree, Tree, Uint, Nint, Bytes, Text, Simple, Trees, trees, depth, ending, string, spelled, spelled_all, Fits, Placed, WireReason, BadSimple, UnexpectedBreak, StringKind, OfBytes, OfText, major_of, Slot, OpenContainer, opened, opening, slot, added_depth, open_depth, HeadFits, IsNoString, AreOpen, needs_item, begins_low, ArgumentFits, Info, Next, EndlessInformation, is_reserved, is_endless_head, is_always_bounded, is_other, is_container, is_break, is_bad_chunk, is_float, is_one, head_reason, info_for, place_of, Ground, content_of, Failed, finished, holding, ended, gather, after_head, front, chunk}
 use Rattle.cborn_model.proofs.Numbers.Simples.{simple_value, least_direct, least_one}
@@ -19,15 +21,7 @@ guarded true r o e = cc
 guarded false r o e = (refl, e)
 
 pub is_clear : (s : Slot) (full : Bool) (m : Major) (i : Info) (y : List ℕ) → head_reason s full m i y ≡ None → Clear s full m i
-is_clear s full m i y e =
-    let a = guarded (is_reserved i) _ _ e in
-    let b = guarded (is_endless_head i && is_always_bounded m) _ _ a.1 in
-    let c = guarded (is_bad_chunk s m i) _ _ b.1 in
-    let d = guarded (is_break m i && needs_item s) _ _ c.1 in
-    let f = guarded (is_other m && is_float i) _ _ d.1 in
-    let g = guarded (is_other m && is_one i && begins_low y) _ _ f.1 in
-    let h = guarded (is_container m && full) _ _ g.1 in
-    record { reserved = a.0; bounded = b.0; chunked = c.0; broken = d.0; float = f.0; room = h.0 }
+is_clear s full m i y e = grind (arith, common_steps, nat_tests)
 
 -- what is no chunk isn't in an indefinite string
 pub free_of : (os : List OpenContainer) (m : Major) (i : Info) → is_bad_chunk (slot os) m i ≡ false → is_bad_chunk (chunk OfBytes) m i ≡ true → is_bad_chunk (chunk OfText) m i ≡ true → IsNoString os

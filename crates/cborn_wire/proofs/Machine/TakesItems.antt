@@ -1,4 +1,6 @@
 -- The machine takes what an item spells, and has that item.
+use Rattle.std.proofs.lemmas.Grind.{common_steps}
+use Rattle.std.proofs.lemmas.Bool.Decides.{nat_tests}
 use Rattle.cborn_wire.proofs.Common.{refl, sym, ap, ◌∙◌, subst, ℕ, List, [], length, map, Bool, false, cond, leb, Some, None, inl, inr, arith, append_assoc, append-nil, length-append, add-zero, cond_both, lt-leb, le-leb, le-ltb, IsTrue, Width, Direct, One, Size, Fixed, Endless, Chunk, Major, Unsigned, Negative, ByteString, TextString, Array, Map, Tag, Other, Given, EndlessArgument, head, WidthFits, least, is_simple_value, argument, SizeFits, Opening, an_array, a_map, a_tag, in_chunks, built, string_tree, last_key, paired, chunks_of, Goes, Ends, Tree, Uint, Nint, Bytes, Text, ByteChunks, TextChunks, Items, Pairs, Tagged, Simple, Trees, no_item, more, Entries, no_entry, entry, trees, count, count_entries, depth, depth_all, ending, string, spelled, spelled_all, Fits, FitsAll, string_of, WireReason, BadSimple, UnexpectedBreak, placed_from, StringKind, OfBytes, OfText, major_of, Slot, chunk, OpenContainer, opened, opening, slot, slot_in, slot_in_map, added_depth, open_depth, HeadFits, IsNoString, needs_item, ArgumentFits, Info, Now, Next, EndlessInformation, is_reserved, is_endless_head, is_always_bounded, is_other, is_container, is_bad_chunk, head_reason, info_for, append_trees, snoc, content_of, nothing, gathering, Live, Failed, is_full, finished, holding, gather, after_head, run, IsNoChunkSlot}
 use Rattle.std.specs.Prelude.{Option, ◌≡◌, ◌+◌, ◌<◌, ◌≤◌, ◌∷◌, ◌++◌, ◌&&◌}
 use Rattle.cborn_model.proofs.HandedOver.{strings, strings_are}
@@ -44,12 +46,7 @@ pub clear_given : (s : Slot) (full : Bool) (m : Major) (w : Width) (n : ℕ) →
 clear_given s full m w n bad other room = clear s full m _ bad (given_reserved w n) (ap (λ b. b && is_always_bounded m) (given_endless w n)) other room
 
 clear_simple : (s : Slot) (full : Bool) (n : ℕ) → IsTrue (is_simple_value n) → ((i : Info) → is_bad_chunk s Other i ≡ false) → head_reason s full Other (info_for (Given (least n) n)) [] ≡ None
-clear_simple s full n v bad =
-    let reason : Width → Option WireReason = λ w. head_reason s full Other (info_for (Given w n)) [] in
-    elim (simple_cases n v) [
-      | inl low ↦ ap reason (least_direct n low) ∙ rw (bad (Now n)) refl
-      | inr high ↦ ap reason (least_one n (omega (arith, high.0)) high.1) ∙ rw (bad (Next One)) refl
-    ]
+clear_simple s full n v bad = grind (arith, common_steps, nat_tests)
 
 clear_chunk : (k : StringKind) (full : Bool) (w : Width) (n : ℕ) → head_reason (chunk k) full (major_of k) (info_for (Given w n)) [] ≡ None
 clear_chunk OfBytes full w n = rw (given_reserved w n, given_endless w n) refl
@@ -109,9 +106,7 @@ module _ (limit fed : ℕ) (ready : Trees) (os : List OpenContainer) where
   -- a break
   pub takes_break : (o : Opening) (ts : List Tree) (x : List ℕ) → needs_item (slot_in (opened o ts)) ≡ false
       → run limit (Live fed ready (opened o ts ∷ os) nothing) (ending Endless ++ x) ≡ run limit (finished (fed + 1) ready os (built o ts)) x
-  takes_break o ts x e =
-      takes_head limit fed ready (opened o ts ∷ os) Other EndlessArgument x tt (clear_break (slot_in (opened o ts)) (leb limit (open_depth (opened o ts ∷ os))) e)
-      ∙ ap (λ b. run limit (cond b (Failed ready fed UnexpectedBreak) (finished (fed + 1) ready os (built o ts))) x) e
+  takes_break o ts x e = grind (arith, common_steps, nat_tests)
 
   -- the end of one that may end
   takes_closing : (o : Opening) (ts : List Tree) (x : List ℕ) → Ends o ts
@@ -172,12 +167,7 @@ takes_container limit fed ready os o us x here taken fit all ends free deep =
     ∙ ap (λ t. run limit (finished (fed + length (spelled (built o us))) ready os t) x) (ap (λ p. built p vs) (sym here) ∙ built_from o us fed fit ends)
 
 simple_head : (fed p : ℕ) (ready : Trees) (os : List OpenContainer) (n : ℕ) → IsTrue (is_simple_value n) → after_head fed p ready os Other (Given (least n) n) ≡ finished fed ready os (Simple p n)
-simple_head fed p ready os n v = elim (simple_cases n v) [
-  | inl low ↦ ap (λ w. after_head fed p ready os Other (Given w n)) (least_direct n low)
-  | inr high ↦
-      ap (λ w. after_head fed p ready os Other (Given w n)) (least_one n (omega (arith, high.0)) high.1)
-      ∙ ap (λ b. cond b (Failed ready p BadSimple) (finished fed ready os (Simple p n))) (le-ltb n 32 high.0)
-]
+simple_head fed p ready os n v = grind (arith, common_steps, nat_tests)
 
 strings_taken : (limit p : ℕ) (k : StringKind) (cs : List Chunk) → AllTaken limit (in_chunks p k) (map (string_of k) cs)
 strings_taken limit p k [] = tt

@@ -1,4 +1,6 @@
 -- What is made of the head of an array, a map or a tag and of a break, and of heads that are taken one after another off the front of a piece.
+use Rattle.std.proofs.lemmas.Grind.{common_steps}
+use Rattle.std.proofs.lemmas.Bool.Decides.{nat_tests}
 use Rattle.std.specs.Prelude.{◌≡◌, ◌+◌, ◌-◌, ◌<◌, ◌≤◌, ◌++◌, ◌/◌, ◌%◌, ◌∷◌}
 use Rattle.cborn_wire.proofs.Common.{refl, sym, ap, ◌∙◌, subst, inl, inr, ℕ, List, length, take, drop, arith, length-append, AreBytes, Partial, Part, no_part, Level, TakesHead, nothing, ready_in, run, IsReached, AtMostOneMore, AreOpen, ready, open_in, state, Keeps, Stands, zero, suc, [], get_or, leb, false, None, Array, Map, Other, EndlessArgument, Head, slot, open_depth, major_at, seen_argument, IsHeadOf, info_at, is_always_bounded, head_reason, after_head, ended}
 use Rattle.cborn_model.proofs.Bytes.{bytes-left}
@@ -44,14 +46,7 @@ module _ (limit place : ℕ) (f : Partial) (piece y rest : List ℕ) (cut : piec
 
   module _ (holds : Partial → Part → Type 0) (outer : List Level) (inner : Level) where
     pub front_heads : holds h no_part → Keeps h outer inner → TakesHead limit place f piece holds outer inner (length piece - length rest)
-    front_heads held kept =
-        let k = length piece - length rest in
-        let many : k ≡ length y = omega (arith, ap length cut, length-append y rest) in
-        let goes : run limit (state place f no_part) (take k piece) ≡ state at h no_part = ap (λ j. run limit (state place f no_part) (take j piece)) many ∙ ap (run limit (state place f no_part)) (front_taken piece y rest cut) ∙ is in
-        let far : at ≡ place + k = omega (arith, there, many) in (
-          record { partial = h; amid = no_part; held = held; levels = kept; missing = refl; fits = tt; is = goes ∙ ap (λ j. state j h no_part) far },
-          inl (ap ready_in goes ∙ same),
-        )
+    front_heads held kept = grind (arith, common_steps, nat_tests)
 
     -- n more bytes are taken
     module _ (n : ℕ) (fits : n ≤ length rest) (takes : TakesHead limit at h rest holds outer inner n) where
