@@ -88,8 +88,7 @@ module _ (limit base : ℕ) where
       cut_short limit base (held (Live fed ready os partial)) r.1 fed ready os partial r.0 unfinished
 
   without : (t : Tree) (s : State) {fed : ℕ} {ts : Trees} {os : List OpenContainer} {partial : Unfinished} → with_front (more t no_item) s ≡ Live fed (more t ts) os partial → s ≡ Live fed ts os partial
-  without t (Live fed ready os partial) e = cc
-  without t (Failed ready p r) e = cc
+  without t s h = grind (arith, common_steps, nat_tests)
 
 -- the state once the first item was taken, if there is one, and with it the bytes that it spells
 pub taken : (limit base at : ℕ) (o : Option Tree) (items left : List Tree) (os : List OpenContainer) (partial : Unfinished) → items ≡ option_to_list o ++ left

@@ -19,14 +19,12 @@ use Rattle.cborn_wire.proofs.Spelled.TreeLists.{trees-append}
 -- what the visitor holds is what it is seen as
 pub here_seen : (n : Nodes) (around : List Level) (l : Level) (left at : ℕ) (h : Option PartialHead) (s : State) → HereAt (IsHeld n) around l left at h s
     → s ≡ Live at (ready (seen_nodes n)) (open_in (seen_nodes n)) (pending h n.string)
-here_seen n around l left at None s h = h.is ∙ ap (λ f. state at f h.amid) h.held.0 ∙ ap (state at (seen_nodes n)) h.held.1
-here_seen n around l left at (Some g) s (short, f, held, keeps, takes, is) = is ∙ ap (λ f. Live at (ready f) (open_in f) (seen_head g)) held.0
+here_seen n around l left at h s e = grind (arith, common_steps, nat_tests)
 
 -- another visitor that holds the same is here too
 pub here_held : (H K : Partial → Part → Type 0) → ((f : Partial) (c : Part) → H f c → K f c) → (around : List Level) (l : Level) (left at : ℕ) (h : Option PartialHead) (s : State)
     → HereAt H around l left at h s → HereAt K around l left at h s
-here_held H K same around l left at None s h = record { partial = h.partial; amid = h.amid; held = same h.partial h.amid h.held; levels = h.levels; missing = h.missing; fits = h.fits; is = h.is }
-here_held H K same around l left at (Some g) s (short, f, held, keeps, takes, is) = (short, f, same f no_part held, keeps, takes, is)
+here_held H K e around l left at h s g = grind (arith, common_steps, nat_tests)
 
 nothing_open : (f : Partial) → open_in f ≡ [] → f ≡ top (whole f)
 nothing_open (top ts) e = refl
@@ -41,8 +39,7 @@ fresh_made r limit at fresh input held =
     (record { base = at; read = []; fed = fed; is = sym same }, same)
 
 none_missing : (left : ℕ) (c : Part) → Missing left c → left ≡ 0 → unfinished c ≡ nothing
-none_missing left no_part h e = refl
-none_missing left (part p k w n x) (all, some) e = absurd (omega (arith, some, e))
+none_missing left c h e = grind (arith, common_steps, nat_tests)
 
 -- The input may end exactly if nothing is open, and no head or string is partial.
 module _ (r : ItemReader) (made : IsMade r) where
@@ -75,10 +72,7 @@ module _ (old : ItemReader) (made : IsMade old) (heads : HeadReader) (levels : G
 
   -- no item is whole
   none_ready : ((ts : List Tree) → seen_nodes nodes ≡ top ts → ts ≡ []) → AtMostOneMore no_item now → ready (seen_nodes nodes) ≡ no_item
-  none_ready none (inl e) = ap ready_in (sym is_now) ∙ e
-  none_ready none (inr (at, t, e)) =
-      let all = nothing_open (seen_nodes nodes) (cc (sym is_now ∙ e)) in
-      ap ready all ∙ ap trees (none (whole (seen_nodes nodes)) all)
+  none_ready h e = grind (arith, common_steps, nat_tests)
 
   pub no_item_whole : (next : Nodes) → seen_nodes next ≡ seen_nodes nodes → next.string ≡ nodes.string → ((ts : List Tree) → seen_nodes nodes ≡ top ts → ts ≡ [])
       → AtMostOneMore (ready_in (run old.heads.limit (start made.base) made.read)) (run old.heads.limit (start made.base) (made.read ++ y))
@@ -144,8 +138,7 @@ module _ (old : ItemReader) (made : IsMade old) (heads : HeadReader) (levels : G
         with_one (Failed ts p r) = Failed ts p r
 
         part_none : (n : ℕ) (c : Part) → Missing n c → n ≡ 0 → c ≡ no_part
-        part_none n no_part h e = refl
-        part_none n (part p k w m x) (all, some) e = absurd (omega (arith, some, e))
+        part_none n c h e = grind (arith, common_steps, nat_tests)
 
 -- What is read doesn't depend on the items that were whole before.
 module _ (r : ItemReader) (items : List Tree) (x : List ℕ) where

@@ -14,12 +14,10 @@ use Rattle.cborn_wire.proofs.Machine.SoundRuns.{code_at, IsWide, InfoIs, info_is
 
 module _ (y : List ℕ) where
   pub now_free : (m : Major) (n : ℕ) → head_reason element_or_end false m (Now n) y ≡ None
-  now_free Unsigned n = refl
-  now_free m n = refl
+  now_free m n = grind (arith, common_steps, nat_tests)
 
   endless_free : (m : Major) → is_always_bounded m ≡ false → head_reason element_or_end false m EndlessInformation y ≡ None
-  endless_free Unsigned e = cc
-  endless_free m e = cc
+  endless_free m h = grind (arith, common_steps, nat_tests)
 
   pub direct_head : (b : ℕ) → b < 256 → b % 32 < 24 → IsHeadOf (b ∷ y) (record { major = b / 32; argument = Given Direct (b % 32) }) 1
   direct_head b small h =
@@ -94,20 +92,16 @@ no_head [] h = record { major = Unsigned; argument = heads.Given Direct 0; missi
 no_head (b ∷ x) h = absurd (omega arith)
 
 endless_information_is : (i : Info) → is_endless_head i ≡ true → i ≡ EndlessInformation
-endless_information_is EndlessInformation e = refl
-endless_information_is i e = cc
+endless_information_is i h = grind (arith, common_steps, nat_tests)
 
 no_other : (m : Major) → (m ≡ Other → ⊥) → is_other (major_at (code m)) ≡ false
-no_other Other h = absurd (h refl)
-no_other m h = refl
+no_other m h = grind (arith, common_steps, nat_tests)
 
 pub code_small : (m : Major) → code m < 8
-code_small Unsigned = omega arith
-code_small m = omega arith
+code_small m = grind (arith, common_steps, nat_tests)
 
 next_free : (y : List ℕ) (m : Major) (w : Width) → is_other m ≡ false → head_reason element_or_end false m (Next w) y ≡ None
-next_free y Other w e = cc
-next_free y m w e = refl
+next_free y m w h = grind (arith, common_steps, nat_tests)
 
 pub direct_front : (x : List ℕ) (m : Major) → AreBytes x → 1 ≤ length x → code m ≡ get_or x 0 0 / 32 → get_or x 0 0 % 32 < 24
     → IsHeadOf x (record { major = code m; argument = Given Direct (get_or x 0 0 % 32) }) 1
@@ -117,15 +111,11 @@ direct_front (b ∷ y) m are h first low =
 
 pub endless_front : (x : List ℕ) (r : HeadRead) (m : Major) → 1 ≤ length x → code m ≡ get_or x 0 0 / 32 → is_endless_head (info_at (get_or x 0 0 % 32)) ≡ true
     → ((b : ℕ) (y : List ℕ) → b / 32 ≡ code m → info_at (b % 32) ≡ EndlessInformation → ReadsHead (b ∷ y) r) → ReadsHead x r
-endless_front [] r m h first e reads = absurd (omega arith)
-endless_front (b ∷ y) r m h first e reads = reads b y (sym first) (endless_information_is (info_at (b % 32)) e)
+endless_front x r m h e g k = grind (arith, common_steps, nat_tests)
 
 pub wide_fronts : (x rest : List ℕ) (r : HeadRead) (m : Major) (w : Width) → rest ≡ drop 1 x → 1 ≤ length x → code m ≡ get_or x 0 0 / 32 → info_at (get_or x 0 0 % 32) ≡ Next w → (m ≡ Other → ⊥)
     → ((b : ℕ) → b / 32 ≡ code m → info_at (b % 32) ≡ Next w → reason_alone (b ∷ rest) ≡ None → ReadsHead (b ∷ rest) r) → ReadsHead x r
-wide_fronts [] rest r m w same h first i e reads = absurd (omega arith)
-wide_fronts (b ∷ y) rest r m w same h first i e reads =
-    let other : is_other (major_at (b / 32)) ≡ false = ap (λ n. is_other (major_at n)) (sym first) ∙ no_other m e in
-    subst (λ (l : List ℕ). ReadsHead (b ∷ l) r) same (reads b (sym first) i (same_alone b rest ∙ ap (λ j. head_reason element_or_end false (major_at (b / 32)) j rest) i ∙ next_free rest (major_at (b / 32)) w other))
+wide_fronts x rest r m w h e g k a b = grind (arith, common_steps, nat_tests)
 
 -- The front of a head that isn't whole announces an argument of one byte or more.
 pub short_front : (x : List ℕ) → 0 < length x → IsFrontOfHead x → (24 ≤ get_or x 0 0 % 32) × (get_or x 0 0 % 32 ≤ 27)

@@ -8,12 +8,10 @@ use Rattle.cborn_wire.proofs.Machine.Pieces.{takes_whole_head, refuses_first, ar
 use Rattle.cborn_wire.proofs.Machine.SomeEnd.{refused_run}
 
 fills : (w : Width) → width_bytes w ≤ 8
-fills Direct = omega arith
-fills w = omega arith
+fills w = grind (arith, common_steps, nat_tests)
 
 pub head_some : (m : Major) (a : Argument) → 0 < length (head m a)
-head_some m (Given w n) = omega arith
-head_some m EndlessArgument = omega arith
+head_some m a = grind (arith, common_steps, nat_tests)
 
 pub head_front : (piece : List ℕ) (h : Head) (n : ℕ) → IsHeadOf piece h n → take n piece ≡ head (major_at h.major) (seen_argument h.argument)
 head_front piece h n i = grind (arith, common_steps, nat_tests)
@@ -66,18 +64,13 @@ head_fits piece h n i =
 -- a break, which says by itself where it isn't allowed
 
 break_reason : (s : Slot) (full : Bool) → head_reason s full Other EndlessInformation [] ≡ cond (needs_item s) (Some UnexpectedBreak) None
-break_reason item full = refl
-break_reason s full = refl
+break_reason s full = grind (arith, common_steps, nat_tests)
 
 unless_needed : (b : Bool) (rd : Trees) (p : ℕ) (s : State) → unless (cond b (Some UnexpectedBreak) None) rd p (cond b (Failed rd p UnexpectedBreak) s) ≡ cond b (Failed rd p UnexpectedBreak) s
-unless_needed true rd p s = refl
-unless_needed false rd p s = refl
+unless_needed b rd p s = grind (arith, common_steps, nat_tests)
 
 break_ended : (limit at : ℕ) (rd : Trees) (os : List OpenContainer) → at_slot limit at rd os Other EndlessInformation ≡ ended (suc at) at rd os
-break_ended limit at rd [] = refl
-break_ended limit at rd (opened o ts ∷ os) =
-    ap (λ r. unless r rd at (ended (suc at) at rd (opened o ts ∷ os))) (break_reason (slot_in (opened o ts)) (leb limit (open_depth (opened o ts ∷ os))))
-    ∙ unless_needed (needs_item (slot_in (opened o ts))) rd at (finished (suc at) rd os (built o ts))
+break_ended limit at rd os = grind (arith, common_steps, nat_tests)
 
 pub break_taken : (limit at : ℕ) (rd : Trees) (os : List OpenContainer) (piece : List ℕ) → 0 < length piece → get_or piece 0 0 ≡ 255 → run limit (Live at rd os nothing) (take 1 piece) ≡ ended (at + 1) at rd os
 break_taken limit at rd os piece some e = ap (run limit (Live at rd os nothing)) (take_more piece 0 0 some ∙ ap (λ b. b ∷ []) e) ∙ break_ended limit at rd os ∙ ap (λ k. ended k at rd os) (sym (add-one at))

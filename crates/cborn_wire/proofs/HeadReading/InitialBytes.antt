@@ -6,25 +6,16 @@ use Rattle.cborn_wire.proofs.Common.{refl, ap, ◌∙◌, ℕ, suc, List, [], Bo
 use Rattle.cborn_wire.specs.SlotFaults as numbers
 
 pub other_is : (m : ℕ) → leb 7 m ≡ is_other (major_at m)
-other_is (suc (suc (suc (suc (suc (suc (suc n))))))) = le-leb 7 (suc (suc (suc (suc (suc (suc (suc n))))))) (omega arith)
-other_is m = refl
+other_is m = grind (arith, common_steps, nat_tests)
 
 pub bounded_is : (m : ℕ) → (leb m 1 || eqb m 6) ≡ is_always_bounded (major_at m)
-bounded_is (suc (suc (suc (suc (suc (suc (suc n))))))) =
-    let m = suc (suc (suc (suc (suc (suc (suc n)))))) in
-    ap (λ b. b || eqb m 6) (lt-leb m 1 (omega arith)) ∙ ne_eqb m 6 (λ e. omega (arith, e))
-bounded_is m = refl
+bounded_is m = grind (arith, common_steps, nat_tests)
 
 container_is : (m : ℕ) → (leb 4 m && leb m 6) ≡ is_container (major_at m)
-container_is (suc (suc (suc (suc (suc (suc (suc n))))))) =
-    let m = suc (suc (suc (suc (suc (suc (suc n)))))) in
-    ap (λ b. b && leb m 6) (le-leb 4 m (omega arith)) ∙ lt-leb m 6 (omega arith)
-container_is m = refl
+container_is m = grind (arith, common_steps, nat_tests)
 
 kind_is : (k : StringKind) (m : ℕ) → eqb m (code (major_of k)) ≡ is_of_kind k (major_at m)
-kind_is OfBytes (suc (suc (suc (suc (suc (suc (suc n))))))) = ne_eqb (suc (suc (suc (suc (suc (suc (suc n))))))) 2 (λ e. omega (arith, e))
-kind_is OfText (suc (suc (suc (suc (suc (suc (suc n))))))) = ne_eqb (suc (suc (suc (suc (suc (suc (suc n))))))) 3 (λ e. omega (arith, e))
-kind_is k m = refl
+kind_is k m = grind (arith, common_steps, nat_tests)
 
 -- information and the data that it is
 pub record SaysInfo (i : ℕ) (j : Info) : Type 0 where

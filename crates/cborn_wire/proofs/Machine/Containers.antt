@@ -1,4 +1,6 @@
 -- A container and the nodes in it: when more may come, when it is whole, and what it is then.
+use Rattle.std.proofs.lemmas.Grind.{common_steps}
+use Rattle.std.proofs.lemmas.Bool.Decides.{nat_tests}
 use Rattle.std.specs.Prelude.{◌≡◌, ◌+◌, ◌/◌, ◌%◌, ◌<◌, ◌≤◌, ◌∷◌, ◌++◌}
 use Rattle.cborn_wire.proofs.Common.{refl, sym, ap, ◌∙◌, subst, ℕ, suc, List, [], length, map, true, false, Option, Some, None, arith, append_assoc, append-nil, add-one, length_push, leb-true, leb-false, lt-leb, flat_map, Size, Fixed, Endless, Array, Map, Tag, Chunk, WidthFits, Given, EndlessArgument, head, argument, SizeFits, Tree, Bytes, Text, ByteChunks, TextChunks, more, Entries, no_entry, entry, trees, entries, depth, depth_all, depth_entries, ending, chunk_bytes, spelled, spelled_all, spelled_entries, ChunksFit, Fits, FitsAll, FitsEntries, ChunksPlaced, Placed, PlacedAll, PlacedEntries, Opening, an_array, a_map, a_tag, in_chunks, paired, last_key, chunks_of, built, ended_size, IsAll, IsString, AreStrings, Goes, Ends, string_of, StringKind, OfBytes, OfText, major_of, opened, announced, opening, slot_in, slot_in_map, added_depth, Announces, HeadFits, needs_item, chunks_from, placed_from, all_from, entries_from, is_full, place_of}
 use Rattle.cborn_model.proofs.Listed.Trees.{count-trees, count_entries-entries}
@@ -107,15 +109,10 @@ goes_whole o ts t h e = cc
 
 -- what is full before any node
 pub empty_goes : (o : Opening) → is_full o 0 ≡ false → Goes o []
-empty_goes (an_array p s (Some m)) e = leb-false m 0 e
-empty_goes (a_map p s (Some m)) e = leb-false m 0 e
-empty_goes (a_tag p w m) e = refl
-empty_goes o e = tt
+empty_goes o h = grind (arith, common_steps, nat_tests)
 
 pub empty_whole : (o : Opening) → is_full o 0 ≡ true → Ends o []
-empty_whole (an_array p s (Some m)) e = omega (arith, leb-true m 0 e)
-empty_whole (a_map p s (Some m)) e = (omega (arith, leb-true m 0 e), refl)
-empty_whole o e = cc
+empty_whole o h = grind (arith, common_steps, nat_tests)
 
 -- What it is when it ends.
 
@@ -133,9 +130,7 @@ closing (in_chunks p k) = ending Endless
 
 -- none, where it is whole by the number in its head
 pub full_closing : (o : Opening) (n : ℕ) → is_full o n ≡ true → closing o ≡ []
-full_closing (an_array p s (Some m)) n e = refl
-full_closing (a_map p s (Some m)) n e = refl
-full_closing o n e = cc
+full_closing o n h = grind (arith, common_steps, nat_tests)
 
 -- Where it isn't whole by a number, a break ends it.
 pub endless_closing : (o : Opening) (ts : List Tree) → Ends o ts → is_full o (length ts) ≡ false → (closing o ≡ ending Endless) × (needs_item (slot_in (opened o ts)) ≡ false)
@@ -166,9 +161,7 @@ record Sized (s : Size) (c : Option ℕ) (n : ℕ) : Type 0 where
   fits : SizeFits s n
 
 sized : (s : Size) (c : Option ℕ) (n : ℕ) → Announces s c → IsAll c n → Sized s c n
-sized (Fixed w) (Some m) n fits all = record { size = refl; says = ap (Given w) all; end = refl; fits = subst (WidthFits w) (sym all) fits }
-sized Endless None n fits all = record { size = refl; says = refl; end = refl; fits = tt }
-sized s c n fits all = absurd fits
+sized s c n h e = grind (arith, common_steps, nat_tests)
 
 pub built_spelled : (o : Opening) (ts : List Tree) → HeadFits o → Ends o ts → spelled (built o ts) ≡ opening o ++ spelled_all (trees ts) ++ closing o
 built_spelled (an_array p s c) ts fits h = let z = sized s c (length ts) fits h in rw (z.size, count-trees ts, z.says, z.end) refl

@@ -1,4 +1,5 @@
 -- What is refused, and what can go on.
+use Rattle.std.proofs.lemmas.Grind.{common_steps}
 use Rattle.std.specs.Prelude.{◌≡◌, ◌+◌, ◌-◌, ◌*◌, ◌/◌, ◌%◌, ◌<◌, ◌≤◌, ◌∷◌, ◌++◌, ◌&&◌}
 use Rattle.cborn_wire.proofs.Common.{refl, sym, ap, ◌∙◌, subst, ℕ, zero, suc, List, [], length, Bool, true, false, cond, ltb, leb, Option, Some, None, arith, length-append, add-one, add-zero, lt-leb, le-leb, le-ltb, AreBytes, Width, Direct, One, Two, Four, Eight, Fixed, Major, Unsigned, Negative, ByteString, TextString, Array, Map, Tag, Other, Given, Opening, an_array, a_map, a_tag, in_chunks, last_key, built, string_tree, Tree, Uint, Simple, Trees, WireReason, BadSimple, StringKind, OfBytes, OfText, Slot, OpenContainer, opened, slot, slot_in, slot_in_map, open_depth, AreOpen, needs_item, begins_low, major_at, Info, Now, Next, info_at, is_other, is_one, is_bad_chunk, head_reason, front_reason, info_for, snoc, width_bytes, number, Goal, argument_of, content_of, Unfinished, nothing, gathering, State, Live, Failed, is_full, finished, holding, gather, begin_head, after_head, unless, step, run, get_or_at}
 use Rattle.std.proofs.lemmas.Bool.Decides.{nat_tests}
@@ -122,11 +123,7 @@ module _ (limit : ℕ) where
   closes_head Other w n os fed p ready h c high = let e : true ≡ false = c.float in cc
 
 number_last : (w : Width) (g : List ℕ) (c : ℕ) → 32 ≤ c → suc (length g) ≡ width_bytes w → 32 ≤ number w (g ++ c ∷ [])
-number_last Direct g c high l = absurd (omega arith)
-number_last One g c high l = omega (arith, get_or_at g c [] 0 0 (omega arith))
-number_last Two g c high l = omega (arith, get_or_at g c [] 0 1 (omega arith))
-number_last Four g c high l = omega (arith, get_or_at g c [] 0 3 (omega arith))
-number_last Eight g c high l = omega (arith, get_or_at g c [] 0 7 (omega arith))
+number_last w g c h e = grind (arith, common_steps, nat_tests)
 
 module _ (limit : ℕ) where
   -- A byte that makes no simple value below 32 may be one of an argument.

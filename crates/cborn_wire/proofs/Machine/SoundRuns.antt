@@ -26,9 +26,7 @@ pub info_is : (i : ℕ) → InfoIs i (info_at i)
 info_is i = grind (arith, common_steps, nat_tests)
 
 small : (x : List ℕ) → AreBytes x → (i : ℕ) → get_or x i 0 < 256
-small [] h i = omega arith
-small (b ∷ x) h zero = h.0
-small (b ∷ x) h (suc i) = small x h.1 i
+small x h i = grind (arith, common_steps, nat_tests)
 
 -- the bytes of an argument are those of the number that they make
 pub again : (w : Width) (got : List ℕ) → IsWide w → length got ≡ width_bytes w → AreBytes got → (following w (number w got) ≡ got) × WidthFits w (number w got)
@@ -43,29 +41,23 @@ again Eight got wide l h = (
 )
 
 pub wide : (w : Width) → 0 < width_bytes w → IsWide w
-wide Direct h = omega arith
-wide w h = tt
+wide w h = grind (arith, common_steps, nat_tests)
 
 pub wide_info : (w : Width) (n : ℕ) → IsWide w → info_for (Given w n) ≡ Next w
-wide_info Direct n h = absurd h
-wide_info w n h = refl
+wide_info w n h = grind (arith, common_steps, nat_tests)
 
 pub wide_information : (w : Width) (n : ℕ) → IsWide w → information w n ≡ information w 0
-wide_information Direct n h = absurd h
-wide_information w n h = refl
+wide_information w n h = grind (arith, common_steps, nat_tests)
 
 not_both : (m : Major) → (is_other m && is_container m) ≡ false
-not_both Other = refl
-not_both m = refl
+not_both m = grind (arith, common_steps, nat_tests)
 
 -- a reason that the initial byte gives stays, whatever follows
 pub reason_stays : (s : Slot) (full : Bool) (m : Major) (i : Info) (y : List ℕ) (r : WireReason) → head_reason s full m i [] ≡ Some r → head_reason s full m i y ≡ Some r
 reason_stays s full m i y r e = let h = not_both m in grind (arith, nat_tests)
 
 pub front_reason_stays : (limit : ℕ) (s : Slot) (k : ℕ) (y z : List ℕ) (r : WireReason) → front_reason limit s k y ≡ Some r → front_reason limit s k (y ++ z) ≡ Some r
-front_reason_stays limit s k [] z r e = cc
-front_reason_stays limit s k (c ∷ d ∷ y) z r e = e
-front_reason_stays limit s k (c ∷ []) z r e = reason_stays s (leb limit k) (major_at (c / 32)) (info_at (c % 32)) z r e
+front_reason_stays limit s k y z r h = grind (arith, common_steps, nat_tests)
 
 module _ (limit base : ℕ) where
   -- some bytes of an argument came

@@ -17,23 +17,18 @@ pub record Clear (s : Slot) (full : Bool) (m : Major) (i : Info) : Type 0 where
   pub room : (is_container m && full) ≡ false
 
 guarded : (c : Bool) (r : WireReason) (o : Option WireReason) → cond c (Some r) o ≡ None → (c ≡ false) × (o ≡ None)
-guarded true r o e = cc
-guarded false r o e = (refl, e)
+guarded c r o h = grind (arith, common_steps, nat_tests)
 
 pub is_clear : (s : Slot) (full : Bool) (m : Major) (i : Info) (y : List ℕ) → head_reason s full m i y ≡ None → Clear s full m i
 is_clear s full m i y e = grind (arith, common_steps, nat_tests)
 
 -- what is no chunk isn't in an indefinite string
 pub free_of : (os : List OpenContainer) (m : Major) (i : Info) → is_bad_chunk (slot os) m i ≡ false → is_bad_chunk (chunk OfBytes) m i ≡ true → is_bad_chunk (chunk OfText) m i ≡ true → IsNoString os
-free_of (opened (in_chunks p OfBytes) ts ∷ os) m i e a b = cc
-free_of (opened (in_chunks p OfText) ts ∷ os) m i e a b = cc
-free_of os m i e a b = tt
+free_of os m i h e g = grind (arith, common_steps, nat_tests)
 
 -- a definite string may be in an indefinite one of its kind
 string_accepted : (os : List OpenContainer) (p : ℕ) (k : StringKind) (w : Width) (bytes : List ℕ) (i : Info) → is_bad_chunk (slot os) (major_of k) i ≡ false → Accepts os (string_tree p k w bytes)
-string_accepted (opened (in_chunks q OfBytes) ts ∷ os) p OfText w bytes i e = cc
-string_accepted (opened (in_chunks q OfText) ts ∷ os) p OfBytes w bytes i e = cc
-string_accepted os p k w bytes i e = tt
+string_accepted os p k w bytes i h = grind (arith, common_steps, nat_tests)
 
 pub shallow_open : (limit : ℕ) (os : List OpenContainer) → AreOpen limit os → open_depth os ≤ limit
 shallow_open limit [] h = omega arith

@@ -13,19 +13,13 @@ use Rattle.cborn_wire.proofs.Spelled.TreeLists.{tree_list, trees-tree_list, tree
 -- Which heads are allowed in a slot.
 
 pub map_plain : (c : Option ℕ) (x : Option Tree) → IsNoChunkSlot (slot_in_map c x)
-map_plain None None = tt
-map_plain (Some n) None = tt
-map_plain c x = tt
+map_plain c x = grind (arith, common_steps, nat_tests)
 
 pub slot_plain : (os : List OpenContainer) → IsNoString os → IsNoChunkSlot (slot os)
-slot_plain (opened (an_array p s None) ts ∷ os) h = tt
-slot_plain (opened (a_map p s c) ts ∷ os) h = map_plain c (last_key ts)
-slot_plain (opened (in_chunks p k) ts ∷ os) h = absurd h
-slot_plain os h = tt
+slot_plain os h = grind (arith, common_steps, nat_tests)
 
 pub no_chunk : (s : Slot) (m : Major) (i : Info) → IsNoChunkSlot s → is_bad_chunk s m i ≡ false
-no_chunk (chunk k) m i h = absurd h
-no_chunk s m i h = refl
+no_chunk s m i h = grind (arith, common_steps, nat_tests)
 
 no_bad_chunk : (os : List OpenContainer) (m : Major) (i : Info) → IsNoString os → is_bad_chunk (slot os) m i ≡ false
 no_bad_chunk os m i h = no_chunk (slot os) m i (slot_plain os h)
@@ -35,12 +29,10 @@ clear : (s : Slot) (full : Bool) (m : Major) (i : Info) → is_bad_chunk s m i �
 clear s full m i bad reserved bounded other room = rw (reserved, bounded, bad, other, room) refl
 
 given_reserved : (w : Width) (n : ℕ) → is_reserved (info_for (Given w n)) ≡ false
-given_reserved Direct n = refl
-given_reserved w n = refl
+given_reserved w n = grind (arith, common_steps, nat_tests)
 
 pub given_endless : (w : Width) (n : ℕ) → is_endless_head (info_for (Given w n)) ≡ false
-given_endless Direct n = refl
-given_endless w n = refl
+given_endless w n = grind (arith, common_steps, nat_tests)
 
 pub clear_given : (s : Slot) (full : Bool) (m : Major) (w : Width) (n : ℕ) → is_bad_chunk s m (info_for (Given w n)) ≡ false → is_other m ≡ false → (is_container m && full) ≡ false → head_reason s full m (info_for (Given w n)) [] ≡ None
 clear_given s full m w n bad other room = clear s full m _ bad (given_reserved w n) (ap (λ b. b && is_always_bounded m) (given_endless w n)) other room
@@ -49,19 +41,16 @@ clear_simple : (s : Slot) (full : Bool) (n : ℕ) → IsTrue (is_simple_value n)
 clear_simple s full n v bad = grind (arith, common_steps, nat_tests)
 
 clear_chunk : (k : StringKind) (full : Bool) (w : Width) (n : ℕ) → head_reason (chunk k) full (major_of k) (info_for (Given w n)) [] ≡ None
-clear_chunk OfBytes full w n = rw (given_reserved w n, given_endless w n) refl
-clear_chunk OfText full w n = rw (given_reserved w n, given_endless w n) refl
+clear_chunk k full w n = grind (arith, common_steps, nat_tests)
 
 clear_break : (s : Slot) (full : Bool) → needs_item s ≡ false → head_reason s full Other EndlessInformation [] ≡ None
-clear_break (chunk OfBytes) full e = refl
-clear_break s full e = cc
+clear_break s full h = grind (arith, common_steps, nat_tests)
 
 -- A definite string, also as a chunk.
 
 starts_string : (fed p : ℕ) (ready : Trees) (os : List OpenContainer) (k : StringKind) (w : Width) (n : ℕ)
     → after_head fed p ready os (major_of k) (Given w n) ≡ gather fed p ready os (content_of k w) n []
-starts_string fed p ready os OfBytes w n = refl
-starts_string fed p ready os OfText w n = refl
+starts_string fed p ready os k w n = grind (arith, common_steps, nat_tests)
 
 takes_string : (limit fed : ℕ) (ready : Trees) (os : List OpenContainer) (k : StringKind) (w : Width) (bytes x : List ℕ) → WidthFits w (length bytes)
     → head_reason (slot os) (leb limit (open_depth os)) (major_of k) (info_for (Given w (length bytes))) [] ≡ None
@@ -87,8 +76,7 @@ append_trees-snoc no_item t ts = refl
 append_trees-snoc (more u us) t ts = ap (more u) (append_trees-snoc us t ts)
 
 pub size_fits : (s : Size) (n : ℕ) → SizeFits s n → ArgumentFits (argument s n)
-size_fits (Fixed w) n h = h
-size_fits Endless n h = tt
+size_fits s n h = grind (arith, common_steps, nat_tests)
 
 module _ (limit fed : ℕ) (ready : Trees) (os : List OpenContainer) where
   -- the head of a container

@@ -1,4 +1,6 @@
 -- A list of bytes has one reading at most, and no item begins another. Nodes that are at their offsets stay as they are.
+use Rattle.std.proofs.lemmas.Grind.{common_steps}
+use Rattle.std.proofs.lemmas.Bool.Decides.{nat_tests}
 use Rattle.std.specs.Prelude.{◌≡◌, ◌+◌, ◌≤◌, ◌++◌, ◌∷◌}
 use Rattle.cborn_wire.proofs.Common.{refl, sym, ap, ◌∙◌, subst, ℕ, List, [], length, max, arith, append_assoc, append-nil, length-append, add-zero, append_cancel_left, AreBytes, Tree, Trees, trees, no_item, more, depth, depth_all, spelled, spelled_all, Fits, FitsAll, Wellformed, Placed, PlacedAll, placed_from, all_from, append_trees, snoc, nothing, State, Live, Failed, start, ready_in, front, run, suc, Chunk, Major, ByteString, TextString, Array, Map, Tag, Given, head, argument, Uint, Nint, Bytes, Text, ByteChunks, TextChunks, Items, Pairs, Tagged, Simple, Entries, no_entry, entry, count, count_entries, chunk_bytes, ChunksPlaced, PlacedEntries, chunks_from, entries_from, cases_lt, inl, inr}
 use Rattle.cborn_model.proofs.Numbers.OneHead.{append_same}
@@ -126,8 +128,7 @@ after_first t limit p x fits deep placed =
     takes t limit p no_item [] x fits tt (omega arith) ∙ ap (λ u. run limit (Live (p + length (spelled t)) (more u no_item) [] nothing) x) (same-from t p placed) ∙ front_run (more t no_item) limit x (start (p + length (spelled t)))
 
 pub ready_front : (front : Trees) (s : State) → ready_in (with_front front s) ≡ append_trees front (ready_in s)
-ready_front front (Live fed ready os partial) = refl
-ready_front front (Failed ready q r) = refl
+ready_front front s = grind (arith, common_steps, nat_tests)
 
 -- Each well-formed front of what was read is among the items that are whole: they are the longest.
 pub longest : (limit p : ℕ) (ts : Trees) (x y : List ℕ) → Wellformed limit ts x → (us : Trees) × (ready_in (run limit (start p) (x ++ y)) ≡ append_trees (all_from p ts) us)

@@ -1,4 +1,5 @@
 -- What one more node or a break makes of a partial sequence: the levels that are kept, and the state.
+use Rattle.std.proofs.lemmas.Grind.{common_steps}
 use Rattle.std.specs.Prelude.{◌≡◌, ◌+◌, ◌/◌, ◌%◌, ◌^◌, ◌<◌, ◌≤◌, ◌∷◌, ◌++◌, ◌⊎◌}
 use Rattle.cborn_wire.proofs.Common.{refl, sym, ap, ◌∙◌, subst, ℕ, zero, suc, List, [], length, Bool, true, false, not, cond, ltb, eqb, Option, Some, None, inl, inr, arith, cases_lt, length-append, length_push, le-leb, lt-leb, lt-ltb, le-ltb, Width, Eight, Fixed, Endless, WidthFits, Tree, Opening, an_array, a_map, a_tag, in_chunks, Partial, top, inside, no_part, put, last_key, built, string_tree, Goes, Ends, TakesItem, TakesString, Proper, IsFree, UnexpectedBreak, StringKind, OfBytes, OfText, opened, slot, slot_in, slot_in_map, HeadFits, needs_item, Slot, item, element_or_end, plain, nothing, is_full, Live, Failed, finished, ended, LevelKind, Level, ready, open_in, state, AreFromBytes, levels, Keeps, with_part, may_end, lessened, is_even, is_chunks, slot_of, kind_in, level_in, level_with, input_level, announced_nodes, kind_at_none, with_kind, IsNoString, ne_eqb, at_none}
 use Rattle.std.proofs.lemmas.Bool.Decides.{nat_tests}
@@ -9,14 +10,7 @@ use Rattle.cborn_wire.proofs.Spelled.TreeLists.{trees-push}
 
 -- lists that end alike
 pub last_same : {A : Type 0} (xs ys : List A) {x y : A} → xs ++ x ∷ [] ≡ ys ++ y ∷ [] → (xs ≡ ys) × (x ≡ y)
-last_same [] [] e = (refl, cc)
-last_same [] (b ∷ ys) {x} {y} e = absurd (omega (arith, ap length e, length-append ys (y ∷ [])))
-last_same (a ∷ xs) [] {x} {y} e = absurd (omega (arith, ap length e, length-append xs (x ∷ [])))
-last_same (a ∷ xs) (b ∷ ys) {x} {y} e =
-    let first : a ≡ b = cc in
-    let rest : xs ++ x ∷ [] ≡ ys ++ y ∷ [] = cc in
-    let h = last_same xs ys rest in
-    (ap (λ l. a ∷ l) h.0 ∙ ap (λ c. c ∷ ys) first, h.1)
+last_same xs ys h = grind (arith, common_steps, nat_tests)
 
 -- parts that are missing, modulo 2^64
 
@@ -32,8 +26,7 @@ module _ (l : Level) where
   endless_on e = grind (arith, nat_tests)
 
 small : (w : Width) (n : ℕ) → WidthFits w n → n < 2 ^ 64
-small Eight n h = h
-small w n h = omega arith
+small w n h = grind (arith, common_steps, nat_tests)
 
 -- The level of a container with one more node: none, if it is whole.
 
@@ -84,12 +77,10 @@ pub record Innermost (h : Partial) (ls : List Level) : Type 0 where
   pub from_bytes : AreFromBytes around
 
 some_of : (c : Bool) (k r : Level) → cond c None (Some k) ≡ Some r → (c ≡ false) × (k ≡ r)
-some_of true k r e = cc
-some_of false k r e = (refl, cc)
+some_of c k r h = grind (arith, common_steps, nat_tests)
 
 none_of : (c : Bool) (k : Level) → cond c None (Some k) ≡ None → c ≡ true
-none_of true k e = refl
-none_of false k e = cc
+none_of c k h = grind (arith, common_steps, nat_tests)
 
 -- its slot, and whether a break may end it
 
@@ -124,16 +115,13 @@ top_slot (top ts) ls l e = ap (λ (m : Level). slot_of m.kind m.missing) (sym (l
 top_slot (inside f o ts) ls l e = ap (λ (m : Level). slot_of m.kind m.missing) (sym (last_same (levels f) ls e).1) ∙ level_slot o ts
 
 plain_needs : (s : Slot) → needs_item (plain s) ≡ needs_item s
-plain_needs item = refl
-plain_needs s = refl
+plain_needs s = grind (arith, common_steps, nat_tests)
 
 ends_slot : (f : Partial) (ls : List Level) (l : Level) → levels f ≡ ls ++ l ∷ [] → may_end l.kind l.missing ≡ not (needs_item (slot (open_in f)))
 ends_slot f ls l e = ap not (ap needs_item (top_slot f ls l e) ∙ plain_needs (slot (open_in f)))
 
 not_is : (b c : Bool) → not b ≡ not c → b ≡ c
-not_is true true e = refl
-not_is false false e = refl
-not_is b c e = cc
+not_is b c h = grind (arith, common_steps, nat_tests)
 
 module _ (end : ℕ) where
   pub stays : (h : Partial) (u : Tree) (ls : List Level) (l r : Level) → levels h ≡ ls ++ l ∷ [] → Proper h → Accepts (open_in h) u → AreFromBytes h → with_part l ≡ Some r
@@ -186,17 +174,13 @@ kept_as f {around} {now} {l} {m} same is h = (h.0 ∙ ap (λ ls. ls ++ l ∷ [])
 -- what may be next
 
 pub no_string : (f : Partial) → TakesItem f → IsNoString (open_in f)
-no_string (inside f (in_chunks p k) ts) h = absurd h
-no_string f h = tt
+no_string f h = grind (arith, common_steps, nat_tests)
 
 pub item_accepted : (f : Partial) (t : Tree) → TakesItem f → Accepts (open_in f) t
 item_accepted f t h = accepted (open_in f) t (no_string f h)
 
 pub string_accepted : (f : Partial) (p : ℕ) (k : StringKind) (w : Width) (x : List ℕ) → TakesString f k → Accepts (open_in f) (string_tree p k w x)
-string_accepted (inside f (in_chunks q OfBytes) ts) p OfText w x h = cc
-string_accepted (inside f (in_chunks q OfText) ts) p OfBytes w x h = cc
-string_accepted f p k w x h = tt
+string_accepted f p k w x h = grind (arith, common_steps, nat_tests)
 
 pub item_free : (f : Partial) (ls : List Level) (l : Level) → levels f ≡ ls ++ l ∷ [] → is_chunks l.kind ≡ false → TakesItem f
-item_free (inside f (in_chunks q j) ts) ls l e free = let h = last_same (levels f) ls e in cc (ap (λ (m : Level). is_chunks m.kind) h.1 ∙ free)
-item_free f ls l e free = tt
+item_free f ls l h e = grind (arith, common_steps, nat_tests)

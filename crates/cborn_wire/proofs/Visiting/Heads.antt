@@ -24,9 +24,7 @@ map_major b low high = ap major_at {x = 5} (omega arith)
 
 -- an array or a map has an indefinite length or a definite one
 bounded_not : (n : ℕ) → 4 ≤ n → n < 6 → is_always_bounded (major_at n) ≡ false
-bounded_not (suc (suc (suc (suc zero)))) low high = refl
-bounded_not (suc (suc (suc (suc (suc zero))))) low high = refl
-bounded_not n low high = absurd (omega (arith, low, high))
+bounded_not n h e = grind (arith, common_steps, nat_tests)
 
 pub endless_at : (x : List ℕ) → 0 < length x → 128 ≤ get_or x 0 0 → get_or x 0 0 < 192 → get_or x 0 0 % 32 ≡ 31 → IsHeadOf x (record { major = get_or x 0 0 / 32; argument = Endless }) 1
 endless_at [] some low high e = absurd (omega (arith, some))

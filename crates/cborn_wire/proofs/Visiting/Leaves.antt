@@ -1,4 +1,6 @@
 -- What is read and made of a leaf.
+use Rattle.std.proofs.lemmas.Grind.{common_steps}
+use Rattle.std.proofs.lemmas.Bool.Decides.{nat_tests}
 use Rattle.std.specs.Prelude.{◌≡◌, ◌+◌, ◌-◌, ◌/◌, ◌%◌, ◌<◌, ◌≤◌, ◌∷◌, ◌++◌}
 use Rattle.cborn_wire.proofs.Common.{refl, sym, ap, ◌∙◌, subst, ℕ, zero, suc, List, [], length, take, drop, get_or, Bool, true, false, cond, leb, Option, Some, None, arith, length-append, lt-leb, length-take-le, take-add, AreBytes, Width, Direct, Major, Unsigned, Negative, ByteString, TextString, Other, code, WidthFits, Tree, Trees, Uint, Nint, Simple, an_array, a_map, in_chunks, Partial, top, inside, Part, no_part, put, last_key, TakesItem, TakesString, string_tree, Full, GivenHead, Level, LevelKind, major_at, IsHeadOf, Slot, chunk, OpenContainer, slot, slot_in_map, open_depth, Info, Now, Next, info_at, info_for, is_bad_chunk, head_reason, width_bytes, number, content_of, gathering, Live, content_at, after_head, finished, run, AtMostOneMore, ready, open_in, state, slot_of, is_chunks, is_even, Stands, IsNoChunkSlot, IsGiven, IsLeafOf, IsLeaf, content_len, leaf_tree, AfterLeaves, TakesHead, State}
 use Rattle.cborn_model.specs.Heads as heads
@@ -39,11 +41,7 @@ given_wide (b ∷ y) rest w n k same are some low i all value len =
 -- which heads are those of leaves
 
 text_major : (n : ℕ) (w : Width) → IsLeaf (major_at n) w → 3 ≤ n → n < 7 → n ≡ 3
-text_major (suc (suc (suc zero))) w l low high = refl
-text_major (suc (suc (suc (suc zero)))) w l low high = absurd l
-text_major (suc (suc (suc (suc (suc zero))))) w l low high = absurd l
-text_major (suc (suc (suc (suc (suc (suc zero)))))) w l low high = absurd l
-text_major n w l low high = absurd (omega (arith, low, high))
+text_major n w h e g = grind (arith, common_steps, nat_tests)
 
 pub bytes_are : (p n k : ℕ) (w : Width) (x : List ℕ) → n ≡ 2 → string_tree p OfBytes w x ≡ leaf_tree p (major_at n) w k x
 bytes_are p n k w x e = ap (λ m. leaf_tree p (major_at m) w k x) (sym e)
@@ -52,8 +50,7 @@ pub text_is : (p n k : ℕ) (w : Width) (x : List ℕ) → IsLeaf (major_at n) w
 text_is p n k w x l low high = ap (λ m. leaf_tree p (major_at m) w k x) (sym (text_major n w l low high))
 
 pub string_free : (f : Partial) (k : StringKind) → TakesItem f → TakesString f k
-string_free (inside f (in_chunks p j) ts) k h = absurd h
-string_free f k h = tt
+string_free f k h = grind (arith, common_steps, nat_tests)
 
 -- a leaf is allowed wherever an item is
 
@@ -61,13 +58,7 @@ pub plain_slot : (f : Partial) → TakesItem f → IsNoChunkSlot (slot (open_in 
 plain_slot f h = slot_plain (open_in f) (no_string f h)
 
 pub leaf_free : (s : Slot) (full : Bool) (m : Major) (w : Width) (n : ℕ) → IsNoChunkSlot s → IsLeaf m w → head_reason s full m (info_for (heads.Given w n)) [] ≡ None
-leaf_free s full Unsigned w n h l = clear_given s full Unsigned w n (no_chunk s Unsigned (info_for (heads.Given w n)) h) refl refl
-leaf_free s full Negative w n h l = clear_given s full Negative w n (no_chunk s Negative (info_for (heads.Given w n)) h) refl refl
-leaf_free s full ByteString w n h l = clear_given s full ByteString w n (no_chunk s ByteString (info_for (heads.Given w n)) h) refl refl
-leaf_free s full TextString w n h l = clear_given s full TextString w n (no_chunk s TextString (info_for (heads.Given w n)) h) refl refl
-leaf_free s full Other Direct n h l = rw (no_chunk s Other (Now n) h) refl
-leaf_free s full Other w n h l = cc
-leaf_free s full m w n h l = absurd l
+leaf_free s full m w n h e = grind (arith, common_steps, nat_tests)
 
 leaf_allowed : (limit : ℕ) (os : List OpenContainer) (x : List ℕ) (m : Major) (w : Width) (n : ℕ) (rest : List ℕ) → WidthFits w n → x ≡ heads.head m (heads.Given w n) ++ rest → IsNoChunkSlot (slot os) → IsLeaf m w
     → None ≡ head_reason (slot os) (leb limit (open_depth os)) (major_at (get_or x 0 0 / 32)) (info_at (get_or x 0 0 % 32)) []
@@ -120,9 +111,7 @@ leaf_read limit at f x y h n takes leaf cut =
     ∙ ap (λ k. finished k (ready f) (open_in f) (leaf_tree at m h.width h.argument y)) (omega (arith, leaf.len, len))
 
 pub item_after : (f : Partial) (t : Tree) → TakesItem f → TakesItem (put f t)
-item_after (inside f (in_chunks p k) ts) t h = absurd h
-item_after (top ts) t h = tt
-item_after (inside f o ts) t h = tt
+item_after f t h = grind (arith, common_steps, nat_tests)
 
 pub leaf_cut : (x : List ℕ) (g : GivenHead) (n : ℕ) → IsLeafOf x g n → take n x ≡ take g.len x ++ take (n - g.len) (drop g.len x)
 leaf_cut x g n leaf = ap (λ k. take k x) (omega (arith, leaf.len)) ∙ take-add g.len (n - g.len) x

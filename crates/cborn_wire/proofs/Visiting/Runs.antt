@@ -1,4 +1,6 @@
 -- What is read and made of leaves that are taken several at a time.
+use Rattle.std.proofs.lemmas.Grind.{common_steps}
+use Rattle.std.proofs.lemmas.Bool.Decides.{nat_tests}
 use Rattle.std.specs.Prelude.{◌≡◌, ◌⊎◌, ◌+◌, ◌-◌, ◌/◌, ◌%◌, ◌^◌, ◌<◌, ◌≤◌, ◌∷◌, ◌++◌}
 use Rattle.cborn_wire.proofs.Common.{refl, sym, ap, ◌∙◌, subst, inl, inr, ℕ, List, [], length, take, drop, Bool, true, false, cond, leb, ltb, eqb-true, Option, Some, None, arith, append-nil, length-append, drop-take, take-append-drop, take-append-le, take_all, length-take-le, take-add, AreBytes, Width, Direct, Major, Unsigned, Negative, ByteString, TextString, Other, Given, head, WidthFits, least, Tree, Uint, Nint, an_array, a_map, Partial, Part, IsFree, top, inside, no_part, put, last_key, TakesItem, IsInteger, IsShortLeaf, AreShortIntegers, IsShortPair, text_in, puts, InArray, AtKey, Level, LevelKind, GivenHead, major_at, slot, open_depth, finished, run, ready, open_in, state, levels, Keeps, with_part, lessened, is_array, is_at_key, is_even, kind_at_none, room_in, IsLeafOf, IsLeaf, content_len, leaf_tree, AfterLeaves, TakesRun}
 use Rattle.cborn_model.specs.declared.visitors.LeafPair.{LeafPair}
@@ -68,28 +70,18 @@ key_counted l e = counted_on l (go l.kind l.missing e)
     go k m h = cc
 
 key_same : (f : Partial) (t : Tree) → AtKey f → ready (put f t) ≡ ready f
-key_same (inside f o ts) t h = refl
-key_same (top ts) t h = absurd h
+key_same f t h = grind (arith, common_steps, nat_tests)
 
 array_same : (f : Partial) (t : Tree) → InArray f → ready (put f t) ≡ ready f
-array_same (inside f o ts) t h = refl
-array_same (top ts) t h = absurd h
+array_same f t h = grind (arith, common_steps, nat_tests)
 
 array_after : (f : Partial) (t : Tree) → InArray f → InArray (put f t)
-array_after (inside f (an_array p s c) ts) t h = tt
-array_after f t h = absurd h
+array_after f t h = grind (arith, common_steps, nat_tests)
 
 -- a key and its value
 
 short_as : (p : ℕ) (m : Major) (w : Width) (n : ℕ) (y z : List ℕ) → AreBytes y → IsLeaf m w → WidthFits w n → length y ≡ content_len m n → w ≡ least n → z ≡ head m (Given w n) ++ y → IsShortLeaf p z (leaf_tree p m w n y)
-short_as p Unsigned w n [] z are l fits e s c = record { placed = refl; fits = fits; short = s; spells = sym (c ∙ append-nil (head Unsigned (Given w n))) }
-short_as p Negative w n [] z are l fits e s c = record { placed = refl; fits = fits; short = s; spells = sym (c ∙ append-nil (head Negative (Given w n))) }
-short_as p Other Direct n [] z are l fits e s c = record { placed = refl; fits = simple_value n (inl fits); short = tt; spells = ap (λ v. head Other (Given v n)) (sym s) ∙ sym (c ∙ append-nil (head Other (Given Direct n))) }
-short_as p ByteString w n y z are l fits e s c = record { placed = refl; fits = (subst (WidthFits w) (sym e) fits, are); short = s ∙ ap least (sym e); spells = ap (λ k. head ByteString (Given w k) ++ y) e ∙ sym c }
-short_as p TextString w n y z are l fits e s c = record { placed = refl; fits = (subst (WidthFits w) (sym e) fits, are); short = s ∙ ap least (sym e); spells = ap (λ k. head TextString (Given w k) ++ y) e ∙ sym c }
-short_as p Other w n y z are l fits e s c = cc
-short_as p m w n (b ∷ y) z are l fits e s c = absurd (omega (arith, e))
-short_as p m w n [] z are l fits e s c = absurd l
+short_as p m w n y z h e g k a b = grind (arith, common_steps, nat_tests)
 
 short_leaf : (p : ℕ) (x : List ℕ) (h : GivenHead) (n : ℕ) → AreBytes x → IsLeafOf x h n → h.width ≡ least h.argument → IsShortLeaf p (take n x) (leaf_in p x h n)
 short_leaf p x h n are leaf short =
@@ -170,12 +162,10 @@ has_room l k is h = go l.kind refl is h
 
 -- more than one follows
 array_on : (l : Level) (k : ℕ) → l.missing < 2 ^ 64 → HasRoom l k → 1 < k → with_part l ≡ Some (record l { missing = lessened l.missing 1 })
-array_on l k fits (inl endless) more = endless_on l (ap kind_at_none endless ∙ ap Some (sym endless))
-array_on l k fits (inr (counted, room)) more = counted_on l (omega (arith, fits, room, more))
+array_on l k h e g = grind (arith, common_steps, nat_tests)
 
 room_left : (l : Level) (k j : ℕ) → l.missing < 2 ^ 64 → HasRoom l k → k ≡ j + 1 → HasRoom (record l { missing = lessened l.missing 1 }) j
-room_left l k j fits (inl endless) e = inl endless
-room_left l k j fits (inr (counted, room)) e = inr (counted, omega (arith, fits, room, e))
+room_left l k j h e g = grind (arith, common_steps, nat_tests)
 
 -- the first n bytes of some are integers
 module _ (holds : Partial → Type 0) (around : List Level) where

@@ -1,4 +1,6 @@
 -- What is taken off the front of a piece.
+use Rattle.std.proofs.lemmas.Grind.{common_steps}
+use Rattle.std.proofs.lemmas.Bool.Decides.{nat_tests}
 use Rattle.std.specs.Prelude.{◌≡◌, ◌+◌, ◌/◌, ◌%◌, ◌<◌, ◌≤◌, ◌∷◌, ◌++◌}
 use Rattle.cborn_wire.proofs.Common.{refl, sym, ap, ◌∙◌, subst, ℕ, List, [], length, take, drop, get_or, Bool, false, leb, Option, Some, None, arith, length-append, add-one, take-append-drop, AreBytes, Width, Direct, Major, Unsigned, ByteString, TextString, Other, Argument, Given, EndlessArgument, Trees, in_chunks, Partial, top, inside, Part, no_part, part, TakesItem, TakesString, VisitFault, Refused, Memory, StringKind, OfBytes, OfText, major_of, Slot, item, chunk, OpenContainer, opened, slot, slot_in, open_depth, IsNoString, AreOpen, Head, Level, PartialHead, major_at, seen_argument, IsHeadOf, Info, Next, info_at, info_for, is_bad_chunk, head_reason, plain, width_bytes, argument_of, nothing, Unfinished, gathering, State, Live, begin_head, unless, run, IsReached, open_in, state, level_in, levels, Keeps, Takes, slot_of, Missing, Stands, FailsAs, HereAt, true}
 use Rattle.cborn_model.proofs.Bytes.{bytes-left}
@@ -31,8 +33,7 @@ stands_here holds outer l left at h s u none is stands = subst (λ o. HereAt hol
 -- which heads are allowed
 
 plain_same : (s : Slot) (full : Bool) (m : Major) (i : Info) → head_reason (plain s) full m i [] ≡ head_reason s full m i []
-plain_same item full m i = refl
-plain_same s full m i = refl
+plain_same s full m i = grind (arith, common_steps, nat_tests)
 
 level_count : (f : Partial) → length (levels f) ≡ length (open_in f) + 1
 level_count (top ts) = refl
@@ -43,14 +44,10 @@ outer_count f ls l e = omega (arith, level_count f, ap length e, length-append l
 
 -- in an indefinite string the depth says nothing
 chunk_reason : (k : StringKind) (m : Major) (i : Info) (f g : Bool) → head_reason (chunk k) f m i [] ≡ head_reason (chunk k) g m i []
-chunk_reason OfBytes Unsigned i f g = refl
-chunk_reason OfText Unsigned i f g = refl
-chunk_reason k m i f g = refl
+chunk_reason k m i f g = grind (arith, common_steps, nat_tests)
 
 any_depth : (os : List OpenContainer) (limit j : ℕ) (m : Major) (i : Info) → (IsNoString os → j ≡ open_depth os) → head_reason (slot os) (leb limit j) m i [] ≡ head_reason (slot os) (leb limit (open_depth os)) m i []
-any_depth [] limit j m i e = ap (λ n. head_reason item (leb limit n) m i []) (e tt)
-any_depth (opened (in_chunks p c) ts ∷ os) limit j m i e = chunk_reason c m i (leb limit j) _
-any_depth (opened o ts ∷ os) limit j m i e = ap (λ n. head_reason (slot_in (opened o ts)) (leb limit n) m i []) (e tt)
+any_depth os limit j m i h = grind (arith, common_steps, nat_tests)
 
 pub reason_same : (limit : ℕ) (f : Partial) (ls : List Level) (l : Level) (m : Major) (i : Info) → Keeps f ls l → AreOpen limit (open_in f)
     → head_reason (slot_of l.kind l.missing) (leb limit (length ls)) m i [] ≡ head_reason (slot (open_in f)) (leb limit (open_depth (open_in f))) m i []
@@ -71,15 +68,10 @@ room limit most f ls l are small h = omega (arith, outer_count f ls l are.0, ope
 -- what is allowed may be next
 
 item_next : (f : Partial) → IsNoString (open_in f) → TakesItem f
-item_next (inside f (in_chunks p k) ts) h = absurd h
-item_next f h = tt
+item_next f h = grind (arith, common_steps, nat_tests)
 
 string_next : (f : Partial) (k : StringKind) (i : Info) → is_bad_chunk (slot (open_in f)) (major_of k) i ≡ false → TakesString f k
-string_next (inside f (in_chunks p OfBytes) ts) OfBytes i e = refl
-string_next (inside f (in_chunks p OfText) ts) OfText i e = refl
-string_next (inside f (in_chunks p OfBytes) ts) OfText i e = cc
-string_next (inside f (in_chunks p OfText) ts) OfBytes i e = cc
-string_next f k i e = tt
+string_next f k i h = grind (arith, common_steps, nat_tests)
 
 module _ (f : Partial) (full : Bool) where
   allowed : (m : Major) (a : Argument) → head_reason (slot (open_in f)) full m (info_for a) [] ≡ None → is_bad_chunk (slot (open_in f)) m (info_for a) ≡ false
@@ -89,11 +81,7 @@ module _ (f : Partial) (full : Bool) where
   no_string m a b c e = item_next f (free_of (open_in f) m (info_for a) (allowed m a e) b c)
 
   pub head_next : (m : Major) (a : Argument) → head_reason (slot (open_in f)) full m (info_for a) [] ≡ None → Takes f m a
-  head_next ByteString (Given w n) e = string_next f OfBytes (info_for (Given w n)) (allowed ByteString (Given w n) e)
-  head_next TextString (Given w n) e = string_next f OfText (info_for (Given w n)) (allowed TextString (Given w n) e)
-  head_next Other (Given Direct n) e = no_string Other (Given Direct n) refl refl e
-  head_next Other EndlessArgument e = tt
-  head_next m a e = no_string m a refl refl e
+  head_next m a h = grind (arith, common_steps, nat_tests)
 
   pub first_next : (piece : List ℕ) (h : Head) (n : ℕ) → IsHeadOf piece h n → 0 < length piece → None ≡ head_reason (slot (open_in f)) full (major_at (get_or piece 0 0 / 32)) (info_at (get_or piece 0 0 % 32)) []
       → Takes f (major_at h.major) (seen_argument h.argument)
@@ -104,13 +92,11 @@ module _ (f : Partial) (full : Bool) where
       head_next m a (ap (λ j. head_reason (slot (open_in f)) full j (info_for a) []) (sym (major_of_head m a b y i.rest i.fits i.whole)) ∙ ap (λ j. head_reason (slot (open_in f)) full (major_at (b / 32)) j []) (sym (info_of_head m a b y i.rest i.fits i.whole)) ∙ sym e)
 
   pub short_next : (m : Major) (i : Info) (w : Width) → i ≡ Next w → 0 < width_bytes w → None ≡ head_reason (slot (open_in f)) full m i [] → Takes f m (Given w 0)
-  short_next m i Direct is some e = absurd (omega (arith, some))
-  short_next m i w is some e = head_next m (Given w 0) (ap (λ j. head_reason (slot (open_in f)) full m j []) (sym is) ∙ sym e)
+  short_next m i w h e g = grind (arith, common_steps, nat_tests)
 
 -- of which argument that is doesn't matter
 pub any_argument : (f : Partial) (m : Major) (w : Width) (n k : ℕ) → Takes f m (Given w n) → Takes f m (Given w k)
-any_argument f Unsigned w n k h = h
-any_argument f m w n k h = h
+any_argument f m w n k h = grind (arith, common_steps, nat_tests)
 
 -- the initial byte of a head that ends after the piece
 pub short_taken : (limit at : ℕ) (rd : Trees) (os : List OpenContainer) (piece : List ℕ) (w : Width) → 0 < length piece → info_at (get_or piece 0 0 % 32) ≡ Next w
