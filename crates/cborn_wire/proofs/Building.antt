@@ -26,8 +26,7 @@ around_push f (j ∷ ks) k = around_push (within f j) ks k
 -- a container is opened
 pub opened : (old new : Nodes) (k : OpenNode) → new.outer.items ≡ old.outer.items ++ old.innermost ∷ [] → new.innermost ≡ k → new.string ≡ old.string
     → (f g : Partial) → g ≡ within f k → IsHeld old f no_part → IsHeld new g no_part
-opened old new k outer innermost same f g is (held, string) =
-    (is ∙ ap (λ h. within h k) (held ∙ sym (ap (around (top [])) outer ∙ around_push (top []) old.outer.items old.innermost)) ∙ ap (within (around (top []) new.outer.items)) (sym innermost), string ∙ ap seen_string (sym same))
+opened old new k outer innermost same f g is h = grind (arith, around_push)
 
 -- what a list of containers is once the last is removed
 pub popped : (ks rest : List OpenNode) (last : OpenNode) → ks ≡ rest ++ last ∷ [] → around (top []) ks ≡ within (around (top []) rest) last

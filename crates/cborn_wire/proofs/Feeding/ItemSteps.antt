@@ -51,9 +51,7 @@ module _ (r : ItemReader) (made : IsMade r) where
 
 -- Reading fails as the machine does.
 pub fails_item : (old : ItemReader) (made : IsMade old) (piece : List ℕ) (e : VisitFault) → visiting.ReadsItem old.heads.limit made.base made.read piece (Err e) → FailsAs no_item (run old.heads.limit (seen [] old) piece) e
-fails_item old made piece (Refused p r) h =
-    ap (λ u. run old.heads.limit u piece) (sym made.is) ∙ sym (run-append old.heads.limit (start made.base) made.read piece) ∙ h ∙ ap (λ ts. Failed ts p r) (ap ready_in made.is)
-fails_item old made piece (Memory e) h = tt
+fails_item old made piece e h = grind (arith, run-append)
 
 -- After these bytes heads, levels and nodes are what they are here.
 module _ (old : ItemReader) (made : IsMade old) (heads : HeadReader) (levels : GrownLevels) (nodes : Nodes) (y : List ℕ) (same : heads.limit ≡ old.heads.limit)
@@ -77,19 +75,7 @@ module _ (old : ItemReader) (made : IsMade old) (heads : HeadReader) (levels : G
   pub no_item_whole : (next : Nodes) → seen_nodes next ≡ seen_nodes nodes → next.string ≡ nodes.string → ((ts : List Tree) → seen_nodes nodes ≡ top ts → ts ≡ [])
       → AtMostOneMore (ready_in (run old.heads.limit (start made.base) made.read)) (run old.heads.limit (start made.base) (made.read ++ y))
       → let r : ItemReader = record { heads = heads; levels = levels; nodes = next } in IsMade r × (run old.heads.limit (seen [] old) y ≡ seen [] r)
-  no_item_whole next is string none at_most =
-      let is_next : now ≡ Live heads.at no_item (open_in (seen_nodes next)) (pending heads.head next.string)
-      = is_now ∙ ap (λ ts. Live heads.at ts (open_in (seen_nodes nodes)) (pending heads.head nodes.string)) (none_ready none (one_more at_most))
-      ∙ ap (λ f. Live heads.at no_item (open_in f) (pending heads.head nodes.string)) (sym is) ∙ ap (λ s. Live heads.at no_item (open_in (seen_nodes next)) (pending heads.head s)) (sym string) in
-      let hands : (f : Partial) (c : Part) → IsHeld nodes f c → IsHeld next f c = λ f c h. (h.0 ∙ sym is, h.1 ∙ ap seen_string (sym string)) in (
-        record {
-          base = made.base;
-          read = made.read ++ y;
-          fed = (fed.0, fed.1, here_held (IsHeld nodes) (IsHeld next) hands levels.outer.items levels.inner heads.left heads.at heads.head now fed.2);
-          is = is_next;
-        },
-        comes ∙ is_next,
-      )
+  no_item_whole next is string none at_most = grind (arith, comes, here_held, is_now, none_ready, one_more)
 
   -- one item is whole, the node t
   module _ (t : Tree) (next : Nodes) (is : seen_nodes nodes ≡ put (seen_nodes next) t) (bare : seen_nodes next ≡ top (whole (seen_nodes next))) where
@@ -148,13 +134,10 @@ module _ (r : ItemReader) (items : List Tree) (x : List ℕ) where
       ∙ front_run (trees items) r.heads.limit x (seen [] r)
 
   after_items : (new : ItemReader) (others : List Tree) → run r.heads.limit (seen [] r) x ≡ seen others new → run r.heads.limit (seen items r) x ≡ seen (items ++ others) new
-  after_items new others e =
-      from_none ∙ ap (with_front (trees items)) e
-      ∙ ap (λ ts. Live new.heads.at ts (open_in (seen_nodes new.nodes)) (pending new.heads.head new.nodes.string)) (sym (trees-append items others))
+  after_items new others e = grind (arith, from_none, trees-append, with_front)
 
   fails_after : (e : VisitFault) → FailsAs no_item (run r.heads.limit (seen [] r) x) e → FailsAs (trees items) (run r.heads.limit (seen items r) x) e
-  fails_after (Refused p reason) h = from_none ∙ ap (with_front (trees items)) h ∙ ap (λ ts. Failed ts p reason) (append_trees-nil (trees items))
-  fails_after (Memory e) h = tt
+  fails_after e h = grind (arith, append_trees-nil, from_none, with_front)
 
 -- The front y of the piece was read, and the rest is to come.
 module _ (old : ItemReader) (before : List Tree) (now : ItemReader) (items : List Tree) (piece y rest : List ℕ) (cut : piece ≡ y ++ rest) (m : IsMoved old before now items y) where
@@ -166,10 +149,4 @@ module _ (old : ItemReader) (before : List Tree) (now : ItemReader) (items : Lis
 
   pub then_moved : (next : ItemReader) (n : ℕ) (item : Option Tree) (left : List Tree) → Took rest now next n item → next.heads.limit ≡ now.heads.limit → left ≡ items ++ option_to_list item
       → IsMoved old before next left (y ++ take n rest)
-  then_moved next n item left t limit added = record {
-    made = t.made;
-    limit = limit ∙ m.limit;
-    at = omega (arith, t.at, m.at, length-append y (take n rest), length-take-le n rest t.within);
-    goes = run-append old.heads.limit (seen before old) y (take n rest) ∙ ap (λ u. run old.heads.limit u (take n rest)) m.goes ∙ ap (λ k. run k (seen items now) (take n rest)) (sym m.limit)
-        ∙ after_items now items (take n rest) next (option_to_list item) t.goes ∙ ap (λ l. seen l next) (sym added);
-  }
+  then_moved next n item left t limit added = grind (arith, after_items, length-append, length-take-le, run-append)

@@ -105,9 +105,7 @@ next_free y m w h = grind (arith, common_steps, nat_tests)
 
 pub direct_front : (x : List ℕ) (m : Major) → AreBytes x → 1 ≤ length x → code m ≡ get_or x 0 0 / 32 → get_or x 0 0 % 32 < 24
     → IsHeadOf x (record { major = code m; argument = Given Direct (get_or x 0 0 % 32) }) 1
-direct_front [] m are h first low = absurd (omega arith)
-direct_front (b ∷ y) m are h first low =
-    subst (λ (n : ℕ). IsHeadOf (b ∷ y) (record { major = n; argument = Given Direct (b % 32) }) 1) (sym first) (direct_head y b are.0 low)
+direct_front x m h e g k = grind (arith, common_steps, nat_tests, direct_head)
 
 pub endless_front : (x : List ℕ) (r : HeadRead) (m : Major) → 1 ≤ length x → code m ≡ get_or x 0 0 / 32 → is_endless_head (info_at (get_or x 0 0 % 32)) ≡ true
     → ((b : ℕ) (y : List ℕ) → b / 32 ≡ code m → info_at (b % 32) ≡ EndlessInformation → ReadsHead (b ∷ y) r) → ReadsHead x r
@@ -119,13 +117,4 @@ wide_fronts x rest r m w h e g k a b = grind (arith, common_steps, nat_tests)
 
 -- The front of a head that isn't whole announces an argument of one byte or more.
 pub short_front : (x : List ℕ) → 0 < length x → IsFrontOfHead x → (24 ≤ get_or x 0 0 % 32) × (get_or x 0 0 % 32 ≤ 27)
-short_front [] some f = absurd (omega (arith, some))
-short_front (b ∷ x) some f = go f.argument f.whole
-  where
-    go : (a : heads.Argument) → b ∷ (x ++ f.missing) ≡ heads.head f.major a → (24 ≤ b % 32) × (b % 32 ≤ 27)
-    go (heads.Given Direct n) e = absurd (omega (arith, ap length e, length-append x f.missing, f.some))
-    go (heads.Given One n) e = let first : b ≡ 32 * code f.major + 24 = cc in (omega (arith, first), omega (arith, first))
-    go (heads.Given Two n) e = let first : b ≡ 32 * code f.major + 25 = cc in (omega (arith, first), omega (arith, first))
-    go (heads.Given Four n) e = let first : b ≡ 32 * code f.major + 26 = cc in (omega (arith, first), omega (arith, first))
-    go (heads.Given Eight n) e = let first : b ≡ 32 * code f.major + 27 = cc in (omega (arith, first), omega (arith, first))
-    go heads.EndlessArgument e = absurd (omega (arith, ap length e, length-append x f.missing, f.some))
+short_front x h e = grind (arith, length-append)

@@ -58,8 +58,7 @@ second_refused limit at ready os (b ∷ y) r some none e =
     refused_run limit (b ∷ y) at ready os r (bad_simple (slot os) (leb limit (open_depth os)) (major_at (b / 32)) (info_at (b % 32)) y r (sym none) (sym (same_alone b y) ∙ e))
 
 pub head_fits : (piece : List ℕ) (h : Head) (n : ℕ) → IsHeadOf piece h n → (0 < n) × (n ≤ length piece)
-head_fits piece h n i =
-    (omega (arith, i.len, head_some (major_at h.major) (seen_argument h.argument)), omega (arith, i.len, ap length i.whole, length-append (head (major_at h.major) (seen_argument h.argument)) i.rest))
+head_fits piece h n i = grind (arith, head_some, length-append)
 
 -- a break, which says by itself where it isn't allowed
 

@@ -35,8 +35,7 @@ reason_is : (s : Slot) (full : Bool) (m i : ℕ) (j : Info) (y : List ℕ) → S
 reason_is s full m i j y h = rw (bad_chunk_is s m i j h, h.reserved, h.endless_information, bounded_is m, other_is m, h.float, h.one, container_is m) refl
 
 pub same_reason : (limit : ℕ) (s : Slot) (k : ℕ) (y : List ℕ) → reason_at limit s k y ≡ front_reason limit s k y
-same_reason limit s k [] = refl
-same_reason limit s k (b ∷ y) = reason_is s (leb limit k) (b / 32) (b % 32) (info_at (b % 32)) y (info_says (b % 32) (omega arith))
+same_reason limit s k y = grind (arith, info_says, reason_is)
 
 -- wherever an item or a break is allowed
 pub same_alone : (b : ℕ) (y : List ℕ) → reason_alone (b ∷ y) ≡ head_reason element_or_end false (major_at (b / 32)) (info_at (b % 32)) y

@@ -47,8 +47,7 @@ module _ (limit fed : ℕ) (ready : Trees) (os : List OpenContainer) where
   -- An initial byte that isn't allowed in the slot.
   pub refuses_first : (b : ℕ) (y : List ℕ) (r : WireReason) → head_reason (slot os) (leb limit (open_depth os)) (major_at (b / 32)) (info_at (b % 32)) [] ≡ Some r
       → run limit (Live fed ready os nothing) (b ∷ y) ≡ Failed ready fed r
-  refuses_first b y r e =
-      ap (λ o. run limit (unless o ready fed (begin_head fed ready os (major_at (b / 32)) (info_at (b % 32)))) y) e ∙ failed_run limit y ready fed r
+  refuses_first b y r e = grind (arith, failed_run)
 
   -- The last byte of an argument.
   pub argument_done : (p : ℕ) (m : Major) (w : Width) (n : ℕ) (got : List ℕ) (b : ℕ) → n ≤ suc (length got)
@@ -64,11 +63,7 @@ module _ (limit fed : ℕ) (ready : Trees) (os : List OpenContainer) where
         ∙ gathers limit y fed p ready os (content_of k w) n got [] fits
 
     pub content_more : length got + length y < n → run limit (Live fed ready os (gathering p (content_of k w) n got)) y ≡ Live (fed + length y) ready os (gathering p (content_of k w) n (got ++ y))
-    content_more h =
-        content_taken (omega arith) (omega arith)
-        ∙ ap (λ c. cond c (finished (fed + length y) ready os (string_tree p k w (got ++ y))) (Live (fed + length y) ready os (gathering p (content_of k w) n (got ++ y)))) (lt-leb n (length (got ++ y)) (omega (arith, length-append got y)))
+    content_more h = grind (arith, content_taken, length-append, lt-leb)
 
     pub content_done : length got < n → length got + length y ≡ n → run limit (Live fed ready os (gathering p (content_of k w) n got)) y ≡ finished (fed + length y) ready os (string_tree p k w (got ++ y))
-    content_done h all =
-        content_taken h (omega arith)
-        ∙ ap (λ c. cond c (finished (fed + length y) ready os (string_tree p k w (got ++ y))) (Live (fed + length y) ready os (gathering p (content_of k w) n (got ++ y)))) (le-leb n (length (got ++ y)) (omega (arith, length-append got y)))
+    content_done h all = grind (arith, content_taken, le-leb, length-append)

@@ -20,12 +20,7 @@ module _ (limit : ℕ) where
   low_run : (m : Major) (i : Info) (fed : ℕ) (ready : Trees) (os : List OpenContainer) (y : List ℕ) (r : WireReason)
       → cond ((is_other m && is_one i) && begins_low y) (Some BadSimple) None ≡ Some r
       → run limit (begin_head fed ready os m i) y ≡ Failed ready fed r
-  low_run Other (Next One) fed ready os (n ∷ y) r e = go (ltb n 32) e
-    where
-      go : (c : Bool) → cond c (Some BadSimple) None ≡ Some r → run limit (cond c (Failed ready fed BadSimple) (finished (suc (suc fed)) ready os (Simple fed n))) y ≡ Failed ready fed r
-      go true e = failed_run limit y ready fed BadSimple ∙ ap (Failed ready fed) (some_is BadSimple r e)
-      go false e = cc
-  low_run m i fed ready os y r e = cc
+  low_run m i fed ready os y r h = grind (arith, failed_run, some_is)
 
   refused_at : (full : Bool) (m : Major) (i : Info) (y : List ℕ) (fed : ℕ) (ready : Trees) (os : List OpenContainer) (r : WireReason) → head_reason (slot os) full m i y ≡ Some r
       → (o : Option WireReason) → head_reason (slot os) full m i [] ≡ o → run limit (unless o ready fed (begin_head fed ready os m i)) y ≡ Failed ready fed r

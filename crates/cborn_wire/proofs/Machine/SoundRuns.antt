@@ -30,15 +30,7 @@ small x h i = grind (arith, common_steps, nat_tests)
 
 -- the bytes of an argument are those of the number that they make
 pub again : (w : Width) (got : List ℕ) → IsWide w → length got ≡ width_bytes w → AreBytes got → (following w (number w got) ≡ got) × WidthFits w (number w got)
-again Direct got wide l h = absurd wide
-again One (n ∷ []) wide l h = (refl, h.0)
-again One got wide l h = absurd (omega arith)
-again Two got wide l h = (be_bytes_2 got _ l (small got h) refl, omega (arith, small got h 0, small got h 1))
-again Four got wide l h = (be_bytes_4 got _ l (small got h) refl, omega (arith, small got h 0, small got h 1, small got h 2, small got h 3))
-again Eight got wide l h = (
-  be_bytes_8 got _ l (small got h) refl,
-  omega (arith, small got h 0, small got h 1, small got h 2, small got h 3, small got h 4, small got h 5, small got h 6, small got h 7),
-)
+again w got h e g = grind (arith, common_steps, nat_tests, be_bytes_2, be_bytes_4, be_bytes_8, small)
 
 pub wide : (w : Width) → 0 < width_bytes w → IsWide w
 wide w h = grind (arith, common_steps, nat_tests)
@@ -161,9 +153,7 @@ module _ (limit base : ℕ) where
   -- From a live state follow the bytes that make it.
   pub reached_held : (fed : ℕ) (ready : Trees) (os : List OpenContainer) (partial : Unfinished) → IsReached limit base (Live fed ready os partial)
       → let s = Live fed ready os partial in (run limit (start base) (held s) ≡ s) × AreBytes (held s)
-  reached_held fed ready os partial (x, bytes, is) =
-      let h : SoundLive limit base x fed ready os partial = subst (Sound limit base x) is (sound limit base x bytes) in
-      (ap (run limit (start base)) (sym h.bytes) ∙ is, subst AreBytes h.bytes bytes)
+  reached_held fed ready os partial h = grind (arith, sound)
 
   -- a complete item
   pub reached_item : (fed : ℕ) (ready : Trees) (t : Tree) (os : List OpenContainer) (partial : Unfinished) → IsReached limit base (Live fed (snoc ready t) os partial) → Fits t × (depth t ≤ limit)

@@ -49,21 +49,12 @@ sound_ended limit base ready (opened o ts ∷ os) fed p x g at slotted is =
 module _ (limit base : ℕ) (ready : Trees) (os : List OpenContainer) (fed p : ℕ) (x : List ℕ) (g : Ground limit base ready os) (placed : p ≡ base + length (front ready os)) (at : fed ≡ base + length x) where
   -- an item that is a head alone, or is spelled with no other item in it
   sound_leaf : (t : Tree) → Accepts os t → Fits t → depth t ≡ 0 → Placed (base + length (front ready os)) t → x ≡ front ready os ++ spelled t → Sound limit base x (finished fed ready os t)
-  sound_leaf t accepts fits flat there is = sound_finished limit base os ready t fed x (record {
-    ground = g;
-    accepts = accepts;
-    fits = fits;
-    shallow = omega (arith, flat, shallow_open limit os g.are_open);
-    placed = there;
-    bytes = is;
-    fed_is = at;
-  })
+  sound_leaf t accepts fits flat there is = grind (arith, shallow_open, sound_finished)
 
   -- a definite string is whole
   sound_string : (k : StringKind) (w : Width) (bytes : List ℕ) (i : Info) → is_bad_chunk (slot os) (major_of k) i ≡ false → WidthFits w (length bytes) × AreBytes bytes
       → x ≡ front ready os ++ string (major_of k) w bytes → Sound limit base x (finished fed ready os (string_tree p k w bytes))
-  sound_string OfBytes w bytes i allowed fits is = sound_leaf (Bytes p w bytes) (string_accepted os p OfBytes w bytes i allowed) fits refl placed is
-  sound_string OfText w bytes i allowed fits is = sound_leaf (Text p w bytes) (string_accepted os p OfText w bytes i allowed) fits refl placed is
+  sound_string k w bytes i h e g = grind (arith, sound_leaf, string_accepted)
 
   -- some of a definite string's bytes came
   pub sound_content : (k : StringKind) (w : Width) (n : ℕ) (got : List ℕ) → is_bad_chunk (slot os) (major_of k) (info_for (Given w n)) ≡ false → WidthFits w n → length got ≤ n → AreBytes got

@@ -23,12 +23,7 @@ gathers limit (b ∷ y) fed p ready os g n got x h =
 pub first : (limit fed : ℕ) (ready : Trees) (os : List OpenContainer) (m : Major) (i : ℕ) (info : Info) → i < 32 → info_at i ≡ info
     → head_reason (slot os) (leb limit (open_depth os)) m info [] ≡ None
     → step limit (Live fed ready os nothing) (32 * code m + i) ≡ begin_head fed ready os m info
-first limit fed ready os m i info h e r =
-    ap (λ k. at_slot limit fed ready os (major_at k) (info_at ((32 * code m + i) % 32))) (quotient (code m) i h)
-    ∙ ap (λ n. at_slot limit fed ready os n (info_at ((32 * code m + i) % 32))) (major_at-code m)
-    ∙ ap (λ k. at_slot limit fed ready os m (info_at k)) (remainder (code m) i h)
-    ∙ ap (λ j. at_slot limit fed ready os m j) e
-    ∙ ap (λ o. unless o ready fed (begin_head fed ready os m info)) r
+first limit fed ready os m i info h e r = grind (arith, quotient, remainder)
 
 pub info_at-now : (n : ℕ) → n < 24 → info_at n ≡ Now n
 info_at-now n h = rw (lt-ltb n 24 h) refl

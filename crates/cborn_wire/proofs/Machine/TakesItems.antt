@@ -99,10 +99,7 @@ module _ (limit fed : ℕ) (ready : Trees) (os : List OpenContainer) where
   -- the end of one that may end
   takes_closing : (o : Opening) (ts : List Tree) (x : List ℕ) → Ends o ts
       → run limit (holding fed ready os o ts) (closing o ++ x) ≡ run limit (finished (fed + length (closing o)) ready os (built o ts)) x
-  takes_closing o ts x h =
-      cond_both (is_full o (length ts)) _ _ (λ s. run limit s (closing o ++ x) ≡ run limit (finished (fed + length (closing o)) ready os (built o ts)) x)
-      (λ e. rw (full_closing o (length ts) e, add-zero) refl)
-      (λ e. let c = endless_closing o ts h e in rw c.0 (takes_break o ts x c.1))
+  takes_closing o ts x h = grind (arith, add-zero, closing, endless_closing, full_closing, takes_break)
 
 -- The machine takes t inside such a container.
 abbrev pub Taken : ℕ → Opening → Tree → Type 0

@@ -27,8 +27,7 @@ ending_bytes s = grind (arith, common_steps, nat_tests)
 
 -- what a head and an ending enclose
 inside_bytes : (m : Major) (s : Size) (n : ℕ) (x : List ℕ) → SizeFits s n → AreBytes x → AreBytes (head m (argument s n) ++ x ++ ending s)
-inside_bytes m s n x h k =
-    bytes-append (head m (argument s n) ++ x) (ending s) (bytes-append (head m (argument s n)) x (head_bytes m (argument s n) (size_fits s n h)) k) (ending_bytes s)
+inside_bytes m s n x h k = grind (arith, bytes-append, ending_bytes, head_bytes, size_fits)
 
 mutual
   pub spelled_bytes : (t : Tree) → Fits t → AreBytes (spelled t)

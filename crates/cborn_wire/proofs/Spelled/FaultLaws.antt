@@ -80,8 +80,7 @@ refused_stays limit x z p r (f, b, y, is, at, begins, bad, why) =
     stays (c ∷ y) true bad goes = bad goes
 
 pub fault_stays : (limit : ℕ) (x z : List ℕ) (p : ℕ) (r : WireReason) → Fault limit x p r → (r ≡ Truncated → ⊥) → Fault limit (x ++ z) p r
-fault_stays limit x z p r (inl h) n = inl (refused_stays limit x z p r h)
-fault_stays limit x z p r (inr h) n = absurd (n h.0)
+fault_stays limit x z p r h e = grind (arith, refused_stays)
 
 -- A head that isn't allowed is there.
 pub fault_inside : (limit : ℕ) (x : List ℕ) (p : ℕ) (r : WireReason) → Fault limit x p r → (r ≡ Truncated → ⊥) → p < length x

@@ -1,4 +1,6 @@
 -- Which bytes go on: the state of the machine where a head begins, and which heads are allowed there.
+use Rattle.std.proofs.lemmas.Grind.{common_steps}
+use Rattle.std.proofs.lemmas.Bool.Decides.{nat_tests}
 use Rattle.std.specs.Prelude.{◌≡◌, ◌+◌, ◌/◌, ◌%◌, ◌<◌, ◌∷◌, ◌++◌, ◌≤◌}
 use Rattle.cborn_wire.proofs.Common.{refl, sym, ap, ◌∙◌, subst, ℕ, suc, List, [], length, take, drop, Bool, true, false, cond, leb, eqb, Option, Some, None, inl, inr, arith, append_assoc, eqb-true, take-append-drop, AreBytes, Trees, One, Unsigned, Other, WireReason, StringKind, OfBytes, OfText, Slot, item, value, element_or_end, key_or_end, chunk, OpenContainer, slot, open_depth, Open, IsWellformed, GoesOn, BeginsHead, judged, IsReason, reason_at, SlotRefused, Now, Next, is_bad_chunk, head_reason, argument_of, nothing, gathering, State, Live, Failed, step, start, run, unless, length-append, append_cancel_left}
 use Rattle.cborn_model.proofs.Numbers.OneHead.{append_same}
@@ -23,9 +25,7 @@ later x f g y z b c e h l =
 
 -- one place
 pub same_place : (x f g y z : List ℕ) (b c : ℕ) → x ≡ f ++ b ∷ y → x ≡ g ++ c ∷ z → length f ≡ length g → (f ≡ g) × (b ≡ c)
-same_place x f g y z b c e h l =
-    let (same, both) = append_same f g (b ∷ y) (c ∷ z) l (sym e ∙ h) in
-    (same, cc both)
+same_place x f g y z b c e h l = grind (arith, append_same)
 
 module _ (limit : ℕ) where
   -- each front of what goes on goes on

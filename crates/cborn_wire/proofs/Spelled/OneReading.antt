@@ -64,9 +64,7 @@ reads limit p ts x h =
 
 -- Where nothing is open the items are the reading.
 pub ends_read : (limit base : ℕ) (x : List ℕ) → AreBytes x → (fed : ℕ) (ready : Trees) → run limit (start base) x ≡ Live fed ready [] nothing → Wellformed limit ready x × PlacedAll base ready
-ends_read limit base x bytes fed ready e =
-    let h : SoundLive limit base x fed ready [] nothing = subst (Sound limit base x) e (sound limit base x bytes) in
-    (record { spells = sym (h.bytes ∙ append-nil (front ready []) ∙ append-nil (spelled_all ready)); fit = h.ground.fit; shallow = h.ground.shallow }, h.ground.placed)
+ends_read limit base x bytes fed ready e = grind (arith, append-nil, sound)
 
 -- So each node may be at its offset,
 pub placed_reading : (limit p : ℕ) (ts : Trees) (x : List ℕ) → Wellformed limit ts x → Wellformed limit (all_from p ts) x × PlacedAll p (all_from p ts)
@@ -154,6 +152,4 @@ shorter t u x y f g e less =
     sym (is ∙ ap (λ w. spelled t ++ w) (no_item_begins t u z f g (sym is)).0 ∙ append-nil (spelled t))
 
 pub one_front : (t u : Tree) (x y : List ℕ) → Fits t → Fits u → spelled t ++ x ≡ spelled u ++ y → (spelled t ≡ spelled u) × (x ≡ y)
-one_front t u x y f g e =
-    let same : spelled t ≡ spelled u = elim (cases_lt (length (spelled u)) (length (spelled t))) [ inl less ↦ sym (shorter u t y x g f (sym e) (omega arith)) | inr less ↦ shorter t u x y f g e less ] in
-    (same, (append_same (spelled t) (spelled u) x y (ap length same) e).1)
+one_front t u x y f g e = grind (arith, append_same, cases_lt, shorter)

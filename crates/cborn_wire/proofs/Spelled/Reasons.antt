@@ -1,4 +1,5 @@
 -- The table of faults by slots gives the reason of `Faults`.
+use Rattle.std.proofs.lemmas.Grind.{common_steps}
 use Rattle.std.specs.Prelude.{◌≡◌, ◌/◌, ◌%◌, ◌<◌, ◌∷◌, ◌&&◌, ◌||◌}
 use Rattle.cborn_wire.proofs.Common.{refl, sym, ◌∙◌, ℕ, List, [], take, Bool, true, false, cond, leb, eqb, Option, Some, None, arith, agree_below_at, WireReason, ReservedInfo, EndlessNotAllowed, BadChunk, UnexpectedBreak, FloatLeftOut, BadSimple, TooDeep, Truncated, StringKind, OfBytes, OfText, ByteString, TextString, Other, Major, Slot, item, chunk, judged, needs_item, begins_low, reason_at, major_at, Info, EndlessInformation, info_at, is_reserved, is_endless_head, is_always_bounded, is_break, is_other, is_float, is_one, is_container, is_bad_chunk, head_reason, value, element_or_end}
 use Rattle.std.proofs.lemmas.Bool.Decides.{nat_tests}
@@ -30,16 +31,7 @@ table_reason limit s k b y r e = end_reason (leb limit k) (b / 32) (b % 32) y r 
 
 -- The table judges a head by no other bytes.
 pub judged_reason : (limit : ℕ) (s : Slot) (k b : ℕ) (y : List ℕ) → b < 256 → reason_at limit s k (judged b y) ≡ reason_at limit s k (b ∷ y)
-judged_reason limit s k b y byte = go (eqb b 0xf8) refl
-  where
-    low : (y : List ℕ) → begins_low (take 1 y) ≡ begins_low y
-    low [] = refl
-    low (c ∷ y) = refl
-
-    go : (c : Bool) → eqb b 0xf8 ≡ c → reason_at limit s k (b ∷ cond c (take 1 y) []) ≡ reason_at limit s k (b ∷ y)
-    go true e = rw (low y) refl
-    -- 0xf8 begins a simple value of two bytes
-    go false e = rw (sym (agree_below_at (λ b. eqb b 0xf8) (λ b. leb 7 (b / 32) && eqb (b % 32) 24) 256 b refl byte) ∙ e) refl
+judged_reason limit s k b y byte = grind (arith, common_steps, nat_tests, agree_below_at)
 
 -- No head is refused for the end of the input.
 pub not_truncated : (chunked : Bool) (m i : ℕ) → reason_of chunked m i ≡ Truncated → ⊥

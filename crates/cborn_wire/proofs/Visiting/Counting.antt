@@ -46,13 +46,7 @@ endless_next : (o : Opening) (k : ℕ) → kind_at_none (kind_in o k) ≡ Some (
 endless_next o k e kind more = endless_on (level_with o k) e ∙ rw (again (announced_nodes o) k, ← kind, more) refl
 
 next : (o : Opening) (ts : List Tree) → HeadFits o → Goes o ts → Next o (length ts)
-next (an_array p (Fixed w) (Some n)) ts fits h = array_next p w n (length ts) (small w n fits) h
-next (a_map p (Fixed w) (Some n)) ts fits h = map_next p w n (length ts) (small w n fits) (omega (arith, h, pair_count ts))
-next (a_tag p w n) ts fits h = tag_next p w n (length ts) (ap length h)
-next (an_array p Endless None) ts fits h = endless_next (an_array p Endless None) (length ts) refl refl refl
-next (a_map p Endless None) ts fits h = endless_next (a_map p Endless None) (length ts) refl refl refl
-next (in_chunks p k) ts fits h = endless_next (in_chunks p k) (length ts) refl refl refl
-next c ts fits h = absurd fits
+next o ts h e = grind (arith, common_steps, nat_tests, array_next, endless_next, map_next, pair_count, small, tag_next)
 
 -- the same of one more node
 after_next : (o : Opening) (ts : List Tree) (t : Tree) → HeadFits o → Goes o ts → with_part (level_in o ts) ≡ cond (is_full o (length (ts ++ t ∷ []))) None (Some (level_in o (ts ++ t ∷ [])))

@@ -17,8 +17,7 @@ use Rattle.cborn_wire.proofs.Feeding.FeederLaws.{no_first}
 
 -- a reader that was handed nothing
 pub fresh_fed : (holds : Partial → Part → Type 0) (outer : List Level) (l : Level) (limit at : ℕ) (m : HeadReader) → holds (top []) no_part → IsInput outer l → IsFresh limit at m → IsFed holds outer l m at []
-fresh_fed holds outer l limit at m held (bare, input) (limited, at_is, none, between, small) =
-    (tt, small, rw (at_is, none, between) (record { partial = top []; amid = no_part; held = held; levels = (ap (λ k. k ∷ []) (sym input) ∙ ap (λ ls. ls ++ l ∷ []) (sym bare), tt, tt); missing = refl; fits = tt; is = refl }))
+fresh_fed holds outer l limit at m held h e = grind arith
 
 -- a state that a reader is at lives
 live_here : (holds : Partial → Part → Type 0) (outer : List Level) (l : Level) (left at : ℕ) (h : Option PartialHead) (s : State) → HereAt holds outer l left at h s → (rd : Trees) × (os : List OpenContainer) × (q : Unfinished) × (s ≡ Live at rd os q)

@@ -34,8 +34,7 @@ endless_at (b ∷ y) some low high e = endless_head y b (b / 32) (omega (arith, 
 pub head_opens : (limit place : ℕ) (f : Partial) (piece : List ℕ) (holds : Partial → Part → Type 0) (around : List Level) (l : Level) (h : Head) (n left : ℕ) → IsHeadOf piece h n
     → None ≡ head_reason (slot (open_in f)) (leb limit (open_depth (open_in f))) (major_at (get_or piece 0 0 / 32)) (info_at (get_or piece 0 0 % 32)) []
     → left ≡ 0 → Stands holds around l left (place + n) (after_head (place + n) place (ready f) (open_in f) (major_at h.major) (seen_argument h.argument)) → TakesHead limit place f piece holds around l n
-head_opens limit place f piece holds around l h n left is none no_left stands =
-    taken_as limit place n f piece holds around l _ left (head_taken limit place (ready f) (open_in f) piece h n is none) no_left stands (one_more_head (ready f) (major_at h.major) (seen_argument h.argument) (open_in f) _ _)
+head_opens limit place f piece holds around l h n left is none no_left stands = grind (arith, head_taken, one_more_head, taken_as)
 
 -- A front y of the piece was taken, after which the partial sequence is h.
 module _ (limit place : ℕ) (f : Partial) (piece y rest : List ℕ) (cut : piece ≡ y ++ rest) (at : ℕ) (there : at ≡ place + length y) (h : Partial) (same : ready h ≡ ready f) (is : run limit (state place f no_part) y ≡ state at h no_part) where
@@ -55,13 +54,7 @@ module _ (limit place : ℕ) (f : Partial) (piece y rest : List ℕ) (cut : piec
       one_more = subst (λ r. AtMostOneMore r (run limit (state at h no_part) (take n rest))) same takes.1
 
       pub more_heads : TakesHead limit place f piece holds outer inner (length piece - length (take (length rest - n) (drop n rest)))
-      more_heads =
-          let k = length piece - length (take (length rest - n) (drop n rest)) in
-          let goes : run limit (state place f no_part) (take k piece) ≡ run limit (state at h no_part) (take n rest) = ap (run limit (state place f no_part)) (next_taken piece y rest cut n fits) ∙ next in
-          let far : at + n ≡ place + k = omega (arith, there, taken_len piece y rest cut n fits) in (
-            subst (λ j. Stands holds outer inner 0 j (run limit (state place f no_part) (take k piece))) far (subst (Stands holds outer inner 0 (at + n)) (sym goes) takes.0),
-            subst (AtMostOneMore (ready f)) (sym goes) one_more,
-          )
+      more_heads = grind (arith, next, next_taken, one_more, taken_len)
 
       -- no item became whole, since something is open
       pub heads_go_on : 0 < length outer → (g : Partial) × holds g no_part × Keeps g outer inner × (ready g ≡ ready f) × (run limit (state place f no_part) (y ++ take n rest) ≡ state (at + n) g no_part)

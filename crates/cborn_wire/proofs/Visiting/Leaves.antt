@@ -20,8 +20,7 @@ use Rattle.cborn_wire.proofs.Machine.SoundRuns.{code_at}
 -- the head
 
 pub given_direct : (x : List ℕ) → AreBytes x → 1 ≤ length x → get_or x 0 0 % 32 < 24 → IsGiven x (record { first = get_or x 0 0; width = Direct; argument = get_or x 0 0 % 32; len = 1 })
-given_direct [] are some low = absurd (omega arith)
-given_direct (b ∷ y) are some low = record { head = direct_head y b are.0 low; first = refl; direct = λ h. refl }
+given_direct x h e g = grind (arith, common_steps, nat_tests, direct_head)
 
 not_other : (n : ℕ) → n < 7 → major_at n ≡ Other → ⊥
 not_other n h e = absurd (omega (arith, h, code_at n (omega arith), ap code e))
@@ -70,22 +69,12 @@ leaf_allowed limit os (b ∷ y) m w n rest fits e h l =
 
 -- a level in which an item may be next
 pub plain_kind : (k : LevelKind) (m : ℕ) → is_chunks k ≡ false → IsNoChunkSlot (slot_of k m)
-plain_kind (Chunks c) m e = cc
-plain_kind EndlessMap m e = go (is_even m)
-  where
-    go : (b : Bool) → IsNoChunkSlot (cond b element_or_end item)
-    go true = tt
-    go false = tt
-plain_kind k m e = tt
+plain_kind k m h = grind arith
 
 -- what is made of one
 
 string_read : (limit at p : ℕ) (rd : Trees) (os : List OpenContainer) (k : StringKind) (w : Width) (n : ℕ) (x : List ℕ) → length x ≡ n → run limit (content_at at p rd os k w n []) x ≡ finished (at + length x) rd os (string_tree p k w x)
-string_read limit at p rd os k w zero [] e = ap (λ j. finished j rd os (string_tree p k w [])) (omega arith)
-string_read limit at p rd os k w (suc n) [] e = absurd (omega (arith, e))
-string_read limit at p rd os k w n (b ∷ x) e =
-    ap (λ c. run limit (cond c (finished at rd os (string_tree p k w [])) (Live at rd os (gathering p (content_of k w) n []))) (b ∷ x)) (lt-leb n 0 (omega (arith, e)))
-    ∙ content_done limit at rd os p k w n [] (b ∷ x) (omega (arith, e)) (omega (arith, e))
+string_read limit at p rd os k w n x h = grind (arith, common_steps, nat_tests, content_done, lt-leb)
 
 -- its content after its head
 content_read : (limit at p : ℕ) (rd : Trees) (os : List OpenContainer) (m : Major) (w : Width) (n : ℕ) (x : List ℕ) → IsLeaf m w → length x ≡ content_len m n
@@ -122,5 +111,4 @@ leaf_some x g n leaf = omega (arith, leaf.len, leaf.given.head.len, head_some (m
 -- n bytes of the piece are taken, which make the state s
 pub taken_as : (limit place n : ℕ) (f : Partial) (piece : List ℕ) (holds : Partial → Part → Type 0) (outer : List Level) (inner : Level) (s : State) (left : ℕ) → run limit (state place f no_part) (take n piece) ≡ s
     → left ≡ 0 → Stands holds outer inner left (place + n) s → AtMostOneMore (ready f) s → TakesHead limit place f piece holds outer inner n
-taken_as limit place n f piece holds outer inner s left goes none stands more =
-    (subst (Stands holds outer inner 0 (place + n)) (sym goes) (subst (λ k. Stands holds outer inner k (place + n) s) none stands), subst (AtMostOneMore (ready f)) (sym goes) more)
+taken_as limit place n f piece holds outer inner s left goes none stands more = grind arith

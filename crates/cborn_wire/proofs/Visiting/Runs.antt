@@ -22,52 +22,19 @@ leaf_in p x h n = leaf_tree p (major_at (h.first / 32)) h.width h.argument (take
 -- one leaf
 
 pub one_taken : (place : ℕ) (old new : Partial → Part → Type 0) (x : List ℕ) (h : GivenHead) (n : ℕ) (l : Level) → IsLeafOf x h n → ((f : Partial) → IsFree f → old f no_part → new (put f (leaf_in place x h n)) no_part) → TakesRun place x l 0 old new n
-one_taken place old new x h n l leaf visited = (
-  leaf_some x h n leaf,
-  leaf.whole,
-  λ f around held kept takes. record {
-    before = f;
-    last = leaf_in place x h n;
-    held = visited f (kept.1, takes) held;
-    levels = subst (λ m. Keeps f around (record l { missing = m })) (omega (arith, missing_below f around l kept.0)) kept;
-    takes = takes;
-    same = refl;
-    is = λ limit. leaf_read limit place f x (take (n - h.len) (drop h.len x)) h n takes leaf (leaf_cut x h n leaf);
-  },
-)
+one_taken place old new x h n l leaf visited = grind (arith, leaf_cut, leaf_read, leaf_some, missing_below)
 
 -- where an array or a map is innermost
 
 pub in_array : (f : Partial) (ls : List Level) (l : Level) → levels f ≡ ls ++ l ∷ [] → is_array l.kind ≡ true → InArray f
-in_array (top ts) ls l e is = cc (ap (λ (m : Level). is_array m.kind) (last_same [] ls e).1 ∙ is)
-in_array (inside f (an_array p s c) ts) ls l e is = tt
-in_array (inside f (a_map p s (Some n)) ts) ls l e is = go (ltb (length ts + 2 ^ 64) (n + n)) (ap (λ (m : Level). is_array m.kind) (last_same (levels f) ls e).1 ∙ is)
-  where
-    go : (b : Bool) → is_array (cond b GreatMap AMap) ≡ true → ⊥
-    go true h = cc
-    go false h = cc
-in_array (inside f o ts) ls l e is = cc (ap (λ (m : Level). is_array m.kind) (last_same (levels f) ls e).1 ∙ is)
+in_array f ls l h e = grind (arith, common_steps, nat_tests, last_same)
 
 pub at_key : (f : Partial) (ls : List Level) (l : Level) → levels f ≡ ls ++ l ∷ [] → is_at_key l.kind l.missing ≡ true → AtKey f
-at_key (top ts) ls l e is = cc (ap (λ (m : Level). is_at_key m.kind m.missing) (last_same [] ls e).1 ∙ is)
-at_key (inside f (an_array p s None) ts) ls l e is = cc (ap (λ (m : Level). is_at_key m.kind m.missing) (last_same (levels f) ls e).1 ∙ is)
-at_key (inside f (a_map p s None) ts) ls l e is = no_key ts (omega (arith, eqb-true (lessened 0 (length ts) % 2) 0 (ap (λ (m : Level). is_at_key m.kind m.missing) (last_same (levels f) ls e).1 ∙ is)))
-at_key (inside f (a_map p s (Some n)) ts) ls l e is = go (ltb (length ts + 2 ^ 64) (n + n)) (ap (λ (m : Level). is_at_key m.kind m.missing) (last_same (levels f) ls e).1 ∙ is)
-  where
-    go : (b : Bool) → is_at_key (cond b GreatMap AMap) (lessened (n + n) (length ts)) ≡ true → last_key ts ≡ None
-    go true h = no_key ts (omega (arith, eqb-true (lessened (n + n) (length ts) % 2) 0 h))
-    go false h = no_key ts (omega (arith, eqb-true (lessened (n + n) (length ts) % 2) 0 h))
-at_key (inside f o ts) ls l e is = cc (ap (λ (m : Level). is_at_key m.kind m.missing) (last_same (levels f) ls e).1 ∙ is)
+at_key f ls l h e = grind (arith, common_steps, nat_tests, eqb-true, last_same, no_key)
 
 -- after a key its value is missing
 key_counted : (l : Level) → is_at_key l.kind l.missing ≡ true → with_part l ≡ Some (record l { missing = lessened l.missing 1 })
-key_counted l e = counted_on l (go l.kind l.missing e)
-  where
-    go : (k : LevelKind) (m : ℕ) → is_at_key k m ≡ true → 0 < lessened m 1
-    go AMap m h = omega (arith, eqb-true (m % 2) 0 h)
-    go GreatMap m h = omega (arith, eqb-true (m % 2) 0 h)
-    go EndlessMap m h = omega (arith, eqb-true (m % 2) 0 h)
-    go k m h = cc
+key_counted l e = grind (arith, counted_on, eqb-true)
 
 key_same : (f : Partial) (t : Tree) → AtKey f → ready (put f t) ≡ ready f
 key_same f t h = grind (arith, common_steps, nat_tests)
@@ -153,12 +120,7 @@ abbrev pub HasRoom : Level → ℕ → Type 0
 HasRoom l k = (l.kind ≡ EndlessArray) ⊎ ((l.kind ≡ AnArray) × (k ≤ l.missing))
 
 pub has_room : (l : Level) (k : ℕ) → is_array l.kind ≡ true → k ≤ room_in l.kind l.missing → HasRoom l k
-has_room l k is h = go l.kind refl is h
-  where
-    go : (c : LevelKind) → l.kind ≡ c → is_array c ≡ true → k ≤ room_in c l.missing → HasRoom l k
-    go AnArray e is h = inr (e, h)
-    go EndlessArray e is h = inl e
-    go c e is h = cc
+has_room l k is h = grind arith
 
 -- more than one follows
 array_on : (l : Level) (k : ℕ) → l.missing < 2 ^ 64 → HasRoom l k → 1 < k → with_part l ≡ Some (record l { missing = lessened l.missing 1 })

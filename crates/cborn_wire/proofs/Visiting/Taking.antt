@@ -17,11 +17,7 @@ bytes-take n x h = bytes-left (take n x) (drop n x) (subst AreBytes (sym (take-a
 -- Between strings the visitor holds no part of one.
 pub between : (holds : Partial → Part → Type 0) (outer : List Level) (l : Level) (left at : ℕ) (s : State) → left ≡ 0 → Stands holds outer l left at s
     → (f : Partial) × holds f no_part × Keeps f outer l × (s ≡ state at f no_part)
-between holds outer l left at s none h = go h.amid h.missing h.held h.is
-  where
-    go : (c : Part) → Missing left c → holds h.partial c → s ≡ state at h.partial c → (f : Partial) × holds f no_part × Keeps f outer l × (s ≡ state at f no_part)
-    go no_part m held is = (h.partial, held, h.levels, is)
-    go (part p k w n x) m held is = absurd (omega (arith, none, m.1))
+between holds outer l left at s none h = grind arith
 
 pub between_here : (holds : Partial → Part → Type 0) (outer : List Level) (l : Level) (left at : ℕ) (h : Option PartialHead) (s : State) → h ≡ None → left ≡ 0 → HereAt holds outer l left at h s
     → (f : Partial) × holds f no_part × Keeps f outer l × (s ≡ state at f no_part)
@@ -58,8 +54,7 @@ reason_same limit f ls l m i are h =
 
 -- how many may be open
 open_most : (limit : ℕ) (os : List OpenContainer) → AreOpen limit os → length os ≤ limit + 1
-open_most limit [] h = omega arith
-open_most limit (o ∷ os) h = omega (arith, depth_is_length limit os h.2 h.1, shallow_open limit os h.2)
+open_most limit os h = grind (arith, depth_is_length, shallow_open)
 
 -- there is room for one more level
 pub room : (limit most : ℕ) (f : Partial) (ls : List Level) (l : Level) → Keeps f ls l → limit + 1 < most → AreOpen limit (open_in f) → length ls < most
@@ -102,19 +97,7 @@ any_argument f m w n k h = grind (arith, common_steps, nat_tests)
 pub short_taken : (limit at : ℕ) (rd : Trees) (os : List OpenContainer) (piece : List ℕ) (w : Width) → 0 < length piece → info_at (get_or piece 0 0 % 32) ≡ Next w
     → None ≡ head_reason (slot os) (leb limit (open_depth os)) (major_at (get_or piece 0 0 / 32)) (info_at (get_or piece 0 0 % 32)) []
     → (0 < width_bytes w) × (run limit (Live at rd os nothing) (take 1 piece) ≡ Live (at + 1) rd os (gathering at (argument_of (major_at (get_or piece 0 0 / 32)) w) (width_bytes w) []))
-short_taken limit at rd os [] w some info none = absurd (omega (arith, some))
-short_taken limit at rd os (b ∷ y) w some info none =
-    let m = major_at (b / 32) in
-    let wide : IsWide w = (subst (InfoIs (b % 32)) info (info_is (b % 32))).1 in
-    (some_bytes w wide, ap (λ o. unless o rd at (begin_head at rd os m (info_at (b % 32)))) (sym none) ∙ ap (begin_head at rd os m) info ∙ gathers m w wide)
-  where
-    some_bytes : (w : Width) → IsWide w → 0 < width_bytes w
-    some_bytes Direct h = absurd h
-    some_bytes w h = omega arith
-
-    gathers : (m : Major) (w : Width) → IsWide w → begin_head at rd os m (Next w) ≡ Live (at + 1) rd os (gathering at (argument_of m w) (width_bytes w) [])
-    gathers m Direct h = absurd h
-    gathers m w h = ap (λ k. Live k rd os (gathering at (argument_of m w) (width_bytes w) [])) (sym (add-one at))
+short_taken limit at rd os piece w h e g = grind (arith, add-one, info_is)
 
 -- what fails on a front of the piece fails on it
 pub fails_on : (limit : ℕ) (s u : State) (ts : Trees) (n : ℕ) (piece : List ℕ) (e : VisitFault) → run limit s (take n piece) ≡ u → FailsAs ts u e → FailsAs ts (run limit s piece) e
@@ -124,9 +107,7 @@ fails_on limit s u ts n piece (Memory e) goes h = tt
 
 -- what some bytes make is within the limit
 pub reached_open : (limit base : ℕ) (s : State) (at : ℕ) (rd : Trees) (os : List OpenContainer) (q : Unfinished) → IsReached limit base s → s ≡ Live at rd os q → AreOpen limit os
-reached_open limit base s at rd os q (x, bytes, is) e =
-    let h : SoundLive limit base x at rd os q = subst (Sound limit base x) (is ∙ e) (sound limit base x bytes) in
-    h.ground.are_open
+reached_open limit base s at rd os q h e = grind (arith, sound)
 
 -- there is room for one more level where a reader is
 pub here_room : (limit most base : ℕ) (holds : Partial → Part → Type 0) (outer : List Level) (l : Level) (left at : ℕ) (h : Option PartialHead) (s : State) → limit + 1 < most → HereAt holds outer l left at h s → IsReached limit base s → length outer < most
