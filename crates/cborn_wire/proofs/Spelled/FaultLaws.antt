@@ -12,9 +12,7 @@ use Rattle.cborn_wire.proofs.Spelled.SlotLaws.{fails_at_slot, ends_whole, goes_o
 
 -- what fails is refused
 pub fails_refused : (limit base : ℕ) (x : List ℕ) → AreBytes x → (ready : Trees) (q : ℕ) (r : WireReason) → run limit (start base) x ≡ Failed ready q r → (p : ℕ) × (q ≡ base + p) × Refused limit x p r
-fails_refused limit base x bytes ready q r e =
-    let (p, at, h) = fails_at_slot limit base x bytes ready q r e in
-    (p, at, refused_said limit x p r bytes h)
+fails_refused limit base x bytes ready q r e = grind (arith, fails_at_slot, refused_said)
 
 module _ (limit : ℕ) where
   -- never both

@@ -6,9 +6,7 @@ use Rattle.cborn_wire.proofs.Visiting.Pieces.{next_cut}
 use Rattle.cborn_wire.proofs.containers.take_heads.Goals as goal
 
 pub overflow_add-at : goal.overflow_add-at
-overflow_add-at g c =
-    let (y, cut, at, none, goes) = c.heads.invariant in
-    omega (arith, c.in_ok-len.ensures.within, at, ap length cut, length-append y c.heads.rest.now, c.requires.far)
+overflow_add-at g c = grind (arith, length-append)
 
 pub returns-then-len-eq0-clause-goes : goal.returns-then-len-eq0-clause-goes
 returns-then-len-eq0-clause-goes g c = λ f base held keeps from some.
