@@ -1,8 +1,8 @@
 -- What the visitor which writes bytes holds, as nodes become whole and containers are opened and ended.
 use Rattle.std.proofs.lemmas.Grind.{common_steps}
 use Rattle.std.proofs.lemmas.Bool.Decides.{nat_tests}
-use Rattle.std.specs.Prelude.{◌≡◌, ◌+◌, ◌*◌, ◌/◌, ◌%◌, ◌^◌, ◌<◌, ◌∷◌, ◌++◌, ◌-◌}
-use Rattle.cborn_wire.proofs.Common.{refl, sym, ap, ◌∙◌, subst, ℕ, List, [], length, take, drop, Option, Some, None, arith, append_assoc, append-nil, length-append, take_at, drop_at, get_or, set, get_or-append_seam, set_at, Major, Array, Map, Tag, Size, Fixed, Endless, Width, code, Given, head, argument, Tree, trees, ending, spelled, spelled_all, Opening, an_array, a_map, a_tag, in_chunks, Partial, top, inside, put, paired, built, ended_size, IsAll, Ends, announced, opening, opened, beginning, OpenSpelling, written, shape, sized_ending, ending_of, counted, container, containers_of, with_head, entries_in, IsEnded}
+use Rattle.std.specs.Prelude.{◌≡◌, ◌+◌, ◌*◌, ◌%◌, ◌^◌, ◌<◌, ◌∷◌, ◌++◌, ◌-◌}
+use Rattle.cborn_wire.proofs.Common.{refl, sym, ap, ◌∙◌, subst, ℕ, List, [], length, take, drop, Option, Some, None, arith, append_assoc, append-nil, length-append, take_at, drop_at, get_or, set, get_or-append_seam, set_at, Major, Size, Fixed, Endless, Width, code, Given, head, argument, Tree, trees, ending, spelled, spelled_all, Opening, Partial, inside, put, built, ended_size, IsAll, Ends, announced, OpenSpelling, written, shape, sized_ending, ending_of, counted, containers_of, with_head, entries_in, IsEnded}
 use Rattle.cborn_model.proofs.Lengths.{no_more_nodes}
 use Rattle.cborn_model.proofs.Listed.Trees.{count-trees, count_entries-entries}
 use Rattle.cborn_wire.specs.declared.spellers.Speller.{Speller}

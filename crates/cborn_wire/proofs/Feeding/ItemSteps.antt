@@ -2,13 +2,12 @@
 use Rattle.std.proofs.lemmas.Grind.{common_steps}
 use Rattle.std.proofs.lemmas.Bool.Decides.{nat_tests}
 use Rattle.std.specs.Prelude.{◌≡◌, ◌∷◌, ◌++◌}
-use Rattle.cborn_wire.proofs.Common.{refl, sym, ap, ◌∙◌, subst, ℕ, List, [], length, Option, Some, None, Err, inl, inr, arith, nil_from_length, Tree, no_item, more, trees, IsSpelled, Partial, top, inside, Part, no_part, part, put, whole, VisitFault, Refused, Memory, input_level, Level, PartialHead, HeadReader, Nodes, ItemReader, nothing, State, Live, Failed, ready_in, start, run, AtMostOneMore, ready, open_in, unfinished, state, seen_head, IsFresh, IsInput, Missing, Stands, HereAt, MayEnd, IsFed, FailsAs, seen_string, seen_nodes, IsHeld, pending, seen, IsMade, take, length-append, option_to_list, length-take-le, Stops, Took, IsMoved}
+use Rattle.cborn_wire.proofs.Common.{refl, sym, ap, ◌∙◌, subst, ℕ, List, [], Option, Err, inl, inr, arith, Tree, no_item, more, trees, IsSpelled, Partial, top, inside, Part, no_part, put, whole, VisitFault, Refused, Memory, input_level, Level, PartialHead, HeadReader, Nodes, ItemReader, nothing, State, Live, Failed, ready_in, start, run, AtMostOneMore, ready, open_in, unfinished, IsFresh, IsInput, Missing, Stands, HereAt, MayEnd, IsFed, FailsAs, seen_string, seen_nodes, IsHeld, pending, seen, IsMade, take, length-append, option_to_list, length-take-le, Stops, Took, IsMoved}
 use Rattle.cborn_wire.specs.declared.levels.GrownLevels.{GrownLevels}
 use Rattle.cborn_wire.specs.shared.Visiting as visiting
 use Rattle.cborn_wire.specs.shared.Visiting.{levels as levels_of}
 use Rattle.cborn_wire.proofs.Machine.Running.{run-append}
 use Rattle.cborn_wire.proofs.Machine.SoundRuns.{reached_item}
-use Rattle.cborn_wire.proofs.Visiting.Taking.{outer_count}
 use Rattle.cborn_wire.proofs.Visiting.Pieces.{may_end_here}
 use Rattle.cborn_wire.proofs.Visiting.Ending.{fresh_fed}
 use Rattle.cborn_wire.specs.Visits.{wire_fault}

@@ -1,10 +1,10 @@
 -- The machine takes what `read_head` reads.
 use Rattle.std.proofs.lemmas.Grind.{common_steps}
-use Rattle.std.specs.Prelude.{◌≡◌, ◌+◌, ◌/◌, ◌%◌, ◌<◌, ◌≤◌, ◌∷◌, ◌++◌, ◌&&◌}
-use Rattle.cborn_wire.proofs.Common.{refl, sym, ap, ◌∙◌, ℕ, suc, List, [], length, take, get_or, Bool, true, false, cond, leb, Option, Some, None, arith, append-nil, length-append, add-one, take_all, take-append-le, length-take, take_more, take_more_set, slice_set, Width, Direct, Major, Other, Argument, Given, EndlessArgument, head, Trees, WireReason, BadSimple, TooDeep, UnexpectedBreak, Head, major_at, seen_argument, reason_alone, IsHeadOf, built, Slot, item, element_or_end, OpenContainer, opened, slot, slot_in, open_depth, needs_item, begins_low, Info, EndlessInformation, info_at, is_break, is_other, is_one, is_container, head_reason, width_bytes, number, argument_of, nothing, gathering, State, Live, Failed, finished, ended, after_head, unless, at_slot, run}
+use Rattle.std.specs.Prelude.{◌≡◌, ◌+◌, ◌/◌, ◌%◌, ◌<◌, ◌≤◌, ◌∷◌, ◌++◌}
+use Rattle.cborn_wire.proofs.Common.{refl, sym, ap, ◌∙◌, ℕ, suc, List, [], length, take, get_or, Bool, false, cond, leb, Some, None, arith, append-nil, length-append, add-one, take_more, slice_set, Width, Major, Other, Argument, Given, head, Trees, WireReason, UnexpectedBreak, Head, major_at, seen_argument, reason_alone, IsHeadOf, Slot, element_or_end, OpenContainer, slot, open_depth, needs_item, Info, EndlessInformation, info_at, head_reason, width_bytes, number, argument_of, nothing, gathering, State, Live, Failed, ended, after_head, unless, at_slot, run}
 use Rattle.std.proofs.lemmas.Bool.Decides.{nat_tests}
 use Rattle.cborn_wire.proofs.HeadReading.InitialBytes.{same_alone}
-use Rattle.cborn_wire.proofs.Machine.Pieces.{takes_whole_head, refuses_first, argument_done}
+use Rattle.cborn_wire.proofs.Machine.Pieces.{takes_whole_head, refuses_first}
 use Rattle.cborn_wire.proofs.Machine.SomeEnd.{refused_run}
 
 fills : (w : Width) → width_bytes w ≤ 8

@@ -2,7 +2,7 @@
 use Rattle.std.proofs.lemmas.Grind.{common_steps}
 use Rattle.std.proofs.lemmas.Bool.Decides.{nat_tests}
 use Rattle.std.specs.Prelude.{◌≡◌, ◌+◌, ◌/◌, ◌%◌, ◌<◌, ◌≤◌, ◌∷◌, ◌++◌}
-use Rattle.cborn_wire.proofs.Common.{refl, sym, ap, ◌∙◌, subst, ℕ, suc, List, [], length, map, true, false, Option, Some, None, arith, append_assoc, append-nil, add-one, length_push, leb-true, leb-false, lt-leb, flat_map, Size, Fixed, Endless, Array, Map, Tag, Chunk, WidthFits, Given, EndlessArgument, head, argument, SizeFits, Tree, Bytes, Text, ByteChunks, TextChunks, more, Entries, no_entry, entry, trees, entries, depth, depth_all, depth_entries, ending, chunk_bytes, spelled, spelled_all, spelled_entries, ChunksFit, Fits, FitsAll, FitsEntries, ChunksPlaced, Placed, PlacedAll, PlacedEntries, Opening, an_array, a_map, a_tag, in_chunks, paired, last_key, chunks_of, built, ended_size, IsAll, IsString, AreStrings, Goes, Ends, string_of, StringKind, OfBytes, OfText, major_of, opened, announced, opening, slot_in, slot_in_map, added_depth, Announces, HeadFits, needs_item, chunks_from, placed_from, all_from, entries_from, is_full, place_of}
+use Rattle.cborn_wire.proofs.Common.{refl, sym, ap, ◌∙◌, subst, ℕ, suc, List, [], length, map, true, false, Option, Some, None, arith, append_assoc, append-nil, add-one, length_push, leb-true, leb-false, lt-leb, flat_map, Size, Endless, Array, Map, Tag, Chunk, Given, EndlessArgument, head, argument, SizeFits, Tree, Bytes, Text, ByteChunks, TextChunks, more, Entries, no_entry, entry, trees, entries, depth, depth_all, depth_entries, ending, chunk_bytes, spelled, spelled_all, spelled_entries, ChunksFit, Fits, FitsAll, FitsEntries, ChunksPlaced, Placed, PlacedAll, PlacedEntries, Opening, an_array, a_map, a_tag, in_chunks, paired, last_key, chunks_of, built, ended_size, IsAll, IsString, AreStrings, Goes, Ends, string_of, StringKind, OfBytes, OfText, major_of, opened, announced, opening, slot_in, added_depth, Announces, HeadFits, needs_item, chunks_from, placed_from, all_from, entries_from, is_full, place_of}
 use Rattle.cborn_model.proofs.Listed.Trees.{count-trees, count_entries-entries}
 use Rattle.cborn_model.proofs.HandedOver.{strings, strings_are}
 

@@ -2,9 +2,9 @@
 use Rattle.std.proofs.lemmas.Grind.{common_steps}
 use Rattle.std.proofs.lemmas.Bool.Decides.{nat_tests}
 use Rattle.std.specs.Prelude.{◌≡◌, ◌+◌, ◌*◌, ◌/◌, ◌%◌, ◌<◌, ◌≤◌, ◌∷◌, ◌++◌}
-use Rattle.cborn_wire.proofs.Common.{refl, sym, ap, ◌∙◌, ℕ, suc, List, [], length, cond, leb, Some, None, arith, append-nil, length-append, lt-leb, le-leb, Width, Direct, One, Two, Four, Eight, Major, Argument, Given, EndlessArgument, code, following, head, string_tree, Trees, WireReason, StringKind, OpenContainer, slot, open_depth, info_at, head_reason, info_for, number, argument_of, content_of, nothing, gathering, Live, Failed, finished, after_head, gathered, gather, begin_head, unless, step, run, major_at, ArgumentFits}
+use Rattle.cborn_wire.proofs.Common.{refl, sym, ap, ◌∙◌, ℕ, suc, List, [], length, cond, leb, Some, None, arith, append-nil, length-append, lt-leb, le-leb, Width, Direct, One, Two, Four, Eight, Major, Argument, Given, EndlessArgument, code, following, head, string_tree, Trees, WireReason, StringKind, OpenContainer, slot, open_depth, info_at, head_reason, info_for, number, argument_of, content_of, nothing, gathering, Live, Failed, finished, after_head, gather, step, run, major_at, ArgumentFits}
 use Rattle.cborn_wire.proofs.Machine.Running.{failed_run}
-use Rattle.cborn_wire.proofs.Machine.TakesHeads.{gathers, takes_head, quotient, remainder, major_at-code, info_at-now}
+use Rattle.cborn_wire.proofs.Machine.TakesHeads.{gathers, takes_head, quotient, major_at-code, info_at-now}
 
 -- the initial byte of a head, and what its information is
 record FirstOf (m : Major) (a : Argument) : Type 0 where

@@ -2,7 +2,7 @@
 use Rattle.std.proofs.lemmas.Grind.{common_steps}
 use Rattle.std.proofs.lemmas.Bool.Decides.{nat_tests}
 use Rattle.std.specs.Prelude.{◌≡◌, ◌+◌, ◌≤◌, ◌∷◌, ◌++◌, ◌&&◌}
-use Rattle.cborn_wire.proofs.Common.{refl, sym, ap, ◌∙◌, subst, ℕ, List, [], length, Bool, true, false, cond, ltb, leb, Option, Some, None, inl, inr, arith, append_assoc, append-nil, cond_both, leb-true, leb-false, ltb-false, AreBytes, Width, Direct, One, Fixed, Endless, Major, Unsigned, Negative, ByteString, TextString, Array, Map, Tag, Other, Argument, Given, EndlessArgument, head, WidthFits, Opening, an_array, a_map, a_tag, in_chunks, built, string_tree, Tree, Uint, Nint, Bytes, Text, Simple, Trees, trees, depth, ending, string, spelled, spelled_all, Fits, Placed, WireReason, BadSimple, UnexpectedBreak, StringKind, OfBytes, OfText, major_of, Slot, OpenContainer, opened, opening, slot, added_depth, open_depth, HeadFits, IsNoString, AreOpen, needs_item, begins_low, ArgumentFits, Info, Next, EndlessInformation, is_reserved, is_endless_head, is_always_bounded, is_other, is_container, is_break, is_bad_chunk, is_float, is_one, head_reason, info_for, place_of, Ground, content_of, Failed, finished, holding, ended, gather, after_head, front, chunk}
+use Rattle.cborn_wire.proofs.Common.{refl, sym, ap, ◌∙◌, subst, ℕ, List, [], length, Bool, true, false, cond, ltb, leb, Option, Some, None, inl, inr, arith, append_assoc, append-nil, cond_both, leb-true, leb-false, ltb-false, AreBytes, Width, Direct, One, Fixed, Endless, Major, Unsigned, Negative, ByteString, TextString, Array, Map, Tag, Other, Argument, Given, EndlessArgument, head, WidthFits, Opening, an_array, a_map, a_tag, in_chunks, built, string_tree, Tree, Uint, Nint, Simple, Trees, trees, depth, ending, string, spelled, spelled_all, Fits, Placed, WireReason, BadSimple, UnexpectedBreak, StringKind, OfBytes, OfText, major_of, Slot, OpenContainer, opened, opening, slot, added_depth, open_depth, HeadFits, IsNoString, AreOpen, needs_item, ArgumentFits, Info, Next, is_reserved, is_endless_head, is_always_bounded, is_other, is_container, is_break, is_bad_chunk, is_float, head_reason, info_for, place_of, Ground, content_of, Failed, finished, holding, ended, gather, after_head, front, chunk}
 use Rattle.cborn_model.proofs.Numbers.Simples.{simple_value, least_direct, least_one}
 use Rattle.cborn_wire.proofs.Machine.Containers.{empty_goes, empty_whole, break_ends}
 use Rattle.cborn_wire.proofs.Machine.SoundItems.{Sound, Accepts, accepted, ground_less, top_placed, nothing_more, ends, sound_holding, sound_finished}

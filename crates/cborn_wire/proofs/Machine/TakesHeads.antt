@@ -1,6 +1,6 @@
 -- The machine takes a head.
 use Rattle.std.specs.Prelude.{◌≡◌, ◌+◌, ◌*◌, ◌/◌, ◌%◌, ◌<◌, ◌≤◌, ◌∷◌, ◌++◌}
-use Rattle.cborn_wire.proofs.Common.{refl, sym, ap, ◌∙◌, ℕ, suc, List, [], length, cond, leb, None, arith, append_assoc, append-nil, length-append, add-one, add-zero, lt-leb, le-leb, lt-ltb, from_be_bytes-to_be_bytes_2, from_be_bytes-to_be_bytes_4, from_be_bytes-to_be_bytes_8, Width, Direct, One, Two, Four, Eight, Major, Argument, Given, EndlessArgument, code, following, head, Trees, major_at, ArgumentFits, OpenContainer, slot, open_depth, Info, Now, Next, EndlessInformation, info_at, info_for, head_reason, width_bytes, number, Goal, argument_of, nothing, gathering, Live, gather, gathered, begin_head, after_head, at_slot, unless, step, run}
+use Rattle.cborn_wire.proofs.Common.{refl, sym, ap, ◌∙◌, ℕ, suc, List, [], length, cond, leb, None, arith, append_assoc, append-nil, length-append, add-one, add-zero, lt-leb, le-leb, lt-ltb, from_be_bytes-to_be_bytes_2, from_be_bytes-to_be_bytes_4, from_be_bytes-to_be_bytes_8, Width, Direct, One, Two, Four, Eight, Major, Argument, Given, EndlessArgument, code, following, head, Trees, ArgumentFits, OpenContainer, slot, open_depth, Info, Now, Next, EndlessInformation, info_at, info_for, head_reason, width_bytes, number, Goal, argument_of, nothing, gathering, Live, gather, gathered, begin_head, after_head, step, run}
 pub use Rattle.cborn_model.proofs.Numbers.Majors.{major_at-code}
 
 pub quotient : (c i : ℕ) → i < 32 → (32 * c + i) / 32 ≡ c

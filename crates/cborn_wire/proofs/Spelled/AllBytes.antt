@@ -2,11 +2,9 @@
 use Rattle.std.proofs.lemmas.Grind.{common_steps}
 use Rattle.std.proofs.lemmas.Bool.Decides.{nat_tests}
 use Rattle.std.specs.Prelude.{◌∷◌, ◌++◌}
-use Rattle.cborn_wire.proofs.Common.{subst, ℕ, List, [], length, arith, flat_map, AreBytes, Width, Direct, One, Two, Four, Eight, Size, Fixed, Endless, Chunk, Major, Unsigned, Negative, ByteString, TextString, Array, Map, Tag, Other, WidthFits, following, least, Argument, Given, EndlessArgument, head, argument, SizeFits, Tree, Uint, Nint, Bytes, Text, ByteChunks, TextChunks, Items, Pairs, Tagged, Simple, Trees, no_item, more, Entries, no_entry, entry, count, count_entries, ending, string, chunk_bytes, spelled, spelled_all, spelled_entries, ChunksFit, Fits, FitsAll, FitsEntries, Wellformed, ArgumentFits}
-use Rattle.cborn_model.proofs.Numbers.OneHead.{low_bits_below}
+use Rattle.cborn_wire.proofs.Common.{subst, ℕ, List, [], length, arith, flat_map, AreBytes, Width, Size, Endless, Chunk, Major, Unsigned, Negative, ByteString, TextString, Array, Map, Tag, Other, WidthFits, following, least, Argument, Given, head, argument, SizeFits, Tree, Uint, Nint, Bytes, Text, ByteChunks, TextChunks, Items, Pairs, Tagged, Simple, Trees, no_item, more, Entries, no_entry, entry, count, count_entries, ending, string, chunk_bytes, spelled, spelled_all, spelled_entries, ChunksFit, Fits, FitsAll, FitsEntries, Wellformed, ArgumentFits}
 use Rattle.cborn_model.proofs.Numbers.Simples.{simple_fits}
 use Rattle.cborn_model.proofs.Bytes.{bytes-append}
-use Rattle.cborn_wire.proofs.HeadReading.HeadFronts.{code_small}
 use Rattle.cborn_wire.proofs.Machine.TakesItems.{size_fits}
 
 following_bytes : (w : Width) (n : ℕ) → WidthFits w n → AreBytes (following w n)

@@ -1,8 +1,6 @@
 -- Which bytes go on: the state of the machine where a head begins, and which heads are allowed there.
-use Rattle.std.proofs.lemmas.Grind.{common_steps}
-use Rattle.std.proofs.lemmas.Bool.Decides.{nat_tests}
-use Rattle.std.specs.Prelude.{◌≡◌, ◌+◌, ◌/◌, ◌%◌, ◌<◌, ◌∷◌, ◌++◌, ◌≤◌}
-use Rattle.cborn_wire.proofs.Common.{refl, sym, ap, ◌∙◌, subst, ℕ, suc, List, [], length, take, drop, Bool, true, false, cond, leb, eqb, Option, Some, None, inl, inr, arith, append_assoc, eqb-true, take-append-drop, AreBytes, Trees, One, Unsigned, Other, WireReason, StringKind, OfBytes, OfText, Slot, item, value, element_or_end, key_or_end, chunk, OpenContainer, slot, open_depth, Open, IsWellformed, GoesOn, BeginsHead, judged, IsReason, reason_at, SlotRefused, Now, Next, is_bad_chunk, head_reason, argument_of, nothing, gathering, State, Live, Failed, step, start, run, unless, length-append, append_cancel_left}
+use Rattle.std.specs.Prelude.{◌≡◌, ◌+◌, ◌<◌, ◌∷◌, ◌++◌}
+use Rattle.cborn_wire.proofs.Common.{refl, sym, ap, ◌∙◌, subst, ℕ, suc, List, [], length, take, drop, Bool, true, false, cond, leb, eqb, Option, Some, None, inl, inr, arith, append_assoc, eqb-true, take-append-drop, AreBytes, Trees, One, Unsigned, Other, WireReason, StringKind, OfBytes, OfText, Slot, chunk, OpenContainer, slot, open_depth, Open, IsWellformed, GoesOn, BeginsHead, judged, IsReason, reason_at, SlotRefused, Now, Next, is_bad_chunk, head_reason, argument_of, nothing, gathering, State, Live, Failed, step, start, run, unless, length-append, append_cancel_left}
 use Rattle.cborn_model.proofs.Numbers.OneHead.{append_same}
 use Rattle.cborn_wire.proofs.Spelled.OneReading.{split}
 use Rattle.cborn_model.proofs.Bytes.{bytes-append, bytes-left, bytes-right}

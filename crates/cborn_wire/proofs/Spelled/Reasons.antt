@@ -1,7 +1,7 @@
 -- The table of faults by slots gives the reason of `Faults`.
 use Rattle.std.proofs.lemmas.Grind.{common_steps}
-use Rattle.std.specs.Prelude.{◌≡◌, ◌/◌, ◌%◌, ◌<◌, ◌∷◌, ◌&&◌, ◌||◌}
-use Rattle.cborn_wire.proofs.Common.{refl, sym, ◌∙◌, ℕ, List, [], take, Bool, true, false, cond, leb, eqb, Option, Some, None, arith, agree_below_at, WireReason, ReservedInfo, EndlessNotAllowed, BadChunk, UnexpectedBreak, FloatLeftOut, BadSimple, TooDeep, Truncated, StringKind, OfBytes, OfText, ByteString, TextString, Other, Major, Slot, item, chunk, judged, needs_item, begins_low, reason_at, major_at, Info, EndlessInformation, info_at, is_reserved, is_endless_head, is_always_bounded, is_break, is_other, is_float, is_one, is_container, is_bad_chunk, head_reason, value, element_or_end}
+use Rattle.std.specs.Prelude.{◌≡◌, ◌/◌, ◌%◌, ◌<◌, ◌∷◌}
+use Rattle.cborn_wire.proofs.Common.{ℕ, List, Bool, true, false, leb, Some, arith, agree_below_at, WireReason, Truncated, OfBytes, OfText, Slot, item, chunk, judged, reason_at, value, element_or_end}
 use Rattle.std.proofs.lemmas.Bool.Decides.{nat_tests}
 use Rattle.cborn_wire.specs.Faults.{reason_of}
 use Rattle.cborn_wire.specs.SlotFaults as table

@@ -2,7 +2,7 @@
 use Rattle.std.proofs.lemmas.Grind.{common_steps}
 use Rattle.std.proofs.lemmas.Bool.Decides.{nat_tests}
 use Rattle.std.specs.Prelude.{◌≡◌, ◌+◌, ◌<◌, ◌≤◌, ◌∷◌, ◌++◌}
-use Rattle.cborn_wire.proofs.Common.{refl, sym, ap, ◌∙◌, subst, ℕ, List, [], length, length-drop, take, Option, Some, None, Err, inl, arith, take_all, AreBytes, Tree, Trees, trees, Wellformed, PlacedAll, Partial, top, inside, Part, no_part, part, VisitFault, WireReason, Truncated, Level, PartialHead, HeadReader, Fault, OpenContainer, Unfinished, nothing, State, Live, start, run, ready, open_in, unfinished, Stands, seen_head, HereAt, IsFresh, IsInput, IsFed, MayEnd, levels, Missing, Reads, RefusesPiece, drop, append-nil, Ok, inr, length-take-le, take-append-drop, drop-drop, nil_from_length, no_item, depth, spelled, Fits, EndsHeld, Failed, ready_in, AtMostOneMore, ReadsItem}
+use Rattle.cborn_wire.proofs.Common.{refl, sym, ap, ◌∙◌, subst, ℕ, List, [], length, length-drop, take, Option, Some, Err, inl, arith, take_all, AreBytes, Tree, Trees, trees, Wellformed, PlacedAll, Partial, top, inside, Part, no_part, part, VisitFault, WireReason, Truncated, Level, PartialHead, HeadReader, Fault, OpenContainer, Unfinished, nothing, State, Live, start, run, ready, open_in, unfinished, Stands, HereAt, IsFresh, IsInput, IsFed, MayEnd, levels, Missing, Reads, RefusesPiece, drop, append-nil, Ok, inr, length-take-le, take-append-drop, drop-drop, nil_from_length, no_item, depth, spelled, Fits, EndsHeld, Failed, ready_in, AtMostOneMore, ReadsItem}
 use Rattle.cborn_wire.specs.declared.faults.VisitFault.TheVariants as faults
 use Rattle.cborn_wire.specs.Faults.{Refused}
 use Rattle.cborn_wire.proofs.Spelled.SlotLaws.{cut_short}

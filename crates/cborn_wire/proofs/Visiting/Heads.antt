@@ -2,11 +2,11 @@
 use Rattle.std.proofs.lemmas.Grind.{common_steps}
 use Rattle.std.proofs.lemmas.Bool.Decides.{nat_tests}
 use Rattle.std.specs.Prelude.{◌≡◌, ◌+◌, ◌-◌, ◌<◌, ◌≤◌, ◌++◌, ◌/◌, ◌%◌, ◌∷◌}
-use Rattle.cborn_wire.proofs.Common.{refl, sym, ap, ◌∙◌, subst, inl, inr, ℕ, List, length, take, drop, arith, length-append, AreBytes, Partial, Part, no_part, Level, TakesHead, nothing, ready_in, run, IsReached, AtMostOneMore, AreOpen, ready, open_in, state, Keeps, Stands, zero, suc, [], get_or, leb, false, None, Array, Map, Other, EndlessArgument, Head, slot, open_depth, major_at, seen_argument, IsHeadOf, info_at, is_always_bounded, head_reason, after_head, ended}
+use Rattle.cborn_wire.proofs.Common.{refl, sym, ap, ◌∙◌, subst, inl, inr, ℕ, List, length, take, drop, arith, AreBytes, Partial, Part, no_part, Level, TakesHead, nothing, ready_in, run, IsReached, AtMostOneMore, AreOpen, ready, open_in, state, Keeps, Stands, [], get_or, leb, false, None, Array, Map, Head, slot, open_depth, major_at, seen_argument, IsHeadOf, info_at, is_always_bounded, head_reason, after_head}
 use Rattle.cborn_model.proofs.Bytes.{bytes-left}
 use Rattle.cborn_wire.proofs.Machine.Running.{run-append}
 use Rattle.cborn_wire.proofs.Machine.SoundRuns.{reached_more}
-use Rattle.cborn_wire.proofs.Visiting.Pieces.{front_taken, next_taken, taken_len}
+use Rattle.cborn_wire.proofs.Visiting.Pieces.{next_taken, taken_len}
 use Rattle.cborn_wire.proofs.Visiting.Taking.{between, outer_count, reached_open}
 use Rattle.cborn_wire.specs.declared.heads.Argument.TheVariants.{Endless}
 use Rattle.cborn_wire.proofs.HeadReading.HeadFronts.{endless_head}

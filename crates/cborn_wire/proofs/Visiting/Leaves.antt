@@ -2,17 +2,15 @@
 use Rattle.std.proofs.lemmas.Grind.{common_steps}
 use Rattle.std.proofs.lemmas.Bool.Decides.{nat_tests}
 use Rattle.std.specs.Prelude.{◌≡◌, ◌+◌, ◌-◌, ◌/◌, ◌%◌, ◌<◌, ◌≤◌, ◌∷◌, ◌++◌}
-use Rattle.cborn_wire.proofs.Common.{refl, sym, ap, ◌∙◌, subst, ℕ, zero, suc, List, [], length, take, drop, get_or, Bool, true, false, cond, leb, Option, Some, None, arith, length-append, lt-leb, length-take-le, take-add, AreBytes, Width, Direct, Major, Unsigned, Negative, ByteString, TextString, Other, code, WidthFits, Tree, Trees, Uint, Nint, Simple, an_array, a_map, in_chunks, Partial, top, inside, Part, no_part, put, last_key, TakesItem, TakesString, string_tree, Full, GivenHead, Level, LevelKind, major_at, IsHeadOf, Slot, chunk, OpenContainer, slot, slot_in_map, open_depth, Info, Now, Next, info_at, info_for, is_bad_chunk, head_reason, width_bytes, number, content_of, gathering, Live, content_at, after_head, finished, run, AtMostOneMore, ready, open_in, state, slot_of, is_chunks, is_even, Stands, IsNoChunkSlot, IsGiven, IsLeafOf, IsLeaf, content_len, leaf_tree, AfterLeaves, TakesHead, State}
+use Rattle.cborn_wire.proofs.Common.{refl, sym, ap, ◌∙◌, subst, ℕ, List, [], length, take, drop, get_or, Bool, false, leb, None, arith, length-append, lt-leb, length-take-le, take-add, AreBytes, Width, Direct, Major, Unsigned, Negative, ByteString, TextString, Other, code, WidthFits, Tree, Trees, Uint, Nint, Simple, Partial, Part, no_part, put, TakesItem, TakesString, string_tree, Full, GivenHead, Level, LevelKind, major_at, IsHeadOf, Slot, OpenContainer, slot, open_depth, Next, info_at, info_for, head_reason, width_bytes, number, content_at, after_head, finished, run, AtMostOneMore, ready, open_in, state, slot_of, is_chunks, Stands, IsNoChunkSlot, IsGiven, IsLeafOf, IsLeaf, content_len, leaf_tree, TakesHead, State}
 use Rattle.cborn_model.specs.Heads as heads
 use Rattle.cborn_model.specs.declared.visitors.StringKind.{StringKind}
 use Rattle.cborn_model.specs.declared.visitors.StringKind.TheVariants.{OfBytes, OfText}
 use Rattle.cborn_wire.specs.declared.heads.Argument.TheVariants.{Given}
-use Rattle.cborn_wire.specs.Slots.{element_or_end, item}
-use Rattle.cborn_wire.specs.declared.levels.LevelKind.TheVariants.{EndlessMap, Chunks}
 use Rattle.cborn_wire.proofs.HeadReading.HeadFronts.{direct_head, wide_head, wide_fronts}
 use Rattle.cborn_wire.proofs.HeadReading.HeadSteps.{head_some, head_taken}
 use Rattle.cborn_wire.proofs.Visiting.Counting.{no_string}
-use Rattle.cborn_wire.proofs.Machine.TakesItems.{slot_plain, no_chunk, clear_given}
+use Rattle.cborn_wire.proofs.Machine.TakesItems.{slot_plain}
 use Rattle.cborn_wire.proofs.Machine.Pieces.{major_of_head, info_of_head, content_done}
 use Rattle.cborn_wire.proofs.Machine.Running.{run-append}
 use Rattle.cborn_wire.proofs.Machine.SoundRuns.{code_at}

@@ -1,17 +1,16 @@
 -- What is read and made of leaves that are taken several at a time.
 use Rattle.std.proofs.lemmas.Grind.{common_steps}
 use Rattle.std.proofs.lemmas.Bool.Decides.{nat_tests}
-use Rattle.std.specs.Prelude.{◌≡◌, ◌⊎◌, ◌+◌, ◌-◌, ◌/◌, ◌%◌, ◌^◌, ◌<◌, ◌≤◌, ◌∷◌, ◌++◌}
-use Rattle.cborn_wire.proofs.Common.{refl, sym, ap, ◌∙◌, subst, inl, inr, ℕ, List, [], length, take, drop, Bool, true, false, cond, leb, ltb, eqb-true, Option, Some, None, arith, append-nil, length-append, drop-take, take-append-drop, take-append-le, take_all, length-take-le, take-add, AreBytes, Width, Direct, Major, Unsigned, Negative, ByteString, TextString, Other, Given, head, WidthFits, least, Tree, Uint, Nint, an_array, a_map, Partial, Part, IsFree, top, inside, no_part, put, last_key, TakesItem, IsInteger, IsShortLeaf, AreShortIntegers, IsShortPair, text_in, puts, InArray, AtKey, Level, LevelKind, GivenHead, major_at, slot, open_depth, finished, run, ready, open_in, state, levels, Keeps, with_part, lessened, is_array, is_at_key, is_even, kind_at_none, room_in, IsLeafOf, IsLeaf, content_len, leaf_tree, AfterLeaves, TakesRun}
+use Rattle.std.specs.Prelude.{◌≡◌, ◌⊎◌, ◌+◌, ◌-◌, ◌/◌, ◌^◌, ◌<◌, ◌≤◌, ◌∷◌, ◌++◌}
+use Rattle.cborn_wire.proofs.Common.{refl, sym, ap, ◌∙◌, subst, ℕ, List, [], length, take, drop, true, leb, eqb-true, Some, arith, append-nil, length-append, drop-take, take-append-drop, take-append-le, take_all, length-take-le, take-add, AreBytes, Width, Major, Unsigned, Negative, Given, head, WidthFits, least, Tree, Uint, Nint, Partial, Part, IsFree, no_part, put, TakesItem, IsInteger, IsShortLeaf, AreShortIntegers, IsShortPair, text_in, puts, InArray, AtKey, Level, GivenHead, major_at, slot, open_depth, finished, run, ready, open_in, state, levels, Keeps, with_part, lessened, is_array, is_at_key, room_in, IsLeafOf, IsLeaf, content_len, leaf_tree, AfterLeaves, TakesRun}
 use Rattle.cborn_model.specs.declared.visitors.LeafPair.{LeafPair}
 use Rattle.cborn_model.proofs.Bytes.{bytes-right}
-use Rattle.cborn_model.proofs.Numbers.Simples.{simple_value}
-use Rattle.cborn_wire.specs.declared.levels.LevelKind.TheVariants.{Array as AnArray, Map as AMap, GreatMap, EndlessArray, EndlessMap}
+use Rattle.cborn_wire.specs.declared.levels.LevelKind.TheVariants.{Array as AnArray, EndlessArray}
 use Rattle.cborn_wire.proofs.HeadReading.HeadSteps.{head_front}
 use Rattle.cborn_wire.proofs.Machine.Running.{run-append}
 use Rattle.cborn_wire.proofs.Machine.Containers.{no_key}
 use Rattle.cborn_wire.proofs.Machine.TakesHeads.{takes_head}
-use Rattle.cborn_wire.proofs.Visiting.Counting.{last_same, stays, item_accepted, counted_on, endless_on, missing_below}
+use Rattle.cborn_wire.proofs.Visiting.Counting.{last_same, stays, item_accepted, counted_on, missing_below}
 use Rattle.cborn_wire.proofs.Visiting.Leaves.{plain_slot, leaf_free, leaf_read, leaf_cut, leaf_some, item_after}
 use Rattle.cborn_wire.proofs.Visiting.Taking.{bytes-take}
 

@@ -2,13 +2,12 @@
 use Rattle.std.proofs.lemmas.Grind.{common_steps}
 use Rattle.std.proofs.lemmas.Bool.Decides.{nat_tests}
 use Rattle.std.specs.Prelude.{◌≡◌, ◌+◌, ◌/◌, ◌%◌, ◌<◌, ◌≤◌, ◌∷◌, ◌++◌}
-use Rattle.cborn_wire.proofs.Common.{refl, sym, ap, ◌∙◌, subst, ℕ, List, [], length, take, drop, get_or, Bool, false, leb, Option, Some, None, arith, length-append, add-one, take-append-drop, AreBytes, Width, Direct, Major, Unsigned, ByteString, TextString, Other, Argument, Given, EndlessArgument, Trees, in_chunks, Partial, top, inside, Part, no_part, part, TakesItem, TakesString, VisitFault, Refused, Memory, StringKind, OfBytes, OfText, major_of, Slot, item, chunk, OpenContainer, opened, slot, slot_in, open_depth, IsNoString, AreOpen, Head, Level, PartialHead, major_at, seen_argument, IsHeadOf, Info, Next, info_at, info_for, is_bad_chunk, head_reason, plain, width_bytes, argument_of, nothing, Unfinished, gathering, State, Live, begin_head, unless, run, IsReached, open_in, state, level_in, levels, Keeps, Takes, slot_of, Missing, Stands, FailsAs, HereAt, true}
+use Rattle.cborn_wire.proofs.Common.{refl, sym, ap, ◌∙◌, subst, ℕ, List, [], length, take, drop, get_or, Bool, false, leb, Option, Some, None, arith, length-append, add-one, take-append-drop, AreBytes, Width, Major, Argument, Given, Trees, Partial, top, inside, Part, no_part, TakesItem, TakesString, VisitFault, Refused, Memory, StringKind, OfBytes, OfText, major_of, Slot, chunk, OpenContainer, slot, open_depth, IsNoString, AreOpen, Head, Level, PartialHead, major_at, seen_argument, IsHeadOf, Info, Next, info_at, info_for, is_bad_chunk, head_reason, plain, width_bytes, argument_of, nothing, Unfinished, gathering, State, Live, run, IsReached, open_in, state, level_in, levels, Keeps, Takes, slot_of, Stands, FailsAs, HereAt, true}
 use Rattle.cborn_model.proofs.Bytes.{bytes-left}
-use Rattle.cborn_wire.proofs.Machine.SoundRuns.{depth_is_length, sound, InfoIs, IsWide, info_is}
+use Rattle.cborn_wire.proofs.Machine.SoundRuns.{depth_is_length, sound, info_is}
 use Rattle.cborn_wire.proofs.Machine.Pieces.{major_of_head, info_of_head}
 use Rattle.cborn_wire.proofs.Machine.SoundSteps.{is_clear, free_of, shallow_open}
 use Rattle.cborn_wire.proofs.Machine.Running.{run-append, failed_run}
-use Rattle.cborn_wire.proofs.Machine.SoundItems.{SoundLive, Sound}
 use Rattle.cborn_wire.proofs.Visiting.Counting.{top_slot}
 
 pub bytes-take : (n : ℕ) (x : List ℕ) → AreBytes x → AreBytes (take n x)

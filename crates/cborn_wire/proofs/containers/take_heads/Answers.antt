@@ -1,5 +1,5 @@
 use Rattle.std.specs.Prelude.{◌++◌}
-use Rattle.cborn_wire.proofs.Common.{arith, ap, length, take, length-append, length-take-le}
+use Rattle.cborn_wire.proofs.Common.{arith, take, length-append, length-take-le}
 use Rattle.cborn_model.proofs.Bytes.{are_bytes}
 use Rattle.cborn_wire.proofs.Visiting.Heads.{still_open, front_heads, more_heads, heads_go_on}
 use Rattle.cborn_wire.proofs.Visiting.Pieces.{next_cut}

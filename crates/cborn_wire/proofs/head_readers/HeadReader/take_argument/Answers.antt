@@ -1,5 +1,4 @@
-use Rattle.std.specs.Prelude.{◌+◌}
-use Rattle.cborn_wire.proofs.Common.{rules, sym, subst, err_from_is_err_and, Given, major_at, Live, AtMostOneMore, ready, open_in, seen_head, Stands, arith}
+use Rattle.cborn_wire.proofs.Common.{rules, err_from_is_err_and, major_at, Live, ready, open_in, seen_head, arith}
 use Rattle.cborn_wire.proofs.HeadReading.HeadSteps.{argument_ends}
 use Rattle.cborn_wire.proofs.Machine.WholeFront.{one_more_head}
 use Rattle.cborn_wire.proofs.Visiting.Taking.{fails_on, any_argument}

@@ -1,5 +1,4 @@
-use Rattle.std.specs.Prelude.{◌≡◌, ◌+◌, ◌++◌, ◌≤◌}
-use Rattle.cborn_wire.proofs.Common.{◌∙◌, refl, sym, ap, subst, inl, length, take, arith, length-append, length-take-le, part, string_tree, finished, state, ready_in, AtMostOneMore, ready, open_in}
+use Rattle.cborn_wire.proofs.Common.{arith, length-append, length-take-le}
 use Rattle.cborn_wire.proofs.Machine.Pieces.{content_done, content_more}
 use Rattle.cborn_wire.proofs.Machine.WholeFront.{one_more_finished}
 use Rattle.cborn_wire.proofs.Visiting.Taking.{stands_here}

@@ -1,5 +1,5 @@
-use Rattle.std.specs.Prelude.{◌≤◌, ◌++◌, ◌∷◌}
-use Rattle.cborn_wire.proofs.Common.{[], sym, ap, ◌∙◌, subst, append_assoc, append-nil, arith, nil_from_length, trees, depth_all, FitsAll}
+use Rattle.std.specs.Prelude.{◌≤◌, ◌++◌}
+use Rattle.cborn_wire.proofs.Common.{ap, ◌∙◌, subst, append_assoc, append-nil, arith, nil_from_length, trees, depth_all, FitsAll}
 use Rattle.cborn_wire.proofs.Building.{part_spelled}
 use Rattle.cborn_wire.proofs.nodes.Nodes.finish.Goals as goal
 
