@@ -25,10 +25,6 @@ pub here_held : (H K : Partial → Part → Type 0) → ((f : Partial) (c : Part
     → HereAt H around l left at h s → HereAt K around l left at h s
 here_held H K e around l left at h s g = grind (arith, common_steps, nat_tests)
 
-nothing_open : (f : Partial) → open_in f ≡ [] → f ≡ top (whole f)
-nothing_open (top ts) e = refl
-nothing_open (inside f o ts) e = cc
-
 -- A reader that is at the offset `at`, and nothing is open.
 pub fresh_made : (r : ItemReader) (limit at : ℕ) → IsFresh limit at r.heads → IsInput r.levels.outer.items r.levels.inner → IsHeld r.nodes (top []) no_part → IsMade r × (seen [] r ≡ start at)
 fresh_made r limit at fresh input held =
@@ -36,9 +32,6 @@ fresh_made r limit at fresh input held =
     let same : seen [] r ≡ start at
     = ap (λ f. Live r.heads.at (ready f) (open_in (seen_nodes r.nodes)) (pending r.heads.head r.nodes.string)) held.0 ∙ sym (here_seen r.nodes r.levels.outer.items r.levels.inner r.heads.left r.heads.at r.heads.head (start at) fed.2) in
     (record { base = at; read = []; fed = fed; is = sym same }, same)
-
-none_missing : (left : ℕ) (c : Part) → Missing left c → left ≡ 0 → unfinished c ≡ nothing
-none_missing left c h e = grind (arith, common_steps, nat_tests)
 
 -- The input may end exactly if nothing is open, and no head or string is partial.
 module _ (r : ItemReader) (made : IsMade r) where

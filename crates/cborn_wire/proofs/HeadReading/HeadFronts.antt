@@ -91,17 +91,8 @@ pub no_head : (x : List ℕ) → length x < 1 → IsFrontOfHead x
 no_head [] h = record { major = Unsigned; argument = heads.Given Direct 0; missing = 0 ∷ []; fits = omega arith; whole = refl; some = omega arith; free = refl }
 no_head (b ∷ x) h = absurd (omega arith)
 
-endless_information_is : (i : Info) → is_endless_head i ≡ true → i ≡ EndlessInformation
-endless_information_is i h = grind (arith, common_steps, nat_tests)
-
-no_other : (m : Major) → (m ≡ Other → ⊥) → is_other (major_at (code m)) ≡ false
-no_other m h = grind (arith, common_steps, nat_tests)
-
 pub code_small : (m : Major) → code m < 8
 code_small m = grind (arith, common_steps, nat_tests)
-
-next_free : (y : List ℕ) (m : Major) (w : Width) → is_other m ≡ false → head_reason element_or_end false m (Next w) y ≡ None
-next_free y m w h = grind (arith, common_steps, nat_tests)
 
 pub direct_front : (x : List ℕ) (m : Major) → AreBytes x → 1 ≤ length x → code m ≡ get_or x 0 0 / 32 → get_or x 0 0 % 32 < 24
     → IsHeadOf x (record { major = code m; argument = Given Direct (get_or x 0 0 % 32) }) 1

@@ -7,9 +7,6 @@ use Rattle.cborn_wire.proofs.HeadReading.InitialBytes.{same_alone}
 use Rattle.cborn_wire.proofs.Machine.Pieces.{takes_whole_head, refuses_first}
 use Rattle.cborn_wire.proofs.Machine.SomeEnd.{refused_run}
 
-fills : (w : Width) → width_bytes w ≤ 8
-fills w = grind (arith, common_steps, nat_tests)
-
 pub head_some : (m : Major) (a : Argument) → 0 < length (head m a)
 head_some m a = grind (arith, common_steps, nat_tests)
 
@@ -61,12 +58,6 @@ pub head_fits : (piece : List ℕ) (h : Head) (n : ℕ) → IsHeadOf piece h n �
 head_fits piece h n i = grind (arith, head_some, length-append)
 
 -- a break, which says by itself where it isn't allowed
-
-break_reason : (s : Slot) (full : Bool) → head_reason s full Other EndlessInformation [] ≡ cond (needs_item s) (Some UnexpectedBreak) None
-break_reason s full = grind (arith, common_steps, nat_tests)
-
-unless_needed : (b : Bool) (rd : Trees) (p : ℕ) (s : State) → unless (cond b (Some UnexpectedBreak) None) rd p (cond b (Failed rd p UnexpectedBreak) s) ≡ cond b (Failed rd p UnexpectedBreak) s
-unless_needed b rd p s = grind (arith, common_steps, nat_tests)
 
 break_ended : (limit at : ℕ) (rd : Trees) (os : List OpenContainer) → at_slot limit at rd os Other EndlessInformation ≡ ended (suc at) at rd os
 break_ended limit at rd os = grind (arith, common_steps, nat_tests)

@@ -21,11 +21,6 @@ no_key [] e = refl
 no_key (k ∷ []) e = absurd (omega (arith, e))
 no_key (k ∷ v ∷ ts) e = no_key ts (omega (arith, e))
 
-pub key_next : (ts : List Tree) (t : Tree) → last_key ts ≡ None → (paired (ts ++ t ∷ []) ≡ paired ts) × (last_key (ts ++ t ∷ []) ≡ Some t)
-key_next [] t e = (refl, refl)
-key_next (k ∷ []) t e = cc
-key_next (k ∷ v ∷ ts) t e = let h = key_next ts t e in (ap (λ l. (k, v) ∷ l) h.0, h.1)
-
 pub value_next : (ts : List Tree) (t k : Tree) → last_key ts ≡ Some k → (paired (ts ++ t ∷ []) ≡ paired ts ++ (k, t) ∷ []) × (last_key (ts ++ t ∷ []) ≡ None)
 value_next [] t k e = cc
 value_next (l ∷ []) t k e = let same : l ≡ k = cc in (ap (λ l. (l, t) ∷ []) same, refl)

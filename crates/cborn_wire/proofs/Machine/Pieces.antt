@@ -49,11 +49,6 @@ module _ (limit fed : ℕ) (ready : Trees) (os : List OpenContainer) where
       → run limit (Live fed ready os nothing) (b ∷ y) ≡ Failed ready fed r
   refuses_first b y r e = grind (arith, failed_run)
 
-  -- The last byte of an argument.
-  pub argument_done : (p : ℕ) (m : Major) (w : Width) (n : ℕ) (got : List ℕ) (b : ℕ) → n ≤ suc (length got)
-      → step limit (Live fed ready os (gathering p (argument_of m w) n got)) b ≡ after_head (suc fed) p ready os m (Given w (number w (got ++ b ∷ [])))
-  argument_done p m w n got b h = grind (arith, common_steps, nat_tests)
-
   -- A slice of a string's content: one that leaves some to come, and one that ends it.
   module _ (p : ℕ) (k : StringKind) (w : Width) (n : ℕ) (got y : List ℕ) where
     content_taken : length got < n → length got + length y ≤ n → run limit (Live fed ready os (gathering p (content_of k w) n got)) y ≡ gather (fed + length y) p ready os (content_of k w) n (got ++ y)

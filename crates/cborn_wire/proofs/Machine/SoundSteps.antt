@@ -16,9 +16,6 @@ pub record Clear (s : Slot) (full : Bool) (m : Major) (i : Info) : Type 0 where
   pub float : (is_other m && is_float i) ≡ false
   pub room : (is_container m && full) ≡ false
 
-guarded : (c : Bool) (r : WireReason) (o : Option WireReason) → cond c (Some r) o ≡ None → (c ≡ false) × (o ≡ None)
-guarded c r o h = grind (arith, common_steps, nat_tests)
-
 pub is_clear : (s : Slot) (full : Bool) (m : Major) (i : Info) (y : List ℕ) → head_reason s full m i y ≡ None → Clear s full m i
 is_clear s full m i y e = grind (arith, common_steps, nat_tests)
 

@@ -43,9 +43,6 @@ clear_simple s full n v bad = grind (arith, common_steps, nat_tests)
 clear_chunk : (k : StringKind) (full : Bool) (w : Width) (n : ℕ) → head_reason (chunk k) full (major_of k) (info_for (Given w n)) [] ≡ None
 clear_chunk k full w n = grind (arith, common_steps, nat_tests)
 
-clear_break : (s : Slot) (full : Bool) → needs_item s ≡ false → head_reason s full Other EndlessInformation [] ≡ None
-clear_break s full h = grind (arith, common_steps, nat_tests)
-
 -- A definite string, also as a chunk.
 
 starts_string : (fed p : ℕ) (ready : Trees) (os : List OpenContainer) (k : StringKind) (w : Width) (n : ℕ)

@@ -7,9 +7,6 @@ use Rattle.cborn_model.proofs.Numbers.Simples.{simple_fits}
 use Rattle.cborn_model.proofs.Bytes.{bytes-append}
 use Rattle.cborn_wire.proofs.Machine.TakesItems.{size_fits}
 
-following_bytes : (w : Width) (n : ℕ) → WidthFits w n → AreBytes (following w n)
-following_bytes w n h = grind (arith, common_steps, nat_tests)
-
 pub head_bytes : (m : Major) (a : Argument) → ArgumentFits a → AreBytes (head m a)
 head_bytes m a h = grind (arith, common_steps, nat_tests)
 

@@ -83,10 +83,6 @@ fault_stays limit x z p r h e = grind (arith, refused_stays)
 pub fault_inside : (limit : ℕ) (x : List ℕ) (p : ℕ) (r : WireReason) → Fault limit x p r → (r ≡ Truncated → ⊥) → p < length x
 fault_inside limit x p r h e = grind (arith, common_steps, nat_tests)
 
--- It isn't refused for the end of the input.
-refused_is_no_end : (limit : ℕ) (f : List ℕ) (b : ℕ) → IsReason limit f b Truncated → ⊥
-refused_is_no_end limit f b h = grind (arith, common_steps, nat_tests)
-
 pub fault_at_end : (limit : ℕ) (x : List ℕ) (p : ℕ) → Fault limit x p Truncated → p ≡ length x
 fault_at_end limit x p h = grind (arith, common_steps, nat_tests)
 

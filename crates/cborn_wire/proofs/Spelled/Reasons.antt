@@ -32,7 +32,3 @@ table_reason limit s k b y r e = end_reason (leb limit k) (b / 32) (b % 32) y r 
 -- The table judges a head by no other bytes.
 pub judged_reason : (limit : ℕ) (s : Slot) (k b : ℕ) (y : List ℕ) → b < 256 → reason_at limit s k (judged b y) ≡ reason_at limit s k (b ∷ y)
 judged_reason limit s k b y byte = grind (arith, common_steps, nat_tests, agree_below_at)
-
--- No head is refused for the end of the input.
-pub not_truncated : (chunked : Bool) (m i : ℕ) → reason_of chunked m i ≡ Truncated → ⊥
-not_truncated chunked m i e = grind (arith, nat_tests)

@@ -37,10 +37,6 @@ level_count (inside f o ts) = omega (arith, level_count f, length-append (levels
 pub outer_count : (f : Partial) (ls : List Level) (l : Level) → levels f ≡ ls ++ l ∷ [] → length ls ≡ length (open_in f)
 outer_count f ls l e = omega (arith, level_count f, ap length e, length-append ls (l ∷ []))
 
--- in an indefinite string the depth says nothing
-chunk_reason : (k : StringKind) (m : Major) (i : Info) (f g : Bool) → head_reason (chunk k) f m i [] ≡ head_reason (chunk k) g m i []
-chunk_reason k m i f g = grind (arith, common_steps, nat_tests)
-
 any_depth : (os : List OpenContainer) (limit j : ℕ) (m : Major) (i : Info) → (IsNoString os → j ≡ open_depth os) → head_reason (slot os) (leb limit j) m i [] ≡ head_reason (slot os) (leb limit (open_depth os)) m i []
 any_depth os limit j m i h = grind (arith, common_steps, nat_tests)
 
@@ -61,19 +57,7 @@ room limit most f ls l are small h = omega (arith, outer_count f ls l are.0, ope
 
 -- what is allowed may be next
 
-item_next : (f : Partial) → IsNoString (open_in f) → TakesItem f
-item_next f h = grind (arith, common_steps, nat_tests)
-
-string_next : (f : Partial) (k : StringKind) (i : Info) → is_bad_chunk (slot (open_in f)) (major_of k) i ≡ false → TakesString f k
-string_next f k i h = grind (arith, common_steps, nat_tests)
-
 module _ (f : Partial) (full : Bool) where
-  allowed : (m : Major) (a : Argument) → head_reason (slot (open_in f)) full m (info_for a) [] ≡ None → is_bad_chunk (slot (open_in f)) m (info_for a) ≡ false
-  allowed m a e = (is_clear (slot (open_in f)) full m (info_for a) [] e).chunked
-
-  no_string : (m : Major) (a : Argument) → is_bad_chunk (chunk OfBytes) m (info_for a) ≡ true → is_bad_chunk (chunk OfText) m (info_for a) ≡ true → head_reason (slot (open_in f)) full m (info_for a) [] ≡ None → TakesItem f
-  no_string m a b c e = item_next f (free_of (open_in f) m (info_for a) (allowed m a e) b c)
-
   pub head_next : (m : Major) (a : Argument) → head_reason (slot (open_in f)) full m (info_for a) [] ≡ None → Takes f m a
   head_next m a h = grind (arith, common_steps, nat_tests)
 
