@@ -15,9 +15,6 @@ use Rattle.cborn_wire.proofs.Spelled.TreeLists.{trees-append, spelled_all-append
 nodes_put : (ts : List Tree) (t : Tree) → spelled_all (trees (ts ++ t ∷ [])) ≡ spelled_all (trees ts) ++ spelled t
 nodes_put ts t = ap spelled_all (trees-append ts (t ∷ [])) ∙ spelled_all-append (trees ts) (trees (t ∷ [])) ∙ ap (λ l. spelled_all (trees ts) ++ l) (append-nil (spelled t))
 
-written_put : (f : Partial) (t : Tree) → written (put f t) ≡ written f ++ spelled t
-written_put f t = grind (arith, append_assoc, nodes_put)
-
 counted_push : (ts : List Tree) (t : Tree) → counted (length (ts ++ t ∷ [])) ≡ (counted (length ts) + 1) % 2 ^ 64
 counted_push ts t = omega (arith, length-append ts (t ∷ []))
 
@@ -32,7 +29,7 @@ last_counted xs outer c last n len at is = grind (arith, get_or-append_seam, len
 pub node_counted : (s : Speller) (u : List OpenSpelling) (f : Partial) (t : Tree)
     → ((outer : List OpenSpelling) (c : OpenSpelling) → s.containers.items ≡ outer ++ c ∷ [] → u ≡ outer ++ one_more c ∷ [])
     → (s.containers.items ≡ [] → u ≡ []) → Stands s f (spelled t) → (s.out.items ≡ written (put f t) ++ []) × (u ≡ containers_of (put f t))
-node_counted s u f t one none h = grind (arith, append-nil, counted_push, written_put)
+node_counted s u f t one none h = grind (arith, append-nil, counted_push, append_assoc, nodes_put)
 
 -- ---- a container ends
 

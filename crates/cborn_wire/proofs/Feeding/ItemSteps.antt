@@ -20,11 +20,6 @@ pub here_seen : (n : Nodes) (around : List Level) (l : Level) (left at : ℕ) (h
     → s ≡ Live at (ready (seen_nodes n)) (open_in (seen_nodes n)) (pending h n.string)
 here_seen n around l left at h s e = grind (arith, common_steps, nat_tests)
 
--- another visitor that holds the same is here too
-pub here_held : (H K : Partial → Part → Type 0) → ((f : Partial) (c : Part) → H f c → K f c) → (around : List Level) (l : Level) (left at : ℕ) (h : Option PartialHead) (s : State)
-    → HereAt H around l left at h s → HereAt K around l left at h s
-here_held H K e around l left at h s g = grind (arith, common_steps, nat_tests)
-
 -- A reader that is at the offset `at`, and nothing is open.
 pub fresh_made : (r : ItemReader) (limit at : ℕ) → IsFresh limit at r.heads → IsInput r.levels.outer.items r.levels.inner → IsHeld r.nodes (top []) no_part → IsMade r × (seen [] r ≡ start at)
 fresh_made r limit at fresh input held =
@@ -60,14 +55,10 @@ module _ (old : ItemReader) (made : IsMade old) (heads : HeadReader) (levels : G
   one_more : AtMostOneMore (ready_in (run old.heads.limit (start made.base) made.read)) (run old.heads.limit (start made.base) (made.read ++ y)) → AtMostOneMore no_item now
   one_more h = grind (arith, common_steps, nat_tests)
 
-  -- no item is whole
-  none_ready : ((ts : List Tree) → seen_nodes nodes ≡ top ts → ts ≡ []) → AtMostOneMore no_item now → ready (seen_nodes nodes) ≡ no_item
-  none_ready h e = grind (arith, common_steps, nat_tests)
-
   pub no_item_whole : (next : Nodes) → seen_nodes next ≡ seen_nodes nodes → next.string ≡ nodes.string → ((ts : List Tree) → seen_nodes nodes ≡ top ts → ts ≡ [])
       → AtMostOneMore (ready_in (run old.heads.limit (start made.base) made.read)) (run old.heads.limit (start made.base) (made.read ++ y))
       → let r : ItemReader = record { heads = heads; levels = levels; nodes = next } in IsMade r × (run old.heads.limit (seen [] old) y ≡ seen [] r)
-  no_item_whole next is string none at_most = grind (arith, comes, here_held, is_now, none_ready, one_more)
+  no_item_whole next is string none at_most = grind (arith, comes, is_now, one_more, common_steps, nat_tests)
 
   -- one item is whole, the node t
   module _ (t : Tree) (next : Nodes) (is : seen_nodes nodes ≡ put (seen_nodes next) t) (bare : seen_nodes next ≡ top (whole (seen_nodes next))) where
@@ -125,9 +116,6 @@ module _ (r : ItemReader) (items : List Tree) (x : List ℕ) where
       ap (λ ts. run r.heads.limit (Live r.heads.at ts (open_in (seen_nodes r.nodes)) (pending r.heads.head r.nodes.string)) x) (sym (append_trees-nil (trees items)))
       ∙ front_run (trees items) r.heads.limit x (seen [] r)
 
-  after_items : (new : ItemReader) (others : List Tree) → run r.heads.limit (seen [] r) x ≡ seen others new → run r.heads.limit (seen items r) x ≡ seen (items ++ others) new
-  after_items new others e = grind (arith, from_none, trees-append, with_front)
-
   fails_after : (e : VisitFault) → FailsAs no_item (run r.heads.limit (seen [] r) x) e → FailsAs (trees items) (run r.heads.limit (seen items r) x) e
   fails_after e h = grind (arith, append_trees-nil, from_none, with_front)
 
@@ -141,4 +129,4 @@ module _ (old : ItemReader) (before : List Tree) (now : ItemReader) (items : Lis
 
   pub then_moved : (next : ItemReader) (n : ℕ) (item : Option Tree) (left : List Tree) → Took rest now next n item → next.heads.limit ≡ now.heads.limit → left ≡ items ++ option_to_list item
       → IsMoved old before next left (y ++ take n rest)
-  then_moved next n item left t limit added = grind (arith, after_items, length-append, length-take-le, run-append)
+  then_moved next n item left t limit added = grind (arith, length-append, length-take-le, run-append, from_none, trees-append, with_front)

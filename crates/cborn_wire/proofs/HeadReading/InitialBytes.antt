@@ -24,9 +24,6 @@ pub record SaysInfo (i : ℕ) (j : Info) : Type 0 where
   pub float : (leb 25 i && leb i 27) ≡ is_float j
   pub one : eqb i 24 ≡ is_one j
 
-pub info_says : (i : ℕ) → i < 32 → SaysInfo i (info_at i)
-info_says i low = grind (arith, common_steps, nat_tests)
-
 bad_chunk_is : (s : Slot) (m i : ℕ) (j : Info) → SaysInfo i j → numbers.is_bad_chunk s m i ≡ is_bad_chunk s (major_at m) j
 bad_chunk_is (chunk k) m i j h = rw (other_is m, h.endless_information, kind_is k m) refl
 bad_chunk_is s m i j h = refl
@@ -35,7 +32,7 @@ reason_is : (s : Slot) (full : Bool) (m i : ℕ) (j : Info) (y : List ℕ) → S
 reason_is s full m i j y h = rw (bad_chunk_is s m i j h, h.reserved, h.endless_information, bounded_is m, other_is m, h.float, h.one, container_is m) refl
 
 pub same_reason : (limit : ℕ) (s : Slot) (k : ℕ) (y : List ℕ) → reason_at limit s k y ≡ front_reason limit s k y
-same_reason limit s k y = grind (arith, info_says, reason_is)
+same_reason limit s k y = grind (arith, reason_is, common_steps, nat_tests)
 
 -- wherever an item or a break is allowed
 pub same_alone : (b : ℕ) (y : List ℕ) → reason_alone (b ∷ y) ≡ head_reason element_or_end false (major_at (b / 32)) (info_at (b % 32)) y

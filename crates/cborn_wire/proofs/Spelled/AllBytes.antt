@@ -17,12 +17,9 @@ chunks_bytes : (m : Major) (cs : List Chunk) → ChunksFit cs → AreBytes (flat
 chunks_bytes m [] h = tt
 chunks_bytes m (c ∷ cs) h = bytes-append (chunk_bytes m c) (flat_map (chunk_bytes m) cs) (string_bytes m c.width c.bytes h.0.0 h.0.1) (chunks_bytes m cs h.1)
 
-ending_bytes : (s : Size) → AreBytes (ending s)
-ending_bytes s = grind (arith, common_steps, nat_tests)
-
 -- what a head and an ending enclose
 inside_bytes : (m : Major) (s : Size) (n : ℕ) (x : List ℕ) → SizeFits s n → AreBytes x → AreBytes (head m (argument s n) ++ x ++ ending s)
-inside_bytes m s n x h k = grind (arith, bytes-append, ending_bytes, head_bytes, size_fits)
+inside_bytes m s n x h k = grind (arith, bytes-append, head_bytes, size_fits, common_steps, nat_tests)
 
 mutual
   pub spelled_bytes : (t : Tree) → Fits t → AreBytes (spelled t)

@@ -25,9 +25,6 @@ module _ (l : Level) where
   pub endless_on : kind_at_none l.kind ≡ Some l.kind → with_part l ≡ Some (record l { missing = lessened l.missing 1 })
   endless_on e = grind (arith, nat_tests)
 
-small : (w : Width) (n : ℕ) → WidthFits w n → n < 2 ^ 64
-small w n h = grind (arith, common_steps, nat_tests)
-
 -- The level of a container with one more node: none, if it is whole.
 
 abbrev Next : Opening → ℕ → Type 0
@@ -46,7 +43,7 @@ endless_next : (o : Opening) (k : ℕ) → kind_at_none (kind_in o k) ≡ Some (
 endless_next o k e kind more = endless_on (level_with o k) e ∙ rw (again (announced_nodes o) k, ← kind, more) refl
 
 next : (o : Opening) (ts : List Tree) → HeadFits o → Goes o ts → Next o (length ts)
-next o ts h e = grind (arith, common_steps, nat_tests, array_next, endless_next, map_next, pair_count, small, tag_next)
+next o ts h e = grind (arith, common_steps, nat_tests, array_next, endless_next, map_next, pair_count, tag_next)
 
 -- the same of one more node
 after_next : (o : Opening) (ts : List Tree) (t : Tree) → HeadFits o → Goes o ts → with_part (level_in o ts) ≡ cond (is_full o (length (ts ++ t ∷ []))) None (Some (level_in o (ts ++ t ∷ [])))
