@@ -1,6 +1,6 @@
 -- The partial sequence that the visitor which builds nodes holds, as it changes.
 use Rattle.std.specs.Prelude.{◌≡◌, ◌≤◌, ◌∷◌, ◌++◌}
-use Rattle.cborn_wire.proofs.Common.{refl, sym, ap, ◌∙◌, ℕ, List, [], length, map, Option, Some, append-nil, arith, option_to_list, Chunk, Size, Tree, trees, entries, depth_all, FitsAll, IsSpelled, a_map, in_chunks, Partial, top, inside, no_part, chunks_tree, ended_size, Nodes, flat, string_of, within, around, seen_string, IsHeld}
+use Rattle.cborn_wire.proofs.Common.{refl, sym, ap, ◌∙◌, ℕ, List, [], length, map, Option, Some, append-nil, arith, option_to_list, Chunk, Size, Tree, trees, entries, depth_all, FitsAll, IsSpelled, a_map, in_chunks, Partial, top, inside, no_part, chunks_tree, ended_size, Nodes, flat, string_of, within, around, IsHeld}
 use Rattle.cborn_model.specs.declared.visitors.StringKind.{StringKind}
 use Rattle.cborn_model.specs.Tree as tree
 use Rattle.cborn_wire.specs.declared.open_nodes.OpenNode.{OpenNode}
@@ -15,19 +15,9 @@ pub map_ends : (p : ℕ) (s : Size) (c : Option ℕ) (es : List (Tree × Tree)) 
     → Some (tree.Pairs p (ended_size s c (length es)) (entries es)) ≡ ended (inside f (a_map p s c) (flat es ++ option_to_list x))
 map_ends p s c es x f = ap (λ l. Some (tree.Pairs p (ended_size s c (length l)) (entries l))) (sym (paired_with es x).0)
 
--- a string of indefinite length ends
-pub chunks_end : (p : ℕ) (k : StringKind) (cs : List Chunk) (f : Partial) → Some (chunks_tree p k cs) ≡ ended (inside f (in_chunks p k) (map (string_of k) cs))
-chunks_end p k cs f = ap (λ l. Some (chunks_tree p k l)) (sym (strings k cs).1)
-
 pub around_push : (f : Partial) (ks : List OpenNode) (k : OpenNode) → around f (ks ++ k ∷ []) ≡ within (around f ks) k
 around_push f [] k = refl
 around_push f (j ∷ ks) k = around_push (within f j) ks k
-
--- a container is opened
-pub opened : (old new : Nodes) (k : OpenNode) → new.outer.items ≡ old.outer.items ++ old.innermost ∷ [] → new.innermost ≡ k → new.string ≡ old.string
-    → (f g : Partial) → g ≡ within f k → IsHeld old f no_part → IsHeld new g no_part
-opened old new k outer innermost same f g is (held, string) =
-    (is ∙ ap (λ h. within h k) (held ∙ sym (ap (around (top [])) outer ∙ around_push (top []) old.outer.items old.innermost)) ∙ ap (within (around (top []) new.outer.items)) (sym innermost), string ∙ ap seen_string (sym same))
 
 -- what a list of containers is once the last is removed
 pub popped : (ks rest : List OpenNode) (last : OpenNode) → ks ≡ rest ++ last ∷ [] → around (top []) ks ≡ within (around (top []) rest) last

@@ -51,4 +51,4 @@ pub use Rattle.cborn_wire.specs.shared.Ground.{Ground, IsPlacedOpen, place_of}
 pub use Rattle.cborn_wire.specs.shared.InitialBytes.{EndlessInformation, Info, Next, Now, Reserved, front_reason, head_reason, info_at, info_for, is_always_bounded, is_bad_chunk, is_break, is_container, is_endless_head, is_float, is_of_kind, is_one, is_other, is_reserved}
 pub use Rattle.cborn_wire.specs.shared.Machine.{AtMostOneMore, Failed, Goal, IsReached, Live, State, Stops, Unfinished, after_head, append_trees, argument_of, at_slot, begin_head, content_at, content_of, ended, finished, front, gather, gathered, gathering, held, holding, is_full, nothing, number, partial_bytes, ready_in, run, snoc, start, step, unless, width_bytes}
 pub use Rattle.cborn_wire.specs.shared.Spelling.{IsEnded, IsWritten, container, containers_of, counted, ending_of, entries_in, shape, sized_ending, with_head, written}
-pub use Rattle.cborn_wire.specs.shared.Visiting.{AreFromBytes, IsNoChunkSlot, plain, FailsAs, Here, HereAt, IsFed, IsFresh, IsInput, Keeps, MayEnd, Missing, Reads, ReadsItem, RefusesPiece, Stands, Takes, TakesPiece, announced_nodes, at_none, head_at, if_none, input_level, is_array, is_at_key, is_chunks, is_even, kind_at_none, kind_in, lessened, level_in, level_with, levels, may_end, next_head, open_in, parts_of, ready, room_in, seen_head, slot_of, state, unfinished, with_kind, with_part}
+pub use Rattle.cborn_wire.specs.shared.Visiting.{AreFromBytes, IsNoChunkSlot, plain, FailsAs, Here, HereAt, IsFed, IsFresh, IsInput, Keeps, MayEnd, Missing, Reads, ReadsItem, RefusesPiece, Stands, Takes, TakesPiece, announced_nodes, at_none, head_at, input_level, is_array, is_at_key, is_chunks, is_even, kind_at_none, kind_in, lessened, level_in, level_with, levels, may_end, next_head, open_in, parts_of, ready, room_in, seen_head, slot_of, state, unfinished, with_kind, with_part}

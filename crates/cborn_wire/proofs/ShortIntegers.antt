@@ -1,6 +1,7 @@
 -- Integers that are told apart by the form of their initial bytes.
 use Rattle.std.specs.Prelude.{◌≡◌, ◌+◌, ◌*◌, ◌/◌, ◌%◌, ◌<◌, ◌≤◌, ◌∷◌, ◌++◌}
-use Rattle.cborn_wire.proofs.Common.{ℕ, zero, suc, inl, inr, List, [], length, take, drop, get_or, refl, sym, ap, ◌∙◌, subst, arith, append_assoc, append-nil, length-append, length-drop, lt-ltb, le-ltb, Width, Direct, One, Two, Four, Eight, AreBytes, least, Tree, Uint, Nint, IsInteger, IsShortLeaf, AreShortIntegers, Head, IsHeadOf, Next, info_at, width_bytes, number}
+use Rattle.cborn_wire.proofs.Common.{ℕ, zero, suc, inl, inr, List, [], length, take, drop, get_or, refl, sym, ap, ◌∙◌, subst, arith, append_assoc, append-nil, length-append, length-drop, Width, Direct, One, Two, Four, Eight, AreBytes, least, Tree, Uint, Nint, IsInteger, IsShortLeaf, AreShortIntegers, Head, IsHeadOf, Next, info_at, width_bytes, number}
+use Rattle.std.proofs.lemmas.Bool.Decides.{nat_tests}
 use Rattle.cborn_model.proofs.Numbers.Simples.{least_direct, least_one}
 use Rattle.cborn_wire.specs.declared.heads.Argument.TheVariants as arguments
 use Rattle.cborn_wire.specs.devices.ShortIntegers.{IsIntegerForm, top_of}
@@ -15,22 +16,13 @@ wide_read : (x : List ℕ) (w : Width) → AreBytes x → get_or x 0 0 / 32 < 2 
 wide_read x w are m i l = (given_wide x (drop 1 x) w (number w (take (width_bytes w) (drop 1 x))) (width_bytes w) refl are (omega arith) (omega arith) i (omega (arith, length-drop 1 x)) refl refl).head
 
 least_two : (n : ℕ) → 256 ≤ n → n < 65536 → Two ≡ least n
-least_two n p q =
-    let first : 24 ≤ n = omega arith in
-    rw (le-ltb n 24 first, le-ltb n 256 p, lt-ltb n 65536 q) refl
+least_two n p q = grind (arith, nat_tests)
 
 least_four : (n : ℕ) → 65536 ≤ n → n < 4294967296 → Four ≡ least n
-least_four n p q =
-    let first : 24 ≤ n = omega arith in
-    let second : 256 ≤ n = omega arith in
-    rw (le-ltb n 24 first, le-ltb n 256 second, le-ltb n 65536 p, lt-ltb n 4294967296 q) refl
+least_four n p q = grind (arith, nat_tests)
 
 least_eight : (n : ℕ) → 4294967296 ≤ n → Eight ≡ least n
-least_eight n p =
-    let first : 24 ≤ n = omega arith in
-    let second : 256 ≤ n = omega arith in
-    let third : 65536 ≤ n = omega arith in
-    rw (le-ltb n 24 first, le-ltb n 256 second, le-ltb n 65536 third, le-ltb n 4294967296 p) refl
+least_eight n p = grind (arith, nat_tests)
 
 -- a list of nine bytes or more
 abbrev Nine : ℕ → ℕ → ℕ → ℕ → ℕ → ℕ → ℕ → ℕ → ℕ → List ℕ → List ℕ

@@ -1,6 +1,8 @@
 -- What the visitor which writes bytes holds, as nodes become whole and containers are opened and ended.
-use Rattle.std.specs.Prelude.{◌≡◌, ◌+◌, ◌*◌, ◌/◌, ◌%◌, ◌^◌, ◌<◌, ◌∷◌, ◌++◌, ◌-◌}
-use Rattle.cborn_wire.proofs.Common.{refl, sym, ap, ◌∙◌, subst, ℕ, List, [], length, take, drop, Option, Some, None, arith, append_assoc, append-nil, length-append, take_at, drop_at, get_or, set, get_or-append_seam, set_at, Major, Array, Map, Tag, Size, Fixed, Endless, Width, code, Given, head, argument, Tree, trees, ending, spelled, spelled_all, Opening, an_array, a_map, a_tag, in_chunks, Partial, top, inside, put, paired, built, ended_size, IsAll, Ends, announced, opening, opened, beginning, OpenSpelling, written, shape, sized_ending, ending_of, counted, container, containers_of, with_head, entries_in, IsEnded}
+use Rattle.std.proofs.lemmas.Grind.{common_steps}
+use Rattle.std.proofs.lemmas.Bool.Decides.{nat_tests}
+use Rattle.std.specs.Prelude.{◌≡◌, ◌+◌, ◌*◌, ◌%◌, ◌^◌, ◌<◌, ◌∷◌, ◌++◌, ◌-◌}
+use Rattle.cborn_wire.proofs.Common.{refl, sym, ap, ◌∙◌, subst, ℕ, List, [], length, take, drop, Option, Some, None, arith, append_assoc, append-nil, length-append, take_at, drop_at, get_or, set, get_or-append_seam, set_at, Major, Size, Fixed, Endless, Width, code, Given, head, argument, Tree, trees, ending, spelled, spelled_all, Opening, Partial, inside, put, built, ended_size, IsAll, Ends, announced, OpenSpelling, written, shape, sized_ending, ending_of, counted, containers_of, with_head, entries_in, IsEnded}
 use Rattle.cborn_model.proofs.Lengths.{no_more_nodes}
 use Rattle.cborn_model.proofs.Listed.Trees.{count-trees, count_entries-entries}
 use Rattle.cborn_wire.specs.declared.spellers.Speller.{Speller}
@@ -13,13 +15,6 @@ use Rattle.cborn_wire.proofs.Spelled.TreeLists.{trees-append, spelled_all-append
 nodes_put : (ts : List Tree) (t : Tree) → spelled_all (trees (ts ++ t ∷ [])) ≡ spelled_all (trees ts) ++ spelled t
 nodes_put ts t = ap spelled_all (trees-append ts (t ∷ [])) ∙ spelled_all-append (trees ts) (trees (t ∷ [])) ∙ ap (λ l. spelled_all (trees ts) ++ l) (append-nil (spelled t))
 
-written_put : (f : Partial) (t : Tree) → written (put f t) ≡ written f ++ spelled t
-written_put (top ts) t = nodes_put ts t
-written_put (inside f o ts) t =
-    ap (λ l. written f ++ (opening o ++ l)) (nodes_put ts t)
-    ∙ ap (λ l. written f ++ l) (sym (append_assoc (opening o) (spelled_all (trees ts)) (spelled t)))
-    ∙ sym (append_assoc (written f) (beginning (opened o ts)) (spelled t))
-
 counted_push : (ts : List Tree) (t : Tree) → counted (length (ts ++ t ∷ [])) ≡ (counted (length ts) + 1) % 2 ^ 64
 counted_push ts t = omega (arith, length-append ts (t ∷ []))
 
@@ -28,20 +23,13 @@ one_more c = record c { nodes = (c.nodes + 1) % 2 ^ 64 }
 
 -- the last of n containers is counted up
 pub last_counted : (xs outer : List OpenSpelling) (c last : OpenSpelling) (n : ℕ) → n ≡ length xs → last ≡ get_or xs (n - 1) last → xs ≡ outer ++ c ∷ [] → set xs (n - 1) (one_more last) ≡ outer ++ one_more c ∷ []
-last_counted xs outer c last n len at is =
-    let place : length outer ≡ n - 1 = omega (arith, len, ap length is, length-append outer (c ∷ [])) in
-    let same : last ≡ c = at ∙ ap (λ l. get_or l (n - 1) last) is ∙ ap (λ i. get_or (outer ++ c ∷ []) i last) (sym place) ∙ get_or-append_seam outer c [] last in
-    ap (λ l. set l (n - 1) (one_more last)) is ∙ set_at outer c [] (one_more last) (n - 1) place ∙ ap (λ u. outer ++ one_more u ∷ []) same
+last_counted xs outer c last n len at is = grind (arith, get_or-append_seam, length-append, set_at)
 
 -- a node whose bytes are written is counted, so that the open containers become u
 pub node_counted : (s : Speller) (u : List OpenSpelling) (f : Partial) (t : Tree)
     → ((outer : List OpenSpelling) (c : OpenSpelling) → s.containers.items ≡ outer ++ c ∷ [] → u ≡ outer ++ one_more c ∷ [])
     → (s.containers.items ≡ [] → u ≡ []) → Stands s f (spelled t) → (s.out.items ≡ written (put f t) ++ []) × (u ≡ containers_of (put f t))
-node_counted s u f t one none (out, containers) = (out ∙ sym (written_put f t) ∙ sym (append-nil (written (put f t))), more f containers)
-  where
-    more : (f : Partial) → s.containers.items ≡ containers_of f → u ≡ containers_of (put f t)
-    more (top ts) e = none e
-    more (inside f o ts) e = one (containers_of f) (container f o (counted (length ts))) e ∙ ap (λ n. containers_of f ++ container f o n ∷ []) (sym (counted_push ts t))
+node_counted s u f t one none h = grind (arith, append-nil, counted_push, append_assoc, nodes_put)
 
 -- ---- a container ends
 
@@ -68,28 +56,13 @@ sized_ended m Endless c k n front body x y count all is done =
 
 -- Fewer nodes than 2^64 are whole in it, since each has a byte.
 all_counted : (ts : List Tree) (front start x : List ℕ) → length x < 2 ^ 64 → x ≡ front ++ (start ++ spelled_all (trees ts)) → counted (length ts) ≡ length ts
-all_counted ts front start x few is =
-    omega (arith, few, no_more_nodes ts, ap length is, length-append front (start ++ spelled_all (trees ts)), length-append start (spelled_all (trees ts)))
+all_counted ts front start x few is = grind (arith, length-append, no_more_nodes)
 
 -- what is written once a container has ended
 pub container_ended : (f : Partial) (o : Opening) (ts : List Tree) (x y : List ℕ) → Ends o ts → length x < 2 ^ 64 → x ≡ written (inside f o ts) → IsEnded (ending_of (shape o)) (counted (length ts)) (length (written f)) x y → y ≡ written f ++ spelled (built o ts)
-container_ended f (an_array p s c) ts x y ends few is done =
-    rw (count-trees ts) (sized_ended Array s c (counted (length ts)) (length ts) (written f) (spelled_all (trees ts)) x y (all_counted ts (written f) (opening (an_array p s c)) x few is) ends is done)
-container_ended f (a_map p s c) ts x y ends few is done =
-    let many : counted (length ts) / 2 ≡ length (paired ts) = ap (λ n. n / 2) (all_counted ts (written f) (opening (a_map p s c)) x few is) ∙ sym (pair_count ts) in
-    rw (count_entries-entries (paired ts), pairs_spelled ts ends.1) (sized_ended Map s c (counted (length ts)) (length (paired ts)) (written f) (spelled_all (trees ts)) x y many ends.0 is done)
-container_ended f (a_tag p w n) ts x y (t, one) few is done =
-    subst (λ us. y ≡ written f ++ spelled (built (a_tag p w n) us)) (sym one)
-    (done ∙ is ∙ ap (λ us. written f ++ (head Tag (Given w n) ++ spelled_all (trees us))) one ∙ ap (λ l. written f ++ (head Tag (Given w n) ++ l)) (append-nil (spelled t)))
-container_ended f (in_chunks p k) ts x y ends few is done =
-    done ∙ ap (λ l. l ++ ending Endless) is ∙ append_assoc (written f) (beginning (opened (in_chunks p k) ts)) (ending Endless) ∙ ap (λ l. written f ++ l) (sym (built_spelled (in_chunks p k) ts tt ends))
+container_ended f o ts x y h e g k = grind (arith, common_steps, nat_tests, all_counted, append-nil, append_assoc, built_spelled, count-trees, count_entries-entries, pair_count, pairs_spelled, sized_ended)
 
 pub container_left : (old left : Speller) (given : Option OpenSpelling) (ended : OpenSpelling) (f : Partial) (o : Opening) (ts : List Tree) (y : List ℕ) → Ends o ts → length old.out.items < 2 ^ 64 → left.out.items ≡ old.out.items → given ≡ Some ended
     → ((c : OpenSpelling) (outer : List OpenSpelling) → old.containers.items ≡ outer ++ c ∷ [] → (given ≡ Some c) × (left.containers.items ≡ outer))
     → IsEnded ended.ending ended.nodes ended.start left.out.items y → Stands old (inside f o ts) [] → (y ≡ written f ++ spelled (built o ts)) × (left.containers.items ≡ containers_of f)
-container_left old left given ended f o ts y ends few same some leave done (out, containers) =
-    let c = container f o (counted (length ts)) in
-    let outer = leave c (containers_of f) containers in
-    let is : ended ≡ c = cc (sym some ∙ outer.0) in
-    let owed : IsEnded c.ending c.nodes c.start old.out.items y = subst (λ (u : OpenSpelling). IsEnded u.ending u.nodes u.start old.out.items y) is (subst (λ (x : List ℕ). IsEnded ended.ending ended.nodes ended.start x y) same done) in
-    (container_ended f o ts old.out.items y ends few (out ∙ append-nil (written (inside f o ts))) owed, outer.1)
+container_left old left given ended f o ts y ends few same some leave done h = grind (arith, append-nil, container_ended)

@@ -81,6 +81,7 @@ impl Nodes {
     }
 
     /// Opens a container in the innermost.
+    #[tactic(auto, using(crate::proofs::Building::around_push))]
     fn open(&mut self, container: OpenNode) -> Result<(), AllocError>
         ensures { OnOk result ((f g : Partial) → g ≡ within f container → IsHeld self.old f no_part → IsHeld self.new g no_part) }
     {

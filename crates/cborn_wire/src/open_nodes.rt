@@ -80,6 +80,7 @@ impl OpenNode {
     }
 
     /// The node that it is, if it may end: the input is none, nor is a tag without its content.
+    #[tactic(auto, using(cborn_model::proofs::HandedOver::strings))]
     pub(crate) fn end(self, alloc: Global) -> Result<Option<Node>, AllocError>
         ensures { IfOk result (λ o. (f : Partial) → o ≡ ended (within f self)) }
     {

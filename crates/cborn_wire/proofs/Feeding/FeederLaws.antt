@@ -1,6 +1,8 @@
 -- What a reader that is fed by pieces has ready is what it has to give. The bytes that it holds follow from what it keeps, and its answers follow from them.
+use Rattle.std.proofs.lemmas.Grind.{common_steps}
+use Rattle.std.proofs.lemmas.Bool.Decides.{nat_tests}
 use Rattle.std.specs.Prelude.{◌≡◌, ◌+◌, ◌≤◌, ◌++◌}
-use Rattle.cborn_wire.proofs.Common.{refl, sym, ap, ◌∙◌, subst, ℕ, List, [], length, Option, Some, None, Err, arith, append_assoc, length-append, option_to_list, AreBytes, Tree, Trees, no_item, more, trees, depth, spelled, Fits, Wellformed, PlacedAll, WireFault, WireReason, Truncated, OpenContainer, Fault, AreComplete, Feeding, Accepts, Refuses, RunsShort, Feeds, append_trees, Unfinished, nothing, State, Live, Failed, start, ready_in, held, run, IsReached, Stops, append-nil, depth_all, spelled_all, FitsAll, beginnings, all_from, partial_bytes}
+use Rattle.cborn_wire.proofs.Common.{refl, sym, ap, ◌∙◌, subst, ℕ, List, [], length, Option, Some, None, Err, arith, append_assoc, length-append, option_to_list, AreBytes, Tree, Trees, no_item, more, trees, depth, spelled, Fits, Wellformed, PlacedAll, WireFault, WireReason, Truncated, OpenContainer, Fault, AreComplete, Feeding, Accepts, Refuses, RunsShort, Feeds, append_trees, Unfinished, nothing, State, Live, Failed, start, ready_in, held, run, IsReached, Stops, append-nil, depth_all, spelled_all, FitsAll, all_from}
 use Rattle.cborn_model.proofs.Bytes.{bytes-append, bytes-right}
 use Rattle.cborn_wire.specs.declared.faults.WireFault.TheVariants as faults
 use Rattle.cborn_wire.specs.Feeding.{IsFed}
@@ -42,12 +44,7 @@ module _ (limit base : ℕ) where
     placed : PlacedAll base ready
 
   begins_live : (x : List ℕ) (fed : ℕ) (ready : Trees) (os : List OpenContainer) (partial : Unfinished) → SoundLive limit base x fed ready os partial → Begins x ready
-  begins_live x fed ready os partial h = record {
-    others = beginnings os ++ partial_bytes partial;
-    whole = h.bytes ∙ append_assoc (spelled_all ready) (beginnings os) (partial_bytes partial);
-    read = record { spells = refl; fit = h.ground.fit; shallow = h.ground.shallow };
-    placed = h.ground.placed;
-  }
+  begins_live x fed ready os partial h = grind (arith, common_steps, nat_tests)
 
   begins : (x : List ℕ) (s : State) → Sound limit base x s → Begins x (ready_in s)
   begins x (Live fed ready os partial) h = begins_live x fed ready os partial h
@@ -91,8 +88,7 @@ module _ (limit base : ℕ) where
       cut_short limit base (held (Live fed ready os partial)) r.1 fed ready os partial r.0 unfinished
 
   without : (t : Tree) (s : State) {fed : ℕ} {ts : Trees} {os : List OpenContainer} {partial : Unfinished} → with_front (more t no_item) s ≡ Live fed (more t ts) os partial → s ≡ Live fed ts os partial
-  without t (Live fed ready os partial) e = cc
-  without t (Failed ready p r) e = cc
+  without t s h = grind (arith, common_steps, nat_tests)
 
 -- the state once the first item was taken, if there is one, and with it the bytes that it spells
 pub taken : (limit base at : ℕ) (o : Option Tree) (items left : List Tree) (os : List OpenContainer) (partial : Unfinished) → items ≡ option_to_list o ++ left

@@ -1,12 +1,13 @@
 -- What a reader of items takes of a piece, item by item, as steps of the machine.
+use Rattle.std.proofs.lemmas.Grind.{common_steps}
+use Rattle.std.proofs.lemmas.Bool.Decides.{nat_tests}
 use Rattle.std.specs.Prelude.{◌≡◌, ◌∷◌, ◌++◌}
-use Rattle.cborn_wire.proofs.Common.{refl, sym, ap, ◌∙◌, subst, ℕ, List, [], length, Option, Some, None, Err, inl, inr, arith, nil_from_length, Tree, no_item, more, trees, IsSpelled, Partial, top, inside, Part, no_part, part, put, whole, VisitFault, Refused, Memory, input_level, Level, PartialHead, HeadReader, Nodes, ItemReader, nothing, State, Live, Failed, ready_in, start, run, AtMostOneMore, ready, open_in, unfinished, state, seen_head, IsFresh, IsInput, Missing, Stands, HereAt, MayEnd, IsFed, FailsAs, seen_string, seen_nodes, IsHeld, pending, seen, IsMade, take, length-append, option_to_list, length-take-le, Stops, Took, IsMoved}
+use Rattle.cborn_wire.proofs.Common.{refl, sym, ap, ◌∙◌, subst, ℕ, List, [], Option, Err, inl, inr, arith, Tree, no_item, more, trees, IsSpelled, Partial, top, inside, Part, no_part, put, whole, VisitFault, Refused, Memory, input_level, Level, PartialHead, HeadReader, Nodes, ItemReader, nothing, State, Live, Failed, ready_in, start, run, AtMostOneMore, ready, open_in, unfinished, IsFresh, IsInput, Missing, Stands, HereAt, MayEnd, IsFed, FailsAs, seen_string, seen_nodes, IsHeld, pending, seen, IsMade, take, length-append, option_to_list, length-take-le, Stops, Took, IsMoved}
 use Rattle.cborn_wire.specs.declared.levels.GrownLevels.{GrownLevels}
 use Rattle.cborn_wire.specs.shared.Visiting as visiting
 use Rattle.cborn_wire.specs.shared.Visiting.{levels as levels_of}
 use Rattle.cborn_wire.proofs.Machine.Running.{run-append}
 use Rattle.cborn_wire.proofs.Machine.SoundRuns.{reached_item}
-use Rattle.cborn_wire.proofs.Visiting.Taking.{outer_count}
 use Rattle.cborn_wire.proofs.Visiting.Pieces.{may_end_here}
 use Rattle.cborn_wire.proofs.Visiting.Ending.{fresh_fed}
 use Rattle.cborn_wire.specs.Visits.{wire_fault}
@@ -17,18 +18,7 @@ use Rattle.cborn_wire.proofs.Spelled.TreeLists.{trees-append}
 -- what the visitor holds is what it is seen as
 pub here_seen : (n : Nodes) (around : List Level) (l : Level) (left at : ℕ) (h : Option PartialHead) (s : State) → HereAt (IsHeld n) around l left at h s
     → s ≡ Live at (ready (seen_nodes n)) (open_in (seen_nodes n)) (pending h n.string)
-here_seen n around l left at None s h = h.is ∙ ap (λ f. state at f h.amid) h.held.0 ∙ ap (state at (seen_nodes n)) h.held.1
-here_seen n around l left at (Some g) s (short, f, held, keeps, takes, is) = is ∙ ap (λ f. Live at (ready f) (open_in f) (seen_head g)) held.0
-
--- another visitor that holds the same is here too
-pub here_held : (H K : Partial → Part → Type 0) → ((f : Partial) (c : Part) → H f c → K f c) → (around : List Level) (l : Level) (left at : ℕ) (h : Option PartialHead) (s : State)
-    → HereAt H around l left at h s → HereAt K around l left at h s
-here_held H K same around l left at None s h = record { partial = h.partial; amid = h.amid; held = same h.partial h.amid h.held; levels = h.levels; missing = h.missing; fits = h.fits; is = h.is }
-here_held H K same around l left at (Some g) s (short, f, held, keeps, takes, is) = (short, f, same f no_part held, keeps, takes, is)
-
-nothing_open : (f : Partial) → open_in f ≡ [] → f ≡ top (whole f)
-nothing_open (top ts) e = refl
-nothing_open (inside f o ts) e = cc
+here_seen n around l left at h s e = grind (arith, common_steps, nat_tests)
 
 -- A reader that is at the offset `at`, and nothing is open.
 pub fresh_made : (r : ItemReader) (limit at : ℕ) → IsFresh limit at r.heads → IsInput r.levels.outer.items r.levels.inner → IsHeld r.nodes (top []) no_part → IsMade r × (seen [] r ≡ start at)
@@ -38,32 +28,17 @@ fresh_made r limit at fresh input held =
     = ap (λ f. Live r.heads.at (ready f) (open_in (seen_nodes r.nodes)) (pending r.heads.head r.nodes.string)) held.0 ∙ sym (here_seen r.nodes r.levels.outer.items r.levels.inner r.heads.left r.heads.at r.heads.head (start at) fed.2) in
     (record { base = at; read = []; fed = fed; is = sym same }, same)
 
-none_missing : (left : ℕ) (c : Part) → Missing left c → left ≡ 0 → unfinished c ≡ nothing
-none_missing left no_part h e = refl
-none_missing left (part p k w n x) (all, some) e = absurd (omega (arith, some, e))
-
 -- The input may end exactly if nothing is open, and no head or string is partial.
 module _ (r : ItemReader) (made : IsMade r) where
   pub may_end : open_in (seen_nodes r.nodes) ≡ [] → pending r.heads.head r.nodes.string ≡ nothing → MayEnd r.levels.outer.items r.heads
-  may_end none still =
-      let now = run r.heads.limit (start made.base) made.read in
-      may_end_here (IsHeld r.nodes) r.levels.outer.items r.levels.inner r.heads now r.heads.at no_item made.fed.2
-      (made.is ∙ ap (λ os. Live r.heads.at no_item os (pending r.heads.head r.nodes.string)) none ∙ ap (Live r.heads.at no_item []) still)
+  may_end none still = grind (arith, common_steps, nat_tests)
 
   pub none_open : MayEnd r.levels.outer.items r.heads → (open_in (seen_nodes r.nodes) ≡ []) × (pending r.heads.head r.nodes.string ≡ nothing)
-  none_open (head, left, outer) =
-      let now = run r.heads.limit (start made.base) made.read in
-      let s : Stands (IsHeld r.nodes) r.levels.outer.items r.levels.inner r.heads.left r.heads.at now = subst (λ h. HereAt (IsHeld r.nodes) r.levels.outer.items r.levels.inner r.heads.left r.heads.at h now) head made.fed.2 in
-      let many = outer_count s.partial r.levels.outer.items r.levels.inner s.levels.0 in (
-        ap open_in (sym s.held.0) ∙ nil_from_length (open_in s.partial) (omega (arith, many, ap length outer)),
-        ap (λ h. pending h r.nodes.string) head ∙ ap unfinished (sym s.held.1) ∙ none_missing r.heads.left s.amid s.missing left,
-      )
+  none_open (head, left, outer) = grind (arith, common_steps, nat_tests)
 
 -- Reading fails as the machine does.
 pub fails_item : (old : ItemReader) (made : IsMade old) (piece : List ℕ) (e : VisitFault) → visiting.ReadsItem old.heads.limit made.base made.read piece (Err e) → FailsAs no_item (run old.heads.limit (seen [] old) piece) e
-fails_item old made piece (Refused p r) h =
-    ap (λ u. run old.heads.limit u piece) (sym made.is) ∙ sym (run-append old.heads.limit (start made.base) made.read piece) ∙ h ∙ ap (λ ts. Failed ts p r) (ap ready_in made.is)
-fails_item old made piece (Memory e) h = tt
+fails_item old made piece e h = grind (arith, run-append)
 
 -- After these bytes heads, levels and nodes are what they are here.
 module _ (old : ItemReader) (made : IsMade old) (heads : HeadReader) (levels : GrownLevels) (nodes : Nodes) (y : List ℕ) (same : heads.limit ≡ old.heads.limit)
@@ -78,33 +53,12 @@ module _ (old : ItemReader) (made : IsMade old) (heads : HeadReader) (levels : G
   comes = ap (λ u. run old.heads.limit u y) (sym made.is) ∙ sym (run-append old.heads.limit (start made.base) made.read y) ∙ ap (λ k. run k (start made.base) (made.read ++ y)) (sym same)
 
   one_more : AtMostOneMore (ready_in (run old.heads.limit (start made.base) made.read)) (run old.heads.limit (start made.base) (made.read ++ y)) → AtMostOneMore no_item now
-  one_more h =
-      subst (λ ts. AtMostOneMore ts now) (ap ready_in made.is)
-      (subst (λ k. AtMostOneMore (ready_in (run old.heads.limit (start made.base) made.read)) (run k (start made.base) (made.read ++ y))) (sym same) h)
-
-  -- no item is whole
-  none_ready : ((ts : List Tree) → seen_nodes nodes ≡ top ts → ts ≡ []) → AtMostOneMore no_item now → ready (seen_nodes nodes) ≡ no_item
-  none_ready none (inl e) = ap ready_in (sym is_now) ∙ e
-  none_ready none (inr (at, t, e)) =
-      let all = nothing_open (seen_nodes nodes) (cc (sym is_now ∙ e)) in
-      ap ready all ∙ ap trees (none (whole (seen_nodes nodes)) all)
+  one_more h = grind (arith, common_steps, nat_tests)
 
   pub no_item_whole : (next : Nodes) → seen_nodes next ≡ seen_nodes nodes → next.string ≡ nodes.string → ((ts : List Tree) → seen_nodes nodes ≡ top ts → ts ≡ [])
       → AtMostOneMore (ready_in (run old.heads.limit (start made.base) made.read)) (run old.heads.limit (start made.base) (made.read ++ y))
       → let r : ItemReader = record { heads = heads; levels = levels; nodes = next } in IsMade r × (run old.heads.limit (seen [] old) y ≡ seen [] r)
-  no_item_whole next is string none at_most =
-      let is_next : now ≡ Live heads.at no_item (open_in (seen_nodes next)) (pending heads.head next.string)
-      = is_now ∙ ap (λ ts. Live heads.at ts (open_in (seen_nodes nodes)) (pending heads.head nodes.string)) (none_ready none (one_more at_most))
-      ∙ ap (λ f. Live heads.at no_item (open_in f) (pending heads.head nodes.string)) (sym is) ∙ ap (λ s. Live heads.at no_item (open_in (seen_nodes next)) (pending heads.head s)) (sym string) in
-      let hands : (f : Partial) (c : Part) → IsHeld nodes f c → IsHeld next f c = λ f c h. (h.0 ∙ sym is, h.1 ∙ ap seen_string (sym string)) in (
-        record {
-          base = made.base;
-          read = made.read ++ y;
-          fed = (fed.0, fed.1, here_held (IsHeld nodes) (IsHeld next) hands levels.outer.items levels.inner heads.left heads.at heads.head now fed.2);
-          is = is_next;
-        },
-        comes ∙ is_next,
-      )
+  no_item_whole next is string none at_most = grind (arith, comes, is_now, one_more, common_steps, nat_tests)
 
   -- one item is whole, the node t
   module _ (t : Tree) (next : Nodes) (is : seen_nodes nodes ≡ put (seen_nodes next) t) (bare : seen_nodes next ≡ top (whole (seen_nodes next))) where
@@ -153,8 +107,7 @@ module _ (old : ItemReader) (made : IsMade old) (heads : HeadReader) (levels : G
         with_one (Failed ts p r) = Failed ts p r
 
         part_none : (n : ℕ) (c : Part) → Missing n c → n ≡ 0 → c ≡ no_part
-        part_none n no_part h e = refl
-        part_none n (part p k w m x) (all, some) e = absurd (omega (arith, some, e))
+        part_none n c h e = grind (arith, common_steps, nat_tests)
 
 -- What is read doesn't depend on the items that were whole before.
 module _ (r : ItemReader) (items : List Tree) (x : List ℕ) where
@@ -163,14 +116,8 @@ module _ (r : ItemReader) (items : List Tree) (x : List ℕ) where
       ap (λ ts. run r.heads.limit (Live r.heads.at ts (open_in (seen_nodes r.nodes)) (pending r.heads.head r.nodes.string)) x) (sym (append_trees-nil (trees items)))
       ∙ front_run (trees items) r.heads.limit x (seen [] r)
 
-  after_items : (new : ItemReader) (others : List Tree) → run r.heads.limit (seen [] r) x ≡ seen others new → run r.heads.limit (seen items r) x ≡ seen (items ++ others) new
-  after_items new others e =
-      from_none ∙ ap (with_front (trees items)) e
-      ∙ ap (λ ts. Live new.heads.at ts (open_in (seen_nodes new.nodes)) (pending new.heads.head new.nodes.string)) (sym (trees-append items others))
-
   fails_after : (e : VisitFault) → FailsAs no_item (run r.heads.limit (seen [] r) x) e → FailsAs (trees items) (run r.heads.limit (seen items r) x) e
-  fails_after (Refused p reason) h = from_none ∙ ap (with_front (trees items)) h ∙ ap (λ ts. Failed ts p reason) (append_trees-nil (trees items))
-  fails_after (Memory e) h = tt
+  fails_after e h = grind (arith, append_trees-nil, from_none, with_front)
 
 -- The front y of the piece was read, and the rest is to come.
 module _ (old : ItemReader) (before : List Tree) (now : ItemReader) (items : List Tree) (piece y rest : List ℕ) (cut : piece ≡ y ++ rest) (m : IsMoved old before now items y) where
@@ -182,10 +129,4 @@ module _ (old : ItemReader) (before : List Tree) (now : ItemReader) (items : Lis
 
   pub then_moved : (next : ItemReader) (n : ℕ) (item : Option Tree) (left : List Tree) → Took rest now next n item → next.heads.limit ≡ now.heads.limit → left ≡ items ++ option_to_list item
       → IsMoved old before next left (y ++ take n rest)
-  then_moved next n item left t limit added = record {
-    made = t.made;
-    limit = limit ∙ m.limit;
-    at = omega (arith, t.at, m.at, length-append y (take n rest), length-take-le n rest t.within);
-    goes = run-append old.heads.limit (seen before old) y (take n rest) ∙ ap (λ u. run old.heads.limit u (take n rest)) m.goes ∙ ap (λ k. run k (seen items now) (take n rest)) (sym m.limit)
-        ∙ after_items now items (take n rest) next (option_to_list item) t.goes ∙ ap (λ l. seen l next) (sym added);
-  }
+  then_moved next n item left t limit added = grind (arith, length-append, length-take-le, run-append, from_none, trees-append, with_front)

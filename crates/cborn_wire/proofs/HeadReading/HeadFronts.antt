@@ -1,6 +1,8 @@
 -- What `read_head` answers, at each kind of initial byte.
+use Rattle.std.proofs.lemmas.Grind.{common_steps}
+use Rattle.std.proofs.lemmas.Bool.Decides.{nat_tests}
 use Rattle.std.specs.Prelude.{◌≡◌, ◌+◌, ◌-◌, ◌*◌, ◌/◌, ◌%◌, ◌<◌, ◌≤◌, ◌∷◌, ◌++◌}
-use Rattle.cborn_wire.proofs.Common.{refl, sym, ap, ◌∙◌, subst, ℕ, zero, suc, List, [], length, take, drop, get_or, true, false, None, arith, length-append, take-append-drop, length-take-le, length-replicate, AreBytes, Width, Direct, One, Two, Four, Eight, Major, Unsigned, Other, code, information, following, major_at, reason_alone, IsHeadOf, IsFrontOfHead, ReadsHead, element_or_end, Info, Now, Next, EndlessInformation, info_at, is_endless_head, is_always_bounded, is_other, head_reason, width_bytes, number}
+use Rattle.cborn_wire.proofs.Common.{refl, sym, ap, ◌∙◌, subst, ℕ, zero, suc, List, [], length, take, drop, get_or, true, false, None, arith, length-append, take-append-drop, length-take-le, length-replicate, AreBytes, Width, Direct, Major, Unsigned, Other, code, information, following, major_at, reason_alone, IsHeadOf, IsFrontOfHead, ReadsHead, element_or_end, Info, Now, Next, EndlessInformation, info_at, is_endless_head, is_always_bounded, is_other, head_reason, width_bytes, number}
 use Rattle.std.proofs.Math.ListN.{replicate}
 use Rattle.cborn_model.specs.Heads as heads
 use Rattle.cborn_model.proofs.Bytes.{bytes-append, bytes-left}
@@ -8,16 +10,14 @@ use Rattle.cborn_wire.specs.declared.heads.Argument.TheVariants.{Given, Endless}
 use Rattle.cborn_wire.specs.declared.heads.HeadRead.{HeadRead}
 use Rattle.cborn_wire.proofs.HeadReading.InitialBytes.{same_alone}
 use Rattle.cborn_wire.proofs.Machine.TakesHeads.{info_at-now}
-use Rattle.cborn_wire.proofs.Machine.SoundRuns.{code_at, IsWide, InfoIs, info_is, again, wide_information}
+use Rattle.cborn_wire.proofs.Machine.SoundRuns.{code_at, IsWide, InfoIs, info_is, again}
 
 module _ (y : List ℕ) where
   pub now_free : (m : Major) (n : ℕ) → head_reason element_or_end false m (Now n) y ≡ None
-  now_free Unsigned n = refl
-  now_free m n = refl
+  now_free m n = grind (arith, common_steps, nat_tests)
 
   endless_free : (m : Major) → is_always_bounded m ≡ false → head_reason element_or_end false m EndlessInformation y ≡ None
-  endless_free Unsigned e = cc
-  endless_free m e = cc
+  endless_free m h = grind (arith, common_steps, nat_tests)
 
   pub direct_head : (b : ℕ) → b < 256 → b % 32 < 24 → IsHeadOf (b ∷ y) (record { major = b / 32; argument = Given Direct (b % 32) }) 1
   direct_head b small h =
@@ -46,9 +46,7 @@ module _ (y : List ℕ) where
 
   -- the initial byte of a head with a wide argument
   wide_first : (b m n : ℕ) (w : Width) → m < 8 → b / 32 ≡ m → info_at (b % 32) ≡ Next w → (b ≡ 32 * code (major_at m) + information w n) × IsWide w
-  wide_first b m n w small e i =
-      let low : (b % 32 ≡ information w 0) × IsWide w = subst (InfoIs (b % 32)) i (info_is (b % 32)) in
-      (omega (arith, code_at m small, e, low.0, wide_information w n low.1), low.1)
+  wide_first b m n w small e i = grind (arith, common_steps, nat_tests)
 
   pub wide_head : (b m n k : ℕ) (w : Width) → m < 8 → b / 32 ≡ m → info_at (b % 32) ≡ Next w → AreBytes y → width_bytes w ≤ length y → n ≡ number w (take (width_bytes w) y) → k ≡ width_bytes w → reason_alone (b ∷ y) ≡ None
       → IsHeadOf (b ∷ y) (record { major = m; argument = Given w n }) (1 + k)
@@ -93,49 +91,21 @@ pub no_head : (x : List ℕ) → length x < 1 → IsFrontOfHead x
 no_head [] h = record { major = Unsigned; argument = heads.Given Direct 0; missing = 0 ∷ []; fits = omega arith; whole = refl; some = omega arith; free = refl }
 no_head (b ∷ x) h = absurd (omega arith)
 
-endless_information_is : (i : Info) → is_endless_head i ≡ true → i ≡ EndlessInformation
-endless_information_is EndlessInformation e = refl
-endless_information_is i e = cc
-
-no_other : (m : Major) → (m ≡ Other → ⊥) → is_other (major_at (code m)) ≡ false
-no_other Other h = absurd (h refl)
-no_other m h = refl
-
 pub code_small : (m : Major) → code m < 8
-code_small Unsigned = omega arith
-code_small m = omega arith
-
-next_free : (y : List ℕ) (m : Major) (w : Width) → is_other m ≡ false → head_reason element_or_end false m (Next w) y ≡ None
-next_free y Other w e = cc
-next_free y m w e = refl
+code_small m = grind (arith, common_steps, nat_tests)
 
 pub direct_front : (x : List ℕ) (m : Major) → AreBytes x → 1 ≤ length x → code m ≡ get_or x 0 0 / 32 → get_or x 0 0 % 32 < 24
     → IsHeadOf x (record { major = code m; argument = Given Direct (get_or x 0 0 % 32) }) 1
-direct_front [] m are h first low = absurd (omega arith)
-direct_front (b ∷ y) m are h first low =
-    subst (λ (n : ℕ). IsHeadOf (b ∷ y) (record { major = n; argument = Given Direct (b % 32) }) 1) (sym first) (direct_head y b are.0 low)
+direct_front x m h e g k = grind (arith, common_steps, nat_tests, direct_head)
 
 pub endless_front : (x : List ℕ) (r : HeadRead) (m : Major) → 1 ≤ length x → code m ≡ get_or x 0 0 / 32 → is_endless_head (info_at (get_or x 0 0 % 32)) ≡ true
     → ((b : ℕ) (y : List ℕ) → b / 32 ≡ code m → info_at (b % 32) ≡ EndlessInformation → ReadsHead (b ∷ y) r) → ReadsHead x r
-endless_front [] r m h first e reads = absurd (omega arith)
-endless_front (b ∷ y) r m h first e reads = reads b y (sym first) (endless_information_is (info_at (b % 32)) e)
+endless_front x r m h e g k = grind (arith, common_steps, nat_tests)
 
 pub wide_fronts : (x rest : List ℕ) (r : HeadRead) (m : Major) (w : Width) → rest ≡ drop 1 x → 1 ≤ length x → code m ≡ get_or x 0 0 / 32 → info_at (get_or x 0 0 % 32) ≡ Next w → (m ≡ Other → ⊥)
     → ((b : ℕ) → b / 32 ≡ code m → info_at (b % 32) ≡ Next w → reason_alone (b ∷ rest) ≡ None → ReadsHead (b ∷ rest) r) → ReadsHead x r
-wide_fronts [] rest r m w same h first i e reads = absurd (omega arith)
-wide_fronts (b ∷ y) rest r m w same h first i e reads =
-    let other : is_other (major_at (b / 32)) ≡ false = ap (λ n. is_other (major_at n)) (sym first) ∙ no_other m e in
-    subst (λ (l : List ℕ). ReadsHead (b ∷ l) r) same (reads b (sym first) i (same_alone b rest ∙ ap (λ j. head_reason element_or_end false (major_at (b / 32)) j rest) i ∙ next_free rest (major_at (b / 32)) w other))
+wide_fronts x rest r m w h e g k a b = grind (arith, common_steps, nat_tests)
 
 -- The front of a head that isn't whole announces an argument of one byte or more.
 pub short_front : (x : List ℕ) → 0 < length x → IsFrontOfHead x → (24 ≤ get_or x 0 0 % 32) × (get_or x 0 0 % 32 ≤ 27)
-short_front [] some f = absurd (omega (arith, some))
-short_front (b ∷ x) some f = go f.argument f.whole
-  where
-    go : (a : heads.Argument) → b ∷ (x ++ f.missing) ≡ heads.head f.major a → (24 ≤ b % 32) × (b % 32 ≤ 27)
-    go (heads.Given Direct n) e = absurd (omega (arith, ap length e, length-append x f.missing, f.some))
-    go (heads.Given One n) e = let first : b ≡ 32 * code f.major + 24 = cc in (omega (arith, first), omega (arith, first))
-    go (heads.Given Two n) e = let first : b ≡ 32 * code f.major + 25 = cc in (omega (arith, first), omega (arith, first))
-    go (heads.Given Four n) e = let first : b ≡ 32 * code f.major + 26 = cc in (omega (arith, first), omega (arith, first))
-    go (heads.Given Eight n) e = let first : b ≡ 32 * code f.major + 27 = cc in (omega (arith, first), omega (arith, first))
-    go heads.EndlessArgument e = absurd (omega (arith, ap length e, length-append x f.missing, f.some))
+short_front x h e = grind (arith, length-append)

@@ -1,40 +1,24 @@
 -- The machine takes what `read_head` reads.
-use Rattle.std.specs.Prelude.{◌≡◌, ◌+◌, ◌/◌, ◌%◌, ◌<◌, ◌≤◌, ◌∷◌, ◌++◌, ◌&&◌}
-use Rattle.cborn_wire.proofs.Common.{refl, sym, ap, ◌∙◌, ℕ, suc, List, [], length, take, get_or, Bool, true, false, cond, leb, Option, Some, None, arith, append-nil, length-append, add-one, take_all, take-append-le, length-take, take_more, take_more_set, slice_set, Width, Direct, Major, Other, Argument, Given, EndlessArgument, head, Trees, WireReason, BadSimple, TooDeep, UnexpectedBreak, Head, major_at, seen_argument, reason_alone, IsHeadOf, built, Slot, item, element_or_end, OpenContainer, opened, slot, slot_in, open_depth, needs_item, begins_low, Info, EndlessInformation, info_at, is_break, is_other, is_one, is_container, head_reason, width_bytes, number, argument_of, nothing, gathering, State, Live, Failed, finished, ended, after_head, unless, at_slot, run}
-use Rattle.std.proofs.Math.Bool.{and-false}
+use Rattle.std.proofs.lemmas.Grind.{common_steps}
+use Rattle.std.specs.Prelude.{◌≡◌, ◌+◌, ◌/◌, ◌%◌, ◌<◌, ◌≤◌, ◌∷◌, ◌++◌}
+use Rattle.cborn_wire.proofs.Common.{refl, sym, ap, ◌∙◌, ℕ, suc, List, [], length, take, get_or, Bool, false, cond, leb, Some, None, arith, append-nil, length-append, add-one, take_more, slice_set, Width, Major, Other, Argument, Given, head, Trees, WireReason, UnexpectedBreak, Head, major_at, seen_argument, reason_alone, IsHeadOf, Slot, element_or_end, OpenContainer, slot, open_depth, needs_item, Info, EndlessInformation, info_at, head_reason, width_bytes, number, argument_of, nothing, gathering, State, Live, Failed, ended, after_head, unless, at_slot, run}
+use Rattle.std.proofs.lemmas.Bool.Decides.{nat_tests}
 use Rattle.cborn_wire.proofs.HeadReading.InitialBytes.{same_alone}
-use Rattle.cborn_wire.proofs.Machine.Pieces.{takes_whole_head, refuses_first, argument_done}
-use Rattle.cborn_wire.proofs.Machine.SoundSteps.{is_clear}
+use Rattle.cborn_wire.proofs.Machine.Pieces.{takes_whole_head, refuses_first}
 use Rattle.cborn_wire.proofs.Machine.SomeEnd.{refused_run}
 
-fills : (w : Width) → width_bytes w ≤ 8
-fills Direct = omega arith
-fills w = omega arith
-
 pub head_some : (m : Major) (a : Argument) → 0 < length (head m a)
-head_some m (Given w n) = omega arith
-head_some m EndlessArgument = omega arith
+head_some m a = grind (arith, common_steps, nat_tests)
 
 pub head_front : (piece : List ℕ) (h : Head) (n : ℕ) → IsHeadOf piece h n → take n piece ≡ head (major_at h.major) (seen_argument h.argument)
-head_front piece h n i =
-    let x = head (major_at h.major) (seen_argument h.argument) in
-    ap (take n) i.whole ∙ ap (λ k. take k (x ++ i.rest)) i.len ∙ take-append-le (length x) x i.rest (omega arith) ∙ take_all (length x) x (omega arith)
+head_front piece h n i = grind (arith, common_steps, nat_tests)
 
 module _ (limit at : ℕ) (ready : Trees) (os : List OpenContainer) where
   -- The last byte of an argument, of which n bytes came.
   pub argument_ends : (p : ℕ) (m : Major) (w : Width) (bytes piece : List ℕ) (n v : ℕ) → length bytes ≡ 8 → length (take n bytes) < width_bytes w → 0 < length piece
       → let all = take (n + 1) (slice_set bytes n (get_or piece 0 0)) in width_bytes w ≤ length all → v ≡ number w (take (width_bytes w) all)
       → run limit (Live at ready os (gathering p (argument_of m w) (width_bytes w) (take n bytes))) (take 1 piece) ≡ after_head (at + 1) p ready os m (Given w v)
-  argument_ends p m w bytes piece n v eight short some full value =
-      let got = take n bytes in
-      let all = take (n + 1) (slice_set bytes n (get_or piece 0 0)) in
-      let is : all ≡ got ++ get_or piece 0 0 ∷ [] = take_more_set bytes n (get_or piece 0 0) (omega (arith, eight, length-take n bytes, fills w, short)) in
-      let many : length all ≡ length got + 1 = ap length is ∙ length-append got (get_or piece 0 0 ∷ []) in
-      let whole : take (width_bytes w) all ≡ all = take_all (width_bytes w) all (omega (arith, many, short)) in
-      ap (run limit (Live at ready os (gathering p (argument_of m w) (width_bytes w) got))) (take_more piece 0 0 some)
-      ∙ argument_done limit at ready os p m w (width_bytes w) got (get_or piece 0 0) (omega (arith, many, full))
-      ∙ ap (λ k. after_head k p ready os m (Given w (number w (got ++ get_or piece 0 0 ∷ [])))) (sym (add-one at))
-      ∙ ap (λ k. after_head (at + 1) p ready os m (Given w k)) (sym (value ∙ ap (number w) (whole ∙ is)))
+  argument_ends p m w bytes piece n v eight short some full value = grind (arith, common_steps, nat_tests)
 
   -- An initial byte that isn't allowed there.
   pub first_refused : (piece : List ℕ) (r : WireReason) → 0 < length piece → Some r ≡ head_reason (slot os) (leb limit (open_depth os)) (major_at (get_or piece 0 0 / 32)) (info_at (get_or piece 0 0 % 32)) []
@@ -61,18 +45,7 @@ module _ (limit at : ℕ) (ready : Trees) (os : List OpenContainer) where
 
 -- A reason that the initial byte alone doesn't give follows from the second byte, wherever the head is.
 bad_simple : (s : Slot) (full : Bool) (m : Major) (i : Info) (y : List ℕ) (r : WireReason) → head_reason s full m i [] ≡ None → head_reason element_or_end false m i y ≡ Some r → head_reason s full m i y ≡ Some r
-bad_simple s full m i y r none e =
-    let c = is_clear s full m i [] none in
-    rw (c.reserved, c.bounded, c.chunked, c.broken, c.float, c.room) (again e)
-  where
-    last : (a b : Bool) (x : Option WireReason) → cond a x (cond (b && false) (Some TooDeep) None) ≡ Some r → cond a x None ≡ Some r
-    last a true x e = e
-    last a false x e = e
-
-    again : head_reason element_or_end false m i y ≡ Some r → cond (is_other m && is_one i && begins_low y) (Some BadSimple) None ≡ Some r
-    again e =
-        let c = is_clear s full m i [] none in
-        last (is_other m && is_one i && begins_low y) (is_container m) (Some BadSimple) (rw (c.reserved, c.bounded, and-false (is_break m i), c.float) at e)
+bad_simple s full m i y r none e = grind (arith, nat_tests)
 
 pub second_refused : (limit at : ℕ) (ready : Trees) (os : List OpenContainer) (piece : List ℕ) (r : WireReason) → 0 < length piece
     → None ≡ head_reason (slot os) (leb limit (open_depth os)) (major_at (get_or piece 0 0 / 32)) (info_at (get_or piece 0 0 % 32)) [] → reason_alone piece ≡ Some r
@@ -82,24 +55,12 @@ second_refused limit at ready os (b ∷ y) r some none e =
     refused_run limit (b ∷ y) at ready os r (bad_simple (slot os) (leb limit (open_depth os)) (major_at (b / 32)) (info_at (b % 32)) y r (sym none) (sym (same_alone b y) ∙ e))
 
 pub head_fits : (piece : List ℕ) (h : Head) (n : ℕ) → IsHeadOf piece h n → (0 < n) × (n ≤ length piece)
-head_fits piece h n i =
-    (omega (arith, i.len, head_some (major_at h.major) (seen_argument h.argument)), omega (arith, i.len, ap length i.whole, length-append (head (major_at h.major) (seen_argument h.argument)) i.rest))
+head_fits piece h n i = grind (arith, head_some, length-append)
 
 -- a break, which says by itself where it isn't allowed
 
-break_reason : (s : Slot) (full : Bool) → head_reason s full Other EndlessInformation [] ≡ cond (needs_item s) (Some UnexpectedBreak) None
-break_reason item full = refl
-break_reason s full = refl
-
-unless_needed : (b : Bool) (rd : Trees) (p : ℕ) (s : State) → unless (cond b (Some UnexpectedBreak) None) rd p (cond b (Failed rd p UnexpectedBreak) s) ≡ cond b (Failed rd p UnexpectedBreak) s
-unless_needed true rd p s = refl
-unless_needed false rd p s = refl
-
 break_ended : (limit at : ℕ) (rd : Trees) (os : List OpenContainer) → at_slot limit at rd os Other EndlessInformation ≡ ended (suc at) at rd os
-break_ended limit at rd [] = refl
-break_ended limit at rd (opened o ts ∷ os) =
-    ap (λ r. unless r rd at (ended (suc at) at rd (opened o ts ∷ os))) (break_reason (slot_in (opened o ts)) (leb limit (open_depth (opened o ts ∷ os))))
-    ∙ unless_needed (needs_item (slot_in (opened o ts))) rd at (finished (suc at) rd os (built o ts))
+break_ended limit at rd os = grind (arith, common_steps, nat_tests)
 
 pub break_taken : (limit at : ℕ) (rd : Trees) (os : List OpenContainer) (piece : List ℕ) → 0 < length piece → get_or piece 0 0 ≡ 255 → run limit (Live at rd os nothing) (take 1 piece) ≡ ended (at + 1) at rd os
 break_taken limit at rd os piece some e = ap (run limit (Live at rd os nothing)) (take_more piece 0 0 some ∙ ap (λ b. b ∷ []) e) ∙ break_ended limit at rd os ∙ ap (λ k. ended k at rd os) (sym (add-one at))

@@ -1,6 +1,8 @@
 -- A container and the nodes in it: when more may come, when it is whole, and what it is then.
+use Rattle.std.proofs.lemmas.Grind.{common_steps}
+use Rattle.std.proofs.lemmas.Bool.Decides.{nat_tests}
 use Rattle.std.specs.Prelude.{◌≡◌, ◌+◌, ◌/◌, ◌%◌, ◌<◌, ◌≤◌, ◌∷◌, ◌++◌}
-use Rattle.cborn_wire.proofs.Common.{refl, sym, ap, ◌∙◌, subst, ℕ, suc, List, [], length, map, true, false, Option, Some, None, arith, append_assoc, append-nil, add-one, length_push, leb-true, leb-false, lt-leb, flat_map, Size, Fixed, Endless, Array, Map, Tag, Chunk, WidthFits, Given, EndlessArgument, head, argument, SizeFits, Tree, Bytes, Text, ByteChunks, TextChunks, more, Entries, no_entry, entry, trees, entries, depth, depth_all, depth_entries, ending, chunk_bytes, spelled, spelled_all, spelled_entries, ChunksFit, Fits, FitsAll, FitsEntries, ChunksPlaced, Placed, PlacedAll, PlacedEntries, Opening, an_array, a_map, a_tag, in_chunks, paired, last_key, chunks_of, built, ended_size, IsAll, IsString, AreStrings, Goes, Ends, string_of, StringKind, OfBytes, OfText, major_of, opened, announced, opening, slot_in, slot_in_map, added_depth, Announces, HeadFits, needs_item, chunks_from, placed_from, all_from, entries_from, is_full, place_of}
+use Rattle.cborn_wire.proofs.Common.{refl, sym, ap, ◌∙◌, subst, ℕ, suc, List, [], length, map, true, false, Option, Some, None, arith, append_assoc, append-nil, add-one, length_push, leb-true, leb-false, lt-leb, flat_map, Size, Endless, Array, Map, Tag, Chunk, Given, EndlessArgument, head, argument, SizeFits, Tree, Bytes, Text, ByteChunks, TextChunks, more, Entries, no_entry, entry, trees, entries, depth, depth_all, depth_entries, ending, chunk_bytes, spelled, spelled_all, spelled_entries, ChunksFit, Fits, FitsAll, FitsEntries, ChunksPlaced, Placed, PlacedAll, PlacedEntries, Opening, an_array, a_map, a_tag, in_chunks, paired, last_key, chunks_of, built, ended_size, IsAll, IsString, AreStrings, Goes, Ends, string_of, StringKind, OfBytes, OfText, major_of, opened, announced, opening, slot_in, added_depth, Announces, HeadFits, needs_item, chunks_from, placed_from, all_from, entries_from, is_full, place_of}
 use Rattle.cborn_model.proofs.Listed.Trees.{count-trees, count_entries-entries}
 use Rattle.cborn_model.proofs.HandedOver.{strings, strings_are}
 
@@ -18,11 +20,6 @@ pub no_key : (ts : List Tree) → length ts % 2 ≡ 0 → last_key ts ≡ None
 no_key [] e = refl
 no_key (k ∷ []) e = absurd (omega (arith, e))
 no_key (k ∷ v ∷ ts) e = no_key ts (omega (arith, e))
-
-pub key_next : (ts : List Tree) (t : Tree) → last_key ts ≡ None → (paired (ts ++ t ∷ []) ≡ paired ts) × (last_key (ts ++ t ∷ []) ≡ Some t)
-key_next [] t e = (refl, refl)
-key_next (k ∷ []) t e = cc
-key_next (k ∷ v ∷ ts) t e = let h = key_next ts t e in (ap (λ l. (k, v) ∷ l) h.0, h.1)
 
 pub value_next : (ts : List Tree) (t k : Tree) → last_key ts ≡ Some k → (paired (ts ++ t ∷ []) ≡ paired ts ++ (k, t) ∷ []) × (last_key (ts ++ t ∷ []) ≡ None)
 value_next [] t k e = cc
@@ -77,45 +74,25 @@ Belongs _ t = Unit {0}
 -- When it is whole.
 
 pub not_full : (o : Opening) (ts : List Tree) (n : ℕ) → Goes o ts → n ≤ length ts → is_full o n ≡ false
-not_full (an_array p s (Some m)) ts n h up = lt-leb m n (omega (arith, h, up))
-not_full (a_map p s (Some m)) ts n h up = lt-leb m (n / 2) (omega (arith, h, up, pair_count ts))
-not_full (a_tag p w m) ts n h up = lt-leb 1 n (omega (arith, ap length h, up))
-not_full o ts n h up = refl
+not_full o ts n h e = grind (arith, lt-leb, pair_count)
 
 -- Before its last node it isn't.
 pub not_yet : (o : Opening) (ts : List Tree) (n : ℕ) → Ends o ts → n < length ts → is_full o n ≡ false
-not_yet (an_array p s (Some m)) ts n h up = lt-leb m n (omega (arith, h, up))
-not_yet (a_map p s (Some m)) ts n h up = lt-leb m (n / 2) (omega (arith, h.0, up, pair_count ts, even ts h.1))
-not_yet (a_tag p w m) ts n (t, e) up = lt-leb 1 n (omega (arith, ap length e, up))
-not_yet o ts n h up = refl
+not_yet o ts n h e = grind (arith, even, lt-leb, pair_count)
 
 -- with one more node
 pub goes_on : (o : Opening) (ts : List Tree) (t : Tree) → Goes o ts → Belongs o t → is_full o (length (ts ++ t ∷ [])) ≡ false → Goes o (ts ++ t ∷ [])
-goes_on (an_array p s (Some m)) ts t h is e = leb-false m (length (ts ++ t ∷ [])) e
-goes_on (a_map p s (Some m)) ts t h is e = omega (arith, leb-false m (length (ts ++ t ∷ []) / 2) e, pair_count (ts ++ t ∷ []))
-goes_on (a_tag p w m) ts t h is e = absurd (omega (arith, leb-false 1 (length (ts ++ t ∷ [])) e, length_push ts t))
-goes_on (in_chunks p k) ts t h is e = strings_push k ts t h is
-goes_on o ts t h is e = tt
+goes_on o ts t h e g = grind (arith, leb-false, length_push, pair_count, strings_push)
 
 pub goes_whole : (o : Opening) (ts : List Tree) (t : Tree) → Goes o ts → is_full o (length (ts ++ t ∷ [])) ≡ true → Ends o (ts ++ t ∷ [])
-goes_whole (an_array p s (Some m)) ts t h e = omega (arith, leb-true m (length (ts ++ t ∷ [])) e, h, length_push ts t)
-goes_whole (a_map p s (Some m)) ts t h e =
-    let all = leb-true m (length (ts ++ t ∷ []) / 2) e in
-    (omega (arith, all, h, length_push ts t, pair_count ts, pair_count (ts ++ t ∷ [])), no_key (ts ++ t ∷ []) (omega (arith, all, h, length_push ts t, pair_count ts)))
-goes_whole (a_tag p w m) ts t h e = (t, ap (λ us. us ++ t ∷ []) h)
-goes_whole o ts t h e = cc
+goes_whole o ts t h e = grind (arith, leb-true, length_push, no_key, pair_count)
 
 -- what is full before any node
 pub empty_goes : (o : Opening) → is_full o 0 ≡ false → Goes o []
-empty_goes (an_array p s (Some m)) e = leb-false m 0 e
-empty_goes (a_map p s (Some m)) e = leb-false m 0 e
-empty_goes (a_tag p w m) e = refl
-empty_goes o e = tt
+empty_goes o h = grind (arith, common_steps, nat_tests)
 
 pub empty_whole : (o : Opening) → is_full o 0 ≡ true → Ends o []
-empty_whole (an_array p s (Some m)) e = omega (arith, leb-true m 0 e)
-empty_whole (a_map p s (Some m)) e = (omega (arith, leb-true m 0 e), refl)
-empty_whole o e = cc
+empty_whole o h = grind (arith, common_steps, nat_tests)
 
 -- What it is when it ends.
 
@@ -133,30 +110,15 @@ closing (in_chunks p k) = ending Endless
 
 -- none, where it is whole by the number in its head
 pub full_closing : (o : Opening) (n : ℕ) → is_full o n ≡ true → closing o ≡ []
-full_closing (an_array p s (Some m)) n e = refl
-full_closing (a_map p s (Some m)) n e = refl
-full_closing o n e = cc
+full_closing o n h = grind (arith, common_steps, nat_tests)
 
 -- Where it isn't whole by a number, a break ends it.
 pub endless_closing : (o : Opening) (ts : List Tree) → Ends o ts → is_full o (length ts) ≡ false → (closing o ≡ ending Endless) × (needs_item (slot_in (opened o ts)) ≡ false)
-endless_closing (an_array p s (Some n)) ts h e = absurd (omega (arith, leb-false n (length ts) e, h))
-endless_closing (an_array p s None) ts h e = (refl, refl)
-endless_closing (a_map p s (Some n)) ts h e = absurd (omega (arith, leb-false n (length ts / 2) e, h.0, pair_count ts))
-endless_closing (a_map p s None) ts h e = (refl, ap (λ k. needs_item (slot_in_map None k)) h.1)
-endless_closing (a_tag p w m) ts (t, is) e = absurd (omega (arith, leb-false 1 (length ts) e, ap length is))
-endless_closing (in_chunks p k) ts h e = (refl, refl)
+endless_closing o ts h e = grind (arith, leb-false, pair_count)
 
 -- Where a break may be, it may end.
 pub break_ends : (o : Opening) (ts : List Tree) → Goes o ts → needs_item (slot_in (opened o ts)) ≡ false → Ends o ts × (closing o ≡ ending Endless)
-break_ends (an_array p s None) ts h e = (tt, refl)
-break_ends (a_map p s c) ts h e = in_map c (last_key ts) refl e
-  where
-    in_map : (c : Option ℕ) (x : Option Tree) → last_key ts ≡ x → needs_item (slot_in_map c x) ≡ false → Ends (a_map p s c) ts × (closing_of c ≡ ending Endless)
-    in_map c (Some k) is e = cc
-    in_map (Some n) None is e = cc
-    in_map None None is e = ((tt, is), refl)
-break_ends (in_chunks p k) ts h e = (h, refl)
-break_ends o ts h e = cc
+break_ends o ts h e = grind arith
 
 -- the size of an array or a map, with as many items or pairs as were announced
 record Sized (s : Size) (c : Option ℕ) (n : ℕ) : Type 0 where
@@ -166,9 +128,7 @@ record Sized (s : Size) (c : Option ℕ) (n : ℕ) : Type 0 where
   fits : SizeFits s n
 
 sized : (s : Size) (c : Option ℕ) (n : ℕ) → Announces s c → IsAll c n → Sized s c n
-sized (Fixed w) (Some m) n fits all = record { size = refl; says = ap (Given w) all; end = refl; fits = subst (WidthFits w) (sym all) fits }
-sized Endless None n fits all = record { size = refl; says = refl; end = refl; fits = tt }
-sized s c n fits all = absurd fits
+sized s c n h e = grind (arith, common_steps, nat_tests)
 
 pub built_spelled : (o : Opening) (ts : List Tree) → HeadFits o → Ends o ts → spelled (built o ts) ≡ opening o ++ spelled_all (trees ts) ++ closing o
 built_spelled (an_array p s c) ts fits h = let z = sized s c (length ts) fits h in rw (z.size, count-trees ts, z.says, z.end) refl
@@ -187,10 +147,7 @@ built_fits (in_chunks p OfBytes) ts fits h all = strings_fit OfBytes (chunks_of 
 built_fits (in_chunks p OfText) ts fits h all = strings_fit OfText (chunks_of ts) (subst (λ us. FitsAll (trees us)) (sym (strings_are OfText ts h)) all)
 
 pub built_deep : (o : Opening) (ts : List Tree) → Ends o ts → depth (built o ts) ≤ added_depth o + depth_all (trees ts)
-built_deep (a_map p s c) ts h = omega (arith, pairs_deep ts)
-built_deep (a_tag p w n) ts (t, e) = subst (λ us. depth (built (a_tag p w n) us) ≤ 1 + depth_all (trees us)) (sym e) (omega arith)
-built_deep (in_chunks p OfBytes) ts h = omega arith
-built_deep o ts h = omega arith
+built_deep o ts h = grind (arith, pairs_deep)
 
 chunks_there : (k : StringKind) (ts : List Tree) (p : ℕ) → AreStrings k ts → PlacedAll (p + 1) (trees ts) → ChunksPlaced (major_of k) (suc p) (chunks_of ts)
 chunks_there k ts p h all = strings_placed k (chunks_of ts) (suc p) (subst (λ us. PlacedAll (suc p) (trees us)) (sym (strings_are k ts h)) (subst (λ n. PlacedAll n (trees ts)) (add-one p) all))

@@ -1,8 +1,10 @@
 -- A piece may be taken by heads and by slices, and not byte by byte.
+use Rattle.std.proofs.lemmas.Grind.{common_steps}
+use Rattle.std.proofs.lemmas.Bool.Decides.{nat_tests}
 use Rattle.std.specs.Prelude.{◌≡◌, ◌+◌, ◌*◌, ◌/◌, ◌%◌, ◌<◌, ◌≤◌, ◌∷◌, ◌++◌}
-use Rattle.cborn_wire.proofs.Common.{refl, sym, ap, ◌∙◌, ℕ, suc, List, [], length, cond, leb, Some, None, arith, append-nil, length-append, lt-leb, le-leb, Width, Direct, One, Two, Four, Eight, Major, Argument, Given, EndlessArgument, code, following, head, string_tree, Trees, WireReason, StringKind, OpenContainer, slot, open_depth, info_at, head_reason, info_for, number, argument_of, content_of, nothing, gathering, Live, Failed, finished, after_head, gathered, gather, begin_head, unless, step, run, major_at, ArgumentFits}
+use Rattle.cborn_wire.proofs.Common.{refl, sym, ap, ◌∙◌, ℕ, suc, List, [], length, cond, leb, Some, None, arith, append-nil, length-append, lt-leb, le-leb, Width, Direct, One, Two, Four, Eight, Major, Argument, Given, EndlessArgument, code, following, head, string_tree, Trees, WireReason, StringKind, OpenContainer, slot, open_depth, info_at, head_reason, info_for, number, argument_of, content_of, nothing, gathering, Live, Failed, finished, after_head, gather, step, run, major_at, ArgumentFits}
 use Rattle.cborn_wire.proofs.Machine.Running.{failed_run}
-use Rattle.cborn_wire.proofs.Machine.TakesHeads.{gathers, takes_head, quotient, remainder, major_at-code, info_at-now}
+use Rattle.cborn_wire.proofs.Machine.TakesHeads.{gathers, takes_head, quotient, major_at-code, info_at-now}
 
 -- the initial byte of a head, and what its information is
 record FirstOf (m : Major) (a : Argument) : Type 0 where
@@ -29,9 +31,7 @@ major_of_head m a b z y fits e =
     ap (λ n. major_at (n / 32)) (first_byte m a b z y e f) ∙ ap major_at (quotient (code m) f.low f.small) ∙ major_at-code m
 
 pub info_of_head : (m : Major) (a : Argument) (b : ℕ) (z y : List ℕ) → ArgumentFits a → b ∷ z ≡ head m a ++ y → info_at (b % 32) ≡ info_for a
-info_of_head m a b z y fits e =
-    let f = first_of m a fits in
-    ap (λ n. info_at (n % 32)) (first_byte m a b z y e f) ∙ ap info_at (remainder (code m) f.low f.small) ∙ f.says
+info_of_head m a b z y fits e = grind (arith, common_steps, nat_tests)
 
 module _ (limit fed : ℕ) (ready : Trees) (os : List OpenContainer) where
   -- A head that is whole at the front of a piece.
@@ -47,15 +47,7 @@ module _ (limit fed : ℕ) (ready : Trees) (os : List OpenContainer) where
   -- An initial byte that isn't allowed in the slot.
   pub refuses_first : (b : ℕ) (y : List ℕ) (r : WireReason) → head_reason (slot os) (leb limit (open_depth os)) (major_at (b / 32)) (info_at (b % 32)) [] ≡ Some r
       → run limit (Live fed ready os nothing) (b ∷ y) ≡ Failed ready fed r
-  refuses_first b y r e =
-      ap (λ o. run limit (unless o ready fed (begin_head fed ready os (major_at (b / 32)) (info_at (b % 32)))) y) e ∙ failed_run limit y ready fed r
-
-  -- The last byte of an argument.
-  pub argument_done : (p : ℕ) (m : Major) (w : Width) (n : ℕ) (got : List ℕ) (b : ℕ) → n ≤ suc (length got)
-      → step limit (Live fed ready os (gathering p (argument_of m w) n got)) b ≡ after_head (suc fed) p ready os m (Given w (number w (got ++ b ∷ [])))
-  argument_done p m w n got b h =
-      ap (λ c. cond c (gathered (suc fed) p ready os (argument_of m w) (got ++ b ∷ [])) (Live (suc fed) ready os (gathering p (argument_of m w) n (got ++ b ∷ []))))
-      (le-leb n (length (got ++ b ∷ [])) (omega (arith, length-append got (b ∷ []))))
+  refuses_first b y r e = grind (arith, failed_run)
 
   -- A slice of a string's content: one that leaves some to come, and one that ends it.
   module _ (p : ℕ) (k : StringKind) (w : Width) (n : ℕ) (got y : List ℕ) where
@@ -66,11 +58,7 @@ module _ (limit fed : ℕ) (ready : Trees) (os : List OpenContainer) where
         ∙ gathers limit y fed p ready os (content_of k w) n got [] fits
 
     pub content_more : length got + length y < n → run limit (Live fed ready os (gathering p (content_of k w) n got)) y ≡ Live (fed + length y) ready os (gathering p (content_of k w) n (got ++ y))
-    content_more h =
-        content_taken (omega arith) (omega arith)
-        ∙ ap (λ c. cond c (finished (fed + length y) ready os (string_tree p k w (got ++ y))) (Live (fed + length y) ready os (gathering p (content_of k w) n (got ++ y)))) (lt-leb n (length (got ++ y)) (omega (arith, length-append got y)))
+    content_more h = grind (arith, content_taken, length-append, lt-leb)
 
     pub content_done : length got < n → length got + length y ≡ n → run limit (Live fed ready os (gathering p (content_of k w) n got)) y ≡ finished (fed + length y) ready os (string_tree p k w (got ++ y))
-    content_done h all =
-        content_taken h (omega arith)
-        ∙ ap (λ c. cond c (finished (fed + length y) ready os (string_tree p k w (got ++ y))) (Live (fed + length y) ready os (gathering p (content_of k w) n (got ++ y)))) (le-leb n (length (got ++ y)) (omega (arith, length-append got y)))
+    content_done h all = grind (arith, content_taken, le-leb, length-append)

@@ -1,9 +1,11 @@
 -- What is refused, and what can go on.
+use Rattle.std.proofs.lemmas.Grind.{common_steps}
 use Rattle.std.specs.Prelude.{◌≡◌, ◌+◌, ◌-◌, ◌*◌, ◌/◌, ◌%◌, ◌<◌, ◌≤◌, ◌∷◌, ◌++◌, ◌&&◌}
-use Rattle.cborn_wire.proofs.Common.{refl, sym, ap, ◌∙◌, subst, ℕ, zero, suc, List, [], length, Bool, true, false, cond, ltb, leb, Option, Some, None, arith, length-append, add-one, add-zero, lt-leb, le-leb, le-ltb, AreBytes, Width, Direct, One, Two, Four, Eight, Fixed, Major, Unsigned, Negative, ByteString, TextString, Array, Map, Tag, Other, Given, Opening, an_array, a_map, a_tag, in_chunks, last_key, built, string_tree, Tree, Uint, Simple, Trees, WireReason, BadSimple, StringKind, OfBytes, OfText, Slot, OpenContainer, opened, slot, slot_in, slot_in_map, open_depth, AreOpen, needs_item, begins_low, major_at, Info, Now, Next, info_at, is_other, is_one, is_bad_chunk, head_reason, front_reason, info_for, snoc, width_bytes, number, Goal, argument_of, content_of, Unfinished, nothing, gathering, State, Live, Failed, is_full, finished, holding, gather, begin_head, after_head, unless, step, run, get_or_at}
+use Rattle.cborn_wire.proofs.Common.{refl, sym, ap, ◌∙◌, subst, ℕ, zero, suc, List, [], length, Bool, true, false, cond, leb, Option, Some, None, arith, length-append, add-one, add-zero, lt-leb, le-leb, le-ltb, AreBytes, Width, Direct, One, Fixed, Major, Unsigned, Negative, ByteString, TextString, Array, Map, Tag, Other, Given, Opening, an_array, a_map, a_tag, in_chunks, last_key, built, string_tree, Tree, Uint, Simple, Trees, WireReason, BadSimple, StringKind, OfBytes, OfText, Slot, OpenContainer, opened, slot, slot_in, slot_in_map, open_depth, AreOpen, needs_item, begins_low, major_at, Info, Now, Next, info_at, is_other, is_one, is_bad_chunk, head_reason, front_reason, info_for, snoc, width_bytes, number, Goal, argument_of, content_of, Unfinished, nothing, gathering, State, Live, Failed, is_full, finished, holding, gather, begin_head, after_head, unless, step, run}
+use Rattle.std.proofs.lemmas.Bool.Decides.{nat_tests}
 use Rattle.cborn_wire.proofs.Machine.Running.{failed_run}
 use Rattle.cborn_wire.proofs.Machine.Containers.{value_next, not_full}
-use Rattle.cborn_wire.proofs.Machine.TakesItems.{takes_break}
+use Rattle.cborn_wire.proofs.Machine.TakesItems.{takes_break, map_plain, no_chunk}
 use Rattle.cborn_wire.proofs.Machine.SoundItems.{SoundLive}
 use Rattle.cborn_wire.proofs.Machine.SoundSteps.{Clear, is_clear}
 use Rattle.cborn_wire.proofs.Machine.SoundRuns.{reason_stays, wide, wide_info}
@@ -11,40 +13,25 @@ use Rattle.cborn_wire.proofs.Machine.SoundRuns.{reason_stays, wide, wide_info}
 pub some_is : (q r : WireReason) → Some q ≡ Some r → q ≡ r
 some_is q r e = cc
 
+low_reason : (s : Slot) (full : Bool) (m : Major) (i : Info) (y : List ℕ) (r : WireReason) → head_reason s full m i y ≡ Some r → head_reason s full m i [] ≡ None → cond ((is_other m && is_one i) && begins_low y) (Some BadSimple) None ≡ Some r
+low_reason s full m i y r e h = grind (arith, nat_tests)
+
 module _ (limit : ℕ) where
   low_run : (m : Major) (i : Info) (fed : ℕ) (ready : Trees) (os : List OpenContainer) (y : List ℕ) (r : WireReason)
       → cond ((is_other m && is_one i) && begins_low y) (Some BadSimple) None ≡ Some r
       → run limit (begin_head fed ready os m i) y ≡ Failed ready fed r
-  low_run Other (Next One) fed ready os (n ∷ y) r e = go (ltb n 32) e
-    where
-      go : (c : Bool) → cond c (Some BadSimple) None ≡ Some r → run limit (cond c (Failed ready fed BadSimple) (finished (suc (suc fed)) ready os (Simple fed n))) y ≡ Failed ready fed r
-      go true e = failed_run limit y ready fed BadSimple ∙ ap (Failed ready fed) (some_is BadSimple r e)
-      go false e = cc
-  low_run m i fed ready os y r e = cc
+  low_run m i fed ready os y r h = grind (arith, failed_run, some_is)
+
+  refused_at : (full : Bool) (m : Major) (i : Info) (y : List ℕ) (fed : ℕ) (ready : Trees) (os : List OpenContainer) (r : WireReason) → head_reason (slot os) full m i y ≡ Some r
+      → (o : Option WireReason) → head_reason (slot os) full m i [] ≡ o → run limit (unless o ready fed (begin_head fed ready os m i)) y ≡ Failed ready fed r
+  refused_at full m i y fed ready os r e (Some q) h = failed_run limit y ready fed q ∙ ap (Failed ready fed) (some_is q r (sym (reason_stays (slot os) full m i y q h) ∙ e))
+  refused_at full m i y fed ready os r e None h = low_run m i fed ready os y r (low_reason (slot os) full m i y r e h)
 
   -- What isn't allowed at a slot fails there, for that reason.
   pub refused_run : (y : List ℕ) (fed : ℕ) (ready : Trees) (os : List OpenContainer) (r : WireReason) → front_reason limit (slot os) (open_depth os) y ≡ Some r
       → run limit (Live fed ready os nothing) y ≡ Failed ready fed r
   refused_run [] fed ready os r e = cc
-  refused_run (b ∷ y) fed ready os r e = go (head_reason s full m i []) refl
-    where
-      s : Slot
-      s = slot os
-
-      full : Bool
-      full = leb limit (open_depth os)
-
-      m : Major
-      m = major_at (b / 32)
-
-      i : Info
-      i = info_at (b % 32)
-
-      go : (o : Option WireReason) → head_reason s full m i [] ≡ o → run limit (unless o ready fed (begin_head fed ready os m i)) y ≡ Failed ready fed r
-      go (Some q) h = failed_run limit y ready fed q ∙ ap (Failed ready fed) (some_is q r (sym (reason_stays s full m i y q h) ∙ e))
-      go None h =
-          let c = is_clear s full m i [] h in
-          low_run m i fed ready os y r (rw (c.reserved, c.bounded, c.chunked, c.broken, c.float, c.room) at e)
+  refused_run (b ∷ y) fed ready os r e = refused_at (leb limit (open_depth os)) (major_at (b / 32)) (info_at (b % 32)) y fed ready os r e _ refl
 
   -- The machine comes to an end of complete items.
   abbrev pub Closable : State → Type 0
@@ -78,16 +65,11 @@ module _ (limit : ℕ) where
     broken : (fed : ℕ) (ts : List Tree) → needs_item (slot_in (opened o ts)) ≡ false → Closable (Live fed ready (opened o ts ∷ os) nothing)
     broken fed ts e = after_byte 255 (Live fed ready (opened o ts ∷ os) nothing) (omega arith) (subst Closable (sym (takes_break limit fed ready os o ts [] e ∙ ap (λ q. finished q ready os (built o ts)) (add-one fed))) (next (suc fed) (built o ts)))
 
-  no_chunk_in : (c : Option ℕ) (x : Option Tree) → is_bad_chunk (slot_in_map c x) Unsigned (Now 0) ≡ false
-  no_chunk_in c (Some k) = refl
-  no_chunk_in (Some n) None = refl
-  no_chunk_in None None = refl
-
   -- a container comes to its end
   closes_holding : (os : List OpenContainer) (fed : ℕ) (ready : Trees) (o : Opening) (ts : List Tree) → ((fed : ℕ) (t : Tree) → Closable (finished fed ready os t)) → Closable (holding fed ready os o ts)
   closes_holding os fed ready (an_array p s (Some n)) ts next = filled os ready (an_array p s (Some n)) next n fed ts (λ us. refl) (le-leb n (length ts + n) (omega arith))
   closes_holding os fed ready (an_array p s None) ts next = broken os ready (an_array p s None) next fed ts refl
-  closes_holding os fed ready (a_map p s (Some n)) ts next = filled os ready (a_map p s (Some n)) next (2 * n) fed ts (λ us. no_chunk_in (Some n) (last_key us)) (le-leb n ((length ts + 2 * n) / 2) (omega arith))
+  closes_holding os fed ready (a_map p s (Some n)) ts next = filled os ready (a_map p s (Some n)) next (2 * n) fed ts (λ us. no_chunk _ Unsigned (Now 0) (map_plain (Some n) (last_key us))) (le-leb n ((length ts + 2 * n) / 2) (omega arith))
   closes_holding os fed ready (a_map p s None) ts next = go (last_key ts) refl
     where
       o : Opening
@@ -97,7 +79,7 @@ module _ (limit : ℕ) where
       go : (x : Option Tree) → last_key ts ≡ x → Closable (Live fed ready (opened o ts ∷ os) nothing)
       go None e = broken os ready o next fed ts (ap (λ k. needs_item (slot_in_map None k)) e)
       go (Some k) e =
-          after_byte 0 (Live fed ready (opened o ts ∷ os) nothing) (omega arith) (subst Closable (sym (zero_step fed ready (opened o ts ∷ os) (no_chunk_in None (last_key ts))))
+          after_byte 0 (Live fed ready (opened o ts ∷ os) nothing) (omega arith) (subst Closable (sym (zero_step fed ready (opened o ts ∷ os) (no_chunk _ Unsigned (Now 0) (map_plain None (last_key ts)))))
           (broken os ready o next (suc fed) (ts ++ Uint fed Direct 0 ∷ []) (ap (λ k. needs_item (slot_in_map None k)) (value_next ts (Uint fed Direct 0) k e).1)))
   closes_holding os fed ready (a_tag p w n) ts next = filled os ready (a_tag p w n) next 1 fed ts (λ us. refl) (le-leb 1 (length ts + 1) (omega arith))
   closes_holding os fed ready (in_chunks p k) ts next = broken os ready (in_chunks p k) next fed ts refl
@@ -136,11 +118,7 @@ module _ (limit : ℕ) where
   closes_head Other w n os fed p ready h c high = let e : true ≡ false = c.float in cc
 
 number_last : (w : Width) (g : List ℕ) (c : ℕ) → 32 ≤ c → suc (length g) ≡ width_bytes w → 32 ≤ number w (g ++ c ∷ [])
-number_last Direct g c high l = absurd (omega arith)
-number_last One g c high l = omega (arith, get_or_at g c [] 0 0 (omega arith))
-number_last Two g c high l = omega (arith, get_or_at g c [] 0 1 (omega arith))
-number_last Four g c high l = omega (arith, get_or_at g c [] 0 3 (omega arith))
-number_last Eight g c high l = omega (arith, get_or_at g c [] 0 7 (omega arith))
+number_last w g c h e = grind (arith, common_steps, nat_tests)
 
 module _ (limit : ℕ) where
   -- A byte that makes no simple value below 32 may be one of an argument.

@@ -1,6 +1,8 @@
 -- What the machine has is what was read.
+use Rattle.std.proofs.lemmas.Grind.{common_steps}
+use Rattle.std.proofs.lemmas.Bool.Decides.{nat_tests}
 use Rattle.std.specs.Prelude.{◌≡◌, ◌+◌, ◌<◌, ◌≤◌, ◌∷◌, ◌++◌}
-use Rattle.cborn_wire.proofs.Common.{sym, ap, ◌∙◌, subst, ℕ, List, [], length, true, false, leb, Some, None, arith, append_assoc, append-nil, length-append, add-zero, max, cond_both, AreBytes, Given, WidthFits, Opening, in_chunks, built, Goes, Ends, Tree, Trees, no_item, more, trees, depth, depth_all, spelled, spelled_all, Fits, FitsAll, Placed, PlacedAll, WireReason, major_of, OpenContainer, opened, opening, beginnings, slot, added_depth, open_depth, HeadFits, IsNoString, Next, is_bad_chunk, head_reason, front_reason, info_for, IsPlacedOpen, Ground, front, partial_bytes, snoc, width_bytes, argument_of, content_of, Unfinished, nothing, gathering, State, Live, Failed, is_full, finished, holding}
+use Rattle.cborn_wire.proofs.Common.{sym, ap, ◌∙◌, subst, ℕ, List, [], length, true, false, leb, Some, None, arith, append_assoc, append-nil, length-append, add-zero, max, cond_both, AreBytes, Given, WidthFits, Opening, built, Goes, Ends, Tree, Trees, no_item, more, trees, depth, depth_all, spelled, spelled_all, Fits, FitsAll, Placed, PlacedAll, WireReason, major_of, OpenContainer, opened, opening, beginnings, slot, added_depth, open_depth, HeadFits, IsNoString, Next, is_bad_chunk, head_reason, front_reason, info_for, IsPlacedOpen, Ground, front, partial_bytes, snoc, width_bytes, argument_of, content_of, Unfinished, nothing, gathering, State, Live, Failed, is_full, finished, holding}
 use Rattle.cborn_wire.proofs.Spelled.TreeLists.{trees-push}
 use Rattle.cborn_wire.proofs.Machine.Containers.{Belongs, closing, full_closing, goes_on, goes_whole, built_spelled, built_fits, built_deep, built_placed}
 
@@ -30,8 +32,7 @@ Accepts [] t = Unit {0}
 Accepts (opened o ts ∷ os) t = Belongs o t
 
 pub accepted : (os : List OpenContainer) (t : Tree) → IsNoString os → Accepts os t
-accepted (opened (in_chunks p k) ts ∷ os) t h = absurd h
-accepted os t h = tt
+accepted os t h = grind (arith, common_steps, nat_tests)
 
 -- A partial head or string is what the bytes so far make of one that is allowed here.
 abbrev pub PartialFits : ℕ → List OpenContainer → ℕ → Unfinished → Type 0

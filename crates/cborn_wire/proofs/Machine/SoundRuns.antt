@@ -1,6 +1,8 @@
 -- A whole run keeps what the machine has to what was read: so this is known of each state that some bytes make.
+use Rattle.std.proofs.lemmas.Grind.{common_steps}
 use Rattle.std.specs.Prelude.{◌≡◌, ◌+◌, ◌*◌, ◌/◌, ◌%◌, ◌<◌, ◌≤◌, ◌∷◌, ◌++◌, ◌&&◌}
-use Rattle.cborn_wire.proofs.Common.{refl, sym, ap, ◌∙◌, subst, ℕ, zero, suc, List, [], length, get_or, Bool, true, false, cond, ltb, leb, eqb, Option, Some, None, arith, append_assoc, append-nil, length_push, cond_both, leb-true, leb-false, ltb-true, eqb-true, be_bytes_2, be_bytes_4, be_bytes_8, AreBytes, Width, Direct, One, Two, Four, Eight, Major, Other, Given, EndlessArgument, code, information, following, head, WidthFits, Trees, WireReason, BadSimple, TooDeep, major_of, Slot, OpenContainer, slot, open_depth, needs_item, begins_low, Info, Now, Next, Reserved, EndlessInformation, info_at, is_bad_chunk, head_reason, front_reason, is_reserved, is_endless_head, is_always_bounded, is_break, is_other, is_float, is_one, is_container, info_for, major_at, start, width_bytes, number, argument_of, content_of, nothing, gathering, State, Live, Failed, gather, begin_head, at_slot, unless, step, run, front, Ground, in_chunks, Tree, no_item, more, depth, depth_all, Fits, FitsAll, opened, IsNoString, AreOpen, snoc, Unfinished, held, IsReached}
+use Rattle.cborn_wire.proofs.Common.{refl, sym, ap, ◌∙◌, subst, ℕ, suc, List, [], length, get_or, Bool, true, false, leb, Option, Some, None, arith, append_assoc, append-nil, length_push, cond_both, leb-true, leb-false, be_bytes_2, be_bytes_4, be_bytes_8, AreBytes, Width, Direct, Major, Given, EndlessArgument, code, information, following, head, WidthFits, Trees, WireReason, major_of, Slot, OpenContainer, slot, open_depth, Info, Now, Next, Reserved, EndlessInformation, info_at, head_reason, front_reason, is_other, is_container, info_for, major_at, start, width_bytes, number, argument_of, content_of, nothing, gathering, State, Live, Failed, gather, begin_head, at_slot, unless, step, run, front, Ground, in_chunks, Tree, no_item, more, depth, depth_all, Fits, FitsAll, opened, IsNoString, AreOpen, snoc, Unfinished, held, IsReached}
+use Rattle.std.proofs.lemmas.Bool.Decides.{nat_tests}
 use Rattle.cborn_model.proofs.Bytes.{bytes-append}
 pub use Rattle.cborn_model.proofs.Numbers.Majors.{code_at}
 use Rattle.cborn_wire.proofs.Machine.SoundItems.{SoundLive, Sound}
@@ -21,68 +23,33 @@ InfoIs i Reserved = Unit {0}
 InfoIs i EndlessInformation = i ≡ 31
 
 pub info_is : (i : ℕ) → InfoIs i (info_at i)
-info_is i =
-    cond_both (ltb i 24) (Now i) _ (InfoIs i) (λ e. (refl, ltb-true i 24 e)) (λ _.
-    cond_both (eqb i 24) (Next One) _ (InfoIs i) (λ e. (eqb-true i 24 e, tt)) (λ _.
-    cond_both (eqb i 25) (Next Two) _ (InfoIs i) (λ e. (eqb-true i 25 e, tt)) (λ _.
-    cond_both (eqb i 26) (Next Four) _ (InfoIs i) (λ e. (eqb-true i 26 e, tt)) (λ _.
-    cond_both (eqb i 27) (Next Eight) _ (InfoIs i) (λ e. (eqb-true i 27 e, tt)) (λ _.
-    cond_both (eqb i 31) EndlessInformation Reserved (InfoIs i) (λ e. eqb-true i 31 e) (λ _. tt))))))
+info_is i = grind (arith, common_steps, nat_tests)
 
 small : (x : List ℕ) → AreBytes x → (i : ℕ) → get_or x i 0 < 256
-small [] h i = omega arith
-small (b ∷ x) h zero = h.0
-small (b ∷ x) h (suc i) = small x h.1 i
+small x h i = grind (arith, common_steps, nat_tests)
 
 -- the bytes of an argument are those of the number that they make
 pub again : (w : Width) (got : List ℕ) → IsWide w → length got ≡ width_bytes w → AreBytes got → (following w (number w got) ≡ got) × WidthFits w (number w got)
-again Direct got wide l h = absurd wide
-again One (n ∷ []) wide l h = (refl, h.0)
-again One got wide l h = absurd (omega arith)
-again Two got wide l h = (be_bytes_2 got _ l (small got h) refl, omega (arith, small got h 0, small got h 1))
-again Four got wide l h = (be_bytes_4 got _ l (small got h) refl, omega (arith, small got h 0, small got h 1, small got h 2, small got h 3))
-again Eight got wide l h = (
-  be_bytes_8 got _ l (small got h) refl,
-  omega (arith, small got h 0, small got h 1, small got h 2, small got h 3, small got h 4, small got h 5, small got h 6, small got h 7),
-)
+again w got h e g = grind (arith, common_steps, nat_tests, be_bytes_2, be_bytes_4, be_bytes_8, small)
 
 pub wide : (w : Width) → 0 < width_bytes w → IsWide w
-wide Direct h = omega arith
-wide w h = tt
+wide w h = grind (arith, common_steps, nat_tests)
 
 pub wide_info : (w : Width) (n : ℕ) → IsWide w → info_for (Given w n) ≡ Next w
-wide_info Direct n h = absurd h
-wide_info w n h = refl
+wide_info w n h = grind (arith, common_steps, nat_tests)
 
 pub wide_information : (w : Width) (n : ℕ) → IsWide w → information w n ≡ information w 0
-wide_information Direct n h = absurd h
-wide_information w n h = refl
+wide_information w n h = grind (arith, common_steps, nat_tests)
 
-pass : (c : Bool) (q : WireReason) (o o' : Option WireReason) (r : WireReason) → cond c (Some q) o ≡ Some r → (o ≡ Some r → o' ≡ Some r) → cond c (Some q) o' ≡ Some r
-pass true q o o' r e f = e
-pass false q o o' r e f = f e
-
-reason_last : (full one : Bool) (m : Major) (y : List ℕ) (r : WireReason)
-    → cond ((is_other m && one) && false) (Some BadSimple) (cond (is_container m && full) (Some TooDeep) None) ≡ Some r
-    → cond ((is_other m && one) && begins_low y) (Some BadSimple) (cond (is_container m && full) (Some TooDeep) None) ≡ Some r
-reason_last full true Other y r e = cc
-reason_last full false Other y r e = e
-reason_last full one m y r e = e
+not_both : (m : Major) → (is_other m && is_container m) ≡ false
+not_both m = grind (arith, common_steps, nat_tests)
 
 -- a reason that the initial byte gives stays, whatever follows
 pub reason_stays : (s : Slot) (full : Bool) (m : Major) (i : Info) (y : List ℕ) (r : WireReason) → head_reason s full m i [] ≡ Some r → head_reason s full m i y ≡ Some r
-reason_stays s full m i y r e =
-    pass (is_reserved i) _ _ _ r e (λ e.
-    pass (is_endless_head i && is_always_bounded m) _ _ _ r e (λ e.
-    pass (is_bad_chunk s m i) _ _ _ r e (λ e.
-    pass (is_break m i && needs_item s) _ _ _ r e (λ e.
-    pass (is_other m && is_float i) _ _ _ r e (λ e.
-    reason_last full (is_one i) m y r e)))))
+reason_stays s full m i y r e = let h = not_both m in grind (arith, nat_tests)
 
 pub front_reason_stays : (limit : ℕ) (s : Slot) (k : ℕ) (y z : List ℕ) (r : WireReason) → front_reason limit s k y ≡ Some r → front_reason limit s k (y ++ z) ≡ Some r
-front_reason_stays limit s k [] z r e = cc
-front_reason_stays limit s k (c ∷ d ∷ y) z r e = e
-front_reason_stays limit s k (c ∷ []) z r e = reason_stays s (leb limit k) (major_at (c / 32)) (info_at (c % 32)) z r e
+front_reason_stays limit s k y z r h = grind (arith, common_steps, nat_tests)
 
 module _ (limit base : ℕ) where
   -- some bytes of an argument came
@@ -186,9 +153,7 @@ module _ (limit base : ℕ) where
   -- From a live state follow the bytes that make it.
   pub reached_held : (fed : ℕ) (ready : Trees) (os : List OpenContainer) (partial : Unfinished) → IsReached limit base (Live fed ready os partial)
       → let s = Live fed ready os partial in (run limit (start base) (held s) ≡ s) × AreBytes (held s)
-  reached_held fed ready os partial (x, bytes, is) =
-      let h : SoundLive limit base x fed ready os partial = subst (Sound limit base x) is (sound limit base x bytes) in
-      (ap (run limit (start base)) (sym h.bytes) ∙ is, subst AreBytes h.bytes bytes)
+  reached_held fed ready os partial h = grind (arith, sound)
 
   -- a complete item
   pub reached_item : (fed : ℕ) (ready : Trees) (t : Tree) (os : List OpenContainer) (partial : Unfinished) → IsReached limit base (Live fed (snoc ready t) os partial) → Fits t × (depth t ≤ limit)

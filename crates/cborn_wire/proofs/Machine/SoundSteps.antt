@@ -1,6 +1,8 @@
 -- Each step keeps what the machine has to what was read.
+use Rattle.std.proofs.lemmas.Grind.{common_steps}
+use Rattle.std.proofs.lemmas.Bool.Decides.{nat_tests}
 use Rattle.std.specs.Prelude.{◌≡◌, ◌+◌, ◌≤◌, ◌∷◌, ◌++◌, ◌&&◌}
-use Rattle.cborn_wire.proofs.Common.{refl, sym, ap, ◌∙◌, subst, ℕ, List, [], length, Bool, true, false, cond, ltb, leb, Option, Some, None, inl, inr, arith, append_assoc, append-nil, cond_both, leb-true, leb-false, ltb-false, AreBytes, Width, Direct, One, Fixed, Endless, Major, Unsigned, Negative, ByteString, TextString, Array, Map, Tag, Other, Argument, Given, EndlessArgument, head, WidthFits, Opening, an_array, a_map, a_tag, in_chunks, built, string_tree, Tree, Uint, Nint, Bytes, Text, Simple, Trees, trees, depth, ending, string, spelled, spelled_all, Fits, Placed, WireReason, BadSimple, UnexpectedBreak, StringKind, OfBytes, OfText, major_of, Slot, OpenContainer, opened, opening, slot, added_depth, open_depth, HeadFits, IsNoString, AreOpen, needs_item, begins_low, ArgumentFits, Info, Next, EndlessInformation, is_reserved, is_endless_head, is_always_bounded, is_other, is_container, is_of_kind, is_break, is_bad_chunk, is_float, is_one, head_reason, info_for, place_of, Ground, content_of, Failed, finished, holding, ended, gather, after_head, front}
+use Rattle.cborn_wire.proofs.Common.{refl, sym, ap, ◌∙◌, subst, ℕ, List, [], length, Bool, true, false, cond, ltb, leb, Option, Some, None, inl, inr, arith, append_assoc, append-nil, cond_both, leb-true, leb-false, ltb-false, AreBytes, Width, Direct, One, Fixed, Endless, Major, Unsigned, Negative, ByteString, TextString, Array, Map, Tag, Other, Argument, Given, EndlessArgument, head, WidthFits, Opening, an_array, a_map, a_tag, in_chunks, built, string_tree, Tree, Uint, Nint, Simple, Trees, trees, depth, ending, string, spelled, spelled_all, Fits, Placed, WireReason, BadSimple, UnexpectedBreak, StringKind, OfBytes, OfText, major_of, Slot, OpenContainer, opened, opening, slot, added_depth, open_depth, HeadFits, IsNoString, AreOpen, needs_item, ArgumentFits, Info, Next, is_reserved, is_endless_head, is_always_bounded, is_other, is_container, is_break, is_bad_chunk, is_float, head_reason, info_for, place_of, Ground, content_of, Failed, finished, holding, ended, gather, after_head, front, chunk}
 use Rattle.cborn_model.proofs.Numbers.Simples.{simple_value, least_direct, least_one}
 use Rattle.cborn_wire.proofs.Machine.Containers.{empty_goes, empty_whole, break_ends}
 use Rattle.cborn_wire.proofs.Machine.SoundItems.{Sound, Accepts, accepted, ground_less, top_placed, nothing_more, ends, sound_holding, sound_finished}
@@ -14,41 +16,16 @@ pub record Clear (s : Slot) (full : Bool) (m : Major) (i : Info) : Type 0 where
   pub float : (is_other m && is_float i) ≡ false
   pub room : (is_container m && full) ≡ false
 
-guarded : (c : Bool) (r : WireReason) (o : Option WireReason) → cond c (Some r) o ≡ None → (c ≡ false) × (o ≡ None)
-guarded true r o e = cc
-guarded false r o e = (refl, e)
-
 pub is_clear : (s : Slot) (full : Bool) (m : Major) (i : Info) (y : List ℕ) → head_reason s full m i y ≡ None → Clear s full m i
-is_clear s full m i y e =
-    let a = guarded (is_reserved i) _ _ e in
-    let b = guarded (is_endless_head i && is_always_bounded m) _ _ a.1 in
-    let c = guarded (is_bad_chunk s m i) _ _ b.1 in
-    let d = guarded (is_break m i && needs_item s) _ _ c.1 in
-    let f = guarded (is_other m && is_float i) _ _ d.1 in
-    let g = guarded (is_other m && is_one i && begins_low y) _ _ f.1 in
-    let h = guarded (is_container m && full) _ _ g.1 in
-    record { reserved = a.0; bounded = b.0; chunked = c.0; broken = d.0; float = f.0; room = h.0 }
+is_clear s full m i y e = grind (arith, common_steps, nat_tests)
 
-pub free_of : (os : List OpenContainer) (m : Major) (i : Info) → is_bad_chunk (slot os) m i ≡ false → ((k : StringKind) → is_of_kind k m ≡ false) → is_break m i ≡ false → IsNoString os
-free_of (opened (in_chunks p k) ts ∷ os) m i e g h = let f : true ≡ false = rw (h, g k) at e in cc
-free_of os m i e g h = tt
-
-pub other_kind : (m : Major) → is_of_kind OfBytes m ≡ false → is_of_kind OfText m ≡ false → (k : StringKind) → is_of_kind k m ≡ false
-other_kind m a b OfBytes = a
-other_kind m a b OfText = b
-
--- no indefinite string begins in another
-pub open_string : (os : List OpenContainer) (k : StringKind) → is_bad_chunk (slot os) (major_of k) EndlessInformation ≡ false → IsNoString os
-open_string (opened (in_chunks p OfBytes) ts ∷ os) OfBytes e = cc
-open_string (opened (in_chunks p OfText) ts ∷ os) OfBytes e = cc
-open_string (opened (in_chunks p j) ts ∷ os) k e = cc
-open_string os k e = tt
+-- what is no chunk isn't in an indefinite string
+pub free_of : (os : List OpenContainer) (m : Major) (i : Info) → is_bad_chunk (slot os) m i ≡ false → is_bad_chunk (chunk OfBytes) m i ≡ true → is_bad_chunk (chunk OfText) m i ≡ true → IsNoString os
+free_of os m i h e g = grind (arith, common_steps, nat_tests)
 
 -- a definite string may be in an indefinite one of its kind
 string_accepted : (os : List OpenContainer) (p : ℕ) (k : StringKind) (w : Width) (bytes : List ℕ) (i : Info) → is_bad_chunk (slot os) (major_of k) i ≡ false → Accepts os (string_tree p k w bytes)
-string_accepted (opened (in_chunks q OfBytes) ts ∷ os) p OfText w bytes i e = cc
-string_accepted (opened (in_chunks q OfText) ts ∷ os) p OfBytes w bytes i e = cc
-string_accepted os p k w bytes i e = tt
+string_accepted os p k w bytes i h = grind (arith, common_steps, nat_tests)
 
 pub shallow_open : (limit : ℕ) (os : List OpenContainer) → AreOpen limit os → open_depth os ≤ limit
 shallow_open limit [] h = omega arith
@@ -69,21 +46,12 @@ sound_ended limit base ready (opened o ts ∷ os) fed p x g at slotted is =
 module _ (limit base : ℕ) (ready : Trees) (os : List OpenContainer) (fed p : ℕ) (x : List ℕ) (g : Ground limit base ready os) (placed : p ≡ base + length (front ready os)) (at : fed ≡ base + length x) where
   -- an item that is a head alone, or is spelled with no other item in it
   sound_leaf : (t : Tree) → Accepts os t → Fits t → depth t ≡ 0 → Placed (base + length (front ready os)) t → x ≡ front ready os ++ spelled t → Sound limit base x (finished fed ready os t)
-  sound_leaf t accepts fits flat there is = sound_finished limit base os ready t fed x (record {
-    ground = g;
-    accepts = accepts;
-    fits = fits;
-    shallow = omega (arith, flat, shallow_open limit os g.are_open);
-    placed = there;
-    bytes = is;
-    fed_is = at;
-  })
+  sound_leaf t accepts fits flat there is = grind (arith, shallow_open, sound_finished)
 
   -- a definite string is whole
   sound_string : (k : StringKind) (w : Width) (bytes : List ℕ) (i : Info) → is_bad_chunk (slot os) (major_of k) i ≡ false → WidthFits w (length bytes) × AreBytes bytes
       → x ≡ front ready os ++ string (major_of k) w bytes → Sound limit base x (finished fed ready os (string_tree p k w bytes))
-  sound_string OfBytes w bytes i allowed fits is = sound_leaf (Bytes p w bytes) (string_accepted os p OfBytes w bytes i allowed) fits refl placed is
-  sound_string OfText w bytes i allowed fits is = sound_leaf (Text p w bytes) (string_accepted os p OfText w bytes i allowed) fits refl placed is
+  sound_string k w bytes i h e g = grind (arith, sound_leaf, string_accepted)
 
   -- some of a definite string's bytes came
   pub sound_content : (k : StringKind) (w : Width) (n : ℕ) (got : List ℕ) → is_bad_chunk (slot os) (major_of k) (info_for (Given w n)) ≡ false → WidthFits w n → length got ≤ n → AreBytes got
@@ -106,19 +74,19 @@ module _ (limit base : ℕ) (ready : Trees) (os : List OpenContainer) (fed p : �
 
   -- a head is whole
   pub sound_head : (m : Major) (a : Argument) → Clear (slot os) (leb limit (open_depth os)) m (info_for a) → ArgumentFits a → x ≡ front ready os ++ head m a → Sound limit base x (after_head fed p ready os m a)
-  sound_head Unsigned (Given w n) c fits is = sound_leaf (Uint p w n) (accepted os _ (free_of os Unsigned _ c.chunked (other_kind Unsigned refl refl) refl)) fits refl placed is
-  sound_head Negative (Given w n) c fits is = sound_leaf (Nint p w n) (accepted os _ (free_of os Negative _ c.chunked (other_kind Negative refl refl) refl)) fits refl placed is
+  sound_head Unsigned (Given w n) c fits is = sound_leaf (Uint p w n) (accepted os _ (free_of os Unsigned _ c.chunked refl refl)) fits refl placed is
+  sound_head Negative (Given w n) c fits is = sound_leaf (Nint p w n) (accepted os _ (free_of os Negative _ c.chunked refl refl)) fits refl placed is
   sound_head ByteString (Given w n) c fits is = sound_content OfBytes w n [] c.chunked fits (omega arith) tt (is ∙ ap (λ l. front ready os ++ l) (sym (append-nil (head ByteString (Given w n)))))
   sound_head TextString (Given w n) c fits is = sound_content OfText w n [] c.chunked fits (omega arith) tt (is ∙ ap (λ l. front ready os ++ l) (sym (append-nil (head TextString (Given w n)))))
-  sound_head ByteString EndlessArgument c fits is = sound_opening (in_chunks p OfBytes) refl tt (open_string os OfBytes c.chunked) (omega (arith, shallow_open limit os g.are_open)) is
-  sound_head TextString EndlessArgument c fits is = sound_opening (in_chunks p OfText) refl tt (open_string os OfText c.chunked) (omega (arith, shallow_open limit os g.are_open)) is
-  sound_head Array (Given w n) c fits is = sound_opening (an_array p (Fixed w) (Some n)) refl fits (free_of os Array _ c.chunked (other_kind Array refl refl) refl) (omega (arith, leb-false limit (open_depth os) c.room)) is
-  sound_head Array EndlessArgument c fits is = sound_opening (an_array p Endless None) refl tt (free_of os Array _ c.chunked (other_kind Array refl refl) refl) (omega (arith, leb-false limit (open_depth os) c.room)) is
-  sound_head Map (Given w n) c fits is = sound_opening (a_map p (Fixed w) (Some n)) refl fits (free_of os Map _ c.chunked (other_kind Map refl refl) refl) (omega (arith, leb-false limit (open_depth os) c.room)) is
-  sound_head Map EndlessArgument c fits is = sound_opening (a_map p Endless None) refl tt (free_of os Map _ c.chunked (other_kind Map refl refl) refl) (omega (arith, leb-false limit (open_depth os) c.room)) is
-  sound_head Tag (Given w n) c fits is = sound_opening (a_tag p w n) refl fits (free_of os Tag _ c.chunked (other_kind Tag refl refl) refl) (omega (arith, leb-false limit (open_depth os) c.room)) is
+  sound_head ByteString EndlessArgument c fits is = sound_opening (in_chunks p OfBytes) refl tt (free_of os ByteString _ c.chunked refl refl) (omega (arith, shallow_open limit os g.are_open)) is
+  sound_head TextString EndlessArgument c fits is = sound_opening (in_chunks p OfText) refl tt (free_of os TextString _ c.chunked refl refl) (omega (arith, shallow_open limit os g.are_open)) is
+  sound_head Array (Given w n) c fits is = sound_opening (an_array p (Fixed w) (Some n)) refl fits (free_of os Array _ c.chunked refl refl) (omega (arith, leb-false limit (open_depth os) c.room)) is
+  sound_head Array EndlessArgument c fits is = sound_opening (an_array p Endless None) refl tt (free_of os Array _ c.chunked refl refl) (omega (arith, leb-false limit (open_depth os) c.room)) is
+  sound_head Map (Given w n) c fits is = sound_opening (a_map p (Fixed w) (Some n)) refl fits (free_of os Map _ c.chunked refl refl) (omega (arith, leb-false limit (open_depth os) c.room)) is
+  sound_head Map EndlessArgument c fits is = sound_opening (a_map p Endless None) refl tt (free_of os Map _ c.chunked refl refl) (omega (arith, leb-false limit (open_depth os) c.room)) is
+  sound_head Tag (Given w n) c fits is = sound_opening (a_tag p w n) refl fits (free_of os Tag _ c.chunked refl refl) (omega (arith, leb-false limit (open_depth os) c.room)) is
   sound_head Other (Given Direct n) c fits is =
-      sound_leaf (Simple p n) (accepted os _ (free_of os Other _ c.chunked (other_kind Other refl refl) refl)) (simple_value n (inl fits)) refl placed (is ∙ ap (λ w. front ready os ++ head Other (Given w n)) (sym (least_direct n fits)))
+      sound_leaf (Simple p n) (accepted os _ (free_of os Other _ c.chunked refl refl)) (simple_value n (inl fits)) refl placed (is ∙ ap (λ w. front ready os ++ head Other (Given w n)) (sym (least_direct n fits)))
   sound_head Other (Given One n) c fits is =
       cond_both (ltb n 32) _ _ (Sound limit base x)
       (λ e. record {
@@ -131,7 +99,7 @@ module _ (limit base : ℕ) (ready : Trees) (os : List OpenContainer) (fed p : �
       })
       (λ e.
       let high : 32 ≤ n = ltb-false n 32 e in
-      sound_leaf (Simple p n) (accepted os _ (free_of os Other _ c.chunked (other_kind Other refl refl) refl)) (simple_value n (inr (high, fits))) refl placed
+      sound_leaf (Simple p n) (accepted os _ (free_of os Other _ c.chunked refl refl)) (simple_value n (inr (high, fits))) refl placed
       (is ∙ ap (λ w. front ready os ++ head Other (Given w n)) (sym (least_one n (omega arith) fits))))
   sound_head Other EndlessArgument c fits is = sound_ended limit base ready os fed p x g at c.broken is
   sound_head Other (Given w n) c fits is = let e : true ≡ false = c.float in cc

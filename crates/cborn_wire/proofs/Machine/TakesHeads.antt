@@ -1,6 +1,6 @@
 -- The machine takes a head.
 use Rattle.std.specs.Prelude.{◌≡◌, ◌+◌, ◌*◌, ◌/◌, ◌%◌, ◌<◌, ◌≤◌, ◌∷◌, ◌++◌}
-use Rattle.cborn_wire.proofs.Common.{refl, sym, ap, ◌∙◌, ℕ, suc, List, [], length, cond, leb, None, arith, append_assoc, append-nil, length-append, add-one, add-zero, lt-leb, le-leb, lt-ltb, from_be_bytes-to_be_bytes_2, from_be_bytes-to_be_bytes_4, from_be_bytes-to_be_bytes_8, Width, Direct, One, Two, Four, Eight, Major, Argument, Given, EndlessArgument, code, following, head, Trees, major_at, ArgumentFits, OpenContainer, slot, open_depth, Info, Now, Next, EndlessInformation, info_at, info_for, head_reason, width_bytes, number, Goal, argument_of, nothing, gathering, Live, gather, gathered, begin_head, after_head, at_slot, unless, step, run}
+use Rattle.cborn_wire.proofs.Common.{refl, sym, ap, ◌∙◌, ℕ, suc, List, [], length, cond, leb, None, arith, append_assoc, append-nil, length-append, add-one, add-zero, lt-leb, le-leb, lt-ltb, from_be_bytes-to_be_bytes_2, from_be_bytes-to_be_bytes_4, from_be_bytes-to_be_bytes_8, Width, Direct, One, Two, Four, Eight, Major, Argument, Given, EndlessArgument, code, following, head, Trees, ArgumentFits, OpenContainer, slot, open_depth, Info, Now, Next, EndlessInformation, info_at, info_for, head_reason, width_bytes, number, Goal, argument_of, nothing, gathering, Live, gather, gathered, begin_head, after_head, step, run}
 pub use Rattle.cborn_model.proofs.Numbers.Majors.{major_at-code}
 
 pub quotient : (c i : ℕ) → i < 32 → (32 * c + i) / 32 ≡ c
@@ -23,12 +23,7 @@ gathers limit (b ∷ y) fed p ready os g n got x h =
 pub first : (limit fed : ℕ) (ready : Trees) (os : List OpenContainer) (m : Major) (i : ℕ) (info : Info) → i < 32 → info_at i ≡ info
     → head_reason (slot os) (leb limit (open_depth os)) m info [] ≡ None
     → step limit (Live fed ready os nothing) (32 * code m + i) ≡ begin_head fed ready os m info
-first limit fed ready os m i info h e r =
-    ap (λ k. at_slot limit fed ready os (major_at k) (info_at ((32 * code m + i) % 32))) (quotient (code m) i h)
-    ∙ ap (λ n. at_slot limit fed ready os n (info_at ((32 * code m + i) % 32))) (major_at-code m)
-    ∙ ap (λ k. at_slot limit fed ready os m (info_at k)) (remainder (code m) i h)
-    ∙ ap (λ j. at_slot limit fed ready os m j) e
-    ∙ ap (λ o. unless o ready fed (begin_head fed ready os m info)) r
+first limit fed ready os m i info h e r = grind (arith, quotient, remainder)
 
 pub info_at-now : (n : ℕ) → n < 24 → info_at n ≡ Now n
 info_at-now n h = rw (lt-ltb n 24 h) refl

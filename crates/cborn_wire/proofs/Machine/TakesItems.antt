@@ -1,63 +1,53 @@
 -- The machine takes what an item spells, and has that item.
-use Rattle.cborn_wire.proofs.Common.{refl, sym, ap, ◌∙◌, subst, ℕ, List, [], length, map, Bool, false, cond, leb, Some, None, inl, inr, arith, append_assoc, append-nil, length-append, add-zero, cond_both, lt-leb, le-leb, le-ltb, IsTrue, Width, Direct, One, Size, Fixed, Endless, Chunk, Major, Unsigned, Negative, ByteString, TextString, Array, Map, Tag, Other, Given, EndlessArgument, head, WidthFits, least, is_simple_value, argument, SizeFits, Opening, an_array, a_map, a_tag, in_chunks, built, string_tree, last_key, paired, chunks_of, Goes, Ends, Tree, Uint, Nint, Bytes, Text, ByteChunks, TextChunks, Items, Pairs, Tagged, Simple, Trees, no_item, more, Entries, no_entry, entry, trees, count, count_entries, depth, depth_all, ending, string, spelled, spelled_all, Fits, FitsAll, string_of, WireReason, BadSimple, UnexpectedBreak, placed_from, StringKind, OfBytes, OfText, major_of, Slot, chunk, OpenContainer, opened, opening, slot, slot_in, slot_in_map, added_depth, open_depth, HeadFits, IsNoString, needs_item, ArgumentFits, Info, Now, Next, EndlessInformation, is_reserved, is_endless_head, is_always_bounded, is_other, is_container, is_bad_chunk, head_reason, info_for, append_trees, snoc, content_of, nothing, gathering, Live, Failed, is_full, finished, holding, gather, after_head, run}
+use Rattle.std.proofs.lemmas.Grind.{common_steps}
+use Rattle.std.proofs.lemmas.Bool.Decides.{nat_tests}
+use Rattle.cborn_wire.proofs.Common.{refl, sym, ap, ◌∙◌, subst, ℕ, List, [], length, map, Bool, false, cond, leb, Some, None, arith, append_assoc, append-nil, length-append, add-zero, lt-leb, le-leb, IsTrue, Width, Size, Fixed, Endless, Chunk, Major, Unsigned, Negative, ByteString, TextString, Array, Map, Tag, Other, Given, EndlessArgument, head, WidthFits, least, is_simple_value, argument, SizeFits, Opening, an_array, a_map, a_tag, in_chunks, built, string_tree, paired, chunks_of, Goes, Ends, Tree, Uint, Nint, Bytes, Text, ByteChunks, TextChunks, Items, Pairs, Tagged, Simple, Trees, no_item, more, Entries, no_entry, entry, trees, count, count_entries, depth, depth_all, ending, string, spelled, spelled_all, Fits, FitsAll, string_of, placed_from, StringKind, OfBytes, OfText, major_of, Slot, chunk, OpenContainer, opened, opening, slot, slot_in, slot_in_map, added_depth, open_depth, HeadFits, IsNoString, needs_item, ArgumentFits, Info, EndlessInformation, is_reserved, is_endless_head, is_always_bounded, is_other, is_container, is_bad_chunk, head_reason, info_for, append_trees, snoc, content_of, nothing, gathering, Live, is_full, finished, holding, gather, after_head, run, IsNoChunkSlot}
 use Rattle.std.specs.Prelude.{Option, ◌≡◌, ◌+◌, ◌<◌, ◌≤◌, ◌∷◌, ◌++◌, ◌&&◌}
 use Rattle.cborn_model.proofs.HandedOver.{strings, strings_are}
 use Rattle.cborn_model.proofs.Listed.Trees.{count_entries-entries}
-use Rattle.cborn_model.proofs.Numbers.Simples.{simple_cases, simple_fits, least_direct, least_one}
+use Rattle.cborn_model.proofs.Numbers.Simples.{simple_fits}
 use Rattle.cborn_wire.proofs.Machine.Containers.{nodes_of, nodes_entries, nodes_end, nodes_fit, nodes_deep, strings_fitting, strings_flat, not_yet, closing, endless_closing, full_closing, built_spelled, list_from, opening_from, ends_from, built_from}
 use Rattle.cborn_wire.proofs.Machine.TakesHeads.{gathers, takes_head}
 use Rattle.cborn_wire.proofs.Spelled.TreeLists.{tree_list, trees-tree_list, tree_count}
 
 -- Which heads are allowed in a slot.
 
-pub no_bad_chunk : (os : List OpenContainer) (m : Major) (i : Info) → IsNoString os → is_bad_chunk (slot os) m i ≡ false
-no_bad_chunk (opened (an_array p s None) ts ∷ os) m i h = refl
-no_bad_chunk (opened (a_map p s c) ts ∷ os) m i h = go c (last_key ts)
-  where
-    go : (c : Option ℕ) (x : Option Tree) → is_bad_chunk (slot_in_map c x) m i ≡ false
-    go c (Some k) = refl
-    go (Some n) None = refl
-    go None None = refl
-no_bad_chunk (opened (in_chunks p k) ts ∷ os) m i h = absurd h
-no_bad_chunk os m i h = refl
+pub map_plain : (c : Option ℕ) (x : Option Tree) → IsNoChunkSlot (slot_in_map c x)
+map_plain c x = grind (arith, common_steps, nat_tests)
+
+pub slot_plain : (os : List OpenContainer) → IsNoString os → IsNoChunkSlot (slot os)
+slot_plain os h = grind (arith, common_steps, nat_tests)
+
+pub no_chunk : (s : Slot) (m : Major) (i : Info) → IsNoChunkSlot s → is_bad_chunk s m i ≡ false
+no_chunk s m i h = grind (arith, common_steps, nat_tests)
+
+no_bad_chunk : (os : List OpenContainer) (m : Major) (i : Info) → IsNoString os → is_bad_chunk (slot os) m i ≡ false
+no_bad_chunk os m i h = no_chunk (slot os) m i (slot_plain os h)
 
 clear : (s : Slot) (full : Bool) (m : Major) (i : Info) → is_bad_chunk s m i ≡ false → is_reserved i ≡ false → (is_endless_head i && is_always_bounded m) ≡ false → is_other m ≡ false → (is_container m && full) ≡ false
     → head_reason s full m i [] ≡ None
 clear s full m i bad reserved bounded other room = rw (reserved, bounded, bad, other, room) refl
 
 given_reserved : (w : Width) (n : ℕ) → is_reserved (info_for (Given w n)) ≡ false
-given_reserved Direct n = refl
-given_reserved w n = refl
+given_reserved w n = grind (arith, common_steps, nat_tests)
 
 pub given_endless : (w : Width) (n : ℕ) → is_endless_head (info_for (Given w n)) ≡ false
-given_endless Direct n = refl
-given_endless w n = refl
+given_endless w n = grind (arith, common_steps, nat_tests)
 
 pub clear_given : (s : Slot) (full : Bool) (m : Major) (w : Width) (n : ℕ) → is_bad_chunk s m (info_for (Given w n)) ≡ false → is_other m ≡ false → (is_container m && full) ≡ false → head_reason s full m (info_for (Given w n)) [] ≡ None
 clear_given s full m w n bad other room = clear s full m _ bad (given_reserved w n) (ap (λ b. b && is_always_bounded m) (given_endless w n)) other room
 
 clear_simple : (s : Slot) (full : Bool) (n : ℕ) → IsTrue (is_simple_value n) → ((i : Info) → is_bad_chunk s Other i ≡ false) → head_reason s full Other (info_for (Given (least n) n)) [] ≡ None
-clear_simple s full n v bad =
-    let reason : Width → Option WireReason = λ w. head_reason s full Other (info_for (Given w n)) [] in
-    elim (simple_cases n v) [
-      | inl low ↦ ap reason (least_direct n low) ∙ rw (bad (Now n)) refl
-      | inr high ↦ ap reason (least_one n (omega (arith, high.0)) high.1) ∙ rw (bad (Next One)) refl
-    ]
+clear_simple s full n v bad = grind (arith, common_steps, nat_tests)
 
 clear_chunk : (k : StringKind) (full : Bool) (w : Width) (n : ℕ) → head_reason (chunk k) full (major_of k) (info_for (Given w n)) [] ≡ None
-clear_chunk OfBytes full w n = rw (given_reserved w n, given_endless w n) refl
-clear_chunk OfText full w n = rw (given_reserved w n, given_endless w n) refl
-
-clear_break : (s : Slot) (full : Bool) → needs_item s ≡ false → head_reason s full Other EndlessInformation [] ≡ None
-clear_break (chunk OfBytes) full e = refl
-clear_break s full e = cc
+clear_chunk k full w n = grind (arith, common_steps, nat_tests)
 
 -- A definite string, also as a chunk.
 
 starts_string : (fed p : ℕ) (ready : Trees) (os : List OpenContainer) (k : StringKind) (w : Width) (n : ℕ)
     → after_head fed p ready os (major_of k) (Given w n) ≡ gather fed p ready os (content_of k w) n []
-starts_string fed p ready os OfBytes w n = refl
-starts_string fed p ready os OfText w n = refl
+starts_string fed p ready os k w n = grind (arith, common_steps, nat_tests)
 
 takes_string : (limit fed : ℕ) (ready : Trees) (os : List OpenContainer) (k : StringKind) (w : Width) (bytes x : List ℕ) → WidthFits w (length bytes)
     → head_reason (slot os) (leb limit (open_depth os)) (major_of k) (info_for (Given w (length bytes))) [] ≡ None
@@ -83,45 +73,30 @@ append_trees-snoc no_item t ts = refl
 append_trees-snoc (more u us) t ts = ap (more u) (append_trees-snoc us t ts)
 
 pub size_fits : (s : Size) (n : ℕ) → SizeFits s n → ArgumentFits (argument s n)
-size_fits (Fixed w) n h = h
-size_fits Endless n h = tt
+size_fits s n h = grind (arith, common_steps, nat_tests)
 
 module _ (limit fed : ℕ) (ready : Trees) (os : List OpenContainer) where
   -- the head of a container
   pub takes_opening : (o : Opening) (x : List ℕ) → HeadFits o → IsNoString os → added_depth o + open_depth os ≤ limit
       → run limit (Live fed ready os nothing) (opening o ++ x) ≡ run limit (holding (fed + length (opening o)) ready os (opening_from fed o) []) x
-  takes_opening o x fits free deep = go o fits deep
-    where
-      full : Bool
-      full = leb limit (open_depth os)
-
-      bad : (m : Major) (i : Info) → is_bad_chunk (slot os) m i ≡ false
-      bad m i = no_bad_chunk os m i free
-
-      go : (o : Opening) → HeadFits o → added_depth o + open_depth os ≤ limit → run limit (Live fed ready os nothing) (opening o ++ x) ≡ run limit (holding (fed + length (opening o)) ready os (opening_from fed o) []) x
-      go (an_array p (Fixed w) (Some n)) fits deep = takes_head limit fed ready os Array (Given w n) x fits (clear_given (slot os) full Array w n (bad Array _) refl (lt-leb limit (open_depth os) (omega (arith, deep))))
-      go (an_array p Endless None) fits deep = takes_head limit fed ready os Array EndlessArgument x tt (clear (slot os) full Array EndlessInformation (bad Array _) refl refl refl (lt-leb limit (open_depth os) (omega (arith, deep))))
-      go (a_map p (Fixed w) (Some n)) fits deep = takes_head limit fed ready os Map (Given w n) x fits (clear_given (slot os) full Map w n (bad Map _) refl (lt-leb limit (open_depth os) (omega (arith, deep))))
-      go (a_map p Endless None) fits deep = takes_head limit fed ready os Map EndlessArgument x tt (clear (slot os) full Map EndlessInformation (bad Map _) refl refl refl (lt-leb limit (open_depth os) (omega (arith, deep))))
-      go (a_tag p w n) fits deep = takes_head limit fed ready os Tag (Given w n) x fits (clear_given (slot os) full Tag w n (bad Tag _) refl (lt-leb limit (open_depth os) (omega (arith, deep))))
-      go (in_chunks p OfBytes) fits deep = takes_head limit fed ready os ByteString EndlessArgument x tt (clear (slot os) full ByteString EndlessInformation (bad ByteString _) refl refl refl refl)
-      go (in_chunks p OfText) fits deep = takes_head limit fed ready os TextString EndlessArgument x tt (clear (slot os) full TextString EndlessInformation (bad TextString _) refl refl refl refl)
-      go o fits deep = absurd fits
+  takes_opening (an_array p (Fixed w) (Some n)) x fits free deep = takes_head limit fed ready os Array (Given w n) x fits (clear_given (slot os) (leb limit (open_depth os)) Array w n (no_bad_chunk os Array _ free) refl (lt-leb limit (open_depth os) (omega (arith, deep))))
+  takes_opening (an_array p Endless None) x fits free deep = takes_head limit fed ready os Array EndlessArgument x tt (clear (slot os) (leb limit (open_depth os)) Array EndlessInformation (no_bad_chunk os Array _ free) refl refl refl (lt-leb limit (open_depth os) (omega (arith, deep))))
+  takes_opening (a_map p (Fixed w) (Some n)) x fits free deep = takes_head limit fed ready os Map (Given w n) x fits (clear_given (slot os) (leb limit (open_depth os)) Map w n (no_bad_chunk os Map _ free) refl (lt-leb limit (open_depth os) (omega (arith, deep))))
+  takes_opening (a_map p Endless None) x fits free deep = takes_head limit fed ready os Map EndlessArgument x tt (clear (slot os) (leb limit (open_depth os)) Map EndlessInformation (no_bad_chunk os Map _ free) refl refl refl (lt-leb limit (open_depth os) (omega (arith, deep))))
+  takes_opening (a_tag p w n) x fits free deep = takes_head limit fed ready os Tag (Given w n) x fits (clear_given (slot os) (leb limit (open_depth os)) Tag w n (no_bad_chunk os Tag _ free) refl (lt-leb limit (open_depth os) (omega (arith, deep))))
+  takes_opening (in_chunks p OfBytes) x fits free deep = takes_head limit fed ready os ByteString EndlessArgument x tt (clear (slot os) (leb limit (open_depth os)) ByteString EndlessInformation (no_bad_chunk os ByteString _ free) refl refl refl refl)
+  takes_opening (in_chunks p OfText) x fits free deep = takes_head limit fed ready os TextString EndlessArgument x tt (clear (slot os) (leb limit (open_depth os)) TextString EndlessInformation (no_bad_chunk os TextString _ free) refl refl refl refl)
+  takes_opening o x fits free deep = absurd fits
 
   -- a break
   pub takes_break : (o : Opening) (ts : List Tree) (x : List ℕ) → needs_item (slot_in (opened o ts)) ≡ false
       → run limit (Live fed ready (opened o ts ∷ os) nothing) (ending Endless ++ x) ≡ run limit (finished (fed + 1) ready os (built o ts)) x
-  takes_break o ts x e =
-      takes_head limit fed ready (opened o ts ∷ os) Other EndlessArgument x tt (clear_break (slot_in (opened o ts)) (leb limit (open_depth (opened o ts ∷ os))) e)
-      ∙ ap (λ b. run limit (cond b (Failed ready fed UnexpectedBreak) (finished (fed + 1) ready os (built o ts))) x) e
+  takes_break o ts x e = grind (arith, common_steps, nat_tests)
 
   -- the end of one that may end
   takes_closing : (o : Opening) (ts : List Tree) (x : List ℕ) → Ends o ts
       → run limit (holding fed ready os o ts) (closing o ++ x) ≡ run limit (finished (fed + length (closing o)) ready os (built o ts)) x
-  takes_closing o ts x h =
-      cond_both (is_full o (length ts)) _ _ (λ s. run limit s (closing o ++ x) ≡ run limit (finished (fed + length (closing o)) ready os (built o ts)) x)
-      (λ e. rw (full_closing o (length ts) e, add-zero) refl)
-      (λ e. let c = endless_closing o ts h e in rw c.0 (takes_break o ts x c.1))
+  takes_closing o ts x h = grind (arith, add-zero, closing, endless_closing, full_closing, takes_break)
 
 -- The machine takes t inside such a container.
 abbrev pub Taken : ℕ → Opening → Tree → Type 0
@@ -174,12 +149,7 @@ takes_container limit fed ready os o us x here taken fit all ends free deep =
     ∙ ap (λ t. run limit (finished (fed + length (spelled (built o us))) ready os t) x) (ap (λ p. built p vs) (sym here) ∙ built_from o us fed fit ends)
 
 simple_head : (fed p : ℕ) (ready : Trees) (os : List OpenContainer) (n : ℕ) → IsTrue (is_simple_value n) → after_head fed p ready os Other (Given (least n) n) ≡ finished fed ready os (Simple p n)
-simple_head fed p ready os n v = elim (simple_cases n v) [
-  | inl low ↦ ap (λ w. after_head fed p ready os Other (Given w n)) (least_direct n low)
-  | inr high ↦
-      ap (λ w. after_head fed p ready os Other (Given w n)) (least_one n (omega (arith, high.0)) high.1)
-      ∙ ap (λ b. cond b (Failed ready p BadSimple) (finished fed ready os (Simple p n))) (le-ltb n 32 high.0)
-]
+simple_head fed p ready os n v = grind (arith, common_steps, nat_tests)
 
 strings_taken : (limit p : ℕ) (k : StringKind) (cs : List Chunk) → AllTaken limit (in_chunks p k) (map (string_of k) cs)
 strings_taken limit p k [] = tt

@@ -1,6 +1,8 @@
 -- The machine takes what is open, too.
+use Rattle.std.proofs.lemmas.Grind.{common_steps}
+use Rattle.std.proofs.lemmas.Bool.Decides.{nat_tests}
 use Rattle.std.specs.Prelude.{◌≡◌, ◌+◌, ◌≤◌, ◌∷◌, ◌++◌}
-use Rattle.cborn_wire.proofs.Common.{refl, ap, ◌∙◌, ℕ, List, [], length, Option, None, cond, arith, append_assoc, length-append, add-zero, Opening, an_array, a_map, in_chunks, last_key, built, Tree, Trees, trees, depth_all, spelled_all, OpenContainer, opened, opening, beginnings, slot, slot_in_map, added_depth, open_depth, IsNoString, AreOpen, nothing, Live, is_full, finished, run}
+use Rattle.cborn_wire.proofs.Common.{refl, ap, ◌∙◌, ℕ, List, [], length, Option, None, cond, arith, append_assoc, length-append, add-zero, Opening, an_array, a_map, last_key, built, Tree, Trees, trees, depth_all, spelled_all, OpenContainer, opened, opening, beginnings, slot, slot_in_map, added_depth, open_depth, IsNoString, AreOpen, nothing, Live, is_full, finished, run}
 use Rattle.cborn_wire.proofs.Machine.Containers.{not_full, list_from, list_length, opening_from}
 use Rattle.cborn_wire.proofs.Machine.TakesItems.{takes_opening, takes_nodes, opened_taken}
 
@@ -20,20 +22,17 @@ slot-from (opened (a_map q s c) ts ∷ os) p = map_slot-from c ts _
 slot-from os p = refl
 
 added_depth-from : (o : Opening) (p : ℕ) → added_depth (opening_from p o) ≡ added_depth o
-added_depth-from (an_array q s c) p = refl
-added_depth-from o p = refl
+added_depth-from o p = grind (arith, common_steps, nat_tests)
 
 pub open_depth-from : (os : List OpenContainer) (p : ℕ) → open_depth (open_from p os) ≡ open_depth os
 open_depth-from [] p = refl
 open_depth-from (opened o ts ∷ os) p = omega (arith, added_depth-from o (p + length (beginnings os)), open_depth-from os p)
 
 no_string-from : (os : List OpenContainer) (p : ℕ) → IsNoString os → IsNoString (open_from p os)
-no_string-from (opened (in_chunks q k) ts ∷ os) p h = absurd h
-no_string-from os p h = tt
+no_string-from os p h = grind (arith, common_steps, nat_tests)
 
 full-from : (o : Opening) (p n : ℕ) → is_full (opening_from p o) n ≡ is_full o n
-full-from (an_array q s c) p n = refl
-full-from o p n = refl
+full-from o p n = grind (arith, common_steps, nat_tests)
 
 pub takes_open : (limit : ℕ) (os : List OpenContainer) (fed : ℕ) (ready : Trees) (x : List ℕ) → AreOpen limit os
     → run limit (Live fed ready [] nothing) (beginnings os ++ x) ≡ run limit (Live (fed + length (beginnings os)) ready (open_from fed os) nothing) x

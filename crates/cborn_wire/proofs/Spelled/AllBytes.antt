@@ -1,22 +1,14 @@
 -- What is spelled is bytes.
+use Rattle.std.proofs.lemmas.Grind.{common_steps}
+use Rattle.std.proofs.lemmas.Bool.Decides.{nat_tests}
 use Rattle.std.specs.Prelude.{◌∷◌, ◌++◌}
-use Rattle.cborn_wire.proofs.Common.{subst, ℕ, List, [], length, arith, flat_map, AreBytes, Width, Direct, One, Two, Four, Eight, Size, Fixed, Endless, Chunk, Major, Unsigned, Negative, ByteString, TextString, Array, Map, Tag, Other, WidthFits, following, least, Argument, Given, EndlessArgument, head, argument, SizeFits, Tree, Uint, Nint, Bytes, Text, ByteChunks, TextChunks, Items, Pairs, Tagged, Simple, Trees, no_item, more, Entries, no_entry, entry, count, count_entries, ending, string, chunk_bytes, spelled, spelled_all, spelled_entries, ChunksFit, Fits, FitsAll, FitsEntries, Wellformed, ArgumentFits}
-use Rattle.cborn_model.proofs.Numbers.OneHead.{low_bits_below}
+use Rattle.cborn_wire.proofs.Common.{subst, ℕ, List, [], length, arith, flat_map, AreBytes, Width, Size, Endless, Chunk, Major, Unsigned, Negative, ByteString, TextString, Array, Map, Tag, Other, WidthFits, following, least, Argument, Given, head, argument, SizeFits, Tree, Uint, Nint, Bytes, Text, ByteChunks, TextChunks, Items, Pairs, Tagged, Simple, Trees, no_item, more, Entries, no_entry, entry, count, count_entries, ending, string, chunk_bytes, spelled, spelled_all, spelled_entries, ChunksFit, Fits, FitsAll, FitsEntries, Wellformed, ArgumentFits}
 use Rattle.cborn_model.proofs.Numbers.Simples.{simple_fits}
 use Rattle.cborn_model.proofs.Bytes.{bytes-append}
-use Rattle.cborn_wire.proofs.HeadReading.HeadFronts.{code_small}
 use Rattle.cborn_wire.proofs.Machine.TakesItems.{size_fits}
 
-following_bytes : (w : Width) (n : ℕ) → WidthFits w n → AreBytes (following w n)
-following_bytes Direct n h = tt
-following_bytes One n h = (h, tt)
-following_bytes Two n h = (omega arith, (omega arith, tt))
-following_bytes Four n h = (omega arith, (omega arith, (omega arith, (omega arith, tt))))
-following_bytes Eight n h = (omega arith, (omega arith, (omega arith, (omega arith, (omega arith, (omega arith, (omega arith, (omega arith, tt))))))))
-
 pub head_bytes : (m : Major) (a : Argument) → ArgumentFits a → AreBytes (head m a)
-head_bytes m (Given w n) h = (omega (arith, code_small m, low_bits_below w n h), following_bytes w n h)
-head_bytes m EndlessArgument h = (omega (arith, code_small m), tt)
+head_bytes m a h = grind (arith, common_steps, nat_tests)
 
 string_bytes : (m : Major) (w : Width) (b : List ℕ) → WidthFits w (length b) → AreBytes b → AreBytes (string m w b)
 string_bytes m w b h k = bytes-append (head m (Given w (length b))) b (head_bytes m (Given w (length b)) h) k
@@ -25,14 +17,9 @@ chunks_bytes : (m : Major) (cs : List Chunk) → ChunksFit cs → AreBytes (flat
 chunks_bytes m [] h = tt
 chunks_bytes m (c ∷ cs) h = bytes-append (chunk_bytes m c) (flat_map (chunk_bytes m) cs) (string_bytes m c.width c.bytes h.0.0 h.0.1) (chunks_bytes m cs h.1)
 
-ending_bytes : (s : Size) → AreBytes (ending s)
-ending_bytes (Fixed w) = tt
-ending_bytes Endless = head_bytes Other EndlessArgument tt
-
 -- what a head and an ending enclose
 inside_bytes : (m : Major) (s : Size) (n : ℕ) (x : List ℕ) → SizeFits s n → AreBytes x → AreBytes (head m (argument s n) ++ x ++ ending s)
-inside_bytes m s n x h k =
-    bytes-append (head m (argument s n) ++ x) (ending s) (bytes-append (head m (argument s n)) x (head_bytes m (argument s n) (size_fits s n h)) k) (ending_bytes s)
+inside_bytes m s n x h k = grind (arith, bytes-append, head_bytes, size_fits, common_steps, nat_tests)
 
 mutual
   pub spelled_bytes : (t : Tree) → Fits t → AreBytes (spelled t)

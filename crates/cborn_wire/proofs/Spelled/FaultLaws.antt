@@ -1,18 +1,17 @@
 -- The laws of faults.
-use Rattle.std.specs.Prelude.{◌≡◌, ◌+◌, ◌/◌, ◌%◌, ◌<◌, ◌≤◌, ◌∷◌, ◌++◌, ◌⊎◌}
-use Rattle.cborn_wire.proofs.Common.{refl, sym, ap, ◌∙◌, subst, ℕ, List, [], length, take, Bool, true, false, cond, eqb, inl, inr, arith, append_assoc, append-nil, length-append, cases_order, AreBytes, Trees, Wellformed, WireReason, Truncated, IsWellformed, GoesOn, IsReason, Fault, SlotRefused, nothing, gathering, State, Live, Failed, run, start}
+use Rattle.std.proofs.lemmas.Grind.{common_steps}
+use Rattle.std.proofs.lemmas.Bool.Decides.{nat_tests}
+use Rattle.std.specs.Prelude.{◌≡◌, ◌+◌, ◌<◌, ◌≤◌, ◌∷◌, ◌++◌, ◌⊎◌}
+use Rattle.cborn_wire.proofs.Common.{refl, sym, ap, ◌∙◌, subst, ℕ, List, [], length, take, Bool, true, false, cond, eqb, inl, inr, arith, append_assoc, append-nil, cases_order, AreBytes, Trees, Wellformed, WireReason, Truncated, IsWellformed, GoesOn, IsReason, Fault, SlotRefused, nothing, gathering, State, Live, Failed, run, start}
 use Rattle.cborn_model.proofs.Bytes.{bytes-left}
 use Rattle.cborn_wire.specs.Faults.{Refused}
 use Rattle.cborn_wire.proofs.Spelled.AllBytes.{well_bytes}
 use Rattle.cborn_wire.proofs.Spelled.GoingOn.{same_place, goes_front, refused_ends, none_later, refused_said}
-use Rattle.cborn_wire.proofs.Spelled.Reasons.{not_truncated}
 use Rattle.cborn_wire.proofs.Spelled.SlotLaws.{fails_at_slot, ends_whole, goes_on, cut_short}
 
 -- what fails is refused
 pub fails_refused : (limit base : ℕ) (x : List ℕ) → AreBytes x → (ready : Trees) (q : ℕ) (r : WireReason) → run limit (start base) x ≡ Failed ready q r → (p : ℕ) × (q ≡ base + p) × Refused limit x p r
-fails_refused limit base x bytes ready q r e =
-    let (p, at, h) = fails_at_slot limit base x bytes ready q r e in
-    (p, at, refused_said limit x p r bytes h)
+fails_refused limit base x bytes ready q r e = grind (arith, fails_at_slot, refused_said)
 
 module _ (limit : ℕ) where
   -- never both
@@ -21,10 +20,7 @@ module _ (limit : ℕ) where
   not_both x p r w (inr h) = h.1.1 w
 
   one_reason : (f : List ℕ) (b : ℕ) (r s : WireReason) → IsReason limit f b r → IsReason limit f b s → r ≡ s
-  one_reason f b r s (inl g) (inl h) = g.1 ∙ sym h.1
-  one_reason f b r s (inl g) (inr h) = absurd (h.0 g.0)
-  one_reason f b r s (inr g) (inl h) = absurd (g.0 h.0)
-  one_reason f b r s (inr g) (inr h) = g.1 ∙ sym h.1
+  one_reason f b r s h e = grind (arith, common_steps, nat_tests)
 
   one_refused : (x : List ℕ) (p q : ℕ) (r s : WireReason) → Refused limit x p r → Refused limit x q s → (p ≡ q) × (r ≡ s)
   one_refused x p q r s (f, b, y, e, at, begins, bad, why) (g, c, z, h, there, after, worse, reason) = elim (cases_order (length f) (length g)) [
@@ -81,22 +77,14 @@ refused_stays limit x z p r (f, b, y, is, at, begins, bad, why) =
     stays (c ∷ y) true bad goes = bad goes
 
 pub fault_stays : (limit : ℕ) (x z : List ℕ) (p : ℕ) (r : WireReason) → Fault limit x p r → (r ≡ Truncated → ⊥) → Fault limit (x ++ z) p r
-fault_stays limit x z p r (inl h) n = inl (refused_stays limit x z p r h)
-fault_stays limit x z p r (inr h) n = absurd (n h.0)
+fault_stays limit x z p r h e = grind (arith, refused_stays)
 
 -- A head that isn't allowed is there.
 pub fault_inside : (limit : ℕ) (x : List ℕ) (p : ℕ) (r : WireReason) → Fault limit x p r → (r ≡ Truncated → ⊥) → p < length x
-fault_inside limit x p r (inl (f, b, y, is, at, begins, bad, why)) n = omega (arith, at, ap length is, length-append f (b ∷ y))
-fault_inside limit x p r (inr h) n = absurd (n h.0)
-
--- It isn't refused for the end of the input.
-refused_is_no_end : (limit : ℕ) (f : List ℕ) (b : ℕ) → IsReason limit f b Truncated → ⊥
-refused_is_no_end limit f b (inl h) = not_truncated false (b / 32) (b % 32) (sym h.1)
-refused_is_no_end limit f b (inr h) = not_truncated true (b / 32) (b % 32) (sym h.1)
+fault_inside limit x p r h e = grind (arith, common_steps, nat_tests)
 
 pub fault_at_end : (limit : ℕ) (x : List ℕ) (p : ℕ) → Fault limit x p Truncated → p ≡ length x
-fault_at_end limit x p (inl (f, b, y, is, at, begins, bad, why)) = absurd (refused_is_no_end limit f b why)
-fault_at_end limit x p (inr h) = h.1.0
+fault_at_end limit x p h = grind (arith, common_steps, nat_tests)
 
 -- a front of what is well-formed is well-formed, or is cut at its end
 pub fronts : (limit : ℕ) (x y : List ℕ) → IsWellformed limit (x ++ y)

@@ -1,6 +1,8 @@
 -- Which bytes go on: the state of the machine where a head begins, and which heads are allowed there.
-use Rattle.std.specs.Prelude.{◌≡◌, ◌+◌, ◌/◌, ◌%◌, ◌<◌, ◌∷◌, ◌++◌, ◌≤◌}
-use Rattle.cborn_wire.proofs.Common.{refl, sym, ap, ◌∙◌, subst, ℕ, suc, List, [], length, take, drop, Bool, true, false, cond, leb, eqb, Option, Some, None, inl, inr, arith, append_assoc, append-nil, eqb-true, take-append-drop, AreBytes, Trees, One, Unsigned, Other, WireReason, StringKind, OfBytes, OfText, Slot, item, value, element_or_end, key_or_end, chunk, OpenContainer, slot, open_depth, Open, IsWellformed, GoesOn, BeginsHead, judged, IsReason, reason_at, SlotRefused, Now, Next, is_bad_chunk, head_reason, argument_of, nothing, gathering, State, Live, Failed, step, start, run, unless, length-append, append_cancel_left, nil_from_length}
+use Rattle.std.specs.Prelude.{◌≡◌, ◌+◌, ◌<◌, ◌∷◌, ◌++◌}
+use Rattle.cborn_wire.proofs.Common.{refl, sym, ap, ◌∙◌, subst, ℕ, suc, List, [], length, take, drop, Bool, true, false, cond, leb, eqb, Option, Some, None, inl, inr, arith, append_assoc, eqb-true, take-append-drop, AreBytes, Trees, One, Unsigned, Other, WireReason, StringKind, OfBytes, OfText, Slot, chunk, OpenContainer, slot, open_depth, Open, IsWellformed, GoesOn, BeginsHead, judged, IsReason, reason_at, SlotRefused, Now, Next, is_bad_chunk, head_reason, argument_of, nothing, gathering, State, Live, Failed, step, start, run, unless, length-append, append_cancel_left}
+use Rattle.cborn_model.proofs.Numbers.OneHead.{append_same}
+use Rattle.cborn_wire.proofs.Spelled.OneReading.{split}
 use Rattle.cborn_model.proofs.Bytes.{bytes-append, bytes-left, bytes-right}
 use Rattle.cborn_wire.specs.Faults.{Refused}
 use Rattle.cborn_wire.proofs.Machine.Running.{run-append}
@@ -10,16 +12,6 @@ use Rattle.cborn_wire.proofs.Machine.SoundRuns.{sound}
 use Rattle.cborn_wire.proofs.Spelled.AllBytes.{well_bytes}
 use Rattle.cborn_wire.proofs.Spelled.Reasons.{table_reason, judged_reason}
 use Rattle.cborn_wire.proofs.Spelled.SlotLaws.{At, opened, closable_goes, goes_on, fails_ends, slot_ends}
-
--- one list is the front of another that begins with the same
-pub split : (g h z r : List ℕ) → g ++ z ≡ h ++ r → length g ≤ length h → (m : List ℕ) × (h ≡ g ++ m)
-split [] h z r e l = (h, refl)
-split (b ∷ g) [] z r e l = absurd (omega (arith, l))
-split (b ∷ g) (c ∷ h) z r e l =
-    let rest : g ++ z ≡ h ++ r = cc in
-    let first : c ≡ b = cc in
-    let (m, is) = split g h z r rest (omega (arith, l)) in
-    (m, ap (λ k. k ∷ h) first ∙ ap (λ k. b ∷ k) is)
 
 -- two places in one list, the first before the second
 pub later : (x f g y z : List ℕ) (b c : ℕ) → x ≡ f ++ b ∷ y → x ≡ g ++ c ∷ z → length f < length g → (w : List ℕ) × (g ≡ f ++ b ∷ w) × (y ≡ w ++ c ∷ z)
@@ -31,12 +23,7 @@ later x f g y z b c e h l =
 
 -- one place
 pub same_place : (x f g y z : List ℕ) (b c : ℕ) → x ≡ f ++ b ∷ y → x ≡ g ++ c ∷ z → length f ≡ length g → (f ≡ g) × (b ≡ c)
-same_place x f g y z b c e h l =
-    let (w, is) = split f g (b ∷ y) (c ∷ z) (sym e ∙ h) (omega (arith, l)) in
-    let none : w ≡ [] = nil_from_length w (omega (arith, l, ap length is, length-append f w)) in
-    let same : f ≡ g = sym (is ∙ ap (λ w. f ++ w) none ∙ append-nil f) in
-    let both : b ∷ y ≡ c ∷ z = append_cancel_left f (b ∷ y) (c ∷ z) (sym e ∙ h ∙ ap (λ l. l ++ c ∷ z) (sym same)) in
-    (same, cc both)
+same_place x f g y z b c e h l = grind (arith, append_same)
 
 module _ (limit : ℕ) where
   -- each front of what goes on goes on
@@ -121,11 +108,8 @@ module _ (limit : ℕ) where
       byte_goes f 0 (Live (0 + length f) a.ready a.os nothing) bytes (omega arith) a.is (takes_integer limit (0 + length f) a.ready a.os h.ground.are_open (ap (λ t. is_bad_chunk t Unsigned (Now 0)) a.slot_is ∙ free))
 
   reason_there : (f : List ℕ) (s : Slot) (k b : ℕ) (y : List ℕ) (r : WireReason) → AreBytes f → Open limit f s k → reason_at limit s k (b ∷ y) ≡ Some r → IsReason limit f b r
-  reason_there f item k b y r bytes opens e = inl (some_integer f item k bytes opens refl, table_reason item (leb limit k) (b / 32) (b % 32) y r e)
-  reason_there f value k b y r bytes opens e = inl (some_integer f value k bytes opens refl, table_reason value (leb limit k) (b / 32) (b % 32) y r e)
-  reason_there f element_or_end k b y r bytes opens e = inl (some_integer f element_or_end k bytes opens refl, table_reason element_or_end (leb limit k) (b / 32) (b % 32) y r e)
-  reason_there f key_or_end k b y r bytes opens e = inl (some_integer f key_or_end k bytes opens refl, table_reason key_or_end (leb limit k) (b / 32) (b % 32) y r e)
-  reason_there f (chunk kind) k b y r bytes opens e = inr (no_integer f kind k opens, table_reason (chunk kind) (leb limit k) (b / 32) (b % 32) y r e)
+  reason_there f (chunk kind) k b y r bytes opens e = inr (no_integer f kind k opens, table_reason limit (chunk kind) k b y r e)
+  reason_there f s k b y r bytes opens e = inl (some_integer f s k bytes opens refl, table_reason limit s k b y r e)
 
   -- What the table refuses is refused.
   pub refused_said : (x : List ℕ) (p : ℕ) (r : WireReason) → AreBytes x → SlotRefused limit x p r → Refused limit x p r

@@ -1,10 +1,11 @@
 -- A list of bytes has one reading at most, and no item begins another. Nodes that are at their offsets stay as they are.
-use Rattle.std.specs.Prelude.{◌≡◌, ◌+◌, ◌≤◌, ◌++◌, ◌⊎◌, ◌∷◌}
-use Rattle.cborn_wire.proofs.Common.{refl, sym, ap, ◌∙◌, subst, ℕ, List, [], length, max, arith, append_assoc, append-nil, length-append, add-zero, append_cancel_left, AreBytes, Tree, Trees, trees, no_item, more, depth, depth_all, spelled, spelled_all, Fits, FitsAll, Wellformed, Placed, PlacedAll, placed_from, all_from, append_trees, snoc, nothing, State, Live, Failed, start, ready_in, front, run, inl, inr, suc, Chunk, Major, ByteString, TextString, Array, Map, Tag, Given, head, argument, Uint, Nint, Bytes, Text, ByteChunks, TextChunks, Items, Pairs, Tagged, Simple, Entries, no_entry, entry, count, count_entries, chunk_bytes, ChunksPlaced, PlacedEntries, chunks_from, entries_from}
+use Rattle.std.proofs.lemmas.Grind.{common_steps}
+use Rattle.std.proofs.lemmas.Bool.Decides.{nat_tests}
+use Rattle.std.specs.Prelude.{◌≡◌, ◌+◌, ◌≤◌, ◌++◌, ◌∷◌}
+use Rattle.cborn_wire.proofs.Common.{refl, sym, ap, ◌∙◌, subst, ℕ, List, [], length, max, arith, append_assoc, append-nil, length-append, add-zero, append_cancel_left, AreBytes, Tree, Trees, trees, no_item, more, depth, depth_all, spelled, spelled_all, Fits, FitsAll, Wellformed, Placed, PlacedAll, placed_from, all_from, append_trees, snoc, nothing, State, Live, Failed, start, ready_in, front, run, suc, Chunk, Major, ByteString, TextString, Array, Map, Tag, Given, head, argument, Uint, Nint, Bytes, Text, ByteChunks, TextChunks, Items, Pairs, Tagged, Simple, Entries, no_entry, entry, count, count_entries, chunk_bytes, ChunksPlaced, PlacedEntries, chunks_from, entries_from, cases_lt}
 use Rattle.cborn_model.proofs.Numbers.OneHead.{append_same}
 use Rattle.cborn_wire.proofs.Machine.Running.{run-append}
 use Rattle.cborn_wire.proofs.Machine.TakesItems.{takes, append_trees-nil, append_trees-snoc}
-use Rattle.cborn_wire.proofs.Machine.SoundItems.{SoundLive, Sound}
 use Rattle.cborn_wire.proofs.Machine.SoundRuns.{sound}
 use Rattle.cborn_wire.proofs.Spelled.AllBytes.{well_bytes}
 use Rattle.cborn_wire.proofs.Spelled.TreeLists.{tree_list, trees-tree_list}
@@ -62,9 +63,7 @@ reads limit p ts x h =
 
 -- Where nothing is open the items are the reading.
 pub ends_read : (limit base : ℕ) (x : List ℕ) → AreBytes x → (fed : ℕ) (ready : Trees) → run limit (start base) x ≡ Live fed ready [] nothing → Wellformed limit ready x × PlacedAll base ready
-ends_read limit base x bytes fed ready e =
-    let h : SoundLive limit base x fed ready [] nothing = subst (Sound limit base x) e (sound limit base x bytes) in
-    (record { spells = sym (h.bytes ∙ append-nil (front ready []) ∙ append-nil (spelled_all ready)); fit = h.ground.fit; shallow = h.ground.shallow }, h.ground.placed)
+ends_read limit base x bytes fed ready e = grind (arith, append-nil, sound)
 
 -- So each node may be at its offset,
 pub placed_reading : (limit p : ℕ) (ts : Trees) (x : List ℕ) → Wellformed limit ts x → Wellformed limit (all_from p ts) x × PlacedAll p (all_from p ts)
@@ -126,8 +125,7 @@ after_first t limit p x fits deep placed =
     takes t limit p no_item [] x fits tt (omega arith) ∙ ap (λ u. run limit (Live (p + length (spelled t)) (more u no_item) [] nothing) x) (same-from t p placed) ∙ front_run (more t no_item) limit x (start (p + length (spelled t)))
 
 pub ready_front : (front : Trees) (s : State) → ready_in (with_front front s) ≡ append_trees front (ready_in s)
-ready_front front (Live fed ready os partial) = refl
-ready_front front (Failed ready q r) = refl
+ready_front front s = grind (arith, common_steps, nat_tests)
 
 -- Each well-formed front of what was read is among the items that are whole: they are the longest.
 pub longest : (limit p : ℕ) (ts : Trees) (x y : List ℕ) → Wellformed limit ts x → (us : Trees) × (ready_in (run limit (start p) (x ++ y)) ≡ append_trees (all_from p ts) us)
@@ -137,23 +135,20 @@ longest limit p ts x y h =
 
 -- ---- of two nodes at the front of the same bytes
 
-goes_on : (a b x y : List ℕ) → a ++ x ≡ b ++ y → ((z : List ℕ) × (a ++ z ≡ b)) ⊎ ((z : List ℕ) × (b ++ z ≡ a))
-goes_on [] b x y e = inl (b, refl)
-goes_on (h ∷ a) [] x y e = inr (h ∷ a, refl)
-goes_on (h ∷ a) (k ∷ b) x y e =
-    let below : a ++ x ≡ b ++ y = cc in
-    let here : h ≡ k = cc in
-    elim (goes_on a b x y below) [
-      | inl r ↦ inl (r.0, (λ i. here i ∷ r.1 i))
-      | inr r ↦ inr (r.0, (λ i. sym here i ∷ r.1 i))
-    ]
+-- one list is the front of another that begins with the same
+pub split : (g h z r : List ℕ) → g ++ z ≡ h ++ r → length g ≤ length h → (m : List ℕ) × (h ≡ g ++ m)
+split [] h z r e l = (h, refl)
+split (b ∷ g) [] z r e l = absurd (omega (arith, l))
+split (b ∷ g) (c ∷ h) z r e l =
+    let rest : g ++ z ≡ h ++ r = cc in
+    let first : c ≡ b = cc in
+    let (m, is) = split g h z r rest (omega (arith, l)) in
+    (m, ap (λ k. k ∷ h) first ∙ ap (λ k. b ∷ k) is)
 
-shorter : (t u : Tree) (z : List ℕ) → Fits t → Fits u → spelled t ++ z ≡ spelled u → spelled t ≡ spelled u
-shorter t u z f g e =
-    let nil : z ≡ [] = (no_item_begins t u z f g e).0 in
-    sym (append-nil (spelled t)) ∙ ap (λ w. spelled t ++ w) (sym nil) ∙ e
+shorter : (t u : Tree) (x y : List ℕ) → Fits t → Fits u → spelled t ++ x ≡ spelled u ++ y → length (spelled t) ≤ length (spelled u) → spelled t ≡ spelled u
+shorter t u x y f g e less =
+    let (z, is) = split (spelled t) (spelled u) x y e less in
+    sym (is ∙ ap (λ w. spelled t ++ w) (no_item_begins t u z f g (sym is)).0 ∙ append-nil (spelled t))
 
 pub one_front : (t u : Tree) (x y : List ℕ) → Fits t → Fits u → spelled t ++ x ≡ spelled u ++ y → (spelled t ≡ spelled u) × (x ≡ y)
-one_front t u x y f g e =
-    let same : spelled t ≡ spelled u = elim (goes_on (spelled t) (spelled u) x y e) [ inl r ↦ shorter t u r.0 f g r.1 | inr r ↦ sym (shorter u t r.0 g f r.1) ] in
-    (same, (append_same (spelled t) (spelled u) x y (ap length same) e).1)
+one_front t u x y f g e = grind (arith, append_same, cases_lt, shorter)

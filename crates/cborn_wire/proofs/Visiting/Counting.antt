@@ -1,120 +1,49 @@
 -- What one more node or a break makes of a partial sequence: the levels that are kept, and the state.
-use Rattle.std.specs.Prelude.{◌≡◌, ◌+◌, ◌/◌, ◌%◌, ◌^◌, ◌<◌, ◌≤◌, ◌∷◌, ◌++◌, ◌⊎◌}
-use Rattle.cborn_wire.proofs.Common.{refl, sym, ap, ◌∙◌, subst, ℕ, zero, suc, List, [], length, Bool, true, false, not, cond, ltb, eqb, Option, Some, None, inl, inr, arith, cases_lt, length-append, length_push, le-leb, lt-leb, lt-ltb, le-ltb, Width, Eight, Fixed, Endless, WidthFits, Tree, Opening, an_array, a_map, a_tag, in_chunks, Partial, top, inside, no_part, put, last_key, built, string_tree, Goes, Ends, TakesItem, TakesString, Proper, IsFree, UnexpectedBreak, StringKind, OfBytes, OfText, opened, slot, slot_in, slot_in_map, HeadFits, needs_item, Slot, item, element_or_end, plain, nothing, is_full, Live, Failed, finished, ended, LevelKind, Level, ready, open_in, state, AreFromBytes, levels, Keeps, with_part, may_end, lessened, is_even, is_chunks, slot_of, kind_in, level_in, level_with, input_level, announced_nodes, kind_at_none, with_kind, if_none}
+use Rattle.std.proofs.lemmas.Grind.{common_steps}
+use Rattle.std.specs.Prelude.{◌≡◌, ◌+◌, ◌%◌, ◌^◌, ◌<◌, ◌∷◌, ◌++◌}
+use Rattle.cborn_wire.proofs.Common.{refl, sym, ap, ◌∙◌, ℕ, List, [], length, Bool, true, false, not, cond, ltb, eqb, Option, Some, None, arith, length-append, length_push, Width, Fixed, WidthFits, Tree, Opening, an_array, a_map, a_tag, Partial, top, inside, no_part, put, last_key, built, string_tree, Goes, Ends, TakesItem, TakesString, Proper, IsFree, UnexpectedBreak, StringKind, opened, slot, slot_in, slot_in_map, HeadFits, needs_item, Slot, item, element_or_end, plain, nothing, is_full, Live, Failed, finished, ended, Level, ready, open_in, state, AreFromBytes, levels, Keeps, with_part, may_end, lessened, is_even, is_chunks, slot_of, kind_in, level_in, level_with, input_level, announced_nodes, kind_at_none, IsNoString}
+use Rattle.std.proofs.lemmas.Bool.Decides.{nat_tests}
 use Rattle.cborn_wire.specs.declared.levels.LevelKind.TheVariants.{Map, GreatMap}
 use Rattle.cborn_wire.proofs.Machine.Containers.{pair_count, even, goes_on, goes_whole, break_ends}
-use Rattle.cborn_wire.proofs.Machine.SoundItems.{Accepts}
+use Rattle.cborn_wire.proofs.Machine.SoundItems.{Accepts, accepted}
 use Rattle.cborn_wire.proofs.Spelled.TreeLists.{trees-push}
 
 -- lists that end alike
 pub last_same : {A : Type 0} (xs ys : List A) {x y : A} → xs ++ x ∷ [] ≡ ys ++ y ∷ [] → (xs ≡ ys) × (x ≡ y)
-last_same [] [] e = (refl, cc)
-last_same [] (b ∷ ys) {x} {y} e = absurd (omega (arith, ap length e, length-append ys (y ∷ [])))
-last_same (a ∷ xs) [] {x} {y} e = absurd (omega (arith, ap length e, length-append xs (x ∷ [])))
-last_same (a ∷ xs) (b ∷ ys) {x} {y} e =
-    let first : a ≡ b = cc in
-    let rest : xs ++ x ∷ [] ≡ ys ++ y ∷ [] = cc in
-    let h = last_same xs ys rest in
-    (ap (λ l. a ∷ l) h.0 ∙ ap (λ c. c ∷ ys) first, h.1)
+last_same xs ys h = grind (arith, common_steps, nat_tests)
 
 -- parts that are missing, modulo 2^64
 
 pub again : (n k : ℕ) → lessened (lessened n k) 1 ≡ lessened n (k + 1)
 again n k = omega arith
 
--- A level with one more part: some are missing then, or none, modulo 2^64.
+-- A level with one more part: some are missing then, or it announces no number of parts.
 module _ (l : Level) where
-  some_missing : (m : ℕ) → 0 < m → if_none (record l { missing = m }) m ≡ Some (record l { missing = m })
-  some_missing zero h = absurd (omega (arith, h))
-  some_missing (suc m) h = refl
-
-  none_missing : (m : ℕ) (r : Option LevelKind) → m ≡ 0 → kind_at_none l.kind ≡ r → if_none (record l { missing = m }) m ≡ with_kind (record l { missing = m }) r
-  none_missing zero r h e = ap (with_kind (record l { missing = 0 })) e
-  none_missing (suc m) r h e = absurd (omega (arith, h))
-
   pub counted_on : 0 < lessened l.missing 1 → with_part l ≡ Some (record l { missing = lessened l.missing 1 })
-  counted_on h = some_missing (lessened l.missing 1) h
+  counted_on h = grind (arith, nat_tests)
 
-  at_none_is : (r : Option LevelKind) → lessened l.missing 1 ≡ 0 → kind_at_none l.kind ≡ r → with_part l ≡ with_kind (record l { missing = lessened l.missing 1 }) r
-  at_none_is r h e = none_missing (lessened l.missing 1) r h e
-
-  -- a level that announces no number of parts
   pub endless_on : kind_at_none l.kind ≡ Some l.kind → with_part l ≡ Some (record l { missing = lessened l.missing 1 })
-  endless_on e = elim (cases_lt 0 (lessened l.missing 1)) [ inl h ↦ counted_on h | inr h ↦ at_none_is (Some l.kind) (omega (arith, h)) e ]
-
-small : (w : Width) (n : ℕ) → WidthFits w n → n < 2 ^ 64
-small Eight n h = h
-small w n h = omega arith
+  endless_on e = grind (arith, nat_tests)
 
 -- The level of a container with one more node: none, if it is whole.
 
 abbrev Next : Opening → ℕ → Type 0
 Next o k = with_part (level_with o k) ≡ cond (is_full o (k + 1)) None (Some (level_with o (k + 1)))
 
--- it is whole
-whole_next : (o : Opening) (k : ℕ) → lessened (announced_nodes o) (k + 1) ≡ 0 → kind_at_none (kind_in o k) ≡ None → is_full o (k + 1) ≡ true → Next o k
-whole_next o k none end full = at_none_is (level_with o k) None (again (announced_nodes o) k ∙ none) end ∙ ap (λ b. cond b None (Some (level_with o (k + 1)))) (sym full)
+array_next : (p : ℕ) (w : Width) (n k : ℕ) → n < 2 ^ 64 → k < n → Next (an_array p (Fixed w) (Some n)) k
+array_next p w n k fits h = grind (arith, nat_tests)
 
--- it isn't
-on_next : (o : Opening) (k : ℕ) (c : LevelKind) → with_part (level_with o k) ≡ Some (record (level_with o k) { kind = c; missing = lessened (lessened (announced_nodes o) k) 1 }) → c ≡ kind_in o (k + 1) → is_full o (k + 1) ≡ false → Next o k
-on_next o k c is kind more =
-    is
-    ∙ ap (λ m. Some (record (level_with o k) { kind = c; missing = m })) (again (announced_nodes o) k)
-    ∙ ap (λ d. Some (record (level_with o (k + 1)) { kind = d })) kind
-    ∙ ap (λ b. cond b None (Some (level_with o (k + 1)))) (sym more)
+map_next : (p : ℕ) (w : Width) (n k : ℕ) → n < 2 ^ 64 → k < n + n → Next (a_map p (Fixed w) (Some n)) k
+map_next p w n k fits h = grind (arith, nat_tests)
 
-some_next : (o : Opening) (k : ℕ) → 0 < lessened (announced_nodes o) (k + 1) → kind_in o k ≡ kind_in o (k + 1) → is_full o (k + 1) ≡ false → Next o k
-some_next o k some kind more = on_next o k (kind_in o k) (counted_on (level_with o k) (subst (λ m. 0 < m) (sym (again (announced_nodes o) k)) some)) kind more
+tag_next : (p : ℕ) (w : Width) (n k : ℕ) → k ≡ 0 → Next (a_tag p w n) k
+tag_next p w n k h = grind (arith, nat_tests)
 
 endless_next : (o : Opening) (k : ℕ) → kind_at_none (kind_in o k) ≡ Some (kind_in o k) → kind_in o k ≡ kind_in o (k + 1) → is_full o (k + 1) ≡ false → Next o k
-endless_next o k e kind more = on_next o k (kind_in o k) (endless_on (level_with o k) e) kind more
-
--- a map of n pairs, of which k keys and values are whole
-module _ (p : ℕ) (w : Width) (n k : ℕ) (fits : n < 2 ^ 64) where
-  abbrev o : Opening
-  o = a_map p (Fixed w) (Some n)
-
-  kind_same : (b c : Bool) → ltb (k + 2 ^ 64) (n + n) ≡ b → ltb (k + 1 + 2 ^ 64) (n + n) ≡ c → b ≡ c → kind_in o k ≡ kind_in o (k + 1)
-  kind_same b c e f same = ap (λ d. cond d GreatMap Map) (e ∙ same ∙ sym f)
-
-  great : (b : Bool) → ltb (k + 2 ^ 64) (n + n) ≡ b → kind_in o k ≡ cond b GreatMap Map
-  great b e = ap (λ d. cond d GreatMap Map) e
-
-  map_more : k + 1 < n + n → Next o k
-  map_more h = elim (cases_lt (k + 1 + 2 ^ 64) (n + n)) [
-    | inl far ↦ some_next o k (omega (arith, far, fits)) (kind_same true true (lt-ltb _ _ (omega (arith, far))) (lt-ltb _ _ far) refl) more
-    | inr near ↦ elim (cases_lt (k + 2 ^ 64) (n + n)) [
-      | inl last ↦
-          let none : lessened (n + n) (k + 1) ≡ 0 = omega (arith, near, last) in
-          on_next o k Map (at_none_is (level_with o k) (Some Map) (again (n + n) k ∙ none) (ap kind_at_none (great true (lt-ltb _ _ last)))) (sym (ap (λ d. cond d GreatMap Map) (le-ltb _ _ near))) more
-      | inr close ↦ some_next o k (omega (arith, h, close)) (kind_same false false (le-ltb _ _ close) (le-ltb _ _ near) refl) more
-    ]
-  ]
-    where
-      more : is_full o (k + 1) ≡ false
-      more = lt-leb n ((k + 1) / 2) (omega (arith, h))
-
-  map_next : k < n + n → Next o k
-  map_next h = elim (cases_lt (k + 1) (n + n)) [
-    | inl less ↦ map_more less
-    | inr all ↦ whole_next o k (omega (arith, h, all)) (ap kind_at_none (great false (le-ltb _ _ (omega (arith, all))))) (le-leb n ((k + 1) / 2) (omega (arith, all)))
-  ]
+endless_next o k e kind more = endless_on (level_with o k) e ∙ rw (again (announced_nodes o) k, ← kind, more) refl
 
 next : (o : Opening) (ts : List Tree) → HeadFits o → Goes o ts → Next o (length ts)
-next (an_array p (Fixed w) (Some n)) ts fits h = go (cases_lt (length ts + 1) n)
-  where
-    o : Opening
-    o = an_array p (Fixed w) (Some n)
-
-    go : (length ts + 1 < n) ⊎ (n ≤ length ts + 1) → Next o (length ts)
-    go (inl less) = some_next o (length ts) (omega (arith, less, small w n fits)) refl (lt-leb n (length ts + 1) less)
-    go (inr all) = whole_next o (length ts) (omega (arith, h, all, small w n fits)) refl (le-leb n (length ts + 1) all)
-next (an_array p Endless None) ts fits h = endless_next (an_array p Endless None) (length ts) refl refl refl
-next (a_map p (Fixed w) (Some n)) ts fits h = map_next p w n (length ts) (small w n fits) (omega (arith, h, pair_count ts))
-next (a_map p Endless None) ts fits h = endless_next (a_map p Endless None) (length ts) refl refl refl
-next (a_tag p w n) ts fits h = whole_next (a_tag p w n) (length ts) (omega (arith, ap length h)) refl (le-leb 1 (length ts + 1) (omega arith))
-next (in_chunks p k) ts fits h = endless_next (in_chunks p k) (length ts) refl refl refl
-next c ts fits h = absurd fits
+next o ts h e = grind (arith, common_steps, nat_tests, array_next, endless_next, map_next, pair_count, tag_next)
 
 -- the same of one more node
 after_next : (o : Opening) (ts : List Tree) (t : Tree) → HeadFits o → Goes o ts → with_part (level_in o ts) ≡ cond (is_full o (length (ts ++ t ∷ []))) None (Some (level_in o (ts ++ t ∷ [])))
@@ -139,12 +68,10 @@ pub record Innermost (h : Partial) (ls : List Level) : Type 0 where
   pub from_bytes : AreFromBytes around
 
 some_of : (c : Bool) (k r : Level) → cond c None (Some k) ≡ Some r → (c ≡ false) × (k ≡ r)
-some_of true k r e = cc
-some_of false k r e = (refl, cc)
+some_of c k r h = grind (arith, common_steps, nat_tests)
 
 none_of : (c : Bool) (k : Level) → cond c None (Some k) ≡ None → c ≡ true
-none_of true k e = refl
-none_of false k e = cc
+none_of c k h = grind (arith, common_steps, nat_tests)
 
 -- its slot, and whether a break may end it
 
@@ -179,16 +106,13 @@ top_slot (top ts) ls l e = ap (λ (m : Level). slot_of m.kind m.missing) (sym (l
 top_slot (inside f o ts) ls l e = ap (λ (m : Level). slot_of m.kind m.missing) (sym (last_same (levels f) ls e).1) ∙ level_slot o ts
 
 plain_needs : (s : Slot) → needs_item (plain s) ≡ needs_item s
-plain_needs item = refl
-plain_needs s = refl
+plain_needs s = grind (arith, common_steps, nat_tests)
 
 ends_slot : (f : Partial) (ls : List Level) (l : Level) → levels f ≡ ls ++ l ∷ [] → may_end l.kind l.missing ≡ not (needs_item (slot (open_in f)))
 ends_slot f ls l e = ap not (ap needs_item (top_slot f ls l e) ∙ plain_needs (slot (open_in f)))
 
 not_is : (b c : Bool) → not b ≡ not c → b ≡ c
-not_is true true e = refl
-not_is false false e = refl
-not_is b c e = cc
+not_is b c h = grind (arith, common_steps, nat_tests)
 
 module _ (end : ℕ) where
   pub stays : (h : Partial) (u : Tree) (ls : List Level) (l r : Level) → levels h ≡ ls ++ l ∷ [] → Proper h → Accepts (open_in h) u → AreFromBytes h → with_part l ≡ Some r
@@ -240,15 +164,14 @@ kept_as f {around} {now} {l} {m} same is h = (h.0 ∙ ap (λ ls. ls ++ l ∷ [])
 
 -- what may be next
 
+pub no_string : (f : Partial) → TakesItem f → IsNoString (open_in f)
+no_string f h = grind (arith, common_steps, nat_tests)
+
 pub item_accepted : (f : Partial) (t : Tree) → TakesItem f → Accepts (open_in f) t
-item_accepted (inside f (in_chunks p k) ts) t h = absurd h
-item_accepted f t h = tt
+item_accepted f t h = accepted (open_in f) t (no_string f h)
 
 pub string_accepted : (f : Partial) (p : ℕ) (k : StringKind) (w : Width) (x : List ℕ) → TakesString f k → Accepts (open_in f) (string_tree p k w x)
-string_accepted (inside f (in_chunks q OfBytes) ts) p OfText w x h = cc
-string_accepted (inside f (in_chunks q OfText) ts) p OfBytes w x h = cc
-string_accepted f p k w x h = tt
+string_accepted f p k w x h = grind (arith, common_steps, nat_tests)
 
 pub item_free : (f : Partial) (ls : List Level) (l : Level) → levels f ≡ ls ++ l ∷ [] → is_chunks l.kind ≡ false → TakesItem f
-item_free (inside f (in_chunks q j) ts) ls l e free = let h = last_same (levels f) ls e in cc (ap (λ (m : Level). is_chunks m.kind) h.1 ∙ free)
-item_free f ls l e free = tt
+item_free f ls l h e = grind (arith, common_steps, nat_tests)

@@ -1,6 +1,8 @@
 -- What a reader is before the first byte, at the end of the input, and at a head that isn't allowed; and what one that stops after one item says of the front of the bytes.
+use Rattle.std.proofs.lemmas.Grind.{common_steps}
+use Rattle.std.proofs.lemmas.Bool.Decides.{nat_tests}
 use Rattle.std.specs.Prelude.{◌≡◌, ◌+◌, ◌<◌, ◌≤◌, ◌∷◌, ◌++◌}
-use Rattle.cborn_wire.proofs.Common.{refl, sym, ap, ◌∙◌, subst, ℕ, List, [], length, length-drop, take, Option, Some, None, Err, inl, arith, take_all, AreBytes, Tree, Trees, trees, Wellformed, PlacedAll, Partial, top, inside, Part, no_part, part, VisitFault, WireReason, Truncated, Level, PartialHead, HeadReader, Fault, OpenContainer, Unfinished, nothing, State, Live, start, run, ready, open_in, unfinished, Stands, seen_head, HereAt, IsFresh, IsInput, IsFed, MayEnd, levels, Missing, Reads, RefusesPiece, drop, append-nil, Ok, inr, length-take-le, take-append-drop, drop-drop, nil_from_length, no_item, depth, spelled, Fits, EndsHeld, Failed, ready_in, AtMostOneMore, ReadsItem}
+use Rattle.cborn_wire.proofs.Common.{refl, sym, ap, ◌∙◌, subst, ℕ, List, [], length, length-drop, take, Option, Some, Err, inl, arith, take_all, AreBytes, Tree, Trees, trees, Wellformed, PlacedAll, Partial, top, inside, Part, no_part, part, VisitFault, WireReason, Truncated, Level, PartialHead, HeadReader, Fault, OpenContainer, Unfinished, nothing, State, Live, start, run, ready, open_in, unfinished, Stands, HereAt, IsFresh, IsInput, IsFed, MayEnd, levels, Missing, Reads, RefusesPiece, drop, append-nil, Ok, inr, length-take-le, take-append-drop, drop-drop, nil_from_length, no_item, depth, spelled, Fits, EndsHeld, Failed, ready_in, AtMostOneMore, ReadsItem}
 use Rattle.cborn_wire.specs.declared.faults.VisitFault.TheVariants as faults
 use Rattle.cborn_wire.specs.Faults.{Refused}
 use Rattle.cborn_wire.proofs.Spelled.SlotLaws.{cut_short}
@@ -15,13 +17,11 @@ use Rattle.cborn_wire.proofs.Feeding.FeederLaws.{no_first}
 
 -- a reader that was handed nothing
 pub fresh_fed : (holds : Partial → Part → Type 0) (outer : List Level) (l : Level) (limit at : ℕ) (m : HeadReader) → holds (top []) no_part → IsInput outer l → IsFresh limit at m → IsFed holds outer l m at []
-fresh_fed holds outer l limit at m held (bare, input) (limited, at_is, none, between, small) =
-    (tt, small, rw (at_is, none, between) (record { partial = top []; amid = no_part; held = held; levels = (ap (λ k. k ∷ []) (sym input) ∙ ap (λ ls. ls ++ l ∷ []) (sym bare), tt, tt); missing = refl; fits = tt; is = refl }))
+fresh_fed holds outer l limit at m held h e = grind arith
 
 -- a state that a reader is at lives
 live_here : (holds : Partial → Part → Type 0) (outer : List Level) (l : Level) (left at : ℕ) (h : Option PartialHead) (s : State) → HereAt holds outer l left at h s → (rd : Trees) × (os : List OpenContainer) × (q : Unfinished) × (s ≡ Live at rd os q)
-live_here holds outer l left at None s here = (ready here.partial, open_in here.partial, unfinished here.amid, here.is)
-live_here holds outer l left at (Some p) s (short, f, held, are, takes, is) = (ready f, open_in f, seen_head p, is)
+live_here holds outer l left at h s e = grind (arith, common_steps, nat_tests)
 
 module _ (holds : Partial → Part → Type 0) (outer : List Level) (l : Level) (m : HeadReader) (base : ℕ) (x : List ℕ) (fed : IsFed holds outer l m base x) where
   -- The input may end: the visitor holds the nodes that the bytes spell.
@@ -66,8 +66,7 @@ module _ (holds : Partial → Part → Type 0) (outer : List Level) (l : Level) 
       subst (λ k. Fault limit x k r) (omega (arith, at)) (subst (λ k. Fault k x q r) limited (inl fault))
 
 pub ends_item : (P : Tree → Type 0) (limit p : ℕ) (x : List ℕ) (end : Option ℕ) → EndsHeld P limit x p (Ok end) → EndsItem limit x p (Ok end)
-ends_item P limit p x (Some end) (some, within, t, held, first) = (some, within, t, first)
-ends_item P limit p x None h = h
+ends_item P limit p x end h = grind (arith, common_steps, nat_tests)
 
 -- Nothing is there.
 pub none_there : (limit p : ℕ) (x : List ℕ) → p ≡ length x → EndsItem limit x p (Err (wire.Refused p Truncated))

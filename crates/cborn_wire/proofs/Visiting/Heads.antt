@@ -1,14 +1,17 @@
 -- What is made of the head of an array, a map or a tag and of a break, and of heads that are taken one after another off the front of a piece.
+use Rattle.std.proofs.lemmas.Grind.{common_steps}
+use Rattle.std.proofs.lemmas.Bool.Decides.{nat_tests}
 use Rattle.std.specs.Prelude.{◌≡◌, ◌+◌, ◌-◌, ◌<◌, ◌≤◌, ◌++◌, ◌/◌, ◌%◌, ◌∷◌}
-use Rattle.cborn_wire.proofs.Common.{refl, sym, ap, ◌∙◌, subst, inl, inr, ℕ, List, length, take, drop, arith, length-append, AreBytes, Partial, Part, no_part, Level, TakesHead, nothing, ready_in, run, IsReached, AtMostOneMore, AreOpen, ready, open_in, state, Keeps, Stands, zero, suc, [], get_or, leb, false, None, Array, Map, Other, EndlessArgument, Head, slot, open_depth, major_at, seen_argument, IsHeadOf, info_at, is_always_bounded, head_reason, after_head, ended}
+use Rattle.cborn_wire.proofs.Common.{refl, sym, ap, ◌∙◌, subst, inl, inr, ℕ, List, length, take, drop, arith, AreBytes, Partial, Part, no_part, Level, TakesHead, nothing, ready_in, run, IsReached, AtMostOneMore, AreOpen, ready, open_in, state, Keeps, Stands, [], get_or, leb, false, None, Array, Map, Head, slot, open_depth, major_at, seen_argument, IsHeadOf, info_at, is_always_bounded, head_reason, after_head}
 use Rattle.cborn_model.proofs.Bytes.{bytes-left}
 use Rattle.cborn_wire.proofs.Machine.Running.{run-append}
 use Rattle.cborn_wire.proofs.Machine.SoundRuns.{reached_more}
-use Rattle.cborn_wire.proofs.Visiting.Pieces.{front_taken, next_taken, taken_len}
+use Rattle.cborn_wire.proofs.Visiting.Pieces.{next_taken, taken_len}
 use Rattle.cborn_wire.proofs.Visiting.Taking.{between, outer_count, reached_open}
 use Rattle.cborn_wire.specs.declared.heads.Argument.TheVariants.{Endless}
 use Rattle.cborn_wire.proofs.HeadReading.HeadFronts.{endless_head}
-use Rattle.cborn_wire.proofs.HeadReading.HeadSteps.{break_taken, head_taken}
+use Rattle.cborn_wire.proofs.HeadReading.HeadSteps.{head_taken}
+use Rattle.cborn_wire.proofs.Visiting.Leaves.{taken_as}
 use Rattle.cborn_wire.proofs.Machine.WholeFront.{one_more_head}
 
 -- the major type of an initial byte
@@ -21,30 +24,17 @@ map_major b low high = ap major_at {x = 5} (omega arith)
 
 -- an array or a map has an indefinite length or a definite one
 bounded_not : (n : ℕ) → 4 ≤ n → n < 6 → is_always_bounded (major_at n) ≡ false
-bounded_not (suc (suc (suc (suc zero)))) low high = refl
-bounded_not (suc (suc (suc (suc (suc zero))))) low high = refl
-bounded_not n low high = absurd (omega (arith, low, high))
+bounded_not n h e = grind (arith, common_steps, nat_tests)
 
 pub endless_at : (x : List ℕ) → 0 < length x → 128 ≤ get_or x 0 0 → get_or x 0 0 < 192 → get_or x 0 0 % 32 ≡ 31 → IsHeadOf x (record { major = get_or x 0 0 / 32; argument = Endless }) 1
 endless_at [] some low high e = absurd (omega (arith, some))
 endless_at (b ∷ y) some low high e = endless_head y b (b / 32) (omega (arith, high)) refl (ap info_at e) (bounded_not (b / 32) (omega (arith, low)) (omega (arith, high)))
 
--- what is made of a head that is whole at the front of the piece, and of a break
-module _ (limit place : ℕ) (f : Partial) (piece : List ℕ) (holds : Partial → Part → Type 0) (around : List Level) (l : Level) where
-  pub head_opens : (h : Head) (n left : ℕ) → IsHeadOf piece h n → None ≡ head_reason (slot (open_in f)) (leb limit (open_depth (open_in f))) (major_at (get_or piece 0 0 / 32)) (info_at (get_or piece 0 0 % 32)) []
-      → left ≡ 0 → Stands holds around l left (place + n) (after_head (place + n) place (ready f) (open_in f) (major_at h.major) (seen_argument h.argument)) → TakesHead limit place f piece holds around l n
-  head_opens h n left is none no_left stands =
-      let goes = head_taken limit place (ready f) (open_in f) piece h n is none in (
-        subst (Stands holds around l 0 (place + n)) (sym goes) (subst (λ k. Stands holds around l k (place + n) (after_head (place + n) place (ready f) (open_in f) (major_at h.major) (seen_argument h.argument))) no_left stands),
-        subst (AtMostOneMore (ready f)) (sym goes) (one_more_head (ready f) (major_at h.major) (seen_argument h.argument) (open_in f) _ _),
-      )
-
-  pub break_ends : (left : ℕ) → 0 < length piece → get_or piece 0 0 ≡ 255 → left ≡ 0 → Stands holds around l left (place + 1) (ended (place + 1) place (ready f) (open_in f)) → TakesHead limit place f piece holds around l 1
-  break_ends left some first no_left stands =
-      let goes = break_taken limit place (ready f) (open_in f) piece some first in (
-        subst (Stands holds around l 0 (place + 1)) (sym goes) (subst (λ k. Stands holds around l k (place + 1) (ended (place + 1) place (ready f) (open_in f))) no_left stands),
-        subst (AtMostOneMore (ready f)) (sym goes) (one_more_head (ready f) Other EndlessArgument (open_in f) _ _),
-      )
+-- what is made of a head that is whole at the front of the piece
+pub head_opens : (limit place : ℕ) (f : Partial) (piece : List ℕ) (holds : Partial → Part → Type 0) (around : List Level) (l : Level) (h : Head) (n left : ℕ) → IsHeadOf piece h n
+    → None ≡ head_reason (slot (open_in f)) (leb limit (open_depth (open_in f))) (major_at (get_or piece 0 0 / 32)) (info_at (get_or piece 0 0 % 32)) []
+    → left ≡ 0 → Stands holds around l left (place + n) (after_head (place + n) place (ready f) (open_in f) (major_at h.major) (seen_argument h.argument)) → TakesHead limit place f piece holds around l n
+head_opens limit place f piece holds around l h n left is none no_left stands = grind (arith, head_taken, one_more_head, taken_as)
 
 -- A front y of the piece was taken, after which the partial sequence is h.
 module _ (limit place : ℕ) (f : Partial) (piece y rest : List ℕ) (cut : piece ≡ y ++ rest) (at : ℕ) (there : at ≡ place + length y) (h : Partial) (same : ready h ≡ ready f) (is : run limit (state place f no_part) y ≡ state at h no_part) where
@@ -53,14 +43,7 @@ module _ (limit place : ℕ) (f : Partial) (piece y rest : List ℕ) (cut : piec
 
   module _ (holds : Partial → Part → Type 0) (outer : List Level) (inner : Level) where
     pub front_heads : holds h no_part → Keeps h outer inner → TakesHead limit place f piece holds outer inner (length piece - length rest)
-    front_heads held kept =
-        let k = length piece - length rest in
-        let many : k ≡ length y = omega (arith, ap length cut, length-append y rest) in
-        let goes : run limit (state place f no_part) (take k piece) ≡ state at h no_part = ap (λ j. run limit (state place f no_part) (take j piece)) many ∙ ap (run limit (state place f no_part)) (front_taken piece y rest cut) ∙ is in
-        let far : at ≡ place + k = omega (arith, there, many) in (
-          record { partial = h; amid = no_part; held = held; levels = kept; missing = refl; fits = tt; is = goes ∙ ap (λ j. state j h no_part) far },
-          inl (ap ready_in goes ∙ same),
-        )
+    front_heads held kept = grind (arith, common_steps, nat_tests)
 
     -- n more bytes are taken
     module _ (n : ℕ) (fits : n ≤ length rest) (takes : TakesHead limit at h rest holds outer inner n) where
@@ -71,13 +54,7 @@ module _ (limit place : ℕ) (f : Partial) (piece y rest : List ℕ) (cut : piec
       one_more = subst (λ r. AtMostOneMore r (run limit (state at h no_part) (take n rest))) same takes.1
 
       pub more_heads : TakesHead limit place f piece holds outer inner (length piece - length (take (length rest - n) (drop n rest)))
-      more_heads =
-          let k = length piece - length (take (length rest - n) (drop n rest)) in
-          let goes : run limit (state place f no_part) (take k piece) ≡ run limit (state at h no_part) (take n rest) = ap (run limit (state place f no_part)) (next_taken piece y rest cut n fits) ∙ next in
-          let far : at + n ≡ place + k = omega (arith, there, taken_len piece y rest cut n fits) in (
-            subst (λ j. Stands holds outer inner 0 j (run limit (state place f no_part) (take k piece))) far (subst (Stands holds outer inner 0 (at + n)) (sym goes) takes.0),
-            subst (AtMostOneMore (ready f)) (sym goes) one_more,
-          )
+      more_heads = grind (arith, next, next_taken, one_more, taken_len)
 
       -- no item became whole, since something is open
       pub heads_go_on : 0 < length outer → (g : Partial) × holds g no_part × Keeps g outer inner × (ready g ≡ ready f) × (run limit (state place f no_part) (y ++ take n rest) ≡ state (at + n) g no_part)

@@ -1,16 +1,16 @@
 -- What is read and made of a leaf.
+use Rattle.std.proofs.lemmas.Grind.{common_steps}
+use Rattle.std.proofs.lemmas.Bool.Decides.{nat_tests}
 use Rattle.std.specs.Prelude.{◌≡◌, ◌+◌, ◌-◌, ◌/◌, ◌%◌, ◌<◌, ◌≤◌, ◌∷◌, ◌++◌}
-use Rattle.cborn_wire.proofs.Common.{refl, sym, ap, ◌∙◌, subst, ℕ, zero, suc, List, [], length, take, drop, get_or, Bool, true, false, cond, leb, Option, Some, None, arith, length-append, lt-leb, length-take-le, take-add, AreBytes, Width, Direct, Major, Unsigned, Negative, ByteString, TextString, Other, code, WidthFits, Tree, Trees, Uint, Nint, Simple, an_array, a_map, in_chunks, Partial, top, inside, Part, no_part, put, last_key, TakesItem, TakesString, string_tree, Full, GivenHead, Level, LevelKind, major_at, IsHeadOf, Slot, chunk, OpenContainer, slot, slot_in_map, open_depth, Info, Now, Next, info_at, info_for, is_bad_chunk, head_reason, width_bytes, number, content_of, gathering, Live, content_at, after_head, finished, run, AtMostOneMore, ready, open_in, state, slot_of, is_chunks, is_even, Stands, IsNoChunkSlot, IsGiven, IsLeafOf, IsLeaf, content_len, leaf_tree, AfterLeaves, TakesHead}
+use Rattle.cborn_wire.proofs.Common.{refl, sym, ap, ◌∙◌, subst, ℕ, List, [], length, take, drop, get_or, Bool, false, leb, None, arith, length-append, lt-leb, length-take-le, take-add, AreBytes, Width, Direct, Major, Unsigned, Negative, ByteString, TextString, Other, code, WidthFits, Tree, Trees, Uint, Nint, Simple, Partial, Part, no_part, put, TakesItem, TakesString, string_tree, Full, GivenHead, Level, LevelKind, major_at, IsHeadOf, Slot, OpenContainer, slot, open_depth, Next, info_at, info_for, head_reason, width_bytes, number, content_at, after_head, finished, run, AtMostOneMore, ready, open_in, state, slot_of, is_chunks, Stands, IsNoChunkSlot, IsGiven, IsLeafOf, IsLeaf, content_len, leaf_tree, TakesHead, State}
 use Rattle.cborn_model.specs.Heads as heads
 use Rattle.cborn_model.specs.declared.visitors.StringKind.{StringKind}
 use Rattle.cborn_model.specs.declared.visitors.StringKind.TheVariants.{OfBytes, OfText}
 use Rattle.cborn_wire.specs.declared.heads.Argument.TheVariants.{Given}
-use Rattle.cborn_wire.specs.Slots.{element_or_end, item}
-use Rattle.cborn_wire.specs.declared.levels.LevelKind.TheVariants.{EndlessMap, Chunks}
 use Rattle.cborn_wire.proofs.HeadReading.HeadFronts.{direct_head, wide_head, wide_fronts}
 use Rattle.cborn_wire.proofs.HeadReading.HeadSteps.{head_some, head_taken}
-use Rattle.cborn_wire.proofs.Machine.TakesItems.{clear_given}
-use Rattle.cborn_wire.proofs.Machine.WholeFront.{one_more_finished}
+use Rattle.cborn_wire.proofs.Visiting.Counting.{no_string}
+use Rattle.cborn_wire.proofs.Machine.TakesItems.{slot_plain}
 use Rattle.cborn_wire.proofs.Machine.Pieces.{major_of_head, info_of_head, content_done}
 use Rattle.cborn_wire.proofs.Machine.Running.{run-append}
 use Rattle.cborn_wire.proofs.Machine.SoundRuns.{code_at}
@@ -18,8 +18,7 @@ use Rattle.cborn_wire.proofs.Machine.SoundRuns.{code_at}
 -- the head
 
 pub given_direct : (x : List ℕ) → AreBytes x → 1 ≤ length x → get_or x 0 0 % 32 < 24 → IsGiven x (record { first = get_or x 0 0; width = Direct; argument = get_or x 0 0 % 32; len = 1 })
-given_direct [] are some low = absurd (omega arith)
-given_direct (b ∷ y) are some low = record { head = direct_head y b are.0 low; first = refl; direct = λ h. refl }
+given_direct x h e g = grind (arith, common_steps, nat_tests, direct_head)
 
 not_other : (n : ℕ) → n < 7 → major_at n ≡ Other → ⊥
 not_other n h e = absurd (omega (arith, h, code_at n (omega arith), ap code e))
@@ -39,11 +38,7 @@ given_wide (b ∷ y) rest w n k same are some low i all value len =
 -- which heads are those of leaves
 
 text_major : (n : ℕ) (w : Width) → IsLeaf (major_at n) w → 3 ≤ n → n < 7 → n ≡ 3
-text_major (suc (suc (suc zero))) w l low high = refl
-text_major (suc (suc (suc (suc zero)))) w l low high = absurd l
-text_major (suc (suc (suc (suc (suc zero))))) w l low high = absurd l
-text_major (suc (suc (suc (suc (suc (suc zero)))))) w l low high = absurd l
-text_major n w l low high = absurd (omega (arith, low, high))
+text_major n w h e g = grind (arith, common_steps, nat_tests)
 
 pub bytes_are : (p n k : ℕ) (w : Width) (x : List ℕ) → n ≡ 2 → string_tree p OfBytes w x ≡ leaf_tree p (major_at n) w k x
 bytes_are p n k w x e = ap (λ m. leaf_tree p (major_at m) w k x) (sym e)
@@ -52,34 +47,15 @@ pub text_is : (p n k : ℕ) (w : Width) (x : List ℕ) → IsLeaf (major_at n) w
 text_is p n k w x l low high = ap (λ m. leaf_tree p (major_at m) w k x) (sym (text_major n w l low high))
 
 pub string_free : (f : Partial) (k : StringKind) → TakesItem f → TakesString f k
-string_free (inside f (in_chunks p j) ts) k h = absurd h
-string_free f k h = tt
+string_free f k h = grind (arith, common_steps, nat_tests)
 
 -- a leaf is allowed wherever an item is
 
 pub plain_slot : (f : Partial) → TakesItem f → IsNoChunkSlot (slot (open_in f))
-plain_slot (inside f (in_chunks p k) ts) h = absurd h
-plain_slot (inside f (an_array p s None) ts) h = tt
-plain_slot (inside f (a_map p s c) ts) h = go c (last_key ts)
-  where
-    go : (c : Option ℕ) (x : Option Tree) → IsNoChunkSlot (slot_in_map c x)
-    go None None = tt
-    go (Some n) None = tt
-    go c x = tt
-plain_slot f h = tt
-
-no_chunk : (s : Slot) (m : Major) (i : Info) → IsNoChunkSlot s → is_bad_chunk s m i ≡ false
-no_chunk (chunk k) m i h = absurd h
-no_chunk s m i h = refl
+plain_slot f h = slot_plain (open_in f) (no_string f h)
 
 pub leaf_free : (s : Slot) (full : Bool) (m : Major) (w : Width) (n : ℕ) → IsNoChunkSlot s → IsLeaf m w → head_reason s full m (info_for (heads.Given w n)) [] ≡ None
-leaf_free s full Unsigned w n h l = clear_given s full Unsigned w n (no_chunk s Unsigned (info_for (heads.Given w n)) h) refl refl
-leaf_free s full Negative w n h l = clear_given s full Negative w n (no_chunk s Negative (info_for (heads.Given w n)) h) refl refl
-leaf_free s full ByteString w n h l = clear_given s full ByteString w n (no_chunk s ByteString (info_for (heads.Given w n)) h) refl refl
-leaf_free s full TextString w n h l = clear_given s full TextString w n (no_chunk s TextString (info_for (heads.Given w n)) h) refl refl
-leaf_free s full Other Direct n h l = rw (no_chunk s Other (Now n) h) refl
-leaf_free s full Other w n h l = cc
-leaf_free s full m w n h l = absurd l
+leaf_free s full m w n h e = grind (arith, common_steps, nat_tests)
 
 leaf_allowed : (limit : ℕ) (os : List OpenContainer) (x : List ℕ) (m : Major) (w : Width) (n : ℕ) (rest : List ℕ) → WidthFits w n → x ≡ heads.head m (heads.Given w n) ++ rest → IsNoChunkSlot (slot os) → IsLeaf m w
     → None ≡ head_reason (slot os) (leb limit (open_depth os)) (major_at (get_or x 0 0 / 32)) (info_at (get_or x 0 0 % 32)) []
@@ -91,22 +67,12 @@ leaf_allowed limit os (b ∷ y) m w n rest fits e h l =
 
 -- a level in which an item may be next
 pub plain_kind : (k : LevelKind) (m : ℕ) → is_chunks k ≡ false → IsNoChunkSlot (slot_of k m)
-plain_kind (Chunks c) m e = cc
-plain_kind EndlessMap m e = go (is_even m)
-  where
-    go : (b : Bool) → IsNoChunkSlot (cond b element_or_end item)
-    go true = tt
-    go false = tt
-plain_kind k m e = tt
+plain_kind k m h = grind arith
 
 -- what is made of one
 
 string_read : (limit at p : ℕ) (rd : Trees) (os : List OpenContainer) (k : StringKind) (w : Width) (n : ℕ) (x : List ℕ) → length x ≡ n → run limit (content_at at p rd os k w n []) x ≡ finished (at + length x) rd os (string_tree p k w x)
-string_read limit at p rd os k w zero [] e = ap (λ j. finished j rd os (string_tree p k w [])) (omega arith)
-string_read limit at p rd os k w (suc n) [] e = absurd (omega (arith, e))
-string_read limit at p rd os k w n (b ∷ x) e =
-    ap (λ c. run limit (cond c (finished at rd os (string_tree p k w [])) (Live at rd os (gathering p (content_of k w) n []))) (b ∷ x)) (lt-leb n 0 (omega (arith, e)))
-    ∙ content_done limit at rd os p k w n [] (b ∷ x) (omega (arith, e)) (omega (arith, e))
+string_read limit at p rd os k w n x h = grind (arith, common_steps, nat_tests, content_done, lt-leb)
 
 -- its content after its head
 content_read : (limit at p : ℕ) (rd : Trees) (os : List OpenContainer) (m : Major) (w : Width) (n : ℕ) (x : List ℕ) → IsLeaf m w → length x ≡ content_len m n
@@ -132,9 +98,7 @@ leaf_read limit at f x y h n takes leaf cut =
     ∙ ap (λ k. finished k (ready f) (open_in f) (leaf_tree at m h.width h.argument y)) (omega (arith, leaf.len, len))
 
 pub item_after : (f : Partial) (t : Tree) → TakesItem f → TakesItem (put f t)
-item_after (inside f (in_chunks p k) ts) t h = absurd h
-item_after (top ts) t h = tt
-item_after (inside f o ts) t h = tt
+item_after f t h = grind (arith, common_steps, nat_tests)
 
 pub leaf_cut : (x : List ℕ) (g : GivenHead) (n : ℕ) → IsLeafOf x g n → take n x ≡ take g.len x ++ take (n - g.len) (drop g.len x)
 leaf_cut x g n leaf = ap (λ k. take k x) (omega (arith, leaf.len)) ∙ take-add g.len (n - g.len) x
@@ -142,11 +106,7 @@ leaf_cut x g n leaf = ap (λ k. take k x) (omega (arith, leaf.len)) ∙ take-add
 pub leaf_some : (x : List ℕ) (g : GivenHead) (n : ℕ) → IsLeafOf x g n → 0 < n
 leaf_some x g n leaf = omega (arith, leaf.len, leaf.given.head.len, head_some (major_at (g.first / 32)) (heads.Given g.width g.argument))
 
--- leaves are taken, and the last of them is counted
-pub leaves_taken : (limit place n : ℕ) (f : Partial) (piece : List ℕ) {taken : Partial → Type 0} {around : List Level} {l : Level} (holds : Partial → Part → Type 0) (outer : List Level) (inner : Level) (r : AfterLeaves place (place + n) f taken around l (take n piece))
-    → (left : ℕ) → left ≡ 0 → Stands holds outer inner left (place + n) (finished (place + n) (ready r.before) (open_in r.before) r.last) → TakesHead limit place f piece holds outer inner n
-leaves_taken limit place n f piece holds outer inner r left none stands =
-    let goes = r.is limit in (
-      subst (Stands holds outer inner 0 (place + n)) (sym goes) (subst (λ k. Stands holds outer inner k (place + n) (finished (place + n) (ready r.before) (open_in r.before) r.last)) none stands),
-      subst (AtMostOneMore (ready f)) (sym goes) (subst (λ t. AtMostOneMore t (finished (place + n) (ready r.before) (open_in r.before) r.last)) r.same (one_more_finished (ready r.before) (open_in r.before) (place + n) r.last)),
-    )
+-- n bytes of the piece are taken, which make the state s
+pub taken_as : (limit place n : ℕ) (f : Partial) (piece : List ℕ) (holds : Partial → Part → Type 0) (outer : List Level) (inner : Level) (s : State) (left : ℕ) → run limit (state place f no_part) (take n piece) ≡ s
+    → left ≡ 0 → Stands holds outer inner left (place + n) s → AtMostOneMore (ready f) s → TakesHead limit place f piece holds outer inner n
+taken_as limit place n f piece holds outer inner s left goes none stands more = grind arith

@@ -1,6 +1,6 @@
 -- A piece is read by its fronts.
 use Rattle.std.specs.Prelude.{◌≡◌, ◌+◌, ◌-◌, ◌≤◌, ◌++◌}
-use Rattle.cborn_wire.proofs.Common.{refl, sym, ap, ◌∙◌, subst, ℕ, List, [], length, take, drop, Option, Some, None, Result, Ok, Err, inl, inr, arith, append_assoc, length-append, length-take-le, take-append-drop, take_all, take_rest, take-append-le, nil_from_length, AreBytes, Trees, Partial, Part, no_part, part, VisitFault, Refused, Memory, WireReason, Level, PartialHead, HeadReader, nothing, State, Live, Failed, ready_in, start, run, AtMostOneMore, unfinished, open_in, Missing, Stands, HereAt, Here, IsReached, TakesPiece, IsFed, MayEnd, Reads, ReadsItem, next_head}
+use Rattle.cborn_wire.proofs.Common.{refl, sym, ap, ◌∙◌, subst, ℕ, List, [], length, take, drop, Result, Ok, Err, inl, inr, arith, append_assoc, length-append, length-take-le, take-append-drop, take_all, take_rest, take-append-le, nil_from_length, AreBytes, Trees, Partial, Part, no_part, part, VisitFault, Refused, Memory, WireReason, Level, HeadReader, nothing, State, Live, Failed, ready_in, start, run, AtMostOneMore, unfinished, open_in, Missing, Stands, HereAt, Here, IsReached, TakesPiece, IsFed, MayEnd, Reads, ReadsItem, next_head}
 use Rattle.cborn_model.proofs.Bytes.{bytes-append}
 use Rattle.cborn_wire.proofs.Machine.Running.{run-append}
 use Rattle.cborn_wire.proofs.Visiting.Taking.{bytes-take, outer_count}
@@ -24,11 +24,7 @@ bare holds outer l left at n ts s h is =
     go (part p k w x y) none e = cc
 
 pub may_end_here : (holds : Partial → Part → Type 0) (outer : List Level) (l : Level) (m : HeadReader) (s : State) (n : ℕ) (ts : Trees) → Here holds outer l m s → s ≡ Live n ts [] nothing → MayEnd outer m
-may_end_here holds outer l m s n ts here is = go m.head refl here
-  where
-    go : (h : Option PartialHead) → m.head ≡ h → HereAt holds outer l m.left m.at h s → MayEnd outer m
-    go None e h = let b = bare holds outer l m.left m.at n ts s h is in (e, b.0, b.1)
-    go (Some p) e (short, f, held, are, takes, at) = cc (sym at ∙ is)
+may_end_here holds outer l m s n ts here is = grind (arith, bare)
 
 -- A front y of the piece was read, the rest is to come, and n bytes of that are taken next.
 module _ (piece y rest : List ℕ) (cut : piece ≡ y ++ rest) (n : ℕ) (fits : n ≤ length rest) where
@@ -64,11 +60,7 @@ module _ {V L : Type 0} (holds : V → Partial → Part → Type 0) (outer : L �
     here = subst (λ p. HereAt (holds w) (outer j) (inner j) next.left (p + n) next.head (run m.limit (start base) (x ++ (y ++ take n rest)))) (sym at) (subst (HereAt (holds w) (outer j) (inner j) next.left (m.at + n) next.head) (next_state n) (takes now base fed.2 reached_now).0)
 
     pub next_fed : AreBytes rest → IsFed (holds w) (outer j) (inner j) moved base (x ++ (y ++ take n rest))
-    next_fed more = (
-      subst AreBytes (append_assoc x y (take n rest)) (bytes-append (x ++ y) (take n rest) fed.0 (bytes-take n rest more)),
-      subst (λ l. l ≤ 1024) (sym same) fed.1,
-      subst (λ l. Here (holds w) (outer j) (inner j) moved (run l (start base) (x ++ (y ++ take n rest)))) (sym same) here,
-    )
+    next_fed more = grind (arith, append_assoc, bytes-append, bytes-take, here)
 
     -- no item is whole before
     module _ (none : ready_in now ≡ ready_in (run m.limit (start base) x)) where

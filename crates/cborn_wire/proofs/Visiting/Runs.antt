@@ -1,14 +1,16 @@
 -- What is read and made of leaves that are taken several at a time.
-use Rattle.std.specs.Prelude.{◌≡◌, ◌⊎◌, ◌+◌, ◌-◌, ◌/◌, ◌%◌, ◌^◌, ◌<◌, ◌≤◌, ◌∷◌, ◌++◌}
-use Rattle.cborn_wire.proofs.Common.{refl, sym, ap, ◌∙◌, subst, inl, inr, ℕ, List, [], length, take, drop, Bool, true, false, cond, leb, ltb, eqb-true, false≢true, Option, Some, None, arith, append-nil, length-append, drop-take, take-append-drop, take-append-le, take_all, length-take-le, take-add, AreBytes, Width, Direct, Major, Unsigned, Negative, ByteString, TextString, Other, Given, head, WidthFits, least, Tree, Uint, Nint, an_array, a_map, Partial, Part, IsFree, top, inside, no_part, put, last_key, TakesItem, IsInteger, IsShortLeaf, AreShortIntegers, IsShortPair, text_in, puts, InArray, AtKey, Level, LevelKind, GivenHead, major_at, slot, open_depth, finished, run, ready, open_in, state, levels, Keeps, with_part, lessened, is_array, is_at_key, is_even, kind_at_none, room_in, IsLeafOf, IsLeaf, content_len, leaf_tree, AfterLeaves, TakesRun}
+use Rattle.std.proofs.lemmas.Grind.{common_steps}
+use Rattle.std.proofs.lemmas.Bool.Decides.{nat_tests}
+use Rattle.std.specs.Prelude.{◌≡◌, ◌⊎◌, ◌+◌, ◌-◌, ◌/◌, ◌^◌, ◌<◌, ◌≤◌, ◌∷◌, ◌++◌}
+use Rattle.cborn_wire.proofs.Common.{refl, sym, ap, ◌∙◌, subst, ℕ, List, [], length, take, drop, true, leb, eqb-true, Some, arith, append-nil, length-append, drop-take, take-append-drop, take-append-le, take_all, length-take-le, take-add, AreBytes, Width, Major, Unsigned, Negative, Given, head, WidthFits, least, Tree, Uint, Nint, Partial, Part, IsFree, no_part, put, TakesItem, IsInteger, IsShortLeaf, AreShortIntegers, IsShortPair, text_in, puts, InArray, AtKey, Level, GivenHead, major_at, slot, open_depth, finished, run, ready, open_in, state, levels, Keeps, with_part, lessened, is_array, is_at_key, room_in, IsLeafOf, IsLeaf, content_len, leaf_tree, AfterLeaves, TakesRun}
 use Rattle.cborn_model.specs.declared.visitors.LeafPair.{LeafPair}
 use Rattle.cborn_model.proofs.Bytes.{bytes-right}
-use Rattle.cborn_model.proofs.Numbers.Simples.{simple_value}
-use Rattle.cborn_wire.specs.declared.levels.LevelKind.TheVariants.{Array as AnArray, Map as AMap, GreatMap, EndlessArray, EndlessMap}
+use Rattle.cborn_wire.specs.declared.levels.LevelKind.TheVariants.{Array as AnArray, EndlessArray}
 use Rattle.cborn_wire.proofs.HeadReading.HeadSteps.{head_front}
 use Rattle.cborn_wire.proofs.Machine.Running.{run-append}
+use Rattle.cborn_wire.proofs.Machine.Containers.{no_key}
 use Rattle.cborn_wire.proofs.Machine.TakesHeads.{takes_head}
-use Rattle.cborn_wire.proofs.Visiting.Counting.{last_same, stays, item_accepted, counted_on, endless_on, missing_below, value_parity}
+use Rattle.cborn_wire.proofs.Visiting.Counting.{last_same, stays, item_accepted, counted_on, missing_below}
 use Rattle.cborn_wire.proofs.Visiting.Leaves.{plain_slot, leaf_free, leaf_read, leaf_cut, leaf_some, item_after}
 use Rattle.cborn_wire.proofs.Visiting.Taking.{bytes-take}
 
@@ -19,84 +21,33 @@ leaf_in p x h n = leaf_tree p (major_at (h.first / 32)) h.width h.argument (take
 -- one leaf
 
 pub one_taken : (place : ℕ) (old new : Partial → Part → Type 0) (x : List ℕ) (h : GivenHead) (n : ℕ) (l : Level) → IsLeafOf x h n → ((f : Partial) → IsFree f → old f no_part → new (put f (leaf_in place x h n)) no_part) → TakesRun place x l 0 old new n
-one_taken place old new x h n l leaf visited = (
-  leaf_some x h n leaf,
-  leaf.whole,
-  λ f around held kept takes. record {
-    before = f;
-    last = leaf_in place x h n;
-    held = visited f (kept.1, takes) held;
-    levels = subst (λ m. Keeps f around (record l { missing = m })) (omega (arith, missing_below f around l kept.0)) kept;
-    takes = takes;
-    same = refl;
-    is = λ limit. leaf_read limit place f x (take (n - h.len) (drop h.len x)) h n takes leaf (leaf_cut x h n leaf);
-  },
-)
+one_taken place old new x h n l leaf visited = grind (arith, leaf_cut, leaf_read, leaf_some, missing_below)
 
 -- where an array or a map is innermost
 
 pub in_array : (f : Partial) (ls : List Level) (l : Level) → levels f ≡ ls ++ l ∷ [] → is_array l.kind ≡ true → InArray f
-in_array (top ts) ls l e is = cc (ap (λ (m : Level). is_array m.kind) (last_same [] ls e).1 ∙ is)
-in_array (inside f (an_array p s c) ts) ls l e is = tt
-in_array (inside f (a_map p s (Some n)) ts) ls l e is = go (ltb (length ts + 2 ^ 64) (n + n)) (ap (λ (m : Level). is_array m.kind) (last_same (levels f) ls e).1 ∙ is)
-  where
-    go : (b : Bool) → is_array (cond b GreatMap AMap) ≡ true → ⊥
-    go true h = cc
-    go false h = cc
-in_array (inside f o ts) ls l e is = cc (ap (λ (m : Level). is_array m.kind) (last_same (levels f) ls e).1 ∙ is)
+in_array f ls l h e = grind (arith, common_steps, nat_tests, last_same)
 
 pub at_key : (f : Partial) (ls : List Level) (l : Level) → levels f ≡ ls ++ l ∷ [] → is_at_key l.kind l.missing ≡ true → AtKey f
-at_key (top ts) ls l e is = cc (ap (λ (m : Level). is_at_key m.kind m.missing) (last_same [] ls e).1 ∙ is)
-at_key (inside f (an_array p s None) ts) ls l e is = cc (ap (λ (m : Level). is_at_key m.kind m.missing) (last_same (levels f) ls e).1 ∙ is)
-at_key (inside f (a_map p s None) ts) ls l e is = go (last_key ts) refl (ap (λ (m : Level). is_at_key m.kind m.missing) (last_same (levels f) ls e).1 ∙ is)
-  where
-    go : (x : Option Tree) → last_key ts ≡ x → is_even (lessened 0 (length ts)) ≡ true → last_key ts ≡ None
-    go None h even = h
-    go (Some k) h even = absurd (false≢true (sym (value_parity 0 ts k h) ∙ even))
-at_key (inside f (a_map p s (Some n)) ts) ls l e is = go (last_key ts) (ltb (length ts + 2 ^ 64) (n + n)) refl (ap (λ (m : Level). is_at_key m.kind m.missing) (last_same (levels f) ls e).1 ∙ is)
-  where
-    go : (x : Option Tree) (b : Bool) → last_key ts ≡ x → is_at_key (cond b GreatMap AMap) (lessened (n + n) (length ts)) ≡ true → last_key ts ≡ None
-    go None b h even = h
-    go (Some k) true h even = absurd (false≢true (sym (value_parity n ts k h) ∙ even))
-    go (Some k) false h even = absurd (false≢true (sym (value_parity n ts k h) ∙ even))
-at_key (inside f o ts) ls l e is = cc (ap (λ (m : Level). is_at_key m.kind m.missing) (last_same (levels f) ls e).1 ∙ is)
+at_key f ls l h e = grind (arith, common_steps, nat_tests, eqb-true, last_same, no_key)
 
 -- after a key its value is missing
 key_counted : (l : Level) → is_at_key l.kind l.missing ≡ true → with_part l ≡ Some (record l { missing = lessened l.missing 1 })
-key_counted l e = counted_on l (go l.kind e)
-  where
-    odd : is_even l.missing ≡ true → 0 < lessened l.missing 1
-    odd h = omega (arith, eqb-true (l.missing % 2) 0 h)
-
-    go : (k : LevelKind) → is_at_key k l.missing ≡ true → 0 < lessened l.missing 1
-    go AMap h = odd h
-    go GreatMap h = odd h
-    go EndlessMap h = odd h
-    go k h = cc
+key_counted l e = grind (arith, counted_on, eqb-true)
 
 key_same : (f : Partial) (t : Tree) → AtKey f → ready (put f t) ≡ ready f
-key_same (inside f o ts) t h = refl
-key_same (top ts) t h = absurd h
+key_same f t h = grind (arith, common_steps, nat_tests)
 
 array_same : (f : Partial) (t : Tree) → InArray f → ready (put f t) ≡ ready f
-array_same (inside f o ts) t h = refl
-array_same (top ts) t h = absurd h
+array_same f t h = grind (arith, common_steps, nat_tests)
 
 array_after : (f : Partial) (t : Tree) → InArray f → InArray (put f t)
-array_after (inside f (an_array p s c) ts) t h = tt
-array_after f t h = absurd h
+array_after f t h = grind (arith, common_steps, nat_tests)
 
 -- a key and its value
 
 short_as : (p : ℕ) (m : Major) (w : Width) (n : ℕ) (y z : List ℕ) → AreBytes y → IsLeaf m w → WidthFits w n → length y ≡ content_len m n → w ≡ least n → z ≡ head m (Given w n) ++ y → IsShortLeaf p z (leaf_tree p m w n y)
-short_as p Unsigned w n [] z are l fits e s c = record { placed = refl; fits = fits; short = s; spells = sym (c ∙ append-nil (head Unsigned (Given w n))) }
-short_as p Negative w n [] z are l fits e s c = record { placed = refl; fits = fits; short = s; spells = sym (c ∙ append-nil (head Negative (Given w n))) }
-short_as p Other Direct n [] z are l fits e s c = record { placed = refl; fits = simple_value n (inl fits); short = tt; spells = ap (λ v. head Other (Given v n)) (sym s) ∙ sym (c ∙ append-nil (head Other (Given Direct n))) }
-short_as p ByteString w n y z are l fits e s c = record { placed = refl; fits = (subst (WidthFits w) (sym e) fits, are); short = s ∙ ap least (sym e); spells = ap (λ k. head ByteString (Given w k) ++ y) e ∙ sym c }
-short_as p TextString w n y z are l fits e s c = record { placed = refl; fits = (subst (WidthFits w) (sym e) fits, are); short = s ∙ ap least (sym e); spells = ap (λ k. head TextString (Given w k) ++ y) e ∙ sym c }
-short_as p Other w n y z are l fits e s c = cc
-short_as p m w n (b ∷ y) z are l fits e s c = absurd (omega (arith, e))
-short_as p m w n [] z are l fits e s c = absurd l
+short_as p m w n y z h e g k a b = grind (arith, common_steps, nat_tests)
 
 short_leaf : (p : ℕ) (x : List ℕ) (h : GivenHead) (n : ℕ) → AreBytes x → IsLeafOf x h n → h.width ≡ least h.argument → IsShortLeaf p (take n x) (leaf_in p x h n)
 short_leaf p x h n are leaf short =
@@ -168,21 +119,14 @@ abbrev pub HasRoom : Level → ℕ → Type 0
 HasRoom l k = (l.kind ≡ EndlessArray) ⊎ ((l.kind ≡ AnArray) × (k ≤ l.missing))
 
 pub has_room : (l : Level) (k : ℕ) → is_array l.kind ≡ true → k ≤ room_in l.kind l.missing → HasRoom l k
-has_room l k is h = go l.kind refl is h
-  where
-    go : (c : LevelKind) → l.kind ≡ c → is_array c ≡ true → k ≤ room_in c l.missing → HasRoom l k
-    go AnArray e is h = inr (e, h)
-    go EndlessArray e is h = inl e
-    go c e is h = cc
+has_room l k is h = grind arith
 
 -- more than one follows
 array_on : (l : Level) (k : ℕ) → l.missing < 2 ^ 64 → HasRoom l k → 1 < k → with_part l ≡ Some (record l { missing = lessened l.missing 1 })
-array_on l k fits (inl endless) more = endless_on l (ap kind_at_none endless ∙ ap Some (sym endless))
-array_on l k fits (inr (counted, room)) more = counted_on l (omega (arith, fits, room, more))
+array_on l k h e g = grind (arith, common_steps, nat_tests)
 
 room_left : (l : Level) (k j : ℕ) → l.missing < 2 ^ 64 → HasRoom l k → k ≡ j + 1 → HasRoom (record l { missing = lessened l.missing 1 }) j
-room_left l k j fits (inl endless) e = inl endless
-room_left l k j fits (inr (counted, room)) e = inr (counted, omega (arith, fits, room, e))
+room_left l k j h e g = grind (arith, common_steps, nat_tests)
 
 -- the first n bytes of some are integers
 module _ (holds : Partial → Type 0) (around : List Level) where

@@ -1,13 +1,13 @@
 -- What is taken off the front of a piece.
+use Rattle.std.proofs.lemmas.Grind.{common_steps}
+use Rattle.std.proofs.lemmas.Bool.Decides.{nat_tests}
 use Rattle.std.specs.Prelude.{◌≡◌, ◌+◌, ◌/◌, ◌%◌, ◌<◌, ◌≤◌, ◌∷◌, ◌++◌}
-use Rattle.cborn_wire.proofs.Common.{refl, sym, ap, ◌∙◌, subst, ℕ, List, [], length, take, drop, get_or, Bool, false, leb, Option, Some, None, arith, length-append, add-one, take-append-drop, AreBytes, Width, Direct, Major, Unsigned, ByteString, TextString, Other, Argument, Given, EndlessArgument, Trees, in_chunks, Partial, top, inside, Part, no_part, part, TakesItem, TakesString, VisitFault, Refused, Memory, StringKind, OfBytes, OfText, major_of, Slot, item, chunk, OpenContainer, opened, slot, slot_in, open_depth, IsNoString, AreOpen, Head, Level, PartialHead, major_at, seen_argument, IsHeadOf, Info, Next, info_at, info_for, is_of_kind, is_break, is_bad_chunk, head_reason, plain, width_bytes, argument_of, nothing, Unfinished, gathering, State, Live, begin_head, unless, run, IsReached, open_in, state, level_in, levels, Keeps, Takes, slot_of, Missing, Stands, FailsAs, HereAt}
+use Rattle.cborn_wire.proofs.Common.{refl, sym, ap, ◌∙◌, subst, ℕ, List, [], length, take, drop, get_or, Bool, false, leb, Option, Some, None, arith, length-append, add-one, take-append-drop, AreBytes, Width, Major, Argument, Given, Trees, Partial, top, inside, Part, no_part, TakesItem, TakesString, VisitFault, Refused, Memory, StringKind, OfBytes, OfText, major_of, Slot, chunk, OpenContainer, slot, open_depth, IsNoString, AreOpen, Head, Level, PartialHead, major_at, seen_argument, IsHeadOf, Info, Next, info_at, info_for, is_bad_chunk, head_reason, plain, width_bytes, argument_of, nothing, Unfinished, gathering, State, Live, run, IsReached, open_in, state, level_in, levels, Keeps, Takes, slot_of, Stands, FailsAs, HereAt, true}
 use Rattle.cborn_model.proofs.Bytes.{bytes-left}
-use Rattle.cborn_wire.proofs.Machine.SoundRuns.{depth_is_length, sound, InfoIs, IsWide, info_is}
-use Rattle.cborn_wire.proofs.Machine.TakesItems.{given_endless}
+use Rattle.cborn_wire.proofs.Machine.SoundRuns.{depth_is_length, sound, info_is}
 use Rattle.cborn_wire.proofs.Machine.Pieces.{major_of_head, info_of_head}
-use Rattle.cborn_wire.proofs.Machine.SoundSteps.{is_clear, free_of, other_kind, open_string, shallow_open}
+use Rattle.cborn_wire.proofs.Machine.SoundSteps.{is_clear, free_of, shallow_open}
 use Rattle.cborn_wire.proofs.Machine.Running.{run-append, failed_run}
-use Rattle.cborn_wire.proofs.Machine.SoundItems.{SoundLive, Sound}
 use Rattle.cborn_wire.proofs.Visiting.Counting.{top_slot}
 
 pub bytes-take : (n : ℕ) (x : List ℕ) → AreBytes x → AreBytes (take n x)
@@ -16,11 +16,7 @@ bytes-take n x h = bytes-left (take n x) (drop n x) (subst AreBytes (sym (take-a
 -- Between strings the visitor holds no part of one.
 pub between : (holds : Partial → Part → Type 0) (outer : List Level) (l : Level) (left at : ℕ) (s : State) → left ≡ 0 → Stands holds outer l left at s
     → (f : Partial) × holds f no_part × Keeps f outer l × (s ≡ state at f no_part)
-between holds outer l left at s none h = go h.amid h.missing h.held h.is
-  where
-    go : (c : Part) → Missing left c → holds h.partial c → s ≡ state at h.partial c → (f : Partial) × holds f no_part × Keeps f outer l × (s ≡ state at f no_part)
-    go no_part m held is = (h.partial, held, h.levels, is)
-    go (part p k w n x) m held is = absurd (omega (arith, none, m.1))
+between holds outer l left at s none h = grind arith
 
 pub between_here : (holds : Partial → Part → Type 0) (outer : List Level) (l : Level) (left at : ℕ) (h : Option PartialHead) (s : State) → h ≡ None → left ≡ 0 → HereAt holds outer l left at h s
     → (f : Partial) × holds f no_part × Keeps f outer l × (s ≡ state at f no_part)
@@ -32,8 +28,7 @@ stands_here holds outer l left at h s u none is stands = subst (λ o. HereAt hol
 -- which heads are allowed
 
 plain_same : (s : Slot) (full : Bool) (m : Major) (i : Info) → head_reason (plain s) full m i [] ≡ head_reason s full m i []
-plain_same item full m i = refl
-plain_same s full m i = refl
+plain_same s full m i = grind (arith, common_steps, nat_tests)
 
 level_count : (f : Partial) → length (levels f) ≡ length (open_in f) + 1
 level_count (top ts) = refl
@@ -42,16 +37,8 @@ level_count (inside f o ts) = omega (arith, level_count f, length-append (levels
 pub outer_count : (f : Partial) (ls : List Level) (l : Level) → levels f ≡ ls ++ l ∷ [] → length ls ≡ length (open_in f)
 outer_count f ls l e = omega (arith, level_count f, ap length e, length-append ls (l ∷ []))
 
--- in an indefinite string the depth says nothing
-chunk_reason : (k : StringKind) (m : Major) (i : Info) (f g : Bool) → head_reason (chunk k) f m i [] ≡ head_reason (chunk k) g m i []
-chunk_reason OfBytes Unsigned i f g = refl
-chunk_reason OfText Unsigned i f g = refl
-chunk_reason k m i f g = refl
-
 any_depth : (os : List OpenContainer) (limit j : ℕ) (m : Major) (i : Info) → (IsNoString os → j ≡ open_depth os) → head_reason (slot os) (leb limit j) m i [] ≡ head_reason (slot os) (leb limit (open_depth os)) m i []
-any_depth [] limit j m i e = ap (λ n. head_reason item (leb limit n) m i []) (e tt)
-any_depth (opened (in_chunks p c) ts ∷ os) limit j m i e = chunk_reason c m i (leb limit j) _
-any_depth (opened o ts ∷ os) limit j m i e = ap (λ n. head_reason (slot_in (opened o ts)) (leb limit n) m i []) (e tt)
+any_depth os limit j m i h = grind (arith, common_steps, nat_tests)
 
 pub reason_same : (limit : ℕ) (f : Partial) (ls : List Level) (l : Level) (m : Major) (i : Info) → Keeps f ls l → AreOpen limit (open_in f)
     → head_reason (slot_of l.kind l.missing) (leb limit (length ls)) m i [] ≡ head_reason (slot (open_in f)) (leb limit (open_depth (open_in f))) m i []
@@ -62,8 +49,7 @@ reason_same limit f ls l m i are h =
 
 -- how many may be open
 open_most : (limit : ℕ) (os : List OpenContainer) → AreOpen limit os → length os ≤ limit + 1
-open_most limit [] h = omega arith
-open_most limit (o ∷ os) h = omega (arith, depth_is_length limit os h.2 h.1, shallow_open limit os h.2)
+open_most limit os h = grind (arith, depth_is_length, shallow_open)
 
 -- there is room for one more level
 pub room : (limit most : ℕ) (f : Partial) (ls : List Level) (l : Level) → Keeps f ls l → limit + 1 < most → AreOpen limit (open_in f) → length ls < most
@@ -71,32 +57,9 @@ room limit most f ls l are small h = omega (arith, outer_count f ls l are.0, ope
 
 -- what is allowed may be next
 
-item_next : (f : Partial) → IsNoString (open_in f) → TakesItem f
-item_next (inside f (in_chunks p k) ts) h = absurd h
-item_next f h = tt
-
-string_next : (f : Partial) (k : StringKind) (i : Info) → is_bad_chunk (slot (open_in f)) (major_of k) i ≡ false → TakesString f k
-string_next (inside f (in_chunks p OfBytes) ts) OfBytes i e = refl
-string_next (inside f (in_chunks p OfText) ts) OfText i e = refl
-string_next (inside f (in_chunks p OfBytes) ts) OfText i e = cc
-string_next (inside f (in_chunks p OfText) ts) OfBytes i e = cc
-string_next f k i e = tt
-
 module _ (f : Partial) (full : Bool) where
-  allowed : (m : Major) (a : Argument) → head_reason (slot (open_in f)) full m (info_for a) [] ≡ None → is_bad_chunk (slot (open_in f)) m (info_for a) ≡ false
-  allowed m a e = (is_clear (slot (open_in f)) full m (info_for a) [] e).chunked
-
-  no_string : (m : Major) (a : Argument) → ((k : StringKind) → is_of_kind k m ≡ false) → is_break m (info_for a) ≡ false → head_reason (slot (open_in f)) full m (info_for a) [] ≡ None → TakesItem f
-  no_string m a k b e = item_next f (free_of (open_in f) m (info_for a) (allowed m a e) k b)
-
   pub head_next : (m : Major) (a : Argument) → head_reason (slot (open_in f)) full m (info_for a) [] ≡ None → Takes f m a
-  head_next ByteString (Given w n) e = string_next f OfBytes (info_for (Given w n)) (allowed ByteString (Given w n) e)
-  head_next TextString (Given w n) e = string_next f OfText (info_for (Given w n)) (allowed TextString (Given w n) e)
-  head_next ByteString EndlessArgument e = item_next f (open_string (open_in f) OfBytes (allowed ByteString EndlessArgument e))
-  head_next TextString EndlessArgument e = item_next f (open_string (open_in f) OfText (allowed TextString EndlessArgument e))
-  head_next Other (Given w n) e = no_string Other (Given w n) (other_kind Other refl refl) (given_endless w n) e
-  head_next Other EndlessArgument e = tt
-  head_next m a e = no_string m a (other_kind m refl refl) refl e
+  head_next m a h = grind (arith, common_steps, nat_tests)
 
   pub first_next : (piece : List ℕ) (h : Head) (n : ℕ) → IsHeadOf piece h n → 0 < length piece → None ≡ head_reason (slot (open_in f)) full (major_at (get_or piece 0 0 / 32)) (info_at (get_or piece 0 0 % 32)) []
       → Takes f (major_at h.major) (seen_argument h.argument)
@@ -107,31 +70,17 @@ module _ (f : Partial) (full : Bool) where
       head_next m a (ap (λ j. head_reason (slot (open_in f)) full j (info_for a) []) (sym (major_of_head m a b y i.rest i.fits i.whole)) ∙ ap (λ j. head_reason (slot (open_in f)) full (major_at (b / 32)) j []) (sym (info_of_head m a b y i.rest i.fits i.whole)) ∙ sym e)
 
   pub short_next : (m : Major) (i : Info) (w : Width) → i ≡ Next w → 0 < width_bytes w → None ≡ head_reason (slot (open_in f)) full m i [] → Takes f m (Given w 0)
-  short_next m i Direct is some e = absurd (omega (arith, some))
-  short_next m i w is some e = head_next m (Given w 0) (ap (λ j. head_reason (slot (open_in f)) full m j []) (sym is) ∙ sym e)
+  short_next m i w h e g = grind (arith, common_steps, nat_tests)
 
 -- of which argument that is doesn't matter
 pub any_argument : (f : Partial) (m : Major) (w : Width) (n k : ℕ) → Takes f m (Given w n) → Takes f m (Given w k)
-any_argument f Unsigned w n k h = h
-any_argument f m w n k h = h
+any_argument f m w n k h = grind (arith, common_steps, nat_tests)
 
 -- the initial byte of a head that ends after the piece
 pub short_taken : (limit at : ℕ) (rd : Trees) (os : List OpenContainer) (piece : List ℕ) (w : Width) → 0 < length piece → info_at (get_or piece 0 0 % 32) ≡ Next w
     → None ≡ head_reason (slot os) (leb limit (open_depth os)) (major_at (get_or piece 0 0 / 32)) (info_at (get_or piece 0 0 % 32)) []
     → (0 < width_bytes w) × (run limit (Live at rd os nothing) (take 1 piece) ≡ Live (at + 1) rd os (gathering at (argument_of (major_at (get_or piece 0 0 / 32)) w) (width_bytes w) []))
-short_taken limit at rd os [] w some info none = absurd (omega (arith, some))
-short_taken limit at rd os (b ∷ y) w some info none =
-    let m = major_at (b / 32) in
-    let wide : IsWide w = (subst (InfoIs (b % 32)) info (info_is (b % 32))).1 in
-    (some_bytes w wide, ap (λ o. unless o rd at (begin_head at rd os m (info_at (b % 32)))) (sym none) ∙ ap (begin_head at rd os m) info ∙ gathers m w wide)
-  where
-    some_bytes : (w : Width) → IsWide w → 0 < width_bytes w
-    some_bytes Direct h = absurd h
-    some_bytes w h = omega arith
-
-    gathers : (m : Major) (w : Width) → IsWide w → begin_head at rd os m (Next w) ≡ Live (at + 1) rd os (gathering at (argument_of m w) (width_bytes w) [])
-    gathers m Direct h = absurd h
-    gathers m w h = ap (λ k. Live k rd os (gathering at (argument_of m w) (width_bytes w) [])) (sym (add-one at))
+short_taken limit at rd os piece w h e g = grind (arith, add-one, info_is)
 
 -- what fails on a front of the piece fails on it
 pub fails_on : (limit : ℕ) (s u : State) (ts : Trees) (n : ℕ) (piece : List ℕ) (e : VisitFault) → run limit s (take n piece) ≡ u → FailsAs ts u e → FailsAs ts (run limit s piece) e
@@ -141,9 +90,7 @@ fails_on limit s u ts n piece (Memory e) goes h = tt
 
 -- what some bytes make is within the limit
 pub reached_open : (limit base : ℕ) (s : State) (at : ℕ) (rd : Trees) (os : List OpenContainer) (q : Unfinished) → IsReached limit base s → s ≡ Live at rd os q → AreOpen limit os
-reached_open limit base s at rd os q (x, bytes, is) e =
-    let h : SoundLive limit base x at rd os q = subst (Sound limit base x) (is ∙ e) (sound limit base x bytes) in
-    h.ground.are_open
+reached_open limit base s at rd os q h e = grind (arith, sound)
 
 -- there is room for one more level where a reader is
 pub here_room : (limit most base : ℕ) (holds : Partial → Part → Type 0) (outer : List Level) (l : Level) (left at : ℕ) (h : Option PartialHead) (s : State) → limit + 1 < most → HereAt holds outer l left at h s → IsReached limit base s → length outer < most

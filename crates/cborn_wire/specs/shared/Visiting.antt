@@ -1,5 +1,5 @@
 -- A device of the proofs: what a machine keeps of the partial sequence that its visitor holds, and what both are as a state of the machine of these proofs.
-use Rattle.std.specs.Prelude.{◌≡◌, ℕ, zero, suc, ◌+◌, ◌-◌, ◌%◌, ◌^◌, ◌<◌, ◌≤◌, List, [], ◌∷◌, ◌++◌, length, take, Bool, true, false, not, Option, Some, None, Result, Ok, Err, IfOk, MatchResult, if◌then◌else◌, nat_eq, nat_lt}
+use Rattle.std.specs.Prelude.{◌≡◌, ℕ, ◌+◌, ◌-◌, ◌%◌, ◌^◌, ◌<◌, ◌≤◌, List, [], ◌∷◌, ◌++◌, length, take, Bool, true, false, not, Option, Some, None, Result, Ok, Err, IfOk, MatchResult, if◌then◌else◌, nat_eq, nat_lt}
 use Rattle.cborn_model.specs.Bytes.{AreBytes}
 use Rattle.cborn_model.specs.declared.heads.Major.{Major}
 use Rattle.cborn_model.specs.declared.heads.Major.TheVariants.{ByteString, TextString, Other}
@@ -112,12 +112,8 @@ with_kind l (Some k) = Some (record l { kind = k })
 abbrev pub at_none : Level → Option Level
 at_none l = with_kind l (kind_at_none l.kind)
 
-abbrev pub if_none : Level → ℕ → Option Level
-if_none l zero = at_none l
-if_none l (suc n) = Some l
-
 abbrev pub with_part : Level → Option Level
-with_part l = if_none (record l { missing = lessened l.missing 1 }) (lessened l.missing 1)
+with_part l = let on = record l { missing = lessened l.missing 1 } in if nat_eq on.missing 0 then at_none on else Some on
 
 -- how many parts are whole, modulo 2^64
 abbrev pub parts_in : LevelKind → ℕ → ℕ → ℕ

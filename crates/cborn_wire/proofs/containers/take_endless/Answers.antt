@@ -1,5 +1,8 @@
-use Rattle.cborn_wire.proofs.Common.{refl, arith}
-use Rattle.cborn_wire.proofs.Visiting.Heads.{endless_at, head_opens, break_ends}
+use Rattle.cborn_wire.proofs.Common.{refl, arith, ready, open_in, Other, EndlessArgument}
+use Rattle.cborn_wire.proofs.Visiting.Heads.{endless_at, head_opens}
+use Rattle.cborn_wire.proofs.Visiting.Leaves.{taken_as}
+use Rattle.cborn_wire.proofs.HeadReading.HeadSteps.{break_taken}
+use Rattle.cborn_wire.proofs.Machine.WholeFront.{one_more_head}
 use Rattle.cborn_wire.proofs.Visiting.Taking.{first_next}
 use Rattle.cborn_wire.proofs.containers.take_endless.Goals as goal
 
@@ -14,4 +17,5 @@ returns-clause-goes g c = λ f held are inside some.
 pub returns-then-first-clause-goes : goal.returns-then-first-clause-goes
 returns-then-first-clause-goes g c = λ f held are inside some.
     let new = c.end_innermost.new in
-    break_ends c.args.limit c.args.place f c.args.piece.now (g.V.Visitor.holds new.visitor) (g.L.Levels.outer new.levels) (g.L.Levels.inner new.levels) c.in_ok-end_innermost.field-0 c.requires.some c.if-first.true c.in_ok-end_innermost.ensures.zero (c.in_ok-end_innermost.ensures.goes c.args.place f held are)
+    taken_as c.args.limit c.args.place 1 f c.args.piece.now (g.V.Visitor.holds new.visitor) (g.L.Levels.outer new.levels) (g.L.Levels.inner new.levels) _ c.in_ok-end_innermost.field-0
+    (break_taken c.args.limit c.args.place (ready f) (open_in f) c.args.piece.now c.requires.some c.if-first.true) c.in_ok-end_innermost.ensures.zero (c.in_ok-end_innermost.ensures.goes c.args.place f held are) (one_more_head (ready f) Other EndlessArgument (open_in f) _ _)

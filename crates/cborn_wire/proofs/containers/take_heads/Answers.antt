@@ -1,14 +1,12 @@
 use Rattle.std.specs.Prelude.{◌++◌}
-use Rattle.cborn_wire.proofs.Common.{arith, ap, length, take, length-append, length-take-le}
+use Rattle.cborn_wire.proofs.Common.{arith, take, length-append, length-take-le}
 use Rattle.cborn_model.proofs.Bytes.{are_bytes}
 use Rattle.cborn_wire.proofs.Visiting.Heads.{still_open, front_heads, more_heads, heads_go_on}
 use Rattle.cborn_wire.proofs.Visiting.Pieces.{next_cut}
 use Rattle.cborn_wire.proofs.containers.take_heads.Goals as goal
 
 pub overflow_add-at : goal.overflow_add-at
-overflow_add-at g c =
-    let (y, cut, at, none, goes) = c.heads.invariant in
-    omega (arith, c.in_ok-len.ensures.within, at, ap length cut, length-append y c.heads.rest.now, c.requires.far)
+overflow_add-at g c = grind (arith, length-append)
 
 pub returns-then-len-eq0-clause-goes : goal.returns-then-len-eq0-clause-goes
 returns-then-len-eq0-clause-goes g c = λ f base held keeps from some.

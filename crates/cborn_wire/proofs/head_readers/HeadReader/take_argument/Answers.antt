@@ -1,5 +1,4 @@
-use Rattle.std.specs.Prelude.{◌+◌}
-use Rattle.cborn_wire.proofs.Common.{rules, sym, subst, err_from_is_err_and, Given, major_at, Live, AtMostOneMore, ready, open_in, seen_head, Stands}
+use Rattle.cborn_wire.proofs.Common.{rules, err_from_is_err_and, major_at, Live, ready, open_in, seen_head, arith}
 use Rattle.cborn_wire.proofs.HeadReading.HeadSteps.{argument_ends}
 use Rattle.cborn_wire.proofs.Machine.WholeFront.{one_more_head}
 use Rattle.cborn_wire.proofs.Visiting.Taking.{fails_on, any_argument}
@@ -14,10 +13,4 @@ returns-in_err-self-clause-goes g c = λ f held are takes.
     rw (p.1, p.2) (fails_on s.limit (Live s.at (ready f) (open_in f) (seen_head h)) _ (ready f) 1 c.args.piece.now _ goes (c.in_err-self.ensures.goes f (any_argument f (major_at h.major) h.width 0 c.in-Some.n takes) held are))
 
 pub returns-clause-goes : goal.returns-clause-goes
-returns-clause-goes g c = λ f held are takes.
-    let h = c.args.head in
-    let s = c.args.self.now in
-    let goes = argument_ends s.limit s.at (ready f) (open_in f) h.place (major_at h.major) h.width h.bytes c.args.piece.now h.len c.in-Some.n (search rules) c.requires.short c.requires.some c.in-Some.ensures.0 c.in-Some.ensures.1 in (
-      subst (Stands (g.V.Visitor.holds c.take_head.new.visitor) (g.L.Levels.outer c.take_head.new.levels) (g.L.Levels.inner c.take_head.new.levels) c.in_ok-self.field-0 (s.at + 1)) (sym goes) (c.in_ok-self.ensures.goes f (any_argument f (major_at h.major) h.width 0 c.in-Some.n takes) held are),
-      subst (AtMostOneMore (ready f)) (sym goes) (one_more_head (ready f) (major_at h.major) (Given h.width c.in-Some.n) (open_in f) _ _),
-    )
+returns-clause-goes g c = grind (arith, any_argument, argument_ends, one_more_head)

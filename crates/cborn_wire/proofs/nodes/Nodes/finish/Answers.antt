@@ -1,5 +1,5 @@
-use Rattle.std.specs.Prelude.{◌≤◌, ◌++◌, ◌∷◌}
-use Rattle.cborn_wire.proofs.Common.{[], sym, ap, ◌∙◌, subst, append_assoc, append-nil, arith, nil_from_length, trees, depth_all, FitsAll}
+use Rattle.std.specs.Prelude.{◌≤◌, ◌++◌}
+use Rattle.cborn_wire.proofs.Common.{ap, ◌∙◌, subst, append_assoc, append-nil, arith, nil_from_length, trees, depth_all, FitsAll}
 use Rattle.cborn_wire.proofs.Building.{part_spelled}
 use Rattle.cborn_wire.proofs.nodes.Nodes.finish.Goals as goal
 
@@ -10,10 +10,7 @@ new-requires c =
     part_spelled c.loop-node.items.items c.next.new.self.rest.items c.in-Some.node (subst (λ l. FitsAll (trees l)) is fits) (subst (λ l. depth_all (trees l) ≤ 1024) is low)
 
 pub loop-node-preserved : goal.loop-node-preserved
-loop-node-preserved c = λ ts h.
-    c.loop-node.invariant ts h ∙ ap (λ l. c.loop-node.items.items ++ l) c.in-Some.ensures.steps.0 ∙ ap (λ t. c.loop-node.items.items ++ t ∷ c.next.new.self.rest.items) (sym c.new.ensures)
-    ∙ sym (append_assoc c.loop-node.items.items (c.new.result ∷ []) c.next.new.self.rest.items) ∙ ap (λ l. l ++ c.next.new.self.rest.items) (sym c.in_ok-push.ensures.items)
+loop-node-preserved c = grind (arith, append_assoc)
 
 pub returns : goal.returns
-returns c = λ ts h.
-    sym (c.loop-node.invariant ts h ∙ ap (λ l. c.loop-node.items.items ++ l) (nil_from_length c.loop-node.node-iterator.rest.items (omega (arith, c.in-None.ensures.steps.0))) ∙ append-nil c.loop-node.items.items)
+returns c = grind (arith, append-nil, nil_from_length)
