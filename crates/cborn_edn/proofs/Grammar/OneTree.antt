@@ -6,7 +6,6 @@ use Rattle.cborn_edn.proofs.Grammar.Held.{run-append, run-none, deep_stack, deep
 use Rattle.cborn_edn.proofs.Grammar.Takes.{landed, then, whole, takes_input, finish-whole}
 use Rattle.cborn_edn.proofs.Grammar.Grows.{grows}
 use Rattle.cborn_edn.proofs.Grammar.Closes.{closes}
-use Rattle.cborn_edn.proofs.Grammar.Trailing.{parse_of, allowed_count}
 use Rattle.cborn_edn.proofs.Short.Rebuilt.{parsed, has_tree}
 
 -- what the tokens lead to
@@ -79,12 +78,12 @@ good p limit ts (more, (us, l, h)) = led (parsed p limit (ts ++ more) us l h)
         go None e f = no_some (sym (run-none more) ∙ f)
         go (Some s) e f =
             let r = ran more s (whole t.tree) f in
-            (s, e, allows_less p _ (commas_of_input t.tree) (omega (arith, r.2, commas-whole t.tree)) (allowed_count p _ t.tree t.parse), omega (arith, r.1, deep-whole t.tree, t.shallow))
+            (s, e, allows_less p _ (commas_of_input t.tree) (omega (arith, r.2, commas-whole t.tree)) t.parse.allowed, omega (arith, r.1, deep-whole t.tree, t.shallow))
 
 pub goes_on : (p : Profile) (limit : ℕ) (ts : List Token) → Good p limit ts → GoesOn p limit ts
 goes_on p limit ts g =
     let c = closes g.0 in
-    (c.0, has_tree p limit (ts ++ c.0) c.1 (parse_of p _ c.1 (c.2 ∙ ap (λ l. l ++ c.0) (held_by ts g.0 g.1)) (allows_less p _ _ c.4 g.2)) (omega (arith, c.3, g.3)))
+    (c.0, has_tree p limit (ts ++ c.0) c.1 (record { is = c.2 ∙ ap (λ l. l ++ c.0) (held_by ts g.0 g.1); allowed = allows_less p _ _ c.4 g.2 }) (omega (arith, c.3, g.3)))
 
 abbrev pub Ended : State → Input → Type 0
 Ended s t = (tokens_of_input t ≡ held s) × (depth_of_input t ≡ deep s) × (commas_of_input t ≡ commas_held s)

@@ -7,13 +7,13 @@ use Rattle.cborn_edn.proofs.Meaning.NoError.{holds_is, no_left, no_right, nil_is
 use Rattle.std.proofs.lemmas.Bool.Decides.{nat_tests}
 use Rattle.cborn_edn.proofs.Meaning.Earliest.{none_first}
 
-fits_more : (ts : List Tree) (t : Tree) → FitsAll (trees ts) → Fits t → FitsAll (trees (ts ++ (t ∷ [])))
-fits_more [] t h k = (k, tt)
-fits_more (u ∷ ts) t h k = (h.0, fits_more ts t h.1 k)
+pub fits_last : (ts : List Tree) (t : Tree) → FitsAll (trees ts) → Fits t → FitsAll (trees (ts ++ (t ∷ [])))
+fits_last [] t h k = (k, tt)
+fits_last (u ∷ ts) t h k = (h.0, fits_last ts t h.1 k)
 
 fits_put : (f : Partial) (t : Tree) → FitsSoFar f → Fits t → FitsSoFar (put f t)
-fits_put (top ts) t h k = fits_more ts t h k
-fits_put (inside f o ts) t h k = (h.0, h.1, fits_more ts t h.2 k)
+fits_put (top ts) t h k = fits_last ts t h k
+fits_put (inside f o ts) t h k = (h.0, h.1, fits_last ts t h.2 k)
 
 ended_fits : (w : Width) (k : ℕ) → k < 2 ^ 64 → WidthFits (if holds w k then w else least k) k
 ended_fits w k few = go (holds w k) (λ e. holds_is w k e)

@@ -1,6 +1,6 @@
 -- Indicators, brackets and separators of the fixed notation, as pieces.
-use Rattle.std.specs.Prelude.{◌≡◌, ◌∷◌, ◌++◌, ◌==◌}
-use Rattle.cborn_edn.proofs.Common.{refl, sym, ap, subst, ℕ, List, [], length, Bool, true, false, eqb, cond, Some, codes, lt-ltb, cond-true, Width, Direct, One, Two, Four, Eight, Size, Fixed, following, least, WidthFits, SizeFits, Mark, Absent, Endless, Wide, Class, ArrayOpen, MapOpen, ParenClose, Comma, Colon, ChunkOpen, Read, begins, is_word, is_numeral, mark_of, marked, IsIndicator, token, nowhere, mark_for, mark_for_size, indicator, opened, ProfileOne, EndlessMark}
+use Rattle.std.specs.Prelude.{◌≡◌, ◌∷◌, ◌++◌, ◌==◌, ◌||◌}
+use Rattle.cborn_edn.proofs.Common.{refl, sym, ap, subst, ℕ, List, [], length, Bool, true, false, eqb, cond, Some, codes, lt-ltb, or_parts, cond-true, Width, Direct, One, Two, Four, Eight, Size, Fixed, following, least, WidthFits, SizeFits, Mark, Absent, Endless, Wide, Class, ArrayOpen, MapOpen, ParenClose, Comma, Colon, ChunkOpen, Read, begins, is_word, is_numeral, mark_of, marked, IsIndicator, token, nowhere, mark_for, mark_for_size, indicator, opened, ProfileOne, EndlessMark}
 use Rattle.cborn_lex.specs.Forms.{Reads}
 use Rattle.cborn_edn.proofs.Lexed.Chained.{Chained, one_token, one_white_space, both}
 
@@ -17,23 +17,13 @@ pub record Closes (z : List ℕ) : Type 0 where
   pub no_paren : begins (λ c. eqb c 40) z ≡ false
   pub no_quote : begins (λ c. eqb c 39) z ≡ false
 
-pub comma_closes : (z : List ℕ) → Closes (44 ∷ z)
-comma_closes z = record { no_word = refl; no_numeral = refl; no_mark = refl; no_paren = refl; no_quote = refl }
-
-pub colon_closes : (z : List ℕ) → Closes (58 ∷ z)
-colon_closes z = record { no_word = refl; no_numeral = refl; no_mark = refl; no_paren = refl; no_quote = refl }
-
-pub paren_closes : (z : List ℕ) → Closes (41 ∷ z)
-paren_closes z = record { no_word = refl; no_numeral = refl; no_mark = refl; no_paren = refl; no_quote = refl }
-
-pub bracket_closes : (z : List ℕ) → Closes (93 ∷ z)
-bracket_closes z = record { no_word = refl; no_numeral = refl; no_mark = refl; no_paren = refl; no_quote = refl }
-
-pub brace_closes : (z : List ℕ) → Closes (125 ∷ z)
-brace_closes z = record { no_word = refl; no_numeral = refl; no_mark = refl; no_paren = refl; no_quote = refl }
-
-pub line_closes : (z : List ℕ) → Closes (10 ∷ z)
-line_closes z = record { no_word = refl; no_numeral = refl; no_mark = refl; no_paren = refl; no_quote = refl }
+pub closes : (c : ℕ) (z : List ℕ) → ((((is_word c || is_numeral c) || eqb c 95) || eqb c 40) || eqb c 39) ≡ false → Closes (c ∷ z)
+closes c z h =
+    let quote = or_parts (((is_word c || is_numeral c) || eqb c 95) || eqb c 40) (eqb c 39) h in
+    let paren = or_parts ((is_word c || is_numeral c) || eqb c 95) (eqb c 40) quote.0 in
+    let mark = or_parts (is_word c || is_numeral c) (eqb c 95) paren.0 in
+    let word = or_parts (is_word c) (is_numeral c) mark.0 in
+    record { no_word = word.0; no_numeral = word.1; no_mark = mark.1; no_paren = paren.1; no_quote = quote.1 }
 
 -- an indicator that the notation has: never a direct width
 wide_or_none : (b : Bool) (w : Width) → IsMark (Wide w) → IsMark (cond b Absent (Wide w))

@@ -2,7 +2,7 @@
 use Rattle.std.specs.Prelude.{◌≡◌, ◌<◌, ◌≤◌, ◌∷◌, ◌++◌}
 use Rattle.cborn_edn.proofs.Common.{refl, sym, ◌∙◌, subst, ℕ, List, [], Bool, true, false, eqb, cond, inl, inr, decimal, append-nil, arith, cond-true, cond-false, lt-ltb, le-ltb, eqb-true, eqb-false, cases_Bool, cases_lt, codes, Absent, Number, Word, SimpleOpen, ParenClose, begins, Item, simple, token, tokens_of, nowhere, simple_item, shown_simple}
 use Rattle.cborn_edn.proofs.Lexed.Chained.{Chained, one_token, both}
-use Rattle.cborn_edn.proofs.Lexed.MarkTexts.{Closes, paren_closes, paren_close}
+use Rattle.cborn_edn.proofs.Lexed.MarkTexts.{Closes, closes, paren_close}
 use Rattle.cborn_edn.proofs.Lexed.DecimalTexts.{number_text}
 
 simple_open : (z : List ℕ) → Chained (codes "simple(") z (token nowhere SimpleOpen ∷ [])
@@ -15,7 +15,7 @@ numbered_text : (n : ℕ) (z : List ℕ) → n < 256 → Chained (codes "simple(
 numbered_text n z h =
     subst (λ (x : List ℕ). Chained (codes "simple(" ++ (x ++ codes ")")) z (tokens_of (numbered n))) (append-nil (decimal n))
     (both (codes "simple(") ((decimal n ++ []) ++ codes ")") z (token nowhere SimpleOpen ∷ []) (token nowhere (Number false n Absent) ∷ token nowhere ParenClose ∷ []) (simple_open (((decimal n ++ []) ++ codes ")") ++ z))
-    (both (decimal n ++ []) (codes ")") z (token nowhere (Number false n Absent) ∷ []) (token nowhere ParenClose ∷ []) (number_text n Absent (41 ∷ z) (omega arith) tt (paren_closes z)) (paren_close z)))
+    (both (decimal n ++ []) (codes ")") z (token nowhere (Number false n Absent) ∷ []) (token nowhere ParenClose ∷ []) (number_text n Absent (41 ∷ z) (omega arith) tt (closes 41 z refl)) (paren_close z)))
 
 other_item : (n : ℕ) → eqb n 20 ≡ false → eqb n 21 ≡ false → eqb n 22 ≡ false → eqb n 23 ≡ false → simple_item n ≡ numbered n
 other_item n e f g h = elim (cases_lt n 20) [

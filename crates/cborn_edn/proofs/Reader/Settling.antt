@@ -3,7 +3,7 @@ use Rattle.std.specs.Prelude.{◌≡◌, ◌∷◌, ◌++◌}
 use Rattle.cborn_edn.proofs.Common.{refl, sym, ap, ◌∙◌, ℕ, List, [], length, cond, leb, Option, Some, None, is_utf8-from_IsUtf8, IsUtf8, least, Absent, Profile, Token, MeaningError, unless, TextNotUtf8, first_error, reach, Span, span, Item, Pieces, piece, text, string, node, faults, NoPieceAt, noted_stack, Reached, TextNode, Stack, in_row, at_top, as_item, State, has, builds, step, levels, comma_at, finish, at_end, checked, forbids, parse, EndsPieces}
 use Rattle.cborn_edn.proofs.Reader.Going.{after_token}
 use Rattle.cborn_edn.proofs.Reader.NextPieces.{next_ends}
-use Rattle.cborn_edn.proofs.Reader.Turning.{ended_same}
+use Rattle.cborn_edn.proofs.Grammar.Takes.{ended_same}
 use Rattle.cborn_edn.proofs.Reader.Showing.{same_errors}
 
 checked_same : (p : Profile) (limit : ℕ) (s v : State) (t : Token) (o : Option State) → comma_at s t.class ≡ comma_at v t.class → checked p limit s t o ≡ checked p limit v t o

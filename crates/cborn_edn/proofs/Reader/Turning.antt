@@ -149,13 +149,6 @@ pub taken_same : (h : Holds) (ok : Bool) (s t : State) (k : Class) (a : Span) (n
 taken_same h true s t k a next left e r = (r.0, e ∙ r.1, r.2)
 taken_same h false s t k a next left e r = e ∙ r
 
--- pieces that are whole are an item
-pub ended_same : (st : Stack) (ps : Pieces) (k : Class) (a : Span) → EndsPieces k → step_by (builds (as_item st) ps) k a ≡ step_by (has st (string ps)) k a
-ended_same st ps (classes.Text x m) a h = absurd h
-ended_same st ps (classes.Bytes q x m) a h = absurd h
-ended_same st ps classes.EmbedOpen a h = absurd h
-ended_same st ps _ a h = refl
-
 -- a kind that begins no piece
 pub no_piece : (kind : Kind) (n : ℕ) (x : List ℕ) → is_piece kind ≡ false → EndsPieces (class_of kind n x)
 no_piece (kinds.Text m) n x e = absurd (let bad : true ≡ false = e in cc)

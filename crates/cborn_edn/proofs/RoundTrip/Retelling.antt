@@ -7,6 +7,7 @@ use Rattle.cborn_edn.specs.Grammar.{number, word, simple, tag, array, map, strin
 use Rattle.cborn_edn.proofs.Lexed.NodeTexts.{more_tokens, more_pair_tokens, more_chunk_tokens, row_tokens, chunk_tokens, pair_tokens}
 use Rattle.cborn_edn.proofs.RoundTrip.Back.{below, count-unplaced, count-unplaced_entries}
 use Rattle.cborn_edn.proofs.Short.Rebuilt.{both_parts}
+use Rattle.cborn_edn.proofs.Shown.Characters.{AreGood, bytes_good, texts_good}
 use Rattle.cborn_edn.proofs.Reader.Built.{same_same}
 
 -- Tokens whose classes are known.
@@ -151,18 +152,6 @@ string_is k a w b =
     ∙ ap (λ v. string_node k a.start v b) (marks w (length b)).0
 
 -- Chunks.
-
-abbrev AreGood : StringKind → List Chunk → Type 0
-AreGood k [] = Unit {0}
-AreGood k (c ∷ cs) = (is_good k c.bytes ≡ true) × AreGood k cs
-
-bytes_good : (cs : List Chunk) → AreGood OfBytes cs
-bytes_good [] = tt
-bytes_good (c ∷ cs) = (refl, bytes_good cs)
-
-texts_good : (cs : List Chunk) → AreTexts cs → AreGood OfText cs
-texts_good [] h = tt
-texts_good (c ∷ cs) h = (h.0, texts_good cs h.1)
 
 chunks-append : (cs ds : List Chunk) → unplaced_chunks (cs ++ ds) ≡ unplaced_chunks cs ++ unplaced_chunks ds
 chunks-append [] ds = refl

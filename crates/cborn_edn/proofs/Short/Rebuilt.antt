@@ -6,7 +6,6 @@ use Rattle.cborn_edn.specs.devices.Syntax.{Pairs}
 use Rattle.cborn_edn.specs.devices.Said.{entries}
 use Rattle.cborn_edn.specs.Grammar.{number, word, simple, tag, array, map, string, chunked, embedded, piece, also, tight, loose, tight_fields, loose_fields, items}
 use Rattle.cborn_edn.proofs.Short.Derived.{both_allowed, derived_input}
-use Rattle.cborn_edn.proofs.Grammar.Trailing.{parse_of, allowed_count}
 
 -- a tree that has these tokens, says this and has these meaning errors
 pub record Found {T S : Type 0} (tokens_in : T → List Token) (depth_in commas_in : T → ℕ) (said : T → S) (faults_of : T → List MeaningError) (p : Profile) (d : ℕ) (x : List Token) (s : S) (l : List MeaningError) : Type 0 where
@@ -271,13 +270,13 @@ module _ (p : Profile) where
 
 -- a tree's tokens are a text of the relation
 pub text_of : (p : Profile) (limit : ℕ) (x : List Token) (t : Input) → Parse p x t → depth_of_input t ≤ limit → IsText p limit x (nodes_of_input t) (faults_of_input t)
-text_of p limit x t h k = subst (λ y. IsText p limit y (nodes_of_input t) (faults_of_input t)) h.is (derived_input p t limit k (allowed_count p x t h))
+text_of p limit x t h k = subst (λ y. IsText p limit y (nodes_of_input t) (faults_of_input t)) h.is (derived_input p t limit k h.allowed)
 
 -- a text of the relation has a tree
 pub parsed : (p : Profile) (limit : ℕ) (x : List Token) (ts : Trees) (l : List MeaningError) → IsText p limit x ts l → Parsed p limit x ts l
 parsed p limit x ts l h =
     let r = rebuilt_input p h in
-    record { tree = r.found; parse = parse_of p x r.found r.tokens r.allowed; shallow = r.shallow; says = r.says; errors = r.errors }
+    record { tree = r.found; parse = record { is = r.tokens; allowed = r.allowed }; shallow = r.shallow; says = r.says; errors = r.errors }
 
 pub said_by : (p : Profile) (limit : ℕ) (x : List Token) (ts : Trees) (l : List MeaningError) → Parsed p limit x ts l → IsText p limit x ts l
 said_by p limit x ts l h = subst (λ us. IsText p limit x us l) h.says (subst (IsText p limit x (nodes_of_input h.tree)) h.errors (text_of p limit x h.tree h.parse h.shallow))
