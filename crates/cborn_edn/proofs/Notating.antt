@@ -320,8 +320,7 @@ bad_built (in_chunks q OfText) ts p e = in_texts ts p e
 
 -- where a place was noted there is one
 pub noted : (bad : Option ℕ) (b : Bool) → is_some bad ≡ not b → b ≡ false → bad ≡ None → ⊥
-noted None b e f none = let t : not b ≡ true = ap not f in cc
-noted (Some p) b e f none = cc
+noted bad b e f none = grind arith
 
 -- a node that is no text is whole
 pub put_held : (v w : Notator) (f : Partial) (t : Tree) → ((p : ℕ) → IsBadText t p → ⊥) → w.next ≡ after v.next → w.around ≡ v.around → w.bad ≡ v.bad

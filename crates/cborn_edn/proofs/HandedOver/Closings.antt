@@ -1,6 +1,6 @@
 -- Containers that end, leaves, and heads that are handed over.
 use Rattle.std.specs.Prelude.{◌≡◌, ◌<◌, ◌^◌, ◌∷◌, ◌++◌, if◌then◌else◌}
-use Rattle.cborn_edn.proofs.Common.{refl, sym, ap, ◌∙◌, subst, ℕ, List, [], length, Bool, true, false, ltb, cond, None, append_assoc, Width, Direct, Fixed, holds, least, Tree, Items, Pairs, Trees, Entries, no_entry, entry, entries, count, count_entries, Opening, an_array, a_map, a_tag, Partial, inside, put, paired, last_key, built, ended_size, IsFree, Ends, Mark, Absent, Endless, Wide, IndicatorTooNarrow, Close, width, size, size_errors, listed_trees, trees-listed, Span, Item, tag, array, row, Content, loose, tight, pairs, Fields, loose_fields, tight_fields, Stack, in_tag, in_array, State, has, node, nodes_before, nodes_in, entries_before, entries_in, faults, faults_before, faults_in, faults_before_pairs, faults_of_fields, noted, noted_stack, content_state, fields_state, AreFew, Comes, listed_entries, size_asked, front_of, front, Hands, count-trees, count_entries-entries, map_item as map, digits_of, integer_tree, is_below, argument_of, is_small, integer, bignum, number_node, Integer, Bignum, Tag, number, wants, bignum_of}
+use Rattle.cborn_edn.proofs.Common.{arith, refl, sym, ap, ◌∙◌, subst, ℕ, List, [], length, Bool, true, false, ltb, cond, None, append_assoc, Width, Direct, Fixed, holds, least, Tree, Items, Pairs, Trees, Entries, no_entry, entry, entries, count, count_entries, Opening, an_array, a_map, a_tag, Partial, inside, put, paired, last_key, built, ended_size, IsFree, Ends, Mark, Absent, Endless, Wide, IndicatorTooNarrow, Close, width, size, size_errors, listed_trees, trees-listed, Span, Item, tag, array, row, Content, loose, tight, pairs, Fields, loose_fields, tight_fields, Stack, in_tag, in_array, State, has, node, nodes_before, nodes_in, entries_before, entries_in, faults, faults_before, faults_in, faults_before_pairs, faults_of_fields, noted, noted_stack, content_state, fields_state, AreFew, Comes, listed_entries, size_asked, front_of, front, Hands, count-trees, count_entries-entries, map_item as map, digits_of, integer_tree, is_below, argument_of, is_small, integer, bignum, number_node, Integer, Bignum, Tag, number, wants, bignum_of}
 use Rattle.cborn_edn.specs.devices.Events.{after}
 use Rattle.cborn_edn.proofs.Meaning.NoError.{no_left, no_right, held, tag_small}
 use Rattle.cborn_edn.proofs.HandedOver.Handing.{free}
@@ -18,13 +18,7 @@ paired_count es = sym (count_entries-entries (paired (listed_entries es))) ∙ a
 
 -- the size that a head says at the end is that which the indicator asks for
 size_ended : (p : ℕ) (m : Mark) (n : ℕ) → size_errors p m n ≡ [] → ended_size (size_asked m) None n ≡ size m n
-size_ended p Absent n e = ap Fixed (go (ltb n 24) _)
-  where
-    go : (b : Bool) (w : Width) → cond b Direct (cond b Direct w) ≡ cond b Direct w
-    go true w = refl
-    go false w = refl
-size_ended p Endless n e = refl
-size_ended p (Wide w) n e = ap (λ b. Fixed (if b then w else least n)) (held (holds w n) p IndicatorTooNarrow e)
+size_ended p m n e = grind arith
 
 -- the end of a container leads from what is open to what is whole
 pub hands_close : (s u : State) (f : Partial) (o : Opening) (ts : List Tree) → front s ≡ inside f o ts → IsFree f → Ends o ts → AreFew o ts → (noted u ≡ [] → noted s ≡ []) → (noted u ≡ [] → put f (built o ts) ≡ front u) → Hands Close 0 [] s u

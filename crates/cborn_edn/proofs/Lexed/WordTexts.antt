@@ -18,19 +18,10 @@ numbered_text n z h =
     (both (decimal n ++ []) (codes ")") z (token nowhere (Number false n Absent) ∷ []) (token nowhere ParenClose ∷ []) (number_text n Absent (41 ∷ z) (omega arith) tt (closes 41 z refl)) (paren_close z)))
 
 other_item : (n : ℕ) → eqb n 20 ≡ false → eqb n 21 ≡ false → eqb n 22 ≡ false → eqb n 23 ≡ false → simple_item n ≡ numbered n
-other_item n e f g h = elim (cases_lt n 20) [
-  | inl low ↦ cond-true _ _ _ (lt-ltb n 20 low)
-  | inr high ↦
-      let a = eqb-false n 20 e in
-      let b = eqb-false n 21 f in
-      let c = eqb-false n 22 g in
-      let d = eqb-false n 23 h in
-      let more : 24 ≤ n = omega arith in
-      cond-false _ _ _ (le-ltb n 20 high) ∙ cond-false _ _ _ (le-ltb n 24 more)
-]
+other_item n e f g h = grind arith
 
 other_text : (n : ℕ) → eqb n 20 ≡ false → eqb n 21 ≡ false → eqb n 22 ≡ false → eqb n 23 ≡ false → shown_simple n ≡ codes "simple(" ++ (decimal n ++ codes ")")
-other_text n e f g h = cond-false _ _ _ e ∙ (cond-false _ _ _ f ∙ (cond-false _ _ _ g ∙ cond-false _ _ _ h))
+other_text n e f g h = grind arith
 
 abbrev IsRead : List ℕ → ℕ → Type 0
 IsRead z n = Chained (shown_simple n) z (tokens_of (simple_item n))

@@ -13,13 +13,7 @@ rank : MeaningError → ℕ
 rank s = s.place * 64 + number_of s.reason
 
 by_parts : (p q m n : ℕ) → m < 64 → n < 64 → (ltb p q || (eqb p q && leb m n)) ≡ leb (p * 64 + m) (q * 64 + n)
-by_parts p q m n hm hn = go (ltb p q) refl (eqb p q) refl (leb m n) refl
-  where
-    go : (a : Bool) → ltb p q ≡ a → (b : Bool) → eqb p q ≡ b → (c : Bool) → leb m n ≡ c → (a || (b && c)) ≡ leb (p * 64 + m) (q * 64 + n)
-    go true e b f c g = let h : p < q = ltb-true _ _ e in sym (le-leb _ _ (omega arith))
-    go false e true f true g = let h : p ≡ q = eqb-true _ _ f in let i : m ≤ n = leb-true _ _ g in sym (le-leb _ _ (omega arith))
-    go false e true f false g = let h : p ≡ q = eqb-true _ _ f in let i : n < m = leb-false _ _ g in sym (lt-leb _ _ (omega arith))
-    go false e false f c g = let h : q ≤ p = ltb-false _ _ e in let i : p ≡ q → ⊥ = eqb-false _ _ f in sym (lt-leb _ _ (omega arith))
+by_parts p q m n hm hn = grind arith
 
 pick : MeaningError → MeaningError → MeaningError
 pick a b = cond (leb (rank a) (rank b)) a b
@@ -37,22 +31,8 @@ unfolding pick
 pick-second a b h = ap (λ c. cond c a b) (lt-leb _ _ h)
 
 pick-assoc : (a b c : MeaningError) → pick (pick a b) c ≡ pick a (pick b c)
-pick-assoc a b c = go (leb (rank a) (rank b)) refl (leb (rank b) (rank c)) refl
-  where
-    go : (x : Bool) → leb (rank a) (rank b) ≡ x → (y : Bool) → leb (rank b) (rank c) ≡ y → pick (pick a b) c ≡ pick a (pick b c)
-    go true e true f =
-        let h = leb-true _ _ e in
-        let k = leb-true _ _ f in
-        ap (λ d. pick d c) (pick-first a b h) ∙ pick-first a c (omega arith) ∙ sym (ap (pick a) (pick-first b c k) ∙ pick-first a b h)
-    go true e false f = ap (λ d. pick d c) (pick-first a b (leb-true _ _ e)) ∙ ap (pick a) (sym (pick-second b c (leb-false _ _ f)))
-    go false e true f =
-        let h = leb-false _ _ e in
-        let k = leb-true _ _ f in
-        ap (λ d. pick d c) (pick-second a b h) ∙ pick-first b c k ∙ sym (ap (pick a) (pick-first b c k) ∙ pick-second a b h)
-    go false e false f =
-        let h = leb-false _ _ e in
-        let k = leb-false _ _ f in
-        ap (λ d. pick d c) (pick-second a b h) ∙ pick-second b c k ∙ sym (ap (pick a) (pick-second b c k) ∙ pick-second a c (omega arith))
+unfolding pick rank
+pick-assoc a b c = grind arith
 
 earlier-none : (a : Option MeaningError) → earlier a None ≡ a
 earlier-none None = refl

@@ -17,12 +17,7 @@ modest_both [] y h k = k
 modest_both (t ∷ x) y h k = (h.0, modest_both x y h.1 k)
 
 pub least_is_eight : (n : ℕ) → 2 ^ 32 ≤ n → least n ≡ Eight
-least_is_eight n h =
-    let a : ltb n 24 ≡ false = le-ltb n 24 (omega arith) in
-    let b : ltb n 256 ≡ false = le-ltb n 256 (omega arith) in
-    let c : ltb n (2 ^ 16) ≡ false = le-ltb n (2 ^ 16) (omega arith) in
-    let d : ltb n (2 ^ 32) ≡ false = le-ltb n (2 ^ 32) (omega arith) in
-    rw (a, b, c, d) refl
+least_is_eight n h = grind arith
 
 pub least_bytes : (k : Major) (n : ℕ) → AreBytes (head k (Given (least n) n))
 least_bytes k n = go (ltb n (2 ^ 64)) refl

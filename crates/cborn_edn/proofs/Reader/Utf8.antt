@@ -37,29 +37,16 @@ exchanged a p m x y low some is rest u = let c = cut a p x low some u in IsUtf8-
 -- Escapes are ASCII, and stand for characters.
 
 digit_ascii : (c : ℕ) → is_digit c 16 ≡ true → c < 128
-digit_ascii c h = elim (cases_lt c 128) [
-  | inl l ↦ l
-  | inr g ↦ absurd (let v : digit_value c ≡ 36 = cond-false (ltb c 48) _ _ (le-ltb c 48 (omega (arith, g))) ∙ cond-false (ltb c 58) _ _ (le-ltb c 58 (omega (arith, g))) ∙ cond-false (ltb c 65) _ _ (le-ltb c 65 (omega (arith, g))) ∙ cond-false (ltb c 91) _ _ (le-ltb c 91 (omega (arith, g))) ∙ cond-false (ltb c 97) _ _ (le-ltb c 97 (omega (arith, g))) ∙ cond-false (ltb c 123) _ _ (le-ltb c 123 (omega (arith, g))) in
-      let l = ltb-true (digit_value c) 16 h in omega (arith, v, l))
-]
+digit_ascii c h = grind arith
 
 escape_ascii : (q e : ℕ) → is_escape q e ≡ true → e < 128
-escape_ascii q e h = elim (cases_lt e 128) [
-  | inl l ↦ l
-  | inr g ↦ absurd (false≢true (sym (or_from _ _ (none g) (ap (λ b. b && eqb q 39) (no 39 g (omega arith)))) ∙ h))
-]
-  where
-    no : (d : ℕ) → 128 ≤ e → d < 128 → eqb e d ≡ false
-    no d g l = ne_eqb e d (λ f. omega (arith, f, g, l))
-
-    none : 128 ≤ e → list_any (λ c. eqb e c) (codes "\"\\/bfnrt") ≡ false
-    none g = rw (no 34 g (omega arith), no 92 g (omega arith), no 47 g (omega arith), no 98 g (omega arith), no 102 g (omega arith), no 110 g (omega arith), no 114 g (omega arith), no 116 g (omega arith)) refl
+escape_ascii q e h = grind arith
 
 below : (b : Bool) (x y : ℕ) → x < 128 → y < 128 → cond b x y < 128
 below b x y h k = cond_both b x y (λ n. n < 128) (λ e. h) (λ e. k)
 
 escape_below : (e : ℕ) → e < 128 → escape_code e < 128
-escape_below e h = below (eqb e 98) 8 _ (omega arith) (below (eqb e 102) 12 _ (omega arith) (below (eqb e 110) 10 _ (omega arith) (below (eqb e 114) 13 _ (omega arith) (below (eqb e 116) 9 e (omega arith) h))))
+escape_below e h = grind arith
 
 hexes : (a b c d : ℕ) → are_hex a b c d ≡ true → (a < 128) × (b < 128) × (c < 128) × (d < 128) × (code a b c d < 2 ^ 16)
 hexes a b c d h =
@@ -72,30 +59,10 @@ four_ascii : (a b c d : ℕ) (x : List ℕ) → (a < 128) × (b < 128) × (c < 1
 four_ascii a b c d x h k = IsAscii-cons 92 (117 ∷ a ∷ b ∷ c ∷ d ∷ x) (omega arith) (IsAscii-cons 117 (a ∷ b ∷ c ∷ d ∷ x) (omega arith) (IsAscii-cons a (b ∷ c ∷ d ∷ x) h.0 (IsAscii-cons b (c ∷ d ∷ x) h.1 (IsAscii-cons c (d ∷ x) h.2 (IsAscii-cons d x h.3 k)))))
 
 no_surrogate : (n : ℕ) → n < 2 ^ 16 → (is_high n || is_low_unit n) ≡ false → scalar n ≡ true
-no_surrogate n h k = elim (cases_lt n 0xD800) [
-  | inl l ↦ cond-true (ltb n 55296) _ _ (lt-ltb n 55296 l)
-  | inr g ↦ cond-false (ltb n 55296) _ _ (le-ltb n 55296 g) ∙ and_from (leb 57344 n) (ltb n 1114112) (le-leb 57344 n (above g)) (lt-ltb n 1114112 (omega (arith, h)))
-]
-  where
-    above : 0xD800 ≤ n → 57344 ≤ n
-    above g = elim (cases_lt n 57344) [
-      | inr m ↦ m
-      | inl l ↦ elim (cases_lt n 0xDC00) [
-        | inl s ↦ absurd (false≢true (sym (or_parts (is_high n) (is_low_unit n) k).0 ∙ and_from (leb 0xD800 n) (ltb n 0xDC00) (le-leb 0xD800 n g) (lt-ltb n 0xDC00 s)))
-        | inr s ↦ absurd (false≢true (sym (or_parts (is_high n) (is_low_unit n) k).1 ∙ and_from (leb 0xDC00 n) (ltb n 0xE000) (le-leb 0xDC00 n s) (lt-ltb n 0xE000 l)))
-      ]
-    ]
+no_surrogate n h k = grind arith
 
 two_scalars : (m n : ℕ) → is_high m ≡ true → is_low_unit n ≡ true → scalar (paired m n) ≡ true
-two_scalars m n h l =
-    let hs = and_parts (leb 0xD800 m) (ltb m 0xDC00) h in
-    let ls = and_parts (leb 0xDC00 n) (ltb n 0xE000) l in
-    let a = ltb-true m 0xDC00 hs.1 in
-    let b = ltb-true n 0xE000 ls.1 in
-    let c = paired m n in
-    let least : 57344 ≤ c = omega arith in
-    let most : c < 1114112 = omega (arith, a, b) in
-    cond-false (ltb c 55296) _ _ (le-ltb c 55296 (omega (arith, least))) ∙ and_from (leb 57344 c) (ltb c 1114112) (le-leb 57344 c least) (lt-ltb c 1114112 most)
+two_scalars m n h l = grind arith
 
 -- what letters after a text stand for
 letters_utf8 : (q : ℕ) (ls : List Letter) (x : List ℕ) → list_all (is_letter q) ls ≡ true → IsUtf8 (x ++ flat_map written ls) → IsUtf8 (x ++ flat_map meant ls)
