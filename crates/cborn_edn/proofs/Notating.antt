@@ -145,9 +145,7 @@ plain_separator FirstItem = refl
 plain_separator _ = refl
 
 plain_ending : (s : Next) → ending (plain s) ≡ ending s
-plain_ending (FirstChunk OfBytes) = refl
-plain_ending (FirstChunk OfText) = refl
-plain_ending _ = refl
+plain_ending s = grind arith
 
 plain_counted : (s : Next) → is_counted (plain s) ≡ false
 plain_counted FirstItem = refl

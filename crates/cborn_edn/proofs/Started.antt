@@ -44,11 +44,7 @@ empty_alone OfBytes p = refl
 empty_alone OfText p = refl
 
 said_alone : (s : Str) → spots (said_string s) ≡ s.place ∷ []
-said_alone s = go (s.lone && is_endless s.mark)
-  where
-    go : (b : Bool) → spots (cond b (chunked_node s.kind s.place []) (string_node s.kind s.place (width s.mark (length s.bytes)) s.bytes)) ≡ s.place ∷ []
-    go true = empty_alone s.kind s.place
-    go false = string_alone s.kind s.place (width s.mark (length s.bytes)) s.bytes
+said_alone s = grind arith
 
 chunks_append : (cs : List Chunk) (c : Chunk) → starts_of_chunks (cs ++ (c ∷ [])) ≡ starts_of_chunks cs ++ (c.place ∷ [])
 chunks_append [] c = refl

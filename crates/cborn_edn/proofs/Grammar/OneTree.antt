@@ -26,10 +26,7 @@ deep-landed st (string ps) = refl
 deep-landed st _ = refl
 
 commas-landed : (st : Stack) (i : Item) → commas_held (landed st i) ≡ commas_stack st + commas i
-commas-landed st (number a n v m) = omega arith
-commas-landed st (word a n) = omega arith
-commas-landed st (simple a c n v m e) = omega arith
-commas-landed st _ = refl
+commas-landed st i = grind arith
 
 deep-whole : (t : Input) → deep (whole t) ≡ depth_of_input t
 deep-whole nothing = omega arith

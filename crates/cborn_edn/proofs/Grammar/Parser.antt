@@ -20,9 +20,7 @@ allows_more ProfileOne m (suc n) f a = absurd (let e : true ≡ false = f in cc)
 allows_more ProfileTwo m n f a = tt
 
 forbidden : (p : Profile) (m n : ℕ) → forbids p n ≡ true → AllowsCount p (m + n) → ⊥
-forbidden ProfileOne m zero f a = let e : false ≡ true = f in cc
-forbidden ProfileOne m (suc n) f a = omega (arith, a)
-forbidden ProfileTwo m n f a = let e : false ≡ true = f in cc
+forbidden p m n h1 h2 = grind arith
 
 module _ (p : Profile) (limit end : ℕ) where
   pub parse_meets : (y f : List Token) (s : State) → Leads f s → AllowsCount p (commas_held s) → deep s ≤ limit → Meets p limit end (f ++ y) (parse p limit end y s)

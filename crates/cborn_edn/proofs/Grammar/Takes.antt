@@ -1,6 +1,6 @@
 -- The machine takes the tokens of a tree, and then holds that tree.
 use Rattle.std.specs.Prelude.{◌≡◌, ◌∷◌, ◌++◌}
-use Rattle.cborn_edn.proofs.Common.{refl, ap, ◌∙◌, ℕ, List, Bool, Option, Some, None, append_assoc, Mark, Class, ArrayOpen, MapOpen, EmbedClose, ArrayClose, MapClose, ParenClose, Comma, Colon, EmbedOpen, ChunkOpen, TagOpen, Text, Bytes, Token, Span, token, Item, number, word, tag, simple, string, chunked, array, Piece, text, bytes, embedded, Pieces, piece, also, Strings, strings, StringsBefore, no_string, after_strings, Row, row, RowBefore, no_item, after_row, Content, loose, tight, pairs, PairsBefore, no_pair, after_pairs, Fields, loose_fields, tight_fields, Input, items, tokens_of, tokens_of_piece, tokens_of_pieces, tokens_of_strings, tokens_of_strings_before, tokens_of_row, tokens_of_row_before, tokens_of_content, tokens_of_pairs, tokens_of_pairs_before, tokens_of_fields, tokens_of_input, Stack, in_row, in_key, in_value, in_tag, Nest, at_top, in_array, in_embed, Home, as_item, as_chunk, State, wants, has, builds, wants_chunk, start, with_piece, ends, step_by, run, EndsPieces, map_item as map}
+use Rattle.cborn_edn.proofs.Common.{arith, refl, ap, ◌∙◌, ℕ, List, Bool, Option, Some, None, append_assoc, Mark, Class, ArrayOpen, MapOpen, EmbedClose, ArrayClose, MapClose, ParenClose, Comma, Colon, EmbedOpen, ChunkOpen, TagOpen, Text, Bytes, Token, Span, token, Item, number, word, tag, simple, string, chunked, array, Piece, text, bytes, embedded, Pieces, piece, also, Strings, strings, StringsBefore, no_string, after_strings, Row, row, RowBefore, no_item, after_row, Content, loose, tight, pairs, PairsBefore, no_pair, after_pairs, Fields, loose_fields, tight_fields, Input, items, tokens_of, tokens_of_piece, tokens_of_pieces, tokens_of_strings, tokens_of_strings_before, tokens_of_row, tokens_of_row_before, tokens_of_content, tokens_of_pairs, tokens_of_pairs_before, tokens_of_fields, tokens_of_input, Stack, in_row, in_key, in_value, in_tag, Nest, at_top, in_array, in_embed, Home, as_item, as_chunk, State, wants, has, builds, wants_chunk, start, with_piece, ends, step_by, run, EndsPieces, map_item as map}
 use Rattle.cborn_edn.specs.devices.Syntax.{Pairs, nothing}
 use Rattle.cborn_edn.proofs.Grammar.Held.{after}
 pub use Rattle.cborn_edn.specs.devices.Machine.{at_home, finish}
@@ -27,10 +27,7 @@ landed_strings st s (strings b ps) = builds (as_chunk st s b) ps
 
 -- pieces that are whole are an item
 pub ended_same : (st : Stack) (ps : Pieces) (k : Class) (a : Span) → EndsPieces k → step_by (builds (as_item st) ps) k a ≡ step_by (has st (string ps)) k a
-ended_same st ps (Text x m) a h = absurd h
-ended_same st ps (Bytes q x m) a h = absurd h
-ended_same st ps EmbedOpen a h = absurd h
-ended_same st ps _ a h = refl
+ended_same st ps k a h1 = grind arith
 
 ended : (st : Stack) (i : Item) (k : Class) (a : Span) → EndsPieces k → step_by (landed st i) k a ≡ after st i k a
 ended st (string ps) k a h = ended_same st ps k a h
@@ -49,22 +46,13 @@ abbrev pub then : List Token → State → Option State
 then ts s = run ts (Some s)
 
 pub text_piece : (h : Home) (b : Option Pieces) (a : Span) (x : List ℕ) (m : Mark) (y : List Token) → then (token a (Text x m) ∷ y) (at_home h b) ≡ then y (builds h (with_piece b (text a x m)))
-text_piece (as_item st) None a x m y = refl
-text_piece (as_chunk st s b) None a x m y = refl
-text_piece (as_item st) (Some ps) a x m y = refl
-text_piece (as_chunk st s b) (Some ps) a x m y = refl
+text_piece h b a x m y = grind arith
 
 pub bytes_piece : (h : Home) (b : Option Pieces) (a : Span) (q : Bool) (x : List ℕ) (m : Mark) (y : List Token) → then (token a (Bytes q x m) ∷ y) (at_home h b) ≡ then y (builds h (with_piece b (bytes a q x m)))
-bytes_piece (as_item st) None a q x m y = refl
-bytes_piece (as_chunk st s b) None a q x m y = refl
-bytes_piece (as_item st) (Some ps) a q x m y = refl
-bytes_piece (as_chunk st s b) (Some ps) a q x m y = refl
+bytes_piece h b a q x m y = grind arith
 
 pub embed_opens : (h : Home) (b : Option Pieces) (a : Span) (y : List Token) → then (token a EmbedOpen ∷ y) (at_home h b) ≡ then y (wants (in_row (in_embed h b a) no_item))
-embed_opens (as_item st) None a y = refl
-embed_opens (as_chunk st s b) None a y = refl
-embed_opens (as_item st) (Some ps) a y = refl
-embed_opens (as_chunk st s b) (Some ps) a y = refl
+embed_opens h b a y = grind arith
 
 loose_closes : (n : Nest) (b : RowBefore) (e : Close) (a : Span) → step_by (wants (in_row n b)) (class_at e) a ≡ ends n (loose b) (class_at e) a
 loose_closes n b close_array a = refl
@@ -180,6 +168,4 @@ takes_input nothing y = refl
 takes_input (items r) y = takes_row r at_top y
 
 pub finish-whole : (t : Input) → finish (whole t) ≡ Some t
-finish-whole nothing = refl
-finish-whole (items (row b (string ps))) = refl
-finish-whole _ = refl
+finish-whole t = grind arith

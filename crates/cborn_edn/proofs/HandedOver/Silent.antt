@@ -1,6 +1,6 @@
 -- Tokens that hand nothing over.
 use Rattle.std.specs.Prelude.{◌≡◌, ◌∷◌, ◌++◌}
-use Rattle.cborn_edn.proofs.Common.{refl, sym, ap, ◌∙◌, subst, ℕ, Bool, List, [], Option, Some, None, append_assoc, Tree, Trees, more, Entries, no_entry, entry, a_map, Partial, inside, no_part, put, Speller, Mark, Span, Item, simple, Piece, embedded, Pieces, piece, also, no_string, row, RowBefore, after_row, Content, loose, tight, pairs, PairsBefore, after_pairs, Stack, in_row, in_key, in_value, Nest, at_top, in_array, in_embed, Home, as_item, as_chunk, State, wants, has, builds, wants_chunk, wants_number, has_number, at_home, with_piece, node, faults_of_pieces, snoc, snoc_entry, nodes_before, entries_before, noted, noted_home, stack_of, stack_in, content_state, listed_trees, Holds, FitsSoFar, listed_entries, states_around, states_around_home, size_asked, front_of, row_front, front, Handed, AllHanded, no_node}
+use Rattle.cborn_edn.proofs.Common.{arith, refl, sym, ap, ◌∙◌, subst, ℕ, Bool, List, [], Option, Some, None, append_assoc, Tree, Trees, more, Entries, no_entry, entry, a_map, Partial, inside, no_part, put, Speller, Mark, Span, Item, simple, Piece, embedded, Pieces, piece, also, no_string, row, RowBefore, after_row, Content, loose, tight, pairs, PairsBefore, after_pairs, Stack, in_row, in_key, in_value, Nest, at_top, in_array, in_embed, Home, as_item, as_chunk, State, wants, has, builds, wants_chunk, wants_number, has_number, at_home, with_piece, node, faults_of_pieces, snoc, snoc_entry, nodes_before, entries_before, noted, noted_home, stack_of, stack_in, content_state, listed_trees, Holds, FitsSoFar, listed_entries, states_around, states_around_home, size_asked, front_of, row_front, front, Handed, AllHanded, no_node}
 use Rattle.cborn_edn.proofs.Meaning.NoError.{no_left}
 use Rattle.cborn_edn.proofs.HandedOver.Handing.{stays}
 
@@ -52,10 +52,7 @@ handed_piece h ps (as_chunk st s b) (Some xs) p t = stays h ps _ _ (states_aroun
 
 -- the states around a string
 pub around_string : (home : Home) (o : Option Pieces) → states_around (stack_in (at_home home o)) ≡ states_around_home home
-around_string (as_item st) None = refl
-around_string (as_item st) (Some ps) = refl
-around_string (as_chunk st s b) None = refl
-around_string (as_chunk st s b) (Some ps) = refl
+around_string home o = grind arith
 
 pub piece_handed : (h : Holds) (ps qs : List Speller) (home : Home) (o : Option Pieces) (p : Piece) → qs ≡ ps → AllHanded h ps (at_home home o ∷ states_around (stack_in (at_home home o))) → AllHanded h qs (builds home (with_piece o p) ∷ states_around (stack_of home))
 piece_handed h ps qs home o p e t = subst (λ (l : List Speller). AllHanded h l (builds home (with_piece o p) ∷ states_around (stack_of home))) (sym e) (handed_piece h ps home o p (subst (λ (ss : List State). AllHanded h ps (at_home home o ∷ ss)) (around_string home o) t))

@@ -18,10 +18,7 @@ node_of OfBytes p cs = refl
 node_of OfText p cs = refl
 
 same_is : (k l : StringKind) → same_kind k l ≡ true → k ≡ l
-same_is OfBytes OfBytes e = refl
-same_is OfText OfText e = refl
-same_is OfBytes OfText e = absurd (let bad : false ≡ true = e in cc)
-same_is OfText OfBytes e = absurd (let bad : false ≡ true = e in cc)
+same_is k l h1 = grind arith
 
 none_both : {A : Type 0} (x y : List A) → x ≡ [] → y ≡ [] → x ++ y ≡ []
 none_both [] y e f = f

@@ -55,9 +55,7 @@ decimal_text n h = elim (cases_lt 0 n) [
 -- Numbers, and the numbers of tags.
 
 no_numeral : (m : Mark) (z : List ℕ) → IsMark m → begins is_numeral z ≡ false → begins is_numeral (indicator m ++ z) ≡ false
-no_numeral Absent z h e = e
-no_numeral (Wide Direct) z h e = e
-no_numeral _ z h e = refl
+no_numeral m z h1 h2 = grind arith
 
 reads_number : (negative : Bool) (first body : List ℕ) (n : ℕ) (m : Mark) (z : List ℕ) → IsMark m → Closes z → AllDigits 10 body → integer negative (first ++ body) ≡ Ok n → ReadsNumber negative first (body ++ indicator m) z (Read (signed negative n m))
 reads_number negative first body n m z h k d e = (

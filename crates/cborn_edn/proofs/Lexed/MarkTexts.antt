@@ -1,6 +1,6 @@
 -- Indicators, brackets and separators of the fixed notation, as pieces.
 use Rattle.std.specs.Prelude.{◌≡◌, ◌∷◌, ◌++◌, ◌==◌, ◌||◌}
-use Rattle.cborn_edn.proofs.Common.{refl, sym, ap, subst, ℕ, List, [], length, Bool, true, false, eqb, cond, Some, codes, lt-ltb, or_parts, cond-true, Width, Direct, One, Two, Four, Eight, Size, Fixed, following, least, WidthFits, SizeFits, Mark, Absent, Endless, Wide, Class, ArrayOpen, MapOpen, ParenClose, Comma, Colon, ChunkOpen, Read, begins, is_word, is_numeral, mark_of, marked, IsIndicator, token, nowhere, mark_for, mark_for_size, indicator, opened, ProfileOne, EndlessMark}
+use Rattle.cborn_edn.proofs.Common.{arith, refl, sym, ap, subst, ℕ, List, [], length, Bool, true, false, eqb, cond, Some, codes, lt-ltb, or_parts, cond-true, Width, Direct, One, Two, Four, Eight, Size, Fixed, following, least, WidthFits, SizeFits, Mark, Absent, Endless, Wide, Class, ArrayOpen, MapOpen, ParenClose, Comma, Colon, ChunkOpen, Read, begins, is_word, is_numeral, mark_of, marked, IsIndicator, token, nowhere, mark_for, mark_for_size, indicator, opened, ProfileOne, EndlessMark}
 use Rattle.cborn_lex.specs.Forms.{Reads}
 use Rattle.cborn_edn.proofs.Lexed.Chained.{Chained, one_token, one_white_space, both}
 
@@ -42,9 +42,7 @@ is_size_mark EndlessMark n h = tt
 is_size_mark (Fixed w) n h = is_mark w n h
 
 pub mark_is : (m : Mark) → IsMark m → mark_of (indicator m) ≡ Some m
-mark_is Absent h = refl
-mark_is (Wide Direct) h = absurd h
-mark_is _ h = refl
+mark_is m h1 = grind arith
 
 pub indicates : (m : Mark) (z : List ℕ) → IsMark m → begins is_word z ≡ false → begins (λ c. eqb c 95) z ≡ false → IsIndicator (indicator m) z
 indicates Absent z h k e = e

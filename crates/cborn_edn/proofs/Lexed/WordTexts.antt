@@ -43,11 +43,4 @@ simple_text n z l k = elim (cases_Bool (eqb n 20)) [
 
 -- it doesn't begin as an indicator does
 pub simple_begins : (n : ℕ) (z : List ℕ) → begins (λ c. eqb c 95) (shown_simple n ++ z) ≡ false
-simple_begins n z = go (eqb n 20) (eqb n 21) (eqb n 22) (eqb n 23)
-  where
-    go : (a b c d : Bool) → begins (λ c. eqb c 95) (cond a (codes "false") (cond b (codes "true") (cond c (codes "null") (cond d (codes "undefined") (codes "simple(" ++ (decimal n ++ codes ")"))))) ++ z) ≡ false
-    go true b c d = refl
-    go false true c d = refl
-    go false false true d = refl
-    go false false false true = refl
-    go false false false false = refl
+simple_begins n z = grind arith

@@ -39,9 +39,7 @@ head_short m (Given Direct n) = omega arith
 head_short m _ = omega arith
 
 pub argument_below : (n : Bool) (v : ℕ) → v < 2 ^ 128 → argument_of n v < 2 ^ 128
-argument_below true zero h = omega arith
-argument_below true (suc v) h = omega arith
-argument_below false v h = h
+argument_below n v h1 = grind arith
 
 pub number_sound : (p : ℕ) (n : Bool) (v : ℕ) (m : Mark) (d : ℕ) → depth_of_number n v ≤ d → v < 2 ^ 128 → number_errors p n v m ≡ [] → SoundNode 64 (number_node p n v m) d
 number_sound p n v m d low h e = go (is_small n v) refl low e

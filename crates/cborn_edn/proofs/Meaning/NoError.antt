@@ -1,6 +1,6 @@
 -- What is known where there is no meaning error: an argument, a count or a length below 2^64 fits its width.
 use Rattle.std.specs.Prelude.{◌≡◌, ◌^◌, ◌<◌, ◌∷◌, ◌++◌, if◌then◌else◌}
-use Rattle.cborn_edn.proofs.Common.{refl, ap, ℕ, List, [], length, Bool, true, false, ltb, cond, ltb-true, and_from, Width, Direct, holds, WidthFits, SizeFits, Mark, Absent, Endless, Wide, Token, Profile, MeaningError, EdnReason, IndicatorTooNarrow, IndicatorNotAllowed, TagTooLarge, width, size, unless, width_errors, size_errors, tag_errors, Str, is_endless, is_nil, mark_errors, IsPiece, text_piece, byte_piece, ArePieces, least_holds}
+use Rattle.cborn_edn.proofs.Common.{arith, refl, ap, ℕ, List, [], length, Bool, true, false, ltb, cond, ltb-true, and_from, Width, Direct, holds, WidthFits, SizeFits, Mark, Absent, Endless, Wide, Token, Profile, MeaningError, EdnReason, IndicatorTooNarrow, IndicatorNotAllowed, TagTooLarge, width, size, unless, width_errors, size_errors, tag_errors, Str, is_endless, is_nil, mark_errors, IsPiece, text_piece, byte_piece, ArePieces, least_holds}
 use Rattle.cborn_edn.specs.Grammar.{embedded, piece, also}
 
 pub no_left : {A : Type 0} (x y : List A) → x ++ y ≡ [] → x ≡ []
@@ -36,11 +36,7 @@ size_fits p (Wide w) n h e = width_fits p (Wide w) n h e
 
 -- a tag number is below 2^64
 pub tag_small : (p : ℕ) (m : Mark) (n : ℕ) → tag_errors p m n ≡ [] → (n < 2 ^ 64) × (width_errors p m n ≡ [])
-tag_small p m n e = go (ltb n (2 ^ 64)) refl e
-  where
-    go : (b : Bool) → ltb n (2 ^ 64) ≡ b → cond b (width_errors p m n) (unless false p TagTooLarge) ≡ [] → (n < 2 ^ 64) × (width_errors p m n ≡ [])
-    go true f e = (ltb-true _ _ f, e)
-    go false f e = absurd (let bad : false ≡ true = held false p TagTooLarge e in cc)
+tag_small p m n h1 = grind arith
 
 -- the length of a string that is known
 pub mark_fits : (may_end : Bool) (s : Str) → s.known ≡ true → mark_errors may_end s ≡ [] → length s.bytes < 2 ^ 64 → WidthFits (width s.mark (length s.bytes)) (length s.bytes)
@@ -53,9 +49,7 @@ mark_fits may_end s known e h = go s.mark s.known known e
     go (Wide w) false f e = absurd (let bad : false ≡ true = f in cc)
 
 known_piece : {p : Profile} {d : ℕ} {x : List Token} {s : Str} {l : List MeaningError} → IsPiece p d x s l → l ≡ [] → s.known ≡ true
-known_piece (text_piece a) e = refl
-known_piece (byte_piece a) e = refl
-known_piece (embedded a end m c) e = ap is_nil e
+known_piece h1 h2 = grind arith
 
 pub known_pieces : {p : Profile} {d : ℕ} {x : List Token} {s : Str} {l : List MeaningError} → ArePieces p d x s l → l ≡ [] → s.known ≡ true
 known_pieces (piece q) e = known_piece q e

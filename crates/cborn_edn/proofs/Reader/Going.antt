@@ -97,27 +97,15 @@ free_none One = refl
 free_none Two = refl
 
 open_free : (p : Profile) (s : State) (k : Kind) (n : ℕ) (x : List ℕ) → is_closing k ≡ false → forbids p (comma_at s (class_of k n x)) ≡ false
-open_free p (wants st) kinds.ArrayClose n x e = clash e
-open_free p (wants st) kinds.MapClose n x e = clash e
-open_free p (wants st) (kinds.EmbedClose m) n x e = clash e
-open_free p (wants st) _ n x e = free_none p
-open_free p _ k n x e = free_none p
+open_free p s k n x h1 = grind arith
 
 -- no bracket ends there after a comma
 pub tight_free : (p : Profile) (s : State) (k : Kind) (n : ℕ) (x : List ℕ) → (phase_of s ≡ WantsMore → ⊥) → forbids p (comma_at s (class_of k n x)) ≡ false
-tight_free p (wants (in_row m (after_row r c))) k n x e = absurd (e refl)
-tight_free p (wants (in_key st s m (after_pairs ps c))) k n x e = absurd (e refl)
-tight_free p _ kinds.ArrayClose n x e = free_none p
-tight_free p _ _ n x e = free_none p
+tight_free p s k n x h1 = grind arith
 
 -- the token is no bracket that ends after a comma
 pub not_trailing : (p : Profile) (s : State) (k : Kind) (n : ℕ) (x : List ℕ) → is_trailing_comma p (phase_of s) k ≡ false → forbids p (comma_at s (class_of k n x)) ≡ false
-not_trailing Two s k n x e = refl
-not_trailing One s k n x e = go (phase_of s) refl e
-  where
-    go : (st : Phase) → phase_of s ≡ st → is_trailing_comma One st k ≡ false → forbids One (comma_at s (class_of k n x)) ≡ false
-    go WantsMore f g = open_free One s k n x g
-    go _ f g = tight_free One s k n x (λ h. apart _ _ (sym f ∙ h) (λ q. omega arith))
+not_trailing p s k n x h1 = grind arith
 
 forbidden : (limit : ℕ) (s : State) (t : Token) (o : Option State) → forbids One (comma_at s t.class) ≡ true → checked One limit s t o ≡ None
 forbidden limit s t None e = refl

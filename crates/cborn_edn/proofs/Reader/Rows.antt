@@ -12,9 +12,7 @@ count-snoc_entry no_entry k v = refl
 count-snoc_entry (entry l w es) k v = ap suc (count-snoc_entry es k v)
 
 pub row_level : (n : Nest) (b d : RowBefore) → level_of (in_row n b) ≡ level_of (in_row n d)
-row_level at_top b d = refl
-row_level (in_array st s m) b d = refl
-row_level (in_embed h o s) b d = refl
+row_level n b d = grind arith
 
 pub entries_few : (p : Phase) (n : ℕ) → n < 2 ^ 63 → entries_at p n < 2 ^ 64
 entries_few Has n h = omega (arith, h)

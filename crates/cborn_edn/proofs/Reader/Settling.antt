@@ -1,6 +1,6 @@
 -- A string that no other piece follows is an item.
 use Rattle.std.specs.Prelude.{◌≡◌, ◌∷◌, ◌++◌}
-use Rattle.cborn_edn.proofs.Common.{refl, sym, ap, ◌∙◌, ℕ, List, [], length, cond, leb, Option, Some, None, is_utf8-from_IsUtf8, IsUtf8, least, Absent, Profile, Token, MeaningError, unless, TextNotUtf8, first_error, reach, Span, span, Item, Pieces, piece, text, string, node, faults, NoPieceAt, noted_stack, Reached, TextNode, Stack, in_row, at_top, as_item, State, has, builds, step, levels, comma_at, finish, at_end, checked, forbids, parse, EndsPieces}
+use Rattle.cborn_edn.proofs.Common.{arith, refl, sym, ap, ◌∙◌, ℕ, List, [], length, cond, leb, Option, Some, None, is_utf8-from_IsUtf8, IsUtf8, least, Absent, Profile, Token, MeaningError, unless, TextNotUtf8, first_error, reach, Span, span, Item, Pieces, piece, text, string, node, faults, NoPieceAt, noted_stack, Reached, TextNode, Stack, in_row, at_top, as_item, State, has, builds, step, levels, comma_at, finish, at_end, checked, forbids, parse, EndsPieces}
 use Rattle.cborn_edn.proofs.Reader.Going.{after_token}
 use Rattle.cborn_edn.proofs.Reader.NextPieces.{next_ends}
 use Rattle.cborn_edn.proofs.Grammar.Takes.{ended_same}
@@ -15,10 +15,7 @@ finish_same (in_row at_top b) ps = refl
 finish_same _ ps = refl
 
 parse_same : (p : Profile) (limit : ℕ) (st : Stack) (ps : Pieces) (t : Token) → EndsPieces t.class → (more : List Token) (end : ℕ) → parse p limit end (t ∷ more) (builds (as_item st) ps) ≡ parse p limit end (t ∷ more) (has st (string ps))
-parse_same p limit st ps t e more end =
-    let from = builds (as_item st) ps in
-    let to = has st (string ps) in
-    ap (λ c. after_token p limit end t more c (leb (reach (levels st) t.class) limit)) (checked_same p limit from to t (step from t) refl ∙ ap (checked p limit to t) (ended_same st ps t.class (span t) e))
+parse_same p limit st ps t h1 more end = grind arith
 
 -- LAW: what the tokens lead to, once the string is whole
 pub settled : (p : Profile) (limit : ℕ) (source : List ℕ) (at : ℕ) (st : Stack) (ps : Pieces) → NoPieceAt source at → Reached p limit source at (builds (as_item st) ps) → Reached p limit source at (has st (string ps))

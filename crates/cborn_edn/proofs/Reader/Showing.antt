@@ -1,6 +1,6 @@
 -- What is shown, moved from one state of the machine to the next.
 use Rattle.std.specs.Prelude.{◌≡◌, ◌∷◌, ◌++◌, ◌&&◌, if◌then◌else◌}
-use Rattle.cborn_edn.proofs.Common.{refl, sym, ap, ◌∙◌, subst, ℕ, List, [], length, Bool, true, false, Option, Some, None, append-nil, spelled_all, Mark, StringKind, OfBytes, OfText, is_nil, first_error, Span, Piece, text, bytes, embedded, Pieces, piece, also, str_of, str, nodes_in, faults_of_piece, Here, Writer, Joint, Speller, Holds, AllHanded, Reads, noted_stack, noted_home, pieces_noted, stack_of, level_of, count_of, brackets_of, brackets_home, arounds_of, arounds_home, bytes_around, bytes_around_home, piece_bytes, pieces_bytes, bytes_before, string_at, joint, Shows, piece_of, Home, as_item, as_chunk, State, at_home}
+use Rattle.cborn_edn.proofs.Common.{arith, refl, sym, ap, ◌∙◌, subst, ℕ, List, [], length, Bool, true, false, Option, Some, None, append-nil, spelled_all, Mark, StringKind, OfBytes, OfText, is_nil, first_error, Span, Piece, text, bytes, embedded, Pieces, piece, also, str_of, str, nodes_in, faults_of_piece, Here, Writer, Joint, Speller, Holds, AllHanded, Reads, noted_stack, noted_home, pieces_noted, stack_of, level_of, count_of, brackets_of, brackets_home, arounds_of, arounds_home, bytes_around, bytes_around_home, piece_bytes, pieces_bytes, bytes_before, string_at, joint, Shows, piece_of, Home, as_item, as_chunk, State, at_home}
 use Rattle.cborn_edn.specs.devices.Kept.{chunks_of}
 pub use Rattle.cborn_edn.proofs.Meaning.Earliest.{none_noted as same_errors}
 
@@ -64,14 +64,10 @@ first_joint OfText a q lone x m place p t l =
 
 -- what a string is, where nothing embedded in it has a meaning error
 and_known : (a b : Bool) → (a && b) ≡ true → (a ≡ true) × (b ≡ true)
-and_known true true e = (refl, refl)
-and_known true false e = absurd (let bad : false ≡ true = e in cc)
-and_known false b e = absurd (let bad : false ≡ true = e in cc)
+and_known a b h1 = grind arith
 
 known_piece : (p : Piece) → (str_of p).known ≡ true → piece_bytes p ≡ (str_of p).bytes
-known_piece (text at x m) e = refl
-known_piece (bytes at q x m) e = refl
-known_piece (embedded at c end m) e = ap (λ b. if b then spelled_all (nodes_in c) else []) e
+known_piece p h1 = grind arith
 
 pub known_bytes : (ps : Pieces) → (str ps).known ≡ true → pieces_bytes ps ≡ (str ps).bytes
 known_bytes (piece p) e = known_piece p e

@@ -19,12 +19,7 @@ span_at at stop = record { start = at; stop = stop }
 
 -- LAW: an integer of 64 bits needs no level of its own
 pub number_low : (l limit : ℕ) (n : Bool) (v : ℕ) (m : Mark) → v < 2 ^ 64 → l ≤ limit → reach l (Number n v m) ≤ limit
-number_low l limit n v m small low = subst (λ b. l + (if b then 0 else 1) ≤ limit) (sym (fits n v small)) (omega (arith, low))
-  where
-    fits : (n : Bool) (v : ℕ) → v < 2 ^ 64 → is_small n v ≡ true
-    fits true zero h = refl
-    fits true (suc v) h = lt-ltb v (2 ^ 64) (omega (arith, h))
-    fits false v h = lt-ltb v (2 ^ 64) h
+number_low l limit n v m h1 h2 = grind arith
 
 -- the bracket that ends an array or a map has no content, and no level of its own
 pub sized_kind : (m : Bool) → (k : Kind) × (sized_end m ≡ class_of k 0 [])

@@ -157,9 +157,7 @@ no_piece kinds.EmbedOpen n x e = absurd (let bad : true ≡ false = e in cc)
 no_piece _ n x e = tt
 
 pub no_content : (kind : Kind) (n : ℕ) (x : List ℕ) → is_piece kind ≡ false → content_of (class_of kind n x) ≡ []
-no_content (kinds.Text m) n x e = absurd (let bad : true ≡ false = e in cc)
-no_content (kinds.Bytes q m) n x e = absurd (let bad : true ≡ false = e in cc)
-no_content _ n x e = refl
+no_content kind n x h1 = grind arith
 
 -- a token that is no piece appends nothing
 pub shown_kind : {holds : Holds} (kind : Kind) (number : ℕ) (here : Here) (writer : Writer) (s : State) (base : List ℕ) (c : Class) → is_piece kind ≡ false → Ready holds kind number here writer s base c → Reads holds here writer writer.pieces.items s
@@ -191,30 +189,11 @@ start_inside kind number here writer s base c none r =
 
 -- where a chunk is wanted, no other token is taken
 pub no_chunk : (s : State) (c : Class) (a : Span) → phase_of s ≡ phases.WantsChunk → EndsPieces c → step_by s c a ≡ None
-no_chunk s c a e h = let i = is_wants_chunk s e in subst (λ (u : State). step_by u c a ≡ None) i.3 (none i.0 i.1 i.2 c h)
-  where
-    none : (st : Stack) (p : Span) (b : StringsBefore) (c : Class) → EndsPieces c → step_by (wants_chunk st p b) c a ≡ None
-    none st p b (classes.Text x m) h = absurd h
-    none st p b (classes.Bytes q x m) h = absurd h
-    none st p b classes.EmbedOpen h = absurd h
-    none st p b _ h = refl
+no_chunk s c a h1 h2 = grind arith
 
 -- where no piece is allowed, the machine takes none
 no_after : (st : Stack) (i : Item) (kind : Kind) (n : ℕ) (x : List ℕ) (a : Span) → is_piece kind ≡ true → step_by (has st i) (class_of kind n x) a ≡ None
-no_after (in_row at_top b) i (kinds.Text m) n x a e = refl
-no_after (in_row at_top b) i (kinds.Bytes q m) n x a e = refl
-no_after (in_row at_top b) i kinds.EmbedOpen n x a e = refl
-no_after _ i (kinds.Text m) n x a e = refl
-no_after _ i (kinds.Bytes q m) n x a e = refl
-no_after _ i kinds.EmbedOpen n x a e = refl
-no_after st i _ n x a e = absurd (let bad : false ≡ true = e in cc)
+no_after st i kind n x a h1 = grind arith
 
 pub no_piece_taken : (s : State) (kind : Kind) (n : ℕ) (x : List ℕ) (a : Span) → takes_no_piece (phase_of s) ≡ true → is_piece kind ≡ true → step_by s (class_of kind n x) a ≡ None
-no_piece_taken (wants st) kind n x a f e = elim (wanted st) [ first q ↦ absurd (let bad : false ≡ true = sym (ap takes_no_piece q) ∙ f in cc) | again q ↦ absurd (let bad : false ≡ true = sym (ap takes_no_piece q) ∙ f in cc) ]
-no_piece_taken (builds h ps) kind n x a f e = absurd (let bad : false ≡ true = f in cc)
-no_piece_taken (wants_chunk st s b) kind n x a f e = absurd (let bad : false ≡ true = f in cc)
-no_piece_taken (has st i) kind n x a f e = no_after st i kind n x a e
-no_piece_taken _ (kinds.Text m) n x a f e = refl
-no_piece_taken _ (kinds.Bytes q m) n x a f e = refl
-no_piece_taken _ kinds.EmbedOpen n x a f e = refl
-no_piece_taken _ _ n x a f e = absurd (let bad : false ≡ true = e in cc)
+no_piece_taken s kind n x a h1 h2 = grind arith

@@ -55,22 +55,13 @@ paired x y z w e =
 -- The indicator of a width.
 
 holds_true : (w : Width) (n : ℕ) → WidthFits w n → holds w n ≡ true
-holds_true Direct n h = lt-ltb n 24 h
-holds_true One n h = lt-ltb n 256 h
-holds_true Two n h = lt-ltb n (2 ^ 16) h
-holds_true Four n h = lt-ltb n (2 ^ 32) h
-holds_true Eight n h = lt-ltb n (2 ^ 64) h
+holds_true w n h1 = grind arith
 
 abbrev as_long : Width → Width → ℕ → Bool
 as_long w v n = length (following w n) == length (following v n)
 
 as_long-same : (w v : Width) (n : ℕ) → as_long w v n ≡ true → v ≡ w
-as_long-same Direct Direct n e = refl
-as_long-same One One n e = refl
-as_long-same Two Two n e = refl
-as_long-same Four Four n e = refl
-as_long-same Eight Eight n e = refl
-as_long-same _ _ n e = absurd (let f : false ≡ true = e in cc)
+as_long-same w v n h1 = grind arith
 
 -- it asks for this width, and for no indefinite length
 abbrev Marks : Width → ℕ → Mark → Type 0
@@ -131,11 +122,7 @@ piece_at OfBytes a b m = byte_piece a
 piece_at OfText a b m = text_piece a
 
 no_string_errors : (e : Bool) (k : StringKind) (a : Span) (w : Width) (b : List ℕ) → WidthFits w (length b) → is_good k b ≡ true → string_errors e (str_of k a b (mark_for w (length b))) ≡ []
-no_string_errors e k a w b h good =
-    let m = mark_for w (length b) in
-    both_parts
-    (ap (λ c. cond c (unless e a.start IndicatorNotAllowed) (width_errors a.start m (length b))) (marks w (length b)).2 ∙ (marks w (length b)).3 a.start h)
-    (ap (λ c. unless c a.start TextNotUtf8) good)
+no_string_errors e k a w b h1 h2 = grind arith
 
 unplaced_string : (k : StringKind) (p : ℕ) (w : Width) (b : List ℕ) → unplaced (string_node k p w b) ≡ string_node k 0 w b
 unplaced_string OfBytes p w b = refl
@@ -146,10 +133,7 @@ unplaced_chunked OfBytes p cs = refl
 unplaced_chunked OfText p cs = refl
 
 string_is : (k : StringKind) (a : Span) (w : Width) (b : List ℕ) → said_string (str_of k a b (mark_for w (length b))) ≡ string_node k a.start w b
-string_is k a w b =
-    let m = mark_for w (length b) in
-    ap (λ c. cond c (chunked_node k a.start []) (string_node k a.start (width m (length b)) b)) (ap (λ c. (is_text k && is_nil b) && c) (marks w (length b)).2 ∙ and_false (is_text k && is_nil b))
-    ∙ ap (λ v. string_node k a.start v b) (marks w (length b)).0
+string_is k a w b = grind arith
 
 -- Chunks.
 
