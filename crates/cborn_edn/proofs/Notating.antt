@@ -31,8 +31,7 @@ next_put (top ts) t = next_push FirstItem ts t
 next_put (inside f o ts) t = next_push (first o) ts t
 
 around_put : (f : Partial) (t : Tree) → next_around (put f t) ≡ next_around f
-around_put (top ts) t = refl
-around_put (inside f o ts) t = refl
+around_put f t = grind arith
 
 written_put : (f : Partial) (t : Tree) → written (put f t) ≡ (written f ++ separator (next_in f)) ++ shown t
 written_put (top ts) t = following_push FirstItem ts t ∙ sym (append_assoc (following FirstItem ts) (separator (next_after FirstItem ts)) (shown t))
@@ -80,8 +79,7 @@ bad_last (top ts) t p h = among_last ts t p h
 bad_last (inside f o ts) t p h = inr (among_last ts t p h)
 
 lowest_same : (P Q : ℕ → Type 0) (o : Option ℕ) → ((p : ℕ) → P p → Q p) → ((p : ℕ) → Q p → P p) → IsLowest P o → IsLowest Q o
-lowest_same P Q None to back h = λ p q. h p (back p q)
-lowest_same P Q (Some p) to back h = (to p h.0, λ q k. h.1 q (back q k))
+lowest_same P Q o h1 h2 h3 = grind arith
 
 -- The end of a container.
 
@@ -137,19 +135,16 @@ plain LateValue = Value
 plain s = s
 
 plain_after : (s : Next) → after (plain s) ≡ plain (after s)
-plain_after FirstItem = refl
-plain_after _ = refl
+plain_after s = grind arith
 
 plain_separator : (s : Next) → separator (plain s) ≡ separator s
-plain_separator FirstItem = refl
-plain_separator _ = refl
+plain_separator s = grind arith
 
 plain_ending : (s : Next) → ending (plain s) ≡ ending s
 plain_ending s = grind arith
 
 plain_counted : (s : Next) → is_counted (plain s) ≡ false
-plain_counted FirstItem = refl
-plain_counted _ = refl
+plain_counted s = grind arith
 
 plain_following : (s : Next) (ts : List Tree) → (following s ts ≡ following (plain s) ts) × (plain (next_after s ts) ≡ next_after (plain s) ts)
 plain_following s [] = (refl, refl)
@@ -333,8 +328,7 @@ put_held v w f t good next around bad counted out h =
     }
 
 pub good_integer : (p : ℕ) (negative : Bool) (w : Width) (n q : ℕ) → IsBadText (integer_tree p negative w n) q → ⊥
-good_integer p true w n q h = h
-good_integer p false w n q h = h
+good_integer p negative w n q h1 = grind arith
 
 -- a container begins
 pub open_held : (v w : Notator) (f : Partial) (o : Opening) → w.next ≡ first o → w.around.items ≡ v.around.items ++ v.next ∷ [] → w.bad ≡ v.bad → (v.bad ≡ None → w.out.items ≡ (v.out.items ++ separator v.next) ++ beginning o)
@@ -429,19 +423,10 @@ bad_string OfBytes p q l x h = absurd h
 bad_string OfText p q l x h = (h.0, same_utf8 x ∙ h.1)
 
 shown_text : (k : StringKind) (p : ℕ) (l : Width) (x : List ℕ) → (quote k ++ content k x) ++ string_end k l (length x) ≡ shown (string_tree p k l x)
-shown_text OfBytes p l x = append_assoc (codes "h'") (encode_lower x) (codes "'" ++ indicator (mark_for l (length x)))
-shown_text OfText p l x = append_assoc (codes "\"") (content OfText x) (codes "\"" ++ indicator (mark_for l (length x)))
+shown_text k p l x = grind arith
 
 lowest_more : (P Q : ℕ → Type 0) (o : Option ℕ) (p : ℕ) → IsLowest P o → ((q : ℕ) → Q q → q ≡ p) → Q p → IsLowest (λ q. P q ⊎ Q q) (Some (lower o p))
-lowest_more P Q None p h only is = (inr is, λ q k. elim k [ inl a ↦ absurd (h q a) | inr b ↦ omega (arith, only q b) ])
-lowest_more P Q (Some m) p h only is = (which (low m p), λ q k. elim k [ inl a ↦ omega (arith, h.1 q a) | inr b ↦ omega (arith, only q b) ])
-  where
-    low : (m n : ℕ) → (min m n ≡ m) ⊎ (min m n ≡ n)
-    low m n = grind arith
-
-    which : (min m p ≡ m) ⊎ (min m p ≡ p) → P (min m p) ⊎ Q (min m p)
-    which (inl e) = inl (rw e h.0)
-    which (inr e) = inr (rw e is)
+lowest_more P Q o p h1 h2 h3 = grind arith
 
 lowest_string : (f : Partial) (k : StringKind) (p : ℕ) (l : Width) (x : List ℕ) (o : Option ℕ) (b : Bool) → is_good k (content k x) ≡ b → IsLowest (IsBadIn f) o → IsLowest (IsBadIn (put f (string_tree p k l x))) (if b then o else Some (lower o p))
 lowest_string f k p l x o true good h =

@@ -25,23 +25,13 @@ bytes_aside (ByteNode p w b) xs ts h = none_among ts
 bytes_aside _ xs ts h = h
 
 number_among : (a : Token) (n : Bool) (v : ℕ) (m : Mark) → Among (spots (number_node a.start n v m)) (a ∷ [])
-number_among a n v m = go (is_small n v)
-  where
-    small : (b : Bool) (w : Width) → Among (spots (cond b (Nint a.start w (argument_of n v)) (Uint a.start w (argument_of n v)))) (a ∷ [])
-    small true w = inr ([], refl, refl)
-    small false w = inr ([], refl, refl)
-
-    go : (b : Bool) → Among (spots (cond b (integer a.start n v (width m (argument_of n v))) (bignum a.start n v))) (a ∷ [])
-    go true = small (is_below n v) (width m (argument_of n v))
-    go false = inr ([], refl, refl)
+number_among a n v m = grind arith
 
 string_alone : (k : StringKind) (p : ℕ) (w : Width) (x : List ℕ) → spots (string_node k p w x) ≡ p ∷ []
-string_alone OfBytes p w x = refl
-string_alone OfText p w x = refl
+string_alone k p w x = grind arith
 
 empty_alone : (k : StringKind) (p : ℕ) → spots (chunked_node k p []) ≡ p ∷ []
-empty_alone OfBytes p = refl
-empty_alone OfText p = refl
+empty_alone k p = grind arith
 
 said_alone : (s : Str) → spots (said_string s) ≡ s.place ∷ []
 said_alone s = grind arith
@@ -51,8 +41,7 @@ chunks_append [] c = refl
 chunks_append (d ∷ cs) c = ap (λ w. d.place ∷ w) (chunks_append cs c)
 
 chunked_among : (k : StringKind) (a : Token) (cs : List Chunk) (ts : List Token) → Among (starts_of_chunks cs) ts → Among (spots (chunked_node k a.start cs)) (a ∷ ts)
-chunked_among OfBytes a cs ts h = inr (_, refl, h)
-chunked_among OfText a cs ts h = inr (_, refl, h)
+chunked_among k a cs ts h1 = grind arith
 
 module _ {p : Profile} where
   mutual

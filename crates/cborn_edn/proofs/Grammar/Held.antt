@@ -76,20 +76,16 @@ abbrev pub Grows : List Token → ℕ → ℕ → Token → State → Type 0
 Grows x d n t s = (held s ≡ x ++ (t ∷ [])) × (deep s ≡ d) × (commas_held s ≡ n)
 
 pub after-is : (o : Option State) (x y : List Token) (d e m n : ℕ) (t : Token) → x ≡ y → d ≡ e → m ≡ n → After o (Grows x d m t) → After o (Grows y e n t)
-after-is None x y d e m n t p q r g = tt
-after-is (Some s) x y d e m n t p q r g = (g.0 ∙ ap (λ l. l ++ (t ∷ [])) p, g.1 ∙ q, g.2 ∙ r)
+after-is o x y d e m n t h1 h2 h3 h4 = grind arith
 
 pub with_piece-tokens : (b : Option Pieces) (p : Piece) → tokens_of_pieces (with_piece b p) ≡ tokens_before b ++ tokens_of_piece p
-with_piece-tokens None p = refl
-with_piece-tokens (Some ps) p = refl
+with_piece-tokens b p = grind arith
 
 pub with_piece-depth : (b : Option Pieces) (p : Piece) → depth_of_pieces (with_piece b p) ≡ max (depth_before b) (depth_of_piece p)
-with_piece-depth None p = omega arith
-with_piece-depth (Some ps) p = refl
+with_piece-depth b p = grind arith
 
 pub with_piece-commas : (b : Option Pieces) (p : Piece) → commas_of_pieces (with_piece b p) ≡ commas_before b + commas_of_piece p
-with_piece-commas None p = omega arith
-with_piece-commas (Some ps) p = refl
+with_piece-commas b p = grind arith
 
 pub ends_grow : (n : Nest) (c : Content) (e : Class) (a : Span) → After (ends n c e a) (Grows (held_nest n ++ tokens_of_content c) (max (max (deep_nest n) (levels_nest n + depth_of_content c)) (reach (levels_nest n) e)) (commas_nest n + commas_of_content c) (token a e))
 ends_grow (in_array st s m) c ArrayClose a = (simp append_assoc, omega arith, omega arith)

@@ -22,19 +22,16 @@ one_tree p q ts t u g h =
     same_Some _ _ (sym (finish-whole t) ∙ ap finish (same_Some _ _ same) ∙ finish-whole u)
 
 deep-landed : (st : Stack) (i : Item) → deep (landed st i) ≡ max (deep_stack st) (levels st + depth i)
-deep-landed st (string ps) = refl
-deep-landed st _ = refl
+deep-landed st i = grind arith
 
 commas-landed : (st : Stack) (i : Item) → commas_held (landed st i) ≡ commas_stack st + commas i
 commas-landed st i = grind arith
 
 deep-whole : (t : Input) → deep (whole t) ≡ depth_of_input t
-deep-whole nothing = omega arith
-deep-whole (items (row b i)) = omega (arith, deep-landed (in_row at_top b) i)
+deep-whole t = grind arith
 
 commas-whole : (t : Input) → commas_held (whole t) ≡ commas_of_input t
-commas-whole nothing = omega arith
-commas-whole (items (row b i)) = omega (arith, commas-landed (in_row at_top b) i)
+commas-whole t = grind arith
 
 no_some : {A : Type 0} {x : A} {B : Type 0} → None ≡ Some x → B
 no_some e = cc
@@ -58,8 +55,7 @@ pub held_by : (ts : List Token) (s : State) → Leads ts s → held s ≡ ts
 held_by ts s e = (ran ts start s e).0
 
 allows_less : (p : Profile) (m n : ℕ) → m ≤ n → AllowsCount p n → AllowsCount p m
-allows_less ProfileOne m n h a = omega (arith, a)
-allows_less ProfileTwo m n h a = tt
+allows_less p m n h1 h2 = grind arith
 
 -- tokens that lead to a state within the profile and the limit
 abbrev pub Good : Profile → ℕ → List Token → Type 0
@@ -90,10 +86,7 @@ IfTree None P = Unit {0}
 IfTree (Some t) P = P t
 
 pub ends_tree : (s : State) → IfTree (finish s) (Ended s)
-ends_tree (wants (in_row at_top no_item)) = (refl, omega arith, omega arith)
-ends_tree (has (in_row at_top b) i) = (refl, omega arith, omega arith)
-ends_tree (builds (as_item (in_row at_top b)) ps) = (refl, omega arith, omega arith)
-ends_tree _ = tt
+ends_tree s = grind arith
 
 has_goes : (p : Profile) (limit : ℕ) (ts : List Token) → HasTree p limit ts → GoesOn p limit ts
 has_goes p limit ts (us, l, h) = ([], (us, l, subst (λ x. IsText p limit x us l) (sym (append-nil ts)) h))
@@ -139,9 +132,7 @@ abbrev SplitsAs : (f g : List Token) (t u : Token) → Type 0
 SplitsAs f g t u = ((f ≡ g) × (t ≡ u)) ⊎ (((w : List Token) × (g ≡ f ++ (t ∷ w))) ⊎ ((w : List Token) × (f ≡ g ++ (u ∷ w))))
 
 more_split : (f g : List Token) (t u v x : Token) → v ≡ x → SplitsAs f g t u → SplitsAs (v ∷ f) (x ∷ g) t u
-more_split f g t u v x e (inl h) = inl (cc, h.1)
-more_split f g t u v x e (inr (inl h)) = inr (inl (h.0, cc))
-more_split f g t u v x e (inr (inr h)) = inr (inr (h.0, cc))
+more_split f g t u v x h1 h2 = grind arith
 
 head_same : {v x : Token} {a b : List Token} → v ∷ a ≡ x ∷ b → v ≡ x
 head_same e = cc

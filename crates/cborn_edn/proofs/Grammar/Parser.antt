@@ -15,9 +15,7 @@ Meets p limit end ts (Whole t) = Parse p ts t × (depth_of_input t ≤ limit)
 Meets p limit end ts (HasSyntaxError q r) = IsSyntaxError p limit end ts q r
 
 allows_more : (p : Profile) (m n : ℕ) → forbids p n ≡ false → AllowsCount p m → AllowsCount p (m + n)
-allows_more ProfileOne m zero f a = omega (arith, a)
-allows_more ProfileOne m (suc n) f a = absurd (let e : true ≡ false = f in cc)
-allows_more ProfileTwo m n f a = tt
+allows_more p m n h1 h2 = grind arith
 
 forbidden : (p : Profile) (m n : ℕ) → forbids p n ≡ true → AllowsCount p (m + n) → ⊥
 forbidden p m n h1 h2 = grind arith

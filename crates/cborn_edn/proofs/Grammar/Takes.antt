@@ -30,8 +30,7 @@ pub ended_same : (st : Stack) (ps : Pieces) (k : Class) (a : Span) → EndsPiece
 ended_same st ps k a h1 = grind arith
 
 ended : (st : Stack) (i : Item) (k : Class) (a : Span) → EndsPieces k → step_by (landed st i) k a ≡ after st i k a
-ended st (string ps) k a h = ended_same st ps k a h
-ended st _ k a h = refl
+ended st i k a h1 = grind arith
 
 -- the brackets that end a row
 pub data Close : Type 0 where
@@ -55,12 +54,10 @@ pub embed_opens : (h : Home) (b : Option Pieces) (a : Span) (y : List Token) →
 embed_opens h b a y = grind arith
 
 loose_closes : (n : Nest) (b : RowBefore) (e : Close) (a : Span) → step_by (wants (in_row n b)) (class_at e) a ≡ ends n (loose b) (class_at e) a
-loose_closes n b close_array a = refl
-loose_closes n b (close_embed m) a = refl
+loose_closes n b e a = grind arith
 
 tight_closes : (n : Nest) (r : Row) (e : Close) (a : Span) → step_by (landed_row n r) (class_at e) a ≡ ends n (tight r) (class_at e) a
-tight_closes n (row b i) close_array a = ended (in_row n b) i ArrayClose a tt
-tight_closes n (row b i) (close_embed m) a = ended (in_row n b) i (EmbedClose m) a tt
+tight_closes n r e a = grind arith
 
 row_comma : (n : Nest) (r : Row) (c : Span) (y : List Token) → then (token c Comma ∷ y) (landed_row n r) ≡ then y (wants (in_row n (after_row r c)))
 row_comma n (row b i) c y = ap (run y) (ended (in_row n b) i Comma c tt)
@@ -78,8 +75,7 @@ strings_close : (st : Stack) (s : Span) (ss : Strings) (c : Span) (y : List Toke
 strings_close st s (strings b ps) c y = refl
 
 built : (h : Home) (ps : Pieces) → Some (builds h ps) ≡ Some (at_home h (Some ps))
-built (as_item st) ps = refl
-built (as_chunk st s b) ps = refl
+built h ps = grind arith
 
 mutual
   pub takes : (i : Item) (st : Stack) (y : List Token) → then (tokens_of i ++ y) (wants st) ≡ then y (landed st i)

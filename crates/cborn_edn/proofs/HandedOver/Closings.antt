@@ -54,8 +54,7 @@ hands_tag_end st s a n m i = hands_close (has (in_tag st s n m) i) (has st (tag 
 -- Heads that are handed over, and leaves.
 
 integer_is : (p : ℕ) (b : Bool) (w : Width) (n : ℕ) → integer_tree p b w n ≡ cond b (integer_tree p true w n) (integer_tree p false w n)
-integer_is p true w n = refl
-integer_is p false w n = refl
+integer_is p b w n = grind arith
 
 -- the node of an integer of 64 bits
 small_is : (p : ℕ) (n : Bool) (v : ℕ) (m : Mark) → is_small n v ≡ true → integer_tree p (is_below n v) (width m (argument_of n v)) (argument_of n v) ≡ number_node p n v m

@@ -16,11 +16,7 @@ fits_put (top ts) t h k = fits_last ts t h k
 fits_put (inside f o ts) t h k = (h.0, h.1, fits_last ts t h.2 k)
 
 ended_fits : (w : Width) (k : ℕ) → k < 2 ^ 64 → WidthFits (if holds w k then w else least k) k
-ended_fits w k few = go (holds w k) (λ e. holds_is w k e)
-  where
-    go : (b : Bool) → (b ≡ true → WidthFits w k) → WidthFits (if b then w else least k) k
-    go true h = h refl
-    go false h = least_holds k few
+ended_fits w k h1 = grind arith
 
 paired_fit : (ts : List Tree) → FitsAll (trees ts) → FitsEntries (entries (paired ts))
 paired_fit [] h = tt
@@ -74,8 +70,7 @@ first_of None = []
 first_of (Some s) = s ∷ []
 
 is_first : (o : Option MeaningError) → o ≡ first_error (first_of o)
-is_first None = refl
-is_first (Some s) = refl
+is_first o = grind arith
 
 -- there is none, if the first is none
 pub none_shown : (new : Option MeaningError) (l : List MeaningError) → is_none new ≡ true → new ≡ first_error l → l ≡ []

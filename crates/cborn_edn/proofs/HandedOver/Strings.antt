@@ -14,43 +14,26 @@ known_here : (ps : Pieces) → faults_of_pieces ps ≡ [] → (str ps).known ≡
 known_here ps = known_pieces (derived_pieces Two ps (depth_of_pieces ps) (omega arith) tt)
 
 node_of : (k : StringKind) (p : ℕ) (cs : List Chunk) → chunks_tree p k cs ≡ chunked_node k p cs
-node_of OfBytes p cs = refl
-node_of OfText p cs = refl
+node_of k p cs = grind arith
 
 same_is : (k l : StringKind) → same_kind k l ≡ true → k ≡ l
 same_is k l h1 = grind arith
 
 none_both : {A : Type 0} (x y : List A) → x ≡ [] → y ≡ [] → x ++ y ≡ []
-none_both [] y e f = f
-none_both (a ∷ x) y e f = absurd (let bad : a ∷ x ≡ [] = e in cc)
+none_both x y h1 h2 = grind arith
 
 takes : (f : Partial) (k : StringKind) → IsFree f → TakesString f k
-takes (top ts) k h = tt
-takes (inside f (an_array p s c) ts) k h = tt
-takes (inside f (a_map p s c) ts) k h = tt
-takes (inside f (a_tag p w n) ts) k h = tt
-takes (inside f (in_chunks p j) ts) k h = absurd h.1
+takes f k h1 = grind arith
 
 string_is : (k : StringKind) (p : ℕ) (w : Width) (x : List ℕ) → string_tree p k w x ≡ string_node k p w x
-string_is OfBytes p w x = refl
-string_is OfText p w x = refl
+string_is k p w x = grind arith
 
 -- the event of a whole string makes its node
 abbrev Makes : Partial → Str → Joint → List ℕ → Type 0
 Makes f s j x = Comes (string_event j (length x)) f × (after (string_event j (length x)) j.place x f ≡ put f (said_string s))
 
 makes : (f : Partial) (s : Str) → IsFree f → Makes f s (joint s) s.bytes
-makes f s h = go (s.lone && is_endless s.mark)
-  where
-    w : Width
-    w = width s.mark (length s.bytes)
-
-    event : Bool → Event
-    event b = if b then NoChunks s.kind else String s.kind w
-
-    go : (b : Bool) → Comes (event b) f × (after (event b) s.place s.bytes f ≡ put f (if b then chunked_node s.kind s.place [] else string_node s.kind s.place w s.bytes))
-    go true = (h, ap (put f) (node_of s.kind s.place []))
-    go false = ((h.0, takes f s.kind h), ap (put f) (string_is s.kind s.place w s.bytes))
+makes f s h1 = grind arith
 
 -- of a string of these pieces with this content
 module _ (ps : Pieces) {j : Joint} {x : List ℕ} (is : j ≡ joint (str ps)) (same : x ≡ pieces_bytes ps) where

@@ -23,8 +23,7 @@ starts c h = let r = digit_from_value c h in digit_starts c r.0 (omega (arith, r
 -- What digits without a leading zero stand for.
 
 value : (n : ℕ) (ds : List ℕ) → number 10 n ds ≡ digits_value_after 10 n ds
-value n [] = refl
-value n (d ∷ ds) = value (n * 10 + digit_value d) ds
+value n ds = grind arith
 
 pub plain_integer : (negative : Bool) (c : ℕ) (ds : List ℕ) → eqb c 48 ≡ false → AllDigits 10 (c ∷ ds) → integer negative (c ∷ ds) ≡ within (number 10 0 (c ∷ ds))
 plain_integer negative c ds e h =

@@ -18,40 +18,23 @@ pub record Closes (z : List ℕ) : Type 0 where
   pub no_quote : begins (λ c. eqb c 39) z ≡ false
 
 pub closes : (c : ℕ) (z : List ℕ) → ((((is_word c || is_numeral c) || eqb c 95) || eqb c 40) || eqb c 39) ≡ false → Closes (c ∷ z)
-closes c z h =
-    let quote = or_parts (((is_word c || is_numeral c) || eqb c 95) || eqb c 40) (eqb c 39) h in
-    let paren = or_parts ((is_word c || is_numeral c) || eqb c 95) (eqb c 40) quote.0 in
-    let mark = or_parts (is_word c || is_numeral c) (eqb c 95) paren.0 in
-    let word = or_parts (is_word c) (is_numeral c) mark.0 in
-    record { no_word = word.0; no_numeral = word.1; no_mark = mark.1; no_paren = paren.1; no_quote = quote.1 }
+closes c z h1 = grind arith
 
 -- an indicator that the notation has: never a direct width
 wide_or_none : (b : Bool) (w : Width) → IsMark (Wide w) → IsMark (cond b Absent (Wide w))
-wide_or_none true w h = tt
-wide_or_none false w h = h
+wide_or_none b w h1 = grind arith
 
 pub is_mark : (w : Width) (n : ℕ) → WidthFits w n → IsMark (mark_for w n)
-is_mark Direct n h = let e : least n ≡ Direct = cond-true _ _ _ (lt-ltb n 24 h) in subst (λ (v : Width). IsMark (cond (0 == length (following v n)) Absent (Wide Direct))) (sym e) tt
-is_mark One n h = wide_or_none (length (following One n) == length (following (least n) n)) One tt
-is_mark Two n h = wide_or_none (length (following Two n) == length (following (least n) n)) Two tt
-is_mark Four n h = wide_or_none (length (following Four n) == length (following (least n) n)) Four tt
-is_mark Eight n h = wide_or_none (length (following Eight n) == length (following (least n) n)) Eight tt
+is_mark w n h1 = grind arith
 
 pub is_size_mark : (s : Size) (n : ℕ) → SizeFits s n → IsMark (mark_for_size s n)
-is_size_mark EndlessMark n h = tt
-is_size_mark (Fixed w) n h = is_mark w n h
+is_size_mark s n h1 = grind arith
 
 pub mark_is : (m : Mark) → IsMark m → mark_of (indicator m) ≡ Some m
 mark_is m h1 = grind arith
 
 pub indicates : (m : Mark) (z : List ℕ) → IsMark m → begins is_word z ≡ false → begins (λ c. eqb c 95) z ≡ false → IsIndicator (indicator m) z
-indicates Absent z h k e = e
-indicates Endless z h k e = (refl, record { pass = refl; ends = k })
-indicates (Wide Direct) z h k e = absurd h
-indicates (Wide One) z h k e = (refl, record { pass = refl; ends = k })
-indicates (Wide Two) z h k e = (refl, record { pass = refl; ends = k })
-indicates (Wide Four) z h k e = (refl, record { pass = refl; ends = k })
-indicates (Wide Eight) z h k e = (refl, record { pass = refl; ends = k })
+indicates m z h1 h2 h3 = grind arith
 
 -- Separators and closing brackets.
 

@@ -90,10 +90,7 @@ abbrev Unmarked : List ℕ → Type 0
 Unmarked z = begins (λ c. eqb c 95) z ≡ false
 
 chunks_begin : (k : StringKind) (cs : List Chunk) (z : List ℕ) → Unmarked (shown_chunks k cs ++ z)
-chunks_begin OfBytes [] z = refl
-chunks_begin OfText [] z = refl
-chunks_begin OfBytes (c ∷ cs) z = refl
-chunks_begin OfText (c ∷ cs) z = refl
+chunks_begin k cs z = grind arith
 
 node_begins : (t : Tree) (z : List ℕ) → Fits t → Unmarked (shown t ++ z)
 node_begins (Uint p w n) z h = let l = below w n h in rw append_assoc (decimal_begins n (indicator (mark_for w n) ++ z) (omega arith))

@@ -5,8 +5,7 @@ use Rattle.cborn_model.specs.First.{NoLater, IsFirst}
 use Rattle.cborn_model.proofs.Firsts.{no_later_on, first_alone, first_left, first_right}
 
 low_number : (r : EdnReason) → number_of r < 64
-low_number UnexpectedToken = omega arith
-low_number _ = omega arith
+low_number r = grind arith
 
 -- place and number of the reason as one number
 rank : MeaningError → ℕ
@@ -24,19 +23,18 @@ picked a b = ap (λ c. Some (cond c a b)) (by_parts a.place b.place (number_of a
 
 pick-first : (a b : MeaningError) → rank a ≤ rank b → pick a b ≡ a
 unfolding pick
-pick-first a b h = ap (λ c. cond c a b) (le-leb _ _ h)
+pick-first a b h1 = grind arith
 
 pick-second : (a b : MeaningError) → rank b < rank a → pick a b ≡ b
 unfolding pick
-pick-second a b h = ap (λ c. cond c a b) (lt-leb _ _ h)
+pick-second a b h1 = grind arith
 
 pick-assoc : (a b c : MeaningError) → pick (pick a b) c ≡ pick a (pick b c)
 unfolding pick rank
 pick-assoc a b c = grind arith
 
 earlier-none : (a : Option MeaningError) → earlier a None ≡ a
-earlier-none None = refl
-earlier-none (Some a) = refl
+earlier-none a = grind arith
 
 earlier-assoc : (a b c : Option MeaningError) → earlier (earlier a b) c ≡ earlier a (earlier b c)
 earlier-assoc None b c = refl
@@ -59,7 +57,7 @@ Tells l (Some s) = IsFirstOf l s
 
 no_later_than : (a b : MeaningError) → rank a ≤ rank b → NoLater (a.place, number_of a.reason) (b.place, number_of b.reason)
 unfolding rank
-no_later_than a b h = grind arith
+no_later_than a b h1 = grind arith
 
 reported_second : (s t : MeaningError) (l : List MeaningError) → IsFirstOf l t → rank t < rank s → IsFirstOf (s ∷ l) t
 reported_second s t l f h = first_right number_of _ (IsAmong l) t.place t.reason (λ q r e. rw (e.0, e.1) (no_later_than t s (omega arith))) f
@@ -94,10 +92,8 @@ pub earlier_noted : (old new other : Option MeaningError) (l : List MeaningError
 earlier_noted old new other l e f before g = f ∙ ap (λ o. earlier o other) g ∙ ap (earlier (first_error before)) e ∙ sym (first-append before l)
 
 none_earlier : (s : MeaningError) (o : Option MeaningError) → is_none (earlier (Some s) o) ≡ false
-none_earlier s None = refl
-none_earlier s (Some t) = refl
+none_earlier s o = grind arith
 
 -- whether there is a meaning error, by the first
 pub none_first : (l : List MeaningError) → is_none (first_error l) ≡ is_nil l
-none_first [] = refl
-none_first (s ∷ l) = none_earlier s (first_error l)
+none_first l = grind arith

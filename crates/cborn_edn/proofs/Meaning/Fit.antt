@@ -15,8 +15,7 @@ pub record Sound (most : ℕ) (y : List ℕ) (Fit : Type 0) (deep limit : ℕ) :
 
 -- each node spells a byte, so that there are no more nodes than bytes
 sized_some : (k : Major) (s : Size) (n : ℕ) (x : List ℕ) → 0 < length (head k (argument s n) ++ x ++ ending s)
-sized_some k (Fixed w) n x = omega arith
-sized_some k EndlessSize n x = omega arith
+sized_some k s n x = grind arith
 
 some_bytes : (t : Tree) → 0 < length (spelled t)
 some_bytes (Items p s ts) = sized_some Array s (count ts) (spelled_all ts)
@@ -35,8 +34,7 @@ abbrev pub SoundNode : ℕ → Tree → ℕ → Type 0
 SoundNode most t d = Sound most (spelled t) (Fits t) (depth t) d
 
 pub head_short : (m : Major) (a : Argument) → length (head m a) ≤ 9
-head_short m (Given Direct n) = omega arith
-head_short m _ = omega arith
+head_short m a = grind arith
 
 pub argument_below : (n : Bool) (v : ℕ) → v < 2 ^ 128 → argument_of n v < 2 ^ 128
 argument_below n v h1 = grind arith

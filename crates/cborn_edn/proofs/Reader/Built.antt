@@ -51,12 +51,10 @@ module _ (here : Here) (w : Writer) (h : Home) (k : StringKind) (place : ℕ) (m
 
 -- the kind of the chunks
 kind_first : (b : StringsBefore) (ps : Pieces) → kind_or (kind_before b) (str ps).kind ≡ kind_in (strings b ps)
-kind_first no_string ps = refl
-kind_first (after_strings ss c) ps = refl
+kind_first b ps = grind arith
 
 pub same_same : (k : StringKind) → same_kind k k ≡ true
-same_same OfBytes = refl
-same_same OfText = refl
+same_same k = grind arith
 
 -- the meaning errors of one more chunk
 more_noted : (l : List MeaningError) (b : StringsBefore) (ps : Pieces) (k : StringKind) → k ≡ kind_in (strings b ps) → l ++ strings_noted b ++ faults_of_pieces ps ++ chunk_errors k (str ps) ≡ l ++ faults_of_strings (strings b ps)

@@ -1,6 +1,6 @@
 -- What is shown after a bracket that opens, and after one that ends.
 use Rattle.std.specs.Prelude.{◌≡◌, ◌∷◌, ◌++◌, if◌then◌else◌}
-use Rattle.cborn_edn.proofs.Common.{refl, sym, ap, ◌∙◌, subst, ℕ, List, [], length, Bool, true, false, Option, Some, None, append-nil, append_assoc, Tree, trees, spelled_all, top, no_part, OfBytes, IsWritten, Speller, Mark, Absent, MeaningError, is_nil, Str, joined, piece_errors, size_errors, first_error, earlier, is_none, Notes, listed_trees, trees-listed, Span, Item, embedded, Pieces, row, Content, loose, tight, pairs, Fields, loose_fields, tight_fields, no_item, node, str, str_of, nodes_before, nodes_in, faults, faults_in, faults_of_pieces, noted, noted_stack, noted_home, stack_of, stack_in, bracket, brackets_of, brackets_home, around, arounds_of, arounds_home, bytes_around, bytes_around_home, bytes_before, piece_bytes, pieces_bytes, joint, Shows, content_state, fields_state, entries_at, states_around, states_around_nest, Handed, IsSpelled, Here, Writer, OpenBracket, Around, Joint, Has, Builds, Wants, Stack, in_row, Nest, in_embed, Home, State, wants, has, builds, with_piece, at_home, Embedded}
+use Rattle.cborn_edn.proofs.Common.{arith, refl, sym, ap, ◌∙◌, subst, ℕ, List, [], length, Bool, true, false, Option, Some, None, append-nil, append_assoc, Tree, trees, spelled_all, top, no_part, OfBytes, IsWritten, Speller, Mark, Absent, MeaningError, is_nil, Str, joined, piece_errors, size_errors, first_error, earlier, is_none, Notes, listed_trees, trees-listed, Span, Item, embedded, Pieces, row, Content, loose, tight, pairs, Fields, loose_fields, tight_fields, no_item, node, str, str_of, nodes_before, nodes_in, faults, faults_in, faults_of_pieces, noted, noted_stack, noted_home, stack_of, stack_in, bracket, brackets_of, brackets_home, around, arounds_of, arounds_home, bytes_around, bytes_around_home, bytes_before, piece_bytes, pieces_bytes, joint, Shows, content_state, fields_state, entries_at, states_around, states_around_nest, Handed, IsSpelled, Here, Writer, OpenBracket, Around, Joint, Has, Builds, Wants, Stack, in_row, Nest, in_embed, Home, State, wants, has, builds, with_piece, at_home, Embedded}
 use Rattle.cborn_edn.proofs.Meaning.NoError.{nil_is}
 use Rattle.cborn_edn.proofs.Meaning.Earliest.{earlier_noted, none_first}
 use Rattle.cborn_edn.proofs.Reader.Showing.{brackets_same, arounds_same, bytes_same, standing}
@@ -13,31 +13,15 @@ Shut here w next mid f = (g : OpenBracket) (gs : List OpenBracket) → w.bracket
 
 -- the states around what ends
 pub content_states : (n : Nest) (c : Content) → states_around (stack_in (content_state n c)) ≡ states_around_nest n
-content_states n (loose b) = refl
-content_states n (tight (row b i)) = refl
+content_states n c = grind arith
 
 pub fields_states : (st : Stack) (s : Span) (m : Mark) (c : Fields) → states_around (stack_in (fields_state st s m c)) ≡ states_around st
-fields_states st s m (loose_fields b) = refl
-fields_states st s m (tight_fields (pairs b k d v)) = refl
+fields_states st s m c = grind arith
 
 -- a bracket ends, and the item i is whole
 pub closed : (here next : Here) (w mid : Writer) (new : Option MeaningError) (ps : List Speller) (f : OpenBracket) (st : Stack) (p k : ℕ) (m : Mark) (es : List MeaningError) (i : Item) → AtEnd here w w.pieces.items k (bracket st p m ∷ brackets_of st) (arounds_of st) es (bytes_around st) → Shut here w next mid f
     → new ≡ first_error (noted_stack st ++ faults i) → Shows next (record mid { error = new; spellers = ps }) mid.pieces.items (has st i)
-closed here next w mid new ps f st p k m es i q shut error =
-    let t = shut (bracket st p m) (brackets_of st) q.brackets in
-    record {
-      phase = ap (λ (y : Here). y.phase) t.2;
-      level = ap (λ (y : Here). y.level) t.2;
-      count = ap (λ (y : Here). y.count) t.2;
-      brackets = ap (λ (y : Writer). y.brackets) t.1;
-      around = ap (λ (y : Writer). y.around) t.1 ∙ q.around;
-      string = ap (λ (y : Writer). y.string) t.1 ∙ q.string;
-      chunks = ap (λ (y : Writer). y.chunks) t.1 ∙ q.chunks;
-      simple = tt;
-      error = error;
-      start = ap (λ (y : Writer). y.start) t.1 ∙ q.start;
-      pieces = ap (λ (y : Writer). y.pieces.items) t.1 ∙ q.pieces;
-    }
+closed here next w mid new ps f st p k m es i h1 h2 h3 = grind arith
 
 -- an array or a map ends, and what is wrong with its indicator is noted
 pub closed_sized : (here next : Here) (w mid : Writer) (new : Option MeaningError) (ps : List Speller) (f : OpenBracket) (n : ℕ) (st : Stack) (p k : ℕ) (m : Mark) (es : List MeaningError) (i : Item) → AtEnd here w w.pieces.items k (bracket st p m ∷ brackets_of st) (arounds_of st) (noted_stack st ++ es) (bytes_around st)

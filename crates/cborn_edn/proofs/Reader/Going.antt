@@ -16,8 +16,7 @@ begins profile limit text = record { tokens = []; between = nothing profile text
 
 -- what is reported of a text with a lexical fault
 lexical_reported : (profile : Profile) (limit : ℕ) (text : List ℕ) (e : LexFault) → HasNoTokens profile text e → IsNoNotation profile limit text (lexical e)
-lexical_reported profile limit text (LexRefused p r) h = h
-lexical_reported profile limit text LexOutOfMemory h = tt
+lexical_reported profile limit text e h1 = grind arith
 
 clash : {A : Type 0} → true ≡ false → A
 clash e = absurd (let bad : true ≡ false = e in cc)
@@ -93,8 +92,7 @@ module _ (profile : Profile) (limit : ℕ) (text : List ℕ) (at : ℕ) (s : Sta
       syntax t TooDeep fault next (λ more end. r.runs t t.stop next more end ∙ ap (λ c. after_token profile limit end t more c (leb (reach (open_levels s) t.class) limit)) here ∙ ap (λ b. after_token profile limit end t more (Some u) b) high) h
 
 pub free_none : (p : Profile) → forbids p 0 ≡ false
-free_none One = refl
-free_none Two = refl
+free_none p = grind arith
 
 open_free : (p : Profile) (s : State) (k : Kind) (n : ℕ) (x : List ℕ) → is_closing k ≡ false → forbids p (comma_at s (class_of k n x)) ≡ false
 open_free p s k n x h1 = grind arith
@@ -108,8 +106,7 @@ pub not_trailing : (p : Profile) (s : State) (k : Kind) (n : ℕ) (x : List ℕ)
 not_trailing p s k n x h1 = grind arith
 
 forbidden : (limit : ℕ) (s : State) (t : Token) (o : Option State) → forbids One (comma_at s t.class) ≡ true → checked One limit s t o ≡ None
-forbidden limit s t None e = refl
-forbidden limit s t (Some u) e = ap (λ b. cond b None (Some u)) e
+forbidden limit s t o h1 = grind arith
 
 -- the token is a bracket that ends after a comma
 pub trailing : (p : Profile) (limit : ℕ) (s : State) (k : Kind) (n start stop : ℕ) (x : List ℕ) → is_trailing_comma p (phase_of s) k ≡ true → let t : Token = record { start = start; stop = stop; class = class_of k n x } in checked p limit s t (step s t) ≡ None

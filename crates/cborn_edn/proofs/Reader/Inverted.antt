@@ -38,8 +38,7 @@ embed_at u (whole (in_row (in_embed h o p) b) i) e = (h, o, p, tight (row b i), 
 embed_at u _ e = never e
 
 pub embed_step : (h : Home) (o : Option Pieces) (p a : Span) (m : Mark) (c : Content) → step_by (content_state (in_embed h o p) c) (EmbedClose m) a ≡ Some (builds h (with_piece o (embedded p c a m)))
-embed_step h o p a m (loose b) = refl
-embed_step h o p a m (tight (row b i)) = refl
+embed_step h o p a m c = grind arith
 
 pub no_embed : (s : State) (m : Mark) (a : Span) → Ending s → is_in levels.Embedded (level_of (stack_in s)) ≡ false → step_by s (EmbedClose m) a ≡ None
 no_embed s m a h1 h2 = grind arith
@@ -75,16 +74,13 @@ no_comma st i a h1 h2 = grind arith
 
 -- a bracket of a known kind is open
 brackets_open : (st : Stack) → (level_of st ≡ levels.Outside → ⊥) → 0 < length (brackets_of st)
-brackets_open (in_row at_top b) n = absurd (n refl)
-brackets_open _ n = omega arith
+brackets_open st h1 = grind arith
 
 pub is_open : (f : Level → Bool) (here : Here) (w : Writer) (out : List ℕ) (s : State) → f levels.Outside ≡ false → f here.level ≡ true → Shows here w out s → 0 < length w.brackets
 is_open f here w out s h1 h2 h3 = grind arith
 
 pub sized_phase : {a : Span} {s u : State} → Sized a s u → phase_of u ≡ Has
-sized_phase (of_array st s m c) = refl
-sized_phase (of_map st s m f) = refl
+sized_phase h1 = grind arith
 
 pub sized_none : (m : Bool) (p : Phase) → ends_sized m p levels.Outside ≡ false
-sized_none true Has = refl
-sized_none _ _ = refl
+sized_none m p = grind arith

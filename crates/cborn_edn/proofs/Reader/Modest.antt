@@ -20,23 +20,10 @@ pub least_is_eight : (n : ℕ) → 2 ^ 32 ≤ n → least n ≡ Eight
 least_is_eight n h = grind arith
 
 pub least_bytes : (k : Major) (n : ℕ) → AreBytes (head k (Given (least n) n))
-least_bytes k n = go (ltb n (2 ^ 64)) refl
-  where
-    eight : (k : Major) → AreBytes (head k (Given Eight n))
-    eight k = (first k, (omega arith, (omega arith, (omega arith, (omega arith, (omega arith, (omega arith, (omega arith, (omega arith, tt)))))))))
-      where
-        first : (k : Major) → 32 * code k + 27 < 256
-        first Unsigned = omega arith
-        first _ = omega arith
-
-    go : (b : Bool) → ltb n (2 ^ 64) ≡ b → AreBytes (head k (Given (least n) n))
-    go true e = head_bytes k (Given (least n) n) (least_holds n (ltb-true _ _ e))
-    go false e = subst (λ w. AreBytes (head k (Given w n))) (sym (least_is_eight n (let many = ltb-false n (2 ^ 64) e in omega (arith, many)))) (eight k)
+least_bytes k n = grind arith
 
 pub width_bytes : (k : Major) (p : ℕ) (m : Mark) (n : ℕ) → width_errors p m n ≡ [] → AreBytes (head k (Given (width m n) n))
-width_bytes k p Absent n e = least_bytes k n
-width_bytes k p Endless n e = least_bytes k n
-width_bytes k p (Wide w) n e = head_bytes k (Given w n) (holds_is w n (held (holds w n) p IndicatorTooNarrow e))
+width_bytes k p m n h1 = grind arith
 
 pub one_digit : (x y z : List ℕ) (n : ℕ) → 0 < n → y ≡ x ++ digits_of 256 (n / 256) → z ≡ y ++ n % 256 ∷ [] → z ≡ x ++ digits_of 256 n
 one_digit x y z n h e f =

@@ -20,8 +20,7 @@ alone : (c : ℕ) (k : Class) → start_of c ≡ single k → EndsPieces k → E
 alone c k is ends = λ profile s z a r. let t : (s ≡ []) × (a ≡ Read k) = subst (λ (x : Start). ReadsFrom x profile c s z a) is r in subst Ending (sym t.1) ends
 
 marked_end : (o : Option Mark) → Ending (marked EmbedClose o)
-marked_end None = tt
-marked_end (Some m) = tt
+marked_end o = grind arith
 
 closing : Ends 62
 closing = λ profile s z a r. elim r [ inl (mark, is, run, f) ↦ subst Ending (sym f) (marked_end (mark_of mark)) | inr (is, none, f) ↦ subst Ending (sym f) tt ]
@@ -35,8 +34,7 @@ ending : (c : ℕ) → ends_string c ≡ true → Ends c
 ending c h = one_of c (codes ",]}:)>") h (alone 44 Comma refl tt, (alone 93 ArrayClose refl tt, (alone 125 MapClose refl tt, (alone 58 Colon refl tt, (alone 41 ParenClose refl tt, (closing, tt))))))
 
 starts : (profile : Profile) (c : ℕ) (s x z : List ℕ) (a : Front) → Ends c → Reads profile s x a → s ++ x ≡ c ∷ z → Ending a
-starts profile c [] x z a ends r e = absurd r
-starts profile c (d ∷ s) x z a ends r e = ends profile s x a (subst (λ (b : ℕ). Reads profile (b ∷ s) x a) (ap (λ (l : List ℕ). get_or l 0 0) e) r)
+starts profile c s x z a h1 h2 h3 = grind arith
 
 -- the first token of a text that begins with that character
 first : (profile : Profile) {n m : ℕ} {x y : List ℕ} {ts : List Token} → Covers profile n x ts m y → (c : ℕ) (z : List ℕ) (t : Token) → Ends c → x ≡ c ∷ z → ts ≡ t ∷ [] → EndsPieces t.class

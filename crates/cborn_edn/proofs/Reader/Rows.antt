@@ -15,8 +15,7 @@ pub row_level : (n : Nest) (b d : RowBefore) → level_of (in_row n b) ≡ level
 row_level n b d = grind arith
 
 pub entries_few : (p : Phase) (n : ℕ) → n < 2 ^ 63 → entries_at p n < 2 ^ 64
-entries_few Has n h = omega (arith, h)
-entries_few _ n h = omega (arith, h)
+entries_few p n h1 = grind arith
 
 -- what is shown where a row or a map of k items or pairs ends
 pub record AtEnd (here : Here) (writer : Writer) (written : List ℕ) (k : ℕ) (brackets_then : List OpenBracket) (around_then : List Around) (es : List MeaningError) (x : List ℕ) : Type 0 where

@@ -7,12 +7,10 @@ use Rattle.cborn_edn.proofs.Grammar.Takes.{ended_same}
 use Rattle.cborn_edn.proofs.Reader.Showing.{same_errors}
 
 checked_same : (p : Profile) (limit : ℕ) (s v : State) (t : Token) (o : Option State) → comma_at s t.class ≡ comma_at v t.class → checked p limit s t o ≡ checked p limit v t o
-checked_same p limit s v t None e = refl
-checked_same p limit s v t (Some u) e = ap (λ n. cond (forbids p n) None (Some u)) e
+checked_same p limit s v t o h1 = grind arith
 
 finish_same : (st : Stack) (ps : Pieces) → finish (builds (as_item st) ps) ≡ finish (has st (string ps))
-finish_same (in_row at_top b) ps = refl
-finish_same _ ps = refl
+finish_same st ps = grind arith
 
 parse_same : (p : Profile) (limit : ℕ) (st : Stack) (ps : Pieces) (t : Token) → EndsPieces t.class → (more : List Token) (end : ℕ) → parse p limit end (t ∷ more) (builds (as_item st) ps) ≡ parse p limit end (t ∷ more) (has st (string ps))
 parse_same p limit st ps t h1 more end = grind arith
@@ -33,8 +31,7 @@ abbrev pub text_item : Span → List ℕ → Item
 text_item a x = string (piece (text a x Absent))
 
 pub text_node : (a : Span) (x : List ℕ) → node (text_item a x) ≡ TextNode a.start (least (length x)) x
-text_node a [] = refl
-text_node a (b ∷ x) = refl
+text_node a x = grind arith
 
 -- LAW: it has no meaning error
 pub text_noted : (o : Option MeaningError) (st : Stack) (a : Span) (x : List ℕ) → IsUtf8 x → o ≡ first_error (noted_stack st) → o ≡ first_error (noted_stack st ++ faults (text_item a x))

@@ -25,16 +25,13 @@ pub record AtHome (here : Here) (writer : Writer) (h : Home) : Type 0 where
   pub start : writer.start ≡ length (bytes_around_home h)
 
 pub brackets_same : (h : Home) → brackets_of (stack_of h) ≡ brackets_home h
-brackets_same (as_item st) = refl
-brackets_same (as_chunk st s b) = refl
+brackets_same h = grind arith
 
 pub arounds_same : (h : Home) → arounds_of (stack_of h) ≡ arounds_home h
-arounds_same (as_item st) = refl
-arounds_same (as_chunk st s b) = refl
+arounds_same h = grind arith
 
 pub bytes_same : (h : Home) → bytes_around (stack_of h) ≡ bytes_around_home h
-bytes_same (as_item st) = refl
-bytes_same (as_chunk st s b) = refl
+bytes_same h = grind arith
 
 -- before a piece of a string, which may be the first
 pub record Standing (here : Here) (writer : Writer) (h : Home) (o : Option Pieces) (written : List ℕ) : Type 0 where

@@ -10,9 +10,7 @@ same_read here w v out s e = record { shows = (record { phase = e.shows.phase; l
 
 -- where the reader is in the text is no part of what is shown
 pub read_at : {h : Holds} (next : Here) (left : Writer) (out : List ℕ) (u : State) (stop : ℕ) → Reads h next left out u → Reads h (record next { at = stop }) left out u
-read_at next left out u stop r =
-    let e = r.shows in
-    record { shows = record { phase = e.phase; level = e.level; count = e.count; brackets = e.brackets; around = e.around; string = e.string; chunks = e.chunks; simple = e.simple; error = e.error; start = e.start; pieces = e.pieces }; handed = r.handed }
+read_at next left out u stop h1 = grind arith
 
 module _ (p : Profile) (text : List ℕ) (are : AreBytes text) (here : Here) (w : Writer) where
   -- a token that was read

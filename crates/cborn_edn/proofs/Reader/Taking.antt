@@ -27,29 +27,23 @@ sized_kind true = (kinds.MapClose, refl)
 sized_kind false = (kinds.ArrayClose, refl)
 
 pub sized_low : (m : Bool) (l limit : ℕ) → reach l (sized_end m) ≤ limit
-sized_low true l limit = omega arith
-sized_low false l limit = omega arith
+sized_low m l limit = grind arith
 
 pub separator_low : (m : Bool) (l limit : ℕ) → reach l (separator_of m) ≤ limit
-separator_low true l limit = omega arith
-separator_low false l limit = omega arith
+separator_low m l limit = grind arith
 
 -- a bracket that opens
 pub opened_by : (m : Bool) (st : Stack) (a : Span) (k : Mark) → step_by (wants st) (opening m k) a ≡ Some (wants (after_opening m st a k))
-opened_by true st a k = refl
-opened_by false st a k = refl
+opened_by m st a k = grind arith
 
 pub opened_free : (m : Bool) (st : Stack) (k : Mark) → comma_in st (opening m k) ≡ 0
-opened_free true st k = refl
-opened_free false st k = refl
+opened_free m st k = grind arith
 
 pub opened_low : (m : Bool) (k : Mark) (l limit : ℕ) → l < limit → reach l (opening m k) ≤ limit
-opened_low true k l limit h = omega (arith, h)
-opened_low false k l limit h = omega (arith, h)
+opened_low m k l limit h1 = grind arith
 
 pub opened_wants : (m : Bool) (st : Stack) (a : Span) (k : Mark) → phase_of (wants (after_opening m st a k)) ≡ phases.Wants
-opened_wants true st a k = refl
-opened_wants false st a k = refl
+opened_wants m st a k = grind arith
 
 -- LAW: a token isn't empty
 pub beyond : (p : Profile) (text : List ℕ) (at stop : ℕ) (c : Class) → IsTokenAt p text at stop c → at < stop
@@ -82,8 +76,7 @@ module _ {h : Holds} {p : Profile} {limit : ℕ} {text : List ℕ} {here : Here}
   wanted (inr q) = is_wants r.state (inr (sym r.shows.shows.phase ∙ q))
 
   pub may_end : (here.phase ≡ phases.Has) ⊎ (here.phase ≡ phases.Wants) → MayEnd r.state
-  may_end (inl q) = subst MayEnd (is_has r.state (sym r.shows.shows.phase ∙ q)).2 tt
-  may_end (inr q) = subst MayEnd (is_wants r.state (inl (sym r.shows.shows.phase ∙ q))).1 tt
+  may_end h1 = grind arith
 
   pub few_here : here.count < 2 ^ 63
   few_here = omega (arith, r.small, r.inside, shown_few p limit text here w w.pieces.items r.state r.reached r.shows.shows)

@@ -16,9 +16,7 @@ taken_as h ok s c k a next left e t = subst (λ (x : Class). Taken h ok s x a ne
 module _ {h : Holds} (k : Holds) (kind like : Kind) (number place : ℕ) (here next : Here) (writer left : Writer) (ok : Bool) (s : State) (is : kind ≡ like) where
   -- by what was appended
   pub arm : ((x base : List ℕ) (a : Span) → place ≡ a.start → writer.pieces.items ≡ base ++ content_of (class_of like number x) → Reads h here writer base s → Taken k ok s (class_of like number x) a next left) → Takes h k kind number place here writer next left ok s
-  arm f base c a p r =
-      let same : c ≡ class_of like number r.stands.content = r.stands.class ∙ ap (λ (i : Kind). class_of i number r.stands.content) is in
-      taken_as k ok s c (class_of like number r.stands.content) a next left same (f r.stands.content base a p (r.stands.written ∙ ap (λ (y : Class). base ++ content_of y) same) r.shows)
+  arm h1 = grind arith
 
   -- where nothing was
   pub appends_nothing : ((x : List ℕ) → content_of (class_of like number x) ≡ []) → ((x : List ℕ) (a : Span) → place ≡ a.start → Reads h here writer writer.pieces.items s → Taken k ok s (class_of like number x) a next left) → Takes h k kind number place here writer next left ok s
@@ -26,9 +24,7 @@ module _ {h : Holds} (k : Holds) (kind like : Kind) (number place : ℕ) (here n
 
   -- of a token that appends nothing there
   pub turn : ((x : List ℕ) (a : Span) → place ≡ a.start → Reads h here writer writer.pieces.items s → Taken k ok s (class_of like number x) a next left) → Turns h k kind number place here writer next left ok s
-  turn f c x a p e shows =
-      let same : c ≡ class_of like number x = e ∙ ap (λ (i : Kind). class_of i number x) is in
-      taken_as k ok s c (class_of like number x) a next left same (f x a p shows)
+  turn h1 = grind arith
 
 -- The tokens that hand nothing over.
 
@@ -36,8 +32,7 @@ abbrev StaysHanded : Holds → State → Class → Span → Type 0
 StaysHanded h s c a = (ps : List Speller) (u : State) → step_by s c a ≡ Some u → AllHanded h ps (s ∷ states_around (stack_in s)) → AllHanded h ps (u ∷ states_around (stack_in u))
 
 pub still_taken : (h : Holds) (ok : Bool) (s : State) (c : Class) (a : Span) (next : Here) (left : Writer) → StaysHanded h s c a → AllHanded h left.spellers (s ∷ states_around (stack_in s)) → Turned ok s c a next left → Taken h ok s c a next left
-still_taken h true s c a next left f t (u, is, e) = (u, is, record { shows = e; handed = f left.spellers u is t })
-still_taken h false s c a next left f t is = is
+still_taken h ok s c a next left h1 h2 h3 = grind arith
 
 led : (h : Holds) (ps : List Speller) (v u : State) → Some v ≡ Some u → AllHanded h ps (v ∷ states_around (stack_in v)) → AllHanded h ps (u ∷ states_around (stack_in u))
 led h ps v u is = let e : v ≡ u = cc in subst (λ (w : State). AllHanded h ps (w ∷ states_around (stack_in w))) e
@@ -59,8 +54,7 @@ paren_handed h st s b n v m _ a ps u is t = none_led u is
 
 -- what was handed over in a `<<`, to its speller
 pub spelled_in : (h : Holds) (ps : List Speller) (s v : State) (ss : List State) → AllHanded h ps (s ∷ v ∷ ss) → IsSpelled ps s
-spelled_in h [] s v ss t = absurd t
-spelled_in h (p ∷ ps) s v ss t = t.0
+spelled_in h ps s v ss h1 = grind arith
 
 pub content_spelled : (h : Holds) (ps : List Speller) (home : Home) (o : Option Pieces) (s : Span) (c : Content) → let u = content_state (in_embed home o s) c in AllHanded h ps (u ∷ states_around (stack_in u)) → IsSpelled ps u
 content_spelled h ps home o s (loose b) t = spelled_in h ps (wants (in_row (in_embed home o s) b)) (at_home home o) (states_around_home home) t
@@ -83,9 +77,7 @@ data Wanting (st : Stack) : Type 0 where
   again : wanting st ≡ phases.WantsMore → Wanting st
 
 wanted : (st : Stack) → Wanting st
-wanted (in_row n (after_row r c)) = again refl
-wanted (in_key st s m (after_pairs ps c)) = again refl
-wanted _ = first refl
+wanted st = grind arith
 
 -- the numbers of the phases, of which no two are the same
 abbrev number : Phase → ℕ
@@ -146,15 +138,11 @@ pub not_text : {A : Type 0} → OfBytes ≡ OfText → A
 not_text e = absurd (let bad : OfBytes ≡ OfText = e in cc)
 
 pub taken_same : (h : Holds) (ok : Bool) (s t : State) (k : Class) (a : Span) (next : Here) (left : Writer) → step_by s k a ≡ step_by t k a → Taken h ok t k a next left → Taken h ok s k a next left
-taken_same h true s t k a next left e r = (r.0, e ∙ r.1, r.2)
-taken_same h false s t k a next left e r = e ∙ r
+taken_same h ok s t k a next left h1 h2 = grind arith
 
 -- a kind that begins no piece
 pub no_piece : (kind : Kind) (n : ℕ) (x : List ℕ) → is_piece kind ≡ false → EndsPieces (class_of kind n x)
-no_piece (kinds.Text m) n x e = absurd (let bad : true ≡ false = e in cc)
-no_piece (kinds.Bytes q m) n x e = absurd (let bad : true ≡ false = e in cc)
-no_piece kinds.EmbedOpen n x e = absurd (let bad : true ≡ false = e in cc)
-no_piece _ n x e = tt
+no_piece kind n x h1 = grind arith
 
 pub no_content : (kind : Kind) (n : ℕ) (x : List ℕ) → is_piece kind ≡ false → content_of (class_of kind n x) ≡ []
 no_content kind n x h1 = grind arith

@@ -68,22 +68,13 @@ abbrev Marks : Width → ℕ → Mark → Type 0
 Marks w n m = (width m n ≡ w) × (size m n ≡ Fixed w) × (is_endless m ≡ false) × ((p : ℕ) → WidthFits w n → width_errors p m n ≡ []) × ((p : ℕ) → WidthFits w n → size_errors p m n ≡ [])
 
 marks : (w : Width) (n : ℕ) → Marks w n (mark_for w n)
-marks w n = go (as_long w (least n) n) refl
-  where
-    narrow : (p : ℕ) → WidthFits w n → unless (holds w n) p IndicatorTooNarrow ≡ []
-    narrow p h = ap (λ b. unless b p IndicatorTooNarrow) (holds_true w n h)
-
-    go : (b : Bool) → as_long w (least n) n ≡ b → Marks w n (cond b Absent (Wide w))
-    go true e = let same = as_long-same w (least n) n e in (same, ap Fixed same, refl, λ p h. refl, λ p h. refl)
-    go false e = (refl, refl, refl, narrow, narrow)
+marks w n = grind arith
 
 size_back : (s : Size) (n : ℕ) → size (mark_for_size s n) n ≡ s
-size_back EndlessMark n = refl
-size_back (Fixed w) n = (marks w n).1
+size_back s n = grind arith
 
 no_size_errors : (p : ℕ) (s : Size) (n : ℕ) → SizeFits s n → size_errors p (mark_for_size s n) n ≡ []
-no_size_errors p EndlessMark n h = refl
-no_size_errors p (Fixed w) n h = (marks w n).4 p h
+no_size_errors p s n h1 = grind arith
 
 -- What tokens say, without a meaning error, is this but for places.
 record Said {S : Type 0} (Is : List Token → S → List MeaningError → Type 0) (aside : S → S) (x : List Token) (s : S) : Type 0 where
@@ -114,8 +105,7 @@ abbrev str_of : StringKind → Span → List ℕ → Mark → Str
 str_of k a b m = quoted k a.start (is_text k) b m
 
 one_token : (k : StringKind) (b : List ℕ) (m : Mark) → tokens_of_pieces (one_piece k b m) ≡ token nowhere (class_of k b m) ∷ []
-one_token OfBytes b m = refl
-one_token OfText b m = refl
+one_token k b m = grind arith
 
 piece_at : {p : Profile} {d : ℕ} (k : StringKind) (a : Span) (b : List ℕ) (m : Mark) → IsPiece p d (token a (class_of k b m) ∷ []) (str_of k a b m) []
 piece_at OfBytes a b m = byte_piece a
@@ -125,12 +115,10 @@ no_string_errors : (e : Bool) (k : StringKind) (a : Span) (w : Width) (b : List 
 no_string_errors e k a w b h1 h2 = grind arith
 
 unplaced_string : (k : StringKind) (p : ℕ) (w : Width) (b : List ℕ) → unplaced (string_node k p w b) ≡ string_node k 0 w b
-unplaced_string OfBytes p w b = refl
-unplaced_string OfText p w b = refl
+unplaced_string k p w b = grind arith
 
 unplaced_chunked : (k : StringKind) (p : ℕ) (cs : List Chunk) → unplaced (chunked_node k p cs) ≡ chunked_node k 0 (unplaced_chunks cs)
-unplaced_chunked OfBytes p cs = refl
-unplaced_chunked OfText p cs = refl
+unplaced_chunked k p cs = grind arith
 
 string_is : (k : StringKind) (a : Span) (w : Width) (b : List ℕ) → said_string (str_of k a b (mark_for w (length b))) ≡ string_node k a.start w b
 string_is k a w b = grind arith

@@ -7,20 +7,16 @@ use Rattle.cborn_edn.specs.devices.Said.{entries}
 use Rattle.cborn_edn.specs.Grammar.{number, word, simple, tag, array, map, string, chunked, embedded, piece, also, tight, loose, tight_fields, loose_fields, items}
 
 pub left_allowed : (p : Profile) (m n : ℕ) → AllowsCount p (m + n) → AllowsCount p m
-left_allowed ProfileOne m n h = omega (arith, h)
-left_allowed ProfileTwo m n h = tt
+left_allowed p m n h1 = grind arith
 
 pub right_allowed : (p : Profile) (m n : ℕ) → AllowsCount p (m + n) → AllowsCount p n
-right_allowed ProfileOne m n h = omega (arith, h)
-right_allowed ProfileTwo m n h = tt
+right_allowed p m n h1 = grind arith
 
 pub both_allowed : (p : Profile) (m n : ℕ) → AllowsCount p m → AllowsCount p n → AllowsCount p (m + n)
-both_allowed ProfileOne m n h k = omega (arith, h, k)
-both_allowed ProfileTwo m n h k = tt
+both_allowed p m n h1 h2 = grind arith
 
 only_two : (p : Profile) (n : ℕ) → AllowsCount p (n + 1) → p ≡ ProfileTwo
-only_two ProfileOne n h = absurd (omega (arith, h))
-only_two ProfileTwo n h = refl
+only_two p n h1 = grind arith
 
 module _ (p : Profile) where
   -- the relation holds of equal tokens and meaning errors

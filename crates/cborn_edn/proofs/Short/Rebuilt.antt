@@ -47,8 +47,7 @@ abbrev pub FoundInput : Profile → ℕ → List Token → Trees → List Meanin
 FoundInput = Found tokens_of_input depth_of_input commas_of_input nodes_of_input faults_of_input
 
 none_allowed : (p : Profile) → AllowsCount p 0
-none_allowed ProfileOne = refl
-none_allowed ProfileTwo = tt
+none_allowed p = grind arith
 
 any_allowed : (p : Profile) (n : ℕ) → p ≡ ProfileTwo → AllowsCount p n
 any_allowed p n e = subst (λ q. AllowsCount q n) (sym e) tt

@@ -11,7 +11,7 @@ use Rattle.cborn_edn.proofs.Shown.Lowests.{utf8_is}
 
 each_low : passes (λ b. ltb 0 (length (escaped b)) && is_low (escaped b)) 0 128 ≡ true
 unfolding encode_with
-each_low = refl
+each_low  = grind arith
 
 escaped_low : (b : ℕ) → b < 128 → IsAscii (escaped b) × (0 < length (escaped b))
 escaped_low b h =
@@ -63,12 +63,10 @@ ascii : (x : List ℕ) → is_low x ≡ true → IsUtf8 x
 ascii x h = IsUtf8-from_ascii x (low_ascii x h)
 
 pub indicator_low : (m : Mark) → is_low (indicator m) ≡ true
-indicator_low (Wide Direct) = refl
-indicator_low _ = refl
+indicator_low m = grind arith
 
 pub opened_low : (m : Mark) → is_low (opened m) ≡ true
-opened_low (Wide Direct) = refl
-opened_low _ = refl
+opened_low m = grind arith
 
 indicator_text : (m : Mark) → IsUtf8 (indicator m)
 indicator_text m = ascii (indicator m) (indicator_low m)
@@ -92,8 +90,7 @@ bytes_good [] = tt
 bytes_good (c ∷ cs) = (refl, bytes_good cs)
 
 pub texts_good : (cs : List Chunk) → AreTexts cs → AreGood OfText cs
-texts_good [] h = tt
-texts_good (c ∷ cs) h = (h.0, texts_good cs h.1)
+texts_good cs h1 = grind arith
 
 -- texts one after another
 
