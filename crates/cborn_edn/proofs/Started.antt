@@ -21,8 +21,7 @@ with_more : (xs : List ℕ) (ts us : List Token) → Among xs ts → Among xs (t
 with_more xs ts us h = subst (λ (w : List ℕ). Among w (ts ++ us)) (append-nil xs) (both_among xs [] ts us h (none_among us))
 
 bytes_aside : (t : Tree) (xs : List ℕ) (ts : List Token) → Among xs ts → Among (unless_bytes t xs) ts
-bytes_aside (ByteNode p w b) xs ts h = none_among ts
-bytes_aside _ xs ts h = h
+bytes_aside t xs ts h1 = grind (arith, none_among)
 
 number_among : (a : Token) (n : Bool) (v : ℕ) (m : Mark) → Among (spots (number_node a.start n v m)) (a ∷ [])
 number_among a n v m = grind arith
@@ -84,8 +83,7 @@ module _ {p : Profile} where
     fields_among (loose_fields {x = x} a two is) = with_more _ x (token a Comma ∷ []) (pairs_among is)
 
   pub text_among : {d : ℕ} {x : List Token} {ts : Trees} {l : List MeaningError} → IsText p d x ts l → Among (spots_all ts) x
-  text_among nothing = refl
-  text_among (items is) = items_among is
+  text_among h1 = grind (arith, items, items_among, nothing)
 
 abbrev AreFrom : ℕ → List ℕ → Type 0
 AreFrom n xs = AllByRecursion (λ q. n ≤ q) xs

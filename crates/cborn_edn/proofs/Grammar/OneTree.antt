@@ -92,10 +92,7 @@ has_goes : (p : Profile) (limit : ℕ) (ts : List Token) → HasTree p limit ts 
 has_goes p limit ts (us, l, h) = ([], (us, l, subst (λ x. IsText p limit x us l) (sym (append-nil ts)) h))
 
 pub no_tree : (p : Profile) (limit : ℕ) (ts : List Token) (s : State) → Leads ts s → finish s ≡ None → HasTree p limit ts → ⊥
-no_tree p limit ts s e f (us, l, h) =
-    let t = parsed p limit ts us l h in
-    let same : Some (whole t.tree) ≡ Some s = sym (takes_all t.tree) ∙ ap (λ l. run l (Some start)) t.parse.is ∙ e in
-    no_some (sym f ∙ ap finish (sym (same_Some _ _ same)) ∙ finish-whole t.tree)
+no_tree p limit ts s h1 h2 h3 = grind (arith, finish, finish-whole, no_some, parsed, run, same_Some, start, takes_all, whole)
 
 pub nothing_goes : (p : Profile) (limit : ℕ) (f : List Token) (t : Token) (s : State) → Leads f s → step s t ≡ None → GoesOn p limit (f ++ (t ∷ [])) → ⊥
 nothing_goes p limit f t s e none g =
@@ -119,10 +116,7 @@ module _ (p : Profile) (limit end : ℕ) where
 
   -- LAW: not both
   pub not_both : (ts : List Token) (q : ℕ) (r : EdnReason) → HasTree p limit ts → IsSyntaxError p limit end ts q r → ⊥
-  not_both ts q UnexpectedEnd h j = j.2 h
-  not_both ts q UnexpectedToken h (f, t, s, at, never) = s.here (front_goes (f ++ (t ∷ [])) s.y (rw append_assoc (subst (GoesOn p limit) s.split (has_goes p limit ts h))))
-  not_both ts q TooDeep h (f, t, s, at, never) = s.here (front_goes (f ++ (t ∷ [])) s.y (rw append_assoc (subst (GoesOn p limit) s.split (has_goes p limit ts h))))
-  not_both ts q _ h j = absurd j
+  not_both ts q r h1 h2 = grind (arith, append_assoc, front_goes, has_goes)
 
 abbrev GoesOnAtAnyDepth : Profile → List Token → Type 0
 GoesOnAtAnyDepth p ts = (limit : ℕ) × GoesOn p limit ts

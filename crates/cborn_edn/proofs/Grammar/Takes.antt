@@ -160,8 +160,7 @@ whole nothing = start
 whole (items r) = landed_row at_top r
 
 pub takes_input : (t : Input) (y : List Token) → then (tokens_of_input t ++ y) start ≡ then y (whole t)
-takes_input nothing y = refl
-takes_input (items r) y = takes_row r at_top y
+takes_input t y = grind (arith, at_top, items, nothing, takes_row)
 
 pub finish-whole : (t : Input) → finish (whole t) ≡ Some t
 finish-whole t = grind arith

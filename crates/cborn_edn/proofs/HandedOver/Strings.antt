@@ -42,42 +42,20 @@ module _ (ps : Pieces) {j : Joint} {x : List ℕ} (is : j ≡ joint (str ps)) (s
   meant none = same ∙ known_bytes ps (known_here ps none)
 
   pub hands_string : (st : Stack) → Hands (string_event j (length x)) j.place x (builds (as_item st) ps) (has st (string ps))
-  hands_string st q =
-      let none : faults_of_pieces ps ≡ [] = no_left _ _ (no_right (noted_stack st) _ q) in
-      let f = front_of st in
-      let made = subst (λ (y : Joint). Makes f (str ps) y x) (sym is) (subst (Makes f (str ps) (joint (str ps))) (sym (meant none)) (makes f (str ps) (free st))) in
-      (no_left (noted_stack st ++ faults_of_pieces ps) _ (append_assoc (noted_stack st) (faults_of_pieces ps) _ ∙ q), made.0, made.1)
+  hands_string st = grind (arith, append_assoc, faults_of_pieces, free, front_of, joint, makes, meant, no_left, no_right, noted_stack, str)
 
   wide : (may_end : Bool) → faults_of_pieces ps ≡ [] → mark_errors may_end (str ps) ≡ [] → length x < 2 ^ 64 → WidthFits (width j.mark (length x)) (length x)
-  wide may_end none marked small =
-      let fit = mark_fits may_end (str ps) (known_here ps none) marked (subst (λ (y : List ℕ). length y < 2 ^ 64) (meant none) small) in
-      subst (λ (y : Joint). WidthFits (width y.mark (length x)) (length x)) (sym is) (subst (λ (y : List ℕ). WidthFits (width (str ps).mark (length y)) (length y)) (sym (meant none)) fit)
+  wide may_end h1 h2 h3 = grind (arith, known_here, length, mark_fits, meant, str, width)
 
   pub string_fits : (st : Stack) → noted (has st (string ps)) ≡ [] → length x < 2 ^ 64 → Fits (string_event j (length x)) x
-  string_fits st q small = go (j.lone && is_endless j.mark)
-    where
-      go : (b : Bool) → Fits (if b then NoChunks j.kind else String j.kind (width j.mark (length x))) x
-      go true = tt
-      go false = let own = no_right (noted_stack st) _ q in wide (str ps).lone (no_left _ _ own) (no_left _ _ (no_right (faults_of_pieces ps) _ own)) small
+  string_fits st h1 h2 = grind (arith, false, faults_of_pieces, is_endless, length, no_left, no_right, noted_stack, str, true, wide, width)
 
   chunk_is : faults_of_pieces ps ≡ [] → string_tree j.place j.kind (width j.mark (length x)) x ≡ string_of (str ps).kind (chunk (str ps))
   chunk_is none = let content = meant none in λ i. string_tree (is i).place (is i).kind (width (is i).mark (length (content i))) (content i)
 
   module _ (st : Stack) (s a : Span) where
     pub hands_chunk : (b : StringsBefore) → Hands (chunk_event (record { place = s.start; kind = kind_before b }) j (length x)) j.place x (builds (as_chunk st s b) ps) (wants_chunk st s (after_strings (strings b ps) a))
-    hands_chunk no_string q =
-        let none : faults_of_pieces ps ≡ [] = no_left _ _ (no_right (noted_stack st) _ q) in
-        (none_both (noted_stack st ++ []) (faults_of_pieces ps) (none_both (noted_stack st) [] (no_left (noted_stack st) _ q) refl) none, free st, λ i. inside (front_of st) (in_chunks s.start (is i).kind) (chunk_is none i ∷ []))
-    hands_chunk (after_strings ss c) q =
-        let own = no_right (faults_of_strings ss) (faults_of_pieces ps ++ chunk_errors (kind_in ss) (str ps)) (no_right (noted_stack st) _ q) in
-        let none : faults_of_pieces ps ≡ [] = no_left _ _ own in
-        let kinds : kind_in ss ≡ (str ps).kind = same_is _ _ (held _ (str ps).place MixedChunks (no_left _ _ (no_right (faults_of_pieces ps) _ own))) in
-        let so_far = map (string_of (kind_in ss)) (chunks ss) in
-        let stood = free st in (
-          none_both (noted_stack st ++ faults_of_strings ss) (faults_of_pieces ps) (none_both (noted_stack st) _ (no_left _ _ q) (no_left (faults_of_strings ss) _ (no_right (noted_stack st) _ q))) none,
-          ((stood.0, stood.1, (strings_held (kind_in ss) (chunks ss)).0), kinds ∙ ap (λ (y : Joint). y.kind) (sym is)),
-          ap (inside (front_of st) (in_chunks s.start (kind_in ss))) (ap (λ v. so_far ++ v ∷ []) (chunk_is none ∙ ap (λ l. string_of l (chunk (str ps))) (sym kinds)) ∙ sym (map-append (string_of (kind_in ss)) (chunks ss) (chunk (str ps) ∷ []))),
-        )
+    hands_chunk b = grind (arith, after_strings, chunk, chunk_errors, chunk_is, chunks, faults_of_pieces, faults_of_strings, free, front_of, held, in_chunks, inside, kind_in, map, map-append, no_left, no_right, no_string, none_both, noted_stack, same_is, str, string_of, strings_held)
 
     pub chunk_fits : (b : StringsBefore) → noted (wants_chunk st s (after_strings (strings b ps) a)) ≡ [] → length x < 2 ^ 64 → Fits (chunk_event (record { place = s.start; kind = kind_before b }) j (length x)) x
     chunk_fits no_string q small = let own = no_right (noted_stack st) _ q in wide false (no_left _ _ own) (no_left _ _ (no_right (faults_of_pieces ps) _ own)) small
@@ -86,10 +64,7 @@ module _ (ps : Pieces) {j : Joint} {x : List ℕ} (is : j ≡ joint (str ps)) (s
         wide false (no_left _ _ own) (no_left (mark_errors false (str ps)) _ (no_right _ _ (no_right (faults_of_pieces ps) _ own))) small
 
 pub hands_chunks_end : (st : Stack) (s a e : Span) (ss : Strings) → Hands Close 0 [] (wants_chunk st s (after_strings ss a)) (has st (chunked s ss e))
-hands_chunks_end st s a e ss =
-    let k = kind_in ss in
-    hands_close (wants_chunk st s (after_strings ss a)) (has st (chunked s ss e)) (front_of st) (in_chunks s.start k) (map (string_of k) (chunks ss)) refl (free st) (strings_held k (chunks ss)).0 tt (λ q. q)
-    (λ q. ap (put (front_of st)) (ap (chunks_tree s.start k) (strings_held k (chunks ss)).1 ∙ node_of k s.start (chunks ss)))
+hands_chunks_end st s a e ss = grind (arith, after_strings, chunked, chunks, chunks_tree, free, front_of, hands_close, has, in_chunks, kind_in, map, node_of, put, string_of, strings_held, wants_chunk)
 
 pub hands_text : (st : Stack) (a : Span) (x : List ℕ) (place : ℕ) (w : Width) → place ≡ a.start → w ≡ least (length x) → Hands (String OfText w) place x (wants st) (has st (text_item a x))
 hands_text st a x place w p e q = (no_left _ _ q, ((free st).0, takes (front_of st) OfText (free st)), (λ i. put (front_of st) (string_tree (p i) OfText (e i) x)) ∙ ap (put (front_of st)) (sym (text_node a x)))

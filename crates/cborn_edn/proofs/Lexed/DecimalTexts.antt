@@ -72,14 +72,7 @@ reads_number negative first body n m z h k d e = (
 )
 
 reads_tag : (first body : List ℕ) (n : ℕ) (m : Mark) (z : List ℕ) → IsMark m → AllDigits 10 body → integer false (first ++ body) ≡ Ok n → ReadsNumber false first (body ++ (indicator m ++ codes "(")) z (Read (TagOpen n m))
-reads_tag first body n m z h d e = (
-  true,
-  body,
-  indicator m,
-  codes "(",
-  record { run = record { pass = digits_pass is_numeral body refl d; ends = no_numeral m (40 ∷ z) h refl }; indicator = indicates m (40 ∷ z) h refl refl; tagging = (refl, refl, refl, refl); whole = refl },
-  sym (ap (λ o. number_front false true o (integer false (first ++ body))) (mark_is m h) ∙ ap (number_front false true (Some m)) e),
-)
+reads_tag first body n m z h1 h2 h3 = grind (arith, codes, digits_pass, false, indicates, indicator, integer, is_numeral, mark_is, no_numeral, number_front, true)
 
 pub number_text : (n : ℕ) (m : Mark) (z : List ℕ) → n < 2 ^ 65 → IsMark m → Closes z → Chained (decimal n ++ indicator m) z (token nowhere (Number false n m) ∷ [])
 number_text n m z l h k =

@@ -19,29 +19,25 @@ pick a b = cond (leb (rank a) (rank b)) a b
 
 picked : (a b : MeaningError) → earlier (Some a) (Some b) ≡ Some (pick a b)
 unfolding pick rank
-picked a b = ap (λ c. Some (cond c a b)) (by_parts a.place b.place (number_of a.reason) (number_of b.reason) (low_number a.reason) (low_number b.reason))
+picked a b = grind (arith, by_parts, cond, low_number, number_of, pick, rank)
 
 pick-first : (a b : MeaningError) → rank a ≤ rank b → pick a b ≡ a
 unfolding pick
-pick-first a b h1 = grind arith
+pick-first a b h1 = grind (arith, pick)
 
 pick-second : (a b : MeaningError) → rank b < rank a → pick a b ≡ b
 unfolding pick
-pick-second a b h1 = grind arith
+pick-second a b h1 = grind (arith, pick)
 
 pick-assoc : (a b c : MeaningError) → pick (pick a b) c ≡ pick a (pick b c)
 unfolding pick rank
-pick-assoc a b c = grind arith
+pick-assoc a b c = grind (arith, pick, rank)
 
 earlier-none : (a : Option MeaningError) → earlier a None ≡ a
 earlier-none a = grind arith
 
 earlier-assoc : (a b c : Option MeaningError) → earlier (earlier a b) c ≡ earlier a (earlier b c)
-earlier-assoc None b c = refl
-earlier-assoc (Some a) None c = refl
-earlier-assoc (Some a) (Some b) None = earlier-none (earlier (Some a) (Some b))
-earlier-assoc (Some a) (Some b) (Some c) =
-    ap (λ o. earlier o (Some c)) (picked a b) ∙ picked (pick a b) c ∙ ap Some (pick-assoc a b c) ∙ sym (picked a (pick b c)) ∙ ap (earlier (Some a)) (sym (picked b c))
+earlier-assoc a b c = grind (arith, earlier, earlier-none, pick, pick-assoc, picked)
 
 pub first-append : (a b : List MeaningError) → first_error (a ++ b) ≡ earlier (first_error a) (first_error b)
 first-append [] b = refl
@@ -57,7 +53,7 @@ Tells l (Some s) = IsFirstOf l s
 
 no_later_than : (a b : MeaningError) → rank a ≤ rank b → NoLater (a.place, number_of a.reason) (b.place, number_of b.reason)
 unfolding rank
-no_later_than a b h1 = grind arith
+no_later_than a b h1 = grind (arith, rank)
 
 reported_second : (s t : MeaningError) (l : List MeaningError) → IsFirstOf l t → rank t < rank s → IsFirstOf (s ∷ l) t
 reported_second s t l f h = first_right number_of _ (IsAmong l) t.place t.reason (λ q r e. rw (e.0, e.1) (no_later_than t s (omega arith))) f

@@ -24,11 +24,7 @@ module _ (j : Joint) (s : Str) (e : j ≡ joint s) where
   mark_wide may_end size old new h1 h2 h3 h4 = grind arith
 
   pub mark_unknown : (may_end : Bool) (old : Option MeaningError) → is_endless j.mark ≡ false → j.known ≡ false → Notes old old (mark_errors may_end s)
-  mark_unknown may_end old m k =
-      let sure : is_endless s.mark ≡ false = sym (ap (λ (x : Joint). is_endless x.mark) e) ∙ m in
-      let known : s.known ≡ false = sym (ap (λ (x : Joint). x.known) e) ∙ k in
-      subst (λ b. Notes old old (marked b s.known s (unless may_end s.mark_place IndicatorNotAllowed))) (sym sure)
-      (subst (λ b. Notes old old (marked false b s (unless may_end s.mark_place IndicatorNotAllowed))) (sym known) (none_noted old))
+  mark_unknown may_end old h1 h2 = grind (arith, false, is_endless, none_noted, unless)
 
   -- a piece after others
   pub piece_noted : (bare fits : Bool) (kind : StringKind) (place : ℕ) (t : Str) (old mid new : Option MeaningError) → kind ≡ t.kind → place ≡ t.place → bare ≡ is_absent j.mark → fits ≡ may_join j.kind kind

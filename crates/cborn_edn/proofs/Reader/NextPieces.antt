@@ -38,21 +38,11 @@ starts profile c s x z a h1 h2 h3 = grind arith
 
 -- the first token of a text that begins with that character
 first : (profile : Profile) {n m : ℕ} {x y : List ℕ} {ts : List Token} → Covers profile n x ts m y → (c : ℕ) (z : List ℕ) (t : Token) → Ends c → x ≡ c ∷ z → ts ≡ t ∷ [] → EndsPieces t.class
-first profile (good.end n x) c z t a e f = absurd (let bad : [] ≡ t ∷ [] = f in cc)
-first profile (good.white_space n m s x y ts r h) c z t a e f = absurd (starts profile c s x z WhiteSpace a (read profile r) e)
-first profile (good.token n m k s x y ts r h) c z t a e f = let token : k ≡ t.class = ap class_of_first f in subst (λ (j : Class). EndsPieces j) token (starts profile c s x z (Read k) a (read profile r) e)
-  where
-    class_of_first : List Token → Class
-    class_of_first [] = Comma
-    class_of_first (u ∷ us) = u.class
+first profile h1 c z t h2 h3 h4 = grind (arith, read, starts)
 
 -- no token begins an empty text
 none_begins : (profile : Profile) {n m : ℕ} {x y : List ℕ} {ts : List Token} → Covers profile n x ts m y → (t : Token) → x ≡ [] → ts ≡ t ∷ [] → ⊥
-none_begins profile (good.end n x) t e f = let bad : [] ≡ t ∷ [] = f in cc
-none_begins profile (good.white_space n m [] x y ts r h) t e f = read profile r
-none_begins profile (good.white_space n m (c ∷ s) x y ts r h) t e f = omega (arith, ap length e)
-none_begins profile (good.token n m k [] x y ts r h) t e f = read profile r
-none_begins profile (good.token n m k (c ∷ s) x y ts r h) t e f = omega (arith, ap length e)
+none_begins profile h1 t h2 h3 = grind (arith, length, read)
 
 -- LAW: the next token there ends the string
 pub next_ends : (profile : Profile) (text : List ℕ) (n m : ℕ) (t : Token) → NoPieceAt text n → TokensBetween profile text n m (t ∷ []) → EndsPieces t.class

@@ -60,9 +60,7 @@ modest_at p text at stop c are tok = (between_modest p text at stop (token_at at
 module _ {h : Holds} {p : Profile} {limit : ℕ} {text : List ℕ} {here : Here} {w : Writer} (r : IsReadTo h p limit text here w) where
   -- LAW: on with white space and comments
   pub skipped : (stop : ℕ) → TokensBetween p text here.at stop [] → IsReadTo h p limit text (record here { at = stop }) w × (here.at ≤ stop)
-  skipped stop white =
-      let within = inside p text here.at stop [] r.inside white in
-      (record { utf8 = r.utf8; small = r.small; inside = within.1; state = r.state; reached = skips p limit text here.at r.state r.reached stop white; shows = read_at here w w.pieces.items r.state stop r.shows }, within.0)
+  skipped stop h1 = grind (arith, inside, read_at, skips)
 
   pub skipped_to : (next : Here) → next ≡ record here { at = next.at } → TokensBetween p text here.at next.at [] → IsReadTo h p limit text next w × (here.at ≤ next.at)
   skipped_to next e white = let s = skipped next.at white in (subst (λ (x : Here). IsReadTo h p limit text x w) (sym e) s.0, s.1)
@@ -113,8 +111,7 @@ module _ {h : Holds} {p : Profile} {limit : ℕ} {text : List ℕ} {here : Here}
 
     -- from the state that is shown
     pub taken_from : (s u : State) → s ≡ r.state → step_by s c (span_at here.at stop) ≡ Some u → Reads k next left left.pieces.items u → forbids p (comma_at s c) ≡ false → reach (open_levels s) c ≤ limit → IsReadTo k p limit text (record next { at = stop }) left × (here.at < stop)
-    taken_from s u e is shows free low =
-        taken u (subst (λ (v : State). step_by v c (span_at here.at stop) ≡ Some u) e is) shows (subst (λ (v : State). forbids p (comma_at v c) ≡ false) e free) (subst (λ (v : State). reach (open_levels v) c ≤ limit) e low)
+    taken_from s u h1 h2 h3 h4 h5 = grind (arith, comma_at, false, forbids, open_levels, reach, step_by, taken)
 
     -- LAW: where an item is wanted
     pub item_taken : (here.phase ≡ phases.Wants) ⊎ (here.phase ≡ phases.WantsMore) → (v : Stack → State) → ((st : Stack) → step_by (wants st) c (span_at here.at stop) ≡ Some (v st)) → ((st : Stack) → Reads h here w w.pieces.items (wants st) → Reads k next left left.pieces.items (v st)) → ((st : Stack) → comma_in st c ≡ 0)

@@ -49,11 +49,7 @@ escape_below : (e : ℕ) → e < 128 → escape_code e < 128
 escape_below e h = grind arith
 
 hexes : (a b c d : ℕ) → are_hex a b c d ≡ true → (a < 128) × (b < 128) × (c < 128) × (d < 128) × (code a b c d < 2 ^ 16)
-hexes a b c d h =
-    let hs = and_parts (is_digit a 16 && is_digit b 16) (is_digit c 16 && is_digit d 16) h in
-    let ls = and_parts (is_digit a 16) (is_digit b 16) hs.0 in
-    let rs = and_parts (is_digit c 16) (is_digit d 16) hs.1 in
-    (digit_ascii a ls.0, digit_ascii b ls.1, digit_ascii c rs.0, digit_ascii d rs.1, omega (arith, ltb-true (digit_value a) 16 ls.0, ltb-true (digit_value b) 16 ls.1, ltb-true (digit_value c) 16 rs.0, ltb-true (digit_value d) 16 rs.1))
+hexes a b c d h1 = grind (arith, and_parts, digit_ascii, digit_value, is_digit, ltb-true)
 
 four_ascii : (a b c d : ℕ) (x : List ℕ) → (a < 128) × (b < 128) × (c < 128) × (d < 128) × (code a b c d < 2 ^ 16) → IsAscii x → IsAscii (92 ∷ 117 ∷ a ∷ b ∷ c ∷ d ∷ x)
 four_ascii a b c d x h k = IsAscii-cons 92 (117 ∷ a ∷ b ∷ c ∷ d ∷ x) (omega arith) (IsAscii-cons 117 (a ∷ b ∷ c ∷ d ∷ x) (omega arith) (IsAscii-cons a (b ∷ c ∷ d ∷ x) h.0 (IsAscii-cons b (c ∷ d ∷ x) h.1 (IsAscii-cons c (d ∷ x) h.2 (IsAscii-cons d x h.3 k)))))

@@ -108,8 +108,7 @@ one_token : (k : StringKind) (b : List ℕ) (m : Mark) → tokens_of_pieces (one
 one_token k b m = grind arith
 
 piece_at : {p : Profile} {d : ℕ} (k : StringKind) (a : Span) (b : List ℕ) (m : Mark) → IsPiece p d (token a (class_of k b m) ∷ []) (str_of k a b m) []
-piece_at OfBytes a b m = byte_piece a
-piece_at OfText a b m = text_piece a
+piece_at k a b m = grind (arith, byte_piece, text_piece)
 
 no_string_errors : (e : Bool) (k : StringKind) (a : Span) (w : Width) (b : List ℕ) → WidthFits w (length b) → is_good k b ≡ true → string_errors e (str_of k a b (mark_for w (length b))) ≡ []
 no_string_errors e k a w b h1 h2 = grind arith

@@ -98,5 +98,4 @@ module _ (p : Profile) where
     derived_fields (tree.tight_fields ps) d h a = tight_fields (derived_pairs ps d h a)
 
   pub derived_input : (t : Input) (d : ℕ) → depth_of_input t ≤ d → AllowsCount p (commas_of_input t) → IsText p d (tokens_of_input t) (nodes_of_input t) (faults_of_input t)
-  derived_input tree.nothing d h a = nothing
-  derived_input (tree.items r) d h a = items (derived_row r d h a)
+  derived_input t d h1 h2 = grind (arith, derived_row, items, nothing)

@@ -273,9 +273,7 @@ text_of p limit x t h k = subst (λ y. IsText p limit y (nodes_of_input t) (faul
 
 -- a text of the relation has a tree
 pub parsed : (p : Profile) (limit : ℕ) (x : List Token) (ts : Trees) (l : List MeaningError) → IsText p limit x ts l → Parsed p limit x ts l
-parsed p limit x ts l h =
-    let r = rebuilt_input p h in
-    record { tree = r.found; parse = record { is = r.tokens; allowed = r.allowed }; shallow = r.shallow; says = r.says; errors = r.errors }
+parsed p limit x ts l h1 = grind (arith, rebuilt_input)
 
 pub said_by : (p : Profile) (limit : ℕ) (x : List Token) (ts : Trees) (l : List MeaningError) → Parsed p limit x ts l → IsText p limit x ts l
 said_by p limit x ts l h = subst (λ us. IsText p limit x us l) h.says (subst (IsText p limit x (nodes_of_input h.tree)) h.errors (text_of p limit x h.tree h.parse h.shallow))

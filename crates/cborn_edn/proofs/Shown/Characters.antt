@@ -11,12 +11,10 @@ use Rattle.cborn_edn.proofs.Shown.Lowests.{utf8_is}
 
 each_low : passes (λ b. ltb 0 (length (escaped b)) && is_low (escaped b)) 0 128 ≡ true
 unfolding encode_with
-each_low  = grind arith
+each_low  = grind (arith, encode_with)
 
 escaped_low : (b : ℕ) → b < 128 → IsAscii (escaped b) × (0 < length (escaped b))
-escaped_low b h =
-    let e = and_parts (ltb 0 (length (escaped b))) (is_low (escaped b)) (passes_at (λ b. ltb 0 (length (escaped b)) && is_low (escaped b)) 0 128 b each_low (omega arith) (omega arith)) in
-    (low_ascii (escaped b) e.1, ltb-true 0 (length (escaped b)) e.0)
+escaped_low b h1 = grind (arith, and_parts, each_low, escaped, is_low, length, low_ascii, ltb, ltb-true, passes_at)
 
 -- a byte that isn't ASCII stands for itself
 plain : (b : ℕ) → 128 ≤ b → escaped b ≡ b ∷ []
@@ -114,10 +112,7 @@ some_chunks : (k : StringKind) (cs : List Chunk) → AreGood k cs → IsUtf8 (co
 some_chunks k cs h = IsUtf8-append _ _ (ascii (codes "(_ ") refl) (IsUtf8-append _ _ (joined_text (codes ", ") _ (ascii (codes ", ") refl) (each_chunk k cs h)) (ascii (codes ")") refl))
 
 chunks_text : (k : StringKind) (cs : List Chunk) → AreGood k cs → IsUtf8 (shown_chunks k cs)
-chunks_text OfBytes [] h = ascii _ refl
-chunks_text OfText [] h = ascii _ refl
-chunks_text OfBytes (c ∷ cs) h = some_chunks OfBytes (c ∷ cs) h
-chunks_text OfText (c ∷ cs) h = some_chunks OfText (c ∷ cs) h
+chunks_text k cs h1 = grind (arith, ascii, some_chunks)
 
 simple_text : (n : ℕ) → n < 256 → IsUtf8 (shown_simple n)
 simple_text n h = go (eqb n 20) (eqb n 21) (eqb n 22) (eqb n 23)
@@ -162,8 +157,7 @@ is_text nodes text fits shown = is_utf8-from_IsUtf8 text shown.0
 -- Nodes that fit, one after another.
 
 pub fits_more : (xs : List Tree) (i : ℕ) (x : Tree) → i < length xs → x ≡ get_or xs i x → FitsAll (trees (take i xs)) → Fits x → FitsAll (trees (take (i + 1) xs))
-fits_more xs i x h is all fits =
-    subst (λ ys. FitsAll (trees ys)) (sym (take_more xs i x h ∙ ap (λ y. take i xs ++ y ∷ []) (sym is))) (fits_last (take i xs) x all fits)
+fits_more xs i x h1 h2 h3 h4 = grind (arith, fits_last, take, take_more, trees)
 
 pub fits_whole : (xs : List Tree) (i : ℕ) → length xs ≤ i → FitsAll (trees (take i xs)) → FitsAll (trees xs)
 fits_whole xs i h all = subst (λ ys. FitsAll (trees ys)) (take_all i xs h) all

@@ -1,6 +1,6 @@
 -- The text of nodes doesn't depend on their places.
 use Rattle.std.specs.Prelude.{◌≡◌, ◌∷◌, ◌++◌}
-use Rattle.cborn_edn.proofs.Common.{refl, sym, ap, ◌∙◌, subst, ℕ, List, [], map, decimal, Chunk, Tree, ByteChunks, TextChunks, Items, Pairs, Tagged, Trees, more, Entries, no_entry, entry, StringKind, OfBytes, OfText, FitsAll, Shown, AreShowable, mark_for, mark_for_size, indicator, opened, shown_chunk, joined_by, shown_chunks, shown, item_texts, pair_texts, shown_lines, unplaced_chunks, unplaced, unplaced_all, unplaced_entries, codes, no_node as no_item}
+use Rattle.cborn_edn.proofs.Common.{arith, refl, sym, ap, ◌∙◌, subst, ℕ, List, [], map, decimal, Chunk, Tree, ByteChunks, TextChunks, Items, Pairs, Tagged, Trees, more, Entries, no_entry, entry, StringKind, OfBytes, OfText, FitsAll, Shown, AreShowable, mark_for, mark_for_size, indicator, opened, shown_chunk, joined_by, shown_chunks, shown, item_texts, pair_texts, shown_lines, unplaced_chunks, unplaced, unplaced_all, unplaced_entries, codes, no_node as no_item}
 use Rattle.cborn_edn.proofs.Shown.Readable.{readable}
 use Rattle.cborn_edn.proofs.RoundTrip.Unplaced.{same_fit}
 use Rattle.cborn_edn.proofs.RoundTrip.Back.{count-unplaced, count-unplaced_entries}
@@ -10,10 +10,7 @@ each_chunk k [] = refl
 each_chunk k (c ∷ cs) = ap (λ l. shown_chunk k c ∷ l) (each_chunk k cs)
 
 chunks : (k : StringKind) (cs : List Chunk) → shown_chunks k (unplaced_chunks cs) ≡ shown_chunks k cs
-chunks OfBytes [] = refl
-chunks OfText [] = refl
-chunks OfBytes (c ∷ cs) = ap (λ l. codes "(_ " ++ (joined_by (codes ", ") l ++ codes ")")) (each_chunk OfBytes (c ∷ cs))
-chunks OfText (c ∷ cs) = ap (λ l. codes "(_ " ++ (joined_by (codes ", ") l ++ codes ")")) (each_chunk OfText (c ∷ cs))
+chunks k cs = grind (arith, codes, each_chunk, joined_by)
 
 mutual
   same_node : (t : Tree) → shown (unplaced t) ≡ shown t
