@@ -73,16 +73,11 @@ no_integer_is n x r (bad.bad nf nl) = go (integer n x) refl
     go (Err s) e = e ∙ only s (judge n x (Err s) e)
 
 bad_front : (n tagged : Bool) (v : ℕ) → number_front n tagged None (Ok v) ≡ Bad BadIndicator
-bad_front n true v = refl
-bad_front n false v = refl
+bad_front n tagged v = grind arith
 
 -- a number ends before an indicator
 mark_ends : (m z : List ℕ) → IsIndicator m z → mark_of m ≡ None → begins is_numeral (m ++ z) ≡ false
-mark_ends [] z i e = absurd (clash e)
-  where
-    clash : Some Absent ≡ None → ⊥
-    clash e = cc
-mark_ends (c ∷ m) z i e = subst (λ k. is_numeral k ≡ false) (sym (eqb-true c 95 i.0)) refl
+mark_ends m z h1 h2 = grind arith
 
 -- The last character of a text, or d.
 abbrev last_of : ℕ → List ℕ → ℕ
@@ -249,11 +244,7 @@ module _ (p : Profile) where
   -- each reason
 
   at_quote : (P : ℕ → Type 0) (q : ℕ) → is_quote q ≡ true → P 34 → P 39 → P q
-  at_quote P q e a b = go (or_cases (eqb q 34) (eqb q 39) e)
-    where
-      go : (eqb q 34 ≡ true) ⊎ (eqb q 39 ≡ true) → P q
-      go (inl h) = subst P (sym (eqb-true q 34 h)) a
-      go (inr h) = subst P (sym (eqb-true q 39 h)) b
+  at_quote P q h1 h2 h3 = grind arith
 
   is_open : (q : ℕ) → eqb q 92 ≡ false → (y : List ℕ) → ((x z : List ℕ) → is_content q x ≡ true → y ≡ x ++ q ∷ z → ⊥) → is_unclosed q y ≡ true
   is_open q ne y denied = go ((quoted q ne).find y)

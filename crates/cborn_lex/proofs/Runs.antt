@@ -22,24 +22,13 @@ abbrev below : ℕ → ℕ → ℕ
 below a b = cond (ltb a b) 255 0
 
 tops : (a b c : Bool) → top 7 (bit_or (bit_or (cond a 255 0) (cond b 255 0)) (cond c 255 0)) ≡ not ((not c && not b) && not a)
-tops true true true = refl
-tops true true false = refl
-tops true false true = refl
-tops true false false = refl
-tops false true true = refl
-tops false true false = refl
-tops false false true = refl
-tops false false false = refl
+tops a b c = grind arith
 
 not_below : (a b : ℕ) → not (ltb a b) ≡ leb b a
-not_below a b = elim (leb_tells (suc a) b) [
-  | inl p ↦ elim (leb_tells b a) [ inl q ↦ absurd (omega (arith, p.1, q.1)) | inr q ↦ ap not p.0 ∙ sym q.0 ]
-  | inr p ↦ elim (leb_tells b a) [ inl q ↦ ap not p.0 ∙ sym q.0 | inr q ↦ absurd (omega (arith, p.1, q.1)) ]
-]
+not_below a b = grind arith
 
 lanes : (q : ℕ) (v : List ℕ) → map (λ c. top 7 (bit_or (bit_or (hit c q) (hit c 92)) (below c 32))) v ≡ map (is_special q) v
-lanes q [] = refl
-lanes q (c ∷ v) = ap₂ (λ b bs. b ∷ bs) (tops (eqb c q) (eqb c 92) (ltb c 32) ∙ ap (λ b. not ((b && not (eqb c 92)) && not (eqb c q))) (not_below c 32)) (lanes q v)
+lanes q v = grind arith
 
 pub marked_lanes : (width q : ℕ) (v : List ℕ) → width ≤ 64 → length v ≡ width → mask_l (map (top 7) (zip2 bit_or (zip2 bit_or (zip2 hit v (replicate width q)) (zip2 hit v (replicate width 92))) (zip2 below v (replicate width 32)))) % 2 ^ 64 ≡ mask_l (map (is_special q) v)
 marked_lanes width q v most long =
@@ -54,8 +43,7 @@ marked_lanes width q v most long =
 -- How many come before the lowest bit.
 
 first_plain : (q : ℕ) (b : Bool) (c n : ℕ) (x : List ℕ) → is_plain q c ≡ b → list_all (is_plain q) (take n x) ≡ true → list_all (is_plain q) (take (cond (not (not b)) (1 + n) 0) (c ∷ x)) ≡ true
-first_plain q false c n x e h = refl
-first_plain q true c n x e h = let one : suc n ≡ 1 + n = omega arith in subst (λ (k : ℕ). list_all (is_plain q) (take k (c ∷ x)) ≡ true) one (and_from (is_plain q c) (list_all (is_plain q) (take n x)) e h)
+first_plain q b c n x h1 h2 = grind arith
 
 all_plain : (q : ℕ) (x : List ℕ) → list_all (is_plain q) (take (prefix_len (λ c. not (is_special q c)) x) x) ≡ true
 all_plain q [] = refl
@@ -87,8 +75,7 @@ module _ (width q : ℕ) (tail : List ℕ) (at found : ℕ) (most : width ≤ 64
 -- The bits that are left of a block, once some of its letters are read.
 
 half : (b : Bool) (m : ℕ) → (cond b 1 0 + 2 * m) / 2 ^ 1 ≡ m
-half true m = let e : 1 + 2 * m ≡ m * 2 ^ 1 + 1 = omega arith in ap (λ n. n / 2 ^ 1) e ∙ shr_high m 1 1 (omega arith)
-half false m = let e : 0 + 2 * m ≡ m * 2 ^ 1 + 0 = omega arith in ap (λ n. n / 2 ^ 1) e ∙ shr_high m 1 0 (omega arith)
+half b m = grind arith
 
 bits_after : (k : ℕ) (bs : List Bool) → mask_l bs / 2 ^ k ≡ mask_l (drop k bs)
 bits_after zero bs = let e : mask_l bs ≡ mask_l bs * 2 ^ 0 + 0 = omega arith in ap (λ m. m / 2 ^ 0) e ∙ shr_high (mask_l bs) 0 0 (omega arith)
@@ -200,8 +187,7 @@ abbrev Quote : ℕ → Type 0
 Quote q = (q ≡ 34) ⊎ (q ≡ 39)
 
 entries_are : (q : ℕ) → Quote q → entries q 0 meanings ≡ true
-entries_are q (inl e) = rw e refl
-entries_are q (inr e) = rw e refl
+entries_are q h1 = grind arith
 
 pub meant_by : (q e : ℕ) → Quote q → e < 128 → (get_or meanings e 0 ≡ 0 → ⊥) → (get_or meanings e 0 ≡ 39 → q ≡ 39) → (is_escape q e ≡ true) × (get_or meanings e 0 ≡ escape_code e)
 meant_by q e quote l n m =
@@ -282,8 +268,7 @@ escape_more q tail old mid new at c size quote l b e w s =
 -- Where nothing goes on.
 
 pub no_slash : (q : ℕ) → Quote q → eqb q 92 ≡ false
-no_slash q (inl e) = rw e refl
-no_slash q (inr e) = rw e refl
+no_slash q h1 = grind arith
 
 split : (i k : ℕ) (tail : List ℕ) → i < length tail → take (i + suc k) tail ≡ take i tail ++ get_or tail i 0 ∷ take k (drop (i + 1) tail)
 split i k tail h = take-add i (suc k) tail ∙ ap (λ z. take i tail ++ z) (ap (take (suc k)) (drop_more tail i 0 h))
@@ -318,25 +303,20 @@ module _ (q : ℕ) (tail old mid : List ℕ) (at : ℕ) (quote : Quote q) (s : L
 -- an escape that fails fails in a shorter text too
 
 low_fails : (n : ℕ) (x z : List ℕ) → paired n (low_code (x ++ z)) ≡ None → paired n (low_code x) ≡ None
-low_fails n (s ∷ u ∷ e ∷ f ∷ g ∷ h ∷ x) z k = k
-low_fails n _ z k = refl
+low_fails n x z h1 = grind arith
 
 unit_chosen : (a b : Bool) (u v w : Option (ℕ × ℕ)) → (v ≡ None → u ≡ None) → cond a v w ≡ None → cond a u w ≡ None
-unit_chosen true b u v w f h = f h
-unit_chosen false b u v w f h = h
+unit_chosen a b u v w h1 h2 = grind arith
 
 unit_fails : (b : Bool) (n : ℕ) (x z : List ℕ) → unit_from (cond b (Some n) None) (x ++ z) ≡ None → unit_from (cond b (Some n) None) x ≡ None
-unit_fails true n x z h = unit_chosen (is_high n) true (paired n (low_code x)) (paired n (low_code (x ++ z))) _ (low_fails n x z) h
-unit_fails false n x z h = refl
+unit_fails b n x z h1 = grind arith
 
 units_fail : (x z : List ℕ) → unit_from (code_at (x ++ z)) (drop 4 (x ++ z)) ≡ None → unit_from (code_at x) (drop 4 x) ≡ None
 units_fail (a ∷ b ∷ c ∷ d ∷ x) z h = unit_fails (are_hex a b c d) (code a b c d) x z h
 units_fail _ z h = refl
 
 escape_chosen : (a b : Bool) (s u v : Option (ℕ × ℕ)) → (v ≡ None → u ≡ None) → cond a s (cond b v None) ≡ None → cond a s (cond b u None) ≡ None
-escape_chosen true b s u v f h = h
-escape_chosen false true s u v f h = f h
-escape_chosen false false s u v f h = refl
+escape_chosen a b s u v h1 h2 = grind arith
 
 escape_fails : (q : ℕ) (x z : List ℕ) → escape_of q (x ++ z) ≡ None → escape_of q x ≡ None
 escape_fails q [] z h = refl

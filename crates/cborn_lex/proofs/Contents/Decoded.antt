@@ -18,8 +18,7 @@ bytes_at (c ∷ x) h zero = ltb-true c 256 (and_parts _ _ h).0
 bytes_at (c ∷ x) h (suc i) = bytes_at x (and_parts _ _ h).1 i
 
 none_parts : (x y : Option DecodeError) → or_else x y ≡ None → (x ≡ None) × (y ≡ None)
-none_parts None y h = (refl, h)
-none_parts (Some e) y h = cc h
+none_parts x y h1 = grind arith
 
 group_is : (a b c d : ℕ) → a < 64 → b < 64 → c < 64 → d < 64 → are_bytes (decode_group a b c d) ≡ true
 group_is a b c d h k l m = and_from _ _ (lt-ltb (a * 4 + b / 16) 256 (omega arith)) (and_from _ _ (lt-ltb (b % 16 * 16 + c / 4) 256 (omega arith)) (and_from _ _ (lt-ltb (c % 4 * 64 + d) 256 (omega arith)) refl))
@@ -46,11 +45,7 @@ taken (suc n) [] h = refl
 taken (suc n) (c ∷ x) h = let hs = and_parts (is_byte c) (are_bytes x) h in and_from _ _ hs.0 (taken n x hs.1)
 
 zeros : (k : ℕ) → slice_index (0 ∷ 0 ∷ 0 ∷ 0 ∷ []) k < 64
-zeros zero = omega arith
-zeros (suc zero) = omega arith
-zeros (suc (suc zero)) = omega arith
-zeros (suc (suc (suc zero))) = omega arith
-zeros (suc (suc (suc (suc k)))) = omega arith
+zeros k = grind arith
 
 result_cases : {X : Type 0} (r : Result X DecodeError) → ((x : X) × (r ≡ Ok x)) ⊎ ((e : DecodeError) × (r ≡ Err e))
 result_cases (Ok x) = inl (x, refl)
@@ -73,8 +68,7 @@ last dec s pad at table bytes = elim (result_cases (scan_last dec pad at s)) [
 ]
 
 outcome : (x : Option DecodeError) (d b : List ℕ) → decode_outcome x d ≡ Ok b → (x ≡ None) × (d ≡ b)
-outcome None d b h = (refl, cc h)
-outcome (Some e) d b h = cc h
+outcome x d b h1 = grind arith
 
 pub decoded_are_bytes : (e : GeneralPurpose) (s b : List ℕ) → IsBytes s → decode_of e s ≡ Ok b → are_bytes b ≡ true
 decoded_are_bytes e s b bytes h =

@@ -1,5 +1,5 @@
 -- A content of h'..' stands for some bytes or for none.
-use Rattle.cborn_lex.proofs.Common.{IfOk, refl, sym, ap, ◌∙◌, subst, ℕ, List, [], length, take, drop, get_or, Bool, true, false, not, cond, eqb, inl, inr, Option, Some, None, Result, Ok, Err, append_assoc, length-append, eq-eqb, false≢true, drop_more, drop_all, cond-true, cond-false, and_parts, and_from, eqb-true, not-true, or_cases, list_all, is_digit, is_not, is_white, onto, strip, after, HasDigits, nothing, space, comment, IsHex}
+use Rattle.cborn_lex.proofs.Common.{arith, IfOk, refl, sym, ap, ◌∙◌, subst, ℕ, List, [], length, take, drop, get_or, Bool, true, false, not, cond, eqb, inl, inr, Option, Some, None, Result, Ok, Err, append_assoc, length-append, eq-eqb, false≢true, drop_more, drop_all, cond-true, cond-false, and_parts, and_from, eqb-true, not-true, or_cases, list_all, is_digit, is_not, is_white, onto, strip, after, HasDigits, nothing, space, comment, IsHex}
 use Rattle.std.specs.Prelude.{◌/◌, ◌%◌, MatchResult, ◌≡◌, ◌+◌, ◌<◌, ◌≤◌, ◌∷◌, ◌++◌, ◌⊎◌}
 use Rattle.std.specs.Result.{is_ok}
 use Rattle.std.proofs.Math.Seq.{take-append_seam}
@@ -12,10 +12,7 @@ at_char : (c k : ℕ) → is_digit k 16 ≡ false → eqb c k ≡ true → is_di
 at_char c k h e = ap (λ d. is_digit d 16) (eqb-true c k e) ∙ h
 
 white_no_digit : (c : ℕ) → is_white c ≡ true → is_digit c 16 ≡ false
-white_no_digit c h = elim (or_cases _ _ h) [
-  | inl h ↦ elim (or_cases _ _ h) [ inl e ↦ at_char c 32 refl e | inr e ↦ at_char c 9 refl e ]
-  | inr h ↦ elim (or_cases _ _ h) [ inl e ↦ at_char c 10 refl e | inr e ↦ at_char c 13 refl e ]
-]
+white_no_digit c h1 = grind arith
 
 strip_comment : (body x : List ℕ) → list_all (is_not 47) body ≡ true → strip true (body ++ 47 ∷ x) ≡ strip false x
 strip_comment [] x h = refl
@@ -41,8 +38,7 @@ Stripped false x (Some ds) = HasDigits x ds
 Stripped true x (Some ds) = Inside x ds
 
 chosen : (i : Bool) (x : List ℕ) (b : Bool) (r s : Option (List ℕ)) → (b ≡ true → Stripped i x r) → (b ≡ false → Stripped i x s) → Stripped i x (cond b r s)
-chosen i x true r s f g = f refl
-chosen i x false r s f g = g refl
+chosen i x b r s h1 h2 = grind arith
 
 digit_more : (c : ℕ) (x : List ℕ) (o : Option (List ℕ)) → is_digit c 16 ≡ true → Stripped false x o → Stripped false (c ∷ x) (onto c o)
 digit_more c x None h k = tt
@@ -129,11 +125,7 @@ hex_none x ds digits (Err f) e same h = h
 -- the bytes of digits, put where there is room for them
 
 pub decoded_ok : (d new : List ℕ) (n : ℕ) (r : Result (Unit {0}) FromHexError) → length d / 2 ≡ n → is_ok r ≡ true → MatchResult (decode_sized d n) (λ bytes. (r ≡ Ok tt) × (new ≡ bytes)) (λ e. r ≡ Err e) → decode_of d ≡ Ok new
-decoded_ok d new n r half ok h = go (decode_sized d n) (ap (λ b. cond (eqb (length d % 2) 1) (Err OddLength) (cond b (decode_pairs 0 d) (Err InvalidStringLength))) (eq-eqb (length d / 2) n half)) h
-  where
-    go : (o : Result (List ℕ) FromHexError) → o ≡ decode_of d → MatchResult o (λ bytes. (r ≡ Ok tt) × (new ≡ bytes)) (λ e. r ≡ Err e) → decode_of d ≡ Ok new
-    go (Ok bytes) e h = sym e ∙ ap Ok (sym h.1)
-    go (Err f) e h = absurd (false≢true (sym (ap is_ok h) ∙ ok))
+decoded_ok d new n r h1 h2 h3 = grind arith
 
 pub appended : (old made rest items : List ℕ) (len : ℕ) → len ≡ length old + length made → take len ((old ++ (made ++ rest)) ++ items) ≡ old ++ made
 appended old made rest items len e =
@@ -143,8 +135,7 @@ appended old made rest items len e =
 -- The loop.
 
 pub after_none : (o : Option (List ℕ)) → after [] o ≡ o
-after_none None = refl
-after_none (Some x) = refl
+after_none o = grind arith
 
 -- after all of it
 pub at_end : (content ds : List ℕ) (at : ℕ) (i : Bool) → length content ≤ at → after ds (strip i (drop at content)) ≡ strip false content → strip false content ≡ after ds (strip i [])
@@ -155,11 +146,7 @@ after_onto ds c None = refl
 after_onto ds c (Some x) = ap Some (sym (append_assoc ds (c ∷ []) x))
 
 pub at_inside : (ds x : List ℕ) (c : ℕ) → after ds (strip true (c ∷ x)) ≡ after ds (strip (not (eqb c 47)) x)
-at_inside ds x c = ap (after ds) (go (eqb c 47))
-  where
-    go : (b : Bool) → cond b (strip false x) (strip true x) ≡ strip (not b) x
-    go true = refl
-    go false = refl
+at_inside ds x c = grind arith
 
 pub at_digit : (ds x : List ℕ) (c : ℕ) → is_digit c 16 ≡ true → after ds (strip false (c ∷ x)) ≡ after (ds ++ c ∷ []) (strip false x)
 at_digit ds x c h = ap (after ds) (cond-true (is_digit c 16) _ _ h) ∙ after_onto ds c (strip false x)

@@ -7,17 +7,13 @@ use Rattle.cborn_lex.proofs.Sliced.Pieces.{front_is}
 -- Codes.
 
 pub no_code : (x : List ℕ) → are_hex (get_or x 0 0) (get_or x 1 0) (get_or x 2 0) (get_or x 3 0) ≡ false → code_at x ≡ None
-no_code (a ∷ b ∷ c ∷ d ∷ x) h = cond-false (are_hex a b c d) _ _ h
-no_code _ h = refl
+no_code x h1 = grind arith
 
 low_from : (a b : Bool) (n m : ℕ) → cond a (Some n) None ≡ Some m → is_low m ≡ false → cond (b && (a && is_low n)) (Some n) None ≡ None
-low_from true true n m e h = let same : n ≡ m = cc in rw (same, h) refl
-low_from false true n m e h = refl
-low_from _ _ n m e h = refl
+low_from a b n m h1 h2 = grind arith
 
 pub no_low : (x : List ℕ) (n : ℕ) → code_at (drop 2 x) ≡ Some n → is_low n ≡ false → low_code x ≡ None
-no_low (s ∷ u ∷ e ∷ f ∷ g ∷ k ∷ x) n i h = low_from (are_hex e f g k) (eqb s 92 && eqb u 117) (code e f g k) n i h
-no_low _ n _ h = refl
+no_low x n h1 h2 = grind arith
 
 -- A letter, and what the code finds of it.
 
@@ -33,12 +29,10 @@ found None = None
 found (Some r) = Some (char_of r.0, length (written r.0))
 
 found_if : (b : Bool) (r s : Option (Letter × List ℕ)) → found (cond b r s) ≡ cond b (found r) (found s)
-found_if true r s = refl
-found_if false r s = refl
+found_if b r s = grind arith
 
 paired_if : (b : Bool) (n m : ℕ) → cond b (Some (0x1_0000 + (n - 0xD800) * 0x400 + (m - 0xDC00), 12)) None ≡ paired n (cond b (Some m) None)
-paired_if true n m = refl
-paired_if false n m = refl
+paired_if b n m = grind arith
 
 low_found : (a b c d : ℕ) (x : List ℕ) → found (low_at a b c d x) ≡ paired (code a b c d) (low_code x)
 low_found a b c d (s ∷ u ∷ e ∷ f ∷ g ∷ h ∷ x) =
@@ -46,8 +40,7 @@ low_found a b c d (s ∷ u ∷ e ∷ f ∷ g ∷ h ∷ x) =
 low_found a b c d _ = refl
 
 unit_if : (a b : Bool) (n : ℕ) (o : Option (ℕ × ℕ)) (x : List ℕ) → o ≡ paired n (low_code x) → cond a (cond (is_high n) o (cond (is_low n) None (Some (n, 6)))) None ≡ unit_from (cond a (Some n) None) x
-unit_if true b n o x h = rw h refl
-unit_if false b n o x h = refl
+unit_if a b n o x h1 = grind arith
 
 unit_found : (x : List ℕ) → found (unit_at x) ≡ unit_from (code_at x) (drop 4 x)
 unit_found (a ∷ b ∷ c ∷ d ∷ x) =
@@ -62,8 +55,7 @@ escape_found q (e ∷ x) =
     found_if (is_escape q e) _ _ ∙ ap (λ o. cond (is_escape q e) (Some (escape_code e, 2)) o) (found_if (eqb e 117) (unit_at x) None ∙ ap (λ o. cond (eqb e 117) o None) (unit_found x))
 
 found_none : (o : Option (Letter × List ℕ)) → found o ≡ None → o ≡ None
-found_none None h = refl
-found_none (Some r) h = cc
+found_none o h1 = grind arith
 
 -- A letter's bytes are its character in UTF-8.
 
@@ -81,10 +73,7 @@ escape_bytes q e h = elim (or_cases _ _ h) [
 ]
 
 pub no_raw : (q d : ℕ) (x y : List ℕ) → LetterAt q (92 ∷ x) (raw d) y → ⊥
-no_raw q d x y h =
-    let ks = and_parts (leb 32 d) (not (eqb d 92)) h.allowed in
-    let same : 92 ≡ d = let e = h.whole in cc in
-    false≢true (sym (not-true _ ks.1) ∙ eq-eqb d 92 (sym same))
+no_raw q d x y h1 = grind arith
 
 meant_is : (q : ℕ) (l : Letter) (x y : List ℕ) → LetterAt q (92 ∷ x) l y → meant l ≡ encode_utf8 (char_of l)
 meant_is q (raw d) x y h = absurd (no_raw q d x y h)
@@ -124,8 +113,7 @@ pub no_escape : (q : ℕ) (x : List ℕ) → escape_of q x ≡ None → NoLetter
 no_escape q x e = no_letters q 92 x (found_none (escape_at q x) (escape_found q x ∙ e))
 
 pub not_raw : (a b : Bool) → (a && not b) ≡ false → b ≡ false → a ≡ false
-not_raw false b h k = refl
-not_raw true b h k = absurd (false≢true (sym h ∙ ap not k))
+not_raw a b h1 h2 = grind arith
 
 pub no_control : (q c : ℕ) (x : List ℕ) → is_raw c ≡ false → (c ≡ 92 → ⊥) → NoLetters q (c ∷ x)
 no_control q c x h k =

@@ -66,8 +66,7 @@ MatchAt q x (Some r) = LetterAt q x r.0 r.1
 
 -- a choice, by its test
 chosen : (q : ℕ) (x : List ℕ) (b : Bool) (r s : Option (Letter × List ℕ)) → (b ≡ true → MatchAt q x r) → (b ≡ false → MatchAt q x s) → MatchAt q x (cond b r s)
-chosen q x true r s f g = f refl
-chosen q x false r s f g = g refl
+chosen q x b r s h1 h2 = grind arith
 
 low_at_is : (q a b c d : ℕ) (x : List ℕ) → are_hex a b c d ≡ true → is_high (code a b c d) ≡ true → MatchAt q (four a b c d ++ x) (low_at a b c d x)
 low_at_is q a b c d (s ∷ u ∷ e ∷ f ∷ g ∷ h ∷ x) k l =
@@ -141,10 +140,7 @@ abbrev pub NoLetters : ℕ → List ℕ → Type 0
 NoLetters q x = (ls : List Letter) → list_all (is_letter q) ls ≡ true → x ≡ flat_map written ls → ⊥
 
 pub longer : (l : Letter) (y : List ℕ) → length y < length (written l ++ y)
-longer (raw c) y = omega arith
-longer (escaped e) y = omega arith
-longer (unit a b c d) y = omega arith
-longer (pair a b c d e f g h) y = omega arith
+longer l y = grind arith
 
 pub no_letters : (q c : ℕ) (x : List ℕ) → letter_at q (c ∷ x) ≡ None → NoLetters q (c ∷ x)
 no_letters q c x e [] h k = cc

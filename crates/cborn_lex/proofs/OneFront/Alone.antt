@@ -1,6 +1,6 @@
 -- The front of a text is one thing.
 use Rattle.std.specs.Prelude.{◌≡◌, ◌∷◌, ◌++◌, ◌&&◌}
-use Rattle.cborn_lex.proofs.Common.{refl, sym, ap, ◌∙◌, subst, ℕ, List, [], Bool, true, false, not, eqb, inl, inr, Option, append_assoc, append-nil, and_from, eqb-true, both_ways, true≢false, list_all, bytes_eq, codes, Profile, One, Two, Mark, LexReason, BadEscape, BadHex, BadBase64, Class, EmbedClose, Text, Bytes, Front, is_word, is_numeral, is_not, begins, mark_of, marked, integer, number_front, IsText, IsHex, IsBase64, Lacks, ContentGives, Closed, IsString, Prefix, hexadecimal, base64, unknown, prefix_of, IsPrefixed, IsAfterWord, ReadsWord, IsTag, ReadsNumber, double, simple, Start, white, slash, hash, less, greater, paren, letter, minus, digit, other, single, opening, start_of, paren_front, ReadsFrom, Reads}
+use Rattle.cborn_lex.proofs.Common.{arith, refl, sym, ap, ◌∙◌, subst, ℕ, List, [], Bool, true, false, not, eqb, inl, inr, Option, append_assoc, append-nil, and_from, eqb-true, both_ways, true≢false, list_all, bytes_eq, codes, Profile, One, Two, Mark, LexReason, BadEscape, BadHex, BadBase64, Class, EmbedClose, Text, Bytes, Front, is_word, is_numeral, is_not, begins, mark_of, marked, integer, number_front, IsText, IsHex, IsBase64, Lacks, ContentGives, Closed, IsString, Prefix, hexadecimal, base64, unknown, prefix_of, IsPrefixed, IsAfterWord, ReadsWord, IsTag, ReadsNumber, double, simple, Start, white, slash, hash, less, greater, paren, letter, minus, digit, other, single, opening, start_of, paren_front, ReadsFrom, Reads}
 use Rattle.cborn_lex.specs.Forms.{Through}
 use Rattle.cborn_lex.proofs.OneFront.Runs.{rest, one_run, one_indicator, Closer, plain}
 use Rattle.cborn_lex.proofs.OneFront.Found.{UpTo}
@@ -111,10 +111,7 @@ words c s z t w a b (word, after, h, i, j) (name, then, k, l, m) e =
 -- Numbers.
 
 tags : (negative p q : Bool) (s z t w : List ℕ) → IsTag negative p s z → IsTag negative q t w → s ++ z ≡ t ++ w → (s ≡ t) × (p ≡ q)
-tags negative p q [] z [] w h k e = (refl, h.0 ∙ sym k.0)
-tags negative p q [] z (d ∷ t) w h k e = absurd (both_ways _ h.1 (and_from _ _ (ap not k.1) (ap (begins (λ c. eqb c 40)) e ∙ k.2)))
-tags negative p q (c ∷ s) z [] w h k e = absurd (both_ways _ k.1 (and_from _ _ (ap not h.1) (ap (begins (λ d. eqb d 40)) (sym e) ∙ h.2)))
-tags negative p q (c ∷ s) z (d ∷ t) w h k e = (ap (λ x. x ∷ s) (same_head e).0 ∙ ap (λ x. d ∷ x) (h.3 ∙ sym k.3), h.0 ∙ sym k.0)
+tags negative p q s z t w h1 h2 h3 = grind arith
 
 number_text : (body mark tag s z : List ℕ) → s ≡ body ++ (mark ++ tag) → s ++ z ≡ body ++ (mark ++ (tag ++ z))
 number_text body mark tag s z h = ap (λ x. x ++ z) h ∙ simp append_assoc

@@ -12,19 +12,14 @@ use Rattle.cborn_lex.proofs.Contents.Decoded.{are_bytes, is_byte}
 
 -- a front has a first character
 no_front : (profile : Profile) (s z : List ℕ) (a : Front) → Reads profile s z a → s ++ z ≡ [] → ⊥
-no_front profile [] z a h e = h
-no_front profile (c ∷ s) z a h e = cc
+no_front profile s z a h1 h2 = grind arith
 
 -- a piece is its slice and what it is
 one_piece : (p q : Lexeme) → slice p ≡ slice q → front_of p ≡ front_of q → p ≡ q
-one_piece (white_space s) (white_space t) e h = ap white_space e
-one_piece (white_space s) (token k t) e h = cc
-one_piece (token k s) (white_space t) e h = cc
-one_piece (token k s) (token l t) e h = cc
+one_piece p q h1 h2 = grind arith
 
 not_bad : (p : Lexeme) (r : LexReason) → front_of p ≡ Bad r → ⊥
-not_bad (white_space s) r e = cc
-not_bad (token k s) r e = cc
+not_bad p r h1 = grind arith
 
 -- two readings: the fronts of one text are the same
 first : (profile : Profile) (p q : Lexeme) (x y : List ℕ) → Reads profile (slice p) x (front_of p) → Reads profile (slice q) y (front_of q) → slice p ++ x ≡ slice q ++ y → (p ≡ q) × (x ≡ y)
@@ -103,8 +98,7 @@ lower m n end [] h k = omega arith
 lower m n end (t ∷ ts) h k = let i = k.0 in (omega arith, k.1, k.2)
 
 pub some_long : (profile : Profile) (s z : List ℕ) (a : Front) → Reads profile s z a → 0 < length s
-some_long profile [] z a h = absurd h
-some_long profile (c ∷ s) z a h = omega arith
+some_long profile s z a h1 = grind arith
 
 spans : (profile : Profile) (ps : List Lexeme) (n : ℕ) (z : List ℕ) → AreRead profile ps z → SpansRise n (tokens n ps) (n + length (spelled ps))
 spans profile [] n z h = omega arith
@@ -155,8 +149,7 @@ some_answer profile text h = elim (answered profile (suc (length text)) 0 text (
 -- Profiles.
 
 two_from : (k : Start) (c : ℕ) (s z : List ℕ) (p : Lexeme) → ReadsFrom k One c s z (front_of p) → ReadsFrom k Two c s z (front_of p)
-two_from hash c s z p h = absurd (not_bad p _ h.1)
-two_from _ c s z p h = h
+two_from k c s z p h1 = grind arith
 
 two_reads : (s z : List ℕ) (p : Lexeme) → Reads One s z (front_of p) → Reads Two s z (front_of p)
 two_reads [] z p h = h

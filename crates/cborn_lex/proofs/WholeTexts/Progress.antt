@@ -69,8 +69,7 @@ after_blank profile text from at n h k r =
     (along profile at (at + length s) (at + n) (s ++ x) (drop at text) x (drop (at + n) text) [] [] e.0 refl (ap (λ m. at + m) e.1) e.2 (white_space at (at + length s) s x x [] (takes profile s x WhiteSpace r) (end (at + length s) x)))
 
 white_reads : (profile : Profile) (x : List ℕ) → 0 < length x → is_white (get_or x 0 0) ≡ true → Reads profile (take 1 x) (drop 1 x) WhiteSpace
-white_reads profile [] h k = absurd (omega arith)
-white_reads profile (c ∷ x) h k = subst (λ (s : Start). ReadsFrom s profile c [] x WhiteSpace) (sym (cond-true (is_white c) white _ k)) (refl, refl)
+white_reads profile x h1 h2 = grind arith
 
 pub after_white : (profile : Profile) (text : List ℕ) (from at : ℕ) → TokensBetween profile text from at [] → at < length text → is_white (get_or text at 0) ≡ true → TokensBetween profile text from (at + 1) []
 after_white profile text from at h k e =
@@ -103,8 +102,7 @@ then_stop profile text from at n reason h r =
 
 -- what reads, by an equal slice and front
 pub reads_at : (profile : Profile) (x y : List ℕ) (n : ℕ) (a b : Front) → x ≡ y → a ≡ b → n ≤ length x → Reads profile (take n x) (drop n x) a → (n ≤ length y) × Reads profile (take n y) (drop n y) b
-reads_at profile x y n a b e f h k =
-    (subst (λ (z : List ℕ). n ≤ length z) e h, subst (λ (c : Front). Reads profile (take n y) (drop n y) c) f (subst (λ (z : List ℕ). Reads profile (take n z) (drop n z) a) e k))
+reads_at profile x y n a b h1 h2 h3 h4 = grind arith
 
 -- Whole texts.
 
@@ -122,8 +120,7 @@ stops profile text m n ts (Refused p r) h (q, e, (us, y, k, bad)) =
 
 -- LAW: the stop of a whole text
 pub whole_stop : (profile : Profile) (text : List ℕ) (e : LexFault) → HasNoTokenFrom profile text 0 e → HasNoTokens profile text e
-whole_stop profile text OutOfMemory h = tt
-whole_stop profile text (Refused p r) (q, e, h) = let same : q ≡ p = omega arith in subst (λ (n : ℕ). FailsAt profile text n r) same h
+whole_stop profile text e h1 = grind arith
 
 -- a token takes some bytes
 pub few : (profile : Profile) (text : List ℕ) (n m : ℕ) (ts : List Token) → TokensBetween profile text n m ts → n + length ts ≤ m
@@ -131,5 +128,4 @@ few profile text n m ts h = (taken profile h).0
 
 -- a fault that is passed on
 pub passed_on : {A E : Type 0} (r : Result A E) (x : E) (P : E → Type 0) → P x → IsErr r × IsErrAnd r (λ e. e ≡ x) → IfErr r P
-passed_on (Ok a) x P p h = tt
-passed_on (Err e) x P p h = subst P (sym h.1) p
+passed_on r x P h1 h2 = grind arith

@@ -61,11 +61,7 @@ AreFew n x = AreBytes x × (length x ≤ n)
 
 encoded : (c : ℕ) → c < 2 ^ 21 → AreFew 4 (encode_utf8 c)
 unfolding encode
-encoded c h =
-    cond_both (ltb c 128) _ _ (AreFew 4) (λ e. let l = ltb-true c 128 e in ((omega arith, tt), omega arith))
-    (λ e. cond_both (ltb c 2048) _ _ (AreFew 4) (λ e. let l = ltb-true c 2048 e in ((omega arith, (omega arith, tt)), omega arith))
-    (λ e. cond_both (ltb c 65536) _ _ (AreFew 4) (λ e. let l = ltb-true c 65536 e in ((omega arith, (omega arith, (omega arith, tt))), omega arith))
-    (λ e. ((omega arith, (omega arith, (omega arith, (omega arith, tt)))), omega arith))))
+encoded c h1 = grind arith
 
 characters : (cs : List ℕ) → all_scalars cs ≡ true → AreBytes (encode_utf8_all cs)
 characters [] h = tt
