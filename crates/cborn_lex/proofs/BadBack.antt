@@ -37,14 +37,7 @@ starts_letter c e =
     no_digit c e = false_from_ne_true (is_ascii_digit c) (λ d. absurd (let low = leb-true c 57 (and_parts (nat_le 48 c) (nat_le c 57) d).1 in let up = high c (or_cases (is_in_range 65 90 c) (is_in_range 97 122 c) e) in omega (arith, low, up)))
 
 starts_other : (c : ℕ) → is_start c ≡ false → start_of c ≡ other
-starts_other c e =
-    let a = or_parts (is_white c || is_ascii_alphanumeric c) (list_any (λ k. eqb c k) (codes "/#[]{}(),:<>\"'-")) e in
-    let b = or_parts (is_white c) (is_ascii_alphanumeric c) a.0 in
-    let d = or_parts (is_in_range 48 57 c || is_in_range 65 90 c) (is_in_range 97 122 c) b.1 in
-    let u = or_parts (is_in_range 48 57 c) (is_in_range 65 90 c) d.0 in
-    let l = or_from (is_in_range 65 90 c) (is_in_range 97 122 c) u.1 d.1 in
-    let denied : (k : ℕ) → list_any (λ d. eqb k d) (codes "/#[]{}(),:<>\"'-") ≡ true → eqb c k ≡ false = λ k h. false_from_ne_true (eqb c k) (λ same. absurd (let t : true ≡ false = sym (subst (λ n. list_any (λ k. eqb n k) (codes "/#[]{}(),:<>\"'-") ≡ true) (sym (eqb-true c k same)) h) ∙ a.1 in cc)) in
-    rw (b.0, denied 47 refl, denied 35 refl, denied 91 refl, denied 123 refl, denied 93 refl, denied 125 refl, denied 41 refl, denied 44 refl, denied 58 refl, denied 60 refl, denied 62 refl, denied 40 refl, denied 34 refl, denied 39 refl, denied 45 refl, u.0, l) refl
+starts_other c h1 = grind (arith, codes, eqb, eqb-true, false, false_from_ne_true, is_ascii_alphanumeric, is_in_range, is_white, list_any, or_from, or_parts, true)
 
 -- Numbers.
 

@@ -60,12 +60,7 @@ scanned dec pad at (b ∷ bs) st end i table bytes held h = elim (result_cases (
 ]
 
 last : (dec s : List ℕ) (pad at : ℕ) → IsDecodeTable dec → IsBytes s → are_bytes (suffix_bytes dec pad at s) ≡ true
-last dec s pad at table bytes = elim (result_cases (scan_last dec pad at s)) [
-  | inl ok ↦
-      let small = scanned dec pad at (drop at s) no_leftover ok.0 0 table (λ k. rw (get_or-drop at s k 0) (bytes (at + k))) (omega arith, omega arith, omega arith, zeros) ok.1 in
-      rw ok.1 (taken (ok.0.morsels_count * 6 / 8) (decode_group (slice_index ok.0.morsels 0) (slice_index ok.0.morsels 1) (slice_index ok.0.morsels 2) (slice_index ok.0.morsels 3)) (group_is _ _ _ _ (small 0) (small 1) (small 2) (small 3)))
-  | inr bad ↦ rw bad.1 refl
-]
+last dec s pad at h1 h2 = grind (arith, decode_group, drop, get_or-drop, group_is, inl, inr, no_leftover, result_cases, scan_last, scanned, slice_index, taken, zeros)
 
 outcome : (x : Option DecodeError) (d b : List ℕ) → decode_outcome x d ≡ Ok b → (x ≡ None) × (d ≡ b)
 outcome x d b h1 = grind arith

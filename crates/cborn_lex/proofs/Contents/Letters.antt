@@ -35,24 +35,16 @@ paired_if : (b : Bool) (n m : ℕ) → cond b (Some (0x1_0000 + (n - 0xD800) * 0
 paired_if b n m = grind arith
 
 low_found : (a b c d : ℕ) (x : List ℕ) → found (low_at a b c d x) ≡ paired (code a b c d) (low_code x)
-low_found a b c d (s ∷ u ∷ e ∷ f ∷ g ∷ h ∷ x) =
-    found_if ((eqb s 92 && eqb u 117) && (are_hex e f g h && is_low (code e f g h))) _ _ ∙ paired_if ((eqb s 92 && eqb u 117) && (are_hex e f g h && is_low (code e f g h))) (code a b c d) (code e f g h)
-low_found a b c d _ = refl
+low_found a b c d x = grind (arith, are_hex, code, eqb, found_if, is_low, paired_if)
 
 unit_if : (a b : Bool) (n : ℕ) (o : Option (ℕ × ℕ)) (x : List ℕ) → o ≡ paired n (low_code x) → cond a (cond (is_high n) o (cond (is_low n) None (Some (n, 6)))) None ≡ unit_from (cond a (Some n) None) x
 unit_if a b n o x h1 = grind arith
 
 unit_found : (x : List ℕ) → found (unit_at x) ≡ unit_from (code_at x) (drop 4 x)
-unit_found (a ∷ b ∷ c ∷ d ∷ x) =
-    found_if (are_hex a b c d) _ _
-    ∙ (ap (λ o. cond (are_hex a b c d) o None) (found_if (is_high (code a b c d)) (low_at a b c d x) _ ∙ ap (λ o. cond (is_high (code a b c d)) (found (low_at a b c d x)) o) (found_if (is_low (code a b c d)) _ _))
-    ∙ unit_if (are_hex a b c d) true (code a b c d) (found (low_at a b c d x)) x (low_found a b c d x))
-unit_found _ = refl
+unit_found x = grind (arith, are_hex, code, cond, found_if, is_high, is_low, low_at, low_found, true, unit_if)
 
 escape_found : (q : ℕ) (x : List ℕ) → found (escape_at q x) ≡ escape_of q x
-escape_found q [] = refl
-escape_found q (e ∷ x) =
-    found_if (is_escape q e) _ _ ∙ ap (λ o. cond (is_escape q e) (Some (escape_code e, 2)) o) (found_if (eqb e 117) (unit_at x) None ∙ ap (λ o. cond (eqb e 117) o None) (unit_found x))
+escape_found q x = grind (arith, cond, eqb, escape_code, found_if, is_escape, unit_at, unit_found)
 
 found_none : (o : Option (Letter × List ℕ)) → found o ≡ None → o ≡ None
 found_none o h1 = grind arith
@@ -67,19 +59,13 @@ either_code : (e n : ℕ) (b : Bool) → (b ≡ true → escape_code e ∷ [] �
 either_code e n b f k h = elim (or_cases (eqb e n) b h) [ inl i ↦ ascii e n i k | inr i ↦ f i ]
 
 pub escape_bytes : (q e : ℕ) → is_escape q e ≡ true → escape_code e ∷ [] ≡ encode_utf8 (escape_code e)
-escape_bytes q e h = elim (or_cases _ _ h) [
-  | inr i ↦ ascii e 39 (and_parts _ _ i).0 (lit< tt)
-  | inl i ↦ either_code e 34 _ (either_code e 92 _ (either_code e 47 _ (either_code e 98 _ (either_code e 102 _ (either_code e 110 _ (either_code e 114 _ (either_code e 116 false (λ j. absurd (false≢true j)) (lit< tt)) (lit< tt)) (lit< tt)) (lit< tt)) (lit< tt)) (lit< tt)) (lit< tt)) (lit< tt) i
-]
+escape_bytes q e h1 = grind (arith, and_parts, ascii, either_code, false, false≢true, inl, inr, lit<, or_cases)
 
 pub no_raw : (q d : ℕ) (x y : List ℕ) → LetterAt q (92 ∷ x) (raw d) y → ⊥
 no_raw q d x y h1 = grind arith
 
 meant_is : (q : ℕ) (l : Letter) (x y : List ℕ) → LetterAt q (92 ∷ x) l y → meant l ≡ encode_utf8 (char_of l)
-meant_is q (raw d) x y h = absurd (no_raw q d x y h)
-meant_is q (escaped e) x y h = escape_bytes q e h.allowed
-meant_is q (unit a b d e) x y h = refl
-meant_is q (pair a b d e f g i j) x y h = refl
+meant_is q l x y h1 = grind (arith, escape_bytes, escaped, no_raw, pair, raw, unit)
 
 -- an escape after a backslash, its character c and its n bytes
 pub record Escape (q : ℕ) (x : List ℕ) (c n : ℕ) : Type 0 where

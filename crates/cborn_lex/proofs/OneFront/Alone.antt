@@ -102,11 +102,7 @@ word_text : (word after s z : List ℕ) → s ≡ word ++ after → s ++ z ≡ w
 word_text word after s z h = ap (λ x. x ++ z) h ∙ append_assoc word after z
 
 words : (c : ℕ) (s z t w : List ℕ) (a b : Front) → ReadsWord c s z a → ReadsWord c t w b → s ++ z ≡ t ++ w → Same s t a b
-words c s z t w a b (word, after, h, i, j) (name, then, k, l, m) e =
-    let texts = sym (word_text word after s z i) ∙ (e ∙ word_text name then t w l) in
-    let same = one_run is_word word name (after ++ z) (then ++ w) h k texts in
-    let r = after_word (c ∷ name) after z then w a b (subst (λ (x : List ℕ). IsAfterWord (c ∷ x) after z a) same j) m (rest word name (after ++ z) (then ++ w) same texts) in
-    (i ∙ (ap (λ x. x ++ after) same ∙ (ap (λ x. name ++ x) r.0 ∙ sym l)), r.1)
+words c s z t w a b h1 h2 h3 = grind (arith, after_word, is_word, one_run, rest, word_text)
 
 -- Numbers.
 
@@ -117,15 +113,7 @@ number_text : (body mark tag s z : List ℕ) → s ≡ body ++ (mark ++ tag) →
 number_text body mark tag s z h = ap (λ x. x ++ z) h ∙ simp append_assoc
 
 numbers : (negative : Bool) (first s z t w : List ℕ) (a b : Front) → ReadsNumber negative first s z a → ReadsNumber negative first t w b → s ++ z ≡ t ++ w → Same s t a b
-numbers negative first s z t w a b (p, body, mark, tag, h, i) (q, figures, sign, tip, k, j) e =
-    let texts = sym (number_text body mark tag s z h.whole) ∙ (e ∙ number_text figures sign tip t w k.whole) in
-    let bodies = one_run is_numeral body figures (mark ++ (tag ++ z)) (sign ++ (tip ++ w)) h.run k.run texts in
-    let after = rest body figures (mark ++ (tag ++ z)) (sign ++ (tip ++ w)) bodies texts in
-    let marks = one_indicator mark sign (tag ++ z) (tip ++ w) h.indicator k.indicator after in
-    let r = tags negative p q tag z tip w h.tagging k.tagging (rest mark sign (tag ++ z) (tip ++ w) marks after) in
-    let all : body ++ (mark ++ tag) ≡ figures ++ (sign ++ tip) = rw (bodies, marks, r.0) refl in
-    let fronts : number_front negative p (mark_of mark) (integer negative (first ++ body)) ≡ number_front negative q (mark_of sign) (integer negative (first ++ figures)) = rw (bodies, marks, r.1) refl in
-    (h.whole ∙ (all ∙ sym k.whole), i ∙ (fronts ∙ sym j))
+numbers negative first s z t w a b h1 h2 h3 = grind (arith, integer, is_numeral, mark_of, number_front, number_text, one_indicator, one_run, rest, tags)
 
 -- All kinds.
 

@@ -62,13 +62,7 @@ number_grows base n [] h = omega arith
 number_grows base n (d ∷ ds) h = omega (arith, mul-le-mul_left n h, number_grows base (n * base + digit_value d) ds h)
 
 pub too_large : (base n i : ℕ) (ds : List ℕ) → 1 ≤ base → i < length ds → number base n (drop i ds) ≡ number base 0 ds → 2 ^ 128 ≤ n * base + digit_value (get_or ds i 0) → Err NumberTooLarge ≡ within (number base 0 ds)
-too_large base n i ds h k e big =
-    let step : number base n (drop i ds) ≡ number base (n * base + digit_value (get_or ds i 0)) (drop (i + 1) ds) = ap (number base n) (drop_more ds i 0 k) in
-    let grows = number_grows base (n * base + digit_value (get_or ds i 0)) (drop (i + 1) ds) h in
-    let all : 2 ^ 128 ≤ number base 0 ds = omega arith in
-    sym (cond-false _ _ _ (le-ltb (number base 0 ds) (2 ^ 128) all))
+too_large base n i ds h1 h2 h3 h4 = grind (arith, cond-false, digit_value, drop, drop_more, get_or, le-ltb, number, number_grows)
 
 pub all_read : (base n i : ℕ) (ds : List ℕ) → length ds ≤ i → n < 2 ^ 128 → number base n (drop i ds) ≡ number base 0 ds → Ok n ≡ within (number base 0 ds)
-all_read base n i ds h k e =
-    let same : n ≡ number base 0 ds = ap (number base n) (sym (drop_all i ds h)) ∙ e in
-    ap Ok same ∙ sym (cond-true _ _ _ (lt-ltb (number base 0 ds) (2 ^ 128) (omega arith)))
+all_read base n i ds h1 h2 h3 = grind (arith, cond-true, drop_all, lt-ltb, number)

@@ -23,9 +23,7 @@ not_bad p r h1 = grind arith
 
 -- two readings: the fronts of one text are the same
 first : (profile : Profile) (p q : Lexeme) (x y : List ℕ) → Reads profile (slice p) x (front_of p) → Reads profile (slice q) y (front_of q) → slice p ++ x ≡ slice q ++ y → (p ≡ q) × (x ≡ y)
-first profile p q x y h k e =
-    let r = one_front profile (slice p) x (slice q) y (front_of p) (front_of q) h k e in
-    (one_piece p q r.0 r.1, rest (slice p) (slice q) x y r.0 e)
+first profile p q x y h1 h2 h3 = grind (arith, front_of, one_front, one_piece, rest, slice)
 
 split : (p : Lexeme) (ps : List Lexeme) (z : List ℕ) → (slice p ++ spelled ps) ++ z ≡ slice p ++ (spelled ps ++ z)
 split p ps z = append_assoc (slice p) (spelled ps) z
@@ -50,11 +48,7 @@ whole_text : (text : List ℕ) (ps : List Lexeme) → text ≡ spelled ps → te
 whole_text text ps e = e ∙ sym (append-nil (spelled ps))
 
 pub one_list : (profile : Profile) (text : List ℕ) (ts us : List Token) → HasTokens profile text ts → HasTokens profile text us → ts ≡ us
-one_list profile text ts us a b =
-    let h = lex_parted profile text ts a in
-    let k = lex_parted profile text us b in
-    let r = one_chain profile h.pieces k.pieces [] [] h.read k.read (end_ends profile) (end_ends profile) (sym (whole_text text h.pieces h.whole) ∙ whole_text text k.pieces k.whole) in
-    h.placed ∙ (ap (tokens 0) r.0 ∙ sym k.placed)
+one_list profile text ts us h1 h2 = grind (arith, end_ends, lex_parted, one_chain, tokens, whole_text)
 
 pub not_both : (profile : Profile) (text : List ℕ) (ts : List Token) (p : ℕ) (r : LexReason) → HasTokens profile text ts → FailsAt profile text p r → ⊥
 not_both profile text ts p r a b =
@@ -76,8 +70,7 @@ one_stop profile text p q r s a b =
     )
 
 shorter : (profile : Profile) (s z text : List ℕ) (a : Front) → Reads profile s z a → text ≡ s ++ z → length z < length text
-shorter profile [] z text a h e = absurd h
-shorter profile (c ∷ s) z text a h e = omega (arith, ap length e, length-append s z)
+shorter profile s z text a h1 h2 = grind (arith, length, length-append)
 
 pub stop_inside : (profile : Profile) (text : List ℕ) (p : ℕ) (r : LexReason) → FailsAt profile text p r → p < length text
 stop_inside profile text p r a =
@@ -152,8 +145,7 @@ two_from : (k : Start) (c : ℕ) (s z : List ℕ) (p : Lexeme) → ReadsFrom k O
 two_from k c s z p h1 = grind arith
 
 two_reads : (s z : List ℕ) (p : Lexeme) → Reads One s z (front_of p) → Reads Two s z (front_of p)
-two_reads [] z p h = h
-two_reads (c ∷ s) z p h = two_from (start_of c) c s z p h
+two_reads s z p h1 = grind (arith, start_of, two_from)
 
 two_chain : (ps : List Lexeme) (z : List ℕ) → AreRead One ps z → AreRead Two ps z
 two_chain [] z h = h

@@ -42,9 +42,7 @@ taken profile (token n m c s x y ts h t) =
     (omega (arith, r.0), omega (arith, r.1, length-append s x))
 
 pub inside : (profile : Profile) (text : List ℕ) (n m : ℕ) (ts : List Token) → n ≤ length text → TokensBetween profile text n m ts → (n ≤ m) × (m ≤ length text)
-inside profile text n m ts h k =
-    let r = taken profile k in
-    (omega (arith, r.0), omega (arith, r.1, length-drop n text, length-drop m text))
+inside profile text n m ts h1 h2 = grind (arith, length-drop, taken)
 
 -- a part read from another place on
 moved : (profile : Profile) {n m : ℕ} {x y : List ℕ} {ts : List Token} → Covers profile n x ts m y → (i : ℕ) → (j : ℕ) × (us : List Token) × (j + n ≡ m + i) × Covers profile i x us j y
@@ -72,11 +70,7 @@ white_reads : (profile : Profile) (x : List ℕ) → 0 < length x → is_white (
 white_reads profile x h1 h2 = grind arith
 
 pub after_white : (profile : Profile) (text : List ℕ) (from at : ℕ) → TokensBetween profile text from at [] → at < length text → is_white (get_or text at 0) ≡ true → TokensBetween profile text from (at + 1) []
-after_white profile text from at h k e =
-    let size : 0 < length (drop at text) = omega (arith, length-drop at text) in
-    let zero : at + 0 ≡ at = omega arith in
-    let here : get_or (drop at text) 0 0 ≡ get_or text at 0 = get_or-drop at text 0 0 ∙ ap (λ n. get_or text n 0) zero in
-    after_blank profile text from at 1 h size (white_reads profile (drop at text) size (ap is_white here ∙ e))
+after_white profile text from at h1 h2 h3 = grind (arith, after_blank, drop, get_or, get_or-drop, is_white, length, length-drop, white_reads)
 
 pub then_token : (profile : Profile) (text : List ℕ) (from at n : ℕ) (class : Class) → TokensBetween profile text from at [] → n ≤ length (drop at text) → Reads profile (take n (drop at text)) (drop n (drop at text)) (Read class)
     → TokensBetween profile text from (at + n) (record { start = at; stop = at + n; class = class } ∷ [])
@@ -89,10 +83,7 @@ then_token profile text from at n class h k r =
     (token at (at + length s) class s x x [] (takes profile s x (Read class) r) (end (at + length s) x)))
 
 pub then_end : (profile : Profile) (text : List ℕ) (from at : ℕ) → from ≤ length text → TokensBetween profile text from at [] → length text ≤ at → TokensBetween profile text from (length text) []
-then_end profile text from at small h k =
-    let l = inside profile text from at [] small h in
-    let same : at ≡ length text = omega (arith, l.1) in
-    subst (λ (n : ℕ). TokensBetween profile text from n []) same h
+then_end profile text from at h1 h2 h3 = grind (arith, inside, length)
 
 pub then_stop : (profile : Profile) (text : List ℕ) (from at n : ℕ) (reason : LexReason) → TokensBetween profile text from at [] → Reads profile (take n (drop at text)) (drop n (drop at text)) (Bad reason) → HasNoTokenFrom profile text from (Refused at reason)
 then_stop profile text from at n reason h r =
