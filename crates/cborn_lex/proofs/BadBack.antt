@@ -37,7 +37,7 @@ starts_letter c e =
     no_digit c e = false_from_ne_true (is_ascii_digit c) (λ d. absurd (let low = leb-true c 57 (and_parts (nat_le 48 c) (nat_le c 57) d).1 in let up = high c (or_cases (is_in_range 65 90 c) (is_in_range 97 122 c) e) in omega (arith, low, up)))
 
 starts_other : (c : ℕ) → is_start c ≡ false → start_of c ≡ other
-starts_other c h1 = grind (arith, codes, eqb, eqb-true, false, false_from_ne_true, is_ascii_alphanumeric, is_in_range, is_white, list_any, or_from, or_parts, true)
+starts_other c h1 = grind (arith, eqb-true, false_from_ne_true, or_from, or_parts)
 
 -- Numbers.
 

@@ -73,7 +73,7 @@ prefixed : (b d : ℕ) (x : List ℕ) → (has_prefix (48 ∷ b ∷ []) x || has
 prefixed b d x h1 = grind arith
 
 decimals : (x : List ℕ) → are_digits 10 x ≡ true → Begins x
-decimals x h1 = grind (arith, and_parts, digit_starts, in_ten, is_digit, list_all, never)
+decimals x h1 = grind (arith, and_parts, digit_starts, in_ten, never)
 
 pub first_digit : (x : List ℕ) (v : ℕ) → IsLiteral x v → Begins x
 first_digit x v (good.decimal y d z) = decimals y d

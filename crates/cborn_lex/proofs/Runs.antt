@@ -120,7 +120,7 @@ more_plain q tail at n h k = ap (list_all (is_plain q)) (take-add at n tail) ∙
 
 -- what the buffer had first, it has after two steps that each keep what they find
 pub still : (old mid new : List ℕ) → take (length old) mid ≡ old → take (length mid) new ≡ mid → take (length old) new ≡ old
-still old mid new h1 h2 = grind (arith, length, length-take, take, take-take)
+still old mid new h1 h2 = grind (arith, length-take, take-take)
 
 -- Letters so far.
 
@@ -157,7 +157,7 @@ run_more q tail old mid new at n h e s =
 
 -- LAW: a block's letters before the lowest bit that is left
 pub short_run_more : (q : ℕ) (tail old mid new : List ℕ) (from at left : ℕ) → from ≤ at → from + 64 ≤ length tail → left ≡ mask_l (map (is_special q) (take (from + 64 - at) (drop at tail))) → (left ≡ 0 → ⊥) → new ≡ mid ++ take (count_trailing_zeros 64 left) (take (length tail - at) (drop at tail)) → LettersSoFar q tail at old mid → LettersSoFar q tail (at + count_trailing_zeros 64 left) old new
-short_run_more q tail old mid new from at left h1 h2 h3 h4 h5 h6 = grind (arith, count_trailing_zeros, run_more, short_run, take, take_rest)
+short_run_more q tail old mid new from at left h1 h2 h3 h4 h5 h6 = grind (arith, run_more, short_run, take_rest)
 
 pub letters_end : (q : ℕ) (tail old new : List ℕ) (at : ℕ) → at < length tail → get_or tail at 0 ≡ q → LettersSoFar q tail at old new → LettersTaken q tail at old new
 letters_end q tail old new at h e s = record { within = h; inside = s.inside; quote = e; bytes = flat_map meant s.letters; is = is_text q (take at tail) (flat_map meant s.letters) (record { letters = s.letters; allowed = s.allowed; whole = s.whole; value = refl }); added = s.added }
@@ -201,7 +201,7 @@ meant_by q e quote l n m =
 -- One escape more.
 
 hex_plain : (q c : ℕ) → Quote q → is_digit c 16 ≡ true → is_plain q c ≡ true
-hex_plain q c h1 h2 = grind (arith, and_from, cond-true, eqb, false, false≢true, inl, inr, is_digit, le-leb, leb, leb_tells, lt-ltb, ltb, ne_eqb, not, true)
+hex_plain q c h1 h2 = grind (arith, and_from, cond-true, false≢true, inl, inr, le-leb, leb_tells, lt-ltb, ne_eqb)
 
 four_content : (q a b c d : ℕ) → Quote q → are_hex a b c d ≡ true → is_content q (four a b c d) ≡ true
 four_content q a b c d quote h =
@@ -294,13 +294,13 @@ unit_fails : (b : Bool) (n : ℕ) (x z : List ℕ) → unit_from (cond b (Some n
 unit_fails b n x z h1 = grind arith
 
 units_fail : (x z : List ℕ) → unit_from (code_at (x ++ z)) (drop 4 (x ++ z)) ≡ None → unit_from (code_at x) (drop 4 x) ≡ None
-units_fail x z h1 = grind (arith, are_hex, code, unit_fails)
+units_fail x z h1 = grind (arith, unit_fails)
 
 escape_chosen : (a b : Bool) (s u v : Option (ℕ × ℕ)) → (v ≡ None → u ≡ None) → cond a s (cond b v None) ≡ None → cond a s (cond b u None) ≡ None
 escape_chosen a b s u v h1 h2 = grind arith
 
 escape_fails : (q : ℕ) (x z : List ℕ) → escape_of q (x ++ z) ≡ None → escape_of q x ≡ None
-escape_fails q x z h1 = grind (arith, code_at, drop, eqb, escape_chosen, escape_code, is_escape, unit_from, units_fail)
+escape_fails q x z h1 = grind (arith, escape_chosen, units_fail)
 
 pub none_at_escape : (q : ℕ) (tail old mid : List ℕ) (at : ℕ) → Quote q → at < length tail → get_or tail at 0 ≡ 92 → escape_of q (drop (at + 1) tail) ≡ None → LettersSoFar q tail at old mid → NoText q tail
 none_at_escape q tail old mid at quote a b f s =
@@ -308,7 +308,7 @@ none_at_escape q tail old mid at quote a b f s =
     (λ k. subst (λ (c : ℕ). NoLetters q (c ∷ take k (drop (at + 1) tail))) (sym b) (no_escape q (take k (drop (at + 1) tail)) (escape_fails q (take k (drop (at + 1) tail)) (drop k (drop (at + 1) tail)) (ap (escape_of q) (take-append-drop k (drop (at + 1) tail)) ∙ f))))
 
 pub unit_escape : (q : ℕ) (tail x : List ℕ) (at c size : ℕ) → at + 1 < length tail → get_or tail (at + 1) 0 ≡ 117 → x ≡ drop (at + 2) tail → unit_from (code_at x) (drop 4 x) ≡ Some (c, size) → escape_of q (drop (at + 1) tail) ≡ Some (c, size)
-unit_escape q tail x at c size h1 h2 h3 h4 = grind (arith, drop, drop_more, escape_of)
+unit_escape q tail x at c size h1 h2 h3 h4 = grind (arith, drop_more)
 
 pub plain_others : (c : ℕ) (x : List ℕ) → list_all (is_plain c) x ≡ true → list_all (is_not c) x ≡ true
 plain_others c [] e = refl

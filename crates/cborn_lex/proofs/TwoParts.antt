@@ -12,7 +12,7 @@ nothing_in k n = grind arith
 
 -- where nothing was appended
 pub nothing_appended : (f : FrontIn) (n : ℕ) (old new : List ℕ) → new ≡ old → FrontStandsFor f n old new (front_view n [] f)
-nothing_appended f n old new h1 = grind (arith, append-nil, class_of, nothing_in)
+nothing_appended f n old new h1 = grind (arith, append-nil, nothing_in)
 
 -- a string
 pub string_appended : (f : FrontIn) (n : ℕ) (x old new : List ℕ) (k : Mark → Class) (m : Option Mark) → ((a : Mark) → content_of (k a) ≡ x) → front_view n x f ≡ marked k m → new ≡ old ++ x → FrontStandsFor f n old new (marked k m)

@@ -24,10 +24,10 @@ bytes_padding zero = refl
 bytes_padding (suc n) = bytes_padding n
 
 bytes_filled : (x : List ℕ) → are_bytes x ≡ true → are_bytes (filled x) ≡ true
-bytes_filled x h1 = grind (arith, and_from, are_bytes, bytes_padding, cond_both, eqb, is_byte, length, list_all-append, list_any, replicate, true)
+bytes_filled x h1 = grind (arith, and_from, are_bytes, bytes_padding, cond_both, is_byte, list_all-append)
 
 bytes_text : (x : List ℕ) → are_bytes x ≡ true → IsBytes (base64_text x)
-bytes_text x h1 = grind (arith, base64_text, bytes_at, bytes_filled, bytes_filter, bytes_map, filter, is_white, map, not, to_standard)
+bytes_text x h1 = grind (arith, bytes_at, bytes_filled, bytes_filter, bytes_map)
 
 strict : IsStrict standard
 strict = (refl, refl)

@@ -67,13 +67,13 @@ strips false (c ∷ x) =
     (λ k. chosen false _ (eqb c 47) _ _ (λ l. comment_begins c x _ l (strips true x)) (λ l. tt)))
 
 pub hex_one : (x b d : List ℕ) → IsHex x b → IsHex x d → b ≡ d
-hex_one x b d h1 h2 = grind (arith, decode_of, strip_is)
+hex_one x b d h1 h2 = grind (arith, strip_is)
 
 pub hex_no_digits : (x : List ℕ) → strip false x ≡ None → (bytes : List ℕ) → IsHex x bytes → ⊥
 hex_no_digits x e bytes h = let l = strip_is h.1 in cc
 
 pub hex_err : (x ds : List ℕ) (f : FromHexError) → strip false x ≡ Some ds → decode_of ds ≡ Err f → (bytes : List ℕ) → IsHex x bytes → ⊥
-hex_err x ds f h1 h2 bytes h3 = grind (arith, decode_of, strip_is)
+hex_err x ds f h1 h2 bytes h3 = grind (arith, strip_is)
 
 hex_decoded : (x ds : List ℕ) (r : Result (List ℕ) FromHexError) → strip false x ≡ Some ds → HasDigits x ds → decode_of ds ≡ r → ((bytes : List ℕ) × IsHex x bytes) ⊎ ((bytes : List ℕ) → IsHex x bytes → ⊥)
 hex_decoded x ds (Ok bytes) e k h = inl (bytes, (ds, k, h))
@@ -100,7 +100,7 @@ hex_written x ds digits old new (Ok ok) e same h = λ t. let d = h t in (d.0, (d
 hex_written x ds digits old new (Err f) e same h = h
 
 pub hex_none : {E : Type 0} (x ds digits : List ℕ) (r : Result Bool E) → strip false x ≡ Some ds → digits ≡ ds → IfOk r (λ ok. ok ≡ false → (bytes : List ℕ) → decode_of digits ≡ Ok bytes → ⊥) → IfOk r (λ ok. ok ≡ false → (bytes : List ℕ) → IsHex x bytes → ⊥)
-hex_none x ds digits r h1 h2 h3 = grind (arith, decode_of, strip_is)
+hex_none x ds digits r h1 h2 h3 = grind (arith, strip_is)
 
 -- the bytes of digits, put where there is room for them
 
@@ -132,4 +132,4 @@ at_digit ds x c h = ap (after ds) (cond-true (is_digit c 16) _ _ h) ∙ after_on
 
 pub moved : (content ds es : List ℕ) (at : ℕ) (i j : Bool) (i' j' : Bool) → at < length content → i ≡ i' → j ≡ j' → after ds (strip i' (get_or content at 0 ∷ drop (at + 1) content)) ≡ after es (strip j' (drop (at + 1) content)) → after ds (strip i (drop at content)) ≡ strip false content
     → after es (strip j (drop (at + 1) content)) ≡ strip false content
-moved content ds es at i j i' j' h1 h2 h3 h4 h5 = grind (arith, after, drop, drop_more, strip)
+moved content ds es at i j i' j' h1 h2 h3 h4 h5 = grind (arith, drop_more)

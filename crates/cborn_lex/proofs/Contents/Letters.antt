@@ -35,16 +35,16 @@ paired_if : (b : Bool) (n m : ℕ) → cond b (Some (0x1_0000 + (n - 0xD800) * 0
 paired_if b n m = grind arith
 
 low_found : (a b c d : ℕ) (x : List ℕ) → found (low_at a b c d x) ≡ paired (code a b c d) (low_code x)
-low_found a b c d x = grind (arith, are_hex, code, eqb, found_if, is_low, paired_if)
+low_found a b c d x = grind (arith, found_if, paired_if)
 
 unit_if : (a b : Bool) (n : ℕ) (o : Option (ℕ × ℕ)) (x : List ℕ) → o ≡ paired n (low_code x) → cond a (cond (is_high n) o (cond (is_low n) None (Some (n, 6)))) None ≡ unit_from (cond a (Some n) None) x
 unit_if a b n o x h1 = grind arith
 
 unit_found : (x : List ℕ) → found (unit_at x) ≡ unit_from (code_at x) (drop 4 x)
-unit_found x = grind (arith, are_hex, code, cond, found_if, is_high, is_low, low_at, low_found, true, unit_if)
+unit_found x = grind (arith, found_if, low_at, low_found, unit_if)
 
 escape_found : (q : ℕ) (x : List ℕ) → found (escape_at q x) ≡ escape_of q x
-escape_found q x = grind (arith, cond, eqb, escape_code, found_if, is_escape, unit_at, unit_found)
+escape_found q x = grind (arith, found_if, unit_at, unit_found)
 
 found_none : (o : Option (Letter × List ℕ)) → found o ≡ None → o ≡ None
 found_none o h1 = grind arith
@@ -59,13 +59,13 @@ either_code : (e n : ℕ) (b : Bool) → (b ≡ true → escape_code e ∷ [] �
 either_code e n b f k h = elim (or_cases (eqb e n) b h) [ inl i ↦ ascii e n i k | inr i ↦ f i ]
 
 pub escape_bytes : (q e : ℕ) → is_escape q e ≡ true → escape_code e ∷ [] ≡ encode_utf8 (escape_code e)
-escape_bytes q e h1 = grind (arith, and_parts, ascii, either_code, false, false≢true, inl, inr, lit<, or_cases)
+escape_bytes q e h1 = grind (arith, and_parts, ascii, either_code, false≢true, inl, inr, lit<, or_cases)
 
 pub no_raw : (q d : ℕ) (x y : List ℕ) → LetterAt q (92 ∷ x) (raw d) y → ⊥
 no_raw q d x y h1 = grind arith
 
 meant_is : (q : ℕ) (l : Letter) (x y : List ℕ) → LetterAt q (92 ∷ x) l y → meant l ≡ encode_utf8 (char_of l)
-meant_is q l x y h1 = grind (arith, escape_bytes, escaped, no_raw, pair, raw, unit)
+meant_is q l x y h1 = grind (arith, escape_bytes, no_raw)
 
 -- an escape after a backslash, its character c and its n bytes
 pub record Escape (q : ℕ) (x : List ℕ) (c n : ℕ) : Type 0 where

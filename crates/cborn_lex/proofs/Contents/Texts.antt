@@ -43,7 +43,7 @@ letter_at q [] = None
 letter_at q (c ∷ x) = cond (eqb c 92) (escape_at q x) (cond (leb 32 c) (Some (raw c, x)) None)
 
 pub letter_is : (q : ℕ) (l : Letter) (x : List ℕ) → is_letter q l ≡ true → letter_at q (written l ++ x) ≡ Some (l, x)
-letter_is q l x h1 = grind (arith, and_parts, are_hex, code, cond-false, cond-true, eqb, escaped, is_escape, is_high, is_low, leb, not, not-true, or_parts, pair, raw, unit)
+letter_is q l x h1 = grind (arith, and_parts, cond-false, cond-true, not-true, or_parts)
 
 pub record LetterAt (q : ℕ) (x : List ℕ) (l : Letter) (y : List ℕ) : Type 0 where
   pub allowed : is_letter q l ≡ true

@@ -102,7 +102,7 @@ word_text : (word after s z : List ℕ) → s ≡ word ++ after → s ++ z ≡ w
 word_text word after s z h = ap (λ x. x ++ z) h ∙ append_assoc word after z
 
 words : (c : ℕ) (s z t w : List ℕ) (a b : Front) → ReadsWord c s z a → ReadsWord c t w b → s ++ z ≡ t ++ w → Same s t a b
-words c s z t w a b h1 h2 h3 = grind (arith, after_word, is_word, one_run, rest, word_text)
+words c s z t w a b h1 h2 h3 = grind (arith, after_word, one_run, rest, word_text)
 
 -- Numbers.
 
@@ -113,7 +113,7 @@ number_text : (body mark tag s z : List ℕ) → s ≡ body ++ (mark ++ tag) →
 number_text body mark tag s z h = ap (λ x. x ++ z) h ∙ simp append_assoc
 
 numbers : (negative : Bool) (first s z t w : List ℕ) (a b : Front) → ReadsNumber negative first s z a → ReadsNumber negative first t w b → s ++ z ≡ t ++ w → Same s t a b
-numbers negative first s z t w a b h1 h2 h3 = grind (arith, integer, is_numeral, mark_of, number_front, number_text, one_indicator, one_run, rest, tags)
+numbers negative first s z t w a b h1 h2 h3 = grind (arith, number_text, one_indicator, one_run, rest, tags)
 
 -- All kinds.
 

@@ -40,7 +40,7 @@ indicator [] = []
 indicator (c ∷ y) = cond (eqb c 95) (c ∷ run is_word y) []
 
 pub indicator_is : (s z : List ℕ) → IsIndicator s z → indicator (s ++ z) ≡ s
-indicator_is s z h1 = grind (arith, cond-false, cond-true, eqb, is_word, run_is)
+indicator_is s z h1 = grind (arith, cond-false, cond-true, run_is)
 
 pub one_indicator : (s t z w : List ℕ) → IsIndicator s z → IsIndicator t w → s ++ z ≡ t ++ w → s ≡ t
 one_indicator s t z w h k e = sym (indicator_is s z h) ∙ (ap indicator e ∙ indicator_is t w k)
@@ -78,7 +78,7 @@ module _ (q : ℕ) where
   stops x = ap not (eq-eqb q q refl)
 
   found_from : (y z s : List ℕ) → y ≡ s ++ z → list_all (is_not q) s ≡ true → begins (is_not q) z ≡ false → Found (list_all (is_not q)) q y ⊎ (list_all (is_not q) y ≡ true)
-  found_from y z s h1 h2 h3 = grind (arith, append-nil, eqb, eqb-true, inl, inr, not-false)
+  found_from y z s h1 h2 h3 = grind (arith, append-nil, eqb-true, inl, inr, not-false)
 
   plain_apart : (c x : List ℕ) → list_all (is_not q) c ≡ true → list_all (is_not q) (c ++ q ∷ x) ≡ true → ⊥
   plain_apart [] x h k = both_ways (not (eqb q q)) (stops x) (and_parts _ _ k).0

@@ -62,7 +62,7 @@ number_grows base n [] h = omega arith
 number_grows base n (d ∷ ds) h = omega (arith, mul-le-mul_left n h, number_grows base (n * base + digit_value d) ds h)
 
 pub too_large : (base n i : ℕ) (ds : List ℕ) → 1 ≤ base → i < length ds → number base n (drop i ds) ≡ number base 0 ds → 2 ^ 128 ≤ n * base + digit_value (get_or ds i 0) → Err NumberTooLarge ≡ within (number base 0 ds)
-too_large base n i ds h1 h2 h3 h4 = grind (arith, cond-false, digit_value, drop, drop_more, get_or, le-ltb, number, number_grows)
+too_large base n i ds h1 h2 h3 h4 = grind (arith, cond-false, drop_more, le-ltb, number_grows)
 
 pub all_read : (base n i : ℕ) (ds : List ℕ) → length ds ≤ i → n < 2 ^ 128 → number base n (drop i ds) ≡ number base 0 ds → Ok n ≡ within (number base 0 ds)
-all_read base n i ds h1 h2 h3 = grind (arith, cond-true, drop_all, lt-ltb, number)
+all_read base n i ds h1 h2 h3 = grind (arith, cond-true, drop_all, lt-ltb)

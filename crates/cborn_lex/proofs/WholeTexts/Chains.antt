@@ -23,7 +23,7 @@ not_bad p r h1 = grind arith
 
 -- two readings: the fronts of one text are the same
 first : (profile : Profile) (p q : Lexeme) (x y : List ℕ) → Reads profile (slice p) x (front_of p) → Reads profile (slice q) y (front_of q) → slice p ++ x ≡ slice q ++ y → (p ≡ q) × (x ≡ y)
-first profile p q x y h1 h2 h3 = grind (arith, front_of, one_front, one_piece, rest, slice)
+first profile p q x y h1 h2 h3 = grind (arith, one_front, one_piece, rest)
 
 split : (p : Lexeme) (ps : List Lexeme) (z : List ℕ) → (slice p ++ spelled ps) ++ z ≡ slice p ++ (spelled ps ++ z)
 split p ps z = append_assoc (slice p) (spelled ps) z
@@ -48,7 +48,7 @@ whole_text : (text : List ℕ) (ps : List Lexeme) → text ≡ spelled ps → te
 whole_text text ps e = e ∙ sym (append-nil (spelled ps))
 
 pub one_list : (profile : Profile) (text : List ℕ) (ts us : List Token) → HasTokens profile text ts → HasTokens profile text us → ts ≡ us
-one_list profile text ts us h1 h2 = grind (arith, end_ends, lex_parted, one_chain, tokens, whole_text)
+one_list profile text ts us h1 h2 = grind (arith, end_ends, lex_parted, one_chain, whole_text)
 
 pub not_both : (profile : Profile) (text : List ℕ) (ts : List Token) (p : ℕ) (r : LexReason) → HasTokens profile text ts → FailsAt profile text p r → ⊥
 not_both profile text ts p r a b =
@@ -70,7 +70,7 @@ one_stop profile text p q r s a b =
     )
 
 shorter : (profile : Profile) (s z text : List ℕ) (a : Front) → Reads profile s z a → text ≡ s ++ z → length z < length text
-shorter profile s z text a h1 h2 = grind (arith, length, length-append)
+shorter profile s z text a h1 h2 = grind (arith, length-append)
 
 pub stop_inside : (profile : Profile) (text : List ℕ) (p : ℕ) (r : LexReason) → FailsAt profile text p r → p < length text
 stop_inside profile text p r a =
@@ -145,7 +145,7 @@ two_from : (k : Start) (c : ℕ) (s z : List ℕ) (p : Lexeme) → ReadsFrom k O
 two_from k c s z p h1 = grind arith
 
 two_reads : (s z : List ℕ) (p : Lexeme) → Reads One s z (front_of p) → Reads Two s z (front_of p)
-two_reads s z p h1 = grind (arith, start_of, two_from)
+two_reads s z p h1 = grind (arith, two_from)
 
 two_chain : (ps : List Lexeme) (z : List ℕ) → AreRead One ps z → AreRead Two ps z
 two_chain [] z h = h

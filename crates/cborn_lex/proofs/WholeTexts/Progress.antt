@@ -70,7 +70,7 @@ white_reads : (profile : Profile) (x : List ℕ) → 0 < length x → is_white (
 white_reads profile x h1 h2 = grind arith
 
 pub after_white : (profile : Profile) (text : List ℕ) (from at : ℕ) → TokensBetween profile text from at [] → at < length text → is_white (get_or text at 0) ≡ true → TokensBetween profile text from (at + 1) []
-after_white profile text from at h1 h2 h3 = grind (arith, after_blank, drop, get_or, get_or-drop, is_white, length, length-drop, white_reads)
+after_white profile text from at h1 h2 h3 = grind (arith, after_blank, get_or-drop, length-drop, white_reads)
 
 pub then_token : (profile : Profile) (text : List ℕ) (from at n : ℕ) (class : Class) → TokensBetween profile text from at [] → n ≤ length (drop at text) → Reads profile (take n (drop at text)) (drop n (drop at text)) (Read class)
     → TokensBetween profile text from (at + n) (record { start = at; stop = at + n; class = class } ∷ [])
@@ -83,7 +83,7 @@ then_token profile text from at n class h k r =
     (token at (at + length s) class s x x [] (takes profile s x (Read class) r) (end (at + length s) x)))
 
 pub then_end : (profile : Profile) (text : List ℕ) (from at : ℕ) → from ≤ length text → TokensBetween profile text from at [] → length text ≤ at → TokensBetween profile text from (length text) []
-then_end profile text from at h1 h2 h3 = grind (arith, inside, length)
+then_end profile text from at h1 h2 h3 = grind (arith, inside)
 
 pub then_stop : (profile : Profile) (text : List ℕ) (from at n : ℕ) (reason : LexReason) → TokensBetween profile text from at [] → Reads profile (take n (drop at text)) (drop n (drop at text)) (Bad reason) → HasNoTokenFrom profile text from (Refused at reason)
 then_stop profile text from at n reason h r =

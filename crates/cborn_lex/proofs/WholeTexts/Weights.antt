@@ -61,7 +61,7 @@ AreFew n x = AreBytes x × (length x ≤ n)
 
 encoded : (c : ℕ) → c < 2 ^ 21 → AreFew 4 (encode_utf8 c)
 unfolding encode
-encoded c h1 = grind (arith, encode)
+encoded c h1 = grind arith
 
 characters : (cs : List ℕ) → all_scalars cs ≡ true → AreBytes (encode_utf8_all cs)
 characters [] h = tt
@@ -81,7 +81,7 @@ escape_below : (e : ℕ) → e < 256 → escape_code e < 256
 escape_below e h = below (eqb e 98) 8 _ (omega arith) (below (eqb e 102) 12 _ (omega arith) (below (eqb e 110) 10 _ (omega arith) (below (eqb e 114) 13 _ (omega arith) (below (eqb e 116) 9 e (omega arith) h))))
 
 code_below : (a b c d : ℕ) → are_hex a b c d ≡ true → code a b c d < 2 ^ 16
-code_below a b c d h1 = grind (arith, and_parts, digit_value, is_digit, ltb-true)
+code_below a b c d h1 = grind (arith, and_parts, ltb-true)
 
 pair_below : (m n : ℕ) → m < 2 ^ 16 → n < 2 ^ 16 → is_high m ≡ true → 0x1_0000 + (m - 0xD800) * 0x400 + (n - 0xDC00) < 2 ^ 21
 pair_below m n h k high = let hs = and_parts _ (ltb m 0xDC00) high in omega (arith, ltb-true m 0xDC00 hs.1)
@@ -144,7 +144,7 @@ few_kept p (c ∷ x) =
     cond_both (p c) (c ∷ filter p x) (filter p x) (λ y. length y ≤ suc (length x)) (λ e. omega arith) (λ e. omega arith)
 
 few_filled : (x : List ℕ) → length (filled x) ≤ length x + 3
-few_filled x = grind (arith, cond_both, eqb, length, length-append, length-replicate, list_any, replicate)
+few_filled x = grind (arith, cond_both, length-append, length-replicate)
 
 base64_spelled : AreSpelled IsBase64
 base64_spelled x bytes h is =
@@ -277,7 +277,7 @@ tokens_light profile (token k s ∷ ps) n z h is =
 
 -- LAW: the tokens of a text are modest, and weigh four times its length at most
 pub text_light : (profile : Profile) (text : List ℕ) (ts : List Token) → AreBytes text → HasTokens profile text ts → AreModest ts × (weigh ts ≤ 4 * length text)
-text_light profile text ts h1 h2 = grind (arith, are_bytes, as_test, length, lex_parted, tokens_light)
+text_light profile text ts h1 h2 = grind (arith, are_bytes, as_test, lex_parted, tokens_light)
 
 -- LAW: the tokens between two places of a text are modest, also if the text has a lexical fault after them
 pub between_modest : (profile : Profile) (text : List ℕ) (n m : ℕ) (ts : List Token) → AreBytes text → TokensBetween profile text n m ts → AreModest ts
